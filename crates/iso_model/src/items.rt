@@ -1,0 +1,95 @@
+// The one implementation of the list types. Contracts see a list of items.
+ghost use Rattle.std.specs.Prelude.{◌≡◌, ◌==◌, [], ◌∷◌, ◌++◌, length, OnOk, OnErr, option_copied, slice_get};
+
+use crate::{Access, Memory, Run, Span};
+use std::alloc::Global;
+use std::marker::Model;
+
+/// A list that keeps its allocator. Contracts see the items in order.
+#[derive(Debug, Drop)]
+pub struct Items<T> {
+    items: Vec<T>,
+}
+
+impl<T> Model for Items<T> {
+    ghost use Rattle.std.specs.Prelude.{List};
+
+    ghost Value = { List T };
+
+    ghost view = { λ a. a.items.items };
+}
+
+/// The spans of an access; none stands for the whole block.
+pub type SpanList = Items<Span>;
+
+/// A text, or the bytes of a block.
+pub type Bytes = Items<u8>;
+
+/// The accesses of a transaction, in order.
+pub type AccessList = Items<Access>;
+
+/// Runs of bytes, each in one block.
+pub type RunList = Items<Run>;
+
+impl<T> Items<T> {
+    /// No items. It takes no memory.
+    pub fn empty(alloc: Global) -> Self
+        ensures { result ≡ [] }
+    {
+        Items {
+            items: Vec::new(alloc),
+        }
+    }
+
+    /// The items of a vector. It takes no memory.
+    pub fn of(items: Vec<T>) -> Self
+        ensures { result ≡ items.items }
+    {
+        Items { items }
+    }
+
+    /// Makes room for so many more items, so that adding them takes no memory. The items stay.
+    pub fn reserve(&mut self, more: u32) -> Result<(), Memory>
+        ensures { self.new ≡ self.old }
+    {
+        self.items.reserve(more as usize)?;
+        Ok(())
+    }
+
+    /// Adds an item at the end. Without memory the list stays as it is.
+    pub fn push(&mut self, item: T) -> Result<(), Memory>
+    where
+        T: Drop,
+        ensures ok { OnOk result (self.new ≡ self.old ++ item ∷ []) }
+        ensures err { OnErr result (self.new ≡ self.old) }
+    {
+        self.items.push(item)?;
+        Ok(())
+    }
+
+    pub fn len(&self) -> usize
+        ensures { result ≡ length self.now }
+    {
+        self.items.len()
+    }
+
+    pub fn is_empty(&self) -> bool
+        ensures { result ≡ (length self.now == 0) }
+    {
+        self.items.is_empty()
+    }
+
+    /// The item at a place, and none exactly past the end.
+    pub fn get(&self, i: u32) -> Option<&T>
+        ensures { option_copied result ≡ slice_get self.now i }
+    {
+        self.items.get(i as usize)
+    }
+
+    /// All items, borrowed.
+    pub fn as_slice(&self) -> &[T]
+        ensures { result.now ≡ self.now }
+    {
+        self.items.as_slice()
+    }
+}
