@@ -1,0 +1,10 @@
+pub mod Array
+pub mod Effect
+pub mod History
+pub mod Conflict
+pub mod Geometry
+pub mod World
+pub mod Step
+pub mod Script
+pub mod Image
+pub mod Text

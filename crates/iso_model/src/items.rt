@@ -1,7 +1,7 @@
 // The one implementation of the list types. Contracts see a list of items.
 ghost use Rattle.std.specs.Prelude.{◌≡◌, ◌==◌, [], ◌∷◌, ◌++◌, length, OnOk, OnErr, option_copied, slice_get};
 
-use crate::{Access, Memory, Run, Span};
+use crate::{Access, Memory, Span};
 use std::alloc::Global;
 use std::marker::Model;
 
@@ -27,9 +27,6 @@ pub type Bytes = Items<u8>;
 
 /// The accesses of a transaction, in order.
 pub type AccessList = Items<Access>;
-
-/// Runs of bytes, each in one block.
-pub type RunList = Items<Run>;
 
 impl<T> Items<T> {
     /// No items. It takes no memory.
