@@ -1,6 +1,6 @@
 -- How what a crash may leave goes on over a run of calls.
-use Rattle.std.proofs.Common.{inl, inr, ⊎_elim, ℕ, ◌≤◌, List, arith}
-use Rattle.iso_disk.specs.Disk.{Elapses, LeavesOnly}
+use Rattle.std.proofs.Common.{◌≡◌, inl, inr, ⊎_elim, ℕ, ◌≤◌, List, Option, refl, ◌∙◌, arith}
+use Rattle.iso_disk.specs.Disk.{Elapses, LeavesOnly, WritesNothing}
 
 module _ {D : Type 0} {clock : D → ℕ} {left : D → ℕ → List ℕ → Type 0} where
   -- before the first call, where each image of this moment has P
@@ -42,3 +42,15 @@ module _ {D : Type 0} {clock : D → ℕ} {left : D → ℕ → List ℕ → Typ
   -- the images that a crash may leave at the end of a run are among those of its moments
   pub at_end : {now : D → List ℕ → Type 0} → ((d : D) (t : ℕ) (c : List ℕ) → t ≤ clock d → now d c → left d t c) → {old new : D} {P : List ℕ → Type 0} → LeavesOnly clock left old new P → (c : List ℕ) → now new c → P c
   at_end counts_now {old = old} {new = new} run c image = run.each c (counts_now new (clock old) c run.later image)
+
+  -- a run that writes nothing, before its first call
+  pub starts_unwritten : {size : D → ℕ} {contents : D → Option (List ℕ)} {now : D → List ℕ → Type 0} → ((d : D) (c : List ℕ) → left d (clock d) c → now d c) → (d : D) → WritesNothing size contents clock left now d d
+  starts_unwritten only_now d = record { same_size = refl; same_contents = refl; moments = started only_now d (λ c image. image) }
+
+  -- one call more that writes nothing, as a read or a sync
+  pub goes_on_unwritten : {size : D → ℕ} {contents : D → Option (List ℕ)} {now : D → List ℕ → Type 0} → ((d : D) (t : ℕ) (c : List ℕ) → t ≤ clock d → now d c → left d t c) → {old mid new : D} → WritesNothing size contents clock left now old mid → size new ≡ size mid → contents new ≡ contents mid → Elapses clock left now mid new (now mid) → WritesNothing size contents clock left now old new
+  goes_on_unwritten counts_now so_far size_is contents_are call = record {
+    same_size = size_is ∙ so_far.same_size;
+    same_contents = contents_are ∙ so_far.same_contents;
+    moments = goes_on so_far.moments call (at_end counts_now so_far.moments);
+  }

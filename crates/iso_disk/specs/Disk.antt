@@ -42,6 +42,13 @@ pub record LeavesOnly {D : Type 0} (clock : D → ℕ) (left : D → ℕ → Lis
   pub before : (t : ℕ) (c : List ℕ) → t ≤ clock old → left new t c → left old t c ⊎ P c
   pub keeps : (t : ℕ) (c : List ℕ) → t ≤ clock old → left old t c → left new t c
 
+-- Nothing was written from old to new: the disk has its size and its contents, and a crash at any moment left what a
+-- crash at the start may leave.
+pub record WritesNothing {D : Type 0} (size : D → ℕ) (contents : D → Option (List ℕ)) (clock : D → ℕ) (left : D → ℕ → List ℕ → Type 0) (now : D → List ℕ → Type 0) (old new : D) : Type 0 where
+  pub same_size : size new ≡ size old
+  pub same_contents : contents new ≡ contents old
+  pub moments : LeavesOnly clock left old new (now old)
+
 -- A count of faults rose, or it is at its last value. It is a `u64` that stands still there.
 abbrev pub Rose : ℕ → ℕ → Type 0
 Rose before now = min (before + 1) (2 ^ 64 - 1) ≤ now

@@ -4,3 +4,6 @@
 mod disk;
 
 pub use disk::{Disk, DiskFault, Image};
+
+#[cfg(test)]
+mod tests;
