@@ -1,5 +1,5 @@
 // The contract between those who keep bytes and those who use them.
-ghost use Rattle.std.specs.Prelude.{◌≡◌, ◌+◌, ◌≤◌, ℕ, List, Option, length, replicate, OnOk, OnErr, IfNone, IfSome, Some};
+ghost use Rattle.std.specs.Prelude.{◌≡◌, ◌+◌, ◌^◌, ◌<◌, ◌≤◌, ℕ, List, Option, length, replicate, OnOk, OnErr, IfNone, IfSome, Some};
 ghost use Rattle.std.specs.List.{slice_range};
 ghost use Rattle.std.specs.Option.{ForSome, option_map};
 ghost use Rattle.iso_disk.specs.Disk.{spliced, TornFrom, TellsTorn, IsSettled, Elapses, HasCause};
@@ -59,6 +59,9 @@ pub trait Disk {
         ensures contents { contents self.new ≡ contents self.old }
         ensures crash { Elapses clock left now self.old self.new (now self.old) }
         ensures cause { HasCause (faults self.old) (faults self.new) result };
+
+    /// The size is a `u64`.
+    ghost size_fits: { (d : Self) → size d < 2 ^ 64 };
 
     /// What the disk reads as is one of the images that a crash now may leave.
     ghost reads_as_image: { (d : Self) (c : List ℕ) → contents d ≡ Some c → now d c };

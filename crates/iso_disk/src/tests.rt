@@ -1,5 +1,5 @@
 // A disk that tells nothing, as a real file: the trait asks of it only sizes, counts and causes.
-ghost use Rattle.std.specs.Prelude.{◌≡◌, None};
+ghost use Rattle.std.specs.Prelude.{◌≡◌, ◌^◌, ◌<◌, None};
 ghost use Rattle.std.proofs.Common.{rules};
 ghost use Rattle.iso_disk.specs.Disk.{HasCause};
 
@@ -12,6 +12,7 @@ struct Silent {
     size: u64,
     working: u64,
     faults: u64,
+    ghost fits: { size < 2 ^ 64 },
 }
 
 impl Silent {
@@ -40,6 +41,8 @@ impl Disk for Silent {
     ghost left = { λ _ _ _. ⊥ };
 
     ghost faults = { λ d. d.faults };
+
+    ghost size_fits = { λ d. d.fits };
 
     ghost reads_as_image = { λ d c told. Prim.search rules };
 

@@ -1,0 +1,14 @@
+use Rattle.std.proofs.Common.{◌≡◌, ◌+◌, ◌≤◌, ℕ, List, length, Some, Ok, Err, OnErr, ◌∙◌, arith}
+use Rattle.iso_disk.specs.Disk.{TellsTorn}
+use Rattle.iso_disk.proofs.Images.{tells_spliced, length-contents}
+use Rattle.commit_gate.proofs.gate.put_down.Goals as goal
+
+pub returns-clause-failed : goal.returns-clause-failed
+returns-clause-failed g c =
+    let d = c.args.disk.now in
+    let laws = g.met.D.Disk in
+    let fits : (b : List ℕ) → g.D.Disk.contents d ≡ Some b → c.args.at + length c.args.bytes.now ≤ length b = λ b told.
+    let size = length-contents laws.reads_as_image laws.counts_now laws.image_size d b told in
+    omega (arith, size) in
+    let torn = tells_spliced c.args.at c.args.bytes.now (c.sync.ensures.contents ∙ c.in_ok-write.ensures.written) fits in
+    elim c.sync.result as (λ r. OnErr r (TellsTorn c.args.at (length c.args.bytes.now) (g.D.Disk.contents d) (g.D.Disk.contents c.sync.new.self))) [ Ok x ↦ tt | Err e ↦ torn ]
