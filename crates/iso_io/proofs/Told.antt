@@ -1,6 +1,6 @@
 -- Known bytes, one piece after another.
 use Rattle.std.proofs.Common.{◌≡◌, ℕ, ◌+◌, ◌-◌, ◌≤◌, length-drop, length-append, List, ◌++◌, [], Option, None, Some, take, drop, length, refl, ap, sym, ◌∙◌, append_assoc, append-nil, arith}
-use Rattle.std.proofs.lemmas.List.{take_all}
+use Rattle.std.proofs.lemmas.List.{take_all, take-append-drop, drop-drop}
 use Rattle.std.proofs.Math.Seq.{take-add}
 use Rattle.std.specs.Io.KnownBytes.{append_known, prepend_known}
 
@@ -41,5 +41,12 @@ pub lost_after : (known next after : Option (List ℕ)) (bytes : List ℕ) (room
     → ((lost : List ℕ) × (length lost ≤ room) × (next ≡ prepend_known lost after)) → (lost : List ℕ) × (length lost ≤ limit) × (known ≡ prepend_known lost after)
 lost_after known next after bytes room limit before fits h =
     (bytes ++ h.0, simp length-append (omega (arith, h.1)), taken_more known next after bytes h.0 (bytes ++ h.0) before h.2 refl)
+
+-- what is behind a place is the n bytes that were given from there, and then what is behind those
+pub given_front : (xs given : List ℕ) (i n : ℕ) → given ≡ take n (take (length xs - i) (drop i xs)) → given ++ drop (i + n) xs ≡ drop i xs
+given_front xs given i n copied =
+    let behind : take (length xs - i) (drop i xs) ≡ drop i xs = take_all (length xs - i) (drop i xs) (omega (arith, length-drop i xs)) in
+    ap (λ front. front ++ drop (i + n) xs) (copied ∙ ap (take n) behind) ∙ ap (λ back. take n (drop i xs) ++ back) (sym (drop-drop n i xs))
+    ∙ take-append-drop n (drop i xs)
 
 pub ruleset steps = (put_more, taken_more, append_known-append, append_known-nil, prepend_known-append, prepend_known-nil)

@@ -1,5 +1,5 @@
 -- What contracts see of a source and a sink in memory.
-use Rattle.std.specs.Prelude.{ℕ, Bool, List, Contains}
+use Rattle.std.specs.Prelude.{◌≡◌, ◌⊎◌, ℕ, Bool, List, Contains, Result, Ok, Err}
 use Rattle.iso_io.specs.Count.{one_more}
 
 -- a source in memory
@@ -24,3 +24,12 @@ pub record SinkState : Type 0 where
 -- the next call is one of those that are to fail
 abbrev pub FailsNext : List ℕ → ℕ → Type 0
 FailsNext failing calls = Contains failing (one_more calls)
+
+-- the count of faults after a call
+abbrev pub faults_after : {T E : Type 0} → ℕ → Result T E → ℕ
+faults_after before (Ok answer) = before
+faults_after before (Err fault) = one_more before
+
+-- a call that failed was to fail, or it found no memory and was counted
+abbrev pub MissesMemory : Type 0 → ℕ → ℕ → Type 0
+MissesMemory ToFail before now = (ToFail × (now ≡ before)) ⊎ (now ≡ one_more before)

@@ -1,6 +1,6 @@
 // Where bytes come from.
 ghost use Rattle.std.specs.Prelude.{◌≡◌, ◌<◌, ◌≤◌, ◌↔◌, ◌==◌, ◌++◌, ℕ, Bool, Option, List, [], length, take, vec_len, IfSome, IfOk, OnErr, IsErrOf, IsTrue};
-ghost use Rattle.std.specs.Io.KnownBytes.{prepend_known};
+ghost use Rattle.std.specs.Io.KnownBytes.{IsAtEnd, prepend_known};
 ghost use Rattle.iso_io.specs.Count.{HasCause, HasRisen};
 ghost use Rattle.iso_io.specs.Source.{ended_after};
 ghost use Rattle.iso_io.specs.declared.source.TakeError.TheVariants.{Failed, Memory};
@@ -70,6 +70,7 @@ pub fn take_all<S: Source>(alloc: Global, source: &mut S, limit: u64) -> Result<
     ensures limit { IfOk result (λ bytes. vec_len bytes ≤ limit) }
     ensures ended { IfOk result (λ bytes. vec_len bytes < limit → IsTrue (S.is_ended source.new)) }
     ensures whole { IfOk result (λ bytes. vec_len bytes < limit → IfSome (S.rest source.old) (λ left. left ≡ bytes.items)) }
+    ensures nothing_left { IfOk result (λ bytes. vec_len bytes < limit → IsAtEnd (S.rest source.new)) }
 
     // At an error, at most so many bytes are lost.
     ensures err { OnErr result ((lost : List ℕ) × (length lost ≤ limit) × (S.rest source.old ≡ prepend_known lost (S.rest source.new))) }
