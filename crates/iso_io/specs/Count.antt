@@ -1,5 +1,5 @@
 -- Counts of faults. They do not fall, and they stand still at the last value of a u64.
-use Rattle.std.specs.Prelude.{ℕ, ◌+◌, ◌-◌, ◌^◌, ◌≤◌, min, Result, IsErr}
+use Rattle.std.specs.Prelude.{ℕ, ◌+◌, ◌-◌, ◌^◌, ◌≤◌, min, Result, Ok, Err, IsErr}
 
 -- a count after one more
 abbrev pub one_more : ℕ → ℕ
@@ -13,3 +13,8 @@ HasRisen before now = one_more before ≤ now
 pub record HasCause {T E : Type 0} (before now : ℕ) (result : Result T E) : Type 0 where
   pub later : before ≤ now
   pub failed : IsErr result → HasRisen before now
+
+-- the count of faults after a call, where it is one more at each fault and at no other call
+abbrev pub faults_after : {T E : Type 0} → ℕ → Result T E → ℕ
+faults_after before (Ok answer) = before
+faults_after before (Err fault) = one_more before

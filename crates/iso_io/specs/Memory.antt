@@ -1,9 +1,9 @@
 -- What contracts see of a source and a sink in memory.
-use Rattle.std.specs.Prelude.{◌≡◌, ◌⊎◌, ℕ, Bool, List, Contains, Result, Ok, Err}
+use Rattle.std.specs.Prelude.{◌≡◌, ◌⊎◌, ℕ, Bool, List, Contains}
 use Rattle.iso_io.specs.Count.{one_more}
 
 -- a source in memory
-pub record SourceState : Type 0 where
+pub record MemSourceState : Type 0 where
   pub left : List ℕ  -- the bytes that are left
   pub piece : ℕ  -- the most bytes that a call gives
   pub failing : List ℕ  -- the numbers, from 1, of the calls that are to fail
@@ -12,7 +12,7 @@ pub record SourceState : Type 0 where
   pub is_ended : Bool  -- the last call that had room gave nothing
 
 -- a sink in memory
-pub record SinkState : Type 0 where
+pub record MemSinkState : Type 0 where
   pub taken : List ℕ  -- the bytes taken so far
   pub piece : ℕ  -- the most bytes that a call takes
   pub failing : List ℕ  -- the numbers, from 1, of the calls that are to fail
@@ -24,11 +24,6 @@ pub record SinkState : Type 0 where
 -- the next call is one of those that are to fail
 abbrev pub FailsNext : List ℕ → ℕ → Type 0
 FailsNext failing calls = Contains failing (one_more calls)
-
--- the count of faults after a call
-abbrev pub faults_after : {T E : Type 0} → ℕ → Result T E → ℕ
-faults_after before (Ok answer) = before
-faults_after before (Err fault) = one_more before
 
 -- a call that failed was to fail, or it found no memory and was counted
 abbrev pub MissesMemory : Type 0 → ℕ → ℕ → Type 0

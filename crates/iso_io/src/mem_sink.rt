@@ -1,9 +1,9 @@
 // A sink that keeps its bytes in memory.
 ghost use Rattle.std.specs.Prelude.{◌≡◌, ◌≤◌, ◌<◌, ◌++◌, ◌^◌, ◌-◌, [], min, length, take, IfOk, IsErr, OnErr, OnOk, Some};
 ghost use Rattle.std.specs.Io.KnownBytes.{append_known};
-ghost use Rattle.iso_io.specs.Count.{HasCause, one_more};
+ghost use Rattle.iso_io.specs.Count.{HasCause, faults_after, one_more};
 ghost use Rattle.iso_io.specs.Sink.{refusals_after};
-ghost use Rattle.iso_io.specs.Memory.{FailsNext, MissesMemory, faults_after};
+ghost use Rattle.iso_io.specs.Memory.{FailsNext, MissesMemory};
 
 use crate::calls::is_to_fail;
 use crate::{Sink, SinkFault};
@@ -23,9 +23,9 @@ pub struct MemSink {
 }
 
 impl Model for MemSink {
-    ghost use Rattle.iso_io.specs.Memory.{SinkState};
+    ghost use Rattle.iso_io.specs.Memory.{MemSinkState};
 
-    ghost Value = { SinkState };
+    ghost Value = { MemSinkState };
 
     ghost view = { λ s. record {
       taken = s.bytes.items;

@@ -1,9 +1,9 @@
 // A source over bytes in memory.
 ghost use Rattle.std.specs.Prelude.{◌≡◌, ◌≤◌, ◌<◌, ◌↔◌, ◌++◌, ◌^◌, ◌-◌, [], false, min, length, take, drop, IfSome, IfOk, IsErr, OnErr, Some, MatchResult};
 ghost use Rattle.std.specs.Io.KnownBytes.{prepend_known};
-ghost use Rattle.iso_io.specs.Count.{HasCause, one_more};
+ghost use Rattle.iso_io.specs.Count.{HasCause, faults_after, one_more};
 ghost use Rattle.iso_io.specs.Source.{ended_after};
-ghost use Rattle.iso_io.specs.Memory.{FailsNext, faults_after};
+ghost use Rattle.iso_io.specs.Memory.{FailsNext};
 
 use crate::calls::is_to_fail;
 use crate::{Source, SourceFault};
@@ -23,9 +23,9 @@ pub struct MemSource {
 
 impl Model for MemSource {
     ghost use Rattle.std.specs.Prelude.{◌≤◌, ◌<◌, drop, vec_len};
-    ghost use Rattle.iso_io.specs.Memory.{SourceState};
+    ghost use Rattle.iso_io.specs.Memory.{MemSourceState};
 
-    ghost Value = { SourceState };
+    ghost Value = { MemSourceState };
 
     ghost view = { λ s. record {
       left = drop s.at s.bytes.items;
