@@ -1,0 +1,11 @@
+use Rattle.std.proofs.Common.{arith, length}
+use Rattle.std.proofs.lemmas.Result.{err_from_is_err_and}
+use Rattle.std.proofs.lemmas.Grind.{common_steps}
+use Rattle.iso_io.proofs.Told.{lost_after}
+use Rattle.iso_io.proofs.source.take_all.Goals as goal
+
+-- the exit of the `?`
+pub returns-in_err-take_piece-clause-err : goal.returns-in_err-take_piece-clause-err
+returns-in_err-take_piece-clause-err g c =
+    let p = err_from_is_err_and c.from_residual-in_err-take_piece.result c.from_residual-in_err-take_piece.ensures.1 in
+    rw p.1 (lost_after _ _ _ c.loop-bytes.bytes.items (length c.take_piece.new.piece) c.args.limit c.loop-bytes.invariant.told (grind (arith, common_steps)) c.in_err-take_piece.ensures.err)

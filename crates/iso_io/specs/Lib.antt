@@ -1,0 +1,6 @@
+-- What the contracts of sources and sinks say.
+pub mod Count
+pub mod Source
+pub mod Sink
+pub mod Memory
+pub mod Standard

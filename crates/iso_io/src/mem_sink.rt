@@ -1,0 +1,138 @@
+// A sink that keeps its bytes in memory.
+ghost use Rattle.std.specs.Prelude.{◌≡◌, ◌≤◌, ◌<◌, ◌++◌, ◌^◌, ◌-◌, [], min, length, take, IfOk, IsErr, OnErr, OnOk, Some};
+ghost use Rattle.std.specs.Io.KnownBytes.{append_known};
+ghost use Rattle.iso_io.specs.Count.{HasCause, faults_after, one_more};
+ghost use Rattle.iso_io.specs.Sink.{refusals_after};
+ghost use Rattle.iso_io.specs.Memory.{FailsNext, MissesMemory};
+
+use crate::calls::is_to_fail;
+use crate::{Sink, SinkFault};
+use std::alloc::Global;
+use std::marker::Model;
+
+/// A sink that keeps its bytes in memory, some of whose calls are to fail.
+#[derive(Debug, Drop)]
+pub struct MemSink {
+    bytes: Vec<u8>,
+    piece: usize,
+    failing: Vec<u64>,
+    calls: u64,
+    faults: u64,
+    starved: u64,
+    refused: u64,
+}
+
+impl Model for MemSink {
+    ghost use Rattle.iso_io.specs.Memory.{MemSinkState};
+
+    ghost Value = { MemSinkState };
+
+    ghost view = { λ s. record {
+      taken = s.bytes.items;
+      piece = s.piece;
+      failing = s.failing.items;
+      calls = s.calls;
+      faults = s.faults;
+      starved = s.starved;
+      refusals = s.refused;
+    } };
+}
+
+impl MemSink {
+    /// A sink with no bytes, whose calls with the numbers `failing`, from 1, fail.
+    pub fn new(alloc: Global, failing: Vec<u64>) -> Self
+        ensures { result ≡ record {
+          taken = [];
+          piece = 2 ^ 64 - 1;
+          failing = failing.items;
+          calls = 0;
+          faults = 0;
+          starved = 0;
+          refusals = 0;
+        } }
+    {
+        MemSink::in_pieces(alloc, failing, usize::MAX)
+    }
+
+    /// One that takes at most so many bytes at a call; with 0 it takes nothing.
+    pub fn in_pieces(alloc: Global, failing: Vec<u64>, piece: usize) -> Self
+        ensures { result ≡ record {
+          taken = [];
+          piece = piece;
+          failing = failing.items;
+          calls = 0;
+          faults = 0;
+          starved = 0;
+          refusals = 0;
+        } }
+    {
+        MemSink {
+            bytes: Vec::new(alloc),
+            piece,
+            failing,
+            calls: 0,
+            faults: 0,
+            starved: 0,
+            refused: 0,
+        }
+    }
+
+    /// The bytes taken so far.
+    pub fn bytes(&self) -> &[u8]
+        ensures { result.now ≡ self.now.taken }
+    {
+        &self.bytes
+    }
+
+    /// How many calls found no memory, up to the last value of a u64.
+    pub fn starved(&self) -> u64
+        ensures { result ≡ self.now.starved }
+    {
+        self.starved
+    }
+}
+
+impl Sink for MemSink {
+    ghost written = { λ s. Some s.taken };
+
+    ghost refusals = { λ s. s.refusals };
+
+    ghost faults = { λ s. s.faults };
+
+    fn put(&mut self, bytes: &[u8]) -> Result<usize, SinkFault>
+        ensures count { IfOk result (λ n. n ≤ length bytes.now) }
+        ensures bytes { IfOk result (λ n. Some self.new.taken ≡ append_known (Some self.old.taken) (take n bytes.now)) }
+        ensures refusals { self.new.refusals ≡ refusals_after self.old.refusals bytes.now result }
+        ensures no_fewer { self.old.refusals ≤ self.new.refusals }
+        ensures err { OnErr result (Some self.new.taken ≡ Some self.old.taken) }
+        ensures cause { HasCause self.old.faults self.new.faults result }
+
+        // It fails where it is told to, and else exactly where it found no memory.
+        ensures named { FailsNext self.old.failing self.old.calls → IsErr result }
+        ensures starved { OnErr result (MissesMemory (FailsNext self.old.failing self.old.calls) self.old.starved self.new.starved) }
+        ensures fed { OnOk result (self.new.starved ≡ self.old.starved) }
+        ensures given { IfOk result (λ n. n ≡ min (length bytes.now) self.old.piece) }
+        ensures after { self.new ≡ record self.old {
+          taken = self.new.taken;
+          refusals = self.new.refusals;
+          starved = self.new.starved;
+          calls = one_more self.old.calls;
+          faults = faults_after self.old.faults result;
+        } }
+    {
+        if is_to_fail(&self.failing, &mut self.calls) {
+            self.faults = self.faults.saturating_add(1);
+            return Err(SinkFault);
+        }
+        let front = bytes.len().min(self.piece);
+        if self.bytes.extend_from_slice(&bytes[..front]).is_err() {
+            self.starved = self.starved.saturating_add(1);
+            self.faults = self.faults.saturating_add(1);
+            return Err(SinkFault);
+        }
+        if front == 0 && !bytes.is_empty() {
+            self.refused = self.refused.saturating_add(1);
+        }
+        Ok(front)
+    }
+}

@@ -1,0 +1,127 @@
+// A source over bytes in memory.
+ghost use Rattle.std.specs.Prelude.{◌≡◌, ◌≤◌, ◌<◌, ◌↔◌, ◌++◌, ◌^◌, ◌-◌, [], false, min, length, take, drop, IfSome, IfOk, IsErr, OnErr, Some, MatchResult};
+ghost use Rattle.std.specs.Io.KnownBytes.{prepend_known};
+ghost use Rattle.iso_io.specs.Count.{HasCause, faults_after, one_more};
+ghost use Rattle.iso_io.specs.Source.{ended_after};
+ghost use Rattle.iso_io.specs.Memory.{FailsNext};
+
+use crate::calls::is_to_fail;
+use crate::{Source, SourceFault};
+use std::marker::Model;
+
+/// A source over bytes in memory, some of whose calls are to fail.
+#[derive(Debug, Drop)]
+pub struct MemSource {
+    bytes: Vec<u8>,
+    at: usize,
+    piece: usize,
+    failing: Vec<u64>,
+    calls: u64,
+    faults: u64,
+    ended: bool,
+}
+
+impl Model for MemSource {
+    ghost use Rattle.std.specs.Prelude.{◌≤◌, ◌<◌, drop, vec_len};
+    ghost use Rattle.iso_io.specs.Memory.{MemSourceState};
+
+    ghost Value = { MemSourceState };
+
+    ghost view = { λ s. record {
+      left = drop s.at s.bytes.items;
+      piece = s.piece;
+      failing = s.failing.items;
+      calls = s.calls;
+      faults = s.faults;
+      is_ended = s.ended;
+    } };
+
+    ghost invariant = { λ s. (s.at ≤ vec_len s.bytes) × (0 < s.piece) };
+}
+
+impl MemSource {
+    /// A source over these bytes, whose calls with the numbers `failing`, from 1, fail.
+    pub fn new(bytes: Vec<u8>, failing: Vec<u64>) -> Self
+        ensures { result ≡ record {
+          left = bytes.items;
+          piece = 2 ^ 64 - 1;
+          failing = failing.items;
+          calls = 0;
+          faults = 0;
+          is_ended = false;
+        } }
+    {
+        MemSource::in_pieces(bytes, failing, usize::MAX)
+    }
+
+    /// One that gives at most so many bytes at a call.
+    pub fn in_pieces(bytes: Vec<u8>, failing: Vec<u64>, piece: usize) -> Self
+        requires { 0 < piece }
+        ensures { result ≡ record {
+          left = bytes.items;
+          piece = piece;
+          failing = failing.items;
+          calls = 0;
+          faults = 0;
+          is_ended = false;
+        } }
+    {
+        MemSource {
+            bytes,
+            at: 0,
+            piece,
+            failing,
+            calls: 0,
+            faults: 0,
+            ended: false,
+        }
+    }
+}
+
+impl Source for MemSource {
+    ghost rest = { λ s. Some s.left };
+
+    ghost is_ended = { λ s. s.is_ended };
+
+    ghost faults = { λ s. s.faults };
+
+    fn take(&mut self, into: &mut [u8]) -> Result<usize, SourceFault>
+        ensures count { IfOk result (λ n. n ≤ length into.new) }
+        ensures bytes { IfOk result (λ n. Some self.old.left ≡ prepend_known (take n into.new) (Some self.new.left)) }
+        ensures end { IfOk result (λ n. 0 < length into.new → IfSome (Some self.old.left) (λ left. (n ≡ 0) ↔ (left ≡ []))) }
+        ensures ended { self.new.is_ended ≡ ended_after self.old.is_ended into.new result }
+        ensures err { OnErr result (Some self.new.left ≡ Some self.old.left) }
+        ensures cause { HasCause self.old.faults self.new.faults result }
+
+        // It fails exactly where it is told to, and gives what there is room for.
+        ensures named { IsErr result ↔ FailsNext self.old.failing self.old.calls }
+        ensures given { IfOk result (λ n. n ≡ min (min (length self.old.left) (length into.new)) self.old.piece) }
+        ensures after { self.new ≡ record self.old {
+          left = self.new.left;
+          is_ended = self.new.is_ended;
+          calls = one_more self.old.calls;
+          faults = faults_after self.old.faults result;
+        } }
+    {
+        if is_to_fail(&self.failing, &mut self.calls) {
+            self.faults = self.faults.saturating_add(1);
+            return Err(SourceFault);
+        }
+        let given = give(&self.bytes[self.at..], self.piece, into);
+        self.at += given;
+        if !into.is_empty() {
+            self.ended = given == 0;
+        }
+        Ok(given)
+    }
+}
+
+// Copies from the front, as much as there is room for and at most a piece, and says how much.
+fn give(left: &[u8], piece: usize, into: &mut [u8]) -> usize
+    ensures count { result ≡ min (min (length left.now) (length into.new)) piece }
+    ensures bytes { take result into.new ≡ take result left.now }
+{
+    let given = left.len().min(into.len()).min(piece);
+    into[..given].copy_from_slice(&left[..given]);
+    given
+}

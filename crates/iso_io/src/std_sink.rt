@@ -1,0 +1,67 @@
+// A sink over a writer of std.
+ghost use Rattle.std.specs.Prelude.{◌≡◌, ◌≤◌, None, length, IfOk};
+ghost use Rattle.iso_io.specs.Count.{HasCause, faults_after};
+ghost use Rattle.iso_io.specs.Sink.{refusals_after};
+
+use crate::{Sink, SinkFault};
+use std::io::Write;
+use std::marker::Model;
+
+/// A sink over a writer, such as standard output. It tells no bytes, and each error is a fault.
+/// A writer that holds bytes back is its owner's to flush.
+#[derive(Drop)]
+pub struct StdSink<T> {
+    writer: T,
+    faults: u64,
+    refused: u64,
+}
+
+impl<T> Model for StdSink<T> {
+    ghost use Rattle.iso_io.specs.Standard.{StdSinkState};
+
+    ghost Value = { StdSinkState };
+
+    ghost view = { λ s. record { faults = s.faults; refusals = s.refused } };
+}
+
+impl<T> StdSink<T> {
+    /// A sink over this writer.
+    pub fn new(writer: T) -> Self
+        ensures { result ≡ record { faults = 0; refusals = 0 } }
+    {
+        StdSink {
+            writer,
+            faults: 0,
+            refused: 0,
+        }
+    }
+}
+
+impl<T: Write> Sink for StdSink<T> {
+    ghost written = { λ _. None };
+
+    ghost refusals = { λ s. s.refusals };
+
+    ghost faults = { λ s. s.faults };
+
+    fn put(&mut self, bytes: &[u8]) -> Result<usize, SinkFault>
+        ensures count { IfOk result (λ n. n ≤ length bytes.now) }
+        ensures refusals { self.new.refusals ≡ refusals_after self.old.refusals bytes.now result }
+        ensures no_fewer { self.old.refusals ≤ self.new.refusals }
+        ensures cause { HasCause self.old.faults self.new.faults result }
+        ensures faults { self.new.faults ≡ faults_after self.old.faults result }
+    {
+        match self.writer.write(bytes) {
+            Ok(taken) => {
+                if taken == 0 && !bytes.is_empty() {
+                    self.refused = self.refused.saturating_add(1);
+                }
+                Ok(taken)
+            }
+            Err(_) => {
+                self.faults = self.faults.saturating_add(1);
+                Err(SinkFault)
+            }
+        }
+    }
+}

@@ -1,0 +1,66 @@
+// A source over a reader of std.
+ghost use Rattle.std.specs.Prelude.{◌≡◌, ◌≤◌, ◌<◌, ◌↔◌, [], false, None, length, take, IfSome, IfOk, OnErr};
+ghost use Rattle.std.specs.Io.KnownBytes.{prepend_known};
+ghost use Rattle.iso_io.specs.Count.{HasCause, faults_after};
+ghost use Rattle.iso_io.specs.Source.{ended_after};
+
+use crate::{Source, SourceFault};
+use std::io::Read;
+use std::marker::Model;
+
+/// A source over a reader, such as standard input. It tells no bytes, and each error is a fault.
+#[derive(Drop)]
+pub struct StdSource<T> {
+    reader: T,
+    faults: u64,
+    ended: bool,
+}
+
+impl<T> Model for StdSource<T> {
+    ghost use Rattle.iso_io.specs.Standard.{StdSourceState};
+
+    ghost Value = { StdSourceState };
+
+    ghost view = { λ s. record { faults = s.faults; is_ended = s.ended } };
+}
+
+impl<T> StdSource<T> {
+    /// A source over this reader.
+    pub fn new(reader: T) -> Self
+        ensures { result ≡ record { faults = 0; is_ended = false } }
+    {
+        StdSource {
+            reader,
+            faults: 0,
+            ended: false,
+        }
+    }
+}
+
+impl<T: Read> Source for StdSource<T> {
+    ghost rest = { λ _. None };
+
+    ghost is_ended = { λ s. s.is_ended };
+
+    ghost faults = { λ s. s.faults };
+
+    fn take(&mut self, into: &mut [u8]) -> Result<usize, SourceFault>
+        ensures count { IfOk result (λ n. n ≤ length into.new) }
+        ensures ended { self.new.is_ended ≡ ended_after self.old.is_ended into.new result }
+        ensures cause { HasCause self.old.faults self.new.faults result }
+        ensures faults { self.new.faults ≡ faults_after self.old.faults result }
+    {
+        match self.reader.read(into) {
+            Ok(given) => {
+                if !into.is_empty() {
+                    self.ended = given == 0;
+                }
+                Ok(given)
+            }
+            Err(_) => {
+                self.faults = self.faults.saturating_add(1);
+                Err(SourceFault)
+            }
+        }
+    }
+}
