@@ -1,5 +1,5 @@
 // A sink that keeps its bytes in memory.
-ghost use Rattle.std.specs.Prelude.{◌≡◌, ◌≤◌, ◌<◌, ◌++◌, ◌^◌, ◌-◌, [], min, length, take, IfOk, IsErr, OnErr, OnOk, Some};
+ghost use Rattle.std.specs.Prelude.{◌≡◌, ◌≤◌, ◌^◌, ◌-◌, [], min, length, take, IfOk, IsErr, OnErr, OnOk, Some};
 ghost use Rattle.std.specs.Io.KnownBytes.{append_known};
 ghost use Rattle.iso_io.specs.Count.{HasCause, faults_after, one_more};
 ghost use Rattle.iso_io.specs.Sink.{refusals_after};
@@ -107,7 +107,7 @@ impl Sink for MemSink {
         ensures err { OnErr result (Some self.new.taken ≡ Some self.old.taken) }
         ensures cause { HasCause self.old.faults self.new.faults result }
 
-        // It fails where it is told to, and else exactly where it found no memory.
+        // It fails where it is told to, and else only where it found no memory, which it counts.
         ensures named { FailsNext self.old.failing self.old.calls → IsErr result }
         ensures starved { OnErr result (MissesMemory (FailsNext self.old.failing self.old.calls) self.old.starved self.new.starved) }
         ensures fed { OnOk result (self.new.starved ≡ self.old.starved) }

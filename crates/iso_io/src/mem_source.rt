@@ -1,5 +1,5 @@
 // A source over bytes in memory.
-ghost use Rattle.std.specs.Prelude.{◌≡◌, ◌≤◌, ◌<◌, ◌↔◌, ◌++◌, ◌^◌, ◌-◌, [], false, min, length, take, drop, IfSome, IfOk, IsErr, OnErr, Some, MatchResult};
+ghost use Rattle.std.specs.Prelude.{◌≡◌, ◌≤◌, ◌<◌, ◌↔◌, ◌^◌, ◌-◌, [], false, min, length, take, IfSome, IfOk, IsErr, OnErr, Some};
 ghost use Rattle.std.specs.Io.KnownBytes.{prepend_known};
 ghost use Rattle.iso_io.specs.Count.{HasCause, faults_after, one_more};
 ghost use Rattle.iso_io.specs.Source.{ended_after};

@@ -1,6 +1,5 @@
 // A source over a reader of std.
-ghost use Rattle.std.specs.Prelude.{◌≡◌, ◌≤◌, ◌<◌, ◌↔◌, [], false, None, length, take, IfSome, IfOk, OnErr};
-ghost use Rattle.std.specs.Io.KnownBytes.{prepend_known};
+ghost use Rattle.std.specs.Prelude.{◌≡◌, ◌≤◌, false, None, length, IfOk};
 ghost use Rattle.iso_io.specs.Count.{HasCause, faults_after};
 ghost use Rattle.iso_io.specs.Source.{ended_after};
 

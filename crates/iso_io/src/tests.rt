@@ -1,0 +1,134 @@
+// Each form once: calls that fail, pieces, refusals, and the real streams' forms over fakes.
+use super::*;
+use std::io;
+use std::io::{Read, Write};
+use std::test::Fail;
+
+// A stream whose every call fails.
+#[derive(Drop)]
+struct Broken;
+
+impl Read for Broken {
+    fn read(&mut self, _buf: &mut [u8]) -> io::Result<usize> {
+        Err(io::ErrorKind::BrokenPipe.into())
+    }
+}
+
+impl Write for Broken {
+    fn write(&mut self, _buf: &[u8]) -> io::Result<usize> {
+        Err(io::ErrorKind::BrokenPipe.into())
+    }
+
+    fn flush(&mut self) -> io::Result<()> {
+        Ok(())
+    }
+}
+
+#[test]
+fn a_call_that_fails_leaves_the_bytes(rt: HostRuntime) -> Result<(), Fail> {
+    let alloc = rt.alloc();
+    let mut source = MemSource::new(b"abcde".to_vec(alloc)?, [2].to_vec(alloc)?);
+    let mut piece = [0u8; 3];
+    assert_eq!(rt; source.take(&mut piece), Ok(3));
+    assert_eq!(rt; piece.as_slice(), b"abc".as_slice());
+    assert_eq!(rt; source.take(&mut piece), Err(SourceFault));
+    assert_eq!(rt; source.take(&mut piece), Ok(2));
+    assert_eq!(rt; piece[..2], b"de"[..]);
+    assert_eq!(rt; source.take(&mut piece), Ok(0));
+    Ok(())
+}
+
+#[test]
+fn all_bytes_are_taken_whatever_the_pieces(rt: HostRuntime) -> Result<(), Fail> {
+    let alloc = rt.alloc();
+    for piece in [1, 2, 5, 100] {
+        let bytes = b"abcde".to_vec(alloc)?;
+        let mut source = MemSource::in_pieces(bytes, Vec::new(alloc), piece);
+        let taken = take_all(alloc, &mut source, 100).ok().ok_or("a fault")?;
+        assert_eq!(rt;
+            taken.as_slice(),
+            b"abcde".as_slice(),
+            "in pieces of {piece}"
+        );
+    }
+    Ok(())
+}
+
+#[test]
+fn taking_stops_at_the_limit(rt: HostRuntime) -> Result<(), Fail> {
+    let alloc = rt.alloc();
+    let mut source = MemSource::new([7u8; 70_000].to_vec(alloc)?, Vec::new(alloc));
+    let taken = take_all(alloc, &mut source, 69_999).ok().ok_or("a fault")?;
+    assert_eq!(rt; taken.len(), 69_999);
+    let rest = take_all(alloc, &mut source, 69_999).ok().ok_or("a fault")?;
+    assert_eq!(rt; rest.as_slice(), [7u8].as_slice());
+    Ok(())
+}
+
+#[test]
+fn taking_reports_a_fault(rt: HostRuntime) -> Result<(), Fail> {
+    let alloc = rt.alloc();
+    let bytes = b"abcde".to_vec(alloc)?;
+    let mut source = MemSource::in_pieces(bytes, [3].to_vec(alloc)?, 2);
+    assert_eq!(rt;
+        take_all(alloc, &mut source, 100).err(),
+        Some(TakeError::Failed)
+    );
+    Ok(())
+}
+
+#[test]
+fn a_whole_piece_is_put_one_byte_at_a_time(rt: HostRuntime) -> Result<(), Fail> {
+    let alloc = rt.alloc();
+    let mut sink = MemSink::in_pieces(alloc, Vec::new(alloc), 1);
+    assert_eq!(rt; put_all(&mut sink, b"abc"), Ok(()));
+    assert_eq!(rt; put_all(&mut sink, b""), Ok(()));
+    assert_eq!(rt; put_all(&mut sink, b"de"), Ok(()));
+    assert_eq!(rt; sink.bytes(), b"abcde".as_slice());
+    assert_eq!(rt; sink.starved(), 0);
+    Ok(())
+}
+
+#[test]
+fn a_put_that_fails_keeps_the_front(rt: HostRuntime) -> Result<(), Fail> {
+    let alloc = rt.alloc();
+    let mut sink = MemSink::in_pieces(alloc, [3].to_vec(alloc)?, 2);
+    assert_eq!(rt; put_all(&mut sink, b"abcdef"), Err(PutError::Failed));
+    assert_eq!(rt; sink.bytes(), b"abcd".as_slice());
+    assert_eq!(rt; sink.starved(), 0);
+    Ok(())
+}
+
+#[test]
+fn a_sink_may_take_nothing(rt: HostRuntime) {
+    let alloc = rt.alloc();
+    let mut sink = MemSink::in_pieces(alloc, Vec::new(alloc), 0);
+    assert_eq!(rt; sink.put(b"a"), Ok(0));
+    assert_eq!(rt; put_all(&mut sink, b"a"), Err(PutError::TookNothing));
+    assert_eq!(rt; put_all(&mut sink, b""), Ok(()));
+    assert_eq!(rt; sink.bytes().len(), 0);
+}
+
+#[test]
+fn a_reader_is_a_source(rt: HostRuntime) -> Result<(), Fail> {
+    let alloc = rt.alloc();
+    let mut source = StdSource::new(b"abc".as_slice());
+    let taken = take_all(alloc, &mut source, 100).ok().ok_or("a fault")?;
+    assert_eq!(rt; taken.as_slice(), b"abc".as_slice());
+    let mut broken = StdSource::new(Broken);
+    assert_eq!(rt; broken.take(&mut [0]), Err(SourceFault));
+    Ok(())
+}
+
+#[test]
+fn a_writer_is_a_sink(rt: HostRuntime) {
+    let alloc = rt.alloc();
+    let mut bytes = Vec::new(alloc);
+    {
+        let mut sink = StdSink::new(&mut bytes);
+        assert_eq!(rt; put_all(&mut sink, b"abc"), Ok(()));
+    }
+    assert_eq!(rt; bytes.as_slice(), b"abc".as_slice());
+    let mut broken = StdSink::new(Broken);
+    assert_eq!(rt; broken.put(b"a"), Err(SinkFault));
+}
