@@ -1,5 +1,5 @@
 // What a line of a script says.
-ghost use Rattle.std.specs.Prelude.{◌≡◌, ◌^◌, ◌<◌, length};
+ghost use Rattle.std.specs.Prelude.{◌≡◌};
 ghost use Rattle.iso_model.specs.Script.{is_skipped, parse, parse_whole, said, without_return};
 ghost use Rattle.script_text.specs.Parsing.{Gives};
 ghost use Rattle.script_text.specs.Words.{texts};
@@ -48,7 +48,7 @@ fn without_return(piece: &[u8]) -> &[u8]
     piece.strip_suffix(b"\r").unwrap_or(piece)
 }
 
-/// A line that says nothing: empty, only spaces, or a comment.
+/// Whether a line says nothing: it is empty, only spaces, or a comment.
 fn is_skipped(text: &[u8]) -> bool
     ensures { result ≡ is_skipped text.now }
 {
