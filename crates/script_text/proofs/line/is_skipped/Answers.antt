@@ -1,0 +1,9 @@
+use Rattle.std.proofs.Common.{nat_eq, rules, tests}
+use Rattle.std.proofs.lemmas.Iterator.{YieldsList-from_slice}
+use Rattle.std.proofs.lemmas.Iterator.Search.{all_from_yields_List}
+use Rattle.script_text.proofs.LineLemmas.{is_skipped-no_comment}
+use Rattle.script_text.proofs.line.is_skipped.Goals as goal
+
+pub returns-else-starts_with : goal.returns-else-starts_with
+returns-else-starts_with c =
+    is_skipped-no_comment c.args.text.now _ c.if-starts_with.ensures.value (all_from_yields_List (nat_eq 32) _ _ _ c.all.ensures.ran (YieldsList-from_slice c.args.text.now cc) (λ x b q k. grind (rules, tests)))

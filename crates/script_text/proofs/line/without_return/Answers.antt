@@ -1,0 +1,10 @@
+use Rattle.std.proofs.Common.{[], ◌∷◌, ap, ◌∙◌, refl, Bor, List, ℕ}
+use Rattle.std.proofs.lemmas.Bool.Decides.{Decides-eqb}
+use Rattle.std.proofs.lemmas.Slice.Eq.{strip_suffix_is}
+use Rattle.script_text.proofs.LineLemmas.{without_return-stripped}
+use Rattle.script_text.proofs.line.without_return.Goals as goal
+
+pub returns : goal.returns
+returns c =
+    let stripped = strip_suffix_is Decides-eqb c.args.piece.now (13 ∷ []) c.strip_suffix.result c.strip_suffix.ensures.cases in
+    ap (λ (rest : Bor (List ℕ)). rest.now) c.unwrap_or.ensures ∙ without_return-stripped c.args.piece.now c.args.piece c.strip_suffix.result stripped refl

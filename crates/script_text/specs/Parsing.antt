@@ -1,0 +1,14 @@
+-- What a step of the parser answers.
+use Rattle.std.specs.Prelude.{◌≡◌, ℕ, Result, Ok, Err}
+use Rattle.iso_model.specs.declared.script.LineError.{LineError}
+use Rattle.iso_model.specs.declared.script.LineError.TheVariants.{Cause, Memory}
+
+-- the definition fails by that cause, or memory ran out
+abbrev pub Fails : {X : Type 0} → LineError → Result X ℕ → Type 0
+Fails (Cause cause) defined = defined ≡ Err cause
+Fails Memory defined = Unit {0}
+
+-- the value that is defined, or the cause that is defined, unless memory ran out
+abbrev pub Gives : {X : Type 0} → Result X LineError → Result X ℕ → Type 0
+Gives (Ok x) defined = defined ≡ Ok x
+Gives (Err error) defined = Fails error defined

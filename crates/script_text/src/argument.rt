@@ -1,0 +1,40 @@
+// The arguments of an operation, each with the cause that it fails by.
+ghost use Rattle.iso_model.specs.Script.{client_in_range, hex_argument, number_argument};
+ghost use Rattle.iso_model.specs.Text.{number_of};
+ghost use Rattle.script_text.specs.Parsing.{Gives};
+
+use crate::word::number_of;
+use hex::FromHexError;
+use iso_model::{Bytes, LineError};
+use std::alloc::Global;
+
+/// The client that the first word names, 1 to 64.
+pub(crate) fn client(word: &[u8]) -> Result<u8, LineError>
+    ensures { Gives result (client_in_range (number_of word.now)) }
+{
+    match number_of(word) {
+        Some(client @ 1..=64) => Ok(client as u8),
+        _ => Err(LineError::Cause(1)),
+    }
+}
+
+pub(crate) fn number(word: &[u8]) -> Result<u32, LineError>
+    ensures { Gives result (number_argument word.now) }
+{
+    number_of(word).ok_or(LineError::Cause(4))
+}
+
+pub(crate) fn hex(alloc: Global, word: &[u8]) -> Result<Bytes, LineError>
+    ensures { Gives result (hex_argument word.now) }
+{
+    if word.is_empty() {
+        return Err(LineError::Cause(5));
+    }
+    match hex::decode(alloc, word) {
+        Ok(bytes) => Ok(Bytes::of(bytes)),
+        Err(error) => match error {
+            FromHexError::OutOfMemory => Err(LineError::Memory),
+            _ => Err(LineError::Cause(5)),
+        },
+    }
+}

@@ -1,0 +1,192 @@
+use super::*;
+use iso_model::{Bytes, Clash};
+use std::alloc::Global;
+use std::test::*;
+
+fn cause(alloc: Global, line: &[u8]) -> Option<u8> {
+    match parse_line(alloc, line) {
+        Err(LineError::Cause(cause)) => Some(cause),
+        _ => None,
+    }
+}
+
+#[test]
+fn the_first_test_that_a_line_fails(rt: HostRuntime) {
+    let lines: [(&[u8], u8); 20] = [
+        (b"65 begin", 1),
+        (b"01 begin", 1),
+        (b"0 begin", 1),
+        (b"x jump y", 1),
+        (b"1", 2),
+        (b"1 jump", 2),
+        (b"1 Begin", 2),
+        (b"1 jump 00", 2),
+        (b"1 begin x", 3),
+        (b"1 put 00 0", 3),
+        (b"1 read", 3),
+        (b"1 put 00 0 aa", 4),
+        (b"1 put x 0 a", 4),
+        (b"1 put 0 4294967296 a", 4),
+        (b"1 read -1", 4),
+        (b"1 put 0 0 a", 5),
+        (b"1 put 0 0 ag", 5),
+        (b"1\tbegin", 8),
+        (b" # x", 1),
+        (b"1 begin\r", 8),
+    ];
+    for (line, wanted) in lines.iter() {
+        assert_eq!(rt; cause(rt.alloc(), line), Some(*wanted));
+    }
+}
+
+#[test]
+fn lines_that_say_nothing(rt: HostRuntime) -> Result<(), Fail> {
+    let lines: [&[u8]; 4] = [b"", b"   ", b"#", b"# 1 begin \x01"];
+    for line in lines.iter() {
+        assert!(rt; matches!(parse_line(rt.alloc(), line), Ok(Parsed::Skip)));
+    }
+    let mut spaces = vec![in rt.alloc(); b' '; 16384]?;
+    assert!(rt; matches!(parse_line(rt.alloc(), &spaces), Ok(Parsed::Skip)));
+    spaces.push(b' ')?;
+    assert_eq!(rt; cause(rt.alloc(), &spaces), Some(7));
+    Ok(())
+}
+
+#[test]
+fn operations(rt: HostRuntime) {
+    let alloc = rt.alloc();
+    assert!(rt;
+        matches!(
+            parse_line(alloc, b"1 begin"),
+            Ok(Parsed::Line(Line {
+                client: 1,
+                op: Op::Begin { mode: None }
+            }))
+        )
+    );
+    assert!(rt;
+        matches!(
+            parse_line(alloc, b"  64   end "),
+            Ok(Parsed::Line(Line {
+                client: 64,
+                op: Op::End
+            }))
+        )
+    );
+    assert!(rt;
+        matches!(
+            parse_line(alloc, b"2 abort"),
+            Ok(Parsed::Line(Line {
+                client: 2,
+                op: Op::Abort
+            }))
+        )
+    );
+    assert!(rt;
+        matches!(
+            parse_line(alloc, b"10 read 4294967295"),
+            Ok(Parsed::Line(Line {
+                client: 10,
+                op: Op::Read {
+                    block: 4_294_967_295
+                }
+            }))
+        )
+    );
+    match parse_line(alloc, b"1 put 2 5 abCD") {
+        Ok(
+            Parsed::Line(
+                Line {
+                    client: 1,
+                    op: Op::Put {
+                        block: 2,
+                        off: 5,
+                        bytes,
+                    },
+                },
+            ),
+        ) => {
+            assert_eq!(rt; bytes.as_slice(), [0xab, 0xcd].as_slice());
+        }
+        _ => assert!(rt; false, "the line is a put"),
+    }
+}
+
+#[test]
+fn a_carriage_return_before_the_line_feed(rt: HostRuntime) -> Result<(), Fail> {
+    let alloc = rt.alloc();
+    assert!(rt;
+        matches!(
+            parse_whole_line(alloc, b"1 end\r"),
+            Ok(Parsed::Line(Line {
+                client: 1,
+                op: Op::End
+            }))
+        )
+    );
+    assert!(rt;
+        matches!(
+            parse_whole_line(alloc, b"1 end\r\r"),
+            Err(LineError::Cause(8))
+        )
+    );
+    let mut piece = vec![in alloc; b' '; 16384]?;
+    piece.push(b'\r')?;
+    assert!(rt; matches!(parse_whole_line(alloc, &piece), Err(LineError::Cause(7))));
+    Ok(())
+}
+
+#[test]
+fn the_line_of_each_reply(rt: HostRuntime) -> Result<(), Fail> {
+    let alloc = rt.alloc();
+    let shown = Bytes::of(vec![in alloc; 0, 0xab, 0xff]?);
+    let clash = Clash {
+        commit: 7,
+        block: 16383,
+        at: 4095,
+    };
+    let replies: [(Reply, &[u8]); 15] = [
+        (Reply::Done, b"1 ok\n"),
+        (Reply::Began(0), b"1 ok begin 0\n"),
+        (Reply::Shown(shown), b"1 ok 00abff\n"),
+        (
+            Reply::Committed(9_223_372_036_854_775_807),
+            b"1 ok commit 9223372036854775807\n",
+        ),
+        (Reply::ReadOnly, b"1 ok read-only\n"),
+        (
+            Reply::Conflict(clash),
+            b"1 conflict with 7 block 16383 at 4095\n",
+        ),
+        (Reply::InTx, b"1 in-tx\n"),
+        (Reply::NotInTx, b"1 not-in-tx\n"),
+        (Reply::ModeFixed, b"1 mode-fixed\n"),
+        (Reply::BadBlock, b"1 bad-block\n"),
+        (Reply::BadRange, b"1 bad-range\n"),
+        (Reply::TooManyAccesses, b"1 too-many-accesses\n"),
+        (Reply::TooManyTx, b"1 too-many-tx\n"),
+        (Reply::Worn, b"1 worn\n"),
+        (
+            Reply::LogFull { need: 30, free: 1 },
+            b"1 log full need 30 free 1\n",
+        ),
+    ];
+    for (reply, wanted) in replies.iter() {
+        let line = print_reply(alloc, 1, reply).ok().ok_or("there is memory")?;
+        assert_eq!(rt; line.as_slice(), *wanted);
+    }
+    Ok(())
+}
+
+#[test]
+fn lines_one_after_another(rt: HostRuntime) -> Result<(), Fail> {
+    let mut out = Vec::new(rt.alloc());
+    push_reply(&mut out, 64, &Reply::Done)
+        .ok()
+        .ok_or("there is memory")?;
+    push_reply(&mut out, 2, &Reply::Worn)
+        .ok()
+        .ok_or("there is memory")?;
+    assert_eq!(rt; out.as_slice(), b"64 ok\n2 worn\n".as_slice());
+    Ok(())
+}
