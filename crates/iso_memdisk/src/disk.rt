@@ -1,0 +1,5 @@
+// a
+use crate::draws::Draws;
+use crate::record::{lay, scribble};
+
+pub struct MemDisk {}
