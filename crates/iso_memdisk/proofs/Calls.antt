@@ -1,5 +1,5 @@
 -- What one more call comes to.
-use Rattle.std.proofs.Common.{◌≡◌, ◌≤◌, ◌+◌, ℕ, zero, suc, List, [], ◌∷◌, ◌++◌, length, refl, sym, ◌∙◌, ap, subst}
+use Rattle.std.proofs.Common.{◌≡◌, ◌≤◌, ◌+◌, ℕ, zero, suc, List, [], ◌∷◌, ◌++◌, length, take, refl, sym, ◌∙◌, ap, subst}
 use Rattle.std.proofs.lemmas.Option.{same_Some}
 use Rattle.std.specs.declared.alloc.Global.{Global}
 use Rattle.std.specs.Prelude.{Vec}
@@ -76,3 +76,10 @@ AllFit-sync n [] fit zero a v is = absurd (cc is)
 AllFit-sync n [] fit (suc k) a v is = absurd (cc is)
 AllFit-sync n (call ∷ calls) fit zero a v is = fit zero a v is
 AllFit-sync n (call ∷ calls) fit (suc k) a v is = AllFit-sync n calls (λ j b w got. fit (suc j) b w got) k a v is
+
+-- the first of them
+pub AllFit-take : (n m : ℕ) (calls : List Call) → AllFit n calls → AllFit n (take m calls)
+AllFit-take n zero calls fit k a v is = absurd (cc is)
+AllFit-take n (suc m) [] fit k a v is = absurd (cc is)
+AllFit-take n (suc m) (call ∷ calls) fit zero a v is = fit zero a v is
+AllFit-take n (suc m) (call ∷ calls) fit (suc k) a v is = AllFit-take n m calls (λ j b w got. fit (suc j) b w got) k a v is

@@ -39,9 +39,9 @@ module _ (calls : List Call) (i : ℕ) (call : Call) (within : i < length calls)
       record {
         within = omega arith;
         synced = λ bytes.
-          so_far.synced bytes
-          ∙ ap (λ (l : List Call). synced l (written (take i calls) bytes) (written (take stable calls) bytes)) (here ∙ ap (λ (c : Call). c ∷ drop (i + 1) calls) sync)
-          ∙ (λ j. synced (drop (i + 1) calls) (sym (now bytes) j) (sym (now bytes) j));
+            so_far.synced bytes
+            ∙ ap (λ (l : List Call). synced l (written (take i calls) bytes) (written (take stable calls) bytes)) (here ∙ ap (λ (c : Call). c ∷ drop (i + 1) calls) sync)
+            ∙ (λ j. synced (drop (i + 1) calls) (sym (now bytes) j) (sym (now bytes) j));
         pending = λ k from to is_sync. absurd (omega arith);
       }
 
@@ -51,9 +51,9 @@ module _ (calls : List Call) (i : ℕ) (call : Call) (within : i < length calls)
       record {
         within = omega (arith, so_far.within);
         synced = λ bytes.
-          so_far.synced bytes
-          ∙ ap (λ (l : List Call). synced l (written (take i calls) bytes) (written (take stable calls) bytes)) (here ∙ ap (λ (c : Call). c ∷ drop (i + 1) calls) write)
-          ∙ (λ j. synced (drop (i + 1) calls) (sym (now bytes) j) (written (take stable calls) bytes));
+            so_far.synced bytes
+            ∙ ap (λ (l : List Call). synced l (written (take i calls) bytes) (written (take stable calls) bytes)) (here ∙ ap (λ (c : Call). c ∷ drop (i + 1) calls) write)
+            ∙ (λ j. synced (drop (i + 1) calls) (sym (now bytes) j) (written (take stable calls) bytes));
         pending = λ k from to is_sync. ⊎_elim (λ (below : k < i). so_far.pending k from below is_sync) (λ (same : k ≡ i). let clash : Write at new ≡ Sync = sym write ∙ same_Some call Sync (sym got ∙ ap (slice_get calls) (sym same) ∙ is_sync) in absurd (cc clash)) (let cases : (k < i) ⊎ (k ≡ i) = grind arith in cases);
       }
 

@@ -1,7 +1,7 @@
 // What was called since a disk was made or bound, and what it comes to.
 ghost use Rattle.std.specs.Prelude.{◌≡◌, ◌+◌, ◌≤◌, ℕ, List, length, take, drop};
 ghost use Rattle.iso_disk.specs.Disk.{spliced, Torn};
-ghost use Rattle.iso_memdisk.specs.Record.{written, synced, AllFit, NoSync, TornBy};
+ghost use Rattle.iso_memdisk.specs.Record.{written, synced, images_after, AllFit, NoSync, TornBy};
 
 use crate::draws::Draws;
 
@@ -21,7 +21,7 @@ pub fn lay(image: &mut [u8], at: usize, bytes: &[u8])
 }
 
 /// Puts drawn bytes in the place of `len` bytes from `at` on.
-pub fn scribble(image: &mut [u8], at: usize, len: usize, draws: &mut Draws)
+fn scribble(image: &mut [u8], at: usize, len: usize, draws: &mut Draws)
     requires { at + len ≤ length image.old }
     ensures { Torn at len image.old image.new }
 {
@@ -31,7 +31,7 @@ pub fn scribble(image: &mut [u8], at: usize, len: usize, draws: &mut Draws)
 }
 
 /// How many calls there are up to the last sync.
-pub fn stable_calls(calls: &[Call]) -> usize
+fn stable_calls(calls: &[Call]) -> usize
     ensures within { result ≤ length calls.now }
     ensures synced { (bytes : List ℕ) → synced calls.now bytes bytes ≡ written (take result calls.now) bytes }
     ensures pending { NoSync (drop result calls.now) }
@@ -46,7 +46,7 @@ pub fn stable_calls(calls: &[Call]) -> usize
 }
 
 /// Makes of an image what a read gives after these calls.
-pub fn replay(image: &mut [u8], calls: &[Call])
+fn replay(image: &mut [u8], calls: &[Call])
     requires { AllFit (length image.old) calls.now }
     ensures { image.new ≡ written calls.now image.old }
 {
@@ -58,7 +58,7 @@ pub fn replay(image: &mut [u8], calls: &[Call])
 }
 
 /// Makes of an image what a crash may leave after these writes: the old bytes for 0, the new ones for 1, else drawn ones.
-pub fn tear(image: &mut [u8], calls: &[Call], pick: u64)
+fn tear(image: &mut [u8], calls: &[Call], pick: u64)
     requires fits { AllFit (length image.old) calls.now }
     requires pending { NoSync calls.now }
     ensures torn { TornBy calls.now image.old image.new }
@@ -75,4 +75,17 @@ pub fn tear(image: &mut [u8], calls: &[Call], pick: u64)
             }
         }
     }
+}
+
+/// Makes of the first bytes what a crash may leave after all these calls. What was written since the last sync has its
+/// value from before for pick 0, the written one for 1, and a drawn one else.
+pub fn crash(image: &mut [u8], calls: &[Call], pick: u64)
+    requires { AllFit (length image.old) calls.now }
+    ensures image { images_after calls.now image.old (λ c. c ≡ image.old) image.new }
+    ensures synced { pick ≡ 0 → image.new ≡ synced calls.now image.old image.old }
+    ensures written { pick ≡ 1 → image.new ≡ written calls.now image.old }
+{
+    let stable = stable_calls(calls);
+    replay(image, &calls[..stable]);
+    tear(image, &calls[stable..], pick);
 }

@@ -28,4 +28,4 @@ loop-call-preserved c =
           let torn = subst (λ (n : ℕ). Torn w.in-Write.at n c.loop-call.image w.scribble.new.image) len w.scribble.ensures in
           subst step (sym w.image-is) (torn_write calls i c.call-item.result (omega arith) c.call-item.is first c.loop-call.image w.scribble.new.image c.args.pick w.in-Write.at w.in-Write.bytes w.in-Write.is torn (λ none. absurd (omega arith)) (λ all. absurd (omega arith)) so_far)
       | in_default w ↦ absurd (no_sync_at calls i c.call-item.result (omega arith) c.call-item.is w.in_default.is c.requires.pending)
-]
+    ]
