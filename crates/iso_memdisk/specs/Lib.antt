@@ -1,0 +1,4 @@
+pub mod Failures
+pub mod Held
+pub mod MemDisk
+pub mod Record

@@ -1,0 +1,40 @@
+-- A memory disk as the trait sees it: its first bytes and the record of its calls are replayed for every question.
+use Rattle.std.specs.Prelude.{◌≡◌, ◌≤◌, ℕ, List, length, take, Option, Some}
+use Rattle.iso_memdisk.specs.declared.disk.MemDisk.{MemDisk}
+use Rattle.iso_memdisk.specs.declared.failures.Failures.{Failures}
+use Rattle.iso_memdisk.specs.Record.{written, synced, images_after}
+
+-- what a read gives
+abbrev pub bytes_of : MemDisk → List ℕ
+bytes_of d = written d.history.items d.first.items
+
+-- what the last sync made stable
+abbrev pub synced_of : MemDisk → List ℕ
+synced_of d = synced d.history.items d.first.items d.first.items
+
+abbrev pub size_of : MemDisk → ℕ
+size_of d = length d.first.items
+
+abbrev pub contents_of : MemDisk → Option (List ℕ)
+contents_of d = Some (bytes_of d)
+
+-- the images that a crash now may leave
+abbrev pub now_of : MemDisk → List ℕ → Type 0
+now_of d = images_after d.history.items d.first.items (λ c. c ≡ d.first.items)
+
+-- a moment is a number of calls in the record
+abbrev pub clock_of : MemDisk → ℕ
+clock_of d = length d.history.items
+
+-- the images of each moment since t
+abbrev pub left_of : MemDisk → ℕ → List ℕ → Type 0
+left_of d t c = (k : ℕ) × (t ≤ k) × (k ≤ length d.history.items) × images_after (take k d.history.items) d.first.items (λ c. c ≡ d.first.items) c
+
+-- which calls are to fail, and the counts
+abbrev pub failures_of : MemDisk → Failures
+failures_of d = d.failures
+
+-- nothing was done to the bytes, and no image came or went
+pub record IsUntouched (old new : MemDisk) : Type 0 where
+  pub first : new.first.items ≡ old.first.items
+  pub history : new.history.items ≡ old.history.items
