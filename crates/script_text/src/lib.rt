@@ -10,6 +10,7 @@ mod word;
 pub use iso_model::{BadLine, Line, LineError, Op, Parsed, Reply};
 pub use line::{parse_line, parse_whole_line};
 pub use reply::{print_reply, push_reply};
+pub use word::number_of;
 
 #[cfg(test)]
 mod tests;

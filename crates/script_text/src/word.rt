@@ -26,7 +26,7 @@ fn is_decimal(word: &[u8]) -> bool
 }
 
 /// The number that a word spells, if it is below 2^32.
-pub(crate) fn number_of(word: &[u8]) -> Option<u32>
+pub fn number_of(word: &[u8]) -> Option<u32>
     ensures { result ≡ number_of word.now }
 {
     if !is_decimal(word) {
