@@ -8,3 +8,4 @@ pub mod Step
 pub mod Script
 pub mod Image
 pub mod Text
+pub mod Premises
