@@ -1,7 +1,7 @@
 -- Which value runs have at a byte.
-use Rattle.std.proofs.Common.{◌≡◌, ◌≢◌, ◌∙◌, sym, refl, ap, ℕ, zero, suc, ◌+◌, ◌-◌, ◌<◌, ◌≤◌, Bool, true, false, ◌&&◌, ◌||◌, ◌==◌, nat_le, nat_lt, cond, IsTrue, List, [], ◌∷◌, ◌++◌, length, get_or, Option, Some, None, is_some, unwrap_or, arith, zero-add, inl, inr, eqb, eq-eqb, ne_eqb, subst}
+use Rattle.std.proofs.Common.{◌≡◌, ◌≢◌, ◌⊎◌, ◌∙◌, sym, refl, ap, ℕ, zero, suc, ◌+◌, ◌-◌, ◌<◌, ◌≤◌, Bool, true, false, ◌&&◌, ◌||◌, ◌==◌, nat_le, nat_lt, cond, IsTrue, List, [], ◌∷◌, ◌++◌, length, get_or, Option, Some, None, is_some, unwrap_or, arith, zero-add, inl, inr, eqb, eq-eqb, ne_eqb, subst}
 use Rattle.std.specs.List.{AllByRecursion, flat_map, range_with_len}
-use Rattle.std.proofs.lemmas.Bool.{cases_eq, cases_lt, and_left, and_right, cases_Bool, eqb-true, eqb-false}
+use Rattle.std.proofs.lemmas.Bool.{cases_eq, cases_order, cases_lt, and_left, and_right, cases_Bool, eqb-true, eqb-false}
 use Rattle.std.proofs.lemmas.Bool.Decides.{nat_tests}
 use Rattle.std.proofs.lemmas.Grind.{common_steps}
 use Rattle.iso_model.specs.declared.access.Access.{Access}
@@ -59,14 +59,67 @@ value_elsewhere b p c q [] all other = refl
 value_elsewhere b p c q (run ∷ runs) all other =
     rw (value_elsewhere b p c q runs all.1 other) (value_of_other run c q (λ e. other (sym all.0.0 ∙ e)))
 
+value_of_within : (run : Run) (b q x : ℕ) → in_run b q run ≡ true → get_or run.bytes (q - run.off) 0 ≡ x → value_of run b q ≡ Some x
+value_of_within run b q x within value = rw (within, value) refl
+
+value_of_outside : (run : Run) (b q : ℕ) → in_run b q run ≡ false → value_of run b q ≡ None
+value_of_outside run b q outside = rw outside refl
+
+-- the tests of a run in its own block
+in_run_of : (b p q : ℕ) (bytes : List ℕ) → in_run b q (record { block = b; off = p; bytes = bytes }) ≡ (nat_le p q && nat_lt q (p + length bytes))
+in_run_of b p q bytes = let same : (b == b) ≡ true = eq-eqb b b refl in rw same refl
+
+within_span : (p q n : ℕ) → p ≤ q → q < p + n → (nat_le p q && nat_lt q (p + n)) ≡ true
+within_span p q n from below = grind (arith, nat_tests)
+
+outside_span : (p q n : ℕ) → (q < p) ⊎ (p + n ≤ q) → (nat_le p q && nat_lt q (p + n)) ≡ false
+outside_span p q n outside = grind (arith, nat_tests)
+
+same_tests : (p q n : ℕ) → p < q → (nat_le p q && nat_lt q (p + suc n)) ≡ (nat_le (p + 1) q && nat_lt q (p + 1 + n))
+same_tests p q n behind = grind (arith, nat_tests)
+
+value_of_same : (x y : Run) (b q : ℕ) → in_run b q x ≡ in_run b q y → get_or x.bytes (q - x.off) 0 ≡ get_or y.bytes (q - y.off) 0 → value_of x b q ≡ value_of y b q
+value_of_same x y b q tests values = rw (tests, values) refl
+
 -- a run of one byte
 value_of_one : (b p value q : ℕ) → value_of (record { block = b; off = p; bytes = value ∷ [] }) b q ≡ cond (q == p) (Some value) None
-value_of_one b p value q = ?
+value_of_one b p value q = elim (cases_order q p) [
+    inl e ↦
+      (let here : (q == p) ≡ true = eq-eqb q p e in
+      let at : q - p ≡ 0 = omega arith in
+      value_of_within (record { block = b; off = p; bytes = value ∷ [] }) b q value
+        (in_run_of b p q (value ∷ []) ∙ within_span p q 1 (omega arith) (omega arith)) (rw at refl)
+      ∙ rw here refl) |
+    inr other ↦
+      (let not : (q == p) ≡ false = ne_eqb q p (λ e. elim other [ inl l ↦ omega arith | inr l ↦ omega arith ]) in
+      value_of_outside (record { block = b; off = p; bytes = value ∷ [] }) b q
+        (in_run_of b p q (value ∷ []) ∙ outside_span p q 1 (elim other [ inl l ↦ inl l | inr l ↦ inr (omega arith) ]))
+      ∙ rw not refl) ]
 
 -- a run with one more byte before it
 value_of_longer : (b p value : ℕ) (bytes : List ℕ) (q : ℕ)
     → value_of (record { block = b; off = p; bytes = value ∷ bytes }) b q ≡ cond (q == p) (Some value) (value_of (record { block = b; off = p + 1; bytes = bytes }) b q)
-value_of_longer b p value bytes q = ?
+value_of_longer b p value bytes q = elim (cases_order q p) [
+    inl e ↦
+      (let here : (q == p) ≡ true = eq-eqb q p e in
+      let at : q - p ≡ 0 = omega arith in
+      value_of_within (record { block = b; off = p; bytes = value ∷ bytes }) b q value
+        (in_run_of b p q (value ∷ bytes) ∙ within_span p q (length (value ∷ bytes)) (omega arith) (omega arith)) (rw at refl)
+      ∙ rw here refl) |
+    inr (inl before) ↦
+      (let not : (q == p) ≡ false = ne_eqb q p (λ e. omega arith) in
+      value_of_outside (record { block = b; off = p; bytes = value ∷ bytes }) b q
+        (in_run_of b p q (value ∷ bytes) ∙ outside_span p q (length (value ∷ bytes)) (inl before))
+      ∙ sym (value_of_outside (record { block = b; off = p + 1; bytes = bytes }) b q
+        (in_run_of b (p + 1) q bytes ∙ outside_span (p + 1) q (length bytes) (inl (omega arith))))
+      ∙ rw not refl) |
+    inr (inr behind) ↦
+      (let not : (q == p) ≡ false = ne_eqb q p (λ e. omega arith) in
+      let at : q - p ≡ suc (q - (p + 1)) = omega arith in
+      let tests : in_run b q (record { block = b; off = p; bytes = value ∷ bytes }) ≡ in_run b q (record { block = b; off = p + 1; bytes = bytes }) =
+        (in_run_of b p q (value ∷ bytes) ∙ same_tests p q (length bytes) behind ∙ sym (in_run_of b (p + 1) q bytes)) in
+      value_of_same (record { block = b; off = p; bytes = value ∷ bytes }) (record { block = b; off = p + 1; bytes = bytes }) b q tests (rw at refl)
+      ∙ rw not refl) ]
 
 or_else_cond : (o : Option ℕ) (test : Bool) (x : ℕ) (y : Option ℕ) → (IsTrue test → o ≡ None) → or_else o (cond test (Some x) y) ≡ cond test (Some x) (or_else o y)
 or_else_cond o true x y none = rw (none refl) refl
