@@ -1,5 +1,5 @@
 -- The least clash, and what there is where there is none.
-use Rattle.std.proofs.Common.{◌≡◌, ◌≢◌, ◌⊎◌, ◌∙◌, sym, refl, ap, ℕ, zero, suc, ◌+◌, ◌-◌, ◌<◌, ◌≤◌, Bool, true, false, ◌&&◌, cond, IsTrue, List, [], ◌∷◌, drop, length, Option, Some, None, option_map, slice_get, arith, inl, inr}
+use Rattle.std.proofs.Common.{◌≡◌, ◌≢◌, ◌⊎◌, ◌∙◌, sym, refl, ap, ℕ, zero, suc, ◌+◌, ◌-◌, ◌<◌, ◌≤◌, Bool, true, false, ◌&&◌, cond, IsTrue, List, [], ◌∷◌, drop, length, Option, Some, None, option_map, slice_get, arith, inl, inr, zero-add}
 use Rattle.std.specs.List.{AllByRecursion}
 use Rattle.std.proofs.lemmas.Bool.{cases_eq, both_ways, and_parts, and_from}
 use Rattle.std.proofs.lemmas.Option.{same_Some}
@@ -120,3 +120,77 @@ least_is g mode accesses k [] = λ d is. cc (is.is)
 least_is g mode accesses k (c ∷ commits) =
     least_step g mode accesses k c commits (first_byte (clashes mode c accesses) g.block 0 g.blocks) (clash_from g mode accesses (k + 1) commits)
     (first_byte_is (clashes mode c accesses) g.block 0 g.blocks) (least_is g mode accesses (k + 1) commits)
+
+pub slice_get-drop : {A : Type 0} → (n i : ℕ) (xs : List A) → slice_get (drop n xs) i ≡ slice_get xs (n + i)
+slice_get-drop zero i xs = rw (zero-add i) refl
+slice_get-drop (suc n) i [] = refl
+slice_get-drop (suc n) i (x ∷ xs) = let e : suc n + i ≡ suc (n + i) = omega arith in rw e (slice_get-drop n i xs)
+
+-- a clash of a transaction, among the commits after its begin
+clash_at : (g : Geometry) (H : History) (mode : Mode) (begin : ℕ) (accesses : List Access) (d : Clash) → H.first ≤ begin + 1
+    → IsClash g H mode begin accesses d → IsAt g mode accesses (begin + 1) (drop (begin + 1 - H.first) H.commits) d
+clash_at g H mode begin accesses d known is =
+    let after : begin < d.commit = is.after in
+    let e : begin + 1 - H.first + (d.commit - (begin + 1)) ≡ d.commit - H.first = omega arith in
+    record {
+      from = omega arith;
+      block = is.block;
+      byte = is.byte;
+      commit = is.commit;
+      is = slice_get-drop (begin + 1 - H.first) (d.commit - (begin + 1)) H.commits ∙ rw e is.is;
+      meets = and_from _ _ is.written is.guarded;
+    }
+
+clash_from_at : (g : Geometry) (H : History) (mode : Mode) (begin : ℕ) (accesses : List Access) (d : Clash) → H.first ≤ begin + 1
+    → IsAt g mode accesses (begin + 1) (drop (begin + 1 - H.first) H.commits) d → IsClash g H mode begin accesses d
+clash_from_at g H mode begin accesses d known at =
+    let from : begin + 1 ≤ d.commit = at.from in
+    let e : begin + 1 - H.first + (d.commit - (begin + 1)) ≡ d.commit - H.first = omega arith in
+    let both = and_parts (touches Write at.commit.accesses d.block d.at) (touches (guarded mode) accesses d.block d.at) at.meets in
+    record {
+      after = omega arith;
+      block = at.block;
+      byte = at.byte;
+      commit = at.commit;
+      is = rw e at (sym (slice_get-drop (begin + 1 - H.first) (d.commit - (begin + 1)) H.commits) ∙ at.is);
+      written = both.0;
+      guarded = both.1;
+    }
+
+-- what the answer is
+abbrev pub IsAnswer : (g : Geometry) → (H : History) → Mode → (begin : ℕ) → List Access → Option Clash → Type 0
+IsAnswer g H mode begin accesses None = (d : Clash) → IsClash g H mode begin accesses d → ⊥
+IsAnswer g H mode begin accesses (Some c) = IsClash g H mode begin accesses c × ((d : Clash) → IsClash g H mode begin accesses d → NotAfter c d)
+
+answer_from_least : (g : Geometry) (H : History) (mode : Mode) (begin : ℕ) (accesses : List Access) (o : Option Clash) → H.first ≤ begin + 1
+    → IsLeast g mode accesses (begin + 1) (drop (begin + 1 - H.first) H.commits) o → IsAnswer g H mode begin accesses o
+answer_from_least g H mode begin accesses None known least = λ d is. least d (clash_at g H mode begin accesses d known is)
+answer_from_least g H mode begin accesses (Some c) known least =
+    (clash_from_at g H mode begin accesses c known least.0, λ d is. least.1 d (clash_at g H mode begin accesses d known is))
+
+-- the clash of a transaction with a write
+pub clash_answers : (g : Geometry) (H : History) (mode : Mode) (begin : ℕ) (accesses : List Access) → H.first ≤ begin + 1
+    → has_write accesses ≡ true → IsAnswer g H mode begin accesses (clash g H mode begin accesses)
+unfolding clash
+clash_answers g H mode begin accesses known some =
+    rw some (answer_from_least g H mode begin accesses (clash_from g mode accesses (begin + 1) (drop (begin + 1 - H.first) H.commits)) known
+      (least_is g mode accesses (begin + 1) (drop (begin + 1 - H.first) H.commits)))
+
+-- one without a write has none
+pub no_clash : (g : Geometry) (H : History) (mode : Mode) (begin : ℕ) (accesses : List Access) → has_write accesses ≡ false → clash g H mode begin accesses ≡ None
+unfolding clash
+no_clash g H mode begin accesses none = rw none refl
+
+some_clash_writes : (g : Geometry) (H : History) (mode : Mode) (begin : ℕ) (accesses : List Access) (c : Clash) (t : Bool) → has_write accesses ≡ t
+    → clash g H mode begin accesses ≡ Some c → t ≡ true
+some_clash_writes g H mode begin accesses c true e some = refl
+some_clash_writes g H mode begin accesses c false e some = cc (no_clash g H mode begin accesses e)
+
+pub some_clash : (g : Geometry) (H : History) (mode : Mode) (begin : ℕ) (accesses : List Access) (c : Clash) → H.first ≤ begin + 1
+    → clash g H mode begin accesses ≡ Some c → IsAnswer g H mode begin accesses (Some c)
+some_clash g H mode begin accesses c known some =
+    rw some at (clash_answers g H mode begin accesses known (some_clash_writes g H mode begin accesses c (has_write accesses) refl some))
+
+pub none_from_clash : (g : Geometry) (H : History) (mode : Mode) (begin : ℕ) (accesses : List Access) → H.first ≤ begin + 1
+    → has_write accesses ≡ true → clash g H mode begin accesses ≡ None → IsAnswer g H mode begin accesses None
+none_from_clash g H mode begin accesses known some none = rw none at (clash_answers g H mode begin accesses known some)

@@ -9,3 +9,4 @@ pub mod Script
 pub mod Image
 pub mod Text
 pub mod Premises
+pub mod Isolation
