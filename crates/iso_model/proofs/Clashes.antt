@@ -194,3 +194,29 @@ some_clash g H mode begin accesses c known some =
 pub none_from_clash : (g : Geometry) (H : History) (mode : Mode) (begin : ℕ) (accesses : List Access) → H.first ≤ begin + 1
     → has_write accesses ≡ true → clash g H mode begin accesses ≡ None → IsAnswer g H mode begin accesses None
 none_from_clash g H mode begin accesses known some none = rw none at (clash_answers g H mode begin accesses known some)
+
+-- two clashes that are each not after the other are one
+same_clash : (c d : Clash) → NotAfter c d → NotAfter d c → c ≡ d
+same_clash c d first second =
+    let commit : c.commit ≡ d.commit = elim first [ inl l ↦ elim second [ inl m ↦ omega arith | inr m ↦ omega arith ] | inr l ↦ l.0 ] in
+    let block : c.block ≡ d.block = elim first [
+        inl l ↦ absurd (omega arith) |
+        inr l ↦ elim l.1 [ inl m ↦ elim second [ inl n ↦ absurd (omega arith) | inr n ↦ elim n.1 [ inl o ↦ omega arith | inr o ↦ omega arith ] ] | inr m ↦ m.0 ] ] in
+    let at : c.at ≡ d.at = elim first [
+        inl l ↦ absurd (omega arith) |
+        inr l ↦ elim l.1 [
+          inl m ↦ absurd (omega arith) |
+          inr m ↦ elim second [ inl n ↦ absurd (omega arith) | inr n ↦ elim n.1 [ inl o ↦ absurd (omega arith) | inr o ↦ omega arith ] ] ] ] in
+    λ i. record { commit = commit i; block = block i; at = at i }
+
+only_answer : (g : Geometry) (H : History) (mode : Mode) (begin : ℕ) (accesses : List Access) (c : Clash) (o : Option Clash)
+    → IsAnswer g H mode begin accesses o → IsClash g H mode begin accesses c → ((d : Clash) → IsClash g H mode begin accesses d → NotAfter c d) → o ≡ Some c
+only_answer g H mode begin accesses c None answer is least = absurd (answer c is)
+only_answer g H mode begin accesses c (Some e) answer is least = ap Some (same_clash e c (answer.1 c is) (least e answer.0))
+
+-- the least clash is the answer
+pub least_is_clash : (g : Geometry) (H : History) (mode : Mode) (begin : ℕ) (accesses : List Access) (c : Clash) → H.first ≤ begin + 1
+    → has_write accesses ≡ true → IsClash g H mode begin accesses c → ((d : Clash) → IsClash g H mode begin accesses d → NotAfter c d)
+    → clash g H mode begin accesses ≡ Some c
+least_is_clash g H mode begin accesses c known some is least =
+    only_answer g H mode begin accesses c (clash g H mode begin accesses) (clash_answers g H mode begin accesses known some) is least

@@ -3,7 +3,7 @@ use Rattle.std.proofs.Common.{◌≡◌, ◌≢◌, ◌∙◌, sym, refl, ap, �
 use Rattle.std.specs.List.{AllByRecursion, list_any}
 use Rattle.std.proofs.lemmas.Bool.{cases_lt, and_from, or_left, or_right, false_from_ne_true, eqb-true, and_parts}
 use Rattle.std.proofs.lemmas.Option.{none-some, same_Some, IfSome_then}
-use Rattle.std.proofs.lemmas.List.{take_all, take-append-le, take-append-drop, get_or_past, length-append, drop_all}
+use Rattle.std.proofs.lemmas.List.{take_all, take-append-le, take-append-drop, get_or_past, length-append, length_push}
 use Rattle.iso_model.specs.declared.access.Access.{Access}
 use Rattle.iso_model.specs.declared.access.Clash.{Clash}
 use Rattle.iso_model.specs.declared.access.Commit.{Commit}
@@ -16,7 +16,8 @@ use Rattle.iso_model.specs.Array.{Array, covered, byte_at}
 use Rattle.iso_model.specs.Effect.{is_write, has_write, covers, touches, effect_at, own}
 use Rattle.iso_model.specs.History.{History, last, array_at, all_own, shown, shown_block}
 use Rattle.iso_model.specs.Conflict.{clash, guarded, IsClash, IsSerialAt, IsSnapshotAt, Meets}
-use Rattle.iso_model.specs.Premises.{block_at, HasShape, HasBytes, IsAccess, AreAccesses, IsHistory, appended}
+use Rattle.iso_model.specs.Isolation.{IsIsolatedAt, IsIsolated}
+use Rattle.iso_model.specs.Premises.{block_at, HasShape, HasBytes, IsAccess, AreAccesses, IsHistory, HaveBegun, appended}
 use Rattle.iso_model.proofs.Bytes.{own_at, length-own, length-block_own, length-all_own, length-block_all_own, touches_where_effect}
 use Rattle.iso_model.proofs.Recorded.{bytes_of_accesses}
 use Rattle.iso_model.proofs.Written.{covers_where}
@@ -238,3 +239,32 @@ stays_snapshot g H c k first from to snapshot =
       subst (λ (o : Option Commit). IfSome o (λ d. (x y : ℕ) → IfSome (slice_get u.accesses x) (λ a. IfSome (slice_get d.accesses y) (λ b.
           IsTrue (is_write a) → IsTrue (is_write b) → ¬ Meets g.block a b))))
         (sym (slice_get_append_left H.commits (c ∷ []) (j - H.first) (omega arith))) (meets j after below)))
+
+-- every commit of the history with one more
+pub stays_isolated : (g : Geometry) (H : History) (c : Commit) → IsHistory g H → HaveBegun H → IsIsolated g H
+    → AreAccesses g c.accesses → H.first ≤ c.begin + 1 → c.begin ≤ last H → has_write c.accesses ≡ true → clash g H c.mode c.begin c.accesses ≡ None
+    → IsIsolated g (appended H c)
+stays_isolated g H c is begun isolated all known before write none k from to = elim (cases_lt (last H) k) [
+    inl behind ↦
+      (let count : length (H.commits ++ c ∷ []) ≡ length H.commits + 1 = length_push H.commits c in
+      let first : 0 < H.first = is.first in
+      let e : last H + 1 ≡ k = omega arith in
+      subst (λ (n : ℕ). IfSome (slice_get (H.commits ++ c ∷ []) (n - H.first)) (λ d. IsIsolatedAt g (appended H c) d.mode n)) e
+      (subst (λ (o : Option Commit). IfSome o (λ d. IsIsolatedAt g (appended H c) d.mode (last H + 1)))
+        (sym (slice_get_push H.commits c (last H + 1 - H.first) (omega arith)))
+        (next_is_isolated c.mode none))) |
+    inr within ↦
+      (let first : 0 < H.first = is.first in
+      subst (λ (o : Option Commit). IfSome o (λ d. IsIsolatedAt g (appended H c) d.mode k))
+        (sym (slice_get_append_left H.commits (c ∷ []) (k - H.first) (omega arith)))
+        (if_some_from _ (slice_get H.commits (k - H.first)) (λ d at.
+          stay d.mode (subst (λ (o : Option Commit). IfSome o (λ d. d.begin ≤ last H)) (sym at) (all_at (λ d. d.begin ≤ last H) H.commits (k - H.first) d begun at))
+            within (subst (λ (o : Option Commit). IfSome o (λ d. IsIsolatedAt g H d.mode k)) at (isolated k from within))))) ]
+  where
+    next_is_isolated : (mode : Mode) → clash g H mode c.begin c.accesses ≡ None → IsIsolatedAt g (appended H c) mode (last H + 1)
+    next_is_isolated Serial none = next_is_serial g H c is all known before write none
+    next_is_isolated Snapshot none = next_is_snapshot g H c is all known before write none
+    stay : (mode : Mode) → IfSome (slice_get H.commits (k - H.first)) (λ d. d.begin ≤ last H) → k ≤ last H → IsIsolatedAt g H mode k
+        → IsIsolatedAt g (appended H c) mode k
+    stay Serial begun within serial = stays_serial H c k is.first from within begun serial
+    stay Snapshot begun within snapshot = stays_snapshot g H c k is.first from within snapshot

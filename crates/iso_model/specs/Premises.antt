@@ -9,7 +9,7 @@ use Rattle.iso_model.specs.declared.access.Span.{Span}
 use Rattle.iso_model.specs.Array.{Array, in_span}
 use Rattle.iso_model.specs.Effect.{is_write, or_else}
 use Rattle.iso_model.specs.Geometry.{image_size, half_size}
-use Rattle.iso_model.specs.History.{History}
+use Rattle.iso_model.specs.History.{History, last}
 use Rattle.iso_model.specs.Step.{put_access}
 
 -- the limits that a valid geometry keeps
@@ -59,6 +59,10 @@ pub record IsHistory (g : Geometry) (H : History) : Type 0 where
   pub first : 0 < H.first
   pub base : HasShape g H.base
   pub commits : AllByRecursion (λ c. AreAccesses g c.accesses) H.commits
+
+-- each commit began at one that stands
+abbrev pub HaveBegun : History → Type 0
+HaveBegun H = AllByRecursion (λ c. c.begin ≤ last H) H.commits
 
 -- the history with one more commit
 abbrev pub appended : History → Commit → History

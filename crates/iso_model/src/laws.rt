@@ -1,14 +1,22 @@
 // The laws of the definitions: each function does nothing, and its contract is the law.
-ghost use Rattle.std.specs.Prelude.{◌≡◌, ◌≢◌, ◌↔◌, ℕ, ◌<◌, ◌≤◌, ◌+◌, IsTrue, IsFalse, IsSome, List, Option, Some, None, length, slice_index, unwrap_or};
+ghost use Rattle.std.specs.Prelude.{◌≡◌, ◌≢◌, ◌↔◌, ℕ, ◌<◌, ◌≤◌, ◌+◌, ◌-◌, IsTrue, IsFalse, IsSome, IfSome, List, Some, None, length, slice_get, slice_index, unwrap_or};
 ghost use Rattle.std.specs.List.{AllByRecursion};
 ghost use Rattle.iso_model.specs.declared.access.Access.{Access};
+ghost use Rattle.iso_model.specs.declared.access.Clash.{Clash};
+ghost use Rattle.iso_model.specs.declared.access.Commit.{Commit};
 ghost use Rattle.iso_model.specs.declared.access.Geometry.{Geometry};
 ghost use Rattle.iso_model.specs.declared.access.Kind.TheVariants.{Write};
+ghost use Rattle.iso_model.specs.declared.access.Mode.{Mode};
+ghost use Rattle.iso_model.specs.declared.access.Mode.TheVariants.{Serial, Snapshot};
 ghost use Rattle.iso_model.specs.Array.{Array, byte_at, covered, put};
+ghost use Rattle.iso_model.specs.Conflict.{clash, IsClash, IsSerialAt, IsSnapshotAt, NotAfter};
 ghost use Rattle.iso_model.specs.Effect.{effect_at, has_write, own, runs, touches};
 ghost use Rattle.iso_model.specs.Geometry.{is_valid};
-ghost use Rattle.iso_model.specs.Image.{AreRuns};
-ghost use Rattle.iso_model.specs.Premises.{block_at, value_in, AreAccesses, HasBytes, Limits};
+ghost use Rattle.iso_model.specs.History.{array_at, last, History};
+ghost use Rattle.iso_model.specs.Image.{logged, AreRuns, IsImage, SameEffect, Shows};
+ghost use Rattle.iso_model.specs.Isolation.{IsIsolated};
+ghost use Rattle.iso_model.specs.Premises.{appended, block_at, recorded, value_in, AreAccesses, HasBytes, HaveBegun, IsHistory, Limits};
+ghost use Rattle.iso_model.specs.World.{empty_history};
 
 /// A valid geometry keeps its limits, and the image is small.
 pub fn valid_geometry_keeps_limits()
@@ -49,5 +57,64 @@ pub fn runs_cover_what_is_written()
 pub fn writes_have_runs()
     ensures some { (g : Geometry) (accesses : List Access) → 0 < g.block → AreAccesses g accesses → IsTrue (has_write accesses) ↔ (0 < length (runs g accesses)) }
     ensures none { (g : Geometry) (accesses : List Access) → 0 < g.block → AreAccesses g accesses → IsFalse (has_write accesses) ↔ (length (runs g accesses) ≡ 0) }
+{
+}
+
+/// The writes that a record stands for have the effect of the accesses that it was made of, and so leave the same arrays.
+pub fn records_keep_the_effect()
+    ensures effect { (g : Geometry) (accesses : List Access) → SameEffect g (recorded g (runs g accesses)) accesses }
+    ensures arrays { (g : Geometry) (H : History) (n : ℕ) → IsHistory g H → array_at (logged g H) n ≡ array_at H n }
+{
+}
+
+/// An image that holds a history as its records tell it shows that history, up to its last commit.
+pub fn logged_history_shows()
+    ensures { (bytes : List ℕ) (g : Geometry) (generation : ℕ) (H : History) → IsHistory g H
+        → IsImage bytes g generation (logged g H) → Shows bytes g H (last H) }
+{
+}
+
+/// The clash is a least meeting, and where there is none a transaction with a write meets no later commit.
+pub fn clash_is_the_least_meeting()
+    ensures found { (g : Geometry) (H : History) (mode : Mode) (begin : ℕ) (accesses : List Access) (c : Clash) → H.first ≤ begin + 1
+        → clash g H mode begin accesses ≡ Some c → IsClash g H mode begin accesses c }
+    ensures least { (g : Geometry) (H : History) (mode : Mode) (begin : ℕ) (accesses : List Access) (c d : Clash) → H.first ≤ begin + 1
+        → clash g H mode begin accesses ≡ Some c → IsClash g H mode begin accesses d → NotAfter c d }
+    ensures none { (g : Geometry) (H : History) (mode : Mode) (begin : ℕ) (accesses : List Access) (d : Clash) → H.first ≤ begin + 1
+        → IsTrue (has_write accesses) → clash g H mode begin accesses ≡ None → ¬ IsClash g H mode begin accesses d }
+    ensures read_only { (g : Geometry) (H : History) (mode : Mode) (begin : ℕ) (accesses : List Access)
+        → IsFalse (has_write accesses) → clash g H mode begin accesses ≡ None }
+    ensures only { (g : Geometry) (H : History) (mode : Mode) (begin : ℕ) (accesses : List Access) (c : Clash) → H.first ≤ begin + 1
+        → IsTrue (has_write accesses) → IsClash g H mode begin accesses c → ((d : Clash) → IsClash g H mode begin accesses d → NotAfter c d)
+        → clash g H mode begin accesses ≡ Some c }
+{
+}
+
+/// A transaction with a write and without a clash at the last commit is isolated at the next number.
+pub fn no_clash_isolates()
+    ensures serial { (g : Geometry) (H : History) (c : Commit) → IsHistory g H → AreAccesses g c.accesses → H.first ≤ c.begin + 1 → c.begin ≤ last H
+        → IsTrue (has_write c.accesses) → clash g H Serial c.begin c.accesses ≡ None → IsSerialAt (appended H c) (last H + 1) }
+    ensures snapshot { (g : Geometry) (H : History) (c : Commit) → IsHistory g H → AreAccesses g c.accesses → H.first ≤ c.begin + 1 → c.begin ≤ last H
+        → IsTrue (has_write c.accesses) → clash g H Snapshot c.begin c.accesses ≡ None → IsSnapshotAt g (appended H c) (last H + 1) }
+{
+}
+
+/// A commit that is appended leaves the earlier ones isolated.
+pub fn commits_stay_isolated()
+    ensures serial { (H : History) (c : Commit) (k : ℕ) → 0 < H.first → H.first ≤ k → k ≤ last H
+        → IfSome (slice_get H.commits (k - H.first)) (λ d. d.begin ≤ last H) → IsSerialAt H k → IsSerialAt (appended H c) k }
+    ensures snapshot { (g : Geometry) (H : History) (c : Commit) (k : ℕ) → 0 < H.first → H.first ≤ k → k ≤ last H
+        → IsSnapshotAt g H k → IsSnapshotAt g (appended H c) k }
+    ensures all { (g : Geometry) (H : History) (c : Commit) → IsHistory g H → HaveBegun H → IsIsolated g H
+        → AreAccesses g c.accesses → H.first ≤ c.begin + 1 → c.begin ≤ last H → IsTrue (has_write c.accesses)
+        → clash g H c.mode c.begin c.accesses ≡ None → IsIsolated g (appended H c) }
+{
+}
+
+/// An empty history is one of its image, and isolated; a commit of accesses to the image keeps it one of the image.
+pub fn histories_grow()
+    ensures empty { (g : Geometry) → IsHistory g (empty_history g) × HaveBegun (empty_history g) × IsIsolated g (empty_history g) }
+    ensures appended { (g : Geometry) (H : History) (c : Commit) → IsHistory g H → AreAccesses g c.accesses → IsHistory g (appended H c) }
+    ensures begun { (H : History) (c : Commit) → HaveBegun H → c.begin ≤ last H → HaveBegun (appended H c) }
 {
 }

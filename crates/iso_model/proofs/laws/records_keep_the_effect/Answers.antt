@@ -1,0 +1,8 @@
+use Rattle.iso_model.proofs.Recorded.{same_effect, same_array}
+use Rattle.iso_model.proofs.laws.records_keep_the_effect.Goals as goal
+
+pub returns-clause-effect : goal.returns-clause-effect
+returns-clause-effect c = same_effect
+
+pub returns-clause-arrays : goal.returns-clause-arrays
+returns-clause-arrays c = same_array
