@@ -1,6 +1,6 @@
 -- What a valid geometry keeps to.
-use Rattle.std.proofs.Common.{◌≡◌, refl, ap, ℕ, ◌+◌, ◌*◌, ◌≤◌, Bool, true, false, ◌&&◌, ◌||◌, ◌==◌, IsTrue, arith, leb, eqb, mul-le-mul, [], ◌∷◌}
-use Rattle.std.proofs.lemmas.Bool.{and_parts, or_cases, leb-true, eqb-true}
+use Rattle.std.proofs.Common.{ℕ, ◌*◌, ◌≤◌, IsTrue, arith, mul-le-mul}
+use Rattle.std.proofs.lemmas.Bool.{and_parts, leb-true}
 use Rattle.std.proofs.lemmas.Bool.Decides.{nat_tests}
 use Rattle.iso_model.specs.declared.access.Geometry.{Geometry}
 use Rattle.iso_model.specs.Geometry.{is_valid, is_block_size}

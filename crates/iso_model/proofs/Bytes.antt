@@ -1,12 +1,12 @@
 -- What a write and a list of writes leave at each byte.
-use Rattle.std.proofs.Common.{◌≡◌, ◌≢◌, ◌∙◌, sym, refl, ap, ℕ, zero, suc, ◌+◌, ◌<◌, ◌≤◌, Bool, true, false, ◌&&◌, ◌||◌, ◌==◌, cond, IsTrue, List, [], ◌∷◌, ◌++◌, length, get_or, set, Option, Some, None, is_some, unwrap_or, arith, zero-add, inl, inr, eqb, eq-eqb, ne_eqb, subst}
+use Rattle.std.proofs.Common.{◌≡◌, ◌≢◌, ◌∙◌, sym, refl, ap, ℕ, zero, suc, ◌+◌, ◌<◌, Bool, true, false, ◌&&◌, ◌||◌, ◌==◌, cond, IsTrue, List, [], ◌∷◌, length, get_or, Option, Some, None, is_some, unwrap_or, arith, zero-add, inl, inr, eq-eqb, ne_eqb, subst}
 use Rattle.std.specs.List.{AllByRecursion}
-use Rattle.std.proofs.lemmas.Bool.{cases_eq, cases_lt, and_left}
+use Rattle.std.proofs.lemmas.Bool.{cases_eq, cases_lt}
 use Rattle.std.proofs.lemmas.List.{length-set, get_or-set_same, get_or-set_other, set_past, get_or_past}
 use Rattle.iso_model.specs.declared.access.Access.{Access}
 use Rattle.iso_model.specs.declared.access.Commit.{Commit}
 use Rattle.iso_model.specs.declared.access.Span.{Span}
-use Rattle.iso_model.specs.declared.access.Kind.TheVariants.{Read, Write}
+use Rattle.iso_model.specs.declared.access.Kind.TheVariants.{Write}
 use Rattle.iso_model.specs.Array.{Array, covered, merged, put, byte_at}
 use Rattle.iso_model.specs.Effect.{is_write, own, touches, covers, or_else, effect_at}
 use Rattle.iso_model.specs.History.{all_own}
@@ -49,16 +49,18 @@ other_block A w b other = get_or-set_other A w.block b (merged w.spans 0 (get_or
 pub written_block : (A : Array) (w : Access) → block_at (put A w) w.block ≡ merged w.spans 0 (block_at A w.block) w.bytes
 unfolding put
 written_block A w = elim (cases_lt w.block (length A)) [
-    inl inside ↦ get_or-set_same A w.block (merged w.spans 0 (get_or A w.block []) w.bytes) [] inside |
-    inr past ↦
+  | inl inside ↦ get_or-set_same A w.block (merged w.spans 0 (get_or A w.block []) w.bytes) [] inside
+  | inr past ↦
       ap (λ (B : Array). get_or B w.block []) (set_past A w.block (merged w.spans 0 (get_or A w.block []) w.bytes) past)
       ∙ get_or_past A w.block [] past
-      ∙ sym (ap (λ old. merged w.spans 0 old w.bytes) (get_or_past A w.block [] past)) ]
+      ∙ sym (ap (λ old. merged w.spans 0 old w.bytes) (get_or_past A w.block [] past))
+]
 
 pub length-block_put : (A : Array) (w : Access) (b : ℕ) → length (block_at (put A w) b) ≡ length (block_at A b)
 length-block_put A w b = elim (cases_eq b w.block) [
-    inl e ↦ rw e (ap length (written_block A w) ∙ length-merged w.spans 0 (block_at A w.block) w.bytes) |
-    inr other ↦ ap length (other_block A w b other) ]
+  | inl e ↦ rw e (ap length (written_block A w) ∙ length-merged w.spans 0 (block_at A w.block) w.bytes)
+  | inr other ↦ ap length (other_block A w b other)
+]
 
 -- a byte of the written block
 pub put_here : (A : Array) (w : Access) (p : ℕ) → length w.bytes ≡ length (block_at A w.block) → p < length (block_at A w.block)
@@ -72,13 +74,14 @@ put_here A w p same inside =
 pub put_at : (A : Array) (w : Access) (b p : ℕ) → length w.bytes ≡ length (block_at A b) → p < length (block_at A b)
     → byte_at (put A w) b p ≡ cond ((w.block == b) && covered w.spans p) (get_or w.bytes p 0) (byte_at A b p)
 put_at A w b p same inside = elim (cases_eq w.block b) [
-    inl e ↦
+  | inl e ↦
       (let here : (w.block == b) ≡ true = eq-eqb w.block b e in
       rw here (subst (λ (c : ℕ). length w.bytes ≡ length (block_at A c) → p < length (block_at A c)
-          → byte_at (put A w) c p ≡ cond (covered w.spans p) (get_or w.bytes p 0) (byte_at A c p)) e (put_here A w p) same inside)) |
-    inr other ↦
+      → byte_at (put A w) c p ≡ cond (covered w.spans p) (get_or w.bytes p 0) (byte_at A c p)) e (put_here A w p) same inside))
+  | inr other ↦
       (let not : (w.block == b) ≡ false = ne_eqb w.block b other in
-      rw not (ap (λ (bytes : List ℕ). get_or bytes p 0) (other_block A w b (λ e. other (sym e))))) ]
+      rw not (ap (λ (bytes : List ℕ). get_or bytes p 0) (other_block A w b (λ e. other (sym e)))))
+]
 
 -- a byte that the write does not cover, whatever its bytes are
 pub put_kept : (A : Array) (w : Access) (p : ℕ) → covered w.spans p ≡ false → byte_at (put A w) w.block p ≡ byte_at A w.block p

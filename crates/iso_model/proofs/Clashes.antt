@@ -1,14 +1,12 @@
 -- The least clash, and what there is where there is none.
-use Rattle.std.proofs.Common.{◌≡◌, ◌≢◌, ◌⊎◌, ◌∙◌, sym, refl, ap, ℕ, zero, suc, ◌+◌, ◌-◌, ◌<◌, ◌≤◌, Bool, true, false, ◌&&◌, cond, IsTrue, List, [], ◌∷◌, drop, length, Option, Some, None, option_map, slice_get, arith, inl, inr, zero-add}
-use Rattle.std.specs.List.{AllByRecursion}
+use Rattle.std.proofs.Common.{◌≡◌, ◌≢◌, ◌⊎◌, ◌∙◌, sym, refl, ap, ℕ, zero, suc, ◌+◌, ◌-◌, ◌<◌, ◌≤◌, Bool, true, false, cond, List, [], ◌∷◌, drop, Option, Some, None, option_map, slice_get, arith, inl, inr, zero-add}
 use Rattle.std.proofs.lemmas.Bool.{cases_eq, both_ways, and_parts, and_from}
 use Rattle.std.proofs.lemmas.Option.{same_Some}
-use Rattle.std.proofs.lemmas.Grind.{common_steps}
 use Rattle.iso_model.specs.declared.access.Access.{Access}
 use Rattle.iso_model.specs.declared.access.Clash.{Clash}
 use Rattle.iso_model.specs.declared.access.Commit.{Commit}
 use Rattle.iso_model.specs.declared.access.Geometry.{Geometry}
-use Rattle.iso_model.specs.declared.access.Kind.TheVariants.{Read, Write}
+use Rattle.iso_model.specs.declared.access.Kind.TheVariants.{Write}
 use Rattle.iso_model.specs.declared.access.Mode.{Mode}
 use Rattle.iso_model.specs.Effect.{has_write, or_else, touches}
 use Rattle.iso_model.specs.History.{History}
@@ -22,9 +20,18 @@ IsFirst test p n (Some q) = (p ≤ q) × (q < p + n) × (test q ≡ true) × ((r
 first_step : (test : ℕ → Bool) (p n : ℕ) (t : Bool) → test p ≡ t → (rest : Option ℕ) → IsFirst test (p + 1) n rest → IsFirst test p (suc n) (cond t (Some p) rest)
 first_step test p n true e rest is = (omega arith, omega arith, e, λ r from below passes. from)
 first_step test p n false e None is = λ r from below passes. elim (cases_eq r p) [
-    inl same ↦ both_ways (test p) e (rw same at passes) | inr other ↦ is r (omega arith) (omega arith) passes ]
-first_step test p n false e (Some q) is = (omega arith, omega arith, is.2, λ r from below passes. elim (cases_eq r p) [
-    inl same ↦ absurd (both_ways (test p) e (rw same at passes)) | inr other ↦ is.3 r (omega arith) (omega arith) passes ])
+  | inl same ↦ both_ways (test p) e (rw same at passes)
+  | inr other ↦ is r (omega arith) (omega arith) passes
+]
+first_step test p n false e (Some q) is = (
+  omega arith,
+  omega arith,
+  is.2,
+  λ r from below passes. elim (cases_eq r p) [
+    | inl same ↦ absurd (both_ways (test p) e (rw same at passes))
+    | inr other ↦ is.3 r (omega arith) (omega arith) passes
+  ],
+)
 
 first_is : (test : ℕ → Bool) (p n : ℕ) → IsFirst test p n (first_from test p n)
 first_is test p zero = λ r from below passes. omega arith
@@ -44,17 +51,30 @@ IsFirstByte test size b n (Some at) =
 first_byte_step : (test : ℕ → ℕ → Bool) (size b n : ℕ) (here : Option ℕ) (rest : Option (ℕ × ℕ))
     → IsFirst (test b) 0 size here → IsFirstByte test size (b + 1) n rest
     → IsFirstByte test size b (suc n) (or_else (option_map (λ p. (b, p)) here) rest)
-first_byte_step test size b n (Some p) rest is others =
-    (omega arith, omega arith, omega arith, is.2, λ c q from below inside passes. elim (cases_eq b c) [
-      inl same ↦ inr (same, is.3 q (omega arith) (omega arith) (rw (← same) at passes)) |
-      inr other ↦ inl (omega arith) ])
+first_byte_step test size b n (Some p) rest is others = (
+  omega arith,
+  omega arith,
+  omega arith,
+  is.2,
+  λ c q from below inside passes. elim (cases_eq b c) [
+    | inl same ↦ inr (same, is.3 q (omega arith) (omega arith) (rw (← same) at passes))
+    | inr other ↦ inl (omega arith)
+  ],
+)
 first_byte_step test size b n None None is others = λ c q from below inside passes. elim (cases_eq b c) [
-    inl same ↦ is q (omega arith) (omega arith) (rw (← same) at passes) |
-    inr other ↦ others c q (omega arith) (omega arith) inside passes ]
-first_byte_step test size b n None (Some at) is others =
-    (omega arith, omega arith, others.2, others.3, λ c q from below inside passes. elim (cases_eq b c) [
-      inl same ↦ absurd (is q (omega arith) (omega arith) (rw (← same) at passes)) |
-      inr other ↦ others.4 c q (omega arith) (omega arith) inside passes ])
+  | inl same ↦ is q (omega arith) (omega arith) (rw (← same) at passes)
+  | inr other ↦ others c q (omega arith) (omega arith) inside passes
+]
+first_byte_step test size b n None (Some at) is others = (
+  omega arith,
+  omega arith,
+  others.2,
+  others.3,
+  λ c q from below inside passes. elim (cases_eq b c) [
+    | inl same ↦ absurd (is q (omega arith) (omega arith) (rw (← same) at passes))
+    | inr other ↦ others.4 c q (omega arith) (omega arith) inside passes
+  ],
+)
 
 first_byte_is : (test : ℕ → ℕ → Bool) (size b n : ℕ) → IsFirstByte test size b n (first_byte test size b n)
 first_byte_is test size b zero = λ c p from below inside passes. omega arith
@@ -101,18 +121,24 @@ least_step : (g : Geometry) (mode : Mode) (accesses : List Access) (k : ℕ) (c 
     (here : Option (ℕ × ℕ)) (rest : Option Clash)
     → IsFirstByte (clashes mode c accesses) g.block 0 g.blocks here → IsLeast g mode accesses (k + 1) commits rest
     → IsLeast g mode accesses k (c ∷ commits) (or_else (option_map (λ at. record { commit = k; block = at.0; at = at.1 }) here) rest)
-least_step g mode accesses k c commits (Some at) rest first least =
-    (record { from = omega arith; block = omega arith; byte = first.2; commit = c; is = (let e : k - k ≡ 0 = omega arith in rw e refl); meets = first.3 },
-      λ d is. elim (cases_eq d.commit k) [
-        inl same ↦ inr (sym same, first.4 d.block d.at (omega arith) (omega (arith, is.block)) is.byte (at_first g mode accesses k c commits d is same)) |
-        inr other ↦ inl (omega (arith, is.from)) ])
+least_step g mode accesses k c commits (Some at) rest first least = (
+  record { from = omega arith; block = omega arith; byte = first.2; commit = c; is = (let e : k - k ≡ 0 = omega arith in rw e refl); meets = first.3 },
+  λ d is. elim (cases_eq d.commit k) [
+    | inl same ↦ inr (sym same, first.4 d.block d.at (omega arith) (omega (arith, is.block)) is.byte (at_first g mode accesses k c commits d is same))
+    | inr other ↦ inl (omega (arith, is.from))
+  ],
+)
 least_step g mode accesses k c commits None None first least = λ d is. elim (cases_eq d.commit k) [
-    inl same ↦ first d.block d.at (omega arith) (omega (arith, is.block)) is.byte (at_first g mode accesses k c commits d is same) |
-    inr other ↦ least d (at_rest g mode accesses k c commits d is other) ]
-least_step g mode accesses k c commits None (Some x) first least =
-    (at_later g mode accesses k c commits x least.0, λ d is. elim (cases_eq d.commit k) [
-      inl same ↦ absurd (first d.block d.at (omega arith) (omega (arith, is.block)) is.byte (at_first g mode accesses k c commits d is same)) |
-      inr other ↦ least.1 d (at_rest g mode accesses k c commits d is other) ])
+  | inl same ↦ first d.block d.at (omega arith) (omega (arith, is.block)) is.byte (at_first g mode accesses k c commits d is same)
+  | inr other ↦ least d (at_rest g mode accesses k c commits d is other)
+]
+least_step g mode accesses k c commits None (Some x) first least = (
+  at_later g mode accesses k c commits x least.0,
+  λ d is. elim (cases_eq d.commit k) [
+    | inl same ↦ absurd (first d.block d.at (omega arith) (omega (arith, is.block)) is.byte (at_first g mode accesses k c commits d is same))
+    | inr other ↦ least.1 d (at_rest g mode accesses k c commits d is other)
+  ],
+)
 
 least_is : (g : Geometry) (mode : Mode) (accesses : List Access) (k : ℕ) (commits : List Commit)
     → IsLeast g mode accesses k commits (clash_from g mode accesses k commits)
@@ -174,7 +200,7 @@ pub clash_answers : (g : Geometry) (H : History) (mode : Mode) (begin : ℕ) (ac
 unfolding clash
 clash_answers g H mode begin accesses known some =
     rw some (answer_from_least g H mode begin accesses (clash_from g mode accesses (begin + 1) (drop (begin + 1 - H.first) H.commits)) known
-      (least_is g mode accesses (begin + 1) (drop (begin + 1 - H.first) H.commits)))
+    (least_is g mode accesses (begin + 1) (drop (begin + 1 - H.first) H.commits)))
 
 -- one without a write has none
 pub no_clash : (g : Geometry) (H : History) (mode : Mode) (begin : ℕ) (accesses : List Access) → has_write accesses ≡ false → clash g H mode begin accesses ≡ None
@@ -200,13 +226,16 @@ same_clash : (c d : Clash) → NotAfter c d → NotAfter d c → c ≡ d
 same_clash c d first second =
     let commit : c.commit ≡ d.commit = elim first [ inl l ↦ elim second [ inl m ↦ omega arith | inr m ↦ omega arith ] | inr l ↦ l.0 ] in
     let block : c.block ≡ d.block = elim first [
-        inl l ↦ absurd (omega arith) |
-        inr l ↦ elim l.1 [ inl m ↦ elim second [ inl n ↦ absurd (omega arith) | inr n ↦ elim n.1 [ inl o ↦ omega arith | inr o ↦ omega arith ] ] | inr m ↦ m.0 ] ] in
+      | inl l ↦ absurd (omega arith)
+      | inr l ↦ elim l.1 [ inl m ↦ elim second [ inl n ↦ absurd (omega arith) | inr n ↦ elim n.1 [ inl o ↦ omega arith | inr o ↦ omega arith ] ] | inr m ↦ m.0 ]
+    ] in
     let at : c.at ≡ d.at = elim first [
-        inl l ↦ absurd (omega arith) |
-        inr l ↦ elim l.1 [
-          inl m ↦ absurd (omega arith) |
-          inr m ↦ elim second [ inl n ↦ absurd (omega arith) | inr n ↦ elim n.1 [ inl o ↦ absurd (omega arith) | inr o ↦ omega arith ] ] ] ] in
+      | inl l ↦ absurd (omega arith)
+      | inr l ↦ elim l.1 [
+        | inl m ↦ absurd (omega arith)
+        | inr m ↦ elim second [ inl n ↦ absurd (omega arith) | inr n ↦ elim n.1 [ inl o ↦ absurd (omega arith) | inr o ↦ omega arith ] ]
+      ]
+    ] in
     λ i. record { commit = commit i; block = block i; at = at i }
 
 only_answer : (g : Geometry) (H : History) (mode : Mode) (begin : ℕ) (accesses : List Access) (c : Clash) (o : Option Clash)

@@ -1,9 +1,9 @@
 -- A transaction without a clash is isolated at the next commit, and each commit stays so.
-use Rattle.std.proofs.Common.{◌≡◌, ◌≢◌, ◌∙◌, sym, refl, ap, ℕ, zero, suc, ◌+◌, ◌-◌, ◌<◌, ◌≤◌, Bool, true, false, ◌&&◌, ◌||◌, cond, IsTrue, IfSome, List, [], ◌∷◌, ◌++◌, length, get_or, take, drop, Option, Some, None, is_some, slice_get, option_map, unwrap_or, arith, inl, inr, subst}
-use Rattle.std.specs.List.{AllByRecursion, list_any}
-use Rattle.std.proofs.lemmas.Bool.{cases_lt, and_from, or_left, or_right, false_from_ne_true, eqb-true, and_parts}
+use Rattle.std.proofs.Common.{◌≡◌, ◌∙◌, sym, refl, ap, ℕ, zero, suc, ◌+◌, ◌-◌, ◌<◌, ◌≤◌, true, false, IsTrue, IfSome, List, [], ◌∷◌, ◌++◌, length, get_or, take, drop, Option, Some, None, is_some, slice_get, option_map, unwrap_or, arith, inl, inr, subst}
+use Rattle.std.specs.List.{AllByRecursion}
+use Rattle.std.proofs.lemmas.Bool.{cases_lt, or_left, or_right, false_from_ne_true}
 use Rattle.std.proofs.lemmas.Option.{none-some, same_Some, IfSome_then}
-use Rattle.std.proofs.lemmas.List.{take_all, take-append-le, take-append-drop, get_or_past, length-append, length_push}
+use Rattle.std.proofs.lemmas.List.{take_all, take-append-le, take-append-drop, get_or_past, length_push}
 use Rattle.iso_model.specs.declared.access.Access.{Access}
 use Rattle.iso_model.specs.declared.access.Clash.{Clash}
 use Rattle.iso_model.specs.declared.access.Commit.{Commit}
@@ -12,13 +12,13 @@ use Rattle.iso_model.specs.declared.access.Kind.{Kind}
 use Rattle.iso_model.specs.declared.access.Kind.TheVariants.{Read, Write}
 use Rattle.iso_model.specs.declared.access.Mode.{Mode}
 use Rattle.iso_model.specs.declared.access.Mode.TheVariants.{Serial, Snapshot}
-use Rattle.iso_model.specs.Array.{Array, covered, byte_at}
+use Rattle.iso_model.specs.Array.{Array, byte_at}
 use Rattle.iso_model.specs.Effect.{is_write, has_write, covers, touches, effect_at, own}
 use Rattle.iso_model.specs.History.{History, last, array_at, all_own, shown, shown_block}
 use Rattle.iso_model.specs.Conflict.{clash, guarded, IsClash, IsSerialAt, IsSnapshotAt, Meets}
 use Rattle.iso_model.specs.Isolation.{IsIsolatedAt, IsIsolated}
-use Rattle.iso_model.specs.Premises.{block_at, HasShape, HasBytes, IsAccess, AreAccesses, IsHistory, HaveBegun, appended}
-use Rattle.iso_model.proofs.Bytes.{own_at, length-own, length-block_own, length-all_own, length-block_all_own, touches_where_effect}
+use Rattle.iso_model.specs.Premises.{block_at, IsAccess, AreAccesses, IsHistory, HaveBegun, appended}
+use Rattle.iso_model.proofs.Bytes.{own_at, length-block_own, length-block_all_own, touches_where_effect}
 use Rattle.iso_model.proofs.Recorded.{bytes_of_accesses}
 use Rattle.iso_model.proofs.Written.{covers_where}
 use Rattle.iso_model.proofs.Clashes.{none_from_clash, slice_get-drop}
@@ -100,40 +100,42 @@ not_written : (g : Geometry) (H : History) (mode : Mode) (begin : ℕ) (accesses
     → (i : ℕ) (c : Commit) → slice_get (drop (begin + 1 - H.first) H.commits) i ≡ Some c → touches Write c.accesses b p ≡ false
 not_written g H mode begin accesses b p known none block inside guards i c is =
     false_from_ne_true (touches Write c.accesses b p) (λ writes.
-      let e : begin + 1 - H.first + i ≡ begin + 1 + i - H.first = omega arith in
-      none (record { commit = begin + 1 + i; block = b; at = p }) (record {
-        after = omega arith;
-        block = block;
-        byte = inside;
-        commit = c;
-        is = rw (← e) (sym (slice_get-drop (begin + 1 - H.first) i H.commits) ∙ is);
-        written = writes;
-        guarded = guards;
-      }))
+    let e : begin + 1 - H.first + i ≡ begin + 1 + i - H.first = omega arith in
+    none (record { commit = begin + 1 + i; block = b; at = p }) (record {
+      after = omega arith;
+      block = block;
+      byte = inside;
+      commit = c;
+      is = rw (← e) (sym (slice_get-drop (begin + 1 - H.first) i H.commits) ∙ is);
+      written = writes;
+      guarded = guards;
+    }))
 
 -- a read shows the same byte at the begin and at the last commit, where no commit between them writes it
 same_shown : (g : Geometry) (H : History) (n : ℕ) (accesses : List Access) (b p : ℕ) → IsHistory g H → AreAccesses g accesses
     → (b < g.blocks → p < g.block → (i : ℕ) (c : Commit) → slice_get (drop (n + 1 - H.first) H.commits) i ≡ Some c → touches Write c.accesses b p ≡ false)
     → get_or (shown_block H n accesses b) p 0 ≡ get_or (shown_block H (last H) accesses b) p 0
 same_shown g H n accesses b p is all none = elim (cases_lt p (length (block_at H.base b))) [
-    inr past ↦
+  | inr past ↦
       get_or_past (shown_block H n accesses b) p 0 (omega (arith, length-block_own (array_at H n) accesses b, length-block_array H n b))
       ∙ sym (get_or_past (shown_block H (last H) accesses b) p 0
-        (omega (arith, length-block_own (array_at H (last H)) accesses b, length-block_array H (last H) b))) |
-    inl inside ↦ elim (cases_lt b g.blocks) [
-      inr beyond ↦
+      (omega (arith, length-block_own (array_at H (last H)) accesses b, length-block_array H (last H) b)))
+  | inl inside ↦ elim (cases_lt b g.blocks) [
+    | inr beyond ↦
         (let blocks : length H.base ≡ g.blocks = is.base.blocks in
         let e : block_at H.base b ≡ [] = get_or_past H.base b [] (omega arith) in
-        absurd (omega (arith, ap length e))) |
-      inl block ↦
+        absurd (omega (arith, ap length e)))
+    | inl block ↦
         (let size : length (block_at H.base b) ≡ g.block = is.base.bytes b block in
         let whole = bytes_of_accesses g accesses all in
         own_at (array_at H n) accesses b p g.block whole (length-block_array H n b ∙ size) (omega arith)
         ∙ ap (unwrap_or (effect_at accesses b p))
-          (sym (ap (λ A. byte_at A b p) (array_from H n is.first)
-            ∙ all_own_kept g (array_at H n) (drop (n + 1 - H.first) H.commits) b p (commits_drop g (n + 1 - H.first) H.commits is.commits)
-              (length-block_array H n b ∙ size) (omega arith) (none block (omega arith))))
-        ∙ sym (own_at (array_at H (last H)) accesses b p g.block whole (length-block_array H (last H) b ∙ size) (omega arith))) ] ]
+        (sym (ap (λ A. byte_at A b p) (array_from H n is.first)
+        ∙ all_own_kept g (array_at H n) (drop (n + 1 - H.first) H.commits) b p (commits_drop g (n + 1 - H.first) H.commits is.commits)
+        (length-block_array H n b ∙ size) (omega arith) (none block (omega arith))))
+        ∙ sym (own_at (array_at H (last H)) accesses b p g.block whole (length-block_array H (last H) b ∙ size) (omega arith)))
+  ]
+]
 
 -- what an access shows, by the array at the begin
 abbrev shown_on : (A : Array) → List Access → (i : ℕ) → Option Access → List ℕ
@@ -149,7 +151,7 @@ shown_appended H c n accesses i first before =
 shown_where_none : (g : Geometry) (H : History) (n : ℕ) (accesses : List Access) (i p : ℕ) (o : Option Access) → slice_get accesses i ≡ o
     → IsHistory g H → AreAccesses g accesses → H.first ≤ n + 1 → ((d : Clash) → IsClash g H Serial n accesses d → ⊥)
     → IfSome o (λ a. IsTrue (covers Read a.block p a) →
-        get_or (shown_on (array_at H n) accesses i o) p 0 ≡ get_or (shown_on (array_at H (last H)) accesses i o) p 0)
+    get_or (shown_on (array_at H n) accesses i o) p 0 ≡ get_or (shown_on (array_at H (last H)) accesses i o) p 0)
 shown_where_none g H n accesses i p None at is all known none = tt
 shown_where_none g H n accesses i p (Some a) at is all known none = λ covered.
     same_shown g H n (take i accesses) a.block p is (accesses_take g i accesses all)
@@ -163,14 +165,14 @@ next_is_serial g H c is all known before write none =
     let at : slice_get (H.commits ++ c ∷ []) (last H + 1 - H.first) ≡ Some c = slice_get_push H.commits c (last H + 1 - H.first) (omega arith) in
     let e : last H + 1 - 1 ≡ last H = omega arith in
     subst (λ (o : Option Commit). IfSome o (λ d. (i p : ℕ) → IfSome (slice_get d.accesses i) (λ a. IsTrue (covers Read a.block p a) →
-        get_or (shown (appended H c) d.begin d.accesses i) p 0 ≡ get_or (shown (appended H c) (last H + 1 - 1) d.accesses i) p 0))) (sym at)
+    get_or (shown (appended H c) d.begin d.accesses i) p 0 ≡ get_or (shown (appended H c) (last H + 1 - 1) d.accesses i) p 0))) (sym at)
     (λ i p. IfSome_then (slice_get c.accesses i)
-      (shown_where_none g H c.begin c.accesses i p (slice_get c.accesses i) refl is all known (none_from_clash g H Serial c.begin c.accesses known write none))
-      (λ a same covered.
-        ap (λ (bytes : List ℕ). get_or bytes p 0) (shown_appended H c c.begin c.accesses i first before)
-        ∙ same covered
-        ∙ sym (ap (λ (n : ℕ). get_or (shown (appended H c) n c.accesses i) p 0) e
-          ∙ ap (λ (bytes : List ℕ). get_or bytes p 0) (shown_appended H c (last H) c.accesses i first (omega arith)))))
+    (shown_where_none g H c.begin c.accesses i p (slice_get c.accesses i) refl is all known (none_from_clash g H Serial c.begin c.accesses known write none))
+    (λ a same covered.
+    ap (λ (bytes : List ℕ). get_or bytes p 0) (shown_appended H c c.begin c.accesses i first before)
+    ∙ same covered
+    ∙ sym (ap (λ (n : ℕ). get_or (shown (appended H c) n c.accesses i) p 0) e
+    ∙ ap (λ (bytes : List ℕ). get_or bytes p 0) (shown_appended H c (last H) c.accesses i first (omega arith)))))
 
 -- without a clash in snapshot mode no write of the list meets a write of a later commit
 no_meeting : (g : Geometry) (H : History) (n : ℕ) (accesses : List Access) (j : ℕ) (d : Commit) (x y : ℕ) (a b : Access) → AreAccesses g accesses
@@ -198,28 +200,28 @@ next_is_snapshot g H c is all known before write none =
     let first : 0 < H.first = is.first in
     let at : slice_get (H.commits ++ c ∷ []) (last H + 1 - H.first) ≡ Some c = slice_get_push H.commits c (last H + 1 - H.first) (omega arith) in
     subst (λ (o : Option Commit). IfSome o (λ u. (j : ℕ) → u.begin < j → j < last H + 1 → IfSome (slice_get (H.commits ++ c ∷ []) (j - H.first)) (λ d.
-        (x y : ℕ) → IfSome (slice_get u.accesses x) (λ a. IfSome (slice_get d.accesses y) (λ b.
-        IsTrue (is_write a) → IsTrue (is_write b) → ¬ Meets g.block a b))))) (sym at)
+    (x y : ℕ) → IfSome (slice_get u.accesses x) (λ a. IfSome (slice_get d.accesses y) (λ b.
+    IsTrue (is_write a) → IsTrue (is_write b) → ¬ Meets g.block a b))))) (sym at)
     (λ j after below. if_some_from _ (slice_get (H.commits ++ c ∷ []) (j - H.first)) (λ d there x y.
-      if_some_from _ (slice_get c.accesses x) (λ a is_a. if_some_from _ (slice_get d.accesses y) (λ b is_b writes written meets.
-        no_meeting g H c.begin c.accesses j d x y a b all (none_from_clash g H Snapshot c.begin c.accesses known write none) after
-        (sym (slice_get_append_left H.commits (c ∷ []) (j - H.first) (omega arith)) ∙ there) is_a is_b writes written meets))))
+    if_some_from _ (slice_get c.accesses x) (λ a is_a. if_some_from _ (slice_get d.accesses y) (λ b is_b writes written meets.
+    no_meeting g H c.begin c.accesses j d x y a b all (none_from_clash g H Snapshot c.begin c.accesses known write none) after
+    (sym (slice_get_append_left H.commits (c ∷ []) (j - H.first) (omega arith)) ∙ there) is_a is_b writes written meets))))
 
 -- an earlier commit stays serial
 pub stays_serial : (H : History) (c : Commit) (k : ℕ) → 0 < H.first → H.first ≤ k → k ≤ last H
     → IfSome (slice_get H.commits (k - H.first)) (λ d. d.begin ≤ last H) → IsSerialAt H k → IsSerialAt (appended H c) k
 stays_serial H c k first from to begun serial =
     let same : slice_get (H.commits ++ c ∷ []) (k - H.first) ≡ slice_get H.commits (k - H.first) =
-      slice_get_append_left H.commits (c ∷ []) (k - H.first) (omega arith) in
+    slice_get_append_left H.commits (c ∷ []) (k - H.first) (omega arith) in
     subst (λ (o : Option Commit). IfSome o (λ d. (i p : ℕ) → IfSome (slice_get d.accesses i) (λ a. IsTrue (covers Read a.block p a) →
-        get_or (shown (appended H c) d.begin d.accesses i) p 0 ≡ get_or (shown (appended H c) (k - 1) d.accesses i) p 0))) (sym same)
+    get_or (shown (appended H c) d.begin d.accesses i) p 0 ≡ get_or (shown (appended H c) (k - 1) d.accesses i) p 0))) (sym same)
     (go (slice_get H.commits (k - H.first)) begun serial)
   where
     go : (o : Option Commit) → IfSome o (λ d. d.begin ≤ last H)
         → IfSome o (λ d. (i p : ℕ) → IfSome (slice_get d.accesses i) (λ a. IsTrue (covers Read a.block p a) →
-            get_or (shown H d.begin d.accesses i) p 0 ≡ get_or (shown H (k - 1) d.accesses i) p 0))
+        get_or (shown H d.begin d.accesses i) p 0 ≡ get_or (shown H (k - 1) d.accesses i) p 0))
         → IfSome o (λ d. (i p : ℕ) → IfSome (slice_get d.accesses i) (λ a. IsTrue (covers Read a.block p a) →
-            get_or (shown (appended H c) d.begin d.accesses i) p 0 ≡ get_or (shown (appended H c) (k - 1) d.accesses i) p 0))
+        get_or (shown (appended H c) d.begin d.accesses i) p 0 ≡ get_or (shown (appended H c) (k - 1) d.accesses i) p 0))
     go None begun serial = tt
     go (Some d) begun serial = λ i p. IfSome_then (slice_get d.accesses i) (serial i p) (λ a shows covered.
         ap (λ (bytes : List ℕ). get_or bytes p 0) (shown_appended H c d.begin d.accesses i first begun)
@@ -231,39 +233,41 @@ pub stays_snapshot : (g : Geometry) (H : History) (c : Commit) (k : ℕ) → 0 <
     → IsSnapshotAt g H k → IsSnapshotAt g (appended H c) k
 stays_snapshot g H c k first from to snapshot =
     let same : slice_get (H.commits ++ c ∷ []) (k - H.first) ≡ slice_get H.commits (k - H.first) =
-      slice_get_append_left H.commits (c ∷ []) (k - H.first) (omega arith) in
+    slice_get_append_left H.commits (c ∷ []) (k - H.first) (omega arith) in
     subst (λ (o : Option Commit). IfSome o (λ u. (j : ℕ) → u.begin < j → j < k → IfSome (slice_get (H.commits ++ c ∷ []) (j - H.first)) (λ d.
-        (x y : ℕ) → IfSome (slice_get u.accesses x) (λ a. IfSome (slice_get d.accesses y) (λ b.
-        IsTrue (is_write a) → IsTrue (is_write b) → ¬ Meets g.block a b))))) (sym same)
+    (x y : ℕ) → IfSome (slice_get u.accesses x) (λ a. IfSome (slice_get d.accesses y) (λ b.
+    IsTrue (is_write a) → IsTrue (is_write b) → ¬ Meets g.block a b))))) (sym same)
     (IfSome_then (slice_get H.commits (k - H.first)) snapshot (λ u meets j after below.
-      subst (λ (o : Option Commit). IfSome o (λ d. (x y : ℕ) → IfSome (slice_get u.accesses x) (λ a. IfSome (slice_get d.accesses y) (λ b.
-          IsTrue (is_write a) → IsTrue (is_write b) → ¬ Meets g.block a b))))
-        (sym (slice_get_append_left H.commits (c ∷ []) (j - H.first) (omega arith))) (meets j after below)))
+    subst (λ (o : Option Commit). IfSome o (λ d. (x y : ℕ) → IfSome (slice_get u.accesses x) (λ a. IfSome (slice_get d.accesses y) (λ b.
+    IsTrue (is_write a) → IsTrue (is_write b) → ¬ Meets g.block a b))))
+    (sym (slice_get_append_left H.commits (c ∷ []) (j - H.first) (omega arith))) (meets j after below)))
 
 -- every commit of the history with one more
 pub stays_isolated : (g : Geometry) (H : History) (c : Commit) → IsHistory g H → HaveBegun H → IsIsolated g H
     → AreAccesses g c.accesses → H.first ≤ c.begin + 1 → c.begin ≤ last H → has_write c.accesses ≡ true → clash g H c.mode c.begin c.accesses ≡ None
     → IsIsolated g (appended H c)
 stays_isolated g H c is begun isolated all known before write none k from to = elim (cases_lt (last H) k) [
-    inl behind ↦
+  | inl behind ↦
       (let count : length (H.commits ++ c ∷ []) ≡ length H.commits + 1 = length_push H.commits c in
       let first : 0 < H.first = is.first in
       let e : last H + 1 ≡ k = omega arith in
       subst (λ (n : ℕ). IfSome (slice_get (H.commits ++ c ∷ []) (n - H.first)) (λ d. IsIsolatedAt g (appended H c) d.mode n)) e
       (subst (λ (o : Option Commit). IfSome o (λ d. IsIsolatedAt g (appended H c) d.mode (last H + 1)))
-        (sym (slice_get_push H.commits c (last H + 1 - H.first) (omega arith)))
-        (next_is_isolated c.mode none))) |
-    inr within ↦
+      (sym (slice_get_push H.commits c (last H + 1 - H.first) (omega arith)))
+      (next_is_isolated c.mode none)))
+  | inr within ↦
       (let first : 0 < H.first = is.first in
       subst (λ (o : Option Commit). IfSome o (λ d. IsIsolatedAt g (appended H c) d.mode k))
-        (sym (slice_get_append_left H.commits (c ∷ []) (k - H.first) (omega arith)))
-        (if_some_from _ (slice_get H.commits (k - H.first)) (λ d at.
-          stay d.mode (subst (λ (o : Option Commit). IfSome o (λ d. d.begin ≤ last H)) (sym at) (all_at (λ d. d.begin ≤ last H) H.commits (k - H.first) d begun at))
-            within (subst (λ (o : Option Commit). IfSome o (λ d. IsIsolatedAt g H d.mode k)) at (isolated k from within))))) ]
+      (sym (slice_get_append_left H.commits (c ∷ []) (k - H.first) (omega arith)))
+      (if_some_from _ (slice_get H.commits (k - H.first)) (λ d at.
+      stay d.mode (subst (λ (o : Option Commit). IfSome o (λ d. d.begin ≤ last H)) (sym at) (all_at (λ d. d.begin ≤ last H) H.commits (k - H.first) d begun at))
+      within (subst (λ (o : Option Commit). IfSome o (λ d. IsIsolatedAt g H d.mode k)) at (isolated k from within)))))
+]
   where
     next_is_isolated : (mode : Mode) → clash g H mode c.begin c.accesses ≡ None → IsIsolatedAt g (appended H c) mode (last H + 1)
     next_is_isolated Serial none = next_is_serial g H c is all known before write none
     next_is_isolated Snapshot none = next_is_snapshot g H c is all known before write none
+
     stay : (mode : Mode) → IfSome (slice_get H.commits (k - H.first)) (λ d. d.begin ≤ last H) → k ≤ last H → IsIsolatedAt g H mode k
         → IsIsolatedAt g (appended H c) mode k
     stay Serial begun within serial = stays_serial H c k is.first from within begun serial

@@ -1,13 +1,12 @@
 -- Which value runs have at a byte.
-use Rattle.std.proofs.Common.{◌≡◌, ◌≢◌, ◌⊎◌, ◌∙◌, sym, refl, ap, ℕ, zero, suc, ◌+◌, ◌-◌, ◌<◌, ◌≤◌, Bool, true, false, ◌&&◌, ◌||◌, ◌==◌, nat_le, nat_lt, cond, IsTrue, List, [], ◌∷◌, ◌++◌, length, get_or, Option, Some, None, is_some, unwrap_or, arith, zero-add, inl, inr, eqb, eq-eqb, ne_eqb, subst}
+use Rattle.std.proofs.Common.{◌≡◌, ◌≢◌, ◌⊎◌, ◌∙◌, sym, refl, ap, ℕ, zero, suc, ◌+◌, ◌-◌, ◌<◌, ◌≤◌, Bool, true, false, ◌&&◌, ◌==◌, nat_le, nat_lt, cond, IsTrue, List, [], ◌∷◌, ◌++◌, length, get_or, Option, Some, None, arith, inl, inr, eq-eqb, ne_eqb}
 use Rattle.std.specs.List.{AllByRecursion, flat_map, range_with_len}
-use Rattle.std.proofs.lemmas.Bool.{cases_eq, cases_order, cases_lt, and_left, and_right, cases_Bool, eqb-true, eqb-false}
+use Rattle.std.proofs.lemmas.Bool.{cases_eq, cases_order, eqb-true}
 use Rattle.std.proofs.lemmas.Bool.Decides.{nat_tests}
 use Rattle.std.proofs.lemmas.Grind.{common_steps}
 use Rattle.iso_model.specs.declared.access.Access.{Access}
 use Rattle.iso_model.specs.declared.access.Geometry.{Geometry}
 use Rattle.iso_model.specs.declared.access.Run.{Run}
-use Rattle.iso_model.specs.Array.{in_span}
 use Rattle.iso_model.specs.Effect.{or_else, effect_at, effects_from, joined, runs_from, block_runs, runs}
 use Rattle.iso_model.specs.Premises.{in_run, value_of, value_in}
 
@@ -24,8 +23,9 @@ joined_stand b p value [] all = ((refl, omega arith), tt)
 joined_stand b p value (run ∷ runs) all =
     let rest : StandIn b p runs = stand_earlier b (p + 1) p runs (omega arith) all.1 in
     elim (run.off == p + 1) as (λ t. StandIn b p (cond t (record { block = b; off = p; bytes = value ∷ run.bytes } ∷ runs) (record { block = b; off = p; bytes = value ∷ [] } ∷ run ∷ runs))) [
-      true ↦ ((refl, omega arith), rest) |
-      false ↦ ((refl, omega arith), ((all.0.0, omega arith), rest)) ]
+      | true ↦ ((refl, omega arith), rest)
+      | false ↦ ((refl, omega arith), ((all.0.0, omega arith), rest))
+    ]
 
 pub runs_stand : (b p : ℕ) (values : List (Option ℕ)) → StandIn b p (runs_from b p values)
 runs_stand b p [] = tt
@@ -84,42 +84,44 @@ value_of_same x y b q tests values = rw (tests, values) refl
 -- a run of one byte
 value_of_one : (b p value q : ℕ) → value_of (record { block = b; off = p; bytes = value ∷ [] }) b q ≡ cond (q == p) (Some value) None
 value_of_one b p value q = elim (cases_order q p) [
-    inl e ↦
+  | inl e ↦
       (let here : (q == p) ≡ true = eq-eqb q p e in
       let at : q - p ≡ 0 = omega arith in
       value_of_within (record { block = b; off = p; bytes = value ∷ [] }) b q value
-        (in_run_of b p q (value ∷ []) ∙ within_span p q 1 (omega arith) (omega arith)) (rw at refl)
-      ∙ rw here refl) |
-    inr other ↦
+      (in_run_of b p q (value ∷ []) ∙ within_span p q 1 (omega arith) (omega arith)) (rw at refl)
+      ∙ rw here refl)
+  | inr other ↦
       (let not : (q == p) ≡ false = ne_eqb q p (λ e. elim other [ inl l ↦ omega arith | inr l ↦ omega arith ]) in
       value_of_outside (record { block = b; off = p; bytes = value ∷ [] }) b q
-        (in_run_of b p q (value ∷ []) ∙ outside_span p q 1 (elim other [ inl l ↦ inl l | inr l ↦ inr (omega arith) ]))
-      ∙ rw not refl) ]
+      (in_run_of b p q (value ∷ []) ∙ outside_span p q 1 (elim other [ inl l ↦ inl l | inr l ↦ inr (omega arith) ]))
+      ∙ rw not refl)
+]
 
 -- a run with one more byte before it
 value_of_longer : (b p value : ℕ) (bytes : List ℕ) (q : ℕ)
     → value_of (record { block = b; off = p; bytes = value ∷ bytes }) b q ≡ cond (q == p) (Some value) (value_of (record { block = b; off = p + 1; bytes = bytes }) b q)
 value_of_longer b p value bytes q = elim (cases_order q p) [
-    inl e ↦
+  | inl e ↦
       (let here : (q == p) ≡ true = eq-eqb q p e in
       let at : q - p ≡ 0 = omega arith in
       value_of_within (record { block = b; off = p; bytes = value ∷ bytes }) b q value
-        (in_run_of b p q (value ∷ bytes) ∙ within_span p q (length (value ∷ bytes)) (omega arith) (omega arith)) (rw at refl)
-      ∙ rw here refl) |
-    inr (inl before) ↦
+      (in_run_of b p q (value ∷ bytes) ∙ within_span p q (length (value ∷ bytes)) (omega arith) (omega arith)) (rw at refl)
+      ∙ rw here refl)
+  | inr (inl before) ↦
       (let not : (q == p) ≡ false = ne_eqb q p (λ e. omega arith) in
       value_of_outside (record { block = b; off = p; bytes = value ∷ bytes }) b q
-        (in_run_of b p q (value ∷ bytes) ∙ outside_span p q (length (value ∷ bytes)) (inl before))
+      (in_run_of b p q (value ∷ bytes) ∙ outside_span p q (length (value ∷ bytes)) (inl before))
       ∙ sym (value_of_outside (record { block = b; off = p + 1; bytes = bytes }) b q
-        (in_run_of b (p + 1) q bytes ∙ outside_span (p + 1) q (length bytes) (inl (omega arith))))
-      ∙ rw not refl) |
-    inr (inr behind) ↦
+      (in_run_of b (p + 1) q bytes ∙ outside_span (p + 1) q (length bytes) (inl (omega arith))))
+      ∙ rw not refl)
+  | inr (inr behind) ↦
       (let not : (q == p) ≡ false = ne_eqb q p (λ e. omega arith) in
       let at : q - p ≡ suc (q - (p + 1)) = omega arith in
       let tests : in_run b q (record { block = b; off = p; bytes = value ∷ bytes }) ≡ in_run b q (record { block = b; off = p + 1; bytes = bytes }) =
-        (in_run_of b p q (value ∷ bytes) ∙ same_tests p q (length bytes) behind ∙ sym (in_run_of b (p + 1) q bytes)) in
+      (in_run_of b p q (value ∷ bytes) ∙ same_tests p q (length bytes) behind ∙ sym (in_run_of b (p + 1) q bytes)) in
       value_of_same (record { block = b; off = p; bytes = value ∷ bytes }) (record { block = b; off = p + 1; bytes = bytes }) b q tests (rw at refl)
-      ∙ rw not refl) ]
+      ∙ rw not refl)
+]
 
 or_else_cond : (o : Option ℕ) (test : Bool) (x : ℕ) (y : Option ℕ) → (IsTrue test → o ≡ None) → or_else o (cond test (Some x) y) ≡ cond test (Some x) (or_else o y)
 or_else_cond o true x y none = rw (none refl) refl
@@ -129,20 +131,21 @@ pub value_joined : (b p value q : ℕ) (runs : List Run) → StandIn b (p + 1) r
     → value_in (joined b p value runs) b q ≡ cond (q == p) (Some value) (value_in runs b q)
 value_joined b p value q [] all = value_of_one b p value q
 value_joined b p value q (run ∷ runs) all = elim (cases_eq run.off (p + 1)) [
-    inl e ↦
+  | inl e ↦
       (let same : (run.off == p + 1) ≡ true = eq-eqb run.off (p + 1) e in
       let longer = value_of_longer b p value run.bytes q in
       let block = all.0.0 in
       rw same
       (ap (or_else (value_in runs b q)) (longer ∙ ap (λ (r : Run). cond (q == p) (Some value) (value_of r b q))
-        (λ i. record { block = sym block i; off = sym e i; bytes = run.bytes }))
-      ∙ or_else_cond (value_in runs b q) (q == p) value (value_of run b q) (λ t. value_before b (p + 1) q runs all.1 (omega (arith, eqb-true q p t))))) |
-    inr apart ↦
+      (λ i. record { block = sym block i; off = sym e i; bytes = run.bytes }))
+      ∙ or_else_cond (value_in runs b q) (q == p) value (value_of run b q) (λ t. value_before b (p + 1) q runs all.1 (omega (arith, eqb-true q p t)))))
+  | inr apart ↦
       (let not : (run.off == p + 1) ≡ false = ne_eqb run.off (p + 1) apart in
       rw not
       (ap (or_else (value_in (run ∷ runs) b q)) (value_of_one b p value q)
       ∙ or_else_cond (value_in (run ∷ runs) b q) (q == p) value None (λ t. value_before b (p + 1) q (run ∷ runs) all (omega (arith, eqb-true q p t)))
-      ∙ ap (λ o. cond (q == p) (Some value) o) (or_else_none (value_in (run ∷ runs) b q)))) ]
+      ∙ ap (λ o. cond (q == p) (Some value) o) (or_else_none (value_in (run ∷ runs) b q))))
+]
 
 -- the value in the runs of a list of values
 pub value_runs_from : (b p : ℕ) (values : List (Option ℕ)) (k : ℕ) → value_in (runs_from b p values) b (p + k) ≡ get_or values k None
@@ -197,14 +200,15 @@ value_blocks size accesses a zero b p from below inside = absurd (omega arith)
 value_blocks size accesses a (suc n) b p from below inside =
     value_append (block_runs size accesses a) (flat_map (block_runs size accesses) (range_with_len (a + 1) n)) b p
     ∙ elim (cases_eq a b) [
-        inl e ↦
+      | inl e ↦
           ap (λ o. or_else o (value_in (block_runs size accesses a) b p)) (value_later size accesses (a + 1) n b p (omega arith))
-          ∙ rw e (value_block_runs size accesses b p inside) |
-        inr other ↦
+          ∙ rw e (value_block_runs size accesses b p inside)
+      | inr other ↦
           ap (or_else (value_in (flat_map (block_runs size accesses) (range_with_len (a + 1) n)) b p))
-            (value_elsewhere a 0 b p (block_runs size accesses a) (runs_stand a 0 (effects_from accesses a 0 size)) other)
+          (value_elsewhere a 0 b p (block_runs size accesses a) (runs_stand a 0 (effects_from accesses a 0 size)) other)
           ∙ or_else_none (value_in (flat_map (block_runs size accesses) (range_with_len (a + 1) n)) b p)
-          ∙ value_blocks size accesses (a + 1) n b p (omega arith) (omega arith) inside ]
+          ∙ value_blocks size accesses (a + 1) n b p (omega arith) (omega arith) inside
+    ]
 
 -- the runs have the values that the list writes, and no others
 pub value_runs : (g : Geometry) (accesses : List Access) (b p : ℕ) → b < g.blocks → p < g.block → value_in (runs g accesses) b p ≡ effect_at accesses b p

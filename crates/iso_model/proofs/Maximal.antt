@@ -1,12 +1,12 @@
 -- The runs of what a list writes are maximal, rising and in the array.
-use Rattle.std.proofs.Common.{◌≡◌, ◌≢◌, ◌⊎◌, ◌∙◌, sym, refl, ap, ℕ, zero, suc, ◌+◌, ◌-◌, ◌<◌, ◌≤◌, Bool, true, false, ◌&&◌, ◌||◌, ◌==◌, cond, List, [], ◌∷◌, ◌++◌, length, Option, Some, None, arith, inl, inr, eqb, eq-eqb, ne_eqb}
+use Rattle.std.proofs.Common.{◌≡◌, ◌∙◌, sym, ℕ, zero, suc, ◌+◌, ◌<◌, ◌≤◌, true, false, ◌==◌, List, [], ◌∷◌, ◌++◌, length, Option, Some, None, arith, inl, inr, eq-eqb, ne_eqb}
 use Rattle.std.specs.List.{AllByRecursion, flat_map, range_with_len}
 use Rattle.std.proofs.lemmas.Bool.{cases_eq}
 use Rattle.iso_model.specs.declared.access.Access.{Access}
 use Rattle.iso_model.specs.declared.access.Geometry.{Geometry}
 use Rattle.iso_model.specs.declared.access.Run.{Run}
 use Rattle.iso_model.specs.Effect.{effects_from, joined, runs_from, block_runs, runs}
-use Rattle.iso_model.specs.Image.{IsRun, ComesAfter, AreRuns}
+use Rattle.iso_model.specs.Image.{IsRun, AreRuns}
 use Rattle.iso_model.proofs.Lookups.{StandIn, runs_stand, length-effects}
 
 -- the first run may be exchanged for one that begins earlier and ends where it does
@@ -20,14 +20,15 @@ joined_runs : (g : Geometry) (b p value : ℕ) (runs : List Run) → b < g.block
 joined_runs g b p value [] block inside stand all = record { block = block; some = omega arith; fits = omega arith }
 joined_runs g b p value (run ∷ runs) block inside stand all =
     elim (cases_eq run.off (p + 1)) [
-      inl e ↦
-        (let same : (run.off == p + 1) ≡ true = eq-eqb run.off (p + 1) e in
-        let is : IsRun g run = first_is g run runs all in
-        rw same (longer_runs g run (record { block = b; off = p; bytes = value ∷ run.bytes }) runs
-          (record { block = block; some = omega arith; fits = omega (arith, is.fits) }) (sym stand.0.0) (omega arith) all)) |
-      inr apart ↦
-        (let not : (run.off == p + 1) ≡ false = ne_eqb run.off (p + 1) apart in
-        rw not (record { block = block; some = omega arith; fits = omega arith }, inr (sym stand.0.0, omega arith), all)) ]
+      | inl e ↦
+          (let same : (run.off == p + 1) ≡ true = eq-eqb run.off (p + 1) e in
+          let is : IsRun g run = first_is g run runs all in
+          rw same (longer_runs g run (record { block = b; off = p; bytes = value ∷ run.bytes }) runs
+          (record { block = block; some = omega arith; fits = omega (arith, is.fits) }) (sym stand.0.0) (omega arith) all))
+      | inr apart ↦
+          (let not : (run.off == p + 1) ≡ false = ne_eqb run.off (p + 1) apart in
+          rw not (record { block = block; some = omega arith; fits = omega arith }, inr (sym stand.0.0, omega arith), all))
+    ]
   where
     first_is : (g : Geometry) (x : Run) (runs : List Run) → AreRuns g (x ∷ runs) → IsRun g x
     first_is g x [] all = all

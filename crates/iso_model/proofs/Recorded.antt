@@ -1,20 +1,20 @@
 -- The writes that a record stands for have the effect of those that it was made of.
-use Rattle.std.proofs.Common.{◌≡◌, ◌∙◌, sym, refl, ap, ℕ, zero, suc, ◌+◌, ◌-◌, ◌<◌, ◌≤◌, Bool, true, false, ◌&&◌, ◌||◌, ◌==◌, nat_le, nat_lt, cond, IsTrue, IfSome, List, [], ◌∷◌, ◌++◌, length, get_or, map, take, replicate, Option, Some, None, slice_get, unwrap_or, arith, inl, inr}
+use Rattle.std.proofs.Common.{◌≡◌, ◌∙◌, sym, refl, ap, ℕ, zero, suc, ◌+◌, ◌-◌, ◌<◌, ◌≤◌, Bool, true, false, ◌&&◌, ◌||◌, ◌==◌, nat_le, nat_lt, cond, IfSome, List, [], ◌∷◌, ◌++◌, length, get_or, map, take, replicate, Some, None, slice_get, unwrap_or, arith}
 use Rattle.std.specs.List.{AllByRecursion}
-use Rattle.std.proofs.lemmas.Bool.{and_parts, cases_Bool, leb-true, ltb-true}
+use Rattle.std.proofs.lemmas.Bool.{and_parts, leb-true, ltb-true}
 use Rattle.std.proofs.lemmas.List.{length-replicate, length-append, get_or_append_left, get_or-append_right, ext_get_or}
 use Rattle.iso_model.specs.declared.access.Access.{Access}
 use Rattle.iso_model.specs.declared.access.Commit.{Commit}
 use Rattle.iso_model.specs.declared.access.Geometry.{Geometry}
 use Rattle.iso_model.specs.declared.access.Run.{Run}
 use Rattle.iso_model.specs.declared.access.Span.{Span}
-use Rattle.iso_model.specs.declared.access.Kind.TheVariants.{Read, Write}
-use Rattle.iso_model.specs.Array.{Array, covered, in_span, byte_at}
+use Rattle.iso_model.specs.declared.access.Kind.TheVariants.{Write}
+use Rattle.iso_model.specs.Array.{Array, in_span, byte_at}
 use Rattle.iso_model.specs.Effect.{covers, or_else, effect_at, own, runs}
 use Rattle.iso_model.specs.History.{History, last, array_at, all_own}
-use Rattle.iso_model.specs.Image.{IsRun, AreRuns, IsImage, SameEffect, SameCommit, Shows, written, commit_of, commits_of, logged}
+use Rattle.iso_model.specs.Image.{AreRuns, IsImage, SameEffect, SameCommit, Shows, written, commits_of, logged}
 use Rattle.iso_model.specs.Step.{put_access}
-use Rattle.iso_model.specs.Premises.{block_at, HasShape, HasBytes, AreAccesses, IsAccess, IsHistory, in_run, value_of, value_in, recorded}
+use Rattle.iso_model.specs.Premises.{HasShape, HasBytes, AreAccesses, IsHistory, in_run, value_of, value_in, recorded}
 use Rattle.iso_model.proofs.Bytes.{own_at, length-own, length-block_own}
 use Rattle.iso_model.proofs.Lookups.{value_runs}
 use Rattle.iso_model.proofs.Maximal.{are_runs}
@@ -44,17 +44,17 @@ recorded_at : (size : ℕ) (run : Run) (b p : ℕ)
     → cond (covers Write b p (put_access size run.block run.off run.bytes)) (Some (get_or (put_access size run.block run.off run.bytes).bytes p 0)) None ≡ value_of run b p
 recorded_at size run b p =
     ap (λ t. cond ((run.block == b) && t) (Some (get_or (put_access size run.block run.off run.bytes).bytes p 0)) None)
-      (or_false (in_span p (record { off = run.off; len = length run.bytes })))
+    (or_false (in_span p (record { off = run.off; len = length run.bytes })))
     ∙ same_where (in_run b p run) (get_or (put_access size run.block run.off run.bytes).bytes p 0) (get_or run.bytes (p - run.off) 0)
-      (λ within.
-        let bounds = span_bounds p (record { off = run.off; len = length run.bytes }) (and_parts _ _ within).1 in
-        between run.off (size - (run.off + length run.bytes)) p run.bytes bounds.0 bounds.1)
+    (λ within.
+    let bounds = span_bounds p (record { off = run.off; len = length run.bytes }) (and_parts _ _ within).1 in
+    between run.off (size - (run.off + length run.bytes)) p run.bytes bounds.0 bounds.1)
 
 pub effect_recorded : (g : Geometry) (list : List Run) (b p : ℕ) → effect_at (recorded g list) b p ≡ value_in list b p
 effect_recorded g [] b p = refl
 effect_recorded g (run ∷ more) b p =
     ap (λ o. or_else o (cond (covers Write b p (put_access g.block run.block run.off run.bytes)) (Some (get_or (put_access g.block run.block run.off run.bytes).bytes p 0)) None))
-      (effect_recorded g more b p)
+    (effect_recorded g more b p)
     ∙ ap (or_else (value_in more b p)) (recorded_at g.block run b p)
 
 -- a record's writes have the effect of the accesses
@@ -82,24 +82,24 @@ same_arrays g A B first second each =
     let la : length A ≡ g.blocks = first.blocks in
     let lb : length B ≡ g.blocks = second.blocks in
     ext_get_or [] A B (la ∙ sym lb) (λ b below.
-      let block : b < g.blocks = omega arith in
-      let ba : length (get_or A b []) ≡ g.block = first.bytes b block in
-      ext_get_or 0 (get_or A b []) (get_or B b []) (ba ∙ sym (second.bytes b block)) (λ p inside. each b p block (omega arith)))
+    let block : b < g.blocks = omega arith in
+    let ba : length (get_or A b []) ≡ g.block = first.bytes b block in
+    ext_get_or 0 (get_or A b []) (get_or B b []) (ba ∙ sym (second.bytes b block)) (λ p inside. each b p block (omega arith)))
 
 pub own_shape : (g : Geometry) (A : Array) (accesses : List Access) → HasShape g A → HasShape g (own A accesses)
 own_shape g A accesses shape = record {
-    blocks = length-own A accesses ∙ shape.blocks;
-    bytes = λ b below. length-block_own A accesses b ∙ shape.bytes b below;
-  }
+  blocks = length-own A accesses ∙ shape.blocks;
+  bytes = λ b below. length-block_own A accesses b ∙ shape.bytes b below;
+}
 
 -- lists with one effect leave one array
 own_same : (g : Geometry) (A : Array) (xs ys : List Access) → HasShape g A → AllByRecursion (HasBytes g.block) xs → AllByRecursion (HasBytes g.block) ys
     → SameEffect g xs ys → own A xs ≡ own A ys
 own_same g A xs ys shape first second same =
     same_arrays g (own A xs) (own A ys) (own_shape g A xs shape) (own_shape g A ys shape) (λ b p block inside.
-      own_at A xs b p g.block first (shape.bytes b block) inside
-      ∙ ap (λ o. unwrap_or o (byte_at A b p)) (same b p block inside)
-      ∙ sym (own_at A ys b p g.block second (shape.bytes b block) inside))
+    own_at A xs b p g.block first (shape.bytes b block) inside
+    ∙ ap (λ o. unwrap_or o (byte_at A b p)) (same b p block inside)
+    ∙ sym (own_at A ys b p g.block second (shape.bytes b block) inside))
 
 abbrev CommitsOf : Geometry → List Commit → Type 0
 CommitsOf g commits = AllByRecursion (λ c. AreAccesses g c.accesses) commits
@@ -111,8 +111,8 @@ all_own_logged g A n zero commits shape all = refl
 all_own_logged g A n (suc m) [] shape all = refl
 all_own_logged g A n (suc m) (c ∷ commits) shape all =
     ap (λ B. all_own B (take m (commits_of g (n + 1) (map (written g) commits))))
-      (own_same g A (recorded g (runs g c.accesses)) c.accesses shape (recorded_bytes g (runs g c.accesses) (are_runs g c.accesses))
-        (bytes_of_accesses g c.accesses all.0) (same_effect g c.accesses))
+    (own_same g A (recorded g (runs g c.accesses)) c.accesses shape (recorded_bytes g (runs g c.accesses) (are_runs g c.accesses))
+    (bytes_of_accesses g c.accesses all.0) (same_effect g c.accesses))
     ∙ all_own_logged g (own A c.accesses) (n + 1) m commits (own_shape g A c.accesses shape) all.1
 
 pub same_array : (g : Geometry) (H : History) (n : ℕ) → IsHistory g H → array_at (logged g H) n ≡ array_at H n
@@ -130,12 +130,12 @@ same_commits g n (suc i) (c ∷ commits) = same_commits g (n + 1) i commits
 
 pub logged_shows : (g : Geometry) (H : History) (bytes : List ℕ) (generation : ℕ) → IsHistory g H → IsImage bytes g generation (logged g H) → Shows bytes g H (last H)
 logged_shows g H bytes generation is image = record {
-    form = g.form;
-    generation = generation;
-    held = logged g H;
-    image = image;
-    last = ap (λ n. H.first + n - 1) (length-logged g H.first H.commits);
-    first = omega arith;
-    arrays = λ n from to. same_array g H n is;
-    commits = λ n from to. same_commits g H.first (n - H.first) H.commits;
-  }
+  form = g.form;
+  generation = generation;
+  held = logged g H;
+  image = image;
+  last = ap (λ n. H.first + n - 1) (length-logged g H.first H.commits);
+  first = omega arith;
+  arrays = λ n from to. same_array g H n is;
+  commits = λ n from to. same_commits g H.first (n - H.first) H.commits;
+}

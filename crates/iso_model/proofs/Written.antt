@@ -1,5 +1,5 @@
 -- A list has a write exactly where it has runs.
-use Rattle.std.proofs.Common.{◌≡◌, ◌∙◌, sym, refl, ap, ℕ, zero, suc, ◌+◌, ◌-◌, ◌<◌, ◌≤◌, Bool, true, false, ◌&&◌, ◌||◌, ◌==◌, nat_le, nat_lt, cond, IsTrue, List, [], ◌∷◌, length, get_or, Option, Some, None, is_some, arith, inl, inr, eq-eqb}
+use Rattle.std.proofs.Common.{◌≡◌, ◌∙◌, sym, refl, ap, ℕ, ◌-◌, ◌<◌, true, cond, List, [], ◌∷◌, length, get_or, Option, Some, None, is_some, arith, inl, inr, eq-eqb}
 use Rattle.std.specs.List.{AllByRecursion, list_any}
 use Rattle.std.proofs.lemmas.Bool.{or_cases, or_left, or_right, and_from, and_parts}
 use Rattle.std.proofs.lemmas.Bool.Decides.{nat_tests}
@@ -7,11 +7,11 @@ use Rattle.iso_model.specs.declared.access.Access.{Access}
 use Rattle.iso_model.specs.declared.access.Geometry.{Geometry}
 use Rattle.iso_model.specs.declared.access.Run.{Run}
 use Rattle.iso_model.specs.declared.access.Span.{Span}
-use Rattle.iso_model.specs.declared.access.Kind.TheVariants.{Read, Write}
+use Rattle.iso_model.specs.declared.access.Kind.TheVariants.{Write}
 use Rattle.iso_model.specs.Array.{covered, in_span}
-use Rattle.iso_model.specs.Effect.{is_write, has_write, covers, touches, or_else, effect_at, runs}
+use Rattle.iso_model.specs.Effect.{is_write, has_write, covers, touches, or_else, runs}
 use Rattle.iso_model.specs.Image.{IsRun, AreRuns}
-use Rattle.iso_model.specs.Premises.{IsSpan, AreAccesses, in_run, value_of, value_in}
+use Rattle.iso_model.specs.Premises.{IsSpan, AreAccesses, in_run, value_in}
 use Rattle.iso_model.proofs.Bytes.{touches_where_effect}
 use Rattle.iso_model.proofs.Lookups.{value_runs}
 use Rattle.iso_model.proofs.Maximal.{are_runs}
@@ -39,18 +39,20 @@ covers_where b p a write same has = and_from _ _ (and_from _ _ write (eq-eqb a.b
 writes_some : (g : Geometry) (accesses : List Access) → 0 < g.block → AreAccesses g accesses → has_write accesses ≡ true → IsWritten g accesses
 writes_some g [] some all write = cc
 writes_some g (a ∷ accesses) some all write = elim (or_cases (is_write a) (has_write accesses) write) [
-    inl here ↦
+  | inl here ↦
       (let (p, inside, has) = covers_some g.block a.spans some all.0.spans in
-      record { block = a.block; byte = p; in_array = all.0.block; in_block = inside; touched = or_left _ _ (covers_where a.block p a here refl has) }) |
-    inr later ↦
+      record { block = a.block; byte = p; in_array = all.0.block; in_block = inside; touched = or_left _ _ (covers_where a.block p a here refl has) })
+  | inr later ↦
       (let rest = writes_some g accesses some all.1 later in
-      record { block = rest.block; byte = rest.byte; in_array = rest.in_array; in_block = rest.in_block; touched = or_right _ _ rest.touched }) ]
+      record { block = rest.block; byte = rest.byte; in_array = rest.in_array; in_block = rest.in_block; touched = or_right _ _ rest.touched })
+]
 
 write_from_touch : (accesses : List Access) (b p : ℕ) → touches Write accesses b p ≡ true → has_write accesses ≡ true
 write_from_touch [] b p touched = touched
 write_from_touch (a ∷ accesses) b p touched = elim (or_cases (covers Write b p a) (touches Write accesses b p) touched) [
-    inl here ↦ or_left (is_write a) (has_write accesses) (and_parts _ _ (and_parts _ _ here).0).0 |
-    inr later ↦ or_right (is_write a) (has_write accesses) (write_from_touch accesses b p later) ]
+  | inl here ↦ or_left (is_write a) (has_write accesses) (and_parts _ _ (and_parts _ _ here).0).0
+  | inr later ↦ or_right (is_write a) (has_write accesses) (write_from_touch accesses b p later)
+]
 
 -- a byte of the array that one of the runs has
 record HasByte (g : Geometry) (list : List Run) : Type 0 where
@@ -69,13 +71,13 @@ first_byte_in run some = and_from _ _ (eq-eqb run.block run.block refl) (has_fir
 
 some_byte : (g : Geometry) (run : Run) (more : List Run) → IsRun g run → HasByte g (run ∷ more)
 some_byte g run more is = record {
-    block = run.block;
-    byte = run.off;
-    in_array = is.block;
-    in_block = omega (arith, is.some, is.fits);
-    some = ap (λ t. is_some (or_else (value_in more run.block run.off) (cond t (Some (get_or run.bytes (run.off - run.off) 0)) None))) (first_byte_in run is.some)
+  block = run.block;
+  byte = run.off;
+  in_array = is.block;
+  in_block = omega (arith, is.some, is.fits);
+  some = ap (λ t. is_some (or_else (value_in more run.block run.off) (cond t (Some (get_or run.bytes (run.off - run.off) 0)) None))) (first_byte_in run is.some)
       ∙ some_or_else (value_in more run.block run.off) (get_or run.bytes (run.off - run.off) 0);
-  }
+}
 
 runs_have_bytes : (g : Geometry) (list : List Run) → AreRuns g list → 0 < length list → HasByte g list
 runs_have_bytes g [] all some = absurd (omega arith)
@@ -92,8 +94,8 @@ write_where_runs g accesses some =
     let byte = runs_have_bytes g (runs g accesses) (are_runs g accesses) some in
     write_from_touch accesses byte.block byte.byte
     (touches_where_effect accesses byte.block byte.byte
-      ∙ sym (ap is_some (value_runs g accesses byte.block byte.byte byte.in_array byte.in_block))
-      ∙ byte.some)
+    ∙ sym (ap is_some (value_runs g accesses byte.block byte.byte byte.in_array byte.in_block))
+    ∙ byte.some)
 
 -- a list with a write has runs
 pub runs_where_write : (g : Geometry) (accesses : List Access) → 0 < g.block → AreAccesses g accesses → has_write accesses ≡ true → 0 < length (runs g accesses)
@@ -101,5 +103,5 @@ runs_where_write g accesses size all write =
     let byte = writes_some g accesses size all write in
     runs_from_byte (runs g accesses) byte.block byte.byte
     (ap is_some (value_runs g accesses byte.block byte.byte byte.in_array byte.in_block)
-      ∙ sym (touches_where_effect accesses byte.block byte.byte)
-      ∙ byte.touched)
+    ∙ sym (touches_where_effect accesses byte.block byte.byte)
+    ∙ byte.touched)

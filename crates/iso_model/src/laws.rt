@@ -21,8 +21,7 @@ ghost use Rattle.iso_model.specs.World.{empty_history};
 /// A valid geometry keeps its limits, and the image is small.
 pub fn valid_geometry_keeps_limits()
     ensures { (g : Geometry) → IsTrue (is_valid g) → Limits g }
-{
-}
+{}
 
 /// A write gives the bytes that it covers its values, and keeps every other byte.
 pub fn put_writes_what_it_covers()
@@ -32,8 +31,7 @@ pub fn put_writes_what_it_covers()
     ensures other_blocks { (A : Array) (w : Access) (b : ℕ) → b ≢ w.block → block_at (put A w) b ≡ block_at A b }
     ensures blocks { (A : Array) (w : Access) → length (put A w) ≡ length A }
     ensures bytes { (A : Array) (w : Access) (b : ℕ) → length (block_at (put A w) b) ≡ length (block_at A b) }
-{
-}
+{}
 
 /// The writes of a list leave at each byte what they write there, and keep the bytes that they do not cover.
 pub fn own_leaves_the_effect()
@@ -42,37 +40,32 @@ pub fn own_leaves_the_effect()
     ensures written { (accesses : List Access) (b p : ℕ) → IsSome (effect_at accesses b p) ↔ IsTrue (touches Write accesses b p) }
     ensures blocks { (A : Array) (accesses : List Access) → length (own A accesses) ≡ length A }
     ensures bytes { (A : Array) (accesses : List Access) (b : ℕ) → length (block_at (own A accesses) b) ≡ length (block_at A b) }
-{
-}
+{}
 
 /// The runs are maximal, rising, disjoint and in the array, and have the bytes that the list writes, with their values.
 pub fn runs_cover_what_is_written()
     ensures maximal { (g : Geometry) (accesses : List Access) → AreRuns g (runs g accesses) }
     ensures values { (g : Geometry) (accesses : List Access) (b p : ℕ) → b < g.blocks → p < g.block
         → value_in (runs g accesses) b p ≡ effect_at accesses b p }
-{
-}
+{}
 
 /// A list has runs exactly where it has a write.
 pub fn writes_have_runs()
     ensures some { (g : Geometry) (accesses : List Access) → 0 < g.block → AreAccesses g accesses → IsTrue (has_write accesses) ↔ (0 < length (runs g accesses)) }
     ensures none { (g : Geometry) (accesses : List Access) → 0 < g.block → AreAccesses g accesses → IsFalse (has_write accesses) ↔ (length (runs g accesses) ≡ 0) }
-{
-}
+{}
 
 /// The writes that a record stands for have the effect of the accesses that it was made of, and so leave the same arrays.
 pub fn records_keep_the_effect()
     ensures effect { (g : Geometry) (accesses : List Access) → SameEffect g (recorded g (runs g accesses)) accesses }
     ensures arrays { (g : Geometry) (H : History) (n : ℕ) → IsHistory g H → array_at (logged g H) n ≡ array_at H n }
-{
-}
+{}
 
 /// An image that holds a history as its records tell it shows that history, up to its last commit.
 pub fn logged_history_shows()
     ensures { (bytes : List ℕ) (g : Geometry) (generation : ℕ) (H : History) → IsHistory g H
         → IsImage bytes g generation (logged g H) → Shows bytes g H (last H) }
-{
-}
+{}
 
 /// The clash is a least meeting, and where there is none a transaction with a write meets no later commit.
 pub fn clash_is_the_least_meeting()
@@ -87,8 +80,7 @@ pub fn clash_is_the_least_meeting()
     ensures only { (g : Geometry) (H : History) (mode : Mode) (begin : ℕ) (accesses : List Access) (c : Clash) → H.first ≤ begin + 1
         → IsTrue (has_write accesses) → IsClash g H mode begin accesses c → ((d : Clash) → IsClash g H mode begin accesses d → NotAfter c d)
         → clash g H mode begin accesses ≡ Some c }
-{
-}
+{}
 
 /// A transaction with a write and without a clash at the last commit is isolated at the next number.
 pub fn no_clash_isolates()
@@ -96,8 +88,7 @@ pub fn no_clash_isolates()
         → IsTrue (has_write c.accesses) → clash g H Serial c.begin c.accesses ≡ None → IsSerialAt (appended H c) (last H + 1) }
     ensures snapshot { (g : Geometry) (H : History) (c : Commit) → IsHistory g H → AreAccesses g c.accesses → H.first ≤ c.begin + 1 → c.begin ≤ last H
         → IsTrue (has_write c.accesses) → clash g H Snapshot c.begin c.accesses ≡ None → IsSnapshotAt g (appended H c) (last H + 1) }
-{
-}
+{}
 
 /// A commit that is appended leaves the earlier ones isolated.
 pub fn commits_stay_isolated()
@@ -108,13 +99,11 @@ pub fn commits_stay_isolated()
     ensures all { (g : Geometry) (H : History) (c : Commit) → IsHistory g H → HaveBegun H → IsIsolated g H
         → AreAccesses g c.accesses → H.first ≤ c.begin + 1 → c.begin ≤ last H → IsTrue (has_write c.accesses)
         → clash g H c.mode c.begin c.accesses ≡ None → IsIsolated g (appended H c) }
-{
-}
+{}
 
 /// An empty history is one of its image, and isolated; a commit of accesses to the image keeps it one of the image.
 pub fn histories_grow()
     ensures empty { (g : Geometry) → IsHistory g (empty_history g) × HaveBegun (empty_history g) × IsIsolated g (empty_history g) }
     ensures appended { (g : Geometry) (H : History) (c : Commit) → IsHistory g H → AreAccesses g c.accesses → IsHistory g (appended H c) }
     ensures begun { (H : History) (c : Commit) → HaveBegun H → c.begin ≤ last H → HaveBegun (appended H c) }
-{
-}
+{}
