@@ -59,10 +59,10 @@ value_elsewhere b p c q [] all other = refl
 value_elsewhere b p c q (run ∷ runs) all other =
     rw (value_elsewhere b p c q runs all.1 other) (value_of_other run c q (λ e. other (sym all.0.0 ∙ e)))
 
-value_of_within : (run : Run) (b q x : ℕ) → in_run b q run ≡ true → get_or run.bytes (q - run.off) 0 ≡ x → value_of run b q ≡ Some x
+pub value_of_within : (run : Run) (b q x : ℕ) → in_run b q run ≡ true → get_or run.bytes (q - run.off) 0 ≡ x → value_of run b q ≡ Some x
 value_of_within run b q x within value = rw (within, value) refl
 
-value_of_outside : (run : Run) (b q : ℕ) → in_run b q run ≡ false → value_of run b q ≡ None
+pub value_of_outside : (run : Run) (b q : ℕ) → in_run b q run ≡ false → value_of run b q ≡ None
 value_of_outside run b q outside = rw outside refl
 
 -- the tests of a run in its own block

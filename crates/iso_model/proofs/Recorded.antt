@@ -61,7 +61,7 @@ effect_recorded g (run ∷ more) b p =
 pub same_effect : (g : Geometry) (accesses : List Access) → SameEffect g (recorded g (runs g accesses)) accesses
 same_effect g accesses b p block inside = effect_recorded g (runs g accesses) b p ∙ value_runs g accesses b p block inside
 
-length-recorded : (size : ℕ) (run : Run) → run.off + length run.bytes ≤ size → length (put_access size run.block run.off run.bytes).bytes ≡ size
+pub length-recorded : (size : ℕ) (run : Run) → run.off + length run.bytes ≤ size → length (put_access size run.block run.off run.bytes).bytes ≡ size
 length-recorded size run fits =
     length-append (replicate run.off 0 ++ run.bytes) (replicate (size - (run.off + length run.bytes)) 0)
     ∙ omega (arith, length-append (replicate run.off 0) run.bytes, length-replicate {A = ℕ} run.off 0, length-replicate {A = ℕ} (size - (run.off + length run.bytes)) 0)

@@ -10,3 +10,4 @@ pub mod Image
 pub mod Text
 pub mod Premises
 pub mod Isolation
+pub mod Worlds

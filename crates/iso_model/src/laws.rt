@@ -8,15 +8,20 @@ ghost use Rattle.iso_model.specs.declared.access.Geometry.{Geometry};
 ghost use Rattle.iso_model.specs.declared.access.Kind.TheVariants.{Write};
 ghost use Rattle.iso_model.specs.declared.access.Mode.{Mode};
 ghost use Rattle.iso_model.specs.declared.access.Mode.TheVariants.{Serial, Snapshot};
+ghost use Rattle.iso_model.specs.declared.script.Line.{Line};
+ghost use Rattle.iso_model.specs.declared.script.Op.{Op};
 ghost use Rattle.iso_model.specs.Array.{Array, byte_at, covered, put};
 ghost use Rattle.iso_model.specs.Conflict.{clash, IsClash, IsSerialAt, IsSnapshotAt, NotAfter};
 ghost use Rattle.iso_model.specs.Effect.{effect_at, has_write, own, runs, touches};
 ghost use Rattle.iso_model.specs.Geometry.{is_valid};
 ghost use Rattle.iso_model.specs.History.{array_at, last, History};
-ghost use Rattle.iso_model.specs.Image.{logged, AreRuns, IsImage, SameEffect, Shows};
+ghost use Rattle.iso_model.specs.Image.{logged, written, AreRuns, IsImage, IsRecord, SameEffect, Shows};
 ghost use Rattle.iso_model.specs.Isolation.{IsIsolated};
-ghost use Rattle.iso_model.specs.Premises.{appended, block_at, recorded, value_in, AreAccesses, HasBytes, HaveBegun, IsHistory, Limits};
-ghost use Rattle.iso_model.specs.World.{empty_history};
+ghost use Rattle.iso_model.specs.Premises.{appended, block_at, recorded, value_in, AreAccesses, HasBytes, HaveBegun, IsAccess, IsHistory, Limits};
+ghost use Rattle.iso_model.specs.Script.{after};
+ghost use Rattle.iso_model.specs.Step.{put_access, read_access, step};
+ghost use Rattle.iso_model.specs.World.{empty_history, fresh, World};
+ghost use Rattle.iso_model.specs.Worlds.{IsWorld, LeadsTo, MayHave};
 
 /// A valid geometry keeps its limits, and the image is small.
 pub fn valid_geometry_keeps_limits()
@@ -106,4 +111,27 @@ pub fn histories_grow()
     ensures empty { (g : Geometry) → IsHistory g (empty_history g) × HaveBegun (empty_history g) × IsIsolated g (empty_history g) }
     ensures appended { (g : Geometry) (H : History) (c : Commit) → IsHistory g H → AreAccesses g c.accesses → IsHistory g (appended H c) }
     ensures begun { (H : History) (c : Commit) → HaveBegun H → c.begin ≤ last H → HaveBegun (appended H c) }
+{}
+
+/// The puts and reads that are not refused are accesses to the array.
+pub fn operations_access_the_array()
+    ensures put { (g : Geometry) (block off : ℕ) (bytes : List ℕ) → block < g.blocks → 0 < length bytes → off + length bytes ≤ g.block
+        → IsAccess g (put_access g.block block off bytes) }
+    ensures read { (g : Geometry) (block : ℕ) → block < g.blocks → IsAccess g (read_access block) }
+{}
+
+/// A commit with a write may be a record.
+pub fn commits_make_records()
+    ensures { (g : Geometry) (c : Commit) → 0 < g.block → AreAccesses g c.accesses → IsTrue (has_write c.accesses) → MayHave g c.mode
+        → IsRecord g (written g c) }
+{}
+
+/// Each step of a sound world, and so each script, keeps the geometry, extends the history and leads to a sound world,
+/// in which every commit is isolated.
+pub fn worlds_stay_sound()
+    ensures made { (g : Geometry) (generation : ℕ) → IsTrue (is_valid g) → IsWorld (fresh g generation (empty_history g)) }
+    ensures step { (W : World) (client : ℕ) (op : Op) → IsWorld W → LeadsTo W (step W client op).1 }
+    ensures lines { (W : World) (lines : List (ℕ × Line)) → IsWorld W → LeadsTo W (after W lines) }
+    ensures serial { (W : World) (k : ℕ) → IsWorld W → W.geometry.form ≡ 1 → W.geometry.mode ≡ Serial
+        → W.history.first ≤ k → k ≤ last W.history → IsSerialAt W.history k }
 {}
