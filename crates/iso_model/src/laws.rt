@@ -8,6 +8,7 @@ ghost use Rattle.iso_model.specs.declared.access.Geometry.{Geometry};
 ghost use Rattle.iso_model.specs.declared.access.Kind.TheVariants.{Write};
 ghost use Rattle.iso_model.specs.declared.access.Mode.{Mode};
 ghost use Rattle.iso_model.specs.declared.access.Mode.TheVariants.{Serial, Snapshot};
+ghost use Rattle.iso_model.specs.declared.access.Run.{Run};
 ghost use Rattle.iso_model.specs.declared.script.Line.{Line};
 ghost use Rattle.iso_model.specs.declared.script.Op.{Op};
 ghost use Rattle.iso_model.specs.Array.{Array, byte_at, covered, put};
@@ -47,11 +48,14 @@ pub fn own_leaves_the_effect()
     ensures bytes { (A : Array) (accesses : List Access) (b : ℕ) → length (block_at (own A accesses) b) ≡ length (block_at A b) }
 {}
 
-/// The runs are maximal, rising, disjoint and in the array, and have the bytes that the list writes, with their values.
+/// The runs are maximal, rising, disjoint and in the array, and have the bytes that the list writes, with their values;
+/// no other runs do.
 pub fn runs_cover_what_is_written()
     ensures maximal { (g : Geometry) (accesses : List Access) → AreRuns g (runs g accesses) }
     ensures values { (g : Geometry) (accesses : List Access) (b p : ℕ) → b < g.blocks → p < g.block
         → value_in (runs g accesses) b p ≡ effect_at accesses b p }
+    ensures only { (g : Geometry) (accesses : List Access) (list : List Run) → AreRuns g list
+        → ((b p : ℕ) → b < g.blocks → p < g.block → value_in list b p ≡ effect_at accesses b p) → list ≡ runs g accesses }
 {}
 
 /// A list has runs exactly where it has a write.
@@ -63,6 +67,7 @@ pub fn writes_have_runs()
 /// The writes that a record stands for have the effect of the accesses that it was made of, and so leave the same arrays.
 pub fn records_keep_the_effect()
     ensures effect { (g : Geometry) (accesses : List Access) → SameEffect g (recorded g (runs g accesses)) accesses }
+    ensures runs { (g : Geometry) (list : List Run) → AreRuns g list → runs g (recorded g list) ≡ list }
     ensures arrays { (g : Geometry) (H : History) (n : ℕ) → IsHistory g H → array_at (logged g H) n ≡ array_at H n }
 {}
 
@@ -134,4 +139,9 @@ pub fn worlds_stay_sound()
     ensures lines { (W : World) (lines : List (ℕ × Line)) → IsWorld W → LeadsTo W (after W lines) }
     ensures serial { (W : World) (k : ℕ) → IsWorld W → W.geometry.form ≡ 1 → W.geometry.mode ≡ Serial
         → W.history.first ≤ k → k ≤ last W.history → IsSerialAt W.history k }
+{}
+
+/// The history that an image holds is sound: the world that the image opens to is a sound one.
+pub fn images_open_to_sound_worlds()
+    ensures { (bytes : List ℕ) (g : Geometry) (generation : ℕ) (H : History) → IsImage bytes g generation H → IsWorld (fresh g generation H) }
 {}
