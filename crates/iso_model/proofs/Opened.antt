@@ -1,29 +1,27 @@
 -- The history that an image holds is a sound one: the world that it opens to is sound.
-use Rattle.std.proofs.Common.{◌≡◌, ◌≢◌, ◌⊎◌, ◌∙◌, sym, refl, ap, ℕ, zero, suc, ◌+◌, ◌-◌, ◌*◌, ◌<◌, ◌≤◌, Bool, true, false, ◌&&◌, ◌==◌, cond, IsTrue, IfSome, List, [], ◌∷◌, ◌++◌, length, get_or, map, take, drop, slice_get, sum_by, flat_map, Option, Some, None, nat_lt, arith, inl, inr, subst, zero-add, true≢false}
+use Rattle.std.proofs.Common.{◌≡◌, ◌⊎◌, ◌∙◌, sym, refl, ap, ℕ, zero, suc, ◌+◌, ◌-◌, ◌*◌, ◌<◌, ◌≤◌, Bool, true, false, cond, IfSome, List, [], ◌∷◌, ◌++◌, length, get_or, map, take, drop, slice_get, sum_by, flat_map, Option, Some, None, nat_lt, arith, inl, inr, subst, true≢false}
 use Rattle.std.specs.List.{AllByRecursion}
-use Rattle.std.specs.Int.{to_be_bytes, w16, w32, w64}
+use Rattle.std.specs.Int.{to_be_bytes, w16, w32}
 use Rattle.std.proofs.lemmas.List.{length-append, length-take, length-drop, length-take-le}
-use Rattle.std.proofs.lemmas.List.Concat.{length-flat_map}
 use Rattle.std.proofs.lemmas.List.Sums.{sum_by-cons}
 use Rattle.std.proofs.lemmas.Option.{none-some, same_Some}
 use Rattle.iso_model.specs.declared.access.Access.{Access}
 use Rattle.iso_model.specs.declared.access.Commit.{Commit}
 use Rattle.iso_model.specs.declared.access.Geometry.{Geometry}
-use Rattle.iso_model.specs.declared.access.Kind.TheVariants.{Read, Write}
+use Rattle.iso_model.specs.declared.access.Kind.TheVariants.{Read}
 use Rattle.iso_model.specs.declared.access.Mode.{Mode}
 use Rattle.iso_model.specs.declared.access.Mode.TheVariants.{Serial, Snapshot}
 use Rattle.iso_model.specs.declared.access.Run.{Run}
 use Rattle.iso_model.specs.declared.limits.TheConstants.{LAST}
 use Rattle.iso_model.specs.Array.{Array}
-use Rattle.iso_model.specs.Conflict.{IsSerialAt, IsSnapshotAt}
 use Rattle.iso_model.specs.Effect.{covers, runs, record_length}
-use Rattle.iso_model.specs.Geometry.{half_size, image_size, header_place, base_place, log_place}
-use Rattle.iso_model.specs.History.{History, last}
-use Rattle.iso_model.specs.Image.{IsRun, AreRuns, IsRecord, IsImage, Written, written, commit_of, commits_of, records, spell, part, kind_of, blocks_of, chosen_half, current_half}
+use Rattle.iso_model.specs.Geometry.{image_size, base_place, log_place}
+use Rattle.iso_model.specs.History.{History}
+use Rattle.iso_model.specs.Image.{AreRuns, IsRecord, IsImage, Written, written, commit_of, commits_of, records, spell, part, kind_of, blocks_of, chosen_half}
 use Rattle.iso_model.specs.Isolation.{IsIsolated, IsIsolatedAt}
-use Rattle.iso_model.specs.Premises.{IsAccess, AreAccesses, HasShape, IsHistory, HaveBegun, recorded}
+use Rattle.iso_model.specs.Premises.{AreAccesses, recorded}
 use Rattle.iso_model.specs.World.{used, fresh}
-use Rattle.iso_model.specs.Worlds.{AreRecords, IsWorld}
+use Rattle.iso_model.specs.Worlds.{IsWorld}
 use Rattle.iso_model.proofs.Unique.{runs_recorded}
 use Rattle.iso_model.proofs.Worlds.{put_is_access, fresh_is}
 
@@ -114,8 +112,8 @@ told_isolated_at : (g : Geometry) (H : History) (k : ℕ) (mode : Mode)
     → ((c : Commit) → slice_get H.commits (k - H.first) ≡ Some c → IsTold g k c) → IsIsolatedAt g H mode k
 told_isolated_at g H k Serial told = if_some_from _ (slice_get H.commits (k - H.first)) (λ c at i p.
     if_some_from _ (slice_get c.accesses i) (λ a is reads.
-      let t = told c at in
-      absurd (no_read g t.list i a a.block p (subst (λ (list : List Access). slice_get list i ≡ Some a) t.accesses is) reads)))
+    let t = told c at in
+    absurd (no_read g t.list i a a.block p (subst (λ (list : List Access). slice_get list i ≡ Some a) t.accesses is) reads)))
 told_isolated_at g H k Snapshot told = if_some_from _ (slice_get H.commits (k - H.first)) (λ c at j after before.
     let t = told c at in
     let begin : c.begin ≡ k - 1 = t.begin in
@@ -124,11 +122,11 @@ told_isolated_at g H k Snapshot told = if_some_from _ (slice_get H.commits (k - 
 told_isolated : (g : Geometry) (H : History) (told : List Written) → H.commits ≡ commits_of g H.first told → IsIsolated g H
 told_isolated g H told is k from to = if_some_from _ (slice_get H.commits (k - H.first)) (λ d there.
     told_isolated_at g H k d.mode (λ c at.
-      let e : H.first + (k - H.first) ≡ k = omega arith in
-      rw e at (told_at g H.first (k - H.first) told c (ap (λ commits. slice_get commits (k - H.first)) (sym is) ∙ at))))
+    let e : H.first + (k - H.first) ≡ k = omega arith in
+    rw e at (told_at g H.first (k - H.first) told c (ap (λ commits. slice_get commits (k - H.first)) (sym is) ∙ at))))
 
 -- the length of the records
-length-part : (run : Run) → length (part run) ≡ 8 + length run.bytes
+pub length-part : (run : Run) → length (part run) ≡ 8 + length run.bytes
 length-part run =
     length-append (to_be_bytes w32 run.block ++ to_be_bytes w16 run.off ++ to_be_bytes w16 (length run.bytes)) run.bytes
 
@@ -162,18 +160,18 @@ opened_is bytes g generation H is =
     let again : map (written g) H.commits ≡ is.told = ap (map (written g)) is.commits ∙ told_again g H.first is.told is.each in
     let dropped : H.first - 1 + 1 - H.first ≡ 0 = omega arith in
     let taken : used (fresh g generation H) ≡ length (records g H.first is.told) =
-      (rw dropped (sym (sum_by-map (λ (w : Written). record_length w.parts) (written g) H.commits)
-        ∙ ap (sum_by (λ (w : Written). record_length w.parts)) again ∙ sym (length-records g H.first is.told))) in
+    (rw dropped (sym (sum_by-map (λ (w : Written). record_length w.parts) (written g) H.commits)
+    ∙ ap (sum_by (λ (w : Written). record_length w.parts)) again ∙ sym (length-records g H.first is.told))) in
     let fits : length (take g.log (drop (log_place g is.half) bytes)) ≤ g.log = omega (arith, length-take g.log (drop (log_place g is.half) bytes)) in
     let whole : length (take g.log (drop (log_place g is.half) bytes)) ≡ length (records g H.first is.told) + suc (length rest) =
-      ap length log ∙ length-append (records g H.first is.told) (gate ∷ rest) in
+    ap length log ∙ length-append (records g H.first is.told) (gate ∷ rest) in
     fresh_is g generation H is.valid
     (record {
       first = is.first;
       base = record {
         blocks = ap length is.base ∙ length-blocks_of g.block g.blocks (drop (base_place g is.half) bytes);
         bytes = λ b below. ap (λ (A : Array). length (get_or A b [])) is.base
-          ∙ block_length g.block g.blocks (drop (base_place g is.half) bytes) b (base_inside g bytes is.half is.size half) below;
+            ∙ block_length g.block g.blocks (drop (base_place g is.half) bytes) b (base_inside g bytes is.half is.size half) below;
       };
       commits = rw is.commits (told_accesses g H.first is.told is.each);
     })

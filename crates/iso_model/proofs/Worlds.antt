@@ -1,11 +1,10 @@
 -- Each step of a sound world leads to a sound one.
-use Rattle.std.proofs.Common.{◌≡◌, ◌≢◌, ◌∙◌, sym, refl, ap, ℕ, zero, suc, ◌+◌, ◌-◌, ◌<◌, ◌≤◌, Bool, true, false, ◌&&◌, ◌||◌, ◌==◌, not, cond, IsTrue, List, [], ◌∷◌, ◌++◌, length, map, filter, find, drop, Option, Some, None, nat_le, nat_lt, sum_by, slice_get, IfSome, arith, inl, inr, eq-eqb, subst}
+use Rattle.std.proofs.Common.{◌≡◌, ◌≢◌, ◌∙◌, sym, refl, ap, ℕ, zero, suc, ◌+◌, ◌-◌, ◌<◌, ◌≤◌, Bool, true, false, ◌&&◌, ◌||◌, ◌==◌, not, cond, IsTrue, List, [], ◌∷◌, ◌++◌, length, filter, find, drop, Option, Some, None, nat_le, nat_lt, sum_by, slice_get, IfSome, arith, eq-eqb, subst}
 use Rattle.std.specs.List.{AllByRecursion}
-use Rattle.std.proofs.lemmas.Bool.{or_parts, and_cases, leb-false, ltb-false, eqb-false, both_ways}
+use Rattle.std.proofs.lemmas.Bool.{or_parts, leb-false, ltb-false, eqb-false}
 use Rattle.std.proofs.lemmas.Option.{same_Some}
-use Rattle.std.proofs.lemmas.List.{append_assoc, append-nil, length_push, drop-append-le, length-append}
+use Rattle.std.proofs.lemmas.List.{append_assoc, append-nil, length_push, drop-append-le}
 use Rattle.std.proofs.lemmas.List.Sums.{sum_by-append}
-use Rattle.std.proofs.lemmas.Grind.{common_steps}
 use Rattle.iso_model.specs.declared.access.Access.{Access}
 use Rattle.iso_model.specs.declared.access.Clash.{Clash}
 use Rattle.iso_model.specs.declared.access.Commit.{Commit}
@@ -24,9 +23,9 @@ use Rattle.iso_model.specs.Geometry.{is_valid, same_mode}
 use Rattle.iso_model.specs.History.{History, last}
 use Rattle.iso_model.specs.Image.{IsRecord, written}
 use Rattle.iso_model.specs.Isolation.{IsIsolated, IsIsolatedAt}
-use Rattle.iso_model.specs.Premises.{IsSpan, IsAccess, AreAccesses, IsHistory, HaveBegun, appended}
+use Rattle.iso_model.specs.Premises.{IsAccess, AreAccesses, IsHistory, HaveBegun, appended}
 use Rattle.iso_model.specs.Script.{after}
-use Rattle.iso_model.specs.Step.{step, begin_step, put_step, read_step, commit_step, end_step, put_access, read_access, with_live, with_access, after_leaving, after_commit, after_begin, mode_named, need, out_of_transaction, in_transaction}
+use Rattle.iso_model.specs.Step.{step, begin_step, put_step, read_step, commit_step, end_step, put_access, read_access, with_access, after_leaving, after_commit, after_begin, mode_named, need, out_of_transaction, in_transaction}
 use Rattle.iso_model.specs.World.{World, Live, client, used, fresh, empty_history, attached, without, with, is_at_client}
 use Rattle.iso_model.specs.Worlds.{MayHave, IsLive, AreRecords, Extends, IsWorld, LeadsTo}
 use Rattle.iso_model.proofs.Bounds.{limits}
@@ -40,10 +39,10 @@ use Rattle.iso_model.proofs.Written.{runs_where_write}
 pub put_is_access : (g : Geometry) (block off : ℕ) (bytes : List ℕ) → block < g.blocks → 0 < length bytes → off + length bytes ≤ g.block
     → IsAccess g (put_access g.block block off bytes)
 put_is_access g block off bytes below some fits = record {
-    block = below;
-    spans = (record { some = some; fits = fits }, tt);
-    bytes = λ write. length-recorded g.block (record { block = block; off = off; bytes = bytes }) fits;
-  }
+  block = below;
+  spans = (record { some = some; fits = fits }, tt);
+  bytes = λ write. length-recorded g.block (record { block = block; off = off; bytes = bytes }) fits;
+}
 
 pub read_is_access : (g : Geometry) (block : ℕ) → block < g.blocks → IsAccess g (read_access block)
 read_is_access g block below = record { block = below; spans = tt; bytes = λ write. cc }
@@ -60,7 +59,9 @@ all_filter : {X : Type 0} (P : X → Type 0) (test : X → Bool) (xs : List X) �
 all_filter P test [] all = tt
 all_filter P test (x ∷ xs) all =
     elim (test x) as (λ t. AllByRecursion P (cond t (x ∷ filter test xs) (filter test xs))) [
-      true ↦ (all.0, all_filter P test xs all.1) | false ↦ all_filter P test xs all.1 ]
+      | true ↦ (all.0, all_filter P test xs all.1)
+      | false ↦ all_filter P test xs all.1
+    ]
 
 all_with : (P : Live → Type 0) (t : Live) (live : List Live) → P t → AllByRecursion P live → AllByRecursion P (with t live)
 all_with P t [] is all = tt
@@ -86,18 +87,18 @@ extends_itself H = record { first = refl; base = refl; more = []; commits = sym 
 
 extends_on : (H G K : History) → Extends H G → Extends G K → Extends H K
 extends_on H G K first second = record {
-    first = second.first ∙ first.first;
-    base = second.base ∙ first.base;
-    more = first.more ++ second.more;
-    commits = second.commits ∙ ap (λ xs. xs ++ second.more) first.commits ∙ append_assoc H.commits first.more second.more;
-  }
+  first = second.first ∙ first.first;
+  base = second.base ∙ first.base;
+  more = first.more ++ second.more;
+  commits = second.commits ∙ ap (λ xs. xs ++ second.more) first.commits ∙ append_assoc H.commits first.more second.more;
+}
 
 leads_on : (W V U : World) → LeadsTo W V → LeadsTo V U → LeadsTo W U
 leads_on W V U first second = record {
-    world = second.world;
-    geometry = second.geometry ∙ first.geometry;
-    history = extends_on W.history V.history U.history first.history second.history;
-  }
+  world = second.world;
+  geometry = second.geometry ∙ first.geometry;
+  history = extends_on W.history V.history U.history first.history second.history;
+}
 
 stays : (W : World) → IsWorld W → LeadsTo W W
 stays W is = record { world = is; geometry = refl; history = extends_itself W.history }
@@ -106,21 +107,21 @@ stays W is = record { world = is; geometry = refl; history = extends_itself W.hi
 lives_on : (W : World) (live : List Live) (next : ℕ) → IsWorld W → AllByRecursion (IsLive W.geometry W.history) live
     → LeadsTo W (record W { live = live; next = next })
 lives_on W live next is all = record {
-    world = record {
-      valid = is.valid;
-      history = is.history;
-      begun = is.begun;
-      isolated = is.isolated;
-      records = is.records;
-      numbers = is.numbers;
-      since = is.since;
-      base = is.base;
-      room = is.room;
-      live = all;
-    };
-    geometry = refl;
-    history = extends_itself W.history;
-  }
+  world = record {
+    valid = is.valid;
+    history = is.history;
+    begun = is.begun;
+    isolated = is.isolated;
+    records = is.records;
+    numbers = is.numbers;
+    since = is.since;
+    base = is.base;
+    room = is.room;
+    live = all;
+  };
+  geometry = refl;
+  history = extends_itself W.history;
+}
 
 leaves : (W : World) (t : Live) → IsWorld W → LeadsTo W (after_leaving W t)
 leaves W t is = lives_on W (without t.number W.live) W.next is (all_filter (IsLive W.geometry W.history) (λ u. not (u.number == t.number)) W.live is.live)
@@ -129,7 +130,7 @@ accesses_more : (W : World) (t : Live) (a : Access) → IsWorld W → IsLive W.g
 accesses_more W t a is live access =
     lives_on W (with (record t { accesses = t.accesses ++ a ∷ [] }) W.live) W.next is
     (all_with (IsLive W.geometry W.history) (record t { accesses = t.accesses ++ a ∷ [] }) W.live
-      (record { accesses = all_push (IsAccess W.geometry) t.accesses a live.accesses access; since = live.since; begin = live.begin; mode = live.mode }) is.live)
+    (record { accesses = all_push (IsAccess W.geometry) t.accesses a live.accesses access; since = live.since; begin = live.begin; mode = live.mode }) is.live)
 
 live_stays : (g : Geometry) (H : History) (c : Commit) (t : Live) → IsLive g H t → IsLive g (appended H c) t
 live_stays g H c t is =
@@ -161,19 +162,19 @@ begin_leads : (W : World) (c : ℕ) (mode : Mode) → IsWorld W → LeadsTo W (b
 unfolding begin_step
 begin_leads W c mode is =
     chosen W ((W.geometry.form == 1) && not (same_mode mode W.geometry.mode)) _ _ (stays W is) (λ test.
-      chosen W (nat_le MAX_LIVE (length W.live)) _ _ (stays W is) (λ few.
-        chosen W (nat_lt LAST W.next) _ _ (stays W is) (λ fresh. begins W c mode is (may_have W.geometry mode test))))
+    chosen W (nat_le MAX_LIVE (length W.live)) _ _ (stays W is) (λ few.
+    chosen W (nat_lt LAST W.next) _ _ (stays W is) (λ fresh. begins W c mode is (may_have W.geometry mode test))))
 
 put_leads : (W : World) (t : Live) (block off : ℕ) (bytes : List ℕ) → IsWorld W → IsLive W.geometry W.history t → LeadsTo W (put_step W t block off bytes).1
 unfolding put_step
 put_leads W t block off bytes is live =
     chosen W (nat_le W.geometry.blocks block) _ _ (stays W is) (λ inside.
-      chosen W ((length bytes == 0) || nat_lt W.geometry.block (off + length bytes)) _ _ (stays W is) (λ range.
-        chosen W (nat_le MAX_ACCESSES (length t.accesses)) _ _ (stays W is) (λ few.
-          let both = or_parts (length bytes == 0) (nat_lt W.geometry.block (off + length bytes)) range in
-          let some : 0 < length bytes = above_none (length bytes) (eqb-false (length bytes) 0 both.0) in
-          accesses_more W t (put_access W.geometry.block block off bytes) is live
-          (put_is_access W.geometry block off bytes (leb-false W.geometry.blocks block inside) some (ltb-false W.geometry.block (off + length bytes) both.1)))))
+    chosen W ((length bytes == 0) || nat_lt W.geometry.block (off + length bytes)) _ _ (stays W is) (λ range.
+    chosen W (nat_le MAX_ACCESSES (length t.accesses)) _ _ (stays W is) (λ few.
+    let both = or_parts (length bytes == 0) (nat_lt W.geometry.block (off + length bytes)) range in
+    let some : 0 < length bytes = above_none (length bytes) (eqb-false (length bytes) 0 both.0) in
+    accesses_more W t (put_access W.geometry.block block off bytes) is live
+    (put_is_access W.geometry block off bytes (leb-false W.geometry.blocks block inside) some (ltb-false W.geometry.block (off + length bytes) both.1)))))
   where
     above_none : (n : ℕ) → (n ≡ 0 → ⊥) → 0 < n
     above_none zero not = absurd (not refl)
@@ -183,8 +184,8 @@ read_leads : (W : World) (t : Live) (block : ℕ) → IsWorld W → IsLive W.geo
 unfolding read_step
 read_leads W t block is live =
     chosen W (nat_le W.geometry.blocks block) _ _ (stays W is) (λ inside.
-      chosen W (nat_le MAX_ACCESSES (length t.accesses)) _ _ (stays W is) (λ few.
-        accesses_more W t (read_access block) is live (read_is_access W.geometry block (leb-false W.geometry.blocks block inside))))
+    chosen W (nat_le MAX_ACCESSES (length t.accesses)) _ _ (stays W is) (λ few.
+    accesses_more W t (read_access block) is live (read_is_access W.geometry block (leb-false W.geometry.blocks block inside))))
 
 -- the commit that a live transaction becomes
 abbrev commit : Live → Commit
@@ -219,7 +220,7 @@ commits W t is live write none unworn fits =
         base = (let before : W.base ≤ last W.history = is.base in omega arith);
         room = (let room : used W + 1 ≤ W.geometry.log = is.room in omega arith);
         live = all_weaker (IsLive W.geometry W.history) (IsLive W.geometry (appended W.history (commit t))) (live_stays W.geometry W.history (commit t))
-          (without t.number W.live) (all_filter (IsLive W.geometry W.history) (λ u. not (u.number == t.number)) W.live is.live);
+            (without t.number W.live) (all_filter (IsLive W.geometry W.history) (λ u. not (u.number == t.number)) W.live is.live);
       };
       geometry = refl;
       history = record { first = refl; base = refl; more = commit t ∷ []; commits = refl };
@@ -234,8 +235,8 @@ unfolding commit_step
 commit_leads W t (Some c) is live write found = leaves W t is
 commit_leads W t None is live write none =
     chosen W (last W.history == LAST) _ _ (stays W is) (λ unworn.
-      chosen W (nat_lt (W.geometry.log - used W) (need W t)) _ _ (stays W is) (λ fits.
-        commits W t is live write none (eqb-false (last W.history) LAST unworn) (ltb-false (W.geometry.log - used W) (need W t) fits)))
+    chosen W (nat_lt (W.geometry.log - used W) (need W t)) _ _ (stays W is) (λ fits.
+    commits W t is live write none (eqb-false (last W.history) LAST unworn) (ltb-false (W.geometry.log - used W) (need W t) fits)))
 
 end_leads : (W : World) (t : Live) → IsWorld W → IsLive W.geometry W.history t → LeadsTo W (end_step W t).1
 unfolding end_step

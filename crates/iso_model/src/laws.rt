@@ -145,3 +145,10 @@ pub fn worlds_stay_sound()
 pub fn images_open_to_sound_worlds()
     ensures { (bytes : List ℕ) (g : Geometry) (generation : ℕ) (H : History) → IsImage bytes g generation H → IsWorld (fresh g generation H) }
 {}
+
+/// An image tells one geometry, one generation and one history.
+pub fn images_hold_one_history()
+    ensures geometry { (bytes : List ℕ) (g f : Geometry) (m n : ℕ) (H G : History) → IsImage bytes g m H → IsImage bytes f n G → g ≡ f }
+    ensures generation { (bytes : List ℕ) (g f : Geometry) (m n : ℕ) (H G : History) → IsImage bytes g m H → IsImage bytes f n G → m ≡ n }
+    ensures history { (bytes : List ℕ) (g f : Geometry) (m n : ℕ) (H G : History) → IsImage bytes g m H → IsImage bytes f n G → H ≡ G }
+{}
