@@ -19,7 +19,7 @@ use Rattle.iso_model.specs.Conflict.{clash, guarded, IsClash, IsSerialAt, IsSnap
 use Rattle.iso_model.specs.Isolation.{IsIsolatedAt, IsIsolated}
 use Rattle.iso_model.specs.Premises.{block_at, IsAccess, AreAccesses, IsHistory, HaveBegun, appended}
 use Rattle.iso_model.proofs.Bytes.{own_at, length-block_own, length-block_all_own, touches_where_effect}
-use Rattle.iso_model.proofs.Recorded.{bytes_of_accesses}
+use Rattle.iso_model.proofs.Recorded.{CommitsOf, bytes_of_accesses}
 use Rattle.iso_model.proofs.Written.{covers_where}
 use Rattle.iso_model.proofs.Clashes.{none_from_clash, slice_get-drop}
 
@@ -33,9 +33,6 @@ own_kept : (g : Geometry) (A : Array) (accesses : List Access) (b p : ℕ) → A
 own_kept g A accesses b p all same inside not =
     own_at A accesses b p g.block (bytes_of_accesses g accesses all) same inside
     ∙ ap (λ o. unwrap_or o (byte_at A b p)) (none_from_is_some (effect_at accesses b p) (sym (touches_where_effect accesses b p) ∙ not))
-
-abbrev CommitsOf : Geometry → List Commit → Type 0
-CommitsOf g commits = AllByRecursion (λ c. AreAccesses g c.accesses) commits
 
 -- so do commits that do not
 all_own_kept : (g : Geometry) (A : Array) (commits : List Commit) (b p : ℕ) → CommitsOf g commits → length (block_at A b) ≡ g.block → p < g.block
@@ -189,7 +186,8 @@ no_meeting g H n accesses j d x y a b all none after is at there writes written 
       guarded = touches_from Write accesses x a a.block meets.1.0 at (covers_where a.block meets.1.0 a writes refl meets.1.2);
     })
 
-if_some_from : {X : Type 0} (P : X → Type 0) (o : Option X) → ((x : X) → o ≡ Some x → P x) → IfSome o P
+-- what holds of the value, if there is one
+pub if_some_from : {X : Type 0} (P : X → Type 0) (o : Option X) → ((x : X) → o ≡ Some x → P x) → IfSome o P
 if_some_from P None each = tt
 if_some_from P (Some x) each = each x refl
 

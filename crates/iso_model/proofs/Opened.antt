@@ -1,5 +1,5 @@
 -- The history that an image holds is a sound one: the world that it opens to is sound.
-use Rattle.std.proofs.Common.{◌≡◌, ◌⊎◌, ◌∙◌, sym, refl, ap, ℕ, zero, suc, ◌+◌, ◌-◌, ◌*◌, ◌<◌, ◌≤◌, Bool, true, false, cond, IfSome, List, [], ◌∷◌, ◌++◌, length, get_or, map, take, drop, slice_get, sum_by, flat_map, Option, Some, None, nat_lt, arith, inl, inr, subst, true≢false}
+use Rattle.std.proofs.Common.{◌≡◌, ◌⊎◌, ◌∙◌, sym, refl, ap, ℕ, zero, suc, ◌+◌, ◌-◌, ◌*◌, ◌<◌, ◌≤◌, Bool, true, false, cond, List, [], ◌∷◌, ◌++◌, length, get_or, map, take, drop, slice_get, sum_by, flat_map, Some, nat_lt, arith, inl, inr, subst, true≢false}
 use Rattle.std.specs.List.{AllByRecursion}
 use Rattle.std.specs.Int.{to_be_bytes, w16, w32}
 use Rattle.std.proofs.lemmas.List.{length-append, length-take, length-drop, length-take-le}
@@ -22,6 +22,7 @@ use Rattle.iso_model.specs.Isolation.{IsIsolated, IsIsolatedAt}
 use Rattle.iso_model.specs.Premises.{AreAccesses, recorded}
 use Rattle.iso_model.specs.World.{used, fresh}
 use Rattle.iso_model.specs.Worlds.{IsWorld}
+use Rattle.iso_model.proofs.Isolation.{if_some_from}
 use Rattle.iso_model.proofs.Unique.{runs_recorded}
 use Rattle.iso_model.proofs.Worlds.{put_is_access, fresh_is}
 
@@ -103,10 +104,6 @@ told_at g n zero (w ∷ told) c at =
 told_at g n (suc i) (w ∷ told) c at =
     let e : n + suc i ≡ n + 1 + i = omega arith in
     rw e (told_at g (n + 1) i told c at)
-
-if_some_from : {X : Type 0} (P : X → Type 0) (o : Option X) → ((x : X) → o ≡ Some x → P x) → IfSome o P
-if_some_from P None each = tt
-if_some_from P (Some x) each = each x refl
 
 told_isolated_at : (g : Geometry) (H : History) (k : ℕ) (mode : Mode)
     → ((c : Commit) → slice_get H.commits (k - H.first) ≡ Some c → IsTold g k c) → IsIsolatedAt g H mode k

@@ -101,7 +101,8 @@ own_same g A xs ys shape first second same =
     ∙ ap (λ o. unwrap_or o (byte_at A b p)) (same b p block inside)
     ∙ sym (own_at A ys b p g.block second (shape.bytes b block) inside))
 
-abbrev CommitsOf : Geometry → List Commit → Type 0
+-- commits of accesses to the array
+abbrev pub CommitsOf : Geometry → List Commit → Type 0
 CommitsOf g commits = AllByRecursion (λ c. AreAccesses g c.accesses) commits
 
 -- the commits as their records tell them leave the same arrays
