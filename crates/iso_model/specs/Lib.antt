@@ -8,3 +8,6 @@ pub mod Step
 pub mod Script
 pub mod Image
 pub mod Text
+pub mod Premises
+pub mod Isolation
+pub mod Worlds

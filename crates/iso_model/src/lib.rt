@@ -3,6 +3,7 @@
 
 mod access;
 mod items;
+pub mod laws;
 mod limits;
 mod memory;
 mod parts;

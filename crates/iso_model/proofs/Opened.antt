@@ -1,0 +1,179 @@
+-- The history that an image holds is a sound one: the world that it opens to is sound.
+use Rattle.std.proofs.Common.{◌≡◌, ◌⊎◌, ◌∙◌, sym, refl, ap, ℕ, zero, suc, ◌+◌, ◌-◌, ◌*◌, ◌<◌, ◌≤◌, Bool, true, false, cond, List, [], ◌∷◌, ◌++◌, length, get_or, map, take, drop, slice_get, sum_by, flat_map, Some, nat_lt, arith, inl, inr, subst, true≢false}
+use Rattle.std.specs.List.{AllByRecursion}
+use Rattle.std.specs.Int.{to_be_bytes, w16, w32}
+use Rattle.std.proofs.lemmas.List.{length-append, length-take, length-drop, length-take-le}
+use Rattle.std.proofs.lemmas.List.Sums.{sum_by-cons}
+use Rattle.std.proofs.lemmas.Option.{none-some, same_Some}
+use Rattle.iso_model.specs.declared.access.Access.{Access}
+use Rattle.iso_model.specs.declared.access.Commit.{Commit}
+use Rattle.iso_model.specs.declared.access.Geometry.{Geometry}
+use Rattle.iso_model.specs.declared.access.Kind.TheVariants.{Read}
+use Rattle.iso_model.specs.declared.access.Mode.{Mode}
+use Rattle.iso_model.specs.declared.access.Mode.TheVariants.{Serial, Snapshot}
+use Rattle.iso_model.specs.declared.access.Run.{Run}
+use Rattle.iso_model.specs.declared.limits.TheConstants.{LAST}
+use Rattle.iso_model.specs.Array.{Array}
+use Rattle.iso_model.specs.Effect.{covers, runs, record_length}
+use Rattle.iso_model.specs.Geometry.{image_size, base_place, log_place}
+use Rattle.iso_model.specs.History.{History}
+use Rattle.iso_model.specs.Image.{AreRuns, IsRecord, IsImage, Written, written, commit_of, commits_of, records, spell, part, kind_of, blocks_of, chosen_half}
+use Rattle.iso_model.specs.Isolation.{IsIsolated, IsIsolatedAt}
+use Rattle.iso_model.specs.Premises.{AreAccesses, recorded}
+use Rattle.iso_model.specs.World.{used, fresh}
+use Rattle.iso_model.specs.Worlds.{IsWorld}
+use Rattle.iso_model.proofs.Isolation.{if_some_from}
+use Rattle.iso_model.proofs.Unique.{runs_recorded}
+use Rattle.iso_model.proofs.Worlds.{put_is_access, fresh_is}
+
+-- the half is the first or the second
+half_is : (a : Bool) (m : ℕ) (b : Bool) (n half : ℕ) → chosen_half a m b n ≡ Some half → (half ≡ 0) ⊎ (half ≡ 1)
+half_is true m true n half chosen = go (nat_lt m n) (same_Some _ half chosen)
+  where
+    go : (t : Bool) → cond t 1 0 ≡ half → (half ≡ 0) ⊎ (half ≡ 1)
+    go true e = inr (sym e)
+    go false e = inl (sym e)
+half_is true m false n half chosen = inl (sym (same_Some 0 half chosen))
+half_is false m true n half chosen = inr (sym (same_Some 1 half chosen))
+half_is false m false n half chosen = absurd (none-some half chosen)
+
+length-blocks_of : (size n : ℕ) (bytes : List ℕ) → length (blocks_of size n bytes) ≡ n
+length-blocks_of size zero bytes = refl
+length-blocks_of size (suc n) bytes = ap suc (length-blocks_of size n (drop size bytes))
+
+block_length : (size n : ℕ) (bytes : List ℕ) (b : ℕ) → n * size ≤ length bytes → b < n → length (get_or (blocks_of size n bytes) b []) ≡ size
+block_length size zero bytes b enough below = absurd (omega arith)
+block_length size (suc n) bytes zero enough below = length-take-le size bytes (omega arith)
+block_length size (suc n) bytes (suc b) enough below =
+    block_length size n (drop size bytes) b (omega (arith, length-drop size bytes)) (omega arith)
+
+-- the base lies in the image
+base_inside : (g : Geometry) (bytes : List ℕ) (half : ℕ) → length bytes ≡ image_size g → (half ≡ 0) ⊎ (half ≡ 1)
+    → g.blocks * g.block ≤ length (drop (base_place g half) bytes)
+base_inside g bytes half size (inl first) = rw first (omega (arith, length-drop (base_place g 0) bytes))
+base_inside g bytes half size (inr second) = rw second (omega (arith, length-drop (base_place g 1) bytes))
+
+-- what the records tell
+recorded_accesses : (g : Geometry) (list : List Run) → AreRuns g list → AreAccesses g (recorded g list)
+recorded_accesses g [] all = tt
+recorded_accesses g (x ∷ []) all = (put_is_access g x.block x.off x.bytes all.block all.some all.fits, tt)
+recorded_accesses g (x ∷ y ∷ list) all =
+    (put_is_access g x.block x.off x.bytes all.0.block all.0.some all.0.fits, recorded_accesses g (y ∷ list) all.2)
+
+told_accesses : (g : Geometry) (n : ℕ) (told : List Written) → AllByRecursion (IsRecord g) told
+    → AllByRecursion (λ c. AreAccesses g c.accesses) (commits_of g n told)
+told_accesses g n [] each = tt
+told_accesses g n (w ∷ told) each = (recorded_accesses g w.parts each.0.runs, told_accesses g (n + 1) told each.1)
+
+length-told : (g : Geometry) (n : ℕ) (told : List Written) → length (commits_of g n told) ≡ length told
+length-told g n [] = refl
+length-told g n (w ∷ told) = ap suc (length-told g (n + 1) told)
+
+told_begun : (g : Geometry) (n m : ℕ) (told : List Written) → n + length told - 1 ≤ m → AllByRecursion (λ c. c.begin ≤ m) (commits_of g n told)
+told_begun g n m [] le = tt
+told_begun g n m (w ∷ told) le = (omega arith, told_begun g (n + 1) m told (omega arith))
+
+-- the records of these commits are the ones told
+told_again : (g : Geometry) (n : ℕ) (told : List Written) → AllByRecursion (IsRecord g) told → map (written g) (commits_of g n told) ≡ told
+told_again g n [] each = refl
+told_again g n (w ∷ told) each =
+    let parts : runs g (recorded g w.parts) ≡ w.parts = runs_recorded g w.parts each.0.runs in
+    let rest = told_again g (n + 1) told each.1 in
+    λ i. record { mode = w.mode; parts = parts i } ∷ rest i
+
+-- a write is no read
+no_read : (g : Geometry) (list : List Run) (i : ℕ) (a : Access) (b p : ℕ) → slice_get (recorded g list) i ≡ Some a → covers Read b p a ≡ true → ⊥
+no_read g [] i a b p at reads = none-some a at
+no_read g (x ∷ list) zero a b p at reads =
+    let same = same_Some _ a at in
+    true≢false (sym (subst (λ (c : Access). covers Read b p c ≡ true) (sym same) reads))
+no_read g (x ∷ list) (suc i) a b p at reads = no_read g list i a b p at reads
+
+-- a commit that was told: it began directly before its number, and has a record's writes
+record IsTold (g : Geometry) (k : ℕ) (c : Commit) : Type 0 where
+  list : List Run
+  begin : c.begin ≡ k - 1
+  accesses : c.accesses ≡ recorded g list
+
+told_at : (g : Geometry) (n i : ℕ) (told : List Written) (c : Commit) → slice_get (commits_of g n told) i ≡ Some c → IsTold g (n + i) c
+told_at g n i [] c at = absurd (none-some c at)
+told_at g n zero (w ∷ told) c at =
+    let same : commit_of g n w ≡ c = same_Some _ c at in
+    let e : n + 0 ≡ n = omega arith in
+    rw e (subst (IsTold g n) same (record { list = w.parts; begin = refl; accesses = refl }))
+told_at g n (suc i) (w ∷ told) c at =
+    let e : n + suc i ≡ n + 1 + i = omega arith in
+    rw e (told_at g (n + 1) i told c at)
+
+told_isolated_at : (g : Geometry) (H : History) (k : ℕ) (mode : Mode)
+    → ((c : Commit) → slice_get H.commits (k - H.first) ≡ Some c → IsTold g k c) → IsIsolatedAt g H mode k
+told_isolated_at g H k Serial told = if_some_from _ (slice_get H.commits (k - H.first)) (λ c at i p.
+    if_some_from _ (slice_get c.accesses i) (λ a is reads.
+    let t = told c at in
+    absurd (no_read g t.list i a a.block p (subst (λ (list : List Access). slice_get list i ≡ Some a) t.accesses is) reads)))
+told_isolated_at g H k Snapshot told = if_some_from _ (slice_get H.commits (k - H.first)) (λ c at j after before.
+    let t = told c at in
+    let begin : c.begin ≡ k - 1 = t.begin in
+    absurd (omega arith))
+
+told_isolated : (g : Geometry) (H : History) (told : List Written) → H.commits ≡ commits_of g H.first told → IsIsolated g H
+told_isolated g H told is k from to = if_some_from _ (slice_get H.commits (k - H.first)) (λ d there.
+    told_isolated_at g H k d.mode (λ c at.
+    let e : H.first + (k - H.first) ≡ k = omega arith in
+    rw e at (told_at g H.first (k - H.first) told c (ap (λ commits. slice_get commits (k - H.first)) (sym is) ∙ at))))
+
+-- the length of the records
+pub length-part : (run : Run) → length (part run) ≡ 8 + length run.bytes
+length-part run =
+    length-append (to_be_bytes w32 run.block ++ to_be_bytes w16 run.off ++ to_be_bytes w16 (length run.bytes)) run.bytes
+
+length-parts : (parts : List Run) → length (flat_map part parts) ≡ sum_by (λ run. 8 + length run.bytes) parts
+length-parts [] = refl
+length-parts (x ∷ more) =
+    length-append (part x) (flat_map part more)
+    ∙ omega (arith, length-part x, length-parts more, sum_by-cons (λ (run : Run). 8 + length run.bytes) x more)
+
+length-spell : (gate kind n : ℕ) (parts : List Run) → length (spell gate kind n parts) ≡ record_length parts
+unfolding spell
+length-spell gate kind n parts = omega (arith, length-parts parts)
+
+length-records : (g : Geometry) (n : ℕ) (told : List Written) → length (records g n told) ≡ sum_by (λ w. record_length w.parts) told
+length-records g n [] = refl
+length-records g n (w ∷ told) =
+    length-append (spell 1 (kind_of g w.mode) n w.parts) (records g (n + 1) told)
+    ∙ omega (arith, length-spell 1 (kind_of g w.mode) n w.parts, length-records g (n + 1) told, sum_by-cons (λ (v : Written). record_length v.parts) w told)
+
+sum_by-map : {X Y : Type 0} (f : Y → ℕ) (h : X → Y) (xs : List X) → sum_by f (map h xs) ≡ sum_by (λ x. f (h x)) xs
+sum_by-map f h [] = refl
+sum_by-map f h (x ∷ xs) = sum_by-cons f (h x) (map h xs) ∙ ap (λ n. f (h x) + n) (sum_by-map f h xs) ∙ sym (sum_by-cons (λ y. f (h y)) x xs)
+
+-- the world that an image opens to
+pub opened_is : (bytes : List ℕ) (g : Geometry) (generation : ℕ) (H : History) → IsImage bytes g generation H → IsWorld (fresh g generation H)
+opened_is bytes g generation H is =
+    let half = half_is _ _ _ _ is.half is.current in
+    let first : 0 < H.first = is.first in
+    let count : length H.commits ≡ length is.told = ap length is.commits ∙ length-told g H.first is.told in
+    let (gate, rest, closed, log) = is.log in
+    let again : map (written g) H.commits ≡ is.told = ap (map (written g)) is.commits ∙ told_again g H.first is.told is.each in
+    let dropped : H.first - 1 + 1 - H.first ≡ 0 = omega arith in
+    let taken : used (fresh g generation H) ≡ length (records g H.first is.told) =
+    (rw dropped (sym (sum_by-map (λ (w : Written). record_length w.parts) (written g) H.commits)
+    ∙ ap (sum_by (λ (w : Written). record_length w.parts)) again ∙ sym (length-records g H.first is.told))) in
+    let fits : length (take g.log (drop (log_place g is.half) bytes)) ≤ g.log = omega (arith, length-take g.log (drop (log_place g is.half) bytes)) in
+    let whole : length (take g.log (drop (log_place g is.half) bytes)) ≡ length (records g H.first is.told) + suc (length rest) =
+    ap length log ∙ length-append (records g H.first is.told) (gate ∷ rest) in
+    fresh_is g generation H is.valid
+    (record {
+      first = is.first;
+      base = record {
+        blocks = ap length is.base ∙ length-blocks_of g.block g.blocks (drop (base_place g is.half) bytes);
+        bytes = λ b below. ap (λ (A : Array). length (get_or A b [])) is.base
+            ∙ block_length g.block g.blocks (drop (base_place g is.half) bytes) b (base_inside g bytes is.half is.size half) below;
+      };
+      commits = rw is.commits (told_accesses g H.first is.told is.each);
+    })
+    (rw is.commits (told_begun g H.first (H.first + length (commits_of g H.first is.told) - 1) is.told (omega (arith, length-told g H.first is.told))))
+    (told_isolated g H is.told is.commits)
+    (subst (AllByRecursion (IsRecord g)) (sym again) is.each)
+    (let bound : H.first + length is.told - 1 ≤ LAST = is.last in omega arith)
+    (omega arith)

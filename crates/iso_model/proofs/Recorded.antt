@@ -1,0 +1,142 @@
+-- The writes that a record stands for have the effect of those that it was made of.
+use Rattle.std.proofs.Common.{◌≡◌, ◌∙◌, sym, refl, ap, ℕ, zero, suc, ◌+◌, ◌-◌, ◌<◌, ◌≤◌, Bool, true, false, ◌&&◌, ◌||◌, ◌==◌, nat_le, nat_lt, cond, IfSome, List, [], ◌∷◌, ◌++◌, length, get_or, map, take, replicate, Some, None, slice_get, unwrap_or, arith}
+use Rattle.std.specs.List.{AllByRecursion}
+use Rattle.std.proofs.lemmas.Bool.{and_parts, leb-true, ltb-true}
+use Rattle.std.proofs.lemmas.List.{length-replicate, length-append, get_or_append_left, get_or-append_right, ext_get_or}
+use Rattle.iso_model.specs.declared.access.Access.{Access}
+use Rattle.iso_model.specs.declared.access.Commit.{Commit}
+use Rattle.iso_model.specs.declared.access.Geometry.{Geometry}
+use Rattle.iso_model.specs.declared.access.Run.{Run}
+use Rattle.iso_model.specs.declared.access.Span.{Span}
+use Rattle.iso_model.specs.declared.access.Kind.TheVariants.{Write}
+use Rattle.iso_model.specs.Array.{Array, in_span, byte_at}
+use Rattle.iso_model.specs.Effect.{covers, or_else, effect_at, own, runs}
+use Rattle.iso_model.specs.History.{History, last, array_at, all_own}
+use Rattle.iso_model.specs.Image.{AreRuns, IsImage, SameEffect, SameCommit, Shows, written, commits_of, logged}
+use Rattle.iso_model.specs.Step.{put_access}
+use Rattle.iso_model.specs.Premises.{HasShape, HasBytes, AreAccesses, IsHistory, in_run, value_of, value_in, recorded}
+use Rattle.iso_model.proofs.Bytes.{own_at, length-own, length-block_own}
+use Rattle.iso_model.proofs.Lookups.{value_runs}
+use Rattle.iso_model.proofs.Maximal.{are_runs}
+
+-- a byte of bytes between two others
+between : (off n p : ℕ) (bytes : List ℕ) → off ≤ p → p < off + length bytes → get_or (replicate off 0 ++ bytes ++ replicate n 0) p 0 ≡ get_or bytes (p - off) 0
+between off n p bytes from below =
+    get_or_append_left (replicate off 0 ++ bytes) (replicate n 0) 0 p (omega (arith, length-append (replicate off 0) bytes, length-replicate {A = ℕ} off 0))
+    ∙ get_or-append_right (replicate off 0) bytes off p 0 (length-replicate {A = ℕ} off 0) from
+
+or_false : (t : Bool) → (t || false) ≡ t
+or_false true = refl
+or_false false = refl
+
+span_bounds : (p : ℕ) (span : Span) → in_span p span ≡ true → (span.off ≤ p) × (p < span.off + span.len)
+span_bounds p span within =
+    let both = and_parts (nat_le span.off p) (nat_lt p (span.off + span.len)) within in
+    (leb-true _ _ both.0, ltb-true _ _ both.1)
+
+-- a value where the test holds
+same_where : (test : Bool) (x y : ℕ) → (test ≡ true → x ≡ y) → cond test (Some x) None ≡ cond test (Some y) None
+same_where true x y same = ap Some (same refl)
+same_where false x y same = refl
+
+-- a write of a run has the run's values
+recorded_at : (size : ℕ) (run : Run) (b p : ℕ)
+    → cond (covers Write b p (put_access size run.block run.off run.bytes)) (Some (get_or (put_access size run.block run.off run.bytes).bytes p 0)) None ≡ value_of run b p
+recorded_at size run b p =
+    ap (λ t. cond ((run.block == b) && t) (Some (get_or (put_access size run.block run.off run.bytes).bytes p 0)) None)
+    (or_false (in_span p (record { off = run.off; len = length run.bytes })))
+    ∙ same_where (in_run b p run) (get_or (put_access size run.block run.off run.bytes).bytes p 0) (get_or run.bytes (p - run.off) 0)
+    (λ within.
+    let bounds = span_bounds p (record { off = run.off; len = length run.bytes }) (and_parts _ _ within).1 in
+    between run.off (size - (run.off + length run.bytes)) p run.bytes bounds.0 bounds.1)
+
+pub effect_recorded : (g : Geometry) (list : List Run) (b p : ℕ) → effect_at (recorded g list) b p ≡ value_in list b p
+effect_recorded g [] b p = refl
+effect_recorded g (run ∷ more) b p =
+    ap (λ o. or_else o (cond (covers Write b p (put_access g.block run.block run.off run.bytes)) (Some (get_or (put_access g.block run.block run.off run.bytes).bytes p 0)) None))
+    (effect_recorded g more b p)
+    ∙ ap (or_else (value_in more b p)) (recorded_at g.block run b p)
+
+-- a record's writes have the effect of the accesses
+pub same_effect : (g : Geometry) (accesses : List Access) → SameEffect g (recorded g (runs g accesses)) accesses
+same_effect g accesses b p block inside = effect_recorded g (runs g accesses) b p ∙ value_runs g accesses b p block inside
+
+pub length-recorded : (size : ℕ) (run : Run) → run.off + length run.bytes ≤ size → length (put_access size run.block run.off run.bytes).bytes ≡ size
+length-recorded size run fits =
+    length-append (replicate run.off 0 ++ run.bytes) (replicate (size - (run.off + length run.bytes)) 0)
+    ∙ omega (arith, length-append (replicate run.off 0) run.bytes, length-replicate {A = ℕ} run.off 0, length-replicate {A = ℕ} (size - (run.off + length run.bytes)) 0)
+
+recorded_bytes : (g : Geometry) (list : List Run) → AreRuns g list → AllByRecursion (HasBytes g.block) (recorded g list)
+recorded_bytes g [] all = tt
+recorded_bytes g (x ∷ []) all = (λ write. length-recorded g.block x all.fits, tt)
+recorded_bytes g (x ∷ y ∷ more) all = (λ write. length-recorded g.block x all.0.fits, recorded_bytes g (y ∷ more) all.2)
+
+pub bytes_of_accesses : (g : Geometry) (accesses : List Access) → AreAccesses g accesses → AllByRecursion (HasBytes g.block) accesses
+bytes_of_accesses g [] all = tt
+bytes_of_accesses g (a ∷ accesses) all = (all.0.bytes, bytes_of_accesses g accesses all.1)
+
+-- arrays of one shape with the same bytes are one
+pub same_arrays : (g : Geometry) (A B : Array) → HasShape g A → HasShape g B
+    → ((b p : ℕ) → b < g.blocks → p < g.block → byte_at A b p ≡ byte_at B b p) → A ≡ B
+same_arrays g A B first second each =
+    let la : length A ≡ g.blocks = first.blocks in
+    let lb : length B ≡ g.blocks = second.blocks in
+    ext_get_or [] A B (la ∙ sym lb) (λ b below.
+    let block : b < g.blocks = omega arith in
+    let ba : length (get_or A b []) ≡ g.block = first.bytes b block in
+    ext_get_or 0 (get_or A b []) (get_or B b []) (ba ∙ sym (second.bytes b block)) (λ p inside. each b p block (omega arith)))
+
+pub own_shape : (g : Geometry) (A : Array) (accesses : List Access) → HasShape g A → HasShape g (own A accesses)
+own_shape g A accesses shape = record {
+  blocks = length-own A accesses ∙ shape.blocks;
+  bytes = λ b below. length-block_own A accesses b ∙ shape.bytes b below;
+}
+
+-- lists with one effect leave one array
+own_same : (g : Geometry) (A : Array) (xs ys : List Access) → HasShape g A → AllByRecursion (HasBytes g.block) xs → AllByRecursion (HasBytes g.block) ys
+    → SameEffect g xs ys → own A xs ≡ own A ys
+own_same g A xs ys shape first second same =
+    same_arrays g (own A xs) (own A ys) (own_shape g A xs shape) (own_shape g A ys shape) (λ b p block inside.
+    own_at A xs b p g.block first (shape.bytes b block) inside
+    ∙ ap (λ o. unwrap_or o (byte_at A b p)) (same b p block inside)
+    ∙ sym (own_at A ys b p g.block second (shape.bytes b block) inside))
+
+-- commits of accesses to the array
+abbrev pub CommitsOf : Geometry → List Commit → Type 0
+CommitsOf g commits = AllByRecursion (λ c. AreAccesses g c.accesses) commits
+
+-- the commits as their records tell them leave the same arrays
+all_own_logged : (g : Geometry) (A : Array) (n m : ℕ) (commits : List Commit) → HasShape g A → CommitsOf g commits
+    → all_own A (take m (commits_of g n (map (written g) commits))) ≡ all_own A (take m commits)
+all_own_logged g A n zero commits shape all = refl
+all_own_logged g A n (suc m) [] shape all = refl
+all_own_logged g A n (suc m) (c ∷ commits) shape all =
+    ap (λ B. all_own B (take m (commits_of g (n + 1) (map (written g) commits))))
+    (own_same g A (recorded g (runs g c.accesses)) c.accesses shape (recorded_bytes g (runs g c.accesses) (are_runs g c.accesses))
+    (bytes_of_accesses g c.accesses all.0) (same_effect g c.accesses))
+    ∙ all_own_logged g (own A c.accesses) (n + 1) m commits (own_shape g A c.accesses shape) all.1
+
+pub same_array : (g : Geometry) (H : History) (n : ℕ) → IsHistory g H → array_at (logged g H) n ≡ array_at H n
+same_array g H n is = all_own_logged g H.base H.first (n + 1 - H.first) H.commits is.base is.commits
+
+length-logged : (g : Geometry) (n : ℕ) (commits : List Commit) → length (commits_of g n (map (written g) commits)) ≡ length commits
+length-logged g n [] = refl
+length-logged g n (c ∷ commits) = ap suc (length-logged g (n + 1) commits)
+
+same_commits : (g : Geometry) (n i : ℕ) (commits : List Commit)
+    → IfSome (slice_get (commits_of g n (map (written g) commits)) i) (λ c. IfSome (slice_get commits i) (SameCommit g c))
+same_commits g n i [] = tt
+same_commits g n zero (c ∷ commits) = record { mode = refl; effect = same_effect g c.accesses }
+same_commits g n (suc i) (c ∷ commits) = same_commits g (n + 1) i commits
+
+pub logged_shows : (g : Geometry) (H : History) (bytes : List ℕ) (generation : ℕ) → IsHistory g H → IsImage bytes g generation (logged g H) → Shows bytes g H (last H)
+logged_shows g H bytes generation is image = record {
+  form = g.form;
+  generation = generation;
+  held = logged g H;
+  image = image;
+  last = ap (λ n. H.first + n - 1) (length-logged g H.first H.commits);
+  first = omega arith;
+  arrays = λ n from to. same_array g H n is;
+  commits = λ n from to. same_commits g H.first (n - H.first) H.commits;
+}

@@ -1,0 +1,16 @@
+use Rattle.std.proofs.Common.{◌∙◌, sym}
+use Rattle.iso_model.specs.Effect.{runs}
+use Rattle.iso_model.proofs.Unique.{same_runs}
+use Rattle.iso_model.proofs.Lookups.{value_runs}
+use Rattle.iso_model.proofs.Maximal.{are_runs}
+use Rattle.iso_model.proofs.laws.runs_cover_what_is_written.Goals as goal
+
+pub returns-clause-maximal : goal.returns-clause-maximal
+returns-clause-maximal c = are_runs
+
+pub returns-clause-values : goal.returns-clause-values
+returns-clause-values c = value_runs
+
+pub returns-clause-only : goal.returns-clause-only
+returns-clause-only c = λ g accesses list are same.
+    same_runs g list (runs g accesses) are (are_runs g accesses) (λ b p block inside. same b p block inside ∙ sym (value_runs g accesses b p block inside))
