@@ -1,0 +1,4 @@
+pub mod Covering
+pub mod Runs
+pub mod RunsAreRuns
+pub mod Valid
