@@ -13,11 +13,11 @@ use Rattle.iso_model.specs.Array.{covered, in_span, merged}
 use Rattle.iso_model.specs.Effect.{same_kind, is_write, touches, covers, or_else, effect_at, effects_from}
 use Rattle.plain_world.specs.Bytes.{is_at, laid, values_of, HasBytes}
 
-or_false_left : (x y : Bool) → (x || y) ≡ false → x ≡ false
+pub or_false_left : (x y : Bool) → (x || y) ≡ false → x ≡ false
 or_false_left true y none = none
 or_false_left false y none = refl
 
-or_false_right : (x y : Bool) → (x || y) ≡ false → y ≡ false
+pub or_false_right : (x y : Bool) → (x || y) ≡ false → y ≡ false
 or_false_right true y none = cc
 or_false_right false y none = none
 

@@ -1,6 +1,7 @@
 -- What accesses write in one block.
 use Rattle.std.specs.Prelude.{◌≡◌, ℕ, Bool, ◌&&◌, ◌==◌, cond, IsTrue, List, [], ◌∷◌, Option, Some, None, length}
 use Rattle.iso_model.specs.declared.access.Access.{Access}
+use Rattle.iso_model.specs.declared.access.Commit.{Commit}
 use Rattle.iso_model.specs.declared.access.Kind.{Kind}
 use Rattle.iso_model.specs.declared.access.Kind.TheVariants.{Write}
 use Rattle.iso_model.specs.Array.{merged}
@@ -18,6 +19,11 @@ HasBytes size a = IsTrue (is_write a) → length a.bytes ≡ size
 abbrev pub laid : List Access → (b : ℕ) → List ℕ → List ℕ
 laid [] b bytes = bytes
 laid (a ∷ accesses) b bytes = laid accesses b (cond (is_at Write b a) (merged a.spans 0 bytes a.bytes) bytes)
+
+-- the bytes of block b after the writes of these commits
+abbrev pub laid_all : List Commit → (b : ℕ) → List ℕ → List ℕ
+laid_all [] b bytes = bytes
+laid_all (c ∷ commits) b bytes = laid_all commits b (laid c.accesses b bytes)
 
 -- the marked bytes, each as a value
 abbrev pub values_of : List Bool → List ℕ → List (Option ℕ)

@@ -1,6 +1,6 @@
 -- The world that the fields of a plain world stand for, and what holds of them.
-use Rattle.std.specs.Prelude.{◌≡◌, ℕ, ◌+◌, ◌<◌, ◌≤◌, ◌≢◌, IsTrue, List, [], ◌∷◌, length, map, sum_by}
-use Rattle.std.specs.List.{AllByRecursion}
+use Rattle.std.specs.Prelude.{◌≡◌, ℕ, ◌+◌, ◌<◌, ◌≤◌, ◌≢◌, IsTrue, Option, List, [], ◌∷◌, length, map, sum_by}
+use Rattle.std.specs.List.{All, AllPairs, find}
 use Rattle.iso_model.specs.declared.access.Access.{Access}
 use Rattle.iso_model.specs.declared.access.Commit.{Commit}
 use Rattle.iso_model.specs.declared.access.Geometry.{Geometry}
@@ -10,7 +10,8 @@ use Rattle.iso_model.specs.declared.limits.TheConstants.{LAST, MAX_ACCESSES, MAX
 use Rattle.iso_model.specs.Array.{zeros}
 use Rattle.iso_model.specs.Effect.{is_write, runs, record_length}
 use Rattle.iso_model.specs.Geometry.{is_valid}
-use Rattle.iso_model.specs.World.{World, Live, client}
+use Rattle.iso_model.specs.World.{World, Live, client, is_at_client}
+use Rattle.plain_world.specs.Bytes.{HasBytes}
 use Rattle.plain_world.specs.declared.entry.Attached.{Attached}
 use Rattle.plain_world.specs.declared.entry.Entry.{Entry}
 use Rattle.plain_world.specs.declared.world.PlainWorld.TheInside.{Inside}
@@ -20,6 +21,14 @@ commit_in e = e.commit
 
 abbrev pub live_in : Attached → Live
 live_in t = record { number = t.number; begin = t.begin; mode = t.mode; accesses = t.accesses; place = client t.client }
+
+-- the transaction that is attached to the client
+abbrev pub found : (c : ℕ) → List Attached → Option Live
+found c live = find (λ t. is_at_client c t.place) (map live_in live)
+
+-- each write of the commit has so many bytes
+abbrev pub HaveBytes : ℕ → Entry → Type 0
+HaveBytes size e = All (HasBytes size) e.commit.accesses
 
 -- the world: its history has no base but zeros
 abbrev pub world_of : Inside → World
@@ -41,7 +50,7 @@ pub record IsSpan (size : ℕ) (span : Span) : Type 0 where
 -- an access to a block of the array; a write has the bytes of a whole block
 pub record IsAccess (g : Geometry) (a : Access) : Type 0 where
   pub block : a.block < g.blocks
-  pub spans : AllByRecursion (IsSpan g.block) a.spans
+  pub spans : All (IsSpan g.block) a.spans
   pub bytes : IsTrue (is_write a) → length a.bytes ≡ g.block
 
 -- a mode that a transaction of the image may have
@@ -50,23 +59,22 @@ MayHave g mode = g.form ≡ 1 → mode ≡ g.mode
 
 -- a commit of the image and its runs
 pub record IsEntry (g : Geometry) (e : Entry) : Type 0 where
-  pub accesses : AllByRecursion (IsAccess g) e.commit.accesses
+  pub accesses : All (IsAccess g) e.commit.accesses
   pub parts : e.parts ≡ runs g e.commit.accesses
   pub some : 0 < length e.parts
   pub mode : MayHave g e.commit.mode
 
 -- a live transaction: it began at one of so many commits, and its number is below the next one
 pub record IsAttached (g : Geometry) (commits next : ℕ) (t : Attached) : Type 0 where
-  pub accesses : AllByRecursion (IsAccess g) t.accesses
+  pub accesses : All (IsAccess g) t.accesses
   pub count : length t.accesses ≤ MAX_ACCESSES
   pub begin : t.begin ≤ commits
   pub number : t.number < next
   pub mode : MayHave g t.mode
 
--- no two have one number
+-- their numbers rise
 abbrev pub Numbered : List Attached → Type 0
-Numbered [] = Unit {0}
-Numbered (t ∷ live) = AllByRecursion (λ u. u.number ≢ t.number) live × Numbered live
+Numbered live = AllPairs (λ t u. t.number < u.number) live
 
 -- the bytes that the records of these entries take
 abbrev pub bytes_of : List Entry → ℕ
@@ -75,9 +83,9 @@ bytes_of entries = sum_by (λ e. record_length e.parts) entries
 -- what holds of the fields
 pub record IsSound (a : Inside) : Type 0 where
   pub valid : IsTrue (is_valid a.geometry)
-  pub entries : AllByRecursion (IsEntry a.geometry) a.entries.items
+  pub entries : All (IsEntry a.geometry) a.entries.items
   pub last : length a.entries.items ≤ LAST
-  pub live : AllByRecursion (IsAttached a.geometry (length a.entries.items) a.next) a.live.items
+  pub live : All (IsAttached a.geometry (length a.entries.items) a.next) a.live.items
   pub numbered : Numbered a.live.items
   pub count : length a.live.items ≤ MAX_LIVE
   pub next : a.next ≤ LAST + 1

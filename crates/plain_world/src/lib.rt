@@ -3,7 +3,10 @@
 
 mod bytes;
 mod entry;
+mod meeting;
 mod parts;
+mod reading;
+mod transactions;
 mod world;
 
 pub use world::PlainWorld;

@@ -1,12 +1,12 @@
 // The runs of the bytes that accesses write.
-ghost use Rattle.std.specs.Prelude.{◌≡◌, ℕ, ◌≤◌, ◌++◌, OnOk, IfOk, IsTrue, length};
+ghost use Rattle.std.specs.Prelude.{◌≡◌, ℕ, ◌<◌, ◌≤◌, ◌^◌, ◌++◌, OnOk, IfOk, IsTrue, length};
 ghost use Rattle.std.specs.List.{All};
-ghost use Rattle.iso_model.specs.Effect.{block_runs, runs, runs_from};
+ghost use Rattle.iso_model.specs.Effect.{block_runs, record_length, runs, runs_from};
 ghost use Rattle.iso_model.specs.Geometry.{is_valid};
 ghost use Rattle.plain_world.specs.Bytes.{values_of, HasBytes};
 
 use crate::bytes::{marks_of, some_access_at, written_bytes};
-use iso_model::{Access, Geometry, Kind, Memory, PartList};
+use iso_model::{Access, Geometry, Kind, Memory, PartList, Run};
 use std::alloc::Global;
 
 /// Adds the maximal runs of the marked bytes of a block.
@@ -56,4 +56,16 @@ pub fn runs_of(alloc: Global, geometry: &Geometry, accesses: &[Access]) -> Resul
         }
     }
     Ok(parts)
+}
+
+/// How many bytes the record of these runs has.
+pub fn length_of_record(parts: &[Run]) -> u64
+    requires { record_length parts.now < 2 ^ 64 }
+    ensures { result ≡ record_length parts.now }
+{
+    let mut total = 20;
+    for run in parts {
+        total += 8 + run.bytes.len() as u64;
+    }
+    total
 }
