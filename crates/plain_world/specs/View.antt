@@ -30,17 +30,20 @@ found c live = find (λ t. is_at_client c t.place) (map live_in live)
 abbrev pub HaveBytes : ℕ → Entry → Type 0
 HaveBytes size e = All (HasBytes size) e.commit.accesses
 
--- the world: its history has no base but zeros
-abbrev pub world_of : Inside → World
-world_of a = record {
-  geometry = a.geometry;
-  history = record { first = 1; base = zeros a.geometry.block a.geometry.blocks; commits = map commit_in a.entries.items };
-  live = map live_in a.live.items;
-  next = a.next;
+-- a world of this geometry with these commits and these live transactions; its history has no base but zeros
+abbrev pub plain : Geometry → List Entry → List Live → (next : ℕ) → World
+plain g entries live next = record {
+  geometry = g;
+  history = record { first = 1; base = zeros g.block g.blocks; commits = map commit_in entries };
+  live = live;
+  next = next;
   base = 0;
   trim = 0;
   generation = 1;
 }
+
+abbrev pub world_of : Inside → World
+world_of a = plain a.geometry a.entries.items (map live_in a.live.items) a.next
 
 -- a span of at least one byte in a block of this size
 pub record IsSpan (size : ℕ) (span : Span) : Type 0 where
@@ -80,14 +83,17 @@ Numbered live = AllPairs (λ t u. t.number < u.number) live
 abbrev pub bytes_of : List Entry → ℕ
 bytes_of entries = sum_by (λ e. record_length e.parts) entries
 
--- what holds of the fields
-pub record IsSound (a : Inside) : Type 0 where
-  pub valid : IsTrue (is_valid a.geometry)
-  pub entries : All (IsEntry a.geometry) a.entries.items
-  pub last : length a.entries.items ≤ LAST
-  pub live : All (IsAttached a.geometry (length a.entries.items) a.next) a.live.items
-  pub numbered : Numbered a.live.items
-  pub count : length a.live.items ≤ MAX_LIVE
-  pub next : a.next ≤ LAST + 1
-  pub used : a.used ≡ bytes_of a.entries.items
-  pub room : a.used + 1 ≤ a.geometry.log
+-- what holds of the geometry, the commits, the live transactions, the next number and the bytes of the log that are used
+pub record Sound (g : Geometry) (entries : List Entry) (live : List Attached) (next used : ℕ) : Type 0 where
+  pub valid : IsTrue (is_valid g)
+  pub commits : All (IsEntry g) entries
+  pub last : length entries ≤ LAST
+  pub attached : All (IsAttached g (length entries) next) live
+  pub numbered : Numbered live
+  pub count : length live ≤ MAX_LIVE
+  pub numbers : next ≤ LAST + 1
+  pub bytes : used ≡ bytes_of entries
+  pub room : used + 1 ≤ g.log
+
+abbrev pub IsSound : Inside → Type 0
+IsSound a = Sound a.geometry a.entries.items a.live.items a.next a.used

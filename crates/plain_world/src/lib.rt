@@ -2,6 +2,7 @@
 #![tactic(auto)]
 
 mod bytes;
+mod ending;
 mod entry;
 mod meeting;
 mod parts;

@@ -1,13 +1,17 @@
 // The world of one image, kept as a list of commits and a list of live transactions.
 ghost use Rattle.std.specs.Prelude.{◌≡◌, ◌==◌, ◌<◌, IsTrue, IfOk, OnOk, OnErr, Some, length, option_map, slice_get};
+ghost use Rattle.iso_model.specs.declared.script.Op.TheVariants.{Begin, End, Abort, Put, Read};
 ghost use Rattle.iso_model.specs.Geometry.{is_valid};
 ghost use Rattle.iso_model.specs.Image.{written};
 ghost use Rattle.iso_model.specs.Step.{step};
 ghost use Rattle.iso_model.specs.World.{fresh, empty_history};
 ghost use Rattle.plain_world.specs.Plain.{IsPlain};
 
-use crate::entry::{Attached, Entry};
-use iso_model::{Geometry, Memory, Mode, Op, PartList, Reply};
+use crate::ending::{Ending, commit, ending_of};
+use crate::entry::{Attached, Entry, may_have};
+use crate::reading::{marked_write, shown, whole_read};
+use crate::transactions::{add_access, place_of};
+use iso_model::{AccessList, Bytes, Geometry, LAST, MAX_ACCESSES, MAX_LIVE, Memory, Mode, Op, PartList, Reply};
 use std::alloc::Global;
 use std::marker::Model;
 
@@ -102,7 +106,121 @@ impl PlainWorld {
         // Without memory nothing happened.
         ensures err { OnErr result (self.new ≡ self.old) }
     {
-        let _asked = (client, matches!(op, Op::End));
-        Err(Memory)
+        match op {
+            Op::Begin { mode } => self.begin(client, *mode),
+            Op::Put { block, off, bytes } => self.put(client, *block, *off, bytes.as_slice()),
+            Op::Read { block } => self.read(client, *block),
+            Op::End => self.end(client),
+            Op::Abort => Ok(self.abort(client)),
+        }
+    }
+
+    /// Begins a transaction of a client that has none.
+    fn begin(&mut self, client: u8, mode: Option<Mode>) -> Result<Reply, Memory>
+        ensures ok { IfOk result (λ reply. step self.old client (Begin mode) ≡ (reply, self.new)) }
+        ensures err { OnErr result (self.new ≡ self.old) }
+    {
+        if place_of(&self.live, client).is_some() {
+            return Ok(Reply::InTx);
+        }
+        let mode = mode.unwrap_or(self.geometry.mode);
+        if !may_have(&self.geometry, mode) {
+            return Ok(Reply::ModeFixed);
+        }
+        if self.live.len() >= MAX_LIVE {
+            return Ok(Reply::TooManyTx);
+        }
+        if self.next > LAST {
+            return Ok(Reply::Worn);
+        }
+        let begin = self.entries.len() as u64;
+        self.live.push(Attached {
+            number: self.next,
+            begin,
+            mode,
+            client,
+            accesses: AccessList::empty(self.alloc),
+        })?;
+        self.next += 1;
+        Ok(Reply::Began(begin))
+    }
+
+    /// Buffers a write of these bytes.
+    fn put(&mut self, client: u8, block: u32, off: u32, bytes: &[u8]) -> Result<Reply, Memory>
+        ensures ok { IfOk result (λ reply. step self.old client (Put block off bytes.now) ≡ (reply, self.new)) }
+        ensures err { OnErr result (self.new ≡ self.old) }
+    {
+        let Some(i) = place_of(&self.live, client) else {
+            return Ok(Reply::NotInTx);
+        };
+        if block >= self.geometry.blocks {
+            return Ok(Reply::BadBlock);
+        }
+        let off = off as usize;
+        let size = self.geometry.block as usize;
+        if bytes.is_empty() || off + bytes.len() > size {
+            return Ok(Reply::BadRange);
+        }
+        if self.live[i].accesses.len() >= MAX_ACCESSES {
+            return Ok(Reply::TooManyAccesses);
+        }
+        let access = marked_write(self.alloc, size, block, off, bytes)?;
+        add_access(&mut self.live, i, access)?;
+        Ok(Reply::Done)
+    }
+
+    /// Shows a block as it stood at the begin, with the transaction's own writes on top.
+    fn read(&mut self, client: u8, block: u32) -> Result<Reply, Memory>
+        ensures ok { IfOk result (λ reply. step self.old client (Read block) ≡ (reply, self.new)) }
+        ensures err { OnErr result (self.new ≡ self.old) }
+    {
+        let Some(i) = place_of(&self.live, client) else {
+            return Ok(Reply::NotInTx);
+        };
+        if block >= self.geometry.blocks {
+            return Ok(Reply::BadBlock);
+        }
+        let transaction = &self.live[i];
+        if transaction.accesses.len() >= MAX_ACCESSES {
+            return Ok(Reply::TooManyAccesses);
+        }
+        let size = self.geometry.block as usize;
+        let commits = &self.entries[..transaction.begin as usize];
+        let bytes = shown(self.alloc, size, commits, transaction.accesses.as_slice(), block)?;
+        add_access(&mut self.live, i, whole_read(self.alloc, block))?;
+        Ok(Reply::Shown(Bytes::of(bytes)))
+    }
+
+    /// Forgets a transaction.
+    fn abort(&mut self, client: u8) -> Reply
+        ensures { step self.old client Abort ≡ (result, self.new) }
+    {
+        let Some(i) = place_of(&self.live, client) else {
+            return Reply::NotInTx;
+        };
+        let _ = self.live.remove(i);
+        Reply::Done
+    }
+
+    /// Ends a transaction: without a write, in a conflict, or as the next commit.
+    fn end(&mut self, client: u8) -> Result<Reply, Memory>
+        ensures ok { IfOk result (λ reply. step self.old client End ≡ (reply, self.new)) }
+        ensures err { OnErr result (self.new ≡ self.old) }
+    {
+        let Some(i) = place_of(&self.live, client) else {
+            return Ok(Reply::NotInTx);
+        };
+        match ending_of(self.alloc, &self.geometry, &self.entries, self.used, &self.live[i])? {
+            Ending::Stays(reply) => Ok(reply),
+            Ending::Leaves(reply) => {
+                let _ = self.live.remove(i);
+                Ok(reply)
+            }
+            Ending::Commits(parts, length) => {
+                commit(&mut self.entries, &mut self.live, i, parts)?;
+                self.used += length;
+                Ok(Reply::Committed(self.entries.len() as u64))
+            }
+        }
     }
 }
