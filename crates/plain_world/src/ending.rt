@@ -49,11 +49,9 @@ fn committing(
     let parts = runs_of(alloc, geometry, transaction.accesses.as_slice())?;
     let length = length_of_record(parts.as_slice());
     let free = u64::from(geometry.log) - used;
-    if length + 1 > free {
-        return Ok(Ending::Stays(Reply::LogFull {
-            need: length + 1,
-            free,
-        }));
+    let need = length + 1;
+    if need > free {
+        return Ok(Ending::Stays(Reply::LogFull { need, free }));
     }
     Ok(Ending::Commits(parts, length))
 }

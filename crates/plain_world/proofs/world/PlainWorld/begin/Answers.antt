@@ -1,0 +1,71 @@
+use Rattle.std.proofs.Common.{◌≡◌, ◌∙◌, sym, refl, ap, arith, subst, ◌+◌, ◌<◌, ◌≤◌, ◌==◌, ◌&&◌, not, true, false, length, map, None, ℕ, List, Bool}
+use Rattle.std.specs.Option.{unwrap_or}
+use Rattle.std.proofs.lemmas.List.{length-map}
+use Rattle.iso_model.specs.declared.script.Op.TheVariants.{Begin}
+use Rattle.iso_model.specs.declared.script.Reply.TheVariants as reply
+use Rattle.iso_model.specs.Geometry.{same_mode}
+use Rattle.iso_model.specs.Step.{step, begin_step}
+use Rattle.iso_model.specs.World.{World}
+use Rattle.plain_world.specs.declared.entry.Attached.{Attached}
+use Rattle.plain_world.specs.View.{world_of, live_in, found}
+use Rattle.plain_world.proofs.Living.{IsPlace, found_at_some, found_at_none}
+use Rattle.plain_world.proofs.Soundness.{sound_begun}
+use Rattle.plain_world.proofs.Steps.{begin_in_tx, begin_free, begin_fixed, begin_full, begin_worn, begin_done, begun_is, last_is, may_have_is}
+use Rattle.plain_world.proofs.world.PlainWorld.begin.Goals as goal
+
+pub returns-then-is_some-clause-ok : goal.returns-then-is_some-clause-ok
+returns-then-is_some-clause-ok c =
+    let place : IsPlace c.args.client c.self.inside.live.items c.place_of.result =
+        subst (λ (l : List Attached). IsPlace c.args.client l c.place_of.result) c.deref.ensures.value c.place_of.ensures in
+    let t = found_at_some c.args.client c.self.inside.live.items c.place_of.result place (sym c.is_some.ensures ∙ c.if-is_some.true) in
+    subst (λ (W : World). step W c.args.client (Begin c.args.mode) ≡ (reply.InTx, W)) c.self.view_is
+    (begin_in_tx (world_of c.self.inside) c.args.client c.args.mode t.0 t.1)
+
+not_flips : (x : Bool) → not x ≡ false → x ≡ true
+not_flips true h = refl
+not_flips false h = absurd (cc h)
+
+not_flops : (x : Bool) → not x ≡ true → x ≡ false
+not_flops true h = absurd (cc h)
+not_flops false h = refl
+
+pub returns-then-not-may_have-clause-ok : goal.returns-then-not-may_have-clause-ok
+returns-then-not-may_have-clause-ok c =
+    let W = world_of c.self.inside in
+    let m = c.unwrap_or-mode.result in
+    let place : IsPlace c.args.client c.self.inside.live.items c.place_of.result =
+        subst (λ (l : List Attached). IsPlace c.args.client l c.place_of.result) c.deref.ensures.value c.place_of.ensures in
+    let none = found_at_none c.args.client c.self.inside.live.items c.place_of.result place (sym c.is_some.ensures ∙ c.if-is_some.false) in
+    let fixed = not_flips _ (sym c.may_have.ensures ∙ c.if-not-may_have.true) in
+    subst (λ (W : World). step W c.args.client (Begin c.args.mode) ≡ (reply.ModeFixed, W)) c.self.view_is
+    (begin_free W c.args.client c.args.mode none ∙ ap (begin_step W c.args.client) (sym c.unwrap_or-mode.ensures) ∙ begin_fixed W c.args.client m fixed)
+
+pub returns-then-len-ge-MAX_LIVE-clause-ok : goal.returns-then-len-ge-MAX_LIVE-clause-ok
+returns-then-len-ge-MAX_LIVE-clause-ok c =
+    let W = world_of c.self.inside in
+    let m = c.unwrap_or-mode.result in
+    let place : IsPlace c.args.client c.self.inside.live.items c.place_of.result =
+        subst (λ (l : List Attached). IsPlace c.args.client l c.place_of.result) c.deref.ensures.value c.place_of.ensures in
+    let none = found_at_none c.args.client c.self.inside.live.items c.place_of.result place (sym c.is_some.ensures ∙ c.if-is_some.false) in
+    let free = not_flops _ (sym c.may_have.ensures ∙ c.if-not-may_have.false) in
+    subst (λ (W : World). step W c.args.client (Begin c.args.mode) ≡ (reply.TooManyTx, W)) c.self.view_is
+    (begin_free W c.args.client c.args.mode none ∙ ap (begin_step W c.args.client) (sym c.unwrap_or-mode.ensures)
+    ∙ begin_full W c.args.client m free (omega (arith, length-map c.self.inside.live.items live_in)))
+
+pub returns-then-self-gt-LAST-clause-ok : goal.returns-then-self-gt-LAST-clause-ok
+returns-then-self-gt-LAST-clause-ok c =
+    let W = world_of c.self.inside in
+    let m = c.unwrap_or-mode.result in
+    let place : IsPlace c.args.client c.self.inside.live.items c.place_of.result =
+        subst (λ (l : List Attached). IsPlace c.args.client l c.place_of.result) c.deref.ensures.value c.place_of.ensures in
+    let none = found_at_none c.args.client c.self.inside.live.items c.place_of.result place (sym c.is_some.ensures ∙ c.if-is_some.false) in
+    let free = not_flops _ (sym c.may_have.ensures ∙ c.if-not-may_have.false) in
+    subst (λ (W : World). step W c.args.client (Begin c.args.mode) ≡ (reply.Worn, W)) c.self.view_is
+    (begin_free W c.args.client c.args.mode none ∙ ap (begin_step W c.args.client) (sym c.unwrap_or-mode.ensures)
+    ∙ begin_worn W c.args.client m free (omega (arith, length-map c.self.inside.live.items live_in)) (omega arith))
+
+pub invariant_of-self-2 : goal.invariant_of-self-2
+invariant_of-self-2 c = ?
+
+pub returns-clause-ok : goal.returns-clause-ok
+returns-clause-ok c = ?
