@@ -4,7 +4,7 @@ use Rattle.std.specs.Prelude.{nat_le, nat_lt}
 use Rattle.std.specs.Option.{unwrap_or}
 use Rattle.std.specs.List.{All, remove}
 use Rattle.std.proofs.lemmas.Bool.Decides.{nat_tests}
-use Rattle.std.proofs.lemmas.List.{length-map, map_push, take-map}
+use Rattle.std.proofs.lemmas.List.{length-map, map_push, take-map, get_or_default}
 use Rattle.iso_model.specs.declared.access.Access.{Access}
 use Rattle.iso_model.specs.declared.access.Clash.{Clash}
 use Rattle.iso_model.specs.declared.access.Geometry.{Geometry}
@@ -12,6 +12,7 @@ use Rattle.iso_model.specs.declared.access.Mode.{Mode}
 use Rattle.iso_model.specs.declared.access.Mode.TheVariants.{Serial, Snapshot}
 use Rattle.iso_model.specs.declared.access.Run.{Run}
 use Rattle.iso_model.specs.declared.script.Op.TheVariants.{Begin, End, Abort, Put, Read}
+use Rattle.iso_model.specs.declared.script.Reply.{Reply}
 use Rattle.iso_model.specs.declared.script.Reply.TheVariants as reply
 use Rattle.iso_model.specs.declared.limits.TheConstants.{LAST, MAX_ACCESSES, MAX_LIVE}
 use Rattle.iso_model.specs.Conflict.{clash, clash_from}
@@ -24,8 +25,8 @@ use Rattle.plain_world.specs.declared.entry.Attached.{Attached}
 use Rattle.plain_world.specs.declared.entry.Entry.{Entry}
 use Rattle.plain_world.specs.Bytes.{laid, laid_all}
 use Rattle.plain_world.specs.Ending.{entry_of}
-use Rattle.plain_world.specs.View.{MayHave, Numbered, IsEntry, bytes_of, commit_in, live_in, plain}
-use Rattle.plain_world.proofs.Living.{with_is, without_is}
+use Rattle.plain_world.specs.View.{MayHave, Numbered, IsEntry, bytes_of, commit_in, live_in, found, plain}
+use Rattle.plain_world.proofs.Living.{IsPlace, with_is, without_is}
 use Rattle.plain_world.proofs.Shown.{shown_is}
 use Rattle.plain_world.proofs.Soundness.{bytes_are}
 
@@ -217,3 +218,51 @@ pub committed_is : (g : Geometry) (entries : List Entry) (live : List Attached) 
 committed_is g entries live next i t parts numbered inside is =
     let gone = without_is live i t.number numbered inside (λ d. ap (λ (x : Attached). x.number) (is d)) in
     rw (map_push commit_in entries (entry_of t parts), gone) refl
+
+-- the transaction at the place of a client
+pub attached_there : (c : ℕ) (live : List Attached) (i : ℕ) → IsPlace c live (Some i) → (t : Attached) × (found c live ≡ Some (live_in t)) × ((d : Attached) → t ≡ get_or live i d)
+attached_there c [] i place = absurd (omega (arith, place.0))
+attached_there c (u ∷ live) i place = (get_or (u ∷ live) i u, place.1 u, λ d. get_or_default (u ∷ live) i u d place.0)
+
+pub begin_plain : (g : Geometry) (entries : List Entry) (live : List Attached) (next c : ℕ) (m : Mode) → ((g.form == 1) && not (same_mode m g.mode)) ≡ false → length live < MAX_LIVE → next ≤ LAST
+    → begin_step (plain g entries (map live_in live) next) c m
+    ≡ (reply.Began (length entries), plain g entries (map live_in (live ++ record { number = next; begin = length entries; mode = m; client = c; accesses = [] } ∷ [])) (next + 1))
+begin_plain g entries live next c m free room number =
+    let n : ℕ → Reply × World = λ k. (reply.Began k, after_begin (plain g entries (map live_in live) next) c m) in
+    let v : World → Reply × World = λ V. (reply.Began (length entries), V) in
+    begin_done (plain g entries (map live_in live) next) c m free (omega (arith, length-map live live_in)) number
+    ∙ ap n (last_is g entries (map live_in live) next) ∙ ap v (begun_is g entries live next c m)
+
+pub put_plain : (g : Geometry) (entries : List Entry) (live : List Attached) (next i : ℕ) (t : Attached) (b off : ℕ) (bytes : List ℕ) → Numbered live → i < length live → ((d : Attached) → t ≡ get_or live i d)
+    → b < g.blocks → ((length bytes == 0) || nat_lt g.block (off + length bytes)) ≡ false → length t.accesses < MAX_ACCESSES
+    → put_step (plain g entries (map live_in live) next) (live_in t) b off bytes
+    ≡ (reply.Done, plain g entries (map live_in (set live i (record t { accesses = t.accesses ++ put_access g.block b off bytes ∷ [] }))) next)
+put_plain g entries live next i t b off bytes numbered inside is good range many =
+    let v : World → Reply × World = λ V. (reply.Done, V) in
+    put_done (plain g entries (map live_in live) next) (live_in t) b off bytes good range many
+    ∙ ap v (added_is g entries live next i t (put_access g.block b off bytes) numbered inside is)
+
+pub read_plain : (g : Geometry) (entries : List Entry) (live : List Attached) (next i : ℕ) (t : Attached) (b : ℕ) → Numbered live → i < length live → ((d : Attached) → t ≡ get_or live i d)
+    → b < g.blocks → length t.accesses < MAX_ACCESSES
+    → read_step (plain g entries (map live_in live) next) (live_in t) b
+    ≡ (reply.Shown (laid t.accesses b (laid_all (map commit_in (take t.begin entries)) b (replicate g.block 0))), plain g entries (map live_in (set live i (record t { accesses = t.accesses ++ read_access b ∷ [] }))) next)
+read_plain g entries live next i t b numbered inside is good many =
+    let n : List ℕ → Reply × World = λ bytes. (reply.Shown bytes, with_access (plain g entries (map live_in live) next) (live_in t) (read_access b)) in
+    let v : World → Reply × World = λ V. (reply.Shown (laid t.accesses b (laid_all (map commit_in (take t.begin entries)) b (replicate g.block 0))), V) in
+    let bytes = shown_is g.block g.blocks (map commit_in entries) t.begin t.accesses b good in
+    read_done (plain g entries (map live_in live) next) (live_in t) b good many
+    ∙ ap n (rw take-map at bytes) ∙ ap v (added_is g entries live next i t (read_access b) numbered inside is)
+
+pub left_plain : (answer : Reply) (g : Geometry) (entries : List Entry) (live : List Attached) (next i : ℕ) (t : Attached) → Numbered live → i < length live → ((d : Attached) → t ≡ get_or live i d)
+    → (let f : World → Reply × World = λ V. (answer, V) in f (after_leaving (plain g entries (map live_in live) next) (live_in t)) ≡ f (plain g entries (map live_in (remove live i)) next))
+left_plain answer g entries live next i t numbered inside is =
+    let v : World → Reply × World = λ V. (answer, V) in ap v (left_is g entries live next i t numbered inside is)
+
+pub committed_plain : (g : Geometry) (entries : List Entry) (live : List Attached) (next i : ℕ) (t : Attached) (parts : List Run) → Numbered live → i < length live → ((d : Attached) → t ≡ get_or live i d)
+    → (let f : ℕ → World → Reply × World = λ n V. (reply.Committed n, V) in
+      f (last (plain g entries (map live_in live) next).history + 1) (after_commit (plain g entries (map live_in live) next) (live_in t))
+      ≡ f (length entries + 1) (plain g (entries ++ entry_of t parts ∷ []) (map live_in (remove live i)) next))
+committed_plain g entries live next i t parts numbered inside is =
+    let n : ℕ → Reply × World = λ k. (reply.Committed (k + 1), after_commit (plain g entries (map live_in live) next) (live_in t)) in
+    let v : World → Reply × World = λ V. (reply.Committed (length entries + 1), V) in
+    ap n (last_is g entries (map live_in live) next) ∙ ap v (committed_is g entries live next i t parts numbered inside is)

@@ -1,5 +1,5 @@
 // What a transaction reads, and the accesses that reads and writes make.
-ghost use Rattle.std.specs.Prelude.{◌≡◌, ◌+◌, ◌<◌, ◌≤◌, IfOk, length, map, replicate};
+ghost use Rattle.std.specs.Prelude.{◌≡◌, ◌==◌, ◌^◌, ◌||◌, not, nat_lt, ◌+◌, ◌<◌, ◌≤◌, IfOk, length, map, replicate};
 ghost use Rattle.std.specs.List.{All};
 ghost use Rattle.iso_model.specs.Step.{put_access, read_access};
 ghost use Rattle.plain_world.specs.Bytes.{HasBytes, laid, laid_all};
@@ -48,6 +48,14 @@ pub fn whole_read(alloc: Global, block: u32) -> Access
         spans: SpanList::empty(alloc),
         bytes: Bytes::empty(alloc),
     }
+}
+
+/// Whether there is a byte, and all of them fit in a block from `off` on.
+pub fn fits_in_block(size: usize, off: usize, bytes: &[u8]) -> bool
+    requires { off < 2 ^ 32 }
+    ensures { result ≡ not ((length bytes.now == 0) || nat_lt size (off + length bytes.now)) }
+{
+    !bytes.is_empty() && off + bytes.len() <= size
 }
 
 /// A write of these bytes in a block of zeros, with one mark over them.

@@ -9,7 +9,7 @@ ghost use Rattle.plain_world.specs.Plain.{IsPlain};
 
 use crate::ending::{Ending, commit, ending_of};
 use crate::entry::{Attached, Entry, may_have};
-use crate::reading::{marked_write, shown, whole_read};
+use crate::reading::{fits_in_block, marked_write, shown, whole_read};
 use crate::transactions::{add_access, place_of};
 use iso_model::{AccessList, Bytes, Geometry, LAST, MAX_ACCESSES, MAX_LIVE, Memory, Mode, Op, PartList, Reply};
 use std::alloc::Global;
@@ -158,7 +158,7 @@ impl PlainWorld {
         }
         let off = off as usize;
         let size = self.geometry.block as usize;
-        if bytes.is_empty() || off + bytes.len() > size {
+        if !fits_in_block(size, off, bytes) {
             return Ok(Reply::BadRange);
         }
         if self.live[i].accesses.len() >= MAX_ACCESSES {

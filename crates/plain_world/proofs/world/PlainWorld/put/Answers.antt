@@ -1,0 +1,45 @@
+use Rattle.std.proofs.Common.{◌≡◌, ◌∙◌, sym, refl, ap, arith, subst, length, map, Some, None, ℕ, List, ◌+◌, ◌<◌, ◌==◌, ◌||◌, true, false, ◌++◌, ◌∷◌, [], set, get_or}
+use Rattle.std.specs.Prelude.{nat_lt}
+use Rattle.std.proofs.lemmas.Bool.Decides.{nat_tests}
+use Rattle.iso_model.specs.declared.script.Op.TheVariants.{Put}
+use Rattle.iso_model.specs.declared.script.Reply.TheVariants as reply
+use Rattle.iso_model.specs.Step.{step, put_access}
+use Rattle.iso_model.specs.World.{World}
+use Rattle.plain_world.specs.declared.entry.Attached.{Attached}
+use Rattle.plain_world.specs.View.{world_of, live_in, plain}
+use Rattle.plain_world.proofs.Living.{IsPlace}
+use Rattle.plain_world.proofs.Soundness.{sound_added}
+use Rattle.plain_world.proofs.Steps.{attached_there, put_none, put_some, put_bad_block, put_bad_range, put_too_many, put_plain}
+use Rattle.plain_world.proofs.Valid.{keeps_limits}
+use Rattle.plain_world.proofs.world.PlainWorld.put.Goals as goal
+
+pub returns-in_default-clause-ok : goal.returns-in_default-clause-ok
+returns-in_default-clause-ok c =
+    let none : IsPlace c.args.client c.self.inside.live.items None =
+        subst (λ (l : List Attached). IsPlace c.args.client l None) c.deref.ensures.value c.in_default.ensures in
+    subst (λ (W : World). step W c.args.client (Put c.args.block c.args.off c.args.bytes.now) ≡ (reply.NotInTx, W)) c.self.view_is
+    (put_none (world_of c.self.inside) c.args.client c.args.block c.args.off c.args.bytes.now none)
+
+pub returns-then-block-self-clause-ok : goal.returns-then-block-self-clause-ok
+returns-then-block-self-clause-ok c =
+    let place : IsPlace c.args.client c.self.inside.live.items (Some c.in-Some.i) =
+        subst (λ (l : List Attached). IsPlace c.args.client l (Some c.in-Some.i)) c.deref.ensures.value c.in-Some.ensures in
+    let at = attached_there c.args.client c.self.inside.live.items c.in-Some.i place in
+    subst (λ (W : World). step W c.args.client (Put c.args.block c.args.off c.args.bytes.now) ≡ (reply.BadBlock, W)) c.self.view_is
+    (put_some (world_of c.self.inside) c.args.client c.args.block c.args.off c.args.bytes.now (live_in at.0) at.1
+    ∙ put_bad_block (world_of c.self.inside) (live_in at.0) c.args.block c.args.off c.args.bytes.now (omega arith))
+
+pub returns-then-not-fits_in_block-clause-ok : goal.returns-then-not-fits_in_block-clause-ok
+returns-then-not-fits_in_block-clause-ok c = ?
+
+pub returns-then-len-ge-MAX_ACCESSES-clause-ok : goal.returns-then-len-ge-MAX_ACCESSES-clause-ok
+returns-then-len-ge-MAX_ACCESSES-clause-ok c = ?
+
+pub marked_write-requires-clause-small : goal.marked_write-requires-clause-small
+marked_write-requires-clause-small c = (keeps_limits c.self.inside.geometry c.self.invariant.valid).largest_block
+
+pub invariant_of-self-2 : goal.invariant_of-self-2
+invariant_of-self-2 c = ?
+
+pub returns-clause-ok : goal.returns-clause-ok
+returns-clause-ok c = ?
