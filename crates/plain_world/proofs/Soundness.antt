@@ -1,10 +1,12 @@
 -- What holds of the fields of a plain world, and that each change keeps it.
-use Rattle.std.proofs.Common.{◌≡◌, ◌≢◌, ◌⊎◌, ◌∙◌, sym, refl, ap, inl, inr, ℕ, zero, suc, ◌+◌, ◌<◌, ◌≤◌, Bool, true, false, IsTrue, List, [], ◌∷◌, ◌++◌, length, get_or, set, map, take, drop, arith, subst}
+use Rattle.std.proofs.Common.{◌≡◌, ◌≢◌, ◌⊎◌, ◌∙◌, sym, refl, ap, inl, inr, ℕ, zero, suc, ◌+◌, ◌<◌, ◌≤◌, Bool, true, false, IsTrue, List, [], ◌∷◌, ◌++◌, length, get_or, set, map, take, drop, replicate, ◌-◌, ◌==◌, ◌||◌, arith, subst}
+use Rattle.std.specs.Prelude.{nat_lt}
+use Rattle.std.proofs.lemmas.Bool.Decides.{nat_tests}
 use Rattle.std.specs.List.{All, AllPairs, AllByRecursion, sum_by, remove}
 use Rattle.std.proofs.lemmas.Bool.{cases_eq}
 use Rattle.std.proofs.lemmas.Grind.{common_steps, elements}
-use Rattle.std.proofs.lemmas.List.{get_or-set_same, get_or-set_other, length-set, length_push, get_or_default, length-map}
-use Rattle.std.proofs.lemmas.List.Elements.{All-head, All-tail, All-push, All-set, All-weaker, All-nil}
+use Rattle.std.proofs.lemmas.List.{get_or-set_same, get_or-set_other, length-set, length_push, get_or_default, length-map, length-append, length-replicate}
+use Rattle.std.proofs.lemmas.List.Elements.{All-head, All-tail, All-push, All-set, All-weaker, All-nil, All-cons}
 use Rattle.std.proofs.lemmas.List.Quantifiers.{all_pairs_push, all_pairs_remove}
 use Rattle.std.proofs.lemmas.List.Sums.{sum_by-cons, sum_by_push}
 use Rattle.std.proofs.lemmas.List.Edits.{get_or-remove_below, get_or-remove_above}
@@ -16,12 +18,13 @@ use Rattle.iso_model.specs.Effect.{runs, record_length}
 use Rattle.iso_model.specs.Geometry.{is_valid}
 use Rattle.iso_model.specs.History.{last}
 use Rattle.iso_model.specs.Image.{IsRecord, written}
+use Rattle.iso_model.specs.Step.{put_access, read_access}
 use Rattle.iso_model.specs.World.{Live}
 use Rattle.plain_world.specs.declared.entry.Attached.{Attached}
 use Rattle.plain_world.specs.declared.entry.Entry.{Entry}
 use Rattle.plain_world.specs.Bytes.{HasBytes}
 use Rattle.plain_world.specs.Plain.{IsPlain}
-use Rattle.plain_world.specs.View.{Sound, IsEntry, IsAttached, IsAccess, MayHave, Numbered, HaveBytes, bytes_of, commit_in, live_in, plain}
+use Rattle.plain_world.specs.View.{Sound, IsEntry, IsAttached, IsAccess, IsSpan, MayHave, Numbered, HaveBytes, bytes_of, commit_in, live_in, plain}
 use Rattle.plain_world.proofs.RunsAreRuns.{runs_are_runs}
 use Rattle.plain_world.proofs.Valid.{keeps_limits}
 
@@ -162,3 +165,19 @@ sound_committed g entries live next used e sound is number room =
       bytes = rw sound.bytes (sym (sum_by_push (λ x. record_length x.parts) entries e));
       room = room;
     }
+
+-- a put of some bytes that fit
+pub range_keeps : (size off : ℕ) (bytes : List ℕ) → ((length bytes == 0) || nat_lt size (off + length bytes)) ≡ false → (0 < length bytes) × (off + length bytes ≤ size)
+range_keeps size off bytes h = (grind (arith, nat_tests), grind (arith, nat_tests))
+
+pub put_is_access : (g : Geometry) (b off : ℕ) (bytes : List ℕ) → b < g.blocks → ((length bytes == 0) || nat_lt g.block (off + length bytes)) ≡ false → IsAccess g (put_access g.block b off bytes)
+put_is_access g b off bytes good range =
+    let keeps = range_keeps g.block off bytes range in
+    record {
+      block = good;
+      spans = All-cons (IsSpan g.block) (record { off = off; len = length bytes }) [] (record { some = keeps.0; fits = keeps.1 }) (All-nil (IsSpan g.block));
+      bytes = λ writes. omega (arith, keeps.1, length-append (replicate {A = ℕ} off 0 ++ bytes) (replicate {A = ℕ} (g.block - (off + length bytes)) 0), length-append (replicate {A = ℕ} off 0) bytes, length-replicate {A = ℕ} off 0, length-replicate {A = ℕ} (g.block - (off + length bytes)) 0);
+    }
+
+pub read_is_access : (g : Geometry) (b : ℕ) → b < g.blocks → IsAccess g (read_access b)
+read_is_access g b good = record { block = good; spans = All-nil (IsSpan g.block); bytes = λ writes. absurd (cc writes) }

@@ -7,6 +7,7 @@ use Rattle.std.proofs.lemmas.Bool.Decides.{nat_tests}
 use Rattle.std.proofs.lemmas.List.{length-map, map_push, take-map, get_or_default}
 use Rattle.iso_model.specs.declared.access.Access.{Access}
 use Rattle.iso_model.specs.declared.access.Clash.{Clash}
+use Rattle.iso_model.specs.declared.access.Commit.{Commit}
 use Rattle.iso_model.specs.declared.access.Geometry.{Geometry}
 use Rattle.iso_model.specs.declared.access.Mode.{Mode}
 use Rattle.iso_model.specs.declared.access.Mode.TheVariants.{Serial, Snapshot}
@@ -29,6 +30,14 @@ use Rattle.plain_world.specs.View.{MayHave, Numbered, IsEntry, bytes_of, commit_
 use Rattle.plain_world.proofs.Living.{IsPlace, with_is, without_is}
 use Rattle.plain_world.proofs.Shown.{shown_is}
 use Rattle.plain_world.proofs.Soundness.{bytes_are}
+
+pub not_flips : (x : Bool) → not x ≡ false → x ≡ true
+not_flips true h = refl
+not_flips false h = absurd (cc h)
+
+pub not_flops : (x : Bool) → not x ≡ true → x ≡ false
+not_flops true h = absurd (cc h)
+not_flops false h = refl
 
 -- begin
 pub begin_in_tx : (W : World) (c : ℕ) (mode : Option Mode) (t : Live) → attached W c ≡ Some t → step W c (Begin mode) ≡ (reply.InTx, W)
@@ -249,9 +258,11 @@ pub read_plain : (g : Geometry) (entries : List Entry) (live : List Attached) (n
 read_plain g entries live next i t b numbered inside is good many =
     let n : List ℕ → Reply × World = λ bytes. (reply.Shown bytes, with_access (plain g entries (map live_in live) next) (live_in t) (read_access b)) in
     let v : World → Reply × World = λ V. (reply.Shown (laid t.accesses b (laid_all (map commit_in (take t.begin entries)) b (replicate g.block 0))), V) in
-    let bytes = shown_is g.block g.blocks (map commit_in entries) t.begin t.accesses b good in
+    let bytes : shown_block (plain g entries (map live_in live) next).history t.begin t.accesses b ≡ laid t.accesses b (laid_all (map commit_in (take t.begin entries)) b (replicate g.block 0)) =
+        shown_is g.block g.blocks (map commit_in entries) t.begin t.accesses b good
+        ∙ ap (λ (commits : List Commit). laid t.accesses b (laid_all commits b (replicate g.block 0))) (take-map commit_in t.begin entries) in
     read_done (plain g entries (map live_in live) next) (live_in t) b good many
-    ∙ ap n (rw take-map at bytes) ∙ ap v (added_is g entries live next i t (read_access b) numbered inside is)
+    ∙ ap n bytes ∙ ap v (added_is g entries live next i t (read_access b) numbered inside is)
 
 pub left_plain : (answer : Reply) (g : Geometry) (entries : List Entry) (live : List Attached) (next i : ℕ) (t : Attached) → Numbered live → i < length live → ((d : Attached) → t ≡ get_or live i d)
     → (let f : World → Reply × World = λ V. (answer, V) in f (after_leaving (plain g entries (map live_in live) next) (live_in t)) ≡ f (plain g entries (map live_in (remove live i)) next))

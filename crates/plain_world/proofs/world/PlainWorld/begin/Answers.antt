@@ -10,7 +10,7 @@ use Rattle.plain_world.specs.declared.entry.Attached.{Attached}
 use Rattle.plain_world.specs.View.{world_of, live_in, found, plain}
 use Rattle.plain_world.proofs.Living.{IsPlace, found_at_some, found_at_none}
 use Rattle.plain_world.proofs.Soundness.{sound_begun}
-use Rattle.plain_world.proofs.Steps.{begin_in_tx, begin_free, begin_fixed, begin_full, begin_worn, begin_plain, may_have_is}
+use Rattle.plain_world.proofs.Steps.{begin_in_tx, begin_free, begin_fixed, begin_full, begin_worn, begin_plain, may_have_is, not_flips, not_flops}
 use Rattle.plain_world.proofs.world.PlainWorld.begin.Goals as goal
 
 pub returns-then-is_some-clause-ok : goal.returns-then-is_some-clause-ok
@@ -20,14 +20,6 @@ returns-then-is_some-clause-ok c =
     let t = found_at_some c.args.client c.self.inside.live.items c.place_of.result place (sym c.is_some.ensures ∙ c.if-is_some.true) in
     subst (λ (W : World). step W c.args.client (Begin c.args.mode) ≡ (reply.InTx, W)) c.self.view_is
     (begin_in_tx (world_of c.self.inside) c.args.client c.args.mode t.0 t.1)
-
-not_flips : (x : Bool) → not x ≡ false → x ≡ true
-not_flips true h = refl
-not_flips false h = absurd (cc h)
-
-not_flops : (x : Bool) → not x ≡ true → x ≡ false
-not_flops true h = absurd (cc h)
-not_flops false h = refl
 
 pub returns-then-not-may_have-clause-ok : goal.returns-then-not-may_have-clause-ok
 returns-then-not-may_have-clause-ok c =
