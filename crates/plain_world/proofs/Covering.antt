@@ -1,16 +1,14 @@
 -- What is covered and written in one block, byte by byte.
-use Rattle.std.proofs.Common.{◌≡◌, ◌≢◌, ◌∙◌, sym, refl, ap, ℕ, zero, suc, ◌+◌, ◌<◌, ◌≤◌, Bool, true, false, ◌&&◌, ◌||◌, cond, IsTrue, List, [], ◌∷◌, ◌++◌, length, get_or, set, take, drop, map, replicate, Option, Some, None, arith, subst, add-one, add_assoc, zero-add}
+use Rattle.std.proofs.Common.{◌≡◌, ◌≢◌, ◌∙◌, sym, refl, ap, ℕ, zero, suc, ◌+◌, ◌<◌, Bool, true, false, ◌&&◌, ◌||◌, cond, IsTrue, List, [], ◌∷◌, ◌++◌, length, get_or, set, take, drop, map, replicate, Option, Some, None, arith, subst, zero-add}
 use Rattle.std.specs.Option.{unwrap_or, is_some}
 use Rattle.std.specs.List.{All, list_any, range_with_len}
-use Rattle.std.proofs.lemmas.Grind.{common_steps}
 use Rattle.std.proofs.lemmas.List.{set-get_or, drop_more, take_more_set, append_assoc, drop-set-lt, length-replicate}
 use Rattle.std.proofs.lemmas.List.Elements.{All-head, All-tail}
 use Rattle.iso_model.specs.declared.access.Access.{Access}
-use Rattle.iso_model.specs.declared.access.Kind.{Kind}
-use Rattle.iso_model.specs.declared.access.Kind.TheVariants.{Read, Write}
+use Rattle.iso_model.specs.declared.access.Kind.TheVariants.{Write}
 use Rattle.iso_model.specs.declared.access.Span.{Span}
 use Rattle.iso_model.specs.Array.{covered, in_span, merged}
-use Rattle.iso_model.specs.Effect.{same_kind, is_write, touches, covers, or_else, effect_at, effects_from}
+use Rattle.iso_model.specs.Effect.{touches, covers, or_else, effect_at, effects_from}
 use Rattle.plain_world.specs.Bytes.{is_at, laid, values_of, HasBytes}
 
 pub or_false_left : (x y : Bool) → (x || y) ≡ false → x ≡ false
@@ -92,9 +90,9 @@ pub laid_at : (accesses : List Access) (b q size : ℕ) (old : List ℕ) → All
 laid_at [] b q size old whole same inside = refl
 laid_at (a ∷ accesses) b q size old whole same inside =
     let once = laid_or_kept (is_at Write b a) a.spans q old a.bytes (omega arith)
-        (λ at. All-head (HasBytes size) a accesses whole (first_of_both _ _ at) ∙ sym same) in
+    (λ at. All-head (HasBytes size) a accesses whole (first_of_both _ _ at) ∙ sym same) in
     laid_at accesses b q size (cond (is_at Write b a) (merged a.spans 0 old a.bytes) old) (All-tail (HasBytes size) a accesses whole)
-        (length_laid_once (is_at Write b a) a.spans old a.bytes ∙ same) inside
+    (length_laid_once (is_at Write b a) a.spans old a.bytes ∙ same) inside
     ∙ ap (unwrap_or (effect_at accesses b q)) once
     ∙ value_of_or_else (effect_at accesses b q) (covers Write b q a) (get_or a.bytes q 0) (get_or old q 0)
 
@@ -125,9 +123,9 @@ effects_are accesses b p zero bytes same each = refl
 effects_are accesses b p (suc n) [] same each = absurd (omega arith)
 effects_are accesses b p (suc n) (x ∷ bytes) same each =
     let here : effect_at accesses b p ≡ cond (touches Write accesses b p) (Some x) None =
-        (let e : p + 0 ≡ p = omega arith in rw e at (each 0 (omega arith))) in
+    (let e : p + 0 ≡ p = omega arith in rw e at (each 0 (omega arith))) in
     let there = effects_are accesses b (p + 1) n bytes (omega arith)
-        (λ k below. let e : p + suc k ≡ p + 1 + k = omega arith in rw e at (each (suc k) (omega arith))) in
+    (λ k below. let e : p + suc k ≡ p + 1 + k = omega arith in rw e at (each (suc k) (omega arith))) in
     rw (here, there) refl
 
 -- the effects on a block, by its marks and the bytes laid over zeros

@@ -1,11 +1,10 @@
 -- One step of the searches for the least clash.
-use Rattle.std.proofs.Common.{◌≡◌, ◌∙◌, sym, refl, ap, ℕ, zero, suc, ◌+◌, ◌-◌, ◌<◌, ◌≤◌, Bool, true, false, ◌&&◌, cond, List, [], ◌∷◌, length, get_or, drop, map, Option, Some, None, arith}
+use Rattle.std.proofs.Common.{◌≡◌, ◌∙◌, refl, ap, ℕ, zero, suc, ◌+◌, ◌-◌, ◌<◌, ◌≤◌, Bool, true, false, ◌&&◌, cond, List, [], ◌∷◌, length, get_or, drop, map, Option, Some, None, arith}
 use Rattle.std.specs.Option.{option_map}
 use Rattle.std.specs.List.{list_any, range_with_len}
 use Rattle.std.proofs.lemmas.List.{drop_more, drop_all, get_or-map, length-map}
 use Rattle.std.proofs.lemmas.List.FromFn.{length-map-range_with_len, get_or-map-range_with_len}
 use Rattle.iso_model.specs.declared.access.Access.{Access}
-use Rattle.iso_model.specs.declared.access.Clash.{Clash}
 use Rattle.iso_model.specs.declared.access.Geometry.{Geometry}
 use Rattle.iso_model.specs.declared.access.Kind.{Kind}
 use Rattle.iso_model.specs.declared.access.Mode.{Mode}
@@ -56,9 +55,9 @@ first_marked_is f h size left right left_is right_is =
     rw n
     (first_from_same (λ p. get_or left p false && get_or right p false) (λ p. f p && h p) 0 size
     (λ k from below.
-      let at_left : get_or left k false ≡ f k = ap (λ l. get_or l k false) left_is ∙ get_or-map-range_with_len f 0 size k k false (omega arith) (omega arith) in
-      let at_right : get_or right k false ≡ h k = ap (λ l. get_or l k false) right_is ∙ get_or-map-range_with_len h 0 size k k false (omega arith) (omega arith) in
-      rw (at_left, at_right) refl))
+    let at_left : get_or left k false ≡ f k = ap (λ l. get_or l k false) left_is ∙ get_or-map-range_with_len f 0 size k k false (omega arith) (omega arith) in
+    let at_right : get_or right k false ≡ h k = ap (λ l. get_or l k false) right_is ∙ get_or-map-range_with_len h 0 size k k false (omega arith) (omega arith) in
+    rw (at_left, at_right) refl))
 
 -- without an access of the block nothing of it is covered
 pub nothing_touched : (kind : Kind) (accesses : List Access) (b q : ℕ) → list_any (is_at kind b) accesses ≡ false → touches kind accesses b q ≡ false
@@ -76,7 +75,7 @@ and_false false y not = refl
 pub clash_from_step : (g : Geometry) (mode : Mode) (accesses : List Access) (entries : List Entry) (i : ℕ) (d : Entry) → i < length entries
     → clash_from g mode accesses (i + 1) (drop i (map commit_in entries))
     ≡ or_else (option_map (λ at. record { commit = i + 1; block = at.0; at = at.1 }) (first_byte (clashes mode (get_or entries i d).commit accesses) g.block 0 g.blocks))
-      (clash_from g mode accesses (i + 1 + 1) (drop (i + 1) (map commit_in entries)))
+    (clash_from g mode accesses (i + 1 + 1) (drop (i + 1) (map commit_in entries)))
 clash_from_step g mode accesses entries i d inside =
     let there : i < length (map commit_in entries) = omega (arith, length-map entries commit_in) in
     rw (drop_more (map commit_in entries) i (commit_in d) there, get_or-map commit_in entries i d (commit_in d) inside) refl

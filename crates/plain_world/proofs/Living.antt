@@ -1,7 +1,7 @@
 -- The list of live transactions: one that changes, and one that leaves.
-use Rattle.std.proofs.Common.{◌≡◌, ◌≢◌, ◌∙◌, sym, refl, ap, inl, inr, ℕ, zero, suc, ◌+◌, ◌<◌, ◌≤◌, Bool, true, false, ◌==◌, not, cond, List, [], ◌∷◌, ◌++◌, length, get_or, set, map, take, drop, arith, Option, Some, None}
+use Rattle.std.proofs.Common.{◌≡◌, ◌≢◌, ◌∙◌, sym, refl, ap, inl, inr, ℕ, zero, suc, ◌<◌, true, false, ◌==◌, cond, List, [], ◌∷◌, length, get_or, set, map, arith, Option, Some, None}
 use Rattle.std.specs.Option.{MatchOption, is_some}
-use Rattle.std.specs.List.{All, AllPairs, HoldsAt, remove, filter}
+use Rattle.std.specs.List.{HoldsAt, remove}
 use Rattle.std.proofs.lemmas.Bool.{cases_eq}
 use Rattle.std.proofs.lemmas.Bool.Decides.{nat_tests}
 use Rattle.std.proofs.lemmas.List.{get_or-set_same, get_or-set_other, length-set, length-map, get_or-map, same_lists}
@@ -25,8 +25,9 @@ found_at_none client live None is none = is
 
 pub numbers_apart : (live : List Attached) (k i : ℕ) (d : Attached) → Numbered live → k < length live → i < length live → k ≢ i → (get_or live k d).number ≢ (get_or live i d).number
 numbers_apart live k i d numbered in_k in_i apart = elim (below_or_not k i) [
-  inl lt ↦ (let h = numbered k i d lt in_i in λ e. omega arith) |
-  inr ge ↦ (let h = numbered i k d (omega arith) in_k in λ e. omega arith) ]
+  | inl lt ↦ (let h = numbered k i d lt in_i in λ e. omega arith)
+  | inr ge ↦ (let h = numbered i k d (omega arith) in_k in λ e. omega arith)
+]
 
 pub chosen : (n m : ℕ) (x y : Live) → n ≡ m → cond (n == m) x y ≡ x
 chosen n m x y e = let t : (n == m) ≡ true = grind (arith, nat_tests) in rw t refl
@@ -42,18 +43,19 @@ with_is live i t u numbered inside is same =
     same_lists (map f (map live_in live)) (map live_in (set live i u))
     (length-map (map live_in live) f ∙ length-map live live_in ∙ sym (length-map (set live i u) live_in ∙ length-set live i u))
     (λ k d below.
-      let in_k : k < length live = omega (arith, length-map (map live_in live) f, length-map live live_in) in
-      let left : get_or (map f (map live_in live)) k d ≡ f (live_in (get_or live k t)) =
-          get_or-map f (map live_in live) k (live_in t) d (omega (arith, length-map live live_in)) ∙ ap f (get_or-map live_in live k t (live_in t) in_k) in
-      let right : get_or (map live_in (set live i u)) k d ≡ live_in (get_or (set live i u) k t) =
-          get_or-map live_in (set live i u) k t d (omega (arith, length-set live i u)) in
-      left ∙ elim (cases_eq k i) [
-        inl e ↦ (let number : (get_or live k t).number ≡ u.number = rw (e, ← (is t)) (sym same) in
-          chosen (get_or live k t).number u.number (live_in u) (live_in (get_or live k t)) number ∙ rw (e, get_or-set_same live i u t inside) refl) |
-        inr ne ↦ (let apart = numbers_apart live k i t numbered in_k inside ne in
+    let in_k : k < length live = omega (arith, length-map (map live_in live) f, length-map live live_in) in
+    let left : get_or (map f (map live_in live)) k d ≡ f (live_in (get_or live k t)) =
+    get_or-map f (map live_in live) k (live_in t) d (omega (arith, length-map live live_in)) ∙ ap f (get_or-map live_in live k t (live_in t) in_k) in
+    let right : get_or (map live_in (set live i u)) k d ≡ live_in (get_or (set live i u) k t) =
+    get_or-map live_in (set live i u) k t d (omega (arith, length-set live i u)) in
+    left ∙ elim (cases_eq k i) [
+      | inl e ↦ (let number : (get_or live k t).number ≡ u.number = rw (e, ← (is t)) (sym same) in
+          chosen (get_or live k t).number u.number (live_in u) (live_in (get_or live k t)) number ∙ rw (e, get_or-set_same live i u t inside) refl)
+      | inr ne ↦ (let apart = numbers_apart live k i t numbered in_k inside ne in
           let other : (get_or live k t).number ≢ u.number = λ e. apart (e ∙ same ∙ ap (λ (x : Attached). x.number) (is t)) in
-          kept (get_or live k t).number u.number (live_in u) (live_in (get_or live k t)) other ∙ ap live_in (sym (get_or-set_other live i k u t ne))) ]
-      ∙ sym right)
+          kept (get_or live k t).number u.number (live_in u) (live_in (get_or live k t)) other ∙ ap live_in (sym (get_or-set_other live i k u t ne)))
+    ]
+    ∙ sym right)
 
 numbered_tail : (t : Attached) (live : List Attached) → Numbered (t ∷ live) → Numbered live
 numbered_tail t live numbered = λ j k d lt in'. numbered (suc j) (suc k) d (omega arith) (omega arith)

@@ -1,5 +1,5 @@
 -- How long a record of a transaction can be, and that one with a write has runs.
-use Rattle.std.proofs.Common.{◌≡◌, ◌≢◌, ◌∙◌, sym, refl, ap, ℕ, zero, suc, ◌+◌, ◌*◌, ◌<◌, ◌≤◌, ◌^◌, Bool, true, false, ◌&&◌, ◌||◌, ◌==◌, cond, IsTrue, List, [], ◌∷◌, ◌++◌, length, get_or, Option, Some, None, arith, zero-add}
+use Rattle.std.proofs.Common.{◌≡◌, ◌∙◌, sym, refl, ap, ℕ, zero, suc, ◌+◌, ◌*◌, ◌<◌, ◌≤◌, ◌^◌, Bool, true, false, ◌||◌, ◌==◌, cond, IsTrue, List, [], ◌∷◌, length, get_or, Option, Some, None, arith, zero-add}
 use Rattle.std.proofs.Common.{inl, inr}
 use Rattle.std.proofs.lemmas.Bool.{cases_eq}
 use Rattle.std.specs.Option.{is_some}
@@ -29,8 +29,9 @@ pub joined_bytes : (b p value : ℕ) (rest : List Run) → sum_by bytes_of_run (
 joined_bytes b p value [] = omega arith
 joined_bytes b p value (run ∷ rest) =
     elim (run.off == p + 1) as (λ t. sum_by bytes_of_run (cond t (record { block = b; off = p; bytes = value ∷ run.bytes } ∷ rest) (record { block = b; off = p; bytes = value ∷ [] } ∷ run ∷ rest)) ≤ 9 + sum_by bytes_of_run (run ∷ rest)) [
-      true ↦ omega (arith, sum_by-cons bytes_of_run (record { block = b; off = p; bytes = value ∷ run.bytes }) rest, sum_by-cons bytes_of_run run rest) |
-      false ↦ omega (arith, sum_by-cons bytes_of_run (record { block = b; off = p; bytes = value ∷ [] }) (run ∷ rest)) ]
+      | true ↦ omega (arith, sum_by-cons bytes_of_run (record { block = b; off = p; bytes = value ∷ run.bytes }) rest, sum_by-cons bytes_of_run run rest)
+      | false ↦ omega (arith, sum_by-cons bytes_of_run (record { block = b; off = p; bytes = value ∷ [] }) (run ∷ rest))
+    ]
 
 pub runs_from_bytes : (b p : ℕ) (values : List (Option ℕ)) → sum_by bytes_of_run (runs_from b p values) ≤ 9 * length values
 runs_from_bytes b p [] = omega arith
@@ -73,8 +74,9 @@ effects_from_at accesses b p (suc n) (suc k) below = let e : p + suc k ≡ p + 1
 pub flat_map_some : (f : ℕ → List Run) (a n b : ℕ) → a ≤ b → b < a + n → 0 < length (f b) → 0 < length (flat_map f (range_with_len a n))
 flat_map_some f a zero b from below some = absurd (omega arith)
 flat_map_some f a (suc n) b from below some = elim (cases_eq a b) [
-  inl e ↦ (let here : 0 < length (f a) = rw e some in omega (arith, length-append (f a) (flat_map f (range_with_len (a + 1) n)))) |
-  inr ne ↦ (let h = flat_map_some f (a + 1) n b (omega arith) (omega arith) some in omega (arith, length-append (f a) (flat_map f (range_with_len (a + 1) n)))) ]
+  | inl e ↦ (let here : 0 < length (f a) = rw e some in omega (arith, length-append (f a) (flat_map f (range_with_len (a + 1) n))))
+  | inr ne ↦ (let h = flat_map_some f (a + 1) n b (omega arith) (omega arith) some in omega (arith, length-append (f a) (flat_map f (range_with_len (a + 1) n))))
+]
 
 pub some_covered : (size : ℕ) (spans : List Span) → 0 < size → All (IsSpan size) spans → (p : ℕ) × (p < size) × (covered spans p ≡ true)
 some_covered size [] some are = (0, some, refl)

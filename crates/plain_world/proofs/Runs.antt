@@ -1,11 +1,11 @@
 -- What the runs of marked bytes begin with.
-use Rattle.std.proofs.Common.{◌≡◌, ◌≢◌, ◌∙◌, sym, refl, ap, ℕ, zero, suc, ◌+◌, ◌-◌, ◌<◌, ◌≤◌, Bool, true, false, ◌==◌, cond, List, [], ◌∷◌, ◌++◌, length, get_or, take, drop, Option, Some, None, arith, add-one}
+use Rattle.std.proofs.Common.{◌≡◌, ◌∙◌, sym, refl, ap, ℕ, zero, suc, ◌+◌, ◌-◌, ◌<◌, ◌≤◌, Bool, true, false, ◌==◌, cond, List, [], ◌∷◌, ◌++◌, length, get_or, take, drop, Option, Some, None, arith, add-one}
 use Rattle.iso_model.specs.declared.access.Run.{Run}
 use Rattle.iso_model.specs.Effect.{joined, runs_from, effects_from}
 use Rattle.plain_world.specs.Bytes.{is_at, values_of}
 use Rattle.std.specs.List.{list_any, flat_map, range_with_len}
 use Rattle.std.proofs.lemmas.Grind.{common_steps}
-use Rattle.std.proofs.lemmas.List.{drop-drop, drop_more, drop_all, take_rest, get_or-drop, get_or_past, length-drop, append_assoc, append-nil}
+use Rattle.std.proofs.lemmas.List.{drop-drop, drop_more, drop_all, get_or-drop, get_or_past, length-drop, append_assoc, append-nil}
 use Rattle.iso_model.specs.declared.access.Access.{Access}
 use Rattle.iso_model.specs.declared.access.Kind.TheVariants.{Write}
 use Rattle.plain_world.proofs.Covering.{no_effect}
@@ -72,9 +72,9 @@ pub runs_up_to : (b s i : ℕ) (marks : List Bool) (bytes : List ℕ) → s < i 
 runs_up_to b s i marks bytes some inside same all end =
     let e : s + (i - s) ≡ i = omega arith in
     let dropped : drop (i - s) (drop s marks) ≡ false ∷ drop (i + 1) marks =
-        rw (drop-drop (i - s) s marks, e, drop_more marks i false inside, end) refl in
+    rw (drop-drop (i - s) s marks, e, drop_more marks i false inside, end) refl in
     let dropped_bytes : drop (i - s) (drop s bytes) ≡ get_or bytes i 0 ∷ drop (i + 1) bytes =
-        rw (drop-drop (i - s) s bytes, e, drop_more bytes i 0 (omega arith)) refl in
+    rw (drop-drop (i - s) s bytes, e, drop_more bytes i 0 (omega arith)) refl in
     front_run b s (i - s) (drop s marks) (drop s bytes) (omega arith) (omega (arith, length-drop s marks)) (omega (arith, length-drop s marks, length-drop s bytes))
     (λ k below. get_or-drop s marks k false ∙ all (s + k) (omega arith) (omega arith)) (get_or-drop s marks (i - s) false ∙ rw e end)
     ∙ rw (dropped, dropped_bytes, e) refl

@@ -1,9 +1,7 @@
 -- The runs of what accesses write are maximal, rise and lie in the array.
-use Rattle.std.proofs.Common.{◌≡◌, ◌≢◌, ◌⊎◌, inl, inr, ◌∙◌, sym, refl, ap, ℕ, zero, suc, ◌+◌, ◌<◌, ◌≤◌, Bool, true, false, ◌==◌, cond, List, [], ◌∷◌, ◌++◌, length, Option, Some, None, arith, subst}
+use Rattle.std.proofs.Common.{◌≡◌, inl, inr, sym, refl, ap, ℕ, zero, suc, ◌+◌, ◌<◌, ◌≤◌, Bool, true, false, ◌==◌, cond, List, [], ◌∷◌, ◌++◌, length, Option, Some, None, arith, subst}
 use Rattle.std.specs.List.{flat_map, range_with_len}
-use Rattle.std.proofs.lemmas.Grind.{common_steps}
 use Rattle.std.proofs.lemmas.Bool.Decides.{nat_tests}
-use Rattle.std.proofs.lemmas.List.{append_assoc, append-nil}
 use Rattle.iso_model.specs.declared.access.Access.{Access}
 use Rattle.iso_model.specs.declared.access.Geometry.{Geometry}
 use Rattle.iso_model.specs.declared.access.Run.{Run}

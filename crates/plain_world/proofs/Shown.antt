@@ -1,15 +1,14 @@
 -- A block of the array after commits and a transaction's own writes.
-use Rattle.std.proofs.Common.{◌≡◌, ◌∙◌, sym, refl, ap, ℕ, zero, suc, ◌+◌, ◌-◌, ◌<◌, Bool, true, false, ◌&&◌, ◌==◌, cond, List, [], ◌∷◌, length, get_or, set, drop, take, map, replicate, arith}
+use Rattle.std.proofs.Common.{◌≡◌, ◌∙◌, refl, ap, ℕ, ◌+◌, ◌-◌, ◌<◌, Bool, true, false, ◌&&◌, ◌==◌, cond, List, [], ◌∷◌, length, get_or, drop, take, map, replicate, arith}
 use Rattle.std.proofs.lemmas.List.{length-set, get_or-set_same, get_or-set_other, get_or-replicate, length-replicate, drop_more, get_or-map, length-map}
 use Rattle.std.proofs.lemmas.Bool.Decides.{nat_tests}
 use Rattle.iso_model.specs.declared.access.Access.{Access}
 use Rattle.iso_model.specs.declared.access.Commit.{Commit}
-use Rattle.iso_model.specs.declared.access.Kind.TheVariants.{Write}
 use Rattle.iso_model.specs.Array.{Array, merged, put, zeros}
 use Rattle.iso_model.specs.Effect.{is_write, own}
-use Rattle.iso_model.specs.History.{History, all_own, array_at, shown_block}
+use Rattle.iso_model.specs.History.{all_own, shown_block}
 use Rattle.plain_world.specs.declared.entry.Entry.{Entry}
-use Rattle.plain_world.specs.Bytes.{is_at, laid, laid_all}
+use Rattle.plain_world.specs.Bytes.{laid, laid_all}
 use Rattle.plain_world.specs.View.{commit_in}
 
 pub length-put : (A : Array) (w : Access) → length (put A w) ≡ length A

@@ -1,11 +1,10 @@
 -- What holds of the fields of a plain world, and that each change keeps it.
-use Rattle.std.proofs.Common.{◌≡◌, ◌≢◌, ◌⊎◌, ◌∙◌, sym, refl, ap, inl, inr, ℕ, zero, suc, ◌+◌, ◌<◌, ◌≤◌, Bool, true, false, IsTrue, List, [], ◌∷◌, ◌++◌, length, get_or, set, map, take, drop, replicate, ◌-◌, ◌==◌, ◌||◌, arith, subst}
+use Rattle.std.proofs.Common.{◌≡◌, ◌⊎◌, ◌∙◌, sym, refl, ap, inl, inr, ℕ, zero, suc, ◌+◌, ◌<◌, ◌≤◌, false, IsTrue, List, [], ◌∷◌, ◌++◌, length, get_or, set, map, replicate, ◌-◌, ◌==◌, ◌||◌, arith, subst}
 use Rattle.std.specs.Prelude.{nat_lt}
 use Rattle.std.proofs.lemmas.Bool.Decides.{nat_tests}
-use Rattle.std.specs.List.{All, AllPairs, AllByRecursion, sum_by, remove}
+use Rattle.std.specs.List.{All, AllByRecursion, sum_by, remove}
 use Rattle.std.proofs.lemmas.Bool.{cases_eq}
-use Rattle.std.proofs.lemmas.Grind.{common_steps, elements}
-use Rattle.std.proofs.lemmas.List.{get_or-set_same, get_or-set_other, length-set, length_push, get_or_default, length-map, length-append, length-replicate}
+use Rattle.std.proofs.lemmas.List.{get_or-set_same, get_or-set_other, length-set, length_push, length-map, length-append, length-replicate}
 use Rattle.std.proofs.lemmas.List.Elements.{All-head, All-tail, All-push, All-set, All-weaker, All-nil, All-cons}
 use Rattle.std.proofs.lemmas.List.Quantifiers.{all_pairs_push, all_pairs_remove}
 use Rattle.std.proofs.lemmas.List.Sums.{sum_by-cons, sum_by_push}
@@ -16,15 +15,13 @@ use Rattle.iso_model.specs.declared.access.Mode.{Mode}
 use Rattle.iso_model.specs.declared.limits.TheConstants.{LAST, MAX_ACCESSES, MAX_LIVE}
 use Rattle.iso_model.specs.Effect.{runs, record_length}
 use Rattle.iso_model.specs.Geometry.{is_valid}
-use Rattle.iso_model.specs.History.{last}
 use Rattle.iso_model.specs.Image.{IsRecord, written}
 use Rattle.iso_model.specs.Step.{put_access, read_access}
 use Rattle.iso_model.specs.World.{Live}
 use Rattle.plain_world.specs.declared.entry.Attached.{Attached}
 use Rattle.plain_world.specs.declared.entry.Entry.{Entry}
-use Rattle.plain_world.specs.Bytes.{HasBytes}
 use Rattle.plain_world.specs.Plain.{IsPlain}
-use Rattle.plain_world.specs.View.{Sound, IsEntry, IsAttached, IsAccess, IsSpan, MayHave, Numbered, HaveBytes, bytes_of, commit_in, live_in, plain}
+use Rattle.plain_world.specs.View.{Sound, IsEntry, IsAttached, IsAccess, IsSpan, MayHave, Numbered, bytes_of, commit_in, plain}
 use Rattle.plain_world.proofs.RunsAreRuns.{runs_are_runs}
 use Rattle.plain_world.proofs.Valid.{keeps_limits}
 
@@ -85,7 +82,7 @@ sound_begun g entries live next used client mode sound room number may =
       commits = sound.commits;
       last = sound.last;
       attached = All-push (IsAttached g (length entries) (next + 1)) live t (attached_later g (length entries) (length entries) next (next + 1) live (omega arith) (omega arith) sound.attached)
-        (record { accesses = All-nil (IsAccess g); count = omega arith; begin = omega arith; number = omega arith; mode = may });
+          (record { accesses = All-nil (IsAccess g); count = omega arith; begin = omega arith; number = omega arith; mode = may });
       numbered = all_pairs_push (λ x y. x.number < y.number) live t sound.numbered (λ k d in'. (sound.attached k d in').number);
       count = omega (arith, length_push live t);
       numbers = omega arith;
@@ -95,8 +92,9 @@ sound_begun g entries live next used client mode sound room number may =
 
 pub number_at_set : (live : List Attached) (i j : ℕ) (t d : Attached) → i < length live → t.number ≡ (get_or live i d).number → (get_or (set live i t) j d).number ≡ (get_or live j d).number
 number_at_set live i j t d inside same = elim (cases_eq j i) [
-  inl e ↦ rw (e, get_or-set_same live i t d inside) same |
-  inr ne ↦ rw (get_or-set_other live i j t d ne) refl ]
+  | inl e ↦ rw (e, get_or-set_same live i t d inside) same
+  | inr ne ↦ rw (get_or-set_other live i j t d ne) refl
+]
 
 pub numbered_set : (live : List Attached) (i : ℕ) (t : Attached) → i < length live → ((d : Attached) → t.number ≡ (get_or live i d).number) → Numbered live → Numbered (set live i t)
 numbered_set live i t inside same numbered j k d lt in' =
@@ -112,7 +110,7 @@ sound_added g entries live next used i t a sound inside is room access =
       commits = sound.commits;
       last = sound.last;
       attached = All-set (IsAttached g (length entries) next) live i (record t { accesses = t.accesses ++ a ∷ [] })
-        (record { accesses = All-push (IsAccess g) t.accesses a was.accesses access; count = omega (arith, length_push t.accesses a); begin = was.begin; number = was.number; mode = was.mode }) sound.attached;
+          (record { accesses = All-push (IsAccess g) t.accesses a was.accesses access; count = omega (arith, length_push t.accesses a); begin = was.begin; number = was.number; mode = was.mode }) sound.attached;
       numbered = numbered_set live i (record t { accesses = t.accesses ++ a ∷ [] }) inside (λ d. ap (λ (x : Attached). x.number) (is d)) sound.numbered;
       count = omega (arith, sound.count, length-set live i (record t { accesses = t.accesses ++ a ∷ [] }));
       numbers = sound.numbers;
@@ -133,8 +131,9 @@ length_removed (x ∷ xs) (suc i) inside = let h = length_removed xs i (omega ar
 
 pub all_removed : {X : Type 0} (P : X → Type 0) (xs : List X) (i : ℕ) → i < length xs → All P xs → All P (remove xs i)
 all_removed P xs i inside all k d below = elim (below_or_not k i) [
-  inl lt ↦ rw (get_or-remove_below xs i d k lt inside) (all k d (omega (arith, length_removed xs i inside))) |
-  inr ge ↦ rw (get_or-remove_above xs i d k ge inside) (all (k + 1) d (omega (arith, length_removed xs i inside))) ]
+  | inl lt ↦ rw (get_or-remove_below xs i d k lt inside) (all k d (omega (arith, length_removed xs i inside)))
+  | inr ge ↦ rw (get_or-remove_above xs i d k ge inside) (all (k + 1) d (omega (arith, length_removed xs i inside)))
+]
 
 pub sound_left : (g : Geometry) (entries : List Entry) (live : List Attached) (next used i : ℕ) → Sound g entries live next used
     → i < length live → Sound g entries (remove live i) next used

@@ -1,7 +1,6 @@
 -- What each operation is answered, case by case.
-use Rattle.std.proofs.Common.{◌≡◌, ◌≢◌, ◌∙◌, sym, refl, ap, ℕ, zero, suc, ◌+◌, ◌-◌, ◌<◌, ◌≤◌, Bool, true, false, ◌==◌, ◌&&◌, ◌||◌, not, cond, List, [], ◌∷◌, ◌++◌, length, get_or, set, map, take, drop, replicate, Option, Some, None, arith}
+use Rattle.std.proofs.Common.{◌≡◌, ◌≢◌, ◌∙◌, refl, ap, ℕ, ◌+◌, ◌-◌, ◌<◌, ◌≤◌, Bool, true, false, ◌==◌, ◌&&◌, ◌||◌, not, List, [], ◌∷◌, ◌++◌, length, get_or, set, map, take, drop, replicate, Option, Some, None, arith}
 use Rattle.std.specs.Prelude.{nat_le, nat_lt}
-use Rattle.std.specs.Option.{unwrap_or}
 use Rattle.std.specs.List.{All, remove}
 use Rattle.std.proofs.lemmas.Bool.Decides.{nat_tests}
 use Rattle.std.proofs.lemmas.List.{length-map, map_push, take-map, get_or_default}
@@ -21,7 +20,7 @@ use Rattle.iso_model.specs.Effect.{has_write, record_length, runs}
 use Rattle.iso_model.specs.Geometry.{same_mode}
 use Rattle.iso_model.specs.History.{last, shown_block}
 use Rattle.iso_model.specs.Step.{step, begin_step, put_step, read_step, commit_step, end_step, mode_named, after_begin, with_access, after_leaving, after_commit, put_access, read_access}
-use Rattle.iso_model.specs.World.{World, Live, attached, client, used, with}
+use Rattle.iso_model.specs.World.{World, Live, attached, used}
 use Rattle.plain_world.specs.declared.entry.Attached.{Attached}
 use Rattle.plain_world.specs.declared.entry.Entry.{Entry}
 use Rattle.plain_world.specs.Bytes.{laid, laid_all}
@@ -259,8 +258,8 @@ read_plain g entries live next i t b numbered inside is good many =
     let n : List ℕ → Reply × World = λ bytes. (reply.Shown bytes, with_access (plain g entries (map live_in live) next) (live_in t) (read_access b)) in
     let v : World → Reply × World = λ V. (reply.Shown (laid t.accesses b (laid_all (map commit_in (take t.begin entries)) b (replicate g.block 0))), V) in
     let bytes : shown_block (plain g entries (map live_in live) next).history t.begin t.accesses b ≡ laid t.accesses b (laid_all (map commit_in (take t.begin entries)) b (replicate g.block 0)) =
-        shown_is g.block g.blocks (map commit_in entries) t.begin t.accesses b good
-        ∙ ap (λ (commits : List Commit). laid t.accesses b (laid_all commits b (replicate g.block 0))) (take-map commit_in t.begin entries) in
+    shown_is g.block g.blocks (map commit_in entries) t.begin t.accesses b good
+    ∙ ap (λ (commits : List Commit). laid t.accesses b (laid_all commits b (replicate g.block 0))) (take-map commit_in t.begin entries) in
     read_done (plain g entries (map live_in live) next) (live_in t) b good many
     ∙ ap n bytes ∙ ap v (added_is g entries live next i t (read_access b) numbered inside is)
 
@@ -271,8 +270,8 @@ left_plain answer g entries live next i t numbered inside is =
 
 pub committed_plain : (g : Geometry) (entries : List Entry) (live : List Attached) (next i : ℕ) (t : Attached) (parts : List Run) → Numbered live → i < length live → ((d : Attached) → t ≡ get_or live i d)
     → (let f : ℕ → World → Reply × World = λ n V. (reply.Committed n, V) in
-      f (last (plain g entries (map live_in live) next).history + 1) (after_commit (plain g entries (map live_in live) next) (live_in t))
-      ≡ f (length entries + 1) (plain g (entries ++ entry_of t parts ∷ []) (map live_in (remove live i)) next))
+    f (last (plain g entries (map live_in live) next).history + 1) (after_commit (plain g entries (map live_in live) next) (live_in t))
+    ≡ f (length entries + 1) (plain g (entries ++ entry_of t parts ∷ []) (map live_in (remove live i)) next))
 committed_plain g entries live next i t parts numbered inside is =
     let n : ℕ → Reply × World = λ k. (reply.Committed (k + 1), after_commit (plain g entries (map live_in live) next) (live_in t)) in
     let v : World → Reply × World = λ V. (reply.Committed (length entries + 1), V) in

@@ -1,7 +1,6 @@
 -- What a valid geometry keeps to.
-use Rattle.std.proofs.Common.{◌≡◌, refl, ℕ, ◌≤◌, Bool, true, false, ◌&&◌, ◌||◌, IsTrue, arith}
+use Rattle.std.proofs.Common.{refl, ℕ, ◌≤◌, Bool, true, false, ◌&&◌, IsTrue, arith}
 use Rattle.std.proofs.lemmas.Bool.Decides.{nat_tests}
-use Rattle.std.proofs.lemmas.Grind.{common_steps}
 use Rattle.iso_model.specs.declared.access.Geometry.{Geometry}
 use Rattle.iso_model.specs.Geometry.{is_valid, is_block_size}
 

@@ -1,5 +1,5 @@
 -- How a transaction ends.
-use Rattle.std.specs.Prelude.{◌≡◌, ℕ, ◌+◌, ◌<◌, ◌≤◌, List, Option, None, length as length_of}
+use Rattle.std.specs.Prelude.{◌≡◌, ℕ, ◌+◌, ◌<◌, ◌≤◌, List, None, length as length_of}
 use Rattle.iso_model.specs.declared.access.Run.{Run}
 use Rattle.iso_model.specs.declared.script.Reply.{Reply}
 use Rattle.iso_model.specs.declared.script.Reply.TheVariants.{Committed}

@@ -1,5 +1,5 @@
 -- What holds of the world of an image that nobody else writes and whose commits are all in its log.
-use Rattle.std.specs.Prelude.{◌≡◌, ℕ, ◌+◌, ◌≤◌, IsTrue, map}
+use Rattle.std.specs.Prelude.{◌≡◌, ◌+◌, ◌≤◌, IsTrue, map}
 use Rattle.std.specs.List.{AllByRecursion}
 use Rattle.iso_model.specs.declared.limits.TheConstants.{LAST}
 use Rattle.iso_model.specs.Array.{zeros}

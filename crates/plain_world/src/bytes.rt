@@ -46,7 +46,9 @@ pub fn is_access_at(access: &Access, kind: Kind, block: u32) -> bool
 pub fn some_access_at(accesses: &[Access], kind: Kind, block: u32) -> bool
     ensures { result ≡ list_any (is_at kind block) accesses.now }
 {
-    accesses.iter().any(|access| is_access_at(access, kind, block))
+    accesses
+        .iter()
+        .any(|access| is_access_at(access, kind, block))
 }
 
 /// Sets the marks of the bytes that the spans cover.
@@ -61,7 +63,13 @@ fn mark(spans: &[Span], marks: &mut [bool])
 }
 
 /// Which bytes of a block the accesses of a kind cover.
-pub fn marks_of(alloc: Global, accesses: &[Access], kind: Kind, block: u32, size: usize) -> Result<Vec<bool>, Memory>
+pub fn marks_of(
+    alloc: Global,
+    accesses: &[Access],
+    kind: Kind,
+    block: u32,
+    size: usize,
+) -> Result<Vec<bool>, Memory>
     ensures { IfOk result (λ marks. marks.items ≡ map (touches kind accesses.now block) (range_with_len 0 size)) }
 {
     let mut marks = vec![in alloc; false; size]?;
@@ -98,7 +106,12 @@ pub fn lay(accesses: &[Access], block: u32, into: &mut [u8])
 }
 
 /// The bytes of a block of zeros after the writes of the accesses.
-pub fn written_bytes(alloc: Global, accesses: &[Access], block: u32, size: usize) -> Result<Vec<u8>, Memory>
+pub fn written_bytes(
+    alloc: Global,
+    accesses: &[Access],
+    block: u32,
+    size: usize,
+) -> Result<Vec<u8>, Memory>
     requires { All (HasBytes size) accesses.now }
     ensures { IfOk result (λ bytes. bytes.items ≡ laid accesses.now block (replicate size 0)) }
 {

@@ -85,7 +85,12 @@ pub fn ending_of(
 }
 
 /// Makes a transaction the next commit. Without memory all stays as it is.
-pub fn commit(entries: &mut Vec<Entry>, live: &mut Vec<Attached>, i: usize, parts: PartList) -> Result<(), Memory>
+pub fn commit(
+    entries: &mut Vec<Entry>,
+    live: &mut Vec<Attached>,
+    i: usize,
+    parts: PartList,
+) -> Result<(), Memory>
     requires { i < vec_len live.old }
     ensures committed { OnOk result (HoldsAt (λ t. entries.new.items ≡ entries.old.items ++ entry_of t parts ∷ []) live.old.items i) }
     ensures left { OnOk result (live.new.items ≡ remove live.old.items i) }

@@ -91,7 +91,14 @@ pub fn clash_of(
 {
     for i in begin..entries.len() {
         let number = i as u64 + 1;
-        if let Some(found) = clash_with(alloc, geometry, number, &entries[i].commit, mode, accesses)? {
+        if let Some(found) = clash_with(
+            alloc,
+            geometry,
+            number,
+            &entries[i].commit,
+            mode,
+            accesses,
+        )? {
             return Ok(Some(found));
         }
     }

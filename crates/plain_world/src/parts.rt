@@ -31,7 +31,13 @@ fn add_runs(parts: &mut PartList, block: u32, marks: &[bool], bytes: &[u8]) -> R
 }
 
 /// Adds the maximal runs of the bytes of a block that the accesses write.
-fn add_block(alloc: Global, parts: &mut PartList, accesses: &[Access], block: u32, size: usize) -> Result<(), Memory>
+fn add_block(
+    alloc: Global,
+    parts: &mut PartList,
+    accesses: &[Access],
+    block: u32,
+    size: usize,
+) -> Result<(), Memory>
     requires small { size ≤ 4096 }
     requires whole { All (HasBytes size) accesses.now }
     ensures { OnOk result (parts.new ≡ parts.old ++ block_runs size accesses.now block) }

@@ -59,7 +59,13 @@ pub fn fits_in_block(size: usize, off: usize, bytes: &[u8]) -> bool
 }
 
 /// A write of these bytes in a block of zeros, with one mark over them.
-pub fn marked_write(alloc: Global, size: usize, block: u32, off: usize, bytes: &[u8]) -> Result<Access, Memory>
+pub fn marked_write(
+    alloc: Global,
+    size: usize,
+    block: u32,
+    off: usize,
+    bytes: &[u8],
+) -> Result<Access, Memory>
     requires fits { off + length bytes.now ≤ size }
     requires small { size ≤ 4096 }
     ensures { IfOk result (λ access. access ≡ put_access size block off bytes.now) }

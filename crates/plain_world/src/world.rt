@@ -11,7 +11,9 @@ use crate::ending::{Ending, commit, ending_of};
 use crate::entry::{Attached, Entry, may_have};
 use crate::reading::{fits_in_block, marked_write, shown, whole_read};
 use crate::transactions::{add_access, place_of};
-use iso_model::{AccessList, Bytes, Geometry, LAST, MAX_ACCESSES, MAX_LIVE, Memory, Mode, Op, PartList, Reply};
+use iso_model::{
+    AccessList, Bytes, Geometry, LAST, MAX_ACCESSES, MAX_LIVE, Memory, Mode, Op, PartList, Reply,
+};
 use std::alloc::Global;
 use std::marker::Model;
 
@@ -186,7 +188,13 @@ impl PlainWorld {
         }
         let size = self.geometry.block as usize;
         let commits = &self.entries[..transaction.begin as usize];
-        let bytes = shown(self.alloc, size, commits, transaction.accesses.as_slice(), block)?;
+        let bytes = shown(
+            self.alloc,
+            size,
+            commits,
+            transaction.accesses.as_slice(),
+            block,
+        )?;
         add_access(&mut self.live, i, whole_read(self.alloc, block))?;
         Ok(Reply::Shown(Bytes::of(bytes)))
     }
@@ -210,7 +218,13 @@ impl PlainWorld {
         let Some(i) = place_of(&self.live, client) else {
             return Ok(Reply::NotInTx);
         };
-        match ending_of(self.alloc, &self.geometry, &self.entries, self.used, &self.live[i])? {
+        match ending_of(
+            self.alloc,
+            &self.geometry,
+            &self.entries,
+            self.used,
+            &self.live[i],
+        )? {
             Ending::Stays(reply) => Ok(reply),
             Ending::Leaves(reply) => {
                 let _ = self.live.remove(i);

@@ -1,4 +1,4 @@
-use Rattle.std.proofs.Common.{◌≡◌, ℕ, ◌++◌, take, drop}
+use Rattle.std.proofs.Common.{◌≡◌, ◌++◌, take, drop}
 use Rattle.iso_model.specs.Array.{merged}
 use Rattle.plain_world.proofs.bytes.merge.Given as goal
 

@@ -1,10 +1,10 @@
-use Rattle.std.proofs.Common.{◌≡◌, ◌∙◌, sym, refl, ap, arith, subst, ◌+◌, true, false, drop, map, Some, None, ℕ, List}
+use Rattle.std.proofs.Common.{◌≡◌, ◌∙◌, sym, ap, subst, ◌+◌, true, false, drop, map, Some, None}
 use Rattle.std.proofs.lemmas.Result.{IfOk-weaker}
 use Rattle.iso_model.specs.declared.script.Reply.{Reply}
 use Rattle.iso_model.specs.Conflict.{clash_from}
 use Rattle.iso_model.specs.Effect.{has_write}
-use Rattle.iso_model.specs.World.{World, Live}
-use Rattle.plain_world.specs.Ending.{Says, IsCommitting, IsEnding}
+use Rattle.iso_model.specs.World.{World}
+use Rattle.plain_world.specs.Ending.{Says}
 use Rattle.plain_world.specs.View.{commit_in, live_in, plain}
 use Rattle.plain_world.proofs.Steps.{end_read_only, end_with_write, commit_conflict}
 use Rattle.plain_world.proofs.Valid.{keeps_limits}
@@ -24,7 +24,7 @@ returns-in-Some c = λ live next.
     let t = c.args.transaction.now in
     let some : has_write c.args.transaction.now.accesses ≡ true = ap has_write (sym c.as_slice-accesses.ensures) ∙ sym c.some_write.ensures ∙ c.if-not-some_write.false in
     let found : Some c.in-Some.found ≡ clash_from g t.mode t.accesses (t.begin + 1) (drop t.begin (map commit_in c.args.entries.now)) =
-        sym c.in-Some.is ∙ c.in_ok-found.ensures ∙ ap (λ l. clash_from g t.mode l (t.begin + 1) (drop t.begin (map commit_in c.args.entries.now))) c.as_slice-accesses.ensures in
+    sym c.in-Some.is ∙ c.in_ok-found.ensures ∙ ap (λ l. clash_from g t.mode l (t.begin + 1) (drop t.begin (map commit_in c.args.entries.now))) c.as_slice-accesses.ensures in
     end_with_write g c.args.entries.now live next (live_in t) (Some c.in-Some.found) some found ∙ commit_conflict _ _ c.in-Some.found
 
 pub committing-requires-clause-writes : goal.committing-requires-clause-writes
@@ -36,7 +36,7 @@ returns-in-None c =
     let t = c.args.transaction.now in
     let some : has_write c.args.transaction.now.accesses ≡ true = ap has_write (sym c.as_slice-accesses.ensures) ∙ sym c.some_write.ensures ∙ c.if-not-some_write.false in
     let found : None ≡ clash_from g t.mode t.accesses (t.begin + 1) (drop t.begin (map commit_in c.args.entries.now)) =
-        sym c.in-None.is ∙ c.in_ok-found.ensures ∙ ap (λ l. clash_from g t.mode l (t.begin + 1) (drop t.begin (map commit_in c.args.entries.now))) c.as_slice-accesses.ensures in
+    sym c.in-None.is ∙ c.in_ok-found.ensures ∙ ap (λ l. clash_from g t.mode l (t.begin + 1) (drop t.begin (map commit_in c.args.entries.now))) c.as_slice-accesses.ensures in
     IfOk-weaker c.committing.result _ _
     (λ ending says live next. subst (λ (r : Reply × World). Says (plain g c.args.entries.now live next) (live_in t) r ending) (sym (end_with_write g c.args.entries.now live next (live_in t) None some found)) (says live next))
     c.committing.ensures

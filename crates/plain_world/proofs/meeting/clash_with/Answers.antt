@@ -1,5 +1,5 @@
-use Rattle.std.proofs.Common.{◌≡◌, ◌∙◌, sym, refl, ap, arith, ◌<◌, ◌+◌, ◌^◌, Some, None}
-use Rattle.iso_model.specs.Conflict.{clashes, first_from, first_byte}
+use Rattle.std.proofs.Common.{◌≡◌, ◌∙◌, sym, refl, arith, Some, None}
+use Rattle.iso_model.specs.Conflict.{clashes, first_from}
 use Rattle.plain_world.proofs.Least.{first_from_below, first_byte_step}
 use Rattle.plain_world.proofs.meeting.clash_with.Goals as goal
 

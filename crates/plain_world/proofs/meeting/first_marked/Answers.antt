@@ -6,9 +6,10 @@ use Rattle.plain_world.proofs.meeting.first_marked.Goals.{else-left-p-via-then-l
 pub loop-p-preserved : goal.loop-p-preserved
 loop-p-preserved c =
     let miss : (get_or c.args.left.now c.loop-p.p false && get_or c.args.right.now c.loop-p.p false) ≡ false =
-        elim c.else-left-p.branch [
-          else-left-p-via-then-left-p+else-right-p w ↦ rw (w.if-left-p.true, w.if-right-p.false) refl |
-          else-left-p-via-else-left-p w ↦ rw w.if-left-p.false refl ] in
+    elim c.else-left-p.branch [
+      | else-left-p-via-then-left-p+else-right-p w ↦ rw (w.if-left-p.true, w.if-right-p.false) refl
+      | else-left-p-via-else-left-p w ↦ rw w.if-left-p.false refl
+    ] in
     c.loop-p.invariant
     ∙ first_from_step (λ p. get_or c.args.left.now p false && get_or c.args.right.now p false) c.loop-p.p (length c.args.left.now) (omega arith)
     ∙ rw miss refl

@@ -1,9 +1,9 @@
-use Rattle.std.proofs.Common.{◌≡◌, ◌∙◌, sym, refl, ap, arith, map, replicate, length, OnOk}
+use Rattle.std.proofs.Common.{◌≡◌, ◌∙◌, sym, ap, map, replicate, length}
 use Rattle.std.specs.List.{range_with_len}
 use Rattle.std.proofs.lemmas.List.{length-replicate}
 use Rattle.std.proofs.lemmas.List.FromFn.{length-map-range_with_len}
 use Rattle.iso_model.specs.declared.access.Kind.TheVariants.{Write}
-use Rattle.iso_model.specs.Effect.{touches, runs_from}
+use Rattle.iso_model.specs.Effect.{touches}
 use Rattle.plain_world.specs.Bytes.{laid}
 use Rattle.plain_world.proofs.Covering.{length-laid, effects_laid}
 use Rattle.plain_world.proofs.parts.add_block.Goals as goal
@@ -17,7 +17,7 @@ add_runs-requires-clause-same c =
 pub add_runs-requires-clause-small : goal.add_runs-requires-clause-small
 add_runs-requires-clause-small c =
     let same : length c.deref-2.result.now ≡ c.args.size =
-        ap length (c.deref-2.ensures.value ∙ c.in_ok-bytes.ensures) ∙ length-laid c.args.accesses.now c.args.block (replicate c.args.size 0) ∙ length-replicate c.args.size 0 in
+    ap length (c.deref-2.ensures.value ∙ c.in_ok-bytes.ensures) ∙ length-laid c.args.accesses.now c.args.block (replicate c.args.size 0) ∙ length-replicate c.args.size 0 in
     rw same c.requires.small
 
 pub returns : goal.returns

@@ -1,4 +1,4 @@
-use Rattle.std.proofs.Common.{◌≡◌, ◌∙◌, sym, refl, ap, arith, false, ◌+◌, ◌++◌, [], ◌∷◌}
+use Rattle.std.proofs.Common.{◌≡◌, ◌∙◌, sym, refl, arith, false, ◌+◌, ◌++◌, []}
 use Rattle.std.specs.List.{list_any, flat_map, range_with_len}
 use Rattle.std.proofs.lemmas.List.{append-nil}
 use Rattle.iso_model.specs.declared.access.Kind.TheVariants.{Write}
@@ -18,11 +18,12 @@ loop-block-preserved c =
     let b = c.loop-block.block in
     let more : flat_map f (range_with_len 0 (b + 1)) ≡ flat_map f (range_with_len 0 b) ++ f b = flat_map_range_more f 0 b b (omega arith) in
     elim c.if-some_access_at.branch [
-      then-some_access_at+in_ok-add_block w ↦ rw (w.parts-is, w.in_ok-add_block.ensures, more, c.loop-block.invariant) refl |
-      else-some_access_at w ↦
-        (let none : list_any (is_at Write b) c.args.accesses.now ≡ false = cc in
-        let nothing : f b ≡ [] = no_effects c.args.accesses.now b 0 c.args.geometry.now.block none in
-        rw (w.parts-is, more, nothing) (c.loop-block.invariant ∙ sym (append-nil (flat_map f (range_with_len 0 b))))) ]
+      | then-some_access_at+in_ok-add_block w ↦ rw (w.parts-is, w.in_ok-add_block.ensures, more, c.loop-block.invariant) refl
+      | else-some_access_at w ↦
+          (let none : list_any (is_at Write b) c.args.accesses.now ≡ false = cc in
+          let nothing : f b ≡ [] = no_effects c.args.accesses.now b 0 c.args.geometry.now.block none in
+          rw (w.parts-is, more, nothing) (c.loop-block.invariant ∙ sym (append-nil (flat_map f (range_with_len 0 b)))))
+    ]
 
 pub returns : goal.returns
 unfolding runs

@@ -2,9 +2,6 @@ use Rattle.std.proofs.Common.{subst}
 use Rattle.iso_model.specs.World.{World}
 use Rattle.plain_world.specs.Plain.{IsPlain}
 use Rattle.plain_world.proofs.Soundness.{sound_is_plain}
-use Rattle.plain_world.proofs.Living.{with_is}
-use Rattle.plain_world.proofs.RecordLength.{runs_some}
-use Rattle.plain_world.proofs.Steps.{begin_in_tx}
 use Rattle.plain_world.proofs.world.PlainWorld.facts.Goals as goal
 
 pub returns : goal.returns
