@@ -7,6 +7,8 @@ mod entry;
 mod meeting;
 mod parts;
 mod reading;
+#[cfg(test)]
+mod tests;
 mod transactions;
 mod world;
 
