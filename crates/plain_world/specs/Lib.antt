@@ -1,0 +1,4 @@
+pub mod Bytes
+pub mod Ending
+pub mod Plain
+pub mod View
