@@ -1,5 +1,5 @@
 -- What a call of a memory disk does to its moments: nothing, or one more call in the record.
-use Rattle.std.proofs.Common.{◌≡◌, ◌⊎◌, inl, inr, ⊎_elim, ◌<◌, ◌≤◌, ◌+◌, ℕ, List, [], ◌∷◌, ◌++◌, length, take, drop, Some, Vec, refl, sym, ◌∙◌, ap, subst, arith, length-append}
+use Rattle.std.proofs.Common.{◌≡◌, ◌⊎◌, inl, inr, ⊎_elim, ◌≤◌, ◌+◌, ℕ, List, [], ◌∷◌, ◌++◌, length, take, Some, Vec, refl, sym, ◌∙◌, ap, subst, arith, length-append}
 use Rattle.std.proofs.lemmas.List.{take_all, take-append-le}
 use Rattle.std.specs.declared.alloc.Global.{Global}
 use Rattle.iso_disk.specs.Disk.{spliced, TornFrom, Elapses, IsSettled}
@@ -9,7 +9,6 @@ use Rattle.iso_memdisk.specs.declared.disk.MemDisk.{MemDisk}
 use Rattle.iso_memdisk.specs.Record.{written, images_after}
 use Rattle.iso_memdisk.specs.MemDisk.{bytes_of, contents_of, now_of, clock_of, left_of, IsUntouched, Appends}
 use Rattle.iso_memdisk.specs.Replay.{written-image}
-use Rattle.iso_memdisk.specs.Laws.{counts_now}
 use Rattle.iso_memdisk.proofs.Calls.{written-append, images_after-append, images_after-join}
 
 -- the images that first bytes and a record may leave, now and since a moment

@@ -1,12 +1,12 @@
 -- A memory disk keeps the laws of a disk.
 use Rattle.std.specs.Prelude.{◌≡◌, ◌≤◌, ℕ, List, length, take, Some, refl}
-use Rattle.std.proofs.Common.{ap, subst, sym, ◌∙◌}
+use Rattle.std.proofs.Common.{ap, subst, sym}
 use Rattle.std.proofs.Math.Nat.{le_refl, le_trans}
 use Rattle.std.proofs.lemmas.List.{take_all}
 use Rattle.std.proofs.lemmas.Option.{same_Some}
 use Rattle.iso_memdisk.specs.declared.disk.MemDisk.{MemDisk}
 use Rattle.iso_memdisk.specs.declared.record.Call.{Call}
-use Rattle.iso_memdisk.specs.Record.{images_after, AllFit}
+use Rattle.iso_memdisk.specs.Record.{images_after}
 use Rattle.iso_memdisk.specs.MemDisk.{bytes_of, contents_of, now_of, clock_of, left_of, size_of}
 use Rattle.iso_memdisk.specs.Replay.{written-image, length-images_after, AllFit-take}
 

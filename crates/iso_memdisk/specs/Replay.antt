@@ -1,9 +1,8 @@
 -- What the laws of a disk ask of the record of its calls.
-use Rattle.std.specs.Prelude.{◌≡◌, ◌≤◌, ◌+◌, ℕ, zero, suc, List, [], ◌∷◌, length, take, Some, Vec, slice_get, refl}
-use Rattle.std.proofs.Common.{ap, subst, sym, ◌∙◌, ◌⊎◌, take-append-drop}
+use Rattle.std.specs.Prelude.{◌≡◌, ◌≤◌, ◌+◌, ℕ, zero, suc, List, [], ◌∷◌, length, take, refl}
+use Rattle.std.proofs.Common.{ap, subst, sym, ◌∙◌}
 use Rattle.std.proofs.lemmas.Option.{none-some}
-use Rattle.std.specs.declared.alloc.Global.{Global}
-use Rattle.iso_disk.specs.Disk.{spliced, Torn, TornFrom}
+use Rattle.iso_disk.specs.Disk.{spliced, TornFrom}
 use Rattle.iso_disk.proofs.Bytes.{length-spliced, spliced_torn}
 use Rattle.iso_memdisk.specs.declared.record.Call.{Call}
 use Rattle.iso_memdisk.specs.declared.record.Call.TheVariants.{Write, Sync}

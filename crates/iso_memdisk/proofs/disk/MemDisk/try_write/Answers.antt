@@ -1,8 +1,7 @@
-use Rattle.std.proofs.Common.{Vec, ℕ, Option, List, [], ◌∷◌, ◌++◌, ◌≡◌, ◌+◌, ◌≤◌, length, sym, ◌∙◌, ap, subst, arith, rules}
+use Rattle.std.proofs.Common.{Vec, ℕ, Option, List, [], ◌∷◌, ◌++◌, ◌≡◌, length, sym, ◌∙◌, ap, subst, arith, rules}
 use Rattle.std.proofs.lemmas.List.{with_items_is}
 use Rattle.std.specs.declared.alloc.Global.{Global}
 use Rattle.iso_disk.specs.Disk.{spliced}
-use Rattle.iso_disk.proofs.Bytes.{length-spliced}
 use Rattle.iso_memdisk.specs.declared.record.Call.{Call}
 use Rattle.iso_memdisk.specs.declared.record.Call.TheVariants.{Write}
 use Rattle.iso_memdisk.specs.Held.{held}

@@ -1,8 +1,8 @@
-use Rattle.std.proofs.Common.{◌+◌, ◌-◌, ◌^◌, ◌≤◌, min, ap, refl, arith}
+use Rattle.std.proofs.Common.{ap, arith}
 use Rattle.iso_memdisk.specs.declared.failures.Failures.{Failures}
 use Rattle.iso_memdisk.specs.declared.record.Call.TheVariants.{Sync}
 use Rattle.iso_memdisk.specs.MemDisk.{Appends}
-use Rattle.iso_memdisk.proofs.Moves.{elapses_untouched, elapses_sync, contents_sync, settled_sync}
+use Rattle.iso_memdisk.proofs.Moves.{elapses_sync, contents_sync, settled_sync}
 use Rattle.iso_memdisk.proofs.disk.MemDiskDisk.sync.Goals as goal
 
 pub returns-in-Ok-clause-settled : goal.returns-in-Ok-clause-settled

@@ -1,4 +1,4 @@
-use Rattle.std.proofs.Common.{◌+◌, ◌-◌, ◌^◌, ◌≤◌, min, ap, refl, arith}
+use Rattle.std.proofs.Common.{ap, refl, arith}
 use Rattle.iso_disk.proofs.Images.{torn_from_old}
 use Rattle.iso_memdisk.specs.declared.failures.Failures.{Failures}
 use Rattle.iso_memdisk.specs.declared.record.Call.TheVariants.{Write}
