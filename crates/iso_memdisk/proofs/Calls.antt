@@ -1,10 +1,10 @@
 -- What one more call comes to.
-use Rattle.std.proofs.Common.{◌≡◌, ◌≤◌, ◌+◌, ℕ, zero, suc, List, [], ◌∷◌, ◌++◌, length, take, refl, sym, ◌∙◌, ap, subst}
+use Rattle.std.proofs.Common.{Bool, true, false, if◌then◌else◌, ◌≡◌, ◌≤◌, ◌+◌, ℕ, zero, suc, List, [], ◌∷◌, ◌++◌, length, refl, sym, ◌∙◌, subst}
 use Rattle.std.proofs.lemmas.Option.{same_Some}
 use Rattle.std.specs.declared.alloc.Global.{Global}
 use Rattle.std.specs.Prelude.{Vec}
 use Rattle.iso_disk.specs.Disk.{spliced, TornFrom}
-use Rattle.iso_disk.proofs.Bytes.{length-spliced, spliced_torn}
+use Rattle.iso_disk.proofs.Bytes.{length-spliced}
 use Rattle.iso_memdisk.specs.declared.record.Call.{Call}
 use Rattle.iso_memdisk.specs.declared.record.Call.TheVariants.{Write, Sync}
 use Rattle.iso_memdisk.specs.Record.{written, images_after, AllFit, TornBy}
@@ -21,24 +21,6 @@ length-written (Write at new ∷ calls) bytes fit =
     let same = length-spliced bytes at new.items (fit 0 at new refl) in
     length-written calls (spliced bytes at new.items) (λ k a v is. subst (λ (n : ℕ). a + length v.items ≤ n) (sym same) (fit (suc k) a v is)) ∙ same
 length-written (Sync ∷ calls) bytes fit = length-written calls bytes (λ k a v is. fit (suc k) a v is)
-
--- what is read is one of the images
-pub written-image : (calls : List Call) (bytes : List ℕ) (images : List ℕ → Type 0) → AllFit (length bytes) calls → images bytes → images_after calls bytes images (written calls bytes)
-written-image [] bytes images fit here = here
-written-image (Write at new ∷ calls) bytes images fit here =
-    let lies = fit 0 at new refl in
-    let same = length-spliced bytes at new.items lies in
-    written-image calls (spliced bytes at new.items) (TornFrom at (length new.items) images) (λ k a v is. subst (λ (n : ℕ). a + length v.items ≤ n) (sym same) (fit (suc k) a v is)) (record { old = bytes; was = here; torn = spliced_torn bytes at new.items lies })
-written-image (Sync ∷ calls) bytes images fit here = written-image calls bytes (λ c. c ≡ bytes) (λ k a v is. fit (suc k) a v is) refl
-
--- the images keep the length
-pub length-images_after : (calls : List Call) (bytes : List ℕ) (images : List ℕ → Type 0) → AllFit (length bytes) calls → ((c : List ℕ) → images c → length c ≡ length bytes) → (c : List ℕ) → images_after calls bytes images c → length c ≡ length bytes
-length-images_after [] bytes images fit here c image = here c image
-length-images_after (Write at new ∷ calls) bytes images fit here c image =
-    let same = length-spliced bytes at new.items (fit 0 at new refl) in
-    length-images_after calls (spliced bytes at new.items) (TornFrom at (length new.items) images) (λ k a v is. subst (λ (n : ℕ). a + length v.items ≤ n) (sym same) (fit (suc k) a v is)) (λ d t. t.torn.size ∙ here t.old t.was ∙ sym same) c image ∙ same
-length-images_after (Sync ∷ calls) bytes images fit here c image =
-    length-images_after calls bytes (λ c. c ≡ bytes) (λ k a v is. fit (suc k) a v is) (λ d is. ap length is) c image
 
 -- first the one calls, then the others
 pub images_after-append : (r s : List Call) (bytes : List ℕ) (images : List ℕ → Type 0) (c : List ℕ) → images_after (r ++ s) bytes images c → images_after s (written r bytes) (images_after r bytes images) c
@@ -77,9 +59,11 @@ AllFit-sync n [] fit (suc k) a v is = absurd (cc is)
 AllFit-sync n (call ∷ calls) fit zero a v is = fit zero a v is
 AllFit-sync n (call ∷ calls) fit (suc k) a v is = AllFit-sync n calls (λ j b w got. fit (suc j) b w got) k a v is
 
--- the first of them
-pub AllFit-take : (n m : ℕ) (calls : List Call) → AllFit n calls → AllFit n (take m calls)
-AllFit-take n zero calls fit k a v is = absurd (cc is)
-AllFit-take n (suc m) [] fit k a v is = absurd (cc is)
-AllFit-take n (suc m) (call ∷ calls) fit zero a v is = fit zero a v is
-AllFit-take n (suc m) (call ∷ calls) fit (suc k) a v is = AllFit-take n m calls (λ j b w got. fit (suc j) b w got) k a v is
+-- what holds of both outcomes holds of the one that came
+pub AllFit-if : (n : ℕ) (b : Bool) (xs ys : List Call) → AllFit n xs → AllFit n ys → AllFit n (if b then xs else ys)
+AllFit-if n true xs ys first second = first
+AllFit-if n false xs ys first second = second
+
+pub written-if : (b : Bool) (xs ys : List Call) (bytes goal : List ℕ) → goal ≡ written xs bytes → goal ≡ written ys bytes → goal ≡ written (if b then xs else ys) bytes
+written-if true xs ys bytes goal first second = first
+written-if false xs ys bytes goal first second = second

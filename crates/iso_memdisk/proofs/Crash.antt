@@ -2,7 +2,8 @@
 use Rattle.std.proofs.Common.{◌≡◌, ℕ, List, length, take, drop, refl, sym, ◌∙◌, ap, subst, take-append-drop}
 use Rattle.iso_memdisk.specs.declared.record.Call.{Call}
 use Rattle.iso_memdisk.specs.Record.{written, images_after, AllFit, TornBy}
-use Rattle.iso_memdisk.proofs.Calls.{written-append, written-image, images_after-join, torn_image}
+use Rattle.iso_memdisk.proofs.Calls.{written-append, images_after-join, torn_image}
+use Rattle.iso_memdisk.specs.Replay.{written-image}
 
 module _ (calls : List Call) (stable : ℕ) (first mid last : List ℕ) (replayed : mid ≡ written (take stable calls) first) where
   pub crash_image : AllFit (length first) (take stable calls) → TornBy (drop stable calls) mid last → images_after calls first (λ c. c ≡ first) last

@@ -1,7 +1,10 @@
 -- A memory disk as the trait sees it: its first bytes and the record of its calls are replayed for every question.
-use Rattle.std.specs.Prelude.{◌≡◌, ◌≤◌, ℕ, List, length, take, Option, Some}
+use Rattle.std.specs.Prelude.{◌≡◌, ◌⊎◌, ◌≤◌, ℕ, List, [], ◌∷◌, ◌++◌, length, take, Option, Some, Result, IsErr}
 use Rattle.iso_memdisk.specs.declared.disk.MemDisk.{MemDisk}
+use Rattle.iso_memdisk.specs.declared.record.Call.{Call}
 use Rattle.iso_memdisk.specs.declared.failures.Failures.{Failures}
+use Rattle.iso_disk.specs.Disk.{Rose}
+use Rattle.iso_memdisk.specs.Failures.{IsNamed, IsCounted}
 use Rattle.iso_memdisk.specs.Record.{written, synced, images_after}
 
 -- what a read gives
@@ -38,3 +41,22 @@ failures_of d = d.failures
 pub record IsUntouched (old new : MemDisk) : Type 0 where
   pub first : new.first.items ≡ old.first.items
   pub history : new.history.items ≡ old.history.items
+
+-- one more call was done
+pub record Appends (old new : MemDisk) (call : Call) : Type 0 where
+  pub first : new.first.items ≡ old.first.items
+  pub history : new.history.items ≡ old.history.items ++ call ∷ []
+
+-- it has these bytes, all of them stable, and nothing was called since
+pub record Starts (d : MemDisk) (bytes : List ℕ) : Type 0 where
+  pub first : d.first.items ≡ bytes
+  pub history : d.history.items ≡ []
+
+-- A call fails where the plan of failures names it, and else only for want of memory, which is counted. Where it fails
+-- it has done nothing.
+pub record FollowsPlan {T E : Type 0} (old new : MemDisk) (result : Result T E) : Type 0 where
+  pub named : IsNamed old.failures → IsErr result
+  pub unnamed : IsErr result → IsNamed old.failures ⊎ Rose old.failures.starved new.failures.starved
+  pub untouched : IsErr result → IsUntouched old new
+  pub counted : IsCounted old.failures new.failures
+  pub starved : old.failures.starved ≤ new.failures.starved

@@ -1,5 +1,5 @@
 // Which calls are to fail, and how often calls were made, failed, and found no memory.
-ghost use Rattle.std.specs.Prelude.{◌≡◌, ◌+◌, ◌-◌, ◌^◌, ◌↔◌, min, None, IsErr, IsTrue};
+ghost use Rattle.std.specs.Prelude.{◌≡◌, ◌+◌, ◌-◌, ◌^◌, ◌≤◌, ◌↔◌, min, None, IsErr, IsTrue};
 ghost use Rattle.std.specs.Option.{option_map};
 ghost use Rattle.iso_disk.specs.Disk.{Rose, HasCause};
 
@@ -56,6 +56,7 @@ impl Failures {
     pub fn starve(&mut self) -> DiskFault
         ensures starved { Rose self.old.starved self.new.starved }
         ensures faults { Rose self.old.faults self.new.faults }
+        ensures later { (self.old.starved ≤ self.new.starved) × (self.old.faults ≤ self.new.faults) }
         ensures rest { self.new ≡ record self.old { starved = self.new.starved; faults = self.new.faults } }
     {
         self.starved = self.starved.saturating_add(1);

@@ -7,3 +7,6 @@ mod failures;
 mod record;
 
 pub use disk::MemDisk;
+
+#[cfg(test)]
+mod tests;

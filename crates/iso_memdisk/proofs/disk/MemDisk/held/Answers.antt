@@ -1,0 +1,11 @@
+use Rattle.std.proofs.Common.{Vec, ℕ, Option, length, sym, ◌∙◌, ap}
+use Rattle.std.specs.declared.alloc.Global.{Global}
+use Rattle.iso_memdisk.specs.Held.{held}
+use Rattle.iso_memdisk.proofs.Calls.{length-written}
+use Rattle.iso_memdisk.proofs.disk.MemDisk.held.Goals as goal
+
+pub returns-in-Some-clause-length : goal.returns-in-Some-clause-length
+returns-in-Some-clause-length c =
+    let d = c.args.self.now in
+    let is = ap (λ (o : Option (Vec ℕ Global)). held o d.first.items) c.in-Some.is in
+    ap length (c.deref.ensures.value ∙ sym is ∙ d.holds) ∙ length-written d.history.items d.first.items d.writes_fit

@@ -1,0 +1,42 @@
+use Rattle.std.proofs.Common.{Vec, ℕ, Option, List, [], ◌∷◌, ◌++◌, ◌≡◌, length, sym, ◌∙◌, ap, subst, arith, rules}
+use Rattle.std.proofs.lemmas.List.{with_items_is}
+use Rattle.std.specs.declared.alloc.Global.{Global}
+use Rattle.iso_disk.specs.Disk.{spliced}
+use Rattle.iso_memdisk.specs.declared.record.Call.{Call}
+use Rattle.iso_memdisk.specs.declared.record.Call.TheVariants.{Write}
+use Rattle.iso_memdisk.specs.Held.{held}
+use Rattle.iso_memdisk.specs.Record.{written, AllFit}
+use Rattle.iso_memdisk.proofs.Calls.{AllFit-push, written-append, length-written}
+use Rattle.iso_memdisk.proofs.disk.MemDisk.try_write.Goals as goal
+
+pub lay-requires : goal.lay-requires
+lay-requires c =
+    let d = c.make_copy.new.self in
+    let is = ap (λ (o : Option (Vec ℕ Global)). held o d.first.items) c.in-Some.is in
+    let size = ap length (c.deref_mut.ensures.value ∙ sym is ∙ d.holds) ∙ length-written d.history.items d.first.items d.writes_fit in
+    omega (arith, size, ap length c.make_copy.ensures.untouched.first)
+
+pub invariant_of-self-in-Some-clause-writes_fit : goal.invariant_of-self-in-Some-clause-writes_fit
+invariant_of-self-in-Some-clause-writes_fit c =
+    let d = c.make_copy.new.self in
+    let n = length d.first.items in
+    let put : c.in_ok-put.put.items ≡ c.args.bytes.now = search rules in
+    subst (AllFit n) (sym c.in_ok-push.ensures.items) (AllFit-push n d.history.items c.args.at c.in_ok-put.put d.writes_fit (omega (arith, ap length put, ap length c.make_copy.ensures.untouched.first)))
+
+pub invariant_of-self-in-Some-clause-holds : goal.invariant_of-self-in-Some-clause-holds
+invariant_of-self-in-Some-clause-holds c =
+    let d = c.make_copy.new.self in
+    let first = d.first.items in
+    let calls = d.history.items in
+    let put : c.in_ok-put.put.items ≡ c.args.bytes.now = search rules in
+    let is = ap (λ (o : Option (Vec ℕ Global)). held o first) c.in-Some.is in
+    let old : c.deref_mut.result.now ≡ written calls first = c.deref_mut.ensures.value ∙ sym is ∙ d.holds in
+    let len : length c.lay.new.image ≡ c.in-Some.copy.len = c.lay.auto.image ∙ c.deref_mut.ensures.len in
+    let new : c.lay.new.image ≡ spliced (written calls first) c.args.at c.in_ok-put.put.items = c.lay.ensures ∙ (λ i. spliced (old i) c.args.at (sym put i)) in
+    with_items_is c.in-Some.copy c.lay.new.image len ∙ new ∙ sym (written-append calls (Write c.args.at c.in_ok-put.put ∷ []) first)
+    ∙ ap (λ (l : List Call). written l first) (sym c.in_ok-push.ensures.items)
+
+pub returns-in-Some-clause-ok : goal.returns-in-Some-clause-ok
+returns-in-Some-clause-ok c =
+    let put : c.in_ok-put.put.items ≡ c.args.bytes.now = search rules in
+    (c.in_ok-put.put, put, record { first = c.make_copy.ensures.untouched.first; history = c.in_ok-push.ensures.items ∙ ap (λ (l : List Call). l ++ Write c.args.at c.in_ok-put.put ∷ []) c.make_copy.ensures.untouched.history })

@@ -1,0 +1,25 @@
+use Rattle.std.proofs.Common.{ap, arith}
+use Rattle.iso_memdisk.specs.declared.failures.Failures.{Failures}
+use Rattle.iso_memdisk.specs.declared.record.Call.TheVariants.{Sync}
+use Rattle.iso_memdisk.specs.MemDisk.{Appends}
+use Rattle.iso_memdisk.proofs.Moves.{elapses_sync, contents_sync, settled_sync}
+use Rattle.iso_memdisk.proofs.disk.MemDiskDisk.sync.Goals as goal
+
+pub returns-in-Ok-clause-settled : goal.returns-in-Ok-clause-settled
+returns-in-Ok-clause-settled c = settled_sync c.in-Ok.ensures.ok
+
+pub returns-in-Ok-clause-contents : goal.returns-in-Ok-clause-contents
+returns-in-Ok-clause-contents c = contents_sync c.in-Ok.ensures.ok
+
+pub returns-in-Ok-clause-crash : goal.returns-in-Ok-clause-crash
+returns-in-Ok-clause-crash c =
+    let done = c.in-Ok.ensures.ok in
+    let more : Appends c.args.self.now c.try_sync.new.self Sync = record { first = done.first; history = done.history } in
+    elapses_sync more
+
+pub returns-in-Err-clause-cause : goal.returns-in-Err-clause-cause
+returns-in-Err-clause-cause c =
+    let kept = ap (λ (f : Failures). f.faults) c.try_sync.ensures.failures in
+    let rose = c.starve.ensures.faults in
+    let later = c.starve.ensures.later.1 in
+    record { later = omega arith; failed = λ _. omega arith }

@@ -1,0 +1,116 @@
+// What no clause says: that calls succeed with ample memory, the drawn bytes, and the numbers of the calls that fail.
+use super::*;
+use crate::draws::Draws;
+use iso_disk::{Disk, DiskFault, Image};
+use std::test::Fail;
+
+#[test]
+fn first_draw_of_seed_zero(rt: HostRuntime) {
+    let mut draws = Draws::new(0);
+    // 335903614 modulo 256
+    assert_eq!(rt; draws.next(), 126);
+}
+
+#[test]
+fn a_torn_write(rt: HostRuntime) -> Result<(), Fail> {
+    let alloc = rt.alloc();
+    let mut disk = MemDisk::new(alloc, [1, 2, 3, 4].to_vec(alloc)?);
+    disk.write(1, &[8, 9])?;
+    let mut now = [0; 4];
+    disk.read(0, &mut now)?;
+    assert_eq!(rt; now, [1, 8, 9, 4]);
+    assert_eq!(rt; disk.crash(alloc, 0)?.as_slice(), [1, 2, 3, 4].as_slice());
+    assert_eq!(rt; disk.crash(alloc, 1)?.as_slice(), [1, 8, 9, 4].as_slice());
+    // the draws of seed 2
+    assert_eq!(rt;
+        disk.crash(alloc, 2)?.as_slice(),
+        [1, 217, 85, 4].as_slice()
+    );
+    disk.sync()?;
+    for pick in 0..6 {
+        assert_eq!(rt;
+            disk.crash(alloc, pick)?.as_slice(),
+            [1, 8, 9, 4].as_slice()
+        );
+    }
+    assert_eq!(rt; disk.calls(), 3);
+    assert_eq!(rt; disk.starved(), 0);
+    Ok(())
+}
+
+#[test]
+fn a_failed_write_and_a_failed_sync(rt: HostRuntime) -> Result<(), Fail> {
+    let alloc = rt.alloc();
+    let mut disk = MemDisk::new(alloc, [1, 2, 3, 4].to_vec(alloc)?);
+    disk.fail(1);
+    assert_eq!(rt; disk.write(0, &[7]), Err(DiskFault));
+    for pick in 0..6 {
+        assert_eq!(rt;
+            disk.crash(alloc, pick)?.as_slice(),
+            [1, 2, 3, 4].as_slice()
+        );
+    }
+    disk.write(0, &[7])?;
+    disk.fail(1);
+    assert_eq!(rt; disk.sync(), Err(DiskFault));
+    assert_eq!(rt; disk.crash(alloc, 0)?.as_slice(), [1, 2, 3, 4].as_slice());
+    assert_eq!(rt; disk.crash(alloc, 1)?.as_slice(), [7, 2, 3, 4].as_slice());
+    disk.sync()?;
+    assert_eq!(rt; disk.crash(alloc, 0)?.as_slice(), [7, 2, 3, 4].as_slice());
+    assert_eq!(rt; disk.calls(), 4);
+    Ok(())
+}
+
+#[test]
+fn the_nth_call_fails_alone(rt: HostRuntime) -> Result<(), Fail> {
+    let alloc = rt.alloc();
+    let mut disk = MemDisk::new(alloc, [0; 2].to_vec(alloc)?);
+    disk.fail(3);
+    disk.write(0, &[1])?;
+    disk.sync()?;
+    assert_eq!(rt; disk.read(0, &mut [0; 2]), Err(DiskFault));
+    disk.read(0, &mut [0; 2])?;
+    disk.fail(0);
+    disk.sync()?;
+    disk.sync()?;
+    Ok(())
+}
+
+#[test]
+fn a_fuse_at_each_call_of_a_sequence(rt: HostRuntime) -> Result<(), Fail> {
+    let alloc = rt.alloc();
+    for calls in 0..4 {
+        let mut disk = MemDisk::new(alloc, [0; 2].to_vec(alloc)?);
+        disk.fuse(calls);
+        assert_eq!(rt; disk.write(0, &[5]).is_ok(), calls > 0);
+        assert_eq!(rt; disk.sync().is_ok(), calls > 1);
+        assert_eq!(rt; disk.write(1, &[6]).is_ok(), calls > 2);
+        assert_eq!(rt; disk.sync(), Err(DiskFault));
+        let written: [u8; 2] = [if calls > 0 { 5 } else { 0 }, if calls > 2 { 6 } else { 0 }];
+        let stable: [u8; 2] = [if calls > 1 { 5 } else { 0 }, 0];
+        assert_eq!(rt; disk.crash(alloc, 1)?.as_slice(), written.as_slice());
+        assert_eq!(rt; disk.crash(alloc, 0)?.as_slice(), stable.as_slice());
+        assert_eq!(rt; disk.calls(), 4);
+    }
+    Ok(())
+}
+
+#[test]
+fn bound_to_a_blank_and_to_an_existing_device(rt: HostRuntime) -> Result<(), Fail> {
+    let alloc = rt.alloc();
+    let mut disk = MemDisk::new(alloc, [3, 4].to_vec(alloc)?);
+    disk.write(0, &[9])?;
+    disk.bind("t.img", None)?;
+    assert_eq!(rt; disk.size(), 2);
+    assert_eq!(rt; disk.crash(alloc, 0)?.as_slice(), [9, 4].as_slice());
+    disk.bind("t.img", Some(3))?;
+    assert_eq!(rt; disk.size(), 3);
+    for pick in 0..6 {
+        assert_eq!(rt; disk.crash(alloc, pick)?.as_slice(), [0, 0, 0].as_slice());
+    }
+    disk.fail(1);
+    assert_eq!(rt; disk.bind("t.img", Some(1)), Err(DiskFault));
+    assert_eq!(rt; disk.size(), 3);
+    assert_eq!(rt; disk.calls(), 4);
+    Ok(())
+}
