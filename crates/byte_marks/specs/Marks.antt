@@ -3,7 +3,6 @@ use Rattle.std.specs.Prelude.{ℕ, ◌+◌, ◌-◌, ◌<◌, ◌≤◌, Bool, �
 use Rattle.std.specs.List.{list_any}
 use Rattle.byte_marks.specs.declared.extent.Extent.{Extent}
 use Rattle.iso_model.specs.declared.access.Span.{Span}
-use Rattle.iso_model.specs.Array.{in_span}
 
 -- whether the byte at p is in the extent
 abbrev pub in_extent : ℕ → Extent → Bool

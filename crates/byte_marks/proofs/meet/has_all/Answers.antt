@@ -1,5 +1,5 @@
 -- A span is all there exactly where it lies in the first extent that ends behind its begin.
-use Rattle.std.proofs.Common.{◌≡◌, ℕ, ◌+◌, ◌<◌, ◌≤◌, ◌&&◌, ◌||◌, false, true, IsTrue, ◌∙◌, sym, ap, subst, arith, inl, inr, List, [], ◌∷◌, Bool, refl, leb}
+use Rattle.std.proofs.Common.{◌≡◌, ℕ, ◌+◌, ◌<◌, ◌≤◌, false, IsTrue, ◌∙◌, ap, subst, arith, inl, inr, List, ◌∷◌, refl, leb}
 use Rattle.std.proofs.lemmas.Bool.{cases_lt, lt-leb, le-leb}
 use Rattle.std.proofs.lemmas.Bool.Decides.{nat_tests}
 use Rattle.std.specs.Bool.{OnFalse}

@@ -1,5 +1,5 @@
 -- What was passed over lies before the span.
-use Rattle.std.proofs.Common.{◌≡◌, ℕ, ◌≤◌, ◌<◌, length}
+use Rattle.std.proofs.Common.{◌≡◌, ℕ, ◌≤◌, length}
 use Rattle.byte_marks.specs.Marks.{has, AreApartFrom}
 use Rattle.byte_marks.proofs.meet.has_all.Given as goal
 

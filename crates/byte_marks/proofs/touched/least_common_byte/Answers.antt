@@ -1,7 +1,6 @@
 -- The entry of the earlier block, or two of one block that do not meet, meet nothing of what is left.
-use Rattle.std.proofs.Common.{◌≡◌, ℕ, ◌+◌, ◌<◌, ◌≤◌, ◌&&◌, false, true, Bool, refl, ◌∙◌, sym, ap, subst, arith, List, [], ◌∷◌}
+use Rattle.std.proofs.Common.{◌≡◌, ℕ, ◌+◌, ◌&&◌, false, Bool, refl, ◌∙◌, sym, ap, subst, arith, List, ◌∷◌}
 use Rattle.byte_marks.specs.declared.extent.Extent.{Extent}
-use Rattle.byte_marks.specs.Marks.{has}
 use Rattle.byte_marks.specs.Touched.{touches, RisesFrom}
 use Rattle.byte_marks.proofs.Blocks.{rises_earlier, none_before_block, pass_entry, pass_entry_right, pass_both}
 use Rattle.byte_marks.proofs.touched.least_common_byte.Goals as goal

@@ -3,7 +3,7 @@ use Rattle.std.proofs.Common.{◌≡◌, ◌∙◌, ap, subst, sym, List, map}
 use Rattle.std.specs.List.{list_any}
 use Rattle.iso_model.specs.declared.access.Span.{Span}
 use Rattle.iso_model.specs.Array.{in_span}
-use Rattle.byte_marks.specs.Marks.{has, span_of, AreApartFrom, AreRuns}
+use Rattle.byte_marks.specs.Marks.{has, span_of, AreRuns}
 use Rattle.byte_marks.proofs.Apart.{runs_of, has_of_spans}
 use Rattle.byte_marks.proofs.marks.Marks.spans.Goals as goal
 

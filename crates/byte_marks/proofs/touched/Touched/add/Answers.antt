@@ -1,5 +1,5 @@
 -- A block that has an entry keeps it with more bytes; another gets one at its place.
-use Rattle.std.proofs.Common.{◌≡◌, ◌≢◌, ℕ, ◌+◌, ◌<◌, ◌≤◌, ◌&&◌, ◌||◌, ◌==◌, ◌++◌, false, true, Bool, refl, ◌∙◌, sym, ap, subst, arith, rules, List, [], ◌∷◌, length, get_or, take, drop, set}
+use Rattle.std.proofs.Common.{◌≡◌, ◌≢◌, ℕ, ◌<◌, ◌≤◌, ◌&&◌, ◌||◌, ◌==◌, ◌∙◌, sym, ap, subst, arith, List, length, get_or}
 use Rattle.std.proofs.lemmas.List.{get_or_read}
 use Rattle.byte_marks.specs.declared.extent.Extent.{Extent}
 use Rattle.byte_marks.specs.Marks.{has}
