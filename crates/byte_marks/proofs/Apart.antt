@@ -1,0 +1,119 @@
+-- Extents that rise and do not touch.
+use Rattle.std.proofs.Common.{◌≡◌, refl, ◌∙◌, ap, ℕ, ◌+◌, ◌-◌, ◌<◌, ◌≤◌, Bool, true, false, ◌&&◌, ◌||◌, max, map, inl, inr, List, [], ◌∷◌, ◌++◌, arith, nat_le, nat_lt}
+use Rattle.std.proofs.lemmas.Bool.Decides.{nat_tests}
+use Rattle.std.proofs.lemmas.List.Folds.{list_any-append}
+use Rattle.std.specs.List.{list_any}
+use Rattle.byte_marks.specs.declared.extent.Extent.{Extent}
+use Rattle.std.proofs.lemmas.Bool.{cases_lt}
+use Rattle.iso_model.specs.Array.{in_span}
+use Rattle.byte_marks.specs.Marks.{has, in_extent, span_of, AreApartFrom, AreRunsFrom}
+
+-- they rise from any earlier byte on too
+pub earlier : (f g : ℕ) (xs : List Extent) → f ≤ g → AreApartFrom g xs → AreApartFrom f xs
+earlier f g [] le apart = tt
+earlier f g (x ∷ xs) le apart = let from : f ≤ x.from = omega arith in (from, apart.1, apart.2, apart.3)
+
+-- no byte before the first of them is marked
+pub none_before : (f p : ℕ) (xs : List Extent) → p < f → AreApartFrom f xs → has xs p ≡ false
+none_before f p [] lt apart = refl
+none_before f p (x ∷ xs) lt apart =
+    let here : in_extent p x ≡ false = before f p x lt apart.0 in
+    let later : has xs p ≡ false = none_before (x.to + 1) p xs (omega arith) apart.3 in
+    rw (here, later) refl
+  where
+    before : (f p : ℕ) (x : Extent) → p < f → f ≤ x.from → in_extent p x ≡ false
+    before f p x lt le = grind (arith, nat_tests)
+
+-- the first byte from which on a further extent may begin
+abbrev pub next_free : ℕ → List Extent → ℕ
+next_free f [] = f
+next_free f (x ∷ xs) = next_free (x.to + 1) xs
+
+pub AreApartFrom-append : (f : ℕ) (xs : List Extent) (x : Extent) → AreApartFrom f xs → next_free f xs ≤ x.from → x.from < x.to → x.to ≤ 4096
+    → AreApartFrom f (xs ++ x ∷ [])
+AreApartFrom-append f [] x apart le some inside = (le, some, inside, tt)
+AreApartFrom-append f (y ∷ ys) x apart le some inside = (apart.0, apart.1, apart.2, AreApartFrom-append (y.to + 1) ys x apart.3 le some inside)
+
+pub next_free-append : (f : ℕ) (xs : List Extent) (x : Extent) → next_free f (xs ++ x ∷ []) ≡ x.to + 1
+next_free-append f [] x = refl
+next_free-append f (y ∷ ys) x = next_free-append (y.to + 1) ys x
+
+-- two extents that touch have the bytes of one
+pub joined_has : (a b c d p : ℕ) → a ≤ c → c ≤ b → c < d
+    → (nat_le a p && nat_lt p (max b d)) ≡ ((nat_le a p && nat_lt p b) || (nat_le c p && nat_lt p d))
+joined_has a b c d p order touch some = grind (arith, nat_tests)
+
+-- an extent meets none of those that begin after it
+pub meets_none : (p : ℕ) (x : Extent) (ys : List Extent) → AreApartFrom x.to ys → (in_extent p x && has ys p) ≡ false
+meets_none p x ys apart = elim (cases_lt p x.to) [
+  | inl lt ↦
+      (let later : has ys p ≡ false = none_before x.to p ys lt apart in
+      rw later (and_false_right (in_extent p x)))
+  | inr le ↦
+      (let here : in_extent p x ≡ false = past p x le in
+      rw here refl)
+]
+  where
+    past : (p : ℕ) (x : Extent) → x.to ≤ p → in_extent p x ≡ false
+    past p x le = grind (arith, nat_tests)
+
+    and_false_right : (b : Bool) → (b && false) ≡ false
+    and_false_right true = refl
+    and_false_right false = refl
+
+-- so it may be passed over
+pub pass_over : (p : ℕ) (x : Extent) (xs ys : List Extent) → AreApartFrom x.to ys → (has (x ∷ xs) p && has ys p) ≡ (has xs p && has ys p)
+pass_over p x xs ys apart = split (in_extent p x) (has xs p) (has ys p) (meets_none p x ys apart)
+  where
+    split : (a b c : Bool) → (a && c) ≡ false → ((a || b) && c) ≡ (b && c)
+    split true true c h = refl
+    split true false c h = h
+    split false b c h = refl
+
+pub pass_over_right : (p : ℕ) (y : Extent) (xs ys : List Extent) → AreApartFrom y.to xs → (has xs p && has (y ∷ ys) p) ≡ (has xs p && has ys p)
+pass_over_right p y xs ys apart = split (in_extent p y) (has ys p) (has xs p) (meets_none p y xs apart)
+  where
+    split : (a b c : Bool) → (a && c) ≡ false → (c && (a || b)) ≡ (c && b)
+    split true b true h = absurd (cc)
+    split true b false h = refl
+    split false b c h = refl
+
+-- they rise from where the first of them begins on
+pub from_head : (f g : ℕ) (x : Extent) (xs : List Extent) → AreApartFrom f (x ∷ xs) → g ≤ x.from → AreApartFrom g (x ∷ xs)
+from_head f g x xs apart le = (le, apart.1, apart.2, apart.3)
+
+-- their spans are maximal runs
+pub runs_of : (f : ℕ) (xs : List Extent) → AreApartFrom f xs → AreRunsFrom f (map span_of xs)
+runs_of f [] apart = tt
+runs_of f (x ∷ xs) apart =
+    let end : x.from + (x.to - x.from) ≡ x.to = omega arith in
+    let some : 0 < x.to - x.from = omega arith in
+    let inside : x.from + (x.to - x.from) ≤ 4096 = omega arith in
+    let rest : AreRunsFrom (x.from + (x.to - x.from) + 1) (map span_of xs) = rw end (runs_of (x.to + 1) xs apart.3) in
+    (apart.0, some, inside, rest)
+
+-- and have the same bytes
+pub has_of_spans : (f p : ℕ) (xs : List Extent) → AreApartFrom f xs → list_any (in_span p) (map span_of xs) ≡ has xs p
+has_of_spans f p [] apart = refl
+has_of_spans f p (x ∷ xs) apart =
+    let end : x.from + (x.to - x.from) ≡ x.to = omega arith in
+    let rest = has_of_spans (x.to + 1) p xs apart.3 in
+    rw (end, rest) refl
+
+-- one more extent at the end
+pub has-append : (p : ℕ) (xs : List Extent) (x : Extent) → has (xs ++ x ∷ []) p ≡ (has xs p || in_extent p x)
+has-append p xs x = list_any-append (in_extent p) xs (x ∷ []) ∙ ap (λ b. has xs p || b) (or_false (in_extent p x))
+  where
+    or_false : (b : Bool) → (b || false) ≡ b
+    or_false true = refl
+    or_false false = refl
+
+-- a further extent that is counted to the open one in place of the rest
+pub regroup : (o e n r : Bool) → ((o || (e || n)) || r) ≡ ((o || e) || (n || r))
+regroup true e n r = refl
+regroup false true n r = refl
+regroup false false n r = refl
+
+pub or_assoc : (a b c : Bool) → ((a || b) || c) ≡ (a || (b || c))
+or_assoc true b c = refl
+or_assoc false b c = refl

@@ -1,0 +1,14 @@
+-- What was passed over meets nothing.
+use Rattle.std.proofs.Common.{◌≡◌, ℕ, ◌+◌, ◌&&◌, length}
+use Rattle.byte_marks.specs.Marks.{has, AreApartFrom}
+use Rattle.byte_marks.proofs.meet.least_common.Given as goal
+
+abbrev pub invariant-loop-x : goal.invariant-loop-x
+invariant-loop-x l = record {
+  a : AreApartFrom 0 l.a;
+  b : AreApartFrom 0 l.b;
+  same : (p : ℕ) → (has l.fn.a p && has l.fn.b p) ≡ (has l.a p && has l.b p);
+}
+
+abbrev pub decreases-loop-x : goal.decreases-loop-x
+decreases-loop-x l = length l.a + length l.b

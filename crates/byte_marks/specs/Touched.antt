@@ -1,0 +1,18 @@
+-- What contracts see of `Touched`: a set of bytes for each block.
+use Rattle.std.specs.Prelude.{ℕ, ◌+◌, ◌≤◌, ◌==◌, ◌&&◌, Bool, List, [], ◌∷◌}
+use Rattle.std.specs.List.{list_any}
+use Rattle.byte_marks.specs.declared.extent.Extent.{Extent}
+use Rattle.byte_marks.specs.Marks.{has}
+
+-- whether the entry has the byte p of block b
+abbrev pub entry_has : (b p : ℕ) → ℕ × List Extent → Bool
+entry_has b p entry = (entry.0 == b) && has entry.1 p
+
+-- whether the byte p of block b is touched
+abbrev pub touches : List (ℕ × List Extent) → (b p : ℕ) → Bool
+touches entries b p = list_any (entry_has b p) entries
+
+-- the blocks rise, from `from` on
+abbrev pub RisesFrom : ℕ → List (ℕ × List Extent) → Type 0
+RisesFrom from [] = Unit {0}
+RisesFrom from (entry ∷ entries) = (from ≤ entry.0) × RisesFrom (entry.0 + 1) entries
