@@ -16,8 +16,8 @@ use Rattle.turn_lock.specs.Lists.{times, AllBelow, places, longer}
 use Rattle.turn_lock.specs.Numbers.{IsFree, IsHeld}
 use Rattle.turn_lock.specs.Views.{fresh, spent, waits, turns, gave, kept_part, given_part, both}
 use Rattle.turn_lock.specs.Ticket.{turns_at, turning, Dealt, Rests, Fair}
-use Rattle.turn_lock.specs.Steps.{ticket_of, Sat, drew, Turned, looked, advanced, settled, IsPlaced}
-use Rattle.turn_lock.proofs.Prefixes.{prefix_length, prefix_shorter, longer_left, longer_right}
+use Rattle.turn_lock.specs.Steps.{ticket_of, Sat, drew, Turned, looked, advanced, settled, IsPlaced, Settled}
+use Rattle.turn_lock.proofs.Prefixes.{prefix_length, prefix_whole, prefix_shorter, longer_left, longer_right}
 use Rattle.turn_lock.proofs.Totals.{total_set, total_at}
 use Rattle.turn_lock.proofs.Rising.{below_more, below_snoc, rises_snoc}
 use Rattle.turn_lock.proofs.Dealing.{whole_at, deals_draw, deals_turn, none_turns, served_is_drawn, deals_entry, deals_split, deals_join, turning_join, turning_split, has_all_places, has_seen_all, none_turns_at_end, deals_first}
@@ -130,6 +130,7 @@ module _ {X E : Type 0} (stands : X → List E → Type 0) (hands takes_back : E
         left = prefix_shorter m.0.left m.0.seen r.list k.left_begins k.begins left;
         right = prefix_shorter m.0.right m.0.seen r.list k.right_begins k.begins right;
         placed = (k.rises, k.below);
+        whole = λ ticket is size. let w = whole_at r.list m.0.seen m.0.stage ticket is k.whole in let e = w.1 in prefix_whole m.0.left r.list k.left_begins (omega arith) ∙ sym w.0;
         alone = λ n. let a = total_at (λ (u : View E). times n u.holds) s.views id m.0 at in let c = r.dealt.alone n in omega arith;
         units = let a = total_at (λ (u : View E). u.units) s.views id m.0 at in let c = r.dealt.units in omega arith;
       },
@@ -247,7 +248,7 @@ module _ {X E : Type 0} (stands : X → List E → Type 0) (hands takes_back : E
       settles slots id m (omega arith) (omega arith)
 
   -- the store of a give, once the value is back in its slot
-  pub gives_back : (slots id t next : ℕ) (m old : Sat X E) (x : X) (e : E) → m ≡ (old.0, (0, Some x) ∷ rest old.1) → next ≡ (t + 1) % 2 ^ 64 → (old.0.stage ≡ Turns t) × (old.1 ≡ (0, None) ∷ []) × IsPlaced old.0
+  pub gives_back : (slots id t next : ℕ) (m old : Sat X E) (x : X) (e : E) → m ≡ (old.0, (0, Some x) ∷ rest old.1) → next ≡ (t + 1) % 2 ^ 64 → (old.0.stage ≡ Turns t) × (old.1 ≡ (0, None) ∷ []) × IsPlaced old.0 × (t ≡ length old.0.seen)
       → stands x (old.0.seen ++ e ∷ []) → IsFree hands takes_back (hands e) old.0.seen → IsHeld (takes_back e) old.0.holds
       → Allows Rule slots id m 1 (λ _. next) (λ _. advanced hands takes_back e (step slots 1 next 0 none) m next)
   gives_back slots id t next m old x e is up turn value free held =
@@ -256,7 +257,7 @@ module _ {X E : Type 0} (stands : X → List E → Type 0) (hands takes_back : E
       (advances slots id t next (old.0, (0, Some x) ∷ []) x e up turn.0 refl value free held)
 
   -- the pass after a give
-  pub rests_after : (t : ℕ) (m m' old : Sat X E) (x : X) (e : E) → m ≡ (old.0, (0, Some x) ∷ rest old.1) → m' ≡ (gave hands takes_back e m.0, rest m.1) → (old.0.stage ≡ Turns t) × (old.1 ≡ (0, None) ∷ []) × IsPlaced old.0
+  pub rests_after : (t : ℕ) (m m' old : Sat X E) (x : X) (e : E) → m ≡ (old.0, (0, Some x) ∷ rest old.1) → m' ≡ (gave hands takes_back e m.0, rest m.1) → (old.0.stage ≡ Turns t) × (old.1 ≡ (0, None) ∷ []) × IsPlaced old.0 × (t ≡ length old.0.seen)
       → (m'.0.stage ≡ Idle) × (m'.1 ≡ []) × IsPlaced m'.0
   rests_after t m m' old x e is is' turn =
       let there : m' ≡ (gave hands takes_back e old.0, rest old.1) = is' ∙ ap (λ (q : Sat X E). (gave hands takes_back e q.0, rest q.1)) is in
@@ -296,10 +297,35 @@ module _ {X E : Type 0} (stands : X → List E → Type 0) (hands takes_back : E
       slot_or o [] = o
       slot_or o (x ∷ xs) = x.1
 
-  pub has_turn : (t : ℕ) (v : View E) (m' m'' : Sat X E) → Turned stands hands takes_back t v m' → m'' ≡ (m'.0, (0, None) ∷ rest m'.1) → IsPlaced v → (m''.0.stage ≡ Turns t) × (m''.1 ≡ (0, None) ∷ []) × IsPlaced m''.0
+  pub has_turn : (t : ℕ) (v : View E) (m' m'' : Sat X E) → Turned stands hands takes_back t v m' → m'' ≡ (m'.0, (0, None) ∷ rest m'.1) → IsPlaced v → (m''.0.stage ≡ Turns t) × (m''.1 ≡ (0, None) ∷ []) × IsPlaced m''.0 × (t ≡ length m''.0.seen)
   has_turn t v m' m'' c is placed =
       let there : m'' ≡ (turns t c.list v, (0, None) ∷ []) = is ∙ (λ i. (c.view_is i, (0, None) ∷ rest (c.slot_is i))) in (
         ap (λ (q : Sat X E). q.0.stage) there,
         ap (λ (q : Sat X E). q.1) there,
         subst (λ (q : Sat X E). IsPlaced q.0) (sym there) (placed.0, below_more (length v.seen) (length c.list) v.mine (prefix_length v.seen c.list c.seen) placed.1),
+        c.place ∙ ap (λ (q : Sat X E). length q.0.seen) (sym there),
       )
+
+  -- a pass at its turn, after a join
+  pub whole_after : (t : ℕ) (m m' old : Sat X E) (w : View E) → m ≡ (both old.0 w, old.1) → m' ≡ m → Settled m.0 → (old.0.stage ≡ Turns t) × (old.1 ≡ (0, None) ∷ []) × IsPlaced old.0 × (t ≡ length old.0.seen)
+      → m'.0.seen ≡ old.0.seen
+  whole_after t m m' old w is same done turn =
+      let left : m.0.left ≡ old.0.seen = ap (λ (q : Sat X E). q.0.left) is in
+      let stage : m.0.stage ≡ Turns t = ap (λ (q : Sat X E). q.0.stage) is ∙ turn.0 in
+      ap (λ (q : Sat X E). q.0.seen) same ∙ (sym (done.whole t stage (turn.3 ∙ sym (ap length left))) ∙ left)
+
+  pub turn_after : (t : ℕ) (m m' old : Sat X E) (w : View E) → m ≡ (both old.0 w, old.1) → m' ≡ m → Settled m.0 → (old.0.stage ≡ Turns t) × (old.1 ≡ (0, None) ∷ []) × IsPlaced old.0 × (t ≡ length old.0.seen)
+      → (m'.0.stage ≡ Turns t) × (m'.1 ≡ (0, None) ∷ []) × IsPlaced m'.0 × (t ≡ length m'.0.seen)
+  turn_after t m m' old w is same done turn = (
+    ap (λ (q : Sat X E). q.0.stage) (same ∙ is) ∙ turn.0,
+    ap (λ (q : Sat X E). q.1) (same ∙ is) ∙ turn.1,
+    subst (λ (q : Sat X E). IsPlaced q.0) (sym same) done.placed,
+    turn.3 ∙ ap length (sym (whole_after t m m' old w is same done turn)),
+  )
+
+  pub rest_after : (m m' old : Sat X E) (w : View E) → m ≡ (both old.0 w, old.1) → m' ≡ m → Settled m.0 → (old.0.stage ≡ Idle) × (old.1 ≡ []) × IsPlaced old.0 → (m'.0.stage ≡ Idle) × (m'.1 ≡ []) × IsPlaced m'.0
+  rest_after m m' old w is same done idle = (
+    ap (λ (q : Sat X E). q.0.stage) (same ∙ is) ∙ idle.0,
+    ap (λ (q : Sat X E). q.1) (same ∙ is) ∙ idle.1,
+    subst (λ (q : Sat X E). IsPlaced q.0) (sym same) done.placed,
+  )

@@ -3,6 +3,7 @@ pub mod Lists
 pub mod Lock
 pub mod Numbers
 pub mod Pass
+pub mod Props
 pub mod Steps
 pub mod Ticket
 pub mod Views

@@ -1,5 +1,5 @@
 -- What clauses say of a pass.
-use Rattle.std.specs.Prelude.{◌≡◌, ℕ, [], ◌∷◌, Option, None}
+use Rattle.std.specs.Prelude.{◌≡◌, ℕ, [], ◌∷◌, Option, None, length}
 use Rattle.atomic_table.specs.declared.shared.Seat.{Seat}
 use Rattle.turn_lock.specs.declared.view.View.{View}
 use Rattle.turn_lock.specs.declared.view.Stage.TheVariants.{Idle, Turns}
@@ -18,9 +18,13 @@ module _ {X E : Type 0} where
   abbrev pub HasNoTurn : Seat (Option X) (View E) → Type 0
   HasNoTurn p = (p.me.0.stage ≡ Idle) × (p.me.1 ≡ []) × IsPlaced p.me.0
 
-  -- the pass has the turn of this ticket
+  -- the pass has the turn of this ticket, and has seen the whole list
   abbrev pub HasTurn : Seat (Option X) (View E) → ℕ → Type 0
-  HasTurn p ticket = (p.me.0.stage ≡ Turns ticket) × (p.me.1 ≡ (0, None) ∷ []) × IsPlaced p.me.0
+  HasTurn p ticket = (p.me.0.stage ≡ Turns ticket) × (p.me.1 ≡ (0, None) ∷ []) × IsPlaced p.me.0 × (ticket ≡ length p.me.0.seen)
+
+  -- the pass keeps its turn where it has one, and else it still has none
+  abbrev pub KeepsTurn : Seat (Option X) (View E) → Seat (Option X) (View E) → Type 0
+  KeepsTurn p q = (HasNoTurn p → HasNoTurn q) × ((ticket : ℕ) → HasTurn p ticket → HasTurn q ticket)
 
 module _ {E : Type 0} where
   -- the places, the numbers and the units are the same

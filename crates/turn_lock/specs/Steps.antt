@@ -53,6 +53,8 @@ pub record Settled {E : Type 0} (v : View E) : Type 0 where
   pub left : IsPrefix v.left v.seen
   pub right : IsPrefix v.right v.seen
   pub placed : IsPlaced v
+  -- what was seen at a turn was the whole list, and still is
+  pub whole : (ticket : ℕ) → v.stage ≡ Turns ticket → ticket ≡ length v.left → v.left ≡ v.seen
   pub alone : (n : ℕ) → times n v.holds ≤ 1
   pub units : v.units ≤ LAST
 

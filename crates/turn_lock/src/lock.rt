@@ -4,7 +4,7 @@ ghost use mathlib.Core.List.{IsPrefix};
 ghost use Rattle.turn_lock.specs.Lists.{times, places};
 ghost use Rattle.turn_lock.specs.Numbers.{IsOut, IsFree, IsHeld, held_after};
 ghost use Rattle.turn_lock.specs.Views.{fresh, waits, kept_part, given_part, both};
-ghost use Rattle.turn_lock.specs.Pass.{view, IsSamePass, HasNoTurn, HasTurn, IsAlike};
+ghost use Rattle.turn_lock.specs.Pass.{view, IsSamePass, HasNoTurn, HasTurn, KeepsTurn, IsAlike};
 ghost use Rattle.turn_lock.specs.Steps.{IsPlaced};
 
 use crate::plays::{Advance, Cut, Draw, Glue, Look, Portion, Settle};
@@ -157,7 +157,8 @@ impl<V: Stands + Drop> TurnLock<V> {
         requires lock { pass.old.table_id ≡ lock_id self.now }
         requires units { units < (view pass.old).units }
         requires number { IsHeld number (view pass.old).holds × (IsSome number → 0 < units) }
-        ensures lock { IsSamePass pass.old pass.new × (pass.new.me.1 ≡ pass.old.me.1) }
+        ensures lock { IsSamePass pass.old pass.new }
+        ensures stays { KeepsTurn pass.old pass.new }
         ensures kept { view pass.new ≡ kept_part number units (view pass.old) }
         ensures new { (result.table_id ≡ lock_id self.now) × HasNoTurn result }
         ensures given { view result ≡ given_part number units (view pass.old) }
@@ -170,7 +171,8 @@ impl<V: Stands + Drop> TurnLock<V> {
         requires lock { pass.old.table_id ≡ lock_id self.now }
         requires units { units < (view pass.old).units }
         requires number { IsHeld number (view pass.old).holds × (IsSome number → 0 < units) }
-        ensures lock { IsSamePass pass.old pass.new × (pass.new.me.1 ≡ pass.old.me.1) }
+        ensures lock { IsSamePass pass.old pass.new }
+        ensures stays { KeepsTurn pass.old pass.new }
         ensures kept { view pass.new ≡ kept_part number units (view pass.old) }
         ensures new { (result.table_id ≡ lock_id self.now) × HasNoTurn result }
         ensures given { view result ≡ given_part number units (view pass.old) }
@@ -185,11 +187,13 @@ impl<V: Stands + Drop> TurnLock<V> {
         requires lock { (pass.old.table_id ≡ lock_id self.now) × (other.table_id ≡ lock_id self.now) }
         requires units { 0 < (view pass.old).units }
         requires free { HasNoTurn other }
-        ensures lock { IsSamePass pass.old pass.new × (pass.new.me.1 ≡ pass.old.me.1) }
+        ensures lock { IsSamePass pass.old pass.new }
+        ensures stays { KeepsTurn pass.old pass.new }
         ensures both { view pass.new ≡ both (view pass.old) (view other) }
 
         // Each of the two had seen a beginning of what is now seen.
         ensures seen { IsPrefix (view pass.old).seen (view pass.new).seen × IsPrefix (view other).seen (view pass.new).seen }
+        ensures whole { (ticket : ℕ) → HasTurn pass.old ticket → (view pass.new).seen ≡ (view pass.old).seen }
         ensures placed { IsPlaced (view pass.new) }
         ensures places { (p : ℕ) → times p (view pass.new).mine ≡ times p (view pass.old).mine + times p (view other).mine }
 

@@ -1,7 +1,7 @@
 use Rattle.std.proofs.Common.{rules, arith, ◌≡◌, ap, ◌∙◌}
 use Rattle.turn_lock.specs.Lists.{times, merge}
 use Rattle.turn_lock.proofs.Rising.{times_merge}
-use Rattle.turn_lock.proofs.Keeps.{joins, settles_both}
+use Rattle.turn_lock.proofs.Keeps.{joins, settles_both, whole_after, turn_after, rest_after}
 use Rattle.turn_lock.proofs.lock.TurnLock.join.Goals as goal
 
 pub join_seat-requires : goal.join_seat-requires
@@ -15,3 +15,12 @@ returns-clause-places g c p =
     let mine : c.load.new.seat.me.0.mine ≡ merge c.args.other.me.0.mine c.args.pass.now.me.0.mine = ap (λ m. m.0.mine) (c.load.ensures.2.0 ∙ c.join_seat.ensures.2) in
     let sum = ap (times p) mine ∙ times_merge p c.args.other.me.0.mine c.args.pass.now.me.0.mine in
     omega arith
+
+pub returns-clause-stays : goal.returns-clause-stays
+returns-clause-stays g c = (
+  rest_after g.V.Stands.stands g.V.Stands.hands g.V.Stands.takes _ _ c.args.pass.now.me c.args.other.me.0 c.join_seat.ensures.2 c.load.ensures.2.0 c.load.ensures.2.1,
+  λ ticket. turn_after g.V.Stands.stands g.V.Stands.hands g.V.Stands.takes ticket _ _ c.args.pass.now.me c.args.other.me.0 c.join_seat.ensures.2 c.load.ensures.2.0 c.load.ensures.2.1,
+)
+
+pub returns-clause-whole : goal.returns-clause-whole
+returns-clause-whole g c ticket = whole_after g.V.Stands.stands g.V.Stands.hands g.V.Stands.takes ticket _ _ c.args.pass.now.me c.args.other.me.0 c.join_seat.ensures.2 c.load.ensures.2.0 c.load.ensures.2.1
