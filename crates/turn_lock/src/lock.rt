@@ -1,5 +1,5 @@
 //! The lock and its passes.
-ghost use Rattle.std.specs.Prelude.{◌≡◌, ℕ, ◌+◌, ◌<◌, ◌≤◌, [], ◌∷◌, ◌++◌, length, IfOk, IfErr, IsSome};
+ghost use Rattle.std.specs.Prelude.{◌≡◌, ℕ, ◌+◌, ◌%◌, ◌^◌, ◌<◌, ◌≤◌, [], ◌∷◌, ◌++◌, length, IfOk, IfErr, IsSome};
 ghost use mathlib.Core.List.{IsPrefix};
 ghost use Rattle.turn_lock.specs.Lists.{times, places};
 ghost use Rattle.turn_lock.specs.Numbers.{IsOut, IsFree, IsHeld, held_after};
@@ -222,6 +222,8 @@ impl<V: Stands + Drop> TurnLock<V> {
 }
 
 // A thread parks on the low half of a word.
-fn low_half(word: u64) -> u32 {
+fn low_half(word: u64) -> u32
+    ensures { result ≡ word % 2 ^ 32 }
+{
     (word % (1 << 32)) as u32
 }

@@ -2,7 +2,6 @@
 ghost use Rattle.std.specs.Prelude.{ℕ, List, Option};
 
 use std::collections::LinkedList;
-use std::marker::Brand;
 
 /// How many units all passes of a lock have together. No ticket has a greater number.
 pub const LAST: u64 = (1 << 63) - 1;
