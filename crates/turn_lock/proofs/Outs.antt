@@ -1,5 +1,5 @@
 -- Numbers that are handed out and taken back.
-use Rattle.std.proofs.Common.{◌≡◌, ℕ, zero, suc, ◌+◌, ◌<◌, ◌≤◌, ◌≢◌, Bool, true, false, ◌==◌, cond, List, [], ◌∷◌, ◌++◌, Option, Some, None, refl, ap, ◌∙◌, subst, arith}
+use Rattle.std.proofs.Common.{◌≡◌, ℕ, zero, suc, ◌+◌, ◌<◌, ◌≤◌, ◌≢◌, Bool, true, false, ◌==◌, cond, List, [], ◌∷◌, ◌++◌, Option, Some, None, refl, ap, ◌∙◌, subst, eq-eqb, arith}
 use Rattle.std.proofs.lemmas.Bool.Decides.{nat_tests}
 use Rattle.turn_lock.specs.Lists.{hit, times}
 use Rattle.turn_lock.specs.Numbers.{is_number, out_next, out_from, is_out, IsOut, IsFree, IsHeld, remove_number, without, with_number, held_after}
@@ -82,3 +82,20 @@ module _ {E : Type 0} (hands takes : E → Option ℕ) where
       let both : k' + times n ns ≡ k + (cond x 1 0 + cond y 0 (times n ns)) = sum ∙ ap (λ z. k + z) (a ∙ ap (λ z. cond x 1 0 + z) b) in
       let r = still_alone x y o k k' (times n ns) both some one out (free_is hands takes (hands e) es n free) (held_is hands takes (takes e) ns n held) in
       (r.0, λ lt. out_snoc hands takes n es e ∙ r.1 lt)
+
+either_way : (b : Bool) → cond b false false ≡ false
+either_way true = refl
+either_way false = refl
+
+-- for callers: a number that is not out stays so where the entry hands out none or another
+pub stays_free : {E : Type 0} (hands takes : E → Option ℕ) (n : ℕ) (es : List E) (e : E) → is_number n (hands e) ≡ false → is_out hands takes n es ≡ false → is_out hands takes n (es ++ e ∷ []) ≡ false
+stays_free hands takes n es e other free =
+    out_snoc hands takes n es e ∙ (ap (λ b. cond b true (cond (is_number n (takes e)) false (is_out hands takes n es))) other ∙ (ap (λ b. cond (is_number n (takes e)) false b) free ∙ either_way (is_number n (takes e))))
+
+-- a number that stands in a list once is no more there without it
+pub times_gone : (n : ℕ) (ns : List ℕ) → times n (without (Some n) ns) ≡ 0
+times_gone n ns = times_remove n n ns true (eq-eqb n n refl)
+
+-- a number is held that was just handed out, and the others stay as they were where it moves on
+pub held_first : (n : ℕ) (ns : List ℕ) → IsHeld (Some n) (n ∷ ns)
+held_first n ns = let h = hit_same n n refl in omega arith

@@ -1,5 +1,7 @@
 //! Small runs of the lock, over a value that is a plain list.
-ghost use Rattle.std.specs.Prelude.{◌≡◌, ◌+◌, ◌<◌, ◌++◌, [], ◌∷◌, None, IfOk};
+ghost use Rattle.std.specs.Prelude.{◌≡◌, ℕ, false, ◌+◌, ◌<◌, ◌≤◌, ◌++◌, [], ◌∷◌, Some, None, IfOk};
+ghost use Rattle.turn_lock.specs.Lists.{times};
+ghost use Rattle.turn_lock.specs.Numbers.{is_out};
 ghost use mathlib.Core.List.{IsPrefix};
 ghost use denote.Param.Send.{IsSync};
 ghost use Rattle.turn_lock.specs.Lock.{lock_id, turn_value, turn_number};
@@ -216,5 +218,94 @@ fn new_hands_the_value_back_without_memory(rt: HostRuntime) -> Result<(), Fail> 
         Ok((lock, pass)) => assert!(rt; lock.close(pass).owner == 7),
         Err((Memory, log)) => assert!(rt; log.owner == 7),
     }
+    Ok(())
+}
+
+/// A desk that hands out numbers, each one once. The entry has the number that is handed out and the one that is taken back.
+#[derive(Drop)]
+struct Desk {
+    next: u64,
+}
+
+impl Stands for Desk {
+    type Entry = (Option<u64>, Option<u64>);
+
+    // The numbers that come next are not out.
+    ghost stands = { λ desk list. (n : ℕ) → desk.next ≤ n → is_out (λ e. e.0) (λ e. e.1) n list ≡ false };
+
+    ghost hands = { λ e. e.0 };
+
+    ghost needs = { λ e. e.1 };
+
+    ghost takes = { λ e. e.1 };
+}
+
+impl Names<(Option<u64>, Option<u64>)> for Brand {
+    ghost entry = { (None, None) };
+}
+
+// Gives the turn back with a number handed out.
+fn hand_out<N: Names<(Option<u64>, Option<u64>)>>(
+    lock: &TurnLock<Desk>,
+    pass: &mut Pass<Desk>,
+    turn: Turn<Desk>,
+    number: u64,
+)
+    requires named { N.entry ≡ (Some number, None) }
+    requires lock { (pass.old.table_id ≡ lock_id lock.now) × HasTurn pass.old (turn_number turn) }
+    requires next { (turn_value turn).next ≡ number + 1 }
+    requires value { (n : ℕ) → number ≤ n → is_out (λ e. e.0) (λ e. e.1) n (view pass.old).seen ≡ false }
+    ensures rests { IsSamePass pass.old pass.new × HasNoTurn pass.new × ((view pass.new).units ≡ (view pass.old).units) }
+    ensures holds { (view pass.new).holds ≡ number ∷ (view pass.old).holds }
+{
+    let _ = number;
+    lock.give::<N>(pass, turn);
+}
+
+// Gives the turn back with a number taken back.
+fn take_back<N: Names<(Option<u64>, Option<u64>)>>(
+    lock: &TurnLock<Desk>,
+    pass: &mut Pass<Desk>,
+    turn: Turn<Desk>,
+    number: u64,
+)
+    requires named { N.entry ≡ (None, Some number) }
+    requires lock { (pass.old.table_id ≡ lock_id lock.now) × HasTurn pass.old (turn_number turn) }
+    requires value { (n : ℕ) → (turn_value turn).next ≤ n → is_out (λ e. e.0) (λ e. e.1) n (view pass.old).seen ≡ false }
+    requires held { 0 < times number (view pass.old).holds }
+    ensures rests { IsSamePass pass.old pass.new × HasNoTurn pass.new × ((view pass.new).units ≡ (view pass.old).units) }
+    ensures holds { times number (view pass.new).holds ≡ 0 }
+{
+    let _ = number;
+    lock.give::<N>(pass, turn);
+}
+
+// Hands a number out, moves it to a pass of its own, and takes it back there.
+fn served_number<R: Wait + Abort>(rt: &R, lock: &TurnLock<Desk>, pass: &mut Pass<Desk>) -> u64
+    requires { (pass.old.table_id ≡ lock_id lock.now) × HasNoTurn pass.old × (1 < (view pass.old).units) }
+    ensures { IsSamePass pass.old pass.new × HasNoTurn pass.new × ((view pass.new).units ≡ (view pass.old).units) }
+{
+    let mut turn = lock.take(rt, pass);
+    let desk = turn.value();
+    let number = desk.next;
+    assert!(rt; number < LAST);
+    desk.next = number + 1;
+    hand_out::<Brand>(lock, pass, turn, number);
+    let mut holder = lock.split(pass, Some(number), 1);
+    let turn = lock.take(rt, &mut holder);
+    take_back::<Brand>(lock, &mut holder, turn, number);
+    lock.join(pass, holder);
+    number
+}
+
+#[test]
+fn a_number_moves_with_its_pass(rt: HostRuntime) -> Result<(), Fail> {
+    let Ok((lock, mut pass)) = TurnLock::new(rt.alloc(), Desk { next: 0 }) else {
+        panic!(rt; "memory")
+    };
+    let first = served_number(&rt, &lock, &mut pass);
+    let second = served_number(&rt, &lock, &mut pass);
+    let desk = lock.close(pass);
+    assert!(rt; first == 0 && second == 1 && desk.next == 2);
     Ok(())
 }
