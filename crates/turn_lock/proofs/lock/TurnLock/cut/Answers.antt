@@ -1,0 +1,11 @@
+use Rattle.std.proofs.Common.{rules}
+use Rattle.turn_lock.proofs.Keeps.{splits}
+use Rattle.turn_lock.proofs.lock.TurnLock.cut.Goals as goal
+
+pub split_seat-requires : goal.split_seat-requires
+split_seat-requires g c = (
+  search rules,
+  search rules,
+  rw (c.requires.portion.0, c.requires.portion.1)
+      (splits g.V.Stands.stands g.V.Stands.hands g.V.Stands.takes _ _ c.args.number c.args.units c.requires.units c.requires.number.0 c.requires.number.1),
+)

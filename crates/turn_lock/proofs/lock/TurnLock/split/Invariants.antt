@@ -1,0 +1,5 @@
+use Rattle.turn_lock.proofs.lock.TurnLock.split.Given as goal
+
+-- the number and the units of the call
+abbrev pub ghosts-cut : goal.ghosts-cut
+ghosts-cut g a = record { number = a.number; units = a.units }

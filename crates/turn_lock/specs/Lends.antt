@@ -1,0 +1,13 @@
+-- How a turn lends its value.
+use Rattle.std.specs.Borrow.{Lends, MutBor, Fml}
+use denote.RattleType.{RattleType}
+use Rattle.turn_lock.specs.declared.turn.Turn.{Turn}
+use Rattle.turn_lock.specs.contracts.turn.Turn.{the_row}
+
+-- the turn with another value
+abbrev pub with_value : {V : Type 0} → Turn V → V → Turn V
+with_value t v = record t { value = v }
+
+-- the turn ends with the last value behind r
+abbrev pub LendsValue : (R : RattleType) → MutBor (Turn R.Denot) → MutBor R.Denot → Fml
+LendsValue R t r = Lends (the_row R) R t r (with_value t.now)

@@ -1,0 +1,9 @@
+pub mod Lends
+pub mod Lists
+pub mod Lock
+pub mod Numbers
+pub mod Pass
+pub mod Props
+pub mod Steps
+pub mod Ticket
+pub mod Views

@@ -1,0 +1,229 @@
+//! The lock and its passes.
+ghost use Rattle.std.specs.Prelude.{◌≡◌, ℕ, ◌+◌, ◌%◌, ◌^◌, ◌<◌, ◌≤◌, [], ◌∷◌, ◌++◌, length, IfOk, IfErr, IsSome};
+ghost use mathlib.Core.List.{IsPrefix};
+ghost use Rattle.turn_lock.specs.Lists.{times, places};
+ghost use Rattle.turn_lock.specs.Numbers.{IsOut, IsFree, IsHeld, held_after};
+ghost use Rattle.turn_lock.specs.Views.{fresh, waits, kept_part, given_part, both};
+ghost use Rattle.turn_lock.specs.Pass.{view, IsSamePass, HasNoTurn, HasTurn, KeepsTurn, IsAlike};
+ghost use Rattle.turn_lock.specs.Steps.{IsPlaced};
+
+use crate::plays::{Advance, Cut, Draw, Glue, Look, Portion, Settle};
+use crate::turn::Turn;
+use crate::view::{LAST, Names, Stands, View};
+use atomic_table::{Refused, Seat, Table, TableRule};
+use iso_model::Memory;
+use std::alloc::Global;
+use std::marker::Brand;
+use std::sync::Wait;
+
+// The words of the table, and its slot.
+const TICKETS: usize = 0;
+
+const SERVED: usize = 1;
+
+const VALUE: usize = 0;
+
+/// The rule of the table.
+pub struct Ticketed;
+
+impl<V: Stands> TableRule<Option<V>, View<V::Entry>, ()> for Ticketed {
+    ghost use Rattle.turn_lock.specs.Ticket.{Fair};
+
+    ghost holds = { λ _. Fair V.stands V.hands V.takes };
+
+    ghost first = { λ _. fresh };
+}
+
+/// A caller's place at a lock: what it has seen of the list, and what it alone may do. It has no bytes.
+pub type Pass<V> = Seat<Option<V>, View<<V as Stands>::Entry>>;
+
+/// A lock that serves its callers in the order of their tickets.
+#[derive(Drop)]
+pub struct TurnLock<V: Stands + Drop> {
+    table: Table<Option<V>, View<V::Entry>, (), Ticketed, Global>,
+    ghost sized: { (table.shared.table_id.words ≡ 2) × (table.shared.table_id.slots ≡ 1) },
+}
+
+impl<V: Stands + Drop> TurnLock<V> {
+    ghost use Rattle.turn_lock.specs.Lock.{lock_id, turn_value, turn_number};
+
+    /// A lock round a value that stands for the empty list, and the first pass, which has all units.
+    pub fn new(alloc: Global, value: V) -> Result<(TurnLock<V>, Pass<V>), (Memory, V)>
+        requires { V.stands value [] }
+        ensures ok { IfOk result (λ r. (r.1.table_id ≡ lock_id r.0) × HasNoTurn r.1 × (view r.1 ≡ fresh)) }
+        ensures err { IfErr result (λ e. e.1 ≡ value) }
+    {
+        let mut slots = Vec::new(alloc);
+        if let Err(failed) = slots.push(Some(value)) {
+            slots.destroy_empty();
+            return Err((Memory, failed.value.unwrap()));
+        }
+        match Table::new(alloc, &[0, 0], slots, &()) {
+            Ok((table, pass)) => Ok((TurnLock { table }, pass)),
+            Err(Refused { mut slots }) => {
+                let value = slots.pop().unwrap();
+                slots.destroy_empty();
+                Err((Memory, value.unwrap()))
+            }
+        }
+    }
+
+    /// Waits until it is this pass's turn.
+    pub fn take<R: Wait>(&self, rt: &R, pass: &mut Pass<V>) -> Turn<V>
+        requires lock { pass.old.table_id ≡ lock_id self.now }
+        requires free { HasNoTurn pass.old × (0 < (view pass.old).units) }
+        ensures lock { IsSamePass pass.old pass.new }
+        ensures turn { HasTurn pass.new (turn_number result) }
+        ensures same { IsAlike (view pass.old) (view pass.new) }
+
+        // The value stands for a list that begins with what the pass had seen. It has as many entries as tickets were served.
+        ensures value { V.stands (turn_value result) (view pass.new).seen }
+        ensures seen { IsPrefix (view pass.old).seen (view pass.new).seen }
+        ensures served { turn_number result ≡ length (view pass.new).seen }
+
+        // Each number that the pass holds is out. With all units its places are every place.
+        ensures out { (n : ℕ) → 0 < times n (view pass.new).holds → IsOut V.hands V.takes n (view pass.new).seen }
+        ensures all { (view pass.new).units ≡ LAST → (view pass.new).mine ≡ places (length (view pass.new).seen) }
+    {
+        let number = self.draw(rt, pass);
+        for _ in rt.forever() {
+            let served = self.table.shared.load::<Look>(pass, SERVED);
+            if served == number {
+                let value = self.table.shared.exchange(pass, VALUE, None).unwrap();
+                return Turn { value, number };
+            }
+            self.table.shared.park(rt, SERVED, low_half(served));
+        }
+        unreachable!()
+    }
+
+    // Where all tickets are drawn, it waits for ever.
+    fn draw<R: Wait>(&self, rt: &R, pass: &mut Pass<V>) -> u64
+        requires lock { pass.old.table_id ≡ lock_id self.now }
+        requires free { HasNoTurn pass.old × (0 < (view pass.old).units) }
+        ensures lock { IsSamePass pass.old pass.new }
+        ensures ticket { pass.new.me ≡ (waits result (view pass.old), []) }
+    {
+        let mut next = self.table.shared.peek(TICKETS);
+        for _ in rt.forever() {
+            if next < LAST {
+                let found = self
+                    .table
+                    .shared
+                    .compare_exchange::<Draw>(pass, TICKETS, next, next + 1);
+                if found == next {
+                    return next;
+                }
+                next = found;
+            } else {
+                self.table.shared.park(rt, TICKETS, low_half(next));
+                next = self.table.shared.peek(TICKETS);
+            }
+        }
+        unreachable!()
+    }
+
+    /// Gives the turn back, with the entry that `N` names behind the list. It waits for nobody.
+    pub fn give<N: Names<V::Entry>>(&self, pass: &mut Pass<V>, turn: Turn<V>)
+        requires lock { pass.old.table_id ≡ lock_id self.now }
+        requires turn { HasTurn pass.old (turn_number turn) }
+        requires value { V.stands (turn_value turn) ((view pass.old).seen ++ N.entry ∷ []) }
+        requires hands { IsFree V.hands V.takes (V.hands N.entry) (view pass.old).seen }
+        requires needs { IsHeld (V.needs N.entry) (view pass.old).holds }
+        requires takes { IsHeld (V.takes N.entry) (view pass.old).holds }
+        ensures lock { IsSamePass pass.old pass.new }
+        ensures free { HasNoTurn pass.new }
+        ensures seen { (view pass.new).seen ≡ (view pass.old).seen ++ N.entry ∷ [] }
+        ensures mine { (view pass.new).mine ≡ (view pass.old).mine ++ length (view pass.old).seen ∷ [] }
+        ensures holds { (view pass.new).holds ≡ held_after V.hands V.takes N.entry (view pass.old).holds }
+        ensures units { (view pass.new).units ≡ (view pass.old).units }
+    {
+        let Turn { value, number } = turn;
+        let _ = self.table.shared.exchange(pass, VALUE, Some(value));
+        let served = number.wrapping_add(1);
+        self.table.shared.store::<Advance<N>>(pass, SERVED, served);
+        self.wake(served);
+    }
+
+    // Wakes as often as there are tickets that are not served, so that the next holder is among those woken.
+    fn wake(&self, served: u64) {
+        for _ in 0..self.table.shared.peek(TICKETS).saturating_sub(served) {
+            self.table.shared.wake_one(SERVED);
+        }
+    }
+
+    /// A new pass, which has seen the same and gets the number and the units. It waits for nobody.
+    pub fn split(&self, pass: &mut Pass<V>, number: Option<u64>, units: u64) -> Pass<V>
+        requires lock { pass.old.table_id ≡ lock_id self.now }
+        requires units { units < (view pass.old).units }
+        requires number { IsHeld number (view pass.old).holds × (IsSome number → 0 < units) }
+        ensures lock { IsSamePass pass.old pass.new }
+        ensures stays { KeepsTurn pass.old pass.new }
+        ensures kept { view pass.new ≡ kept_part number units (view pass.old) }
+        ensures new { (result.table_id ≡ lock_id self.now) × HasNoTurn result }
+        ensures given { view result ≡ given_part number units (view pass.old) }
+    {
+        self.cut::<Brand>(pass, number, units)
+    }
+
+    fn cut<M: Portion>(&self, pass: &mut Pass<V>, number: Option<u64>, units: u64) -> Pass<V>
+        requires portion { (M.number ≡ number) × (M.units ≡ units) }
+        requires lock { pass.old.table_id ≡ lock_id self.now }
+        requires units { units < (view pass.old).units }
+        requires number { IsHeld number (view pass.old).holds × (IsSome number → 0 < units) }
+        ensures lock { IsSamePass pass.old pass.new }
+        ensures stays { KeepsTurn pass.old pass.new }
+        ensures kept { view pass.new ≡ kept_part number units (view pass.old) }
+        ensures new { (result.table_id ≡ lock_id self.now) × HasNoTurn result }
+        ensures given { view result ≡ given_part number units (view pass.old) }
+    {
+        // Contracts alone read the portion.
+        let _ = (number, units);
+        self.table.shared.split_seat::<Cut<M>>(pass)
+    }
+
+    /// Takes another pass into this one. It waits for nobody.
+    pub fn join(&self, pass: &mut Pass<V>, other: Pass<V>)
+        requires lock { (pass.old.table_id ≡ lock_id self.now) × (other.table_id ≡ lock_id self.now) }
+        requires units { 0 < (view pass.old).units }
+        requires free { HasNoTurn other }
+        ensures lock { IsSamePass pass.old pass.new }
+        ensures stays { KeepsTurn pass.old pass.new }
+        ensures both { view pass.new ≡ both (view pass.old) (view other) }
+
+        // Each of the two had seen a beginning of what is now seen.
+        ensures seen { IsPrefix (view pass.old).seen (view pass.new).seen × IsPrefix (view other).seen (view pass.new).seen }
+        ensures whole { (ticket : ℕ) → HasTurn pass.old ticket → (view pass.new).seen ≡ (view pass.old).seen }
+        ensures placed { IsPlaced (view pass.new) }
+        ensures places { (p : ℕ) → times p (view pass.new).mine ≡ times p (view pass.old).mine + times p (view other).mine }
+
+        // No number was held by both, and all passes together have no more than all units.
+        ensures alone { (n : ℕ) → times n (view pass.new).holds ≤ 1 }
+        ensures units { (view pass.new).units ≤ LAST }
+    {
+        self.table.shared.join_seat::<Glue>(pass, other);
+        self.table.shared.load::<Settle>(pass, SERVED);
+    }
+
+    /// Ends the lock, and gives its value back. It waits for nobody.
+    pub fn close(self, pass: Pass<V>) -> V
+        requires lock { pass.table_id ≡ lock_id self }
+        requires free { HasNoTurn pass }
+        requires all { (view pass).units ≡ LAST }
+        ensures value { V.stands result (view pass).seen }
+        ensures all { (view pass).mine ≡ places (length (view pass).seen) }
+    {
+        let TurnLock { table } = self;
+        let mut closed = table.close_with(pass);
+        let value = closed.take(VALUE);
+        closed.free();
+        value.unwrap()
+    }
+}
+
+// A thread parks on the low half of a word.
+fn low_half(word: u64) -> u32
+    ensures { result ≡ word % 2 ^ 32 }
+{
+    (word % (1 << 32)) as u32
+}

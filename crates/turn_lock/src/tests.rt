@@ -1,0 +1,311 @@
+//! Small runs of the lock, over a value that is a plain list.
+ghost use Rattle.std.specs.Prelude.{◌≡◌, ℕ, false, ◌+◌, ◌<◌, ◌≤◌, ◌++◌, [], ◌∷◌, Some, None, IfOk};
+ghost use Rattle.turn_lock.specs.Lists.{times};
+ghost use Rattle.turn_lock.specs.Numbers.{is_out};
+ghost use mathlib.Core.List.{IsPrefix};
+ghost use denote.Param.Send.{IsSync};
+ghost use Rattle.turn_lock.specs.Lock.{lock_id, turn_value, turn_number};
+ghost use Rattle.turn_lock.specs.Pass.{view, IsSamePass, HasNoTurn, HasTurn};
+ghost use Rattle.turn_lock.specs.Props.{pass_props};
+
+use crate::{LAST, Names, Pass, Stands, Turn, TurnLock};
+use iso_model::Memory;
+use std::alloc::Global;
+use std::marker::Brand;
+use std::process::Abort;
+use std::sync::Wait;
+use std::test::Fail;
+use std::thread::{Threads, join};
+
+const TURNS: u64 = 5000;
+
+/// It stands for the list that it has.
+#[derive(Drop)]
+struct Log {
+    owner: u64,
+    entries: Vec<u64>,
+}
+
+impl Stands for Log {
+    type Entry = u64;
+
+    ghost stands = { λ log list. log.entries.items ≡ list };
+
+    ghost hands = { λ _. None };
+
+    ghost needs = { λ _. None };
+
+    ghost takes = { λ _. None };
+}
+
+impl Names<u64> for Brand {
+    ghost entry = { 0 };
+}
+
+/// A caller of a lock, between two calls.
+#[derive(Drop)]
+struct Caller<'a, V: Stands + Drop> {
+    lock: &'a TurnLock<V>,
+    pass: Pass<V>,
+    ghost rests: { (pass.table_id ≡ lock_id lock.now) × HasNoTurn pass × (0 < (view pass).units) } by { Prim.hlevel pass_props },
+}
+
+// Gives the turn back with this entry.
+fn give<N: Names<u64>>(lock: &TurnLock<Log>, pass: &mut Pass<Log>, turn: Turn<Log>, entry: u64)
+    requires named { N.entry ≡ entry }
+    requires lock { (pass.old.table_id ≡ lock_id lock.now) × HasTurn pass.old (turn_number turn) }
+    requires value { (turn_value turn).entries.items ≡ (view pass.old).seen ++ entry ∷ [] }
+    ensures rests { IsSamePass pass.old pass.new × HasNoTurn pass.new × ((view pass.new).units ≡ (view pass.old).units) }
+    ensures seen { (view pass.new).seen ≡ (view pass.old).seen ++ entry ∷ [] }
+{
+    let _ = entry;
+    lock.give::<N>(pass, turn);
+}
+
+impl<'a> Caller<'a, Log> {
+    // One turn, in which the number of entries is written behind them.
+    fn count<R: Wait + Abort>(&mut self, rt: &R)
+        ensures same { (self.new.lock.now ≡ self.old.lock.now) × ((view self.new.pass).units ≡ (view self.old.pass).units) }
+        ensures seen { IsPrefix (view self.old.pass).seen (view self.new.pass).seen }
+    {
+        let mut turn = self.lock.take(rt, &mut self.pass);
+        let log = turn.value();
+        let number = log.entries.len() as u64;
+        log.entries.push(number).expect(rt, "memory");
+        give::<Brand>(self.lock, &mut self.pass, turn, number);
+    }
+}
+
+// So many turns.
+fn turned<R: Wait + Abort>(rt: &R, lock: &TurnLock<Log>, pass: Pass<Log>, turns: u64) -> Pass<Log>
+    requires { (pass.table_id ≡ lock_id lock.now) × HasNoTurn pass × (0 < (view pass).units) }
+    ensures { (result.table_id ≡ lock_id lock.now) × HasNoTurn result × ((view result).units ≡ (view pass).units) }
+{
+    let mut caller = Caller { lock, pass };
+    for _ in 0..turns {
+        caller.count(rt);
+    }
+    let Caller { lock: _, pass } = caller;
+    pass
+}
+
+// Two threads with so many turns each, whose passes are joined.
+fn two_threads<R: Threads + Wait + Abort + Sync>(
+    rt: &R,
+    lock: &TurnLock<Log>,
+    first: Pass<Log>,
+    second: Pass<Log>,
+    turns: u64,
+) -> Pass<Log>
+    requires first { (first.table_id ≡ lock_id lock.now) × HasNoTurn first × (0 < (view first).units) }
+    requires second { (second.table_id ≡ lock_id lock.now) × HasNoTurn second × (0 < (view second).units) }
+    ensures { (result.table_id ≡ lock_id lock.now) × HasNoTurn result × ((view result).units ≡ (view first).units + (view second).units) }
+{
+    let (mut first, second) = join(
+        rt,
+        || -> Pass<Log>
+            requires { IsSync R.row × (first.table_id ≡ lock_id lock.now) × HasNoTurn first × (0 < (view first).units) }
+            ensures { (result.table_id ≡ lock_id lock.entry.now) × HasNoTurn result × ((view result).units ≡ (view first).units) }
+        { turned(rt, lock, first, turns) },
+        || -> Pass<Log>
+            requires { IsSync R.row × (second.table_id ≡ lock_id lock.now) × HasNoTurn second × (0 < (view second).units) }
+            ensures { (result.table_id ≡ lock_id lock.entry.now) × HasNoTurn result × ((view result).units ≡ (view second).units) }
+        { turned(rt, lock, second, turns) },
+    );
+    lock.join(&mut first, second);
+    first
+}
+
+// Four threads, likewise.
+fn four_threads<R: Threads + Wait + Abort + Sync>(
+    rt: &R,
+    lock: &TurnLock<Log>,
+    mut first: Pass<Log>,
+    turns: u64,
+) -> Pass<Log>
+    requires { (first.table_id ≡ lock_id lock.now) × HasNoTurn first × ((view first).units ≡ LAST) }
+    ensures { (result.table_id ≡ lock_id lock.now) × HasNoTurn result × ((view result).units ≡ LAST) }
+{
+    let second = lock.split(&mut first, None, 1);
+    let mut third = lock.split(&mut first, None, 5);
+    let fourth = lock.split(&mut third, None, 2);
+    let (mut left, right) = join(
+        rt,
+        || -> Pass<Log>
+            requires { IsSync R.row × (first.table_id ≡ lock_id lock.now) × HasNoTurn first × (0 < (view first).units) × (second.table_id ≡ lock_id lock.now) × HasNoTurn second × (0 < (view second).units) }
+            ensures { (result.table_id ≡ lock_id lock.entry.now) × HasNoTurn result × ((view result).units ≡ (view first).units + (view second).units) }
+        { two_threads(rt, lock, first, second, turns) },
+        || -> Pass<Log>
+            requires { IsSync R.row × (third.table_id ≡ lock_id lock.now) × HasNoTurn third × (0 < (view third).units) × (fourth.table_id ≡ lock_id lock.now) × HasNoTurn fourth × (0 < (view fourth).units) }
+            ensures { (result.table_id ≡ lock_id lock.entry.now) × HasNoTurn result × ((view result).units ≡ (view third).units + (view fourth).units) }
+        { two_threads(rt, lock, third, fourth, turns) },
+    );
+    lock.join(&mut left, right);
+    left
+}
+
+// A lock over an empty log, and its first pass.
+fn made(rt: &impl Abort, alloc: Global) -> (TurnLock<Log>, Pass<Log>)
+    ensures { (result.1.table_id ≡ lock_id result.0) × HasNoTurn result.1 × ((view result.1).units ≡ LAST) }
+{
+    let log = Log {
+        owner: 7,
+        entries: Vec::new(alloc),
+    };
+    match TurnLock::new(alloc, log) {
+        Ok(made) => made,
+        Err(_) => panic!(rt; "memory"),
+    }
+}
+
+// Tells by a note what the teller has seen.
+fn tell(lock: &TurnLock<Log>, teller: &mut Pass<Log>, listener: &mut Pass<Log>)
+    requires teller { (teller.old.table_id ≡ lock_id lock.now) × HasNoTurn teller.old × (0 < (view teller.old).units) }
+    requires listener { (listener.old.table_id ≡ lock_id lock.now) × HasNoTurn listener.old × (0 < (view listener.old).units) }
+    ensures teller { IsSamePass teller.old teller.new × (view teller.new ≡ view teller.old) × HasNoTurn teller.new }
+    ensures listener { IsSamePass listener.old listener.new × HasNoTurn listener.new × ((view listener.new).units ≡ (view listener.old).units) }
+    ensures told { IsPrefix (view teller.old).seen (view listener.new).seen }
+    ensures same { ((view listener.new).mine ≡ (view listener.old).mine) × ((view listener.new).holds ≡ (view listener.old).holds) }
+{
+    let note = lock.split(teller, None, 0);
+    lock.join(listener, note);
+}
+
+fn counts_up(log: &Log) -> bool {
+    log.entries.iter().enumerate().all(|(i, n)| *n == i as u64)
+}
+
+#[test]
+fn two_threads_are_served_in_order(rt: HostRuntime) -> Result<(), Fail> {
+    let (lock, mut first) = made(&rt, rt.alloc());
+    let second = lock.split(&mut first, None, 1);
+    let all = two_threads(&rt, &lock, first, second, TURNS);
+    let log = lock.close(all);
+    assert!(rt; log.entries.len() == 2 * TURNS as usize && counts_up(&log));
+    Ok(())
+}
+
+#[test]
+fn four_threads_are_served_in_order(rt: HostRuntime) -> Result<(), Fail> {
+    let (lock, first) = made(&rt, rt.alloc());
+    let all = four_threads(&rt, &lock, first, TURNS);
+    let log = lock.close(all);
+    assert!(rt; log.entries.len() == 4 * TURNS as usize && counts_up(&log));
+    Ok(())
+}
+
+#[test]
+fn a_note_tells_what_was_seen(rt: HostRuntime) -> Result<(), Fail> {
+    let (lock, first) = made(&rt, rt.alloc());
+    let mut first = turned(&rt, &lock, first, 3);
+    let mut second = lock.split(&mut first, None, 1);
+    first = turned(&rt, &lock, first, 2);
+    tell(&lock, &mut first, &mut second);
+    second = turned(&rt, &lock, second, 1);
+    lock.join(&mut first, second);
+    let log = lock.close(first);
+    assert!(rt; log.entries.len() == 6 && counts_up(&log));
+    Ok(())
+}
+
+#[test]
+fn new_hands_the_value_back_without_memory(rt: HostRuntime) -> Result<(), Fail> {
+    let log = Log {
+        owner: 7,
+        entries: Vec::new(rt.alloc()),
+    };
+    match TurnLock::new(rt.alloc(), log) {
+        Ok((lock, pass)) => assert!(rt; lock.close(pass).owner == 7),
+        Err((Memory, log)) => assert!(rt; log.owner == 7),
+    }
+    Ok(())
+}
+
+/// A desk that hands out numbers, each one once. The entry has the number that is handed out and the one that is taken back.
+#[derive(Drop)]
+struct Desk {
+    next: u64,
+}
+
+impl Stands for Desk {
+    type Entry = (Option<u64>, Option<u64>);
+
+    // The numbers that come next are not out.
+    ghost stands = { λ desk list. (n : ℕ) → desk.next ≤ n → is_out (λ e. e.0) (λ e. e.1) n list ≡ false };
+
+    ghost hands = { λ e. e.0 };
+
+    ghost needs = { λ e. e.1 };
+
+    ghost takes = { λ e. e.1 };
+}
+
+impl Names<(Option<u64>, Option<u64>)> for Brand {
+    ghost entry = { (None, None) };
+}
+
+// Gives the turn back with a number handed out.
+fn hand_out<N: Names<(Option<u64>, Option<u64>)>>(
+    lock: &TurnLock<Desk>,
+    pass: &mut Pass<Desk>,
+    turn: Turn<Desk>,
+    number: u64,
+)
+    requires named { N.entry ≡ (Some number, None) }
+    requires lock { (pass.old.table_id ≡ lock_id lock.now) × HasTurn pass.old (turn_number turn) }
+    requires next { (turn_value turn).next ≡ number + 1 }
+    requires value { (n : ℕ) → number ≤ n → is_out (λ e. e.0) (λ e. e.1) n (view pass.old).seen ≡ false }
+    ensures rests { IsSamePass pass.old pass.new × HasNoTurn pass.new × ((view pass.new).units ≡ (view pass.old).units) }
+    ensures holds { (view pass.new).holds ≡ number ∷ (view pass.old).holds }
+{
+    let _ = number;
+    lock.give::<N>(pass, turn);
+}
+
+// Gives the turn back with a number taken back.
+fn take_back<N: Names<(Option<u64>, Option<u64>)>>(
+    lock: &TurnLock<Desk>,
+    pass: &mut Pass<Desk>,
+    turn: Turn<Desk>,
+    number: u64,
+)
+    requires named { N.entry ≡ (None, Some number) }
+    requires lock { (pass.old.table_id ≡ lock_id lock.now) × HasTurn pass.old (turn_number turn) }
+    requires value { (n : ℕ) → (turn_value turn).next ≤ n → is_out (λ e. e.0) (λ e. e.1) n (view pass.old).seen ≡ false }
+    requires held { 0 < times number (view pass.old).holds }
+    ensures rests { IsSamePass pass.old pass.new × HasNoTurn pass.new × ((view pass.new).units ≡ (view pass.old).units) }
+    ensures holds { times number (view pass.new).holds ≡ 0 }
+{
+    let _ = number;
+    lock.give::<N>(pass, turn);
+}
+
+// Hands a number out, moves it to a pass of its own, and takes it back there.
+fn served_number<R: Wait + Abort>(rt: &R, lock: &TurnLock<Desk>, pass: &mut Pass<Desk>) -> u64
+    requires { (pass.old.table_id ≡ lock_id lock.now) × HasNoTurn pass.old × (1 < (view pass.old).units) }
+    ensures { IsSamePass pass.old pass.new × HasNoTurn pass.new × ((view pass.new).units ≡ (view pass.old).units) }
+{
+    let mut turn = lock.take(rt, pass);
+    let desk = turn.value();
+    let number = desk.next;
+    assert!(rt; number < LAST);
+    desk.next = number + 1;
+    hand_out::<Brand>(lock, pass, turn, number);
+    let mut holder = lock.split(pass, Some(number), 1);
+    let turn = lock.take(rt, &mut holder);
+    take_back::<Brand>(lock, &mut holder, turn, number);
+    lock.join(pass, holder);
+    number
+}
+
+#[test]
+fn a_number_moves_with_its_pass(rt: HostRuntime) -> Result<(), Fail> {
+    let Ok((lock, mut pass)) = TurnLock::new(rt.alloc(), Desk { next: 0 }) else {
+        panic!(rt; "memory")
+    };
+    let first = served_number(&rt, &lock, &mut pass);
+    let second = served_number(&rt, &lock, &mut pass);
+    let desk = lock.close(pass);
+    assert!(rt; first == 0 && second == 1 && desk.next == 2);
+    Ok(())
+}
