@@ -11,10 +11,8 @@ use Rattle.iso_model.specs.Effect.{record_length}
 use Rattle.iso_model.specs.Geometry.{is_valid, is_block_size}
 use Rattle.iso_model.specs.Image.{IsRun, AreRuns, ComesAfter, body_length, part, spell}
 use Rattle.iso_format.specs.Writing.{LieInAnImage}
+use Rattle.iso_format.proofs.Pieces.{both}
 
-both : (a b : Bool) → IsTrue (a && b) → IsTrue a × IsTrue b
-both true b h = (refl, h)
-both false b h = absurd cc
 
 is_le : (a b : ℕ) → IsTrue (nat_le a b) → a ≤ b
 is_le a b h = leb-true a b h
@@ -34,7 +32,7 @@ one_of size limit (n ∷ ns) h below =
       | inr later ↦ one_of size limit ns later limits.1
     ]
 
-block_fits : (size : ℕ) → IsTrue (is_block_size size) → size ≤ 4096
+pub block_fits : (size : ℕ) → IsTrue (is_block_size size) → size ≤ 4096
 block_fits size h = one_of size 4096 (64 ∷ 128 ∷ 256 ∷ 512 ∷ 1024 ∷ 2048 ∷ 4096 ∷ []) h refl
 
 -- the limits of a valid geometry that bound a record

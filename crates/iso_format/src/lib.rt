@@ -3,6 +3,7 @@
 
 mod half;
 mod log_record;
+mod numbers;
 mod superblock;
 #[cfg(test)]
 mod tests;
