@@ -1,12 +1,13 @@
 -- The header of a half is read exactly as it is written.
 use Rattle.std.proofs.Common.{◌≡◌, ℕ, ◌^◌, ◌<◌, true, List, [], ◌∷◌, ◌++◌, length, get_or, take, replicate, IsTrue, refl, ap, ◌∙◌, sym, arith}
+use Rattle.std.proofs.lemmas.Bool.{and_parts}
 use Rattle.std.proofs.lemmas.List.{take_all}
 use Rattle.std.proofs.lemmas.Nat.{from_be_bytes-to_be_bytes_8}
 use Rattle.std.specs.Int.{w64, to_be_bytes}
 use Rattle.iso_model.specs.Image.{half_header}
 use Rattle.iso_format.specs.declared.half.HalfHeader.{HalfHeader}
 use Rattle.iso_format.specs.Reading.{number_at, are_zero, half_of}
-use Rattle.iso_format.proofs.Pieces.{IsBytes, grow, spelled_64, one_at, both, zeros_at}
+use Rattle.iso_format.proofs.Pieces.{IsBytes, grow, spelled_64, one_at, zeros_at}
 
 pub half_again : (gate form generation base : ℕ) → generation < 2 ^ 64 → base < 2 ^ 64 →
     half_of (half_header gate form generation base) ≡ record { gate = gate; form = form; generation = generation; base = base; clean = true }
@@ -18,7 +19,7 @@ pub half_spelled : (bytes : List ℕ) → IsBytes bytes → length bytes ≡ 32 
     bytes ≡ half_header (half_of bytes).gate (half_of bytes).form (half_of bytes).generation (half_of bytes).base
 unfolding half_of half_header
 half_spelled bytes fits len clean =
-    let zeros = both (are_zero 2 6 bytes) (are_zero 24 8 bytes) clean in
+    let zeros = and_parts (are_zero 2 6 bytes) (are_zero 24 8 bytes) clean in
     let s1 : take 1 bytes ≡ get_or bytes 0 0 ∷ [] = one_at bytes 0 (omega arith) in
     let s2 : take 2 bytes ≡ get_or bytes 0 0 ∷ get_or bytes 1 0 ∷ [] = grow bytes (get_or bytes 0 0 ∷ []) (get_or bytes 1 0 ∷ []) 1 1 s1 (one_at bytes 1 (omega arith)) in
     let f2 = get_or bytes 0 0 ∷ get_or bytes 1 0 ∷ [] in

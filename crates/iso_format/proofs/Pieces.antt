@@ -1,7 +1,7 @@
 -- Bytes are their pieces, from the front on.
 use Rattle.std.proofs.Common.{◌≡◌, ℕ, zero, suc, ◌+◌, ◌-◌, ◌^◌, ◌<◌, ◌≤◌, Bool, true, false, ◌&&◌, ◌||◌, ◌==◌, cond, not, ◌⊎◌, inl, inr, List, [], ◌∷◌, ◌++◌, length, get_or, take, drop, replicate, IsTrue, nat_eq, refl, sym, ap, ◌∙◌, arith}
 use Rattle.std.proofs.Math.Seq.{take-add, drop-cons}
-use Rattle.std.proofs.lemmas.Bool.{cases_lt, eqb-true}
+use Rattle.std.proofs.lemmas.Bool.{cases_lt, eqb-true, and_parts}
 use Rattle.std.proofs.lemmas.List.{get_or-drop, get_or-take, get_or_past, length-take, length-drop}
 use Rattle.std.proofs.lemmas.Nat.{be_bytes_2, be_bytes_4, be_bytes_8}
 use Rattle.std.specs.Int.{w16, w32, w64, to_be_bytes, from_be_bytes}
@@ -50,18 +50,10 @@ spelled_64 bytes at h lt =
 pub one_at : (bytes : List ℕ) (at : ℕ) → at < length bytes → take 1 (drop at bytes) ≡ get_or bytes at 0 ∷ []
 one_at bytes at lt = rw (drop-cons bytes at 0 lt) refl
 
-pub both : (a b : Bool) → IsTrue (a && b) → IsTrue a × IsTrue b
-both true b h = (refl, h)
-both false b h = absurd cc
-
-pub conjoined : (a b : Bool) → IsTrue a → IsTrue b → IsTrue (a && b)
-conjoined true b g h = h
-conjoined false b g h = absurd cc
-
 all_zero : (xs : List ℕ) → IsTrue (list_all (λ b. b == 0) xs) → xs ≡ replicate (length xs) 0
 all_zero [] h = refl
 all_zero (x ∷ xs) h =
-    let parts = both (x == 0) (list_all (λ b. b == 0) xs) h in
+    let parts = and_parts (x == 0) (list_all (λ b. b == 0) xs) h in
     let first : x ≡ 0 = eqb-true x 0 parts.0 in
     rw (first, ← all_zero xs parts.1) refl
 
@@ -75,6 +67,6 @@ same_bytes [] [] h = refl
 same_bytes [] (y ∷ s) h = absurd cc
 same_bytes (x ∷ p) [] h = absurd cc
 same_bytes (x ∷ p) (y ∷ s) h =
-    let parts = both (x == y) (pointwise nat_eq p s) h in
+    let parts = and_parts (x == y) (pointwise nat_eq p s) h in
     let first : x ≡ y = eqb-true x y parts.0 in
     rw (first, same_bytes p s parts.1) refl

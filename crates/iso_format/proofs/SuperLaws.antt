@@ -1,6 +1,6 @@
 -- A superblock is read exactly as it is written.
 use Rattle.std.proofs.Common.{◌≡◌, ℕ, zero, suc, ◌+◌, ◌^◌, ◌<◌, ◌≤◌, Bool, true, false, ◌&&◌, ◌==◌, cond, not, nat_eq, nat_le, List, [], ◌∷◌, ◌++◌, Option, Some, None, Result, Ok, Err, IfOk, length, get_or, take, drop, replicate, IsTrue, codes, refl, ap, ◌∙◌, sym, subst, arith}
-use Rattle.std.proofs.lemmas.Bool.{eqb-true, leb-true}
+use Rattle.std.proofs.lemmas.Bool.{eqb-true, leb-true, and_parts, and_from}
 use Rattle.std.proofs.lemmas.List.{take_all}
 use Rattle.std.proofs.lemmas.Nat.{from_be_bytes-to_be_bytes_4}
 use Rattle.std.specs.Int.{w32, to_be_bytes}
@@ -14,7 +14,7 @@ use Rattle.iso_format.specs.declared.superblock.SuperError.{SuperError}
 use Rattle.iso_format.specs.declared.superblock.SuperError.TheVariants.{NotIsotope, BadGeometry}
 use Rattle.iso_format.specs.Reading.{number_at, are_zero, mode_of, geometry_of, has_regions, wrong_field, unless_wrong, super_of}
 use Rattle.iso_format.proofs.Parts.{block_fits}
-use Rattle.iso_format.proofs.Pieces.{IsBytes, grow, spelled_32, one_at, both, conjoined, zeros_at, same_bytes}
+use Rattle.iso_format.proofs.Pieces.{IsBytes, grow, spelled_32, one_at, zeros_at, same_bytes}
 
 -- the limits of a valid geometry, as a superblock is tested for them
 pub record IsWithin (g : Geometry) : Type 0 where
@@ -26,30 +26,30 @@ pub record IsWithin (g : Geometry) : Type 0 where
 pub within : (g : Geometry) → IsTrue (is_valid g) → IsWithin g
 unfolding is_valid
 within g h =
-    let form = both _ _ h in
-    let some_form = both _ _ form.0 in
-    let sum = both _ _ some_form.0 in
-    let tree = both _ _ sum.0 in
-    let hash = both _ _ tree.0 in
-    let log = both _ _ hash.0 in
-    let some_log = both _ _ log.0 in
-    let blocks = both _ _ some_log.0 in
-    let some = both _ _ blocks.0 in
+    let form = and_parts _ _ h in
+    let some_form = and_parts _ _ form.0 in
+    let sum = and_parts _ _ some_form.0 in
+    let tree = and_parts _ _ sum.0 in
+    let hash = and_parts _ _ tree.0 in
+    let log = and_parts _ _ hash.0 in
+    let some_log = and_parts _ _ log.0 in
+    let blocks = and_parts _ _ some_log.0 in
+    let some = and_parts _ _ blocks.0 in
     record {
       block = some.0;
-      blocks = conjoined _ _ some.1 blocks.1;
-      log = conjoined _ _ some_log.1 log.1;
-      regions = conjoined _ _ (conjoined _ _ hash.1 tree.1) sum.1;
+      blocks = and_from _ _ some.1 blocks.1;
+      log = and_from _ _ some_log.1 log.1;
+      regions = and_from _ _ (and_from _ _ hash.1 tree.1) sum.1;
     }
 
 pub is_within : (g : Geometry) → IsWithin g → g.form ≡ 1 → IsTrue (is_valid g)
 unfolding is_valid
 is_within g w form =
-    let blocks = both (nat_le 1 g.blocks) (nat_le g.blocks 16384) w.blocks in
-    let log = both (nat_le 64 g.log) (nat_le g.log 67108864) w.log in
-    let regions = both (is_region g 3 g.hash && is_region g 2 g.tree) (nat_le (g.hash + g.tree) g.blocks) w.regions in
-    let stores = both (is_region g 3 g.hash) (is_region g 2 g.tree) regions.0 in
-    conjoined _ _ (conjoined _ _ (conjoined _ _ (conjoined _ _ (conjoined _ _ (conjoined _ _ (conjoined _ _ (conjoined _ _ (conjoined _ _ w.block blocks.0) blocks.1) log.0) log.1) stores.0) stores.1) regions.1)
+    let blocks = and_parts (nat_le 1 g.blocks) (nat_le g.blocks 16384) w.blocks in
+    let log = and_parts (nat_le 64 g.log) (nat_le g.log 67108864) w.log in
+    let regions = and_parts (is_region g 3 g.hash && is_region g 2 g.tree) (nat_le (g.hash + g.tree) g.blocks) w.regions in
+    let stores = and_parts (is_region g 3 g.hash) (is_region g 2 g.tree) regions.0 in
+    and_from _ _ (and_from _ _ (and_from _ _ (and_from _ _ (and_from _ _ (and_from _ _ (and_from _ _ (and_from _ _ (and_from _ _ w.block blocks.0) blocks.1) log.0) log.1) stores.0) stores.1) regions.1)
     (rw form refl)) (rw form refl)
 
 mode_of-mode_byte : (m : Mode) → mode_of (mode_byte m) ≡ m
@@ -93,11 +93,11 @@ unfolding super_of superblock
 super_again g valid =
     let w = within g valid in
     let size = block_fits g.block w.block in
-    let blocks = both (nat_le 1 g.blocks) (nat_le g.blocks 16384) w.blocks in
-    let log = both (nat_le 64 g.log) (nat_le g.log 67108864) w.log in
+    let blocks = and_parts (nat_le 1 g.blocks) (nat_le g.blocks 16384) w.blocks in
+    let log = and_parts (nat_le 64 g.log) (nat_le g.log 67108864) w.log in
     let most_blocks : g.blocks ≤ 16384 = leb-true g.blocks 16384 blocks.1 in
     let most_log : g.log ≤ 67108864 = leb-true g.log 67108864 log.1 in
-    let sum = both (is_region g 3 g.hash && is_region g 2 g.tree) (nat_le (g.hash + g.tree) g.blocks) w.regions in
+    let sum = and_parts (is_region g 3 g.hash && is_region g 2 g.tree) (nat_le (g.hash + g.tree) g.blocks) w.regions in
     let most : g.hash + g.tree ≤ g.blocks = leb-true (g.hash + g.tree) g.blocks sum.1 in
     let made : Geometry = record g { form = 1 } in
     let told : geometry_of (superblock 1 g) ≡ made = told_again g (omega arith) (omega arith) (omega arith) (omega arith) (omega arith) in
@@ -159,14 +159,14 @@ super_spelled bytes g fits len e =
     let mode = nat_le (get_or bytes 24 0) 1 in
     let zeros = are_zero 25 3 bytes && are_zero 36 27 bytes in
     let ok = read_ok (starts_with nat_eq bytes (codes "ISOTOPE1") && (get_or bytes 63 0 == 1)) (wrong_field bytes t) t g e in
-    let front = both (starts_with nat_eq bytes (codes "ISOTOPE1")) (get_or bytes 63 0 == 1) ok.0 in
-    let p7 = both (version && is_block_size t.block && blocks && log && mode && zeros) (has_regions t) (all_right version (is_block_size t.block) blocks log mode zeros (has_regions t) ok.1) in
-    let p6 = both (version && is_block_size t.block && blocks && log && mode) zeros p7.0 in
-    let p5 = both (version && is_block_size t.block && blocks && log) mode p6.0 in
-    let p4 = both (version && is_block_size t.block && blocks) log p5.0 in
-    let p3 = both (version && is_block_size t.block) blocks p4.0 in
-    let p2 = both version (is_block_size t.block) p3.0 in
-    let zero = both (are_zero 25 3 bytes) (are_zero 36 27 bytes) p6.1 in
+    let front = and_parts (starts_with nat_eq bytes (codes "ISOTOPE1")) (get_or bytes 63 0 == 1) ok.0 in
+    let p7 = and_parts (version && is_block_size t.block && blocks && log && mode && zeros) (has_regions t) (all_right version (is_block_size t.block) blocks log mode zeros (has_regions t) ok.1) in
+    let p6 = and_parts (version && is_block_size t.block && blocks && log && mode) zeros p7.0 in
+    let p5 = and_parts (version && is_block_size t.block && blocks && log) mode p6.0 in
+    let p4 = and_parts (version && is_block_size t.block && blocks) log p5.0 in
+    let p3 = and_parts (version && is_block_size t.block) blocks p4.0 in
+    let p2 = and_parts version (is_block_size t.block) p3.0 in
+    let zero = and_parts (are_zero 25 3 bytes) (are_zero 36 27 bytes) p6.1 in
     let valid = is_within t (record { block = p2.1; blocks = p3.1; log = p4.1; regions = p7.1 }) refl in
     subst (IsSpelled bytes) ok.2 (record {
       valid = valid;
