@@ -108,7 +108,7 @@ run_at g (x ∷ y ∷ more) (suc i) d r lt = run_at g (y ∷ more) i d r.2 (omeg
 pub part_bound : (parts : List Run) (i : ℕ) (d : Run) → LieInAnImage parts → i < length parts → length (get_or parts i d).bytes ≤ 4096
 part_bound parts i d h lt = omega (arith, (run_at h.0 parts i d h.2 lt).fits, (bounded h.0 h.1).block)
 
-length-flat_map-part : (parts : List Run) → length (flat_map part parts) ≡ body_length parts
+pub length-flat_map-part : (parts : List Run) → length (flat_map part parts) ≡ body_length parts
 length-flat_map-part [] = refl
 length-flat_map-part (x ∷ more) =
     omega (arith, length-flat_map-part more, sum_by-cons (λ (run : Run). 8 + length run.bytes) x more, length-append (part x) (flat_map part more))

@@ -1,10 +1,11 @@
 -- What the bytes of a record say, and the first test that they fail.
-use Rattle.std.specs.Prelude.{◌≡◌, ◌≢◌, ℕ, zero, suc, ◌+◌, ◌*◌, ◌<◌, ◌≤◌, Bool, true, false, ◌&&◌, ◌||◌, ◌==◌, not, if◌then◌else◌, List, [], ◌∷◌, ◌++◌, Option, Some, None, length, take, drop, nat_lt, nat_le, slice_index}
+use Rattle.std.specs.Prelude.{◌≡◌, ℕ, zero, suc, ◌+◌, ◌*◌, ◌<◌, ◌≤◌, Bool, true, false, ◌&&◌, ◌||◌, ◌==◌, not, if◌then◌else◌, List, [], ◌∷◌, ◌++◌, Option, Some, None, IsTrue, length, take, drop, nat_lt, nat_le, slice_index}
 use Rattle.std.specs.Int.{w16, w32, w64}
 use Rattle.iso_model.specs.declared.access.Geometry.{Geometry}
 use Rattle.iso_model.specs.declared.access.Run.{Run}
 use Rattle.iso_model.specs.declared.limits.TheConstants.{LAST}
 use Rattle.iso_model.specs.Effect.{or_else}
+use Rattle.iso_model.specs.Image.{AreRuns, spell}
 use Rattle.iso_format.specs.declared.format_error.FormatError.{FormatError}
 use Rattle.iso_format.specs.declared.format_error.FormatError.TheVariants.{Short, Kind, NotZero, Count, Order, Range, Length, Number}
 use Rattle.iso_format.specs.Reading.{number_at}
@@ -88,3 +89,15 @@ fault_of g n bytes =
 -- what they say as a record, whether or not they fail one
 abbrev pub recorded : List ℕ → Recorded
 recorded bytes = record { number = number_at w64 12 bytes; kind = slice_index bytes 1; parts = runs_of (number_at w32 4 bytes) (body_of bytes) }
+
+-- The bytes begin with the record with the number n, but for its gate, and one byte more follows it at least.
+pub record BeginsWith (g : Geometry) (n : ℕ) (r : Recorded) (bytes : List ℕ) : Type 0 where
+  pub number : r.number ≡ n
+  pub last : n ≤ LAST
+  pub kind : IsTrue (is_kind g r.kind)
+  pub some : 0 < length r.parts
+  pub runs : AreRuns g r.parts
+  pub gate : ℕ
+  pub next : ℕ
+  pub rest : List ℕ
+  pub spelling : bytes ≡ spell gate r.kind n r.parts ++ next ∷ rest

@@ -1,6 +1,7 @@
 // A record that lies in bytes, and its parts.
-ghost use Rattle.std.specs.Prelude.{◌≡◌, None, Some, IfOk, IfErr};
-ghost use Rattle.iso_format.specs.Records.{fault_of, recorded};
+ghost use Rattle.std.specs.Prelude.{◌≡◌, None, Some, Ok, IfOk, IfErr, IsTrue};
+ghost use Rattle.iso_model.specs.Geometry.{is_valid};
+ghost use Rattle.iso_format.specs.Records.{BeginsWith, Recorded, fault_of, recorded};
 
 use crate::faults::{PART_HEAD, body_of, fault_of, part_size};
 use crate::format_error::FormatError;
@@ -108,12 +109,10 @@ impl<'a> RecordView<'a> {
     }
 }
 
-/// The record at the front of the bytes, which go on to the end of the log, or the first test that they fail. Its gate
-/// is not tested.
-pub fn read_record<'a>(
-    input: &'a [u8],
+fn record_of<'a>(
     geometry: &Geometry,
     number: u64,
+    input: &'a [u8],
 ) -> Result<RecordView<'a>, FormatError>
     ensures found { IfOk result (λ r. (fault_of geometry.now number input.now ≡ None) × (r ≡ recorded input.now)) }
     ensures fault { IfErr result (λ e. fault_of geometry.now number input.now ≡ Some e) }
@@ -127,4 +126,23 @@ pub fn read_record<'a>(
         count: u32_at(input, 4),
         body: body_of(input),
     })
+}
+
+/// The record at the front of the bytes, which go on to the end of the log, or the first test that they fail. Its gate
+/// is not tested.
+pub fn read_record<'a>(
+    input: &'a [u8],
+    geometry: &Geometry,
+    number: u64,
+) -> Result<RecordView<'a>, FormatError>
+    ensures exact { IfOk result (λ r. (fault_of geometry.now number input.now ≡ None) × (r ≡ recorded input.now)) }
+    ensures fault { IfErr result (λ e. fault_of geometry.now number input.now ≡ Some e) }
+    // What is read is spelled so.
+    ensures spelled { IfOk result (λ r. BeginsWith geometry.now number r input.now) }
+    // What is spelled is read.
+    ensures only {
+        (r : Recorded) → IsTrue (is_valid geometry.now) → BeginsWith geometry.now number r input.now → result ≡ Ok r
+    }
+{
+    record_of(geometry, number, input)
 }
