@@ -1,7 +1,6 @@
 -- The tests of parts, one after the other, as a loop makes them.
-use Rattle.std.proofs.Common.{◌≡◌, ℕ, zero, suc, ◌+◌, ◌-◌, ◌<◌, ◌≤◌, List, [], ◌∷◌, Option, Some, None, length, take, drop, refl, sym, ap, ◌∙◌, arith}
+use Rattle.std.proofs.Common.{◌≡◌, ℕ, suc, ◌+◌, ◌-◌, ◌<◌, List, Option, Some, None, drop, refl, sym, ◌∙◌, arith}
 use Rattle.iso_model.specs.declared.access.Geometry.{Geometry}
-use Rattle.iso_model.specs.Effect.{or_else}
 use Rattle.iso_format.specs.declared.format_error.FormatError.{FormatError}
 use Rattle.iso_format.specs.Records.{part_fault, parts_fault, part_end, part_size}
 

@@ -1,11 +1,10 @@
 -- The header of a half is read exactly as it is written.
-use Rattle.std.proofs.Common.{◌≡◌, ℕ, ◌^◌, ◌<◌, true, List, [], ◌∷◌, ◌++◌, length, get_or, take, replicate, IsTrue, refl, ap, ◌∙◌, sym, arith}
+use Rattle.std.proofs.Common.{◌≡◌, ℕ, ◌^◌, ◌<◌, true, List, [], ◌∷◌, ◌++◌, length, get_or, take, replicate, IsTrue, refl, ◌∙◌, sym, arith}
 use Rattle.std.proofs.lemmas.Bool.{and_parts}
 use Rattle.std.proofs.lemmas.List.{take_all}
 use Rattle.std.proofs.lemmas.Nat.{from_be_bytes-to_be_bytes_8}
 use Rattle.std.specs.Int.{w64, to_be_bytes}
 use Rattle.iso_model.specs.Image.{half_header}
-use Rattle.iso_format.specs.declared.half.HalfHeader.{HalfHeader}
 use Rattle.iso_format.specs.Reading.{number_at, are_zero, half_of}
 use Rattle.iso_format.proofs.Pieces.{IsBytes, grow, spelled_64, one_at, zeros_at}
 

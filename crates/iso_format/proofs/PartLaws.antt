@@ -1,7 +1,7 @@
 -- The parts of a record are read exactly as they are written.
-use Rattle.std.proofs.Common.{◌≡◌, ℕ, zero, suc, ◌+◌, ◌-◌, ◌*◌, ◌^◌, ◌<◌, ◌≤◌, Bool, true, false, ◌&&◌, ◌||◌, ◌==◌, nat_lt, nat_le, cond, not, ◌⊎◌, inl, inr, List, [], ◌∷◌, ◌++◌, Option, Some, None, length, get_or, take, drop, IsTrue, flat_map, refl, sym, ap, subst, ◌∙◌, append_assoc, arith}
+use Rattle.std.proofs.Common.{◌≡◌, ℕ, zero, suc, ◌+◌, ◌-◌, ◌*◌, ◌^◌, ◌<◌, ◌≤◌, Bool, true, false, ◌&&◌, ◌||◌, ◌==◌, nat_lt, nat_le, cond, not, inl, inr, List, [], ◌∷◌, ◌++◌, Option, Some, None, length, take, drop, IsTrue, flat_map, refl, sym, ap, ◌∙◌, arith}
 use Rattle.std.proofs.lemmas.Bool.{leb-true, le-leb, ltb-true, ltb-false, lt-ltb, le-ltb, eqb-true, eq-eqb, not-false, or_cases, and_parts, and_from, or_right}
-use Rattle.std.proofs.lemmas.List.{take_at, drop_at, take-append-drop, length-append, length-take, length-drop, nil_from_length}
+use Rattle.std.proofs.lemmas.List.{take_at, drop_at, take-append-drop, length-append, length-take, length-drop}
 use Rattle.std.proofs.lemmas.List.Concat.{flat_map-cons}
 use Rattle.std.proofs.lemmas.List.Sums.{sum_by-cons}
 use Rattle.std.proofs.lemmas.Nat.{from_be_bytes-to_be_bytes_2, from_be_bytes-to_be_bytes_4}
@@ -121,9 +121,9 @@ comes_after body next long h =
     elim (or_cases (nat_lt a b) ((a == b) && nat_lt end (number_at w16 4 next)) h) [
       | inl later ↦ inl (ltb-true a b later)
       | inr same ↦
-        let p = and_parts (a == b) (nat_lt end (number_at w16 4 next)) same in
-        let behind : end < number_at w16 4 next = ltb-true _ _ p.1 in
-        inr (eqb-true a b p.0, omega (arith, len, behind))
+          let p = and_parts (a == b) (nat_lt end (number_at w16 4 next)) same in
+          let behind : end < number_at w16 4 next = ltb-true _ _ p.1 in
+          inr (eqb-true a b p.0, omega (arith, len, behind))
     ]
 
 -- parts that passed each test are maximal runs, rising

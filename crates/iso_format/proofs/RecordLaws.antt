@@ -1,8 +1,8 @@
 -- A record is read exactly as it is written.
-use Rattle.std.proofs.Common.{◌≡◌, ◌≢◌, ℕ, zero, suc, ◌+◌, ◌-◌, ◌*◌, ◌^◌, ◌<◌, ◌≤◌, Bool, true, false, ◌&&◌, ◌||◌, ◌==◌, nat_lt, nat_le, cond, not, List, [], ◌∷◌, ◌++◌, Option, Some, None, Result, Ok, Err, IfOk, IfErr, length, get_or, take, drop, IsTrue, flat_map, refl, sym, ap, subst, ◌∙◌, append_assoc, arith}
+use Rattle.std.proofs.Common.{◌≡◌, ◌≢◌, ℕ, suc, ◌+◌, ◌*◌, ◌^◌, ◌<◌, ◌≤◌, Bool, true, false, ◌&&◌, ◌||◌, ◌==◌, nat_lt, nat_le, cond, not, List, [], ◌∷◌, ◌++◌, Option, Some, None, Result, Ok, Err, IfOk, IfErr, length, get_or, take, drop, IsTrue, flat_map, refl, sym, ap, subst, ◌∙◌, arith}
 use Rattle.std.proofs.Math.Seq.{drop-cons}
-use Rattle.std.proofs.lemmas.Bool.{leb-true, le-leb, ltb-true, ltb-false, lt-ltb, le-ltb, eqb-true, eqb-false, eq-eqb, ne_eqb, not-false, and_parts, and_from}
-use Rattle.std.proofs.lemmas.List.{take_at, drop_at, take-append-drop, length-append, length-take, length-drop}
+use Rattle.std.proofs.lemmas.Bool.{leb-true, le-leb, ltb-false, le-ltb, eqb-true, eqb-false, eq-eqb, ne_eqb, not-false, and_from}
+use Rattle.std.proofs.lemmas.List.{take_at, take-append-drop, length-append, length-take, length-drop}
 use Rattle.std.proofs.lemmas.Nat.{from_be_bytes-to_be_bytes_4, from_be_bytes-to_be_bytes_8}
 use Rattle.std.specs.Int.{w32, w64, to_be_bytes}
 use Rattle.iso_model.specs.declared.access.Geometry.{Geometry}
@@ -123,7 +123,7 @@ read_is g n bytes fits e =
     let front = get_or bytes 0 0 ∷ get_or bytes 1 0 ∷ 0 ∷ 0 ∷ [] ++ to_be_bytes w32 count ++ to_be_bytes w32 len ++ to_be_bytes w64 (number_at w64 12 bytes) in
     let record_is : take (20 + len) bytes ≡ front ++ body = grow bytes front body 20 len (head_spelled g bytes fits h) refl in
     let spelled_front : front ++ body ≡ spell (get_or bytes 0 0) (get_or bytes 1 0) n runs =
-        pieces_spelled (get_or bytes 0 0) (get_or bytes 1 0) n runs count len (number_at w64 12 bytes) body many whole_len num.0 spelled in
+    pieces_spelled (get_or bytes 0 0) (get_or bytes 1 0) n runs count len (number_at w64 12 bytes) body many whole_len num.0 spelled in
     let behind : drop (20 + len) bytes ≡ get_or bytes (20 + len) 0 ∷ drop (suc (20 + len)) bytes = drop-cons bytes (20 + len) 0 (omega (arith, h.long)) in
     record {
       number = num.0;
@@ -135,7 +135,7 @@ read_is g n bytes fits e =
       next = get_or bytes (20 + len) 0;
       rest = drop (suc (20 + len)) bytes;
       spelling = sym (take-append-drop (20 + len) bytes) ∙ ap (λ (x : List ℕ). x ++ drop (20 + len) bytes) (record_is ∙ spelled_front)
-        ∙ ap (λ (x : List ℕ). spell (get_or bytes 0 0) (get_or bytes 1 0) n runs ++ x) behind;
+          ∙ ap (λ (x : List ℕ). spell (get_or bytes 0 0) (get_or bytes 1 0) n runs ++ x) behind;
     }
 
 -- ---- what is spelled is read
@@ -190,7 +190,7 @@ told_free g kind n (x ∷ more) bytes t valid last known some runs =
     let f : ((count == 0) || nat_lt len (9 * count)) ≡ false = rw (ne_eqb count 0 many) (le-ltb len (9 * count) (omega (arith, t.count, t.body, nine))) in
     let head : head_fault g bytes ≡ None = six_pass _ _ _ _ _ _ (Short 0) (Short 8) (Kind 1) (NotZero 2) (NotZero 3) (Count 4) a b c d e f in
     let body : parts_fault g None 20 count (body_of bytes) ≡ None =
-        ap (λ (k : ℕ). parts_fault g None 20 k (body_of bytes)) t.count ∙ ap (parts_fault g None 20 (length parts)) t.parts ∙ parts_again g None 20 x more (bounded g valid) runs refl in
+    ap (λ (k : ℕ). parts_fault g None 20 k (body_of bytes)) t.count ∙ ap (parts_fault g None 20 (length parts)) t.parts ∙ parts_again g None 20 x more (bounded g valid) runs refl in
     let both : ((number_at w64 12 bytes == n) && nat_le n LAST) ≡ true = and_from _ _ (eq-eqb _ _ t.number) (le-leb n LAST last) in
     let number : number_fault n bytes ≡ None = ap (λ (z : Bool). cond z None (Some (Number 12))) both in
     ap (λ (o : Option FormatError). or_else o (or_else (parts_fault g None 20 count (body_of bytes)) (number_fault n bytes))) head
@@ -200,7 +200,7 @@ told_recorded : (g : Geometry) (kind n : ℕ) (parts : List Run) (bytes : List �
     recorded bytes ≡ record { number = n; kind = kind; parts = parts }
 told_recorded g kind n parts bytes t valid runs =
     let again : runs_of (number_at w32 4 bytes) (body_of bytes) ≡ parts =
-        ap (λ (k : ℕ). runs_of k (body_of bytes)) t.count ∙ ap (runs_of (length parts)) t.parts ∙ runs_again g parts (bounded g valid) runs in
+    ap (λ (k : ℕ). runs_of k (body_of bytes)) t.count ∙ ap (runs_of (length parts)) t.parts ∙ runs_again g parts (bounded g valid) runs in
     rw (t.number, t.kind, again) refl
 
 -- what the bytes begin with is read

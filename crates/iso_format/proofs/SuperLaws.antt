@@ -11,7 +11,7 @@ use Rattle.iso_model.specs.declared.access.Mode.TheVariants.{Serial, Snapshot}
 use Rattle.iso_model.specs.Geometry.{is_valid, is_block_size, is_region}
 use Rattle.iso_model.specs.Image.{superblock, mode_byte}
 use Rattle.iso_format.specs.declared.superblock.SuperError.{SuperError}
-use Rattle.iso_format.specs.declared.superblock.SuperError.TheVariants.{NotIsotope, BadGeometry}
+use Rattle.iso_format.specs.declared.superblock.SuperError.TheVariants.{NotIsotope}
 use Rattle.iso_format.specs.Reading.{number_at, are_zero, mode_of, geometry_of, has_regions, wrong_field, unless_wrong, super_of}
 use Rattle.iso_format.proofs.Parts.{block_fits}
 use Rattle.iso_format.proofs.Pieces.{IsBytes, grow, spelled_32, one_at, zeros_at, same_bytes}
@@ -102,8 +102,8 @@ super_again g valid =
     let made : Geometry = record g { form = 1 } in
     let told : geometry_of (superblock 1 g) ≡ made = told_again g (omega arith) (omega arith) (omega arith) (omega arith) (omega arith) in
     let right : wrong_field (superblock 1 g) made ≡ None =
-        none_wrong true (is_block_size g.block) (nat_le 1 g.blocks && nat_le g.blocks 16384) (nat_le 64 g.log && nat_le g.log 67108864) (nat_le (mode_byte g.mode) 1) true (has_regions g)
-        refl w.block w.blocks w.log (mode_byte-le g.mode) refl w.regions in
+    none_wrong true (is_block_size g.block) (nat_le 1 g.blocks && nat_le g.blocks 16384) (nat_le 64 g.log && nat_le g.log 67108864) (nat_le (mode_byte g.mode) 1) true (has_regions g)
+    refl w.block w.blocks w.log (mode_byte-le g.mode) refl w.regions in
     ap (λ (t : Geometry). unless_wrong (wrong_field (superblock 1 g) t) t) told ∙ ap (λ (o : Option ℕ). unless_wrong o made) right
 
 read_ok : (b : Bool) (w : Option ℕ) (t g : Geometry) → cond b (unless_wrong w t) (Err NotIsotope) ≡ Ok g → IsTrue b × (w ≡ None) × (t ≡ g)

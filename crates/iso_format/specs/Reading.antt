@@ -1,5 +1,5 @@
 -- What bytes say: the header of a half, and a superblock with the first test that it fails.
-use Rattle.std.specs.Prelude.{ℕ, zero, suc, ◌+◌, Bool, true, false, ◌&&◌, ◌==◌, nat_eq, not, if◌then◌else◌, List, [], ◌∷◌, Option, Some, None, Result, Ok, Err, take, drop, nat_le, slice_index, codes}
+use Rattle.std.specs.Prelude.{ℕ, zero, suc, ◌+◌, Bool, ◌&&◌, ◌==◌, nat_eq, not, if◌then◌else◌, List, [], ◌∷◌, Option, Some, None, Result, Ok, Err, take, drop, nat_le, slice_index, codes}
 use Rattle.std.specs.List.{list_all, position_from, starts_with}
 use Rattle.std.specs.Int.{Width, w32, w64, byte_len, from_be_bytes}
 use Rattle.iso_model.specs.declared.access.Geometry.{Geometry}

@@ -49,15 +49,11 @@ pub fn read_half(input: &[u8]) -> HalfHeader
     requires { length input.now ≡ 32 }
     ensures fields { result ≡ half_of input.now }
     // A clean one is spelled by the bytes.
-    ensures spelled {
-        IsTrue result.clean → input.now ≡ half_header result.gate result.form result.generation result.base
-    }
+    ensures spelled { IsTrue result.clean → input.now ≡ half_header result.gate result.form result.generation result.base }
     // What is spelled is read.
-    ensures only {
-        (gate form generation base : ℕ) → generation < 2 ^ 64 → base < 2 ^ 64 →
+    ensures only { (gate form generation base : ℕ) → generation < 2 ^ 64 → base < 2 ^ 64 →
         input.now ≡ half_header gate form generation base →
-        result ≡ record { gate = gate; form = form; generation = generation; base = base; clean = true }
-    }
+        result ≡ record { gate = gate; form = form; generation = generation; base = base; clean = true } }
 {
     half_of(input)
 }

@@ -140,9 +140,7 @@ pub fn read_record<'a>(
     // What is read is spelled so.
     ensures spelled { IfOk result (λ r. BeginsWith geometry.now number r input.now) }
     // What is spelled is read.
-    ensures only {
-        (r : Recorded) → IsTrue (is_valid geometry.now) → BeginsWith geometry.now number r input.now → result ≡ Ok r
-    }
+    ensures only { (r : Recorded) → IsTrue (is_valid geometry.now) → BeginsWith geometry.now number r input.now → result ≡ Ok r }
 {
     record_of(geometry, number, input)
 }

@@ -76,7 +76,9 @@ fn geometry_of(input: &[u8]) -> Geometry
 fn is_block_size(size: u32) -> bool
     ensures { result ≡ is_block_size size }
 {
-    [64, 128, 256, 512, 1024, 2048, 4096].iter().any(|n| size == *n)
+    [64, 128, 256, 512, 1024, 2048, 4096]
+        .iter()
+        .any(|n| size == *n)
 }
 
 fn is_region(geometry: &Geometry, least: u32, blocks: u32) -> bool
@@ -144,9 +146,7 @@ pub fn read_super(input: &[u8]) -> Result<Geometry, SuperError>
     // What is read is spelled so.
     ensures spelled { IfOk result (λ g. IsTrue (is_valid g) × (g.form ≡ 1) × (input.now ≡ superblock 1 g)) }
     // What is spelled is read.
-    ensures only {
-        (g : Geometry) → IsTrue (is_valid g) → input.now ≡ superblock 1 g → result ≡ Ok (record g { form = 1 })
-    }
+    ensures only { (g : Geometry) → IsTrue (is_valid g) → input.now ≡ superblock 1 g → result ≡ Ok (record g { form = 1 }) }
 {
     super_of(input)
 }

@@ -12,7 +12,7 @@ pub loop-preserved : goal.loop-preserved
 loop-preserved c =
     record {
       same = rw (c.split_at.ensures.back, c.part_end.ensures, c.part_size-size.ensures)
-        (part_passes c.args.geometry.now c.loop.before c.loop.at c.args.count c.loop.counter c.loop.rest.now
-        (parts_fault c.args.geometry.now None 20 c.args.count c.args.body.now) c.loop-test.true (sym c.in_default.ensures) c.loop.invariant.same);
+          (part_passes c.args.geometry.now c.loop.before c.loop.at c.args.count c.loop.counter c.loop.rest.now
+          (parts_fault c.args.geometry.now None 20 c.args.count c.args.body.now) c.loop-test.true (sym c.in_default.ensures) c.loop.invariant.same);
       place = omega (arith, c.split_at.ensures.back_len, c.loop.invariant.place);
     }

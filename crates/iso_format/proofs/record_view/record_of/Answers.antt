@@ -1,4 +1,4 @@
-use Rattle.std.proofs.Common.{None, sym, arith}
+use Rattle.std.proofs.Common.{None, sym}
 use Rattle.iso_format.specs.Reading.{number_at}
 use Rattle.iso_format.specs.Records.{body_of}
 use Rattle.std.specs.Int.{w32}

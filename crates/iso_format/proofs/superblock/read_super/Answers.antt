@@ -1,6 +1,6 @@
-use Rattle.std.proofs.Common.{ap, ◌∙◌, sym, arith}
+use Rattle.std.proofs.Common.{ap, ◌∙◌, arith}
 use Rattle.iso_format.specs.Reading.{super_of}
-use Rattle.iso_format.proofs.SuperLaws.{super_again, super_spelled, ok_spelled}
+use Rattle.iso_format.proofs.SuperLaws.{super_again, ok_spelled}
 use Rattle.iso_format.proofs.superblock.read_super.Goals as goal
 
 pub returns-clause-spelled : goal.returns-clause-spelled
