@@ -1,7 +1,7 @@
 -- The record of parts that lie in an image is short.
-use Rattle.std.proofs.Common.{◌≡◌, ℕ, zero, suc, take, ◌+◌, ◌*◌, ◌^◌, ◌<◌, ◌≤◌, Bool, true, false, ◌&&◌, ◌||◌, ◌==◌, ◌⊎◌, inl, inr, List, [], ◌∷◌, length, get_or, flat_map, IsTrue, nat_le, arith, refl}
+use Rattle.std.proofs.Common.{◌≡◌, ℕ, zero, suc, take, ◌+◌, ◌*◌, ◌^◌, ◌<◌, ◌≤◌, ◌==◌, inl, inr, List, [], ◌∷◌, length, get_or, flat_map, IsTrue, nat_le, arith, refl}
 use Rattle.std.proofs.Math.Nat.{mul-le-mul_right}
-use Rattle.std.proofs.lemmas.Bool.{leb-true, eqb-true}
+use Rattle.std.proofs.lemmas.Bool.{leb-true, eqb-true, or_cases, and_parts}
 use Rattle.std.proofs.lemmas.List.{length-append}
 use Rattle.std.proofs.lemmas.List.Sums.{sum_by-cons, sum_by_more_le}
 use Rattle.std.specs.List.{list_any, list_all}
@@ -12,29 +12,21 @@ use Rattle.iso_model.specs.Geometry.{is_valid, is_block_size}
 use Rattle.iso_model.specs.Image.{IsRun, AreRuns, ComesAfter, body_length, part, spell}
 use Rattle.iso_format.specs.Writing.{LieInAnImage}
 
-both : (a b : Bool) → IsTrue (a && b) → IsTrue a × IsTrue b
-both true b h = (refl, h)
-both false b h = absurd cc
-
 is_le : (a b : ℕ) → IsTrue (nat_le a b) → a ≤ b
 is_le a b h = leb-true a b h
-
-either : (a b : Bool) → IsTrue (a || b) → IsTrue a ⊎ IsTrue b
-either true b h = inl h
-either false b h = inr h
 
 -- a number that is one of some numbers, which keep a limit, keeps it
 one_of : (size limit : ℕ) (ns : List ℕ) → IsTrue (list_any (λ n. size == n) ns) → IsTrue (list_all (λ n. nat_le n limit) ns) → size ≤ limit
 one_of size limit [] h below = absurd cc
 one_of size limit (n ∷ ns) h below =
-    let limits = both (nat_le n limit) (list_all (λ m. nat_le m limit) ns) below in
+    let limits = and_parts (nat_le n limit) (list_all (λ m. nat_le m limit) ns) below in
     let first = is_le n limit limits.0 in
-    elim (either (size == n) (list_any (λ m. size == m) ns) h) [
+    elim (or_cases (size == n) (list_any (λ m. size == m) ns) h) [
       | inl same ↦ omega (arith, first, eqb-true size n same)
       | inr later ↦ one_of size limit ns later limits.1
     ]
 
-block_fits : (size : ℕ) → IsTrue (is_block_size size) → size ≤ 4096
+pub block_fits : (size : ℕ) → IsTrue (is_block_size size) → size ≤ 4096
 block_fits size h = one_of size 4096 (64 ∷ 128 ∷ 256 ∷ 512 ∷ 1024 ∷ 2048 ∷ 4096 ∷ []) h refl
 
 -- the limits of a valid geometry that bound a record
@@ -45,15 +37,15 @@ pub record IsBounded (g : Geometry) : Type 0 where
 pub bounded : (g : Geometry) → IsTrue (is_valid g) → IsBounded g
 unfolding is_valid
 bounded g h =
-    let form = both _ _ h in
-    let some_form = both _ _ form.0 in
-    let regions = both _ _ some_form.0 in
-    let tree = both _ _ regions.0 in
-    let hash = both _ _ tree.0 in
-    let log = both _ _ hash.0 in
-    let some_log = both _ _ log.0 in
-    let blocks = both _ _ some_log.0 in
-    let some = both _ _ blocks.0 in
+    let form = and_parts _ _ h in
+    let some_form = and_parts _ _ form.0 in
+    let regions = and_parts _ _ some_form.0 in
+    let tree = and_parts _ _ regions.0 in
+    let hash = and_parts _ _ tree.0 in
+    let log = and_parts _ _ hash.0 in
+    let some_log = and_parts _ _ log.0 in
+    let blocks = and_parts _ _ some_log.0 in
+    let some = and_parts _ _ blocks.0 in
     record { block = block_fits g.block some.0; blocks = is_le g.blocks 16384 blocks.1 }
 
 -- where a run begins, where each block has a byte more
@@ -115,7 +107,7 @@ run_at g (x ∷ y ∷ more) (suc i) d r lt = run_at g (y ∷ more) i d r.2 (omeg
 pub part_bound : (parts : List Run) (i : ℕ) (d : Run) → LieInAnImage parts → i < length parts → length (get_or parts i d).bytes ≤ 4096
 part_bound parts i d h lt = omega (arith, (run_at h.0 parts i d h.2 lt).fits, (bounded h.0 h.1).block)
 
-length-flat_map-part : (parts : List Run) → length (flat_map part parts) ≡ body_length parts
+pub length-flat_map-part : (parts : List Run) → length (flat_map part parts) ≡ body_length parts
 length-flat_map-part [] = refl
 length-flat_map-part (x ∷ more) =
     omega (arith, length-flat_map-part more, sum_by-cons (λ (run : Run). 8 + length run.bytes) x more, length-append (part x) (flat_map part more))

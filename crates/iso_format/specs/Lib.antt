@@ -1,1 +1,4 @@
+pub mod PartRun
+pub mod Reading
+pub mod Records
 pub mod Writing

@@ -1,7 +1,9 @@
 // The header of a half.
-ghost use Rattle.std.specs.Prelude.{◌≡◌, length};
+ghost use Rattle.std.specs.Prelude.{◌≡◌, ℕ, ◌^◌, ◌<◌, true, length, IsTrue};
 ghost use Rattle.iso_model.specs.Image.{half_header};
+ghost use Rattle.iso_format.specs.Reading.{half_of};
 
+use crate::numbers::{are_zero, u64_at};
 use byteorder::{BigEndian, ByteOrder};
 
 /// What the header of a half says. `clean` says that its zero bytes are zero.
@@ -26,4 +28,32 @@ pub fn write_half(header: &HalfHeader, into: &mut [u8])
     BigEndian::write_u64(&mut bytes[8..], header.generation);
     BigEndian::write_u64(&mut bytes[16..], header.base);
     into.copy_from_slice(&bytes);
+}
+
+#[tactic(auto, unfolding(crate::specs::Reading::half_of))]
+fn half_of(input: &[u8]) -> HalfHeader
+    requires { length input.now ≡ 32 }
+    ensures { result ≡ half_of input.now }
+{
+    HalfHeader {
+        gate: input[0],
+        form: input[1],
+        generation: u64_at(input, 8),
+        base: u64_at(input, 16),
+        clean: are_zero(input, 2, 6) && are_zero(input, 24, 8),
+    }
+}
+
+/// What the header of a half says.
+pub fn read_half(input: &[u8]) -> HalfHeader
+    requires { length input.now ≡ 32 }
+    ensures fields { result ≡ half_of input.now }
+    // A clean one is spelled by the bytes.
+    ensures spelled { IsTrue result.clean → input.now ≡ half_header result.gate result.form result.generation result.base }
+    // What is spelled is read.
+    ensures only { (gate form generation base : ℕ) → generation < 2 ^ 64 → base < 2 ^ 64 →
+        input.now ≡ half_header gate form generation base →
+        result ≡ record { gate = gate; form = form; generation = generation; base = base; clean = true } }
+{
+    half_of(input)
 }

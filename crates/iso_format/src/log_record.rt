@@ -9,7 +9,7 @@ use iso_model::{LAST, Memory, PartList, Run};
 use std::alloc::{AllocError, Global};
 
 /// How many bytes of a record come before its parts.
-const HEAD: usize = 20;
+pub const HEAD: usize = 20;
 
 fn body_length(parts: &[Run]) -> u32
     requires { LieInAnImage parts.now }

@@ -1,8 +1,12 @@
 // The bytes of a small image, and of a record in its log.
-ghost use Rattle.std.specs.Prelude.{IfOk};
+ghost use Rattle.std.specs.Prelude.{IfOk, IsTrue};
+ghost use Rattle.iso_model.specs.Geometry.{is_valid};
 ghost use Rattle.iso_format.specs.Writing.{LieInAnImage};
 
-use crate::{HalfHeader, PartList, record_length, write_half, write_record, write_super};
+use crate::{
+    FormatError, HalfHeader, PartList, SuperError, read_half, read_record, read_super,
+    record_length, write_half, write_record, write_super,
+};
 use iso_model::{Geometry, Memory, Mode};
 use std::alloc::Global;
 use std::test::Fail;
@@ -16,11 +20,12 @@ fn one_put(alloc: Global) -> Result<PartList, Memory>
     Ok(parts)
 }
 
-#[test]
+/// Four blocks of 64 bytes, and a log of 256.
 #[tactic(auto, unfolding(iso_model::specs::Geometry::is_valid))]
-fn superblock_of_a_small_image(rt: HostRuntime) {
-    let mut bytes = [9; 64];
-    let small = Geometry {
+fn small() -> Geometry
+    ensures { IsTrue (is_valid result) }
+{
+    Geometry {
         block: 64,
         blocks: 4,
         log: 256,
@@ -28,16 +33,54 @@ fn superblock_of_a_small_image(rt: HostRuntime) {
         hash: 0,
         tree: 0,
         form: 1,
-    };
-    write_super(&small, &mut bytes);
-    let mut expected = [0; 64];
-    expected[..8].copy_from_slice(b"ISOTOPE1");
-    expected[11] = 1;
-    expected[15] = 0x40;
-    expected[19] = 4;
-    expected[22] = 1;
-    expected[63] = 1;
-    assert_eq!(rt; bytes, expected);
+    }
+}
+
+fn small_superblock() -> [u8; 64] {
+    let mut bytes = [0; 64];
+    bytes[..8].copy_from_slice(b"ISOTOPE1");
+    bytes[11] = 1;
+    bytes[15] = 0x40;
+    bytes[19] = 4;
+    bytes[22] = 1;
+    bytes[63] = 1;
+    bytes
+}
+
+/// The record of `one_put` as commit 1, and the closed gate behind it.
+const RECORD: [u8; 31] = [
+    1, 1, 0, 0, 0, 0, 0, 1, 0, 0, 0, 0x0a, 0, 0, 0, 0, 0, 0, 0, 1, 0, 0, 0, 2, 0, 5, 0, 2, 0xab,
+    0xcd, 0,
+];
+
+#[test]
+fn superblock_of_a_small_image(rt: HostRuntime) {
+    let mut bytes = [9; 64];
+    write_super(&small(), &mut bytes);
+    assert_eq!(rt; bytes, small_superblock());
+    assert_eq!(rt; read_super(&bytes), Ok(small()));
+}
+
+#[test]
+fn superblocks_that_are_refused(rt: HostRuntime) {
+    for (place, value, error) in [
+        (7, b'2', SuperError::NotIsotope),
+        (63, 0, SuperError::NotIsotope),
+        (11, 2, SuperError::BadGeometry { field: 1 }),
+        (15, 0x41, SuperError::BadGeometry { field: 2 }),
+        (19, 0, SuperError::BadGeometry { field: 3 }),
+        (22, 0, SuperError::BadGeometry { field: 4 }),
+        (24, 2, SuperError::BadGeometry { field: 5 }),
+        (27, 1, SuperError::BadGeometry { field: 6 }),
+        (62, 1, SuperError::BadGeometry { field: 6 }),
+        (31, 3, SuperError::BadGeometry { field: 7 }),
+    ] {
+        let mut bytes = small_superblock();
+        if let Some(byte) = bytes.get_mut(place) {
+            *byte = value;
+        }
+        assert_eq!(rt; read_super(&bytes), Err(error));
+    }
 }
 
 #[test]
@@ -48,7 +91,7 @@ fn first_half_of_a_new_image(rt: HostRuntime) {
         form: 1,
         generation: 1,
         base: 0,
-        clean: false,
+        clean: true,
     };
     write_half(&first, &mut bytes);
     let mut expected = [0; 32];
@@ -56,6 +99,15 @@ fn first_half_of_a_new_image(rt: HostRuntime) {
     expected[1] = 1;
     expected[15] = 1;
     assert_eq!(rt; bytes, expected);
+    assert_eq!(rt; read_half(&bytes), first);
+    bytes[31] = 1;
+    assert_eq!(rt;
+        read_half(&bytes),
+        HalfHeader {
+            clean: false,
+            ..first
+        }
+    );
 }
 
 #[test]
@@ -63,10 +115,60 @@ fn record_of_one_put(rt: HostRuntime) -> Result<(), Fail> {
     let parts = one_put(rt.alloc())?;
     assert_eq!(rt; record_length(&parts), 30);
     let record = write_record(rt.alloc(), 1, 1, &parts)?;
-    let expected = [
-        1, 1, 0, 0, 0, 0, 0, 1, 0, 0, 0, 0x0a, 0, 0, 0, 0, 0, 0, 0, 1, 0, 0, 0, 2, 0, 5, 0, 2,
-        0xab, 0xcd,
-    ];
-    assert_eq!(rt; record.as_slice(), expected.as_slice());
+    assert_eq!(rt; record.as_slice(), &RECORD[..30]);
     Ok(())
+}
+
+#[test]
+fn parts_of_a_record(rt: HostRuntime) -> Result<(), Fail> {
+    let record = read_record(&RECORD, &small(), 1)?;
+    assert_eq!(rt; record.number(), 1);
+    assert_eq!(rt; record.kind(), 1);
+    let mut parts = record.parts();
+    let first = parts.next().ok_or("no part")?;
+    assert_eq!(rt; first.block, 2);
+    assert_eq!(rt; first.off, 5);
+    assert_eq!(rt; first.bytes, [0xab, 0xcd].as_slice());
+    assert!(rt; parts.next().is_none());
+    Ok(())
+}
+
+#[test]
+fn records_that_are_refused(rt: HostRuntime) {
+    for (place, value, error) in [
+        (1, 2, FormatError::Kind(1)),
+        (2, 1, FormatError::NotZero(2)),
+        (3, 1, FormatError::NotZero(3)),
+        (7, 0, FormatError::Count(4)),
+        (7, 2, FormatError::Count(4)),
+        (11, 11, FormatError::Short(8)),
+        (19, 2, FormatError::Number(12)),
+        (23, 4, FormatError::Range(20)),
+        (25, 63, FormatError::Range(20)),
+        (27, 0, FormatError::Range(20)),
+        (27, 1, FormatError::Length(29)),
+        (27, 3, FormatError::Length(20)),
+    ] {
+        let mut bytes = RECORD;
+        if let Some(byte) = bytes.get_mut(place) {
+            *byte = value;
+        }
+        assert_eq!(rt; read_record(&bytes, &small(), 1).err(), Some(error));
+    }
+    assert_eq!(rt;
+        read_record(&RECORD[..19], &small(), 1).err(),
+        Some(FormatError::Short(0))
+    );
+}
+
+#[test]
+fn parts_that_go_back(rt: HostRuntime) {
+    let bytes = [
+        1, 1, 0, 0, 0, 0, 0, 2, 0, 0, 0, 0x12, 0, 0, 0, 0, 0, 0, 0, 1, 0, 0, 0, 2, 0, 0, 0, 1,
+        0xaa, 0, 0, 0, 1, 0, 0, 0, 1, 0xbb, 0,
+    ];
+    assert_eq!(rt;
+        read_record(&bytes, &small(), 1).err(),
+        Some(FormatError::Order(29))
+    );
 }

@@ -1,0 +1,18 @@
+use Rattle.std.proofs.Common.{None, sym, arith}
+use Rattle.iso_format.proofs.FaultSteps.{part_stops, part_passes}
+use Rattle.iso_format.specs.Records.{parts_fault}
+use Rattle.iso_format.proofs.faults.parts_fault.Goals as goal
+
+pub returns-in-Some : goal.returns-in-Some
+returns-in-Some c =
+    part_stops c.args.geometry.now c.loop.before c.loop.at c.args.count c.loop.counter c.loop.rest.now c.in-Some.fault
+    (parts_fault c.args.geometry.now None 20 c.args.count c.args.body.now) c.loop-test.true (sym c.in-Some.ensures) c.loop.invariant.same
+
+pub loop-preserved : goal.loop-preserved
+loop-preserved c =
+    record {
+      same = rw (c.split_at.ensures.back, c.part_end.ensures, c.part_size-size.ensures)
+          (part_passes c.args.geometry.now c.loop.before c.loop.at c.args.count c.loop.counter c.loop.rest.now
+          (parts_fault c.args.geometry.now None 20 c.args.count c.args.body.now) c.loop-test.true (sym c.in_default.ensures) c.loop.invariant.same);
+      place = omega (arith, c.split_at.ensures.back_len, c.loop.invariant.place);
+    }

@@ -1,0 +1,10 @@
+use Rattle.std.proofs.Common.{◌≡◌, ◌+◌, ◌-◌, None, length}
+use Rattle.iso_format.specs.Records.{parts_fault}
+use Rattle.iso_format.proofs.faults.parts_fault.Given as goal
+
+abbrev pub invariant-loop : goal.invariant-loop
+invariant-loop l =
+    record {
+      same : parts_fault l.geometry l.before l.at (l.count - l.counter) l.rest ≡ parts_fault l.geometry None 20 l.count l.body;
+      place : l.at + length l.rest ≡ 20 + length l.body;
+    }
