@@ -1,8 +1,8 @@
 // The disk over a real file. It tells no contents, so its clauses are on sizes, counts and causes alone: what the
 // file holds is trusted.
-ghost use Rattle.std.specs.Prelude.{◌≡◌, ◌<◌, ◌^◌, None};
+ghost use Rattle.std.specs.Prelude.{◌≡◌, ◌<◌, ◌≤◌, ◌^◌, None};
 ghost use Rattle.std.proofs.Common.{rules};
-ghost use Rattle.iso_disk.specs.Disk.{HasCause};
+ghost use Rattle.iso_disk.specs.Disk.{HasCause, Rose};
 
 use iso_disk::{Disk, DiskFault, Image};
 use std::fs::{File, OpenOptions};
@@ -34,16 +34,22 @@ impl<R: Files<File = File> + Drop> FileDisk<R> {
         }
     }
 
+    /// Counts a fault.
+    fn fail(&mut self) -> DiskFault
+        ensures later { self.old.faults ≤ self.new.faults }
+        ensures rose { Rose self.old.faults self.new.faults }
+        ensures size { self.new.size ≡ self.old.size }
+    {
+        self.faults = self.faults.saturating_add(1);
+        DiskFault
+    }
+
     /// Counts a fault where the call was not done.
     fn answer(&mut self, done: bool) -> Result<(), DiskFault>
         ensures cause { HasCause self.old.faults self.new.faults result }
         ensures size { self.new.size ≡ self.old.size }
     {
-        if done {
-            return Ok(());
-        }
-        self.faults = self.faults.saturating_add(1);
-        Err(DiskFault)
+        if done { Ok(()) } else { Err(self.fail()) }
     }
 }
 
@@ -138,7 +144,7 @@ impl<R: Files<File = File> + Drop> Image for FileDisk<R> {
                 self.size = size;
                 Ok(())
             }
-            None => self.answer(false),
+            None => Err(self.fail()),
         }
     }
 }
