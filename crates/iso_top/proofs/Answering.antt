@@ -1,5 +1,5 @@
 -- One line after the other.
-use Rattle.std.proofs.Common.{◌≡◌, ◌≤◌, ◌==◌, ℕ, ◌+◌, Bool, false, List, [], ◌∷◌, ◌++◌, Option, Some, None, Result, Ok, Err, length, take, nat_le, refl, sym, ap, subst, ◌∙◌, append_assoc, append-nil, take_all}
+use Rattle.std.proofs.Common.{◌≡◌, ◌≤◌, ◌==◌, ℕ, ◌+◌, Bool, false, List, [], ◌∷◌, ◌++◌, Some, None, Result, Ok, Err, length, take, nat_le, refl, sym, ap, subst, ◌∙◌, append_assoc, append-nil, take_all}
 use Rattle.std.proofs.Math.Seq.{take-append_seam}
 use Rattle.std.proofs.Math.Dec.{eqb-suc-zero}
 use Rattle.iso_model.specs.declared.script.BadLine.{BadLine}
@@ -40,7 +40,7 @@ one_more W V U number line all rest old new h text world = record {
   bad = h.bad;
   text =
       let t : old ++ reply_line line.client (step V line.client line.op).0 ≡ replies W (h.done ++ (number, line) ∷ []) =
-          rw (replies-append, h.text, h.world, append-nil) refl in
+      rw (replies-append, h.text, h.world, append-nil) refl in
       text ∙ t;
   world =
       let v : (step V line.client line.op).1 ≡ after W (h.done ++ (number, line) ∷ []) = rw (after-append, h.world) refl in
@@ -116,5 +116,5 @@ unfolding script
 reached_start W input text fits none =
     let whole : take MAX_INPUT input ≡ input = take_all MAX_INPUT input fits in
     let e : script input ≡ script_from (nat_le MAX_INPUT (length input)) 1 (pieces 10 input) =
-        ap (λ i. script_from (nat_le MAX_INPUT (length input)) 1 (pieces 10 i)) whole in
+    ap (λ i. script_from (nat_le MAX_INPUT (length input)) 1 (pieces 10 i)) whole in
     record { done = []; lines = ap (λ (s : Script). s.lines) e; bad = ap (λ (s : Script). s.bad) e; text = none; world = refl }

@@ -27,7 +27,7 @@ pub pieces-first : (s : ℕ) (text : List ℕ) → HasFirst (pieces s text)
 pieces-first s [] = record { piece = []; more = []; is = refl }
 pieces-first s (b ∷ text) =
     first_of_either (nat_eq b s) ([] ∷ pieces s text) (before_piece b (pieces s text))
-        (record { piece = []; more = pieces s text; is = refl }) (before_piece-first b (pieces s text))
+    (record { piece = []; more = pieces s text; is = refl }) (before_piece-first b (pieces s text))
 
 in_front-before : (front : List ℕ) (b : ℕ) (all : List (List ℕ)) → in_front front (before_piece b all) ≡ in_front (front ++ b ∷ []) all
 in_front-before front b [] = refl

@@ -1,5 +1,5 @@
 -- The bytes of a new image with records in its first log are an image.
-use Rattle.std.proofs.Common.{◌≡◌, ◌≢◌, ◌≤◌, ◌<◌, ℕ, zero, suc, ◌+◌, ◌-◌, ◌*◌, Bool, true, false, List, [], ◌∷◌, ◌++◌, Some, IsTrue, length, get_or, take, drop, map, replicate, sum_by, nat_eq, refl, sym, ap, subst, ◌∙◌, append_assoc, length-append, lit≤, arith}
+use Rattle.std.proofs.Common.{◌≡◌, ◌≤◌, ◌<◌, ℕ, zero, suc, ◌+◌, ◌-◌, ◌*◌, Bool, true, false, List, [], ◌∷◌, ◌++◌, Some, length, get_or, take, drop, map, replicate, sum_by, refl, sym, ap, subst, ◌∙◌, append_assoc, length-append, lit≤, arith}
 use Rattle.std.proofs.lemmas.List.{length-replicate, take-replicate, get_or-replicate, get_or-append_right, replicate-append-replicate, take_at, drop_at, take_all}
 use Rattle.std.proofs.lemmas.List.Sums.{sum_by-cons}
 use Rattle.std.proofs.Math.Seq.{take-append-add}
@@ -7,9 +7,8 @@ use Rattle.iso_model.specs.declared.access.Commit.{Commit}
 use Rattle.iso_model.specs.declared.access.Geometry.{Geometry}
 use Rattle.iso_model.specs.Array.{zeros}
 use Rattle.iso_model.specs.Effect.{runs, record_length}
-use Rattle.iso_model.specs.Geometry.{image_size, half_size, header_place, base_place, log_place, is_valid}
-use Rattle.iso_model.specs.History.{History}
-use Rattle.iso_model.specs.Image.{superblock, half_header, spell, records, Written, written, kind_of, blocks_of, is_open_at, chosen_half, current_half, IsImage, logged}
+use Rattle.iso_model.specs.Geometry.{image_size, header_place, base_place, log_place}
+use Rattle.iso_model.specs.Image.{superblock, half_header, spell, records, written, kind_of, blocks_of, is_open_at, chosen_half, IsImage, logged}
 use Rattle.std.proofs.lemmas.List.{length-map}
 use Rattle.iso_model.specs.World.{World, used}
 use Rattle.iso_format.proofs.Parts.{length-spell}
@@ -26,9 +25,13 @@ length-half_header gate form generation base = refl
 length-records : (g : Geometry) (n : ℕ) (commits : List Commit) → length (records g n (map (written g) commits)) ≡ sum_by (λ c. record_length (runs g c.accesses)) commits
 length-records g n [] = refl
 length-records g n (c ∷ commits) =
-    omega (arith, length-append (spell 1 (kind_of g c.mode) n (runs g c.accesses)) (records g (n + 1) (map (written g) commits)),
-        length-spell 1 (kind_of g c.mode) n (runs g c.accesses), length-records g (n + 1) commits,
-        sum_by-cons (λ (d : Commit). record_length (runs g d.accesses)) c commits)
+    omega (
+      arith,
+      length-append (spell 1 (kind_of g c.mode) n (runs g c.accesses)) (records g (n + 1) (map (written g) commits)),
+      length-spell 1 (kind_of g c.mode) n (runs g c.accesses),
+      length-records g (n + 1) commits,
+      sum_by-cons (λ (d : Commit). record_length (runs g d.accesses)) c commits,
+    )
 
 -- blocks of zeros
 blocks_of-zeros : (size n : ℕ) (rest : List ℕ) → blocks_of size n (replicate (n * size) 0 ++ rest) ≡ zeros size n
@@ -36,7 +39,7 @@ blocks_of-zeros size zero rest = refl
 blocks_of-zeros size (suc n) rest =
     let count : suc n * size ≡ size + n * size = omega arith in
     let e : replicate (suc n * size) 0 ++ rest ≡ replicate size 0 ++ (replicate (n * size) 0 ++ rest) =
-        ap (λ zs. zs ++ rest) (ap (λ k. replicate k 0) count ∙ sym (replicate-append-replicate size (n * size) 0)) ∙ append_assoc (replicate size 0) (replicate (n * size) 0) rest in
+    ap (λ zs. zs ++ rest) (ap (λ k. replicate k 0) count ∙ sym (replicate-append-replicate size (n * size) 0)) ∙ append_assoc (replicate size 0) (replicate (n * size) 0) rest in
     let front = take_at (replicate size 0) (replicate (n * size) 0 ++ rest) size (length-replicate size 0) in
     let behind = drop_at (replicate size 0) (replicate (n * size) 0 ++ rest) size (length-replicate size 0) in
     ap (blocks_of size (suc n)) e ∙ (ap (λ b. b ∷ blocks_of size n (drop size (replicate size 0 ++ (replicate (n * size) 0 ++ rest)))) front
@@ -55,23 +58,28 @@ record Lengths (g : Geometry) (base : ℕ) (log : List ℕ) (n : ℕ) : Type 0 w
 lengths : (g : Geometry) (base : ℕ) (log : List ℕ) (n : ℕ) → Lengths g base log n
 lengths g base log n =
     let heads : length (superblock 1 g ++ half_header 1 g.form 1 0) ≡ 96 =
-        omega (arith, length-append (superblock 1 g) (half_header 1 g.form 1 0), length-superblock 1 g, length-half_header 1 g.form 1 0) in
+    omega (arith, length-append (superblock 1 g) (half_header 1 g.form 1 0), length-superblock 1 g, length-half_header 1 g.form 1 0) in
     let front : length ((superblock 1 g ++ half_header 1 g.form 1 0) ++ replicate base 0) ≡ 96 + base =
-        omega (arith, length-append (superblock 1 g ++ half_header 1 g.form 1 0) (replicate base 0), heads, length-replicate {A = ℕ} base 0) in
+    omega (arith, length-append (superblock 1 g ++ half_header 1 g.form 1 0) (replicate base 0), heads, length-replicate {A = ℕ} base 0) in
     let logged : length (((superblock 1 g ++ half_header 1 g.form 1 0) ++ replicate base 0) ++ log) ≡ 96 + base + length log =
-        omega (arith, length-append ((superblock 1 g ++ half_header 1 g.form 1 0) ++ replicate base 0) log, front) in
-    record { heads = heads; front = front; logged = logged;
-      all = omega (arith, length-append (((superblock 1 g ++ half_header 1 g.form 1 0) ++ replicate base 0) ++ log) (replicate n 0), logged, length-replicate {A = ℕ} n 0) }
+    omega (arith, length-append ((superblock 1 g ++ half_header 1 g.form 1 0) ++ replicate base 0) log, front) in
+    record {
+      heads = heads;
+      front = front;
+      logged = logged;
+      all = omega (arith, length-append (((superblock 1 g ++ half_header 1 g.form 1 0) ++ replicate base 0) ++ log) (replicate n 0), logged, length-replicate {A = ℕ} n 0);
+    }
 
 -- the record's bytes and a closed gate, in a log that has room for them
 closed_log : (g : Geometry) (log : List ℕ) (n : ℕ) → length log + 1 ≤ g.log → g.log ≤ length log + n
     → (rest : List ℕ) × (take g.log (log ++ replicate n 0) ≡ log ++ 0 ∷ rest)
 closed_log g log n room fits =
     let k : g.log ≡ length log + suc (g.log - length log - 1) = omega arith in
-    let le : suc (g.log - length log - 1) ≤ n = omega arith in
-    (replicate (g.log - length log - 1) 0,
-        ap (λ m. take m (log ++ replicate n 0)) k
-        ∙ (take-append-add log (replicate n 0) (suc (g.log - length log - 1)) ∙ ap (λ zs. log ++ zs) (take-replicate (suc (g.log - length log - 1)) n 0 le)))
+    let le : suc (g.log - length log - 1) ≤ n = omega arith in (
+      replicate (g.log - length log - 1) 0,
+      ap (λ m. take m (log ++ replicate n 0)) k
+          ∙ (take-append-add log (replicate n 0) (suc (g.log - length log - 1)) ∙ ap (λ zs. log ++ zs) (take-replicate (suc (g.log - length log - 1)) n 0 le)),
+    )
 
 -- the gate of a half is open where its byte is 1, and closed where it is 0
 gate_open : (bytes : List ℕ) (gate : ℕ) → get_or bytes gate 0 ≡ 1 → is_open_at bytes gate ≡ true
@@ -110,24 +118,24 @@ is_new_image W p n size =
     let l = lengths g base log n in
     let tail = replicate base 0 ++ (log ++ replicate n 0) in
     let from_start : bytes ≡ S ++ (H ++ tail) =
-        append_assoc ((S ++ H) ++ replicate base 0) log (replicate n 0) ∙ (append_assoc (S ++ H) (replicate base 0) (log ++ replicate n 0) ∙ append_assoc S H tail) in
+    append_assoc ((S ++ H) ++ replicate base 0) log (replicate n 0) ∙ (append_assoc (S ++ H) (replicate base 0) (log ++ replicate n 0) ∙ append_assoc S H tail) in
     let from_log : bytes ≡ ((S ++ H) ++ replicate base 0) ++ (log ++ replicate n 0) =
-        append_assoc ((S ++ H) ++ replicate base 0) log (replicate n 0) in
+    append_assoc ((S ++ H) ++ replicate base 0) log (replicate n 0) in
     let from_base : bytes ≡ (S ++ H) ++ tail =
-        from_log ∙ append_assoc (S ++ H) (replicate base 0) (log ++ replicate n 0) in
+    from_log ∙ append_assoc (S ++ H) (replicate base 0) (log ++ replicate n 0) in
     let skipped : 0 ≡ W.base + 1 - W.history.first = omega (arith, p.base, p.first) in
     let used_is : length log ≡ used W =
-        length-records g 1 W.history.commits ∙ ap (λ k. sum_by (λ c. record_length (runs g c.accesses)) (drop k W.history.commits)) skipped in
+    length-records g 1 W.history.commits ∙ ap (λ k. sum_by (λ c. record_length (runs g c.accesses)) (drop k W.history.commits)) skipped in
     let room : length log + 1 ≤ g.log = subst (λ (k : ℕ). k + 1 ≤ g.log) (sym used_is) p.room in
     let closed = closed_log g log n room (omega (arith, size)) in
     let second : 96 + base + length log ≤ header_place g 1 = omega (arith, room) in
     let in_zeros : header_place g 1 - (96 + base + length log) < n = omega (arith, room, size) in
     let first_gate : get_or bytes (header_place g 0) 0 ≡ 1 =
-        ap (λ k. get_or bytes k 0) (first_header g) ∙ (ap (λ bs. get_or bs 64 0) from_start
-        ∙ (get_or-append_right S (H ++ tail) 64 64 0 (length-superblock 1 g) (omega arith) ∙ first_of_header g.form 1 0 tail)) in
+    ap (λ k. get_or bytes k 0) (first_header g) ∙ (ap (λ bs. get_or bs 64 0) from_start
+    ∙ (get_or-append_right S (H ++ tail) 64 64 0 (length-superblock 1 g) (omega arith) ∙ first_of_header g.form 1 0 tail)) in
     let second_gate : get_or bytes (header_place g 1) 0 ≡ 0 =
-        get_or-append_right (((S ++ H) ++ replicate base 0) ++ log) (replicate n 0) (96 + base + length log) (header_place g 1) 0 l.logged second
-        ∙ get_or-replicate n (header_place g 1 - (96 + base + length log)) 0 0 in_zeros in
+    get_or-append_right (((S ++ H) ++ replicate base 0) ++ log) (replicate n 0) (96 + base + length log) (header_place g 1) 0 l.logged second
+    ∙ get_or-replicate n (header_place g 1 - (96 + base + length log)) 0 0 in_zeros in
     record {
       super = ap (take 64) from_start ∙ take_at S (H ++ tail) 64 (length-superblock 1 g);
       valid = p.valid;
@@ -148,10 +156,14 @@ is_new_image W p n size =
       each = p.records;
       last = omega (arith, length-map W.history.commits (written g), p.last);
       commits = refl;
-      log = (0, closed.0, λ same. cc,
-          ap (λ k. take g.log (drop k bytes)) (first_log g) ∙ (ap (λ bs. take g.log (drop (96 + base) bs)) from_log
-          ∙ (ap (take g.log) (drop_at ((S ++ H) ++ replicate base 0) (log ++ replicate n 0) (96 + base) l.front)
-          ∙ (closed.1 ∙ ap (λ f. records g f (map (written g) W.history.commits) ++ 0 ∷ closed.0) (sym p.first)))));
+      log = (
+        0,
+        closed.0,
+        λ same. cc,
+        ap (λ k. take g.log (drop k bytes)) (first_log g) ∙ (ap (λ bs. take g.log (drop (96 + base) bs)) from_log
+            ∙ (ap (take g.log) (drop_at ((S ++ H) ++ replicate base 0) (log ++ replicate n 0) (96 + base) l.front)
+            ∙ (closed.1 ∙ ap (λ f. records g f (map (written g) W.history.commits) ++ 0 ∷ closed.0) (sym p.first)))),
+      );
     }
 
 -- bytes brought to a length, with zeros at the end
@@ -164,8 +176,8 @@ resized-longer n bytes fits = ap (λ front. front ++ replicate (n - length bytes
 -- the image as it is built
 pub is_built_image : (W : World) → IsPlain W → (bytes : List ℕ)
     → bytes ≡ resized (image_size W.geometry)
-        (resized (96 + W.geometry.blocks * W.geometry.block) (([] ++ superblock 1 W.geometry) ++ half_header 1 W.geometry.form 1 0)
-        ++ records W.geometry 1 (map (written W.geometry) W.history.commits))
+    (resized (96 + W.geometry.blocks * W.geometry.block) (([] ++ superblock 1 W.geometry) ++ half_header 1 W.geometry.form 1 0)
+    ++ records W.geometry 1 (map (written W.geometry) W.history.commits))
     → IsImage bytes W.geometry 1 (logged W.geometry W.history)
 is_built_image W p bytes is =
     let g = W.geometry in
@@ -175,15 +187,15 @@ is_built_image W p bytes is =
     let l = lengths g base log (image_size g - (96 + base + length log)) in
     let skipped : 0 ≡ W.base + 1 - W.history.first = omega (arith, p.base, p.first) in
     let used_is : length log ≡ used W =
-        length-records g 1 W.history.commits ∙ ap (λ k. sum_by (λ c. record_length (runs g c.accesses)) (drop k W.history.commits)) skipped in
+    length-records g 1 W.history.commits ∙ ap (λ k. sum_by (λ c. record_length (runs g c.accesses)) (drop k W.history.commits)) skipped in
     let room : length log + 1 ≤ g.log = subst (λ (k : ℕ). k + 1 ≤ g.log) (sym used_is) p.room in
     let rest : 96 + base - length heads ≡ base = omega (arith, l.heads) in
     let front : resized (96 + base) heads ≡ heads ++ replicate base 0 =
-        resized-longer (96 + base) heads (omega (arith, l.heads)) ∙ ap (λ n. heads ++ replicate n 0) rest in
+    resized-longer (96 + base) heads (omega (arith, l.heads)) ∙ ap (λ n. heads ++ replicate n 0) rest in
     let all_fits : length ((heads ++ replicate base 0) ++ log) ≤ image_size g = omega (arith, l.logged, room) in
     let whole : bytes ≡ ((heads ++ replicate base 0) ++ log) ++ replicate (image_size g - length ((heads ++ replicate base 0) ++ log)) 0 =
-        is ∙ (ap (λ f. resized (image_size g) (f ++ log)) front ∙ resized-longer (image_size g) ((heads ++ replicate base 0) ++ log) all_fits) in
+    is ∙ (ap (λ f. resized (image_size g) (f ++ log)) front ∙ resized-longer (image_size g) ((heads ++ replicate base 0) ++ log) all_fits) in
     let size : 96 + base + length log + (image_size g - (96 + base + length log)) ≡ image_size g = omega (arith, room) in
     let same : bytes ≡ image_with g base log (image_size g - (96 + base + length log)) =
-        whole ∙ ap (λ n. ((heads ++ replicate base 0) ++ log) ++ replicate (image_size g - n) 0) l.logged in
+    whole ∙ ap (λ n. ((heads ++ replicate base 0) ++ log) ++ replicate (image_size g - n) 0) l.logged in
     subst (λ (bs : List ℕ). IsImage bs g 1 (logged g W.history)) (sym same) (is_new_image W p (image_size g - (96 + base + length log)) size)

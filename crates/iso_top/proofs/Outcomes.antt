@@ -1,5 +1,5 @@
 -- What the parts of a run have done together.
-use Rattle.std.proofs.Common.{◌≡◌, ◌⊎◌, inl, inr, ◌≤◌, ◌<◌, ℕ, ◌+◌, Bool, true, false, List, [], ◌∷◌, ◌++◌, Option, Some, None, Result, Ok, Err, IsTrue, IfSome, IsErrOf, Vec, vec_len, length, take, drop, nat_le, option_map, refl, sym, ap, subst, ◌∙◌, append_assoc, append-nil, length-append, length-take-le, arith}
+use Rattle.std.proofs.Common.{◌≡◌, inl, inr, ◌≤◌, ◌<◌, ℕ, ◌+◌, Bool, true, false, List, [], ◌∷◌, ◌++◌, Option, Some, None, Result, Ok, Err, IsTrue, IfSome, IsErrOf, Vec, vec_len, length, take, drop, nat_le, option_map, refl, sym, ap, subst, ◌∙◌, append_assoc, append-nil, length-append, arith}
 use Rattle.std.proofs.lemmas.List.{take-append-le, take-append-drop, drop_all}
 use Rattle.std.proofs.Math.Seq.{take-append-add, take-length}
 use Rattle.std.proofs.lemmas.Bool.{cases_Bool}
@@ -12,10 +12,9 @@ use Rattle.iso_io.specs.declared.sink.PutError.{PutError}
 use Rattle.iso_io.specs.declared.sink.PutError.TheVariants.{Failed, TookNothing}
 use Rattle.iso_model.specs.declared.access.Geometry.{Geometry}
 use Rattle.iso_model.specs.declared.limits.TheConstants.{MAX_INPUT}
-use Rattle.iso_model.specs.declared.script.Line.{Line}
 use Rattle.iso_model.specs.declared.script.Parsed.{Parsed}
 use Rattle.iso_model.specs.declared.script.Parsed.TheVariants.{Skip, Line as Says}
-use Rattle.iso_model.specs.Script.{Script, script, script_from, before_script, last_piece, parse_whole, replies, after}
+use Rattle.iso_model.specs.Script.{Script, script, script_from, before_script, parse_whole, replies, after}
 use Rattle.iso_model.specs.Text.{pieces}
 use Rattle.iso_model.specs.declared.access.Mode.TheVariants.{Serial}
 use Rattle.iso_model.specs.Conflict.{IsSerialAt}
@@ -73,7 +72,7 @@ pub front_of_replies : (g : Geometry) (input : List ℕ) (n k : ℕ) → k ≤ l
 front_of_replies g input n k fits =
     let lines = (script input).lines in
     let whole : replies_to g input ≡ first_replies g input n ++ replies (after (new_world g) (take n lines)) (drop n lines) =
-        ap (replies (new_world g)) (sym (take-append-drop n lines)) ∙ replies-append (new_world g) (take n lines) (drop n lines) in
+    ap (replies (new_world g)) (sym (take-append-drop n lines)) ∙ replies-append (new_world g) (take n lines) (drop n lines) in
     sym (ap (take k) whole ∙ take-append-le k (first_replies g input n) (replies (after (new_world g) (take n lines)) (drop n lines)) fits)
 
 no_cause_before : (number : ℕ) (parsed : Result Parsed ℕ) (rest : Script) → (before_script number parsed rest).bad ≡ None → rest.bad ≡ None
@@ -134,7 +133,9 @@ cut_short rest is_ended written faults refusals input_old input_new output_old o
     let first = first_lines g input end text V a in
     let fits : k ≤ length (first_replies g input first.0) = subst (λ (t : List ℕ). k ≤ length t) first.1 (omega arith) in
     record {
-      input = input; took = took; count = k;
+      input = input;
+      took = took;
+      count = k;
       bytes = bytes ∙ ap (append_known (written output_old)) (ap (take k) first.1 ∙ front_of_replies g input first.0 k fits);
       failed = failed;
     }
@@ -164,13 +165,13 @@ pub image_after : (g : Geometry) (input : List ℕ) (W : World) (bytes : List �
     → IsImage bytes W.geometry 1 (logged W.geometry W.history) → IsImage bytes g 1 (logged g (history_after g input))
 image_after g input W bytes valid reached image =
     subst (λ (h : Geometry). IsImage bytes h 1 (logged h (history_after g input))) (geometry_after g input valid)
-        (subst (λ (V : World). IsImage bytes V.geometry 1 (logged V.geometry V.history)) reached image)
+    (subst (λ (V : World). IsImage bytes V.geometry 1 (logged V.geometry V.history)) reached image)
 
 pub shows_after : (g : Geometry) (input : List ℕ) (W : World) (bytes : List ℕ) → IsTrue (is_valid g) → W ≡ after (new_world g) (script input).lines
     → IsImage bytes W.geometry 1 (logged W.geometry W.history) → Shows bytes g (history_after g input) (last (history_after g input))
 shows_after g input W bytes valid reached image =
     let sound : IsHistory g (history_after g input) =
-        subst (λ (h : Geometry). IsHistory h (history_after g input)) (geometry_after g input valid) (leads g input valid).world.history in
+    subst (λ (h : Geometry). IsHistory h (history_after g input)) (geometry_after g input valid) (leads g input valid).world.history in
     logged_shows g (history_after g input) bytes 1 sound (image_after g input W bytes valid reached image)
 
 -- each commit is serial at its number
@@ -179,7 +180,7 @@ pub serial_after : (g : Geometry) (input : List ℕ) → IsTrue (is_valid g) →
 serial_after g input valid form serial k from to =
     let l = leads g input valid in
     world_is_serial (after (new_world g) (script input).lines) l.world (ap (λ (h : Geometry). h.form) l.geometry ∙ form)
-        (ap (λ (h : Geometry). h.mode) l.geometry ∙ serial) k (omega (arith, l.history.first, from)) to
+    (ap (λ (h : Geometry). h.mode) l.geometry ∙ serial) k (omega (arith, l.history.first, from)) to
 
 -- a last line behind the replies to the whole input
 pub stopped_after : {S K : Type 0} (rest : S → Option (List ℕ)) (is_ended : S → Bool) (written : K → Option (List ℕ)) (faults refusals : K → ℕ)
@@ -189,7 +190,7 @@ pub stopped_after : {S K : Type 0} (rest : S → Option (List ℕ)) (is_ended : 
 stopped_after rest is_ended written faults refusals input_old input_new old mid new g W line A no_fault no_refusal wrote =
     let below = whole_input A.input A.no_bad_line in
     let took : Took rest is_ended input_old input_new A.input =
-        record { taken = A.taken; limit = omega arith; ended = λ less. A.to_its_end; all = λ less. A.all } in
+    record { taken = A.taken; limit = omega arith; ended = λ less. A.to_its_end; all = λ less. A.all } in
     record {
       text = replies_to g A.input;
       replies = inr (A.input, length (script A.input).lines, took, ap (replies (new_world g)) (sym (take-length (script A.input).lines)));

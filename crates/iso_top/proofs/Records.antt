@@ -1,16 +1,11 @@
 -- The records of a log, one after the other.
-use Rattle.std.proofs.Common.{◌≡◌, ◌≢◌, ◌≤◌, ◌<◌, ℕ, zero, suc, ◌+◌, ◌-◌, ◌*◌, Bool, true, false, List, [], ◌∷◌, ◌++◌, Option, Some, None, length, get_or, take, drop, map, replicate, sum_by, refl, sym, ap, subst, ◌∙◌, append_assoc, append-nil, add-zero, add-one, length-append, option_map, slice_get, arith}
-use Rattle.std.proofs.lemmas.List.{length-replicate}
-use Rattle.std.proofs.Math.Seq.{take-append_seam, drop-append_seam, drop-append-add}
+use Rattle.std.proofs.Common.{◌≡◌, ℕ, zero, suc, ◌+◌, List, [], ◌∷◌, ◌++◌, Some, length, take, map, refl, sym, ap, subst, ◌∙◌, append_assoc, append-nil, add-zero, add-one, option_map, slice_get, arith}
 use Rattle.std.specs.List.{AllByRecursion}
 use Rattle.iso_model.specs.declared.access.Commit.{Commit}
 use Rattle.iso_model.specs.declared.access.Geometry.{Geometry}
 use Rattle.iso_model.specs.declared.access.Mode.{Mode}
 use Rattle.iso_model.specs.declared.access.Run.{Run}
-use Rattle.iso_model.specs.Array.{zeros}
-use Rattle.iso_model.specs.Effect.{record_length}
-use Rattle.iso_model.specs.Geometry.{image_size, half_size}
-use Rattle.iso_model.specs.Image.{superblock, half_header, spell, part, body_length, records, Written, written, kind_of, blocks_of, IsImage, logged}
+use Rattle.iso_model.specs.Image.{spell, records, Written, written, kind_of}
 
 pub records-append : (g : Geometry) (n : ℕ) (xs : List Written) (w : Written)
     → records g n (xs ++ w ∷ []) ≡ records g n xs ++ spell 1 (kind_of g w.mode) (n + length xs) w.parts

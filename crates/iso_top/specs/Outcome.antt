@@ -2,12 +2,10 @@
 use Rattle.std.specs.Prelude.{◌≡◌, ◌⊎◌, ℕ, ◌≤◌, ◌<◌, List, [], ◌∷◌, ◌++◌, Option, Some, None, IsTrue, Bool, IfSome, length, take, replicate, codes, decimal, flat_map}
 use Rattle.std.specs.Option.{ForSome}
 use Rattle.std.specs.Io.KnownBytes.{prepend_known, append_known}
-use Rattle.iso_disk.specs.Disk.{Rose}
 use Rattle.iso_io.specs.Count.{HasRisen}
 use Rattle.iso_model.specs.declared.access.Geometry.{Geometry}
 use Rattle.iso_model.specs.declared.limits.TheConstants.{MAX_INPUT}
 use Rattle.iso_model.specs.declared.script.BadLine.{BadLine}
-use Rattle.iso_model.specs.declared.script.Line.{Line}
 use Rattle.iso_model.specs.Conflict.{IsSerialAt}
 use Rattle.iso_model.specs.History.{History, last}
 use Rattle.iso_model.specs.Image.{IsImage, Shows, logged}
@@ -22,8 +20,8 @@ line text = text ++ 10 ∷ []
 abbrev pub usage_text : List ℕ
 usage_text =
     flat_map line (codes "! usage"
-      ∷ codes "new IMAGE [--block-size B] [--blocks N] [--log L] [--mode serial|snapshot] [--hash H] [--tree T]"
-      ∷ codes "run IMAGE" ∷ codes "par IMAGE" ∷ codes "recover IMAGE" ∷ codes "bench IMAGE SEED COUNT" ∷ [])
+    ∷ codes "new IMAGE [--block-size B] [--blocks N] [--log L] [--mode serial|snapshot] [--hash H] [--tree T]"
+    ∷ codes "run IMAGE" ∷ codes "par IMAGE" ∷ codes "recover IMAGE" ∷ codes "bench IMAGE SEED COUNT" ∷ [])
 
 -- the last lines of the other statuses
 abbrev pub bad_line_text : BadLine → List ℕ

@@ -1,6 +1,5 @@
 -- How a run answers a script.
-use Rattle.std.specs.Prelude.{◌≡◌, ℕ, List, [], ◌++◌, Option, Some, None, Result, Ok, Err, take}
-use Rattle.iso_model.specs.declared.script.BadLine.{BadLine}
+use Rattle.std.specs.Prelude.{◌≡◌, ℕ, List, ◌++◌, Some, None, Result, Ok, Err, take}
 use Rattle.iso_model.specs.declared.script.Line.{Line}
 use Rattle.iso_model.specs.declared.script.LineError.{LineError}
 use Rattle.iso_model.specs.declared.script.LineError.TheVariants.{Cause, Memory as NoMemory}

@@ -1,5 +1,5 @@
 -- The words of the command line, and what they ask for.
-use Rattle.std.specs.Prelude.{ℕ, if◌then◌else◌, List, [], ◌∷◌, ◌++◌, Option, Some, None, String, map, is_none, unwrap_or, option_and_then, string_bytes, codes, bytes_eq}
+use Rattle.std.specs.Prelude.{ℕ, if◌then◌else◌, List, [], ◌∷◌, Option, Some, None, String, map, unwrap_or, option_and_then, string_bytes, codes, bytes_eq}
 use Rattle.std.specs.declared.alloc.Global.{Global}
 use Rattle.iso_model.specs.declared.access.Geometry.{Geometry}
 use Rattle.iso_model.specs.declared.access.Mode.TheVariants.{Serial}
@@ -37,8 +37,14 @@ options_of o (name ∷ value ∷ more) = option_and_then (λ p. options_of p mor
 -- the numbers of an image, with what is not given by default
 abbrev pub geometry_with : Options → Geometry
 geometry_with o = record {
-  block = unwrap_or o.size 4096; blocks = unwrap_or o.blocks 1024; log = unwrap_or o.log 4194304;
-  mode = Serial; hash = 0; tree = 0; form = 1 }
+  block = unwrap_or o.size 4096;
+  blocks = unwrap_or o.blocks 1024;
+  log = unwrap_or o.log 4194304;
+  mode = Serial;
+  hash = 0;
+  tree = 0;
+  form = 1;
+}
 
 abbrev pub if_valid : Geometry → Option Geometry
 if_valid g = if is_valid g then Some g else None

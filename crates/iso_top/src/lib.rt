@@ -11,3 +11,6 @@ mod words;
 
 pub use answers::ScriptEnd;
 pub use top::{Ended, isotope};
+
+#[cfg(test)]
+mod tests;

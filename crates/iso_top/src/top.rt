@@ -111,7 +111,14 @@ pub fn isotope<I: Image + Drop, S: Source, K: Sink>(
         }
         Some(geometry) => {
             let mut image = image;
-            let status = make(alloc, geometry, words[2].as_str(), &mut image, input, output);
+            let status = make(
+                alloc,
+                geometry,
+                words[2].as_str(),
+                &mut image,
+                input,
+                output,
+            );
             Ended { status, image }
         }
     }

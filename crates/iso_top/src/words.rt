@@ -38,13 +38,31 @@ fn with_value(options: Options, name: &str, n: u32) -> Option<Options>
     ensures { result ≡ with_option options name.now (Some n) }
 {
     if name == "--block-size" {
-        return if_new(options.size, Options { size: Some(n), ..options });
+        return if_new(
+            options.size,
+            Options {
+                size: Some(n),
+                ..options
+            },
+        );
     }
     if name == "--blocks" {
-        return if_new(options.blocks, Options { blocks: Some(n), ..options });
+        return if_new(
+            options.blocks,
+            Options {
+                blocks: Some(n),
+                ..options
+            },
+        );
     }
     if name == "--log" {
-        return if_new(options.log, Options { log: Some(n), ..options });
+        return if_new(
+            options.log,
+            Options {
+                log: Some(n),
+                ..options
+            },
+        );
     }
     None
 }
@@ -121,7 +139,11 @@ fn if_valid(geometry: Geometry) -> Option<Geometry>
     ensures valid { IfSome result (λ g. IsTrue (is_valid g)) }
     ensures same { IfSome result (λ g. g ≡ geometry) }
 {
-    if is_valid(&geometry) { Some(geometry) } else { None }
+    if is_valid(&geometry) {
+        Some(geometry)
+    } else {
+        None
+    }
 }
 
 /// The geometry of the image that the words ask for. None where they are outside the grammar.

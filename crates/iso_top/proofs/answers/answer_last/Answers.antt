@@ -1,5 +1,5 @@
-use Rattle.std.proofs.Common.{◌≡◌, false, ◌∙◌, sym, subst, refl}
-use Rattle.iso_model.specs.Script.{Script, parse, no_lines, before_script}
+use Rattle.std.proofs.Common.{◌∙◌, sym, subst, refl}
+use Rattle.iso_model.specs.Script.{Script, parse, no_lines}
 use Rattle.iso_top.specs.Script.{Reached}
 use Rattle.iso_top.proofs.Answering.{advance, stop, at_end, last_piece-says, is_empty-length}
 use Rattle.iso_top.proofs.answers.answer_last.Goals as goal
@@ -9,15 +9,15 @@ returns-in-Ok c W all h =
     let some = is_empty-length c.args.piece.now ∙ (sym c.is_empty.ensures ∙ c.if-is_empty.false) in
     let says = last_piece-says c.args.cut c.args.number c.args.piece.now c.if-cut.false some in
     at_end W c.answer_line.new.world all no_lines c.answer_line.new.text.items
-        (advance c.args.number c.parse_line.result (parse c.args.piece.now) c.in-Ok.field-0 W c.args.world.now c.answer_line.new.world all no_lines c.args.text.now.items
-            c.answer_line.new.text.items c.parse_line.ensures c.in-Ok.ensures
-            (subst (λ (s : Script). Reached W all s c.args.text.now.items c.args.world.now) says h))
-        refl refl
+    (advance c.args.number c.parse_line.result (parse c.args.piece.now) c.in-Ok.field-0 W c.args.world.now c.answer_line.new.world all no_lines c.args.text.now.items
+    c.answer_line.new.text.items c.parse_line.ensures c.in-Ok.ensures
+    (subst (λ (s : Script). Reached W all s c.args.text.now.items c.args.world.now) says h))
+    refl refl
 
 pub returns-in-Err : goal.returns-in-Err
 returns-in-Err c W all h =
     let some = is_empty-length c.args.piece.now ∙ (sym c.is_empty.ensures ∙ c.if-is_empty.false) in
     let says = last_piece-says c.args.cut c.args.number c.args.piece.now c.if-cut.false some in
     stop c.args.number c.parse_line.result (parse c.args.piece.now) c.in-Err.end W c.args.world.now c.answer_line.new.world all no_lines c.args.text.now.items
-        c.answer_line.new.text.items c.parse_line.ensures c.in-Err.ensures
-        (subst (λ (s : Script). Reached W all s c.args.text.now.items c.args.world.now) says h)
+    c.answer_line.new.text.items c.parse_line.ensures c.in-Err.ensures
+    (subst (λ (s : Script). Reached W all s c.args.text.now.items c.args.world.now) says h)

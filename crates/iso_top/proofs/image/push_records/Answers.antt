@@ -1,4 +1,4 @@
-use Rattle.std.proofs.Common.{◌≡◌, ◌<◌, ℕ, List, length, map, subst, ap, ◌∙◌, ◌++◌, ◌+◌}
+use Rattle.std.proofs.Common.{◌≡◌, ◌<◌, List, length, map, subst, ap, ◌∙◌, ◌++◌, ◌+◌}
 use Rattle.iso_model.specs.declared.access.Run.{Run}
 use Rattle.iso_model.specs.Image.{IsRecord, AreRuns, written, kind_of, spell}
 use Rattle.iso_top.proofs.Records.{told_at, all_at, one_more_record}
@@ -26,5 +26,5 @@ loop-i-preserved c =
     let same_kind : c.kind_of-kind.result ≡ kind_of g c.mode_at.result = c.kind_of-kind.ensures ∙ ap (λ geometry. kind_of geometry c.mode_at.result) c.geometry-geometry.ensures in
     c.in_ok-extend_from_slice.ensures.items
     ∙ (ap (λ bytes. c.loop-i.bytes.items ++ bytes)
-        (c.deref.ensures.value ∙ (c.in_ok-record.ensures.bytes ∙ ap (λ kind. spell 1 kind (c.loop-i.i + 1) c.parts_at.result.now) same_kind))
+    (c.deref.ensures.value ∙ (c.in_ok-record.ensures.bytes ∙ ap (λ kind. spell 1 kind (c.loop-i.i + 1) c.parts_at.result.now) same_kind))
     ∙ more)

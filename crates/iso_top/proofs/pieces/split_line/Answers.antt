@@ -1,4 +1,4 @@
-use Rattle.std.proofs.Common.{◌≡◌, ◌+◌, ◌-◌, ℕ, List, ◌∷◌, ap, sym, ◌∙◌, take, drop, length, length-drop, rules, arith}
+use Rattle.std.proofs.Common.{◌≡◌, ◌+◌, ◌-◌, ℕ, List, ◌∷◌, ap, sym, ◌∙◌, take, drop, length, length-drop}
 use Rattle.std.proofs.Math.Seq.{take-length}
 use Rattle.iso_model.specs.Text.{pieces}
 use Rattle.iso_top.proofs.Lines.{pieces-at, in_front_nothing}
