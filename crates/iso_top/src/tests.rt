@@ -194,6 +194,10 @@ fn a_bad_line_stops_the_run(rt: HostRuntime) -> Result<(), Fail> {
             b"1 begin\n1 jump\n".as_slice(),
             b"1 ok begin 0\n! bad line 2 cause 2\n".as_slice(),
         ),
+        (
+            b"1 begin\n1 jump\n1 end\n",
+            b"1 ok begin 0\n! bad line 2 cause 2\n",
+        ),
         (b"0 begin\n1 begin\n", b"! bad line 1 cause 1\n"),
         (
             b"# x\n\n1 begin\n1 put 0 0 a",

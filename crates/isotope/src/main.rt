@@ -2,25 +2,34 @@
 #![tactic(auto)]
 
 mod file_disk;
+#[cfg(test)]
+mod tests;
 
 use file_disk::FileDisk;
-use iso_io::{StdSink, StdSource};
+use iso_io::{StdSink, StdSource, put_all};
 use iso_top::isotope;
-use std::env;
+use std::alloc::AllocError;
 use std::process::ExitCode;
+use std::rt::Env;
+use std::{env, io};
+
+/// The words of the command line. Words that are not UTF-8 are outside the grammar, as no words are.
+fn words_of<R: Env + AllocGlobal>(rt: &R) -> Result<Vec<String>, AllocError> {
+    match env::args(rt) {
+        Ok(args) => args.collect(rt.alloc()),
+        Err(error) if error.kind() == io::ErrorKind::OutOfMemory => Err(AllocError),
+        Err(_) => Ok(Vec::new(rt.alloc())),
+    }
+}
 
 fn main(rt: HostRuntime) -> ExitCode {
     let alloc = rt.alloc();
-    // Words that are not UTF-8 are outside the grammar, as no words are.
-    let words = match env::args(&rt) {
-        Ok(args) => args.collect(alloc),
-        Err(_) => Ok(Vec::new(alloc)),
-    };
-    let Ok(words) = words else {
-        return ExitCode::from(8);
-    };
     let mut input = StdSource::new(rt.stdin());
     let mut output = StdSink::new(rt.stdout());
+    let Ok(words) = words_of(&rt) else {
+        let _ = put_all(&mut output, b"! memory\n");
+        return ExitCode::from(8);
+    };
     let ended = isotope(alloc, &words, FileDisk::new(rt), &mut input, &mut output);
     ExitCode::from(ended.status)
 }
