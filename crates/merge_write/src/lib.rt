@@ -1,0 +1,12 @@
+//! Patches: bytes that are laid over a block.
+#![tactic(auto)]
+
+pub mod laws;
+mod patch;
+mod patch_spans;
+
+pub use patch::Patch;
+pub use patch_spans::PatchSpans;
+
+#[cfg(test)]
+mod tests;
