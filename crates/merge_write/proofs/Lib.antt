@@ -1,3 +1,4 @@
+pub mod Chosen
 pub mod Values
 pub mod Words
 pub mod Pieces

@@ -41,15 +41,20 @@ with_bit masks at = set masks (at / 64) (bit_or (get_or masks (at / 64) 0) (1 * 
 
 bit_here : (masks : List ℕ) (at : ℕ) → at / 64 < length masks → is_set (with_bit masks at) at ≡ true
 bit_here masks at inside =
-    rw (get_or-set_same masks (at / 64) (bit_or (get_or masks (at / 64) 0) (1 * 2 ^ (at % 64) % 18446744073709551616)) 0 inside,
-    bit_at_set_same w64 (get_or masks (at / 64) 0) (at % 64) (omega arith)) refl
+    rw (
+      get_or-set_same masks (at / 64) (bit_or (get_or masks (at / 64) 0) (1 * 2 ^ (at % 64) % 18446744073709551616)) 0 inside,
+      bit_at_set_same w64 (get_or masks (at / 64) 0) (at % 64) (omega arith),
+    ) refl
 
 bit_apart : (masks : List ℕ) (at k : ℕ) → at / 64 < length masks → k ≢ at → is_set (with_bit masks at) k ≡ is_set masks k
 bit_apart masks at k inside apart = elim (cases_eq (k / 64) (at / 64)) [
   | inl same ↦
       (let other : k % 64 ≢ at % 64 = λ e. apart (omega arith) in
-      rw (same, get_or-set_same masks (at / 64) (bit_or (get_or masks (at / 64) 0) (1 * 2 ^ (at % 64) % 18446744073709551616)) 0 inside,
-      bit_at_set_other w64 (get_or masks (at / 64) 0) (at % 64) (omega arith) (k % 64) other) refl)
+      rw (
+        same,
+        get_or-set_same masks (at / 64) (bit_or (get_or masks (at / 64) 0) (1 * 2 ^ (at % 64) % 18446744073709551616)) 0 inside,
+        bit_at_set_other w64 (get_or masks (at / 64) 0) (at % 64) (omega arith) (k % 64) other,
+      ) refl)
   | inr other ↦ rw (get_or-set_other masks (at / 64) (k / 64) (bit_or (get_or masks (at / 64) 0) (1 * 2 ^ (at % 64) % 18446744073709551616)) 0 other) refl
 ]
 

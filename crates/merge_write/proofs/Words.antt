@@ -71,7 +71,7 @@ pub followed_is : (values later new : List (Option ℕ)) → length later ≡ le
 followed_is values later new same kept each = ext_get_or None new (followed values later) (kept ∙ sym (length-followed values later))
     (λ k below. let inside : k < length values = omega arith in each k inside ∙ sym (followed_at values later k same inside))
 
-unwrap_cond : (test : Bool) (y x : ℕ) → unwrap_or (cond test (Some y) None) x ≡ cond test y x
+pub unwrap_cond : (test : Bool) (y x : ℕ) → unwrap_or (cond test (Some y) None) x ≡ cond test y x
 unwrap_cond true y x = refl
 unwrap_cond false y x = refl
 

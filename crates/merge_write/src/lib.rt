@@ -1,6 +1,7 @@
 //! Patches: bytes that are laid over a block.
 #![tactic(auto)]
 
+mod lanes;
 pub mod laws;
 mod patch;
 mod patch_spans;

@@ -6,6 +6,7 @@ ghost use Rattle.iso_model.specs.Geometry.{is_block_size};
 ghost use Rattle.merge_write.specs.Patch.{written, laid, followed, piece, is_set};
 
 use crate::PatchSpans;
+use crate::lanes::lay;
 use iso_model::{Memory, SpanList};
 use std::alloc::Global;
 use std::marker::Model;
@@ -109,11 +110,7 @@ impl Patch {
         requires { length into.old ≡ length self.now }
         ensures { into.new ≡ laid self.now into.old }
     {
-        for at in 0..into.len() {
-            if let Some(byte) = self.value(at) {
-                into[at] = byte;
-            }
-        }
+        lay(&self.bytes, &self.masks, into);
     }
 
     /// Makes the patch itself followed by a later one.

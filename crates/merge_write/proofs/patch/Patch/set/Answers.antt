@@ -21,11 +21,11 @@ pub loop-span-preserved : goal.loop-span-preserved
 loop-span-preserved c = record {
   len = c.set_range-in-loop-span.ensures.len ∙ c.loop-span.invariant.len;
   values = λ k below.
-  let inside : k < length c.loop-span.self = omega (arith, c.set_range-in-loop-span.ensures.len) in
-  let e = c.as_slice-span-items.ensures in
-  let more = rw e at (c.set_range-in-loop-span.ensures.values k inside) in
-  let there : c.loop-span.span-index < length c.args.spans.now = omega (arith, ap (length {A = Span}) e) in
-  span_more k c.loop-span.span-index c.args.spans.now (record { off = 0; len = 0 }) (Some (get_or c.args.bytes.now k 0)) (get_or c.args.self.now k None) (get_or c.loop-span.self k None) (get_or c.set_range-in-loop-span.new.self k None) there (c.loop-span.invariant.values k inside) more;
+      let inside : k < length c.loop-span.self = omega (arith, c.set_range-in-loop-span.ensures.len) in
+      let e = c.as_slice-span-items.ensures in
+      let more = rw e at (c.set_range-in-loop-span.ensures.values k inside) in
+      let there : c.loop-span.span-index < length c.args.spans.now = omega (arith, ap (length {A = Span}) e) in
+      span_more k c.loop-span.span-index c.args.spans.now (record { off = 0; len = 0 }) (Some (get_or c.args.bytes.now k 0)) (get_or c.args.self.now k None) (get_or c.loop-span.self k None) (get_or c.set_range-in-loop-span.new.self k None) there (c.loop-span.invariant.values k inside) more;
 }
 
 pub returns-then-is_empty : goal.returns-then-is_empty

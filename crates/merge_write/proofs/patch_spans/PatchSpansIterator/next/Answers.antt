@@ -6,11 +6,12 @@ use Rattle.merge_write.proofs.Pieces.{none_left, next_piece}
 use Rattle.merge_write.proofs.patch_spans.PatchSpansIterator.next.Goals as goal
 
 pub returns-then-from-end-clause-steps : goal.returns-then-from-end-clause-steps
-returns-then-from-end-clause-steps c =
-    (sym c.self.view_is ∙ ap (map piece) (none_left c.self.inside.at c.self.inside.masks.now c.self.inside.bytes.now c.self.invariant.1
-    (λ k from below. c.next_place-from.ensures.passed k from (omega arith))),
-    ap (map piece) (none_left (length c.self.inside.bytes.now) c.self.inside.masks.now c.self.inside.bytes.now (omega arith)
-    (λ k from below. absurd (omega arith))))
+returns-then-from-end-clause-steps c = (
+  sym c.self.view_is ∙ ap (map piece) (none_left c.self.inside.at c.self.inside.masks.now c.self.inside.bytes.now c.self.invariant.1
+      (λ k from below. c.next_place-from.ensures.passed k from (omega arith))),
+  ap (map piece) (none_left (length c.self.inside.bytes.now) c.self.inside.masks.now c.self.inside.bytes.now (omega arith)
+      (λ k from below. absurd (omega arith))),
+)
 
 pub returns-clause-steps : goal.returns-clause-steps
 returns-clause-steps c =
