@@ -80,7 +80,8 @@ impl Patch {
     pub fn set(&mut self, bytes: &[u8], spans: &SpanList)
         requires bytes { length bytes.now ≡ length self.old }
         requires spans { All (λ span. span.off + span.len ≤ length self.old) spans.now }
-        ensures { self.new ≡ written spans.now 0 self.old bytes.now }
+        ensures len { length self.new ≡ length self.old }
+        ensures values { self.new ≡ written spans.now 0 self.old bytes.now }
     {
         if spans.is_empty() {
             self.set_range(bytes, 0, bytes.len());
@@ -116,7 +117,8 @@ impl Patch {
     /// Makes the patch itself followed by a later one.
     pub fn then(&mut self, later: &Patch)
         requires { length later.now ≡ length self.old }
-        ensures { self.new ≡ followed self.old later.now }
+        ensures len { length self.new ≡ length self.old }
+        ensures values { self.new ≡ followed self.old later.now }
     {
         for at in 0..later.len() {
             if let Some(byte) = later.value(at) {

@@ -28,8 +28,8 @@ loop-span-preserved c = record {
       span_more k c.loop-span.span-index c.args.spans.now (record { off = 0; len = 0 }) (Some (get_or c.args.bytes.now k 0)) (get_or c.args.self.now k None) (get_or c.loop-span.self k None) (get_or c.set_range-in-loop-span.new.self k None) there (c.loop-span.invariant.values k inside) more;
 }
 
-pub returns-then-is_empty : goal.returns-then-is_empty
-returns-then-is_empty c =
+pub returns-then-is_empty-clause-values : goal.returns-then-is_empty-clause-values
+returns-then-is_empty-clause-values c =
     written_is c.args.spans.now c.set_range.new.self c.args.self.now c.args.bytes.now c.requires.bytes c.set_range.ensures.len
     (λ k below.
     let none : length c.args.spans.now ≡ 0 = grind (arith, common_steps) in
@@ -39,8 +39,8 @@ returns-then-is_empty c =
     let high : nat_lt k (length c.args.bytes.now) ≡ true = grind (arith, common_steps) in
     rw all (c.set_range.ensures.values k below ∙ rw (low, high) refl))
 
-pub returns : goal.returns
-returns c =
+pub returns-clause-values : goal.returns-clause-values
+returns-clause-values c =
     written_is c.args.spans.now c.loop-span.self c.args.self.now c.args.bytes.now c.requires.bytes c.loop-span.invariant.len
     (λ k below.
     let some : 0 < length c.args.spans.now = grind (arith, common_steps) in

@@ -2,5 +2,5 @@ use Rattle.std.proofs.Common.{◌≡◌, ℕ, length, arith}
 use Rattle.merge_write.proofs.Words.{followed_is}
 use Rattle.merge_write.proofs.patch.Patch.then.Goals as goal
 
-pub returns : goal.returns
-returns c = followed_is c.args.self.now c.args.later.now c.loop-at.self (omega arith) (omega arith) (λ k below. c.loop-at.invariant.done k (omega arith))
+pub returns-clause-values : goal.returns-clause-values
+returns-clause-values c = followed_is c.args.self.now c.args.later.now c.loop-at.self (omega arith) (omega arith) (λ k below. c.loop-at.invariant.done k (omega arith))
