@@ -2,3 +2,4 @@ pub mod Chosen
 pub mod Values
 pub mod Words
 pub mod Pieces
+pub mod Effects

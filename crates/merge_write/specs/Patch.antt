@@ -1,5 +1,5 @@
 -- What contracts see of a `Patch`: for each byte of a block the value that it is set to, if it is set.
-use Rattle.std.specs.Prelude.{ℕ, zero, suc, ◌+◌, ◌*◌, ◌/◌, ◌%◌, ◌==◌, ◌≡◌, ◌≤◌, cond, List, [], ◌∷◌, Option, Some, None, Bool, IsTrue, length, slice_index, unwrap_or}
+use Rattle.std.specs.Prelude.{ℕ, ◌+◌, ◌*◌, ◌/◌, ◌%◌, ◌==◌, ◌≡◌, cond, List, [], ◌∷◌, Option, Some, None, Bool, IsTrue, length, slice_index, unwrap_or}
 use Rattle.std.specs.Int.{bit_at}
 use Rattle.iso_model.specs.declared.access.Span.{Span}
 use Rattle.iso_model.specs.declared.access.Run.{Run}

@@ -1,5 +1,5 @@
 -- Each of the 64 places has the bit of its lane, in one of the two steps.
-use Rattle.std.proofs.Common.{◌≡◌, ◌∙◌, ap, sym, ℕ, ◌+◌, ◌-◌, ◌<◌, cond, get_or, eqb, arith, inl, inr}
+use Rattle.std.proofs.Common.{◌≡◌, ◌∙◌, ap, ℕ, ◌+◌, ◌-◌, cond, get_or, eqb, arith, inl, inr}
 use Rattle.std.specs.Int.{bit_at}
 use Rattle.std.proofs.lemmas.Bool.{cases_lt}
 use Rattle.merge_write.proofs.Chosen.{first_lanes, second_lanes}

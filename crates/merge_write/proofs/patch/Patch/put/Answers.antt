@@ -1,5 +1,5 @@
 -- One bit and one byte more are one value more.
-use Rattle.std.proofs.Common.{◌≡◌, ◌∙◌, ◌<◌, ◌*◌, ◌/◌, sym, ap, length, get_or, set, Some, arith, rules, List, Option, ℕ}
+use Rattle.std.proofs.Common.{◌≡◌, ◌∙◌, ◌<◌, ◌*◌, ◌/◌, sym, ap, length, get_or, set, Some, arith, List, Option, ℕ}
 use Rattle.std.proofs.lemmas.List.{get_or_default}
 use Rattle.merge_write.proofs.Values.{length-values_from, put_values}
 use Rattle.merge_write.proofs.patch.Patch.put.Goals as goal

@@ -1,9 +1,9 @@
 -- The values are the write's where its spans cover the place.
-use Rattle.std.proofs.Common.{◌≡◌, ◌∙◌, sym, ap, ℕ, ◌+◌, ◌<◌, ◌≤◌, Some, None, cond, get_or, length, take, arith, List, nat_le, nat_lt, true, refl}
+use Rattle.std.proofs.Common.{◌≡◌, ◌∙◌, sym, ap, ◌<◌, Some, None, get_or, length, take, arith, nat_le, nat_lt, true, refl}
 use Rattle.std.proofs.lemmas.List.{take_all}
 use Rattle.std.proofs.lemmas.Grind.{common_steps}
 use Rattle.iso_model.specs.declared.access.Span.{Span}
-use Rattle.iso_model.specs.Array.{in_span, covered}
+use Rattle.iso_model.specs.Array.{covered}
 use Rattle.merge_write.proofs.Words.{span_more, written_is, covered_some, covered_none}
 use Rattle.merge_write.proofs.patch.Patch.set.Goals as goal
 

@@ -1,5 +1,5 @@
 -- The places from `from` up to `to` have the new bytes, and the others what they had.
-use Rattle.std.proofs.Common.{◌≡◌, Some, None, get_or, arith, length}
+use Rattle.std.proofs.Common.{Some, None, get_or, arith}
 use Rattle.merge_write.proofs.Words.{ranged}
 use Rattle.merge_write.proofs.patch.Patch.set_range.Goals as goal
 

@@ -1,4 +1,4 @@
-use Rattle.std.proofs.Common.{◌≡◌, ℕ, length, arith}
+use Rattle.std.proofs.Common.{arith}
 use Rattle.merge_write.proofs.Words.{followed_is}
 use Rattle.merge_write.proofs.patch.Patch.then.Goals as goal
 

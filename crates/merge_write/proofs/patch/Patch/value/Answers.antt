@@ -1,5 +1,5 @@
 -- The value of a byte, by its bit.
-use Rattle.std.proofs.Common.{◌≡◌, ◌∙◌, ◌<◌, ◌*◌, ◌/◌, sym, ap, refl, length, get_or, Some, None, arith, true, false, List, Option, ℕ}
+use Rattle.std.proofs.Common.{◌≡◌, ◌∙◌, ◌<◌, ◌*◌, sym, ap, refl, length, get_or, None, arith, true, false, List, Option, ℕ}
 use Rattle.std.proofs.lemmas.List.{get_or_default}
 use Rattle.merge_write.specs.Patch.{is_set}
 use Rattle.merge_write.proofs.Values.{length-values_from, values_here}
