@@ -1,0 +1,5 @@
+pub mod Chosen
+pub mod Values
+pub mod Words
+pub mod Pieces
+pub mod Effects

@@ -1,0 +1,10 @@
+use Rattle.std.proofs.Common.{◌≡◌, ℕ, ◌*◌, ◌<◌, ◌≤◌, cond, get_or}
+use Rattle.merge_write.specs.Patch.{is_set}
+use Rattle.merge_write.proofs.lanes.lay.Given as goal
+
+-- the words so far are laid, and the bytes behind them are as before
+abbrev pub invariant-loop-word : goal.invariant-loop-word
+invariant-loop-word l = record {
+  done : (k : ℕ) → k < 64 * l.word → get_or l.into k 0 ≡ cond (is_set l.masks k) (get_or l.values k 0) (get_or l.fn.into k 0);
+  rest : (k : ℕ) → 64 * l.word ≤ k → get_or l.into k 0 ≡ get_or l.fn.into k 0;
+}

@@ -1,0 +1,26 @@
+-- The lanes whose bit is set take the values, and nothing else changes.
+use Rattle.std.proofs.Common.{◌∙◌, ap, ◌+◌, Bool, List, get_or, eqb, bit_and, w8, arith}
+use lib.Lanes.{zip2, sel_l, chunk, put_chunk}
+use Rattle.std.proofs.lemmas.Simd.{tops_compared, get_or-put_chunk_below, get_or-put_chunk_above}
+use Rattle.merge_write.proofs.Chosen.{lane_bits, chosen, selected_at, length-selected}
+use Rattle.merge_write.proofs.lanes.lay_lanes.Goals as goal
+
+pub returns-clause-lanes : goal.returns-clause-lanes
+returns-clause-lanes c k below =
+    let values = c.args.values.now in
+    let into = c.args.into.now in
+    let at = c.args.at in
+    ap (λ (ms : List Bool). get_or (put_chunk at into (sel_l ms (chunk at 32 values) (chunk at 32 into))) (at + k) 0) (tops_compared w8 eqb (zip2 bit_and c.args.masks lane_bits) lane_bits)
+    ∙ selected_at at k c.args.masks values into c.requires.masks c.requires.values c.requires.into below
+
+pub returns-clause-before : goal.returns-clause-before
+returns-clause-before c k below = get_or-put_chunk_below c.args.at c.args.into.now _ k 0 below
+
+pub returns-clause-behind : goal.returns-clause-behind
+returns-clause-behind c k past =
+    let values = c.args.values.now in
+    let into = c.args.into.now in
+    let at = c.args.at in
+    ap (λ (ms : List Bool). get_or (put_chunk at into (sel_l ms (chunk at 32 values) (chunk at 32 into))) k 0) (tops_compared w8 eqb (zip2 bit_and c.args.masks lane_bits) lane_bits)
+    ∙ get_or-put_chunk_above at into (sel_l (chosen c.args.masks) (chunk at 32 values) (chunk at 32 into)) k 0
+    (omega (arith, length-selected at c.args.masks values into c.requires.masks c.requires.values c.requires.into))

@@ -1,0 +1,5 @@
+use Rattle.merge_write.proofs.Words.{laid_written}
+use Rattle.merge_write.proofs.laws.patches_write.Goals as goal
+
+pub returns : goal.returns
+returns c = λ spans size block bytes same other. laid_written spans 0 size block bytes same other

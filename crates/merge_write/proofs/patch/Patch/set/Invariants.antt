@@ -1,0 +1,11 @@
+use Rattle.std.proofs.Common.{◌≡◌, ℕ, ◌<◌, cond, take, Some, None, get_or, length}
+use Rattle.std.specs.List.{list_any}
+use Rattle.iso_model.specs.Array.{in_span}
+use Rattle.merge_write.proofs.patch.Patch.set.Given as goal
+
+-- the values are the new bytes where the spans so far cover the place
+abbrev pub invariant-loop-span : goal.invariant-loop-span
+invariant-loop-span l = record {
+  len : length l.self ≡ length l.initial.self;
+  values : (k : ℕ) → k < length l.self → get_or l.self k None ≡ cond (list_any (in_span k) (take l.span-index l.spans)) (Some (get_or l.bytes k 0)) (get_or l.initial.self k None);
+}

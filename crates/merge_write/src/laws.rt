@@ -1,0 +1,22 @@
+// What the contracts of a patch come to together.
+ghost use Rattle.std.specs.Prelude.{◌≡◌, ◌++◌, ℕ, IsTrue, List, [], ◌∷◌, ◌==◌, None, length, map, replicate};
+ghost use Rattle.iso_model.specs.declared.access.Access.{Access};
+ghost use Rattle.iso_model.specs.declared.access.Span.{Span};
+ghost use Rattle.iso_model.specs.Array.{merged};
+ghost use Rattle.iso_model.specs.Effect.{block_runs, effects_from, is_write, runs_from};
+ghost use Rattle.merge_write.specs.Patch.{written, laid, piece};
+
+/// A write that is set on a blank patch, which is then laid over a block, is the write to that block.
+pub fn patches_write()
+    ensures { (spans : List Span) (size : ℕ) (block bytes : List ℕ) → length block ≡ size → length bytes ≡ size
+        → laid (written spans 0 (replicate size None) bytes) block ≡ merged spans 0 block bytes }
+{}
+
+/// The writes of a block that are set in order, from a blank patch on, make what the list writes there,
+/// and its spans are the runs that a record keeps of that block.
+pub fn patches_hold_the_effect()
+    ensures blank { (b size : ℕ) → effects_from [] b 0 size ≡ replicate size None }
+    ensures set { (accesses : List Access) (a : Access) (b size : ℕ) → IsTrue (is_write a) → a.block ≡ b → length a.bytes ≡ size
+        → written a.spans 0 (effects_from accesses b 0 size) a.bytes ≡ effects_from (accesses ++ a ∷ []) b 0 size }
+    ensures spans { (accesses : List Access) (b size : ℕ) → map piece (runs_from 0 0 (effects_from accesses b 0 size)) ≡ map piece (block_runs size accesses b) }
+{}

@@ -1,0 +1,13 @@
+//! Patches: bytes that are laid over a block.
+#![tactic(auto)]
+
+mod lanes;
+pub mod laws;
+mod patch;
+mod patch_spans;
+
+pub use patch::Patch;
+pub use patch_spans::PatchSpans;
+
+#[cfg(test)]
+mod tests;
