@@ -7,12 +7,17 @@ use std::alloc::Global;
 use std::process::Abort;
 use std::test::Fail;
 
-fn fill(bytes: &mut [u8], step: usize)
-    requires { step ≤ 100 }
+// Drawn bytes, the same for a seed.
+fn fill(bytes: &mut [u8], seed: u64)
     ensures { length bytes.new ≡ length bytes.old }
 {
-    for at in 0..bytes.len() {
-        bytes[at] = (at % 100 * step % 251) as u8;
+    let mut draw = seed;
+    for byte in bytes.iter_mut() {
+        draw = draw
+            .wrapping_mul(6_364_136_223_846_793_005)
+            .wrapping_add(1_442_695_040_888_963_407);
+        let [high, ..] = draw.to_be_bytes();
+        *byte = high;
     }
 }
 
@@ -42,10 +47,12 @@ fn laid_runs(
     requires second { second.off + second.len ≤ size }
     requires later { later.off + later.len ≤ size }
 {
-    let mut block = vec![in alloc; 5u8; size as usize]?;
-    let mut wanted = vec![in alloc; 5u8; size as usize]?;
+    let mut block = vec![in alloc; 0u8; size as usize]?;
+    let mut wanted = vec![in alloc; 0u8; size as usize]?;
     let mut one = vec![in alloc; 0u8; size as usize]?;
     let mut two = vec![in alloc; 0u8; size as usize]?;
+    fill(&mut block, 3);
+    fill(&mut wanted, 3);
     fill(&mut one, 7);
     fill(&mut two, 11);
     let mut spans = SpanList::empty(alloc);
