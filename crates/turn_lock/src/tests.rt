@@ -1,4 +1,4 @@
-//! Small runs of the lock, over a value that is a plain list.
+//! Small runs of the lock, over a plain list and over a desk that hands out numbers.
 ghost use Rattle.std.specs.Prelude.{◌≡◌, ℕ, false, ◌+◌, ◌<◌, ◌≤◌, ◌++◌, [], ◌∷◌, Some, None, IfOk};
 ghost use Rattle.turn_lock.specs.Lists.{times};
 ghost use Rattle.turn_lock.specs.Numbers.{is_out};
