@@ -1,0 +1,2 @@
+-- What contracts say of counts of faults.
+pub mod Count
