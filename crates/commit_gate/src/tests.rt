@@ -1,9 +1,11 @@
 // The device calls that each call makes, over eight bytes that count them. Of its bytes the disk tells nothing.
 ghost use Rattle.std.specs.Prelude.{None};
-ghost use Rattle.std.proofs.Common.{rules, lit<};
-ghost use Rattle.iso_disk.specs.Disk.{HasCause};
+ghost use Rattle.std.proofs.Common.{lit<};
+ghost use Rattle.fault_count.specs.Count.{HasCause};
+ghost use Rattle.iso_disk.specs.Untold.{untold, untold_is_lawful};
 
 use super::*;
+use fault_count::raise;
 use iso_disk::{Disk, DiskFault};
 use std::test::Fail;
 
@@ -36,7 +38,7 @@ impl Counting {
             self.count += 1;
         }
         if self.count == self.failing {
-            self.faults = self.faults.saturating_add(1);
+            raise(&mut self.faults);
             return Err(DiskFault);
         }
         Ok(())
@@ -44,29 +46,11 @@ impl Counting {
 }
 
 impl Disk for Counting {
-    ghost size = { λ _. 8 };
-
-    ghost contents = { λ _. None };
-
-    ghost now = { λ _ _. ⊥ };
-
-    ghost clock = { λ _. 0 };
-
-    ghost left = { λ _ _ _. ⊥ };
-
-    ghost faults = { λ d. d.faults };
+    ghost state = { λ d. untold 8 d.faults None };
 
     ghost size_fits = { λ _. lit< tt };
 
-    ghost reads_as_image = { λ d c told. Prim.search rules };
-
-    ghost counts_now = { λ d t c le image. image };
-
-    ghost only_now = { λ d c image. image };
-
-    ghost counts_later = { λ d t u c le image. image };
-
-    ghost image_size = { λ d t c image. absurd image };
+    ghost lawful = { λ d. untold_is_lawful 8 d.faults None };
 
     fn size(&self) -> u64 {
         8

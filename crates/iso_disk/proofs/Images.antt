@@ -1,7 +1,7 @@
 -- What a crash may leave after a write and after a sync.
 use Rattle.std.proofs.Common.{◌≡◌, ◌≤◌, ◌+◌, ℕ, List, length, Option, Some, None, refl, ◌∙◌, ap, arith}
 use Rattle.std.specs.Option.{option_map}
-use Rattle.iso_disk.specs.Disk.{spliced, TornFrom, TellsTorn, IsSettled}
+use Rattle.iso_disk.specs.Disk.{DiskState, IsLawful, spliced, TornFrom, Splices, TellsTorn, IsSettled}
 use Rattle.iso_disk.proofs.Bytes.{spliced_torn, torn_same, torn_wider, torn_twice}
 
 -- an image of before counts among the torn outcomes of a write
@@ -17,21 +17,24 @@ pub torn_from_twice : {images : List ℕ → Type 0} {at n : ℕ} {c : List ℕ}
 torn_from_twice t = record { old = t.was.old; was = t.was.was; torn = torn_twice t.was.torn t.torn }
 
 -- after a write and a sync a crash leaves the old contents with the bytes
-pub settled_write : {old new : Option (List ℕ)} {images : List ℕ → Type 0} (at : ℕ) (bytes : List ℕ) → new ≡ option_map (λ c. spliced c at bytes) old → IsSettled new images → (c : List ℕ) → images c → (d : List ℕ) × (old ≡ Some d) × (c ≡ spliced d at bytes)
-settled_write {old = Some d} {new = new} at bytes written settled c image = (d, refl, cc (written, settled c image))
-settled_write {old = None} {new = new} at bytes written settled c image = absurd (cc (written, settled c image))
+pub settled_write : (old new : DiskState) (at : ℕ) (bytes : List ℕ) → Splices at bytes old new → IsSettled new → (c : List ℕ) → new.now c → (d : List ℕ) × (old.contents ≡ Some d) × (c ≡ spliced d at bytes)
+settled_write old new at bytes written settled c image = of_told old.contents refl
+  where
+    of_told : (o : Option (List ℕ)) → old.contents ≡ o → (d : List ℕ) × (old.contents ≡ Some d) × (c ≡ spliced d at bytes)
+    of_told (Some d) is = (d, is, cc (written, settled c image, ap (option_map (λ (l : List ℕ). spliced l at bytes)) is))
+    of_told None is = absurd (cc (written, settled c image, ap (option_map (λ (l : List ℕ). spliced l at bytes)) is))
 
 -- a write that is done tells one of its torn outcomes
-pub tells_spliced : {old new : Option (List ℕ)} (at : ℕ) (bytes : List ℕ) → new ≡ option_map (λ c. spliced c at bytes) old → ((c : List ℕ) → old ≡ Some c → at + length bytes ≤ length c) → TellsTorn at (length bytes) old new
-tells_spliced {old = old} {new = new} at bytes written fits = record {
+pub tells_spliced : (old new : DiskState) (at : ℕ) (bytes : List ℕ) → Splices at bytes old new → ((c : List ℕ) → old.contents ≡ Some c → at + length bytes ≤ length c) → TellsTorn at (length bytes) old new
+tells_spliced old new at bytes written fits = record {
   told = λ c is. (spliced c at bytes, written ∙ ap (option_map (λ (l : List ℕ). spliced l at bytes)) is, spliced_torn c at bytes (fits c is));
   untold = λ is. written ∙ ap (option_map (λ (l : List ℕ). spliced l at bytes)) is;
 }
 
 -- each image that a crash now may leave has the disk's size
-pub length-image : {D : Type 0} {size clock : D → ℕ} {left : D → ℕ → List ℕ → Type 0} {now : D → List ℕ → Type 0} → ((d : D) (t : ℕ) (c : List ℕ) → t ≤ clock d → now d c → left d t c) → ((d : D) (t : ℕ) (c : List ℕ) → left d t c → length c ≡ size d) → (d : D) (c : List ℕ) → now d c → length c ≡ size d
-length-image {clock = clock} counts_now image_size d c image = image_size d (clock d) c (counts_now d (clock d) c (omega arith) image)
+pub length-image : {d : DiskState} → IsLawful d → (c : List ℕ) → d.now c → length c ≡ d.size
+length-image {d = d} laws c image = laws.image_size d.clock c (laws.counts_now d.clock c (omega arith) image)
 
 -- so has what the disk tells
-pub length-contents : {D : Type 0} {size clock : D → ℕ} {contents : D → Option (List ℕ)} {left : D → ℕ → List ℕ → Type 0} {now : D → List ℕ → Type 0} → ((d : D) (c : List ℕ) → contents d ≡ Some c → now d c) → ((d : D) (t : ℕ) (c : List ℕ) → t ≤ clock d → now d c → left d t c) → ((d : D) (t : ℕ) (c : List ℕ) → left d t c → length c ≡ size d) → (d : D) (c : List ℕ) → contents d ≡ Some c → length c ≡ size d
-length-contents reads_as_image counts_now image_size d c told = length-image counts_now image_size d c (reads_as_image d c told)
+pub length-contents : {d : DiskState} → IsLawful d → (c : List ℕ) → d.contents ≡ Some c → length c ≡ d.size
+length-contents laws c told = length-image laws c (laws.reads_as_image c told)

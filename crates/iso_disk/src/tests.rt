@@ -1,14 +1,19 @@
 // A disk that tells nothing, as a real file: the trait asks of it only sizes, counts and causes.
-ghost use Rattle.std.specs.Prelude.{◌≡◌, ◌^◌, ◌<◌, None};
-ghost use Rattle.std.proofs.Common.{rules};
-ghost use Rattle.iso_disk.specs.Disk.{HasCause};
+ghost use Rattle.std.specs.Prelude.{◌≡◌, ◌^◌, ◌<◌};
+ghost use Rattle.std.specs.Option.{option_map};
+ghost use Rattle.fault_count.specs.Count.{HasCause};
+ghost use Rattle.iso_disk.specs.Untold.{untold, untold_is_lawful};
 
 use super::*;
+use fault_count::raise;
+use std::alloc::Global;
 use std::test::Fail;
 
 // Each call fails and is counted, but for the first `working`.
 #[derive(Drop)]
 struct Silent {
+    alloc: Global,
+    name: Option<Vec<u8>>,
     size: u64,
     working: u64,
     faults: u64,
@@ -18,41 +23,23 @@ struct Silent {
 impl Silent {
     fn answer(&mut self) -> Result<(), DiskFault>
         ensures cause { HasCause self.old.faults self.new.faults result }
-        ensures size { self.new.size ≡ self.old.size }
+        ensures rest { self.new ≡ record self.old { working = self.new.working; faults = self.new.faults } }
     {
         if self.working > 0 {
             self.working -= 1;
             return Ok(());
         }
-        self.faults = self.faults.saturating_add(1);
+        raise(&mut self.faults);
         Err(DiskFault)
     }
 }
 
 impl Disk for Silent {
-    ghost size = { λ d. d.size };
-
-    ghost contents = { λ _. None };
-
-    ghost now = { λ _ _. ⊥ };
-
-    ghost clock = { λ _. 0 };
-
-    ghost left = { λ _ _ _. ⊥ };
-
-    ghost faults = { λ d. d.faults };
+    ghost state = { λ d. untold d.size d.faults (option_map (λ name. name.items) d.name) };
 
     ghost size_fits = { λ d. d.fits };
 
-    ghost reads_as_image = { λ d c told. Prim.search rules };
-
-    ghost counts_now = { λ d t c le image. image };
-
-    ghost only_now = { λ d c image. image };
-
-    ghost counts_later = { λ d t u c le image. image };
-
-    ghost image_size = { λ d t c image. absurd image };
+    ghost lawful = { λ d. untold_is_lawful d.size d.faults (option_map (λ name. name.items) d.name) };
 
     fn size(&self) -> u64 {
         self.size
@@ -72,8 +59,16 @@ impl Disk for Silent {
 }
 
 impl Image for Silent {
-    fn bind(&mut self, _name: &str, want: Option<u64>) -> Result<(), DiskFault> {
+    fn bind(&mut self, name: &str, want: Option<u64>) -> Result<(), DiskFault> {
+        self.name = None;
         self.answer()?;
+        match name.as_bytes().to_vec(self.alloc) {
+            Ok(bytes) => self.name = Some(bytes),
+            Err(_) => {
+                raise(&mut self.faults);
+                return Err(DiskFault);
+            }
+        }
         if let Some(size) = want {
             self.size = size;
         }
@@ -84,6 +79,8 @@ impl Image for Silent {
 #[test]
 fn a_disk_that_tells_nothing_counts_its_faults(rt: HostRuntime) -> Result<(), Fail> {
     let mut disk = Silent {
+        alloc: rt.alloc(),
+        name: None,
         size: 0,
         working: 4,
         faults: 0,

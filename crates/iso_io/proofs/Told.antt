@@ -3,6 +3,7 @@ use Rattle.std.proofs.Common.{◌≡◌, ℕ, ◌+◌, ◌-◌, ◌≤◌, lengt
 use Rattle.std.proofs.lemmas.List.{take_all, take-append-drop, drop-drop}
 use Rattle.std.proofs.Math.Seq.{take-add}
 use Rattle.std.specs.Io.KnownBytes.{append_known, prepend_known}
+use Rattle.iso_io.specs.Source.{SourceState, Took, TookAtMost}
 
 -- two pieces put one after the other
 pub append_known-append : (known : Option (List ℕ)) (xs ys : List ℕ) → append_known (append_known known xs) ys ≡ append_known known (xs ++ ys)
@@ -36,11 +37,13 @@ pub taken_more : (known next after : Option (List ℕ)) (bytes more all : List �
 taken_more known next after bytes more all before gives joined =
     before ∙ ap (prepend_known bytes) gives ∙ prepend_known-append after bytes more ∙ ap (λ xs. prepend_known xs after) (sym joined)
 
--- bytes that were taken and then others are lost together
-pub lost_after : (known next after : Option (List ℕ)) (bytes : List ℕ) (room limit : ℕ) → known ≡ prepend_known bytes next → length bytes + room ≤ limit
-    → ((lost : List ℕ) × (length lost ≤ room) × (next ≡ prepend_known lost after)) → (lost : List ℕ) × (length lost ≤ limit) × (known ≡ prepend_known lost after)
-lost_after known next after bytes room limit before fits h =
-    (bytes ++ h.0, simp length-append (omega (arith, h.1)), taken_more known next after bytes h.0 (bytes ++ h.0) before h.2 refl)
+-- bytes that were taken and then a few others are lost together
+pub lost_after : (old mid new : SourceState) (bytes : List ℕ) (room limit : ℕ) → Took old mid bytes → length bytes + room ≤ limit → TookAtMost mid new room → TookAtMost old new limit
+lost_after old mid new bytes room limit before fits lost = record {
+  bytes = bytes ++ lost.bytes;
+  few = simp length-append (omega (arith, fits, lost.few));
+  took = taken_more old.rest mid.rest new.rest bytes lost.bytes (bytes ++ lost.bytes) before lost.took refl;
+}
 
 -- what is behind a place is the n bytes that were given from there, and then what is behind those
 pub given_front : (xs given : List ℕ) (i n : ℕ) → given ≡ take n (take (length xs - i) (drop i xs)) → given ++ drop (i + n) xs ≡ drop i xs

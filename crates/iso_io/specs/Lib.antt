@@ -1,5 +1,4 @@
 -- What the contracts of sources and sinks say.
-pub mod Count
 pub mod Source
 pub mod Sink
 pub mod Memory

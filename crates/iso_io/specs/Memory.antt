@@ -1,6 +1,7 @@
 -- What contracts see of a source and a sink in memory.
-use Rattle.std.specs.Prelude.{◌≡◌, ◌⊎◌, ℕ, Bool, List, Contains}
-use Rattle.iso_io.specs.Count.{one_more}
+use Rattle.std.specs.Prelude.{ℕ, Bool, List, Some}
+use Rattle.iso_io.specs.Source.{SourceState}
+use Rattle.iso_io.specs.Sink.{SinkState}
 
 -- a source in memory
 pub record MemSourceState : Type 0 where
@@ -10,6 +11,9 @@ pub record MemSourceState : Type 0 where
   pub calls : ℕ  -- how many calls there were
   pub faults : ℕ  -- how many of them failed
   pub is_ended : Bool  -- the last call that had room gave nothing
+
+abbrev pub source_state : MemSourceState → SourceState
+source_state s = record { rest = Some s.left; is_ended = s.is_ended; faults = s.faults }
 
 -- a sink in memory
 pub record MemSinkState : Type 0 where
@@ -21,10 +25,5 @@ pub record MemSinkState : Type 0 where
   pub starved : ℕ  -- how many of those found no memory
   pub refusals : ℕ  -- how many calls took nothing of a piece that is not empty
 
--- the next call is one of those that are to fail
-abbrev pub FailsNext : List ℕ → ℕ → Type 0
-FailsNext failing calls = Contains failing (one_more calls)
-
--- a call that failed was to fail, or it found no memory and was counted
-abbrev pub MissesMemory : Type 0 → ℕ → ℕ → Type 0
-MissesMemory ToFail before now = (ToFail × (now ≡ before)) ⊎ (now ≡ one_more before)
+abbrev pub sink_state : MemSinkState → SinkState
+sink_state s = record { written = Some s.taken; faults = s.faults; refusals = s.refusals }

@@ -1,7 +1,6 @@
 //! Where the bytes of a script come from and where the replies go.
 #![tactic(auto)]
 
-mod calls;
 mod mem_sink;
 mod mem_source;
 mod sink;

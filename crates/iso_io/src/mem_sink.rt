@@ -1,12 +1,11 @@
 // A sink that keeps its bytes in memory.
-ghost use Rattle.std.specs.Prelude.{◌≡◌, ◌≤◌, ◌^◌, ◌-◌, [], min, length, take, IfOk, IsErr, OnErr, OnOk, Some};
-ghost use Rattle.std.specs.Io.KnownBytes.{append_known};
-ghost use Rattle.iso_io.specs.Count.{HasCause, faults_after, one_more};
-ghost use Rattle.iso_io.specs.Sink.{refusals_after};
-ghost use Rattle.iso_io.specs.Memory.{FailsNext, MissesMemory};
+ghost use Rattle.std.specs.Prelude.{◌≡◌, ◌≤◌, ◌⊎◌, ◌^◌, ◌-◌, [], min, length, take, IfOk, IsErr, OnErr, OnOk};
+ghost use Rattle.fault_count.specs.Count.{FailsNext, HasCause, faults_after, one_more};
+ghost use Rattle.iso_io.specs.Sink.{Wrote, refusals_after};
+ghost use Rattle.iso_io.specs.Memory.{sink_state};
 
-use crate::calls::is_to_fail;
 use crate::{Sink, SinkFault};
+use fault_count::{count_call, raise};
 use std::alloc::Global;
 use std::marker::Model;
 
@@ -93,24 +92,21 @@ impl MemSink {
 }
 
 impl Sink for MemSink {
-    ghost written = { λ s. Some s.taken };
-
-    ghost refusals = { λ s. s.refusals };
-
-    ghost faults = { λ s. s.faults };
+    ghost state = { sink_state };
 
     fn put(&mut self, bytes: &[u8]) -> Result<usize, SinkFault>
         ensures count { IfOk result (λ n. n ≤ length bytes.now) }
-        ensures bytes { IfOk result (λ n. Some self.new.taken ≡ append_known (Some self.old.taken) (take n bytes.now)) }
+        ensures bytes { IfOk result (λ n. Wrote (sink_state self.old) (sink_state self.new) (take n bytes.now)) }
         ensures refusals { self.new.refusals ≡ refusals_after self.old.refusals bytes.now result }
         ensures no_fewer { self.old.refusals ≤ self.new.refusals }
-        ensures err { OnErr result (Some self.new.taken ≡ Some self.old.taken) }
+        ensures err { OnErr result (self.new.taken ≡ self.old.taken) }
         ensures cause { HasCause self.old.faults self.new.faults result }
 
         // It fails where it is told to, and else only where it found no memory, which it counts.
         ensures named { FailsNext self.old.failing self.old.calls → IsErr result }
-        ensures starved { OnErr result (MissesMemory (FailsNext self.old.failing self.old.calls) self.old.starved self.new.starved) }
+        ensures named_fed { FailsNext self.old.failing self.old.calls → self.new.starved ≡ self.old.starved }
         ensures fed { OnOk result (self.new.starved ≡ self.old.starved) }
+        ensures starved { OnErr result (FailsNext self.old.failing self.old.calls ⊎ (self.new.starved ≡ one_more self.old.starved)) }
         ensures given { IfOk result (λ n. n ≡ min (length bytes.now) self.old.piece) }
         ensures after { self.new ≡ record self.old {
           taken = self.new.taken;
@@ -120,18 +116,18 @@ impl Sink for MemSink {
           faults = faults_after self.old.faults result;
         } }
     {
-        if is_to_fail(&self.failing, &mut self.calls) {
-            self.faults = self.faults.saturating_add(1);
+        if count_call(&self.failing, &mut self.calls) {
+            raise(&mut self.faults);
             return Err(SinkFault);
         }
         let front = bytes.len().min(self.piece);
         if self.bytes.extend_from_slice(&bytes[..front]).is_err() {
-            self.starved = self.starved.saturating_add(1);
-            self.faults = self.faults.saturating_add(1);
+            raise(&mut self.starved);
+            raise(&mut self.faults);
             return Err(SinkFault);
         }
         if front == 0 && !bytes.is_empty() {
-            self.refused = self.refused.saturating_add(1);
+            raise(&mut self.refused);
         }
         Ok(front)
     }

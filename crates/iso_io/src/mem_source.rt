@@ -1,12 +1,11 @@
 // A source over bytes in memory.
-ghost use Rattle.std.specs.Prelude.{◌≡◌, ◌≤◌, ◌<◌, ◌↔◌, ◌^◌, ◌-◌, [], false, min, length, take, IfSome, IfOk, IsErr, OnErr, Some};
-ghost use Rattle.std.specs.Io.KnownBytes.{prepend_known};
-ghost use Rattle.iso_io.specs.Count.{HasCause, faults_after, one_more};
-ghost use Rattle.iso_io.specs.Source.{ended_after};
-ghost use Rattle.iso_io.specs.Memory.{FailsNext};
+ghost use Rattle.std.specs.Prelude.{◌≡◌, ◌≤◌, ◌<◌, ◌↔◌, ◌^◌, ◌-◌, [], false, min, length, take, IfOk, IsErr, OnErr};
+ghost use Rattle.fault_count.specs.Count.{FailsNext, HasCause, faults_after, one_more};
+ghost use Rattle.iso_io.specs.Source.{GivesUpToEnd, Took, ended_after};
+ghost use Rattle.iso_io.specs.Memory.{source_state};
 
-use crate::calls::is_to_fail;
 use crate::{Source, SourceFault};
+use fault_count::{count_call, raise};
 use std::marker::Model;
 
 /// A source over bytes in memory, some of whose calls are to fail.
@@ -79,18 +78,14 @@ impl MemSource {
 }
 
 impl Source for MemSource {
-    ghost rest = { λ s. Some s.left };
-
-    ghost is_ended = { λ s. s.is_ended };
-
-    ghost faults = { λ s. s.faults };
+    ghost state = { source_state };
 
     fn take(&mut self, into: &mut [u8]) -> Result<usize, SourceFault>
         ensures count { IfOk result (λ n. n ≤ length into.new) }
-        ensures bytes { IfOk result (λ n. Some self.old.left ≡ prepend_known (take n into.new) (Some self.new.left)) }
-        ensures end { IfOk result (λ n. 0 < length into.new → IfSome (Some self.old.left) (λ left. (n ≡ 0) ↔ (left ≡ []))) }
+        ensures bytes { IfOk result (λ n. Took (source_state self.old) (source_state self.new) (take n into.new)) }
+        ensures end { IfOk result (λ n. 0 < length into.new → GivesUpToEnd (source_state self.old) n) }
         ensures ended { self.new.is_ended ≡ ended_after self.old.is_ended into.new result }
-        ensures err { OnErr result (Some self.new.left ≡ Some self.old.left) }
+        ensures err { OnErr result (self.new.left ≡ self.old.left) }
         ensures cause { HasCause self.old.faults self.new.faults result }
 
         // It fails exactly where it is told to, and gives what there is room for.
@@ -103,8 +98,8 @@ impl Source for MemSource {
           faults = faults_after self.old.faults result;
         } }
     {
-        if is_to_fail(&self.failing, &mut self.calls) {
-            self.faults = self.faults.saturating_add(1);
+        if count_call(&self.failing, &mut self.calls) {
+            raise(&mut self.faults);
             return Err(SourceFault);
         }
         let given = give(&self.bytes[self.at..], self.piece, into);

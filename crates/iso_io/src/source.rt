@@ -1,8 +1,7 @@
 // Where bytes come from.
-ghost use Rattle.std.specs.Prelude.{◌≡◌, ◌<◌, ◌≤◌, ◌↔◌, ◌==◌, ◌++◌, ℕ, Bool, Option, List, [], length, take, vec_len, IfSome, IfOk, OnErr, IsErrOf, IsTrue};
-ghost use Rattle.std.specs.Io.KnownBytes.{IsAtEnd, prepend_known};
-ghost use Rattle.iso_io.specs.Count.{HasCause, HasRisen};
-ghost use Rattle.iso_io.specs.Source.{ended_after};
+ghost use Rattle.std.specs.Prelude.{◌≡◌, ◌<◌, ◌≤◌, ◌==◌, ◌++◌, length, take, vec_len, IfOk, OnErr, OnOk, IsErrOf};
+ghost use Rattle.fault_count.specs.Count.{HasCause, Rose};
+ghost use Rattle.iso_io.specs.Source.{SourceState, GivesUpToEnd, MetEnd, Took, TookAtMost, ended_after};
 ghost use Rattle.iso_io.specs.declared.source.TakeError.TheVariants.{Failed, Memory};
 
 use std::alloc::{AllocError, Global};
@@ -16,26 +15,20 @@ pub struct SourceFault;
 
 /// Where bytes come from, in order.
 pub trait Source {
-    /// The bytes that are left, where they are told.
-    ghost rest: { Self → Option (List ℕ) };
-
-    /// The last take that had room gave nothing.
-    ghost is_ended: { Self → Bool };
-
-    /// How often the source has failed, up to the last value of a u64.
-    ghost faults: { Self → ℕ };
+    /// What the source is at this moment.
+    ghost state: { Self → SourceState };
 
     /// Gives the first of the bytes that are left, and says how many. With room, it gives none
     /// exactly at the end. It may write any bytes behind them.
     fn take(&mut self, into: &mut [u8]) -> Result<usize, SourceFault>
         ensures count { IfOk result (λ n. n ≤ length into.new) }
-        ensures bytes { IfOk result (λ n. rest self.old ≡ prepend_known (take n into.new) (rest self.new)) }
-        ensures end { IfOk result (λ n. 0 < length into.new → IfSome (rest self.old) (λ left. (n ≡ 0) ↔ (left ≡ []))) }
-        ensures ended { is_ended self.new ≡ ended_after (is_ended self.old) into.new result }
+        ensures bytes { IfOk result (λ n. Took (state self.old) (state self.new) (take n into.new)) }
+        ensures end { IfOk result (λ n. 0 < length into.new → GivesUpToEnd (state self.old) n) }
+        ensures ended { (state self.new).is_ended ≡ ended_after (state self.old).is_ended into.new result }
 
         // A take that fails leaves the bytes as they were.
-        ensures err { OnErr result (rest self.new ≡ rest self.old) }
-        ensures cause { HasCause (faults self.old) (faults self.new) result };
+        ensures err { OnErr result ((state self.new).rest ≡ (state self.old).rest) }
+        ensures cause { HasCause (state self.old).faults (state self.new).faults result };
 }
 
 /// Why not all bytes were taken.
@@ -66,16 +59,16 @@ impl From<AllocError> for TakeError {
 /// Takes all bytes that are left, up to a limit. Fewer came exactly where the end was met.
 #[tactic(auto, using(crate::proofs::Told::steps))]
 pub fn take_all<S: Source>(alloc: Global, source: &mut S, limit: u64) -> Result<Vec<u8>, TakeError>
-    ensures bytes { IfOk result (λ bytes. S.rest source.old ≡ prepend_known bytes.items (S.rest source.new)) }
+    ensures bytes { IfOk result (λ bytes. Took (S.state source.old) (S.state source.new) bytes.items) }
     ensures limit { IfOk result (λ bytes. vec_len bytes ≤ limit) }
-    ensures ended { IfOk result (λ bytes. vec_len bytes < limit → IsTrue (S.is_ended source.new)) }
-    ensures whole { IfOk result (λ bytes. vec_len bytes < limit → IfSome (S.rest source.old) (λ left. left ≡ bytes.items)) }
-    ensures nothing_left { IfOk result (λ bytes. vec_len bytes < limit → IsAtEnd (S.rest source.new)) }
+    ensures ended { IfOk result (λ bytes. vec_len bytes < limit → MetEnd (S.state source.old) (S.state source.new) bytes.items) }
 
     // At an error, at most so many bytes are lost.
-    ensures err { OnErr result ((lost : List ℕ) × (length lost ≤ limit) × (S.rest source.old ≡ prepend_known lost (S.rest source.new))) }
-    ensures failed { IsErrOf result TakeError.Failed → HasRisen (S.faults source.old) (S.faults source.new) }
-    ensures faults { S.faults source.old ≤ S.faults source.new }
+    ensures err { OnErr result (TookAtMost (S.state source.old) (S.state source.new) limit) }
+    ensures failed { IsErrOf result TakeError.Failed → Rose (S.state source.old).faults (S.state source.new).faults }
+    ensures memory { IsErrOf result TakeError.Memory → (S.state source.new).faults ≡ (S.state source.old).faults }
+    ensures later { (S.state source.old).faults ≤ (S.state source.new).faults }
+    ensures passed { OnOk result ((S.state source.new).faults ≡ (S.state source.old).faults) }
 {
     let mut bytes = Vec::new(alloc);
     let mut piece = blank(alloc, PIECE)?;
@@ -96,12 +89,14 @@ fn take_piece<S: Source>(
 ) -> Result<usize, TakeError>
     ensures count { IfOk result (λ n. n ≤ length piece.new) }
     ensures added { IfOk result (λ n. bytes.new.items ≡ bytes.old.items ++ take n piece.new) }
-    ensures bytes { IfOk result (λ n. S.rest source.old ≡ prepend_known (take n piece.new) (S.rest source.new)) }
-    ensures end { IfOk result (λ n. 0 < length piece.new → IfSome (S.rest source.old) (λ left. (n ≡ 0) ↔ (left ≡ []))) }
-    ensures ended { IfOk result (λ n. 0 < length piece.new → S.is_ended source.new ≡ (n == 0)) }
-    ensures err { OnErr result ((lost : List ℕ) × (length lost ≤ length piece.new) × (S.rest source.old ≡ prepend_known lost (S.rest source.new))) }
-    ensures failed { IsErrOf result TakeError.Failed → HasRisen (S.faults source.old) (S.faults source.new) }
-    ensures faults { S.faults source.old ≤ S.faults source.new }
+    ensures bytes { IfOk result (λ n. Took (S.state source.old) (S.state source.new) (take n piece.new)) }
+    ensures end { IfOk result (λ n. 0 < length piece.new → GivesUpToEnd (S.state source.old) n) }
+    ensures ended { IfOk result (λ n. 0 < length piece.new → (S.state source.new).is_ended ≡ (n == 0)) }
+    ensures err { OnErr result (TookAtMost (S.state source.old) (S.state source.new) (length piece.new)) }
+    ensures failed { IsErrOf result TakeError.Failed → Rose (S.state source.old).faults (S.state source.new).faults }
+    ensures memory { IsErrOf result TakeError.Memory → (S.state source.new).faults ≡ (S.state source.old).faults }
+    ensures later { (S.state source.old).faults ≤ (S.state source.new).faults }
+    ensures passed { OnOk result ((S.state source.new).faults ≡ (S.state source.old).faults) }
 {
     let taken = source.take(piece)?;
     bytes.extend_from_slice(&piece[..taken])?;

@@ -1,13 +1,16 @@
 // A sink over a writer of std.
-ghost use Rattle.std.specs.Prelude.{◌≡◌, ◌≤◌, None, length, IfOk};
-ghost use Rattle.iso_io.specs.Count.{HasCause, faults_after};
+ghost use Rattle.std.specs.Prelude.{◌≡◌, ◌≤◌, length, IfOk};
+ghost use Rattle.std.specs.Io.KnownBytes.{WriteAppends};
+ghost use Rattle.fault_count.specs.Count.{HasCause, faults_after};
 ghost use Rattle.iso_io.specs.Sink.{refusals_after};
+ghost use Rattle.iso_io.specs.Standard.{sink_state};
 
 use crate::{Sink, SinkFault};
+use fault_count::raise;
 use std::io::Write;
 use std::marker::Model;
 
-/// A sink over a writer, such as standard output. It tells no bytes, and each error is a fault.
+/// A sink over a writer, such as standard output. As a sink it tells no bytes, and each error is a fault.
 /// A writer that holds bytes back is its owner's to flush.
 #[derive(Drop)]
 pub struct StdSink<T> {
@@ -19,15 +22,15 @@ pub struct StdSink<T> {
 impl<T> Model for StdSink<T> {
     ghost use Rattle.iso_io.specs.Standard.{StdSinkState};
 
-    ghost Value = { StdSinkState };
+    ghost Value = { StdSinkState T };
 
-    ghost view = { λ s. record { faults = s.faults; refusals = s.refused } };
+    ghost view = { λ s. record { writer = s.writer; faults = s.faults; refusals = s.refused } };
 }
 
 impl<T> StdSink<T> {
     /// A sink over this writer.
     pub fn new(writer: T) -> Self
-        ensures { result ≡ record { faults = 0; refusals = 0 } }
+        ensures { result ≡ record { writer = writer; faults = 0; refusals = 0 } }
     {
         StdSink {
             writer,
@@ -38,11 +41,7 @@ impl<T> StdSink<T> {
 }
 
 impl<T: Write> Sink for StdSink<T> {
-    ghost written = { λ _. None };
-
-    ghost refusals = { λ s. s.refusals };
-
-    ghost faults = { λ s. s.faults };
+    ghost state = { sink_state };
 
     fn put(&mut self, bytes: &[u8]) -> Result<usize, SinkFault>
         ensures count { IfOk result (λ n. n ≤ length bytes.now) }
@@ -50,16 +49,19 @@ impl<T: Write> Sink for StdSink<T> {
         ensures no_fewer { self.old.refusals ≤ self.new.refusals }
         ensures cause { HasCause self.old.faults self.new.faults result }
         ensures faults { self.new.faults ≡ faults_after self.old.faults result }
+
+        // The writer took as many bytes as were said, where it tells them.
+        ensures writer { WriteAppends (T.contents self.old.writer) (T.contents self.new.writer) result bytes.now }
     {
         match self.writer.write(bytes) {
             Ok(taken) => {
                 if taken == 0 && !bytes.is_empty() {
-                    self.refused = self.refused.saturating_add(1);
+                    raise(&mut self.refused);
                 }
                 Ok(taken)
             }
             Err(_) => {
-                self.faults = self.faults.saturating_add(1);
+                raise(&mut self.faults);
                 Err(SinkFault)
             }
         }

@@ -1,13 +1,16 @@
 // A source over a reader of std.
-ghost use Rattle.std.specs.Prelude.{◌≡◌, ◌≤◌, false, None, length, IfOk};
-ghost use Rattle.iso_io.specs.Count.{HasCause, faults_after};
+ghost use Rattle.std.specs.Prelude.{◌≡◌, ◌≤◌, false, length, IfOk};
+ghost use Rattle.std.specs.Io.KnownBytes.{ReadConsumes};
+ghost use Rattle.fault_count.specs.Count.{HasCause, faults_after};
 ghost use Rattle.iso_io.specs.Source.{ended_after};
+ghost use Rattle.iso_io.specs.Standard.{source_state};
 
 use crate::{Source, SourceFault};
+use fault_count::raise;
 use std::io::Read;
 use std::marker::Model;
 
-/// A source over a reader, such as standard input. It tells no bytes, and each error is a fault.
+/// A source over a reader, such as standard input. As a source it tells no bytes, and each error is a fault.
 #[derive(Drop)]
 pub struct StdSource<T> {
     reader: T,
@@ -18,15 +21,15 @@ pub struct StdSource<T> {
 impl<T> Model for StdSource<T> {
     ghost use Rattle.iso_io.specs.Standard.{StdSourceState};
 
-    ghost Value = { StdSourceState };
+    ghost Value = { StdSourceState T };
 
-    ghost view = { λ s. record { faults = s.faults; is_ended = s.ended } };
+    ghost view = { λ s. record { reader = s.reader; faults = s.faults; is_ended = s.ended } };
 }
 
 impl<T> StdSource<T> {
     /// A source over this reader.
     pub fn new(reader: T) -> Self
-        ensures { result ≡ record { faults = 0; is_ended = false } }
+        ensures { result ≡ record { reader = reader; faults = 0; is_ended = false } }
     {
         StdSource {
             reader,
@@ -37,17 +40,16 @@ impl<T> StdSource<T> {
 }
 
 impl<T: Read> Source for StdSource<T> {
-    ghost rest = { λ _. None };
-
-    ghost is_ended = { λ s. s.is_ended };
-
-    ghost faults = { λ s. s.faults };
+    ghost state = { source_state };
 
     fn take(&mut self, into: &mut [u8]) -> Result<usize, SourceFault>
         ensures count { IfOk result (λ n. n ≤ length into.new) }
         ensures ended { self.new.is_ended ≡ ended_after self.old.is_ended into.new result }
         ensures cause { HasCause self.old.faults self.new.faults result }
         ensures faults { self.new.faults ≡ faults_after self.old.faults result }
+
+        // The bytes are those that the reader had next, where it tells them.
+        ensures reader { ReadConsumes (T.remaining self.old.reader) (T.remaining self.new.reader) result into.new }
     {
         match self.reader.read(into) {
             Ok(given) => {
@@ -57,7 +59,7 @@ impl<T: Read> Source for StdSource<T> {
                 Ok(given)
             }
             Err(_) => {
-                self.faults = self.faults.saturating_add(1);
+                raise(&mut self.faults);
                 Err(SourceFault)
             }
         }

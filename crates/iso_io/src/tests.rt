@@ -24,6 +24,29 @@ impl Write for Broken {
     }
 }
 
+// A writer that takes at most two bytes at a call, and whose second call fails.
+#[derive(Drop)]
+struct Narrow {
+    bytes: Vec<u8>,
+    calls: u64,
+}
+
+impl Write for Narrow {
+    fn write(&mut self, buf: &[u8]) -> io::Result<usize> {
+        self.calls = self.calls.saturating_add(1);
+        if self.calls == 2 {
+            return Err(io::ErrorKind::BrokenPipe.into());
+        }
+        let taken = buf.len().min(2);
+        self.bytes.extend_from_slice(&buf[..taken])?;
+        Ok(taken)
+    }
+
+    fn flush(&mut self) -> io::Result<()> {
+        Ok(())
+    }
+}
+
 #[test]
 fn a_call_that_fails_leaves_the_bytes(rt: HostRuntime) -> Result<(), Fail> {
     let alloc = rt.alloc();
@@ -131,4 +154,17 @@ fn a_writer_is_a_sink(rt: HostRuntime) {
     assert_eq!(rt; bytes.as_slice(), b"abc".as_slice());
     let mut broken = StdSink::new(Broken);
     assert_eq!(rt; broken.put(b"a"), Err(SinkFault));
+}
+
+#[test]
+fn a_writer_that_takes_little_gets_all_in_order(rt: HostRuntime) {
+    let alloc = rt.alloc();
+    let bytes = Vec::new(alloc);
+    let mut narrow = Narrow { bytes, calls: 0 };
+    {
+        let mut sink = StdSink::new(&mut narrow);
+        assert_eq!(rt; put_all(&mut sink, b"abc"), Err(PutError::Failed));
+        assert_eq!(rt; put_all(&mut sink, b"cdefg"), Ok(()));
+    }
+    assert_eq!(rt; narrow.bytes.as_slice(), b"abcdefg".as_slice());
 }

@@ -1,14 +1,39 @@
 -- Which call the plan of a disk's failures names, and what a call counts.
-use Rattle.std.specs.Prelude.{◌≡◌, ◌⊎◌, ◌+◌, ◌-◌, ◌^◌, min, Some}
+use Rattle.std.specs.Prelude.{◌≡◌, ◌⊎◌, ◌-◌, ℕ, Some, None}
 use Rattle.std.specs.Option.{option_map}
+use Rattle.fault_count.specs.Count.{one_more}
+use Rattle.iso_memdisk.specs.declared.failures.CallKind.{CallKind}
+use Rattle.iso_memdisk.specs.declared.failures.CallKind.TheVariants.{Read, Write, Sync, Bind}
 use Rattle.iso_memdisk.specs.declared.failures.Failures.{Failures}
+use Rattle.iso_memdisk.specs.declared.failures.KindPlan.{KindPlan}
 
--- the next call is to fail: none is left to pass, or it is the one that fails alone
-abbrev pub IsNamed : Failures → Type 0
-IsNamed f = (f.passing ≡ Some 0) ⊎ (f.failing ≡ 1)
+-- which of the next calls of this kind is to fail
+abbrev pub failing_of : CallKind → KindPlan → ℕ
+failing_of Read plan = plan.read
+failing_of Write plan = plan.write
+failing_of Sync plan = plan.sync
+failing_of Bind plan = plan.bind
 
--- one call more was made
-pub record IsCounted (old new : Failures) : Type 0 where
-  pub passing : new.passing ≡ option_map (λ n. n - 1) old.passing
-  pub failing : new.failing ≡ old.failing - 1
-  pub calls : new.calls ≡ min (old.calls + 1) (2 ^ 64 - 1)
+-- the plan with this number for that kind
+abbrev pub set_failing : CallKind → ℕ → KindPlan → KindPlan
+set_failing Read number plan = record plan { read = number }
+set_failing Write number plan = record plan { write = number }
+set_failing Sync number plan = record plan { sync = number }
+set_failing Bind number plan = record plan { bind = number }
+
+-- no call is to fail, and none was made
+abbrev pub no_failures : Failures
+no_failures = record { passing = None; failing = 0; kinds = record { read = 0; write = 0; sync = 0; bind = 0 }; calls = 0; faults = 0; starved = 0 }
+
+-- the next call, of this kind, is to fail: none is left to pass, or it is one that fails alone
+abbrev pub IsNamed : CallKind → Failures → Type 0
+IsNamed kind f = (f.passing ≡ Some 0) ⊎ (f.failing ≡ 1) ⊎ (failing_of kind f.kinds ≡ 1)
+
+-- plan and counts after one more call of this kind, but for its fault
+abbrev pub counted : CallKind → Failures → Failures
+counted kind f = record f {
+  passing = option_map (λ n. n - 1) f.passing;
+  failing = f.failing - 1;
+  kinds = set_failing kind (failing_of kind f.kinds - 1) f.kinds;
+  calls = one_more f.calls;
+}

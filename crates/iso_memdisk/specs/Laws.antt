@@ -4,31 +4,35 @@ use Rattle.std.proofs.Common.{ap, subst, sym}
 use Rattle.std.proofs.Math.Nat.{le_refl, le_trans}
 use Rattle.std.proofs.lemmas.List.{take_all}
 use Rattle.std.proofs.lemmas.Option.{same_Some}
+use Rattle.iso_disk.specs.Disk.{IsLawful}
 use Rattle.iso_memdisk.specs.declared.disk.MemDisk.{MemDisk}
 use Rattle.iso_memdisk.specs.declared.record.Call.{Call}
 use Rattle.iso_memdisk.specs.Record.{images_after}
-use Rattle.iso_memdisk.specs.MemDisk.{bytes_of, contents_of, now_of, clock_of, left_of, size_of}
+use Rattle.iso_memdisk.specs.MemDisk.{bytes_of, contents_of, now_of, clock_of, left_of, size_of, state_of}
 use Rattle.iso_memdisk.specs.Replay.{written-image, length-images_after, AllFit-take}
 
 -- after all calls
 all_calls : (d : MemDisk) → take (clock_of d) d.history.items ≡ d.history.items
 all_calls d = take_all (clock_of d) d.history.items (le_refl (clock_of d))
 
-pub reads_as_image : (d : MemDisk) (c : List ℕ) → contents_of d ≡ Some c → now_of d c
+reads_as_image : (d : MemDisk) (c : List ℕ) → contents_of d ≡ Some c → now_of d c
 reads_as_image d c told =
     subst (now_of d) (same_Some (bytes_of d) c told) (written-image d.history.items d.first.items (λ b. b ≡ d.first.items) d.writes_fit refl)
 
-pub counts_now : (d : MemDisk) (t : ℕ) (c : List ℕ) → t ≤ clock_of d → now_of d c → left_of d t c
+counts_now : (d : MemDisk) (t : ℕ) (c : List ℕ) → t ≤ clock_of d → now_of d c → left_of d t c
 counts_now d t c le now =
     (clock_of d, le, le_refl (clock_of d), subst (λ (l : List Call). images_after l d.first.items (λ b. b ≡ d.first.items) c) (sym (all_calls d)) now)
 
-pub only_now : (d : MemDisk) (c : List ℕ) → left_of d (clock_of d) c → now_of d c
+only_now : (d : MemDisk) (c : List ℕ) → left_of d (clock_of d) c → now_of d c
 only_now d c left =
     subst (λ (l : List Call). images_after l d.first.items (λ b. b ≡ d.first.items) c) (take_all left.0 d.history.items left.1) left.3
 
-pub counts_later : (d : MemDisk) (t u : ℕ) (c : List ℕ) → t ≤ u → left_of d u c → left_of d t c
+counts_later : (d : MemDisk) (t u : ℕ) (c : List ℕ) → t ≤ u → left_of d u c → left_of d t c
 counts_later d t u c le left = (left.0, le_trans le left.1, left.2, left.3)
 
-pub image_size : (d : MemDisk) (t : ℕ) (c : List ℕ) → left_of d t c → length c ≡ size_of d
+image_size : (d : MemDisk) (t : ℕ) (c : List ℕ) → left_of d t c → length c ≡ size_of d
 image_size d t c left =
     length-images_after (take left.0 d.history.items) d.first.items (λ b. b ≡ d.first.items) (AllFit-take (size_of d) left.0 d.history.items d.writes_fit) (λ b is. ap length is) c left.3
+
+pub lawful : (d : MemDisk) → IsLawful (state_of d)
+lawful d = record { reads_as_image = reads_as_image d; counts_now = counts_now d; only_now = only_now d; counts_later = counts_later d; image_size = image_size d }

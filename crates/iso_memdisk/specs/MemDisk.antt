@@ -1,10 +1,13 @@
 -- A memory disk as the trait sees it: its first bytes and the record of its calls are replayed for every question.
-use Rattle.std.specs.Prelude.{◌≡◌, ◌⊎◌, ◌≤◌, ℕ, List, [], ◌∷◌, ◌++◌, length, take, Option, Some, Result, IsErr}
+use Rattle.std.specs.Prelude.{◌≡◌, ◌⊎◌, ◌≤◌, ℕ, List, [], ◌∷◌, ◌++◌, length, take, Option, Some, Result, IsErr, OnOk}
+use Rattle.std.specs.Option.{option_map}
 use Rattle.iso_memdisk.specs.declared.disk.MemDisk.{MemDisk}
 use Rattle.iso_memdisk.specs.declared.record.Call.{Call}
+use Rattle.iso_memdisk.specs.declared.failures.CallKind.{CallKind}
 use Rattle.iso_memdisk.specs.declared.failures.Failures.{Failures}
-use Rattle.iso_disk.specs.Disk.{Rose}
-use Rattle.iso_memdisk.specs.Failures.{IsNamed, IsCounted}
+use Rattle.fault_count.specs.Count.{one_more, faults_after}
+use Rattle.iso_disk.specs.Disk.{DiskState}
+use Rattle.iso_memdisk.specs.Failures.{IsNamed, counted}
 use Rattle.iso_memdisk.specs.Record.{written, synced, images_after}
 
 -- what a read gives
@@ -33,6 +36,13 @@ clock_of d = length d.history.items
 abbrev pub left_of : MemDisk → ℕ → List ℕ → Type 0
 left_of d t c = (k : ℕ) × (t ≤ k) × (k ≤ length d.history.items) × images_after (take k d.history.items) d.first.items (λ c. c ≡ d.first.items) c
 
+-- the record of calls begins anew where it is bound, so that moment is 0
+abbrev pub bound_of : MemDisk → Option (ℕ × List ℕ)
+bound_of d = option_map (λ name. (0, name.items)) d.name
+
+abbrev pub state_of : MemDisk → DiskState
+state_of d = record { size = size_of d; contents = contents_of d; now = now_of d; clock = clock_of d; left = left_of d; faults = d.failures.faults; bound = bound_of d }
+
 -- which calls are to fail, and the counts
 abbrev pub failures_of : MemDisk → Failures
 failures_of d = d.failures
@@ -52,11 +62,11 @@ pub record Starts (d : MemDisk) (bytes : List ℕ) : Type 0 where
   pub first : d.first.items ≡ bytes
   pub history : d.history.items ≡ []
 
--- A call fails where the plan of failures names it, and else only for want of memory, which is counted. Where it fails
--- it has done nothing.
-pub record FollowsPlan {T E : Type 0} (old new : MemDisk) (result : Result T E) : Type 0 where
-  pub named : IsNamed old.failures → IsErr result
-  pub unnamed : IsErr result → IsNamed old.failures ⊎ Rose old.failures.starved new.failures.starved
+-- A call fails where the plan of failures names it, and else only for want of memory. It counts itself, its fault and
+-- its want of memory, each by one, and nothing else. Where it fails it has done nothing.
+pub record FollowsPlan {T E : Type 0} (kind : CallKind) (old new : MemDisk) (result : Result T E) : Type 0 where
+  pub named : IsNamed kind old.failures → IsErr result × (new.failures.starved ≡ old.failures.starved)
+  pub failed : IsErr result → IsNamed kind old.failures ⊎ (new.failures.starved ≡ one_more old.failures.starved)
+  pub passed : OnOk result (new.failures.starved ≡ old.failures.starved)
+  pub counted : new.failures ≡ record (counted kind old.failures) { faults = faults_after old.failures.faults result; starved = new.failures.starved }
   pub untouched : IsErr result → IsUntouched old new
-  pub counted : IsCounted old.failures new.failures
-  pub starved : old.failures.starved ≤ new.failures.starved

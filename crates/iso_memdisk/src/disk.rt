@@ -1,25 +1,27 @@
 // The disk itself.
-ghost use Rattle.std.specs.Prelude.{◌≡◌, ◌⊎◌, ◌+◌, ◌^◌, ◌<◌, ◌≤◌, ℕ, List, Some, length, replicate, OnOk, OnErr, IfOk, IfNone, IfSome, IsErr};
+ghost use Rattle.std.specs.Prelude.{◌≡◌, ◌⊎◌, ◌+◌, ◌^◌, ◌<◌, ◌≤◌, ◌↔◌, ℕ, List, Some, None, length, replicate, OnOk, OnErr, IfOk, IfNone, IfSome, IsErr};
 ghost use Rattle.std.specs.List.{slice_range};
-ghost use Rattle.std.specs.Option.{ForSome, option_map};
-ghost use Rattle.iso_disk.specs.Disk.{spliced, TornFrom, TellsTorn, IsSettled, Elapses, HasCause, Rose};
+ghost use Rattle.std.specs.Option.{ForSome};
+ghost use Rattle.iso_disk.specs.Disk.{TornFrom, Splices, TellsTorn, IsSettled, Elapses};
+ghost use Rattle.fault_count.specs.Count.{HasCause};
 ghost use Rattle.iso_memdisk.specs.Record.{written, AllFit};
 ghost use Rattle.iso_memdisk.specs.Held.{held};
 
-use crate::failures::Failures;
+use crate::failures::{CallKind, Failures};
 use crate::record::{Call, crash, lay};
 use iso_disk::{Disk, DiskFault, Image};
 use iso_model::Memory;
 use std::alloc::{AllocError, Global};
 
 /// A disk in memory. It keeps the bytes that it had when it was made or bound, all of them stable, and a record of
-/// the writes and syncs since; so it takes memory for its size, and for what is written.
+/// the writes and syncs since, and the name; so it takes memory for its size, and for what is written.
 #[derive(Drop)]
 pub struct MemDisk {
     alloc: Global,
     first: Vec<u8>,
     history: Vec<Call>,
     copy: Option<Vec<u8>>,
+    name: Option<Vec<u8>>,
     failures: Failures,
     ghost size_fits: { length first.items < 2 ^ 64 },
     ghost writes_fit: { AllFit (length first.items) history.items },
@@ -27,22 +29,24 @@ pub struct MemDisk {
 }
 
 impl MemDisk {
-    ghost use Rattle.std.specs.Prelude.{Vec, IsSome, None};
+    ghost use Rattle.std.specs.Prelude.{Vec, IsSome};
     ghost use Rattle.std.specs.declared.alloc.Global.{Global};
     ghost use Rattle.iso_memdisk.specs.declared.record.Call.TheVariants.{Write, Sync};
-    ghost use Rattle.iso_memdisk.specs.MemDisk.{bytes_of, failures_of, now_of, size_of, synced_of, IsUntouched, Appends, Starts};
+    ghost use Rattle.iso_memdisk.specs.Failures.{no_failures, set_failing};
+    ghost use Rattle.iso_memdisk.specs.MemDisk.{bytes_of, bound_of, failures_of, now_of, size_of, synced_of, IsUntouched, Appends, Starts};
 
     /// A disk of these bytes. It takes no memory.
     pub fn new(alloc: Global, bytes: Vec<u8>) -> MemDisk
         ensures stable { Starts result bytes.items }
-        ensures plan { ((failures_of result).passing ≡ None) × ((failures_of result).failing ≡ 0) }
-        ensures counts { ((failures_of result).calls ≡ 0) × ((failures_of result).starved ≡ 0) × ((failures_of result).faults ≡ 0) }
+        ensures plan { failures_of result ≡ no_failures }
+        ensures unbound { bound_of result ≡ None }
     {
         MemDisk {
             alloc,
             first: bytes,
             history: Vec::new(alloc),
             copy: None,
+            name: None,
             failures: Failures::none(),
         }
     }
@@ -51,6 +55,7 @@ impl MemDisk {
     pub fn fuse(&mut self, calls: u64)
         ensures untouched { IsUntouched self.old self.new }
         ensures plan { failures_of self.new ≡ record (failures_of self.old) { passing = Some calls } }
+        ensures bound { bound_of self.new ≡ bound_of self.old }
     {
         self.failures.passing = Some(calls);
     }
@@ -59,8 +64,18 @@ impl MemDisk {
     pub fn fail(&mut self, number: u64)
         ensures untouched { IsUntouched self.old self.new }
         ensures plan { failures_of self.new ≡ record (failures_of self.old) { failing = number } }
+        ensures bound { bound_of self.new ≡ bound_of self.old }
     {
         self.failures.failing = number;
+    }
+
+    /// Of the calls of this kind from now on, the one with this number fails alone, counted from 1.
+    pub fn fail_kind(&mut self, kind: CallKind, number: u64)
+        ensures untouched { IsUntouched self.old self.new }
+        ensures plan { failures_of self.new ≡ record (failures_of self.old) { kinds = set_failing kind number (failures_of self.old).kinds } }
+        ensures bound { bound_of self.new ≡ bound_of self.old }
+    {
+        self.failures.kinds.set(kind, number);
     }
 
     /// How many calls of the disk were made, those that failed and `bind` among them.
@@ -92,6 +107,7 @@ impl MemDisk {
     fn make_copy(&mut self) -> Result<(), AllocError>
         ensures made { OnOk result (IsSome self.new.copy) }
         ensures untouched { IsUntouched self.old self.new }
+        ensures name { self.new.name ≡ self.old.name }
         ensures failures { self.new.failures ≡ self.old.failures }
     {
         if self.copy.is_none() {
@@ -104,6 +120,7 @@ impl MemDisk {
         requires { at + length bytes.now ≤ size_of self.old }
         ensures ok { OnOk result ((put : Vec ℕ Global) × (put.items ≡ bytes.now) × Appends self.old self.new (Write at put)) }
         ensures err { OnErr result (IsUntouched self.old self.new) }
+        ensures name { self.new.name ≡ self.old.name }
         ensures failures { self.new.failures ≡ self.old.failures }
     {
         self.make_copy()?;
@@ -118,6 +135,7 @@ impl MemDisk {
     fn try_sync(&mut self) -> Result<(), AllocError>
         ensures ok { OnOk result (Appends self.old self.new Sync) }
         ensures err { OnErr result (IsUntouched self.old self.new) }
+        ensures name { self.new.name ≡ self.old.name }
         ensures failures { self.new.failures ≡ self.old.failures }
     {
         self.history.push(Call::Sync)?;
@@ -128,6 +146,7 @@ impl MemDisk {
     fn make_blank(&mut self, size: u64) -> Result<(), AllocError>
         ensures ok { OnOk result (Starts self.new (replicate size 0)) }
         ensures err { OnErr result (IsUntouched self.old self.new) }
+        ensures name { self.new.name ≡ self.old.name }
         ensures failures { self.new.failures ≡ self.old.failures }
     {
         self.first = vec![in self.alloc; 0; size as usize]?;
@@ -139,6 +158,7 @@ impl MemDisk {
     // Makes what it holds stable, and forgets what was before.
     fn settle(&mut self)
         ensures settled { Starts self.new (bytes_of self.old) }
+        ensures name { self.new.name ≡ self.old.name }
         ensures failures { self.new.failures ≡ self.old.failures }
     {
         if let Some(copy) = self.copy.take() {
@@ -161,65 +181,48 @@ impl MemDisk {
 }
 
 impl Disk for MemDisk {
-    ghost use Rattle.iso_memdisk.specs.MemDisk.{size_of, contents_of, now_of, clock_of, left_of, failures_of, FollowsPlan};
-    ghost use Rattle.iso_memdisk.specs.Laws.{reads_as_image, counts_now, only_now, counts_later, image_size};
+    ghost use Rattle.iso_memdisk.specs.Failures.{IsNamed};
+    ghost use Rattle.iso_memdisk.specs.MemDisk.{state_of, failures_of, IsUntouched, FollowsPlan};
+    ghost use Rattle.iso_memdisk.specs.Laws.{lawful};
 
-    ghost size = { size_of };
-
-    ghost contents = { contents_of };
-
-    ghost now = { now_of };
-
-    ghost clock = { clock_of };
-
-    ghost left = { left_of };
-
-    ghost faults = { λ d. (failures_of d).faults };
+    ghost state = { state_of };
 
     ghost size_fits = { λ d. d.size_fits };
 
-    ghost reads_as_image = { reads_as_image };
-
-    ghost counts_now = { counts_now };
-
-    ghost only_now = { only_now };
-
-    ghost counts_later = { counts_later };
-
-    ghost image_size = { image_size };
+    ghost lawful = { lawful };
 
     fn size(&self) -> u64 {
         self.first.len() as u64
     }
 
     fn read(&mut self, at: u64, into: &mut [u8]) -> Result<(), DiskFault>
-        requires { at + length into.old ≤ size_of self.old }
-        ensures bytes { OnOk result (ForSome (contents_of self.old) (λ c. into.new ≡ slice_range c at (at + length into.old))) }
-        ensures size { size_of self.new ≡ size_of self.old }
-        ensures contents { contents_of self.new ≡ contents_of self.old }
-        ensures crash { Elapses clock_of left_of now_of self.old self.new (now_of self.old) }
-        ensures cause { HasCause (failures_of self.old).faults (failures_of self.new).faults result }
-        ensures plan { FollowsPlan self.old self.new result }
+        requires { at + length into.old ≤ (state_of self.old).size }
+        ensures bytes { OnOk result (ForSome (state_of self.old).contents (λ c. into.new ≡ slice_range c at (at + length into.old))) }
+        ensures contents { (state_of self.new).contents ≡ (state_of self.old).contents }
+        ensures crash { Elapses (state_of self.old) (state_of self.new) (state_of self.old).now }
+        ensures cause { HasCause (state_of self.old).faults (state_of self.new).faults result }
+        ensures named { IsErr result ↔ IsNamed CallKind.Read (failures_of self.old) }
+        ensures untouched { IsUntouched self.old self.new }
+        ensures plan { FollowsPlan CallKind.Read self.old self.new result }
     {
-        self.failures.count_call()?;
+        self.failures.count_call(CallKind::Read)?;
         let from = at as usize;
         into.copy_from_slice(&self.held()[from..from + into.len()]);
         Ok(())
     }
 
     fn write(&mut self, at: u64, bytes: &[u8]) -> Result<(), DiskFault>
-        requires { at + length bytes.now ≤ size_of self.old }
-        ensures written { OnOk result (contents_of self.new ≡ option_map (λ c. spliced c at bytes.now) (contents_of self.old)) }
-        ensures failed { OnErr result (TellsTorn at (length bytes.now) (contents_of self.old) (contents_of self.new)) }
-        ensures size { size_of self.new ≡ size_of self.old }
-        ensures crash { Elapses clock_of left_of now_of self.old self.new (TornFrom at (length bytes.now) (now_of self.old)) }
-        ensures cause { HasCause (failures_of self.old).faults (failures_of self.new).faults result }
-        ensures plan { FollowsPlan self.old self.new result }
+        requires { at + length bytes.now ≤ (state_of self.old).size }
+        ensures written { OnOk result (Splices at bytes.now (state_of self.old) (state_of self.new)) }
+        ensures failed { OnErr result (TellsTorn at (length bytes.now) (state_of self.old) (state_of self.new)) }
+        ensures crash { Elapses (state_of self.old) (state_of self.new) (TornFrom at (length bytes.now) (state_of self.old).now) }
+        ensures cause { HasCause (state_of self.old).faults (state_of self.new).faults result }
+        ensures plan { FollowsPlan CallKind.Write self.old self.new result }
 
         // Any bytes in the range may be left, not only the written ones.
-        ensures any_bytes { OnOk result ((c : List ℕ) → TornFrom at (length bytes.now) (now_of self.old) c → now_of self.new c) }
+        ensures any_bytes { OnOk result ((c : List ℕ) → TornFrom at (length bytes.now) (state_of self.old).now c → (state_of self.new).now c) }
     {
-        self.failures.count_call()?;
+        self.failures.count_call(CallKind::Write)?;
         match self.try_write(at as usize, bytes) {
             Ok(()) => Ok(()),
             Err(_) => Err(self.failures.starve()),
@@ -227,14 +230,13 @@ impl Disk for MemDisk {
     }
 
     fn sync(&mut self) -> Result<(), DiskFault>
-        ensures settled { OnOk result (IsSettled (contents_of self.new) (now_of self.new)) }
-        ensures size { size_of self.new ≡ size_of self.old }
-        ensures contents { contents_of self.new ≡ contents_of self.old }
-        ensures crash { Elapses clock_of left_of now_of self.old self.new (now_of self.old) }
-        ensures cause { HasCause (failures_of self.old).faults (failures_of self.new).faults result }
-        ensures plan { FollowsPlan self.old self.new result }
+        ensures settled { OnOk result (IsSettled (state_of self.new)) }
+        ensures contents { (state_of self.new).contents ≡ (state_of self.old).contents }
+        ensures crash { Elapses (state_of self.old) (state_of self.new) (state_of self.old).now }
+        ensures cause { HasCause (state_of self.old).faults (state_of self.new).faults result }
+        ensures plan { FollowsPlan CallKind.Sync self.old self.new result }
     {
-        self.failures.count_call()?;
+        self.failures.count_call(CallKind::Sync)?;
         match self.try_sync() {
             Ok(()) => Ok(()),
             Err(_) => Err(self.failures.starve()),
@@ -243,25 +245,36 @@ impl Disk for MemDisk {
 }
 
 impl Image for MemDisk {
-    ghost use Rattle.iso_memdisk.specs.MemDisk.{size_of, contents_of, now_of, failures_of, FollowsPlan};
+    ghost use Rattle.iso_memdisk.specs.MemDisk.{state_of, FollowsPlan};
 
-    fn bind(&mut self, _name: &str, want: Option<u64>) -> Result<(), DiskFault>
-        ensures size { OnOk result (IfSome want (λ w. size_of self.new ≡ w)) }
-        ensures blank { OnOk result (IfSome want (λ w. ForSome (contents_of self.new) (λ c. c ≡ replicate w 0))) }
-        ensures blank_after_crash { OnOk result (IfSome want (λ w. (c : List ℕ) → now_of self.new c → c ≡ replicate w 0)) }
-        ensures existing { OnOk result (IfNone want (ForSome (contents_of self.old) (λ c. contents_of self.new ≡ Some c))) }
-        ensures settled { OnOk result (IfNone want (IsSettled (contents_of self.new) (now_of self.new))) }
-        ensures cause { HasCause (failures_of self.old).faults (failures_of self.new).faults result }
-        ensures plan { FollowsPlan self.old self.new result }
+    fn bind(&mut self, name: &str, want: Option<u64>) -> Result<(), DiskFault>
+        ensures size { OnOk result (IfSome want (λ w. (state_of self.new).size ≡ w)) }
+        ensures blank { OnOk result (IfSome want (λ w. ForSome (state_of self.new).contents (λ c. c ≡ replicate w 0))) }
+        ensures blank_after_crash { OnOk result (IfSome want (λ w. (c : List ℕ) → (state_of self.new).now c → c ≡ replicate w 0)) }
+        ensures existing { OnOk result (IfNone want (ForSome (state_of self.old).contents (λ c. (state_of self.new).contents ≡ Some c))) }
+        ensures settled { OnOk result (IfNone want (IsSettled (state_of self.new))) }
+        ensures cause { HasCause (state_of self.old).faults (state_of self.new).faults result }
+        ensures bound { OnOk result ((state_of self.new).bound ≡ Some ((state_of self.new).clock, name.now)) }
+        ensures unbound { OnErr result ((state_of self.new).bound ≡ None) }
+        ensures plan { FollowsPlan CallKind.Bind self.old self.new result }
     {
-        self.failures.count_call()?;
+        self.name = None;
+        self.failures.count_call(CallKind::Bind)?;
+        let put = match name.as_bytes().to_vec(self.alloc) {
+            Ok(put) => put,
+            Err(_) => return Err(self.failures.starve()),
+        };
         match want {
             Some(size) => match self.make_blank(size) {
-                Ok(()) => Ok(()),
+                Ok(()) => {
+                    self.name = Some(put);
+                    Ok(())
+                }
                 Err(_) => Err(self.failures.starve()),
             },
             None => {
                 self.settle();
+                self.name = Some(put);
                 Ok(())
             }
         }

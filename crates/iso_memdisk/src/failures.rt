@@ -1,9 +1,55 @@
 // Which calls are to fail, and how often calls were made, failed, and found no memory.
-ghost use Rattle.std.specs.Prelude.{◌≡◌, ◌+◌, ◌-◌, ◌^◌, ◌≤◌, ◌↔◌, min, None, IsErr, IsTrue};
-ghost use Rattle.std.specs.Option.{option_map};
-ghost use Rattle.iso_disk.specs.Disk.{Rose, HasCause};
+ghost use Rattle.std.specs.Prelude.{◌≡◌, ◌≤◌, ◌↔◌, None, IsErr, IsTrue};
+ghost use Rattle.fault_count.specs.Count.{one_more, faults_after, Rose, HasCause};
 
+use fault_count::raise;
 use iso_disk::DiskFault;
+
+/// A kind of call of a disk.
+#[derive(Clone, Copy, Debug, PartialEq, Eq)]
+pub enum CallKind {
+    Read,
+    Write,
+    Sync,
+    Bind,
+}
+
+/// For each kind, which of the next calls of that kind fails alone, from 1; at 0 none does.
+#[derive(Debug, Drop)]
+pub struct KindPlan {
+    pub read: u64,
+    pub write: u64,
+    pub sync: u64,
+    pub bind: u64,
+}
+
+impl KindPlan {
+    ghost use Rattle.iso_memdisk.specs.Failures.{failing_of, set_failing};
+
+    /// Which of the next calls of this kind is to fail.
+    pub fn failing(&self, kind: CallKind) -> u64
+        ensures { result ≡ failing_of kind self.now }
+    {
+        match kind {
+            CallKind::Read => self.read,
+            CallKind::Write => self.write,
+            CallKind::Sync => self.sync,
+            CallKind::Bind => self.bind,
+        }
+    }
+
+    /// Of the next calls of this kind the one with this number is to fail.
+    pub fn set(&mut self, kind: CallKind, number: u64)
+        ensures { self.new ≡ set_failing kind number self.old }
+    {
+        match kind {
+            CallKind::Read => self.read = number,
+            CallKind::Write => self.write = number,
+            CallKind::Sync => self.sync = number,
+            CallKind::Bind => self.bind = number,
+        }
+    }
+}
 
 /// The plan of a disk's failures, and its counts. A count stands still at its last value.
 #[derive(Debug, Drop)]
@@ -12,22 +58,28 @@ pub struct Failures {
     pub passing: Option<u64>,
     /// Which of the next calls fails alone, from 1; at 0 none does.
     pub failing: u64,
+    pub kinds: KindPlan,
     pub calls: u64,
     pub faults: u64,
     pub starved: u64,
 }
 
 impl Failures {
-    ghost use Rattle.iso_memdisk.specs.Failures.{IsNamed, IsCounted};
+    ghost use Rattle.iso_memdisk.specs.Failures.{IsNamed, counted, no_failures};
 
-    /// No call is to fail.
+    /// No call is to fail, and none was made.
     pub fn none() -> Self
-        ensures plan { (result.passing ≡ None) × (result.failing ≡ 0) }
-        ensures counts { (result.calls ≡ 0) × (result.faults ≡ 0) × (result.starved ≡ 0) }
+        ensures { result ≡ no_failures }
     {
         Failures {
             passing: None,
             failing: 0,
+            kinds: KindPlan {
+                read: 0,
+                write: 0,
+                sync: 0,
+                bind: 0,
+            },
             calls: 0,
             faults: 0,
             starved: 0,
@@ -35,18 +87,19 @@ impl Failures {
     }
 
     /// Counts a call, which fails exactly where the plan names it.
-    pub fn count_call(&mut self) -> Result<(), DiskFault>
-        ensures named { IsErr result ↔ IsNamed self.old }
-        ensures counted { IsCounted self.old self.new }
+    pub fn count_call(&mut self, kind: CallKind) -> Result<(), DiskFault>
+        ensures named { IsErr result ↔ IsNamed kind self.old }
+        ensures counted { self.new ≡ record (counted kind self.old) { faults = faults_after self.old.faults result } }
         ensures cause { HasCause self.old.faults self.new.faults result }
-        ensures starved { self.new.starved ≡ self.old.starved }
     {
-        let named = self.is_named();
-        self.calls = self.calls.saturating_add(1);
+        let named = self.is_named(kind);
+        raise(&mut self.calls);
         self.passing = self.passing.map(|left| left.saturating_sub(1));
         self.failing = self.failing.saturating_sub(1);
+        self.kinds
+            .set(kind, self.kinds.failing(kind).saturating_sub(1));
         if named {
-            self.faults = self.faults.saturating_add(1);
+            raise(&mut self.faults);
             return Err(DiskFault);
         }
         Ok(())
@@ -54,19 +107,18 @@ impl Failures {
 
     /// Counts want of memory, which is a fault too.
     pub fn starve(&mut self) -> DiskFault
-        ensures starved { Rose self.old.starved self.new.starved }
-        ensures faults { Rose self.old.faults self.new.faults }
-        ensures later { (self.old.starved ≤ self.new.starved) × (self.old.faults ≤ self.new.faults) }
-        ensures rest { self.new ≡ record self.old { starved = self.new.starved; faults = self.new.faults } }
+        ensures later { self.old.faults ≤ self.new.faults }
+        ensures rose { Rose self.old.faults self.new.faults }
+        ensures counted { self.new ≡ record self.old { starved = one_more self.old.starved; faults = one_more self.old.faults } }
     {
-        self.starved = self.starved.saturating_add(1);
-        self.faults = self.faults.saturating_add(1);
+        raise(&mut self.starved);
+        raise(&mut self.faults);
         DiskFault
     }
 
-    fn is_named(&self) -> bool
-        ensures { IsTrue result ↔ IsNamed self.now }
+    fn is_named(&self, kind: CallKind) -> bool
+        ensures { IsTrue result ↔ IsNamed kind self.now }
     {
-        self.passing == Some(0) || self.failing == 1
+        self.passing == Some(0) || self.failing == 1 || self.kinds.failing(kind) == 1
     }
 }

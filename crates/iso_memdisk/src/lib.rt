@@ -7,6 +7,7 @@ mod failures;
 mod record;
 
 pub use disk::MemDisk;
+pub use failures::CallKind;
 
 #[cfg(test)]
 mod tests;

@@ -39,6 +39,31 @@ fn a_torn_write(rt: HostRuntime) -> Result<(), Fail> {
 }
 
 #[test]
+fn drawn_bytes_of_writes_that_overlap(rt: HostRuntime) -> Result<(), Fail> {
+    let alloc = rt.alloc();
+    let mut disk = MemDisk::new(alloc, [1, 2, 3, 4, 5].to_vec(alloc)?);
+    disk.write(1, &[8, 9])?;
+    disk.write(2, &[6, 7])?;
+    // Seed 2 draws 217, 85, 16, 176, and seed 3 draws 6, 247, 135, 148; the later write lies over the earlier one.
+    assert_eq!(rt;
+        disk.crash(alloc, 2)?.as_slice(),
+        [1, 217, 16, 176, 5].as_slice()
+    );
+    assert_eq!(rt;
+        disk.crash(alloc, 3)?.as_slice(),
+        [1, 6, 135, 148, 5].as_slice()
+    );
+    // A write that is stable takes no draw.
+    disk.sync()?;
+    disk.write(4, &[0])?;
+    assert_eq!(rt;
+        disk.crash(alloc, 2)?.as_slice(),
+        [1, 8, 6, 7, 217].as_slice()
+    );
+    Ok(())
+}
+
+#[test]
 fn a_failed_write_and_a_failed_sync(rt: HostRuntime) -> Result<(), Fail> {
     let alloc = rt.alloc();
     let mut disk = MemDisk::new(alloc, [1, 2, 3, 4].to_vec(alloc)?);
@@ -73,6 +98,40 @@ fn the_nth_call_fails_alone(rt: HostRuntime) -> Result<(), Fail> {
     disk.fail(0);
     disk.sync()?;
     disk.sync()?;
+    Ok(())
+}
+
+#[test]
+fn the_nth_call_of_a_kind_fails_alone(rt: HostRuntime) -> Result<(), Fail> {
+    let alloc = rt.alloc();
+    let mut disk = MemDisk::new(alloc, [0; 2].to_vec(alloc)?);
+    disk.fail_kind(CallKind::Sync, 2);
+    disk.fail_kind(CallKind::Read, 1);
+    disk.sync()?;
+    disk.write(0, &[1])?;
+    assert_eq!(rt; disk.read(0, &mut [0; 2]), Err(DiskFault));
+    disk.read(0, &mut [0; 2])?;
+    assert_eq!(rt; disk.sync(), Err(DiskFault));
+    disk.sync()?;
+    disk.fail_kind(CallKind::Bind, 2);
+    disk.fail_kind(CallKind::Write, 1);
+    assert_eq!(rt; disk.write(0, &[2]), Err(DiskFault));
+    disk.bind("t.img", None)?;
+    assert_eq!(rt; disk.bind("t.img", None), Err(DiskFault));
+    disk.bind("t.img", None)?;
+    assert_eq!(rt; disk.crash(alloc, 1)?.as_slice(), [1, 0].as_slice());
+    assert_eq!(rt; disk.calls(), 10);
+    Ok(())
+}
+
+#[test]
+fn a_fuse_counts_a_bind(rt: HostRuntime) -> Result<(), Fail> {
+    let alloc = rt.alloc();
+    let mut disk = MemDisk::new(alloc, [0; 2].to_vec(alloc)?);
+    disk.fuse(1);
+    disk.bind("t.img", None)?;
+    assert_eq!(rt; disk.sync(), Err(DiskFault));
+    assert_eq!(rt; disk.bind("t.img", None), Err(DiskFault));
     Ok(())
 }
 

@@ -9,10 +9,10 @@ both (Err e) p q then = tt
 
 pub returns-clause-body : goal.returns-clause-body
 returns-clause-body g c =
+    let state = g.D.Disk.state in
     let d = c.args.disk.now in
-    let laws = g.met.D.Disk in
     both c.put_down.result c.put_down.ensures.written c.put_down.ensures.settled (λ written settled image now.
-    let from = settled_write (c.args.gate + 1) c.args.body.now written settled image now in
-    let size = length-contents laws.reads_as_image laws.counts_now laws.image_size d from.0 from.1 in
+    let from = settled_write (state d) (state c.put_down.new.disk) (c.args.gate + 1) c.args.body.now written settled image now in
+    let size = length-contents (g.met.D.Disk.lawful d) from.0 from.1 in
     let len : c.args.gate + 1 + length c.args.body.now - (c.args.gate + 1) ≡ length c.args.body.now = omega arith in
     (λ i. take (len i) (drop (c.args.gate + 1) (from.2 i))) ∙ take-drop-spliced from.0 (c.args.gate + 1) c.args.body.now (omega (arith, size)))

@@ -5,10 +5,10 @@ use Rattle.commit_gate.proofs.gate.put_down.Goals as goal
 
 pub returns-clause-failed : goal.returns-clause-failed
 returns-clause-failed g c =
+    let state = g.D.Disk.state in
     let d = c.args.disk.now in
-    let laws = g.met.D.Disk in
-    let fits : (b : List ℕ) → g.D.Disk.contents d ≡ Some b → c.args.at + length c.args.bytes.now ≤ length b = λ b told.
-    let size = length-contents laws.reads_as_image laws.counts_now laws.image_size d b told in
+    let fits : (b : List ℕ) → (state d).contents ≡ Some b → c.args.at + length c.args.bytes.now ≤ length b = λ b told.
+    let size = length-contents (g.met.D.Disk.lawful d) b told in
     omega (arith, size) in
-    let torn = tells_spliced c.args.at c.args.bytes.now (c.sync.ensures.contents ∙ c.in_ok-write.ensures.written) fits in
-    elim c.sync.result as (λ r. OnErr r (TellsTorn c.args.at (length c.args.bytes.now) (g.D.Disk.contents d) (g.D.Disk.contents c.sync.new.self))) [ Ok x ↦ tt | Err e ↦ torn ]
+    let torn = tells_spliced (state d) (state c.sync.new.self) c.args.at c.args.bytes.now (c.sync.ensures.contents ∙ c.in_ok-write.ensures.written) fits in
+    elim c.sync.result as (λ r. OnErr r (TellsTorn c.args.at (length c.args.bytes.now) (state d) (state c.sync.new.self))) [ Ok x ↦ tt | Err e ↦ torn ]

@@ -1,14 +1,13 @@
-use Rattle.std.proofs.Common.{◌≡◌, ◌-◌, ◌≤◌, length, take}
-use Rattle.std.specs.Io.KnownBytes.{append_known}
+use Rattle.std.proofs.Common.{◌-◌, ◌≤◌, length, take}
+use Rattle.iso_io.specs.Sink.{CountsStand, Wrote}
 use Rattle.iso_io.proofs.sink.put_all.Given as goal
 
--- the sink has taken the front of the piece up to `at`
+-- the sink has taken the front of the piece up to `at`, and no count rose
 abbrev pub invariant-loop-at : goal.invariant-loop-at
 invariant-loop-at g l = record {
   in_piece : l.at ≤ length l.bytes;
-  told : g.K.Sink.written l.sink ≡ append_known (g.K.Sink.written l.fn.sink) (take l.at l.bytes);
-  faults : g.K.Sink.faults l.fn.sink ≤ g.K.Sink.faults l.sink;
-  refusals : g.K.Sink.refusals l.fn.sink ≤ g.K.Sink.refusals l.sink;
+  wrote : Wrote (g.K.Sink.state l.fn.sink) (g.K.Sink.state l.sink) (take l.at l.bytes);
+  counts : CountsStand (g.K.Sink.state l.fn.sink) (g.K.Sink.state l.sink);
 }
 
 abbrev pub decreases-loop-at : goal.decreases-loop-at

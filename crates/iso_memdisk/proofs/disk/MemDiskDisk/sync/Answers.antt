@@ -15,11 +15,11 @@ pub returns-in-Ok-clause-crash : goal.returns-in-Ok-clause-crash
 returns-in-Ok-clause-crash c =
     let done = c.in-Ok.ensures.ok in
     let more : Appends c.args.self.now c.try_sync.new.self Sync = record { first = done.first; history = done.history } in
-    elapses_sync more
+    elapses_sync more c.try_sync.ensures.name
 
 pub returns-in-Err-clause-cause : goal.returns-in-Err-clause-cause
 returns-in-Err-clause-cause c =
     let kept = ap (λ (f : Failures). f.faults) c.try_sync.ensures.failures in
-    let rose = c.starve.ensures.faults in
-    let later = c.starve.ensures.later.1 in
-    record { later = omega arith; failed = λ _. omega arith }
+    let rose = c.starve.ensures.rose in
+    let later = c.starve.ensures.later in
+    record { later = omega arith; failed = λ _. omega arith; passed = tt }
