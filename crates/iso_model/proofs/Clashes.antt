@@ -10,7 +10,7 @@ use Rattle.iso_model.specs.declared.access.Kind.TheVariants.{Write}
 use Rattle.iso_model.specs.declared.access.Mode.{Mode}
 use Rattle.iso_model.specs.Effect.{has_write, or_else, touches}
 use Rattle.iso_model.specs.History.{History}
-use Rattle.iso_model.specs.Conflict.{clash, clash_from, clashes, first_from, first_byte, guarded, IsClash, NotAfter}
+use Rattle.iso_model.specs.Conflict.{clash, clash_from, clashes, first_after, first_from, first_byte, guarded, IsClash, NotAfter}
 
 -- what the first passing number of n from p on is
 abbrev IsFirst : (ℕ → Bool) → (p n : ℕ) → Option ℕ → Type 0
@@ -153,32 +153,34 @@ slice_get-drop (suc n) i [] = refl
 slice_get-drop (suc n) i (x ∷ xs) = let e : suc n + i ≡ suc (n + i) = omega arith in rw e (slice_get-drop n i xs)
 
 -- a clash of a transaction, among the commits after its begin
-clash_at : (g : Geometry) (H : History) (mode : Mode) (begin : ℕ) (accesses : List Access) (d : Clash) → H.first ≤ begin + 1
-    → IsClash g H mode begin accesses d → IsAt g mode accesses (begin + 1) (drop (begin + 1 - H.first) H.commits) d
-clash_at g H mode begin accesses d known is =
+clash_at : (g : Geometry) (H : History) (mode : Mode) (begin : ℕ) (accesses : List Access) (d : Clash)
+    → IsClash g H mode begin accesses d → IsAt g mode accesses (first_after H begin) (drop (begin + 1 - H.first) H.commits) d
+clash_at g H mode begin accesses d is =
     let after : begin < d.commit = is.after in
-    let e : begin + 1 - H.first + (d.commit - (begin + 1)) ≡ d.commit - H.first = omega arith in
+    let since : H.first ≤ d.commit = is.since in
+    let e : begin + 1 - H.first + (d.commit - first_after H begin) ≡ d.commit - H.first = omega arith in
     record {
       from = omega arith;
       block = is.block;
       byte = is.byte;
       commit = is.commit;
-      is = slice_get-drop (begin + 1 - H.first) (d.commit - (begin + 1)) H.commits ∙ rw e is.is;
+      is = slice_get-drop (begin + 1 - H.first) (d.commit - first_after H begin) H.commits ∙ rw e is.is;
       meets = and_from _ _ is.written is.guarded;
     }
 
-clash_from_at : (g : Geometry) (H : History) (mode : Mode) (begin : ℕ) (accesses : List Access) (d : Clash) → H.first ≤ begin + 1
-    → IsAt g mode accesses (begin + 1) (drop (begin + 1 - H.first) H.commits) d → IsClash g H mode begin accesses d
-clash_from_at g H mode begin accesses d known at =
-    let from : begin + 1 ≤ d.commit = at.from in
-    let e : begin + 1 - H.first + (d.commit - (begin + 1)) ≡ d.commit - H.first = omega arith in
+clash_from_at : (g : Geometry) (H : History) (mode : Mode) (begin : ℕ) (accesses : List Access) (d : Clash)
+    → IsAt g mode accesses (first_after H begin) (drop (begin + 1 - H.first) H.commits) d → IsClash g H mode begin accesses d
+clash_from_at g H mode begin accesses d at =
+    let from : first_after H begin ≤ d.commit = at.from in
+    let e : begin + 1 - H.first + (d.commit - first_after H begin) ≡ d.commit - H.first = omega arith in
     let both = and_parts (touches Write at.commit.accesses d.block d.at) (touches (guarded mode) accesses d.block d.at) at.meets in
     record {
       after = omega arith;
+      since = omega arith;
       block = at.block;
       byte = at.byte;
       commit = at.commit;
-      is = rw e at (sym (slice_get-drop (begin + 1 - H.first) (d.commit - (begin + 1)) H.commits) ∙ at.is);
+      is = rw e at (sym (slice_get-drop (begin + 1 - H.first) (d.commit - first_after H begin) H.commits) ∙ at.is);
       written = both.0;
       guarded = both.1;
     }
@@ -188,19 +190,19 @@ abbrev pub IsAnswer : (g : Geometry) → (H : History) → Mode → (begin : ℕ
 IsAnswer g H mode begin accesses None = (d : Clash) → IsClash g H mode begin accesses d → ⊥
 IsAnswer g H mode begin accesses (Some c) = IsClash g H mode begin accesses c × ((d : Clash) → IsClash g H mode begin accesses d → NotAfter c d)
 
-answer_from_least : (g : Geometry) (H : History) (mode : Mode) (begin : ℕ) (accesses : List Access) (o : Option Clash) → H.first ≤ begin + 1
-    → IsLeast g mode accesses (begin + 1) (drop (begin + 1 - H.first) H.commits) o → IsAnswer g H mode begin accesses o
-answer_from_least g H mode begin accesses None known least = λ d is. least d (clash_at g H mode begin accesses d known is)
-answer_from_least g H mode begin accesses (Some c) known least =
-    (clash_from_at g H mode begin accesses c known least.0, λ d is. least.1 d (clash_at g H mode begin accesses d known is))
+answer_from_least : (g : Geometry) (H : History) (mode : Mode) (begin : ℕ) (accesses : List Access) (o : Option Clash)
+    → IsLeast g mode accesses (first_after H begin) (drop (begin + 1 - H.first) H.commits) o → IsAnswer g H mode begin accesses o
+answer_from_least g H mode begin accesses None least = λ d is. least d (clash_at g H mode begin accesses d is)
+answer_from_least g H mode begin accesses (Some c) least =
+    (clash_from_at g H mode begin accesses c least.0, λ d is. least.1 d (clash_at g H mode begin accesses d is))
 
 -- the clash of a transaction with a write
-pub clash_answers : (g : Geometry) (H : History) (mode : Mode) (begin : ℕ) (accesses : List Access) → H.first ≤ begin + 1
+pub clash_answers : (g : Geometry) (H : History) (mode : Mode) (begin : ℕ) (accesses : List Access)
     → has_write accesses ≡ true → IsAnswer g H mode begin accesses (clash g H mode begin accesses)
 unfolding clash
-clash_answers g H mode begin accesses known some =
-    rw some (answer_from_least g H mode begin accesses (clash_from g mode accesses (begin + 1) (drop (begin + 1 - H.first) H.commits)) known
-    (least_is g mode accesses (begin + 1) (drop (begin + 1 - H.first) H.commits)))
+clash_answers g H mode begin accesses some =
+    rw some (answer_from_least g H mode begin accesses (clash_from g mode accesses (first_after H begin) (drop (begin + 1 - H.first) H.commits))
+    (least_is g mode accesses (first_after H begin) (drop (begin + 1 - H.first) H.commits)))
 
 -- one without a write has none
 pub no_clash : (g : Geometry) (H : History) (mode : Mode) (begin : ℕ) (accesses : List Access) → has_write accesses ≡ false → clash g H mode begin accesses ≡ None
@@ -212,14 +214,14 @@ some_clash_writes : (g : Geometry) (H : History) (mode : Mode) (begin : ℕ) (ac
 some_clash_writes g H mode begin accesses c true e some = refl
 some_clash_writes g H mode begin accesses c false e some = cc (no_clash g H mode begin accesses e)
 
-pub some_clash : (g : Geometry) (H : History) (mode : Mode) (begin : ℕ) (accesses : List Access) (c : Clash) → H.first ≤ begin + 1
+pub some_clash : (g : Geometry) (H : History) (mode : Mode) (begin : ℕ) (accesses : List Access) (c : Clash)
     → clash g H mode begin accesses ≡ Some c → IsAnswer g H mode begin accesses (Some c)
-some_clash g H mode begin accesses c known some =
-    rw some at (clash_answers g H mode begin accesses known (some_clash_writes g H mode begin accesses c (has_write accesses) refl some))
+some_clash g H mode begin accesses c some =
+    rw some at (clash_answers g H mode begin accesses (some_clash_writes g H mode begin accesses c (has_write accesses) refl some))
 
-pub none_from_clash : (g : Geometry) (H : History) (mode : Mode) (begin : ℕ) (accesses : List Access) → H.first ≤ begin + 1
+pub none_from_clash : (g : Geometry) (H : History) (mode : Mode) (begin : ℕ) (accesses : List Access)
     → has_write accesses ≡ true → clash g H mode begin accesses ≡ None → IsAnswer g H mode begin accesses None
-none_from_clash g H mode begin accesses known some none = rw none at (clash_answers g H mode begin accesses known some)
+none_from_clash g H mode begin accesses some none = rw none at (clash_answers g H mode begin accesses some)
 
 -- two clashes that are each not after the other are one
 same_clash : (c d : Clash) → NotAfter c d → NotAfter d c → c ≡ d
@@ -244,8 +246,8 @@ only_answer g H mode begin accesses c None answer is least = absurd (answer c is
 only_answer g H mode begin accesses c (Some e) answer is least = ap Some (same_clash e c (answer.1 c is) (least e answer.0))
 
 -- the least clash is the answer
-pub least_is_clash : (g : Geometry) (H : History) (mode : Mode) (begin : ℕ) (accesses : List Access) (c : Clash) → H.first ≤ begin + 1
+pub least_is_clash : (g : Geometry) (H : History) (mode : Mode) (begin : ℕ) (accesses : List Access) (c : Clash)
     → has_write accesses ≡ true → IsClash g H mode begin accesses c → ((d : Clash) → IsClash g H mode begin accesses d → NotAfter c d)
     → clash g H mode begin accesses ≡ Some c
-least_is_clash g H mode begin accesses c known some is least =
-    only_answer g H mode begin accesses c (clash g H mode begin accesses) (clash_answers g H mode begin accesses known some) is least
+least_is_clash g H mode begin accesses c some is least =
+    only_answer g H mode begin accesses c (clash g H mode begin accesses) (clash_answers g H mode begin accesses some) is least

@@ -1,12 +1,21 @@
 -- An empty history is one of its image, and so is one with a commit more.
-use Rattle.std.proofs.Common.{◌≡◌, ap, ◌∙◌, ◌+◌, ◌≤◌, List, [], ◌∷◌, ◌++◌, length, arith, replicate}
+use Rattle.std.proofs.Common.{ap, ◌∙◌, inl, inr, ℕ, List, [], ◌∷◌, ◌++◌, length, arith, replicate}
 use Rattle.std.specs.List.{AllByRecursion}
-use Rattle.std.proofs.lemmas.List.{length-replicate, get_or-replicate, length_push}
+use Rattle.std.proofs.lemmas.Bool.{cases_lt}
+use Rattle.std.proofs.lemmas.List.{length-replicate, get_or-replicate, get_or_past}
 use Rattle.iso_model.specs.declared.access.Commit.{Commit}
 use Rattle.iso_model.specs.declared.access.Geometry.{Geometry}
-use Rattle.iso_model.specs.History.{History, last}
+use Rattle.iso_model.specs.History.{History}
 use Rattle.iso_model.specs.World.{empty_history}
-use Rattle.iso_model.specs.Premises.{AreAccesses, IsHistory, HaveBegun, appended}
+use Rattle.iso_model.specs.Premises.{block_at, AreAccesses, AreBytes, IsHistory, appended}
+use Rattle.iso_model.proofs.ByteLists.{replicate_bytes}
+
+-- a block of zeros has bytes, and so has none
+zero_bytes : (n size b : ℕ) → AreBytes (block_at (replicate n (replicate {A = ℕ} size 0)) b)
+zero_bytes n size b = elim (cases_lt b n) [
+  | inl below ↦ rw (get_or-replicate n b (replicate {A = ℕ} size 0) [] below) (replicate_bytes size 0 (omega arith))
+  | inr past ↦ rw (get_or_past (replicate n (replicate {A = ℕ} size 0)) b [] (omega (arith, length-replicate n (replicate {A = ℕ} size 0)))) (λ i. omega arith)
+]
 
 pub empty_is : (g : Geometry) → IsHistory g (empty_history g)
 empty_is g = record {
@@ -14,6 +23,7 @@ empty_is g = record {
   base = record {
     blocks = length-replicate g.blocks (replicate g.block 0);
     bytes = λ b below. ap length (get_or-replicate g.blocks b (replicate g.block 0) [] below) ∙ length-replicate g.block 0;
+    values = λ b. zero_bytes g.blocks g.block b;
   };
   commits = tt;
 }
@@ -26,15 +36,13 @@ pub all_weaker : {X : Type 0} (P Q : X → Type 0) → ((x : X) → P x → Q x)
 all_weaker P Q weaker [] all = tt
 all_weaker P Q weaker (x ∷ xs) all = (weaker x all.0, all_weaker P Q weaker xs all.1)
 
+pub both_of : {X : Type 0} (P Q R : X → Type 0) → ((x : X) → P x → Q x → R x) → (xs : List X) → AllByRecursion P xs → AllByRecursion Q xs → AllByRecursion R xs
+both_of P Q R both [] first second = tt
+both_of P Q R both (x ∷ xs) first second = (both x first.0 second.0, both_of P Q R both xs first.1 second.1)
+
 pub appended_is : (g : Geometry) (H : History) (c : Commit) → IsHistory g H → AreAccesses g c.accesses → IsHistory g (appended H c)
 appended_is g H c is all = record {
   first = is.first;
   base = is.base;
   commits = all_push (λ d. AreAccesses g d.accesses) H.commits c is.commits all;
 }
-
-pub appended_begun : (H : History) (c : Commit) → HaveBegun H → c.begin ≤ last H → HaveBegun (appended H c)
-appended_begun H c begun before =
-    let count : length (H.commits ++ c ∷ []) ≡ length H.commits + 1 = length_push H.commits c in
-    all_push (λ d. d.begin ≤ last (appended H c)) H.commits c
-    (all_weaker (λ d. d.begin ≤ last H) (λ d. d.begin ≤ last (appended H c)) (λ d le. omega arith) H.commits begun) (omega arith)

@@ -16,8 +16,8 @@ use Rattle.iso_model.specs.Array.{Array, byte_at}
 use Rattle.iso_model.specs.Effect.{is_write, has_write, covers, touches, effect_at, own}
 use Rattle.iso_model.specs.History.{History, last, array_at, all_own, shown, shown_block}
 use Rattle.iso_model.specs.Conflict.{clash, guarded, IsClash, IsSerialAt, IsSnapshotAt, Meets}
-use Rattle.iso_model.specs.Isolation.{IsIsolatedAt, IsIsolated}
-use Rattle.iso_model.specs.Premises.{block_at, IsAccess, AreAccesses, IsHistory, HaveBegun, appended}
+use Rattle.iso_model.specs.Isolation.{IsIsolatedAt, IsIsolated, HasSeen}
+use Rattle.iso_model.specs.Premises.{block_at, IsAccess, AreAccesses, IsHistory, appended}
 use Rattle.iso_model.proofs.Bytes.{own_at, length-block_own, length-block_all_own, touches_where_effect}
 use Rattle.iso_model.proofs.Recorded.{CommitsOf, bytes_of_accesses}
 use Rattle.iso_model.proofs.Written.{covers_where}
@@ -42,11 +42,11 @@ all_own_kept g A (c ∷ commits) b p all same inside none =
     all_own_kept g (own A c.accesses) commits b p all.1 (length-block_own A c.accesses b ∙ same) inside (λ i d is. none (suc i) d is)
     ∙ own_kept g A c.accesses b p all.0 same inside (none 0 c refl)
 
-all_own_append : (A : Array) (xs ys : List Commit) → all_own A (xs ++ ys) ≡ all_own (all_own A xs) ys
+pub all_own_append : (A : Array) (xs ys : List Commit) → all_own A (xs ++ ys) ≡ all_own (all_own A xs) ys
 all_own_append A [] ys = refl
 all_own_append A (x ∷ xs) ys = all_own_append (own A x.accesses) xs ys
 
-commits_drop : (g : Geometry) (n : ℕ) (commits : List Commit) → CommitsOf g commits → CommitsOf g (drop n commits)
+pub commits_drop : (g : Geometry) (n : ℕ) (commits : List Commit) → CommitsOf g commits → CommitsOf g (drop n commits)
 commits_drop g zero commits all = all
 commits_drop g (suc n) [] all = all
 commits_drop g (suc n) (c ∷ commits) all = commits_drop g n commits all.1
@@ -56,12 +56,12 @@ accesses_take g zero accesses all = tt
 accesses_take g (suc n) [] all = tt
 accesses_take g (suc n) (a ∷ accesses) all = (all.0, accesses_take g n accesses all.1)
 
-all_at : {X : Type 0} (P : X → Type 0) (xs : List X) (i : ℕ) (x : X) → AllByRecursion P xs → slice_get xs i ≡ Some x → P x
+pub all_at : {X : Type 0} (P : X → Type 0) (xs : List X) (i : ℕ) (x : X) → AllByRecursion P xs → slice_get xs i ≡ Some x → P x
 all_at P [] i x all is = absurd (none-some x is)
 all_at P (y ∷ xs) zero x all is = subst P (same_Some y x is) all.0
 all_at P (y ∷ xs) (suc i) x all is = all_at P xs i x all.1 is
 
-slice_get_append_left : {X : Type 0} (xs ys : List X) (i : ℕ) → i < length xs → slice_get (xs ++ ys) i ≡ slice_get xs i
+pub slice_get_append_left : {X : Type 0} (xs ys : List X) (i : ℕ) → i < length xs → slice_get (xs ++ ys) i ≡ slice_get xs i
 slice_get_append_left [] ys i below = absurd (omega arith)
 slice_get_append_left (x ∷ xs) ys zero below = refl
 slice_get_append_left (x ∷ xs) ys (suc i) below = slice_get_append_left xs ys i (omega arith)
@@ -100,6 +100,7 @@ not_written g H mode begin accesses b p known none block inside guards i c is =
     let e : begin + 1 - H.first + i ≡ begin + 1 + i - H.first = omega arith in
     none (record { commit = begin + 1 + i; block = b; at = p }) (record {
       after = omega arith;
+      since = omega arith;
       block = block;
       byte = inside;
       commit = c;
@@ -164,7 +165,7 @@ next_is_serial g H c is all known before write none =
     subst (λ (o : Option Commit). IfSome o (λ d. (i p : ℕ) → IfSome (slice_get d.accesses i) (λ a. IsTrue (covers Read a.block p a) →
     get_or (shown (appended H c) d.begin d.accesses i) p 0 ≡ get_or (shown (appended H c) (last H + 1 - 1) d.accesses i) p 0))) (sym at)
     (λ i p. IfSome_then (slice_get c.accesses i)
-    (shown_where_none g H c.begin c.accesses i p (slice_get c.accesses i) refl is all known (none_from_clash g H Serial c.begin c.accesses known write none))
+    (shown_where_none g H c.begin c.accesses i p (slice_get c.accesses i) refl is all known (none_from_clash g H Serial c.begin c.accesses write none))
     (λ a same covered.
     ap (λ (bytes : List ℕ). get_or bytes p 0) (shown_appended H c c.begin c.accesses i first before)
     ∙ same covered
@@ -173,11 +174,12 @@ next_is_serial g H c is all known before write none =
 
 -- without a clash in snapshot mode no write of the list meets a write of a later commit
 no_meeting : (g : Geometry) (H : History) (n : ℕ) (accesses : List Access) (j : ℕ) (d : Commit) (x y : ℕ) (a b : Access) → AreAccesses g accesses
-    → ((d : Clash) → IsClash g H Snapshot n accesses d → ⊥) → n < j → slice_get H.commits (j - H.first) ≡ Some d
+    → ((d : Clash) → IsClash g H Snapshot n accesses d → ⊥) → H.first ≤ j → n < j → slice_get H.commits (j - H.first) ≡ Some d
     → slice_get accesses x ≡ Some a → slice_get d.accesses y ≡ Some b → is_write a ≡ true → is_write b ≡ true → Meets g.block a b → ⊥
-no_meeting g H n accesses j d x y a b all none after is at there writes written meets =
+no_meeting g H n accesses j d x y a b all none from after is at there writes written meets =
     none (record { commit = j; block = a.block; at = meets.1.0 }) (record {
       after = after;
+      since = from;
       block = (all_at (IsAccess g) accesses x a all at).block;
       byte = meets.1.1;
       commit = d;
@@ -192,17 +194,17 @@ if_some_from P None each = tt
 if_some_from P (Some x) each = each x refl
 
 -- without one the next commit is a snapshot
-pub next_is_snapshot : (g : Geometry) (H : History) (c : Commit) → IsHistory g H → AreAccesses g c.accesses → H.first ≤ c.begin + 1 → c.begin ≤ last H
+pub next_is_snapshot : (g : Geometry) (H : History) (c : Commit) → IsHistory g H → AreAccesses g c.accesses
     → has_write c.accesses ≡ true → clash g H Snapshot c.begin c.accesses ≡ None → IsSnapshotAt g (appended H c) (last H + 1)
-next_is_snapshot g H c is all known before write none =
+next_is_snapshot g H c is all write none =
     let first : 0 < H.first = is.first in
     let at : slice_get (H.commits ++ c ∷ []) (last H + 1 - H.first) ≡ Some c = slice_get_push H.commits c (last H + 1 - H.first) (omega arith) in
-    subst (λ (o : Option Commit). IfSome o (λ u. (j : ℕ) → u.begin < j → j < last H + 1 → IfSome (slice_get (H.commits ++ c ∷ []) (j - H.first)) (λ d.
+    subst (λ (o : Option Commit). IfSome o (λ u. (j : ℕ) → H.first ≤ j → u.begin < j → j < last H + 1 → IfSome (slice_get (H.commits ++ c ∷ []) (j - H.first)) (λ d.
     (x y : ℕ) → IfSome (slice_get u.accesses x) (λ a. IfSome (slice_get d.accesses y) (λ b.
     IsTrue (is_write a) → IsTrue (is_write b) → ¬ Meets g.block a b))))) (sym at)
-    (λ j after below. if_some_from _ (slice_get (H.commits ++ c ∷ []) (j - H.first)) (λ d there x y.
+    (λ j from after below. if_some_from _ (slice_get (H.commits ++ c ∷ []) (j - H.first)) (λ d there x y.
     if_some_from _ (slice_get c.accesses x) (λ a is_a. if_some_from _ (slice_get d.accesses y) (λ b is_b writes written meets.
-    no_meeting g H c.begin c.accesses j d x y a b all (none_from_clash g H Snapshot c.begin c.accesses known write none) after
+    no_meeting g H c.begin c.accesses j d x y a b all (none_from_clash g H Snapshot c.begin c.accesses write none) from after
     (sym (slice_get_append_left H.commits (c ∷ []) (j - H.first) (omega arith)) ∙ there) is_a is_b writes written meets))))
 
 -- an earlier commit stays serial
@@ -232,41 +234,49 @@ pub stays_snapshot : (g : Geometry) (H : History) (c : Commit) (k : ℕ) → 0 <
 stays_snapshot g H c k first from to snapshot =
     let same : slice_get (H.commits ++ c ∷ []) (k - H.first) ≡ slice_get H.commits (k - H.first) =
     slice_get_append_left H.commits (c ∷ []) (k - H.first) (omega arith) in
-    subst (λ (o : Option Commit). IfSome o (λ u. (j : ℕ) → u.begin < j → j < k → IfSome (slice_get (H.commits ++ c ∷ []) (j - H.first)) (λ d.
+    subst (λ (o : Option Commit). IfSome o (λ u. (j : ℕ) → H.first ≤ j → u.begin < j → j < k → IfSome (slice_get (H.commits ++ c ∷ []) (j - H.first)) (λ d.
     (x y : ℕ) → IfSome (slice_get u.accesses x) (λ a. IfSome (slice_get d.accesses y) (λ b.
     IsTrue (is_write a) → IsTrue (is_write b) → ¬ Meets g.block a b))))) (sym same)
-    (IfSome_then (slice_get H.commits (k - H.first)) snapshot (λ u meets j after below.
+    (IfSome_then (slice_get H.commits (k - H.first)) snapshot (λ u meets j from after below.
     subst (λ (o : Option Commit). IfSome o (λ d. (x y : ℕ) → IfSome (slice_get u.accesses x) (λ a. IfSome (slice_get d.accesses y) (λ b.
     IsTrue (is_write a) → IsTrue (is_write b) → ¬ Meets g.block a b))))
-    (sym (slice_get_append_left H.commits (c ∷ []) (j - H.first) (omega arith))) (meets j after below)))
+    (sym (slice_get_append_left H.commits (c ∷ []) (j - H.first) (omega arith))) (meets j from after below)))
 
 -- every commit of the history with one more
-pub stays_isolated : (g : Geometry) (H : History) (c : Commit) → IsHistory g H → HaveBegun H → IsIsolated g H
+pub stays_isolated : (g : Geometry) (H : History) (c : Commit) → IsHistory g H → IsIsolated g H
     → AreAccesses g c.accesses → H.first ≤ c.begin + 1 → c.begin ≤ last H → has_write c.accesses ≡ true → clash g H c.mode c.begin c.accesses ≡ None
     → IsIsolated g (appended H c)
-stays_isolated g H c is begun isolated all known before write none k from to = elim (cases_lt (last H) k) [
+stays_isolated g H c is isolated all known before write none k from to = elim (cases_lt (last H) k) [
   | inl behind ↦
       (let count : length (H.commits ++ c ∷ []) ≡ length H.commits + 1 = length_push H.commits c in
       let first : 0 < H.first = is.first in
       let e : last H + 1 ≡ k = omega arith in
-      subst (λ (n : ℕ). IfSome (slice_get (H.commits ++ c ∷ []) (n - H.first)) (λ d. IsIsolatedAt g (appended H c) d.mode n)) e
-      (subst (λ (o : Option Commit). IfSome o (λ d. IsIsolatedAt g (appended H c) d.mode (last H + 1)))
+      subst (λ (n : ℕ). IfSome (slice_get (H.commits ++ c ∷ []) (n - H.first)) (HasSeen g (appended H c) n)) e
+      (subst (λ (o : Option Commit). IfSome o (HasSeen g (appended H c) (last H + 1)))
       (sym (slice_get_push H.commits c (last H + 1 - H.first) (omega arith)))
-      (next_is_isolated c.mode none)))
+      (record { since = known; before = omega arith; isolated = next_is_isolated c.mode none })))
   | inr within ↦
       (let first : 0 < H.first = is.first in
-      subst (λ (o : Option Commit). IfSome o (λ d. IsIsolatedAt g (appended H c) d.mode k))
+      subst (λ (o : Option Commit). IfSome o (HasSeen g (appended H c) k))
       (sym (slice_get_append_left H.commits (c ∷ []) (k - H.first) (omega arith)))
-      (if_some_from _ (slice_get H.commits (k - H.first)) (λ d at.
-      stay d.mode (subst (λ (o : Option Commit). IfSome o (λ d. d.begin ≤ last H)) (sym at) (all_at (λ d. d.begin ≤ last H) H.commits (k - H.first) d begun at))
-      within (subst (λ (o : Option Commit). IfSome o (λ d. IsIsolatedAt g H d.mode k)) at (isolated k from within)))))
+      (here (slice_get H.commits (k - H.first)) refl within (isolated k from within)))
 ]
   where
     next_is_isolated : (mode : Mode) → clash g H mode c.begin c.accesses ≡ None → IsIsolatedAt g (appended H c) mode (last H + 1)
     next_is_isolated Serial none = next_is_serial g H c is all known before write none
-    next_is_isolated Snapshot none = next_is_snapshot g H c is all known before write none
+    next_is_isolated Snapshot none = next_is_snapshot g H c is all write none
 
     stay : (mode : Mode) → IfSome (slice_get H.commits (k - H.first)) (λ d. d.begin ≤ last H) → k ≤ last H → IsIsolatedAt g H mode k
         → IsIsolatedAt g (appended H c) mode k
     stay Serial begun within serial = stays_serial H c k is.first from within begun serial
     stay Snapshot begun within snapshot = stays_snapshot g H c k is.first from within snapshot
+
+    here : (o : Option Commit) → slice_get H.commits (k - H.first) ≡ o → k ≤ last H → IfSome o (HasSeen g H k) → IfSome o (HasSeen g (appended H c) k)
+    here None at within seen = tt
+    here (Some d) at within seen =
+        let below : d.begin < k = seen.before in
+        record {
+          since = seen.since;
+          before = seen.before;
+          isolated = stay d.mode (subst (λ (o : Option Commit). IfSome o (λ d. d.begin ≤ last H)) (sym at) (omega arith)) within seen.isolated;
+        }

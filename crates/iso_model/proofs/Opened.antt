@@ -19,15 +19,17 @@ use Rattle.iso_model.specs.Geometry.{image_size, base_place, log_place}
 use Rattle.iso_model.specs.History.{History}
 use Rattle.iso_model.specs.Image.{AreRuns, IsRecord, IsImage, Written, written, commit_of, commits_of, records, spell, part, kind_of, blocks_of, chosen_half}
 use Rattle.iso_model.specs.Isolation.{IsIsolated, IsIsolatedAt}
-use Rattle.iso_model.specs.Premises.{AreAccesses, recorded}
+use Rattle.iso_model.specs.Premises.{block_at, AreAccesses, AreBytes, recorded}
 use Rattle.iso_model.specs.World.{used, fresh}
 use Rattle.iso_model.specs.Worlds.{IsWorld}
+use Rattle.iso_model.proofs.ByteLists.{no_bytes, bytes_back, bytes_drop, bytes_front, bytes_take}
 use Rattle.iso_model.proofs.Isolation.{if_some_from}
 use Rattle.iso_model.proofs.Unique.{runs_recorded}
-use Rattle.iso_model.proofs.Worlds.{put_is_access, fresh_is}
+use Rattle.iso_model.proofs.Accesses.{put_is_access}
+use Rattle.iso_model.proofs.FreshWorlds.{fresh_is}
 
 -- the half is the first or the second
-half_is : (a : Bool) (m : ℕ) (b : Bool) (n half : ℕ) → chosen_half a m b n ≡ Some half → (half ≡ 0) ⊎ (half ≡ 1)
+pub half_is : (a : Bool) (m : ℕ) (b : Bool) (n half : ℕ) → chosen_half a m b n ≡ Some half → (half ≡ 0) ⊎ (half ≡ 1)
 half_is true m true n half chosen = go (nat_lt m n) (same_Some _ half chosen)
   where
     go : (t : Bool) → cond t 1 0 ≡ half → (half ≡ 0) ⊎ (half ≡ 1)
@@ -54,27 +56,46 @@ base_inside g bytes half size (inl first) = rw first (omega (arith, length-drop 
 base_inside g bytes half size (inr second) = rw second (omega (arith, length-drop (base_place g 1) bytes))
 
 -- what the records tell
-recorded_accesses : (g : Geometry) (list : List Run) → AreRuns g list → AreAccesses g (recorded g list)
-recorded_accesses g [] all = tt
-recorded_accesses g (x ∷ []) all = (put_is_access g x.block x.off x.bytes all.block all.some all.fits, tt)
-recorded_accesses g (x ∷ y ∷ list) all =
-    (put_is_access g x.block x.off x.bytes all.0.block all.0.some all.0.fits, recorded_accesses g (y ∷ list) all.2)
+abbrev HaveBytes : List Run → Type 0
+HaveBytes list = AllByRecursion (λ run. AreBytes run.bytes) list
 
-told_accesses : (g : Geometry) (n : ℕ) (told : List Written) → AllByRecursion (IsRecord g) told
+recorded_accesses : (g : Geometry) (list : List Run) → AreRuns g list → HaveBytes list → AreAccesses g (recorded g list)
+recorded_accesses g [] all values = tt
+recorded_accesses g (x ∷ []) all values = (put_is_access g x.block x.off x.bytes all.block all.some all.fits values.0, tt)
+recorded_accesses g (x ∷ y ∷ list) all values =
+    (put_is_access g x.block x.off x.bytes all.0.block all.0.some all.0.fits values.0, recorded_accesses g (y ∷ list) all.2 values.1)
+
+-- the bytes of parts that stand in bytes are bytes
+parts_bytes : (list : List Run) → AreBytes (flat_map part list) → HaveBytes list
+parts_bytes [] values = tt
+parts_bytes (x ∷ list) values =
+    (bytes_drop 8 (part x) (bytes_front (part x) (flat_map part list) values), parts_bytes list (bytes_back (part x) (flat_map part list) values))
+
+record_bytes : (gate kind n : ℕ) (list : List Run) → AreBytes (spell gate kind n list) → HaveBytes list
+unfolding spell
+record_bytes gate kind n list values = parts_bytes list (bytes_drop 20 (spell gate kind n list) values)
+
+told_accesses : (g : Geometry) (n : ℕ) (told : List Written) → AllByRecursion (IsRecord g) told → AreBytes (records g n told)
     → AllByRecursion (λ c. AreAccesses g c.accesses) (commits_of g n told)
-told_accesses g n [] each = tt
-told_accesses g n (w ∷ told) each = (recorded_accesses g w.parts each.0.runs, told_accesses g (n + 1) told each.1)
+told_accesses g n [] each values = tt
+told_accesses g n (w ∷ told) each values = (
+  recorded_accesses g w.parts each.0.runs
+      (record_bytes 1 (kind_of g w.mode) n w.parts (bytes_front (spell 1 (kind_of g w.mode) n w.parts) (records g (n + 1) told) values)),
+  told_accesses g (n + 1) told each.1 (bytes_back (spell 1 (kind_of g w.mode) n w.parts) (records g (n + 1) told) values),
+)
+
+-- the blocks of bytes
+blocks_bytes : (size n : ℕ) (bytes : List ℕ) (b : ℕ) → AreBytes bytes → AreBytes (block_at (blocks_of size n bytes) b)
+blocks_bytes size zero bytes b values = no_bytes
+blocks_bytes size (suc n) bytes zero values = bytes_take size bytes values
+blocks_bytes size (suc n) bytes (suc b) values = blocks_bytes size n (drop size bytes) b (bytes_drop size bytes values)
 
 length-told : (g : Geometry) (n : ℕ) (told : List Written) → length (commits_of g n told) ≡ length told
 length-told g n [] = refl
 length-told g n (w ∷ told) = ap suc (length-told g (n + 1) told)
 
-told_begun : (g : Geometry) (n m : ℕ) (told : List Written) → n + length told - 1 ≤ m → AllByRecursion (λ c. c.begin ≤ m) (commits_of g n told)
-told_begun g n m [] le = tt
-told_begun g n m (w ∷ told) le = (omega arith, told_begun g (n + 1) m told (omega arith))
-
 -- the records of these commits are the ones told
-told_again : (g : Geometry) (n : ℕ) (told : List Written) → AllByRecursion (IsRecord g) told → map (written g) (commits_of g n told) ≡ told
+pub told_again : (g : Geometry) (n : ℕ) (told : List Written) → AllByRecursion (IsRecord g) told → map (written g) (commits_of g n told) ≡ told
 told_again g n [] each = refl
 told_again g n (w ∷ told) each =
     let parts : runs g (recorded g w.parts) ≡ w.parts = runs_recorded g w.parts each.0.runs in
@@ -111,49 +132,57 @@ told_isolated_at g H k Serial told = if_some_from _ (slice_get H.commits (k - H.
     if_some_from _ (slice_get c.accesses i) (λ a is reads.
     let t = told c at in
     absurd (no_read g t.list i a a.block p (subst (λ (list : List Access). slice_get list i ≡ Some a) t.accesses is) reads)))
-told_isolated_at g H k Snapshot told = if_some_from _ (slice_get H.commits (k - H.first)) (λ c at j after before.
+told_isolated_at g H k Snapshot told = if_some_from _ (slice_get H.commits (k - H.first)) (λ c at j from after before.
     let t = told c at in
     let begin : c.begin ≡ k - 1 = t.begin in
     absurd (omega arith))
 
-told_isolated : (g : Geometry) (H : History) (told : List Written) → H.commits ≡ commits_of g H.first told → IsIsolated g H
-told_isolated g H told is k from to = if_some_from _ (slice_get H.commits (k - H.first)) (λ d there.
-    told_isolated_at g H k d.mode (λ c at.
-    let e : H.first + (k - H.first) ≡ k = omega arith in
-    rw e at (told_at g H.first (k - H.first) told c (ap (λ commits. slice_get commits (k - H.first)) (sym is) ∙ at))))
+told_isolated : (g : Geometry) (H : History) (told : List Written) → 0 < H.first → H.commits ≡ commits_of g H.first told → IsIsolated g H
+told_isolated g H told first is k from to = if_some_from _ (slice_get H.commits (k - H.first)) (λ d there.
+    let t = at_number d there in
+    let begin : d.begin ≡ k - 1 = t.begin in
+    record { since = omega arith; before = omega arith; isolated = told_isolated_at g H k d.mode at_number })
+  where
+    at_number : (c : Commit) → slice_get H.commits (k - H.first) ≡ Some c → IsTold g k c
+    at_number c at =
+        let e : H.first + (k - H.first) ≡ k = omega arith in
+        rw e at (told_at g H.first (k - H.first) told c (ap (λ commits. slice_get commits (k - H.first)) (sym is) ∙ at))
 
 -- the length of the records
 pub length-part : (run : Run) → length (part run) ≡ 8 + length run.bytes
 length-part run =
     length-append (to_be_bytes w32 run.block ++ to_be_bytes w16 run.off ++ to_be_bytes w16 (length run.bytes)) run.bytes
 
-length-parts : (parts : List Run) → length (flat_map part parts) ≡ sum_by (λ run. 8 + length run.bytes) parts
+pub length-parts : (parts : List Run) → length (flat_map part parts) ≡ sum_by (λ run. 8 + length run.bytes) parts
 length-parts [] = refl
 length-parts (x ∷ more) =
     length-append (part x) (flat_map part more)
     ∙ omega (arith, length-part x, length-parts more, sum_by-cons (λ (run : Run). 8 + length run.bytes) x more)
 
-length-spell : (gate kind n : ℕ) (parts : List Run) → length (spell gate kind n parts) ≡ record_length parts
+pub length-spell : (gate kind n : ℕ) (parts : List Run) → length (spell gate kind n parts) ≡ record_length parts
 unfolding spell
 length-spell gate kind n parts = omega (arith, length-parts parts)
 
-length-records : (g : Geometry) (n : ℕ) (told : List Written) → length (records g n told) ≡ sum_by (λ w. record_length w.parts) told
+pub length-records : (g : Geometry) (n : ℕ) (told : List Written) → length (records g n told) ≡ sum_by (λ w. record_length w.parts) told
 length-records g n [] = refl
 length-records g n (w ∷ told) =
     length-append (spell 1 (kind_of g w.mode) n w.parts) (records g (n + 1) told)
     ∙ omega (arith, length-spell 1 (kind_of g w.mode) n w.parts, length-records g (n + 1) told, sum_by-cons (λ (v : Written). record_length v.parts) w told)
 
-sum_by-map : {X Y : Type 0} (f : Y → ℕ) (h : X → Y) (xs : List X) → sum_by f (map h xs) ≡ sum_by (λ x. f (h x)) xs
+pub sum_by-map : {X Y : Type 0} (f : Y → ℕ) (h : X → Y) (xs : List X) → sum_by f (map h xs) ≡ sum_by (λ x. f (h x)) xs
 sum_by-map f h [] = refl
 sum_by-map f h (x ∷ xs) = sum_by-cons f (h x) (map h xs) ∙ ap (λ n. f (h x) + n) (sum_by-map f h xs) ∙ sym (sum_by-cons (λ y. f (h y)) x xs)
 
 -- the world that an image opens to
-pub opened_is : (bytes : List ℕ) (g : Geometry) (generation : ℕ) (H : History) → IsImage bytes g generation H → IsWorld (fresh g generation H)
-opened_is bytes g generation H is =
+pub opened_is : (bytes : List ℕ) (g : Geometry) (generation : ℕ) (H : History) → AreBytes bytes → IsImage bytes g generation H → IsWorld (fresh g generation H)
+opened_is bytes g generation H values is =
     let half = half_is _ _ _ _ is.half is.current in
     let first : 0 < H.first = is.first in
     let count : length H.commits ≡ length is.told = ap length is.commits ∙ length-told g H.first is.told in
     let (gate, rest, closed, log) = is.log in
+    let in_records : AreBytes (records g H.first is.told) =
+    bytes_front (records g H.first is.told) (gate ∷ rest)
+    (subst AreBytes log (bytes_take g.log (drop (log_place g is.half) bytes) (bytes_drop (log_place g is.half) bytes values))) in
     let again : map (written g) H.commits ≡ is.told = ap (map (written g)) is.commits ∙ told_again g H.first is.told is.each in
     let dropped : H.first - 1 + 1 - H.first ≡ 0 = omega arith in
     let taken : used (fresh g generation H) ≡ length (records g H.first is.told) =
@@ -169,11 +198,12 @@ opened_is bytes g generation H is =
         blocks = ap length is.base ∙ length-blocks_of g.block g.blocks (drop (base_place g is.half) bytes);
         bytes = λ b below. ap (λ (A : Array). length (get_or A b [])) is.base
             ∙ block_length g.block g.blocks (drop (base_place g is.half) bytes) b (base_inside g bytes is.half is.size half) below;
+        values = λ b. rw is.base (blocks_bytes g.block g.blocks (drop (base_place g is.half) bytes) b (bytes_drop (base_place g is.half) bytes values));
       };
-      commits = rw is.commits (told_accesses g H.first is.told is.each);
+      commits = rw is.commits (told_accesses g H.first is.told is.each in_records);
     })
-    (rw is.commits (told_begun g H.first (H.first + length (commits_of g H.first is.told) - 1) is.told (omega (arith, length-told g H.first is.told))))
-    (told_isolated g H is.told is.commits)
+    (told_isolated g H is.told is.first is.commits)
     (subst (AllByRecursion (IsRecord g)) (sym again) is.each)
     (let bound : H.first + length is.told - 1 ≤ LAST = is.last in omega arith)
+    is.generation_bound
     (omega arith)

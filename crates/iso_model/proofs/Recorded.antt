@@ -1,7 +1,7 @@
 -- The writes that a record stands for have the effect of those that it was made of.
-use Rattle.std.proofs.Common.{◌≡◌, ◌∙◌, sym, refl, ap, ℕ, zero, suc, ◌+◌, ◌-◌, ◌<◌, ◌≤◌, Bool, true, false, ◌&&◌, ◌||◌, ◌==◌, nat_le, nat_lt, cond, IfSome, List, [], ◌∷◌, ◌++◌, length, get_or, map, take, replicate, Some, None, slice_get, unwrap_or, arith}
+use Rattle.std.proofs.Common.{inl, inr, ◌≡◌, ◌∙◌, sym, refl, ap, ℕ, zero, suc, ◌+◌, ◌-◌, ◌<◌, ◌≤◌, Bool, true, false, ◌&&◌, ◌||◌, ◌==◌, nat_le, nat_lt, cond, IfSome, List, [], ◌∷◌, ◌++◌, length, get_or, map, take, replicate, Some, None, slice_get, unwrap_or, arith}
 use Rattle.std.specs.List.{AllByRecursion}
-use Rattle.std.proofs.lemmas.Bool.{and_parts, leb-true, ltb-true}
+use Rattle.std.proofs.lemmas.Bool.{cases_eq, and_parts, leb-true, ltb-true}
 use Rattle.std.proofs.lemmas.List.{length-replicate, length-append, get_or_append_left, get_or-append_right, ext_get_or}
 use Rattle.iso_model.specs.declared.access.Access.{Access}
 use Rattle.iso_model.specs.declared.access.Commit.{Commit}
@@ -9,13 +9,14 @@ use Rattle.iso_model.specs.declared.access.Geometry.{Geometry}
 use Rattle.iso_model.specs.declared.access.Run.{Run}
 use Rattle.iso_model.specs.declared.access.Span.{Span}
 use Rattle.iso_model.specs.declared.access.Kind.TheVariants.{Write}
-use Rattle.iso_model.specs.Array.{Array, in_span, byte_at}
-use Rattle.iso_model.specs.Effect.{covers, or_else, effect_at, own, runs}
-use Rattle.iso_model.specs.History.{History, last, array_at, all_own}
-use Rattle.iso_model.specs.Image.{AreRuns, IsImage, SameEffect, SameCommit, Shows, written, commits_of, logged}
+use Rattle.iso_model.specs.Array.{Array, in_span, byte_at, put}
+use Rattle.iso_model.specs.Effect.{is_write, covers, or_else, effect_at, own, runs}
+use Rattle.iso_model.specs.History.{History, array_at, all_own}
+use Rattle.iso_model.specs.Image.{AreRuns, SameEffect, SameCommit, written, commits_of}
 use Rattle.iso_model.specs.Step.{put_access}
-use Rattle.iso_model.specs.Premises.{HasShape, HasBytes, AreAccesses, IsHistory, in_run, value_of, value_in, recorded}
-use Rattle.iso_model.proofs.Bytes.{own_at, length-own, length-block_own}
+use Rattle.iso_model.specs.Premises.{block_at, AreBytes, HasShape, HasBytes, AreAccesses, IsHistory, in_run, value_of, value_in, recorded}
+use Rattle.iso_model.proofs.ByteLists.{merged_bytes}
+use Rattle.iso_model.proofs.Bytes.{written_block, other_block, own_at, length-own, length-block_own}
 use Rattle.iso_model.proofs.Lookups.{value_runs}
 use Rattle.iso_model.proofs.Maximal.{are_runs}
 
@@ -75,8 +76,20 @@ pub bytes_of_accesses : (g : Geometry) (accesses : List Access) → AreAccesses 
 bytes_of_accesses g [] all = tt
 bytes_of_accesses g (a ∷ accesses) all = (all.0.bytes, bytes_of_accesses g accesses all.1)
 
--- arrays of one shape with the same bytes are one
-pub same_arrays : (g : Geometry) (A B : Array) → HasShape g A → HasShape g B
+-- commits of accesses to the array
+abbrev pub CommitsOf : Geometry → List Commit → Type 0
+CommitsOf g commits = AllByRecursion (λ c. AreAccesses g c.accesses) commits
+
+-- an array of the geometry's blocks, each of its length, whatever it holds
+pub record HasSize (g : Geometry) (A : Array) : Type 0 where
+  pub blocks : length A ≡ g.blocks
+  pub bytes : (b : ℕ) → b < g.blocks → length (block_at A b) ≡ g.block
+
+pub size_of : (g : Geometry) (A : Array) → HasShape g A → HasSize g A
+size_of g A shape = record { blocks = shape.blocks; bytes = shape.bytes }
+
+-- arrays of one size with the same bytes are one
+pub same_arrays : (g : Geometry) (A B : Array) → HasSize g A → HasSize g B
     → ((b p : ℕ) → b < g.blocks → p < g.block → byte_at A b p ≡ byte_at B b p) → A ≡ B
 same_arrays g A B first second each =
     let la : length A ≡ g.blocks = first.blocks in
@@ -86,27 +99,55 @@ same_arrays g A B first second each =
     let ba : length (get_or A b []) ≡ g.block = first.bytes b block in
     ext_get_or 0 (get_or A b []) (get_or B b []) (ba ∙ sym (second.bytes b block)) (λ p inside. each b p block (omega arith)))
 
-pub own_shape : (g : Geometry) (A : Array) (accesses : List Access) → HasShape g A → HasShape g (own A accesses)
-own_shape g A accesses shape = record {
-  blocks = length-own A accesses ∙ shape.blocks;
-  bytes = λ b below. length-block_own A accesses b ∙ shape.bytes b below;
+pub own_size : (g : Geometry) (A : Array) (accesses : List Access) → HasSize g A → HasSize g (own A accesses)
+own_size g A accesses size = record {
+  blocks = length-own A accesses ∙ size.blocks;
+  bytes = λ b below. length-block_own A accesses b ∙ size.bytes b below;
 }
 
+-- writes of bytes leave bytes
+put_values : (A : Array) (w : Access) → ((b : ℕ) → AreBytes (block_at A b)) → AreBytes w.bytes → (b : ℕ) → AreBytes (block_at (put A w) b)
+put_values A w values bytes b = elim (cases_eq b w.block) [
+  | inl e ↦ rw e (rw (written_block A w) (merged_bytes w.spans 0 (block_at A w.block) w.bytes (values w.block) bytes))
+  | inr other ↦ rw (other_block A w b other) (values b)
+]
+
+access_values : (test : Bool) (A : Array) (a : Access) → ((b : ℕ) → AreBytes (block_at A b)) → AreBytes a.bytes → (b : ℕ) → AreBytes (block_at (cond test (put A a) A) b)
+access_values true A a values bytes = put_values A a values bytes
+access_values false A a values bytes = values
+
+own_values : (g : Geometry) (A : Array) (accesses : List Access) → AreAccesses g accesses → ((b : ℕ) → AreBytes (block_at A b)) → (b : ℕ) → AreBytes (block_at (own A accesses) b)
+own_values g A [] all values = values
+own_values g A (a ∷ accesses) all values =
+    own_values g (cond (is_write a) (put A a) A) accesses all.1 (access_values (is_write a) A a values all.0.values)
+
+pub own_shape : (g : Geometry) (A : Array) (accesses : List Access) → AreAccesses g accesses → HasShape g A → HasShape g (own A accesses)
+own_shape g A accesses all shape = record {
+  blocks = length-own A accesses ∙ shape.blocks;
+  bytes = λ b below. length-block_own A accesses b ∙ shape.bytes b below;
+  values = own_values g A accesses all shape.values;
+}
+
+-- the array after each commit has the shape
+all_own_shape : (g : Geometry) (A : Array) (n : ℕ) (commits : List Commit) → CommitsOf g commits → HasShape g A → HasShape g (all_own A (take n commits))
+all_own_shape g A zero commits all shape = shape
+all_own_shape g A (suc n) [] all shape = shape
+all_own_shape g A (suc n) (c ∷ commits) all shape = all_own_shape g (own A c.accesses) n commits all.1 (own_shape g A c.accesses all.0 shape)
+
+pub array_shape : (g : Geometry) (H : History) (n : ℕ) → IsHistory g H → HasShape g (array_at H n)
+array_shape g H n is = all_own_shape g H.base (n + 1 - H.first) H.commits is.commits is.base
+
 -- lists with one effect leave one array
-own_same : (g : Geometry) (A : Array) (xs ys : List Access) → HasShape g A → AllByRecursion (HasBytes g.block) xs → AllByRecursion (HasBytes g.block) ys
+own_same : (g : Geometry) (A : Array) (xs ys : List Access) → HasSize g A → AllByRecursion (HasBytes g.block) xs → AllByRecursion (HasBytes g.block) ys
     → SameEffect g xs ys → own A xs ≡ own A ys
 own_same g A xs ys shape first second same =
-    same_arrays g (own A xs) (own A ys) (own_shape g A xs shape) (own_shape g A ys shape) (λ b p block inside.
+    same_arrays g (own A xs) (own A ys) (own_size g A xs shape) (own_size g A ys shape) (λ b p block inside.
     own_at A xs b p g.block first (shape.bytes b block) inside
     ∙ ap (λ o. unwrap_or o (byte_at A b p)) (same b p block inside)
     ∙ sym (own_at A ys b p g.block second (shape.bytes b block) inside))
 
--- commits of accesses to the array
-abbrev pub CommitsOf : Geometry → List Commit → Type 0
-CommitsOf g commits = AllByRecursion (λ c. AreAccesses g c.accesses) commits
-
 -- the commits as their records tell them leave the same arrays
-all_own_logged : (g : Geometry) (A : Array) (n m : ℕ) (commits : List Commit) → HasShape g A → CommitsOf g commits
+pub all_own_logged : (g : Geometry) (A : Array) (n m : ℕ) (commits : List Commit) → HasSize g A → CommitsOf g commits
     → all_own A (take m (commits_of g n (map (written g) commits))) ≡ all_own A (take m commits)
 all_own_logged g A n zero commits shape all = refl
 all_own_logged g A n (suc m) [] shape all = refl
@@ -114,29 +155,14 @@ all_own_logged g A n (suc m) (c ∷ commits) shape all =
     ap (λ B. all_own B (take m (commits_of g (n + 1) (map (written g) commits))))
     (own_same g A (recorded g (runs g c.accesses)) c.accesses shape (recorded_bytes g (runs g c.accesses) (are_runs g c.accesses))
     (bytes_of_accesses g c.accesses all.0) (same_effect g c.accesses))
-    ∙ all_own_logged g (own A c.accesses) (n + 1) m commits (own_shape g A c.accesses shape) all.1
+    ∙ all_own_logged g (own A c.accesses) (n + 1) m commits (own_size g A c.accesses shape) all.1
 
-pub same_array : (g : Geometry) (H : History) (n : ℕ) → IsHistory g H → array_at (logged g H) n ≡ array_at H n
-same_array g H n is = all_own_logged g H.base H.first (n + 1 - H.first) H.commits is.base is.commits
-
-length-logged : (g : Geometry) (n : ℕ) (commits : List Commit) → length (commits_of g n (map (written g) commits)) ≡ length commits
+pub length-logged : (g : Geometry) (n : ℕ) (commits : List Commit) → length (commits_of g n (map (written g) commits)) ≡ length commits
 length-logged g n [] = refl
 length-logged g n (c ∷ commits) = ap suc (length-logged g (n + 1) commits)
 
-same_commits : (g : Geometry) (n i : ℕ) (commits : List Commit)
+pub same_commits : (g : Geometry) (n i : ℕ) (commits : List Commit)
     → IfSome (slice_get (commits_of g n (map (written g) commits)) i) (λ c. IfSome (slice_get commits i) (SameCommit g c))
 same_commits g n i [] = tt
 same_commits g n zero (c ∷ commits) = record { mode = refl; effect = same_effect g c.accesses }
 same_commits g n (suc i) (c ∷ commits) = same_commits g (n + 1) i commits
-
-pub logged_shows : (g : Geometry) (H : History) (bytes : List ℕ) (generation : ℕ) → IsHistory g H → IsImage bytes g generation (logged g H) → Shows bytes g H (last H)
-logged_shows g H bytes generation is image = record {
-  form = g.form;
-  generation = generation;
-  held = logged g H;
-  image = image;
-  last = ap (λ n. H.first + n - 1) (length-logged g H.first H.commits);
-  first = omega arith;
-  arrays = λ n from to. same_array g H n is;
-  commits = λ n from to. same_commits g H.first (n - H.first) H.commits;
-}

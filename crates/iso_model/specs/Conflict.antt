@@ -42,15 +42,20 @@ clash_from g mode accesses k (c ∷ commits) =
     or_else (option_map (λ at. record { commit = k; block = at.0; at = at.1 }) (first_byte (clashes mode c accesses) g.block 0 g.blocks))
     (clash_from g mode accesses (k + 1) commits)
 
+-- the number of the first commit of the history that comes after the begin
+abbrev pub first_after : History → (begin : ℕ) → ℕ
+first_after H begin = H.first + (begin + 1 - H.first)
+
 -- The least commit after the begin, block and byte such that the commit writes the byte and, in serial mode, a read
 -- of the list covers it, or, in snapshot mode, a write. None where there is none, or where the list has no write.
 unfoldable pub clash : Geometry → History → Mode → (begin : ℕ) → List Access → Option Clash
 clash g H mode begin accesses =
-    cond (has_write accesses) (clash_from g mode accesses (begin + 1) (drop (begin + 1 - H.first) H.commits)) None
+    cond (has_write accesses) (clash_from g mode accesses (first_after H begin) (drop (begin + 1 - H.first) H.commits)) None
 
 -- a place where such a transaction meets a commit after its begin
 pub record IsClash (g : Geometry) (H : History) (mode : Mode) (begin : ℕ) (accesses : List Access) (c : Clash) : Type 0 where
   pub after : begin < c.commit
+  pub since : H.first ≤ c.commit
   pub block : c.block < g.blocks
   pub byte : c.at < g.block
   pub commit : Commit
@@ -71,6 +76,6 @@ IsSerialAt H k = IfSome (slice_get H.commits (k - H.first)) (λ c.
 -- no commit between the begin of commit k and its number has a write that meets a write of it
 abbrev pub IsSnapshotAt : Geometry → History → ℕ → Type 0
 IsSnapshotAt g H k = IfSome (slice_get H.commits (k - H.first)) (λ c.
-    (j : ℕ) → c.begin < j → j < k → IfSome (slice_get H.commits (j - H.first)) (λ d.
+    (j : ℕ) → H.first ≤ j → c.begin < j → j < k → IfSome (slice_get H.commits (j - H.first)) (λ d.
     (x y : ℕ) → IfSome (slice_get c.accesses x) (λ a. IfSome (slice_get d.accesses y) (λ b.
     IsTrue (is_write a) → IsTrue (is_write b) → ¬ Meets g.block a b))))

@@ -69,9 +69,13 @@ abbrev pub commits_of : Geometry → (n : ℕ) → List Written → List Commit
 commits_of g n [] = []
 commits_of g n (w ∷ more) = commit_of g n w ∷ commits_of g (n + 1) more
 
--- the history as its records tell it
-abbrev pub logged : Geometry → History → History
-logged g H = record H { commits = commits_of g H.first (map (written g) H.commits) }
+-- the history as an image tells it whose base is the array after commit b: the later commits, as their records tell them
+abbrev pub held : Geometry → (b : ℕ) → History → History
+held g b H = record {
+  first = b + 1;
+  base = array_at H b;
+  commits = commits_of g (b + 1) (map (written g) (drop (b + 1 - H.first) H.commits));
+}
 
 -- a run of bytes that lies in a block of the array
 pub record IsRun (g : Geometry) (run : Run) : Type 0 where
@@ -153,6 +157,7 @@ pub record SameCommit (g : Geometry) (held made : Commit) : Type 0 where
 -- The image shows the history H of an image of geometry g at its commit p: the arrays that it holds are those of H,
 -- up to p, and so are the effects and the modes of its commits.
 pub record Shows (bytes : List ℕ) (g : Geometry) (H : History) (p : ℕ) : Type 0 where
+  pub until : p ≤ last H
   pub form : ℕ
   pub generation : ℕ
   pub held : History

@@ -4,10 +4,16 @@ pub mod History
 pub mod Conflict
 pub mod Geometry
 pub mod World
+pub mod Versions
+pub mod Marks
 pub mod Step
+pub mod Open
 pub mod Script
 pub mod Image
 pub mod Text
 pub mod Premises
 pub mod Isolation
 pub mod Worlds
+pub mod Bench
+pub mod Reserved
+pub mod ReservedLends

@@ -1,15 +1,16 @@
 -- The words of the laws: what they suppose of a geometry, an array, an access and a history, and what runs say of a byte.
-use Rattle.std.specs.Prelude.{◌≡◌, ℕ, ◌+◌, ◌-◌, ◌*◌, ◌<◌, ◌≤◌, Bool, ◌&&◌, ◌==◌, cond, List, [], ◌∷◌, ◌++◌, Option, Some, None, IsTrue, length, map, slice_index, slice_index_or}
+use Rattle.std.specs.Prelude.{◌≡◌, ℕ, ◌+◌, ◌-◌, ◌*◌, ◌<◌, ◌≤◌, Bool, ◌&&◌, ◌==◌, cond, List, [], ◌∷◌, ◌++◌, Option, Some, None, IsTrue, IsFalse, length, map, slice_index, slice_index_or}
 use Rattle.std.specs.List.{AllByRecursion}
 use Rattle.iso_model.specs.declared.access.Access.{Access}
 use Rattle.iso_model.specs.declared.access.Commit.{Commit}
 use Rattle.iso_model.specs.declared.access.Geometry.{Geometry}
 use Rattle.iso_model.specs.declared.access.Run.{Run}
 use Rattle.iso_model.specs.declared.access.Span.{Span}
+use Rattle.iso_model.specs.declared.limits.TheConstants.{MAX_SPANS}
 use Rattle.iso_model.specs.Array.{Array, in_span}
 use Rattle.iso_model.specs.Effect.{is_write, or_else}
 use Rattle.iso_model.specs.Geometry.{image_size, half_size}
-use Rattle.iso_model.specs.History.{History, last}
+use Rattle.iso_model.specs.History.{History}
 use Rattle.iso_model.specs.Step.{put_access}
 
 -- the limits that a valid geometry keeps
@@ -27,6 +28,10 @@ pub record Limits (g : Geometry) : Type 0 where
   pub half : half_size g ≤ 134217760
   pub image : image_size g ≤ 268435584
 
+-- each of them is a byte
+abbrev pub AreBytes : List ℕ → Type 0
+AreBytes bytes = (i : ℕ) → slice_index bytes i < 256
+
 -- the bytes of block b, none where the array has no such block
 abbrev pub block_at : Array → (b : ℕ) → List ℕ
 block_at A b = slice_index_or A b []
@@ -35,6 +40,7 @@ block_at A b = slice_index_or A b []
 pub record HasShape (g : Geometry) (A : Array) : Type 0 where
   pub blocks : length A ≡ g.blocks
   pub bytes : (b : ℕ) → b < g.blocks → length (block_at A b) ≡ g.block
+  pub values : (b : ℕ) → AreBytes (block_at A b)
 
 -- a write has so many bytes
 abbrev pub HasBytes : ℕ → Access → Type 0
@@ -45,11 +51,14 @@ pub record IsSpan (size : ℕ) (span : Span) : Type 0 where
   pub some : 0 < span.len
   pub fits : span.off + span.len ≤ size
 
--- an access to a block of the array; a write has the bytes of a whole block
+-- an access to a block of the array; a write has the bytes of a whole block, a read has none
 pub record IsAccess (g : Geometry) (a : Access) : Type 0 where
   pub block : a.block < g.blocks
   pub spans : AllByRecursion (IsSpan g.block) a.spans
+  pub few : length a.spans ≤ MAX_SPANS
   pub bytes : HasBytes g.block a
+  pub none : IsFalse (is_write a) → a.bytes ≡ []
+  pub values : AreBytes a.bytes
 
 abbrev pub AreAccesses : Geometry → List Access → Type 0
 AreAccesses g accesses = AllByRecursion (IsAccess g) accesses
@@ -59,10 +68,6 @@ pub record IsHistory (g : Geometry) (H : History) : Type 0 where
   pub first : 0 < H.first
   pub base : HasShape g H.base
   pub commits : AllByRecursion (λ c. AreAccesses g c.accesses) H.commits
-
--- each commit began at one that stands
-abbrev pub HaveBegun : History → Type 0
-HaveBegun H = AllByRecursion (λ c. c.begin ≤ last H) H.commits
 
 -- the history with one more commit
 abbrev pub appended : History → Commit → History

@@ -1,15 +1,17 @@
 -- The language of scripts: what a line says, what a whole input says, and what it is answered.
-use Rattle.std.specs.Prelude.{ℕ, ◌+◌, Bool, true, ◌&&◌, ◌||◌, ◌==◌, if◌then◌else◌, List, [], ◌∷◌, ◌++◌, Option, Some, None, Result, Ok, Err, length, take, nat_eq, nat_le, nat_lt, ok_or, codes, bytes_eq}
+use Rattle.std.specs.Prelude.{ℕ, ◌+◌, Bool, true, ◌&&◌, ◌||◌, ◌==◌, not, if◌then◌else◌, List, [], ◌∷◌, ◌++◌, Option, Some, None, Result, Ok, Err, length, take, nat_eq, nat_le, nat_lt, ok_or, codes, bytes_eq}
 use Rattle.std.specs.List.{list_all}
 use Rattle.iso_model.specs.declared.limits.TheConstants.{MAX_INPUT, MAX_LINE}
 use Rattle.iso_model.specs.declared.script.BadLine.{BadLine}
 use Rattle.iso_model.specs.declared.script.Line.{Line}
 use Rattle.iso_model.specs.declared.script.Op.{Op}
-use Rattle.iso_model.specs.declared.script.Op.TheVariants.{Begin, End, Abort, Put, Read}
+use Rattle.iso_model.specs.declared.script.Op.TheVariants.{Begin, End, Abort, Put, Read, Get, Write, Fill, Mark, Release, Takeover, Await, Trim, Stat, Compact, Upgrade}
 use Rattle.iso_model.specs.declared.script.Parsed.{Parsed}
 use Rattle.iso_model.specs.declared.script.Parsed.TheVariants.{Skip, Line as Says}
 use Rattle.iso_model.specs.Step.{step}
-use Rattle.iso_model.specs.Text.{pieces, is_empty, words_of, number_of, hex_of, reply_line}
+use Rattle.iso_model.specs.declared.access.Mode.{Mode}
+use Rattle.iso_model.specs.Open.{is_open, takes_too_many}
+use Rattle.iso_model.specs.Text.{pieces, is_empty, words_of, number_of, hex_of, label_of, mode_of, reply_line}
 use Rattle.iso_model.specs.World.{World}
 
 -- a value, or else the cause; the next test follows only a value
@@ -33,6 +35,12 @@ number_argument word = ok_or (number_of word) 4
 abbrev pub hex_argument : List ℕ → Result (List ℕ) ℕ
 hex_argument word = ok_or (hex_of word) 5
 
+abbrev pub label_argument : List ℕ → Result (List ℕ) ℕ
+label_argument word = ok_or (label_of word) 6
+
+abbrev pub mode_argument : List ℕ → Result Mode ℕ
+mode_argument word = ok_or (mode_of word) 10
+
 -- the client that the first word names, 1 to 64
 abbrev pub client_in_range : Option ℕ → Result ℕ ℕ
 client_in_range (Some n) = if nat_le 1 n && nat_le n 64 then Ok n else Err 1
@@ -43,6 +51,48 @@ abbrev pub bare : Op → List (List ℕ) → Result Op ℕ
 bare op [] = Ok op
 bare op (word ∷ words) = Err 3
 
+-- a mode, or nothing
+abbrev pub begin_arguments : List (List ℕ) → Result Op ℕ
+begin_arguments [] = Ok (Begin None)
+begin_arguments (mode ∷ []) = do
+  m ← mode_argument mode
+  Ok (Begin (Some m))
+begin_arguments (mode ∷ word ∷ words) = Err 3
+
+-- a number
+abbrev pub one_number : (ℕ → Op) → List (List ℕ) → Result Op ℕ
+one_number op (number ∷ []) = do
+  n ← number_argument number
+  Ok (op n)
+one_number op [] = Err 3
+one_number op (number ∷ word ∷ words) = Err 3
+
+-- two numbers
+abbrev pub two_numbers : (ℕ → ℕ → Op) → List (List ℕ) → Result Op ℕ
+two_numbers op (first ∷ second ∷ []) = do
+  m ← number_argument first
+  n ← number_argument second
+  Ok (op m n)
+two_numbers op words = Err 3
+
+-- three numbers
+abbrev pub three_numbers : (ℕ → ℕ → ℕ → Op) → List (List ℕ) → Result Op ℕ
+three_numbers op (first ∷ second ∷ third ∷ []) = do
+  l ← number_argument first
+  m ← number_argument second
+  n ← number_argument third
+  Ok (op l m n)
+three_numbers op words = Err 3
+
+-- a number and bytes
+abbrev pub number_and_bytes : (ℕ → List ℕ → Op) → List (List ℕ) → Result Op ℕ
+number_and_bytes op (number ∷ bytes ∷ []) = do
+  n ← number_argument number
+  h ← hex_argument bytes
+  Ok (op n h)
+number_and_bytes op words = Err 3
+
+-- two numbers and bytes
 abbrev pub put_arguments : List (List ℕ) → Result Op ℕ
 put_arguments (block ∷ off ∷ bytes ∷ []) = do
   b ← number_argument block
@@ -51,21 +101,45 @@ put_arguments (block ∷ off ∷ bytes ∷ []) = do
   Ok (Put b o h)
 put_arguments words = Err 3
 
-abbrev pub read_arguments : List (List ℕ) → Result Op ℕ
-read_arguments (block ∷ []) = do
-  b ← number_argument block
-  Ok (Read b)
-read_arguments words = Err 3
+-- a label
+abbrev pub one_label : (List ℕ → Op) → List (List ℕ) → Result Op ℕ
+one_label op (text ∷ []) = do
+  l ← label_argument text
+  Ok (op l)
+one_label op words = Err 3
 
--- the operation of this name; one that is not built has cause 2
-unfoldable pub operation_of : (name : List ℕ) → (arguments : List (List ℕ)) → Result Op ℕ
-operation_of name arguments =
-    if bytes_eq name (codes "begin") then bare (Begin None) arguments
+-- the operation of this name, if it is none of a transaction's accesses, its begin and its end
+unfoldable pub other_operation : (name : List ℕ) → (arguments : List (List ℕ)) → Result Op ℕ
+other_operation name arguments =
+    if bytes_eq name (codes "release") then one_label Release arguments
+    else if bytes_eq name (codes "takeover") then one_label Takeover arguments
+    else if bytes_eq name (codes "await") then one_label Await arguments
+    else if bytes_eq name (codes "trim") then bare Trim arguments
+    else if bytes_eq name (codes "stat") then bare Stat arguments
+    else if bytes_eq name (codes "compact") then bare Compact arguments
+    else if bytes_eq name (codes "upgrade") then bare Upgrade arguments
+    else Err 2
+
+-- the operation of this name, whether or not it is open
+unfoldable pub any_operation : (name : List ℕ) → (arguments : List (List ℕ)) → Result Op ℕ
+any_operation name arguments =
+    if bytes_eq name (codes "begin") then begin_arguments arguments
     else if bytes_eq name (codes "put") then put_arguments arguments
-    else if bytes_eq name (codes "read") then read_arguments arguments
+    else if bytes_eq name (codes "read") then one_number Read arguments
+    else if bytes_eq name (codes "get") then three_numbers Get arguments
+    else if bytes_eq name (codes "write") then number_and_bytes Write arguments
+    else if bytes_eq name (codes "fill") then number_and_bytes Fill arguments
+    else if bytes_eq name (codes "mark") then two_numbers Mark arguments
     else if bytes_eq name (codes "end") then bare End arguments
     else if bytes_eq name (codes "abort") then bare Abort arguments
-    else Err 2
+    else other_operation name arguments
+
+-- the operation of this name; one that is not open has cause 2, and an argument that is not open has cause 3
+unfoldable pub operation_of : (name : List ℕ) → (arguments : List (List ℕ)) → Result Op ℕ
+operation_of name arguments =
+    if not (is_open name) then Err 2
+    else if takes_too_many name (length arguments) then Err 3
+    else any_operation name arguments
 
 -- what the words of a line say
 unfoldable pub said : List (List ℕ) → Result Parsed ℕ
@@ -113,10 +187,11 @@ before_script number (Ok Skip) rest = rest
 before_script number (Ok (Says line)) rest = record { lines = (number, line) ∷ rest.lines; bad = rest.bad }
 before_script number (Err cause) rest = bad_line number cause
 
--- the last piece, which no line feed ends: a line unless it is empty; where the input was cut there, cause 9
+-- the last piece, which no line feed ends: a line unless it is empty; where the input was cut there, cause 9,
+-- but for one that is too long
 abbrev pub last_piece : (cut : Bool) → (number : ℕ) → List ℕ → Script
 last_piece cut number piece =
-    if cut then bad_line number 9 else if is_empty piece then no_lines else before_script number (parse piece) no_lines
+    if cut && nat_le (length piece) MAX_LINE then bad_line number 9 else if is_empty piece then no_lines else before_script number (parse piece) no_lines
 
 -- the script of these pieces, the first of which is line number
 abbrev pub script_from : (cut : Bool) → (number : ℕ) → List (List ℕ) → Script

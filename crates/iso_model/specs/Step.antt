@@ -1,11 +1,14 @@
 -- What each operation of a client is answered, and the world after it.
-use Rattle.std.specs.Prelude.{ℕ, ◌+◌, ◌-◌, ◌&&◌, ◌||◌, ◌==◌, not, if◌then◌else◌, List, [], ◌∷◌, ◌++◌, Option, Some, None, length, replicate, nat_le, nat_lt, unwrap_or}
+use Rattle.std.specs.Prelude.{ℕ, ◌+◌, ◌-◌, Bool, false, ◌&&◌, ◌==◌, not, if◌then◌else◌, List, [], ◌∷◌, ◌++◌, Option, Some, None, length, take, drop, replicate, nat_le, nat_lt, slice_index, unwrap_or}
 use Rattle.iso_model.specs.declared.access.Access.{Access}
 use Rattle.iso_model.specs.declared.access.Clash.{Clash}
 use Rattle.iso_model.specs.declared.access.Kind.TheVariants.{Read, Write}
 use Rattle.iso_model.specs.declared.access.Mode.{Mode}
+use Rattle.iso_model.specs.declared.access.Span.{Span}
 use Rattle.iso_model.specs.declared.script.Op.{Op}
-use Rattle.iso_model.specs.declared.script.Op.TheVariants.{Begin, End, Abort, Put, Read as ReadBlock}
+use Rattle.iso_model.specs.declared.access.MarkError.{MarkError}
+use Rattle.iso_model.specs.declared.access.MarkError.TheVariants as mark
+use Rattle.iso_model.specs.declared.script.Op.TheVariants.{Begin, End, Abort, Put, Read as ReadBlock, Get, Write as WriteBlock, Fill, Mark, Release, Takeover, Await, Trim, Stat, Compact, Upgrade}
 use Rattle.iso_model.specs.declared.script.Reply.{Reply}
 use Rattle.iso_model.specs.declared.script.Reply.TheVariants as reply
 use Rattle.iso_model.specs.declared.limits.TheConstants.{LAST, MAX_ACCESSES, MAX_LIVE}
@@ -13,7 +16,9 @@ use Rattle.iso_model.specs.Conflict.{clash}
 use Rattle.iso_model.specs.Geometry.{same_mode}
 use Rattle.iso_model.specs.Effect.{has_write, record_length, runs}
 use Rattle.iso_model.specs.History.{last, shown_block}
-use Rattle.iso_model.specs.World.{World, Live, client, attached, without, with, used}
+use Rattle.iso_model.specs.Marks.{is_outside, mark_fault, marked}
+use Rattle.iso_model.specs.Versions.{versions}
+use Rattle.iso_model.specs.World.{World, Live, Place, client, label, attached, held, floor, without, with, used}
 
 -- a write of these bytes at off in a block of zeros, with one mark over them
 abbrev pub put_access : (size block off : ℕ) → List ℕ → Access
@@ -28,13 +33,29 @@ put_access size block off bytes = record {
 abbrev pub read_access : (block : ℕ) → Access
 read_access block = record { kind = Read; block = block; spans = []; bytes = [] }
 
+-- a read of len bytes of a block at off
+abbrev pub get_access : (block off len : ℕ) → Access
+get_access block off len = record { kind = Read; block = block; spans = record { off = off; len = len } ∷ []; bytes = [] }
+
+-- a write of a whole block
+abbrev pub write_access : (block : ℕ) → List ℕ → Access
+write_access block bytes = record { kind = Write; block = block; spans = []; bytes = bytes }
+
 -- the world with other live transactions
 abbrev pub with_live : World → List Live → World
 with_live W live = record W { live = live }
 
+-- the world in which the transaction has these accesses
+abbrev pub with_accesses : World → Live → List Access → World
+with_accesses W t accesses = with_live W (with (record t { accesses = accesses }) W.live)
+
 -- the world in which the transaction has one more access
 abbrev pub with_access : World → Live → Access → World
-with_access W t a = with_live W (with (record t { accesses = t.accesses ++ a ∷ [] }) W.live)
+with_access W t a = with_accesses W t (t.accesses ++ a ∷ [])
+
+-- the world in which the transaction is somewhere else
+abbrev pub placed : World → Live → Place → World
+placed W t place = with_live W (with (record t { place = place }) W.live)
 
 -- the world in which the transaction is no longer live
 abbrev pub after_leaving : World → Live → World
@@ -51,9 +72,9 @@ abbrev pub mode_named : World → Option Mode → Mode
 mode_named W mode = unwrap_or mode W.geometry.mode
 
 -- the world after a begin
-abbrev pub after_begin : World → (c : ℕ) → Mode → World
-after_begin W c mode = record W {
-  live = W.live ++ record { number = W.next; begin = last W.history; mode = mode; accesses = []; place = client c } ∷ [];
+abbrev pub after_begin : World → Place → Mode → World
+after_begin W place mode = record W {
+  live = W.live ++ record { number = W.next; begin = last W.history; mode = mode; accesses = []; place = place } ∷ [];
   next = W.next + 1;
 }
 
@@ -61,31 +82,57 @@ after_begin W c mode = record W {
 abbrev pub need : World → Live → ℕ
 need W t = record_length (runs W.geometry t.accesses) + 1
 
--- a begin of a client without a transaction; an image of form 1 has transactions of its own mode alone
-unfoldable pub begin_step : World → (c : ℕ) → Mode → Reply × World
-begin_step W c mode =
+-- a begin at a place without a transaction; an image of form 1 has transactions of its own mode alone
+unfoldable pub begin_step : World → Place → Mode → Reply × World
+begin_step W place mode =
     if (W.geometry.form == 1) && not (same_mode mode W.geometry.mode) then (reply.ModeFixed, W)
     else if nat_le MAX_LIVE (length W.live) then (reply.TooManyTx, W)
     else if nat_lt LAST W.next then (reply.Worn, W)
-    else (reply.Began (last W.history), after_begin W c mode)
+    else (reply.Began (last W.history), after_begin W place mode)
 
--- an operation that needs that there is no transaction
-abbrev pub out_of_transaction : World → Option Live → Reply × World → Reply × World
-out_of_transaction W (Some t) result = (reply.InTx, W)
-out_of_transaction W None result = result
+-- an access, which is refused outside the array, where its bytes are wrong, and where the transaction has as many as it may
+abbrev pub access_step : World → Live → (block : ℕ) → (is_wrong : Bool) → Reply → Access → Reply × World
+access_step W t block is_wrong answer a =
+    if nat_le W.geometry.blocks block then (reply.BadBlock, W)
+    else if is_wrong then (reply.BadRange, W)
+    else if nat_le MAX_ACCESSES (length t.accesses) then (reply.TooManyAccesses, W)
+    else (answer, with_access W t a)
+
+-- what a read of the block shows the transaction
+abbrev pub shown_to : World → Live → (block : ℕ) → List ℕ
+shown_to W t block = shown_block W.history t.begin t.accesses block
 
 unfoldable pub put_step : World → Live → (block off : ℕ) → List ℕ → Reply × World
 put_step W t block off bytes =
-    if nat_le W.geometry.blocks block then (reply.BadBlock, W)
-    else if (length bytes == 0) || nat_lt W.geometry.block (off + length bytes) then (reply.BadRange, W)
-    else if nat_le MAX_ACCESSES (length t.accesses) then (reply.TooManyAccesses, W)
-    else (reply.Done, with_access W t (put_access W.geometry.block block off bytes))
+    access_step W t block (is_outside W.geometry.block off (length bytes)) reply.Done (put_access W.geometry.block block off bytes)
 
 unfoldable pub read_step : World → Live → (block : ℕ) → Reply × World
-read_step W t block =
-    if nat_le W.geometry.blocks block then (reply.BadBlock, W)
-    else if nat_le MAX_ACCESSES (length t.accesses) then (reply.TooManyAccesses, W)
-    else (reply.Shown (shown_block W.history t.begin t.accesses block), with_access W t (read_access block))
+read_step W t block = access_step W t block false (reply.Shown (shown_to W t block)) (read_access block)
+
+unfoldable pub get_step : World → Live → (block off len : ℕ) → Reply × World
+get_step W t block off len =
+    access_step W t block (is_outside W.geometry.block off len) (reply.Shown (take len (drop off (shown_to W t block)))) (get_access block off len)
+
+unfoldable pub write_step : World → Live → (block : ℕ) → List ℕ → Reply × World
+write_step W t block bytes = access_step W t block (not (length bytes == W.geometry.block)) reply.Done (write_access block bytes)
+
+unfoldable pub fill_step : World → Live → (block : ℕ) → List ℕ → Reply × World
+fill_step W t block bytes =
+    access_step W t block (not (length bytes == 1)) reply.Done (write_access block (replicate W.geometry.block (slice_index bytes 0)))
+
+abbrev pub mark_refused : MarkError → Reply
+mark_refused mark.BadRange = reply.BadRange
+mark_refused mark.NoAccess = reply.NoAccess
+mark_refused mark.TooManyMarks = reply.TooManyMarks
+
+-- a mark, once the reason for which it is refused is known, if there is one
+abbrev pub marked_step : World → Live → Span → Option MarkError → Reply × World
+marked_step W t span (Some fault) = (mark_refused fault, W)
+marked_step W t span None = (reply.Done, with_accesses W t (marked span t.accesses))
+
+-- one more mark on the last access
+unfoldable pub mark_step : World → Live → (off len : ℕ) → Reply × World
+mark_step W t off len = marked_step W t (record { off = off; len = len }) (mark_fault W.geometry.block off len t.accesses)
 
 -- the end of a transaction with a write, once its least clash is known
 unfoldable pub commit_step : World → Live → Option Clash → Reply × World
@@ -100,6 +147,37 @@ end_step W t =
     if has_write t.accesses then commit_step W t (clash W.geometry W.history t.mode t.begin t.accesses)
     else (reply.ReadOnly, after_leaving W t)
 
+-- a release under a label, once it is known who is there
+abbrev pub release_step : World → Live → List ℕ → Option Live → Reply × World
+release_step W t text (Some other) = (reply.LabelTaken, W)
+release_step W t text None = (reply.Done, placed W t (label text))
+
+-- a takeover by a client, once it is known who is under the label
+abbrev pub takeover_step : World → (c : ℕ) → Option Live → Reply × World
+takeover_step W c None = (reply.NoHandle, W)
+takeover_step W c (Some t) = (reply.Began t.begin, placed W t (client c))
+
+-- the world in which no version is kept for a number below the floor
+abbrev pub after_trim : World → World
+after_trim W = record W { trim = floor W }
+
+-- the world whose base is the array at the floor, in a half of this form
+abbrev pub after_switch : World → (form : ℕ) → World
+after_switch W form = record W { geometry = record W.geometry { form = form }; base = floor W; trim = floor W; generation = W.generation + 1 }
+
+-- a switch to the other half
+unfoldable pub switch_step : World → (form : ℕ) → Reply → Reply × World
+switch_step W form answer = if W.generation == LAST then (reply.Worn, W) else (answer, after_switch W form)
+
+-- the numbers of the image
+unfoldable pub numbers : World → Reply
+numbers W = reply.Numbers (last W.history) W.base W.trim (length W.live) (used W) (versions W)
+
+-- an operation that needs that there is no transaction
+abbrev pub out_of_transaction : World → Option Live → Reply × World → Reply × World
+out_of_transaction W (Some t) result = (reply.InTx, W)
+out_of_transaction W None result = result
+
 -- an operation that needs a transaction: refused where the client has none
 abbrev pub in_transaction : World → Option Live → (Live → Reply × World) → Reply × World
 in_transaction W None act = (reply.NotInTx, W)
@@ -107,8 +185,19 @@ in_transaction W (Some t) act = act t
 
 -- the reply to a client's operation, and the world after it
 unfoldable pub step : World → (c : ℕ) → Op → Reply × World
-step W c (Begin mode) = out_of_transaction W (attached W c) (begin_step W c (mode_named W mode))
+step W c (Begin mode) = out_of_transaction W (attached W c) (begin_step W (client c) (mode_named W mode))
 step W c (Put block off bytes) = in_transaction W (attached W c) (λ t. put_step W t block off bytes)
 step W c (ReadBlock block) = in_transaction W (attached W c) (λ t. read_step W t block)
-step W c Abort = in_transaction W (attached W c) (λ t. (reply.Done, after_leaving W t))
+step W c (Get block off len) = in_transaction W (attached W c) (λ t. get_step W t block off len)
+step W c (WriteBlock block bytes) = in_transaction W (attached W c) (λ t. write_step W t block bytes)
+step W c (Fill block bytes) = in_transaction W (attached W c) (λ t. fill_step W t block bytes)
+step W c (Mark off len) = in_transaction W (attached W c) (λ t. mark_step W t off len)
 step W c End = in_transaction W (attached W c) (end_step W)
+step W c Abort = in_transaction W (attached W c) (λ t. (reply.Done, after_leaving W t))
+step W c (Release text) = in_transaction W (attached W c) (λ t. release_step W t text (held W text))
+step W c (Takeover text) = out_of_transaction W (attached W c) (takeover_step W c (held W text))
+step W c (Await text) = out_of_transaction W (attached W c) (takeover_step W c (held W text))
+step W c Trim = (reply.Trimmed (floor W), after_trim W)
+step W c Stat = (numbers W, W)
+step W c Compact = switch_step W W.geometry.form (reply.Compacted (floor W))
+step W c Upgrade = switch_step W 2 (reply.Upgraded (floor W))

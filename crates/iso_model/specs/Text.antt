@@ -1,8 +1,10 @@
 -- The words and numbers of a line, and the texts of the replies.
-use Rattle.std.specs.Prelude.{ℕ, ◌+◌, ◌-◌, ◌*◌, ◌/◌, ◌%◌, ◌^◌, Bool, true, false, ◌&&◌, ◌==◌, not, cond, List, [], ◌∷◌, ◌++◌, Option, Some, None, nat_le, nat_lt, decimal, codes, filter, fold, flat_map}
+use Rattle.std.specs.Prelude.{ℕ, ◌+◌, ◌-◌, ◌*◌, ◌/◌, ◌%◌, ◌^◌, Bool, true, false, ◌&&◌, ◌||◌, ◌==◌, not, cond, if◌then◌else◌, List, [], ◌∷◌, ◌++◌, Option, Some, None, length, bytes_eq, nat_le, nat_lt, decimal, codes, filter, fold, flat_map}
 use Rattle.std.specs.List.{list_all}
+use Rattle.iso_model.specs.declared.access.Mode.{Mode}
+use Rattle.iso_model.specs.declared.access.Mode.TheVariants.{Serial, Snapshot}
 use Rattle.iso_model.specs.declared.script.Reply.{Reply}
-use Rattle.iso_model.specs.declared.script.Reply.TheVariants.{Done, Began, Shown, Committed, ReadOnly, Conflict, InTx, NotInTx, ModeFixed, BadBlock, BadRange, TooManyAccesses, TooManyTx, Worn, LogFull}
+use Rattle.iso_model.specs.declared.script.Reply.TheVariants.{Done, Began, Shown, Committed, ReadOnly, Conflict, Trimmed, Compacted, Upgraded, Numbers, InTx, NotInTx, ModeFixed, BadBlock, BadRange, NoAccess, TooManyMarks, TooManyAccesses, NoHandle, LabelTaken, TooManyTx, Worn, LogFull}
 
 -- the byte before the first piece
 abbrev pub before_piece : ℕ → List (List ℕ) → List (List ℕ)
@@ -62,6 +64,25 @@ hex_pairs (a ∷ b ∷ word) = hex_pair (hex_digit a) (hex_digit b) (hex_pairs w
 unfoldable pub hex_of : List ℕ → Option (List ℕ)
 hex_of word = cond (is_empty word) None (hex_pairs word)
 
+abbrev pub is_label_byte : ℕ → Bool
+is_label_byte b = is_digit b || (nat_le 97 b && nat_le b 122)
+
+-- whether the text is a label: 1 to 16 bytes from a-z and 0-9
+abbrev pub is_label : List ℕ → Bool
+is_label text = nat_le 1 (length text) && nat_le (length text) 16 && list_all is_label_byte text
+
+-- the number whose digits to the base 256 are the bytes of the text, the first byte the lowest
+abbrev pub key_of : List ℕ → ℕ
+key_of [] = 0
+key_of (byte ∷ text) = key_of text * 256 + byte
+
+abbrev pub label_of : List ℕ → Option (List ℕ)
+label_of text = cond (is_label text) (Some text) None
+
+-- the mode that a word names
+abbrev pub mode_of : List ℕ → Option Mode
+mode_of word = if bytes_eq word (codes "serial") then Some Serial else if bytes_eq word (codes "snapshot") then Some Snapshot else None
+
 -- a hexadecimal digit in lower case
 abbrev pub digit_of : ℕ → ℕ
 digit_of n = cond (nat_lt n 10) (48 + n) (87 + n)
@@ -78,12 +99,22 @@ reply_text (Shown bytes) = codes "ok " ++ hex_text bytes
 reply_text (Committed n) = codes "ok commit " ++ decimal n
 reply_text ReadOnly = codes "ok read-only"
 reply_text (Conflict c) = codes "conflict with " ++ decimal c.commit ++ codes " block " ++ decimal c.block ++ codes " at " ++ decimal c.at
+reply_text (Trimmed n) = codes "ok trim " ++ decimal n
+reply_text (Compacted n) = codes "ok compact " ++ decimal n
+reply_text (Upgraded n) = codes "ok upgrade " ++ decimal n
+reply_text (Numbers last base trim live used versions) =
+    codes "ok last " ++ decimal last ++ codes " base " ++ decimal base ++ codes " trim " ++ decimal trim
+    ++ codes " live " ++ decimal live ++ codes " used " ++ decimal used ++ codes " versions " ++ decimal versions
 reply_text InTx = codes "in-tx"
 reply_text NotInTx = codes "not-in-tx"
 reply_text ModeFixed = codes "mode-fixed"
 reply_text BadBlock = codes "bad-block"
 reply_text BadRange = codes "bad-range"
+reply_text NoAccess = codes "no-access"
+reply_text TooManyMarks = codes "too-many-marks"
 reply_text TooManyAccesses = codes "too-many-accesses"
+reply_text NoHandle = codes "no-handle"
+reply_text LabelTaken = codes "label-taken"
 reply_text TooManyTx = codes "too-many-tx"
 reply_text Worn = codes "worn"
 reply_text (LogFull need free) = codes "log full need " ++ decimal need ++ codes " free " ++ decimal free

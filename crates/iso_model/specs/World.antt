@@ -1,16 +1,18 @@
 -- An image with its live transactions, as a client of one thread sees it.
-use Rattle.std.specs.Prelude.{ℕ, ◌+◌, ◌-◌, Bool, false, ◌==◌, not, cond, List, [], ◌∷◌, Option, min, drop, filter, map, find, sum_by}
+use Rattle.std.specs.Prelude.{◌≡◌, ℕ, ◌+◌, ◌-◌, Bool, false, ◌==◌, not, cond, List, [], ◌∷◌, Option, Some, min, bytes_eq, drop, slice_get, filter, map, find, sum_by}
 use Rattle.iso_model.specs.declared.access.Access.{Access}
+use Rattle.iso_model.specs.declared.access.Commit.{Commit}
 use Rattle.iso_model.specs.declared.access.Geometry.{Geometry}
 use Rattle.iso_model.specs.declared.access.Mode.{Mode}
 use Rattle.iso_model.specs.Array.{zeros}
 use Rattle.iso_model.specs.Effect.{runs, record_length}
 use Rattle.iso_model.specs.History.{History, last}
 
--- where a live transaction is: attached to a client, or under a label
+-- where a live transaction is: attached to a client, under a label, or neither
 pub data Place : Type 0 where
   client : ℕ → Place
   label : List ℕ → Place
+  unattached : Place
 
 -- a transaction that has begun and not ended
 pub record Live : Type 0 where
@@ -52,17 +54,35 @@ floor_of n (t ∷ live) = least_begin t.begin live
 abbrev pub floor : World → ℕ
 floor W = floor_of (last W.history) W.live
 
+-- one of the transactions began there
+abbrev pub BeganAt : ℕ → List Live → Type 0
+BeganAt n live = (i : ℕ) × (t : Live) × (slice_get live i ≡ Some t) × (t.begin ≡ n)
+
+-- the commits above the base number, whose records the log of the current half holds
+abbrev pub logged_commits : World → List Commit
+logged_commits W = drop (W.base + 1 - W.history.first) W.history.commits
+
 -- the bytes of the log that records take
 abbrev pub used : World → ℕ
-used W = sum_by (λ c. record_length (runs W.geometry c.accesses)) (drop (W.base + 1 - W.history.first) W.history.commits)
+used W = sum_by (λ c. record_length (runs W.geometry c.accesses)) (logged_commits W)
 
 abbrev pub is_at_client : ℕ → Place → Bool
 is_at_client c (client d) = c == d
 is_at_client c (label text) = false
+is_at_client c unattached = false
 
 -- the transaction that is attached to the client
 abbrev pub attached : World → (c : ℕ) → Option Live
 attached W c = find (λ t. is_at_client c t.place) W.live
+
+abbrev pub is_under_label : List ℕ → Place → Bool
+is_under_label text (client c) = false
+is_under_label text (label other) = bytes_eq text other
+is_under_label text unattached = false
+
+-- the transaction under the label
+abbrev pub held : World → List ℕ → Option Live
+held W text = find (λ t. is_under_label text t.place) W.live
 
 -- the live transactions without this one
 abbrev pub without : ℕ → List Live → List Live

@@ -1,31 +1,81 @@
 -- What holds of every world that is reached from a sound one.
-use Rattle.std.specs.Prelude.{◌≡◌, ◌+◌, ◌≤◌, IsTrue, List, ◌++◌, map}
+use Rattle.std.specs.Prelude.{◌≡◌, ◌≢◌, ℕ, ◌+◌, ◌<◌, ◌≤◌, IsTrue, List, [], ◌∷◌, ◌++◌, length, map}
 use Rattle.std.specs.List.{AllByRecursion}
 use Rattle.iso_model.specs.declared.access.Commit.{Commit}
 use Rattle.iso_model.specs.declared.access.Geometry.{Geometry}
 use Rattle.iso_model.specs.declared.access.Mode.{Mode}
-use Rattle.iso_model.specs.declared.limits.TheConstants.{LAST}
+use Rattle.iso_model.specs.declared.script.Line.{Line}
+use Rattle.iso_model.specs.declared.script.Op.{Op}
+use Rattle.iso_model.specs.declared.script.Op.TheVariants.{Begin, End, Abort, Put, Read, Get, Write, Fill, Mark, Release, Takeover, Await, Trim, Stat, Compact, Upgrade}
+use Rattle.iso_model.specs.declared.limits.TheConstants.{LAST, MAX_ACCESSES, MAX_LIVE}
 use Rattle.iso_model.specs.Geometry.{is_valid}
 use Rattle.iso_model.specs.History.{History, last}
 use Rattle.iso_model.specs.Image.{IsRecord, written}
 use Rattle.iso_model.specs.Isolation.{IsIsolated}
-use Rattle.iso_model.specs.Premises.{AreAccesses, IsHistory, HaveBegun}
-use Rattle.iso_model.specs.World.{World, Live, used}
+use Rattle.iso_model.specs.Premises.{AreAccesses, AreBytes, IsHistory}
+use Rattle.iso_model.specs.Text.{is_label}
+use Rattle.iso_model.specs.World.{World, Live, Place, client, label, unattached, used}
 
 -- a mode that a transaction of the image may have: in form 1 it is the image's
 abbrev pub MayHave : Geometry → Mode → Type 0
 MayHave g mode = g.form ≡ 1 → mode ≡ g.mode
 
--- a live transaction of the image, which began at a commit that stands
-pub record IsLive (g : Geometry) (H : History) (t : Live) : Type 0 where
-  pub accesses : AreAccesses g t.accesses
-  pub since : H.first ≤ t.begin + 1
-  pub begin : t.begin ≤ last H
-  pub mode : MayHave g t.mode
+-- a place where a transaction may be
+abbrev pub IsPlace : Place → Type 0
+IsPlace (client c) = Unit {0}
+IsPlace (label text) = IsTrue (is_label text)
+IsPlace unattached = Unit {0}
+
+-- A live transaction of the image: it began at a commit whose array is kept, and its number was given out.
+pub record IsLive (W : World) (t : Live) : Type 0 where
+  pub accesses : AreAccesses W.geometry t.accesses
+  pub count : length t.accesses ≤ MAX_ACCESSES
+  pub since : W.trim ≤ t.begin
+  pub begin : t.begin ≤ last W.history
+  pub mode : MayHave W.geometry t.mode
+  pub number : t.number < W.next
+  pub place : IsPlace t.place
+
+-- not at one client, and not under one label
+abbrev pub AreApart : Place → Place → Type 0
+AreApart (client c) (client d) = c ≢ d
+AreApart (client c) (label text) = Unit {0}
+AreApart (client c) unattached = Unit {0}
+AreApart (label text) (label other) = text ≢ other
+AreApart (label text) (client c) = Unit {0}
+AreApart (label text) unattached = Unit {0}
+AreApart unattached place = Unit {0}
+
+-- two transactions with their own numbers and places
+pub record AreTwo (t u : Live) : Type 0 where
+  pub numbers : t.number ≢ u.number
+  pub places : AreApart t.place u.place
+
+-- each two of them are two
+abbrev pub AreDistinct : List Live → Type 0
+AreDistinct [] = Unit {0}
+AreDistinct (t ∷ live) = AllByRecursion (AreTwo t) live × AreDistinct live
 
 -- each commit may be a record
 abbrev pub AreRecords : Geometry → List Commit → Type 0
 AreRecords g commits = AllByRecursion (IsRecord g) (map (written g) commits)
+
+-- A world of an image: its history is isolated, its commits fit the log, and its live transactions are the image's.
+pub record IsWorld (W : World) : Type 0 where
+  pub valid : IsTrue (is_valid W.geometry)
+  pub history : IsHistory W.geometry W.history
+  pub isolated : IsIsolated W.geometry W.history
+  pub records : AreRecords W.geometry W.history.commits
+  pub numbers : last W.history ≤ LAST
+  pub since : W.history.first ≤ W.base + 1
+  pub base : W.base ≤ W.trim
+  pub trim : W.trim ≤ last W.history
+  pub generation : W.generation ≤ LAST
+  pub room : used W + 1 ≤ W.geometry.log
+  pub live : AllByRecursion (IsLive W) W.live
+  pub distinct : AreDistinct W.live
+  pub count : length W.live ≤ MAX_LIVE
+  pub next : W.next ≤ LAST + 1
 
 -- the second history begins with the first
 pub record Extends (H G : History) : Type 0 where
@@ -34,21 +84,44 @@ pub record Extends (H G : History) : Type 0 where
   pub more : List Commit
   pub commits : G.commits ≡ H.commits ++ more
 
--- a world of an image: its history is isolated, its commits fit the log, and its live transactions are the image's
-pub record IsWorld (W : World) : Type 0 where
-  pub valid : IsTrue (is_valid W.geometry)
-  pub history : IsHistory W.geometry W.history
-  pub begun : HaveBegun W.history
-  pub isolated : IsIsolated W.geometry W.history
-  pub records : AreRecords W.geometry W.history.commits
-  pub numbers : last W.history ≤ LAST
-  pub since : W.history.first ≤ W.base + 1
-  pub base : W.base ≤ last W.history
-  pub room : used W + 1 ≤ W.geometry.log
-  pub live : AllByRecursion (IsLive W.geometry W.history) W.live
+-- the same geometry but for the form, which does not fall
+pub record KeepsGeometry (g f : Geometry) : Type 0 where
+  pub same : f ≡ record g { form = f.form }
+  pub form : g.form ≤ f.form
 
--- what leads from one world to another: the geometry stays, the history grows, and the world stays sound
+-- What leads from one world to another: the geometry stays but for the form, the history grows, and the world stays sound.
 pub record LeadsTo (W V : World) : Type 0 where
   pub world : IsWorld V
-  pub geometry : V.geometry ≡ W.geometry
+  pub geometry : KeepsGeometry W.geometry V.geometry
   pub history : Extends W.history V.history
+
+-- an operation whose bytes are bytes, and whose label is one
+abbrev pub IsOp : Op → Type 0
+IsOp (Begin mode) = Unit {0}
+IsOp End = Unit {0}
+IsOp Abort = Unit {0}
+IsOp (Put block off bytes) = AreBytes bytes
+IsOp (Read block) = Unit {0}
+IsOp (Get block off len) = Unit {0}
+IsOp (Write block bytes) = AreBytes bytes
+IsOp (Fill block bytes) = AreBytes bytes
+IsOp (Mark off len) = Unit {0}
+IsOp (Release text) = IsTrue (is_label text)
+IsOp (Takeover text) = Unit {0}
+IsOp (Await text) = Unit {0}
+IsOp Trim = Unit {0}
+IsOp Stat = Unit {0}
+IsOp Compact = Unit {0}
+IsOp Upgrade = Unit {0}
+
+-- lines of such operations
+abbrev pub AreLines : List (ℕ × Line) → Type 0
+AreLines lines = AllByRecursion (λ line. IsOp line.1.op) lines
+
+-- an operation that changes no transaction and no commit
+abbrev pub IsUpkeep : Op → Type 0
+IsUpkeep Trim = Unit {0}
+IsUpkeep Stat = Unit {0}
+IsUpkeep Compact = Unit {0}
+IsUpkeep Upgrade = Unit {0}
+IsUpkeep op = ⊥

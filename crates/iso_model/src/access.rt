@@ -79,3 +79,14 @@ pub struct Run {
     pub off: u16,
     pub bytes: Bytes,
 }
+
+/// Why the last access of a transaction does not take a mark.
+#[derive(Clone, Copy, Debug, PartialEq, Eq)]
+pub enum MarkError {
+    /// The mark is empty or passes the end of the block.
+    BadRange,
+    /// There is no access.
+    NoAccess,
+    /// The access has as many marks as it may.
+    TooManyMarks,
+}

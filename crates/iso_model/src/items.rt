@@ -45,7 +45,8 @@ impl<T> Items<T> {
         Items { items }
     }
 
-    /// Makes room for so many more items, so that adding them takes no memory. The items stay.
+    /// Makes room for so many more items, so that adding them takes no memory. The items stay. Contracts do not see the
+    /// room of a list that is data of the model; those of `Reserved` do.
     pub fn reserve(&mut self, more: u32) -> Result<(), Memory>
         ensures { self.new ≡ self.old }
     {

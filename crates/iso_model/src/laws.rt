@@ -1,5 +1,5 @@
 // The laws of the definitions: each function does nothing, and its contract is the law.
-ghost use Rattle.std.specs.Prelude.{◌≡◌, ◌≢◌, ◌↔◌, ℕ, ◌<◌, ◌≤◌, ◌+◌, ◌-◌, IsTrue, IsFalse, IsSome, IfSome, List, Some, None, length, slice_get, slice_index, unwrap_or};
+ghost use Rattle.std.specs.Prelude.{◌≡◌, ◌≢◌, ◌↔◌, ℕ, ◌<◌, ◌≤◌, ◌+◌, ◌-◌, IsTrue, IsFalse, IsSome, IfSome, List, Some, None, length, map, slice_get, slice_index, unwrap_or};
 ghost use Rattle.std.specs.List.{AllByRecursion};
 ghost use Rattle.iso_model.specs.declared.access.Access.{Access};
 ghost use Rattle.iso_model.specs.declared.access.Clash.{Clash};
@@ -9,6 +9,7 @@ ghost use Rattle.iso_model.specs.declared.access.Kind.TheVariants.{Write};
 ghost use Rattle.iso_model.specs.declared.access.Mode.{Mode};
 ghost use Rattle.iso_model.specs.declared.access.Mode.TheVariants.{Serial, Snapshot};
 ghost use Rattle.iso_model.specs.declared.access.Run.{Run};
+ghost use Rattle.iso_model.specs.declared.limits.TheConstants.{LAST};
 ghost use Rattle.iso_model.specs.declared.script.Line.{Line};
 ghost use Rattle.iso_model.specs.declared.script.Op.{Op};
 ghost use Rattle.iso_model.specs.Array.{Array, byte_at, covered, put};
@@ -16,13 +17,13 @@ ghost use Rattle.iso_model.specs.Conflict.{clash, IsClash, IsSerialAt, IsSnapsho
 ghost use Rattle.iso_model.specs.Effect.{effect_at, has_write, own, runs, touches};
 ghost use Rattle.iso_model.specs.Geometry.{is_valid};
 ghost use Rattle.iso_model.specs.History.{array_at, last, History};
-ghost use Rattle.iso_model.specs.Image.{logged, written, AreRuns, IsImage, IsRecord, SameEffect, Shows};
+ghost use Rattle.iso_model.specs.Image.{commits_of, held, written, AreRuns, IsImage, IsRecord, SameEffect, Shows};
 ghost use Rattle.iso_model.specs.Isolation.{IsIsolated};
-ghost use Rattle.iso_model.specs.Premises.{appended, block_at, recorded, value_in, AreAccesses, HasBytes, HaveBegun, IsAccess, IsHistory, Limits};
-ghost use Rattle.iso_model.specs.Script.{after};
+ghost use Rattle.iso_model.specs.Premises.{appended, block_at, recorded, value_in, AreAccesses, AreBytes, HasBytes, HasShape, IsAccess, IsHistory, Limits};
+ghost use Rattle.iso_model.specs.Script.{after, script};
 ghost use Rattle.iso_model.specs.Step.{put_access, read_access, step};
 ghost use Rattle.iso_model.specs.World.{empty_history, fresh, World};
-ghost use Rattle.iso_model.specs.Worlds.{IsWorld, LeadsTo, MayHave};
+ghost use Rattle.iso_model.specs.Worlds.{AreLines, Extends, IsOp, IsWorld, LeadsTo, MayHave};
 
 /// A valid geometry keeps its limits, and the image is small.
 pub fn valid_geometry_keeps_limits()
@@ -68,26 +69,30 @@ pub fn writes_have_runs()
 pub fn records_keep_the_effect()
     ensures effect { (g : Geometry) (accesses : List Access) → SameEffect g (recorded g (runs g accesses)) accesses }
     ensures runs { (g : Geometry) (list : List Run) → AreRuns g list → runs g (recorded g list) ≡ list }
-    ensures arrays { (g : Geometry) (H : History) (n : ℕ) → IsHistory g H → array_at (logged g H) n ≡ array_at H n }
 {}
 
-/// An image that holds a history as its records tell it shows that history, up to its last commit.
-pub fn logged_history_shows()
-    ensures { (bytes : List ℕ) (g : Geometry) (generation : ℕ) (H : History) → IsHistory g H
-        → IsImage bytes g generation (logged g H) → Shows bytes g H (last H) }
+/// An image that holds a history from some commit on shows that history, up to its last commit, whatever its form.
+pub fn held_history_shows()
+    ensures arrays { (g : Geometry) (b n : ℕ) (H : History) → IsHistory g H → H.first ≤ b + 1 → b ≤ n → array_at (held g b H) n ≡ array_at H n }
+    ensures shows { (g : Geometry) (b form generation : ℕ) (H : History) (bytes : List ℕ) → IsHistory g H → H.first ≤ b + 1 → b ≤ last H
+        → IsImage bytes (record g { form = form }) generation (held g b H) → Shows bytes g H (last H) }
+    ensures whole { (g : Geometry) (b : ℕ) (H : History) → b + 1 ≡ H.first
+        → held g b H ≡ record H { commits = commits_of g H.first (map (written g) H.commits) } }
+    ensures longer { (bytes : List ℕ) (g : Geometry) (H G : History) (p : ℕ) → 0 < H.first → Extends H G
+        → Shows bytes g H p → Shows bytes g G p }
 {}
 
 /// The clash is a least meeting, and where there is none a transaction with a write meets no later commit.
 pub fn clash_is_the_least_meeting()
-    ensures found { (g : Geometry) (H : History) (mode : Mode) (begin : ℕ) (accesses : List Access) (c : Clash) → H.first ≤ begin + 1
+    ensures found { (g : Geometry) (H : History) (mode : Mode) (begin : ℕ) (accesses : List Access) (c : Clash)
         → clash g H mode begin accesses ≡ Some c → IsClash g H mode begin accesses c }
-    ensures least { (g : Geometry) (H : History) (mode : Mode) (begin : ℕ) (accesses : List Access) (c d : Clash) → H.first ≤ begin + 1
+    ensures least { (g : Geometry) (H : History) (mode : Mode) (begin : ℕ) (accesses : List Access) (c d : Clash)
         → clash g H mode begin accesses ≡ Some c → IsClash g H mode begin accesses d → NotAfter c d }
-    ensures none { (g : Geometry) (H : History) (mode : Mode) (begin : ℕ) (accesses : List Access) (d : Clash) → H.first ≤ begin + 1
+    ensures none { (g : Geometry) (H : History) (mode : Mode) (begin : ℕ) (accesses : List Access) (d : Clash)
         → IsTrue (has_write accesses) → clash g H mode begin accesses ≡ None → ¬ IsClash g H mode begin accesses d }
     ensures read_only { (g : Geometry) (H : History) (mode : Mode) (begin : ℕ) (accesses : List Access)
         → IsFalse (has_write accesses) → clash g H mode begin accesses ≡ None }
-    ensures only { (g : Geometry) (H : History) (mode : Mode) (begin : ℕ) (accesses : List Access) (c : Clash) → H.first ≤ begin + 1
+    ensures only { (g : Geometry) (H : History) (mode : Mode) (begin : ℕ) (accesses : List Access) (c : Clash)
         → IsTrue (has_write accesses) → IsClash g H mode begin accesses c → ((d : Clash) → IsClash g H mode begin accesses d → NotAfter c d)
         → clash g H mode begin accesses ≡ Some c }
 {}
@@ -96,7 +101,7 @@ pub fn clash_is_the_least_meeting()
 pub fn no_clash_isolates()
     ensures serial { (g : Geometry) (H : History) (c : Commit) → IsHistory g H → AreAccesses g c.accesses → H.first ≤ c.begin + 1 → c.begin ≤ last H
         → IsTrue (has_write c.accesses) → clash g H Serial c.begin c.accesses ≡ None → IsSerialAt (appended H c) (last H + 1) }
-    ensures snapshot { (g : Geometry) (H : History) (c : Commit) → IsHistory g H → AreAccesses g c.accesses → H.first ≤ c.begin + 1 → c.begin ≤ last H
+    ensures snapshot { (g : Geometry) (H : History) (c : Commit) → IsHistory g H → AreAccesses g c.accesses
         → IsTrue (has_write c.accesses) → clash g H Snapshot c.begin c.accesses ≡ None → IsSnapshotAt g (appended H c) (last H + 1) }
 {}
 
@@ -106,22 +111,23 @@ pub fn commits_stay_isolated()
         → IfSome (slice_get H.commits (k - H.first)) (λ d. d.begin ≤ last H) → IsSerialAt H k → IsSerialAt (appended H c) k }
     ensures snapshot { (g : Geometry) (H : History) (c : Commit) (k : ℕ) → 0 < H.first → H.first ≤ k → k ≤ last H
         → IsSnapshotAt g H k → IsSnapshotAt g (appended H c) k }
-    ensures all { (g : Geometry) (H : History) (c : Commit) → IsHistory g H → HaveBegun H → IsIsolated g H
+    ensures all { (g : Geometry) (H : History) (c : Commit) → IsHistory g H → IsIsolated g H
         → AreAccesses g c.accesses → H.first ≤ c.begin + 1 → c.begin ≤ last H → IsTrue (has_write c.accesses)
         → clash g H c.mode c.begin c.accesses ≡ None → IsIsolated g (appended H c) }
 {}
 
-/// An empty history is one of its image, and isolated; a commit of accesses to the image keeps it one of the image.
+/// An empty history is one of its image, and isolated; a commit of accesses to the image keeps it one of the image; each
+/// of its arrays has the image's shape.
 pub fn histories_grow()
-    ensures empty { (g : Geometry) → IsHistory g (empty_history g) × HaveBegun (empty_history g) × IsIsolated g (empty_history g) }
+    ensures empty { (g : Geometry) → IsHistory g (empty_history g) × IsIsolated g (empty_history g) }
     ensures appended { (g : Geometry) (H : History) (c : Commit) → IsHistory g H → AreAccesses g c.accesses → IsHistory g (appended H c) }
-    ensures begun { (H : History) (c : Commit) → HaveBegun H → c.begin ≤ last H → HaveBegun (appended H c) }
+    ensures arrays { (g : Geometry) (H : History) (n : ℕ) → IsHistory g H → HasShape g (array_at H n) }
 {}
 
 /// The puts and reads that are not refused are accesses to the array.
 pub fn operations_access_the_array()
     ensures put { (g : Geometry) (block off : ℕ) (bytes : List ℕ) → block < g.blocks → 0 < length bytes → off + length bytes ≤ g.block
-        → IsAccess g (put_access g.block block off bytes) }
+        → AreBytes bytes → IsAccess g (put_access g.block block off bytes) }
     ensures read { (g : Geometry) (block : ℕ) → block < g.blocks → IsAccess g (read_access block) }
 {}
 
@@ -131,19 +137,21 @@ pub fn commits_make_records()
         → IsRecord g (written g c) }
 {}
 
-/// Each step of a sound world, and so each script, keeps the geometry, extends the history and leads to a sound world,
-/// in which every commit is isolated.
+/// Each step of a sound world, and so each script, keeps the geometry but for the form, extends the history and leads to a
+/// sound world, in which every commit is isolated.
 pub fn worlds_stay_sound()
-    ensures made { (g : Geometry) (generation : ℕ) → IsTrue (is_valid g) → IsWorld (fresh g generation (empty_history g)) }
-    ensures step { (W : World) (client : ℕ) (op : Op) → IsWorld W → LeadsTo W (step W client op).1 }
-    ensures lines { (W : World) (lines : List (ℕ × Line)) → IsWorld W → LeadsTo W (after W lines) }
+    ensures made { (g : Geometry) (generation : ℕ) → IsTrue (is_valid g) → generation ≤ LAST → IsWorld (fresh g generation (empty_history g)) }
+    ensures step { (W : World) (client : ℕ) (op : Op) → IsWorld W → IsOp op → LeadsTo W (step W client op).1 }
+    ensures lines { (W : World) (lines : List (ℕ × Line)) → IsWorld W → AreLines lines → LeadsTo W (after W lines) }
+    ensures script { (input : List ℕ) → AreLines (script input).lines }
     ensures serial { (W : World) (k : ℕ) → IsWorld W → W.geometry.form ≡ 1 → W.geometry.mode ≡ Serial
         → W.history.first ≤ k → k ≤ last W.history → IsSerialAt W.history k }
 {}
 
 /// The history that an image holds is sound: the world that the image opens to is a sound one.
 pub fn images_open_to_sound_worlds()
-    ensures { (bytes : List ℕ) (g : Geometry) (generation : ℕ) (H : History) → IsImage bytes g generation H → IsWorld (fresh g generation H) }
+    ensures { (bytes : List ℕ) (g : Geometry) (generation : ℕ) (H : History) → AreBytes bytes → IsImage bytes g generation H
+        → IsWorld (fresh g generation H) }
 {}
 
 /// An image tells one geometry, one generation and one history.
@@ -151,4 +159,12 @@ pub fn images_hold_one_history()
     ensures geometry { (bytes : List ℕ) (g f : Geometry) (m n : ℕ) (H G : History) → IsImage bytes g m H → IsImage bytes f n G → g ≡ f }
     ensures generation { (bytes : List ℕ) (g f : Geometry) (m n : ℕ) (H G : History) → IsImage bytes g m H → IsImage bytes f n G → m ≡ n }
     ensures history { (bytes : List ℕ) (g f : Geometry) (m n : ℕ) (H G : History) → IsImage bytes g m H → IsImage bytes f n G → H ≡ G }
+{}
+
+/// What an image holds is what it shows: one commit, and one array at it.
+pub fn images_show_one_history()
+    ensures held { (bytes : List ℕ) (g : Geometry) (form generation : ℕ) (K H : History) (p : ℕ)
+        → IsImage bytes (record g { form = form }) generation K → Shows bytes g H p → (last K ≡ p) × (array_at K p ≡ array_at H p) }
+    ensures one { (bytes : List ℕ) (g : Geometry) (H G : History) (p q : ℕ) → Shows bytes g H p → Shows bytes g G q
+        → (p ≡ q) × (array_at H p ≡ array_at G q) }
 {}

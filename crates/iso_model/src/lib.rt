@@ -3,15 +3,23 @@
 
 mod access;
 mod items;
+mod label;
 pub mod laws;
 mod limits;
 mod memory;
 mod parts;
+mod reserved;
 mod script;
+pub mod step_laws;
 
-pub use access::{Access, Clash, Commit, EndReply, Geometry, Kind, Mode, Run, Span};
+pub use access::{Access, Clash, Commit, EndReply, Geometry, Kind, MarkError, Mode, Run, Span};
 pub use items::{AccessList, Bytes, Items, SpanList};
-pub use limits::{LAST, MAX_ACCESSES, MAX_INPUT, MAX_LINE, MAX_LIVE};
+pub use label::Label;
+pub use limits::{LAST, MAX_ACCESSES, MAX_INPUT, MAX_LINE, MAX_LIVE, MAX_SPANS};
 pub use memory::{InTx, Memory, NotInTx};
 pub use parts::PartList;
+pub use reserved::Reserved;
 pub use script::{BadLine, Line, LineError, Op, Parsed, Reply};
+
+#[cfg(test)]
+mod tests;

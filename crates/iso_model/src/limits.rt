@@ -9,6 +9,9 @@ pub const MAX_LIVE: usize = 1024;
 /// How many accesses a transaction may have.
 pub const MAX_ACCESSES: usize = 4096;
 
+/// How many marks an access may have.
+pub const MAX_SPANS: usize = 8;
+
 /// How many bytes a line of a script may have before its line feed.
 pub const MAX_LINE: usize = 16_384;
 

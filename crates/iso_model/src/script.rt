@@ -1,6 +1,6 @@
 // The operations of a script, its lines and the replies. Operations that are added later are further variants.
 
-use crate::{Bytes, Clash, Mode};
+use crate::{Bytes, Clash, Label, Mode};
 
 /// What a client asks for.
 #[derive(Debug, Drop)]
@@ -13,6 +13,28 @@ pub enum Op {
     Put { block: u32, off: u32, bytes: Bytes },
     /// A read of a whole block.
     Read { block: u32 },
+    /// A read of `len` bytes at `off`, with one mark over them.
+    Get { block: u32, off: u32, len: u32 },
+    /// A write of a whole block.
+    Write { block: u32, bytes: Bytes },
+    /// A write of a block full of one byte.
+    Fill { block: u32, bytes: Bytes },
+    /// One more mark on the last access.
+    Mark { off: u32, len: u32 },
+    /// Puts the transaction under a label.
+    Release { label: Label },
+    /// Attaches the transaction under a label to the client.
+    Takeover { label: Label },
+    /// A takeover that waits for the label where clients run beside each other.
+    Await { label: Label },
+    /// Lets versions go that no transaction can be shown.
+    Trim,
+    /// The numbers of the image.
+    Stat,
+    /// Moves the base up to the floor, in the other half.
+    Compact,
+    /// As `Compact`, with an image of form 2.
+    Upgrade,
 }
 
 /// A line of a script: an operation of a client, 1 to 64.
@@ -52,13 +74,33 @@ pub enum Reply {
     Committed(u64),
     ReadOnly,
     Conflict(Clash),
+    Trimmed(u64),
+    Compacted(u64),
+    Upgraded(u64),
+    /// The last commit's number, the base and the trim number, how many transactions are live, how many bytes of the
+    /// log records take, and how many versions are kept.
+    Numbers {
+        last: u64,
+        base: u64,
+        trim: u64,
+        live: u32,
+        used: u32,
+        versions: u64,
+    },
     InTx,
     NotInTx,
     ModeFixed,
     BadBlock,
     BadRange,
+    NoAccess,
+    TooManyMarks,
     TooManyAccesses,
+    NoHandle,
+    LabelTaken,
     TooManyTx,
     Worn,
-    LogFull { need: u64, free: u64 },
+    LogFull {
+        need: u64,
+        free: u64,
+    },
 }

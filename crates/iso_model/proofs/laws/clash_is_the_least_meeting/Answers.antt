@@ -2,13 +2,13 @@ use Rattle.iso_model.proofs.Clashes.{some_clash, none_from_clash, no_clash, leas
 use Rattle.iso_model.proofs.laws.clash_is_the_least_meeting.Goals as goal
 
 pub returns-clause-found : goal.returns-clause-found
-returns-clause-found _ = λ g H mode begin accesses c known some. (some_clash g H mode begin accesses c known some).0
+returns-clause-found _ = λ g H mode begin accesses c some. (some_clash g H mode begin accesses c some).0
 
 pub returns-clause-least : goal.returns-clause-least
-returns-clause-least _ = λ g H mode begin accesses c d known some is. (some_clash g H mode begin accesses c known some).1 d is
+returns-clause-least _ = λ g H mode begin accesses c d some is. (some_clash g H mode begin accesses c some).1 d is
 
 pub returns-clause-none : goal.returns-clause-none
-returns-clause-none _ = λ g H mode begin accesses d known write none. none_from_clash g H mode begin accesses known write none d
+returns-clause-none _ = λ g H mode begin accesses d write none. none_from_clash g H mode begin accesses write none d
 
 pub returns-clause-read_only : goal.returns-clause-read_only
 returns-clause-read_only _ = no_clash

@@ -1,4 +1,4 @@
-use Rattle.iso_model.proofs.Worlds.{put_is_access, read_is_access}
+use Rattle.iso_model.proofs.Accesses.{put_is_access, read_is_access}
 use Rattle.iso_model.proofs.laws.operations_access_the_array.Goals as goal
 
 pub returns-clause-put : goal.returns-clause-put

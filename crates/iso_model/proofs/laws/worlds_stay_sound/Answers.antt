@@ -1,4 +1,6 @@
-use Rattle.iso_model.proofs.Worlds.{empty_world_is, step_leads, after_leads, world_is_serial}
+use Rattle.iso_model.proofs.ScriptBytes.{script_lines}
+use Rattle.iso_model.proofs.FreshWorlds.{empty_world_is, world_is_serial}
+use Rattle.iso_model.proofs.Worlds.{step_leads, after_leads}
 use Rattle.iso_model.proofs.laws.worlds_stay_sound.Goals as goal
 
 pub returns-clause-made : goal.returns-clause-made
@@ -12,3 +14,6 @@ returns-clause-lines _ = after_leads
 
 pub returns-clause-serial : goal.returns-clause-serial
 returns-clause-serial _ = λ W k is form mode from to. world_is_serial W is form mode k from to
+
+pub returns-clause-script : goal.returns-clause-script
+returns-clause-script _ = script_lines

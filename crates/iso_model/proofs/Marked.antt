@@ -1,0 +1,46 @@
+-- A mark changes the last access alone.
+use Rattle.std.proofs.Common.{◌≡◌, ◌∙◌, refl, ap, ℕ, Bool, true, false, ◌&&◌, ◌||◌, ◌==◌, cond, List, [], ◌∷◌, ◌++◌, Option, Some, None, slice_index}
+use Rattle.std.specs.List.{list_any}
+use Rattle.std.proofs.lemmas.List.Folds.{list_any-append}
+use Rattle.iso_model.specs.declared.access.Access.{Access}
+use Rattle.iso_model.specs.declared.access.Span.{Span}
+use Rattle.iso_model.specs.Array.{covered, in_span}
+use Rattle.iso_model.specs.declared.access.Kind.TheVariants.{Write}
+use Rattle.iso_model.specs.Effect.{covers, effect_at, or_else}
+use Rattle.iso_model.specs.Marks.{marked}
+use Rattle.iso_model.specs.Step.{write_access}
+
+pub marked_last : (span : Span) (accesses : List Access) (a : Access) → marked span (accesses ++ a ∷ []) ≡ accesses ++ record a { spans = a.spans ++ span ∷ [] } ∷ []
+marked_last span [] a = refl
+marked_last span (b ∷ []) a = refl
+marked_last span (b ∷ c ∷ accesses) a = ap (λ xs. b ∷ xs) (marked_last span (c ∷ accesses) a)
+
+or_false : (b : Bool) → (b || false) ≡ b
+or_false true = refl
+or_false false = refl
+
+-- the first mark stands in the place of the whole block
+pub first_covers : (span : Span) (p : ℕ) → covered (span ∷ []) p ≡ in_span p span
+first_covers span p = or_false (in_span p span)
+
+-- a further one adds its bytes
+pub more_covers : (first : Span) (spans : List Span) (span : Span) (p : ℕ)
+    → covered ((first ∷ spans) ++ span ∷ []) p ≡ (covered (first ∷ spans) p || in_span p span)
+more_covers first spans span p =
+    list_any-append (in_span p) (first ∷ spans) (span ∷ []) ∙ ap (λ b. list_any (in_span p) (first ∷ spans) || b) (or_false (in_span p span))
+
+effect_last : (accesses : List Access) (a : Access) (b p : ℕ) → covers Write b p a ≡ false → effect_at (accesses ++ a ∷ []) b p ≡ effect_at accesses b p
+effect_last [] a b p off = rw off refl
+effect_last (c ∷ accesses) a b p off = ap (λ (o : Option ℕ). or_else o (cond (covers Write b p c) (Some (slice_index c.bytes p)) None)) (effect_last accesses a b p off)
+
+and_false : (x y : Bool) → y ≡ false → (x && y) ≡ false
+and_false true y off = off
+and_false false y off = refl
+
+-- what a write is marked beside, it does not write
+pub unwritten : (span : Span) (accesses : List Access) (block : ℕ) (bytes : List ℕ) (p : ℕ) → in_span p span ≡ false
+    → effect_at (marked span (accesses ++ write_access block bytes ∷ [])) block p ≡ effect_at accesses block p
+unwritten span accesses block bytes p off =
+    ap (λ xs. effect_at xs block p) (marked_last span accesses (write_access block bytes))
+    ∙ effect_last accesses (record { kind = Write; block = block; spans = span ∷ []; bytes = bytes }) block p
+    (and_false (block == block) (covered (span ∷ []) p) (first_covers span p ∙ off))

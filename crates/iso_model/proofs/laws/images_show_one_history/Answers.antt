@@ -1,0 +1,8 @@
+use Rattle.iso_model.proofs.Teeth.{shows_what_it_holds, shows_one_history}
+use Rattle.iso_model.proofs.laws.images_show_one_history.Goals as goal
+
+pub returns-clause-held : goal.returns-clause-held
+returns-clause-held _ = shows_what_it_holds
+
+pub returns-clause-one : goal.returns-clause-one
+returns-clause-one _ = shows_one_history

@@ -1,0 +1,14 @@
+use Rattle.std.proofs.Common.{ap, List}
+use Rattle.iso_model.specs.History.{last}
+use Rattle.iso_model.specs.World.{Live, floor_of}
+use Rattle.iso_model.proofs.Floors.{floor_below, floor_met}
+use Rattle.iso_model.proofs.step_laws.floor_is_the_least_begin.Goals as goal
+
+pub returns-clause-below : goal.returns-clause-below
+returns-clause-below _ = λ W. floor_below (last W.history) W.live
+
+pub returns-clause-met : goal.returns-clause-met
+returns-clause-met _ = λ W some. floor_met (last W.history) W.live some
+
+pub returns-clause-none : goal.returns-clause-none
+returns-clause-none _ = λ W none. ap (λ (live : List Live). floor_of (last W.history) live) none

@@ -1,0 +1,11 @@
+use Rattle.iso_model.proofs.Kept.{written_found, written_there, kept_shows, shows_kept, untrimmed}
+use Rattle.iso_model.proofs.step_laws.versions_are_what_still_shows.Goals as goal
+
+pub returns-clause-written : goal.returns-clause-written
+returns-clause-written _ = λ trim k commits b p. (written_found trim k commits b p, written_there trim k commits b p)
+
+pub returns-clause-all : goal.returns-clause-all
+returns-clause-all _ = untrimmed
+
+pub returns-clause-kept : goal.returns-clause-kept
+returns-clause-kept _ = λ trim n later run. (kept_shows trim n later run, shows_kept trim n later run)

@@ -1,0 +1,63 @@
+// The laws of single steps: each function does nothing, and its contract is the law.
+ghost use Rattle.std.specs.Prelude.{◌≡◌, ◌↔◌, ℕ, ◌<◌, ◌≤◌, ◌||◌, List, [], ◌∷◌, ◌++◌, IsFalse, IsSome, true, Ok, length, sum_by};
+ghost use Rattle.std.specs.List.{AllByRecursion};
+ghost use Rattle.iso_model.specs.declared.access.Access.{Access};
+ghost use Rattle.iso_model.specs.declared.access.Commit.{Commit};
+ghost use Rattle.iso_model.specs.declared.access.Run.{Run};
+ghost use Rattle.iso_model.specs.declared.access.Span.{Span};
+ghost use Rattle.iso_model.specs.declared.limits.TheConstants.{MAX_INPUT};
+ghost use Rattle.iso_model.specs.declared.script.Op.{Op};
+ghost use Rattle.iso_model.specs.declared.script.Parsed.{Parsed};
+ghost use Rattle.iso_model.specs.Array.{covered, in_span};
+ghost use Rattle.iso_model.specs.Effect.{effect_at, runs};
+ghost use Rattle.iso_model.specs.History.{last};
+ghost use Rattle.iso_model.specs.Marks.{marked};
+ghost use Rattle.iso_model.specs.Open.{AreOpen, SaysOpen};
+ghost use Rattle.iso_model.specs.Script.{parse, parse_whole, script};
+ghost use Rattle.iso_model.specs.Step.{shown_to, step, write_access};
+ghost use Rattle.iso_model.specs.Versions.{is_kept, is_written, versions, IsWritten, StillShows};
+ghost use Rattle.iso_model.specs.World.{floor, logged_commits, BeganAt, Live, World};
+ghost use Rattle.iso_model.specs.Worlds.{IsUpkeep};
+
+/// A mark changes the last access alone. The first mark of an access stands in the place of its whole block, so that a write
+/// writes nothing outside it; a further one adds its bytes.
+pub fn marks_change_the_last_access()
+    ensures last { (span : Span) (accesses : List Access) (a : Access)
+        → marked span (accesses ++ a ∷ []) ≡ accesses ++ record a { spans = a.spans ++ span ∷ [] } ∷ [] }
+    ensures first { (span : Span) (p : ℕ) → covered (span ∷ []) p ≡ in_span p span }
+    ensures further { (first : Span) (spans : List Span) (span : Span) (p : ℕ)
+        → covered ((first ∷ spans) ++ span ∷ []) p ≡ (covered (first ∷ spans) p || in_span p span) }
+    ensures unwritten { (span : Span) (accesses : List Access) (block : ℕ) (bytes : List ℕ) (p : ℕ) → IsFalse (in_span p span)
+        → effect_at (marked span (accesses ++ write_access block bytes ∷ [])) block p ≡ effect_at accesses block p }
+{}
+
+/// A line says none but an operation that is open, and an input that is cut has a bad line.
+pub fn lines_are_open()
+    ensures parse { (text : List ℕ) (parsed : Parsed) → parse text ≡ Ok parsed → SaysOpen parsed }
+    ensures whole { (piece : List ℕ) (parsed : Parsed) → parse_whole piece ≡ Ok parsed → SaysOpen parsed }
+    ensures script { (input : List ℕ) → AreOpen (script input).lines }
+    ensures cut { (input : List ℕ) → MAX_INPUT ≤ length input → IsSome (script input).bad }
+{}
+
+/// Trimming, numbers, compaction and an upgrade leave the commits and the transactions, and so all that they are shown.
+pub fn upkeep_changes_nothing_that_is_shown()
+    ensures live { (W : World) (client : ℕ) (op : Op) → IsUpkeep op → (step W client op).1.live ≡ W.live }
+    ensures history { (W : World) (client : ℕ) (op : Op) → IsUpkeep op → (step W client op).1.history ≡ W.history }
+    ensures shown { (W : World) (client : ℕ) (op : Op) (t : Live) (block : ℕ) → IsUpkeep op
+        → shown_to (step W client op).1 t block ≡ shown_to W t block }
+{}
+
+/// The floor is the least live begin, and the last commit's number where no transaction is live.
+pub fn floor_is_the_least_begin()
+    ensures below { (W : World) → AllByRecursion (λ t. floor W ≤ t.begin) W.live }
+    ensures met { (W : World) → 0 < length W.live → BeganAt (floor W) W.live }
+    ensures none { (W : World) → W.live ≡ [] → floor W ≡ last W.history }
+{}
+
+/// A byte is written up to a trim number where a commit up to it writes the byte. A run is kept where its commit is above
+/// the trim number or one of its bytes is not written again up to it; where nothing was trimmed, each run is kept.
+pub fn versions_are_what_still_shows()
+    ensures written { (trim k : ℕ) (commits : List Commit) (b p : ℕ) → (is_written trim k commits b p ≡ true) ↔ IsWritten trim k commits b p }
+    ensures kept { (trim n : ℕ) (later : List Commit) (run : Run) → (is_kept trim n later run ≡ true) ↔ StillShows trim n later run }
+    ensures all { (W : World) → W.trim ≡ W.base → versions W ≡ sum_by (λ c. length (runs W.geometry c.accesses)) (logged_commits W) }
+{}

@@ -1,0 +1,88 @@
+use crate::{Bytes, Items, Label, PartList, Reserved};
+use std::test::Fail;
+
+#[test]
+fn items_stand_in_order(rt: HostRuntime) -> Result<(), Fail> {
+    let alloc = rt.alloc();
+    let mut bytes = Bytes::empty(alloc);
+    assert!(rt; bytes.is_empty());
+    bytes.reserve(3)?;
+    assert!(rt; bytes.is_empty());
+    for byte in [7, 8, 9] {
+        bytes.push(byte)?;
+    }
+    assert_eq!(rt; bytes.len(), 3);
+    assert_eq!(rt; bytes.get(1).copied(), Some(8));
+    assert_eq!(rt; bytes.get(3).copied(), None);
+    assert_eq!(rt; bytes.as_slice(), [7, 8, 9].as_slice());
+    let more = Items::of(Vec::from_slice(alloc, &[4u32, 5])?);
+    assert_eq!(rt; more.as_slice(), [4, 5].as_slice());
+    Ok(())
+}
+
+#[test]
+fn parts_keep_a_copy_of_their_bytes(rt: HostRuntime) -> Result<(), Fail> {
+    let alloc = rt.alloc();
+    let mut parts = PartList::empty(alloc);
+    assert!(rt; parts.is_empty());
+    parts.push(2, 5, &[171, 205])?;
+    parts.push(3, 0, &[1])?;
+    assert_eq!(rt; parts.len(), 2);
+    for (part, (block, off)) in parts.as_slice().iter().zip([(2, 5), (3, 0)]) {
+        assert_eq!(rt; part.block, block);
+        assert_eq!(rt; part.off, off);
+    }
+    for part in parts.as_slice().iter().take(1) {
+        assert_eq!(rt; part.bytes.as_slice(), [171, 205].as_slice());
+    }
+    Ok(())
+}
+
+#[test]
+fn room_is_used_and_given_back(rt: HostRuntime) -> Result<(), Fail> {
+    let alloc = rt.alloc();
+    let mut list = Reserved::empty(alloc);
+    assert!(rt; list.is_empty());
+    assert_eq!(rt; list.room(), 0);
+    list.reserve(3)?;
+    let room = list.room();
+    assert!(rt; room >= 3);
+    list.push_within(10u32);
+    list.push(20)?;
+    list.push_within(30);
+    assert_eq!(rt; list.as_slice(), [10, 20, 30].as_slice());
+    assert_eq!(rt; list.room(), room - 3);
+    if let Some(item) = list.get_mut(1) {
+        *item = 21;
+    }
+    if let Some(item) = list.last_mut() {
+        *item = 31;
+    }
+    assert_eq!(rt; list.get(1).copied(), Some(21));
+    assert_eq!(rt; list.pop(), Some(31));
+    list.truncate(1);
+    assert_eq!(rt; list.len(), 1);
+    assert_eq!(rt; list.room(), room - 1);
+    list.clear();
+    assert_eq!(rt; list.pop(), None);
+    assert_eq!(rt; list.room(), room);
+    list.push(40)?;
+    assert_eq!(rt; list.into_items().as_slice(), [40].as_slice());
+    Ok(())
+}
+
+#[test]
+fn labels_are_short_words_of_letters_and_digits(rt: HostRuntime) {
+    for text in [b"a".as_slice(), b"z9", b"0123456789abcdef"] {
+        match Label::new(text) {
+            Some(label) => {
+                assert_eq!(rt; label.text(), text);
+                assert_eq!(rt; label.copy().text(), text);
+            }
+            None => assert!(rt; false),
+        }
+    }
+    for text in [b"".as_slice(), b"A", b"a b", b"a-", b"0123456789abcdefg"] {
+        assert!(rt; Label::new(text).is_none());
+    }
+}
