@@ -1,12 +1,16 @@
 -- The header of a half is read exactly as it is written.
-use Rattle.std.proofs.Common.{◌≡◌, ℕ, ◌^◌, ◌<◌, true, List, [], ◌∷◌, ◌++◌, length, get_or, take, replicate, IsTrue, refl, ◌∙◌, sym, arith}
+use Rattle.std.proofs.Common.{◌≡◌, ℕ, ◌+◌, ◌^◌, ◌<◌, ◌==◌, ◌&&◌, Bool, true, false, not, cond, List, [], ◌∷◌, ◌++◌, Option, Some, None, length, get_or, take, drop, replicate, IsTrue, refl, ◌∙◌, sym, ap, arith}
 use Rattle.std.proofs.lemmas.Bool.{and_parts}
+use Rattle.std.proofs.lemmas.Iterator.Adapters.{position_from-zero}
+use Rattle.std.specs.List.{list_all, position, position_from}
+use Rattle.std.specs.Option.{is_some}
 use Rattle.std.proofs.lemmas.List.{take_all}
 use Rattle.std.proofs.lemmas.Nat.{from_be_bytes-to_be_bytes_8}
 use Rattle.std.specs.Int.{w64, to_be_bytes}
 use Rattle.iso_model.specs.Image.{half_header}
 use Rattle.iso_format.specs.Reading.{number_at, are_zero, half_of}
-use Rattle.iso_format.proofs.Pieces.{IsBytes, grow, spelled_64, one_at, zeros_at}
+use Rattle.iso_model.specs.Premises.{AreBytes}
+use Rattle.iso_format.proofs.Pieces.{grow, spelled_64, one_at, zeros_at}
 
 pub half_again : (gate form generation base : ℕ) → generation < 2 ^ 64 → base < 2 ^ 64 →
     half_of (half_header gate form generation base) ≡ record { gate = gate; form = form; generation = generation; base = base; clean = true }
@@ -14,7 +18,7 @@ unfolding half_of half_header
 half_again gate form generation base g b =
     rw (from_be_bytes-to_be_bytes_8 generation g, from_be_bytes-to_be_bytes_8 base b) refl
 
-pub half_spelled : (bytes : List ℕ) → IsBytes bytes → length bytes ≡ 32 → IsTrue (half_of bytes).clean →
+pub half_spelled : (bytes : List ℕ) → AreBytes bytes → length bytes ≡ 32 → IsTrue (half_of bytes).clean →
     bytes ≡ half_header (half_of bytes).gate (half_of bytes).form (half_of bytes).generation (half_of bytes).base
 unfolding half_of half_header
 half_spelled bytes fits len clean =
@@ -30,3 +34,43 @@ half_spelled bytes fits len clean =
     let s24 : take 24 bytes ≡ f8 ++ n8 ++ n16 = grow bytes (f8 ++ n8) n16 16 8 s16 (spelled_64 bytes 16 fits (omega arith)) in
     let s32 : take 32 bytes ≡ f8 ++ n8 ++ n16 ++ replicate 8 0 = grow bytes (f8 ++ n8 ++ n16) (replicate 8 0) 24 8 s24 (zeros_at bytes 24 8 (omega arith) zeros.1) in
     sym (take_all 32 bytes (omega arith)) ∙ s32
+
+-- a byte that is not zero is found exactly where not all are zero
+found_from : (i : ℕ) (xs : List ℕ) → is_some (position_from (λ b. not (b == 0)) i xs) ≡ not (list_all (λ b. b == 0) xs)
+found_from i [] = refl
+found_from i (x ∷ xs) = one (x == 0) (position_from (λ b. not (b == 0)) (i + 1) xs) (list_all (λ b. b == 0) xs) (found_from (i + 1) xs)
+  where
+    one : (b : Bool) (o : Option ℕ) (all : Bool) → is_some o ≡ not all → is_some (cond (not b) (Some i) o) ≡ not (b && all)
+    one true o all e = e
+    one false o all e = refl
+
+found : (xs : List ℕ) → is_some (position (λ b. not (b == 0)) xs) ≡ not (list_all (λ b. b == 0) xs)
+found xs = ap is_some (position_from-zero (λ b. not (b == 0)) xs) ∙ found_from 0 xs
+
+not_true : (b : Bool) → not b ≡ true → b ≡ false
+not_true true e = absurd cc
+not_true false e = refl
+
+not_false : (b : Bool) → not b ≡ false → b ≡ true
+not_false true e = refl
+not_false false e = absurd cc
+
+pub some_found : (xs : List ℕ) (i : ℕ) → position (λ b. not (b == 0)) xs ≡ Some i → list_all (λ b. b == 0) xs ≡ false
+some_found xs i e = not_true _ (sym (found xs) ∙ ap is_some e)
+
+pub none_found : (xs : List ℕ) → position (λ b. not (b == 0)) xs ≡ None → list_all (λ b. b == 0) xs ≡ true
+none_found xs e = not_false _ (sym (found xs) ∙ ap is_some e)
+
+pub unclean_front : (bytes : List ℕ) (i : ℕ) → position (λ b. not (b == 0)) (take 6 (drop 2 bytes)) ≡ Some i → (half_of bytes).clean ≡ false
+unfolding half_of
+unclean_front bytes i e = rw (some_found (take 6 (drop 2 bytes)) i e) refl
+
+pub unclean_back : (bytes : List ℕ) (i : ℕ) → position (λ b. not (b == 0)) (take 6 (drop 2 bytes)) ≡ None
+    → position (λ b. not (b == 0)) (take 8 (drop 24 bytes)) ≡ Some i → (half_of bytes).clean ≡ false
+unfolding half_of
+unclean_back bytes i e f = rw (none_found (take 6 (drop 2 bytes)) e, some_found (take 8 (drop 24 bytes)) i f) refl
+
+pub all_clean : (bytes : List ℕ) → position (λ b. not (b == 0)) (take 6 (drop 2 bytes)) ≡ None
+    → position (λ b. not (b == 0)) (take 8 (drop 24 bytes)) ≡ None → (half_of bytes).clean ≡ true
+unfolding half_of
+all_clean bytes e f = rw (none_found (take 6 (drop 2 bytes)) e, none_found (take 8 (drop 24 bytes)) f) refl

@@ -1,11 +1,12 @@
 -- The parts of a record are read exactly as they are written.
-use Rattle.std.proofs.Common.{◌≡◌, ℕ, zero, suc, ◌+◌, ◌-◌, ◌*◌, ◌^◌, ◌<◌, ◌≤◌, Bool, true, false, ◌&&◌, ◌||◌, ◌==◌, nat_lt, nat_le, cond, not, inl, inr, List, [], ◌∷◌, ◌++◌, Option, Some, None, length, take, drop, IsTrue, flat_map, refl, sym, ap, ◌∙◌, arith}
+use Rattle.std.proofs.Common.{◌≡◌, ℕ, zero, suc, ◌+◌, ◌-◌, ◌*◌, ◌<◌, ◌≤◌, Bool, true, false, ◌&&◌, ◌||◌, ◌==◌, nat_lt, nat_le, cond, not, inl, inr, List, [], ◌∷◌, ◌++◌, Option, Some, None, length, take, drop, IsTrue, flat_map, refl, sym, ap, ◌∙◌, arith}
 use Rattle.std.proofs.lemmas.Bool.{leb-true, le-leb, ltb-true, ltb-false, lt-ltb, le-ltb, eqb-true, eq-eqb, not-false, or_cases, and_parts, and_from, or_right}
 use Rattle.std.proofs.lemmas.List.{take_at, drop_at, take-append-drop, length-append, length-take, length-drop}
 use Rattle.std.proofs.lemmas.List.Concat.{flat_map-cons}
 use Rattle.std.proofs.lemmas.List.Sums.{sum_by-cons}
 use Rattle.std.proofs.lemmas.Nat.{from_be_bytes-to_be_bytes_2, from_be_bytes-to_be_bytes_4}
 use Rattle.std.specs.Int.{w16, w32, to_be_bytes}
+use Rattle.std.specs.List.{AllByRecursion}
 use Rattle.iso_model.specs.declared.access.Geometry.{Geometry}
 use Rattle.iso_model.specs.declared.access.Run.{Run}
 use Rattle.iso_model.specs.Effect.{or_else}
@@ -13,9 +14,11 @@ use Rattle.iso_model.specs.Image.{IsRun, AreRuns, ComesAfter, part, body_length}
 use Rattle.iso_format.specs.declared.format_error.FormatError.{FormatError}
 use Rattle.iso_format.specs.declared.format_error.FormatError.TheVariants.{Order, Range, Length}
 use Rattle.iso_format.specs.Reading.{number_at}
-use Rattle.iso_format.specs.Records.{run_of, runs_of, part_size, part_end, HasParts, follows, lies_in, part_fault, parts_fault}
+use Rattle.iso_format.specs.Records.{IsSmall, run_of, runs_of, part_size, part_end, HasParts, follows, lies_in, part_fault, parts_fault}
 use Rattle.iso_format.proofs.Parts.{IsBounded}
-use Rattle.iso_format.proofs.Pieces.{IsBytes, IsBytes-drop, grow, spelled_16, spelled_32}
+use Rattle.iso_model.proofs.ByteLists.{bytes_drop}
+use Rattle.iso_model.specs.Premises.{AreBytes}
+use Rattle.iso_format.proofs.Pieces.{grow, spelled_16, spelled_32}
 
 -- none of two tests failed
 pub neither : {A : Type 0} (x y : Option A) → or_else x y ≡ None → (x ≡ None) × (y ≡ None)
@@ -82,7 +85,7 @@ run_length : (body : List ℕ) → part_size body ≤ length body → length (ru
 run_length body long = omega (arith, length-take (number_at w16 6 body) (drop 8 body), length-drop 8 body)
 
 -- the bytes of one part
-part_spelled : (body : List ℕ) → IsBytes body → part_size body ≤ length body → take (part_size body) body ≡ part (run_of body)
+part_spelled : (body : List ℕ) → AreBytes body → part_size body ≤ length body → take (part_size body) body ≡ part (run_of body)
 part_spelled body fits long =
     let block = to_be_bytes w32 (number_at w32 0 body) in
     let off = to_be_bytes w16 (number_at w16 4 body) in
@@ -94,12 +97,12 @@ part_spelled body fits long =
     whole ∙ ap (λ (n : ℕ). block ++ off ++ to_be_bytes w16 n ++ (run_of body).bytes) (sym (run_length body long))
 
 -- the bytes of parts that passed each test
-pub parts_spelled : (g : Geometry) (before : Option (ℕ × ℕ)) (at n : ℕ) (body : List ℕ) → IsBytes body → parts_fault g before at n body ≡ None → body ≡ flat_map part (runs_of n body)
+pub parts_spelled : (g : Geometry) (before : Option (ℕ × ℕ)) (at n : ℕ) (body : List ℕ) → AreBytes body → parts_fault g before at n body ≡ None → body ≡ flat_map part (runs_of n body)
 parts_spelled g before at zero body fits e = ended g before at body e
 parts_spelled g before at (suc n) body fits e =
     let p = passed g before at n body e in
     let size = part_size body in
-    let others = parts_spelled g (Some (part_end body)) (at + size) n (drop size body) (IsBytes-drop size body fits) p.1 in
+    let others = parts_spelled g (Some (part_end body)) (at + size) n (drop size body) (bytes_drop size body fits) p.1 in
     sym (take-append-drop size body) ∙ ap (λ (x : List ℕ). x ++ drop size body) (part_spelled body fits p.0.long) ∙ ap (λ (x : List ℕ). part (run_of body) ++ x) others
     ∙ sym (flat_map-cons part (run_of body) (runs_of n (drop size body)))
 
@@ -138,12 +141,6 @@ parts_run g before at (suc (suc n)) body e =
     (is_run g before body p.0, comes_after body rest p.0.long q.0.order, parts_run g (Some (part_end body)) (at + size) (suc n) rest p.1)
 
 -- ---- parts that were written are read again
-
--- the limits that a run's fields keep
-pub record IsSmall (x : Run) : Type 0 where
-  pub block : x.block < 2 ^ 32
-  pub off : x.off < 2 ^ 16
-  pub len : length x.bytes < 2 ^ 16
 
 pub small_run : (g : Geometry) (x : Run) → IsBounded g → IsRun g x → IsSmall x
 small_run g x b r = record { block = omega (arith, r.block, b.blocks); off = omega (arith, r.fits, b.block); len = omega (arith, r.fits, b.block) }
@@ -231,12 +228,20 @@ run_again n x body rest s =
     ∙ ap (λ (k : ℕ). x ∷ runs_of n (drop k body)) size
     ∙ ap (λ (z : List ℕ). x ∷ runs_of n z) s.behind
 
-pub runs_again : (g : Geometry) (parts : List Run) → IsBounded g → AreRuns g parts → runs_of (length parts) (flat_map part parts) ≡ parts
-runs_again g [] b r = refl
-runs_again g (x ∷ []) b r = run_again 0 x (part x ++ []) [] (says x [] (small_run g x b r))
-runs_again g (x ∷ y ∷ more) b r =
+pub small_again : (parts : List Run) → AllByRecursion IsSmall parts → runs_of (length parts) (flat_map part parts) ≡ parts
+small_again [] s = refl
+small_again (x ∷ []) s = run_again 0 x (part x ++ []) [] (says x [] s.0)
+small_again (x ∷ y ∷ more) s =
     let rest = flat_map part (y ∷ more) in
-    run_again (length (y ∷ more)) x (part x ++ rest) rest (says x rest (small_run g x b r.0)) ∙ ap (λ (z : List Run). x ∷ z) (runs_again g (y ∷ more) b r.2)
+    run_again (length (y ∷ more)) x (part x ++ rest) rest (says x rest s.0) ∙ ap (λ (z : List Run). x ∷ z) (small_again (y ∷ more) s.1)
+
+pub are_small : (g : Geometry) (parts : List Run) → IsBounded g → AreRuns g parts → AllByRecursion IsSmall parts
+are_small g [] b r = tt
+are_small g (x ∷ []) b r = (small_run g x b r, tt)
+are_small g (x ∷ y ∷ more) b r = (small_run g x b r.0, are_small g (y ∷ more) b r.2)
+
+pub runs_again : (g : Geometry) (parts : List Run) → IsBounded g → AreRuns g parts → runs_of (length parts) (flat_map part parts) ≡ parts
+runs_again g parts b r = small_again parts (are_small g parts b r)
 
 -- each part has a byte at least
 pub nine_each : (g : Geometry) (parts : List Run) → AreRuns g parts → 9 * length parts ≤ body_length parts

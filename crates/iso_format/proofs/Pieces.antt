@@ -1,27 +1,15 @@
 -- Bytes are their pieces, from the front on.
-use Rattle.std.proofs.Common.{◌≡◌, ℕ, ◌+◌, ◌<◌, ◌≤◌, ◌==◌, inl, inr, List, [], ◌∷◌, ◌++◌, length, get_or, take, drop, replicate, IsTrue, nat_eq, refl, sym, ap, ◌∙◌, arith}
+use Rattle.std.proofs.Common.{◌≡◌, ℕ, ◌+◌, ◌<◌, ◌≤◌, ◌==◌, List, [], ◌∷◌, ◌++◌, length, get_or, take, drop, replicate, IsTrue, nat_eq, refl, sym, ap, ◌∙◌, arith}
 use Rattle.std.proofs.Math.Seq.{take-add, drop-cons}
-use Rattle.std.proofs.lemmas.Bool.{cases_lt, eqb-true, and_parts}
-use Rattle.std.proofs.lemmas.List.{get_or-drop, get_or-take, get_or_past, length-take, length-drop}
+use Rattle.std.proofs.lemmas.Bool.{eqb-true, and_parts}
+use Rattle.std.proofs.lemmas.List.{length-take, length-drop}
 use Rattle.std.proofs.lemmas.Nat.{be_bytes_2, be_bytes_4, be_bytes_8}
 use Rattle.std.specs.Int.{w16, w32, w64, to_be_bytes, from_be_bytes}
 use Rattle.std.specs.Cmp.Lexicographic.{pointwise}
 use Rattle.std.specs.List.{list_all}
+use Rattle.iso_model.specs.Premises.{AreBytes}
+use Rattle.iso_model.proofs.ByteLists.{bytes_drop, bytes_take}
 use Rattle.iso_format.specs.Reading.{number_at, are_zero}
-
--- each of them is a byte
-abbrev pub IsBytes : List ℕ → Type 0
-IsBytes bytes = (i : ℕ) → get_or bytes i 0 < 256
-
-pub IsBytes-drop : (n : ℕ) (bytes : List ℕ) → IsBytes bytes → IsBytes (drop n bytes)
-IsBytes-drop n bytes h i = rw get_or-drop (h (n + i))
-
-pub IsBytes-take : (n : ℕ) (bytes : List ℕ) → IsBytes bytes → IsBytes (take n bytes)
-IsBytes-take n bytes h i =
-    elim (cases_lt i n) [
-      | inl lt ↦ rw (get_or-take n bytes i 0 lt) (h i)
-      | inr le ↦ rw (get_or_past (take n bytes) i 0 (omega (arith, length-take n bytes))) (omega arith)
-    ]
 
 -- a piece behind a front
 pub grow : (bytes front piece : List ℕ) (n m : ℕ) → take n bytes ≡ front → take m (drop n bytes) ≡ piece → take (n + m) bytes ≡ front ++ piece
@@ -31,20 +19,20 @@ piece_length : (bytes : List ℕ) (at n : ℕ) → at + n ≤ length bytes → l
 piece_length bytes at n h = omega (arith, length-take n (drop at bytes), length-drop at bytes)
 
 -- the bytes of a number that was read
-pub spelled_16 : (bytes : List ℕ) (at : ℕ) → IsBytes bytes → at + 2 ≤ length bytes → take 2 (drop at bytes) ≡ to_be_bytes w16 (number_at w16 at bytes)
+pub spelled_16 : (bytes : List ℕ) (at : ℕ) → AreBytes bytes → at + 2 ≤ length bytes → take 2 (drop at bytes) ≡ to_be_bytes w16 (number_at w16 at bytes)
 spelled_16 bytes at h lt =
     let piece = take 2 (drop at bytes) in
-    sym (be_bytes_2 piece (from_be_bytes w16 piece) (piece_length bytes at 2 lt) (IsBytes-take 2 (drop at bytes) (IsBytes-drop at bytes h)) refl)
+    sym (be_bytes_2 piece (from_be_bytes w16 piece) (piece_length bytes at 2 lt) (bytes_take 2 (drop at bytes) (bytes_drop at bytes h)) refl)
 
-pub spelled_32 : (bytes : List ℕ) (at : ℕ) → IsBytes bytes → at + 4 ≤ length bytes → take 4 (drop at bytes) ≡ to_be_bytes w32 (number_at w32 at bytes)
+pub spelled_32 : (bytes : List ℕ) (at : ℕ) → AreBytes bytes → at + 4 ≤ length bytes → take 4 (drop at bytes) ≡ to_be_bytes w32 (number_at w32 at bytes)
 spelled_32 bytes at h lt =
     let piece = take 4 (drop at bytes) in
-    sym (be_bytes_4 piece (from_be_bytes w32 piece) (piece_length bytes at 4 lt) (IsBytes-take 4 (drop at bytes) (IsBytes-drop at bytes h)) refl)
+    sym (be_bytes_4 piece (from_be_bytes w32 piece) (piece_length bytes at 4 lt) (bytes_take 4 (drop at bytes) (bytes_drop at bytes h)) refl)
 
-pub spelled_64 : (bytes : List ℕ) (at : ℕ) → IsBytes bytes → at + 8 ≤ length bytes → take 8 (drop at bytes) ≡ to_be_bytes w64 (number_at w64 at bytes)
+pub spelled_64 : (bytes : List ℕ) (at : ℕ) → AreBytes bytes → at + 8 ≤ length bytes → take 8 (drop at bytes) ≡ to_be_bytes w64 (number_at w64 at bytes)
 spelled_64 bytes at h lt =
     let piece = take 8 (drop at bytes) in
-    sym (be_bytes_8 piece (from_be_bytes w64 piece) (piece_length bytes at 8 lt) (IsBytes-take 8 (drop at bytes) (IsBytes-drop at bytes h)) refl)
+    sym (be_bytes_8 piece (from_be_bytes w64 piece) (piece_length bytes at 8 lt) (bytes_take 8 (drop at bytes) (bytes_drop at bytes h)) refl)
 
 -- one byte
 pub one_at : (bytes : List ℕ) (at : ℕ) → at < length bytes → take 1 (drop at bytes) ≡ get_or bytes at 0 ∷ []

@@ -17,7 +17,9 @@ use Rattle.iso_format.specs.Reading.{number_at}
 use Rattle.iso_format.specs.Records.{Recorded, BeginsWith, is_kind, head_fault, parts_fault, number_fault, body_of, fault_of, recorded, runs_of}
 use Rattle.iso_format.proofs.PartLaws.{neither, unless, length-runs_of, parts_spelled, parts_run, parts_again, runs_again, nine_each}
 use Rattle.iso_format.proofs.Parts.{bounded, body_bound, count_bound, length-flat_map-part, length-spell}
-use Rattle.iso_format.proofs.Pieces.{IsBytes, IsBytes-drop, IsBytes-take, grow, spelled_32, spelled_64, one_at}
+use Rattle.iso_model.proofs.ByteLists.{bytes_drop, bytes_take}
+use Rattle.iso_model.specs.Premises.{AreBytes}
+use Rattle.iso_format.proofs.Pieces.{grow, spelled_32, spelled_64, one_at}
 
 -- each test passed
 pub record IsFree (g : Geometry) (n : ℕ) (bytes : List ℕ) : Type 0 where
@@ -76,7 +78,7 @@ number_is n bytes e =
     (eqb-true _ _ a.0, leb-true _ _ a.1)
 
 -- the bytes before the parts
-head_spelled : (g : Geometry) (bytes : List ℕ) → IsBytes bytes → IsHead g bytes →
+head_spelled : (g : Geometry) (bytes : List ℕ) → AreBytes bytes → IsHead g bytes →
     take 20 bytes ≡ get_or bytes 0 0 ∷ get_or bytes 1 0 ∷ 0 ∷ 0 ∷ [] ++ to_be_bytes w32 (number_at w32 4 bytes) ++ to_be_bytes w32 (number_at w32 8 bytes) ++ to_be_bytes w64 (number_at w64 12 bytes)
 head_spelled g bytes fits h =
     let gate = get_or bytes 0 0 in
@@ -107,7 +109,7 @@ pieces_spelled gate kind n parts count len m body many long number spelled =
     ∙ ap (λ (k : ℕ). pieces gate kind (length parts) (body_length parts) k body) number
     ∙ ap (λ (x : List ℕ). pieces gate kind (length parts) (body_length parts) n x) spelled
 
-pub read_is : (g : Geometry) (n : ℕ) (bytes : List ℕ) → IsBytes bytes → fault_of g n bytes ≡ None → BeginsWith g n (recorded bytes) bytes
+pub read_is : (g : Geometry) (n : ℕ) (bytes : List ℕ) → AreBytes bytes → fault_of g n bytes ≡ None → BeginsWith g n (recorded bytes) bytes
 read_is g n bytes fits e =
     let free = no_fault g n bytes e in
     let h = head_is g bytes free.head in
@@ -117,7 +119,7 @@ read_is g n bytes fits e =
     let body = body_of bytes in
     let runs = runs_of count body in
     let many : length runs ≡ count = length-runs_of count body in
-    let spelled : body ≡ flat_map part runs = parts_spelled g None 20 count body (IsBytes-take len (drop 20 bytes) (IsBytes-drop 20 bytes fits)) free.parts in
+    let spelled : body ≡ flat_map part runs = parts_spelled g None 20 count body (bytes_take len (drop 20 bytes) (bytes_drop 20 bytes fits)) free.parts in
     let body_len : length body ≡ len = omega (arith, length-take len (drop 20 bytes), length-drop 20 bytes, h.long) in
     let whole_len : body_length runs ≡ len = omega (arith, length-flat_map-part runs, ap length spelled, body_len) in
     let front = get_or bytes 0 0 ∷ get_or bytes 1 0 ∷ 0 ∷ 0 ∷ [] ++ to_be_bytes w32 count ++ to_be_bytes w32 len ++ to_be_bytes w64 (number_at w64 12 bytes) in
@@ -218,7 +220,7 @@ record_again g n r bytes valid b =
     }
 
 -- a result of reading, by what the test said
-pub ok_begins : (g : Geometry) (n : ℕ) (bytes : List ℕ) (read : Result Recorded FormatError) → IsBytes bytes →
+pub ok_begins : (g : Geometry) (n : ℕ) (bytes : List ℕ) (read : Result Recorded FormatError) → AreBytes bytes →
     IfOk read (λ r. (fault_of g n bytes ≡ None) × (r ≡ recorded bytes)) → IfOk read (λ r. BeginsWith g n r bytes)
 ok_begins g n bytes (Ok r) fits found = rw found.1 (read_is g n bytes fits found.0)
 ok_begins g n bytes (Err e) fits found = tt

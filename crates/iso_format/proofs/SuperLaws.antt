@@ -14,7 +14,8 @@ use Rattle.iso_format.specs.declared.superblock.SuperError.{SuperError}
 use Rattle.iso_format.specs.declared.superblock.SuperError.TheVariants.{NotIsotope}
 use Rattle.iso_format.specs.Reading.{number_at, are_zero, mode_of, geometry_of, has_regions, wrong_field, unless_wrong, super_of}
 use Rattle.iso_format.proofs.Parts.{block_fits}
-use Rattle.iso_format.proofs.Pieces.{IsBytes, grow, spelled_32, one_at, zeros_at, same_bytes}
+use Rattle.iso_model.specs.Premises.{AreBytes}
+use Rattle.iso_format.proofs.Pieces.{grow, spelled_32, one_at, zeros_at, same_bytes}
 
 -- the limits of a valid geometry, as a superblock is tested for them
 pub record IsWithin (g : Geometry) : Type 0 where
@@ -118,7 +119,7 @@ pub record IsSpelled (bytes : List ℕ) (g : Geometry) : Type 0 where
   pub spelling : bytes ≡ superblock 1 g
 
 -- the pieces of a superblock
-spelling_of : (bytes : List ℕ) → IsBytes bytes → length bytes ≡ 64 → IsTrue (starts_with nat_eq bytes (codes "ISOTOPE1")) → number_at w32 8 bytes ≡ 1 →
+spelling_of : (bytes : List ℕ) → AreBytes bytes → length bytes ≡ 64 → IsTrue (starts_with nat_eq bytes (codes "ISOTOPE1")) → number_at w32 8 bytes ≡ 1 →
     get_or bytes 24 0 ≤ 1 → IsTrue (are_zero 25 3 bytes) → IsTrue (are_zero 36 27 bytes) → get_or bytes 63 0 ≡ 1 → bytes ≡ superblock 1 (geometry_of bytes)
 unfolding superblock
 spelling_of bytes fits len name version mode z25 z36 gate =
@@ -149,7 +150,7 @@ spelling_of bytes fits len name version mode z25 z36 gate =
     let s64 = grow bytes f63 (1 ∷ []) 63 1 s63 g63 in
     sym (take_all 64 bytes (omega arith)) ∙ s64
 
-pub super_spelled : (bytes : List ℕ) (g : Geometry) → IsBytes bytes → length bytes ≡ 64 → super_of bytes ≡ Ok g → IsSpelled bytes g
+pub super_spelled : (bytes : List ℕ) (g : Geometry) → AreBytes bytes → length bytes ≡ 64 → super_of bytes ≡ Ok g → IsSpelled bytes g
 unfolding super_of superblock
 super_spelled bytes g fits len e =
     let t = geometry_of bytes in
@@ -174,7 +175,7 @@ super_spelled bytes g fits len e =
       spelling = spelling_of bytes fits len front.0 (eqb-true _ _ p2.0) (leb-true _ _ p5.1) zero.0 zero.1 (eqb-true _ _ front.1);
     })
 
-pub ok_spelled : (bytes : List ℕ) (r : Result Geometry SuperError) → IsBytes bytes → length bytes ≡ 64 → r ≡ super_of bytes →
+pub ok_spelled : (bytes : List ℕ) (r : Result Geometry SuperError) → AreBytes bytes → length bytes ≡ 64 → r ≡ super_of bytes →
     IfOk r (λ g. IsTrue (is_valid g) × (g.form ≡ 1) × (bytes ≡ superblock 1 g))
 ok_spelled bytes (Ok g) fits len e = let s = super_spelled bytes g fits len (sym e) in (s.valid, s.form, s.spelling)
 ok_spelled bytes (Err error) fits len e = tt

@@ -1,10 +1,11 @@
 -- What bytes say: the header of a half, and a superblock with the first test that it fails.
-use Rattle.std.specs.Prelude.{ℕ, zero, suc, ◌+◌, Bool, ◌&&◌, ◌==◌, nat_eq, not, if◌then◌else◌, List, [], ◌∷◌, Option, Some, None, Result, Ok, Err, take, drop, nat_le, slice_index, codes}
+use Rattle.std.specs.Prelude.{ℕ, zero, suc, ◌+◌, Bool, ◌&&◌, ◌==◌, nat_eq, not, if◌then◌else◌, List, [], ◌∷◌, Option, Some, None, Result, Ok, Err, take, drop, nat_le, slice_index, codes, option_map, position}
 use Rattle.std.specs.List.{list_all, position_from, starts_with}
 use Rattle.std.specs.Int.{Width, w32, w64, byte_len, from_be_bytes}
 use Rattle.iso_model.specs.declared.access.Geometry.{Geometry}
 use Rattle.iso_model.specs.declared.access.Mode.{Mode}
 use Rattle.iso_model.specs.declared.access.Mode.TheVariants.{Serial, Snapshot}
+use Rattle.iso_model.specs.Effect.{or_else}
 use Rattle.iso_model.specs.Geometry.{is_block_size, is_region}
 use Rattle.iso_format.specs.declared.half.HalfHeader.{HalfHeader}
 use Rattle.iso_format.specs.declared.superblock.SuperError.{SuperError}
@@ -17,6 +18,14 @@ number_at w at bytes = from_be_bytes w (take (byte_len w) (drop at bytes))
 -- whether n bytes from a place on are zero
 abbrev pub are_zero : (at n : ℕ) → List ℕ → Bool
 are_zero at n bytes = list_all (λ b. b == 0) (take n (drop at bytes))
+
+-- the first of n bytes from a place on that is not zero
+abbrev pub first_not_zero : (at n : ℕ) → List ℕ → Option ℕ
+first_not_zero at n bytes = option_map (λ i. at + i) (position (λ b. not (b == 0)) (take n (drop at bytes)))
+
+-- the first byte of a half's header that is to be zero and is not
+abbrev pub unclean_place : List ℕ → Option ℕ
+unclean_place bytes = or_else (first_not_zero 2 6 bytes) (first_not_zero 24 8 bytes)
 
 -- what the header of a half says
 unfoldable pub half_of : List ℕ → HalfHeader

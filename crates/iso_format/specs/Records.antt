@@ -1,5 +1,5 @@
 -- What the bytes of a record say, and the first test that they fail.
-use Rattle.std.specs.Prelude.{◌≡◌, ℕ, zero, suc, ◌+◌, ◌*◌, ◌<◌, ◌≤◌, Bool, true, ◌&&◌, ◌||◌, ◌==◌, not, if◌then◌else◌, List, [], ◌∷◌, ◌++◌, Option, Some, None, IsTrue, length, take, drop, nat_lt, nat_le, slice_index}
+use Rattle.std.specs.Prelude.{◌≡◌, ℕ, zero, suc, ◌+◌, ◌*◌, ◌^◌, ◌<◌, ◌≤◌, Bool, true, ◌&&◌, ◌||◌, ◌==◌, not, if◌then◌else◌, List, [], ◌∷◌, ◌++◌, Option, Some, None, IsTrue, length, take, drop, nat_lt, nat_le, slice_index}
 use Rattle.std.specs.Int.{w16, w32, w64}
 use Rattle.iso_model.specs.declared.access.Geometry.{Geometry}
 use Rattle.iso_model.specs.declared.access.Run.{Run}
@@ -19,6 +19,12 @@ pub record Recorded : Type 0 where
 -- the run of the part at the front of the bytes
 abbrev pub run_of : List ℕ → Run
 run_of body = record { block = number_at w32 0 body; off = number_at w16 4 body; bytes = take (number_at w16 6 body) (drop 8 body) }
+
+-- the limits that the fields of a part have
+pub record IsSmall (run : Run) : Type 0 where
+  pub block : run.block < 2 ^ 32
+  pub off : run.off < 2 ^ 16
+  pub len : length run.bytes < 2 ^ 16
 
 -- how many bytes that part says that it has
 abbrev pub part_size : List ℕ → ℕ
@@ -65,11 +71,15 @@ parts_fault g before at (suc n) body =
 abbrev pub is_kind : Geometry → ℕ → Bool
 is_kind g kind = (kind == 1) || ((kind == 2) && (g.form == 2))
 
+-- how many bytes have to be there for the record to be read: those that its head says, and the gate behind it
+abbrev pub record_window : List ℕ → ℕ
+record_window bytes = 21 + number_at w32 8 bytes
+
 -- the first test that fails before the parts
 abbrev pub head_fault : Geometry → List ℕ → Option FormatError
 head_fault g bytes =
     if nat_lt (length bytes) 20 then Some (Short 0)
-    else (if nat_lt (length bytes) (21 + number_at w32 8 bytes) then Some (Short 8)
+    else (if nat_lt (length bytes) (record_window bytes) then Some (Short 8)
     else (if not (is_kind g (slice_index bytes 1)) then Some (Kind 1)
     else (if not (slice_index bytes 2 == 0) then Some (NotZero 2)
     else (if not (slice_index bytes 3 == 0) then Some (NotZero 3)

@@ -2,7 +2,7 @@
 ghost use Rattle.std.specs.Prelude.{◌≡◌, ◌+◌, ◌≤◌, ◌<◌, ◌^◌, None, length, IfNone};
 ghost use Rattle.std.specs.Int.{w32};
 ghost use Rattle.iso_format.specs.Reading.{number_at};
-ghost use Rattle.iso_format.specs.Records.{body_of, fault_of, follows, head_fault, lies_in, number_fault, part_end, part_fault, part_size, parts_fault};
+ghost use Rattle.iso_format.specs.Records.{body_of, fault_of, follows, head_fault, lies_in, number_fault, part_end, part_fault, part_size, parts_fault, record_window};
 
 use crate::format_error::FormatError;
 use crate::log_record::HEAD;
@@ -96,7 +96,7 @@ fn parts_fault(geometry: &Geometry, count: u32, body: &[u8]) -> Option<FormatErr
 
 fn head_fault(geometry: &Geometry, input: &[u8]) -> Option<FormatError>
     ensures same { result ≡ head_fault geometry.now input.now }
-    ensures long { IfNone result (21 + number_at w32 8 input.now ≤ length input.now) }
+    ensures long { IfNone result (record_window input.now ≤ length input.now) }
 {
     if input.len() < HEAD {
         return Some(FormatError::Short(0));
@@ -132,7 +132,7 @@ fn number_fault(number: u64, input: &[u8]) -> Option<FormatError>
 
 /// The parts of a record whose length is known to fit.
 pub fn body_of(input: &[u8]) -> &[u8]
-    requires { 21 + number_at w32 8 input.now ≤ length input.now }
+    requires { record_window input.now ≤ length input.now }
     ensures same { result.now ≡ body_of input.now }
     ensures short { length result.now < 2 ^ 32 }
 {
@@ -146,7 +146,7 @@ pub fn body_of(input: &[u8]) -> &[u8]
 #[tactic(auto, unfolding(crate::specs::Records::fault_of))]
 pub fn fault_of(geometry: &Geometry, number: u64, input: &[u8]) -> Option<FormatError>
     ensures same { result ≡ fault_of geometry.now number input.now }
-    ensures long { IfNone result (21 + number_at w32 8 input.now ≤ length input.now) }
+    ensures long { IfNone result (record_window input.now ≤ length input.now) }
 {
     if let Some(fault) = head_fault(geometry, input) {
         return Some(fault);

@@ -20,3 +20,40 @@ pub enum FormatError {
     /// The number is not the one that was expected.
     Number(u64),
 }
+
+impl FormatError {
+    ghost use Rattle.std.specs.Prelude.{◌≡◌};
+    ghost use Rattle.iso_format.specs.Faults.{test_number, offset_of};
+
+    /// The number of the test that failed, 1 to 8 in the order of the variants.
+    pub fn number(self) -> u8
+        ensures { result ≡ test_number self }
+    {
+        match self {
+            FormatError::Short(_) => 1,
+            FormatError::Kind(_) => 2,
+            FormatError::NotZero(_) => 3,
+            FormatError::Count(_) => 4,
+            FormatError::Order(_) => 5,
+            FormatError::Range(_) => 6,
+            FormatError::Length(_) => 7,
+            FormatError::Number(_) => 8,
+        }
+    }
+
+    /// The place of the field that failed it, from the record's gate on.
+    pub fn offset(self) -> u64
+        ensures { result ≡ offset_of self }
+    {
+        match self {
+            FormatError::Short(at)
+            | FormatError::Kind(at)
+            | FormatError::NotZero(at)
+            | FormatError::Count(at)
+            | FormatError::Order(at)
+            | FormatError::Range(at)
+            | FormatError::Length(at)
+            | FormatError::Number(at) => at,
+        }
+    }
+}

@@ -1,7 +1,7 @@
 // The header of a half.
-ghost use Rattle.std.specs.Prelude.{◌≡◌, ℕ, ◌^◌, ◌<◌, true, length, IsTrue};
+ghost use Rattle.std.specs.Prelude.{◌≡◌, ◌↔◌, ℕ, ◌+◌, ◌^◌, ◌<◌, ◌≤◌, ◌==◌, true, not, position, length, IsTrue, IsFalse, IsSome};
 ghost use Rattle.iso_model.specs.Image.{half_header};
-ghost use Rattle.iso_format.specs.Reading.{half_of};
+ghost use Rattle.iso_format.specs.Reading.{half_of, unclean_place};
 
 use crate::numbers::{are_zero, u64_at};
 use byteorder::{BigEndian, ByteOrder};
@@ -30,6 +30,7 @@ pub fn write_half(header: &HalfHeader, into: &mut [u8])
     into.copy_from_slice(&bytes);
 }
 
+/// The body of `read_half`, apart so that the clauses on what is spelled follow from the exact one, at one exit.
 #[tactic(auto, unfolding(crate::specs::Reading::half_of))]
 fn half_of(input: &[u8]) -> HalfHeader
     requires { length input.now ≡ 32 }
@@ -56,4 +57,25 @@ pub fn read_half(input: &[u8]) -> HalfHeader
         result ≡ record { gate = gate; form = form; generation = generation; base = base; clean = true } }
 {
     half_of(input)
+}
+
+fn first_not_zero(bytes: &[u8]) -> Option<usize>
+    ensures { result ≡ position (λ b. not (b == 0)) bytes.now }
+{
+    bytes.iter().position(|b| *b != 0)
+}
+
+/// The place in the header of the first byte that is to be zero and is not.
+pub fn unclean_place(input: &[u8]) -> Option<u64>
+    requires { length input.now ≡ 32 }
+    ensures place { result ≡ unclean_place input.now }
+    ensures clean { IsSome result ↔ IsFalse (half_of input.now).clean }
+{
+    if let Some(i) = first_not_zero(&input[2..8]) {
+        return Some(2 + i as u64);
+    }
+    match first_not_zero(&input[24..32]) {
+        Some(i) => Some(24 + i as u64),
+        None => None,
+    }
 }

@@ -1,7 +1,7 @@
 // A record that lies in bytes, and its parts.
-ghost use Rattle.std.specs.Prelude.{◌≡◌, None, Some, Ok, IfOk, IfErr, IsTrue};
+ghost use Rattle.std.specs.Prelude.{◌≡◌, ◌≤◌, length, None, Some, Ok, IfOk, IfErr, IsTrue};
 ghost use Rattle.iso_model.specs.Geometry.{is_valid};
-ghost use Rattle.iso_format.specs.Records.{BeginsWith, Recorded, fault_of, recorded};
+ghost use Rattle.iso_format.specs.Records.{BeginsWith, Recorded, fault_of, record_window, recorded};
 
 use crate::faults::{PART_HEAD, body_of, fault_of, part_size};
 use crate::format_error::FormatError;
@@ -109,6 +109,15 @@ impl<'a> RecordView<'a> {
     }
 }
 
+/// How many bytes have to be there for the record to be read that begins with these: its own, and the gate behind it.
+pub fn record_window(head: &[u8]) -> u64
+    requires { 20 ≤ length head.now }
+    ensures { result ≡ record_window head.now }
+{
+    21 + u64::from(u32_at(head, 8))
+}
+
+/// The body of `read_record`, apart so that the clauses on what is spelled follow from the exact ones, at one exit.
 fn record_of<'a>(
     geometry: &Geometry,
     number: u64,

@@ -20,6 +20,13 @@ pub enum SuperError {
 /// The version of the format.
 const VERSION: u32 = 1;
 
+/// How many blocks an image may have, and how many bytes its log.
+const MOST_BLOCKS: u32 = 16_384;
+
+const LEAST_LOG: u32 = 64;
+
+const MOST_LOG: u32 = 67_108_864;
+
 fn mode_byte(mode: Mode) -> u8
     ensures { result ≡ mode_byte mode }
 {
@@ -100,6 +107,23 @@ fn has_regions(geometry: &Geometry) -> bool
         && u64::from(geometry.hash) + u64::from(geometry.tree) <= u64::from(geometry.blocks)
 }
 
+/// Whether the numbers of an image keep their limits.
+#[tactic(auto, unfolding(iso_model::specs::Geometry::is_valid))]
+pub fn is_valid(geometry: &Geometry) -> bool
+    ensures { result ≡ is_valid geometry.now }
+{
+    is_block_size(geometry.block)
+        && 1 <= geometry.blocks
+        && geometry.blocks <= MOST_BLOCKS
+        && LEAST_LOG <= geometry.log
+        && geometry.log <= MOST_LOG
+        && is_region(geometry, 3, geometry.hash)
+        && is_region(geometry, 2, geometry.tree)
+        && u64::from(geometry.hash) + u64::from(geometry.tree) <= u64::from(geometry.blocks)
+        && 1 <= geometry.form
+        && geometry.form <= 2
+}
+
 fn wrong_field(input: &[u8], geometry: &Geometry) -> Option<u8>
     requires { length input.now ≡ 64 }
     ensures { result ≡ wrong_field input.now geometry.now }
@@ -108,9 +132,9 @@ fn wrong_field(input: &[u8], geometry: &Geometry) -> Option<u8>
         Some(1)
     } else if !is_block_size(geometry.block) {
         Some(2)
-    } else if !(1..=16_384).contains(&geometry.blocks) {
+    } else if !(1..=MOST_BLOCKS).contains(&geometry.blocks) {
         Some(3)
-    } else if !(64..=67_108_864).contains(&geometry.log) {
+    } else if !(LEAST_LOG..=MOST_LOG).contains(&geometry.log) {
         Some(4)
     } else if input[24] > 1 {
         Some(5)
@@ -123,6 +147,7 @@ fn wrong_field(input: &[u8], geometry: &Geometry) -> Option<u8>
     }
 }
 
+/// The body of `read_super`, apart so that the clauses on what is spelled follow from the exact one, at one exit.
 #[tactic(auto, unfolding(crate::specs::Reading::super_of))]
 fn super_of(input: &[u8]) -> Result<Geometry, SuperError>
     requires { length input.now ≡ 64 }

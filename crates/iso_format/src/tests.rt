@@ -1,11 +1,11 @@
 // The bytes of a small image, and of a record in its log.
-ghost use Rattle.std.specs.Prelude.{IfOk, IsTrue};
+ghost use Rattle.std.specs.Prelude.{◌≡◌, ◌<◌, [], length, IfOk, OnOk, IsTrue};
 ghost use Rattle.iso_model.specs.Geometry.{is_valid};
 ghost use Rattle.iso_format.specs.Writing.{LieInAnImage};
 
 use crate::{
-    FormatError, HalfHeader, PartList, SuperError, read_half, read_record, read_super,
-    record_length, write_half, write_record, write_super,
+    FormatError, HalfHeader, PartList, RecordBuffer, SuperError, is_valid, read_half, read_record,
+    read_super, record_length, record_window, unclean_place, write_half, write_record, write_super,
 };
 use iso_model::{Geometry, Memory, Mode};
 use std::alloc::Global;
@@ -100,6 +100,7 @@ fn first_half_of_a_new_image(rt: HostRuntime) {
     expected[15] = 1;
     assert_eq!(rt; bytes, expected);
     assert_eq!(rt; read_half(&bytes), first);
+    assert_eq!(rt; unclean_place(&bytes), None);
     bytes[31] = 1;
     assert_eq!(rt;
         read_half(&bytes),
@@ -108,6 +109,18 @@ fn first_half_of_a_new_image(rt: HostRuntime) {
             ..first
         }
     );
+    assert_eq!(rt; unclean_place(&bytes), Some(31));
+    bytes[7] = 9;
+    assert_eq!(rt; unclean_place(&bytes), Some(7));
+}
+
+/// Adds the record of `one_put` as commit 1.
+fn push_put(buffer: &mut RecordBuffer) -> Result<(), Memory>
+    requires { buffer.old.parts ≡ [] }
+    ensures { OnOk result (buffer.new.parts ≡ []) }
+{
+    buffer.push_part(2, 5, &[0xab, 0xcd])?;
+    buffer.finish(1, 1)
 }
 
 #[test]
@@ -119,8 +132,104 @@ fn record_of_one_put(rt: HostRuntime) -> Result<(), Fail> {
     Ok(())
 }
 
+/// Five parts in four blocks.
+fn five_parts(alloc: Global) -> Result<PartList, Memory>
+    ensures lie { IfOk result LieInAnImage }
+    ensures some { IfOk result (λ parts. 0 < length parts) }
+{
+    let mut parts = PartList::empty(alloc);
+    parts.push(0, 0, &[1])?;
+    parts.push(0, 2, &[2, 3])?;
+    parts.push(1, 60, &[4, 5, 6, 7])?;
+    parts.push(2, 0, &[8])?;
+    parts.push(3, 63, &[9])?;
+    Ok(parts)
+}
+
+#[test]
+fn record_of_five_parts(rt: HostRuntime) -> Result<(), Fail> {
+    let parts = five_parts(rt.alloc())?;
+    assert_eq!(rt; record_length(&parts), 69);
+    let mut record = write_record(rt.alloc(), 9, 1, &parts)?;
+    assert_eq!(rt; record.len(), 69);
+    record.push(0)?;
+    let view = read_record(&record, &small(), 9)?;
+    assert_eq!(rt; view.number(), 9);
+    let expected: [(u32, u16, &[u8]); 5] = [
+        (0, 0, &[1]),
+        (0, 2, &[2, 3]),
+        (1, 60, &[4, 5, 6, 7]),
+        (2, 0, &[8]),
+        (3, 63, &[9]),
+    ];
+    let mut read = view.parts();
+    for (block, off, bytes) in expected.iter() {
+        let part = read.next().ok_or("a part is missing")?;
+        assert_eq!(rt; part.block, *block);
+        assert_eq!(rt; part.off, *off);
+        assert_eq!(rt; part.bytes, *bytes);
+    }
+    assert!(rt; read.next().is_none());
+    Ok(())
+}
+
+#[test]
+fn two_records_behind_one_closed_gate(rt: HostRuntime) -> Result<(), Fail> {
+    let mut buffer = RecordBuffer::new(rt.alloc())?;
+    assert_eq!(rt; buffer.with_closed_gate(), [0].as_slice());
+    push_put(&mut buffer)?;
+    assert_eq!(rt; buffer.with_closed_gate(), RECORD.as_slice());
+    push_put(&mut buffer)?;
+    let both = buffer.with_closed_gate();
+    assert_eq!(rt; both.len(), 61);
+    assert!(rt; both.starts_with(&RECORD[..30]));
+    assert!(rt; both.ends_with(&RECORD));
+    buffer.clear();
+    assert_eq!(rt; buffer.with_closed_gate(), [0].as_slice());
+    push_put(&mut buffer)?;
+    assert_eq!(rt; buffer.with_closed_gate(), RECORD.as_slice());
+    Ok(())
+}
+
+#[test]
+fn geometries_within_the_limits(rt: HostRuntime) {
+    assert!(rt; is_valid(&small()));
+    for wrong in [
+        Geometry {
+            block: 96,
+            ..small()
+        },
+        Geometry {
+            blocks: 0,
+            ..small()
+        },
+        Geometry {
+            blocks: 16_385,
+            ..small()
+        },
+        Geometry { log: 63, ..small() },
+        Geometry {
+            log: 67_108_865,
+            ..small()
+        },
+        Geometry { hash: 3, ..small() },
+        Geometry { form: 3, ..small() },
+    ] {
+        assert!(rt; !is_valid(&wrong));
+    }
+}
+
+#[test]
+fn what_a_refusal_tells(rt: HostRuntime) {
+    assert_eq!(rt; FormatError::Short(0).number(), 1);
+    assert_eq!(rt; FormatError::Length(29).number(), 7);
+    assert_eq!(rt; FormatError::Length(29).offset(), 29);
+    assert_eq!(rt; FormatError::Number(12).number(), 8);
+}
+
 #[test]
 fn parts_of_a_record(rt: HostRuntime) -> Result<(), Fail> {
+    assert_eq!(rt; record_window(&RECORD), 31);
     let record = read_record(&RECORD, &small(), 1)?;
     assert_eq!(rt; record.number(), 1);
     assert_eq!(rt; record.kind(), 1);

@@ -1,6 +1,6 @@
-use Rattle.std.proofs.Common.{◌≡◌, take}
+use Rattle.std.proofs.Common.{◌≡◌, ◌-◌, ◌^◌, min, take}
 use Rattle.iso_model.specs.Image.{body_length}
 use Rattle.iso_format.proofs.log_record.body_length.Given as goal
 
 abbrev pub invariant-loop-run : goal.invariant-loop-run
-invariant-loop-run l = l.total ≡ body_length (take l.run-index l.parts)
+invariant-loop-run l = l.total ≡ min (body_length (take l.run-index l.parts)) (2 ^ 64 - 1)
