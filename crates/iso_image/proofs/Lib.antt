@@ -1,0 +1,9 @@
+pub mod Adds
+pub mod Appends
+pub mod Empty
+pub mod Frames
+pub mod Histories
+pub mod Logs
+pub mod Others
+pub mod Standing
+pub mod Switches

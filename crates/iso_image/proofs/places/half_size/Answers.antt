@@ -1,0 +1,13 @@
+use Rattle.std.proofs.Common.{arith}
+use Rattle.iso_model.proofs.Bounds.{limits}
+use Rattle.iso_image.proofs.places.half_size.Goals as goal
+
+pub returns-clause-small : goal.returns-clause-small
+returns-clause-small c =
+    let small = (limits c.args.geometry.now c.requires).half in
+    omega (arith, small, c.base_size.ensures.size, c.from.ensures)
+
+pub overflow_add-result-2 : goal.overflow_add-result-2
+overflow_add-result-2 c =
+    let most = (limits c.args.geometry.now c.requires).largest_log in
+    omega (arith, most, c.base_size.ensures.small, c.from.ensures)

@@ -1,0 +1,69 @@
+// The places of a small image, and of the default one.
+ghost use Rattle.std.specs.Prelude.{IsTrue};
+ghost use Rattle.iso_model.specs.Geometry.{is_valid};
+
+use crate::{HalfPlace, half_place, image_size, kind_of};
+use iso_model::{Geometry, Mode};
+
+/// Four blocks of 64 bytes, and a log of 256.
+#[tactic(auto, unfolding(iso_model::specs::Geometry::is_valid))]
+fn small() -> Geometry
+    ensures { IsTrue (is_valid result) }
+{
+    Geometry {
+        block: 64,
+        blocks: 4,
+        log: 256,
+        mode: Mode::Serial,
+        hash: 0,
+        tree: 0,
+        form: 1,
+    }
+}
+
+#[tactic(auto, unfolding(iso_model::specs::Geometry::is_valid))]
+fn default_geometry() -> Geometry
+    ensures { IsTrue (is_valid result) }
+{
+    Geometry {
+        block: 4096,
+        blocks: 1024,
+        log: 4_194_304,
+        mode: Mode::Serial,
+        hash: 0,
+        tree: 0,
+        form: 1,
+    }
+}
+
+#[test]
+fn places_in_a_small_image(rt: HostRuntime) {
+    assert_eq!(rt; image_size(&small()), 1152);
+    assert_eq!(rt;
+        half_place(&small(), 0),
+        HalfPlace {
+            header: 64,
+            base: 96,
+            log: 352,
+        }
+    );
+    assert_eq!(rt;
+        half_place(&small(), 1),
+        HalfPlace {
+            header: 608,
+            base: 640,
+            log: 896,
+        }
+    );
+}
+
+#[test]
+fn size_of_the_default_image(rt: HostRuntime) {
+    assert_eq!(rt; image_size(&default_geometry()), 16_777_344);
+}
+
+#[test]
+fn kinds_of_records(rt: HostRuntime) {
+    assert_eq!(rt; kind_of(&small(), Mode::Serial), 1);
+    assert_eq!(rt; kind_of(&small(), Mode::Snapshot), 2);
+}
