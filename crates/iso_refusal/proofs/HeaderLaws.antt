@@ -1,0 +1,144 @@
+-- A header that passes each test is spelled, and what is spelled passes them; so for the form and the current half.
+use Rattle.std.proofs.Common.{◌≡◌, ◌∙◌, refl, ap, inl, inr, ℕ, zero, suc, ◌+◌, ◌≤◌, ◌==◌, ◌||◌, nat_lt, nat_le, Bool, true, false, cond, List, Option, Some, None, IsTrue, length, get_or, drop, option_map, subst, arith}
+use Rattle.std.proofs.lemmas.Bool.{ltb-false, le-ltb, eqb-true, or_cases, and_parts, and_from}
+use Rattle.std.proofs.lemmas.List.{get_or-drop, get_or-take}
+use Rattle.std.proofs.lemmas.Option.{same_Some}
+use Rattle.iso_model.specs.declared.access.Geometry.{Geometry}
+use Rattle.iso_model.specs.declared.limits.TheConstants.{LAST}
+use Rattle.iso_model.specs.Effect.{or_else}
+use Rattle.iso_model.specs.Geometry.{is_valid, half_size, header_place, image_size}
+use Rattle.iso_model.specs.Image.{chosen_half, current_half, generation_at, half_header, is_open_at, superblock}
+use Rattle.iso_model.specs.Premises.{AreBytes}
+use Rattle.iso_model.proofs.Bounds.{limits}
+use Rattle.iso_format.specs.declared.half.HalfHeader.{HalfHeader}
+use Rattle.iso_format.specs.Reading.{first_not_zero, half_of, unclean_place}
+use Rattle.iso_format.proofs.HalfLaws.{all_clean, half_again, half_spelled}
+use Rattle.iso_format.proofs.PartLaws.{neither, unless}
+use Rattle.iso_refusal.specs.declared.open_error.OpenError.{OpenError}
+use Rattle.iso_refusal.specs.declared.open_error.OpenError.TheVariants.{Damaged, UnknownForm}
+use Rattle.iso_refusal.specs.Refusal.{header_at, header_refusal, number_refusal}
+use Rattle.iso_refusal.proofs.LogLaws.{none_mapped}
+
+-- a test that is to hold did, and the others followed
+pub held : {X : Type 0} (b : Bool) (x : X) (y : Option X) → cond b y (Some x) ≡ None → (b ≡ true) × (y ≡ None)
+held true x y e = (refl, e)
+held false x y e = absurd cc
+
+-- the form is one of those that are known
+abbrev pub IsForm : ℕ → Type 0
+IsForm form = IsTrue ((form == 1) || (form == 2))
+
+-- ---- the header of a half
+
+-- what a header says that passes each test
+pub record IsHeader (header : List ℕ) (h : HalfHeader) : Type 0 where
+  pub form : IsForm h.form
+  pub generation : h.generation ≤ LAST
+  pub base : h.base ≤ LAST
+  pub spelling : header ≡ half_header 1 h.form h.generation h.base
+
+is_clean : (header : List ℕ) → unclean_place header ≡ None → IsTrue (half_of header).clean
+is_clean header e =
+    let each = neither (first_not_zero 2 6 header) (first_not_zero 24 8 header) e in
+    all_clean header (none_mapped (λ (i : ℕ). 2 + i) _ each.0) (none_mapped (λ (i : ℕ). 24 + i) _ each.1)
+
+pub unrefused_header : (place : ℕ) (header : List ℕ) → AreBytes header → length header ≡ 32 → (half_of header).gate ≡ 1 → header_refusal place header ≡ None → IsHeader header (half_of header)
+unrefused_header place header fits size gate e =
+    let h = half_of header in
+    let form = held ((h.form == 1) || (h.form == 2)) (UnknownForm h.form) _ e in
+    let each = neither (option_map (λ (i : ℕ). Damaged (place + i) 3) (unclean_place header)) (number_refusal place h) form.1 in
+    let generation = unless (nat_lt LAST h.generation) (Damaged (place + 8) 8) _ each.1 in
+    let base = unless (nat_lt LAST h.base) (Damaged (place + 16) 8) None generation.1 in
+    let clean = is_clean header (none_mapped (λ (i : ℕ). Damaged (place + i) 3) (unclean_place header) each.0) in
+    record {
+      form = form.0;
+      generation = ltb-false LAST h.generation generation.0;
+      base = ltb-false LAST h.base base.0;
+      spelling = half_spelled header fits size clean ∙ ap (λ (g : ℕ). half_header g h.form h.generation h.base) gate;
+    }
+
+-- what a header says that was written
+pub said_again : (form generation base : ℕ) → generation ≤ LAST → base ≤ LAST
+    → half_of (half_header 1 form generation base) ≡ record { gate = 1; form = form; generation = generation; base = base; clean = true }
+said_again form generation base m n = half_again 1 form generation base (omega (arith, m)) (omega (arith, n))
+
+clean_again : (form generation base : ℕ) → unclean_place (half_header 1 form generation base) ≡ None
+unfolding half_header
+clean_again form generation base = refl
+
+pub header_again : (place form generation base : ℕ) → IsForm form → generation ≤ LAST → base ≤ LAST → header_refusal place (half_header 1 form generation base) ≡ None
+header_again place form generation base known m n =
+    let said = said_again form generation base m n in
+    let clean = clean_again form generation base in
+    (λ i. cond (((said i).form == 1) || ((said i).form == 2)) (or_else (option_map (λ (j : ℕ). Damaged (place + j) 3) (clean i)) (number_refusal place (said i))) (Some (UnknownForm (said i).form)))
+    ∙ all_pass ((form == 1) || (form == 2)) (nat_lt LAST generation) (nat_lt LAST base) (UnknownForm form) (Damaged (place + 8) 8) (Damaged (place + 16) 8) known (le-ltb LAST generation m) (le-ltb LAST base n)
+  where
+    all_pass : (a b c : Bool) (x y z : OpenError) → a ≡ true → b ≡ false → c ≡ false → cond a (cond b (Some y) (cond c (Some z) None)) (Some x) ≡ None
+    all_pass a b c x y z pa pb pc = rw (pa, pb, pc) refl
+
+-- ---- the form, which a superblock does not tell
+
+pub super_form : (g : Geometry) (form : ℕ) → superblock 1 g ≡ superblock 1 (record g { form = form })
+unfolding superblock
+super_form g form = refl
+
+known_form : (form : ℕ) → IsForm form → IsTrue (nat_le 1 form) × IsTrue (nat_le form 2)
+known_form form known =
+    elim (or_cases (form == 1) (form == 2) known) [
+      | inl first ↦ let e = eqb-true form 1 first in rw e (refl, refl)
+      | inr second ↦ let e = eqb-true form 2 second in rw e (refl, refl)
+    ]
+
+pub valid_form : (g : Geometry) (form : ℕ) → IsTrue (is_valid g) → IsForm form → IsTrue (is_valid (record g { form = form }))
+unfolding is_valid
+valid_form g form valid known =
+    let most = and_parts _ _ valid in
+    let least = and_parts _ _ most.0 in
+    let keeps = known_form form known in
+    and_from _ _ (and_from _ _ least.0 keeps.0) keeps.1
+
+one_or_two : (form : ℕ) → 1 ≤ form → form ≤ 2 → IsForm form
+one_or_two zero least most = absurd (omega arith)
+one_or_two (suc zero) least most = refl
+one_or_two (suc (suc zero)) least most = refl
+one_or_two (suc (suc (suc n))) least most = absurd (omega arith)
+
+pub form_is : (g : Geometry) → IsTrue (is_valid g) → IsForm g.form
+form_is g valid = let keeps = limits g valid in one_or_two g.form keeps.least_form keeps.largest_form
+
+-- ---- the current half
+
+-- it is one of two, and its gate is open
+pub record IsCurrent (g : Geometry) (bytes : List ℕ) (half : ℕ) : Type 0 where
+  pub least : half ≤ 1
+  pub gate : IsTrue (is_open_at bytes (header_place g half))
+
+which : (g : Geometry) (bytes : List ℕ) (larger : Bool) (half : ℕ) → IsTrue (is_open_at bytes (header_place g 0)) → IsTrue (is_open_at bytes (header_place g 1))
+    → cond larger 1 0 ≡ half → IsCurrent g bytes half
+which g bytes true half first second e = subst (IsCurrent g bytes) e (record { least = omega arith; gate = second })
+which g bytes false half first second e = subst (IsCurrent g bytes) e (record { least = omega arith; gate = first })
+
+chosen : (g : Geometry) (bytes : List ℕ) (a b : Bool) (m n half : ℕ) → is_open_at bytes (header_place g 0) ≡ a → is_open_at bytes (header_place g 1) ≡ b
+    → chosen_half a m b n ≡ Some half → IsCurrent g bytes half
+chosen g bytes true true m n half first second e = which g bytes (nat_lt m n) half first second (same_Some (cond (nat_lt m n) 1 0) half e)
+chosen g bytes true false m n half first second e = subst (IsCurrent g bytes) (same_Some 0 half e) (record { least = omega arith; gate = first })
+chosen g bytes false true m n half first second e = subst (IsCurrent g bytes) (same_Some 1 half e) (record { least = omega arith; gate = second })
+chosen g bytes false false m n half first second e = absurd cc
+
+pub is_current : (g : Geometry) (bytes : List ℕ) (half : ℕ) → current_half g bytes ≡ Some half → IsCurrent g bytes half
+is_current g bytes half e =
+    chosen g bytes (is_open_at bytes (header_place g 0)) (is_open_at bytes (header_place g 1)) (generation_at bytes (header_place g 0)) (generation_at bytes (header_place g 1)) half refl refl e
+
+pub gate_again : (g : Geometry) (bytes : List ℕ) (half : ℕ) → IsTrue (is_open_at bytes (header_place g half)) → (half_of (header_at g half bytes)).gate ≡ 1
+unfolding half_of
+gate_again g bytes half opens =
+    get_or-take 32 (drop (header_place g half) bytes) 0 0 (omega arith) ∙ get_or-drop (header_place g half) bytes 0 0
+    ∙ ap (λ (at : ℕ). get_or bytes at 0) (plus_zero (header_place g half)) ∙ eqb-true (get_or bytes (header_place g half) 0) 1 opens
+  where
+    plus_zero : (n : ℕ) → n + 0 ≡ n
+    plus_zero n = omega arith
+
+pub half_inside : (g : Geometry) (bytes : List ℕ) (half : ℕ) → half ≤ 1 → length bytes ≡ image_size g → header_place g half + half_size g ≤ length bytes
+half_inside g bytes zero least size = omega arith
+half_inside g bytes (suc zero) least size = omega arith
+half_inside g bytes (suc (suc n)) least size = absurd (omega arith)

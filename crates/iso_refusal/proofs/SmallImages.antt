@@ -1,0 +1,26 @@
+-- A small image and its changes: blocks of 64 bytes, 4 of them, a log of 256 bytes, serial.
+use Rattle.std.specs.Prelude.{ℕ, ◌+◌, List, [], ◌∷◌, ◌++◌, length, take, drop, replicate, codes}
+
+-- as it is made
+unfoldable pub blank : List ℕ
+blank =
+    codes "ISOTOPE1" ++ 0 ∷ 0 ∷ 0 ∷ 1 ∷ 0 ∷ 0 ∷ 0 ∷ 64 ∷ 0 ∷ 0 ∷ 0 ∷ 4 ∷ 0 ∷ 0 ∷ 1 ∷ 0 ∷ [] ++ replicate 39 0 ++ 1 ∷ []
+    ++ 1 ∷ 1 ∷ replicate 13 0 ++ 1 ∷ [] ++ replicate 1072 0
+
+-- the bytes with this piece at this place
+abbrev pub with_piece : (at : ℕ) → List ℕ → List ℕ → List ℕ
+with_piece at piece bytes = take at bytes ++ piece ++ drop (at + length piece) bytes
+
+-- the bytes with this one at this place
+abbrev pub with_byte : (at byte : ℕ) → List ℕ → List ℕ
+with_byte at byte bytes = with_piece at (byte ∷ []) bytes
+
+-- the record of commit 1, which writes ab cd at byte 5 of block 2
+abbrev pub put_record : List ℕ
+put_record =
+    1 ∷ 1 ∷ 0 ∷ 0 ∷ 0 ∷ 0 ∷ 0 ∷ 1 ∷ 0 ∷ 0 ∷ 0 ∷ 10 ∷ 0 ∷ 0 ∷ 0 ∷ 0 ∷ 0 ∷ 0 ∷ 0 ∷ 1 ∷ 0 ∷ 0 ∷ 0 ∷ 2 ∷ 0 ∷ 5 ∷ 0 ∷ 2 ∷ 171 ∷ 205 ∷ []
+
+-- the image that holds it
+unfoldable pub one_commit : List ℕ
+unfolding blank
+one_commit = with_piece 352 put_record blank
