@@ -1,11 +1,10 @@
 // The arguments of an operation, each with the cause that it fails by.
-ghost use Rattle.iso_model.specs.Script.{client_in_range, hex_argument, number_argument};
+ghost use Rattle.iso_model.specs.Script.{client_in_range, hex_argument, label_argument, mode_argument, number_argument};
 ghost use Rattle.iso_model.specs.Text.{number_of};
 ghost use Rattle.script_text.specs.Parsing.{Gives};
 
 use crate::word::number_of;
-use hex::FromHexError;
-use iso_model::{Bytes, LineError};
+use iso_model::{Bytes, Label, LineError, Mode};
 use std::alloc::Global;
 
 /// The client that the first word names, 1 to 64.
@@ -30,11 +29,29 @@ pub(crate) fn hex(alloc: Global, word: &[u8]) -> Result<Bytes, LineError>
     if word.is_empty() {
         return Err(LineError::Cause(5));
     }
-    match hex::decode(alloc, word) {
-        Ok(bytes) => Ok(Bytes::of(bytes)),
-        Err(error) => match error {
-            FromHexError::OutOfMemory => Err(LineError::Memory),
-            _ => Err(LineError::Cause(5)),
-        },
+    let Ok(mut bytes) = vec![in alloc; 0u8; word.len() / 2] else {
+        return Err(LineError::Memory);
+    };
+    match hex::decode_to_slice(word, bytes.as_mut_slice()) {
+        Ok(()) => Ok(Bytes::of(bytes)),
+        Err(_) => Err(LineError::Cause(5)),
     }
+}
+
+pub(crate) fn label(word: &[u8]) -> Result<Label, LineError>
+    ensures { Gives result (label_argument word.now) }
+{
+    Label::new(word).ok_or(LineError::Cause(6))
+}
+
+pub(crate) fn mode(word: &[u8]) -> Result<Mode, LineError>
+    ensures { Gives result (mode_argument word.now) }
+{
+    if word == b"serial".as_slice() {
+        return Ok(Mode::Serial);
+    }
+    if word == b"snapshot".as_slice() {
+        return Ok(Mode::Snapshot);
+    }
+    Err(LineError::Cause(10))
 }

@@ -1,19 +1,21 @@
 // What a line of a script says.
-ghost use Rattle.std.specs.Prelude.{◌≡◌};
+ghost use Rattle.std.specs.Prelude.{◌≡◌, IfOk};
+ghost use Rattle.iso_model.specs.Open.{SaysOpen};
 ghost use Rattle.iso_model.specs.Script.{is_skipped, parse, parse_whole, said, without_return};
 ghost use Rattle.script_text.specs.Parsing.{Gives};
 ghost use Rattle.script_text.specs.Words.{texts};
 
 use crate::argument::client;
 use crate::operation::operation_of;
-use crate::word::words_of;
-use iso_model::{Line, LineError, MAX_LINE, Memory, Parsed};
+use crate::word::{MOST_WORDS, cut_words};
+use iso_model::{Line, LineError, MAX_LINE, Parsed};
 use std::alloc::Global;
 
 /// What a line without its line feed says, or the first test that it fails.
 #[tactic(auto, unfolding(iso_model::specs::Script::parse))]
 pub fn parse_line(alloc: Global, text: &[u8]) -> Result<Parsed, LineError>
-    ensures { Gives result (parse text.now) }
+    ensures parsed { Gives result (parse text.now) }
+    ensures is_open { IfOk result SaysOpen }
 {
     if text.len() > MAX_LINE {
         return Err(LineError::Cause(7));
@@ -24,16 +26,16 @@ pub fn parse_line(alloc: Global, text: &[u8]) -> Result<Parsed, LineError>
     if !text.iter().all(|byte| (b' '..=b'~').contains(byte)) {
         return Err(LineError::Cause(8));
     }
-    match words_of(alloc, text) {
-        Ok(words) => said(alloc, &words),
-        Err(Memory) => Err(LineError::Memory),
-    }
+    let mut places: [&[u8]; MOST_WORDS] = [b""; MOST_WORDS];
+    let count = cut_words(text, &mut places);
+    said(alloc, &places[..count])
 }
 
 /// What the bytes before a line feed say. A carriage return at their end counts in their length alone.
 #[tactic(auto, unfolding(iso_model::specs::Script::parse_whole))]
 pub fn parse_whole_line(alloc: Global, piece: &[u8]) -> Result<Parsed, LineError>
-    ensures { Gives result (parse_whole piece.now) }
+    ensures parsed { Gives result (parse_whole piece.now) }
+    ensures is_open { IfOk result SaysOpen }
 {
     if piece.len() > MAX_LINE {
         return Err(LineError::Cause(7));

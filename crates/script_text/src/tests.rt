@@ -1,5 +1,6 @@
 use super::*;
-use iso_model::{Bytes, Clash};
+use crate::operation::any_operation;
+use iso_model::{Bytes, Clash, Mode};
 use std::alloc::Global;
 use std::test::*;
 
@@ -37,6 +38,74 @@ fn the_first_test_that_a_line_fails(rt: HostRuntime) {
     for (line, wanted) in lines.iter() {
         assert_eq!(rt; cause(rt.alloc(), line), Some(*wanted));
     }
+}
+
+// What an operation that no line may say yet is read as, by the cause that it fails by.
+fn unopened(alloc: Global, name: &[u8], arguments: &[&[u8]]) -> Option<u8> {
+    match any_operation(alloc, name, arguments) {
+        Err(LineError::Cause(cause)) => Some(cause),
+        _ => None,
+    }
+}
+
+#[test]
+fn arguments_of_operations_that_are_not_open(rt: HostRuntime) {
+    let alloc = rt.alloc();
+    assert_eq!(rt; unopened(alloc, b"begin", &[b"x"]), Some(10));
+    assert_eq!(rt; unopened(alloc, b"begin", &[b"serial", b"x"]), Some(3));
+    assert_eq!(rt; unopened(alloc, b"get", &[b"1", b"2"]), Some(3));
+    assert_eq!(rt; unopened(alloc, b"get", &[b"1", b"2", b"03"]), Some(4));
+    assert_eq!(rt; unopened(alloc, b"fill", &[b"1", b"1"]), Some(5));
+    assert_eq!(rt; unopened(alloc, b"mark", &[b"0"]), Some(3));
+    assert_eq!(rt; unopened(alloc, b"release", &[b"A"]), Some(6));
+    assert_eq!(rt; unopened(alloc, b"takeover", &[b""]), Some(6));
+    assert_eq!(rt; unopened(alloc, b"await", &[b"abcdefghij0123456"]), Some(6));
+    assert_eq!(rt; unopened(alloc, b"trim", &[b"1"]), Some(3));
+    assert_eq!(rt; unopened(alloc, b"jump", &[]), Some(2));
+    assert_eq!(rt; cause(alloc, b"1 get 0 0 1"), Some(2));
+}
+
+#[test]
+fn operations_that_are_not_open(rt: HostRuntime) {
+    let alloc = rt.alloc();
+    assert!(rt;
+        matches!(
+            any_operation(alloc, b"begin", &[b"snapshot"]),
+            Ok(Op::Begin {
+                mode: Some(Mode::Snapshot)
+            })
+        )
+    );
+    assert!(rt;
+        matches!(
+            any_operation(alloc, b"get", &[b"3", b"2", b"1"]),
+            Ok(Op::Get {
+                block: 3,
+                off: 2,
+                len: 1
+            })
+        )
+    );
+    assert!(rt;
+        matches!(
+            any_operation(alloc, b"mark", &[b"5", b"6"]),
+            Ok(Op::Mark { off: 5, len: 6 })
+        )
+    );
+    let released = any_operation(alloc, b"release", &[b"z0"]);
+    match &released {
+        Ok(Op::Release { label }) => assert_eq!(rt; label.text(), b"z0".as_slice()),
+        _ => assert!(rt; false),
+    }
+    let written = any_operation(alloc, b"write", &[b"2", b"aB"]);
+    match &written {
+        Ok(Op::Write { block, bytes }) => {
+            assert_eq!(rt; *block, 2);
+            assert_eq!(rt; bytes.as_slice(), [171].as_slice());
+        }
+        _ => assert!(rt; false),
+    }
+    assert!(rt; matches!(any_operation(alloc, b"upgrade", &[]), Ok(Op::Upgrade)));
 }
 
 #[test]
@@ -113,6 +182,34 @@ fn operations(rt: HostRuntime) {
 }
 
 #[test]
+fn a_put_of_many_bytes(rt: HostRuntime) -> Result<(), Fail> {
+    let mut line = Vec::new(rt.alloc());
+    line.extend_from_slice(b"3 put 1 0 ")?;
+    for _ in 0..2048 {
+        line.extend_from_slice(b"a5")?;
+    }
+    match parse_line(rt.alloc(), &line) {
+        Ok(
+            Parsed::Line(
+                Line {
+                    client: 3,
+                    op: Op::Put {
+                        block: 1,
+                        off: 0,
+                        bytes,
+                    },
+                },
+            ),
+        ) => {
+            assert_eq!(rt; bytes.as_slice().len(), 2048);
+            assert!(rt; bytes.as_slice().iter().all(|byte| *byte == 0xa5));
+        }
+        _ => assert!(rt; false, "the line is a put"),
+    }
+    Ok(())
+}
+
+#[test]
 fn a_carriage_return_before_the_line_feed(rt: HostRuntime) -> Result<(), Fail> {
     let alloc = rt.alloc();
     assert!(rt;
@@ -145,7 +242,7 @@ fn the_line_of_each_reply(rt: HostRuntime) -> Result<(), Fail> {
         block: 16383,
         at: 4095,
     };
-    let replies: [(Reply, &[u8]); 15] = [
+    let replies: [(Reply, &[u8]); 23] = [
         (Reply::Done, b"1 ok\n"),
         (Reply::Began(0), b"1 ok begin 0\n"),
         (Reply::Shown(shown), b"1 ok 00abff\n"),
@@ -163,7 +260,25 @@ fn the_line_of_each_reply(rt: HostRuntime) -> Result<(), Fail> {
         (Reply::ModeFixed, b"1 mode-fixed\n"),
         (Reply::BadBlock, b"1 bad-block\n"),
         (Reply::BadRange, b"1 bad-range\n"),
+        (Reply::NoAccess, b"1 no-access\n"),
+        (Reply::TooManyMarks, b"1 too-many-marks\n"),
         (Reply::TooManyAccesses, b"1 too-many-accesses\n"),
+        (Reply::NoHandle, b"1 no-handle\n"),
+        (Reply::LabelTaken, b"1 label-taken\n"),
+        (Reply::Trimmed(0), b"1 ok trim 0\n"),
+        (Reply::Compacted(3), b"1 ok compact 3\n"),
+        (Reply::Upgraded(1), b"1 ok upgrade 1\n"),
+        (
+            Reply::Numbers {
+                last: 4,
+                base: 3,
+                trim: 3,
+                live: 0,
+                used: 29,
+                versions: 1,
+            },
+            b"1 ok last 4 base 3 trim 3 live 0 used 29 versions 1\n",
+        ),
         (Reply::TooManyTx, b"1 too-many-tx\n"),
         (Reply::Worn, b"1 worn\n"),
         (

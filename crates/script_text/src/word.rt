@@ -1,17 +1,25 @@
 // The words of a line, and the numbers that they spell.
-ghost use Rattle.std.specs.Prelude.{◌≡◌, IfOk};
+ghost use Rattle.std.specs.Prelude.{◌≡◌, ◌≤◌, length, take};
 ghost use Rattle.iso_model.specs.Text.{is_decimal, number_of, words_of};
 ghost use Rattle.script_text.specs.Words.{texts};
 
-use iso_model::Memory;
-use std::alloc::Global;
+/// How many words a line is cut into. No operation has so many, so what follows them changes nothing.
+pub(crate) const MOST_WORDS: usize = 6;
 
-/// The words between spaces.
-pub(crate) fn words_of(alloc: Global, line: &[u8]) -> Result<Vec<&[u8]>, Memory>
-    ensures { IfOk result (λ v. texts v.items ≡ words_of line.now) }
+/// Puts the first words between spaces into the places, and tells how many these are.
+pub(crate) fn cut_words<'a>(line: &'a [u8], places: &mut [&'a [u8]; MOST_WORDS]) -> usize
+    ensures words { texts (take result places.new) ≡ take MOST_WORDS (words_of line.now) }
+    ensures fits { result ≤ length places.new }
 {
+    let mut count = 0;
     let pieces = line.split(|byte| *byte == b' ');
-    Ok(pieces.filter(|piece| !piece.is_empty()).collect(alloc)?)
+    for word in pieces.filter(|piece| !piece.is_empty()) {
+        if count < MOST_WORDS {
+            places[count] = word;
+            count += 1;
+        }
+    }
+    count
 }
 
 /// Whether the word is decimal digits without a leading zero, but for 0 itself.
