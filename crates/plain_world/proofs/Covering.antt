@@ -8,8 +8,10 @@ use Rattle.iso_model.specs.declared.access.Access.{Access}
 use Rattle.iso_model.specs.declared.access.Kind.TheVariants.{Write}
 use Rattle.iso_model.specs.declared.access.Span.{Span}
 use Rattle.iso_model.specs.Array.{covered, in_span, merged}
-use Rattle.iso_model.specs.Effect.{touches, covers, or_else, effect_at, effects_from}
-use Rattle.plain_world.specs.Bytes.{is_at, laid, values_of, HasBytes}
+use Rattle.iso_model.specs.Effect.{touches, covers, effect_at, effects_from}
+use Rattle.iso_model.specs.Premises.{HasBytes}
+use Rattle.iso_model.proofs.Bytes.{length-merged, merged_at, value_of_or_else, touches_where_effect}
+use Rattle.plain_world.specs.Bytes.{is_at, laid, values_of}
 
 pub or_false_left : (x y : Bool) → (x || y) ≡ false → x ≡ false
 or_false_left true y none = none
@@ -38,43 +40,17 @@ merged_past spans i old new inside same not =
     subst (λ (l : List ℕ). take (i + 1) l ++ merged spans (i + 1) (drop (i + 1) l) (drop (i + 1) new) ≡ take i old ++ merged spans i (drop i old) (drop i new))
     (set-get_or old i 0) (merged_step spans i old new (get_or old i 0) inside same (rw not refl))
 
-pub length-merged : (spans : List Span) (p : ℕ) (old new : List ℕ) → length (merged spans p old new) ≡ length old
-length-merged spans p [] new = refl
-length-merged spans p (x ∷ old) [] = refl
-length-merged spans p (x ∷ old) (y ∷ new) = ap suc (length-merged spans (p + 1) old new)
-
 pub length-laid : (accesses : List Access) (b : ℕ) (old : List ℕ) → length (laid accesses b old) ≡ length old
 length-laid [] b old = refl
 length-laid (a ∷ accesses) b old =
     length-laid accesses b (cond (is_at Write b a) (merged a.spans 0 old a.bytes) old)
     ∙ elim (is_at Write b a) as (λ v. length (cond v (merged a.spans 0 old a.bytes) old) ≡ length old) [ true ↦ length-merged a.spans 0 old a.bytes | false ↦ refl ]
 
--- a byte after a merge
-pub merged_at : (spans : List Span) (p k : ℕ) (old new : List ℕ) → k < length old → length new ≡ length old
-    → get_or (merged spans p old new) k 0 ≡ cond (covered spans (p + k)) (get_or new k 0) (get_or old k 0)
-merged_at spans p k [] new inside same = absurd (omega arith)
-merged_at spans p k (x ∷ old) [] inside same = absurd (omega arith)
-merged_at spans p zero (x ∷ old) (y ∷ new) inside same = let e : p + 0 ≡ p = omega arith in rw e refl
-merged_at spans p (suc k) (x ∷ old) (y ∷ new) inside same =
-    let e : p + suc k ≡ p + 1 + k = omega arith in
-    rw e (merged_at spans (p + 1) k old new (omega arith) (omega arith))
-
 -- a byte where the writes of one access were laid or not
 pub laid_or_kept : (test : Bool) (spans : List Span) (q : ℕ) (old new : List ℕ) → q < length old → (IsTrue test → length new ≡ length old)
     → get_or (cond test (merged spans 0 old new) old) q 0 ≡ cond (test && covered spans q) (get_or new q 0) (get_or old q 0)
 laid_or_kept true spans q old new inside same = merged_at spans 0 q old new inside (same refl) ∙ rw (zero-add q) refl
 laid_or_kept false spans q old new inside same = refl
-
-pub value_of_or_else : (o : Option ℕ) (test : Bool) (x y : ℕ) → unwrap_or o (cond test x y) ≡ unwrap_or (or_else o (cond test (Some x) None)) y
-value_of_or_else None true x y = refl
-value_of_or_else None false x y = refl
-value_of_or_else (Some z) test x y = refl
-
-pub some_of_or_else : (o : Option ℕ) (test : Bool) (x : ℕ) → (test || is_some o) ≡ is_some (or_else o (cond test (Some x) None))
-some_of_or_else None true x = refl
-some_of_or_else None false x = refl
-some_of_or_else (Some z) true x = refl
-some_of_or_else (Some z) false x = refl
 
 pub first_of_both : (x y : Bool) → IsTrue (x && y) → IsTrue x
 first_of_both true y both = refl
@@ -95,13 +71,6 @@ laid_at (a ∷ accesses) b q size old whole same inside =
     (length_laid_once (is_at Write b a) a.spans old a.bytes ∙ same) inside
     ∙ ap (unwrap_or (effect_at accesses b q)) once
     ∙ value_of_or_else (effect_at accesses b q) (covers Write b q a) (get_or a.bytes q 0) (get_or old q 0)
-
--- a list writes a byte where one of its writes covers it
-pub touches_where_effect : (accesses : List Access) (b q : ℕ) → touches Write accesses b q ≡ is_some (effect_at accesses b q)
-touches_where_effect [] b q = refl
-touches_where_effect (a ∷ accesses) b q =
-    ap (λ t. covers Write b q a || t) (touches_where_effect accesses b q)
-    ∙ some_of_or_else (effect_at accesses b q) (covers Write b q a) (get_or a.bytes q 0)
 
 pub some_or_none : (o : Option ℕ) (x : ℕ) → o ≡ cond (is_some o) (Some (unwrap_or o x)) None
 some_or_none None x = refl

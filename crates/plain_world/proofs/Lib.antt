@@ -3,8 +3,6 @@ pub mod Least
 pub mod Living
 pub mod RecordLength
 pub mod Runs
-pub mod RunsAreRuns
 pub mod Shown
 pub mod Soundness
 pub mod Steps
-pub mod Valid

@@ -1,11 +1,11 @@
 -- What holds of the fields of a plain world, and that each change keeps it.
-use Rattle.std.proofs.Common.{◌≡◌, ◌⊎◌, ◌∙◌, sym, refl, ap, inl, inr, ℕ, zero, suc, ◌+◌, ◌<◌, ◌≤◌, false, IsTrue, List, [], ◌∷◌, ◌++◌, length, get_or, set, map, replicate, ◌-◌, ◌==◌, ◌||◌, arith, subst}
+use Rattle.std.proofs.Common.{◌≡◌, ◌⊎◌, ◌∙◌, sym, refl, ap, inl, inr, ℕ, zero, suc, ◌+◌, ◌<◌, ◌≤◌, false, IsTrue, List, [], ◌∷◌, ◌++◌, length, get_or, set, map, ◌==◌, ◌||◌, arith, subst}
 use Rattle.std.specs.Prelude.{nat_lt}
 use Rattle.std.proofs.lemmas.Bool.Decides.{nat_tests}
 use Rattle.std.specs.List.{All, AllByRecursion, sum_by, remove}
 use Rattle.std.proofs.lemmas.Bool.{cases_eq}
-use Rattle.std.proofs.lemmas.List.{get_or-set_same, get_or-set_other, length-set, length_push, length-map, length-append, length-replicate}
-use Rattle.std.proofs.lemmas.List.Elements.{All-head, All-tail, All-push, All-set, All-weaker, All-nil, All-cons}
+use Rattle.std.proofs.lemmas.List.{get_or-set_same, get_or-set_other, length-set, length_push, length-map}
+use Rattle.std.proofs.lemmas.List.Elements.{All-head, All-tail, All-push, All-set, All-weaker, All-nil}
 use Rattle.std.proofs.lemmas.List.Quantifiers.{all_pairs_push, all_pairs_remove}
 use Rattle.std.proofs.lemmas.List.Sums.{sum_by-cons, sum_by_push}
 use Rattle.std.proofs.lemmas.List.Edits.{get_or-remove_below, get_or-remove_above}
@@ -16,14 +16,17 @@ use Rattle.iso_model.specs.declared.limits.TheConstants.{LAST, MAX_ACCESSES, MAX
 use Rattle.iso_model.specs.Effect.{runs, record_length}
 use Rattle.iso_model.specs.Geometry.{is_valid}
 use Rattle.iso_model.specs.Image.{IsRecord, written}
-use Rattle.iso_model.specs.Step.{put_access, read_access}
+use Rattle.iso_model.specs.Step.{put_access}
 use Rattle.iso_model.specs.World.{Live}
+use Rattle.iso_model.specs.Premises.{AreBytes, IsAccess}
+use Rattle.iso_model.specs.Worlds.{MayHave}
+use Rattle.iso_model.proofs.Accesses.{put_is_access}
 use Rattle.plain_world.specs.declared.entry.Attached.{Attached}
 use Rattle.plain_world.specs.declared.entry.Entry.{Entry}
 use Rattle.plain_world.specs.Plain.{IsPlain}
-use Rattle.plain_world.specs.View.{Sound, IsEntry, IsAttached, IsAccess, IsSpan, MayHave, Numbered, bytes_of, commit_in, plain}
-use Rattle.plain_world.proofs.RunsAreRuns.{runs_are_runs}
-use Rattle.plain_world.proofs.Valid.{keeps_limits}
+use Rattle.plain_world.specs.View.{Sound, IsEntry, IsAttached, Numbered, bytes_of, commit_in, plain}
+use Rattle.iso_model.proofs.Maximal.{are_runs}
+use Rattle.iso_model.proofs.Bounds.{limits as keeps_limits}
 
 -- the bytes that the runs of the commits take
 pub bytes_are : (g : Geometry) (entries : List Entry) → All (IsEntry g) entries → sum_by (λ c. record_length (runs g c.accesses)) (map commit_in entries) ≡ bytes_of entries
@@ -37,7 +40,7 @@ pub records_are : (g : Geometry) (entries : List Entry) → All (IsEntry g) entr
 records_are g [] sound = tt
 records_are g (e ∷ entries) sound =
     let is = All-head (IsEntry g) e entries sound in
-    (record { some = rw (← is.parts) is.some; runs = runs_are_runs g e.commit.accesses; mode = is.mode }, records_are g entries (All-tail (IsEntry g) e entries sound))
+    (record { some = rw (← is.parts) is.some; runs = are_runs g e.commit.accesses; mode = is.mode }, records_are g entries (All-tail (IsEntry g) e entries sound))
 
 pub sound_is_plain : (g : Geometry) (entries : List Entry) (live : List Attached) (next used : ℕ) (shown : List Live) → Sound g entries live next used → IsPlain (plain g entries shown next)
 sound_is_plain g entries live next used shown sound = record {
@@ -169,14 +172,8 @@ sound_committed g entries live next used e sound is number room =
 pub range_keeps : (size off : ℕ) (bytes : List ℕ) → ((length bytes == 0) || nat_lt size (off + length bytes)) ≡ false → (0 < length bytes) × (off + length bytes ≤ size)
 range_keeps size off bytes h = (grind (arith, nat_tests), grind (arith, nat_tests))
 
-pub put_is_access : (g : Geometry) (b off : ℕ) (bytes : List ℕ) → b < g.blocks → ((length bytes == 0) || nat_lt g.block (off + length bytes)) ≡ false → IsAccess g (put_access g.block b off bytes)
-put_is_access g b off bytes good range =
+pub put_access_is : (g : Geometry) (b off : ℕ) (bytes : List ℕ) → b < g.blocks → ((length bytes == 0) || nat_lt g.block (off + length bytes)) ≡ false → AreBytes bytes
+    → IsAccess g (put_access g.block b off bytes)
+put_access_is g b off bytes good range values =
     let keeps = range_keeps g.block off bytes range in
-    record {
-      block = good;
-      spans = All-cons (IsSpan g.block) (record { off = off; len = length bytes }) [] (record { some = keeps.0; fits = keeps.1 }) (All-nil (IsSpan g.block));
-      bytes = λ writes. omega (arith, keeps.1, length-append (replicate {A = ℕ} off 0 ++ bytes) (replicate {A = ℕ} (g.block - (off + length bytes)) 0), length-append (replicate {A = ℕ} off 0) bytes, length-replicate {A = ℕ} off 0, length-replicate {A = ℕ} (g.block - (off + length bytes)) 0);
-    }
-
-pub read_is_access : (g : Geometry) (b : ℕ) → b < g.blocks → IsAccess g (read_access b)
-read_is_access g b good = record { block = good; spans = All-nil (IsSpan g.block); bytes = λ writes. absurd (cc writes) }
+    put_is_access g b off bytes good keeps.0 keeps.1 values

@@ -20,12 +20,13 @@ use Rattle.iso_model.specs.Effect.{has_write, record_length, runs}
 use Rattle.iso_model.specs.Geometry.{same_mode}
 use Rattle.iso_model.specs.History.{last, shown_block}
 use Rattle.iso_model.specs.Step.{step, begin_step, put_step, read_step, commit_step, end_step, mode_named, after_begin, with_access, after_leaving, after_commit, put_access, read_access}
-use Rattle.iso_model.specs.World.{World, Live, attached, used}
+use Rattle.iso_model.specs.World.{World, Live, Place, attached, used, client}
 use Rattle.plain_world.specs.declared.entry.Attached.{Attached}
 use Rattle.plain_world.specs.declared.entry.Entry.{Entry}
 use Rattle.plain_world.specs.Bytes.{laid, laid_all}
 use Rattle.plain_world.specs.Ending.{entry_of}
-use Rattle.plain_world.specs.View.{MayHave, Numbered, IsEntry, bytes_of, commit_in, live_in, found, plain}
+use Rattle.iso_model.specs.Worlds.{MayHave}
+use Rattle.plain_world.specs.View.{Numbered, IsEntry, bytes_of, commit_in, live_in, found, plain}
 use Rattle.plain_world.proofs.Living.{IsPlace, with_is, without_is}
 use Rattle.plain_world.proofs.Shown.{shown_is}
 use Rattle.plain_world.proofs.Soundness.{bytes_are}
@@ -43,26 +44,26 @@ pub begin_in_tx : (W : World) (c : ℕ) (mode : Option Mode) (t : Live) → atta
 unfolding step
 begin_in_tx W c mode t is = rw is refl
 
-pub begin_free : (W : World) (c : ℕ) (mode : Option Mode) → attached W c ≡ None → step W c (Begin mode) ≡ begin_step W c (mode_named W mode)
+pub begin_free : (W : World) (c : ℕ) (mode : Option Mode) → attached W c ≡ None → step W c (Begin mode) ≡ begin_step W (client c) (mode_named W mode)
 unfolding step
 begin_free W c mode is = rw is refl
 
-pub begin_fixed : (W : World) (c : ℕ) (m : Mode) → ((W.geometry.form == 1) && not (same_mode m W.geometry.mode)) ≡ true → begin_step W c m ≡ (reply.ModeFixed, W)
+pub begin_fixed : (W : World) (c : Place) (m : Mode) → ((W.geometry.form == 1) && not (same_mode m W.geometry.mode)) ≡ true → begin_step W c m ≡ (reply.ModeFixed, W)
 unfolding begin_step
 begin_fixed W c m fixed = rw fixed refl
 
-pub begin_full : (W : World) (c : ℕ) (m : Mode) → ((W.geometry.form == 1) && not (same_mode m W.geometry.mode)) ≡ false → MAX_LIVE ≤ length W.live → begin_step W c m ≡ (reply.TooManyTx, W)
+pub begin_full : (W : World) (c : Place) (m : Mode) → ((W.geometry.form == 1) && not (same_mode m W.geometry.mode)) ≡ false → MAX_LIVE ≤ length W.live → begin_step W c m ≡ (reply.TooManyTx, W)
 unfolding begin_step
 begin_full W c m fixed full = let t : nat_le MAX_LIVE (length W.live) ≡ true = grind (arith, nat_tests) in rw (fixed, t) refl
 
-pub begin_worn : (W : World) (c : ℕ) (m : Mode) → ((W.geometry.form == 1) && not (same_mode m W.geometry.mode)) ≡ false → length W.live < MAX_LIVE → LAST < W.next → begin_step W c m ≡ (reply.Worn, W)
+pub begin_worn : (W : World) (c : Place) (m : Mode) → ((W.geometry.form == 1) && not (same_mode m W.geometry.mode)) ≡ false → length W.live < MAX_LIVE → LAST < W.next → begin_step W c m ≡ (reply.Worn, W)
 unfolding begin_step
 begin_worn W c m fixed full worn =
     let t : nat_le MAX_LIVE (length W.live) ≡ false = grind (arith, nat_tests) in
     let u : nat_lt LAST W.next ≡ true = grind (arith, nat_tests) in
     rw (fixed, t, u) refl
 
-pub begin_done : (W : World) (c : ℕ) (m : Mode) → ((W.geometry.form == 1) && not (same_mode m W.geometry.mode)) ≡ false → length W.live < MAX_LIVE → W.next ≤ LAST
+pub begin_done : (W : World) (c : Place) (m : Mode) → ((W.geometry.form == 1) && not (same_mode m W.geometry.mode)) ≡ false → length W.live < MAX_LIVE → W.next ≤ LAST
     → begin_step W c m ≡ (reply.Began (last W.history), after_begin W c m)
 unfolding begin_step
 begin_done W c m fixed full worn =
@@ -74,7 +75,7 @@ pub last_is : (g : Geometry) (entries : List Entry) (live : List Live) (next : �
 last_is g entries live next = omega (arith, length-map entries commit_in)
 
 pub begun_is : (g : Geometry) (entries : List Entry) (live : List Attached) (next c : ℕ) (m : Mode)
-    → after_begin (plain g entries (map live_in live) next) c m
+    → after_begin (plain g entries (map live_in live) next) (client c) m
     ≡ plain g entries (map live_in (live ++ record { number = next; begin = length entries; mode = m; client = c; accesses = [] } ∷ [])) (next + 1)
 begun_is g entries live next c m =
     let t : Attached = record { number = next; begin = length entries; mode = m; client = c; accesses = [] } in
@@ -192,7 +193,9 @@ pub end_with_write : (g : Geometry) (entries : List Entry) (live : List Live) (n
     → end_step (plain g entries live next) t ≡ commit_step (plain g entries live next) t o
 unfolding end_step clash
 end_with_write g entries live next t o some is =
-    let e : t.begin + 1 - 1 ≡ t.begin = omega arith in rw (some, e, ← is) refl
+    let e : t.begin + 1 - 1 ≡ t.begin = omega arith in
+    let k : 1 + t.begin ≡ t.begin + 1 = omega arith in
+    rw (some, e, k, ← is) refl
 
 pub commit_conflict : (W : World) (t : Live) (c : Clash) → commit_step W t (Some c) ≡ (reply.Conflict c, after_leaving W t)
 unfolding commit_step
@@ -233,12 +236,12 @@ attached_there c [] i place = absurd (omega (arith, place.0))
 attached_there c (u ∷ live) i place = (get_or (u ∷ live) i u, place.1 u, λ d. get_or_default (u ∷ live) i u d place.0)
 
 pub begin_plain : (g : Geometry) (entries : List Entry) (live : List Attached) (next c : ℕ) (m : Mode) → ((g.form == 1) && not (same_mode m g.mode)) ≡ false → length live < MAX_LIVE → next ≤ LAST
-    → begin_step (plain g entries (map live_in live) next) c m
+    → begin_step (plain g entries (map live_in live) next) (client c) m
     ≡ (reply.Began (length entries), plain g entries (map live_in (live ++ record { number = next; begin = length entries; mode = m; client = c; accesses = [] } ∷ [])) (next + 1))
 begin_plain g entries live next c m free room number =
-    let n : ℕ → Reply × World = λ k. (reply.Began k, after_begin (plain g entries (map live_in live) next) c m) in
+    let n : ℕ → Reply × World = λ k. (reply.Began k, after_begin (plain g entries (map live_in live) next) (client c) m) in
     let v : World → Reply × World = λ V. (reply.Began (length entries), V) in
-    begin_done (plain g entries (map live_in live) next) c m free (omega (arith, length-map live live_in)) number
+    begin_done (plain g entries (map live_in live) next) (client c) m free (omega (arith, length-map live live_in)) number
     ∙ ap n (last_is g entries (map live_in live) next) ∙ ap v (begun_is g entries live next c m)
 
 pub put_plain : (g : Geometry) (entries : List Entry) (live : List Attached) (next i : ℕ) (t : Attached) (b off : ℕ) (bytes : List ℕ) → Numbered live → i < length live → ((d : Attached) → t ≡ get_or live i d)

@@ -1,19 +1,15 @@
 -- What accesses write in one block.
-use Rattle.std.specs.Prelude.{◌≡◌, ℕ, Bool, ◌&&◌, ◌==◌, cond, IsTrue, List, [], ◌∷◌, Option, Some, None, length}
+use Rattle.std.specs.Prelude.{ℕ, Bool, ◌&&◌, ◌==◌, cond, List, [], ◌∷◌, Option, Some, None}
 use Rattle.iso_model.specs.declared.access.Access.{Access}
 use Rattle.iso_model.specs.declared.access.Commit.{Commit}
 use Rattle.iso_model.specs.declared.access.Kind.{Kind}
 use Rattle.iso_model.specs.declared.access.Kind.TheVariants.{Write}
 use Rattle.iso_model.specs.Array.{merged}
-use Rattle.iso_model.specs.Effect.{same_kind, is_write}
+use Rattle.iso_model.specs.Effect.{same_kind}
 
 -- whether the access is of this kind and of this block
 abbrev pub is_at : Kind → (b : ℕ) → Access → Bool
 is_at kind b a = same_kind kind a.kind && (a.block == b)
-
--- a write has so many bytes
-abbrev pub HasBytes : ℕ → Access → Type 0
-HasBytes size a = IsTrue (is_write a) → length a.bytes ≡ size
 
 -- the bytes of block b after the writes of the list
 abbrev pub laid : List Access → (b : ℕ) → List ℕ → List ℕ

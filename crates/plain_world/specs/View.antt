@@ -1,17 +1,15 @@
 -- The world that the fields of a plain world stand for, and what holds of them.
 use Rattle.std.specs.Prelude.{◌≡◌, ℕ, ◌+◌, ◌<◌, ◌≤◌, IsTrue, Option, List, length, map, sum_by}
 use Rattle.std.specs.List.{All, AllPairs, find}
-use Rattle.iso_model.specs.declared.access.Access.{Access}
 use Rattle.iso_model.specs.declared.access.Commit.{Commit}
 use Rattle.iso_model.specs.declared.access.Geometry.{Geometry}
-use Rattle.iso_model.specs.declared.access.Mode.{Mode}
-use Rattle.iso_model.specs.declared.access.Span.{Span}
 use Rattle.iso_model.specs.declared.limits.TheConstants.{LAST, MAX_ACCESSES, MAX_LIVE}
 use Rattle.iso_model.specs.Array.{zeros}
-use Rattle.iso_model.specs.Effect.{is_write, runs, record_length}
+use Rattle.iso_model.specs.Effect.{runs, record_length}
 use Rattle.iso_model.specs.Geometry.{is_valid}
 use Rattle.iso_model.specs.World.{World, Live, client, is_at_client}
-use Rattle.plain_world.specs.Bytes.{HasBytes}
+use Rattle.iso_model.specs.Premises.{HasBytes, IsAccess}
+use Rattle.iso_model.specs.Worlds.{MayHave}
 use Rattle.plain_world.specs.declared.entry.Attached.{Attached}
 use Rattle.plain_world.specs.declared.entry.Entry.{Entry}
 use Rattle.plain_world.specs.declared.world.PlainWorld.TheInside.{Inside}
@@ -44,21 +42,6 @@ plain g entries live next = record {
 
 abbrev pub world_of : Inside → World
 world_of a = plain a.geometry a.entries.items (map live_in a.live.items) a.next
-
--- a span of at least one byte in a block of this size
-pub record IsSpan (size : ℕ) (span : Span) : Type 0 where
-  pub some : 0 < span.len
-  pub fits : span.off + span.len ≤ size
-
--- an access to a block of the array; a write has the bytes of a whole block
-pub record IsAccess (g : Geometry) (a : Access) : Type 0 where
-  pub block : a.block < g.blocks
-  pub spans : All (IsSpan g.block) a.spans
-  pub bytes : IsTrue (is_write a) → length a.bytes ≡ g.block
-
--- a mode that a transaction of the image may have
-abbrev pub MayHave : Geometry → Mode → Type 0
-MayHave g mode = g.form ≡ 1 → mode ≡ g.mode
 
 -- a commit of the image and its runs
 pub record IsEntry (g : Geometry) (e : Entry) : Type 0 where

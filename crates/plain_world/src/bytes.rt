@@ -3,7 +3,8 @@ ghost use Rattle.std.specs.Prelude.{◌≡◌, ◌==◌, ℕ, ◌<◌, ◌&&◌,
 ghost use Rattle.std.specs.List.{All, list_any, range_with_len};
 ghost use Rattle.iso_model.specs.Array.{covered, in_span, merged};
 ghost use Rattle.iso_model.specs.Effect.{same_kind, touches};
-ghost use Rattle.plain_world.specs.Bytes.{is_at, laid, HasBytes};
+ghost use Rattle.iso_model.specs.Premises.{HasBytes};
+ghost use Rattle.plain_world.specs.Bytes.{is_at, laid};
 
 use iso_model::{Access, Kind, Memory, Span};
 use std::alloc::Global;

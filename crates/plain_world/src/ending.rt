@@ -6,7 +6,8 @@ ghost use Rattle.iso_model.specs.Effect.{has_write};
 ghost use Rattle.iso_model.specs.Geometry.{is_valid};
 ghost use Rattle.iso_model.specs.World.{Live};
 ghost use Rattle.plain_world.specs.Ending.{IsCommitting, IsEnding, entry_of};
-ghost use Rattle.plain_world.specs.View.{IsAccess, IsEntry, bytes_of, live_in, plain};
+ghost use Rattle.iso_model.specs.Premises.{IsAccess};
+ghost use Rattle.plain_world.specs.View.{IsEntry, bytes_of, live_in, plain};
 
 use crate::entry::{Attached, Entry};
 use crate::meeting::clash_of;

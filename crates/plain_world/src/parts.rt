@@ -3,7 +3,8 @@ ghost use Rattle.std.specs.Prelude.{◌≡◌, ℕ, ◌<◌, ◌≤◌, ◌^◌,
 ghost use Rattle.std.specs.List.{All};
 ghost use Rattle.iso_model.specs.Effect.{block_runs, record_length, runs, runs_from};
 ghost use Rattle.iso_model.specs.Geometry.{is_valid};
-ghost use Rattle.plain_world.specs.Bytes.{values_of, HasBytes};
+ghost use Rattle.iso_model.specs.Premises.{HasBytes};
+ghost use Rattle.plain_world.specs.Bytes.{values_of};
 
 use crate::bytes::{marks_of, some_access_at, written_bytes};
 use iso_model::{Access, Geometry, Kind, Memory, PartList, Run};

@@ -2,7 +2,8 @@
 ghost use Rattle.std.specs.Prelude.{◌≡◌, ◌==◌, ◌^◌, ◌||◌, not, nat_lt, ◌+◌, ◌<◌, ◌≤◌, IfOk, length, map, replicate};
 ghost use Rattle.std.specs.List.{All};
 ghost use Rattle.iso_model.specs.Step.{put_access, read_access};
-ghost use Rattle.plain_world.specs.Bytes.{HasBytes, laid, laid_all};
+ghost use Rattle.iso_model.specs.Premises.{HasBytes};
+ghost use Rattle.plain_world.specs.Bytes.{laid, laid_all};
 ghost use Rattle.plain_world.specs.View.{commit_in, HaveBytes};
 
 use crate::bytes::lay;

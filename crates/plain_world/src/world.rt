@@ -6,6 +6,7 @@ ghost use Rattle.iso_model.specs.Image.{written};
 ghost use Rattle.iso_model.specs.Step.{step};
 ghost use Rattle.iso_model.specs.World.{fresh, empty_history};
 ghost use Rattle.plain_world.specs.Plain.{IsPlain};
+ghost use Rattle.iso_model.specs.Open.{IsOpen};
 
 use crate::ending::{Ending, commit, ending_of};
 use crate::entry::{Attached, Entry, may_have};
@@ -100,8 +101,9 @@ impl PlainWorld {
         &self.entries[i].parts
     }
 
-    /// Does what a client asks for, and answers it.
+    /// Does what a client asks for by an operation that is open, and answers it.
     pub fn step(&mut self, client: u8, op: &Op) -> Result<Reply, Memory>
+        requires { IsOpen op.now }
         ensures reply { IfOk result (λ reply. reply ≡ (step self.old client op.now).0) }
         ensures after { OnOk result (self.new ≡ (step self.old client op.now).1) }
 
@@ -114,6 +116,17 @@ impl PlainWorld {
             Op::Read { block } => self.read(client, *block),
             Op::End => self.end(client),
             Op::Abort => Ok(self.abort(client)),
+            Op::Get { .. }
+            | Op::Write { .. }
+            | Op::Fill { .. }
+            | Op::Mark { .. }
+            | Op::Release { .. }
+            | Op::Takeover { .. }
+            | Op::Await { .. }
+            | Op::Trim
+            | Op::Stat
+            | Op::Compact
+            | Op::Upgrade => Ok(Reply::NotInTx),
         }
     }
 

@@ -7,7 +7,7 @@ use Rattle.iso_model.specs.World.{World}
 use Rattle.plain_world.specs.Ending.{Says}
 use Rattle.plain_world.specs.View.{commit_in, live_in, plain}
 use Rattle.plain_world.proofs.Steps.{end_read_only, end_with_write, commit_conflict}
-use Rattle.plain_world.proofs.Valid.{keeps_limits}
+use Rattle.iso_model.proofs.Bounds.{limits as keeps_limits}
 use Rattle.plain_world.proofs.ending.ending_of.Goals as goal
 
 pub returns-then-not-some_write : goal.returns-then-not-some_write

@@ -5,7 +5,7 @@ use Rattle.iso_model.specs.declared.access.Kind.TheVariants.{Write}
 use Rattle.iso_model.specs.Effect.{runs, block_runs}
 use Rattle.plain_world.specs.Bytes.{is_at}
 use Rattle.plain_world.proofs.Runs.{no_effects, flat_map_range_more}
-use Rattle.plain_world.proofs.Valid.{keeps_limits}
+use Rattle.iso_model.proofs.Bounds.{limits as keeps_limits}
 use Rattle.plain_world.proofs.parts.runs_of.Goals as goal
 use Rattle.plain_world.proofs.parts.runs_of.Goals.{then-some_access_at+in_ok-add_block, else-some_access_at}
 

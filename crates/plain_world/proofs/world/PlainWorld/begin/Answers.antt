@@ -3,7 +3,7 @@ use Rattle.std.proofs.lemmas.List.{length-map}
 use Rattle.iso_model.specs.declared.script.Op.TheVariants.{Begin}
 use Rattle.iso_model.specs.declared.script.Reply.TheVariants as reply
 use Rattle.iso_model.specs.Step.{step, begin_step}
-use Rattle.iso_model.specs.World.{World}
+use Rattle.iso_model.specs.World.{World, client}
 use Rattle.plain_world.specs.declared.entry.Attached.{Attached}
 use Rattle.plain_world.specs.View.{world_of, live_in, plain}
 use Rattle.plain_world.proofs.Living.{IsPlace, found_at_some, found_at_none}
@@ -28,7 +28,7 @@ returns-then-not-may_have-clause-ok c =
     let none = found_at_none c.args.client c.self.inside.live.items c.place_of.result place (sym c.is_some.ensures ∙ c.if-is_some.false) in
     let fixed = not_flips _ (sym c.may_have.ensures ∙ c.if-not-may_have.true) in
     subst (λ (W : World). step W c.args.client (Begin c.args.mode) ≡ (reply.ModeFixed, W)) c.self.view_is
-    (begin_free W c.args.client c.args.mode none ∙ ap (begin_step W c.args.client) (sym c.unwrap_or-mode.ensures) ∙ begin_fixed W c.args.client m fixed)
+    (begin_free W c.args.client c.args.mode none ∙ ap (begin_step W (client c.args.client)) (sym c.unwrap_or-mode.ensures) ∙ begin_fixed W (client c.args.client) m fixed)
 
 pub returns-then-len-ge-MAX_LIVE-clause-ok : goal.returns-then-len-ge-MAX_LIVE-clause-ok
 returns-then-len-ge-MAX_LIVE-clause-ok c =
@@ -39,8 +39,8 @@ returns-then-len-ge-MAX_LIVE-clause-ok c =
     let none = found_at_none c.args.client c.self.inside.live.items c.place_of.result place (sym c.is_some.ensures ∙ c.if-is_some.false) in
     let free = not_flops _ (sym c.may_have.ensures ∙ c.if-not-may_have.false) in
     subst (λ (W : World). step W c.args.client (Begin c.args.mode) ≡ (reply.TooManyTx, W)) c.self.view_is
-    (begin_free W c.args.client c.args.mode none ∙ ap (begin_step W c.args.client) (sym c.unwrap_or-mode.ensures)
-    ∙ begin_full W c.args.client m free (omega (arith, length-map c.self.inside.live.items live_in)))
+    (begin_free W c.args.client c.args.mode none ∙ ap (begin_step W (client c.args.client)) (sym c.unwrap_or-mode.ensures)
+    ∙ begin_full W (client c.args.client) m free (omega (arith, length-map c.self.inside.live.items live_in)))
 
 pub returns-then-self-gt-LAST-clause-ok : goal.returns-then-self-gt-LAST-clause-ok
 returns-then-self-gt-LAST-clause-ok c =
@@ -51,8 +51,8 @@ returns-then-self-gt-LAST-clause-ok c =
     let none = found_at_none c.args.client c.self.inside.live.items c.place_of.result place (sym c.is_some.ensures ∙ c.if-is_some.false) in
     let free = not_flops _ (sym c.may_have.ensures ∙ c.if-not-may_have.false) in
     subst (λ (W : World). step W c.args.client (Begin c.args.mode) ≡ (reply.Worn, W)) c.self.view_is
-    (begin_free W c.args.client c.args.mode none ∙ ap (begin_step W c.args.client) (sym c.unwrap_or-mode.ensures)
-    ∙ begin_worn W c.args.client m free (omega (arith, length-map c.self.inside.live.items live_in)) (omega arith))
+    (begin_free W c.args.client c.args.mode none ∙ ap (begin_step W (client c.args.client)) (sym c.unwrap_or-mode.ensures)
+    ∙ begin_worn W (client c.args.client) m free (omega (arith, length-map c.self.inside.live.items live_in)) (omega arith))
 
 pub invariant_of-self-2 : goal.invariant_of-self-2
 invariant_of-self-2 c =
@@ -82,5 +82,5 @@ returns-clause-ok c =
     subst (λ (W : World). step W c.args.client (Begin c.args.mode)
     ≡ (reply.Began c.len-begin.result, plain c.self.inside.geometry c.self.inside.entries.items (map live_in c.push.new.self.items) (c.self.inside.next + 1))) c.self.view_is
     (rw (pushed, begin_is)
-    (begin_free W c.args.client c.args.mode none ∙ ap (begin_step W c.args.client) (sym c.unwrap_or-mode.ensures)
+    (begin_free W c.args.client c.args.mode none ∙ ap (begin_step W (client c.args.client)) (sym c.unwrap_or-mode.ensures)
     ∙ begin_plain c.self.inside.geometry c.self.inside.entries.items c.self.inside.live.items c.self.inside.next c.args.client m free (omega arith) (omega arith)))

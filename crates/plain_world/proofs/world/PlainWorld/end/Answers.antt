@@ -14,7 +14,7 @@ use Rattle.plain_world.specs.View.{world_of, live_in, plain, IsAttached, IsEntry
 use Rattle.plain_world.proofs.Living.{IsPlace}
 use Rattle.plain_world.proofs.Soundness.{sound_left, sound_committed}
 use Rattle.plain_world.proofs.Steps.{attached_there, end_none, end_some, left_plain, committed_plain, used_is, last_is}
-use Rattle.plain_world.proofs.Valid.{keeps_limits}
+use Rattle.iso_model.proofs.Bounds.{limits as keeps_limits}
 use Rattle.std.specs.List.{remove}
 use Rattle.std.proofs.lemmas.List.{length_push}
 use Rattle.plain_world.proofs.world.PlainWorld.end.Goals as goal

@@ -6,9 +6,9 @@ use Rattle.iso_model.specs.World.{World}
 use Rattle.plain_world.specs.declared.entry.Attached.{Attached}
 use Rattle.plain_world.specs.View.{world_of, live_in, plain}
 use Rattle.plain_world.proofs.Living.{IsPlace}
-use Rattle.plain_world.proofs.Soundness.{sound_added, put_is_access}
+use Rattle.plain_world.proofs.Soundness.{sound_added, put_access_is}
 use Rattle.plain_world.proofs.Steps.{attached_there, put_none, put_some, put_bad_block, put_bad_range, put_too_many, put_plain, not_flips, not_flops}
-use Rattle.plain_world.proofs.Valid.{keeps_limits}
+use Rattle.iso_model.proofs.Bounds.{limits as keeps_limits}
 use Rattle.plain_world.proofs.world.PlainWorld.put.Goals as goal
 
 pub returns-in_default-clause-ok : goal.returns-in_default-clause-ok
@@ -66,7 +66,7 @@ invariant_of-self-2 c =
     c.in_ok-add_access.ensures.ok at.0 in
     let added : c.add_access.new.live.items ≡ set live c.in-Some.i (record at.0 { accesses = at.0.accesses ++ access ∷ [] }) = rw (← (at.2 at.0), c.in_ok-access.ensures) at was in
     rw added (sound_added c.self.inside.geometry c.self.inside.entries.items live c.self.inside.next c.self.inside.used c.in-Some.i at.0 access c.self.invariant place.0 at.2
-    (omega (arith, same_length)) (put_is_access c.self.inside.geometry c.args.block c.args.off c.args.bytes.now c.if-block-self.false good))
+    (omega (arith, same_length)) (put_access_is c.self.inside.geometry c.args.block c.args.off c.args.bytes.now c.if-block-self.false good (λ i. omega (arith, c.type_inv.bytes i))))
 
 pub returns-clause-ok : goal.returns-clause-ok
 returns-clause-ok c =

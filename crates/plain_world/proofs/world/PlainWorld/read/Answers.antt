@@ -7,7 +7,8 @@ use Rattle.plain_world.specs.declared.entry.Attached.{Attached}
 use Rattle.plain_world.specs.Bytes.{laid, laid_all}
 use Rattle.plain_world.specs.View.{world_of, live_in, commit_in, plain}
 use Rattle.plain_world.proofs.Living.{IsPlace}
-use Rattle.plain_world.proofs.Soundness.{sound_added, read_is_access}
+use Rattle.plain_world.proofs.Soundness.{sound_added}
+use Rattle.iso_model.proofs.Accesses.{read_is_access}
 use Rattle.plain_world.proofs.Steps.{attached_there, read_none, read_some, read_bad_block, read_too_many, read_plain}
 use Rattle.plain_world.proofs.world.PlainWorld.read.Goals as goal
 
