@@ -1,16 +1,17 @@
 -- One line after the other.
-use Rattle.std.proofs.Common.{◌≡◌, ◌≤◌, ◌==◌, ℕ, ◌+◌, Bool, false, List, [], ◌∷◌, ◌++◌, Some, None, Result, Ok, Err, length, take, nat_le, refl, sym, ap, subst, ◌∙◌, append_assoc, append-nil, take_all}
+use Rattle.std.proofs.Common.{◌≡◌, ◌⊎◌, inl, inr, ◌<◌, ◌≤◌, ◌==◌, ℕ, ◌+◌, Bool, false, List, [], ◌∷◌, ◌++◌, Some, None, Result, Ok, Err, length, take, nat_le, nat_lt, true, refl, sym, ap, subst, ◌∙◌, append_assoc, append-nil, take_all, arith}
 use Rattle.std.proofs.Math.Seq.{take-append_seam}
 use Rattle.std.proofs.Math.Dec.{eqb-suc-zero}
+use Rattle.std.proofs.lemmas.Bool.Decides.{nat_tests}
 use Rattle.iso_model.specs.declared.script.BadLine.{BadLine}
 use Rattle.iso_model.specs.declared.script.Line.{Line}
 use Rattle.iso_model.specs.declared.script.LineError.{LineError}
 use Rattle.iso_model.specs.declared.script.LineError.TheVariants.{Cause, Memory as NoMemory}
 use Rattle.iso_model.specs.declared.script.Parsed.{Parsed}
 use Rattle.iso_model.specs.declared.script.Parsed.TheVariants.{Skip, Line as Says}
-use Rattle.iso_model.specs.Script.{Script, script, script_from, last_piece, parse, parse_whole, replies, after, before_script, no_lines}
+use Rattle.iso_model.specs.Script.{Script, script, script_from, last_piece, parse, parse_whole, replies, after, before_script, bad_line, no_lines}
 use Rattle.iso_model.specs.Step.{step}
-use Rattle.iso_model.specs.declared.limits.TheConstants.{MAX_INPUT}
+use Rattle.iso_model.specs.declared.limits.TheConstants.{MAX_INPUT, MAX_LINE}
 use Rattle.iso_model.specs.Text.{pieces, is_empty, reply_line}
 use Rattle.iso_top.proofs.Lines.{HasFirst, pieces-first}
 use Rattle.iso_model.specs.World.{World}
@@ -97,10 +98,24 @@ pub is_empty-length : (text : List ℕ) → is_empty text ≡ (length text == 0)
 is_empty-length [] = refl
 is_empty-length (b ∷ text) = sym (eqb-suc-zero (length text))
 
--- the last piece of an input that was not cut
-pub last_piece-says : (cut : Bool) (number : ℕ) (piece : List ℕ) → cut ≡ false → is_empty piece ≡ false
+-- the last piece, where it is not the cut itself that is bad
+pub last_piece-says : (cut : Bool) (number : ℕ) (piece : List ℕ) → (cut ≡ false) ⊎ (MAX_LINE < length piece) → is_empty piece ≡ false
     → last_piece cut number piece ≡ before_script number (parse piece) no_lines
-last_piece-says cut number piece whole some = rw (whole, some) refl
+last_piece-says cut number piece (inl whole) some = rw (whole, some) refl
+last_piece-says true number piece (inr long) some =
+    let test : nat_le (length piece) MAX_LINE ≡ false = grind (arith, nat_tests) in
+    rw (test, some) refl
+last_piece-says false number piece (inr long) some = rw some refl
+
+too_long : (piece : List ℕ) → nat_le (length piece) MAX_LINE ≡ false → nat_lt MAX_LINE (length piece) ≡ true
+too_long piece long = grind (arith, nat_tests)
+
+-- a last piece that is too long has cause 7, also where the input was cut
+pub long_last : (cut : Bool) (number : ℕ) (piece : List ℕ) → nat_le (length piece) MAX_LINE ≡ false → last_piece cut number piece ≡ bad_line number 7
+unfolding parse
+long_last cut number [] long = absurd cc
+long_last true number (b ∷ piece) long = rw (long, too_long (b ∷ piece) long) refl
+long_last false number (b ∷ piece) long = rw (too_long (b ∷ piece) long) refl
 
 -- the piece before a line feed
 pub script_from-whole : (cut : Bool) (number : ℕ) (rest piece next : List ℕ) → pieces 10 rest ≡ piece ∷ pieces 10 next

@@ -1,6 +1,6 @@
 pub mod Answering
 pub mod Lines
 pub mod Outcomes
-pub mod Bounds
 pub mod NewImage
 pub mod Records
+pub mod SameGeometry

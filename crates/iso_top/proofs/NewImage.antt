@@ -8,8 +8,9 @@ use Rattle.iso_model.specs.declared.access.Geometry.{Geometry}
 use Rattle.iso_model.specs.Array.{zeros}
 use Rattle.iso_model.specs.Effect.{runs, record_length}
 use Rattle.iso_model.specs.Geometry.{image_size, header_place, base_place, log_place}
-use Rattle.iso_model.specs.Image.{superblock, half_header, spell, records, written, kind_of, blocks_of, is_open_at, chosen_half, IsImage, logged}
+use Rattle.iso_model.specs.Image.{superblock, half_header, spell, records, written, kind_of, blocks_of, is_open_at, chosen_half, IsImage, held, commits_of}
 use Rattle.std.proofs.lemmas.List.{length-map}
+use Rattle.iso_model.specs.History.{History, all_own}
 use Rattle.iso_model.specs.World.{World, used}
 use Rattle.iso_format.proofs.Parts.{length-spell}
 use Rattle.plain_world.specs.Plain.{IsPlain}
@@ -105,9 +106,22 @@ first_log g = omega arith
 chosen_first : (x y : Bool) (m n : ℕ) → x ≡ true → y ≡ false → chosen_half x m y n ≡ Some 0
 chosen_first x y m n is_open is_closed = rw (is_open, is_closed) refl
 
+-- the history that a new image holds
+abbrev new_history : World → History
+new_history W = record { first = 1; base = W.history.base; commits = commits_of W.geometry 1 (map (written W.geometry) W.history.commits) }
+
+held_new : (W : World) → IsPlain W → held W.geometry 0 W.history ≡ new_history W
+held_new W p =
+    let none : 0 + 1 - W.history.first ≡ 0 = omega (arith, p.first) in
+    λ i. record {
+      first = 1;
+      base = all_own W.history.base (take (none i) W.history.commits);
+      commits = commits_of W.geometry 1 (map (written W.geometry) (drop (none i) W.history.commits));
+    }
+
 pub is_new_image : (W : World) → IsPlain W → (n : ℕ)
     → 96 + W.geometry.blocks * W.geometry.block + length (records W.geometry 1 (map (written W.geometry) W.history.commits)) + n ≡ image_size W.geometry
-    → IsImage (image_with W.geometry (W.geometry.blocks * W.geometry.block) (records W.geometry 1 (map (written W.geometry) W.history.commits)) n) W.geometry 1 (logged W.geometry W.history)
+    → IsImage (image_with W.geometry (W.geometry.blocks * W.geometry.block) (records W.geometry 1 (map (written W.geometry) W.history.commits)) n) W.geometry 1 (new_history W)
 is_new_image W p n size =
     let g = W.geometry in
     let base = g.blocks * g.block in
@@ -144,17 +158,16 @@ is_new_image W p n size =
       current = chosen_first _ _ _ _ (gate_open bytes (header_place g 0) first_gate) (gate_closed bytes (header_place g 1) second_gate);
       header =
           ap (λ k. take 32 (drop k bytes)) (first_header g) ∙ (ap (λ bs. take 32 (drop 64 bs)) from_start
-          ∙ (ap (take 32) (drop_at S (H ++ tail) 64 (length-superblock 1 g)) ∙ (take_at H tail 32 (length-half_header 1 g.form 1 0)
-          ∙ ap (λ f. half_header 1 g.form 1 (f - 1)) (sym p.first))));
-      first = omega (arith, p.first);
+          ∙ (ap (take 32) (drop_at S (H ++ tail) 64 (length-superblock 1 g)) ∙ take_at H tail 32 (length-half_header 1 g.form 1 0)));
+      first = lit≤ tt;
       generation_bound = lit≤ tt;
-      base_bound = omega (arith, p.first);
+      base_bound = lit≤ tt;
       base =
           p.zeros ∙ sym (ap (λ k. blocks_of g.block g.blocks (drop k bytes)) (first_base g) ∙ (ap (λ bs. blocks_of g.block g.blocks (drop 96 bs)) from_base
           ∙ (ap (blocks_of g.block g.blocks) (drop_at (S ++ H) tail 96 l.heads) ∙ blocks_of-zeros g.block g.blocks (log ++ replicate n 0))));
       told = map (written g) W.history.commits;
       each = p.records;
-      last = omega (arith, length-map W.history.commits (written g), p.last);
+      last = omega (arith, length-map W.history.commits (written g), p.last, p.first);
       commits = refl;
       log = (
         0,
@@ -162,7 +175,7 @@ is_new_image W p n size =
         λ same. cc,
         ap (λ k. take g.log (drop k bytes)) (first_log g) ∙ (ap (λ bs. take g.log (drop (96 + base) bs)) from_log
             ∙ (ap (take g.log) (drop_at ((S ++ H) ++ replicate base 0) (log ++ replicate n 0) (96 + base) l.front)
-            ∙ (closed.1 ∙ ap (λ f. records g f (map (written g) W.history.commits) ++ 0 ∷ closed.0) (sym p.first)))),
+            ∙ closed.1)),
       );
     }
 
@@ -178,7 +191,7 @@ pub is_built_image : (W : World) → IsPlain W → (bytes : List ℕ)
     → bytes ≡ resized (image_size W.geometry)
     (resized (96 + W.geometry.blocks * W.geometry.block) (([] ++ superblock 1 W.geometry) ++ half_header 1 W.geometry.form 1 0)
     ++ records W.geometry 1 (map (written W.geometry) W.history.commits))
-    → IsImage bytes W.geometry 1 (logged W.geometry W.history)
+    → IsImage bytes W.geometry 1 (held W.geometry 0 W.history)
 is_built_image W p bytes is =
     let g = W.geometry in
     let base = g.blocks * g.block in
@@ -198,4 +211,6 @@ is_built_image W p bytes is =
     let size : 96 + base + length log + (image_size g - (96 + base + length log)) ≡ image_size g = omega (arith, room) in
     let same : bytes ≡ image_with g base log (image_size g - (96 + base + length log)) =
     whole ∙ ap (λ n. ((heads ++ replicate base 0) ++ log) ++ replicate (image_size g - n) 0) l.logged in
-    subst (λ (bs : List ℕ). IsImage bs g 1 (logged g W.history)) (sym same) (is_new_image W p (image_size g - (96 + base + length log)) size)
+    subst (λ (bs : List ℕ). IsImage bs g 1 (held g 0 W.history)) (sym same)
+    (subst (IsImage (image_with g base log (image_size g - (96 + base + length log))) g 1) (sym (held_new W p))
+    (is_new_image W p (image_size g - (96 + base + length log)) size))

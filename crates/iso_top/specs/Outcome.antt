@@ -1,14 +1,17 @@
 -- What the call has done with each status.
-use Rattle.std.specs.Prelude.{◌≡◌, ◌⊎◌, ℕ, ◌≤◌, ◌<◌, List, [], ◌∷◌, ◌++◌, Option, Some, None, IsTrue, Bool, IfSome, length, take, replicate, codes, decimal, flat_map}
+use Rattle.std.specs.Prelude.{◌≡◌, ◌⊎◌, ℕ, ◌≤◌, ◌<◌, List, [], ◌∷◌, ◌++◌, None, Some, length, take, replicate, codes, decimal, flat_map}
 use Rattle.std.specs.Option.{ForSome}
-use Rattle.std.specs.Io.KnownBytes.{prepend_known, append_known}
-use Rattle.iso_io.specs.Count.{HasRisen}
+use Rattle.fault_count.specs.Count.{Rose}
+use Rattle.iso_disk.specs.Disk.{DiskState, IsBoundTo, IsSettled}
+use Rattle.iso_io.specs.Source.{SourceState, MetEnd, Took}
+use Rattle.iso_io.specs.Sink.{SinkState, CountsStand, Wrote, WroteFront}
 use Rattle.iso_model.specs.declared.access.Geometry.{Geometry}
 use Rattle.iso_model.specs.declared.limits.TheConstants.{MAX_INPUT}
 use Rattle.iso_model.specs.declared.script.BadLine.{BadLine}
 use Rattle.iso_model.specs.Conflict.{IsSerialAt}
+use Rattle.iso_model.specs.Geometry.{image_size}
 use Rattle.iso_model.specs.History.{History, last}
-use Rattle.iso_model.specs.Image.{IsImage, Shows, logged}
+use Rattle.iso_model.specs.Image.{IsImage, Shows, held}
 use Rattle.iso_model.specs.Script.{script, replies, after}
 use Rattle.iso_model.specs.World.{World, fresh, empty_history}
 
@@ -40,23 +43,34 @@ memory_text = line (codes "! memory")
 abbrev pub IsStatus : ℕ → Type 0
 IsStatus status = (status ≡ 0) ⊎ (status ≡ 2) ⊎ (status ≡ 3) ⊎ (status ≡ 5) ⊎ (status ≡ 6) ⊎ (status ≡ 7) ⊎ (status ≡ 8)
 
--- the sink failed in the call: its count rose, or it took nothing of a piece that is not empty
-abbrev pub SinkFailed : {K : Type 0} → (faults refusals : K → ℕ) → (old new : K) → Type 0
-SinkFailed faults refusals old new = HasRisen (faults old) (faults new) ⊎ HasRisen (refusals old) (refusals new)
+-- the sink failed in the call, or it took nothing of a piece that is not empty
+abbrev pub SinkFailed : SinkState → SinkState → Type 0
+SinkFailed old new = Rose old.faults new.faults ⊎ Rose old.refusals new.refusals
+
+-- the sink took this whole text, and no count of it rose
+pub record WroteWhole (old new : SinkState) (text : List ℕ) : Type 0 where
+  pub wrote : Wrote old new text
+  pub counts : CountsStand old new
+
+-- the sink failed in the call, and took a front of the text that is not all of it
+pub record WasCut (old new : SinkState) (text : List ℕ) : Type 0 where
+  pub failed : SinkFailed old new
+  pub front : WroteFront old new text
 
 -- the sink took this text, or, only where it failed in the call, a front of it
-pub record Wrote {K : Type 0} (written : K → Option (List ℕ)) (faults refusals : K → ℕ) (old new : K) (text : List ℕ) : Type 0 where
-  pub count : ℕ
-  pub within : count ≤ length text
-  pub bytes : written new ≡ append_known (written old) (take count text)
-  pub whole : (count ≡ length text) ⊎ SinkFailed faults refusals old new
+abbrev pub Printed : SinkState → SinkState → List ℕ → Type 0
+Printed old new text = WroteWhole old new text ⊎ WasCut old new text
 
--- the bytes are those that the source gave in the call: all, or the first 2 ^ 32
-pub record Took {S : Type 0} (rest : S → Option (List ℕ)) (is_ended : S → Bool) (old new : S) (bytes : List ℕ) : Type 0 where
-  pub taken : rest old ≡ prepend_known bytes (rest new)
+-- the sink took this text whole, and then this last line or, only where it failed behind the text, a front of it
+abbrev pub PrintedLast : SinkState → SinkState → (text last : List ℕ) → Type 0
+PrintedLast old new text last = (mid : SinkState) × WroteWhole old mid text × Printed mid new last
+
+-- the bytes are those that the source gave in the call, in which it did not fail: all, or the first 2 ^ 32
+pub record ReadInput (old new : SourceState) (bytes : List ℕ) : Type 0 where
+  pub took : Took old new bytes
   pub limit : length bytes ≤ MAX_INPUT
-  pub ended : length bytes < MAX_INPUT → IsTrue (is_ended new)
-  pub all : length bytes < MAX_INPUT → IfSome (rest old) (λ left. left ≡ bytes)
+  pub ended : length bytes < MAX_INPUT → MetEnd old new bytes
+  pub faults : new.faults ≡ old.faults
 
 -- the world of the image that is made
 abbrev pub new_world : Geometry → World
@@ -66,66 +80,78 @@ new_world g = fresh g 1 (empty_history g)
 abbrev pub replies_to : Geometry → (input : List ℕ) → List ℕ
 replies_to g input = replies (new_world g) (script input).lines
 
--- the history after all lines of an input
+-- the world after all lines of an input, up to the first bad one, and its history
+abbrev pub world_after : Geometry → (input : List ℕ) → World
+world_after g input = after (new_world g) (script input).lines
+
 abbrev pub history_after : Geometry → (input : List ℕ) → History
-history_after g input = (after (new_world g) (script input).lines).history
+history_after g input = (world_after g input).history
 
 -- the replies to the first n lines of an input
 abbrev pub first_replies : Geometry → (input : List ℕ) → (n : ℕ) → List ℕ
 first_replies g input n = replies (new_world g) (take n (script input).lines)
 
 -- the text is the replies to some first lines of the input, or to none before the input was read
-abbrev pub AreReplies : {S : Type 0} → (rest : S → Option (List ℕ)) → (is_ended : S → Bool) → (old new : S) → Geometry → List ℕ → Type 0
-AreReplies rest is_ended old new g text =
-    (text ≡ []) ⊎ ((bytes : List ℕ) × (n : ℕ) × Took rest is_ended old new bytes × (text ≡ first_replies g bytes n))
+abbrev pub AreReplies : SourceState → SourceState → Geometry → List ℕ → Type 0
+AreReplies old new g text = (text ≡ []) ⊎ ((bytes : List ℕ) × (n : ℕ) × ReadInput old new bytes × (text ≡ first_replies g bytes n))
 
--- The whole input was read and has no bad line, and the sink took the replies to it; after it the world is W.
-pub record IsAnswered {S K : Type 0} (rest : S → Option (List ℕ)) (is_ended : S → Bool) (written : K → Option (List ℕ)) (input_old input_new : S) (output_old output_new : K) (g : Geometry) (W : World) : Type 0 where
-  pub input : List ℕ
-  pub taken : rest input_old ≡ prepend_known input (rest input_new)
-  pub to_its_end : IsTrue (is_ended input_new)
-  pub all : IfSome (rest input_old) (λ left. left ≡ input)
+-- The whole input was read, to its end, and has no bad line; the sink took the replies to it.
+pub record IsAnswered (input_old input_new : SourceState) (output_old output_new : SinkState) (g : Geometry) (input : List ℕ) : Type 0 where
+  pub read : ReadInput input_old input_new input
+  pub to_its_end : MetEnd input_old input_new input
   pub no_bad_line : (script input).bad ≡ None
-  pub replies : written output_new ≡ append_known (written output_old) (replies_to g input)
-  pub world : W ≡ after (new_world g) (script input).lines
+  pub replies : WroteWhole output_old output_new (replies_to g input)
 
--- The whole input was read and has no bad line, and the sink took the replies to it. The disk reads as an image that
--- shows the history after it, each commit of which is serial at its number.
-pub record IsDone {D S K : Type 0} (contents : D → Option (List ℕ)) (rest : S → Option (List ℕ)) (is_ended : S → Bool) (written : K → Option (List ℕ)) (disk : D) (input_old input_new : S) (output_old output_new : K) (g : Geometry) : Type 0 where
+-- The whole input was answered. The disk, bound to this name, reads as an image that shows the history after the input,
+-- each commit of which is serial at its number; a crash now leaves what a read gives, and the disk did not fail.
+pub record IsDone (disk_old disk_new : DiskState) (input_old input_new : SourceState) (output_old output_new : SinkState) (name : List ℕ) (g : Geometry) : Type 0 where
   pub input : List ℕ
-  pub taken : rest input_old ≡ prepend_known input (rest input_new)
-  pub to_its_end : IsTrue (is_ended input_new)
-  pub all : IfSome (rest input_old) (λ left. left ≡ input)
-  pub no_bad_line : (script input).bad ≡ None
-  pub replies : written output_new ≡ append_known (written output_old) (replies_to g input)
-  pub image : ForSome (contents disk) (λ c. IsImage c g 1 (logged g (history_after g input)))
-  pub shows : ForSome (contents disk) (λ c. Shows c g (history_after g input) (last (history_after g input)))
+  pub answered : IsAnswered input_old input_new output_old output_new g input
+  pub bound : IsBoundTo name disk_new
+  pub size : disk_new.size ≡ image_size g
+  pub image : ForSome disk_new.contents (λ c. IsImage c g 1 (held g 0 (history_after g input)))
+  pub shows : ForSome disk_new.contents (λ c. Shows c g (history_after g input) (last (history_after g input)))
+  pub settled : IsSettled disk_new
   pub serial : (k : ℕ) → 1 ≤ k → k ≤ last (history_after g input) → IsSerialAt (history_after g input) k
+  pub faults : disk_new.faults ≡ disk_old.faults
 
 -- The input has a bad line; the sink took the replies to the lines before it, and the line that names it.
-pub record IsStoppedByLine {S K : Type 0} (rest : S → Option (List ℕ)) (is_ended : S → Bool) (written : K → Option (List ℕ)) (faults refusals : K → ℕ) (input_old input_new : S) (output_old output_new : K) (g : Geometry) : Type 0 where
+pub record IsStoppedByLine (input_old input_new : SourceState) (output_old output_new : SinkState) (g : Geometry) : Type 0 where
   pub input : List ℕ
-  pub took : Took rest is_ended input_old input_new input
+  pub read : ReadInput input_old input_new input
   pub line : BadLine
   pub bad : (script input).bad ≡ Some line
-  pub wrote : Wrote written faults refusals output_old output_new (replies_to g input ++ bad_line_text line)
+  pub printed : PrintedLast output_old output_new (replies_to g input) (bad_line_text line)
 
--- The sink took the replies to some first lines, and this line.
-pub record IsStopped {S K : Type 0} (rest : S → Option (List ℕ)) (is_ended : S → Bool) (written : K → Option (List ℕ)) (faults refusals : K → ℕ) (input_old input_new : S) (output_old output_new : K) (g : Geometry) (last : List ℕ) : Type 0 where
+-- The source did not fail, and the sink took the replies to some first lines, and this line.
+pub record IsStopped (input_old input_new : SourceState) (output_old output_new : SinkState) (g : Geometry) (last : List ℕ) : Type 0 where
   pub text : List ℕ
-  pub replies : AreReplies rest is_ended input_old input_new g text
-  pub wrote : Wrote written faults refusals output_old output_new (text ++ last)
+  pub unfailed : input_new.faults ≡ input_old.faults
+  pub replies : AreReplies input_old input_new g text
+  pub printed : PrintedLast output_old output_new text last
 
--- The sink failed; it took a front of the replies.
-pub record IsCutShort {S K : Type 0} (rest : S → Option (List ℕ)) (is_ended : S → Bool) (written : K → Option (List ℕ)) (faults refusals : K → ℕ) (input_old input_new : S) (output_old output_new : K) (g : Geometry) : Type 0 where
+-- The bind failed, and nothing was read.
+pub record IsUnbound (disk : DiskState) (input_old input_new : SourceState) (output_old output_new : SinkState) : Type 0 where
+  pub bound : disk.bound ≡ None
+  pub unread : input_new ≡ input_old
+  pub printed : Printed output_old output_new disk_fault_text
+
+-- The disk failed: when it was bound to this name, or behind that.
+pub record IsStoppedByDisk (disk_old disk_new : DiskState) (input_old input_new : SourceState) (output_old output_new : SinkState) (name : List ℕ) (g : Geometry) : Type 0 where
+  pub rose : Rose disk_old.faults disk_new.faults
+  pub place : IsUnbound disk_new input_old input_new output_old output_new
+      ⊎ (IsBoundTo name disk_new × IsStopped input_old input_new output_old output_new g disk_fault_text)
+
+-- The sink failed before it had the replies to the input, and took a front of them.
+pub record IsCutShort (input_old input_new : SourceState) (output_old output_new : SinkState) (g : Geometry) : Type 0 where
   pub input : List ℕ
-  pub took : Took rest is_ended input_old input_new input
-  pub count : ℕ
-  pub bytes : written output_new ≡ append_known (written output_old) (take count (replies_to g input))
-  pub failed : SinkFailed faults refusals output_old output_new
+  pub read : ReadInput input_old input_new input
+  pub cut : WasCut output_old output_new (replies_to g input)
 
--- the disk is as it was when the blank device was bound
-pub record IsBlank {D : Type 0} (size : D → ℕ) (contents : D → Option (List ℕ)) (now : D → List ℕ → Type 0) (disk : D) (bytes : ℕ) : Type 0 where
-  pub length : size disk ≡ bytes
-  pub zeros : ForSome (contents disk) (λ c. c ≡ replicate bytes 0)
-  pub after_crash : (c : List ℕ) → now disk c → c ≡ replicate bytes 0
+-- the disk is as it was when the blank device was bound to this name
+pub record IsBlank (disk_old disk_new : DiskState) (name : List ℕ) (bytes : ℕ) : Type 0 where
+  pub bound : disk_new.bound ≡ Some (disk_new.clock, name)
+  pub size : disk_new.size ≡ bytes
+  pub zeros : ForSome disk_new.contents (λ c. c ≡ replicate bytes 0)
+  pub after_crash : (c : List ℕ) → disk_new.now c → c ≡ replicate bytes 0
+  pub faults : disk_new.faults ≡ disk_old.faults

@@ -49,6 +49,11 @@ geometry_with o = record {
 abbrev pub if_valid : Geometry → Option Geometry
 if_valid g = if is_valid g then Some g else None
 
+-- the name of the image: the word behind the program's name and the command
+abbrev pub image_name : List (List ℕ) → List ℕ
+image_name (program ∷ command ∷ image ∷ more) = image
+image_name words = []
+
 -- The geometry of the image that the words ask for: the program's name, `new`, the image's name, and options.
 -- None where the words are outside this grammar.
 unfoldable pub geometry_asked : List (List ℕ) → Option Geometry

@@ -1,17 +1,18 @@
 // The replies to a script.
-ghost use Rattle.std.specs.Prelude.{◌≡◌, ◌≤◌, ◌<◌, ◌^◌, [], length};
+ghost use Rattle.std.specs.Prelude.{◌≡◌, ◌≤◌, ◌<◌, ◌^◌, [], length, IfOk};
+ghost use Rattle.iso_model.specs.Open.{SaysOpen};
 ghost use Rattle.iso_model.specs.Script.{script, last_piece};
 ghost use Rattle.iso_top.specs.Script.{Answers, AnswersLine, Reached};
 
 use crate::pieces::split_line;
-use iso_model::{BadLine, LineError, MAX_INPUT, Parsed};
+use iso_model::{BadLine, LineError, MAX_INPUT, MAX_LINE, Parsed};
 use plain_world::PlainWorld;
 use script_text::{parse_line, parse_whole_line, push_reply};
 use std::alloc::Global;
 
 /// How a script ended: all of it was answered, or it has a bad line, or memory ran out.
 #[derive(Clone, Copy, Debug, PartialEq, Eq)]
-pub enum ScriptEnd {
+pub(crate) enum ScriptEnd {
     Done,
     Bad(BadLine),
     Memory,
@@ -24,6 +25,7 @@ fn answer_line(
     world: &mut PlainWorld,
     text: &mut Vec<u8>,
 ) -> Result<(), ScriptEnd>
+    requires { IfOk parsed SaysOpen }
     ensures { AnswersLine number parsed result world.old text.old.items world.new text.new.items }
 {
     match parsed {
@@ -46,8 +48,9 @@ fn answer_line(
     }
 }
 
-/// Answers the last piece of an input, which no line feed ends. Where the input was cut there, it is bad.
-fn answer_last(
+/// Answers the last piece of an input, which no line feed ends. Where the input was cut there, it is bad: for that, or,
+/// which is tested first, for its length.
+pub(crate) fn answer_last(
     alloc: Global,
     cut: bool,
     number: u64,
@@ -57,7 +60,7 @@ fn answer_last(
 ) -> ScriptEnd
     ensures { (W : _) (all : _) → Reached W all (last_piece cut number piece.now) text.old.items world.old → Answers W all result text.new.items world.new }
 {
-    if cut {
+    if cut && piece.len() <= MAX_LINE {
         let line = number;
         return ScriptEnd::Bad(BadLine { line, cause: 9 });
     }

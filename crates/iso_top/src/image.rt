@@ -1,26 +1,18 @@
 // The bytes of the image of a plain world.
 ghost use Rattle.std.specs.Prelude.{◌≡◌, ◌+◌, ◌-◌, ◌*◌, ◌≤◌, ◌++◌, length, map, replicate, IfOk, OnOk, vec_len, IsTrue};
 ghost use Rattle.iso_model.specs.Geometry.{is_valid, image_size};
-ghost use Rattle.iso_model.specs.Image.{IsImage, half_header, kind_of, logged, records, superblock, written};
+ghost use Rattle.iso_model.specs.Image.{IsImage, half_header, held, kind_of, records, superblock, written};
 ghost use Rattle.iso_model.specs.World.{World};
 ghost use Rattle.plain_world.specs.Plain.{IsPlain};
 
 use iso_format::{HalfHeader, write_half, write_record, write_super};
-use iso_model::{Geometry, Memory, Mode};
+use iso_image::{image_size, kind_of};
+use iso_model::{Geometry, Memory};
 use plain_world::PlainWorld;
 use std::alloc::Global;
 
 /// How many bytes the superblock and the header of a half have.
 const HEADS: usize = 96;
-
-/// The size of the image of a valid geometry.
-pub(crate) fn image_size(geometry: &Geometry) -> u64
-    requires { IsTrue (is_valid geometry.now) }
-    ensures { result ≡ image_size geometry.now }
-{
-    let base = u64::from(geometry.blocks) * u64::from(geometry.block);
-    64 + 2 * (32 + base + u64::from(geometry.log))
-}
 
 /// Adds the superblock, and the header of the first half as it is when it was just made.
 fn push_heads(geometry: &Geometry, bytes: &mut Vec<u8>) -> Result<(), Memory>
@@ -43,13 +35,6 @@ fn push_heads(geometry: &Geometry, bytes: &mut Vec<u8>) -> Result<(), Memory>
     Ok(())
 }
 
-/// The kind of a record: 1 is the image's own mode, and 2 the other one.
-fn kind_of(geometry: &Geometry, mode: Mode) -> u8
-    ensures { result ≡ kind_of geometry.now mode }
-{
-    if mode == geometry.mode { 1 } else { 2 }
-}
-
 /// Adds the records of all commits.
 fn push_records(alloc: Global, world: &PlainWorld, bytes: &mut Vec<u8>) -> Result<(), Memory>
     ensures plain { IsPlain world.now }
@@ -68,7 +53,7 @@ fn push_records(alloc: Global, world: &PlainWorld, bytes: &mut Vec<u8>) -> Resul
 
 /// The whole image of a world.
 pub(crate) fn image_bytes(alloc: Global, world: &PlainWorld) -> Result<Vec<u8>, Memory>
-    ensures { IfOk result (λ v. IsImage v.items world.now.geometry 1 (logged world.now.geometry world.now.history)) }
+    ensures { IfOk result (λ v. IsImage v.items world.now.geometry 1 (held world.now.geometry 0 world.now.history)) }
 {
     world.facts();
     let geometry = world.geometry();

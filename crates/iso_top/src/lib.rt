@@ -9,7 +9,6 @@ mod run;
 mod top;
 mod words;
 
-pub use answers::ScriptEnd;
 pub use top::{Ended, isotope};
 
 #[cfg(test)]

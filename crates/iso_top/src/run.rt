@@ -1,11 +1,12 @@
 // The parts of a run: the input is answered, and the image is written.
-ghost use Rattle.std.specs.Prelude.{◌≡◌, ◌⊎◌, ◌≤◌, IfErr, IfOk, IsErrOf, IsTrue, OnOk};
+ghost use Rattle.std.specs.Prelude.{◌≡◌, ◌≢◌, ℕ, List, IfErr, IfOk, IsErrOf, IsTrue, OnOk};
 ghost use Rattle.std.specs.Option.{ForSome};
-ghost use Rattle.iso_disk.specs.Disk.{Rose};
-ghost use Rattle.iso_io.specs.Count.{HasRisen};
+ghost use Rattle.fault_count.specs.Count.{HasCause, Rose};
+ghost use Rattle.iso_disk.specs.Disk.{IsSettled};
+ghost use Rattle.iso_io.specs.Sink.{NoCountFell};
 ghost use Rattle.iso_model.specs.Geometry.{image_size, is_valid};
-ghost use Rattle.iso_model.specs.Image.{IsImage, logged};
-ghost use Rattle.iso_top.specs.Outcome.{Wrote, IsAnswered, IsStoppedByLine, IsStopped, IsCutShort, input_fault_text, memory_text};
+ghost use Rattle.iso_model.specs.Image.{IsImage, held};
+ghost use Rattle.iso_top.specs.Outcome.{IsAnswered, IsCutShort, IsStopped, IsStoppedByLine, Printed, input_fault_text, memory_text, world_after};
 
 use crate::answers::{ScriptEnd, answer_all};
 use crate::image::image_bytes;
@@ -16,60 +17,74 @@ use iso_model::{Geometry, MAX_INPUT};
 use plain_world::PlainWorld;
 use std::alloc::Global;
 
-/// Puts a last line. Where the sink fails, it has taken a front of it, and the status stays.
+/// Why a run ended before all was done.
+#[derive(Clone, Copy, Debug, PartialEq, Eq)]
+pub(crate) enum Stop {
+    /// There is a bad line.
+    BadLine,
+    /// The disk failed.
+    Disk,
+    /// The source failed.
+    Input,
+    /// The sink failed.
+    Output,
+    /// Want of memory.
+    Memory,
+}
+
+/// Puts a last line. Where the sink fails, it has taken a front of it, and the run ends as it would have.
 pub(crate) fn put_last<K: Sink>(output: &mut K, line: &[u8])
-    ensures wrote { Wrote K.written K.faults K.refusals output.old output.new line.now }
-    ensures faults { K.faults output.old ≤ K.faults output.new }
-    ensures refusals { K.refusals output.old ≤ K.refusals output.new }
+    ensures { Printed (K.state output.old) (K.state output.new) line.now }
 {
     let _ = put_all(output, line);
 }
 
-/// Reads the input to its end and puts the replies to it. At an `Err` it is the status that ends the run, and the
-/// last line was put, where the status has one.
+/// Reads the input to its end and puts the replies to it. At an `Err` the last line was put, where there is one.
 pub(crate) fn answer_input<S: Source, K: Sink>(
     alloc: Global,
     geometry: Geometry,
     input: &mut S,
     output: &mut K,
-) -> Result<PlainWorld, u8>
+) -> Result<PlainWorld, Stop>
     requires { IsTrue (is_valid geometry) }
-    ensures answered { IfOk result (IsAnswered S.rest S.is_ended K.written input.old input.new output.old output.new geometry) }
-    ensures statuses { IfErr result (λ status. (status ≡ 3) ⊎ (status ≡ 6) ⊎ (status ≡ 7) ⊎ (status ≡ 8)) }
-    ensures bad_line { IsErrOf result 3 → IsStoppedByLine S.rest S.is_ended K.written K.faults K.refusals input.old input.new output.old output.new geometry }
-    ensures input { IsErrOf result 6 → HasRisen (S.faults input.old) (S.faults input.new)
-        × Wrote K.written K.faults K.refusals output.old output.new input_fault_text }
-    ensures output { IsErrOf result 7 → IsCutShort S.rest S.is_ended K.written K.faults K.refusals input.old input.new output.old output.new geometry }
-    ensures memory { IsErrOf result 8 → IsStopped S.rest S.is_ended K.written K.faults K.refusals input.old input.new output.old output.new geometry memory_text }
-    ensures faults { K.faults output.old ≤ K.faults output.new }
-    ensures refusals { K.refusals output.old ≤ K.refusals output.new }
+    ensures answered { IfOk result (λ W. (bytes : List ℕ) × (W ≡ world_after geometry bytes)
+        × IsAnswered (S.state input.old) (S.state input.new) (K.state output.old) (K.state output.new) geometry bytes) }
+    ensures not_disk { IfErr result (λ stop. stop ≢ Stop.Disk) }
+    ensures bad_line { IsErrOf result Stop.BadLine
+        → IsStoppedByLine (S.state input.old) (S.state input.new) (K.state output.old) (K.state output.new) geometry }
+    ensures input { IsErrOf result Stop.Input → Rose (S.state input.old).faults (S.state input.new).faults
+        × Printed (K.state output.old) (K.state output.new) input_fault_text }
+    ensures output { IsErrOf result Stop.Output
+        → IsCutShort (S.state input.old) (S.state input.new) (K.state output.old) (K.state output.new) geometry }
+    ensures memory { IsErrOf result Stop.Memory
+        → IsStopped (S.state input.old) (S.state input.new) (K.state output.old) (K.state output.new) geometry memory_text }
 {
     let bytes = match take_all(alloc, input, MAX_INPUT) {
         Ok(bytes) => bytes,
         Err(TakeError::Failed) => {
             put_last(output, b"! input fault\n");
-            return Err(6);
+            return Err(Stop::Input);
         }
         Err(TakeError::Memory) => {
             put_last(output, b"! memory\n");
-            return Err(8);
+            return Err(Stop::Memory);
         }
     };
     let mut world = PlainWorld::new(alloc, geometry);
     let mut text = Vec::new(alloc);
     let end = answer_all(alloc, &bytes, &mut world, &mut text);
     if let Err(_) = put_all(output, &text) {
-        return Err(7);
+        return Err(Stop::Output);
     }
     match end {
         ScriptEnd::Done => Ok(world),
         ScriptEnd::Bad(line) => {
             put_last(output, bad_line(&line).as_slice());
-            Err(3)
+            Err(Stop::BadLine)
         }
         ScriptEnd::Memory => {
             put_last(output, b"! memory\n");
-            Err(8)
+            Err(Stop::Memory)
         }
     }
 }
@@ -87,12 +102,15 @@ pub(crate) fn write_image<I: Image>(
     world: &PlainWorld,
     image: &mut I,
 ) -> Result<(), WriteError>
-    requires { I.size image.old ≡ image_size world.now.geometry }
-    ensures written { OnOk result (ForSome (I.contents image.new)
-        (λ c. IsImage c world.now.geometry 1 (logged world.now.geometry world.now.history))) }
-    ensures disk { IsErrOf result WriteError.Disk → Rose (I.faults image.old) (I.faults image.new) }
+    requires { (I.state image.old).size ≡ image_size world.now.geometry }
+    ensures written { OnOk result (ForSome (I.state image.new).contents
+        (λ c. IsImage c world.now.geometry 1 (held world.now.geometry 0 world.now.history))) }
+    ensures settled { OnOk result (IsSettled (I.state image.new)) }
+    ensures passed { OnOk result ((I.state image.new).faults ≡ (I.state image.old).faults) }
+    ensures disk { IsErrOf result WriteError.Disk → Rose (I.state image.old).faults (I.state image.new).faults }
     ensures memory { IsErrOf result WriteError.Memory → image.new ≡ image.old }
-    ensures faults { I.faults image.old ≤ I.faults image.new }
+    ensures size { (I.state image.new).size ≡ (I.state image.old).size }
+    ensures bound { (I.state image.new).bound ≡ (I.state image.old).bound }
 {
     let bytes = match image_bytes(alloc, world) {
         Ok(bytes) => bytes,

@@ -276,3 +276,37 @@ fn the_sink_fails_or_takes_little(rt: HostRuntime) -> Result<(), Fail> {
     }
     Ok(())
 }
+
+#[test]
+fn a_last_piece_may_be_as_long_as_a_line(rt: HostRuntime) -> Result<(), Fail> {
+    let alloc = rt.alloc();
+    for (length, cause) in [(16_384, b'2'), (16_385, b'7')] {
+        let mut script = b"1 ".to_vec(alloc)?;
+        script.resize(length, b'x')?;
+        let outcome = run(alloc, SMALL, &script)?;
+        let mut expected = b"! bad line 1 cause ".to_vec(alloc)?;
+        expected.push(cause)?;
+        expected.push(b'\n')?;
+        assert_eq!(rt; outcome.status, 3);
+        assert_eq!(rt; outcome.output.as_slice(), expected.as_slice());
+    }
+    Ok(())
+}
+
+#[test]
+fn one_fault_of_the_disk_ends_the_run(rt: HostRuntime) -> Result<(), Fail> {
+    let alloc = rt.alloc();
+    let faulty = b"1 ok begin 0\n1 ok\n1 ok commit 1\n! disk fault\n".as_slice();
+    for (call, output) in [(1, b"! disk fault\n".as_slice()), (2, faulty), (3, faulty)] {
+        let words = words_of(alloc, SMALL)?;
+        let mut disk = MemDisk::new(alloc, Vec::new(alloc));
+        disk.fail(call);
+        let mut source = MemSource::new(ONE_PUT.to_vec(alloc)?, Vec::new(alloc));
+        let mut sink = MemSink::new(alloc, Vec::new(alloc));
+        let ended = isotope(alloc, &words, disk, &mut source, &mut sink);
+        assert_eq!(rt; ended.status, 5);
+        assert_eq!(rt; sink.bytes(), output);
+        assert_eq!(rt; ended.image.calls(), call);
+    }
+    Ok(())
+}

@@ -1,9 +1,10 @@
 // The words of the command line.
-ghost use Rattle.std.specs.Prelude.{◌≡◌, ◌≤◌, IfSome, IsTrue, length, map, string_bytes};
-ghost use Rattle.iso_top.specs.Words.{geometry_asked, geometry_with, if_new, if_valid, options_of, texts, with_option};
-ghost use Rattle.iso_model.specs.Geometry.{is_block_size, is_valid};
+ghost use Rattle.std.specs.Prelude.{◌≡◌, IfSome, IsTrue, map, string_bytes};
+ghost use Rattle.iso_top.specs.Words.{geometry_asked, geometry_with, if_new, if_valid, image_name, options_of, texts, with_option};
+ghost use Rattle.iso_model.specs.Geometry.{is_valid};
 ghost use Rattle.iso_model.specs.Text.{number_of};
 
+use iso_format::is_valid;
 use iso_model::{Geometry, Mode};
 use script_text::number_of;
 
@@ -109,32 +110,8 @@ fn geometry_with(options: Options) -> Geometry
     }
 }
 
-fn is_block_size(size: u32) -> bool
-    ensures { result ≡ is_block_size size }
-{
-    matches!(size, 64 | 128 | 256 | 512 | 1024 | 2048 | 4096)
-}
-
-/// Whether the numbers of an image of form 1 without regions keep their limits.
-#[tactic(auto, using(crate::proofs::Bounds::is_valid_without_regions))]
-fn is_valid(geometry: &Geometry) -> bool
-    requires hash { geometry.now.hash ≡ 0 }
-    requires tree { geometry.now.tree ≡ 0 }
-    requires form { geometry.now.form ≡ 1 }
-    ensures { result ≡ is_valid geometry.now }
-{
-    is_block_size(geometry.block)
-        && 1 <= geometry.blocks
-        && geometry.blocks <= 16_384
-        && 64 <= geometry.log
-        && geometry.log <= 67_108_864
-}
-
-/// A geometry of form 1 without regions, where it keeps its limits.
+/// A geometry, where it keeps its limits.
 fn if_valid(geometry: Geometry) -> Option<Geometry>
-    requires hash { geometry.hash ≡ 0 }
-    requires tree { geometry.tree ≡ 0 }
-    requires form { geometry.form ≡ 1 }
     ensures value { result ≡ if_valid geometry }
     ensures valid { IfSome result (λ g. IsTrue (is_valid g)) }
     ensures same { IfSome result (λ g. g ≡ geometry) }
@@ -146,11 +123,20 @@ fn if_valid(geometry: Geometry) -> Option<Geometry>
     }
 }
 
+/// The name of the image: the word behind the program's name and the command. Empty where there is none.
+pub(crate) fn image_name(words: &[String]) -> &str
+    ensures { result.now ≡ image_name (texts words.now) }
+{
+    match words {
+        [] | [_] | [_, _] => "",
+        [_, _, name, ..] => name.as_str(),
+    }
+}
+
 /// The geometry of the image that the words ask for. None where they are outside the grammar.
 #[tactic(auto, unfolding(crate::specs::Words::geometry_asked))]
 pub(crate) fn geometry_asked(words: &[String]) -> Option<Geometry>
     ensures value { result ≡ geometry_asked (texts words.now) }
-    ensures named { IfSome result (λ g. 3 ≤ length words.now) }
     ensures valid { IfSome result (λ g. IsTrue (is_valid g)) }
     ensures form { IfSome result (λ g. g.form ≡ 1) }
     ensures serial { IfSome result (λ g. g.mode ≡ Mode.Serial) }

@@ -1,7 +1,11 @@
 // The program: the file disk, standard input and standard output, handed to the top call.
 #![tactic(auto)]
 
+ghost use Rattle.std.specs.Prelude.{◌≡◌};
+ghost use Rattle.std.specs.Process.{exit_status};
+
 mod file_disk;
+mod files;
 #[cfg(test)]
 mod tests;
 
@@ -22,14 +26,22 @@ fn words_of<R: Env + AllocGlobal>(rt: &R) -> Result<Vec<String>, AllocError> {
     }
 }
 
+/// The status of the program.
+fn exit_of(status: u8) -> ExitCode
+    ensures { exit_status result ≡ status }
+{
+    ExitCode::from(status)
+}
+
 fn main(rt: HostRuntime) -> ExitCode {
     let alloc = rt.alloc();
     let mut input = StdSource::new(rt.stdin());
     let mut output = StdSink::new(rt.stdout());
     let Ok(words) = words_of(&rt) else {
         let _ = put_all(&mut output, b"! memory\n");
-        return ExitCode::from(8);
+        return exit_of(8);
     };
-    let ended = isotope(alloc, &words, FileDisk::new(rt), &mut input, &mut output);
-    ExitCode::from(ended.status)
+    let disk = FileDisk::new(rt, alloc);
+    let ended = isotope(alloc, &words, disk, &mut input, &mut output);
+    exit_of(ended.status)
 }

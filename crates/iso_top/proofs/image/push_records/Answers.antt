@@ -23,7 +23,7 @@ loop-i-preserved c =
     let g = c.args.world.now.geometry in
     let t = told_at g c.args.world.now.history.commits c.loop-i.i c.mode_at.result c.parts_at.result.now c.mode_at.ensures c.parts_at.ensures in
     let more = one_more_record g (map (written g) c.args.world.now.history.commits) c.loop-i.i c.mode_at.result c.parts_at.result.now c.args.bytes.now.items c.loop-i.bytes.items t c.loop-i.invariant in
-    let same_kind : c.kind_of-kind.result ≡ kind_of g c.mode_at.result = c.kind_of-kind.ensures ∙ ap (λ geometry. kind_of geometry c.mode_at.result) c.geometry-geometry.ensures in
+    let same_kind : c.kind_of-kind.result ≡ kind_of g c.mode_at.result = c.kind_of-kind.ensures.kind ∙ ap (λ geometry. kind_of geometry c.mode_at.result) c.geometry-geometry.ensures in
     c.in_ok-extend_from_slice.ensures.items
     ∙ (ap (λ bytes. c.loop-i.bytes.items ++ bytes)
     (c.deref.ensures.value ∙ (c.in_ok-record.ensures.bytes ∙ ap (λ kind. spell 1 kind (c.loop-i.i + 1) c.parts_at.result.now) same_kind))

@@ -1,8 +1,8 @@
 use Rattle.std.proofs.Common.{◌-◌, ◌≤◌}
-use Rattle.isotope.proofs.file_disk.new_file.Given as goal
+use Rattle.isotope.proofs.files.fill.Given as goal
 
 abbrev pub invariant-loop-at : goal.invariant-loop-at
-invariant-loop-at g l = l.at ≤ l.size
+invariant-loop-at l = l.at ≤ l.size
 
 abbrev pub decreases-loop-at : goal.decreases-loop-at
-decreases-loop-at g l = l.size - l.at
+decreases-loop-at l = l.size - l.at
