@@ -1,0 +1,138 @@
+-- The record at a gate, as it is found in bytes that were read.
+use Rattle.std.proofs.Common.{◌≡◌, ◌<◌, ◌≤◌, ◌+◌, ◌-◌, ◌^◌, ℕ, List, [], ◌∷◌, ◌++◌, Some, Result, Ok, Err, IsErrOf, length, take, drop, get_or, sym, ◌∙◌, ap, arith, subst, length-append, length-drop}
+use Rattle.std.proofs.lemmas.List.{get_or-take, get_or-drop, length-take-le, take-take, nil_from_length}
+use Rattle.iso_model.specs.declared.access.Geometry.{Geometry}
+use Rattle.iso_model.specs.Image.{kind_of, spell}
+use Rattle.iso_format.specs.declared.format_error.FormatError.{FormatError}
+use Rattle.iso_format.specs.declared.format_error.FormatError.TheVariants.{Short}
+use Rattle.iso_format.specs.Faults.{offset_of, test_number}
+use Rattle.iso_format.specs.Records.{BeginsWith, fault_of, record_window, recorded}
+use Rattle.iso_format.proofs.Windows.{window_front, fault_front, short_head, short_body}
+use Rattle.iso_refusal.specs.declared.open_error.OpenError.{OpenError}
+use Rattle.iso_refusal.specs.declared.open_error.OpenError.TheVariants as refused
+use Rattle.iso_refusal.specs.Refusal.{damaged, told_first}
+use Rattle.iso_refusal.proofs.LogLaws.{kind_again, form_1}
+use Rattle.iso_log.specs.declared.log_error.LogError.{LogError}
+use Rattle.iso_log.specs.declared.log_error.LogError.TheVariants.{LogFull, Disk, Memory, Damaged}
+use Rattle.iso_log.specs.Extent.{Extent, next_place}
+use Rattle.iso_log.specs.Scan.{IsDamaged, IsNextRecord, StandAt}
+use Rattle.iso_log.proofs.Counts.{spell_gate, window_is}
+
+-- ---- bytes that stand in an image
+
+module _ (place rest : ℕ) (b c : List ℕ) (stands : StandAt place b c) (within : length b ≤ rest) where
+  -- as the front of the rest of the log
+  front_is : b ≡ take (length b) (take rest (drop place c))
+  front_is = stands ∙ sym (take-take (length b) rest (drop place c) within)
+
+  pub first_is : 0 < length b → get_or c place 0 ≡ get_or b 0 0
+  first_is some =
+      let here : get_or c place 0 ≡ get_or (drop place c) 0 0 = ap (λ (n : ℕ). get_or c n 0) (omega arith) ∙ sym (get_or-drop place c 0 0) in
+      here ∙ sym (get_or-take (length b) (drop place c) 0 0 some) ∙ sym (ap (λ (l : List ℕ). get_or l 0 0) stands)
+
+  pub window_same : 12 ≤ length b → record_window b ≡ record_window (take rest (drop place c))
+  window_same long = ap record_window front_is ∙ window_front (take rest (drop place c)) (length b) long
+
+  -- the front of these bytes, which is the front of the rest of the log
+  cut_is : (n : ℕ) → n ≤ length b → take n b ≡ take n (take rest (drop place c))
+  cut_is n le = ap (take n) front_is ∙ take-take n (length b) (take rest (drop place c)) le
+
+  -- what the bytes of a record say, the rest of the log says
+  pub says_same : (g : Geometry) (number n : ℕ) → place + rest ≤ length c → n ≤ length b → 12 ≤ length b → n ≡ record_window b → fault_of g number (take n b) ≡ fault_of g number (take rest (drop place c))
+  says_same g number n fits le long is =
+      let size : length (take rest (drop place c)) ≡ rest = length-take-le rest (drop place c) (omega (arith, length-drop place c)) in
+      let window = window_same long in
+      ap (fault_of g number) (cut_is n le) ∙ fault_front g number (take rest (drop place c)) n (omega (arith, window, is)) (omega (arith, size))
+
+-- ---- how a test that fails is answered
+
+as_refused : LogError → OpenError
+as_refused (Damaged at cause) = refused.Damaged at cause
+as_refused (LogFull need free) = refused.NotIsotope
+as_refused Disk = refused.NotIsotope
+as_refused Memory = refused.NotIsotope
+
+error_of : {T : Type 0} → LogError → Result T LogError → LogError
+error_of other (Ok x) = other
+error_of other (Err e) = e
+
+pub error_is : {T : Type 0} (e x : LogError) → IsErrOf {T = T} {E = LogError} (Err e) x → e ≡ x
+unfolding error_of
+error_is e x same = ap (error_of e) same
+
+pub place_is : {T : Type 0} (place : ℕ) (fault : FormatError) (e : LogError) → e ≡ Damaged (place + offset_of fault) (test_number fault) → (at cause : ℕ) → IsErrOf {T = T} {E = LogError} (Err e) (Damaged at cause)
+    → refused.Damaged at cause ≡ damaged place fault
+unfolding as_refused
+place_is {T = T} place fault e is at cause same =
+    sym (ap as_refused (sym is ∙ error_is e (Damaged at cause) same))
+
+-- ---- the record
+
+pub next_record : (g : Geometry) (number : ℕ) (bytes : List ℕ) → BeginsWith g number (recorded bytes) bytes → get_or bytes 0 0 ≡ 1 → length bytes ≡ record_window bytes → length bytes < 2 ^ 32
+    → IsNextRecord g number bytes
+next_record g number bytes b opens size small =
+    let kind = (recorded bytes).kind in
+    let parts = (recorded bytes).parts in
+    let gate : b.gate ≡ 1 = sym (ap (λ (l : List ℕ). get_or l 0 0) b.spelling ∙ spell_gate b.gate kind number parts (b.next ∷ b.rest)) ∙ opens in
+    let kinds : kind ≡ kind_of g (told_first g bytes).mode = sym (kind_again g kind b.kind) in
+    let total = ap length b.spelling ∙ length-append (spell b.gate kind number parts) (b.next ∷ b.rest) in
+    let window = ap record_window b.spelling ∙ window_is b.gate kind number parts (b.next ∷ b.rest) (omega (arith, total, small)) in
+    let none : b.rest ≡ [] = nil_from_length b.rest (omega (arith, total, window, size)) in
+    record {
+      is_record = record { some = b.some; runs = b.runs; mode = form_1 g kind b.kind };
+      below = b.last;
+      gate = b.next;
+      bytes_are = b.spelling ∙ (λ i. spell (gate i) (kinds i) number parts ++ b.next ∷ none i);
+    }
+
+-- ---- bytes that were read further
+
+module _ (b more : List ℕ) (front : take (length b) more ≡ b) (long : 20 ≤ length b) (opens : get_or b 0 0 ≡ 1) where
+  pub gate_later : get_or more 0 0 ≡ 1
+  gate_later = sym (get_or-take (length b) more 0 0 (omega (arith, long))) ∙ ap (λ (l : List ℕ). get_or l 0 0) front ∙ opens
+
+  window_later : record_window more ≡ record_window b
+  window_later = sym (window_front more (length b) (omega (arith, long))) ∙ ap record_window front
+
+  -- they are as many as the record asks for
+  pub cut_window : record_window b ≤ length more → record_window (take (record_window b) more) ≡ record_window b
+  cut_window enough = window_front more (record_window b) (omega arith) ∙ window_later
+
+  -- the bytes that the record asks for
+  pub found_record : (g : Geometry) (number : ℕ) → record_window b ≤ length more → record_window b < 2 ^ 32 → BeginsWith g number (recorded (take (record_window b) more)) (take (record_window b) more)
+      → IsNextRecord g number (take (record_window b) more)
+  found_record g number enough small begins =
+      let size : length (take (record_window b) more) ≡ record_window b = length-take-le (record_window b) more enough in
+      let gate : get_or (take (record_window b) more) 0 0 ≡ 1 = get_or-take (record_window b) more 0 0 (omega arith) ∙ gate_later in
+      let window : record_window (take (record_window b) more) ≡ record_window b = cut_window enough in
+      next_record g number (take (record_window b) more) begins gate (omega (arith, size, window)) (omega (arith, size, small))
+
+  pub found_fault : (g : Geometry) (number place rest : ℕ) (c : List ℕ) → record_window b ≤ length more → length more ≤ rest → place + rest ≤ length c → StandAt place more c
+      → fault_of g number (take (record_window b) more) ≡ fault_of g number (take rest (drop place c))
+  found_fault g number place rest c enough within fits stands =
+      says_same place rest more c stands within g number (record_window b) fits enough (omega (arith, enough)) (sym window_later)
+
+-- where the log ends before the record, or before its head
+module _ (place rest : ℕ) (b c : List ℕ) (stands : StandAt place b c) (within : length b ≤ rest) (fits : place + rest ≤ length c) where
+  rest_long : length (take rest (drop place c)) ≡ rest
+  rest_long = length-take-le rest (drop place c) (omega (arith, fits, length-drop place c))
+
+  pub no_head : (g : Geometry) (number : ℕ) → rest < 20 → fault_of g number (take rest (drop place c)) ≡ Some (Short 0)
+  no_head g number short = short_head g number (take rest (drop place c)) (omega (arith, rest_long, short))
+
+  pub no_body : (g : Geometry) (number : ℕ) → 20 ≤ length b → rest < record_window b → fault_of g number (take rest (drop place c)) ≡ Some (Short 8)
+  no_body g number long short =
+      let window = window_same place rest b c stands within (omega (arith, long)) in
+      short_body g number (take rest (drop place c)) (omega (arith, rest_long, within, long)) (omega (arith, rest_long, window, short))
+
+-- ---- the record of a log
+
+module _ (a log : Extent) (same : a ≡ log) (n : ℕ) (used : n ≡ a.used) where
+  pub damaged_here : (g : Geometry) (at cause : ℕ) (c : List ℕ) → IsDamaged g (a.place + n) (a.room - a.used) (a.last + 1) at cause c → IsDamaged g (next_place log) (log.room - log.used) (log.last + 1) at cause c
+  damaged_here g at cause c is =
+      subst (λ (e : Extent). IsDamaged g (next_place e) (e.room - e.used) (e.last + 1) at cause c) same
+      (subst (λ (k : ℕ). IsDamaged g (a.place + k) (a.room - a.used) (a.last + 1) at cause c) used is)
+
+  pub stands_here : (bytes c : List ℕ) → StandAt (a.place + n) bytes c → StandAt (next_place log) bytes c
+  stands_here bytes c stands =
+      subst (λ (e : Extent). StandAt (next_place e) bytes c) same (subst (λ (k : ℕ). StandAt (a.place + k) bytes c) used stands)

@@ -1,0 +1,7 @@
+pub mod Appends
+pub mod Counts
+pub mod Finds
+pub mod Groups
+pub mod Offsets
+pub mod Pieces
+pub mod Puts

@@ -1,0 +1,42 @@
+-- Bytes of an image that are read piece by piece.
+use Rattle.std.proofs.Common.{◌≡◌, ◌≤◌, ◌+◌, ◌-◌, ℕ, List, ◌++◌, Option, Some, Result, Ok, Err, OnOk, OnErr, length, take, drop, refl, sym, ◌∙◌, ap, arith, length-drop, subst}
+use Rattle.std.specs.List.{slice_range}
+use Rattle.std.proofs.lemmas.List.{drop-drop, drop-take, length-take-le, take-take}
+use Rattle.iso_image.proofs.Logs.{take-plus}
+use Rattle.iso_log.specs.Scan.{StandAt}
+
+-- one piece more
+pub stand_more : (place have want : ℕ) (old new c : List ℕ) → length old ≡ have → have ≤ want → place + want ≤ length c → StandAt place old c
+    → new ≡ old ++ slice_range c (place + have) (place + have + (want - have)) → StandAt place new c
+stand_more place have want old new c count le fits stands is =
+    let front : old ≡ take have (drop place c) = stands ∙ ap (λ (n : ℕ). take n (drop place c)) count in
+    let more : place + have + (want - have) - (place + have) ≡ want - have = omega arith in
+    let all : have + (want - have) ≡ want = omega arith in
+    let behind : slice_range c (place + have) (place + have + (want - have)) ≡ take (want - have) (drop have (drop place c)) =
+    ap (λ (n : ℕ). take n (drop (place + have) c)) more ∙ ap (take (want - have)) (sym (drop-drop have place c)) in
+    let whole : new ≡ take want (drop place c) =
+    is ∙ (λ i. front i ++ behind i) ∙ sym (take-plus have (want - have) (drop place c) (omega (arith, length-drop place c))) ∙ ap (λ (n : ℕ). take n (drop place c)) all in
+    let size : length new ≡ want = ap length whole ∙ length-take-le want (drop place c) (omega (arith, length-drop place c)) in
+    whole ∙ ap (λ (n : ℕ). take n (drop place c)) (sym size)
+
+-- what stood there and one piece more, or where it was not read, what stood there
+pub stand_either : {T E : Type 0} (read : Result T E) (contents : Option (List ℕ)) (place at want : ℕ) (first old new c : List ℕ) → contents ≡ Some c → StandAt place first c → first ≡ old → at ≡ place + length old
+    → length old ≤ want → place + want ≤ length c
+    → OnOk read ((d : List ℕ) → contents ≡ Some d → new ≡ old ++ slice_range d at (at + (want - length old))) → OnErr read (new ≡ old) → StandAt place new c
+stand_either (Ok x) contents place at want first old new c told stands same start le fits more kept =
+    stand_more place (length old) want old new c refl le fits (subst (λ (l : List ℕ). StandAt place l c) same stands)
+    (more c told ∙ (λ i. old ++ slice_range c (start i) (start i + (want - length old))))
+stand_either (Err e) contents place at want first old new c told stands same start le fits more kept = subst (λ (l : List ℕ). StandAt place l c) (same ∙ sym kept) stands
+
+-- the front of what stands there
+pub stand_front : (place n : ℕ) (bytes c : List ℕ) → n ≤ length bytes → StandAt place bytes c → StandAt place (take n bytes) c
+stand_front place n bytes c le stands =
+    ap (take n) stands ∙ take-take n (length bytes) (drop place c) le ∙ ap (λ (k : ℕ). take k (drop place c)) (sym (length-take-le n bytes le))
+
+-- what stands behind it
+pub stand_behind : (place n : ℕ) (bytes c : List ℕ) → n ≤ length bytes → StandAt place bytes c → StandAt (place + n) (drop n bytes) c
+stand_behind place n bytes c le stands =
+    let far : length bytes ≡ n + (length bytes - n) = omega arith in
+    let left : length (drop n bytes) ≡ length bytes - n = length-drop n bytes in
+    ap (drop n) (stands ∙ ap (λ (k : ℕ). take k (drop place c)) far) ∙ drop-take n (length bytes - n) (drop place c)
+    ∙ ap (take (length bytes - n)) (drop-drop n place c) ∙ ap (λ (k : ℕ). take k (drop (place + n) c)) (sym left)

@@ -1,0 +1,14 @@
+use Rattle.std.proofs.Common.{◌≡◌, ◌++◌, ◌+◌, ◌≤◌, [], ◌∷◌, ℕ, List, length}
+use Rattle.iso_model.specs.declared.access.Geometry.{Geometry}
+use Rattle.iso_model.specs.Image.{Written, records}
+use Rattle.iso_log.proofs.Counts.{AreLeft}
+use Rattle.iso_log.proofs.count.count_records.Given as goal
+
+abbrev pub invariant-loop-rest : goal.invariant-loop-rest
+invariant-loop-rest l = record {
+  left : (g : Geometry) (n : ℕ) (more : List Written) → l.fn.bytes ≡ records g n more ++ 0 ∷ [] → AreLeft g n more l.count l.rest;
+  within : l.count + length l.rest ≤ length l.fn.bytes;
+}
+
+abbrev pub decreases-loop-rest : goal.decreases-loop-rest
+decreases-loop-rest l = length l.rest

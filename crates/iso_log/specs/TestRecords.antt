@@ -1,0 +1,11 @@
+-- The image and the record of the tests.
+use Rattle.std.specs.Prelude.{List, [], ◌∷◌}
+use Rattle.iso_model.specs.declared.access.Geometry.{Geometry}
+use Rattle.iso_model.specs.declared.access.Mode.TheVariants.{Serial}
+use Rattle.iso_model.specs.declared.access.Run.{Run}
+
+abbrev pub small : Geometry
+small = record { block = 64; blocks = 4; log = 256; mode = Serial; hash = 0; tree = 0; form = 1 }
+
+abbrev pub put : List Run
+put = record { block = 2; off = 5; bytes = 171 ∷ 205 ∷ [] } ∷ []

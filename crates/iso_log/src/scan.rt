@@ -1,0 +1,75 @@
+// The next record of a log, found in the bytes that are read ahead.
+ghost use Rattle.std.specs.Prelude.{◌≡◌, ◌+◌, ◌^◌, ◌≤◌, ◌<◌, None, Some, ℕ, length, take, IfOk, IfSome, IsErrOf, IsTrue};
+ghost use Rattle.std.specs.Option.{ForSome};
+ghost use Rattle.iso_model.specs.Geometry.{is_valid};
+ghost use Rattle.iso_disk.specs.Disk.{WritesNothing};
+ghost use Rattle.commit_gate.specs.Gate.{IsClosed};
+ghost use Rattle.iso_format.specs.Faults.{offset_of, test_number};
+ghost use Rattle.iso_log.specs.Cause.{BlamesDisk};
+ghost use Rattle.iso_log.specs.Scan.{IsDamaged, IsFirst, IsNextRecord, StandAt};
+
+use crate::ahead::ReadAhead;
+use crate::log_error::LogError;
+use iso_disk::Disk;
+use iso_format::{FormatError, read_record, record_window};
+use iso_model::Geometry;
+
+// How many bytes of a record come before its parts.
+const HEAD: u32 = 20;
+
+// The answer where a record that stands at this place fails a test.
+fn damaged(gate: u64, fault: FormatError) -> LogError
+    requires { gate + offset_of fault < 2 ^ 64 }
+    ensures { result ≡ LogError.Damaged (gate + offset_of fault) (test_number fault) }
+{
+    LogError::Damaged {
+        at: gate + fault.offset(),
+        cause: fault.number(),
+    }
+}
+
+/// Finds the record at a gate, where so many bytes of the log are left. It answers how many bytes it has, the gate behind it
+/// among them, and none where the gate is closed.
+pub fn find_record<D: Disk>(
+    disk: &mut D,
+    gate: u64,
+    rest: u32,
+    geometry: &Geometry,
+    number: u64,
+    ahead: &mut ReadAhead,
+) -> Result<Option<u32>, LogError>
+    requires fits { gate + rest ≤ (D.state disk.old).size }
+    requires some { 1 ≤ rest }
+    requires valid { IsTrue (is_valid geometry.now) }
+    requires within { length ahead.old ≤ rest }
+    requires ahead { ForSome (D.state disk.old).contents (StandAt gate ahead.old) }
+    ensures closed { IfOk result (λ found. found ≡ None → ForSome (D.state disk.old).contents (IsClosed gate)) }
+    ensures found { IfOk result (λ found. IfSome found (λ n. (n ≤ length ahead.new) × IsNextRecord geometry.now number (take n ahead.new))) }
+    ensures first { IfOk result (λ found. IfSome found (λ n. ForSome (D.state disk.old).contents (IsFirst geometry.now gate rest number))) }
+    ensures damaged { (at cause : ℕ) → IsErrOf result (LogError.Damaged at cause) → ForSome (D.state disk.old).contents (IsDamaged geometry.now gate rest number at cause) }
+    ensures within { length ahead.new ≤ rest }
+    ensures ahead { ForSome (D.state disk.old).contents (StandAt gate ahead.new) }
+    ensures unwritten { WritesNothing (D.state disk.old) (D.state disk.new) }
+    ensures cause { BlamesDisk (D.state disk.old).faults (D.state disk.new).faults result }
+    ensures not_full { (need free : ℕ) → IsErrOf result (LogError.LogFull need free) → ⊥ }
+{
+    ahead.ask(disk, gate, rest.min(HEAD), rest)?;
+    let bytes = ahead.as_slice();
+    if bytes[0] != 1 {
+        return Ok(None);
+    }
+    if rest < HEAD {
+        return Err(damaged(gate, FormatError::Short(0)));
+    }
+    let window = record_window(bytes);
+    if u64::from(rest) < window {
+        return Err(damaged(gate, FormatError::Short(8)));
+    }
+    let window = window as u32;
+    ahead.ask(disk, gate, window, rest)?;
+    let (record, _) = ahead.as_slice().split_at(window as usize);
+    match read_record(record, geometry, number) {
+        Ok(_) => Ok(Some(window)),
+        Err(fault) => Err(damaged(gate, fault)),
+    }
+}
