@@ -1,12 +1,13 @@
 -- Extents that rise and do not touch.
-use Rattle.std.proofs.Common.{◌≡◌, refl, ◌∙◌, ap, ℕ, ◌+◌, ◌-◌, ◌<◌, ◌≤◌, Bool, true, false, ◌&&◌, ◌||◌, max, map, inl, inr, List, [], ◌∷◌, ◌++◌, arith, nat_le, nat_lt}
+use Rattle.std.proofs.Common.{◌≡◌, refl, ◌∙◌, ap, sym, ℕ, ◌+◌, ◌-◌, ◌<◌, ◌≤◌, Bool, true, false, ◌&&◌, ◌||◌, max, map, inl, inr, List, [], ◌∷◌, ◌++◌, arith, nat_le, nat_lt}
+use Rattle.std.proofs.Math.Bool.{and_comm, and-false, or-false}
 use Rattle.std.proofs.lemmas.Bool.Decides.{nat_tests}
 use Rattle.std.proofs.lemmas.List.Folds.{list_any-append}
 use Rattle.std.specs.List.{list_any}
 use Rattle.byte_marks.specs.declared.extent.Extent.{Extent}
-use Rattle.std.proofs.lemmas.Bool.{cases_lt}
+use Rattle.std.proofs.lemmas.Bool.{and_left, and_right, cases_lt}
 use Rattle.iso_model.specs.Array.{in_span}
-use Rattle.byte_marks.specs.Marks.{has, in_extent, span_of, AreApartFrom, AreRunsFrom}
+use Rattle.byte_marks.specs.Marks.{has, in_extent, next_free, span_of, AreApartFrom, AreRunsFrom}
 
 -- they rise from any earlier byte on too
 pub earlier : (f g : ℕ) (xs : List Extent) → f ≤ g → AreApartFrom g xs → AreApartFrom f xs
@@ -24,11 +25,6 @@ none_before f p (x ∷ xs) lt apart =
     before : (f p : ℕ) (x : Extent) → p < f → f ≤ x.from → in_extent p x ≡ false
     before f p x lt le = grind (arith, nat_tests)
 
--- the first byte from which on a further extent may begin
-abbrev pub next_free : ℕ → List Extent → ℕ
-next_free f [] = f
-next_free f (x ∷ xs) = next_free (x.to + 1) xs
-
 pub AreApartFrom-append : (f : ℕ) (xs : List Extent) (x : Extent) → AreApartFrom f xs → next_free f xs ≤ x.from → x.from < x.to → x.to ≤ 4096
     → AreApartFrom f (xs ++ x ∷ [])
 AreApartFrom-append f [] x apart le some inside = (le, some, inside, tt)
@@ -38,6 +34,11 @@ pub next_free-append : (f : ℕ) (xs : List Extent) (x : Extent) → next_free f
 next_free-append f [] x = refl
 next_free-append f (y ∷ ys) x = next_free-append (y.to + 1) ys x
 
+-- the last of them ends in a block too
+pub last_inside : (f : ℕ) (xs : List Extent) (x : Extent) → AreApartFrom f (xs ++ x ∷ []) → x.to ≤ 4096
+last_inside f [] x apart = apart.2
+last_inside f (y ∷ ys) x apart = last_inside (y.to + 1) ys x apart.3
+
 -- two extents that touch have the bytes of one
 pub joined_has : (a b c d p : ℕ) → a ≤ c → c ≤ b → c < d
     → (nat_le a p && nat_lt p (max b d)) ≡ ((nat_le a p && nat_lt p b) || (nat_le c p && nat_lt p d))
@@ -46,37 +47,26 @@ joined_has a b c d p order touch some = grind (arith, nat_tests)
 -- an extent meets none of those that begin after it
 pub meets_none : (p : ℕ) (x : Extent) (ys : List Extent) → AreApartFrom x.to ys → (in_extent p x && has ys p) ≡ false
 meets_none p x ys apart = elim (cases_lt p x.to) [
-  | inl lt ↦
-      (let later : has ys p ≡ false = none_before x.to p ys lt apart in
-      rw later (and_false_right (in_extent p x)))
-  | inr le ↦
-      (let here : in_extent p x ≡ false = past p x le in
-      rw here refl)
+  | inl lt ↦ and_right (in_extent p x) (has ys p) (none_before x.to p ys lt apart)
+  | inr le ↦ and_left (in_extent p x) (has ys p) (past p x le)
 ]
   where
     past : (p : ℕ) (x : Extent) → x.to ≤ p → in_extent p x ≡ false
     past p x le = grind (arith, nat_tests)
 
-    and_false_right : (b : Bool) → (b && false) ≡ false
-    and_false_right true = refl
-    and_false_right false = refl
+-- what a set does not meet may be left out of the other
+pub leave_out : (a b c : Bool) → (a && c) ≡ false → ((a || b) && c) ≡ (b && c)
+leave_out true true true apart = absurd (cc)
+leave_out true false true apart = absurd (cc)
+leave_out true b false apart = sym (and-false b)
+leave_out false b c apart = refl
 
 -- so it may be passed over
 pub pass_over : (p : ℕ) (x : Extent) (xs ys : List Extent) → AreApartFrom x.to ys → (has (x ∷ xs) p && has ys p) ≡ (has xs p && has ys p)
-pass_over p x xs ys apart = split (in_extent p x) (has xs p) (has ys p) (meets_none p x ys apart)
-  where
-    split : (a b c : Bool) → (a && c) ≡ false → ((a || b) && c) ≡ (b && c)
-    split true true c h = refl
-    split true false c h = h
-    split false b c h = refl
+pass_over p x xs ys apart = leave_out (in_extent p x) (has xs p) (has ys p) (meets_none p x ys apart)
 
 pub pass_over_right : (p : ℕ) (y : Extent) (xs ys : List Extent) → AreApartFrom y.to xs → (has xs p && has (y ∷ ys) p) ≡ (has xs p && has ys p)
-pass_over_right p y xs ys apart = split (in_extent p y) (has ys p) (has xs p) (meets_none p y xs apart)
-  where
-    split : (a b c : Bool) → (a && c) ≡ false → (c && (a || b)) ≡ (c && b)
-    split true b true h = absurd (cc)
-    split true b false h = refl
-    split false b c h = refl
+pass_over_right p y xs ys apart = and_comm (has xs p) (has (y ∷ ys) p) ∙ pass_over p y ys xs apart ∙ and_comm (has ys p) (has xs p)
 
 -- they rise from where the first of them begins on
 pub from_head : (f g : ℕ) (x : Extent) (xs : List Extent) → AreApartFrom f (x ∷ xs) → g ≤ x.from → AreApartFrom g (x ∷ xs)
@@ -102,18 +92,10 @@ has_of_spans f p (x ∷ xs) apart =
 
 -- one more extent at the end
 pub has-append : (p : ℕ) (xs : List Extent) (x : Extent) → has (xs ++ x ∷ []) p ≡ (has xs p || in_extent p x)
-has-append p xs x = list_any-append (in_extent p) xs (x ∷ []) ∙ ap (λ b. has xs p || b) (or_false (in_extent p x))
-  where
-    or_false : (b : Bool) → (b || false) ≡ b
-    or_false true = refl
-    or_false false = refl
+has-append p xs x = list_any-append (in_extent p) xs (x ∷ []) ∙ ap (λ b. has xs p || b) (or-false (in_extent p x))
 
 -- a further extent that is counted to the open one in place of the rest
 pub regroup : (o e n r : Bool) → ((o || (e || n)) || r) ≡ ((o || e) || (n || r))
 regroup true e n r = refl
 regroup false true n r = refl
 regroup false false n r = refl
-
-pub or_assoc : (a b c : Bool) → ((a || b) || c) ≡ (a || (b || c))
-or_assoc true b c = refl
-or_assoc false b c = refl

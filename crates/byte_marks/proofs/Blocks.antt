@@ -1,8 +1,10 @@
 -- Entries whose blocks rise.
-use Rattle.std.proofs.Common.{◌≡◌, ◌≢◌, refl, sym, ap, subst, ℕ, zero, suc, ◌+◌, ◌<◌, ◌≤◌, Bool, true, false, ◌&&◌, ◌||◌, ◌==◌, inl, inr, List, [], ◌∷◌, ◌++◌, length, get_or, set, take, drop, arith, ne_eqb}
-use Rattle.std.proofs.lemmas.Bool.{cases_eq}
+use Rattle.std.proofs.Common.{◌≡◌, ◌≢◌, refl, ◌∙◌, sym, ap, subst, ℕ, zero, suc, ◌+◌, ◌<◌, ◌≤◌, Bool, true, false, ◌&&◌, ◌||◌, ◌==◌, inl, inr, List, [], ◌∷◌, ◌++◌, length, get_or, set, take, drop, arith, ne_eqb}
+use Rattle.std.proofs.Math.Bool.{and_comm}
+use Rattle.std.proofs.lemmas.Bool.{and_left, and_right, cases_eq}
 use Rattle.byte_marks.specs.declared.extent.Extent.{Extent}
 use Rattle.byte_marks.specs.Marks.{has}
+use Rattle.byte_marks.proofs.Apart.{leave_out}
 use Rattle.byte_marks.specs.Touched.{entry_has, touches, RisesFrom}
 
 -- they rise from any earlier block on too
@@ -25,35 +27,18 @@ none_before_block f b p (e ∷ es) lt rises =
 -- an entry meets none of those of later blocks
 pub entry_meets_none : (b p : ℕ) (e : ℕ × List Extent) (es : List (ℕ × List Extent)) → RisesFrom (e.0 + 1) es → (entry_has b p e && touches es b p) ≡ false
 entry_meets_none b p e es rises = elim (cases_eq e.0 b) [
-  | inl same ↦
-      (let later : touches es b p ≡ false = none_before_block (e.0 + 1) b p es (omega arith) rises in
-      rw later (and_false_right (entry_has b p e)))
-  | inr other ↦
-      (let here : entry_has b p e ≡ false = other_block b p e other in
-      rw here refl)
+  | inl same ↦ and_right (entry_has b p e) (touches es b p) (none_before_block (e.0 + 1) b p es (omega arith) rises)
+  | inr other ↦ and_left (entry_has b p e) (touches es b p) (other_block b p e other)
 ]
-  where
-    and_false_right : (x : Bool) → (x && false) ≡ false
-    and_false_right true = refl
-    and_false_right false = refl
 
 pub pass_entry : (b p : ℕ) (e : ℕ × List Extent) (es fs : List (ℕ × List Extent)) → RisesFrom (e.0 + 1) fs
     → (touches (e ∷ es) b p && touches fs b p) ≡ (touches es b p && touches fs b p)
-pass_entry b p e es fs rises = split (entry_has b p e) (touches es b p) (touches fs b p) (entry_meets_none b p e fs rises)
-  where
-    split : (x y z : Bool) → (x && z) ≡ false → ((x || y) && z) ≡ (y && z)
-    split true true z h = refl
-    split true false z h = h
-    split false y z h = refl
+pass_entry b p e es fs rises = leave_out (entry_has b p e) (touches es b p) (touches fs b p) (entry_meets_none b p e fs rises)
 
 pub pass_entry_right : (b p : ℕ) (e : ℕ × List Extent) (es fs : List (ℕ × List Extent)) → RisesFrom (e.0 + 1) es
     → (touches es b p && touches (e ∷ fs) b p) ≡ (touches es b p && touches fs b p)
-pass_entry_right b p e es fs rises = split (entry_has b p e) (touches fs b p) (touches es b p) (entry_meets_none b p e es rises)
-  where
-    split : (x y z : Bool) → (x && z) ≡ false → (z && (x || y)) ≡ (z && y)
-    split true y true h = absurd (cc)
-    split true y false h = refl
-    split false y z h = refl
+pass_entry_right b p e es fs rises =
+    and_comm (touches es b p) (touches (e ∷ fs) b p) ∙ pass_entry b p e fs es rises ∙ and_comm (touches fs b p) (touches es b p)
 
 -- two entries of one block that do not meet may both be passed over
 pub pass_both : (b p : ℕ) (x y : ℕ × List Extent) (xs ys : List (ℕ × List Extent)) → (has x.1 p && has y.1 p) ≡ false

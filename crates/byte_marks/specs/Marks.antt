@@ -21,6 +21,11 @@ abbrev pub AreApartFrom : ℕ → List Extent → Type 0
 AreApartFrom from [] = Unit {0}
 AreApartFrom from (extent ∷ extents) = (from ≤ extent.from) × (extent.from < extent.to) × (extent.to ≤ 4096) × AreApartFrom (extent.to + 1) extents
 
+-- the first byte from which on one more extent may stand behind these, which stand from `from` on
+abbrev pub next_free : ℕ → List Extent → ℕ
+next_free from [] = from
+next_free from (extent ∷ extents) = next_free (extent.to + 1) extents
+
 -- the span of the same bytes
 abbrev pub span_of : Extent → Span
 span_of extent = record { off = extent.from; len = extent.to - extent.from }

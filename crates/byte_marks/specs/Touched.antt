@@ -1,8 +1,11 @@
 -- What contracts see of `Touched`: a set of bytes for each block.
-use Rattle.std.specs.Prelude.{ℕ, ◌+◌, ◌≤◌, ◌==◌, ◌&&◌, Bool, List, [], ◌∷◌}
+use Rattle.std.specs.Prelude.{◌≡◌, ℕ, ◌+◌, ◌≤◌, ◌==◌, ◌&&◌, Bool, List, [], ◌∷◌, nat_lt}
 use Rattle.std.specs.List.{list_any}
 use Rattle.byte_marks.specs.declared.extent.Extent.{Extent}
 use Rattle.byte_marks.specs.Marks.{has}
+use Rattle.iso_model.specs.declared.access.Access.{Access}
+use Rattle.iso_model.specs.declared.access.Kind.{Kind}
+use Rattle.iso_model.specs.Effect as model
 
 -- whether the entry has the byte p of block b
 abbrev pub entry_has : (b p : ℕ) → ℕ × List Extent → Bool
@@ -16,3 +19,7 @@ touches entries b p = list_any (entry_has b p) entries
 abbrev pub RisesFrom : ℕ → List (ℕ × List Extent) → Type 0
 RisesFrom from [] = Unit {0}
 RisesFrom from (entry ∷ entries) = (from ≤ entry.0) × RisesFrom (entry.0 + 1) entries
+
+-- the bytes that accesses of this kind cover, in an array of so many blocks of this size
+pub record AreTouched (size blocks : ℕ) (kind : Kind) (accesses : List Access) (entries : List (ℕ × List Extent)) : Type 0 where
+  pub is : (b p : ℕ) → touches entries b p ≡ (nat_lt b blocks && nat_lt p size && model.touches kind accesses b p)

@@ -8,7 +8,7 @@ ghost use Rattle.byte_marks.specs.Marks.{has, run_count, AreApartFrom, AreRuns};
 use crate::SpanIter;
 use crate::extent::Extent;
 use crate::meet::{has_all, least_common};
-use crate::merge::{Extents, merged};
+use crate::merge::{Extents, merged, next_free};
 use iso_model::{Memory, Span};
 use smallvec::SmallVec;
 use std::alloc::Global;
@@ -49,12 +49,19 @@ impl Marks {
         requires inside { span.off + span.len ≤ 4096 }
         ensures set { OnOk result ((p : ℕ) → has self.new p ≡ (has self.old p || in_span p span)) }
         ensures err { OnErr result (self.new ≡ self.old) }
+        ensures count { run_count self.new ≤ run_count self.old + 1 }
         ensures full { OnErr result (8 ≤ run_count self.old) }
     {
         let added = Extent {
             from: span.off,
             to: span.off + span.len,
         };
+        let places = self.extents.capacity();
+        prove!(places >= 8);
+        if next_free(self.extents.as_slice()) <= added.from {
+            self.extents.push(added)?;
+            return Ok(());
+        }
         self.extents = merged(*self.extents.allocator(), self.extents.as_slice(), &[added])?;
         Ok(())
     }
@@ -63,6 +70,7 @@ impl Marks {
     pub fn union(&mut self, other: &Marks) -> Result<(), Memory>
         ensures set { OnOk result ((p : ℕ) → has self.new p ≡ (has self.old p || has other.now p)) }
         ensures err { OnErr result (self.new ≡ self.old) }
+        ensures count { run_count self.new ≤ run_count self.old + run_count other.now }
         ensures full { OnErr result (8 < run_count self.old + run_count other.now) }
     {
         self.extents = merged(

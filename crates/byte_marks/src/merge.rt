@@ -1,6 +1,6 @@
 // Two rising lists of extents walked side by side.
 ghost use Rattle.std.specs.Prelude.{◌≡◌, ℕ, ◌+◌, ◌<◌, ◌≤◌, ◌||◌, false, IfOk, OnErr, IfSome, IfNone, length};
-ghost use Rattle.byte_marks.specs.Marks.{has, in_extent, AreApartFrom};
+ghost use Rattle.byte_marks.specs.Marks.{has, in_extent, next_free, AreApartFrom};
 
 use crate::extent::Extent;
 use iso_model::Memory;
@@ -9,6 +9,17 @@ use std::alloc::Global;
 
 /// Extents of which eight stand in the value itself.
 pub type Extents = SmallVec<Extent, 8>;
+
+/// The first byte from which on one more run may stand behind them.
+pub fn next_free(extents: &[Extent]) -> u16
+    requires { AreApartFrom 0 extents.now }
+    ensures { result ≡ next_free 0 extents.now }
+{
+    match extents.split_last() {
+        Some((last, _)) => last.to + 1,
+        None => 0,
+    }
+}
 
 #[tactic(auto, using(crate::proofs::Apart::earlier))]
 // The extent that begins first, and what is left of the two lists.
@@ -47,6 +58,7 @@ pub fn merged<'a>(
     requires b { AreApartFrom 0 b.now }
     ensures set { IfOk result (λ r. (p : ℕ) → has r.items p ≡ (has a.entry.now p || has b.entry.now p)) }
     ensures apart { IfOk result (λ r. AreApartFrom 0 r.items) }
+    ensures count { IfOk result (λ r. length r.items ≤ length a.entry.now + length b.entry.now) }
     ensures full { OnErr result (8 < length a.entry.now + length b.entry.now) }
 {
     let mut out = SmallVec::new(alloc);

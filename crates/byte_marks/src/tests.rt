@@ -1,4 +1,4 @@
-ghost use Rattle.std.specs.Prelude.{◌≡◌};
+ghost use Rattle.std.specs.Prelude.{◌≡◌, ◌≤◌};
 
 use crate::{Marks, Touched};
 use iso_model::Span;
@@ -85,6 +85,45 @@ fn ninth_run_goes_to_the_heap(rt: HostRuntime) -> Result<(), Fail> {
         (4095, 1),
     ];
     expect_runs(&rt, alloc, nine.as_slice(), nine.as_slice())
+}
+
+// Ten runs of 100 bytes, the first at `from`, each 400 bytes after the one before.
+fn ten_runs(alloc: Global, from: u16) -> Result<Marks, Fail>
+    requires { from ≤ 300 }
+{
+    let mut marks = Marks::empty(alloc);
+    for k in 0..10u16 {
+        marks.add(Span {
+            off: 400 * k + from,
+            len: 100,
+        })?;
+    }
+    Ok(marks)
+}
+
+#[test]
+fn union_of_more_than_eight_runs(rt: HostRuntime) -> Result<(), Fail> {
+    let alloc = rt.alloc();
+    let mut marks = ten_runs(alloc, 0)?;
+    marks.union(&ten_runs(alloc, 200)?)?;
+    let mut at = 0u16;
+    for run in marks.spans() {
+        assert!(&rt; run.off == at && run.len == 100);
+        at = at.saturating_add(200);
+    }
+    assert_eq!(&rt; at, 4000);
+    Ok(())
+}
+
+#[test]
+fn block_with_no_byte_is_empty(rt: HostRuntime) -> Result<(), Fail> {
+    let alloc = rt.alloc();
+    let mut touched = Touched::empty(alloc);
+    touched.add(7, &Marks::empty(alloc))?;
+    assert!(rt; touched.is_empty());
+    touched.add(7, &ten_runs(alloc, 0)?)?;
+    assert!(rt; !touched.is_empty());
+    Ok(())
 }
 
 #[test]

@@ -1,5 +1,6 @@
 // A set of bytes for each block.
 ghost use Rattle.std.specs.Prelude.{◌≡◌, ℕ, ◌+◌, ◌<◌, ◌≤◌, ◌==◌, ◌||◌, ◌&&◌, false, IsTrue, IfOk, OnOk, OnErr, IfSome, IfNone, List, length, slice_index_or};
+ghost use Rattle.std.specs.Bool.{OnTrue, OnFalse};
 ghost use Rattle.byte_marks.specs.declared.extent.Extent.{Extent};
 ghost use Rattle.byte_marks.specs.Marks.{has};
 ghost use Rattle.byte_marks.specs.Touched.{touches, RisesFrom};
@@ -70,6 +71,15 @@ impl Touched {
         Touched {
             entries: Vec::new(alloc),
         }
+    }
+
+    /// Whether no byte of any block is touched.
+    pub fn is_empty(&self) -> bool
+        ensures none { OnTrue result ((b p : ℕ) → touches self.now b p ≡ false) }
+        ensures some { OnFalse result ((b : ℕ) × (p : ℕ) × IsTrue (touches self.now b p)) }
+    {
+        // A block may stand there with no byte, so the list alone does not tell.
+        self.first_meet(self).is_none()
     }
 
     /// Adds bytes of a block. Without memory all stays as it is.

@@ -12,7 +12,7 @@ use Rattle.std.proofs.lemmas.Simd.{length-zip2, get_or-zip2, length-sel_l, get_o
 
 -- the bit of each lane
 abbrev pub lane_bits : List ℕ
-lane_bits = map (λ k. 2 ^ (k % 8)) (range_with_len 0 32)
+lane_bits = map (λ k. 2 ^ (k % 8)) (range_with_len 0 64)
 
 -- the lanes whose bit is set
 abbrev pub chosen : List ℕ → List Bool
@@ -23,39 +23,39 @@ bit_eq zero p small some = let e : zero * p ≡ 0 = omega arith in rw e (grind (
 bit_eq (suc zero) p small some = let e : suc zero * p ≡ p = omega arith in rw e (grind (arith, common_steps))
 bit_eq (suc (suc b)) p small some = absurd (omega arith)
 
-length-chosen : (masks : List ℕ) → length masks ≡ 32 → length (chosen masks) ≡ 32
+length-chosen : (masks : List ℕ) → length masks ≡ 64 → length (chosen masks) ≡ 64
 length-chosen masks long =
-    let inner : length (zip2 bit_and masks lane_bits) ≡ 32 = length-zip2 bit_and masks lane_bits long ∙ long in
+    let inner : length (zip2 bit_and masks lane_bits) ≡ 64 = length-zip2 bit_and masks lane_bits long ∙ long in
     length-zip2 eqb (zip2 bit_and masks lane_bits) lane_bits inner ∙ inner
 
-chosen_at : (masks : List ℕ) (k : ℕ) → length masks ≡ 32 → k < 32 → get_or (chosen masks) k false ≡ eqb (bit_at (get_or masks k 0) (k % 8)) 1
+chosen_at : (masks : List ℕ) (k : ℕ) → length masks ≡ 64 → k < 64 → get_or (chosen masks) k false ≡ eqb (bit_at (get_or masks k 0) (k % 8)) 1
 chosen_at masks k long below =
-    let inner : length (zip2 bit_and masks lane_bits) ≡ 32 = length-zip2 bit_and masks lane_bits long ∙ long in
-    let bit : get_or lane_bits k 0 ≡ 2 ^ (k % 8) = get_or-map-range_with_len (λ k. 2 ^ (k % 8)) 0 32 k k 0 below (omega arith) in
+    let inner : length (zip2 bit_and masks lane_bits) ≡ 64 = length-zip2 bit_and masks lane_bits long ∙ long in
+    let bit : get_or lane_bits k 0 ≡ 2 ^ (k % 8) = get_or-map-range_with_len (λ k. 2 ^ (k % 8)) 0 64 k k 0 below (omega arith) in
     get_or-zip2 eqb (zip2 bit_and masks lane_bits) lane_bits k 0 0 false (omega arith) below
     ∙ ap (λ (a : ℕ). eqb a (get_or lane_bits k 0)) (get_or-zip2 bit_and masks lane_bits k 0 0 0 (omega arith) below)
     ∙ ap (λ (b : ℕ). eqb (bit_and (get_or masks k 0) b) b) bit
     ∙ ap (λ (a : ℕ). eqb a (2 ^ (k % 8))) (and_pow (get_or masks k 0) (k % 8))
     ∙ bit_eq (bit_at (get_or masks k 0) (k % 8)) (2 ^ (k % 8)) (bit_at-lt (get_or masks k 0) (k % 8)) (pow_pos (k % 8))
 
--- what a step of 32 lanes writes
-pub length-selected : (at : ℕ) (masks values into : List ℕ) → length masks ≡ 32 → at + 32 ≤ length values → at + 32 ≤ length into
-    → length (sel_l (chosen masks) (chunk at 32 values) (chunk at 32 into)) ≡ 32
+-- what a step of 64 lanes writes
+pub length-selected : (at : ℕ) (masks values into : List ℕ) → length masks ≡ 64 → at + 64 ≤ length values → at + 64 ≤ length into
+    → length (sel_l (chosen masks) (chunk at 64 values) (chunk at 64 into)) ≡ 64
 length-selected at masks values into long room space =
     let ms = length-chosen masks long in
-    length-sel_l (chosen masks) (chunk at 32 values) (chunk at 32 into) (ms ∙ sym (length-chunk at 32 values room)) (ms ∙ sym (length-chunk at 32 into space)) ∙ ms
+    length-sel_l (chosen masks) (chunk at 64 values) (chunk at 64 into) (ms ∙ sym (length-chunk at 64 values room)) (ms ∙ sym (length-chunk at 64 into space)) ∙ ms
 
-pub selected_at : (at k : ℕ) (masks values into : List ℕ) → length masks ≡ 32 → at + 32 ≤ length values → at + 32 ≤ length into → k < 32
-    → get_or (put_chunk at into (sel_l (chosen masks) (chunk at 32 values) (chunk at 32 into))) (at + k) 0
+pub selected_at : (at k : ℕ) (masks values into : List ℕ) → length masks ≡ 64 → at + 64 ≤ length values → at + 64 ≤ length into → k < 64
+    → get_or (put_chunk at into (sel_l (chosen masks) (chunk at 64 values) (chunk at 64 into))) (at + k) 0
     ≡ cond (eqb (bit_at (get_or masks k 0) (k % 8)) 1) (get_or values (at + k) 0) (get_or into (at + k) 0)
 selected_at at k masks values into long room space below =
     let ms = length-chosen masks long in
-    let vs : length (chunk at 32 values) ≡ 32 = length-chunk at 32 values room in
-    let is : length (chunk at 32 into) ≡ 32 = length-chunk at 32 into space in
+    let vs : length (chunk at 64 values) ≡ 64 = length-chunk at 64 values room in
+    let is : length (chunk at 64 into) ≡ 64 = length-chunk at 64 into space in
     let all = length-selected at masks values into long room space in
-    get_or-put_chunk_at at into (sel_l (chosen masks) (chunk at 32 values) (chunk at 32 into)) k 0 (omega (arith, all)) (omega (arith, all))
-    ∙ get_or-sel_l (chosen masks) (chunk at 32 values) (chunk at 32 into) k 0 (omega (arith, ms)) (omega (arith, vs)) (omega (arith, is))
-    ∙ rw (chosen_at masks k long below, get_or-chunk at 32 values k 0 below, get_or-chunk at 32 into k 0 below) refl
+    get_or-put_chunk_at at into (sel_l (chosen masks) (chunk at 64 values) (chunk at 64 into)) k 0 (omega (arith, all)) (omega (arith, all))
+    ∙ get_or-sel_l (chosen masks) (chunk at 64 values) (chunk at 64 into) k 0 (omega (arith, ms)) (omega (arith, vs)) (omega (arith, is))
+    ∙ rw (chosen_at masks k long below, get_or-chunk at 64 values k 0 below, get_or-chunk at 64 into k 0 below) refl
 
 -- a bit of a byte of a number
 bit_of_byte : (n a i : ℕ) → i < 8 → bit_at (n / 2 ^ a % 256) i ≡ bit_at n (a + i)
@@ -77,22 +77,16 @@ byte_is n (suc (suc (suc (suc (suc (suc (suc zero))))))) below = refl
 byte_is n (suc (suc (suc (suc (suc (suc (suc (suc j)))))))) below = absurd (omega arith)
 
 -- the bit of a lane, in the lanes to which the bytes of a number are spread
-pub spread_bit : (n from k m : ℕ) (f : ℕ → ℕ) → k < 32 → f k < 8 → f k ≡ from + k / 8 → m ≡ 8 * from + k
-    → bit_at (get_or (map (λ k. get_or (to_le_bytes w64 n) (f k) 0) (range_with_len 0 32)) k 0) (k % 8) ≡ bit_at n m
-spread_bit n from k m f below small is at =
-    let e : 8 * f k + k % 8 ≡ m = omega arith in
-    rw (get_or-map-range_with_len (λ k. get_or (to_le_bytes w64 n) (f k) 0) 0 32 k k 0 below (omega arith), byte_is n (f k) small)
+pub spread_bit : (n k : ℕ) (f : ℕ → ℕ) → k < 64 → f k < 8 → f k ≡ k / 8
+    → bit_at (get_or (map (λ k. get_or (to_le_bytes w64 n) (f k) 0) (range_with_len 0 64)) k 0) (k % 8) ≡ bit_at n k
+spread_bit n k f below small is =
+    let e : 8 * f k + k % 8 ≡ k = omega arith in
+    rw (get_or-map-range_with_len (λ k. get_or (to_le_bytes w64 n) (f k) 0) 0 64 k k 0 below (omega arith), byte_is n (f k) small)
     (bit_of_byte n (8 * f k) (k % 8) (omega arith) ∙ ap (bit_at n) e)
 
--- the bytes of a word of masks, spread to the first 32 lanes and to the others
-pub first_lanes : (n k : ℕ) (r : List ℕ) → r ≡ to_le_bytes w64 n → k < 32
-    → bit_at (get_or (map (λ (j : ℕ). get_or (r ++ r) (j / 8) 0) (range_with_len 0 32)) k 0) (k % 8) ≡ bit_at n k
-first_lanes n k r is below =
-    subst (λ (bytes : List ℕ). bit_at (get_or (map (λ (j : ℕ). get_or (bytes ++ bytes) (j / 8) 0) (range_with_len 0 32)) k 0) (k % 8) ≡ bit_at n k) (sym is)
-    (spread_bit n 0 k k (λ (j : ℕ). j / 8) below (omega arith) (omega arith) (omega arith))
-
-pub second_lanes : (n k : ℕ) (r : List ℕ) → r ≡ to_le_bytes w64 n → k < 32
-    → bit_at (get_or (map (λ (j : ℕ). get_or (r ++ r) (4 + j / 8) 0) (range_with_len 0 32)) k 0) (k % 8) ≡ bit_at n (32 + k)
-second_lanes n k r is below =
-    subst (λ (bytes : List ℕ). bit_at (get_or (map (λ (j : ℕ). get_or (bytes ++ bytes) (4 + j / 8) 0) (range_with_len 0 32)) k 0) (k % 8) ≡ bit_at n (32 + k)) (sym is)
-    (spread_bit n 4 k (32 + k) (λ (j : ℕ). 4 + j / 8) below (omega arith) (omega arith) (omega arith))
+-- the bytes of a word of masks, spread to the lanes
+pub lanes_of_word : (n k : ℕ) (r : List ℕ) → r ≡ to_le_bytes w64 n → k < 64
+    → bit_at (get_or (map (λ (j : ℕ). get_or (r ++ r) (j / 8) 0) (range_with_len 0 64)) k 0) (k % 8) ≡ bit_at n k
+lanes_of_word n k r is below =
+    subst (λ (bytes : List ℕ). bit_at (get_or (map (λ (j : ℕ). get_or (bytes ++ bytes) (j / 8) 0) (range_with_len 0 64)) k 0) (k % 8) ≡ bit_at n k) (sym is)
+    (spread_bit n k (λ (j : ℕ). j / 8) below (omega arith) (omega arith))

@@ -1,5 +1,7 @@
+pub mod Bits
 pub mod Chosen
 pub mod Values
 pub mod Words
 pub mod Pieces
 pub mod Effects
+pub mod Growth

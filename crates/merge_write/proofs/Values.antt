@@ -1,8 +1,7 @@
 -- What bytes and masks stand for, place by place, and what setting one byte makes of it.
-use Rattle.std.proofs.Common.{◌≡◌, ◌≢◌, ◌∙◌, sym, refl, ap, ℕ, zero, suc, ◌+◌, ◌*◌, ◌/◌, ◌%◌, ◌^◌, ◌<◌, true, false, cond, List, [], ◌∷◌, length, get_or, set, replicate, Option, Some, None, inl, inr, arith, length-set, get_or-set_same, get_or-set_other, bit_or, w64, slice_index}
-use Rattle.std.proofs.lemmas.Nat.Bits.{bit_at-zero, bit_at_set_same, bit_at_set_other}
-use Rattle.std.proofs.lemmas.List.{ext_get_or}
-use Rattle.std.proofs.lemmas.Bool.{cases_eq}
+use Rattle.std.proofs.Common.{◌≡◌, ◌∙◌, sym, refl, ap, ℕ, zero, suc, ◌+◌, ◌/◌, ◌%◌, ◌<◌, true, false, cond, List, [], ◌∷◌, length, get_or, replicate, Option, Some, None, unwrap_or, Bool, ◌||◌, arith, slice_index}
+use Rattle.std.proofs.lemmas.Nat.Bits.{bit_at-zero}
+use Rattle.iso_model.specs.Effect.{or_else}
 use Rattle.merge_write.specs.Patch.{is_set, values_from}
 
 pub length-values_from : (masks : List ℕ) (p : ℕ) (bytes : List ℕ) → length (values_from masks p bytes) ≡ length bytes
@@ -34,42 +33,41 @@ pub blank_values : (n size p : ℕ) → values_from (replicate n 0) p (replicate
 blank_values n zero p = refl
 blank_values n (suc size) p = rw (none_set n p) (ap (λ (values : List (Option ℕ)). None ∷ values) (blank_values n size (p + 1)))
 
--- the row of masks with one bit more
-abbrev pub with_bit : List ℕ → ℕ → List ℕ
-with_bit masks at = set masks (at / 64) (bit_or (get_or masks (at / 64) 0) (1 * 2 ^ (at % 64) % 18446744073709551616))
+-- new bytes with their bits set are new values, and elsewhere all stays
+pub ranged_values : (masks masks' bytes bytes' : List ℕ) (k new : ℕ) (t : Bool) → k < length bytes → k < length bytes'
+    → is_set masks' k ≡ (t || is_set masks k) → get_or bytes' k 0 ≡ cond t new (get_or bytes k 0)
+    → get_or (values_from masks' 0 bytes') k None ≡ cond t (Some new) (get_or (values_from masks 0 bytes) k None)
+ranged_values masks masks' bytes bytes' k new t inside within bit byte =
+    values_here masks' k bytes' within
+    ∙ rw (bit, byte) (both t (is_set masks k) new (get_or bytes k 0))
+    ∙ ap (λ (v : Option ℕ). cond t (Some new) v) (sym (values_here masks k bytes inside))
+  where
+    both : (t s : Bool) (x y : ℕ) → cond (t || s) (Some (cond t x y)) None ≡ cond t (Some x) (cond s (Some y) None)
+    both true s x y = refl
+    both false s x y = refl
 
-bit_here : (masks : List ℕ) (at : ℕ) → at / 64 < length masks → is_set (with_bit masks at) at ≡ true
-bit_here masks at inside =
-    rw (
-      get_or-set_same masks (at / 64) (bit_or (get_or masks (at / 64) 0) (1 * 2 ^ (at % 64) % 18446744073709551616)) 0 inside,
-      bit_at_set_same w64 (get_or masks (at / 64) 0) (at % 64) (omega arith),
-    ) refl
+-- later bytes laid over the first ones, and the bits of both
+pub followed_values : (masks masks' bytes bytes' later : List ℕ) (others : List ℕ) (k : ℕ) → k < length bytes → k < length bytes' → k < length later
+    → is_set masks' k ≡ (is_set others k || is_set masks k) → get_or bytes' k 0 ≡ unwrap_or (get_or (values_from others 0 later) k None) (get_or bytes k 0)
+    → get_or (values_from masks' 0 bytes') k None ≡ or_else (get_or (values_from others 0 later) k None) (get_or (values_from masks 0 bytes) k None)
+followed_values masks masks' bytes bytes' later others k inside within there bit byte =
+    let now = values_here others k later there in
+    let before = values_here masks k bytes inside in
+    let laid : get_or bytes' k 0 ≡ unwrap_or (cond (is_set others k) (Some (get_or later k 0)) None) (get_or bytes k 0) =
+    byte ∙ ap (λ (v : Option ℕ). unwrap_or v (get_or bytes k 0)) now in
+    values_here masks' k bytes' within
+    ∙ rw (bit, laid) (both (is_set others k) (is_set masks k) (get_or later k 0) (get_or bytes k 0))
+    ∙ ap (λ (v : Option ℕ). or_else v (cond (is_set masks k) (Some (get_or bytes k 0)) None)) (sym now)
+    ∙ ap (λ (v : Option ℕ). or_else (get_or (values_from others 0 later) k None) v) (sym before)
+  where
+    both : (t s : Bool) (x y : ℕ) → cond (t || s) (Some (unwrap_or (cond t (Some x) None) y)) None ≡ or_else (cond t (Some x) None) (cond s (Some y) None)
+    both true s x y = refl
+    both false true x y = refl
+    both false false x y = refl
 
-bit_apart : (masks : List ℕ) (at k : ℕ) → at / 64 < length masks → k ≢ at → is_set (with_bit masks at) k ≡ is_set masks k
-bit_apart masks at k inside apart = elim (cases_eq (k / 64) (at / 64)) [
-  | inl same ↦
-      (let other : k % 64 ≢ at % 64 = λ e. apart (omega arith) in
-      rw (
-        same,
-        get_or-set_same masks (at / 64) (bit_or (get_or masks (at / 64) 0) (1 * 2 ^ (at % 64) % 18446744073709551616)) 0 inside,
-        bit_at_set_other w64 (get_or masks (at / 64) 0) (at % 64) (omega arith) (k % 64) other,
-      ) refl)
-  | inr other ↦ rw (get_or-set_other masks (at / 64) (k / 64) (bit_or (get_or masks (at / 64) 0) (1 * 2 ^ (at % 64) % 18446744073709551616)) 0 other) refl
-]
-
--- one byte more is one value more
-pub put_values : (masks : List ℕ) (at byte : ℕ) (bytes : List ℕ) → at / 64 < length masks → at < length bytes
-    → values_from (with_bit masks at) 0 (set bytes at byte) ≡ set (values_from masks 0 bytes) at (Some byte)
-put_values masks at byte bytes row inside = ext_get_or None _ _
-    (length-values_from (with_bit masks at) 0 (set bytes at byte) ∙ length-set bytes at byte ∙ sym (length-values_from masks 0 bytes) ∙ sym (length-set (values_from masks 0 bytes) at (Some byte)))
-    (λ k below.
-    let within : k < length (set bytes at byte) = omega (arith, length-values_from (with_bit masks at) 0 (set bytes at byte)) in
-    let fits : k < length bytes = omega (arith, length-set bytes at byte) in
-    let room : at < length (values_from masks 0 bytes) = omega (arith, length-values_from masks 0 bytes) in
-    values_here (with_bit masks at) k (set bytes at byte) within
-    ∙ elim (cases_eq k at) [
-      | inl e ↦ rw (e, bit_here masks at row, get_or-set_same bytes at byte 0 inside, get_or-set_same (values_from masks 0 bytes) at (Some byte) None room) refl
-      | inr apart ↦
-          rw (bit_apart masks at k row apart, get_or-set_other bytes at k byte 0 apart, get_or-set_other (values_from masks 0 bytes) at k (Some byte) None apart)
-          (sym (values_here masks k bytes fits))
-    ])
+-- masks that are all zero set no byte
+pub cleared_values : (masks : List ℕ) (p : ℕ) (bytes : List ℕ) → ((k : ℕ) → get_or masks k 0 ≡ 0) → values_from masks p bytes ≡ replicate (length bytes) None
+cleared_values masks p [] zeros = refl
+cleared_values masks p (x ∷ bytes) zeros =
+    let none : is_set masks p ≡ false = rw (zeros (p / 64), bit_at-zero (p % 64)) refl in
+    rw none (ap (λ (values : List (Option ℕ)). None ∷ values) (cleared_values masks (p + 1) bytes zeros))

@@ -41,3 +41,7 @@ followed (v ∷ values) (w ∷ later) = or_else w v ∷ followed values later
 -- a run of any block, as a span with its bytes
 abbrev pub piece : Run → Span × List ℕ
 piece run = (record { off = run.off; len = length run.bytes }, run.bytes)
+
+-- a piece as a run of a block
+abbrev pub run_of : (b : ℕ) → Span × List ℕ → Run
+run_of b x = record { block = b; off = x.0.off; bytes = x.1 }

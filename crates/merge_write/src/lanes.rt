@@ -1,43 +1,52 @@
-// The kernel: bytes laid over others 32 at a time, in the lanes of a vector, by a mask of bits.
+// The kernel: bytes laid over others 64 at a time, in the lanes of a vector, by a mask of bits.
 ghost use Rattle.std.specs.Prelude.{◌≡◌, ℕ, ◌+◌, ◌%◌, ◌<◌, ◌≤◌, ◌==◌, cond, length, slice_index};
 ghost use Rattle.std.specs.Int.{bit_at};
 ghost use Rattle.merge_write.specs.Patch.{values_from, laid, IsRow};
 
 use std::simd::prelude::*;
 
-// Which byte of a word of masks has the bit of a lane, in the first 32 lanes and in the others.
-const FIRST: [usize; 32] = [
+// Which byte of a word of masks has the bit of a lane.
+const BYTES: [usize; 64] = [
     0, 0, 0, 0, 0, 0, 0, 0, 1, 1, 1, 1, 1, 1, 1, 1, 2, 2, 2, 2, 2, 2, 2, 2, 3, 3, 3, 3, 3, 3, 3, 3,
-];
-
-const SECOND: [usize; 32] = [
     4, 4, 4, 4, 4, 4, 4, 4, 5, 5, 5, 5, 5, 5, 5, 5, 6, 6, 6, 6, 6, 6, 6, 6, 7, 7, 7, 7, 7, 7, 7, 7,
 ];
 
 // The bit of a lane in that byte.
-const BITS: [u8; 32] = [
+const BITS: [u8; 64] = [
     1, 2, 4, 8, 16, 32, 64, 128, 1, 2, 4, 8, 16, 32, 64, 128, 1, 2, 4, 8, 16, 32, 64, 128, 1, 2, 4,
-    8, 16, 32, 64, 128,
+    8, 16, 32, 64, 128, 1, 2, 4, 8, 16, 32, 64, 128, 1, 2, 4, 8, 16, 32, 64, 128, 1, 2, 4, 8, 16,
+    32, 64, 128, 1, 2, 4, 8, 16, 32, 64, 128,
 ];
 
-// Lays the 32 bytes from `at` on, where lane k of `masks` has the bit of byte k.
-fn lay_lanes(values: &[u8], masks: u8x32, at: usize, into: &mut [u8])
-    requires masks { length masks ≡ 32 }
-    requires values { at + 32 ≤ length values.now }
-    requires into { at + 32 ≤ length into.old }
-    ensures lanes { (k : ℕ) → k < 32
+// Lays the 64 bytes from `at` on, where lane k of `masks` has the bit of byte k.
+fn lay_lanes(values: &[u8], masks: u8x64, at: usize, into: &mut [u8])
+    requires masks { length masks ≡ 64 }
+    requires values { at + 64 ≤ length values.now }
+    requires into { at + 64 ≤ length into.old }
+    ensures lanes { (k : ℕ) → k < 64
         → slice_index into.new (at + k) ≡ cond (bit_at (slice_index masks k) (k % 8) == 1) (slice_index values.now (at + k)) (slice_index into.old (at + k)) }
     ensures before { (k : ℕ) → k < at → slice_index into.new k ≡ slice_index into.old k }
-    ensures behind { (k : ℕ) → at + 32 ≤ k → slice_index into.new k ≡ slice_index into.old k }
+    ensures behind { (k : ℕ) → at + 64 ≤ k → slice_index into.new k ≡ slice_index into.old k }
 {
-    let bits = u8x32::from_array(BITS);
+    let bits = u8x64::from_array(BITS);
     (masks & bits)
         .simd_eq(bits)
         .select(
-            u8x32::from_slice(&values[at..]),
-            u8x32::from_slice(&into[at..]),
+            u8x64::from_slice(&values[at..]),
+            u8x64::from_slice(&into[at..]),
         )
         .copy_to_slice(&mut into[at..]);
+}
+
+// Lays all 64 bytes from `at` on.
+fn lay_whole(values: &[u8], at: usize, into: &mut [u8])
+    requires values { at + 64 ≤ length values.now }
+    requires into { at + 64 ≤ length into.old }
+    ensures lanes { (k : ℕ) → k < 64 → slice_index into.new (at + k) ≡ slice_index values.now (at + k) }
+    ensures before { (k : ℕ) → k < at → slice_index into.new k ≡ slice_index into.old k }
+    ensures behind { (k : ℕ) → at + 64 ≤ k → slice_index into.new k ≡ slice_index into.old k }
+{
+    u8x64::from_slice(&values[at..]).copy_to_slice(&mut into[at..]);
 }
 
 // Lays the 64 bytes from `at` on whose bits are set in `mask`.
@@ -49,12 +58,18 @@ fn lay_word(values: &[u8], mask: u64, at: usize, into: &mut [u8])
     ensures before { (k : ℕ) → k < at → slice_index into.new k ≡ slice_index into.old k }
     ensures behind { (k : ℕ) → at + 64 ≤ k → slice_index into.new k ≡ slice_index into.old k }
 {
+    if mask == 0 {
+        return;
+    }
+    if mask == u64::MAX {
+        lay_whole(values, at, into);
+        return;
+    }
     let masks = u8x8::from_array(mask.to_le_bytes());
-    lay_lanes(values, masks.swizzle(FIRST), at, into);
-    lay_lanes(values, masks.swizzle(SECOND), at + 32, into);
+    lay_lanes(values, masks.swizzle(BYTES), at, into);
 }
 
-/// Replaces the bytes of `into` whose bit is set by those of `values`, 32 at a time.
+/// Replaces the bytes of `into` whose bit is set by those of `values`, 64 at a time.
 pub fn lay(values: &[u8], masks: &[u64], into: &mut [u8])
     requires row { IsRow values.now masks.now }
     requires into { length into.old ≡ length values.now }

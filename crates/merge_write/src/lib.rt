@@ -1,8 +1,10 @@
 //! Patches: bytes that are laid over a block.
 #![tactic(auto)]
 
+mod copy;
 mod lanes;
 pub mod laws;
+mod masks;
 mod patch;
 mod patch_spans;
 

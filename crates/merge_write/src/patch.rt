@@ -1,13 +1,15 @@
 // Bytes that are laid over a block.
-ghost use Rattle.std.specs.Prelude.{◌≡◌, ℕ, ◌+◌, ◌/◌, ◌<◌, ◌≤◌, ◌&&◌, Some, None, IsTrue, IfOk, cond, length, map, nat_le, nat_lt, replicate, slice_index, slice_index_or, slice_set};
+ghost use Rattle.std.specs.Prelude.{◌≡◌, ℕ, ◌+◌, ◌<◌, ◌≤◌, ◌&&◌, Some, None, IsTrue, IfOk, cond, length, map, nat_le, nat_lt, replicate, slice_index, slice_index_or};
 ghost use Rattle.std.specs.List.{All};
 ghost use Rattle.iso_model.specs.Effect.{runs_from};
 ghost use Rattle.iso_model.specs.Geometry.{is_block_size};
-ghost use Rattle.merge_write.specs.Patch.{written, laid, followed, piece, is_set};
+ghost use Rattle.merge_write.specs.Patch.{written, laid, followed, piece};
 
 use crate::PatchSpans;
+use crate::copy::copy_range;
 use crate::lanes::lay;
-use iso_model::{Memory, SpanList};
+use crate::masks::{join_bits, set_bits};
+use iso_model::{Memory, Span, SpanList};
 use std::alloc::Global;
 use std::marker::Model;
 
@@ -30,14 +32,6 @@ impl Model for Patch {
     ghost invariant = { λ a. IsRow a.bytes.items a.masks.items };
 }
 
-/// Whether the bit of a byte is set.
-pub(crate) fn has_bit(masks: &[u64], at: usize) -> bool
-    requires { at / 64 < length masks.now }
-    ensures { result ≡ is_set masks.now at }
-{
-    (masks[at / 64] >> (at % 64)) & 1 == 1
-}
-
 impl Patch {
     /// A patch of a block size that sets no byte.
     pub fn blank(alloc: Global, block: u32) -> Result<Patch, Memory>
@@ -51,33 +45,18 @@ impl Patch {
         })
     }
 
-    fn len(&self) -> usize
-        ensures { result ≡ length self.now }
-    {
-        self.bytes.len()
-    }
-
-    fn value(&self, at: usize) -> Option<u8>
-        requires { at < length self.now }
-        ensures { result ≡ slice_index_or self.now at None }
-    {
-        if has_bit(&self.masks, at) {
-            Some(self.bytes[at])
-        } else {
-            None
-        }
-    }
-
-    fn put(&mut self, at: usize, byte: u8)
-        requires { at < length self.old }
-        ensures { self.new ≡ slice_set self.old at (Some byte) }
-    {
-        self.bytes[at] = byte;
-        self.masks[at / 64] |= 1 << (at % 64);
-    }
-
     /// Sets the bytes that the spans cover, and the whole block where there are none.
     pub fn set(&mut self, bytes: &[u8], spans: &SpanList)
+        requires bytes { length bytes.now ≡ length self.old }
+        requires spans { All (λ span. span.off + span.len ≤ length self.old) spans.now }
+        ensures len { length self.new ≡ length self.old }
+        ensures values { self.new ≡ written spans.now 0 self.old bytes.now }
+    {
+        self.set_spans(bytes, spans.as_slice());
+    }
+
+    /// Does so with the spans of a slice.
+    pub fn set_spans(&mut self, bytes: &[u8], spans: &[Span])
         requires bytes { length bytes.now ≡ length self.old }
         requires spans { All (λ span. span.off + span.len ≤ length self.old) spans.now }
         ensures len { length self.new ≡ length self.old }
@@ -87,9 +66,18 @@ impl Patch {
             self.set_range(bytes, 0, bytes.len());
             return;
         }
-        for span in spans.as_slice() {
+        for span in spans {
             let from = span.off as usize;
             self.set_range(bytes, from, from + span.len as usize);
+        }
+    }
+
+    /// Sets no byte any more.
+    pub fn clear(&mut self)
+        ensures { self.new ≡ replicate (length self.old) None }
+    {
+        for at in 0..self.masks.len() {
+            self.masks[at] = 0;
         }
     }
 
@@ -101,9 +89,8 @@ impl Patch {
         ensures values { (k : ℕ) → k < length self.old
             → slice_index_or self.new k None ≡ cond (nat_le from k && nat_lt k to) (Some (slice_index bytes.now k)) (slice_index_or self.old k None) }
     {
-        for at in from..to {
-            self.put(at, bytes[at]);
-        }
+        copy_range(bytes, from, to, &mut self.bytes);
+        set_bits(&mut self.masks, from, to);
     }
 
     /// Replaces the bytes of a block that are set.
@@ -120,11 +107,8 @@ impl Patch {
         ensures len { length self.new ≡ length self.old }
         ensures values { self.new ≡ followed self.old later.now }
     {
-        for at in 0..later.len() {
-            if let Some(byte) = later.value(at) {
-                self.put(at, byte);
-            }
-        }
+        lay(&later.bytes, &later.masks, &mut self.bytes);
+        join_bits(&mut self.masks, &later.masks);
     }
 
     /// The maximal runs of the bytes that are set, rising, each with its bytes.

@@ -1,10 +1,10 @@
 // The runs of a patch, one by one.
-ghost use Rattle.std.specs.Prelude.{◌≡◌, ℕ, ◌*◌, ◌<◌, ◌≤◌, length, map, not};
+ghost use Rattle.std.specs.Prelude.{◌≡◌, map};
 ghost use Rattle.std.specs.Iterator.{YieldsFirstBy, item_count};
 ghost use Rattle.iso_model.specs.Effect.{runs_from};
-ghost use Rattle.merge_write.specs.Patch.{piece, values_from, is_set, IsRow};
+ghost use Rattle.merge_write.specs.Patch.{piece, values_from, IsRow};
 
-use crate::patch::has_bit;
+use crate::masks::next_place;
 use iso_model::Span;
 use std::marker::Model;
 
@@ -28,23 +28,6 @@ impl<'a> Model for PatchSpans<'a> {
     ghost view = { λ a. map piece (runs_from 0 a.at (values_from a.masks.now a.at (drop a.at a.bytes.now))) };
 
     ghost invariant = { λ a. (IsRow a.bytes.now a.masks.now) × (a.at ≤ length a.bytes.now) };
-}
-
-// The first place from `at` on, before `end`, whose bit is `wanted`, and else `end`.
-fn next_place(masks: &[u64], at: usize, end: usize, wanted: bool) -> usize
-    requires order { at ≤ end }
-    requires row { end ≤ 64 * length masks.now }
-    ensures from { at ≤ result }
-    ensures within { result ≤ end }
-    ensures passed { (k : ℕ) → at ≤ k → k < result → is_set masks.now k ≡ not wanted }
-    ensures stops { result < end → is_set masks.now result ≡ wanted }
-{
-    for place in at..end {
-        if has_bit(masks, place) == wanted {
-            return place;
-        }
-    }
-    end
 }
 
 impl<'a> PatchSpans<'a> {

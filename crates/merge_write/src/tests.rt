@@ -115,5 +115,10 @@ fn no_span_is_the_whole_block(rt: HostRuntime) -> Result<(), Fail> {
     patch.set(&[9; 64], &SpanList::empty(alloc));
     patch.over(&mut block);
     assert!(&rt; block.as_slice() == [9; 64].as_slice());
+    patch.clear();
+    assert!(&rt; patch.spans().next().is_none());
+    patch.set_spans(&[7; 64], [span(60, 4)].as_slice());
+    patch.over(&mut block);
+    assert!(&rt; block[59] == 9 && block[60] == 7 && block[63] == 7);
     Ok(())
 }

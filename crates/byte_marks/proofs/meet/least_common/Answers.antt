@@ -1,27 +1,20 @@
 -- The earlier of two extents that do not meet meets nothing of the other list.
-use Rattle.std.proofs.Common.{◌≡◌, ℕ, ◌+◌, ◌<◌, ◌≤◌, ◌&&◌, false, ◌∙◌, sym, ap, subst, arith, inl, inr, List, ◌∷◌, Bool, true, refl, max}
-use Rattle.std.proofs.lemmas.Bool.{cases_lt}
+use Rattle.std.proofs.Common.{◌≡◌, ℕ, ◌+◌, ◌<◌, ◌≤◌, ◌&&◌, false, ◌∙◌, sym, ap, subst, arith, inl, inr, List, ◌∷◌, max}
+use Rattle.std.proofs.lemmas.Bool.{and_left, and_right, cases_lt}
 use Rattle.byte_marks.specs.declared.extent.Extent.{Extent}
 use Rattle.byte_marks.specs.Marks.{has, AreApartFrom}
 use Rattle.byte_marks.proofs.Apart.{earlier, none_before, from_head, pass_over, pass_over_right}
 use Rattle.byte_marks.proofs.meet.least_common.Goals as goal
 use Rattle.byte_marks.proofs.meet.least_common.Goals.{else-start-x-via-then-start-x+else-start-y, else-start-x-via-else-start-x}
 
-and_false : (a b : Bool) → a ≡ false → (a && b) ≡ false
-and_false a b h = rw h refl
-
-and_false_right : (a b : Bool) → b ≡ false → (a && b) ≡ false
-and_false_right true b h = h
-and_false_right false b h = refl
-
 -- no byte before the later of two begins is in both
 before_both : (p : ℕ) (x y : Extent) (xs ys a b : List Extent) → a ≡ x ∷ xs → b ≡ y ∷ ys → AreApartFrom 0 (x ∷ xs) → AreApartFrom 0 (y ∷ ys)
     → p < max x.from y.from → (has a p && has b p) ≡ false
 before_both p x y xs ys a b a_is b_is apart_a apart_b lt = elim (cases_lt p x.from) [
   | inl before ↦
-      and_false (has a p) (has b p) (ap (λ (l : List Extent). has l p) a_is ∙ none_before x.from p (x ∷ xs) before (from_head 0 x.from x xs apart_a (omega arith)))
+      and_left (has a p) (has b p) (ap (λ (l : List Extent). has l p) a_is ∙ none_before x.from p (x ∷ xs) before (from_head 0 x.from x xs apart_a (omega arith)))
   | inr after ↦
-      and_false_right (has a p) (has b p) (ap (λ (l : List Extent). has l p) b_is
+      and_right (has a p) (has b p) (ap (λ (l : List Extent). has l p) b_is
       ∙ none_before y.from p (y ∷ ys) (omega arith) (from_head 0 y.from y ys apart_b (omega arith)))
 ]
 

@@ -1,5 +1,6 @@
 -- The entry of the earlier block, or two of one block that do not meet, meet nothing of what is left.
-use Rattle.std.proofs.Common.{◌≡◌, ℕ, ◌+◌, ◌&&◌, false, Bool, refl, ◌∙◌, sym, ap, subst, arith, List, ◌∷◌}
+use Rattle.std.proofs.Common.{◌≡◌, ℕ, ◌+◌, ◌&&◌, ◌∙◌, sym, ap, subst, arith, List, ◌∷◌}
+use Rattle.std.proofs.lemmas.Bool.{and_left}
 use Rattle.byte_marks.specs.declared.extent.Extent.{Extent}
 use Rattle.byte_marks.specs.Touched.{touches, RisesFrom}
 use Rattle.byte_marks.proofs.Blocks.{rises_earlier, none_before_block, pass_entry, pass_entry_right, pass_both}
@@ -9,9 +10,6 @@ use Rattle.byte_marks.proofs.touched.least_common_byte.Goals as goal
 both_are : (b p : ℕ) {a c a' c' : List (ℕ × List Extent)} → a ≡ a' → c ≡ c' → (touches a b p && touches c b p) ≡ (touches a' b p && touches c' b p)
 both_are b p e f = cc
 
-no_left : (s t : Bool) → s ≡ false → (s && t) ≡ false
-no_left s t h = rw h refl
-
 pub returns-in-Some-clause-least_block : goal.returns-in-Some-clause-least_block
 returns-in-Some-clause-least_block c b p lt =
     let x = c.in-Some-Some.x.now in
@@ -19,7 +17,7 @@ returns-in-Some-clause-least_block c b p lt =
     let a_is = c.in-Some-Some.ensures.cases.0 in
     let rises = subst (λ (l : List (ℕ × List Extent)). RisesFrom 0 l) a_is c.loop-x.invariant.a in
     c.loop-x.invariant.same b p
-    ∙ no_left _ _ (ap (λ (l : List (ℕ × List Extent)). touches l b p) a_is ∙ none_before_block x.0 b p (x ∷ xs) lt ((omega arith), rises.1))
+    ∙ and_left _ _ (ap (λ (l : List (ℕ × List Extent)). touches l b p) a_is ∙ none_before_block x.0 b p (x ∷ xs) lt ((omega arith), rises.1))
 
 pub returns-in-Some-clause-least_byte : goal.returns-in-Some-clause-least_byte
 returns-in-Some-clause-least_byte c p lt =
@@ -34,7 +32,7 @@ returns-in-Some-clause-least_byte c p lt =
     c.loop-x.invariant.same x.0 p
     ∙ both_are x.0 p a_is b_is
     ∙ pass_both x.0 p x y xs ys (c.in-Some.ensures.least p lt) rises_a.1 rises_b.1 (omega arith)
-    ∙ no_left _ _ (none_before_block (x.0 + 1) x.0 p xs (omega arith) rises_a.1)
+    ∙ and_left _ _ (none_before_block (x.0 + 1) x.0 p xs (omega arith) rises_a.1)
 
 pub loop-x-preserved-then-x-y : goal.loop-x-preserved-then-x-y
 loop-x-preserved-then-x-y c =

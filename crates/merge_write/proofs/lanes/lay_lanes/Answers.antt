@@ -10,7 +10,7 @@ returns-clause-lanes c k below =
     let values = c.args.values.now in
     let into = c.args.into.now in
     let at = c.args.at in
-    ap (λ (ms : List Bool). get_or (put_chunk at into (sel_l ms (chunk at 32 values) (chunk at 32 into))) (at + k) 0) (tops_compared w8 eqb (zip2 bit_and c.args.masks lane_bits) lane_bits)
+    ap (λ (ms : List Bool). get_or (put_chunk at into (sel_l ms (chunk at 64 values) (chunk at 64 into))) (at + k) 0) (tops_compared w8 eqb (zip2 bit_and c.args.masks lane_bits) lane_bits)
     ∙ selected_at at k c.args.masks values into c.requires.masks c.requires.values c.requires.into below
 
 pub returns-clause-before : goal.returns-clause-before
@@ -21,6 +21,6 @@ returns-clause-behind c k past =
     let values = c.args.values.now in
     let into = c.args.into.now in
     let at = c.args.at in
-    ap (λ (ms : List Bool). get_or (put_chunk at into (sel_l ms (chunk at 32 values) (chunk at 32 into))) k 0) (tops_compared w8 eqb (zip2 bit_and c.args.masks lane_bits) lane_bits)
-    ∙ get_or-put_chunk_above at into (sel_l (chosen c.args.masks) (chunk at 32 values) (chunk at 32 into)) k 0
+    ap (λ (ms : List Bool). get_or (put_chunk at into (sel_l ms (chunk at 64 values) (chunk at 64 into))) k 0) (tops_compared w8 eqb (zip2 bit_and c.args.masks lane_bits) lane_bits)
+    ∙ get_or-put_chunk_above at into (sel_l (chosen c.args.masks) (chunk at 64 values) (chunk at 64 into)) k 0
     (omega (arith, length-selected at c.args.masks values into c.requires.masks c.requires.values c.requires.into))

@@ -1,30 +1,27 @@
 -- The values are the write's where its spans cover the place.
-use Rattle.std.proofs.Common.{◌≡◌, ◌∙◌, sym, ap, ◌<◌, Some, None, get_or, length, take, arith, nat_le, nat_lt, true, refl}
+use Rattle.std.proofs.Common.{◌≡◌, ◌∙◌, sym, ◌<◌, Some, None, get_or, length, take, arith, nat_le, nat_lt, true, refl}
 use Rattle.std.proofs.lemmas.List.{take_all}
 use Rattle.std.proofs.lemmas.Grind.{common_steps}
-use Rattle.iso_model.specs.declared.access.Span.{Span}
 use Rattle.iso_model.specs.Array.{covered}
 use Rattle.merge_write.proofs.Words.{span_more, written_is, covered_some, covered_none}
-use Rattle.merge_write.proofs.patch.Patch.set.Goals as goal
+use Rattle.merge_write.proofs.patch.Patch.set_spans.Goals as goal
 
 pub set_range-requires-in-loop-span-clause-bytes : goal.set_range-requires-in-loop-span-clause-bytes
 set_range-requires-in-loop-span-clause-bytes c = c.requires.bytes ∙ sym c.loop-span.invariant.len
 
 pub set_range-requires-in-loop-span-clause-range : goal.set_range-requires-in-loop-span-clause-range
 set_range-requires-in-loop-span-clause-range c =
-    let e = c.as_slice-span-items.ensures in
-    let there : c.loop-span.span-index < length c.args.spans.now = omega (arith, ap (length {A = Span}) e) in
+    let there : c.loop-span.span-index < length c.args.spans.now = omega arith in
     let same : length c.loop-span.self ≡ length c.args.self.now = c.loop-span.invariant.len in
-    rw (e, same) (c.requires.spans c.loop-span.span-index (record { off = 0; len = 0 }) there)
+    rw same (c.requires.spans c.loop-span.span-index (record { off = 0; len = 0 }) there)
 
 pub loop-span-preserved : goal.loop-span-preserved
 loop-span-preserved c = record {
   len = c.set_range-in-loop-span.ensures.len ∙ c.loop-span.invariant.len;
   values = λ k below.
       let inside : k < length c.loop-span.self = omega (arith, c.set_range-in-loop-span.ensures.len) in
-      let e = c.as_slice-span-items.ensures in
-      let more = rw e at (c.set_range-in-loop-span.ensures.values k inside) in
-      let there : c.loop-span.span-index < length c.args.spans.now = omega (arith, ap (length {A = Span}) e) in
+      let more = c.set_range-in-loop-span.ensures.values k inside in
+      let there : c.loop-span.span-index < length c.args.spans.now = omega arith in
       span_more k c.loop-span.span-index c.args.spans.now (record { off = 0; len = 0 }) (Some (get_or c.args.bytes.now k 0)) (get_or c.args.self.now k None) (get_or c.loop-span.self k None) (get_or c.set_range-in-loop-span.new.self k None) there (c.loop-span.invariant.values k inside) more;
 }
 
@@ -45,5 +42,5 @@ returns-clause-values c =
     (λ k below.
     let some : 0 < length c.args.spans.now = grind (arith, common_steps) in
     let whole : take c.loop-span.span-index c.args.spans.now ≡ c.args.spans.now =
-    take_all c.loop-span.span-index c.args.spans.now (omega (arith, ap (length {A = Span}) c.as_slice-span-items.ensures)) in
+    take_all c.loop-span.span-index c.args.spans.now (omega arith) in
     rw (covered_some c.args.spans.now k some) (rw whole at (c.loop-span.invariant.values k (omega arith))))

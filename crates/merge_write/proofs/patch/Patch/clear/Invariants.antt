@@ -1,0 +1,10 @@
+-- The first masks are zero, and the bytes stay.
+use Rattle.std.proofs.Common.{◌≡◌, ℕ, ◌<◌, length, get_or}
+use Rattle.merge_write.proofs.patch.Patch.clear.Given as goal
+
+abbrev pub invariant-loop-at : goal.invariant-loop-at
+invariant-loop-at l = record {
+  bytes : l.self-inside.bytes.items ≡ l.initial.self-inside.bytes.items;
+  len : length l.self-inside.masks.items ≡ length l.initial.self-inside.masks.items;
+  zero : (k : ℕ) → k < l.at → get_or l.self-inside.masks.items k 0 ≡ 0;
+}
