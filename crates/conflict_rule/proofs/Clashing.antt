@@ -1,0 +1,115 @@
+-- Whether there is a write, and the clash in two parts: up to a commit and after it.
+use Rattle.std.proofs.Common.{◌≡◌, ◌∙◌, refl, sym, ap, ℕ, zero, suc, ◌+◌, ◌-◌, ◌<◌, ◌≤◌, Bool, true, false, ◌&&◌, ◌||◌, nat_lt, List, [], ◌∷◌, take, drop, arith, Option, Some, None, option_map}
+use Rattle.std.specs.List.{AllByRecursion}
+use Rattle.std.proofs.lemmas.Bool.{lt-ltb, and_parts, both_ways}
+use Rattle.std.proofs.lemmas.Bool.Decides.{nat_tests}
+use Rattle.std.proofs.lemmas.List.{drop-drop}
+use Rattle.byte_marks.specs.Touched.{touches, AreTouched}
+use Rattle.iso_model.specs.declared.access.Access.{Access}
+use Rattle.iso_model.specs.declared.access.Clash.{Clash}
+use Rattle.iso_model.specs.declared.access.Commit.{Commit}
+use Rattle.iso_model.specs.declared.access.Geometry.{Geometry}
+use Rattle.iso_model.specs.declared.access.Kind.TheVariants.{Write}
+use Rattle.iso_model.specs.declared.access.Mode.{Mode}
+use Rattle.iso_model.specs.declared.access.Span.{Span}
+use Rattle.iso_model.specs.Array.{covered, in_span}
+use Rattle.iso_model.specs.Conflict.{clash, clash_from, clashes, first_after, first_byte}
+use Rattle.iso_model.specs.Effect.{covers, has_write, is_write, or_else}
+use Rattle.iso_model.specs.Effect as model
+use Rattle.iso_model.specs.History.{History}
+use Rattle.iso_model.specs.Premises.{AreAccesses, IsSpan}
+use Rattle.iso_model.proofs.Written.{covers_where}
+use Rattle.conflict_rule.specs.Decision.{up_to, Bytes}
+
+-- a byte that an access covers
+abbrev SomeByte : (size : ℕ) → List Span → Type 0
+SomeByte size spans = (p : ℕ) × (p < size) × (covered spans p ≡ true)
+
+in_own_span : (s : Span) → 0 < s.len → in_span s.off s ≡ true
+in_own_span s some = grind (arith, nat_tests)
+
+some_byte : (size : ℕ) (spans : List Span) → 0 < size → AllByRecursion (IsSpan size) spans → SomeByte size spans
+some_byte size [] some all = (0, some, refl)
+some_byte size (s ∷ spans) some all =
+    let here = in_own_span s all.0.some in
+    (s.off, omega (arith, all.0.some, all.0.fits), rw here refl)
+
+-- a list with a write touches a byte of the image
+some_write : (g : Geometry) (accesses : List Access) → 0 < g.block → AreAccesses g accesses → has_write accesses ≡ true
+    → (b : ℕ) × (p : ℕ) × (b < g.blocks) × (p < g.block) × (model.touches Write accesses b p ≡ true)
+some_write g [] size all some = absurd (cc)
+some_write g (a ∷ accesses) size all some = by (is_write a) refl (λ more. some_write g accesses size all.1 more)
+  where
+    by : (t : Bool) → is_write a ≡ t
+        → (has_write accesses ≡ true → (b : ℕ) × (p : ℕ) × (b < g.blocks) × (p < g.block) × (model.touches Write accesses b p ≡ true)) → (b : ℕ) × (p : ℕ) × (b < g.blocks) × (p < g.block) × (model.touches Write (a ∷ accesses) b p ≡ true)
+    by true write later =
+        let byte = some_byte g.block a.spans size all.0.spans in
+        let here = covers_where a.block byte.0 a write refl byte.2 in
+        (a.block, byte.0, all.0.block, byte.1, rw here refl)
+    by false read later =
+        let rest = later (rw read at some) in
+        (rest.0, rest.1, rest.2, rest.3, or_right (covers Write rest.0 rest.1 a) (model.touches Write accesses rest.0 rest.1) rest.4)
+      where
+        or_right : (s t : Bool) → t ≡ true → (s || t) ≡ true
+        or_right true t is = refl
+        or_right false t is = is
+
+touch_writes : (accesses : List Access) (b p : ℕ) → model.touches Write accesses b p ≡ true → has_write accesses ≡ true
+touch_writes [] b p is = absurd (cc)
+touch_writes (a ∷ accesses) b p is = by (is_write a) refl (λ more. touch_writes accesses b p more)
+  where
+    by : (t : Bool) → is_write a ≡ t → (model.touches Write accesses b p ≡ true → has_write accesses ≡ true) → has_write (a ∷ accesses) ≡ true
+    by true write later = rw write refl
+    by false read later = rw read (later (rw read at is))
+
+pub has_write_where : (g : Geometry) (accesses : List Access) (writes : Bytes) (b p : ℕ) → AreTouched g.block g.blocks Write accesses writes → touches writes b p ≡ true → has_write accesses ≡ true
+has_write_where g accesses writes b p are is =
+    touch_writes accesses b p (and_parts (nat_lt b g.blocks && nat_lt p g.block) (model.touches Write accesses b p) (sym (are.is b p) ∙ is)).1
+
+pub no_write_where : (g : Geometry) (accesses : List Access) (writes : Bytes) → 0 < g.block → AreAccesses g accesses → AreTouched g.block g.blocks Write accesses writes
+    → ((b p : ℕ) → touches writes b p ≡ false) → has_write accesses ≡ false
+no_write_where g accesses writes size all are none = by (has_write accesses) refl
+  where
+    by : (t : Bool) → has_write accesses ≡ t → has_write accesses ≡ false
+    by false is = is
+    by true is =
+        let byte = some_write g accesses size all is in
+        let all_true : (nat_lt byte.0 g.blocks && nat_lt byte.1 g.block && model.touches Write accesses byte.0 byte.1) ≡ true =
+        rw (lt-ltb byte.0 g.blocks byte.2, lt-ltb byte.1 g.block byte.3, byte.4) refl in
+        absurd (both_ways (touches writes byte.0 byte.1) (none byte.0 byte.1) (are.is byte.0 byte.1 ∙ all_true))
+
+or_assoc : (u v w : Option Clash) → or_else (or_else u v) w ≡ or_else u (or_else v w)
+or_assoc None v w = refl
+or_assoc (Some x) v w = refl
+
+split_clash : (g : Geometry) (mode : Mode) (accesses : List Access) (k n : ℕ) (commits : List Commit)
+    → clash_from g mode accesses k commits ≡ or_else (clash_from g mode accesses k (take n commits)) (clash_from g mode accesses (k + n) (drop n commits))
+split_clash g mode accesses k zero commits = let e : k + 0 ≡ k = omega arith in rw e refl
+split_clash g mode accesses k (suc n) [] = refl
+split_clash g mode accesses k (suc n) (c ∷ commits) =
+    let e : k + suc n ≡ k + 1 + n = omega arith in
+    let here = option_map (λ (at : ℕ × ℕ). record { commit = k; block = at.0; at = at.1 }) (first_byte (clashes mode c accesses) g.block 0 g.blocks) in
+    rw e (ap (or_else here) (split_clash g mode accesses (k + 1) n commits)
+    ∙ sym (or_assoc here (clash_from g mode accesses (k + 1) (take n commits)) (clash_from g mode accesses (k + 1 + n) (drop n commits))))
+
+take_of_drop : {A : Type 0} → (d n : ℕ) (xs : List A) → take n (drop d xs) ≡ drop d (take (d + n) xs)
+take_of_drop zero n xs = let e : 0 + n ≡ n = omega arith in rw e refl
+take_of_drop (suc d) zero [] = let e : suc d + 0 ≡ suc d = omega arith in rw e refl
+take_of_drop (suc d) (suc n) [] = let e : suc d + suc n ≡ suc (d + suc n) = omega arith in rw e refl
+take_of_drop (suc d) n (x ∷ xs) = let e : suc d + n ≡ suc (d + n) = omega arith in rw e (take_of_drop d n xs)
+
+pub clash_parts : (g : Geometry) (H : History) (mode : Mode) (begin upto : ℕ) (accesses : List Access) → has_write accesses ≡ true → begin ≤ upto
+    → clash g H mode begin accesses ≡ or_else (clash g (up_to H upto) mode begin accesses) (clash_from g mode accesses (first_after H upto) (drop (upto + 1 - H.first) H.commits))
+unfolding clash
+clash_parts g H mode begin upto accesses some order =
+    let d = begin + 1 - H.first in
+    let from = first_after H begin in
+    let n = (upto + 1 - H.first) - d in
+    let m : d + n ≡ upto + 1 - H.first = omega arith in
+    let k : from + n ≡ first_after H upto = omega arith in
+    let first : take n (drop d H.commits) ≡ drop d (take (upto + 1 - H.first) H.commits) = take_of_drop d n H.commits ∙ ap (λ (i : ℕ). drop d (take i H.commits)) m in
+    let second : drop n (drop d H.commits) ≡ drop (upto + 1 - H.first) H.commits = drop-drop n d H.commits ∙ ap (λ (i : ℕ). drop i H.commits) m in
+    rw some (split_clash g mode accesses from n (drop d H.commits)
+    ∙ ap (λ (l : List Commit). or_else (clash_from g mode accesses from l) (clash_from g mode accesses (from + n) (drop n (drop d H.commits)))) first
+    ∙ ap (λ (l : List Commit). or_else (clash_from g mode accesses from (drop d (take (upto + 1 - H.first) H.commits))) (clash_from g mode accesses (from + n) l)) second
+    ∙ ap (λ (i : ℕ). or_else (clash_from g mode accesses from (drop d (take (upto + 1 - H.first) H.commits))) (clash_from g mode accesses i (drop (upto + 1 - H.first) H.commits))) k)

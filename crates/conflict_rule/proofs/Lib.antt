@@ -1,0 +1,4 @@
+pub mod Numbers
+pub mod Meetings
+pub mod Clashing
+pub mod Following

@@ -1,0 +1,143 @@
+-- Notes whose numbers rise.
+use Rattle.std.proofs.Common.{◌≡◌, ◌≢◌, ◌∙◌, refl, sym, ap, subst, ℕ, zero, suc, ◌+◌, ◌<◌, ◌≤◌, Bool, true, false, ◌==◌, cond, nat_lt, inl, inr, List, [], ◌∷◌, ◌++◌, length, get_or, take, drop, arith, ne_eqb, Option, Some, None, leb}
+use Rattle.std.proofs.lemmas.Bool.{cases_eq, cases_lt, lt-ltb, le-ltb}
+use Rattle.std.proofs.lemmas.Grind.{common_steps}
+use Rattle.std.proofs.lemmas.Bool.Decides.{nat_tests}
+use Rattle.byte_marks.specs.declared.extent.Extent.{Extent}
+use Rattle.conflict_rule.specs.Notes.{Note, above, note_of, RisesFrom}
+
+-- they rise from any earlier number on too
+pub rises_earlier : (f g : ℕ) (notes : List Note) → f ≤ g → RisesFrom g notes → RisesFrom f notes
+rises_earlier f g [] le rises = tt
+rises_earlier f g (x ∷ notes) le rises = let from : f ≤ x.0 = omega arith in (from, rises.1)
+
+at_least : (f j : ℕ) (notes : List Note) (d : Note) → RisesFrom f notes → j < length notes → f ≤ (get_or notes j d).0
+at_least f j [] d rises lt = absurd (omega arith)
+at_least f zero (x ∷ notes) d rises lt = rises.0
+at_least f (suc j) (x ∷ notes) d rises lt = let later = at_least (x.0 + 1) j notes d rises.1 (omega arith) in omega (arith, later, rises.0)
+
+pub in_order : (f i j : ℕ) (notes : List Note) (d : Note) → RisesFrom f notes → i ≤ j → j < length notes → (get_or notes i d).0 ≤ (get_or notes j d).0
+in_order f i j [] d rises le lt = absurd (omega arith)
+in_order f zero zero (x ∷ notes) d rises le lt = omega arith
+in_order f zero (suc j) (x ∷ notes) d rises le lt = let later = at_least (x.0 + 1) j notes d rises.1 (omega arith) in omega (arith, later)
+in_order f (suc i) zero (x ∷ notes) d rises le lt = absurd (omega arith)
+in_order f (suc i) (suc j) (x ∷ notes) d rises le lt = in_order (x.0 + 1) i j notes d rises.1 (omega arith) (omega arith)
+
+-- a number above all of them may follow
+pub rises-append : (f number : ℕ) (notes : List Note) (marks : List (ℕ × List Extent)) → RisesFrom f notes → f ≤ number
+    → ((i : ℕ) → (d : Note) → i < length notes → (get_or notes i d).0 < number) → RisesFrom f (notes ++ (number, marks) ∷ [])
+rises-append f number [] marks rises le below = (le, tt)
+rises-append f number (x ∷ notes) marks rises le below =
+    let first : x.0 < number = below 0 x (omega arith) in
+    (rises.0, rises-append (x.0 + 1) number notes marks rises.1 (omega arith) (λ i d lt. below (suc i) d (omega arith)))
+
+-- those above a number rise
+pub rises_above : (f n : ℕ) (notes : List Note) → RisesFrom f notes → RisesFrom f (above n notes)
+rises_above f n [] rises = tt
+rises_above f n (x ∷ notes) rises =
+    elim (nat_lt n x.0) as (λ t. RisesFrom f (cond t (x ∷ above n notes) (above n notes))) [
+      | true ↦ (rises.0, rises_above (x.0 + 1) n notes rises.1)
+      | false ↦ rises_above f n notes (rises_earlier f (x.0 + 1) notes (omega (arith, rises.0)) rises.1)
+    ]
+
+pub all_above : (f n : ℕ) (notes : List Note) → n < f → RisesFrom f notes → above n notes ≡ notes
+all_above f n [] lt rises = refl
+all_above f n (x ∷ notes) lt rises =
+    let here : nat_lt n x.0 ≡ true = lt-ltb n x.0 (omega (arith, rises.0)) in
+    rw here (ap (λ (l : List Note). x ∷ l) (all_above (x.0 + 1) n notes (omega (arith, rises.0)) rises.1))
+
+-- those above a number are those from a place on
+pub above_from : (f n i : ℕ) (notes : List Note) → RisesFrom f notes → i ≤ length notes
+    → ((k : ℕ) → k < i → (d : Note) → (get_or notes k d).0 ≤ n) → ((k : ℕ) → i ≤ k → k < length notes → (d : Note) → n < (get_or notes k d).0)
+    → drop i notes ≡ above n notes
+above_from f n zero [] rises within before after = refl
+above_from f n zero (x ∷ notes) rises within before after =
+    let first : n < x.0 = after 0 (omega arith) (omega arith) x in
+    let here : nat_lt n x.0 ≡ true = lt-ltb n x.0 first in
+    rw here (ap (λ (l : List Note). x ∷ l) (sym (all_above (x.0 + 1) n notes (omega arith) rises.1)))
+above_from f n (suc i) [] rises within before after = absurd (omega arith)
+above_from f n (suc i) (x ∷ notes) rises within before after =
+    let first : x.0 ≤ n = before 0 (omega arith) x in
+    let here : nat_lt n x.0 ≡ false = le-ltb n x.0 first in
+    rw here (above_from (x.0 + 1) n i notes rises.1 (omega arith) (λ k lt d. before (suc k) (omega arith) d) (λ k le lt d. after (suc k) (omega arith) (omega arith) d))
+
+-- the note at a place is that of its number, and where no number is the same there is none
+pub note_at : (f number i : ℕ) (notes : List Note) (d : Note) → RisesFrom f notes → i < length notes → (get_or notes i d).0 ≡ number
+    → note_of number notes ≡ Some (get_or notes i d).1
+note_at f number i [] d rises lt same = absurd (omega arith)
+note_at f number zero (x ∷ notes) d rises lt same = let here : (x.0 == number) ≡ true = grind (arith, common_steps) in rw here refl
+note_at f number (suc i) (x ∷ notes) d rises lt same =
+    let later = at_least (x.0 + 1) i notes d rises.1 (omega arith) in
+    let other : x.0 ≢ number = λ e. omega (arith, later, same) in
+    let here : (x.0 == number) ≡ false = ne_eqb x.0 number other in
+    rw here (note_at (x.0 + 1) number i notes d rises.1 (omega arith) same)
+
+pub no_note : (number : ℕ) (notes : List Note) → ((k : ℕ) → (d : Note) → k < length notes → (get_or notes k d).0 ≢ number) → note_of number notes ≡ None
+no_note number [] other = refl
+no_note number (x ∷ notes) other =
+    let here : (x.0 == number) ≡ false = ne_eqb x.0 number (other 0 x (omega arith)) in
+    rw here (no_note number notes (λ k d lt. other (suc k) d (omega arith)))
+
+-- a number that is held is not below the first
+pub note_from : (f number : ℕ) (notes : List Note) (marks : List (ℕ × List Extent)) → RisesFrom f notes → note_of number notes ≡ Some marks → f ≤ number
+note_from f number [] marks rises is = absurd (cc)
+note_from f number (x ∷ notes) marks rises is = elim (cases_eq x.0 number) [
+  | inl same ↦ omega (arith, rises.0)
+  | inr other ↦
+      (let here : (x.0 == number) ≡ false = ne_eqb x.0 number other in
+      let later = note_from (x.0 + 1) number notes marks rises.1 (rw here at is) in
+      omega (arith, later, rises.0))
+]
+
+-- the note of a number above n stands among those above n
+pub note_above : (n number : ℕ) (notes : List Note) → n < number → note_of number (above n notes) ≡ note_of number notes
+note_above n number [] lt = refl
+note_above n number (x ∷ notes) lt = elim (cases_lt n x.0) [
+  | inl less ↦
+      (let here : nat_lt n x.0 ≡ true = lt-ltb n x.0 less in
+      rw here (ap (λ (r : Option (List (ℕ × List Extent))). cond (x.0 == number) (Some x.1) r) (note_above n number notes lt)))
+  | inr more ↦
+      (let here : nat_lt n x.0 ≡ false = le-ltb n x.0 more in
+      let other : (x.0 == number) ≡ false = ne_eqb x.0 number (λ e. omega arith) in
+      rw (here, other) (note_above n number notes lt))
+]
+
+pub from_leb : (a b : ℕ) → leb a b ≡ true → a ≤ b
+from_leb a b is = grind (arith, nat_tests)
+
+pub from_not_leb : (a b : ℕ) → leb a b ≡ false → b < a
+from_not_leb a b is = grind (arith, nat_tests)
+
+-- either way they rise
+pub rises_either : (t : Bool) (xs ys zs : List Note) → zs ≡ cond t xs ys → RisesFrom 0 xs → RisesFrom 0 ys → RisesFrom 0 zs
+rises_either true xs ys zs is first second = subst (λ (l : List Note). RisesFrom 0 l) (sym is) first
+rises_either false xs ys zs is first second = subst (λ (l : List Note). RisesFrom 0 l) (sym is) second
+
+-- one note more of those above a number
+pub above-more : (n i : ℕ) (notes : List Note) (d : Note) → i < length notes
+    → above n (take (i + 1) notes) ≡ above n (take i notes) ++ cond (nat_lt n (get_or notes i d).0) (get_or notes i d ∷ []) []
+above-more n i [] d lt = absurd (omega arith)
+above-more n zero (x ∷ notes) d lt = elim (nat_lt n x.0) as (λ t. cond t (x ∷ []) [] ≡ [] ++ cond t (x ∷ []) []) [ true ↦ refl | false ↦ refl ]
+above-more n (suc i) (x ∷ notes) d lt =
+    let e : suc i + 1 ≡ suc (i + 1) = omega arith in
+    let rest = above-more n i notes d (omega arith) in
+    rw (e, rest) (elim (nat_lt n x.0) as (λ t. cond t (x ∷ (above n (take i notes) ++ cond (nat_lt n (get_or notes i d).0) (get_or notes i d ∷ []) [])) (above n (take i notes) ++ cond (nat_lt n (get_or notes i d).0) (get_or notes i d ∷ []) [])
+    ≡ cond t (x ∷ above n (take i notes)) (above n (take i notes)) ++ cond (nat_lt n (get_or notes i d).0) (get_or notes i d ∷ []) []) [ true ↦ refl | false ↦ refl ])
+
+-- a note that is held above a number is held
+pub held_above : (n number : ℕ) (notes : List Note) (marks : List (ℕ × List Extent)) → RisesFrom 0 notes → note_of number (above n notes) ≡ Some marks → note_of number notes ≡ Some marks
+held_above n number notes marks rises is =
+    sym (note_above n number notes (note_beyond n number notes marks is)) ∙ is
+  where
+    note_beyond : (n number : ℕ) (notes : List Note) (marks : List (ℕ × List Extent)) → note_of number (above n notes) ≡ Some marks → n < number
+    note_beyond n number [] marks is = absurd (cc)
+    note_beyond n number (x ∷ notes) marks is = elim (cases_lt n x.0) [
+      | inl less ↦
+          (let here : nat_lt n x.0 ≡ true = lt-ltb n x.0 less in
+          let now = rw here at is in
+          elim (cases_eq x.0 number) [
+            | inl same ↦ omega arith
+            | inr other ↦ (let no : (x.0 == number) ≡ false = ne_eqb x.0 number other in note_beyond n number notes marks (rw no at now))
+          ])
+      | inr more ↦ (let here : nat_lt n x.0 ≡ false = le-ltb n x.0 more in note_beyond n number notes marks (rw here at is))
+    ]

@@ -1,0 +1,41 @@
+-- The decision over the notes is the model's.
+use Rattle.std.proofs.Common.{◌≡◌, ◌∙◌, ◌+◌, ◌-◌, Option, Some, None, ap, sym, subst, drop, rules}
+use Rattle.iso_model.specs.declared.access.Clash.{Clash}
+use Rattle.iso_model.specs.Conflict.{clash, clash_from, first_after}
+use Rattle.iso_model.specs.Effect.{or_else}
+use Rattle.iso_model.proofs.Clashes.{no_clash}
+use Rattle.conflict_rule.specs.Notes.{above}
+use Rattle.conflict_rule.specs.Decision.{guarded_bytes, up_to, Bytes, IsLeastMeeting}
+use Rattle.conflict_rule.proofs.Clashing.{clash_parts, has_write_where, no_write_where}
+use Rattle.conflict_rule.proofs.Meetings.{clash_of, guarded_are}
+use Rattle.conflict_rule.proofs.decision.decide.Goals as goal
+
+pub returns-then-is_empty-clause-exact : goal.returns-then-is_empty-clause-exact
+returns-then-is_empty-clause-exact g c g' H begin accesses asked =
+    let none = no_write_where g' accesses c.args.writes.now asked.size asked.well_formed asked.writes c.if-is_empty.ensures.none in
+    sym (no_clash g' H c.args.mode begin accesses none)
+
+pub returns-in-Some-clause-exact : goal.returns-in-Some-clause-exact
+returns-in-Some-clause-exact g c g' H begin accesses asked =
+    let upto = c.args.checked.now.upto in
+    let touched = c.if-is_empty.ensures.some in
+    let some = has_write_where g' accesses c.args.writes.now touched.0 touched.1 asked.writes touched.2 in
+    let ahead : clash g' (up_to H upto) c.args.mode begin accesses ≡ Some c.in-Some.clash = sym asked.ahead ∙ c.in-Some.is in
+    let rest = clash_from g' c.args.mode accesses (first_after H upto) (drop (upto + 1 - H.first) H.commits) in
+    sym (clash_parts g' H c.args.mode begin upto accesses some asked.order ∙ ap (λ (o : Option Clash). or_else o rest) ahead)
+
+pub returns-clause-exact : goal.returns-clause-exact
+returns-clause-exact g c g' H begin accesses asked =
+    let upto = c.args.checked.now.upto in
+    let touched = c.if-is_empty.ensures.some in
+    let some = has_write_where g' accesses c.args.writes.now touched.0 touched.1 asked.writes touched.2 in
+    let known : c.args.checked.now.clash ≡ None = search rules in
+    let ahead : clash g' (up_to H upto) c.args.mode begin accesses ≡ None = sym asked.ahead ∙ known in
+    let rest = clash_from g' c.args.mode accesses (first_after H upto) (drop (upto + 1 - H.first) H.commits) in
+    let bytes = guarded_bytes c.args.mode c.args.reads.now c.args.writes.now in
+    let notes = above upto c.args.notes.now.notes in
+    let least : IsLeastMeeting bytes notes c.least_meeting.result = subst (λ (x : Bytes). IsLeastMeeting x notes c.least_meeting.result) c.guarded.ensures c.least_meeting.ensures.least in
+    let later : c.least_meeting.result ≡ rest =
+    clash_of g' c.args.mode accesses bytes (first_after H upto) notes (drop (upto + 1 - H.first) H.commits) c.least_meeting.result
+    (guarded_are g' c.args.mode accesses c.args.reads.now c.args.writes.now asked.reads asked.writes) asked.later least in
+    later ∙ sym (clash_parts g' H c.args.mode begin upto accesses some asked.order ∙ ap (λ (o : Option Clash). or_else o rest) ahead)

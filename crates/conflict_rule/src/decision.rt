@@ -1,0 +1,83 @@
+// The decision.
+ghost use Rattle.std.specs.Prelude.{◌≡◌, ℕ, ◌+◌, ◌≤◌, true, false, Some, None, IsSome, List, length};
+ghost use Rattle.byte_marks.specs.Touched.{touches};
+ghost use Rattle.iso_model.specs.declared.access.Access.{Access};
+ghost use Rattle.iso_model.specs.declared.access.Geometry.{Geometry};
+ghost use Rattle.iso_model.specs.Conflict.{clash};
+ghost use Rattle.iso_model.specs.History.{History};
+ghost use Rattle.conflict_rule.specs.Notes.{above};
+ghost use Rattle.conflict_rule.specs.Decision.{guarded_bytes, IsAsked, IsLeastMeeting};
+
+use crate::Notes;
+use byte_marks::Touched;
+use iso_model::{Clash, Mode};
+use step_count::{Ledger, Steps};
+
+/// What is known already: the commits up to a number, and the least clash with one of them.
+#[derive(Clone, Copy, Debug, PartialEq, Eq)]
+pub struct Checked {
+    pub upto: u64,
+    pub clash: Option<Clash>,
+}
+
+// The first commit above a number that meets these bytes. A step for each commit looked at.
+fn least_meeting<L: Ledger>(
+    bytes: &Touched,
+    upto: u64,
+    notes: &Notes,
+    steps: &mut Steps<L>,
+) -> Option<Clash>
+    ensures least { IsLeastMeeting bytes.now (above upto notes.now.notes) result }
+    ensures steps { steps.new ≤ steps.old + length (above upto notes.now.notes) }
+{
+    let mut rest = notes.after(upto);
+    while let Some((first, others)) = rest.split_first() {
+        let marks = notes.look_at(first.0, steps)?;
+        if let Some((block, at)) = marks.first_meet(bytes) {
+            return Some(Clash {
+                commit: first.0,
+                block,
+                at,
+            });
+        }
+        rest = others;
+    }
+    None
+}
+
+// The bytes that later commits may not have written.
+fn guarded<'a>(mode: Mode, reads: &'a Touched, writes: &'a Touched) -> &'a Touched
+    ensures { result.now ≡ guarded_bytes mode reads.now writes.now }
+{
+    match mode {
+        Mode::Serial => reads,
+        Mode::Snapshot => writes,
+    }
+}
+
+/// How a transaction with these bytes conflicts, if it does: not at all without a write, as is known already, or with the first commit above.
+pub fn decide<L: Ledger>(
+    mode: Mode,
+    checked: &Checked,
+    reads: &Touched,
+    writes: &Touched,
+    notes: &Notes,
+    steps: &mut Steps<L>,
+) -> Option<Clash>
+    ensures read_only { ((b p : ℕ) → touches writes.now b p ≡ false) → (result ≡ None) × (steps.new ≡ steps.old) }
+    ensures known { (b p : ℕ) → touches writes.now b p ≡ true → IsSome checked.now.clash → (result ≡ checked.now.clash) × (steps.new ≡ steps.old) }
+    ensures later { (b p : ℕ) → touches writes.now b p ≡ true → checked.now.clash ≡ None
+        → IsLeastMeeting (guarded_bytes mode reads.now writes.now) (above checked.now.upto notes.now.notes) result }
+    ensures steps { steps.new ≤ steps.old + length (above checked.now.upto notes.now.notes) }
+    ensures exact { (g : Geometry) (H : History) (begin : ℕ) (accesses : List Access)
+        → IsAsked g H mode begin accesses checked.now.upto checked.now.clash reads.now writes.now notes.now.notes
+        → result ≡ clash g H mode begin accesses }
+{
+    if writes.is_empty() {
+        return None;
+    }
+    if let Some(clash) = checked.clash {
+        return Some(clash);
+    }
+    least_meeting(guarded(mode, reads, writes), checked.upto, notes, steps)
+}

@@ -1,0 +1,12 @@
+//! Whether a transaction conflicts: what it touched, against what the commits after its begin wrote.
+#![tactic(auto)]
+
+mod decision;
+pub mod laws;
+mod notes;
+
+pub use decision::{Checked, decide};
+pub use notes::Notes;
+
+#[cfg(test)]
+mod tests;

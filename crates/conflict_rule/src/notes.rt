@@ -1,0 +1,112 @@
+// What each commit wrote.
+ghost use Rattle.std.specs.Prelude.{◌≡◌, ℕ, ◌+◌, ◌<◌, ◌≤◌, [], ◌∷◌, ◌++◌, OnOk, IsOk, IfOk, List, Some, length, option_copied, slice_index_or};
+ghost use Rattle.std.specs.List.{All};
+ghost use Rattle.byte_marks.specs.declared.extent.Extent.{Extent};
+ghost use Rattle.conflict_rule.specs.Notes.{above, note_of, RisesFrom};
+
+use byte_marks::Touched;
+use iso_model::Memory;
+use std::alloc::Global;
+use std::marker::Model;
+use step_count::{Ledger, Steps};
+
+/// The bytes that each commit above some number wrote, the numbers rising.
+#[derive(Drop)]
+pub struct Notes {
+    notes: Vec<(u64, Touched)>,
+}
+
+impl Model for Notes {
+    ghost use Rattle.std.specs.Prelude.{vec_capacity};
+    ghost use Rattle.conflict_rule.specs.Notes.{Held, RisesFrom};
+
+    ghost Value = { Held };
+
+    ghost view = { λ a. record { notes = a.notes.items; room = vec_capacity a.notes } };
+
+    ghost invariant = { λ a. RisesFrom 0 a.notes.items };
+}
+
+// The place of the first note above a number.
+fn place_after(notes: &[(u64, Touched)], number: u64) -> usize
+    requires { RisesFrom 0 notes.now }
+    ensures within { result ≤ length notes.now }
+    ensures before { (k : ℕ) → k < result → (d : ℕ × List (ℕ × List Extent)) → (slice_index_or notes.now k d).0 ≤ number }
+    ensures after { (k : ℕ) → result ≤ k → k < length notes.now → (d : ℕ × List (ℕ × List Extent)) → number < (slice_index_or notes.now k d).0 }
+{
+    notes.partition_point(|note| note.0 <= number)
+}
+
+impl Notes {
+    /// No commit. It takes no memory.
+    pub fn empty(alloc: Global) -> Notes
+        ensures { result.notes ≡ [] }
+    {
+        Notes {
+            notes: Vec::new(alloc),
+        }
+    }
+
+    /// Makes room for one more commit.
+    pub fn reserve(&mut self) -> Result<(), Memory>
+        ensures same { self.new.notes ≡ self.old.notes }
+        ensures room { OnOk result (length self.new.notes < self.new.room) }
+        ensures succeeds { length self.old.notes < self.old.room → IsOk result }
+    {
+        self.notes.reserve(1)?;
+        Ok(())
+    }
+
+    /// Adds a commit with the bytes that it wrote.
+    pub fn add(&mut self, number: u64, writes: Touched)
+        requires room { length self.old.notes < self.old.room }
+        requires number { All (λ note. note.0 < number) self.old.notes }
+        ensures { self.new.notes ≡ self.old.notes ++ (number, writes) ∷ [] }
+    {
+        let _ = self.notes.push((number, writes));
+    }
+
+    /// Keeps the commits above the floor.
+    pub fn drop_to(&mut self, floor: u64)
+        ensures notes { self.new.notes ≡ above floor self.old.notes }
+    {
+        self.notes.retain(|note| floor < note.0);
+    }
+
+    /// The notes of the commits above a number, once more.
+    pub fn copy_after(&self, number: u64) -> Result<Notes, Memory>
+        ensures { IfOk result (λ copy. copy.notes ≡ above number self.now.notes) }
+    {
+        let mut notes = Vec::new(*self.notes.allocator());
+        for note in &self.notes {
+            if number < note.0 {
+                notes.push((note.0, note.1.copy()?))?;
+            }
+        }
+        Ok(Notes { notes })
+    }
+
+    /// The bytes that the commit of this number wrote, and none exactly where no such commit is held. One step.
+    pub fn look_at<L: Ledger>(&self, number: u64, steps: &mut Steps<L>) -> Option<&Touched>
+        ensures note { option_copied result ≡ note_of number self.now.notes }
+        ensures step { steps.new ≡ steps.old + 1 }
+    {
+        steps.tick();
+        let place = place_after(self.notes.as_slice(), number);
+        if place > 0 && self.notes[place - 1].0 == number {
+            Some(&self.notes[place - 1].1)
+        } else {
+            None
+        }
+    }
+
+    // The notes of the commits above a number.
+    pub(crate) fn after(&self, number: u64) -> &[(u64, Touched)]
+        ensures notes { result.now ≡ above number self.now.notes }
+        ensures rising { RisesFrom 0 result.now }
+        ensures held { (number : ℕ) → (marks : List (ℕ × List Extent)) → note_of number result.now ≡ Some marks → note_of number self.now.notes ≡ Some marks }
+    {
+        let place = place_after(self.notes.as_slice(), number);
+        &self.notes.as_slice()[place..]
+    }
+}
