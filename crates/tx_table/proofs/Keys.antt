@@ -1,0 +1,122 @@
+-- What is held under a label stands under its key.
+use Rattle.std.proofs.Common.{◌≡◌, ◌≢◌, ◌∙◌, refl, sym, ap, subst, ℕ, zero, suc, ◌+◌, ◌==◌, nat_eq, bytes_eq, Bool, true, false, cond, inl, inr, List, [], ◌∷◌, ◌++◌, map, drop, arith, ne_eqb, Option, Some, None, is_some, IsTrue}
+use Rattle.std.specs.List.{AllByRecursion}
+use Rattle.std.specs.Map.{lookup, remove_entry}
+use Rattle.std.specs.Option.{option_map}
+use Rattle.std.proofs.lemmas.Bool.{both_ways, cases_eq}
+use Rattle.std.proofs.lemmas.Slice.Eq.{bytes_eq-Decides}
+use Rattle.std.proofs.lemmas.Grind.{common_steps}
+use Rattle.iso_model.specs.Text.{is_label, key_of}
+use Rattle.iso_model.proofs.Labels.{key_tells}
+use Rattle.tx_table.specs.Rack.{IsKeyed}
+
+bytes_self : (xs ys : List ℕ) → xs ≡ ys → bytes_eq xs ys ≡ true
+bytes_self xs ys same = (bytes_eq-Decides xs ys).1 same
+
+bytes_apart : (xs ys : List ℕ) (t : Bool) → bytes_eq xs ys ≡ t → xs ≢ ys → t ≡ false
+bytes_apart xs ys true is other = absurd (other ((bytes_eq-Decides xs ys).0 is))
+bytes_apart xs ys false is other = refl
+
+-- the test by key is the test by text
+test_same : (xs ys : List ℕ) (key : ℕ) → IsTrue (is_label xs) → IsTrue (is_label ys) → key ≡ key_of ys → nat_eq (key_of xs) key ≡ bytes_eq xs ys
+test_same xs ys key label label' is = elim (cases_eq (key_of xs) key) [
+  | inl same ↦
+      (let here : nat_eq (key_of xs) key ≡ true = grind (arith, common_steps) in
+      here ∙ sym (bytes_self xs ys (key_tells xs ys label label' (same ∙ is))))
+  | inr other ↦
+      (let apart : nat_eq (key_of xs) key ≡ false = ne_eqb (key_of xs) key other in
+      apart ∙ sym (bytes_apart xs ys (bytes_eq xs ys) refl (λ same. other (ap key_of same ∙ sym is))))
+]
+
+pub same_lookup : {T : Type 0} (text : List ℕ) (es : List (ℕ × (List ℕ × T))) → IsTrue (is_label text) → AllByRecursion IsKeyed es
+    → option_map (λ v. v.1) (lookup (nat_eq (key_of text)) es) ≡ lookup (bytes_eq text) (map (λ e. e.1) es)
+same_lookup text [] label all = refl
+same_lookup {T} text (e ∷ es) label all =
+    rw (test_same text e.1.0 e.0 label all.0.label all.0.key)
+    (elim (bytes_eq text e.1.0) as (λ t. option_map (λ v. v.1) (cond t (Some e.1) (lookup (nat_eq (key_of text)) es)) ≡ cond t (Some e.1.1) (lookup (bytes_eq text) (map (λ x. x.1) es))) [
+      | true ↦ refl
+      | false ↦ same_lookup text es label all.1
+    ])
+
+pub same_rest : {T : Type 0} (text : List ℕ) (es : List (ℕ × (List ℕ × T))) → IsTrue (is_label text) → AllByRecursion IsKeyed es
+    → map (λ e. e.1) (remove_entry (nat_eq (key_of text)) es) ≡ remove_entry (bytes_eq text) (map (λ e. e.1) es)
+same_rest text [] label all = refl
+same_rest {T} text (e ∷ es) label all =
+    rw (test_same text e.1.0 e.0 label all.0.label all.0.key)
+    (elim (bytes_eq text e.1.0) as (λ t. map (λ x. x.1) (cond t es (e ∷ remove_entry (nat_eq (key_of text)) es)) ≡ cond t (map (λ x. x.1) es) (e.1 ∷ remove_entry (bytes_eq text) (map (λ x. x.1) es))) [
+      | true ↦ refl
+      | false ↦ ap (λ (l : List (List ℕ × T)). e.1 ∷ l) (same_rest text es label all.1)
+    ])
+
+pub rest_keyed : {T : Type 0} (key : ℕ) (es : List (ℕ × (List ℕ × T))) → AllByRecursion IsKeyed es → AllByRecursion IsKeyed (remove_entry (nat_eq key) es)
+rest_keyed key [] all = tt
+rest_keyed {T} key (e ∷ es) all = elim (nat_eq key e.0) as (λ t. AllByRecursion IsKeyed (cond t es (e ∷ remove_entry (nat_eq key) es))) [
+  | true ↦ all.1
+  | false ↦ (all.0, rest_keyed key es all.1)
+]
+
+pub more_keyed : {T : Type 0} (es : List (ℕ × (List ℕ × T))) (e : ℕ × (List ℕ × T)) → AllByRecursion IsKeyed es → IsKeyed e → AllByRecursion IsKeyed (es ++ e ∷ [])
+more_keyed [] e all here = (here, tt)
+more_keyed (x ∷ es) e all here = (all.0, more_keyed es e all.1 here)
+
+pub map_more : {T : Type 0} (es : List (ℕ × (List ℕ × T))) (e : ℕ × (List ℕ × T)) → map (λ x. x.1) (es ++ e ∷ []) ≡ map (λ x. x.1) es ++ e.1 ∷ []
+map_more [] e = refl
+map_more {T} (x ∷ es) e = ap (λ (l : List (List ℕ × T)). x.1 ∷ l) (map_more es e)
+
+some_mapped : {A B : Type 0} (f : A → B) (o : Option A) → is_some o ≡ is_some (option_map f o)
+some_mapped f None = refl
+some_mapped f (Some x) = refl
+
+-- a map under keys, and what is seen of it
+pub held_is : {T : Type 0} (text : List ℕ) (key : ℕ) (es : List (ℕ × (List ℕ × T))) (now : List (List ℕ × T)) (found : Bool)
+    → key ≡ key_of text → IsTrue (is_label text) → AllByRecursion IsKeyed es → map (λ e. e.1) es ≡ now
+    → found ≡ is_some (lookup (nat_eq key) es) → found ≡ is_some (lookup (bytes_eq text) now)
+held_is {T} text key es now found is label all seen test =
+    test ∙ ap (λ (k : ℕ). is_some (lookup (nat_eq k) es)) is
+    ∙ some_mapped (λ (v : List ℕ × T). v.1) (lookup (nat_eq (key_of text)) es)
+    ∙ ap is_some (same_lookup text es label all)
+    ∙ ap (λ (l : List (List ℕ × T)). is_some (lookup (bytes_eq text) l)) seen
+
+item_is : {T : Type 0} (text : List ℕ) (key : ℕ) (es : List (ℕ × (List ℕ × T))) (now : List (List ℕ × T)) (item : Option (List ℕ × T))
+    → key ≡ key_of text → IsTrue (is_label text) → AllByRecursion IsKeyed es → map (λ e. e.1) es ≡ now
+    → item ≡ lookup (nat_eq key) es → option_map (λ v. v.1) item ≡ lookup (bytes_eq text) now
+item_is {T} text key es now item is label all seen test =
+    ap (option_map (λ (v : List ℕ × T). v.1)) (test ∙ ap (λ (k : ℕ). lookup (nat_eq k) es) is)
+    ∙ same_lookup text es label all
+    ∙ ap (λ (l : List (List ℕ × T)). lookup (bytes_eq text) l) seen
+
+pub no_item : {T : Type 0} (text : List ℕ) (key : ℕ) (es : List (ℕ × (List ℕ × T))) (now : List (List ℕ × T)) (item : Option (List ℕ × T)) (result : Option T)
+    → key ≡ key_of text → IsTrue (is_label text) → AllByRecursion IsKeyed es → map (λ e. e.1) es ≡ now
+    → item ≡ lookup (nat_eq key) es → item ≡ None → result ≡ None → result ≡ lookup (bytes_eq text) now
+no_item {T} text key es now item result is label all seen test none end =
+    end ∙ sym (ap (option_map (λ (v : List ℕ × T). v.1)) none) ∙ item_is text key es now item is label all seen test
+
+pub the_item : {T : Type 0} (text : List ℕ) (key : ℕ) (es : List (ℕ × (List ℕ × T))) (now : List (List ℕ × T)) (item : Option (List ℕ × T)) (other : List ℕ) (result : T)
+    → key ≡ key_of text → IsTrue (is_label text) → AllByRecursion IsKeyed es → map (λ e. e.1) es ≡ now
+    → item ≡ lookup (nat_eq key) es → item ≡ Some (other, result) → Some result ≡ lookup (bytes_eq text) now
+the_item {T} text key es now item other result is label all seen test some =
+    sym (ap (option_map (λ (v : List ℕ × T). v.1)) some) ∙ item_is text key es now item is label all seen test
+
+pub rest_is : {T : Type 0} (text : List ℕ) (key : ℕ) (es new : List (ℕ × (List ℕ × T))) (now : List (List ℕ × T))
+    → key ≡ key_of text → IsTrue (is_label text) → AllByRecursion IsKeyed es → map (λ e. e.1) es ≡ now
+    → new ≡ remove_entry (nat_eq key) es → map (λ e. e.1) new ≡ remove_entry (bytes_eq text) now
+rest_is {T} text key es new now is label all seen rest =
+    ap (map (λ (e : ℕ × (List ℕ × T)). e.1)) (rest ∙ ap (λ (k : ℕ). remove_entry (nat_eq k) es) is)
+    ∙ same_rest text es label all
+    ∙ ap (λ (l : List (List ℕ × T)). remove_entry (bytes_eq text) l) seen
+
+pub rest_stands : {T : Type 0} (key : ℕ) (es new : List (ℕ × (List ℕ × T))) → AllByRecursion IsKeyed es → new ≡ remove_entry (nat_eq key) es → AllByRecursion IsKeyed new
+rest_stands key es new all rest = subst (AllByRecursion IsKeyed) (sym rest) (rest_keyed key es all)
+
+pub none_from : {A : Type 0} → (o : Option A) (found : Bool) → found ≡ is_some o → found ≡ false → o ≡ None
+none_from None found is off = refl
+none_from (Some x) found is off = absurd (both_ways found off is)
+
+pub post_shows : {T : Type 0} (text : List ℕ) (item : T) (key : ℕ) (es new : List (ℕ × (List ℕ × T))) (now : List (List ℕ × T))
+    → map (λ e. e.1) es ≡ now → new ≡ es ++ (key, (text, item)) ∷ [] → map (λ e. e.1) new ≡ now ++ (text, item) ∷ []
+post_shows {T} text item key es new now seen more =
+    ap (map (λ (e : ℕ × (List ℕ × T)). e.1)) more ∙ map_more es (key, (text, item)) ∙ ap (λ (l : List (List ℕ × T)). l ++ (text, item) ∷ []) seen
+
+pub post_stands : {T : Type 0} (text : List ℕ) (item : T) (key : ℕ) (es new : List (ℕ × (List ℕ × T)))
+    → key ≡ key_of text → IsTrue (is_label text) → AllByRecursion IsKeyed es → new ≡ es ++ (key, (text, item)) ∷ [] → AllByRecursion IsKeyed new
+post_stands text item key es new is label all more = subst (AllByRecursion IsKeyed) (sym more) (more_keyed es (key, (text, item)) all (record { key = is; label = label }))

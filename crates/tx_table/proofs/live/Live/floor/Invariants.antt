@@ -1,0 +1,8 @@
+-- The least of the first begins.
+use Rattle.std.proofs.Common.{◌≡◌, map, take}
+use Rattle.iso_model.specs.World.{floor_of}
+use Rattle.tx_table.specs.Live.{at_work}
+use Rattle.tx_table.proofs.live.Live.floor.Given as goal
+
+abbrev pub invariant-loop-i : goal.invariant-loop-i
+invariant-loop-i l = l.least ≡ floor_of l.last (map at_work (take l.i l.self))

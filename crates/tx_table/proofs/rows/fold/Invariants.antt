@@ -1,0 +1,12 @@
+-- The rows so far are in what is read and what is written.
+use Rattle.std.proofs.Common.{take, map}
+use Rattle.byte_marks.specs.Touched.{AreTouched}
+use Rattle.iso_model.specs.declared.access.Kind.TheVariants.{Read, Write}
+use Rattle.tx_table.specs.Work.{access_of}
+use Rattle.tx_table.proofs.rows.fold.Given as goal
+
+abbrev pub invariant-loop-at : goal.invariant-loop-at
+invariant-loop-at l = record {
+  reads : AreTouched l.size l.blocks Read (take l.from (map access_of l.rows)) l.initial.reads → AreTouched l.size l.blocks Read (take l.at (map access_of l.rows)) l.reads;
+  writes : AreTouched l.size l.blocks Write (take l.from (map access_of l.rows)) l.initial.writes → AreTouched l.size l.blocks Write (take l.at (map access_of l.rows)) l.writes;
+}

@@ -1,0 +1,30 @@
+-- Nothing is done.
+use Rattle.std.proofs.Common.{◌≡◌, ◌∙◌, ℕ, ap, sym, refl, arith, rules, true, false, ◌&&◌, Bool, nat_lt, ◌<◌, ◌≤◌, length, subst, map, List, [], Option}
+use Rattle.std.specs.List.{AllByRecursion}
+use Rattle.merge_write.proofs.Effects.{no_effects}
+use Rattle.tx_table.specs.declared.rows.Row.{Row}
+use Rattle.tx_table.specs.Patches.{patch_at, AreEffects, HavePatches, Held}
+use Rattle.tx_table.specs.Work.{access_of, IsRow}
+use Rattle.tx_table.proofs.Applied.{none_touched}
+use Rattle.tx_table.proofs.work.Work.begin.Goals as goal
+
+pub invariant_of-result : goal.invariant_of-result
+invariant_of-result c =
+    let size = c.args.geometry.now.block in
+    let blocks = c.args.geometry.now.blocks in
+    let held = c.empty.ensures in
+    let none : c.empty.result.entries ≡ [] = ap (λ (h : Held). h.entries) held in
+    let rows : c.new.result.items ≡ [] = c.new.ensures.items in (
+      c.requires,
+      ap (λ (h : Held). h.size) held,
+      subst (λ (l : List Row). AllByRecursion (λ row. IsRow size row × (row.block < blocks)) l) (sym rows) tt,
+      omega arith,
+      omega arith,
+      subst (λ (l : List (ℕ × List (Option ℕ))). AreEffects size [] l) (sym none) (record { each = λ b. sym (no_effects b 0 size) }),
+      subst (λ (l : List Row). HavePatches (map access_of l) c.empty.result.entries) (sym rows) tt,
+      none_touched size blocks _ c.empty-2.result c.empty-2.ensures,
+      none_touched size blocks _ c.empty-3.result c.empty-3.ensures,
+      tt,
+      subst (λ (l : List Row). length l ≤ 4096) (sym rows) (omega arith),
+      c.new-2.ensures.items,
+    )

@@ -1,0 +1,115 @@
+-- The last row has one mark more, and none of what is up to date has the last row.
+use Rattle.std.proofs.Common.{◌≡◌, ◌≢◌, ◌∙◌, ◌⊎◌, ℕ, ◌+◌, ◌-◌, ◌<◌, ◌≤◌, Bool, true, false, ◌==◌, ◌&&◌, List, ◌∷◌, [], ◌++◌, Option, Some, None, Result, Ok, Err, sym, ap, subst, arith, refl, inl, inr, length, get_or, set, map, take, ne_eqb, length-set, vec_capacity}
+use Rattle.std.specs.List.{AllByRecursion}
+use Rattle.std.specs.Option.{IfSome}
+use Rattle.std.proofs.lemmas.List.{get_or_default}
+use Rattle.byte_marks.specs.Touched.{AreTouched}
+use Rattle.iso_model.specs.declared.access.Access.{Access}
+use Rattle.iso_model.specs.declared.access.Kind.{Kind}
+use Rattle.iso_model.specs.declared.access.Kind.TheVariants.{Read, Write}
+use Rattle.iso_model.specs.declared.access.MarkError.{MarkError}
+use Rattle.iso_model.specs.declared.access.MarkError.TheVariants.{TooManyMarks}
+use Rattle.iso_model.specs.declared.access.Span.{Span}
+use Rattle.iso_model.specs.Marks.{mark_fault, marked}
+use Rattle.iso_model.specs.Premises.{IsSpan}
+use Rattle.tx_table.specs.declared.rows.Row.{Row}
+use Rattle.tx_table.specs.Patches.{AreEffects, has_patch, Held, HavePatches}
+use Rattle.tx_table.specs.Work.{access_of, Doing, IsRow, span_at}
+use Rattle.tx_table.proofs.Last.{all_set, fault_of, full_fault, have_kept, have_set, if_some, marked_row, marked_set, no_fault, row_there, take_set}
+use Rattle.tx_table.proofs.work.Work.mark.Goals as goal
+
+pub returns-then-index-ge-MAX_SPANS-clause-err : goal.returns-then-index-ge-MAX_SPANS-clause-err
+returns-then-index-ge-MAX_SPANS-clause-err c fault is =
+    let rows = c.self.inside.rows.items in
+    let size = c.self.inside.size in
+    let i = c.len-end.result - 1 in
+    let d = c.index.result.now in
+    let last : i + 1 ≡ length rows = omega (arith, c.len-end.ensures, c.self.inside.rows.ok.0, c.if-end-eq0.false) in
+    let all = row_there (λ r. IsRow size r × (r.block < c.self.inside.blocks)) i rows d c.self.invariant.2 (omega (arith, last)) in
+    let here : d ≡ get_or rows i d = c.index.ensures in
+    let full : 8 ≤ (get_or rows i d).count = subst (λ (r : Row). 8 ≤ r.count) here c.if-index-ge-MAX_SPANS.true in
+    let fits : c.args.off + c.args.len ≤ size = omega (arith, c.if-from-self.false, c.from.ensures, c.from-else-len-eq0.ensures) in
+    let found : mark_fault size c.args.off c.args.len (map access_of rows) ≡ Some TooManyMarks =
+    full_fault size c.args.off c.args.len i rows d c.if-len-eq0.false fits last all.0 full in
+    (sym (ap (λ (w : Doing). mark_fault w.size c.args.off c.args.len w.accesses) c.self.view_is) ∙ found ∙ fault_of TooManyMarks fault is, refl)
+
+pub invariant_of-self : goal.invariant_of-self
+invariant_of-self c =
+    let rows = c.self.inside.rows.items in
+    let size = c.self.inside.size in
+    let blocks = c.self.inside.blocks in
+    let i = c.len-end.result - 1 in
+    let d = c.index_mut.result.now in
+    let row = c.add.new.self in
+    let old = c.self.inside.patches in
+    let new = c.reopen_patches-self-inside.new.patches in
+    let last : i + 1 ≡ length rows = omega (arith, c.len-end.ensures, c.self.inside.rows.ok.0, c.if-end-eq0.false) in
+    let all = row_there (λ r. IsRow size r × (r.block < blocks)) i rows d c.self.invariant.2 (omega (arith, last)) in
+    let here : d ≡ get_or rows i d = c.index_mut.ensures.value in
+    let first : c.index.result.now ≡ d = c.index.ensures ∙ get_or_default rows i c.index.result.now d (omega (arith, last)) ∙ sym here in
+    let less : d.count < 8 = subst (λ (r : Row). r.count < 8) first c.if-index-ge-MAX_SPANS.false in
+    let fits : c.args.off + c.args.len ≤ size = omega (arith, c.if-from-self.false, c.from.ensures, c.from-else-len-eq0.ensures) in
+    let span : IsSpan size (span_at c.args.off c.args.len) = record { some = omega (arith, c.if-len-eq0.false); fits = fits } in
+    let is_row : IsRow size row = marked_row size d row (span_at c.args.off c.args.len) (subst (IsRow size) (sym here) all.0) c.add.ensures.access c.add.ensures.count less span in
+    let same_block : row.block ≡ d.block = ap (λ (a : Access). a.block) c.add.ensures.access in
+    let same_kind' : row.kind ≡ d.kind = ap (λ (a : Access). a.kind) c.add.ensures.access in
+    let block : row.block < blocks = subst (λ (n : ℕ). n < blocks) (sym (same_block ∙ ap (λ (r : Row). r.block) here)) all.1 in
+    let long : length (set rows i row) ≡ length rows = length-set rows i row in
+    let held : old.size ≡ size = c.self.invariant.1 in
+    let effects : AreEffects size (take c.reopen_patches-self-inside.result (map access_of rows)) new.entries =
+    (let h = c.reopen_patches-self-inside.ensures.effects (map access_of rows) in rw held at h) c.self.invariant.5 in
+    let have : HavePatches (map access_of rows) new.entries = have_kept (map access_of rows) old.entries new.entries (λ b h. c.reopen_patches-self-inside.ensures.kept b ∙ h) c.self.invariant.6 in (
+      c.self.invariant.0,
+      c.reopen_patches-self-inside.ensures.size ∙ held,
+      all_set (λ r. IsRow size r × (r.block < blocks)) i rows row c.self.invariant.2 (is_row, block),
+      omega (arith, long, last, c.reopen_patches-self-inside.ensures.few),
+      omega (arith, long, last, c.reopen_touched-self-inside.ensures.few),
+      subst (λ (l : List Access). AreEffects size l new.entries) (sym (take_set c.reopen_patches-self-inside.result i rows row c.reopen_patches-self-inside.ensures.few)) effects,
+      have_set i rows row d new.entries (same_kind' ∙ ap (λ (r : Row). r.kind) here) (same_block ∙ ap (λ (r : Row). r.block) here) have,
+      subst (λ (l : List Access). AreTouched size blocks Read l c.reopen_touched-self-inside.new.reads) (sym (take_set c.reopen_touched-self-inside.result i rows row c.reopen_touched-self-inside.ensures.few))
+          (c.reopen_touched-self-inside.ensures.reads size blocks Read (map access_of rows) c.self.invariant.7),
+      subst (λ (l : List Access). AreTouched size blocks Write l c.reopen_touched-self-inside.new.writes) (sym (take_set c.reopen_touched-self-inside.result i rows row c.reopen_touched-self-inside.ensures.few))
+          (c.reopen_touched-self-inside.ensures.writes size blocks Write (map access_of rows) c.self.invariant.8),
+      if_some c.self.inside.ready (λ b room. (
+        room.0,
+        subst (λ (n : ℕ). n < vec_capacity c.self.inside.rows) (sym long) room.1,
+        room.2,
+        elim room.3 [ inl there ↦ inl (c.reopen_patches-self-inside.ensures.kept b ∙ there) | inr spare ↦ inr (c.reopen_patches-self-inside.ensures.spare ∙ spare) ],
+      )) c.self.invariant.9,
+      subst (λ (n : ℕ). n ≤ 4096) (sym long) c.self.invariant.10,
+      c.self.invariant.11,
+    )
+
+pub returns-clause-ok : goal.returns-clause-ok
+returns-clause-ok c =
+    let rows = c.self.inside.rows.items in
+    let size = c.self.inside.size in
+    let i = c.len-end.result - 1 in
+    let d = c.index_mut.result.now in
+    let row = c.add.new.self in
+    let span : Span = span_at c.args.off c.args.len in
+    let last : i + 1 ≡ length rows = omega (arith, c.len-end.ensures, c.self.inside.rows.ok.0, c.if-end-eq0.false) in
+    let all = row_there (λ r. IsRow size r × (r.block < c.self.inside.blocks)) i rows d c.self.invariant.2 (omega (arith, last)) in
+    let here : d ≡ get_or rows i d = c.index_mut.ensures.value in
+    let first : c.index.result.now ≡ get_or rows i d = c.index.ensures ∙ get_or_default rows i c.index.result.now d (omega (arith, last)) in
+    let less : (get_or rows i d).count < 8 = subst (λ (r : Row). r.count < 8) first c.if-index-ge-MAX_SPANS.false in
+    let fits : c.args.off + c.args.len ≤ size = omega (arith, c.if-from-self.false, c.from.ensures, c.from-else-len-eq0.ensures) in
+    let none : mark_fault size c.args.off c.args.len (map access_of rows) ≡ None = no_fault size c.args.off c.args.len i rows d c.if-len-eq0.false fits last all.0 less in
+    let access : access_of row ≡ record (access_of (get_or rows i d)) { spans = (access_of (get_or rows i d)).spans ++ span ∷ [] } =
+    c.add.ensures.access ∙ ap (λ (r : Row). record (access_of r) { spans = (access_of r).spans ++ span ∷ [] }) here in
+    let changed : map access_of (set rows i row) ≡ marked span c.args.self.now.accesses =
+    marked_set i rows row d span last access ∙ ap (λ (w : Doing). marked span w.accesses) c.self.view_is in
+    let long : length (set rows i row) ≡ length rows = length-set rows i row in
+    let open_now : (c.reopen_patches-self-inside.result == length (set rows i row)) ≡ false =
+    ne_eqb c.reopen_patches-self-inside.result (length (set rows i row)) (λ same. omega (arith, same, long, last, c.reopen_patches-self-inside.ensures.few)) in (
+      sym (ap (λ (w : Doing). mark_fault w.size c.args.off c.args.len w.accesses) c.self.view_is) ∙ none,
+      λ j. record {
+        begin = (c.self.view_is j).begin;
+        mode = (c.self.view_is j).mode;
+        size = (c.self.view_is j).size;
+        blocks = (c.self.view_is j).blocks;
+        accesses = changed j;
+        ready = (c.self.view_is j).ready;
+        settled = (open_now j) && (c.reopen_touched-self-inside.result == length (set rows i row));
+      },
+    )

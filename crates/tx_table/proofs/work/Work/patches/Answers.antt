@@ -1,0 +1,26 @@
+-- The patches are up to date, so their runs are those of the accesses.
+use Rattle.std.proofs.Common.{◌≡◌, ◌∙◌, ℕ, Bool, true, ◌==◌, ◌&&◌, sym, ap, subst, arith, List, map, take, length, Option, flat_map}
+use Rattle.iso_model.specs.declared.access.Access.{Access}
+use Rattle.iso_model.specs.Effect.{runs, runs_from}
+use Rattle.tx_table.specs.declared.rows.Row.{Row}
+use Rattle.tx_table.specs.Patches.{AreEffects, RisesFrom}
+use Rattle.tx_table.specs.Work.{access_of, Doing}
+use Rattle.tx_table.proofs.Covered.{settled_is}
+use Rattle.tx_table.proofs.Last.{length_rows, take_whole}
+use Rattle.tx_table.proofs.Runs.{runs_of_patches}
+use Rattle.tx_table.proofs.work.Work.patches.Goals as goal
+
+pub returns-clause-runs : goal.returns-clause-runs
+returns-clause-runs c g is_size is_blocks =
+    let rows = c.self.inside.rows.items in
+    let size = c.self.inside.size in
+    let blocks = c.self.inside.blocks in
+    let es = c.self.inside.patches.entries in
+    let is : c.entries.result ≡ es = c.entries.ensures.is in
+    let done = settled_is c.self.inside.applied (length rows) c.self.inside.folded (ap (λ (d : Doing). d.settled) c.self.view_is ∙ c.requires) in
+    let whole : take c.self.inside.applied (map access_of rows) ≡ map access_of rows = take_whole c.self.inside.applied (map access_of rows) (done.0 ∙ sym (length_rows rows)) in
+    let are : AreEffects size (map access_of rows) es = subst (λ (l : List Access). AreEffects size l es) whole c.self.invariant.5 in
+    ap (flat_map (λ e. runs_from e.0 0 e.1)) is
+    ∙ runs_of_patches size blocks rows es g (is_size ∙ sym (ap (λ (d : Doing). d.size) c.self.view_is)) (is_blocks ∙ sym (ap (λ (d : Doing). d.blocks) c.self.view_is))
+    c.self.invariant.2 (subst (RisesFrom 0) is c.entries.ensures.rising) are
+    ∙ ap (λ (d : Doing). runs g d.accesses) c.self.view_is

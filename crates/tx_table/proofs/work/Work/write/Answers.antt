@@ -1,0 +1,54 @@
+-- The row with the bytes stands behind the others, and its block has a patch.
+use Rattle.std.proofs.Common.{◌≡◌, ◌∙◌, ◌⊎◌, ℕ, ◌+◌, ◌<◌, ◌≤◌, Bool, true, false, cond, sym, ap, subst, arith, refl, List, [], ◌∷◌, ◌++◌, map, take, length, Option, Some, IsTrue, IsFalse, is_ok, vec_capacity, vec_len}
+use Rattle.std.specs.Option.{IfSome}
+use Rattle.std.proofs.lemmas.Bool.{both_ways}
+use Rattle.iso_model.specs.declared.access.Access.{Access}
+use Rattle.iso_model.specs.declared.access.Kind.TheVariants.{Write}
+use Rattle.iso_model.specs.Effect.{effects_from, is_write}
+use Rattle.iso_model.specs.Premises.{AreBytes, HasBytes}
+use Rattle.tx_table.specs.declared.rows.Row.{Row}
+use Rattle.tx_table.specs.Patches.{patch_at, AreEffects, has_patch, HavePatches}
+use Rattle.tx_table.specs.Work.{access_of, Doing, IsRow}
+use Rattle.tx_table.proofs.Last.{appended, have_kept, length_rows, unmarked_row}
+use Rattle.tx_table.proofs.work.Work.write.Goals as goal
+
+pub invariant_of-self : goal.invariant_of-self
+invariant_of-self c =
+    let rows = c.self.inside.rows.items in
+    let size = c.self.inside.size in
+    let blocks = c.self.inside.blocks in
+    let row = c.unmarked.result in
+    let old = c.self.inside.patches in
+    let mid = c.apply.new.patches in
+    let new = c.hold.new.self in
+    let seen : c.as_slice.result.now ≡ rows = c.as_slice.ensures.value in
+    let same : old.size ≡ size = c.self.invariant.1 in
+    let mid_size : mid.size ≡ size = c.apply.ensures.size ∙ same in
+    let applied : AreEffects size (map access_of rows) mid.entries = (let h = c.apply.ensures.effects in rw (seen, same) at h) c.self.invariant.5 in
+    let effects : AreEffects size (map access_of rows) new.entries = record {
+      each = λ b. subst (λ (n : ℕ). patch_at n b new.entries ≡ patch_at n b mid.entries) mid_size (c.hold.ensures.values b) ∙ applied.each b;
+    } in
+    let have : HavePatches (map access_of rows) new.entries =
+    have_kept (map access_of rows) old.entries new.entries (λ b h. c.hold.ensures.kept b (c.apply.ensures.kept b ∙ h)) c.self.invariant.6 in
+    let ready : c.self.inside.ready ≡ Some c.args.block = ap (λ (d : Doing). d.ready) c.self.view_is ∙ c.requires.ready in
+    let P : ℕ → Type 0 = λ b. (b < blocks) × (length rows < vec_capacity c.self.inside.rows) × (size ≤ vec_capacity c.self.inside.bytes) × ((has_patch b old.entries ≡ true) ⊎ (old.spare ≡ true)) in
+    let room : P c.args.block = subst (λ (o : Option ℕ). IfSome o P) ready c.self.invariant.9 in
+    let few : length rows < 4096 = (let h = c.requires.room in let n = length_rows rows in let e : length (map access_of rows) ≡ length c.args.self.now.accesses = ap (λ (d : Doing). length d.accesses) c.self.view_is in omega (arith, h, n, e)) in
+    let none : c.replace-kept.result.items ≡ [] = rw c.replace-kept.ensures.value c.self.invariant.11 in
+    let capacity : size ≤ vec_capacity c.replace-kept.result = rw c.replace-kept.ensures.value room.2 in
+    let long : length c.args.bytes.now ≡ size = c.requires.bytes ∙ sym (ap (λ (d : Doing). d.size) c.self.view_is) in
+    let empty : vec_len c.replace-kept.result ≡ 0 = c.replace-kept.result.ok.0 ∙ ap (length {A = ℕ}) none in
+    let fits : vec_len c.replace-kept.result + length c.args.bytes.now ≤ vec_capacity c.replace-kept.result = omega (arith, capacity, long, empty) in
+    let taken : is_ok c.extend_from_slice.result ≡ true = c.extend_from_slice.ensures.succeeds fits in
+    let kept : c.extend_from_slice.new.self.items ≡ c.args.bytes.now = (let h = c.extend_from_slice.ensures.items in rw (taken, none) at h) in
+    let a : Access = record { kind = Write; block = c.args.block; spans = []; bytes = c.extend_from_slice.new.self.items } in
+    let access : access_of row ≡ a = c.unmarked.ensures.access in
+    let bytes : HasBytes size a = λ write. ap (length {A = ℕ}) kept ∙ c.requires.bytes ∙ sym (ap (λ (d : Doing). d.size) c.self.view_is) in
+    let values : AreBytes a.bytes = subst AreBytes (sym kept) (λ i. (c.type_inv.bytes i).fits) in
+    let is_row : IsRow size row = unmarked_row size row a access c.unmarked.ensures.none refl bytes (λ read. absurd (both_ways true read refl)) values in
+    let block_is : row.block ≡ c.args.block = ap (λ (x : Access). x.block) access in
+    let block : row.block < blocks = subst (λ (n : ℕ). n < blocks) (sym block_is) room.0 in
+    let done : c.len-self-inside.result ≡ length rows = c.len-self-inside.ensures ∙ c.self.inside.rows.ok.0 in
+    let all = appended size blocks c.len-self-inside.result c.self.inside.folded rows c.push_reserved.new.self.items row new.entries c.self.inside.reads c.self.inside.writes
+    c.push_reserved.ensures.items done c.self.invariant.4 few c.self.invariant.2 is_row block effects have (λ write. ap (λ (b : ℕ). has_patch b new.entries) block_is ∙ c.hold.ensures.held) c.self.invariant.7 c.self.invariant.8 in
+    (c.self.invariant.0, c.hold.ensures.size ∙ mid_size, all.0, all.1, all.2, all.3, all.4, all.5, all.6, tt, all.7, rw c.replace-kept.ensures.after c.new.ensures.items)

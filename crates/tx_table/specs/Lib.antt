@@ -1,0 +1,4 @@
+pub mod Live
+pub mod Patches
+pub mod Rack
+pub mod Work

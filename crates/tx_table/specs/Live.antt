@@ -1,0 +1,18 @@
+-- What contracts see of `Live`: the numbers of the live transactions in the order of their begins, each with what it began with.
+use Rattle.std.specs.Prelude.{ℕ, nat_eq, List, [], Option, option_map}
+use Rattle.std.specs.Map.{lookup}
+use Rattle.iso_model.specs.declared.access.Mode.{Mode}
+use Rattle.iso_model.specs.World as model
+use Rattle.tx_table.specs.declared.live.Begun.{Begun}
+
+-- the begin of a transaction, if it is live
+abbrev pub begin_of : ℕ → List (ℕ × Begun) → Option ℕ
+begin_of tx live = option_map (λ begun. begun.at) (lookup (nat_eq tx) live)
+
+-- the mode of a transaction, if it is live
+abbrev pub mode_of : ℕ → List (ℕ × Begun) → Option Mode
+mode_of tx live = option_map (λ begun. begun.mode) (lookup (nat_eq tx) live)
+
+-- the transaction of the model that has begun so and done nothing
+abbrev pub at_work : ℕ × Begun → model.Live
+at_work entry = record { number = entry.0; begin = entry.1.at; mode = entry.1.mode; accesses = []; place = model.unattached }

@@ -1,0 +1,34 @@
+-- What contracts see of `Patches`: for each written block, rising, the values of its patch.
+use Rattle.std.specs.Prelude.{◌≡◌, ℕ, ◌+◌, ◌≤◌, ◌==◌, ◌||◌, Bool, false, cond, List, [], ◌∷◌, Option, None, replicate, IsTrue}
+use Rattle.std.specs.List.{AllByRecursion}
+use Rattle.iso_model.specs.declared.access.Access.{Access}
+use Rattle.iso_model.specs.Effect.{effects_from, is_write}
+
+pub record Held : Type 0 where
+  pub size : ℕ
+  pub entries : List (ℕ × List (Option ℕ))
+  -- whether a patch of one more block takes no memory
+  pub spare : Bool
+
+-- the blocks rise, from `from` on
+abbrev pub RisesFrom : ℕ → List (ℕ × List (Option ℕ)) → Type 0
+RisesFrom from [] = Unit {0}
+RisesFrom from (entry ∷ entries) = (from ≤ entry.0) × RisesFrom (entry.0 + 1) entries
+
+-- whether there is a patch of the block
+abbrev pub has_patch : ℕ → List (ℕ × List (Option ℕ)) → Bool
+has_patch b [] = false
+has_patch b (entry ∷ entries) = (entry.0 == b) || has_patch b entries
+
+-- what is held for a block: the values of its patch, and no value where it has none
+abbrev pub patch_at : (size b : ℕ) → List (ℕ × List (Option ℕ)) → List (Option ℕ)
+patch_at size b [] = replicate size None
+patch_at size b (entry ∷ entries) = cond (entry.0 == b) entry.1 (patch_at size b entries)
+
+-- the patches hold what the accesses write
+pub record AreEffects (size : ℕ) (accesses : List Access) (patches : List (ℕ × List (Option ℕ))) : Type 0 where
+  pub each : (b : ℕ) → patch_at size b patches ≡ effects_from accesses b 0 size
+
+-- each block that is written has a patch
+abbrev pub HavePatches : List Access → List (ℕ × List (Option ℕ)) → Type 0
+HavePatches accesses patches = AllByRecursion (λ a. IsTrue (is_write a) → IsTrue (has_patch a.block patches)) accesses

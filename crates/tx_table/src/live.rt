@@ -1,0 +1,120 @@
+// The transactions that are live.
+ghost use Rattle.std.specs.Prelude.{◌≡◌, ℕ, ◌+◌, ◌<◌, ◌≤◌, [], ◌∷◌, ◌++◌, Some, None, Err, IsSome, OnOk, OnErr, length, nat_eq, map, option_map};
+ghost use Rattle.std.specs.Map.{remove_entry};
+ghost use Rattle.iso_model.specs.declared.limits.TheConstants.{MAX_LIVE};
+ghost use Rattle.iso_model.specs.World.{floor_of};
+ghost use Rattle.tx_table.specs.Live.{at_work, begin_of, mode_of};
+
+use indexmap::IndexMap;
+use iso_model::{MAX_LIVE, Mode};
+use std::alloc::Global;
+use std::marker::Model;
+
+/// Why a transaction is not entered.
+#[derive(Clone, Copy, Debug, PartialEq, Eq)]
+pub enum EnterError {
+    TooManyTx,
+    Memory,
+}
+
+/// What a transaction began with: the last commit's number then, and its mode.
+#[derive(Clone, Copy, Debug)]
+pub struct Begun {
+    pub at: u64,
+    pub mode: Mode,
+}
+
+/// The live transactions in the order of their begins. Contracts see the list of their numbers, each with what it began with.
+#[derive(Drop)]
+pub struct Live {
+    begins: IndexMap<u64, Begun>,
+}
+
+impl Model for Live {
+    ghost use Rattle.std.specs.Prelude.{List, ℕ, ◌≤◌, length, nat_eq};
+    ghost use Rattle.iso_model.specs.declared.limits.TheConstants.{MAX_LIVE};
+    ghost use Rattle.indexmap.specs.IndexMap.{IsUnique};
+    ghost use Rattle.tx_table.specs.declared.live.Begun.{Begun};
+
+    ghost Value = { List (ℕ × Begun) };
+
+    ghost view = { λ a. a.begins.entries };
+
+    ghost invariant = { λ a. (IsUnique nat_eq a.begins) × (length a.begins.entries ≤ MAX_LIVE) };
+}
+
+impl Live {
+    /// No transaction. It takes no memory.
+    pub fn empty(alloc: Global) -> Live
+        ensures { result ≡ [] }
+    {
+        Live {
+            begins: IndexMap::new(alloc),
+        }
+    }
+
+    /// Enters a transaction, last of all.
+    pub fn enter(&mut self, tx: u64, at: u64, mode: Mode) -> Result<(), EnterError>
+        requires { begin_of tx self.old ≡ None }
+        ensures ok { OnOk result (self.new ≡ self.old ++ (tx, record { at = at; mode = mode }) ∷ []) }
+        ensures err { OnErr result (self.new ≡ self.old) }
+        ensures full { length self.old ≡ MAX_LIVE → result ≡ Err EnterError.TooManyTx }
+        ensures too_many { result ≡ Err EnterError.TooManyTx → length self.old ≡ MAX_LIVE }
+    {
+        if self.begins.len() >= MAX_LIVE {
+            return Err(EnterError::TooManyTx);
+        }
+        let Ok(_) = self.begins.insert(tx, Begun { at, mode }) else {
+            return Err(EnterError::Memory);
+        };
+        Ok(())
+    }
+
+    /// Takes a transaction out.
+    pub fn leave(&mut self, tx: u64)
+        requires { IsSome (begin_of tx self.old) }
+        ensures { self.new ≡ remove_entry (nat_eq tx) self.old }
+    {
+        self.begins.shift_remove(&tx);
+    }
+
+    /// The begin of a transaction, and none exactly where it is not live. It takes no memory.
+    pub fn at(&self, tx: u64) -> Option<u64>
+        ensures { result ≡ begin_of tx self.now }
+    {
+        let begun = self.begins.get(&tx).copied()?;
+        Some(begun.at)
+    }
+
+    /// The mode of a transaction, and none exactly where it is not live.
+    pub fn mode(&self, tx: u64) -> Option<Mode>
+        ensures { result ≡ mode_of tx self.now }
+    {
+        let begun = self.begins.get(&tx).copied()?;
+        Some(begun.mode)
+    }
+
+    /// The least begin, or `last` where no transaction is live.
+    pub fn floor(&self, last: u64) -> u64
+        ensures { result ≡ floor_of last (map at_work self.now) }
+    {
+        let mut least = last;
+        for i in 0..self.begins.len() {
+            if let Some((_, begun)) = self.begins.get_index(i) {
+                least = if i == 0 {
+                    begun.at
+                } else {
+                    least.min(begun.at)
+                };
+            }
+        }
+        least
+    }
+
+    /// How many are live.
+    pub fn len(&self) -> u32
+        ensures { result ≡ length self.now }
+    {
+        self.begins.len() as u32
+    }
+}

@@ -1,0 +1,226 @@
+ghost use Rattle.std.specs.Prelude.{◌≡◌};
+
+use crate::{EnterError, Live, PostError, Rack, Work};
+use byte_marks::{Marks, Touched};
+use iso_model::{Geometry, Label, MAX_LIVE, MarkError, Mode, Span};
+use std::alloc::Global;
+use std::process::Abort;
+use std::test::Fail;
+
+// Four blocks of 64 bytes.
+fn small() -> Geometry
+    ensures { result ≡ record { block = 64; blocks = 4; log = 64; mode = Mode.Serial; hash = 0; tree = 0; form = 1 } }
+{
+    Geometry {
+        block: 64,
+        blocks: 4,
+        log: 64,
+        mode: Mode::Serial,
+        hash: 0,
+        tree: 0,
+        form: 1,
+    }
+}
+
+fn write(rt: &impl Abort, work: &mut Work, block: u32, bytes: &[u8]) -> Result<(), Fail> {
+    assert!(rt;
+        block < work.blocks() && work.room() > 0 && bytes.len() == work.block_size() as usize
+    );
+    work.reserve(block)?;
+    work.write(block, bytes);
+    Ok(())
+}
+
+fn read(rt: &impl Abort, work: &mut Work, block: u32, into: &mut [u8]) -> Result<(), Fail> {
+    assert!(rt;
+        block < work.blocks() && work.room() > 0 && into.len() == work.block_size() as usize
+    );
+    work.reserve(block)?;
+    work.read(block, into);
+    Ok(())
+}
+
+// Whether the bytes have this one of block 2.
+fn has(alloc: Global, bytes: &Touched, at: u16) -> Result<bool, Fail> {
+    let mut one = Marks::empty(alloc);
+    if at < 64 {
+        one.add(Span { off: at, len: 1 })?;
+    }
+    let mut block = Touched::empty(alloc);
+    block.add(2, &one)?;
+    Ok(bytes.first_meet(&block).is_some())
+}
+
+fn mark(work: &mut Work, off: u16, len: u16) -> Result<(), MarkError> {
+    work.mark(off, len)
+}
+
+fn begin(alloc: Global) -> Work {
+    Work::begin(alloc, 7, &small())
+}
+
+// Whether byte `at` of block 2 is read, and whether it is written.
+fn touches(alloc: Global, work: &mut Work, at: u16) -> Result<(bool, bool), Fail> {
+    work.settle()?;
+    Ok((
+        has(alloc, work.reads(), at)?,
+        has(alloc, work.writes(), at)?,
+    ))
+}
+
+// The written blocks.
+fn blocks(alloc: Global, work: &mut Work) -> Result<Vec<u32>, Fail> {
+    work.settle()?;
+    let mut blocks = Vec::new(alloc);
+    for (block, _) in work.patches() {
+        blocks.push(block)?;
+    }
+    Ok(blocks)
+}
+
+#[test]
+fn marked_write_writes_its_marks_alone(rt: HostRuntime) -> Result<(), Fail> {
+    let alloc = rt.alloc();
+    let mut work = begin(alloc);
+    assert_eq!(rt; work.begun_at(), 7);
+    assert_eq!(rt; work.mode(), Mode::Serial);
+    write(&rt, &mut work, 2, &[0x61; 64])?;
+    assert_eq!(rt; mark(&mut work, 5, 2), Ok(()));
+    assert_eq!(rt; mark(&mut work, 0, 1), Ok(()));
+    let mut block = [0x2e; 64];
+    read(&rt, &mut work, 2, &mut block)?;
+    assert_eq!(rt; &block[..8], b"a....aa.".as_slice());
+    assert_eq!(rt; &block[8..], [0x2e; 56].as_slice());
+    write(&rt, &mut work, 2, &[0x62; 64])?;
+    assert_eq!(rt; mark(&mut work, 6, 1), Ok(()));
+    let mut block = [0x2e; 64];
+    read(&rt, &mut work, 2, &mut block)?;
+    assert_eq!(rt; &block[..8], b"a....ab.".as_slice());
+    let mut other = [0x2e; 64];
+    read(&rt, &mut work, 3, &mut other)?;
+    assert_eq!(rt; other, [0x2e; 64]);
+    Ok(())
+}
+
+#[test]
+fn ninth_mark_is_refused(rt: HostRuntime) -> Result<(), Fail> {
+    let mut work = begin(rt.alloc());
+    assert_eq!(rt; mark(&mut work, 0, 0), Err(MarkError::BadRange));
+    assert_eq!(rt; mark(&mut work, 63, 2), Err(MarkError::BadRange));
+    assert_eq!(rt; mark(&mut work, 63, 1), Err(MarkError::NoAccess));
+    write(&rt, &mut work, 1, &[1; 64])?;
+    for at in 0..8 {
+        assert_eq!(rt; mark(&mut work, at * 4, 1), Ok(()));
+    }
+    assert_eq!(rt; mark(&mut work, 1, 1), Err(MarkError::TooManyMarks));
+    assert_eq!(rt; mark(&mut work, 64, 1), Err(MarkError::BadRange));
+    write(&rt, &mut work, 1, &[2; 64])?;
+    assert_eq!(rt; mark(&mut work, 1, 1), Ok(()));
+    Ok(())
+}
+
+#[test]
+fn mark_after_settling_counts(rt: HostRuntime) -> Result<(), Fail> {
+    let alloc = rt.alloc();
+    let mut work = begin(alloc);
+    let mut block = [0; 64];
+    read(&rt, &mut work, 2, &mut block)?;
+    assert!(rt; !work.has_write());
+    assert_eq!(rt; mark(&mut work, 9, 1), Ok(()));
+    write(&rt, &mut work, 2, &[3; 64])?;
+    assert!(rt; work.has_write());
+    assert_eq!(rt; touches(alloc, &mut work, 9)?, (true, true));
+    assert_eq!(rt; touches(alloc, &mut work, 8)?, (false, true));
+    assert_eq!(rt; mark(&mut work, 3, 1), Ok(()));
+    assert_eq!(rt; touches(alloc, &mut work, 3)?, (false, true));
+    assert_eq!(rt; touches(alloc, &mut work, 9)?, (true, false));
+    let mut block = [0; 64];
+    read(&rt, &mut work, 2, &mut block)?;
+    assert_eq!(rt; &block[..6], [0, 0, 0, 3, 0, 0].as_slice());
+    Ok(())
+}
+
+#[test]
+fn patches_rise_by_block(rt: HostRuntime) -> Result<(), Fail> {
+    let alloc = rt.alloc();
+    let mut work = begin(alloc);
+    write(&rt, &mut work, 3, &[5; 64])?;
+    write(&rt, &mut work, 0, &[6; 64])?;
+    write(&rt, &mut work, 2, &[7; 64])?;
+    write(&rt, &mut work, 0, &[8; 64])?;
+    assert_eq!(rt; blocks(alloc, &mut work)?.as_slice(), [0, 2, 3].as_slice());
+    Ok(())
+}
+
+#[test]
+fn holds_4096_accesses(rt: HostRuntime) -> Result<(), Fail> {
+    let alloc = rt.alloc();
+    let mut work = begin(alloc);
+    let bytes = [9; 64];
+    for at in 0..4096 {
+        assert_eq!(rt; work.room(), 4096 - at);
+        write(&rt, &mut work, at % 4, &bytes)?;
+    }
+    assert_eq!(rt; work.room(), 0);
+    assert_eq!(rt; touches(alloc, &mut work, 63)?, (false, true));
+    assert_eq!(rt;
+        blocks(alloc, &mut work)?.as_slice(),
+        [0, 1, 2, 3].as_slice()
+    );
+    Ok(())
+}
+
+#[test]
+fn taken_over_item_is_no_longer_held(rt: HostRuntime) -> Result<(), Fail> {
+    let alloc = rt.alloc();
+    let (Some(left), Some(right)) = (Label::new(b"left"), Label::new(b"right")) else {
+        return Err(Fail::from("no label"));
+    };
+    let mut rack = Rack::empty(alloc);
+    assert!(rt; !rack.is_held(&left));
+    assert!(rt; rack.post(left.copy(), 10).is_ok());
+    assert!(rt; rack.post(right.copy(), 20).is_ok());
+    assert!(rt; rack.is_held(&left));
+    assert_eq!(rt;
+        rack.post(left.copy(), 11),
+        Err((PostError::LabelTaken, 11))
+    );
+    assert_eq!(rt; rack.look(&left), Some(10));
+    assert_eq!(rt; rack.look(&left), None);
+    assert!(rt; !rack.is_held(&left));
+    assert!(rt; rack.post(left.copy(), 12).is_ok());
+    assert_eq!(rt; rack.pop(), Some(20));
+    assert_eq!(rt; rack.pop(), Some(12));
+    assert_eq!(rt; rack.pop(), None);
+    Ok(())
+}
+
+fn enter(live: &mut Live, tx: u64, at: u64) -> Option<Result<(), EnterError>> {
+    if live.at(tx).is_some() {
+        return None;
+    }
+    Some(live.enter(tx, at, Mode::Snapshot))
+}
+
+#[test]
+fn at_most_1024_are_live(rt: HostRuntime) -> Result<(), Fail> {
+    let mut live = Live::empty(rt.alloc());
+    assert_eq!(rt; live.floor(77), 77);
+    for tx in 0..MAX_LIVE as u64 {
+        assert_eq!(rt; enter(&mut live, tx, 50 + tx), Some(Ok(())));
+    }
+    assert_eq!(rt; live.len(), 1024);
+    assert_eq!(rt; enter(&mut live, 1024, 3), Some(Err(EnterError::TooManyTx)));
+    assert_eq!(rt; live.floor(9), 50);
+    if live.at(0).is_some() {
+        live.leave(0);
+    }
+    assert_eq!(rt; live.floor(9), 51);
+    assert_eq!(rt; live.at(0), None);
+    assert_eq!(rt; live.at(1), Some(51));
+    assert_eq!(rt; live.mode(1), Some(Mode::Snapshot));
+    assert_eq!(rt; live.mode(0), None);
+    assert_eq!(rt; enter(&mut live, 1024, 3), Some(Ok(())));
+    assert_eq!(rt; live.floor(9), 3);
+    Ok(())
+}
