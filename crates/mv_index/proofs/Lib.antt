@@ -1,0 +1,15 @@
+pub mod Again
+pub mod Bounds
+pub mod Counts
+pub mod Cuts
+pub mod Few
+pub mod Gathers
+pub mod Halves
+pub mod Hiding
+pub mod Laid
+pub mod Layers
+pub mod Masks
+pub mod Showing
+pub mod Sights
+pub mod Sublists
+pub mod Trims

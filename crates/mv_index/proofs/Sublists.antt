@@ -1,0 +1,54 @@
+-- What holds of versions and stays where some are dropped.
+use Rattle.std.proofs.Common.{ℕ, zero, suc, ◌+◌, ◌<◌, ◌≤◌, Bool, true, false, cond, List, [], ◌∷◌, length, get_or, arith}
+use Rattle.std.specs.List.{AllByRecursion}
+use Rattle.mv_index.specs.declared.version.Version.{Version}
+use Rattle.mv_index.specs.Versions.{AreAtMost, AreWithin, Rise, no_version, shown_since, still_shows}
+
+pub all_at : {X : Type 0} (P : X → Type 0) (d : X) (xs : List X) → AllByRecursion P xs → (i : ℕ) → i < length xs → P (get_or xs i d)
+all_at P d [] all i below = absurd (omega arith)
+all_at P d (x ∷ xs) all zero below = all.0
+all_at P d (x ∷ xs) all (suc i) below = all_at P d xs all.1 i (omega arith)
+
+pub all_of : {X : Type 0} (P : X → Type 0) (d : X) (xs : List X) → ((i : ℕ) → i < length xs → P (get_or xs i d)) → AllByRecursion P xs
+all_of P d [] each = tt
+all_of P d (x ∷ xs) each = (each 0 (omega arith), all_of P d xs (λ i below. each (suc i) (omega arith)))
+
+all_cond : {X : Type 0} (P : X → Type 0) (x : X) (xs : List X) → P x → AllByRecursion P xs → (b : Bool) → AllByRecursion P (cond b (x ∷ xs) xs)
+all_cond P x xs one rest true = (one, rest)
+all_cond P x xs one rest false = rest
+
+pub all_shown : (P : Version → Type 0) (t : ℕ) (versions : List Version) → AllByRecursion P versions → AllByRecursion P (shown_since t versions)
+all_shown P t [] all = tt
+all_shown P t (v ∷ versions) all = all_cond P v (shown_since t versions) all.0 (all_shown P t versions all.1) (still_shows t v versions)
+
+abbrev Rises : List Version → Type 0
+Rises [] = Unit {0}
+Rises (v ∷ versions) = AllByRecursion (λ w. v.number ≤ w.number) versions × Rises versions
+
+rises_of : (versions : List Version) → Rise versions → Rises versions
+rises_of [] rise = tt
+rises_of (v ∷ versions) rise = (all_of (λ w. v.number ≤ w.number) no_version versions (λ i below. rise 0 (suc i) (omega arith) (omega arith)), rises_of versions (λ i j le below. rise (suc i) (suc j) (omega arith) (omega arith)))
+
+rise_of : (versions : List Version) → Rises versions → Rise versions
+rise_of [] rises i j le below = absurd (omega arith)
+rise_of (v ∷ versions) rises zero zero le below = omega arith
+rise_of (v ∷ versions) rises zero (suc j) le below = all_at (λ w. v.number ≤ w.number) no_version versions rises.0 j (omega arith)
+rise_of (v ∷ versions) rises (suc i) zero le below = absurd (omega arith)
+rise_of (v ∷ versions) rises (suc i) (suc j) le below = rise_of versions rises.1 i j (omega arith) (omega arith)
+
+rises_cond : (v : Version) (versions : List Version) → AllByRecursion (λ w. v.number ≤ w.number) versions → Rises versions → (b : Bool) → Rises (cond b (v ∷ versions) versions)
+rises_cond v versions all rest true = (all, rest)
+rises_cond v versions all rest false = rest
+
+rises_shown : (t : ℕ) (versions : List Version) → Rises versions → Rises (shown_since t versions)
+rises_shown t [] rises = tt
+rises_shown t (v ∷ versions) rises = rises_cond v (shown_since t versions) (all_shown (λ w. v.number ≤ w.number) t versions rises.0) (rises_shown t versions rises.1) (still_shows t v versions)
+
+pub shown_rise : (t : ℕ) (versions : List Version) → Rise versions → Rise (shown_since t versions)
+shown_rise t versions rise = rise_of (shown_since t versions) (rises_shown t versions (rises_of versions rise))
+
+pub shown_within : (t size : ℕ) (versions : List Version) → AreWithin size versions → AreWithin size (shown_since t versions)
+shown_within t size versions within = all_at (λ v. v.off + v.len ≤ size) no_version (shown_since t versions) (all_shown (λ v. v.off + v.len ≤ size) t versions (all_of (λ v. v.off + v.len ≤ size) no_version versions within))
+
+pub most_shown : (t n : ℕ) (versions : List Version) → AreAtMost n versions → AreAtMost n (shown_since t versions)
+most_shown t n versions most = all_at (λ v. v.number ≤ n) no_version (shown_since t versions) (all_shown (λ v. v.number ≤ n) t versions (all_of (λ v. v.number ≤ n) no_version versions most))

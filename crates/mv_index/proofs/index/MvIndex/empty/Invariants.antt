@@ -1,0 +1,7 @@
+-- Rows without versions.
+use Rattle.std.proofs.Common.{◌≡◌, ℕ, [], length}
+use Rattle.mv_index.specs.Versions.{count_of, versions_in}
+use Rattle.mv_index.proofs.index.MvIndex.empty.Given as goal
+
+abbrev pub invariant-loop : goal.invariant-loop
+invariant-loop l = (length l.rows.items ≡ l.counter) × (count_of l.rows.items ≡ 0) × ((b : ℕ) → versions_in l.rows.items b ≡ [])

@@ -1,0 +1,9 @@
+use Rattle.mv_index.specs.Versions.{shown_since}
+use Rattle.mv_index.proofs.Layers.{newest_kept, same_newest, since_same}
+use Rattle.mv_index.proofs.laws.dropped_versions_show_nothing.Goals as goal
+
+pub returns-clause-from_there : goal.returns-clause-from_there
+returns-clause-from_there _ = λ t n versions le image p. since_same image t n p versions le
+
+pub returns-clause-all : goal.returns-clause-all
+returns-clause-all _ = λ t versions. same_newest (shown_since t versions) versions (λ p. newest_kept t p versions)

@@ -1,0 +1,5 @@
+use Rattle.mv_index.proofs.Hiding.{hidden_of, of_hidden}
+use Rattle.mv_index.proofs.laws.hidden_versions_are_dropped.Goals as goal
+
+pub returns : goal.returns
+returns _ = λ t v later. (hidden_of t v later, of_hidden t v later)

@@ -1,0 +1,7 @@
+use Rattle.std.proofs.Common.{refl}
+use Rattle.iso_model.specs.Versions.{is_written, kept_from}
+use Rattle.mv_index.proofs.Counts.{count_is}
+use Rattle.mv_index.proofs.laws.versions_are_those_that_the_model_keeps.Goals as goal
+
+pub returns : goal.returns
+returns _ = λ g trim first place commits index has. count_is g trim (is_written trim) (kept_from g trim) (λ k b p. refl) (λ k c later b p. refl) (λ n. refl) (λ n c later. refl) first place commits index has

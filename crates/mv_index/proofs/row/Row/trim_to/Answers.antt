@@ -1,0 +1,10 @@
+-- What is left rises, and the pieces are those of what is left.
+use Rattle.std.proofs.Common.{List, sym, subst}
+use Rattle.mv_index.specs.declared.version.Version.{Version}
+use Rattle.mv_index.specs.Pieces.{IsRow}
+use Rattle.mv_index.proofs.Showing.{row_trimmed}
+use Rattle.mv_index.proofs.row.Row.trim_to.Goals as goal
+
+pub invariant_of-self : goal.invariant_of-self
+invariant_of-self c =
+    subst (λ (l : List Version). IsRow l c.self.inside.pieces.items) (sym c.trim_list.ensures.kept) (row_trimmed c.args.number c.self.inside.versions.items c.self.inside.pieces.items c.self.invariant)

@@ -1,0 +1,10 @@
+-- The first ones are at or below the number, the last ones above it; what is left is halved with each step.
+use Rattle.std.proofs.Common.{◌-◌, ◌≤◌}
+use Rattle.mv_index.proofs.Halves.{IsSearched}
+use Rattle.mv_index.proofs.search.count_upto.Given as goal
+
+abbrev pub invariant-loop-low : goal.invariant-loop-low
+invariant-loop-low g l = IsSearched l.versions l.at (l.steps - l.initial.steps) l.low l.high × (l.initial.steps ≤ l.steps)
+
+abbrev pub decreases-loop-low : goal.decreases-loop-low
+decreases-loop-low g l = l.high - l.low

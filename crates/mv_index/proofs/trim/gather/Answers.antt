@@ -1,0 +1,14 @@
+-- A version is looked at.
+use Rattle.std.proofs.Common.{refl, sym, arith}
+use Rattle.mv_index.proofs.Gathers.{gathered_kept, gathered_passed}
+use Rattle.mv_index.proofs.trim.gather.Goals as goal
+
+pub loop-left-preserved-then-look : goal.loop-left-preserved-then-look
+loop-left-preserved-then-look c =
+    gathered_kept c.args.versions.now c.loop-left.versions c.loop-left.seen c.look.new.seen c.args.number c.loop-left.left c.loop-left.kept _ c.loop-left.invariant c.loop-left-test.true refl
+    (λ i below. omega (arith, c.requires.within i below, c.loop-left.auto.seen)) c.look.auto.seen c.look.ensures.marked _ refl (sym c.if-look.ensures.shows)
+
+pub loop-left-preserved : goal.loop-left-preserved
+loop-left-preserved c =
+    gathered_passed c.args.versions.now c.loop-left.versions c.loop-left.seen c.look.new.seen c.args.number c.loop-left.left c.loop-left.kept _ c.loop-left.invariant c.loop-left-test.true refl
+    (λ i below. omega (arith, c.requires.within i below, c.loop-left.auto.seen)) c.look.auto.seen c.look.ensures.marked (sym c.if-look.ensures.shows)

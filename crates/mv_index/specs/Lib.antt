@@ -1,0 +1,5 @@
+pub mod Masks
+pub mod Pieces
+pub mod Placed
+pub mod Shown
+pub mod Versions

@@ -1,0 +1,117 @@
+// The versions of all blocks.
+ghost use Rattle.std.specs.Prelude.{◌≡◌, ◌≢◌, ◌+◌, ◌-◌, ◌*◌, ◌^◌, ◌<◌, ◌≤◌, [], ℕ, IfOk, IsOk, OnOk, count_by, length, slice_index_or};
+ghost use Rattle.mv_index.specs.Shown.{AllLie, ShowTheSame};
+ghost use Rattle.mv_index.specs.Versions.{AreAtMost, IsAdded, block_of, count_of, has, no_version, room_of, shown_since, upto, versions_in};
+
+use crate::row::Row;
+use crate::{Ledger, Steps, Version};
+use iso_model::Memory;
+use std::alloc::Global;
+use std::marker::Model;
+
+/// For each block its versions, rising. Contracts see a list with an entry for each block.
+#[derive(Debug, Drop)]
+pub struct MvIndex {
+    rows: Vec<Row>,
+    count: u64,
+}
+
+impl Model for MvIndex {
+    ghost use Rattle.std.specs.Prelude.{◌≡◌, List};
+    ghost use Rattle.mv_index.specs.Versions.{BlockVersions, count_of};
+
+    ghost Value = { List BlockVersions };
+
+    ghost view = { λ a. a.rows.items };
+
+    ghost invariant = { λ a. a.count ≡ count_of a.rows.items };
+}
+
+impl MvIndex {
+    /// An index of so many blocks, without versions.
+    pub fn empty(alloc: Global, blocks: u32) -> Result<MvIndex, Memory>
+        ensures blocks { IfOk result (λ index. length index ≡ blocks) }
+        ensures none { IfOk result (λ index. (b : ℕ) → versions_in index b ≡ []) }
+        ensures count { IfOk result (λ index. count_of index ≡ 0) }
+    {
+        let mut rows = Vec::with_capacity(alloc, blocks as usize)?;
+        for _ in 0..blocks {
+            rows.push(Row::empty(alloc))?;
+        }
+        Ok(MvIndex { rows, count: 0 })
+    }
+
+    /// The versions of the block with a number at or below this one, rising.
+    pub fn find<L: Ledger>(&self, block: u32, at: u64, steps: &mut Steps<L>) -> &[Version]
+        requires { block < length self.now }
+        ensures exact { result.now ≡ upto at (versions_in self.now block) }
+        ensures steps { steps.old ≤ steps.new }
+        ensures cost { 2 ^ (steps.new - steps.old) ≤ 2 * length (versions_in self.now block) + 1 }
+    {
+        self.rows[block as usize].find(at, steps)
+    }
+
+    /// The pieces of the block's versions that show at the last number, in no order: laid over the base they give the same
+    /// bytes as all its versions in order, and no byte is in two of them.
+    pub fn showing(&self, block: u32) -> &[Version]
+        requires { block < length self.now }
+        ensures same { ShowTheSame result.now (versions_in self.now block) }
+        ensures once { (p : ℕ) → count_by (has p) result.now ≤ 1 }
+        ensures some { (i : ℕ) → i < length result.now → 0 < (slice_index_or result.now i no_version).len }
+        ensures few { length result.now ≤ 2 * length (versions_in self.now block) }
+        ensures within { (size area : ℕ) → AllLie size area (versions_in self.now block) → AllLie size area result.now }
+    {
+        self.rows[block as usize].showing()
+    }
+
+    /// Makes room for so many more versions of the block.
+    pub fn reserve(&mut self, block: u32, count: u32) -> Result<(), Memory>
+        requires { block < length self.old }
+        ensures blocks { length self.new ≡ length self.old }
+        ensures same { (b : ℕ) → versions_in self.new b ≡ versions_in self.old b }
+        ensures others { (b : ℕ) → b ≢ block → block_of self.new b ≡ block_of self.old b }
+        ensures room { OnOk result (count ≤ room_of self.new block) }
+        ensures no_less { room_of self.old block ≤ room_of self.new block }
+        ensures succeeds { count ≤ room_of self.old block → IsOk result }
+        ensures count { count_of self.new ≡ count_of self.old }
+    {
+        self.rows[block as usize].reserve(count)
+    }
+
+    /// Adds a version to the block. There is room for it, and its number is not below the last one.
+    pub fn add(&mut self, block: u32, version: Version)
+        requires block { block < length self.old }
+        requires room { 0 < room_of self.old block }
+        requires rising { AreAtMost version.number (versions_in self.old block) }
+        requires within { version.off + version.len ≤ 4096 }
+        requires place { version.place + version.len < 2 ^ 64 }
+        requires count { count_of self.old + 1 < 2 ^ 64 }
+        ensures added { IsAdded block version self.old self.new }
+    {
+        self.rows[block as usize].add(version);
+        self.count += 1;
+    }
+
+    /// Drops the versions at or below the number that show no byte there. It answers how many.
+    pub fn trim_to(&mut self, number: u64) -> u64
+        ensures blocks { length self.new ≡ length self.old }
+        ensures kept { (b : ℕ) → versions_in self.new b ≡ shown_since number (versions_in self.old b) }
+        ensures room { (b : ℕ) → room_of self.old b ≤ room_of self.new b }
+        ensures count { result + count_of self.new ≡ count_of self.old }
+    {
+        let mut seen = [0; 64];
+        let mut dropped = 0;
+        for row in self.rows.as_mut_slice() {
+            dropped += row.trim_to(number, &mut seen);
+        }
+        self.count -= dropped;
+        dropped
+    }
+
+    /// How many versions there are.
+    pub fn count(&self) -> u64
+        ensures { result ≡ count_of self.now }
+    {
+        self.count
+    }
+}

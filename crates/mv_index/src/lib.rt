@@ -1,0 +1,18 @@
+//! The versions of each block: where the bytes of each commit's parts stand in the image.
+#![tactic(auto)]
+
+mod index;
+pub mod laws;
+mod mask;
+mod pieces;
+mod row;
+mod search;
+mod trim;
+mod version;
+
+pub use index::MvIndex;
+pub use step_count::{Blank, Ledger, Steps};
+pub use version::Version;
+
+#[cfg(test)]
+mod tests;

@@ -1,0 +1,100 @@
+// The versions of one block.
+ghost use Rattle.std.specs.Prelude.{◌≡◌, ◌+◌, ◌-◌, ◌*◌, ◌^◌, ◌<◌, ◌≤◌, ◌++◌, [], ◌∷◌, ℕ, IsOk, OnOk, count_by, length, slice_index_or};
+ghost use Rattle.mv_index.specs.Shown.{AllLie, ShowTheSame};
+ghost use Rattle.mv_index.specs.Versions.{AreAtMost, has, no_version, shown_since, upto};
+
+use crate::pieces::lay;
+use crate::search::count_upto;
+use crate::trim::trim_list;
+use crate::{Ledger, Steps, Version};
+use iso_model::Memory;
+use std::alloc::Global;
+use std::marker::Model;
+
+/// The versions of one block, rising, and the pieces of them that show at the last number, in no order.
+/// Contracts see the versions, and for how many more there is room: each takes room for two pieces at most.
+#[derive(Debug, Drop)]
+pub struct Row {
+    versions: Vec<Version>,
+    pieces: Vec<Version>,
+}
+
+impl Model for Row {
+    ghost use Rattle.std.specs.Prelude.{◌-◌, ◌/◌, min, vec_len, vec_capacity};
+    ghost use Rattle.mv_index.specs.Pieces.{IsRow};
+    ghost use Rattle.mv_index.specs.Versions.{BlockVersions};
+
+    ghost Value = { BlockVersions };
+
+    ghost view = { λ a. record { versions = a.versions.items; room = min (vec_capacity a.versions - vec_len a.versions) ((vec_capacity a.pieces - vec_len a.pieces) / 2) } };
+
+    ghost invariant = { λ a. IsRow a.versions.items a.pieces.items };
+}
+
+impl Row {
+    /// No versions. It takes no memory.
+    pub fn empty(alloc: Global) -> Row
+        ensures { result.versions ≡ [] }
+    {
+        Row {
+            versions: Vec::new(alloc),
+            pieces: Vec::new(alloc),
+        }
+    }
+
+    /// The versions with a number at or below this one.
+    pub fn find<L: Ledger>(&self, at: u64, steps: &mut Steps<L>) -> &[Version]
+        ensures exact { result.now ≡ upto at self.now.versions }
+        ensures steps { steps.old ≤ steps.new }
+        ensures cost { 2 ^ (steps.new - steps.old) ≤ 2 * length self.now.versions + 1 }
+    {
+        let count = count_upto(self.versions.as_slice(), at, steps);
+        &self.versions.as_slice()[..count]
+    }
+
+    /// The pieces of the versions that show at the last number, in no order.
+    pub fn showing(&self) -> &[Version]
+        ensures same { ShowTheSame result.now self.now.versions }
+        ensures once { (p : ℕ) → count_by (has p) result.now ≤ 1 }
+        ensures some { (i : ℕ) → i < length result.now → 0 < (slice_index_or result.now i no_version).len }
+        ensures few { length result.now ≤ 2 * length self.now.versions }
+        ensures within { (block size : ℕ) → AllLie block size self.now.versions → AllLie block size result.now }
+    {
+        self.pieces.as_slice()
+    }
+
+    /// Makes room for so many more.
+    pub fn reserve(&mut self, count: u32) -> Result<(), Memory>
+        ensures same { self.new.versions ≡ self.old.versions }
+        ensures room { OnOk result (count ≤ self.new.room) }
+        ensures no_less { self.old.room ≤ self.new.room }
+        ensures succeeds { count ≤ self.old.room → IsOk result }
+    {
+        self.versions.reserve(count as usize)?;
+        self.pieces.reserve(2 * count as usize)?;
+        Ok(())
+    }
+
+    /// Adds a version. There is room for it.
+    pub fn add(&mut self, version: Version)
+        requires room { 0 < self.old.room }
+        requires rising { AreAtMost version.number self.old.versions }
+        requires within { version.off + version.len ≤ 4096 }
+        requires place { version.place + version.len < 2 ^ 64 }
+        ensures added { self.new.versions ≡ self.old.versions ++ version ∷ [] }
+        ensures room { self.old.room ≤ self.new.room + 1 }
+    {
+        lay(&mut self.pieces, &version);
+        self.versions.push_reserved(version);
+    }
+
+    /// Drops the versions at or below the number that show no byte there. It answers how many.
+    pub fn trim_to(&mut self, number: u64, seen: &mut [u64]) -> u64
+        requires seen { length seen.old ≡ 64 }
+        ensures kept { self.new.versions ≡ shown_since number self.old.versions }
+        ensures count { result + length self.new.versions ≡ length self.old.versions }
+        ensures room { self.old.room ≤ self.new.room }
+    {
+        trim_list(&mut self.versions, number, seen)
+    }
+}

@@ -1,0 +1,9 @@
+//! Dropping what no transaction reads any more from the index of versions.
+#![tactic(auto)]
+
+mod trimming;
+
+pub use trimming::trim;
+
+#[cfg(test)]
+mod tests;
