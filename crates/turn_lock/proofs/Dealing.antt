@@ -11,7 +11,8 @@ use Rattle.turn_lock.specs.declared.view.View.{View}
 use Rattle.turn_lock.specs.declared.view.Stage.{Stage}
 use Rattle.turn_lock.specs.declared.view.Stage.TheVariants.{Idle, Waits, Turns}
 use Rattle.turn_lock.specs.Lists.{total, hit, times, AllBelow, places, longer}
-use Rattle.turn_lock.specs.Numbers.{IsOut, IsFree, IsHeld, with_number}
+use Rattle.std.specs.Prelude.{option_to_list}
+use Rattle.turn_lock.specs.Numbers.{IsOut, AreFree, AreHeld}
 use Rattle.turn_lock.specs.Views.{fresh, spent, waits, turns, gave, kept_part, given_part, both}
 use Rattle.turn_lock.specs.Ticket.{ticket_at, tickets_at, turns_at, Once, drawn_by, turning, placed_by, held_by, Whole, Knows, Dealt}
 use Rattle.turn_lock.proofs.Prefixes.{prefix_self, prefix_whole, prefix_length, prefix_more, longer_left, longer_right, prefix_longer, longer_whole}
@@ -52,7 +53,7 @@ waits_is_no_idle t e = cc
 turns_is_no_idle : (t : ℕ) → Turns t ≡ Idle → ⊥
 turns_is_no_idle t e = cc
 
-no_number : (number : Option ℕ) (units : ℕ) → (IsSome number → 0 < units) → units ≡ 0 → with_number number [] ≡ []
+no_number : (number : Option ℕ) (units : ℕ) → (IsSome number → 0 < units) → units ≡ 0 → option_to_list number ≡ []
 no_number None units enough none = refl
 no_number (Some n) units enough none = let lt = enough refl in absurd (omega arith)
 
@@ -86,7 +87,7 @@ module _ {E : Type 0} where
   pub knows_blank : (list : List E) → Knows list spent
   knows_blank list = record { begins = (list, refl); left_begins = (list, refl); right_begins = (list, refl); below = tt; rises = tt; whole = tt; note = λ _. (refl, refl, refl) }
 
-module _ {E : Type 0} (hands takes : E → Option ℕ) (list : List E) (tickets : ℕ) (views : List (View E)) (d : Dealt hands takes list tickets views) where
+module _ {E : Type 0} (hands : E → Option ℕ) (takes : E → List ℕ) (list : List E) (tickets : ℕ) (views : List (View E)) (d : Dealt hands takes list tickets views) where
   -- a pass gets another stage, and may have seen more
   restage : (tickets' id : ℕ) (v : View E) (seen : List E) (stage : Stage) → get_elem? views id ≡ some v → tickets_at stage + tickets ≡ tickets_at v.stage + tickets'
       → ((n k k' : ℕ) → k' + ticket_at n v.stage ≡ k + ticket_at n stage → Once (length list) tickets n k → Once (length list) tickets' n k')
@@ -143,7 +144,7 @@ module _ {E : Type 0} (hands takes : E → Option ℕ) (list : List E) (tickets 
       let c = d.counted in omega arith
 
   -- an entry is added at a turn
-  pub deals_entry : (id t : ℕ) (v : View E) (e : E) → get_elem? views id ≡ some v → v.stage ≡ Turns t → IsFree hands takes (hands e) v.seen → IsHeld (takes e) v.holds
+  pub deals_entry : (id t : ℕ) (v : View E) (e : E) → get_elem? views id ≡ some v → v.stage ≡ Turns t → AreFree hands takes (option_to_list (hands e)) v.seen → AreHeld (takes e) v.holds
       → Dealt hands takes (list ++ e ∷ []) tickets (set views id (gave hands takes e v))
   deals_entry id t v e at stage free held =
       let k = d.each id v at in
@@ -152,7 +153,7 @@ module _ {E : Type 0} (hands takes : E → Option ℕ) (list : List E) (tickets 
       let more : List E = list ++ e ∷ [] in
       let size : length more ≡ length list + 1 = length-append list (e ∷ []) in
       let here : length v.seen ≡ length list = ap length whole.0 in
-      let free' : IsFree hands takes (hands e) list = subst (IsFree hands takes (hands e)) whole.0 free in
+      let free' : AreFree hands takes (option_to_list (hands e)) list = subst (AreFree hands takes (option_to_list (hands e))) whole.0 free in
       let numbers : (n : ℕ) → (held_by n (set views id w) ≤ 1) × (0 < held_by n (set views id w) → IsOut hands takes n more) =
       λ n. held_on hands takes n e v.holds list (held_by n views) (held_by n (set views id w)) (total_set (λ (u : View E). times n u.holds) views id v w at)
       (total_at (λ (u : View E). times n u.holds) views id v at) (d.alone n) (d.out n) free' held in record {
@@ -191,11 +192,15 @@ module _ {E : Type 0} (hands takes : E → Option ℕ) (list : List E) (tickets 
             });
       }
 
+  -- each number that a pass holds is out
+  pub own_out : (id : ℕ) (v : View E) → get_elem? views id ≡ some v → (n : ℕ) → 0 < times n v.holds → IsOut hands takes n list
+  own_out id v at n lt = d.out n (let a = total_at (λ (u : View E). times n u.holds) views id v at in omega arith)
+
   cut_total : (f : View E → ℕ) (id : ℕ) (v w new : View E) → get_elem? views id ≡ some v → f w + f new ≡ f v → total f (set views id w ++ new ∷ []) ≡ total f views
   cut_total f id v w new at parts = let s = total_set f views id v w at in let a = total_append f (set views id w) (new ∷ []) in omega arith
 
   -- a pass is cut in two
-  pub deals_split : (id : ℕ) (v : View E) (number : Option ℕ) (units : ℕ) → get_elem? views id ≡ some v → units < v.units → IsHeld number v.holds → (IsSome number → 0 < units)
+  pub deals_split : (id : ℕ) (v : View E) (number : Option ℕ) (units : ℕ) → get_elem? views id ≡ some v → units < v.units → AreHeld (option_to_list number) v.holds → (IsSome number → 0 < units)
       → Dealt hands takes list tickets (set views id (kept_part number units v) ++ given_part number units v ∷ [])
   deals_split id v number units at some_left held some_given =
       let k = d.each id v at in
@@ -289,7 +294,7 @@ module _ {E : Type 0} (hands takes : E → Option ℕ) (list : List E) (tickets 
   none_turns_at_end id v at all idle =
       total_only (λ (u : View E). turns_at u.stage) views id v at (λ j u ne is. ap turns_at (others_are_notes id v at all j u ne is).0) ∙ ap turns_at idle
 
-module _ {E : Type 0} (hands takes : E → Option ℕ) where
+module _ {E : Type 0} (hands : E → Option ℕ) (takes : E → List ℕ) where
   first_knows : (id : ℕ) (v : View E) → get_elem? (fresh ∷ []) id ≡ some v → Knows [] v
   first_knows zero v at = subst (Knows []) (some-injective fresh v at)
       record { begins = ([], refl); left_begins = ([], refl); right_begins = ([], refl); below = tt; rises = tt; whole = tt; note = λ none. (refl, refl, refl) }

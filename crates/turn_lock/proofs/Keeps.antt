@@ -13,20 +13,22 @@ use Rattle.turn_lock.specs.declared.view.TheConstants.{LAST}
 use Rattle.turn_lock.specs.declared.view.View.{View}
 use Rattle.turn_lock.specs.declared.view.Stage.TheVariants.{Idle, Waits, Turns}
 use Rattle.turn_lock.specs.Lists.{times, AllBelow, places, longer}
-use Rattle.turn_lock.specs.Numbers.{IsFree, IsHeld}
+use Rattle.std.specs.Prelude.{option_to_list}
+use Rattle.turn_lock.specs.Numbers.{IsOut, AreOut, AreFree, AreHeld}
 use Rattle.turn_lock.specs.Views.{fresh, spent, waits, turns, gave, kept_part, given_part, both}
 use Rattle.turn_lock.specs.Ticket.{turns_at, turning, Dealt, Rests, Fair}
-use Rattle.turn_lock.specs.Steps.{ticket_of, Sat, drew, Turned, looked, advanced, settled, IsPlaced, Settled}
+use Rattle.turn_lock.specs.Steps.{ticket_of, Sat, drew, Turned, looked, advanced, settled, IsPlaced, IsAtRest, IsAtTurn, Settled}
 use Rattle.turn_lock.proofs.Prefixes.{prefix_length, prefix_whole, prefix_shorter, longer_left, longer_right}
 use Rattle.turn_lock.proofs.Totals.{total_set, total_at}
 use Rattle.turn_lock.proofs.Rising.{below_more, below_snoc, rises_snoc}
-use Rattle.turn_lock.proofs.Dealing.{whole_at, deals_draw, deals_turn, none_turns, served_is_drawn, deals_entry, deals_split, deals_join, turning_join, turning_split, has_all_places, has_seen_all, none_turns_at_end, deals_first}
+use Rattle.turn_lock.proofs.Outs.{handed_out, taken_free}
+use Rattle.turn_lock.proofs.Dealing.{whole_at, deals_draw, deals_turn, none_turns, served_is_drawn, deals_entry, own_out, deals_split, deals_join, turning_join, turning_split, has_all_places, has_seen_all, none_turns_at_end, deals_first}
 
 -- the next number, in 64 bits
 next_fits : (n t : ℕ) → n < t → t ≤ LAST → (n + 1) % 2 ^ 64 ≡ n + 1
 next_fits n t lt le = omega arith
 
-module _ {X E : Type 0} (stands : X → List E → Type 0) (hands takes_back : E → Option ℕ) where
+module _ {X E : Type 0} (stands : X → List E → Type 0) (hands : E → Option ℕ) (takes_back : E → List ℕ) where
   abbrev Table : Type 0
   Table = State (Option X) (View E)
 
@@ -101,7 +103,7 @@ module _ {X E : Type 0} (stands : X → List E → Type 0) (hands takes_back : E
           stands_for = home.2;
           seen = (r.dealt.each id m.0 at).begins;
           place = place;
-          out = λ n lt. r.dealt.out n (let a = total_at (λ (u : View E). times n u.holds) s.views id m.0 at in omega arith);
+          out = own_out hands takes_back r.list r.tickets s.views r.dealt id m.0 at;
           all = λ all. has_all_places hands takes_back r.list r.tickets s.views r.dealt id m.0 at all;
         },
       ))
@@ -138,7 +140,7 @@ module _ {X E : Type 0} (stands : X → List E → Type 0) (hands takes_back : E
   )
 
   pub advances : (slots id t next : ℕ) (m : Sat X E) (x : X) (e : E) → next ≡ (t + 1) % 2 ^ 64 → m.0.stage ≡ Turns t → m.1 ≡ (0, Some x) ∷ [] → stands x (m.0.seen ++ e ∷ [])
-      → IsFree hands takes_back (hands e) m.0.seen → IsHeld (takes_back e) m.0.holds
+      → AreFree hands takes_back (option_to_list (hands e)) m.0.seen → AreHeld (takes_back e) m.0.holds
       → Allows Rule slots id m 1 (λ _. next) (λ _. advanced hands takes_back e (step slots 1 next 0 none) m next)
   advances slots id t next m x e up stage has value free held s r deep at fits =
       let k = r.dealt.each id m.0 at in
@@ -165,14 +167,14 @@ module _ {X E : Type 0} (stands : X → List E → Type 0) (hands takes_back : E
           dealt = deals_entry hands takes_back r.list r.tickets s.views r.dealt id t m.0 e at stage free held;
           slot = inl (x, homes_back s.homes m.1 x has out.0, subst (λ (l : List E). stands x (l ++ e ∷ [])) whole.0 value, omega arith);
         },
-        refl,
+        (refl, taken_free hands takes_back m.0.holds m.0.seen e (λ n lt. subst (IsOut hands takes_back n) (sym whole.0) (own_out hands takes_back r.list r.tickets s.views r.dealt id m.0 at n lt)) free held),
       ))
       r.slot
     where
       homes_back : (hs : List (maybe.Option (Option X))) (c : List (ℕ × Option X)) (x : X) → c ≡ (0, Some x) ∷ [] → hs ≡ none ∷ [] → put_back hs c ≡ some (Some x) ∷ []
       homes_back hs c x has out = ap (put_back hs) has ∙ ap (λ (h : List (maybe.Option (Option X))). set h 0 (some (Some x))) out
 
-  pub splits : (id : ℕ) (v : View E) (number : Option ℕ) (units : ℕ) → units < v.units → IsHeld number v.holds → (IsSome number → 0 < units)
+  pub splits : (id : ℕ) (v : View E) (number : Option ℕ) (units : ℕ) → units < v.units → AreHeld (option_to_list number) v.holds → (IsSome number → 0 < units)
       → Splits Rule id v (kept_part number units v) (given_part number units v)
   splits id v number units some_left held enough s r at = record {
     list = r.list;
@@ -248,8 +250,8 @@ module _ {X E : Type 0} (stands : X → List E → Type 0) (hands takes_back : E
       settles slots id m (omega arith) (omega arith)
 
   -- the store of a give, once the value is back in its slot
-  pub gives_back : (slots id t next : ℕ) (m old : Sat X E) (x : X) (e : E) → m ≡ (old.0, (0, Some x) ∷ rest old.1) → next ≡ (t + 1) % 2 ^ 64 → (old.0.stage ≡ Turns t) × (old.1 ≡ (0, None) ∷ []) × IsPlaced old.0 × (t ≡ length old.0.seen)
-      → stands x (old.0.seen ++ e ∷ []) → IsFree hands takes_back (hands e) old.0.seen → IsHeld (takes_back e) old.0.holds
+  pub gives_back : (slots id t next : ℕ) (m old : Sat X E) (x : X) (e : E) → m ≡ (old.0, (0, Some x) ∷ rest old.1) → next ≡ (t + 1) % 2 ^ 64 → IsAtTurn old t
+      → stands x (old.0.seen ++ e ∷ []) → AreFree hands takes_back (option_to_list (hands e)) old.0.seen → AreHeld (takes_back e) old.0.holds
       → Allows Rule slots id m 1 (λ _. next) (λ _. advanced hands takes_back e (step slots 1 next 0 none) m next)
   gives_back slots id t next m old x e is up turn value free held =
       let there : m ≡ (old.0, (0, Some x) ∷ []) = is ∙ ap (λ (c : List (ℕ × Option X)). (old.0, (0, Some x) ∷ rest c)) turn.1 in
@@ -257,8 +259,8 @@ module _ {X E : Type 0} (stands : X → List E → Type 0) (hands takes_back : E
       (advances slots id t next (old.0, (0, Some x) ∷ []) x e up turn.0 refl value free held)
 
   -- the pass after a give
-  pub rests_after : (t : ℕ) (m m' old : Sat X E) (x : X) (e : E) → m ≡ (old.0, (0, Some x) ∷ rest old.1) → m' ≡ (gave hands takes_back e m.0, rest m.1) → (old.0.stage ≡ Turns t) × (old.1 ≡ (0, None) ∷ []) × IsPlaced old.0 × (t ≡ length old.0.seen)
-      → (m'.0.stage ≡ Idle) × (m'.1 ≡ []) × IsPlaced m'.0
+  pub rests_after : (t : ℕ) (m m' old : Sat X E) (x : X) (e : E) → m ≡ (old.0, (0, Some x) ∷ rest old.1) → m' ≡ (gave hands takes_back e m.0, rest m.1) → IsAtTurn old t
+      → IsAtRest m'
   rests_after t m m' old x e is is' turn =
       let there : m' ≡ (gave hands takes_back e old.0, rest old.1) = is' ∙ ap (λ (q : Sat X E). (gave hands takes_back e q.0, rest q.1)) is in
       let placed : IsPlaced (gave hands takes_back e old.0) = (
@@ -269,6 +271,9 @@ module _ {X E : Type 0} (stands : X → List E → Type 0) (hands takes_back : E
         ap (λ (q : Sat X E). q.1) there ∙ ap rest turn.1,
         subst (λ (q : Sat X E). IsPlaced q.0) (sym there) placed,
       )
+
+  pub handed_after : (m m' : Sat X E) (e : E) → m' ≡ (gave hands takes_back e m.0, rest m.1) → AreOut hands takes_back (option_to_list (hands e)) m'.0.seen × AreHeld (option_to_list (hands e)) m'.0.holds
+  handed_after m m' e is = subst (λ (q : Sat X E). AreOut hands takes_back (option_to_list (hands e)) q.0.seen × AreHeld (option_to_list (hands e)) q.0.holds) (sym is) (handed_out hands takes_back m.0.holds m.0.seen e)
 
   -- the steps of a take, from the pass that it began with
   pub draws_from : (slots id n : ℕ) (m old : Sat X E) → m ≡ old → old.0.stage ≡ Idle → 0 < old.0.units → n < LAST
@@ -297,7 +302,7 @@ module _ {X E : Type 0} (stands : X → List E → Type 0) (hands takes_back : E
       slot_or o [] = o
       slot_or o (x ∷ xs) = x.1
 
-  pub has_turn : (t : ℕ) (v : View E) (m' m'' : Sat X E) → Turned stands hands takes_back t v m' → m'' ≡ (m'.0, (0, None) ∷ rest m'.1) → IsPlaced v → (m''.0.stage ≡ Turns t) × (m''.1 ≡ (0, None) ∷ []) × IsPlaced m''.0 × (t ≡ length m''.0.seen)
+  pub has_turn : (t : ℕ) (v : View E) (m' m'' : Sat X E) → Turned stands hands takes_back t v m' → m'' ≡ (m'.0, (0, None) ∷ rest m'.1) → IsPlaced v → IsAtTurn m'' t
   has_turn t v m' m'' c is placed =
       let there : m'' ≡ (turns t c.list v, (0, None) ∷ []) = is ∙ (λ i. (c.view_is i, (0, None) ∷ rest (c.slot_is i))) in (
         ap (λ (q : Sat X E). q.0.stage) there,
@@ -307,15 +312,15 @@ module _ {X E : Type 0} (stands : X → List E → Type 0) (hands takes_back : E
       )
 
   -- a pass at its turn, after a join
-  pub whole_after : (t : ℕ) (m m' old : Sat X E) (w : View E) → m ≡ (both old.0 w, old.1) → m' ≡ m → Settled m.0 → (old.0.stage ≡ Turns t) × (old.1 ≡ (0, None) ∷ []) × IsPlaced old.0 × (t ≡ length old.0.seen)
+  pub whole_after : (t : ℕ) (m m' old : Sat X E) (w : View E) → m ≡ (both old.0 w, old.1) → m' ≡ m → Settled m.0 → IsAtTurn old t
       → m'.0.seen ≡ old.0.seen
   whole_after t m m' old w is same done turn =
       let left : m.0.left ≡ old.0.seen = ap (λ (q : Sat X E). q.0.left) is in
       let stage : m.0.stage ≡ Turns t = ap (λ (q : Sat X E). q.0.stage) is ∙ turn.0 in
       ap (λ (q : Sat X E). q.0.seen) same ∙ (sym (done.whole t stage (turn.3 ∙ sym (ap length left))) ∙ left)
 
-  pub turn_after : (t : ℕ) (m m' old : Sat X E) (w : View E) → m ≡ (both old.0 w, old.1) → m' ≡ m → Settled m.0 → (old.0.stage ≡ Turns t) × (old.1 ≡ (0, None) ∷ []) × IsPlaced old.0 × (t ≡ length old.0.seen)
-      → (m'.0.stage ≡ Turns t) × (m'.1 ≡ (0, None) ∷ []) × IsPlaced m'.0 × (t ≡ length m'.0.seen)
+  pub turn_after : (t : ℕ) (m m' old : Sat X E) (w : View E) → m ≡ (both old.0 w, old.1) → m' ≡ m → Settled m.0 → IsAtTurn old t
+      → IsAtTurn m' t
   turn_after t m m' old w is same done turn = (
     ap (λ (q : Sat X E). q.0.stage) (same ∙ is) ∙ turn.0,
     ap (λ (q : Sat X E). q.1) (same ∙ is) ∙ turn.1,
@@ -323,7 +328,7 @@ module _ {X E : Type 0} (stands : X → List E → Type 0) (hands takes_back : E
     turn.3 ∙ ap length (sym (whole_after t m m' old w is same done turn)),
   )
 
-  pub rest_after : (m m' old : Sat X E) (w : View E) → m ≡ (both old.0 w, old.1) → m' ≡ m → Settled m.0 → (old.0.stage ≡ Idle) × (old.1 ≡ []) × IsPlaced old.0 → (m'.0.stage ≡ Idle) × (m'.1 ≡ []) × IsPlaced m'.0
+  pub rest_after : (m m' old : Sat X E) (w : View E) → m ≡ (both old.0 w, old.1) → m' ≡ m → Settled m.0 → IsAtRest old → IsAtRest m'
   rest_after m m' old w is same done idle = (
     ap (λ (q : Sat X E). q.0.stage) (same ∙ is) ∙ idle.0,
     ap (λ (q : Sat X E). q.1) (same ∙ is) ∙ idle.1,

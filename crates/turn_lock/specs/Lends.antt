@@ -5,9 +5,9 @@ use Rattle.turn_lock.specs.declared.turn.Turn.{Turn}
 use Rattle.turn_lock.specs.contracts.turn.Turn.{the_row}
 
 -- the turn with another value
-abbrev pub with_value : {V : Type 0} → Turn V → V → Turn V
+abbrev pub with_value : {V E : Type 0} → Turn V E → V → Turn V E
 with_value t v = record t { value = v }
 
 -- the turn ends with the last value behind r
-abbrev pub LendsValue : (R : RattleType) → MutBor (Turn R.Denot) → MutBor R.Denot → Fml
-LendsValue R t r = Lends (the_row R) R t r (with_value t.now)
+abbrev pub LendsValue : (R E : RattleType) → MutBor (Turn R.Denot E.Denot) → MutBor R.Denot → Fml
+LendsValue R E t r = Lends (the_row R E) R t r (with_value t.now)

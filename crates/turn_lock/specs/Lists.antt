@@ -1,5 +1,5 @@
 -- Sums over lists, rising lists of numbers, and places.
-use Rattle.std.specs.Prelude.{ℕ, ◌+◌, ◌<◌, ◌≤◌, ◌==◌, nat_lt, zero, suc, cond, List, [], ◌∷◌, length}
+use Rattle.std.specs.Prelude.{◌≡◌, ℕ, ◌+◌, ◌<◌, ◌≤◌, ◌==◌, nat_lt, zero, suc, cond, List, [], ◌∷◌, length}
 
 -- the sum of f over the list
 abbrev pub total : {A : Type 0} → (A → ℕ) → List A → ℕ
@@ -13,6 +13,11 @@ hit x n = cond (x == n) 1 0
 -- how often n stands in the list
 abbrev pub times : ℕ → List ℕ → ℕ
 times n xs = total (λ x. hit x n) xs
+
+-- no number stands twice
+abbrev pub AreDistinct : List ℕ → Type 0
+AreDistinct [] = Unit {0}
+AreDistinct (x ∷ xs) = (times x xs ≡ 0) × AreDistinct xs
 
 -- each number is at least n, and above the one before it
 abbrev pub RisesFrom : ℕ → List ℕ → Type 0

@@ -4,12 +4,17 @@ use Rattle.atomic_table.specs.Seated.{TableId}
 use Rattle.turn_lock.specs.declared.lock.TurnLock.{TurnLock}
 use Rattle.turn_lock.specs.declared.turn.Turn.{Turn}
 
--- which lock it is
-abbrev pub lock_id : {V E : Type 0} → TurnLock V E → TableId
-lock_id l = l.table.shared.table_id
+module _ {V E : Type 0} where
+  -- which lock it is
+  abbrev pub lock_id : TurnLock V E → TableId
+  lock_id l = l.table.shared.table_id
 
-abbrev pub turn_value : {V : Type 0} → Turn V → V
-turn_value t = t.value
+  -- the lock that it is a turn of
+  abbrev pub turn_lock_id : Turn V E → TableId
+  turn_lock_id t = t.pass.value.table_id
 
-abbrev pub turn_number : {V : Type 0} → Turn V → ℕ
-turn_number t = t.number
+  abbrev pub turn_value : Turn V E → V
+  turn_value t = t.value
+
+  abbrev pub turn_number : Turn V E → ℕ
+  turn_number t = t.number

@@ -1,16 +1,16 @@
 -- Which numbers are out in a list of entries, and which of them a pass holds.
-use Rattle.std.specs.Prelude.{◌≡◌, ℕ, ◌<◌, ◌==◌, Bool, true, false, cond, List, [], ◌∷◌, Option, Some, None}
+use Rattle.std.specs.Prelude.{◌≡◌, ℕ, ◌<◌, ◌==◌, Bool, true, false, not, cond, List, [], ◌∷◌, ◌++◌, Option, filter, option_to_list}
+use Rattle.std.specs.List.{AllByRecursion, list_any}
 use Rattle.turn_lock.specs.Lists.{times}
 
--- whether it is the number n
-abbrev pub is_number : ℕ → Option ℕ → Bool
-is_number n None = false
-is_number n (Some m) = m == n
+-- whether n is one of these numbers
+abbrev pub is_among : ℕ → List ℕ → Bool
+is_among n ms = list_any (λ m. m == n) ms
 
-module _ {E : Type 0} (hands takes : E → Option ℕ) where
+module _ {E : Type 0} (hands : E → Option ℕ) (takes : E → List ℕ) where
   -- whether n is out after an entry
   abbrev pub out_next : ℕ → Bool → E → Bool
-  out_next n before e = cond (is_number n (hands e)) true (cond (is_number n (takes e)) false before)
+  out_next n before e = cond (is_among n (option_to_list (hands e))) true (cond (is_among n (takes e)) false before)
 
   -- the same after a list of entries
   abbrev pub out_from : ℕ → Bool → List E → Bool
@@ -24,30 +24,23 @@ module _ {E : Type 0} (hands takes : E → Option ℕ) where
   abbrev pub IsOut : ℕ → List E → Type 0
   IsOut n es = is_out n es ≡ true
 
-  -- a number, if there is one, is not out
-  abbrev pub IsFree : Option ℕ → List E → Type 0
-  IsFree None es = Unit {0}
-  IsFree (Some n) es = is_out n es ≡ false
+  -- each of these numbers is out
+  abbrev pub AreOut : List ℕ → List E → Type 0
+  AreOut ms es = AllByRecursion (λ m. IsOut m es) ms
 
--- a number, if there is one, stands in the list
-abbrev pub IsHeld : Option ℕ → List ℕ → Type 0
-IsHeld None ns = Unit {0}
-IsHeld (Some n) ns = 0 < times n ns
+  -- none of these numbers is out
+  abbrev pub AreFree : List ℕ → List E → Type 0
+  AreFree ms es = AllByRecursion (λ m. is_out m es ≡ false) ms
 
-abbrev pub remove_number : ℕ → List ℕ → List ℕ
-remove_number n [] = []
-remove_number n (x ∷ xs) = cond (x == n) (remove_number n xs) (x ∷ remove_number n xs)
+-- each of these numbers stands in the list
+abbrev pub AreHeld : List ℕ → List ℕ → Type 0
+AreHeld ms ns = AllByRecursion (λ m. 0 < times m ns) ms
 
--- the list without the number
-abbrev pub without : Option ℕ → List ℕ → List ℕ
-without None ns = ns
-without (Some n) ns = remove_number n ns
-
--- the list with the number
-abbrev pub with_number : Option ℕ → List ℕ → List ℕ
-with_number None ns = ns
-with_number (Some n) ns = n ∷ ns
+-- the list without these numbers
+abbrev pub without : List ℕ → List ℕ → List ℕ
+without [] ns = ns
+without (m ∷ ms) ns = filter (λ n. not (n == m)) (without ms ns)
 
 -- what a pass holds after an entry of its own
-abbrev pub held_after : {E : Type 0} → (hands takes : E → Option ℕ) → E → List ℕ → List ℕ
-held_after hands takes e ns = with_number (hands e) (without (takes e) ns)
+abbrev pub held_after : {E : Type 0} → (hands : E → Option ℕ) (takes : E → List ℕ) → E → List ℕ → List ℕ
+held_after hands takes e ns = option_to_list (hands e) ++ without (takes e) ns

@@ -1,30 +1,35 @@
 -- What clauses say of a pass.
-use Rattle.std.specs.Prelude.{◌≡◌, ℕ, [], ◌∷◌, Option, None, length}
+use Rattle.std.specs.Prelude.{◌≡◌, Option}
 use Rattle.atomic_table.specs.declared.shared.Seat.{Seat}
+use Rattle.turn_lock.specs.declared.turn.Turn.{Turn}
 use Rattle.turn_lock.specs.declared.view.View.{View}
-use Rattle.turn_lock.specs.declared.view.Stage.TheVariants.{Idle, Turns}
-use Rattle.turn_lock.specs.Steps.{IsPlaced}
+use Rattle.turn_lock.specs.Lock.{turn_lock_id, turn_number}
+use Rattle.turn_lock.specs.Steps.{IsAtRest, IsAtTurn}
+
+-- a pass of a lock over a value of type X, whose entries are of type E
+abbrev pub PassOf : (X E : Type 0) → Type 0
+PassOf X E = Seat (Option X) (View E)
 
 module _ {X E : Type 0} where
   -- what the pass knows
-  abbrev pub view : Seat (Option X) (View E) → View E
+  abbrev pub view : PassOf X E → View E
   view p = p.me.0
 
   -- one pass, before and after a call
-  abbrev pub IsSamePass : Seat (Option X) (View E) → Seat (Option X) (View E) → Type 0
+  abbrev pub IsSamePass : PassOf X E → PassOf X E → Type 0
   IsSamePass p q = (q.table_id ≡ p.table_id) × (q.id ≡ p.id)
 
   -- the pass waits for nothing and has no turn, as between two calls
-  abbrev pub HasNoTurn : Seat (Option X) (View E) → Type 0
-  HasNoTurn p = (p.me.0.stage ≡ Idle) × (p.me.1 ≡ []) × IsPlaced p.me.0
+  abbrev pub HasNoTurn : PassOf X E → Type 0
+  HasNoTurn p = IsAtRest p.me
 
-  -- the pass has the turn of this ticket, and has seen the whole list
-  abbrev pub HasTurn : Seat (Option X) (View E) → ℕ → Type 0
-  HasTurn p ticket = (p.me.0.stage ≡ Turns ticket) × (p.me.1 ≡ (0, None) ∷ []) × IsPlaced p.me.0 × (ticket ≡ length p.me.0.seen)
+  -- the pass has this turn, which is of its lock, and has seen the whole list
+  abbrev pub HasTurn : PassOf X E → Turn X E → Type 0
+  HasTurn p turn = (turn_lock_id turn ≡ p.table_id) × IsAtTurn p.me (turn_number turn)
 
-  -- the pass keeps its turn where it has one, and else it still has none
-  abbrev pub KeepsTurn : Seat (Option X) (View E) → Seat (Option X) (View E) → Type 0
-  KeepsTurn p q = (HasNoTurn p → HasNoTurn q) × ((ticket : ℕ) → HasTurn p ticket → HasTurn q ticket)
+  -- the pass keeps its turn where it has one, and has still seen the whole list, and else it still has none
+  abbrev pub KeepsTurn : PassOf X E → PassOf X E → Type 0
+  KeepsTurn p q = (HasNoTurn p → HasNoTurn q) × ((turn : Turn X E) → HasTurn p turn → HasTurn q turn × ((view q).seen ≡ (view p).seen))
 
 module _ {E : Type 0} where
   -- the places, the numbers and the units are the same

@@ -1,5 +1,5 @@
 -- What each step tells its pass.
-use Rattle.std.specs.Prelude.{◌≡◌, ◌≢◌, ℕ, ◌<◌, ◌≤◌, List, [], ◌∷◌, length, Option, Some}
+use Rattle.std.specs.Prelude.{◌≡◌, ◌≢◌, ℕ, ◌<◌, ◌≤◌, List, [], ◌∷◌, length, Option, Some, None}
 use mathlib.Core.List.{IsPrefix}
 use Rattle.atomic_table.specs.Table.{Me, Step, rest}
 use Rattle.turn_lock.specs.declared.view.TheConstants.{LAST}
@@ -7,7 +7,7 @@ use Rattle.turn_lock.specs.declared.view.View.{View}
 use Rattle.turn_lock.specs.declared.view.Stage.{Stage}
 use Rattle.turn_lock.specs.declared.view.Stage.TheVariants.{Idle, Waits, Turns}
 use Rattle.turn_lock.specs.Lists.{times, RisesFrom, AllBelow, places}
-use Rattle.turn_lock.specs.Numbers.{IsOut}
+use Rattle.turn_lock.specs.Numbers.{IsOut, AreFree}
 use Rattle.turn_lock.specs.Views.{waits, turns, gave}
 
 -- the ticket of a pass, and 0 where it has none
@@ -24,12 +24,20 @@ module _ {E : Type 0} where
   abbrev pub IsPlaced : View E → Type 0
   IsPlaced v = RisesFrom 0 v.mine × AllBelow (length v.seen) v.mine
 
+-- it waits for nothing and has no turn, as between two calls
+abbrev pub IsAtRest : {X E : Type 0} → Sat X E → Type 0
+IsAtRest m = (m.0.stage ≡ Idle) × (m.1 ≡ []) × IsPlaced m.0
+
+-- it has the turn of this ticket, and has seen the whole list
+abbrev pub IsAtTurn : {X E : Type 0} → Sat X E → ℕ → Type 0
+IsAtTurn m ticket = (m.0.stage ≡ Turns ticket) × (m.1 ≡ (0, None) ∷ []) × IsPlaced m.0 × (ticket ≡ length m.0.seen)
+
 -- the ticket is drawn where it is the next one
 abbrev pub drew : {X E : Type 0} → Step (Option X) → Sat X E → ℕ → Sat X E → Type 0
 drew st m found m' = (found ≡ st.first → m' ≡ (waits st.first m.0, m.1)) × (found ≢ st.first → m' ≡ m)
 
 -- the pass has come to its turn
-pub record Turned {X E : Type 0} (stands : X → List E → Type 0) (hands takes : E → Option ℕ) (ticket : ℕ) (v : View E) (m' : Sat X E) : Type 0 where
+pub record Turned {X E : Type 0} (stands : X → List E → Type 0) (hands : E → Option ℕ) (takes : E → List ℕ) (ticket : ℕ) (v : View E) (m' : Sat X E) : Type 0 where
   pub value : X
   pub list : List E
   pub view_is : m'.0 ≡ turns ticket list v
@@ -41,12 +49,13 @@ pub record Turned {X E : Type 0} (stands : X → List E → Type 0) (hands takes
   pub all : v.units ≡ LAST → v.mine ≡ places (length list)
 
 -- the slot is taken where the own ticket is served
-abbrev pub looked : {X E : Type 0} → (X → List E → Type 0) → (hands takes : E → Option ℕ) → Step (Option X) → Sat X E → ℕ → Sat X E → Type 0
+abbrev pub looked : {X E : Type 0} → (X → List E → Type 0) → (hands : E → Option ℕ) (takes : E → List ℕ) → Step (Option X) → Sat X E → ℕ → Sat X E → Type 0
 looked stands hands takes st m found m' =
     (found ≡ ticket_of m.0.stage → Turned stands hands takes (ticket_of m.0.stage) m.0 m') × (found ≢ ticket_of m.0.stage → m' ≡ m)
 
-abbrev pub advanced : {X E : Type 0} → (hands takes : E → Option ℕ) → E → Step (Option X) → Sat X E → ℕ → Sat X E → Type 0
-advanced hands takes e st m found m' = m' ≡ (gave hands takes e m.0, rest m.1)
+-- the entry is added, and the numbers that it takes back are not out any more
+abbrev pub advanced : {X E : Type 0} → (hands : E → Option ℕ) (takes : E → List ℕ) → E → Step (Option X) → Sat X E → ℕ → Sat X E → Type 0
+advanced hands takes e st m found m' = (m' ≡ (gave hands takes e m.0, rest m.1)) × AreFree hands takes (takes e) m'.0.seen
 
 -- what holds of a pass after a join
 pub record Settled {E : Type 0} (v : View E) : Type 0 where

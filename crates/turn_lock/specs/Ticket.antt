@@ -73,7 +73,7 @@ module _ {E : Type 0} where
     pub note : v.units ≡ 0 → (v.stage ≡ Idle) × (v.mine ≡ []) × (v.holds ≡ [])
 
   -- how tickets, places, numbers and units are dealt among the passes
-  pub record Dealt (hands takes : E → Option ℕ) (list : List E) (tickets : ℕ) (views : List (View E)) : Type 0 where
+  pub record Dealt (hands : E → Option ℕ) (takes : E → List ℕ) (list : List E) (tickets : ℕ) (views : List (View E)) : Type 0 where
     pub counted : length list + waiting views ≡ tickets
     -- each ticket that is not served yet is one pass's
     pub drawn : (n : ℕ) → Once (length list) tickets n (drawn_by n views)
@@ -90,7 +90,7 @@ module _ {X E : Type 0} (stands : X → List E → Type 0) where
   Rests homes list holders =
       ((x : X) × (homes ≡ some (Some x) ∷ []) × stands x list × (holders ≡ 0)) ⊎ ((homes ≡ none ∷ []) × (holders ≡ 1))
 
-  pub record Fair (hands takes : E → Option ℕ) (s : State (Option X) (View E)) : Type 0 where
+  pub record Fair (hands : E → Option ℕ) (takes : E → List ℕ) (s : State (Option X) (View E)) : Type 0 where
     pub list : List E
     pub tickets : ℕ
     pub words_are : s.words ≡ tickets ∷ length list ∷ []

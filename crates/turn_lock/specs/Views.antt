@@ -1,10 +1,10 @@
 -- The views that steps make of a view.
-use Rattle.std.specs.Prelude.{ℕ, ◌+◌, ◌-◌, List, [], ◌∷◌, ◌++◌, length, Option}
+use Rattle.std.specs.Prelude.{ℕ, ◌+◌, ◌-◌, List, [], ◌∷◌, ◌++◌, length, Option, option_to_list}
 use Rattle.turn_lock.specs.declared.view.TheConstants.{LAST}
 use Rattle.turn_lock.specs.declared.view.View.{View}
 use Rattle.turn_lock.specs.declared.view.Stage.TheVariants.{Idle, Waits, Turns}
 use Rattle.turn_lock.specs.Lists.{merge, longer}
-use Rattle.turn_lock.specs.Numbers.{without, with_number, held_after}
+use Rattle.turn_lock.specs.Numbers.{without, held_after}
 
 module _ {E : Type 0} where
   -- nothing was seen
@@ -28,7 +28,7 @@ module _ {E : Type 0} where
   turns ticket list v = record v { seen = list; stage = Turns ticket }
 
   -- after an entry of its own
-  abbrev pub gave : (hands takes : E → Option ℕ) → E → View E → View E
+  abbrev pub gave : (hands : E → Option ℕ) (takes : E → List ℕ) → E → View E → View E
   gave hands takes e v = record {
     seen = v.seen ++ e ∷ [];
     mine = v.mine ++ length v.seen ∷ [];
@@ -41,10 +41,10 @@ module _ {E : Type 0} where
 
   -- what a split leaves, and what it gives to the new pass
   abbrev pub kept_part : Option ℕ → ℕ → View E → View E
-  kept_part number units v = record v { holds = without number v.holds; units = v.units - units }
+  kept_part number units v = record v { holds = without (option_to_list number) v.holds; units = v.units - units }
 
   abbrev pub given_part : Option ℕ → ℕ → View E → View E
-  given_part number units v = record { seen = v.seen; mine = []; stage = Idle; holds = with_number number []; units = units; left = []; right = [] }
+  given_part number units v = record { seen = v.seen; mine = []; stage = Idle; holds = option_to_list number; units = units; left = []; right = [] }
 
   -- two passes in one
   abbrev pub both : View E → View E → View E

@@ -1,10 +1,9 @@
 //! The lock and its passes.
-ghost use Rattle.std.specs.Prelude.{◌≡◌, ℕ, ◌+◌, ◌%◌, ◌^◌, ◌<◌, ◌≤◌, [], ◌∷◌, ◌++◌, length, IfOk, IfErr, IsSome};
+ghost use Rattle.std.specs.Prelude.{◌≡◌, ℕ, ◌+◌, ◌%◌, ◌^◌, ◌<◌, ◌≤◌, [], ◌∷◌, ◌++◌, length, IfOk, IfErr, IsSome, option_to_list};
 ghost use mathlib.Core.List.{IsPrefix};
-ghost use Rattle.turn_lock.specs.Lists.{times, places};
-ghost use Rattle.turn_lock.specs.Numbers.{IsOut, IsFree, IsHeld, held_after};
+ghost use Rattle.turn_lock.specs.Lists.{times, AreDistinct, places};
+ghost use Rattle.turn_lock.specs.Numbers.{IsOut, AreOut, AreFree, AreHeld, held_after};
 ghost use Rattle.turn_lock.specs.Views.{fresh, waits, kept_part, given_part, both};
-ghost use Rattle.turn_lock.specs.Pass.{view, IsSamePass, HasNoTurn, HasTurn, KeepsTurn, IsAlike};
 ghost use Rattle.turn_lock.specs.Steps.{IsPlaced};
 
 use crate::plays::{Advance, Cut, Draw, Glue, Look, Portion, Settle};
@@ -14,6 +13,7 @@ use atomic_table::{Refused, Seat, Table, TableRule};
 use iso_model::Memory;
 use std::alloc::Global;
 use std::marker::Brand;
+use std::snapshot::Snapshot;
 use std::sync::Wait;
 
 // The words of the table, and its slot.
@@ -46,6 +46,7 @@ pub struct TurnLock<V: Stands + Drop> {
 
 impl<V: Stands + Drop> TurnLock<V> {
     ghost use Rattle.turn_lock.specs.Lock.{lock_id, turn_value, turn_number};
+    ghost use Rattle.turn_lock.specs.Pass.{view, IsSamePass, HasNoTurn, HasTurn, KeepsTurn, IsAlike};
 
     /// A lock round a value that stands for the empty list, and the first pass, which has all units.
     pub fn new(alloc: Global, value: V) -> Result<(TurnLock<V>, Pass<V>), (Memory, V)>
@@ -73,7 +74,7 @@ impl<V: Stands + Drop> TurnLock<V> {
         requires lock { pass.old.table_id ≡ lock_id self.now }
         requires free { HasNoTurn pass.old × (0 < (view pass.old).units) }
         ensures lock { IsSamePass pass.old pass.new }
-        ensures turn { HasTurn pass.new (turn_number result) }
+        ensures turn { HasTurn pass.new result }
         ensures same { IsAlike (view pass.old) (view pass.new) }
 
         // The value stands for a list that begins with what the pass had seen. It has as many entries as tickets were served.
@@ -90,7 +91,12 @@ impl<V: Stands + Drop> TurnLock<V> {
             let served = self.table.shared.load::<Look>(pass, SERVED);
             if served == number {
                 let value = self.table.shared.exchange(pass, VALUE, None).unwrap();
-                return Turn { value, number };
+                let pass = Snapshot::of(&*pass);
+                return Turn {
+                    value,
+                    number,
+                    pass,
+                };
             }
             self.table.shared.park(rt, SERVED, low_half(served));
         }
@@ -126,19 +132,28 @@ impl<V: Stands + Drop> TurnLock<V> {
     /// Gives the turn back, with the entry that `N` names behind the list. It waits for nobody.
     pub fn give<N: Names<V::Entry>>(&self, pass: &mut Pass<V>, turn: Turn<V>)
         requires lock { pass.old.table_id ≡ lock_id self.now }
-        requires turn { HasTurn pass.old (turn_number turn) }
+        requires turn { HasTurn pass.old turn }
         requires value { V.stands (turn_value turn) ((view pass.old).seen ++ N.entry ∷ []) }
-        requires hands { IsFree V.hands V.takes (V.hands N.entry) (view pass.old).seen }
-        requires needs { IsHeld (V.needs N.entry) (view pass.old).holds }
-        requires takes { IsHeld (V.takes N.entry) (view pass.old).holds }
+        requires hands { AreFree V.hands V.takes (option_to_list (V.hands N.entry)) (view pass.old).seen }
+        requires needs { AreHeld (V.needs N.entry) (view pass.old).holds }
+        requires takes { AreHeld (V.takes N.entry) (view pass.old).holds × AreDistinct (V.takes N.entry) }
         ensures lock { IsSamePass pass.old pass.new }
         ensures free { HasNoTurn pass.new }
         ensures seen { (view pass.new).seen ≡ (view pass.old).seen ++ N.entry ∷ [] }
         ensures mine { (view pass.new).mine ≡ (view pass.old).mine ++ length (view pass.old).seen ∷ [] }
         ensures holds { (view pass.new).holds ≡ held_after V.hands V.takes N.entry (view pass.old).holds }
         ensures units { (view pass.new).units ≡ (view pass.old).units }
+
+        // The number that it hands out is out with this pass, and none that it takes back is out any more.
+        ensures handed { AreOut V.hands V.takes (option_to_list (V.hands N.entry)) (view pass.new).seen }
+        ensures held { AreHeld (option_to_list (V.hands N.entry)) (view pass.new).holds }
+        ensures taken { AreFree V.hands V.takes (V.takes N.entry) (view pass.new).seen }
     {
-        let Turn { value, number } = turn;
+        let Turn {
+            value,
+            number,
+            pass: _,
+        } = turn;
         let _ = self.table.shared.exchange(pass, VALUE, Some(value));
         let served = number.wrapping_add(1);
         self.table.shared.store::<Advance<N>>(pass, SERVED, served);
@@ -156,7 +171,7 @@ impl<V: Stands + Drop> TurnLock<V> {
     pub fn split(&self, pass: &mut Pass<V>, number: Option<u64>, units: u64) -> Pass<V>
         requires lock { pass.old.table_id ≡ lock_id self.now }
         requires units { units < (view pass.old).units }
-        requires number { IsHeld number (view pass.old).holds × (IsSome number → 0 < units) }
+        requires number { AreHeld (option_to_list number) (view pass.old).holds × (IsSome number → 0 < units) }
         ensures lock { IsSamePass pass.old pass.new }
         ensures stays { KeepsTurn pass.old pass.new }
         ensures kept { view pass.new ≡ kept_part number units (view pass.old) }
@@ -170,7 +185,7 @@ impl<V: Stands + Drop> TurnLock<V> {
         requires portion { (M.number ≡ number) × (M.units ≡ units) }
         requires lock { pass.old.table_id ≡ lock_id self.now }
         requires units { units < (view pass.old).units }
-        requires number { IsHeld number (view pass.old).holds × (IsSome number → 0 < units) }
+        requires number { AreHeld (option_to_list number) (view pass.old).holds × (IsSome number → 0 < units) }
         ensures lock { IsSamePass pass.old pass.new }
         ensures stays { KeepsTurn pass.old pass.new }
         ensures kept { view pass.new ≡ kept_part number units (view pass.old) }
@@ -193,7 +208,6 @@ impl<V: Stands + Drop> TurnLock<V> {
 
         // Each of the two had seen a beginning of what is now seen.
         ensures seen { IsPrefix (view pass.old).seen (view pass.new).seen × IsPrefix (view other).seen (view pass.new).seen }
-        ensures whole { (ticket : ℕ) → HasTurn pass.old ticket → (view pass.new).seen ≡ (view pass.old).seen }
         ensures placed { IsPlaced (view pass.new) }
         ensures places { (p : ℕ) → times p (view pass.new).mine ≡ times p (view pass.old).mine + times p (view other).mine }
 

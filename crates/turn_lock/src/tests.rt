@@ -1,21 +1,24 @@
 //! Small runs of the lock, over a plain list and over a desk that hands out numbers.
-ghost use Rattle.std.specs.Prelude.{◌≡◌, ℕ, false, ◌+◌, ◌<◌, ◌≤◌, ◌++◌, [], ◌∷◌, Some, None, IfOk};
-ghost use Rattle.turn_lock.specs.Lists.{times};
-ghost use Rattle.turn_lock.specs.Numbers.{is_out};
+ghost use Rattle.std.specs.Prelude.{◌≡◌, ℕ, false, ◌+◌, ◌<◌, ◌≤◌, ◌++◌, [], ◌∷◌, Some, None};
+ghost use Rattle.std.specs.List.{AllByRecursion};
+ghost use Rattle.turn_lock.specs.Lists.{times, AreDistinct};
+ghost use Rattle.turn_lock.specs.Numbers.{is_out, AreFree, AreHeld};
 ghost use mathlib.Core.List.{IsPrefix};
 ghost use denote.Param.Send.{IsSync};
-ghost use Rattle.turn_lock.specs.Lock.{lock_id, turn_value, turn_number};
+ghost use Rattle.turn_lock.specs.Lock.{lock_id, turn_value};
 ghost use Rattle.turn_lock.specs.Pass.{view, IsSamePass, HasNoTurn, HasTurn};
 ghost use Rattle.turn_lock.specs.Props.{pass_props};
 
 use crate::{LAST, Names, Pass, Stands, Turn, TurnLock};
 use iso_model::Memory;
 use std::alloc::Global;
+use std::collections::LinkedList;
 use std::marker::Brand;
 use std::process::Abort;
 use std::sync::Wait;
 use std::test::Fail;
-use std::thread::{Threads, join};
+use std::thread::{self, Threads, join};
+use std::time::{Clock, CpuClock, Duration};
 
 const TURNS: u64 = 5000;
 
@@ -33,9 +36,9 @@ impl Stands for Log {
 
     ghost hands = { λ _. None };
 
-    ghost needs = { λ _. None };
+    ghost needs = { λ _. [] };
 
-    ghost takes = { λ _. None };
+    ghost takes = { λ _. [] };
 }
 
 impl Names<u64> for Brand {
@@ -53,7 +56,7 @@ struct Caller<'a, V: Stands + Drop> {
 // Gives the turn back with this entry.
 fn give<N: Names<u64>>(lock: &TurnLock<Log>, pass: &mut Pass<Log>, turn: Turn<Log>, entry: u64)
     requires named { N.entry ≡ entry }
-    requires lock { (pass.old.table_id ≡ lock_id lock.now) × HasTurn pass.old (turn_number turn) }
+    requires lock { (pass.old.table_id ≡ lock_id lock.now) × HasTurn pass.old turn }
     requires value { (turn_value turn).entries.items ≡ (view pass.old).seen ++ entry ∷ [] }
     ensures rests { IsSamePass pass.old pass.new × HasNoTurn pass.new × ((view pass.new).units ≡ (view pass.old).units) }
     ensures seen { (view pass.new).seen ≡ (view pass.old).seen ++ entry ∷ [] }
@@ -62,17 +65,28 @@ fn give<N: Names<u64>>(lock: &TurnLock<Log>, pass: &mut Pass<Log>, turn: Turn<Lo
     lock.give::<N>(pass, turn);
 }
 
+// Writes the number of entries behind them, and gives the turn back.
+fn add<R: Abort>(rt: &R, lock: &TurnLock<Log>, pass: &mut Pass<Log>, turn: Turn<Log>)
+    requires lock { (pass.old.table_id ≡ lock_id lock.now) × HasTurn pass.old turn }
+    requires value { (turn_value turn).entries.items ≡ (view pass.old).seen }
+    ensures rests { IsSamePass pass.old pass.new × HasNoTurn pass.new × ((view pass.new).units ≡ (view pass.old).units) }
+    ensures seen { IsPrefix (view pass.old).seen (view pass.new).seen }
+{
+    let mut turn = turn;
+    let log = turn.value();
+    let number = log.entries.len() as u64;
+    log.entries.push(number).expect(rt, "memory");
+    give::<Brand>(lock, pass, turn, number);
+}
+
 impl<'a> Caller<'a, Log> {
-    // One turn, in which the number of entries is written behind them.
+    // One turn.
     fn count<R: Wait + Abort>(&mut self, rt: &R)
         ensures same { (self.new.lock.now ≡ self.old.lock.now) × ((view self.new.pass).units ≡ (view self.old.pass).units) }
         ensures seen { IsPrefix (view self.old.pass).seen (view self.new.pass).seen }
     {
-        let mut turn = self.lock.take(rt, &mut self.pass);
-        let log = turn.value();
-        let number = log.entries.len() as u64;
-        log.entries.push(number).expect(rt, "memory");
-        give::<Brand>(self.lock, &mut self.pass, turn, number);
+        let turn = self.lock.take(rt, &mut self.pass);
+        add(rt, self.lock, &mut self.pass, turn);
     }
 }
 
@@ -87,6 +101,60 @@ fn turned<R: Wait + Abort>(rt: &R, lock: &TurnLock<Log>, pass: Pass<Log>, turns:
     }
     let Caller { lock: _, pass } = caller;
     pass
+}
+
+// One turn, which lasts.
+fn long_turn<R: Wait + Abort + Clock>(rt: &R, lock: &TurnLock<Log>, pass: Pass<Log>) -> Pass<Log>
+    requires { (pass.table_id ≡ lock_id lock.now) × HasNoTurn pass × (0 < (view pass).units) }
+    ensures { (result.table_id ≡ lock_id lock.now) × HasNoTurn result × ((view result).units ≡ (view pass).units) }
+{
+    let mut pass = pass;
+    let turn = lock.take(rt, &mut pass);
+    thread::sleep(rt, Duration::from_millis(400));
+    add(rt, lock, &mut pass, turn);
+    pass
+}
+
+// One turn, and the processor time that it took with the wait for it.
+fn late_turn<R: Wait + Abort + Clock + CpuClock>(
+    rt: &R,
+    lock: &TurnLock<Log>,
+    pass: Pass<Log>,
+) -> (Pass<Log>, Duration)
+    requires { (pass.table_id ≡ lock_id lock.now) × HasNoTurn pass × (0 < (view pass).units) }
+    ensures { (result.0.table_id ≡ lock_id lock.now) × HasNoTurn result.0 × ((view result.0).units ≡ (view pass).units) }
+{
+    thread::sleep(rt, Duration::from_millis(100));
+    let before = rt.thread_cpu_time().expect(rt, "a clock");
+    let pass = turned(rt, lock, pass, 1);
+    let after = rt.thread_cpu_time().expect(rt, "a clock");
+    (pass, after.saturating_sub(before))
+}
+
+// A thread waits while another has a long turn.
+fn long_and_late<R: Threads + Wait + Abort + Sync + Clock + CpuClock>(
+    rt: &R,
+    lock: &TurnLock<Log>,
+    first: Pass<Log>,
+    second: Pass<Log>,
+) -> (Pass<Log>, Duration)
+    requires first { (first.table_id ≡ lock_id lock.now) × HasNoTurn first × (0 < (view first).units) }
+    requires second { (second.table_id ≡ lock_id lock.now) × HasNoTurn second × (0 < (view second).units) }
+    ensures { (result.0.table_id ≡ lock_id lock.now) × HasNoTurn result.0 × ((view result.0).units ≡ (view first).units + (view second).units) }
+{
+    let (mut first, (second, used)) = join(
+        rt,
+        || -> Pass<Log>
+            requires { IsSync R.row × (first.table_id ≡ lock_id lock.now) × HasNoTurn first × (0 < (view first).units) }
+            ensures { (result.table_id ≡ lock_id lock.entry.now) × HasNoTurn result × ((view result).units ≡ (view first).units) }
+        { long_turn(rt, lock, first) },
+        || -> (Pass<Log>, Duration)
+            requires { IsSync R.row × (second.table_id ≡ lock_id lock.now) × HasNoTurn second × (0 < (view second).units) }
+            ensures { (result.0.table_id ≡ lock_id lock.entry.now) × HasNoTurn result.0 × ((view result.0).units ≡ (view second).units) }
+        { late_turn(rt, lock, second) },
+    );
+    lock.join(&mut first, second);
+    (first, used)
 }
 
 // Two threads with so many turns each, whose passes are joined.
@@ -195,6 +263,16 @@ fn four_threads_are_served_in_order(rt: HostRuntime) -> Result<(), Fail> {
 }
 
 #[test]
+fn a_thread_sleeps_until_its_turn(rt: HostRuntime) -> Result<(), Fail> {
+    let (lock, mut first) = made(&rt, rt.alloc());
+    let second = lock.split(&mut first, None, 1);
+    let (all, used) = long_and_late(&rt, &lock, first, second);
+    let log = lock.close(all);
+    assert!(rt; log.entries.len() == 2 && used < Duration::from_millis(50));
+    Ok(())
+}
+
+#[test]
 fn a_note_tells_what_was_seen(rt: HostRuntime) -> Result<(), Fail> {
     let (lock, first) = made(&rt, rt.alloc());
     let mut first = turned(&rt, &lock, first, 3);
@@ -221,14 +299,17 @@ fn new_hands_the_value_back_without_memory(rt: HostRuntime) -> Result<(), Fail> 
     Ok(())
 }
 
-/// A desk that hands out numbers, each one once. The entry has the number that is handed out and the one that is taken back.
+/// What a desk's turn adds: the number that it hands out, and those that it takes back.
+type Slip = (Option<u64>, LinkedList<u64>);
+
+/// A desk that hands out numbers, each one once.
 #[derive(Drop)]
 struct Desk {
     next: u64,
 }
 
 impl Stands for Desk {
-    type Entry = (Option<u64>, Option<u64>);
+    type Entry = Slip;
 
     // The numbers that come next are not out.
     ghost stands = { λ desk list. (n : ℕ) → desk.next ≤ n → is_out (λ e. e.0) (λ e. e.1) n list ≡ false };
@@ -240,19 +321,19 @@ impl Stands for Desk {
     ghost takes = { λ e. e.1 };
 }
 
-impl Names<(Option<u64>, Option<u64>)> for Brand {
-    ghost entry = { (None, None) };
+impl Names<Slip> for Brand {
+    ghost entry = { (None, []) };
 }
 
 // Gives the turn back with a number handed out.
-fn hand_out<N: Names<(Option<u64>, Option<u64>)>>(
+fn hand_out<N: Names<Slip>>(
     lock: &TurnLock<Desk>,
     pass: &mut Pass<Desk>,
     turn: Turn<Desk>,
     number: u64,
 )
-    requires named { N.entry ≡ (Some number, None) }
-    requires lock { (pass.old.table_id ≡ lock_id lock.now) × HasTurn pass.old (turn_number turn) }
+    requires named { N.entry ≡ (Some number, []) }
+    requires lock { (pass.old.table_id ≡ lock_id lock.now) × HasTurn pass.old turn }
     requires next { (turn_value turn).next ≡ number + 1 }
     requires value { (n : ℕ) → number ≤ n → is_out (λ e. e.0) (λ e. e.1) n (view pass.old).seen ≡ false }
     ensures rests { IsSamePass pass.old pass.new × HasNoTurn pass.new × ((view pass.new).units ≡ (view pass.old).units) }
@@ -262,28 +343,30 @@ fn hand_out<N: Names<(Option<u64>, Option<u64>)>>(
     lock.give::<N>(pass, turn);
 }
 
-// Gives the turn back with a number taken back.
-fn take_back<N: Names<(Option<u64>, Option<u64>)>>(
+// Gives the turn back with these numbers taken back.
+fn take_back<N: Names<Slip>>(
     lock: &TurnLock<Desk>,
     pass: &mut Pass<Desk>,
     turn: Turn<Desk>,
-    number: u64,
+    numbers: &[u64],
 )
-    requires named { N.entry ≡ (None, Some number) }
-    requires lock { (pass.old.table_id ≡ lock_id lock.now) × HasTurn pass.old (turn_number turn) }
+    requires named { N.entry ≡ (None, numbers.now) }
+    requires lock { (pass.old.table_id ≡ lock_id lock.now) × HasTurn pass.old turn }
     requires value { (n : ℕ) → (turn_value turn).next ≤ n → is_out (λ e. e.0) (λ e. e.1) n (view pass.old).seen ≡ false }
-    requires held { 0 < times number (view pass.old).holds }
+    requires held { AreHeld numbers.now (view pass.old).holds × AreDistinct numbers.now }
     ensures rests { IsSamePass pass.old pass.new × HasNoTurn pass.new × ((view pass.new).units ≡ (view pass.old).units) }
-    ensures holds { times number (view pass.new).holds ≡ 0 }
+    ensures back { AreFree (λ e. e.0) (λ e. e.1) numbers.now (view pass.new).seen }
+    ensures holds { AllByRecursion (λ n. times n (view pass.new).holds ≡ 0) numbers.now }
 {
-    let _ = number;
+    let _ = numbers;
     lock.give::<N>(pass, turn);
 }
 
-// Hands a number out, moves it to a pass of its own, and takes it back there.
-fn served_number<R: Wait + Abort>(rt: &R, lock: &TurnLock<Desk>, pass: &mut Pass<Desk>) -> u64
-    requires { (pass.old.table_id ≡ lock_id lock.now) × HasNoTurn pass.old × (1 < (view pass.old).units) }
-    ensures { IsSamePass pass.old pass.new × HasNoTurn pass.new × ((view pass.new).units ≡ (view pass.old).units) }
+// One turn, in which the next number is handed out.
+fn next_number<R: Wait + Abort>(rt: &R, lock: &TurnLock<Desk>, pass: &mut Pass<Desk>) -> u64
+    requires { (pass.old.table_id ≡ lock_id lock.now) × HasNoTurn pass.old × (0 < (view pass.old).units) }
+    ensures rests { IsSamePass pass.old pass.new × HasNoTurn pass.new × ((view pass.new).units ≡ (view pass.old).units) }
+    ensures holds { (view pass.new).holds ≡ result ∷ (view pass.old).holds }
 {
     let mut turn = lock.take(rt, pass);
     let desk = turn.value();
@@ -291,21 +374,39 @@ fn served_number<R: Wait + Abort>(rt: &R, lock: &TurnLock<Desk>, pass: &mut Pass
     assert!(rt; number < LAST);
     desk.next = number + 1;
     hand_out::<Brand>(lock, pass, turn, number);
-    let mut holder = lock.split(pass, Some(number), 1);
-    let turn = lock.take(rt, &mut holder);
-    take_back::<Brand>(lock, &mut holder, turn, number);
-    lock.join(pass, holder);
     number
 }
 
+// Hands two numbers out, moves them to a pass of their own, and takes both back there with one entry.
+fn served_numbers<R: Wait + Abort>(
+    rt: &R,
+    lock: &TurnLock<Desk>,
+    pass: &mut Pass<Desk>,
+) -> (u64, u64)
+    requires { (pass.old.table_id ≡ lock_id lock.now) × HasNoTurn pass.old × (2 < (view pass.old).units) }
+    ensures { IsSamePass pass.old pass.new × HasNoTurn pass.new × ((view pass.new).units ≡ (view pass.old).units) }
+{
+    let first = next_number(rt, lock, pass);
+    let mut holder = lock.split(pass, Some(first), 1);
+    let second = next_number(rt, lock, pass);
+    let other = lock.split(pass, Some(second), 1);
+    lock.join(&mut holder, other);
+    let turn = lock.take(rt, &mut holder);
+    take_back::<Brand>(lock, &mut holder, turn, &[second, first]);
+    lock.join(pass, holder);
+    (first, second)
+}
+
 #[test]
-fn a_number_moves_with_its_pass(rt: HostRuntime) -> Result<(), Fail> {
+fn two_numbers_move_with_their_pass_and_are_taken_back_at_once(
+    rt: HostRuntime,
+) -> Result<(), Fail> {
     let Ok((lock, mut pass)) = TurnLock::new(rt.alloc(), Desk { next: 0 }) else {
         panic!(rt; "memory")
     };
-    let first = served_number(&rt, &lock, &mut pass);
-    let second = served_number(&rt, &lock, &mut pass);
+    let early = served_numbers(&rt, &lock, &mut pass);
+    let late = served_numbers(&rt, &lock, &mut pass);
     let desk = lock.close(pass);
-    assert!(rt; first == 0 && second == 1 && desk.next == 2);
+    assert!(rt; early == (0, 1) && late == (2, 3) && desk.next == 4);
     Ok(())
 }

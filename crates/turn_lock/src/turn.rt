@@ -2,19 +2,25 @@
 ghost use Rattle.std.specs.Prelude.{◌≡◌};
 ghost use Rattle.std.specs.Borrow.{sem};
 
-/// The value, for as long as a turn lasts. It must be spent by `give`.
-pub struct Turn<V> {
+use crate::lock::Pass;
+use crate::view::Stands;
+use std::snapshot::Snapshot;
+
+/// The value, for as long as a turn lasts. It must be spent by `give` of the same lock.
+pub struct Turn<V: Stands> {
     pub(crate) value: V,
     pub(crate) number: u64,
+    // The pass that has it, which tells contracts the lock.
+    pub(crate) pass: Snapshot<Pass<V>>,
 }
 
-impl<V> Turn<V> {
+impl<V: Stands> Turn<V> {
     ghost use Rattle.turn_lock.specs.Lends.{LendsValue};
     ghost use Rattle.turn_lock.specs.Lock.{turn_value};
 
     /// Lends the value.
     pub fn value(&mut self) -> &mut V
-        ensures* lends { sem 𝓛 (LendsValue V.row self.entry result) }
+        ensures* lends { sem 𝓛 (LendsValue V.row V.Entry.row self.entry result) }
         ensures value { result.now ≡ turn_value self.old }
     {
         &mut self.value

@@ -13,12 +13,12 @@ pub trait Stands {
     // The value stands for this list.
     ghost stands: { Self → List Self.Entry → Type 0 };
 
-    // The number that an entry hands out, the one that it needs, and the one that it takes back.
+    // The number that an entry hands out, those that it needs, and those that it takes back.
     ghost hands: { Self.Entry → Option ℕ };
 
-    ghost needs: { Self.Entry → Option ℕ };
+    ghost needs: { Self.Entry → List ℕ };
 
-    ghost takes: { Self.Entry → Option ℕ };
+    ghost takes: { Self.Entry → List ℕ };
 }
 
 /// The entry that a `give` adds, for contracts alone.

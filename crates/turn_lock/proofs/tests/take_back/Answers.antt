@@ -1,16 +1,20 @@
-use Rattle.std.proofs.Common.{◌≡◌, ℕ, false, Option, ap, ◌∙◌}
+use Rattle.std.proofs.Common.{◌≡◌, ℕ, false, List, Option, ap, sym, subst, ◌∙◌}
+use Rattle.std.specs.Prelude.{option_to_list}
+use Rattle.std.specs.List.{AllByRecursion}
 use Rattle.turn_lock.specs.Lists.{times}
-use Rattle.turn_lock.specs.Numbers.{is_number, held_after}
+use Rattle.turn_lock.specs.Numbers.{is_among, held_after}
 use Rattle.turn_lock.specs.Pass.{view}
-use Rattle.turn_lock.proofs.Outs.{stays_free, times_gone}
+use Rattle.turn_lock.proofs.Outs.{stays_free, all_gone}
 use Rattle.turn_lock.proofs.tests.take_back.Goals as goal
 
 pub give-requires-clause-value : goal.give-requires-clause-value
 give-requires-clause-value g c n le =
-    let other : is_number n g.N.Names.entry.0 ≡ false = ap (λ e. is_number n e.0) c.requires.named in
-    stays_free {E = Option ℕ × Option ℕ} (λ e. e.0) (λ e. e.1) n (view c.args.pass.now).seen g.N.Names.entry other (c.requires.value n le)
+    let other : is_among n (option_to_list g.N.Names.entry.0) ≡ false = ap (λ e. is_among n (option_to_list e.0)) c.requires.named in
+    stays_free {E = Option ℕ × List ℕ} (λ e. e.0) (λ e. e.1) n (view c.args.pass.now).seen g.N.Names.entry other (λ _. c.requires.value n le)
 
 pub returns-clause-holds : goal.returns-clause-holds
 returns-clause-holds g c =
     let before = (view c.args.pass.now).holds in
-    ap (times c.args.number) (c.give.ensures.holds ∙ ap (λ (e : Option ℕ × Option ℕ). held_after {E = Option ℕ × Option ℕ} (λ e. e.0) (λ e. e.1) e before) c.requires.named) ∙ times_gone c.args.number before
+    let Slip : Type 0 = Option ℕ × List ℕ in
+    let after = c.give.ensures.holds ∙ ap (λ (e : Slip). held_after {E = Slip} (λ e. e.0) (λ e. e.1) e before) c.requires.named in
+    subst (λ (ns : List ℕ). AllByRecursion (λ n. times n ns ≡ 0) c.args.numbers.now) (sym after) (all_gone c.args.numbers.now before)

@@ -1,5 +1,6 @@
-use Rattle.std.proofs.Common.{rules, arith, ◌≡◌, ap, ◌∙◌}
+use Rattle.std.proofs.Common.{rules, arith, ◌≡◌, ap, sym, ◌∙◌}
 use Rattle.turn_lock.specs.Lists.{times, merge}
+use Rattle.turn_lock.specs.Lock.{turn_number}
 use Rattle.turn_lock.proofs.Rising.{times_merge}
 use Rattle.turn_lock.proofs.Keeps.{joins, settles_both, whole_after, turn_after, rest_after}
 use Rattle.turn_lock.proofs.lock.TurnLock.join.Goals as goal
@@ -19,8 +20,8 @@ returns-clause-places g c p =
 pub returns-clause-stays : goal.returns-clause-stays
 returns-clause-stays g c = (
   rest_after g.V.Stands.stands g.V.Stands.hands g.V.Stands.takes _ _ c.args.pass.now.me c.args.other.me.0 c.join_seat.ensures.2 c.load.ensures.2.0 c.load.ensures.2.1,
-  λ ticket. turn_after g.V.Stands.stands g.V.Stands.hands g.V.Stands.takes ticket _ _ c.args.pass.now.me c.args.other.me.0 c.join_seat.ensures.2 c.load.ensures.2.0 c.load.ensures.2.1,
+  λ turn has. (
+    (has.0 ∙ sym (cc (c.load.ensures.0, c.join_seat.ensures.0)), turn_after g.V.Stands.stands g.V.Stands.hands g.V.Stands.takes (turn_number turn) _ _ c.args.pass.now.me c.args.other.me.0 c.join_seat.ensures.2 c.load.ensures.2.0 c.load.ensures.2.1 has.1),
+    whole_after g.V.Stands.stands g.V.Stands.hands g.V.Stands.takes (turn_number turn) _ _ c.args.pass.now.me c.args.other.me.0 c.join_seat.ensures.2 c.load.ensures.2.0 c.load.ensures.2.1 has.1,
+  ),
 )
-
-pub returns-clause-whole : goal.returns-clause-whole
-returns-clause-whole g c ticket = whole_after g.V.Stands.stands g.V.Stands.hands g.V.Stands.takes ticket _ _ c.args.pass.now.me c.args.other.me.0 c.join_seat.ensures.2 c.load.ensures.2.0 c.load.ensures.2.1

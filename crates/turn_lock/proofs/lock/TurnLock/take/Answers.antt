@@ -18,8 +18,10 @@ exchange-requires g c = (
 )
 
 pub returns-then-served-number-clause-turn : goal.returns-then-served-number-clause-turn
-returns-then-served-number-clause-turn g c =
-    has_turn g.V.Stands.stands g.V.Stands.hands g.V.Stands.takes _ _ _ _
-    (comes_to_turn g.V.Stands.stands g.V.Stands.hands g.V.Stands.takes c.args.self.now.table.shared.table_id.slots _ _ _ _ c.args.pass.now.me.0
-    (c.loop.invariant.1 ∙ c.draw-number.ensures.ticket) c.load-served.ensures.2 c.if-served-number.true)
-    c.exchange.ensures.3 c.requires.free.0.2
+returns-then-served-number-clause-turn g c = (
+  search rules,
+  has_turn g.V.Stands.stands g.V.Stands.hands g.V.Stands.takes _ _ _ _
+      (comes_to_turn g.V.Stands.stands g.V.Stands.hands g.V.Stands.takes c.args.self.now.table.shared.table_id.slots _ _ _ _ c.args.pass.now.me.0
+      (c.loop.invariant.1 ∙ c.draw-number.ensures.ticket) c.load-served.ensures.2 c.if-served-number.true)
+      c.exchange.ensures.3 c.requires.free.0.2,
+)
