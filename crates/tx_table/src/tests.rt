@@ -40,6 +40,13 @@ fn read(rt: &impl Abort, work: &mut Work, block: u32, into: &mut [u8]) -> Result
     Ok(())
 }
 
+// A block as a read shows it, which is lent with 0x2e in each byte.
+fn shown(rt: &impl Abort, work: &mut Work, block: u32) -> Result<[u8; 64], Fail> {
+    let mut into = [0x2e; 64];
+    read(rt, work, block, &mut into)?;
+    Ok(into)
+}
+
 // Whether the bytes have this one of block 2.
 fn has(alloc: Global, bytes: &Touched, at: u16) -> Result<bool, Fail> {
     let mut one = Marks::empty(alloc);
@@ -80,25 +87,28 @@ fn blocks(alloc: Global, work: &mut Work) -> Result<Vec<u32>, Fail> {
 
 #[test]
 fn marked_write_writes_its_marks_alone(rt: HostRuntime) -> Result<(), Fail> {
-    let alloc = rt.alloc();
-    let mut work = begin(alloc);
-    assert_eq!(rt; work.begun_at(), 7);
-    assert_eq!(rt; work.mode(), Mode::Serial);
+    let mut work = begin(rt.alloc());
     write(&rt, &mut work, 2, &[0x61; 64])?;
     assert_eq!(rt; mark(&mut work, 5, 2), Ok(()));
     assert_eq!(rt; mark(&mut work, 0, 1), Ok(()));
-    let mut block = [0x2e; 64];
-    read(&rt, &mut work, 2, &mut block)?;
-    assert_eq!(rt; &block[..8], b"a....aa.".as_slice());
-    assert_eq!(rt; &block[8..], [0x2e; 56].as_slice());
+    let mut wanted = [0x2e; 64];
+    wanted[0] = 0x61;
+    wanted[5] = 0x61;
+    wanted[6] = 0x61;
+    assert_eq!(rt; shown(&rt, &mut work, 2)?, wanted);
+    assert_eq!(rt; shown(&rt, &mut work, 3)?, [0x2e; 64]);
+    Ok(())
+}
+
+#[test]
+fn later_write_lies_over_an_earlier_one(rt: HostRuntime) -> Result<(), Fail> {
+    let mut work = begin(rt.alloc());
+    write(&rt, &mut work, 2, &[0x61; 64])?;
     write(&rt, &mut work, 2, &[0x62; 64])?;
     assert_eq!(rt; mark(&mut work, 6, 1), Ok(()));
-    let mut block = [0x2e; 64];
-    read(&rt, &mut work, 2, &mut block)?;
-    assert_eq!(rt; &block[..8], b"a....ab.".as_slice());
-    let mut other = [0x2e; 64];
-    read(&rt, &mut work, 3, &mut other)?;
-    assert_eq!(rt; other, [0x2e; 64]);
+    let mut wanted = [0x61; 64];
+    wanted[6] = 0x62;
+    assert_eq!(rt; shown(&rt, &mut work, 2)?, wanted);
     Ok(())
 }
 
@@ -120,23 +130,32 @@ fn ninth_mark_is_refused(rt: HostRuntime) -> Result<(), Fail> {
 }
 
 #[test]
+fn marks_say_what_is_touched(rt: HostRuntime) -> Result<(), Fail> {
+    let alloc = rt.alloc();
+    let mut work = begin(alloc);
+    assert_eq!(rt; work.begun_at(), 7);
+    assert_eq!(rt; work.mode(), Mode::Serial);
+    let _ = shown(&rt, &mut work, 2)?;
+    assert!(rt; !work.has_write());
+    assert_eq!(rt; mark(&mut work, 9, 1), Ok(()));
+    assert_eq!(rt; touches(alloc, &mut work, 9)?, (true, false));
+    assert_eq!(rt; touches(alloc, &mut work, 8)?, (false, false));
+    Ok(())
+}
+
+#[test]
 fn mark_after_settling_counts(rt: HostRuntime) -> Result<(), Fail> {
     let alloc = rt.alloc();
     let mut work = begin(alloc);
-    let mut block = [0; 64];
-    read(&rt, &mut work, 2, &mut block)?;
-    assert!(rt; !work.has_write());
-    assert_eq!(rt; mark(&mut work, 9, 1), Ok(()));
     write(&rt, &mut work, 2, &[3; 64])?;
     assert!(rt; work.has_write());
-    assert_eq!(rt; touches(alloc, &mut work, 9)?, (true, true));
-    assert_eq!(rt; touches(alloc, &mut work, 8)?, (false, true));
+    assert_eq!(rt; touches(alloc, &mut work, 9)?, (false, true));
     assert_eq!(rt; mark(&mut work, 3, 1), Ok(()));
+    assert_eq!(rt; touches(alloc, &mut work, 9)?, (false, false));
     assert_eq!(rt; touches(alloc, &mut work, 3)?, (false, true));
-    assert_eq!(rt; touches(alloc, &mut work, 9)?, (true, false));
-    let mut block = [0; 64];
-    read(&rt, &mut work, 2, &mut block)?;
-    assert_eq!(rt; &block[..6], [0, 0, 0, 3, 0, 0].as_slice());
+    let mut wanted = [0x2e; 64];
+    wanted[3] = 3;
+    assert_eq!(rt; shown(&rt, &mut work, 2)?, wanted);
     Ok(())
 }
 
