@@ -24,13 +24,18 @@ fn small(mode: Mode) -> Geometry
 
 const BEGIN: Op = Op::Begin { mode: None };
 
-/// A put of so many bytes of one value at the front of a block.
-fn put(alloc: Global, block: u32, off: u32, value: u8, count: usize) -> Result<Op, Memory> {
-    Ok(Op::Put {
-        block,
-        off,
-        bytes: Bytes::of(vec![in alloc; value; count]?),
-    })
+/// Puts so many bytes of one value into a block, from `off` on.
+fn put(
+    alloc: Global,
+    world: &mut PlainWorld,
+    client: u8,
+    block: u32,
+    off: u32,
+    value: u8,
+    count: usize,
+) -> Result<Reply, Memory> {
+    let bytes = Bytes::of(vec![in alloc; value; count]?);
+    world.step(client, &Op::Put { block, off, bytes })
 }
 
 /// Whether a read shows a block of 64 bytes with these in front.
@@ -53,7 +58,7 @@ fn put_and_end(
     count: usize,
 ) -> Result<Reply, Memory> {
     let _ = world.step(1, &BEGIN)?;
-    let _ = world.step(1, &put(alloc, 0, 0, value, count)?)?;
+    let _ = put(alloc, world, 1, 0, 0, value, count)?;
     world.step(1, &Op::End)
 }
 
@@ -64,8 +69,8 @@ fn conflict_of_two_clients(rt: HostRuntime) -> Result<(), Fail> {
     assert!(rt; matches!(world.step(1, &BEGIN)?, Reply::Began(0)));
     assert!(rt; matches!(world.step(2, &BEGIN)?, Reply::Began(0)));
     assert!(rt; shows(&world.step(2, &Op::Read { block: 0 })?, 0, 0));
-    assert!(rt; matches!(world.step(1, &put(alloc, 0, 0, 0xaa, 1)?)?, Reply::Done));
-    assert!(rt; matches!(world.step(2, &put(alloc, 0, 1, 0xbb, 1)?)?, Reply::Done));
+    assert!(rt; matches!(put(alloc, &mut world, 1, 0, 0, 0xaa, 1)?, Reply::Done));
+    assert!(rt; matches!(put(alloc, &mut world, 2, 0, 1, 0xbb, 1)?, Reply::Done));
     assert!(rt; matches!(world.step(1, &Op::End)?, Reply::Committed(1)));
     assert!(rt;
         matches!(
@@ -92,7 +97,7 @@ fn a_reader_of_an_old_snapshot(rt: HostRuntime) -> Result<(), Fail> {
     let _ = world.step(2, &BEGIN)?;
     let _ = put_and_end(alloc, &mut world, 1, 1)?;
     let _ = put_and_end(alloc, &mut world, 2, 1)?;
-    let _ = world.step(2, &put(alloc, 0, 1, 3, 1)?)?;
+    let _ = put(alloc, &mut world, 2, 0, 1, 3, 1)?;
     assert!(rt; shows(&world.step(2, &Op::Read { block: 0 })?, 0, 3));
     assert!(rt;
         matches!(
@@ -114,7 +119,7 @@ fn two_writes_of_one_byte_meet_in_snapshot_mode(rt: HostRuntime) -> Result<(), F
     let mut world = PlainWorld::new(alloc, small(Mode::Snapshot));
     let _ = world.step(2, &BEGIN)?;
     let _ = put_and_end(alloc, &mut world, 1, 2)?;
-    let _ = world.step(2, &put(alloc, 0, 1, 3, 1)?)?;
+    let _ = put(alloc, &mut world, 2, 0, 1, 3, 1)?;
     assert!(rt;
         matches!(
             world.step(2, &Op::End)?,
@@ -172,31 +177,10 @@ fn refusals_in_their_order(rt: HostRuntime) -> Result<(), Fail> {
     let alloc = rt.alloc();
     let mut world = PlainWorld::new(alloc, small(Mode::Serial));
     assert!(rt; matches!(world.step(1, &Op::Read { block: 9 })?, Reply::NotInTx));
-    assert!(rt;
-        matches!(
-            world.step(
-                1,
-                &Op::Begin {
-                    mode: Some(Mode::Snapshot)
-                }
-            )?,
-            Reply::ModeFixed
-        )
-    );
-    assert!(rt;
-        matches!(
-            world.step(
-                1,
-                &Op::Begin {
-                    mode: Some(Mode::Serial)
-                }
-            )?,
-            Reply::Began(0)
-        )
-    );
-    assert!(rt; matches!(world.step(1, &put(alloc, 4, 64, 1, 1)?)?, Reply::BadBlock));
-    assert!(rt; matches!(world.step(1, &put(alloc, 3, 64, 1, 1)?)?, Reply::BadRange));
-    assert!(rt; matches!(world.step(1, &put(alloc, 3, 0, 1, 0)?)?, Reply::BadRange));
+    assert!(rt; matches!(world.step(1, &BEGIN)?, Reply::Began(0)));
+    assert!(rt; matches!(put(alloc, &mut world, 1, 4, 64, 1, 1)?, Reply::BadBlock));
+    assert!(rt; matches!(put(alloc, &mut world, 1, 3, 64, 1, 1)?, Reply::BadRange));
+    assert!(rt; matches!(put(alloc, &mut world, 1, 3, 0, 1, 0)?, Reply::BadRange));
     assert!(rt; matches!(world.step(1, &Op::Read { block: 4 })?, Reply::BadBlock));
     assert!(rt; matches!(world.step(1, &Op::End)?, Reply::ReadOnly));
     assert!(rt; world.is_empty());
