@@ -33,6 +33,18 @@ pub the_last_commit :
 unfolding commit_step runs
 the_last_commit = refl
 
+-- An end that finds no number left, or no room, leaves the transaction as it was; one that conflicts takes it out.
+abbrev at_its_end : World → World
+at_its_end world = record world { live = writer (1 ∷ []) ∷ [] }
+
+pub what_an_end_leaves :
+    (commit_step (at_its_end (ended LAST)) (writer (1 ∷ [])) None).1
+    ∷ (commit_step (at_its_end (record (ended 0) { geometry = record small { log = 8 } })) (writer (1 ∷ [])) None).1
+    ∷ (commit_step (at_its_end (ended 1)) (writer (1 ∷ [])) (Some (record { commit = 1; block = 0; at = 0 }))).1 ∷ []
+    ≡ at_its_end (ended LAST) ∷ at_its_end (record (ended 0) { geometry = record small { log = 8 } }) ∷ ended 1 ∷ []
+unfolding commit_step runs
+what_an_end_leaves = refl
+
 abbrev released : Live
 released = record { number = 1; begin = 0; mode = Serial; accesses = []; place = label (97 ∷ []) }
 
