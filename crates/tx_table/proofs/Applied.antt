@@ -64,7 +64,7 @@ pub rows_have_bytes : (size blocks : ℕ) (rows : List Row) → AllByRecursion (
 rows_have_bytes size blocks [] all = tt
 rows_have_bytes size blocks (x ∷ rows) all = (all.0.0.bytes, rows_have_bytes size blocks rows all.1)
 
--- D6: what is laid over the block as it stood is what the accesses leave of it
+-- what is laid over the block as it stood is what the accesses leave of it
 pub shown_of : (A : Array) (accesses : List Access) (b size held : ℕ) (entries : List (ℕ × List (Option ℕ))) (into new : List ℕ) → held ≡ size
     → AllByRecursion (HasBytes size) accesses → AreEffects size accesses entries → length into ≡ size → block_at A b ≡ into
     → new ≡ laid (patch_at held b entries) into → new ≡ block_at (own A accesses) b
