@@ -1,11 +1,12 @@
 -- When a call of a log may blame the disk.
-use Rattle.std.specs.Prelude.{◌≡◌, ℕ, ◌≤◌, Result, OnOk, IsErrOf}
+use Rattle.std.specs.Prelude.{◌≡◌, ◌≢◌, ℕ, ◌≤◌, Result, OnOk, IfErr, IsErrOf}
 use Rattle.fault_count.specs.Count.{Rose}
 use Rattle.iso_log.specs.declared.log_error.LogError.{LogError}
 use Rattle.iso_log.specs.declared.log_error.LogError.TheVariants.{Disk}
 
--- the count of the disk's faults did not fall, a call that blames the disk raised it, and after Ok it stands where it stood
+-- the count of the disk's faults did not fall, a call that blames the disk raised it, and after any other answer it stands where it stood
 pub record BlamesDisk {T : Type 0} (before now : ℕ) (result : Result T LogError) : Type 0 where
   pub later : before ≤ now
   pub failed : IsErrOf result Disk → Rose before now
   pub passed : OnOk result (now ≡ before)
+  pub other : IfErr result (λ e. e ≢ Disk → now ≡ before)
