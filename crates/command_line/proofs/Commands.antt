@@ -1,0 +1,82 @@
+-- What some words ask for.
+use Rattle.std.proofs.Common.{◌≡◌, [], ◌∷◌, Some, refl, codes}
+use Rattle.clap.proofs.OnLiterals.{clap_on_literals}
+use Rattle.iso_model.specs.declared.access.Mode.TheVariants.{Serial, Snapshot}
+use Rattle.iso_model.specs.Geometry.{is_valid}
+use Rattle.iso_model.specs.Text.{number_of, words_of}
+use Rattle.command_line.specs.declared.task.Task.TheVariants.{New, Run, Recover, Bench}
+use Rattle.command_line.specs.Grammar.{rows_found}
+use Rattle.command_line.specs.Requests.{geometry_of, request_of, task_of}
+use Rattle.command_line.specs.Values.{long_number_of}
+
+pub commands_have_their_tasks-new : request_of (words_of (codes "isotope new a")) ≡ Some (codes "a", New (record { block = 4096; blocks = 1024; log = 4194304; mode = Serial; hash = 0; tree = 0; form = 1 }))
+unfolding clap_on_literals words_of request_of rows_found task_of geometry_of number_of is_valid long_number_of
+commands_have_their_tasks-new = refl
+
+pub commands_have_their_tasks-new_with_options : request_of (words_of (codes "isotope new a --block-size 64 --blocks 16384 --log 67108864 --mode snapshot")) ≡ Some (codes "a", New (record { block = 64; blocks = 16384; log = 67108864; mode = Snapshot; hash = 0; tree = 0; form = 1 }))
+unfolding clap_on_literals words_of request_of rows_found task_of geometry_of number_of is_valid long_number_of
+commands_have_their_tasks-new_with_options = refl
+
+pub commands_have_their_tasks-run : request_of (words_of (codes "isotope run a")) ≡ Some (codes "a", Run)
+unfolding clap_on_literals words_of request_of rows_found task_of geometry_of number_of is_valid long_number_of
+commands_have_their_tasks-run = refl
+
+pub commands_have_their_tasks-recover : request_of (words_of (codes "isotope recover a")) ≡ Some (codes "a", Recover)
+unfolding clap_on_literals words_of request_of rows_found task_of geometry_of number_of is_valid long_number_of
+commands_have_their_tasks-recover = refl
+
+pub commands_have_their_tasks-bench : request_of (words_of (codes "isotope bench a 18446744073709551615 100000")) ≡ Some (codes "a", Bench 18446744073709551615 100000)
+unfolding clap_on_literals words_of request_of rows_found task_of geometry_of number_of is_valid long_number_of
+commands_have_their_tasks-bench = refl
+
+pub commands_have_their_tasks-bench_of_nothing : request_of (words_of (codes "isotope bench a 0 0")) ≡ Some (codes "a", Bench 0 0)
+unfolding clap_on_literals words_of request_of rows_found task_of geometry_of number_of is_valid long_number_of
+commands_have_their_tasks-bench_of_nothing = refl
+
+pub options_stand_anywhere_behind_the_command-before : request_of (words_of (codes "isotope new --log=64 a --mode serial")) ≡ Some (codes "a", New (record { block = 4096; blocks = 1024; log = 64; mode = Serial; hash = 0; tree = 0; form = 1 }))
+unfolding clap_on_literals words_of request_of rows_found task_of geometry_of number_of is_valid long_number_of
+options_stand_anywhere_behind_the_command-before = refl
+
+pub options_stand_anywhere_behind_the_command-behind : request_of (words_of (codes "isotope new a --blocks=1 --block-size=128")) ≡ Some (codes "a", New (record { block = 128; blocks = 1; log = 4194304; mode = Serial; hash = 0; tree = 0; form = 1 }))
+unfolding clap_on_literals words_of request_of rows_found task_of geometry_of number_of is_valid long_number_of
+options_stand_anywhere_behind_the_command-behind = refl
+
+pub options_stand_anywhere_behind_the_command-ended : request_of (words_of (codes "isotope new --log 64 -- a")) ≡ Some (codes "a", New (record { block = 4096; blocks = 1024; log = 64; mode = Serial; hash = 0; tree = 0; form = 1 }))
+unfolding clap_on_literals words_of request_of rows_found task_of geometry_of number_of is_valid long_number_of
+options_stand_anywhere_behind_the_command-ended = refl
+
+pub options_stand_anywhere_behind_the_command-ended_behind : request_of (words_of (codes "isotope run a --")) ≡ Some (codes "a", Run)
+unfolding clap_on_literals words_of request_of rows_found task_of geometry_of number_of is_valid long_number_of
+options_stand_anywhere_behind_the_command-ended_behind = refl
+
+pub options_stand_anywhere_behind_the_command-an_option_behind_the_end : request_of (words_of (codes "isotope new -- --log=64")) ≡ Some (codes "--log=64", New (record { block = 4096; blocks = 1024; log = 4194304; mode = Serial; hash = 0; tree = 0; form = 1 }))
+unfolding clap_on_literals words_of request_of rows_found task_of geometry_of number_of is_valid long_number_of
+options_stand_anywhere_behind_the_command-an_option_behind_the_end = refl
+
+pub an_image_may_have_these_names-help : request_of (words_of (codes "isotope run help")) ≡ Some (codes "help", Run)
+unfolding clap_on_literals words_of request_of rows_found task_of geometry_of number_of is_valid long_number_of
+an_image_may_have_these_names-help = refl
+
+pub an_image_may_have_these_names-command : request_of (words_of (codes "isotope run run")) ≡ Some (codes "run", Run)
+unfolding clap_on_literals words_of request_of rows_found task_of geometry_of number_of is_valid long_number_of
+an_image_may_have_these_names-command = refl
+
+pub an_image_may_have_these_names-hyphen : request_of (words_of (codes "isotope run -")) ≡ Some (codes "-", Run)
+unfolding clap_on_literals words_of request_of rows_found task_of geometry_of number_of is_valid long_number_of
+an_image_may_have_these_names-hyphen = refl
+
+pub an_image_may_have_these_names-empty : request_of (codes "isotope" ∷ codes "run" ∷ [] ∷ []) ≡ Some ([], Run)
+unfolding clap_on_literals words_of request_of rows_found task_of geometry_of number_of is_valid long_number_of
+an_image_may_have_these_names-empty = refl
+
+pub an_image_may_have_these_names-spaced : request_of (codes "isotope" ∷ codes "run" ∷ codes "a b" ∷ []) ≡ Some (codes "a b", Run)
+unfolding clap_on_literals words_of request_of rows_found task_of geometry_of number_of is_valid long_number_of
+an_image_may_have_these_names-spaced = refl
+
+pub an_image_may_have_these_names-behind_the_end : request_of (words_of (codes "isotope run -- -a")) ≡ Some (codes "-a", Run)
+unfolding clap_on_literals words_of request_of rows_found task_of geometry_of number_of is_valid long_number_of
+an_image_may_have_these_names-behind_the_end = refl
+
+pub an_image_may_have_these_names-hyphens : request_of (words_of (codes "isotope run -- --")) ≡ Some (codes "--", Run)
+unfolding clap_on_literals words_of request_of rows_found task_of geometry_of number_of is_valid long_number_of
+an_image_may_have_these_names-hyphens = refl

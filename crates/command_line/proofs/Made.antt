@@ -1,0 +1,57 @@
+-- Words that ask for a new image.
+use Rattle.std.proofs.Common.{◌≡◌, ◌≤◌, ℕ, [], ◌∷◌, ◌++◌, Option, Some, refl, codes, true, ◌∙◌}
+use Rattle.std.specs.Prelude.{IsTrue, nat_le, option_and_then, option_map}
+use Rattle.std.proofs.lemmas.Bool.{le-leb}
+use Rattle.clap.proofs.OnLiterals.{clap_on_literals}
+use Rattle.clap.specs.Words.{Text}
+use Rattle.iso_model.specs.declared.access.Geometry.{Geometry}
+use Rattle.iso_model.specs.declared.access.Mode.{Mode}
+use Rattle.iso_model.specs.Geometry.{is_valid}
+use Rattle.iso_model.specs.Text.{mode_of, number_of}
+use Rattle.command_line.specs.declared.task.Task.TheVariants.{Bench, New}
+use Rattle.command_line.specs.Grammar.{rows_found}
+use Rattle.command_line.specs.Requests.{for_image, geometry_of, geometry_with, if_valid, request_of, task_of}
+use Rattle.command_line.specs.Values.{count_of, long_number_of}
+
+-- the words of a bench, before their values are read
+bench_words : (program image s n : Text) → request_of (program ∷ codes "bench" ∷ codes "--" ∷ image ∷ s ∷ n ∷ [])
+    ≡ option_map (for_image image) (option_and_then (λ seed. option_and_then (λ count. Some (Bench seed count)) (count_of n)) (long_number_of s))
+unfolding clap_on_literals request_of rows_found task_of
+bench_words program image s n = refl
+
+bench_values : (image s n : Text) (seed count : ℕ) → long_number_of s ≡ Some seed → number_of n ≡ Some count → nat_le count 100000 ≡ true
+    → option_map (for_image image) (option_and_then (λ seed. option_and_then (λ count. Some (Bench seed count)) (count_of n)) (long_number_of s))
+    ≡ Some (image, Bench seed count)
+bench_values image s n seed count is_seed is_count few = rw (is_seed, is_count, few) refl
+
+pub bench_is_made : (program image s n : Text) (seed count : ℕ) → long_number_of s ≡ Some seed → number_of n ≡ Some count → count ≤ 100000
+    → request_of (program ∷ codes "bench" ∷ codes "--" ∷ image ∷ s ∷ n ∷ []) ≡ Some (image, Bench seed count)
+bench_is_made program image s n seed count is_seed is_count few =
+    bench_words program image s n ∙ bench_values image s n seed count is_seed is_count (le-leb count 100000 few)
+
+abbrev geometry_spelled : (b n l m : Text) → Option Geometry
+geometry_spelled b n l m =
+    option_and_then (λ block. option_and_then (λ blocks. option_and_then (λ log. option_and_then (λ mode.
+    if_valid (geometry_with block blocks log mode))
+    (mode_of m)) (number_of l)) (number_of n)) (number_of b)
+
+-- the words of a new image, before their values are read
+image_words : (program image b n l m : Text)
+    → request_of (program ∷ codes "new" ∷ (codes "--block-size=" ++ b) ∷ (codes "--blocks=" ++ n) ∷ (codes "--log=" ++ l) ∷ (codes "--mode=" ++ m) ∷ codes "--" ∷ image ∷ [])
+    ≡ option_map (for_image image) (option_map New (geometry_spelled b n l m))
+unfolding clap_on_literals request_of rows_found task_of geometry_of
+image_words program image b n l m = refl
+
+image_values : (image b n l m : Text) (block blocks log : ℕ) (mode : Mode)
+    → number_of b ≡ Some block → number_of n ≡ Some blocks → number_of l ≡ Some log → mode_of m ≡ Some mode
+    → IsTrue (is_valid (geometry_with block blocks log mode))
+    → option_map (for_image image) (option_map New (geometry_spelled b n l m)) ≡ Some (image, New (geometry_with block blocks log mode))
+image_values image b n l m block blocks log mode is_block is_blocks is_log is_mode valid = rw (is_block, is_blocks, is_log, is_mode, valid) refl
+
+pub image_is_made : (program image b n l m : Text) (block blocks log : ℕ) (mode : Mode)
+    → number_of b ≡ Some block → number_of n ≡ Some blocks → number_of l ≡ Some log → mode_of m ≡ Some mode
+    → IsTrue (is_valid (geometry_with block blocks log mode))
+    → request_of (program ∷ codes "new" ∷ (codes "--block-size=" ++ b) ∷ (codes "--blocks=" ++ n) ∷ (codes "--log=" ++ l) ∷ (codes "--mode=" ++ m) ∷ codes "--" ∷ image ∷ [])
+    ≡ Some (image, New (geometry_with block blocks log mode))
+image_is_made program image b n l m block blocks log mode is_block is_blocks is_log is_mode valid =
+    image_words program image b n l m ∙ image_values image b n l m block blocks log mode is_block is_blocks is_log is_mode valid

@@ -1,0 +1,18 @@
+use Rattle.std.proofs.Common.{◌≡◌, ◌∙◌, sym, true, false}
+use Rattle.clap.specs.Words.{app_of, kind_of}
+use Rattle.clap.specs.declared.error.kind.ErrorKind.TheVariants.{OutOfMemory}
+use Rattle.command_line.specs.Grammar.{texts}
+use Rattle.command_line.proofs.Grammars.{taken, refused}
+use Rattle.command_line.proofs.matching.matches_of.Goals as goal
+
+pub returns-in-Ok-try_get_matches_from : goal.returns-in-Ok-try_get_matches_from
+returns-in-Ok-try_get_matches_from c =
+    let e = c.in-Ok-try_get_matches_from.ensures in
+    taken (app_of c.in-Ok.command) (texts c.args.words.now) c.in-Ok-try_get_matches_from.matches c.in-Ok.ensures.app e.kinds e.matches
+
+pub returns : goal.returns
+returns c =
+    refused (app_of c.in-Ok.command) (texts c.args.words.now) c.in-Err.error c.in-Ok.ensures.app c.in-Err.ensures.kinds
+    (λ (e : kind_of c.in-Err.error ≡ OutOfMemory).
+    let bad : true ≡ false = rw (c.kind.ensures, e) at (sym c.eq.ensures ∙ c.if-eq.false) in
+    cc)
