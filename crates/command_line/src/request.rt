@@ -16,10 +16,12 @@ pub struct Request<'a> {
     pub task: Task,
 }
 
-/// What the words of the command line ask for, the program's name first. None exactly where they are outside the grammar.
+/// What the words of the command line ask for, the program's name first. None exactly where they are
+/// outside the grammar.
 #[tactic(auto, unfolding(crate::specs::Requests::request_of))]
 pub fn read_words<'a>(alloc: Global, words: &'a [String]) -> Result<Option<Request<'a>>, Memory>
-    ensures request { IfOk result (λ found. option_map (λ r. (r.image.now, r.task)) found ≡ request_of (texts words.now)) }
+    ensures request { IfOk result (λ found.
+        option_map (λ r. (r.image.now, r.task)) found ≡ request_of (texts words.now)) }
     ensures limits { IfOk result (λ found. IfSome found (λ r. KeepsLimits r.task)) }
 {
     let Some(matches) = matches_of(alloc, words)? else {

@@ -3,25 +3,35 @@ ghost use Rattle.std.specs.Prelude.{◌≡◌, [], ◌∷◌, Some, None, codes}
 ghost use Rattle.iso_model.specs.declared.access.Mode.TheVariants.{Serial, Snapshot};
 ghost use Rattle.iso_model.specs.Text.{words_of};
 ghost use Rattle.command_line.specs.declared.task.Task.TheVariants.{New, Run, Recover, Bench};
-ghost use Rattle.command_line.specs.Requests.{request_of};
+ghost use Rattle.command_line.specs.Requests.{geometry_with, request_of};
 
 /// Each command has its task, with the values given or those by default.
 pub fn commands_have_their_tasks()
-    ensures new { request_of (words_of (codes "isotope new a")) ≡ Some (codes "a", New (record { block = 4096; blocks = 1024; log = 4194304; mode = Serial; hash = 0; tree = 0; form = 1 })) }
-    ensures new_with_options { request_of (words_of (codes "isotope new a --block-size 64 --blocks 16384 --log 67108864 --mode snapshot")) ≡ Some (codes "a", New (record { block = 64; blocks = 16384; log = 67108864; mode = Snapshot; hash = 0; tree = 0; form = 1 })) }
+    ensures new { request_of (words_of (codes "isotope new a"))
+        ≡ Some (codes "a", New (geometry_with 4096 1024 4194304 Serial)) }
+    ensures new_with_options { request_of (words_of (codes "isotope new a --block-size 64 --blocks 16384 --log 67108864 --mode snapshot"))
+        ≡ Some (codes "a", New (geometry_with 64 16384 67108864 Snapshot)) }
     ensures run { request_of (words_of (codes "isotope run a")) ≡ Some (codes "a", Run) }
-    ensures recover { request_of (words_of (codes "isotope recover a")) ≡ Some (codes "a", Recover) }
-    ensures bench { request_of (words_of (codes "isotope bench a 18446744073709551615 100000")) ≡ Some (codes "a", Bench 18446744073709551615 100000) }
-    ensures bench_of_nothing { request_of (words_of (codes "isotope bench a 0 0")) ≡ Some (codes "a", Bench 0 0) }
+    ensures recover { request_of (words_of (codes "isotope recover a"))
+        ≡ Some (codes "a", Recover) }
+    ensures bench { request_of (words_of (codes "isotope bench a 18446744073709551615 100000"))
+        ≡ Some (codes "a", Bench 18446744073709551615 100000) }
+    ensures bench_of_nothing { request_of (words_of (codes "isotope bench a 0 0"))
+        ≡ Some (codes "a", Bench 0 0) }
 {}
 
 /// Options stand before or behind the image, in any order, with `=` or as two words, until `--`.
 pub fn options_stand_anywhere_behind_the_command()
-    ensures before { request_of (words_of (codes "isotope new --log=64 a --mode serial")) ≡ Some (codes "a", New (record { block = 4096; blocks = 1024; log = 64; mode = Serial; hash = 0; tree = 0; form = 1 })) }
-    ensures behind { request_of (words_of (codes "isotope new a --blocks=1 --block-size=128")) ≡ Some (codes "a", New (record { block = 128; blocks = 1; log = 4194304; mode = Serial; hash = 0; tree = 0; form = 1 })) }
-    ensures ended { request_of (words_of (codes "isotope new --log 64 -- a")) ≡ Some (codes "a", New (record { block = 4096; blocks = 1024; log = 64; mode = Serial; hash = 0; tree = 0; form = 1 })) }
-    ensures ended_behind { request_of (words_of (codes "isotope run a --")) ≡ Some (codes "a", Run) }
-    ensures an_option_behind_the_end { request_of (words_of (codes "isotope new -- --log=64")) ≡ Some (codes "--log=64", New (record { block = 4096; blocks = 1024; log = 4194304; mode = Serial; hash = 0; tree = 0; form = 1 })) }
+    ensures before { request_of (words_of (codes "isotope new --log=64 a --mode serial"))
+        ≡ Some (codes "a", New (geometry_with 4096 1024 64 Serial)) }
+    ensures behind { request_of (words_of (codes "isotope new a --blocks=1 --block-size=128"))
+        ≡ Some (codes "a", New (geometry_with 128 1 4194304 Serial)) }
+    ensures ended { request_of (words_of (codes "isotope new --log 64 -- a"))
+        ≡ Some (codes "a", New (geometry_with 4096 1024 64 Serial)) }
+    ensures ended_behind { request_of (words_of (codes "isotope run a --"))
+        ≡ Some (codes "a", Run) }
+    ensures an_option_behind_the_end { request_of (words_of (codes "isotope new -- --log=64"))
+        ≡ Some (codes "--log=64", New (geometry_with 4096 1024 4194304 Serial)) }
 {}
 
 /// The name of an image is any word, but behind `--` alone one that begins with a hyphen and is longer.
@@ -30,8 +40,10 @@ pub fn an_image_may_have_these_names()
     ensures command { request_of (words_of (codes "isotope run run")) ≡ Some (codes "run", Run) }
     ensures hyphen { request_of (words_of (codes "isotope run -")) ≡ Some (codes "-", Run) }
     ensures empty { request_of (codes "isotope" ∷ codes "run" ∷ [] ∷ []) ≡ Some ([], Run) }
-    ensures spaced { request_of (codes "isotope" ∷ codes "run" ∷ codes "a b" ∷ []) ≡ Some (codes "a b", Run) }
-    ensures behind_the_end { request_of (words_of (codes "isotope run -- -a")) ≡ Some (codes "-a", Run) }
+    ensures spaced { request_of (codes "isotope" ∷ codes "run" ∷ codes "a b" ∷ [])
+        ≡ Some (codes "a b", Run) }
+    ensures behind_the_end { request_of (words_of (codes "isotope run -- -a"))
+        ≡ Some (codes "-a", Run) }
     ensures hyphens { request_of (words_of (codes "isotope run -- --")) ≡ Some (codes "--", Run) }
 {}
 
@@ -66,7 +78,8 @@ pub fn these_words_have_a_wrong_option()
     ensures hyphenated_image { request_of (words_of (codes "isotope new -a")) ≡ None }
     ensures twice { request_of (words_of (codes "isotope new --log=64 a --log 64")) ≡ None }
     ensures no_value { request_of (words_of (codes "isotope new a --log")) ≡ None }
-    ensures option_for_a_value { request_of (words_of (codes "isotope new a --log --blocks 4")) ≡ None }
+    ensures option_for_a_value { request_of (words_of (codes "isotope new a --log --blocks 4"))
+        ≡ None }
     ensures end_for_a_value { request_of (words_of (codes "isotope new a --log -- 64")) ≡ None }
     ensures negative { request_of (words_of (codes "isotope new a --log -5")) ≡ None }
 {}
@@ -74,7 +87,8 @@ pub fn these_words_have_a_wrong_option()
 /// Outside the grammar: numbers that are spelled in another way, and those outside their limits.
 pub fn these_words_have_a_wrong_value()
     ensures empty { request_of (words_of (codes "isotope new a --log=")) ≡ None }
-    ensures empty_word { request_of (codes "isotope" ∷ codes "new" ∷ codes "a" ∷ codes "--log" ∷ [] ∷ []) ≡ None }
+    ensures empty_word { request_of (codes "isotope" ∷ codes "new" ∷ codes "a" ∷ codes "--log" ∷ [] ∷ [])
+        ≡ None }
     ensures hyphen { request_of (words_of (codes "isotope new a --log -")) ≡ None }
     ensures negative { request_of (words_of (codes "isotope new a --log=-64")) ≡ None }
     ensures signed { request_of (words_of (codes "isotope new a --log=+64")) ≡ None }
@@ -88,7 +102,8 @@ pub fn these_words_have_a_wrong_value()
     ensures many_blocks { request_of (words_of (codes "isotope new a --blocks 16385")) ≡ None }
     ensures block_size { request_of (words_of (codes "isotope new a --block-size 96")) ≡ None }
     ensures mode { request_of (words_of (codes "isotope new a --mode Serial")) ≡ None }
-    ensures large_seed { request_of (words_of (codes "isotope bench a 18446744073709551616 1")) ≡ None }
+    ensures large_seed { request_of (words_of (codes "isotope bench a 18446744073709551616 1"))
+        ≡ None }
     ensures signed_seed { request_of (words_of (codes "isotope bench a +1 1")) ≡ None }
     ensures large_count { request_of (words_of (codes "isotope bench a 1 100001")) ≡ None }
     ensures leading_zero_of_a_count { request_of (words_of (codes "isotope bench a 1 01")) ≡ None }
