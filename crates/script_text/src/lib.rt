@@ -10,6 +10,7 @@ mod operation;
 mod print;
 mod push;
 mod reply;
+mod reply_line;
 mod round;
 mod word;
 
@@ -17,7 +18,8 @@ pub use generator::Generator;
 pub use iso_model::{BadLine, Line, LineError, Op, Parsed, Reply};
 pub use line::{parse_line, parse_whole_line};
 pub use print::print_line;
-pub use reply::{print_reply, push_reply};
+pub use reply::{MOST_SHOWN, print_reply, push_reply};
+pub use reply_line::ReplyLine;
 pub use round::Round;
 pub use word::number_of;
 

@@ -1,6 +1,7 @@
 // The line of a reply.
-ghost use Rattle.std.specs.Prelude.{◌≡◌, ◌+◌, ◌*◌, ◌≤◌, ◌++◌, IfOk, OnOk, OnErr, codes, decimal, length};
-ghost use Rattle.iso_model.specs.Text.{hex_text, reply_line, reply_text};
+ghost use Rattle.std.specs.Prelude.{◌≡◌, ◌+◌, ◌*◌, ◌<◌, ◌≤◌, ◌++◌, IfOk, MatchOption, OnOk, OnErr, decimal, length};
+ghost use Rattle.iso_model.specs.declared.script.Reply.TheVariants.{Shown};
+ghost use Rattle.iso_model.specs.Text.{reply_line, reply_text};
 ghost use Rattle.script_text.specs.Printing.{Extends, IsShort};
 ghost use Rattle.script_text.specs.declared.reply.TheConstants.{MOST_SHOWN};
 
@@ -13,7 +14,7 @@ use std::alloc::Global;
 const USUAL_LINE: usize = 64;
 
 /// The most bytes that are shown in a line which is made in place.
-const MOST_SHOWN: usize = 64;
+pub const MOST_SHOWN: usize = 64;
 
 /// The line that tells a client its reply.
 pub fn print_reply(alloc: Global, client: u8, reply: &Reply) -> Result<Vec<u8>, Memory>
@@ -29,35 +30,53 @@ pub fn push_reply(out: &mut Vec<u8>, client: u8, reply: &Reply) -> Result<(), Me
     ensures ok { OnOk result (out.new.items ≡ out.old.items ++ reply_line client reply.now) }
     ensures err { OnErr result (out.new.items ≡ out.old.items) }
 {
-    match reply {
-        Reply::Shown(bytes) => {
-            if bytes.len() > MOST_SHOWN {
-                push_shown(out, client, bytes.as_slice())
-            } else {
-                push_short(out, client, reply)
-            }
-        }
-        _ => push_short(out, client, reply),
+    match many_shown(reply) {
+        Some(bytes) => push_shown(out, client, bytes),
+        None => push_short(out, client, reply),
     }
 }
 
-/// Adds the line of a reply that is made in place. Without memory nothing is added.
+/// The bytes that a reply shows, where they are too many for a line that is made in place.
+pub(crate) fn many_shown(reply: &Reply) -> Option<&[u8]>
+    ensures { MatchOption result (IsShort reply.now) (λ bytes. (reply.now ≡ Shown bytes.now) × (MOST_SHOWN < length bytes.now)) }
+{
+    match reply {
+        Reply::Shown(bytes) => {
+            if bytes.len() > MOST_SHOWN {
+                Some(bytes.as_slice())
+            } else {
+                None
+            }
+        }
+        _ => None,
+    }
+}
+
 fn push_short(out: &mut Vec<u8>, client: u8, reply: &Reply) -> Result<(), Memory>
     requires { IsShort reply.now }
     ensures ok { OnOk result (out.new.items ≡ out.old.items ++ reply_line client reply.now) }
     ensures err { OnErr result (out.new.items ≡ out.old.items) }
 {
     let mut line = Ending::new();
-    line.put(b"\n");
-    put_text(&mut line, reply);
-    line.put(b" ");
-    line.put_number(u64::from(client));
+    put_reply(&mut line, client, reply);
     push_bytes(out, line.as_slice())
 }
 
+/// Puts the line of a reply in the place of the text.
+pub(crate) fn put_reply(line: &mut Ending, client: u8, reply: &Reply)
+    requires { IsShort reply.now }
+    ensures { line.new.text ≡ reply_line client reply.now }
+{
+    line.clear();
+    line.put(b"\n");
+    put_text(line, reply);
+    line.put(b" ");
+    line.put_number(u64::from(client));
+}
+
 /// Adds the line that shows a client these bytes. Without memory nothing is added.
-fn push_shown(out: &mut Vec<u8>, client: u8, bytes: &[u8]) -> Result<(), Memory>
-    ensures ok { OnOk result (out.new.items ≡ out.old.items ++ decimal client ++ codes " ok " ++ hex_text bytes.now ++ codes "\n") }
+pub(crate) fn push_shown(out: &mut Vec<u8>, client: u8, bytes: &[u8]) -> Result<(), Memory>
+    ensures ok { OnOk result (out.new.items ≡ out.old.items ++ reply_line client (Shown bytes.now)) }
     ensures err { OnErr result (out.new.items ≡ out.old.items) }
 {
     let start = out.len();
@@ -68,8 +87,9 @@ fn push_shown(out: &mut Vec<u8>, client: u8, bytes: &[u8]) -> Result<(), Memory>
     pushed
 }
 
+#[tactic(auto, unfolding(iso_model::specs::Text::reply_text))]
 fn push_parts(out: &mut Vec<u8>, client: u8, bytes: &[u8]) -> Result<(), Memory>
-    ensures ok { OnOk result (out.new.items ≡ out.old.items ++ decimal client ++ codes " ok " ++ hex_text bytes.now ++ codes "\n") }
+    ensures ok { OnOk result (out.new.items ≡ out.old.items ++ reply_line client (Shown bytes.now)) }
     ensures err { OnErr result (Extends out.old.items out.new.items) }
 {
     push_number(out, u64::from(client))?;

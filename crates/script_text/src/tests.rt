@@ -319,6 +319,22 @@ fn a_reply_that_shows_many_bytes(rt: HostRuntime) -> Result<(), Fail> {
     Ok(())
 }
 
+#[test]
+fn a_line_that_is_kept_for_the_next_reply(rt: HostRuntime) -> Result<(), Fail> {
+    let alloc = rt.alloc();
+    let shown = Reply::Shown(Bytes::of(vec![in alloc; 0x5a; 65]?));
+    let mut line = ReplyLine::new(alloc);
+    assert!(rt; line.text().is_empty());
+    assert!(rt; line.set(3, &Reply::InTx).is_ok());
+    assert_eq!(rt; line.text(), b"3 in-tx\n".as_slice());
+    assert!(rt; line.set(10, &shown).is_ok());
+    assert_eq!(rt; line.text().len(), 137);
+    assert!(rt; line.text().ends_with(b"5a5a\n"));
+    assert!(rt; line.set(64, &Reply::Began(4096)).is_ok());
+    assert_eq!(rt; line.text(), b"64 ok begin 4096\n".as_slice());
+    Ok(())
+}
+
 // Whether the operation of client 9 is printed so.
 fn prints(alloc: Global, op: Op, wanted: &[u8]) -> bool {
     match print_line(alloc, &Line { client: 9, op }) {
