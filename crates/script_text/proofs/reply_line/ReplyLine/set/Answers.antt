@@ -1,5 +1,4 @@
 use Rattle.std.proofs.Common.{arith, subst}
-use Rattle.iso_model.specs.declared.script.Reply.{Reply}
 use Rattle.script_text.specs.Printing.{IsShort}
 use Rattle.script_text.proofs.reply_line.ReplyLine.set.Goals as goal
 
