@@ -5,3 +5,7 @@ pub mod EnoughWords
 pub mod Extending
 pub mod FirstItems
 pub mod OpenLines
+pub mod Fronts
+pub mod Numerals
+pub mod Spaces
+pub mod Readings

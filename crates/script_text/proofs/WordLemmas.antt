@@ -49,7 +49,7 @@ number_of-too_great word e great =
     sym (cond-false _ _ _ (ap (λ b. b && nat_lt (value_of word) (2 ^ 32)) e ∙ le-ltb _ _ great))
 
 -- any other decimal word spells its value
-number_of-decimal : (word : List ℕ) → is_decimal word ≡ true → value_of word < 2 ^ 32 → Some (value_of word) ≡ number_of word
+pub number_of-decimal : (word : List ℕ) → is_decimal word ≡ true → value_of word < 2 ^ 32 → Some (value_of word) ≡ number_of word
 unfolding number_of
 number_of-decimal word e small =
     sym (cond-true _ _ _ (ap (λ b. b && nat_lt (value_of word) (2 ^ 32)) e ∙ lt-ltb _ _ small))

@@ -1,15 +1,26 @@
-//! The text of a script: what a line says, and the line of a reply.
+//! The text of a script: what a line says, how a line is printed, the line of a reply, and the script of a bench.
 #![tactic(auto)]
 
 mod argument;
+mod ending;
+mod generator;
+pub mod laws;
 mod line;
 mod operation;
+mod print;
+mod push;
 mod reply;
+mod reply_line;
+mod round;
 mod word;
 
+pub use generator::Generator;
 pub use iso_model::{BadLine, Line, LineError, Op, Parsed, Reply};
 pub use line::{parse_line, parse_whole_line};
-pub use reply::{print_reply, push_reply};
+pub use print::print_line;
+pub use reply::{MOST_SHOWN, print_reply, push_reply};
+pub use reply_line::ReplyLine;
+pub use round::Round;
 pub use word::number_of;
 
 #[cfg(test)]

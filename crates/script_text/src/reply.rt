@@ -1,14 +1,20 @@
 // The line of a reply.
-ghost use Rattle.std.specs.Prelude.{◌≡◌, ◌+◌, ◌*◌, ◌++◌, IfOk, OnOk, OnErr, decimal, length, take};
-ghost use Rattle.iso_model.specs.Text.{hex_text, reply_line, reply_text};
-ghost use Rattle.script_text.specs.Printing.{Extends};
+ghost use Rattle.std.specs.Prelude.{◌≡◌, ◌+◌, ◌*◌, ◌<◌, ◌≤◌, ◌++◌, IfOk, MatchOption, OnOk, OnErr, decimal, length};
+ghost use Rattle.iso_model.specs.declared.script.Reply.TheVariants.{Shown};
+ghost use Rattle.iso_model.specs.Text.{reply_line, reply_text};
+ghost use Rattle.script_text.specs.Printing.{Extends, IsShort};
+ghost use Rattle.script_text.specs.declared.reply.TheConstants.{MOST_SHOWN};
 
+use crate::ending::Ending;
+use crate::push::{push_bytes, push_hex, push_number};
 use iso_model::{Memory, Reply};
-use itoa::Buffer;
 use std::alloc::Global;
 
 /// The bytes of a line that most replies fit into.
 const USUAL_LINE: usize = 64;
+
+/// The most bytes that are shown in a line which is made in place.
+pub const MOST_SHOWN: usize = 64;
 
 /// The line that tells a client its reply.
 pub fn print_reply(alloc: Global, client: u8, reply: &Reply) -> Result<Vec<u8>, Memory>
@@ -24,47 +30,99 @@ pub fn push_reply(out: &mut Vec<u8>, client: u8, reply: &Reply) -> Result<(), Me
     ensures ok { OnOk result (out.new.items ≡ out.old.items ++ reply_line client reply.now) }
     ensures err { OnErr result (out.new.items ≡ out.old.items) }
 {
+    match many_shown(reply) {
+        Some(bytes) => push_shown(out, client, bytes),
+        None => push_short(out, client, reply),
+    }
+}
+
+/// The bytes that a reply shows, where they are too many for a line that is made in place.
+pub(crate) fn many_shown(reply: &Reply) -> Option<&[u8]>
+    ensures { MatchOption result (IsShort reply.now) (λ bytes. (reply.now ≡ Shown bytes.now) × (MOST_SHOWN < length bytes.now)) }
+{
+    match reply {
+        Reply::Shown(bytes) => {
+            if bytes.len() > MOST_SHOWN {
+                Some(bytes.as_slice())
+            } else {
+                None
+            }
+        }
+        _ => None,
+    }
+}
+
+fn push_short(out: &mut Vec<u8>, client: u8, reply: &Reply) -> Result<(), Memory>
+    requires { IsShort reply.now }
+    ensures ok { OnOk result (out.new.items ≡ out.old.items ++ reply_line client reply.now) }
+    ensures err { OnErr result (out.new.items ≡ out.old.items) }
+{
+    let mut line = Ending::new();
+    put_reply(&mut line, client, reply);
+    push_bytes(out, line.as_slice())
+}
+
+/// Puts the line of a reply in the place of the text.
+pub(crate) fn put_reply(line: &mut Ending, client: u8, reply: &Reply)
+    requires { IsShort reply.now }
+    ensures { line.new.text ≡ reply_line client reply.now }
+{
+    line.clear();
+    line.put(b"\n");
+    put_text(line, reply);
+    line.put(b" ");
+    line.put_number(u64::from(client));
+}
+
+/// Adds the line that shows a client these bytes. Without memory nothing is added.
+pub(crate) fn push_shown(out: &mut Vec<u8>, client: u8, bytes: &[u8]) -> Result<(), Memory>
+    ensures ok { OnOk result (out.new.items ≡ out.old.items ++ reply_line client (Shown bytes.now)) }
+    ensures err { OnErr result (out.new.items ≡ out.old.items) }
+{
     let start = out.len();
-    let pushed = push_line(out, client, reply);
+    let pushed = push_parts(out, client, bytes);
     if pushed.is_err() {
         out.truncate(start);
     }
     pushed
 }
 
-fn push_line(out: &mut Vec<u8>, client: u8, reply: &Reply) -> Result<(), Memory>
-    ensures ok { OnOk result (out.new.items ≡ out.old.items ++ reply_line client reply.now) }
+#[tactic(auto, unfolding(iso_model::specs::Text::reply_text))]
+fn push_parts(out: &mut Vec<u8>, client: u8, bytes: &[u8]) -> Result<(), Memory>
+    ensures ok { OnOk result (out.new.items ≡ out.old.items ++ reply_line client (Shown bytes.now)) }
     ensures err { OnErr result (Extends out.old.items out.new.items) }
 {
     push_number(out, u64::from(client))?;
-    out.push(b' ')?;
-    push_text(out, reply)?;
-    Ok(out.push(b'\n')?)
+    push_bytes(out, b" ok ")?;
+    push_hex(out, bytes)?;
+    push_bytes(out, b"\n")
 }
 
-/// Adds what the reply says.
+/// Puts what the reply says before the text.
 #[tactic(auto, unfolding(iso_model::specs::Text::reply_text))]
-fn push_text(out: &mut Vec<u8>, reply: &Reply) -> Result<(), Memory>
-    ensures ok { OnOk result (out.new.items ≡ out.old.items ++ reply_text reply.now) }
-    ensures err { OnErr result (Extends out.old.items out.new.items) }
+fn put_text(line: &mut Ending, reply: &Reply)
+    requires room { 162 ≤ line.old.room }
+    requires shown { IsShort reply.now }
+    ensures text { line.new.text ≡ reply_text reply.now ++ line.old.text }
+    ensures room { line.old.room ≤ line.new.room + 162 }
 {
     match reply {
-        Reply::Done => push_bytes(out, b"ok"),
-        Reply::Began(commit) => push_numbered(out, b"ok begin ", *commit),
+        Reply::Done => line.put(b"ok"),
+        Reply::Began(commit) => put_numbered(line, b"ok begin ", *commit),
         Reply::Shown(bytes) => {
-            push_bytes(out, b"ok ")?;
-            push_hex(out, bytes.as_slice())
+            line.put_hex(bytes.as_slice());
+            line.put(b"ok ");
         }
-        Reply::Committed(commit) => push_numbered(out, b"ok commit ", *commit),
-        Reply::ReadOnly => push_bytes(out, b"ok read-only"),
+        Reply::Committed(commit) => put_numbered(line, b"ok commit ", *commit),
+        Reply::ReadOnly => line.put(b"ok read-only"),
         Reply::Conflict(clash) => {
-            push_numbered(out, b"conflict with ", clash.commit)?;
-            push_numbered(out, b" block ", u64::from(clash.block))?;
-            push_numbered(out, b" at ", u64::from(clash.at))
+            put_numbered(line, b" at ", u64::from(clash.at));
+            put_numbered(line, b" block ", u64::from(clash.block));
+            put_numbered(line, b"conflict with ", clash.commit);
         }
-        Reply::Trimmed(floor) => push_numbered(out, b"ok trim ", *floor),
-        Reply::Compacted(floor) => push_numbered(out, b"ok compact ", *floor),
-        Reply::Upgraded(floor) => push_numbered(out, b"ok upgrade ", *floor),
+        Reply::Trimmed(floor) => put_numbered(line, b"ok trim ", *floor),
+        Reply::Compacted(floor) => put_numbered(line, b"ok compact ", *floor),
+        Reply::Upgraded(floor) => put_numbered(line, b"ok upgrade ", *floor),
         Reply::Numbers {
             last,
             base,
@@ -73,90 +131,45 @@ fn push_text(out: &mut Vec<u8>, reply: &Reply) -> Result<(), Memory>
             used,
             versions,
         } => {
-            push_two(out, b"ok last ", *last, b" base ", *base)?;
-            push_two(out, b" trim ", *trim, b" live ", u64::from(*live))?;
-            push_two(out, b" used ", u64::from(*used), b" versions ", *versions)
+            put_two(line, b" used ", u64::from(*used), b" versions ", *versions);
+            put_two(line, b" trim ", *trim, b" live ", u64::from(*live));
+            put_two(line, b"ok last ", *last, b" base ", *base);
         }
-        Reply::InTx => push_bytes(out, b"in-tx"),
-        Reply::NotInTx => push_bytes(out, b"not-in-tx"),
-        Reply::ModeFixed => push_bytes(out, b"mode-fixed"),
-        Reply::BadBlock => push_bytes(out, b"bad-block"),
-        Reply::BadRange => push_bytes(out, b"bad-range"),
-        Reply::NoAccess => push_bytes(out, b"no-access"),
-        Reply::TooManyMarks => push_bytes(out, b"too-many-marks"),
-        Reply::TooManyAccesses => push_bytes(out, b"too-many-accesses"),
-        Reply::NoHandle => push_bytes(out, b"no-handle"),
-        Reply::LabelTaken => push_bytes(out, b"label-taken"),
-        Reply::TooManyTx => push_bytes(out, b"too-many-tx"),
-        Reply::Worn => push_bytes(out, b"worn"),
+        Reply::InTx => line.put(b"in-tx"),
+        Reply::NotInTx => line.put(b"not-in-tx"),
+        Reply::ModeFixed => line.put(b"mode-fixed"),
+        Reply::BadBlock => line.put(b"bad-block"),
+        Reply::BadRange => line.put(b"bad-range"),
+        Reply::NoAccess => line.put(b"no-access"),
+        Reply::TooManyMarks => line.put(b"too-many-marks"),
+        Reply::TooManyAccesses => line.put(b"too-many-accesses"),
+        Reply::NoHandle => line.put(b"no-handle"),
+        Reply::LabelTaken => line.put(b"label-taken"),
+        Reply::TooManyTx => line.put(b"too-many-tx"),
+        Reply::Worn => line.put(b"worn"),
         Reply::LogFull { need, free } => {
-            push_two(out, b"log full need ", *need, b" free ", *free)
+            put_two(line, b"log full need ", *need, b" free ", *free);
         }
     }
 }
 
-/// Adds a text and a number in decimal.
-fn push_numbered(out: &mut Vec<u8>, text: &[u8], number: u64) -> Result<(), Memory>
-    ensures ok { OnOk result (out.new.items ≡ out.old.items ++ text.now ++ decimal number) }
-    ensures err { OnErr result (Extends out.old.items out.new.items) }
+/// Puts a text and a number in decimal before the text.
+#[inline(always)]
+fn put_numbered(line: &mut Ending, text: &[u8], number: u64)
+    requires { length text.now + 20 ≤ line.old.room }
+    ensures text { line.new.text ≡ text.now ++ decimal number ++ line.old.text }
+    ensures room { line.old.room ≤ line.new.room + length text.now + 20 }
 {
-    push_bytes(out, text)?;
-    push_number(out, number)
+    line.put_number(number);
+    line.put(text);
 }
 
-/// Adds a number in decimal.
-fn push_number(out: &mut Vec<u8>, number: u64) -> Result<(), Memory>
-    ensures ok { OnOk result (out.new.items ≡ out.old.items ++ decimal number) }
-    ensures err { OnErr result (out.new.items ≡ out.old.items) }
+/// Puts two texts, each with a number in decimal behind it, before the text.
+fn put_two(line: &mut Ending, text: &[u8], number: u64, next_text: &[u8], next_number: u64)
+    requires { length text.now + length next_text.now + 40 ≤ line.old.room }
+    ensures text { line.new.text ≡ text.now ++ decimal number ++ next_text.now ++ decimal next_number ++ line.old.text }
+    ensures room { line.old.room ≤ line.new.room + length text.now + length next_text.now + 40 }
 {
-    if number < 10 {
-        return Ok(out.push(b'0' + number as u8)?);
-    }
-    let mut buffer = Buffer::new();
-    push_bytes(out, buffer.format(number).as_bytes())
-}
-
-/// Adds two texts, each with a number in decimal behind it.
-fn push_two(
-    out: &mut Vec<u8>,
-    text: &[u8],
-    number: u64,
-    next_text: &[u8],
-    next_number: u64,
-) -> Result<(), Memory>
-    ensures ok { OnOk result (out.new.items ≡ out.old.items ++ text.now ++ decimal number ++ next_text.now ++ decimal next_number) }
-    ensures err { OnErr result (Extends out.old.items out.new.items) }
-{
-    push_numbered(out, text, number)?;
-    push_numbered(out, next_text, next_number)
-}
-
-/// Adds bytes in hexadecimal.
-fn push_hex(out: &mut Vec<u8>, bytes: &[u8]) -> Result<(), Memory>
-    ensures ok { OnOk result (out.new.items ≡ out.old.items ++ hex_text bytes.now) }
-    ensures err { OnErr result (out.new.items ≡ out.old.items) }
-{
-    let start = out.len();
-    let size = 2 * bytes.len();
-    out.reserve(size)?;
-    out.resize(start + size, 0)?;
-    write_hex(bytes, out.as_mut_slice(), start);
-    Ok(())
-}
-
-/// Writes bytes in hexadecimal behind the first ones of a text, which ends where they do.
-fn write_hex(bytes: &[u8], text: &mut [u8], start: usize)
-    requires { length text.old ≡ start + 2 * length bytes.now }
-    ensures { text.new ≡ take start text.old ++ hex_text bytes.now }
-{
-    let (_, room) = text.split_at_mut(start);
-    // The room is that of the digits, so this does not fail.
-    let _ = hex::encode_to_slice(bytes, room);
-}
-
-fn push_bytes(out: &mut Vec<u8>, bytes: &[u8]) -> Result<(), Memory>
-    ensures ok { OnOk result (out.new.items ≡ out.old.items ++ bytes.now) }
-    ensures err { OnErr result (out.new.items ≡ out.old.items) }
-{
-    Ok(out.extend_from_slice(bytes)?)
+    put_numbered(line, next_text, next_number);
+    put_numbered(line, text, number);
 }

@@ -1,6 +1,6 @@
 use super::*;
 use crate::operation::any_operation;
-use iso_model::{Bytes, Clash, Mode};
+use iso_model::{Bytes, Clash, Label, Mode};
 use std::alloc::Global;
 use std::test::*;
 
@@ -304,4 +304,89 @@ fn lines_one_after_another(rt: HostRuntime) -> Result<(), Fail> {
         .ok_or("there is memory")?;
     assert_eq!(rt; out.as_slice(), b"64 ok\n2 worn\n".as_slice());
     Ok(())
+}
+
+#[test]
+fn a_reply_that_shows_many_bytes(rt: HostRuntime) -> Result<(), Fail> {
+    let alloc = rt.alloc();
+    let shown = Reply::Shown(Bytes::of(vec![in alloc; 0xa5; 65]?));
+    let line = print_reply(alloc, 64, &shown)
+        .ok()
+        .ok_or("there is memory")?;
+    assert_eq!(rt; line.len(), 137);
+    assert!(rt; line.starts_with(b"64 ok a5a5"));
+    assert!(rt; line.ends_with(b"a5a5\n"));
+    Ok(())
+}
+
+#[test]
+fn a_line_that_is_kept_for_the_next_reply(rt: HostRuntime) -> Result<(), Fail> {
+    let alloc = rt.alloc();
+    let shown = Reply::Shown(Bytes::of(vec![in alloc; 0x5a; 65]?));
+    let mut line = ReplyLine::new(alloc);
+    assert!(rt; line.text().is_empty());
+    assert!(rt; line.set(3, &Reply::InTx).is_ok());
+    assert_eq!(rt; line.text(), b"3 in-tx\n".as_slice());
+    assert!(rt; line.set(10, &shown).is_ok());
+    assert_eq!(rt; line.text().len(), 137);
+    assert!(rt; line.text().ends_with(b"5a5a\n"));
+    assert!(rt; line.set(64, &Reply::Began(4096)).is_ok());
+    assert_eq!(rt; line.text(), b"64 ok begin 4096\n".as_slice());
+    Ok(())
+}
+
+// Whether the operation of client 9 is printed so.
+fn prints(alloc: Global, op: Op, wanted: &[u8]) -> bool {
+    match print_line(alloc, &Line { client: 9, op }) {
+        Ok(line) => line.as_slice() == wanted,
+        Err(_) => false,
+    }
+}
+
+#[test]
+fn lines_that_are_printed(rt: HostRuntime) -> Result<(), Fail> {
+    let alloc = rt.alloc();
+    let bytes = Bytes::of(vec![in alloc; 0xab, 0x01]?);
+    let put = Op::Put {
+        block: 4_294_967_295,
+        off: 0,
+        bytes,
+    };
+    let label = Label::new(b"z0").ok_or("it is a label")?;
+    let mode = Some(Mode::Snapshot);
+    let get = Op::Get {
+        block: 3,
+        off: 20,
+        len: 100,
+    };
+    assert!(rt; prints(alloc, put, b"9 put 4294967295 0 ab01"));
+    assert!(rt; prints(alloc, get, b"9 get 3 20 100"));
+    assert!(rt; prints(alloc, Op::Mark { off: 5, len: 6 }, b"9 mark 5 6"));
+    assert!(rt; prints(alloc, Op::Release { label }, b"9 release z0"));
+    assert!(rt; prints(alloc, Op::Begin { mode }, b"9 begin snapshot"));
+    assert!(rt; prints(alloc, Op::Compact, b"9 compact"));
+    Ok(())
+}
+
+#[test]
+fn the_first_draw_of_seed_0(rt: HostRuntime) {
+    let mut generator = Generator::new(0);
+    assert_eq!(rt; generator.next(), 335_903_614);
+}
+
+#[test]
+fn the_first_rounds_of_seed_0(rt: HostRuntime) {
+    let mut generator = Generator::new(0);
+    let mut round = Round::empty();
+    assert!(rt; round.text().is_empty());
+    round.draw(&mut generator);
+    assert!(rt;
+        round.text()
+            == b"1 begin\n2 begin\n1 get 62 8 4\n1 put 17 36 da\n2 get 17 8 4\n2 put 62 8 36\n1 end\n2 end\n".as_slice()
+    );
+    round.draw(&mut generator);
+    assert!(rt;
+        round.text()
+            == b"1 begin\n2 begin\n1 get 48 4 4\n1 put 14 28 9e\n2 get 14 4 4\n2 put 48 4 a4\n1 end\n2 end\n".as_slice()
+    );
 }

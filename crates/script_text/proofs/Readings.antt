@@ -1,0 +1,167 @@
+-- A printed line is read as that line, and as no other.
+use Rattle.std.proofs.Common.{◌≡◌, ◌∙◌, ap, sym, refl, ℕ, ◌≤◌, ◌<◌, ◌^◌, IsTrue, List, [], ◌∷◌, length, Some, None, Result, Ok, Err, decimal, arith}
+use Rattle.iso_model.specs.declared.access.Mode.TheVariants.{Serial, Snapshot}
+use Rattle.iso_model.specs.declared.limits.TheConstants.{MAX_LINE}
+use Rattle.iso_model.specs.declared.script.Line.{Line}
+use Rattle.iso_model.specs.declared.script.Op.{Op}
+use Rattle.iso_model.specs.declared.script.Op.TheVariants.{Begin, End, Abort, Put, Read, Get, Write, Fill, Mark, Release, Takeover, Await, Trim, Stat, Compact, Upgrade}
+use Rattle.iso_model.specs.declared.script.Parsed.TheVariants.{Line as Says}
+use Rattle.iso_model.specs.Open.{IsOpen}
+use Rattle.iso_model.specs.Script.{◌>>=◌, any_operation, client_in_range, number_argument, number_and_bytes, one_label, one_number, operation_of, other_operation, parse, put_arguments, said, three_numbers, two_numbers}
+use Rattle.iso_model.specs.Text.{hex_text, is_label, number_of, words_of}
+use Rattle.script_text.specs.Spelling.{arguments_of, line_text, line_words, name_of, spaced, AreSome, IsLine, IsSayable}
+use Rattle.script_text.proofs.LineLemmas.{parse-said}
+use Rattle.script_text.proofs.Numerals.{IsWord, decimal_digits, decimal_word, hex_argument-printed, hex_word, label_argument-printed, label_word, number_of-printed}
+use Rattle.script_text.proofs.Spaces.{AreWords, spaced_printable, spaced_says, words_of-spaced}
+
+name_word : (op : Op) → IsWord (name_of op)
+name_word (Begin mode) = record { some = omega arith; bytes = refl }
+name_word End = record { some = omega arith; bytes = refl }
+name_word Abort = record { some = omega arith; bytes = refl }
+name_word (Put block off bytes) = record { some = omega arith; bytes = refl }
+name_word (Read block) = record { some = omega arith; bytes = refl }
+name_word (Get block off len) = record { some = omega arith; bytes = refl }
+name_word (Write block bytes) = record { some = omega arith; bytes = refl }
+name_word (Fill block bytes) = record { some = omega arith; bytes = refl }
+name_word (Mark off len) = record { some = omega arith; bytes = refl }
+name_word (Release label) = record { some = omega arith; bytes = refl }
+name_word (Takeover label) = record { some = omega arith; bytes = refl }
+name_word (Await label) = record { some = omega arith; bytes = refl }
+name_word Trim = record { some = omega arith; bytes = refl }
+name_word Stat = record { some = omega arith; bytes = refl }
+name_word Compact = record { some = omega arith; bytes = refl }
+name_word Upgrade = record { some = omega arith; bytes = refl }
+
+arguments_words : (op : Op) → IsSayable op → AreWords (arguments_of op)
+arguments_words (Begin None) can = tt
+arguments_words (Begin (Some Serial)) can = (record { some = omega arith; bytes = refl }, tt)
+arguments_words (Begin (Some Snapshot)) can = (record { some = omega arith; bytes = refl }, tt)
+arguments_words End can = tt
+arguments_words Abort can = tt
+arguments_words (Put block off bytes) can = (decimal_word block can.0, (decimal_word off can.1, (hex_word bytes can.2, tt)))
+arguments_words (Read block) can = (decimal_word block can, tt)
+arguments_words (Get block off len) can = (decimal_word block can.0, (decimal_word off can.1, (decimal_word len can.2, tt)))
+arguments_words (Write block bytes) can = (decimal_word block can.0, (hex_word bytes can.1, tt))
+arguments_words (Fill block bytes) can = (decimal_word block can.0, (hex_word bytes can.1, tt))
+arguments_words (Mark off len) can = (decimal_word off can.0, (decimal_word len can.1, tt))
+arguments_words (Release label) can = (label_word label can, tt)
+arguments_words (Takeover label) can = (label_word label can, tt)
+arguments_words (Await label) can = (label_word label can, tt)
+arguments_words Trim can = tt
+arguments_words Stat can = tt
+arguments_words Compact can = tt
+arguments_words Upgrade can = tt
+
+line_are_words : (line : Line) → IsLine line → AreWords (line_words line)
+line_are_words line is = (decimal_word line.client (omega (arith, is.last)), (name_word line.op, arguments_words line.op is.op))
+
+pub words_of-printed : (line : Line) → IsLine line → words_of (line_text line) ≡ line_words line
+unfolding line_text
+words_of-printed line is = words_of-spaced _ _ (line_are_words line is)
+
+-- what follows a value that is there
+after : {A B : Type 0} (next : A → Result B ℕ) (r : Result A ℕ) (x : A) → r ≡ Ok x → (r >>= next) ≡ next x
+after next r x e = ap (λ s. s >>= next) e
+
+number_printed : (n : ℕ) → n < 2 ^ 32 → number_argument (decimal n) ≡ Ok n
+number_printed n small = rw (number_of-printed n small) refl
+
+one_printed : (op : ℕ → Op) (n : ℕ) → n < 2 ^ 32 → one_number op (decimal n ∷ []) ≡ Ok (op n)
+one_printed op n small = after _ _ n (number_printed n small)
+
+two_printed : (op : ℕ → ℕ → Op) (m n : ℕ) → m < 2 ^ 32 → n < 2 ^ 32 → two_numbers op (decimal m ∷ decimal n ∷ []) ≡ Ok (op m n)
+two_printed op m n first second = after _ _ m (number_printed m first) ∙ after _ _ n (number_printed n second)
+
+three_printed : (op : ℕ → ℕ → ℕ → Op) (l m n : ℕ) → l < 2 ^ 32 → m < 2 ^ 32 → n < 2 ^ 32 → three_numbers op (decimal l ∷ decimal m ∷ decimal n ∷ []) ≡ Ok (op l m n)
+three_printed op l m n first second third = after _ _ l (number_printed l first) ∙ after _ _ m (number_printed m second) ∙ after _ _ n (number_printed n third)
+
+bytes_printed : (op : ℕ → List ℕ → Op) (n : ℕ) (bytes : List ℕ) → n < 2 ^ 32 → AreSome bytes → number_and_bytes op (decimal n ∷ hex_text bytes ∷ []) ≡ Ok (op n bytes)
+bytes_printed op n bytes small are = after _ _ n (number_printed n small) ∙ after _ _ bytes (hex_argument-printed bytes are)
+
+put_printed : (block off : ℕ) (bytes : List ℕ) → block < 2 ^ 32 → off < 2 ^ 32 → AreSome bytes → put_arguments (decimal block ∷ decimal off ∷ hex_text bytes ∷ []) ≡ Ok (Put block off bytes)
+put_printed block off bytes first second are =
+    after _ _ block (number_printed block first) ∙ after _ _ off (number_printed off second) ∙ after _ _ bytes (hex_argument-printed bytes are)
+
+label_printed : (op : List ℕ → Op) (label : List ℕ) → IsTrue (is_label label) → one_label op (label ∷ []) ≡ Ok (op label)
+label_printed op label is = after _ _ label (label_argument-printed label is)
+
+pub any_operation-printed : (op : Op) → IsSayable op → any_operation (name_of op) (arguments_of op) ≡ Ok op
+unfolding any_operation other_operation
+any_operation-printed (Begin None) can = refl
+any_operation-printed (Begin (Some Serial)) can = refl
+any_operation-printed (Begin (Some Snapshot)) can = refl
+any_operation-printed End can = refl
+any_operation-printed Abort can = refl
+any_operation-printed (Put block off bytes) can = put_printed block off bytes can.0 can.1 can.2
+any_operation-printed (Read block) can = one_printed Read block can
+any_operation-printed (Get block off len) can = three_printed Get block off len can.0 can.1 can.2
+any_operation-printed (Write block bytes) can = bytes_printed Write block bytes can.0 can.1
+any_operation-printed (Fill block bytes) can = bytes_printed Fill block bytes can.0 can.1
+any_operation-printed (Mark off len) can = two_printed Mark off len can.0 can.1
+any_operation-printed (Release label) can = label_printed Release label can
+any_operation-printed (Takeover label) can = label_printed Takeover label can
+any_operation-printed (Await label) can = label_printed Await label can
+any_operation-printed Trim can = refl
+any_operation-printed Stat can = refl
+any_operation-printed Compact can = refl
+any_operation-printed Upgrade can = refl
+
+-- an operation that is open is read as any
+named_open : (op : Op) → IsOpen op → operation_of (name_of op) (arguments_of op) ≡ any_operation (name_of op) (arguments_of op)
+unfolding operation_of
+named_open (Begin None) is = refl
+named_open (Begin (Some mode)) is = absurd is
+named_open End is = refl
+named_open Abort is = refl
+named_open (Put block off bytes) is = refl
+named_open (Read block) is = refl
+named_open (Get block off len) is = absurd is
+named_open (Write block bytes) is = absurd is
+named_open (Fill block bytes) is = absurd is
+named_open (Mark off len) is = absurd is
+named_open (Release label) is = absurd is
+named_open (Takeover label) is = absurd is
+named_open (Await label) is = absurd is
+named_open Trim is = absurd is
+named_open Stat is = absurd is
+named_open Compact is = absurd is
+named_open Upgrade is = absurd is
+
+client_fits : (c : ℕ) → 1 ≤ c → c ≤ 64 → client_in_range (Some c) ≡ Ok c
+client_fits c first last = grind arith
+
+client_printed : (c : ℕ) → 1 ≤ c → c ≤ 64 → client_in_range (number_of (decimal c)) ≡ Ok c
+client_printed c first last = ap client_in_range (number_of-printed c (omega arith)) ∙ client_fits c first last
+
+said-printed : (line : Line) → IsLine line → IsOpen line.op → said (line_words line) ≡ Ok (Says line)
+unfolding said
+said-printed line is open_ =
+    after _ _ line.client (client_printed line.client is.first is.last)
+    ∙ after _ _ line.op (named_open line.op open_ ∙ any_operation-printed line.op is.op)
+
+pub parse-printed : (line : Line) → IsLine line → IsOpen line.op → length (line_text line) ≤ MAX_LINE → parse (line_text line) ≡ Ok (Says line)
+unfolding line_text
+parse-printed line is open_ short =
+    let are = line_are_words line is in
+    let client : line.client < 2 ^ 64 = omega (arith, is.last) in
+    sym (parse-said (spaced (line_words line)) short (spaced_says (decimal line.client) (name_of line.op ∷ arguments_of line.op) are.0.some (decimal_digits line.client client)) (spaced_printable (line_words line) are))
+    ∙ ap said (words_of-spaced _ _ are) ∙ said-printed line is open_
+
+-- what the words of a line spell, whether or not they are open
+abbrev client_of : List (List ℕ) → Result ℕ ℕ
+client_of [] = Err 1
+client_of (client ∷ words) = client_in_range (number_of client)
+
+abbrev spelled_op : List (List ℕ) → Result Op ℕ
+spelled_op [] = Err 2
+spelled_op (client ∷ []) = Err 2
+spelled_op (client ∷ name ∷ arguments) = any_operation name arguments
+
+pub line_text-injective : (line other : Line) → IsLine line → IsLine other → line_text line ≡ line_text other → line ≡ other
+line_text-injective line other is also same =
+    let words = sym (words_of-printed line is) ∙ ap words_of same ∙ words_of-printed other also in
+    let clients = sym (client_printed line.client is.first is.last) ∙ ap client_of words ∙ client_printed other.client also.first also.last in
+    let ops = sym (any_operation-printed line.op is.op) ∙ ap spelled_op words ∙ any_operation-printed other.op also.op in
+    let client : line.client ≡ other.client = cc in
+    let op : line.op ≡ other.op = cc in
+    λ i. record { client = client i; op = op i }

@@ -1,0 +1,9 @@
+use Rattle.std.proofs.Common.{List, ℕ, ap, arith}
+use Rattle.std.proofs.lemmas.List.{drop_all}
+use Rattle.script_text.specs.Ending.{WithFront}
+use Rattle.script_text.proofs.ending.Ending.clear.Goals as goal
+
+pub returns : goal.returns
+returns c =
+    let of_text : List ℕ → WithFront = λ text. record { text = text; room = 192 } in
+    ap of_text (drop_all 192 c.self.inside.bytes (omega arith))

@@ -1,0 +1,21 @@
+use Rattle.std.proofs.Common.{arith, ap}
+use Rattle.std.proofs.lemmas.Fmt.{length-decimal-le}
+use Rattle.script_text.specs.Ending.{WithFront}
+use Rattle.script_text.proofs.ending.Ending.put_number.Goals as goal
+
+pub write_digits-self-inside-requires : goal.write_digits-self-inside-requires
+write_digits-self-inside-requires c =
+    let short = length-decimal-le 20 c.args.number (omega arith) (omega arith) (omega arith) in
+    let room = ap (λ (w : WithFront). w.room) c.self.view_is in
+    (omega arith, omega (arith, c.self.invariant))
+
+pub returns-clause-room : goal.returns-clause-room
+returns-clause-room c =
+    let room = ap (λ (w : WithFront). w.room) c.self.view_is in
+    omega (arith, c.write_digits-self-inside.ensures.start)
+
+pub returns-clause-most : goal.returns-clause-most
+returns-clause-most c =
+    let short = length-decimal-le 20 c.args.number (omega arith) (omega arith) (omega arith) in
+    let room = ap (λ (w : WithFront). w.room) c.self.view_is in
+    omega (arith, c.write_digits-self-inside.ensures.start)

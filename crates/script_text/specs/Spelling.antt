@@ -1,0 +1,85 @@
+-- The printed spelling of a line, and the lines that it can say.
+use Rattle.std.specs.Prelude.{ℕ, ◌≤◌, ◌<◌, ◌^◌, IsTrue, List, [], ◌∷◌, ◌++◌, Some, None, codes, decimal, length}
+use Rattle.iso_model.specs.declared.access.Mode.{Mode}
+use Rattle.iso_model.specs.declared.access.Mode.TheVariants.{Serial, Snapshot}
+use Rattle.iso_model.specs.declared.script.Line.{Line}
+use Rattle.iso_model.specs.declared.script.Op.{Op}
+use Rattle.iso_model.specs.declared.script.Op.TheVariants.{Begin, End, Abort, Put, Read, Get, Write, Fill, Mark, Release, Takeover, Await, Trim, Stat, Compact, Upgrade}
+use Rattle.iso_model.specs.Premises.{AreBytes}
+use Rattle.iso_model.specs.Text.{hex_text, is_label}
+
+-- the name of an operation
+abbrev pub name_of : Op → List ℕ
+name_of (Begin mode) = codes "begin"
+name_of End = codes "end"
+name_of Abort = codes "abort"
+name_of (Put block off bytes) = codes "put"
+name_of (Read block) = codes "read"
+name_of (Get block off len) = codes "get"
+name_of (Write block bytes) = codes "write"
+name_of (Fill block bytes) = codes "fill"
+name_of (Mark off len) = codes "mark"
+name_of (Release label) = codes "release"
+name_of (Takeover label) = codes "takeover"
+name_of (Await label) = codes "await"
+name_of Trim = codes "trim"
+name_of Stat = codes "stat"
+name_of Compact = codes "compact"
+name_of Upgrade = codes "upgrade"
+
+abbrev pub mode_word : Mode → List ℕ
+mode_word Serial = codes "serial"
+mode_word Snapshot = codes "snapshot"
+
+-- the words behind the name: numbers in decimal, bytes in hexadecimal in lower case
+abbrev pub arguments_of : Op → List (List ℕ)
+arguments_of (Begin None) = []
+arguments_of (Begin (Some mode)) = mode_word mode ∷ []
+arguments_of (Put block off bytes) = decimal block ∷ decimal off ∷ hex_text bytes ∷ []
+arguments_of (Read block) = decimal block ∷ []
+arguments_of (Get block off len) = decimal block ∷ decimal off ∷ decimal len ∷ []
+arguments_of (Write block bytes) = decimal block ∷ hex_text bytes ∷ []
+arguments_of (Fill block bytes) = decimal block ∷ hex_text bytes ∷ []
+arguments_of (Mark off len) = decimal off ∷ decimal len ∷ []
+arguments_of (Release label) = label ∷ []
+arguments_of (Takeover label) = label ∷ []
+arguments_of (Await label) = label ∷ []
+arguments_of op = []
+
+-- words with one space between two of them
+abbrev pub spaced : List (List ℕ) → List ℕ
+spaced [] = []
+spaced (word ∷ []) = word
+spaced (word ∷ next ∷ words) = word ++ 32 ∷ spaced (next ∷ words)
+
+-- the words of a line
+abbrev pub line_words : Line → List (List ℕ)
+line_words line = decimal line.client ∷ name_of line.op ∷ arguments_of line.op
+
+-- the printed spelling of a line
+unfoldable pub line_text : Line → List ℕ
+line_text line = spaced (line_words line)
+
+-- at least one byte
+pub record AreSome (bytes : List ℕ) : Type 0 where
+  pub some : 0 < length bytes
+  pub values : AreBytes bytes
+
+-- an operation that a line can say: its numbers are below 2 ^ 32, it has bytes where it takes any, and its label is one
+abbrev pub IsSayable : Op → Type 0
+IsSayable (Put block off bytes) = (block < 2 ^ 32) × (off < 2 ^ 32) × AreSome bytes
+IsSayable (Read block) = block < 2 ^ 32
+IsSayable (Get block off len) = (block < 2 ^ 32) × (off < 2 ^ 32) × (len < 2 ^ 32)
+IsSayable (Write block bytes) = (block < 2 ^ 32) × AreSome bytes
+IsSayable (Fill block bytes) = (block < 2 ^ 32) × AreSome bytes
+IsSayable (Mark off len) = (off < 2 ^ 32) × (len < 2 ^ 32)
+IsSayable (Release label) = IsTrue (is_label label)
+IsSayable (Takeover label) = IsTrue (is_label label)
+IsSayable (Await label) = IsTrue (is_label label)
+IsSayable op = Unit {0}
+
+-- a line that can be said
+pub record IsLine (line : Line) : Type 0 where
+  pub first : 1 ≤ line.client
+  pub last : line.client ≤ 64
+  pub op : IsSayable line.op

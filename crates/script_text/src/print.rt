@@ -1,0 +1,91 @@
+// The printed spelling of a line.
+ghost use Rattle.std.specs.Prelude.{◌≡◌, ◌≤◌, ◌∷◌, ◌++◌, IfOk, Ok, OnOk, decimal, length};
+ghost use Rattle.iso_model.specs.declared.limits.TheConstants.{MAX_LINE};
+ghost use Rattle.iso_model.specs.declared.script.Parsed.TheVariants.{Line as Says};
+ghost use Rattle.iso_model.specs.Open.{IsOpen};
+ghost use Rattle.iso_model.specs.Script.{parse};
+ghost use Rattle.script_text.specs.Spelling.{arguments_of, line_text, name_of, spaced, IsLine};
+
+use crate::push::{push_bytes, push_hex, push_number};
+use iso_model::{Line, Memory, Mode, Op};
+use std::alloc::Global;
+
+/// The line in words with one space between them, numbers in decimal and bytes in hexadecimal in lower case, without a
+/// line feed. A line that can be said, is open and is not too long is read from that as it is.
+#[tactic(auto, unfolding(crate::specs::Spelling::line_text))]
+pub fn print_line(alloc: Global, line: &Line) -> Result<Vec<u8>, Memory>
+    ensures text { IfOk result (λ v. v.items ≡ line_text line.now) }
+    ensures read { IfOk result (λ v. IsLine line.now → IsOpen line.now.op → length v.items ≤ MAX_LINE → parse v.items ≡ Ok (Says line.now)) }
+{
+    let mut text = Vec::new(alloc);
+    push_number(&mut text, u64::from(line.client))?;
+    push_bytes(&mut text, b" ")?;
+    push_operation(&mut text, &line.op)?;
+    Ok(text)
+}
+
+/// Adds an operation with its arguments.
+fn push_operation(out: &mut Vec<u8>, op: &Op) -> Result<(), Memory>
+    ensures { OnOk result (out.new.items ≡ out.old.items ++ spaced (name_of op.now ∷ arguments_of op.now)) }
+{
+    match op {
+        Op::Begin { mode: None } => push_bytes(out, b"begin"),
+        Op::Begin {
+            mode: Some(Mode::Serial),
+        } => push_bytes(out, b"begin serial"),
+        Op::Begin {
+            mode: Some(Mode::Snapshot),
+        } => push_bytes(out, b"begin snapshot"),
+        Op::End => push_bytes(out, b"end"),
+        Op::Abort => push_bytes(out, b"abort"),
+        Op::Put { block, off, bytes } => {
+            push_numbered(out, b"put ", *block)?;
+            push_numbered(out, b" ", *off)?;
+            push_bytes(out, b" ")?;
+            push_hex(out, bytes.as_slice())
+        }
+        Op::Read { block } => push_numbered(out, b"read ", *block),
+        Op::Get { block, off, len } => {
+            push_numbered(out, b"get ", *block)?;
+            push_numbered(out, b" ", *off)?;
+            push_numbered(out, b" ", *len)
+        }
+        Op::Write { block, bytes } => {
+            push_numbered(out, b"write ", *block)?;
+            push_bytes(out, b" ")?;
+            push_hex(out, bytes.as_slice())
+        }
+        Op::Fill { block, bytes } => {
+            push_numbered(out, b"fill ", *block)?;
+            push_bytes(out, b" ")?;
+            push_hex(out, bytes.as_slice())
+        }
+        Op::Mark { off, len } => {
+            push_numbered(out, b"mark ", *off)?;
+            push_numbered(out, b" ", *len)
+        }
+        Op::Release { label } => push_both(out, b"release ", label.text()),
+        Op::Takeover { label } => push_both(out, b"takeover ", label.text()),
+        Op::Await { label } => push_both(out, b"await ", label.text()),
+        Op::Trim => push_bytes(out, b"trim"),
+        Op::Stat => push_bytes(out, b"stat"),
+        Op::Compact => push_bytes(out, b"compact"),
+        Op::Upgrade => push_bytes(out, b"upgrade"),
+    }
+}
+
+/// Adds a text and a number in decimal.
+fn push_numbered(out: &mut Vec<u8>, text: &[u8], number: u32) -> Result<(), Memory>
+    ensures { OnOk result (out.new.items ≡ out.old.items ++ text.now ++ decimal number) }
+{
+    push_bytes(out, text)?;
+    push_number(out, u64::from(number))
+}
+
+/// Adds two texts.
+fn push_both(out: &mut Vec<u8>, text: &[u8], next: &[u8]) -> Result<(), Memory>
+    ensures { OnOk result (out.new.items ≡ out.old.items ++ text.now ++ next.now) }
+{
+    push_bytes(out, text)?;
+    push_bytes(out, next)
+}

@@ -1,0 +1,54 @@
+// Texts that grow at their end.
+ghost use Rattle.std.specs.Prelude.{◌≡◌, ◌+◌, ◌*◌, ◌++◌, OnOk, OnErr, decimal, length, take};
+ghost use Rattle.iso_model.specs.Text.{hex_text};
+
+use iso_model::Memory;
+use itoa::Buffer;
+
+/// Adds bytes.
+pub(crate) fn push_bytes(out: &mut Vec<u8>, bytes: &[u8]) -> Result<(), Memory>
+    ensures ok { OnOk result (out.new.items ≡ out.old.items ++ bytes.now) }
+    ensures err { OnErr result (out.new.items ≡ out.old.items) }
+{
+    Ok(out.extend_from_slice(bytes)?)
+}
+
+/// Adds a number in decimal.
+pub(crate) fn push_number(out: &mut Vec<u8>, number: u64) -> Result<(), Memory>
+    ensures ok { OnOk result (out.new.items ≡ out.old.items ++ decimal number) }
+    ensures err { OnErr result (out.new.items ≡ out.old.items) }
+{
+    let mut buffer = Buffer::new();
+    push_bytes(out, buffer.format(number).as_bytes())
+}
+
+/// Adds bytes in hexadecimal.
+pub(crate) fn push_hex(out: &mut Vec<u8>, bytes: &[u8]) -> Result<(), Memory>
+    ensures ok { OnOk result (out.new.items ≡ out.old.items ++ hex_text bytes.now) }
+    ensures err { OnErr result (out.new.items ≡ out.old.items) }
+{
+    let start = out.len();
+    let size = 2 * bytes.len();
+    out.reserve(size)?;
+    out.resize(start + size, 0)?;
+    write_behind(bytes, out.as_mut_slice(), start);
+    Ok(())
+}
+
+/// Writes bytes in hexadecimal behind the first ones of a text, which ends where they do.
+fn write_behind(bytes: &[u8], text: &mut [u8], start: usize)
+    requires { length text.old ≡ start + 2 * length bytes.now }
+    ensures { text.new ≡ take start text.old ++ hex_text bytes.now }
+{
+    let (_, room) = text.split_at_mut(start);
+    write_hex(bytes, room);
+}
+
+/// Writes bytes in hexadecimal into their room.
+pub(crate) fn write_hex(bytes: &[u8], room: &mut [u8])
+    requires { length room.old ≡ 2 * length bytes.now }
+    ensures { room.new ≡ hex_text bytes.now }
+{
+    // The room is that of the digits, so this does not fail.
+    let _ = hex::encode_to_slice(bytes, room);
+}
