@@ -1,0 +1,9 @@
+pub mod Feeds
+pub mod Fronts
+pub mod Said
+pub mod Histories
+mod Acknowledged
+pub mod Steps
+pub mod Answering
+pub mod Endings
+mod Rehearsals

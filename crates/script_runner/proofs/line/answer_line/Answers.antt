@@ -1,0 +1,71 @@
+use Rattle.std.proofs.Common.{◌≡◌, ◌<◌, ℕ, List, [], ◌∷◌, Err, length, take, ap, inl, inr, refl, sym, subst, ◌∙◌}
+use Rattle.std.specs.Io.KnownBytes.{append_known}
+use Rattle.iso_io.proofs.Told.{append_known-nil}
+use Rattle.iso_io.specs.Sink.{WroteFront}
+use Rattle.iso_io.specs.declared.sink.PutError.TheVariants.{Failed, TookNothing}
+use Rattle.iso_model.specs.declared.script.Line.{Line}
+use Rattle.iso_model.specs.Script.{after, replies}
+use Rattle.script_runner.specs.declared.run_end.RunEnd.TheVariants.{Disk, Memory, Output}
+use Rattle.script_runner.specs.Counts.{SinkFailed}
+use Rattle.script_runner.specs.Told.{IfTold}
+use Rattle.script_runner.proofs.Steps.{counts_stand, halted_one, ran_one, reply_is}
+use Rattle.script_runner.proofs.line.answer_line.Goals as goal
+
+pub returns-in-Err-Disk-clause-halted : goal.returns-in-Err-Disk-clause-halted
+returns-in-Err-Disk-clause-halted g c W number stood =
+    let law = g.met.M.ScriptMachine in (
+      tt,
+      halted_one W (number, c.args.line.now) (law.sound c.args.machine.now W stood) c.requires.line.op (c.step.ensures.moments W stood) Disk (law.lawful c.step.new.self)
+          (λ told. sym (append_known-nil _)) tt (c.step.ensures.cause.failed (c.in-Err-Disk.is ∙ ap (λ s. Err s) c.in-Err-Disk.field-0-is)) (counts_stand _),
+    )
+
+pub returns-in-Err-Memory-clause-halted : goal.returns-in-Err-Memory-clause-halted
+returns-in-Err-Memory-clause-halted g c W number stood =
+    let law = g.met.M.ScriptMachine in (
+      tt,
+      halted_one W (number, c.args.line.now) (law.sound c.args.machine.now W stood) c.requires.line.op (c.step.ensures.moments W stood) Memory (law.lawful c.step.new.self)
+          (λ told. sym (append_known-nil _)) tt (c.step.ensures.cause.memory (c.in-Err-Memory.is ∙ ap (λ s. Err s) c.in-Err-Memory.field-0-is)) (counts_stand _),
+    )
+
+pub returns-in-Err-clause-halted : goal.returns-in-Err-clause-halted
+returns-in-Err-clause-halted g c W number stood =
+    let law = g.met.M.ScriptMachine in (
+      tt,
+      halted_one W (number, c.args.line.now) (law.sound c.args.machine.now W stood) c.requires.line.op (c.step.ensures.moments W stood) Memory (law.lawful c.step.new.self)
+          (λ told. sym (append_known-nil _)) tt c.in-Ok.ensures.cause.passed (counts_stand _),
+    )
+
+pub returns-in-Err-put_all-clause-halted : goal.returns-in-Err-put_all-clause-halted
+returns-in-Err-put_all-clause-halted g c W number stood =
+    let law = g.met.M.ScriptMachine in
+    let x : ℕ × Line = (number, c.args.line.now) in
+    let text : IfTold (g.M.ScriptMachine.disk c.args.machine.now) (c.deref.result.now ≡ replies W (x ∷ [])) =
+    λ told. reply_is W number c.args.line.now c.in-Ok.answer c.deref.result.now c.push_reply.new.out.items c.clear.new.self.items c.deref.ensures.value c.in_default.ensures.ok
+    c.clear.ensures.items (c.in-Ok.ensures.reply W stood told) in
+    let put = c.put_all.ensures in
+    let err : WroteFront (g.K.Sink.state c.args.output.now) (g.K.Sink.state c.put_all.new.sink) c.deref.result.now = c.in-Err-put_all.ensures.err in
+    let failed : SinkFailed (g.K.Sink.state c.args.output.now) (g.K.Sink.state c.put_all.new.sink) =
+    elim c.in-Err-put_all.field-0 as (λ e. c.in-Err-put_all.field-0 ≡ e → SinkFailed (g.K.Sink.state c.args.output.now) (g.K.Sink.state c.put_all.new.sink)) [
+      | Failed ↦ λ is. let how = c.in-Err-put_all.is ∙ ap (λ s. Err s) is in inl (put.failed how, put.not_refused how)
+      | TookNothing ↦ λ is. let how = c.in-Err-put_all.is ∙ ap (λ s. Err s) is in inr (put.took_nothing how, put.not_failed how)
+    ] refl in (
+      tt,
+      halted_one W x (law.sound c.args.machine.now W stood) c.requires.line.op (c.step.ensures.moments W stood) Output (law.lawful c.step.new.self)
+          (λ told. record {
+            count = err.count;
+            short = subst (λ (t : List ℕ). err.count < length t) (text told) err.short;
+            wrote = err.wrote ∙ ap (λ t. append_known (g.K.Sink.state c.args.output.now).written (take err.count t)) (text told);
+          })
+          (c.in-Ok.ensures.world W stood) c.in-Ok.ensures.cause.passed failed,
+    )
+
+pub returns-clause-ran : goal.returns-clause-ran
+returns-clause-ran g c W number stood =
+    let law = g.met.M.ScriptMachine in
+    let x : ℕ × Line = (number, c.args.line.now) in
+    let text : IfTold (g.M.ScriptMachine.disk c.args.machine.now) (c.deref.result.now ≡ replies W (x ∷ [])) =
+    λ told. reply_is W number c.args.line.now c.in-Ok.answer c.deref.result.now c.push_reply.new.out.items c.clear.new.self.items c.deref.ensures.value c.in_default.ensures.ok
+    c.clear.ensures.items (c.in-Ok.ensures.reply W stood told) in
+    let up = c.in-Ok.ensures.world W stood in
+    ran_one W x (law.sound c.args.machine.now W stood) c.requires.line.op (c.step.ensures.moments W stood) up (λ d here. law.shown c.step.new.self (after W (x ∷ [])) d up here)
+    (λ told. c.in_default-put_all.ensures.ok ∙ ap (append_known (g.K.Sink.state c.args.output.now).written) (text told)) c.in-Ok.ensures.told c.in-Ok.ensures.cause.passed c.in_default-put_all.ensures.passed

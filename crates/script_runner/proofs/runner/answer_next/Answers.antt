@@ -1,0 +1,38 @@
+use Rattle.std.proofs.Common.{◌≡◌, ◌<◌, ◌≤◌, ◌+◌, ◌++◌, ℕ, List, length, take, length-append, length-take, refl, subst, sym, arith}
+use Rattle.iso_model.specs.declared.limits.TheConstants.{MAX_INPUT, MAX_LINE}
+use Rattle.script_runner.specs.declared.run_end.Halt.TheVariants.{BadLine}
+use Rattle.script_runner.specs.declared.run_end.RunEnd.{RunEnd}
+use Rattle.script_runner.specs.Lines.{Gave}
+use Rattle.script_runner.specs.Run.{HasRun}
+use Rattle.script_runner.proofs.Endings.{gave_more, halt_runs, input_runs, long_ends}
+use Rattle.script_runner.proofs.runner.answer_next.Goals as goal
+
+fits : (bytes piece into : List ℕ) (count : ℕ) → length into ≡ length piece → length bytes + length piece ≤ MAX_INPUT → length (bytes ++ take count into) ≤ MAX_INPUT
+fits bytes piece into count same few = omega (arith, same, few, length-append bytes (take count into), length-take count into)
+
+pub returns-in-Err-clause-ends : goal.returns-in-Err-clause-ends
+returns-in-Err-clause-ends g c W m i k bytes gave few r =
+    input_runs W bytes c.args.progress.now.number c.args.progress.now.held.items r i (g.S.Source.state c.args.input.now) (g.S.Source.state c.take.new.self) gave
+    (omega (arith, few, c.requires.room)) c.in-Err.ensures.err (c.in-Err.ensures.cause.failed refl)
+
+pub returns-in-Err-answer_piece-clause-ends : goal.returns-in-Err-answer_piece-clause-ends
+returns-in-Err-answer_piece-clause-ends g c W m i k bytes gave few r =
+    let piece = take c.in-Ok.count c.take.new.into in
+    let given : Gave (g.S.Source.state c.args.input.now) (g.S.Source.state c.take.new.self) piece = record { took = c.in-Ok.ensures.bytes; faults = c.in-Ok.ensures.cause.passed } in
+    subst (λ (how : RunEnd). HasRun (g.M.ScriptMachine.stands c.answer_piece.new.machine) (g.M.ScriptMachine.disk m) (g.M.ScriptMachine.disk c.answer_piece.new.machine) i (g.S.Source.state c.take.new.self) k (g.K.Sink.state c.answer_piece.new.output) W how)
+    (sym c.end_of.ensures)
+    (halt_runs i (g.S.Source.state c.take.new.self) W (bytes ++ piece) (gave_more i (g.S.Source.state c.args.input.now) (g.S.Source.state c.take.new.self) bytes piece gave given)
+    (fits bytes c.args.piece.now c.take.new.into c.in-Ok.count c.take.auto.into few) c.in-Err-answer_piece.halt (c.in-Err-answer_piece.ensures.ends W m k bytes r))
+
+pub returns-then-len-gt-MAX_LINE-clause-ends : goal.returns-then-len-gt-MAX_LINE-clause-ends
+returns-then-len-gt-MAX_LINE-clause-ends g c W m i k bytes gave few r =
+    let piece = take c.in-Ok.count c.take.new.into in
+    let held = c.answer_piece.new.progress.held in
+    let given : Gave (g.S.Source.state c.args.input.now) (g.S.Source.state c.take.new.self) piece = record { took = c.in-Ok.ensures.bytes; faults = c.in-Ok.ensures.cause.passed } in
+    let long : MAX_LINE < length held.items = omega (arith, c.if-len-gt-MAX_LINE.true, c.len.ensures, held.ok.0) in
+    halt_runs i (g.S.Source.state c.take.new.self) W (bytes ++ piece) (gave_more i (g.S.Source.state c.args.input.now) (g.S.Source.state c.take.new.self) bytes piece gave given)
+    (fits bytes c.args.piece.now c.take.new.into c.in-Ok.count c.take.auto.into few) (BadLine (record { line = c.answer_piece.new.progress.number; cause = 7 }))
+    (long_ends W (bytes ++ piece) c.answer_piece.new.progress.number held.items (c.in_default.ensures.reads W m k bytes r) long)
+
+pub returns-clause-reads : goal.returns-clause-reads
+returns-clause-reads g c W m k bytes r = c.in_default.ensures.reads W m k bytes r

@@ -1,0 +1,6 @@
+pub mod Between
+pub mod Counts
+pub mod Told
+pub mod Run
+pub mod Lines
+pub mod Rehearsal

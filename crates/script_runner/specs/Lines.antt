@@ -1,0 +1,117 @@
+-- How the lines of a run are answered, one after the other.
+use Rattle.std.specs.Prelude.{◌≡◌, ℕ, ◌+◌, ◌≤◌, List, [], ◌∷◌, ◌++◌, Bool, Result, Ok, Err, IsSome, length}
+use Rattle.iso_disk.specs.Disk.{DiskState, LeavesOnly}
+use Rattle.iso_io.specs.Source.{SourceState, Took}
+use Rattle.iso_io.specs.Sink.{SinkState, CountsStand, Wrote}
+use Rattle.iso_model.specs.declared.script.Line.{Line}
+use Rattle.iso_model.specs.declared.script.LineError.{LineError}
+use Rattle.iso_model.specs.declared.script.LineError.TheVariants.{Cause, Memory as NoMemory}
+use Rattle.iso_model.specs.declared.script.Parsed.{Parsed}
+use Rattle.iso_model.specs.declared.script.Parsed.TheVariants.{Skip, Line as Says}
+use Rattle.iso_model.specs.History.{last}
+use Rattle.iso_model.specs.Script.{Script, after, replies, script_from}
+use Rattle.iso_model.specs.Text.{pieces}
+use Rattle.iso_model.specs.World.{World}
+use Rattle.iso_model.specs.Worlds.{IsOp, IsWorld, LeadsTo}
+use Rattle.script_runner.specs.declared.run_end.Halt.{Halt}
+use Rattle.script_runner.specs.declared.run_end.Halt.TheVariants as halt
+use Rattle.script_runner.specs.declared.run_end.RunEnd.{RunEnd}
+use Rattle.script_runner.specs.declared.run_end.RunEnd.TheVariants as end
+use Rattle.script_runner.specs.Between.{ShowsBetween}
+use Rattle.script_runner.specs.Told.{IfTold}
+use Rattle.script_runner.specs.Run.{Acknowledges, AreLinesOf, Answered, EndsInFeed, HasNoFeed}
+
+-- a line that a machine may be asked
+pub record IsLine (line : Line) : Type 0 where
+  pub least : 1 ≤ line.client
+  pub largest : line.client ≤ 64
+  pub op : IsOp line.op
+
+-- what a text says is such a line
+abbrev pub SaysLine : Parsed → Type 0
+SaysLine Skip = Unit {0}
+SaysLine (Says line) = IsLine line
+
+-- the lines that a text says: one or none
+abbrev pub lines_of : (number : ℕ) → Parsed → List (ℕ × Line)
+lines_of number Skip = []
+lines_of number (Says line) = (number, line) ∷ []
+
+-- how a run ends that a line ends
+abbrev pub end_of : Halt → RunEnd
+end_of (halt.BadLine line) = end.BadLine line
+end_of halt.Disk = end.Disk
+end_of halt.Output = end.Output
+end_of halt.Memory = end.Memory
+
+-- how a line that says nothing ends a run
+abbrev pub halt_of : (number : ℕ) → LineError → Halt
+halt_of number (Cause cause) = halt.BadLine (record { line = number; cause = cause })
+halt_of number NoMemory = halt.Memory
+
+-- a line that says something ends a run so
+abbrev pub IsByStep : Halt → Type 0
+IsByStep (halt.BadLine line) = ⊥
+IsByStep end = Unit {0}
+
+-- From the world W these lines were answered, and no count rose.
+pub record Ran (stands : World → Type 0) (disk_old disk_new : DiskState) (output_old output_new : SinkState) (W : World) (done : List (ℕ × Line)) : Type 0 where
+  pub replies : IfTold disk_old (Wrote output_old output_new (replies W done))
+  pub told : IfTold disk_old (IsSome disk_new.contents)
+  pub order : LeadsTo W (after W done)
+  pub acknowledged : (n : ℕ) → Acknowledges W done n → n ≤ last (after W done).history
+  pub moments : LeavesOnly disk_old disk_new (ShowsBetween W (after W done))
+  pub exit : (c : List ℕ) → disk_new.now c → ShowsBetween (after W done) (after W done) c
+  pub world : stands (after W done)
+  pub disk : disk_new.faults ≡ disk_old.faults
+  pub output : CountsStand output_old output_new
+
+-- What answering a text does, by what it says and what the answer is.
+abbrev pub AnswersParsed : (stands : World → Type 0) (disk_old disk_new : DiskState) (output_old output_new : SinkState) (W : World) (number : ℕ)
+    → Result Parsed LineError → Result (Unit {0}) Halt → Type 0
+AnswersParsed stands disk_old disk_new output_old output_new W number (Ok parsed) (Ok _) =
+    Ran stands disk_old disk_new output_old output_new W (lines_of number parsed)
+AnswersParsed stands disk_old disk_new output_old output_new W number (Ok (Says line)) (Err halt) =
+    IsByStep halt × Answered stands disk_old disk_new output_old output_new W (end_of halt) [] ((number, line) ∷ [])
+AnswersParsed stands disk_old disk_new output_old output_new W number (Err error) (Err halt) =
+    (halt ≡ halt_of number error) × Ran stands disk_old disk_new output_old output_new W []
+AnswersParsed stands disk_old disk_new output_old output_new W number parsed result = ⊥
+
+-- bytes before the first piece
+abbrev pub in_front : List ℕ → List (List ℕ) → List (List ℕ)
+in_front front [] = front ∷ []
+in_front front (piece ∷ more) = (front ++ piece) ∷ more
+
+-- the script behind these lines
+abbrev pub behind : List (ℕ × Line) → Script → Script
+behind done rest = record { lines = done ++ rest.lines; bad = rest.bad }
+
+-- Whole lines: whatever follows them, they say `done`, and the next line has this number.
+abbrev pub SaysFirst : (front : List ℕ) (number : ℕ) (done : List (ℕ × Line)) → Type 0
+SaysFirst front number done =
+    (cut : Bool) (more : List ℕ) → script_from cut 1 (pieces 10 (front ++ more)) ≡ behind done (script_from cut number (pieces 10 more))
+
+-- Of the bytes taken, the whole lines were answered; `held` is the front of the next line.
+pub record Reads (stands : World → Type 0) (disk_old disk_new : DiskState) (output_old output_new : SinkState) (W : World) (bytes : List ℕ) (number : ℕ)
+    (held : List ℕ) : Type 0 where
+  pub sound : IsWorld W
+  pub front : List ℕ
+  pub done : List (ℕ × Line)
+  pub bytes_are : bytes ≡ front ++ held
+  pub whole : EndsInFeed front
+  pub says : SaysFirst front number done
+  pub no_feed : HasNoFeed held
+  pub small : number ≤ length front + 1
+  pub ran : Ran stands disk_old disk_new output_old output_new W done
+
+-- A run ends so among these bytes, whatever follows them.
+pub record EndsAt (stands : World → Type 0) (disk_old disk_new : DiskState) (output_old output_new : SinkState) (W : World) (bytes : List ℕ) (end : RunEnd) : Type 0 where
+  pub done : List (ℕ × Line)
+  pub next : List (ℕ × Line)
+  pub lines : (cut : Bool) (more : List ℕ) → AreLinesOf end (script_from cut 1 (pieces 10 (bytes ++ more))) done next
+  pub answered : Answered stands disk_old disk_new output_old output_new W end done next
+
+-- The bytes are those that the source gave, in order, and it did not fail.
+pub record Gave (old new : SourceState) (bytes : List ℕ) : Type 0 where
+  pub took : Took old new bytes
+  pub faults : new.faults ≡ old.faults

@@ -1,0 +1,111 @@
+-- What a run over the lines of a script has done.
+use Rattle.std.specs.Prelude.{◌≡◌, ◌⊎◌, ℕ, ◌≤◌, ◌<◌, List, [], ◌∷◌, ◌++◌, Some, None, Contains, IfSome, length, take}
+use Rattle.iso_disk.specs.Disk.{DiskState, LeavesOnly}
+use Rattle.iso_io.specs.Source.{SourceState, MetEnd, Took}
+use Rattle.iso_io.specs.Sink.{SinkState, Wrote}
+use Rattle.iso_model.specs.declared.limits.TheConstants.{MAX_INPUT}
+use Rattle.iso_model.specs.declared.script.Line.{Line}
+use Rattle.iso_model.specs.declared.script.Reply.TheVariants.{Committed}
+use Rattle.iso_model.specs.History.{last}
+use Rattle.iso_model.specs.Script.{Script, after, replies, script}
+use Rattle.iso_model.specs.Step.{step}
+use Rattle.iso_model.specs.World.{World}
+use Rattle.iso_model.specs.Worlds.{LeadsTo}
+use Rattle.script_runner.specs.declared.run_end.RunEnd.{RunEnd}
+use Rattle.script_runner.specs.declared.run_end.RunEnd.TheVariants.{Done, BadLine as Bad, Disk, Input, Output, Memory}
+use Rattle.script_runner.specs.Between.{ShowsBetween}
+use Rattle.script_runner.specs.Counts.{DiskCount, SinkCounts, SourceCount}
+use Rattle.script_runner.specs.Told.{IfTold}
+
+-- the lines `done` and then `next`, of which there is one at most, are the first of these lines
+pub record AreFirst (lines done next : List (ℕ × Line)) : Type 0 where
+  pub later : List (ℕ × Line)
+  pub all : lines ≡ done ++ next ++ later
+  pub one : length next ≤ 1
+
+-- which lines of a script a run has answered that ended so: all of them, or those before the bad one, or some first
+-- ones, behind which it may have run one more
+abbrev pub AreLinesOf : RunEnd → Script → (done next : List (ℕ × Line)) → Type 0
+AreLinesOf Done S done next = (S ≡ record { lines = done; bad = None }) × (next ≡ [])
+AreLinesOf (Bad line) S done next = (S ≡ record { lines = done; bad = Some line }) × (next ≡ [])
+AreLinesOf Input S done next = AreFirst S.lines done next × (next ≡ [])
+AreLinesOf end S done next = AreFirst S.lines done next
+
+-- no line feed is among these bytes
+abbrev pub HasNoFeed : List ℕ → Type 0
+HasNoFeed bytes = ¬ Contains bytes 10
+
+-- no bytes, or bytes that end in a line feed
+abbrev pub EndsInFeed : List ℕ → Type 0
+EndsInFeed bytes = (bytes ≡ []) ⊎ ((text : List ℕ) × (bytes ≡ text ++ 10 ∷ []))
+
+-- the lines are all those that end in a line feed among these bytes, and none of them is bad
+pub record AreWholeLines (bytes : List ℕ) (lines : List (ℕ × Line)) : Type 0 where
+  pub front : List ℕ
+  pub rest : List ℕ
+  pub split : bytes ≡ front ++ rest
+  pub whole : EndsInFeed front
+  pub no_feed : HasNoFeed rest
+  pub says : script front ≡ record { lines = lines; bad = None }
+
+-- the sink took the text, and then a front of the next one that is not all of it
+pub record WroteBehind (old new : SinkState) (text next : List ℕ) : Type 0 where
+  pub count : ℕ
+  pub short : count < length next
+  pub wrote : Wrote old new (text ++ take count next)
+
+-- what the sink took of the replies: the whole text of those to the lines answered; where it ended the run, a front of
+-- one more reply behind it
+abbrev pub Replied : RunEnd → SinkState → SinkState → (text next : List ℕ) → Type 0
+Replied Output old new text next = WroteBehind old new text next
+Replied end old new text next = Wrote old new text
+
+-- what holds of the machine, unless its step may have stopped
+abbrev pub IfUp : RunEnd → Type 0 → Type 0
+IfUp Disk P = Unit {0}
+IfUp Memory P = Unit {0}
+IfUp end P = P
+
+-- a reply of the world W to one of these lines says that commit n was made
+abbrev pub Acknowledges : World → List (ℕ × Line) → (n : ℕ) → Type 0
+Acknowledges W [] n = ⊥
+Acknowledges W (line ∷ lines) n =
+    ((step W line.1.client line.1.op).0 ≡ Committed n) ⊎ Acknowledges (step W line.1.client line.1.op).1 lines n
+
+-- From the world W the lines `done` were answered: the sink took the whole reply to each. Behind them the machine may
+-- have run the lines `next`.
+pub record Answered (stands : World → Type 0) (disk_old disk_new : DiskState) (output_old output_new : SinkState) (W : World) (end : RunEnd)
+    (done next : List (ℕ × Line)) : Type 0 where
+  -- the reply theorem: the sink took the replies of the world and these lines, where the disk tells what a read shows
+  pub replies : IfTold disk_old (Replied end output_old output_new (replies W done) (replies (after W done) next))
+  -- the order theorem: the world after these lines is sound, so each of its commits is isolated, and its history begins with the one before
+  pub order : LeadsTo W (after W done)
+  pub order_next : LeadsTo (after W done) (after W (done ++ next))
+  -- the crash theorem: each image that a crash leaves now shows the history at a commit from the last one of these lines on,
+  -- and so at none before one that was acknowledged; and each that a crash might have left in the run shows it at a commit
+  -- from the last one before the run on
+  pub acknowledged : (n : ℕ) → Acknowledges W done n → n ≤ last (after W done).history
+  pub exit : (c : List ℕ) → disk_new.now c → ShowsBetween (after W done) (after W (done ++ next)) c
+  pub moments : LeavesOnly disk_old disk_new (ShowsBetween W (after W (done ++ next)))
+  -- the machine answers as the world after these lines
+  pub world : IfUp end (stands (after W (done ++ next)))
+  -- no fault was passed over
+  pub disk : DiskCount end disk_old.faults disk_new.faults
+  pub output : SinkCounts end output_old output_new
+
+-- What a run from the world W has done that ended so.
+pub record HasRun (stands : World → Type 0) (disk_old disk_new : DiskState) (input_old input_new : SourceState) (output_old output_new : SinkState)
+    (W : World) (end : RunEnd) : Type 0 where
+  -- the bytes taken, and that they are the whole input where all was done
+  pub bytes : List ℕ
+  pub took : Took input_old input_new bytes
+  pub limit : length bytes ≤ MAX_INPUT
+  pub ended : end ≡ Done → MetEnd input_old input_new bytes
+  -- the lines answered, and the one that may have run behind them: lines of the bytes taken, and of the whole input where it is told
+  pub done : List (ℕ × Line)
+  pub next : List (ℕ × Line)
+  pub lines : AreLinesOf end (script bytes) done next
+  pub told : IfSome input_old.rest (λ all. AreLinesOf end (script all) done next)
+  pub whole : end ≡ Input → AreWholeLines bytes done
+  pub answered : Answered stands disk_old disk_new output_old output_new W end done next
+  pub input : SourceCount end input_old.faults input_new.faults

@@ -1,0 +1,15 @@
+//! A script, answered line by line on a machine.
+#![tactic(auto)]
+
+mod line;
+mod machine;
+mod piece;
+mod run_end;
+mod runner;
+
+pub use machine::{ScriptMachine, Stop};
+pub use run_end::RunEnd;
+pub use runner::run;
+
+#[cfg(test)]
+mod tests;

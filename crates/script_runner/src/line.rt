@@ -1,0 +1,74 @@
+// One line after the other.
+ghost use Rattle.std.specs.Prelude.{◌≡◌, ℕ, [], ◌∷◌, IfErr, IfOk, OnOk};
+ghost use Rattle.iso_model.specs.World.{World};
+ghost use Rattle.script_runner.specs.Lines.{AnswersParsed, IsByStep, IsLine, Ran, SaysLine, end_of, halt_of};
+ghost use Rattle.script_runner.specs.Run.{Answered};
+
+use crate::machine::{ScriptMachine, Stop};
+use crate::run_end::Halt;
+use iso_io::{Sink, put_all};
+use iso_model::{BadLine, Line, LineError, Parsed};
+use script_text::push_reply;
+
+/// Runs the operation of a line, and hands its reply to the sink.
+fn answer_line<M: ScriptMachine, K: Sink>(
+    line: &Line,
+    reply: &mut Vec<u8>,
+    machine: &mut M,
+    output: &mut K,
+) -> Result<(), Halt>
+    requires stands { (W : World) × M.stands machine.old W }
+    requires line { IsLine line.now }
+    ensures ran { (W : World) (number : ℕ) → M.stands machine.old W → OnOk result
+        (Ran (M.stands machine.new) (M.disk machine.old) (M.disk machine.new) (K.state output.old) (K.state output.new) W ((number, line.now) ∷ [])) }
+    ensures halted { (W : World) (number : ℕ) → M.stands machine.old W → IfErr result (λ halt. IsByStep halt
+        × Answered (M.stands machine.new) (M.disk machine.old) (M.disk machine.new) (K.state output.old) (K.state output.new) W (end_of halt) [] ((number, line.now) ∷ [])) }
+{
+    let answer = match machine.step(line.client, &line.op) {
+        Ok(answer) => answer,
+        Err(Stop::Down) => return Err(Halt::Disk),
+        Err(Stop::Disk) => return Err(Halt::Disk),
+        Err(Stop::Memory) => return Err(Halt::Memory),
+    };
+    reply.clear();
+    if let Err(_) = push_reply(reply, line.client, &answer) {
+        return Err(Halt::Memory);
+    }
+    if let Err(_) = put_all(output, reply) {
+        return Err(Halt::Output);
+    }
+    Ok(())
+}
+
+/// How a line that says nothing ends a run.
+fn halt_of(number: u64, error: LineError) -> Halt
+    ensures { result ≡ halt_of number error }
+{
+    match error {
+        LineError::Cause(cause) => {
+            let line = number;
+            Halt::BadLine(BadLine { line, cause })
+        }
+        LineError::Memory => Halt::Memory,
+    }
+}
+
+/// Answers what a text says.
+pub(crate) fn answer_parsed<M: ScriptMachine, K: Sink>(
+    number: u64,
+    parsed: Result<Parsed, LineError>,
+    reply: &mut Vec<u8>,
+    machine: &mut M,
+    output: &mut K,
+) -> Result<(), Halt>
+    requires stands { (W : World) × M.stands machine.old W }
+    requires line { IfOk parsed SaysLine }
+    ensures { (W : World) → M.stands machine.old W
+        → AnswersParsed (M.stands machine.new) (M.disk machine.old) (M.disk machine.new) (K.state output.old) (K.state output.new) W number parsed result }
+{
+    match parsed {
+        Ok(Parsed::Skip) => Ok(()),
+        Ok(Parsed::Line(line)) => answer_line(&line, reply, machine, output),
+        Err(error) => Err(halt_of(number, error)),
+    }
+}

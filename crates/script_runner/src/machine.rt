@@ -1,0 +1,59 @@
+// What answers the lines of a script.
+ghost use Rattle.std.specs.Prelude.{◌≡◌, ◌≤◌, ℕ, List, IfOk, IsErrOf, IsSome, OnOk};
+ghost use Rattle.iso_disk.specs.Disk.{DiskState, IsLawful, LeavesOnly};
+ghost use Rattle.iso_model.specs.History.{last};
+ghost use Rattle.iso_model.specs.Image.{Shows};
+ghost use Rattle.iso_model.specs.Step.{step};
+ghost use Rattle.iso_model.specs.World.{World};
+ghost use Rattle.iso_model.specs.Worlds.{IsOp, IsWorld};
+ghost use Rattle.script_runner.specs.Between.{IsBeforeOrAfter};
+ghost use Rattle.script_runner.specs.Counts.{BlamesDisk};
+ghost use Rattle.script_runner.specs.Told.{IfTold, SameButShown};
+
+use iso_model::{Op, Reply};
+
+/// Why a machine has no reply.
+#[derive(Clone, Copy, Debug, PartialEq, Eq)]
+pub enum Stop {
+    /// An earlier call took it down.
+    Down,
+    /// Its disk failed.
+    Disk,
+    /// Want of memory.
+    Memory,
+}
+
+/// What answers the operations of clients on an image.
+pub trait ScriptMachine {
+    /// It is up, and answers as this world does.
+    ghost stands: { Self → World → Type 0 };
+
+    /// Its disk at this moment.
+    ghost disk: { Self → DiskState };
+
+    /// Does what a client asks for, and answers it. At each moment of the call a crash leaves an image that shows the
+    /// world before it or the world after it.
+    fn step(&mut self, client: u8, op: &Op) -> Result<Reply, Stop>
+        requires stands { (W : World) × stands self.old W }
+        requires client { (1 ≤ client) × (client ≤ 64) }
+        requires op { IsOp op.now }
+
+        // Over a disk that tells no bytes, as a real file, the bytes that a reply shows are not known.
+        ensures reply { (W : World) → stands self.old W → IfOk result (λ r. IfTold (disk self.old) (r ≡ (step W client op.now).0)) }
+        ensures but_shown { (W : World) → stands self.old W → IfOk result (λ r. SameButShown r (step W client op.now).0) }
+        ensures told { OnOk result (IfTold (disk self.old) (IsSome (disk self.new).contents)) }
+        ensures world { (W : World) → stands self.old W → OnOk result (stands self.new (step W client op.now).1) }
+        ensures moments { (W : World) → stands self.old W
+            → LeavesOnly (disk self.old) (disk self.new) (IsBeforeOrAfter W (step W client op.now).1) }
+        ensures up { ¬ IsErrOf result Stop.Down }
+        ensures cause { BlamesDisk (disk self.old).faults (disk self.new).faults result };
+
+    /// Its world is a sound one.
+    ghost sound: { (m : Self) (W : World) → stands m W → IsWorld W };
+
+    /// Each image of this moment shows the history of its world, at the last commit.
+    ghost shown: { (m : Self) (W : World) (c : List ℕ) → stands m W → (disk m).now c → Shows c W.geometry W.history (last W.history) };
+
+    /// The moments and the images of its disk go together.
+    ghost lawful: { (m : Self) → IsLawful (disk m) };
+}

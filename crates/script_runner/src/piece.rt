@@ -1,0 +1,125 @@
+// A piece of the input, and the lines in it.
+ghost use Rattle.std.specs.Prelude.{◌≡◌, ℕ, ◌+◌, ◌^◌, ◌<◌, ◌≤◌, [], ◌∷◌, ◌++◌, List, length, IfErr, IfNone, IfSome, OnOk};
+ghost use Rattle.iso_io.specs.Sink.{SinkState};
+ghost use Rattle.iso_model.specs.Script.{parse_whole};
+ghost use Rattle.iso_model.specs.World.{World};
+ghost use Rattle.script_text.specs.Parsing.{Gives};
+ghost use Rattle.script_runner.specs.Lines.{EndsAt, Reads, end_of};
+ghost use Rattle.script_runner.specs.Run.{HasNoFeed};
+
+use crate::line::answer_parsed;
+use crate::machine::ScriptMachine;
+use crate::run_end::Halt;
+use iso_io::Sink;
+use iso_model::{LineError, Parsed};
+use memchr::memchr;
+use script_text::parse_whole_line;
+use std::alloc::Global;
+
+/// Where a run stands in the input.
+#[derive(Drop)]
+pub(crate) struct Progress {
+    /// The number of the next line.
+    pub(crate) number: u64,
+    /// The front of it that was taken.
+    pub(crate) held: Vec<u8>,
+    /// Room for a reply.
+    pub(crate) reply: Vec<u8>,
+}
+
+/// The bytes before the first line feed, and what follows it. None where there is no line feed.
+fn split_line(text: &[u8]) -> Option<(&[u8], &[u8])>
+    ensures split { IfSome result (λ found. text.now ≡ found.0.now ++ 10 ∷ found.1.now) }
+    ensures line { IfSome result (λ found. HasNoFeed found.0.now) }
+    ensures none { IfNone result (HasNoFeed text.now) }
+{
+    let end = memchr(b'\n', text)?;
+    let (line, rest) = text.split_at(end);
+    Some((line, &rest[1..]))
+}
+
+/// What a whole line says, whose front is held. Where it says something, nothing is held then.
+fn parse_held(alloc: Global, held: &mut Vec<u8>, line: &[u8]) -> Result<Parsed, LineError>
+    ensures parsed { Gives result (parse_whole (held.old.items ++ line.now)) }
+    ensures held { OnOk result (held.new.items ≡ []) }
+{
+    if held.is_empty() {
+        return parse_whole_line(alloc, line);
+    }
+    if let Err(_) = held.extend_from_slice(line) {
+        return Err(LineError::Memory);
+    }
+    let parsed = parse_whole_line(alloc, held);
+    held.clear();
+    parsed
+}
+
+/// Answers a whole line, whose front is held.
+fn answer_whole<M: ScriptMachine, K: Sink>(
+    alloc: Global,
+    progress: &mut Progress,
+    line: &[u8],
+    machine: &mut M,
+    output: &mut K,
+) -> Result<(), Halt>
+    requires stands { (W : World) × M.stands machine.old W }
+    requires number { progress.old.number < 2 ^ 63 }
+    requires line { HasNoFeed line.now }
+    ensures number { OnOk result (progress.new.number ≡ progress.old.number + 1) }
+    ensures stands { OnOk result ((W : World) × M.stands machine.new W) }
+    ensures reads { (W : World) (m : _) (k : SinkState) (bytes : List ℕ)
+        → Reads (M.stands machine.old) (M.disk m) (M.disk machine.old) k (K.state output.old) W bytes progress.old.number progress.old.held.items
+        → OnOk result (Reads (M.stands machine.new) (M.disk m) (M.disk machine.new) k (K.state output.new) W (bytes ++ (line.now ++ 10 ∷ []))
+        progress.new.number progress.new.held.items) }
+    ensures ends { (W : World) (m : _) (k : SinkState) (bytes : List ℕ)
+        → Reads (M.stands machine.old) (M.disk m) (M.disk machine.old) k (K.state output.old) W bytes progress.old.number progress.old.held.items
+        → IfErr result (λ halt. EndsAt (M.stands machine.new) (M.disk m) (M.disk machine.new) k (K.state output.new) W (bytes ++ (line.now ++ 10 ∷ []))
+        (end_of halt)) }
+{
+    let parsed = parse_held(alloc, &mut progress.held, line);
+    let answered = answer_parsed(
+        progress.number,
+        parsed,
+        &mut progress.reply,
+        machine,
+        output,
+    );
+    if let Err(halt) = answered {
+        return Err(halt);
+    }
+    progress.number += 1;
+    Ok(())
+}
+
+/// Answers the whole lines that end in a piece, and holds what is behind them.
+pub(crate) fn answer_piece<M: ScriptMachine, K: Sink>(
+    alloc: Global,
+    progress: &mut Progress,
+    piece: &[u8],
+    machine: &mut M,
+    output: &mut K,
+) -> Result<(), Halt>
+    requires stands { (W : World) × M.stands machine.old W }
+    requires number { progress.old.number + length piece.now < 2 ^ 63 }
+    ensures number { OnOk result (progress.new.number ≤ progress.old.number + length piece.now) }
+    ensures stands { OnOk result ((W : World) × M.stands machine.new W) }
+    ensures reads { (W : World) (m : _) (k : SinkState) (bytes : List ℕ)
+        → Reads (M.stands machine.old) (M.disk m) (M.disk machine.old) k (K.state output.old) W bytes progress.old.number progress.old.held.items
+        → OnOk result (Reads (M.stands machine.new) (M.disk m) (M.disk machine.new) k (K.state output.new) W (bytes ++ piece.now)
+        progress.new.number progress.new.held.items) }
+    ensures ends { (W : World) (m : _) (k : SinkState) (bytes : List ℕ)
+        → Reads (M.stands machine.old) (M.disk m) (M.disk machine.old) k (K.state output.old) W bytes progress.old.number progress.old.held.items
+        → IfErr result (λ halt. EndsAt (M.stands machine.new) (M.disk m) (M.disk machine.new) k (K.state output.new) W (bytes ++ piece.now) (end_of halt)) }
+{
+    let mut rest = piece;
+    while let Some((line, next)) = split_line(rest) {
+        if let Err(halt) = answer_whole(alloc, progress, line, machine, output) {
+            return Err(halt);
+        }
+        rest = next;
+    }
+    if let Err(_) = progress.held.extend_from_slice(rest) {
+        return Err(Halt::Memory);
+    }
+    Ok(())
+}

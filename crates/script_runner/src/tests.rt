@@ -1,0 +1,216 @@
+// Runs over a machine that knows one script, and wants memory at any other operation.
+ghost use Rattle.std.proofs.Common.{subst, sym};
+ghost use Rattle.std.specs.Prelude.{◌≡◌, ℕ, ◌+◌, ◌<◌, ◌≤◌, List, IfOk, IfSome, IsErrOf, None, OnOk};
+ghost use Rattle.iso_disk.specs.Disk.{LeavesOnly};
+ghost use Rattle.iso_disk.specs.Untold.{untold, untold_is_lawful};
+ghost use Rattle.iso_model.specs.declared.script.Op.TheVariants.{Begin, Put};
+ghost use Rattle.iso_model.specs.Step.{step};
+ghost use Rattle.iso_model.specs.World.{World};
+ghost use Rattle.iso_model.specs.Worlds.{IsWorld};
+ghost use Rattle.script_runner.specs.Between.{IsBeforeOrAfter};
+ghost use Rattle.script_runner.specs.Counts.{BlamesDisk};
+ghost use Rattle.script_runner.specs.Rehearsal.{rehearsed, rehearsed_is_world};
+
+use super::*;
+use fault_count::raise;
+use iso_io::{MemSink, MemSource};
+use iso_model::{BadLine, Mode, Op, Reply};
+use std::alloc::{AllocError, Global};
+use std::test::Fail;
+
+// How many lines of its script the machine has answered, and how many more it answers before its disk fails.
+#[derive(Drop)]
+struct Rehearsed {
+    done: u64,
+    working: u64,
+    faults: u64,
+}
+
+// The reply to the line of the script behind so many.
+fn rehearse(done: u64, client: u8, op: &Op) -> Option<Reply>
+    ensures { IfSome result (λ r. step (rehearsed done) client op.now ≡ (r, rehearsed (done + 1))) }
+{
+    if client != 1 {
+        return None;
+    }
+    match op {
+        Op::Begin { mode } => begin(done, mode),
+        Op::End => match done {
+            1 => Some(Reply::ReadOnly),
+            4 => Some(Reply::Committed(1)),
+            _ => None,
+        },
+        Op::Put { block, off, bytes } => put(done, *block, *off, bytes.as_slice()),
+        _ => None,
+    }
+}
+
+// The reply to a begin of the script.
+fn begin(done: u64, mode: &Option<Mode>) -> Option<Reply>
+    ensures { IfSome result (λ r. step (rehearsed done) 1 (Begin mode.now) ≡ (r, rehearsed (done + 1))) }
+{
+    if mode.is_some() {
+        return None;
+    }
+    match done {
+        0 => Some(Reply::Began(0)),
+        2 => Some(Reply::Began(0)),
+        _ => None,
+    }
+}
+
+// The reply to the put of the script.
+fn put(done: u64, block: u32, off: u32, bytes: &[u8]) -> Option<Reply>
+    ensures { IfSome result (λ r. step (rehearsed done) 1 (Put block off bytes.now) ≡ (r, rehearsed (done + 1))) }
+{
+    if done != 3 || block != 2 || off != 5 {
+        return None;
+    }
+    if bytes.len() == 2 && bytes[0] == 0xab && bytes[1] == 0xcd {
+        return Some(Reply::Done);
+    }
+    None
+}
+
+impl ScriptMachine for Rehearsed {
+    ghost stands = { λ m W. W ≡ rehearsed m.done };
+
+    ghost disk = { λ m. untold 0 m.faults None };
+
+    ghost sound = { λ m W is. subst (λ V. IsWorld V) (sym is) (rehearsed_is_world m.done) };
+
+    ghost shown = { λ m W c is here. absurd here };
+
+    ghost lawful = { λ m. untold_is_lawful 0 m.faults None };
+
+    fn step(&mut self, client: u8, op: &Op) -> Result<Reply, Stop> {
+        if self.working == 0 {
+            raise(&mut self.faults);
+            return Err(Stop::Disk);
+        }
+        self.working -= 1;
+        match rehearse(self.done, client, op) {
+            Some(reply) if self.done < 5 => {
+                self.done += 1;
+                Ok(reply)
+            }
+            _ => Err(Stop::Memory),
+        }
+    }
+}
+
+// How a run ended, and what was written.
+#[derive(Drop)]
+struct Ran {
+    end: RunEnd,
+    output: Vec<u8>,
+}
+
+// A run over a source and a sink, on a machine whose disk fails after so many steps.
+fn run_over(
+    alloc: Global,
+    mut source: MemSource,
+    mut sink: MemSink,
+    working: u64,
+) -> Result<Ran, AllocError> {
+    let mut machine = Rehearsed {
+        done: 0,
+        working,
+        faults: 0,
+    };
+    let end = run(alloc, &mut machine, &mut source, &mut sink);
+    let output = sink.bytes().to_vec(alloc)?;
+    Ok(Ran { end, output })
+}
+
+// A run in which nothing fails, with an input that is given in pieces of this length.
+fn run_in_pieces(alloc: Global, input: &[u8], piece: usize) -> Result<Ran, AllocError>
+    requires { 0 < piece }
+{
+    let source = MemSource::in_pieces(input.to_vec(alloc)?, Vec::new(alloc), piece);
+    let sink = MemSink::new(alloc, Vec::new(alloc));
+    run_over(alloc, source, sink, u64::MAX)
+}
+
+const SCRIPT: &[u8] = b"1 begin\n1 end\n1 begin\n1 put 2 5 abcd\n1 end\n";
+
+const REPLIES: &[u8] = b"1 ok begin 0\n1 ok read-only\n1 ok begin 0\n1 ok\n1 ok commit 1\n";
+
+#[test]
+fn a_script_is_answered(rt: HostRuntime) -> Result<(), Fail> {
+    let ran = run_in_pieces(rt.alloc(), SCRIPT, 4096)?;
+    assert_eq!(rt; ran.end, RunEnd::Done);
+    assert_eq!(rt; ran.output.as_slice(), REPLIES);
+    Ok(())
+}
+
+#[test]
+fn lines_cross_the_pieces(rt: HostRuntime) -> Result<(), Fail> {
+    let ran = run_in_pieces(rt.alloc(), SCRIPT, 3)?;
+    assert_eq!(rt; ran.end, RunEnd::Done);
+    assert_eq!(rt; ran.output.as_slice(), REPLIES);
+    Ok(())
+}
+
+#[test]
+fn a_carriage_return_a_comment_and_a_last_line(rt: HostRuntime) -> Result<(), Fail> {
+    let ran = run_in_pieces(rt.alloc(), b"1 begin\r\n# x\n1 end", 4096)?;
+    assert_eq!(rt; ran.end, RunEnd::Done);
+    assert_eq!(rt;
+        ran.output.as_slice(),
+        b"1 ok begin 0\n1 ok read-only\n".as_slice()
+    );
+    Ok(())
+}
+
+#[test]
+fn a_bad_line_is_named(rt: HostRuntime) -> Result<(), Fail> {
+    let ran = run_in_pieces(rt.alloc(), b"1 begin\n1 jump\n", 4096)?;
+    assert_eq!(rt; ran.end, RunEnd::BadLine(BadLine { line: 2, cause: 2 }));
+    assert_eq!(rt; ran.output.as_slice(), b"1 ok begin 0\n".as_slice());
+    Ok(())
+}
+
+#[test]
+fn a_line_that_is_too_long_is_named_before_it_ends(rt: HostRuntime) -> Result<(), Fail> {
+    let alloc = rt.alloc();
+    let mut input = b"# x\n".to_vec(alloc)?;
+    input.resize(16_389, b'1')?;
+    let ran = run_in_pieces(alloc, &input, 4096)?;
+    assert_eq!(rt; ran.end, RunEnd::BadLine(BadLine { line: 2, cause: 7 }));
+    assert_eq!(rt; ran.output.len(), 0);
+    Ok(())
+}
+
+#[test]
+fn the_source_fails_at_its_second_call(rt: HostRuntime) -> Result<(), Fail> {
+    let alloc = rt.alloc();
+    let source = MemSource::new(b"1 begin\n".to_vec(alloc)?, Vec::from_array(alloc, [2])?);
+    let sink = MemSink::new(alloc, Vec::new(alloc));
+    let ran = run_over(alloc, source, sink, u64::MAX)?;
+    assert_eq!(rt; ran.end, RunEnd::Input);
+    assert_eq!(rt; ran.output.as_slice(), b"1 ok begin 0\n".as_slice());
+    Ok(())
+}
+
+#[test]
+fn the_sink_fails_at_its_first_call(rt: HostRuntime) -> Result<(), Fail> {
+    let alloc = rt.alloc();
+    let source = MemSource::new(b"1 begin\n".to_vec(alloc)?, Vec::new(alloc));
+    let sink = MemSink::new(alloc, Vec::from_array(alloc, [1])?);
+    let ran = run_over(alloc, source, sink, u64::MAX)?;
+    assert_eq!(rt; ran.end, RunEnd::Output);
+    assert_eq!(rt; ran.output.len(), 0);
+    Ok(())
+}
+
+#[test]
+fn the_disk_fails_at_the_second_step(rt: HostRuntime) -> Result<(), Fail> {
+    let alloc = rt.alloc();
+    let source = MemSource::new(SCRIPT.to_vec(alloc)?, Vec::new(alloc));
+    let sink = MemSink::new(alloc, Vec::new(alloc));
+    let ran = run_over(alloc, source, sink, 1)?;
+    assert_eq!(rt; ran.end, RunEnd::Disk);
+    assert_eq!(rt; ran.output.as_slice(), b"1 ok begin 0\n".as_slice());
+    Ok(())
+}
