@@ -1,12 +1,12 @@
 -- What a half is filled with, in one image.
-use Rattle.std.proofs.Common.{◌≡◌, ◌≢◌, ◌<◌, ◌≤◌, ◌+◌, ◌-◌, ◌*◌, inl, inr, ℕ, zero, suc, List, [], ◌∷◌, ◌++◌, length, take, drop, get_or, Option, refl, sym, ◌∙◌, ap, arith, subst, length-append, length-drop, append_assoc}
+use Rattle.std.proofs.Common.{◌≡◌, ◌≢◌, ◌<◌, ◌≤◌, ◌+◌, ◌-◌, ◌*◌, inl, inr, ℕ, zero, suc, List, [], ◌∷◌, ◌++◌, length, take, drop, get_or, Option, IsTrue, refl, sym, ◌∙◌, ap, arith, subst, length-append, length-drop, append_assoc}
 use Rattle.std.specs.List.{AllByRecursion, slice_range}
 use Rattle.std.proofs.lemmas.List.{drop-take, length-take-le, take-take, take_at, get_or-take, get_or-drop, get_or_at}
 use Rattle.iso_model.specs.declared.access.Commit.{Commit}
 use Rattle.iso_model.specs.declared.access.Geometry.{Geometry}
 use Rattle.iso_model.specs.declared.limits.TheConstants.{LAST}
 use Rattle.iso_model.specs.Array.{Array}
-use Rattle.iso_model.specs.Geometry.{image_size, header_place, base_place, log_place}
+use Rattle.iso_model.specs.Geometry.{image_size, header_place, base_place, is_valid, log_place}
 use Rattle.iso_model.specs.History.{all_own, array_at}
 use Rattle.iso_model.specs.Image.{IsRecord, Written, blocks_of, commits_of, half_header, records}
 use Rattle.iso_disk.specs.Disk.{spliced, Torn}
@@ -20,9 +20,9 @@ use Rattle.iso_image.proofs.Histories.{records_form}
 use Rattle.iso_image.proofs.Logs.{has_log}
 use Rattle.half_switch.specs.declared.plan.FillPlan.{FillPlan}
 use Rattle.half_switch.specs.Laid.{all_laid}
-use Rattle.half_switch.specs.Plan.{AreHalves, Copies, place_of, refilled}
+use Rattle.half_switch.specs.Plan.{AreHalves, Copies, IsReady, place_of, refilled}
 use Rattle.half_switch.specs.Put.{HasRecords, IsLaidOut, filled_with}
-use Rattle.half_switch.proofs.Forms.{all_take, each_form}
+use Rattle.half_switch.proofs.Forms.{all_take, each_form, may_switch}
 use Rattle.half_switch.proofs.Kept.{other_place}
 use Rattle.half_switch.proofs.Lays.{all_laid_blocks, length-all_laid, take_commits}
 use Rattle.half_switch.proofs.Nexts.{records_split}
@@ -196,3 +196,15 @@ laid_filled g x from to plan blocks log d contents copies halves up laid_out has
       (subst (λ (h : Geometry). (told : List Written) → AllByRecursion (IsRecord h) told → plan.base - plan.old_base ≤ length told → plan.base ≤ LAST → HasRecords h plan.old_base plan.used told log
         → d ≡ filled_with to (all_laid h.block (take (plan.base - plan.old_base) told) blocks) (take 31 (drop 1 (half_header 0 h.form plan.generation plan.base)))
           (records h (plan.base + 1) (drop (plan.base - plan.old_base) told) ++ 0 ∷ []) laid_out.old) is laid_out.is)))
+
+-- so the image is ready to be switched
+pub filled_ready : (g : Geometry) (x : Half) (from : HalfPlace) (plan : FillPlan) (d : List ℕ) → Copies g x from plan → IsTrue (is_valid plan.geometry) → plan.old_base ≤ plan.base → IsHeld g x d
+    → IsFilled plan.geometry (refilled g plan.generation plan.base x) d → IsReady g plan.geometry.form x (refilled g plan.generation plan.base x) d
+filled_ready g x from plan d copies valid up has filled =
+    let is = copies.is_from.geometry in
+    let old_base : plan.old_base ≡ x.base = copies.old_base in
+    record {
+      may = may_switch g plan.geometry.form plan.generation plan.base x d has (subst (λ (h : Geometry). IsTrue (is_valid h)) is valid) copies.form copies.later copies.generation (omega (arith, up, old_base)) copies.until;
+      held = has;
+      filled = subst (λ (h : Geometry). IsFilled h (refilled g plan.generation plan.base x) d) is filled;
+    }

@@ -91,7 +91,9 @@ window_is g gate kind n parts next rest valid all =
 
 -- what is read of the first record
 pub record NextIs (g : Geometry) (n : ℕ) (w : Written) (bytes : List ℕ) : Type 0 where
-  pub begins : BeginsWith g n (record { number = n; kind = kind_of g w.mode; parts = w.parts }) bytes
+  pub read : Recorded
+  pub parts_are : read.parts ≡ w.parts
+  pub begins : BeginsWith g n read bytes
   pub size : record_window bytes ≡ length (spell 1 (kind_of g w.mode) n w.parts) + 1
 
 pub next_is : (g : Geometry) (n : ℕ) (w : Written) (more : List Written) (bytes : List ℕ) → IsTrue (is_valid g) → IsRecord g w → n ≤ LAST → AreBytesOf g n (w ∷ more) bytes → NextIs g n w bytes
@@ -101,6 +103,8 @@ next_is g n w more bytes valid is small has =
     let all : bytes ≡ spell 1 (kind_of g w.mode) n w.parts ++ next ∷ tail =
     spelled ∙ append_assoc (spell 1 (kind_of g w.mode) n w.parts) (records g (n + 1) more) (gate ∷ rest) ∙ ap (λ (l : List ℕ). spell 1 (kind_of g w.mode) n w.parts ++ l) cons in
     record {
+      read = record { number = n; kind = kind_of g w.mode; parts = w.parts };
+      parts_are = refl;
       begins = record {
         number = refl;
         last = small;

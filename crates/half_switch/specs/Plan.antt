@@ -1,10 +1,12 @@
 -- What a half is filled with, and from which half.
-use Rattle.std.specs.Prelude.{◌≡◌, ℕ, ◌+◌, ◌-◌, ◌≤◌, length, drop}
+use Rattle.std.specs.Prelude.{◌≡◌, ℕ, ◌+◌, ◌-◌, ◌<◌, ◌≤◌, List, length, drop}
 use Rattle.iso_model.specs.declared.access.Geometry.{Geometry}
+use Rattle.iso_model.specs.declared.limits.TheConstants.{LAST}
 use Rattle.iso_model.specs.Geometry.{header_place, base_place, log_place}
 use Rattle.iso_model.specs.History.{array_at}
 use Rattle.iso_image.specs.declared.places.HalfPlace.{HalfPlace}
-use Rattle.iso_image.specs.Half.{Half, history_of, in_form, last_told, told_bytes}
+use Rattle.iso_image.specs.Changes.{MaySwitch}
+use Rattle.iso_image.specs.Half.{Half, IsFilled, IsHeld, history_of, in_form, last_told, told_bytes}
 use Rattle.half_switch.specs.declared.plan.FillPlan.{FillPlan}
 
 -- where the parts of half 0 or 1 begin
@@ -24,7 +26,8 @@ pub record IsFrom (g : Geometry) (x : Half) (from : HalfPlace) (plan : FillPlan)
   pub geometry : plan.geometry ≡ in_form plan.geometry.form g
   pub place : from ≡ place_of g x.at
 
--- The plan copies this half: the numbers are the half's own, and the new base lies from its base to its last number.
+-- The plan copies this half: its numbers are the half's own, the new generation is higher, and the new base lies from the
+-- half's base to its last number.
 pub record Copies (g : Geometry) (x : Half) (from : HalfPlace) (plan : FillPlan) : Type 0 where
   pub is_from : IsFrom g x from plan
   -- the form does not fall
@@ -32,6 +35,8 @@ pub record Copies (g : Geometry) (x : Half) (from : HalfPlace) (plan : FillPlan)
   pub old_base : plan.old_base ≡ x.base
   pub until : plan.base ≤ last_told x
   pub used : plan.used ≡ length (told_bytes g x)
+  pub later : x.generation < plan.generation
+  pub generation : plan.generation ≤ LAST
 
 -- the half at the other place, with this generation and this base: the array of the half's history at that number, and
 -- the records above it
@@ -43,3 +48,9 @@ refilled g generation base x = record {
   array = array_at (history_of g x) base;
   told = drop (base - x.base) x.told;
 }
+
+-- The image holds the one half, and the other is filled and may come after it, in an image whose form becomes this one.
+pub record IsReady (g : Geometry) (form : ℕ) (x y : Half) (bytes : List ℕ) : Type 0 where
+  pub may : MaySwitch g form x y
+  pub held : IsHeld g x bytes
+  pub filled : IsFilled (in_form form g) y bytes

@@ -6,7 +6,7 @@ ghost use Rattle.iso_disk.specs.Disk.{IsSettled, LeavesOnly, TellsTorn, TornFrom
 ghost use Rattle.fault_count.specs.Count.{HasCause, Rose};
 ghost use Rattle.commit_gate.specs.Gate.{IsClosed};
 ghost use Rattle.iso_image.specs.Half.{Half, IsFilled, IsHeld};
-ghost use Rattle.half_switch.specs.Plan.{AreHalves, Copies, IsFrom, refilled};
+ghost use Rattle.half_switch.specs.Plan.{AreHalves, Copies, IsFrom, IsReady, refilled};
 ghost use Rattle.half_switch.specs.Put.{IsLaidOut};
 
 use crate::lay::lay_records;
@@ -42,8 +42,8 @@ pub fn fill_half<D: Disk>(
     ensures held { (g : Geometry) (x : Half) → IsFrom g x from.now plan.now → ((c : List ℕ) → (D.state disk.old).now c → IsHeld g x c)
         → LeavesOnly (D.state disk.old) (D.state disk.new) (IsHeld g x) }
 
-    ensures filled { (g : Geometry) (x : Half) → Copies g x from.now plan.now → ((c : List ℕ) → (D.state disk.old).now c → IsHeld g x c)
-        → OnOk result ((c : List ℕ) → (D.state disk.new).now c → IsFilled plan.now.geometry (refilled g plan.now.generation plan.now.base x) c) }
+    ensures ready { (g : Geometry) (x : Half) → Copies g x from.now plan.now → ((c : List ℕ) → (D.state disk.old).now c → IsHeld g x c)
+        → OnOk result ((c : List ℕ) → (D.state disk.new).now c → IsReady g plan.now.geometry.form x (refilled g plan.now.generation plan.now.base x) c) }
     ensures settled { OnOk result (IsSettled (D.state disk.new)) }
 
     ensures failed { OnErr result (TellsTorn (to.now.header + 1) (half_size plan.now.geometry - 1) (D.state disk.old) (D.state disk.new)) }

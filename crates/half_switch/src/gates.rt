@@ -6,8 +6,8 @@ ghost use Rattle.iso_model.specs.Geometry.{header_place};
 ghost use Rattle.iso_disk.specs.Disk.{IsSettled, LeavesOnly, Splices, TellsTorn, TornFrom, WritesNothing};
 ghost use Rattle.fault_count.specs.Count.{HasCause};
 ghost use Rattle.commit_gate.specs.Gate.{IsClosed};
-ghost use Rattle.iso_image.specs.Changes.{MaySwitch};
-ghost use Rattle.iso_image.specs.Half.{Half, IsFilled, IsHeld, in_form};
+ghost use Rattle.iso_image.specs.Half.{Half, IsHeld, in_form};
+ghost use Rattle.half_switch.specs.Plan.{IsReady};
 
 use commit_gate::{open_gate, shut_gate, stands_closed};
 use iso_disk::{Disk, DiskFault};
@@ -42,12 +42,10 @@ pub fn open_half<D: Disk>(disk: &mut D, place: &HalfPlace) -> Result<(), DiskFau
 
     // At each moment an image is one from before the call, but for the gate byte, and holds the one half or the other.
     ensures moments { LeavesOnly (D.state disk.old) (D.state disk.new) (TornFrom place.now.header 1 (D.state disk.old).now) }
-    ensures held { (g : Geometry) (form : ℕ) (x y : Half) → MaySwitch g form x y → place.now.header ≡ header_place g y.at
-        → ((c : List ℕ) → (D.state disk.old).now c → IsHeld g x c) → ((c : List ℕ) → (D.state disk.old).now c → IsFilled (in_form form g) y c)
+    ensures held { (g : Geometry) (form : ℕ) (x y : Half) → place.now.header ≡ header_place g y.at → ((c : List ℕ) → (D.state disk.old).now c → IsReady g form x y c)
         → LeavesOnly (D.state disk.old) (D.state disk.new) (λ c. IsHeld g x c ⊎ IsHeld (in_form form g) y c) }
 
-    ensures opened { (g : Geometry) (form : ℕ) (x y : Half) → MaySwitch g form x y → place.now.header ≡ header_place g y.at
-        → ((c : List ℕ) → (D.state disk.old).now c → IsHeld g x c) → ((c : List ℕ) → (D.state disk.old).now c → IsFilled (in_form form g) y c)
+    ensures opened { (g : Geometry) (form : ℕ) (x y : Half) → place.now.header ≡ header_place g y.at → ((c : List ℕ) → (D.state disk.old).now c → IsReady g form x y c)
         → OnOk result ((c : List ℕ) → (D.state disk.new).now c → IsHeld (in_form form g) y c) }
     ensures written { OnOk result (Splices place.now.header (1 ∷ []) (D.state disk.old) (D.state disk.new)) }
     ensures settled { OnOk result (IsSettled (D.state disk.new)) }
