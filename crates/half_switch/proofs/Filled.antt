@@ -21,17 +21,17 @@ use Rattle.iso_image.proofs.Logs.{has_log}
 use Rattle.half_switch.specs.declared.plan.FillPlan.{FillPlan}
 use Rattle.half_switch.specs.Laid.{all_laid}
 use Rattle.half_switch.specs.Plan.{AreHalves, Copies, IsReady, place_of, refilled}
-use Rattle.half_switch.specs.Put.{HasRecords, IsLaidOut, filled_with}
+use Rattle.half_switch.specs.Put.{HasRecords, IsLaidOut, closed_log, filled_with, header_tail}
 use Rattle.half_switch.proofs.Forms.{all_take, each_form, may_switch}
 use Rattle.half_switch.proofs.Kept.{other_place}
 use Rattle.half_switch.proofs.Lays.{all_laid_blocks, length-all_laid, take_commits}
 use Rattle.half_switch.proofs.Nexts.{records_split}
 
-gate_free : (form generation base : ℕ) → take 31 (drop 1 (half_header 0 form generation base)) ≡ take 31 (drop 1 (half_header 1 form generation base))
+gate_free : (form generation base : ℕ) → header_tail form generation base ≡ take 31 (drop 1 (half_header 1 form generation base))
 unfolding half_header
 gate_free form generation base = refl
 
-length-front : (form generation base : ℕ) → length (take 31 (drop 1 (half_header 0 form generation base))) ≡ 31
+length-front : (form generation base : ℕ) → length (header_tail form generation base) ≡ 31
 unfolding half_header
 length-front form generation base = refl
 
@@ -88,23 +88,24 @@ module _ (to : HalfPlace) (old base front log : List ℕ) (base_is : to.base ≡
 log_read : (used room gate : ℕ) (R rest log : List ℕ) → used ≡ length R → room ≤ length log → take room log ≡ R ++ gate ∷ rest → (used + 1 ≤ room) × (take (used + 1) log ≡ R ++ gate ∷ [])
 log_read used room gate R rest log used_is long is =
     let count : length (R ++ gate ∷ rest) ≡ room = sym (ap length is) ∙ length-take-le room log long in
-    let short : used + 1 ≤ room = omega (arith, count, used_is, length-append R (gate ∷ rest)) in
-    (short, sym (take-take (used + 1) room log short) ∙ ap (take (used + 1)) (is ∙ sym (append_assoc R (gate ∷ []) rest))
-    ∙ take_at (R ++ gate ∷ []) rest (used + 1) (omega (arith, used_is, length-append R (gate ∷ []))))
+    let short : used + 1 ≤ room = omega (arith, count, used_is, length-append R (gate ∷ rest)) in (
+      short,
+      sym (take-take (used + 1) room log short) ∙ ap (take (used + 1)) (is ∙ sym (append_assoc R (gate ∷ []) rest))
+          ∙ take_at (R ++ gate ∷ []) rest (used + 1) (omega (arith, used_is, length-append R (gate ∷ []))),
+    )
 
 -- what was written of a log: its records behind a closed gate
 log_written : (g : Geometry) (place base : ℕ) (told : List Written) (c : List ℕ)
-    → take (length (records g (base + 1) told ++ 0 ∷ [])) (drop place c) ≡ records g (base + 1) told ++ 0 ∷ []
+    → take (length (closed_log g (base + 1) told)) (drop place c) ≡ closed_log g (base + 1) told
     → length (records g (base + 1) told) + 1 ≤ g.log → place + g.log ≤ length c → HasLog place g.log g (base + 1) told c
 log_written g place base told c here short fits =
-    let R : List ℕ = records g (base + 1) told in
-    let more : length (records g (base + 1) told ++ 0 ∷ []) ≡ length (records g (base + 1) told) + 1 = length-append (records g (base + 1) told) (0 ∷ []) in
+    let more : length (closed_log g (base + 1) told) ≡ length (records g (base + 1) told) + 1 = length-append (records g (base + 1) told) (0 ∷ []) in
     let front : take (length (records g (base + 1) told)) (drop place c) ≡ records g (base + 1) told =
-    sym (take-take (length (records g (base + 1) told)) (length (records g (base + 1) told ++ 0 ∷ [])) (drop place c) (omega (arith, more)))
+    sym (take-take (length (records g (base + 1) told)) (length (closed_log g (base + 1) told)) (drop place c) (omega (arith, more)))
     ∙ ap (take (length (records g (base + 1) told))) here ∙ take_at (records g (base + 1) told) (0 ∷ []) (length (records g (base + 1) told)) refl in
     let gate : get_or c (place + length (records g (base + 1) told)) 0 ≡ 0 =
     sym (get_or-drop place c (length (records g (base + 1) told)) 0)
-    ∙ sym (get_or-take (length (records g (base + 1) told ++ 0 ∷ [])) (drop place c) (length (records g (base + 1) told)) 0 (omega (arith, more)))
+    ∙ sym (get_or-take (length (closed_log g (base + 1) told)) (drop place c) (length (records g (base + 1) told)) 0 (omega (arith, more)))
     ∙ ap (λ (l : List ℕ). get_or l (length (records g (base + 1) told)) 0) here ∙ get_or_at (records g (base + 1) told) 0 [] 0 (length (records g (base + 1) told)) refl in
     has_log place g.log g (base + 1) told c fits (omega (arith, short)) front (λ is. absurd (omega (arith, gate, is)))
 
@@ -112,25 +113,21 @@ log_written g place base told c here short fits =
 written_half : (g : Geometry) (form generation base at : ℕ) (A : Array) (told : List Written) (old blocks : List ℕ) → at ≤ 1 → length old ≡ image_size g
     → length blocks ≡ g.blocks * g.block → A ≡ blocks_of g.block g.blocks blocks → length (records (in_form form g) (base + 1) told) + 1 ≤ g.log
     → IsFilled (in_form form g) (record { at = at; generation = generation; base = base; array = A; told = told })
-      (filled_with (place_of g at) blocks (take 31 (drop 1 (half_header 0 form generation base))) (records (in_form form g) (base + 1) told ++ 0 ∷ []) old)
+    (filled_with (place_of g at) blocks (header_tail form generation base) (closed_log (in_form form g) (base + 1) told) old)
 written_half g form generation base at A told old blocks at_le size long array short =
-    let to : HalfPlace = place_of g at in
-    let F : List ℕ = take 31 (drop 1 (half_header 0 form generation base)) in
-    let L : List ℕ = records (in_form form g) (base + 1) told ++ 0 ∷ [] in
-    let C : List ℕ = filled_with (place_of g at) blocks (take 31 (drop 1 (half_header 0 form generation base))) (records (in_form form g) (base + 1) told ++ 0 ∷ []) old in
-    let count : length (records (in_form form g) (base + 1) told ++ 0 ∷ []) ≡ length (records (in_form form g) (base + 1) told) + 1 = length-append (records (in_form form g) (base + 1) told) (0 ∷ []) in
+    let count : length (closed_log (in_form form g) (base + 1) told) ≡ length (records (in_form form g) (base + 1) told) + 1 = length-append (records (in_form form g) (base + 1) told) (0 ∷ []) in
     let inside : log_place g at + g.log ≤ length old = omega (arith, size, log_inside g at at_le) in
     let log_is : log_place g at ≡ base_place g at + length blocks = omega (arith, long) in
-    let fits : log_place g at + length (records (in_form form g) (base + 1) told ++ 0 ∷ []) ≤ length old = omega (arith, count, short, inside) in
-    let front : length (take 31 (drop 1 (half_header 0 form generation base))) ≡ 31 = length-front form generation base in
-    let total = length-filled (place_of g at) old blocks (take 31 (drop 1 (half_header 0 form generation base))) (records (in_form form g) (base + 1) told ++ 0 ∷ []) refl log_is front fits in
+    let fits : log_place g at + length (closed_log (in_form form g) (base + 1) told) ≤ length old = omega (arith, count, short, inside) in
+    let front : length (header_tail form generation base) ≡ 31 = length-front form generation base in
+    let total = length-filled (place_of g at) old blocks (header_tail form generation base) (closed_log (in_form form g) (base + 1) told) refl log_is front fits in
     record {
-      header = has_front (place_of g at) old blocks (take 31 (drop 1 (half_header 0 form generation base))) (records (in_form form g) (base + 1) told ++ 0 ∷ []) refl log_is front fits ∙ gate_free form generation base;
-      array = array ∙ sym (blocks_front g.block g.blocks (drop (base_place g at) (filled_with (place_of g at) blocks (take 31 (drop 1 (half_header 0 form generation base))) (records (in_form form g) (base + 1) told ++ 0 ∷ []) old)) blocks
-          (ap (λ (n : ℕ). take n (drop (base_place g at) (filled_with (place_of g at) blocks (take 31 (drop 1 (half_header 0 form generation base))) (records (in_form form g) (base + 1) told ++ 0 ∷ []) old))) (sym long)
-          ∙ has_base (place_of g at) old blocks (take 31 (drop 1 (half_header 0 form generation base))) (records (in_form form g) (base + 1) told ++ 0 ∷ []) refl log_is front fits));
+      header = has_front (place_of g at) old blocks (header_tail form generation base) (closed_log (in_form form g) (base + 1) told) refl log_is front fits ∙ gate_free form generation base;
+      array = array ∙ sym (blocks_front g.block g.blocks (drop (base_place g at) (filled_with (place_of g at) blocks (header_tail form generation base) (closed_log (in_form form g) (base + 1) told) old)) blocks
+          (ap (λ (n : ℕ). take n (drop (base_place g at) (filled_with (place_of g at) blocks (header_tail form generation base) (closed_log (in_form form g) (base + 1) told) old))) (sym long)
+          ∙ has_base (place_of g at) old blocks (header_tail form generation base) (closed_log (in_form form g) (base + 1) told) refl log_is front fits));
       log = log_written (in_form form g) (log_place g at) base told _
-          (has_log_bytes (place_of g at) old blocks (take 31 (drop 1 (half_header 0 form generation base))) (records (in_form form g) (base + 1) told ++ 0 ∷ []) refl log_is front fits)
+          (has_log_bytes (place_of g at) old blocks (header_tail form generation base) (closed_log (in_form form g) (base + 1) told) refl log_is front fits)
           short (omega (arith, inside, total));
     }
 
@@ -139,13 +136,12 @@ filled_image : (g : Geometry) (form generation base used : ℕ) (x : Half) (to :
     → (form ≡ 1 → g.form ≡ 1) → x.base ≤ base → base ≤ last_told x → used ≡ length (told_bytes g x)
     → blocks ≡ take (g.blocks * g.block) (drop (base_place g x.at) old) → log ≡ take (used + 1) (drop (log_place g x.at) old)
     → ((told : List Written) → AllByRecursion (IsRecord (in_form form g)) told → base - x.base ≤ length told → base ≤ LAST → HasRecords (in_form form g) x.base used told log
-        → c ≡ filled_with to (all_laid g.block (take (base - x.base) told) blocks) (take 31 (drop 1 (half_header 0 form generation base))) (records (in_form form g) (base + 1) (drop (base - x.base) told) ++ 0 ∷ []) old)
+    → c ≡ filled_with to (all_laid g.block (take (base - x.base) told) blocks) (header_tail form generation base) (closed_log (in_form form g) (base + 1) (drop (base - x.base) told)) old)
     → IsFilled (in_form form g) (refilled g generation base x) c
 filled_image g form generation base used x to old c blocks log has to_is rises up until used_is blocks_is log_is laid_out =
     let le = held_half g x old has in
     let each = held_each g x old has in
     let last = held_last g x old has in
-    let k : ℕ = base - x.base in
     let enough : base - x.base ≤ length x.told = omega (arith, up, until) in
     let in_half : log_place g x.at + g.log ≤ length old = omega (arith, has.image.size, log_inside g x.at le) in
     let (gate, rest, not, log_here) = held_log g x old has in
@@ -161,7 +157,7 @@ filled_image g form generation base used x to old c blocks log has to_is rises u
     ap length (records_split (in_form form g) (x.base + 1) (base - x.base) x.told enough ∙ ap (λ (n : ℕ). records (in_form form g) (x.base + 1) (take (base - x.base) x.told) ++ records (in_form form g) n (drop (base - x.base) x.told)) number)
     ∙ length-append (records (in_form form g) (x.base + 1) (take (base - x.base) x.told)) (records (in_form form g) (base + 1) (drop (base - x.base) x.told)) in
     let whole = laid_out x.told (each_form g form x.told rises each) enough (omega (arith, last, until)) are
-    ∙ ap (λ (p : HalfPlace). filled_with p (all_laid g.block (take (base - x.base) x.told) blocks) (take 31 (drop 1 (half_header 0 form generation base))) (records (in_form form g) (base + 1) (drop (base - x.base) x.told) ++ 0 ∷ []) old) to_is in
+    ∙ ap (λ (p : HalfPlace). filled_with p (all_laid g.block (take (base - x.base) x.told) blocks) (header_tail form generation base) (closed_log (in_form form g) (base + 1) (drop (base - x.base) x.told)) old) to_is in
     subst (IsFilled (in_form form g) (refilled g generation base x)) (sym whole)
     (written_half g form generation base (1 - x.at) (array_at (history_of g x) base) (drop (base - x.base) x.told) old (all_laid g.block (take (base - x.base) x.told) blocks) (omega arith) has.image.size
     (length-all_laid g.block (take (base - x.base) x.told) blocks ∙ blocks_long)
@@ -184,18 +180,17 @@ laid_filled g x from to plan blocks log d contents copies halves up laid_out has
     let place = copies.is_from.place in
     let old_base : plan.old_base ≡ x.base = copies.old_base in
     let size : n ≡ g.blocks * g.block = n_is ∙ ap (λ (h : Geometry). h.blocks * h.block) is in
-    let form : ℕ = plan.geometry.form in
     let there = other_place g x from to plan (held_half g x laid_out.old has) copies.is_from halves in
     subst (λ (h : Geometry). IsFilled h (refilled g plan.generation plan.base x) d) (sym is)
     (filled_image g plan.geometry.form plan.generation plan.base plan.used x to laid_out.old d blocks log has there copies.form (omega (arith, up, old_base)) copies.until copies.used
     (sliced blocks laid_out.old from.base n (base_place g x.at) (g.blocks * g.block) blocks_is (ap (λ (p : HalfPlace). p.base) place) size)
     (sliced log laid_out.old from.log m (log_place g x.at) (plan.used + 1) log_is (ap (λ (p : HalfPlace). p.log) place) m_is)
     (subst (λ (b : ℕ). (told : List Written) → AllByRecursion (IsRecord (in_form plan.geometry.form g)) told → plan.base - b ≤ length told → plan.base ≤ LAST → HasRecords (in_form plan.geometry.form g) b plan.used told log
-        → d ≡ filled_with to (all_laid g.block (take (plan.base - b) told) blocks) (take 31 (drop 1 (half_header 0 plan.geometry.form plan.generation plan.base)))
-          (records (in_form plan.geometry.form g) (plan.base + 1) (drop (plan.base - b) told) ++ 0 ∷ []) laid_out.old) old_base
-      (subst (λ (h : Geometry). (told : List Written) → AllByRecursion (IsRecord h) told → plan.base - plan.old_base ≤ length told → plan.base ≤ LAST → HasRecords h plan.old_base plan.used told log
-        → d ≡ filled_with to (all_laid h.block (take (plan.base - plan.old_base) told) blocks) (take 31 (drop 1 (half_header 0 h.form plan.generation plan.base)))
-          (records h (plan.base + 1) (drop (plan.base - plan.old_base) told) ++ 0 ∷ []) laid_out.old) is laid_out.is)))
+    → d ≡ filled_with to (all_laid g.block (take (plan.base - b) told) blocks) (header_tail plan.geometry.form plan.generation plan.base)
+    (closed_log (in_form plan.geometry.form g) (plan.base + 1) (drop (plan.base - b) told)) laid_out.old) old_base
+    (subst (λ (h : Geometry). (told : List Written) → AllByRecursion (IsRecord h) told → plan.base - plan.old_base ≤ length told → plan.base ≤ LAST → HasRecords h plan.old_base plan.used told log
+    → d ≡ filled_with to (all_laid h.block (take (plan.base - plan.old_base) told) blocks) (header_tail h.form plan.generation plan.base)
+    (closed_log h (plan.base + 1) (drop (plan.base - plan.old_base) told)) laid_out.old) is laid_out.is)))
 
 -- so the image is ready to be switched
 pub filled_ready : (g : Geometry) (x : Half) (from : HalfPlace) (plan : FillPlan) (d : List ℕ) → Copies g x from plan → IsTrue (is_valid plan.geometry) → plan.old_base ≤ plan.base → IsHeld g x d

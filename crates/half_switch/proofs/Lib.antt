@@ -5,3 +5,4 @@ pub mod Kept
 pub mod Lays
 pub mod Nexts
 pub mod Tells
+mod TestDisk

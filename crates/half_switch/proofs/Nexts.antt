@@ -27,9 +27,12 @@ cons_of (x ∷ xs) gate rest = (x, xs ++ gate ∷ rest, refl)
 pub behind_first : (g : Geometry) (n : ℕ) (w : Written) (told : List Written) (bytes : List ℕ) → AreBytesOf g n (w ∷ told) bytes
     → AreBytesOf g (n + 1) told (drop (length (spell 1 (kind_of g w.mode) n w.parts)) bytes)
 behind_first g n w told bytes has =
-    let (gate, rest, is) = has in
-    (gate, rest, ap (drop (length (spell 1 (kind_of g w.mode) n w.parts))) (is ∙ append_assoc (spell 1 (kind_of g w.mode) n w.parts) (records g (n + 1) told) (gate ∷ rest))
-    ∙ drop_at (spell 1 (kind_of g w.mode) n w.parts) (records g (n + 1) told ++ gate ∷ rest) (length (spell 1 (kind_of g w.mode) n w.parts)) refl)
+    let (gate, rest, is) = has in (
+      gate,
+      rest,
+      ap (drop (length (spell 1 (kind_of g w.mode) n w.parts))) (is ∙ append_assoc (spell 1 (kind_of g w.mode) n w.parts) (records g (n + 1) told) (gate ∷ rest))
+          ∙ drop_at (spell 1 (kind_of g w.mode) n w.parts) (records g (n + 1) told ++ gate ∷ rest) (length (spell 1 (kind_of g w.mode) n w.parts)) refl,
+    )
 
 -- behind the first i records the others stand
 pub behind : (g : Geometry) (n i : ℕ) (told : List Written) (bytes : List ℕ) → i ≤ length told → AreBytesOf g n told bytes

@@ -9,6 +9,14 @@ use Rattle.iso_image.specs.declared.places.HalfPlace.{HalfPlace}
 use Rattle.half_switch.specs.declared.plan.FillPlan.{FillPlan}
 use Rattle.half_switch.specs.Laid.{all_laid}
 
+-- a header behind its gate
+abbrev pub header_tail : (form generation base : ℕ) → List ℕ
+header_tail form generation base = take 31 (drop 1 (half_header 0 form generation base))
+
+-- records, and a closed gate behind them
+abbrev pub closed_log : Geometry → (n : ℕ) → List Written → List ℕ
+closed_log g n told = records g n told ++ 0 ∷ []
+
 -- the image with these bytes in a half: its base, its header behind the gate, and its log
 abbrev pub filled_with : HalfPlace → (base front log old : List ℕ) → List ℕ
 filled_with to base front log old = spliced (spliced (spliced old to.base base) (to.header + 1) front) to.log log
@@ -32,5 +40,5 @@ pub record IsLaidOut (to : HalfPlace) (plan : FillPlan) (base log : List ℕ) (c
   pub is : (told : List Written) → AllByRecursion (IsRecord plan.geometry) told → plan.base - plan.old_base ≤ length told → plan.base ≤ LAST
       → HasRecords plan.geometry plan.old_base plan.used told log
       → bytes ≡ filled_with to (all_laid plan.geometry.block (take (plan.base - plan.old_base) told) base)
-        (take 31 (drop 1 (half_header 0 plan.geometry.form plan.generation plan.base)))
-        (records plan.geometry (plan.base + 1) (drop (plan.base - plan.old_base) told) ++ 0 ∷ []) old
+      (header_tail plan.geometry.form plan.generation plan.base)
+      (closed_log plan.geometry (plan.base + 1) (drop (plan.base - plan.old_base) told)) old

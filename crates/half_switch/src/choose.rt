@@ -16,7 +16,11 @@ pub fn choose_half(first: &HalfHeader, second: &HalfHeader) -> Option<u8>
         → second.now ≡ half_of (take 32 (drop (header_place g 1) bytes)) → result ≡ current_half g bytes }
 {
     match (first.gate == 1, second.gate == 1) {
-        (true, true) => Some(if first.generation < second.generation { 1 } else { 0 }),
+        (true, true) => Some(if first.generation < second.generation {
+            1
+        } else {
+            0
+        }),
         (true, false) => Some(0),
         (false, true) => Some(1),
         (false, false) => None,

@@ -4,8 +4,8 @@
 mod choose;
 mod fill;
 mod gates;
-mod lay;
 pub mod laws;
+mod lay;
 mod plan;
 mod put;
 
@@ -14,3 +14,6 @@ pub use fill::fill_half;
 pub use gates::{close_half, open_half};
 pub use iso_image::{HalfPlace, half_place};
 pub use plan::{FillPlan, SwitchError};
+
+#[cfg(test)]
+mod tests;

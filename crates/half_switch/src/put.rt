@@ -8,7 +8,13 @@ use iso_disk::{Disk, DiskFault};
 use iso_image::HalfPlace;
 
 /// Writes the base, the header but for its gate, and the records, and syncs.
-pub fn put_half<D: Disk>(disk: &mut D, to: &HalfPlace, header: &[u8], base: &[u8], records: &[u8]) -> Result<(), DiskFault>
+pub fn put_half<D: Disk>(
+    disk: &mut D,
+    to: &HalfPlace,
+    header: &[u8],
+    base: &[u8],
+    records: &[u8],
+) -> Result<(), DiskFault>
     requires header { length header.now ≡ 32 }
     requires places { (to.now.base ≡ to.now.header + 32) × (to.now.log ≡ to.now.base + length base.now) }
     requires fits { to.now.log + length records.now ≤ (D.state disk.old).size }

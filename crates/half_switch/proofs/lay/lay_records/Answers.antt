@@ -35,8 +35,9 @@ loop-i-preserved c =
           let (into, at) = c.loop-i.invariant.laid told each enough small bytes in
           let n = at_next c.args.geometry.now (c.args.number + 1) c.loop-i.i c.loop-i.at told c.args.log.now c.split_at.result.1.now c.requires.valid each (omega (arith, enough, c.loop-i-test.true)) (omega (arith, small, c.loop-i-test.true)) bytes at c.split_at.ensures.back in
           let found = c.read_record.ensures.only n.next.read c.requires.valid n.next.begins in
-          let parts : c.parts.result ≡ n.here.w.parts = c.parts.ensures ∙ same_parts c.read_record.result c.in-Ok.record n.next.read c.in-Ok.is found ∙ n.next.parts_are in
-          (c.lay_parts.ensures ∙ (λ i. laid c.args.geometry.now.block (parts i) (into i)) ∙ sym (all_laid-push c.args.geometry.now.block (take c.loop-i.i told) n.here.w c.args.into.now)
-          ∙ ap (λ (l : List Written). all_laid c.args.geometry.now.block l c.args.into.now) (sym n.here.front),
-          length-more c.args.geometry.now (c.args.number + 1) c.loop-i.i c.loop-i.at (c.record_window.result - 1) told n.here at (omega (arith, c.record_window.ensures, n.next.size)));
+          let parts : c.parts.result ≡ n.here.w.parts = c.parts.ensures ∙ same_parts c.read_record.result c.in-Ok.record n.next.read c.in-Ok.is found ∙ n.next.parts_are in (
+            c.lay_parts.ensures ∙ (λ i. laid c.args.geometry.now.block (parts i) (into i)) ∙ sym (all_laid-push c.args.geometry.now.block (take c.loop-i.i told) n.here.w c.args.into.now)
+                ∙ ap (λ (l : List Written). all_laid c.args.geometry.now.block l c.args.into.now) (sym n.here.front),
+            length-more c.args.geometry.now (c.args.number + 1) c.loop-i.i c.loop-i.at (c.record_window.result - 1) told n.here at (omega (arith, c.record_window.ensures, n.next.size)),
+          );
     }
