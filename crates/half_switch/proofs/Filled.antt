@@ -1,17 +1,15 @@
 -- What a half is filled with, in one image.
-use Rattle.std.proofs.Common.{◌≡◌, ◌≢◌, ◌<◌, ◌≤◌, ◌+◌, ◌-◌, ◌*◌, inl, inr, ℕ, zero, suc, List, [], ◌∷◌, ◌++◌, length, take, drop, get_or, Option, IsTrue, refl, sym, ◌∙◌, ap, arith, subst, length-append, length-drop, append_assoc}
+use Rattle.std.proofs.Common.{◌≡◌, ◌≤◌, ◌+◌, ◌-◌, ◌*◌, inl, inr, ℕ, List, [], ◌∷◌, ◌++◌, length, take, drop, get_or, Option, IsTrue, refl, sym, ◌∙◌, ap, arith, subst, length-append, length-drop, append_assoc}
 use Rattle.std.specs.List.{AllByRecursion, slice_range}
 use Rattle.std.proofs.lemmas.List.{drop-take, length-take-le, take-take, take_at, get_or-take, get_or-drop, get_or_at}
-use Rattle.iso_model.specs.declared.access.Commit.{Commit}
 use Rattle.iso_model.specs.declared.access.Geometry.{Geometry}
 use Rattle.iso_model.specs.declared.limits.TheConstants.{LAST}
 use Rattle.iso_model.specs.Array.{Array}
-use Rattle.iso_model.specs.Geometry.{image_size, header_place, base_place, is_valid, log_place}
+use Rattle.iso_model.specs.Geometry.{image_size, base_place, is_valid, log_place}
 use Rattle.iso_model.specs.History.{all_own, array_at}
 use Rattle.iso_model.specs.Image.{IsRecord, Written, blocks_of, commits_of, half_header, records}
 use Rattle.iso_disk.specs.Disk.{spliced, Torn}
 use Rattle.iso_disk.proofs.Bytes.{slice-torn, spliced_torn, take-drop-spliced}
-use Rattle.commit_gate.specs.Gate.{IsClosed}
 use Rattle.iso_image.specs.declared.places.HalfPlace.{HalfPlace}
 use Rattle.iso_image.specs.Half.{Half, HasLog, IsFilled, IsHeld, history_of, in_form, last_told, told_bytes}
 use Rattle.iso_image.proofs.Adds.{held_each, held_last, held_log}

@@ -6,7 +6,7 @@ use Rattle.iso_disk.specs.Disk.{Torn}
 use Rattle.iso_disk.proofs.Bytes.{get_or-torn}
 use Rattle.commit_gate.specs.Gate.{IsClosed}
 use Rattle.iso_image.specs.declared.places.HalfPlace.{HalfPlace}
-use Rattle.iso_image.specs.Half.{Half, IsHeld, in_form}
+use Rattle.iso_image.specs.Half.{Half, IsHeld}
 use Rattle.iso_image.proofs.Frames.{held_half}
 use Rattle.iso_image.proofs.Others.{beside_closed}
 use Rattle.half_switch.specs.declared.plan.FillPlan.{FillPlan}

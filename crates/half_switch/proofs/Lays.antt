@@ -1,14 +1,13 @@
 -- Runs laid over the bytes of a base are the writes of their commits.
-use Rattle.std.proofs.Common.{◌≡◌, ◌≢◌, ◌⊎◌, inl, inr, ◌<◌, ◌≤◌, ◌+◌, ◌-◌, ◌*◌, ◌==◌, ◌&&◌, ℕ, zero, suc, List, [], ◌∷◌, ◌++◌, length, take, drop, map, get_or, Bool, true, false, cond, nat_le, nat_lt, Option, Some, None, unwrap_or, IsTrue, refl, sym, ◌∙◌, ap, arith, subst, eq-eqb, ne_eqb, mul-le-mul_right, length-append, length-drop}
+use Rattle.std.proofs.Common.{◌≡◌, ◌≢◌, ◌⊎◌, inl, inr, ◌<◌, ◌≤◌, ◌+◌, ◌-◌, ◌*◌, ◌==◌, ◌&&◌, ℕ, zero, suc, List, [], ◌∷◌, length, take, drop, get_or, Bool, true, false, cond, nat_le, nat_lt, Option, Some, None, unwrap_or, refl, sym, ◌∙◌, ap, arith, eq-eqb, ne_eqb, mul-le-mul_right, length-drop}
 use Rattle.std.specs.List.{AllByRecursion}
-use Rattle.std.proofs.lemmas.Bool.{and_parts, cases_eq, leb-true, le-leb, ltb-true, lt-ltb, eqb-true}
+use Rattle.std.proofs.lemmas.Bool.{and_parts, cases_eq, leb-true, le-leb, ltb-true, lt-ltb}
 use Rattle.std.proofs.lemmas.List.{get_or-take, get_or-drop, length-take-le}
-use Rattle.iso_model.specs.declared.access.Access.{Access}
 use Rattle.iso_model.specs.declared.access.Commit.{Commit}
 use Rattle.iso_model.specs.declared.access.Geometry.{Geometry}
 use Rattle.iso_model.specs.declared.access.Run.{Run}
 use Rattle.iso_model.specs.Array.{Array, byte_at, in_span}
-use Rattle.iso_model.specs.Effect.{effect_at, or_else, own}
+use Rattle.iso_model.specs.Effect.{or_else, own}
 use Rattle.iso_model.specs.History.{all_own}
 use Rattle.iso_model.specs.Image.{AreRuns, IsRecord, IsRun, Written, blocks_of, commit_of, commits_of}
 use Rattle.iso_model.specs.Premises.{HasBytes, block_at, recorded, value_in, value_of}

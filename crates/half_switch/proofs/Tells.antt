@@ -1,5 +1,5 @@
 -- What a disk tells after a run of calls that writes in one range alone.
-use Rattle.std.proofs.Common.{◌≡◌, ◌≤◌, ◌+◌, ◌-◌, ℕ, List, length, take, drop, Result, Ok, Err, OnErr, Option, Some, None, refl, sym, ◌∙◌, ap, arith}
+use Rattle.std.proofs.Common.{◌≡◌, ◌≤◌, ◌+◌, ◌-◌, ℕ, List, length, take, drop, Result, Ok, Err, OnErr, Option, Some, None, refl, ◌∙◌, arith}
 use Rattle.iso_disk.specs.Disk.{DiskState, IsLawful, IsSettled, Splices, TellsTorn}
 use Rattle.iso_disk.proofs.Bytes.{torn_same, torn_twice, torn_wider}
 use Rattle.iso_disk.proofs.Images.{length-contents, tells_spliced}

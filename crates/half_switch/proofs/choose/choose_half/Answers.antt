@@ -1,4 +1,4 @@
-use Rattle.std.proofs.Common.{◌≡◌, ℕ, List, Bool, Some, cond, sym, ◌∙◌, ap, lt-ltb, le-ltb, eq-eqb, ne_eqb}
+use Rattle.std.proofs.Common.{Bool, Some, cond, sym, ◌∙◌, ap, lt-ltb, le-ltb, eq-eqb, ne_eqb}
 use Rattle.iso_model.specs.Image.{chosen_half}
 use Rattle.half_switch.proofs.Chosen.{current_is}
 use Rattle.half_switch.proofs.choose.choose_half.Goals as goal

@@ -1,4 +1,4 @@
-use Rattle.std.proofs.Common.{◌≤◌, ◌+◌, arith}
+use Rattle.std.proofs.Common.{arith}
 use Rattle.iso_model.proofs.Bounds.{limits}
 use Rattle.iso_disk.proofs.Moments.{at_end, started, weakened}
 use Rattle.half_switch.proofs.Filled.{filled_ready}

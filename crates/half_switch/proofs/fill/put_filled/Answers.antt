@@ -1,7 +1,7 @@
-use Rattle.std.proofs.Common.{◌≡◌, ◌+◌, ◌-◌, ◌*◌, ◌≤◌, ◌<◌, ℕ, List, [], ◌∷◌, ◌++◌, length, take, drop, set, refl, sym, ◌∙◌, ap, arith}
+use Rattle.std.proofs.Common.{◌≡◌, ◌+◌, ◌-◌, [], ◌∷◌, ◌++◌, length, take, drop, ◌∙◌, ap, arith}
 use Rattle.std.proofs.lemmas.Result.{on_ok_weaker}
 use Rattle.iso_model.specs.Geometry.{half_size}
-use Rattle.iso_model.specs.Image.{Written, records, half_header}
+use Rattle.iso_model.specs.Image.{records}
 use Rattle.half_switch.specs.Put.{filled_with}
 use Rattle.half_switch.proofs.Nexts.{length_set, rest_is, length-header}
 use Rattle.half_switch.proofs.fill.put_filled.Goals as goal

@@ -1,4 +1,4 @@
-use Rattle.std.proofs.Common.{◌≡◌, ◌+◌, ℕ, List, sym, subst}
+use Rattle.std.proofs.Common.{ℕ, subst}
 use Rattle.iso_disk.specs.Disk.{Torn}
 use Rattle.iso_disk.proofs.Moments.{joined, weakened, at_end}
 use Rattle.commit_gate.specs.Gate.{IsOpen}

@@ -1,4 +1,4 @@
-use Rattle.std.proofs.Common.{◌≡◌, List}
+use Rattle.std.proofs.Common.{◌≡◌}
 use Rattle.half_switch.specs.Laid.{laid}
 use Rattle.half_switch.proofs.lay.lay_parts.Given as goal
 

@@ -1,10 +1,9 @@
-use Rattle.std.proofs.Common.{◌≡◌, ◌+◌, ◌-◌, ◌≤◌, ◌<◌, ℕ, List, [], ◌∷◌, ◌++◌, length, take, drop, Ok, Err, sym, ◌∙◌, ap, arith}
-use Rattle.iso_model.specs.declared.access.Run.{Run}
-use Rattle.iso_model.specs.Image.{Written, records}
+use Rattle.std.proofs.Common.{◌≡◌, ◌+◌, ◌-◌, List, length, take, sym, ◌∙◌, ap, arith}
+use Rattle.iso_model.specs.Image.{Written}
 use Rattle.iso_model.proofs.Bounds.{limits}
 use Rattle.half_switch.specs.Laid.{all_laid, laid}
 use Rattle.half_switch.proofs.Lays.{length-laid}
-use Rattle.half_switch.proofs.Nexts.{AtNext, at_next, all_laid-push, length-more, same_parts, window_inside}
+use Rattle.half_switch.proofs.Nexts.{at_next, all_laid-push, length-more, same_parts, window_inside}
 use Rattle.half_switch.proofs.lay.lay_records.Goals as goal
 
 pub returns-in_default-clause-laid : goal.returns-in_default-clause-laid

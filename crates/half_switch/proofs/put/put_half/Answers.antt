@@ -1,4 +1,4 @@
-use Rattle.std.proofs.Common.{◌≡◌, ◌+◌, ◌-◌, ◌≤◌, ℕ, List, length, take, drop, arith, refl}
+use Rattle.std.proofs.Common.{◌+◌, ◌-◌, length, take, drop, arith, refl}
 use Rattle.std.proofs.lemmas.Result.{on_ok_weaker}
 use Rattle.iso_disk.proofs.Moments.{goes_on_still}
 use Rattle.iso_disk.proofs.Ranges.{starts_inside, writes_inside}
