@@ -24,7 +24,7 @@ cons_of [] gate rest = (gate, rest, refl)
 cons_of (x ∷ xs) gate rest = (x, xs ++ gate ∷ rest, refl)
 
 -- behind the first record the others stand
-pub behind_first : (g : Geometry) (n : ℕ) (w : Written) (told : List Written) (bytes : List ℕ) → AreBytesOf g n (w ∷ told) bytes
+behind_first : (g : Geometry) (n : ℕ) (w : Written) (told : List Written) (bytes : List ℕ) → AreBytesOf g n (w ∷ told) bytes
     → AreBytesOf g (n + 1) told (drop (length (spell 1 (kind_of g w.mode) n w.parts)) bytes)
 behind_first g n w told bytes has =
     let (gate, rest, is) = has in (
@@ -35,7 +35,7 @@ behind_first g n w told bytes has =
     )
 
 -- behind the first i records the others stand
-pub behind : (g : Geometry) (n i : ℕ) (told : List Written) (bytes : List ℕ) → i ≤ length told → AreBytesOf g n told bytes
+behind : (g : Geometry) (n i : ℕ) (told : List Written) (bytes : List ℕ) → i ≤ length told → AreBytesOf g n told bytes
     → AreBytesOf g (n + i) (drop i told) (drop (length (records g n (take i told))) bytes)
 behind g n zero told bytes le has = let e : n + 0 ≡ n = omega arith in rw e has
 behind g n (suc i) [] bytes le has = absurd (omega arith)
@@ -57,7 +57,7 @@ pub record Here (g : Geometry) (told : List Written) (i : ℕ) : Type 0 where
   pub front : take (i + 1) told ≡ take i told ++ w ∷ []
   pub is : IsRecord g w
 
-pub here : (g : Geometry) (told : List Written) (i : ℕ) → i < length told → AllByRecursion (IsRecord g) told → Here g told i
+here : (g : Geometry) (told : List Written) (i : ℕ) → i < length told → AllByRecursion (IsRecord g) told → Here g told i
 here g [] i below each = absurd (omega arith)
 here g (w ∷ told) zero below each = record { w = w; more = told; rest = refl; front = refl; is = each.0 }
 here g (w ∷ told) (suc i) below each =
@@ -99,7 +99,7 @@ pub record NextIs (g : Geometry) (n : ℕ) (w : Written) (bytes : List ℕ) : Ty
   pub begins : BeginsWith g n read bytes
   pub size : record_window bytes ≡ length (spell 1 (kind_of g w.mode) n w.parts) + 1
 
-pub next_is : (g : Geometry) (n : ℕ) (w : Written) (more : List Written) (bytes : List ℕ) → IsTrue (is_valid g) → IsRecord g w → n ≤ LAST → AreBytesOf g n (w ∷ more) bytes → NextIs g n w bytes
+next_is : (g : Geometry) (n : ℕ) (w : Written) (more : List Written) (bytes : List ℕ) → IsTrue (is_valid g) → IsRecord g w → n ≤ LAST → AreBytesOf g n (w ∷ more) bytes → NextIs g n w bytes
 next_is g n w more bytes valid is small has =
     let (gate, rest, spelled) = has in
     let (next, tail, cons) = cons_of (records g (n + 1) more) gate rest in
@@ -127,7 +127,7 @@ pub all_laid-push : (size : ℕ) (told : List Written) (w : Written) (c : List �
 all_laid-push size [] w c = refl
 all_laid-push size (x ∷ told) w c = all_laid-push size told w (laid size x.parts c)
 
-pub length-push : (g : Geometry) (n : ℕ) (told : List Written) (w : Written) → length (records g n (told ++ w ∷ [])) ≡ length (records g n told) + length (spell 1 (kind_of g w.mode) (n + length told) w.parts)
+length-push : (g : Geometry) (n : ℕ) (told : List Written) (w : Written) → length (records g n (told ++ w ∷ [])) ≡ length (records g n told) + length (spell 1 (kind_of g w.mode) (n + length told) w.parts)
 length-push g n told w =
     let last : length (spell 1 (kind_of g w.mode) (n + length told) w.parts ++ []) ≡ length (spell 1 (kind_of g w.mode) (n + length told) w.parts) + 0 = length-append (spell 1 (kind_of g w.mode) (n + length told) w.parts) [] in
     omega (arith, ap length (records-append g n told (w ∷ [])), length-append (records g n told) (spell 1 (kind_of g w.mode) (n + length told) w.parts ++ []), last)
@@ -208,8 +208,3 @@ rest_is g old_base base used gate told log at rises enough is used_is at_is =
     ∙ append_assoc (records g (old_base + 1) (take (base - old_base) told)) (records g (old_base + 1 + (base - old_base)) (drop (base - old_base) told)) (0 ∷ []) in
     ap (drop at) all ∙ drop_at (records g (old_base + 1) (take (base - old_base) told)) (records g (old_base + 1 + (base - old_base)) (drop (base - old_base) told) ++ 0 ∷ []) at (sym at_is)
     ∙ ap (λ (m : ℕ). records g m (drop (base - old_base) told) ++ 0 ∷ []) number
-
-pub length_set : (xs : List ℕ) (n v : ℕ) → length (set xs n v) ≡ length xs
-length_set [] n v = refl
-length_set (x ∷ xs) zero v = refl
-length_set (x ∷ xs) (suc n) v = ap suc (length_set xs n v)

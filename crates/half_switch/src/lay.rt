@@ -41,7 +41,7 @@ fn lay_parts<'a>(into: &mut [u8], size: u32, parts: PartIter<'a>)
 }
 
 /// Lays `count` records over the bytes of a base, the first of them with the number after this one. It answers how many
-/// bytes they have. It ends before a record that is none.
+/// bytes they have. It ends before bytes that are no record, so what is copied from there on still has what was wrong.
 pub fn lay_records(
     geometry: &Geometry,
     number: u64,

@@ -1,22 +1,23 @@
 use Rattle.std.proofs.Common.{◌≡◌, ◌+◌, ◌-◌, [], ◌∷◌, ◌++◌, length, take, drop, ◌∙◌, ap, arith}
+use Rattle.std.proofs.lemmas.List.{length-set}
 use Rattle.std.proofs.lemmas.Result.{on_ok_weaker}
 use Rattle.iso_model.specs.Geometry.{half_size}
 use Rattle.iso_model.specs.Image.{records}
 use Rattle.half_switch.specs.Put.{filled_with}
-use Rattle.half_switch.proofs.Nexts.{length_set, rest_is, length-header}
+use Rattle.half_switch.proofs.Nexts.{rest_is, length-header}
 use Rattle.half_switch.proofs.fill.put_filled.Goals as goal
 
 pub returns-clause-moments : goal.returns-clause-moments
 returns-clause-moments g c =
     let (base, log) = c.requires.places in
     c.put_half.ensures.moments (half_size c.args.plan.now.geometry - 1)
-    (omega (arith, base, log, c.requires.base, c.split_at.ensures.back_len, c.requires.log, c.requires.used, length_set c.args.log.now c.args.plan.now.used 0))
+    (omega (arith, base, log, c.requires.base, c.split_at.ensures.back_len, c.requires.log, c.requires.used, length-set c.args.log.now c.args.plan.now.used 0))
 
 pub returns-clause-failed : goal.returns-clause-failed
 returns-clause-failed g c =
     let (base, log) = c.requires.places in
     c.put_half.ensures.failed (half_size c.args.plan.now.geometry - 1)
-    (omega (arith, base, log, c.requires.base, c.split_at.ensures.back_len, c.requires.log, c.requires.used, length_set c.args.log.now c.args.plan.now.used 0))
+    (omega (arith, base, log, c.requires.base, c.split_at.ensures.back_len, c.requires.log, c.requires.used, length-set c.args.log.now c.args.plan.now.used 0))
 
 pub returns-clause-laid_out : goal.returns-clause-laid_out
 returns-clause-laid_out g c = on_ok_weaker c.put_half.result (λ whole d image.
