@@ -1,0 +1,29 @@
+-- The headers of an image tell which half is the current one.
+use Rattle.std.proofs.Common.{◌≡◌, ◌+◌, ◌==◌, ℕ, List, take, drop, get_or, ◌∙◌, ap, arith}
+use Rattle.std.specs.Int.{from_be_bytes, w64}
+use Rattle.std.proofs.lemmas.List.{drop-drop, drop-take, get_or-drop, get_or-take, take-take}
+use Rattle.iso_model.specs.declared.access.Geometry.{Geometry}
+use Rattle.iso_model.specs.Geometry.{header_place}
+use Rattle.iso_model.specs.Image.{chosen_half, current_half, generation_at}
+use Rattle.iso_format.specs.declared.half.HalfHeader.{HalfHeader}
+use Rattle.iso_format.specs.Reading.{half_of}
+
+told_gate : (at : ℕ) (bytes : List ℕ) → (half_of (take 32 (drop at bytes))).gate ≡ get_or bytes at 0
+unfolding half_of
+told_gate at bytes =
+    let start : at + 0 ≡ at = omega arith in
+    get_or-take 32 (drop at bytes) 0 0 (omega arith) ∙ get_or-drop at bytes 0 0 ∙ ap (λ (k : ℕ). get_or bytes k 0) start
+
+told_generation : (at : ℕ) (bytes : List ℕ) → (half_of (take 32 (drop at bytes))).generation ≡ generation_at bytes at
+unfolding half_of
+told_generation at bytes =
+    ap (from_be_bytes w64) (ap (take 8) (drop-take 8 24 (drop at bytes)) ∙ take-take 8 24 (drop 8 (drop at bytes)) (omega arith) ∙ ap (take 8) (drop-drop 8 at bytes))
+
+pub current_is : (g : Geometry) (bytes : List ℕ) (first second : HalfHeader) → first ≡ half_of (take 32 (drop (header_place g 0) bytes)) → second ≡ half_of (take 32 (drop (header_place g 1) bytes))
+    → chosen_half (first.gate == 1) first.generation (second.gate == 1) second.generation ≡ current_half g bytes
+current_is g bytes first second one two =
+    let gate : first.gate ≡ get_or bytes (header_place g 0) 0 = ap (λ (h : HalfHeader). h.gate) one ∙ told_gate (header_place g 0) bytes in
+    let generation : first.generation ≡ generation_at bytes (header_place g 0) = ap (λ (h : HalfHeader). h.generation) one ∙ told_generation (header_place g 0) bytes in
+    let other_gate : second.gate ≡ get_or bytes (header_place g 1) 0 = ap (λ (h : HalfHeader). h.gate) two ∙ told_gate (header_place g 1) bytes in
+    let other : second.generation ≡ generation_at bytes (header_place g 1) = ap (λ (h : HalfHeader). h.generation) two ∙ told_generation (header_place g 1) bytes in
+    λ i. chosen_half (gate i == 1) (generation i) (other_gate i == 1) (other i)

@@ -1,0 +1,48 @@
+use Rattle.std.proofs.Common.{◌+◌, ◌-◌, length, arith, sym, ◌∙◌}
+use Rattle.std.proofs.lemmas.Result.{on_ok_weaker, on_err_weaker}
+use Rattle.iso_model.specs.Geometry.{half_size}
+use Rattle.iso_disk.proofs.Moments.{goes_on_still}
+use Rattle.iso_disk.proofs.Ranges.{starts_inside, runs_inside}
+use Rattle.half_switch.proofs.Filled.{laid_filled}
+use Rattle.half_switch.proofs.Tells.{on_err, tells_same, tells_more}
+use Rattle.half_switch.proofs.fill.fill_from.Goals as goal
+
+pub returns-in_err-read-clause-moments : goal.returns-in_err-read-clause-moments
+returns-in_err-read-clause-moments g c =
+    let laws = g.met.D.Disk.lawful in
+    goes_on_still (laws c.args.disk.now) (starts_inside (laws c.args.disk.now) (c.args.to.now.header + 1) (half_size c.args.plan.now.geometry - 1)) c.read.ensures.crash
+
+pub returns-in_err-read-2-clause-moments : goal.returns-in_err-read-2-clause-moments
+returns-in_err-read-2-clause-moments g c =
+    let laws = g.met.D.Disk.lawful in
+    goes_on_still (laws c.read.new.self) (goes_on_still (laws c.args.disk.now) (starts_inside (laws c.args.disk.now) (c.args.to.now.header + 1) (half_size c.args.plan.now.geometry - 1)) c.read.ensures.crash) c.read-2.ensures.crash
+
+pub returns-clause-moments : goal.returns-clause-moments
+returns-clause-moments g c =
+    let laws = g.met.D.Disk.lawful in
+    let read = goes_on_still (laws c.read.new.self) (goes_on_still (laws c.args.disk.now) (starts_inside (laws c.args.disk.now) (c.args.to.now.header + 1) (half_size c.args.plan.now.geometry - 1)) c.read.ensures.crash) c.read-2.ensures.crash in
+    runs_inside (c.args.to.now.header + 1) (half_size c.args.plan.now.geometry - 1) (c.args.to.now.header + 1) (half_size c.args.plan.now.geometry - 1) (omega arith) (omega arith) (laws c.read-2.new.self) read c.put_filled.ensures.moments
+
+pub returns-in_err-read-clause-failed : goal.returns-in_err-read-clause-failed
+returns-in_err-read-clause-failed g c = on_err _ (tells_same (c.args.to.now.header + 1) (half_size c.args.plan.now.geometry - 1) _ _ c.read.ensures.contents)
+
+pub returns-in_err-read-2-clause-failed : goal.returns-in_err-read-2-clause-failed
+returns-in_err-read-2-clause-failed g c = on_err _ (tells_same (c.args.to.now.header + 1) (half_size c.args.plan.now.geometry - 1) _ _ (c.read-2.ensures.contents ∙ c.read.ensures.contents))
+
+pub returns-clause-failed : goal.returns-clause-failed
+returns-clause-failed g c =
+    let state = g.D.Disk.state in
+    on_err_weaker c.put_filled.result (λ torn.
+    tells_more (c.args.to.now.header + 1) (half_size c.args.plan.now.geometry - 1) (c.args.to.now.header + 1) (half_size c.args.plan.now.geometry - 1) (omega arith) (omega arith)
+    (state c.args.disk.now) (state c.read-2.new.self) (state c.put_filled.new.disk)
+    (tells_same (c.args.to.now.header + 1) (half_size c.args.plan.now.geometry - 1) (state c.args.disk.now) (state c.read-2.new.self) (c.read-2.ensures.contents ∙ c.read.ensures.contents)) torn) c.put_filled.ensures.failed
+
+pub returns-clause-filled : goal.returns-clause-filled
+returns-clause-filled g c h x copies held = on_ok_weaker c.put_filled.result (λ whole d image.
+    let laid_out = whole d image in
+    let told = sym (c.read-2.ensures.contents ∙ c.read.ensures.contents) ∙ laid_out.was in
+    let was = (g.met.D.Disk.lawful c.args.disk.now).reads_as_image laid_out.old told in
+    laid_filled h x c.args.from.now c.args.to.now c.args.plan.now c.read.new.into c.read-2.new.into d _ copies c.requires.places c.requires.numbers laid_out (held laid_out.old was)
+    (length c.args.base.now) c.requires.base (c.in_ok-read.ensures.bytes laid_out.old told)
+    (length c.args.log.now) c.requires.log (c.in_ok-read-2.ensures.bytes laid_out.old (c.read.ensures.contents ∙ told)))
+    c.put_filled.ensures.laid_out

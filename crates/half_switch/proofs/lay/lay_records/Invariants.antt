@@ -1,0 +1,14 @@
+use Rattle.std.proofs.Common.{◌≡◌, ◌≤◌, ◌+◌, List, length, take}
+use Rattle.std.specs.List.{AllByRecursion}
+use Rattle.iso_model.specs.declared.limits.TheConstants.{LAST}
+use Rattle.iso_model.specs.Image.{IsRecord, Written, records}
+use Rattle.half_switch.specs.Laid.{all_laid, AreBytesOf}
+use Rattle.half_switch.proofs.lay.lay_records.Given as goal
+
+abbrev pub invariant-loop-i : goal.invariant-loop-i
+invariant-loop-i l = record {
+  inside : l.at ≤ length l.log;
+  long : length l.into ≡ length l.fn.into;
+  laid : (told : List Written) → AllByRecursion (IsRecord l.geometry) told → l.count ≤ length told → l.number + l.count ≤ LAST → AreBytesOf l.geometry (l.number + 1) told l.log
+      → (l.into ≡ all_laid l.geometry.block (take l.i told) l.fn.into) × (l.at ≡ length (records l.geometry (l.number + 1) (take l.i told)));
+}

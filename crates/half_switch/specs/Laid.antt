@@ -1,0 +1,28 @@
+-- Runs laid over the bytes of blocks.
+use Rattle.std.specs.Prelude.{◌≡◌, ℕ, ◌+◌, ◌*◌, cond, nat_le, List, [], ◌∷◌, ◌++◌, length}
+use Rattle.iso_model.specs.declared.access.Geometry.{Geometry}
+use Rattle.iso_model.specs.declared.access.Run.{Run}
+use Rattle.iso_model.specs.Image.{Written, records}
+use Rattle.iso_disk.specs.Disk.{spliced}
+
+-- where a run stands among the bytes of blocks of this size
+abbrev pub run_place : (size : ℕ) → Run → ℕ
+run_place size run = run.block * size + run.off
+
+-- one run, where it fits
+abbrev pub one_laid : (size : ℕ) → Run → List ℕ → List ℕ
+one_laid size run bytes = cond (nat_le (run_place size run + length run.bytes) (length bytes)) (spliced bytes (run_place size run) run.bytes) bytes
+
+-- the runs, in order
+abbrev pub laid : (size : ℕ) → List Run → List ℕ → List ℕ
+laid size [] bytes = bytes
+laid size (run ∷ runs) bytes = laid size runs (one_laid size run bytes)
+
+-- the runs of records, in order
+abbrev pub all_laid : (size : ℕ) → List Written → List ℕ → List ℕ
+all_laid size [] bytes = bytes
+all_laid size (w ∷ told) bytes = all_laid size told (laid size w.parts bytes)
+
+-- the bytes are these records, the first of them with the number n, and then one gate at least
+abbrev pub AreBytesOf : Geometry → (n : ℕ) → List Written → List ℕ → Type 0
+AreBytesOf g n told bytes = (gate : ℕ) × (rest : List ℕ) × (bytes ≡ records g n told ++ gate ∷ rest)

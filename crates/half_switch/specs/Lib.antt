@@ -1,0 +1,4 @@
+pub mod Laid
+pub mod Plan
+pub mod Put
+pub mod TestImage
