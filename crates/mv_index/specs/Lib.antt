@@ -1,4 +1,5 @@
 pub mod Masks
+pub mod Moves
 pub mod Pieces
 pub mod Placed
 pub mod Shown

@@ -11,6 +11,7 @@ mod trim;
 mod version;
 
 pub use index::MvIndex;
+pub use mask::see;
 pub use step_count::{Blank, Ledger, Steps};
 pub use version::Version;
 
