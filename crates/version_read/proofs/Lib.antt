@@ -1,0 +1,13 @@
+mod Additions
+mod Bits
+mod Fetched
+mod Fills
+mod Following
+mod Lying
+mod Overlays
+mod Records
+mod Rooms
+mod Stands
+mod Taking
+mod Walks
+mod Wanted
