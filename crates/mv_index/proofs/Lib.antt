@@ -9,6 +9,8 @@ pub mod Hiding
 pub mod Laid
 pub mod Layers
 pub mod Masks
+pub mod Movings
+pub mod Moves
 pub mod Showing
 pub mod Sights
 pub mod Sublists

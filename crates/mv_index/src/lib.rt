@@ -4,6 +4,7 @@
 mod index;
 pub mod laws;
 mod mask;
+mod moving;
 mod pieces;
 mod row;
 mod search;
