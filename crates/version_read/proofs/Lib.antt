@@ -9,5 +9,6 @@ mod Records
 mod Rooms
 mod Stands
 mod Taking
+mod TestIndexes
 mod Walks
 mod Wanted

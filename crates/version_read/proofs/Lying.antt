@@ -103,8 +103,13 @@ few_placed b n at (run ∷ parts) =
 few_versions : (b n at : ℕ) (told : List Written) → length (versions_of b n at told) ≤ sum_by (λ w. record_length w.parts) told
 few_versions b n at [] = omega arith
 few_versions b n at (w ∷ told) =
-    omega (arith, length-append (placed b n (at + 20) w.parts) (versions_of b (n + 1) (at + record_length w.parts) told), few_placed b n (at + 20) w.parts, few_versions b (n + 1) (at + record_length w.parts) told,
-    sum_by-cons (λ (v : Written). record_length v.parts) w told)
+    omega (
+      arith,
+      length-append (placed b n (at + 20) w.parts) (versions_of b (n + 1) (at + record_length w.parts) told),
+      few_placed b n (at + 20) w.parts,
+      few_versions b (n + 1) (at + record_length w.parts) told,
+      sum_by-cons (λ (v : Written). record_length v.parts) w told,
+    )
 
 few_shown : (t : ℕ) (versions : List Version) → length (shown_since t versions) ≤ length versions
 few_shown t [] = omega arith

@@ -44,7 +44,7 @@ placed_step : (image : List ℕ) (b n at p : ℕ) (run : Run) (parts : List Run)
     → byte_in image (placed b n (at + (8 + length run.bytes)) parts) p ≡ value_in parts b p
     → (same : Bool) → (run.block == b) ≡ same
     → byte_in image (cond same (version_of n at run ∷ placed b n (at + (8 + length run.bytes)) parts) (placed b n (at + (8 + length run.bytes)) parts)) p
-      ≡ or_else (value_in parts b p) (cond (same && in_span p (record { off = run.off; len = length run.bytes })) (Some (get_or run.bytes (p - run.off) 0)) None)
+    ≡ or_else (value_in parts b p) (cond (same && in_span p (record { off = run.off; len = length run.bytes })) (Some (get_or run.bytes (p - run.off) 0)) None)
 placed_step image b n at p run parts here rest true same = λ i. or_else (rest i) (here i)
 placed_step image b n at p run parts here rest false same = rest ∙ sym (or_else_none (value_in parts b p))
 

@@ -6,7 +6,6 @@ use Rattle.mv_index.specs.Versions.{BlockVersions, block_of, count_of, room_of, 
 use Rattle.version_read.specs.declared.part_span.PartSpan.{PartSpan}
 use Rattle.version_read.specs.Parts.{HasRoom, no_part, parts_in}
 
-
 -- the parts before a place that are of no other block
 same_block : (b i n : ℕ) (parts : List PartSpan) → i + n ≤ length parts → ((k : ℕ) → i ≤ k → k < i + n → (get_or parts k no_part).block ≡ b) → parts_in b (take (i + n) parts) ≡ parts_in b (take i parts) + n
 same_block b i zero parts fits same = let e : i + 0 ≡ i = omega arith in ap (λ (k : ℕ). parts_in b (take k parts)) e ∙ omega arith

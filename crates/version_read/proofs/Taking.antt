@@ -20,7 +20,7 @@ use Rattle.version_read.specs.declared.part_span.PartSpan.{PartSpan}
 use Rattle.version_read.specs.Parts.{BlocksRise, IsPart, MayTake, no_part, part_of, parts_length}
 use Rattle.version_read.proofs.Lying.{count_le, numbers_below, runs_all}
 
-parts_all : (g : Geometry) (parts : List Run) → g.block ≤ 4096 → AllByRecursion (IsRun g) parts → AllByRecursion (IsPart g.blocks) (map part_of parts)
+pub parts_all : (g : Geometry) (parts : List Run) → g.block ≤ 4096 → AllByRecursion (IsRun g) parts → AllByRecursion (IsPart g.blocks) (map part_of parts)
 parts_all g [] small all = tt
 parts_all g (run ∷ parts) small all = (record { block = all.0.block; fits = omega (arith, all.0.fits, small) }, parts_all g parts small all.1)
 

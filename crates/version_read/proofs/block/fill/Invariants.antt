@@ -15,7 +15,7 @@ invariant-loop-at g l = record {
   filled : ForSome (g.D.Disk.state l.fn.disk).contents (λ c. IsFilled c l.place l.off (l.at - l.off) l.seen l.fn.into l.into);
   count : l.count ≡ unseen l.seen l.off (l.at - l.off);
   faults : (g.D.Disk.state l.disk).faults ≡ (g.D.Disk.state l.fn.disk).faults;
-  unwritten : WritesNothing (g.D.Disk.state l.fn.disk) (g.D.Disk.state l.disk)
+  unwritten : WritesNothing (g.D.Disk.state l.fn.disk) (g.D.Disk.state l.disk);
 }
 
 abbrev pub decreases-loop-at : goal.decreases-loop-at

@@ -13,7 +13,7 @@ invariant-loop-left g l = record {
   done : AreDone (drop l.left l.versions) l.seen;
   right : ForSome (g.D.Disk.state l.fn.disk).contents (λ c. AreRight c (drop l.left l.versions) l.seen l.into);
   faults : (g.D.Disk.state l.disk).faults ≡ (g.D.Disk.state l.fn.disk).faults;
-  unwritten : WritesNothing (g.D.Disk.state l.fn.disk) (g.D.Disk.state l.disk)
+  unwritten : WritesNothing (g.D.Disk.state l.fn.disk) (g.D.Disk.state l.disk);
 }
 
 abbrev pub decreases-loop-left : goal.decreases-loop-left

@@ -7,7 +7,7 @@ abbrev pub invariant-loop-stop : goal.invariant-loop-stop
 invariant-loop-stop l = record {
   more : l.first < l.stop;
   within : l.stop ≤ length l.parts;
-  same : (i : ℕ) → l.first ≤ i → i < l.stop → (get_or l.parts i no_part).block ≡ (get_or l.parts l.first no_part).block
+  same : (i : ℕ) → l.first ≤ i → i < l.stop → (get_or l.parts i no_part).block ≡ (get_or l.parts l.first no_part).block;
 }
 
 abbrev pub decreases-loop-stop : goal.decreases-loop-stop
