@@ -43,9 +43,10 @@ StandLast from (v ∷ versions) = (from < v.place → AllByRecursion (λ w. from
 
 last_of : (from : ℕ) (versions : List Version) → ((i j : ℕ) → i ≤ j → j < length versions → from < (get_or versions i no_version).place → from < (get_or versions j no_version).place) → StandLast from versions
 last_of from [] order = tt
-last_of from (v ∷ versions) order =
-    (λ behind. all_of (λ w. from < w.place) no_version versions (λ i below. order 0 (suc i) (omega arith) (omega (arith, below)) behind),
-    last_of from versions (λ i j le below behind. order (suc i) (suc j) (omega (arith, le)) (omega (arith, below)) behind))
+last_of from (v ∷ versions) order = (
+  λ behind. all_of (λ w. from < w.place) no_version versions (λ i below. order 0 (suc i) (omega arith) (omega (arith, below)) behind),
+  last_of from versions (λ i j le below behind. order (suc i) (suc j) (omega (arith, le)) (omega (arith, below)) behind),
+)
 
 all_kept : (from : ℕ) (versions : List Version) → AllByRecursion (λ v. from < v.place) versions → kept from versions ≡ versions
 all_kept from [] all = refl
@@ -170,19 +171,18 @@ module _ (from to : ℕ) (versions pieces : List Version) (split : AreSplit from
   there_behind q p v own mine same (inl before) behind = absurd (omega (arith, own, mine, same, before, behind))
   there_behind q p v own mine same (inr after) behind = after
 
-  no_byte : (u : Version) (p : ℕ) → (v : Unit {0}) → (u.off ≤ p) × (p < u.off + u.len) → u.place + (p - u.off) ≡ from → (u.place + u.len ≤ from) ⊎ (from < u.place) → ⊥
-  no_byte u p v own at (inl before) = omega (arith, own, at, before)
-  no_byte u p v own at (inr after) = omega (arith, own, at, after)
+  no_byte : (u : Version) (p : ℕ) → (u.off ≤ p) × (p < u.off + u.len) → u.place + (p - u.off) ≡ from → (u.place + u.len ≤ from) ⊎ (from < u.place) → ⊥
+  no_byte u p own at (inl before) = omega (arith, own, at, before)
+  no_byte u p own at (inr after) = omega (arith, own, at, after)
 
   back_behind : (q : Version) (p : ℕ) (v : Version) → Says versions q → (v.off ≤ p) × (p < v.off + v.len) → (q.off ≤ p) × (p < q.off + q.len) → v.place + (p - v.off) ≡ q.place + (p - q.off) → from < v.place → from < q.place
   back_behind q p v says own mine same behind = elim (cases_lt from q.place) [
     | inl lt ↦ lt
     | inr le ↦
-        let at : ℕ = q.off + (from - q.place) in
         let inside : q.off + (from - q.place) < q.off + q.len = omega (arith, own, mine, same, behind, le) in
         let one = placed_at (q.off + (from - q.place)) (q.place + (q.off + (from - q.place) - q.off)) (newest_with versions (q.off + (from - q.place))) (says (q.off + (from - q.place)) (has_it (q.off + (from - q.place)) q (omega arith) inside)) in
         let two = side (q.off + (from - q.place)) one.0 one.1 in
-        absurd (no_byte one.0 (q.off + (from - q.place)) tt (two.1, two.2) (one.2 ∙ omega (arith, le)) two.0)
+        absurd (no_byte one.0 (q.off + (from - q.place)) (two.1, two.2) (one.2 ∙ omega (arith, le)) two.0)
   ]
 
   same_side : (q : Version) (p : ℕ) (v : Version) → Says versions q → has p q ≡ true → newest_with versions p ≡ Some v → v.place + (p - v.off) ≡ q.place + (p - q.off) → nat_lt from q.place ≡ nat_lt from v.place

@@ -155,9 +155,6 @@ split_of : (from : ℕ) (versions : List Version) → StandApart from versions �
 split_of from versions are = record { apart = apart_at from versions are; order = order_at from versions are }
 
 module _ (g : Geometry) (first place t k : ℕ) (told : List Written) (index : List BlockVersions) (are : AllByRecursion (IsRecord g) told) (has : IsIndexOf g first place t told index) where
-  abbrev from : ℕ
-  from = place + length (records g first (take k told))
-
   from_is : place + sum_by length_of (take k told) ≡ place + length (records g first (take k told))
   from_is = ap (λ (n : ℕ). place + n) (sym (length-records g first (take k told)))
 
