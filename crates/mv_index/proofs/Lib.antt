@@ -14,4 +14,6 @@ pub mod Moves
 pub mod Showing
 pub mod Sights
 pub mod Sublists
+pub mod TestWeights
 pub mod Trims
+pub mod Weights

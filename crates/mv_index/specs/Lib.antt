@@ -4,3 +4,4 @@ pub mod Pieces
 pub mod Placed
 pub mod Shown
 pub mod Versions
+pub mod Weights

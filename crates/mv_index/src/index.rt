@@ -3,6 +3,7 @@ ghost use Rattle.std.specs.Prelude.{◌≡◌, ◌≢◌, ◌+◌, ◌-◌, ◌*
 ghost use Rattle.mv_index.specs.Moves.{AreSplit, moved_to};
 ghost use Rattle.mv_index.specs.Shown.{AllLie, ShowTheSame};
 ghost use Rattle.mv_index.specs.Versions.{AreAtMost, IsAdded, block_of, count_of, has, no_version, room_of, shown_since, upto, versions_in};
+ghost use Rattle.mv_index.specs.Weights.{bytes_above};
 
 use crate::row::Row;
 use crate::{Ledger, Steps, Version};
@@ -125,6 +126,18 @@ impl MvIndex {
         }
         self.count -= gone;
         gone
+    }
+
+    /// How many bytes the parts of the versions above the number take in their records: each its bytes, and 8 before them.
+    pub fn bytes_above(&self, number: u64) -> u64
+        requires { bytes_above number self.now < 2 ^ 64 }
+        ensures { result ≡ bytes_above number self.now }
+    {
+        let mut bytes = 0;
+        for row in self.rows.as_slice() {
+            bytes += row.bytes_above(number);
+        }
+        bytes
     }
 
     /// How many versions there are.

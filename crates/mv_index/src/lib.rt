@@ -10,6 +10,7 @@ mod row;
 mod search;
 mod trim;
 mod version;
+mod weight;
 
 pub use index::MvIndex;
 pub use mask::see;

@@ -3,11 +3,13 @@ ghost use Rattle.std.specs.Prelude.{◌≡◌, ◌+◌, ◌-◌, ◌*◌, ◌^�
 ghost use Rattle.mv_index.specs.Moves.{AreSplit, moved_to};
 ghost use Rattle.mv_index.specs.Shown.{AllLie, ShowTheSame};
 ghost use Rattle.mv_index.specs.Versions.{AreAtMost, has, no_version, shown_since, upto};
+ghost use Rattle.mv_index.specs.Weights.{part_bytes_above};
 
 use crate::moving::move_list;
 use crate::pieces::lay;
 use crate::search::count_upto;
 use crate::trim::trim_list;
+use crate::weight::sum_above;
 use crate::{Ledger, Steps, Version};
 use iso_model::Memory;
 use std::alloc::Global;
@@ -111,5 +113,13 @@ impl Row {
     {
         move_list(&mut self.pieces, from, to);
         move_list(&mut self.versions, from, to)
+    }
+
+    /// How many bytes the parts of the versions above the number take in their records.
+    pub fn bytes_above(&self, number: u64) -> u64
+        requires { part_bytes_above number self.now.versions < 2 ^ 64 }
+        ensures { result ≡ part_bytes_above number self.now.versions }
+    {
+        sum_above(self.versions.as_slice(), number)
     }
 }

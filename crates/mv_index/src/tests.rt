@@ -224,6 +224,7 @@ fn two(alloc: Global) -> Result<MvIndex, Memory>
     ensures blocks { IfOk result (λ index. length index ≡ 1) }
     ensures split { IfOk result (λ index. (b : ℕ) → AreSplit 150 (versions_in index b)) }
     ensures lie { IfOk result (λ index. (b : ℕ) → AllLie 64 300 (versions_in index b)) }
+    ensures count { IfOk result (λ index. length (versions_in index 0) ≡ 2) }
 {
     let mut index = MvIndex::empty(alloc, 1)?;
     index.reserve(0, 2)?;
@@ -261,5 +262,14 @@ fn later_versions_move_alone(rt: HostRuntime) -> Result<(), Fail> {
         len: 4,
     };
     assert_eq!(rt; index.showing(0), [moved].as_slice());
+    Ok(())
+}
+
+#[test]
+fn parts_take_their_bytes_and_eight(rt: HostRuntime) -> Result<(), Fail> {
+    let index = two(rt.alloc())?;
+    for (number, bytes) in [(0, 30), (1, 12), (2, 0)] {
+        assert_eq!(rt; index.bytes_above(number), bytes);
+    }
     Ok(())
 }

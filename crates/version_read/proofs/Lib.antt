@@ -1,3 +1,4 @@
+pub mod Above
 mod Additions
 mod Bits
 mod Fetched

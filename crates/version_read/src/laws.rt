@@ -13,6 +13,7 @@ ghost use Rattle.mv_index.specs.Moves.{AreSplit, moved_to};
 ghost use Rattle.mv_index.specs.Placed.{IsIndexOf};
 ghost use Rattle.mv_index.specs.Shown.{AllLie, ShowTheSame};
 ghost use Rattle.mv_index.specs.Versions.{BlockVersions, shown_since, upto, versions_in};
+ghost use Rattle.mv_index.specs.Weights.{bytes_above};
 ghost use Rattle.version_read.specs.Blocks.{IsOver};
 ghost use Rattle.version_read.specs.Parts.{BlocksRise, HasTaken, IsPart, MayTake, part_of};
 
@@ -76,4 +77,11 @@ pub fn next_records_may_be_taken_in()
     ensures blocks { (g : Geometry) (parts : List Run) → AreRuns g parts → AllByRecursion (λ part. part.block < g.blocks) (map part_of parts) }
     ensures order { (g : Geometry) (parts : List Run) → AreRuns g parts → BlocksRise (map part_of parts) }
     ensures small { (g : Geometry) (parts : List Run) → IsTrue (is_valid g) → AreRuns g parts → AllByRecursion (λ run. length run.bytes < 2 ^ 16) parts }
+{}
+
+/// The index of a log tells how many bytes the records above a number take, if it is not below that of its last trim: the
+/// parts above it, each with its head, and 20 bytes for each record.
+pub fn records_above_are_in_the_index()
+    ensures { (g : Geometry) (first place t k : ℕ) (told : List Written) (index : List BlockVersions) → AllByRecursion (IsRecord g) told → IsIndexOf g first place t told index
+        → t < first + k → bytes_above (first + k - 1) index + 20 * (length told - k) ≡ length (records g (first + k) (drop k told)) }
 {}
