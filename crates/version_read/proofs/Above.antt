@@ -3,13 +3,11 @@ use Rattle.std.proofs.Common.{◌≡◌, ◌∙◌, sym, ap, ℕ, zero, suc, ◌
 use Rattle.std.specs.List.{AllByRecursion}
 use Rattle.std.proofs.lemmas.List.Sums.{sum_by-cons}
 use Rattle.iso_model.specs.declared.access.Geometry.{Geometry}
-use Rattle.iso_model.specs.declared.access.Run.{Run}
 use Rattle.iso_model.specs.Effect.{record_length}
 use Rattle.iso_model.specs.Image.{IsRecord, Written, records}
 use Rattle.iso_model.proofs.Opened.{length-records}
-use Rattle.mv_index.specs.declared.version.Version.{Version}
 use Rattle.mv_index.specs.Placed.{IsIndexOf, placed, versions_of}
-use Rattle.mv_index.specs.Versions.{BlockVersions, versions_in}
+use Rattle.mv_index.specs.Versions.{BlockVersions}
 use Rattle.mv_index.specs.Weights.{bytes_above, part_bytes_above}
 use Rattle.mv_index.proofs.Counts.{blocks_below, rows_total, total, total_add, total_same, total_zero}
 use Rattle.mv_index.proofs.Weights.{part_bytes_above-append, part_bytes_above-shown_since, placed_above, placed_below}
