@@ -1,5 +1,5 @@
 -- An index has as many versions as the model counts of its history.
-use Rattle.std.proofs.Common.{◌≡◌, ◌⊎◌, inl, inr, ◌∙◌, sym, refl, ap, ℕ, zero, suc, ◌+◌, ◌-◌, ◌<◌, ◌≤◌, ◌==◌, Bool, true, false, ◌&&◌, ◌||◌, not, cond, nat_le, nat_lt, List, [], ◌∷◌, ◌++◌, Option, Some, None, length, map, get_or, arith, subst}
+use Rattle.std.proofs.Common.{◌≡◌, ◌⊎◌, inl, inr, ◌∙◌, sym, refl, ap, ℕ, zero, suc, ◌+◌, ◌-◌, ◌<◌, ◌≤◌, ◌==◌, Bool, true, false, ◌&&◌, ◌||◌, not, cond, nat_le, nat_lt, List, [], ◌∷◌, ◌++◌, Option, Some, None, length, map, get_or, sum_by, arith, subst}
 use Rattle.std.specs.List.{AllByRecursion, filter, list_any, range_with_len}
 use Rattle.std.specs.Option.{is_some}
 use Rattle.std.proofs.lemmas.Bool.{lt-leb, cases_eq, eq-eqb, ne_eqb, eqb-true}
@@ -32,22 +32,22 @@ tally counts [] = 0
 tally counts (run ∷ runs) = cond (counts run) 1 0 + tally counts runs
 
 -- a sum over numbers in a row
-abbrev total : (ℕ → ℕ) → (from n : ℕ) → ℕ
+abbrev pub total : (ℕ → ℕ) → (from n : ℕ) → ℕ
 total f a zero = 0
 total f a (suc n) = f a + total f (a + 1) n
 
-total_same : (f h : ℕ → ℕ) (a n : ℕ) → ((b : ℕ) → a ≤ b → b < a + n → f b ≡ h b) → total f a n ≡ total h a n
+pub total_same : (f h : ℕ → ℕ) (a n : ℕ) → ((b : ℕ) → a ≤ b → b < a + n → f b ≡ h b) → total f a n ≡ total h a n
 total_same f h a zero same = refl
 total_same f h a (suc n) same =
     let first : f a ≡ h a = same a (omega arith) (omega arith) in
     let rest : total f (a + 1) n ≡ total h (a + 1) n = total_same f h (a + 1) n (λ b from to. same b (omega arith) (omega arith)) in
     λ i. first i + rest i
 
-total_add : (f h : ℕ → ℕ) (a n : ℕ) → total (λ b. f b + h b) a n ≡ total f a n + total h a n
+pub total_add : (f h : ℕ → ℕ) (a n : ℕ) → total (λ b. f b + h b) a n ≡ total f a n + total h a n
 total_add f h a zero = omega arith
 total_add f h a (suc n) = let rest = total_add f h (a + 1) n in omega (arith, rest)
 
-total_zero : (a n : ℕ) → total (λ b. 0) a n ≡ 0
+pub total_zero : (a n : ℕ) → total (λ b. 0) a n ≡ 0
 total_zero a zero = refl
 total_zero a (suc n) = let rest = total_zero (a + 1) n in omega (arith, rest)
 
@@ -170,17 +170,18 @@ hides_placed : (t p n at b : ℕ) (parts : List Run) → hides t p (placed b n a
 hides_placed t p n at b [] = sym (and_false (nat_le n t))
 hides_placed t p n at b (run ∷ parts) = hides_cond t p n at b run (placed b n (at + (8 + length run.bytes)) parts) (value_in parts b p) (hides_placed t p n (at + (8 + length run.bytes)) b parts) (run.block == b)
 
-blocks_below : (g : Geometry) (parts : List Run) → AreRuns g parts → AllByRecursion (λ run. run.block < g.blocks) parts
+pub blocks_below : (g : Geometry) (parts : List Run) → AreRuns g parts → AllByRecursion (λ run. run.block < g.blocks) parts
 blocks_below g [] are = tt
 blocks_below g (x ∷ rest) are = ((first_run g x rest are).block, blocks_below g rest (rest_runs g x rest are))
 
-count_total : (f : ℕ → ℕ) (a : ℕ) (rows : List BlockVersions) → ((i : ℕ) → i < length rows → f (a + i) ≡ length (versions_in rows i)) → count_of rows ≡ total f a (length rows)
-count_total f a [] each = refl
-count_total f a (row ∷ rows) each =
-    let first : f (a + 0) ≡ length row.versions = each 0 (omega arith) in
+-- a sum over the rows is one over their numbers
+pub rows_total : (size : List Version → ℕ) (f : ℕ → ℕ) (a : ℕ) (rows : List BlockVersions) → ((i : ℕ) → i < length rows → f (a + i) ≡ size (versions_in rows i)) → sum_by (λ row. size row.versions) rows ≡ total f a (length rows)
+rows_total size f a [] each = refl
+rows_total size f a (row ∷ rows) each =
+    let first : f (a + 0) ≡ size row.versions = each 0 (omega arith) in
     let e : a + 0 ≡ a = omega arith in
-    let rest = count_total f (a + 1) rows (λ i below. let s : a + 1 + i ≡ a + suc i = omega arith in ap f s ∙ each (suc i) (omega arith)) in
-    sum_by-cons (λ (r : BlockVersions). length r.versions) row rows ∙ (λ i. (sym first ∙ ap f e) i + rest i)
+    let rest = rows_total size f (a + 1) rows (λ i below. let s : a + 1 + i ≡ a + suc i = omega arith in ap f s ∙ each (suc i) (omega arith)) in
+    sum_by-cons (λ (r : BlockVersions). size r.versions) row rows ∙ (λ i. (sym first ∙ ap f e) i + rest i)
 
 filter_step : (counts : Run → Bool) (run : Run) (rest : List Run) → length (filter counts rest) ≡ tally counts rest → (b : Bool) → length (cond b (run ∷ filter counts rest) (filter counts rest)) ≡ cond b 1 0 + tally counts rest
 filter_step counts run rest same true = omega (arith, same)
@@ -222,7 +223,7 @@ module _ (g : Geometry) (t : ℕ) (is_written : ℕ → List Commit → ℕ → 
   -- The index of a history has as many versions as the history counts.
   pub count_is : (first place : ℕ) (commits : List Commit) (index : List BlockVersions) → IsIndexOf g first place t (map (written g) commits) index → count_of index ≡ kept_from first commits
   count_is first place commits index has =
-      count_total (λ b. length (shown_since t (versions_of b first place (map (written g) commits)))) 0 index
+      rows_total (λ (l : List Version). length l) (λ b. length (shown_since t (versions_of b first place (map (written g) commits)))) 0 index
       (λ i below. let s : 0 + i ≡ i = omega arith in ap (λ (b : ℕ). length (shown_since t (versions_of b first place (map (written g) commits)))) s ∙ sym (ap (λ (l : List Version). length l) (has.each i (omega (arith, has.blocks)))))
       ∙ ap (total (λ b. length (shown_since t (versions_of b first place (map (written g) commits)))) 0) has.blocks
       ∙ kept_counted first place commits

@@ -9,7 +9,11 @@ pub mod Hiding
 pub mod Laid
 pub mod Layers
 pub mod Masks
+pub mod Movings
+pub mod Moves
 pub mod Showing
 pub mod Sights
 pub mod Sublists
+pub mod TestWeights
 pub mod Trims
+pub mod Weights

@@ -39,7 +39,7 @@ none_step v None false none = (refl, refl)
 none_step v (Some x) b none = cc
 
 -- where no version has the byte, none counts
-none_counts : (versions : List Version) (p : ℕ) → newest_with versions p ≡ None → count_by (has p) versions ≡ 0
+pub none_counts : (versions : List Version) (p : ℕ) → newest_with versions p ≡ None → count_by (has p) versions ≡ 0
 none_counts [] p none = refl
 none_counts (v ∷ versions) p none =
     let both = none_step v (newest_with versions p) (has p v) none in
@@ -76,7 +76,7 @@ once_step (Some v) n is = omega (arith, is)
 pub pieces_once : (pieces versions : List Version) → ArePieces pieces versions → (p : ℕ) → count_by (has p) pieces ≤ 1
 pieces_once pieces versions are p = once_step (newest_with versions p) (count_by (has p) pieces) (are.once p)
 
-placed_at : (p x : ℕ) (o : Option Version) → option_map (λ (v : Version). v.place + (p - v.off)) o ≡ Some x → (v : Version) × (o ≡ Some v) × (v.place + (p - v.off) ≡ x)
+pub placed_at : (p x : ℕ) (o : Option Version) → option_map (λ (v : Version). v.place + (p - v.off)) o ≡ Some x → (v : Version) × (o ≡ Some v) × (v.place + (p - v.off) ≡ x)
 placed_at p x None is = cc
 placed_at p x (Some v) is = (v, refl, cc)
 

@@ -21,15 +21,15 @@ pub all_shown : (P : Version → Type 0) (t : ℕ) (versions : List Version) →
 all_shown P t [] all = tt
 all_shown P t (v ∷ versions) all = all_cond P v (shown_since t versions) all.0 (all_shown P t versions all.1) (still_shows t v versions)
 
-abbrev Rises : List Version → Type 0
+abbrev pub Rises : List Version → Type 0
 Rises [] = Unit {0}
 Rises (v ∷ versions) = AllByRecursion (λ w. v.number ≤ w.number) versions × Rises versions
 
-rises_of : (versions : List Version) → Rise versions → Rises versions
+pub rises_of : (versions : List Version) → Rise versions → Rises versions
 rises_of [] rise = tt
 rises_of (v ∷ versions) rise = (all_of (λ w. v.number ≤ w.number) no_version versions (λ i below. rise 0 (suc i) (omega arith) (omega arith)), rises_of versions (λ i j le below. rise (suc i) (suc j) (omega arith) (omega arith)))
 
-rise_of : (versions : List Version) → Rises versions → Rise versions
+pub rise_of : (versions : List Version) → Rises versions → Rise versions
 rise_of [] rises i j le below = absurd (omega arith)
 rise_of (v ∷ versions) rises zero zero le below = omega arith
 rise_of (v ∷ versions) rises zero (suc j) le below = all_at (λ w. v.number ≤ w.number) no_version versions rises.0 j (omega arith)

@@ -1,7 +1,9 @@
 // The versions of all blocks.
 ghost use Rattle.std.specs.Prelude.{◌≡◌, ◌≢◌, ◌+◌, ◌-◌, ◌*◌, ◌^◌, ◌<◌, ◌≤◌, [], ℕ, IfOk, IsOk, OnOk, count_by, length, slice_index_or};
+ghost use Rattle.mv_index.specs.Moves.{AreSplit, moved_to};
 ghost use Rattle.mv_index.specs.Shown.{AllLie, ShowTheSame};
 ghost use Rattle.mv_index.specs.Versions.{AreAtMost, IsAdded, block_of, count_of, has, no_version, room_of, shown_since, upto, versions_in};
+ghost use Rattle.mv_index.specs.Weights.{bytes_above};
 
 use crate::row::Row;
 use crate::{Ledger, Steps, Version};
@@ -106,6 +108,36 @@ impl MvIndex {
         }
         self.count -= dropped;
         dropped
+    }
+
+    /// Drops the versions whose bytes stand before a place of the image, and takes those behind it to another place: what
+    /// stood at `from` stands at `to`. It answers how many it dropped, and takes no memory.
+    pub fn move_to(&mut self, from: u64, to: u64) -> u64
+        requires split { (b : ℕ) → AreSplit from (versions_in self.old b) }
+        requires room { (block size : ℕ) × ((b : ℕ) → AllLie block size (versions_in self.old b)) × (to + size < 2 ^ 64) }
+        ensures blocks { length self.new ≡ length self.old }
+        ensures moved { (b : ℕ) → versions_in self.new b ≡ moved_to from to (versions_in self.old b) }
+        ensures room { (b : ℕ) → room_of self.old b ≤ room_of self.new b }
+        ensures count { result + count_of self.new ≡ count_of self.old }
+    {
+        let mut gone = 0;
+        for row in self.rows.as_mut_slice() {
+            gone += row.move_to(from, to);
+        }
+        self.count -= gone;
+        gone
+    }
+
+    /// How many bytes the parts of the versions above the number take in their records: each its bytes, and 8 before them.
+    pub fn bytes_above(&self, number: u64) -> u64
+        requires { bytes_above number self.now < 2 ^ 64 }
+        ensures { result ≡ bytes_above number self.now }
+    {
+        let mut bytes = 0;
+        for row in self.rows.as_slice() {
+            bytes += row.bytes_above(number);
+        }
+        bytes
     }
 
     /// How many versions there are.

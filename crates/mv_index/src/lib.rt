@@ -4,13 +4,16 @@
 mod index;
 pub mod laws;
 mod mask;
+mod moving;
 mod pieces;
 mod row;
 mod search;
 mod trim;
 mod version;
+mod weight;
 
 pub use index::MvIndex;
+pub use mask::see;
 pub use step_count::{Blank, Ledger, Steps};
 pub use version::Version;
 

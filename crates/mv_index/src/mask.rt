@@ -26,8 +26,8 @@ fn set_bits(word: &mut u64, from: u32, to: u32) -> bool
     new != old
 }
 
-/// Marks so many bytes as seen. It answers whether one was not.
-pub(crate) fn see(seen: &mut [u64], off: usize, len: usize) -> bool
+/// Marks so many bytes of a block as seen, in a row of 64 words with a bit for each byte. It answers whether one was not.
+pub fn see(seen: &mut [u64], off: usize, len: usize) -> bool
     requires size { length seen.old ≡ 64 }
     requires fits { off + len ≤ 64 * length seen.old }
     ensures some { result ≡ list_any (λ p. not (is_seen seen.old p)) (range_with_len off len) }

@@ -1,11 +1,15 @@
 // The versions of one block.
 ghost use Rattle.std.specs.Prelude.{◌≡◌, ◌+◌, ◌-◌, ◌*◌, ◌^◌, ◌<◌, ◌≤◌, ◌++◌, [], ◌∷◌, ℕ, IsOk, OnOk, count_by, length, slice_index_or};
+ghost use Rattle.mv_index.specs.Moves.{AreSplit, moved_to};
 ghost use Rattle.mv_index.specs.Shown.{AllLie, ShowTheSame};
 ghost use Rattle.mv_index.specs.Versions.{AreAtMost, has, no_version, shown_since, upto};
+ghost use Rattle.mv_index.specs.Weights.{part_bytes_above};
 
+use crate::moving::move_list;
 use crate::pieces::lay;
 use crate::search::count_upto;
 use crate::trim::trim_list;
+use crate::weight::sum_above;
 use crate::{Ledger, Steps, Version};
 use iso_model::Memory;
 use std::alloc::Global;
@@ -96,5 +100,26 @@ impl Row {
         ensures room { self.old.room ≤ self.new.room }
     {
         trim_list(&mut self.versions, number, seen)
+    }
+
+    /// Drops the versions whose bytes stand before a place, and takes those behind it to another one: what stood at `from`
+    /// stands at `to`. It answers how many it dropped.
+    pub fn move_to(&mut self, from: u64, to: u64) -> u64
+        requires split { AreSplit from self.old.versions }
+        requires room { (block size : ℕ) × AllLie block size self.old.versions × (to + size < 2 ^ 64) }
+        ensures moved { self.new.versions ≡ moved_to from to self.old.versions }
+        ensures count { result + length self.new.versions ≡ length self.old.versions }
+        ensures room { self.old.room ≤ self.new.room }
+    {
+        move_list(&mut self.pieces, from, to);
+        move_list(&mut self.versions, from, to)
+    }
+
+    /// How many bytes the parts of the versions above the number take in their records.
+    pub fn bytes_above(&self, number: u64) -> u64
+        requires { part_bytes_above number self.now.versions < 2 ^ 64 }
+        ensures { result ≡ part_bytes_above number self.now.versions }
+    {
+        sum_above(self.versions.as_slice(), number)
     }
 }

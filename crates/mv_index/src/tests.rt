@@ -1,7 +1,10 @@
-ghost use Rattle.std.specs.Prelude.{◌≡◌, ◌<◌, ◌≤◌, length};
+ghost use Rattle.std.specs.Prelude.{◌≡◌, ◌<◌, ◌≤◌, ℕ, IfOk, length};
+ghost use Rattle.mv_index.specs.Moves.{AreSplit};
+ghost use Rattle.mv_index.specs.Shown.{AllLie};
 ghost use Rattle.mv_index.specs.Versions.{AreAtMost, versions_in};
 
 use super::*;
+use iso_model::Memory;
 use std::alloc::Global;
 use std::marker::Brand;
 use std::process::Abort;
@@ -213,5 +216,60 @@ fn each_block_has_its_own_versions(rt: HostRuntime) -> Result<(), Fail> {
     assert_eq!(rt; index.showing(2), [version].as_slice());
     assert_eq!(rt; index.count(), 1);
     assert_eq!(rt; index.trim_to(7), 0);
+    Ok(())
+}
+
+// An index of one block with two versions, before and behind the place 150.
+fn two(alloc: Global) -> Result<MvIndex, Memory>
+    ensures blocks { IfOk result (λ index. length index ≡ 1) }
+    ensures split { IfOk result (λ index. (b : ℕ) → AreSplit 150 (versions_in index b)) }
+    ensures lie { IfOk result (λ index. (b : ℕ) → AllLie 64 300 (versions_in index b)) }
+    ensures count { IfOk result (λ index. length (versions_in index 0) ≡ 2) }
+{
+    let mut index = MvIndex::empty(alloc, 1)?;
+    index.reserve(0, 2)?;
+    index.add(
+        0,
+        Version {
+            number: 1,
+            place: 100,
+            off: 0,
+            len: 10,
+        },
+    );
+    index.add(
+        0,
+        Version {
+            number: 2,
+            place: 200,
+            off: 4,
+            len: 4,
+        },
+    );
+    Ok(index)
+}
+
+#[test]
+fn later_versions_move_alone(rt: HostRuntime) -> Result<(), Fail> {
+    let mut index = two(rt.alloc())?;
+    assert_eq!(rt; index.showing(0).len(), 3);
+    assert_eq!(rt; index.move_to(150, 1000), 1);
+    assert_eq!(rt; index.count(), 1);
+    let moved = Version {
+        number: 2,
+        place: 1050,
+        off: 4,
+        len: 4,
+    };
+    assert_eq!(rt; index.showing(0), [moved].as_slice());
+    Ok(())
+}
+
+#[test]
+fn parts_take_their_bytes_and_eight(rt: HostRuntime) -> Result<(), Fail> {
+    let index = two(rt.alloc())?;
+    assert_eq!(rt; index.bytes_above(0), 30);
+    assert_eq!(rt; index.bytes_above(1), 12);
+    assert_eq!(rt; index.bytes_above(2), 0);
     Ok(())
 }

@@ -1,6 +1,7 @@
 -- The rows so far are trimmed.
+use Rattle.mv_index.specs.Versions.{shown_since}
 use Rattle.mv_index.proofs.Trims.{AreTrimmed}
 use Rattle.mv_index.proofs.index.MvIndex.trim_to.Given as goal
 
 abbrev pub invariant-loop-row : goal.invariant-loop-row
-invariant-loop-row l = AreTrimmed l.initial.row-items l.row-items l.number l.dropped l.row-index
+invariant-loop-row l = AreTrimmed (shown_since l.number) l.initial.row-items l.row-items l.dropped l.row-index

@@ -1,0 +1,7 @@
+-- The versions that are left count for the rest.
+use Rattle.std.proofs.Common.{◌≡◌, ◌+◌, drop}
+use Rattle.mv_index.specs.Weights.{part_bytes_above}
+use Rattle.mv_index.proofs.weight.sum_above.Given as goal
+
+abbrev pub invariant-loop-version : goal.invariant-loop-version
+invariant-loop-version l = l.bytes + part_bytes_above l.number (drop l.version-index l.versions) ≡ part_bytes_above l.number l.versions

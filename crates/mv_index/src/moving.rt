@@ -1,0 +1,41 @@
+// Versions whose bytes stand elsewhere.
+ghost use Rattle.std.specs.Prelude.{◌≡◌, ◌+◌, ◌-◌, ◌^◌, ◌<◌, ◌≤◌, ℕ, length, slice_index_or, take, vec_capacity, vec_len};
+ghost use Rattle.mv_index.specs.Moves.{moved_to};
+ghost use Rattle.mv_index.specs.Versions.{no_version};
+
+use crate::Version;
+
+/// Puts the versions whose bytes stand behind a place to the front, in order, and takes them to another place: what stood at
+/// `from` stands at `to`. It answers how many they are.
+fn gather_moved(versions: &mut [Version], from: u64, to: u64) -> usize
+    requires room { (i : ℕ) → i < length versions.old → to + (slice_index_or versions.old i no_version).place < 2 ^ 64 }
+    ensures within { result ≤ length versions.old }
+    ensures moved { take result versions.new ≡ moved_to from to versions.old }
+{
+    let mut kept = 0;
+    for at in 0..versions.len() {
+        let version = versions[at];
+        if from < version.place {
+            versions[kept] = Version {
+                place: to + (version.place - from),
+                ..version
+            };
+            kept += 1;
+        }
+    }
+    kept
+}
+
+/// Drops the versions whose bytes stand before a place, and takes those behind it to another one: what stood at `from`
+/// stands at `to`. It answers how many it dropped.
+pub(crate) fn move_list(versions: &mut Vec<Version>, from: u64, to: u64) -> u64
+    requires room { (i : ℕ) → i < length versions.old.items → to + (slice_index_or versions.old.items i no_version).place < 2 ^ 64 }
+    ensures moved { versions.new.items ≡ moved_to from to versions.old.items }
+    ensures count { result + length versions.new.items ≡ length versions.old.items }
+    ensures room { vec_capacity versions.old - vec_len versions.old ≤ vec_capacity versions.new - vec_len versions.new }
+{
+    let before = versions.len();
+    let kept = gather_moved(versions.as_mut_slice(), from, to);
+    versions.truncate(kept);
+    (before - kept) as u64
+}

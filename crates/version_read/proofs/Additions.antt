@@ -1,0 +1,122 @@
+-- Parts that are added to an index one by one.
+use Rattle.std.proofs.Common.{◌≡◌, ◌≢◌, inl, inr, ◌∙◌, sym, refl, ap, ℕ, ◌+◌, ◌<◌, ◌≤◌, ◌==◌, Bool, true, false, cond, List, [], ◌∷◌, ◌++◌, length, take, drop, get_or, arith, subst, append_assoc}
+use Rattle.std.specs.List.{AllByRecursion}
+use Rattle.std.proofs.lemmas.Bool.{cases_eq, eq-eqb, ne_eqb}
+use Rattle.std.proofs.lemmas.List.{append-nil, drop_more, take_all, take_more, take-append-drop}
+use Rattle.std.proofs.lemmas.List.Sums.{sum_by-append, sum_by-cons}
+use Rattle.mv_index.specs.declared.version.Version.{Version}
+use Rattle.mv_index.specs.Versions.{AreAtMost, BlockVersions, IsAdded, count_of, no_version, room_of, versions_in}
+use Rattle.mv_index.proofs.Sublists.{all_at, all_of}
+use Rattle.version_read.specs.declared.part_span.PartSpan.{PartSpan}
+use Rattle.version_read.specs.Parts.{HasRoom, HasTaken, no_part, part_versions, parts_in, parts_length}
+use Rattle.version_read.proofs.Lying.{all_append, all_cond}
+
+abbrev pub size_of : PartSpan → ℕ
+size_of part = 8 + part.len
+
+abbrev pub version_at : (n at : ℕ) → PartSpan → Version
+version_at n at part = record { number = n; place = at + 8; off = part.off; len = part.len }
+
+cond_append : (b : Bool) (v : Version) (xs ys : List Version) → cond b (v ∷ (xs ++ ys)) (xs ++ ys) ≡ cond b (v ∷ xs) xs ++ ys
+cond_append true v xs ys = refl
+cond_append false v xs ys = refl
+
+part_versions-append : (b n at : ℕ) (xs ys : List PartSpan) → part_versions b n at (xs ++ ys) ≡ part_versions b n at xs ++ part_versions b n (at + parts_length xs) ys
+part_versions-append b n at [] ys = let e : at ≡ at + 0 = omega arith in ap (λ (k : ℕ). part_versions b n k ys) e
+part_versions-append b n at (x ∷ xs) ys =
+    let e : at + (8 + x.len) + parts_length xs ≡ at + parts_length (x ∷ xs) = omega (arith, sum_by-cons size_of x xs) in
+    let rest : part_versions b n (at + (8 + x.len)) (xs ++ ys) ≡ part_versions b n (at + (8 + x.len)) xs ++ part_versions b n (at + parts_length (x ∷ xs)) ys =
+    part_versions-append b n (at + (8 + x.len)) xs ys ∙ ap (λ (k : ℕ). part_versions b n (at + (8 + x.len)) xs ++ part_versions b n k ys) e in
+    ap (λ (l : List Version). cond (x.block == b) (version_at n at x ∷ l) l) rest
+    ∙ cond_append (x.block == b) (version_at n at x) (part_versions b n (at + (8 + x.len)) xs) (part_versions b n (at + parts_length (x ∷ xs)) ys)
+
+-- each has the number
+part_numbers : (b n at : ℕ) (parts : List PartSpan) → AllByRecursion (λ v. v.number ≤ n) (part_versions b n at parts)
+part_numbers b n at [] = tt
+part_numbers b n at (part ∷ parts) = all_cond (λ v. v.number ≤ n) (version_at n at part) (part_versions b n (at + (8 + part.len)) parts) (omega arith) (part_numbers b n (at + (8 + part.len)) parts) (part.block == b)
+
+-- the versions of the parts before i are added
+pub record AreAdded (old cur : List BlockVersions) (number place at i : ℕ) (parts : List PartSpan) : Type 0 where
+  pub blocks : length cur ≡ length old
+  pub each : (b : ℕ) → versions_in cur b ≡ versions_in old b ++ part_versions b number place (take i parts)
+  pub room : (b : ℕ) → room_of old b ≤ room_of cur b + parts_in b (take i parts)
+  pub count : count_of cur ≡ count_of old + i
+  pub at_is : at ≡ place + parts_length (take i parts)
+
+pub added_none : (old : List BlockVersions) (number place : ℕ) (parts : List PartSpan) → AreAdded old old number place place 0 parts
+added_none old number place parts = record { blocks = refl; each = λ b. sym (append-nil (versions_in old b)); room = λ b. omega arith; count = omega arith; at_is = omega arith }
+
+module _ (old cur : List BlockVersions) (number place at i : ℕ) (parts : List PartSpan) (part : PartSpan) (was : AreAdded old cur number place at i parts) (inside : i < length parts) (is : part ≡ get_or parts i no_part) where
+  split : parts ≡ take i parts ++ (part ∷ drop (i + 1) parts)
+  split = sym (take-append-drop i parts) ∙ ap (λ (l : List PartSpan). take i parts ++ l) (drop_more parts i no_part inside ∙ ap (λ (p : PartSpan). p ∷ drop (i + 1) parts) (sym is))
+
+  next : take (i + 1) parts ≡ take i parts ++ part ∷ []
+  next = take_more parts i no_part inside ∙ ap (λ (p : PartSpan). take i parts ++ p ∷ []) (sym is)
+
+  pub place_fits : at + (8 + part.len) ≤ place + parts_length parts
+  place_fits =
+      let sum = ap parts_length split ∙ sum_by-append size_of (take i parts) (part ∷ drop (i + 1) parts) in
+      omega (arith, sum, sum_by-cons size_of part (drop (i + 1) parts), was.at_is)
+
+  more : (b : ℕ) → part_versions b number place (take (i + 1) parts) ≡ part_versions b number place (take i parts) ++ part_versions b number at (part ∷ [])
+  more b =
+      ap (part_versions b number place) next ∙ part_versions-append b number place (take i parts) (part ∷ [])
+      ∙ ap (λ (k : ℕ). part_versions b number place (take i parts) ++ part_versions b number k (part ∷ [])) (sym was.at_is)
+
+  here : part_versions part.block number at (part ∷ []) ≡ version_at number at part ∷ []
+  here = ap (λ (t : Bool). cond t (version_at number at part ∷ []) []) (eq-eqb part.block part.block refl)
+
+  away : (b : ℕ) → b ≢ part.block → part_versions b number at (part ∷ []) ≡ []
+  away b other = ap (λ (t : Bool). cond t (version_at number at part ∷ []) []) (ne_eqb part.block b (λ same. other (sym same)))
+
+  abbrev one_of : ℕ → PartSpan → ℕ
+  one_of b p = cond (p.block == b) 1 0
+
+  one_here : one_of part.block part ≡ 1
+  one_here = ap (λ (t : Bool). cond t 1 0) (eq-eqb part.block part.block refl)
+
+  pub room_left : HasRoom parts old → 0 < room_of cur part.block
+  room_left room =
+      let sum = ap (parts_in part.block) split ∙ sum_by-append (one_of part.block) (take i parts) (part ∷ drop (i + 1) parts) in
+      omega (arith, sum, sum_by-cons (one_of part.block) part (drop (i + 1) parts), one_here, was.room part.block, room part.block)
+
+  pub still_rises : ((b : ℕ) → AreAtMost number (versions_in old b)) → AreAtMost number (versions_in cur part.block)
+  still_rises rising =
+      all_at (λ v. v.number ≤ number) no_version (versions_in cur part.block)
+      (subst (AllByRecursion (λ v. v.number ≤ number)) (sym (was.each part.block)) (all_append (λ v. v.number ≤ number) (versions_in old part.block) (part_versions part.block number place (take i parts))
+      (all_of (λ v. v.number ≤ number) no_version (versions_in old part.block) (rising part.block)) (part_numbers part.block number place (take i parts))))
+
+  in_more : (b : ℕ) → parts_in b (take (i + 1) parts) ≡ parts_in b (take i parts) + one_of b part
+  in_more b = omega (arith, ap (parts_in b) next ∙ sum_by-append (one_of b) (take i parts) (part ∷ []), sum_by-cons (one_of b) part [])
+
+  pub added_more : (now : List BlockVersions) (k : ℕ) → IsAdded part.block (version_at number at part) cur now → k ≡ at + (8 + part.len) → AreAdded old now number place k (i + 1) parts
+  added_more now k added k_is = record {
+    blocks = added.blocks ∙ was.blocks;
+    each = λ b. elim (cases_eq b part.block) [
+      | inl same ↦
+          ap (versions_in now) same ∙ added.there ∙ ap (λ (l : List Version). l ++ version_at number at part ∷ []) (was.each part.block)
+          ∙ append_assoc (versions_in old part.block) (part_versions part.block number place (take i parts)) (version_at number at part ∷ [])
+          ∙ ap (λ (l : List Version). versions_in old part.block ++ (part_versions part.block number place (take i parts) ++ l)) (sym here)
+          ∙ ap (λ (l : List Version). versions_in old part.block ++ l) (sym (more part.block))
+          ∙ ap (λ (c : ℕ). versions_in old c ++ part_versions c number place (take (i + 1) parts)) (sym same)
+      | inr other ↦
+          ap (λ (r : BlockVersions). r.versions) (added.others b other) ∙ was.each b
+          ∙ ap (λ (l : List Version). versions_in old b ++ l) (sym (more b ∙ ap (λ (l : List Version). part_versions b number place (take i parts) ++ l) (away b other) ∙ append-nil (part_versions b number place (take i parts))))
+    ];
+    room = λ b. elim (cases_eq b part.block) [
+      | inl same ↦ subst (λ (c : ℕ). room_of old c ≤ room_of now c + parts_in c (take (i + 1) parts)) (sym same) (omega (arith, in_more part.block, one_here, added.room, was.room part.block))
+      | inr other ↦ omega (arith, in_more b, ap (λ (r : BlockVersions). r.room) (added.others b other), was.room b)
+    ];
+    count = omega (arith, added.count, was.count);
+    at_is = k_is ∙ omega (arith, was.at_is, ap parts_length next, sum_by-append size_of (take i parts) (part ∷ []), sum_by-cons size_of part []);
+  }
+
+pub added_all : (old cur : List BlockVersions) (number gate at i : ℕ) (parts : List PartSpan) → AreAdded old cur number (gate + 20) at i parts → length parts ≤ i → i ≤ length parts → HasTaken number gate parts old cur
+added_all old cur number gate at i parts was end within =
+    let all : take i parts ≡ parts = take_all i parts end in
+    record {
+      blocks = was.blocks;
+      each = λ b. was.each b ∙ ap (λ (l : List PartSpan). versions_in old b ++ part_versions b number (gate + 20) l) all;
+      count = omega (arith, was.count, end, within);
+      room = λ b. omega (arith, was.room b, ap (parts_in b) all);
+    }

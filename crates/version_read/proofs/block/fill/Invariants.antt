@@ -1,0 +1,22 @@
+-- The bytes so far are the image's where they were wanted.
+use Rattle.std.proofs.Common.{◌≡◌, ◌≤◌, ◌<◌, ◌-◌, false}
+use Rattle.std.specs.Option.{ForSome}
+use Rattle.iso_disk.specs.Disk.{WritesNothing}
+use Rattle.mv_index.specs.Masks.{is_seen}
+use Rattle.version_read.specs.Fills.{IsFilled}
+use Rattle.version_read.proofs.Wanted.{unseen}
+use Rattle.version_read.proofs.block.fill.Given as goal
+
+abbrev pub invariant-loop-at : goal.invariant-loop-at
+invariant-loop-at g l = record {
+  from : l.off ≤ l.at;
+  to : l.at ≤ l.end;
+  wanted : l.at < l.end → is_seen l.seen l.at ≡ false;
+  filled : ForSome (g.D.Disk.state l.fn.disk).contents (λ c. IsFilled c l.place l.off (l.at - l.off) l.seen l.fn.into l.into);
+  count : l.count ≡ unseen l.seen l.off (l.at - l.off);
+  faults : (g.D.Disk.state l.disk).faults ≡ (g.D.Disk.state l.fn.disk).faults;
+  unwritten : WritesNothing (g.D.Disk.state l.fn.disk) (g.D.Disk.state l.disk);
+}
+
+abbrev pub decreases-loop-at : goal.decreases-loop-at
+decreases-loop-at g l = l.end - l.at

@@ -1,0 +1,7 @@
+-- The parts so far are added.
+use Rattle.std.proofs.Common.{◌+◌}
+use Rattle.version_read.proofs.Additions.{AreAdded}
+use Rattle.version_read.proofs.index.add_parts.Given as goal
+
+abbrev pub invariant-loop-part : goal.invariant-loop-part
+invariant-loop-part l = AreAdded l.fn.index l.index l.number (l.gate + 20) l.at l.part-index l.parts

@@ -1,0 +1,14 @@
+-- The places so far have the other bit.
+use Rattle.std.proofs.Common.{◌≡◌, ℕ, ◌-◌, ◌<◌, ◌≤◌, not}
+use Rattle.mv_index.specs.Masks.{is_seen}
+use Rattle.version_read.proofs.mask.next_byte.Given as goal
+
+abbrev pub invariant-loop-place : goal.invariant-loop-place
+invariant-loop-place l = record {
+  from : l.at ≤ l.place;
+  within : l.place ≤ l.end;
+  passed : (k : ℕ) → l.at ≤ k → k < l.place → is_seen l.seen k ≡ not l.wanted;
+}
+
+abbrev pub decreases-loop-place : goal.decreases-loop-place
+decreases-loop-place l = l.end - l.place

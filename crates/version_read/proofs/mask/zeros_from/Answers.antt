@@ -1,0 +1,28 @@
+-- The first bit from a place on is where the word, shifted by so many bits, ends in zeros.
+use Rattle.std.proofs.Common.{◌∙◌, sym, ap, ◌-◌, ◌/◌, ◌^◌, ◌<◌, arith}
+use Rattle.std.proofs.lemmas.Nat.Bits.{bit_at-zero}
+use Rattle.std.specs.Int.{bit_at}
+use Rattle.version_read.proofs.Bits.{bit_from, zeros_are}
+use Rattle.version_read.proofs.mask.zeros_from.Goals as goal
+
+pub returns-then-rest-eq0-clause-zeros : goal.returns-then-rest-eq0-clause-zeros
+returns-then-rest-eq0-clause-zeros c k from below =
+    sym (bit_from c.args.word c.args.from k from) ∙ ap (λ n. bit_at n (k - c.args.from)) c.if-rest-eq0.true ∙ bit_at-zero (k - c.args.from)
+
+pub returns-else-rest-eq0-clause-within : goal.returns-else-rest-eq0-clause-within
+returns-else-rest-eq0-clause-within c =
+    let fits : c.args.word < 2 ^ 64 = omega arith in
+    let some : 0 < c.args.word / 2 ^ c.args.from = omega arith in
+    (zeros_are c.args.word c.args.from fits some).0
+
+pub returns-else-rest-eq0-clause-zeros : goal.returns-else-rest-eq0-clause-zeros
+returns-else-rest-eq0-clause-zeros c =
+    let fits : c.args.word < 2 ^ 64 = omega arith in
+    let some : 0 < c.args.word / 2 ^ c.args.from = omega arith in
+    (zeros_are c.args.word c.args.from fits some).2
+
+pub returns-else-rest-eq0-clause-stops : goal.returns-else-rest-eq0-clause-stops
+returns-else-rest-eq0-clause-stops c _ =
+    let fits : c.args.word < 2 ^ 64 = omega arith in
+    let some : 0 < c.args.word / 2 ^ c.args.from = omega arith in
+    (zeros_are c.args.word c.args.from fits some).1

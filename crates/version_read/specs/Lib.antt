@@ -1,0 +1,4 @@
+pub mod Blocks
+pub mod Fills
+pub mod Parts
+pub mod TestParts

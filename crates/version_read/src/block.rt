@@ -1,0 +1,121 @@
+// A block, read by its versions.
+ghost use Rattle.std.specs.Prelude.{◌≡◌, ◌+◌, ◌-◌, ◌*◌, ◌<◌, ◌≤◌, ◌++◌, ◌||◌, ℕ, IfOk, OnOk, count_by, drop, length, not, take};
+ghost use Rattle.std.specs.List.{range_with_len, slice_range};
+ghost use Rattle.std.specs.Option.{ForSome};
+ghost use Rattle.iso_disk.specs.Disk.{WritesNothing};
+ghost use Rattle.fault_count.specs.Count.{HasCause};
+ghost use Rattle.mv_index.specs.Masks.{is_seen};
+ghost use Rattle.mv_index.specs.Shown.{AllLie};
+ghost use Rattle.mv_index.specs.Versions.{in_bytes};
+ghost use Rattle.version_read.specs.Blocks.{IsOver};
+ghost use Rattle.version_read.specs.Fills.{IsFilled};
+
+use crate::mask::next_byte;
+use iso_disk::{Disk, DiskFault};
+use mv_index::{Version, see};
+
+/// Reads so many bytes of the image into the front of a slice.
+fn read_front<D: Disk>(
+    disk: &mut D,
+    place: u64,
+    len: usize,
+    into: &mut [u8],
+) -> Result<(), DiskFault>
+    requires inside { place + len ≤ (D.state disk.old).size }
+    requires fits { len ≤ length into.old }
+    ensures bytes { OnOk result (ForSome (D.state disk.old).contents (λ c. into.new ≡ slice_range c place (place + len) ++ drop len into.old)) }
+    ensures unwritten { WritesNothing (D.state disk.old) (D.state disk.new) }
+    ensures cause { HasCause (D.state disk.old).faults (D.state disk.new).faults result }
+{
+    let (part, _) = into.split_at_mut(len);
+    disk.read(place, part)
+}
+
+/// Reads so many bytes of the image into a part of a block.
+fn read_part<D: Disk>(
+    disk: &mut D,
+    place: u64,
+    off: usize,
+    len: usize,
+    into: &mut [u8],
+) -> Result<(), DiskFault>
+    requires inside { place + len ≤ (D.state disk.old).size }
+    requires fits { off + len ≤ length into.old }
+    ensures bytes { OnOk result (ForSome (D.state disk.old).contents (λ c. into.new ≡ take off into.old ++ (slice_range c place (place + len) ++ drop len (drop off into.old)))) }
+    ensures unwritten { WritesNothing (D.state disk.old) (D.state disk.new) }
+    ensures cause { HasCause (D.state disk.old).faults (D.state disk.new).faults result }
+{
+    let (_, rest) = into.split_at_mut(off);
+    read_front(disk, place, len, rest)
+}
+
+/// Reads those bytes of a part that were not seen, one read a stretch, and marks all of them as seen. It answers how many it read.
+fn fill<D: Disk>(
+    disk: &mut D,
+    place: u64,
+    off: usize,
+    len: usize,
+    seen: &mut [u64],
+    into: &mut [u8],
+) -> Result<usize, DiskFault>
+    requires inside { place + len ≤ (D.state disk.old).size }
+    requires fits { off + len ≤ length into.old }
+    requires size { length into.old ≤ 4096 }
+    requires mask { length seen.old ≡ 64 }
+    ensures bytes { OnOk result (ForSome (D.state disk.old).contents (λ c. IsFilled c place off len seen.old into.old into.new)) }
+    ensures marked { OnOk result ((p : ℕ) → p < 4096 → is_seen seen.new p ≡ (in_bytes off len p || is_seen seen.old p)) }
+    ensures count { IfOk result (λ count. count ≡ count_by (λ p. not (is_seen seen.old p)) (range_with_len off len)) }
+    ensures unwritten { WritesNothing (D.state disk.old) (D.state disk.new) }
+    ensures cause { HasCause (D.state disk.old).faults (D.state disk.new).faults result }
+{
+    let end = off + len;
+    let mut at = next_byte(seen, off, end, false);
+    let mut count = 0;
+    while at < end {
+        let to = next_byte(seen, at, end, true);
+        read_part(disk, place + (at - off) as u64, at, to - at, into)?;
+        count += to - at;
+        at = next_byte(seen, to, end, false);
+    }
+    see(seen, off, len);
+    Ok(count)
+}
+
+/// Reads a block of at most 4,096 bytes, whose base bytes stand at a place, with its versions over them: from the newest
+/// version back, of each those bytes that no later one has, and then the base bytes that none has. Each stretch of bytes is
+/// one read, straight into its place. It takes no memory and writes nothing. On an error any bytes may be in the slice.
+pub fn read_block<D: Disk>(
+    disk: &mut D,
+    base: u64,
+    versions: &[Version],
+    into: &mut [u8],
+) -> Result<(), DiskFault>
+    requires size { length into.old ≤ 4096 }
+    requires base { base + length into.old ≤ (D.state disk.old).size }
+    requires versions { AllLie (length into.old) (D.state disk.old).size versions.now }
+    ensures bytes { OnOk result (ForSome (D.state disk.old).contents (λ c. IsOver c base versions.now into.new)) }
+    ensures unwritten { WritesNothing (D.state disk.old) (D.state disk.new) }
+    ensures cause { HasCause (D.state disk.old).faults (D.state disk.new).faults result }
+{
+    let mut seen = [0; 64];
+    let size = into.len();
+    let mut wanted = size;
+    let mut left = versions.len();
+    while left > 0 && wanted > 0 {
+        left -= 1;
+        let version = versions[left];
+        let count = fill(
+            disk,
+            version.place,
+            version.off as usize,
+            version.len as usize,
+            &mut seen,
+            into,
+        )?;
+        wanted -= count;
+    }
+    if wanted > 0 {
+        fill(disk, base, 0, size, &mut seen, into)?;
+    }
+    Ok(())
+}

@@ -1,0 +1,88 @@
+// The parts of a record, put into an index.
+ghost use Rattle.std.specs.Prelude.{◌≡◌, ◌^◌, ◌≤◌, ◌<◌, ℕ, IsOk, OnOk, length, map, slice_index_or};
+ghost use Rattle.std.specs.List.{AllByRecursion};
+ghost use Rattle.mv_index.specs.Versions.{count_of, room_of, versions_in};
+ghost use Rattle.version_read.specs.Parts.{BlocksRise, HasRoom, HasTaken, MayTake, no_part, part_of};
+
+use crate::PartSpan;
+use iso_format::RecordView;
+use iso_model::Memory;
+use mv_index::{MvIndex, Version};
+
+/// The parts of a record, in the place of what the vector has. Without memory it may have any parts.
+pub fn list_parts(view: &RecordView<'_>, into: &mut Vec<PartSpan>) -> Result<(), Memory>
+    requires { AllByRecursion (λ run. length run.bytes < 2 ^ 16) view.now.parts }
+    ensures { OnOk result (into.new.items ≡ map part_of view.now.parts) }
+{
+    into.clear();
+    for part in view.parts() {
+        into.push(PartSpan {
+            block: part.block,
+            off: part.off,
+            len: part.bytes.len() as u16,
+        })?;
+    }
+    Ok(())
+}
+
+/// Makes room in an index for the versions of a record's parts, so that `add_parts` takes no memory. Where the room is there
+/// it takes none either. Without memory the index has its versions, and room for as many more as before at least.
+pub fn reserve_parts(index: &mut MvIndex, parts: &[PartSpan]) -> Result<(), Memory>
+    requires blocks { AllByRecursion (λ part. part.block < length index.old) parts.now }
+    requires order { BlocksRise parts.now }
+    requires few { length parts.now < 2 ^ 32 }
+    ensures blocks { length index.new ≡ length index.old }
+    ensures same { (b : ℕ) → versions_in index.new b ≡ versions_in index.old b }
+    ensures count { count_of index.new ≡ count_of index.old }
+    ensures room { OnOk result (HasRoom parts.now index.new) }
+    ensures no_less { (b : ℕ) → room_of index.old b ≤ room_of index.new b }
+    ensures succeeds { HasRoom parts.now index.old → IsOk result }
+{
+    let mut first = 0;
+    while first < parts.len() {
+        let block = parts[first].block;
+        let stop = block_end(parts, first);
+        index.reserve(block, (stop - first) as u32)?;
+        first = stop;
+    }
+    Ok(())
+}
+
+/// Adds the versions of a record's parts: the record has this number, and its gate stands at this place of the image. There
+/// is room for them. It takes no memory.
+pub fn add_parts(index: &mut MvIndex, number: u64, gate: u64, parts: &[PartSpan])
+    requires may { MayTake number gate parts.now index.old }
+    requires room { HasRoom parts.now index.old }
+    ensures { HasTaken number gate parts.now index.old index.new }
+{
+    let mut at = gate + 20;
+    for part in parts {
+        index.add(
+            part.block,
+            Version {
+                number,
+                place: at + 8,
+                off: part.off,
+                len: part.len,
+            },
+        );
+        at += 8 + u64::from(part.len);
+    }
+}
+
+// Where the parts end that are of the block of the one at this place.
+fn block_end(parts: &[PartSpan], first: usize) -> usize
+    requires inside { first < length parts.now }
+    requires order { BlocksRise parts.now }
+    ensures more { first < result }
+    ensures within { result ≤ length parts.now }
+    ensures same { (i : ℕ) → first ≤ i → i < result → (slice_index_or parts.now i no_part).block ≡ (slice_index_or parts.now first no_part).block }
+    ensures later { (i : ℕ) → result ≤ i → i < length parts.now → (slice_index_or parts.now first no_part).block < (slice_index_or parts.now i no_part).block }
+{
+    let block = parts[first].block;
+    let mut stop = first + 1;
+    while stop < parts.len() && parts[stop].block == block {
+        stop += 1;
+    }
+    stop
+}

@@ -1,0 +1,15 @@
+//! Blocks of an image, read by their versions, and the index of the versions of a log.
+#![tactic(auto)]
+
+mod block;
+mod index;
+pub mod laws;
+mod mask;
+mod part_span;
+
+pub use block::read_block;
+pub use index::{add_parts, list_parts, reserve_parts};
+pub use part_span::PartSpan;
+
+#[cfg(test)]
+mod tests;
