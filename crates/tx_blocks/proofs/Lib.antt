@@ -1,0 +1,4 @@
+pub mod Programs
+pub mod Outcomes
+pub mod Progress
+pub mod Marking
