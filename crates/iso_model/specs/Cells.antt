@@ -1,5 +1,5 @@
 -- A block of cells: a head, the key parts of its cells, and their value parts.
-use Rattle.std.specs.Prelude.{ℕ, zero, suc, ◌+◌, ◌-◌, ◌*◌, ◌/◌, Bool, true, ◌&&◌, ◌==◌, not, List, [], ◌∷◌, ◌++◌, Option, nat_le, slice_index, take, drop, length, replicate}
+use Rattle.std.specs.Prelude.{ℕ, zero, suc, ◌+◌, ◌-◌, ◌*◌, ◌/◌, Bool, true, ◌&&◌, ◌==◌, List, [], ◌∷◌, ◌++◌, Option, nat_le, slice_index, take, drop, length, replicate}
 use Rattle.std.specs.List.{list_all}
 use Rattle.std.specs.Int.{w32, from_be_bytes}
 use Rattle.std.specs.Str.{bytes_eq}
@@ -54,9 +54,9 @@ key_part key = part_of 30 key
 abbrev pub value_part : List ℕ → List ℕ
 value_part value = part_of 32 value
 
--- whether a cell is used, and its key, which is empty where it is not
-abbrev pub is_used : List ℕ → (cell : ℕ) → Bool
-is_used keys cell = not (slice_index (bytes_in (key_mark cell) keys) 0 == 0)
+-- whether a cell is not used, and the key of one that is
+abbrev pub is_unused : List ℕ → (cell : ℕ) → Bool
+is_unused keys cell = slice_index (bytes_in (key_mark cell) keys) 0 == 0
 
 abbrev pub key_at : List ℕ → (cell : ℕ) → List ℕ
 key_at keys cell = text_of (bytes_in (key_mark cell) keys)
@@ -75,11 +75,11 @@ abbrev pub cell_with : (size : ℕ) → List ℕ → List ℕ → Option ℕ
 cell_with size key keys = first_from (λ i. bytes_eq (key_at keys i) key) 0 (cell_count size)
 
 abbrev pub unused_cell : (size : ℕ) → List ℕ → Option ℕ
-unused_cell size keys = first_from (λ i. not (is_used keys i)) 0 (cell_count size)
+unused_cell size keys = first_from (λ i. is_unused keys i) 0 (cell_count size)
 
 -- the bytes of a block with others in their place from a place on
 abbrev pub laid_at : (at : ℕ) → List ℕ → List ℕ → List ℕ
-laid_at at bytes block = take at block ++ bytes ++ drop (at + length bytes) block
+laid_at at bytes block = take at block ++ (bytes ++ drop (at + length bytes) block)
 
 -- zeros, but for these bytes from a place on, in a block of this size
 abbrev pub block_with : (size at : ℕ) → List ℕ → List ℕ

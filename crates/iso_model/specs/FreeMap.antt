@@ -1,5 +1,5 @@
 -- The free map of a region: a bit for each block, behind the head of the region's first block.
-use Rattle.std.specs.Prelude.{ℕ, zero, suc, ◌+◌, ◌*◌, ◌/◌, ◌%◌, ◌^◌, Bool, ◌==◌, not, cond, List, Option, slice_index, bit_and, bit_or, bit_xor}
+use Rattle.std.specs.Prelude.{ℕ, zero, suc, ◌+◌, ◌*◌, ◌/◌, ◌%◌, ◌^◌, Bool, ◌==◌, not, cond, List, Option, slice_index, slice_set, bit_and, bit_or, bit_xor}
 use Rattle.std.specs.Int.{bit_at}
 use Rattle.iso_model.specs.declared.access.Span.{Span}
 use Rattle.iso_model.specs.Conflict.{first_from}
@@ -29,6 +29,13 @@ set_bit byte block = bit_or byte (2 ^ (block % 8))
 
 abbrev pub clear_bit : ℕ → (block : ℕ) → ℕ
 clear_bit byte block = bit_xor byte (bit_and byte (2 ^ (block % 8)))
+
+-- the map with the bit of a block set, and with it clear
+abbrev pub with_bit : List ℕ → (block : ℕ) → List ℕ
+with_bit map block = slice_set map (bit_place block) (set_bit (slice_index map (bit_place block)) block)
+
+abbrev pub without_bit : List ℕ → (block : ℕ) → List ℕ
+without_bit map block = slice_set map (bit_place block) (clear_bit (slice_index map (bit_place block)) block)
 
 -- how many of n blocks from one on are free, and the lowest of them
 abbrev pub free_count : List ℕ → (from n : ℕ) → ℕ

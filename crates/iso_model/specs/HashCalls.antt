@@ -1,5 +1,5 @@
 -- The calls of the hash store, each as a program of reads and writes.
-use Rattle.std.specs.Prelude.{ℕ, zero, suc, ◌+◌, ◌*◌, ◌-◌, Bool, true, false, ◌&&◌, ◌||◌, ◌==◌, not, cond, List, [], ◌∷◌, ◌++◌, Option, Some, None, Result, Ok, Err, nat_le, nat_lt, length, option_map, replicate, slice_index}
+use Rattle.std.specs.Prelude.{ℕ, zero, suc, ◌+◌, ◌*◌, ◌-◌, Bool, true, false, ◌&&◌, ◌||◌, ◌==◌, cond, List, [], ◌∷◌, ◌++◌, Option, Some, None, Result, Ok, Err, nat_le, nat_lt, length, option_map, replicate, slice_index}
 use Rattle.std.specs.Int.{w32, to_be_bytes}
 use Rattle.iso_model.specs.declared.access.Span.{Span}
 use Rattle.iso_model.specs.declared.stores.Area.{Area}
@@ -8,7 +8,7 @@ use Rattle.iso_model.specs.declared.stores.StoreError.{StoreError}
 use Rattle.iso_model.specs.declared.stores.StoreError.TheVariants.{BadKey, BadValue, Broken, NoBlocks}
 use Rattle.iso_model.specs.Effect.{or_else}
 use Rattle.iso_model.specs.Stores.{Program, Done, Look, Reserve, Store, then_do}
-use Rattle.iso_model.specs.Cells.{cell_count, keys_end, keys_mark, key_mark, value_mark, next_mark, is_part, text_of, key_part, value_part, is_used, all_from, cell_with, unused_cell, laid_at, block_with}
+use Rattle.iso_model.specs.Cells.{cell_count, keys_end, keys_mark, key_mark, value_mark, next_mark, is_part, text_of, key_part, value_part, is_unused, all_from, cell_with, unused_cell, laid_at, block_with}
 use Rattle.iso_model.specs.FreeMap.{map_mark, bit_mark, bit_place, set_bit, clear_bit, lowest_free}
 use Rattle.iso_model.specs.HashRegion.{buckets, last_position, bucket_of, next_of, is_linked}
 
@@ -106,7 +106,7 @@ put_program a key value =
 
 -- whether no other cell is used
 abbrev pub is_alone : (size : ℕ) → List ℕ → (cell : ℕ) → Bool
-is_alone size keys cell = all_from (λ i. (i == cell) || not (is_used keys i)) 0 (cell_count size)
+is_alone size keys cell = all_from (λ i. (i == cell) || is_unused keys i) 0 (cell_count size)
 
 -- whether the block is an overflow block, the last of its chain, and has no other used cell
 abbrev pub is_spent : Area → Spot → (keys : List ℕ) → Bool

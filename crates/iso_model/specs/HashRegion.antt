@@ -1,5 +1,5 @@
 -- The region of the hash store: when it is well formed, and the map that it holds.
-use Rattle.std.specs.Prelude.{◌≡◌, ◌↔◌, ◌⊎◌, ℕ, zero, suc, ◌+◌, ◌-◌, ◌*◌, ◌/◌, ◌%◌, ◌<◌, ◌≤◌, Bool, Option, ◌&&◌, ◌||◌, ◌==◌, not, cond, IsTrue, List, [], ◌∷◌, nat_le, nat_lt, take, length, is_some}
+use Rattle.std.specs.Prelude.{◌≡◌, ◌↔◌, ◌⊎◌, ℕ, zero, suc, ◌+◌, ◌-◌, ◌*◌, ◌/◌, ◌%◌, ◌<◌, ◌≤◌, Bool, Option, ◌&&◌, ◌||◌, ◌==◌, not, cond, IsTrue, IsFalse, List, [], ◌∷◌, nat_le, nat_lt, take, length, is_some}
 use Rattle.std.specs.List.{list_all, flat_map, range_with_len}
 use Rattle.std.specs.Int.{w64, from_be_bytes}
 use Rattle.std.specs.Ordering.{nat_cmp}
@@ -11,7 +11,7 @@ use Rattle.iso_model.specs.Array.{Array}
 use Rattle.iso_model.specs.Premises.{block_at}
 use Rattle.iso_model.specs.Geometry.{is_block_size}
 use Rattle.iso_model.specs.Stores.{bytes_in}
-use Rattle.iso_model.specs.Cells.{cell_count, keys_mark, key_mark, value_mark, word_at, is_zero, is_part, text_of, is_used, key_at, are_key_parts}
+use Rattle.iso_model.specs.Cells.{cell_count, keys_mark, key_mark, value_mark, word_at, is_zero, is_part, text_of, is_unused, key_at, are_key_parts}
 use Rattle.iso_model.specs.FreeMap.{map_bytes, map_bit}
 
 -- what a store holds: values under keys
@@ -77,7 +77,7 @@ chain a keys bucket = chain_from keys (last_position a + 1) (1 + bucket)
 abbrev pub pairs_from : (keys : List ℕ) → (value : ℕ → List ℕ) → (i n : ℕ) → List (List ℕ × List ℕ)
 pairs_from keys value i zero = []
 pairs_from keys value i (suc n) =
-    cond (is_used keys i) ((key_at keys i, text_of (value i)) ∷ pairs_from keys value (i + 1) n) (pairs_from keys value (i + 1) n)
+    cond (is_unused keys i) (pairs_from keys value (i + 1) n) ((key_at keys i, text_of (value i)) ∷ pairs_from keys value (i + 1) n)
 
 -- the pairs of blocks, of a bucket, of the region
 abbrev pub pairs_of : Area → (ℕ → List ℕ) → (ℕ → ℕ → List ℕ) → List ℕ → List (List ℕ × List ℕ)
@@ -110,7 +110,7 @@ pub record Stands (a : Area) (keys : ℕ → List ℕ) (bucket block cell : ℕ)
   pub bucket_is : bucket < buckets a
   pub block_is : IsIn block (chain a keys bucket)
   pub cell_is : cell < cell_count a.size
-  pub used : IsTrue (is_used (keys block) cell)
+  pub used : IsFalse (is_unused (keys block) cell)
 
 -- an overflow block that is linked
 pub record IsOverflow (a : Area) (keys : ℕ → List ℕ) (block : ℕ) : Type 0 where
@@ -132,7 +132,7 @@ pub record IsKeyed (a : Area) (keys : ℕ → List ℕ) (first : List ℕ) : Typ
 -- the value parts of the linked blocks are well formed, and zero where their cell is not used
 abbrev pub HaveValues : Area → (ℕ → List ℕ) → (ℕ → ℕ → List ℕ) → Type 0
 HaveValues a keys value = (b k i : ℕ) → b < buckets a → IsIn k (chain a keys b) → i < cell_count a.size
-    → IsTrue (is_part 32 (value k i)) × (IsTrue (not (is_used (keys k) i)) → IsTrue (list_all is_zero (value k i)))
+    → IsTrue (is_part 32 (value k i)) × (IsTrue (is_unused (keys k) i) → IsTrue (list_all is_zero (value k i)))
 
 -- a hash region that is well formed
 pub record IsHashRegion (a : Area) (A : Array) : Type 0 where
