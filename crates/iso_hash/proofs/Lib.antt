@@ -1,0 +1,5 @@
+pub mod Finding
+pub mod Chains
+pub mod Ways
+pub mod Moves
+pub mod Gets

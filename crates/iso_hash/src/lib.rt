@@ -1,0 +1,4 @@
+//! The hash store over the blocks of a transaction.
+#![tactic(auto)]
+
+mod bucket;
