@@ -3,3 +3,4 @@ pub mod Chains
 pub mod Ways
 pub mod Moves
 pub mod Gets
+pub mod Walking

@@ -2,3 +2,4 @@ pub mod Programs
 pub mod Outcomes
 pub mod Progress
 pub mod Marking
+pub mod Refusals

@@ -10,7 +10,7 @@ use Rattle.iso_model.specs.Effect.{own, is_write}
 use Rattle.iso_model.specs.Premises.{block_at}
 use Rattle.iso_model.specs.Stores.{Program, Done, Look, LookWhole, Reserve, Store, bytes_in, further_bytes, with_further, look_access, store_access, accesses_of, answer_of, after, outcome, then_do}
 use Rattle.tx_blocks.specs.Tx.{Tx, with_accesses, added, room_of}
-use Rattle.tx_blocks.specs.Runs.{Ends, Ran, Stopped, HasGrown}
+use Rattle.tx_blocks.specs.Runs.{Ends, Ran, Stopped}
 use Rattle.tx_blocks.proofs.Outcomes.{IsWhole, outcome_whole, outcome_then, outcome_cut}
 
 pub own_append : (A : Array) (xs ys : List Access) → own A (xs ++ ys) ≡ own (own A xs) ys
@@ -31,9 +31,6 @@ with_more t xs ys = ap (λ accesses. record t { accesses = accesses }) (append_a
 
 pub at_start : {R : Type 0} (p : Program R) (t : Tx) → IsAt p p t t
 at_start p t = record { done = []; is = sym (with_none t); told = λ A is. refl }
-
-pub has_grown : {R : Type 0} (whole rest : Program R) (t u : Tx) → IsAt whole rest t u → HasGrown t u
-has_grown whole rest t u now = record { done = now.done; is = now.is }
 
 pub same_base : {R : Type 0} (whole rest : Program R) (t u : Tx) → IsAt whole rest t u → u.base ≡ t.base
 same_base whole rest t u now = ap (λ (w : Tx). w.base) now.is

@@ -1,5 +1,5 @@
 -- How a store's call that follows a program ends.
-use Rattle.std.specs.Prelude.{◌≡◌, ℕ, ◌+◌, ◌<◌, ◌≤◌, Bool, false, IsTrue, List, Option, Some, None, Result, Ok, Err, length, take}
+use Rattle.std.specs.Prelude.{◌≡◌, ◌≢◌, ℕ, ◌+◌, ◌<◌, ◌≤◌, Bool, false, IsTrue, List, Option, Some, None, Result, Ok, Err, length, take}
 use Rattle.std.specs.Option.{ForSome}
 use Rattle.fault_count.specs.Count.{Rose}
 use Rattle.iso_model.specs.declared.access.Access.{Access}
@@ -18,11 +18,6 @@ use Rattle.tx_blocks.specs.Tx.{Tx, Device, with_accesses, added, room_of}
 abbrev pub area_of : Tx → Region → Area
 area_of t region = record { size = t.size; start = region.start; blocks = region.size }
 
--- the transaction has further accesses, and is else as before
-pub record HasGrown (t u : Tx) : Type 0 where
-  pub done : List Access
-  pub is : u ≡ with_accesses t done
-
 -- The call made these accesses; where the array is told, they are those of the program, which ends so.
 pub record Ends {R : Type 0} (p : Program R) (t u : Tx) (end : Option R) : Type 0 where
   pub done : List Access
@@ -39,23 +34,28 @@ pub record Stopped {R : Type 0} (p : Program R) (t u : Tx) : Type 0 where
   pub is : u ≡ with_accesses t done
   pub told : ForSome t.base (λ A. (n : ℕ) × (done ≡ take n (outcome (room_of t) p (own A t.accesses)).0))
 
--- How a store's call that follows the program ends: as the program does; at the first access or reservation that does not fit;
--- earlier, where the transaction refuses for another cause; or, without memory for its buffers, having done nothing.
+-- How a program ends of which the transaction refuses an access: at the first access or reservation that does not fit, or earlier,
+-- for another cause.
+abbrev pub IsCut : {R : Type 0} → Program R → (t u : Tx) → TxError → Type 0
+IsCut p t u error.TooManyAccesses = Ends p t u None
+IsCut p t u error.Memory = Stopped p t u
+IsCut p t u error.Down = Stopped p t u
+IsCut p t u error.Disk = Stopped p t u
+IsCut p t u error.NotInTx = Stopped p t u
+IsCut p t u error.BadBlock = ⊥
+IsCut p t u error.BadRange = ⊥
+IsCut p t u error.NoAccess = ⊥
+IsCut p t u error.TooManyMarks = ⊥
+
+-- How a store's call that follows the program ends: as the program does; where the transaction refuses an access; or, without
+-- memory for its buffers, having done nothing.
 abbrev pub HasEnded : {X : Type 0} → Program (Result X StoreError) → (t u : Tx) → Result X StoreError → Type 0
 HasEnded p t u (Ok x) = Ran p t u (Ok x)
 HasEnded p t u (Err store.BadKey) = Ran p t u (Err store.BadKey)
 HasEnded p t u (Err store.BadValue) = Ran p t u (Err store.BadValue)
 HasEnded p t u (Err (store.NoBlocks need free)) = Ran p t u (Err (store.NoBlocks need free))
 HasEnded p t u (Err (store.Broken block)) = Ran p t u (Err (store.Broken block))
-HasEnded p t u (Err (store.Tx error.TooManyAccesses)) = Ends p t u None
-HasEnded p t u (Err (store.Tx error.Memory)) = Stopped p t u
-HasEnded p t u (Err (store.Tx error.Down)) = Stopped p t u
-HasEnded p t u (Err (store.Tx error.Disk)) = Stopped p t u
-HasEnded p t u (Err (store.Tx error.NotInTx)) = u ≡ t
-HasEnded p t u (Err (store.Tx error.BadBlock)) = ⊥
-HasEnded p t u (Err (store.Tx error.BadRange)) = ⊥
-HasEnded p t u (Err (store.Tx error.NoAccess)) = ⊥
-HasEnded p t u (Err (store.Tx error.TooManyMarks)) = ⊥
+HasEnded p t u (Err (store.Tx e)) = IsCut p t u e
 HasEnded p t u (Err store.Memory) = u ≡ t
 
 -- Why a transaction refuses an access of a store's call that makes at most so many writes: the disk is down or failed in this
@@ -80,22 +80,15 @@ IsStoreCause u writes before now (store.NoBlocks need free) = Unit {0}
 IsStoreCause u writes before now (store.Broken block) = Unit {0}
 IsStoreCause u writes before now store.Memory = Unit {0}
 
+-- the transaction has further reads, and is else as before
+pub record HasRead (t u : Tx) : Type 0 where
+  pub done : List Access
+  pub is : u ≡ with_accesses t done
+  pub reads : AreReads done
+
 -- a refused call has written nothing, but where memory is wanted between two writes
 abbrev pub IsUnwritten : (t u : Tx) → StoreError → Type 0
-IsUnwritten t u (store.Tx error.Memory) = Unit {0}
-IsUnwritten t u (store.Tx error.BadBlock) = AreReads (added t u)
-IsUnwritten t u (store.Tx error.BadRange) = AreReads (added t u)
-IsUnwritten t u (store.Tx error.NoAccess) = AreReads (added t u)
-IsUnwritten t u (store.Tx error.TooManyMarks) = AreReads (added t u)
-IsUnwritten t u (store.Tx error.TooManyAccesses) = AreReads (added t u)
-IsUnwritten t u (store.Tx error.Down) = AreReads (added t u)
-IsUnwritten t u (store.Tx error.Disk) = AreReads (added t u)
-IsUnwritten t u (store.Tx error.NotInTx) = AreReads (added t u)
-IsUnwritten t u store.BadKey = AreReads (added t u)
-IsUnwritten t u store.BadValue = AreReads (added t u)
-IsUnwritten t u (store.NoBlocks need free) = AreReads (added t u)
-IsUnwritten t u (store.Broken block) = AreReads (added t u)
-IsUnwritten t u store.Memory = AreReads (added t u)
+IsUnwritten t u e = e ≢ store.Tx error.Memory → HasRead t u
 
 -- where the array is told, the call is local for the operation on the map of its region
 abbrev pub IsLocalCall : {M R : Type 0} → (Array → Type 0) → (Array → M) → (M → R × M) → (t u : Tx) → R → Type 0
