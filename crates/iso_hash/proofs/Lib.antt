@@ -4,3 +4,10 @@ pub mod Ways
 pub mod Moves
 pub mod Gets
 pub mod Walking
+pub mod Getting
+pub mod Frames
+pub mod Rewritten
+pub mod Puts
+pub mod Links
+pub mod Pigeons
+pub mod NewBlocks

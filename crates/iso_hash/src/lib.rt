@@ -2,4 +2,8 @@
 #![tactic(auto)]
 
 mod bucket;
+mod buffer;
+mod lookup;
 mod walk;
+
+pub use lookup::get;
