@@ -11,3 +11,6 @@ pub mod Puts
 pub mod Links
 pub mod Pigeons
 pub mod NewBlocks
+pub mod Grown
+pub mod Dels
+pub mod Changes
