@@ -3,3 +3,4 @@ pub mod Outcomes
 pub mod Progress
 pub mod Marking
 pub mod Refusals
+pub mod Parts

@@ -26,7 +26,7 @@ pub record IsAt {R : Type 0} (whole rest : Program R) (t u : Tx) : Type 0 where
 with_none : (t : Tx) → with_accesses t [] ≡ t
 with_none t = ap (λ accesses. record t { accesses = accesses }) (append-nil t.accesses)
 
-with_more : (t : Tx) (xs ys : List Access) → with_accesses (with_accesses t xs) ys ≡ with_accesses t (xs ++ ys)
+pub with_more : (t : Tx) (xs ys : List Access) → with_accesses (with_accesses t xs) ys ≡ with_accesses t (xs ++ ys)
 with_more t xs ys = ap (λ accesses. record t { accesses = accesses }) (append_assoc t.accesses xs ys)
 
 pub at_start : {R : Type 0} (p : Program R) (t : Tx) → IsAt p p t t

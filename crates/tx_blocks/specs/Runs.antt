@@ -1,5 +1,5 @@
 -- How a store's call that follows a program ends.
-use Rattle.std.specs.Prelude.{◌≡◌, ◌≢◌, ℕ, ◌+◌, ◌<◌, ◌≤◌, Bool, false, IsTrue, List, Option, Some, None, Result, Ok, Err, length, take}
+use Rattle.std.specs.Prelude.{◌≡◌, ◌≢◌, ℕ, ◌+◌, ◌<◌, ◌≤◌, Bool, false, IsTrue, List, Option, Some, None, Result, Ok, Err, IfErr, OnOk, length, take}
 use Rattle.std.specs.Option.{ForSome}
 use Rattle.fault_count.specs.Count.{Rose}
 use Rattle.iso_model.specs.declared.access.Access.{Access}
@@ -12,7 +12,7 @@ use Rattle.iso_model.specs.declared.stores.TxError.TheVariants as error
 use Rattle.iso_model.specs.Array.{Array}
 use Rattle.iso_model.specs.Effect.{own}
 use Rattle.iso_model.specs.Stores.{Program, outcome, AreReads, IsLocal}
-use Rattle.tx_blocks.specs.Tx.{Tx, Device, with_accesses, added, room_of}
+use Rattle.tx_blocks.specs.Tx.{Tx, Device, IsLater, with_accesses, added, room_of}
 
 -- the area of a region of the transaction's blocks
 abbrev pub area_of : Tx → Region → Area
@@ -47,15 +47,24 @@ IsCut p t u error.BadRange = ⊥
 IsCut p t u error.NoAccess = ⊥
 IsCut p t u error.TooManyMarks = ⊥
 
--- How a store's call that follows the program ends: as the program does; where the transaction refuses an access; or, without
--- memory for its buffers, having done nothing.
+-- how a call that follows the program ends, and takes no memory of its own: as the program does, or where an access is refused
+abbrev pub HasRun : {X : Type 0} → Program (Result X StoreError) → (t u : Tx) → Result X StoreError → Type 0
+HasRun p t u (Ok x) = Ran p t u (Ok x)
+HasRun p t u (Err store.BadKey) = Ran p t u (Err store.BadKey)
+HasRun p t u (Err store.BadValue) = Ran p t u (Err store.BadValue)
+HasRun p t u (Err (store.NoBlocks need free)) = Ran p t u (Err (store.NoBlocks need free))
+HasRun p t u (Err (store.Broken block)) = Ran p t u (Err (store.Broken block))
+HasRun p t u (Err (store.Tx e)) = IsCut p t u e
+HasRun p t u (Err store.Memory) = ⊥
+
+-- How a store's call ends: so, or without memory for its buffers, having done nothing.
 abbrev pub HasEnded : {X : Type 0} → Program (Result X StoreError) → (t u : Tx) → Result X StoreError → Type 0
-HasEnded p t u (Ok x) = Ran p t u (Ok x)
-HasEnded p t u (Err store.BadKey) = Ran p t u (Err store.BadKey)
-HasEnded p t u (Err store.BadValue) = Ran p t u (Err store.BadValue)
-HasEnded p t u (Err (store.NoBlocks need free)) = Ran p t u (Err (store.NoBlocks need free))
-HasEnded p t u (Err (store.Broken block)) = Ran p t u (Err (store.Broken block))
-HasEnded p t u (Err (store.Tx e)) = IsCut p t u e
+HasEnded p t u (Ok x) = HasRun p t u (Ok x)
+HasEnded p t u (Err store.BadKey) = HasRun p t u (Err store.BadKey)
+HasEnded p t u (Err store.BadValue) = HasRun p t u (Err store.BadValue)
+HasEnded p t u (Err (store.NoBlocks need free)) = HasRun p t u (Err (store.NoBlocks need free))
+HasEnded p t u (Err (store.Broken block)) = HasRun p t u (Err (store.Broken block))
+HasEnded p t u (Err (store.Tx e)) = HasRun p t u (Err (store.Tx e))
 HasEnded p t u (Err store.Memory) = u ≡ t
 
 -- Why a transaction refuses an access of a store's call that makes at most so many writes: the disk is down or failed in this
@@ -89,6 +98,15 @@ pub record HasRead (t u : Tx) : Type 0 where
 -- a refused call has written nothing, but where memory is wanted between two writes
 abbrev pub IsUnwritten : (t u : Tx) → StoreError → Type 0
 IsUnwritten t u e = e ≢ store.Tx error.Memory → HasRead t u
+
+-- What a part of a call leaves, whatever the bytes: why it is refused, and that a refusal has written nothing and is not of the
+-- arguments; that the disk's faults do not fall, and stand after Ok where they stood.
+pub record Behaves {R : Type 0} (t u : Tx) (writes : ℕ) (before now : Device) (result : Result R StoreError) : Type 0 where
+  pub cause : IfErr result (IsStoreCause u writes before now)
+  pub unwritten : IfErr result (IsUnwritten t u)
+  pub known : IfErr result (λ e. (e ≢ store.BadKey) × (e ≢ store.BadValue))
+  pub later : IsLater before now
+  pub passed : OnOk result (now.faults ≡ before.faults)
 
 -- where the array is told, the call is local for the operation on the map of its region
 abbrev pub IsLocalCall : {M R : Type 0} → (Array → Type 0) → (Array → M) → (M → R × M) → (t u : Tx) → R → Type 0
