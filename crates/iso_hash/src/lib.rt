@@ -5,5 +5,6 @@ mod bucket;
 mod buffer;
 mod lookup;
 mod walk;
+mod writes;
 
 pub use lookup::get;
