@@ -31,7 +31,7 @@ use Rattle.iso_hash.proofs.Finding.{ties, cases_key}
 use Rattle.iso_hash.proofs.Frames.{length-part_of}
 use Rattle.iso_hash.proofs.Gets.{bucket_below, key_some, key_short, walk_is_reads, walk_found, walk_missed, found_stands, missed_nowhere, get_found, get_none}
 use Rattle.iso_hash.proofs.Grown.{put_grown}
-use Rattle.iso_hash.proofs.Links.{length-block_with}
+use Rattle.iso_hash.proofs.Linking.{length-block_with}
 use Rattle.iso_hash.proofs.NewBlocks.{size_most, length-new_block}
 use Rattle.iso_hash.proofs.Puts.{HasPut, put_found, put_spare, length-with_cell, cells_fit}
 use Rattle.iso_hash.proofs.Ways.{Way, way, first_below, first_passes, cell_below, Found, Missed, IsSpare}
@@ -134,7 +134,7 @@ put_done a key value A (AtEnd None last place) r area region is short end answer
     put_done_new a key value A last place (lowest_free (bytes_in (map_mark a.blocks) (block_at A a.start)) (buckets a + 1) (last_position a)) r area region is short end refl answer
 put_done a key value A (AtBroken block) r area region is short end answer = absurd (no_ok (Broken block) r answer)
 
-put_is : (a : Area) (key value : List ℕ) → is_key key ≡ true → is_value value ≡ true → put_program a key value ≡ then_do (walk a key false) (put_at a key value)
+pub put_is : (a : Area) (key value : List ℕ) → is_key key ≡ true → is_value value ≡ true → put_program a key value ≡ then_do (walk a key false) (put_at a key value)
 unfolding put_program
 put_is a key value is short = rw (is, short) refl
 
@@ -293,14 +293,14 @@ module _ (a : Area) (key : List ℕ) (A : Array) (s : Spot) (before : ℕ) (ks v
       ]
 
 -- a removal that gives the block back, and one that leaves it
-abbrev give_back_block : Area → Spot → (before : ℕ) → Program (Result Bool StoreError)
+abbrev pub give_back_block : Area → Spot → (before : ℕ) → Program (Result Bool StoreError)
 give_back_block a s before =
     Look a.start (map_mark a.blocks) (λ map. None) (λ map none.
     Reserve 2
     (Store a.start (bit_mark s.block ∷ []) (block_with a.size (bit_place s.block) (clear_bit (get_or map (bit_place s.block) 0) s.block ∷ []))
     (Store (a.start + before) (next_mark ∷ []) (replicate a.size 0) (Done (Ok true)))))
 
-abbrev make_zero : Area → Spot → Program (Result Bool StoreError)
+abbrev pub make_zero : Area → Spot → Program (Result Bool StoreError)
 make_zero a s = Store (a.start + s.block) (key_mark s.cell ∷ value_mark a.size s.cell ∷ []) (replicate a.size 0) (Done (Ok true))
 
 del_done : (a : Area) (key : List ℕ) (A : Array) (w : Walked) (r : Bool) → IsHashArea a → IsHashRegion a A → is_key key ≡ true → answer_of (walk a key false) A ≡ w → answer_of (del_at a w) A ≡ Ok r
@@ -316,7 +316,7 @@ del_done a key A (AtEnd spare last place) r area region is end answer =
     subst (HasDeleted a key A A) (same_ok false r answer) (record { answer = ap is_some none; region = region; map_is = remove_missing (hash_map a A) key none })
 del_done a key A (AtBroken block) r area region is end answer = absurd (no_ok (Broken block) r answer)
 
-del_is : (a : Area) (key : List ℕ) → is_key key ≡ true → del_program a key ≡ then_do (walk a key false) (del_at a)
+pub del_is : (a : Area) (key : List ℕ) → is_key key ≡ true → del_program a key ≡ then_do (walk a key false) (del_at a)
 unfolding del_program
 del_is a key is = rw is refl
 

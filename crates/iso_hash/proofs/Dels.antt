@@ -21,7 +21,7 @@ use Rattle.iso_alloc.proofs.Bits.{bits_without}
 use Rattle.iso_alloc.proofs.Loops.{all_at}
 use Rattle.iso_hash.proofs.Chains.{placed, block_inside, one_bucket, linked_split, linked_join, linked_alike, LinkedAlike, length-chain_from, in_left, in_right, in_either, not_twice}
 use Rattle.iso_hash.proofs.Frames.{zero_part, zeros_are, piece_zero}
-use Rattle.iso_hash.proofs.Links.{chain_of, byte_here, byte_far, head_far, piece_far, key_far, next_here, relinked}
+use Rattle.iso_hash.proofs.Linking.{chain_of, byte_here, byte_far, head_far, piece_far, key_far, next_here, relinked}
 use Rattle.iso_hash.proofs.Moves.{IsSame, Moves, StandsNowhere, map_removed, buckets_nowhere, apart_nowhere}
 use Rattle.iso_hash.proofs.Rewritten.{IsRewritten, rewrites, is_spot, chain_same, linked_kept, bits_kept, same_there, same_before, values_kept}
 

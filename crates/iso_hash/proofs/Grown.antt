@@ -23,7 +23,7 @@ use Rattle.iso_alloc.proofs.Bits.{bits_with}
 use Rattle.iso_hash.proofs.Chains.{Placed, placed, block_inside, one_bucket, linked_split, linked_join, linked_alike, LinkedAlike, length-chain_from, in_left, in_right, in_either, not_twice, all_in, distinct, next_in, head_of}
 use Rattle.iso_hash.proofs.Frames.{laid_whole, part_is_part, part_text, zero_part, zeros_are}
 use Rattle.iso_hash.proofs.Gets.{bucket_below}
-use Rattle.iso_hash.proofs.Links.{chain_of, byte_here, byte_far, head_far, piece_far, key_far, next_here, relinked, length-block_with, in_block_with}
+use Rattle.iso_hash.proofs.Linking.{chain_of, byte_here, byte_far, head_far, piece_far, key_far, next_here, relinked, length-block_with, in_block_with}
 use Rattle.iso_hash.proofs.Moves.{IsSame, Moves, StandsAt, map_put, buckets_at, apart_at}
 use Rattle.iso_hash.proofs.NewBlocks.{size_most, length-new_block, new_next, new_key_here, new_unused, new_value_here, new_value_blank, new_linked}
 use Rattle.iso_hash.proofs.Pigeons.{fewer}

@@ -8,9 +8,10 @@ pub mod Getting
 pub mod Frames
 pub mod Rewritten
 pub mod Puts
-pub mod Links
+pub mod Linking
 pub mod Pigeons
 pub mod NewBlocks
 pub mod Grown
 pub mod Dels
 pub mod Changes
+pub mod Storing

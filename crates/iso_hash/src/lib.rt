@@ -3,8 +3,13 @@
 
 mod bucket;
 mod buffer;
+mod insert;
+mod links;
 mod lookup;
+mod remove;
 mod walk;
 mod writes;
 
+pub use insert::put;
 pub use lookup::get;
+pub use remove::del;

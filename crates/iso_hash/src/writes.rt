@@ -140,17 +140,20 @@ pub fn clear_cell<T: TxBlocks>(
     area: Area,
     spot: Spot,
     buffer: &mut [u8],
-) -> Result<(), StoreError>
+) -> Result<bool, StoreError>
     requires area { IsHashArea area }
     requires size { (T.state tx.old).size ≡ area.size }
     requires fits { area.start + area.blocks ≤ (T.state tx.old).blocks }
     requires buffer { length buffer.old ≡ area.size }
     requires spot { IsSpot area spot }
-    ensures run { HasRun (Store (area.start + spot.block) (key_mark spot.cell ∷ value_mark area.size spot.cell ∷ []) (replicate area.size 0) (Done (Ok tt)))
+    ensures run { HasRun (Store (area.start + spot.block) (key_mark spot.cell ∷ value_mark area.size spot.cell ∷ []) (replicate area.size 0) (Done (Ok true)))
         (T.state tx.old) (T.state tx.new) result }
     ensures behaves { Behaves (T.state tx.old) (T.state tx.new) 1 (T.device tx.old) (T.device tx.new) result }
 {
     buffer.fill(0);
     let spans = cell_marks(area.size as usize, spot.cell);
-    last_store(tx, area.start + spot.block, &spans, buffer)
+    match store(tx, area.start + spot.block, &spans, buffer) {
+        Ok(()) => Ok(true),
+        Err(e) => Err(StoreError::Tx(e)),
+    }
 }

@@ -112,3 +112,28 @@ refused_memory {R = R} t v writes before now e is same = subst (λ (x : TxError)
 
 pub done_so : {R : Type 0} (t v : Tx) (writes : ℕ) (before now : Device) (r : R) → now ≡ before → Behaves t v writes before now (Ok r)
 done_so t v writes before now r same = record { cause = tt; unwritten = tt; known = tt; later = later_same before now same; passed = ap (λ (d : Device). d.faults) same }
+
+-- a call has further accesses, and the transaction is else as before
+pub record HasGrown (t u : Tx) : Type 0 where
+  pub done : List Access
+  pub is : u ≡ with_accesses t done
+
+cut_grows : {R : Type 0} (p : Program R) (t u : Tx) (e : TxError) → IsCut p t u e → HasGrown t u
+cut_grows p t u error.TooManyAccesses cut = record { done = cut.done; is = cut.is }
+cut_grows p t u error.Memory cut = record { done = cut.done; is = cut.is }
+cut_grows p t u error.Down cut = record { done = cut.done; is = cut.is }
+cut_grows p t u error.Disk cut = record { done = cut.done; is = cut.is }
+cut_grows p t u error.NotInTx cut = record { done = cut.done; is = cut.is }
+cut_grows p t u error.BadBlock cut = absurd cut
+cut_grows p t u error.BadRange cut = absurd cut
+cut_grows p t u error.NoAccess cut = absurd cut
+cut_grows p t u error.TooManyMarks cut = absurd cut
+
+pub ended_grows : {X : Type 0} (p : Program (Result X StoreError)) (t u : Tx) (result : Result X StoreError) → HasEnded p t u result → HasGrown t u
+ended_grows p t u (Ok x) ended = record { done = ended.done; is = ended.is }
+ended_grows p t u (Err store.BadKey) ended = record { done = ended.done; is = ended.is }
+ended_grows p t u (Err store.BadValue) ended = record { done = ended.done; is = ended.is }
+ended_grows p t u (Err (store.NoBlocks need free)) ended = record { done = ended.done; is = ended.is }
+ended_grows p t u (Err (store.Broken block)) ended = record { done = ended.done; is = ended.is }
+ended_grows p t u (Err (store.Tx e)) ended = cut_grows p t u e ended
+ended_grows p t u (Err store.Memory) ended = record { done = []; is = ended ∙ sym (ap (λ accesses. record t { accesses = accesses }) (Rattle.std.proofs.lemmas.List.append-nil t.accesses)) }
