@@ -5,6 +5,7 @@ use Rattle.std.specs.Option.{ForSome}
 use Rattle.iso_model.specs.declared.access.Access.{Access}
 use Rattle.iso_model.specs.declared.access.Span.{Span}
 use Rattle.iso_model.specs.declared.stores.Area.{Area}
+use Rattle.iso_model.specs.declared.stores.Region.{Region}
 use Rattle.iso_model.specs.declared.stores.Spot.{Spot}
 use Rattle.iso_model.specs.declared.stores.StoreError.{StoreError}
 use Rattle.iso_model.specs.declared.stores.StoreError.TheVariants as store
@@ -24,10 +25,10 @@ use Rattle.iso_model.specs.HashCalls.{walk, new_block, is_spent, put_new, put_at
 use Rattle.iso_model.specs.HashRegion.{bucket_of, buckets, last_position, IsHashArea, IsHashRegion, hash_map, put_op, del_op}
 use Rattle.iso_model.proofs.Bytes.{length-block_own}
 use Rattle.tx_blocks.specs.Tx.{Tx, Device, IsLater, IsTx, with_accesses, room_of}
-use Rattle.tx_blocks.specs.Runs.{Ran, Ends, IsCut, HasRun, HasRead, IsCause, IsStoreCause, IsUnwritten, Behaves, IsLocalCall}
+use Rattle.tx_blocks.specs.Runs.{area_of, Ran, Ends, IsCut, HasRun, HasEnded, HasRead, IsCause, IsStoreCause, IsUnwritten, Behaves, IsLocalCall}
 use Rattle.tx_blocks.proofs.Progress.{IsAt, at_start, at_then, at_look, at_store, at_reserve, ran_at, full_at_reserve, whole_run}
 use Rattle.tx_blocks.proofs.Refusals.{cut_then, cut_at_look, cut_at_store, later_same, read_none, store_cause}
-use Rattle.tx_blocks.proofs.Parts.{run_from, refused_so, refused_memory, done_so, behaves_after}
+use Rattle.tx_blocks.proofs.Parts.{run_from, ended_from, refused_so, refused_memory, done_so, behaves_after}
 use Rattle.iso_hash.proofs.Changes.{put_is, del_is, put_local, del_local, HasBlocks, give_back_block, make_zero}
 use Rattle.iso_hash.specs.Walks.{HasWalked}
 
@@ -221,3 +222,43 @@ given_back a s before byte t u v bytes new result area told tx is inside long ne
     run_from (give_back_block a s before) (shrinking a s.block before (clear_bit (get_or map (bit_place s.block) 0) s.block)) t u v result
     (at_look (give_back_block a s before) a.start (map_mark a.blocks) (λ m. None) (λ m none. shrinking a s.block before (clear_bit (get_or m (bit_place s.block) 0) s.block)) t t u bytes (at_start (give_back_block a s before) t) told tx.count is)
     (subst (λ (y : ℕ). HasRun (shrinking a s.block before y) u v result) x run)
+
+-- arguments that are refused
+pub put_bad_key : (a : Area) (key value : List ℕ) (t : Tx) → is_key key ≡ false → Ran (put_program a key value) t t (Err store.BadKey)
+unfolding put_program
+put_bad_key a key value t not_key = rw not_key (ran_at (Done (Err store.BadKey)) t t (Err store.BadKey) (at_start (Done (Err store.BadKey)) t))
+
+pub put_bad_value : (a : Area) (key value : List ℕ) (t : Tx) → is_key key ≡ true → is_value value ≡ false → Ran (put_program a key value) t t (Err store.BadValue)
+unfolding put_program
+put_bad_value a key value t is not_value = rw (is, not_value) (ran_at (Done (Err store.BadValue)) t t (Err store.BadValue) (at_start (Done (Err store.BadValue)) t))
+
+pub del_bad_key : (a : Area) (key : List ℕ) (t : Tx) → is_key key ≡ false → Ran (del_program a key) t t (Err store.BadKey)
+unfolding del_program
+del_bad_key a key t not_key = rw not_key (ran_at (Done (Err store.BadKey)) t t (Err store.BadKey) (at_start (Done (Err store.BadKey)) t))
+
+-- the area that the code has is that of the transaction's region
+module _ (t u : Tx) (region : Region) (size : ℕ) (key value : List ℕ) (result : Result (Unit {0}) StoreError) (same : size ≡ t.size)
+    (run : HasRun (put_program (record { size = size; start = region.start; blocks = region.size }) key value) t u result) where
+  put_run : HasRun (put_program (area_of t region) key value) t u result
+  put_run = subst (λ (n : ℕ). HasRun (put_program (record { size = n; start = region.start; blocks = region.size }) key value) t u result) same run
+
+pub put_in_area : (t u : Tx) (region : Region) (size : ℕ) (key value : List ℕ) (result : Result (Unit {0}) StoreError) → size ≡ t.size
+    → HasRun (put_program (record { size = size; start = region.start; blocks = region.size }) key value) t u result → HasEnded (put_program (area_of t region) key value) t u result
+put_in_area t u region size key value result same run = ended_from (put_program (area_of t region) key value) t u result (put_run t u region size key value result same run)
+
+pub put_call_in : (t u : Tx) (region : Region) (size : ℕ) (key value : List ℕ) (result : Result (Unit {0}) StoreError) → size ≡ t.size → IsHashArea (area_of t region) → is_key key ≡ true → is_value value ≡ true → IsTx t → region.start + region.size ≤ t.blocks
+    → HasRun (put_program (record { size = size; start = region.start; blocks = region.size }) key value) t u result → IfOk result (IsLocalCall (IsHashRegion (area_of t region)) (hash_map (area_of t region)) (put_op key value) t u)
+put_call_in t u region size key value result same area is short tx fits run = put_call (area_of t region) key value t u result area is short tx refl fits (put_run t u region size key value result same run)
+
+module _ (t u : Tx) (region : Region) (size : ℕ) (key : List ℕ) (result : Result Bool StoreError) (same : size ≡ t.size)
+    (run : HasRun (del_program (record { size = size; start = region.start; blocks = region.size }) key) t u result) where
+  del_run : HasRun (del_program (area_of t region) key) t u result
+  del_run = subst (λ (n : ℕ). HasRun (del_program (record { size = n; start = region.start; blocks = region.size }) key) t u result) same run
+
+pub del_in_area : (t u : Tx) (region : Region) (size : ℕ) (key : List ℕ) (result : Result Bool StoreError) → size ≡ t.size
+    → HasRun (del_program (record { size = size; start = region.start; blocks = region.size }) key) t u result → HasEnded (del_program (area_of t region) key) t u result
+del_in_area t u region size key result same run = ended_from (del_program (area_of t region) key) t u result (del_run t u region size key result same run)
+
+pub del_call_in : (t u : Tx) (region : Region) (size : ℕ) (key : List ℕ) (result : Result Bool StoreError) → size ≡ t.size → IsHashArea (area_of t region) → is_key key ≡ true → IsTx t → region.start + region.size ≤ t.blocks
+    → HasRun (del_program (record { size = size; start = region.start; blocks = region.size }) key) t u result → IfOk result (IsLocalCall (IsHashRegion (area_of t region)) (hash_map (area_of t region)) (del_op key) t u)
+del_call_in t u region size key result same area is tx fits run = del_call (area_of t region) key t u result area is tx refl fits (del_run t u region size key result same run)

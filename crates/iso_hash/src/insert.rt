@@ -1,17 +1,47 @@
 // The put of a key.
-ghost use Rattle.std.specs.Prelude.{◌≡◌, ◌↔◌, ◌+◌, ◌<◌, ◌≤◌, Err, IsFalse, IsTrue, true, IfOk, IfErr, OnOk, length};
-ghost use Rattle.iso_model.specs.HashCalls.{is_key, is_value, put_program};
+ghost use Rattle.std.specs.Prelude.{◌≡◌, ◌↔◌, ◌+◌, ◌<◌, ◌≤◌, Err, IsFalse, IsTrue, true, IfOk, IfErr, IfSome, OnOk, length};
+ghost use Rattle.iso_model.specs.HashCalls.{is_key, is_value, put_at, put_program, AtEnd};
 ghost use Rattle.iso_model.specs.HashRegion.{hash_map, put_op, IsHashArea, IsHashRegion};
 ghost use Rattle.tx_blocks.specs.Tx.{IsLater};
 ghost use Rattle.tx_blocks.specs.Runs.{area_of, Behaves, HasEnded, HasRun, IsLocalCall, IsStoreCause, IsUnwritten};
+ghost use Rattle.iso_hash.specs.Walks.{IsSpot};
 
 use crate::buffer::{buffer, is_key, is_value};
 use crate::links::put_block;
 use crate::walk::{Walked, walk};
 use crate::writes::{put_cell, put_value};
-use iso_model::{Area, Region, StoreError};
+use iso_model::{Area, Region, Spot, StoreError};
 use std::alloc::Global;
 use tx_blocks::TxBlocks;
+
+// Puts a key that the walk did not find.
+fn put_missing<T: TxBlocks>(
+    tx: &mut T,
+    area: Area,
+    key: &[u8],
+    value: &[u8],
+    spare: Option<Spot>,
+    last: u32,
+    position: u32,
+    block: &mut [u8],
+) -> Result<(), StoreError>
+    requires area { IsHashArea area }
+    requires size { (T.state tx.old).size ≡ area.size }
+    requires fits { area.start + area.blocks ≤ (T.state tx.old).blocks }
+    requires key { length key.now ≤ 28 }
+    requires value { length value.now ≤ 32 }
+    requires spare { IfSome spare (IsSpot area) }
+    requires last { last < area.blocks }
+    requires position { position < area.blocks }
+    requires block { length block.old ≡ area.size }
+    ensures run { HasRun (put_at area key.now value.now (AtEnd spare last position)) (T.state tx.old) (T.state tx.new) result }
+    ensures behaves { Behaves (T.state tx.old) (T.state tx.new) 3 (T.device tx.old) (T.device tx.new) result }
+{
+    match spare {
+        Some(spot) => put_cell(tx, area, spot, key, value, block),
+        None => put_block(tx, area, last, position, key, value, block),
+    }
+}
 
 // Puts a value at a key, with a buffer for a block.
 fn put_with<T: TxBlocks>(
@@ -33,13 +63,10 @@ fn put_with<T: TxBlocks>(
     match walk(tx, area, key, false, block) {
         Ok(Walked::AtCell { spot, .. }) => put_value(tx, area, spot, value, block),
         Ok(Walked::AtEnd {
-            spare: Some(spot), ..
-        }) => put_cell(tx, area, spot, key, value, block),
-        Ok(Walked::AtEnd {
-            spare: None,
+            spare,
             last,
             position,
-        }) => put_block(tx, area, last, position, key, value, block),
+        }) => put_missing(tx, area, key, value, spare, last, position, block),
         Err(e) => Err(e),
     }
 }

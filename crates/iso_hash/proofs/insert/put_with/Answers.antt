@@ -21,17 +21,19 @@ returns-in-Ok-AtCell-clause-behaves g c =
     c.in-Ok-AtCell.ensures.reads c.in-Ok-AtCell.ensures.later c.in-Ok-AtCell.ensures.passed
     (behaves_more (state c.walk.new.tx) (state c.put_value.new.tx) 1 3 (device c.walk.new.tx) (device c.put_value.new.tx) c.put_value.result (omega arith) c.put_value.ensures.behaves)
 
-pub returns-in-Ok-AtEnd-Some-clause-run : goal.returns-in-Ok-AtEnd-Some-clause-run
-returns-in-Ok-AtEnd-Some-clause-run g c = ?
+pub returns-in-Ok-AtEnd-clause-run : goal.returns-in-Ok-AtEnd-clause-run
+returns-in-Ok-AtEnd-clause-run g c =
+    let state = g.T.TxBlocks.state in
+    put_from c.args.area c.args.key.now c.args.value.now (state c.args.tx.now) (state c.walk.new.tx) (state c.put_missing.new.tx) _ c.put_missing.result c.requires.key c.requires.value
+    (walked_end c.args.area c.args.key.now false (state c.args.tx.now) (state c.walk.new.tx) c.walk.new.buffer c.in-Ok-AtEnd.field-0 c.in-Ok-AtEnd.spare c.in-Ok-AtEnd.last c.in-Ok-AtEnd.position c.in-Ok-AtEnd.ensures.walked c.in-Ok-AtEnd.field-0-is)
+    c.put_missing.ensures.run
 
-pub returns-in-Ok-AtEnd-Some-clause-behaves : goal.returns-in-Ok-AtEnd-Some-clause-behaves
-returns-in-Ok-AtEnd-Some-clause-behaves g c = ?
-
-pub returns-in-Ok-AtEnd-None-clause-run : goal.returns-in-Ok-AtEnd-None-clause-run
-returns-in-Ok-AtEnd-None-clause-run g c = ?
-
-pub returns-in-Ok-AtEnd-None-clause-behaves : goal.returns-in-Ok-AtEnd-None-clause-behaves
-returns-in-Ok-AtEnd-None-clause-behaves g c = ?
+pub returns-in-Ok-AtEnd-clause-behaves : goal.returns-in-Ok-AtEnd-clause-behaves
+returns-in-Ok-AtEnd-clause-behaves g c =
+    let state = g.T.TxBlocks.state in
+    let device = g.T.TxBlocks.device in
+    behaves_after (state c.args.tx.now) (state c.walk.new.tx) (state c.put_missing.new.tx) 3 (device c.args.tx.now) (device c.walk.new.tx) (device c.put_missing.new.tx) c.put_missing.result
+    c.in-Ok-AtEnd.ensures.reads c.in-Ok-AtEnd.ensures.later c.in-Ok-AtEnd.ensures.passed c.put_missing.ensures.behaves
 
 pub returns-in-Err-clause-run : goal.returns-in-Err-clause-run
 returns-in-Err-clause-run g c =
