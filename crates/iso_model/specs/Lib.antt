@@ -17,3 +17,8 @@ pub mod Worlds
 pub mod Bench
 pub mod Reserved
 pub mod ReservedLends
+pub mod Stores
+pub mod Cells
+pub mod FreeMap
+pub mod HashRegion
+pub mod HashCalls

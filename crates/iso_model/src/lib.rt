@@ -11,6 +11,7 @@ mod parts;
 mod reserved;
 mod script;
 pub mod step_laws;
+mod stores;
 
 pub use access::{Access, Clash, Commit, EndReply, Geometry, Kind, MarkError, Mode, Run, Span};
 pub use items::{AccessList, Bytes, Items, SpanList};
@@ -20,6 +21,7 @@ pub use memory::{InTx, Memory, NotInTx};
 pub use parts::PartList;
 pub use reserved::Reserved;
 pub use script::{BadLine, Line, LineError, Op, Parsed, Reply};
+pub use stores::{Area, PairList, Region, Spot, StoreError, TxError};
 
 #[cfg(test)]
 mod tests;

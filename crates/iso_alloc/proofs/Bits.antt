@@ -1,0 +1,78 @@
+-- The bits of a map of which one was set or cleared.
+use Rattle.std.proofs.Common.{◌≡◌, ◌≢◌, ◌∙◌, sym, refl, ap, subst, ℕ, ◌+◌, ◌*◌, ◌/◌, ◌%◌, ◌^◌, ◌<◌, ◌≤◌, Bool, true, false, ◌&&◌, ◌||◌, ◌==◌, not, List, length, get_or, set, max, min, arith, inl, inr, eq-eqb, ne_eqb}
+use Rattle.std.specs.Prelude.{bit_and, bit_or, bit_xor}
+use Rattle.std.specs.Int.{bit_at}
+use Rattle.std.proofs.lemmas.Bool.{cases_eq}
+use Rattle.std.proofs.lemmas.List.{get_or-set_same, get_or-set_other}
+use Rattle.std.proofs.lemmas.Nat.Bits.{bit_at_or, bit_at_xor, bit_at_and, bit_at-pow_same, bit_at-pow_other, bit_at-lt}
+use Rattle.iso_model.specs.FreeMap.{bit_place, map_bit, set_bit, clear_bit, with_bit, without_bit}
+
+set_here : (byte k : ℕ) → bit_at (set_bit byte k) (k % 8) ≡ 1
+set_here byte k = let low = bit_at-lt byte (k % 8) in bit_at_or byte (2 ^ (k % 8)) (k % 8) ∙ ap (max (bit_at byte (k % 8))) (bit_at-pow_same (k % 8)) ∙ omega arith
+
+set_other : (byte k i : ℕ) → i ≢ k % 8 → bit_at (set_bit byte k) i ≡ bit_at byte i
+set_other byte k i other = bit_at_or byte (2 ^ (k % 8)) i ∙ ap (max (bit_at byte i)) (bit_at-pow_other (k % 8) i other) ∙ omega arith
+
+cleared_here : (byte k : ℕ) → bit_at (clear_bit byte k) (k % 8) ≡ 0
+cleared_here byte k =
+    let low = bit_at-lt byte (k % 8) in
+    let same : bit_at (bit_and byte (2 ^ (k % 8))) (k % 8) ≡ bit_at byte (k % 8) = bit_at_and byte (2 ^ (k % 8)) (k % 8) ∙ ap (min (bit_at byte (k % 8))) (bit_at-pow_same (k % 8)) ∙ omega arith in
+    bit_at_xor byte (bit_and byte (2 ^ (k % 8))) (k % 8) ∙ ap (λ (n : ℕ). (bit_at byte (k % 8) + n) % 2) same ∙ omega arith
+
+cleared_other : (byte k i : ℕ) → i ≢ k % 8 → bit_at (clear_bit byte k) i ≡ bit_at byte i
+cleared_other byte k i other =
+    let low = bit_at-lt byte i in
+    let none : bit_at (bit_and byte (2 ^ (k % 8))) i ≡ 0 = bit_at_and byte (2 ^ (k % 8)) i ∙ ap (min (bit_at byte i)) (bit_at-pow_other (k % 8) i other) ∙ omega arith in
+    bit_at_xor byte (bit_and byte (2 ^ (k % 8))) i ∙ ap (λ (n : ℕ). (bit_at byte i + n) % 2) none ∙ omega arith
+
+-- the bits of a map of which one byte is this one, and the others as before
+pub bits_with : (map new : List ℕ) (block : ℕ) → get_or new (bit_place block) 0 ≡ set_bit (get_or map (bit_place block) 0) block
+    → ((k : ℕ) → k / 8 ≢ block / 8 → get_or new (bit_place k) 0 ≡ get_or map (bit_place k) 0) → (k : ℕ) → map_bit new k ≡ ((k == block) || map_bit map k)
+bits_with map new block here others k = elim (cases_eq (k / 8) (block / 8)) [
+  | inr apart ↦
+      (let test : (k == block) ≡ false = ne_eqb k block (λ e. apart (ap (λ (n : ℕ). n / 8) e)) in
+      ap (λ (x : ℕ). bit_at x (k % 8) == 1) (others k apart) ∙ ap (λ (t : Bool). t || map_bit map k) (sym test))
+  | inl same ↦
+      (let byte : get_or new (bit_place k) 0 ≡ set_bit (get_or map (bit_place k) 0) block =
+          ap (λ (n : ℕ). get_or new (64 + n) 0) same ∙ here ∙ ap (λ (n : ℕ). set_bit (get_or map (64 + n) 0) block) (sym same) in
+      elim (cases_eq k block) [
+        | inl is ↦
+            (let test : (k == block) ≡ true = eq-eqb k block is in
+            ap (λ (x : ℕ). bit_at x (k % 8) == 1) byte ∙ ap (λ (n : ℕ). bit_at (set_bit (get_or map (bit_place k) 0) block) (n % 8) == 1) is
+            ∙ ap (λ (n : ℕ). n == 1) (set_here (get_or map (bit_place k) 0) block) ∙ ap (λ (t : Bool). t || map_bit map k) (sym test))
+        | inr other ↦
+            (let test : (k == block) ≡ false = ne_eqb k block other in
+            ap (λ (x : ℕ). bit_at x (k % 8) == 1) byte ∙ ap (λ (n : ℕ). n == 1) (set_other (get_or map (bit_place k) 0) block (k % 8) (λ e. other (omega arith)))
+            ∙ ap (λ (t : Bool). t || map_bit map k) (sym test))
+      ])
+]
+
+pub bits_without : (map new : List ℕ) (block : ℕ) → get_or new (bit_place block) 0 ≡ clear_bit (get_or map (bit_place block) 0) block
+    → ((k : ℕ) → k / 8 ≢ block / 8 → get_or new (bit_place k) 0 ≡ get_or map (bit_place k) 0) → (k : ℕ) → map_bit new k ≡ (not (k == block) && map_bit map k)
+bits_without map new block here others k = elim (cases_eq (k / 8) (block / 8)) [
+  | inr apart ↦
+      (let test : (k == block) ≡ false = ne_eqb k block (λ e. apart (ap (λ (n : ℕ). n / 8) e)) in
+      ap (λ (x : ℕ). bit_at x (k % 8) == 1) (others k apart) ∙ ap (λ (t : Bool). not t && map_bit map k) (sym test))
+  | inl same ↦
+      (let byte : get_or new (bit_place k) 0 ≡ clear_bit (get_or map (bit_place k) 0) block =
+          ap (λ (n : ℕ). get_or new (64 + n) 0) same ∙ here ∙ ap (λ (n : ℕ). clear_bit (get_or map (64 + n) 0) block) (sym same) in
+      elim (cases_eq k block) [
+        | inl is ↦
+            (let test : (k == block) ≡ true = eq-eqb k block is in
+            ap (λ (x : ℕ). bit_at x (k % 8) == 1) byte ∙ ap (λ (n : ℕ). bit_at (clear_bit (get_or map (bit_place k) 0) block) (n % 8) == 1) is
+            ∙ ap (λ (n : ℕ). n == 1) (cleared_here (get_or map (bit_place k) 0) block) ∙ ap (λ (t : Bool). not t && map_bit map k) (sym test))
+        | inr other ↦
+            (let test : (k == block) ≡ false = ne_eqb k block other in
+            ap (λ (x : ℕ). bit_at x (k % 8) == 1) byte ∙ ap (λ (n : ℕ). n == 1) (cleared_other (get_or map (bit_place k) 0) block (k % 8) (λ e. other (omega arith)))
+            ∙ ap (λ (t : Bool). not t && map_bit map k) (sym test))
+      ])
+]
+
+-- a map with a bit set, and with a bit clear
+pub with_bits : (map : List ℕ) (block : ℕ) → bit_place block < length map → (k : ℕ) → map_bit (with_bit map block) k ≡ ((k == block) || map_bit map k)
+with_bits map block inside = bits_with map (with_bit map block) block (get_or-set_same map (bit_place block) (set_bit (get_or map (bit_place block) 0) block) 0 inside)
+    (λ k apart. get_or-set_other map (bit_place block) (bit_place k) (set_bit (get_or map (bit_place block) 0) block) 0 (λ e. apart (omega arith)))
+
+pub without_bits : (map : List ℕ) (block : ℕ) → bit_place block < length map → (k : ℕ) → map_bit (without_bit map block) k ≡ (not (k == block) && map_bit map k)
+without_bits map block inside = bits_without map (without_bit map block) block (get_or-set_same map (bit_place block) (clear_bit (get_or map (bit_place block) 0) block) 0 inside)
+    (λ k apart. get_or-set_other map (bit_place block) (bit_place k) (clear_bit (get_or map (bit_place block) 0) block) 0 (λ e. apart (omega arith)))

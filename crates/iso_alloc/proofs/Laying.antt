@@ -1,0 +1,17 @@
+-- Bytes that are laid into a block.
+use Rattle.std.proofs.Common.{◌≡◌, ◌≢◌, ◌⊎◌, ◌∙◌, sym, refl, ap, subst, ℕ, zero, suc, ◌+◌, ◌-◌, ◌*◌, ◌<◌, ◌≤◌, List, [], ◌∷◌, ◌++◌, length, get_or, take, drop, set, replicate, arith, append_assoc, length-append, inl, inr}
+use Rattle.std.proofs.lemmas.Bool.{cases_lt}
+use Rattle.std.proofs.lemmas.List.{length-take-le, length-drop, length-replicate, take_at, drop_at, drop-drop, drop-replicate, get_or-take, get_or-drop, get_or_past, get_or-append_right}
+use Rattle.iso_model.specs.declared.access.Span.{Span}
+use Rattle.iso_model.specs.Stores.{bytes_in}
+use Rattle.iso_model.specs.Cells.{laid_at, block_with, part_of}
+
+pub length-laid_at : (at : ℕ) (bytes block : List ℕ) → at + length bytes ≤ length block → length (laid_at at bytes block) ≡ length block
+length-laid_at at bytes block fits =
+    omega (arith, length-append (take at block) (bytes ++ drop (at + length bytes) block), length-append bytes (drop (at + length bytes) block), length-take-le at block (omega arith), length-drop (at + length bytes) block)
+
+-- the bytes that were laid
+pub laid_here : (at n : ℕ) (bytes block : List ℕ) → length bytes ≡ n → at + length bytes ≤ length block → bytes_in (record { off = at; len = n }) (laid_at at bytes block) ≡ bytes
+laid_here at n bytes block is fits =
+    ap (take n) (drop_at (take at block) (bytes ++ drop (at + length bytes) block) at (length-take-le at block (omega arith)))
+    ∙ take_at bytes (drop (at + length bytes) block) n is

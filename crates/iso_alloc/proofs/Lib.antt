@@ -1,0 +1,3 @@
+pub mod Loops
+pub mod Bits
+pub mod Laying

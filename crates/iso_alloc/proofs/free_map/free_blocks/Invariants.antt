@@ -1,0 +1,10 @@
+use Rattle.std.proofs.Common.{◌≡◌, ◌+◌, ◌-◌, ◌≤◌}
+use Rattle.iso_model.specs.FreeMap.{free_count}
+use Rattle.iso_alloc.proofs.free_map.free_blocks.Given as goal
+
+-- those counted and those that are left
+abbrev pub invariant-loop-block : goal.invariant-loop-block
+invariant-loop-block l = record {
+  counted : l.count + free_count l.map l.block (l.block-end - l.block) ≡ free_count l.map l.first (l.block-end - l.first);
+  few : l.count ≤ l.block;
+}

@@ -1,0 +1,7 @@
+use Rattle.std.proofs.Common.{◌≡◌, ◌∙◌, ap, not, ◌&&◌, ◌==◌, ℕ, List, arith}
+use Rattle.iso_model.specs.FreeMap.{map_bit}
+use Rattle.iso_alloc.proofs.Bits.{without_bits}
+use Rattle.iso_alloc.proofs.free_map.give_back.Goals as goal
+
+pub returns-clause-bits : goal.returns-clause-bits
+returns-clause-bits c = λ k. ap (λ (map : List ℕ). map_bit map k) c.clear.ensures ∙ without_bits c.args.map.now c.args.block (omega arith) k

@@ -1,0 +1,8 @@
+use Rattle.std.proofs.Common.{◌≡◌, ◌-◌, not}
+use Rattle.iso_model.specs.Conflict.{first_from}
+use Rattle.iso_model.specs.FreeMap.{lowest_free, map_bit}
+use Rattle.iso_alloc.proofs.free_map.lowest_free.Given as goal
+
+-- the blocks that are left decide
+abbrev pub invariant-loop-block : goal.invariant-loop-block
+invariant-loop-block l = first_from (λ k. not (map_bit l.map k)) l.block (l.block-end - l.block) ≡ lowest_free l.map l.first (l.block-end - l.first)

@@ -1,0 +1,7 @@
+use Rattle.std.proofs.Common.{◌≡◌, ◌∙◌, ap, ◌||◌, ◌==◌, ℕ, List, arith}
+use Rattle.iso_model.specs.FreeMap.{map_bit}
+use Rattle.iso_alloc.proofs.Bits.{with_bits}
+use Rattle.iso_alloc.proofs.free_map.take_lowest.Goals as goal
+
+pub returns-clause-bits : goal.returns-clause-bits
+returns-clause-bits c = λ k. ap (λ (map : List ℕ). map_bit map k) c.set.ensures ∙ with_bits c.args.map.now c.in_ok-block.block (omega (arith, c.in_ok-block.ensures.inside)) k

@@ -1,0 +1,8 @@
+use Rattle.std.proofs.Common.{◌≡◌, ◌-◌, ℕ, true}
+use Rattle.iso_model.specs.Cells.{all_from, are_key_parts, is_part, key_mark}
+use Rattle.iso_model.specs.Stores.{bytes_in}
+use Rattle.iso_alloc.proofs.search.are_key_parts.Given as goal
+
+-- the parts that are left decide
+abbrev pub invariant-loop-cell : goal.invariant-loop-cell
+invariant-loop-cell l = all_from (λ i. is_part 28 (bytes_in (key_mark i) l.keys)) l.cell (l.cell-end - l.cell) ≡ are_key_parts l.size l.keys

@@ -1,0 +1,9 @@
+use Rattle.std.proofs.Common.{◌≡◌, ◌-◌, ℕ, true}
+use Rattle.std.specs.Str.{bytes_eq}
+use Rattle.iso_model.specs.Cells.{cell_with, key_at}
+use Rattle.iso_model.specs.Conflict.{first_from}
+use Rattle.iso_alloc.proofs.search.cell_with.Given as goal
+
+-- the cells that are left decide
+abbrev pub invariant-loop-cell : goal.invariant-loop-cell
+invariant-loop-cell l = first_from (λ i. bytes_eq (key_at l.keys i) l.key) l.cell (l.cell-end - l.cell) ≡ cell_with l.size l.key l.keys

@@ -1,0 +1,17 @@
+use Rattle.std.proofs.Common.{◌≡◌, ◌∙◌, sym, ap, ◌==◌, ◌<◌, ℕ, true, false, arith, List, get_or, eq-eqb, ne_eqb}
+use Rattle.std.proofs.lemmas.Grind.{common_steps}
+use Rattle.iso_model.specs.Cells.{key_mark, unused_cell}
+use Rattle.iso_model.specs.Stores.{bytes_in}
+use Rattle.iso_alloc.proofs.Loops.{first_found, first_goes_on}
+use Rattle.iso_alloc.proofs.search.unused_cell.Goals as goal
+
+pub returns-then-key_part-eq0-clause-value : goal.returns-then-key_part-eq0-clause-value
+returns-then-key_part-eq0-clause-value c =
+    let e : get_or (bytes_in (key_mark c.loop-cell.cell) c.args.keys.now) 0 0 ≡ 0 = ap (λ (x : List ℕ). get_or x 0 0) (sym c.key_part.ensures.part) ∙ c.if-key_part-eq0.true in
+    sym (first_found (λ i. get_or (bytes_in (key_mark i) c.args.keys.now) 0 0 == 0) c.loop-cell.cell c.cell_count-cell-end.result (unused_cell c.args.size c.args.keys.now) c.loop-cell-test.true c.loop-cell.invariant (eq-eqb _ 0 e))
+
+pub loop-cell-preserved : goal.loop-cell-preserved
+loop-cell-preserved c =
+    let same : get_or (bytes_in (key_mark c.loop-cell.cell) c.args.keys.now) 0 0 ≡ get_or c.key_part.result.now 0 0 = ap (λ (x : List ℕ). get_or x 0 0) (sym c.key_part.ensures.part) in
+    first_goes_on (λ i. get_or (bytes_in (key_mark i) c.args.keys.now) 0 0 == 0) c.loop-cell.cell c.cell_count-cell-end.result (unused_cell c.args.size c.args.keys.now) c.loop-cell-test.true c.loop-cell.invariant
+    (ne_eqb _ 0 (λ e. c.if-key_part-eq0.false (sym same ∙ e)))

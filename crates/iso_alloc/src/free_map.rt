@@ -1,0 +1,86 @@
+// The free map of a region.
+ghost use Rattle.std.specs.Prelude.{◌≡◌, ◌+◌, ◌-◌, ◌<◌, ◌≤◌, ◌==◌, ◌||◌, ◌&&◌, not, ℕ, length, IfNone, IfSome};
+ghost use Rattle.iso_model.specs.FreeMap.{bit_place, free_count, lowest_free, map_bit, map_bytes, with_bit, without_bit};
+
+use iso_model::Region;
+
+// Whether the bit of a block is set.
+fn is_taken(map: &[u8], block: u32) -> bool
+    requires { bit_place block < length map.now }
+    ensures { result ≡ map_bit map.now block }
+{
+    (map[64 + (block / 8) as usize] >> (block % 8)) & 1 == 1
+}
+
+/// How many blocks from `first` on are free.
+pub fn free_blocks(map: &[u8], region: Region, first: u32) -> u32
+    requires map { 64 + map_bytes region.size ≤ length map.now }
+    requires first { first ≤ region.size }
+    ensures { result ≡ free_count map.now first (region.size - first) }
+{
+    let mut count = 0;
+    for block in first..region.size {
+        if !is_taken(map, block) {
+            count += 1;
+        }
+    }
+    count
+}
+
+// The lowest free block from `first` on.
+fn lowest_free(map: &[u8], region: Region, first: u32) -> Option<u32>
+    requires map { 64 + map_bytes region.size ≤ length map.now }
+    requires first { first ≤ region.size }
+    ensures value { result ≡ lowest_free map.now first (region.size - first) }
+    ensures inside { IfSome result (λ block. (first ≤ block) × (block < region.size)) }
+{
+    for block in first..region.size {
+        if !is_taken(map, block) {
+            return Some(block);
+        }
+    }
+    None
+}
+
+// Sets the bit of a block.
+fn set(map: &mut [u8], block: u32)
+    requires { bit_place block < length map.old }
+    ensures { map.new ≡ with_bit map.old block }
+{
+    map[64 + (block / 8) as usize] |= 1 << (block % 8);
+}
+
+// Clears the bit of a block.
+fn clear(map: &mut [u8], block: u32)
+    requires { bit_place block < length map.old }
+    ensures { map.new ≡ without_bit map.old block }
+{
+    let at = 64 + (block / 8) as usize;
+    let bit = 1 << (block % 8);
+    map[at] ^= map[at] & bit;
+}
+
+/// Takes the lowest free block from `first` on; none exactly where none is free.
+pub fn take_lowest(map: &mut [u8], region: Region, first: u32) -> Option<u32>
+    requires map { 64 + map_bytes region.size ≤ length map.old }
+    requires first { first ≤ region.size }
+    ensures lowest { result ≡ lowest_free map.old first (region.size - first) }
+    ensures inside { IfSome result (λ block. (first ≤ block) × (block < region.size)) }
+    ensures taken { IfSome result (λ block. map.new ≡ with_bit map.old block) }
+    ensures bits { IfSome result (λ block. (k : ℕ) → map_bit map.new k ≡ ((k == block) || map_bit map.old k)) }
+    ensures kept { IfNone result (map.new ≡ map.old) }
+{
+    let block = lowest_free(map, region, first)?;
+    set(map, block);
+    Some(block)
+}
+
+/// Gives a block back: it is free then.
+pub fn give_back(map: &mut [u8], region: Region, block: u32)
+    requires map { 64 + map_bytes region.size ≤ length map.old }
+    requires block { block < region.size }
+    ensures given { map.new ≡ without_bit map.old block }
+    ensures bits { (k : ℕ) → map_bit map.new k ≡ (not (k == block) && map_bit map.old k) }
+{
+    clear(map, block);
+}

@@ -1,0 +1,83 @@
+// Parts of a block: numbers, zeros, and the parts that spell a key or a value.
+ghost use Rattle.std.specs.Prelude.{◌≡◌, ◌+◌, ◌-◌, ◌*◌, ◌<◌, ◌≤◌, length, slice_index, take, drop};
+ghost use Rattle.std.specs.List.{list_all};
+ghost use Rattle.iso_model.specs.Cells.{cell_count, is_part, is_zero, key_mark, laid_at, part_of, text_of, word_at};
+ghost use Rattle.iso_model.specs.Stores.{bytes_in};
+
+use byteorder::{BigEndian, ByteOrder};
+
+/// How many cells a block of so many bytes has.
+pub fn cell_count(size: usize) -> usize
+    requires { 64 ≤ size }
+    ensures { result ≡ cell_count size }
+{
+    size / 64 - 1
+}
+
+/// `len` bytes from `at` on.
+pub fn piece(bytes: &[u8], at: usize, len: usize) -> &[u8]
+    requires { at + len ≤ length bytes.now }
+    ensures value { result.now ≡ take len (drop at bytes.now) }
+    ensures length { length result.now ≡ len }
+{
+    &bytes[at..at + len]
+}
+
+/// The number in the four bytes from `at` on.
+pub fn word_at(bytes: &[u8], at: usize) -> u32
+    requires { at + 4 ≤ length bytes.now }
+    ensures { result ≡ word_at at bytes.now }
+{
+    BigEndian::read_u32(&bytes[at..])
+}
+
+/// Whether all bytes are zero.
+pub fn are_zero(bytes: &[u8]) -> bool
+    ensures { result ≡ list_all is_zero bytes.now }
+{
+    bytes.iter().all(|b| *b == 0)
+}
+
+/// Whether a part is a length of at most `most`, so many bytes, and zeros.
+pub fn is_part(part: &[u8], most: u8) -> bool
+    requires { most < length part.now }
+    ensures { result ≡ is_part most part.now }
+{
+    part[0] <= most && are_zero(&part[1 + part[0] as usize..])
+}
+
+/// The bytes that a part spells.
+pub fn text_of(part: &[u8]) -> &[u8]
+    requires { slice_index part.now 0 < length part.now }
+    ensures { result.now ≡ text_of part.now }
+{
+    piece(part, 1, part[0] as usize)
+}
+
+/// The key part of a cell.
+pub fn key_part(keys: &[u8], cell: usize) -> &[u8]
+    requires { 64 + 31 * cell + 31 ≤ length keys.now }
+    ensures part { result.now ≡ bytes_in (key_mark cell) keys.now }
+    ensures length { length result.now ≡ 31 }
+{
+    piece(keys, 64 + 31 * cell, 31)
+}
+
+/// Puts bytes in the place of others, from `at` on.
+pub fn lay(into: &mut [u8], at: usize, bytes: &[u8])
+    requires { at + length bytes.now ≤ length into.old }
+    ensures { into.new ≡ laid_at at bytes.now into.old }
+{
+    into[at..at + bytes.len()].copy_from_slice(bytes);
+}
+
+/// Spells a text as a part.
+pub fn spell(part: &mut [u8], text: &[u8])
+    requires fits { length text.now < length part.old }
+    requires short { length text.now < 256 }
+    ensures { part.new ≡ part_of (length part.old - 1) text.now }
+{
+    part.fill(0);
+    part[0] = text.len() as u8;
+    lay(part, 1, text);
+}

@@ -1,0 +1,17 @@
+pub mod Finding
+pub mod Chains
+pub mod Ways
+pub mod Moves
+pub mod Gets
+pub mod Walking
+pub mod Getting
+pub mod Frames
+pub mod Rewritten
+pub mod Puts
+pub mod Linking
+pub mod Pigeons
+pub mod NewBlocks
+pub mod Grown
+pub mod Dels
+pub mod Changes
+pub mod Storing

@@ -1,0 +1,26 @@
+use Rattle.std.proofs.Common.{◌≡◌, ◌∙◌, sym, ap, ◌+◌, ◌≤◌, true, false}
+use Rattle.iso_model.specs.declared.stores.StoreError.TheVariants as store
+use Rattle.iso_model.specs.HashCalls.{is_key, is_value}
+use Rattle.tx_blocks.specs.Runs.{area_of}
+use Rattle.tx_blocks.proofs.Parts.{ended_from}
+use Rattle.iso_hash.proofs.Storing.{put_bad_key, put_bad_value, put_in_area, put_call_in}
+use Rattle.iso_hash.proofs.insert.put.Goals as goal
+
+pub returns-then-not-is_key-clause-ended : goal.returns-then-not-is_key-clause-ended
+returns-then-not-is_key-clause-ended g c =
+    put_bad_key (area_of (g.T.TxBlocks.state c.args.tx.now) c.args.region) c.args.key.now c.args.value.now (g.T.TxBlocks.state c.args.tx.now) (sym c.is_key.ensures ∙ c.if-not-is_key.true)
+
+pub returns-then-not-is_value-clause-ended : goal.returns-then-not-is_value-clause-ended
+returns-then-not-is_value-clause-ended g c =
+    put_bad_value (area_of (g.T.TxBlocks.state c.args.tx.now) c.args.region) c.args.key.now c.args.value.now (g.T.TxBlocks.state c.args.tx.now) (sym c.is_key.ensures ∙ c.if-not-is_key.false) (sym c.is_value.ensures ∙ c.if-not-is_value.true)
+
+pub returns-clause-ended : goal.returns-clause-ended
+returns-clause-ended g c =
+    let state = g.T.TxBlocks.state in
+    put_in_area (state c.args.tx.now) (state c.put_with.new.tx) c.args.region c.block_size.result c.args.key.now c.args.value.now c.put_with.result c.block_size.ensures c.put_with.ensures.run
+
+pub returns-clause-local : goal.returns-clause-local
+returns-clause-local g c =
+    let state = g.T.TxBlocks.state in
+    put_call_in (state c.args.tx.now) (state c.put_with.new.tx) c.args.region c.block_size.result c.args.key.now c.args.value.now c.put_with.result c.block_size.ensures c.requires.area
+    (sym c.is_key.ensures ∙ c.if-not-is_key.false) (sym c.is_value.ensures ∙ c.if-not-is_value.false) (g.met.T.TxBlocks.limits c.args.tx.now) c.requires.fits c.put_with.ensures.run

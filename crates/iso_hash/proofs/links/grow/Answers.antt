@@ -1,0 +1,86 @@
+use Rattle.std.proofs.Common.{◌≡◌, ◌∙◌, ap, ◌+◌, ◌<◌, ◌≤◌, [], ◌∷◌, Ok, true, arith}
+use Rattle.std.specs.Int.{w32, to_be_bytes}
+use Rattle.iso_model.specs.Cells.{next_mark, block_with}
+use Rattle.iso_model.specs.FreeMap.{bit_mark, bit_place}
+use Rattle.iso_model.specs.HashCalls.{new_block}
+use Rattle.iso_model.specs.HashRegion.{bucket_of}
+use Rattle.iso_model.specs.Stores.{Done}
+use Rattle.tx_blocks.specs.Tx.{Tx, Device, room_of}
+use Rattle.tx_blocks.proofs.Progress.{at_store, ran_at}
+use Rattle.tx_blocks.proofs.Refusals.{cut_at_store}
+use Rattle.tx_blocks.proofs.Parts.{refused_memory, done_so}
+use Rattle.iso_hash.proofs.Storing.{first, second, third, growing, grow_at_first, grow_at_second, grow_at_third, reserve_refused, room_less}
+use Rattle.iso_hash.proofs.links.grow.Goals as goal
+
+pub returns-in-Err-clause-run : goal.returns-in-Err-clause-run
+returns-in-Err-clause-run g c =
+    (reserve_refused 3 (first c.args.area c.args.block c.args.last c.args.position c.args.byte c.args.key.now c.args.value.now) (g.T.TxBlocks.state c.args.tx.now) (g.T.TxBlocks.device c.args.tx.now) c.in-Err.e (omega arith) c.in-Err.ensures.err).0
+
+pub returns-in-Err-clause-behaves : goal.returns-in-Err-clause-behaves
+returns-in-Err-clause-behaves g c =
+    (reserve_refused 3 (first c.args.area c.args.block c.args.last c.args.position c.args.byte c.args.key.now c.args.value.now) (g.T.TxBlocks.state c.args.tx.now) (g.T.TxBlocks.device c.args.tx.now) c.in-Err.e (omega arith) c.in-Err.ensures.err).1
+
+pub returns-in-Err-store_bit-clause-run : goal.returns-in-Err-store_bit-clause-run
+returns-in-Err-store_bit-clause-run g c =
+    let state = g.T.TxBlocks.state in
+    let a = c.args.area in
+    cut_at_store (growing a c.args.block c.args.last c.args.position c.args.byte c.args.key.now c.args.value.now) a.start (bit_mark c.args.block ∷ []) (block_with a.size (bit_place c.args.block) (c.args.byte ∷ [])) (second a c.args.block c.args.last c.args.position c.args.key.now c.args.value.now)
+    (state c.args.tx.now) (state c.args.tx.now) (state c.store_bit.new.tx) (g.T.TxBlocks.device c.args.tx.now) (g.T.TxBlocks.device c.store_bit.new.tx) c.in-Err-store_bit.e
+    (grow_at_first a c.args.block c.args.last c.args.position c.args.byte c.args.key.now c.args.value.now (state c.args.tx.now) c.in_default.ensures.ok) c.in-Err-store_bit.ensures.kept c.in-Err-store_bit.ensures.cause
+
+pub returns-in-Err-store_bit-clause-behaves : goal.returns-in-Err-store_bit-clause-behaves
+returns-in-Err-store_bit-clause-behaves g c =
+    let state = g.T.TxBlocks.state in
+    refused_memory (state c.args.tx.now) (state c.store_bit.new.tx) 3 (g.T.TxBlocks.device c.args.tx.now) (g.T.TxBlocks.device c.store_bit.new.tx) c.in-Err-store_bit.e
+    (c.in-Err-store_bit.ensures.room (omega (arith, c.in_default.ensures.ok)) c.requires.is_open) c.in-Err-store_bit.ensures.device
+
+pub returns-in-Err-store_new-clause-run : goal.returns-in-Err-store_new-clause-run
+returns-in-Err-store_new-clause-run g c =
+    let state = g.T.TxBlocks.state in
+    let a = c.args.area in
+    cut_at_store (growing a c.args.block c.args.last c.args.position c.args.byte c.args.key.now c.args.value.now) (a.start + c.args.block) [] (new_block a.size (bucket_of a c.args.key.now) c.args.position c.args.key.now c.args.value.now) (third a c.args.block c.args.last)
+    (state c.args.tx.now) (state c.store_bit.new.tx) (state c.store_new.new.tx) (g.T.TxBlocks.device c.store_bit.new.tx) (g.T.TxBlocks.device c.store_new.new.tx) c.in-Err-store_new.e
+    (grow_at_second a c.args.block c.args.last c.args.position c.args.byte c.args.key.now c.args.value.now (state c.args.tx.now) c.in_default.ensures.ok (state c.store_bit.new.tx) (g.met.T.TxBlocks.limits c.store_bit.new.tx) c.in_default-store_bit.ensures.stored)
+    c.in-Err-store_new.ensures.kept c.in-Err-store_new.ensures.cause
+
+pub returns-in-Err-store_new-clause-behaves : goal.returns-in-Err-store_new-clause-behaves
+returns-in-Err-store_new-clause-behaves g c =
+    let state = g.T.TxBlocks.state in
+    let less = room_less 2 (state c.args.tx.now) (state c.store_bit.new.tx) _ c.in_default.ensures.ok c.in_default-store_bit.ensures.stored in
+    refused_memory (state c.args.tx.now) (state c.store_new.new.tx) 3 (g.T.TxBlocks.device c.args.tx.now) (g.T.TxBlocks.device c.store_new.new.tx) c.in-Err-store_new.e
+    (c.in-Err-store_new.ensures.room (omega (arith, less)) (ap (λ (t : Tx). t.is_open) c.in_default-store_bit.ensures.stored ∙ c.requires.is_open)) (c.in-Err-store_new.ensures.device ∙ c.in_default-store_bit.ensures.device)
+
+pub returns-in-Err-store_next-clause-run : goal.returns-in-Err-store_next-clause-run
+returns-in-Err-store_next-clause-run g c =
+    let state = g.T.TxBlocks.state in
+    let a = c.args.area in
+    cut_at_store (growing a c.args.block c.args.last c.args.position c.args.byte c.args.key.now c.args.value.now) (a.start + c.args.last) (next_mark ∷ []) (block_with a.size 0 (to_be_bytes w32 c.args.block)) (Done (Ok tt))
+    (state c.args.tx.now) (state c.store_new.new.tx) (state c.store_next.new.tx) (g.T.TxBlocks.device c.store_new.new.tx) (g.T.TxBlocks.device c.store_next.new.tx) c.in-Err-store_next.e
+    (grow_at_third a c.args.block c.args.last c.args.position c.args.byte c.args.key.now c.args.value.now (state c.args.tx.now) c.in_default.ensures.ok (state c.store_bit.new.tx) (state c.store_new.new.tx)
+      (g.met.T.TxBlocks.limits c.store_bit.new.tx) (g.met.T.TxBlocks.limits c.store_new.new.tx) c.in_default-store_bit.ensures.stored c.in_default-store_new.ensures.stored)
+    c.in-Err-store_next.ensures.kept c.in-Err-store_next.ensures.cause
+
+pub returns-in-Err-store_next-clause-behaves : goal.returns-in-Err-store_next-clause-behaves
+returns-in-Err-store_next-clause-behaves g c =
+    let state = g.T.TxBlocks.state in
+    let less = room_less 2 (state c.args.tx.now) (state c.store_bit.new.tx) _ c.in_default.ensures.ok c.in_default-store_bit.ensures.stored in
+    let few = room_less 1 (state c.store_bit.new.tx) (state c.store_new.new.tx) _ less c.in_default-store_new.ensures.stored in
+    refused_memory (state c.args.tx.now) (state c.store_next.new.tx) 3 (g.T.TxBlocks.device c.args.tx.now) (g.T.TxBlocks.device c.store_next.new.tx) c.in-Err-store_next.e
+    (c.in-Err-store_next.ensures.room (omega (arith, few)) (ap (λ (t : Tx). t.is_open) c.in_default-store_new.ensures.stored ∙ ap (λ (t : Tx). t.is_open) c.in_default-store_bit.ensures.stored ∙ c.requires.is_open))
+    (c.in-Err-store_next.ensures.device ∙ c.in_default-store_new.ensures.device ∙ c.in_default-store_bit.ensures.device)
+
+pub returns-in-Ok-clause-run : goal.returns-in-Ok-clause-run
+returns-in-Ok-clause-run g c =
+    let state = g.T.TxBlocks.state in
+    let a = c.args.area in
+    let whole = growing a c.args.block c.args.last c.args.position c.args.byte c.args.key.now c.args.value.now in
+    ran_at whole (state c.args.tx.now) (state c.store_next.new.tx) (Ok tt)
+    (at_store whole (a.start + c.args.last) (next_mark ∷ []) (block_with a.size 0 (to_be_bytes w32 c.args.block)) (Done (Ok tt)) (state c.args.tx.now) (state c.store_new.new.tx) (state c.store_next.new.tx)
+    (grow_at_third a c.args.block c.args.last c.args.position c.args.byte c.args.key.now c.args.value.now (state c.args.tx.now) c.in_default.ensures.ok (state c.store_bit.new.tx) (state c.store_new.new.tx)
+      (g.met.T.TxBlocks.limits c.store_bit.new.tx) (g.met.T.TxBlocks.limits c.store_new.new.tx) c.in_default-store_bit.ensures.stored c.in_default-store_new.ensures.stored)
+    (g.met.T.TxBlocks.limits c.store_next.new.tx).count c.in-Ok.ensures.stored)
+
+pub returns-in-Ok-clause-behaves : goal.returns-in-Ok-clause-behaves
+returns-in-Ok-clause-behaves g c =
+    done_so (g.T.TxBlocks.state c.args.tx.now) (g.T.TxBlocks.state c.store_next.new.tx) 3 (g.T.TxBlocks.device c.args.tx.now) (g.T.TxBlocks.device c.store_next.new.tx) tt
+    (c.in-Ok.ensures.device ∙ c.in_default-store_new.ensures.device ∙ c.in_default-store_bit.ensures.device)

@@ -1,0 +1,8 @@
+use Rattle.std.proofs.Common.{◌≡◌, ◌∙◌, sym}
+use Rattle.tx_blocks.specs.Runs.{area_of}
+use Rattle.iso_hash.proofs.Getting.{bad_key}
+use Rattle.iso_hash.proofs.lookup.get.Goals as goal
+
+pub returns-then-not-is_key-clause-ended : goal.returns-then-not-is_key-clause-ended
+returns-then-not-is_key-clause-ended g c =
+    bad_key (area_of (g.T.TxBlocks.state c.args.tx.now) c.args.region) c.args.key.now (g.T.TxBlocks.state c.args.tx.now) (sym c.is_key.ensures ∙ c.if-not-is_key.true)

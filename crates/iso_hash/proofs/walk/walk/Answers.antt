@@ -1,0 +1,156 @@
+use Rattle.std.proofs.Common.{rules, arith, ◌≡◌, ◌∙◌, sym, ap, subst, ◌+◌, ◌*◌, ◌-◌, ◌/◌, ◌<◌, ◌≤◌, ℕ, Bool, true, false, List, [], ◌∷◌, length, take, cond, Some, None, refl}
+use Rattle.iso_model.specs.declared.access.Span.{Span}
+use Rattle.iso_model.specs.Cells.{cell_count, value_mark, cell_with, word_at}
+use Rattle.iso_model.specs.HashCalls.{walk}
+use Rattle.iso_model.specs.HashRegion.{is_linked}
+use Rattle.iso_model.specs.Stores.{look_access}
+use Rattle.tx_blocks.specs.Tx.{Tx, with_accesses}
+use Rattle.tx_blocks.proofs.Marking.{may_mark, marked_access}
+use Rattle.tx_blocks.proofs.Refusals.{cause_earlier, later_than, read_none, read_more, read_same, read_size}
+use Rattle.iso_hash.proofs.Walking.{walk_begins, read_refused, next_inside, linked_parts, spare_is, spare_inside, missing, with_value_mark, without_value_mark, ends_broken, ends_past, goes_on, ends_at_cell}
+use Rattle.iso_hash.proofs.walk.walk.Goals as goal
+use Rattle.iso_hash.proofs.walk.walk.Goals.{then-with_value, else-with_value}
+
+pub loop-position-init : goal.loop-position-init
+loop-position-init g c = record {
+  here = walk_begins c.args.area c.args.key.now c.args.with_value c.bucket_of-bucket.result c.last_position-position-end.result (g.T.TxBlocks.state c.args.tx.now) c.bucket_of-bucket.ensures.value c.last_position-position-end.ensures.value;
+  inside = omega arith;
+  before = omega (arith, c.requires.area.least);
+  spare = tt;
+  reads = read_none (g.T.TxBlocks.state c.args.tx.now);
+  later = record { faults = omega arith; down = λ d. d };
+  passed = refl;
+}
+
+pub returns-in-Err-clause-walked : goal.returns-in-Err-clause-walked
+returns-in-Err-clause-walked g c =
+    let state = g.T.TxBlocks.state in
+    read_refused (walk c.args.area c.args.key.now c.args.with_value) c.args.area c.args.key.now c.bucket_of-bucket.result c.args.with_value (c.last_position-position-end.result + 1) c.loop-position.position c.loop-position.before c.loop-position.block c.loop-position.spare
+    (state c.args.tx.now) (state c.loop-position.tx) (state c.look.new.tx) (g.T.TxBlocks.device c.loop-position.tx) (g.T.TxBlocks.device c.look.new.tx) c.in-Err.e c.loop-position.invariant.here c.loop-position-test.true c.in-Err.ensures.kept c.in-Err.ensures.cause
+
+pub returns-in-Err-clause-reads : goal.returns-in-Err-clause-reads
+returns-in-Err-clause-reads g c = let state = g.T.TxBlocks.state in read_same (state c.args.tx.now) (state c.loop-position.tx) (state c.look.new.tx) c.loop-position.invariant.reads c.in-Err.ensures.kept
+
+pub returns-in-Err-clause-cause : goal.returns-in-Err-clause-cause
+returns-in-Err-clause-cause g c =
+    let device = g.T.TxBlocks.device in
+    cause_earlier (g.T.TxBlocks.state c.look.new.tx) 1 1 (device c.args.tx.now) (device c.loop-position.tx) (device c.look.new.tx) c.in-Err.e (omega arith) (omega (arith, c.loop-position.invariant.later.faults)) c.in-Err.ensures.cause
+
+pub returns-in-Err-clause-later : goal.returns-in-Err-clause-later
+returns-in-Err-clause-later g c = later_than (g.T.TxBlocks.device c.args.tx.now) (g.T.TxBlocks.device c.loop-position.tx) (g.T.TxBlocks.device c.look.new.tx) c.loop-position.invariant.later c.in-Err.ensures.later
+
+pub returns-then-not-is_linked-clause-walked : goal.returns-then-not-is_linked-clause-walked
+returns-then-not-is_linked-clause-walked g c =
+    let state = g.T.TxBlocks.state in
+    ends_broken (walk c.args.area c.args.key.now c.args.with_value) c.args.area c.args.key.now c.bucket_of-bucket.result c.args.with_value (c.last_position-position-end.result + 1) c.loop-position.position c.loop-position.before c.loop-position.block c.loop-position.spare
+    (state c.args.tx.now) (state c.loop-position.tx) c.look.new.into (record { here = c.loop-position.invariant.here; below = c.loop-position-test.true; bytes_are = c.in_default.ensures.bytes })
+    (state c.look.new.tx) c.cell_count.result (g.met.T.TxBlocks.limits c.look.new.tx).count c.cell_count.ensures c.in_default.ensures.read (sym c.is_linked.ensures ∙ c.if-not-is_linked.true)
+
+pub returns-then-not-is_linked-clause-reads : goal.returns-then-not-is_linked-clause-reads
+returns-then-not-is_linked-clause-reads g c = let state = g.T.TxBlocks.state in read_more (state c.args.tx.now) (state c.loop-position.tx) (state c.look.new.tx) _ c.loop-position.invariant.reads c.in_default.ensures.read refl
+
+pub returns-then-not-is_linked-clause-later : goal.returns-then-not-is_linked-clause-later
+returns-then-not-is_linked-clause-later g c = later_than (g.T.TxBlocks.device c.args.tx.now) (g.T.TxBlocks.device c.loop-position.tx) (g.T.TxBlocks.device c.look.new.tx) c.loop-position.invariant.later c.in_default.ensures.later
+
+pub cell_with-requires-clause-parts : goal.cell_with-requires-clause-parts
+cell_with-requires-clause-parts g c = linked_parts c.args.area c.bucket_of-bucket.result c.loop-position.position _ (sym c.is_linked.ensures ∙ c.if-not-is_linked.false)
+
+pub mark-requires : goal.mark-requires
+mark-requires g c =
+    let state = g.T.TxBlocks.state in
+    let size : (state c.loop-position.tx).size ≡ (state c.args.tx.now).size = read_size (state c.args.tx.now) (state c.loop-position.tx) c.loop-position.invariant.reads in
+    may_mark (state c.loop-position.tx) (state c.look.new.tx) (look_access (c.args.area.start + c.loop-position.block) (record { off = 0; len = 64 + 31 * c.cell_count.result } ∷ [])) (record { off = 64 + 31 * c.cell_count.result + 33 * c.in-Some.cell; len = 33 })
+    c.in_default.ensures.read c.in_default.ensures.is_open (record { some = omega arith; fits = omega (arith, size, c.requires.size, c.in-Some.ensures.below, c.cell_count.ensures, c.requires.area.least_size) }) (omega arith)
+
+pub returns-in-Some-clause-walked : goal.returns-in-Some-clause-walked
+returns-in-Some-clause-walked g c =
+    let state = g.T.TxBlocks.state in
+    ends_at_cell (walk c.args.area c.args.key.now c.args.with_value) c.args.area c.args.key.now c.bucket_of-bucket.result c.args.with_value (c.last_position-position-end.result + 1) c.loop-position.position c.loop-position.before c.loop-position.block c.loop-position.spare
+    (state c.args.tx.now) (state c.loop-position.tx) c.look.new.into (record { here = c.loop-position.invariant.here; below = c.loop-position-test.true; bytes_are = c.in_default.ensures.bytes })
+    (state c.if-with_value.tx) c.cell_count.result (g.met.T.TxBlocks.limits c.if-with_value.tx).count c.cell_count.ensures c.in-Some.cell (sym c.is_linked.ensures ∙ c.if-not-is_linked.false) (sym c.in-Some.ensures.value)
+    (elim c.if-with_value.branch [
+      | then-with_value w ↦
+          ap state w.tx-is ∙ with_value_mark c.args.area (state c.loop-position.tx) (state w.mark.new.tx) (c.args.area.start + c.loop-position.block) c.cell_count.result c.in-Some.cell c.args.with_value w.if-with_value.true c.cell_count.ensures
+          (marked_access (state c.loop-position.tx) (state c.look.new.tx) (state w.mark.new.tx) _ _ c.in_default.ensures.read w.mark.ensures.marked)
+      | else-with_value w ↦
+          ap state w.tx-is ∙ without_value_mark c.args.area (state c.loop-position.tx) (state c.look.new.tx) (c.args.area.start + c.loop-position.block) c.cell_count.result c.in-Some.cell c.args.with_value w.if-with_value.false c.cell_count.ensures c.in_default.ensures.read
+    ])
+
+pub returns-in-Some-clause-is_open : goal.returns-in-Some-clause-is_open
+returns-in-Some-clause-is_open g c =
+    let state = g.T.TxBlocks.state in
+    let before : (state c.look.new.tx).is_open ≡ true = ap (λ (t : Tx). t.is_open) c.in_default.ensures.read ∙ c.in_default.ensures.is_open in
+    elim c.if-with_value.branch [
+      | then-with_value w ↦ ap (λ t. (state t).is_open) w.tx-is ∙ ap (λ (t : Tx). t.is_open) w.mark.ensures.marked ∙ before
+      | else-with_value w ↦ ap (λ t. (state t).is_open) w.tx-is ∙ before
+    ]
+
+pub returns-in-Some-clause-reads : goal.returns-in-Some-clause-reads
+returns-in-Some-clause-reads g c =
+    let state = g.T.TxBlocks.state in
+    elim c.if-with_value.branch [
+      | then-with_value w ↦ read_more (state c.args.tx.now) (state c.loop-position.tx) (state c.if-with_value.tx) _ c.loop-position.invariant.reads (ap state w.tx-is ∙ marked_access (state c.loop-position.tx) (state c.look.new.tx) (state w.mark.new.tx) _ _ c.in_default.ensures.read w.mark.ensures.marked) refl
+      | else-with_value w ↦ read_more (state c.args.tx.now) (state c.loop-position.tx) (state c.if-with_value.tx) _ c.loop-position.invariant.reads (ap state w.tx-is ∙ c.in_default.ensures.read) refl
+    ]
+
+pub returns-in-Some-clause-later : goal.returns-in-Some-clause-later
+returns-in-Some-clause-later g c =
+    let device = g.T.TxBlocks.device in
+    let here = later_than (device c.args.tx.now) (device c.loop-position.tx) (device c.look.new.tx) c.loop-position.invariant.later c.in_default.ensures.later in
+    elim c.if-with_value.branch [
+      | then-with_value w ↦ subst (Rattle.tx_blocks.specs.Tx.IsLater (device c.args.tx.now)) (sym (ap device w.tx-is ∙ w.mark.ensures.device)) here
+      | else-with_value w ↦ subst (Rattle.tx_blocks.specs.Tx.IsLater (device c.args.tx.now)) (sym (ap device w.tx-is)) here
+    ]
+
+pub returns-in-Some-clause-passed : goal.returns-in-Some-clause-passed
+returns-in-Some-clause-passed g c =
+    let device = g.T.TxBlocks.device in
+    let here = c.in_default.ensures.passed ∙ c.loop-position.invariant.passed in
+    elim c.if-with_value.branch [
+      | then-with_value w ↦ ap (λ (d : Rattle.tx_blocks.specs.Tx.Device). d.faults) (ap device w.tx-is ∙ w.mark.ensures.device) ∙ here
+      | else-with_value w ↦ ap (λ (d : Rattle.tx_blocks.specs.Tx.Device). d.faults) (ap device w.tx-is) ∙ here
+    ]
+
+pub returns-in-Some-clause-inside : goal.returns-in-Some-clause-inside
+returns-in-Some-clause-inside g c = (record { block = c.loop-position.invariant.inside; cell = c.in-Some.ensures.below }, c.loop-position.invariant.before)
+
+pub returns-then-next-eq0-clause-walked : goal.returns-then-next-eq0-clause-walked
+returns-then-next-eq0-clause-walked g c =
+    let state = g.T.TxBlocks.state in
+    let spare = spare_is c.args.area c.loop-position.spare c.loop-position.block (take (64 + 31 * c.cell_count.result) c.look.new.into) _ _ c.first_spare-spare.ensures c.unused_cell.ensures.value in
+    rw spare (ends_past (walk c.args.area c.args.key.now c.args.with_value) c.args.area c.args.key.now c.bucket_of-bucket.result c.args.with_value (c.last_position-position-end.result + 1) c.loop-position.position c.loop-position.before c.loop-position.block c.loop-position.spare
+    (state c.args.tx.now) (state c.loop-position.tx) c.look.new.into (record { here = c.loop-position.invariant.here; below = c.loop-position-test.true; bytes_are = c.in_default.ensures.bytes })
+    (state c.look.new.tx) c.cell_count.result (g.met.T.TxBlocks.limits c.look.new.tx).count c.cell_count.ensures c.in_default.ensures.read (sym c.is_linked.ensures ∙ c.if-not-is_linked.false)
+    (missing _ _ c.cell_with.ensures.value c.in_default-cell_with.not-Some) (sym c.word_at-next.ensures ∙ c.if-next-eq0.true))
+
+pub returns-then-next-eq0-clause-is_open : goal.returns-then-next-eq0-clause-is_open
+returns-then-next-eq0-clause-is_open g c = ap (λ (t : Tx). t.is_open) c.in_default.ensures.read ∙ c.in_default.ensures.is_open
+
+pub returns-then-next-eq0-clause-reads : goal.returns-then-next-eq0-clause-reads
+returns-then-next-eq0-clause-reads g c = let state = g.T.TxBlocks.state in read_more (state c.args.tx.now) (state c.loop-position.tx) (state c.look.new.tx) _ c.loop-position.invariant.reads c.in_default.ensures.read refl
+
+pub returns-then-next-eq0-clause-later : goal.returns-then-next-eq0-clause-later
+returns-then-next-eq0-clause-later g c = later_than (g.T.TxBlocks.device c.args.tx.now) (g.T.TxBlocks.device c.loop-position.tx) (g.T.TxBlocks.device c.look.new.tx) c.loop-position.invariant.later c.in_default.ensures.later
+
+pub returns-then-next-eq0-clause-inside : goal.returns-then-next-eq0-clause-inside
+returns-then-next-eq0-clause-inside g c =
+    (spare_inside c.args.area c.loop-position.spare c.loop-position.block c.unused_cell.result c.first_spare-spare.result c.first_spare-spare.ensures c.loop-position.invariant.spare c.loop-position.invariant.inside c.unused_cell.ensures.below,
+    c.loop-position.invariant.inside, omega (arith, c.last_position-position-end.ensures.most, c.loop-position-test.true))
+
+pub loop-position-preserved : goal.loop-position-preserved
+loop-position-preserved g c =
+    let state = g.T.TxBlocks.state in
+    let linked = sym c.is_linked.ensures ∙ c.if-not-is_linked.false in
+    let spare = spare_is c.args.area c.loop-position.spare c.loop-position.block (take (64 + 31 * c.cell_count.result) c.look.new.into) _ _ c.first_spare-spare.ensures c.unused_cell.ensures.value in
+    let more = λ (e : word_at 0 (take (64 + 31 * c.cell_count.result) c.look.new.into) ≡ 0). c.if-next-eq0.false (c.word_at-next.ensures ∙ e) in
+    record {
+      here = rw (spare, c.word_at-next.ensures) (goes_on (walk c.args.area c.args.key.now c.args.with_value) c.args.area c.args.key.now c.bucket_of-bucket.result c.args.with_value (c.last_position-position-end.result + 1) c.loop-position.position c.loop-position.before c.loop-position.block c.loop-position.spare
+          (state c.args.tx.now) (state c.loop-position.tx) c.look.new.into (record { here = c.loop-position.invariant.here; below = c.loop-position-test.true; bytes_are = c.in_default.ensures.bytes })
+          (state c.look.new.tx) c.cell_count.result (g.met.T.TxBlocks.limits c.look.new.tx).count c.cell_count.ensures c.in_default.ensures.read linked (missing _ _ c.cell_with.ensures.value c.in_default-cell_with.not-Some) more);
+      inside = rw c.word_at-next.ensures (next_inside c.args.area c.bucket_of-bucket.result c.loop-position.position (take (64 + 31 * c.cell_count.result) c.look.new.into) linked more);
+      before = c.loop-position.invariant.inside;
+      spare = spare_inside c.args.area c.loop-position.spare c.loop-position.block c.unused_cell.result c.first_spare-spare.result c.first_spare-spare.ensures c.loop-position.invariant.spare c.loop-position.invariant.inside c.unused_cell.ensures.below;
+      reads = read_more (state c.args.tx.now) (state c.loop-position.tx) (state c.look.new.tx) _ c.loop-position.invariant.reads c.in_default.ensures.read refl;
+      later = later_than (g.T.TxBlocks.device c.args.tx.now) (g.T.TxBlocks.device c.loop-position.tx) (g.T.TxBlocks.device c.look.new.tx) c.loop-position.invariant.later c.in_default.ensures.later;
+      passed = c.in_default.ensures.passed ∙ c.loop-position.invariant.passed;
+    }

@@ -1,0 +1,19 @@
+use Rattle.std.proofs.Common.{◌≡◌, ◌+◌, ◌-◌, ◌<◌, ◌≤◌, IfSome}
+use Rattle.iso_model.specs.HashCalls.{walk, walk_from}
+use Rattle.tx_blocks.specs.Tx.{IsLater}
+use Rattle.tx_blocks.specs.Runs.{HasRead}
+use Rattle.tx_blocks.proofs.Progress.{IsAt}
+use Rattle.iso_hash.specs.Walks.{IsSpot}
+use Rattle.iso_hash.proofs.walk.walk.Given as goal
+
+-- the blocks of the chain that are left are what is left of the walk
+abbrev pub invariant-loop-position : goal.invariant-loop-position
+invariant-loop-position g l = record {
+  here : IsAt (walk l.area l.key l.with_value) (walk_from l.area l.key l.bucket l.with_value (l.position-end - l.position) l.position l.before l.block l.spare) (g.T.TxBlocks.state l.fn.tx) (g.T.TxBlocks.state l.tx);
+  inside : l.block < l.area.blocks;
+  before : l.before < l.area.blocks;
+  spare : IfSome l.spare (IsSpot l.area);
+  reads : HasRead (g.T.TxBlocks.state l.fn.tx) (g.T.TxBlocks.state l.tx);
+  later : IsLater (g.T.TxBlocks.device l.fn.tx) (g.T.TxBlocks.device l.tx);
+  passed : (g.T.TxBlocks.device l.tx).faults ≡ (g.T.TxBlocks.device l.fn.tx).faults;
+}

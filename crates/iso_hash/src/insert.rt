@@ -1,0 +1,108 @@
+// The put of a key.
+ghost use Rattle.std.specs.Prelude.{◌≡◌, ◌↔◌, ◌+◌, ◌<◌, ◌≤◌, Err, IsFalse, IsTrue, true, IfOk, IfErr, IfSome, OnOk, length};
+ghost use Rattle.iso_model.specs.HashCalls.{is_key, is_value, put_at, put_program, AtEnd};
+ghost use Rattle.iso_model.specs.HashRegion.{hash_map, put_op, IsHashArea, IsHashRegion};
+ghost use Rattle.tx_blocks.specs.Tx.{IsLater};
+ghost use Rattle.tx_blocks.specs.Runs.{area_of, Behaves, HasEnded, HasRun, IsLocalCall, IsStoreCause, IsUnwritten};
+ghost use Rattle.iso_hash.specs.Walks.{IsSpot};
+
+use crate::buffer::{buffer, is_key, is_value};
+use crate::links::put_block;
+use crate::walk::{Walked, walk};
+use crate::writes::{put_cell, put_value};
+use iso_model::{Area, Region, Spot, StoreError};
+use std::alloc::Global;
+use tx_blocks::TxBlocks;
+
+// Puts a key that the walk did not find.
+fn put_missing<T: TxBlocks>(
+    tx: &mut T,
+    area: Area,
+    key: &[u8],
+    value: &[u8],
+    spare: Option<Spot>,
+    last: u32,
+    position: u32,
+    block: &mut [u8],
+) -> Result<(), StoreError>
+    requires area { IsHashArea area }
+    requires size { (T.state tx.old).size ≡ area.size }
+    requires fits { area.start + area.blocks ≤ (T.state tx.old).blocks }
+    requires key { length key.now ≤ 28 }
+    requires value { length value.now ≤ 32 }
+    requires spare { IfSome spare (IsSpot area) }
+    requires last { last < area.blocks }
+    requires position { position < area.blocks }
+    requires block { length block.old ≡ area.size }
+    ensures run { HasRun (put_at area key.now value.now (AtEnd spare last position)) (T.state tx.old) (T.state tx.new) result }
+    ensures behaves { Behaves (T.state tx.old) (T.state tx.new) 3 (T.device tx.old) (T.device tx.new) result }
+{
+    match spare {
+        Some(spot) => put_cell(tx, area, spot, key, value, block),
+        None => put_block(tx, area, last, position, key, value, block),
+    }
+}
+
+// Puts a value at a key, with a buffer for a block.
+fn put_with<T: TxBlocks>(
+    tx: &mut T,
+    area: Area,
+    key: &[u8],
+    value: &[u8],
+    block: &mut [u8],
+) -> Result<(), StoreError>
+    requires area { IsHashArea area }
+    requires size { (T.state tx.old).size ≡ area.size }
+    requires fits { area.start + area.blocks ≤ (T.state tx.old).blocks }
+    requires key { is_key key.now ≡ true }
+    requires value { is_value value.now ≡ true }
+    requires block { length block.old ≡ area.size }
+    ensures run { HasRun (put_program area key.now value.now) (T.state tx.old) (T.state tx.new) result }
+    ensures behaves { Behaves (T.state tx.old) (T.state tx.new) 3 (T.device tx.old) (T.device tx.new) result }
+{
+    match walk(tx, area, key, false, block) {
+        Ok(Walked::AtCell { spot, .. }) => put_value(tx, area, spot, value, block),
+        Ok(Walked::AtEnd {
+            spare,
+            last,
+            position,
+        }) => put_missing(tx, area, key, value, spare, last, position, block),
+        Err(e) => Err(e),
+    }
+}
+
+/// Puts a value at a key: the region's map has it then. `BadKey` comes exactly where the key does not have 1 to 28 bytes, else
+/// `BadValue` exactly where the value has more than 32; `Broken` where a block of the walk fails a test; `NoBlocks` where a block is
+/// needed and none is free. A refusal has written nothing, but where the transaction wants memory between two writes.
+pub fn put<T: TxBlocks>(
+    alloc: Global,
+    tx: &mut T,
+    region: Region,
+    key: &[u8],
+    value: &[u8],
+) -> Result<(), StoreError>
+    requires area { IsHashArea (area_of (T.state tx.old) region) }
+    requires fits { region.start + region.size ≤ (T.state tx.old).blocks }
+    ensures ended { HasEnded (put_program (area_of (T.state tx.old) region) key.now value.now) (T.state tx.old) (T.state tx.new) result }
+    ensures local { IfOk result (IsLocalCall (IsHashRegion (area_of (T.state tx.old) region)) (hash_map (area_of (T.state tx.old) region)) (put_op key.now value.now) (T.state tx.old) (T.state tx.new)) }
+    ensures bad_key { result ≡ Err StoreError.BadKey ↔ IsFalse (is_key key.now) }
+    ensures bad_value { result ≡ Err StoreError.BadValue ↔ (IsTrue (is_key key.now) × IsFalse (is_value value.now)) }
+    ensures cause { IfErr result (IsStoreCause (T.state tx.new) 3 (T.device tx.old) (T.device tx.new)) }
+    ensures unwritten { IfErr result (IsUnwritten (T.state tx.old) (T.state tx.new)) }
+    ensures later { IsLater (T.device tx.old) (T.device tx.new) }
+    ensures passed { OnOk result ((T.device tx.new).faults ≡ (T.device tx.old).faults) }
+{
+    if !is_key(key) {
+        return Err(StoreError::BadKey);
+    }
+    if !is_value(value) {
+        return Err(StoreError::BadValue);
+    }
+    let area = Area {
+        size: tx.block_size(),
+        start: region.start,
+        blocks: region.size,
+    };
+    let mut block = buffer(alloc, area.size as usize)?;
+    put_with(tx, area, key, value, &mut block)
+}

@@ -1,0 +1,262 @@
+// The writes that take a block into a chain, or out of it.
+ghost use Rattle.std.specs.Prelude.{◌≡◌, ◌+◌, ◌-◌, ◌<◌, ◌≤◌, ℕ, length, Ok, Some, None, OnOk, OnErr, IfErr, true, [], ◌∷◌, replicate, slice_index};
+ghost use Rattle.std.specs.Int.{w32, to_be_bytes};
+ghost use Rattle.iso_model.specs.Cells.{block_with, next_mark};
+ghost use Rattle.iso_model.specs.FreeMap.{bit_mark, bit_place, clear_bit, lowest_free, map_mark, set_bit};
+ghost use Rattle.iso_model.specs.HashCalls.{new_block, put_new};
+ghost use Rattle.iso_model.specs.HashRegion.{bucket_of, buckets, last_position, IsHashArea};
+ghost use Rattle.iso_model.specs.Stores.{store_access, bytes_in, Done, Look, Reserve, Store};
+ghost use Rattle.tx_blocks.specs.Tx.{room_of, with_accesses, IsLater};
+ghost use Rattle.tx_blocks.specs.Runs.{Behaves, HasRun, IsCause, HasRead};
+
+use crate::bucket::{bucket_of, buckets};
+use crate::writes::{lay_alone, lay_cell};
+use byteorder::{BigEndian, ByteOrder};
+use iso_alloc::{give_back, lay, take_lowest};
+use iso_model::{Area, Region, Span, StoreError, TxError};
+use tx_blocks::{TxBlocks, look, reserve, store};
+
+// The number of a block in four bytes.
+fn spelled(number: u32) -> [u8; 4]
+    ensures { result ≡ to_be_bytes w32 number }
+{
+    number.to_be_bytes()
+}
+
+// Writes the byte of the map with the bit of a block.
+fn store_bit<T: TxBlocks>(
+    tx: &mut T,
+    area: Area,
+    block: u32,
+    byte: u8,
+    buffer: &mut [u8],
+) -> Result<(), TxError>
+    requires area { IsHashArea area }
+    requires size { (T.state tx.old).size ≡ area.size }
+    requires fits { area.start + area.blocks ≤ (T.state tx.old).blocks }
+    requires buffer { length buffer.old ≡ area.size }
+    requires block { block < area.blocks }
+    ensures stored { OnOk result (T.state tx.new ≡ with_accesses (T.state tx.old) (store_access area.start (bit_mark block ∷ []) (block_with area.size (bit_place block) (byte ∷ [])) ∷ [])) }
+    ensures kept { OnErr result (T.state tx.new ≡ T.state tx.old) }
+    ensures cause { IfErr result (IsCause (T.state tx.new) 1 (T.device tx.old) (T.device tx.new)) }
+    ensures room { 0 < room_of (T.state tx.old) → (T.state tx.old).is_open ≡ true → IfErr result (λ e. e ≡ TxError.Memory) }
+    ensures device { T.device tx.new ≡ T.device tx.old }
+{
+    let at = 64 + (block / 8) as usize;
+    lay_alone(buffer, at, &[byte]);
+    let span = Span {
+        off: at as u16,
+        len: 1,
+    };
+    store(tx, area.start, &[span], buffer)
+}
+
+// Writes a new block of a bucket, with a key in its first cell.
+fn store_new<T: TxBlocks>(
+    tx: &mut T,
+    area: Area,
+    block: u32,
+    position: u32,
+    key: &[u8],
+    value: &[u8],
+    buffer: &mut [u8],
+) -> Result<(), TxError>
+    requires area { IsHashArea area }
+    requires size { (T.state tx.old).size ≡ area.size }
+    requires fits { area.start + area.blocks ≤ (T.state tx.old).blocks }
+    requires buffer { length buffer.old ≡ area.size }
+    requires block { block < area.blocks }
+    requires key { length key.now ≤ 28 }
+    requires value { length value.now ≤ 32 }
+    ensures stored { OnOk result (T.state tx.new ≡ with_accesses (T.state tx.old) (store_access (area.start + block) [] (new_block area.size (bucket_of area key.now) position key.now value.now) ∷ [])) }
+    ensures kept { OnErr result (T.state tx.new ≡ T.state tx.old) }
+    ensures cause { IfErr result (IsCause (T.state tx.new) 1 (T.device tx.old) (T.device tx.new)) }
+    ensures room { 0 < room_of (T.state tx.old) → (T.state tx.old).is_open ≡ true → IfErr result (λ e. e ≡ TxError.Memory) }
+    ensures device { T.device tx.new ≡ T.device tx.old }
+{
+    buffer.fill(0);
+    lay(buffer, 4, &spelled(bucket_of(area, key)));
+    lay(buffer, 8, &spelled(position));
+    lay_cell(buffer, 0, key, value);
+    store(tx, area.start + block, &[], buffer)
+}
+
+// Writes the number of the next block.
+fn store_next<T: TxBlocks>(
+    tx: &mut T,
+    area: Area,
+    block: u32,
+    next: u32,
+    buffer: &mut [u8],
+) -> Result<(), TxError>
+    requires area { IsHashArea area }
+    requires size { (T.state tx.old).size ≡ area.size }
+    requires fits { area.start + area.blocks ≤ (T.state tx.old).blocks }
+    requires buffer { length buffer.old ≡ area.size }
+    requires block { block < area.blocks }
+    ensures stored { OnOk result (T.state tx.new ≡ with_accesses (T.state tx.old) (store_access (area.start + block) (next_mark ∷ []) (block_with area.size 0 (to_be_bytes w32 next)) ∷ [])) }
+    ensures kept { OnErr result (T.state tx.new ≡ T.state tx.old) }
+    ensures cause { IfErr result (IsCause (T.state tx.new) 1 (T.device tx.old) (T.device tx.new)) }
+    ensures room { 0 < room_of (T.state tx.old) → (T.state tx.old).is_open ≡ true → IfErr result (λ e. e ≡ TxError.Memory) }
+    ensures device { T.device tx.new ≡ T.device tx.old }
+{
+    lay_alone(buffer, 0, &spelled(next));
+    let span = Span { off: 0, len: 4 };
+    store(tx, area.start + block, &[span], buffer)
+}
+
+// The three writes of a put into a new block.
+fn grow<T: TxBlocks>(
+    tx: &mut T,
+    area: Area,
+    block: u32,
+    last: u32,
+    position: u32,
+    key: &[u8],
+    value: &[u8],
+    byte: u8,
+    buffer: &mut [u8],
+) -> Result<(), StoreError>
+    requires area { IsHashArea area }
+    requires size { (T.state tx.old).size ≡ area.size }
+    requires fits { area.start + area.blocks ≤ (T.state tx.old).blocks }
+    requires is_open { (T.state tx.old).is_open ≡ true }
+    requires buffer { length buffer.old ≡ area.size }
+    requires block { block < area.blocks }
+    requires last { last < area.blocks }
+    requires key { length key.now ≤ 28 }
+    requires value { length value.now ≤ 32 }
+    ensures run { HasRun (Reserve 3 (Store area.start (bit_mark block ∷ []) (block_with area.size (bit_place block) (byte ∷ []))
+        (Store (area.start + block) [] (new_block area.size (bucket_of area key.now) position key.now value.now)
+        (Store (area.start + last) (next_mark ∷ []) (block_with area.size 0 (to_be_bytes w32 block)) (Done (Ok tt)))))) (T.state tx.old) (T.state tx.new) result }
+    ensures behaves { Behaves (T.state tx.old) (T.state tx.new) 3 (T.device tx.old) (T.device tx.new) result }
+{
+    if let Err(e) = reserve(tx, 3) {
+        return Err(StoreError::Tx(e));
+    }
+    if let Err(e) = store_bit(tx, area, block, byte, buffer) {
+        return Err(StoreError::Tx(e));
+    }
+    if let Err(e) = store_new(tx, area, block, position, key, value, buffer) {
+        return Err(StoreError::Tx(e));
+    }
+    match store_next(tx, area, last, block, buffer) {
+        Ok(()) => Ok(()),
+        Err(e) => Err(StoreError::Tx(e)),
+    }
+}
+
+// The mark over head and map.
+fn map_span(area: Area) -> Span
+    requires { IsHashArea area }
+    ensures { result ≡ map_mark area.blocks }
+{
+    Span {
+        off: 0,
+        len: (64 + (area.blocks + 7) / 8) as u16,
+    }
+}
+
+/// Puts a key into a new block behind the last one of its chain. `NoBlocks` comes exactly where none is free.
+pub fn put_block<T: TxBlocks>(
+    tx: &mut T,
+    area: Area,
+    last: u32,
+    position: u32,
+    key: &[u8],
+    value: &[u8],
+    buffer: &mut [u8],
+) -> Result<(), StoreError>
+    requires area { IsHashArea area }
+    requires size { (T.state tx.old).size ≡ area.size }
+    requires fits { area.start + area.blocks ≤ (T.state tx.old).blocks }
+    requires buffer { length buffer.old ≡ area.size }
+    requires last { last < area.blocks }
+    requires position { position < area.blocks }
+    requires key { length key.now ≤ 28 }
+    requires value { length value.now ≤ 32 }
+    ensures run { HasRun (Look area.start (map_mark area.blocks) (λ map. None) (λ map none. put_new area key.now value.now last position map (lowest_free map (buckets area + 1) (last_position area))))
+        (T.state tx.old) (T.state tx.new) result }
+    ensures behaves { Behaves (T.state tx.old) (T.state tx.new) 3 (T.device tx.old) (T.device tx.new) result }
+{
+    if let Err(e) = look(tx, area.start, map_span(area), buffer) {
+        return Err(StoreError::Tx(e));
+    }
+    let region = Region {
+        start: area.start,
+        size: area.blocks,
+    };
+    match take_lowest(buffer, region, buckets(area) + 1) {
+        Some(block) => {
+            let byte = buffer[64 + (block / 8) as usize];
+            grow(tx, area, block, last, position + 1, key, value, byte, buffer)
+        }
+        None => Err(StoreError::NoBlocks { need: 1, free: 0 }),
+    }
+}
+
+// The two writes that give a block back.
+fn shrink<T: TxBlocks>(
+    tx: &mut T,
+    area: Area,
+    block: u32,
+    before: u32,
+    byte: u8,
+    buffer: &mut [u8],
+) -> Result<bool, StoreError>
+    requires area { IsHashArea area }
+    requires size { (T.state tx.old).size ≡ area.size }
+    requires fits { area.start + area.blocks ≤ (T.state tx.old).blocks }
+    requires is_open { (T.state tx.old).is_open ≡ true }
+    requires buffer { length buffer.old ≡ area.size }
+    requires block { block < area.blocks }
+    requires before { before < area.blocks }
+    ensures run { HasRun (Reserve 2 (Store area.start (bit_mark block ∷ []) (block_with area.size (bit_place block) (byte ∷ []))
+        (Store (area.start + before) (next_mark ∷ []) (replicate area.size 0) (Done (Ok true))))) (T.state tx.old) (T.state tx.new) result }
+    ensures behaves { Behaves (T.state tx.old) (T.state tx.new) 2 (T.device tx.old) (T.device tx.new) result }
+{
+    if let Err(e) = reserve(tx, 2) {
+        return Err(StoreError::Tx(e));
+    }
+    if let Err(e) = store_bit(tx, area, block, byte, buffer) {
+        return Err(StoreError::Tx(e));
+    }
+    buffer.fill(0);
+    let span = Span { off: 0, len: 4 };
+    match store(tx, area.start + before, &[span], buffer) {
+        Ok(()) => Ok(true),
+        Err(e) => Err(StoreError::Tx(e)),
+    }
+}
+
+/// Gives the last block of a chain back.
+pub fn del_block<T: TxBlocks>(
+    tx: &mut T,
+    area: Area,
+    block: u32,
+    before: u32,
+    buffer: &mut [u8],
+) -> Result<bool, StoreError>
+    requires area { IsHashArea area }
+    requires size { (T.state tx.old).size ≡ area.size }
+    requires fits { area.start + area.blocks ≤ (T.state tx.old).blocks }
+    requires buffer { length buffer.old ≡ area.size }
+    requires block { block < area.blocks }
+    requires before { before < area.blocks }
+    ensures run { HasRun (Look area.start (map_mark area.blocks) (λ map. None) (λ map none.
+        Reserve 2
+        (Store area.start (bit_mark block ∷ []) (block_with area.size (bit_place block) (clear_bit (slice_index map (bit_place block)) block ∷ []))
+        (Store (area.start + before) (next_mark ∷ []) (replicate area.size 0) (Done (Ok true)))))) (T.state tx.old) (T.state tx.new) result }
+    ensures behaves { Behaves (T.state tx.old) (T.state tx.new) 2 (T.device tx.old) (T.device tx.new) result }
+{
+    if let Err(e) = look(tx, area.start, map_span(area), buffer) {
+        return Err(StoreError::Tx(e));
+    }
+    let region = Region {
+        start: area.start,
+        size: area.blocks,
+    };
+    give_back(buffer, region, block);
+    let byte = buffer[64 + (block / 8) as usize];
+    shrink(tx, area, block, before, byte, buffer)
+}

@@ -1,0 +1,82 @@
+// The look-up of a key.
+ghost use Rattle.std.specs.Prelude.{◌≡◌, ◌≢◌, ◌↔◌, ◌+◌, ◌<◌, ◌≤◌, Err, IsFalse, true, IfOk, IfErr, OnOk, length};
+ghost use Rattle.iso_model.specs.HashCalls.{get_program, is_key};
+ghost use Rattle.iso_model.specs.HashRegion.{get_op, hash_map, IsHashArea, IsHashRegion};
+ghost use Rattle.tx_blocks.specs.Tx.{IsLater};
+ghost use Rattle.tx_blocks.specs.Runs.{area_of, HasEnded, HasRead, IsLocalCall, IsStoreCause};
+
+use crate::buffer::{buffer, is_key, spelled};
+use crate::walk::{Walked, walk};
+use iso_alloc::{cell_count, is_part, piece};
+use iso_model::{Area, Bytes, Items, Region, StoreError};
+use std::alloc::Global;
+use tx_blocks::TxBlocks;
+
+// The value of a key, with buffers for a block and for the value.
+fn get_with<T: TxBlocks>(
+    tx: &mut T,
+    area: Area,
+    key: &[u8],
+    block: &mut [u8],
+    room: Vec<u8>,
+) -> Result<Option<Bytes>, StoreError>
+    requires area { IsHashArea area }
+    requires size { (T.state tx.old).size ≡ area.size }
+    requires fits { area.start + area.blocks ≤ (T.state tx.old).blocks }
+    requires key { is_key key.now ≡ true }
+    requires block { length block.old ≡ area.size }
+    requires room { length room.items ≡ 32 }
+    ensures ended { HasEnded (get_program area key.now) (T.state tx.old) (T.state tx.new) result }
+    ensures local { IfOk result (IsLocalCall (IsHashRegion area) (hash_map area) (get_op key.now) (T.state tx.old) (T.state tx.new)) }
+    ensures reads { HasRead (T.state tx.old) (T.state tx.new) }
+    ensures cause { IfErr result (IsStoreCause (T.state tx.new) 1 (T.device tx.old) (T.device tx.new)) }
+    ensures later { IsLater (T.device tx.old) (T.device tx.new) }
+    ensures passed { OnOk result ((T.device tx.new).faults ≡ (T.device tx.old).faults) }
+    ensures known { IfErr result (λ e. e ≢ StoreError.BadKey) }
+{
+    match walk(tx, area, key, true, block) {
+        Ok(Walked::AtCell { spot, .. }) => {
+            let at = 64 + 31 * cell_count(area.size as usize) + 33 * spot.cell as usize;
+            let part = piece(block, at, 33);
+            if !is_part(part, 32) {
+                return Err(StoreError::Broken {
+                    block: area.start + spot.block,
+                });
+            }
+            Ok(Some(Items::of(spelled(part, room))))
+        }
+        Ok(Walked::AtEnd { .. }) => Ok(None),
+        Err(e) => Err(e),
+    }
+}
+
+/// The value of a key, and none where the region's map has none. `BadKey` comes exactly where the key does not have 1 to 28 bytes,
+/// `Broken` where a block of the walk or the value part fails a test. It writes nothing.
+pub fn get<T: TxBlocks>(
+    alloc: Global,
+    tx: &mut T,
+    region: Region,
+    key: &[u8],
+) -> Result<Option<Bytes>, StoreError>
+    requires area { IsHashArea (area_of (T.state tx.old) region) }
+    requires fits { region.start + region.size ≤ (T.state tx.old).blocks }
+    ensures ended { HasEnded (get_program (area_of (T.state tx.old) region) key.now) (T.state tx.old) (T.state tx.new) result }
+    ensures local { IfOk result (IsLocalCall (IsHashRegion (area_of (T.state tx.old) region)) (hash_map (area_of (T.state tx.old) region)) (get_op key.now) (T.state tx.old) (T.state tx.new)) }
+    ensures reads { HasRead (T.state tx.old) (T.state tx.new) }
+    ensures bad_key { result ≡ Err StoreError.BadKey ↔ IsFalse (is_key key.now) }
+    ensures cause { IfErr result (IsStoreCause (T.state tx.new) 1 (T.device tx.old) (T.device tx.new)) }
+    ensures later { IsLater (T.device tx.old) (T.device tx.new) }
+    ensures passed { OnOk result ((T.device tx.new).faults ≡ (T.device tx.old).faults) }
+{
+    if !is_key(key) {
+        return Err(StoreError::BadKey);
+    }
+    let area = Area {
+        size: tx.block_size(),
+        start: region.start,
+        blocks: region.size,
+    };
+    let mut block = buffer(alloc, area.size as usize)?;
+    let room = buffer(alloc, 32)?;
+    get_with(tx, area, key, &mut block, room)
+}

@@ -1,0 +1,87 @@
+// The removal of a key.
+ghost use Rattle.std.specs.Prelude.{◌≡◌, ◌↔◌, ◌+◌, ◌<◌, ◌≤◌, Err, IsFalse, true, IfOk, IfErr, OnOk, length};
+ghost use Rattle.iso_model.specs.Cells.{keys_end};
+ghost use Rattle.iso_model.specs.HashCalls.{del_program, is_key, is_spent};
+ghost use Rattle.iso_model.specs.HashRegion.{del_op, hash_map, IsHashArea, IsHashRegion};
+ghost use Rattle.tx_blocks.specs.Tx.{IsLater};
+ghost use Rattle.tx_blocks.specs.Runs.{area_of, Behaves, HasEnded, HasRun, IsLocalCall, IsStoreCause, IsUnwritten};
+
+use crate::bucket::buckets;
+use crate::buffer::{buffer, is_key};
+use crate::links::del_block;
+use crate::walk::{Walked, walk};
+use crate::writes::clear_cell;
+use iso_alloc::{cell_count, is_alone, word_at};
+use iso_model::{Area, Region, Spot, StoreError};
+use std::alloc::Global;
+use tx_blocks::TxBlocks;
+
+// Whether the block is an overflow block, the last of its chain, and has no other used cell.
+fn is_spent(area: Area, spot: Spot, keys: &[u8]) -> bool
+    requires area { IsHashArea area }
+    requires keys { length keys.now ≡ keys_end area.size }
+    ensures { result ≡ is_spent area spot keys.now }
+{
+    buckets(area) < spot.block
+        && word_at(keys, 0) == 0
+        && is_alone(area.size as usize, keys, spot.cell as usize)
+}
+
+// Removes a key, with a buffer for a block.
+fn del_with<T: TxBlocks>(
+    tx: &mut T,
+    area: Area,
+    key: &[u8],
+    block: &mut [u8],
+) -> Result<bool, StoreError>
+    requires area { IsHashArea area }
+    requires size { (T.state tx.old).size ≡ area.size }
+    requires fits { area.start + area.blocks ≤ (T.state tx.old).blocks }
+    requires key { is_key key.now ≡ true }
+    requires block { length block.old ≡ area.size }
+    ensures run { HasRun (del_program area key.now) (T.state tx.old) (T.state tx.new) result }
+    ensures behaves { Behaves (T.state tx.old) (T.state tx.new) 2 (T.device tx.old) (T.device tx.new) result }
+{
+    match walk(tx, area, key, false, block) {
+        Ok(Walked::AtCell { spot, before }) => {
+            let end = 64 + 31 * cell_count(area.size as usize);
+            if is_spent(area, spot, &block[..end]) {
+                return del_block(tx, area, spot.block, before, block);
+            }
+            clear_cell(tx, area, spot, block)
+        }
+        Ok(Walked::AtEnd { .. }) => Ok(false),
+        Err(e) => Err(e),
+    }
+}
+
+/// Removes a key, and says whether the region's map had it. `BadKey` comes exactly where the key does not have 1 to 28 bytes,
+/// `Broken` where a block of the walk fails a test. A refusal has written nothing, but where the transaction wants memory between
+/// two writes.
+pub fn del<T: TxBlocks>(
+    alloc: Global,
+    tx: &mut T,
+    region: Region,
+    key: &[u8],
+) -> Result<bool, StoreError>
+    requires area { IsHashArea (area_of (T.state tx.old) region) }
+    requires fits { region.start + region.size ≤ (T.state tx.old).blocks }
+    ensures ended { HasEnded (del_program (area_of (T.state tx.old) region) key.now) (T.state tx.old) (T.state tx.new) result }
+    ensures local { IfOk result (IsLocalCall (IsHashRegion (area_of (T.state tx.old) region)) (hash_map (area_of (T.state tx.old) region)) (del_op key.now) (T.state tx.old) (T.state tx.new)) }
+    ensures bad_key { result ≡ Err StoreError.BadKey ↔ IsFalse (is_key key.now) }
+    ensures cause { IfErr result (IsStoreCause (T.state tx.new) 2 (T.device tx.old) (T.device tx.new)) }
+    ensures unwritten { IfErr result (IsUnwritten (T.state tx.old) (T.state tx.new)) }
+    ensures later { IsLater (T.device tx.old) (T.device tx.new) }
+    ensures passed { OnOk result ((T.device tx.new).faults ≡ (T.device tx.old).faults) }
+{
+    if !is_key(key) {
+        return Err(StoreError::BadKey);
+    }
+    let area = Area {
+        size: tx.block_size(),
+        start: region.start,
+        blocks: region.size,
+    };
+    let mut block = buffer(alloc, area.size as usize)?;
+    del_with(tx, area, key, &mut block)
+}

@@ -1,0 +1,109 @@
+// The walk over the blocks of a chain.
+ghost use Rattle.std.specs.Prelude.{◌≡◌, ◌+◌, ◌<◌, ◌≤◌, ◌^◌, IfOk, IfErr, IfSome, OnOk, length, true};
+ghost use Rattle.iso_model.specs.Effect.{or_else};
+ghost use Rattle.iso_model.specs.HashCalls.{spot_in};
+ghost use Rattle.iso_model.specs.HashRegion.{IsHashArea};
+ghost use Rattle.tx_blocks.specs.Tx.{IsLater};
+ghost use Rattle.tx_blocks.specs.Runs.{HasRead, IsStoreCause};
+ghost use Rattle.iso_hash.specs.Walks.{HasWalked, IsInside};
+
+use crate::bucket::{bucket_of, is_linked, last_position};
+use iso_alloc::{cell_count, cell_with, unused_cell, word_at};
+use iso_model::{Area, Span, Spot, StoreError};
+use tx_blocks::{TxBlocks, look, mark};
+
+/// Where a walk ends: at the key's cell, with the block before it in the chain (0 where there is none); or past the last block of
+/// the chain, with its first unused cell, the last block and its position.
+#[derive(Clone, Copy, Debug)]
+pub enum Walked {
+    AtCell { spot: Spot, before: u32 },
+    AtEnd { spare: Option<Spot>, last: u32, position: u32 },
+}
+
+// The first unused cell so far.
+fn first_spare(spare: Option<Spot>, block: u32, unused: Option<usize>) -> Option<Spot>
+    requires { IfSome unused (λ cell. cell < 2 ^ 32) }
+    ensures { result ≡ or_else spare (spot_in block unused) }
+{
+    if spare.is_some() {
+        return spare;
+    }
+    match unused {
+        Some(cell) => Some(Spot {
+            block,
+            cell: cell as u32,
+        }),
+        None => None,
+    }
+}
+
+/// Walks to the cell that has the key.
+pub fn walk<T: TxBlocks>(
+    tx: &mut T,
+    area: Area,
+    key: &[u8],
+    with_value: bool,
+    buffer: &mut [u8],
+) -> Result<Walked, StoreError>
+    requires area { IsHashArea area }
+    requires size { (T.state tx.old).size ≡ area.size }
+    requires fits { area.start + area.blocks ≤ (T.state tx.old).blocks }
+    requires buffer { length buffer.old ≡ area.size }
+    ensures walked { HasWalked area key.now with_value (T.state tx.old) (T.state tx.new) buffer.new result }
+    ensures inside { IfOk result (IsInside area) }
+    ensures is_open { OnOk result ((T.state tx.new).is_open ≡ true) }
+    ensures reads { HasRead (T.state tx.old) (T.state tx.new) }
+    ensures cause { IfErr result (IsStoreCause (T.state tx.new) 1 (T.device tx.old) (T.device tx.new)) }
+    ensures later { IsLater (T.device tx.old) (T.device tx.new) }
+    ensures passed { OnOk result ((T.device tx.new).faults ≡ (T.device tx.old).faults) }
+{
+    let size = area.size as usize;
+    let end = 64 + 31 * cell_count(size);
+    let bucket = bucket_of(area, key);
+    let mut block = 1 + bucket;
+    let mut before = 0;
+    let mut spare = None;
+    for position in 0..last_position(area) + 1 {
+        let keys_mark = Span {
+            off: 0,
+            len: end as u16,
+        };
+        if let Err(e) = look(tx, area.start + block, keys_mark, buffer) {
+            return Err(StoreError::Tx(e));
+        }
+        let keys = &buffer[..end];
+        if !is_linked(area, bucket, position, keys) {
+            return Err(StoreError::Broken {
+                block: area.start + block,
+            });
+        }
+        if let Some(cell) = cell_with(size, key, keys) {
+            if with_value {
+                let value_mark = Span {
+                    off: (end + 33 * cell) as u16,
+                    len: 33,
+                };
+                mark(tx, value_mark);
+            }
+            let spot = Spot {
+                block,
+                cell: cell as u32,
+            };
+            return Ok(Walked::AtCell { spot, before });
+        }
+        spare = first_spare(spare, block, unused_cell(size, keys));
+        let next = word_at(keys, 0);
+        if next == 0 {
+            return Ok(Walked::AtEnd {
+                spare,
+                last: block,
+                position,
+            });
+        }
+        before = block;
+        block = next;
+    }
+    Err(StoreError::Broken {
+        block: area.start + block,
+    })
+}

@@ -1,0 +1,159 @@
+// The writes that puts and removals are made of.
+ghost use Rattle.std.specs.Prelude.{◌≡◌, ◌+◌, ◌*◌, ◌<◌, ◌≤◌, length, Ok, true, [], ◌∷◌, replicate};
+ghost use Rattle.std.specs.List.{AllByRecursion};
+ghost use Rattle.iso_model.specs.Cells.{block_with, cell_count, key_mark, keys_end, laid_at, value_mark, value_part};
+ghost use Rattle.iso_model.specs.HashCalls.{with_cell};
+ghost use Rattle.iso_model.specs.HashRegion.{IsHashArea};
+ghost use Rattle.iso_model.specs.Premises.{IsSpan};
+ghost use Rattle.iso_model.specs.Stores.{Done, Store};
+ghost use Rattle.tx_blocks.specs.Runs.{Behaves, HasRun};
+ghost use Rattle.iso_hash.specs.Walks.{IsSpot};
+
+use iso_alloc::{cell_count, lay, spell};
+use iso_model::{Area, Span, Spot, StoreError};
+use tx_blocks::{TxBlocks, store};
+
+/// Zeros, but for these bytes from `at` on.
+pub fn lay_alone(into: &mut [u8], at: usize, bytes: &[u8])
+    requires { at + length bytes.now ≤ length into.old }
+    ensures { into.new ≡ block_with (length into.old) at bytes.now }
+{
+    into.fill(0);
+    lay(into, at, bytes);
+}
+
+/// Puts the key part and the value part of a cell in place.
+pub fn lay_cell(into: &mut [u8], cell: usize, key: &[u8], value: &[u8])
+    requires least { 256 ≤ length into.old }
+    requires most { length into.old ≤ 4096 }
+    requires cell { cell < cell_count (length into.old) }
+    requires key { length key.now ≤ 28 }
+    requires value { length value.now ≤ 32 }
+    ensures { into.new ≡ with_cell (length into.old) cell key.now value.now into.old }
+{
+    let end = 64 + 31 * cell_count(into.len());
+    let mut key_part = [0u8; 31];
+    spell(&mut key_part, key);
+    lay(into, 64 + 31 * cell, &key_part);
+    let mut value_part = [0u8; 33];
+    spell(&mut value_part, value);
+    lay(into, end + 33 * cell, &value_part);
+}
+
+/// The one write of a call, or its last.
+pub fn last_store<T: TxBlocks>(
+    tx: &mut T,
+    block: u32,
+    spans: &[Span],
+    bytes: &[u8],
+) -> Result<(), StoreError>
+    requires bytes { length bytes.now ≡ (T.state tx.old).size }
+    requires block { block < (T.state tx.old).blocks }
+    requires spans { AllByRecursion (IsSpan (T.state tx.old).size) spans.now }
+    requires few { length spans.now ≤ 8 }
+    ensures run { HasRun (Store block spans.now bytes.now (Done (Ok tt))) (T.state tx.old) (T.state tx.new) result }
+    ensures behaves { Behaves (T.state tx.old) (T.state tx.new) 1 (T.device tx.old) (T.device tx.new) result }
+{
+    match store(tx, block, spans, bytes) {
+        Ok(()) => Ok(()),
+        Err(e) => Err(StoreError::Tx(e)),
+    }
+}
+
+/// Writes the value of a cell that has the key.
+pub fn put_value<T: TxBlocks>(
+    tx: &mut T,
+    area: Area,
+    spot: Spot,
+    value: &[u8],
+    buffer: &mut [u8],
+) -> Result<(), StoreError>
+    requires area { IsHashArea area }
+    requires size { (T.state tx.old).size ≡ area.size }
+    requires fits { area.start + area.blocks ≤ (T.state tx.old).blocks }
+    requires buffer { length buffer.old ≡ area.size }
+    requires spot { IsSpot area spot }
+    requires value { length value.now ≤ 32 }
+    ensures run { HasRun (Store (area.start + spot.block) (value_mark area.size spot.cell ∷ []) (block_with area.size (keys_end area.size + 33 * spot.cell) (value_part value.now)) (Done (Ok tt)))
+        (T.state tx.old) (T.state tx.new) result }
+    ensures behaves { Behaves (T.state tx.old) (T.state tx.new) 1 (T.device tx.old) (T.device tx.new) result }
+{
+    let at = 64 + 31 * cell_count(area.size as usize) + 33 * spot.cell as usize;
+    let mut part = [0u8; 33];
+    spell(&mut part, value);
+    lay_alone(buffer, at, &part);
+    let span = Span {
+        off: at as u16,
+        len: 33,
+    };
+    last_store(tx, area.start + spot.block, &[span], buffer)
+}
+
+// The marks of a cell.
+fn cell_marks(size: usize, cell: u32) -> [Span; 2]
+    requires size { 256 ≤ size }
+    requires most { size ≤ 4096 }
+    requires cell { cell < cell_count size }
+    ensures { result ≡ key_mark cell ∷ value_mark size cell ∷ [] }
+{
+    let end = 64 + 31 * cell_count(size);
+    let key_span = Span {
+        off: (64 + 31 * cell as usize) as u16,
+        len: 31,
+    };
+    let value_span = Span {
+        off: (end + 33 * cell as usize) as u16,
+        len: 33,
+    };
+    [key_span, value_span]
+}
+
+/// Writes key and value of an unused cell.
+pub fn put_cell<T: TxBlocks>(
+    tx: &mut T,
+    area: Area,
+    spot: Spot,
+    key: &[u8],
+    value: &[u8],
+    buffer: &mut [u8],
+) -> Result<(), StoreError>
+    requires area { IsHashArea area }
+    requires size { (T.state tx.old).size ≡ area.size }
+    requires fits { area.start + area.blocks ≤ (T.state tx.old).blocks }
+    requires buffer { length buffer.old ≡ area.size }
+    requires spot { IsSpot area spot }
+    requires key { length key.now ≤ 28 }
+    requires value { length value.now ≤ 32 }
+    ensures run { HasRun (Store (area.start + spot.block) (key_mark spot.cell ∷ value_mark area.size spot.cell ∷ []) (with_cell area.size spot.cell key.now value.now (replicate area.size 0)) (Done (Ok tt)))
+        (T.state tx.old) (T.state tx.new) result }
+    ensures behaves { Behaves (T.state tx.old) (T.state tx.new) 1 (T.device tx.old) (T.device tx.new) result }
+{
+    buffer.fill(0);
+    lay_cell(buffer, spot.cell as usize, key, value);
+    let spans = cell_marks(area.size as usize, spot.cell);
+    last_store(tx, area.start + spot.block, &spans, buffer)
+}
+
+/// Makes a cell zero.
+pub fn clear_cell<T: TxBlocks>(
+    tx: &mut T,
+    area: Area,
+    spot: Spot,
+    buffer: &mut [u8],
+) -> Result<bool, StoreError>
+    requires area { IsHashArea area }
+    requires size { (T.state tx.old).size ≡ area.size }
+    requires fits { area.start + area.blocks ≤ (T.state tx.old).blocks }
+    requires buffer { length buffer.old ≡ area.size }
+    requires spot { IsSpot area spot }
+    ensures run { HasRun (Store (area.start + spot.block) (key_mark spot.cell ∷ value_mark area.size spot.cell ∷ []) (replicate area.size 0) (Done (Ok true)))
+        (T.state tx.old) (T.state tx.new) result }
+    ensures behaves { Behaves (T.state tx.old) (T.state tx.new) 1 (T.device tx.old) (T.device tx.new) result }
+{
+    buffer.fill(0);
+    let spans = cell_marks(area.size as usize, spot.cell);
+    match store(tx, area.start + spot.block, &spans, buffer) {
+        Ok(()) => Ok(true),
+        Err(e) => Err(StoreError::Tx(e)),
+    }
+}

@@ -1,0 +1,71 @@
+-- Why the calls of a transaction are refused.
+use Rattle.std.proofs.Common.{◌≡◌, ◌∙◌, sym, refl, ap, subst, ℕ, ◌+◌, ◌*◌, ◌<◌, ◌≤◌, ◌==◌, Bool, true, false, List, [], length, Option, Some, None, Result, Ok, Err, IfErr, nat_le, take, drop, arith, option_map}
+use Rattle.std.proofs.lemmas.Bool.Decides.{nat_tests}
+use Rattle.std.proofs.lemmas.List.FromFn.{get_or-map-range_with_len}
+use Rattle.iso_model.specs.declared.access.MarkError.{MarkError}
+use Rattle.iso_model.specs.declared.stores.TxError.{TxError}
+use Rattle.iso_model.specs.declared.stores.TxError.TheVariants as error
+use Rattle.iso_model.specs.Marks.{mark_fault, marked}
+use Rattle.iso_model.specs.declared.access.Access.{Access}
+use Rattle.iso_model.specs.declared.access.Span.{Span}
+use Rattle.std.proofs.Common.{suc, ◌∷◌, OnOk}
+use Rattle.tx_table.specs.Work.{Doing, span_at}
+use Rattle.iso_model.specs.Premises.{block_at}
+use Rattle.tx_blocks.specs.Tx.{Tx, access_refusal, mark_refusal, marking, IsRefused}
+use Rattle.plain_tx.specs.Plain.{blocks_of}
+
+pub refused_block : (t : Tx) (block : ℕ) (free : TxError → Type 0) → t.is_open ≡ true → t.blocks ≤ block → IsRefused {T = Unit {0}} (access_refusal t block) free (Err error.BadBlock)
+refused_block t block free is_open past =
+    let test : nat_le t.blocks block ≡ true = grind (arith, nat_tests) in
+    rw (is_open, test) refl
+
+pub refused_count : (t : Tx) (block : ℕ) (free : TxError → Type 0) → t.is_open ≡ true → block < t.blocks → 4096 ≤ length t.accesses → IsRefused {T = Unit {0}} (access_refusal t block) free (Err error.TooManyAccesses)
+refused_count t block free is_open inside many =
+    let test : nat_le t.blocks block ≡ false = grind (arith, nat_tests) in
+    let full : nat_le 4096 (length t.accesses) ≡ true = grind (arith, nat_tests) in
+    rw (is_open, test, full) refl
+
+pub refused_freely : (t : Tx) (block : ℕ) (free : TxError → Type 0) (r : Result (Unit {0}) TxError) → t.is_open ≡ true → block < t.blocks → length t.accesses < 4096 → IfErr r free → IsRefused (access_refusal t block) free r
+refused_freely t block free r is_open inside few cause =
+    let test : nat_le t.blocks block ≡ false = grind (arith, nat_tests) in
+    let room : nat_le 4096 (length t.accesses) ≡ false = grind (arith, nat_tests) in
+    rw (is_open, test, room) cause
+
+pub mark_refused : (t : Tx) (off len : ℕ) (fault : MarkError) (e : TxError) → t.is_open ≡ true → mark_fault t.size off len t.accesses ≡ Some fault → marking fault ≡ e → IsRefused {T = Unit {0}} (mark_refusal t off len) (λ x. ⊥) (Err e)
+mark_refused t off len fault e is_open is same = rw (is_open, is, same) refl
+
+pub mark_taken : (t : Tx) (off len : ℕ) (x : Unit {0}) → t.is_open ≡ true → mark_fault t.size off len t.accesses ≡ None → IsRefused (mark_refusal t off len) (λ e. ⊥) (Ok x)
+mark_taken t off len x is_open none = rw (is_open, none) tt
+
+-- a block of the array
+pub block_of : (size count : ℕ) (bytes : List ℕ) (b : ℕ) → b < count → block_at (blocks_of size count bytes) b ≡ take size (drop (b * size) bytes)
+block_of size count bytes b inside = get_or-map-range_with_len (λ k. take size (drop (k * size) bytes)) 0 count b b [] inside (omega arith)
+
+same_some : {X : Type 0} (x y : X) → Some x ≡ Some y → x ≡ y
+same_some x y e = cc
+
+-- a work that has as many accesses as before
+pub record Keeps (old new : Doing) : Type 0 where
+  pub size : new.size ≡ old.size
+  pub blocks : new.blocks ≡ old.blocks
+  pub count : length new.accesses ≡ length old.accesses
+
+length-marked : (span : Span) (xs : List Access) → length (marked span xs) ≡ length xs
+length-marked span [] = refl
+length-marked span (a ∷ []) = refl
+length-marked span (a ∷ b ∷ xs) = ap (λ n. suc n) (length-marked span (b ∷ xs))
+
+-- a mark, taken or refused
+pub kept : (old new : Doing) (off len : ℕ) (result : Result (Unit {0}) MarkError)
+    → OnOk result ((mark_fault old.size off len old.accesses ≡ None) × (new ≡ record old { accesses = marked (span_at off len) old.accesses; settled = false }))
+    → ((fault : MarkError) → result ≡ Err fault → (mark_fault old.size off len old.accesses ≡ Some fault) × (new ≡ old)) → Keeps old new
+kept old new off len (Ok x) ok err = record {
+  size = ap (λ (w : Doing). w.size) ok.1;
+  blocks = ap (λ (w : Doing). w.blocks) ok.1;
+  count = ap (λ (w : Doing). length w.accesses) ok.1 ∙ length-marked (span_at off len) old.accesses;
+}
+kept old new off len (Err fault) ok err = let same = (err fault refl).1 in record {
+  size = ap (λ (w : Doing). w.size) same;
+  blocks = ap (λ (w : Doing). w.blocks) same;
+  count = ap (λ (w : Doing). length w.accesses) same;
+}

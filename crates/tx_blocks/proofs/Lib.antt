@@ -1,0 +1,6 @@
+pub mod Programs
+pub mod Outcomes
+pub mod Progress
+pub mod Marking
+pub mod Refusals
+pub mod Parts

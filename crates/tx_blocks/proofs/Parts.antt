@@ -1,0 +1,139 @@
+-- A call that is made of parts.
+use Rattle.std.proofs.Common.{◌≡◌, ◌≢◌, ◌∙◌, sym, refl, ap, subst, ℕ, ◌+◌, ◌-◌, ◌<◌, ◌≤◌, IsTrue, List, [], ◌∷◌, ◌++◌, length, take, drop, Option, Some, None, Result, Ok, Err, OnOk, IfErr, arith, append_assoc, length-append}
+use Rattle.std.proofs.lemmas.List.{take_at}
+use Rattle.iso_model.specs.declared.access.Access.{Access}
+use Rattle.iso_model.specs.declared.stores.StoreError.{StoreError}
+use Rattle.iso_model.specs.declared.stores.StoreError.TheVariants as store
+use Rattle.iso_model.specs.declared.stores.TxError.{TxError}
+use Rattle.iso_model.specs.declared.stores.TxError.TheVariants as error
+use Rattle.iso_model.specs.Effect.{own}
+use Rattle.iso_model.specs.Stores.{Program, after, outcome}
+use Rattle.tx_blocks.specs.Tx.{Tx, Device, IsLater, with_accesses, room_of}
+use Rattle.tx_blocks.specs.Runs.{Ends, Ran, Stopped, IsCut, HasRun, HasEnded, HasRead, IsCause, IsStoreCause, IsUnwritten, Behaves}
+use Rattle.tx_blocks.proofs.Programs.{reads_append}
+use Rattle.tx_blocks.proofs.Progress.{IsAt, same_base, with_more}
+use Rattle.tx_blocks.proofs.Refusals.{cause_earlier, later_than, later_same, read_same}
+
+ends_from : {R : Type 0} (whole rest : Program R) (t u v : Tx) (end : Option R) → IsAt whole rest t u → Ends rest u v end → Ends whole t v end
+ends_from whole rest t u v end now ended = record {
+  done = now.done ++ ended.done;
+  is = ended.is ∙ ap (λ (w : Tx). with_accesses w ended.done) now.is ∙ with_more t now.done ended.done;
+  told = λ A told. now.told A told ∙ ap (after now.done) (ended.told A (same_base whole rest t u now ∙ told));
+}
+
+take_more : {X : Type 0} (xs ys : List X) (n : ℕ) → take (length xs + n) (xs ++ ys) ≡ xs ++ take n ys
+take_more [] ys n = let e : 0 + n ≡ n = omega arith in ap (λ (m : ℕ). take m ys) e
+take_more (x ∷ xs) ys n = let e : Rattle.std.proofs.Common.suc (length xs) + n ≡ Rattle.std.proofs.Common.suc (length xs + n) = omega arith in ap (λ (m : ℕ). take m (x ∷ (xs ++ ys))) e ∙ ap (λ rest. x ∷ rest) (take_more xs ys n)
+
+stopped_from : {R : Type 0} (whole rest : Program R) (t u v : Tx) → IsAt whole rest t u → Stopped rest u v → Stopped whole t v
+stopped_from whole rest t u v now stopped = record {
+  done = now.done ++ stopped.done;
+  is = stopped.is ∙ ap (λ (w : Tx). with_accesses w stopped.done) now.is ∙ with_more t now.done stopped.done;
+  told = λ A told.
+      let part = stopped.told A (same_base whole rest t u now ∙ told) in
+      (length now.done + part.0,
+      ap (λ xs. now.done ++ xs) part.1 ∙ sym (take_more now.done (outcome (room_of u) rest (own A u.accesses)).0 part.0) ∙ sym (ap (λ x. take (length now.done + part.0) x.0) (now.told A told)));
+}
+
+cut_from : {R : Type 0} (whole rest : Program R) (t u v : Tx) (e : TxError) → IsAt whole rest t u → IsCut rest u v e → IsCut whole t v e
+cut_from whole rest t u v error.TooManyAccesses now cut = ends_from whole rest t u v None now cut
+cut_from whole rest t u v error.Memory now cut = stopped_from whole rest t u v now cut
+cut_from whole rest t u v error.Down now cut = stopped_from whole rest t u v now cut
+cut_from whole rest t u v error.Disk now cut = stopped_from whole rest t u v now cut
+cut_from whole rest t u v error.NotInTx now cut = stopped_from whole rest t u v now cut
+cut_from whole rest t u v error.BadBlock now cut = cut
+cut_from whole rest t u v error.BadRange now cut = cut
+cut_from whole rest t u v error.NoAccess now cut = cut
+cut_from whole rest t u v error.TooManyMarks now cut = cut
+
+-- a part that follows what is left of the call ends the call
+pub run_from : {X : Type 0} (whole rest : Program (Result X StoreError)) (t u v : Tx) (result : Result X StoreError) → IsAt whole rest t u → HasRun rest u v result → HasRun whole t v result
+run_from whole rest t u v (Ok x) now run = ends_from whole rest t u v (Some (Ok x)) now run
+run_from whole rest t u v (Err store.BadKey) now run = ends_from whole rest t u v (Some (Err store.BadKey)) now run
+run_from whole rest t u v (Err store.BadValue) now run = ends_from whole rest t u v (Some (Err store.BadValue)) now run
+run_from whole rest t u v (Err (store.NoBlocks need free)) now run = ends_from whole rest t u v (Some (Err (store.NoBlocks need free))) now run
+run_from whole rest t u v (Err (store.Broken block)) now run = ends_from whole rest t u v (Some (Err (store.Broken block))) now run
+run_from whole rest t u v (Err (store.Tx e)) now run = cut_from whole rest t u v e now run
+run_from whole rest t u v (Err store.Memory) now run = run
+
+pub ended_from : {X : Type 0} (p : Program (Result X StoreError)) (t u : Tx) (result : Result X StoreError) → HasRun p t u result → HasEnded p t u result
+ended_from p t u (Ok x) run = run
+ended_from p t u (Err store.BadKey) run = run
+ended_from p t u (Err store.BadValue) run = run
+ended_from p t u (Err (store.NoBlocks need free)) run = run
+ended_from p t u (Err (store.Broken block)) run = run
+ended_from p t u (Err (store.Tx e)) run = run
+ended_from p t u (Err store.Memory) run = absurd run
+
+-- the same program by another name
+pub ended_as : {X : Type 0} (p q : Program (Result X StoreError)) (t u : Tx) (result : Result X StoreError) → q ≡ p → HasEnded p t u result → HasEnded q t u result
+ended_as p q t u result e ended = subst (λ (r : Program (Result _ StoreError)). HasEnded r t u result) (sym e) ended
+
+pub read_join : (t u v : Tx) → HasRead t u → HasRead u v → HasRead t v
+read_join t u v one two = record {
+  done = one.done ++ two.done;
+  is = two.is ∙ ap (λ (w : Tx). with_accesses w two.done) one.is ∙ with_more t one.done two.done;
+  reads = reads_append one.done two.done one.reads two.reads;
+}
+
+cause_since : (u : Tx) (writes : ℕ) (before mid now : Device) (e : StoreError) → before.faults ≤ mid.faults → IsStoreCause u writes mid now e → IsStoreCause u writes before now e
+cause_since u writes before mid now store.BadKey le cause = tt
+cause_since u writes before mid now store.BadValue le cause = tt
+cause_since u writes before mid now (store.NoBlocks need free) le cause = tt
+cause_since u writes before mid now (store.Broken block) le cause = tt
+cause_since u writes before mid now (store.Tx e) le cause = cause_earlier u writes writes before mid now e (omega arith) le cause
+cause_since u writes before mid now store.Memory le cause = tt
+
+-- after reads that went well
+pub behaves_after : {R : Type 0} (t u v : Tx) (writes : ℕ) (before mid now : Device) (result : Result R StoreError) → HasRead t u → IsLater before mid → mid.faults ≡ before.faults
+    → Behaves u v writes mid now result → Behaves t v writes before now result
+behaves_after t u v writes before mid now (Ok x) read later passed is = record { cause = tt; unwritten = tt; known = tt; later = later_than before mid now later is.later; passed = is.passed ∙ passed }
+behaves_after t u v writes before mid now (Err e) read later passed is = record {
+  cause = cause_since v writes before mid now e (omega (arith, later.faults)) is.cause;
+  unwritten = λ other. read_join t u v read (is.unwritten other);
+  known = is.known;
+  later = later_than before mid now later is.later;
+  passed = tt;
+}
+
+-- a refusal of an access after reads alone
+pub refused_reading : {R : Type 0} (t v : Tx) (writes : ℕ) (before now : Device) (e : TxError) → HasRead t v → 1 ≤ writes → IsCause v 1 before now e → IsLater before now → Behaves {R = R} t v writes before now (Err (store.Tx e))
+refused_reading t v writes before now e read le cause later = record { cause = cause_earlier v 1 writes before before now e le (omega arith) cause; unwritten = λ other. read; known = (λ x. cc, λ x. cc); later = later; passed = tt }
+
+-- any refusal that is not of the arguments
+pub refused_so : {R : Type 0} (t v : Tx) (writes : ℕ) (before now : Device) (e : StoreError) → HasRead t v → IsStoreCause v writes before now e → (e ≢ store.BadKey) × (e ≢ store.BadValue) → IsLater before now
+    → Behaves {R = R} t v writes before now (Err e)
+refused_so t v writes before now e read cause known later = record { cause = cause; unwritten = λ other. read; known = known; later = later; passed = tt }
+
+-- want of memory for a write
+pub refused_memory : {R : Type 0} (t v : Tx) (writes : ℕ) (before now : Device) (e : TxError) → e ≡ error.Memory → now ≡ before → Behaves {R = R} t v writes before now (Err (store.Tx e))
+refused_memory {R = R} t v writes before now e is same = subst (λ (x : TxError). Behaves {R = R} t v writes before now (Err (store.Tx x))) (sym is)
+    (record { cause = tt; unwritten = λ other. absurd (other refl); known = (λ x. cc, λ x. cc); later = later_same before now same; passed = tt })
+
+pub done_so : {R : Type 0} (t v : Tx) (writes : ℕ) (before now : Device) (r : R) → now ≡ before → Behaves t v writes before now (Ok r)
+done_so t v writes before now r same = record { cause = tt; unwritten = tt; known = tt; later = later_same before now same; passed = ap (λ (d : Device). d.faults) same }
+
+-- a call has further accesses, and the transaction is else as before
+pub record HasGrown (t u : Tx) : Type 0 where
+  pub done : List Access
+  pub is : u ≡ with_accesses t done
+
+cut_grows : {R : Type 0} (p : Program R) (t u : Tx) (e : TxError) → IsCut p t u e → HasGrown t u
+cut_grows p t u error.TooManyAccesses cut = record { done = cut.done; is = cut.is }
+cut_grows p t u error.Memory cut = record { done = cut.done; is = cut.is }
+cut_grows p t u error.Down cut = record { done = cut.done; is = cut.is }
+cut_grows p t u error.Disk cut = record { done = cut.done; is = cut.is }
+cut_grows p t u error.NotInTx cut = record { done = cut.done; is = cut.is }
+cut_grows p t u error.BadBlock cut = absurd cut
+cut_grows p t u error.BadRange cut = absurd cut
+cut_grows p t u error.NoAccess cut = absurd cut
+cut_grows p t u error.TooManyMarks cut = absurd cut
+
+pub ended_grows : {X : Type 0} (p : Program (Result X StoreError)) (t u : Tx) (result : Result X StoreError) → HasEnded p t u result → HasGrown t u
+ended_grows p t u (Ok x) ended = record { done = ended.done; is = ended.is }
+ended_grows p t u (Err store.BadKey) ended = record { done = ended.done; is = ended.is }
+ended_grows p t u (Err store.BadValue) ended = record { done = ended.done; is = ended.is }
+ended_grows p t u (Err (store.NoBlocks need free)) ended = record { done = ended.done; is = ended.is }
+ended_grows p t u (Err (store.Broken block)) ended = record { done = ended.done; is = ended.is }
+ended_grows p t u (Err (store.Tx e)) ended = cut_grows p t u e ended
+ended_grows p t u (Err store.Memory) ended = record { done = []; is = ended ∙ sym (ap (λ accesses. record t { accesses = accesses }) (Rattle.std.proofs.lemmas.List.append-nil t.accesses)) }

@@ -1,0 +1,110 @@
+-- Where a call that follows a program is refused an access.
+use Rattle.std.proofs.Common.{◌≡◌, ◌∙◌, sym, refl, ap, subst, ℕ, ◌+◌, ◌-◌, ◌<◌, ◌≤◌, IsTrue, false, List, [], ◌∷◌, ◌++◌, length, take, Option, Some, None, arith, append_assoc}
+use Rattle.std.proofs.lemmas.List.{append-nil}
+use Rattle.fault_count.specs.Count.{Rose, one_more}
+use Rattle.iso_model.specs.declared.access.Access.{Access}
+use Rattle.iso_model.specs.declared.access.Span.{Span}
+use Rattle.iso_model.specs.declared.stores.StoreError.{StoreError}
+use Rattle.iso_model.specs.declared.stores.StoreError.TheVariants as store
+use Rattle.iso_model.specs.declared.stores.TxError.{TxError}
+use Rattle.iso_model.specs.declared.stores.TxError.TheVariants as error
+use Rattle.iso_model.specs.Effect.{is_write}
+use Rattle.iso_model.specs.Stores.{Program, Look, Reserve, Store, look_access, then_do, AreReads}
+use Rattle.tx_blocks.specs.Tx.{Tx, Device, IsLater, with_accesses, room_of}
+use Rattle.tx_blocks.specs.Runs.{Ends, Ran, Stopped, IsCut, IsCause, HasRead, IsStoreCause}
+use Rattle.tx_blocks.proofs.Programs.{reads_append}
+use Rattle.tx_blocks.proofs.Progress.{IsAt, at_start, stopped_at, stopped_then, full_at_look, full_at_store, full_at_reserve, full_then}
+
+full : (u v : Tx) → v ≡ u → 4096 < length v.accesses + 1 → 4096 ≤ length u.accesses
+full u v same many = let e : length v.accesses ≡ length u.accesses = ap (λ (w : Tx). length w.accesses) same in omega arith
+
+-- a read that is refused cuts the call short
+pub cut_at_look : {R : Type 0} (whole : Program R) (b : ℕ) (mark : Span) (further : List ℕ → Option Span) (next : List ℕ → List ℕ → Program R) (t u v : Tx) (before now : Device) (e : TxError)
+    → IsAt whole (Look b mark further next) t u → v ≡ u → IsCause v 1 before now e → IsCut whole t v e
+cut_at_look whole b mark further next t u v before now error.TooManyAccesses at same cause = full_at_look whole b mark further next t u v at same (full u v same cause)
+cut_at_look whole b mark further next t u v before now error.Memory at same cause = stopped_at whole (Look b mark further next) t u v at same
+cut_at_look whole b mark further next t u v before now error.Down at same cause = stopped_at whole (Look b mark further next) t u v at same
+cut_at_look whole b mark further next t u v before now error.Disk at same cause = stopped_at whole (Look b mark further next) t u v at same
+cut_at_look whole b mark further next t u v before now error.NotInTx at same cause = stopped_at whole (Look b mark further next) t u v at same
+cut_at_look whole b mark further next t u v before now error.BadBlock at same cause = cause
+cut_at_look whole b mark further next t u v before now error.BadRange at same cause = cause
+cut_at_look whole b mark further next t u v before now error.NoAccess at same cause = cause
+cut_at_look whole b mark further next t u v before now error.TooManyMarks at same cause = cause
+
+-- and so does a write
+pub cut_at_store : {R : Type 0} (whole : Program R) (b : ℕ) (spans : List Span) (bytes : List ℕ) (next : Program R) (t u v : Tx) (before now : Device) (e : TxError)
+    → IsAt whole (Store b spans bytes next) t u → v ≡ u → IsCause v 1 before now e → IsCut whole t v e
+cut_at_store whole b spans bytes next t u v before now error.TooManyAccesses at same cause = full_at_store whole b spans bytes next t u v at same (full u v same cause)
+cut_at_store whole b spans bytes next t u v before now error.Memory at same cause = stopped_at whole (Store b spans bytes next) t u v at same
+cut_at_store whole b spans bytes next t u v before now error.Down at same cause = stopped_at whole (Store b spans bytes next) t u v at same
+cut_at_store whole b spans bytes next t u v before now error.Disk at same cause = stopped_at whole (Store b spans bytes next) t u v at same
+cut_at_store whole b spans bytes next t u v before now error.NotInTx at same cause = stopped_at whole (Store b spans bytes next) t u v at same
+cut_at_store whole b spans bytes next t u v before now error.BadBlock at same cause = cause
+cut_at_store whole b spans bytes next t u v before now error.BadRange at same cause = cause
+cut_at_store whole b spans bytes next t u v before now error.NoAccess at same cause = cause
+cut_at_store whole b spans bytes next t u v before now error.TooManyMarks at same cause = cause
+
+-- a call whose first part is cut short
+pub cut_then : {R S : Type 0} (p : Program R) (f : R → Program S) (t u : Tx) (e : TxError) → IsCut p t u e → IsCut (then_do p f) t u e
+cut_then p f t u error.TooManyAccesses cut = full_then (then_do p f) p f t t u (at_start (then_do p f) t) cut
+cut_then p f t u error.Memory cut = stopped_then p f t u cut
+cut_then p f t u error.Down cut = stopped_then p f t u cut
+cut_then p f t u error.Disk cut = stopped_then p f t u cut
+cut_then p f t u error.NotInTx cut = stopped_then p f t u cut
+cut_then p f t u error.BadBlock cut = cut
+cut_then p f t u error.BadRange cut = cut
+cut_then p f t u error.NoAccess cut = cut
+cut_then p f t u error.TooManyMarks cut = cut
+
+rose_earlier : (k m n : ℕ) → k ≤ m → Rose m n → Rose k n
+rose_earlier k m n le rose = omega arith
+
+-- a cause that holds since a later moment, of fewer writes, holds since an earlier one, of more
+pub cause_earlier : (u : Tx) (few many : ℕ) (before mid now : Device) (e : TxError) → few ≤ many → before.faults ≤ mid.faults → IsCause u few mid now e → IsCause u many before now e
+cause_earlier u few many before mid now error.BadBlock le later cause = cause
+cause_earlier u few many before mid now error.BadRange le later cause = cause
+cause_earlier u few many before mid now error.NoAccess le later cause = cause
+cause_earlier u few many before mid now error.TooManyMarks le later cause = cause
+cause_earlier u few many before mid now error.TooManyAccesses le later cause = omega arith
+cause_earlier u few many before mid now error.Down le later cause = cause
+cause_earlier u few many before mid now error.Disk le later cause = rose_earlier before.faults mid.faults now.faults later cause
+cause_earlier u few many before mid now error.Memory le later cause = tt
+cause_earlier u few many before mid now error.NotInTx le later cause = cause
+
+-- the same of a store's answer
+pub store_cause : (u : Tx) (few many : ℕ) (before now : Device) (e : StoreError) → few ≤ many → IsStoreCause u few before now e → IsStoreCause u many before now e
+store_cause u few many before now store.BadKey le cause = tt
+store_cause u few many before now store.BadValue le cause = tt
+store_cause u few many before now (store.NoBlocks need free) le cause = tt
+store_cause u few many before now (store.Broken block) le cause = tt
+store_cause u few many before now (store.Tx e) le cause = cause_earlier u few many before before now e le (omega arith) cause
+store_cause u few many before now store.Memory le cause = tt
+
+pub later_than : (before mid now : Device) → IsLater before mid → IsLater mid now → IsLater before now
+later_than before mid now one two = record { faults = omega (arith, one.faults, two.faults); down = λ d. two.down (one.down d) }
+
+pub later_same : (before now : Device) → now ≡ before → IsLater before now
+later_same before now same = subst (λ (d : Device). IsLater before d) (sym same) (record { faults = omega arith; down = λ d. d })
+
+-- reads that came
+pub read_none : (t : Tx) → HasRead t t
+read_none t = record { done = []; is = sym (ap (λ accesses. record t { accesses = accesses }) (append-nil t.accesses)); reads = tt }
+
+pub read_more : (t u v : Tx) (a : Access) → HasRead t u → v ≡ with_accesses u (a ∷ []) → is_write a ≡ false → HasRead t v
+read_more t u v a has is read = record {
+  done = has.done ++ a ∷ [];
+  is = is ∙ ap (λ (w : Tx). with_accesses w (a ∷ [])) has.is ∙ ap (λ accesses. record t { accesses = accesses }) (append_assoc t.accesses has.done (a ∷ []));
+  reads = reads_append has.done (a ∷ []) has.reads (read, tt);
+}
+
+pub read_same : (t u v : Tx) → HasRead t u → v ≡ u → HasRead t v
+read_same t u v has same = subst (HasRead t) (sym same) has
+
+pub read_base : (t u : Tx) → HasRead t u → u.base ≡ t.base
+read_base t u has = ap (λ (w : Tx). w.base) has.is
+
+pub read_size : (t u : Tx) → HasRead t u → u.size ≡ t.size
+read_size t u has = ap (λ (w : Tx). w.size) has.is
+
+pub read_blocks : (t u : Tx) → HasRead t u → u.blocks ≡ t.blocks
+read_blocks t u has = ap (λ (w : Tx). w.blocks) has.is

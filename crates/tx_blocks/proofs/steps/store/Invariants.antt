@@ -1,0 +1,11 @@
+use Rattle.std.proofs.Common.{◌≡◌, take, [], ◌∷◌}
+use Rattle.iso_model.specs.Stores.{store_access}
+use Rattle.tx_blocks.specs.Tx.{with_accesses}
+use Rattle.tx_blocks.proofs.steps.store.Given as goal
+
+-- the write has the spans so far
+abbrev pub invariant-loop-span : goal.invariant-loop-span
+invariant-loop-span g l = record {
+  stored : g.T.TxBlocks.state l.tx ≡ with_accesses (g.T.TxBlocks.state l.fn.tx) (store_access l.block (take l.span-index l.spans) l.bytes ∷ []);
+  device : g.T.TxBlocks.device l.tx ≡ g.T.TxBlocks.device l.fn.tx;
+}

@@ -1,0 +1,2 @@
+pub mod Tx
+pub mod Runs

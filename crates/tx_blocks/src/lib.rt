@@ -1,0 +1,8 @@
+//! Reads, writes and byte marks of blocks in a transaction, and what follows for calls that are made of them.
+#![tactic(auto)]
+
+mod steps;
+mod tx_blocks;
+
+pub use steps::{look, mark, reserve, store};
+pub use tx_blocks::TxBlocks;

@@ -1,0 +1,72 @@
+// The steps that calls over a transaction are made of: a read or a write with its marks, and a test of the room.
+ghost use Rattle.std.specs.Prelude.{◌≡◌, ◌+◌, ◌<◌, ◌≤◌, OnOk, OnErr, IfErr, IfOk, length, [], ◌∷◌, true, Some, None};
+ghost use Rattle.std.specs.List.{AllByRecursion};
+ghost use Rattle.std.specs.Option.{ForSome};
+ghost use Rattle.iso_model.specs.Effect.{own};
+ghost use Rattle.iso_model.specs.Marks.{marked};
+ghost use Rattle.iso_model.specs.Premises.{block_at, IsSpan};
+ghost use Rattle.iso_model.specs.Stores.{look_access, store_access};
+ghost use Rattle.tx_blocks.specs.Tx.{mark_refusal, room_of, with_accesses, IsLater, Tx};
+ghost use Rattle.tx_blocks.specs.Runs.{IsCause};
+
+use crate::TxBlocks;
+use iso_model::{Span, TxError};
+
+/// Marks a range of the last access, which has fewer than 8 marks. It takes no memory.
+pub fn mark<T: TxBlocks>(tx: &mut T, span: Span)
+    requires { mark_refusal (T.state tx.old) span.off span.len ≡ None }
+    ensures marked { T.state tx.new ≡ record (T.state tx.old) { accesses = marked span (T.state tx.old).accesses } }
+    ensures device { T.device tx.new ≡ T.device tx.old }
+{
+    let _ = tx.mark_accessed(span.off, span.len);
+}
+
+/// Reads a block under one mark. A refusal leaves the transaction as it was.
+pub fn look<T: TxBlocks>(tx: &mut T, block: u32, span: Span, into: &mut [u8]) -> Result<(), TxError>
+    requires into { length into.old ≡ (T.state tx.old).size }
+    requires block { block < (T.state tx.old).blocks }
+    requires span { IsSpan (T.state tx.old).size span }
+    ensures bytes { OnOk result (ForSome (T.state tx.old).base (λ A. into.new ≡ block_at (own A (T.state tx.old).accesses) block)) }
+    ensures read { OnOk result (T.state tx.new ≡ with_accesses (T.state tx.old) (look_access block (span ∷ []) ∷ [])) }
+    ensures is_open { OnOk result ((T.state tx.old).is_open ≡ true) }
+    ensures kept { OnErr result (T.state tx.new ≡ T.state tx.old) }
+    ensures cause { IfErr result (IsCause (T.state tx.new) 1 (T.device tx.old) (T.device tx.new)) }
+    ensures later { IsLater (T.device tx.old) (T.device tx.new) }
+    ensures passed { OnOk result ((T.device tx.new).faults ≡ (T.device tx.old).faults) }
+{
+    tx.read_block(block, into)?;
+    mark(tx, span);
+    Ok(())
+}
+
+/// Goes on only where so many more accesses fit.
+pub fn reserve<T: TxBlocks>(tx: &T, count: u32) -> Result<(), TxError>
+    requires { (T.state tx.now).is_open ≡ true }
+    ensures ok { OnOk result (count ≤ room_of (T.state tx.now)) }
+    ensures err { IfErr result (λ e. (e ≡ TxError.TooManyAccesses) × (room_of (T.state tx.now) < count)) }
+{
+    if tx.room() < count {
+        return Err(TxError::TooManyAccesses);
+    }
+    Ok(())
+}
+
+/// Writes the bytes of a block that lie in the spans, and the whole block where there is none. A refusal leaves the transaction
+/// as it was.
+pub fn store<T: TxBlocks>(tx: &mut T, block: u32, spans: &[Span], bytes: &[u8]) -> Result<(), TxError>
+    requires bytes { length bytes.now ≡ (T.state tx.old).size }
+    requires block { block < (T.state tx.old).blocks }
+    requires spans { AllByRecursion (IsSpan (T.state tx.old).size) spans.now }
+    requires few { length spans.now ≤ 8 }
+    ensures stored { OnOk result (T.state tx.new ≡ with_accesses (T.state tx.old) (store_access block spans.now bytes.now ∷ [])) }
+    ensures kept { OnErr result (T.state tx.new ≡ T.state tx.old) }
+    ensures cause { IfErr result (IsCause (T.state tx.new) 1 (T.device tx.old) (T.device tx.new)) }
+    ensures room { 0 < room_of (T.state tx.old) → (T.state tx.old).is_open ≡ true → IfErr result (λ e. e ≡ TxError.Memory) }
+    ensures device { T.device tx.new ≡ T.device tx.old }
+{
+    tx.write_block(block, bytes)?;
+    for span in spans {
+        mark(tx, *span);
+    }
+    Ok(())
+}
