@@ -15,7 +15,8 @@ ghost use Rattle.tx_table.specs.Work.{span_at, AreWithin, Doing};
 
 use crate::PatchIter;
 use crate::patches::Patches;
-use crate::rows::{Row, apply, fold, reopen_patches, reopen_touched};
+use crate::fold::{fold, reopen_touched};
+use crate::rows::{Row, apply, reopen_patches};
 use byte_marks::Touched;
 use iso_model::{Geometry, Kind, MAX_ACCESSES, MAX_SPANS, MarkError, Memory, Mode, Span};
 use std::alloc::Global;
@@ -194,13 +195,7 @@ impl Work {
             return Err(MarkError::TooManyMarks);
         }
         self.applied = reopen_patches(self.applied, last, &mut self.patches);
-        self.folded = reopen_touched(
-            self.alloc,
-            self.folded,
-            last,
-            &mut self.reads,
-            &mut self.writes,
-        );
+        self.folded = reopen_touched(self.folded, last, &mut self.reads, &mut self.writes);
         self.rows[last].add(Span { off, len });
         Ok(())
     }

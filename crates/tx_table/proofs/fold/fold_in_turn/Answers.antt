@@ -7,7 +7,7 @@ use Rattle.tx_table.specs.declared.rows.Row.{Row}
 use Rattle.tx_table.specs.Work.{access_of, IsRow}
 use Rattle.tx_table.proofs.Covered.{touched_more}
 use Rattle.tx_table.proofs.Last.{row_there}
-use Rattle.tx_table.proofs.rows.fold.Goals as goal
+use Rattle.tx_table.proofs.fold.fold_in_turn.Goals as goal
 
 pub loop-at-preserved : goal.loop-at-preserved
 loop-at-preserved c =

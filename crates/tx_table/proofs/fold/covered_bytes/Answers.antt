@@ -3,7 +3,7 @@ use Rattle.std.proofs.Common.{◌≡◌, ◌∙◌, ℕ, ◌<◌, ap, sym, arith
 use Rattle.std.specs.List.{list_any}
 use Rattle.iso_model.specs.Array.{in_span}
 use Rattle.tx_table.proofs.Covered.{spans_cover}
-use Rattle.tx_table.proofs.rows.covered_bytes.Goals as goal
+use Rattle.tx_table.proofs.fold.covered_bytes.Goals as goal
 
 pub returns : goal.returns
 returns c p =
