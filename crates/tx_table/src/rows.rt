@@ -45,6 +45,20 @@ impl Row {
     }
 }
 
+/// Takes all rows out. Where there are no spare bytes, those of a write become so, emptied.
+pub fn take_rows(rows: &mut Vec<Row>, spare: &mut Vec<u8>)
+    ensures rows { rows.new.items ≡ [] }
+    ensures spare { spare.new.items ≡ [] }
+{
+    while let Some(row) = rows.pop() {
+        let Row { bytes, .. } = row;
+        if spare.capacity() == 0 {
+            *spare = bytes;
+        }
+    }
+    spare.clear();
+}
+
 /// Sets the writes of the rows from a place on in the patches.
 pub fn apply(rows: &[Row], from: usize, patches: &mut Patches)
     requires within { from ≤ length rows.now }
