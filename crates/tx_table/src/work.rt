@@ -14,8 +14,8 @@ ghost use Rattle.tx_table.specs.Patches.{has_patch, AreEffects, HavePatches, Ris
 ghost use Rattle.tx_table.specs.Work.{span_at, AreWithin, Doing};
 
 use crate::PatchIter;
-use crate::patches::Patches;
 use crate::fold::{fold, reopen_touched};
+use crate::patches::Patches;
 use crate::rows::{Row, apply, reopen_patches, take_rows};
 use byte_marks::Touched;
 use iso_model::{Geometry, Kind, MAX_ACCESSES, MAX_SPANS, MarkError, Memory, Mode, Span};

@@ -1,5 +1,5 @@
 -- All slots are blank, and the order is empty.
-use Rattle.std.proofs.Common.{◌≡◌, ◌∙◌, ◌<◌, ◌≤◌, ℕ, [], List, ap, arith, length, subst, sym}
+use Rattle.std.proofs.Common.{◌≡◌, ◌∙◌, ◌≤◌, ℕ, [], List, arith, length, subst, sym}
 use Rattle.tx_table.specs.Patches.{AreBlankFrom, RisesFrom}
 use Rattle.tx_table.specs.Slots.{AreSlots}
 use Rattle.tx_table.proofs.Held.{blank_sizes, cleared_slots}

@@ -1,5 +1,5 @@
 -- The patch in the slot of the block is laid, or there is nothing to lay.
-use Rattle.std.proofs.Common.{◌≡◌, ◌∙◌, ℕ, ◌<◌, ◌≤◌, [], List, Option, None, ap, sym, arith, length, get_or, replicate}
+use Rattle.std.proofs.Common.{◌≡◌, ◌∙◌, ℕ, ◌<◌, [], List, Option, None, ap, sym, arith, length, get_or, replicate}
 use Rattle.std.proofs.lemmas.List.{get_or_default}
 use Rattle.merge_write.specs.Patch.{laid}
 use Rattle.tx_table.specs.Patches.{patch_at, Held}

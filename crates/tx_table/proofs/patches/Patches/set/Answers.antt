@@ -1,5 +1,5 @@
 -- The patch in the slot of the block is that of the block.
-use Rattle.std.proofs.Common.{◌≡◌, ◌∙◌, ℕ, ◌<◌, ◌≤◌, [], List, Option, None, ap, sym, subst, arith, length, get_or, set, inl, inr, length-set, get_or-set_same, get_or-set_other, refl}
+use Rattle.std.proofs.Common.{◌≡◌, ◌∙◌, ℕ, ◌<◌, [], List, Option, ap, sym, arith, length, get_or, set, inl, inr, length-set, get_or-set_same, get_or-set_other, refl}
 use Rattle.std.proofs.lemmas.Bool.{both_ways, cases_eq}
 use Rattle.std.proofs.lemmas.List.{get_or_default}
 use Rattle.merge_write.specs.Patch.{written}
