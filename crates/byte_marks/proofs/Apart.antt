@@ -30,6 +30,12 @@ pub AreApartFrom-append : (f : ℕ) (xs : List Extent) (x : Extent) → AreApart
 AreApartFrom-append f [] x apart le some inside = (le, some, inside, tt)
 AreApartFrom-append f (y ∷ ys) x apart le some inside = (apart.0, apart.1, apart.2, AreApartFrom-append (y.to + 1) ys x apart.3 le some inside)
 
+-- the last of them may end later
+pub wider_last : (f to : ℕ) (xs : List Extent) (x : Extent) → AreApartFrom f (xs ++ x ∷ []) → x.from < to → to ≤ 4096
+    → AreApartFrom f (xs ++ record { from = x.from; to = to } ∷ [])
+wider_last f to [] x apart some inside = (apart.0, some, inside, tt)
+wider_last f to (y ∷ ys) x apart some inside = (apart.0, apart.1, apart.2, wider_last (y.to + 1) to ys x apart.3 some inside)
+
 pub next_free-append : (f : ℕ) (xs : List Extent) (x : Extent) → next_free f (xs ++ x ∷ []) ≡ x.to + 1
 next_free-append f [] x = refl
 next_free-append f (y ∷ ys) x = next_free-append (y.to + 1) ys x

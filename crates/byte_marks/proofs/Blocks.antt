@@ -78,6 +78,18 @@ in_order f zero (suc j) (e ∷ es) d rises le lt = let later = at_least (e.0 + 1
 in_order f (suc i) zero (e ∷ es) d rises le lt = absurd (omega arith)
 in_order f (suc i) (suc j) (e ∷ es) d rises le lt = in_order (e.0 + 1) i j es d rises.1 (omega arith) (omega arith)
 
+-- and none is behind the last
+pub last_block : (f k : ℕ) (es : List (ℕ × List Extent)) (x d : ℕ × List Extent) → RisesFrom f (es ++ x ∷ []) → k < length (es ++ x ∷ [])
+    → (get_or (es ++ x ∷ []) k d).0 ≤ x.0
+last_block f zero [] x d rises lt = omega arith
+last_block f (suc k) [] x d rises lt = absurd (omega arith)
+last_block f zero (e ∷ es) x d rises lt = let later = least (e.0 + 1) es x rises.1 in omega (arith, later)
+  where
+    least : (g : ℕ) (es : List (ℕ × List Extent)) (x : ℕ × List Extent) → RisesFrom g (es ++ x ∷ []) → g ≤ x.0
+    least g [] x rises = rises.0
+    least g (e ∷ es) x rises = let later = least (e.0 + 1) es x rises.1 in omega (arith, later, rises.0)
+last_block f (suc k) (e ∷ es) x d rises lt = last_block (e.0 + 1) k es x d rises.1 (omega arith)
+
 -- an entry in place of that of the same block
 pub rises_set : (f i : ℕ) (es : List (ℕ × List Extent)) (e : ℕ × List Extent) → RisesFrom f es → e.0 ≡ (get_or es i e).0 → RisesFrom f (set es i e)
 rises_set f i [] e rises same = tt

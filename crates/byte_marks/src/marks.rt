@@ -3,12 +3,12 @@ ghost use Rattle.std.specs.Prelude.{◌≡◌, ℕ, ◌+◌, ◌<◌, ◌≤◌,
 ghost use Rattle.std.specs.Bool.{OnTrue, OnFalse};
 ghost use Rattle.std.specs.List.{list_any};
 ghost use Rattle.iso_model.specs.Array.{in_span};
-ghost use Rattle.byte_marks.specs.Marks.{has, run_count, AreApartFrom, AreRuns};
+ghost use Rattle.byte_marks.specs.Marks.{has, in_extent, run_count, AreApartFrom, AreRuns};
 
 use crate::SpanIter;
 use crate::extent::Extent;
 use crate::meet::{has_all, least_common};
-use crate::merge::{Extents, merged, next_free};
+use crate::merge::{Extents, join_last, merged, next_free};
 use iso_model::{Memory, Span};
 use smallvec::SmallVec;
 use std::alloc::Global;
@@ -43,6 +43,22 @@ impl Marks {
         }
     }
 
+    /// The bytes of a span alone. It takes no memory.
+    pub fn of(alloc: Global, span: Span) -> Marks
+        requires some { 0 < span.len }
+        requires inside { span.off + span.len ≤ 4096 }
+        ensures set { (p : ℕ) → has result p ≡ in_span p span }
+        ensures one { run_count result ≡ 1 }
+    {
+        let added = Extent {
+            from: span.off,
+            to: span.off + span.len,
+        };
+        Marks {
+            extents: SmallVec::from_buf_and_len(alloc, [added; 8], 1),
+        }
+    }
+
     /// Adds the bytes of a span. It takes no memory up to eight runs; without memory the set stays as it is.
     pub fn add(&mut self, span: Span) -> Result<(), Memory>
         requires some { 0 < span.len }
@@ -60,6 +76,22 @@ impl Marks {
         prove!(places >= 8);
         if next_free(self.extents.as_slice()) <= added.from {
             self.extents.push(added)?;
+            return Ok(());
+        }
+        self.weave(added)
+    }
+
+    // Adds an extent that does not stand behind all others.
+    #[inline(never)]
+    fn weave(&mut self, added: Extent) -> Result<(), Memory>
+        requires some { added.from < added.to }
+        requires inside { added.to ≤ 4096 }
+        ensures set { OnOk result ((p : ℕ) → has self.new p ≡ (has self.old p || in_extent p added)) }
+        ensures err { OnErr result (self.new ≡ self.old) }
+        ensures count { run_count self.new ≤ run_count self.old + 1 }
+        ensures full { OnErr result (8 ≤ run_count self.old) }
+    {
+        if join_last(&mut self.extents, added) {
             return Ok(());
         }
         self.extents = merged(*self.extents.allocator(), self.extents.as_slice(), &[added])?;

@@ -1,5 +1,6 @@
 // Two rising lists of extents walked side by side.
 ghost use Rattle.std.specs.Prelude.{◌≡◌, ℕ, ◌+◌, ◌<◌, ◌≤◌, ◌||◌, false, IfOk, OnErr, IfSome, IfNone, length};
+ghost use Rattle.std.specs.Bool.{OnTrue, OnFalse};
 ghost use Rattle.byte_marks.specs.Marks.{has, in_extent, next_free, AreApartFrom};
 
 use crate::extent::Extent;
@@ -19,6 +20,33 @@ pub fn next_free(extents: &[Extent]) -> u16
         Some((last, _)) => last.to + 1,
         None => 0,
     }
+}
+
+/// Joins an extent to the last one, where it begins in that one or right behind it, and says whether it did.
+pub fn join_last(extents: &mut Extents, added: Extent) -> bool
+    requires apart { AreApartFrom 0 extents.old.items }
+    requires some { added.from < added.to }
+    requires inside { added.to ≤ 4096 }
+    ensures set { OnTrue result ((p : ℕ) → has extents.new.items p ≡ (has extents.old.items p || in_extent p added)) }
+    ensures apart { AreApartFrom 0 extents.new.items }
+    ensures len { length extents.new.items ≡ length extents.old.items }
+    ensures kept { OnFalse result (extents.new.items ≡ extents.old.items) }
+{
+    let count = extents.len();
+    let places = extents.capacity();
+    prove!(count <= places);
+    let Some(last) = extents.pop() else {
+        return false;
+    };
+    if last.from <= added.from && added.from <= last.to {
+        extents.push_reserved(Extent {
+            from: last.from,
+            to: last.to.max(added.to),
+        });
+        return true;
+    }
+    extents.push_reserved(last);
+    false
 }
 
 #[tactic(auto, using(crate::proofs::Apart::earlier))]

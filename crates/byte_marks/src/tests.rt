@@ -127,6 +127,25 @@ fn block_with_no_byte_is_empty(rt: HostRuntime) -> Result<(), Fail> {
 }
 
 #[test]
+fn set_of_one_span_is_handed_over(rt: HostRuntime) -> Result<(), Fail> {
+    let alloc = rt.alloc();
+    let mut marks = Marks::of(alloc, span(8, 4));
+    marks.add(span(12, 4))?;
+    let mut touched = Touched::empty(alloc);
+    touched.put(3, marks)?;
+    touched.put(9, Marks::of(alloc, span(5, 1)))?;
+    touched.put(3, Marks::of(alloc, span(0, 1)))?;
+    let mut other = Touched::empty(alloc);
+    other.put(9, Marks::of(alloc, span(5, 1)))?;
+    assert_eq!(rt; touched.first_meet(&other), Some((9, 5)));
+    other.put(3, Marks::of(alloc, span(15, 9)))?;
+    assert_eq!(rt; touched.first_meet(&other), Some((3, 15)));
+    touched.clear();
+    assert!(rt; touched.is_empty());
+    Ok(())
+}
+
+#[test]
 fn least_common_byte_of_two_sets(rt: HostRuntime) -> Result<(), Fail> {
     let alloc = rt.alloc();
     let left = set_of(alloc, &[(0, 10), (64, 10), (200, 100)])?;

@@ -28,6 +28,20 @@ impl Model for Touched {
     ghost invariant = { λ a. RisesFrom 0 a.entries.items };
 }
 
+// Whether the block is behind those of all entries.
+fn is_behind(entries: &[(u32, Marks)], block: u32) -> bool
+    requires { RisesFrom 0 entries.now }
+    ensures { OnTrue result ((k : ℕ) → k < length entries.now → (d : ℕ × List Extent) → (slice_index_or entries.now k d).0 < block) }
+{
+    let Some((last, _)) = entries.split_last() else {
+        return true;
+    };
+    if block <= last.0 {
+        return false;
+    }
+    true
+}
+
 // The place of the first entry whose block is not below this one.
 fn place_of(entries: &[(u32, Marks)], block: u32) -> usize
     requires { RisesFrom 0 entries.now }
@@ -35,6 +49,9 @@ fn place_of(entries: &[(u32, Marks)], block: u32) -> usize
     ensures before { (k : ℕ) → k < result → (d : ℕ × List Extent) → (slice_index_or entries.now k d).0 < block }
     ensures after { (k : ℕ) → result ≤ k → k < length entries.now → (d : ℕ × List Extent) → block ≤ (slice_index_or entries.now k d).0 }
 {
+    if is_behind(entries, block) {
+        return entries.len();
+    }
     entries.partition_point(|entry| entry.0 < block)
 }
 
@@ -82,16 +99,31 @@ impl Touched {
         self.first_meet(self).is_none()
     }
 
+    /// Touches no byte any more. The memory stays for what comes.
+    pub fn clear(&mut self)
+        ensures { (b p : ℕ) → touches self.new b p ≡ false }
+    {
+        self.entries.clear();
+    }
+
     /// Adds bytes of a block. Without memory all stays as it is.
     pub fn add(&mut self, block: u32, marks: &Marks) -> Result<(), Memory>
         ensures set { OnOk result ((b p : ℕ) → touches self.new b p ≡ (touches self.old b p || ((block == b) && has marks.now p))) }
         ensures err { OnErr result (self.new ≡ self.old) }
     {
+        self.put(block, marks.copy()?)
+    }
+
+    /// Adds bytes of a block, which are handed over. Without memory all stays as it is.
+    pub fn put(&mut self, block: u32, marks: Marks) -> Result<(), Memory>
+        ensures set { OnOk result ((b p : ℕ) → touches self.new b p ≡ (touches self.old b p || ((block == b) && has marks p))) }
+        ensures err { OnErr result (self.new ≡ self.old) }
+    {
         let place = place_of(self.entries.as_slice(), block);
         if place < self.entries.len() && self.entries[place].0 == block {
-            self.entries[place].1.union(marks)?;
+            self.entries[place].1.union(&marks)?;
         } else {
-            self.entries.insert(place, (block, marks.copy()?))?;
+            self.entries.insert(place, (block, marks))?;
         }
         Ok(())
     }

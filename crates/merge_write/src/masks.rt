@@ -1,5 +1,5 @@
 // Rows of masks, one bit for each byte of a block, read and set a word at a time.
-ghost use Rattle.std.specs.Prelude.{◌≡◌, ℕ, ◌+◌, ◌-◌, ◌*◌, ◌^◌, ◌<◌, ◌≤◌, ◌==◌, ◌&&◌, ◌||◌, cond, length, nat_le, nat_lt, not};
+ghost use Rattle.std.specs.Prelude.{◌≡◌, ℕ, ◌+◌, ◌-◌, ◌*◌, ◌%◌, ◌^◌, ◌<◌, ◌≤◌, ◌==◌, ◌&&◌, ◌||◌, cond, length, nat_le, nat_lt, not};
 ghost use Rattle.std.specs.Int.{bit_at};
 ghost use Rattle.merge_write.specs.Patch.{is_set};
 
@@ -68,6 +68,24 @@ fn zeros_from(word: u64, from: usize) -> usize
     }
 }
 
+// Passes the whole words from `from` on, up to `end`, that have no bit that is `wanted`.
+fn pass_words(masks: &[u64], from: usize, end: usize, wanted: bool) -> usize
+    requires word { from % 64 ≡ 0 }
+    requires order { from ≤ end }
+    requires row { end ≤ 64 * length masks.now }
+    ensures from { from ≤ result }
+    ensures within { result ≤ end }
+    ensures passed { (k : ℕ) → from ≤ k → k < result → is_set masks.now k ≡ not wanted }
+{
+    let none = wanted_bits(0, wanted);
+    let last = end / 64;
+    let mut word = from / 64;
+    while word < last && masks[word] == none {
+        word += 1;
+    }
+    64 * word
+}
+
 /// The first place from `at` on, before `end`, whose bit is `wanted`, and else `end`.
 pub fn next_place(masks: &[u64], at: usize, end: usize, wanted: bool) -> usize
     requires order { at ≤ end }
@@ -87,7 +105,7 @@ pub fn next_place(masks: &[u64], at: usize, end: usize, wanted: bool) -> usize
         if place % 64 + ahead < 64 {
             return place + ahead;
         }
-        place += ahead;
+        place = pass_words(masks, place + ahead, end, wanted);
     }
     end
 }

@@ -66,6 +66,11 @@ impl Patch {
             self.set_range(bytes, 0, bytes.len());
             return;
         }
+        if let [only] = spans {
+            let start = only.off as usize;
+            self.set_range(bytes, start, start + only.len as usize);
+            return;
+        }
         for span in spans {
             let from = span.off as usize;
             self.set_range(bytes, from, from + span.len as usize);

@@ -1,18 +1,17 @@
 -- Patches whose blocks rise.
-use Rattle.std.proofs.Common.{◌≡◌, ◌≢◌, ◌∙◌, refl, sym, ap, subst, ℕ, zero, suc, ◌+◌, ◌<◌, ◌≤◌, Bool, true, false, ◌==◌, ◌||◌, cond, inl, inr, List, [], ◌∷◌, ◌++◌, length, get_or, set, take, drop, arith, ne_eqb, Option, Some, None, replicate}
+use Rattle.std.proofs.Common.{◌≡◌, ◌≢◌, ◌∙◌, refl, sym, ap, subst, ℕ, zero, suc, ◌+◌, ◌<◌, ◌≤◌, Bool, true, false, ◌==◌, ◌||◌, cond, inl, inr, List, [], ◌∷◌, ◌++◌, length, get_or, set, take, drop, arith, ne_eqb, Option, None, replicate}
 use Rattle.std.proofs.lemmas.Bool.{both_ways, cases_eq, cases_lt}
 use Rattle.std.proofs.lemmas.List.{get_or_default}
 use Rattle.merge_write.specs.Patch.{laid}
-use Rattle.std.specs.List.{AllByRecursion}
 use Rattle.std.proofs.lemmas.Grind.{common_steps}
 use Rattle.tx_table.specs.Patches.{has_patch, patch_at, RisesFrom}
 
-at_least : (f j : ℕ) (es : List (ℕ × List (Option ℕ))) (d : ℕ × List (Option ℕ)) → RisesFrom f es → j < length es → f ≤ (get_or es j d).0
+at_least : {A : Type 0} (f j : ℕ) (es : List (ℕ × A)) (d : ℕ × A) → RisesFrom f es → j < length es → f ≤ (get_or es j d).0
 at_least f j [] d rises lt = absurd (omega arith)
 at_least f zero (x ∷ es) d rises lt = rises.0
 at_least f (suc j) (x ∷ es) d rises lt = let later = at_least (x.0 + 1) j es d rises.1 (omega arith) in omega (arith, later, rises.0)
 
-pub in_order : (f i j : ℕ) (es : List (ℕ × List (Option ℕ))) (d : ℕ × List (Option ℕ)) → RisesFrom f es → i ≤ j → j < length es → (get_or es i d).0 ≤ (get_or es j d).0
+pub in_order : {A : Type 0} (f i j : ℕ) (es : List (ℕ × A)) (d : ℕ × A) → RisesFrom f es → i ≤ j → j < length es → (get_or es i d).0 ≤ (get_or es j d).0
 in_order f i j [] d rises le lt = absurd (omega arith)
 in_order f zero zero (x ∷ es) d rises le lt = omega arith
 in_order f zero (suc j) (x ∷ es) d rises le lt = let later = at_least (x.0 + 1) j es d rises.1 (omega arith) in omega (arith, later)
@@ -47,31 +46,15 @@ laid_none (suc n) [] same = absurd (omega arith)
 laid_none (suc n) (x ∷ old) same = ap (λ (l : List ℕ). x ∷ l) (laid_none n old (omega arith))
 
 -- a block further on, or none
-pub other_places : (block i : ℕ) (es : List (ℕ × List (Option ℕ))) (d : ℕ × List (Option ℕ)) → RisesFrom 0 es → i < length es
-    → ((k : ℕ) → k < i → (x : ℕ × List (Option ℕ)) → (get_or es k x).0 < block) → block ≤ (get_or es i d).0 → (get_or es i d).0 ≢ block
-    → (k : ℕ) → (x : ℕ × List (Option ℕ)) → k < length es → (get_or es k x).0 ≢ block
+pub other_places : {A : Type 0} (block i : ℕ) (es : List (ℕ × A)) (d : ℕ × A) → RisesFrom 0 es → i < length es
+    → ((k : ℕ) → k < i → (x : ℕ × A) → (get_or es k x).0 < block) → block ≤ (get_or es i d).0 → (get_or es i d).0 ≢ block
+    → (k : ℕ) → (x : ℕ × A) → k < length es → (get_or es k x).0 ≢ block
 other_places block i es d rises inside before least other k x lt same = elim (cases_lt k i) [
   | inl less ↦ (let h = before k less x in omega (arith, h, same))
   | inr more ↦
       (let up = in_order 0 i k es x rises more lt in
-      let key : (get_or es i x).0 ≡ (get_or es i d).0 = ap (λ (y : ℕ × List (Option ℕ)). y.0) (get_or_default es i x d inside) in
+      let key : (get_or es i x).0 ≡ (get_or es i d).0 = ap (λ y. y.0) (get_or_default es i x d inside) in
       other (omega (arith, up, same, key, least)))
-]
-
--- the place of a block that is held
-pub place_is : (block i : ℕ) (es : List (ℕ × List (Option ℕ))) → RisesFrom 0 es → i ≤ length es
-    → ((k : ℕ) → k < i → (x : ℕ × List (Option ℕ)) → (get_or es k x).0 < block)
-    → ((k : ℕ) → i ≤ k → k < length es → (x : ℕ × List (Option ℕ)) → block ≤ (get_or es k x).0)
-    → has_patch block es ≡ true → (i < length es) × ((d : ℕ × List (Option ℕ)) → (get_or es i d).0 ≡ block)
-place_is block i es rises within before after held = elim (cases_lt i (length es)) [
-  | inl inside ↦ (
-    inside,
-    λ d. elim (cases_eq (get_or es i d).0 block) [
-      | inl same ↦ same
-      | inr other ↦ absurd (both_ways (has_patch block es) (found_none 0 block es (other_places block i es d rises inside before (after i (omega arith) inside d) other)).0 held)
-    ],
-  )
-  | inr past ↦ absurd (both_ways (has_patch block es) (found_none 0 block es (λ k x lt same. (let h = before k (omega arith) x in omega (arith, h, same)))).0 held)
 ]
 
 pub has_set : (b key i : ℕ) (values : List (Option ℕ)) (es : List (ℕ × List (Option ℕ))) (d : ℕ × List (Option ℕ)) → i < length es → key ≡ (get_or es i d).0
@@ -96,11 +79,6 @@ patch_set size b f key (suc i) values (x ∷ es) d rises lt same =
       | inr there ↦ (let no : (x.0 == b) ≡ false = ne_eqb x.0 b there in rw no rest)
     ]
 
-pub entry_at : (P : ℕ × List (Option ℕ) → Type 0) (i : ℕ) (es : List (ℕ × List (Option ℕ))) (d : ℕ × List (Option ℕ)) → AllByRecursion P es → i < length es → P (get_or es i d)
-entry_at P i [] d all lt = absurd (omega arith)
-entry_at P zero (x ∷ es) d all lt = all.0
-entry_at P (suc i) (x ∷ es) d all lt = entry_at P i es d all.1 (omega arith)
-
 pub set_value : (size b block key : ℕ) (new : List (Option ℕ)) (es fs : List (ℕ × List (Option ℕ))) (f : List (Option ℕ) → List (Option ℕ)) → key ≡ block → es ≡ fs
     → new ≡ f (patch_at size block fs) → cond (key == b) new (patch_at size b es) ≡ cond (block == b) (f (patch_at size b fs)) (patch_at size b fs)
 set_value size b block key new es fs f same entries is = elim (cases_eq block b) [
@@ -113,18 +91,6 @@ set_value size b block key new es fs f same entries is = elim (cases_eq block b)
       let no' : (block == b) ≡ false = ne_eqb block b there in
       rw (no, no') (ap (patch_at size b) entries))
 ]
-
-pub rises_set : (f key i : ℕ) (values : List (Option ℕ)) (es : List (ℕ × List (Option ℕ))) (d : ℕ × List (Option ℕ)) → RisesFrom f es → key ≡ (get_or es i d).0 → RisesFrom f (set es i (key, values))
-rises_set f key i values [] d rises same = tt
-rises_set f key zero values (x ∷ es) d rises same =
-    (subst (λ (k : ℕ). f ≤ k) (sym same) rises.0, subst (λ (k : ℕ). RisesFrom (k + 1) es) (sym same) rises.1)
-rises_set f key (suc i) values (x ∷ es) d rises same = (rises.0, rises_set (x.0 + 1) key i values es d rises.1 same)
-
-pub all_set : (size key i : ℕ) (values : List (Option ℕ)) (es : List (ℕ × List (Option ℕ))) → AllByRecursion (λ e. length e.1 ≡ size) es → length values ≡ size
-    → AllByRecursion (λ e. length e.1 ≡ size) (set es i (key, values))
-all_set size key i values [] all long = tt
-all_set size key zero values (x ∷ es) all long = (long, all.1)
-all_set size key (suc i) values (x ∷ es) all long = (all.0, all_set size key i values es all.1 long)
 
 pub all_blank : (size b : ℕ) (es : List (ℕ × List (Option ℕ))) → ((k : ℕ) → (d : ℕ × List (Option ℕ)) → k < length es → (get_or es k d).1 ≡ replicate size None)
     → patch_at size b es ≡ replicate size None
@@ -189,12 +155,6 @@ rises_insert f (suc i) (x ∷ es) e rises le before after none within =
       rises_insert (x.0 + 1) i es e rises.1 (omega arith) (λ k lt. before (suc k) (omega arith)) (λ k le' lt. after (suc k) (omega arith) (omega arith))
           (neither (x.0 == e.0) (has_patch e.0 es) none).1 (omega arith),
     )
-
-pub all_insert : (size i : ℕ) (es : List (ℕ × List (Option ℕ))) (e : ℕ × List (Option ℕ)) → AllByRecursion (λ x. length x.1 ≡ size) es → length e.1 ≡ size
-    → AllByRecursion (λ x. length x.1 ≡ size) (take i es ++ e ∷ drop i es)
-all_insert size zero es e all here = (here, all)
-all_insert size (suc i) [] e all here = (here, tt)
-all_insert size (suc i) (x ∷ es) e all here = (all.0, all_insert size i es e all.1 here)
 
 pub or_true : (t : Bool) → (t || true) ≡ true
 or_true true = refl

@@ -1,8 +1,10 @@
 -- The bytes that rows cover.
-use Rattle.std.proofs.Common.{◌≡◌, ◌≢◌, ◌∙◌, refl, sym, ap, subst, ℕ, zero, suc, ◌+◌, ◌<◌, ◌≤◌, Bool, true, false, ◌==◌, ◌&&◌, ◌||◌, nat_le, nat_lt, cond, inl, inr, List, [], ◌∷◌, ◌++◌, length, get_or, map, take, arith, IsTrue}
+use Rattle.std.proofs.Common.{◌≡◌, ◌∙◌, refl, sym, ap, ℕ, zero, suc, ◌+◌, ◌<◌, ◌≤◌, Bool, true, false, ◌==◌, ◌&&◌, ◌||◌, nat_le, nat_lt, List, [], ◌∷◌, ◌++◌, ◌-◌, length, get_or, map, take, drop, arith, length-drop}
 use Rattle.std.specs.List.{AllByRecursion, list_any}
-use Rattle.std.proofs.lemmas.Bool.{cases_eq, ltb-true}
-use Rattle.std.proofs.lemmas.List.Folds.{list_any-append}
+use Rattle.std.proofs.lemmas.Bool.{ltb-true}
+use Rattle.std.proofs.Math.Bool.{or-false}
+use Rattle.std.proofs.lemmas.List.{get_or_default, get_or-drop, take_all, take-append-drop, take-map}
+use Rattle.std.proofs.lemmas.List.Folds.{list_any-append, list_any_more}
 use Rattle.std.proofs.lemmas.Grind.{common_steps}
 use Rattle.byte_marks.specs.declared.extent.Extent.{Extent}
 use Rattle.byte_marks.specs.Touched.{touches, AreTouched}
@@ -70,6 +72,20 @@ any_more p (suc i) (x ∷ spans) d lt =
     assoc true t u = refl
     assoc false t u = refl
 
+-- a row covers bytes of its block alone, which there is
+covers_inside : (blocks : ℕ) (kind : Kind) (b p : ℕ) (row : Row) → row.block < blocks → covers kind b p (access_of row) ≡ true → nat_lt b blocks ≡ true
+covers_inside blocks kind b p row within there =
+    let same : row.block ≡ b = eq_from row.block b (both (model.same_kind kind row.kind) (row.block == b) (both (model.same_kind kind row.kind && (row.block == b)) (covered (take row.count row.spans) p) there).0).1 in
+    let lt' : b < blocks = omega (arith, same, within) in
+    grind (arith, common_steps, lt')
+
+joined : (s t u v : Bool) → (v ≡ true → s ≡ true) → ((s && t && u) || (t && v)) ≡ (s && t && (u || v))
+joined true true u v in_it = refl
+joined true false u v in_it = refl
+joined false t u true in_it = absurd (let h : false ≡ true = in_it refl in cc)
+joined false true u false in_it = refl
+joined false false u false in_it = refl
+
 -- one row more of a kind, or of the other
 pub touched_more : (size blocks : ℕ) (kind : Kind) (i : ℕ) (rows : List Row) (row d : Row) (old new : List (ℕ × List Extent)) → i < length rows → row ≡ get_or rows i d → row.block < blocks
     → AreTouched size blocks kind (take i (map access_of rows)) old
@@ -78,23 +94,10 @@ pub touched_more : (size blocks : ℕ) (kind : Kind) (i : ℕ) (rows : List Row)
 touched_more size blocks kind i rows row d old new lt is within are step = record {
   is = λ b p.
       step b p ∙ ap (λ (t : Bool). t || (nat_lt p size && covers kind b p (access_of row))) (are.is b p)
-      ∙ joined (nat_lt b blocks) (nat_lt p size) (model.touches kind (take i (map access_of rows)) b p) (covers kind b p (access_of row)) (inside b p)
+      ∙ joined (nat_lt b blocks) (nat_lt p size) (model.touches kind (take i (map access_of rows)) b p) (covers kind b p (access_of row)) (covers_inside blocks kind b p row within)
       ∙ ap (λ (t : Bool). nat_lt b blocks && nat_lt p size && t) (sym (more b p));
 }
   where
-    inside : (b p : ℕ) → covers kind b p (access_of row) ≡ true → nat_lt b blocks ≡ true
-    inside b p there =
-        let same : row.block ≡ b = eq_from row.block b (both (model.same_kind kind row.kind) (row.block == b) (both (model.same_kind kind row.kind && (row.block == b)) (covered (take row.count row.spans) p) there).0).1 in
-        let lt' : b < blocks = omega (arith, same, within) in
-        grind (arith, common_steps, lt')
-
-    joined : (s t u v : Bool) → (v ≡ true → s ≡ true) → ((s && t && u) || (t && v)) ≡ (s && t && (u || v))
-    joined true true u v in_it = refl
-    joined true false u v in_it = refl
-    joined false t u true in_it = absurd (let h : false ≡ true = in_it refl in cc)
-    joined false true u false in_it = refl
-    joined false false u false in_it = refl
-
     any_last : (b p : ℕ) (xs : List Access) (a : Access) → list_any (covers kind b p) (xs ++ a ∷ []) ≡ (list_any (covers kind b p) xs || covers kind b p a)
     any_last b p xs a = list_any-append (covers kind b p) xs (a ∷ []) ∙ ap (λ (t : Bool). list_any (covers kind b p) xs || t) (or_false (covers kind b p a))
       where
@@ -106,6 +109,88 @@ touched_more size blocks kind i rows row d old new lt is within are step = recor
     more b p =
         ap (list_any (covers kind b p)) (rows_more i rows d lt) ∙ any_last b p (take i (map access_of rows)) (access_of (get_or rows i d))
         ∙ ap (λ (r : Row). list_any (covers kind b p) (take i (map access_of rows)) || covers kind b p (access_of r)) (sym is)
+
+-- one more place of a row, and its row
+pub place_more : (rows : List Row) (from at key : ℕ) (old new : List (ℕ × ℕ)) (d : Row) (test : Row → Bool) → from ≤ at → at < length rows → new ≡ old ++ (key, at) ∷ []
+    → list_any (λ e. test (get_or rows e.1 d)) old ≡ list_any test (take (at - from) (drop from rows))
+    → list_any (λ e. test (get_or rows e.1 d)) new ≡ list_any test (take (at + 1 - from) (drop from rows))
+place_more rows from at key old new d test le lt is before =
+    let f : ℕ × ℕ → Bool = λ e. test (get_or rows e.1 d) in
+    let j = at - from in
+    let place : from + j ≡ at = omega arith in
+    let step : at + 1 - from ≡ j + 1 = omega arith in
+    let inside : j < length (drop from rows) = omega (arith, length-drop from rows) in
+    ap (list_any f) is ∙ list_any-append f old ((key, at) ∷ [])
+    ∙ ap (λ (t : Bool). list_any f old || t) (or-false (test (get_or rows at d)))
+    ∙ ap (λ (t : Bool). t || test (get_or rows at d)) before
+    ∙ ap (λ (r : Row). list_any test (take j (drop from rows)) || test r) (ap (λ (k : ℕ). get_or rows k d) (sym place) ∙ sym (get_or-drop from rows j d))
+    ∙ sym (list_any_more test (drop from rows) j d inside)
+    ∙ ap (λ (k : ℕ). list_any test (take k (drop from rows))) (sym step)
+
+-- the row at one more place
+pub places_more : (size : ℕ) (kind : Kind) (rows : List Row) (order : List (ℕ × ℕ)) (i : ℕ) (e : ℕ × ℕ) (row : Row) (first old new : List (ℕ × List Extent)) → i < length order
+    → e ≡ get_or order i e → e.1 < length rows → row ≡ get_or rows e.1 row
+    → ((d : Row) → (b p : ℕ) → touches old b p ≡ (touches first b p || (nat_lt p size && list_any (λ e. covers kind b p (access_of (get_or rows e.1 d))) (take i order))))
+    → ((b p : ℕ) → touches new b p ≡ (touches old b p || (nat_lt p size && covers kind b p (access_of row))))
+    → (d : Row) → (b p : ℕ) → touches new b p ≡ (touches first b p || (nat_lt p size && list_any (λ e. covers kind b p (access_of (get_or rows e.1 d))) (take (i + 1) order)))
+places_more size kind rows order i e row first old new lt at inside is before step d b p =
+    let f : ℕ × ℕ → Bool = λ e. covers kind b p (access_of (get_or rows e.1 d)) in
+    let same : row ≡ get_or rows e.1 d = is ∙ get_or_default rows e.1 row d inside in
+    let more : list_any f (take (i + 1) order) ≡ (list_any f (take i order) || covers kind b p (access_of row)) =
+    list_any_more f order i e lt ∙ ap (λ (x : ℕ × ℕ). list_any f (take i order) || f x) (sym at)
+    ∙ ap (λ (r : Row). list_any f (take i order) || covers kind b p (access_of r)) (sym same) in
+    step b p ∙ ap (λ (t : Bool). t || (nat_lt p size && covers kind b p (access_of row))) (before d b p)
+    ∙ regroup (touches first b p) (nat_lt p size) (list_any f (take i order)) (covers kind b p (access_of row))
+    ∙ ap (λ (t : Bool). touches first b p || (nat_lt p size && t)) (sym more)
+  where
+    regroup : (a s u v : Bool) → ((a || (s && u)) || (s && v)) ≡ (a || (s && (u || v)))
+    regroup true s u v = refl
+    regroup false true u v = refl
+    regroup false false u v = refl
+
+-- all rows from a place on, in any order
+any_access : (f : Access → Bool) (rows : List Row) → list_any f (map access_of rows) ≡ list_any (λ r. f (access_of r)) rows
+any_access f [] = refl
+any_access f (x ∷ rows) = ap (λ (t : Bool). f (access_of x) || t) (any_access f rows)
+
+any_inside : (size blocks : ℕ) (kind : Kind) (b p n : ℕ) (rows : List Row) → AllByRecursion (λ r. IsRow size r × (r.block < blocks)) rows
+    → list_any (λ r. covers kind b p (access_of r)) (drop n rows) ≡ true → nat_lt b blocks ≡ true
+any_inside size blocks kind b p zero [] all there = absurd (cc)
+any_inside size blocks kind b p (suc n) [] all there = absurd (cc)
+any_inside size blocks kind b p zero (x ∷ rows) all there = by (covers kind b p (access_of x)) refl (λ later. any_inside size blocks kind b p zero rows all.1 later)
+  where
+    by : (t : Bool) → covers kind b p (access_of x) ≡ t → (list_any (λ r. covers kind b p (access_of r)) rows ≡ true → nat_lt b blocks ≡ true) → nat_lt b blocks ≡ true
+    by true is rest = covers_inside blocks kind b p x all.0.1 is
+    by false is rest = rest (let h : (covers kind b p (access_of x) || list_any (λ r. covers kind b p (access_of r)) rows) ≡ true = there in rw is at h)
+any_inside size blocks kind b p (suc n) (x ∷ rows) all there = any_inside size blocks kind b p n rows all.1 there
+
+pub touched_rest : (size blocks : ℕ) (kind : Kind) (from : ℕ) (rows : List Row) (order : List (ℕ × ℕ)) (old new : List (ℕ × List Extent)) → from < length rows
+    → AllByRecursion (λ r. IsRow size r × (r.block < blocks)) rows
+    → ((d : Row) → (test : Row → Bool) → list_any (λ e. test (get_or rows e.1 d)) order ≡ list_any test (drop from rows))
+    → ((d : Row) → (b p : ℕ) → touches new b p ≡ (touches old b p || (nat_lt p size && list_any (λ e. covers kind b p (access_of (get_or rows e.1 d))) order)))
+    → AreTouched size blocks kind (take from (map access_of rows)) old → AreTouched size blocks kind (take (length rows) (map access_of rows)) new
+touched_rest size blocks kind from [] order old new lt all same step are = absurd (omega arith)
+touched_rest size blocks kind from (x ∷ xs) order old new lt all same step are = record {
+  is = λ b p.
+      step x b p ∙ ap (λ (t : Bool). touches old b p || (nat_lt p size && t)) (same x (test b p))
+      ∙ ap (λ (t : Bool). t || (nat_lt p size && list_any (test b p) (drop from rows))) (are.is b p)
+      ∙ joined (nat_lt b blocks) (nat_lt p size) (model.touches kind (take from (map access_of rows)) b p) (list_any (test b p) (drop from rows)) (any_inside size blocks kind b p from rows all)
+      ∙ ap (λ (t : Bool). nat_lt b blocks && nat_lt p size && t) (sym (whole b p));
+}
+  where
+    rows : List Row
+    rows = x ∷ xs
+
+    test : (b p : ℕ) → Row → Bool
+    test b p r = covers kind b p (access_of r)
+
+    whole : (b p : ℕ) → model.touches kind (take (length rows) (map access_of rows)) b p ≡ (model.touches kind (take from (map access_of rows)) b p || list_any (test b p) (drop from rows))
+    whole b p =
+        ap (list_any (covers kind b p)) (take-map access_of (length rows) rows ∙ ap (map access_of) (take_all (length rows) rows (omega arith)))
+        ∙ any_access (covers kind b p) rows
+        ∙ ap (list_any (test b p)) (sym (take-append-drop from rows))
+        ∙ list_any-append (test b p) (take from rows) (drop from rows)
+        ∙ ap (λ (t : Bool). t || list_any (test b p) (drop from rows)) (sym (any_access (covers kind b p) (take from rows)) ∙ ap (list_any (covers kind b p)) (sym (take-map access_of from rows)))
 
 -- whether there is a write
 pub write_there : (i : ℕ) (rows : List Row) (d : Row) → i < length rows → is_write (access_of (get_or rows i d)) ≡ true → has_write (map access_of rows) ≡ true

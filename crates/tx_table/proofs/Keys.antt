@@ -1,5 +1,5 @@
 -- What is held under a label stands under its key.
-use Rattle.std.proofs.Common.{◌≡◌, ◌≢◌, ◌∙◌, refl, sym, ap, subst, ℕ, zero, suc, ◌+◌, ◌==◌, nat_eq, bytes_eq, Bool, true, false, cond, inl, inr, List, [], ◌∷◌, ◌++◌, map, drop, arith, ne_eqb, Option, Some, None, is_some, IsTrue}
+use Rattle.std.proofs.Common.{◌≡◌, ◌≢◌, ◌∙◌, refl, sym, ap, subst, ℕ, nat_eq, bytes_eq, Bool, true, false, cond, inl, inr, List, [], ◌∷◌, ◌++◌, map, arith, ne_eqb, Option, Some, None, is_some, IsTrue}
 use Rattle.std.specs.List.{AllByRecursion}
 use Rattle.std.specs.Map.{lookup, remove_entry}
 use Rattle.std.specs.Option.{option_map}

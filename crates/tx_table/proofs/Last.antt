@@ -1,13 +1,11 @@
 -- A row more, and another last row.
-use Rattle.std.proofs.Common.{◌≡◌, ◌≢◌, ◌∙◌, refl, sym, ap, subst, ℕ, zero, suc, ◌+◌, ◌<◌, ◌≤◌, Bool, true, false, List, [], ◌∷◌, ◌++◌, length, get_or, set, map, take, arith, Option, Some, None, Result, Ok, Err, IsTrue, IsFalse, slice_index, ◌==◌, ◌||◌, nat_le, nat_lt, cond, ne_eqb}
-use Rattle.std.proofs.lemmas.List.{take-append-le}
+use Rattle.std.proofs.Common.{◌≡◌, ◌≢◌, ◌∙◌, refl, sym, ap, subst, ℕ, zero, suc, ◌+◌, ◌<◌, ◌≤◌, true, false, List, [], ◌∷◌, ◌++◌, length, get_or, set, map, take, arith, Option, Some, None, Result, Ok, Err, IsTrue, IsFalse, ◌==◌, nat_le, nat_lt, ne_eqb}
 use Rattle.std.proofs.lemmas.Grind.{common_steps}
 use Rattle.std.specs.List.{AllByRecursion}
 use Rattle.std.specs.Option.{IfSome}
 use Rattle.byte_marks.specs.declared.extent.Extent.{Extent}
 use Rattle.byte_marks.specs.Touched.{AreTouched}
 use Rattle.iso_model.specs.declared.access.Access.{Access}
-use Rattle.iso_model.specs.declared.access.Geometry.{Geometry}
 use Rattle.iso_model.specs.declared.access.Kind.{Kind}
 use Rattle.iso_model.specs.declared.access.Kind.TheVariants.{Read, Write}
 use Rattle.iso_model.specs.declared.access.MarkError.{MarkError}
@@ -15,7 +13,7 @@ use Rattle.iso_model.specs.declared.access.Span.{Span}
 use Rattle.iso_model.specs.Effect.{is_write}
 use Rattle.iso_model.specs.declared.access.MarkError.TheVariants.{TooManyMarks}
 use Rattle.iso_model.specs.Marks.{is_outside, mark_fault, marked, marks_fault}
-use Rattle.iso_model.specs.Premises.{AreAccesses, AreBytes, HasBytes, IsAccess, IsSpan}
+use Rattle.iso_model.specs.Premises.{AreBytes, HasBytes, IsAccess, IsSpan}
 use Rattle.tx_table.specs.declared.rows.Row.{Row}
 use Rattle.tx_table.specs.Patches.{AreEffects, has_patch, HavePatches}
 use Rattle.tx_table.specs.Work.{access_of, AreWithin, IsRow}

@@ -2,6 +2,8 @@ pub mod Applied
 pub mod Begins
 pub mod Blocks
 pub mod Covered
+pub mod Held
 pub mod Keys
 pub mod Last
 pub mod Runs
+pub mod Slots

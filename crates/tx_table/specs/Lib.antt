@@ -1,4 +1,5 @@
 pub mod Live
 pub mod Patches
 pub mod Rack
+pub mod Slots
 pub mod Work

@@ -1,5 +1,5 @@
 -- What contracts see of `Patches`: for each written block, rising, the values of its patch.
-use Rattle.std.specs.Prelude.{◌≡◌, ℕ, ◌+◌, ◌≤◌, ◌==◌, ◌||◌, Bool, false, cond, List, [], ◌∷◌, Option, None, replicate, IsTrue}
+use Rattle.std.specs.Prelude.{◌≡◌, ℕ, ◌+◌, ◌<◌, ◌≤◌, ◌==◌, ◌||◌, Bool, false, cond, List, [], ◌∷◌, Option, None, length, replicate, slice_index_or, IsTrue}
 use Rattle.std.specs.List.{AllByRecursion}
 use Rattle.iso_model.specs.declared.access.Access.{Access}
 use Rattle.iso_model.specs.Effect.{effects_from, is_write}
@@ -11,7 +11,7 @@ pub record Held : Type 0 where
   pub spare : Bool
 
 -- the blocks rise, from `from` on
-abbrev pub RisesFrom : ℕ → List (ℕ × List (Option ℕ)) → Type 0
+abbrev pub RisesFrom : {A : Type 0} → ℕ → List (ℕ × A) → Type 0
 RisesFrom from [] = Unit {0}
 RisesFrom from (entry ∷ entries) = (from ≤ entry.0) × RisesFrom (entry.0 + 1) entries
 
@@ -24,6 +24,10 @@ has_patch b (entry ∷ entries) = (entry.0 == b) || has_patch b entries
 abbrev pub patch_at : (size b : ℕ) → List (ℕ × List (Option ℕ)) → List (Option ℕ)
 patch_at size b [] = replicate size None
 patch_at size b (entry ∷ entries) = cond (entry.0 == b) entry.1 (patch_at size b entries)
+
+-- no value is set in the slots from `from` on
+abbrev pub AreBlankFrom : (size from : ℕ) → List (List (Option ℕ)) → Type 0
+AreBlankFrom size from slots = (k : ℕ) → from ≤ k → k < length slots → slice_index_or slots k [] ≡ replicate size None
 
 -- the patches hold what the accesses write
 pub record AreEffects (size : ℕ) (accesses : List Access) (patches : List (ℕ × List (Option ℕ))) : Type 0 where

@@ -1,6 +1,7 @@
 //! Transactions that have begun: what each does, which are live, and those under a label.
 #![tactic(auto)]
 
+mod fold;
 mod live;
 mod patch_iter;
 mod patches;

@@ -1,9 +1,9 @@
 // The patches of the blocks that a transaction wrote.
-ghost use Rattle.std.specs.Prelude.{◌≡◌, ℕ, ◌+◌, ◌<◌, ◌≤◌, ◌==◌, [], ◌∷◌, true, false, Some, None, ◌⊎◌, IsOk, IsTrue, OnOk, OnErr, List, Option, cond, length, replicate, slice_index_or, vec_capacity};
+ghost use Rattle.std.specs.Prelude.{◌≡◌, ◌≢◌, ℕ, ◌+◌, ◌<◌, ◌≤◌, ◌==◌, [], true, false, None, ◌⊎◌, IfNone, IfSome, IsOk, IsTrue, OnOk, OnErr, cond, length, replicate, slice_index_or, vec_capacity};
 ghost use Rattle.std.specs.List.{All, insert};
 ghost use Rattle.iso_model.specs.Geometry.{is_block_size};
 ghost use Rattle.merge_write.specs.Patch.{laid, written};
-ghost use Rattle.tx_table.specs.Patches.{has_patch, patch_at, Held, RisesFrom};
+ghost use Rattle.tx_table.specs.Patches.{has_patch, patch_at, RisesFrom};
 
 use crate::PatchIter;
 use iso_model::{Memory, Span};
@@ -11,47 +11,87 @@ use merge_write::Patch;
 use std::alloc::Global;
 use std::marker::Model;
 
-/// For each written block, rising, its patch; and a blank one, so that one more takes no memory.
+// A slot is numbered in 32 bits.
+const MAX_SLOTS: usize = 4_294_967_295;
+
+/// For each written block, rising, the slot of its patch. Patches never move: those of the written blocks stand in the first slots,
+/// and behind them blank ones, so that one more block takes no memory. A block more moves the pairs of the blocks behind it
+/// alone: 8 bytes for each of at most 4,096, so no more than 32 KiB.
 #[derive(Drop)]
 pub struct Patches {
     alloc: Global,
     size: u32,
-    entries: Vec<(u32, Patch)>,
-    spare: Option<Patch>,
+    order: Vec<(u32, u32)>,
+    slots: Vec<Patch>,
 }
 
 impl Model for Patches {
-    ghost use Rattle.std.specs.Prelude.{◌≡◌, ◌<◌, ◌&&◌, IsTrue, IfSome, is_some, length, nat_lt, replicate, None, vec_capacity};
+    ghost use Rattle.std.specs.Prelude.{◌≡◌, ◌<◌, ◌≤◌, ◌^◌, ◌&&◌, [], IsTrue, length, nat_lt, vec_capacity};
     ghost use Rattle.std.specs.List.{AllByRecursion};
     ghost use Rattle.iso_model.specs.Geometry.{is_block_size};
-    ghost use Rattle.tx_table.specs.Patches.{Held, RisesFrom};
+    ghost use Rattle.tx_table.specs.Patches.{AreBlankFrom, Held, RisesFrom};
+    ghost use Rattle.tx_table.specs.Slots.{entries_of, AreSlots};
 
     ghost Value = { Held };
 
-    ghost view = { λ a. record { size = a.size; entries = a.entries.items; spare = is_some a.spare && nat_lt (length a.entries.items) (vec_capacity a.entries) } };
+    ghost view = { λ a. record {
+      size = a.size;
+      entries = entries_of [] a.slots.items a.order.items;
+      spare = nat_lt (length a.order.items) (length a.slots.items) && nat_lt (length a.order.items) (vec_capacity a.order);
+    } };
 
     ghost invariant = { λ a.
-        (IsTrue (is_block_size a.size)) × RisesFrom 0 a.entries.items × AllByRecursion (λ e. length e.1 ≡ a.size) a.entries.items
-        × IfSome a.spare (λ patch. patch ≡ replicate a.size None) };
+        (IsTrue (is_block_size a.size)) × RisesFrom 0 a.order.items × AreSlots (length a.order.items) a.order.items
+        × (length a.order.items ≤ length a.slots.items) × (length a.slots.items < 2 ^ 32)
+        × AllByRecursion (λ slot. length slot ≡ a.size) a.slots.items × AreBlankFrom a.size (length a.order.items) a.slots.items };
 }
 
-// The place of the first entry whose block is not below this one.
-fn place_of(entries: &[(u32, Patch)], block: u32) -> usize
-    requires { RisesFrom 0 entries.now }
-    ensures within { result ≤ length entries.now }
-    ensures before { (k : ℕ) → k < result → (d : ℕ × List (Option ℕ)) → (slice_index_or entries.now k d).0 < block }
-    ensures after { (k : ℕ) → result ≤ k → k < length entries.now → (d : ℕ × List (Option ℕ)) → block ≤ (slice_index_or entries.now k d).0 }
+// The place of the first block that is not below this one.
+fn place_of(order: &[(u32, u32)], block: u32) -> usize
+    requires { RisesFrom 0 order.now }
+    ensures within { result ≤ length order.now }
+    ensures before { (k : ℕ) → k < result → (d : ℕ × ℕ) → (slice_index_or order.now k d).0 < block }
+    ensures after { (k : ℕ) → result ≤ k → k < length order.now → (d : ℕ × ℕ) → block ≤ (slice_index_or order.now k d).0 }
 {
-    entries.partition_point(|entry| entry.0 < block)
+    order.partition_point(|entry| entry.0 < block)
 }
 
-// Puts a patch at a place where there is room for it.
-fn insert_within(entries: &mut Vec<(u32, Patch)>, place: usize, block: u32, patch: Patch)
-    requires place { place ≤ length entries.old.items }
-    requires room { length entries.old.items < vec_capacity entries.old }
-    ensures { entries.new.items ≡ insert entries.old.items place (block, patch) }
+// The slot of a block, and none exactly where it has none.
+fn slot_of(order: &[(u32, u32)], block: u32) -> Option<u32>
+    requires { RisesFrom 0 order.now }
+    ensures found { IfSome result (λ slot. (i : ℕ) × (i < length order.now) × (slice_index_or order.now i (block, slot) ≡ (block, slot))) }
+    ensures none { IfNone result ((k : ℕ) → (d : ℕ × ℕ) → k < length order.now → (slice_index_or order.now k d).0 ≢ block) }
 {
-    let _ = entries.insert(place, (block, patch));
+    let place = place_of(order, block);
+    if place >= order.len() {
+        return None;
+    }
+    let entry = order[place];
+    if entry.0 != block {
+        return None;
+    }
+    Some(entry.1)
+}
+
+// Puts a slot at a place where there is room for it.
+fn insert_within(order: &mut Vec<(u32, u32)>, place: usize, block: u32, slot: u32)
+    requires place { place ≤ length order.old.items }
+    requires room { length order.old.items < vec_capacity order.old }
+    ensures { order.new.items ≡ insert order.old.items place (block, slot) }
+{
+    let _ = order.insert(place, (block, slot));
+}
+
+// Clears the patches of the first slots.
+fn clear_slots(slots: &mut Vec<Patch>, count: usize)
+    requires { count ≤ length slots.old.items }
+    ensures len { length slots.new.items ≡ length slots.old.items }
+    ensures cleared { (k : ℕ) → k < count → slice_index_or slots.new.items k [] ≡ replicate (length (slice_index_or slots.old.items k [])) None }
+    ensures kept { (k : ℕ) → count ≤ k → slice_index_or slots.new.items k [] ≡ slice_index_or slots.old.items k [] }
+{
+    for slot in 0..count {
+        slots[slot].clear();
+    }
 }
 
 impl Patches {
@@ -63,8 +103,8 @@ impl Patches {
         Patches {
             alloc,
             size,
-            entries: Vec::new(alloc),
-            spare: None,
+            order: Vec::new(alloc),
+            slots: Vec::new(alloc),
         }
     }
 
@@ -72,8 +112,10 @@ impl Patches {
     pub fn holds(&self, block: u32) -> bool
         ensures { result ≡ has_patch block self.now.entries }
     {
-        let place = place_of(self.entries.as_slice(), block);
-        place < self.entries.len() && self.entries[place].0 == block
+        match slot_of(self.order.as_slice(), block) {
+            Some(_) => true,
+            None => false,
+        }
     }
 
     /// Makes room for a patch of a block. Where there is one, or room for it, it takes no memory.
@@ -96,10 +138,15 @@ impl Patches {
         ensures err { OnErr result (self.new ≡ self.old) }
         ensures succeeds { self.old.spare ≡ true → IsOk result }
     {
-        self.entries.reserve(1)?;
-        if self.spare.is_none() {
-            self.spare = Some(Patch::blank(self.alloc, self.size)?);
+        self.order.reserve(1)?;
+        if self.order.len() < self.slots.len() {
+            return Ok(());
         }
+        if self.slots.len() >= MAX_SLOTS {
+            return Err(Memory);
+        }
+        let patch = Patch::blank(self.alloc, self.size)?;
+        self.slots.push(patch)?;
         Ok(())
     }
 
@@ -112,10 +159,9 @@ impl Patches {
         ensures kept { (b : ℕ) → has_patch b self.old.entries ≡ true → has_patch b self.new.entries ≡ true }
         ensures values { (b : ℕ) → patch_at self.old.size b self.new.entries ≡ patch_at self.old.size b self.old.entries }
     {
-        let place = place_of(self.entries.as_slice(), block);
-        if let Some(patch) = self.spare.take() {
-            insert_within(&mut self.entries, place, block, patch);
-        }
+        let place = place_of(self.order.as_slice(), block);
+        let slot = self.order.len() as u32;
+        insert_within(&mut self.order, place, block, slot);
     }
 
     /// Has a patch of a block: a blank one where there was none.
@@ -142,8 +188,10 @@ impl Patches {
         ensures values { (b : ℕ) → patch_at self.old.size b self.new.entries
             ≡ cond (block == b) (written spans.now 0 (patch_at self.old.size b self.old.entries) bytes.now) (patch_at self.old.size b self.old.entries) }
     {
-        let place = place_of(self.entries.as_slice(), block);
-        self.entries[place].1.set_spans(bytes, spans);
+        let Some(slot) = slot_of(self.order.as_slice(), block) else {
+            return;
+        };
+        self.slots[slot as usize].set_spans(bytes, spans);
     }
 
     /// Lays what is held for a block over it.
@@ -151,10 +199,10 @@ impl Patches {
         requires { length into.old ≡ self.now.size }
         ensures { into.new ≡ laid (patch_at self.now.size block self.now.entries) into.old }
     {
-        let place = place_of(self.entries.as_slice(), block);
-        if place < self.entries.len() && self.entries[place].0 == block {
-            self.entries[place].1.over(into);
-        }
+        let Some(slot) = slot_of(self.order.as_slice(), block) else {
+            return;
+        };
+        self.slots[slot as usize].over(into);
     }
 
     /// Holds no value any more.
@@ -164,9 +212,16 @@ impl Patches {
         ensures kept { (b : ℕ) → has_patch b self.new.entries ≡ has_patch b self.old.entries }
         ensures values { (b : ℕ) → patch_at self.old.size b self.new.entries ≡ replicate self.old.size None }
     {
-        for place in 0..self.entries.len() {
-            self.entries[place].1.clear();
-        }
+        clear_slots(&mut self.slots, self.order.len());
+    }
+
+    /// Has no patch any more. The memory stays for what comes.
+    pub fn forget(&mut self)
+        ensures size { self.new.size ≡ self.old.size }
+        ensures none { self.new.entries ≡ [] }
+    {
+        clear_slots(&mut self.slots, self.order.len());
+        self.order.clear();
     }
 
     /// The written blocks, rising, each with its patch.
@@ -174,6 +229,6 @@ impl Patches {
         ensures is { result ≡ self.now.entries }
         ensures rising { RisesFrom 0 result }
     {
-        PatchIter::of(self.entries.as_slice())
+        PatchIter::of(self.order.as_slice(), self.slots.as_slice())
     }
 }

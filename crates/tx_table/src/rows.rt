@@ -1,21 +1,12 @@
 // The accesses of a transaction as they are kept.
-ghost use Rattle.std.specs.Prelude.{◌≡◌, ℕ, ◌+◌, ◌<◌, ◌≤◌, ◌&&◌, ◌||◌, [], ◌∷◌, ◌++◌, IsTrue, IfOk, List, OnOk, OnErr, length, map, nat_lt, take};
+ghost use Rattle.std.specs.Prelude.{◌≡◌, ℕ, ◌+◌, ◌<◌, ◌≤◌, [], ◌∷◌, ◌++◌, List, length, map, take};
 ghost use Rattle.std.specs.List.{AllByRecursion};
-ghost use Rattle.byte_marks.specs.Marks.{has};
-ghost use Rattle.byte_marks.specs.Touched.{touches, AreTouched};
 ghost use Rattle.iso_model.specs.declared.access.Access.{Access};
-ghost use Rattle.iso_model.specs.declared.access.Kind.{Kind};
-ghost use Rattle.iso_model.specs.Array.{covered};
-ghost use Rattle.iso_model.specs.Effect.{covers};
-ghost use Rattle.iso_model.specs.Geometry.{is_block_size};
-ghost use Rattle.iso_model.specs.declared.access.Kind.TheVariants.{Read, Write};
 ghost use Rattle.tx_table.specs.Patches.{has_patch, AreEffects, HavePatches};
 ghost use Rattle.tx_table.specs.Work.{access_of, IsRow};
 
 use crate::patches::Patches;
-use byte_marks::{Marks, Touched};
-use iso_model::{Kind, Memory, Span};
-use std::alloc::Global;
+use iso_model::{Kind, Span};
 
 /// An access: the first `count` spans are its marks, and a write has the bytes of a whole block.
 #[derive(Drop)]
@@ -54,6 +45,20 @@ impl Row {
     }
 }
 
+/// Takes all rows out. Where there are no spare bytes, those of a write become so, emptied.
+pub fn take_rows(rows: &mut Vec<Row>, spare: &mut Vec<u8>)
+    ensures rows { rows.new.items ≡ [] }
+    ensures spare { spare.new.items ≡ [] }
+{
+    while let Some(row) = rows.pop() {
+        let Row { bytes, .. } = row;
+        if spare.capacity() == 0 {
+            *spare = bytes;
+        }
+    }
+    spare.clear();
+}
+
 /// Sets the writes of the rows from a place on in the patches.
 pub fn apply(rows: &[Row], from: usize, patches: &mut Patches)
     requires within { from ≤ length rows.now }
@@ -73,76 +78,6 @@ pub fn apply(rows: &[Row], from: usize, patches: &mut Patches)
     }
 }
 
-// The bytes of its block that a row covers.
-fn covered_bytes(alloc: Global, row: &Row, size: u32) -> Result<Marks, Memory>
-    requires size { IsTrue (is_block_size size) }
-    requires row { IsRow size row.now }
-    ensures { IfOk result (λ marks. (p : ℕ) → has marks p ≡ (nat_lt p size && covered (take row.now.count row.now.spans) p)) }
-{
-    let mut marks = Marks::empty(alloc);
-    if row.count == 0 {
-        let whole = Span {
-            off: 0,
-            len: size as u16,
-        };
-        marks.add(whole)?;
-        return Ok(marks);
-    }
-    for at in 0..row.count {
-        marks.add(row.spans[at])?;
-    }
-    Ok(marks)
-}
-
-// Adds the bytes that a row covers to what is read or what is written. Without memory both stay as they are.
-fn touch(
-    alloc: Global,
-    row: &Row,
-    size: u32,
-    reads: &mut Touched,
-    writes: &mut Touched,
-) -> Result<(), Memory>
-    requires size { IsTrue (is_block_size size) }
-    requires row { IsRow size row.now }
-    ensures reads { OnOk result ((b p : ℕ) → touches reads.new b p ≡ (touches reads.old b p || (nat_lt p size && covers Read b p (access_of row.now)))) }
-    ensures writes { OnOk result ((b p : ℕ) → touches writes.new b p ≡ (touches writes.old b p || (nat_lt p size && covers Write b p (access_of row.now)))) }
-    ensures err { OnErr result ((reads.new ≡ reads.old) × (writes.new ≡ writes.old)) }
-{
-    let marks = covered_bytes(alloc, row, size)?;
-    match row.kind {
-        Kind::Read => reads.add(row.block, &marks)?,
-        Kind::Write => writes.add(row.block, &marks)?,
-    }
-    Ok(())
-}
-
-/// Adds the bytes that the rows from a place on cover to what is read and what is written, and says how many rows are in it
-/// then: without memory the first ones.
-pub fn fold(
-    alloc: Global,
-    rows: &[Row],
-    from: usize,
-    size: u32,
-    blocks: u32,
-    reads: &mut Touched,
-    writes: &mut Touched,
-) -> usize
-    requires within { from ≤ length rows.now }
-    requires size { IsTrue (is_block_size size) }
-    requires rows { AllByRecursion (λ row. IsRow size row × (row.block < blocks)) rows.now }
-    ensures least { from ≤ result }
-    ensures within { result ≤ length rows.now }
-    ensures reads { AreTouched size blocks Read (take from (map access_of rows.now)) reads.old → AreTouched size blocks Read (take result (map access_of rows.now)) reads.new }
-    ensures writes { AreTouched size blocks Write (take from (map access_of rows.now)) writes.old → AreTouched size blocks Write (take result (map access_of rows.now)) writes.new }
-{
-    for at in from..rows.len() {
-        if let Err(_) = touch(alloc, &rows[at], size, reads, writes) {
-            return at;
-        }
-    }
-    rows.len()
-}
-
 /// Takes the rows from a place on out of the patches, and says how many are in them then.
 pub fn reopen_patches(applied: usize, last: usize, patches: &mut Patches) -> usize
     ensures few { result ≤ last }
@@ -156,27 +91,5 @@ pub fn reopen_patches(applied: usize, last: usize, patches: &mut Patches) -> usi
         return applied;
     }
     patches.clear();
-    0
-}
-
-/// Takes the rows from a place on out of what is touched, and says how many are in it then.
-pub fn reopen_touched(
-    alloc: Global,
-    folded: usize,
-    last: usize,
-    reads: &mut Touched,
-    writes: &mut Touched,
-) -> usize
-    ensures few { result ≤ last }
-    ensures reads { (size blocks : ℕ) (kind : Kind) (accesses : List Access) → AreTouched size blocks kind (take folded accesses) reads.old
-        → AreTouched size blocks kind (take result accesses) reads.new }
-    ensures writes { (size blocks : ℕ) (kind : Kind) (accesses : List Access) → AreTouched size blocks kind (take folded accesses) writes.old
-        → AreTouched size blocks kind (take result accesses) writes.new }
-{
-    if folded <= last {
-        return folded;
-    }
-    *reads = Touched::empty(alloc);
-    *writes = Touched::empty(alloc);
     0
 }

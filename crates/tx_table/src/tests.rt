@@ -172,6 +172,23 @@ fn patches_rise_by_block(rt: HostRuntime) -> Result<(), Fail> {
 }
 
 #[test]
+fn restarted_work_has_done_nothing(rt: HostRuntime) -> Result<(), Fail> {
+    let alloc = rt.alloc();
+    let mut work = begin(alloc);
+    write(&rt, &mut work, 2, &[0x61; 64])?;
+    assert_eq!(rt; touches(alloc, &mut work, 9)?, (false, true));
+    assert!(rt; work.block_size() == 64);
+    work.restart(8, &small());
+    assert!(rt; work.begun_at() == 8 && work.room() == 4096 && !work.has_write());
+    assert_eq!(rt; blocks(alloc, &mut work)?.as_slice(), [].as_slice());
+    assert_eq!(rt; touches(alloc, &mut work, 9)?, (false, false));
+    write(&rt, &mut work, 1, &[0x62; 64])?;
+    assert_eq!(rt; shown(&rt, &mut work, 2)?, [0x2e; 64]);
+    assert_eq!(rt; shown(&rt, &mut work, 1)?, [0x62; 64]);
+    Ok(())
+}
+
+#[test]
 fn holds_4096_accesses(rt: HostRuntime) -> Result<(), Fail> {
     let alloc = rt.alloc();
     let mut work = begin(alloc);

@@ -14,8 +14,9 @@ ghost use Rattle.tx_table.specs.Patches.{has_patch, AreEffects, HavePatches, Ris
 ghost use Rattle.tx_table.specs.Work.{span_at, AreWithin, Doing};
 
 use crate::PatchIter;
+use crate::fold::{fold, reopen_touched};
 use crate::patches::Patches;
-use crate::rows::{Row, apply, fold, reopen_patches, reopen_touched};
+use crate::rows::{Row, apply, reopen_patches, take_rows};
 use byte_marks::Touched;
 use iso_model::{Geometry, Kind, MAX_ACCESSES, MAX_SPANS, MarkError, Memory, Mode, Span};
 use std::alloc::Global;
@@ -96,6 +97,23 @@ impl Work {
             applied: 0,
             folded: 0,
         }
+    }
+
+    /// Begins anew: a transaction that has done nothing, in blocks of the same size. It takes no memory, and keeps what the one before took.
+    pub fn restart(&mut self, begin: u64, geometry: &Geometry)
+        requires { geometry.now.block ≡ self.old.size }
+        ensures { self.new ≡ record { begin = begin; mode = geometry.now.mode; size = geometry.now.block; blocks = geometry.now.blocks; accesses = []; ready = None; settled = true } }
+    {
+        self.begin = begin;
+        self.mode = geometry.mode;
+        self.blocks = geometry.blocks;
+        take_rows(&mut self.rows, &mut self.bytes);
+        self.patches.forget();
+        self.ready = None;
+        self.reads.clear();
+        self.writes.clear();
+        self.applied = 0;
+        self.folded = 0;
     }
 
     /// The number of the last commit when it began.
@@ -194,13 +212,7 @@ impl Work {
             return Err(MarkError::TooManyMarks);
         }
         self.applied = reopen_patches(self.applied, last, &mut self.patches);
-        self.folded = reopen_touched(
-            self.alloc,
-            self.folded,
-            last,
-            &mut self.reads,
-            &mut self.writes,
-        );
+        self.folded = reopen_touched(self.folded, last, &mut self.reads, &mut self.writes);
         self.rows[last].add(Span { off, len });
         Ok(())
     }

@@ -1,5 +1,5 @@
 -- Blocks that rise are parted by the test on the block.
-use Rattle.std.proofs.Common.{ℕ, arith, rules, List, ltb, Option}
+use Rattle.std.proofs.Common.{ℕ, arith, rules, ltb}
 use Rattle.std.proofs.lemmas.Bool.{ltb-true, ltb-false}
 use Rattle.std.proofs.lemmas.List.Sorted.{IsPartitionPoint-from_clause, IsPartitionedBy-ltb}
 use Rattle.tx_table.proofs.Blocks.{in_order}
@@ -7,16 +7,16 @@ use Rattle.tx_table.proofs.patches.place_of.Goals as goal
 
 pub returns-clause-before : goal.returns-clause-before
 returns-clause-before c k lt d =
-    let es = c.args.entries.now in
-    let parted = IsPartitionedBy-ltb (λ (e : ℕ × List (Option ℕ)). e.0) es c.args.block (λ i j d le lt'. in_order 0 i j es d c.requires le lt') in
-    let point = IsPartitionPoint-from_clause (λ (e : ℕ × List (Option ℕ)). ltb e.0 c.args.block) _ _ c.partition_point.ensures.partitioned parted
+    let es = c.args.order.now in
+    let parted = IsPartitionedBy-ltb (λ (e : ℕ × ℕ). e.0) es c.args.block (λ i j d le lt'. in_order 0 i j es d c.requires le lt') in
+    let point = IsPartitionPoint-from_clause (λ (e : ℕ × ℕ). ltb e.0 c.args.block) _ _ c.partition_point.ensures.partitioned parted
     (λ a r q h. search rules) in
     ltb-true _ _ (point.0 k d (omega arith) lt)
 
 pub returns-clause-after : goal.returns-clause-after
 returns-clause-after c k le lt d =
-    let es = c.args.entries.now in
-    let parted = IsPartitionedBy-ltb (λ (e : ℕ × List (Option ℕ)). e.0) es c.args.block (λ i j d le lt'. in_order 0 i j es d c.requires le lt') in
-    let point = IsPartitionPoint-from_clause (λ (e : ℕ × List (Option ℕ)). ltb e.0 c.args.block) _ _ c.partition_point.ensures.partitioned parted
+    let es = c.args.order.now in
+    let parted = IsPartitionedBy-ltb (λ (e : ℕ × ℕ). e.0) es c.args.block (λ i j d le lt'. in_order 0 i j es d c.requires le lt') in
+    let point = IsPartitionPoint-from_clause (λ (e : ℕ × ℕ). ltb e.0 c.args.block) _ _ c.partition_point.ensures.partitioned parted
     (λ a r q h. search rules) in
     ltb-false _ _ (point.1 k d le lt)

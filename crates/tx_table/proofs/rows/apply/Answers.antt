@@ -1,10 +1,9 @@
 -- One row more.
-use Rattle.std.proofs.Common.{◌≡◌, ◌∙◌, ℕ, ◌+◌, ◌<◌, ◌==◌, cond, true, false, List, ◌∷◌, [], ◌++◌, ap, sym, subst, arith, length, get_or, take, map, Option, IsTrue, refl}
+use Rattle.std.proofs.Common.{◌≡◌, ◌∙◌, ℕ, ◌+◌, true, false, List, ◌∷◌, [], ◌++◌, ap, sym, subst, length, get_or, take, map, IsTrue}
 use Rattle.iso_model.specs.declared.access.Access.{Access}
 use Rattle.iso_model.specs.Effect.{is_write, same_kind}
 use Rattle.iso_model.specs.declared.access.Kind.{Kind}
-use Rattle.iso_model.specs.declared.access.Kind.TheVariants.{Read, Write}
-use Rattle.merge_write.specs.Patch.{written}
+use Rattle.iso_model.specs.declared.access.Kind.TheVariants.{Write}
 use Rattle.tx_table.specs.declared.rows.Row.{Row}
 use Rattle.tx_table.specs.Patches.{has_patch, patch_at, AreEffects, Held}
 use Rattle.tx_table.specs.Work.{access_of, IsRow}

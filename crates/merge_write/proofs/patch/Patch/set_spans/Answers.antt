@@ -44,3 +44,15 @@ returns-clause-values c =
     let whole : take c.loop-span.span-index c.args.spans.now ≡ c.args.spans.now =
     take_all c.loop-span.span-index c.args.spans.now (omega arith) in
     rw (covered_some c.args.spans.now k some) (rw whole at (c.loop-span.invariant.values k (omega arith))))
+
+pub returns-in-len1-clause-values : goal.returns-in-len1-clause-values
+returns-in-len1-clause-values c =
+    let spans = c.args.spans.now in
+    let one : length spans ≡ 1 = omega (arith, c.in-len1.len_at_least, c.in-len1.len_below) in
+    written_is spans c.set_range-in-len1.new.self c.args.self.now c.args.bytes.now c.requires.bytes c.set_range-in-len1.ensures.len
+    (λ k below.
+    let whole : take 1 spans ≡ spans = take_all 1 spans (omega arith) in
+    let value = Some (get_or c.args.bytes.now k 0) in
+    let old = get_or c.args.self.now k None in
+    rw (covered_some spans k (omega arith))
+    (rw whole at (span_more k 0 spans (record { off = 0; len = 0 }) value old old (get_or c.set_range-in-len1.new.self k None) (omega arith) refl (c.set_range-in-len1.ensures.values k below))))

@@ -1,5 +1,5 @@
 -- One begin more.
-use Rattle.std.proofs.Common.{◌≡◌, ◌∙◌, ℕ, ◌+◌, ◌<◌, ◌≤◌, min, List, Option, Some, None, ap, sym, subst, arith, length, get_or, map, take, refl, slice_get}
+use Rattle.std.proofs.Common.{◌≡◌, ◌∙◌, ℕ, ◌+◌, ◌<◌, min, List, ap, sym, subst, arith, length, get_or, map, take, slice_get}
 use Rattle.std.specs.Map.Iter.{deref_pair}
 use Rattle.std.specs.Option.{option_map}
 use Rattle.iso_model.specs.World.{floor_of}

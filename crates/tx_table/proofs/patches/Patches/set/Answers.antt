@@ -1,37 +1,47 @@
--- The patch at the place of the block is that of the block.
-use Rattle.std.proofs.Common.{◌≡◌, ◌∙◌, ℕ, ◌<◌, ◌≤◌, List, Option, ap, sym, subst, arith, length, get_or}
+-- The patch in the slot of the block is that of the block.
+use Rattle.std.proofs.Common.{◌≡◌, ◌∙◌, ℕ, ◌<◌, [], List, Option, ap, sym, arith, length, get_or, set, inl, inr, length-set, get_or-set_same, get_or-set_other, refl}
+use Rattle.std.proofs.lemmas.Bool.{both_ways, cases_eq}
+use Rattle.std.proofs.lemmas.List.{get_or_default}
 use Rattle.merge_write.specs.Patch.{written}
-use Rattle.tx_table.specs.Patches.{has_patch, patch_at, Held, RisesFrom}
-use Rattle.tx_table.proofs.Blocks.{all_set, entry_at, found_at, has_set, patch_set, place_is, rises_set, set_value}
+use Rattle.tx_table.specs.Patches.{has_patch, patch_at, Held}
+use Rattle.tx_table.specs.Slots.{entries_of}
+use Rattle.tx_table.proofs.Blocks.{has_set, patch_set, set_value}
+use Rattle.tx_table.proofs.Held.{held_at, held_none}
+use Rattle.tx_table.proofs.Slots.{all_from, all_there, entry_is, length-entries, rises_entries, set_entries, slot_below}
 use Rattle.tx_table.proofs.patches.Patches.set.Goals as goal
+
+pub returns-in_default-clause-values : goal.returns-in_default-clause-values
+returns-in_default-clause-values c b =
+    let order = c.self.inside.order.items in
+    let slots = c.self.inside.slots.items in
+    let seen : c.as_slice.result.now ≡ order = c.as_slice.ensures.value in
+    let none = (held_none 0 c.args.block slots order (rw seen at c.in_default.ensures.none)).0 in
+    absurd (both_ways (has_patch c.args.block (entries_of [] slots order)) none (ap (λ (h : Held). has_patch c.args.block h.entries) c.self.view_is ∙ c.requires.held))
 
 pub index_mut-requires : goal.index_mut-requires
 index_mut-requires c =
-    let es = c.self.inside.entries.items in
-    let seen : c.as_slice.result.now ≡ es = c.as_slice.ensures.value in
-    let e : c.args.self.now.entries ≡ es = sym (ap (λ (h : Held). h.entries) c.self.view_is) in
-    let place = place_is c.args.block c.place_of-place.result es c.self.invariant.1 (omega (arith, c.place_of-place.ensures.within, ap (length {A = ℕ × List (Option ℕ)}) seen))
-    (λ k lt x. (let h = c.place_of-place.ensures.before k lt x in rw seen at h))
-    (λ k le lt x. (let below : k < length c.as_slice.result.now = omega (arith, ap (length {A = ℕ × List (Option ℕ)}) seen) in let h = c.place_of-place.ensures.after k le below x in rw seen at h))
-    (ap (has_patch c.args.block) (sym e) ∙ c.requires.held) in
-    omega (arith, place.0)
+    let order = c.self.inside.order.items in
+    let slots = c.self.inside.slots.items in
+    let seen : c.as_slice.result.now ≡ order = c.as_slice.ensures.value in
+    let found = rw seen at c.in-Some.ensures.found in
+    let slot = c.in-Some.slot in
+    let below : slot < length order = slot_below (length order) found.0 c.args.block slot order c.self.invariant.2 found.1 found.2 in
+    let inside : slot < length slots = omega (arith, below, c.self.invariant.3) in
+    omega (arith, inside, c.self.inside.slots.ok.0)
 
 pub set_spans-requires-clause-bytes : goal.set_spans-requires-clause-bytes
 set_spans-requires-clause-bytes c =
-    let es = c.self.inside.entries.items in
-    let i = c.place_of-place.result in
-    let seen : c.as_slice.result.now ≡ es = c.as_slice.ensures.value in
-    let e : c.args.self.now.entries ≡ es = sym (ap (λ (h : Held). h.entries) c.self.view_is) in
-    let place = place_is c.args.block i es c.self.invariant.1 (omega (arith, c.place_of-place.ensures.within, ap (length {A = ℕ × List (Option ℕ)}) seen))
-    (λ k lt x. (let h = c.place_of-place.ensures.before k lt x in rw seen at h))
-    (λ k le lt x. (let below : k < length c.as_slice.result.now = omega (arith, ap (length {A = ℕ × List (Option ℕ)}) seen) in let h = c.place_of-place.ensures.after k le below x in rw seen at h))
-    (ap (has_patch c.args.block) (sym e) ∙ c.requires.held) in
-    let d = c.index_mut.result.now in
-    let is : d ≡ get_or es i d = c.index_mut.ensures.value in
-    let key : d.0 ≡ (get_or es i d).0 = ap (λ (x : ℕ × List (Option ℕ)). x.0) is in
+    let order = c.self.inside.order.items in
+    let slots = c.self.inside.slots.items in
+    let seen : c.as_slice.result.now ≡ order = c.as_slice.ensures.value in
+    let found = rw seen at c.in-Some.ensures.found in
+    let slot = c.in-Some.slot in
+    let below : slot < length order = slot_below (length order) found.0 c.args.block slot order c.self.invariant.2 found.1 found.2 in
+    let inside : slot < length slots = omega (arith, below, c.self.invariant.3) in
     let size : c.self.inside.size ≡ c.args.self.now.size = ap (λ (h : Held). h.size) c.self.view_is in
-    let long : length (get_or es i d).1 ≡ c.self.inside.size = entry_at (λ x. length x.1 ≡ c.self.inside.size) i es d c.self.invariant.2 place.0 in
-    c.requires.bytes ∙ sym size ∙ sym long ∙ ap (λ (x : ℕ × List (Option ℕ)). length x.1) (sym is)
+    let old = c.index_mut.result.now in
+    let long : length (get_or slots slot old) ≡ c.self.inside.size = all_there (λ (l : List (Option ℕ)). length l ≡ c.self.inside.size) slot slots old c.self.invariant.5 inside in
+    c.requires.bytes ∙ sym size ∙ sym long ∙ ap (length {A = Option ℕ}) (sym c.index_mut.ensures.value)
 
 pub set_spans-requires-clause-spans : goal.set_spans-requires-clause-spans
 set_spans-requires-clause-spans c k x lt =
@@ -39,53 +49,68 @@ set_spans-requires-clause-spans c k x lt =
 
 pub invariant_of-self : goal.invariant_of-self
 invariant_of-self c =
-    let es = c.self.inside.entries.items in
-    let i = c.place_of-place.result in
-    let seen : c.as_slice.result.now ≡ es = c.as_slice.ensures.value in
-    let e : c.args.self.now.entries ≡ es = sym (ap (λ (h : Held). h.entries) c.self.view_is) in
-    let place = place_is c.args.block i es c.self.invariant.1 (omega (arith, c.place_of-place.ensures.within, ap (length {A = ℕ × List (Option ℕ)}) seen))
-    (λ k lt x. (let h = c.place_of-place.ensures.before k lt x in rw seen at h))
-    (λ k le lt x. (let below : k < length c.as_slice.result.now = omega (arith, ap (length {A = ℕ × List (Option ℕ)}) seen) in let h = c.place_of-place.ensures.after k le below x in rw seen at h))
-    (ap (has_patch c.args.block) (sym e) ∙ c.requires.held) in
-    let d = c.index_mut.result.now in
-    let is : d ≡ get_or es i d = c.index_mut.ensures.value in
-    let key : d.0 ≡ (get_or es i d).0 = ap (λ (x : ℕ × List (Option ℕ)). x.0) is in
-    let long : length (get_or es i d).1 ≡ c.self.inside.size = entry_at (λ x. length x.1 ≡ c.self.inside.size) i es d c.self.invariant.2 place.0 in
-    let now : length c.set_spans.new.self ≡ c.self.inside.size = c.set_spans.ensures.len ∙ ap (λ (x : ℕ × List (Option ℕ)). length x.1) is ∙ long in
-    (c.self.invariant.0, rises_set 0 d.0 i c.set_spans.new.self es d c.self.invariant.1 key, all_set c.self.inside.size d.0 i c.set_spans.new.self es c.self.invariant.2 now, c.self.invariant.3)
+    let order = c.self.inside.order.items in
+    let slots = c.self.inside.slots.items in
+    let seen : c.as_slice.result.now ≡ order = c.as_slice.ensures.value in
+    let found = rw seen at c.in-Some.ensures.found in
+    let slot = c.in-Some.slot in
+    let below : slot < length order = slot_below (length order) found.0 c.args.block slot order c.self.invariant.2 found.1 found.2 in
+    let inside : slot < length slots = omega (arith, below, c.self.invariant.3) in
+    let size = c.self.inside.size in
+    let old = c.index_mut.result.now in
+    let new = c.set_spans.new.self in
+    let long : length (get_or slots slot old) ≡ size = all_there (λ (l : List (Option ℕ)). length l ≡ size) slot slots old c.self.invariant.5 inside in
+    let now : length new ≡ size = c.set_spans.ensures.len ∙ ap (length {A = Option ℕ}) c.index_mut.ensures.value ∙ long in
+    let count : length (set slots slot new) ≡ length slots = length-set slots slot new in (
+      c.self.invariant.0,
+      c.self.invariant.1,
+      c.self.invariant.2,
+      omega (arith, count, c.self.invariant.3),
+      omega (arith, count, c.self.invariant.4),
+      all_from (λ (l : List (Option ℕ)). length l ≡ size) (set slots slot new) [] (λ i lt. elim (cases_eq i slot) [
+        | inl same ↦ rw (same, get_or-set_same slots slot new [] inside) now
+        | inr other ↦ rw (get_or-set_other slots slot i new [] other) (all_there (λ (l : List (Option ℕ)). length l ≡ size) i slots [] c.self.invariant.5 (omega (arith, count)))
+      ]),
+      λ k le lt. get_or-set_other slots slot k new [] (λ same. omega (arith, same, le, below)) ∙ c.self.invariant.6 k le (omega (arith, count)),
+    )
 
 pub returns-clause-kept : goal.returns-clause-kept
 returns-clause-kept c b =
-    let es = c.self.inside.entries.items in
-    let i = c.place_of-place.result in
-    let seen : c.as_slice.result.now ≡ es = c.as_slice.ensures.value in
-    let e : c.args.self.now.entries ≡ es = sym (ap (λ (h : Held). h.entries) c.self.view_is) in
-    let place = place_is c.args.block i es c.self.invariant.1 (omega (arith, c.place_of-place.ensures.within, ap (length {A = ℕ × List (Option ℕ)}) seen))
-    (λ k lt x. (let h = c.place_of-place.ensures.before k lt x in rw seen at h))
-    (λ k le lt x. (let below : k < length c.as_slice.result.now = omega (arith, ap (length {A = ℕ × List (Option ℕ)}) seen) in let h = c.place_of-place.ensures.after k le below x in rw seen at h))
-    (ap (has_patch c.args.block) (sym e) ∙ c.requires.held) in
-    let d = c.index_mut.result.now in
-    let is : d ≡ get_or es i d = c.index_mut.ensures.value in
-    let key : d.0 ≡ (get_or es i d).0 = ap (λ (x : ℕ × List (Option ℕ)). x.0) is in
-    has_set b d.0 i c.set_spans.new.self es d place.0 key ∙ ap (has_patch b) (sym e)
+    let order = c.self.inside.order.items in
+    let slots = c.self.inside.slots.items in
+    let seen : c.as_slice.result.now ≡ order = c.as_slice.ensures.value in
+    let found = rw seen at c.in-Some.ensures.found in
+    let slot = c.in-Some.slot in
+    let below : slot < length order = slot_below (length order) found.0 c.args.block slot order c.self.invariant.2 found.1 found.2 in
+    let inside : slot < length slots = omega (arith, below, c.self.invariant.3) in
+    let es = entries_of [] slots order in
+    let new = c.set_spans.new.self in
+    let there : found.0 < length es = omega (arith, found.1, length-entries {A = List (Option ℕ)} [] slots order) in
+    let entry = entry_is [] slots found.0 c.args.block slot order (c.args.block, []) found.1 found.2 in
+    ap (has_patch b) (set_entries [] slots new (length order) found.0 c.args.block slot order c.self.invariant.2 c.self.invariant.3 found.1 found.2)
+    ∙ has_set b c.args.block found.0 new es (c.args.block, []) there (sym (ap (λ (x : ℕ × List (Option ℕ)). x.0) entry))
+    ∙ ap (λ (h : Held). has_patch b h.entries) c.self.view_is
 
 pub returns-clause-values : goal.returns-clause-values
 returns-clause-values c b =
-    let es = c.self.inside.entries.items in
-    let i = c.place_of-place.result in
-    let seen : c.as_slice.result.now ≡ es = c.as_slice.ensures.value in
-    let e : c.args.self.now.entries ≡ es = sym (ap (λ (h : Held). h.entries) c.self.view_is) in
-    let place = place_is c.args.block i es c.self.invariant.1 (omega (arith, c.place_of-place.ensures.within, ap (length {A = ℕ × List (Option ℕ)}) seen))
-    (λ k lt x. (let h = c.place_of-place.ensures.before k lt x in rw seen at h))
-    (λ k le lt x. (let below : k < length c.as_slice.result.now = omega (arith, ap (length {A = ℕ × List (Option ℕ)}) seen) in let h = c.place_of-place.ensures.after k le below x in rw seen at h))
-    (ap (has_patch c.args.block) (sym e) ∙ c.requires.held) in
-    let d = c.index_mut.result.now in
-    let is : d ≡ get_or es i d = c.index_mut.ensures.value in
-    let key : d.0 ≡ (get_or es i d).0 = ap (λ (x : ℕ × List (Option ℕ)). x.0) is in
+    let order = c.self.inside.order.items in
+    let slots = c.self.inside.slots.items in
+    let seen : c.as_slice.result.now ≡ order = c.as_slice.ensures.value in
+    let found = rw seen at c.in-Some.ensures.found in
+    let slot = c.in-Some.slot in
+    let below : slot < length order = slot_below (length order) found.0 c.args.block slot order c.self.invariant.2 found.1 found.2 in
+    let inside : slot < length slots = omega (arith, below, c.self.invariant.3) in
+    let es = entries_of [] slots order in
+    let new = c.set_spans.new.self in
     let size = c.args.self.now.size in
-    let same : d.0 ≡ c.args.block = key ∙ place.1 d in
-    let found : patch_at size c.args.block es ≡ (get_or es i d).1 = (found_at 0 size c.args.block i es d c.self.invariant.1 place.0 (place.1 d)).1 in
-    let new : c.set_spans.new.self ≡ written c.args.spans.now 0 d.1 c.args.bytes.now = c.set_spans.ensures.values in
-    let old : d.1 ≡ patch_at size c.args.block c.args.self.now.entries = ap (λ (x : ℕ × List (Option ℕ)). x.1) is ∙ sym found ∙ ap (patch_at size c.args.block) (sym e) in
-    patch_set size b 0 d.0 i c.set_spans.new.self es d c.self.invariant.1 place.0 key
-    ∙ set_value size b c.args.block d.0 c.set_spans.new.self es c.args.self.now.entries (λ l. written c.args.spans.now 0 l c.args.bytes.now) same (sym e) (new ∙ ap (λ (l : List (Option ℕ)). written c.args.spans.now 0 l c.args.bytes.now) old)
+    let there : found.0 < length es = omega (arith, found.1, length-entries {A = List (Option ℕ)} [] slots order) in
+    let entry = entry_is [] slots found.0 c.args.block slot order (c.args.block, []) found.1 found.2 in
+    let key = sym (ap (λ (x : ℕ × List (Option ℕ)). x.0) entry) in
+    let same : es ≡ c.args.self.now.entries = ap (λ (h : Held). h.entries) c.self.view_is in
+    let held : patch_at size c.args.block es ≡ get_or slots slot [] = (held_at size c.args.block slot found.0 slots order c.self.invariant.1 found.1 found.2).1 in
+    let old : c.index_mut.result.now ≡ patch_at size c.args.block c.args.self.now.entries =
+    c.index_mut.ensures.value ∙ get_or_default slots slot c.index_mut.result.now [] inside ∙ sym held ∙ ap (patch_at size c.args.block) same in
+    ap (patch_at size b) (set_entries [] slots new (length order) found.0 c.args.block slot order c.self.invariant.2 c.self.invariant.3 found.1 found.2)
+    ∙ patch_set size b 0 c.args.block found.0 new es (c.args.block, []) (rises_entries [] slots 0 order c.self.invariant.1) there key
+    ∙ set_value size b c.args.block c.args.block new es c.args.self.now.entries (λ l. written c.args.spans.now 0 l c.args.bytes.now) refl same
+    (c.set_spans.ensures.values ∙ ap (λ (l : List (Option ℕ)). written c.args.spans.now 0 l c.args.bytes.now) old)

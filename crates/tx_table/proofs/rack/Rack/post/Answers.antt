@@ -1,5 +1,5 @@
 -- A label that is not held goes last.
-use Rattle.std.proofs.Common.{◌≡◌, ◌∙◌, sym, ap, nat_eq, is_some, None, Bool, Option}
+use Rattle.std.proofs.Common.{◌∙◌, ap, nat_eq, is_some}
 use Rattle.std.proofs.lemmas.Bool.{both_ways}
 use Rattle.indexmap.proofs.CallerLemmas.{insert_entry-new}
 use Rattle.tx_table.proofs.Keys.{held_is, none_from, post_shows, post_stands}

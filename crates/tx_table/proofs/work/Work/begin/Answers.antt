@@ -1,9 +1,9 @@
 -- Nothing is done.
-use Rattle.std.proofs.Common.{◌≡◌, ◌∙◌, ℕ, ap, sym, refl, arith, rules, true, false, ◌&&◌, Bool, nat_lt, ◌<◌, ◌≤◌, length, subst, map, List, [], Option}
+use Rattle.std.proofs.Common.{◌≡◌, ℕ, ap, sym, arith, ◌<◌, ◌≤◌, length, subst, map, List, [], Option}
 use Rattle.std.specs.List.{AllByRecursion}
 use Rattle.merge_write.proofs.Effects.{no_effects}
 use Rattle.tx_table.specs.declared.rows.Row.{Row}
-use Rattle.tx_table.specs.Patches.{patch_at, AreEffects, HavePatches, Held}
+use Rattle.tx_table.specs.Patches.{AreEffects, HavePatches, Held}
 use Rattle.tx_table.specs.Work.{access_of, IsRow}
 use Rattle.tx_table.proofs.Applied.{none_touched}
 use Rattle.tx_table.proofs.work.Work.begin.Goals as goal

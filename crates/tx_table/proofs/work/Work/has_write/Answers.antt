@@ -1,5 +1,5 @@
 -- A row that is a write, or one more that is none.
-use Rattle.std.proofs.Common.{◌≡◌, ◌∙◌, ℕ, ◌+◌, ◌<◌, Bool, true, false, List, ap, sym, subst, arith, length, get_or, map, take}
+use Rattle.std.proofs.Common.{◌≡◌, ◌∙◌, ◌+◌, ◌<◌, true, false, List, ap, sym, subst, length, get_or, map, take}
 use Rattle.iso_model.specs.declared.access.Access.{Access}
 use Rattle.iso_model.specs.declared.access.Kind.{Kind}
 use Rattle.iso_model.specs.declared.access.Kind.TheVariants.{Write}

@@ -1,8 +1,7 @@
 -- The patches are up to date, so their runs are those of the accesses.
-use Rattle.std.proofs.Common.{◌≡◌, ◌∙◌, ℕ, Bool, true, ◌==◌, ◌&&◌, sym, ap, subst, arith, List, map, take, length, Option, flat_map}
+use Rattle.std.proofs.Common.{◌≡◌, ◌∙◌, sym, ap, subst, List, map, take, length, flat_map}
 use Rattle.iso_model.specs.declared.access.Access.{Access}
 use Rattle.iso_model.specs.Effect.{runs, runs_from}
-use Rattle.tx_table.specs.declared.rows.Row.{Row}
 use Rattle.tx_table.specs.Patches.{AreEffects, RisesFrom}
 use Rattle.tx_table.specs.Work.{access_of, Doing}
 use Rattle.tx_table.proofs.Covered.{settled_is}

@@ -1,5 +1,5 @@
 -- What is laid over the block are the own writes.
-use Rattle.std.proofs.Common.{◌≡◌, ◌∙◌, ◌⊎◌, ℕ, ◌<◌, ◌≤◌, Bool, true, false, sym, ap, subst, arith, refl, List, [], ◌∷◌, ◌++◌, map, take, length, Option, Some, IsTrue, vec_capacity}
+use Rattle.std.proofs.Common.{◌≡◌, ◌∙◌, ◌⊎◌, ℕ, ◌<◌, ◌≤◌, true, false, sym, ap, subst, arith, refl, List, [], map, take, length, Option, Some, vec_capacity}
 use Rattle.std.specs.Option.{IfSome}
 use Rattle.std.proofs.lemmas.Bool.{both_ways}
 use Rattle.iso_model.specs.declared.access.Kind.TheVariants.{Read}
@@ -11,7 +11,6 @@ use Rattle.tx_table.proofs.Last.{appended, have_kept, length_rows, unmarked_row}
 use Rattle.iso_model.specs.declared.access.Access.{Access}
 use Rattle.iso_model.specs.Effect.{own}
 use Rattle.iso_model.specs.Premises.{block_at}
-use Rattle.tx_table.specs.declared.rows.Row.{Row}
 use Rattle.tx_table.specs.Patches.{AreEffects}
 use Rattle.tx_table.specs.Work.{access_of, Doing}
 use Rattle.tx_table.proofs.Applied.{rows_have_bytes, shown_of}

@@ -1,12 +1,10 @@
 -- The row with the bytes stands behind the others, and its block has a patch.
-use Rattle.std.proofs.Common.{◌≡◌, ◌∙◌, ◌⊎◌, ℕ, ◌+◌, ◌<◌, ◌≤◌, Bool, true, false, cond, sym, ap, subst, arith, refl, List, [], ◌∷◌, ◌++◌, map, take, length, Option, Some, IsTrue, IsFalse, is_ok, vec_capacity, vec_len}
+use Rattle.std.proofs.Common.{◌≡◌, ◌∙◌, ◌⊎◌, ℕ, ◌+◌, ◌<◌, ◌≤◌, true, sym, ap, subst, arith, refl, [], map, length, Option, Some, is_ok, vec_capacity, vec_len}
 use Rattle.std.specs.Option.{IfSome}
 use Rattle.std.proofs.lemmas.Bool.{both_ways}
 use Rattle.iso_model.specs.declared.access.Access.{Access}
 use Rattle.iso_model.specs.declared.access.Kind.TheVariants.{Write}
-use Rattle.iso_model.specs.Effect.{effects_from, is_write}
 use Rattle.iso_model.specs.Premises.{AreBytes, HasBytes}
-use Rattle.tx_table.specs.declared.rows.Row.{Row}
 use Rattle.tx_table.specs.Patches.{patch_at, AreEffects, has_patch, HavePatches}
 use Rattle.tx_table.specs.Work.{access_of, Doing, IsRow}
 use Rattle.tx_table.proofs.Last.{appended, have_kept, length_rows, unmarked_row}

@@ -1,13 +1,11 @@
 -- One row more.
-use Rattle.std.proofs.Common.{◌≡◌, ◌∙◌, ℕ, ◌+◌, ◌<◌, ◌&&◌, ◌||◌, nat_lt, sym, ap, subst, arith, List, map, take, length, get_or}
-use Rattle.std.specs.List.{AllByRecursion}
-use Rattle.byte_marks.specs.Touched.{touches, AreTouched}
+use Rattle.std.proofs.Common.{◌<◌, sym, subst}
 use Rattle.iso_model.specs.declared.access.Kind.TheVariants.{Read, Write}
 use Rattle.tx_table.specs.declared.rows.Row.{Row}
-use Rattle.tx_table.specs.Work.{access_of, IsRow}
+use Rattle.tx_table.specs.Work.{IsRow}
 use Rattle.tx_table.proofs.Covered.{touched_more}
 use Rattle.tx_table.proofs.Last.{row_there}
-use Rattle.tx_table.proofs.rows.fold.Goals as goal
+use Rattle.tx_table.proofs.fold.fold_in_turn.Goals as goal
 
 pub loop-at-preserved : goal.loop-at-preserved
 loop-at-preserved c =

@@ -1,9 +1,9 @@
 -- All marks have been added.
-use Rattle.std.proofs.Common.{◌≡◌, ◌∙◌, ℕ, ◌<◌, ap, sym, arith, length, take, List}
+use Rattle.std.proofs.Common.{◌≡◌, ◌∙◌, ℕ, ◌<◌, ap, arith, length, take}
 use Rattle.std.specs.List.{list_any}
 use Rattle.iso_model.specs.Array.{in_span}
 use Rattle.tx_table.proofs.Covered.{spans_cover}
-use Rattle.tx_table.proofs.rows.covered_bytes.Goals as goal
+use Rattle.tx_table.proofs.fold.covered_bytes.Goals as goal
 
 pub returns : goal.returns
 returns c p =

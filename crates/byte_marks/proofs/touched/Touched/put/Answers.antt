@@ -5,8 +5,8 @@ use Rattle.byte_marks.specs.declared.extent.Extent.{Extent}
 use Rattle.byte_marks.specs.Marks.{has}
 use Rattle.byte_marks.specs.Touched.{touches, RisesFrom}
 use Rattle.byte_marks.proofs.Blocks.{in_order, rises_set, touches_set, rises_insert, touches_insert}
-use Rattle.byte_marks.proofs.touched.Touched.add.Goals as goal
-use Rattle.byte_marks.proofs.touched.Touched.add.Goals.{else-place-len-via-then-place-len+else-index-block, else-place-len-via-else-place-len}
+use Rattle.byte_marks.proofs.touched.Touched.put.Goals as goal
+use Rattle.byte_marks.proofs.touched.Touched.put.Goals.{else-place-len-via-then-place-len+else-index-block, else-place-len-via-else-place-len}
 
 pub invariant_of-self-then-index-block : goal.invariant_of-self-then-index-block
 invariant_of-self-then-index-block c =
@@ -28,11 +28,11 @@ returns-in_ok-union-clause-set c b p =
     let same = get_or_read es place was within c.index_mut.ensures.value e in
     let read = get_or_read es place c.index.result.now within c.index.ensures e in
     let block : was.0 ≡ c.args.block = ap (λ (x : ℕ × List Extent). x.0) (same ∙ sym read) ∙ c.if-index-block.true in
-    let grown : has e.1 p ≡ (has (get_or es place e).1 p || has c.args.marks.now p) =
-    c.in_ok-union.ensures.set p ∙ ap (λ (x : ℕ × List Extent). has x.1 p || has c.args.marks.now p) same in
-    touches_set b p place es e (has c.args.marks.now p) within (ap (λ (x : ℕ × List Extent). x.0) same) grown
-    ∙ ap (λ (k : ℕ). touches es b p || ((k == b) && has c.args.marks.now p)) block
-    ∙ ap (λ (l : List (ℕ × List Extent)). touches l b p || ((c.args.block == b) && has c.args.marks.now p)) c.self.view_is
+    let grown : has e.1 p ≡ (has (get_or es place e).1 p || has c.args.marks p) =
+    c.in_ok-union.ensures.set p ∙ ap (λ (x : ℕ × List Extent). has x.1 p || has c.args.marks p) same in
+    touches_set b p place es e (has c.args.marks p) within (ap (λ (x : ℕ × List Extent). x.0) same) grown
+    ∙ ap (λ (k : ℕ). touches es b p || ((k == b) && has c.args.marks p)) block
+    ∙ ap (λ (l : List (ℕ × List Extent)). touches l b p || ((c.args.block == b) && has c.args.marks p)) c.self.view_is
 
 -- where no entry of the block stands at its place, all from there on are of later blocks
 later_blocks : (es : List (ℕ × List Extent)) (place block : ℕ) → RisesFrom 0 es → (place < length es → (d : ℕ × List Extent) → block < (get_or es place d).0)
@@ -41,11 +41,11 @@ later_blocks es place block rises first k le lt d =
     let here = first (omega arith) d in
     omega (arith, here, in_order 0 place k es d rises le lt)
 
-pub invariant_of-self-in_ok-insert : goal.invariant_of-self-in_ok-insert
-invariant_of-self-in_ok-insert c =
+pub invariant_of-self-in-Continue-branch-2 : goal.invariant_of-self-in-Continue-branch-2
+invariant_of-self-in-Continue-branch-2 c =
     let es = c.self.inside.entries.items in
     let place = c.place_of-place.result in
-    let e : ℕ × List Extent = (c.args.block, c.in_ok-copy.field-0) in
+    let e : ℕ × List Extent = (c.args.block, c.args.marks) in
     let seen : c.as_slice.result.now ≡ es = c.as_slice.ensures.value in
     let first : place < length es → (d : ℕ × List Extent) → c.args.block < (get_or es place d).0 = λ lt d.
     elim c.else-place-len.branch [
@@ -71,10 +71,9 @@ pub returns-in_ok-insert-clause-set : goal.returns-in_ok-insert-clause-set
 returns-in_ok-insert-clause-set c b p =
     let es = c.self.inside.entries.items in
     let place = c.place_of-place.result in
-    let e : ℕ × List Extent = (c.args.block, c.in_ok-copy.field-0) in
+    let e : ℕ × List Extent = (c.args.block, c.args.marks) in
     let within : place ≤ length es =
     subst (λ (l : List (ℕ × List Extent)). place ≤ length l) c.as_slice.ensures.value c.place_of-place.ensures.within in
     ap (λ (l : List (ℕ × List Extent)). touches l b p) c.in_ok-insert.ensures.items
     ∙ touches_insert b p place es e within
-    ∙ ap (λ (m : List Extent). touches es b p || ((c.args.block == b) && has m p)) c.in_ok-copy.ensures
-    ∙ ap (λ (l : List (ℕ × List Extent)). touches l b p || ((c.args.block == b) && has c.args.marks.now p)) c.self.view_is
+    ∙ ap (λ (l : List (ℕ × List Extent)). touches l b p || ((c.args.block == b) && has c.args.marks p)) c.self.view_is

@@ -1,0 +1,52 @@
+-- Patches in their slots: which block has which, and what clearing leaves.
+use Rattle.std.proofs.Common.{◌≡◌, ◌≢◌, ◌∙◌, sym, ap, ℕ, ◌<◌, ◌≤◌, Bool, true, false, ◌==◌, ◌||◌, ◌&&◌, List, [], ◌∷◌, refl, inl, inr, length, get_or, arith, Option, None, replicate}
+use Rattle.std.proofs.lemmas.Bool.{cases_lt}
+use Rattle.std.proofs.lemmas.List.{length-replicate}
+use Rattle.std.specs.List.{AllByRecursion}
+use Rattle.tx_table.specs.Patches.{has_patch, patch_at, AreBlankFrom, RisesFrom}
+use Rattle.tx_table.specs.Slots.{entries_of}
+use Rattle.tx_table.proofs.Blocks.{found_at, found_none}
+use Rattle.tx_table.proofs.Slots.{all_from, all_there, entry_is, key_at, length-entries, rises_entries}
+
+-- the block of a place has the patch in its slot
+pub held_at : (size b s i : ℕ) (slots : List (List (Option ℕ))) (order : List (ℕ × ℕ)) → RisesFrom 0 order → i < length order → get_or order i (b, s) ≡ (b, s)
+    → (has_patch b (entries_of [] slots order) ≡ true) × (patch_at size b (entries_of [] slots order) ≡ get_or slots s [])
+held_at size b s i slots order rises lt at =
+    let es = entries_of [] slots order in
+    let here : get_or es i (b, []) ≡ (b, get_or slots s []) = entry_is [] slots i b s order (b, []) lt at in
+    let inside : i < length es = omega (arith, length-entries {A = List (Option ℕ)} [] slots order) in
+    let found = found_at 0 size b i es (b, []) (rises_entries [] slots 0 order rises) inside (ap (λ (x : ℕ × List (Option ℕ)). x.0) here) in
+    (found.0, found.1 ∙ ap (λ (x : ℕ × List (Option ℕ)). x.1) here)
+
+-- the block of no place has none
+pub held_none : (size b : ℕ) (slots : List (List (Option ℕ))) (order : List (ℕ × ℕ)) → ((k : ℕ) → (d : ℕ × ℕ) → k < length order → (get_or order k d).0 ≢ b)
+    → (has_patch b (entries_of [] slots order) ≡ false) × (patch_at size b (entries_of [] slots order) ≡ replicate size None)
+held_none size b slots order other =
+    found_none size b (entries_of [] slots order)
+    (λ k d lt same. other k (d.0, 0) (omega (arith, length-entries {A = List (Option ℕ)} [] slots order)) (sym (key_at [] slots k 0 order d) ∙ same))
+
+-- which blocks have one is told by the order alone
+pub has_entries : (b : ℕ) (slots others : List (List (Option ℕ))) (order : List (ℕ × ℕ)) → has_patch b (entries_of [] slots order) ≡ has_patch b (entries_of [] others order)
+has_entries b slots others [] = refl
+has_entries b slots others (e ∷ order) = ap (λ (t : Bool). (e.0 == b) || t) (has_entries b slots others order)
+
+-- the first slots cleared, and none set behind them
+pub cleared_slots : (size n : ℕ) (old new : List (List (Option ℕ))) → n ≤ length old → length new ≡ length old
+    → ((k : ℕ) → k < n → get_or new k [] ≡ replicate (length (get_or old k [])) None) → ((k : ℕ) → n ≤ k → get_or new k [] ≡ get_or old k [])
+    → AllByRecursion (λ slot. length slot ≡ size) old → AreBlankFrom size n old → AreBlankFrom size 0 new
+cleared_slots size n old new within same cleared kept sizes blank k le lt = elim (cases_lt k n) [
+  | inl first ↦
+      (let inside : k < length old = omega arith in
+      let long : length (get_or old k []) ≡ size = all_there (λ (slot : List (Option ℕ)). length slot ≡ size) k old [] sizes inside in
+      cleared k first ∙ ap (λ (m : ℕ). replicate m None) long)
+  | inr rest ↦ kept k rest ∙ blank k rest (omega arith)
+]
+
+pub blank_sizes : (size : ℕ) (slots : List (List (Option ℕ))) → AreBlankFrom size 0 slots → AllByRecursion (λ slot. length slot ≡ size) slots
+blank_sizes size slots blank =
+    all_from (λ (slot : List (Option ℕ)). length slot ≡ size) slots [] (λ i lt. ap (length {A = Option ℕ}) (blank i (omega arith) lt) ∙ length-replicate size None)
+
+pub both_true : (s t : Bool) → (s && t) ≡ true → (s ≡ true) × (t ≡ true)
+both_true true true h = (refl, refl)
+both_true true false h = absurd (cc)
+both_true false t h = absurd (cc)

@@ -1,0 +1,15 @@
+-- The rows at the places so far are in what is read and what is written.
+use Rattle.std.proofs.Common.{◌≡◌, ℕ, ◌&&◌, ◌||◌, nat_lt, get_or, take}
+use Rattle.std.specs.List.{list_any}
+use Rattle.byte_marks.specs.Touched.{touches}
+use Rattle.iso_model.specs.declared.access.Kind.TheVariants.{Read, Write}
+use Rattle.iso_model.specs.Effect.{covers}
+use Rattle.tx_table.specs.declared.rows.Row.{Row}
+use Rattle.tx_table.specs.Work.{access_of}
+use Rattle.tx_table.proofs.fold.fold_places.Given as goal
+
+abbrev pub invariant-loop-entry : goal.invariant-loop-entry
+invariant-loop-entry l = record {
+  reads : (d : Row) → (b p : ℕ) → touches l.reads b p ≡ (touches l.initial.reads b p || (nat_lt p l.size && list_any (λ (e : ℕ × ℕ). covers Read b p (access_of (get_or l.rows e.1 d))) (take l.entry-index l.order)));
+  writes : (d : Row) → (b p : ℕ) → touches l.writes b p ≡ (touches l.initial.writes b p || (nat_lt p l.size && list_any (λ (e : ℕ × ℕ). covers Write b p (access_of (get_or l.rows e.1 d))) (take l.entry-index l.order)));
+}

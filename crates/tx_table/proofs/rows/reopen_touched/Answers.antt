@@ -1,9 +1,0 @@
--- With no row nothing is touched.
-use Rattle.tx_table.proofs.Applied.{none_touched}
-use Rattle.tx_table.proofs.rows.reopen_touched.Goals as goal
-
-pub returns-clause-reads : goal.returns-clause-reads
-returns-clause-reads c size blocks kind accesses before = none_touched size blocks kind _ c.empty.ensures
-
-pub returns-clause-writes : goal.returns-clause-writes
-returns-clause-writes c size blocks kind accesses before = none_touched size blocks kind _ c.empty-2.ensures
