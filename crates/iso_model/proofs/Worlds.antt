@@ -61,10 +61,10 @@ same_mode_true Snapshot Snapshot e = refl
 same_mode_true Serial Snapshot e = cc
 same_mode_true Snapshot Serial e = cc
 
-extends_itself : (H : History) → Extends H H
+pub extends_itself : (H : History) → Extends H H
 extends_itself H = record { first = refl; base = refl; more = []; commits = sym (append-nil H.commits) }
 
-extends_on : (H G K : History) → Extends H G → Extends G K → Extends H K
+pub extends_on : (H G K : History) → Extends H G → Extends G K → Extends H K
 extends_on H G K first second = record {
   first = second.first ∙ first.first;
   base = second.base ∙ first.base;
@@ -72,7 +72,7 @@ extends_on H G K first second = record {
   commits = second.commits ∙ ap (λ xs. xs ++ second.more) first.commits ∙ append_assoc H.commits first.more second.more;
 }
 
-same_geometry : (g : Geometry) → KeepsGeometry g g
+pub same_geometry : (g : Geometry) → KeepsGeometry g g
 same_geometry g = record { same = refl; form = omega arith }
 
 keeps_on : (g f h : Geometry) → KeepsGeometry g f → KeepsGeometry f h → KeepsGeometry g h
@@ -81,18 +81,18 @@ keeps_on g f h first second =
     let further : f.form ≤ h.form = second.form in
     record { same = second.same ∙ ap (λ (x : Geometry). record x { form = h.form }) first.same; form = omega arith }
 
-leads_on : (W V U : World) → LeadsTo W V → LeadsTo V U → LeadsTo W U
+pub leads_on : (W V U : World) → LeadsTo W V → LeadsTo V U → LeadsTo W U
 leads_on W V U first second = record {
   world = second.world;
   geometry = keeps_on W.geometry V.geometry U.geometry first.geometry second.geometry;
   history = extends_on W.history V.history U.history first.history second.history;
 }
 
-stays : (W : World) → IsWorld W → LeadsTo W W
+pub stays : (W : World) → IsWorld W → LeadsTo W W
 stays W is = record { world = is; geometry = same_geometry W.geometry; history = extends_itself W.history }
 
 -- a live transaction of a later world
-live_on : (W V : World) (t : Live) → W.geometry ≡ V.geometry → V.trim ≤ W.trim → last W.history ≤ last V.history → W.next ≤ V.next → IsLive W t → IsLive V t
+pub live_on : (W V : World) (t : Live) → W.geometry ≡ V.geometry → V.trim ≤ W.trim → last W.history ≤ last V.history → W.next ≤ V.next → IsLive W t → IsLive V t
 live_on W V t same trim longer later is =
     let since : W.trim ≤ t.begin = is.since in
     let begin : t.begin ≤ last W.history = is.begin in
@@ -139,7 +139,7 @@ fewer W live next later all test =
     all_filter (IsLive V) test W.live
     (all_weaker (IsLive W) (IsLive V) (λ t is. live_on W V t refl (omega arith) (omega arith) later is) W.live all)
 
-leaves : (W : World) (t : Live) → IsWorld W → LeadsTo W (after_leaving W t)
+pub leaves : (W : World) (t : Live) → IsWorld W → LeadsTo W (after_leaving W t)
 leaves W t is =
     let test = λ (u : Live). not (u.number == t.number) in
     let count : length W.live ≤ MAX_LIVE = is.count in
@@ -185,7 +185,7 @@ places W t place is live at apart =
     (distinct_placed u W.live is.distinct apart)
     (omega (arith, length-with u W.live)) is.next
 
-may_have : (g : Geometry) (mode : Mode) → ((g.form == 1) && not (same_mode mode g.mode)) ≡ false → MayHave g mode
+pub may_have : (g : Geometry) (mode : Mode) → ((g.form == 1) && not (same_mode mode g.mode)) ≡ false → MayHave g mode
 may_have g mode test form =
     let one : (g.form == 1) ≡ true = eq-eqb g.form 1 form in
     same_mode_true mode g.mode (go (same_mode mode g.mode) (rw one at test))
@@ -207,7 +207,7 @@ new_numbers W place t (u ∷ live) number at all apart =
     let below : u.number < W.next = all.0.number in
     (record { numbers = λ e. absurd (omega arith); places = subst (AreApart u.place) (sym at) apart.0 }, new_numbers W place t live number at all.1 apart.1)
 
-begins : (W : World) (place : Place) (mode : Mode) → IsWorld W → MayHave W.geometry mode → length W.live < MAX_LIVE → W.next ≤ LAST → IsPlace place
+pub begins : (W : World) (place : Place) (mode : Mode) → IsWorld W → MayHave W.geometry mode → length W.live < MAX_LIVE → W.next ≤ LAST → IsPlace place
     → AllByRecursion (λ u. AreApart u.place place) W.live → LeadsTo W (after_begin W place mode)
 begins W place mode is may few fresh at apart =
     let new : Live = record { number = W.next; begin = last W.history; mode = mode; accesses = []; place = place } in
@@ -220,7 +220,7 @@ begins W place mode is may few fresh at apart =
     (distinct_push W.live new is.distinct (new_numbers W place new W.live refl refl is.live apart))
     (omega (arith, length_push W.live new)) (omega arith)
 
-begin_leads : (W : World) (place : Place) (mode : Mode) → IsWorld W → IsPlace place → AllByRecursion (λ u. AreApart u.place place) W.live
+pub begin_leads : (W : World) (place : Place) (mode : Mode) → IsWorld W → IsPlace place → AllByRecursion (λ u. AreApart u.place place) W.live
     → LeadsTo W (begin_step W place mode).1
 unfolding begin_step
 begin_leads W place mode is at apart =
@@ -300,10 +300,10 @@ takeover_leads W c text is none = go (held W text) refl
     go (Some t) e = places W t (client c) is (all_find (IsLive W) (λ u. is_under_label text u.place) W.live t is.live e) tt (all_apart c W.live none)
 
 -- the commit that a live transaction becomes
-abbrev commit : Live → Commit
+abbrev pub commit : Live → Commit
 commit t = record { begin = t.begin; mode = t.mode; accesses = t.accesses }
 
-used_more : (W : World) (t : Live) → IsWorld W → used (after_commit W t) ≡ used W + record_length (runs W.geometry t.accesses)
+pub used_more : (W : World) (t : Live) → IsWorld W → used (after_commit W t) ≡ used W + record_length (runs W.geometry t.accesses)
 used_more W t is =
     let f = λ (c : Commit). record_length (runs W.geometry c.accesses) in
     let kept : W.base ≤ W.trim = is.base in
@@ -314,7 +314,7 @@ used_more W t is =
     ∙ omega arith
 
 -- a base that has risen leaves no more records in the log
-used_less : (W : World) (form base : ℕ) → W.base ≤ base
+pub used_less : (W : World) (form base : ℕ) → W.base ≤ base
     → used (record W { geometry = in_form W.geometry form; base = base; trim = floor W }) ≤ used W
 used_less W form base more =
     let f = λ (c : Commit). record_length (runs W.geometry c.accesses) in
@@ -327,7 +327,7 @@ used_less W form base more =
     let rest : drop m (drop n W.history.commits) ≡ drop (base + 1 - W.history.first) W.history.commits = drop-drop m n W.history.commits ∙ ap (λ (k : ℕ). drop k W.history.commits) (sym sum) in
     omega (arith, same, parts, ap (sum_by f) rest)
 
-commits : (W : World) (t : Live) → IsWorld W → IsLive W t → has_write t.accesses ≡ true
+pub commits : (W : World) (t : Live) → IsWorld W → IsLive W t → has_write t.accesses ≡ true
     → clash W.geometry W.history t.mode t.begin t.accesses ≡ None → last W.history ≢ LAST → need W t ≤ W.geometry.log - used W
     → LeadsTo W (after_commit W t)
 commits W t is live write none unworn fits =
@@ -368,7 +368,7 @@ commits W t is live write none unworn fits =
     below_last : (n : ℕ) → n ≤ LAST → n ≢ LAST → {m : ℕ} → m ≡ n + 1 → m ≤ LAST
     below_last n below other same = omega arith
 
-commit_leads : (W : World) (t : Live) (o : Option Clash) → IsWorld W → IsLive W t → has_write t.accesses ≡ true
+pub commit_leads : (W : World) (t : Live) (o : Option Clash) → IsWorld W → IsLive W t → has_write t.accesses ≡ true
     → clash W.geometry W.history t.mode t.begin t.accesses ≡ o → LeadsTo W (commit_step W t o).1
 unfolding commit_step
 commit_leads W t (Some c) is live write found = leaves W t is
@@ -377,7 +377,7 @@ commit_leads W t None is live write none =
     chosen W (nat_lt (W.geometry.log - used W) (need W t)) _ _ (stays W is) (λ fits.
     commits W t is live write none (eqb-false (last W.history) LAST unworn) (ltb-false (W.geometry.log - used W) (need W t) fits)))
 
-end_leads : (W : World) (t : Live) → IsWorld W → IsLive W t → LeadsTo W (end_step W t).1
+pub end_leads : (W : World) (t : Live) → IsWorld W → IsLive W t → LeadsTo W (end_step W t).1
 unfolding end_step
 end_leads W t is live = go (has_write t.accesses) refl
   where
@@ -399,7 +399,7 @@ live_at : (W : World) (c : ℕ) (t : Live) → IsWorld W → attached W c ≡ So
 live_at W c t is found = all_find (IsLive W) (λ u. is_at_client c u.place) W.live t is.live found
 
 -- the floor lies between the trim number and the last commit
-floor_between : (W : World) → IsWorld W → (W.trim ≤ floor W) × (floor W ≤ last W.history)
+pub floor_between : (W : World) → IsWorld W → (W.trim ≤ floor W) × (floor W ≤ last W.history)
 floor_between W is = (
   floor_above W.trim (last W.history) W.live is.trim (all_weaker (IsLive W) (λ t. W.trim ≤ t.begin) (λ t old. old.since) W.live is.live),
   floor_under (last W.history) W.live (all_weaker (IsLive W) (λ t. t.begin ≤ last W.history) (λ t old. old.begin) W.live is.live),
@@ -419,7 +419,7 @@ live_switched W form base generation t least rises since is = record {
 }
 
 -- the base and the trim number at what the floor allows, in this form
-switched : (W : World) (form base generation : ℕ) → IsWorld W → W.geometry.form ≤ form → form ≤ 2 → W.base ≤ base → base ≤ floor W → generation ≤ LAST
+pub switched : (W : World) (form base generation : ℕ) → IsWorld W → W.geometry.form ≤ form → form ≤ 2 → W.base ≤ base → base ≤ floor W → generation ≤ LAST
     → LeadsTo W (record W { geometry = in_form W.geometry form; base = base; trim = floor W; generation = generation })
 switched W form base generation is rises largest more low few =
     let V = record W { geometry = in_form W.geometry form; base = base; trim = floor W; generation = generation } in
@@ -451,13 +451,13 @@ switched W form base generation is rises largest more low few =
       history = extends_itself W.history;
     }
 
-trim_leads : (W : World) → IsWorld W → LeadsTo W (after_trim W)
+pub trim_leads : (W : World) → IsWorld W → LeadsTo W (after_trim W)
 trim_leads W is =
     let between = floor_between W is in
     let kept : W.base ≤ W.trim = is.base in
     switched W W.geometry.form W.base W.generation is (omega arith) ((limits W.geometry is.valid).largest_form) (omega arith) (omega (arith, between.0, kept)) is.generation
 
-switch_leads : (W : World) (form : ℕ) (answer : Reply) → IsWorld W → W.geometry.form ≤ form → form ≤ 2 → LeadsTo W (switch_step W form answer).1
+pub switch_leads : (W : World) (form : ℕ) (answer : Reply) → IsWorld W → W.geometry.form ≤ form → form ≤ 2 → LeadsTo W (switch_step W form answer).1
 unfolding switch_step
 switch_leads W form answer is rises largest =
     chosen W (W.generation == LAST) _ _ (stays W is) (λ unworn.

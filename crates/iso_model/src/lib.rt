@@ -2,6 +2,7 @@
 #![tactic(auto)]
 
 mod access;
+mod core_error;
 mod items;
 mod label;
 pub mod laws;
@@ -14,6 +15,7 @@ pub mod step_laws;
 mod stores;
 
 pub use access::{Access, Clash, Commit, EndReply, Geometry, Kind, MarkError, Mode, Run, Span};
+pub use core_error::CoreError;
 pub use items::{AccessList, Bytes, Items, SpanList};
 pub use label::Label;
 pub use limits::{LAST, MAX_ACCESSES, MAX_INPUT, MAX_LINE, MAX_LIVE, MAX_SPANS};
