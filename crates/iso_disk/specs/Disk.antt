@@ -1,5 +1,5 @@
 -- What the calls of a disk do to its bytes, what a crash may leave of them, and when a call may fail.
-use Rattle.std.specs.Prelude.{◌≡◌, ◌⊎◌, ℕ, ◌+◌, ◌≤◌, List, ◌++◌, length, take, drop, Option, Some, None}
+use Rattle.std.specs.Prelude.{◌≡◌, ◌⊎◌, ℕ, ◌+◌, ◌<◌, ◌≤◌, List, ◌++◌, length, take, drop, slice_index, Option, Some, None}
 use Rattle.std.specs.Option.{option_map, ForSome}
 
 -- the old bytes with these in the place of those from `at` on
@@ -47,6 +47,8 @@ pub record IsLawful (d : DiskState) : Type 0 where
   pub counts_later : (t u : ℕ) (c : List ℕ) → t ≤ u → d.left u c → d.left t c
   -- each image has the size of the disk
   pub image_size : (t : ℕ) (c : List ℕ) → d.left t c → length c ≡ d.size
+  -- what the disk reads as are bytes; what a crash may leave need not be
+  pub told_bytes : (c : List ℕ) → d.contents ≡ Some c → (i : ℕ) → slice_index c i < 256
 
 -- the disk tells the bytes of before with these in their place
 abbrev pub Splices : ℕ → List ℕ → DiskState → DiskState → Type 0

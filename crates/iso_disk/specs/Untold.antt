@@ -22,4 +22,5 @@ untold_is_lawful size faults name = record {
   only_now = λ c image. image;
   counts_later = λ t u c le image. image;
   image_size = λ t c image. absurd image;
+  told_bytes = λ c told. cc told;
 }

@@ -1,6 +1,6 @@
 -- A memory disk keeps the laws of a disk.
-use Rattle.std.specs.Prelude.{◌≡◌, ◌≤◌, ℕ, List, length, take, Some, refl}
-use Rattle.std.proofs.Common.{ap, subst, sym}
+use Rattle.std.specs.Prelude.{◌≡◌, ◌<◌, ◌≤◌, ℕ, List, length, take, slice_index, Some, refl}
+use Rattle.std.proofs.Common.{ap, subst, sym, ◌∙◌}
 use Rattle.std.proofs.Math.Nat.{le_refl, le_trans}
 use Rattle.std.proofs.lemmas.List.{take_all}
 use Rattle.std.proofs.lemmas.Option.{same_Some}
@@ -34,5 +34,8 @@ image_size : (d : MemDisk) (t : ℕ) (c : List ℕ) → left_of d t c → length
 image_size d t c left =
     length-images_after (take left.0 d.history.items) d.first.items (λ b. b ≡ d.first.items) (AllFit-take (size_of d) left.0 d.history.items d.writes_fit) (λ b is. ap length is) c left.3
 
+told_bytes : (d : MemDisk) (c : List ℕ) → contents_of d ≡ Some c → (i : ℕ) → slice_index c i < 256
+told_bytes d c told i = subst (λ (l : List ℕ). slice_index l i < 256) (d.holds ∙ same_Some (bytes_of d) c told) (d.told_bytes i)
+
 pub lawful : (d : MemDisk) → IsLawful (state_of d)
-lawful d = record { reads_as_image = reads_as_image d; counts_now = counts_now d; only_now = only_now d; counts_later = counts_later d; image_size = image_size d }
+lawful d = record { reads_as_image = reads_as_image d; counts_now = counts_now d; only_now = only_now d; counts_later = counts_later d; image_size = image_size d; told_bytes = told_bytes d }

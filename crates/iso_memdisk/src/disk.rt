@@ -1,5 +1,5 @@
 // The disk itself.
-ghost use Rattle.std.specs.Prelude.{◌≡◌, ◌⊎◌, ◌+◌, ◌^◌, ◌<◌, ◌≤◌, ◌↔◌, ℕ, List, Some, None, length, replicate, OnOk, OnErr, IfOk, IfNone, IfSome, IsErr};
+ghost use Rattle.std.specs.Prelude.{◌≡◌, ◌⊎◌, ◌+◌, ◌^◌, ◌<◌, ◌≤◌, ◌↔◌, ℕ, List, Some, None, length, replicate, slice_index, OnOk, OnErr, IfOk, IfNone, IfSome, IsErr};
 ghost use Rattle.std.specs.List.{slice_range};
 ghost use Rattle.std.specs.Option.{ForSome};
 ghost use Rattle.iso_disk.specs.Disk.{TornFrom, Splices, TellsTorn, IsSettled, Elapses};
@@ -26,6 +26,7 @@ pub struct MemDisk {
     ghost size_fits: { length first.items < 2 ^ 64 },
     ghost writes_fit: { AllFit (length first.items) history.items },
     ghost holds: { held copy first.items ≡ written history.items first.items },
+    ghost told_bytes: { (i : ℕ) → slice_index (held copy first.items) i < 256 },
 }
 
 impl MemDisk {

@@ -1,6 +1,8 @@
-use Rattle.std.proofs.Common.{Vec, ℕ, Option, List, [], ◌∷◌, ◌++◌, ◌≡◌, length, sym, ◌∙◌, ap, subst, arith, rules}
+use Rattle.std.proofs.Common.{Vec, ℕ, Option, List, [], ◌∷◌, ◌++◌, ◌≡◌, ◌+◌, length, take, drop, sym, ◌∙◌, ap, subst, arith, rules}
 use Rattle.std.proofs.lemmas.List.{with_items_is}
 use Rattle.std.specs.declared.alloc.Global.{Global}
+use Rattle.iso_model.specs.Premises.{AreBytes}
+use Rattle.iso_model.proofs.ByteLists.{bytes_append, bytes_drop, bytes_take}
 use Rattle.iso_disk.specs.Disk.{spliced}
 use Rattle.iso_memdisk.specs.declared.record.Call.{Call}
 use Rattle.iso_memdisk.specs.declared.record.Call.TheVariants.{Write}
@@ -35,6 +37,20 @@ invariant_of-self-in-Some-clause-holds c =
     let new : c.lay.new.image ≡ spliced (written calls first) c.args.at c.in_ok-put.put.items = c.lay.ensures ∙ (λ i. spliced (old i) c.args.at (sym put i)) in
     with_items_is c.in-Some.copy c.lay.new.image len ∙ new ∙ sym (written-append calls (Write c.args.at c.in_ok-put.put ∷ []) first)
     ∙ ap (λ (l : List Call). written l first) (sym c.in_ok-push.ensures.items)
+
+pub invariant_of-self-in-Some-clause-told_bytes : goal.invariant_of-self-in-Some-clause-told_bytes
+invariant_of-self-in-Some-clause-told_bytes c =
+    let d = c.make_copy.new.self in
+    let is = ap (λ (o : Option (Vec ℕ Global)). held o d.first.items) c.in-Some.is in
+    let old : c.deref_mut.result.now ≡ held d.copy d.first.items = c.deref_mut.ensures.value ∙ sym is in
+    let len : length c.lay.new.image ≡ c.in-Some.copy.len = c.lay.auto.image ∙ c.deref_mut.ensures.len in
+    let were : AreBytes c.deref_mut.result.now = subst AreBytes (sym old) d.told_bytes in
+    let put : AreBytes c.args.bytes.now = λ i. omega (arith, c.type_inv.bytes i) in
+    let all : AreBytes (spliced c.deref_mut.result.now c.args.at c.args.bytes.now) =
+    bytes_append (take c.args.at c.deref_mut.result.now ++ c.args.bytes.now) (drop (c.args.at + length c.args.bytes.now) c.deref_mut.result.now)
+    (bytes_append (take c.args.at c.deref_mut.result.now) c.args.bytes.now (bytes_take c.args.at c.deref_mut.result.now were) put)
+    (bytes_drop (c.args.at + length c.args.bytes.now) c.deref_mut.result.now were) in
+    subst AreBytes (sym (with_items_is c.in-Some.copy c.lay.new.image len ∙ c.lay.ensures)) all
 
 pub returns-in-Some-clause-ok : goal.returns-in-Some-clause-ok
 returns-in-Some-clause-ok c =
