@@ -5,4 +5,4 @@ pub mod Kept
 pub mod Lays
 pub mod Nexts
 pub mod Tells
-mod TestDisk
+pub mod TestDisk

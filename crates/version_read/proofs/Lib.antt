@@ -1,15 +1,15 @@
 pub mod Above
-mod Additions
-mod Bits
-mod Fetched
-mod Fills
-mod Following
-mod Lying
-mod Overlays
-mod Records
-mod Rooms
-mod Stands
-mod Taking
-mod TestIndexes
-mod Walks
-mod Wanted
+pub mod Additions
+pub mod Bits
+pub mod Fetched
+pub mod Fills
+pub mod Following
+pub mod Lying
+pub mod Overlays
+pub mod Records
+pub mod Rooms
+pub mod Stands
+pub mod Taking
+pub mod TestIndexes
+pub mod Walks
+pub mod Wanted
