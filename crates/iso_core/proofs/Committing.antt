@@ -1,0 +1,168 @@
+-- The steps of a commit: what is kept, and the disk, between two of them.
+use Rattle.std.proofs.Common.{◌≡◌, ◌≢◌, ◌∙◌, ◌⊎◌, inl, inr, sym, refl, ap, ℕ, ◌+◌, ◌-◌, ◌<◌, ◌≤◌, Bool, true, false, List, [], ◌∷◌, ◌++◌, length, arith, subst, None, Some, Vec}
+use Rattle.std.proofs.lemmas.List.{length_push}
+use Rattle.byte_marks.specs.declared.extent.Extent.{Extent}
+use Rattle.iso_disk.specs.Disk.{DiskState, IsLawful, IsSettled, LeavesOnly}
+use Rattle.iso_disk.proofs.Moments.{at_end, started, weakened}
+use Rattle.iso_format.specs.Spelled.{Spelled}
+use Rattle.iso_image.specs.Half.{Half, IsHeld, MayFollow, half_of_world, next_gate, with_records}
+use Rattle.iso_log.specs.Extent.{Extent as LogExtent, extent_of}
+use Rattle.iso_model.specs.declared.limits.TheConstants.{LAST}
+use Rattle.iso_model.specs.declared.script.Reply.{Reply}
+use Rattle.iso_model.specs.declared.script.Reply.TheVariants as reply
+use Rattle.iso_model.specs.Geometry.{image_size}
+use Rattle.iso_model.specs.History.{last}
+use Rattle.iso_model.specs.Step.{after_commit, after_leaving, commit_step, need}
+use Rattle.iso_model.specs.World.{World, Live, unattached, used}
+use Rattle.iso_model.specs.Worlds.{IsLive, IsWorld}
+use Rattle.iso_model.proofs.Worlds.{commits}
+use Rattle.tx_table.specs.Work.{Doing}
+use Rattle.iso_core.specs.declared.kept.Kept.{Kept}
+use Rattle.iso_core.specs.Core.{AllHold, AreOf}
+use Rattle.iso_core.specs.Ends.{AreNextRecords, IsGrownBy, IsPrepared, IsSpelled, MayCommit, commit_of, written_of}
+use Rattle.iso_core.specs.Kept.{IsOf, Keeps}
+use Rattle.iso_core.specs.Standing.{ShowsEither, ShowsLast, ShowsWith, up, down}
+use Rattle.iso_core.proofs.Commits.{next_half}
+use Rattle.iso_core.proofs.Leaves.{has_begun}
+use Rattle.iso_core.proofs.Moments.{is_committed, record_needs, shows_either}
+use Rattle.iso_core.proofs.Numbers.{log_last, log_room, log_used}
+use Rattle.iso_core.proofs.Prepares.{follows}
+use Rattle.iso_core.proofs.Standings.{stands_on}
+
+-- other things that are kept change, and the core stands as before
+pub keeps_stand : (d : DiskState) (kept new : Kept) (W : World) → AreOf d kept W up → IsOf new W → new.half ≡ kept.half → new.down ≡ kept.down → AreOf d new W up
+keeps_stand d kept new W of is half down_is = stands_on d kept new W up W.live W.next W.trim of half down_is is
+
+pub buffer_on : (kept : Kept) (W : World) (new : Kept) → IsOf kept W → new ≡ record kept { buffer = new.buffer; parts = new.parts } → IsOf new W
+buffer_on kept W new of is = subst (λ (k : Kept). IsOf k W) (sym is) (record {
+  world = of.world;
+  keeps = record {
+    geometry = of.keeps.geometry;
+    half = of.keeps.half;
+    generation = of.keeps.generation;
+    base = of.keeps.base;
+    trim = of.keeps.trim;
+    next = of.keeps.next;
+    log = of.keeps.log;
+    index = of.keeps.index;
+    notes = of.keeps.notes;
+    live = of.keeps.live;
+  };
+})
+
+pub down_on : (kept : Kept) (W : World) (b : Bool) → IsOf kept W → IsOf (record kept { down = b }) W
+down_on kept W b of = record {
+  world = of.world;
+  keeps = record {
+    geometry = of.keeps.geometry;
+    half = of.keeps.half;
+    generation = of.keeps.generation;
+    base = of.keeps.base;
+    trim = of.keeps.trim;
+    next = of.keeps.next;
+    log = of.keeps.log;
+    index = of.keeps.index;
+    notes = of.keeps.notes;
+    live = of.keeps.live;
+  };
+}
+
+pub spelled_stage : (d : DiskState) (kept new : Kept) (W : World) → AreOf d kept W up → new ≡ record kept { buffer = new.buffer; parts = new.parts } → AreOf d new W up
+spelled_stage d kept new W of is =
+    keeps_stand d kept new W of (buffer_on kept W new of.kept_of is) (ap (λ (k : Kept). k.half) is) (ap (λ (k : Kept). k.down) is)
+
+pub prepared_stage : (d : DiskState) (kept new : Kept) (W : World) → AreOf d kept W up → IsOf new W → new ≡ record kept { index = new.index; notes = new.notes } → AreOf d new W up
+prepared_stage d kept new W of same is = keeps_stand d kept new W of same (ap (λ (k : Kept). k.half) is) (ap (λ (k : Kept). k.down) is)
+
+-- the free bytes hold the record and the gate behind it
+pub fits_log : (kept : Kept) (bytes : List ℕ) (free : ℕ) → bytes ≡ kept.buffer.records ++ 0 ∷ [] → free ≡ kept.log.room - kept.log.used → length bytes ≤ free
+    → kept.log.used + length kept.buffer.records + 1 ≤ kept.log.room
+fits_log kept bytes free is free_is le =
+    let same : length bytes ≡ length kept.buffer.records + 1 = ap (λ (l : List ℕ). length l) is ∙ length_push kept.buffer.records 0 in
+    omega (arith, same, free_is, le)
+
+pub full_log : (kept : Kept) (W : World) (t : Live) (bytes : List ℕ) (free : ℕ) → IsOf kept W → IsSpelled W t kept → bytes ≡ kept.buffer.records ++ 0 ∷ [] → free ≡ kept.log.room - kept.log.used
+    → (length bytes ≡ need W t) × (free ≡ W.geometry.log - used W)
+full_log kept W t bytes free of spelled is free_is =
+    let same : length bytes ≡ length kept.buffer.records + 1 = ap (λ (l : List ℕ). length l) is ∙ length_push kept.buffer.records 0 in
+    let room = log_room kept W of.world of.keeps in
+    let taken = log_used kept W of.world of.keeps in
+    (same ∙ record_needs W t kept.buffer.records spelled.next, free_is ∙ (λ i. room i - taken i))
+
+-- the world with the commit is a sound one
+pub next_world : (W : World) (tx : ℕ) (t : Live) (work : Doing) → IsWorld W → MayCommit W tx t work → last W.history ≢ LAST → need W t ≤ W.geometry.log - used W → IsWorld (after_commit W t)
+next_world W tx t work is may fresh fits =
+    let begun = has_begun W tx t is may.here in
+    (commits W (record t { place = unattached }) is (record {
+      accesses = may.settled.accesses;
+      count = may.settled.count;
+      since = begun.since;
+      begin = begun.begin;
+      mode = begun.mode;
+      number = begun.number;
+      place = tt;
+    }) may.write may.none fresh fits).world
+
+-- the record was appended
+pub grown_by : (W : World) (tx : ℕ) (t : Live) (kept new : Kept) (gate : ℕ) (writes : List (ℕ × List Extent)) → IsOf kept W
+    → new ≡ record kept { log = extent_of W.geometry (with_records (written_of W t ∷ []) (half_of_world W kept.half)) }
+    → (work : Doing) → MayCommit W tx t work → IsWorld (after_commit W t) → IsPrepared W t kept writes → MayFollow W.geometry (half_of_world W kept.half) (written_of W t ∷ [])
+    → gate ≡ next_gate W.geometry (half_of_world W kept.half) → IsGrownBy W tx t new gate writes
+grown_by W tx t kept new gate writes of is work may next prepared may_follow gate_is =
+    subst (λ (k : Kept). IsGrownBy W tx t k gate writes) (sym is) (record {
+      old_log = kept.log;
+      was = of;
+      here = may.here;
+      next = next;
+      prepared = record { spelled = record { next = prepared.spelled.next; parts = prepared.spelled.parts }; room = prepared.room; note_room = prepared.note_room; touched = prepared.touched };
+      follows = may_follow;
+      log = refl;
+      gate_is = gate_is;
+    })
+
+module _ (W : World) (t : Live) (answer : Reply × World) (is : answer ≡ (reply.Committed (last W.history + 1), after_commit W t)) where
+  pub answered : answer.0 ≡ reply.Committed (last W.history + 1)
+  answered = ap (λ (x : Reply × World). x.0) is
+
+  pub led : after_commit W t ≡ answer.1
+  led = sym (ap (λ (x : Reply × World). x.1) is)
+
+-- a core that committed
+pub committed_core : (old new : DiskState) (kept mid fin : Kept) (W : World) (t : Live) → AreOf old kept W up → IsWorld (after_commit W t) → IsOf fin (after_commit W t) → new.size ≡ old.size → IsSettled new
+    → mid.half ≡ kept.half → fin.half ≡ mid.half → fin.down ≡ mid.down → mid.down ≡ kept.down
+    → ((c : List ℕ) → new.now c → IsHeld W.geometry (with_records (written_of W t ∷ []) (half_of_world W kept.half)) c) → AreOf new fin (after_commit W t) up
+committed_core old new kept mid fin W t of next is same settled mid_half fin_half fin_down mid_down held = record {
+  kept_of = is;
+  is_down = fin_down ∙ mid_down ∙ of.is_down;
+  size = same ∙ of.size;
+  images = record {
+    settled = settled;
+    each = λ c image. subst (λ (n : ℕ). IsHeld W.geometry (half_of_world (after_commit W t) n) c) (sym (fin_half ∙ mid_half))
+        (subst (λ (h : Half). IsHeld W.geometry h c) (sym (next_half W t kept.half of.kept_of.world)) (held c image));
+  };
+}
+
+-- a core that a fault set down in a commit
+pub lost_core : (new : DiskState) (old : DiskState) (fin : Kept) (W : World) (t : Live) → IsLawful new → old.size ≡ new.size → IsOf fin (after_leaving W t) → fin.down ≡ true
+    → old.size ≡ image_size W.geometry → LeavesOnly old new (ShowsEither W (after_commit W t)) → AreOf new fin (after_leaving W t) (down (commit_of t ∷ []))
+lost_core new old fin W t laws same is fin_down size run = record {
+  kept_of = is;
+  is_down = fin_down;
+  size = sym same ∙ size;
+  images = at_end laws run;
+}
+
+-- all that stands once the record of a commit was appended
+pub ends_in : (W : World) (tx : ℕ) (t : Live) (kept spelled_kept prepared_kept appended : Kept) (work : Doing) (bytes : List ℕ) (number free gate : ℕ) (writes : List (ℕ × List Extent))
+    → IsOf kept W → IsOf spelled_kept W → IsOf prepared_kept W → MayCommit W tx t work → IsSpelled W t spelled_kept → IsPrepared W t prepared_kept writes
+    → bytes ≡ spelled_kept.buffer.records ++ 0 ∷ [] → free ≡ spelled_kept.log.room - spelled_kept.log.used → number ≡ kept.log.last → number < LAST → length bytes ≤ free
+    → prepared_kept.half ≡ spelled_kept.half
+    → appended ≡ record prepared_kept { log = extent_of W.geometry (with_records (written_of W t ∷ []) (half_of_world W prepared_kept.half)) }
+    → gate ≡ next_gate W.geometry (half_of_world W prepared_kept.half) → IsGrownBy W tx t appended gate writes
+ends_in W tx t kept spelled_kept prepared_kept appended work bytes number free gate writes of one two may spelled prepared bytes_are free_is number_is fresh le half is gate_is =
+    let (need_is, left) = full_log spelled_kept W t bytes free one spelled bytes_are free_is in
+    let last_of = number_is ∙ log_last kept W of.world of.keeps in
+    let next = next_world W tx t work of.world may (λ e. absurd (omega (arith, fresh, last_of, e))) (omega (arith, le, need_is, left)) in
+    let may_next = follows spelled_kept W tx t work one may spelled (fits_log spelled_kept bytes free bytes_are free_is le) in
+    grown_by W tx t prepared_kept appended gate writes two is work may next prepared
+    (subst (λ (n : ℕ). MayFollow W.geometry (half_of_world W n) (written_of W t ∷ [])) (sym half) may_next) gate_is

@@ -1,0 +1,41 @@
+-- How an end goes, step by step.
+use Rattle.std.proofs.Common.{◌≡◌, ◌∙◌, sym, refl, ap, Bool, true, false, Option, Some, None, ℕ, List}
+use Rattle.iso_disk.specs.Disk.{DiskState}
+use Rattle.iso_model.specs.declared.access.Clash.{Clash}
+use Rattle.iso_model.specs.declared.script.Reply.{Reply}
+use Rattle.iso_model.specs.declared.script.Reply.TheVariants as reply
+use Rattle.iso_model.specs.Conflict.{clash}
+use Rattle.iso_model.specs.Effect.{has_write}
+use Rattle.iso_model.specs.Step.{after_leaving, commit_step, end_step}
+use Rattle.iso_model.specs.World.{World, Live, without}
+use Rattle.tx_table.specs.Work.{Doing}
+use Rattle.iso_core.specs.declared.kept.Kept.{Kept}
+use Rattle.iso_core.specs.Calls.{IsTx}
+use Rattle.iso_core.specs.Core.{AreOf}
+use Rattle.iso_core.specs.Ends.{IsSettledOf, MayCommit}
+use Rattle.iso_core.specs.Kept.{IsOf}
+use Rattle.iso_core.specs.Standing.{Standing, up}
+use Rattle.iso_core.proofs.Standings.{stands_on}
+
+module _ (W : World) (t : Live) where
+  pub ends_read_only : has_write t.accesses ≡ false → end_step W t ≡ (reply.ReadOnly, after_leaving W t)
+  unfolding end_step
+  ends_read_only none = rw none refl
+
+  pub ends_by : (found : Option Clash) → has_write t.accesses ≡ true → found ≡ clash W.geometry W.history t.mode t.begin t.accesses → end_step W t ≡ commit_step W t found
+  unfolding end_step
+  ends_by found write is = rw write (ap (commit_step W t) (sym is))
+
+  pub ends_in_conflict : (c : Clash) → has_write t.accesses ≡ true → Some c ≡ clash W.geometry W.history t.mode t.begin t.accesses → end_step W t ≡ (reply.Conflict c, after_leaving W t)
+  unfolding commit_step
+  ends_in_conflict c write is = ends_by (Some c) write is
+
+-- the core without the transaction
+pub left_core : (d : DiskState) (kept new : Kept) (W : World) (standing : Standing) (t : Live) → AreOf d kept W standing → IsOf new (after_leaving W t) → new.half ≡ kept.half → new.down ≡ kept.down
+    → AreOf d new (after_leaving W t) standing
+left_core d kept new W standing t of is half down_is = stands_on d kept new W standing (without t.number W.live) W.next W.trim of half down_is is
+
+-- a transaction that has a write and no clash may commit
+pub may_commit : (W : World) (tx : ℕ) (t : Live) (work : Doing) → IsTx W tx t → IsSettledOf W t work → has_write t.accesses ≡ true
+    → None ≡ clash W.geometry W.history t.mode t.begin t.accesses → MayCommit W tx t work
+may_commit W tx t work here settled write none = record { here = here; settled = settled; write = write; none = sym none }

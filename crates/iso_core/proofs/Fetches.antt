@@ -1,0 +1,59 @@
+-- A block that is read by the versions of a core is the block at the transaction's begin.
+use Rattle.std.proofs.Common.{◌≡◌, ◌∙◌, ◌⊎◌, inl, inr, sym, refl, ap, ℕ, ◌+◌, ◌-◌, ◌*◌, ◌<◌, ◌≤◌, List, length, map, drop, Option, Some, arith, subst}
+use Rattle.std.specs.List.{AllByRecursion}
+use Rattle.std.specs.Option.{ForSome}
+use Rattle.iso_disk.specs.Disk.{DiskState, IsLawful}
+use Rattle.iso_image.specs.Half.{IsHeld, half_of_world, told_bytes}
+use Rattle.iso_image.proofs.Histories.{world_bytes}
+use Rattle.iso_model.specs.Array.{Array}
+use Rattle.iso_model.specs.Geometry.{base_place, image_size, log_place}
+use Rattle.iso_model.specs.History.{array_at, last}
+use Rattle.iso_model.specs.Image.{records}
+use Rattle.iso_model.specs.Premises.{block_at}
+use Rattle.iso_model.specs.World.{World, Live, used}
+use Rattle.iso_model.specs.Worlds.{IsWorld}
+use Rattle.mv_index.specs.declared.version.Version.{Version}
+use Rattle.mv_index.specs.Shown.{Lies, ShowTheSame}
+use Rattle.mv_index.specs.Versions.{upto, versions_in}
+use Rattle.version_read.specs.Blocks.{IsOver}
+use Rattle.version_read.proofs.Fetched.{array_of, fetched, last_of, newest}
+use Rattle.version_read.proofs.Lying.{all_lie, base_lies}
+use Rattle.iso_core.specs.declared.kept.Kept.{Kept}
+use Rattle.iso_core.specs.Calls.{IsTx}
+use Rattle.iso_core.specs.Core.{AllHold, AreOf}
+use Rattle.iso_core.specs.Kept.{IsOf}
+use Rattle.iso_core.specs.Standing.{up}
+use Rattle.iso_core.proofs.Commits.{held_records}
+use Rattle.iso_core.proofs.Leaves.{has_begun}
+use Rattle.iso_core.proofs.Numbers.{log_last}
+
+module _ (kept : Kept) (W : World) (of : IsOf kept W) where
+  -- the versions of a block lie in the image
+  pub versions_lie : (b : ℕ) → AllByRecursion (Lies W.geometry.block (image_size W.geometry)) (versions_in kept.index b)
+  versions_lie b =
+      let x = half_of_world W kept.half in
+      let taken : length (records W.geometry (W.base + 1) x.told) ≡ used W = world_bytes W kept.half in
+      let room : used W + 1 ≤ W.geometry.log = of.world.room in
+      all_lie W.geometry (W.base + 1) kept.half W.trim b x.told kept.index of.keeps.half (held_records W kept.half of.world) (omega (arith, taken, room)) of.keeps.index
+
+  -- the block that is read so
+  pub block_is : (t : Live) (tx b n : ℕ) (versions : List Version) (image block : List ℕ) → IsTx W tx t → n ≡ t.begin → IsHeld W.geometry (half_of_world W kept.half) image → b < W.geometry.blocks
+      → length block ≡ W.geometry.block → (versions ≡ upto n (versions_in kept.index b)) ⊎ ((n ≡ kept.log.last) × ShowTheSame versions (versions_in kept.index b))
+      → IsOver image (base_place W.geometry kept.half + b * W.geometry.block) versions block → block ≡ block_at (array_at W.history t.begin) b
+  block_is t tx b n versions image block here begin held below long chosen over =
+      let begun = has_begun W tx t of.world here in
+      let trim : W.trim ≤ t.begin = begun.since in
+      let base : W.base ≤ W.trim = of.world.base in
+      let from : W.base ≤ n = omega (arith, trim, base, begin) in
+      let late : W.trim ≤ n = omega (arith, trim, begin) in
+      elim chosen [
+        | inl same ↦
+            fetched W.geometry (half_of_world W kept.half) image held W.trim n b kept.index block of.keeps.index below long late (subst (λ (l : List Version). IsOver image (base_place W.geometry kept.half + b * W.geometry.block) l block) same over)
+            ∙ ap (λ (A : Array). block_at A b) (array_of W.geometry kept.half W.generation W.base n W.history of.world.history of.world.since from)
+            ∙ ap (λ (k : ℕ). block_at (array_at W.history k) b) begin
+        | inr shows ↦
+            newest W.geometry (half_of_world W kept.half) image held W.trim n b kept.index block of.keeps.index below long versions
+            (last_of W.geometry kept.half W.generation W.base n W.history of.world.history of.world.since from (omega (arith, shows.0, log_last kept W of.world of.keeps))) shows.1 over
+            ∙ ap (λ (A : Array). block_at A b) (array_of W.geometry kept.half W.generation W.base n W.history of.world.history of.world.since from)
+            ∙ ap (λ (k : ℕ). block_at (array_at W.history k) b) begin
+      ]

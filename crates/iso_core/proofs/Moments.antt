@@ -1,0 +1,61 @@
+-- What the images of a core show before a commit, in the middle of it and after it.
+use Rattle.std.proofs.Common.{◌≡◌, ◌≢◌, ◌∙◌, ◌⊎◌, inl, inr, sym, refl, ap, ℕ, ◌+◌, ◌-◌, ◌<◌, ◌≤◌, Bool, true, false, ◌==◌, List, [], ◌∷◌, ◌++◌, length, arith, subst, None, Some, nat_lt, eq-eqb, ne_eqb}
+use Rattle.std.proofs.lemmas.Bool.{le-ltb, lt-ltb}
+use Rattle.iso_disk.specs.Disk.{DiskState, IsLawful, LeavesOnly}
+use Rattle.iso_disk.proofs.Moments.{at_end, started, weakened}
+use Rattle.iso_image.specs.Half.{Half, IsHeld, half_of_world, with_records}
+use Rattle.iso_image.proofs.Histories.{half_shows}
+use Rattle.iso_model.specs.declared.limits.TheConstants.{LAST}
+use Rattle.iso_model.specs.declared.script.Reply.TheVariants as reply
+use Rattle.iso_model.specs.Conflict.{clash}
+use Rattle.iso_model.specs.Effect.{record_length, runs}
+use Rattle.iso_model.specs.History.{History, last}
+use Rattle.iso_model.specs.Image.{Shows, Written, records}
+use Rattle.iso_model.specs.Step.{after_commit, after_leaving, commit_step, need}
+use Rattle.iso_model.specs.World.{World, Live, used}
+use Rattle.iso_model.specs.Worlds.{IsWorld, LeadsTo}
+use Rattle.iso_model.proofs.Opened.{length-records}
+use Rattle.iso_core.specs.declared.kept.Kept.{Kept}
+use Rattle.iso_core.specs.Core.{AllHold, AreOf}
+use Rattle.iso_core.specs.Ends.{AreNextRecords, commit_of, written_of}
+use Rattle.iso_core.specs.Standing.{ShowsEither, ShowsLast, ShowsWith, up, down}
+use Rattle.iso_core.proofs.Commits.{next_half}
+
+-- an image that holds the half of a world shows its history
+pub shows_world : (W : World) (at : ℕ) → IsWorld W → (c : List ℕ) → IsHeld W.geometry (half_of_world W at) c → ShowsLast W c
+shows_world W at is c held =
+    let base : W.base ≤ W.trim = is.base in
+    let trim : W.trim ≤ last W.history = is.trim in
+    half_shows W.geometry W.geometry.form at W.generation W.base W.history c is.history is.since (omega arith) held
+
+module _ (d : DiskState) (laws : IsLawful d) (kept : Kept) (W V : World) (of : AreOf d kept W up) where
+  -- where nothing is written
+  pub stays_shown : LeavesOnly d d (ShowsEither W V)
+  stays_shown = started laws (λ c image. inl (shows_world W kept.half of.kept_of.world c (of.images.each c image)))
+
+module _ (W : World) (t : Live) (at : ℕ) (is : IsWorld W) (next : IsWorld (after_commit W t)) where
+  -- an image that holds the half without the commit or with it
+  pub shows_either : (c : List ℕ) → IsHeld W.geometry (half_of_world W at) c ⊎ IsHeld W.geometry (with_records (written_of W t ∷ []) (half_of_world W at)) c → ShowsEither W (after_commit W t) c
+  shows_either c (inl before) = inl (shows_world W at is c before)
+  shows_either c (inr after) = inr (shows_world (after_commit W t) at next c (subst (λ (h : Half). IsHeld W.geometry h c) (sym (next_half W t at is)) after))
+
+-- the bytes of the next record are what the commit needs, but for the gate behind it
+pub record_needs : (W : World) (t : Live) (bytes : List ℕ) → AreNextRecords W (written_of W t ∷ []) bytes → length bytes + 1 ≡ need W t
+record_needs W t bytes next =
+    let S = length-records W.geometry (last W.history + 1) (written_of W t ∷ []) in
+    let same = ap (λ (l : List ℕ). length l) next.bytes_are in
+    omega (arith, S, same)
+
+-- how a commit ends
+module _ (W : World) (t : Live) where
+  pub is_worn : last W.history ≡ LAST → (commit_step W t None).0 ≡ reply.Worn
+  unfolding commit_step
+  is_worn is = rw (eq-eqb (last W.history) LAST is) refl
+
+  pub is_full : last W.history ≢ LAST → W.geometry.log - used W < need W t → (commit_step W t None).0 ≡ reply.LogFull (need W t) (W.geometry.log - used W)
+  unfolding commit_step
+  is_full fresh full = rw (ne_eqb (last W.history) LAST fresh, lt-ltb (W.geometry.log - used W) (need W t) full) refl
+
+  pub is_committed : last W.history ≢ LAST → need W t ≤ W.geometry.log - used W → commit_step W t None ≡ (reply.Committed (last W.history + 1), after_commit W t)
+  unfolding commit_step
+  is_committed fresh fits = rw (ne_eqb (last W.history) LAST fresh, le-ltb (W.geometry.log - used W) (need W t) fits) refl

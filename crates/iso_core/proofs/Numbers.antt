@@ -1,0 +1,32 @@
+-- The numbers of a core's log are those of its world.
+use Rattle.std.proofs.Common.{◌≡◌, ◌∙◌, sym, ap, ℕ, ◌+◌, ◌-◌, ◌<◌, ◌≤◌, List, length, map, drop, arith, length-drop}
+use Rattle.std.proofs.lemmas.List.{length-map}
+use Rattle.iso_image.specs.Half.{Half, half_of_world, last_told, told_bytes}
+use Rattle.iso_image.proofs.Histories.{world_bytes}
+use Rattle.iso_log.specs.Extent.{Extent}
+use Rattle.iso_model.specs.History.{last}
+use Rattle.iso_model.specs.Image.{Written, written}
+use Rattle.iso_model.specs.World.{World, used}
+use Rattle.iso_model.specs.Worlds.{IsWorld}
+use Rattle.iso_core.specs.declared.kept.Kept.{Kept}
+use Rattle.iso_core.specs.Kept.{Keeps}
+
+pub last_is : (W : World) (at : ℕ) → IsWorld W → last_told (half_of_world W at) ≡ last W.history
+last_is W at is =
+    let first : 0 < W.history.first = is.history.first in
+    let since : W.history.first ≤ W.base + 1 = is.since in
+    let base : W.base ≤ W.trim = is.base in
+    let trim : W.trim ≤ last W.history = is.trim in
+    let told : length (half_of_world W at).told ≡ length (drop (W.base + 1 - W.history.first) W.history.commits) = length-map (drop (W.base + 1 - W.history.first) W.history.commits) (written W.geometry) in
+    let rest : length (drop (W.base + 1 - W.history.first) W.history.commits) ≡ length W.history.commits - (W.base + 1 - W.history.first) = length-drop (W.base + 1 - W.history.first) W.history.commits in
+    omega (arith, told, rest)
+
+module _ (kept : Kept) (W : World) (is : IsWorld W) (keeps : Keeps kept W) where
+  pub log_last : kept.log.last ≡ last W.history
+  log_last = ap (λ (e : Extent). e.last) keeps.log ∙ last_is W kept.half is
+
+  pub log_used : kept.log.used ≡ used W
+  log_used = ap (λ (e : Extent). e.used) keeps.log ∙ world_bytes W kept.half
+
+  pub log_room : kept.log.room ≡ W.geometry.log
+  log_room = ap (λ (e : Extent). e.room) keeps.log

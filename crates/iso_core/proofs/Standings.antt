@@ -1,0 +1,51 @@
+-- A core whose images stay, while what it keeps in memory changes.
+use Rattle.std.proofs.Common.{◌≡◌, ◌∙◌, sym, ℕ, List, false, true, Result, Ok, Err, IfOk, IfErr, subst}
+use Rattle.iso_disk.specs.Disk.{DiskState, IsLawful, WritesNothing}
+use Rattle.iso_disk.proofs.Moments.{at_end, stays, stays_settled}
+use Rattle.iso_model.specs.World.{World, Live}
+use Rattle.iso_core.specs.declared.kept.Kept.{Kept}
+use Rattle.iso_core.specs.Core.{AllHold, AreImages, AreOf}
+use Rattle.iso_core.specs.Kept.{IsOf}
+use Rattle.iso_core.specs.Standing.{Standing, up, down, ShowsWith}
+
+pub if_ok : {A E : Type 0} {P Q : A → Type 0} (result : Result A E) → ((x : A) → P x → Q x) → IfOk result P → IfOk result Q
+if_ok (Ok x) more is = more x is
+if_ok (Err e) more is = is
+
+pub if_err : {A E : Type 0} {P Q : E → Type 0} (result : Result A E) → ((e : E) → P e → Q e) → IfErr result P → IfErr result Q
+if_err (Ok x) more is = is
+if_err (Err e) more is = more e is
+
+-- the images do not hang on the transactions and the trim number
+images_stay : (standing : Standing) (d : DiskState) (half : ℕ) (W : World) (live : List Live) (next trim : ℕ)
+    → AreImages standing d half W → AreImages standing d half (record W { live = live; next = next; trim = trim })
+images_stay up d half W live next trim images = record { settled = images.settled; each = images.each }
+images_stay (down lost) d half W live next trim images = images
+
+pub stands_on : (d : DiskState) (kept new : Kept) (W : World) (standing : Standing) (live : List Live) (next trim : ℕ) → AreOf d kept W standing
+    → new.half ≡ kept.half → new.down ≡ kept.down → IsOf new (record W { live = live; next = next; trim = trim })
+    → AreOf d new (record W { live = live; next = next; trim = trim }) standing
+stands_on d kept new W standing live next trim of half down_is is = record {
+  kept_of = is;
+  is_down = down_is ∙ of.is_down;
+  size = of.size;
+  images = subst (λ (n : ℕ). AreImages standing d n (record W { live = live; next = next; trim = trim })) (sym half) (images_stay standing d kept.half W live next trim of.images);
+}
+
+-- while nothing is written the core stands as before
+pub stands_still : (old new : DiskState) (kept : Kept) (W : World) (standing : Standing) → IsLawful new → AreOf old kept W standing → WritesNothing old new → AreOf new kept W standing
+stands_still old new kept W standing laws of still = record {
+  kept_of = of.kept_of;
+  is_down = of.is_down;
+  size = still.moments.same_size ∙ of.size;
+  images = go standing of.images;
+}
+  where
+    go : (s : Standing) → AreImages s old kept.half W → AreImages s new kept.half W
+    go up images = record { settled = stays_settled laws still images.settled; each = at_end laws (stays still images.each) }
+    go (down lost) images = at_end laws (stays still images)
+
+-- a core that is not down is up
+pub up_of : (d : DiskState) (kept : Kept) (W : World) (standing : Standing) → AreOf d kept W standing → kept.down ≡ false → AreOf d kept W up
+up_of d kept W up of is = of
+up_of d kept W (down lost) of is = cc (of.is_down, is)

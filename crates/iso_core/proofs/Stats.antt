@@ -1,0 +1,21 @@
+-- The numbers that a core shows are those of its world.
+use Rattle.std.proofs.Common.{◌≡◌, ◌∙◌, sym, ap, ℕ, ◌+◌, List, length, map, refl}
+use Rattle.iso_image.specs.Half.{half_of_world}
+use Rattle.iso_model.specs.Geometry.{log_place}
+use Rattle.iso_model.specs.Image.{written}
+use Rattle.iso_model.specs.Versions.{is_written, kept_from, versions}
+use Rattle.iso_model.specs.World.{World, Live, logged_commits}
+use Rattle.mv_index.specs.Versions.{count_of}
+use Rattle.mv_index.proofs.Counts.{count_is}
+use Rattle.tx_table.specs.Live.{at_work}
+use Rattle.iso_core.specs.declared.kept.Kept.{Kept}
+use Rattle.iso_core.specs.Kept.{bare, IsOf}
+use Rattle.iso_core.proofs.Transactions.{kept_count}
+
+module _ (kept : Kept) (W : World) (of : IsOf kept W) where
+  pub live_is : length kept.live ≡ length W.live
+  live_is = kept_count kept.live W.live of.keeps.live
+
+  pub versions_are : count_of kept.index ≡ versions W
+  unfolding versions
+  versions_are = count_is W.geometry W.trim (is_written W.trim) (kept_from W.geometry W.trim) (λ k b p. refl) (λ k c later b p. refl) (λ n. refl) (λ n c later. refl) (W.base + 1) (log_place W.geometry kept.half) (logged_commits W) kept.index of.keeps.index

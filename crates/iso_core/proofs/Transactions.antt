@@ -1,0 +1,117 @@
+-- The live transactions of a core and those of its world.
+use Rattle.std.proofs.Common.{◌≡◌, ◌≢◌, ◌⊎◌, inl, inr, ◌∙◌, sym, refl, ap, ℕ, suc, ◌+◌, ◌<◌, ◌≤◌, Bool, true, false, ◌==◌, not, cond, List, [], ◌∷◌, ◌++◌, length, filter, map, Option, Some, None, arith, eq-eqb, ne_eqb, subst, nat_eq, min}
+use Rattle.std.specs.List.{AllByRecursion}
+use Rattle.std.specs.Map.{lookup, remove_entry}
+use Rattle.std.specs.Option.{option_map}
+use Rattle.std.proofs.lemmas.Bool.{cases_eq, eqb-true}
+use Rattle.iso_model.specs.declared.access.Mode.{Mode}
+use Rattle.iso_model.specs.History.{last}
+use Rattle.iso_model.specs.World.{World, Live, floor, floor_of, least_begin, without, unattached}
+use Rattle.iso_model.specs.Worlds.{AreApart, AreDistinct, AreTwo, IsLive, IsWorld}
+use Rattle.iso_model.proofs.Floors.{floor_above, floor_below}
+use Rattle.iso_model.proofs.Growth.{all_weaker}
+use Rattle.tx_table.specs.Live.{at_work, begin_of, mode_of}
+use Rattle.tx_table.specs.declared.live.Begun.{Begun}
+use Rattle.iso_core.specs.Calls.{IsAmong, IsTx}
+use Rattle.iso_core.specs.Kept.{bare}
+
+-- what holds of all live transactions by their begins and modes holds of each of them
+pub among : (P : Live → Type 0) → ((t : Live) → P (bare t) → P t) → ((t : Live) → P t → P (bare t)) → (t : Live) (live : List Live) → AllByRecursion P live → IsAmong t live → P t
+among P to from t [] all in_it = absurd in_it
+among P to from t (u ∷ live) all (inl same) = to t (subst P same (from u all.0))
+among P to from t (u ∷ live) all (inr rest) = among P to from t live all.1 rest
+
+-- a transaction of the world is one that the core keeps, with its begin and its mode
+pub kept_tx : (tx : ℕ) (t : Live) (live : List (ℕ × Begun)) (all : List Live) → map at_work live ≡ map bare all → t.number ≡ tx → AreDistinct all → IsAmong t all
+    → lookup (nat_eq tx) live ≡ Some (record { at = t.begin; mode = t.mode })
+kept_tx tx t live [] same number distinct in_it = absurd in_it
+kept_tx tx t [] (u ∷ all) same number distinct in_it = cc same
+kept_tx tx t (e ∷ live) (u ∷ all) same number distinct in_it = elim (cases_eq tx e.0) [
+  | inl here ↦ at_head here
+  | inr other ↦ behind other (kept_tx tx t live all rest number distinct.1)
+]
+  where
+    head : at_work e ≡ bare u
+    head = cc same
+
+    rest : map at_work live ≡ map bare all
+    rest = cc same
+
+    key : e.0 ≡ u.number
+    key = ap (λ (v : Live). v.number) head
+
+    -- another transaction of the list has another number
+    apart : (us : List Live) → AllByRecursion (AreTwo u) us → IsAmong t us → u.number ≢ tx
+    apart [] all_two there e = absurd there
+    apart (v ∷ us) all_two (inl there) e = all_two.0.numbers (e ∙ sym number ∙ sym (ap (λ (w : Live). w.number) there))
+    apart (v ∷ us) all_two (inr there) e = apart us all_two.1 there e
+
+    at_head : tx ≡ e.0 → lookup (nat_eq tx) (e ∷ live) ≡ Some (record { at = t.begin; mode = t.mode })
+    at_head here = rw (eq-eqb tx e.0 here) (found in_it)
+      where
+        found : (bare u ≡ bare t) ⊎ IsAmong t all → Some e.1 ≡ Some (record { at = t.begin; mode = t.mode })
+        found (inl there) =
+            let at : e.1.at ≡ t.begin = ap (λ (v : Live). v.begin) (head ∙ there) in
+            let mode : e.1.mode ≡ t.mode = ap (λ (v : Live). v.mode) (head ∙ there) in
+            λ i. Some (record { at = at i; mode = mode i })
+        found (inr there) = absurd (apart all distinct.0 there (sym key ∙ sym here))
+
+    behind : tx ≢ e.0 → (IsAmong t all → lookup (nat_eq tx) live ≡ Some (record { at = t.begin; mode = t.mode })) → lookup (nat_eq tx) (e ∷ live) ≡ Some (record { at = t.begin; mode = t.mode })
+    behind other more_of = rw (ne_eqb tx e.0 other) (more_of (there in_it))
+      where
+        there : (bare u ≡ bare t) ⊎ IsAmong t all → IsAmong t all
+        there (inl same_tx) = absurd (other (sym number ∙ sym (ap (λ (v : Live). v.number) same_tx) ∙ sym key))
+        there (inr more) = more
+
+-- without its number the lists are the same still
+pub kept_without : (tx : ℕ) (live : List (ℕ × Begun)) (all : List Live) → map at_work live ≡ map bare all → AreDistinct all
+    → map at_work (remove_entry (nat_eq tx) live) ≡ map bare (without tx all)
+kept_without tx [] [] same distinct = refl
+kept_without tx [] (u ∷ all) same distinct = cc same
+kept_without tx (e ∷ live) [] same distinct = cc same
+kept_without tx (e ∷ live) (u ∷ all) same distinct = elim (cases_eq tx e.0) [
+  | inl here ↦ rw (eq-eqb tx e.0 here, eq-eqb u.number tx (sym key ∙ sym here)) (rest ∙ ap (λ (l : List Live). map bare l) (sym (none_left all distinct.0 here)))
+  | inr other ↦ rw (ne_eqb tx e.0 other, ne_eqb u.number tx (λ is. other (sym is ∙ sym key))) (let more = kept_without tx live all rest distinct.1 in λ i. head i ∷ more i)
+]
+  where
+    head : at_work e ≡ bare u
+    head = cc same
+
+    rest : map at_work live ≡ map bare all
+    rest = cc same
+
+    key : e.0 ≡ u.number
+    key = ap (λ (v : Live). v.number) head
+
+    -- no other one has the number
+    none_left : (us : List Live) → AllByRecursion (AreTwo u) us → tx ≡ e.0 → without tx us ≡ us
+    none_left [] all_two here = refl
+    none_left (v ∷ us) all_two here =
+        rw (ne_eqb v.number tx (λ is. all_two.0.numbers (sym key ∙ sym here ∙ sym is))) (ap (λ (l : List Live). v ∷ l) (none_left us all_two.1 here))
+
+-- as many as there are
+pub kept_count : (live : List (ℕ × Begun)) (all : List Live) → map at_work live ≡ map bare all → length live ≡ length all
+kept_count [] [] same = refl
+kept_count [] (u ∷ all) same = cc same
+kept_count (e ∷ live) [] same = cc same
+kept_count (e ∷ live) (u ∷ all) same = ap suc (kept_count live all (cc same))
+
+-- the floor hangs on the begins alone
+pub kept_floor : (n : ℕ) (all : List Live) → floor_of n (map bare all) ≡ floor_of n all
+kept_floor n [] = refl
+kept_floor n (t ∷ all) = least t.begin all
+  where
+    least : (m : ℕ) (us : List Live) → least_begin m (map bare us) ≡ least_begin m us
+    least m [] = refl
+    least m (u ∷ us) = least (min m u.begin) us
+
+-- a number that was not given out is no transaction's
+pub kept_new : (tx : ℕ) (live : List (ℕ × Begun)) (all : List Live) → map at_work live ≡ map bare all → AllByRecursion (λ t. t.number < tx) all → begin_of tx live ≡ None
+kept_new tx [] all same below = refl
+kept_new tx (e ∷ live) [] same below = cc same
+kept_new tx (e ∷ live) (u ∷ all) same below =
+    let head : at_work e ≡ bare u = cc same in
+    let rest : map at_work live ≡ map bare all = cc same in
+    let key : e.0 ≡ u.number = ap (λ (v : Live). v.number) head in
+    let less : u.number < tx = below.0 in
+    rw (ne_eqb tx e.0 (λ is. absurd (omega (arith, key, less, is)))) (kept_new tx live all rest below.1)

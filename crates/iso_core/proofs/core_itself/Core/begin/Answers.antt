@@ -1,0 +1,17 @@
+use Rattle.std.proofs.Common.{◌≡◌, ◌+◌, ◌++◌, ◌∷◌, []}
+use Rattle.iso_model.specs.Step.{mode_named}
+use Rattle.iso_core.proofs.Begins.{begun}
+use Rattle.iso_core.proofs.Standings.{if_ok, stands_on}
+use Rattle.iso_core.specs.Standing.{up}
+use Rattle.iso_core.proofs.core_itself.Core.begin.Goals as goal
+
+pub returns-clause-begun : goal.returns-clause-begun
+returns-clause-begun g c W stands =
+    let d = g.D.Disk.state c.args.self.now.disk in
+    if_ok c.begin.result (λ b is. (
+      is.0,
+      is.1,
+      is.2,
+      stands_on d c.args.self.now.kept c.begin.new.kept W up (W.live ++ begun W (mode_named W c.args.mode) ∷ []) (W.next + 1) W.trim stands c.begin.ensures.half c.begin.ensures.down is.3,
+    ))
+    (c.begin.ensures.begun W stands.kept_of)

@@ -1,0 +1,12 @@
+use Rattle.std.proofs.Common.{◌≡◌, Ok, ap}
+use Rattle.iso_model.specs.World.{floor}
+use Rattle.iso_core.specs.Standing.{up}
+use Rattle.iso_core.proofs.Standings.{stands_on}
+use Rattle.iso_core.proofs.core_itself.Core.trim.Goals as goal
+
+pub returns-clause-trimmed : goal.returns-clause-trimmed
+returns-clause-trimmed g c W stands = (
+  (λ i. Ok (c.trim.ensures.floor W stands.kept_of i)),
+  stands_on (g.D.Disk.state c.args.self.now.disk) c.args.self.now.kept c.trim.new.kept W up W.live W.next (floor W) stands c.trim.ensures.half c.trim.ensures.down
+      (c.trim.ensures.trimmed W stands.kept_of),
+)

@@ -1,0 +1,32 @@
+use Rattle.std.proofs.Common.{◌≡◌, ◌≢◌, ◌⊎◌, ap, subst, ℕ, IfOk, IfErr}
+use Rattle.iso_model.specs.declared.access.Geometry.{Geometry}
+use Rattle.iso_model.specs.declared.core_error.CoreError.TheVariants.{Disk}
+use Rattle.iso_model.specs.declared.script.Reply.{Reply}
+use Rattle.iso_model.specs.Step.{after_switch, switch_step}
+use Rattle.iso_model.specs.World.{floor}
+use Rattle.iso_core.specs.Calls.{Refuses}
+use Rattle.iso_core.specs.Core.{AreOf}
+use Rattle.iso_core.specs.Standing.{Standing, up, down, is_down}
+use Rattle.iso_core.proofs.Plans.{own_form, second_form}
+use Rattle.iso_core.proofs.Standings.{up_of}
+use Rattle.iso_core.proofs.core_itself.Core.upgrade.Goals as goal
+
+pub switch_half-requires : goal.switch_half-requires
+switch_half-requires g c =
+    let (W, standing, of) = c.requires in
+    (W, up_of (g.D.Disk.state c.args.self.now.disk) c.args.self.now.kept W standing of c.if-self.false, second_form W of.kept_of.world)
+
+pub returns-clause-switched : goal.returns-clause-switched
+returns-clause-switched g c W of = c.switch_half.ensures.switched W of (second_form W of.kept_of.world)
+
+pub returns-clause-refused : goal.returns-clause-refused
+returns-clause-refused g c W answer of = c.switch_half.ensures.refused W answer of (second_form W of.kept_of.world)
+
+pub returns-clause-same : goal.returns-clause-same
+returns-clause-same g c W of = c.switch_half.ensures.same W of (second_form W of.kept_of.world)
+
+pub returns-clause-lost : goal.returns-clause-lost
+returns-clause-lost g c W of = c.switch_half.ensures.lost W of (second_form W of.kept_of.world)
+
+pub returns-clause-moments : goal.returns-clause-moments
+returns-clause-moments g c W of = c.switch_half.ensures.moments W of (second_form W of.kept_of.world)

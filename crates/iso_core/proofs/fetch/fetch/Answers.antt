@@ -1,0 +1,37 @@
+use Rattle.std.proofs.Common.{◌≡◌, ◌∙◌, inl, inr, sym, ap, subst, ℕ, ◌+◌, ◌*◌, ◌≤◌, List, Option, Some, arith, length}
+use Rattle.std.proofs.Math.Path.{transport}
+use Rattle.std.specs.Prelude.{unwrap_or}
+use Rattle.iso_image.specs.declared.places.HalfPlace.{HalfPlace}
+use Rattle.iso_model.specs.declared.access.Geometry.{Geometry}
+use Rattle.iso_model.specs.Geometry.{base_place, image_size}
+use Rattle.iso_model.proofs.Bounds.{limits}
+use Rattle.mv_index.specs.Shown.{AllLie}
+use Rattle.version_read.specs.Blocks.{IsOver}
+use Rattle.iso_core.proofs.Fetches.{block_is, versions_lie}
+use Rattle.iso_core.proofs.Leaves.{begins_at}
+use Rattle.iso_core.proofs.fetch.fetch.Goals as goal
+
+pub read_block-requires-clause-size : goal.read_block-requires-clause-size
+read_block-requires-clause-size g c =
+    let (W, t, of, here, below, long) = c.requires in
+    let most = (limits W.geometry of.kept_of.world.valid).largest_block in
+    omega (arith, long, most)
+
+pub read_block-requires-clause-versions : goal.read_block-requires-clause-versions
+read_block-requires-clause-versions g c =
+    let (W, t, of, here, below, long) = c.requires in
+    transport (λ i. AllLie (sym long i) (sym of.size i) c.versions_at-versions.result.now)
+    (c.versions_at-versions.ensures.lie W.geometry.block (image_size W.geometry) (versions_lie c.args.kept.now W of.kept_of c.args.block))
+
+pub returns-clause-block : goal.returns-clause-block
+returns-clause-block g c W t of here below long = λ image told.
+    let kept = c.args.kept.now in
+    let begin = c.unwrap_or-at.ensures ∙ ap (λ (o : Option ℕ). unwrap_or o c.last-last.result) (c.at.ensures ∙ begins_at kept W c.args.tx t of.kept_of here) in
+    let place : c.half_place-place.result.base ≡ base_place W.geometry kept.half = ap (λ (p : HalfPlace). p.base) c.half_place-place.ensures ∙ ap (λ (h : Geometry). base_place h kept.half) of.kept_of.keeps.geometry in
+    let size = ap (λ (h : Geometry). h.block) of.kept_of.keeps.geometry in
+    let base : c.half_place-place.result.base + c.from.result * c.from-2.result ≡ base_place W.geometry kept.half + c.args.block * W.geometry.block =
+    λ i. place i + c.from.ensures i * (c.from-2.ensures ∙ size) i in
+    block_is kept W of.kept_of t c.args.tx c.args.block c.unwrap_or-at.result c.versions_at-versions.result.now image c.read_block.new.into here begin
+    (of.images.each image ((g.met.D.Disk.lawful c.args.disk.now).reads_as_image image told)) below (c.read_block.auto.into ∙ long)
+    (elim c.versions_at-versions.ensures.chosen [ inl same ↦ inl same | inr shows ↦ inr (shows.0 ∙ c.last-last.ensures, shows.1) ])
+    (subst (λ (n : ℕ). IsOver image n c.versions_at-versions.result.now c.read_block.new.into) base (c.in_ok-read_block.ensures.bytes image told))

@@ -1,0 +1,93 @@
+use Rattle.std.proofs.Common.{◌≡◌, ◌∙◌, sym, ap, ℕ, ◌+◌, ◌-◌, ◌*◌, ◌≤◌, arith, subst, List}
+use Rattle.iso_log.specs.Extent.{Extent}
+use Rattle.iso_model.specs.World.{used}
+use Rattle.iso_core.specs.declared.kept.Kept.{Kept}
+use Rattle.iso_core.specs.Kept.{IsOf}
+use Rattle.iso_model.specs.Step.{after_switch}
+use Rattle.iso_core.proofs.Numbers.{log_room, log_used}
+use Rattle.iso_core.proofs.Switches.{counted_small, gate_is, places, room_there, small, splits, switches_so, weighs}
+use Rattle.iso_core.proofs.go_over.go_over.Goals as goal
+
+pub bytes_above-requires : goal.bytes_above-requires
+bytes_above-requires c =
+    let (W, of, to, old_place, new_place, next) = c.requires in
+    let kept = c.args.kept.now in
+    counted_small kept W of c.args.floor to
+
+pub overflow_mul-bytes : goal.overflow_mul-bytes
+overflow_mul-bytes c =
+    let (W, of, to, old_place, new_place, next) = c.requires in
+    let kept = c.args.kept.now in
+    let (few, room, most) = small kept W of in
+    omega (arith, weighs kept W of c.last.result c.args.floor c.bytes_above.result c.last.ensures to c.bytes_above.ensures, few, room, most)
+
+pub overflow_add-bytes : goal.overflow_add-bytes
+overflow_add-bytes c =
+    let (W, of, to, old_place, new_place, next) = c.requires in
+    let kept = c.args.kept.now in
+    let (few, room, most) = small kept W of in
+    omega (arith, weighs kept W of c.last.result c.args.floor c.bytes_above.result c.last.ensures to c.bytes_above.ensures, few, room, most)
+
+pub overflow_add-gate : goal.overflow_add-gate
+overflow_add-gate c =
+    let (W, of, to, old_place, new_place, next) = c.requires in
+    let kept = c.args.kept.now in
+    let (few, room, most) = small kept W of in
+    let (inside, size) = places kept W of in
+    omega (arith, inside, size, old_place, c.used.ensures, c.from.ensures, log_used kept W of.world of.keeps, room)
+
+pub overflow_sub-gate : goal.overflow_sub-gate
+overflow_sub-gate c =
+    let (W, of, to, old_place, new_place, next) = c.requires in
+    let kept = c.args.kept.now in
+    let (few, room, most) = small kept W of in
+    omega (arith, weighs kept W of c.last.result c.args.floor c.bytes_above.result c.last.ensures to c.bytes_above.ensures, few, c.used.ensures, c.from.ensures, log_used kept W of.world of.keeps)
+
+pub move_to-kept-requires-clause-split : goal.move_to-kept-requires-clause-split
+move_to-kept-requires-clause-split c =
+    let (W, of, to, old_place, new_place, next) = c.requires in
+    let kept = c.args.kept.now in
+    let taken = c.from.ensures ∙ c.used.ensures ∙ log_used kept W of.world of.keeps in
+    splits kept W of (c.args.old_log + c.from.result - (c.bytes_above.result + 20 * (c.last.result - c.args.floor)))
+    (gate_is kept W of c.args.old_log (c.bytes_above.result + 20 * (c.last.result - c.args.floor)) _ old_place
+    (weighs kept W of c.last.result c.args.floor c.bytes_above.result c.last.ensures to c.bytes_above.ensures)
+    (λ i. c.args.old_log + taken i - (c.bytes_above.result + 20 * (c.last.result - c.args.floor))))
+
+pub move_to-kept-requires-clause-room : goal.move_to-kept-requires-clause-room
+move_to-kept-requires-clause-room c =
+    let (W, of, to, old_place, new_place, next) = c.requires in
+    let kept = c.args.kept.now in
+    room_there kept W of c.args.new_log new_place
+
+pub overflow_cast-bytes : goal.overflow_cast-bytes
+overflow_cast-bytes c =
+    let (W, of, to, old_place, new_place, next) = c.requires in
+    let kept = c.args.kept.now in
+    let (few, room, most) = small kept W of in
+    omega (arith, weighs kept W of c.last.result c.args.floor c.bytes_above.result c.last.ensures to c.bytes_above.ensures, few, room, most)
+
+pub go_to-requires : goal.go_to-requires
+go_to-requires c =
+    let (W, of, to, old_place, new_place, next) = c.requires in
+    let kept = c.args.kept.now in
+    let (few, room, most) = small kept W of in
+    omega (arith, weighs kept W of c.last.result c.args.floor c.bytes_above.result c.last.ensures to c.bytes_above.ensures, few, room, log_room kept W of.world of.keeps)
+
+pub returns-clause-switched : goal.returns-clause-switched
+returns-clause-switched c W of to old_place new_place next =
+    let kept = c.args.kept.now in
+    let bytes = c.bytes_above.result + 20 * (c.last.result - c.args.floor) in
+    let gate = c.args.old_log + c.from.result - bytes in
+    let size = weighs kept W of c.last.result c.args.floor c.bytes_above.result c.last.ensures to c.bytes_above.ensures in
+    let taken = c.from.ensures ∙ c.used.ensures ∙ log_used kept W of.world of.keeps in
+    subst (λ (log : Extent). IsOf (record kept {
+      index = c.move_to-kept.new.self;
+      log = log;
+      geometry = record kept.geometry { form = c.args.form };
+      half = 1 - kept.half;
+      generation = kept.generation + 1;
+      base = c.args.floor;
+      trim = c.args.floor;
+    }) (after_switch W c.args.form)) (sym c.go_to.ensures)
+    (switches_so kept W of c.args.form next c.args.new_log bytes gate c.args.floor c.move_to-kept.new.self new_place size to
+    (gate_is kept W of c.args.old_log bytes gate old_place size (λ i. c.args.old_log + taken i - bytes)) c.move_to-kept.ensures.blocks c.move_to-kept.ensures.moved)

@@ -1,0 +1,6 @@
+use Rattle.std.proofs.Common.{◌≡◌, refl, ap}
+use Rattle.iso_core.proofs.Openings.{opens_so}
+use Rattle.iso_core.proofs.opening.keep.Goals as goal
+
+pub returns-clause-kept : goal.returns-clause-kept
+returns-clause-kept c H is = opens_so H c.args.opened _ is refl refl refl refl refl refl refl refl c.empty.ensures c.empty-2.ensures

@@ -1,0 +1,16 @@
+-- The pieces so far are pushed, and the others follow.
+use Rattle.std.proofs.Common.{◌≡◌, ◌++◌, List, map}
+use Rattle.std.specs.List.{AllByRecursion}
+use Rattle.iso_model.specs.Effect.{runs_from}
+use Rattle.merge_write.specs.Patch.{run_of}
+use Rattle.version_read.specs.Parts.{part_of}
+use Rattle.iso_core.proofs.Spellings.{IsWhole}
+use Rattle.iso_core.proofs.spelling.push_patch.Given as goal
+
+abbrev pub invariant-loop-span : goal.invariant-loop-span
+invariant-loop-span l =
+    (goal.iterator-loop-span).can_next l.span-iterator × (goal.iterator-loop-span).is_finite l.span-iterator
+    × (l.buffer.records ≡ l.fn.buffer.records)
+    × (l.buffer.parts ++ map (run_of l.block) l.span-iterator ≡ l.fn.buffer.parts ++ runs_from l.block 0 l.patch)
+    × (l.parts.items ++ map part_of (map (run_of l.block) l.span-iterator) ≡ l.fn.parts.items ++ map part_of (runs_from l.block 0 l.patch))
+    × AllByRecursion IsWhole l.span-iterator

@@ -1,0 +1,14 @@
+-- The patches so far are pushed, and the others follow.
+use Rattle.std.proofs.Common.{◌≡◌, ◌++◌, List, map, flat_map}
+use Rattle.iso_model.specs.declared.access.Geometry.{Geometry}
+use Rattle.iso_model.specs.Effect.{runs, runs_from}
+use Rattle.version_read.specs.Parts.{part_of}
+use Rattle.iso_core.proofs.spelling.push_work.Given as goal
+
+abbrev pub invariant-loop-block : goal.invariant-loop-block
+invariant-loop-block l =
+    (goal.iterator-loop-block).can_next l.block-iterator × (goal.iterator-loop-block).is_finite l.block-iterator
+    × (l.buffer.records ≡ l.fn.buffer.records)
+    × ((g : Geometry) → g.block ≡ l.work.size → g.blocks ≡ l.work.blocks
+    → (l.buffer.parts ++ flat_map (λ e. runs_from e.0 0 e.1) l.block-iterator ≡ l.fn.buffer.parts ++ runs g l.work.accesses)
+    × (l.parts.items ++ map part_of (flat_map (λ e. runs_from e.0 0 e.1) l.block-iterator) ≡ l.fn.parts.items ++ map part_of (runs g l.work.accesses)))

@@ -1,0 +1,214 @@
+use Rattle.std.proofs.Common.{◌≡◌, ◌≢◌, ◌∙◌, ◌⊎◌, inl, inr, sym, refl, ap, subst, ℕ, ◌+◌, ◌-◌, ◌<◌, ◌≤◌, List, [], arith, Some, true, Err}
+use Rattle.iso_disk.specs.Disk.{LeavesOnly}
+use Rattle.iso_disk.proofs.Moments.{at_end, started, weakened}
+use Rattle.half_switch.specs.declared.plan.FillPlan.{FillPlan}
+use Rattle.half_switch.specs.Plan.{place_of}
+use Rattle.iso_image.specs.declared.places.HalfPlace.{HalfPlace}
+use Rattle.iso_image.specs.Half.{IsHeld, half_of_world}
+use Rattle.iso_model.specs.declared.access.Geometry.{Geometry}
+use Rattle.iso_model.specs.declared.limits.TheConstants.{LAST}
+use Rattle.iso_model.specs.Geometry.{image_size, log_place}
+use Rattle.iso_model.specs.Step.{after_switch}
+use Rattle.iso_model.specs.World.{World, floor}
+use Rattle.iso_model.proofs.Worlds.{floor_between}
+use Rattle.iso_core.proofs.Committing.{down_on}
+use Rattle.iso_core.proofs.Moments.{shows_world}
+use Rattle.iso_core.proofs.Numbers.{log_used}
+use Rattle.iso_core.proofs.Plans.{both, copies, is_switched, is_worn, new_half, next_world, shows_both, valid_form}
+use Rattle.iso_core.proofs.Trims.{floor_is}
+use Rattle.iso_core.proofs.switching.switch_half.Goals as goal
+
+pub returns-then-kept-ge-LAST-clause-refused : goal.returns-then-kept-ge-LAST-clause-refused
+returns-then-kept-ge-LAST-clause-refused g c W answer of fits =
+    let most : W.generation ≤ LAST = of.kept_of.world.generation in
+    inr (inr (ap Some (sym (is_worn W c.args.form answer (omega (arith, c.if-kept-ge-LAST.true, of.kept_of.keeps.generation, most))))))
+
+pub returns-then-kept-ge-LAST-clause-moments : goal.returns-then-kept-ge-LAST-clause-moments
+returns-then-kept-ge-LAST-clause-moments g c W of fits =
+    started (g.met.D.Disk.lawful c.args.disk.now) (λ image now. shows_world W c.args.kept.now.half of.kept_of.world image (of.images.each image now))
+
+pub half_place-from-requires-clause-valid : goal.half_place-from-requires-clause-valid
+half_place-from-requires-clause-valid g c =
+    let (W, of, fits) = c.requires in
+    let kept = c.args.kept.now in
+    valid_form kept W c.args.form of.kept_of fits c.if-kept-ge-LAST.false
+
+pub half_place-from-requires-clause-half : goal.half_place-from-requires-clause-half
+half_place-from-requires-clause-half g c =
+    let (W, of, fits) = c.requires in
+    let kept = c.args.kept.now in
+    of.kept_of.keeps.half
+
+pub half_place-to-requires-clause-half : goal.half_place-to-requires-clause-half
+half_place-to-requires-clause-half g c = omega arith
+
+pub half_place-to-requires-clause-valid : goal.half_place-to-requires-clause-valid
+half_place-to-requires-clause-valid g c =
+    let (W, of, fits) = c.requires in
+    let kept = c.args.kept.now in
+    valid_form kept W c.args.form of.kept_of fits c.if-kept-ge-LAST.false
+
+pub refill-requires-clause-valid : goal.refill-requires-clause-valid
+refill-requires-clause-valid g c =
+    let (W, of, fits) = c.requires in
+    let kept = c.args.kept.now in
+    valid_form kept W c.args.form of.kept_of fits c.if-kept-ge-LAST.false
+
+pub refill-requires-clause-size : goal.refill-requires-clause-size
+refill-requires-clause-size g c =
+    let (W, of, fits) = c.requires in
+    let kept = c.args.kept.now in
+    of.size ∙ (λ i. image_size (record (sym of.kept_of.keeps.geometry i) { form = c.args.form }))
+
+pub refill-requires-clause-places : goal.refill-requires-clause-places
+refill-requires-clause-places g c =
+    let (W, of, fits) = c.requires in
+    let kept = c.args.kept.now in
+    record { half = kept.half; other = 1 - kept.half; both = both kept W c.args.form of.kept_of fits; from_is = c.half_place-from.ensures; to_is = c.half_place-to.ensures }
+
+pub refill-requires-clause-base : goal.refill-requires-clause-base
+refill-requires-clause-base g c =
+    let (W, of, fits) = c.requires in
+    let kept = c.args.kept.now in
+    let to = c.floor-floor.ensures ∙ floor_is kept W of.kept_of c.last.result c.last.ensures in
+    omega (arith, to, of.kept_of.keeps.base, of.kept_of.world.base, (floor_between W of.kept_of.world).0)
+
+pub refill-requires-clause-used : goal.refill-requires-clause-used
+refill-requires-clause-used g c =
+    let (W, of, fits) = c.requires in
+    let kept = c.args.kept.now in
+    omega (arith, c.used.ensures, log_used kept W of.kept_of.world of.kept_of.keeps, of.kept_of.world.room, ap (λ (h : Geometry). h.log) of.kept_of.keeps.geometry)
+
+pub refill-requires-clause-settled : goal.refill-requires-clause-settled
+refill-requires-clause-settled g c =
+    let (W, of, fits) = c.requires in
+    let kept = c.args.kept.now in
+    of.images.settled
+
+pub go_over-requires : goal.go_over-requires
+go_over-requires g c =
+    let (W, of, fits) = c.requires in
+    let kept = c.args.kept.now in
+    let geometry = of.kept_of.keeps.geometry in
+    let to = c.floor-floor.ensures ∙ floor_is kept W of.kept_of c.last.result c.last.ensures in
+    let fresh : W.generation ≢ LAST = λ e. absurd (omega (arith, c.if-kept-ge-LAST.false, of.kept_of.keeps.generation, e)) in
+    let next = next_world W c.args.form of.kept_of.world fits fresh in (
+      W,
+      of.kept_of,
+      to,
+      ap (λ (p : HalfPlace). p.log) c.half_place-from.ensures ∙ (λ i. log_place (record (geometry i) { form = c.args.form }) kept.half),
+      ap (λ (p : HalfPlace). p.log) c.half_place-to.ensures ∙ (λ i. log_place (record (geometry i) { form = c.args.form }) (1 - kept.half)),
+      next,
+    )
+
+pub returns-in-Ok-clause-switched : goal.returns-in-Ok-clause-switched
+returns-in-Ok-clause-switched g c W of fits =
+    let kept = c.args.kept.now in
+    let geometry = of.kept_of.keeps.geometry in
+    let to = c.floor-floor.ensures ∙ floor_is kept W of.kept_of c.last.result c.last.ensures in
+    let fresh : W.generation ≢ LAST = λ e. absurd (omega (arith, c.if-kept-ge-LAST.false, of.kept_of.keeps.generation, e)) in
+    let next = next_world W c.args.form of.kept_of.world fits fresh in
+    let plan : FillPlan = record { geometry = record kept.geometry { form = c.args.form }; generation = kept.generation + 1; old_base = kept.base; base = c.floor-floor.result; used = c.used.result } in
+    let there : c.half_place-to.result ≡ place_of W.geometry (1 - kept.half) = c.half_place-to.ensures ∙ (λ i. place_of (record (geometry i) { form = c.args.form }) (1 - kept.half)) in
+    let copied = copies kept W c.args.form of.kept_of fits plan c.half_place-from.result refl refl c.if-kept-ge-LAST.false refl to c.used.ensures c.half_place-from.ensures in
+    let run = c.refill.ensures.moments W.geometry (half_of_world W kept.half) (1 - kept.half) (both kept W c.args.form of.kept_of fits) there copied of.images.each in
+    let shown = weakened run (λ image x. shows_both kept W c.args.form of.kept_of fits next image (elim x [ inl before ↦ inl before | inr after ↦ inr (new_half kept W c.args.form of.kept_of fits plan refl refl to image after) ])) in
+    let kept_of_next = c.go_over.ensures.switched W of.kept_of to (ap (λ (p : HalfPlace). p.log) c.half_place-from.ensures ∙ (λ i. log_place (record (geometry i) { form = c.args.form }) kept.half))
+    (ap (λ (p : HalfPlace). p.log) c.half_place-to.ensures ∙ (λ i. log_place (record (geometry i) { form = c.args.form }) (1 - kept.half))) next in (
+      to,
+      (λ answer. is_switched W c.args.form answer fresh),
+      record {
+        kept_of = kept_of_next;
+        is_down = c.go_over.ensures.down ∙ of.is_down;
+        size = run.same_size ∙ of.size;
+        images = record {
+          settled = c.in-Ok.ensures.settled;
+          each = λ image now. subst (λ (n : ℕ). IsHeld (after_switch W c.args.form).geometry (half_of_world (after_switch W c.args.form) n) image) (sym c.go_over.ensures.half)
+              (new_half kept W c.args.form of.kept_of fits plan refl refl to image
+              (c.in-Ok.ensures.opened W.geometry (half_of_world W kept.half) (1 - kept.half) (both kept W c.args.form of.kept_of fits) there copied of.images.each image now));
+        };
+      },
+    )
+
+pub returns-in-Ok-clause-moments : goal.returns-in-Ok-clause-moments
+returns-in-Ok-clause-moments g c W of fits =
+    let kept = c.args.kept.now in
+    let geometry = of.kept_of.keeps.geometry in
+    let to = c.floor-floor.ensures ∙ floor_is kept W of.kept_of c.last.result c.last.ensures in
+    let fresh : W.generation ≢ LAST = λ e. absurd (omega (arith, c.if-kept-ge-LAST.false, of.kept_of.keeps.generation, e)) in
+    let next = next_world W c.args.form of.kept_of.world fits fresh in
+    let plan : FillPlan = record { geometry = record kept.geometry { form = c.args.form }; generation = kept.generation + 1; old_base = kept.base; base = c.floor-floor.result; used = c.used.result } in
+    let there : c.half_place-to.result ≡ place_of W.geometry (1 - kept.half) = c.half_place-to.ensures ∙ (λ i. place_of (record (geometry i) { form = c.args.form }) (1 - kept.half)) in
+    let copied = copies kept W c.args.form of.kept_of fits plan c.half_place-from.result refl refl c.if-kept-ge-LAST.false refl to c.used.ensures c.half_place-from.ensures in
+    let run = c.refill.ensures.moments W.geometry (half_of_world W kept.half) (1 - kept.half) (both kept W c.args.form of.kept_of fits) there copied of.images.each in
+    let shown = weakened run (λ image x. shows_both kept W c.args.form of.kept_of fits next image (elim x [ inl before ↦ inl before | inr after ↦ inr (new_half kept W c.args.form of.kept_of fits plan refl refl to image after) ])) in
+    shown
+
+pub returns-in-Err-Memory-clause-moments : goal.returns-in-Err-Memory-clause-moments
+returns-in-Err-Memory-clause-moments g c W of fits =
+    let kept = c.args.kept.now in
+    let geometry = of.kept_of.keeps.geometry in
+    let to = c.floor-floor.ensures ∙ floor_is kept W of.kept_of c.last.result c.last.ensures in
+    let fresh : W.generation ≢ LAST = λ e. absurd (omega (arith, c.if-kept-ge-LAST.false, of.kept_of.keeps.generation, e)) in
+    let next = next_world W c.args.form of.kept_of.world fits fresh in
+    let plan : FillPlan = record { geometry = record kept.geometry { form = c.args.form }; generation = kept.generation + 1; old_base = kept.base; base = c.floor-floor.result; used = c.used.result } in
+    let there : c.half_place-to.result ≡ place_of W.geometry (1 - kept.half) = c.half_place-to.ensures ∙ (λ i. place_of (record (geometry i) { form = c.args.form }) (1 - kept.half)) in
+    let copied = copies kept W c.args.form of.kept_of fits plan c.half_place-from.result refl refl c.if-kept-ge-LAST.false refl to c.used.ensures c.half_place-from.ensures in
+    let run = c.refill.ensures.moments W.geometry (half_of_world W kept.half) (1 - kept.half) (both kept W c.args.form of.kept_of fits) there copied of.images.each in
+    let shown = weakened run (λ image x. shows_both kept W c.args.form of.kept_of fits next image (elim x [ inl before ↦ inl before | inr after ↦ inr (new_half kept W c.args.form of.kept_of fits plan refl refl to image after) ])) in
+    shown
+
+pub returns-in-Err-Memory-clause-same : goal.returns-in-Err-Memory-clause-same
+returns-in-Err-Memory-clause-same g c W of fits other =
+    let kept = c.args.kept.now in
+    let geometry = of.kept_of.keeps.geometry in
+    let to = c.floor-floor.ensures ∙ floor_is kept W of.kept_of c.last.result c.last.ensures in
+    let fresh : W.generation ≢ LAST = λ e. absurd (omega (arith, c.if-kept-ge-LAST.false, of.kept_of.keeps.generation, e)) in
+    let next = next_world W c.args.form of.kept_of.world fits fresh in
+    let plan : FillPlan = record { geometry = record kept.geometry { form = c.args.form }; generation = kept.generation + 1; old_base = kept.base; base = c.floor-floor.result; used = c.used.result } in
+    let there : c.half_place-to.result ≡ place_of W.geometry (1 - kept.half) = c.half_place-to.ensures ∙ (λ i. place_of (record (geometry i) { form = c.args.form }) (1 - kept.half)) in
+    let copied = copies kept W c.args.form of.kept_of fits plan c.half_place-from.result refl refl c.if-kept-ge-LAST.false refl to c.used.ensures c.half_place-from.ensures in
+    let run = c.refill.ensures.moments W.geometry (half_of_world W kept.half) (1 - kept.half) (both kept W c.args.form of.kept_of fits) there copied of.images.each in
+    let shown = weakened run (λ image x. shows_both kept W c.args.form of.kept_of fits next image (elim x [ inl before ↦ inl before | inr after ↦ inr (new_half kept W c.args.form of.kept_of fits plan refl refl to image after) ])) in
+    record {
+      kept_of = of.kept_of;
+      is_down = of.is_down;
+      size = run.same_size ∙ of.size;
+      images = record {
+        settled = c.in-Err-Memory.ensures.closed (λ i. Err (c.in-Err-Memory.field-0-is i));
+        each = c.in-Err-Memory.ensures.held W.geometry (half_of_world W kept.half) (1 - kept.half) (both kept W c.args.form of.kept_of fits) there copied of.images.each (λ i. Err (c.in-Err-Memory.field-0-is i));
+      };
+    }
+
+pub returns-in-Err-Disk-clause-moments : goal.returns-in-Err-Disk-clause-moments
+returns-in-Err-Disk-clause-moments g c W of fits =
+    let kept = c.args.kept.now in
+    let geometry = of.kept_of.keeps.geometry in
+    let to = c.floor-floor.ensures ∙ floor_is kept W of.kept_of c.last.result c.last.ensures in
+    let fresh : W.generation ≢ LAST = λ e. absurd (omega (arith, c.if-kept-ge-LAST.false, of.kept_of.keeps.generation, e)) in
+    let next = next_world W c.args.form of.kept_of.world fits fresh in
+    let plan : FillPlan = record { geometry = record kept.geometry { form = c.args.form }; generation = kept.generation + 1; old_base = kept.base; base = c.floor-floor.result; used = c.used.result } in
+    let there : c.half_place-to.result ≡ place_of W.geometry (1 - kept.half) = c.half_place-to.ensures ∙ (λ i. place_of (record (geometry i) { form = c.args.form }) (1 - kept.half)) in
+    let copied = copies kept W c.args.form of.kept_of fits plan c.half_place-from.result refl refl c.if-kept-ge-LAST.false refl to c.used.ensures c.half_place-from.ensures in
+    let run = c.refill.ensures.moments W.geometry (half_of_world W kept.half) (1 - kept.half) (both kept W c.args.form of.kept_of fits) there copied of.images.each in
+    let shown = weakened run (λ image x. shows_both kept W c.args.form of.kept_of fits next image (elim x [ inl before ↦ inl before | inr after ↦ inr (new_half kept W c.args.form of.kept_of fits plan refl refl to image after) ])) in
+    shown
+
+pub returns-in-Err-Disk-clause-lost : goal.returns-in-Err-Disk-clause-lost
+returns-in-Err-Disk-clause-lost g c W of fits failed =
+    let kept = c.args.kept.now in
+    let geometry = of.kept_of.keeps.geometry in
+    let to = c.floor-floor.ensures ∙ floor_is kept W of.kept_of c.last.result c.last.ensures in
+    let fresh : W.generation ≢ LAST = λ e. absurd (omega (arith, c.if-kept-ge-LAST.false, of.kept_of.keeps.generation, e)) in
+    let next = next_world W c.args.form of.kept_of.world fits fresh in
+    let plan : FillPlan = record { geometry = record kept.geometry { form = c.args.form }; generation = kept.generation + 1; old_base = kept.base; base = c.floor-floor.result; used = c.used.result } in
+    let there : c.half_place-to.result ≡ place_of W.geometry (1 - kept.half) = c.half_place-to.ensures ∙ (λ i. place_of (record (geometry i) { form = c.args.form }) (1 - kept.half)) in
+    let copied = copies kept W c.args.form of.kept_of fits plan c.half_place-from.result refl refl c.if-kept-ge-LAST.false refl to c.used.ensures c.half_place-from.ensures in
+    let run = c.refill.ensures.moments W.geometry (half_of_world W kept.half) (1 - kept.half) (both kept W c.args.form of.kept_of fits) there copied of.images.each in
+    let shown = weakened run (λ image x. shows_both kept W c.args.form of.kept_of fits next image (elim x [ inl before ↦ inl before | inr after ↦ inr (new_half kept W c.args.form of.kept_of fits plan refl refl to image after) ])) in
+    record {
+      kept_of = down_on kept W true of.kept_of;
+      is_down = refl;
+      size = run.same_size ∙ of.size;
+      images = λ image now. inl (at_end (g.met.D.Disk.lawful c.refill.new.disk) shown image now);
+    }

@@ -1,0 +1,40 @@
+-- What a core keeps in memory, and of which world it is.
+use Rattle.std.specs.Prelude.{◌≡◌, ◌⊎◌, ℕ, ◌+◌, ◌≤◌, List, [], ◌∷◌, map}
+use Rattle.conflict_rule.specs.Decision.{AreNotesAfter}
+use Rattle.conflict_rule.specs.Notes.{Held}
+use Rattle.iso_image.specs.Half.{half_of_world}
+use Rattle.iso_log.specs.Extent.{extent_of}
+use Rattle.iso_model.specs.Geometry.{log_place}
+use Rattle.iso_model.specs.World.{World, Live, floor, unattached}
+use Rattle.iso_model.specs.Worlds.{IsWorld}
+use Rattle.mv_index.specs.Placed.{IsIndexOf}
+use Rattle.tx_table.specs.Live.{at_work}
+use Rattle.iso_core.specs.declared.kept.Kept.{Kept}
+
+-- the transaction without what a core does not know of it: its accesses and its place
+abbrev pub bare : Live → Live
+bare t = record t { accesses = []; place = unattached }
+
+-- the notes are those of the commits after some number, at or below which no live transaction began
+pub record NotesSince (W : World) (held : Held) : Type 0 where
+  pub from : ℕ
+  pub before : from ≤ floor W
+  pub notes : AreNotesAfter W.geometry W.history from held.notes
+
+-- what is kept is the world's, but for the accesses and the places of its transactions
+pub record Keeps (kept : Kept) (W : World) : Type 0 where
+  pub geometry : kept.geometry ≡ W.geometry
+  pub half : kept.half ≤ 1
+  pub generation : kept.generation ≡ W.generation
+  pub base : kept.base ≡ W.base
+  pub trim : kept.trim ≡ W.trim
+  pub next : kept.next ≡ W.next
+  pub log : kept.log ≡ extent_of W.geometry (half_of_world W kept.half)
+  pub index : IsIndexOf W.geometry (W.base + 1) (log_place W.geometry kept.half) W.trim (half_of_world W kept.half).told kept.index
+  pub notes : NotesSince W kept.notes
+  pub live : map at_work kept.live ≡ map bare W.live
+
+-- what is kept is that of a sound world
+pub record IsOf (kept : Kept) (W : World) : Type 0 where
+  pub world : IsWorld W
+  pub keeps : Keeps kept W

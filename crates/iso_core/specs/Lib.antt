@@ -1,0 +1,7 @@
+pub mod Standing
+pub mod Kept
+pub mod Core
+pub mod Calls
+pub mod Ends
+pub mod Opening
+pub mod Switching

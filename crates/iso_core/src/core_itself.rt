@@ -1,0 +1,255 @@
+// The core itself.
+ghost use Rattle.std.specs.Prelude.{◌≡◌, ◌≢◌, ◌⊎◌, ℕ, ◌+◌, ◌-◌, ◌<◌, ◌≤◌, List, [], ◌∷◌, Some, None, Ok, Err, OnOk, OnErr, IfOk, IfErr, IsErrOf, length};
+ghost use Rattle.iso_model.specs.declared.access.Commit.{Commit};
+ghost use Rattle.iso_model.specs.History.{last};
+ghost use Rattle.iso_model.specs.Step.{after_begin, after_leaving, after_switch, after_trim, begin_step, end_step, mode_named, switch_step};
+ghost use Rattle.iso_model.specs.World.{World, Live, floor, unattached, used};
+ghost use Rattle.iso_model.specs.declared.script.Reply.{Reply};
+ghost use Rattle.iso_model.specs.declared.script.Reply.TheVariants as reply;
+ghost use Rattle.iso_model.specs.Versions.{versions};
+
+use crate::answers::{Begun, Recent, Stat};
+use crate::begin::begin;
+use crate::ending::end_tx;
+use crate::fetch::fetch;
+use crate::kept::Kept;
+use crate::leave::leave;
+use crate::opening::{Opened, keep};
+use crate::switching::switch_half;
+use crate::trim::trim;
+use conflict_rule::Checked;
+use iso_disk::Disk;
+use iso_model::{CoreError, EndReply, Geometry, Memory, Mode};
+use std::alloc::Global;
+use step_count::{Ledger, Steps};
+use tx_table::Work;
+
+/// An open image with its live transactions. A core stands for a world of the model.
+#[derive(Drop)]
+pub struct Core<D: Disk> {
+    disk: D,
+    kept: Kept,
+}
+
+impl<D: Disk> Core<D> {
+    ghost use Rattle.conflict_rule.specs.Decision.{AreNotesAfter};
+    ghost use Rattle.std.specs.Option.{ForSome};
+    ghost use Rattle.iso_disk.specs.Disk.{LeavesOnly, WritesNothing};
+    ghost use Rattle.iso_model.specs.History.{History, array_at};
+    ghost use Rattle.iso_model.specs.Premises.{block_at};
+    ghost use Rattle.iso_core.specs.Calls.{BlamesDisk, IsCheckedOf, IsTx, IsWorkOf, Refuses, Writes, reply_of};
+    ghost use Rattle.iso_core.specs.Ends.{commit_of};
+    ghost use Rattle.iso_core.specs.Core.{AllHold, StandsFor, disk_of};
+    ghost use Rattle.iso_core.specs.Opening.{IsOpenedTo, opened_world};
+    ghost use Rattle.iso_model.specs.Geometry.{image_size};
+    ghost use Rattle.iso_core.specs.Standing.{ShowsEither, ShowsLast, Standing, up, down, is_down};
+
+    /// A core over an image that was just opened or made.
+    pub fn over(alloc: Global, disk: D, opened: Opened) -> Result<Core<D>, (Memory, D)>
+        ensures stands { (H : History) → IsOpenedTo H opened → (D.state disk).size ≡ image_size opened.geometry → AllHold (D.state disk) opened.half (opened_world H opened)
+            → IfOk result (λ core. StandsFor D.state core (opened_world H opened) up) }
+        ensures disk { IfOk result (λ core. disk_of core ≡ disk) }
+        ensures err { IfErr result (λ e. e.1 ≡ disk) }
+    {
+        match keep(alloc, opened) {
+            Ok(kept) => Ok(Core { disk, kept }),
+            Err(_) => Err((Memory, disk)),
+        }
+    }
+
+    /// The disk, which is handed back.
+    pub fn into_disk(self) -> D
+        ensures { result ≡ disk_of self }
+    {
+        self.disk
+    }
+
+    /// The numbers of the image.
+    pub fn geometry(&self) -> Geometry
+        ensures { (W : World) (standing : Standing) → StandsFor D.state self.now W standing → result ≡ W.geometry }
+    {
+        self.kept.geometry
+    }
+
+    /// Begins a transaction in the mode that is named, or else in the image's. It begins at the last commit.
+    pub fn begin(&mut self, mode: Option<Mode>) -> Result<Begun, CoreError>
+        requires { (W : World) × (standing : Standing) × StandsFor D.state self.old W standing }
+        ensures begun { (W : World) → StandsFor D.state self.old W up → IfOk result (λ b. (b.tx ≡ W.next) × (b.mode ≡ mode_named W mode)
+            × ((begin_step W unattached (mode_named W mode)).0 ≡ reply.Began b.at) × StandsFor D.state self.new (after_begin W unattached (mode_named W mode)) up) }
+        ensures refused { (W : World) → StandsFor D.state self.old W up → IfErr result (Refuses (begin_step W unattached (mode_named W mode)).0) }
+        ensures down { (W : World) (lost : List Commit) → StandsFor D.state self.old W (down lost) → result ≡ Err CoreError.Down }
+        ensures kept { OnErr result (self.new ≡ self.old) }
+        ensures disk { disk_of self.new ≡ disk_of self.old }
+    {
+        if self.kept.down {
+            return Err(CoreError::Down);
+        }
+        begin(&mut self.kept, mode)
+    }
+
+    /// Reads a block as it stood when the transaction began. It takes no memory. On a fault any bytes may be in the slice, and
+    /// all else stays.
+    pub fn fetch(&mut self, tx: u64, block: u32, into: &mut [u8]) -> Result<(), CoreError>
+        requires { (W : World) × (standing : Standing) × (t : Live) × StandsFor D.state self.old W standing × IsTx W tx t × (block < W.geometry.blocks) × (length into.old ≡ W.geometry.block) }
+        ensures block { (W : World) (t : Live) → StandsFor D.state self.old W up → IsTx W tx t → OnOk result (ForSome (D.state (disk_of self.old)).contents
+            (λ _. into.new ≡ block_at (array_at W.history t.begin) block)) }
+        ensures same { (W : World) (standing : Standing) → StandsFor D.state self.old W standing → StandsFor D.state self.new W standing }
+        ensures down { (W : World) (lost : List Commit) → StandsFor D.state self.old W (down lost) → (result ≡ Err CoreError.Down) × (self.new ≡ self.old) }
+        ensures disk { (W : World) → StandsFor D.state self.old W up → IfErr result (λ e. e ≡ CoreError.Disk) }
+        ensures unwritten { WritesNothing (D.state (disk_of self.old)) (D.state (disk_of self.new)) }
+        ensures cause { BlamesDisk (D.state (disk_of self.old)).faults (D.state (disk_of self.new)).faults result }
+    {
+        if self.kept.down {
+            return Err(CoreError::Down);
+        }
+        match fetch(&self.kept, &mut self.disk, tx, block, into) {
+            Ok(()) => Ok(()),
+            Err(_) => Err(CoreError::Disk),
+        }
+    }
+
+    /// Ends a transaction: it commits where it has a write and no commit after its begin conflicts with it. What was checked
+    /// of it ahead is not looked at again. All memory is taken before the first call of the disk. After a fault the core is
+    /// down, and the commit may stand or not.
+    pub fn end<L: Ledger>(
+        &mut self,
+        tx: u64,
+        work: &mut Work,
+        checked: &Checked,
+        steps: &mut Steps<L>,
+    ) -> Result<EndReply, CoreError>
+        requires { (W : World) × (standing : Standing) × (t : Live) × StandsFor D.state self.old W standing × IsTx W tx t × IsWorkOf W t work.old × IsCheckedOf W t checked.now }
+
+        // The reply and the world are the model's.
+        ensures ended { (W : World) (t : Live) → StandsFor D.state self.old W up → IsTx W tx t → IsWorkOf W t work.old → IsCheckedOf W t checked.now
+            → IfOk result (λ r. ((end_step W t).0 ≡ reply_of r) × StandsFor D.state self.new (end_step W t).1 up) }
+        ensures refused { (W : World) (t : Live) → StandsFor D.state self.old W up → IsTx W tx t → IsWorkOf W t work.old → IsCheckedOf W t checked.now
+            → IfErr result (λ e. (e ≡ CoreError.Disk) ⊎ Refuses (end_step W t).0 e) }
+        ensures same { (W : World) → StandsFor D.state self.old W up → IfErr result (λ e. e ≢ CoreError.Disk → StandsFor D.state self.new W up) }
+        ensures down { (W : World) (lost : List Commit) → StandsFor D.state self.old W (down lost) → (result ≡ Err CoreError.Down) × (self.new ≡ self.old) }
+
+        // At each moment an image shows the history before the end or after it. Nothing is written but for a commit.
+        ensures moments { (W : World) (t : Live) → StandsFor D.state self.old W up → IsTx W tx t → IsWorkOf W t work.old → IsCheckedOf W t checked.now
+            → LeavesOnly (D.state (disk_of self.old)) (D.state (disk_of self.new)) (ShowsEither W (end_step W t).1) }
+        ensures unwritten { Writes result ⊎ (disk_of self.new ≡ disk_of self.old) }
+        ensures lost { (W : World) (t : Live) → StandsFor D.state self.old W up → IsTx W tx t → IsWorkOf W t work.old → IsCheckedOf W t checked.now → IsErrOf result CoreError.Disk
+            → ((end_step W t).0 ≡ reply.Committed (last W.history + 1)) × StandsFor D.state self.new (after_leaving W t) (down (commit_of t ∷ [])) }
+
+        ensures work { work.new ≡ record work.old { settled = work.new.settled } }
+        ensures steps { (W : World) (t : Live) → StandsFor D.state self.old W up → IsTx W tx t → IsCheckedOf W t checked.now
+            → steps.new ≤ steps.old + (last W.history - checked.now.upto) }
+        ensures cause { BlamesDisk (D.state (disk_of self.old)).faults (D.state (disk_of self.new)).faults result }
+    {
+        if self.kept.down {
+            return Err(CoreError::Down);
+        }
+        end_tx(&mut self.kept, &mut self.disk, tx, work, checked, steps)
+    }
+
+    /// Takes a live transaction out, with all that it did. It takes no memory.
+    pub fn abort(&mut self, tx: u64)
+        requires { (W : World) × (standing : Standing) × (t : Live) × StandsFor D.state self.old W standing × IsTx W tx t }
+        ensures left { (W : World) (standing : Standing) (t : Live) → StandsFor D.state self.old W standing → IsTx W tx t
+            → StandsFor D.state self.new (after_leaving W t) standing }
+        ensures disk { disk_of self.new ≡ disk_of self.old }
+    {
+        leave(&mut self.kept, tx);
+    }
+
+    /// Lets the versions go that no transaction can be shown any more, and answers the floor: the least live begin, or the
+    /// last commit's number. It takes no memory.
+    pub fn trim(&mut self) -> Result<u64, CoreError>
+        requires { (W : World) × (standing : Standing) × StandsFor D.state self.old W standing }
+        ensures trimmed { (W : World) → StandsFor D.state self.old W up → (result ≡ Ok (floor W)) × StandsFor D.state self.new (after_trim W) up }
+        ensures down { (W : World) (lost : List Commit) → StandsFor D.state self.old W (down lost) → (result ≡ Err CoreError.Down) × (self.new ≡ self.old) }
+        ensures disk { disk_of self.new ≡ disk_of self.old }
+    {
+        if self.kept.down {
+            return Err(CoreError::Down);
+        }
+        Ok(trim(&mut self.kept))
+    }
+
+    /// Moves the base to the floor, in the other half, and answers the floor. What live transactions are shown stays. A stop at
+    /// any moment leaves the same commits. Want of memory may come after the other half was closed; all else is then as before.
+    pub fn compact(&mut self) -> Result<u64, CoreError>
+        requires { (W : World) × (standing : Standing) × StandsFor D.state self.old W standing }
+        ensures switched { (W : World) → StandsFor D.state self.old W up → IfOk result (λ n. (n ≡ floor W) × ((answer : Reply) → switch_step W W.geometry.form answer ≡ (answer, after_switch W W.geometry.form))
+            × StandsFor D.state self.new (after_switch W W.geometry.form) up) }
+        ensures refused { (W : World) (answer : Reply) → StandsFor D.state self.old W up → IfErr result (λ e. (e ≡ CoreError.Disk) ⊎ Refuses (switch_step W W.geometry.form answer).0 e) }
+        ensures same { (W : World) → StandsFor D.state self.old W up → IfErr result (λ e. e ≢ CoreError.Disk → StandsFor D.state self.new W up) }
+        ensures down { (W : World) (lost : List Commit) → StandsFor D.state self.old W (down lost) → (result ≡ Err CoreError.Down) × (self.new ≡ self.old) }
+        ensures lost { (W : World) → StandsFor D.state self.old W up → IsErrOf result CoreError.Disk → StandsFor D.state self.new W (down []) }
+        ensures moments { (W : World) → StandsFor D.state self.old W up → LeavesOnly (D.state (disk_of self.old)) (D.state (disk_of self.new)) (ShowsLast W) }
+        ensures cause { BlamesDisk (D.state (disk_of self.old)).faults (D.state (disk_of self.new)).faults result }
+    {
+        if self.kept.down {
+            return Err(CoreError::Down);
+        }
+        let form = self.kept.geometry.form;
+        switch_half(&mut self.kept, &mut self.disk, form)
+    }
+
+    /// Does so with an image of form 2, in which transactions of either mode may begin.
+    pub fn upgrade(&mut self) -> Result<u64, CoreError>
+        requires { (W : World) × (standing : Standing) × StandsFor D.state self.old W standing }
+        ensures switched { (W : World) → StandsFor D.state self.old W up → IfOk result (λ n. (n ≡ floor W) × ((answer : Reply) → switch_step W 2 answer ≡ (answer, after_switch W 2))
+            × StandsFor D.state self.new (after_switch W 2) up) }
+        ensures refused { (W : World) (answer : Reply) → StandsFor D.state self.old W up → IfErr result (λ e. (e ≡ CoreError.Disk) ⊎ Refuses (switch_step W 2 answer).0 e) }
+        ensures same { (W : World) → StandsFor D.state self.old W up → IfErr result (λ e. e ≢ CoreError.Disk → StandsFor D.state self.new W up) }
+        ensures down { (W : World) (lost : List Commit) → StandsFor D.state self.old W (down lost) → (result ≡ Err CoreError.Down) × (self.new ≡ self.old) }
+        ensures lost { (W : World) → StandsFor D.state self.old W up → IsErrOf result CoreError.Disk → StandsFor D.state self.new W (down []) }
+        ensures moments { (W : World) → StandsFor D.state self.old W up → LeavesOnly (D.state (disk_of self.old)) (D.state (disk_of self.new)) (ShowsLast W) }
+        ensures cause { BlamesDisk (D.state (disk_of self.old)).faults (D.state (disk_of self.new)).faults result }
+    {
+        if self.kept.down {
+            return Err(CoreError::Down);
+        }
+        switch_half(&mut self.kept, &mut self.disk, 2)
+    }
+
+    /// The commits above a number, from the transaction's begin on, each with the bytes that it wrote.
+    pub fn recent(&self, tx: u64, after: u64) -> Result<Recent, CoreError>
+        requires { (W : World) × (standing : Standing) × (t : Live) × StandsFor D.state self.now W standing × IsTx W tx t × (t.begin ≤ after) × (after ≤ last W.history) }
+        ensures notes { (W : World) (t : Live) → StandsFor D.state self.now W up → IsTx W tx t → t.begin ≤ after
+            → IfOk result (λ r. (r.after ≡ after) × (r.upto ≡ last W.history) × AreNotesAfter W.geometry W.history after r.notes.notes) }
+        ensures memory { (W : World) → StandsFor D.state self.now W up → IfErr result (λ e. e ≡ CoreError.Memory) }
+        ensures down { (W : World) (lost : List Commit) → StandsFor D.state self.now W (down lost) → IsErrOf result CoreError.Down }
+    {
+        let _ = tx;
+        if self.kept.down {
+            return Err(CoreError::Down);
+        }
+        match self.kept.notes.copy_after(after) {
+            Ok(notes) => Ok(Recent {
+                after,
+                upto: self.kept.log.last(),
+                notes,
+            }),
+            Err(_) => Err(CoreError::Memory),
+        }
+    }
+
+    /// The numbers of the image and of its transactions.
+    pub fn stat(&self) -> Stat
+        ensures { (W : World) (standing : Standing) → StandsFor D.state self.now W standing → result ≡ record {
+          last = last W.history;
+          base = W.base;
+          trim = W.trim;
+          live = length W.live;
+          used = used W;
+          versions = versions W;
+          down = is_down standing;
+        } }
+    {
+        Stat {
+            last: self.kept.log.last(),
+            base: self.kept.base,
+            trim: self.kept.trim,
+            live: self.kept.live.len(),
+            used: self.kept.log.used(),
+            versions: self.kept.index.count(),
+            down: self.kept.down,
+        }
+    }
+}

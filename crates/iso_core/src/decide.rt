@@ -1,0 +1,45 @@
+// Whether a transaction with a write conflicts.
+ghost use Rattle.std.specs.Prelude.{◌≡◌, ◌+◌, ◌-◌, ◌≤◌, true, IfOk, OnOk};
+ghost use Rattle.conflict_rule.specs.Decision.{up_to};
+ghost use Rattle.iso_model.specs.Conflict.{clash};
+ghost use Rattle.iso_model.specs.Effect.{has_write};
+ghost use Rattle.iso_model.specs.History.{last};
+ghost use Rattle.iso_model.specs.World.{World, Live};
+ghost use Rattle.iso_core.specs.Calls.{IsCheckedOf, IsTx, IsWorkOf};
+ghost use Rattle.iso_core.specs.Kept.{IsOf};
+ghost use Rattle.iso_core.specs.Ends.{IsSettledOf};
+
+use crate::kept::Kept;
+use conflict_rule::{Checked, decide};
+use iso_model::{Clash, Memory};
+use step_count::{Ledger, Steps};
+use tx_table::Work;
+
+/// Settles a transaction, and decides whether it conflicts with a commit after its begin. It looks at the commits after
+/// those that were checked already.
+pub(crate) fn decide_end<L: Ledger>(
+    kept: &Kept,
+    tx: u64,
+    work: &mut Work,
+    checked: &Checked,
+    steps: &mut Steps<L>,
+) -> Result<Option<Clash>, Memory>
+    ensures clash { (W : World) (t : Live) → IsOf kept.now W → IsTx W tx t → IsWorkOf W t work.old → IsCheckedOf W t checked.now
+        → IfOk result (λ found. found ≡ clash W.geometry W.history t.mode t.begin t.accesses) }
+    ensures settled { (W : World) (t : Live) → IsWorkOf W t work.old → OnOk result (IsSettledOf W t work.new) }
+    ensures same { work.new ≡ record work.old { settled = work.new.settled } }
+    ensures steps { (W : World) (t : Live) → IsOf kept.now W → IsTx W tx t → IsCheckedOf W t checked.now → steps.new ≤ steps.old + (last W.history - checked.now.upto) }
+{
+    let _ = tx;
+    work.settle()?;
+    // Its clause bounds the number of accesses.
+    let _ = work.room();
+    Ok(decide(
+        work.mode(),
+        checked,
+        work.reads(),
+        work.writes(),
+        &kept.notes,
+        steps,
+    ))
+}

@@ -1,0 +1,18 @@
+// The end of a transaction without a commit.
+ghost use Rattle.std.specs.Prelude.{◌≡◌};
+ghost use Rattle.iso_model.specs.Step.{after_leaving};
+ghost use Rattle.iso_model.specs.World.{World, Live};
+ghost use Rattle.iso_core.specs.Calls.{IsTx};
+ghost use Rattle.iso_core.specs.Kept.{IsOf};
+
+use crate::kept::Kept;
+
+/// Takes a live transaction out. It takes no memory.
+pub(crate) fn leave(kept: &mut Kept, tx: u64)
+    requires { (W : World) × (t : Live) × IsOf kept.old W × IsTx W tx t }
+    ensures left { (W : World) (t : Live) → IsOf kept.old W → IsTx W tx t → IsOf kept.new (after_leaving W t) }
+    ensures half { kept.new.half ≡ kept.old.half }
+    ensures down { kept.new.down ≡ kept.old.down }
+{
+    kept.live.leave(tx);
+}
