@@ -102,7 +102,7 @@ is_free a first k area e =
     record {
       low = omega arith;
       high = inside;
-      clear = ap (λ (x : ℕ). Rattle.std.specs.Int.bit_at x (k % 8) == 1) (sym (map_byte a first k inside)) ∙ elim (map_bit map k) as (λ t. not t ≡ true → t ≡ false) [ | true ↦ λ p. cc | false ↦ λ p. refl ] pass;
+      clear = ap (λ (x : ℕ). Rattle.std.specs.Int.bit_at x (k % 8) == 1) (sym (map_byte a first k inside)) ∙ elim (map_bit map k) as (λ t. not t ≡ true → t ≡ false) [ true ↦ λ p. cc | false ↦ λ p. refl ] pass;
     }
 
 -- a spare cell that a walk found
@@ -207,10 +207,13 @@ put_whole_new a key value A last place None area is short shape last_in place_in
 put_whole_new a key value A last place (Some k) area is short shape last_in place_in found =
     let free = is_free a (block_at A a.start) k area found in
     let most = size_most a area in
-    let below = bucket_below a key area in
-    (λ w. length-block_with a.size (bit_place k) (set_bit (get_or (bytes_in (map_mark a.blocks) (block_at A a.start)) (bit_place k) 0) k ∷ []) (omega (arith, free.high, area.most, area.least_size)) ∙ sym (first_size a A area shape),
-    (λ w. length-new_block a (bucket_of a key) (place + 1) key value area (omega (arith, area.most)) (omega (arith, area.most)) (key_short key is) (leb-true _ _ short) ∙ sym (shape k free.high),
-    (λ w. length-block_with a.size 0 (to_be_bytes w32 k) (omega (arith, area.least_size)) ∙ sym (shape last last_in), tt)))
+    let below = bucket_below a key area in (
+      λ w. length-block_with a.size (bit_place k) (set_bit (get_or (bytes_in (map_mark a.blocks) (block_at A a.start)) (bit_place k) 0) k ∷ []) (omega (arith, free.high, area.most, area.least_size)) ∙ sym (first_size a A area shape),
+      (
+        λ w. length-new_block a (bucket_of a key) (place + 1) key value area (omega (arith, area.most)) (omega (arith, area.most)) (key_short key is) (leb-true _ _ short) ∙ sym (shape k free.high),
+        (λ w. length-block_with a.size 0 (to_be_bytes w32 k) (omega (arith, area.least_size)) ∙ sym (shape last last_in), tt),
+      ),
+    )
 
 put_whole_at : (a : Area) (key value : List ℕ) (A : Array) (w : Walked) → IsHashArea a → is_key key ≡ true → is_value value ≡ true → HasBlocks a A → IsWithin a (last_position a + 1) w → AreWhole A (accesses_of (put_at a key value w) A)
 put_whole_at a key value A (AtCell s before ks v) area is short shape within =
@@ -272,7 +275,7 @@ module _ (a : Area) (key : List ℕ) (A : Array) (s : Spot) (before : ℕ) (ks v
 
   del_done_block : is_spent a s ks ≡ true
       → HasDeleted a key A (put (put A (store_access a.start (bit_mark s.block ∷ []) (block_with a.size (bit_place s.block) (clear_bit (get_or (bytes_in (map_mark a.blocks) (block_at A a.start)) (bit_place s.block) 0) s.block ∷ []))))
-        (store_access (a.start + before) (next_mark ∷ []) (replicate a.size 0))) true
+      (store_access (a.start + before) (next_mark ∷ []) (replicate a.size 0))) true
   del_done_block spent =
       let parts = and_parts _ _ spent in
       let first = and_parts _ _ parts.0 in
@@ -288,7 +291,7 @@ module _ (a : Area) (key : List ℕ) (A : Array) (s : Spot) (before : ℕ) (ks v
         | inr deep ↦
             (let none : deep.1.0 ≡ [] = no_more a (view_of a A).keys (bucket_of a key) deep.0 before s.block deep.1.0 (subst (λ (blocks : List ℕ). AreLinked a (view_of a A).keys (bucket_of a key) 0 blocks (1 + bucket_of a key) 0) deep.1.1 linked) last in
             let is = del_block a key A s before (clear_bit (get_or (bytes_in (map_mark a.blocks) (block_at A a.start)) (bit_place s.block) 0) s.block) deep.0 area region stands found.key_is past alone
-                (deep.1.1 ∙ ap (λ (ys : List ℕ). deep.0 ++ (before ∷ s.block ∷ ys)) none) (ap (λ (y : ℕ). clear_bit y s.block) (map_byte a (block_at A a.start) s.block inside)) in
+            (deep.1.1 ∙ ap (λ (ys : List ℕ). deep.0 ++ (before ∷ s.block ∷ ys)) none) (ap (λ (y : ℕ). clear_bit y s.block) (map_byte a (block_at A a.start) s.block inside)) in
             record { answer = there; region = is.region; map_is = is.map_is })
       ]
 
@@ -336,10 +339,13 @@ del_correct a key area is = record {
 del_whole_at : (a : Area) (A : Array) (w : Walked) → IsHashArea a → HasBlocks a A → IsWithin a (last_position a + 1) w → AreWhole A (accesses_of (del_at a w) A)
 del_whole_at a A (AtCell s before ks v) area shape within =
     elim (is_spent a s ks) as (λ t. AreWhole A (accesses_of (cond t (give_back_block a s before) (make_zero a s)) A)) [
-      | true ↦
-          (λ w. absurd (Rattle.std.proofs.lemmas.Bool.false≢true w),
-          (λ w. length-block_with a.size (bit_place s.block) (clear_bit (get_or (bytes_in (map_mark a.blocks) (block_at A a.start)) (bit_place s.block) 0) s.block ∷ []) (let inside = within.0 in omega (arith, area.most, area.least_size)) ∙ sym (first_size a A area shape),
-          (λ w. zeros_long a ∙ sym (shape before within.2), tt)))
+      | true ↦ (
+        λ w. absurd (Rattle.std.proofs.lemmas.Bool.false≢true w),
+        (
+          λ w. length-block_with a.size (bit_place s.block) (clear_bit (get_or (bytes_in (map_mark a.blocks) (block_at A a.start)) (bit_place s.block) 0) s.block ∷ []) (let inside = within.0 in omega (arith, area.most, area.least_size)) ∙ sym (first_size a A area shape),
+          (λ w. zeros_long a ∙ sym (shape before within.2), tt),
+        ),
+      )
       | false ↦ (λ w. zeros_long a ∙ sym (shape s.block within.0), tt)
     ]
 del_whole_at a A (AtEnd spare last place) area shape within = tt
@@ -351,4 +357,4 @@ pub del_local : (a : Area) (key : List ℕ) (A : Array) (r : Bool) → IsHashAre
 del_local a key A r area is shape answer =
     local_from (IsHashRegion a) (hash_map a) (del_op key) Ok (del_program a key) A r (del_correct a key area is)
     (subst (λ (p : Program (Result Bool StoreError)). AreWhole A (accesses_of p A)) (sym (del_is a key is))
-      (whole_after a key (del_at a) A (del_whole_at a A (answer_of (walk a key false) A) area shape (walk_within a key A (answer_of (walk a key false) A) area refl)))) answer
+    (whole_after a key (del_at a) A (del_whole_at a A (answer_of (walk a key false) A) area shape (walk_within a key A (answer_of (walk a key false) A) area refl)))) answer

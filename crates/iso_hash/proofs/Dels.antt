@@ -214,9 +214,10 @@ module _ (a : Area) (key : List ℕ) (A : Array) (s : Spot) (before x : ℕ) (fr
     | inl same ↦
         (let short : IsIn k (front ++ (before ∷ [])) = subst (IsIn k) (ap (chain a (view_of a B).keys) same ∙ chain_b0) has in
         let whole : AreLinked a (view_of a A).keys b0 0 ((front ++ (before ∷ [])) ++ (s.block ∷ [])) (1 + b0) 0 =
-            subst (λ (blocks : List ℕ). AreLinked a (view_of a A).keys b0 0 blocks (1 + b0) 0) (sym (append_assoc front (before ∷ []) (s.block ∷ []))) whole_old in
-        (subst (λ (c : ℕ). IsIn k (chain a (view_of a A).keys c)) (sym same) (subst (IsIn k) (sym (blocks_are ∙ sym (append_assoc front (before ∷ []) (s.block ∷ [])))) (in_left k (front ++ (before ∷ [])) (s.block ∷ []) short)),
-        λ e. not_twice a (view_of a A).keys b0 0 (front ++ (before ∷ [])) (s.block ∷ []) (1 + b0) 0 k whole short (inl (sym e))))
+        subst (λ (blocks : List ℕ). AreLinked a (view_of a A).keys b0 0 blocks (1 + b0) 0) (sym (append_assoc front (before ∷ []) (s.block ∷ []))) whole_old in (
+          subst (λ (c : ℕ). IsIn k (chain a (view_of a A).keys c)) (sym same) (subst (IsIn k) (sym (blocks_are ∙ sym (append_assoc front (before ∷ []) (s.block ∷ [])))) (in_left k (front ++ (before ∷ [])) (s.block ∷ []) short)),
+          λ e. not_twice a (view_of a A).keys b0 0 (front ++ (before ∷ [])) (s.block ∷ []) (1 + b0) 0 k whole short (inl (sym e)),
+        ))
   ]
 
   still_in : (b k : ℕ) → b < buckets a → IsIn k (chain a (view_of a A).keys b) → k ≢ s.block → IsIn k (chain a (view_of a B).keys b)
@@ -226,7 +227,7 @@ module _ (a : Area) (key : List ℕ) (A : Array) (s : Spot) (before x : ℕ) (fr
         (let list : IsIn k ((front ++ (before ∷ [])) ++ (s.block ∷ [])) = subst (IsIn k) (ap (chain a (view_of a A).keys) same ∙ blocks_are ∙ sym (append_assoc front (before ∷ []) (s.block ∷ []))) has in
         subst (IsIn k) (sym (ap (chain a (view_of a B).keys) same ∙ chain_b0)) (elim (in_either k (front ++ (before ∷ [])) (s.block ∷ []) list) [
           | inl kept ↦ kept
-          | inr gone ↦ absurd (elim gone [ | inl e ↦ other (sym e) | inr none ↦ none ])
+          | inr gone ↦ absurd (elim gone [ inl e ↦ other (sym e) | inr none ↦ none ])
         ]))
   ]
 
@@ -255,19 +256,21 @@ module _ (a : Area) (key : List ℕ) (A : Array) (s : Spot) (before x : ℕ) (fr
   stood : (b k i : ℕ) → Stands a (view_of a B).keys b k i → IsSame a (view_of a B).keys (view_of a A).keys (view_of a B).value (view_of a A).value b k i × (k ≢ s.block)
   stood b k i there =
       let old = in_old b k there.bucket_is there.block_is in
-      let part = key_kept b k i there.bucket_is old.0 there.cell_is in
-      (record {
-        stands = record { bucket_is = there.bucket_is; block_is = old.0; cell_is = there.cell_is; used = ap (λ (p : List ℕ). get_or p 0 0 == 0) (sym part) ∙ there.used };
-        key_is = ap text_of (sym part);
-        value_is = sym (value_kept b k i there.bucket_is old.0);
-      }, old.1)
+      let part = key_kept b k i there.bucket_is old.0 there.cell_is in (
+        record {
+          stands = record { bucket_is = there.bucket_is; block_is = old.0; cell_is = there.cell_is; used = ap (λ (p : List ℕ). get_or p 0 0 == 0) (sym part) ∙ there.used };
+          key_is = ap text_of (sym part);
+          value_is = sym (value_kept b k i there.bucket_is old.0);
+        },
+        old.1,
+      )
 
   stays : (b k i : ℕ) → Stands a (view_of a A).keys b k i → key_at ((view_of a A).keys k) i ≢ key → IsSame a (view_of a A).keys (view_of a B).keys (view_of a A).value (view_of a B).value b k i
   stays b k i there other =
       let part = key_kept b k i there.bucket_is there.block_is there.cell_is in
       let apart : k ≢ s.block = λ e.
-          let cell : i ≡ s.cell = only_cell i there.cell_is (ap (λ (m : ℕ). is_unused ((view_of a A).keys m) i) (sym e) ∙ there.used) in
-          other (ap (λ (m : ℕ). key_at ((view_of a A).keys m) i) e ∙ ap (λ (j : ℕ). key_at ((view_of a A).keys s.block) j) cell ∙ key_is) in
+      let cell : i ≡ s.cell = only_cell i there.cell_is (ap (λ (m : ℕ). is_unused ((view_of a A).keys m) i) (sym e) ∙ there.used) in
+      other (ap (λ (m : ℕ). key_at ((view_of a A).keys m) i) e ∙ ap (λ (j : ℕ). key_at ((view_of a A).keys s.block) j) cell ∙ key_is) in
       record {
         stands = record { bucket_is = there.bucket_is; block_is = still_in b k there.bucket_is there.block_is apart; cell_is = there.cell_is; used = ap (λ (p : List ℕ). get_or p 0 0 == 0) part ∙ there.used };
         key_is = ap text_of part;
@@ -286,21 +289,22 @@ module _ (a : Area) (key : List ℕ) (A : Array) (s : Spot) (before x : ℕ) (fr
   new_bits k =
       ap (λ (m : List ℕ). map_bit m k) at_first
       ∙ bits_without (view_of a A).first (merged (bit_mark s.block ∷ []) 0 (block_at A a.start) (block_with (length (block_at A a.start)) (bit_place s.block) (x ∷ []))) s.block
-        (byte_here (block_at A a.start) s.block x bit_fits ∙ x_is) (byte_far (block_at A a.start) s.block x bit_fits) k
+      (byte_here (block_at A a.start) s.block x bit_fits ∙ x_is) (byte_far (block_at A a.start) s.block x bit_fits) k
 
   not_block : (k : ℕ) → not (k == s.block) ≡ true → k ≢ s.block
   not_block k is e = both_ways (not (k == s.block)) (ap not (eq-eqb k s.block e)) is
 
   bits : (k : ℕ) → k < 8 * map_bytes a.blocks → IsTrue (map_bit (view_of a B).first k) ↔ IsOverflow a (view_of a B).keys k
   bits k below =
-      let old = region.keyed.bits k below in
-      (λ set.
-        let parts = and_parts (not (k == s.block)) (map_bit (view_of a A).first k) (sym (new_bits k) ∙ set) in
-        let over = old.0 parts.1 in
-        record { bucket = over.bucket; below = over.below; linked = still_in over.bucket k over.below over.linked (not_block k parts.0); past = over.past },
-      λ over.
-        let was = in_old over.bucket k over.below over.linked in
-        new_bits k ∙ and_from _ _ (ap not (ne_eqb k s.block was.1)) (old.1 (record { bucket = over.bucket; below = over.below; linked = was.0; past = over.past })))
+      let old = region.keyed.bits k below in (
+        λ set.
+            let parts = and_parts (not (k == s.block)) (map_bit (view_of a A).first k) (sym (new_bits k) ∙ set) in
+            let over = old.0 parts.1 in
+            record { bucket = over.bucket; below = over.below; linked = still_in over.bucket k over.below over.linked (not_block k parts.0); past = over.past },
+        λ over.
+            let was = in_old over.bucket k over.below over.linked in
+            new_bits k ∙ and_from _ _ (ap not (ne_eqb k s.block was.1)) (old.1 (record { bucket = over.bucket; below = over.below; linked = was.0; past = over.past })),
+      )
 
   linked : (b : ℕ) → b < buckets a → AreLinked a (view_of a B).keys b 0 (chain a (view_of a B).keys b) (1 + b) 0
   linked b below = elim (cases_eq b b0) [

@@ -58,7 +58,7 @@ seek_append : (q : List ℕ) (xs ys : List (List ℕ × List ℕ)) (Has Other : 
 seek_append q xs ys Has Other (inr some) second = inr (some.0, (find_append q xs ys ∙ ap (λ o. or_else o (found_in q ys)) some.1.0, inl some.1.1))
 seek_append q xs ys Has Other (inl none) (inr some) = inr (some.0, (find_append q xs ys ∙ ap (λ o. or_else o (found_in q ys)) none.0 ∙ some.1.0, inr some.1.1))
 seek_append q xs ys Has Other (inl none) (inl more) =
-    inl (find_append q xs ys ∙ ap (λ o. or_else o (found_in q ys)) none.0 ∙ more.0, λ v has. elim has [ | inl first ↦ none.1 v first | inr second ↦ more.1 v second ])
+    inl (find_append q xs ys ∙ ap (λ o. or_else o (found_in q ys)) none.0 ∙ more.0, λ v has. elim has [ inl first ↦ none.1 v first | inr second ↦ more.1 v second ])
 
 -- a used cell from i on, of n, that has the key and the value
 pub record CellHas (keys : List ℕ) (value : ℕ → List ℕ) (q : List ℕ) (i n : ℕ) (v : List ℕ) : Type 0 where
@@ -91,8 +91,8 @@ seek_cells q keys value i (suc n) =
           (λ v has. sooner keys value q i n v (λ used e. true_false (is_unused keys i) unused used) has) (seek_cells q keys value (i + 1) n)
       | false ↦ λ used.
           elim (eq_by_cmp (slice_cmp nat_cmp) q (key_at keys i)) as (λ t. eq_by_cmp (slice_cmp nat_cmp) q (key_at keys i) ≡ t
-              → ((cond t (Some (text_of (value i))) (found_in q (pairs_from keys value (i + 1) n)) ≡ None) × ((v : List ℕ) → CellHas keys value q i (suc n) v → ⊥))
-              ⊎ ((v : List ℕ) × ((cond t (Some (text_of (value i))) (found_in q (pairs_from keys value (i + 1) n)) ≡ Some v) × CellHas keys value q i (suc n) v))) [
+          → ((cond t (Some (text_of (value i))) (found_in q (pairs_from keys value (i + 1) n)) ≡ None) × ((v : List ℕ) → CellHas keys value q i (suc n) v → ⊥))
+          ⊎ ((v : List ℕ) × ((cond t (Some (text_of (value i))) (found_in q (pairs_from keys value (i + 1) n)) ≡ Some v) × CellHas keys value q i (suc n) v))) [
             | true ↦ λ tie.
                 inr (text_of (value i), (refl, record { cell = i; low = omega arith; high = omega arith; used = used; key_is = sym (bytes_same q (key_at keys i) (sym (ties q (key_at keys i)) ∙ tie)); text = refl }))
             | false ↦ λ tie.

@@ -55,7 +55,7 @@ laid_kept span at bytes block fits apart = same_bytes span block (laid_at at byt
       | inl before ↦
           get_or_append_left (take at block) (bytes ++ drop (at + length bytes) block) 0 p (omega arith) ∙ get_or-take at block p 0 before
       | inr past ↦
-          (let far : at + length bytes ≤ p = elim apart [ | inl low ↦ absurd (grind (arith, nat_tests)) | inr high ↦ grind (arith, nat_tests) ] in
+          (let far : at + length bytes ≤ p = elim apart [ inl low ↦ absurd (grind (arith, nat_tests)) | inr high ↦ grind (arith, nat_tests) ] in
           let k : ℕ = p - (at + length bytes) in
           let one : p ≡ length (take at block) + (length bytes + k) = omega arith in
           let two : at + length bytes + k ≡ p = omega arith in

@@ -27,7 +27,7 @@ chain_of a keys b (k ∷ rest) linked fits =
 pub byte_of : (p : ℕ) (x y : List ℕ) → bytes_in (record { off = p; len = 1 }) x ≡ bytes_in (record { off = p; len = 1 }) y → get_or x p 0 ≡ get_or y p 0
 byte_of p x y same =
     let one : (z : List ℕ) → get_or (bytes_in (record { off = p; len = 1 }) z) 0 0 ≡ get_or z p 0 =
-        λ z. get_or-take 1 (drop p z) 0 0 (omega arith) ∙ get_or-drop p z 0 0 ∙ ap (λ (n : ℕ). get_or z n 0) (let e : p + 0 ≡ p = omega arith in e) in
+    λ z. get_or-take 1 (drop p z) 0 0 (omega arith) ∙ get_or-drop p z 0 0 ∙ ap (λ (n : ℕ). get_or z n 0) (let e : p + 0 ≡ p = omega arith in e) in
     sym (one x) ∙ ap (λ (z : List ℕ). get_or z 0 0) same ∙ one y
 
 pub length-block_with : (size at : ℕ) (bytes : List ℕ) → at + length bytes ≤ size → length (block_with size at bytes) ≡ size
@@ -53,7 +53,7 @@ module _ (old : List ℕ) (n x : ℕ) (fits : bit_place n + 1 ≤ length old) wh
   pub byte_far : (k : ℕ) → k / 8 ≢ n / 8 → get_or (merged (bit_mark n ∷ []) 0 old (block_with (length old) (bit_place n) (x ∷ []))) (bit_place k) 0 ≡ get_or old (bit_place k) 0
   byte_far k apart =
       byte_of (bit_place k) (merged (bit_mark n ∷ []) 0 old (block_with (length old) (bit_place n) (x ∷ []))) old
-      (kept_1 (record { off = bit_place k; len = 1 }) (bit_mark n) old (block_with (length old) (bit_place n) (x ∷ [])) (elim (cases_lt (k / 8) (n / 8)) [ | inl before ↦ inl (omega arith) | inr past ↦ inr (omega arith) ]))
+      (kept_1 (record { off = bit_place k; len = 1 }) (bit_mark n) old (block_with (length old) (bit_place n) (x ∷ [])) (elim (cases_lt (k / 8) (n / 8)) [ inl before ↦ inl (omega arith) | inr past ↦ inr (omega arith) ]))
 
   pub head_far : take 64 (merged (bit_mark n ∷ []) 0 old (block_with (length old) (bit_place n) (x ∷ []))) ≡ take 64 old
   head_far = kept_1 (record { off = 0; len = 64 }) (bit_mark n) old (block_with (length old) (bit_place n) (x ∷ [])) (inl (omega arith))

@@ -68,8 +68,8 @@ module _ (a : Area) (bucket position : ℕ) (key value : List ℕ) (area : IsHas
       let fits = cells_fit a 0 area first_cell in
       ap (bytes_in span) block_is
       ∙ laid_kept span (keys_end a.size + 33 * 0) (value_part value) (laid_at (64 + 31 * 0) (key_part key) head) (omega (arith, one, length_head, value_long, fits))
-        (elim value_far [ | inl before ↦ inl (omega arith) | inr past ↦ inr (omega (arith, value_long)) ])
-      ∙ laid_kept span (64 + 31 * 0) (key_part key) head (omega (arith, length_head, key_end, area.least_size)) (elim key_far [ | inl before ↦ inl (omega arith) | inr past ↦ inr (omega (arith, key_end)) ])
+      (elim value_far [ inl before ↦ inl (omega arith) | inr past ↦ inr (omega (arith, value_long)) ])
+      ∙ laid_kept span (64 + 31 * 0) (key_part key) head (omega (arith, length_head, key_end, area.least_size)) (elim key_far [ inl before ↦ inl (omega arith) | inr past ↦ inr (omega (arith, key_end)) ])
 
   -- and those of one that meets neither number of the head
   blank : (span : Span) → (span.off + span.len ≤ 4) ⊎ (12 ≤ span.off) → (span.off + span.len ≤ 64) ⊎ (95 ≤ span.off) → (span.off + span.len ≤ keys_end a.size) ⊎ (keys_end a.size + 33 ≤ span.off) → span.off + span.len ≤ a.size
@@ -77,8 +77,8 @@ module _ (a : Area) (bucket position : ℕ) (key value : List ℕ) (area : IsHas
   unfolding head low zeros
   blank span head_far key_far value_far fits =
       past_cell span key_far value_far
-      ∙ laid_kept span 8 (to_be_bytes w32 position) low (omega (arith, length_low, area.least_size)) (elim head_far [ | inl before ↦ inl (omega arith) | inr past ↦ inr (omega arith) ])
-      ∙ laid_kept span 4 (to_be_bytes w32 bucket) zeros (omega (arith, length_zeros, area.least_size)) (elim head_far [ | inl before ↦ inl (omega arith) | inr past ↦ inr (omega arith) ])
+      ∙ laid_kept span 8 (to_be_bytes w32 position) low (omega (arith, length_low, area.least_size)) (elim head_far [ inl before ↦ inl (omega arith) | inr past ↦ inr (omega arith) ])
+      ∙ laid_kept span 4 (to_be_bytes w32 bucket) zeros (omega (arith, length_zeros, area.least_size)) (elim head_far [ inl before ↦ inl (omega arith) | inr past ↦ inr (omega arith) ])
       ∙ piece_zero span a.size fits
 
   keys : List ℕ
@@ -130,14 +130,14 @@ module _ (a : Area) (bucket position : ℕ) (key value : List ℕ) (area : IsHas
   unfolding is_linked keys block
   new_linked later =
       let b : (word_at 4 keys == cond (position == 0) 0 bucket) ≡ true =
-          eq-eqb (word_at 4 keys) (cond (position == 0) 0 bucket) (ap (from_be_bytes w32) (in_keys (record { off = 4; len = 4 }) (omega arith) ∙ bucket_here) ∙ from_be_bytes-to_be_bytes_4 bucket bucket_fits ∙ sym (ap (λ t. cond t 0 bucket) later)) in
+      eq-eqb (word_at 4 keys) (cond (position == 0) 0 bucket) (ap (from_be_bytes w32) (in_keys (record { off = 4; len = 4 }) (omega arith) ∙ bucket_here) ∙ from_be_bytes-to_be_bytes_4 bucket bucket_fits ∙ sym (ap (λ t. cond t 0 bucket) later)) in
       let p : (word_at 8 keys == position) ≡ true = eq-eqb (word_at 8 keys) position (ap (from_be_bytes w32) (in_keys (record { off = 8; len = 4 }) (omega arith) ∙ position_here) ∙ from_be_bytes-to_be_bytes_4 position position_fits) in
       let z : list_all is_zero (bytes_in (record { off = 12; len = 52 }) keys) ≡ true =
-          ap (list_all is_zero) (in_keys (record { off = 12; len = 52 }) (omega arith) ∙ blank (record { off = 12; len = 52 }) (inr (omega arith)) (inl (omega arith)) (inl (omega arith)) (omega (arith, area.least_size))) ∙ zeros_are 52 in
+      ap (list_all is_zero) (in_keys (record { off = 12; len = 52 }) (omega arith) ∙ blank (record { off = 12; len = 52 }) (inr (omega arith)) (inl (omega arith)) (inl (omega arith)) (omega (arith, area.least_size))) ∙ zeros_are 52 in
       let n : is_next a position (next_of keys) ≡ true = ap (is_next a position) new_next in
       let parts : are_key_parts a.size keys ≡ true = all_pass (λ i. is_part 28 (bytes_in (key_mark i) keys)) 0 (cell_count a.size) (λ j under over.
-          elim (cases_eq j 0) [
-            | inl here ↦ ap (λ (i : ℕ). is_part 28 (bytes_in (key_mark i) keys)) here ∙ ap (is_part 28) new_key_here ∙ part_is_part 30 28 key key_short
-            | inr other ↦ ap (is_part 28) (other_key j (omega arith) other) ∙ zero_part 28 30
-          ]) in
+      elim (cases_eq j 0) [
+        | inl here ↦ ap (λ (i : ℕ). is_part 28 (bytes_in (key_mark i) keys)) here ∙ ap (is_part 28) new_key_here ∙ part_is_part 30 28 key key_short
+        | inr other ↦ ap (is_part 28) (other_key j (omega arith) other) ∙ zero_part 28 30
+      ]) in
       and_from _ _ (and_from _ _ (and_from _ _ (and_from _ _ b p) z) n) parts

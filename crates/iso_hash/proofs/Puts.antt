@@ -91,7 +91,7 @@ module _ (a : Area) (key value : List ℕ) (A : Array) (s : Spot) (area : IsHash
     | inl same ↦ subst (λ (m : ℕ). (view_of a B).value m i ≡ (view_of a A).value m i) (sym same)
         (ap (bytes_in (value_mark a.size i)) here_is
         ∙ kept_1 (value_mark a.size i) (value_mark a.size s.cell) (block_at A (a.start + s.block)) X
-          (elim (Rattle.std.proofs.lemmas.Bool.cases_lt i s.cell) [ | inl before ↦ inl (omega arith) | inr past ↦ inr (let apart : i ≢ s.cell = λ e. other (same, e) in omega arith) ]))
+        (elim (Rattle.std.proofs.lemmas.Bool.cases_lt i s.cell) [ inl before ↦ inl (omega arith) | inr past ↦ inr (let apart : i ≢ s.cell = λ e. other (same, e) in omega arith) ]))
   ]
 
   stands_at : StandsAt a (view_of a A).keys key s
@@ -112,9 +112,10 @@ module _ (a : Area) (key value : List ℕ) (A : Array) (s : Spot) (area : IsHash
   values : HaveValues a (view_of a A).keys (view_of a B).value
   values b k i below has cell = elim (is_spot k i s) [
     | inl here ↦
-        (let at : (view_of a B).value k i ≡ value_part value = ap (λ (m : ℕ). (view_of a B).value m i) here.0 ∙ ap (λ (j : ℕ). (view_of a B).value s.block j) here.1 ∙ value_here in
-        (ap (is_part 32) at ∙ part_is_part 32 32 value short,
-        λ unused. absurd (both_ways (is_unused ((view_of a A).keys s.block) s.cell) stands.used (sym (ap (λ (m : ℕ). is_unused ((view_of a A).keys m) i) here.0 ∙ ap (λ (j : ℕ). is_unused ((view_of a A).keys s.block) j) here.1) ∙ unused))))
+        (let at : (view_of a B).value k i ≡ value_part value = ap (λ (m : ℕ). (view_of a B).value m i) here.0 ∙ ap (λ (j : ℕ). (view_of a B).value s.block j) here.1 ∙ value_here in (
+          ap (is_part 32) at ∙ part_is_part 32 32 value short,
+          λ unused. absurd (both_ways (is_unused ((view_of a A).keys s.block) s.cell) stands.used (sym (ap (λ (m : ℕ). is_unused ((view_of a A).keys m) i) here.0 ∙ ap (λ (j : ℕ). is_unused ((view_of a A).keys s.block) j) here.1) ∙ unused)),
+        ))
     | inr other ↦
         (let was = region.values b k i below has cell in
         (ap (is_part 32) (value_far k i other) ∙ was.0, λ unused. ap (list_all is_zero) (value_far k i other) ∙ was.1 unused))

@@ -97,9 +97,10 @@ del_call a key t u (Ok x) area is tx size fits run = λ A told.
 pub reserve_refused : {X : Type 0} (count : ℕ) (rest : Program (Result X StoreError)) (t : Tx) (d : Device) (e : TxError) → count ≤ 3 → (e ≡ error.TooManyAccesses) × (room_of t < count)
     → HasRun (Reserve count rest) t t (Err (store.Tx e)) × Behaves {R = X} t t count d d (Err (store.Tx e))
 reserve_refused {X = X} count rest t d e small is =
-    subst (λ (f : TxError). HasRun (Reserve count rest) t t (Err (store.Tx f)) × Behaves {R = X} t t count d d (Err (store.Tx f))) (sym is.0)
-    (full_at_reserve (Reserve count rest) count rest t t t (at_start (Reserve count rest) t) refl is.1,
-    refused_so t t count d d (store.Tx error.TooManyAccesses) (read_none t) (omega (arith, is.1)) (λ x. cc, λ x. cc) (later_same d d refl))
+    subst (λ (f : TxError). HasRun (Reserve count rest) t t (Err (store.Tx f)) × Behaves {R = X} t t count d d (Err (store.Tx f))) (sym is.0) (
+      full_at_reserve (Reserve count rest) count rest t t t (at_start (Reserve count rest) t) refl is.1,
+      refused_so t t count d d (store.Tx error.TooManyAccesses) (read_none t) (omega (arith, is.1)) (λ x. cc, λ x. cc) (later_same d d refl),
+    )
 
 -- the room after a write
 pub room_less : (n : ℕ) (t v : Tx) (a : Access) → suc n ≤ room_of t → v ≡ with_accesses t (a ∷ []) → n ≤ room_of v
@@ -204,8 +205,8 @@ new_some a key value last position k block byte t u v bytes new result area told
     let found = lowest_is a bytes k (Some block) area same some in
     let fits : bit_place block < length bytes = omega (arith, area.most, area.least_size) in
     let x : byte ≡ set_bit (get_or map (bit_place block) 0) block =
-        byte_is ∙ ap (λ (n : List ℕ). get_or n (bit_place block) 0) new_is ∙ get_or-set_same bytes (bit_place block) (set_bit (get_or bytes (bit_place block) 0) block) 0 fits
-        ∙ ap (λ (y : ℕ). set_bit y block) (sym (get_or-take (64 + map_bytes a.blocks) bytes (bit_place block) 0 (omega arith))) in
+    byte_is ∙ ap (λ (n : List ℕ). get_or n (bit_place block) 0) new_is ∙ get_or-set_same bytes (bit_place block) (set_bit (get_or bytes (bit_place block) 0) block) 0 fits
+    ∙ ap (λ (y : ℕ). set_bit y block) (sym (get_or-take (64 + map_bytes a.blocks) bytes (bit_place block) 0 (omega arith))) in
     run_from (new_program a key value last position) (growing a block last (position + 1) (set_bit (get_or map (bit_place block) 0) block) key value) t u v result
     (subst (λ (o : Option ℕ). IsAt (new_program a key value last position) (put_new a key value last position map o) t u) found (new_at a key value last position t u bytes told tx is))
     (subst (λ (y : ℕ). HasRun (growing a block last (position + 1) y key value) u v result) x run)
@@ -217,8 +218,8 @@ given_back a s before byte t u v bytes new result area told tx is inside long ne
     let map = bytes_in (map_mark a.blocks) bytes in
     let fits : bit_place s.block < length bytes = omega (arith, area.most, area.least_size) in
     let x : byte ≡ clear_bit (get_or map (bit_place s.block) 0) s.block =
-        byte_is ∙ ap (λ (n : List ℕ). get_or n (bit_place s.block) 0) new_is ∙ get_or-set_same bytes (bit_place s.block) (clear_bit (get_or bytes (bit_place s.block) 0) s.block) 0 fits
-        ∙ ap (λ (y : ℕ). clear_bit y s.block) (sym (get_or-take (64 + map_bytes a.blocks) bytes (bit_place s.block) 0 (omega arith))) in
+    byte_is ∙ ap (λ (n : List ℕ). get_or n (bit_place s.block) 0) new_is ∙ get_or-set_same bytes (bit_place s.block) (clear_bit (get_or bytes (bit_place s.block) 0) s.block) 0 fits
+    ∙ ap (λ (y : ℕ). clear_bit y s.block) (sym (get_or-take (64 + map_bytes a.blocks) bytes (bit_place s.block) 0 (omega arith))) in
     run_from (give_back_block a s before) (shrinking a s.block before (clear_bit (get_or map (bit_place s.block) 0) s.block)) t u v result
     (at_look (give_back_block a s before) a.start (map_mark a.blocks) (λ m. None) (λ m none. shrinking a s.block before (clear_bit (get_or m (bit_place s.block) 0) s.block)) t t u bytes (at_start (give_back_block a s before) t) told tx.count is)
     (subst (λ (y : ℕ). HasRun (shrinking a s.block before y) u v result) x run)

@@ -76,12 +76,12 @@ Way a key bucket with_value A zero position before block spare w = w ≡ AtBroke
 Way a key bucket with_value A (suc left) position before block spare w =
     (w ≡ AtBroken (a.start + block))
     ⊎ (((i : ℕ) × ((cell_with a.size key ((view_of a A).keys block) ≡ Some i)
-        × (w ≡ AtCell (record { block = block; cell = i }) before ((view_of a A).keys block) (cond with_value ((view_of a A).value block i) []))))
+    × (w ≡ AtCell (record { block = block; cell = i }) before ((view_of a A).keys block) (cond with_value ((view_of a A).value block i) []))))
     ⊎ ((cell_with a.size key ((view_of a A).keys block) ≡ None)
-        × (is_linked a bucket position ((view_of a A).keys block) ≡ true)
-        × (((next_of ((view_of a A).keys block) ≡ 0) × (w ≡ AtEnd (spare_in a spare block ((view_of a A).keys block)) block position))
-        ⊎ ((next_of ((view_of a A).keys block) ≢ 0)
-            × Way a key bucket with_value A left (position + 1) block (next_of ((view_of a A).keys block)) (spare_in a spare block ((view_of a A).keys block)) w))))
+    × (is_linked a bucket position ((view_of a A).keys block) ≡ true)
+    × (((next_of ((view_of a A).keys block) ≡ 0) × (w ≡ AtEnd (spare_in a spare block ((view_of a A).keys block)) block position))
+    ⊎ ((next_of ((view_of a A).keys block) ≢ 0)
+    × Way a key bucket with_value A left (position + 1) block (next_of ((view_of a A).keys block)) (spare_in a spare block ((view_of a A).keys block)) w))))
 
 value_read : (with_value : Bool) (span : Span) (block : List ℕ) → further_bytes (cond (with_value && true) (Some span) None) block ≡ cond with_value (bytes_in span block) []
 value_read true span block = refl
@@ -97,8 +97,8 @@ way a key bucket with_value A (suc left) position before block spare =
     let free = spare_in a spare block keys in
     let rest : Program Walked = walk_from a key bucket with_value left (position + 1) block next free in
     let body : Bool → Option ℕ → Bool → Program Walked = λ t c z.
-        cond t (at_cell c (λ i. Done (AtCell (record { block = block; cell = i }) before keys (further_bytes (cond (with_value && t) (option_map (value_mark a.size) c) None) whole))) (cond z (Done (AtEnd free block position)) rest))
-        (Done (AtBroken (a.start + block))) in
+    cond t (at_cell c (λ i. Done (AtCell (record { block = block; cell = i }) before keys (further_bytes (cond (with_value && t) (option_map (value_mark a.size) c) None) whole))) (cond z (Done (AtEnd free block position)) rest))
+    (Done (AtBroken (a.start + block))) in
     let goal : Walked → Type 0 = Way a key bucket with_value A (suc left) position before block spare in
     elim (is_linked a bucket position keys) as (λ t. is_linked a bucket position keys ≡ t → goal (answer_of (body t (cell_with a.size key keys) (next == 0)) A)) [
       | false ↦ λ l. inl refl
@@ -265,6 +265,8 @@ pub walk_reads : (a : Area) (key : List ℕ) (bucket : ℕ) (with_value : Bool) 
     → AreReads (accesses_of (walk_from a key bucket with_value left position before block spare) A)
 walk_reads a key bucket with_value zero position before block spare A = tt
 walk_reads a key bucket with_value (suc left) position before block spare A =
-    let keys = (view_of a A).keys block in
-    (refl, cond_reads (is_linked a bucket position keys) _ _ A (cell_reads (cell_with a.size key keys) _ _ A (λ i. tt)
-    (cond_reads (next_of keys == 0) _ _ A tt (walk_reads a key bucket with_value left (position + 1) block (next_of keys) (spare_in a spare block keys) A))) tt)
+    let keys = (view_of a A).keys block in (
+      refl,
+      cond_reads (is_linked a bucket position keys) _ _ A (cell_reads (cell_with a.size key keys) _ _ A (λ i. tt)
+          (cond_reads (next_of keys == 0) _ _ A tt (walk_reads a key bucket with_value left (position + 1) block (next_of keys) (spare_in a spare block keys) A))) tt,
+    )

@@ -105,15 +105,27 @@ fn a_damaged_block_is_named(rt: HostRuntime) -> Result<(), Fail> {
     let mut tx = blocks(rt.alloc(), 2 * 256 + 12, 1)?;
     let broken = Err(StoreError::Broken { block: 2 });
     assert_eq!(rt; put_in(rt.alloc(), &mut tx, b"a", &[1]), broken);
-    assert_eq!(rt; has(rt.alloc(), &mut tx, b"a", None), Err(StoreError::Broken { block: 2 }));
+    assert_eq!(rt;
+        has(rt.alloc(), &mut tx, b"a", None),
+        Err(StoreError::Broken { block: 2 })
+    );
     Ok(())
 }
 
 #[test]
 fn keys_and_values_have_their_lengths(rt: HostRuntime) -> Result<(), Fail> {
     let mut tx = blocks(rt.alloc(), 0, 0)?;
-    assert_eq!(rt; put_in(rt.alloc(), &mut tx, b"", &[1]), Err(StoreError::BadKey));
-    assert_eq!(rt; put_in(rt.alloc(), &mut tx, b"a", &[0; 33]), Err(StoreError::BadValue));
-    assert_eq!(rt; del_in(rt.alloc(), &mut tx, &[0; 29]), Err(StoreError::BadKey));
+    assert_eq!(rt;
+        put_in(rt.alloc(), &mut tx, b"", &[1]),
+        Err(StoreError::BadKey)
+    );
+    assert_eq!(rt;
+        put_in(rt.alloc(), &mut tx, b"a", &[0; 33]),
+        Err(StoreError::BadValue)
+    );
+    assert_eq!(rt;
+        del_in(rt.alloc(), &mut tx, &[0; 29]),
+        Err(StoreError::BadKey)
+    );
     Ok(())
 }

@@ -57,7 +57,7 @@ returns-in-Err-store_next-clause-run g c =
     cut_at_store (growing a c.args.block c.args.last c.args.position c.args.byte c.args.key.now c.args.value.now) (a.start + c.args.last) (next_mark ∷ []) (block_with a.size 0 (to_be_bytes w32 c.args.block)) (Done (Ok tt))
     (state c.args.tx.now) (state c.store_new.new.tx) (state c.store_next.new.tx) (g.T.TxBlocks.device c.store_new.new.tx) (g.T.TxBlocks.device c.store_next.new.tx) c.in-Err-store_next.e
     (grow_at_third a c.args.block c.args.last c.args.position c.args.byte c.args.key.now c.args.value.now (state c.args.tx.now) c.in_default.ensures.ok (state c.store_bit.new.tx) (state c.store_new.new.tx)
-      (g.met.T.TxBlocks.limits c.store_bit.new.tx) (g.met.T.TxBlocks.limits c.store_new.new.tx) c.in_default-store_bit.ensures.stored c.in_default-store_new.ensures.stored)
+    (g.met.T.TxBlocks.limits c.store_bit.new.tx) (g.met.T.TxBlocks.limits c.store_new.new.tx) c.in_default-store_bit.ensures.stored c.in_default-store_new.ensures.stored)
     c.in-Err-store_next.ensures.kept c.in-Err-store_next.ensures.cause
 
 pub returns-in-Err-store_next-clause-behaves : goal.returns-in-Err-store_next-clause-behaves
@@ -77,7 +77,7 @@ returns-in-Ok-clause-run g c =
     ran_at whole (state c.args.tx.now) (state c.store_next.new.tx) (Ok tt)
     (at_store whole (a.start + c.args.last) (next_mark ∷ []) (block_with a.size 0 (to_be_bytes w32 c.args.block)) (Done (Ok tt)) (state c.args.tx.now) (state c.store_new.new.tx) (state c.store_next.new.tx)
     (grow_at_third a c.args.block c.args.last c.args.position c.args.byte c.args.key.now c.args.value.now (state c.args.tx.now) c.in_default.ensures.ok (state c.store_bit.new.tx) (state c.store_new.new.tx)
-      (g.met.T.TxBlocks.limits c.store_bit.new.tx) (g.met.T.TxBlocks.limits c.store_new.new.tx) c.in_default-store_bit.ensures.stored c.in_default-store_new.ensures.stored)
+    (g.met.T.TxBlocks.limits c.store_bit.new.tx) (g.met.T.TxBlocks.limits c.store_new.new.tx) c.in_default-store_bit.ensures.stored c.in_default-store_new.ensures.stored)
     (g.met.T.TxBlocks.limits c.store_next.new.tx).count c.in-Ok.ensures.stored)
 
 pub returns-in-Ok-clause-behaves : goal.returns-in-Ok-clause-behaves

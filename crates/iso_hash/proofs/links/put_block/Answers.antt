@@ -30,7 +30,7 @@ returns-in-Some-clause-run g c =
     let state = g.T.TxBlocks.state in
     let a = c.args.area in
     let read : state c.look.new.tx ≡ with_accesses (state c.args.tx.now) (look_access a.start (map_mark a.blocks ∷ []) ∷ []) =
-        c.in_default.ensures.read ∙ ap (λ (s : Span). with_accesses (state c.args.tx.now) (look_access a.start (s ∷ []) ∷ [])) c.map_span.ensures in
+    c.in_default.ensures.read ∙ ap (λ (s : Span). with_accesses (state c.args.tx.now) (look_access a.start (s ∷ []) ∷ [])) c.map_span.ensures in
     new_some a c.args.key.now c.args.value.now c.args.last c.args.position c.buckets.result c.in-Some.block _ (state c.args.tx.now) (state c.look.new.tx) (state c.grow.new.tx) c.look.new.into c.take_lowest.new.map c.grow.result
     c.requires.area c.in_default.ensures.bytes (g.met.T.TxBlocks.limits c.look.new.tx) read c.buckets.ensures.value c.in-Some.ensures.lowest c.in-Some.ensures.inside.1 (c.look.auto.into ∙ c.requires.buffer) c.in-Some.ensures.taken refl c.grow.ensures.run
 
@@ -46,7 +46,7 @@ returns-in-None-clause-run g c =
     let state = g.T.TxBlocks.state in
     let a = c.args.area in
     let read : state c.look.new.tx ≡ with_accesses (state c.args.tx.now) (look_access a.start (map_mark a.blocks ∷ []) ∷ []) =
-        c.in_default.ensures.read ∙ ap (λ (s : Span). with_accesses (state c.args.tx.now) (look_access a.start (s ∷ []) ∷ [])) c.map_span.ensures in
+    c.in_default.ensures.read ∙ ap (λ (s : Span). with_accesses (state c.args.tx.now) (look_access a.start (s ∷ []) ∷ [])) c.map_span.ensures in
     new_none a c.args.key.now c.args.value.now c.args.last c.args.position c.buckets.result (state c.args.tx.now) (state c.look.new.tx) c.look.new.into
     c.requires.area c.in_default.ensures.bytes (g.met.T.TxBlocks.limits c.look.new.tx) read c.buckets.ensures.value c.in-None.ensures.lowest
 

@@ -133,9 +133,11 @@ pub returns-then-next-eq0-clause-later : goal.returns-then-next-eq0-clause-later
 returns-then-next-eq0-clause-later g c = later_than (g.T.TxBlocks.device c.args.tx.now) (g.T.TxBlocks.device c.loop-position.tx) (g.T.TxBlocks.device c.look.new.tx) c.loop-position.invariant.later c.in_default.ensures.later
 
 pub returns-then-next-eq0-clause-inside : goal.returns-then-next-eq0-clause-inside
-returns-then-next-eq0-clause-inside g c =
-    (spare_inside c.args.area c.loop-position.spare c.loop-position.block c.unused_cell.result c.first_spare-spare.result c.first_spare-spare.ensures c.loop-position.invariant.spare c.loop-position.invariant.inside c.unused_cell.ensures.below,
-    c.loop-position.invariant.inside, omega (arith, c.last_position-position-end.ensures.most, c.loop-position-test.true))
+returns-then-next-eq0-clause-inside g c = (
+  spare_inside c.args.area c.loop-position.spare c.loop-position.block c.unused_cell.result c.first_spare-spare.result c.first_spare-spare.ensures c.loop-position.invariant.spare c.loop-position.invariant.inside c.unused_cell.ensures.below,
+  c.loop-position.invariant.inside,
+  omega (arith, c.last_position-position-end.ensures.most, c.loop-position-test.true),
+)
 
 pub loop-position-preserved : goal.loop-position-preserved
 loop-position-preserved g c =
