@@ -1,32 +1,31 @@
 -- Puts and removals are what the operations on the map of the region are.
-use Rattle.std.proofs.Common.{◌≡◌, ◌≢◌, ◌⊎◌, ◌∙◌, sym, refl, ap, subst, ℕ, zero, suc, ◌+◌, ◌-◌, ◌*◌, ◌/◌, ◌%◌, ◌^◌, ◌<◌, ◌≤◌, Bool, true, false, ◌&&◌, ◌||◌, ◌==◌, not, cond, nat_lt, nat_le, IsTrue, List, [], ◌∷◌, ◌++◌, length, get_or, take, drop, replicate, Option, Some, None, Result, Ok, Err, IfSome, arith, inl, inr, eq-eqb, append_assoc, is_some}
+use Rattle.std.proofs.Common.{◌≡◌, ◌⊎◌, ◌∙◌, sym, refl, ap, subst, ℕ, zero, suc, ◌+◌, ◌*◌, ◌%◌, ◌<◌, ◌≤◌, Bool, true, false, ◌==◌, not, cond, List, [], ◌∷◌, ◌++◌, length, get_or, replicate, Option, Some, None, Result, Ok, Err, IfSome, arith, inl, inr, is_some}
 use Rattle.std.specs.Int.{w32, to_be_bytes}
 use Rattle.std.specs.Ordering.{nat_cmp, eq_by_cmp}
 use Rattle.std.specs.Cmp.Lexicographic.{slice_cmp, nat_list_cmp_total}
 use Rattle.std.specs.FinMap.{get, insert, remove, get-remove, same_map, slice_cmp-IsAntisymmetric, nat_cmp-IsAntisymmetric}
 use Rattle.std.specs.List.{AllByRecursion}
 use Rattle.std.proofs.lemmas.Bool.{cases_eq, cases_Bool, both_ways, and_parts, eqb-true, ltb-true, leb-true}
-use Rattle.std.proofs.lemmas.Bool.Decides.{nat_tests}
 use Rattle.std.proofs.lemmas.List.{get_or-take, length-replicate}
 use Rattle.std.proofs.lemmas.Slice.Eq.{bytes_eq-Decides}
 use Rattle.iso_model.specs.declared.access.Access.{Access}
 use Rattle.iso_model.specs.declared.stores.Area.{Area}
 use Rattle.iso_model.specs.declared.stores.Spot.{Spot}
 use Rattle.iso_model.specs.declared.stores.StoreError.{StoreError}
-use Rattle.iso_model.specs.declared.stores.StoreError.TheVariants.{BadKey, BadValue, Broken, NoBlocks}
+use Rattle.iso_model.specs.declared.stores.StoreError.TheVariants.{Broken, NoBlocks}
 use Rattle.iso_model.specs.Array.{Array, put}
-use Rattle.iso_model.specs.Effect.{own, is_write}
+use Rattle.iso_model.specs.Effect.{own}
 use Rattle.iso_model.specs.Conflict.{first_from}
 use Rattle.iso_model.specs.Premises.{block_at}
-use Rattle.iso_model.specs.Stores.{Program, Done, Look, Reserve, Store, bytes_in, store_access, accesses_of, answer_of, then_do, AreReads, IsLocal}
+use Rattle.iso_model.specs.Stores.{Program, Done, Look, Reserve, Store, bytes_in, store_access, accesses_of, answer_of, then_do, IsLocal}
 use Rattle.iso_model.specs.Cells.{cell_count, keys_end, key_mark, value_mark, next_mark, key_part, value_part, key_at, laid_at, block_with}
 use Rattle.iso_model.specs.FreeMap.{map_bytes, map_mark, bit_place, bit_mark, map_bit, set_bit, clear_bit, lowest_free}
-use Rattle.iso_model.specs.HashRegion.{Pairs, view_of, buckets, bucket_of, last_position, next_of, is_linked, chain, hash_map, AreLinked, Stands, IsHashRegion, IsHashArea, put_op, del_op}
-use Rattle.iso_model.specs.HashCalls.{Walked, AtCell, AtEnd, AtBroken, walk, spot_in, spare_in, with_cell, new_block, put_new, put_at, put_program, is_spent, is_alone, del_at, del_program, is_key, is_value}
+use Rattle.iso_model.specs.HashRegion.{Pairs, view_of, buckets, bucket_of, last_position, next_of, chain, hash_map, AreLinked, Stands, IsHashRegion, IsHashArea, put_op, del_op}
+use Rattle.iso_model.specs.HashCalls.{Walked, AtCell, AtEnd, AtBroken, walk, spot_in, spare_in, put_new, put_at, put_program, is_spent, is_alone, del_at, del_program, is_key, is_value}
 use Rattle.tx_blocks.proofs.Programs.{AreWhole, accesses_then, answer_then, own_reads, whole_reads, IsCorrect, local_from}
 use Rattle.tx_blocks.proofs.Progress.{own_append}
 use Rattle.iso_hash.proofs.Chains.{linked_split, placed, next_in, head_of}
-use Rattle.iso_hash.proofs.Dels.{HasRemoved, del_cell, del_block}
+use Rattle.iso_hash.proofs.Dels.{del_cell, del_block}
 use Rattle.iso_hash.proofs.Finding.{ties, cases_key}
 use Rattle.iso_hash.proofs.Frames.{length-part_of}
 use Rattle.iso_hash.proofs.Gets.{bucket_below, key_some, key_short, walk_is_reads, walk_found, walk_missed, found_stands, missed_nowhere, get_found, get_none}
@@ -34,7 +33,7 @@ use Rattle.iso_hash.proofs.Grown.{put_grown}
 use Rattle.iso_hash.proofs.Linking.{length-block_with}
 use Rattle.iso_hash.proofs.NewBlocks.{size_most, length-new_block}
 use Rattle.iso_hash.proofs.Puts.{HasPut, put_found, put_spare, length-with_cell, cells_fit}
-use Rattle.iso_hash.proofs.Ways.{Way, way, first_below, first_passes, cell_below, Found, Missed, IsSpare}
+use Rattle.iso_hash.proofs.Ways.{Way, way, first_below, first_passes, cell_below, Found, IsSpare}
 
 -- what is done after a walk is done on the same array
 module _ {X : Type 0} (a : Area) (key : List ℕ) (f : Walked → Program X) (A : Array) where

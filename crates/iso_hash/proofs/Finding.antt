@@ -1,8 +1,8 @@
 -- What the look-up of a key finds among the pairs of cells, blocks and buckets.
-use Rattle.std.proofs.Common.{◌≡◌, ◌≢◌, ◌⊎◌, ◌∙◌, sym, refl, ap, subst, ℕ, zero, suc, ◌+◌, ◌<◌, ◌≤◌, Bool, true, false, ◌==◌, cond, List, [], ◌∷◌, ◌++◌, length, get_or, take, drop, Option, Some, None, arith, inl, inr}
+use Rattle.std.proofs.Common.{◌≡◌, ◌≢◌, ◌⊎◌, ◌∙◌, sym, refl, ap, subst, ℕ, zero, suc, ◌+◌, ◌<◌, ◌≤◌, Bool, true, false, ◌==◌, cond, List, [], ◌∷◌, ◌++◌, Option, Some, None, arith, inl, inr}
 use Rattle.std.specs.List.{flat_map, range_with_len}
 use Rattle.std.specs.Ordering.{nat_cmp, eq_by_cmp}
-use Rattle.std.specs.Cmp.Lexicographic.{slice_cmp, lists_ties, nat_list_cmp_total, nat_list_eq_equiv}
+use Rattle.std.specs.Cmp.Lexicographic.{slice_cmp, lists_ties, nat_list_cmp_total}
 use Rattle.std.specs.FinMap.{from_entries, get, get-from_entries, find}
 use Rattle.std.specs.Str.{bytes_eq}
 use Rattle.std.proofs.lemmas.Bool.{cases_eq, cases_Bool, false_from_ne_true}
@@ -10,9 +10,8 @@ use Rattle.std.proofs.lemmas.Bool.Decides.{nat_tests}
 use Rattle.std.proofs.lemmas.Slice.Eq.{bytes_eq-Decides}
 use Rattle.iso_model.specs.declared.stores.Area.{Area}
 use Rattle.iso_model.specs.Effect.{or_else}
-use Rattle.iso_model.specs.Stores.{bytes_in}
-use Rattle.iso_model.specs.Cells.{cell_count, key_mark, text_of, is_unused, key_at}
-use Rattle.iso_model.specs.HashRegion.{Pairs, buckets, chain, pairs_from, pairs_of, bucket_pairs, all_pairs, IsIn, Stands}
+use Rattle.iso_model.specs.Cells.{cell_count, text_of, is_unused, key_at}
+use Rattle.iso_model.specs.HashRegion.{buckets, chain, pairs_from, pairs_of, bucket_pairs, all_pairs, IsIn, Stands}
 
 nat_ties : (x y : ℕ) → (x == y) ≡ eq_by_cmp nat_cmp x y
 nat_ties x y = grind (arith, nat_tests)

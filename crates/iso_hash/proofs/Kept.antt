@@ -1,5 +1,5 @@
 -- What a call of a store leaves as it is.
-use Rattle.std.proofs.Common.{◌≡◌, ◌∙◌, ap, Result}
+use Rattle.std.proofs.Common.{◌∙◌, ap, Result}
 use Rattle.iso_model.specs.declared.stores.StoreError.{StoreError}
 use Rattle.iso_model.specs.Stores.{Program}
 use Rattle.tx_blocks.specs.Tx.{Tx}

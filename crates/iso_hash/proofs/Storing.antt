@@ -3,7 +3,6 @@ use Rattle.std.proofs.Common.{◌≡◌, ◌≢◌, ◌∙◌, sym, refl, ap, su
 use Rattle.std.proofs.lemmas.List.{get_or-take, get_or-set_same}
 use Rattle.std.specs.Option.{ForSome}
 use Rattle.iso_model.specs.declared.access.Access.{Access}
-use Rattle.iso_model.specs.declared.access.Span.{Span}
 use Rattle.iso_model.specs.declared.stores.Area.{Area}
 use Rattle.iso_model.specs.declared.stores.Region.{Region}
 use Rattle.iso_model.specs.declared.stores.Spot.{Spot}
@@ -19,16 +18,16 @@ use Rattle.iso_model.specs.Stores.{Program, Done, Look, Reserve, Store, then_do,
 use Rattle.std.specs.Int.{w32, to_be_bytes}
 use Rattle.std.proofs.Common.{replicate}
 use Rattle.iso_model.specs.Cells.{next_mark, block_with}
-use Rattle.iso_model.specs.FreeMap.{map_bytes, map_mark, bit_mark, bit_place, map_bit, set_bit, clear_bit, with_bit, without_bit, lowest_free}
+use Rattle.iso_model.specs.FreeMap.{map_bytes, map_mark, bit_mark, bit_place, set_bit, clear_bit, with_bit, without_bit, lowest_free}
 use Rattle.iso_model.specs.HashCalls as hash
 use Rattle.iso_model.specs.HashCalls.{walk, new_block, is_spent, put_new, put_at, put_program, del_at, del_program, is_key, is_value}
 use Rattle.iso_model.specs.HashRegion.{bucket_of, buckets, last_position, IsHashArea, IsHashRegion, hash_map, put_op, del_op}
 use Rattle.iso_model.proofs.Bytes.{length-block_own}
-use Rattle.tx_blocks.specs.Tx.{Tx, Device, IsLater, IsTx, with_accesses, room_of}
-use Rattle.tx_blocks.specs.Runs.{area_of, Ran, Ends, IsCut, HasRun, HasEnded, HasRead, IsCause, IsStoreCause, IsUnwritten, Behaves, IsLocalCall}
+use Rattle.tx_blocks.specs.Tx.{Tx, Device, IsTx, with_accesses, room_of}
+use Rattle.tx_blocks.specs.Runs.{area_of, Ran, HasRun, HasEnded, Behaves, IsLocalCall}
 use Rattle.tx_blocks.proofs.Progress.{IsAt, at_start, at_then, at_look, at_store, at_reserve, ran_at, full_at_reserve, whole_run}
-use Rattle.tx_blocks.proofs.Refusals.{cut_then, cut_at_look, cut_at_store, later_same, read_none, store_cause}
-use Rattle.tx_blocks.proofs.Parts.{run_from, ended_from, refused_so, refused_memory, done_so, behaves_after}
+use Rattle.tx_blocks.proofs.Refusals.{cut_then, later_same, read_none, store_cause}
+use Rattle.tx_blocks.proofs.Parts.{run_from, ended_from, refused_so}
 use Rattle.iso_hash.proofs.Changes.{put_is, del_is, put_local, del_local, HasBlocks, give_back_block, make_zero}
 use Rattle.iso_hash.specs.Walks.{HasWalked}
 

@@ -1,8 +1,6 @@
-use Rattle.std.proofs.Common.{rules, arith, ◌≡◌, ◌∙◌, sym, ap, subst, ◌+◌, ◌*◌, ◌-◌, ◌/◌, ◌<◌, ◌≤◌, ℕ, Bool, true, false, List, [], ◌∷◌, length, take, cond, Some, None, refl}
-use Rattle.iso_model.specs.declared.access.Span.{Span}
-use Rattle.iso_model.specs.Cells.{cell_count, value_mark, cell_with, word_at}
+use Rattle.std.proofs.Common.{arith, ◌≡◌, ◌∙◌, sym, ap, subst, ◌+◌, ◌*◌, true, [], ◌∷◌, take, refl}
+use Rattle.iso_model.specs.Cells.{word_at}
 use Rattle.iso_model.specs.HashCalls.{walk}
-use Rattle.iso_model.specs.HashRegion.{is_linked}
 use Rattle.iso_model.specs.Stores.{look_access}
 use Rattle.tx_blocks.specs.Tx.{Tx, with_accesses}
 use Rattle.tx_blocks.proofs.Marking.{may_mark, marked_access}
