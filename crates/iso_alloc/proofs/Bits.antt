@@ -34,7 +34,7 @@ bits_with map new block here others k = elim (cases_eq (k / 8) (block / 8)) [
       ap (λ (x : ℕ). bit_at x (k % 8) == 1) (others k apart) ∙ ap (λ (t : Bool). t || map_bit map k) (sym test))
   | inl same ↦
       (let byte : get_or new (bit_place k) 0 ≡ set_bit (get_or map (bit_place k) 0) block =
-          ap (λ (n : ℕ). get_or new (64 + n) 0) same ∙ here ∙ ap (λ (n : ℕ). set_bit (get_or map (64 + n) 0) block) (sym same) in
+      ap (λ (n : ℕ). get_or new (64 + n) 0) same ∙ here ∙ ap (λ (n : ℕ). set_bit (get_or map (64 + n) 0) block) (sym same) in
       elim (cases_eq k block) [
         | inl is ↦
             (let test : (k == block) ≡ true = eq-eqb k block is in
@@ -55,7 +55,7 @@ bits_without map new block here others k = elim (cases_eq (k / 8) (block / 8)) [
       ap (λ (x : ℕ). bit_at x (k % 8) == 1) (others k apart) ∙ ap (λ (t : Bool). not t && map_bit map k) (sym test))
   | inl same ↦
       (let byte : get_or new (bit_place k) 0 ≡ clear_bit (get_or map (bit_place k) 0) block =
-          ap (λ (n : ℕ). get_or new (64 + n) 0) same ∙ here ∙ ap (λ (n : ℕ). clear_bit (get_or map (64 + n) 0) block) (sym same) in
+      ap (λ (n : ℕ). get_or new (64 + n) 0) same ∙ here ∙ ap (λ (n : ℕ). clear_bit (get_or map (64 + n) 0) block) (sym same) in
       elim (cases_eq k block) [
         | inl is ↦
             (let test : (k == block) ≡ true = eq-eqb k block is in

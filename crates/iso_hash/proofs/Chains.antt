@@ -1,5 +1,5 @@
 -- The blocks of chains: where they stand, and what the chain is.
-use Rattle.std.proofs.Common.{◌≡◌, ◌≢◌, ◌⊎◌, ◌∙◌, sym, refl, ap, subst, ℕ, zero, suc, ◌+◌, ◌-◌, ◌/◌, ◌<◌, ◌≤◌, Bool, true, false, ◌==◌, ◌&&◌, ◌||◌, cond, nat_eq, List, [], ◌∷◌, ◌++◌, length, arith, inl, inr, eq-eqb, ne_eqb, length-append}
+use Rattle.std.proofs.Common.{◌≡◌, ◌≢◌, ◌⊎◌, ◌∙◌, sym, refl, ap, subst, ℕ, zero, suc, ◌+◌, ◌<◌, ◌≤◌, Bool, true, false, ◌==◌, cond, nat_eq, List, [], ◌∷◌, ◌++◌, length, arith, inl, inr, eq-eqb, ne_eqb}
 use Rattle.std.specs.List.{AllByRecursion, IsDistinct}
 use Rattle.std.proofs.lemmas.Bool.{cases_eq, cases_lt, and_parts, or_cases, eqb-true, leb-true, ltb-true}
 use Rattle.iso_model.specs.declared.stores.Area.{Area}
@@ -137,10 +137,13 @@ pub linked_alike : (a : Area) (keys new : ℕ → List ℕ) (bucket position : �
     → AreLinked a keys bucket position blocks first end → AreLinked a new bucket position blocks first end
 linked_alike a keys new bucket position [] first end same linked = linked
 linked_alike a keys new bucket position (k ∷ blocks) first end same linked =
-    let here = same k position (inl refl) linked.2 in
-    (linked.0, linked.1, here.0,
-    subst (λ (n : ℕ). AreLinked a new bucket (position + 1) blocks n end) (sym here.1)
-    (linked_alike a keys new bucket (position + 1) blocks (next_of (keys k)) end (λ m p has. same m p (inr has)) linked.3))
+    let here = same k position (inl refl) linked.2 in (
+      linked.0,
+      linked.1,
+      here.0,
+      subst (λ (n : ℕ). AreLinked a new bucket (position + 1) blocks n end) (sym here.1)
+          (linked_alike a keys new bucket (position + 1) blocks (next_of (keys k)) end (λ m p has. same m p (inr has)) linked.3),
+    )
 
 -- the chain from a block on is the list that is linked to its end
 pub chain_is : (a : Area) (keys : ℕ → List ℕ) (bucket position left k : ℕ) (rest : List ℕ) (first : ℕ) → AreLinked a keys bucket position (k ∷ rest) first 0 → length rest < left
@@ -171,7 +174,7 @@ in_right k (x ∷ xs) ys has = inr (in_right k xs ys has)
 pub in_either : (k : ℕ) (xs ys : List ℕ) → IsIn k (xs ++ ys) → IsIn k xs ⊎ IsIn k ys
 in_either k [] ys has = inr has
 in_either k (x ∷ xs) ys (inl e) = inl (inl e)
-in_either k (x ∷ xs) ys (inr has) = elim (in_either k xs ys has) [ | inl left ↦ inl (inr left) | inr right ↦ inr right ]
+in_either k (x ∷ xs) ys (inr has) = elim (in_either k xs ys has) [ inl left ↦ inl (inr left) | inr right ↦ inr right ]
 
 -- a block of the first part does not stand in the second
 pub not_twice : (a : Area) (keys : ℕ → List ℕ) (bucket position : ℕ) (xs ys : List ℕ) (first end k : ℕ) → AreLinked a keys bucket position (xs ++ ys) first end → IsIn k xs → IsIn k ys → ⊥
@@ -192,6 +195,7 @@ all_in P (x ∷ xs) each = (each x (inl refl), all_in P xs (λ k has. each k (in
 pub distinct : (a : Area) (keys : ℕ → List ℕ) (bucket position : ℕ) (blocks : List ℕ) (first end : ℕ) → AreLinked a keys bucket position blocks first end → IsDistinct nat_eq blocks
 unfolding IsDistinct
 distinct a keys bucket position [] first end linked = tt
-distinct a keys bucket position (k ∷ blocks) first end linked =
-    (all_in (λ y. nat_eq k y ≡ false) blocks (λ y has. ne_eqb k y (λ e. not_twice a keys bucket position (k ∷ []) blocks first end k linked (inl refl) (subst (λ (m : ℕ). IsIn m blocks) (sym e) has))),
-    distinct a keys bucket (position + 1) blocks (next_of (keys k)) end linked.3)
+distinct a keys bucket position (k ∷ blocks) first end linked = (
+  all_in (λ y. nat_eq k y ≡ false) blocks (λ y has. ne_eqb k y (λ e. not_twice a keys bucket position (k ∷ []) blocks first end k linked (inl refl) (subst (λ (m : ℕ). IsIn m blocks) (sym e) has))),
+  distinct a keys bucket (position + 1) blocks (next_of (keys k)) end linked.3,
+)

@@ -1,32 +1,31 @@
 -- Puts and removals are what the operations on the map of the region are.
-use Rattle.std.proofs.Common.{◌≡◌, ◌≢◌, ◌⊎◌, ◌∙◌, sym, refl, ap, subst, ℕ, zero, suc, ◌+◌, ◌-◌, ◌*◌, ◌/◌, ◌%◌, ◌^◌, ◌<◌, ◌≤◌, Bool, true, false, ◌&&◌, ◌||◌, ◌==◌, not, cond, nat_lt, nat_le, IsTrue, List, [], ◌∷◌, ◌++◌, length, get_or, take, drop, replicate, Option, Some, None, Result, Ok, Err, IfSome, arith, inl, inr, eq-eqb, append_assoc, is_some}
+use Rattle.std.proofs.Common.{◌≡◌, ◌⊎◌, ◌∙◌, sym, refl, ap, subst, ℕ, zero, suc, ◌+◌, ◌*◌, ◌%◌, ◌<◌, ◌≤◌, Bool, true, false, ◌==◌, not, cond, List, [], ◌∷◌, ◌++◌, length, get_or, replicate, Option, Some, None, Result, Ok, Err, IfSome, arith, inl, inr, is_some}
 use Rattle.std.specs.Int.{w32, to_be_bytes}
 use Rattle.std.specs.Ordering.{nat_cmp, eq_by_cmp}
 use Rattle.std.specs.Cmp.Lexicographic.{slice_cmp, nat_list_cmp_total}
 use Rattle.std.specs.FinMap.{get, insert, remove, get-remove, same_map, slice_cmp-IsAntisymmetric, nat_cmp-IsAntisymmetric}
 use Rattle.std.specs.List.{AllByRecursion}
 use Rattle.std.proofs.lemmas.Bool.{cases_eq, cases_Bool, both_ways, and_parts, eqb-true, ltb-true, leb-true}
-use Rattle.std.proofs.lemmas.Bool.Decides.{nat_tests}
 use Rattle.std.proofs.lemmas.List.{get_or-take, length-replicate}
 use Rattle.std.proofs.lemmas.Slice.Eq.{bytes_eq-Decides}
 use Rattle.iso_model.specs.declared.access.Access.{Access}
 use Rattle.iso_model.specs.declared.stores.Area.{Area}
 use Rattle.iso_model.specs.declared.stores.Spot.{Spot}
 use Rattle.iso_model.specs.declared.stores.StoreError.{StoreError}
-use Rattle.iso_model.specs.declared.stores.StoreError.TheVariants.{BadKey, BadValue, Broken, NoBlocks}
+use Rattle.iso_model.specs.declared.stores.StoreError.TheVariants.{Broken, NoBlocks}
 use Rattle.iso_model.specs.Array.{Array, put}
-use Rattle.iso_model.specs.Effect.{own, is_write}
+use Rattle.iso_model.specs.Effect.{own}
 use Rattle.iso_model.specs.Conflict.{first_from}
 use Rattle.iso_model.specs.Premises.{block_at}
-use Rattle.iso_model.specs.Stores.{Program, Done, Look, Reserve, Store, bytes_in, store_access, accesses_of, answer_of, then_do, AreReads, IsLocal}
+use Rattle.iso_model.specs.Stores.{Program, Done, Look, Reserve, Store, bytes_in, store_access, accesses_of, answer_of, then_do, IsLocal}
 use Rattle.iso_model.specs.Cells.{cell_count, keys_end, key_mark, value_mark, next_mark, key_part, value_part, key_at, laid_at, block_with}
 use Rattle.iso_model.specs.FreeMap.{map_bytes, map_mark, bit_place, bit_mark, map_bit, set_bit, clear_bit, lowest_free}
-use Rattle.iso_model.specs.HashRegion.{Pairs, view_of, buckets, bucket_of, last_position, next_of, is_linked, chain, hash_map, AreLinked, Stands, IsHashRegion, IsHashArea, put_op, del_op}
-use Rattle.iso_model.specs.HashCalls.{Walked, AtCell, AtEnd, AtBroken, walk, spot_in, spare_in, with_cell, new_block, put_new, put_at, put_program, is_spent, is_alone, del_at, del_program, is_key, is_value}
+use Rattle.iso_model.specs.HashRegion.{Pairs, view_of, buckets, bucket_of, last_position, next_of, chain, hash_map, AreLinked, Stands, IsHashRegion, IsHashArea, put_op, del_op}
+use Rattle.iso_model.specs.HashCalls.{Walked, AtCell, AtEnd, AtBroken, walk, spot_in, spare_in, put_new, put_at, put_program, is_spent, is_alone, del_at, del_program, is_key, is_value}
 use Rattle.tx_blocks.proofs.Programs.{AreWhole, accesses_then, answer_then, own_reads, whole_reads, IsCorrect, local_from}
 use Rattle.tx_blocks.proofs.Progress.{own_append}
 use Rattle.iso_hash.proofs.Chains.{linked_split, placed, next_in, head_of}
-use Rattle.iso_hash.proofs.Dels.{HasRemoved, del_cell, del_block}
+use Rattle.iso_hash.proofs.Dels.{del_cell, del_block}
 use Rattle.iso_hash.proofs.Finding.{ties, cases_key}
 use Rattle.iso_hash.proofs.Frames.{length-part_of}
 use Rattle.iso_hash.proofs.Gets.{bucket_below, key_some, key_short, walk_is_reads, walk_found, walk_missed, found_stands, missed_nowhere, get_found, get_none}
@@ -34,7 +33,7 @@ use Rattle.iso_hash.proofs.Grown.{put_grown}
 use Rattle.iso_hash.proofs.Linking.{length-block_with}
 use Rattle.iso_hash.proofs.NewBlocks.{size_most, length-new_block}
 use Rattle.iso_hash.proofs.Puts.{HasPut, put_found, put_spare, length-with_cell, cells_fit}
-use Rattle.iso_hash.proofs.Ways.{Way, way, first_below, first_passes, cell_below, Found, Missed, IsSpare}
+use Rattle.iso_hash.proofs.Ways.{Way, way, first_below, first_passes, cell_below, Found, IsSpare}
 
 -- what is done after a walk is done on the same array
 module _ {X : Type 0} (a : Area) (key : List ℕ) (f : Walked → Program X) (A : Array) where
@@ -102,7 +101,7 @@ is_free a first k area e =
     record {
       low = omega arith;
       high = inside;
-      clear = ap (λ (x : ℕ). Rattle.std.specs.Int.bit_at x (k % 8) == 1) (sym (map_byte a first k inside)) ∙ elim (map_bit map k) as (λ t. not t ≡ true → t ≡ false) [ | true ↦ λ p. cc | false ↦ λ p. refl ] pass;
+      clear = ap (λ (x : ℕ). Rattle.std.specs.Int.bit_at x (k % 8) == 1) (sym (map_byte a first k inside)) ∙ elim (map_bit map k) as (λ t. not t ≡ true → t ≡ false) [ true ↦ λ p. cc | false ↦ λ p. refl ] pass;
     }
 
 -- a spare cell that a walk found
@@ -207,10 +206,13 @@ put_whole_new a key value A last place None area is short shape last_in place_in
 put_whole_new a key value A last place (Some k) area is short shape last_in place_in found =
     let free = is_free a (block_at A a.start) k area found in
     let most = size_most a area in
-    let below = bucket_below a key area in
-    (λ w. length-block_with a.size (bit_place k) (set_bit (get_or (bytes_in (map_mark a.blocks) (block_at A a.start)) (bit_place k) 0) k ∷ []) (omega (arith, free.high, area.most, area.least_size)) ∙ sym (first_size a A area shape),
-    (λ w. length-new_block a (bucket_of a key) (place + 1) key value area (omega (arith, area.most)) (omega (arith, area.most)) (key_short key is) (leb-true _ _ short) ∙ sym (shape k free.high),
-    (λ w. length-block_with a.size 0 (to_be_bytes w32 k) (omega (arith, area.least_size)) ∙ sym (shape last last_in), tt)))
+    let below = bucket_below a key area in (
+      λ w. length-block_with a.size (bit_place k) (set_bit (get_or (bytes_in (map_mark a.blocks) (block_at A a.start)) (bit_place k) 0) k ∷ []) (omega (arith, free.high, area.most, area.least_size)) ∙ sym (first_size a A area shape),
+      (
+        λ w. length-new_block a (bucket_of a key) (place + 1) key value area (omega (arith, area.most)) (omega (arith, area.most)) (key_short key is) (leb-true _ _ short) ∙ sym (shape k free.high),
+        (λ w. length-block_with a.size 0 (to_be_bytes w32 k) (omega (arith, area.least_size)) ∙ sym (shape last last_in), tt),
+      ),
+    )
 
 put_whole_at : (a : Area) (key value : List ℕ) (A : Array) (w : Walked) → IsHashArea a → is_key key ≡ true → is_value value ≡ true → HasBlocks a A → IsWithin a (last_position a + 1) w → AreWhole A (accesses_of (put_at a key value w) A)
 put_whole_at a key value A (AtCell s before ks v) area is short shape within =
@@ -272,7 +274,7 @@ module _ (a : Area) (key : List ℕ) (A : Array) (s : Spot) (before : ℕ) (ks v
 
   del_done_block : is_spent a s ks ≡ true
       → HasDeleted a key A (put (put A (store_access a.start (bit_mark s.block ∷ []) (block_with a.size (bit_place s.block) (clear_bit (get_or (bytes_in (map_mark a.blocks) (block_at A a.start)) (bit_place s.block) 0) s.block ∷ []))))
-        (store_access (a.start + before) (next_mark ∷ []) (replicate a.size 0))) true
+      (store_access (a.start + before) (next_mark ∷ []) (replicate a.size 0))) true
   del_done_block spent =
       let parts = and_parts _ _ spent in
       let first = and_parts _ _ parts.0 in
@@ -288,7 +290,7 @@ module _ (a : Area) (key : List ℕ) (A : Array) (s : Spot) (before : ℕ) (ks v
         | inr deep ↦
             (let none : deep.1.0 ≡ [] = no_more a (view_of a A).keys (bucket_of a key) deep.0 before s.block deep.1.0 (subst (λ (blocks : List ℕ). AreLinked a (view_of a A).keys (bucket_of a key) 0 blocks (1 + bucket_of a key) 0) deep.1.1 linked) last in
             let is = del_block a key A s before (clear_bit (get_or (bytes_in (map_mark a.blocks) (block_at A a.start)) (bit_place s.block) 0) s.block) deep.0 area region stands found.key_is past alone
-                (deep.1.1 ∙ ap (λ (ys : List ℕ). deep.0 ++ (before ∷ s.block ∷ ys)) none) (ap (λ (y : ℕ). clear_bit y s.block) (map_byte a (block_at A a.start) s.block inside)) in
+            (deep.1.1 ∙ ap (λ (ys : List ℕ). deep.0 ++ (before ∷ s.block ∷ ys)) none) (ap (λ (y : ℕ). clear_bit y s.block) (map_byte a (block_at A a.start) s.block inside)) in
             record { answer = there; region = is.region; map_is = is.map_is })
       ]
 
@@ -336,10 +338,13 @@ del_correct a key area is = record {
 del_whole_at : (a : Area) (A : Array) (w : Walked) → IsHashArea a → HasBlocks a A → IsWithin a (last_position a + 1) w → AreWhole A (accesses_of (del_at a w) A)
 del_whole_at a A (AtCell s before ks v) area shape within =
     elim (is_spent a s ks) as (λ t. AreWhole A (accesses_of (cond t (give_back_block a s before) (make_zero a s)) A)) [
-      | true ↦
-          (λ w. absurd (Rattle.std.proofs.lemmas.Bool.false≢true w),
-          (λ w. length-block_with a.size (bit_place s.block) (clear_bit (get_or (bytes_in (map_mark a.blocks) (block_at A a.start)) (bit_place s.block) 0) s.block ∷ []) (let inside = within.0 in omega (arith, area.most, area.least_size)) ∙ sym (first_size a A area shape),
-          (λ w. zeros_long a ∙ sym (shape before within.2), tt)))
+      | true ↦ (
+        λ w. absurd (Rattle.std.proofs.lemmas.Bool.false≢true w),
+        (
+          λ w. length-block_with a.size (bit_place s.block) (clear_bit (get_or (bytes_in (map_mark a.blocks) (block_at A a.start)) (bit_place s.block) 0) s.block ∷ []) (let inside = within.0 in omega (arith, area.most, area.least_size)) ∙ sym (first_size a A area shape),
+          (λ w. zeros_long a ∙ sym (shape before within.2), tt),
+        ),
+      )
       | false ↦ (λ w. zeros_long a ∙ sym (shape s.block within.0), tt)
     ]
 del_whole_at a A (AtEnd spare last place) area shape within = tt
@@ -351,4 +356,4 @@ pub del_local : (a : Area) (key : List ℕ) (A : Array) (r : Bool) → IsHashAre
 del_local a key A r area is shape answer =
     local_from (IsHashRegion a) (hash_map a) (del_op key) Ok (del_program a key) A r (del_correct a key area is)
     (subst (λ (p : Program (Result Bool StoreError)). AreWhole A (accesses_of p A)) (sym (del_is a key is))
-      (whole_after a key (del_at a) A (del_whole_at a A (answer_of (walk a key false) A) area shape (walk_within a key A (answer_of (walk a key false) A) area refl)))) answer
+    (whole_after a key (del_at a) A (del_whole_at a A (answer_of (walk a key false) A) area shape (walk_within a key A (answer_of (walk a key false) A) area refl)))) answer

@@ -1,20 +1,17 @@
 -- A removal of a cell, and one that gives its block back: the region stays well formed, and its map loses the key.
-use Rattle.std.proofs.Common.{◌≡◌, ◌≢◌, ◌⊎◌, ◌↔◌, ◌∙◌, sym, refl, ap, subst, ℕ, zero, suc, ◌+◌, ◌-◌, ◌*◌, ◌/◌, ◌<◌, ◌≤◌, Bool, true, false, ◌&&◌, ◌||◌, ◌==◌, not, cond, IsTrue, List, [], ◌∷◌, ◌++◌, length, get_or, take, replicate, Option, Some, None, arith, inl, inr, eq-eqb, ne_eqb, length-append, append_assoc}
+use Rattle.std.proofs.Common.{◌≡◌, ◌≢◌, ◌↔◌, ◌∙◌, sym, refl, ap, subst, ℕ, ◌+◌, ◌*◌, ◌<◌, ◌≤◌, true, false, ◌&&◌, ◌||◌, ◌==◌, not, IsTrue, List, [], ◌∷◌, ◌++◌, length, get_or, take, replicate, arith, inl, inr, eq-eqb, ne_eqb, length-append, append_assoc}
 use Rattle.std.specs.List.{list_all}
 use Rattle.std.specs.FinMap.{from_entries, remove}
 use Rattle.std.proofs.lemmas.Bool.{cases_eq, both_ways, and_parts, and_from, or_cases, eqb-true}
-use Rattle.std.proofs.lemmas.Bool.Decides.{nat_tests}
 use Rattle.std.proofs.lemmas.List.{length-replicate}
-use Rattle.iso_model.specs.declared.access.Access.{Access}
-use Rattle.iso_model.specs.declared.access.Span.{Span}
 use Rattle.iso_model.specs.declared.stores.Area.{Area}
 use Rattle.iso_model.specs.declared.stores.Spot.{Spot}
 use Rattle.iso_model.specs.Array.{Array, merged, put}
 use Rattle.iso_model.specs.Premises.{block_at}
 use Rattle.iso_model.specs.Stores.{bytes_in, store_access}
-use Rattle.iso_model.specs.Cells.{cell_count, keys_end, keys_mark, key_mark, value_mark, next_mark, word_at, is_zero, is_part, text_of, is_unused, key_at, block_with}
+use Rattle.iso_model.specs.Cells.{cell_count, keys_mark, key_mark, value_mark, next_mark, word_at, is_zero, is_part, text_of, is_unused, key_at, block_with}
 use Rattle.iso_model.specs.FreeMap.{map_bytes, bit_place, bit_mark, map_bit, clear_bit}
-use Rattle.iso_model.specs.HashRegion.{view_of, buckets, bucket_of, last_position, next_of, is_next, is_linked, chain_from, chain, all_pairs, hash_map, IsIn, AreLinked, Stands, IsOverflow, IsKeyed, HaveValues, IsHashRegion, IsHashArea}
+use Rattle.iso_model.specs.HashRegion.{view_of, buckets, bucket_of, last_position, next_of, is_linked, chain, hash_map, IsIn, AreLinked, Stands, IsOverflow, HaveValues, IsHashRegion, IsHashArea}
 use Rattle.iso_model.specs.HashCalls.{is_alone}
 use Rattle.iso_model.proofs.Bytes.{length-block_put, written_block, other_block}
 use Rattle.iso_alloc.proofs.Bits.{bits_without}
@@ -23,7 +20,7 @@ use Rattle.iso_hash.proofs.Chains.{placed, block_inside, one_bucket, linked_spli
 use Rattle.iso_hash.proofs.Frames.{zero_part, zeros_are, piece_zero}
 use Rattle.iso_hash.proofs.Linking.{chain_of, byte_here, byte_far, head_far, piece_far, key_far, next_here, relinked}
 use Rattle.iso_hash.proofs.Moves.{IsSame, Moves, StandsNowhere, map_removed, buckets_nowhere, apart_nowhere}
-use Rattle.iso_hash.proofs.Rewritten.{IsRewritten, rewrites, is_spot, chain_same, linked_kept, bits_kept, same_there, same_before, values_kept}
+use Rattle.iso_hash.proofs.Rewritten.{IsRewritten, rewrites, linked_kept, bits_kept, same_there, same_before, values_kept}
 
 -- what a removal leaves
 pub record HasRemoved (a : Area) (key : List ℕ) (A B : Array) : Type 0 where
@@ -214,9 +211,10 @@ module _ (a : Area) (key : List ℕ) (A : Array) (s : Spot) (before x : ℕ) (fr
     | inl same ↦
         (let short : IsIn k (front ++ (before ∷ [])) = subst (IsIn k) (ap (chain a (view_of a B).keys) same ∙ chain_b0) has in
         let whole : AreLinked a (view_of a A).keys b0 0 ((front ++ (before ∷ [])) ++ (s.block ∷ [])) (1 + b0) 0 =
-            subst (λ (blocks : List ℕ). AreLinked a (view_of a A).keys b0 0 blocks (1 + b0) 0) (sym (append_assoc front (before ∷ []) (s.block ∷ []))) whole_old in
-        (subst (λ (c : ℕ). IsIn k (chain a (view_of a A).keys c)) (sym same) (subst (IsIn k) (sym (blocks_are ∙ sym (append_assoc front (before ∷ []) (s.block ∷ [])))) (in_left k (front ++ (before ∷ [])) (s.block ∷ []) short)),
-        λ e. not_twice a (view_of a A).keys b0 0 (front ++ (before ∷ [])) (s.block ∷ []) (1 + b0) 0 k whole short (inl (sym e))))
+        subst (λ (blocks : List ℕ). AreLinked a (view_of a A).keys b0 0 blocks (1 + b0) 0) (sym (append_assoc front (before ∷ []) (s.block ∷ []))) whole_old in (
+          subst (λ (c : ℕ). IsIn k (chain a (view_of a A).keys c)) (sym same) (subst (IsIn k) (sym (blocks_are ∙ sym (append_assoc front (before ∷ []) (s.block ∷ [])))) (in_left k (front ++ (before ∷ [])) (s.block ∷ []) short)),
+          λ e. not_twice a (view_of a A).keys b0 0 (front ++ (before ∷ [])) (s.block ∷ []) (1 + b0) 0 k whole short (inl (sym e)),
+        ))
   ]
 
   still_in : (b k : ℕ) → b < buckets a → IsIn k (chain a (view_of a A).keys b) → k ≢ s.block → IsIn k (chain a (view_of a B).keys b)
@@ -226,7 +224,7 @@ module _ (a : Area) (key : List ℕ) (A : Array) (s : Spot) (before x : ℕ) (fr
         (let list : IsIn k ((front ++ (before ∷ [])) ++ (s.block ∷ [])) = subst (IsIn k) (ap (chain a (view_of a A).keys) same ∙ blocks_are ∙ sym (append_assoc front (before ∷ []) (s.block ∷ []))) has in
         subst (IsIn k) (sym (ap (chain a (view_of a B).keys) same ∙ chain_b0)) (elim (in_either k (front ++ (before ∷ [])) (s.block ∷ []) list) [
           | inl kept ↦ kept
-          | inr gone ↦ absurd (elim gone [ | inl e ↦ other (sym e) | inr none ↦ none ])
+          | inr gone ↦ absurd (elim gone [ inl e ↦ other (sym e) | inr none ↦ none ])
         ]))
   ]
 
@@ -255,19 +253,21 @@ module _ (a : Area) (key : List ℕ) (A : Array) (s : Spot) (before x : ℕ) (fr
   stood : (b k i : ℕ) → Stands a (view_of a B).keys b k i → IsSame a (view_of a B).keys (view_of a A).keys (view_of a B).value (view_of a A).value b k i × (k ≢ s.block)
   stood b k i there =
       let old = in_old b k there.bucket_is there.block_is in
-      let part = key_kept b k i there.bucket_is old.0 there.cell_is in
-      (record {
-        stands = record { bucket_is = there.bucket_is; block_is = old.0; cell_is = there.cell_is; used = ap (λ (p : List ℕ). get_or p 0 0 == 0) (sym part) ∙ there.used };
-        key_is = ap text_of (sym part);
-        value_is = sym (value_kept b k i there.bucket_is old.0);
-      }, old.1)
+      let part = key_kept b k i there.bucket_is old.0 there.cell_is in (
+        record {
+          stands = record { bucket_is = there.bucket_is; block_is = old.0; cell_is = there.cell_is; used = ap (λ (p : List ℕ). get_or p 0 0 == 0) (sym part) ∙ there.used };
+          key_is = ap text_of (sym part);
+          value_is = sym (value_kept b k i there.bucket_is old.0);
+        },
+        old.1,
+      )
 
   stays : (b k i : ℕ) → Stands a (view_of a A).keys b k i → key_at ((view_of a A).keys k) i ≢ key → IsSame a (view_of a A).keys (view_of a B).keys (view_of a A).value (view_of a B).value b k i
   stays b k i there other =
       let part = key_kept b k i there.bucket_is there.block_is there.cell_is in
       let apart : k ≢ s.block = λ e.
-          let cell : i ≡ s.cell = only_cell i there.cell_is (ap (λ (m : ℕ). is_unused ((view_of a A).keys m) i) (sym e) ∙ there.used) in
-          other (ap (λ (m : ℕ). key_at ((view_of a A).keys m) i) e ∙ ap (λ (j : ℕ). key_at ((view_of a A).keys s.block) j) cell ∙ key_is) in
+      let cell : i ≡ s.cell = only_cell i there.cell_is (ap (λ (m : ℕ). is_unused ((view_of a A).keys m) i) (sym e) ∙ there.used) in
+      other (ap (λ (m : ℕ). key_at ((view_of a A).keys m) i) e ∙ ap (λ (j : ℕ). key_at ((view_of a A).keys s.block) j) cell ∙ key_is) in
       record {
         stands = record { bucket_is = there.bucket_is; block_is = still_in b k there.bucket_is there.block_is apart; cell_is = there.cell_is; used = ap (λ (p : List ℕ). get_or p 0 0 == 0) part ∙ there.used };
         key_is = ap text_of part;
@@ -286,21 +286,22 @@ module _ (a : Area) (key : List ℕ) (A : Array) (s : Spot) (before x : ℕ) (fr
   new_bits k =
       ap (λ (m : List ℕ). map_bit m k) at_first
       ∙ bits_without (view_of a A).first (merged (bit_mark s.block ∷ []) 0 (block_at A a.start) (block_with (length (block_at A a.start)) (bit_place s.block) (x ∷ []))) s.block
-        (byte_here (block_at A a.start) s.block x bit_fits ∙ x_is) (byte_far (block_at A a.start) s.block x bit_fits) k
+      (byte_here (block_at A a.start) s.block x bit_fits ∙ x_is) (byte_far (block_at A a.start) s.block x bit_fits) k
 
   not_block : (k : ℕ) → not (k == s.block) ≡ true → k ≢ s.block
   not_block k is e = both_ways (not (k == s.block)) (ap not (eq-eqb k s.block e)) is
 
   bits : (k : ℕ) → k < 8 * map_bytes a.blocks → IsTrue (map_bit (view_of a B).first k) ↔ IsOverflow a (view_of a B).keys k
   bits k below =
-      let old = region.keyed.bits k below in
-      (λ set.
-        let parts = and_parts (not (k == s.block)) (map_bit (view_of a A).first k) (sym (new_bits k) ∙ set) in
-        let over = old.0 parts.1 in
-        record { bucket = over.bucket; below = over.below; linked = still_in over.bucket k over.below over.linked (not_block k parts.0); past = over.past },
-      λ over.
-        let was = in_old over.bucket k over.below over.linked in
-        new_bits k ∙ and_from _ _ (ap not (ne_eqb k s.block was.1)) (old.1 (record { bucket = over.bucket; below = over.below; linked = was.0; past = over.past })))
+      let old = region.keyed.bits k below in (
+        λ set.
+            let parts = and_parts (not (k == s.block)) (map_bit (view_of a A).first k) (sym (new_bits k) ∙ set) in
+            let over = old.0 parts.1 in
+            record { bucket = over.bucket; below = over.below; linked = still_in over.bucket k over.below over.linked (not_block k parts.0); past = over.past },
+        λ over.
+            let was = in_old over.bucket k over.below over.linked in
+            new_bits k ∙ and_from _ _ (ap not (ne_eqb k s.block was.1)) (old.1 (record { bucket = over.bucket; below = over.below; linked = was.0; past = over.past })),
+      )
 
   linked : (b : ℕ) → b < buckets a → AreLinked a (view_of a B).keys b 0 (chain a (view_of a B).keys b) (1 + b) 0
   linked b below = elim (cases_eq b b0) [

@@ -1,8 +1,8 @@
 -- What the look-up of a key finds among the pairs of cells, blocks and buckets.
-use Rattle.std.proofs.Common.{◌≡◌, ◌≢◌, ◌⊎◌, ◌∙◌, sym, refl, ap, subst, ℕ, zero, suc, ◌+◌, ◌<◌, ◌≤◌, Bool, true, false, ◌==◌, cond, List, [], ◌∷◌, ◌++◌, length, get_or, take, drop, Option, Some, None, arith, inl, inr}
+use Rattle.std.proofs.Common.{◌≡◌, ◌≢◌, ◌⊎◌, ◌∙◌, sym, refl, ap, subst, ℕ, zero, suc, ◌+◌, ◌<◌, ◌≤◌, Bool, true, false, ◌==◌, cond, List, [], ◌∷◌, ◌++◌, Option, Some, None, arith, inl, inr}
 use Rattle.std.specs.List.{flat_map, range_with_len}
 use Rattle.std.specs.Ordering.{nat_cmp, eq_by_cmp}
-use Rattle.std.specs.Cmp.Lexicographic.{slice_cmp, lists_ties, nat_list_cmp_total, nat_list_eq_equiv}
+use Rattle.std.specs.Cmp.Lexicographic.{slice_cmp, lists_ties, nat_list_cmp_total}
 use Rattle.std.specs.FinMap.{from_entries, get, get-from_entries, find}
 use Rattle.std.specs.Str.{bytes_eq}
 use Rattle.std.proofs.lemmas.Bool.{cases_eq, cases_Bool, false_from_ne_true}
@@ -10,9 +10,8 @@ use Rattle.std.proofs.lemmas.Bool.Decides.{nat_tests}
 use Rattle.std.proofs.lemmas.Slice.Eq.{bytes_eq-Decides}
 use Rattle.iso_model.specs.declared.stores.Area.{Area}
 use Rattle.iso_model.specs.Effect.{or_else}
-use Rattle.iso_model.specs.Stores.{bytes_in}
-use Rattle.iso_model.specs.Cells.{cell_count, key_mark, text_of, is_unused, key_at}
-use Rattle.iso_model.specs.HashRegion.{Pairs, buckets, chain, pairs_from, pairs_of, bucket_pairs, all_pairs, IsIn, Stands}
+use Rattle.iso_model.specs.Cells.{cell_count, text_of, is_unused, key_at}
+use Rattle.iso_model.specs.HashRegion.{buckets, chain, pairs_from, pairs_of, bucket_pairs, all_pairs, IsIn, Stands}
 
 nat_ties : (x y : ℕ) → (x == y) ≡ eq_by_cmp nat_cmp x y
 nat_ties x y = grind (arith, nat_tests)
@@ -58,7 +57,7 @@ seek_append : (q : List ℕ) (xs ys : List (List ℕ × List ℕ)) (Has Other : 
 seek_append q xs ys Has Other (inr some) second = inr (some.0, (find_append q xs ys ∙ ap (λ o. or_else o (found_in q ys)) some.1.0, inl some.1.1))
 seek_append q xs ys Has Other (inl none) (inr some) = inr (some.0, (find_append q xs ys ∙ ap (λ o. or_else o (found_in q ys)) none.0 ∙ some.1.0, inr some.1.1))
 seek_append q xs ys Has Other (inl none) (inl more) =
-    inl (find_append q xs ys ∙ ap (λ o. or_else o (found_in q ys)) none.0 ∙ more.0, λ v has. elim has [ | inl first ↦ none.1 v first | inr second ↦ more.1 v second ])
+    inl (find_append q xs ys ∙ ap (λ o. or_else o (found_in q ys)) none.0 ∙ more.0, λ v has. elim has [ inl first ↦ none.1 v first | inr second ↦ more.1 v second ])
 
 -- a used cell from i on, of n, that has the key and the value
 pub record CellHas (keys : List ℕ) (value : ℕ → List ℕ) (q : List ℕ) (i n : ℕ) (v : List ℕ) : Type 0 where
@@ -91,8 +90,8 @@ seek_cells q keys value i (suc n) =
           (λ v has. sooner keys value q i n v (λ used e. true_false (is_unused keys i) unused used) has) (seek_cells q keys value (i + 1) n)
       | false ↦ λ used.
           elim (eq_by_cmp (slice_cmp nat_cmp) q (key_at keys i)) as (λ t. eq_by_cmp (slice_cmp nat_cmp) q (key_at keys i) ≡ t
-              → ((cond t (Some (text_of (value i))) (found_in q (pairs_from keys value (i + 1) n)) ≡ None) × ((v : List ℕ) → CellHas keys value q i (suc n) v → ⊥))
-              ⊎ ((v : List ℕ) × ((cond t (Some (text_of (value i))) (found_in q (pairs_from keys value (i + 1) n)) ≡ Some v) × CellHas keys value q i (suc n) v))) [
+          → ((cond t (Some (text_of (value i))) (found_in q (pairs_from keys value (i + 1) n)) ≡ None) × ((v : List ℕ) → CellHas keys value q i (suc n) v → ⊥))
+          ⊎ ((v : List ℕ) × ((cond t (Some (text_of (value i))) (found_in q (pairs_from keys value (i + 1) n)) ≡ Some v) × CellHas keys value q i (suc n) v))) [
             | true ↦ λ tie.
                 inr (text_of (value i), (refl, record { cell = i; low = omega arith; high = omega arith; used = used; key_is = sym (bytes_same q (key_at keys i) (sym (ties q (key_at keys i)) ∙ tie)); text = refl }))
             | false ↦ λ tie.

@@ -1,18 +1,16 @@
 -- What a marked write leaves of the bytes in a span.
-use Rattle.std.proofs.Common.{◌≡◌, ◌≢◌, ◌⊎◌, ◌∙◌, sym, refl, ap, subst, ℕ, zero, suc, ◌+◌, ◌-◌, ◌*◌, ◌/◌, ◌<◌, ◌≤◌, Bool, true, false, ◌&&◌, ◌||◌, ◌==◌, cond, IsTrue, List, [], ◌∷◌, ◌++◌, length, get_or, take, drop, replicate, arith, zero-add, inl, inr, nat_le}
-use Rattle.std.specs.List.{list_any, list_all}
-use Rattle.std.proofs.lemmas.Bool.{cases_eq, cases_lt, and_parts, and_from, cases_Bool}
+use Rattle.std.proofs.Common.{◌≡◌, ◌⊎◌, ◌∙◌, sym, refl, ap, ℕ, zero, suc, ◌+◌, ◌-◌, ◌≤◌, true, false, cond, List, [], ◌∷◌, ◌++◌, length, get_or, take, drop, replicate, arith, zero-add, inl, inr, nat_le}
+use Rattle.std.specs.List.{list_all}
+use Rattle.std.proofs.lemmas.Bool.{cases_lt}
 use Rattle.std.proofs.lemmas.Bool.Decides.{nat_tests}
-use Rattle.std.proofs.lemmas.List.{ext_get_or, get_or_past, get_or-take, get_or-drop, get_or_append_left, get_or-append-add, length-append, length-replicate, length-take, length-take-le, length-drop, take-take, drop-take, take_at, drop_at, drop-replicate, take-replicate, append-nil}
-use Rattle.iso_model.specs.declared.access.Access.{Access}
+use Rattle.std.proofs.lemmas.List.{ext_get_or, get_or_past, get_or-take, get_or-drop, get_or_append_left, get_or-append-add, length-append, length-replicate, length-take-le, take-take, drop-take, take_at, drop_at, drop-replicate, take-replicate}
 use Rattle.iso_model.specs.declared.access.Span.{Span}
-use Rattle.iso_model.specs.Array.{Array, covered, in_span, merged, put}
-use Rattle.iso_model.specs.Premises.{block_at}
+use Rattle.iso_model.specs.Array.{covered, in_span, merged}
 use Rattle.iso_model.specs.Stores.{bytes_in}
-use Rattle.iso_model.specs.Cells.{is_zero, is_part, text_of, part_of, laid_at, block_with}
-use Rattle.iso_model.proofs.Bytes.{length-merged, merged_at, merged_kept, written_block, other_block}
+use Rattle.iso_model.specs.Cells.{is_zero, is_part, text_of, part_of, laid_at}
+use Rattle.iso_model.proofs.Bytes.{length-merged, merged_at, merged_kept}
 use Rattle.tx_blocks.proofs.Programs.{same_bytes}
-use Rattle.iso_alloc.proofs.Laying.{length-laid_at, laid_here}
+use Rattle.iso_alloc.proofs.Laying.{length-laid_at}
 
 -- spans that stand apart
 abbrev pub AreApart : Span → Span → Type 0
@@ -55,7 +53,7 @@ laid_kept span at bytes block fits apart = same_bytes span block (laid_at at byt
       | inl before ↦
           get_or_append_left (take at block) (bytes ++ drop (at + length bytes) block) 0 p (omega arith) ∙ get_or-take at block p 0 before
       | inr past ↦
-          (let far : at + length bytes ≤ p = elim apart [ | inl low ↦ absurd (grind (arith, nat_tests)) | inr high ↦ grind (arith, nat_tests) ] in
+          (let far : at + length bytes ≤ p = elim apart [ inl low ↦ absurd (grind (arith, nat_tests)) | inr high ↦ grind (arith, nat_tests) ] in
           let k : ℕ = p - (at + length bytes) in
           let one : p ≡ length (take at block) + (length bytes + k) = omega arith in
           let two : at + length bytes + k ≡ p = omega arith in

@@ -1,5 +1,5 @@
 -- What a get answers where its walk ends.
-use Rattle.std.proofs.Common.{◌≡◌, ◌≢◌, ◌∙◌, sym, refl, ap, subst, ℕ, ◌+◌, ◌*◌, ◌<◌, ◌≤◌, Bool, true, false, cond, List, [], ◌∷◌, length, take, drop, Option, Some, None, Result, Ok, Err, arith}
+use Rattle.std.proofs.Common.{◌≡◌, ◌≢◌, ◌∙◌, refl, ap, subst, ℕ, ◌+◌, ◌*◌, Bool, true, false, cond, List, [], take, drop, Option, Some, None, Result, Ok, Err}
 use Rattle.iso_model.specs.declared.access.Access.{Access}
 use Rattle.iso_model.specs.declared.stores.Area.{Area}
 use Rattle.iso_model.specs.declared.stores.Spot.{Spot}
@@ -10,8 +10,8 @@ use Rattle.iso_model.specs.Cells.{value_mark, keys_end, is_part, text_of}
 use Rattle.iso_model.specs.HashCalls as hash
 use Rattle.iso_model.specs.HashCalls.{get_program, got, walk, is_key}
 use Rattle.iso_model.specs.HashRegion.{IsHashArea, IsHashRegion, hash_map, get_op}
-use Rattle.iso_model.specs.Stores.{Done, then_do, bytes_in, IsLocal, accesses_of}
-use Rattle.tx_blocks.specs.Tx.{Tx, added}
+use Rattle.iso_model.specs.Stores.{Done, then_do, bytes_in, IsLocal}
+use Rattle.tx_blocks.specs.Tx.{Tx}
 use Rattle.tx_blocks.specs.Runs.{Ran, HasEnded, IsLocalCall}
 use Rattle.tx_blocks.proofs.Progress.{ran_at, at_start, at_then, whole_run}
 use Rattle.tx_blocks.proofs.Refusals.{cut_then}

@@ -1,26 +1,23 @@
 -- A put into a new block behind the last one of a chain: the region stays well formed, and its map gets the value.
-use Rattle.std.proofs.Common.{◌≡◌, ◌≢◌, ◌⊎◌, ◌↔◌, ◌∙◌, sym, refl, ap, subst, ℕ, zero, suc, ◌+◌, ◌-◌, ◌*◌, ◌/◌, ◌^◌, ◌<◌, ◌≤◌, Bool, true, false, ◌&&◌, ◌||◌, ◌==◌, not, cond, nat_eq, nat_le, nat_lt, IsTrue, List, [], ◌∷◌, ◌++◌, length, get_or, take, replicate, Option, Some, None, arith, inl, inr, eq-eqb, ne_eqb, length-append}
+use Rattle.std.proofs.Common.{◌≡◌, ◌≢◌, ◌⊎◌, ◌↔◌, ◌∙◌, sym, refl, ap, subst, ℕ, ◌+◌, ◌*◌, ◌^◌, ◌<◌, ◌≤◌, true, false, ◌||◌, ◌==◌, not, nat_eq, nat_le, nat_lt, IsTrue, List, [], ◌∷◌, ◌++◌, length, get_or, take, Option, arith, inl, inr, eq-eqb, ne_eqb, length-append}
 use Rattle.std.specs.Int.{w32, to_be_bytes}
 use Rattle.std.specs.List.{list_all, AllByRecursion, IsDistinct}
 use Rattle.std.specs.FinMap.{from_entries, insert}
 use Rattle.std.proofs.lemmas.Bool.{cases_eq, both_ways, and_from, or_left, or_right, or_cases, eqb-true}
 use Rattle.std.proofs.lemmas.Bool.Decides.{nat_tests}
-use Rattle.std.proofs.lemmas.List.{length-replicate}
 use Rattle.std.proofs.lemmas.Nat.{from_be_bytes-to_be_bytes_4}
-use Rattle.iso_model.specs.declared.access.Access.{Access}
-use Rattle.iso_model.specs.declared.access.Span.{Span}
 use Rattle.iso_model.specs.declared.stores.Area.{Area}
 use Rattle.iso_model.specs.declared.stores.Spot.{Spot}
 use Rattle.iso_model.specs.Array.{Array, merged, put}
 use Rattle.iso_model.specs.Premises.{block_at}
 use Rattle.iso_model.specs.Stores.{bytes_in, store_access}
-use Rattle.iso_model.specs.Cells.{cell_count, keys_end, keys_mark, key_mark, value_mark, next_mark, word_at, is_zero, is_part, text_of, key_part, value_part, is_unused, key_at, block_with}
+use Rattle.iso_model.specs.Cells.{cell_count, keys_mark, key_mark, value_mark, next_mark, word_at, is_zero, is_part, text_of, key_part, value_part, is_unused, key_at, block_with}
 use Rattle.iso_model.specs.FreeMap.{map_bytes, bit_place, bit_mark, map_bit, set_bit}
-use Rattle.iso_model.specs.HashRegion.{view_of, buckets, bucket_of, last_position, next_of, is_next, is_linked, chain_from, chain, all_pairs, hash_map, IsIn, AreLinked, Stands, IsOverflow, IsKeyed, HaveValues, IsHashRegion, IsHashArea}
+use Rattle.iso_model.specs.HashRegion.{view_of, buckets, bucket_of, last_position, next_of, is_next, is_linked, chain, hash_map, IsIn, AreLinked, Stands, IsOverflow, HaveValues, IsHashRegion, IsHashArea}
 use Rattle.iso_model.specs.HashCalls.{new_block}
 use Rattle.iso_model.proofs.Bytes.{length-block_put, written_block, other_block}
 use Rattle.iso_alloc.proofs.Bits.{bits_with}
-use Rattle.iso_hash.proofs.Chains.{Placed, placed, block_inside, one_bucket, linked_split, linked_join, linked_alike, LinkedAlike, length-chain_from, in_left, in_right, in_either, not_twice, all_in, distinct, next_in, head_of}
+use Rattle.iso_hash.proofs.Chains.{placed, block_inside, one_bucket, linked_split, linked_join, linked_alike, LinkedAlike, length-chain_from, in_left, in_right, in_either, not_twice, all_in, distinct, next_in, head_of}
 use Rattle.iso_hash.proofs.Frames.{laid_whole, part_is_part, part_text, zero_part, zeros_are}
 use Rattle.iso_hash.proofs.Gets.{bucket_below}
 use Rattle.iso_hash.proofs.Linking.{chain_of, byte_here, byte_far, head_far, piece_far, key_far, next_here, relinked, length-block_with, in_block_with}
@@ -37,16 +34,16 @@ room_left a keys b new (f ∷ rest) area linked low high others =
     let lp = last_position a in
     let next = (head_of a b 0 (keys f) linked.2).next_is in
     let range : (k : ℕ) → IsIn k rest → (buckets a + 1 ≤ k) × (k < buckets a + 1 + lp) = λ k has.
-        let p = placed a keys b (0 + 1) rest (next_of (keys f)) 0 k linked.3 has in
-        elim (cases_eq p.place (0 + 1)) [
-          | inl here ↦
-              (let e = p.head here in
-              let is = next_in a 0 (next_of (keys f)) next (λ none. absurd (omega (arith, p.some))) in
-              (omega (arith, is.past), omega (arith, is.inside, area.least)))
-          | inr later ↦ (let is = p.past (omega (arith, p.low)) in (omega (arith, is.0), omega (arith, is.1, area.least)))
-        ] in
+    let p = placed a keys b (0 + 1) rest (next_of (keys f)) 0 k linked.3 has in
+    elim (cases_eq p.place (0 + 1)) [
+      | inl here ↦
+          (let e = p.head here in
+          let is = next_in a 0 (next_of (keys f)) next (λ none. absurd (omega (arith, p.some))) in
+          (omega (arith, is.past), omega (arith, is.inside, area.least)))
+      | inr later ↦ (let is = p.past (omega (arith, p.low)) in (omega (arith, is.0), omega (arith, is.1, area.least)))
+    ] in
     let few = fewer (buckets a + 1) lp new rest (distinct a keys b (0 + 1) rest (next_of (keys f)) 0 linked.3) (all_in (λ k. (buckets a + 1 ≤ k) × (k < buckets a + 1 + lp)) rest range)
-        (all_in (λ y. nat_eq new y ≡ false) rest (λ y has. ne_eqb new y (λ e. others y (inr has) (sym e)))) (omega arith) (omega (arith, area.least)) in
+    (all_in (λ y. nat_eq new y ≡ false) rest (λ y has. ne_eqb new y (λ e. others y (inr has) (sym e)))) (omega arith) (omega (arith, area.least)) in
     omega (arith, few)
 
 module _ (a : Area) (key value : List ℕ) (A : Array) (last place new x : ℕ) (free spare : Option Spot) (area : IsHashArea a) (region : IsHashRegion a A)
@@ -141,14 +138,14 @@ module _ (a : Area) (key value : List ℕ) (A : Array) (last place new x : ℕ) 
       other_block A2 (store_access (a.start + last) (next_mark ∷ []) bytes3) (a.start + new) (λ e. absurd (last_new (omega arith)))
       ∙ written_block A1 (store_access (a.start + new) [] bytes2)
       ∙ laid_whole (block_at A1 (a.start + new)) bytes2
-        (length-new_block a b0 (place + 1) key value area b0_fits place_fits key_short short ∙ sym (length-block_put A (store_access a.start (bit_mark new ∷ []) bytes1) (a.start + new) ∙ region.shape new high))
+      (length-new_block a b0 (place + 1) key value area b0_fits place_fits key_short short ∙ sym (length-block_put A (store_access a.start (bit_mark new ∷ []) bytes1) (a.start + new) ∙ region.shape new high))
 
   at_last : block_at B (a.start + last) ≡ merged (next_mark ∷ []) 0 (block_at A (a.start + last)) bytes3
   at_last =
       written_block A2 (store_access (a.start + last) (next_mark ∷ []) bytes3)
       ∙ ap (λ (old : List ℕ). merged (next_mark ∷ []) 0 old bytes3)
-        (other_block A1 (store_access (a.start + new) [] bytes2) (a.start + last) (λ e. absurd (last_new (omega arith)))
-        ∙ other_block A (store_access a.start (bit_mark new ∷ []) bytes1) (a.start + last) (λ e. absurd (omega (arith, last_some))))
+      (other_block A1 (store_access (a.start + new) [] bytes2) (a.start + last) (λ e. absurd (last_new (omega arith)))
+      ∙ other_block A (store_access a.start (bit_mark new ∷ []) bytes1) (a.start + last) (λ e. absurd (omega (arith, last_some))))
 
   long3 : length bytes3 ≡ length (block_at A (a.start + last))
   long3 = length-block_with a.size 0 (to_be_bytes w32 new) (omega (arith, area.least_size)) ∙ sym (region.shape last last_in)
@@ -217,9 +214,9 @@ module _ (a : Area) (key value : List ℕ) (A : Array) (last place new x : ℕ) 
   in_list k has = elim (in_either k missed.front (last ∷ new ∷ []) has) [
     | inl front ↦ inl (in_front k front)
     | inr tail ↦ elim tail [
-        | inl e ↦ inl (subst (λ (m : ℕ). IsIn m (chain a (view_of a A).keys b0)) e has_last)
-        | inr more ↦ elim more [ | inl e ↦ inr (sym e) | inr none ↦ absurd none ]
-      ]
+      | inl e ↦ inl (subst (λ (m : ℕ). IsIn m (chain a (view_of a A).keys b0)) e has_last)
+      | inr more ↦ elim more [ inl e ↦ inr (sym e) | inr none ↦ absurd none ]
+    ]
   ]
 
   -- where a block stands after the writes
@@ -227,15 +224,15 @@ module _ (a : Area) (key value : List ℕ) (A : Array) (last place new x : ℕ) 
   in_new b k below has = elim (cases_eq b b0) [
     | inr other ↦ inl (subst (IsIn k) (chain_other b below other) has)
     | inl same ↦ elim (in_list k (subst (IsIn k) (ap (chain a (view_of a B).keys) same ∙ chain_b0) has)) [
-        | inl old ↦ inl (subst (λ (c : ℕ). IsIn k (chain a (view_of a A).keys c)) (sym same) old)
-        | inr fresh ↦ inr (same, fresh)
-      ]
+      | inl old ↦ inl (subst (λ (c : ℕ). IsIn k (chain a (view_of a A).keys c)) (sym same) old)
+      | inr fresh ↦ inr (same, fresh)
+    ]
   ]
 
   to_list : (k : ℕ) → IsIn k (missed.front ++ last ∷ []) → IsIn k (missed.front ++ (last ∷ new ∷ []))
   to_list k has = elim (in_either k missed.front (last ∷ []) has) [
     | inl front ↦ in_left k missed.front (last ∷ new ∷ []) front
-    | inr tail ↦ in_right k missed.front (last ∷ new ∷ []) (elim tail [ | inl e ↦ inl e | inr none ↦ absurd none ])
+    | inr tail ↦ in_right k missed.front (last ∷ new ∷ []) (elim tail [ inl e ↦ inl e | inr none ↦ absurd none ])
   ]
 
   in_old : (b k : ℕ) → b < buckets a → IsIn k (chain a (view_of a A).keys b) → IsIn k (chain a (view_of a B).keys b)
@@ -292,9 +289,9 @@ module _ (a : Area) (key value : List ℕ) (A : Array) (last place new x : ℕ) 
           value_is = sym (value_kept b k i stands.bucket_is old);
         }))
     | inr fresh ↦ elim (cases_eq i 0) [
-        | inl first ↦ inr (fresh.0, (fresh.1, first))
-        | inr other ↦ absurd (both_ways (is_unused ((view_of a B).keys new) i) (sym (ap (λ (m : ℕ). is_unused ((view_of a B).keys m) i) fresh.1) ∙ stands.used) (unused_here i stands.cell_is other))
-      ]
+      | inl first ↦ inr (fresh.0, (fresh.1, first))
+      | inr other ↦ absurd (both_ways (is_unused ((view_of a B).keys new) i) (sym (ap (λ (m : ℕ). is_unused ((view_of a B).keys m) i) fresh.1) ∙ stands.used) (unused_here i stands.cell_is other))
+    ]
   ]
 
   key_new : key_at ((view_of a B).keys new) 0 ≡ key
@@ -306,7 +303,7 @@ module _ (a : Area) (key value : List ℕ) (A : Array) (last place new x : ℕ) 
   moves : Moves a (view_of a A).keys (view_of a B).keys (view_of a A).value (view_of a B).value key
   moves = record {
     kept = λ b k i stands other. same_after b k i stands;
-    old = λ b k i stands other. elim (stood b k i stands) [ | inl was ↦ was | inr fresh ↦ absurd (other (is_key_at k i fresh.1.0 fresh.1.1)) ];
+    old = λ b k i stands other. elim (stood b k i stands) [ inl was ↦ was | inr fresh ↦ absurd (other (is_key_at k i fresh.1.0 fresh.1.1)) ];
   }
 
   abbrev at : Spot
@@ -316,26 +313,27 @@ module _ (a : Area) (key value : List ℕ) (A : Array) (last place new x : ℕ) 
   stands_at = record {
     here = record { bucket_is = b0_below; block_is = new_in; cell_is = cells_some; used = new_used ((view_of a B).keys new) key 0 key_some key_here };
     key_is = key_new;
-    only = λ b k i stands e. elim (stood b k i stands) [ | inl was ↦ absurd (nowhere b k i was.stands (was.key_is ∙ e)) | inr fresh ↦ fresh ];
+    only = λ b k i stands e. elim (stood b k i stands) [ inl was ↦ absurd (nowhere b k i was.stands (was.key_is ∙ e)) | inr fresh ↦ fresh ];
   }
 
   new_bits : (k : ℕ) → map_bit (view_of a B).first k ≡ ((k == new) || map_bit (view_of a A).first k)
   new_bits k =
       ap (λ (m : List ℕ). map_bit m k) at_first
       ∙ bits_with (view_of a A).first (merged (bit_mark new ∷ []) 0 (block_at A a.start) (block_with (length (block_at A a.start)) (bit_place new) (x ∷ []))) new
-        (byte_here (block_at A a.start) new x bit_fits ∙ x_is) (byte_far (block_at A a.start) new x bit_fits) k
+      (byte_here (block_at A a.start) new x bit_fits ∙ x_is) (byte_far (block_at A a.start) new x bit_fits) k
 
   bits : (k : ℕ) → k < 8 * map_bytes a.blocks → IsTrue (map_bit (view_of a B).first k) ↔ IsOverflow a (view_of a B).keys k
   bits k below =
-      let old = region.keyed.bits k below in
-      (λ set. elim (or_cases (k == new) (map_bit (view_of a A).first k) (sym (new_bits k) ∙ set)) [
-        | inl is ↦ subst (IsOverflow a (view_of a B).keys) (sym (eqb-true k new is)) (record { bucket = b0; below = b0_below; linked = new_in; past = low })
-        | inr was ↦ (let over = old.0 was in record { bucket = over.bucket; below = over.below; linked = in_old over.bucket k over.below over.linked; past = over.past })
-      ],
-      λ over. new_bits k ∙ elim (in_new over.bucket k over.below over.linked) [
-        | inl has ↦ or_right (k == new) _ (old.1 (record { bucket = over.bucket; below = over.below; linked = has; past = over.past }))
-        | inr fresh ↦ or_left (k == new) _ (eq-eqb k new fresh.1)
-      ])
+      let old = region.keyed.bits k below in (
+        λ set. elim (or_cases (k == new) (map_bit (view_of a A).first k) (sym (new_bits k) ∙ set)) [
+          | inl is ↦ subst (IsOverflow a (view_of a B).keys) (sym (eqb-true k new is)) (record { bucket = b0; below = b0_below; linked = new_in; past = low })
+          | inr was ↦ (let over = old.0 was in record { bucket = over.bucket; below = over.below; linked = in_old over.bucket k over.below over.linked; past = over.past })
+        ],
+        λ over. new_bits k ∙ elim (in_new over.bucket k over.below over.linked) [
+          | inl has ↦ or_right (k == new) _ (old.1 (record { bucket = over.bucket; below = over.below; linked = has; past = over.past }))
+          | inr fresh ↦ or_left (k == new) _ (eq-eqb k new fresh.1)
+        ],
+      )
 
   linked : (b : ℕ) → b < buckets a → AreLinked a (view_of a B).keys b 0 (chain a (view_of a B).keys b) (1 + b) 0
   linked b below = elim (cases_eq b b0) [

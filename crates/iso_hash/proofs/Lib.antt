@@ -15,3 +15,4 @@ pub mod Grown
 pub mod Dels
 pub mod Changes
 pub mod Storing
+pub mod Kept

@@ -1,19 +1,18 @@
 -- A block whose next number is written, and a block 0 of which one byte of the map is.
-use Rattle.std.proofs.Common.{◌≡◌, ◌≢◌, ◌⊎◌, ◌∙◌, sym, refl, ap, subst, ℕ, zero, suc, ◌+◌, ◌-◌, ◌*◌, ◌/◌, ◌<◌, ◌≤◌, Bool, true, false, ◌||◌, ◌==◌, cond, List, [], ◌∷◌, ◌++◌, length, get_or, take, drop, replicate, arith, inl, inr, length-append}
+use Rattle.std.proofs.Common.{◌≡◌, ◌≢◌, ◌∙◌, sym, refl, ap, ℕ, ◌+◌, ◌/◌, ◌<◌, ◌≤◌, true, false, List, [], ◌∷◌, ◌++◌, length, get_or, take, drop, replicate, arith, inl, inr}
 use Rattle.std.specs.List.{AllByRecursion}
-use Rattle.std.proofs.lemmas.Bool.{cases_eq, cases_lt, or_left}
-use Rattle.std.proofs.lemmas.Bool.Decides.{nat_tests}
+use Rattle.std.proofs.lemmas.Bool.{cases_lt, or_left}
 use Rattle.std.proofs.lemmas.List.{get_or-take, get_or-drop, length-replicate}
 use Rattle.iso_model.specs.declared.access.Span.{Span}
 use Rattle.iso_model.specs.declared.stores.Area.{Area}
-use Rattle.iso_model.specs.Array.{covered, in_span, merged}
+use Rattle.iso_model.specs.Array.{merged}
 use Rattle.iso_model.specs.Stores.{bytes_in}
-use Rattle.iso_model.specs.Cells.{cell_count, keys_end, keys_mark, key_mark, value_mark, next_mark, word_at, is_part, are_key_parts, laid_at, block_with}
-use Rattle.iso_model.specs.FreeMap.{bit_place, bit_mark, map_bit, set_bit, clear_bit}
-use Rattle.iso_model.specs.HashRegion.{buckets, last_position, next_of, is_next, is_linked, chain_from, chain, IsIn, AreLinked}
+use Rattle.iso_model.specs.Cells.{cell_count, keys_end, keys_mark, key_mark, next_mark, word_at, is_part, block_with}
+use Rattle.iso_model.specs.FreeMap.{bit_place, bit_mark}
+use Rattle.iso_model.specs.HashRegion.{last_position, next_of, is_next, is_linked, chain_from, chain, AreLinked}
 use Rattle.iso_alloc.proofs.Laying.{length-laid_at, laid_here}
 use Rattle.iso_alloc.proofs.Loops.{all_at}
-use Rattle.iso_hash.proofs.Chains.{chain_is, head_of, IsHead}
+use Rattle.iso_hash.proofs.Chains.{chain_is, head_of}
 use Rattle.iso_hash.proofs.Frames.{kept_1, laid_all, piece_of}
 use Rattle.iso_hash.proofs.Rewritten.{all_pass, linked_again}
 
@@ -27,7 +26,7 @@ chain_of a keys b (k ∷ rest) linked fits =
 pub byte_of : (p : ℕ) (x y : List ℕ) → bytes_in (record { off = p; len = 1 }) x ≡ bytes_in (record { off = p; len = 1 }) y → get_or x p 0 ≡ get_or y p 0
 byte_of p x y same =
     let one : (z : List ℕ) → get_or (bytes_in (record { off = p; len = 1 }) z) 0 0 ≡ get_or z p 0 =
-        λ z. get_or-take 1 (drop p z) 0 0 (omega arith) ∙ get_or-drop p z 0 0 ∙ ap (λ (n : ℕ). get_or z n 0) (let e : p + 0 ≡ p = omega arith in e) in
+    λ z. get_or-take 1 (drop p z) 0 0 (omega arith) ∙ get_or-drop p z 0 0 ∙ ap (λ (n : ℕ). get_or z n 0) (let e : p + 0 ≡ p = omega arith in e) in
     sym (one x) ∙ ap (λ (z : List ℕ). get_or z 0 0) same ∙ one y
 
 pub length-block_with : (size at : ℕ) (bytes : List ℕ) → at + length bytes ≤ size → length (block_with size at bytes) ≡ size
@@ -53,7 +52,7 @@ module _ (old : List ℕ) (n x : ℕ) (fits : bit_place n + 1 ≤ length old) wh
   pub byte_far : (k : ℕ) → k / 8 ≢ n / 8 → get_or (merged (bit_mark n ∷ []) 0 old (block_with (length old) (bit_place n) (x ∷ []))) (bit_place k) 0 ≡ get_or old (bit_place k) 0
   byte_far k apart =
       byte_of (bit_place k) (merged (bit_mark n ∷ []) 0 old (block_with (length old) (bit_place n) (x ∷ []))) old
-      (kept_1 (record { off = bit_place k; len = 1 }) (bit_mark n) old (block_with (length old) (bit_place n) (x ∷ [])) (elim (cases_lt (k / 8) (n / 8)) [ | inl before ↦ inl (omega arith) | inr past ↦ inr (omega arith) ]))
+      (kept_1 (record { off = bit_place k; len = 1 }) (bit_mark n) old (block_with (length old) (bit_place n) (x ∷ [])) (elim (cases_lt (k / 8) (n / 8)) [ inl before ↦ inl (omega arith) | inr past ↦ inr (omega arith) ]))
 
   pub head_far : take 64 (merged (bit_mark n ∷ []) 0 old (block_with (length old) (bit_place n) (x ∷ []))) ≡ take 64 old
   head_far = kept_1 (record { off = 0; len = 64 }) (bit_mark n) old (block_with (length old) (bit_place n) (x ∷ [])) (inl (omega arith))

@@ -1,15 +1,14 @@
 -- A change of the cells of a region: its keys stay apart, and its map has one key changed.
-use Rattle.std.proofs.Common.{◌≡◌, ◌≢◌, ◌⊎◌, ◌∙◌, sym, refl, ap, subst, ℕ, ◌+◌, ◌<◌, ◌≤◌, Bool, true, false, cond, List, Option, Some, None, inl, inr}
+use Rattle.std.proofs.Common.{◌≡◌, ◌≢◌, ◌∙◌, sym, refl, ap, ℕ, true, false, cond, List, Some, None, inl, inr}
 use Rattle.std.specs.Ordering.{nat_cmp, eq_by_cmp}
 use Rattle.std.specs.Cmp.Lexicographic.{slice_cmp, nat_list_cmp_total}
 use Rattle.std.specs.FinMap.{from_entries, get, insert, remove, get-insert, get-remove, same_map, slice_cmp-IsAntisymmetric, nat_cmp-IsAntisymmetric}
-use Rattle.std.specs.Str.{bytes_eq}
 use Rattle.std.proofs.lemmas.Slice.Eq.{bytes_eq-Decides}
 use Rattle.iso_model.specs.declared.stores.Area.{Area}
 use Rattle.iso_model.specs.declared.stores.Spot.{Spot}
 use Rattle.iso_model.specs.Cells.{text_of, key_at}
 use Rattle.iso_model.specs.HashRegion.{Pairs, bucket_of, all_pairs, Stands}
-use Rattle.iso_hash.proofs.Finding.{ties, bytes_other, cases_key, found_in, Holds, seek, AreApart, finds_it, finds_none, map_gets}
+use Rattle.iso_hash.proofs.Finding.{ties, bytes_other, cases_key, found_in, seek, AreApart, finds_it, finds_none, map_gets}
 
 -- the cell stands in another region too, with the same key and value
 pub record IsSame (a : Area) (keys new : ℕ → List ℕ) (value given : ℕ → ℕ → List ℕ) (b k i : ℕ) : Type 0 where

@@ -1,5 +1,5 @@
 -- What stands in a new block of a bucket.
-use Rattle.std.proofs.Common.{◌≡◌, ◌≢◌, ◌⊎◌, ◌∙◌, sym, refl, ap, subst, ℕ, zero, suc, ◌+◌, ◌-◌, ◌*◌, ◌/◌, ◌^◌, ◌<◌, ◌≤◌, Bool, true, false, ◌==◌, cond, IsTrue, List, [], ◌∷◌, ◌++◌, length, take, replicate, arith, inl, inr, eq-eqb, ne_eqb}
+use Rattle.std.proofs.Common.{◌≡◌, ◌≢◌, ◌⊎◌, ◌∙◌, sym, refl, ap, ℕ, ◌+◌, ◌*◌, ◌^◌, ◌<◌, ◌≤◌, true, false, ◌==◌, cond, List, length, replicate, arith, inl, inr, eq-eqb}
 use Rattle.std.specs.Int.{w32, to_be_bytes, from_be_bytes}
 use Rattle.std.specs.List.{list_all}
 use Rattle.std.proofs.lemmas.Bool.{cases_eq, and_from}
@@ -8,13 +8,12 @@ use Rattle.std.proofs.lemmas.List.{length-replicate}
 use Rattle.std.proofs.lemmas.Nat.{from_be_bytes-to_be_bytes_4}
 use Rattle.iso_model.specs.declared.access.Span.{Span}
 use Rattle.iso_model.specs.declared.stores.Area.{Area}
-use Rattle.iso_model.specs.Geometry.{is_block_size}
 use Rattle.iso_model.specs.Stores.{bytes_in}
 use Rattle.iso_model.specs.Cells.{cell_count, keys_end, keys_mark, key_mark, value_mark, word_at, is_zero, is_part, key_part, value_part, laid_at, are_key_parts}
 use Rattle.iso_model.specs.HashRegion.{next_of, is_next, is_linked, IsHashArea}
 use Rattle.iso_model.specs.HashCalls.{with_cell, new_block}
 use Rattle.iso_alloc.proofs.Laying.{length-laid_at, laid_here}
-use Rattle.iso_hash.proofs.Frames.{AreApart, laid_kept, piece_of, piece_zero, zeros_are, zero_part, length-part_of, part_is_part}
+use Rattle.iso_hash.proofs.Frames.{laid_kept, piece_of, piece_zero, zeros_are, zero_part, length-part_of, part_is_part}
 use Rattle.iso_hash.proofs.Puts.{length-with_cell, cell_key_part, cell_value_part, cells_fit}
 use Rattle.iso_hash.proofs.Rewritten.{all_pass}
 
@@ -68,8 +67,8 @@ module _ (a : Area) (bucket position : ℕ) (key value : List ℕ) (area : IsHas
       let fits = cells_fit a 0 area first_cell in
       ap (bytes_in span) block_is
       ∙ laid_kept span (keys_end a.size + 33 * 0) (value_part value) (laid_at (64 + 31 * 0) (key_part key) head) (omega (arith, one, length_head, value_long, fits))
-        (elim value_far [ | inl before ↦ inl (omega arith) | inr past ↦ inr (omega (arith, value_long)) ])
-      ∙ laid_kept span (64 + 31 * 0) (key_part key) head (omega (arith, length_head, key_end, area.least_size)) (elim key_far [ | inl before ↦ inl (omega arith) | inr past ↦ inr (omega (arith, key_end)) ])
+      (elim value_far [ inl before ↦ inl (omega arith) | inr past ↦ inr (omega (arith, value_long)) ])
+      ∙ laid_kept span (64 + 31 * 0) (key_part key) head (omega (arith, length_head, key_end, area.least_size)) (elim key_far [ inl before ↦ inl (omega arith) | inr past ↦ inr (omega (arith, key_end)) ])
 
   -- and those of one that meets neither number of the head
   blank : (span : Span) → (span.off + span.len ≤ 4) ⊎ (12 ≤ span.off) → (span.off + span.len ≤ 64) ⊎ (95 ≤ span.off) → (span.off + span.len ≤ keys_end a.size) ⊎ (keys_end a.size + 33 ≤ span.off) → span.off + span.len ≤ a.size
@@ -77,8 +76,8 @@ module _ (a : Area) (bucket position : ℕ) (key value : List ℕ) (area : IsHas
   unfolding head low zeros
   blank span head_far key_far value_far fits =
       past_cell span key_far value_far
-      ∙ laid_kept span 8 (to_be_bytes w32 position) low (omega (arith, length_low, area.least_size)) (elim head_far [ | inl before ↦ inl (omega arith) | inr past ↦ inr (omega arith) ])
-      ∙ laid_kept span 4 (to_be_bytes w32 bucket) zeros (omega (arith, length_zeros, area.least_size)) (elim head_far [ | inl before ↦ inl (omega arith) | inr past ↦ inr (omega arith) ])
+      ∙ laid_kept span 8 (to_be_bytes w32 position) low (omega (arith, length_low, area.least_size)) (elim head_far [ inl before ↦ inl (omega arith) | inr past ↦ inr (omega arith) ])
+      ∙ laid_kept span 4 (to_be_bytes w32 bucket) zeros (omega (arith, length_zeros, area.least_size)) (elim head_far [ inl before ↦ inl (omega arith) | inr past ↦ inr (omega arith) ])
       ∙ piece_zero span a.size fits
 
   keys : List ℕ
@@ -130,14 +129,14 @@ module _ (a : Area) (bucket position : ℕ) (key value : List ℕ) (area : IsHas
   unfolding is_linked keys block
   new_linked later =
       let b : (word_at 4 keys == cond (position == 0) 0 bucket) ≡ true =
-          eq-eqb (word_at 4 keys) (cond (position == 0) 0 bucket) (ap (from_be_bytes w32) (in_keys (record { off = 4; len = 4 }) (omega arith) ∙ bucket_here) ∙ from_be_bytes-to_be_bytes_4 bucket bucket_fits ∙ sym (ap (λ t. cond t 0 bucket) later)) in
+      eq-eqb (word_at 4 keys) (cond (position == 0) 0 bucket) (ap (from_be_bytes w32) (in_keys (record { off = 4; len = 4 }) (omega arith) ∙ bucket_here) ∙ from_be_bytes-to_be_bytes_4 bucket bucket_fits ∙ sym (ap (λ t. cond t 0 bucket) later)) in
       let p : (word_at 8 keys == position) ≡ true = eq-eqb (word_at 8 keys) position (ap (from_be_bytes w32) (in_keys (record { off = 8; len = 4 }) (omega arith) ∙ position_here) ∙ from_be_bytes-to_be_bytes_4 position position_fits) in
       let z : list_all is_zero (bytes_in (record { off = 12; len = 52 }) keys) ≡ true =
-          ap (list_all is_zero) (in_keys (record { off = 12; len = 52 }) (omega arith) ∙ blank (record { off = 12; len = 52 }) (inr (omega arith)) (inl (omega arith)) (inl (omega arith)) (omega (arith, area.least_size))) ∙ zeros_are 52 in
+      ap (list_all is_zero) (in_keys (record { off = 12; len = 52 }) (omega arith) ∙ blank (record { off = 12; len = 52 }) (inr (omega arith)) (inl (omega arith)) (inl (omega arith)) (omega (arith, area.least_size))) ∙ zeros_are 52 in
       let n : is_next a position (next_of keys) ≡ true = ap (is_next a position) new_next in
       let parts : are_key_parts a.size keys ≡ true = all_pass (λ i. is_part 28 (bytes_in (key_mark i) keys)) 0 (cell_count a.size) (λ j under over.
-          elim (cases_eq j 0) [
-            | inl here ↦ ap (λ (i : ℕ). is_part 28 (bytes_in (key_mark i) keys)) here ∙ ap (is_part 28) new_key_here ∙ part_is_part 30 28 key key_short
-            | inr other ↦ ap (is_part 28) (other_key j (omega arith) other) ∙ zero_part 28 30
-          ]) in
+      elim (cases_eq j 0) [
+        | inl here ↦ ap (λ (i : ℕ). is_part 28 (bytes_in (key_mark i) keys)) here ∙ ap (is_part 28) new_key_here ∙ part_is_part 30 28 key key_short
+        | inr other ↦ ap (is_part 28) (other_key j (omega arith) other) ∙ zero_part 28 30
+      ]) in
       and_from _ _ (and_from _ _ (and_from _ _ (and_from _ _ b p) z) n) parts

@@ -5,23 +5,22 @@ use Rattle.std.specs.FinMap.{insert, remove}
 use Rattle.std.proofs.lemmas.Bool.{cases_eq, both_ways, or_left, false≢true}
 use Rattle.std.proofs.lemmas.List.{length-replicate}
 use Rattle.iso_model.specs.declared.access.Access.{Access}
-use Rattle.iso_model.specs.declared.access.Span.{Span}
 use Rattle.iso_model.specs.declared.stores.Area.{Area}
 use Rattle.iso_model.specs.declared.stores.Spot.{Spot}
 use Rattle.iso_model.specs.Array.{Array, put}
 use Rattle.iso_model.specs.Premises.{block_at}
-use Rattle.iso_model.specs.Stores.{bytes_in, store_access, answer_of}
+use Rattle.iso_model.specs.Stores.{bytes_in, store_access}
 use Rattle.iso_model.specs.Cells.{cell_count, keys_end, keys_mark, key_mark, value_mark, is_zero, is_part, text_of, key_part, value_part, is_unused, key_at, laid_at, block_with}
 use Rattle.iso_model.specs.HashRegion.{view_of, buckets, bucket_of, chain, all_pairs, hash_map, IsIn, Stands, IsKeyed, HaveValues, IsHashRegion, IsHashArea}
-use Rattle.iso_model.specs.HashCalls.{Walked, AtCell, AtEnd, walk, with_cell}
+use Rattle.iso_model.specs.HashCalls.{with_cell}
 use Rattle.iso_model.proofs.Bytes.{length-block_put, written_block, other_block}
 use Rattle.iso_alloc.proofs.Laying.{length-laid_at, laid_here}
 use Rattle.iso_hash.proofs.Chains.{one_bucket, block_inside, placed}
 use Rattle.iso_hash.proofs.Frames.{kept_1, laid_all, laid_kept, length-part_of, part_is_part, part_text}
-use Rattle.iso_hash.proofs.Gets.{bucket_below, walk_found, walk_missed, found_stands, missed_nowhere}
-use Rattle.iso_hash.proofs.Moves.{IsSame, Moves, StandsAt, map_put, buckets_at, apart_at}
-use Rattle.iso_hash.proofs.Rewritten.{IsRewritten, rewrites, is_spot, chain_same, linked_kept, bits_kept, elsewhere, same_there, same_before, values_kept}
-use Rattle.iso_hash.proofs.Ways.{Found, Missed, IsSpare}
+use Rattle.iso_hash.proofs.Gets.{bucket_below}
+use Rattle.iso_hash.proofs.Moves.{Moves, StandsAt, map_put, buckets_at, apart_at}
+use Rattle.iso_hash.proofs.Rewritten.{IsRewritten, rewrites, is_spot, chain_same, linked_kept, bits_kept, same_there, same_before, values_kept}
+use Rattle.iso_hash.proofs.Ways.{IsSpare}
 
 -- what a put leaves
 pub record HasPut (a : Area) (key value : List ℕ) (A B : Array) : Type 0 where
@@ -91,7 +90,7 @@ module _ (a : Area) (key value : List ℕ) (A : Array) (s : Spot) (area : IsHash
     | inl same ↦ subst (λ (m : ℕ). (view_of a B).value m i ≡ (view_of a A).value m i) (sym same)
         (ap (bytes_in (value_mark a.size i)) here_is
         ∙ kept_1 (value_mark a.size i) (value_mark a.size s.cell) (block_at A (a.start + s.block)) X
-          (elim (Rattle.std.proofs.lemmas.Bool.cases_lt i s.cell) [ | inl before ↦ inl (omega arith) | inr past ↦ inr (let apart : i ≢ s.cell = λ e. other (same, e) in omega arith) ]))
+        (elim (Rattle.std.proofs.lemmas.Bool.cases_lt i s.cell) [ inl before ↦ inl (omega arith) | inr past ↦ inr (let apart : i ≢ s.cell = λ e. other (same, e) in omega arith) ]))
   ]
 
   stands_at : StandsAt a (view_of a A).keys key s
@@ -112,9 +111,10 @@ module _ (a : Area) (key value : List ℕ) (A : Array) (s : Spot) (area : IsHash
   values : HaveValues a (view_of a A).keys (view_of a B).value
   values b k i below has cell = elim (is_spot k i s) [
     | inl here ↦
-        (let at : (view_of a B).value k i ≡ value_part value = ap (λ (m : ℕ). (view_of a B).value m i) here.0 ∙ ap (λ (j : ℕ). (view_of a B).value s.block j) here.1 ∙ value_here in
-        (ap (is_part 32) at ∙ part_is_part 32 32 value short,
-        λ unused. absurd (both_ways (is_unused ((view_of a A).keys s.block) s.cell) stands.used (sym (ap (λ (m : ℕ). is_unused ((view_of a A).keys m) i) here.0 ∙ ap (λ (j : ℕ). is_unused ((view_of a A).keys s.block) j) here.1) ∙ unused))))
+        (let at : (view_of a B).value k i ≡ value_part value = ap (λ (m : ℕ). (view_of a B).value m i) here.0 ∙ ap (λ (j : ℕ). (view_of a B).value s.block j) here.1 ∙ value_here in (
+          ap (is_part 32) at ∙ part_is_part 32 32 value short,
+          λ unused. absurd (both_ways (is_unused ((view_of a A).keys s.block) s.cell) stands.used (sym (ap (λ (m : ℕ). is_unused ((view_of a A).keys m) i) here.0 ∙ ap (λ (j : ℕ). is_unused ((view_of a A).keys s.block) j) here.1) ∙ unused)),
+        ))
     | inr other ↦
         (let was = region.values b k i below has cell in
         (ap (is_part 32) (value_far k i other) ∙ was.0, λ unused. ap (list_all is_zero) (value_far k i other) ∙ was.1 unused))

@@ -1,8 +1,7 @@
 -- One cell of a linked block is rewritten, key part and value part: what stays.
-use Rattle.std.proofs.Common.{◌≡◌, ◌≢◌, ◌⊎◌, ◌↔◌, ◌∙◌, sym, refl, ap, subst, ℕ, zero, suc, ◌+◌, ◌-◌, ◌*◌, ◌/◌, ◌<◌, ◌≤◌, Bool, true, false, ◌&&◌, ◌||◌, ◌==◌, cond, IsTrue, List, [], ◌∷◌, length, get_or, take, drop, arith, inl, inr, not}
+use Rattle.std.proofs.Common.{◌≡◌, ◌≢◌, ◌⊎◌, ◌↔◌, ◌∙◌, sym, refl, ap, subst, ℕ, zero, suc, ◌+◌, ◌*◌, ◌<◌, ◌≤◌, Bool, true, false, ◌==◌, cond, IsTrue, List, [], ◌∷◌, length, get_or, arith, inl, inr}
 use Rattle.std.specs.List.{list_all}
 use Rattle.std.proofs.lemmas.Bool.{cases_eq, cases_lt, and_parts, and_from, or_left, or_right}
-use Rattle.std.proofs.lemmas.Bool.Decides.{nat_tests}
 use Rattle.iso_model.specs.declared.access.Access.{Access}
 use Rattle.iso_model.specs.declared.access.Span.{Span}
 use Rattle.iso_model.specs.declared.stores.Area.{Area}
@@ -10,13 +9,13 @@ use Rattle.iso_model.specs.declared.stores.Spot.{Spot}
 use Rattle.iso_model.specs.Array.{Array, covered, in_span, merged, put}
 use Rattle.iso_model.specs.Premises.{block_at}
 use Rattle.iso_model.specs.Stores.{bytes_in, store_access}
-use Rattle.iso_model.specs.Cells.{cell_count, keys_end, keys_mark, key_mark, value_mark, word_at, is_zero, is_part, text_of, is_unused, key_at, all_from, are_key_parts}
+use Rattle.iso_model.specs.Cells.{cell_count, keys_end, keys_mark, key_mark, value_mark, word_at, is_zero, is_part, text_of, is_unused, all_from, are_key_parts}
 use Rattle.iso_model.specs.FreeMap.{map_bytes, map_bit}
-use Rattle.iso_model.specs.HashRegion.{view_of, buckets, bucket_of, last_position, next_of, is_next, is_linked, chain_from, chain, IsIn, AreLinked, Stands, IsOverflow, IsKeyed, HaveValues, IsHashRegion, IsHashArea}
-use Rattle.iso_model.proofs.Bytes.{written_block, other_block, length-block_put}
+use Rattle.iso_model.specs.HashRegion.{view_of, last_position, next_of, is_next, is_linked, chain_from, chain, IsIn, AreLinked, Stands, IsOverflow, HaveValues, IsHashArea}
+use Rattle.iso_model.proofs.Bytes.{written_block, other_block}
 use Rattle.iso_alloc.proofs.Loops.{all_at}
-use Rattle.iso_hash.proofs.Chains.{linked_alike, LinkedAlike, IsHead, head_of}
-use Rattle.iso_hash.proofs.Frames.{AreApart, kept_1, kept_2, laid_all, piece_of}
+use Rattle.iso_hash.proofs.Chains.{linked_alike, LinkedAlike, head_of}
+use Rattle.iso_hash.proofs.Frames.{AreApart, kept_2, laid_all, piece_of}
 use Rattle.iso_hash.proofs.Moves.{IsSame}
 
 -- the blocks of a chain are the same where the next numbers are
@@ -57,10 +56,10 @@ pub record IsRewritten (a : Area) (A B : Array) (s : Spot) (part value : List �
   pub first : (view_of a B).first ≡ (view_of a A).first
 
 key_sides : (i j : ℕ) → i ≢ j → (64 + 31 * i + 31 ≤ 64 + 31 * j) ⊎ (64 + 31 * j + 31 ≤ 64 + 31 * i)
-key_sides i j apart = elim (cases_lt i j) [ | inl before ↦ inl (omega arith) | inr past ↦ inr (omega arith) ]
+key_sides i j apart = elim (cases_lt i j) [ inl before ↦ inl (omega arith) | inr past ↦ inr (omega arith) ]
 
 value_sides : (n i j : ℕ) → i ≢ j → (n + 33 * i + 33 ≤ n + 33 * j) ⊎ (n + 33 * j + 33 ≤ n + 33 * i)
-value_sides n i j apart = elim (cases_lt i j) [ | inl before ↦ inl (omega arith) | inr past ↦ inr (omega arith) ]
+value_sides n i j apart = elim (cases_lt i j) [ inl before ↦ inl (omega arith) | inr past ↦ inr (omega arith) ]
 
 -- a write under the marks of one cell rewrites it
 module _ (a : Area) (A : Array) (s : Spot) (bytes : List ℕ) (area : IsHashArea a) (cell : s.cell < cell_count a.size) (some : 0 < s.block) (long : length bytes ≡ length (block_at A (a.start + s.block))) where
@@ -124,7 +123,7 @@ module _ (a : Area) (A : Array) (s : Spot) (bytes : List ℕ) (area : IsHashArea
 pub is_spot : (k i : ℕ) (s : Spot) → ((k ≡ s.block) × (i ≡ s.cell)) ⊎ ((k ≡ s.block) × (i ≡ s.cell) → ⊥)
 is_spot k i s = elim (cases_eq k s.block) [
   | inr far ↦ inr (λ e. far e.0)
-  | inl here ↦ elim (cases_eq i s.cell) [ | inl same ↦ inl (here, same) | inr other ↦ inr (λ e. other e.1) ]
+  | inl here ↦ elim (cases_eq i s.cell) [ inl same ↦ inl (here, same) | inr other ↦ inr (λ e. other e.1) ]
 ]
 
 -- what follows of a rewritten cell whose key part is well formed
@@ -149,11 +148,12 @@ module _ (a : Area) (A B : Array) (s : Spot) (part value : List ℕ) (is : IsRew
   linked_same b blocks k p has linked = elim (cases_eq k s.block) [
     | inl here ↦
         (let old : is_linked a b p ((view_of a A).keys s.block) ≡ true = subst (λ (m : ℕ). is_linked a b p ((view_of a A).keys m) ≡ true) here linked in
-        let head = head_of a b p ((view_of a A).keys s.block) old in
-        (subst (λ (m : ℕ). is_linked a b p ((view_of a B).keys m) ≡ true) (sym here)
-            (linked_again a b p ((view_of a A).keys s.block) ((view_of a B).keys s.block) old (is.head (record { off = 4; len = 4 }) (omega arith)) (is.head (record { off = 8; len = 4 }) (omega arith)) (is.head (record { off = 12; len = 52 }) (omega arith))
-            (ap (is_next a p) (next_same s.block) ∙ head.next_is) (parts_same head.parts)),
-        next_same k))
+        let head = head_of a b p ((view_of a A).keys s.block) old in (
+          subst (λ (m : ℕ). is_linked a b p ((view_of a B).keys m) ≡ true) (sym here)
+              (linked_again a b p ((view_of a A).keys s.block) ((view_of a B).keys s.block) old (is.head (record { off = 4; len = 4 }) (omega arith)) (is.head (record { off = 8; len = 4 }) (omega arith)) (is.head (record { off = 12; len = 52 }) (omega arith))
+              (ap (is_next a p) (next_same s.block) ∙ head.next_is) (parts_same head.parts)),
+          next_same k,
+        ))
     | inr other ↦ (ap (is_linked a b p) (is.others k other) ∙ linked, next_same k)
   ]
 
@@ -181,7 +181,7 @@ module _ (a : Area) (A B : Array) (s : Spot) (part value : List ℕ) (is : IsRew
   ]
 
   value_elsewhere : (k i : ℕ) → ((k ≡ s.block) × (i ≡ s.cell) → ⊥) → (view_of a B).value k i ≡ (view_of a A).value k i
-  value_elsewhere k i other = is.values k i (elim (cases_eq k s.block) [ | inl here ↦ inr (λ e. other (here, e)) | inr far ↦ inl far ])
+  value_elsewhere k i other = is.values k i (elim (cases_eq k s.block) [ inl here ↦ inr (λ e. other (here, e)) | inr far ↦ inl far ])
 
   pub same_there : (b k i : ℕ) → Stands a (view_of a A).keys b k i → ((k ≡ s.block) × (i ≡ s.cell) → ⊥) → IsSame a (view_of a A).keys (view_of a B).keys (view_of a A).value (view_of a B).value b k i
   same_there b k i stands other =

@@ -3,7 +3,6 @@ use Rattle.std.proofs.Common.{◌≡◌, ◌≢◌, ◌∙◌, sym, refl, ap, su
 use Rattle.std.proofs.lemmas.List.{get_or-take, get_or-set_same}
 use Rattle.std.specs.Option.{ForSome}
 use Rattle.iso_model.specs.declared.access.Access.{Access}
-use Rattle.iso_model.specs.declared.access.Span.{Span}
 use Rattle.iso_model.specs.declared.stores.Area.{Area}
 use Rattle.iso_model.specs.declared.stores.Region.{Region}
 use Rattle.iso_model.specs.declared.stores.Spot.{Spot}
@@ -19,16 +18,16 @@ use Rattle.iso_model.specs.Stores.{Program, Done, Look, Reserve, Store, then_do,
 use Rattle.std.specs.Int.{w32, to_be_bytes}
 use Rattle.std.proofs.Common.{replicate}
 use Rattle.iso_model.specs.Cells.{next_mark, block_with}
-use Rattle.iso_model.specs.FreeMap.{map_bytes, map_mark, bit_mark, bit_place, map_bit, set_bit, clear_bit, with_bit, without_bit, lowest_free}
+use Rattle.iso_model.specs.FreeMap.{map_bytes, map_mark, bit_mark, bit_place, set_bit, clear_bit, with_bit, without_bit, lowest_free}
 use Rattle.iso_model.specs.HashCalls as hash
 use Rattle.iso_model.specs.HashCalls.{walk, new_block, is_spent, put_new, put_at, put_program, del_at, del_program, is_key, is_value}
 use Rattle.iso_model.specs.HashRegion.{bucket_of, buckets, last_position, IsHashArea, IsHashRegion, hash_map, put_op, del_op}
 use Rattle.iso_model.proofs.Bytes.{length-block_own}
-use Rattle.tx_blocks.specs.Tx.{Tx, Device, IsLater, IsTx, with_accesses, room_of}
-use Rattle.tx_blocks.specs.Runs.{area_of, Ran, Ends, IsCut, HasRun, HasEnded, HasRead, IsCause, IsStoreCause, IsUnwritten, Behaves, IsLocalCall}
+use Rattle.tx_blocks.specs.Tx.{Tx, Device, IsTx, with_accesses, room_of}
+use Rattle.tx_blocks.specs.Runs.{area_of, Ran, HasRun, HasEnded, Behaves, IsLocalCall}
 use Rattle.tx_blocks.proofs.Progress.{IsAt, at_start, at_then, at_look, at_store, at_reserve, ran_at, full_at_reserve, whole_run}
-use Rattle.tx_blocks.proofs.Refusals.{cut_then, cut_at_look, cut_at_store, later_same, read_none, store_cause}
-use Rattle.tx_blocks.proofs.Parts.{run_from, ended_from, refused_so, refused_memory, done_so, behaves_after}
+use Rattle.tx_blocks.proofs.Refusals.{cut_then, later_same, read_none, store_cause}
+use Rattle.tx_blocks.proofs.Parts.{run_from, ended_from, refused_so}
 use Rattle.iso_hash.proofs.Changes.{put_is, del_is, put_local, del_local, HasBlocks, give_back_block, make_zero}
 use Rattle.iso_hash.specs.Walks.{HasWalked}
 
@@ -97,9 +96,10 @@ del_call a key t u (Ok x) area is tx size fits run = λ A told.
 pub reserve_refused : {X : Type 0} (count : ℕ) (rest : Program (Result X StoreError)) (t : Tx) (d : Device) (e : TxError) → count ≤ 3 → (e ≡ error.TooManyAccesses) × (room_of t < count)
     → HasRun (Reserve count rest) t t (Err (store.Tx e)) × Behaves {R = X} t t count d d (Err (store.Tx e))
 reserve_refused {X = X} count rest t d e small is =
-    subst (λ (f : TxError). HasRun (Reserve count rest) t t (Err (store.Tx f)) × Behaves {R = X} t t count d d (Err (store.Tx f))) (sym is.0)
-    (full_at_reserve (Reserve count rest) count rest t t t (at_start (Reserve count rest) t) refl is.1,
-    refused_so t t count d d (store.Tx error.TooManyAccesses) (read_none t) (omega (arith, is.1)) (λ x. cc, λ x. cc) (later_same d d refl))
+    subst (λ (f : TxError). HasRun (Reserve count rest) t t (Err (store.Tx f)) × Behaves {R = X} t t count d d (Err (store.Tx f))) (sym is.0) (
+      full_at_reserve (Reserve count rest) count rest t t t (at_start (Reserve count rest) t) refl is.1,
+      refused_so t t count d d (store.Tx error.TooManyAccesses) (read_none t) (omega (arith, is.1)) (λ x. cc, λ x. cc) (later_same d d refl),
+    )
 
 -- the room after a write
 pub room_less : (n : ℕ) (t v : Tx) (a : Access) → suc n ≤ room_of t → v ≡ with_accesses t (a ∷ []) → n ≤ room_of v
@@ -204,8 +204,8 @@ new_some a key value last position k block byte t u v bytes new result area told
     let found = lowest_is a bytes k (Some block) area same some in
     let fits : bit_place block < length bytes = omega (arith, area.most, area.least_size) in
     let x : byte ≡ set_bit (get_or map (bit_place block) 0) block =
-        byte_is ∙ ap (λ (n : List ℕ). get_or n (bit_place block) 0) new_is ∙ get_or-set_same bytes (bit_place block) (set_bit (get_or bytes (bit_place block) 0) block) 0 fits
-        ∙ ap (λ (y : ℕ). set_bit y block) (sym (get_or-take (64 + map_bytes a.blocks) bytes (bit_place block) 0 (omega arith))) in
+    byte_is ∙ ap (λ (n : List ℕ). get_or n (bit_place block) 0) new_is ∙ get_or-set_same bytes (bit_place block) (set_bit (get_or bytes (bit_place block) 0) block) 0 fits
+    ∙ ap (λ (y : ℕ). set_bit y block) (sym (get_or-take (64 + map_bytes a.blocks) bytes (bit_place block) 0 (omega arith))) in
     run_from (new_program a key value last position) (growing a block last (position + 1) (set_bit (get_or map (bit_place block) 0) block) key value) t u v result
     (subst (λ (o : Option ℕ). IsAt (new_program a key value last position) (put_new a key value last position map o) t u) found (new_at a key value last position t u bytes told tx is))
     (subst (λ (y : ℕ). HasRun (growing a block last (position + 1) y key value) u v result) x run)
@@ -217,8 +217,8 @@ given_back a s before byte t u v bytes new result area told tx is inside long ne
     let map = bytes_in (map_mark a.blocks) bytes in
     let fits : bit_place s.block < length bytes = omega (arith, area.most, area.least_size) in
     let x : byte ≡ clear_bit (get_or map (bit_place s.block) 0) s.block =
-        byte_is ∙ ap (λ (n : List ℕ). get_or n (bit_place s.block) 0) new_is ∙ get_or-set_same bytes (bit_place s.block) (clear_bit (get_or bytes (bit_place s.block) 0) s.block) 0 fits
-        ∙ ap (λ (y : ℕ). clear_bit y s.block) (sym (get_or-take (64 + map_bytes a.blocks) bytes (bit_place s.block) 0 (omega arith))) in
+    byte_is ∙ ap (λ (n : List ℕ). get_or n (bit_place s.block) 0) new_is ∙ get_or-set_same bytes (bit_place s.block) (clear_bit (get_or bytes (bit_place s.block) 0) s.block) 0 fits
+    ∙ ap (λ (y : ℕ). clear_bit y s.block) (sym (get_or-take (64 + map_bytes a.blocks) bytes (bit_place s.block) 0 (omega arith))) in
     run_from (give_back_block a s before) (shrinking a s.block before (clear_bit (get_or map (bit_place s.block) 0) s.block)) t u v result
     (at_look (give_back_block a s before) a.start (map_mark a.blocks) (λ m. None) (λ m none. shrinking a s.block before (clear_bit (get_or m (bit_place s.block) 0) s.block)) t t u bytes (at_start (give_back_block a s before) t) told tx.count is)
     (subst (λ (y : ℕ). HasRun (shrinking a s.block before y) u v result) x run)

@@ -1,16 +1,15 @@
 -- One block of a walk.
-use Rattle.std.proofs.Common.{◌≡◌, ◌∙◌, sym, refl, ap, subst, ℕ, zero, suc, ◌+◌, ◌-◌, ◌*◌, ◌/◌, ◌<◌, ◌≤◌, ◌&&◌, ◌==◌, Bool, true, false, cond, List, [], ◌∷◌, ◌++◌, length, take, drop, Option, Some, None, IfSome, option_map, arith, eq-eqb, ne_eqb, inl, inr}
+use Rattle.std.proofs.Common.{◌≡◌, ◌∙◌, sym, refl, ap, subst, ℕ, suc, ◌+◌, ◌-◌, ◌*◌, ◌<◌, ◌≤◌, ◌&&◌, ◌==◌, Bool, true, false, cond, List, [], ◌∷◌, length, take, Option, Some, None, IfSome, option_map, arith, eq-eqb, ne_eqb}
 use Rattle.std.specs.Option.{ForSome}
-use Rattle.iso_model.specs.declared.access.Access.{Access}
 use Rattle.iso_model.specs.declared.access.Span.{Span}
 use Rattle.iso_model.specs.declared.stores.Area.{Area}
 use Rattle.iso_model.specs.declared.stores.Spot.{Spot}
 use Rattle.iso_model.specs.Effect.{own, or_else}
 use Rattle.iso_model.specs.Premises.{block_at}
-use Rattle.iso_model.specs.Stores.{Program, Done, Look, bytes_in, further_bytes, with_further, look_access}
+use Rattle.iso_model.specs.Stores.{Program, Done, bytes_in, further_bytes, with_further, look_access}
 use Rattle.iso_model.specs.Cells.{cell_count, keys_end, keys_mark, value_mark, cell_with, unused_cell, are_key_parts}
-use Rattle.iso_model.specs.HashCalls.{Walked, AtCell, AtEnd, AtBroken, at_cell, walk, walk_from, walk_further, walk_next, spare_in, spot_in}
-use Rattle.iso_model.specs.HashRegion.{is_linked, next_of, last_position, bucket_of, buckets}
+use Rattle.iso_model.specs.HashCalls.{Walked, AtCell, AtEnd, AtBroken, walk, walk_from, walk_further, walk_next, spare_in, spot_in}
+use Rattle.iso_model.specs.HashRegion.{is_linked, next_of, last_position, bucket_of}
 use Rattle.tx_blocks.specs.Tx.{Tx, Device, with_accesses}
 use Rattle.tx_blocks.specs.Runs.{Ran, IsCut, IsCause}
 use Rattle.iso_model.specs.declared.stores.TxError.{TxError}
@@ -83,7 +82,7 @@ module _ (whole : Program Walked) (a : Area) (key : List ℕ) (bucket : ℕ) (wi
       → walk_further a key bucket with_value position x ≡ None → IsAt whole (walk_next a key bucket position before block spare walk_on x []) t v
   plain v n fits count is none =
       let made = read v fits (is ∙ ap (λ (m : ℕ). with_accesses u (look_access (a.start + block) (record { off = 0; len = 64 + 31 * m } ∷ []) ∷ [])) count
-          ∙ ap (λ (f : Option Span). with_accesses u (look_access (a.start + block) (keys_mark a.size ∷ with_further f) ∷ [])) (sym none)) in
+      ∙ ap (λ (f : Option Span). with_accesses u (look_access (a.start + block) (keys_mark a.size ∷ with_further f) ∷ [])) (sym none)) in
       subst (λ (f : Option Span). IsAt whole (walk_next a key bucket position before block spare walk_on x (further_bytes f bytes)) t v) none made
 
 module _ (whole : Program Walked) (a : Area) (key : List ℕ) (bucket : ℕ) (with_value : Bool) (end position before block : ℕ) (spare : Option Spot) (t u : Tx) (bytes : List ℕ)
@@ -126,11 +125,11 @@ module _ (whole : Program Walked) (a : Area) (key : List ℕ) (bucket : ℕ) (wi
       let y = take (keys_end a.size) bytes in
       let further : walk_further a key bucket with_value position y ≡ cond with_value (Some (value_mark a.size i)) None = wanted_in a key bucket position y i with_value linked some in
       let made = read whole a key bucket with_value end position before block spare t u bytes now v fits
-          (is ∙ ap (λ (m : List Span). with_accesses u (look_access (a.start + block) (keys_mark a.size ∷ m) ∷ [])) (marks with_value (value_mark a.size i) ∙ ap with_further (sym further))) in
+      (is ∙ ap (λ (m : List Span). with_accesses u (look_access (a.start + block) (keys_mark a.size ∷ m) ∷ [])) (marks with_value (value_mark a.size i) ∙ ap with_further (sym further))) in
       let value : further_bytes (walk_further a key bucket with_value position y) bytes ≡ cond with_value (bytes_in (value_mark a.size i) bytes) [] =
-          ap (λ (f : Option Span). further_bytes f bytes) further ∙ bytes_of with_value (value_mark a.size i) bytes in
+      ap (λ (f : Option Span). further_bytes f bytes) further ∙ bytes_of with_value (value_mark a.size i) bytes in
       let next : walk_next a key bucket position before block spare (walk_on whole a key bucket with_value end position before block spare t u bytes now) y (further_bytes (walk_further a key bucket with_value position y) bytes)
-          ≡ Done (AtCell (record { block = block; cell = i }) before y (cond with_value (bytes_in (value_mark a.size i) bytes) [])) = rw (value, linked, some) refl in
+      ≡ Done (AtCell (record { block = block; cell = i }) before y (cond with_value (bytes_in (value_mark a.size i) bytes) [])) = rw (value, linked, some) refl in
       ran_at whole t v _ (at_as whole _ _ t v next made))
 
 -- where the read is refused

@@ -1,8 +1,7 @@
 -- How a walk ends.
-use Rattle.std.proofs.Common.{◌≡◌, ◌≢◌, ◌⊎◌, ◌∙◌, sym, refl, ap, subst, ℕ, zero, suc, ◌+◌, ◌<◌, ◌≤◌, Bool, true, false, ◌&&◌, ◌||◌, ◌==◌, cond, List, [], ◌∷◌, ◌++◌, length, get_or, take, drop, Option, Some, None, IfSome, option_map, arith, inl, inr, eq-eqb, ne_eqb}
+use Rattle.std.proofs.Common.{◌≡◌, ◌≢◌, ◌⊎◌, ◌∙◌, sym, refl, ap, subst, ℕ, zero, suc, ◌+◌, ◌<◌, ◌≤◌, Bool, true, false, ◌&&◌, ◌==◌, cond, List, [], ◌∷◌, ◌++◌, length, take, drop, Option, Some, None, IfSome, option_map, arith, inl, inr, eq-eqb, ne_eqb}
 use Rattle.std.specs.Str.{bytes_eq}
 use Rattle.std.proofs.lemmas.Bool.{cases_Bool, eqb-true, eqb-false, both_ways, false_from_ne_true}
-use Rattle.std.proofs.lemmas.Bool.Decides.{nat_tests}
 use Rattle.std.proofs.lemmas.Slice.Eq.{bytes_eq-Decides}
 use Rattle.iso_model.specs.declared.access.Span.{Span}
 use Rattle.iso_model.specs.declared.stores.Area.{Area}
@@ -12,9 +11,9 @@ use Rattle.iso_model.specs.Effect.{or_else}
 use Rattle.iso_model.specs.Conflict.{first_from}
 use Rattle.iso_model.specs.Premises.{block_at}
 use Rattle.iso_model.specs.Stores.{Program, Done, bytes_in, further_bytes, answer_of, accesses_of, AreReads}
-use Rattle.iso_model.specs.Cells.{cell_count, key_mark, value_mark, text_of, is_unused, key_at, cell_with, unused_cell}
+use Rattle.iso_model.specs.Cells.{cell_count, key_mark, value_mark, is_unused, key_at, cell_with, unused_cell}
 use Rattle.iso_model.specs.HashRegion.{view_of, next_of, is_linked, chain_from, IsIn}
-use Rattle.iso_model.specs.HashCalls.{Walked, AtCell, AtEnd, AtBroken, spot_in, spare_in, at_cell, walk_further, walk_from}
+use Rattle.iso_model.specs.HashCalls.{Walked, AtCell, AtEnd, AtBroken, spot_in, spare_in, at_cell, walk_from}
 
 -- the number that is found first is one of those tried, and passes
 pub first_below : (test : ℕ → Bool) (i n j : ℕ) → first_from test i n ≡ Some j → j < i + n
@@ -76,12 +75,12 @@ Way a key bucket with_value A zero position before block spare w = w ≡ AtBroke
 Way a key bucket with_value A (suc left) position before block spare w =
     (w ≡ AtBroken (a.start + block))
     ⊎ (((i : ℕ) × ((cell_with a.size key ((view_of a A).keys block) ≡ Some i)
-        × (w ≡ AtCell (record { block = block; cell = i }) before ((view_of a A).keys block) (cond with_value ((view_of a A).value block i) []))))
+    × (w ≡ AtCell (record { block = block; cell = i }) before ((view_of a A).keys block) (cond with_value ((view_of a A).value block i) []))))
     ⊎ ((cell_with a.size key ((view_of a A).keys block) ≡ None)
-        × (is_linked a bucket position ((view_of a A).keys block) ≡ true)
-        × (((next_of ((view_of a A).keys block) ≡ 0) × (w ≡ AtEnd (spare_in a spare block ((view_of a A).keys block)) block position))
-        ⊎ ((next_of ((view_of a A).keys block) ≢ 0)
-            × Way a key bucket with_value A left (position + 1) block (next_of ((view_of a A).keys block)) (spare_in a spare block ((view_of a A).keys block)) w))))
+    × (is_linked a bucket position ((view_of a A).keys block) ≡ true)
+    × (((next_of ((view_of a A).keys block) ≡ 0) × (w ≡ AtEnd (spare_in a spare block ((view_of a A).keys block)) block position))
+    ⊎ ((next_of ((view_of a A).keys block) ≢ 0)
+    × Way a key bucket with_value A left (position + 1) block (next_of ((view_of a A).keys block)) (spare_in a spare block ((view_of a A).keys block)) w))))
 
 value_read : (with_value : Bool) (span : Span) (block : List ℕ) → further_bytes (cond (with_value && true) (Some span) None) block ≡ cond with_value (bytes_in span block) []
 value_read true span block = refl
@@ -97,8 +96,8 @@ way a key bucket with_value A (suc left) position before block spare =
     let free = spare_in a spare block keys in
     let rest : Program Walked = walk_from a key bucket with_value left (position + 1) block next free in
     let body : Bool → Option ℕ → Bool → Program Walked = λ t c z.
-        cond t (at_cell c (λ i. Done (AtCell (record { block = block; cell = i }) before keys (further_bytes (cond (with_value && t) (option_map (value_mark a.size) c) None) whole))) (cond z (Done (AtEnd free block position)) rest))
-        (Done (AtBroken (a.start + block))) in
+    cond t (at_cell c (λ i. Done (AtCell (record { block = block; cell = i }) before keys (further_bytes (cond (with_value && t) (option_map (value_mark a.size) c) None) whole))) (cond z (Done (AtEnd free block position)) rest))
+    (Done (AtBroken (a.start + block))) in
     let goal : Walked → Type 0 = Way a key bucket with_value A (suc left) position before block spare in
     elim (is_linked a bucket position keys) as (λ t. is_linked a bucket position keys ≡ t → goal (answer_of (body t (cell_with a.size key keys) (next == 0)) A)) [
       | false ↦ λ l. inl refl
@@ -265,6 +264,8 @@ pub walk_reads : (a : Area) (key : List ℕ) (bucket : ℕ) (with_value : Bool) 
     → AreReads (accesses_of (walk_from a key bucket with_value left position before block spare) A)
 walk_reads a key bucket with_value zero position before block spare A = tt
 walk_reads a key bucket with_value (suc left) position before block spare A =
-    let keys = (view_of a A).keys block in
-    (refl, cond_reads (is_linked a bucket position keys) _ _ A (cell_reads (cell_with a.size key keys) _ _ A (λ i. tt)
-    (cond_reads (next_of keys == 0) _ _ A tt (walk_reads a key bucket with_value left (position + 1) block (next_of keys) (spare_in a spare block keys) A))) tt)
+    let keys = (view_of a A).keys block in (
+      refl,
+      cond_reads (is_linked a bucket position keys) _ _ A (cell_reads (cell_with a.size key keys) _ _ A (λ i. tt)
+          (cond_reads (next_of keys == 0) _ _ A tt (walk_reads a key bucket with_value left (position + 1) block (next_of keys) (spare_in a spare block keys) A))) tt,
+    )

@@ -1,5 +1,5 @@
 -- How a walk ends.
-use Rattle.std.specs.Prelude.{◌≡◌, ℕ, ◌<◌, Bool, IfSome, cond, List, [], Result, Ok, Err, take}
+use Rattle.std.specs.Prelude.{ℕ, ◌<◌, Bool, IfSome, cond, List, [], Result, Ok, Err, take}
 use Rattle.iso_model.specs.declared.stores.Area.{Area}
 use Rattle.iso_model.specs.declared.stores.Spot.{Spot}
 use Rattle.iso_model.specs.declared.stores.StoreError.{StoreError}

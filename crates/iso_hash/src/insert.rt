@@ -62,11 +62,13 @@ fn put_with<T: TxBlocks>(
 {
     match walk(tx, area, key, false, block) {
         Ok(Walked::AtCell { spot, .. }) => put_value(tx, area, spot, value, block),
-        Ok(Walked::AtEnd {
-            spare,
-            last,
-            position,
-        }) => put_missing(tx, area, key, value, spare, last, position, block),
+        Ok(
+            Walked::AtEnd {
+                spare,
+                last,
+                position,
+            },
+        ) => put_missing(tx, area, key, value, spare, last, position, block),
         Err(e) => Err(e),
     }
 }

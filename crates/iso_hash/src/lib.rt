@@ -7,6 +7,8 @@ mod insert;
 mod links;
 mod lookup;
 mod remove;
+#[cfg(test)]
+mod tests;
 mod walk;
 mod writes;
 

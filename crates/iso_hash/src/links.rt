@@ -189,7 +189,17 @@ pub fn put_block<T: TxBlocks>(
     match take_lowest(buffer, region, buckets(area) + 1) {
         Some(block) => {
             let byte = buffer[64 + (block / 8) as usize];
-            grow(tx, area, block, last, position + 1, key, value, byte, buffer)
+            grow(
+                tx,
+                area,
+                block,
+                last,
+                position + 1,
+                key,
+                value,
+                byte,
+                buffer,
+            )
         }
         None => Err(StoreError::NoBlocks { need: 1, free: 0 }),
     }

@@ -16,8 +16,15 @@ use tx_blocks::{TxBlocks, look, mark};
 /// the chain, with its first unused cell, the last block and its position.
 #[derive(Clone, Copy, Debug)]
 pub enum Walked {
-    AtCell { spot: Spot, before: u32 },
-    AtEnd { spare: Option<Spot>, last: u32, position: u32 },
+    AtCell {
+        spot: Spot,
+        before: u32,
+    },
+    AtEnd {
+        spare: Option<Spot>,
+        last: u32,
+        position: u32,
+    },
 }
 
 // The first unused cell so far.

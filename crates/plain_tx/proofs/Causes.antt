@@ -1,5 +1,5 @@
 -- Why the calls of a transaction are refused.
-use Rattle.std.proofs.Common.{◌≡◌, ◌∙◌, sym, refl, ap, subst, ℕ, ◌+◌, ◌*◌, ◌<◌, ◌≤◌, ◌==◌, Bool, true, false, List, [], length, Option, Some, None, Result, Ok, Err, IfErr, nat_le, take, drop, arith, option_map}
+use Rattle.std.proofs.Common.{◌≡◌, ◌∙◌, sym, refl, ap, subst, ℕ, ◌+◌, ◌-◌, ◌*◌, ◌<◌, ◌≤◌, ◌==◌, Bool, true, false, List, [], length, Option, Some, None, Result, Ok, Err, IfErr, nat_le, take, drop, arith, option_map}
 use Rattle.std.proofs.lemmas.Bool.Decides.{nat_tests}
 use Rattle.std.proofs.lemmas.List.FromFn.{get_or-map-range_with_len}
 use Rattle.iso_model.specs.declared.access.MarkError.{MarkError}
@@ -41,13 +41,13 @@ mark_taken t off len x is_open none = rw (is_open, none) tt
 pub block_of : (size count : ℕ) (bytes : List ℕ) (b : ℕ) → b < count → block_at (blocks_of size count bytes) b ≡ take size (drop (b * size) bytes)
 block_of size count bytes b inside = get_or-map-range_with_len (λ k. take size (drop (k * size) bytes)) 0 count b b [] inside (omega arith)
 
-same_some : {X : Type 0} (x y : X) → Some x ≡ Some y → x ≡ y
+pub same_some : {X : Type 0} (x y : X) → Some x ≡ Some y → x ≡ y
 same_some x y e = cc
 
 -- a work that has as many accesses as before
 pub record Keeps (old new : Doing) : Type 0 where
   pub size : new.size ≡ old.size
-  pub blocks : new.blocks ≡ old.blocks
+  pub many : new.blocks ≡ old.blocks
   pub count : length new.accesses ≡ length old.accesses
 
 length-marked : (span : Span) (xs : List Access) → length (marked span xs) ≡ length xs
@@ -61,11 +61,17 @@ pub kept : (old new : Doing) (off len : ℕ) (result : Result (Unit {0}) MarkErr
     → ((fault : MarkError) → result ≡ Err fault → (mark_fault old.size off len old.accesses ≡ Some fault) × (new ≡ old)) → Keeps old new
 kept old new off len (Ok x) ok err = record {
   size = ap (λ (w : Doing). w.size) ok.1;
-  blocks = ap (λ (w : Doing). w.blocks) ok.1;
+  many = ap (λ (w : Doing). w.blocks) ok.1;
   count = ap (λ (w : Doing). length w.accesses) ok.1 ∙ length-marked (span_at off len) old.accesses;
 }
 kept old new off len (Err fault) ok err = let same = (err fault refl).1 in record {
   size = ap (λ (w : Doing). w.size) same;
-  blocks = ap (λ (w : Doing). w.blocks) same;
+  many = ap (λ (w : Doing). w.blocks) same;
   count = ap (λ (w : Doing). length w.accesses) same;
 }
+
+-- the bytes that the code copies are the block
+pub copied : (size n count b : ℕ) (bytes slice copy : List ℕ) → n ≡ size → b < count → copy ≡ take (b * n + n - b * n) (drop (b * n) slice) → slice ≡ bytes → copy ≡ block_at (blocks_of size count bytes) b
+copied size n count b bytes slice copy same inside is slice_is =
+    is ∙ ap (λ (x : List ℕ). take (b * n + n - b * n) (drop (b * n) x)) slice_is ∙ ap (λ (m : ℕ). take m (drop (b * n) bytes)) (omega arith)
+    ∙ ap (λ (m : ℕ). take m (drop (b * m) bytes)) same ∙ sym (block_of size count bytes b inside)

@@ -2,5 +2,7 @@
 #![tactic(auto)]
 
 mod plain_tx;
+#[cfg(test)]
+mod tests;
 
 pub use plain_tx::PlainTx;

@@ -61,8 +61,8 @@ outcome_then (suc room) (LookWhole block next) f A r is =
     ap (after (a ∷ [])) (outcome_then room (next (block_at A block)) f A r is) ∙ ap (λ n. after (a ∷ rest) (outcome n (f r) (own A rest))) (sym (less room (length rest)))
 outcome_then room (Reserve count next) f A r is =
     elim (nat_le count room) as (λ t. (cond t (outcome room next A) ([], None)).1 ≡ Some r
-        → cond t (outcome room (then_do next f) A) ([], None)
-        ≡ after (cond t (outcome room next A) ([], None)).0 (outcome (room - length (cond t (outcome room next A) ([], None)).0) (f r) (own A (cond t (outcome room next A) ([], None)).0))) [
+    → cond t (outcome room (then_do next f) A) ([], None)
+    ≡ after (cond t (outcome room next A) ([], None)).0 (outcome (room - length (cond t (outcome room next A) ([], None)).0) (f r) (own A (cond t (outcome room next A) ([], None)).0))) [
       | true ↦ λ e. outcome_then room next f A r e
       | false ↦ λ e. absurd (no_answer r e)
     ] is

@@ -30,9 +30,10 @@ stopped_from whole rest t u v now stopped = record {
   done = now.done ++ stopped.done;
   is = stopped.is ∙ ap (λ (w : Tx). with_accesses w stopped.done) now.is ∙ with_more t now.done stopped.done;
   told = λ A told.
-      let part = stopped.told A (same_base whole rest t u now ∙ told) in
-      (length now.done + part.0,
-      ap (λ xs. now.done ++ xs) part.1 ∙ sym (take_more now.done (outcome (room_of u) rest (own A u.accesses)).0 part.0) ∙ sym (ap (λ x. take (length now.done + part.0) x.0) (now.told A told)));
+      let part = stopped.told A (same_base whole rest t u now ∙ told) in (
+        length now.done + part.0,
+        ap (λ xs. now.done ++ xs) part.1 ∙ sym (take_more now.done (outcome (room_of u) rest (own A u.accesses)).0 part.0) ∙ sym (ap (λ x. take (length now.done + part.0) x.0) (now.told A told)),
+      );
 }
 
 cut_from : {R : Type 0} (whole rest : Program R) (t u v : Tx) (e : TxError) → IsAt whole rest t u → IsCut rest u v e → IsCut whole t v e

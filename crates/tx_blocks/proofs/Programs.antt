@@ -75,20 +75,20 @@ agree_stored : (b : ℕ) (spans : List Span) (bytes : List ℕ) (rest : List Acc
     → Agree (store_access b spans bytes ∷ rest) A B → Agree rest (put A (store_access b spans bytes)) (put B (store_access b spans bytes))
 agree_stored b spans bytes rest A B same whole agree c p has = elim (cases_lt p (length (block_at A c))) [
   | inl inside ↦ elim (cases_eq b c) [
-      | inl here ↦
-          (let wholeA : length bytes ≡ length (block_at A c) = whole ∙ ap (λ k. length (block_at A k)) here in
-          let wholeB : length bytes ≡ length (block_at B c) = wholeA ∙ sym (same.bytes c) in
-          let insideB : p < length (block_at B c) = omega (arith, same.bytes c) in
-          put_at B (store_access b spans bytes) c p wholeB insideB
-          ∙ one_value ((b == c) && covered spans p) (get_or bytes p 0) (byte_at B c p) (byte_at A c p)
-              (λ not. agree c p (or_right (covers Read c p (store_access b spans bytes)) _ (and_from _ _ (ap (λ t. Rattle.std.specs.Prelude.not t) not) has)))
-          ∙ sym (put_at A (store_access b spans bytes) c p wholeA inside))
-      | inr other ↦
-          (let not : (b == c) ≡ false = ne_eqb b c other in
-          ap (λ (x : List ℕ). get_or x p 0) (other_block B (store_access b spans bytes) c (λ e. other (sym e)))
-          ∙ agree c p (rw not has)
-          ∙ sym (ap (λ (x : List ℕ). get_or x p 0) (other_block A (store_access b spans bytes) c (λ e. other (sym e)))))
-    ]
+    | inl here ↦
+        (let wholeA : length bytes ≡ length (block_at A c) = whole ∙ ap (λ k. length (block_at A k)) here in
+        let wholeB : length bytes ≡ length (block_at B c) = wholeA ∙ sym (same.bytes c) in
+        let insideB : p < length (block_at B c) = omega (arith, same.bytes c) in
+        put_at B (store_access b spans bytes) c p wholeB insideB
+        ∙ one_value ((b == c) && covered spans p) (get_or bytes p 0) (byte_at B c p) (byte_at A c p)
+        (λ not. agree c p (or_right (covers Read c p (store_access b spans bytes)) _ (and_from _ _ (ap (λ t. Rattle.std.specs.Prelude.not t) not) has)))
+        ∙ sym (put_at A (store_access b spans bytes) c p wholeA inside))
+    | inr other ↦
+        (let not : (b == c) ≡ false = ne_eqb b c other in
+        ap (λ (x : List ℕ). get_or x p 0) (other_block B (store_access b spans bytes) c (λ e. other (sym e)))
+        ∙ agree c p (rw not has)
+        ∙ sym (ap (λ (x : List ℕ). get_or x p 0) (other_block A (store_access b spans bytes) c (λ e. other (sym e)))))
+  ]
   | inr past ↦ put_past B (store_access b spans bytes) c p (omega (arith, same.bytes c)) ∙ sym (put_past A (store_access b spans bytes) c p past)
 ]
 
@@ -150,7 +150,7 @@ determined (Store block spans bytes next) A B same whole agree =
     let w = store_access block spans bytes in
     let rest = accesses_of next (put A w) in
     let ih = determined next (put A w) (put B w) (same_shape_put A B w same) (whole_after A w rest whole.1)
-        (agree_stored block spans bytes rest A B same (whole.0 refl) agree) in
+    (agree_stored block spans bytes rest A B same (whole.0 refl) agree) in
     record { accesses = ap (λ r. w ∷ r) ih.accesses; answer = ih.answer }
 
 pub own_reads : (A : Array) (accesses : List Access) → AreReads accesses → own A accesses ≡ A

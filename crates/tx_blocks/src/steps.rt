@@ -53,7 +53,12 @@ pub fn reserve<T: TxBlocks>(tx: &T, count: u32) -> Result<(), TxError>
 
 /// Writes the bytes of a block that lie in the spans, and the whole block where there is none. A refusal leaves the transaction
 /// as it was.
-pub fn store<T: TxBlocks>(tx: &mut T, block: u32, spans: &[Span], bytes: &[u8]) -> Result<(), TxError>
+pub fn store<T: TxBlocks>(
+    tx: &mut T,
+    block: u32,
+    spans: &[Span],
+    bytes: &[u8],
+) -> Result<(), TxError>
     requires bytes { length bytes.now ≡ (T.state tx.old).size }
     requires block { block < (T.state tx.old).blocks }
     requires spans { AllByRecursion (IsSpan (T.state tx.old).size) spans.now }

@@ -1,8 +1,5 @@
-use Rattle.std.proofs.Common.{◌≡◌, ◌∙◌, sym, ap, ◌+◌, ◌≤◌, true, false}
-use Rattle.iso_model.specs.declared.stores.StoreError.TheVariants as store
-use Rattle.iso_model.specs.HashCalls.{is_key, is_value}
+use Rattle.std.proofs.Common.{◌∙◌, sym}
 use Rattle.tx_blocks.specs.Runs.{area_of}
-use Rattle.tx_blocks.proofs.Parts.{ended_from}
 use Rattle.iso_hash.proofs.Storing.{put_bad_key, put_bad_value, put_in_area, put_call_in}
 use Rattle.iso_hash.proofs.insert.put.Goals as goal
 

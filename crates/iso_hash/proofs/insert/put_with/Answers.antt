@@ -1,5 +1,4 @@
-use Rattle.std.proofs.Common.{◌≡◌, ◌∙◌, sym, ap, false, ◌+◌, ◌<◌, ◌≤◌, [], Some, None, arith}
-use Rattle.iso_model.specs.HashCalls as hash
+use Rattle.std.proofs.Common.{false, arith}
 use Rattle.tx_blocks.proofs.Parts.{refused_so, behaves_after}
 use Rattle.tx_blocks.proofs.Refusals.{store_cause}
 use Rattle.iso_hash.proofs.Getting.{walked_cell, walked_end, walk_known}

@@ -1,8 +1,8 @@
-use Rattle.std.proofs.Common.{◌≡◌, ◌∙◌, sym, refl, ap, ◌+◌, ◌-◌, ◌<◌, ◌≤◌, [], ◌∷◌, Some, None, List, get_or, arith}
+use Rattle.std.proofs.Common.{◌≡◌, ◌∙◌, refl, ap, [], ◌∷◌, None, get_or, arith}
 use Rattle.iso_model.specs.declared.access.Span.{Span}
 use Rattle.iso_model.specs.FreeMap.{map_mark, bit_place, clear_bit}
 use Rattle.iso_model.specs.Stores.{look_access}
-use Rattle.tx_blocks.specs.Tx.{Tx, with_accesses}
+use Rattle.tx_blocks.specs.Tx.{with_accesses}
 use Rattle.tx_blocks.proofs.Progress.{at_start}
 use Rattle.tx_blocks.proofs.Refusals.{cut_at_look, read_none, read_more, read_same}
 use Rattle.tx_blocks.proofs.Parts.{behaves_after, refused_reading}
@@ -29,7 +29,7 @@ returns-clause-run g c =
     let state = g.T.TxBlocks.state in
     let a = c.args.area in
     let read : state c.look.new.tx ≡ with_accesses (state c.args.tx.now) (look_access a.start (map_mark a.blocks ∷ []) ∷ []) =
-        c.in_default.ensures.read ∙ ap (λ (s : Span). with_accesses (state c.args.tx.now) (look_access a.start (s ∷ []) ∷ [])) c.map_span.ensures in
+    c.in_default.ensures.read ∙ ap (λ (s : Span). with_accesses (state c.args.tx.now) (look_access a.start (s ∷ []) ∷ [])) c.map_span.ensures in
     given_back a (record { block = c.args.block; cell = 0 }) c.args.before _ (state c.args.tx.now) (state c.look.new.tx) (state c.shrink.new.tx) c.look.new.into c.give_back.new.map c.shrink.result
     c.requires.area c.in_default.ensures.bytes (g.met.T.TxBlocks.limits c.look.new.tx) read c.requires.block (c.look.auto.into ∙ c.requires.buffer) c.give_back.ensures.given refl c.shrink.ensures.run
 

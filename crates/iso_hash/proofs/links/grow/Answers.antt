@@ -1,11 +1,11 @@
-use Rattle.std.proofs.Common.{◌≡◌, ◌∙◌, ap, ◌+◌, ◌<◌, ◌≤◌, [], ◌∷◌, Ok, true, arith}
+use Rattle.std.proofs.Common.{◌∙◌, ap, ◌+◌, [], ◌∷◌, Ok, arith}
 use Rattle.std.specs.Int.{w32, to_be_bytes}
 use Rattle.iso_model.specs.Cells.{next_mark, block_with}
 use Rattle.iso_model.specs.FreeMap.{bit_mark, bit_place}
 use Rattle.iso_model.specs.HashCalls.{new_block}
 use Rattle.iso_model.specs.HashRegion.{bucket_of}
 use Rattle.iso_model.specs.Stores.{Done}
-use Rattle.tx_blocks.specs.Tx.{Tx, Device, room_of}
+use Rattle.tx_blocks.specs.Tx.{Tx}
 use Rattle.tx_blocks.proofs.Progress.{at_store, ran_at}
 use Rattle.tx_blocks.proofs.Refusals.{cut_at_store}
 use Rattle.tx_blocks.proofs.Parts.{refused_memory, done_so}
@@ -57,7 +57,7 @@ returns-in-Err-store_next-clause-run g c =
     cut_at_store (growing a c.args.block c.args.last c.args.position c.args.byte c.args.key.now c.args.value.now) (a.start + c.args.last) (next_mark ∷ []) (block_with a.size 0 (to_be_bytes w32 c.args.block)) (Done (Ok tt))
     (state c.args.tx.now) (state c.store_new.new.tx) (state c.store_next.new.tx) (g.T.TxBlocks.device c.store_new.new.tx) (g.T.TxBlocks.device c.store_next.new.tx) c.in-Err-store_next.e
     (grow_at_third a c.args.block c.args.last c.args.position c.args.byte c.args.key.now c.args.value.now (state c.args.tx.now) c.in_default.ensures.ok (state c.store_bit.new.tx) (state c.store_new.new.tx)
-      (g.met.T.TxBlocks.limits c.store_bit.new.tx) (g.met.T.TxBlocks.limits c.store_new.new.tx) c.in_default-store_bit.ensures.stored c.in_default-store_new.ensures.stored)
+    (g.met.T.TxBlocks.limits c.store_bit.new.tx) (g.met.T.TxBlocks.limits c.store_new.new.tx) c.in_default-store_bit.ensures.stored c.in_default-store_new.ensures.stored)
     c.in-Err-store_next.ensures.kept c.in-Err-store_next.ensures.cause
 
 pub returns-in-Err-store_next-clause-behaves : goal.returns-in-Err-store_next-clause-behaves
@@ -77,7 +77,7 @@ returns-in-Ok-clause-run g c =
     ran_at whole (state c.args.tx.now) (state c.store_next.new.tx) (Ok tt)
     (at_store whole (a.start + c.args.last) (next_mark ∷ []) (block_with a.size 0 (to_be_bytes w32 c.args.block)) (Done (Ok tt)) (state c.args.tx.now) (state c.store_new.new.tx) (state c.store_next.new.tx)
     (grow_at_third a c.args.block c.args.last c.args.position c.args.byte c.args.key.now c.args.value.now (state c.args.tx.now) c.in_default.ensures.ok (state c.store_bit.new.tx) (state c.store_new.new.tx)
-      (g.met.T.TxBlocks.limits c.store_bit.new.tx) (g.met.T.TxBlocks.limits c.store_new.new.tx) c.in_default-store_bit.ensures.stored c.in_default-store_new.ensures.stored)
+    (g.met.T.TxBlocks.limits c.store_bit.new.tx) (g.met.T.TxBlocks.limits c.store_new.new.tx) c.in_default-store_bit.ensures.stored c.in_default-store_new.ensures.stored)
     (g.met.T.TxBlocks.limits c.store_next.new.tx).count c.in-Ok.ensures.stored)
 
 pub returns-in-Ok-clause-behaves : goal.returns-in-Ok-clause-behaves

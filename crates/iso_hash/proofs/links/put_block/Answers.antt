@@ -1,10 +1,9 @@
-use Rattle.std.proofs.Common.{◌≡◌, ◌∙◌, sym, refl, ap, ◌+◌, ◌-◌, ◌<◌, ◌≤◌, [], ◌∷◌, Some, None, List, arith}
+use Rattle.std.proofs.Common.{◌≡◌, ◌∙◌, refl, ap, [], ◌∷◌, None, arith}
 use Rattle.iso_model.specs.declared.access.Span.{Span}
 use Rattle.iso_model.specs.declared.stores.StoreError.TheVariants as store
-use Rattle.iso_model.specs.FreeMap.{map_mark, lowest_free}
-use Rattle.iso_model.specs.HashRegion.{buckets}
+use Rattle.iso_model.specs.FreeMap.{map_mark}
 use Rattle.iso_model.specs.Stores.{look_access}
-use Rattle.tx_blocks.specs.Tx.{Tx, with_accesses}
+use Rattle.tx_blocks.specs.Tx.{with_accesses}
 use Rattle.tx_blocks.proofs.Progress.{at_start}
 use Rattle.tx_blocks.proofs.Refusals.{cut_at_look, read_none, read_more, read_same}
 use Rattle.tx_blocks.proofs.Parts.{behaves_after, refused_reading, refused_so}
@@ -30,7 +29,7 @@ returns-in-Some-clause-run g c =
     let state = g.T.TxBlocks.state in
     let a = c.args.area in
     let read : state c.look.new.tx ≡ with_accesses (state c.args.tx.now) (look_access a.start (map_mark a.blocks ∷ []) ∷ []) =
-        c.in_default.ensures.read ∙ ap (λ (s : Span). with_accesses (state c.args.tx.now) (look_access a.start (s ∷ []) ∷ [])) c.map_span.ensures in
+    c.in_default.ensures.read ∙ ap (λ (s : Span). with_accesses (state c.args.tx.now) (look_access a.start (s ∷ []) ∷ [])) c.map_span.ensures in
     new_some a c.args.key.now c.args.value.now c.args.last c.args.position c.buckets.result c.in-Some.block _ (state c.args.tx.now) (state c.look.new.tx) (state c.grow.new.tx) c.look.new.into c.take_lowest.new.map c.grow.result
     c.requires.area c.in_default.ensures.bytes (g.met.T.TxBlocks.limits c.look.new.tx) read c.buckets.ensures.value c.in-Some.ensures.lowest c.in-Some.ensures.inside.1 (c.look.auto.into ∙ c.requires.buffer) c.in-Some.ensures.taken refl c.grow.ensures.run
 
@@ -46,7 +45,7 @@ returns-in-None-clause-run g c =
     let state = g.T.TxBlocks.state in
     let a = c.args.area in
     let read : state c.look.new.tx ≡ with_accesses (state c.args.tx.now) (look_access a.start (map_mark a.blocks ∷ []) ∷ []) =
-        c.in_default.ensures.read ∙ ap (λ (s : Span). with_accesses (state c.args.tx.now) (look_access a.start (s ∷ []) ∷ [])) c.map_span.ensures in
+    c.in_default.ensures.read ∙ ap (λ (s : Span). with_accesses (state c.args.tx.now) (look_access a.start (s ∷ []) ∷ [])) c.map_span.ensures in
     new_none a c.args.key.now c.args.value.now c.args.last c.args.position c.buckets.result (state c.args.tx.now) (state c.look.new.tx) c.look.new.into
     c.requires.area c.in_default.ensures.bytes (g.met.T.TxBlocks.limits c.look.new.tx) read c.buckets.ensures.value c.in-None.ensures.lowest
 

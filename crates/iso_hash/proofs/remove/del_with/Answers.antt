@@ -1,10 +1,9 @@
-use Rattle.std.proofs.Common.{◌≡◌, ◌∙◌, sym, ap, subst, false, true, ◌+◌, ◌*◌, ◌<◌, ◌≤◌, ℕ, Bool, List, [], Some, None, Ok, cond, take, Result, arith}
+use Rattle.std.proofs.Common.{◌∙◌, sym, ap, false, ◌+◌, ◌*◌, ℕ, Bool, [], Ok, take, Result, arith}
 use Rattle.iso_model.specs.declared.stores.StoreError.{StoreError}
 use Rattle.iso_model.specs.Cells.{keys_end}
 use Rattle.iso_model.specs.HashCalls as hash
 use Rattle.iso_model.specs.HashCalls.{del_at, is_spent}
 use Rattle.iso_model.specs.Stores.{Program, Done}
-use Rattle.tx_blocks.specs.Runs.{HasRun}
 use Rattle.tx_blocks.proofs.Parts.{refused_so, behaves_after}
 use Rattle.tx_blocks.proofs.Progress.{ran_at, at_start}
 use Rattle.tx_blocks.proofs.Refusals.{store_cause}
@@ -18,7 +17,7 @@ returns-then-is_spent-clause-run g c =
     del_from c.args.area c.args.key.now (state c.args.tx.now) (state c.walk.new.tx) (state c.del_block.new.tx) _ c.del_block.result c.requires.key
     (walked_cell c.args.area c.args.key.now false (state c.args.tx.now) (state c.walk.new.tx) c.walk.new.buffer c.in-Ok-AtCell.field-0 c.in-Ok-AtCell.spot c.in-Ok-AtCell.before c.in-Ok-AtCell.ensures.walked c.in-Ok-AtCell.field-0-is)
     (del_spent c.args.area c.in-Ok-AtCell.spot c.in-Ok-AtCell.before (take (keys_end c.args.area.size) c.walk.new.buffer) [] (state c.walk.new.tx) (state c.del_block.new.tx) c.del_block.result
-      (ap (λ (n : ℕ). is_spent c.args.area c.in-Ok-AtCell.spot (take (64 + 31 * n) c.walk.new.buffer)) (sym c.cell_count.ensures) ∙ sym c.is_spent.ensures ∙ c.if-is_spent.true) c.del_block.ensures.run)
+    (ap (λ (n : ℕ). is_spent c.args.area c.in-Ok-AtCell.spot (take (64 + 31 * n) c.walk.new.buffer)) (sym c.cell_count.ensures) ∙ sym c.is_spent.ensures ∙ c.if-is_spent.true) c.del_block.ensures.run)
 
 pub returns-then-is_spent-clause-behaves : goal.returns-then-is_spent-clause-behaves
 returns-then-is_spent-clause-behaves g c =
@@ -33,7 +32,7 @@ returns-else-is_spent-clause-run g c =
     del_from c.args.area c.args.key.now (state c.args.tx.now) (state c.walk.new.tx) (state c.clear_cell.new.tx) _ c.clear_cell.result c.requires.key
     (walked_cell c.args.area c.args.key.now false (state c.args.tx.now) (state c.walk.new.tx) c.walk.new.buffer c.in-Ok-AtCell.field-0 c.in-Ok-AtCell.spot c.in-Ok-AtCell.before c.in-Ok-AtCell.ensures.walked c.in-Ok-AtCell.field-0-is)
     (del_kept c.args.area c.in-Ok-AtCell.spot c.in-Ok-AtCell.before (take (keys_end c.args.area.size) c.walk.new.buffer) [] (state c.walk.new.tx) (state c.clear_cell.new.tx) c.clear_cell.result
-      (ap (λ (n : ℕ). is_spent c.args.area c.in-Ok-AtCell.spot (take (64 + 31 * n) c.walk.new.buffer)) (sym c.cell_count.ensures) ∙ sym c.is_spent.ensures ∙ c.if-is_spent.false) c.clear_cell.ensures.run)
+    (ap (λ (n : ℕ). is_spent c.args.area c.in-Ok-AtCell.spot (take (64 + 31 * n) c.walk.new.buffer)) (sym c.cell_count.ensures) ∙ sym c.is_spent.ensures ∙ c.if-is_spent.false) c.clear_cell.ensures.run)
 
 pub returns-else-is_spent-clause-behaves : goal.returns-else-is_spent-clause-behaves
 returns-else-is_spent-clause-behaves g c =

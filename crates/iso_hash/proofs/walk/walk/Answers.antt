@@ -1,8 +1,6 @@
-use Rattle.std.proofs.Common.{rules, arith, ◌≡◌, ◌∙◌, sym, ap, subst, ◌+◌, ◌*◌, ◌-◌, ◌/◌, ◌<◌, ◌≤◌, ℕ, Bool, true, false, List, [], ◌∷◌, length, take, cond, Some, None, refl}
-use Rattle.iso_model.specs.declared.access.Span.{Span}
-use Rattle.iso_model.specs.Cells.{cell_count, value_mark, cell_with, word_at}
+use Rattle.std.proofs.Common.{arith, ◌≡◌, ◌∙◌, sym, ap, subst, ◌+◌, ◌*◌, true, [], ◌∷◌, take, refl}
+use Rattle.iso_model.specs.Cells.{word_at}
 use Rattle.iso_model.specs.HashCalls.{walk}
-use Rattle.iso_model.specs.HashRegion.{is_linked}
 use Rattle.iso_model.specs.Stores.{look_access}
 use Rattle.tx_blocks.specs.Tx.{Tx, with_accesses}
 use Rattle.tx_blocks.proofs.Marking.{may_mark, marked_access}
@@ -133,9 +131,11 @@ pub returns-then-next-eq0-clause-later : goal.returns-then-next-eq0-clause-later
 returns-then-next-eq0-clause-later g c = later_than (g.T.TxBlocks.device c.args.tx.now) (g.T.TxBlocks.device c.loop-position.tx) (g.T.TxBlocks.device c.look.new.tx) c.loop-position.invariant.later c.in_default.ensures.later
 
 pub returns-then-next-eq0-clause-inside : goal.returns-then-next-eq0-clause-inside
-returns-then-next-eq0-clause-inside g c =
-    (spare_inside c.args.area c.loop-position.spare c.loop-position.block c.unused_cell.result c.first_spare-spare.result c.first_spare-spare.ensures c.loop-position.invariant.spare c.loop-position.invariant.inside c.unused_cell.ensures.below,
-    c.loop-position.invariant.inside, omega (arith, c.last_position-position-end.ensures.most, c.loop-position-test.true))
+returns-then-next-eq0-clause-inside g c = (
+  spare_inside c.args.area c.loop-position.spare c.loop-position.block c.unused_cell.result c.first_spare-spare.result c.first_spare-spare.ensures c.loop-position.invariant.spare c.loop-position.invariant.inside c.unused_cell.ensures.below,
+  c.loop-position.invariant.inside,
+  omega (arith, c.last_position-position-end.ensures.most, c.loop-position-test.true),
+)
 
 pub loop-position-preserved : goal.loop-position-preserved
 loop-position-preserved g c =

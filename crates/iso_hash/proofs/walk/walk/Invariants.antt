@@ -1,4 +1,4 @@
-use Rattle.std.proofs.Common.{◌≡◌, ◌+◌, ◌-◌, ◌<◌, ◌≤◌, IfSome}
+use Rattle.std.proofs.Common.{◌≡◌, ◌-◌, ◌<◌, IfSome}
 use Rattle.iso_model.specs.HashCalls.{walk, walk_from}
 use Rattle.tx_blocks.specs.Tx.{IsLater}
 use Rattle.tx_blocks.specs.Runs.{HasRead}

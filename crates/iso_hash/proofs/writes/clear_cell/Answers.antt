@@ -1,4 +1,4 @@
-use Rattle.std.proofs.Common.{◌≡◌, ◌+◌, [], ◌∷◌, replicate, Ok, true, Result, Bool}
+use Rattle.std.proofs.Common.{◌+◌, [], ◌∷◌, replicate, Ok, true, Result, Bool}
 use Rattle.iso_model.specs.declared.stores.StoreError.{StoreError}
 use Rattle.iso_model.specs.Cells.{key_mark, value_mark}
 use Rattle.iso_model.specs.Stores.{Program, Done, Store}

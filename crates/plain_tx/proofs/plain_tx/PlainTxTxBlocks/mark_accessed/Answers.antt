@@ -10,7 +10,7 @@ invariant_of-self c =
       small = t.small;
       least = omega (arith, keeps.size, t.least);
       most = omega (arith, keeps.size, t.most);
-      same = keeps.blocks ∙ t.same;
+      same = keeps.many ∙ t.same;
       whole = t.whole ∙ sym (ap (λ n. t.count * n) keeps.size);
       few = omega (arith, keeps.count, t.few);
     }
