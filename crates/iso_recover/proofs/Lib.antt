@@ -1,0 +1,10 @@
+pub mod Laid
+pub mod Whole
+pub mod Making
+pub mod Headers
+pub mod Fronts
+pub mod Scans
+pub mod Steps
+pub mod Values
+pub mod Opens
+pub mod TestDisks

@@ -1,0 +1,11 @@
+use Rattle.std.proofs.Common.{subst}
+use Rattle.iso_model.specs.World.{World, empty_history, fresh}
+use Rattle.iso_core.specs.Core.{StandsFor}
+use Rattle.iso_core.specs.Standing.{up}
+use Rattle.iso_recover.proofs.core_over.format_image.Goals as goal
+
+pub returns-in-Ok-over-clause-stands : goal.returns-in-Ok-over-clause-stands
+returns-in-Ok-over-clause-stands g c =
+    let (geometry, generation, is) = c.in-Ok.ensures.made in
+    subst (λ (W : World). StandsFor g.D.Disk.state c.in-Ok-over.core W up) (λ i. fresh (geometry i) (generation i) (empty_history c.args.geometry.now))
+    (c.in-Ok-over.ensures.stands (empty_history c.args.geometry.now) is.to is.size is.holds)

@@ -1,0 +1,23 @@
+use Rattle.std.proofs.Common.{◌∙◌}
+use Rattle.iso_recover.proofs.Fronts.{err_weaker, front_here, ok_weaker, refused_here, stands_is}
+use Rattle.iso_recover.proofs.front.find_front.Goals as goal
+
+pub returns-clause-told : goal.returns-clause-told
+returns-clause-told g c =
+    let geometry = c.in-Ok.geometry in
+    ok_weaker c.current_front.result (λ f is image told.
+    let later = c.read_geometry.ensures.unwritten.same_contents ∙ told in
+    let said = c.in-Ok.ensures.told image told in
+    front_here geometry c.read_bytes.new.into c.read_bytes-2.new.into image
+    (stands_is (g.D.Disk.state c.args.disk.now) (g.met.D.Disk.lawful c.args.disk.now) geometry c.read_bytes.new.into c.read_bytes-2.new.into image c.half_size.result told c.in-Ok.ensures.size
+    c.half_size.ensures.size said.0 said.1 (c.in_default.ensures.told image later) (c.in_default-read_bytes.ensures.told image (c.read_bytes.ensures.unwritten.same_contents ∙ later))) f is) c.current_front.ensures.front
+
+pub returns-clause-refused : goal.returns-clause-refused
+returns-clause-refused g c =
+    let geometry = c.in-Ok.geometry in
+    err_weaker c.current_front.result (λ e fails test image told.
+    let later = c.read_geometry.ensures.unwritten.same_contents ∙ told in
+    let said = c.in-Ok.ensures.told image told in
+    refused_here geometry c.read_bytes.new.into c.read_bytes-2.new.into image
+    (stands_is (g.D.Disk.state c.args.disk.now) (g.met.D.Disk.lawful c.args.disk.now) geometry c.read_bytes.new.into c.read_bytes-2.new.into image c.half_size.result told c.in-Ok.ensures.size
+    c.half_size.ensures.size said.0 said.1 (c.in_default.ensures.told image later) (c.in_default-read_bytes.ensures.told image (c.read_bytes.ensures.unwritten.same_contents ∙ later))) e fails) c.current_front.ensures.refused

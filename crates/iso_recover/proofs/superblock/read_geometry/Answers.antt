@@ -1,0 +1,18 @@
+use Rattle.std.proofs.Common.{◌≡◌, length, take, arith, sym, ◌∙◌}
+use Rattle.iso_disk.proofs.Images.{length-contents}
+use Rattle.iso_format.specs.Reading.{super_of}
+use Rattle.iso_recover.specs.Front.{super_refusal}
+use Rattle.iso_recover.proofs.Fronts.{err_weaker, refused_short, refused_super}
+use Rattle.iso_recover.proofs.superblock.read_geometry.Goals as goal
+
+pub returns-then-have-lt64-clause-refused : goal.returns-then-have-lt64-clause-refused
+returns-then-have-lt64-clause-refused g c test image told =
+    let size = length-contents (g.met.D.Disk.lawful c.args.disk.now) image told in
+    refused_short image (omega (arith, size, c.size-have.ensures, c.if-have-lt64.true))
+
+pub returns-clause-refused : goal.returns-clause-refused
+returns-clause-refused g c =
+    err_weaker c.tested_geometry.result (λ e fails test image told.
+    let size : c.size-have.result ≡ length image = c.size-have.ensures ∙ sym (length-contents (g.met.D.Disk.lawful c.args.disk.now) image told) in
+    let block : c.read_bytes.new.into ≡ take 64 image = c.in_default.ensures.told image told in
+    refused_super image e (omega (arith, size, c.if-have-lt64.false)) (sym (λ i. super_refusal (size i) (super_of (block i))) ∙ fails)) c.tested_geometry.ensures.refused

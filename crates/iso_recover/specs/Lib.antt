@@ -1,0 +1,6 @@
+pub mod Cause
+pub mod Front
+pub mod Made
+pub mod Opened
+pub mod Scanned
+pub mod TestImage

@@ -1,0 +1,71 @@
+// The core over an image that is made or opened.
+ghost use Rattle.std.specs.Prelude.{◌≡◌, ◌≤◌, ℕ, List, replicate, Some, IfErr, IfOk, IsTrue};
+ghost use Rattle.std.specs.Option.{ForSome};
+ghost use Rattle.iso_model.specs.Geometry.{image_size, is_valid};
+ghost use Rattle.iso_model.specs.World.{empty_history, fresh};
+ghost use Rattle.iso_disk.specs.Disk.{LeavesOnly, WritesNothing};
+ghost use Rattle.fault_count.specs.Count.{Rose};
+ghost use Rattle.iso_core.specs.Core.{StandsFor, disk_of};
+ghost use Rattle.iso_core.specs.Standing.{up};
+ghost use Rattle.iso_refusal.specs.Refusal.{refusal};
+ghost use Rattle.iso_recover.specs.Cause.{IsBlamed, IsTest};
+ghost use Rattle.iso_recover.specs.Made.{IsUnmadeOrEmpty};
+ghost use Rattle.iso_recover.specs.Opened.{HasOpened};
+
+use crate::image::read_image;
+use crate::make::{MakeError, make_image};
+use iso_core::Core;
+use iso_disk::Disk;
+use iso_model::Geometry;
+use iso_refusal::OpenError;
+use std::alloc::Global;
+
+/// Makes an image of the geometry's form on which nothing was committed of a blank disk, by five calls of the disk, and a
+/// core over it. An error hands the disk back.
+pub fn format_image<D: Disk>(
+    alloc: Global,
+    disk: D,
+    geometry: &Geometry,
+) -> Result<Core<D>, (MakeError, D)>
+    requires valid { IsTrue (is_valid geometry.now) }
+    requires size { (D.state disk).size ≡ image_size geometry.now }
+    requires blank { (c : List ℕ) → (D.state disk).now c → c ≡ replicate (D.state disk).size 0 }
+    ensures stands { IfOk result (λ core. StandsFor D.state core (fresh geometry.now 1 (empty_history geometry.now)) up) }
+
+    // At each moment an image is refused as none of this project, or holds the empty history.
+    ensures moments { IfOk result (λ core. LeavesOnly (D.state disk) (D.state (disk_of core)) (IsUnmadeOrEmpty geometry.now)) }
+    ensures failed { IfErr result (λ e. LeavesOnly (D.state disk) (D.state e.1) (IsUnmadeOrEmpty geometry.now)) }
+
+    ensures fault { IfErr result (λ e. e.0 ≡ MakeError.Disk → Rose (D.state disk).faults (D.state e.1).faults) }
+    ensures no_fault { IfOk result (λ core. (D.state (disk_of core)).faults ≡ (D.state disk).faults) }
+    ensures memory { IfErr result (λ e. e.0 ≡ MakeError.Memory → (D.state e.1).faults ≡ (D.state disk).faults) }
+{
+    let mut disk = disk;
+    match make_image(alloc, &mut disk, geometry) {
+        Ok(opened) => match Core::over(alloc, disk, opened) {
+            Ok(core) => Ok(core),
+            Err((_, disk)) => Err((MakeError::Memory, disk)),
+        },
+        Err(error) => Err((error, disk)),
+    }
+}
+
+/// Opens an image, or finds the first test that it fails: a core that is up, without transactions. It begins with a sync,
+/// and writes nothing. An error hands the disk back.
+pub fn open_image<D: Disk>(alloc: Global, disk: D) -> Result<Core<D>, (OpenError, D)>
+    ensures opened { IfOk result (λ core. HasOpened D.state core (D.state disk).contents) }
+    ensures refused { IfErr result (λ e. IsTest e.0 → ForSome (D.state disk).contents (λ c. refusal c ≡ Some e.0)) }
+    ensures unwritten { IfOk result (λ core. WritesNothing (D.state disk) (D.state (disk_of core))) }
+    ensures untouched { IfErr result (λ e. WritesNothing (D.state disk) (D.state e.1)) }
+    ensures no_fault { IfOk result (λ core. (D.state (disk_of core)).faults ≡ (D.state disk).faults) }
+    ensures cause { IfErr result (λ e. IsBlamed (D.state disk).faults (D.state e.1).faults e.0) }
+{
+    let mut disk = disk;
+    match read_image(alloc, &mut disk) {
+        Ok(opened) => match Core::over(alloc, disk, opened) {
+            Ok(core) => Ok(core),
+            Err((_, disk)) => Err((OpenError::Memory, disk)),
+        },
+        Err(error) => Err((error, disk)),
+    }
+}

@@ -1,0 +1,65 @@
+// The log of an image that is opened.
+ghost use Rattle.std.specs.Prelude.{◌≡◌, ◌+◌, ◌<◌, ◌≤◌, List, Some, IfErr, IfOk};
+ghost use Rattle.std.specs.Option.{ForSome};
+ghost use Rattle.iso_model.specs.Image.{Written};
+ghost use Rattle.iso_disk.specs.Disk.{WritesNothing};
+ghost use Rattle.iso_image.specs.Half.{HasLog};
+ghost use Rattle.iso_refusal.specs.Refusal.{log_at, log_refusal};
+ghost use Rattle.iso_recover.specs.Cause.{BlamesDisk, IsTest};
+ghost use Rattle.iso_recover.specs.Front.{IsFront};
+ghost use Rattle.iso_recover.specs.Scanned.{HasRead};
+
+use crate::front::Front;
+use crate::scan::{scan_on, take_in};
+use iso_disk::Disk;
+use iso_log::{Log, ReadAhead};
+use iso_refusal::OpenError;
+use mv_index::MvIndex;
+use std::alloc::Global;
+
+/// How many bytes of a log are read at once.
+const PIECE: u32 = 1 << 20;
+
+/// Reads the log of an image whose front was read, up to its first closed gate, or finds the first test that it fails. It
+/// writes nothing, reads a piece of the log at once, and takes memory for a piece, the longest record and the versions.
+pub fn read_log<D: Disk>(
+    alloc: Global,
+    disk: &mut D,
+    front: &Front,
+) -> Result<(Log, MvIndex), OpenError>
+    requires { IsFront front.now (D.state disk.old).size }
+    ensures read { IfOk result (λ r. (told : List Written) × HasRead front.now told r.0 r.1
+        × ForSome (D.state disk.old).contents (HasLog front.now.log front.now.geometry.log front.now.geometry (front.now.base + 1) told)) }
+    ensures refused { IfErr result (λ e. IsTest e → ForSome (D.state disk.old).contents
+        (λ c. log_refusal front.now.geometry front.now.log (front.now.base + 1) front.now.geometry.log (log_at front.now.geometry front.now.half c) ≡ Some e)) }
+    ensures unwritten { WritesNothing (D.state disk.old) (D.state disk.new) }
+    ensures cause { BlamesDisk (D.state disk.old).faults (D.state disk.new).faults result }
+{
+    let Ok(mut index) = MvIndex::empty(alloc, front.geometry.blocks) else {
+        return Err(OpenError::Memory);
+    };
+    let mut log = Log::start(front.log, front.geometry.log, front.base);
+    let mut ahead = ReadAhead::new(alloc, PIECE);
+    let mut record = Vec::new(alloc);
+    let mut parts = Vec::new(alloc);
+    for _i in 0..front.geometry.log {
+        let gate = front.log + u64::from(log.used());
+        match scan_on(disk, &front.geometry, &mut log, &mut ahead, &mut record) {
+            Ok(true) => {}
+            Ok(false) => return Ok((log, index)),
+            Err(error) => return Err(error),
+        }
+        let number = log.last();
+        if let Err(_) = take_in(
+            &mut index,
+            &front.geometry,
+            number,
+            gate,
+            &record,
+            &mut parts,
+        ) {
+            return Err(OpenError::Memory);
+        }
+    }
+    Ok((log, index))
+}
