@@ -1,6 +1,6 @@
 -- The bits of a map of which one was set or cleared.
-use Rattle.std.proofs.Common.{◌≡◌, ◌≢◌, ◌∙◌, sym, refl, ap, subst, ℕ, ◌+◌, ◌*◌, ◌/◌, ◌%◌, ◌^◌, ◌<◌, ◌≤◌, Bool, true, false, ◌&&◌, ◌||◌, ◌==◌, not, List, length, get_or, set, max, min, arith, inl, inr, eq-eqb, ne_eqb}
-use Rattle.std.specs.Prelude.{bit_and, bit_or, bit_xor}
+use Rattle.std.proofs.Common.{◌≡◌, ◌≢◌, ◌∙◌, sym, ap, ℕ, ◌+◌, ◌/◌, ◌%◌, ◌^◌, ◌<◌, Bool, true, false, ◌&&◌, ◌||◌, ◌==◌, not, List, length, get_or, max, min, arith, inl, inr, eq-eqb, ne_eqb}
+use Rattle.std.specs.Prelude.{bit_and}
 use Rattle.std.specs.Int.{bit_at}
 use Rattle.std.proofs.lemmas.Bool.{cases_eq}
 use Rattle.std.proofs.lemmas.List.{get_or-set_same, get_or-set_other}

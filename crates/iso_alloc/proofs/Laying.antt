@@ -1,10 +1,8 @@
 -- Bytes that are laid into a block.
-use Rattle.std.proofs.Common.{◌≡◌, ◌≢◌, ◌⊎◌, ◌∙◌, sym, refl, ap, subst, ℕ, zero, suc, ◌+◌, ◌-◌, ◌*◌, ◌<◌, ◌≤◌, List, [], ◌∷◌, ◌++◌, length, get_or, take, drop, set, replicate, arith, append_assoc, length-append, inl, inr}
-use Rattle.std.proofs.lemmas.Bool.{cases_lt}
-use Rattle.std.proofs.lemmas.List.{length-take-le, length-drop, length-replicate, take_at, drop_at, drop-drop, drop-replicate, get_or-take, get_or-drop, get_or_past, get_or-append_right}
-use Rattle.iso_model.specs.declared.access.Span.{Span}
+use Rattle.std.proofs.Common.{◌≡◌, ◌∙◌, ap, ℕ, ◌+◌, ◌≤◌, List, ◌++◌, length, take, drop, arith, length-append}
+use Rattle.std.proofs.lemmas.List.{length-take-le, length-drop, take_at, drop_at}
 use Rattle.iso_model.specs.Stores.{bytes_in}
-use Rattle.iso_model.specs.Cells.{laid_at, block_with, part_of}
+use Rattle.iso_model.specs.Cells.{laid_at}
 
 pub length-laid_at : (at : ℕ) (bytes block : List ℕ) → at + length bytes ≤ length block → length (laid_at at bytes block) ≡ length block
 length-laid_at at bytes block fits =

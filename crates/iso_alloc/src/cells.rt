@@ -7,6 +7,7 @@ use crate::parts::{cell_count, key_part, piece, text_of};
 use std::marker::Model;
 
 /// The keys and values of a block of cells, which are the block's own bytes.
+#[derive(Drop)]
 pub struct Cells<'a> {
     block: &'a [u8],
     ghost least: { 64 ≤ length block.now },

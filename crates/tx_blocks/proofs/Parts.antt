@@ -9,10 +9,10 @@ use Rattle.iso_model.specs.declared.stores.TxError.TheVariants as error
 use Rattle.iso_model.specs.Effect.{own}
 use Rattle.iso_model.specs.Stores.{Program, after, outcome}
 use Rattle.tx_blocks.specs.Tx.{Tx, Device, IsLater, with_accesses, room_of}
-use Rattle.tx_blocks.specs.Runs.{Ends, Ran, Stopped, IsCut, HasRun, HasEnded, HasRead, IsCause, IsStoreCause, IsUnwritten, Behaves}
+use Rattle.tx_blocks.specs.Runs.{Ends, Stopped, IsCut, HasRun, HasEnded, HasRead, IsCause, IsStoreCause, Behaves}
 use Rattle.tx_blocks.proofs.Programs.{reads_append}
 use Rattle.tx_blocks.proofs.Progress.{IsAt, same_base, with_more}
-use Rattle.tx_blocks.proofs.Refusals.{cause_earlier, later_than, later_same, read_same}
+use Rattle.tx_blocks.proofs.Refusals.{cause_earlier, later_than, later_same}
 
 ends_from : {R : Type 0} (whole rest : Program R) (t u v : Tx) (end : Option R) → IsAt whole rest t u → Ends rest u v end → Ends whole t v end
 ends_from whole rest t u v end now ended = record {

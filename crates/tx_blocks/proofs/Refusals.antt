@@ -1,7 +1,7 @@
 -- Where a call that follows a program is refused an access.
-use Rattle.std.proofs.Common.{◌≡◌, ◌∙◌, sym, refl, ap, subst, ℕ, ◌+◌, ◌-◌, ◌<◌, ◌≤◌, IsTrue, false, List, [], ◌∷◌, ◌++◌, length, take, Option, Some, None, arith, append_assoc}
+use Rattle.std.proofs.Common.{◌≡◌, ◌∙◌, sym, ap, subst, ℕ, ◌+◌, ◌<◌, ◌≤◌, false, List, [], ◌∷◌, ◌++◌, length, Option, arith, append_assoc}
 use Rattle.std.proofs.lemmas.List.{append-nil}
-use Rattle.fault_count.specs.Count.{Rose, one_more}
+use Rattle.fault_count.specs.Count.{Rose}
 use Rattle.iso_model.specs.declared.access.Access.{Access}
 use Rattle.iso_model.specs.declared.access.Span.{Span}
 use Rattle.iso_model.specs.declared.stores.StoreError.{StoreError}
@@ -9,11 +9,11 @@ use Rattle.iso_model.specs.declared.stores.StoreError.TheVariants as store
 use Rattle.iso_model.specs.declared.stores.TxError.{TxError}
 use Rattle.iso_model.specs.declared.stores.TxError.TheVariants as error
 use Rattle.iso_model.specs.Effect.{is_write}
-use Rattle.iso_model.specs.Stores.{Program, Look, Reserve, Store, look_access, then_do, AreReads}
-use Rattle.tx_blocks.specs.Tx.{Tx, Device, IsLater, with_accesses, room_of}
-use Rattle.tx_blocks.specs.Runs.{Ends, Ran, Stopped, IsCut, IsCause, HasRead, IsStoreCause}
+use Rattle.iso_model.specs.Stores.{Program, Look, Store, then_do}
+use Rattle.tx_blocks.specs.Tx.{Tx, Device, IsLater, with_accesses}
+use Rattle.tx_blocks.specs.Runs.{IsCut, IsCause, HasRead, IsStoreCause}
 use Rattle.tx_blocks.proofs.Programs.{reads_append}
-use Rattle.tx_blocks.proofs.Progress.{IsAt, at_start, stopped_at, stopped_then, full_at_look, full_at_store, full_at_reserve, full_then}
+use Rattle.tx_blocks.proofs.Progress.{IsAt, at_start, stopped_at, stopped_then, full_at_look, full_at_store, full_then}
 
 full : (u v : Tx) → v ≡ u → 4096 < length v.accesses + 1 → 4096 ≤ length u.accesses
 full u v same many = let e : length v.accesses ≡ length u.accesses = ap (λ (w : Tx). length w.accesses) same in omega arith

@@ -1,5 +1,5 @@
 -- How a store's call that follows a program ends.
-use Rattle.std.specs.Prelude.{◌≡◌, ◌≢◌, ℕ, ◌+◌, ◌<◌, ◌≤◌, Bool, false, IsTrue, List, Option, Some, None, Result, Ok, Err, IfErr, OnOk, length, take}
+use Rattle.std.specs.Prelude.{◌≡◌, ◌≢◌, ℕ, ◌+◌, ◌<◌, false, IsTrue, List, Option, Some, None, Result, Ok, Err, IfErr, OnOk, length, take}
 use Rattle.std.specs.Option.{ForSome}
 use Rattle.fault_count.specs.Count.{Rose}
 use Rattle.iso_model.specs.declared.access.Access.{Access}

@@ -1,5 +1,5 @@
 -- What contracts see of a transaction over blocks, and when its calls are refused.
-use Rattle.std.specs.Prelude.{◌≡◌, ℕ, ◌+◌, ◌-◌, ◌<◌, ◌≤◌, Bool, not, if◌then◌else◌, IsTrue, List, ◌++◌, Option, Some, None, Result, Ok, Err, IfErr, nat_le, length, drop, option_map}
+use Rattle.std.specs.Prelude.{◌≡◌, ℕ, ◌-◌, ◌<◌, ◌≤◌, Bool, not, if◌then◌else◌, IsTrue, List, ◌++◌, Option, Some, None, Result, Err, IfErr, nat_le, length, drop, option_map}
 use Rattle.std.specs.Option.{ForSome}
 use Rattle.fault_count.specs.Count.{Rose}
 use Rattle.iso_model.specs.declared.access.Access.{Access}

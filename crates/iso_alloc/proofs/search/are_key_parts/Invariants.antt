@@ -1,4 +1,4 @@
-use Rattle.std.proofs.Common.{◌≡◌, ◌-◌, ℕ, true}
+use Rattle.std.proofs.Common.{◌≡◌, ◌-◌}
 use Rattle.iso_model.specs.Cells.{all_from, are_key_parts, is_part, key_mark}
 use Rattle.iso_model.specs.Stores.{bytes_in}
 use Rattle.iso_alloc.proofs.search.are_key_parts.Given as goal

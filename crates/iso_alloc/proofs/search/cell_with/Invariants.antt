@@ -1,4 +1,4 @@
-use Rattle.std.proofs.Common.{◌≡◌, ◌-◌, ℕ, true}
+use Rattle.std.proofs.Common.{◌≡◌, ◌-◌}
 use Rattle.std.specs.Str.{bytes_eq}
 use Rattle.iso_model.specs.Cells.{cell_with, key_at}
 use Rattle.iso_model.specs.Conflict.{first_from}

@@ -1,4 +1,4 @@
-use Rattle.std.proofs.Common.{◌≡◌, ◌∙◌, sym, ◌==◌, ◌||◌, true, false}
+use Rattle.std.proofs.Common.{◌∙◌, sym, ◌==◌, ◌||◌}
 use Rattle.iso_model.specs.Cells.{is_unused}
 use Rattle.iso_model.specs.HashCalls.{is_alone}
 use Rattle.iso_alloc.proofs.Loops.{all_fails, all_goes_on}

@@ -1,5 +1,4 @@
-use Rattle.std.proofs.Common.{◌≡◌, ◌∙◌, sym, ap, ◌==◌, ◌<◌, ℕ, true, false, arith, List, get_or, eq-eqb, ne_eqb}
-use Rattle.std.proofs.lemmas.Grind.{common_steps}
+use Rattle.std.proofs.Common.{◌≡◌, ◌∙◌, sym, ap, ◌==◌, ℕ, List, get_or, eq-eqb, ne_eqb}
 use Rattle.iso_model.specs.Cells.{key_mark, unused_cell}
 use Rattle.iso_model.specs.Stores.{bytes_in}
 use Rattle.iso_alloc.proofs.Loops.{first_found, first_goes_on}

@@ -1,4 +1,4 @@
-use Rattle.std.proofs.Common.{◌≡◌, ◌-◌, ◌==◌, ℕ, true, get_or}
+use Rattle.std.proofs.Common.{◌≡◌, ◌-◌, ◌==◌, get_or}
 use Rattle.iso_model.specs.Cells.{unused_cell, key_mark}
 use Rattle.iso_model.specs.Conflict.{first_from}
 use Rattle.iso_model.specs.Stores.{bytes_in}

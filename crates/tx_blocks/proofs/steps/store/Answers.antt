@@ -1,4 +1,4 @@
-use Rattle.std.proofs.Common.{◌≡◌, ◌∙◌, sym, ap, take, get_or, List, [], ◌∷◌, true, arith}
+use Rattle.std.proofs.Common.{◌∙◌, sym, ap, take, get_or, List, [], ◌∷◌, arith}
 use Rattle.std.proofs.lemmas.List.{length-take-le, take_more}
 use Rattle.iso_model.specs.declared.access.Span.{Span}
 use Rattle.iso_model.specs.Premises.{IsSpan}

@@ -1,4 +1,4 @@
-use Rattle.std.proofs.Common.{◌≡◌, ◌∙◌, sym, ap, subst, ◌*◌, ◌≤◌, length, Result, Ok, Err, arith}
+use Rattle.std.proofs.Common.{◌∙◌, sym, ap, ◌*◌, arith}
 use Rattle.plain_tx.proofs.Causes.{Keeps, kept}
 use Rattle.plain_tx.proofs.plain_tx.PlainTxTxBlocks.mark_accessed.Goals as goal
 

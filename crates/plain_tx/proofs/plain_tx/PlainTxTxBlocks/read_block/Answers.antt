@@ -1,4 +1,4 @@
-use Rattle.std.proofs.Common.{◌≡◌, ◌∙◌, sym, ap, ◌+◌, ◌-◌, ◌*◌, ◌<◌, ℕ, List, length, arith}
+use Rattle.std.proofs.Common.{◌∙◌, sym, ap, length, arith}
 use Rattle.iso_model.specs.Array.{Array}
 use Rattle.iso_model.specs.Premises.{block_at}
 use Rattle.iso_model.specs.Effect.{own}
