@@ -11,7 +11,7 @@ use Rattle.iso_model.specs.Array.{Array}
 use Rattle.iso_model.specs.Premises.{block_at}
 use Rattle.iso_model.specs.Geometry.{is_block_size}
 use Rattle.iso_model.specs.Stores.{bytes_in}
-use Rattle.iso_model.specs.Cells.{cell_count, keys_mark, value_mark, word_at, is_zero, is_part, text_of, is_unused, key_at, are_key_parts}
+use Rattle.iso_model.specs.Cells.{cell_count, keys_mark, key_mark, value_mark, word_at, is_zero, is_part, text_of, is_unused, key_at, are_key_parts}
 use Rattle.iso_model.specs.FreeMap.{map_bytes, map_bit}
 
 -- what a store holds: values under keys
