@@ -8,3 +8,4 @@ pub mod Steps
 pub mod Values
 pub mod Opens
 pub mod TestDisks
+pub mod TestCores

@@ -4,3 +4,4 @@ pub mod Made
 pub mod Opened
 pub mod Scanned
 pub mod TestImage
+pub mod TestCores

@@ -16,4 +16,6 @@ pub use iso_refusal::OpenError;
 pub use make::MakeError;
 
 #[cfg(test)]
+mod core_tests;
+#[cfg(test)]
 mod tests;

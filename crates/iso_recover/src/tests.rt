@@ -52,7 +52,7 @@ fn blank(alloc: Global) -> Result<Vec<u8>, Fail> {
 }
 
 /// Puts bytes in the place of those from `at` on.
-fn change(image: &mut Vec<u8>, at: usize, bytes: &[u8]) {
+pub(crate) fn change(image: &mut Vec<u8>, at: usize, bytes: &[u8]) {
     for (i, byte) in bytes.iter().enumerate() {
         if let Some(place) = image.get_mut(at.saturating_add(i)) {
             *place = *byte;
@@ -86,7 +86,7 @@ fn summary(opened: &Opened) -> (u8, u64, u32, u64, u64) {
 }
 
 /// A disk that was formatted.
-fn formatted(alloc: Global) -> Result<MemDisk, Memory> {
+pub(crate) fn formatted(alloc: Global) -> Result<MemDisk, Memory> {
     let bytes = zeros(alloc)?;
     match format_image(alloc, MemDisk::new(alloc, bytes), &small()) {
         Ok(core) => Ok(core.into_disk()),

@@ -1,0 +1,12 @@
+use Rattle.std.proofs.Common.{ℕ, replicate, true, false, sym, arith}
+use Rattle.iso_memdisk.specs.MemDisk.{state_of}
+use Rattle.iso_recover.proofs.TestCores.{may_fetch}
+use Rattle.iso_recover.proofs.core_tests.first_byte.Goals as goal
+
+pub fetch-requires : goal.fetch-requires
+fetch-requires c =
+    let W = c.requires.idle.world in
+    let stands = c.requires.idle.stands in
+    let begun = c.in-Ok.ensures.begun W stands in
+    may_fetch state_of c.begin.new.self W begun.3 c.requires.idle.live c.in-Ok.begun.tx c.args.block (replicate 64 0) c.geometry-geometry.result
+    (c.geometry-geometry.ensures W _ stands) begun.0 (omega (arith, c.if-block-geometry.false)) (omega (arith, c.if-geometry-ne64.false))

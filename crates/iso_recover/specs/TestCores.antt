@@ -1,0 +1,18 @@
+-- The cores of the tests.
+use Rattle.std.specs.Prelude.{◌≡◌, List, []}
+use Rattle.iso_core.specs.declared.core_itself.Core.{Core}
+use Rattle.iso_core.specs.Core.{StandsFor}
+use Rattle.iso_core.specs.Standing.{up}
+use Rattle.iso_disk.specs.Disk.{DiskState}
+use Rattle.iso_model.specs.World.{World}
+
+-- the core is up
+pub record IsUp {D : Type 0} (state : D → DiskState) (core : Core D) : Type 0 where
+  pub world : World
+  pub stands : StandsFor state core world up
+
+-- and no transaction has begun
+pub record IsIdle {D : Type 0} (state : D → DiskState) (core : Core D) : Type 0 where
+  pub world : World
+  pub stands : StandsFor state core world up
+  pub live : world.live ≡ []

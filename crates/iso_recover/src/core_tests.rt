@@ -1,0 +1,291 @@
+// What no clause says of cores: which calls of the disk they make, and that they succeed with ample memory. And the images of
+// a stop after each call, opened again. An image has four blocks of 64 bytes and logs of 256 bytes.
+ghost use Rattle.std.specs.Prelude.{◌≡◌, ◌<◌, IfOk};
+ghost use Rattle.iso_memdisk.specs.MemDisk.{state_of};
+ghost use Rattle.iso_recover.specs.TestCores.{IsIdle, IsUp};
+
+use crate::open_image;
+use crate::tests::{change, formatted};
+use conflict_rule::Checked;
+use iso_core::Core;
+use iso_memdisk::{CallKind, MemDisk};
+use iso_model::{CoreError, EndReply, Memory};
+use std::alloc::Global;
+use std::marker::Brand;
+use std::sync::ledger::{Blank, Ledger};
+use std::test::Fail;
+use step_count::Steps;
+use tx_table::Work;
+
+/// A core over the disk.
+fn opened(alloc: Global, disk: MemDisk) -> Result<Core<MemDisk>, MemDisk>
+    ensures { IfOk result (λ core. IsIdle state_of core) }
+{
+    match open_image(alloc, disk) {
+        Ok(core) => Ok(core),
+        Err((_error, disk)) => Err(disk),
+    }
+}
+
+/// What a transaction is answered that fills a block with one byte.
+fn end_of<L: Ledger>(
+    blank: Blank,
+    alloc: Global,
+    core: &mut Core<MemDisk>,
+    block: u32,
+    byte: u8,
+) -> Result<Result<EndReply, CoreError>, Memory>
+    requires name { blank.name ≡ L.name }
+    requires parts { blank.parts ≡ L.parts }
+    requires some { 0 < L.parts }
+    requires idle { IsIdle state_of core.old }
+{
+    let geometry = core.geometry();
+    if geometry.block != 64 || block >= geometry.blocks {
+        return Err(Memory);
+    }
+    let begun = match core.begin(None) {
+        Ok(begun) => begun,
+        Err(error) => return Ok(Err(error)),
+    };
+    let mut work = Work::begin(alloc, begun.at, &geometry);
+    work.reserve(block)?;
+    work.write(block, &[byte; 64]);
+    let checked = Checked {
+        upto: begun.at,
+        clash: None,
+    };
+    let mut steps = Steps::<L>::start(blank);
+    Ok(core.end(begun.tx, &mut work, &checked, &mut steps))
+}
+
+/// The reply to such a transaction on a disk that is opened, and the disk.
+fn ended_on(
+    alloc: Global,
+    disk: MemDisk,
+    block: u32,
+    byte: u8,
+) -> Result<(Result<EndReply, CoreError>, MemDisk), Memory> {
+    match opened(alloc, disk) {
+        Ok(mut core) => {
+            let reply = end_of::<Brand>(Blank::new(1), alloc, &mut core, block, byte)?;
+            Ok((reply, core.into_disk()))
+        }
+        Err(disk) => Ok((Err(CoreError::Down), disk)),
+    }
+}
+
+/// The answer to a compaction of a disk that is opened, or to one with an upgrade, and the disk.
+fn switched_on(alloc: Global, disk: MemDisk, upgrade: bool) -> (Result<u64, CoreError>, MemDisk) {
+    match opened(alloc, disk) {
+        Ok(mut core) => {
+            let answer = if upgrade {
+                core.upgrade()
+            } else {
+                core.compact()
+            };
+            (answer, core.into_disk())
+        }
+        Err(disk) => (Err(CoreError::Down), disk),
+    }
+}
+
+/// The first byte of a block, as the last commit left it.
+fn first_byte(core: &mut Core<MemDisk>, block: u32) -> Option<u8>
+    requires idle { IsIdle state_of core.old }
+{
+    let geometry = core.geometry();
+    if geometry.block != 64 || block >= geometry.blocks {
+        return None;
+    }
+    let begun = match core.begin(None) {
+        Ok(begun) => begun,
+        Err(_) => return None,
+    };
+    let mut bytes = [0u8; 64];
+    core.fetch(begun.tx, block, &mut bytes).ok()?;
+    Some(bytes[0])
+}
+
+/// The last number, the base number, the form and the first byte of a block of an image that is opened.
+fn seen(alloc: Global, image: Vec<u8>, block: u32) -> Option<(u64, u64, u8, u8)> {
+    let mut core = opened(alloc, MemDisk::new(alloc, image)).ok()?;
+    let stat = core.stat();
+    let form = core.geometry().form;
+    let byte = first_byte(&mut core, block)?;
+    Some((stat.last, stat.base, form, byte))
+}
+
+/// An image in which commit 1 fills block 2 with sevens.
+fn with_a_commit(alloc: Global) -> Result<Vec<u8>, Fail> {
+    let (_reply, disk) = ended_on(alloc, formatted(alloc)?, 2, 7)?;
+    Ok(disk.crash(alloc, 0)?)
+}
+
+/// And commit 2 fills block 1 with nines.
+fn with_two_commits(alloc: Global) -> Result<Vec<u8>, Fail> {
+    let first = MemDisk::new(alloc, with_a_commit(alloc)?);
+    let (_reply, disk) = ended_on(alloc, first, 1, 9)?;
+    Ok(disk.crash(alloc, 0)?)
+}
+
+#[test]
+fn an_end_makes_four_calls(rt: HostRuntime) -> Result<(), Fail> {
+    let alloc = rt.alloc();
+    let disk = MemDisk::new(alloc, with_a_commit(alloc)?);
+    let (reply, disk) = ended_on(alloc, disk, 1, 9)?;
+    assert_eq!(rt; reply, Ok(EndReply::Committed(2)));
+    assert_eq!(rt; disk.calls(), 9);
+    assert_eq!(rt; seen(alloc, disk.crash(alloc, 1)?, 1), Some((2, 0, 1, 9)));
+    Ok(())
+}
+
+#[test]
+fn a_stop_in_an_end_leaves_its_commit_whole_or_not_at_all(rt: HostRuntime) -> Result<(), Fail> {
+    let alloc = rt.alloc();
+    for calls in 0..5 {
+        let mut disk = MemDisk::new(alloc, with_a_commit(alloc)?);
+        disk.fuse(5 + calls);
+        let (reply, disk) = ended_on(alloc, disk, 1, 9)?;
+        let done = reply.is_ok();
+        assert_eq!(rt; done, calls == 4, "{calls}");
+        for pick in 0..6 {
+            let found = seen(alloc, disk.crash(alloc, pick)?, 1);
+            let whole = found == Some((2, 0, 1, 9));
+            assert!(rt;
+                whole || (!done && found == Some((1, 0, 1, 0))),
+                "{calls} {pick}"
+            );
+            let other = seen(alloc, disk.crash(alloc, pick)?, 2);
+            assert!(rt; other.is_some_and(|o| o.3 == 7), "{calls} {pick}");
+        }
+    }
+    Ok(())
+}
+
+#[test]
+fn a_switch_makes_nine_calls(rt: HostRuntime) -> Result<(), Fail> {
+    let alloc = rt.alloc();
+    let disk = MemDisk::new(alloc, with_two_commits(alloc)?);
+    let (answer, disk) = switched_on(alloc, disk, true);
+    assert_eq!(rt; answer, Ok(2));
+    assert_eq!(rt; disk.calls(), 14);
+    assert_eq!(rt; seen(alloc, disk.crash(alloc, 1)?, 1), Some((2, 2, 2, 9)));
+    Ok(())
+}
+
+/// Whether a stop after so many calls, of which the opening makes five and a switch nine, leaves what the two commits left, in the form that it has or gets.
+fn keeps_the_commits(alloc: Global, calls: u64, upgrade: bool) -> Result<bool, Fail> {
+    let mut disk = MemDisk::new(alloc, with_two_commits(alloc)?);
+    disk.fuse(calls);
+    let (answer, disk) = switched_on(alloc, disk, upgrade);
+    let done = answer == Ok(2);
+    let form = if upgrade { 2 } else { 1 };
+    let mut all = done == (calls == 14);
+    for pick in 0..6 {
+        let first = seen(alloc, disk.crash(alloc, pick)?, 1);
+        let second = seen(alloc, disk.crash(alloc, pick)?, 2);
+        let after = first == Some((2, 2, form, 9)) && second == Some((2, 2, form, 7));
+        let before = first == Some((2, 0, 1, 9)) && second == Some((2, 0, 1, 7));
+        all = all && (after || (before && !done));
+    }
+    Ok(all)
+}
+
+#[test]
+fn a_stop_in_a_compaction_keeps_the_last_commit(rt: HostRuntime) -> Result<(), Fail> {
+    let alloc = rt.alloc();
+    for calls in 5..15 {
+        assert!(rt; keeps_the_commits(alloc, calls, false)?, "{calls}");
+    }
+    Ok(())
+}
+
+#[test]
+fn a_stop_in_an_upgrade_keeps_the_last_commit(rt: HostRuntime) -> Result<(), Fail> {
+    let alloc = rt.alloc();
+    for calls in 5..15 {
+        assert!(rt; keeps_the_commits(alloc, calls, true)?, "{calls}");
+    }
+    Ok(())
+}
+
+/// How many of the first calls of a kind, up to eight, are missed where each fails alone in an opening and an end behind it,
+/// none of which leaves half a commit.
+fn missed(alloc: Global, kind: CallKind) -> Result<u64, Fail> {
+    let mut count = 0u64;
+    for number in 1..9 {
+        let mut disk = MemDisk::new(alloc, with_a_commit(alloc)?);
+        disk.fail_kind(kind, number);
+        let (reply, disk) = ended_on(alloc, disk, 1, 9)?;
+        let found = seen(alloc, disk.crash(alloc, number)?, 1);
+        let whole = found == Some((2, 0, 1, 9));
+        if reply.is_err() && (whole || found == Some((1, 0, 1, 0))) {
+            count = count.saturating_add(1);
+        } else if !whole {
+            count = count.saturating_add(100);
+        }
+    }
+    Ok(count)
+}
+
+#[test]
+fn each_call_of_an_opening_and_an_end_is_missed(rt: HostRuntime) -> Result<(), Fail> {
+    let alloc = rt.alloc();
+    assert_eq!(rt; missed(alloc, CallKind::Read)?, 4);
+    assert_eq!(rt; missed(alloc, CallKind::Write)?, 2);
+    assert_eq!(rt; missed(alloc, CallKind::Sync)?, 3);
+    assert_eq!(rt; missed(alloc, CallKind::Bind)?, 0);
+    Ok(())
+}
+
+#[test]
+fn an_image_at_the_last_number_is_worn(rt: HostRuntime) -> Result<(), Fail> {
+    let alloc = rt.alloc();
+    let mut image = formatted(alloc)?.crash(alloc, 0)?;
+    change(&mut image, 80, &9_223_372_036_854_775_807u64.to_be_bytes());
+    let (reply, _disk) = ended_on(alloc, MemDisk::new(alloc, image), 1, 9)?;
+    assert_eq!(rt;
+        reply,
+        Err(CoreError::Worn {
+            at: 9_223_372_036_854_775_807
+        })
+    );
+    Ok(())
+}
+
+#[test]
+fn a_full_log_has_room_after_a_compaction(rt: HostRuntime) -> Result<(), Fail> {
+    let alloc = rt.alloc();
+    let disk = MemDisk::new(alloc, with_two_commits(alloc)?);
+    let (reply, disk) = ended_on(alloc, disk, 1, 3)?;
+    assert_eq!(rt; reply, Err(CoreError::LogFull { need: 93, free: 72 }));
+    let (_, disk) = switched_on(alloc, disk, false);
+    assert_eq!(rt; ended_on(alloc, disk, 1, 3)?.0, Ok(EndReply::Committed(3)));
+    Ok(())
+}
+
+/// How often the core begins a transaction until it refuses to, at most so many times, and what it refuses it for.
+fn begun_of(core: &mut Core<MemDisk>, times: u32) -> (u32, Option<CoreError>)
+    requires up { IsUp state_of core.old }
+{
+    let mut count = 0;
+    while count < times {
+        match core.begin(None) {
+            Ok(_) => count += 1,
+            Err(error) => return (count, Some(error)),
+        }
+    }
+    (count, None)
+}
+
+#[test]
+fn as_many_transactions_begin_as_may_be_live(rt: HostRuntime) -> Result<(), Fail> {
+    let alloc = rt.alloc();
+    let begun = match opened(alloc, formatted(alloc)?) {
+        Ok(mut core) => begun_of(&mut core, 1025),
+        Err(_disk) => (0, None),
+    };
+    assert_eq!(rt; begun, (1024, Some(CoreError::TooManyTx)));
+    Ok(())
+}
