@@ -2,7 +2,7 @@
 ghost use Rattle.std.specs.Prelude.{◌≡◌, ◌+◌, ◌*◌, ◌-◌, ◌<◌, ◌≤◌, ℕ, List, length, IsTrue, OnOk, OnErr, IfOk, IsErrOf};
 ghost use Rattle.iso_model.specs.declared.access.Geometry.{Geometry};
 ghost use Rattle.iso_model.specs.Geometry.{half_size, image_size, is_valid};
-ghost use Rattle.iso_disk.specs.Disk.{IsSettled, LeavesOnly, TellsTorn, TornFrom};
+ghost use Rattle.iso_disk.specs.Disk.{IsSettled, LeavesOnly, StaysTold, TellsTorn, TornFrom};
 ghost use Rattle.fault_count.specs.Count.{HasCause, Rose};
 ghost use Rattle.commit_gate.specs.Gate.{IsClosed};
 ghost use Rattle.iso_image.specs.Half.{Half, IsFilled, IsHeld};
@@ -45,6 +45,7 @@ pub fn fill_half<D: Disk>(
     ensures ready { (g : Geometry) (x : Half) → Copies g x from.now plan.now → ((c : List ℕ) → (D.state disk.old).now c → IsHeld g x c)
         → OnOk result ((c : List ℕ) → (D.state disk.new).now c → IsReady g plan.now.geometry.form x (refilled g plan.now.generation plan.now.base x) c) }
     ensures settled { OnOk result (IsSettled (D.state disk.new)) }
+    ensures told { OnOk result (StaysTold (D.state disk.old) (D.state disk.new)) }
 
     ensures failed { OnErr result (TellsTorn (to.now.header + 1) (half_size plan.now.geometry - 1) (D.state disk.old) (D.state disk.new)) }
     ensures memory { IsErrOf result SwitchError.Memory → disk.new ≡ disk.old }
@@ -92,6 +93,7 @@ fn fill_from<D: Disk>(
     ensures filled { (g : Geometry) (x : Half) → Copies g x from.now plan.now → ((c : List ℕ) → (D.state disk.old).now c → IsHeld g x c)
         → OnOk result ((c : List ℕ) → (D.state disk.new).now c → IsFilled plan.now.geometry (refilled g plan.now.generation plan.now.base x) c) }
     ensures settled { OnOk result (IsSettled (D.state disk.new)) }
+    ensures told { OnOk result (StaysTold (D.state disk.old) (D.state disk.new)) }
     ensures failed { OnErr result (TellsTorn (to.now.header + 1) (half_size plan.now.geometry - 1) (D.state disk.old) (D.state disk.new)) }
     ensures cause { HasCause (D.state disk.old).faults (D.state disk.new).faults result }
 {
@@ -118,6 +120,7 @@ fn put_filled<D: Disk>(
     ensures moments { LeavesOnly (D.state disk.old) (D.state disk.new) (TornFrom (to.now.header + 1) (half_size plan.now.geometry - 1) (D.state disk.old).now) }
     ensures laid_out { OnOk result ((c : List ℕ) → (D.state disk.new).now c → IsLaidOut to.now plan.now base.old log.old (D.state disk.old).contents c) }
     ensures settled { OnOk result (IsSettled (D.state disk.new)) }
+    ensures told { OnOk result (StaysTold (D.state disk.old) (D.state disk.new)) }
     ensures failed { OnErr result (TellsTorn (to.now.header + 1) (half_size plan.now.geometry - 1) (D.state disk.old) (D.state disk.new)) }
     ensures cause { HasCause (D.state disk.old).faults (D.state disk.new).faults result }
 {

@@ -3,7 +3,7 @@ ghost use Rattle.std.specs.Prelude.{◌≡◌, ◌⊎◌, ◌+◌, ◌<◌, ◌�
 ghost use Rattle.std.specs.Option.{ForSome};
 ghost use Rattle.iso_model.specs.declared.access.Geometry.{Geometry};
 ghost use Rattle.iso_model.specs.Geometry.{header_place};
-ghost use Rattle.iso_disk.specs.Disk.{IsSettled, LeavesOnly, Splices, TellsTorn, TornFrom, WritesNothing};
+ghost use Rattle.iso_disk.specs.Disk.{IsSettled, LeavesOnly, Splices, StaysTold, TellsTorn, TornFrom, WritesNothing};
 ghost use Rattle.fault_count.specs.Count.{HasCause};
 ghost use Rattle.commit_gate.specs.Gate.{IsClosed};
 ghost use Rattle.iso_image.specs.Half.{Half, IsHeld, in_form};
@@ -27,6 +27,7 @@ pub fn close_half<D: Disk>(disk: &mut D, place: &HalfPlace) -> Result<(), DiskFa
 
     ensures closed { OnOk result ((c : List ℕ) → (D.state disk.new).now c → IsClosed place.now.header c) }
     ensures settled { OnOk result (IsSettled (D.state disk.new)) }
+    ensures told { OnOk result (StaysTold (D.state disk.old) (D.state disk.new)) }
 
     ensures failed { OnErr result (TellsTorn place.now.header 1 (D.state disk.old) (D.state disk.new)) }
     ensures cause { HasCause (D.state disk.old).faults (D.state disk.new).faults result }
@@ -51,6 +52,7 @@ pub fn open_half<D: Disk>(disk: &mut D, place: &HalfPlace) -> Result<(), DiskFau
         → OnOk result ((c : List ℕ) → (D.state disk.new).now c → IsHeld (in_form form g) y c) }
     ensures written { OnOk result (Splices place.now.header (1 ∷ []) (D.state disk.old) (D.state disk.new)) }
     ensures settled { OnOk result (IsSettled (D.state disk.new)) }
+    ensures told { OnOk result (StaysTold (D.state disk.old) (D.state disk.new)) }
 
     ensures failed { OnErr result (TellsTorn place.now.header 1 (D.state disk.old) (D.state disk.new)) }
     ensures cause { HasCause (D.state disk.old).faults (D.state disk.new).faults result }

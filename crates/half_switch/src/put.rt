@@ -1,6 +1,6 @@
 // The bytes of a half, written behind its gate.
 ghost use Rattle.std.specs.Prelude.{◌≡◌, ◌+◌, ◌≤◌, ℕ, List, length, OnOk, OnErr};
-ghost use Rattle.iso_disk.specs.Disk.{IsSettled, LeavesOnly, TellsTorn, TornFrom};
+ghost use Rattle.iso_disk.specs.Disk.{IsSettled, LeavesOnly, StaysTold, TellsTorn, TornFrom};
 ghost use Rattle.fault_count.specs.Count.{HasCause};
 ghost use Rattle.half_switch.specs.Put.{IsPut};
 
@@ -22,6 +22,7 @@ pub fn put_half<D: Disk>(
         → LeavesOnly (D.state disk.old) (D.state disk.new) (TornFrom (to.now.header + 1) n (D.state disk.old).now) }
     ensures put { OnOk result ((c : List ℕ) → (D.state disk.new).now c → IsPut to.now header.now base.now records.now (D.state disk.old).contents c) }
     ensures settled { OnOk result (IsSettled (D.state disk.new)) }
+    ensures told { OnOk result (StaysTold (D.state disk.old) (D.state disk.new)) }
     ensures failed { (n : ℕ) → to.now.log + length records.now ≤ to.now.header + 1 + n
         → OnErr result (TellsTorn (to.now.header + 1) n (D.state disk.old) (D.state disk.new)) }
     ensures cause { HasCause (D.state disk.old).faults (D.state disk.new).faults result }

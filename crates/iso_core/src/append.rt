@@ -1,7 +1,7 @@
 // Records of commits, appended to the log.
 ghost use Rattle.std.specs.Prelude.{◌≡◌, ◌⊎◌, ◌+◌, ◌≤◌, ◌<◌, ◌++◌, [], ◌∷◌, ℕ, List, OnOk, OnErr, IfOk, length};
 ghost use Rattle.fault_count.specs.Count.{HasCause};
-ghost use Rattle.iso_disk.specs.Disk.{IsSettled, LeavesOnly};
+ghost use Rattle.iso_disk.specs.Disk.{IsSettled, LeavesOnly, StaysTold};
 ghost use Rattle.iso_image.specs.Half.{IsHeld, half_of_world, next_gate, with_records};
 ghost use Rattle.iso_log.specs.Extent.{extent_of};
 ghost use Rattle.iso_model.specs.Geometry.{image_size};
@@ -25,6 +25,7 @@ pub(crate) fn append<D: Disk>(kept: &mut Kept, disk: &mut D) -> Result<u64, Disk
     ensures held { (W : World) (more : List Written) → AreOf (D.state disk.old) kept.old W up → AreNextRecords W more kept.old.buffer.records
         → OnOk result ((c : List ℕ) → (D.state disk.new).now c → IsHeld W.geometry (with_records more (half_of_world W kept.old.half)) c) }
     ensures settled { OnOk result (IsSettled (D.state disk.new)) }
+    ensures told { OnOk result (StaysTold (D.state disk.old) (D.state disk.new)) }
     ensures grown { (W : World) (more : List Written) → AreOf (D.state disk.old) kept.old W up → AreNextRecords W more kept.old.buffer.records
         → OnOk result (kept.new ≡ record kept.old { log = extent_of W.geometry (with_records more (half_of_world W kept.old.half)) }) }
     ensures gate { (W : World) → AreOf (D.state disk.old) kept.old W up → IfOk result (λ gate. gate ≡ next_gate W.geometry (half_of_world W kept.old.half)) }

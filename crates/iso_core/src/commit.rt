@@ -1,7 +1,7 @@
 // The commit of a transaction.
 ghost use Rattle.std.specs.Prelude.{◌≡◌, ◌≢◌, ◌⊎◌, ◌+◌, ◌≤◌, ℕ, List, [], ◌∷◌, Some, Ok, Err, OnOk, OnErr, IfOk, IfErr, IsErrOf};
 ghost use Rattle.byte_marks.specs.Touched.{AreTouched};
-ghost use Rattle.iso_disk.specs.Disk.{LeavesOnly};
+ghost use Rattle.iso_disk.specs.Disk.{LeavesOnly, StaysTold};
 ghost use Rattle.iso_image.specs.Half.{half_of_world, next_gate, with_records};
 ghost use Rattle.iso_log.specs.Extent.{extent_of};
 ghost use Rattle.iso_model.specs.History.{last};
@@ -57,6 +57,7 @@ pub(crate) fn commit<D: Disk>(
         → ((commit_step W t None).0 ≡ reply.Committed (last W.history + 1)) × AreOf (D.state disk.new) kept.new (after_leaving W t) (down (commit_of t ∷ [])) }
     ensures moments { (W : World) (t : Live) → AreOf (D.state disk.old) kept.old W up → MayCommit W tx t work.now
         → LeavesOnly (D.state disk.old) (D.state disk.new) (ShowsEither W (commit_step W t None).1) }
+    ensures told { OnOk result (StaysTold (D.state disk.old) (D.state disk.new)) }
     ensures cause { BlamesDisk (D.state disk.old).faults (D.state disk.new).faults result }
 {
     let last = kept.log.last();

@@ -34,7 +34,7 @@ pub struct Core<D: Disk> {
 impl<D: Disk> Core<D> {
     ghost use Rattle.conflict_rule.specs.Decision.{AreNotesAfter};
     ghost use Rattle.std.specs.Option.{ForSome};
-    ghost use Rattle.iso_disk.specs.Disk.{LeavesOnly, WritesNothing};
+    ghost use Rattle.iso_disk.specs.Disk.{LeavesOnly, StaysTold, WritesNothing};
     ghost use Rattle.iso_model.specs.History.{History, array_at};
     ghost use Rattle.iso_model.specs.Premises.{block_at};
     ghost use Rattle.iso_core.specs.Calls.{BlamesDisk, IsCheckedOf, IsTx, IsWorkOf, Refuses, Writes, reply_of};
@@ -138,6 +138,7 @@ impl<D: Disk> Core<D> {
         ensures work { work.new ≡ record work.old { settled = work.new.settled } }
         ensures steps { (W : World) (t : Live) → StandsFor D.state self.old W up → IsTx W tx t → IsCheckedOf W t checked.now
             → steps.new ≤ steps.old + (last W.history - checked.now.upto) }
+        ensures told { OnOk result (StaysTold (D.state (disk_of self.old)) (D.state (disk_of self.new))) }
         ensures cause { BlamesDisk (D.state (disk_of self.old)).faults (D.state (disk_of self.new)).faults result }
     {
         if self.kept.down {
@@ -181,6 +182,7 @@ impl<D: Disk> Core<D> {
         ensures down { (W : World) (lost : List Commit) → StandsFor D.state self.old W (down lost) → (result ≡ Err CoreError.Down) × (self.new ≡ self.old) }
         ensures lost { (W : World) → StandsFor D.state self.old W up → IsErrOf result CoreError.Disk → StandsFor D.state self.new W (down []) }
         ensures moments { (W : World) → StandsFor D.state self.old W up → LeavesOnly (D.state (disk_of self.old)) (D.state (disk_of self.new)) (ShowsLast W) }
+        ensures told { OnOk result (StaysTold (D.state (disk_of self.old)) (D.state (disk_of self.new))) }
         ensures cause { BlamesDisk (D.state (disk_of self.old)).faults (D.state (disk_of self.new)).faults result }
     {
         if self.kept.down {
@@ -200,6 +202,7 @@ impl<D: Disk> Core<D> {
         ensures down { (W : World) (lost : List Commit) → StandsFor D.state self.old W (down lost) → (result ≡ Err CoreError.Down) × (self.new ≡ self.old) }
         ensures lost { (W : World) → StandsFor D.state self.old W up → IsErrOf result CoreError.Disk → StandsFor D.state self.new W (down []) }
         ensures moments { (W : World) → StandsFor D.state self.old W up → LeavesOnly (D.state (disk_of self.old)) (D.state (disk_of self.new)) (ShowsLast W) }
+        ensures told { OnOk result (StaysTold (D.state (disk_of self.old)) (D.state (disk_of self.new))) }
         ensures cause { BlamesDisk (D.state (disk_of self.old)).faults (D.state (disk_of self.new)).faults result }
     {
         if self.kept.down {

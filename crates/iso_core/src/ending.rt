@@ -1,6 +1,6 @@
 // The end of a transaction.
 ghost use Rattle.std.specs.Prelude.{◌≡◌, ◌≢◌, ◌⊎◌, ◌+◌, ◌-◌, ◌≤◌, ℕ, [], ◌∷◌, Some, IfOk, IfErr, IsErrOf};
-ghost use Rattle.iso_disk.specs.Disk.{LeavesOnly};
+ghost use Rattle.iso_disk.specs.Disk.{LeavesOnly, StaysTold};
 ghost use Rattle.iso_model.specs.History.{last};
 ghost use Rattle.iso_model.specs.Step.{after_leaving, end_step};
 ghost use Rattle.iso_model.specs.World.{World, Live};
@@ -43,6 +43,7 @@ pub(crate) fn end_tx<D: Disk, L: Ledger>(
     ensures work { work.new ≡ record work.old { settled = work.new.settled } }
     ensures steps { (W : World) (t : Live) → AreOf (D.state disk.old) kept.old W up → IsTx W tx t → IsCheckedOf W t checked.now
         → steps.new ≤ steps.old + (last W.history - checked.now.upto) }
+    ensures told { OnOk result (StaysTold (D.state disk.old) (D.state disk.new)) }
     ensures cause { BlamesDisk (D.state disk.old).faults (D.state disk.new).faults result }
 {
     if !work.has_write() {

@@ -2,7 +2,7 @@
 ghost use Rattle.std.specs.Prelude.{◌≡◌, ◌⊎◌, ◌+◌, ◌<◌, ◌≤◌, ℕ, List, IsTrue, OnOk, IsErrOf};
 ghost use Rattle.fault_count.specs.Count.{Rose};
 ghost use Rattle.half_switch.specs.Plan.{AreHalves, Copies, place_of, refilled};
-ghost use Rattle.iso_disk.specs.Disk.{IsSettled, LeavesOnly};
+ghost use Rattle.iso_disk.specs.Disk.{IsSettled, LeavesOnly, StaysTold};
 ghost use Rattle.iso_image.specs.Half.{Half, IsHeld, in_form};
 ghost use Rattle.iso_model.specs.declared.access.Geometry.{Geometry};
 ghost use Rattle.iso_model.specs.Geometry.{image_size, is_valid};
@@ -32,6 +32,7 @@ pub(crate) fn refill<D: Disk>(
     ensures opened { (g : Geometry) (x : Half) (other : ℕ) → x.at + other ≡ 1 → to.now ≡ place_of g other → Copies g x from.now plan.now → ((c : List ℕ) → (D.state disk.old).now c → IsHeld g x c)
         → OnOk result ((c : List ℕ) → (D.state disk.new).now c → IsHeld (in_form plan.now.geometry.form g) (refilled g plan.now.generation plan.now.base x) c) }
     ensures settled { OnOk result (IsSettled (D.state disk.new)) }
+    ensures told { OnOk result (StaysTold (D.state disk.old) (D.state disk.new)) }
     ensures closed { IsErrOf result SwitchError.Memory → IsSettled (D.state disk.new) }
     ensures held { (g : Geometry) (x : Half) (other : ℕ) → x.at + other ≡ 1 → to.now ≡ place_of g other → Copies g x from.now plan.now → ((c : List ℕ) → (D.state disk.old).now c → IsHeld g x c)
         → IsErrOf result SwitchError.Memory → (c : List ℕ) → (D.state disk.new).now c → IsHeld g x c }

@@ -1,6 +1,6 @@
 // The base of a core, moved to the floor.
 ghost use Rattle.std.specs.Prelude.{◌≡◌, ◌≢◌, ◌⊎◌, ◌≤◌, ℕ, [], IfOk, IfErr, IsErrOf};
-ghost use Rattle.iso_disk.specs.Disk.{LeavesOnly};
+ghost use Rattle.iso_disk.specs.Disk.{LeavesOnly, StaysTold};
 ghost use Rattle.iso_model.specs.Step.{after_switch, switch_step};
 ghost use Rattle.iso_model.specs.World as model;
 ghost use Rattle.iso_model.specs.World.{World};
@@ -33,6 +33,7 @@ pub(crate) fn switch_half<D: Disk>(
     ensures same { (W : World) → AreOf (D.state disk.old) kept.old W up → IsForm W form → IfErr result (λ e. e ≢ CoreError.Disk → AreOf (D.state disk.new) kept.new W up) }
     ensures lost { (W : World) → AreOf (D.state disk.old) kept.old W up → IsForm W form → IsErrOf result CoreError.Disk → AreOf (D.state disk.new) kept.new W (down []) }
     ensures moments { (W : World) → AreOf (D.state disk.old) kept.old W up → IsForm W form → LeavesOnly (D.state disk.old) (D.state disk.new) (ShowsLast W) }
+    ensures told { OnOk result (StaysTold (D.state disk.old) (D.state disk.new)) }
     ensures cause { BlamesDisk (D.state disk.old).faults (D.state disk.new).faults result }
 {
     if kept.generation >= LAST {

@@ -1,5 +1,5 @@
 -- What the calls of a disk do to its bytes, what a crash may leave of them, and when a call may fail.
-use Rattle.std.specs.Prelude.{◌≡◌, ◌⊎◌, ℕ, ◌+◌, ◌<◌, ◌≤◌, List, ◌++◌, length, take, drop, slice_index, Option, Some, None}
+use Rattle.std.specs.Prelude.{◌≡◌, ◌⊎◌, ℕ, ◌+◌, ◌<◌, ◌≤◌, List, ◌++◌, length, take, drop, slice_index, Option, Some, None, IsSome}
 use Rattle.std.specs.Option.{option_map, ForSome}
 
 -- the old bytes with these in the place of those from `at` on
@@ -58,6 +58,10 @@ Splices at bytes old new = new.contents ≡ option_map (λ c. spliced c at bytes
 pub record TellsTorn (at n : ℕ) (old new : DiskState) : Type 0 where
   pub told : (c : List ℕ) → old.contents ≡ Some c → (d : List ℕ) × (new.contents ≡ Some d) × Torn at n c d
   pub untold : old.contents ≡ None → new.contents ≡ None
+
+-- the disk tells its bytes, if it told them before
+abbrev pub StaysTold : DiskState → DiskState → Type 0
+StaysTold old new = IsSome old.contents → IsSome new.contents
 
 -- a crash leaves what a read gives, and nothing else
 abbrev pub IsSettled : DiskState → Type 0

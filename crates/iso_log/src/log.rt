@@ -36,7 +36,7 @@ impl Log {
     ghost use Rattle.iso_model.specs.declared.access.Geometry.{Geometry};
     ghost use Rattle.iso_model.specs.Geometry.{is_valid};
     ghost use Rattle.iso_model.specs.Image.{Written};
-    ghost use Rattle.iso_disk.specs.Disk.{IsSettled, LeavesOnly, WritesNothing};
+    ghost use Rattle.iso_disk.specs.Disk.{IsSettled, LeavesOnly, StaysTold, WritesNothing};
     ghost use Rattle.commit_gate.specs.Gate.{IsClosed};
     ghost use Rattle.iso_image.specs.Half.{Half, HasLog, IsHeld, with_records};
     ghost use Rattle.iso_log.specs.Cause.{BlamesDisk};
@@ -117,6 +117,7 @@ impl Log {
             → OnOk result ((self.new ≡ extent_of g (with_records more x)) × ((c : List ℕ) → (D.state disk.new).now c → IsHeld g (with_records more x) c)) }
 
         ensures settled { OnOk result (IsSettled (D.state disk.new)) }
+        ensures told { OnOk result (StaysTold (D.state disk.old) (D.state disk.new)) }
         ensures place { IfOk result (λ at. at ≡ next_place self.old) }
         ensures grown { (g : Geometry) (more : List Written) → IsNext self.old g more bytes.now
             → OnOk result (self.new ≡ record self.old { used = self.old.used + length bytes.now - 1; last = self.old.last + length more }) }
@@ -164,6 +165,7 @@ impl Log {
             → ((c : List ℕ) → (D.state disk.old).now c → IsHeld g x c)
             → OnOk result ((self.new ≡ extent_of g (with_records (w ∷ []) x)) × ((c : List ℕ) → (D.state disk.new).now c → IsHeld g (with_records (w ∷ []) x) c)) }
         ensures settled { OnOk result (IsSettled (D.state disk.new)) }
+        ensures told { OnOk result (StaysTold (D.state disk.old) (D.state disk.new)) }
         ensures place { IfOk result (λ at. at ≡ next_place self.old) }
         ensures grown { OnOk result (self.new ≡ record self.old { used = self.old.used + length bytes.now - 1; last = self.old.last + 1 }) }
         ensures kept { OnErr result (self.new ≡ self.old) }

@@ -1,6 +1,6 @@
 // Bytes that are put behind a gate, and then the gate.
 ghost use Rattle.std.specs.Prelude.{◌≡◌, ◌+◌, ◌≤◌, ℕ, List, length, slice_index, OnOk};
-ghost use Rattle.iso_disk.specs.Disk.{IsSettled, LeavesOnly};
+ghost use Rattle.iso_disk.specs.Disk.{IsSettled, LeavesOnly, StaysTold};
 ghost use Rattle.fault_count.specs.Count.{HasCause};
 ghost use Rattle.commit_gate.specs.Gate.{IsClosed};
 ghost use Rattle.iso_log.specs.Log.{AppendedTo, AppendingFrom};
@@ -18,6 +18,7 @@ pub fn put_group<D: Disk>(disk: &mut D, gate: u64, bytes: &[u8]) -> Result<(), D
     ensures moments { LeavesOnly (D.state disk.old) (D.state disk.new) (AppendingFrom gate bytes.now (D.state disk.old).now) }
     ensures whole { OnOk result ((c : List ℕ) → (D.state disk.new).now c → AppendedTo gate bytes.now (D.state disk.old).now c) }
     ensures settled { OnOk result (IsSettled (D.state disk.new)) }
+    ensures told { OnOk result (StaysTold (D.state disk.old) (D.state disk.new)) }
     ensures cause { HasCause (D.state disk.old).faults (D.state disk.new).faults result }
 {
     put_body(disk, gate, &bytes[1..])?;
