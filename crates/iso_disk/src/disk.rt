@@ -2,7 +2,7 @@
 ghost use Rattle.std.specs.Prelude.{◌≡◌, ◌+◌, ◌^◌, ◌<◌, ◌≤◌, ℕ, List, Option, length, replicate, OnOk, OnErr, IfNone, IfSome, Some, None};
 ghost use Rattle.std.specs.List.{slice_range};
 ghost use Rattle.std.specs.Option.{ForSome};
-ghost use Rattle.iso_disk.specs.Disk.{DiskState, IsLawful, TornFrom, Splices, TellsTorn, IsSettled, Elapses};
+ghost use Rattle.iso_disk.specs.Disk.{DiskState, IsLawful, TornFrom, Splices, TellsTorn, IsSettled, Elapses, StaysTold};
 ghost use Rattle.fault_count.specs.Count.{HasCause};
 
 /// The disk has failed in this call.
@@ -60,6 +60,7 @@ pub trait Image: Disk {
         ensures blank_after_crash { OnOk result (IfSome want (λ w. (c : List ℕ) → (Self.state self.new).now c → c ≡ replicate w 0)) }
         ensures existing { OnOk result (IfNone want (ForSome (Self.state self.old).contents (λ c. (Self.state self.new).contents ≡ Some c))) }
         ensures settled { OnOk result (IfNone want (IsSettled (Self.state self.new))) }
+        ensures told { OnOk result (StaysTold (Self.state self.old) (Self.state self.new)) }
         ensures bound { OnOk result ((Self.state self.new).bound ≡ Some ((Self.state self.new).clock, name.now)) }
         ensures unbound { OnErr result ((Self.state self.new).bound ≡ None) }
         ensures cause { HasCause (Self.state self.old).faults (Self.state self.new).faults result };

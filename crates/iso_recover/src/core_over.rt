@@ -3,7 +3,7 @@ ghost use Rattle.std.specs.Prelude.{◌≡◌, ◌≤◌, ℕ, List, replicate, 
 ghost use Rattle.std.specs.Option.{ForSome};
 ghost use Rattle.iso_model.specs.Geometry.{image_size, is_valid};
 ghost use Rattle.iso_model.specs.World.{empty_history, fresh};
-ghost use Rattle.iso_disk.specs.Disk.{LeavesOnly, WritesNothing};
+ghost use Rattle.iso_disk.specs.Disk.{LeavesOnly, StaysTold, WritesNothing};
 ghost use Rattle.fault_count.specs.Count.{Rose};
 ghost use Rattle.iso_core.specs.Core.{StandsFor, disk_of};
 ghost use Rattle.iso_core.specs.Standing.{up};
@@ -36,6 +36,7 @@ pub fn format_image<D: Disk>(
     ensures moments { IfOk result (λ core. LeavesOnly (D.state disk) (D.state (disk_of core)) (IsUnmadeOrEmpty geometry.now)) }
     ensures failed { IfErr result (λ e. LeavesOnly (D.state disk) (D.state e.1) (IsUnmadeOrEmpty geometry.now)) }
 
+    ensures told { IfOk result (λ core. StaysTold (D.state disk) (D.state (disk_of core))) }
     ensures fault { IfErr result (λ e. e.0 ≡ MakeError.Disk → Rose (D.state disk).faults (D.state e.1).faults) }
     ensures no_fault { IfOk result (λ core. (D.state (disk_of core)).faults ≡ (D.state disk).faults) }
     ensures memory { IfErr result (λ e. e.0 ≡ MakeError.Memory → (D.state e.1).faults ≡ (D.state disk).faults) }

@@ -1,7 +1,7 @@
 // An image that is made over a blank disk.
 ghost use Rattle.std.specs.Prelude.{◌≡◌, ◌≤◌, ℕ, List, length, replicate, IsTrue, OnOk};
 ghost use Rattle.iso_model.specs.Geometry.{image_size, is_valid};
-ghost use Rattle.iso_disk.specs.Disk.{IsSettled, LeavesOnly};
+ghost use Rattle.iso_disk.specs.Disk.{IsSettled, LeavesOnly, StaysTold};
 ghost use Rattle.fault_count.specs.Count.{HasCause};
 ghost use Rattle.commit_gate.specs.Gate.{IsClosed};
 ghost use Rattle.iso_recover.specs.Made.{HoldsNothing, IsUnmadeOrEmpty, staged};
@@ -26,6 +26,7 @@ pub fn put_front<D: Disk>(disk: &mut D, geometry: &Geometry) -> Result<(), DiskF
 
     ensures made { OnOk result ((c : List ℕ) → (D.state disk.new).now c → HoldsNothing geometry.now c) }
     ensures settled { OnOk result (IsSettled (D.state disk.new)) }
+    ensures told { OnOk result (StaysTold (D.state disk.old) (D.state disk.new)) }
     ensures cause { HasCause (D.state disk.old).faults (D.state disk.new).faults result }
 {
     let mut superblock = [0; 64];
@@ -55,6 +56,7 @@ fn stage<D: Disk>(disk: &mut D, front: &[u8], header: &[u8]) -> Result<(), DiskF
     ensures closed { LeavesOnly (D.state disk.old) (D.state disk.new) (IsClosed 63) }
     ensures whole { OnOk result ((c : List ℕ) → (D.state disk.new).now c → c ≡ staged front.now header.now (D.state disk.old).size) }
     ensures settled { OnOk result (IsSettled (D.state disk.new)) }
+    ensures told { OnOk result (StaysTold (D.state disk.old) (D.state disk.new)) }
     ensures cause { HasCause (D.state disk.old).faults (D.state disk.new).faults result }
 {
     disk.write(0, front)?;

@@ -2,7 +2,7 @@
 ghost use Rattle.std.specs.Prelude.{◌≡◌, ◌≤◌, ℕ, List, replicate, IfOk, IsErrOf, IsTrue, OnOk};
 ghost use Rattle.iso_model.specs.Geometry.{image_size, is_valid};
 ghost use Rattle.iso_model.specs.World.{empty_history};
-ghost use Rattle.iso_disk.specs.Disk.{LeavesOnly};
+ghost use Rattle.iso_disk.specs.Disk.{LeavesOnly, StaysTold};
 ghost use Rattle.fault_count.specs.Count.{Rose};
 ghost use Rattle.iso_recover.specs.Made.{IsUnmadeOrEmpty};
 ghost use Rattle.iso_recover.specs.Opened.{IsNew, IsOpened};
@@ -57,6 +57,7 @@ pub fn make_image<D: Disk>(
     // At each moment an image is refused as none of this project, or holds the empty history.
     ensures moments { LeavesOnly (D.state disk.old) (D.state disk.new) (IsUnmadeOrEmpty geometry.now) }
 
+    ensures told { OnOk result (StaysTold (D.state disk.old) (D.state disk.new)) }
     ensures memory { IsErrOf result MakeError.Memory → disk.new ≡ disk.old }
     ensures fault { IsErrOf result MakeError.Disk → Rose (D.state disk.old).faults (D.state disk.new).faults }
     ensures no_fault { OnOk result ((D.state disk.new).faults ≡ (D.state disk.old).faults) }
