@@ -9,7 +9,7 @@ use Rattle.iso_model.specs.Conflict.{clash}
 use Rattle.iso_model.specs.Effect.{runs}
 use Rattle.iso_model.specs.Step.{step, begin_step, put_step, get_step, commit_step, end_step, put_access}
 use Rattle.iso_model.specs.Text.{words_of, number_of, hex_of, reply_text}
-use Rattle.iso_model.specs.Script.{script, any_operation, other_operation}
+use Rattle.iso_model.specs.Script.{script, operation_of, other_operation}
 use Rattle.iso_model.specs.World.{empty_history}
 use Rattle.iso_model.proofs.Small.{small, text, lines_of}
 
@@ -49,7 +49,7 @@ rounds_of_seed_0 = refl
 pub summary_of_one_round :
     bench_summary 1 (lines_of (codes "1 begin" ∷ codes "2 begin" ∷ codes "1 get 62 8 4" ∷ codes "1 put 17 36 da" ∷ codes "2 get 17 8 4" ∷ codes "2 put 62 8 36" ∷ codes "1 end" ∷ codes "2 end" ∷ []))
     ≡ codes "rounds 1 commits 2 conflicts 0 sha256 7cb5fa4d67847410648e86c762990cf304e9a20936a8f9a9feb958d75499acc2" ++ 10 ∷ []
-unfolding put clash runs any_operation other_operation step begin_step put_step get_step commit_step end_step words_of number_of hex_of reply_text digits sha256 digest_bytes hash_after compress rounds schedule first_words
+unfolding put clash runs operation_of other_operation step begin_step put_step get_step commit_step end_step words_of number_of hex_of reply_text digits sha256 digest_bytes hash_after compress rounds schedule first_words
 summary_of_one_round = refl
 
 -- An image whose base holds two commits, and whose log holds one.

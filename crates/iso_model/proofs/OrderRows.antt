@@ -1,16 +1,15 @@
 -- Worked examples of the order of refusals, and of what a switch of halves keeps.
 use Rattle.std.specs.Prelude.{◌≡◌, ℕ, ◌+◌, ◌-◌, [], ◌∷◌, ◌++◌, refl, replicate, codes, List, None, Some}
 use Rattle.std.specs.Fmt.{digits}
-use Rattle.iso_model.specs.declared.access.Geometry.{Geometry}
 use Rattle.iso_model.specs.declared.access.Mode.TheVariants.{Serial, Snapshot}
 use Rattle.iso_model.specs.declared.limits.TheConstants.{LAST}
 use Rattle.iso_model.specs.declared.script.Op.TheVariants.{Compact, Upgrade}
-use Rattle.iso_model.specs.declared.script.Reply.TheVariants.{Began, BadBlock, BadRange, Committed, Conflict, ModeFixed, TooManyTx, TooManyAccesses, Worn}
+use Rattle.iso_model.specs.declared.script.Reply.TheVariants.{BadBlock, BadRange, Committed, Conflict, ModeFixed, TooManyTx, TooManyAccesses, Worn}
 use Rattle.iso_model.specs.Array.{put}
 use Rattle.iso_model.specs.Conflict.{clash}
 use Rattle.iso_model.specs.Effect.{runs}
-use Rattle.iso_model.specs.Script.{any_operation, other_operation}
-use Rattle.iso_model.specs.Step.{step, begin_step, put_step, get_step, write_step, fill_step, commit_step, end_step, switch_step, numbers, put_access, read_access}
+use Rattle.iso_model.specs.Script.{operation_of, other_operation}
+use Rattle.iso_model.specs.Step.{step, begin_step, put_step, get_step, write_step, commit_step, end_step, switch_step, numbers, put_access, read_access}
 use Rattle.iso_model.specs.Text.{words_of, number_of, hex_of, reply_text}
 use Rattle.iso_model.specs.Versions.{versions}
 use Rattle.iso_model.specs.World.{World, Live, label, unattached}
@@ -70,14 +69,14 @@ refusals_of_an_access = refl
 pub bytes_inside_a_block :
     answers (made (record small { blocks = 2 })) (codes "1 begin" ∷ (codes "1 write 1 " ++ replicate 124 48 ++ codes "aAbB") ∷ codes "1 get 1 62 2" ∷ codes "1 get 1 61 2" ∷ codes "1 end" ∷ codes "2 begin" ∷ codes "2 get 1 62 2" ∷ [])
     ≡ text (codes "1 ok begin 0" ∷ codes "1 ok" ∷ codes "1 ok aabb" ∷ codes "1 ok 00aa" ∷ codes "1 ok commit 1" ∷ codes "2 ok begin 1" ∷ codes "2 ok aabb" ∷ [])
-unfolding put clash runs any_operation other_operation step begin_step get_step write_step commit_step end_step words_of number_of hex_of reply_text digits
+unfolding put clash runs operation_of other_operation step begin_step get_step write_step commit_step end_step words_of number_of hex_of reply_text digits
 bytes_inside_a_block = refl
 
 -- A read of bytes inside a block guards these alone.
 pub a_get_guards_its_bytes :
     answers (made small) (codes "1 begin" ∷ codes "1 get 0 8 2" ∷ codes "1 put 1 0 01" ∷ codes "2 begin" ∷ codes "2 put 0 0 01" ∷ codes "2 end" ∷ codes "1 end" ∷ codes "1 begin" ∷ codes "1 get 0 8 2" ∷ codes "1 put 1 0 01" ∷ codes "2 begin" ∷ codes "2 put 0 9 01" ∷ codes "2 end" ∷ codes "1 end" ∷ codes "1 end" ∷ [])
     ≡ text (codes "1 ok begin 0" ∷ codes "1 ok 0000" ∷ codes "1 ok" ∷ codes "2 ok begin 0" ∷ codes "2 ok" ∷ codes "2 ok commit 1" ∷ codes "1 ok commit 2" ∷ codes "1 ok begin 2" ∷ codes "1 ok 0000" ∷ codes "1 ok" ∷ codes "2 ok begin 2" ∷ codes "2 ok" ∷ codes "2 ok commit 3" ∷ codes "1 conflict with 3 block 0 at 9" ∷ codes "1 not-in-tx" ∷ [])
-unfolding put clash runs any_operation other_operation step begin_step put_step get_step commit_step end_step words_of number_of hex_of reply_text digits
+unfolding put clash runs operation_of other_operation step begin_step put_step get_step commit_step end_step words_of number_of hex_of reply_text digits
 a_get_guards_its_bytes = refl
 
 -- A switch of halves raises the generation by one; a compaction keeps the form, and an upgrade makes it 2.
@@ -92,5 +91,5 @@ what_a_switch_makes = refl
 pub a_version_below_a_live_begin_is_kept :
     answers (made small) (codes "1 begin" ∷ codes "1 put 0 0 01" ∷ codes "1 end" ∷ codes "2 begin" ∷ codes "1 begin" ∷ codes "1 put 0 0 02" ∷ codes "1 end" ∷ codes "1 trim" ∷ codes "1 stat" ∷ codes "2 abort" ∷ codes "1 trim" ∷ codes "1 stat" ∷ [])
     ≡ text (codes "1 ok begin 0" ∷ codes "1 ok" ∷ codes "1 ok commit 1" ∷ codes "2 ok begin 1" ∷ codes "1 ok begin 1" ∷ codes "1 ok" ∷ codes "1 ok commit 2" ∷ codes "1 ok trim 1" ∷ codes "1 ok last 2 base 0 trim 1 live 1 used 58 versions 2" ∷ codes "2 ok" ∷ codes "1 ok trim 2" ∷ codes "1 ok last 2 base 0 trim 2 live 0 used 58 versions 1" ∷ [])
-unfolding put clash runs any_operation other_operation step begin_step put_step commit_step end_step numbers versions words_of number_of hex_of reply_text digits
+unfolding put clash runs operation_of other_operation step begin_step put_step commit_step end_step numbers versions words_of number_of hex_of reply_text digits
 a_version_below_a_live_begin_is_kept = refl

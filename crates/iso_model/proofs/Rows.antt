@@ -16,7 +16,7 @@ use Rattle.iso_model.specs.History.{History, array_at}
 use Rattle.iso_model.specs.Conflict.{clash}
 use Rattle.iso_model.specs.Effect.{runs}
 use Rattle.iso_model.specs.Image.{superblock, half_header, spell, chosen_half}
-use Rattle.iso_model.specs.Script.{script, last_piece, bad_line, parse_whole, parse, said, any_operation, other_operation, operation_of, replies}
+use Rattle.iso_model.specs.Script.{script, last_piece, bad_line, parse_whole, parse, said, operation_of, other_operation, replies}
 use Rattle.iso_model.specs.Step.{put_access, read_access, step, begin_step, put_step, read_step, commit_step, end_step}
 use Rattle.iso_model.specs.Text.{is_label, words_of, number_of, hex_of, reply_text}
 use Rattle.iso_model.specs.World.{World, Live, Place, client, label, unattached, attached, floor, fresh, empty_history}
@@ -78,7 +78,7 @@ blank_size = refl
 pub one_put :
     answers (text (codes "1 begin" ∷ codes "1 put 2 5 abcd" ∷ codes "1 end" ∷ []))
     ≡ text (codes "1 ok begin 0" ∷ codes "1 ok" ∷ codes "1 ok commit 1" ∷ [])
-unfolding put clash runs script parse_whole parse said operation_of any_operation other_operation step begin_step put_step read_step commit_step end_step words_of number_of hex_of reply_text digits
+unfolding put clash runs script parse_whole parse said operation_of other_operation step begin_step put_step read_step commit_step end_step words_of number_of hex_of reply_text digits
 one_put = refl
 
 -- The record of that commit, and where the log begins.
@@ -128,56 +128,56 @@ two_writes_in_serial_mode = refl
 pub a_reader_of_an_old_snapshot :
     answers (text (codes "1 begin" ∷ codes "2 begin" ∷ codes "2 put 0 0 01" ∷ codes "2 end" ∷ codes "2 begin" ∷ codes "2 put 0 0 02" ∷ codes "2 end" ∷ codes "1 read 0" ∷ codes "1 end" ∷ []))
     ≡ text (codes "1 ok begin 0" ∷ codes "2 ok begin 0" ∷ codes "2 ok" ∷ codes "2 ok commit 1" ∷ codes "2 ok begin 1" ∷ codes "2 ok" ∷ codes "2 ok commit 2" ∷ (codes "1 ok " ++ replicate 128 48) ∷ codes "1 ok read-only" ∷ [])
-unfolding put clash runs script parse_whole parse said operation_of any_operation other_operation step begin_step put_step read_step commit_step end_step words_of number_of hex_of reply_text digits
+unfolding put clash runs script parse_whole parse said operation_of other_operation step begin_step put_step read_step commit_step end_step words_of number_of hex_of reply_text digits
 a_reader_of_an_old_snapshot = refl
 
 -- With a write it conflicts with the first commit that wrote what it read.
 pub a_writer_of_an_old_snapshot :
     answers (text (codes "1 begin" ∷ codes "2 begin" ∷ codes "2 put 0 0 01" ∷ codes "2 end" ∷ codes "2 begin" ∷ codes "2 put 0 0 02" ∷ codes "2 end" ∷ codes "1 read 0" ∷ codes "1 put 1 0 aa" ∷ codes "1 end" ∷ []))
     ≡ text (codes "1 ok begin 0" ∷ codes "2 ok begin 0" ∷ codes "2 ok" ∷ codes "2 ok commit 1" ∷ codes "2 ok begin 1" ∷ codes "2 ok" ∷ codes "2 ok commit 2" ∷ (codes "1 ok " ++ replicate 128 48) ∷ codes "1 ok" ∷ codes "1 conflict with 1 block 0 at 0" ∷ [])
-unfolding put clash runs script parse_whole parse said operation_of any_operation other_operation step begin_step put_step read_step commit_step end_step words_of number_of hex_of reply_text digits
+unfolding put clash runs script parse_whole parse said operation_of other_operation step begin_step put_step read_step commit_step end_step words_of number_of hex_of reply_text digits
 a_writer_of_an_old_snapshot = refl
 
 -- Two clients on one block.
 pub conflict_of_two_clients :
     answers (text (codes "1 begin" ∷ codes "2 begin" ∷ codes "2 read 0" ∷ codes "1 put 0 0 aa" ∷ codes "2 put 0 1 bb" ∷ codes "1 end" ∷ codes "2 end" ∷ codes "1 begin" ∷ codes "1 read 0" ∷ []))
     ≡ text (codes "1 ok begin 0" ∷ codes "2 ok begin 0" ∷ (codes "2 ok " ++ replicate 128 48) ∷ codes "1 ok" ∷ codes "2 ok" ∷ codes "1 ok commit 1" ∷ codes "2 conflict with 1 block 0 at 0" ∷ codes "1 ok begin 1" ∷ (codes "1 ok aa" ++ replicate 126 48) ∷ [])
-unfolding put clash runs script parse_whole parse said operation_of any_operation other_operation step begin_step put_step read_step commit_step end_step words_of number_of hex_of reply_text digits
+unfolding put clash runs script parse_whole parse said operation_of other_operation step begin_step put_step read_step commit_step end_step words_of number_of hex_of reply_text digits
 conflict_of_two_clients = refl
 
 -- The log is filled to its last byte but one, which is the next gate.
 pub log_filled_exactly :
     answers (text (codes "1 begin" ∷ (codes "1 put 0 0 " ++ elevens 64) ∷ codes "1 end" ∷ codes "1 begin" ∷ (codes "1 put 0 0 " ++ elevens 64) ∷ codes "1 end" ∷ codes "1 begin" ∷ (codes "1 put 0 0 " ++ elevens 43) ∷ codes "1 end" ∷ codes "1 begin" ∷ codes "1 put 0 0 01" ∷ codes "1 end" ∷ []))
     ≡ text (codes "1 ok begin 0" ∷ codes "1 ok" ∷ codes "1 ok commit 1" ∷ codes "1 ok begin 1" ∷ codes "1 ok" ∷ codes "1 ok commit 2" ∷ codes "1 ok begin 2" ∷ codes "1 ok" ∷ codes "1 ok commit 3" ∷ codes "1 ok begin 3" ∷ codes "1 ok" ∷ codes "1 log full need 30 free 1" ∷ [])
-unfolding put clash runs script parse_whole parse said operation_of any_operation other_operation step begin_step put_step read_step commit_step end_step words_of number_of hex_of reply_text digits
+unfolding put clash runs script parse_whole parse said operation_of other_operation step begin_step put_step read_step commit_step end_step words_of number_of hex_of reply_text digits
 log_filled_exactly = refl
 
 -- One byte more does not fit, and the transaction stays.
 pub log_one_byte_too_short :
     answers (text (codes "1 begin" ∷ (codes "1 put 0 0 " ++ elevens 64) ∷ codes "1 end" ∷ codes "1 begin" ∷ (codes "1 put 0 0 " ++ elevens 64) ∷ codes "1 end" ∷ codes "1 begin" ∷ (codes "1 put 0 0 " ++ elevens 44) ∷ codes "1 end" ∷ codes "1 begin" ∷ codes "1 abort" ∷ codes "1 end" ∷ []))
     ≡ text (codes "1 ok begin 0" ∷ codes "1 ok" ∷ codes "1 ok commit 1" ∷ codes "1 ok begin 1" ∷ codes "1 ok" ∷ codes "1 ok commit 2" ∷ codes "1 ok begin 2" ∷ codes "1 ok" ∷ codes "1 log full need 73 free 72" ∷ codes "1 in-tx" ∷ codes "1 ok" ∷ codes "1 not-in-tx" ∷ [])
-unfolding put clash runs script parse_whole parse said operation_of any_operation other_operation step begin_step put_step read_step commit_step end_step words_of number_of hex_of reply_text digits
+unfolding put clash runs script parse_whole parse said operation_of other_operation step begin_step put_step read_step commit_step end_step words_of number_of hex_of reply_text digits
 log_one_byte_too_short = refl
 
 -- An unknown operation is bad, and the lines before it stand.
 pub the_first_bad_line :
     (script (text (codes "1 begin" ∷ codes "1 jump" ∷ []))).bad
     ≡ Some (record { line = 2; cause = 2 })
-unfolding put clash runs script parse_whole parse said operation_of any_operation other_operation step begin_step put_step read_step commit_step end_step words_of number_of hex_of reply_text digits
+unfolding put clash runs script parse_whole parse said operation_of other_operation step begin_step put_step read_step commit_step end_step words_of number_of hex_of reply_text digits
 the_first_bad_line = refl
 
 -- A carriage return before a line feed, a comment, and a last line without a line feed.
 pub line_ends :
     answers (codes "1 begin" ++ 13 ∷ 10 ∷ [] ++ codes "# x" ++ 10 ∷ [] ++ codes "1 end")
     ≡ text (codes "1 ok begin 0" ∷ codes "1 ok read-only" ∷ [])
-unfolding put clash runs script parse_whole parse said operation_of any_operation other_operation step begin_step put_step read_step commit_step end_step words_of number_of hex_of reply_text digits
+unfolding put clash runs script parse_whole parse said operation_of other_operation step begin_step put_step read_step commit_step end_step words_of number_of hex_of reply_text digits
 line_ends = refl
 
 -- The first test that a line fails.
 pub causes :
     map (λ line. parse (codes line)) ("65 begin" ∷ "01 begin" ∷ "1" ∷ "1 begin x" ∷ "1 put 00 0 aa" ∷ "1 put x 0 a" ∷ "1 put 0 0 a" ∷ [])
-    ≡ map Err (1 ∷ 1 ∷ 2 ∷ 3 ∷ 4 ∷ 4 ∷ 5 ∷ [])
-unfolding put clash runs script parse_whole parse said operation_of any_operation other_operation step begin_step put_step read_step commit_step end_step words_of number_of hex_of reply_text digits
+    ≡ map Err (1 ∷ 1 ∷ 2 ∷ 10 ∷ 4 ∷ 4 ∷ 5 ∷ [])
+unfolding put clash runs script parse_whole parse said operation_of other_operation step begin_step put_step read_step commit_step end_step words_of number_of hex_of reply_text digits
 causes = refl
 
 -- A line that is too long is bad even where it says nothing.
@@ -292,9 +292,9 @@ chosen_halves = refl
 
 -- The edges of numbers and bytes.
 pub edges_of_a_line :
-    map (λ line. parse (codes line)) ("0 begin" ∷ "1 put 0 4294967296 a" ∷ "1 begin~" ∷ "1 begin x y" ∷ [])
-    ≡ map Err (1 ∷ 4 ∷ 2 ∷ 3 ∷ [])
-unfolding put clash runs script parse_whole parse said operation_of any_operation other_operation step begin_step put_step read_step commit_step end_step words_of number_of hex_of reply_text digits
+    map (λ line. parse (codes line)) ("0 begin" ∷ "1 put 0 4294967296 a" ∷ "1 begin~" ∷ "1 begin x y" ∷ "1 release A" ∷ [])
+    ≡ map Err (1 ∷ 4 ∷ 2 ∷ 3 ∷ 6 ∷ [])
+unfolding put clash runs script parse_whole parse said operation_of other_operation step begin_step put_step read_step commit_step end_step words_of number_of hex_of reply_text digits
 edges_of_a_line = refl
 
 pub a_byte_above_the_last_printable_one : parse (codes "1 begin" ++ 127 ∷ []) ≡ Err 8
@@ -303,12 +303,5 @@ a_byte_above_the_last_printable_one = refl
 
 -- A carriage return at the end of the last piece is a byte of it.
 pub a_return_in_the_last_piece : (script (codes "1 begin" ++ 13 ∷ [])).bad ≡ Some (record { line = 1; cause = 8 })
-unfolding script parse_whole parse said operation_of any_operation words_of number_of
+unfolding script parse_whole parse said operation_of words_of number_of
 a_return_in_the_last_piece = refl
-
--- A mode that is misspelled, and two.
-pub modes_of_a_begin :
-    any_operation (codes "begin") (codes "x" ∷ []) ∷ any_operation (codes "begin") (codes "x" ∷ codes "serial" ∷ []) ∷ other_operation (codes "release") (codes "A" ∷ []) ∷ []
-    ≡ Err 10 ∷ Err 3 ∷ Err 6 ∷ []
-unfolding any_operation other_operation
-modes_of_a_begin = refl

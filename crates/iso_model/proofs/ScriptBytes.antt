@@ -9,7 +9,7 @@ use Rattle.iso_model.specs.declared.script.Line.{Line}
 use Rattle.iso_model.specs.declared.script.Parsed.{Parsed}
 use Rattle.iso_model.specs.declared.script.Parsed.TheVariants.{Skip, Line as Says}
 use Rattle.iso_model.specs.Premises.{AreBytes}
-use Rattle.iso_model.specs.Script.{◌>>=◌, without_return, bad_line, bare, begin_arguments, put_arguments, one_number, two_numbers, three_numbers, number_and_bytes, one_label, number_argument, hex_argument, label_argument, mode_argument, any_operation, other_operation, operation_of, said, parse, parse_whole, last_piece, before_script, script_from, script, client_in_range, no_lines, Script}
+use Rattle.iso_model.specs.Script.{◌>>=◌, without_return, bad_line, bare, begin_arguments, put_arguments, one_number, two_numbers, three_numbers, number_and_bytes, one_label, number_argument, hex_argument, label_argument, mode_argument, operation_of, other_operation, said, parse, parse_whole, last_piece, before_script, script_from, script, client_in_range, no_lines, Script}
 use Rattle.iso_model.specs.Text.{is_empty, pieces, words_of, is_digit, hex_digit, hex_pair, hex_pairs, hex_of, number_of, is_label, label_of}
 use Rattle.iso_model.specs.Worlds.{IsOp, AreLines}
 use Rattle.iso_model.proofs.ByteLists.{no_bytes, bytes_cons}
@@ -144,9 +144,9 @@ other_op name words =
     (given_cond IsOp _ (bare Compact words) _ (bare_op IsOp Compact words tt)
     (given_cond IsOp _ (bare Upgrade words) _ (bare_op IsOp Upgrade words tt) (given_none IsOp 2)))))))
 
-any_op : (name : List ℕ) (words : List (List ℕ)) → IfGiven IsOp (any_operation name words)
-unfolding any_operation
-any_op name words =
+named_op : (name : List ℕ) (words : List (List ℕ)) → IfGiven IsOp (operation_of name words)
+unfolding operation_of
+named_op name words =
     given_cond IsOp _ (begin_arguments words) _ (begin_op words)
     (given_cond IsOp _ (put_arguments words) _ (put_op IsOp (λ block off bytes are. are) words)
     (given_cond IsOp _ (one_number Read words) _ (one_op IsOp Read (λ n. tt) words)
@@ -157,11 +157,6 @@ any_op name words =
     (given_cond IsOp _ (bare End words) _ (bare_op IsOp End words tt)
     (given_cond IsOp _ (bare Abort words) _ (bare_op IsOp Abort words tt)
     (other_op name words)))))))))
-
-named_op : (name : List ℕ) (words : List (List ℕ)) → IfGiven IsOp (operation_of name words)
-unfolding operation_of
-named_op name words =
-    given_cond IsOp _ (Err 2) _ (given_none IsOp 2) (given_cond IsOp _ (Err 3) _ (given_none IsOp 3) (any_op name words))
 
 -- what a line says
 abbrev pub IsSaid : (Op → Type 0) → Parsed → Type 0

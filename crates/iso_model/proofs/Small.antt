@@ -4,7 +4,7 @@ use Rattle.iso_model.specs.declared.access.Geometry.{Geometry}
 use Rattle.iso_model.specs.declared.access.Mode.TheVariants.{Serial}
 use Rattle.iso_model.specs.declared.script.Line.{Line}
 use Rattle.iso_model.specs.declared.script.Op.{Op}
-use Rattle.iso_model.specs.Script.{any_operation, after, replies}
+use Rattle.iso_model.specs.Script.{operation_of, after, replies}
 use Rattle.iso_model.specs.Text.{number_of, words_of}
 use Rattle.iso_model.specs.World.{World, fresh, empty_history}
 
@@ -26,7 +26,7 @@ said_by (Some client) (Err cause) = []
 said_by None op = []
 
 abbrev pub line_of : List (List ℕ) → List (ℕ × Line)
-line_of (client ∷ name ∷ arguments) = said_by (number_of client) (any_operation name arguments)
+line_of (client ∷ name ∷ arguments) = said_by (number_of client) (operation_of name arguments)
 line_of (client ∷ []) = []
 line_of [] = []
 

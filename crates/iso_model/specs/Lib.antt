@@ -7,7 +7,6 @@ pub mod World
 pub mod Versions
 pub mod Marks
 pub mod Step
-pub mod Open
 pub mod Script
 pub mod Image
 pub mod Text

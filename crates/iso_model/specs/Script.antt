@@ -1,5 +1,5 @@
 -- The language of scripts: what a line says, what a whole input says, and what it is answered.
-use Rattle.std.specs.Prelude.{ℕ, ◌+◌, Bool, true, ◌&&◌, ◌||◌, ◌==◌, not, if◌then◌else◌, List, [], ◌∷◌, ◌++◌, Option, Some, None, Result, Ok, Err, length, take, nat_eq, nat_le, nat_lt, ok_or, codes, bytes_eq}
+use Rattle.std.specs.Prelude.{ℕ, ◌+◌, Bool, true, ◌&&◌, ◌||◌, ◌==◌, if◌then◌else◌, List, [], ◌∷◌, ◌++◌, Option, Some, None, Result, Ok, Err, length, take, nat_eq, nat_le, nat_lt, ok_or, codes, bytes_eq}
 use Rattle.std.specs.List.{list_all}
 use Rattle.iso_model.specs.declared.limits.TheConstants.{MAX_INPUT, MAX_LINE}
 use Rattle.iso_model.specs.declared.script.BadLine.{BadLine}
@@ -10,7 +10,6 @@ use Rattle.iso_model.specs.declared.script.Parsed.{Parsed}
 use Rattle.iso_model.specs.declared.script.Parsed.TheVariants.{Skip, Line as Says}
 use Rattle.iso_model.specs.Step.{step}
 use Rattle.iso_model.specs.declared.access.Mode.{Mode}
-use Rattle.iso_model.specs.Open.{is_open, takes_too_many}
 use Rattle.iso_model.specs.Text.{pieces, is_empty, words_of, number_of, hex_of, label_of, mode_of, reply_line}
 use Rattle.iso_model.specs.World.{World}
 
@@ -120,9 +119,9 @@ other_operation name arguments =
     else if bytes_eq name (codes "upgrade") then bare Upgrade arguments
     else Err 2
 
--- the operation of this name, whether or not it is open
-unfoldable pub any_operation : (name : List ℕ) → (arguments : List (List ℕ)) → Result Op ℕ
-any_operation name arguments =
+-- the operation of this name
+unfoldable pub operation_of : (name : List ℕ) → (arguments : List (List ℕ)) → Result Op ℕ
+operation_of name arguments =
     if bytes_eq name (codes "begin") then begin_arguments arguments
     else if bytes_eq name (codes "put") then put_arguments arguments
     else if bytes_eq name (codes "read") then one_number Read arguments
@@ -133,13 +132,6 @@ any_operation name arguments =
     else if bytes_eq name (codes "end") then bare End arguments
     else if bytes_eq name (codes "abort") then bare Abort arguments
     else other_operation name arguments
-
--- the operation of this name; one that is not open has cause 2, and an argument that is not open has cause 3
-unfoldable pub operation_of : (name : List ℕ) → (arguments : List (List ℕ)) → Result Op ℕ
-operation_of name arguments =
-    if not (is_open name) then Err 2
-    else if takes_too_many name (length arguments) then Err 3
-    else any_operation name arguments
 
 -- what the words of a line say
 unfoldable pub said : List (List ℕ) → Result Parsed ℕ

@@ -58,7 +58,7 @@ pub struct BadLine {
     pub cause: u8,
 }
 
-/// Why a line gives no operation: the first test that it fails, 1 to 8, or want of memory.
+/// Why a line gives no operation: the first test that it fails, 1 to 8 or 10, or want of memory.
 #[derive(Clone, Copy, Debug, PartialEq, Eq)]
 pub enum LineError {
     Cause(u8),

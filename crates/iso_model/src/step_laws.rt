@@ -7,13 +7,11 @@ ghost use Rattle.iso_model.specs.declared.access.Run.{Run};
 ghost use Rattle.iso_model.specs.declared.access.Span.{Span};
 ghost use Rattle.iso_model.specs.declared.limits.TheConstants.{MAX_INPUT};
 ghost use Rattle.iso_model.specs.declared.script.Op.{Op};
-ghost use Rattle.iso_model.specs.declared.script.Parsed.{Parsed};
 ghost use Rattle.iso_model.specs.Array.{covered, in_span};
 ghost use Rattle.iso_model.specs.Effect.{effect_at, runs};
 ghost use Rattle.iso_model.specs.History.{last};
 ghost use Rattle.iso_model.specs.Marks.{marked};
-ghost use Rattle.iso_model.specs.Open.{AreOpen, SaysOpen};
-ghost use Rattle.iso_model.specs.Script.{parse, parse_whole, script};
+ghost use Rattle.iso_model.specs.Script.{script};
 ghost use Rattle.iso_model.specs.Step.{shown_to, step, write_access};
 ghost use Rattle.iso_model.specs.Versions.{is_kept, is_written, versions, IsWritten, StillShows};
 ghost use Rattle.iso_model.specs.World.{floor, logged_commits, BeganAt, Live, World};
@@ -31,12 +29,9 @@ pub fn marks_change_the_last_access()
         → effect_at (marked span (accesses ++ write_access block bytes ∷ [])) block p ≡ effect_at accesses block p }
 {}
 
-/// A line says none but an operation that is open, and an input that is cut has a bad line.
-pub fn lines_are_open()
-    ensures parse { (text : List ℕ) (parsed : Parsed) → parse text ≡ Ok parsed → SaysOpen parsed }
-    ensures whole { (piece : List ℕ) (parsed : Parsed) → parse_whole piece ≡ Ok parsed → SaysOpen parsed }
-    ensures script { (input : List ℕ) → AreOpen (script input).lines }
-    ensures cut { (input : List ℕ) → MAX_INPUT ≤ length input → IsSome (script input).bad }
+/// An input that is cut has a bad line.
+pub fn cut_inputs_are_bad()
+    ensures { (input : List ℕ) → MAX_INPUT ≤ length input → IsSome (script input).bad }
 {}
 
 /// Trimming, numbers, compaction and an upgrade leave the commits and the transactions, and so all that they are shown.

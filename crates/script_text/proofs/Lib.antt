@@ -4,7 +4,6 @@ pub mod LineLemmas
 pub mod EnoughWords
 pub mod Extending
 pub mod FirstItems
-pub mod OpenLines
 pub mod Fronts
 pub mod Numerals
 pub mod Spaces

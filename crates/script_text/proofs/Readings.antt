@@ -6,8 +6,7 @@ use Rattle.iso_model.specs.declared.script.Line.{Line}
 use Rattle.iso_model.specs.declared.script.Op.{Op}
 use Rattle.iso_model.specs.declared.script.Op.TheVariants.{Begin, End, Abort, Put, Read, Get, Write, Fill, Mark, Release, Takeover, Await, Trim, Stat, Compact, Upgrade}
 use Rattle.iso_model.specs.declared.script.Parsed.TheVariants.{Line as Says}
-use Rattle.iso_model.specs.Open.{IsOpen}
-use Rattle.iso_model.specs.Script.{◌>>=◌, any_operation, client_in_range, number_argument, number_and_bytes, one_label, one_number, operation_of, other_operation, parse, put_arguments, said, three_numbers, two_numbers}
+use Rattle.iso_model.specs.Script.{◌>>=◌, client_in_range, number_argument, number_and_bytes, one_label, one_number, operation_of, other_operation, parse, put_arguments, said, three_numbers, two_numbers}
 use Rattle.iso_model.specs.Text.{hex_text, is_label, number_of, words_of}
 use Rattle.script_text.specs.Spelling.{arguments_of, line_text, line_words, name_of, spaced, AreSome, IsLine, IsSayable}
 use Rattle.script_text.proofs.LineLemmas.{parse-said}
@@ -85,47 +84,26 @@ put_printed block off bytes first second are =
 label_printed : (op : List ℕ → Op) (label : List ℕ) → IsTrue (is_label label) → one_label op (label ∷ []) ≡ Ok (op label)
 label_printed op label is = after _ _ label (label_argument-printed label is)
 
-pub any_operation-printed : (op : Op) → IsSayable op → any_operation (name_of op) (arguments_of op) ≡ Ok op
-unfolding any_operation other_operation
-any_operation-printed (Begin None) can = refl
-any_operation-printed (Begin (Some Serial)) can = refl
-any_operation-printed (Begin (Some Snapshot)) can = refl
-any_operation-printed End can = refl
-any_operation-printed Abort can = refl
-any_operation-printed (Put block off bytes) can = put_printed block off bytes can.0 can.1 can.2
-any_operation-printed (Read block) can = one_printed Read block can
-any_operation-printed (Get block off len) can = three_printed Get block off len can.0 can.1 can.2
-any_operation-printed (Write block bytes) can = bytes_printed Write block bytes can.0 can.1
-any_operation-printed (Fill block bytes) can = bytes_printed Fill block bytes can.0 can.1
-any_operation-printed (Mark off len) can = two_printed Mark off len can.0 can.1
-any_operation-printed (Release label) can = label_printed Release label can
-any_operation-printed (Takeover label) can = label_printed Takeover label can
-any_operation-printed (Await label) can = label_printed Await label can
-any_operation-printed Trim can = refl
-any_operation-printed Stat can = refl
-any_operation-printed Compact can = refl
-any_operation-printed Upgrade can = refl
-
--- an operation that is open is read as any
-named_open : (op : Op) → IsOpen op → operation_of (name_of op) (arguments_of op) ≡ any_operation (name_of op) (arguments_of op)
-unfolding operation_of
-named_open (Begin None) is = refl
-named_open (Begin (Some mode)) is = absurd is
-named_open End is = refl
-named_open Abort is = refl
-named_open (Put block off bytes) is = refl
-named_open (Read block) is = refl
-named_open (Get block off len) is = absurd is
-named_open (Write block bytes) is = absurd is
-named_open (Fill block bytes) is = absurd is
-named_open (Mark off len) is = absurd is
-named_open (Release label) is = absurd is
-named_open (Takeover label) is = absurd is
-named_open (Await label) is = absurd is
-named_open Trim is = absurd is
-named_open Stat is = absurd is
-named_open Compact is = absurd is
-named_open Upgrade is = absurd is
+pub operation_of-printed : (op : Op) → IsSayable op → operation_of (name_of op) (arguments_of op) ≡ Ok op
+unfolding operation_of other_operation
+operation_of-printed (Begin None) can = refl
+operation_of-printed (Begin (Some Serial)) can = refl
+operation_of-printed (Begin (Some Snapshot)) can = refl
+operation_of-printed End can = refl
+operation_of-printed Abort can = refl
+operation_of-printed (Put block off bytes) can = put_printed block off bytes can.0 can.1 can.2
+operation_of-printed (Read block) can = one_printed Read block can
+operation_of-printed (Get block off len) can = three_printed Get block off len can.0 can.1 can.2
+operation_of-printed (Write block bytes) can = bytes_printed Write block bytes can.0 can.1
+operation_of-printed (Fill block bytes) can = bytes_printed Fill block bytes can.0 can.1
+operation_of-printed (Mark off len) can = two_printed Mark off len can.0 can.1
+operation_of-printed (Release label) can = label_printed Release label can
+operation_of-printed (Takeover label) can = label_printed Takeover label can
+operation_of-printed (Await label) can = label_printed Await label can
+operation_of-printed Trim can = refl
+operation_of-printed Stat can = refl
+operation_of-printed Compact can = refl
+operation_of-printed Upgrade can = refl
 
 client_fits : (c : ℕ) → 1 ≤ c → c ≤ 64 → client_in_range (Some c) ≡ Ok c
 client_fits c first last = grind arith
@@ -133,21 +111,21 @@ client_fits c first last = grind arith
 client_printed : (c : ℕ) → 1 ≤ c → c ≤ 64 → client_in_range (number_of (decimal c)) ≡ Ok c
 client_printed c first last = ap client_in_range (number_of-printed c (omega arith)) ∙ client_fits c first last
 
-said-printed : (line : Line) → IsLine line → IsOpen line.op → said (line_words line) ≡ Ok (Says line)
+said-printed : (line : Line) → IsLine line → said (line_words line) ≡ Ok (Says line)
 unfolding said
-said-printed line is open_ =
+said-printed line is =
     after _ _ line.client (client_printed line.client is.first is.last)
-    ∙ after _ _ line.op (named_open line.op open_ ∙ any_operation-printed line.op is.op)
+    ∙ after _ _ line.op (operation_of-printed line.op is.op)
 
-pub parse-printed : (line : Line) → IsLine line → IsOpen line.op → length (line_text line) ≤ MAX_LINE → parse (line_text line) ≡ Ok (Says line)
+pub parse-printed : (line : Line) → IsLine line → length (line_text line) ≤ MAX_LINE → parse (line_text line) ≡ Ok (Says line)
 unfolding line_text
-parse-printed line is open_ short =
+parse-printed line is short =
     let are = line_are_words line is in
     let client : line.client < 2 ^ 64 = omega (arith, is.last) in
     sym (parse-said (spaced (line_words line)) short (spaced_says (decimal line.client) (name_of line.op ∷ arguments_of line.op) are.0.some (decimal_digits line.client client)) (spaced_printable (line_words line) are))
-    ∙ ap said (words_of-spaced _ _ are) ∙ said-printed line is open_
+    ∙ ap said (words_of-spaced _ _ are) ∙ said-printed line is
 
--- what the words of a line spell, whether or not they are open
+-- what the words of a line spell
 abbrev client_of : List (List ℕ) → Result ℕ ℕ
 client_of [] = Err 1
 client_of (client ∷ words) = client_in_range (number_of client)
@@ -155,13 +133,13 @@ client_of (client ∷ words) = client_in_range (number_of client)
 abbrev spelled_op : List (List ℕ) → Result Op ℕ
 spelled_op [] = Err 2
 spelled_op (client ∷ []) = Err 2
-spelled_op (client ∷ name ∷ arguments) = any_operation name arguments
+spelled_op (client ∷ name ∷ arguments) = operation_of name arguments
 
 pub line_text-injective : (line other : Line) → IsLine line → IsLine other → line_text line ≡ line_text other → line ≡ other
 line_text-injective line other is also same =
     let words = sym (words_of-printed line is) ∙ ap words_of same ∙ words_of-printed other also in
     let clients = sym (client_printed line.client is.first is.last) ∙ ap client_of words ∙ client_printed other.client also.first also.last in
-    let ops = sym (any_operation-printed line.op is.op) ∙ ap spelled_op words ∙ any_operation-printed other.op also.op in
+    let ops = sym (operation_of-printed line.op is.op) ∙ ap spelled_op words ∙ operation_of-printed other.op also.op in
     let client : line.client ≡ other.client = cc in
     let op : line.op ≡ other.op = cc in
     λ i. record { client = client i; op = op i }

@@ -1,6 +1,5 @@
 // What a line of a script says.
-ghost use Rattle.std.specs.Prelude.{◌≡◌, IfOk};
-ghost use Rattle.iso_model.specs.Open.{SaysOpen};
+ghost use Rattle.std.specs.Prelude.{◌≡◌};
 ghost use Rattle.iso_model.specs.Script.{is_skipped, parse, parse_whole, said, without_return};
 ghost use Rattle.script_text.specs.Parsing.{Gives};
 ghost use Rattle.script_text.specs.Words.{texts};
@@ -14,8 +13,7 @@ use std::alloc::Global;
 /// What a line without its line feed says, or the first test that it fails.
 #[tactic(auto, unfolding(iso_model::specs::Script::parse))]
 pub fn parse_line(alloc: Global, text: &[u8]) -> Result<Parsed, LineError>
-    ensures parsed { Gives result (parse text.now) }
-    ensures is_open { IfOk result SaysOpen }
+    ensures { Gives result (parse text.now) }
 {
     if text.len() > MAX_LINE {
         return Err(LineError::Cause(7));
@@ -34,8 +32,7 @@ pub fn parse_line(alloc: Global, text: &[u8]) -> Result<Parsed, LineError>
 /// What the bytes before a line feed say. A carriage return at their end counts in their length alone.
 #[tactic(auto, unfolding(iso_model::specs::Script::parse_whole))]
 pub fn parse_whole_line(alloc: Global, piece: &[u8]) -> Result<Parsed, LineError>
-    ensures parsed { Gives result (parse_whole piece.now) }
-    ensures is_open { IfOk result SaysOpen }
+    ensures { Gives result (parse_whole piece.now) }
 {
     if piece.len() > MAX_LINE {
         return Err(LineError::Cause(7));

@@ -1,7 +1,6 @@
 // The operations, each with its arguments, which are tested from the left.
 ghost use Rattle.std.specs.Prelude.{◌≡◌};
-ghost use Rattle.iso_model.specs.Open.{is_open, takes_too_many};
-ghost use Rattle.iso_model.specs.Script.{any_operation, bare, begin_arguments, number_and_bytes, one_label, one_number, operation_of, other_operation, put_arguments, three_numbers, two_numbers};
+ghost use Rattle.iso_model.specs.Script.{bare, begin_arguments, number_and_bytes, one_label, one_number, operation_of, other_operation, put_arguments, three_numbers, two_numbers};
 ghost use Rattle.iso_model.specs.declared.script.Op.TheVariants as ops;
 ghost use Rattle.script_text.specs.Parsing.{Gives};
 ghost use Rattle.script_text.specs.Words.{texts};
@@ -10,40 +9,10 @@ use crate::argument::{hex, label, mode, number};
 use iso_model::{LineError, Op};
 use std::alloc::Global;
 
-/// The operation of this name. One that is not open has cause 2, and an argument that is not open has cause 3.
+/// The operation of this name.
 #[tactic(auto, unfolding(iso_model::specs::Script::operation_of))]
 pub(crate) fn operation_of(alloc: Global, name: &[u8], arguments: &[&[u8]]) -> Result<Op, LineError>
     ensures { Gives result (operation_of name.now (texts arguments.now)) }
-{
-    if !is_open(name) {
-        return Err(LineError::Cause(2));
-    }
-    if takes_too_many(name, arguments.len()) {
-        return Err(LineError::Cause(3));
-    }
-    any_operation(alloc, name, arguments)
-}
-
-fn is_open(name: &[u8]) -> bool
-    ensures { result ≡ is_open name.now }
-{
-    matches!(name, b"begin" | b"put" | b"read" | b"end" | b"abort")
-}
-
-fn takes_too_many(name: &[u8], count: usize) -> bool
-    ensures { result ≡ takes_too_many name.now count }
-{
-    matches!(name, b"begin") && count > 0
-}
-
-/// The operation of this name, whether or not it is open.
-#[tactic(auto, unfolding(iso_model::specs::Script::any_operation))]
-pub(crate) fn any_operation(
-    alloc: Global,
-    name: &[u8],
-    arguments: &[&[u8]],
-) -> Result<Op, LineError>
-    ensures { Gives result (any_operation name.now (texts arguments.now)) }
 {
     if name == b"begin".as_slice() {
         return begin(arguments);

@@ -2,7 +2,6 @@
 ghost use Rattle.std.specs.Prelude.{◌≡◌, ◌≤◌, ◌∷◌, ◌++◌, IfOk, Ok, OnOk, decimal, length};
 ghost use Rattle.iso_model.specs.declared.limits.TheConstants.{MAX_LINE};
 ghost use Rattle.iso_model.specs.declared.script.Parsed.TheVariants.{Line as Says};
-ghost use Rattle.iso_model.specs.Open.{IsOpen};
 ghost use Rattle.iso_model.specs.Script.{parse};
 ghost use Rattle.script_text.specs.Spelling.{arguments_of, line_text, name_of, spaced, IsLine};
 
@@ -11,11 +10,11 @@ use iso_model::{Line, Memory, Mode, Op};
 use std::alloc::Global;
 
 /// The line in words with one space between them, numbers in decimal and bytes in hexadecimal in lower case, without a
-/// line feed. A line that can be said, is open and is not too long is read from that as it is.
+/// line feed. A line that can be said and is not too long is read from that as it is.
 #[tactic(auto, unfolding(crate::specs::Spelling::line_text))]
 pub fn print_line(alloc: Global, line: &Line) -> Result<Vec<u8>, Memory>
     ensures text { IfOk result (λ v. v.items ≡ line_text line.now) }
-    ensures read { IfOk result (λ v. IsLine line.now → IsOpen line.now.op → length v.items ≤ MAX_LINE → parse v.items ≡ Ok (Says line.now)) }
+    ensures read { IfOk result (λ v. IsLine line.now → length v.items ≤ MAX_LINE → parse v.items ≡ Ok (Says line.now)) }
 {
     let mut text = Vec::new(alloc);
     push_number(&mut text, u64::from(line.client))?;

@@ -1,5 +1,4 @@
 use super::*;
-use crate::operation::any_operation;
 use iso_model::{Bytes, Clash, Label, Mode};
 use std::alloc::Global;
 use std::test::*;
@@ -13,7 +12,7 @@ fn cause(alloc: Global, line: &[u8]) -> Option<u8> {
 
 #[test]
 fn the_first_test_that_a_line_fails(rt: HostRuntime) {
-    let lines: [(&[u8], u8); 20] = [
+    let lines: [(&[u8], u8); 19] = [
         (b"65 begin", 1),
         (b"01 begin", 1),
         (b"0 begin", 1),
@@ -22,7 +21,6 @@ fn the_first_test_that_a_line_fails(rt: HostRuntime) {
         (b"1 jump", 2),
         (b"1 Begin", 2),
         (b"1 jump 00", 2),
-        (b"1 begin x", 3),
         (b"1 put 00 0", 3),
         (b"1 read", 3),
         (b"1 put 00 0 aa", 4),
@@ -40,72 +38,74 @@ fn the_first_test_that_a_line_fails(rt: HostRuntime) {
     }
 }
 
-// What an operation that no line may say yet is read as, by the cause that it fails by.
-fn unopened(alloc: Global, name: &[u8], arguments: &[&[u8]]) -> Option<u8> {
-    match any_operation(alloc, name, arguments) {
-        Err(LineError::Cause(cause)) => Some(cause),
+#[test]
+fn the_first_argument_that_is_wrong(rt: HostRuntime) {
+    let lines: [(&[u8], u8); 13] = [
+        (b"1 begin x", 10),
+        (b"1 begin serial x", 3),
+        (b"1 begin Serial", 10),
+        (b"1 get 1 2", 3),
+        (b"1 get 1 2 03", 4),
+        (b"1 write 1", 3),
+        (b"1 fill 1 1", 5),
+        (b"1 mark 0", 3),
+        (b"1 release A", 6),
+        (b"1 takeover a b", 3),
+        (b"1 await abcdefghij0123456", 6),
+        (b"1 trim 1", 3),
+        (b"1 upgrade 1", 3),
+    ];
+    for (line, wanted) in lines.iter() {
+        assert_eq!(rt; cause(rt.alloc(), line), Some(*wanted));
+    }
+}
+
+// The operation of a line of client 1.
+fn op_of(alloc: Global, line: &[u8]) -> Option<Op> {
+    match parse_line(alloc, line) {
+        Ok(Parsed::Line(Line { client: 1, op })) => Some(op),
         _ => None,
     }
 }
 
 #[test]
-fn arguments_of_operations_that_are_not_open(rt: HostRuntime) {
+fn operations_with_arguments(rt: HostRuntime) {
     let alloc = rt.alloc();
-    assert_eq!(rt; unopened(alloc, b"begin", &[b"x"]), Some(10));
-    assert_eq!(rt; unopened(alloc, b"begin", &[b"serial", b"x"]), Some(3));
-    assert_eq!(rt; unopened(alloc, b"get", &[b"1", b"2"]), Some(3));
-    assert_eq!(rt; unopened(alloc, b"get", &[b"1", b"2", b"03"]), Some(4));
-    assert_eq!(rt; unopened(alloc, b"fill", &[b"1", b"1"]), Some(5));
-    assert_eq!(rt; unopened(alloc, b"mark", &[b"0"]), Some(3));
-    assert_eq!(rt; unopened(alloc, b"release", &[b"A"]), Some(6));
-    assert_eq!(rt; unopened(alloc, b"takeover", &[b""]), Some(6));
-    assert_eq!(rt; unopened(alloc, b"await", &[b"abcdefghij0123456"]), Some(6));
-    assert_eq!(rt; unopened(alloc, b"trim", &[b"1"]), Some(3));
-    assert_eq!(rt; unopened(alloc, b"jump", &[]), Some(2));
-    assert_eq!(rt; cause(alloc, b"1 get 0 0 1"), Some(2));
-}
-
-#[test]
-fn operations_that_are_not_open(rt: HostRuntime) {
-    let alloc = rt.alloc();
+    let begun = op_of(alloc, b"1 begin snapshot");
     assert!(rt;
         matches!(
-            any_operation(alloc, b"begin", &[b"snapshot"]),
-            Ok(Op::Begin {
+            &begun,
+            Some(Op::Begin {
                 mode: Some(Mode::Snapshot)
             })
         )
     );
+    let got = op_of(alloc, b"1 get 3 2 1");
     assert!(rt;
         matches!(
-            any_operation(alloc, b"get", &[b"3", b"2", b"1"]),
-            Ok(Op::Get {
+            &got,
+            Some(Op::Get {
                 block: 3,
                 off: 2,
                 len: 1
             })
         )
     );
-    assert!(rt;
-        matches!(
-            any_operation(alloc, b"mark", &[b"5", b"6"]),
-            Ok(Op::Mark { off: 5, len: 6 })
-        )
-    );
-    let released = any_operation(alloc, b"release", &[b"z0"]);
+    let marked = op_of(alloc, b"1 mark 5 6");
+    assert!(rt; matches!(&marked, Some(Op::Mark { off: 5, len: 6 })));
+    let released = op_of(alloc, b"1 release z0");
     match &released {
-        Ok(Op::Release { label }) => assert_eq!(rt; label.text(), b"z0".as_slice()),
+        Some(Op::Release { label }) => assert_eq!(rt; label.text(), b"z0".as_slice()),
         _ => assert!(rt; false),
     }
-    let written = any_operation(alloc, b"write", &[b"2", b"aB"]);
+    let written = op_of(alloc, b"1 write 2 aB");
     match &written {
-        Ok(Op::Write { block, bytes }) => {
+        Some(Op::Write { block, bytes }) => {
             assert_eq!(rt; *block, 2);
             assert_eq!(rt; bytes.as_slice(), [171].as_slice());
         }
         _ => assert!(rt; false),
     }
-    assert!(rt; matches!(any_operation(alloc, b"upgrade", &[]), Ok(Op::Upgrade)));
 }
 
 #[test]

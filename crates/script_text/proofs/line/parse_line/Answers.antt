@@ -8,7 +8,6 @@ use Rattle.iso_model.specs.declared.script.Parsed.{Parsed}
 use Rattle.script_text.specs.Parsing.{Gives}
 use Rattle.script_text.proofs.EnoughWords.{said-first_words}
 use Rattle.script_text.proofs.LineLemmas.{parse-said}
-use Rattle.script_text.proofs.OpenLines.{gives_open}
 use Rattle.script_text.proofs.line.parse_line.Goals as goal
 
 pub slice_bounds-places-end-2 : goal.slice_bounds-places-end-2
@@ -23,5 +22,4 @@ returns c =
     let tested = parse-said c.args.text.now (omega arith) (sym c.if-is_skipped.ensures) (sym printable ∙ c.if-not-all.false) in
     let same = ap said c.cut_words-count.ensures.words ∙ said-first_words (words_of c.args.text.now) in
     let P : Result Parsed ℕ → Type 0 = λ defined. Gives c.said.result defined in
-    let parsed = subst P (same ∙ tested) c.said.ensures in
-    record { parsed = parsed; is_open = gives_open c.args.text.now c.said.result parsed }
+    subst P (same ∙ tested) c.said.ensures

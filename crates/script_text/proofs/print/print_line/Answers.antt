@@ -13,9 +13,9 @@ parts client op none first mid all start one two three =
 
 pub returns-clause-read : goal.returns-clause-read
 unfolding line_text
-returns-clause-read c = λ is known short.
+returns-clause-read c = λ is short.
     let line = c.args.line.now in
     let text : c.push_operation.new.out.items ≡ line_text line = parts (decimal line.client) (spaced (name_of line.op ∷ arguments_of line.op))
     c.new-text.result.items c.push_number.new.out.items c.push_bytes.new.out.items c.push_operation.new.out.items
     c.new-text.ensures.items (rw c.from.ensures at c.in_ok-push_number.ensures.ok) c.in_ok-push_bytes.ensures.ok c.in_ok-push_operation.ensures in
-    subst (λ (printed : List ℕ). length printed ≤ MAX_LINE → parse printed ≡ Ok (Says line)) (sym text) (parse-printed line is known) short
+    subst (λ (printed : List ℕ). length printed ≤ MAX_LINE → parse printed ≡ Ok (Says line)) (sym text) (parse-printed line is) short
