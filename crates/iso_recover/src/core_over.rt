@@ -37,6 +37,7 @@ pub fn format_image<D: Disk>(
     ensures failed { IfErr result (λ e. LeavesOnly (D.state disk) (D.state e.1) (IsUnmadeOrEmpty geometry.now)) }
 
     ensures told { IfOk result (λ core. StaysTold (D.state disk) (D.state (disk_of core))) }
+    ensures later { IfErr result (λ e. (D.state disk).faults ≤ (D.state e.1).faults) }
     ensures fault { IfErr result (λ e. e.0 ≡ MakeError.Disk → Rose (D.state disk).faults (D.state e.1).faults) }
     ensures no_fault { IfOk result (λ core. (D.state (disk_of core)).faults ≡ (D.state disk).faults) }
     ensures memory { IfErr result (λ e. e.0 ≡ MakeError.Memory → (D.state e.1).faults ≡ (D.state disk).faults) }

@@ -1,6 +1,3 @@
-pub mod Answering
-pub mod Lines
-pub mod Outcomes
-pub mod NewImage
-pub mod Records
-pub mod SameGeometry
+mod Beginnings
+mod Runs
+mod Answered

@@ -1,3 +1,5 @@
+-- What the top call does.
+pub mod Texts
+pub mod Prints
 pub mod Outcome
-pub mod Script
-pub mod Words
+pub mod Begun

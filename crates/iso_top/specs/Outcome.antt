@@ -1,157 +1,162 @@
--- What the call has done with each status.
-use Rattle.std.specs.Prelude.{◌≡◌, ◌⊎◌, ℕ, ◌≤◌, ◌<◌, List, [], ◌∷◌, ◌++◌, None, Some, length, take, replicate, codes, decimal, flat_map}
+-- What a call on an image has done.
+use Rattle.std.specs.Prelude.{◌≡◌, ◌≢◌, ◌⊎◌, ℕ, ◌≤◌, List, ◌++◌, Option, Some, None}
 use Rattle.std.specs.Option.{ForSome}
+use Rattle.command_line.specs.declared.task.Task.{Task}
+use Rattle.command_line.specs.declared.task.Task.TheVariants.{New, Run, Recover, Bench}
+use Rattle.command_line.specs.Requests.{made_geometry}
 use Rattle.fault_count.specs.Count.{Rose}
-use Rattle.iso_disk.specs.Disk.{DiskState, IsBoundTo, IsSettled}
-use Rattle.iso_io.specs.Source.{SourceState, MetEnd, Took}
-use Rattle.iso_io.specs.Sink.{SinkState, CountsStand, Wrote, WroteFront}
+use Rattle.iso_disk.specs.Disk.{DiskState, IsBoundTo, SinceBind, StaysTold}
+use Rattle.iso_io.specs.Source.{SourceState}
+use Rattle.iso_io.specs.Sink.{SinkState}
 use Rattle.iso_model.specs.declared.access.Geometry.{Geometry}
-use Rattle.iso_model.specs.declared.limits.TheConstants.{MAX_INPUT}
-use Rattle.iso_model.specs.declared.script.BadLine.{BadLine}
-use Rattle.iso_model.specs.Conflict.{IsSerialAt}
-use Rattle.iso_model.specs.Geometry.{image_size}
-use Rattle.iso_model.specs.History.{History, last}
-use Rattle.iso_model.specs.Image.{IsImage, Shows, held}
-use Rattle.iso_model.specs.Script.{script, replies, after}
-use Rattle.iso_model.specs.World.{World, fresh, empty_history}
-
--- a text and its line feed
-abbrev pub line : List ℕ → List ℕ
-line text = text ++ 10 ∷ []
-
--- what is written where the words are outside the grammar
-abbrev pub usage_text : List ℕ
-usage_text =
-    flat_map line (codes "! usage"
-    ∷ codes "new IMAGE [--block-size B] [--blocks N] [--log L] [--mode serial|snapshot] [--hash H] [--tree T]"
-    ∷ codes "run IMAGE" ∷ codes "par IMAGE" ∷ codes "recover IMAGE" ∷ codes "bench IMAGE SEED COUNT" ∷ [])
-
--- the last lines of the other statuses
-abbrev pub bad_line_text : BadLine → List ℕ
-bad_line_text bad = line (codes "! bad line " ++ decimal bad.line ++ codes " cause " ++ decimal bad.cause)
-
-abbrev pub disk_fault_text : List ℕ
-disk_fault_text = line (codes "! disk fault")
-
-abbrev pub input_fault_text : List ℕ
-input_fault_text = line (codes "! input fault")
-
-abbrev pub memory_text : List ℕ
-memory_text = line (codes "! memory")
+use Rattle.iso_model.specs.Bench.{bench_geometry, bench_output, bench_text, bench_world, recover_output}
+use Rattle.iso_model.specs.History.{History}
+use Rattle.iso_model.specs.Script.{after, replies}
+use Rattle.iso_model.specs.World.{World, empty_history, fresh}
+use Rattle.iso_model.specs.Worlds.{IsWorld}
+use Rattle.iso_recover.specs.Cause.{IsBlamed, IsTest}
+use Rattle.iso_recover.specs.Made.{IsUnmade, IsUnmadeOrEmpty}
+use Rattle.iso_recover.specs.Opened.{TellsImage}
+use Rattle.iso_refusal.specs.declared.open_error.OpenError.{OpenError}
+use Rattle.iso_refusal.specs.declared.open_error.OpenError.TheVariants as error
+use Rattle.iso_refusal.specs.Refusal.{refusal}
+use Rattle.script_runner.specs.declared.run_end.RunEnd.{RunEnd}
+use Rattle.script_runner.specs.declared.run_end.RunEnd.TheVariants as end
+use Rattle.script_runner.specs.Between.{ShowsBetween}
+use Rattle.script_runner.specs.Run.{HasRun}
+use Rattle.script_runner.specs.Told.{IfTold}
+use Rattle.iso_top.specs.Prints.{Printed, WasCut, WroteWhole}
+use Rattle.iso_top.specs.Texts.{disk_fault_text, end_status, end_text, error_status, error_text, memory_text}
 
 -- one of the statuses of the program
 abbrev pub IsStatus : ℕ → Type 0
-IsStatus status = (status ≡ 0) ⊎ (status ≡ 2) ⊎ (status ≡ 3) ⊎ (status ≡ 5) ⊎ (status ≡ 6) ⊎ (status ≡ 7) ⊎ (status ≡ 8)
+IsStatus status = (status ≡ 0) ⊎ (status ≡ 2) ⊎ (status ≡ 3) ⊎ (status ≡ 4) ⊎ (status ≡ 5) ⊎ (status ≡ 6) ⊎ (status ≡ 7) ⊎ (status ≡ 8)
 
--- the sink failed in the call, or it took nothing of a piece that is not empty
-abbrev pub SinkFailed : SinkState → SinkState → Type 0
-SinkFailed old new = Rose old.faults new.faults ⊎ Rose old.refusals new.refusals
+-- The world that the image as given opens to, where the disk told it.
+pub record OpensTo (contents : Option (List ℕ)) (W : World) : Type 0 where
+  pub geometry : Geometry
+  pub generation : ℕ
+  pub history : History
+  pub told : TellsImage contents geometry generation history
+  pub world_is : W ≡ fresh geometry generation history
 
--- the sink took this whole text, and no count of it rose
-pub record WroteWhole (old new : SinkState) (text : List ℕ) : Type 0 where
-  pub wrote : Wrote old new text
-  pub counts : CountsStand old new
+-- The world that a call begins with: that of a new image of the geometry, or that of the image as given.
+abbrev pub StartsFrom : (made : Option Geometry) → (given : Option (List ℕ)) → World → Type 0
+StartsFrom (Some g) given W = W ≡ fresh g 1 (empty_history g)
+StartsFrom None given W = OpensTo given W
 
--- the sink failed in the call, and took a front of the text that is not all of it
-pub record WasCut (old new : SinkState) (text : List ℕ) : Type 0 where
-  pub failed : SinkFailed old new
-  pub front : WroteFront old new text
+-- what an image is before a script is begun: none of this project or empty where it is made, and as given where it is opened
+abbrev pub IsUntouched : (made : Option Geometry) → (given : Option (List ℕ)) → List ℕ → Type 0
+IsUntouched (Some g) given image = IsUnmadeOrEmpty g image
+IsUntouched None given image = ForSome given (λ c. image ≡ c)
 
--- the sink took this text, or, only where it failed in the call, a front of it
-abbrev pub Printed : SinkState → SinkState → List ℕ → Type 0
-Printed old new text = WroteWhole old new text ⊎ WasCut old new text
+-- an image that is made may be none of this project for a while
+abbrev pub MayBeUnmade : (made : Option Geometry) → List ℕ → Type 0
+MayBeUnmade (Some g) image = IsUnmade image
+MayBeUnmade None image = ⊥
 
--- the sink took this text whole, and then this last line or, only where it failed behind the text, a front of it
-abbrev pub PrintedLast : SinkState → SinkState → (text last : List ℕ) → Type 0
-PrintedLast old new text last = (mid : SinkState) × WroteWhole old mid text × Printed mid new last
+-- the bind failed, or else each image left since it is as it was before a script
+abbrev pub IsUnbegun : (made : Option Geometry) → (given : Option (List ℕ)) → (name : List ℕ) → OpenError → DiskState → Type 0
+IsUnbegun made given name e disk = ((e ≡ error.Disk) × (disk.bound ≡ None)) ⊎ (IsBoundTo name disk × SinceBind disk (IsUntouched made given))
 
--- the bytes are those that the source gave in the call, in which it did not fail: all, or the first 2 ^ 32
-pub record ReadInput (old new : SourceState) (bytes : List ℕ) : Type 0 where
-  pub took : Took old new bytes
-  pub limit : length bytes ≤ MAX_INPUT
-  pub ended : length bytes < MAX_INPUT → MetEnd old new bytes
-  pub faults : new.faults ≡ old.faults
-
--- the world of the image that is made
-abbrev pub new_world : Geometry → World
-new_world g = fresh g 1 (empty_history g)
-
--- the replies to all lines of an input, up to the first bad one
-abbrev pub replies_to : Geometry → (input : List ℕ) → List ℕ
-replies_to g input = replies (new_world g) (script input).lines
-
--- the world after all lines of an input, up to the first bad one, and its history
-abbrev pub world_after : Geometry → (input : List ℕ) → World
-world_after g input = after (new_world g) (script input).lines
-
-abbrev pub history_after : Geometry → (input : List ℕ) → History
-history_after g input = (world_after g input).history
-
--- the replies to the first n lines of an input
-abbrev pub first_replies : Geometry → (input : List ℕ) → (n : ℕ) → List ℕ
-first_replies g input n = replies (new_world g) (take n (script input).lines)
-
--- the text is the replies to some first lines of the input, or to none before the input was read
-abbrev pub AreReplies : SourceState → SourceState → Geometry → List ℕ → Type 0
-AreReplies old new g text = (text ≡ []) ⊎ ((bytes : List ℕ) × (n : ℕ) × ReadInput old new bytes × (text ≡ first_replies g bytes n))
-
--- The whole input was read, to its end, and has no bad line; the sink took the replies to it.
-pub record IsAnswered (input_old input_new : SourceState) (output_old output_new : SinkState) (g : Geometry) (input : List ℕ) : Type 0 where
-  pub read : ReadInput input_old input_new input
-  pub to_its_end : MetEnd input_old input_new input
-  pub no_bad_line : (script input).bad ≡ None
-  pub replies : WroteWhole output_old output_new (replies_to g input)
-
--- The whole input was answered. The disk, bound to this name, reads as an image that shows the history after the input,
--- each commit of which is serial at its number; a crash now leaves what a read gives, and the disk did not fail.
-pub record IsDone (disk_old disk_new : DiskState) (input_old input_new : SourceState) (output_old output_new : SinkState) (name : List ℕ) (g : Geometry) : Type 0 where
-  pub input : List ℕ
-  pub answered : IsAnswered input_old input_new output_old output_new g input
-  pub bound : IsBoundTo name disk_new
-  pub size : disk_new.size ≡ image_size g
-  pub image : ForSome disk_new.contents (λ c. IsImage c g 1 (held g 0 (history_after g input)))
-  pub shows : ForSome disk_new.contents (λ c. Shows c g (history_after g input) (last (history_after g input)))
-  pub settled : IsSettled disk_new
-  pub serial : (k : ℕ) → 1 ≤ k → k ≤ last (history_after g input) → IsSerialAt (history_after g input) k
-  pub faults : disk_new.faults ≡ disk_old.faults
-
--- The input has a bad line; the sink took the replies to the lines before it, and the line that names it.
-pub record IsStoppedByLine (input_old input_new : SourceState) (output_old output_new : SinkState) (g : Geometry) : Type 0 where
-  pub input : List ℕ
-  pub read : ReadInput input_old input_new input
-  pub line : BadLine
-  pub bad : (script input).bad ≡ Some line
-  pub printed : PrintedLast output_old output_new (replies_to g input) (bad_line_text line)
-
--- The source did not fail, and the sink took the replies to some first lines, and this line.
-pub record IsStopped (input_old input_new : SourceState) (output_old output_new : SinkState) (g : Geometry) (last : List ℕ) : Type 0 where
-  pub text : List ℕ
-  pub unfailed : input_new.faults ≡ input_old.faults
-  pub replies : AreReplies input_old input_new g text
-  pub printed : PrintedLast output_old output_new text last
-
--- The bind failed, and nothing was read.
-pub record IsUnbound (disk : DiskState) (input_old input_new : SourceState) (output_old output_new : SinkState) : Type 0 where
-  pub bound : disk.bound ≡ None
+-- No script was begun, for this reason: the image as given fails this test, or its disk failed, or memory was wanting. The
+-- script was not read, and the line that tells the reason was put.
+pub record HasNotBegun (made : Option Geometry) (name : List ℕ) (e : OpenError) (disk_old disk_new : DiskState) (input_old input_new : SourceState)
+    (output_old output_new : SinkState) : Type 0 where
+  pub unbegun : IsUnbegun made disk_old.contents name e disk_new
+  pub refused : IsTest e → (made ≡ None) × ForSome disk_old.contents (λ c. refusal c ≡ Some e)
+  pub cause : IsBlamed disk_old.faults disk_new.faults e
   pub unread : input_new ≡ input_old
-  pub printed : Printed output_old output_new disk_fault_text
+  pub printed : Printed output_old output_new (error_text e)
 
--- The disk failed: when it was bound to this name, or behind that.
-pub record IsStoppedByDisk (disk_old disk_new : DiskState) (input_old input_new : SourceState) (output_old output_new : SinkState) (name : List ℕ) (g : Geometry) : Type 0 where
-  pub rose : Rose disk_old.faults disk_new.faults
-  pub place : IsUnbound disk_new input_old input_new output_old output_new
-      ⊎ (IsBoundTo name disk_new × IsStopped input_old input_new output_old output_new g disk_fault_text)
+-- A run was begun from the world W: since the bind the disk is what it was when the run began, or was left by the run.
+pub record HasBegun (made : Option Geometry) (name : List ℕ) (disk_old start disk_new : DiskState) (W V : World) : Type 0 where
+  pub starts : StartsFrom made disk_old.contents W
+  pub sound : IsWorld W
+  pub told : StaysTold disk_old start
+  pub faults : start.faults ≡ disk_old.faults
+  pub bound : IsBoundTo name disk_new
+  -- each image that a crash might have left since the bind shows the history at a commit from the first world's last one on
+  pub since : SinceBind disk_new (λ c. MayBeUnmade made c ⊎ ShowsBetween W V c)
 
--- The sink failed before it had the replies to the input, and took a front of them.
-pub record IsCutShort (input_old input_new : SourceState) (output_old output_new : SinkState) (g : Geometry) : Type 0 where
-  pub input : List ℕ
-  pub read : ReadInput input_old input_new input
-  pub cut : WasCut output_old output_new (replies_to g input)
+-- what was put behind the replies of a run that ended so
+abbrev pub PrintedEnd : RunEnd → SinkState → SinkState → Type 0
+PrintedEnd end.Done old new = new ≡ old
+PrintedEnd end.Output old new = new ≡ old
+PrintedEnd e old new = Printed old new (end_text e)
 
--- the disk is as it was when the blank device was bound to this name
-pub record IsBlank (disk_old disk_new : DiskState) (name : List ℕ) (bytes : ℕ) : Type 0 where
-  pub bound : disk_new.bound ≡ Some (disk_new.clock, name)
-  pub size : disk_new.size ≡ bytes
-  pub zeros : ForSome disk_new.contents (λ c. c ≡ replicate bytes 0)
-  pub after_crash : (c : List ℕ) → disk_new.now c → c ≡ replicate bytes 0
-  pub faults : disk_new.faults ≡ disk_old.faults
+-- A script was answered. `run` has the reply theorem, the order theorem and the crash theorem of it, in the fields that are
+-- named so; with `begun` the crash theorem speaks of each moment since the bind.
+pub record HasAnswered {D : Type 0} (state : D → DiskState) (made : Option Geometry) (name : List ℕ) (end : RunEnd) (disk_old disk_new : D)
+    (input_old input_new : SourceState) (output_old output_new : SinkState) : Type 0 where
+  pub world : World
+  -- the disk when the run began, and the sink when it ended
+  pub start : D
+  pub replied : SinkState
+  pub run : HasRun (λ V. Unit {0}) (state start) (state disk_new) input_old input_new output_old replied world end
+  pub begun : HasBegun made name (state disk_old) (state start) (state disk_new) world (after world (run.done ++ run.next))
+  pub last : PrintedEnd end replied output_new
+
+-- A result was put whole, or, only where the sink failed, a front of it: it is this text, where the disk told its bytes.
+abbrev pub PrintedResult : (status : ℕ) → (disk : DiskState) → (defined : List ℕ) → SinkState → SinkState → Type 0
+PrintedResult status disk defined old new =
+    (text : List ℕ) × IfTold disk (text ≡ defined) × (((status ≡ 0) × WroteWhole old new text) ⊎ ((status ≡ 7) × WasCut old new text))
+
+-- what `recover` has put, by its status
+abbrev pub PrintedDigest : (status : ℕ) → (disk : DiskState) → History → SinkState → SinkState → Type 0
+PrintedDigest status disk H old new =
+    PrintedResult status disk (recover_output H) old new ⊎ ((status ≡ 5) × Printed old new disk_fault_text) ⊎ ((status ≡ 8) × Printed old new memory_text)
+
+-- The image was opened, and its last commit told. Nothing was written to it, and the input was not read.
+pub record HasRecovered (name : List ℕ) (status : ℕ) (disk_old disk_new : DiskState) (input_old input_new : SourceState) (output_old output_new : SinkState) : Type 0 where
+  pub world : World
+  pub opens : OpensTo disk_old.contents world
+  pub bound : IsBoundTo name disk_new
+  pub unwritten : SinceBind disk_new (IsUntouched None disk_old.contents)
+  pub printed : PrintedDigest status disk_old world.history output_old output_new
+  pub later : disk_old.faults ≤ disk_new.faults
+  pub failed : status ≡ 5 → Rose disk_old.faults disk_new.faults
+  pub passed : status ≢ 5 → disk_new.faults ≡ disk_old.faults
+  pub unread : input_new ≡ input_old
+
+-- What `bench` has put, by how the run over the script that it drew ended. The replies to it are held in memory.
+abbrev pub PrintedBench : (seed count status : ℕ) → RunEnd → (disk : DiskState) → SinkState → SinkState → Type 0
+PrintedBench seed count status end.Done disk old new = PrintedResult status disk (bench_output seed count) old new
+PrintedBench seed count status (end.BadLine bad) disk old new = ⊥
+PrintedBench seed count status end.Disk disk old new = (status ≡ 5) × Printed old new disk_fault_text
+PrintedBench seed count status end.Input disk old new = ⊥
+PrintedBench seed count status end.Output disk old new = (status ≡ 8) × Printed old new memory_text
+PrintedBench seed count status end.Memory disk old new = (status ≡ 8) × Printed old new memory_text
+
+-- A script was drawn and answered on a new image: `run` has the order theorem and the crash theorem of it, with the replies that
+-- were held in place of those put.
+pub record HasBenched {D : Type 0} (state : D → DiskState) (name : List ℕ) (seed count status : ℕ) (disk_old disk_new : D)
+    (input_old input_new : SourceState) (output_old output_new : SinkState) : Type 0 where
+  pub end : RunEnd
+  pub start : D
+  pub drawn : SourceState
+  pub rest : SourceState
+  pub empty : SinkState
+  pub held : SinkState
+  pub script_is : drawn.rest ≡ Some (bench_text count seed)
+  pub run : HasRun (λ V. Unit {0}) (state start) (state disk_new) drawn rest empty held bench_world end
+  pub begun : HasBegun (Some bench_geometry) name (state disk_old) (state start) (state disk_new) bench_world (after bench_world (run.done ++ run.next))
+  pub printed : PrintedBench seed count status end (state disk_old) output_old output_new
+  pub unread : input_new ≡ input_old
+
+-- a call on an image has ended so, by its task
+abbrev pub HasDone : {D : Type 0} → (state : D → DiskState) → Task → (name : List ℕ) → (status : ℕ) → D → D → SourceState → SourceState → SinkState → SinkState → Type 0
+HasDone state (New g) name status disk_old disk_new input_old input_new output_old output_new =
+    (e : RunEnd) × (status ≡ end_status e) × HasAnswered state (Some g) name e disk_old disk_new input_old input_new output_old output_new
+HasDone state Run name status disk_old disk_new input_old input_new output_old output_new =
+    (e : RunEnd) × (status ≡ end_status e) × HasAnswered state None name e disk_old disk_new input_old input_new output_old output_new
+HasDone state Recover name status disk_old disk_new input_old input_new output_old output_new =
+    HasRecovered name status (state disk_old) (state disk_new) input_old input_new output_old output_new
+HasDone state (Bench seed count) name status disk_old disk_new input_old input_new output_old output_new =
+    HasBenched state name seed count status disk_old disk_new input_old input_new output_old output_new
+
+-- A call that the words ask for: it was not begun, or it has ended.
+abbrev pub HasMet : {D : Type 0} → (state : D → DiskState) → Task → (name : List ℕ) → (status : ℕ) → D → D → SourceState → SourceState → SinkState → SinkState → Type 0
+HasMet state task name status disk_old disk_new input_old input_new output_old output_new =
+    ((e : OpenError) × (status ≡ error_status e) × HasNotBegun (made_geometry task) name e (state disk_old) (state disk_new) input_old input_new output_old output_new)
+    ⊎ HasDone state task name status disk_old disk_new input_old input_new output_old output_new

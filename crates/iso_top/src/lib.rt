@@ -1,15 +1,12 @@
-//! The call that the program makes: it makes an image, and answers a script on it.
+//! The call that the program makes: it makes an image or opens one, and answers a script on it.
 #![tactic(auto)]
 
-mod answers;
-mod image;
+mod ended;
+mod engine;
 mod last_line;
-mod pieces;
-mod run;
+mod script;
 mod top;
-mod words;
 
-pub use top::{Ended, isotope};
+pub use ended::Ended;
+pub use top::alone;
 
-#[cfg(test)]
-mod tests;

@@ -13,12 +13,12 @@ returns-then-is_empty g c W m i j k bytes gave met few r =
     (none_held _ c.args.progress.now.held.items c.args.progress.now.held.ok.0 (sym c.if-is_empty.true ∙ c.is_empty.ensures))
 
 pub answer_parsed-requires-clause-line : goal.answer_parsed-requires-clause-line
-answer_parsed-requires-clause-line g c = given_line (parse _) c.parse_line-parsed.result c.parse_line-parsed.ensures.parsed (says_line _)
+answer_parsed-requires-clause-line g c = given_line (parse _) c.parse_line-parsed.result c.parse_line-parsed.ensures (says_line _)
 
 pub returns-in-Ok : goal.returns-in-Ok
 returns-in-Ok g c W m i j k bytes gave met few r =
     let given : Gives c.parse_line-parsed.result (parse c.args.progress.now.held.items) =
-    subst (λ (xs : List ℕ). Gives c.parse_line-parsed.result (parse xs)) c.deref.ensures.value c.parse_line-parsed.ensures.parsed in
+    subst (λ (xs : List ℕ). Gives c.parse_line-parsed.result (parse xs)) c.deref.ensures.value c.parse_line-parsed.ensures in
     let some : 0 < length c.args.progress.now.held.items = some_held _ c.args.progress.now.held.items c.args.progress.now.held.ok.0 (sym c.if-is_empty.false ∙ c.is_empty.ensures) in
     last_done W bytes c.args.progress.now.number c.args.progress.now.held.items r i j gave met few some (g.M.ScriptMachine.stands c.answer_parsed.new.machine)
     (g.M.ScriptMachine.disk c.answer_parsed.new.machine) (g.K.Sink.state c.answer_parsed.new.output) c.parse_line-parsed.result c.in-Ok.field-0 given (c.in-Ok.ensures (after W r.done) r.ran.world)
@@ -26,7 +26,7 @@ returns-in-Ok g c W m i j k bytes gave met few r =
 pub returns-in-Err : goal.returns-in-Err
 returns-in-Err g c W m i j k bytes gave met few r =
     let given : Gives c.parse_line-parsed.result (parse c.args.progress.now.held.items) =
-    subst (λ (xs : List ℕ). Gives c.parse_line-parsed.result (parse xs)) c.deref.ensures.value c.parse_line-parsed.ensures.parsed in
+    subst (λ (xs : List ℕ). Gives c.parse_line-parsed.result (parse xs)) c.deref.ensures.value c.parse_line-parsed.ensures in
     let some : 0 < length c.args.progress.now.held.items = some_held _ c.args.progress.now.held.items c.args.progress.now.held.ok.0 (sym c.if-is_empty.false ∙ c.is_empty.ensures) in
     subst (λ (how : RunEnd). HasRun (g.M.ScriptMachine.stands c.answer_parsed.new.machine) (g.M.ScriptMachine.disk m) (g.M.ScriptMachine.disk c.answer_parsed.new.machine) i j k (g.K.Sink.state c.answer_parsed.new.output) W how)
     (sym c.end_of.ensures)

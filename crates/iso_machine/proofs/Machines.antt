@@ -1,0 +1,145 @@
+-- A machine whose transactions change, leave and begin.
+use Rattle.std.proofs.Common.{◌≡◌, ◌∙◌, sym, refl, ap, subst, ℕ, ◌<◌, List, [], ◌∷◌, ◌++◌, length, get_or, set, map, Option, Some, None, find}
+use Rattle.std.specs.List.{AllByRecursion, remove}
+use Rattle.std.proofs.lemmas.List.{map_push, set-get_or}
+use Rattle.iso_disk.specs.Disk.{DiskState}
+use Rattle.iso_model.specs.declared.access.Geometry.{Geometry}
+use Rattle.iso_model.specs.declared.access.Mode.{Mode}
+use Rattle.iso_model.specs.declared.script.Op.{Op}
+use Rattle.iso_model.specs.declared.script.Op.TheVariants as op
+use Rattle.iso_model.specs.History.{last}
+use Rattle.iso_model.specs.Step.{after_begin, in_transaction, out_of_transaction, release_step, step, takeover_step, with_live}
+use Rattle.iso_model.specs.World.{World, Live, Place, attached, held, is_at_client, is_under_label, unattached, with, without}
+use Rattle.iso_model.specs.Worlds.{AreDistinct, IsOp, IsWorld}
+use Rattle.iso_model.proofs.Growth.{all_push}
+use Rattle.iso_model.proofs.Worlds.{step_leads}
+use Rattle.iso_core.specs.declared.core_itself.Core.{Core}
+use Rattle.iso_core.specs.Calls.{IsAmong, IsTx, IsWorkOf}
+use Rattle.iso_core.specs.Core.{StandsFor}
+use Rattle.iso_core.specs.Kept.{bare}
+use Rattle.iso_core.specs.Standing.{up}
+use Rattle.tx_table.specs.Work.{Doing}
+use Rattle.iso_machine.specs.declared.attached.Attached.{Attached}
+use Rattle.iso_machine.specs.Accessing.{IsActive, IsWorkedTo, act_step}
+use Rattle.iso_machine.specs.Standing.{AreOf, IsSized, live_of}
+use Rattle.iso_machine.proofs.Besides.{stands_besides}
+use Rattle.iso_machine.proofs.Lists.{all_at, all_remove, all_set, among_at, bare_with, with_at, without_at}
+
+module _ {D : Type 0} (state : D → DiskState) (core new : Core D) (live : List Attached) (W : World) (of : AreOf state core live W) where
+  distinct : AreDistinct (map live_of live)
+  distinct = subst (λ (l : List Live). AreDistinct l) (sym of.live_are) of.core_of.kept_of.world.distinct
+
+  -- the one at a place of the list
+  module _ (i : ℕ) (d : Attached) (inside : i < length live) where
+    pub is_tx : IsTx W (get_or live i d).tx (live_of (get_or live i d))
+    is_tx = record { number = refl; among = subst (λ (l : List Live). IsAmong (live_of (get_or live i d)) l) of.live_are (among_at live i d inside) }
+
+    pub is_work : IsWorkOf W (live_of (get_or live i d)) (get_or live i d).work
+    is_work =
+        let sized = all_at (IsSized W.geometry) live i d of.sized inside in
+        record { begin = refl; mode = refl; size = sized.size; blocks = sized.blocks; accesses = refl }
+
+    pub is_active : IsActive W (live_of (get_or live i d)) (get_or live i d).work
+    is_active = record {
+      is_work = is_work;
+      here = ap (λ (l : List Live). with (live_of (get_or live i d)) l) (sym of.live_are) ∙ with_at live i d (get_or live i d) distinct inside refl
+          ∙ ap (λ (l : List Attached). map live_of l) (set-get_or live i d) ∙ of.live_are;
+    }
+
+    -- another work of the same transaction, or another place
+    pub changed : (b : Attached) → b.tx ≡ (get_or live i d).tx → b.work.begin ≡ (get_or live i d).work.begin → b.work.mode ≡ (get_or live i d).work.mode → IsSized W.geometry b
+        → StandsFor state new W up → IsWorld (with_live W (with (live_of b) W.live)) → AreOf state new (set live i b) (with_live W (with (live_of b) W.live))
+    changed b tx begin mode sized stands is =
+        let now : map live_of (set live i b) ≡ with (live_of b) W.live =
+        sym (with_at live i d b distinct inside tx) ∙ ap (λ (l : List Live). with (live_of b) l) of.live_are in
+        record {
+          core_of = stands_besides state new W (with (live_of b) W.live) stands is
+              (ap (λ (l : List Live). map bare l) (sym now)
+              ∙ bare_with live i d b (λ j. record { number = tx j; begin = begin j; mode = mode j; accesses = []; place = unattached })
+              ∙ ap (λ (l : List Live). map bare l) of.live_are);
+          live_are = now;
+          sized = all_set (IsSized W.geometry) live i b of.sized sized;
+        }
+
+    pub worked_on : (work : Doing) (given : World) → IsWorkedTo W (live_of (get_or live i d)) given work → StandsFor state new W up → IsWorld given
+        → AreOf state new (set live i (record (get_or live i d) { work = work })) given
+    worked_on work given to stands is =
+        let a : Attached = get_or live i d in
+        let same : live_of (record a { work = work }) ≡ record (live_of a) { accesses = work.accesses } =
+        λ j. record { number = a.tx; begin = to.is_work.begin j; mode = to.is_work.mode j; accesses = work.accesses; place = (live_of a).place } in
+        let world : given ≡ with_live W (with (live_of (record a { work = work })) W.live) = to.world ∙ ap (λ (t : Live). with_live W (with t W.live)) (sym same) in
+        subst (λ (V : World). AreOf state new (set live i (record a { work = work })) V) (sym world)
+        (changed (record a { work = work }) refl to.is_work.begin to.is_work.mode (record { size = to.is_work.size; blocks = to.is_work.blocks }) stands (subst (λ (V : World). IsWorld V) world is))
+
+    pub left : (V : World) → V.live ≡ without (get_or live i d).tx W.live → V.geometry ≡ W.geometry → StandsFor state new V up → AreOf state new (remove live i) V
+    left V live_is geometry stands = record {
+      core_of = stands;
+      live_are = sym (without_at live i d distinct inside) ∙ ap (λ (l : List Live). without (get_or live i d).tx l) of.live_are ∙ sym live_is;
+      sized = subst (λ (g : Geometry). AllByRecursion (IsSized g) (remove live i)) (sym geometry) (all_remove (IsSized W.geometry) live i of.sized);
+    }
+
+  pub begun : (b : Attached) (place : Place) (mode : Mode) → live_of b ≡ record { number = W.next; begin = last W.history; mode = mode; accesses = []; place = place } → IsSized W.geometry b
+      → StandsFor state new (after_begin W unattached mode) up → IsWorld (after_begin W place mode) → AreOf state new (live ++ b ∷ []) (after_begin W place mode)
+  begun b place mode is sized stands world = record {
+    core_of = stands_besides state new (after_begin W unattached mode) (after_begin W place mode).live stands world
+        (map_push bare W.live (record { number = W.next; begin = last W.history; mode = mode; accesses = []; place = place })
+        ∙ sym (map_push bare W.live (record { number = W.next; begin = last W.history; mode = mode; accesses = []; place = unattached })));
+    live_are = map_push live_of live b ∙ (λ j. of.live_are j ++ is j ∷ []);
+    sized = all_push (IsSized W.geometry) live b of.sized sized;
+  }
+
+  pub same : StandsFor state new W up → AreOf state new live W
+  same stands = record { core_of = stands; live_are = of.live_are; sized = of.sized }
+
+  -- who is attached to a client
+  pub attached_none : (client : ℕ) (list : List Attached) → list ≡ live → find (λ t. is_at_client client t.place) (map live_of list) ≡ None → attached W client ≡ None
+  attached_none client list same is =
+      ap (λ (l : List Live). find (λ t. is_at_client client t.place) l) (sym of.live_are)
+      ∙ ap (λ (l : List Attached). find (λ t. is_at_client client t.place) (map live_of l)) (sym same) ∙ is
+
+  pub attached_some : (client : ℕ) (list : List Attached) (i : ℕ) (d : Attached) → list ≡ live → find (λ t. is_at_client client t.place) (map live_of list) ≡ Some (live_of (get_or list i d))
+      → attached W client ≡ Some (live_of (get_or live i d))
+  attached_some client list i d same is =
+      ap (λ (l : List Live). find (λ t. is_at_client client t.place) l) (sym of.live_are)
+      ∙ ap (λ (l : List Attached). find (λ t. is_at_client client t.place) (map live_of l)) (sym same) ∙ is ∙ ap (λ (l : List Attached). Some (live_of (get_or l i d))) same
+
+  -- who is under a label
+  pub held_none : (text : List ℕ) (list : List Attached) → list ≡ live → find (λ t. is_under_label text t.place) (map live_of list) ≡ None → held W text ≡ None
+  held_none text list same is =
+      ap (λ (l : List Live). find (λ t. is_under_label text t.place) l) (sym of.live_are)
+      ∙ ap (λ (l : List Attached). find (λ t. is_under_label text t.place) (map live_of l)) (sym same) ∙ is
+
+  pub held_some : (text : List ℕ) (list : List Attached) (i : ℕ) (d : Attached) → list ≡ live → find (λ t. is_under_label text t.place) (map live_of list) ≡ Some (live_of (get_or list i d))
+      → held W text ≡ Some (live_of (get_or live i d))
+  held_some text list i d same is =
+      ap (λ (l : List Live). find (λ t. is_under_label text t.place) l) (sym of.live_are)
+      ∙ ap (λ (l : List Attached). find (λ t. is_under_label text t.place) (map live_of l)) (sym same) ∙ is ∙ ap (λ (l : List Attached). Some (live_of (get_or l i d))) same
+
+-- an access leads to a sound world
+pub act_leads : (W : World) (c : ℕ) (t : Live) (o : Op) → IsWorld W → IsOp o → attached W c ≡ Some t → IsWorld (act_step W t o).1
+unfolding step
+act_leads W c t (op.Begin m) is isop here = is
+act_leads W c t op.End is isop here = is
+act_leads W c t op.Abort is isop here = is
+act_leads W c t (op.Put block off bytes) is isop here = subst (λ (o : Option Live). IsWorld (in_transaction W o (λ t. act_step W t (op.Put block off bytes))).1) here (step_leads W c (op.Put block off bytes) is isop).world
+act_leads W c t (op.Read block) is isop here = subst (λ (o : Option Live). IsWorld (in_transaction W o (λ t. act_step W t (op.Read block))).1) here (step_leads W c (op.Read block) is isop).world
+act_leads W c t (op.Get block off len) is isop here = subst (λ (o : Option Live). IsWorld (in_transaction W o (λ t. act_step W t (op.Get block off len))).1) here (step_leads W c (op.Get block off len) is isop).world
+act_leads W c t (op.Write block bytes) is isop here = subst (λ (o : Option Live). IsWorld (in_transaction W o (λ t. act_step W t (op.Write block bytes))).1) here (step_leads W c (op.Write block bytes) is isop).world
+act_leads W c t (op.Fill block bytes) is isop here = subst (λ (o : Option Live). IsWorld (in_transaction W o (λ t. act_step W t (op.Fill block bytes))).1) here (step_leads W c (op.Fill block bytes) is isop).world
+act_leads W c t (op.Mark off len) is isop here = subst (λ (o : Option Live). IsWorld (in_transaction W o (λ t. act_step W t (op.Mark off len))).1) here (step_leads W c (op.Mark off len) is isop).world
+act_leads W c t (op.Release text) is isop here = is
+act_leads W c t (op.Takeover text) is isop here = is
+act_leads W c t (op.Await text) is isop here = is
+act_leads W c t op.Trim is isop here = is
+act_leads W c t op.Stat is isop here = is
+act_leads W c t op.Compact is isop here = is
+act_leads W c t op.Upgrade is isop here = is
+
+-- a release and a takeover, by who is where
+pub release_is : (W : World) (c : ℕ) (text : List ℕ) (o p : Option Live) → attached W c ≡ o → held W text ≡ p → step W c (op.Release text) ≡ in_transaction W o (λ t. release_step W t text p)
+unfolding step
+release_is W c text o p here there = λ i. in_transaction W (here i) (λ t. release_step W t text (there i))
+
+pub takeover_is : (W : World) (c : ℕ) (text : List ℕ) (o p : Option Live) → attached W c ≡ o → held W text ≡ p → step W c (op.Takeover text) ≡ out_of_transaction W o (takeover_step W c p)
+unfolding step
+takeover_is W c text o p here there = λ i. out_of_transaction W (here i) (takeover_step W c (there i))

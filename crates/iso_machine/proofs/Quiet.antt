@@ -1,0 +1,60 @@
+-- Answers that write nothing.
+use Rattle.std.proofs.Common.{◌≡◌, inl, sym, refl, subst, ℕ, List, Result, Ok, Err, IfOk, IsErrOf, IsSome, Option, arith}
+use Rattle.iso_disk.specs.Disk.{DiskState, IsLawful, WritesNothing}
+use Rattle.iso_disk.proofs.Moments.{started, stays}
+use Rattle.iso_model.specs.declared.script.Reply.{Reply}
+use Rattle.iso_model.specs.History.{last}
+use Rattle.iso_model.specs.Image.{Shows}
+use Rattle.iso_model.specs.World.{World, Live}
+use Rattle.tx_table.specs.Work.{Doing}
+use Rattle.script_runner.specs.declared.machine.Stop.{Stop}
+use Rattle.script_runner.specs.declared.machine.Stop.TheVariants as stop
+use Rattle.script_runner.specs.Counts.{BlamesDisk}
+use Rattle.iso_machine.specs.Accessing.{IsShown, IsWorkedTo}
+use Rattle.iso_machine.specs.Answering.{Answers}
+use Rattle.iso_machine.proofs.Accesses.{same_but_shown}
+
+module _ (stands : World → Type 0) (d : DiskState) (laws : IsLawful d) (W : World) (here : (c : List ℕ) → d.now c → Shows c W.geometry W.history (last W.history)) where
+  pub quiet : (given : Reply × World) (r : Reply) (V : World) → given ≡ (r, V) → stands V → Answers stands d d W given (Ok r)
+  quiet given r V is stands_for = subst (λ (g : Reply × World). Answers stands d d W g (Ok r)) (sym is) (record {
+    reply = λ told. refl;
+    but_shown = same_but_shown r r refl;
+    told = λ told. told;
+    world = stands_for;
+    moments = started laws (λ c image. inl (here c image));
+    up = λ e. absurd (cc e);
+    cause = record { later = omega arith; failed = λ e. absurd (cc e); passed = refl; memory = λ e. absurd (cc e) };
+  })
+
+  pub quiet_memory : (given : Reply × World) → Answers stands d d W given (Err stop.Memory)
+  quiet_memory given = record {
+    reply = tt;
+    but_shown = tt;
+    told = tt;
+    world = tt;
+    moments = started laws (λ c image. inl (here c image));
+    up = λ e. absurd (cc e);
+    cause = record { later = omega arith; failed = λ e. absurd (cc e); passed = tt; memory = λ e. refl };
+  }
+
+  -- a call on one transaction that writes nothing
+  pub acted : (new : DiskState) (t : Live) (work : Doing) (given : Reply × World) (result : Result Reply Stop) → IfOk result (IsShown d W t given work)
+      → (IsWorkedTo W t given.1 work → stands given.1) → WritesNothing d new → ¬ IsErrOf result stop.Down → BlamesDisk d.faults new.faults result → Answers stands d new W given result
+  acted new t work given (Ok r) is world still not_down cause = record {
+    reply = is.reply;
+    but_shown = is.but_shown;
+    told = λ told. subst (λ (o : Option (List ℕ)). IsSome o) (sym still.same_contents) told;
+    world = world is.worked;
+    moments = stays still (λ c image. inl (here c image));
+    up = not_down;
+    cause = cause;
+  }
+  acted new t work given (Err e) is world still not_down cause = record {
+    reply = tt;
+    but_shown = tt;
+    told = tt;
+    world = tt;
+    moments = stays still (λ c image. inl (here c image));
+    up = not_down;
+    cause = cause;
+  }

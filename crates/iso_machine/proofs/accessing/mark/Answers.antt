@@ -1,0 +1,23 @@
+use Rattle.std.proofs.Common.{◌∙◌, sym, refl, ap, subst, ℕ, false}
+use Rattle.iso_model.specs.declared.script.Reply.{Reply}
+use Rattle.iso_model.specs.Marks.{is_outside}
+use Rattle.iso_model.specs.Step.{mark_refused, mark_step}
+use Rattle.tx_table.specs.Work.{Doing}
+use Rattle.iso_machine.specs.Accessing.{IsGiven}
+use Rattle.iso_machine.proofs.Accesses.{mark_done, mark_outside, mark_refused_is}
+use Rattle.iso_machine.proofs.accessing.mark.Goals as goal
+
+pub returns-then-is_outside : goal.returns-then-is_outside
+returns-then-is_outside c W t active = mark_outside W t c.args.work.now active c.args.off c.args.len
+    (ap (λ (n : ℕ). is_outside n c.args.off c.args.len) (sym c.block_size.ensures.size) ∙ sym c.if-is_outside.ensures)
+
+pub returns-in-Ok : goal.returns-in-Ok
+returns-in-Ok c W t active =
+    mark_done W t c.args.work.now active c.args.off c.args.len c.mark.new.self c.args.work.now.ready false (c.in-Ok.ensures.ok).0 (c.in-Ok.ensures.ok).1
+
+pub returns-in-Err : goal.returns-in-Err
+returns-in-Err c W t active =
+    let fault = c.in-Err.ensures.err c.in-Err.error refl in
+    subst (λ (r : Reply). IsGiven W t (mark_step W t c.args.off c.args.len) c.mark.new.self r) (sym c.mark_reply.ensures)
+    (subst (λ (w : Doing). IsGiven W t (mark_step W t c.args.off c.args.len) w (mark_refused c.in-Err.error)) (sym fault.1)
+    (mark_refused_is W t c.args.work.now active c.args.off c.args.len c.in-Err.error fault.0))

@@ -1,0 +1,29 @@
+use Rattle.std.proofs.Common.{◌≡◌, ◌⊎◌, inl, inr, ℕ, List, ap, Option}
+use Rattle.iso_model.specs.declared.access.Mode.{Mode}
+use Rattle.iso_model.specs.declared.script.Op.{Op}
+use Rattle.iso_model.specs.declared.script.Op.TheVariants as op
+use Rattle.iso_model.specs.declared.script.Reply.TheVariants as reply
+use Rattle.iso_model.specs.World.{World, Live}
+use Rattle.iso_core.specs.Core.{disk_of}
+use Rattle.iso_machine.specs.Accessing.{act_step}
+use Rattle.iso_machine.proofs.Accesses.{refused, shown_given}
+use Rattle.iso_machine.proofs.acting.act.Goals as goal
+
+-- any other operation
+others : (W : World) (t : Live) (o : Op) → ((m : Option Mode) × (o ≡ op.Begin m)) ⊎ (o ≡ op.End) ⊎ (o ≡ op.Abort) ⊎ ((x : List ℕ) × (o ≡ op.Release x)) ⊎ ((x : List ℕ) × (o ≡ op.Takeover x))
+    ⊎ ((x : List ℕ) × (o ≡ op.Await x)) ⊎ (o ≡ op.Trim) ⊎ (o ≡ op.Stat) ⊎ (o ≡ op.Compact) ⊎ (o ≡ op.Upgrade) → act_step W t o ≡ (reply.NotInTx, W)
+others W t o (inl (m, is)) = ap (act_step W t) is
+others W t o (inr (inl is)) = ap (act_step W t) is
+others W t o (inr (inr (inl is))) = ap (act_step W t) is
+others W t o (inr (inr (inr (inl (x, is))))) = ap (act_step W t) is
+others W t o (inr (inr (inr (inr (inl (x, is)))))) = ap (act_step W t) is
+others W t o (inr (inr (inr (inr (inr (inl (x, is))))))) = ap (act_step W t) is
+others W t o (inr (inr (inr (inr (inr (inr (inl is))))))) = ap (act_step W t) is
+others W t o (inr (inr (inr (inr (inr (inr (inr (inl is)))))))) = ap (act_step W t) is
+others W t o (inr (inr (inr (inr (inr (inr (inr (inr (inl is))))))))) = ap (act_step W t) is
+others W t o (inr (inr (inr (inr (inr (inr (inr (inr (inr is))))))))) = ap (act_step W t) is
+
+pub returns-in-Begin-clause-given : goal.returns-in-Begin-clause-given
+returns-in-Begin-clause-given g c W t of tx active =
+    shown_given (g.D.Disk.state (disk_of c.args.core.now)) W t (act_step W t c.args.op.now) c.args.work.now reply.NotInTx
+    (refused W t c.args.work.now active (act_step W t c.args.op.now) reply.NotInTx (others W t c.args.op.now c.in-Begin.is))

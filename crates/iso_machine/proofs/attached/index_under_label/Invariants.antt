@@ -1,0 +1,8 @@
+use Rattle.std.proofs.Common.{◌≡◌, drop, find, map}
+use Rattle.iso_model.specs.World.{is_under_label}
+use Rattle.iso_machine.specs.Standing.{live_of}
+use Rattle.iso_machine.proofs.attached.index_under_label.Given as goal
+
+-- what is found among those that are left is what is found among all
+abbrev pub invariant-loop-i : goal.invariant-loop-i
+invariant-loop-i l = find (λ t. is_under_label l.label t.place) (map live_of l.live) ≡ find (λ t. is_under_label l.label t.place) (map live_of (drop l.i l.live))

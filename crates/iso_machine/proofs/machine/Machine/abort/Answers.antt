@@ -1,0 +1,59 @@
+use Rattle.std.proofs.Common.{◌≡◌, sym, refl, ap, subst, ℕ, List, Option, Some, None, Ok, ◌<◌, length, get_or}
+use Rattle.iso_model.specs.declared.script.Op.TheVariants as op
+use Rattle.iso_model.specs.declared.script.Reply.TheVariants as reply
+use Rattle.iso_model.specs.Step.{after_leaving, in_transaction, step}
+use Rattle.iso_model.specs.World.{World, Live, attached}
+use Rattle.iso_core.specs.Calls.{IsTx}
+use Rattle.iso_core.specs.Core.{disk_of}
+use Rattle.iso_core.specs.Standing.{up}
+use Rattle.iso_machine.specs.declared.attached.Attached.{Attached}
+use Rattle.iso_machine.specs.Answering.{Answers}
+use Rattle.iso_machine.specs.Standing.{AreOf, live_of}
+use Rattle.iso_machine.proofs.Machines.{attached_none, attached_some, is_tx, left}
+use Rattle.iso_machine.specs.Shown.{shows}
+use Rattle.iso_machine.proofs.Quiet.{quiet}
+use Rattle.iso_machine.proofs.machine.Machine.abort.Goals as goal
+
+abort_step : (W : World) (c : ℕ) (o : Option Live) → attached W c ≡ o → step W c op.Abort ≡ in_transaction W o (λ t. (reply.Done, after_leaving W t))
+unfolding step
+abort_step W c o is = ap (λ (p : Option Live). in_transaction W p (λ t. (reply.Done, after_leaving W t))) is
+
+pub returns-in_default : goal.returns-in_default
+returns-in_default g c W of =
+    let m = c.args.self.now in
+    quiet (AreOf g.D.Disk.state m.core m.live.items) (g.D.Disk.state (disk_of m.core)) (g.met.D.Disk.lawful (disk_of m.core)) W (shows g.D.Disk.state m.core W of.core_of)
+    (step W c.args.client op.Abort) reply.NotInTx W
+    (abort_step W c.args.client None (attached_none g.D.Disk.state m.core m.core m.live.items W of c.args.client c.deref.result.now c.deref.ensures.value c.in_default.ensures)) of
+
+pub abort-requires : goal.abort-requires
+abort-requires g c =
+    let m = c.args.self.now in
+    let W = c.requires.0 in
+    let of = c.requires.1 in
+    let gone = c.remove-gone.result in
+    let inside : c.in-Some.i < length m.live.items = subst (λ (l : List Attached). c.in-Some.i < length l) c.deref.ensures.value c.in-Some.ensures.0 in (
+      W,
+      up,
+      live_of gone,
+      of.core_of,
+      subst (λ (a : Attached). IsTx W a.tx (live_of a)) (sym c.remove-gone.ensures.value)
+          (is_tx g.D.Disk.state m.core m.core m.live.items W of c.in-Some.i gone inside),
+    )
+
+pub returns : goal.returns
+returns g c W of =
+    let m = c.args.self.now in
+    let state = g.D.Disk.state in
+    let i = c.in-Some.i in
+    let gone = c.remove-gone.result in
+    let a : Attached = get_or m.live.items i gone in
+    let inside : i < length m.live.items = subst (λ (l : List Attached). i < length l) c.deref.ensures.value c.in-Some.ensures.0 in
+    let tx : IsTx W gone.tx (live_of a) =
+    subst (λ (b : Attached). IsTx W b.tx (live_of a)) (sym c.remove-gone.ensures.value) (is_tx state m.core m.core m.live.items W of i gone inside) in
+    let after : AreOf state c.abort.new.self c.remove-gone.new.self.items (after_leaving W (live_of a)) =
+    subst (λ (l : List Attached). AreOf state c.abort.new.self l (after_leaving W (live_of a))) (sym c.remove-gone.ensures.items)
+    (left state m.core c.abort.new.self m.live.items W of i gone inside (after_leaving W (live_of a)) refl refl (c.abort.ensures.left W up (live_of a) of.core_of tx)) in
+    subst (λ (disk : g.row.D.Denot). Answers (AreOf state c.abort.new.self c.remove-gone.new.self.items) (state (disk_of m.core)) (state disk) W (step W c.args.client op.Abort) (Ok reply.Done)) (sym c.abort.ensures.disk)
+    (quiet (AreOf state c.abort.new.self c.remove-gone.new.self.items) (state (disk_of m.core)) (g.met.D.Disk.lawful (disk_of m.core)) W (shows state m.core W of.core_of)
+    (step W c.args.client op.Abort) reply.Done (after_leaving W (live_of a))
+    (abort_step W c.args.client (Some (live_of a)) (attached_some state m.core m.core m.live.items W of c.args.client c.deref.result.now i gone c.deref.ensures.value (c.in-Some.ensures.1 gone))) after)

@@ -1,0 +1,79 @@
+use Rattle.std.proofs.Common.{◌≡◌, ◌∙◌, ◌⊎◌, inl, inr, sym, refl, ap, subst, ℕ, List}
+use Rattle.iso_model.specs.declared.script.Op.{Op}
+use Rattle.iso_model.specs.declared.script.Op.TheVariants as op
+use Rattle.iso_model.specs.declared.script.Reply.{Reply}
+use Rattle.iso_model.specs.Step.{in_transaction, numbers, step}
+use Rattle.iso_model.specs.World.{World, attached}
+use Rattle.iso_core.specs.Core.{disk_of}
+use Rattle.iso_machine.specs.Accessing.{act_step}
+use Rattle.iso_machine.specs.Answering.{Answers}
+use Rattle.iso_machine.specs.Shown.{shows}
+use Rattle.iso_machine.specs.Standing.{AreOf}
+use Rattle.iso_machine.proofs.Quiet.{quiet, quiet_memory}
+use Rattle.iso_machine.proofs.machine.Machine.answer.Goals as goal
+
+trim_is : (W : World) (c : ℕ) → step W 1 op.Trim ≡ step W c op.Trim
+unfolding step
+trim_is W c = refl
+
+stat_is : (W : World) (c : ℕ) → step W c op.Stat ≡ (numbers W, W)
+unfolding step
+stat_is W c = refl
+
+-- an access or a mark
+access_is : (W : World) (c : ℕ) (o : Op) → ((b : ℕ) × (f : ℕ) × (x : List ℕ) × (o ≡ op.Put b f x)) ⊎ ((b : ℕ) × (o ≡ op.Read b)) ⊎ ((b : ℕ) × (f : ℕ) × (n : ℕ) × (o ≡ op.Get b f n))
+    ⊎ ((b : ℕ) × (x : List ℕ) × (o ≡ op.Write b x)) ⊎ ((b : ℕ) × (x : List ℕ) × (o ≡ op.Fill b x)) ⊎ ((f : ℕ) × (n : ℕ) × (o ≡ op.Mark f n))
+    → in_transaction W (attached W c) (λ t. act_step W t o) ≡ step W c o
+unfolding step
+access_is W c o (inl (b, f, x, is)) = subst (λ (p : Op). in_transaction W (attached W c) (λ t. act_step W t p) ≡ step W c p) (sym is) refl
+access_is W c o (inr (inl (b, is))) = subst (λ (p : Op). in_transaction W (attached W c) (λ t. act_step W t p) ≡ step W c p) (sym is) refl
+access_is W c o (inr (inr (inl (b, f, n, is)))) = subst (λ (p : Op). in_transaction W (attached W c) (λ t. act_step W t p) ≡ step W c p) (sym is) refl
+access_is W c o (inr (inr (inr (inl (b, x, is))))) = subst (λ (p : Op). in_transaction W (attached W c) (λ t. act_step W t p) ≡ step W c p) (sym is) refl
+access_is W c o (inr (inr (inr (inr (inl (b, x, is)))))) = subst (λ (p : Op). in_transaction W (attached W c) (λ t. act_step W t p) ≡ step W c p) (sym is) refl
+access_is W c o (inr (inr (inr (inr (inr (f, n, is)))))) = subst (λ (p : Op). in_transaction W (attached W c) (λ t. act_step W t p) ≡ step W c p) (sym is) refl
+
+pub returns-in-Put : goal.returns-in-Put
+returns-in-Put g c W of isop =
+    let m = c.args.self.now in
+    let n = c.access.new.self in
+    let state = g.D.Disk.state in
+    subst (λ (given : Reply × World). Answers (AreOf state n.core n.live.items) (state (disk_of m.core)) (state (disk_of n.core)) W given c.access.result)
+    (access_is W c.args.client c.args.op.now c.in-Put.is) (c.access.ensures W of isop)
+
+pub returns-in-Trim : goal.returns-in-Trim
+returns-in-Trim g c W of isop =
+    let m = c.args.self.now in
+    let n = c.trim.new.self in
+    let state = g.D.Disk.state in
+    subst (λ (given : Reply × World). Answers (AreOf state n.core n.live.items) (state (disk_of m.core)) (state (disk_of n.core)) W given c.trim.result)
+    (trim_is W c.args.client ∙ ap (λ (o : Op). step W c.args.client o) (sym c.in-Trim.is)) (c.trim.ensures W of)
+
+pub returns-in-Stat : goal.returns-in-Stat
+returns-in-Stat g c W of isop =
+    let m = c.args.self.now in
+    let state = g.D.Disk.state in
+    quiet (AreOf state m.core m.live.items) (state (disk_of m.core)) (g.met.D.Disk.lawful (disk_of m.core)) W (shows state m.core W of.core_of)
+    (step W c.args.client c.args.op.now) c.stat.result W
+    (ap (λ (o : Op). step W c.args.client o) c.in-Stat.is ∙ stat_is W c.args.client ∙ ap (λ (r : Reply). (r, W)) (sym (c.stat.ensures W of))) of
+
+pub returns-in-Begin : goal.returns-in-Begin
+returns-in-Begin g c W of isop =
+    let m = c.args.self.now in
+    let state = g.D.Disk.state in
+    quiet_memory (AreOf state m.core m.live.items) (state (disk_of m.core)) (g.met.D.Disk.lawful (disk_of m.core)) W (shows state m.core W of.core_of) (step W c.args.client c.args.op.now)
+
+await_is : (W : World) (c : ℕ) (text : List ℕ) → step W c (op.Takeover text) ≡ step W c (op.Await text)
+unfolding step
+await_is W c text = refl
+
+takeover_or_await : (W : World) (c : ℕ) (text : List ℕ) (o : Op) → (o ≡ op.Takeover text) ⊎ (o ≡ op.Await text) → step W c (op.Takeover text) ≡ step W c o
+takeover_or_await W c text o (inl is) = ap (λ (p : Op). step W c p) (sym is)
+takeover_or_await W c text o (inr is) = await_is W c text ∙ ap (λ (p : Op). step W c p) (sym is)
+
+pub returns-in-Takeover : goal.returns-in-Takeover
+returns-in-Takeover g c W of isop =
+    let m = c.args.self.now in
+    let n = c.takeover.new.self in
+    let state = g.D.Disk.state in
+    subst (λ (given : Reply × World). Answers (AreOf state n.core n.live.items) (state (disk_of m.core)) (state (disk_of n.core)) W given c.takeover.result)
+    (takeover_or_await W c.args.client c.in-Takeover.label c.args.op.now c.in-Takeover.is) (c.takeover.ensures W of)

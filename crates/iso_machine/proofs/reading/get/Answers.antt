@@ -1,0 +1,52 @@
+use Rattle.std.proofs.Common.{arith, ℕ, List, take, drop, length, ◌≡◌, ◌∙◌, sym, refl, ap, ◌++◌, ◌∷◌, [], None, Some, false}
+use Rattle.iso_model.specs.declared.access.Access.{Access}
+use Rattle.iso_model.specs.declared.access.Span.{Span}
+use Rattle.iso_model.specs.declared.script.Reply.TheVariants as reply
+use Rattle.iso_model.specs.Marks.{is_outside, mark_fault, marked}
+use Rattle.iso_model.specs.Step.{get_access, get_step, read_access, shown_to, with_access}
+use Rattle.iso_model.proofs.Marked.{marked_last}
+use Rattle.iso_core.specs.Core.{disk_of}
+use Rattle.tx_table.specs.Work.{Doing, span_at}
+use Rattle.iso_machine.proofs.Accesses.{get_is, may_mark, one_more, shown_bytes, shown_given, step_is, step_refused, still_work, take_front}
+use Rattle.iso_machine.proofs.reading.get.Goals as goal
+
+pub returns-in-Some-clause-given : goal.returns-in-Some-clause-given
+returns-in-Some-clause-given g c W t of tx active =
+    let answer = reply.Shown (take c.args.len (drop c.args.off (shown_to W t c.args.block))) in
+    let access = get_access c.args.block c.args.off c.args.len in
+    shown_given (g.D.Disk.state (disk_of c.args.core.now)) W t (get_step W t c.args.block c.args.off c.args.len) c.args.work.now c.in-Some.reply
+    (step_refused W t c.args.work.now active (get_step W t c.args.block c.args.off c.args.len) c.args.block (is_outside W.geometry.block c.args.off c.args.len) c.is_outside.result answer access c.in-Some.reply
+    (get_is W t c.args.block c.args.off c.args.len)
+    (c.is_outside.ensures ∙ ap (λ (n : ℕ). is_outside n c.args.off c.args.len) (c.block_size-size.ensures.size ∙ active.is_work.size))
+    (c.in-Some.ensures.refused W t active.is_work answer access))
+
+pub mark_within-requires-clause-may : goal.mark_within-requires-clause-may
+mark_within-requires-clause-may g c =
+    let reads = λ (w : Doing). record w { accesses = w.accesses ++ read_access c.args.block ∷ []; ready = None; settled = false } in
+    let made : c.read_into.new.work ≡ reads c.args.work.now = c.in_default-read_into.ensures.work ∙ ap reads c.in_default-reserve.ensures.ok in
+    let outside : is_outside c.args.work.now.size c.args.off c.args.len ≡ false =
+    ap (λ (n : ℕ). is_outside n c.args.off c.args.len) (sym c.block_size-size.ensures.size) ∙ sym c.is_outside.ensures ∙ (c.in_default.ensures.allowed refl).1 in
+    ap (λ (w : Doing). mark_fault w.size c.args.off c.args.len w.accesses) made
+    ∙ may_mark c.args.work.now.size c.args.off c.args.len c.args.work.now.accesses (read_access c.args.block) refl outside
+
+pub returns-clause-given : goal.returns-clause-given
+returns-clause-given g c W t of tx active =
+    let old = c.args.work.now in
+    let span : Span = span_at c.args.off c.args.len in
+    let reads = λ (w : Doing). record w { accesses = w.accesses ++ read_access c.args.block ∷ []; ready = None; settled = false } in
+    let marks = λ (w : Doing). record w { accesses = marked span w.accesses; settled = false } in
+    let made : c.read_into.new.work ≡ reads c.args.work.now = c.in_default-read_into.ensures.work ∙ ap reads c.in_default-reserve.ensures.ok in
+    let may = c.in_default.ensures.allowed refl in
+    let right : is_outside W.geometry.block c.args.off c.args.len ≡ false =
+    ap (λ (n : ℕ). is_outside n c.args.off c.args.len) (sym (c.block_size-size.ensures.size ∙ active.is_work.size)) ∙ sym c.is_outside.ensures ∙ may.1 in
+    let shown : List ℕ = take c.args.len (drop c.args.off (shown_to W t c.args.block)) in
+    let access : Access = get_access c.args.block c.args.off c.args.len in
+    shown_bytes (g.D.Disk.state (disk_of c.args.core.now)) W t (get_step W t c.args.block c.args.off c.args.len) c.of.result shown (with_access W t access) c.mark_within.new.work
+    (get_is W t c.args.block c.args.off c.args.len ∙ step_is W t old active c.args.block (is_outside W.geometry.block c.args.off c.args.len) (reply.Shown shown) access right may.0 may.2)
+    (λ told. c.of.ensures ∙ c.cut.ensures
+    ∙ ap (λ (l : List ℕ). take c.args.len (drop c.args.off l)) (take_front c.in-Ok.bytes.len c.read_into.new.into (drop (length c.read_into.new.into) c.in-Ok.bytes.items)
+    (omega (arith, c.read_into.ensures.length, ap (λ (l : List ℕ). length l) c.deref_mut.ensures.value, c.in-Ok.bytes.ok.0))
+    ∙ c.in_default-read_into.ensures.shown W t of tx (still_work W t old c.reserve.new.self (Some c.args.block) c.in_default-reserve.ensures.ok active.is_work) told))
+    (one_more W t old active access c.mark_within.new.work None false
+    (c.mark_within.ensures ∙ ap marks made
+    ∙ ap (λ (l : List Access). record old { accesses = l; ready = None; settled = false }) (marked_last span old.accesses (read_access c.args.block))))

@@ -1,0 +1,51 @@
+-- What an access or a mark of one transaction is answered, and what its work is then.
+use Rattle.std.specs.Prelude.{◌≡◌, Result, Ok, Err}
+use Rattle.iso_disk.specs.Disk.{DiskState}
+use Rattle.iso_model.specs.declared.script.Op.{Op}
+use Rattle.iso_model.specs.declared.script.Op.TheVariants.{Put, Read, Get, Write, Fill, Mark}
+use Rattle.iso_model.specs.declared.script.Reply.{Reply}
+use Rattle.iso_model.specs.declared.script.Reply.TheVariants as reply
+use Rattle.iso_model.specs.declared.memory.Memory.{Memory}
+use Rattle.iso_model.specs.Step.{fill_step, get_step, mark_step, put_step, read_step, with_accesses, write_step}
+use Rattle.iso_model.specs.World.{World, Live, with}
+use Rattle.tx_table.specs.Work.{Doing}
+use Rattle.iso_core.specs.Calls.{IsWorkOf}
+use Rattle.script_runner.specs.declared.machine.Stop.{Stop}
+use Rattle.script_runner.specs.declared.machine.Stop.TheVariants as stop
+use Rattle.script_runner.specs.Told.{IfTold, SameButShown}
+
+-- an access or a mark of the transaction
+abbrev pub act_step : World → Live → Op → Reply × World
+act_step W t (Put block off bytes) = put_step W t block off bytes
+act_step W t (Read block) = read_step W t block
+act_step W t (Get block off len) = get_step W t block off len
+act_step W t (Write block bytes) = write_step W t block bytes
+act_step W t (Fill block bytes) = fill_step W t block bytes
+act_step W t (Mark off len) = mark_step W t off len
+act_step W t op = (reply.NotInTx, W)
+
+-- the work is that of the transaction, and it is that of the world with its number
+pub record IsActive (W : World) (t : Live) (work : Doing) : Type 0 where
+  pub is_work : IsWorkOf W t work
+  pub here : with t W.live ≡ W.live
+
+-- the world that is given is the one in which the transaction has the accesses of the work
+pub record IsWorkedTo (W : World) (t : Live) (given : World) (work : Doing) : Type 0 where
+  pub world : given ≡ with_accesses W t work.accesses
+  pub is_work : IsWorkOf W (record t { accesses = work.accesses }) work
+
+-- the reply and the world are those that are given
+pub record IsGiven (W : World) (t : Live) (given : Reply × World) (work : Doing) (r : Reply) : Type 0 where
+  pub reply : r ≡ given.0
+  pub worked : IsWorkedTo W t given.1 work
+
+-- so, but for bytes that are shown and that the disk does not tell
+pub record IsShown (d : DiskState) (W : World) (t : Live) (given : Reply × World) (work : Doing) (r : Reply) : Type 0 where
+  pub reply : IfTold d (r ≡ given.0)
+  pub but_shown : SameButShown r given.0
+  pub worked : IsWorkedTo W t given.1 work
+
+-- a reply, where there was memory for it
+abbrev pub or_stop : Result Reply Memory → Result Reply Stop
+or_stop (Ok r) = Ok r
+or_stop (Err e) = Err stop.Memory

@@ -1,0 +1,21 @@
+-- How a machine answers an operation.
+use Rattle.std.specs.Prelude.{◌≡◌, IfOk, IsErrOf, IsSome, OnOk, Result}
+use Rattle.iso_disk.specs.Disk.{DiskState, LeavesOnly}
+use Rattle.iso_model.specs.declared.script.Reply.{Reply}
+use Rattle.iso_model.specs.World.{World}
+use Rattle.script_runner.specs.declared.machine.Stop.{Stop}
+use Rattle.script_runner.specs.declared.machine.Stop.TheVariants as stop
+use Rattle.script_runner.specs.Between.{IsBeforeOrAfter}
+use Rattle.script_runner.specs.Counts.{BlamesDisk}
+use Rattle.script_runner.specs.Told.{IfTold, SameButShown}
+
+-- From the world W, the reply and the world are those that are given, but for bytes that are shown and that the disk does
+-- not tell. At each moment an image shows the world before or the world after.
+pub record Answers (stands : World → Type 0) (old new : DiskState) (W : World) (given : Reply × World) (result : Result Reply Stop) : Type 0 where
+  pub reply : IfOk result (λ r. IfTold old (r ≡ given.0))
+  pub but_shown : IfOk result (λ r. SameButShown r given.0)
+  pub told : OnOk result (IfTold old (IsSome new.contents))
+  pub world : OnOk result (stands given.1)
+  pub moments : LeavesOnly old new (IsBeforeOrAfter W given.1)
+  pub up : ¬ IsErrOf result stop.Down
+  pub cause : BlamesDisk old.faults new.faults result

@@ -1,0 +1,4 @@
+pub mod Standing
+pub mod Accessing
+pub mod Answering
+pub mod Shown

@@ -1,0 +1,147 @@
+// Writes and marks of one transaction.
+ghost use Rattle.std.specs.Prelude.{◌≡◌, [], None, ◌∷◌, ◌++◌, ◌+◌, ◌-◌, ◌==◌, ◌<◌, ◌≤◌, not, IfOk, OnOk, length, replicate, slice_index, IfSome, false};
+ghost use Rattle.iso_model.specs.declared.access.Access.{Access};
+ghost use Rattle.iso_model.specs.declared.script.Reply.{Reply};
+ghost use Rattle.iso_model.specs.Marks.{is_outside, mark_fault, marked};
+ghost use Rattle.iso_model.specs.Step.{access_step, fill_step, mark_refused, mark_step, put_step, write_step};
+ghost use Rattle.iso_model.specs.World.{World, Live};
+ghost use Rattle.iso_core.specs.Calls.{IsWorkOf};
+ghost use Rattle.tx_table.specs.Work.{span_at};
+ghost use Rattle.iso_machine.specs.Accessing.{IsActive, IsGiven};
+
+use iso_model::{MarkError, Memory, Reply};
+use tx_table::Work;
+
+/// Whether the bytes from `off` on, so many of them, are none or pass the end of a block.
+pub(crate) fn is_outside(size: u32, off: u32, len: usize) -> bool
+    ensures { result ≡ is_outside size off len }
+{
+    len == 0 || len > size as usize || off as usize + len > size as usize
+}
+
+/// Why an access is refused, if it is: its block is outside, its bytes are wrong, or there are as many accesses as there may be.
+pub(crate) fn refusal(work: &Work, block: u32, is_wrong: bool) -> Option<Reply>
+    ensures allowed { result ≡ None → (block < work.now.blocks) × (is_wrong ≡ false) × (length work.now.accesses < 4096) }
+    ensures refused { (W : World) (t : Live) → IsWorkOf W t work.now → IfSome result (λ r. (answer : Reply) (a : Access) → access_step W t block is_wrong answer a ≡ (r, W)) }
+{
+    if block >= work.blocks() {
+        return Some(Reply::BadBlock);
+    }
+    if is_wrong {
+        return Some(Reply::BadRange);
+    }
+    if work.room() == 0 {
+        return Some(Reply::TooManyAccesses);
+    }
+    None
+}
+
+/// Makes the buffer a block of zeros with these bytes at `off`.
+fn lay_out(buffer: &mut Vec<u8>, size: u32, off: u32, bytes: &[u8]) -> Result<(), Memory>
+    requires { off + length bytes.now ≤ size }
+    ensures { OnOk result (buffer.new.items ≡ replicate off 0 ++ bytes.now ++ replicate (size - (off + length bytes.now)) 0) }
+{
+    buffer.clear();
+    buffer.resize(off as usize, 0)?;
+    buffer.extend_from_slice(bytes)?;
+    buffer.resize(size as usize, 0)?;
+    Ok(())
+}
+
+/// A write of these bytes at `off`, with one mark over them.
+pub(crate) fn put(
+    work: &mut Work,
+    buffer: &mut Vec<u8>,
+    block: u32,
+    off: u32,
+    bytes: &[u8],
+) -> Result<Reply, Memory>
+    ensures { (W : World) (t : Live) → IsActive W t work.old → IfOk result (IsGiven W t (put_step W t block off bytes.now) work.new) }
+{
+    let size = work.block_size();
+    if let Some(reply) = refusal(work, block, is_outside(size, off, bytes.len())) {
+        return Ok(reply);
+    }
+    lay_out(buffer, size, off, bytes)?;
+    work.reserve(block)?;
+    work.write(block, buffer);
+    mark_within(work, off, bytes.len() as u32);
+    Ok(Reply::Done)
+}
+
+/// Marks a range of the last access, where it may be marked.
+pub(crate) fn mark_within(work: &mut Work, off: u32, len: u32)
+    requires small { off + len ≤ 4096 }
+    requires may { mark_fault work.old.size off len work.old.accesses ≡ None }
+    ensures { work.new ≡ record work.old { accesses = marked (span_at off len) work.old.accesses; settled = false } }
+{
+    match work.mark(off as u16, len as u16) {
+        Ok(()) => {}
+        Err(_) => unreachable!(),
+    }
+}
+
+/// A write of a whole block.
+pub(crate) fn write(work: &mut Work, block: u32, bytes: &[u8]) -> Result<Reply, Memory>
+    ensures { (W : World) (t : Live) → IsActive W t work.old → IfOk result (IsGiven W t (write_step W t block bytes.now) work.new) }
+{
+    let size = work.block_size();
+    if let Some(reply) = refusal(work, block, bytes.len() != size as usize) {
+        return Ok(reply);
+    }
+    work.reserve(block)?;
+    work.write(block, bytes);
+    Ok(Reply::Done)
+}
+
+/// Makes the buffer a block full of one byte.
+fn fill_up(buffer: &mut Vec<u8>, size: u32, byte: u8) -> Result<(), Memory>
+    ensures { OnOk result (buffer.new.items ≡ replicate size byte) }
+{
+    buffer.clear();
+    buffer.resize(size as usize, byte)?;
+    Ok(())
+}
+
+/// A write of a block full of one byte.
+pub(crate) fn fill(
+    work: &mut Work,
+    buffer: &mut Vec<u8>,
+    block: u32,
+    bytes: &[u8],
+) -> Result<Reply, Memory>
+    ensures { (W : World) (t : Live) → IsActive W t work.old → IfOk result (IsGiven W t (fill_step W t block bytes.now) work.new) }
+{
+    let size = work.block_size();
+    if let Some(reply) = refusal(work, block, bytes.len() != 1) {
+        return Ok(reply);
+    }
+    fill_up(buffer, size, bytes[0])?;
+    work.reserve(block)?;
+    work.write(block, buffer);
+    Ok(Reply::Done)
+}
+
+/// What a mark that is refused is answered.
+fn mark_reply(error: MarkError) -> Reply
+    ensures { result ≡ mark_refused error }
+{
+    match error {
+        MarkError::BadRange => Reply::BadRange,
+        MarkError::NoAccess => Reply::NoAccess,
+        MarkError::TooManyMarks => Reply::TooManyMarks,
+    }
+}
+
+/// One more mark on the last access.
+pub(crate) fn mark(work: &mut Work, off: u32, len: u32) -> Reply
+    ensures { (W : World) (t : Live) → IsActive W t work.old → IsGiven W t (mark_step W t off len) work.new result }
+{
+    if is_outside(work.block_size(), off, len as usize) {
+        return Reply::BadRange;
+    }
+    match work.mark(off as u16, len as u16) {
+        Ok(()) => Reply::Done,
+        Err(error) => mark_reply(error),
+    }
+}

@@ -1,0 +1,134 @@
+// Reads of one transaction.
+ghost use Rattle.std.specs.Prelude.{◌≡◌, ◌∷◌, ◌++◌, [], ◌+◌, ◌<◌, ◌≤◌, Some, None, false, IfOk, IsErrOf, OnOk, drop, length, take, vec_len};
+ghost use Rattle.fault_count.specs.Count.{HasCause};
+ghost use Rattle.iso_disk.specs.Disk.{WritesNothing};
+ghost use Rattle.iso_model.specs.Step.{get_step, read_access, read_step, shown_to};
+ghost use Rattle.iso_model.specs.World.{World, Live};
+ghost use Rattle.iso_core.specs.Calls.{IsTx, IsWorkOf};
+ghost use Rattle.iso_core.specs.Core.{StandsFor, disk_of};
+ghost use Rattle.iso_core.specs.Standing.{up};
+ghost use Rattle.script_runner.specs.Counts.{BlamesDisk};
+ghost use Rattle.script_runner.specs.Told.{IfTold};
+ghost use Rattle.iso_machine.specs.Accessing.{IsActive, IsShown};
+
+use crate::accessing::{is_outside, mark_within, refusal};
+use iso_core::Core;
+use iso_disk::{Disk, DiskFault};
+use iso_model::{Bytes, Memory, Reply};
+use script_runner::Stop;
+use std::alloc::Global;
+use tx_table::Work;
+
+/// Reads a block as the transaction is shown it. On a fault any bytes may be in the slice, and all else stays.
+fn read_into<D: Disk>(
+    core: &mut Core<D>,
+    tx: u64,
+    work: &mut Work,
+    block: u32,
+    into: &mut [u8],
+) -> Result<(), DiskFault>
+    requires stands { (W : World) × (t : Live) × StandsFor D.state core.old W up × IsTx W tx t × IsWorkOf W t work.old }
+    requires ready { work.old.ready ≡ Some block }
+    requires block { block < work.old.blocks }
+    requires room { length work.old.accesses < 4096 }
+    requires bytes { length into.old ≡ work.old.size }
+    ensures shown { (W : World) (t : Live) → StandsFor D.state core.old W up → IsTx W tx t → IsWorkOf W t work.old
+        → OnOk result (IfTold (D.state (disk_of core.old)) (into.new ≡ shown_to W t block)) }
+    ensures work { OnOk result (work.new ≡ record work.old { accesses = work.old.accesses ++ read_access block ∷ []; ready = None; settled = false }) }
+    ensures same { (W : World) → StandsFor D.state core.old W up → StandsFor D.state core.new W up }
+    ensures length { length into.new ≡ length into.old }
+    ensures unwritten { WritesNothing (D.state (disk_of core.old)) (D.state (disk_of core.new)) }
+    ensures cause { HasCause (D.state (disk_of core.old)).faults (D.state (disk_of core.new)).faults result }
+{
+    match core.fetch(tx, block, into) {
+        Ok(()) => {
+            work.read(block, into);
+            Ok(())
+        }
+        Err(_) => Err(DiskFault),
+    }
+}
+
+/// Zeros, as many as a block has bytes.
+fn zeros(alloc: Global, size: u32) -> Result<Vec<u8>, Memory>
+    ensures { IfOk result (λ bytes. length bytes.items ≡ size) }
+{
+    let bytes = vec![in alloc; 0u8; size as usize]?;
+    Ok(bytes)
+}
+
+/// Keeps so many bytes from `off` on.
+fn cut(bytes: &mut Vec<u8>, off: u32, len: u32)
+    requires { off + len ≤ vec_len bytes.old }
+    ensures { bytes.new.items ≡ take len (drop off bytes.old.items) }
+{
+    bytes.copy_within(off as usize..off as usize + len as usize, 0);
+    bytes.truncate(len as usize);
+}
+
+/// A read of a whole block.
+pub(crate) fn read<D: Disk>(
+    alloc: Global,
+    core: &mut Core<D>,
+    tx: u64,
+    work: &mut Work,
+    block: u32,
+) -> Result<Reply, Stop>
+    requires { (W : World) × (t : Live) × StandsFor D.state core.old W up × IsTx W tx t × IsActive W t work.old }
+    ensures given { (W : World) (t : Live) → StandsFor D.state core.old W up → IsTx W tx t → IsActive W t work.old
+        → IfOk result (IsShown (D.state (disk_of core.old)) W t (read_step W t block) work.new) }
+    ensures same { (W : World) → StandsFor D.state core.old W up → StandsFor D.state core.new W up }
+    ensures unwritten { WritesNothing (D.state (disk_of core.old)) (D.state (disk_of core.new)) }
+    ensures up { ¬ IsErrOf result Stop.Down }
+    ensures cause { BlamesDisk (D.state (disk_of core.old)).faults (D.state (disk_of core.new)).faults result }
+{
+    if let Some(reply) = refusal(work, block, false) {
+        return Ok(reply);
+    }
+    let Ok(mut bytes) = zeros(alloc, work.block_size()) else {
+        return Err(Stop::Memory);
+    };
+    if let Err(_) = work.reserve(block) {
+        return Err(Stop::Memory);
+    }
+    match read_into(core, tx, work, block, &mut bytes) {
+        Ok(()) => Ok(Reply::Shown(Bytes::of(bytes))),
+        Err(_) => Err(Stop::Disk),
+    }
+}
+
+/// A read of `len` bytes at `off`, with one mark over them.
+pub(crate) fn get<D: Disk>(
+    alloc: Global,
+    core: &mut Core<D>,
+    tx: u64,
+    work: &mut Work,
+    block: u32,
+    off: u32,
+    len: u32,
+) -> Result<Reply, Stop>
+    requires { (W : World) × (t : Live) × StandsFor D.state core.old W up × IsTx W tx t × IsActive W t work.old }
+    ensures given { (W : World) (t : Live) → StandsFor D.state core.old W up → IsTx W tx t → IsActive W t work.old
+        → IfOk result (IsShown (D.state (disk_of core.old)) W t (get_step W t block off len) work.new) }
+    ensures same { (W : World) → StandsFor D.state core.old W up → StandsFor D.state core.new W up }
+    ensures unwritten { WritesNothing (D.state (disk_of core.old)) (D.state (disk_of core.new)) }
+    ensures up { ¬ IsErrOf result Stop.Down }
+    ensures cause { BlamesDisk (D.state (disk_of core.old)).faults (D.state (disk_of core.new)).faults result }
+{
+    let size = work.block_size();
+    if let Some(reply) = refusal(work, block, is_outside(size, off, len as usize)) {
+        return Ok(reply);
+    }
+    let Ok(mut bytes) = zeros(alloc, size) else {
+        return Err(Stop::Memory);
+    };
+    if let Err(_) = work.reserve(block) {
+        return Err(Stop::Memory);
+    }
+    if let Err(_) = read_into(core, tx, work, block, &mut bytes) {
+        return Err(Stop::Disk);
+    }
+    mark_within(work, off, len);
+    cut(&mut bytes, off, len);
+    Ok(Reply::Shown(Bytes::of(bytes)))
+}

@@ -1,0 +1,44 @@
+-- A run, without what its machine stands for.
+use Rattle.std.proofs.Common.{ℕ, List}
+use Rattle.iso_disk.specs.Disk.{DiskState}
+use Rattle.iso_io.specs.Sink.{SinkState}
+use Rattle.iso_io.specs.Source.{SourceState}
+use Rattle.iso_model.specs.Script.{after}
+use Rattle.iso_model.specs.World.{World}
+use Rattle.script_runner.specs.declared.run_end.RunEnd.{RunEnd}
+use Rattle.script_runner.specs.declared.run_end.RunEnd.TheVariants as end
+use Rattle.script_runner.specs.Run.{HasRun, IfUp}
+
+nothing_up : (e : RunEnd) → IfUp e (Unit {0})
+nothing_up end.Done = tt
+nothing_up (end.BadLine bad) = tt
+nothing_up end.Disk = tt
+nothing_up end.Input = tt
+nothing_up end.Output = tt
+nothing_up end.Memory = tt
+
+pub run_alone : (stands : World → Type 0) (disk_old disk_new : DiskState) (input_old input_new : SourceState) (output_old output_new : SinkState) (W : World) (e : RunEnd)
+    → HasRun stands disk_old disk_new input_old input_new output_old output_new W e → HasRun (λ V. Unit {0}) disk_old disk_new input_old input_new output_old output_new W e
+run_alone stands disk_old disk_new input_old input_new output_old output_new W e r = record {
+  bytes = r.bytes;
+  took = r.took;
+  limit = r.limit;
+  ended = r.ended;
+  done = r.done;
+  next = r.next;
+  lines = r.lines;
+  told = r.told;
+  whole = r.whole;
+  answered = record {
+    replies = r.answered.replies;
+    order = r.answered.order;
+    order_next = r.answered.order_next;
+    acknowledged = r.answered.acknowledged;
+    exit = r.answered.exit;
+    moments = r.answered.moments;
+    world = nothing_up e;
+    disk = r.answered.disk;
+    output = r.answered.output;
+  };
+  input = r.input;
+}

@@ -1,0 +1,12 @@
+use Rattle.std.proofs.Common.{◌≡◌, ◌∙◌, sym, subst, ℕ, List}
+use Rattle.script_runner.specs.declared.run_end.RunEnd.{RunEnd}
+use Rattle.iso_top.specs.Outcome.{PrintedEnd}
+use Rattle.iso_top.specs.Prints.{Printed}
+use Rattle.iso_top.proofs.script.put_end.Goals as goal
+
+pub returns-in-BadLine : goal.returns-in-BadLine
+returns-in-BadLine g c =
+    let old = g.K.Sink.state c.args.output.now in
+    let new = g.K.Sink.state c.put_last.new.output in
+    subst (λ (e : RunEnd). PrintedEnd e old new) (sym c.in-BadLine.is)
+    (subst (λ (text : List ℕ). Printed old new text) (c.as_slice.ensures.value ∙ c.bad_line.ensures) c.put_last.ensures)

@@ -1,0 +1,35 @@
+-- A core that a call begins with, or why there is none.
+use Rattle.std.specs.Prelude.{◌≡◌, ◌⊎◌, ℕ, ◌≤◌, List, [], Option, Some, None}
+use Rattle.std.specs.Option.{ForSome}
+use Rattle.iso_disk.specs.Disk.{DiskState, LeavesOnly, StaysTold}
+use Rattle.iso_model.specs.declared.access.Geometry.{Geometry}
+use Rattle.iso_model.specs.declared.limits.TheConstants.{LAST}
+use Rattle.iso_model.specs.World.{World}
+use Rattle.iso_core.specs.declared.core_itself.Core.{Core}
+use Rattle.iso_core.specs.Core.{StandsFor, disk_of}
+use Rattle.iso_core.specs.Standing.{up}
+use Rattle.iso_recover.specs.Cause.{IsBlamed, IsTest}
+use Rattle.iso_refusal.specs.declared.open_error.OpenError.{OpenError}
+use Rattle.iso_refusal.specs.Refusal.{refusal}
+use Rattle.script_runner.specs.Between.{ShowsBetween}
+use Rattle.iso_top.specs.Outcome.{IsUnbegun, MayBeUnmade, StartsFrom}
+
+-- The core is up and stands for the world that the call begins with, which has no live transaction. Its disk was bound to the
+-- name, and each image since then is none of this project or shows that world.
+pub record HasCore {D : Type 0} (state : D → DiskState) (made : Option Geometry) (name : List ℕ) (disk : D) (core : Core D) : Type 0 where
+  pub world : World
+  pub stands : StandsFor state core world up
+  pub idle : world.live ≡ []
+  pub next : world.next ≤ LAST
+  pub starts : StartsFrom made (state disk).contents world
+  pub told : StaysTold (state disk) (state (disk_of core))
+  pub faults : (state (disk_of core)).faults ≡ (state disk).faults
+  pub bound : D
+  pub binds : (state bound).bound ≡ Some ((state bound).clock, name)
+  pub moments : LeavesOnly (state bound) (state (disk_of core)) (λ c. MayBeUnmade made c ⊎ ShowsBetween world world c)
+
+-- There is no core, for this reason.
+pub record HasNoCore (made : Option Geometry) (name : List ℕ) (e : OpenError) (disk_old disk_new : DiskState) : Type 0 where
+  pub unbegun : IsUnbegun made disk_old.contents name e disk_new
+  pub refused : IsTest e → (made ≡ None) × ForSome disk_old.contents (λ c. refusal c ≡ Some e)
+  pub cause : IsBlamed disk_old.faults disk_new.faults e

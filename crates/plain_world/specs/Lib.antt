@@ -1,4 +1,0 @@
-pub mod Bytes
-pub mod Ending
-pub mod Plain
-pub mod View
