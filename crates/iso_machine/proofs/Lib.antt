@@ -3,3 +3,7 @@ pub mod Besides
 pub mod Accesses
 pub mod Quiet
 pub mod Machines
+pub mod Refusals
+pub mod Begins
+pub mod Endings
+pub mod Switches

@@ -19,7 +19,7 @@ with_others t u [] all same = refl
 with_others t u (v ∷ live) all same =
     rw (ne_eqb v.number u.number (λ e. all.0.numbers (sym same ∙ sym e))) (ap (λ (l : List Live). v ∷ l) (with_others t u live all.1 same))
 
-without_others : (t : Live) (n : ℕ) (live : List Live) → AllByRecursion (AreTwo t) live → n ≡ t.number → without n live ≡ live
+pub without_others : (t : Live) (n : ℕ) (live : List Live) → AllByRecursion (AreTwo t) live → n ≡ t.number → without n live ≡ live
 without_others t n [] all same = refl
 without_others t n (v ∷ live) all same =
     rw (ne_eqb v.number n (λ e. all.0.numbers (sym same ∙ sym e))) (ap (λ (l : List Live). v ∷ l) (without_others t n live all.1 same))
@@ -53,6 +53,13 @@ all_remove P [] zero all = tt
 all_remove P [] (suc i) all = tt
 all_remove P (x ∷ xs) zero all = all.1
 all_remove P (x ∷ xs) (suc i) all = (all.0, all_remove P xs i all.1)
+
+-- one that leaves may have changed before
+pub remove_set : {X : Type 0} (xs : List X) (i : ℕ) (y : X) → remove (set xs i y) i ≡ remove xs i
+remove_set [] zero y = refl
+remove_set [] (suc i) y = refl
+remove_set (x ∷ xs) zero y = refl
+remove_set {X = X} (x ∷ xs) (suc i) y = ap (λ (l : List X). x ∷ l) (remove_set xs i y)
 
 pub all_at : {X : Type 0} (P : X → Type 0) (xs : List X) (i : ℕ) (d : X) → AllByRecursion P xs → i < length xs → P (get_or xs i d)
 all_at P [] i d all inside = absurd (omega (arith, inside))

@@ -1,6 +1,7 @@
--- Answers that write nothing.
+-- Answers that are given, and answers that write nothing.
 use Rattle.std.proofs.Common.{◌≡◌, inl, sym, refl, subst, ℕ, List, Result, Ok, Err, IfOk, IsErrOf, IsSome, Option, arith}
-use Rattle.iso_disk.specs.Disk.{DiskState, IsLawful, WritesNothing}
+use Rattle.iso_core.specs.Calls as core
+use Rattle.iso_disk.specs.Disk.{DiskState, IsLawful, LeavesOnly, StaysTold, WritesNothing}
 use Rattle.iso_disk.proofs.Moments.{started, stays}
 use Rattle.iso_model.specs.declared.script.Reply.{Reply}
 use Rattle.iso_model.specs.History.{last}
@@ -9,10 +10,24 @@ use Rattle.iso_model.specs.World.{World, Live}
 use Rattle.tx_table.specs.Work.{Doing}
 use Rattle.script_runner.specs.declared.machine.Stop.{Stop}
 use Rattle.script_runner.specs.declared.machine.Stop.TheVariants as stop
+use Rattle.script_runner.specs.Between.{IsBeforeOrAfter}
 use Rattle.script_runner.specs.Counts.{BlamesDisk}
 use Rattle.iso_machine.specs.Accessing.{IsShown, IsWorkedTo}
 use Rattle.iso_machine.specs.Answering.{Answers}
 use Rattle.iso_machine.proofs.Accesses.{same_but_shown}
+
+-- a call of the core that was answered
+pub answered : {T : Type 0} (stands : World → Type 0) (old new : DiskState) (W : World) (given : Reply × World) (r : Reply) (answer : T) → r ≡ given.0 → StaysTold old new → stands given.1
+    → LeavesOnly old new (IsBeforeOrAfter W given.1) → core.BlamesDisk old.faults new.faults (Ok answer) → Answers stands old new W given (Ok r)
+answered stands old new W given r answer is told after moments cause = record {
+  reply = λ told. is;
+  but_shown = same_but_shown r given.0 is;
+  told = told;
+  world = after;
+  moments = moments;
+  up = λ e. absurd (cc e);
+  cause = record { later = cause.later; failed = λ e. absurd (cc e); passed = cause.passed; memory = λ e. absurd (cc e) };
+}
 
 module _ (stands : World → Type 0) (d : DiskState) (laws : IsLawful d) (W : World) (here : (c : List ℕ) → d.now c → Shows c W.geometry W.history (last W.history)) where
   pub quiet : (given : Reply × World) (r : Reply) (V : World) → given ≡ (r, V) → stands V → Answers stands d d W given (Ok r)

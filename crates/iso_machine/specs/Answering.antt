@@ -1,7 +1,10 @@
 -- How a machine answers an operation.
-use Rattle.std.specs.Prelude.{◌≡◌, IfOk, IsErrOf, IsSome, OnOk, Result}
+use Rattle.std.specs.Prelude.{◌≡◌, IfOk, IsErrOf, IsSome, OnOk, Result, Ok, Err}
 use Rattle.iso_disk.specs.Disk.{DiskState, LeavesOnly}
+use Rattle.iso_model.specs.declared.core_error.CoreError.{CoreError}
+use Rattle.iso_model.specs.declared.core_error.CoreError.TheVariants as error
 use Rattle.iso_model.specs.declared.script.Reply.{Reply}
+use Rattle.iso_model.specs.declared.script.Reply.TheVariants as reply
 use Rattle.iso_model.specs.World.{World}
 use Rattle.script_runner.specs.declared.machine.Stop.{Stop}
 use Rattle.script_runner.specs.declared.machine.Stop.TheVariants as stop
@@ -19,3 +22,19 @@ pub record Answers (stands : World → Type 0) (old new : DiskState) (W : World)
   pub moments : LeavesOnly old new (IsBeforeOrAfter W given.1)
   pub up : ¬ IsErrOf result stop.Down
   pub cause : BlamesDisk old.faults new.faults result
+
+-- what an error of a core is answered: the model's reply that it stands for, or why there is none
+abbrev pub answer_to : CoreError → Result Reply Stop
+answer_to error.Down = Err stop.Down
+answer_to error.TooManyTx = Ok reply.TooManyTx
+answer_to (error.LogFull need free) = Ok (reply.LogFull need free)
+answer_to error.Disk = Err stop.Disk
+answer_to error.Memory = Err stop.Memory
+answer_to (error.Worn at) = Ok reply.Worn
+answer_to error.ModeFixed = Ok reply.ModeFixed
+
+-- why there is no reply to an error of a core that is answered by none
+abbrev pub stop_of : CoreError → Stop
+stop_of error.Down = stop.Down
+stop_of error.Disk = stop.Disk
+stop_of e = stop.Memory

@@ -3,8 +3,24 @@
 
 mod accessing;
 mod acting;
+mod answer;
 mod attached;
+mod begin;
+mod ending;
+mod handles;
+mod leaving;
 mod machine;
 mod reading;
+mod refusing;
+mod switching;
 
 pub use machine::Machine;
+
+#[cfg(test)]
+mod handle_tests;
+#[cfg(test)]
+mod limit_tests;
+#[cfg(test)]
+mod session;
+#[cfg(test)]
+mod tests;

@@ -1,8 +1,9 @@
 -- A run, without what its machine stands for.
-use Rattle.std.proofs.Common.{ℕ, List}
+use Rattle.std.proofs.Common.{◌≡◌, ◌⊎◌, inl, inr, ◌++◌, ℕ, List, subst}
 use Rattle.iso_disk.specs.Disk.{DiskState}
 use Rattle.iso_io.specs.Sink.{SinkState}
 use Rattle.iso_io.specs.Source.{SourceState}
+use Rattle.iso_model.specs.declared.script.BadLine.{BadLine}
 use Rattle.iso_model.specs.Script.{after}
 use Rattle.iso_model.specs.World.{World}
 use Rattle.script_runner.specs.declared.run_end.RunEnd.{RunEnd}
@@ -16,6 +17,21 @@ nothing_up end.Disk = tt
 nothing_up end.Input = tt
 nothing_up end.Output = tt
 nothing_up end.Memory = tt
+
+-- what holds behind a run that stopped nothing
+pub up_behind : (P : Type 0) (e : RunEnd) → IfUp e P → (e ≡ end.Done) ⊎ ((bad : BadLine) × (e ≡ end.BadLine bad)) ⊎ (e ≡ end.Input) ⊎ (e ≡ end.Output) → P
+up_behind P e up (inl done) = subst (λ (x : RunEnd). IfUp x P) done up
+up_behind P e up (inr (inl (bad, is))) = subst (λ (x : RunEnd). IfUp x P) is up
+up_behind P e up (inr (inr (inl input))) = subst (λ (x : RunEnd). IfUp x P) input up
+up_behind P e up (inr (inr (inr output))) = subst (λ (x : RunEnd). IfUp x P) output up
+
+pub up_on : (P Q : Type 0) → (P → Q) → (e : RunEnd) → IfUp e P → IfUp e Q
+up_on P Q on end.Done up = on up
+up_on P Q on (end.BadLine bad) up = on up
+up_on P Q on end.Disk up = tt
+up_on P Q on end.Input up = on up
+up_on P Q on end.Output up = on up
+up_on P Q on end.Memory up = tt
 
 pub run_alone : (stands : World → Type 0) (disk_old disk_new : DiskState) (input_old input_new : SourceState) (output_old output_new : SinkState) (W : World) (e : RunEnd)
     → HasRun stands disk_old disk_new input_old input_new output_old output_new W e → HasRun (λ V. Unit {0}) disk_old disk_new input_old input_new output_old output_new W e

@@ -3,9 +3,9 @@ ghost use Rattle.std.specs.Prelude.{◌≡◌, []};
 ghost use Rattle.iso_core.specs.Core.{StandsFor, disk_of};
 ghost use Rattle.iso_core.specs.Standing.{up};
 ghost use Rattle.iso_io.specs.Sink.{SinkState};
-ghost use Rattle.iso_machine.specs.Standing.{core_of};
+ghost use Rattle.iso_machine.specs.Standing.{IsMachineOf, core_of};
 ghost use Rattle.iso_model.specs.World.{World};
-ghost use Rattle.script_runner.specs.Run.{HasRun};
+ghost use Rattle.script_runner.specs.Run.{HasRun, IfUp};
 ghost use Rattle.script_runner.specs.declared.run_end.RunEnd.{RunEnd};
 ghost use Rattle.iso_top.specs.Outcome.{PrintedEnd};
 ghost use Rattle.iso_top.specs.Texts.{end_status};
@@ -13,7 +13,7 @@ ghost use Rattle.iso_top.specs.Texts.{end_status};
 use crate::ended::{Ended, end_status};
 use crate::last_line::{bad_line, put_last};
 use iso_core::Core;
-use iso_disk::Image;
+use iso_disk::{Disk, Image};
 use iso_io::{Sink, Source};
 use iso_machine::Machine;
 use script_runner::{RunEnd, run};
@@ -32,6 +32,19 @@ fn put_end<K: Sink>(output: &mut K, end: &RunEnd)
     }
 }
 
+/// The disk of a machine behind a run that ended so. What is live is aborted, unless the machine stopped.
+fn disk_behind<D: Disk>(machine: Machine<D>, end: &RunEnd) -> D
+    requires { IfUp end.now ((W : World) × IsMachineOf D.state machine W) }
+    ensures { result ≡ disk_of (core_of machine) }
+{
+    match end {
+        RunEnd::Done | RunEnd::BadLine(_) | RunEnd::Input | RunEnd::Output => {
+            machine.finish().into_disk()
+        }
+        RunEnd::Disk | RunEnd::Memory => machine.into_core().into_disk(),
+    }
+}
+
 /// Answers the script on the input. The transactions that are live at its end are aborted.
 pub(crate) fn answer_script<I: Image, S: Source, K: Sink>(
     alloc: Global,
@@ -47,8 +60,7 @@ pub(crate) fn answer_script<I: Image, S: Source, K: Sink>(
     let mut machine = Machine::over(alloc, core);
     let end = run(alloc, &mut machine, input, output);
     put_end(output, &end);
-    Ended {
-        status: end_status(end),
-        image: machine.into_core().into_disk(),
-    }
+    let status = end_status(end);
+    let image = disk_behind(machine, &end);
+    Ended { status, image }
 }

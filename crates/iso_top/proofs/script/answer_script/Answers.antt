@@ -1,11 +1,22 @@
-use Rattle.std.proofs.Common.{◌≡◌, ◌∙◌, sym, subst, ap, ℕ, List}
+use Rattle.std.proofs.Common.{◌≡◌, ◌∙◌, ◌++◌, sym, subst, ap}
 use Rattle.iso_core.specs.Core.{disk_of}
+use Rattle.iso_machine.specs.Standing.{IsMachineOf}
+use Rattle.iso_model.specs.Script.{after}
+use Rattle.iso_model.specs.World.{World}
 use Rattle.script_runner.specs.Run.{HasRun}
-use Rattle.iso_top.proofs.Runs.{run_alone}
+use Rattle.iso_top.proofs.Runs.{run_alone, up_on}
 use Rattle.iso_top.proofs.script.answer_script.Goals as goal
 
 pub run-end-requires : goal.run-end-requires
 run-end-requires g c = let (W, stands, idle) = c.requires in (W, c.over-machine.ensures.stands W stands idle)
+
+pub disk_behind-image-requires : goal.disk_behind-image-requires
+disk_behind-image-requires g c =
+    let (W, stands, idle) = c.requires in
+    let ran = c.run-end.ensures.ran W (c.over-machine.ensures.stands W stands idle) in
+    let machine = c.run-end.new.machine in
+    up_on (IsMachineOf g.I.Disk.state machine (after W (ran.done ++ ran.next))) ((V : World) × IsMachineOf g.I.Disk.state machine V)
+    (λ is. (after W (ran.done ++ ran.next), is)) c.run-end.result ran.answered.world
 
 pub returns : goal.returns
 returns g c W stands idle =
@@ -16,8 +27,8 @@ returns g c W stands idle =
     let replied = g.K.Sink.state c.run-end.new.output in
     let ran = run_alone _ _ _ input_old input_new output_old replied W c.run-end.result (c.run-end.ensures.ran W (c.over-machine.ensures.stands W stands idle)) in
     let old = ap disk_of c.over-machine.ensures.core in
-    let new = c.into_disk.ensures ∙ ap disk_of c.into_core.ensures in
-    (c.run-end.result, replied, c.end_status.ensures,
+    let new = c.disk_behind-image.ensures in
+    (c.run-end.result, replied, c.end_status-status.ensures,
       subst (λ (d : g.row.I.Denot). HasRun (λ V. Unit {0}) (state (disk_of c.args.core)) (state d) input_old input_new output_old replied W c.run-end.result) (sym new)
       (subst (λ (d : g.row.I.Denot). HasRun (λ V. Unit {0}) (state d) (state (disk_of c.run-end.new.machine.core)) input_old input_new output_old replied W c.run-end.result) old ran),
       c.put_end.ensures)

@@ -9,7 +9,7 @@ use Rattle.iso_machine.specs.Accessing.{act_step}
 use Rattle.iso_machine.specs.Answering.{Answers}
 use Rattle.iso_machine.specs.Shown.{shows}
 use Rattle.iso_machine.specs.Standing.{AreOf}
-use Rattle.iso_machine.proofs.Quiet.{quiet, quiet_memory}
+use Rattle.iso_machine.proofs.Quiet.{quiet}
 use Rattle.iso_machine.proofs.machine.Machine.answer.Goals as goal
 
 trim_is : (W : World) (c : ℕ) → step W 1 op.Trim ≡ step W c op.Trim
@@ -56,11 +56,29 @@ returns-in-Stat g c W of isop =
     (step W c.args.client c.args.op.now) c.stat.result W
     (ap (λ (o : Op). step W c.args.client o) c.in-Stat.is ∙ stat_is W c.args.client ∙ ap (λ (r : Reply). (r, W)) (sym (c.stat.ensures W of))) of
 
-pub returns-in-Begin : goal.returns-in-Begin
-returns-in-Begin g c W of isop =
+compact_is : (W : World) (c : ℕ) → step W 1 op.Compact ≡ step W c op.Compact
+unfolding step
+compact_is W c = refl
+
+upgrade_is : (W : World) (c : ℕ) → step W 1 op.Upgrade ≡ step W c op.Upgrade
+unfolding step
+upgrade_is W c = refl
+
+pub returns-in-Compact : goal.returns-in-Compact
+returns-in-Compact g c W of isop =
     let m = c.args.self.now in
+    let n = c.compact.new.self in
     let state = g.D.Disk.state in
-    quiet_memory (AreOf state m.core m.live.items) (state (disk_of m.core)) (g.met.D.Disk.lawful (disk_of m.core)) W (shows state m.core W of.core_of) (step W c.args.client c.args.op.now)
+    subst (λ (given : Reply × World). Answers (AreOf state n.core n.live.items) (state (disk_of m.core)) (state (disk_of n.core)) W given c.compact.result)
+    (compact_is W c.args.client ∙ ap (λ (o : Op). step W c.args.client o) (sym c.in-Compact.is)) (c.compact.ensures W of)
+
+pub returns-in-Upgrade : goal.returns-in-Upgrade
+returns-in-Upgrade g c W of isop =
+    let m = c.args.self.now in
+    let n = c.upgrade.new.self in
+    let state = g.D.Disk.state in
+    subst (λ (given : Reply × World). Answers (AreOf state n.core n.live.items) (state (disk_of m.core)) (state (disk_of n.core)) W given c.upgrade.result)
+    (upgrade_is W c.args.client ∙ ap (λ (o : Op). step W c.args.client o) (sym c.in-Upgrade.is)) (c.upgrade.ensures W of)
 
 await_is : (W : World) (c : ℕ) (text : List ℕ) → step W c (op.Takeover text) ≡ step W c (op.Await text)
 unfolding step

@@ -1,0 +1,114 @@
+-- An end, by what the core answers.
+use Rattle.std.proofs.Common.{◌≡◌, ◌∙◌, sym, refl, ap, subst, ℕ, ◌+◌, ◌-◌, ◌≤◌, ◌<◌, ◌==◌, Bool, true, false, cond, List, [], drop, take, Option, Some, None, IsSome, Err, ◌⊎◌, inl, inr, nat_lt, arith}
+use Rattle.std.proofs.lemmas.Bool.{false≢true}
+use Rattle.std.proofs.lemmas.List.{drop-take}
+use Rattle.conflict_rule.specs.Decision.{up_to}
+use Rattle.iso_model.specs.declared.access.Access.{Access}
+use Rattle.iso_model.specs.declared.access.Clash.{Clash}
+use Rattle.iso_model.specs.declared.access.EndReply.{EndReply}
+use Rattle.iso_model.specs.declared.access.EndReply.TheVariants as ended
+use Rattle.iso_model.specs.declared.access.Geometry.{Geometry}
+use Rattle.iso_model.specs.declared.access.Mode.{Mode}
+use Rattle.iso_model.specs.declared.core_error.CoreError.{CoreError}
+use Rattle.iso_model.specs.declared.core_error.CoreError.TheVariants as error
+use Rattle.iso_model.specs.declared.limits.TheConstants.{LAST}
+use Rattle.iso_model.specs.declared.script.Op.TheVariants as op
+use Rattle.iso_model.specs.declared.script.Reply.{Reply}
+use Rattle.iso_model.specs.declared.script.Reply.TheVariants as reply
+use Rattle.iso_model.specs.Conflict.{clash, clash_from, first_after}
+use Rattle.iso_model.specs.Effect.{has_write}
+use Rattle.iso_model.specs.History.{History, last}
+use Rattle.iso_model.specs.Step.{after_commit, after_leaving, commit_step, end_step, in_transaction, need, step}
+use Rattle.iso_model.specs.World.{World, Live, attached, used, without}
+use Rattle.iso_model.specs.Worlds.{IsLive, IsWorld}
+use Rattle.iso_model.proofs.Growth.{all_weaker}
+use Rattle.iso_core.specs.Calls.{IsAmong, IsCheckedOf, Writes, refusal_of, reply_of}
+use Rattle.iso_core.proofs.Transactions.{among}
+use Rattle.iso_machine.proofs.Refusals.{IsRefusal, KeepsRefused, keeps_either}
+
+-- no commit is above the last one
+no_more : (test : Bool) (found : Option Clash) → None ≡ found → None ≡ cond test found None
+no_more true found is = is
+no_more false found is = refl
+
+drop_all : {X : Type 0} (n : ℕ) (list : List X) → drop n (take n list) ≡ []
+drop_all n list = subst (λ (k : ℕ). drop n (take k list) ≡ []) (omega arith) (drop-take n 0 list)
+
+no_clash : (g : Geometry) (H : History) (mode : Mode) (accesses : List Access) (begin : ℕ) → None ≡ clash g (up_to H begin) mode begin accesses
+unfolding clash
+no_clash g H mode accesses begin =
+    no_more (has_write accesses) (clash_from g mode accesses (first_after H begin) (drop (begin + 1 - H.first) (take (begin + 1 - H.first) H.commits)))
+    (ap (clash_from g mode accesses (first_after H begin)) (sym (drop_all (begin + 1 - H.first) H.commits)))
+
+-- nothing was checked ahead
+pub nothing_ahead : (W : World) (t : Live) (begin : ℕ) → IsWorld W → IsAmong t W.live → begin ≡ t.begin → IsCheckedOf W t (record { upto = begin; clash = None })
+nothing_ahead W t begin is there same = record {
+  from = omega (arith, same);
+  to = omega (arith, same, among (λ u. u.begin ≤ last W.history) (λ u le. le) (λ u le. le) t W.live (all_weaker (IsLive W) (λ u. u.begin ≤ last W.history) (λ u live. live.begin) W.live is.live) there);
+  clash = subst (λ (n : ℕ). None ≡ clash W.geometry (up_to W.history begin) t.mode n t.accesses) same (no_clash W.geometry W.history t.mode t.accesses begin);
+}
+
+-- an end that is refused leaves the world
+commit_keeps : (W : World) (t : Live) (o : Option Clash) → KeepsRefused W (commit_step W t o)
+unfolding commit_step
+commit_keeps W t (Some c) = λ r. absurd r
+commit_keeps W t None =
+    keeps_either W (last W.history == LAST) (reply.Worn, W) _ (λ r. refl)
+    (keeps_either W (nat_lt (W.geometry.log - used W) (need W t)) (reply.LogFull (need W t) (W.geometry.log - used W), W) (reply.Committed (last W.history + 1), after_commit W t)
+    (λ r. refl) (λ r. absurd r))
+
+pub end_keeps : (W : World) (t : Live) → KeepsRefused W (end_step W t)
+unfolding end_step
+end_keeps W t =
+    keeps_either W (has_write t.accesses) (commit_step W t (clash W.geometry W.history t.mode t.begin t.accesses)) (reply.ReadOnly, after_leaving W t)
+    (commit_keeps W t (clash W.geometry W.history t.mode t.begin t.accesses)) (λ r. absurd r)
+
+-- after any other end the transaction is gone
+pub record IsGone (W : World) (t : Live) (V : World) : Type 0 where
+  pub live : V.live ≡ without t.number W.live
+  pub geometry : V.geometry ≡ W.geometry
+
+abbrev IsGoneUnless : World → Live → Reply × World → Type 0
+IsGoneUnless W t given = ¬ IsRefusal given.0 → IsGone W t given.1
+
+either : (W : World) (t : Live) (test : Bool) (x y : Reply × World) → IsGoneUnless W t x → IsGoneUnless W t y → IsGoneUnless W t (cond test x y)
+either W t true x y first second = first
+either W t false x y first second = second
+
+commit_goes : (W : World) (t : Live) (o : Option Clash) → IsGoneUnless W t (commit_step W t o)
+unfolding commit_step
+commit_goes W t (Some c) = λ r. record { live = refl; geometry = refl }
+commit_goes W t None =
+    either W t (last W.history == LAST) (reply.Worn, W) _ (λ r. absurd (r tt))
+    (either W t (nat_lt (W.geometry.log - used W) (need W t)) (reply.LogFull (need W t) (W.geometry.log - used W), W) (reply.Committed (last W.history + 1), after_commit W t)
+    (λ r. absurd (r tt)) (λ r. record { live = refl; geometry = refl }))
+
+end_goes : (W : World) (t : Live) → IsGoneUnless W t (end_step W t)
+unfolding end_step
+end_goes W t =
+    either W t (has_write t.accesses) (commit_step W t (clash W.geometry W.history t.mode t.begin t.accesses)) (reply.ReadOnly, after_leaving W t)
+    (commit_goes W t (clash W.geometry W.history t.mode t.begin t.accesses)) (λ r. record { live = refl; geometry = refl })
+
+no_refusal : (r : EndReply) → ¬ IsRefusal (reply_of r)
+no_refusal (ended.Committed number) is = is
+no_refusal ended.ReadOnly is = is
+no_refusal (ended.Conflict clash) is = is
+
+pub has_gone : (W : World) (t : Live) (r : EndReply) → (end_step W t).0 ≡ reply_of r → IsGone W t (end_step W t).1
+has_gone W t r is = end_goes W t (subst (λ (x : Reply). ¬ IsRefusal x) (sym is) (no_refusal r))
+
+-- an end that is refused writes nothing
+pub unwritten : {D : Type 0} (old new : D) (e : CoreError) → IsSome (refusal_of e) → Writes (Err e) ⊎ (new ≡ old) → new ≡ old
+unwritten old new e some (inr is) = is
+unwritten old new error.Disk some (inl wrote) = absurd (false≢true some)
+unwritten old new error.Down some (inl wrote) = absurd wrote
+unwritten old new error.TooManyTx some (inl wrote) = absurd wrote
+unwritten old new (error.LogFull need free) some (inl wrote) = absurd wrote
+unwritten old new error.Memory some (inl wrote) = absurd wrote
+unwritten old new (error.Worn at) some (inl wrote) = absurd wrote
+unwritten old new error.ModeFixed some (inl wrote) = absurd wrote
+
+-- by who is attached to the client
+pub end_is : (W : World) (c : ℕ) (o : Option Live) → attached W c ≡ o → step W c op.End ≡ in_transaction W o (end_step W)
+unfolding step
+end_is W c o is = ap (λ (p : Option Live). in_transaction W p (end_step W)) is

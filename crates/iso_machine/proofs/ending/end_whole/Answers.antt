@@ -1,0 +1,21 @@
+use Rattle.std.proofs.Common.{◌∙◌}
+use Rattle.iso_core.specs.Standing.{up}
+use Rattle.iso_machine.proofs.Endings.{nothing_ahead}
+use Rattle.iso_machine.proofs.ending.end_whole.Goals as goal
+
+pub end-requires : goal.end-requires
+end-requires g c =
+    let (W, t, of, tx, work) = c.requires.stands in
+    (W, up, t, of, tx, work, nothing_ahead W t c.begun_at.result of.kept_of.world tx.among (c.begun_at.ensures ∙ work.begin))
+
+pub returns-clause-ended : goal.returns-clause-ended
+returns-clause-ended g c W t of tx work =
+    c.end.ensures.ended W t of tx work (nothing_ahead W t c.begun_at.result of.kept_of.world tx.among (c.begun_at.ensures ∙ work.begin))
+
+pub returns-clause-refused : goal.returns-clause-refused
+returns-clause-refused g c W t of tx work =
+    c.end.ensures.refused W t of tx work (nothing_ahead W t c.begun_at.result of.kept_of.world tx.among (c.begun_at.ensures ∙ work.begin))
+
+pub returns-clause-moments : goal.returns-clause-moments
+returns-clause-moments g c W t of tx work =
+    c.end.ensures.moments W t of tx work (nothing_ahead W t c.begun_at.result of.kept_of.world tx.among (c.begun_at.ensures ∙ work.begin))

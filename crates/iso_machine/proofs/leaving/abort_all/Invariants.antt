@@ -1,0 +1,17 @@
+-- Those that are left are still live, and no others.
+use Rattle.std.proofs.Common.{◌≡◌, ℕ, length, map}
+use Rattle.iso_model.specs.Step.{with_live}
+use Rattle.iso_model.specs.World.{World}
+use Rattle.iso_core.specs.Core.{StandsFor, disk_of}
+use Rattle.iso_core.specs.Standing.{up}
+use Rattle.iso_machine.specs.Standing.{AreOf, live_of}
+use Rattle.iso_machine.proofs.leaving.abort_all.Given as goal
+
+abbrev pub invariant-loop-first : goal.invariant-loop-first
+invariant-loop-first g l = record {
+  stands : (W : World) → AreOf g.D.Disk.state l.fn.core l.fn.live W → StandsFor g.D.Disk.state l.core (with_live W (map live_of l.rest)) up;
+  disk : disk_of l.core ≡ disk_of l.fn.core;
+}
+
+abbrev pub decreases-loop-first : goal.decreases-loop-first
+decreases-loop-first g l = length l.rest

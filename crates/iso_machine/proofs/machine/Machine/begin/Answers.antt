@@ -1,0 +1,104 @@
+use Rattle.std.proofs.Common.{◌≡◌, ◌∙◌, sym, ap, subst, List, [], ◌∷◌, ◌++◌, Some, None, Ok, Result, get_or, IsTrue}
+use Rattle.iso_model.specs.declared.access.Geometry.{Geometry}
+use Rattle.iso_model.specs.declared.script.Op.TheVariants as op
+use Rattle.iso_model.specs.declared.script.Reply.{Reply}
+use Rattle.iso_model.specs.declared.script.Reply.TheVariants as reply
+use Rattle.iso_model.specs.Geometry.{is_block_size}
+use Rattle.iso_model.specs.History.{last}
+use Rattle.iso_model.specs.Step.{after_begin, begin_step, mode_named, step}
+use Rattle.iso_model.specs.World.{World, client, unattached}
+use Rattle.iso_model.specs.Worlds.{IsWorld}
+use Rattle.iso_model.proofs.Worlds.{step_leads}
+use Rattle.iso_core.specs.declared.core_itself.Core.{Core}
+use Rattle.iso_core.specs.Calls.{Refuses}
+use Rattle.iso_core.specs.Core.{disk_of}
+use Rattle.iso_core.specs.Standing.{up}
+use Rattle.tx_table.specs.Work.{Doing}
+use Rattle.script_runner.specs.declared.machine.Stop.{Stop}
+use Rattle.iso_machine.specs.declared.attached.Attached.{Attached}
+use Rattle.iso_machine.specs.declared.attached.Spot.TheVariants as spot
+use Rattle.iso_machine.specs.Answering.{Answers, answer_to}
+use Rattle.iso_machine.specs.Shown.{shows}
+use Rattle.iso_machine.specs.Standing.{AreOf, IsSized, live_of}
+use Rattle.iso_machine.proofs.Begins.{began_at, begin_is, begin_keeps, begins_alike, has_begun, valid_block}
+use Rattle.iso_machine.proofs.Lists.{pick}
+use Rattle.iso_machine.proofs.Machines.{attached_none, attached_some, begun}
+use Rattle.iso_machine.proofs.Quiet.{quiet, quiet_memory}
+use Rattle.iso_machine.proofs.Refusals.{refused_still}
+use Rattle.iso_machine.proofs.machine.Machine.begin.Goals as goal
+
+pub returns-in-Some : goal.returns-in-Some
+returns-in-Some g c W of =
+    let m = c.args.self.now in
+    let state = g.D.Disk.state in
+    let d = pick c.deref.result.now c.in-Some.field-0 c.in-Some.ensures.0 in
+    quiet (AreOf state m.core m.live.items) (state (disk_of m.core)) (g.met.D.Disk.lawful (disk_of m.core)) W (shows state m.core W of.core_of)
+    (step W c.args.client (op.Begin c.args.mode)) reply.InTx W
+    (begin_is W c.args.client c.args.mode (Some (live_of (get_or m.live.items c.in-Some.field-0 d)))
+    (attached_some state m.core m.core m.live.items W of c.args.client c.deref.result.now c.in-Some.field-0 d c.deref.ensures.value (c.in-Some.ensures.1 d))) of
+
+pub returns-in-Err : goal.returns-in-Err
+returns-in-Err g c W of =
+    let m = c.args.self.now in
+    let state = g.D.Disk.state in
+    quiet_memory (AreOf state m.core c.reserve.new.self.items) (state (disk_of m.core)) (g.met.D.Disk.lawful (disk_of m.core)) W (shows state m.core W of.core_of)
+    (step W c.args.client (op.Begin c.args.mode))
+
+pub returns-in-Err-begin : goal.returns-in-Err-begin
+returns-in-Err-begin g c W of =
+    let m = c.args.self.now in
+    let state = g.D.Disk.state in
+    let live = c.reserve.new.self.items in
+    let mode = mode_named W c.args.mode in
+    let e = c.in-Err-begin.error in
+    let says : step W c.args.client (op.Begin c.args.mode) ≡ begin_step W (client c.args.client) mode =
+    begin_is W c.args.client c.args.mode None (attached_none state m.core m.core m.live.items W of c.args.client c.deref.result.now c.deref.ensures.value c.in_default.ensures) in
+    let still : AreOf state m.core live W = subst (λ (l : List Attached). AreOf state m.core l W) (sym c.reserve.ensures.items) of in
+    let refuses : Refuses (begin_step W (client c.args.client) mode).0 e =
+    subst (λ (r : Reply). Refuses r e) (begins_alike W unattached (client c.args.client) mode) (c.in-Err-begin.ensures.refused W of.core_of) in
+    let answer : Answers (AreOf state m.core live) (state (disk_of m.core)) (state (disk_of m.core)) W (begin_step W (client c.args.client) mode) (answer_to e) =
+    refused_still (AreOf state m.core live) (state (disk_of m.core)) (g.met.D.Disk.lawful (disk_of m.core)) W (shows state m.core W of.core_of)
+    (begin_step W (client c.args.client) mode) e refuses (begin_keeps W (client c.args.client) mode) still in
+    subst (λ (r : Result Reply Stop). Answers (AreOf state c.begin.new.self live) (state (disk_of m.core)) (state (disk_of c.begin.new.self)) W (step W c.args.client (op.Begin c.args.mode)) r) (sym c.refused.ensures)
+    (subst (λ (k : Core g.row.D.Denot). Answers (AreOf state k live) (state (disk_of m.core)) (state (disk_of k)) W (step W c.args.client (op.Begin c.args.mode)) (answer_to e)) (sym c.in-Err-begin.ensures.kept)
+    (subst (λ (given : Reply × World). Answers (AreOf state m.core live) (state (disk_of m.core)) (state (disk_of m.core)) W given (answer_to e)) (sym says) answer))
+
+pub begin_work-requires : goal.begin_work-requires
+begin_work-requires g c =
+    let (W, of) = c.requires in
+    let is = c.in-Ok.ensures.begun W of.core_of in
+    let geometry : c.geometry-geometry.result ≡ W.geometry = c.geometry-geometry.ensures (after_begin W unattached (mode_named W c.args.mode)) up is.3 in
+    subst (λ (h : Geometry). IsTrue (is_block_size h.block)) (sym geometry) (valid_block W.geometry of.core_of.kept_of.world.valid)
+
+pub returns : goal.returns
+returns g c W of =
+    let m = c.args.self.now in
+    let state = g.D.Disk.state in
+    let mode = mode_named W c.args.mode in
+    let place = client c.args.client in
+    let at = c.in-Ok.begun.at in
+    let b : Attached = record { tx = c.in-Ok.begun.tx; spot = spot.Client c.args.client; work = c.begin_work.result } in
+    let is = c.in-Ok.ensures.begun W of.core_of in
+    let geometry : c.geometry-geometry.result ≡ W.geometry = c.geometry-geometry.ensures (after_begin W unattached mode) up is.3 in
+    let began : (begin_step W place mode).0 ≡ reply.Began at = begins_alike W place unattached mode ∙ is.2 in
+    let says : step W c.args.client (op.Begin c.args.mode) ≡ (reply.Began at, after_begin W place mode) =
+    begin_is W c.args.client c.args.mode None (attached_none state m.core m.core m.live.items W of c.args.client c.deref.result.now c.deref.ensures.value c.in_default.ensures)
+    ∙ has_begun W place mode at began in
+    let world : IsWorld (after_begin W place mode) =
+    subst (λ (given : Reply × World). IsWorld given.1) says (step_leads W c.args.client (op.Begin c.args.mode) of.core_of.kept_of.world tt).world in
+    let begin : c.begin_work.result.begin ≡ last W.history = ap (λ (w : Doing). w.begin) c.begin_work.ensures ∙ began_at W place mode at began in
+    let its_mode : c.begin_work.result.mode ≡ mode = ap (λ (w : Doing). w.mode) c.begin_work.ensures ∙ is.1 in
+    let none : c.begin_work.result.accesses ≡ [] = ap (λ (w : Doing). w.accesses) c.begin_work.ensures in
+    let live_is : live_of b ≡ record { number = W.next; begin = last W.history; mode = mode; accesses = []; place = place } =
+    λ i. record { number = is.0 i; begin = begin i; mode = its_mode i; accesses = none i; place = place } in
+    let sized : IsSized W.geometry b = record {
+      size = ap (λ (w : Doing). w.size) c.begin_work.ensures ∙ ap (λ (h : Geometry). h.block) geometry;
+      blocks = ap (λ (w : Doing). w.blocks) c.begin_work.ensures ∙ ap (λ (h : Geometry). h.blocks) geometry;
+    } in
+    let after : AreOf state c.begin.new.self (m.live.items ++ b ∷ []) (after_begin W place mode) = begun state m.core c.begin.new.self m.live.items W of b place mode live_is sized is.3 world in
+    let items : c.push_reserved.new.self.items ≡ m.live.items ++ b ∷ [] = c.push_reserved.ensures.items ∙ ap (λ (l : List Attached). l ++ b ∷ []) c.reserve.ensures.items in
+    let now : AreOf state c.begin.new.self c.push_reserved.new.self.items (after_begin W place mode) =
+    subst (λ (l : List Attached). AreOf state c.begin.new.self l (after_begin W place mode)) (sym items) after in
+    subst (λ (disk : g.row.D.Denot). Answers (AreOf state c.begin.new.self c.push_reserved.new.self.items) (state (disk_of m.core)) (state disk) W (step W c.args.client (op.Begin c.args.mode)) (Ok (reply.Began at))) (sym c.begin.ensures.disk)
+    (quiet (AreOf state c.begin.new.self c.push_reserved.new.self.items) (state (disk_of m.core)) (g.met.D.Disk.lawful (disk_of m.core)) W (shows state m.core W of.core_of)
+    (step W c.args.client (op.Begin c.args.mode)) (reply.Began at) (after_begin W place mode) says now)

@@ -1,0 +1,5 @@
+-- The ledger is the new one.
+use Rattle.iso_machine.proofs.machine.Machine.end.Given as goal
+
+abbrev pub ghosts-end_whole : goal.ghosts-end_whole
+ghosts-end_whole g a = record { name = a.blank.name; parts = a.blank.parts }

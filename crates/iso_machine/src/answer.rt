@@ -1,0 +1,92 @@
+// What each operation of a client is answered.
+ghost use Rattle.std.specs.Prelude.{◌≡◌};
+ghost use Rattle.iso_model.specs.declared.script.Op.TheVariants.{Trim};
+ghost use Rattle.iso_model.specs.Step.{in_transaction, numbers, step};
+ghost use Rattle.iso_model.specs.World.{World, attached};
+ghost use Rattle.iso_model.specs.Worlds.{IsOp};
+
+use crate::acting::act;
+use crate::attached::index_at_client;
+use crate::machine::Machine;
+use iso_disk::Disk;
+use iso_model::{Op, Reply};
+use script_runner::Stop;
+
+impl<D: Disk> Machine<D> {
+    ghost use Rattle.iso_core.specs.Core.{disk_of};
+    ghost use Rattle.iso_machine.specs.Accessing.{act_step};
+    ghost use Rattle.iso_machine.specs.Answering.{Answers};
+    ghost use Rattle.iso_machine.specs.Standing.{IsMachineOf, core_of};
+
+    /// An access or a mark of a client's transaction.
+    fn access(&mut self, client: u8, op: &Op) -> Result<Reply, Stop>
+        requires { (W : World) × IsMachineOf D.state self.old W }
+        ensures { (W : World) → IsMachineOf D.state self.old W → IsOp op.now
+            → Answers (IsMachineOf D.state self.new) (D.state (disk_of (core_of self.old))) (D.state (disk_of (core_of self.new))) W (in_transaction W (attached W client) (λ t. act_step W t op.now)) result }
+    {
+        let Some(i) = index_at_client(&self.live, client) else {
+            return Ok(Reply::NotInTx);
+        };
+        let attached = &mut self.live[i];
+        act(
+            self.alloc,
+            &mut self.core,
+            attached.tx,
+            &mut attached.work,
+            &mut self.buffer,
+            op,
+        )
+    }
+
+    /// Lets the versions go that no transaction can be shown any more.
+    fn trim(&mut self) -> Result<Reply, Stop>
+        requires { (W : World) × IsMachineOf D.state self.old W }
+        ensures { (W : World) → IsMachineOf D.state self.old W
+            → Answers (IsMachineOf D.state self.new) (D.state (disk_of (core_of self.old))) (D.state (disk_of (core_of self.new))) W (step W 1 Trim) result }
+    {
+        match self.core.trim() {
+            Ok(at) => Ok(Reply::Trimmed(at)),
+            Err(_) => unreachable!(),
+        }
+    }
+
+    /// The numbers of the image.
+    fn stat(&self) -> Reply
+        ensures { (W : World) → IsMachineOf D.state self.now W → result ≡ numbers W }
+    {
+        let stat = self.core.stat();
+        Reply::Numbers {
+            last: stat.last,
+            base: stat.base,
+            trim: stat.trim,
+            live: stat.live,
+            used: stat.used,
+            versions: stat.versions,
+        }
+    }
+
+    /// Does what a client asks for, and answers it.
+    pub(crate) fn answer(&mut self, client: u8, op: &Op) -> Result<Reply, Stop>
+        requires { (W : World) × IsMachineOf D.state self.old W }
+        ensures { (W : World) → IsMachineOf D.state self.old W → IsOp op.now
+            → Answers (IsMachineOf D.state self.new) (D.state (disk_of (core_of self.old))) (D.state (disk_of (core_of self.new))) W (step W client op.now) result }
+    {
+        match op {
+            Op::Put { .. }
+            | Op::Read { .. }
+            | Op::Get { .. }
+            | Op::Write { .. }
+            | Op::Fill { .. }
+            | Op::Mark { .. } => self.access(client, op),
+            Op::Abort => self.abort(client),
+            Op::Release { label } => self.release(client, label),
+            Op::Takeover { label } | Op::Await { label } => self.takeover(client, label),
+            Op::Trim => self.trim(),
+            Op::Stat => Ok(self.stat()),
+            Op::Begin { mode } => self.begin(client, *mode),
+            Op::End => self.end(client),
+            Op::Compact => self.compact(),
+            Op::Upgrade => self.upgrade(),
+        }
+    }
+}

@@ -1,0 +1,51 @@
+// Transactions that go from client to client.
+ghost use Rattle.std.specs.Prelude.{IsTrue};
+ghost use Rattle.iso_model.specs.declared.script.Op.TheVariants.{Release, Takeover};
+ghost use Rattle.iso_model.specs.Step.{step};
+ghost use Rattle.iso_model.specs.Text.{is_label};
+ghost use Rattle.iso_model.specs.World.{World};
+
+use crate::attached::{Spot, index_at_client, index_under_label};
+use crate::machine::Machine;
+use iso_disk::Disk;
+use iso_model::{Label, Reply};
+use script_runner::Stop;
+
+impl<D: Disk> Machine<D> {
+    ghost use Rattle.iso_core.specs.Core.{disk_of};
+    ghost use Rattle.iso_machine.specs.Answering.{Answers};
+    ghost use Rattle.iso_machine.specs.Standing.{IsMachineOf, core_of};
+
+    /// A client's transaction goes under a label, if no other is there.
+    pub(crate) fn release(&mut self, client: u8, label: &Label) -> Result<Reply, Stop>
+        requires { (W : World) × IsMachineOf D.state self.old W }
+        ensures { (W : World) → IsMachineOf D.state self.old W → IsTrue (is_label label.now)
+            → Answers (IsMachineOf D.state self.new) (D.state (disk_of (core_of self.old))) (D.state (disk_of (core_of self.new))) W (step W client (Release label.now)) result }
+    {
+        let Some(i) = index_at_client(&self.live, client) else {
+            return Ok(Reply::NotInTx);
+        };
+        if let Some(_) = index_under_label(&self.live, label) {
+            return Ok(Reply::LabelTaken);
+        }
+        self.live[i].spot = Spot::Label(label.copy());
+        Ok(Reply::Done)
+    }
+
+    /// A client without a transaction gets the one under a label.
+    pub(crate) fn takeover(&mut self, client: u8, label: &Label) -> Result<Reply, Stop>
+        requires { (W : World) × IsMachineOf D.state self.old W }
+        ensures { (W : World) → IsMachineOf D.state self.old W
+            → Answers (IsMachineOf D.state self.new) (D.state (disk_of (core_of self.old))) (D.state (disk_of (core_of self.new))) W (step W client (Takeover label.now)) result }
+    {
+        if let Some(_) = index_at_client(&self.live, client) {
+            return Ok(Reply::InTx);
+        }
+        let Some(i) = index_under_label(&self.live, label) else {
+            return Ok(Reply::NoHandle);
+        };
+        let attached = &mut self.live[i];
+        attached.spot = Spot::Client(client);
+        Ok(Reply::Began(attached.work.begun_at()))
+    }
+}

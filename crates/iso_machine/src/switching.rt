@@ -1,0 +1,57 @@
+// The base of the image, moved to the floor.
+ghost use Rattle.std.specs.Prelude.{◌≡◌};
+ghost use Rattle.iso_model.specs.declared.script.Op.TheVariants.{Compact, Upgrade};
+ghost use Rattle.iso_model.specs.Step.{step};
+ghost use Rattle.iso_model.specs.World.{World};
+ghost use Rattle.iso_machine.specs.Answering.{stop_of};
+
+use crate::machine::Machine;
+use iso_disk::Disk;
+use iso_model::{CoreError, Reply};
+use script_runner::Stop;
+
+/// Why a switch has no reply. One that is worn has none either: a core does not promise that its disk still tells its bytes
+/// then, as a reply has to.
+fn stopped(error: CoreError) -> Stop
+    ensures { result ≡ stop_of error }
+{
+    match error {
+        CoreError::Down => Stop::Down,
+        CoreError::Disk => Stop::Disk,
+        CoreError::Memory
+        | CoreError::Worn { .. }
+        | CoreError::TooManyTx
+        | CoreError::LogFull { .. }
+        | CoreError::ModeFixed => Stop::Memory,
+    }
+}
+
+impl<D: Disk> Machine<D> {
+    ghost use Rattle.iso_core.specs.Core.{disk_of};
+    ghost use Rattle.iso_machine.specs.Answering.{Answers};
+    ghost use Rattle.iso_machine.specs.Standing.{IsMachineOf, core_of};
+
+    /// The base moves to the floor, in the other half.
+    pub(crate) fn compact(&mut self) -> Result<Reply, Stop>
+        requires { (W : World) × IsMachineOf D.state self.old W }
+        ensures { (W : World) → IsMachineOf D.state self.old W
+            → Answers (IsMachineOf D.state self.new) (D.state (disk_of (core_of self.old))) (D.state (disk_of (core_of self.new))) W (step W 1 Compact) result }
+    {
+        match self.core.compact() {
+            Ok(floor) => Ok(Reply::Compacted(floor)),
+            Err(error) => Err(stopped(error)),
+        }
+    }
+
+    /// So too, and the image gets form 2.
+    pub(crate) fn upgrade(&mut self) -> Result<Reply, Stop>
+        requires { (W : World) × IsMachineOf D.state self.old W }
+        ensures { (W : World) → IsMachineOf D.state self.old W
+            → Answers (IsMachineOf D.state self.new) (D.state (disk_of (core_of self.old))) (D.state (disk_of (core_of self.new))) W (step W 1 Upgrade) result }
+    {
+        match self.core.upgrade() {
+            Ok(floor) => Ok(Reply::Upgraded(floor)),
+            Err(error) => Err(stopped(error)),
+        }
+    }
+}

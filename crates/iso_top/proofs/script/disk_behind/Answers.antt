@@ -1,0 +1,7 @@
+use Rattle.iso_model.specs.World.{World}
+use Rattle.iso_machine.specs.Standing.{IsMachineOf}
+use Rattle.iso_top.proofs.Runs.{up_behind}
+use Rattle.iso_top.proofs.script.disk_behind.Goals as goal
+
+pub finish-requires : goal.finish-requires
+finish-requires g c = up_behind ((W : World) × IsMachineOf g.D.Disk.state c.args.machine W) c.args.end.now c.requires c.in-Done.is
