@@ -11,7 +11,7 @@ use Rattle.iso_io.specs.Sink.{SinkState}
 use Rattle.iso_model.specs.declared.access.Geometry.{Geometry}
 use Rattle.iso_model.specs.Bench.{bench_geometry, bench_output, bench_text, bench_world, recover_output}
 use Rattle.iso_model.specs.History.{History}
-use Rattle.iso_model.specs.Script.{after, replies}
+use Rattle.iso_model.specs.Script.{after, script}
 use Rattle.iso_model.specs.World.{World, empty_history, fresh}
 use Rattle.iso_model.specs.Worlds.{IsWorld}
 use Rattle.iso_recover.specs.Cause.{IsBlamed, IsTest}
@@ -26,7 +26,7 @@ use Rattle.script_runner.specs.Between.{ShowsBetween}
 use Rattle.script_runner.specs.Run.{HasRun}
 use Rattle.script_runner.specs.Told.{IfTold}
 use Rattle.iso_top.specs.Prints.{Printed, WasCut, WroteWhole}
-use Rattle.iso_top.specs.Texts.{disk_fault_text, end_status, end_text, error_status, error_text, memory_text}
+use Rattle.iso_top.specs.Texts.{disk_fault_text, end_status, end_text, error_status, error_text, memory_text, usage_text}
 
 -- one of the statuses of the program
 abbrev pub IsStatus : ℕ → Type 0
@@ -119,6 +119,12 @@ pub record HasRecovered (name : List ℕ) (status : ℕ) (disk_old disk_new : Di
   pub passed : status ≢ 5 → disk_new.faults ≡ disk_old.faults
   pub unread : input_new ≡ input_old
 
+-- how a run over a script that was drawn may end: the script has no bad line, and does not fail
+abbrev pub IsBenchEnd : RunEnd → Type 0
+IsBenchEnd (end.BadLine bad) = ⊥
+IsBenchEnd end.Input = ⊥
+IsBenchEnd e = Unit {0}
+
 -- What `bench` has put, by how the run over the script that it drew ended. The replies to it are held in memory.
 abbrev pub PrintedBench : (seed count status : ℕ) → RunEnd → (disk : DiskState) → SinkState → SinkState → Type 0
 PrintedBench seed count status end.Done disk old new = PrintedResult status disk (bench_output seed count) old new
@@ -160,3 +166,30 @@ abbrev pub HasMet : {D : Type 0} → (state : D → DiskState) → Task → (nam
 HasMet state task name status disk_old disk_new input_old input_new output_old output_new =
     ((e : OpenError) × (status ≡ error_status e) × HasNotBegun (made_geometry task) name e (state disk_old) (state disk_new) input_old input_new output_old output_new)
     ⊎ HasDone state task name status disk_old disk_new input_old input_new output_old output_new
+
+-- nothing was done with the image and the input
+abbrev pub IsUnused : {D : Type 0} → (disk_old disk_new : D) → SourceState → SourceState → Type 0
+IsUnused disk_old disk_new input_old input_new = (disk_new ≡ disk_old) × (input_new ≡ input_old)
+
+-- memory for the words was wanting
+abbrev pub HasNoWords : {D : Type 0} → (status : ℕ) → (disk_old disk_new : D) → SourceState → SourceState → SinkState → SinkState → Type 0
+HasNoWords status disk_old disk_new input_old input_new output_old output_new =
+    (status ≡ 8) × IsUnused disk_old disk_new input_old input_new × Printed output_old output_new memory_text
+
+-- the words are outside the grammar, which was told, unless memory for them was wanting
+abbrev pub HasRefusedWords : {D : Type 0} → (status : ℕ) → (disk_old disk_new : D) → SourceState → SourceState → SinkState → SinkState → Type 0
+HasRefusedWords status disk_old disk_new input_old input_new output_old output_new =
+    ((status ≡ 2) × IsUnused disk_old disk_new input_old input_new × Printed output_old output_new usage_text)
+    ⊎ HasNoWords status disk_old disk_new input_old input_new output_old output_new
+
+-- an image that is made is accepted, and one as given that passes each test
+abbrev pub IsAccepted : (made : Option Geometry) → (given : Option (List ℕ)) → Type 0
+IsAccepted (Some g) given = Unit {0}
+IsAccepted None given = (c : List ℕ) × (given ≡ Some c) × (refusal c ≡ None)
+
+-- where the task reads the input, this has no bad line
+abbrev pub IsGoodInput : Task → (rest : Option (List ℕ)) → Type 0
+IsGoodInput (New g) rest = (all : List ℕ) × (rest ≡ Some all) × ((script all).bad ≡ None)
+IsGoodInput Run rest = (all : List ℕ) × (rest ≡ Some all) × ((script all).bad ≡ None)
+IsGoodInput Recover rest = Unit {0}
+IsGoodInput (Bench seed count) rest = Unit {0}

@@ -4,6 +4,7 @@
 mod ended;
 mod engine;
 mod last_line;
+mod result_line;
 mod script;
 mod top;
 

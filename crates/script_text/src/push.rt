@@ -45,7 +45,7 @@ fn write_behind(bytes: &[u8], text: &mut [u8], start: usize)
 }
 
 /// Writes bytes in hexadecimal into their room.
-pub(crate) fn write_hex(bytes: &[u8], room: &mut [u8])
+pub fn write_hex(bytes: &[u8], room: &mut [u8])
     requires { length room.old ≡ 2 * length bytes.now }
     ensures { room.new ≡ hex_text bytes.now }
 {

@@ -1,0 +1,17 @@
+use Rattle.std.proofs.Common.{◌≡◌, ◌≤◌, length}
+use Rattle.iso_core.specs.Calls.{IsTx}
+use Rattle.iso_core.specs.Core.{StandsFor, disk_of}
+use Rattle.iso_core.specs.Standing.{up}
+use Rattle.iso_disk.specs.Disk.{WritesNothing}
+use Rattle.iso_model.specs.World.{World, Live}
+use Rattle.array_digest.proofs.Blocks.{HoldsFirst}
+use Rattle.array_digest.proofs.digest.digest_in.Given as goal
+
+abbrev pub invariant-loop-number : goal.invariant-loop-number
+invariant-loop-number g l = record {
+  size : length l.block ≡ length l.fn.block;
+  stands : (W : World) → StandsFor g.D.Disk.state l.fn.core W up → StandsFor g.D.Disk.state l.core W up;
+  still : WritesNothing (g.D.Disk.state (disk_of l.fn.core)) (g.D.Disk.state (disk_of l.core));
+  faults : (g.D.Disk.state (disk_of l.core)).faults ≡ (g.D.Disk.state (disk_of l.fn.core)).faults;
+  holds : (W : World) (t : Live) → StandsFor g.D.Disk.state l.fn.core W up → IsTx W l.tx t → l.blocks ≡ W.geometry.blocks → HoldsFirst (g.D.Disk.state (disk_of l.fn.core)).contents W t l.number l.hasher;
+}

@@ -1,0 +1,9 @@
+//! The digest of the array that an image holds.
+#![tactic(auto)]
+
+mod digest;
+
+pub use digest::{DigestError, digest_of};
+
+#[cfg(test)]
+mod tests;

@@ -1,0 +1,87 @@
+-- Which replies begin as a commit and as a conflict do.
+use Rattle.std.proofs.Common.{◌≡◌, ◌∙◌, sym, refl, ap, ℕ, ◌+◌, ◌/◌, ◌%◌, ◌<◌, Bool, true, false, cond, ◌&&◌, nat_eq, List, [], ◌∷◌, take, length, codes, arith}
+use Rattle.std.specs.Prelude.{filter}
+use Rattle.std.specs.Cmp.Lexicographic.{pointwise}
+use Rattle.iso_model.specs.declared.script.Reply.{Reply}
+use Rattle.iso_model.specs.declared.script.Reply.TheVariants.{Done, Began, Shown, Committed, ReadOnly, Conflict, Trimmed, Compacted, Upgraded, Numbers, InTx, NotInTx, ModeFixed, BadBlock, BadRange, NoAccess, TooManyMarks, TooManyAccesses, NoHandle, LabelTaken, TooManyTx, Worn, LogFull}
+use Rattle.iso_model.specs.Bench.{is_committed, is_conflict}
+use Rattle.iso_model.specs.Text.{digit_of, hex_text, reply_text}
+use Rattle.bench_script.specs.declared.line_kind.LineKind.{LineKind}
+use Rattle.bench_script.specs.declared.line_kind.LineKind.TheVariants as kind
+use Rattle.bench_script.specs.Kinds.{kind_of, commits_in, conflicts_in}
+
+-- the kind of a reply by two tests
+abbrev by_tests : (commit conflict : Bool) → LineKind
+by_tests commit conflict = cond commit kind.Commit (cond conflict kind.Conflict kind.Other)
+
+-- a digit of a byte is no `o`
+no_letter : (b : ℕ) → nat_eq 111 (digit_of (b % 16)) ≡ false
+no_letter b = grind arith
+
+and_no : (t : Bool) → (t && false) ≡ false
+and_no true = refl
+and_no false = refl
+
+abbrev starts : (word text : List ℕ) → Bool
+starts word text = pointwise nat_eq word (take (length word) text)
+
+shown_starts : (bytes : List ℕ) → starts (codes "ok comm") (reply_text (Shown bytes)) ≡ false
+unfolding reply_text
+shown_starts [] = refl
+shown_starts (b ∷ bytes) = rw (no_letter b) (and_no (nat_eq 99 (digit_of (b / 16))))
+
+-- what its text begins with is the kind of a reply
+kind_by_text : (reply : Reply) → by_tests (starts (codes "ok comm") (reply_text reply)) (starts (codes "c") (reply_text reply)) ≡ kind_of reply
+unfolding reply_text
+kind_by_text Done = refl
+kind_by_text (Began n) = refl
+kind_by_text (Shown bytes) = ap (λ t. by_tests t false) (shown_starts bytes)
+kind_by_text (Committed n) = refl
+kind_by_text ReadOnly = refl
+kind_by_text (Conflict c) = refl
+kind_by_text (Trimmed n) = refl
+kind_by_text (Compacted n) = refl
+kind_by_text (Upgraded n) = refl
+kind_by_text (Numbers last base trim live used versions) = refl
+kind_by_text InTx = refl
+kind_by_text NotInTx = refl
+kind_by_text ModeFixed = refl
+kind_by_text BadBlock = refl
+kind_by_text BadRange = refl
+kind_by_text NoAccess = refl
+kind_by_text TooManyMarks = refl
+kind_by_text TooManyAccesses = refl
+kind_by_text NoHandle = refl
+kind_by_text LabelTaken = refl
+kind_by_text TooManyTx = refl
+kind_by_text Worn = refl
+kind_by_text (LogFull need free) = refl
+
+-- the kind that the tests of a text tell
+pub tested : (text : List ℕ) (commit conflict : Bool) → commit ≡ starts (codes "ok comm") text → conflict ≡ starts (codes "c") text
+    → (reply : Reply) → text ≡ reply_text reply → by_tests commit conflict ≡ kind_of reply
+tested text commit conflict first second reply is =
+    (λ i. by_tests (first i) (second i)) ∙ ap (λ (t : List ℕ). by_tests (starts (codes "ok comm") t) (starts (codes "c") t)) is ∙ kind_by_text reply
+
+-- and where the first test tells it, the second is not wanted
+pub tested_commit : (text : List ℕ) (commit : Bool) → commit ≡ starts (codes "ok comm") text → commit ≡ true
+    → (reply : Reply) → text ≡ reply_text reply → kind.Commit ≡ kind_of reply
+tested_commit text commit first told reply is =
+    ap (λ t. by_tests t (starts (codes "c") text)) (sym told) ∙ tested text commit (starts (codes "c") text) first refl reply is
+
+counted : (p : Reply → Bool) (reply : Reply) (more : List Reply) (t : Bool) → p reply ≡ t → length (filter p (reply ∷ more)) ≡ cond t 1 0 + length (filter p more)
+counted p reply more true is = rw is (omega arith)
+counted p reply more false is = rw is (omega arith)
+
+commit_kind : (reply : Reply) → cond (is_committed reply) 1 0 ≡ commits_in (kind_of reply)
+commit_kind reply = grind arith
+
+conflict_kind : (reply : Reply) → cond (is_conflict reply) 1 0 ≡ conflicts_in (kind_of reply)
+conflict_kind reply = grind arith
+
+-- one more reply counts as its kind says
+pub commits_with : (reply : Reply) (more : List Reply) → length (filter is_committed (reply ∷ more)) ≡ commits_in (kind_of reply) + length (filter is_committed more)
+commits_with reply more = counted is_committed reply more (is_committed reply) refl ∙ ap (λ (n : ℕ). n + length (filter is_committed more)) (commit_kind reply)
+
+pub conflicts_with : (reply : Reply) (more : List Reply) → length (filter is_conflict (reply ∷ more)) ≡ conflicts_in (kind_of reply) + length (filter is_conflict more)
+conflicts_with reply more = counted is_conflict reply more (is_conflict reply) refl ∙ ap (λ (n : ℕ). n + length (filter is_conflict more)) (conflict_kind reply)

@@ -1,0 +1,6 @@
+mod ReplyTexts
+mod Splits
+mod KindsOfReplies
+mod Counting
+mod Pieces
+mod GoodLines

@@ -1,0 +1,92 @@
+-- The bytes of a number and of a reply.
+use Rattle.std.proofs.Common.{◌≡◌, ◌≢◌, ◌∙◌, sym, refl, ap, ℕ, zero, suc, ◌+◌, ◌/◌, ◌%◌, ◌<◌, ◌≤◌, Bool, true, false, cond, not, ◌==◌, ◌&&◌, nat_lt, List, [], ◌∷◌, ◌++◌, decimal, codes, arith, subst}
+use Rattle.std.specs.List.{list_all}
+use Rattle.std.specs.Fmt.{digits, digits_onto, digit_glyph}
+use Rattle.std.proofs.lemmas.Bool.{ne_eqb}
+use Rattle.std.proofs.lemmas.List.Folds.{list_all-append}
+use Rattle.iso_model.specs.declared.script.Reply.{Reply}
+use Rattle.iso_model.specs.declared.script.Reply.TheVariants.{Done, Began, Shown, Committed, ReadOnly, Conflict, Trimmed, Compacted, Upgraded, Numbers, InTx, NotInTx, ModeFixed, BadBlock, BadRange, NoAccess, TooManyMarks, TooManyAccesses, NoHandle, LabelTaken, TooManyTx, Worn, LogFull}
+use Rattle.iso_model.specs.Text.{digit_of, hex_text, reply_text}
+
+-- the byte is another one
+abbrev pub is_other : ℕ → ℕ → Bool
+is_other x b = not (b == x)
+
+other_byte : (x b : ℕ) → b ≢ x → is_other x b ≡ true
+other_byte x b other = rw (ne_eqb b x other) refl
+
+pub both : (x : ℕ) (xs ys : List ℕ) → list_all (is_other x) xs ≡ true → list_all (is_other x) ys ≡ true → list_all (is_other x) (xs ++ ys) ≡ true
+both x xs ys first second = list_all-append (is_other x) xs ys ∙ rw (first, second) refl
+
+either : (x : ℕ) (t : Bool) (xs ys : List ℕ) → list_all (is_other x) xs ≡ true → list_all (is_other x) ys ≡ true → list_all (is_other x) (cond t xs ys) ≡ true
+either x true xs ys first second = first
+either x false xs ys first second = second
+
+glyph_above : (x d : ℕ) → x < 48 → digit_glyph false d ≢ x
+glyph_above x d low same = grind arith
+
+module _ (x : ℕ) (low : x < 48) where
+  -- a number is digits alone
+  spelled : (k n : ℕ) (more : List ℕ) → list_all (is_other x) more ≡ true → list_all (is_other x) (digits_onto k 10 false n more) ≡ true
+  spelled zero n more all = all
+  spelled (suc k) n more all =
+      let head : is_other x (digit_glyph false (n % 10)) ≡ true = other_byte x (digit_glyph false (n % 10)) (glyph_above x (n % 10) low) in
+      let next : list_all (is_other x) (digit_glyph false (n % 10) ∷ more) ≡ true = rw (head, all) refl in
+      either x (n / 10 == 0) (digit_glyph false (n % 10) ∷ more) (digits_onto k 10 false (n / 10) (digit_glyph false (n % 10) ∷ more)) next
+      (spelled k (n / 10) (digit_glyph false (n % 10) ∷ more) next)
+
+  pub other_than_digits : (n : ℕ) → list_all (is_other x) (decimal n) ≡ true
+  unfolding digits
+  other_than_digits n = spelled 64 n [] refl
+
+no_feed : (n : ℕ) → list_all (is_other 10) (decimal n) ≡ true
+no_feed n = other_than_digits 10 (omega arith) n
+
+hex_byte : (n : ℕ) → is_other 10 (digit_of n) ≡ true
+hex_byte n = grind arith
+
+hex_bytes : (bytes : List ℕ) → list_all (is_other 10) (hex_text bytes) ≡ true
+hex_bytes [] = refl
+hex_bytes (b ∷ bytes) = rw (hex_byte (b / 16), hex_byte (b % 16)) (hex_bytes bytes)
+
+-- a text without a line feed
+record IsFeedless (text : List ℕ) : Type 0 where
+  pub all : list_all (is_other 10) text ≡ true
+
+-- a word and a number
+numbered : (word : List ℕ) (n : ℕ) → list_all (is_other 10) word ≡ true → IsFeedless (word ++ decimal n)
+numbered word n all = record { all = both 10 word (decimal n) all (no_feed n) }
+
+-- and behind a text
+numbered_on : {text : List ℕ} (word : List ℕ) (n : ℕ) → list_all (is_other 10) word ≡ true → IsFeedless text → IsFeedless (text ++ word ++ decimal n)
+numbered_on {text} word n all before = record { all = both 10 (text ++ word) (decimal n) (both 10 text word before.all all) (no_feed n) }
+
+-- no reply has a line feed
+pub reply_has_no_feed : (reply : Reply) → list_all (is_other 10) (reply_text reply) ≡ true
+unfolding reply_text
+reply_has_no_feed Done = refl
+reply_has_no_feed (Began n) = (numbered (codes "ok begin ") n refl).all
+reply_has_no_feed (Shown bytes) = both 10 (codes "ok ") (hex_text bytes) refl (hex_bytes bytes)
+reply_has_no_feed (Committed n) = (numbered (codes "ok commit ") n refl).all
+reply_has_no_feed ReadOnly = refl
+reply_has_no_feed (Conflict c) =
+    (numbered_on (codes " at ") c.at refl (numbered_on (codes " block ") c.block refl (numbered (codes "conflict with ") c.commit refl))).all
+reply_has_no_feed (Trimmed n) = (numbered (codes "ok trim ") n refl).all
+reply_has_no_feed (Compacted n) = (numbered (codes "ok compact ") n refl).all
+reply_has_no_feed (Upgraded n) = (numbered (codes "ok upgrade ") n refl).all
+reply_has_no_feed (Numbers last base trim live used versions) =
+    (numbered_on (codes " versions ") versions refl (numbered_on (codes " used ") used refl (numbered_on (codes " live ") live refl (numbered_on (codes " trim ") trim refl
+    (numbered_on (codes " base ") base refl (numbered (codes "ok last ") last refl)))))).all
+reply_has_no_feed InTx = refl
+reply_has_no_feed NotInTx = refl
+reply_has_no_feed ModeFixed = refl
+reply_has_no_feed BadBlock = refl
+reply_has_no_feed BadRange = refl
+reply_has_no_feed NoAccess = refl
+reply_has_no_feed TooManyMarks = refl
+reply_has_no_feed TooManyAccesses = refl
+reply_has_no_feed NoHandle = refl
+reply_has_no_feed LabelTaken = refl
+reply_has_no_feed TooManyTx = refl
+reply_has_no_feed Worn = refl
+reply_has_no_feed (LogFull need free) = (numbered_on (codes " free ") free refl (numbered (codes "log full need ") need refl)).all

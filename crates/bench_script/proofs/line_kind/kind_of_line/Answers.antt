@@ -1,0 +1,16 @@
+use Rattle.std.proofs.Common.{◌≡◌, ◌∙◌, sym, ap, List, ℕ, ◌∷◌, ◌++◌, decimal, subst, arith}
+use Rattle.std.specs.Prelude.{Contains}
+use Rattle.iso_model.specs.Text.{reply_text}
+use Rattle.bench_script.proofs.ReplyTexts.{other_than_digits}
+use Rattle.bench_script.proofs.Splits.{is_there, same_split}
+use Rattle.bench_script.proofs.line_kind.kind_of_line.Goals as goal
+
+pub returns-in-Some : goal.returns-in-Some
+returns-in-Some c client reply is =
+    let parts = same_split 32 c.in-Some._client.now (decimal client) c.in-Some.text.now (reply_text reply) c.in-Some.ensures.before
+    (other_than_digits 32 (omega arith) client) (sym c.in-Some.ensures.split ∙ is) in
+    c.kind_of_text.ensures reply parts.1
+
+pub returns-in-None : goal.returns-in-None
+returns-in-None c client reply is =
+    absurd (c.in-None.ensures.none (subst (λ (t : List ℕ). Contains t 32) (sym is) (is_there 32 (decimal client) (reply_text reply))))

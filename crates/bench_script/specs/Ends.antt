@@ -1,0 +1,20 @@
+-- What contracts see of the script of a bench and of the replies that are held.
+use Rattle.std.specs.Prelude.{ℕ, Bool, List, Some}
+use Rattle.iso_io.specs.Source.{SourceState}
+use Rattle.iso_io.specs.Sink.{SinkState}
+
+pub record DrawnState : Type 0 where
+  pub left : List ℕ  -- the text that is left
+  pub is_ended : Bool  -- the last call that had room gave nothing
+
+-- as a source it never fails
+abbrev pub drawn_state : DrawnState → SourceState
+drawn_state s = record { rest = Some s.left; is_ended = s.is_ended; faults = 0 }
+
+pub record HeldState : Type 0 where
+  pub text : List ℕ  -- the bytes taken so far
+  pub faults : ℕ  -- how many calls found no memory, up to the last value of a u64
+
+-- as a sink it takes all of each piece
+abbrev pub held_state : HeldState → SinkState
+held_state s = record { written = Some s.text; faults = s.faults; refusals = 0 }

@@ -1,0 +1,15 @@
+//! The laws of a bench: each function does nothing, and its contract is the law.
+ghost use Rattle.std.specs.Prelude.{◌≡◌, ℕ, ◌≤◌, None};
+ghost use Rattle.iso_model.specs.Bench.{bench_text};
+ghost use Rattle.iso_model.specs.Script.{script};
+ghost use Rattle.bench_script.specs.Ends.{DrawnState, drawn_state};
+
+/// No line of a bench is bad: it is read to its end.
+pub fn drawn_scripts_are_good()
+    ensures { (seed count : ℕ) → count ≤ 100000 → (script (bench_text count seed)).bad ≡ None }
+{}
+
+/// The script of a bench never fails as a source.
+pub fn drawn_scripts_never_fail()
+    ensures { (s : DrawnState) → (drawn_state s).faults ≡ 0 }
+{}
