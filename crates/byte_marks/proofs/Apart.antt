@@ -1,9 +1,9 @@
 -- Extents that rise and do not touch.
-use Rattle.std.proofs.Common.{◌≡◌, refl, ◌∙◌, ap, sym, ℕ, ◌+◌, ◌-◌, ◌<◌, ◌≤◌, Bool, true, false, ◌&&◌, ◌||◌, max, map, inl, inr, List, [], ◌∷◌, ◌++◌, arith, nat_le, nat_lt}
+use Rattle.std.proofs.Common.{◌≡◌, refl, ◌∙◌, ap, sym, ℕ, ◌+◌, ◌-◌, ◌<◌, ◌≤◌, Bool, true, false, ◌&&◌, ◌||◌, max, map, inl, inr, List, [], ◌∷◌, ◌++◌, arith, nat_le, nat_lt, Option, Some}
 use Rattle.std.proofs.Math.Bool.{and_comm, and-false, or-false}
 use Rattle.std.proofs.lemmas.Bool.Decides.{nat_tests}
 use Rattle.std.proofs.lemmas.List.Folds.{list_any-append}
-use Rattle.std.specs.List.{list_any}
+use Rattle.std.specs.List.{last_or, list_any}
 use Rattle.byte_marks.specs.declared.extent.Extent.{Extent}
 use Rattle.std.proofs.lemmas.Bool.{and_left, and_right, cases_lt}
 use Rattle.iso_model.specs.Array.{in_span}
@@ -39,6 +39,10 @@ wider_last f to (y ∷ ys) x apart some inside = (apart.0, apart.1, apart.2, wid
 pub next_free-append : (f : ℕ) (xs : List Extent) (x : Extent) → next_free f (xs ++ x ∷ []) ≡ x.to + 1
 next_free-append f [] x = refl
 next_free-append f (y ∷ ys) x = next_free-append (y.to + 1) ys x
+
+pub last_or-append : (o : Option Extent) (xs : List Extent) (x : Extent) → last_or o (xs ++ x ∷ []) ≡ Some x
+last_or-append o [] x = refl
+last_or-append o (y ∷ ys) x = last_or-append (Some y) ys x
 
 -- the last of them ends in a block too
 pub last_inside : (f : ℕ) (xs : List Extent) (x : Extent) → AreApartFrom f (xs ++ x ∷ []) → x.to ≤ 4096

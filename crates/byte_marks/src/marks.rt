@@ -138,9 +138,10 @@ impl Marks {
         has_all(self.extents.as_slice(), span)
     }
 
-    /// The same set once more.
+    /// The same set once more. It takes no memory up to eight runs.
     pub fn copy(&self) -> Result<Marks, Memory>
-        ensures { IfOk result (λ copy. copy ≡ self.now) }
+        ensures same { IfOk result (λ copy. copy ≡ self.now) }
+        ensures full { OnErr result (8 < run_count self.now) }
     {
         let extents = SmallVec::from_slice(*self.extents.allocator(), self.extents.as_slice())?;
         Ok(Marks { extents })

@@ -1,5 +1,6 @@
 // Two rising lists of extents walked side by side.
-ghost use Rattle.std.specs.Prelude.{◌≡◌, ℕ, ◌+◌, ◌<◌, ◌≤◌, ◌||◌, false, IfOk, OnErr, IfSome, IfNone, length};
+ghost use Rattle.std.specs.Prelude.{◌≡◌, ℕ, ◌+◌, ◌<◌, ◌≤◌, ◌||◌, false, None, IfOk, OnErr, IfSome, IfNone, length};
+ghost use Rattle.std.specs.List.{last_or};
 ghost use Rattle.std.specs.Bool.{OnTrue, OnFalse};
 ghost use Rattle.byte_marks.specs.Marks.{has, in_extent, next_free, AreApartFrom};
 
@@ -31,6 +32,7 @@ pub fn join_last(extents: &mut Extents, added: Extent) -> bool
     ensures apart { AreApartFrom 0 extents.new.items }
     ensures len { length extents.new.items ≡ length extents.old.items }
     ensures kept { OnFalse result (extents.new.items ≡ extents.old.items) }
+    ensures away { OnFalse result (IfSome (last_or None extents.old.items) (λ last. last.from ≤ added.from → last.to < added.from)) }
 {
     let count = extents.len();
     let places = extents.capacity();

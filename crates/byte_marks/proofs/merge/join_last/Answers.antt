@@ -1,9 +1,12 @@
 -- The last extent with more bytes stands where it stood.
-use Rattle.std.proofs.Common.{◌≡◌, ◌<◌, ◌≤◌, ◌∷◌, ◌++◌, [], List, sym, subst, arith}
+use Rattle.std.proofs.Common.{◌≡◌, ◌∙◌, ◌<◌, ◌≤◌, ◌∷◌, ◌++◌, [], List, None, Option, Some, sym, subst, ap, arith}
+use Rattle.std.specs.List.{last_or}
+use Rattle.std.specs.Option.{IfSome}
 use Rattle.byte_marks.specs.declared.extent.Extent.{Extent}
 use Rattle.byte_marks.specs.Marks.{AreApartFrom}
-use Rattle.byte_marks.proofs.Apart.{wider_last, last_inside}
+use Rattle.byte_marks.proofs.Apart.{wider_last, last_inside, last_or-append}
 use Rattle.byte_marks.proofs.merge.join_last.Goals as goal
+use Rattle.byte_marks.proofs.merge.join_last.Goals.{else-last-added-via-then-last-added+else-added-last, else-last-added-via-else-last-added}
 
 pub push_reserved-requires : goal.push_reserved-requires
 push_reserved-requires c =
@@ -21,3 +24,14 @@ returns-then-added-last-clause-apart c =
 pub push_reserved-requires-2 : goal.push_reserved-requires-2
 push_reserved-requires-2 c =
     (omega arith, omega (arith, c.in-Some.ensures.len, c.len-count.ensures.value, c.capacity-places.ensures.value, c.if-prove.false, c.pop.ensures.capacity))
+
+pub returns-clause-away : goal.returns-clause-away
+returns-clause-away c =
+    let last = c.in-Some.last in
+    let Away : Extent → Type 0 = λ e. e.from ≤ c.args.added.from → e.to < c.args.added.from in
+    let away : Away last = elim c.else-last-added.branch [
+      | else-last-added-via-then-last-added+else-added-last w ↦ λ from. omega (arith, w.if-added-last.false)
+      | else-last-added-via-else-last-added w ↦ λ from. omega (arith, from, w.if-last-added.false)
+    ] in
+    let is : last_or None c.args.extents.now.items ≡ Some last = ap (last_or None) c.in-Some.ensures.items ∙ last_or-append None c.pop.new.self.items last in
+    subst (λ (o : Option Extent). IfSome o Away) (sym is) away
