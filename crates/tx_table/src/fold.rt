@@ -165,6 +165,7 @@ pub fn reopen_touched(
     writes: &mut Touched,
 ) -> usize
     ensures few { result ≤ last }
+    ensures none_there { folded ≤ last → result ≡ folded }
     ensures reads { (size blocks : ℕ) (kind : Kind) (accesses : List Access) → AreTouched size blocks kind (take folded accesses) reads.old
         → AreTouched size blocks kind (take result accesses) reads.new }
     ensures writes { (size blocks : ℕ) (kind : Kind) (accesses : List Access) → AreTouched size blocks kind (take folded accesses) writes.old

@@ -81,6 +81,7 @@ pub fn apply(rows: &[Row], from: usize, patches: &mut Patches)
 /// Takes the rows from a place on out of the patches, and says how many are in them then.
 pub fn reopen_patches(applied: usize, last: usize, patches: &mut Patches) -> usize
     ensures few { result ≤ last }
+    ensures none_there { applied ≤ last → result ≡ applied }
     ensures size { patches.new.size ≡ patches.old.size }
     ensures spare { patches.new.spare ≡ patches.old.spare }
     ensures kept { (b : ℕ) → has_patch b patches.new.entries ≡ has_patch b patches.old.entries }
