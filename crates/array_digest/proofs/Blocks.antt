@@ -25,8 +25,9 @@ one_more : (A : Array) (n : ℕ) → n < length A → array_bytes (take n A) ++ 
 one_more [] n inside = absurd (omega (arith, inside))
 one_more (block ∷ A) zero inside = sym (append-nil block)
 one_more (block ∷ A) (suc n) inside =
+    let count : suc (n + 1) ≡ suc n + 1 = omega arith in
     append_assoc block (array_bytes (take n A)) (block_at A n) ∙ ap (λ (rest : List ℕ). block ++ rest) (one_more A n (omega (arith, inside)))
-    ∙ ap (λ (count : ℕ). array_bytes (take count (block ∷ A))) (omega arith)
+    ∙ ap (λ (blocks : ℕ). array_bytes (take blocks (block ∷ A))) count
 
 -- the hasher holds the first blocks of what the transaction is shown, where the disk tells its bytes
 pub record HoldsFirst (contents : Option (List ℕ)) (W : World) (t : Live) (n : ℕ) (hasher : Sha256) : Type 0 where
@@ -52,28 +53,3 @@ all_held contents W t n hasher most held bytes told = held.is bytes told ∙ ap 
 -- how many blocks the array has
 pub block_count : {D : Type 0} (state : D → DiskState) (core : Core D) (W : World) (t : Live) → StandsFor state core W up → length (array_at W.history t.begin) ≡ W.geometry.blocks
 block_count state core W t of = (array_shape W.geometry W.history t.begin of.kept_of.world.history).blocks
-
--- the transaction that began
-abbrev pub begun : World → Mode → Live
-begun W mode = record { number = W.next; begin = last W.history; mode = mode; accesses = []; place = unattached }
-
-among_last : (t : Live) (live : List Live) → IsAmong t (live ++ t ∷ [])
-among_last t [] = inl refl
-among_last t (u ∷ live) = inr (among_last t live)
-
-pub is_begun : (W : World) (mode : Mode) (tx : ℕ) → tx ≡ W.next → IsTx (after_begin W unattached mode) tx (begun W mode)
-is_begun W mode tx same = record { number = sym same; among = among_last (begun W mode) W.live }
-
--- once it left, only the next number is another
-none_left : (t : Live) (live : List Live) → live ≡ [] → without t.number (live ++ t ∷ []) ≡ live
-none_left t [] none = rw (eq-eqb t.number t.number refl) refl
-none_left t (u ∷ live) none = cc none
-
-pub left_again : {D : Type 0} (state : D → DiskState) (core : Core D) (W : World) (mode : Mode) → W.live ≡ []
-    → StandsFor state core (after_leaving (after_begin W unattached mode) (begun W mode)) up → StandsFor state core (record W { next = W.next + 1 }) up
-left_again state core W mode none of =
-    subst (λ (live : List Live). StandsFor state core (record W { live = live; next = W.next + 1 }) up) (none_left (begun W mode) W.live none) of
-
-pub on_ok : {A E : Type 0} {P : Type 0} (result : Result A E) → P → OnOk result P
-on_ok (Ok x) is = is
-on_ok (Err e) is = tt

@@ -14,6 +14,7 @@ ghost use Rattle.sha2.specs.Sha256.{sha256};
 
 use iso_core::Core;
 use iso_disk::Disk;
+use iso_model::CoreError;
 use sha2::{Digest, Sha256};
 use std::alloc::{AllocError, Global};
 
@@ -47,8 +48,13 @@ pub fn digest_of<D: Disk>(alloc: Global, core: &mut Core<D>) -> Result<[u8; 32],
     let Ok(mut block) = blank(alloc, geometry.block as usize) else {
         return Err(DigestError::Memory);
     };
-    let Ok(begun) = core.begin(None) else {
-        return Err(DigestError::Memory);
+    let begun = match core.begin(None) {
+        Ok(begun) => begun,
+        Err(error) => {
+            // No other cause keeps a transaction from beginning.
+            prove!(matches!(&error, CoreError::Memory));
+            return Err(DigestError::Memory);
+        }
     };
     let digest = digest_in(core, begun.tx, geometry.blocks, &mut block);
     core.abort(begun.tx);

@@ -1,5 +1,5 @@
 -- A tally of the lines of replies.
-use Rattle.std.proofs.Common.{◌≡◌, ◌∙◌, sym, refl, ap, ℕ, ◌+◌, ◌≤◌, true, List, [], ◌∷◌, ◌++◌, length, length-append, append_assoc, decimal, arith, subst}
+use Rattle.std.proofs.Common.{◌≡◌, ◌∙◌, sym, ap, ℕ, ◌+◌, ◌≤◌, true, List, [], ◌∷◌, ◌++◌, length, length-append, append_assoc, decimal, arith, subst}
 use Rattle.std.specs.Prelude.{Contains, filter}
 use Rattle.std.specs.List.{list_all}
 use Rattle.iso_model.specs.declared.script.Line.{Line}

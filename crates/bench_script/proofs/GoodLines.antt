@@ -1,5 +1,5 @@
 -- Each line of a bench is read as a line.
-use Rattle.std.proofs.Common.{◌≡◌, ◌≢◌, ◌∙◌, sym, refl, ap, ℕ, zero, suc, ◌+◌, ◌*◌, ◌%◌, ◌/◌, ◌<◌, ◌≤◌, ◌^◌, Bool, true, false, ◌==◌, nat_le, List, [], ◌∷◌, ◌++◌, take, length, length-append, append_assoc, append-nil, subst, None, Ok, Result, codes, decimal, arith}
+use Rattle.std.proofs.Common.{◌≡◌, ◌≢◌, ◌∙◌, sym, refl, ap, ℕ, zero, suc, ◌+◌, ◌*◌, ◌<◌, ◌≤◌, Bool, true, false, nat_le, List, [], ◌∷◌, ◌++◌, take, length, length-append, append_assoc, append-nil, subst, None, Ok, Result, codes, decimal, arith}
 use Rattle.std.specs.Prelude.{flat_map}
 use Rattle.std.specs.List.{list_all}
 use Rattle.std.proofs.lemmas.Bool.{and_parts, cond-false, leb-true, le-ltb, lt-leb, ne_eqb}
@@ -15,7 +15,7 @@ use Rattle.iso_model.specs.Bench.{after_draws, bench_text, drawn_round, nth_draw
 use Rattle.iso_model.specs.Premises.{AreBytes}
 use Rattle.iso_model.specs.Script.{before_script, is_printable, parse_whole, script, script_from, without_return}
 use Rattle.iso_model.specs.Text.{hex_text, pieces}
-use Rattle.script_text.specs.Spelling.{line_text, line_words, spaced, AreSome, IsLine}
+use Rattle.script_text.specs.Spelling.{line_text, line_words, AreSome, IsLine}
 use Rattle.script_text.proofs.Numerals.{IsWord, decimal_word, hex_word}
 use Rattle.script_text.proofs.Readings.{parse-printed}
 use Rattle.script_text.proofs.Spaces.{AreWords, spaced_printable}
@@ -207,8 +207,12 @@ text_size : (count x : ℕ) → length (bench_text count x) ≤ 100 * count
 unfolding bench_text
 text_size zero x = omega arith
 text_size (suc count) x =
-    omega (arith, length-append (drawn_round x) (bench_text count (after_draws 6 x)), text_size count (after_draws 6 x),
-    round_size (nth_drawn x 1 64) (nth_drawn x 2 64) (nth_drawn x 3 16) (nth_drawn x 4 16) (nth_drawn x 5 256) (nth_drawn x 6 256) (omega arith) (omega arith) (omega arith) (omega arith))
+    omega (
+      arith,
+      length-append (drawn_round x) (bench_text count (after_draws 6 x)),
+      text_size count (after_draws 6 x),
+      round_size (nth_drawn x 1 64) (nth_drawn x 2 64) (nth_drawn x 3 16) (nth_drawn x 4 16) (nth_drawn x 5 256) (nth_drawn x 6 256) (omega arith) (omega arith) (omega arith) (omega arith),
+    )
 
 -- a text that is not cut is good where its lines are
 whole_text : (text : List ℕ) (most : ℕ) → length text < most → IsGoodFrom 1 text → (script_from (nat_le most (length text)) 1 (pieces 10 (take most text))).bad ≡ None

@@ -1,5 +1,5 @@
 -- The script of a bench, as it is given piece by piece.
-use Rattle.std.proofs.Common.{◌≡◌, ◌∙◌, sym, refl, ap, ℕ, zero, suc, ◌+◌, ◌-◌, ◌<◌, ◌≤◌, min, List, [], ◌∷◌, ◌++◌, take, drop, length, length-append, length-drop, append_assoc, arith}
+use Rattle.std.proofs.Common.{◌≡◌, ◌∙◌, sym, ap, ℕ, zero, suc, ◌+◌, ◌-◌, ◌<◌, ◌≤◌, min, List, [], ◌++◌, take, drop, length, length-append, length-drop, append_assoc, arith}
 use Rattle.std.proofs.lemmas.List.{drop_all, drop-drop, take-append-drop}
 use Rattle.iso_model.specs.Bench.{after_draws, bench_text, drawn_round}
 
@@ -32,6 +32,6 @@ gives_to_end at given round into all rest inside count room ends text =
     let size = length-drop at round in (
       λ none. ends (omega (arith, size, none, count, inside, room)),
       λ nothing.
-      let sum : length (drop at round) + length rest ≡ 0 = sym (length-append (drop at round) rest) ∙ ap length (text ∙ nothing) in
-      omega (arith, sum, count),
+          let sum : length (drop at round) + length rest ≡ 0 = sym (length-append (drop at round) rest) ∙ ap length (text ∙ nothing) in
+          omega (arith, sum, count),
     )

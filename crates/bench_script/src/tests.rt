@@ -5,7 +5,8 @@ use iso_io::{Sink, Source};
 use std::test::Fail;
 
 /// The first round of seed 0, as it stands in the examples of the language.
-const FIRST_ROUND: &[u8] = b"1 begin\n2 begin\n1 get 62 8 4\n1 put 17 36 da\n2 get 17 8 4\n2 put 62 8 36\n1 end\n2 end\n";
+const FIRST_ROUND: &[u8] =
+    b"1 begin\n2 begin\n1 get 62 8 4\n1 put 17 36 da\n2 get 17 8 4\n2 put 62 8 36\n1 end\n2 end\n";
 
 #[test]
 fn one_round_is_drawn_from_seed_0(rt: HostRuntime) -> Result<(), Fail> {
@@ -26,15 +27,22 @@ fn a_script_is_taken_piece_by_piece(rt: HostRuntime) -> Result<(), Fail> {
     for count in &mut taken {
         *count = script.take(&mut bytes).unwrap_or(99);
     }
-    assert_eq!(rt; taken, [50, 36, 50, 36, 0]);
+    assert_eq!(rt; taken, [50, 33, 50, 33, 0]);
     Ok(())
 }
 
 #[test]
 fn commits_and_conflicts_are_counted(rt: HostRuntime) -> Result<(), Fail> {
-    let text = b"1 ok begin 0\n2 ok\n1 ok c0\n1 ok commit 1\n2 conflict with 1 block 0 at 3\n12 ok compact 1\n2 conflict with 1 block 0 at 3\n3 not-in-tx\n";
+    let text =
+        b"1 ok begin 0\n2 ok\n1 ok c0\n1 ok commit 1\n2 conflict with 1 block 0 at 3\n12 ok compact 1\n2 conflict with 1 block 0 at 3\n3 not-in-tx\n";
     let counts = tally_of(text);
-    assert_eq!(rt; counts, Tally { commits: 1, conflicts: 2 });
+    assert_eq!(rt;
+        counts,
+        Tally {
+            commits: 1,
+            conflicts: 2
+        }
+    );
     Ok(())
 }
 

@@ -11,7 +11,7 @@ use Rattle.iso_model.specs.Geometry.{is_block_size, is_valid, same_mode}
 use Rattle.iso_model.specs.History.{last}
 use Rattle.iso_model.specs.Step.{after_begin, begin_step, mode_named, out_of_transaction, step}
 use Rattle.iso_model.specs.World.{World, Live, Place, attached, client}
-use Rattle.iso_machine.proofs.Refusals.{IsRefusal, KeepsRefused, keeps_either}
+use Rattle.iso_machine.proofs.Refusals.{KeepsRefused, keeps_either}
 
 -- the reply does not depend on the place
 same_either : (W : World) (test : Bool) (r : Reply) (x y : Reply × World) → x.0 ≡ y.0 → (cond test (r, W) x).0 ≡ (cond test (r, W) y).0

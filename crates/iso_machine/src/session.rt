@@ -13,12 +13,11 @@ use script_runner::ScriptMachine;
 use script_text::push_reply;
 use std::alloc::Global;
 
-/// A machine that is up, and the text of what it has answered.
+/// A machine, and the text of what it has answered.
 #[derive(Drop)]
 pub(crate) struct Session {
     machine: Machine<MemDisk>,
     replies: Vec<u8>,
-    ghost up: { IsUp state_of machine },
 }
 
 /// Bytes of one value.
@@ -39,6 +38,7 @@ impl Session {
     /// Over a machine that has answered nothing.
     pub(crate) fn over(alloc: Global, machine: Machine<MemDisk>) -> Session
         requires { IsUp state_of machine }
+        ensures { IsUp state_of result.machine }
     {
         Session {
             machine,
@@ -53,8 +53,10 @@ impl Session {
 
     /// Asks the machine for one more operation.
     pub(crate) fn ask(self, client: u8, op: &Op) -> Result<Session, Memory>
+        requires up { IsUp state_of self.machine }
         requires client { (1 ≤ client) × (client ≤ 64) }
         requires op { IsOp op.now }
+        ensures { IfOk result (λ s. IsUp state_of s.machine) }
     {
         let mut machine = self.machine;
         let mut replies = self.replies;
@@ -68,25 +70,33 @@ impl Session {
     }
 
     pub(crate) fn begin(self, client: u8) -> Result<Session, Memory>
+        requires up { IsUp state_of self.machine }
         requires client { (1 ≤ client) × (client ≤ 64) }
+        ensures { IfOk result (λ s. IsUp state_of s.machine) }
     {
         self.ask(client, &Op::Begin { mode: None })
     }
 
     pub(crate) fn begin_in(self, client: u8, mode: Mode) -> Result<Session, Memory>
+        requires up { IsUp state_of self.machine }
         requires client { (1 ≤ client) × (client ≤ 64) }
+        ensures { IfOk result (λ s. IsUp state_of s.machine) }
     {
         self.ask(client, &Op::Begin { mode: Some(mode) })
     }
 
     pub(crate) fn end(self, client: u8) -> Result<Session, Memory>
+        requires up { IsUp state_of self.machine }
         requires client { (1 ≤ client) × (client ≤ 64) }
+        ensures { IfOk result (λ s. IsUp state_of s.machine) }
     {
         self.ask(client, &Op::End)
     }
 
     pub(crate) fn get(self, client: u8, block: u32) -> Result<Session, Memory>
+        requires up { IsUp state_of self.machine }
         requires client { (1 ≤ client) × (client ≤ 64) }
+        ensures { IfOk result (λ s. IsUp state_of s.machine) }
     {
         self.ask(
             client,
@@ -107,7 +117,9 @@ impl Session {
         value: u8,
         count: usize,
     ) -> Result<Session, Memory>
+        requires up { IsUp state_of self.machine }
         requires client { (1 ≤ client) × (client ≤ 64) }
+        ensures { IfOk result (λ s. IsUp state_of s.machine) }
     {
         let bytes = bytes_of(alloc, value, count)?;
         self.ask(
@@ -122,14 +134,18 @@ impl Session {
 
     /// Fills block 0.
     pub(crate) fn fill(self, alloc: Global, client: u8, value: u8) -> Result<Session, Memory>
+        requires up { IsUp state_of self.machine }
         requires client { (1 ≤ client) × (client ≤ 64) }
+        ensures { IfOk result (λ s. IsUp state_of s.machine) }
     {
         let bytes = bytes_of(alloc, value, 1)?;
         self.ask(client, &Op::Fill { block: 0, bytes })
     }
 
     pub(crate) fn release(self, client: u8, text: &[u8]) -> Result<Session, Memory>
+        requires up { IsUp state_of self.machine }
         requires client { (1 ≤ client) × (client ≤ 64) }
+        ensures { IfOk result (λ s. IsUp state_of s.machine) }
     {
         match label_of(text) {
             Some(label) => self.ask(client, &Op::Release { label }),
@@ -138,7 +154,9 @@ impl Session {
     }
 
     pub(crate) fn takeover(self, client: u8, text: &[u8]) -> Result<Session, Memory>
+        requires up { IsUp state_of self.machine }
         requires client { (1 ≤ client) × (client ≤ 64) }
+        ensures { IfOk result (λ s. IsUp state_of s.machine) }
     {
         match label_of(text) {
             Some(label) => self.ask(client, &Op::Takeover { label }),

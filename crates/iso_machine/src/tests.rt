@@ -94,7 +94,9 @@ pub(crate) fn run_on(
 }
 
 /// A session on a new image.
-pub(crate) fn started(alloc: Global, mode: Mode) -> Result<Session, Memory> {
+pub(crate) fn started(alloc: Global, mode: Mode) -> Result<Session, Memory>
+    ensures { IfOk result (λ s. IsUp state_of s.machine) }
+{
     Ok(Session::over(alloc, made(alloc, mode)?))
 }
 

@@ -1,5 +1,6 @@
 -- What the status of a call on an image has for its cause.
-use Rattle.std.proofs.Common.{◌≡◌, ◌≢◌, ◌⊎◌, inl, inr, ◌≤◌, ℕ, List, Option, Some, None, refl, sym, ◌∙◌, ap, subst, arith}
+use Rattle.std.proofs.Common.{◌≡◌, ◌≢◌, ◌⊎◌, inl, inr, ⊎_elim, ◌≤◌, ℕ, List, Option, Some, None, IfSome, refl, sym, ◌∙◌, ap, subst, arith}
+use Rattle.std.specs.Option.{ForSome}
 use Rattle.command_line.specs.declared.task.Task.{Task}
 use Rattle.command_line.specs.declared.task.Task.TheVariants.{New, Run, Recover, Bench}
 use Rattle.command_line.specs.Requests.{made_geometry}
@@ -8,6 +9,9 @@ use Rattle.iso_disk.specs.Disk.{DiskState}
 use Rattle.iso_io.specs.Sink.{SinkState}
 use Rattle.iso_io.specs.Source.{SourceState}
 use Rattle.iso_model.specs.declared.access.Geometry.{Geometry}
+use Rattle.iso_model.specs.declared.script.BadLine.{BadLine}
+use Rattle.iso_model.specs.declared.script.Line.{Line}
+use Rattle.iso_model.specs.Bench.{bench_output, bench_world, recover_output}
 use Rattle.iso_model.specs.Script.{Script, script}
 use Rattle.iso_recover.specs.Cause.{IsTest}
 use Rattle.iso_refusal.specs.declared.open_error.OpenError.{OpenError}
@@ -15,8 +19,8 @@ use Rattle.iso_refusal.specs.declared.open_error.OpenError.TheVariants as error
 use Rattle.iso_refusal.specs.Refusal.{refusal}
 use Rattle.script_runner.specs.declared.run_end.RunEnd.{RunEnd}
 use Rattle.script_runner.specs.declared.run_end.RunEnd.TheVariants as end
-use Rattle.script_runner.specs.Run.{AreLinesOf}
-use Rattle.iso_top.specs.Outcome.{HasAnswered, HasBenched, HasDone, HasMet, HasNotBegun, HasRecovered, IsAccepted, IsGoodInput, IsStatus, PrintedResult}
+use Rattle.script_runner.specs.Run.{AreLinesOf, HasRun}
+use Rattle.iso_top.specs.Outcome.{HasAnswered, HasBenched, HasDone, HasMet, HasNotBegun, HasRecovered, IsAccepted, IsGoodInput, IsStatus, PrintedBench, PrintedDigest, PrintedResult}
 use Rattle.iso_top.specs.Prints.{SinkFailed}
 use Rattle.iso_top.specs.Texts.{end_status, error_status}
 
@@ -28,11 +32,192 @@ pub record HasCauses (status : ℕ) (disk_old disk_new : DiskState) (input_old i
   pub input : status ≡ 6 → Rose input_old.faults input_new.faults
   pub output : status ≡ 7 → SinkFailed output_old output_new
 
--- the statuses, one at a time
-known : (n : ℕ) → (n ≡ 0) ⊎ (n ≡ 3) ⊎ (n ≡ 4) ⊎ (n ≡ 5) ⊎ (n ≡ 6) ⊎ (n ≡ 7) ⊎ (n ≡ 8) → IsStatus n
-known n (inl e) = inl e
-known n (inr rest) = inr (inr rest)
+-- a status that blames nothing
+quiet : (n : ℕ) (disk_old disk_new : DiskState) (input_old input_new : SourceState) (output_old output_new : SinkState)
+    → (n ≡ 0) ⊎ (n ≡ 3) ⊎ (n ≡ 4) ⊎ (n ≡ 8) → HasCauses n disk_old disk_new input_old input_new output_old output_new
+quiet n disk_old disk_new input_old input_new output_old output_new (inl e) = record {
+  known = inl e;
+  words = λ x. cc (e, x);
+  disk = λ x. absurd (cc (e, x));
+  input = λ x. absurd (cc (e, x));
+  output = λ x. absurd (cc (e, x));
+}
+quiet n disk_old disk_new input_old input_new output_old output_new (inr (inl e)) = record {
+  known = inr (inr (inl e));
+  words = λ x. cc (e, x);
+  disk = λ x. absurd (cc (e, x));
+  input = λ x. absurd (cc (e, x));
+  output = λ x. absurd (cc (e, x));
+}
+quiet n disk_old disk_new input_old input_new output_old output_new (inr (inr (inl e))) = record {
+  known = inr (inr (inr (inl e)));
+  words = λ x. cc (e, x);
+  disk = λ x. absurd (cc (e, x));
+  input = λ x. absurd (cc (e, x));
+  output = λ x. absurd (cc (e, x));
+}
+quiet n disk_old disk_new input_old input_new output_old output_new (inr (inr (inr e))) = record {
+  known = inr (inr (inr (inr (inr (inr (inr e))))));
+  words = λ x. cc (e, x);
+  disk = λ x. absurd (cc (e, x));
+  input = λ x. absurd (cc (e, x));
+  output = λ x. absurd (cc (e, x));
+}
 
-module _ (disk_old disk_new : DiskState) (input_old input_new : SourceState) (output_old output_new : SinkState) where
-  done : HasCauses 0 disk_old disk_new input_old input_new output_old output_new
-  done = record { known = inl refl; words = λ e. cc; disk = λ e. cc; input = λ e. cc; output = λ e. cc }
+by_disk : (n : ℕ) (disk_old disk_new : DiskState) (input_old input_new : SourceState) (output_old output_new : SinkState)
+    → n ≡ 5 → Rose disk_old.faults disk_new.faults → HasCauses n disk_old disk_new input_old input_new output_old output_new
+by_disk n disk_old disk_new input_old input_new output_old output_new e rose = record {
+  known = inr (inr (inr (inr (inl e))));
+  words = λ x. cc (e, x);
+  disk = λ x. rose;
+  input = λ x. absurd (cc (e, x));
+  output = λ x. absurd (cc (e, x));
+}
+
+by_input : (n : ℕ) (disk_old disk_new : DiskState) (input_old input_new : SourceState) (output_old output_new : SinkState)
+    → n ≡ 6 → Rose input_old.faults input_new.faults → HasCauses n disk_old disk_new input_old input_new output_old output_new
+by_input n disk_old disk_new input_old input_new output_old output_new e rose = record {
+  known = inr (inr (inr (inr (inr (inl e)))));
+  words = λ x. cc (e, x);
+  disk = λ x. absurd (cc (e, x));
+  input = λ x. rose;
+  output = λ x. absurd (cc (e, x));
+}
+
+by_output : (n : ℕ) (disk_old disk_new : DiskState) (input_old input_new : SourceState) (output_old output_new : SinkState)
+    → n ≡ 7 → SinkFailed output_old output_new → HasCauses n disk_old disk_new input_old input_new output_old output_new
+by_output n disk_old disk_new input_old input_new output_old output_new e failed = record {
+  known = inr (inr (inr (inr (inr (inr (inl e))))));
+  words = λ x. cc (e, x);
+  disk = λ x. absurd (cc (e, x));
+  input = λ x. absurd (cc (e, x));
+  output = λ x. failed;
+}
+
+module _ {D : Type 0} (state : D → DiskState) (name : List ℕ) (status : ℕ) (disk_old disk_new : D) (input_old input_new : SourceState) (output_old output_new : SinkState) where
+  abbrev Caused : Type 0
+  Caused = HasCauses status (state disk_old) (state disk_new) input_old input_new output_old output_new
+
+  unbegun : (made : Option Geometry) (e : OpenError) → status ≡ error_status e → HasNotBegun made name e (state disk_old) (state disk_new) input_old input_new output_old output_new → Caused
+  unbegun made error.NotIsotope is not = quiet status (state disk_old) (state disk_new) input_old input_new output_old output_new (inr (inr (inl is)))
+  unbegun made (error.BadGeometry field) is not = quiet status (state disk_old) (state disk_new) input_old input_new output_old output_new (inr (inr (inl is)))
+  unbegun made (error.WrongSize want have) is not = quiet status (state disk_old) (state disk_new) input_old input_new output_old output_new (inr (inr (inl is)))
+  unbegun made error.NoHalf is not = quiet status (state disk_old) (state disk_new) input_old input_new output_old output_new (inr (inr (inl is)))
+  unbegun made (error.Damaged at cause) is not = quiet status (state disk_old) (state disk_new) input_old input_new output_old output_new (inr (inr (inl is)))
+  unbegun made (error.UnknownForm form) is not = quiet status (state disk_old) (state disk_new) input_old input_new output_old output_new (inr (inr (inl is)))
+  unbegun made error.Disk is not = by_disk status (state disk_old) (state disk_new) input_old input_new output_old output_new is (not.cause.failed refl)
+  unbegun made error.Memory is not = quiet status (state disk_old) (state disk_new) input_old input_new output_old output_new (inr (inr (inr is)))
+
+  -- a run's count of faults rose in the whole call
+  rose_since : (start : ℕ) → start ≡ (state disk_old).faults → Rose start (state disk_new).faults → Rose (state disk_old).faults (state disk_new).faults
+  rose_since start same rose = subst (λ (n : ℕ). Rose n (state disk_new).faults) same rose
+
+  answered : (made : Option Geometry) (e : RunEnd) → status ≡ end_status e → HasAnswered state made name e disk_old disk_new input_old input_new output_old output_new → Caused
+  answered made end.Done is a = quiet status (state disk_old) (state disk_new) input_old input_new output_old output_new (inl is)
+  answered made (end.BadLine bad) is a = quiet status (state disk_old) (state disk_new) input_old input_new output_old output_new (inr (inl is))
+  answered made end.Disk is a = by_disk status (state disk_old) (state disk_new) input_old input_new output_old output_new is (rose_since (state a.start).faults a.begun.faults a.run.answered.disk)
+  answered made end.Input is a = by_input status (state disk_old) (state disk_new) input_old input_new output_old output_new is a.run.input
+  answered made end.Output is a =
+      by_output status (state disk_old) (state disk_new) input_old input_new output_old output_new is
+      (subst (λ (k : SinkState). SinkFailed output_old k) (sym a.last) (⊎_elim (λ failed. inl failed.0) (λ refused. inr refused.0) a.run.answered.output))
+  answered made end.Memory is a = quiet status (state disk_old) (state disk_new) input_old input_new output_old output_new (inr (inr (inr is)))
+
+  resulted : (disk : DiskState) (defined : List ℕ) → PrintedResult status disk defined output_old output_new → Caused
+  resulted disk defined (text, told, inl (is, whole)) = quiet status (state disk_old) (state disk_new) input_old input_new output_old output_new (inl is)
+  resulted disk defined (text, told, inr (is, cut)) = by_output status (state disk_old) (state disk_new) input_old input_new output_old output_new is cut.failed
+
+  recovered : HasRecovered name status (state disk_old) (state disk_new) input_old input_new output_old output_new → Caused
+  recovered r = go r.printed
+    where
+      go : PrintedDigest status (state disk_old) r.world.history output_old output_new → Caused
+      go (inl result) = resulted (state disk_old) (recover_output r.world.history) result
+      go (inr (inl (is, text))) = by_disk status (state disk_old) (state disk_new) input_old input_new output_old output_new is (r.failed is)
+      go (inr (inr (is, text))) = quiet status (state disk_old) (state disk_new) input_old input_new output_old output_new (inr (inr (inr is)))
+
+  benched : (seed count : ℕ) → HasBenched state name seed count status disk_old disk_new input_old input_new output_old output_new → Caused
+  benched seed count b = go b.end b.run b.printed
+    where
+      go : (e : RunEnd) → HasRun (λ V. Unit {0}) (state b.start) (state disk_new) b.drawn b.rest b.empty b.held bench_world e
+          → PrintedBench seed count status e (state disk_old) output_old output_new → Caused
+      go end.Done run result = resulted (state disk_old) (bench_output seed count) result
+      go (end.BadLine bad) run never = absurd never
+      go end.Disk run (is, text) = by_disk status (state disk_old) (state disk_new) input_old input_new output_old output_new is (rose_since (state b.start).faults b.begun.faults run.answered.disk)
+      go end.Input run never = absurd never
+      go end.Output run (is, text) = quiet status (state disk_old) (state disk_new) input_old input_new output_old output_new (inr (inr (inr is)))
+      go end.Memory run (is, text) = quiet status (state disk_old) (state disk_new) input_old input_new output_old output_new (inr (inr (inr is)))
+
+  pub met_causes : (task : Task) → HasMet state task name status disk_old disk_new input_old input_new output_old output_new → Caused
+  met_causes task (inl (e, is, not)) = unbegun (made_geometry task) e is not
+  met_causes (New g) (inr (e, is, a)) = answered (Some g) e is a
+  met_causes Run (inr (e, is, a)) = answered None e is a
+  met_causes Recover (inr r) = recovered r
+  met_causes (Bench seed count) (inr b) = benched seed count b
+
+  -- nothing to blame
+  module _ (disk_stands : ¬ Rose (state disk_old).faults (state disk_new).faults) (input_stands : ¬ Rose input_old.faults input_new.faults) (output_stands : ¬ SinkFailed output_old output_new) where
+    abbrev Ends : Type 0
+    Ends = (status ≡ 0) ⊎ (status ≡ 8)
+
+    refused_not : (made : Option Geometry) (e : OpenError) → IsAccepted made (state disk_old).contents → (made ≡ None) × ForSome (state disk_old).contents (λ c. refusal c ≡ Some e) → ⊥
+    refused_not (Some g) e accepted (none, fails) = cc (none)
+    refused_not None e (c, is, passes) (none, fails) = cc (fails c is, passes)
+
+    begun_all : (made : Option Geometry) (e : OpenError) → status ≡ error_status e → IsAccepted made (state disk_old).contents
+        → HasNotBegun made name e (state disk_old) (state disk_new) input_old input_new output_old output_new → Ends
+    begun_all made error.NotIsotope is accepted not = absurd (refused_not made _ accepted (not.refused tt))
+    begun_all made (error.BadGeometry field) is accepted not = absurd (refused_not made _ accepted (not.refused tt))
+    begun_all made (error.WrongSize want have) is accepted not = absurd (refused_not made _ accepted (not.refused tt))
+    begun_all made error.NoHalf is accepted not = absurd (refused_not made _ accepted (not.refused tt))
+    begun_all made (error.Damaged at cause) is accepted not = absurd (refused_not made _ accepted (not.refused tt))
+    begun_all made (error.UnknownForm form) is accepted not = absurd (refused_not made _ accepted (not.refused tt))
+    begun_all made error.Disk is accepted not = absurd (disk_stands (not.cause.failed refl))
+    begun_all made error.Memory is accepted not = inr is
+
+    bad_not : (bad : BadLine) (all : List ℕ) (rest : Option (List ℕ)) (done next : List (ℕ × Line)) → rest ≡ Some all → (script all).bad ≡ None
+        → IfSome rest (λ text. AreLinesOf (end.BadLine bad) (script text) done next) → ⊥
+    bad_not bad all rest done next is good told =
+        let lines : AreLinesOf (end.BadLine bad) (script all) done next =
+        subst (λ (o : Option (List ℕ)). IfSome o (λ text. AreLinesOf (end.BadLine bad) (script text) done next)) is told in
+        cc (good, ap (λ (S : Script). S.bad) lines.0)
+
+    answered_all : (made : Option Geometry) (e : RunEnd) → status ≡ end_status e → (all : List ℕ) × (input_old.rest ≡ Some all) × ((script all).bad ≡ None)
+        → HasAnswered state made name e disk_old disk_new input_old input_new output_old output_new → Ends
+    answered_all made end.Done is good a = inl is
+    answered_all made (end.BadLine bad) is (all, rest, good) a = absurd (bad_not bad all input_old.rest a.run.done a.run.next rest good a.run.told)
+    answered_all made end.Disk is good a = absurd (disk_stands (rose_since (state a.start).faults a.begun.faults a.run.answered.disk))
+    answered_all made end.Input is good a = absurd (input_stands a.run.input)
+    answered_all made end.Output is good a =
+        absurd (output_stands (subst (λ (k : SinkState). SinkFailed output_old k) (sym a.last) (⊎_elim (λ failed. inl failed.0) (λ refused. inr refused.0) a.run.answered.output)))
+    answered_all made end.Memory is good a = inr is
+
+    resulted_all : (disk : DiskState) (defined : List ℕ) → PrintedResult status disk defined output_old output_new → Ends
+    resulted_all disk defined (text, told, inl (is, whole)) = inl is
+    resulted_all disk defined (text, told, inr (is, cut)) = absurd (output_stands cut.failed)
+
+    recovered_all : HasRecovered name status (state disk_old) (state disk_new) input_old input_new output_old output_new → Ends
+    recovered_all r = go r.printed
+      where
+        go : PrintedDigest status (state disk_old) r.world.history output_old output_new → Ends
+        go (inl result) = resulted_all (state disk_old) (recover_output r.world.history) result
+        go (inr (inl (is, text))) = absurd (disk_stands (r.failed is))
+        go (inr (inr (is, text))) = inr is
+
+    benched_all : (seed count : ℕ) → HasBenched state name seed count status disk_old disk_new input_old input_new output_old output_new → Ends
+    benched_all seed count b = go b.end b.run b.printed
+      where
+        go : (e : RunEnd) → HasRun (λ V. Unit {0}) (state b.start) (state disk_new) b.drawn b.rest b.empty b.held bench_world e
+            → PrintedBench seed count status e (state disk_old) output_old output_new → Ends
+        go end.Done run result = resulted_all (state disk_old) (bench_output seed count) result
+        go (end.BadLine bad) run never = absurd never
+        go end.Disk run (is, text) = absurd (disk_stands (rose_since (state b.start).faults b.begun.faults run.answered.disk))
+        go end.Input run never = absurd never
+        go end.Output run (is, text) = inr is
+        go end.Memory run (is, text) = inr is
+
+    pub met_all : (task : Task) → IsAccepted (made_geometry task) (state disk_old).contents → IsGoodInput task input_old.rest
+        → HasMet state task name status disk_old disk_new input_old input_new output_old output_new → Ends
+    met_all task accepted good (inl (e, is, not)) = begun_all (made_geometry task) e is accepted not
+    met_all (New g) accepted good (inr (e, is, a)) = answered_all (Some g) e is good a
+    met_all Run accepted good (inr (e, is, a)) = answered_all None e is good a
+    met_all Recover accepted good (inr r) = recovered_all r
+    met_all (Bench seed count) accepted good (inr b) = benched_all seed count b

@@ -1,3 +1,4 @@
 mod Beginnings
 mod Runs
 mod Answered
+mod Causes

@@ -119,12 +119,6 @@ pub record HasRecovered (name : List ℕ) (status : ℕ) (disk_old disk_new : Di
   pub passed : status ≢ 5 → disk_new.faults ≡ disk_old.faults
   pub unread : input_new ≡ input_old
 
--- how a run over a script that was drawn may end: the script has no bad line, and does not fail
-abbrev pub IsBenchEnd : RunEnd → Type 0
-IsBenchEnd (end.BadLine bad) = ⊥
-IsBenchEnd end.Input = ⊥
-IsBenchEnd e = Unit {0}
-
 -- What `bench` has put, by how the run over the script that it drew ended. The replies to it are held in memory.
 abbrev pub PrintedBench : (seed count status : ℕ) → RunEnd → (disk : DiskState) → SinkState → SinkState → Type 0
 PrintedBench seed count status end.Done disk old new = PrintedResult status disk (bench_output seed count) old new

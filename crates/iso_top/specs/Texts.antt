@@ -1,6 +1,7 @@
 -- The last lines that the program prints.
 use Rattle.std.specs.Prelude.{ℕ, List, [], ◌∷◌, ◌++◌, codes, decimal, flat_map}
 use Rattle.iso_model.specs.declared.script.BadLine.{BadLine}
+use Rattle.iso_model.specs.Text.{hex_text}
 use Rattle.iso_refusal.specs.declared.open_error.OpenError.{OpenError}
 use Rattle.iso_refusal.specs.declared.open_error.OpenError.TheVariants as error
 use Rattle.script_runner.specs.declared.run_end.RunEnd.{RunEnd}
@@ -63,3 +64,12 @@ end_text end.Disk = disk_fault_text
 end_text end.Input = input_fault_text
 end_text end.Output = []
 end_text end.Memory = memory_text
+
+-- the line of `recover`, with a last number, a base number and a digest
+abbrev pub recover_text : (last base : ℕ) → (digest : List ℕ) → List ℕ
+recover_text last base digest = codes "last " ++ decimal last ++ codes " base " ++ decimal base ++ codes " sha256 " ++ hex_text digest ++ 10 ∷ []
+
+-- the line of `bench`, with its counts and a digest
+abbrev pub bench_text_of : (rounds commits conflicts : ℕ) → (digest : List ℕ) → List ℕ
+bench_text_of rounds commits conflicts digest =
+    codes "rounds " ++ decimal rounds ++ codes " commits " ++ decimal commits ++ codes " conflicts " ++ decimal conflicts ++ codes " sha256 " ++ hex_text digest ++ 10 ∷ []

@@ -3,6 +3,7 @@ ghost use Rattle.std.specs.Prelude.{◌≡◌, ◌⊎◌, ◌+◌, ◌≤◌, []
 ghost use Rattle.arrayvec.specs.ArrayVec.{array_vec_len};
 ghost use Rattle.iso_model.specs.Text.{hex_text};
 ghost use Rattle.iso_top.specs.Prints.{WasCut, WroteWhole};
+ghost use Rattle.iso_top.specs.Texts.{bench_text_of, recover_text};
 
 use arrayvec::ArrayVec;
 use iso_io::{Sink, put_all};
@@ -56,7 +57,7 @@ fn push_digest(line: &mut ArrayVec<u8, ROOM>, digest: &[u8; 32])
 
 /// The line of `recover`.
 pub(crate) fn recover_line(last: u64, base: u64, digest: &[u8; 32]) -> ArrayVec<u8, ROOM>
-    ensures { result.items ≡ codes "last " ++ decimal last ++ codes " base " ++ decimal base ++ codes " sha256 " ++ hex_text digest.now ++ 10 ∷ [] }
+    ensures { result.items ≡ recover_text last base digest.now }
 {
     let mut line = ArrayVec::new();
     push_number(&mut line, b"last ", last);
@@ -72,8 +73,7 @@ pub(crate) fn bench_line(
     conflicts: u64,
     digest: &[u8; 32],
 ) -> ArrayVec<u8, ROOM>
-    ensures { result.items ≡ codes "rounds " ++ decimal rounds ++ codes " commits " ++ decimal commits ++ codes " conflicts " ++ decimal conflicts
-        ++ codes " sha256 " ++ hex_text digest.now ++ 10 ∷ [] }
+    ensures { result.items ≡ bench_text_of rounds commits conflicts digest.now }
 {
     let mut line = ArrayVec::new();
     push_number(&mut line, b"rounds ", u64::from(rounds));

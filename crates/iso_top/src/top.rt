@@ -1,14 +1,16 @@
 // The top call.
 ghost use Rattle.std.specs.Prelude.{◌≡◌, ◌⊎◌, IfSome, IsNone};
 ghost use Rattle.command_line.specs.Grammar.{texts};
-ghost use Rattle.command_line.specs.Requests.{request_of, KeepsLimits};
-ghost use Rattle.iso_top.specs.Outcome.{HasMet, IsStatus};
-ghost use Rattle.iso_top.specs.Prints.{Printed};
-ghost use Rattle.iso_top.specs.Texts.{memory_text, usage_text};
+ghost use Rattle.command_line.specs.Requests.{made_geometry, request_of, KeepsLimits};
+ghost use Rattle.fault_count.specs.Count.{Rose};
+ghost use Rattle.iso_top.specs.Outcome.{HasMet, HasNoWords, HasRefusedWords, IsAccepted, IsGoodInput, IsStatus};
+ghost use Rattle.iso_top.specs.Prints.{SinkFailed};
 
+use crate::bench::answer_drawn;
 use crate::ended::{Ended, error_status};
 use crate::engine::core_on;
 use crate::last_line::{error_line, put_last, usage};
+use crate::recover::tell_last;
 use crate::script::answer_script;
 use command_line::{Request, Task, read_words};
 use iso_disk::Image;
@@ -37,8 +39,8 @@ fn meet<I: Image + Drop, S: Source, K: Sink>(
     match request.task {
         Task::New { .. } => answer_script(alloc, core, input, output),
         Task::Run => answer_script(alloc, core, input, output),
-        Task::Recover => answer_script(alloc, core, input, output),
-        Task::Bench { .. } => answer_script(alloc, core, input, output),
+        Task::Recover => tell_last(alloc, core, output),
+        Task::Bench { seed, count } => answer_drawn(alloc, core, seed, count, output),
     }
 }
 
@@ -51,7 +53,23 @@ pub fn alone<I: Image + Drop, S: Source, K: Sink>(
     input: &mut S,
     output: &mut K,
 ) -> Ended<I>
+    // What the words ask for was met: the theorems of the replies, of their order and of a crash, and the digests, by the task.
+    ensures met { IfSome (request_of (texts words.now)) (λ r. HasMet I.state r.1 r.0 result.status image result.image (S.state input.old) (S.state input.new) (K.state output.old) (K.state output.new)
+        ⊎ HasNoWords result.status image result.image (S.state input.old) (S.state input.new) (K.state output.old) (K.state output.new)) }
+    ensures refused { IsNone (request_of (texts words.now))
+        → HasRefusedWords result.status image result.image (S.state input.old) (S.state input.new) (K.state output.old) (K.state output.new) }
+
+    // Completeness: with nothing to blame all was done, but for want of memory.
+    ensures complete { IfSome (request_of (texts words.now)) (λ r. IsAccepted (made_geometry r.1) (I.state image).contents → IsGoodInput r.1 (S.state input.old).rest
+        → ¬ Rose (I.state image).faults (I.state result.image).faults → ¬ Rose (S.state input.old).faults (S.state input.new).faults → ¬ SinkFailed (K.state output.old) (K.state output.new)
+        → (result.status ≡ 0) ⊎ (result.status ≡ 8)) }
+
+    // Each status has its cause: 2 the words, 5 the disk, 6 the source, 7 the sink; 3 and 4 as `met` says; 8 is free.
     ensures status { IsStatus result.status }
+    ensures words { result.status ≡ 2 → IsNone (request_of (texts words.now)) }
+    ensures disk { result.status ≡ 5 → Rose (I.state image).faults (I.state result.image).faults }
+    ensures input { result.status ≡ 6 → Rose (S.state input.old).faults (S.state input.new).faults }
+    ensures output { result.status ≡ 7 → SinkFailed (K.state output.old) (K.state output.new) }
 {
     match read_words(alloc, words) {
         Ok(Some(request)) => meet(alloc, &request, image, input, output),

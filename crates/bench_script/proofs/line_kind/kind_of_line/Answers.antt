@@ -1,4 +1,4 @@
-use Rattle.std.proofs.Common.{◌≡◌, ◌∙◌, sym, ap, List, ℕ, ◌∷◌, ◌++◌, decimal, subst, arith}
+use Rattle.std.proofs.Common.{◌∙◌, sym, List, ℕ, decimal, subst, arith}
 use Rattle.std.specs.Prelude.{Contains}
 use Rattle.iso_model.specs.Text.{reply_text}
 use Rattle.bench_script.proofs.ReplyTexts.{other_than_digits}

@@ -1,5 +1,5 @@
 -- Those that are left are still live, and no others.
-use Rattle.std.proofs.Common.{◌≡◌, ℕ, length, map}
+use Rattle.std.proofs.Common.{◌≡◌, length, map}
 use Rattle.iso_model.specs.Step.{with_live}
 use Rattle.iso_model.specs.World.{World}
 use Rattle.iso_core.specs.Core.{StandsFor, disk_of}

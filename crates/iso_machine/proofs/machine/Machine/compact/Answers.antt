@@ -1,4 +1,4 @@
-use Rattle.std.proofs.Common.{◌≡◌, ◌∙◌, inl, refl, sym, ap, subst, Ok, Err}
+use Rattle.std.proofs.Common.{◌≡◌, ◌∙◌, inl, sym, ap, subst, Ok, Err}
 use Rattle.iso_disk.proofs.Moments.{weakened}
 use Rattle.iso_model.specs.declared.script.Op.TheVariants as op
 use Rattle.iso_model.specs.declared.script.Reply.{Reply}

@@ -1,0 +1,74 @@
+// A script that is drawn, answered on a new image.
+ghost use Rattle.std.specs.Prelude.{◌≡◌, ◌⊎◌, ◌≤◌, ℕ, List, Some};
+ghost use Rattle.iso_core.specs.Core.{StandsFor, disk_of};
+ghost use Rattle.iso_core.specs.Standing.{up};
+ghost use Rattle.iso_io.specs.Sink.{SinkState};
+ghost use Rattle.iso_io.specs.Source.{SourceState};
+ghost use Rattle.iso_model.specs.declared.script.Line.{Line};
+ghost use Rattle.iso_model.specs.Bench.{bench_summary, bench_text, bench_world};
+ghost use Rattle.iso_model.specs.Script.{replies};
+ghost use Rattle.script_runner.specs.Run.{HasRun};
+ghost use Rattle.iso_top.specs.Outcome.{PrintedBench};
+ghost use Rattle.iso_top.specs.Prints.{Printed, WasCut, WroteWhole};
+ghost use Rattle.iso_top.specs.Texts.{disk_fault_text, memory_text};
+
+use crate::ended::Ended;
+use crate::last_line::put_last;
+use crate::result_line::{bench_line, put_result};
+use crate::script::disk_behind;
+use bench_script::{DrawnScript, HeldReplies, tally_of};
+use iso_core::Core;
+use iso_disk::Image;
+use iso_io::Sink;
+use iso_machine::Machine;
+use script_runner::{RunEnd, run};
+use sha2::{Digest, Sha256};
+use std::alloc::Global;
+
+/// Puts what a bench of so many rounds comes to, or why it has ended.
+fn put_summary<K: Sink>(output: &mut K, rounds: u32, end: &RunEnd, text: &[u8]) -> u8
+    ensures done { end.now ≡ RunEnd.Done → (line : List ℕ) × ((lines : List (ℕ × Line)) → text.now ≡ replies bench_world lines → line ≡ bench_summary rounds lines)
+        × (((result ≡ 0) × WroteWhole (K.state output.old) (K.state output.new) line) ⊎ ((result ≡ 7) × WasCut (K.state output.old) (K.state output.new) line)) }
+    ensures disk { end.now ≡ RunEnd.Disk → (result ≡ 5) × Printed (K.state output.old) (K.state output.new) disk_fault_text }
+    ensures memory { (end.now ≡ RunEnd.Output) ⊎ (end.now ≡ RunEnd.Memory) → (result ≡ 8) × Printed (K.state output.old) (K.state output.new) memory_text }
+{
+    match end {
+        RunEnd::Done => {
+            let tally = tally_of(text);
+            let digest = Sha256::digest(text);
+            let line = bench_line(rounds, tally.commits, tally.conflicts, &digest);
+            put_result(output, line.as_slice())
+        }
+        RunEnd::Disk => {
+            put_last(output, b"! disk fault\n");
+            5
+        }
+        RunEnd::Output | RunEnd::Memory | RunEnd::BadLine(_) | RunEnd::Input => {
+            put_last(output, b"! memory\n");
+            8
+        }
+    }
+}
+
+/// Answers the script of so many rounds that is drawn from a seed, and puts what it comes to. The replies are held in memory.
+pub(crate) fn answer_drawn<I: Image, K: Sink>(
+    alloc: Global,
+    core: Core<I>,
+    seed: u64,
+    count: u32,
+    output: &mut K,
+) -> Ended<I>
+    requires world { StandsFor I.state core bench_world up }
+    requires count { count ≤ 100000 }
+    ensures { (end : RunEnd) × (drawn : SourceState) × (rest : SourceState) × (empty : SinkState) × (held : SinkState) × (drawn.rest ≡ Some (bench_text count seed))
+        × HasRun (λ V. Unit {0}) (I.state (disk_of core)) (I.state result.image) drawn rest empty held bench_world end
+        × PrintedBench seed count result.status end (I.state (disk_of core)) (K.state output.old) (K.state output.new) }
+{
+    let mut input = DrawnScript::new(seed, count);
+    let mut held = HeldReplies::new(alloc);
+    let mut machine = Machine::over(alloc, core);
+    let end = run(alloc, &mut machine, &mut input, &mut held);
+    let status = put_summary(output, count, &end, held.text());
+    let image = disk_behind(machine, &end);
+    Ended { status, image }
+}
