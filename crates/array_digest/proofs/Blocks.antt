@@ -1,21 +1,16 @@
 -- The blocks of an array, one after the other, as a core reads them.
-use Rattle.std.proofs.Common.{◌≡◌, ◌∙◌, sym, refl, ap, subst, inl, inr, ℕ, zero, suc, ◌+◌, ◌<◌, ◌≤◌, List, [], ◌∷◌, ◌++◌, length, take, append-nil, append_assoc, Option, Bool, true, false, ◌==◌, not, Result, Ok, Err, arith}
-use Rattle.std.specs.Prelude.{OnOk}
+use Rattle.std.proofs.Common.{◌≡◌, ◌∙◌, sym, ap, ℕ, zero, suc, ◌+◌, ◌<◌, ◌≤◌, List, [], ◌∷◌, ◌++◌, length, take, append-nil, append_assoc, Option, arith}
 use Rattle.std.specs.Option.{ForSome}
-use Rattle.std.proofs.lemmas.Bool.{eq-eqb}
 use Rattle.std.proofs.lemmas.List.{take_all}
 use Rattle.iso_core.specs.declared.core_itself.Core.{Core}
-use Rattle.iso_core.specs.Calls.{IsAmong, IsTx}
-use Rattle.iso_core.specs.Core.{StandsFor, disk_of}
+use Rattle.iso_core.specs.Core.{StandsFor}
 use Rattle.iso_core.specs.Standing.{up}
-use Rattle.iso_disk.specs.Disk.{DiskState, WritesNothing}
-use Rattle.iso_model.specs.declared.access.Mode.{Mode}
+use Rattle.iso_disk.specs.Disk.{DiskState}
 use Rattle.iso_model.specs.Array.{Array}
 use Rattle.iso_model.specs.Bench.{array_bytes}
-use Rattle.iso_model.specs.History.{array_at, last}
+use Rattle.iso_model.specs.History.{array_at}
 use Rattle.iso_model.specs.Premises.{block_at}
-use Rattle.iso_model.specs.Step.{after_begin, after_leaving}
-use Rattle.iso_model.specs.World.{World, Live, unattached, without}
+use Rattle.iso_model.specs.World.{World, Live}
 use Rattle.iso_model.proofs.Recorded.{array_shape}
 use Rattle.sha2.specs.declared.Sha256.{Sha256}
 use Rattle.sha2.specs.Hashers.{Holds256}

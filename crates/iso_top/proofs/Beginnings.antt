@@ -54,6 +54,7 @@ module _ {D : Type 0} (state : D → DiskState) (lawful : (d : D) → IsLawful (
     faults = same ∙ faults;
     bound = bound;
     binds = binds;
+    untouched = moments;
     moments = weakened moments (empty_shows g valid);
   }
 
@@ -92,6 +93,7 @@ module _ {D : Type 0} (state : D → DiskState) (lawful : (d : D) → IsLawful (
           faults = same ∙ faults;
           bound = bound;
           binds = binds;
+          untouched = weakened still.moments as_given;
           moments = weakened still.moments (λ c here. inr (between c here));
         }
 

@@ -12,10 +12,10 @@ use Rattle.iso_recover.specs.Cause.{IsBlamed, IsTest}
 use Rattle.iso_refusal.specs.declared.open_error.OpenError.{OpenError}
 use Rattle.iso_refusal.specs.Refusal.{refusal}
 use Rattle.script_runner.specs.Between.{ShowsBetween}
-use Rattle.iso_top.specs.Outcome.{IsUnbegun, MayBeUnmade, StartsFrom}
+use Rattle.iso_top.specs.Outcome.{IsUnbegun, IsUntouched, MayBeUnmade, StartsFrom}
 
 -- The core is up and stands for the world that the call begins with, which has no live transaction. Its disk was bound to the
--- name, and each image since then is none of this project or shows that world.
+-- name; each image since then is as it is before a script, and none of this project or one that shows that world.
 pub record HasCore {D : Type 0} (state : D → DiskState) (made : Option Geometry) (name : List ℕ) (disk : D) (core : Core D) : Type 0 where
   pub world : World
   pub stands : StandsFor state core world up
@@ -26,6 +26,7 @@ pub record HasCore {D : Type 0} (state : D → DiskState) (made : Option Geometr
   pub faults : (state (disk_of core)).faults ≡ (state disk).faults
   pub bound : D
   pub binds : (state bound).bound ≡ Some ((state bound).clock, name)
+  pub untouched : LeavesOnly (state bound) (state (disk_of core)) (IsUntouched made (state disk).contents)
   pub moments : LeavesOnly (state bound) (state (disk_of core)) (λ c. MayBeUnmade made c ⊎ ShowsBetween world world c)
 
 -- There is no core, for this reason.

@@ -1,5 +1,5 @@
 -- What a call on an image has done.
-use Rattle.std.specs.Prelude.{◌≡◌, ◌≢◌, ◌⊎◌, ℕ, ◌≤◌, List, ◌++◌, Option, Some, None}
+use Rattle.std.specs.Prelude.{◌≡◌, ◌≢◌, ◌⊎◌, ℕ, List, ◌++◌, Option, Some, None}
 use Rattle.std.specs.Option.{ForSome}
 use Rattle.command_line.specs.declared.task.Task.{Task}
 use Rattle.command_line.specs.declared.task.Task.TheVariants.{New, Run, Recover, Bench}
@@ -114,7 +114,6 @@ pub record HasRecovered (name : List ℕ) (status : ℕ) (disk_old disk_new : Di
   pub bound : IsBoundTo name disk_new
   pub unwritten : SinceBind disk_new (IsUntouched None disk_old.contents)
   pub printed : PrintedDigest status disk_old world.history output_old output_new
-  pub later : disk_old.faults ≤ disk_new.faults
   pub failed : status ≡ 5 → Rose disk_old.faults disk_new.faults
   pub passed : status ≢ 5 → disk_new.faults ≡ disk_old.faults
   pub unread : input_new ≡ input_old

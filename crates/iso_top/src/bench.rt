@@ -16,6 +16,7 @@ use crate::ended::Ended;
 use crate::last_line::put_last;
 use crate::result_line::{bench_line, put_result};
 use crate::script::disk_behind;
+use bench_script::laws::drawn_scripts_are_good;
 use bench_script::{DrawnScript, HeldReplies, tally_of};
 use iso_core::Core;
 use iso_disk::Image;
@@ -64,6 +65,7 @@ pub(crate) fn answer_drawn<I: Image, K: Sink>(
         × HasRun (λ V. Unit {0}) (I.state (disk_of core)) (I.state result.image) drawn rest empty held bench_world end
         × PrintedBench seed count result.status end (I.state (disk_of core)) (K.state output.old) (K.state output.new) }
 {
+    drawn_scripts_are_good();
     let mut input = DrawnScript::new(seed, count);
     let mut held = HeldReplies::new(alloc);
     let mut machine = Machine::over(alloc, core);

@@ -1,11 +1,10 @@
 // What an image holds.
-ghost use Rattle.std.specs.Prelude.{◌≡◌, ◌≢◌, ◌⊎◌, ◌+◌, ◌≤◌, [], ◌∷◌, ◌++◌, codes, decimal, IfOk, IsErrOf};
+ghost use Rattle.std.specs.Prelude.{◌≡◌, ◌≢◌, ◌⊎◌, ◌+◌, ◌≤◌, [], IfOk, IsErrOf};
 ghost use Rattle.fault_count.specs.Count.{Rose};
 ghost use Rattle.iso_core.specs.Core.{StandsFor, disk_of};
 ghost use Rattle.iso_core.specs.Standing.{up};
 ghost use Rattle.iso_disk.specs.Disk.{WritesNothing};
 ghost use Rattle.iso_model.specs.declared.limits.TheConstants.{LAST};
-ghost use Rattle.iso_model.specs.Text.{hex_text};
 ghost use Rattle.iso_model.specs.World.{World};
 ghost use Rattle.iso_top.specs.Outcome.{PrintedDigest};
 ghost use Rattle.iso_top.specs.Prints.{Printed, WasCut, WroteWhole};
@@ -55,7 +54,6 @@ pub(crate) fn tell_last<I: Image, K: Sink>(
     ensures printed { (W : World) → StandsFor I.state core W up → W.base + 1 ≡ W.history.first
         → PrintedDigest result.status (I.state (disk_of core)) W.history (K.state output.old) (K.state output.new) }
     ensures unwritten { WritesNothing (I.state (disk_of core)) (I.state result.image) }
-    ensures later { (I.state (disk_of core)).faults ≤ (I.state result.image).faults }
     ensures failed { result.status ≡ 5 → Rose (I.state (disk_of core)).faults (I.state result.image).faults }
     ensures passed { result.status ≢ 5 → (I.state result.image).faults ≡ (I.state (disk_of core)).faults }
 {

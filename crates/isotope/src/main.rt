@@ -11,7 +11,7 @@ mod tests;
 
 use file_disk::FileDisk;
 use iso_io::{StdSink, StdSource, put_all};
-use iso_top::isotope;
+use iso_top::alone;
 use std::alloc::AllocError;
 use std::process::ExitCode;
 use std::rt::Env;
@@ -42,6 +42,6 @@ fn main(rt: HostRuntime) -> ExitCode {
         return exit_of(8);
     };
     let disk = FileDisk::new(rt, alloc);
-    let ended = isotope(alloc, &words, disk, &mut input, &mut output);
+    let ended = alone(alloc, &words, disk, &mut input, &mut output);
     exit_of(ended.status)
 }

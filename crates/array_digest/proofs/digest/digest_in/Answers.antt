@@ -1,4 +1,4 @@
-use Rattle.std.proofs.Common.{◌≡◌, ◌∙◌, sym, ap, subst, ℕ, List, length, Option, arith}
+use Rattle.std.proofs.Common.{◌≡◌, ◌∙◌, ap, subst, ℕ, List, Option, arith}
 use Rattle.std.specs.Option.{ForSome}
 use Rattle.iso_core.specs.Core.{disk_of}
 use Rattle.iso_core.specs.Standing.{up}

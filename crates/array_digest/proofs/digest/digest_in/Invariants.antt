@@ -1,4 +1,4 @@
-use Rattle.std.proofs.Common.{◌≡◌, ◌≤◌, length}
+use Rattle.std.proofs.Common.{◌≡◌, length}
 use Rattle.iso_core.specs.Calls.{IsTx}
 use Rattle.iso_core.specs.Core.{StandsFor, disk_of}
 use Rattle.iso_core.specs.Standing.{up}

@@ -1,10 +1,13 @@
 use Rattle.std.proofs.Common.{◌≡◌, ◌∙◌, inr, sym, subst, ap, Option, Some, None}
 use Rattle.command_line.specs.declared.task.Task.{Task}
 use Rattle.command_line.specs.Requests.{made_geometry}
+use Rattle.iso_core.specs.Core.{disk_of}
+use Rattle.iso_disk.proofs.Moments.{lasts}
 use Rattle.iso_model.specs.declared.access.Geometry.{Geometry}
 use Rattle.iso_top.specs.Begun.{HasCore}
 use Rattle.iso_top.specs.Outcome.{HasMet}
 use Rattle.iso_top.proofs.Answered.{answered}
+use Rattle.iso_top.proofs.Tasks.{benched, recovered}
 use Rattle.iso_top.proofs.top.meet.Goals as goal
 
 pub returns-in-New : goal.returns-in-New
@@ -34,3 +37,27 @@ returns-in-Run g c =
     let (e, replied, status, run, last) = c.answer_script-in-Run.ensures has.world has.stands has.idle in
     subst (λ (task : Task). HasMet state task name c.answer_script-in-Run.result.status c.args.image new input_old input_new output_old output_new) (sym c.in-Run.is)
     (inr (e, status, answered state None name c.args.image new c.in-Ok.core has input_old input_new output_old replied e run output_new last))
+
+pub returns-in-Recover : goal.returns-in-Recover
+returns-in-Recover g c =
+    let state = g.I.Disk.state in
+    let name = c.args.request.now.image.now in
+    let source = g.S.Source.state c.args.input.now in
+    let old = g.K.Sink.state c.args.output.now in
+    let new = g.K.Sink.state c.tell_last.new.output in
+    let has = subst (λ (made : Option Geometry). HasCore state made name c.args.image c.in-Ok.core) (c.geometry.ensures.value ∙ ap made_geometry c.in-Recover.is) c.in-Ok.ensures.begun in
+    subst (λ (task : Task). HasMet state task name c.tell_last.result.status c.args.image c.tell_last.result.image source source old new) (sym c.in-Recover.is)
+    (inr (recovered state name c.tell_last.result.status c.args.image c.tell_last.result.image c.in-Ok.core source old new has c.tell_last.ensures.printed (lasts (g.met.I.Disk.lawful (disk_of c.in-Ok.core)) has.untouched c.tell_last.ensures.unwritten) c.tell_last.ensures.failed
+      c.tell_last.ensures.passed))
+
+pub returns-in-Bench : goal.returns-in-Bench
+returns-in-Bench g c =
+    let state = g.I.Disk.state in
+    let name = c.args.request.now.image.now in
+    let source = g.S.Source.state c.args.input.now in
+    let old = g.K.Sink.state c.args.output.now in
+    let new = g.K.Sink.state c.answer_drawn.new.output in
+    let has = subst (λ (made : Option Geometry). HasCore state made name c.args.image c.in-Ok.core) (c.geometry.ensures.value ∙ ap made_geometry c.in-Bench.is) c.in-Ok.ensures.begun in
+    let (e, drawn, rest, empty, held, script_is, run, printed) = c.answer_drawn.ensures in
+    subst (λ (task : Task). HasMet state task name c.answer_drawn.result.status c.args.image c.answer_drawn.result.image source source old new) (sym c.in-Bench.is)
+    (inr (benched state name c.in-Bench.seed c.in-Bench.count c.answer_drawn.result.status c.args.image c.answer_drawn.result.image c.in-Ok.core source old new has e drawn rest empty held script_is run printed))

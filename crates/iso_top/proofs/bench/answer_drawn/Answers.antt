@@ -1,0 +1,43 @@
+use Rattle.std.proofs.Common.{◌≡◌, ◌∙◌, ◌++◌, [], false, refl, sym, subst, ap}
+use Rattle.bench_script.specs.Ends.{DrawnState, HeldState, drawn_state, held_state}
+use Rattle.iso_core.specs.Core.{disk_of}
+use Rattle.iso_machine.specs.Standing.{IsMachineOf}
+use Rattle.iso_model.specs.Bench.{bench_text, bench_world}
+use Rattle.iso_model.specs.Script.{after}
+use Rattle.iso_model.specs.World.{World}
+use Rattle.script_runner.specs.Run.{HasRun}
+use Rattle.iso_top.proofs.Benches.{printed_bench}
+use Rattle.iso_top.proofs.Runs.{run_alone, up_on}
+use Rattle.iso_top.proofs.bench.answer_drawn.Goals as goal
+
+pub run-end-requires : goal.run-end-requires
+run-end-requires g c = (bench_world, c.over-machine.ensures.stands bench_world c.requires.world refl)
+
+pub disk_behind-image-requires : goal.disk_behind-image-requires
+disk_behind-image-requires g c =
+    let ran = c.run-end.ensures.ran bench_world (c.over-machine.ensures.stands bench_world c.requires.world refl) in
+    let machine = c.run-end.new.machine in
+    up_on (IsMachineOf g.I.Disk.state machine (after bench_world (ran.done ++ ran.next))) ((V : World) × IsMachineOf g.I.Disk.state machine V)
+    (λ is. (after bench_world (ran.done ++ ran.next), is)) c.run-end.result ran.answered.world
+
+pub returns : goal.returns
+returns g c =
+    let state = g.I.Disk.state in
+    let fresh : DrawnState = record { left = bench_text c.args.count c.args.seed; is_ended = false } in
+    let none : HeldState = record { text = []; faults = 0 } in
+    let rest = drawn_state c.run-end.new.input in
+    let held = held_state c.run-end.new.output in
+    let ran = run_alone _ _ _ (drawn_state c.new-input.result) rest (held_state c.new-held.result) held bench_world c.run-end.result
+    (c.run-end.ensures.ran bench_world (c.over-machine.ensures.stands bench_world c.requires.world refl)) in
+    let from = subst (λ (d : DrawnState). HasRun (λ V. Unit {0}) (state (disk_of c.over-machine.result.core)) (state (disk_of c.run-end.new.machine.core)) (drawn_state d) rest (held_state c.new-held.result) held bench_world c.run-end.result)
+    c.new-input.ensures ran in
+    let run = subst (λ (s : HeldState). HasRun (λ V. Unit {0}) (state (disk_of c.over-machine.result.core)) (state (disk_of c.run-end.new.machine.core)) (drawn_state fresh) rest (held_state s) held bench_world c.run-end.result)
+    c.new-held.ensures from in
+    let old = ap disk_of c.over-machine.ensures.core in
+    let new = c.disk_behind-image.ensures in
+    let whole = subst (λ (d : g.row.I.Denot). HasRun (λ V. Unit {0}) (state (disk_of c.args.core)) (state d) (drawn_state fresh) rest (held_state none) held bench_world c.run-end.result) (sym new)
+    (subst (λ (d : g.row.I.Denot). HasRun (λ V. Unit {0}) (state d) (state (disk_of c.run-end.new.machine.core)) (drawn_state fresh) rest (held_state none) held bench_world c.run-end.result) old run) in
+    (c.run-end.result, drawn_state fresh, rest, held_state none, held, refl, whole,
+      printed_bench c.args.seed c.args.count c.put_summary-status.result (c.drawn_scripts_are_good.ensures c.args.seed c.args.count c.requires.count) (state (disk_of c.args.core)) (state c.disk_behind-image.result) c.run-end.new.input c.run-end.new.output
+      (g.K.Sink.state c.args.output.now) (g.K.Sink.state c.put_summary-status.new.output) c.text.result.now c.text.ensures c.run-end.result whole
+      c.put_summary-status.ensures.done c.put_summary-status.ensures.disk c.put_summary-status.ensures.memory)

@@ -1,0 +1,13 @@
+use Rattle.std.proofs.Common.{◌≡◌, ap, arith}
+use Rattle.iso_core.specs.Core.{disk_of}
+use Rattle.iso_core.specs.Standing.{up}
+use Rattle.iso_core.specs.declared.answers.Stat.{Stat}
+use Rattle.iso_top.proofs.Results.{printed_digest}
+use Rattle.iso_top.proofs.recover.tell_last.Goals as goal
+
+pub returns-clause-printed : goal.returns-clause-printed
+returns-clause-printed g c W stands base =
+    let stat = c.stat-stat.ensures W up stands in
+    printed_digest c.put_digest-status.result (g.I.Disk.state (disk_of c.args.core)) W.history (g.K.Sink.state c.args.output.now) (g.K.Sink.state c.put_digest-status.new.output) c.digest_of-told.result
+    c.stat-stat.result.last c.stat-stat.result.base (ap (λ (s : Stat). s.last) stat) (omega (arith, ap (λ (s : Stat). s.base) stat, base))
+    (c.digest_of-told.ensures.digest W stands) c.put_digest-status.ensures.told c.put_digest-status.ensures.disk c.put_digest-status.ensures.memory
