@@ -1,0 +1,260 @@
+// Each status with its causes, and what stands behind it.
+use crate::tests::{
+    RECOVER, RUN, SMALL, call, call_on, joined, no_disk, one_put_image, small_image,
+};
+use iso_memdisk::{CallKind, MemDisk};
+use std::alloc::{AllocError, Global};
+use std::test::Fail;
+
+const USAGE: &[u8] =
+    b"! usage\nnew IMAGE [--block-size B] [--blocks N] [--log L] [--mode serial|snapshot] [--hash H] [--tree T]\nrun IMAGE\npar IMAGE\nrecover IMAGE\nbench IMAGE SEED COUNT\n";
+
+const ONE_PUT: &[u8] = b"1 begin\n1 put 2 5 abcd\n1 end\n";
+
+const ONE_PUT_REPLIES: &[u8] = b"1 ok begin 0\n1 ok\n1 ok commit 1\n";
+
+#[test]
+fn words_outside_the_grammar(rt: HostRuntime) -> Result<(), Fail> {
+    let alloc = rt.alloc();
+    for line in [
+        "",
+        "isotope",
+        "isotope make t.img",
+        "isotope help",
+        "isotope --help",
+        "isotope new",
+        "isotope new t.img more",
+        "isotope new t.img --block-size 100",
+        "isotope new t.img --block-size 064",
+        "isotope new t.img --blocks 0",
+        "isotope new t.img --blocks 16385",
+        "isotope new t.img --blocks=+4",
+        "isotope new t.img --blocks 4 --blocks 4",
+        "isotope new t.img --blocks",
+        "isotope new t.img --log 63",
+        "isotope new t.img --log 67108865",
+        "isotope new t.img --mode Serial",
+        "isotope new t.img --hash 8 --mode snapshot",
+        "isotope new t.img --seed 8",
+        "isotope run",
+        "isotope run t.img more",
+        "isotope run t.img --mode serial",
+        "isotope recover",
+        "isotope recover t.img more",
+        "isotope bench t.img",
+        "isotope bench t.img 0",
+        "isotope bench t.img 0 100001",
+        "isotope bench t.img 18446744073709551616 1",
+        "isotope bench t.img 00 1",
+    ] {
+        let outcome = call(alloc, line, ONE_PUT)?;
+        assert_eq!(rt; outcome.status, 2, "{line}");
+        assert_eq!(rt; outcome.output.as_slice(), USAGE);
+        // it was not bound
+        assert_eq!(rt; outcome.disk.calls(), 0);
+    }
+    Ok(())
+}
+
+#[test]
+fn options_stand_anywhere_and_in_two_spellings(rt: HostRuntime) -> Result<(), Fail> {
+    let alloc = rt.alloc();
+    let expected = small_image(alloc)?;
+    for line in [
+        "isotope new --blocks 4 t.img --block-size=64 --log 256",
+        "isotope new --log=256 --block-size 64 --blocks=4 --mode=serial t.img",
+        "isotope new --blocks=4 --log=256 --mode serial --block-size 64 -- t.img",
+    ] {
+        let outcome = call(alloc, line, b"")?;
+        assert_eq!(rt; outcome.status, 0);
+        let left = outcome.disk.crash(alloc, 0)?;
+        assert!(rt; left.as_slice() == expected.as_slice());
+    }
+    Ok(())
+}
+
+/// Whether a new small image answers a script of one bad line so.
+fn is_bad(alloc: Global, script: &[u8], last: &[u8]) -> Result<bool, AllocError> {
+    let outcome = call(alloc, SMALL, script)?;
+    Ok(outcome.status == 3 && outcome.output.as_slice() == last)
+}
+
+#[test]
+fn a_bad_line_has_the_cause_of_its_first_failing_test(rt: HostRuntime) -> Result<(), Fail> {
+    let alloc = rt.alloc();
+    for (script, cause) in [
+        (b"65 begin".as_slice(), b'1'),
+        (b"01 begin", b'1'),
+        (b"0 begin", b'1'),
+        (b"begin", b'1'),
+        (b" # x", b'1'),
+        (b"1", b'2'),
+        (b"1 jump", b'2'),
+        (b"1 Begin", b'2'),
+        (b"1 jump 00 A", b'2'),
+        (b"1 begin serial x", b'3'),
+        (b"1 put 0 0", b'3'),
+        (b"1 put x 0 a 1", b'3'),
+        (b"1 end 1", b'3'),
+        (b"1 put 00 0 aa", b'4'),
+        (b"1 put x 0 a", b'4'),
+        (b"1 put 4294967296 0 aa", b'4'),
+        (b"1 get 0 -1 1", b'4'),
+        (b"1 put 0 0 a", b'5'),
+        (b"1 put 0 0 ag", b'5'),
+        (b"1 fill 0 -", b'5'),
+        (b"1 release A", b'6'),
+        (b"1 takeover abcdefghijklmnopq", b'6'),
+        (b"1 begin\r", b'8'),
+        (b"1\tbegin", b'8'),
+        (b"x\x7f", b'8'),
+        (b"0 \x80", b'8'),
+    ] {
+        let mut last = b"! bad line 1 cause ".to_vec(alloc)?;
+        last.push(cause)?;
+        last.push(b'\n')?;
+        assert!(rt; is_bad(alloc, script, &last)?, "{cause}");
+    }
+    assert!(rt; is_bad(alloc, b"1 begin x\n1 jump\n", b"! bad line 1 cause 10\n")?);
+    Ok(())
+}
+
+#[test]
+fn a_line_may_have_16384_bytes(rt: HostRuntime) -> Result<(), Fail> {
+    let alloc = rt.alloc();
+    // blanks, a comment, and the spaces behind an operation
+    for front in [b"".as_slice(), b"#", b"1 begin"] {
+        let mut script = front.to_vec(alloc)?;
+        script.resize(16_384, b' ')?;
+        let whole = script.clone()?;
+        script.push(b' ')?;
+        let longer = joined(alloc, &script, b"\n1 jump\n")?;
+        assert!(rt; is_bad(alloc, &script, b"! bad line 1 cause 7\n")?);
+        assert!(rt; is_bad(alloc, &longer, b"! bad line 1 cause 7\n")?);
+        assert_eq!(rt; call(alloc, SMALL, &whole)?.status, 0);
+    }
+    Ok(())
+}
+
+#[test]
+fn a_bad_line_behind_a_reply(rt: HostRuntime) -> Result<(), Fail> {
+    let alloc = rt.alloc();
+    let replies = b"1 ok begin 0\n! bad line 2 cause 2\n";
+    assert!(rt; is_bad(alloc, b"1 begin\n1 jump", replies)?);
+    assert!(rt; is_bad(alloc, b"1 begin\n1 jump\n1 end\n", replies)?);
+    // lines that are skipped are counted
+    let counted = b"1 ok begin 0\n! bad line 4 cause 5\n";
+    assert!(rt; is_bad(alloc, b"# x\n\n1 begin\n1 put 0 0 a", counted)?);
+    Ok(())
+}
+
+#[test]
+fn commits_stand_that_were_made_before_a_bad_line(rt: HostRuntime) -> Result<(), Fail> {
+    let alloc = rt.alloc();
+    let script = joined(alloc, ONE_PUT, b"1 begin\n1 put 0 0 aa\n1 jump\n1 end\n")?;
+    let outcome = call(alloc, SMALL, &script)?;
+    let replies = joined(
+        alloc,
+        ONE_PUT_REPLIES,
+        b"1 ok begin 1\n1 ok\n! bad line 6 cause 2\n",
+    )?;
+    assert_eq!(rt; outcome.status, 3);
+    assert_eq!(rt; outcome.output.as_slice(), replies.as_slice());
+    let expected = one_put_image(alloc)?;
+    for pick in 0..3 {
+        let left = outcome.disk.crash(alloc, pick)?;
+        assert!(rt; left.as_slice() == expected.as_slice());
+    }
+    Ok(())
+}
+
+#[test]
+fn a_bind_that_fails_ends_the_call(rt: HostRuntime) -> Result<(), Fail> {
+    let alloc = rt.alloc();
+    for line in [SMALL, RUN, RECOVER, "isotope bench t.img 0 1"] {
+        let mut disk = MemDisk::new(alloc, small_image(alloc)?);
+        disk.fail_kind(CallKind::Bind, 1);
+        let outcome = call_on(alloc, line, disk, ONE_PUT)?;
+        assert_eq!(rt; outcome.status, 5);
+        assert_eq!(rt; outcome.output.as_slice(), b"! disk fault\n".as_slice());
+        assert_eq!(rt; outcome.disk.calls(), 1);
+    }
+    Ok(())
+}
+
+#[test]
+fn a_formatting_that_fails_ends_the_call(rt: HostRuntime) -> Result<(), Fail> {
+    let alloc = rt.alloc();
+    for number in 2..7 {
+        let mut disk = no_disk(alloc);
+        disk.fail(number);
+        let outcome = call_on(alloc, SMALL, disk, ONE_PUT)?;
+        assert_eq!(rt; outcome.status, 5);
+        assert_eq!(rt; outcome.output.as_slice(), b"! disk fault\n".as_slice());
+        assert_eq!(rt; outcome.disk.calls(), number);
+    }
+    Ok(())
+}
+
+#[test]
+fn an_opening_that_fails_ends_the_call(rt: HostRuntime) -> Result<(), Fail> {
+    let alloc = rt.alloc();
+    let image = one_put_image(alloc)?;
+    let opened = call_on(alloc, RUN, MemDisk::new(alloc, image.clone()?), b"")?;
+    let calls = opened.disk.calls();
+    for line in [RUN, RECOVER] {
+        for number in 1..calls.saturating_add(1) {
+            let mut disk = MemDisk::new(alloc, image.clone()?);
+            disk.fail(number);
+            let outcome = call_on(alloc, line, disk, ONE_PUT)?;
+            assert_eq!(rt; outcome.status, 5);
+            assert_eq!(rt; outcome.output.as_slice(), b"! disk fault\n".as_slice());
+            let left = outcome.disk.crash(alloc, 1)?;
+            assert!(rt; left.as_slice() == image.as_slice());
+        }
+    }
+    Ok(())
+}
+
+#[test]
+fn a_read_that_fails_ends_the_run(rt: HostRuntime) -> Result<(), Fail> {
+    let alloc = rt.alloc();
+    let image = one_put_image(alloc)?;
+    let opened = call_on(
+        alloc,
+        RUN,
+        MemDisk::new(alloc, image.clone()?),
+        b"1 begin\n",
+    )?;
+    let mut disk = MemDisk::new(alloc, image.clone()?);
+    disk.fail(opened.disk.calls().saturating_add(1));
+    let outcome = call_on(alloc, RUN, disk, b"1 begin\n1 read 2\n1 read 2\n")?;
+    assert_eq!(rt; outcome.status, 5);
+    let replies = b"1 ok begin 1\n! disk fault\n".as_slice();
+    assert_eq!(rt; outcome.output.as_slice(), replies);
+    for pick in 0..6 {
+        let left = outcome.disk.crash(alloc, pick)?;
+        assert!(rt; left.as_slice() == image.as_slice());
+    }
+    Ok(())
+}
+
+#[test]
+fn a_commit_that_fails_ends_the_run(rt: HostRuntime) -> Result<(), Fail> {
+    let alloc = rt.alloc();
+    let mut disk = MemDisk::new(alloc, small_image(alloc)?);
+    disk.fail_kind(CallKind::Write, 3);
+    let script = b"1 begin\n1 put 0 0 aa\n1 end\n1 begin\n1 put 0 1 bb\n1 end\n1 begin\n";
+    let outcome = call_on(alloc, RUN, disk, script)?;
+    let replies =
+        b"1 ok begin 0\n1 ok\n1 ok commit 1\n1 ok begin 1\n1 ok\n! disk fault\n".as_slice();
+    assert_eq!(rt; outcome.status, 5);
+    assert_eq!(rt; outcome.output.as_slice(), replies);
+    let stat = b"1 ok last 1 base 0 trim 0 live 0 used 29 versions 1\n".as_slice();
+    for pick in 0..6 {
+        let left = outcome.disk.crash(alloc, pick)?;
+        let again = call_on(alloc, RUN, MemDisk::new(alloc, left), b"1 stat\n")?;
+        assert_eq!(rt; again.output.as_slice(), stat);
+    }
+    Ok(())
+}

@@ -1,0 +1,253 @@
+// Sources and sinks that fail, and what stands behind them.
+use crate::tests::{
+    Outcome, RECOVER, RUN, SMALL, call_over, no_disk, one_put_image, small_image, stat_of,
+};
+use iso_io::{MemSink, MemSource};
+use iso_memdisk::{CallKind, MemDisk};
+use std::alloc::{AllocError, Global};
+use std::test::Fail;
+
+const SCRIPT: &[u8] =
+    b"1 begin\n2 begin\n1 put 0 0 aa\n2 put 0 1 bb\n1 end\n2 end\n1 begin\n1 get 0 0 2\n1 end\n";
+
+const REPLIES: &[u8] =
+    b"1 ok begin 0\n2 ok begin 0\n1 ok\n2 ok\n1 ok commit 1\n2 ok commit 2\n1 ok begin 2\n1 ok aabb\n1 ok read-only\n";
+
+/// A source that fails at one call and gives pieces of this length.
+fn failing_source(
+    alloc: Global,
+    input: &[u8],
+    number: u64,
+    piece: usize,
+) -> Result<MemSource, AllocError>
+    requires { 0 < piece }
+{
+    let failing = [number].to_vec(alloc)?;
+    Ok(MemSource::in_pieces(input.to_vec(alloc)?, failing, piece))
+}
+
+/// A sink that fails at one call.
+fn failing_sink(alloc: Global, number: u64) -> Result<MemSink, AllocError> {
+    let failing = [number].to_vec(alloc)?;
+    Ok(MemSink::new(alloc, failing))
+}
+
+/// A run of a script on a new image, with the sink.
+fn run_into(alloc: Global, input: &[u8], sink: MemSink) -> Result<Outcome, AllocError> {
+    let source = MemSource::new(input.to_vec(alloc)?, Vec::new(alloc));
+    call_over(alloc, SMALL, no_disk(alloc), source, sink)
+}
+
+#[test]
+fn a_source_that_fails_at_its_second_call(rt: HostRuntime) -> Result<(), Fail> {
+    let alloc = rt.alloc();
+    let source = failing_source(alloc, b"1 begin\n", 2, 100)?;
+    let sink = MemSink::new(alloc, Vec::new(alloc));
+    let outcome = call_over(alloc, SMALL, no_disk(alloc), source, sink)?;
+    assert_eq!(rt; outcome.status, 6);
+    let replies = b"1 ok begin 0\n! input fault\n".as_slice();
+    assert_eq!(rt; outcome.output.as_slice(), replies);
+    Ok(())
+}
+
+#[test]
+fn a_source_that_fails_leaves_the_replies_to_whole_lines(rt: HostRuntime) -> Result<(), Fail> {
+    let alloc = rt.alloc();
+    // pieces of 16 bytes, of which five are the script
+    for (number, replies) in [
+        (1, b"".as_slice()),
+        (2, b"1 ok begin 0\n2 ok begin 0\n"),
+        (3, b"1 ok begin 0\n2 ok begin 0\n1 ok\n"),
+        (
+            4,
+            b"1 ok begin 0\n2 ok begin 0\n1 ok\n2 ok\n1 ok commit 1\n",
+        ),
+        (
+            5,
+            b"1 ok begin 0\n2 ok begin 0\n1 ok\n2 ok\n1 ok commit 1\n2 ok commit 2\n1 ok begin 2\n",
+        ),
+        (6, REPLIES),
+    ] {
+        let source = failing_source(alloc, SCRIPT, number, 16)?;
+        let sink = MemSink::new(alloc, Vec::new(alloc));
+        let outcome = call_over(alloc, SMALL, no_disk(alloc), source, sink)?;
+        assert_eq!(rt; outcome.status, 6);
+        assert!(rt; outcome.output.starts_with(replies));
+        assert!(rt; outcome.output.ends_with(b"! input fault\n"));
+        assert_eq!(rt; outcome.output.len(), replies.len().saturating_add(14));
+    }
+    let source = failing_source(alloc, SCRIPT, 7, 16)?;
+    let sink = MemSink::new(alloc, Vec::new(alloc));
+    let outcome = call_over(alloc, SMALL, no_disk(alloc), source, sink)?;
+    assert_eq!(rt; outcome.status, 0);
+    assert_eq!(rt; outcome.output.as_slice(), REPLIES);
+    Ok(())
+}
+
+#[test]
+fn commits_stand_that_were_made_before_a_source_failed(rt: HostRuntime) -> Result<(), Fail> {
+    let alloc = rt.alloc();
+    let source = failing_source(alloc, SCRIPT, 4, 16)?;
+    let sink = MemSink::new(alloc, Vec::new(alloc));
+    let outcome = call_over(alloc, SMALL, no_disk(alloc), source, sink)?;
+    let stat = b"1 ok last 1 base 0 trim 0 live 0 used 29 versions 1\n".as_slice();
+    for pick in 0..3 {
+        let again = stat_of(alloc, outcome.disk.crash(alloc, pick)?)?;
+        assert_eq!(rt; again.as_slice(), stat);
+    }
+    Ok(())
+}
+
+#[test]
+fn the_pieces_of_an_input_do_not_matter(rt: HostRuntime) -> Result<(), Fail> {
+    let alloc = rt.alloc();
+    for piece in [1, 2, 7, 8, 9, 50] {
+        let source = failing_source(alloc, SCRIPT, 1000, piece)?;
+        let sink = MemSink::new(alloc, Vec::new(alloc));
+        let outcome = call_over(alloc, SMALL, no_disk(alloc), source, sink)?;
+        assert_eq!(rt; outcome.status, 0);
+        assert_eq!(rt; outcome.output.as_slice(), REPLIES);
+    }
+    Ok(())
+}
+
+#[test]
+fn each_reply_is_one_put(rt: HostRuntime) -> Result<(), Fail> {
+    let alloc = rt.alloc();
+    // where the n-th put fails, the output is the first n - 1 replies
+    for (number, length) in [
+        (1, 0),
+        (2, 13),
+        (3, 26),
+        (4, 31),
+        (5, 36),
+        (6, 50),
+        (7, 64),
+        (8, 77),
+        (9, 87),
+    ] {
+        let outcome = run_into(alloc, SCRIPT, failing_sink(alloc, number)?)?;
+        assert_eq!(rt; outcome.status, 7);
+        assert_eq!(rt; outcome.output.len(), length);
+        assert!(rt; REPLIES.starts_with(&outcome.output));
+    }
+    let outcome = run_into(alloc, SCRIPT, failing_sink(alloc, 10)?)?;
+    assert_eq!(rt; outcome.status, 0);
+    assert_eq!(rt; outcome.output.as_slice(), REPLIES);
+    Ok(())
+}
+
+#[test]
+fn a_commit_stands_whose_reply_was_not_put(rt: HostRuntime) -> Result<(), Fail> {
+    let alloc = rt.alloc();
+    let outcome = run_into(alloc, SCRIPT, failing_sink(alloc, 6)?)?;
+    assert_eq!(rt; outcome.status, 7);
+    let stat = b"1 ok last 2 base 0 trim 0 live 0 used 58 versions 2\n".as_slice();
+    for pick in 0..3 {
+        let again = stat_of(alloc, outcome.disk.crash(alloc, pick)?)?;
+        assert_eq!(rt; again.as_slice(), stat);
+    }
+    Ok(())
+}
+
+#[test]
+fn a_sink_that_takes_little_gets_all(rt: HostRuntime) -> Result<(), Fail> {
+    let alloc = rt.alloc();
+    for piece in [1, 3, 64] {
+        let sink = MemSink::in_pieces(alloc, Vec::new(alloc), piece);
+        let outcome = run_into(alloc, SCRIPT, sink)?;
+        assert_eq!(rt; outcome.status, 0);
+        assert_eq!(rt; outcome.output.as_slice(), REPLIES);
+    }
+    Ok(())
+}
+
+#[test]
+fn a_sink_that_fails_within_a_reply_has_its_front(rt: HostRuntime) -> Result<(), Fail> {
+    let alloc = rt.alloc();
+    // three puts of five bytes are the first reply
+    for (number, front) in [
+        (3, b"1 ok begin".as_slice()),
+        (4, b"1 ok begin 0\n"),
+        (5, b"1 ok begin 0\n2 ok "),
+    ] {
+        let failing = [number].to_vec(alloc)?;
+        let outcome = run_into(alloc, SCRIPT, MemSink::in_pieces(alloc, failing, 5))?;
+        assert_eq!(rt; outcome.status, 7);
+        assert_eq!(rt; outcome.output.as_slice(), front);
+    }
+    Ok(())
+}
+
+#[test]
+fn a_sink_that_takes_nothing_ends_the_run(rt: HostRuntime) -> Result<(), Fail> {
+    let alloc = rt.alloc();
+    for (input, status) in [(SCRIPT, 7), (b"", 0), (b"1 jump", 3), (b"# x\n", 0)] {
+        let sink = MemSink::in_pieces(alloc, Vec::new(alloc), 0);
+        let outcome = run_into(alloc, input, sink)?;
+        assert_eq!(rt; outcome.status, status);
+        assert_eq!(rt; outcome.output.len(), 0);
+    }
+    Ok(())
+}
+
+/// A call whose source and sink fail at once, on a small image whose disk fails at the call of this number.
+fn call_with_all_failing(alloc: Global, line: &str, number: u64) -> Result<Outcome, AllocError> {
+    let source = failing_source(alloc, b"1 begin\n", 1, 100)?;
+    let mut disk = MemDisk::new(alloc, small_image(alloc)?);
+    disk.fail(number);
+    call_over(alloc, line, disk, source, failing_sink(alloc, 1)?)
+}
+
+#[test]
+fn a_status_stays_where_its_line_is_not_put(rt: HostRuntime) -> Result<(), Fail> {
+    let alloc = rt.alloc();
+    for (line, number, status) in [
+        ("isotope make", 1, 2),
+        (RUN, 1, 5),
+        (RECOVER, 3, 5),
+        (SMALL, 6, 5),
+        (SMALL, 7, 6),
+        (RUN, 99, 6),
+    ] {
+        let outcome = call_with_all_failing(alloc, line, number)?;
+        assert_eq!(rt; outcome.status, status, "{line}");
+        assert_eq!(rt; outcome.output.len(), 0);
+    }
+    let source = MemSource::new(Vec::new(alloc), Vec::new(alloc));
+    let disk = MemDisk::new(alloc, Vec::new(alloc));
+    let outcome = call_over(alloc, RUN, disk, source, failing_sink(alloc, 1)?)?;
+    assert_eq!(rt; outcome.status, 4);
+    assert_eq!(rt; outcome.output.len(), 0);
+    Ok(())
+}
+
+/// Whether a run on an image with one commit makes one that many calls of a kind, and no more: it fails at the last of
+/// them, and does not fail where the next is to.
+fn makes(alloc: Global, input: &[u8], kind: CallKind, count: u64) -> Result<bool, AllocError> {
+    let mut passed = true;
+    for (number, status) in [(count, 5), (count.saturating_add(1), 0)] {
+        let mut disk = MemDisk::new(alloc, one_put_image(alloc)?);
+        disk.fail_kind(kind, number);
+        let source = MemSource::new(input.to_vec(alloc)?, Vec::new(alloc));
+        let sink = MemSink::new(alloc, Vec::new(alloc));
+        let outcome = call_over(alloc, RUN, disk, source, sink)?;
+        passed = passed && outcome.status == status;
+    }
+    Ok(passed)
+}
+
+#[test]
+fn a_commit_is_two_writes_and_two_syncs(rt: HostRuntime) -> Result<(), Fail> {
+    let alloc = rt.alloc();
+    // opening makes one sync and no write
+    assert!(rt; makes(alloc, b"1 begin\n1 get 2 5 1\n1 end\n", CallKind::Sync, 1)?);
+    let one = b"1 begin\n1 fill 2 11\n1 put 0 0 22\n1 put 0 9 33\n1 end\n";
+    assert!(rt; makes(alloc, one, CallKind::Write, 2)?);
+    assert!(rt; makes(alloc, one, CallKind::Sync, 3)?);
+    let two =
+        b"1 begin\n2 begin\n1 put 0 0 22\n2 put 0 1 33\n1 end\n2 end\n1 begin\n1 read 0\n1 end\n";
+    assert!(rt; makes(alloc, two, CallKind::Write, 4)?);
+    assert!(rt; makes(alloc, two, CallKind::Sync, 5)?);
+    Ok(())
+}
