@@ -182,6 +182,7 @@ impl<D: Disk> Core<D> {
         ensures down { (W : World) (lost : List Commit) → StandsFor D.state self.old W (down lost) → (result ≡ Err CoreError.Down) × (self.new ≡ self.old) }
         ensures lost { (W : World) → StandsFor D.state self.old W up → IsErrOf result CoreError.Disk → StandsFor D.state self.new W (down []) }
         ensures moments { (W : World) → StandsFor D.state self.old W up → LeavesOnly (D.state (disk_of self.old)) (D.state (disk_of self.new)) (ShowsLast W) }
+        ensures worn { IfErr result (λ e. e ≢ CoreError.Disk → e ≢ CoreError.Memory → disk_of self.new ≡ disk_of self.old) }
         ensures told { OnOk result (StaysTold (D.state (disk_of self.old)) (D.state (disk_of self.new))) }
         ensures cause { BlamesDisk (D.state (disk_of self.old)).faults (D.state (disk_of self.new)).faults result }
     {
@@ -202,6 +203,7 @@ impl<D: Disk> Core<D> {
         ensures down { (W : World) (lost : List Commit) → StandsFor D.state self.old W (down lost) → (result ≡ Err CoreError.Down) × (self.new ≡ self.old) }
         ensures lost { (W : World) → StandsFor D.state self.old W up → IsErrOf result CoreError.Disk → StandsFor D.state self.new W (down []) }
         ensures moments { (W : World) → StandsFor D.state self.old W up → LeavesOnly (D.state (disk_of self.old)) (D.state (disk_of self.new)) (ShowsLast W) }
+        ensures worn { IfErr result (λ e. e ≢ CoreError.Disk → e ≢ CoreError.Memory → disk_of self.new ≡ disk_of self.old) }
         ensures told { OnOk result (StaysTold (D.state (disk_of self.old)) (D.state (disk_of self.new))) }
         ensures cause { BlamesDisk (D.state (disk_of self.old)).faults (D.state (disk_of self.new)).faults result }
     {

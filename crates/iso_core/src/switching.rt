@@ -33,6 +33,7 @@ pub(crate) fn switch_half<D: Disk>(
     ensures same { (W : World) → AreOf (D.state disk.old) kept.old W up → IsForm W form → IfErr result (λ e. e ≢ CoreError.Disk → AreOf (D.state disk.new) kept.new W up) }
     ensures lost { (W : World) → AreOf (D.state disk.old) kept.old W up → IsForm W form → IsErrOf result CoreError.Disk → AreOf (D.state disk.new) kept.new W (down []) }
     ensures moments { (W : World) → AreOf (D.state disk.old) kept.old W up → IsForm W form → LeavesOnly (D.state disk.old) (D.state disk.new) (ShowsLast W) }
+    ensures worn { IfErr result (λ e. e ≢ CoreError.Disk → e ≢ CoreError.Memory → disk.new ≡ disk.old) }
     ensures told { OnOk result (StaysTold (D.state disk.old) (D.state disk.new)) }
     ensures cause { BlamesDisk (D.state disk.old).faults (D.state disk.new).faults result }
 {

@@ -13,7 +13,7 @@ use Rattle.iso_core.specs.Calls as core
 use Rattle.iso_core.specs.Calls.{Refuses}
 use Rattle.script_runner.specs.declared.machine.Stop.TheVariants as stop
 use Rattle.script_runner.specs.Between.{IsBeforeOrAfter}
-use Rattle.iso_machine.specs.Answering.{Answers, answer_to, stop_of}
+use Rattle.iso_machine.specs.Answering.{Answers, answer_to}
 use Rattle.iso_machine.proofs.Accesses.{same_but_shown}
 
 -- a reply that stands for an error of a core
@@ -106,41 +106,6 @@ refused_still stands d laws W here given e is keeps same = refused stands d d W 
   moments = started laws (λ c image. inl (here c image));
   cause = record { later = omega arith; failed = λ disk. absurd (not_disk given.0 e is (cc disk)); passed = tt; other = λ other. refl };
 })
-
--- a call of the core that is answered by no reply
-pub stopped : (stands : World → Type 0) (old new : DiskState) (W : World) (given : Reply × World) (e : CoreError) → (e ≡ error.Disk) ⊎ Refuses given.0 e → LeavesOnly old new (IsBeforeOrAfter W given.1)
-    → core.BlamesDisk {T = Unit {0}} old.faults new.faults (Err e) → Answers stands old new W given (Err (stop_of e))
-stopped stands old new W given e is moments cause = go e is cause
-  where
-    memory : (e : CoreError) → e ≢ error.Disk → core.BlamesDisk {T = Unit {0}} old.faults new.faults (Err e) → Answers stands old new W given (Err stop.Memory)
-    memory e other cause = record {
-      reply = tt;
-      but_shown = tt;
-      told = tt;
-      world = tt;
-      moments = moments;
-      up = λ e. absurd (cc e);
-      cause = record { later = cause.later; failed = λ e. absurd (cc e); passed = tt; memory = λ e. cause.other other };
-    }
-
-    go : (e : CoreError) → (e ≡ error.Disk) ⊎ Refuses given.0 e → core.BlamesDisk {T = Unit {0}} old.faults new.faults (Err e) → Answers stands old new W given (Err (stop_of e))
-    go error.Down (inl is) cause = absurd (cc is)
-    go error.Down (inr (inl is)) cause = absurd (cc is)
-    go error.Down (inr (inr is)) cause = absurd (cc is)
-    go error.Disk is cause = record {
-      reply = tt;
-      but_shown = tt;
-      told = tt;
-      world = tt;
-      moments = moments;
-      up = λ e. absurd (cc e);
-      cause = record { later = cause.later; failed = λ e. cause.failed refl; passed = tt; memory = λ e. absurd (cc e) };
-    }
-    go error.Memory is cause = memory error.Memory (λ e. cc e) cause
-    go error.TooManyTx is cause = memory error.TooManyTx (λ e. cc e) cause
-    go (error.LogFull need free) is cause = memory (error.LogFull need free) (λ e. cc e) cause
-    go (error.Worn at) is cause = memory (error.Worn at) (λ e. cc e) cause
-    go error.ModeFixed is cause = memory error.ModeFixed (λ e. cc e) cause
 
 -- an error is none of what the call answers otherwise
 pub blames : {T : Type 0} (before now : ℕ) (e : CoreError) → core.BlamesDisk {T = T} before now (Err e) → core.BlamesDisk {T = Unit {0}} before now (Err e)

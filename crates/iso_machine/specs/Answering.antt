@@ -32,9 +32,3 @@ answer_to error.Disk = Err stop.Disk
 answer_to error.Memory = Err stop.Memory
 answer_to (error.Worn at) = Ok reply.Worn
 answer_to error.ModeFixed = Ok reply.ModeFixed
-
--- why there is no reply to an error of a core that is answered by none
-abbrev pub stop_of : CoreError → Stop
-stop_of error.Down = stop.Down
-stop_of error.Disk = stop.Disk
-stop_of e = stop.Memory

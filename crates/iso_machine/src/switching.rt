@@ -1,30 +1,13 @@
 // The base of the image, moved to the floor.
-ghost use Rattle.std.specs.Prelude.{◌≡◌};
 ghost use Rattle.iso_model.specs.declared.script.Op.TheVariants.{Compact, Upgrade};
 ghost use Rattle.iso_model.specs.Step.{step};
 ghost use Rattle.iso_model.specs.World.{World};
-ghost use Rattle.iso_machine.specs.Answering.{stop_of};
 
 use crate::machine::Machine;
+use crate::refusing::refused;
 use iso_disk::Disk;
-use iso_model::{CoreError, Reply};
+use iso_model::Reply;
 use script_runner::Stop;
-
-/// Why a switch has no reply. One that is worn has none either: a core does not promise that its disk still tells its bytes
-/// then, as a reply has to.
-fn stopped(error: CoreError) -> Stop
-    ensures { result ≡ stop_of error }
-{
-    match error {
-        CoreError::Down => Stop::Down,
-        CoreError::Disk => Stop::Disk,
-        CoreError::Memory
-        | CoreError::Worn { .. }
-        | CoreError::TooManyTx
-        | CoreError::LogFull { .. }
-        | CoreError::ModeFixed => Stop::Memory,
-    }
-}
 
 impl<D: Disk> Machine<D> {
     ghost use Rattle.iso_core.specs.Core.{disk_of};
@@ -39,7 +22,7 @@ impl<D: Disk> Machine<D> {
     {
         match self.core.compact() {
             Ok(floor) => Ok(Reply::Compacted(floor)),
-            Err(error) => Err(stopped(error)),
+            Err(error) => refused(error),
         }
     }
 
@@ -51,7 +34,7 @@ impl<D: Disk> Machine<D> {
     {
         match self.core.upgrade() {
             Ok(floor) => Ok(Reply::Upgraded(floor)),
-            Err(error) => Err(stopped(error)),
+            Err(error) => refused(error),
         }
     }
 }

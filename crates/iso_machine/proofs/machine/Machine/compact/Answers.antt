@@ -1,4 +1,4 @@
-use Rattle.std.proofs.Common.{◌≡◌, ◌∙◌, inl, sym, ap, subst, Ok, Err}
+use Rattle.std.proofs.Common.{◌≡◌, ◌∙◌, inl, sym, ap, subst, Result, Ok}
 use Rattle.iso_disk.proofs.Moments.{weakened}
 use Rattle.iso_model.specs.declared.script.Op.TheVariants as op
 use Rattle.iso_model.specs.declared.script.Reply.{Reply}
@@ -7,11 +7,10 @@ use Rattle.iso_model.specs.Step.{after_switch, step, switch_step}
 use Rattle.iso_model.specs.World.{World, floor}
 use Rattle.iso_core.specs.Core.{disk_of}
 use Rattle.script_runner.specs.declared.machine.Stop.{Stop}
-use Rattle.iso_machine.specs.Answering.{Answers, stop_of}
+use Rattle.iso_machine.specs.Answering.{Answers, answer_to}
 use Rattle.iso_machine.specs.Standing.{AreOf}
 use Rattle.iso_machine.proofs.Quiet.{answered}
-use Rattle.iso_machine.proofs.Refusals.{blames, stopped}
-use Rattle.iso_machine.proofs.Switches.{compact_is, switched}
+use Rattle.iso_machine.proofs.Switches.{compact_is, switch_refused, switched}
 use Rattle.iso_machine.proofs.machine.Machine.compact.Goals as goal
 
 pub returns-in-Ok : goal.returns-in-Ok
@@ -31,10 +30,8 @@ returns-in-Err g c W of =
     let m = c.args.self.now in
     let state = g.D.Disk.state in
     let new = c.compact.new.self in
-    let e = c.in-Err.error in
-    let given : Reply × World = switch_step W (W.geometry.form) (reply.Compacted (floor W)) in
-    let answer : Answers (AreOf state new m.live.items) (state (disk_of m.core)) (state (disk_of new)) W given (Err (stop_of e)) =
-    stopped (AreOf state new m.live.items) (state (disk_of m.core)) (state (disk_of new)) W given e (c.in-Err.ensures.refused W (reply.Compacted (floor W)) of.core_of)
-    (weakened (c.in-Err.ensures.moments W of.core_of) (λ image shown. inl shown)) (blames (state (disk_of m.core)).faults (state (disk_of new)).faults e c.in-Err.ensures.cause) in
-    subst (λ (s : Stop). Answers (AreOf state new m.live.items) (state (disk_of m.core)) (state (disk_of new)) W (step W 1 op.Compact) (Err s)) (sym c.stopped.ensures)
-    (subst (λ (given : Reply × World). Answers (AreOf state new m.live.items) (state (disk_of m.core)) (state (disk_of new)) W given (Err (stop_of e))) (sym (compact_is W 1)) answer)
+    let f = c.in-Err.ensures in
+    let answer = switch_refused state m.core new m.live.items W (W.geometry.form) (reply.Compacted (floor W)) c.in-Err.error of (λ none. none) (f.refused W (reply.Compacted (floor W)) of.core_of) (f.same W of.core_of)
+        f.worn (f.moments W of.core_of) f.cause in
+    subst (λ (r : Result Reply Stop). Answers (AreOf state new m.live.items) (state (disk_of m.core)) (state (disk_of new)) W (step W 1 op.Compact) r) (sym c.refused.ensures)
+    (subst (λ (given : Reply × World). Answers (AreOf state new m.live.items) (state (disk_of m.core)) (state (disk_of new)) W given (answer_to c.in-Err.error)) (sym (compact_is W 1)) answer)
