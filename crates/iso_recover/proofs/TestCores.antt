@@ -27,6 +27,7 @@ use Rattle.iso_model.specs.World.{World, Live, floor_of, unattached}
 use Rattle.iso_model.specs.Worlds.{IsLive, IsWorld}
 use Rattle.tx_table.specs.Live.{at_work}
 use Rattle.tx_table.specs.Work.{Doing}
+use Rattle.iso_recover.specs.TestCores.{IsDown}
 
 -- the transaction that began, with what it did
 abbrev pub working : World → Mode → List Access → Live
@@ -168,3 +169,7 @@ module _ {D : Type 0} (state : D → DiskState) (core : Core D) (W : World) (of 
         },
         is_checked W mode accesses at begin,
       )
+
+-- a core that is down and that a call left as it was is down
+pub stays_down : {D : Type 0} (state : D → DiskState) (old new : Core D) → new ≡ old → IsDown state old → IsDown state new
+stays_down state old new same is = subst (IsDown state) (sym same) is

@@ -2,7 +2,7 @@
 use Rattle.std.specs.Prelude.{◌≡◌, List, []}
 use Rattle.iso_core.specs.declared.core_itself.Core.{Core}
 use Rattle.iso_core.specs.Core.{StandsFor}
-use Rattle.iso_core.specs.Standing.{up}
+use Rattle.iso_core.specs.Standing.{up, down}
 use Rattle.iso_disk.specs.Disk.{DiskState}
 use Rattle.iso_model.specs.World.{World}
 
@@ -16,3 +16,8 @@ pub record IsIdle {D : Type 0} (state : D → DiskState) (core : Core D) : Type 
   pub world : World
   pub stands : StandsFor state core world up
   pub live : world.live ≡ []
+
+-- or a fault of the disk set the core down, and no commit was lost
+pub record IsDown {D : Type 0} (state : D → DiskState) (core : Core D) : Type 0 where
+  pub world : World
+  pub stands : StandsFor state core world (down [])

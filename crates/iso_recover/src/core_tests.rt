@@ -1,8 +1,8 @@
 // What no clause says of cores: which calls of the disk they make, and that they succeed with ample memory. And the images of
 // a stop after each call, opened again. An image has four blocks of 64 bytes and logs of 256 bytes.
-ghost use Rattle.std.specs.Prelude.{◌≡◌, ◌<◌, IfOk};
+ghost use Rattle.std.specs.Prelude.{◌≡◌, ◌<◌, IfOk, IsErrOf};
 ghost use Rattle.iso_memdisk.specs.MemDisk.{state_of};
-ghost use Rattle.iso_recover.specs.TestCores.{IsIdle, IsUp};
+ghost use Rattle.iso_recover.specs.TestCores.{IsDown, IsIdle, IsUp};
 
 use crate::open_image;
 use crate::tests::{change, formatted};
@@ -18,7 +18,7 @@ use step_count::Steps;
 use tx_table::Work;
 
 /// A core over the disk.
-fn opened(alloc: Global, disk: MemDisk) -> Result<Core<MemDisk>, MemDisk>
+pub(crate) fn opened(alloc: Global, disk: MemDisk) -> Result<Core<MemDisk>, MemDisk>
     ensures { IfOk result (λ core. IsIdle state_of core) }
 {
     match open_image(alloc, disk) {
@@ -75,23 +75,35 @@ fn ended_on(
     }
 }
 
-/// The answer to a compaction of a disk that is opened, or to one with an upgrade, and the disk.
-fn switched_on(alloc: Global, disk: MemDisk, upgrade: bool) -> (Result<u64, CoreError>, MemDisk) {
+/// The answer to a compaction, or to one with an upgrade. The core is down where it is a fault of the disk.
+pub(crate) fn switch(core: &mut Core<MemDisk>, upgrade: bool) -> Result<u64, CoreError>
+    requires up { IsUp state_of core.old }
+    ensures lost { IsErrOf result CoreError.Disk → IsDown state_of core.new }
+{
+    if upgrade {
+        core.upgrade()
+    } else {
+        core.compact()
+    }
+}
+
+/// The answer to such a one of a disk that is opened, and the disk.
+pub(crate) fn switched_on(
+    alloc: Global,
+    disk: MemDisk,
+    upgrade: bool,
+) -> (Result<u64, CoreError>, MemDisk) {
     match opened(alloc, disk) {
         Ok(mut core) => {
-            let answer = if upgrade {
-                core.upgrade()
-            } else {
-                core.compact()
-            };
+            let answer = switch(&mut core, upgrade);
             (answer, core.into_disk())
         }
         Err(disk) => (Err(CoreError::Down), disk),
     }
 }
 
-/// The first byte of a block, as the last commit left it.
-fn first_byte(core: &mut Core<MemDisk>, block: u32) -> Option<u8>
+/// A block, as the last commit left it.
+fn block_of(core: &mut Core<MemDisk>, block: u32) -> Option<[u8; 64]>
     requires idle { IsIdle state_of core.old }
 {
     let geometry = core.geometry();
@@ -104,16 +116,32 @@ fn first_byte(core: &mut Core<MemDisk>, block: u32) -> Option<u8>
     };
     let mut bytes = [0u8; 64];
     core.fetch(begun.tx, block, &mut bytes).ok()?;
-    Some(bytes[0])
+    Some(bytes)
 }
 
-/// The last number, the base number, the form and the first byte of a block of an image that is opened.
-fn seen(alloc: Global, image: Vec<u8>, block: u32) -> Option<(u64, u64, u8, u8)> {
-    let mut core = opened(alloc, MemDisk::new(alloc, image)).ok()?;
-    let stat = core.stat();
-    let form = core.geometry().form;
-    let byte = first_byte(&mut core, block)?;
-    Some((stat.last, stat.base, form, byte))
+/// The last number, the base number, the form and a block of a disk that is opened, and the disk.
+pub(crate) fn seen_on(
+    alloc: Global,
+    disk: MemDisk,
+    block: u32,
+) -> (Option<(u64, u64, u8, [u8; 64])>, MemDisk) {
+    match opened(alloc, disk) {
+        Ok(mut core) => {
+            let stat = core.stat();
+            let form = core.geometry().form;
+            let found = match block_of(&mut core, block) {
+                Some(bytes) => Some((stat.last, stat.base, form, bytes)),
+                None => None,
+            };
+            (found, core.into_disk())
+        }
+        Err(disk) => (None, disk),
+    }
+}
+
+/// The same of an image.
+fn seen(alloc: Global, image: Vec<u8>, block: u32) -> Option<(u64, u64, u8, [u8; 64])> {
+    seen_on(alloc, MemDisk::new(alloc, image), block).0
 }
 
 /// An image in which commit 1 fills block 2 with sevens.
@@ -123,7 +151,7 @@ fn with_a_commit(alloc: Global) -> Result<Vec<u8>, Fail> {
 }
 
 /// And commit 2 fills block 1 with nines.
-fn with_two_commits(alloc: Global) -> Result<Vec<u8>, Fail> {
+pub(crate) fn with_two_commits(alloc: Global) -> Result<Vec<u8>, Fail> {
     let first = MemDisk::new(alloc, with_a_commit(alloc)?);
     let (_reply, disk) = ended_on(alloc, first, 1, 9)?;
     Ok(disk.crash(alloc, 0)?)
@@ -136,7 +164,10 @@ fn an_end_makes_four_calls(rt: HostRuntime) -> Result<(), Fail> {
     let (reply, disk) = ended_on(alloc, disk, 1, 9)?;
     assert_eq!(rt; reply, Ok(EndReply::Committed(2)));
     assert_eq!(rt; disk.calls(), 9);
-    assert_eq!(rt; seen(alloc, disk.crash(alloc, 1)?, 1), Some((2, 0, 1, 9)));
+    assert_eq!(rt;
+        seen(alloc, disk.crash(alloc, 1)?, 1),
+        Some((2, 0, 1, [9; 64]))
+    );
     Ok(())
 }
 
@@ -151,13 +182,13 @@ fn a_stop_in_an_end_leaves_its_commit_whole_or_not_at_all(rt: HostRuntime) -> Re
         assert_eq!(rt; done, calls == 4, "{calls}");
         for pick in 0..6 {
             let found = seen(alloc, disk.crash(alloc, pick)?, 1);
-            let whole = found == Some((2, 0, 1, 9));
+            let whole = found == Some((2, 0, 1, [9; 64]));
             assert!(rt;
-                whole || (!done && found == Some((1, 0, 1, 0))),
+                whole || (!done && found == Some((1, 0, 1, [0; 64]))),
                 "{calls} {pick}"
             );
             let other = seen(alloc, disk.crash(alloc, pick)?, 2);
-            assert!(rt; other.is_some_and(|o| o.3 == 7), "{calls} {pick}");
+            assert!(rt; other.is_some_and(|o| o.3 == [7; 64]), "{calls} {pick}");
         }
     }
     Ok(())
@@ -170,7 +201,10 @@ fn a_switch_makes_nine_calls(rt: HostRuntime) -> Result<(), Fail> {
     let (answer, disk) = switched_on(alloc, disk, true);
     assert_eq!(rt; answer, Ok(2));
     assert_eq!(rt; disk.calls(), 14);
-    assert_eq!(rt; seen(alloc, disk.crash(alloc, 1)?, 1), Some((2, 2, 2, 9)));
+    assert_eq!(rt;
+        seen(alloc, disk.crash(alloc, 1)?, 1),
+        Some((2, 2, 2, [9; 64]))
+    );
     Ok(())
 }
 
@@ -185,8 +219,8 @@ fn keeps_the_commits(alloc: Global, calls: u64, upgrade: bool) -> Result<bool, F
     for pick in 0..6 {
         let first = seen(alloc, disk.crash(alloc, pick)?, 1);
         let second = seen(alloc, disk.crash(alloc, pick)?, 2);
-        let after = first == Some((2, 2, form, 9)) && second == Some((2, 2, form, 7));
-        let before = first == Some((2, 0, 1, 9)) && second == Some((2, 0, 1, 7));
+        let after = first == Some((2, 2, form, [9; 64])) && second == Some((2, 2, form, [7; 64]));
+        let before = first == Some((2, 0, 1, [9; 64])) && second == Some((2, 0, 1, [7; 64]));
         all = all && (after || (before && !done));
     }
     Ok(all)
@@ -219,8 +253,8 @@ fn missed(alloc: Global, kind: CallKind) -> Result<u64, Fail> {
         disk.fail_kind(kind, number);
         let (reply, disk) = ended_on(alloc, disk, 1, 9)?;
         let found = seen(alloc, disk.crash(alloc, number)?, 1);
-        let whole = found == Some((2, 0, 1, 9));
-        if reply.is_err() && (whole || found == Some((1, 0, 1, 0))) {
+        let whole = found == Some((2, 0, 1, [9; 64]));
+        if reply.is_err() && (whole || found == Some((1, 0, 1, [0; 64]))) {
             count = count.saturating_add(1);
         } else if !whole {
             count = count.saturating_add(100);

@@ -18,4 +18,6 @@ pub use make::MakeError;
 #[cfg(test)]
 mod core_tests;
 #[cfg(test)]
+mod fault_tests;
+#[cfg(test)]
 mod tests;

@@ -1,7 +1,7 @@
 use Rattle.std.proofs.Common.{ℕ, replicate, true, false, sym, arith}
 use Rattle.iso_memdisk.specs.MemDisk.{state_of}
 use Rattle.iso_recover.proofs.TestCores.{may_fetch}
-use Rattle.iso_recover.proofs.core_tests.first_byte.Goals as goal
+use Rattle.iso_recover.proofs.core_tests.block_of.Goals as goal
 
 pub fetch-requires : goal.fetch-requires
 fetch-requires c =

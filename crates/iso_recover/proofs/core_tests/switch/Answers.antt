@@ -1,0 +1,11 @@
+use Rattle.iso_recover.proofs.core_tests.switch.Goals as goal
+
+pub returns-then-upgrade : goal.returns-then-upgrade
+returns-then-upgrade c =
+    let up = c.requires.up in
+    record { lost = λ is. record { world = up.world; stands = c.upgrade.ensures.lost up.world up.stands is } }
+
+pub returns-else-upgrade : goal.returns-else-upgrade
+returns-else-upgrade c =
+    let up = c.requires.up in
+    record { lost = λ is. record { world = up.world; stands = c.compact.ensures.lost up.world up.stands is } }
