@@ -36,8 +36,15 @@ returns g c =
     let old = ap disk_of c.over-machine.ensures.core in
     let new = c.disk_behind-image.ensures in
     let whole = subst (λ (d : g.row.I.Denot). HasRun (λ V. Unit {0}) (state (disk_of c.args.core)) (state d) (drawn_state fresh) rest (held_state none) held bench_world c.run-end.result) (sym new)
-    (subst (λ (d : g.row.I.Denot). HasRun (λ V. Unit {0}) (state d) (state (disk_of c.run-end.new.machine.core)) (drawn_state fresh) rest (held_state none) held bench_world c.run-end.result) old run) in
-    (c.run-end.result, drawn_state fresh, rest, held_state none, held, refl, whole,
+    (subst (λ (d : g.row.I.Denot). HasRun (λ V. Unit {0}) (state d) (state (disk_of c.run-end.new.machine.core)) (drawn_state fresh) rest (held_state none) held bench_world c.run-end.result) old run) in (
+      c.run-end.result,
+      drawn_state fresh,
+      rest,
+      held_state none,
+      held,
+      refl,
+      whole,
       printed_bench c.args.seed c.args.count c.put_summary-status.result (c.drawn_scripts_are_good.ensures c.args.seed c.args.count c.requires.count) (state (disk_of c.args.core)) (state c.disk_behind-image.result) c.run-end.new.input c.run-end.new.output
-      (g.K.Sink.state c.args.output.now) (g.K.Sink.state c.put_summary-status.new.output) c.text.result.now c.text.ensures c.run-end.result whole
-      c.put_summary-status.ensures.done c.put_summary-status.ensures.disk c.put_summary-status.ensures.memory)
+          (g.K.Sink.state c.args.output.now) (g.K.Sink.state c.put_summary-status.new.output) c.text.result.now c.text.ensures c.run-end.result whole
+          c.put_summary-status.ensures.done c.put_summary-status.ensures.disk c.put_summary-status.ensures.memory,
+    )

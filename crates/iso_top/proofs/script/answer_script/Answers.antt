@@ -27,8 +27,11 @@ returns g c W stands idle =
     let replied = g.K.Sink.state c.run-end.new.output in
     let ran = run_alone _ _ _ input_old input_new output_old replied W c.run-end.result (c.run-end.ensures.ran W (c.over-machine.ensures.stands W stands idle)) in
     let old = ap disk_of c.over-machine.ensures.core in
-    let new = c.disk_behind-image.ensures in
-    (c.run-end.result, replied, c.end_status-status.ensures,
+    let new = c.disk_behind-image.ensures in (
+      c.run-end.result,
+      replied,
+      c.end_status-status.ensures,
       subst (λ (d : g.row.I.Denot). HasRun (λ V. Unit {0}) (state (disk_of c.args.core)) (state d) input_old input_new output_old replied W c.run-end.result) (sym new)
-      (subst (λ (d : g.row.I.Denot). HasRun (λ V. Unit {0}) (state d) (state (disk_of c.run-end.new.machine.core)) input_old input_new output_old replied W c.run-end.result) old ran),
-      c.put_end.ensures)
+          (subst (λ (d : g.row.I.Denot). HasRun (λ V. Unit {0}) (state d) (state (disk_of c.run-end.new.machine.core)) input_old input_new output_old replied W c.run-end.result) old ran),
+      c.put_end.ensures,
+    )

@@ -48,7 +48,7 @@ returns-in-Recover g c =
     let has = subst (λ (made : Option Geometry). HasCore state made name c.args.image c.in-Ok.core) (c.geometry.ensures.value ∙ ap made_geometry c.in-Recover.is) c.in-Ok.ensures.begun in
     subst (λ (task : Task). HasMet state task name c.tell_last.result.status c.args.image c.tell_last.result.image source source old new) (sym c.in-Recover.is)
     (inr (recovered state name c.tell_last.result.status c.args.image c.tell_last.result.image c.in-Ok.core source old new has c.tell_last.ensures.printed (lasts (g.met.I.Disk.lawful (disk_of c.in-Ok.core)) has.untouched c.tell_last.ensures.unwritten) c.tell_last.ensures.failed
-      c.tell_last.ensures.passed))
+    c.tell_last.ensures.passed))
 
 pub returns-in-Bench : goal.returns-in-Bench
 returns-in-Bench g c =

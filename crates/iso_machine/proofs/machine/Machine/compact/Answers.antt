@@ -32,6 +32,6 @@ returns-in-Err g c W of =
     let new = c.compact.new.self in
     let f = c.in-Err.ensures in
     let answer = switch_refused state m.core new m.live.items W (W.geometry.form) (reply.Compacted (floor W)) c.in-Err.error of (λ none. none) (f.refused W (reply.Compacted (floor W)) of.core_of) (f.same W of.core_of)
-        f.worn (f.moments W of.core_of) f.cause in
+    f.worn (f.moments W of.core_of) f.cause in
     subst (λ (r : Result Reply Stop). Answers (AreOf state new m.live.items) (state (disk_of m.core)) (state (disk_of new)) W (step W 1 op.Compact) r) (sym c.refused.ensures)
     (subst (λ (given : Reply × World). Answers (AreOf state new m.live.items) (state (disk_of m.core)) (state (disk_of new)) W given (answer_to c.in-Err.error)) (sym (compact_is W 1)) answer)
