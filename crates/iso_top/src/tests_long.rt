@@ -244,37 +244,74 @@ const TO_THE_END: &[(&str, &str)] = &[
     ("2 abort", "2 ok"),
 ];
 
-/// The lines of some groups, or their replies.
-fn lines_of(
-    alloc: Global,
-    groups: &[&[(&str, &str)]],
-    replies: bool,
-) -> Result<Vec<u8>, AllocError> {
-    let mut all = Vec::new(alloc);
-    for group in groups {
-        for (line, reply) in *group {
-            let chosen = if replies { reply } else { line };
-            all.extend_from_slice(chosen.as_bytes())?;
-            all.push(b'\n')?;
-        }
+/// Lines, and the replies to them.
+#[derive(Drop)]
+struct Talk {
+    lines: Vec<u8>,
+    replies: Vec<u8>,
+}
+
+/// Adds a text and a line feed.
+fn add_line(all: &mut Vec<u8>, line: &str) -> Result<(), AllocError> {
+    all.extend_from_slice(line.as_bytes())?;
+    all.push(b'\n')?;
+    Ok(())
+}
+
+/// Adds a group of lines and their replies.
+fn add(talk: &mut Talk, group: &[(&str, &str)]) -> Result<(), AllocError> {
+    for (line, reply) in group {
+        add_line(&mut talk.lines, line)?;
+        add_line(&mut talk.replies, reply)?;
     }
-    text(alloc, &all)
+    Ok(())
+}
+
+fn no_talk(alloc: Global) -> Talk {
+    Talk {
+        lines: Vec::new(alloc),
+        replies: Vec::new(alloc),
+    }
+}
+
+/// What is said on the new image.
+fn first_talk(alloc: Global) -> Result<Talk, AllocError> {
+    let mut talk = no_talk(alloc);
+    add(&mut talk, OUTSIDE)?;
+    add(&mut talk, BEGINS)?;
+    add(&mut talk, REFUSED)?;
+    add(&mut talk, MARKS)?;
+    add(&mut talk, ENDS)?;
+    add(&mut talk, CONFLICTS)?;
+    add(&mut talk, LEAST)?;
+    add(&mut talk, HANDLES)?;
+    add(&mut talk, TAKEN_OVER)?;
+    add(&mut talk, UPGRADED)?;
+    add(&mut talk, LEFT)?;
+    Ok(talk)
+}
+
+/// What is said on it after that.
+fn second_talk(alloc: Global) -> Result<Talk, AllocError> {
+    let mut talk = no_talk(alloc);
+    add(&mut talk, AGAIN)?;
+    add(&mut talk, TO_THE_END)?;
+    Ok(talk)
 }
 
 #[test]
 fn a_long_script_in_two_runs(rt: HostRuntime) -> Result<(), Fail> {
     let alloc = rt.alloc();
-    let first = [
-        OUTSIDE, BEGINS, REFUSED, MARKS, ENDS, CONFLICTS, LEAST, HANDLES, TAKEN_OVER, UPGRADED,
-        LEFT,
-    ];
-    let made = call(alloc, SMALL, &lines_of(alloc, &first, false)?)?;
-    let replies = lines_of(alloc, &first, true)?;
+    let first = first_talk(alloc)?;
+    let lines = text(alloc, &first.lines)?;
+    let made = call(alloc, SMALL, &lines)?;
+    let replies = text(alloc, &first.replies)?;
     assert_eq!(rt; made.status, 0);
     assert_eq!(rt; made.output.as_slice(), replies.as_slice());
-    let second = [AGAIN, TO_THE_END];
-    let again = call_on(alloc, RUN, made.disk, &lines_of(alloc, &second, false)?)?;
-    let replies = lines_of(alloc, &second, true)?;
+    let second = second_talk(alloc)?;
+    let lines = text(alloc, &second.lines)?;
+    let again = call_on(alloc, RUN, made.disk, &lines)?;
+    let replies = text(alloc, &second.replies)?;
     assert_eq!(rt; again.status, 0);
     assert_eq!(rt; again.output.as_slice(), replies.as_slice());
     Ok(())

@@ -1,4 +1,6 @@
 // Sources and sinks that fail, and what stands behind them.
+ghost use Rattle.std.specs.Prelude.{◌<◌};
+
 use crate::tests::{
     Outcome, RECOVER, RUN, SMALL, call_over, no_disk, one_put_image, small_image, stat_of,
 };
