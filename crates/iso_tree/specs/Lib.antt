@@ -1,0 +1,6 @@
+pub mod Nodes
+pub mod Trees
+pub mod TreeCalls
+pub mod TreeRegion
+pub mod Walks
+pub mod Ready
