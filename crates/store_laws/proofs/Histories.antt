@@ -1,0 +1,99 @@
+-- A history of commits that write a region by calls alone, and transactions without writes.
+use Rattle.std.proofs.Common.{◌≡◌, ◌⊎◌, ◌∙◌, sym, refl, ap, subst, ℕ, zero, suc, ◌+◌, ◌-◌, ◌<◌, ◌≤◌, Bool, true, false, ◌||◌, cond, IfSome, List, [], ◌∷◌, ◌++◌, length, map, Option, Some, None, slice_get, arith, inl, inr}
+use Rattle.std.proofs.lemmas.Option.{none-some}
+use Rattle.iso_model.specs.declared.access.Access.{Access}
+use Rattle.iso_model.specs.declared.access.Commit.{Commit}
+use Rattle.iso_model.specs.declared.access.Geometry.{Geometry}
+use Rattle.iso_model.specs.declared.access.Mode.{Mode}
+use Rattle.iso_model.specs.declared.access.Mode.TheVariants.{Serial}
+use Rattle.iso_model.specs.Array.{Array, put}
+use Rattle.iso_model.specs.Conflict.{IsSerialAt}
+use Rattle.iso_model.specs.Effect.{has_write, is_write, own}
+use Rattle.iso_model.specs.History.{History, array_at, last}
+use Rattle.iso_model.specs.Isolation.{HasSeen, IsIsolated, IsIsolatedAt}
+use Rattle.store_laws.specs.Region.{IsOfItsBlocks, Store}
+use Rattle.store_laws.specs.Parts.{AnswerInOrder, AreMade, AreOfCalls, Called, IsOfCalls, Other, Part, accesses_in, answers_in, calls_in}
+use Rattle.store_laws.proofs.InOrder.{commit_by, same_shape}
+
+-- a commit that has seen what it should, and makes no calls or is serial
+mode_serial : (s : Store) (g : Geometry) (H : History) (k : ℕ) (c : Commit) (of : IsOfCalls s H c) → HasSeen g H k c → (calls_in of.parts ≡ []) ⊎ IsSerialAt H k
+mode_serial s g H k c of seen = elim of.mode [
+  | inl none ↦ inl none
+  | inr serial ↦ inr (subst (λ (mode : Mode). IsIsolatedAt g H mode k) serial seen.isolated)
+]
+
+pub commit_follows : (s : Store) → IsOfItsBlocks s → (g : Geometry) (H : History) (k : ℕ) (c : Commit) → 0 < H.first → H.first ≤ k → slice_get H.commits (k - H.first) ≡ Some c
+    → HasSeen g H k c → (of : IsOfCalls s H c) → s.IsWellFormed (array_at H (k - 1)) → AnswerInOrder s of.parts (array_at H (k - 1)) (array_at H k)
+commit_follows s regional g H k c first from is seen of well = commit_by s regional H k c of.parts first from is (mode_serial s g H k c of seen) of.are of.made well
+
+some_of : {A : Type 0} (P Q : A → Type 0) (R : Type 0) (o : Option A) → ((x : A) → o ≡ Some x → P x → Q x → R) → (o ≡ None → R) → IfSome o P → IfSome o Q → R
+some_of P Q R None some none p q = none refl
+some_of P Q R (Some x) some none p q = some x refl p q
+
+there_is_one : {A : Type 0} (xs : List A) (i : ℕ) → i < length xs → slice_get xs i ≡ None → (R : Type 0) → R
+there_is_one [] i below is R = absurd (omega arith)
+there_is_one (x ∷ xs) zero below is R = cc
+there_is_one (x ∷ xs) (suc i) below is R = there_is_one xs i (omega arith) is R
+
+well_after : (s : Store) → IsOfItsBlocks s → (g : Geometry) (H : History) → 0 < H.first → IsIsolated g H → AreOfCalls s H → s.IsWellFormed (array_at H (H.first - 1))
+    → (n : ℕ) → n ≤ length H.commits → s.IsWellFormed (array_at H (H.first - 1 + n))
+well_after s regional g H first isolated of well zero within = let e : H.first - 1 + 0 ≡ H.first - 1 = omega arith in subst (λ m. s.IsWellFormed (array_at H m)) (sym e) well
+well_after s regional g H first isolated of well (suc n) within =
+    let k = H.first + n in
+    let from : H.first ≤ k = omega arith in
+    let to : k ≤ last H = omega arith in
+    let before : H.first - 1 + n ≡ k - 1 = omega arith in
+    let here : H.first - 1 + suc n ≡ k = omega arith in
+    let place : k - H.first < length H.commits = omega arith in
+    let ih = well_after s regional g H first isolated of well n (omega arith) in
+    subst (λ m. s.IsWellFormed (array_at H m)) (sym here)
+    (some_of (HasSeen g H k) (IsOfCalls s H) (s.IsWellFormed (array_at H k)) (slice_get H.commits (k - H.first))
+    (λ c is seen has. (commit_follows s regional g H k c first from is seen has (subst (λ m. s.IsWellFormed (array_at H m)) before ih)).well_formed)
+    (λ none. there_is_one H.commits (k - H.first) place none (s.IsWellFormed (array_at H k)))
+    (isolated k from to) (of k from to))
+
+-- the region is well formed at each number
+pub well_formed_at : (s : Store) → IsOfItsBlocks s → (g : Geometry) (H : History) → 0 < H.first → IsIsolated g H → AreOfCalls s H → s.IsWellFormed (array_at H (H.first - 1))
+    → (n : ℕ) → H.first ≤ n + 1 → n ≤ last H → s.IsWellFormed (array_at H n)
+well_formed_at s regional g H first isolated of well n from to =
+    let m = n + 1 - H.first in
+    let e : H.first - 1 + m ≡ n = omega arith in
+    subst (λ j. s.IsWellFormed (array_at H j)) e (well_after s regional g H first isolated of well m (omega arith))
+
+-- each commit's calls answer by the map directly before it
+if_some : {A : Type 0} (P Q : A → Type 0) (o : Option A) → ((x : A) → o ≡ Some x → P x → Q x) → IfSome o P → IfSome o Q
+if_some P Q None each p = tt
+if_some P Q (Some x) each p = each x refl p
+
+pub commits_in_order : (s : Store) → IsOfItsBlocks s → (g : Geometry) (H : History) → 0 < H.first → IsIsolated g H → AreOfCalls s H → s.IsWellFormed (array_at H (H.first - 1))
+    → (k : ℕ) → H.first ≤ k → k ≤ last H
+    → IfSome (slice_get H.commits (k - H.first)) (λ c. (of : IsOfCalls s H c) → AnswerInOrder s of.parts (array_at H (k - 1)) (array_at H k))
+commits_in_order s regional g H first isolated of well k from to =
+    if_some (HasSeen g H k) (λ c. (of : IsOfCalls s H c) → AnswerInOrder s of.parts (array_at H (k - 1)) (array_at H k)) (slice_get H.commits (k - H.first))
+    (λ c is seen has. commit_follows s regional g H k c first from is seen has (well_formed_at s regional g H first isolated of well (k - 1) (omega arith) (omega arith)))
+    (isolated k from to)
+
+read_next : (a : Access) (test rest : Bool) (A : Array) → test || rest ≡ false → (cond test (put A a) A ≡ A) × (rest ≡ false)
+read_next a false rest A none = (refl, none)
+read_next a true rest A none = cc
+
+-- accesses without a write leave the array, in two parts
+reads_leave : (xs ys : List Access) (A : Array) → has_write (xs ++ ys) ≡ false → (own A xs ≡ A) × (has_write ys ≡ false)
+reads_leave [] ys A none = (refl, none)
+reads_leave (a ∷ xs) ys A none =
+    let here = read_next a (is_write a) (has_write (xs ++ ys)) A none in
+    let ih = reads_leave xs ys A here.1 in
+    (ap (λ (B : Array). own B xs) here.0 ∙ ih.0, ih.1)
+
+-- Without a write each call answers by the map that was there at the begin.
+pub read_only_answers : (s : Store) (A : Array) (parts : List (Part s.Call s.Answer)) → AreMade s A parts → s.IsWellFormed A → has_write (accesses_in parts) ≡ false
+    → answers_in parts ≡ map (λ call. (s.act call (s.map_of A)).0) (calls_in parts)
+read_only_answers s A [] made well none = refl
+read_only_answers s A (Called call accesses answer ∷ parts) made well none =
+    let leaves = reads_leave accesses (accesses_in parts) A none in
+    let here : (s.act call (s.map_of A)).0 ≡ answer = made.0.answers A (same_shape A) well (λ b p has. refl) in
+    let rest = read_only_answers s A parts (subst (λ (B : Array). AreMade s B parts) leaves.0 made.1) well leaves.1 in
+    ap (λ (r : s.Answer). r ∷ answers_in parts) (sym here) ∙ ap (λ (rest : List s.Answer). (s.act call (s.map_of A)).0 ∷ rest) rest
+read_only_answers s A (Other accesses ∷ parts) made well none =
+    let leaves = reads_leave accesses (accesses_in parts) A none in
+    read_only_answers s A parts (subst (λ (B : Array). AreMade s B parts) leaves.0 made.1) well leaves.1

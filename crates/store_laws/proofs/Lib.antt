@@ -1,0 +1,3 @@
+pub mod SameReads
+pub mod InOrder
+pub mod Histories
