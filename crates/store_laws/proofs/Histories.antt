@@ -61,7 +61,7 @@ well_formed_at s regional g H first isolated of well n from to =
     subst (λ j. s.IsWellFormed (array_at H j)) e (well_after s regional g H first isolated of well m (omega arith))
 
 -- each commit's calls answer by the map directly before it
-if_some : {A : Type 0} (P Q : A → Type 0) (o : Option A) → ((x : A) → o ≡ Some x → P x → Q x) → IfSome o P → IfSome o Q
+pub if_some : {A : Type 0} (P Q : A → Type 0) (o : Option A) → ((x : A) → o ≡ Some x → P x → Q x) → IfSome o P → IfSome o Q
 if_some P Q None each p = tt
 if_some P Q (Some x) each p = each x refl p
 

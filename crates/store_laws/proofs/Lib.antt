@@ -1,3 +1,4 @@
 pub mod SameReads
 pub mod InOrder
 pub mod Histories
+pub mod TwoStores

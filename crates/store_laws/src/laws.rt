@@ -7,6 +7,7 @@ ghost use Rattle.iso_model.specs.Conflict.{IsSerialAt};
 ghost use Rattle.iso_model.specs.Effect.{has_write, own};
 ghost use Rattle.iso_model.specs.History.{array_at, last, History};
 ghost use Rattle.iso_model.specs.Isolation.{IsIsolated};
+ghost use Rattle.store_laws.specs.Both.{firsts, AreMixed, AreOfBoth, BothInOrder, BothWellFormed, IsOfBoth, MixedParts};
 ghost use Rattle.store_laws.specs.Parts.{accesses_in, answers_in, calls_in, AnswerInOrder, AreMade, AreOfCalls, IsOfCalls, Part};
 
 use crate::RegionStore;
@@ -32,4 +33,16 @@ pub fn calls_answer_by_what_is_shown<S: RegionStore>(store: &S)
         → AnswerInOrder s parts A (own A (accesses_in parts)) }
     ensures read_only { let s = S.store store.now in (A : Array) (parts : List (Part s.Call s.Answer)) → AreMade s A parts → s.IsWellFormed A
         → IsFalse (has_write (accesses_in parts)) → answers_in parts ≡ map (λ call. (s.act call (s.map_of A)).0) (calls_in parts) }
+{}
+
+/// The same of transactions that call two stores, whose regions are apart: the calls of each answer as one thread's calls on its map.
+pub fn calls_of_two_stores_answer_in_order<S: RegionStore, T: RegionStore>(first: &S, second: &T)
+    ensures commit { let s = S.store first.now in let t = T.store second.now in (H : History) (k : ℕ) (c : Commit) (parts : MixedParts s t) → 0 < H.first → H.first ≤ k
+        → slice_get H.commits (k - H.first) ≡ Some c → IsSerialAt H k → accesses_in (firsts parts) ≡ c.accesses → AreMixed s t (array_at H c.begin) parts
+        → BothWellFormed s t (array_at H (k - 1)) → BothInOrder s t parts (array_at H (k - 1)) (array_at H k) }
+    ensures history { let s = S.store first.now in let t = T.store second.now in (g : Geometry) (H : History) → 0 < H.first → IsIsolated g H → AreOfBoth s t H
+        → BothWellFormed s t (array_at H (H.first - 1)) → (k : ℕ) → H.first ≤ k → k ≤ last H
+        → IfSome (slice_get H.commits (k - H.first)) (λ c. (of : IsOfBoth s t H c) → BothInOrder s t of.parts (array_at H (k - 1)) (array_at H k)) }
+    ensures live { let s = S.store first.now in let t = T.store second.now in (A : Array) (parts : MixedParts s t) → AreMixed s t A parts → BothWellFormed s t A
+        → BothInOrder s t parts A (own A (accesses_in (firsts parts))) }
 {}

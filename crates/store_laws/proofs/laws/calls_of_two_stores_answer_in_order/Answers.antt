@@ -1,0 +1,14 @@
+use Rattle.store_laws.proofs.TwoStores.{both_commit, both_commits, both_live}
+use Rattle.store_laws.proofs.laws.calls_of_two_stores_answer_in_order.Goals as goal
+
+pub returns-clause-commit : goal.returns-clause-commit
+returns-clause-commit g c =
+    both_commit (g.S.RegionStore.store c.args.first.now) (g.T.RegionStore.store c.args.second.now) (g.S.RegionStore.regional c.args.first.now) (g.T.RegionStore.regional c.args.second.now)
+
+pub returns-clause-history : goal.returns-clause-history
+returns-clause-history g c =
+    both_commits (g.S.RegionStore.store c.args.first.now) (g.T.RegionStore.store c.args.second.now) (g.S.RegionStore.regional c.args.first.now) (g.T.RegionStore.regional c.args.second.now)
+
+pub returns-clause-live : goal.returns-clause-live
+returns-clause-live g c =
+    both_live (g.S.RegionStore.store c.args.first.now) (g.T.RegionStore.store c.args.second.now) (g.S.RegionStore.regional c.args.first.now) (g.T.RegionStore.regional c.args.second.now)
