@@ -10,9 +10,10 @@ use Rattle.iso_model.specs.History.{History, array_at, last}
 use Rattle.iso_model.specs.Premises.{block_at}
 use Rattle.iso_model.specs.Stores.{Agree, AreReads, IsLocal, SameShape}
 use Rattle.iso_model.proofs.Bytes.{other_block}
+use Rattle.tx_blocks.proofs.Progress.{own_append}
 use Rattle.store_laws.specs.Region.{IsOfItsBlocks, SameRegion, SpareRegion, Store}
 use Rattle.store_laws.specs.Parts.{AnswerInOrder, AreMade, Called, Other, Part, accesses_in, answers_in, calls_in, run}
-use Rattle.store_laws.proofs.SameReads.{SameReads, agree_where, array_next, next, own_append, reads_split, same_shape_at, same_shape_own, serial_reads}
+use Rattle.store_laws.proofs.SameReads.{SameReads, agree_where, array_next, next, reads_split, same_shape_at, same_shape_own, serial_reads}
 
 spare_access : (s : Store) (a : Access) (test : Bool) (A : Array) (b : ℕ) → (IsTrue test → s.has_block a.block ≡ false) → s.has_block b ≡ true
     → block_at (cond test (put A a) A) b ≡ block_at A b

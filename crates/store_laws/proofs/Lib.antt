@@ -2,3 +2,4 @@ pub mod SameReads
 pub mod InOrder
 pub mod Histories
 pub mod TwoStores
+pub mod Growth

@@ -90,10 +90,6 @@ same_shape_at H m n = record {
   bytes = λ b. length-block_all_own H.base (take (n + 1 - H.first) H.commits) b ∙ sym (length-block_all_own H.base (take (m + 1 - H.first) H.commits) b);
 }
 
-pub own_append : (A : Array) (xs ys : List Access) → own A (xs ++ ys) ≡ own (own A xs) ys
-own_append A [] ys = refl
-own_append A (a ∷ xs) ys = own_append (next A a) xs ys
-
 all_own_next : (A : Array) (commits : List Commit) (i : ℕ) (c : Commit) → slice_get commits i ≡ Some c
     → all_own A (take (suc i) commits) ≡ own (all_own A (take i commits)) c.accesses
 all_own_next A [] i c is = absurd (none-some c is)

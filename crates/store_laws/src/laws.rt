@@ -1,5 +1,5 @@
 // The laws of stores: each function does nothing, and its contract is the law.
-ghost use Rattle.std.specs.Prelude.{◌≡◌, ℕ, ◌<◌, ◌≤◌, ◌+◌, ◌-◌, IsFalse, IfSome, List, Some, map, slice_get};
+ghost use Rattle.std.specs.Prelude.{◌≡◌, ℕ, ◌<◌, ◌≤◌, ◌+◌, ◌-◌, IsFalse, IfSome, List, [], ◌∷◌, ◌++◌, Some, map, slice_get};
 ghost use Rattle.iso_model.specs.declared.access.Commit.{Commit};
 ghost use Rattle.iso_model.specs.declared.access.Geometry.{Geometry};
 ghost use Rattle.iso_model.specs.Array.{Array};
@@ -8,7 +8,12 @@ ghost use Rattle.iso_model.specs.Effect.{has_write, own};
 ghost use Rattle.iso_model.specs.History.{array_at, last, History};
 ghost use Rattle.iso_model.specs.Isolation.{IsIsolated};
 ghost use Rattle.store_laws.specs.Both.{firsts, AreMixed, AreOfBoth, BothInOrder, BothWellFormed, IsOfBoth, MixedParts};
-ghost use Rattle.store_laws.specs.Parts.{accesses_in, answers_in, calls_in, AnswerInOrder, AreMade, AreOfCalls, IsOfCalls, Part};
+ghost use Rattle.store_laws.specs.Growing.{IsMadeOf};
+ghost use Rattle.store_laws.specs.Parts.{accesses_in, answers_in, calls_in, AnswerInOrder, AreMade, AreOfCalls, IsOfCalls, Called, Other, Part};
+ghost use Rattle.store_laws.specs.Region.{SpareRegion};
+ghost use Rattle.tx_blocks.specs.Runs.{IsLocalCall};
+ghost use Rattle.tx_blocks.specs.Tx.{added, with_accesses, Tx};
+ghost use Rattle.iso_model.specs.declared.access.Access.{Access};
 
 use crate::RegionStore;
 
@@ -45,4 +50,14 @@ pub fn calls_of_two_stores_answer_in_order<S: RegionStore, T: RegionStore>(first
         → IfSome (slice_get H.commits (k - H.first)) (λ c. (of : IsOfBoth s t H c) → BothInOrder s t of.parts (array_at H (k - 1)) (array_at H k)) }
     ensures live { let s = S.store first.now in let t = T.store second.now in (A : Array) (parts : MixedParts s t) → AreMixed s t A parts → BothWellFormed s t A
         → BothInOrder s t parts A (own A (accesses_in (firsts parts))) }
+{}
+
+/// A transaction is made of no parts at its begin, and of one part more after each call that is local for its store, and after other
+/// accesses that write no block of the region.
+pub fn transactions_grow_by_parts<S: RegionStore>(store: &S)
+    ensures begun { let s = S.store store.now in (A : Array) (t : Tx) → t.base ≡ Some A → t.accesses ≡ [] → IsMadeOf s A t [] }
+    ensures called { let s = S.store store.now in (A : Array) (t u : Tx) (parts : List (Part s.Call s.Answer)) (call : s.Call) (answer : s.Answer) (done : List Access) → IsMadeOf s A t parts
+        → u ≡ with_accesses t done → IsLocalCall s.IsWellFormed s.map_of (s.act call) t u answer → IsMadeOf s A u (parts ++ Called call (added t u) answer ∷ []) }
+    ensures other { let s = S.store store.now in (A : Array) (t u : Tx) (parts : List (Part s.Call s.Answer)) (done : List Access) → IsMadeOf s A t parts
+        → u ≡ with_accesses t done → SpareRegion s done → IsMadeOf s A u (parts ++ Other done ∷ []) }
 {}

@@ -1,0 +1,87 @@
+-- A transaction grows by calls of a store and by other accesses.
+use Rattle.std.proofs.Common.{◌≡◌, ◌∙◌, sym, refl, ap, subst, ℕ, Bool, List, [], ◌∷◌, ◌++◌, length, append_assoc, append-nil, drop, Option, Some, Result, Ok}
+use Rattle.iso_model.specs.declared.access.Access.{Access}
+use Rattle.iso_model.specs.declared.stores.Area.{Area}
+use Rattle.iso_model.specs.declared.stores.StoreError.{StoreError}
+use Rattle.iso_model.specs.Array.{Array}
+use Rattle.iso_model.specs.Effect.{own}
+use Rattle.iso_model.specs.HashRegion.{IsHashRegion, del_op, get_op, hash_map, put_op}
+use Rattle.iso_model.specs.Stores.{IsLocal, Program}
+use Rattle.tx_blocks.specs.Runs.{HasEnded, IsLocalCall}
+use Rattle.tx_blocks.specs.Tx.{Tx, added, with_accesses}
+use Rattle.store_laws.specs.Growing.{IsMadeOf}
+use Rattle.store_laws.specs.Hash.{Del, Get, Got, HashAnswer, HashCall, Put, WasPut, WasThere, hash_store}
+use Rattle.store_laws.specs.Parts.{AreMade, Called, Other, Part, accesses_in}
+use Rattle.store_laws.specs.Region.{SpareRegion, Store}
+use Rattle.tx_blocks.proofs.Progress.{added_is, own_append}
+
+-- the accesses of parts, and of parts after them
+pub accesses_append : (s : Store) (parts more : List (Part s.Call s.Answer)) → accesses_in (parts ++ more) ≡ accesses_in parts ++ accesses_in more
+accesses_append s [] more = refl
+accesses_append s (Called call accesses answer ∷ parts) more =
+    ap (λ (rest : List Access). accesses ++ rest) (accesses_append s parts more) ∙ sym (append_assoc accesses (accesses_in parts) (accesses_in more))
+accesses_append s (Other accesses ∷ parts) more =
+    ap (λ (rest : List Access). accesses ++ rest) (accesses_append s parts more) ∙ sym (append_assoc accesses (accesses_in parts) (accesses_in more))
+
+pub made_append : (s : Store) (A : Array) (parts more : List (Part s.Call s.Answer)) → AreMade s A parts → AreMade s (own A (accesses_in parts)) more → AreMade s A (parts ++ more)
+made_append s A [] more made then = then
+made_append s A (Called call accesses answer ∷ parts) more made then =
+    (made.0, made_append s (own A accesses) parts more made.1 (subst (λ (B : Array). AreMade s B more) (own_append A accesses (accesses_in parts)) then))
+made_append s A (Other accesses ∷ parts) more made then =
+    (made.0, made_append s (own A accesses) parts more made.1 (subst (λ (B : Array). AreMade s B more) (own_append A accesses (accesses_in parts)) then))
+
+pub begun : (s : Store) (A : Array) (t : Tx) → t.base ≡ Some A → t.accesses ≡ [] → IsMadeOf s A t []
+begun s A t base none = record { base = base; are = sym none; made = tt }
+
+grown : (s : Store) (A : Array) (t u : Tx) (parts : List (Part s.Call s.Answer)) (part : Part s.Call s.Answer) (done : List Access) → IsMadeOf s A t parts → u ≡ with_accesses t done
+    → accesses_in (part ∷ []) ≡ done → AreMade s (own A t.accesses) (part ∷ []) → IsMadeOf s A u (parts ++ part ∷ [])
+grown s A t u parts part done is further has made = record {
+  base = ap (λ (v : Tx). v.base) further ∙ is.base;
+  are = accesses_append s parts (part ∷ []) ∙ ap (λ (xs : List Access). xs ++ accesses_in (part ∷ [])) is.are ∙ ap (λ (ys : List Access). t.accesses ++ ys) has ∙ sym (ap (λ (v : Tx). v.accesses) further);
+  made = made_append s A parts (part ∷ []) is.made (subst (λ (xs : List Access). AreMade s (own A xs) (part ∷ [])) (sym is.are) made);
+}
+
+pub called : (s : Store) (A : Array) (t u : Tx) (parts : List (Part s.Call s.Answer)) (call : s.Call) (answer : s.Answer) (done : List Access) → IsMadeOf s A t parts → u ≡ with_accesses t done
+    → IsLocalCall s.IsWellFormed s.map_of (s.act call) t u answer → IsMadeOf s A u (parts ++ Called call (added t u) answer ∷ [])
+called s A t u parts call answer done is further local =
+    grown s A t u parts (Called call (added t u) answer) done is further (append-nil (added t u) ∙ added_is t u done further) (local A is.base, tt)
+
+pub other : (s : Store) (A : Array) (t u : Tx) (parts : List (Part s.Call s.Answer)) (done : List Access) → IsMadeOf s A t parts → u ≡ with_accesses t done
+    → SpareRegion s done → IsMadeOf s A u (parts ++ Other done ∷ [])
+other s A t u parts done is further spare = grown s A t u parts (Other done) done is further (append-nil done) (spare, tt)
+
+-- the calls of the hash store, by what their contracts say
+get_local : (a : Area) (key : List ℕ) (A : Array) (accesses : List Access) (r : Option (List ℕ)) → IsLocal (IsHashRegion a) (hash_map a) (get_op key) A accesses r
+    → IsLocal (hash_store a).IsWellFormed (hash_store a).map_of ((hash_store a).act (Get key)) A accesses (Got r)
+get_local a key A accesses r local = record {
+  answers = λ B shape well agree. ap (λ value. Got value) (local.answers B shape well agree);
+  well_formed = local.well_formed;
+  maps = local.maps;
+}
+
+put_local : (a : Area) (key value : List ℕ) (A : Array) (accesses : List Access) (r : Unit {0}) → IsLocal (IsHashRegion a) (hash_map a) (put_op key value) A accesses r
+    → IsLocal (hash_store a).IsWellFormed (hash_store a).map_of ((hash_store a).act (Put key value)) A accesses WasPut
+put_local a key value A accesses r local = record { answers = λ B shape well agree. refl; well_formed = local.well_formed; maps = local.maps }
+
+del_local : (a : Area) (key : List ℕ) (A : Array) (accesses : List Access) (r : Bool) → IsLocal (IsHashRegion a) (hash_map a) (del_op key) A accesses r
+    → IsLocal (hash_store a).IsWellFormed (hash_store a).map_of ((hash_store a).act (Del key)) A accesses (WasThere r)
+del_local a key A accesses r local = record {
+  answers = λ B shape well agree. ap (λ there. WasThere there) (local.answers B shape well agree);
+  well_formed = local.well_formed;
+  maps = local.maps;
+}
+
+pub got : (a : Area) (p : Program (Result (Option (List ℕ)) StoreError)) (key : List ℕ) (A : Array) (t u : Tx) (parts : List (Part HashCall HashAnswer)) (r : Option (List ℕ)) → IsMadeOf (hash_store a) A t parts
+    → HasEnded p t u (Ok r) → IsLocalCall (IsHashRegion a) (hash_map a) (get_op key) t u r → IsMadeOf (hash_store a) A u (parts ++ Called (Get key) (added t u) (Got r) ∷ [])
+got a p key A t u parts r is ended local =
+    called (hash_store a) A t u parts (Get key) (Got r) ended.done is ended.is (λ B base. get_local a key (own B t.accesses) (added t u) r (local B base))
+
+pub was_put : (a : Area) (p : Program (Result (Unit {0}) StoreError)) (key value : List ℕ) (A : Array) (t u : Tx) (parts : List (Part HashCall HashAnswer)) (r : Unit {0}) → IsMadeOf (hash_store a) A t parts
+    → HasEnded p t u (Ok r) → IsLocalCall (IsHashRegion a) (hash_map a) (put_op key value) t u r → IsMadeOf (hash_store a) A u (parts ++ Called (Put key value) (added t u) WasPut ∷ [])
+was_put a p key value A t u parts r is ended local =
+    called (hash_store a) A t u parts (Put key value) WasPut ended.done is ended.is (λ B base. put_local a key value (own B t.accesses) (added t u) r (local B base))
+
+pub was_there : (a : Area) (p : Program (Result Bool StoreError)) (key : List ℕ) (A : Array) (t u : Tx) (parts : List (Part HashCall HashAnswer)) (r : Bool) → IsMadeOf (hash_store a) A t parts
+    → HasEnded p t u (Ok r) → IsLocalCall (IsHashRegion a) (hash_map a) (del_op key) t u r → IsMadeOf (hash_store a) A u (parts ++ Called (Del key) (added t u) (WasThere r) ∷ [])
+was_there a p key A t u parts r is ended local =
+    called (hash_store a) A t u parts (Del key) (WasThere r) ended.done is ended.is (λ B base. del_local a key (own B t.accesses) (added t u) r (local B base))

@@ -1,0 +1,11 @@
+use Rattle.store_laws.proofs.Growth.{begun, called, other}
+use Rattle.store_laws.proofs.laws.transactions_grow_by_parts.Goals as goal
+
+pub returns-clause-begun : goal.returns-clause-begun
+returns-clause-begun g c = begun (g.S.RegionStore.store c.args.store.now)
+
+pub returns-clause-called : goal.returns-clause-called
+returns-clause-called g c = called (g.S.RegionStore.store c.args.store.now)
+
+pub returns-clause-other : goal.returns-clause-other
+returns-clause-other g c = other (g.S.RegionStore.store c.args.store.now)

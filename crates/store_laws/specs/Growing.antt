@@ -1,0 +1,13 @@
+-- A transaction over blocks, as the parts that it was made of so far.
+use Rattle.std.specs.Prelude.{◌≡◌, List, Some}
+use Rattle.iso_model.specs.declared.access.Access.{Access}
+use Rattle.iso_model.specs.Array.{Array}
+use Rattle.tx_blocks.specs.Tx.{Tx}
+use Rattle.store_laws.specs.Parts.{AreMade, Part, accesses_in}
+use Rattle.store_laws.specs.Region.{Store}
+
+-- The transaction began with this array, and its accesses are those of these parts.
+pub record IsMadeOf (s : Store) (A : Array) (t : Tx) (parts : List (Part s.Call s.Answer)) : Type 0 where
+  pub base : t.base ≡ Some A
+  pub are : accesses_in parts ≡ t.accesses
+  pub made : AreMade s A parts

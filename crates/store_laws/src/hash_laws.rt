@@ -1,0 +1,37 @@
+// The laws of stores, at the hash store.
+ghost use Rattle.std.specs.Prelude.{◌≡◌, ℕ, Bool, ◌<◌, ◌≤◌, ◌+◌, ◌-◌, IfSome, List, [], ◌∷◌, ◌++◌, Ok, Option, map, slice_get};
+ghost use Rattle.iso_model.specs.declared.access.Geometry.{Geometry};
+ghost use Rattle.iso_model.specs.declared.stores.Area.{Area};
+ghost use Rattle.iso_model.specs.Array.{Array};
+ghost use Rattle.iso_model.specs.HashCalls.{del_program, get_program, put_program};
+ghost use Rattle.iso_model.specs.HashRegion.{del_op, get_op, hash_map, put_op, IsHashArea, IsHashRegion};
+ghost use Rattle.iso_model.specs.History.{array_at, last, History};
+ghost use Rattle.iso_model.specs.Isolation.{IsIsolated};
+ghost use Rattle.store_laws.specs.Growing.{IsMadeOf};
+ghost use Rattle.store_laws.specs.Hash.{hash_store, Del, Get, Got, HashAnswer, HashCall, Put, WasPut, WasThere};
+ghost use Rattle.store_laws.specs.Parts.{AnswerInOrder, AreOfCalls, Called, IsOfCalls, Part};
+ghost use Rattle.tx_blocks.specs.Runs.{HasEnded, IsLocalCall};
+ghost use Rattle.tx_blocks.specs.Tx.{added, Tx};
+
+/// Where commits write the region of a hash store by `get`, `put` and `del` that answered Ok alone, and it begins well formed, the
+/// calls of each commit answer as one thread's `get`, `insert` and `remove` on a finite map: it begins as the map of the array directly
+/// before the commit, and ends as the map of the array directly after it.
+pub fn committed_hash_calls_answer_in_order()
+    ensures { (a : Area) (g : Geometry) (H : History) → IsHashArea a → 0 < H.first → IsIsolated g H → AreOfCalls (hash_store a) H → IsHashRegion a (array_at H (H.first - 1))
+        → (k : ℕ) → H.first ≤ k → k ≤ last H
+        → IfSome (slice_get H.commits (k - H.first)) (λ c. (of : IsOfCalls (hash_store a) H c) → AnswerInOrder (hash_store a) of.parts (array_at H (k - 1)) (array_at H k)) }
+{}
+
+/// What the calls of the hash store promise of an answer Ok, that they made the accesses of their program and are local, makes them
+/// parts of their transaction.
+pub fn hash_calls_are_parts()
+    ensures got { (a : Area) (key : List ℕ) (A : Array) (t u : Tx) (parts : List (Part HashCall HashAnswer)) (r : Option (List ℕ)) → IsMadeOf (hash_store a) A t parts
+        → HasEnded (get_program a key) t u (Ok r) → IsLocalCall (IsHashRegion a) (hash_map a) (get_op key) t u r
+        → IsMadeOf (hash_store a) A u (parts ++ Called (Get key) (added t u) (Got r) ∷ []) }
+    ensures was_put { (a : Area) (key value : List ℕ) (A : Array) (t u : Tx) (parts : List (Part HashCall HashAnswer)) (r : Unit {0}) → IsMadeOf (hash_store a) A t parts
+        → HasEnded (put_program a key value) t u (Ok r) → IsLocalCall (IsHashRegion a) (hash_map a) (put_op key value) t u r
+        → IsMadeOf (hash_store a) A u (parts ++ Called (Put key value) (added t u) WasPut ∷ []) }
+    ensures was_there { (a : Area) (key : List ℕ) (A : Array) (t u : Tx) (parts : List (Part HashCall HashAnswer)) (r : Bool) → IsMadeOf (hash_store a) A t parts
+        → HasEnded (del_program a key) t u (Ok r) → IsLocalCall (IsHashRegion a) (hash_map a) (del_op key) t u r
+        → IsMadeOf (hash_store a) A u (parts ++ Called (Del key) (added t u) (WasThere r) ∷ []) }
+{}
