@@ -3,3 +3,4 @@ pub mod InOrder
 pub mod Histories
 pub mod TwoStores
 pub mod Growth
+pub mod Blank

@@ -1,8 +1,10 @@
 // The laws of stores, at the hash store.
-ghost use Rattle.std.specs.Prelude.{◌≡◌, ℕ, Bool, ◌<◌, ◌≤◌, ◌+◌, ◌-◌, IfSome, List, [], ◌∷◌, ◌++◌, Ok, Option, map, slice_get};
+ghost use Rattle.std.specs.Prelude.{◌≡◌, ℕ, Bool, ◌<◌, ◌≤◌, ◌+◌, ◌-◌, IfSome, List, [], ◌∷◌, ◌++◌, Ok, Option, replicate, slice_get};
 ghost use Rattle.iso_model.specs.declared.access.Geometry.{Geometry};
 ghost use Rattle.iso_model.specs.declared.stores.Area.{Area};
-ghost use Rattle.iso_model.specs.Array.{Array};
+ghost use Rattle.std.specs.FinMap.{empty};
+ghost use Rattle.iso_model.specs.Array.{zeros, Array};
+ghost use Rattle.iso_model.specs.Premises.{block_at};
 ghost use Rattle.iso_model.specs.HashCalls.{del_program, get_program, put_program};
 ghost use Rattle.iso_model.specs.HashRegion.{del_op, get_op, hash_map, put_op, IsHashArea, IsHashRegion};
 ghost use Rattle.iso_model.specs.History.{array_at, last, History};
@@ -34,4 +36,11 @@ pub fn hash_calls_are_parts()
     ensures was_there { (a : Area) (key : List ℕ) (A : Array) (t u : Tx) (parts : List (Part HashCall HashAnswer)) (r : Bool) → IsMadeOf (hash_store a) A t parts
         → HasEnded (del_program a key) t u (Ok r) → IsLocalCall (IsHashRegion a) (hash_map a) (del_op key) t u r
         → IsMadeOf (hash_store a) A u (parts ++ Called (Del key) (added t u) (WasThere r) ∷ []) }
+{}
+
+/// A region of zeros is well formed and holds no pair; so is the region of a new image.
+pub fn blank_hash_regions_are_empty()
+    ensures blank { (a : Area) (A : Array) → IsHashArea a → ((k : ℕ) → k < a.blocks → block_at A (a.start + k) ≡ replicate a.size 0)
+        → IsHashRegion a A × (hash_map a A ≡ empty) }
+    ensures made { (a : Area) (n : ℕ) → IsHashArea a → a.start + a.blocks ≤ n → IsHashRegion a (zeros a.size n) × (hash_map a (zeros a.size n) ≡ empty) }
 {}
