@@ -4,3 +4,5 @@ pub mod Histories
 pub mod TwoStores
 pub mod Growth
 pub mod Blank
+pub mod Programs
+pub mod HashWrites

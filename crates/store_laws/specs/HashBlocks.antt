@@ -26,6 +26,10 @@ same_in_range f g from (suc n) same =
     ap (λ first. first ++ flat_map f (range_with_len (from + 1) n)) (same from (omega arith))
     ∙ ap (λ rest. g from ++ rest) (same_in_range f g (from + 1) n (λ k below. same k (omega arith)))
 
+-- the blocks of an area
+pub in_its_area : (a : Area) (k : ℕ) → k < a.blocks → in_area a (a.start + k) ≡ true
+in_its_area a k below = grind (arith, nat_tests)
+
 module _ (a : Area) (A B : Array) (area : IsHashArea a) (same : (b : ℕ) → in_area a b ≡ true → block_at B b ≡ block_at A b) (region : IsHashRegion a A) where
   old : ℕ → List ℕ
   old = (view_of a A).keys
@@ -33,11 +37,8 @@ module _ (a : Area) (A B : Array) (area : IsHashArea a) (same : (b : ℕ) → in
   new : ℕ → List ℕ
   new = (view_of a B).keys
 
-  inside : (k : ℕ) → k < a.blocks → in_area a (a.start + k) ≡ true
-  inside k below = grind (arith, nat_tests)
-
   same_block : (k : ℕ) → k < a.blocks → block_at B (a.start + k) ≡ block_at A (a.start + k)
-  same_block k below = same (a.start + k) (inside k below)
+  same_block k below = same (a.start + k) (in_its_area a k below)
 
   same_keys : (k : ℕ) → k < a.blocks → new k ≡ old k
   unfolding new old

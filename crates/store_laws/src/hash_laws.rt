@@ -1,5 +1,5 @@
 // The laws of stores, at the hash store.
-ghost use Rattle.std.specs.Prelude.{◌≡◌, ℕ, Bool, ◌<◌, ◌≤◌, ◌+◌, ◌-◌, IfSome, List, [], ◌∷◌, ◌++◌, Ok, Option, replicate, slice_get};
+ghost use Rattle.std.specs.Prelude.{◌≡◌, ℕ, Bool, ◌<◌, ◌≤◌, ◌+◌, ◌-◌, IfSome, List, [], ◌∷◌, ◌++◌, Ok, Option, Some, replicate, slice_get};
 ghost use Rattle.iso_model.specs.declared.access.Geometry.{Geometry};
 ghost use Rattle.iso_model.specs.declared.stores.Area.{Area};
 ghost use Rattle.std.specs.FinMap.{empty};
@@ -12,6 +12,7 @@ ghost use Rattle.iso_model.specs.Isolation.{IsIsolated};
 ghost use Rattle.store_laws.specs.Growing.{IsMadeOf};
 ghost use Rattle.store_laws.specs.Hash.{hash_store, Del, Get, Got, HashAnswer, HashCall, Put, WasPut, WasThere};
 ghost use Rattle.store_laws.specs.Parts.{AnswerInOrder, AreOfCalls, Called, IsOfCalls, Part};
+ghost use Rattle.store_laws.specs.Writes.{WriteWithin};
 ghost use Rattle.tx_blocks.specs.Runs.{HasEnded, IsLocalCall};
 ghost use Rattle.tx_blocks.specs.Tx.{added, Tx};
 
@@ -43,4 +44,14 @@ pub fn blank_hash_regions_are_empty()
     ensures blank { (a : Area) (A : Array) → IsHashArea a → ((k : ℕ) → k < a.blocks → block_at A (a.start + k) ≡ replicate a.size 0)
         → IsHashRegion a A × (hash_map a A ≡ empty) }
     ensures made { (a : Area) (n : ℕ) → IsHashArea a → a.start + a.blocks ≤ n → IsHashRegion a (zeros a.size n) × (hash_map a (zeros a.size n) ≡ empty) }
+{}
+
+/// A call of the hash store that answered Ok wrote blocks of its area alone, whatever the array.
+pub fn hash_calls_write_their_area()
+    ensures got { (a : Area) (key : List ℕ) (A : Array) (t u : Tx) (r : Option (List ℕ)) → IsHashArea a → t.base ≡ Some A
+        → HasEnded (get_program a key) t u (Ok r) → WriteWithin (hash_store a) (added t u) }
+    ensures was_put { (a : Area) (key value : List ℕ) (A : Array) (t u : Tx) (r : Unit {0}) → IsHashArea a → t.base ≡ Some A
+        → HasEnded (put_program a key value) t u (Ok r) → WriteWithin (hash_store a) (added t u) }
+    ensures was_there { (a : Area) (key : List ℕ) (A : Array) (t u : Tx) (r : Bool) → IsHashArea a → t.base ≡ Some A
+        → HasEnded (del_program a key) t u (Ok r) → WriteWithin (hash_store a) (added t u) }
 {}

@@ -10,6 +10,7 @@ ghost use Rattle.iso_model.specs.Isolation.{IsIsolated};
 ghost use Rattle.store_laws.specs.Both.{firsts, AreMixed, AreOfBoth, BothInOrder, BothWellFormed, IsOfBoth, MixedParts};
 ghost use Rattle.store_laws.specs.Growing.{IsMadeOf};
 ghost use Rattle.store_laws.specs.Parts.{accesses_in, answers_in, calls_in, AnswerInOrder, AreMade, AreOfCalls, IsOfCalls, Called, Other, Part};
+ghost use Rattle.store_laws.specs.Writes.{AreApart, WriteWithin};
 ghost use Rattle.store_laws.specs.Region.{SpareRegion};
 ghost use Rattle.tx_blocks.specs.Runs.{IsLocalCall};
 ghost use Rattle.tx_blocks.specs.Tx.{added, with_accesses, Tx};
@@ -50,6 +51,7 @@ pub fn calls_of_two_stores_answer_in_order<S: RegionStore, T: RegionStore>(first
         → IfSome (slice_get H.commits (k - H.first)) (λ c. (of : IsOfBoth s t H c) → BothInOrder s t of.parts (array_at H (k - 1)) (array_at H k)) }
     ensures live { let s = S.store first.now in let t = T.store second.now in (A : Array) (parts : MixedParts s t) → AreMixed s t A parts → BothWellFormed s t A
         → BothInOrder s t parts A (own A (accesses_in (firsts parts))) }
+    ensures apart { let s = S.store first.now in let t = T.store second.now in (accesses : List Access) → AreApart s t → WriteWithin s accesses → SpareRegion t accesses }
 {}
 
 /// A transaction is made of no parts at its begin, and of one part more after each call that is local for its store, and after other

@@ -1,3 +1,4 @@
+use Rattle.store_laws.proofs.Programs.{spare_where_apart}
 use Rattle.store_laws.proofs.TwoStores.{both_commit, both_commits, both_live}
 use Rattle.store_laws.proofs.laws.calls_of_two_stores_answer_in_order.Goals as goal
 
@@ -12,3 +13,6 @@ returns-clause-history g c =
 pub returns-clause-live : goal.returns-clause-live
 returns-clause-live g c =
     both_live (g.S.RegionStore.store c.args.first.now) (g.T.RegionStore.store c.args.second.now) (g.S.RegionStore.regional c.args.first.now) (g.T.RegionStore.regional c.args.second.now)
+
+pub returns-clause-apart : goal.returns-clause-apart
+returns-clause-apart g c = spare_where_apart (g.S.RegionStore.store c.args.first.now) (g.T.RegionStore.store c.args.second.now)

@@ -1,0 +1,58 @@
+-- What a program may answer, and which blocks it may write, whatever it reads.
+use Rattle.std.proofs.Common.{◌≡◌, sym, refl, subst, ℕ, Bool, true, false, cond, IsTrue, List, [], ◌∷◌, Option, Some, None}
+use Rattle.std.proofs.lemmas.Bool.{both_ways}
+use Rattle.iso_model.specs.declared.access.Access.{Access}
+use Rattle.iso_model.specs.Array.{Array, put}
+use Rattle.iso_model.specs.Effect.{is_write}
+use Rattle.iso_model.specs.Premises.{block_at}
+use Rattle.iso_model.specs.Stores.{Done, Look, LookWhole, Program, Reserve, Store, accesses_of, bytes_in, further_bytes, store_access, then_do}
+use Rattle.store_laws.specs.Region as region
+use Rattle.store_laws.specs.Region.{SpareRegion}
+use Rattle.store_laws.specs.Writes.{AreApart, WriteWithin}
+
+-- each answer that it may give has the property
+abbrev pub Answers : {R : Type 0} → (R → Type 0) → Program R → Type 0
+Answers P (Done r) = P r
+Answers P (Look block mark further next) = (xs ys : List ℕ) → Answers P (next xs ys)
+Answers P (LookWhole block next) = (xs : List ℕ) → Answers P (next xs)
+Answers P (Reserve count next) = Answers P next
+Answers P (Store block spans bytes next) = Answers P next
+
+-- each block that it may write passes the test
+abbrev pub StoresIn : {R : Type 0} → (ℕ → Bool) → Program R → Type 0
+StoresIn has (Done r) = Unit {0}
+StoresIn has (Look block mark further next) = (xs ys : List ℕ) → StoresIn has (next xs ys)
+StoresIn has (LookWhole block next) = (xs : List ℕ) → StoresIn has (next xs)
+StoresIn has (Reserve count next) = StoresIn has next
+StoresIn has (Store block spans bytes next) = (has block ≡ true) × StoresIn has next
+
+pub stores_then : {R S : Type 0} (has : ℕ → Bool) (P : R → Type 0) (p : Program R) (f : R → Program S) → StoresIn has p → Answers P p → ((r : R) → P r → StoresIn has (f r))
+    → StoresIn has (then_do p f)
+stores_then has P (Done r) f stores answers each = each r answers
+stores_then has P (Look block mark further next) f stores answers each = λ xs ys. stores_then has P (next xs ys) f (stores xs ys) (answers xs ys) each
+stores_then has P (LookWhole block next) f stores answers each = λ xs. stores_then has P (next xs) f (stores xs) (answers xs) each
+stores_then has P (Reserve count next) f stores answers each = stores_then has P next f stores answers each
+stores_then has P (Store block spans bytes next) f stores answers each = (stores.0, stores_then has P next f stores.1 answers each)
+
+pub writes_within : {R : Type 0} (s : region.Store) (p : Program R) (A : Array) → StoresIn s.has_block p → WriteWithin s (accesses_of p A)
+writes_within s (Done r) A stores = tt
+writes_within s (Look block mark further next) A stores =
+    let x = bytes_in mark (block_at A block) in
+    let y = further_bytes (further x) (block_at A block) in
+    (λ write. absurd (both_ways false refl write), writes_within s (next x y) A (stores x y))
+writes_within s (LookWhole block next) A stores = (λ write. absurd (both_ways false refl write), writes_within s (next (block_at A block)) A (stores (block_at A block)))
+writes_within s (Reserve count next) A stores = writes_within s next A stores
+writes_within s (Store block spans bytes next) A stores = (λ write. stores.0, writes_within s next (put A (store_access block spans bytes)) stores.1)
+
+pub stores_cond : {R : Type 0} (has : ℕ → Bool) (t : Bool) (p q : Program R) → StoresIn has p → StoresIn has q → StoresIn has (cond t p q)
+stores_cond has true p q one two = one
+stores_cond has false p q one two = two
+
+pub answers_cond : {R : Type 0} (P : R → Type 0) (t : Bool) (p q : Program R) → (t ≡ true → Answers P p) → (t ≡ false → Answers P q) → Answers P (cond t p q)
+answers_cond P true p q one two = one refl
+answers_cond P false p q one two = two refl
+
+-- what is written in one region is not written in the other
+pub spare_where_apart : (s t : region.Store) (accesses : List Access) → AreApart s t → WriteWithin s accesses → SpareRegion t accesses
+spare_where_apart s t [] apart within = tt
+spare_where_apart s t (a ∷ accesses) apart within = (λ write. apart a.block (within.0 write), spare_where_apart s t accesses apart within.1)
