@@ -12,8 +12,8 @@ use Rattle.iso_model.specs.Effect.{has_write, is_write, own}
 use Rattle.iso_model.specs.History.{History, array_at, last}
 use Rattle.iso_model.specs.Isolation.{HasSeen, IsIsolated, IsIsolatedAt}
 use Rattle.store_laws.specs.Region.{IsOfItsBlocks, Store}
-use Rattle.store_laws.specs.Parts.{AnswerInOrder, AreMade, AreOfCalls, Called, IsOfCalls, Other, Part, accesses_in, answers_in, calls_in}
-use Rattle.store_laws.proofs.InOrder.{commit_by, same_shape}
+use Rattle.store_laws.specs.Parts.{AnswerInOrder, AreMade, AreOfCalls, Called, IsByCalls, IsOfCalls, Other, Part, accesses_in, answers_in, calls_in}
+use Rattle.store_laws.proofs.InOrder.{commit_by, live_in_order, same_shape}
 
 -- a commit that has seen what it should, and makes no calls or is serial
 mode_serial : (s : Store) (g : Geometry) (H : History) (k : ℕ) (c : Commit) (of : IsOfCalls s H c) → HasSeen g H k c → (calls_in of.parts ≡ []) ⊎ IsSerialAt H k
@@ -53,25 +53,25 @@ well_after s regional g H first isolated of well (suc n) within =
     (isolated k from to) (of k from to))
 
 -- the region is well formed at each number
-pub well_formed_at : (s : Store) → IsOfItsBlocks s → (g : Geometry) (H : History) → 0 < H.first → IsIsolated g H → AreOfCalls s H → s.IsWellFormed (array_at H (H.first - 1))
-    → (n : ℕ) → H.first ≤ n + 1 → n ≤ last H → s.IsWellFormed (array_at H n)
-well_formed_at s regional g H first isolated of well n from to =
+pub well_formed_at : (s : Store) → IsOfItsBlocks s → (g : Geometry) (H : History) → IsByCalls s g H → (n : ℕ) → H.first ≤ n + 1 → n ≤ last H → s.IsWellFormed (array_at H n)
+well_formed_at s regional g H by n from to =
+    let first = by.first in
     let m = n + 1 - H.first in
     let e : H.first - 1 + m ≡ n = omega arith in
-    subst (λ j. s.IsWellFormed (array_at H j)) e (well_after s regional g H first isolated of well m (omega arith))
+    subst (λ j. s.IsWellFormed (array_at H j)) e (well_after s regional g H by.first by.isolated by.calls by.begins m (omega arith))
 
 -- each commit's calls answer by the map directly before it
 pub if_some : {A : Type 0} (P Q : A → Type 0) (o : Option A) → ((x : A) → o ≡ Some x → P x → Q x) → IfSome o P → IfSome o Q
 if_some P Q None each p = tt
 if_some P Q (Some x) each p = each x refl p
 
-pub commits_in_order : (s : Store) → IsOfItsBlocks s → (g : Geometry) (H : History) → 0 < H.first → IsIsolated g H → AreOfCalls s H → s.IsWellFormed (array_at H (H.first - 1))
-    → (k : ℕ) → H.first ≤ k → k ≤ last H
+pub commits_in_order : (s : Store) → IsOfItsBlocks s → (g : Geometry) (H : History) → IsByCalls s g H → (k : ℕ) → H.first ≤ k → k ≤ last H
     → IfSome (slice_get H.commits (k - H.first)) (λ c. (of : IsOfCalls s H c) → AnswerInOrder s of.parts (array_at H (k - 1)) (array_at H k))
-commits_in_order s regional g H first isolated of well k from to =
+commits_in_order s regional g H by k from to =
+    let first = by.first in
     if_some (HasSeen g H k) (λ c. (of : IsOfCalls s H c) → AnswerInOrder s of.parts (array_at H (k - 1)) (array_at H k)) (slice_get H.commits (k - H.first))
-    (λ c is seen has. commit_follows s regional g H k c first from is seen has (well_formed_at s regional g H first isolated of well (k - 1) (omega arith) (omega arith)))
-    (isolated k from to)
+    (λ c is seen has. commit_follows s regional g H k c by.first from is seen has (well_formed_at s regional g H by (k - 1) (omega arith) (omega arith)))
+    (by.isolated k from to)
 
 read_next : (a : Access) (test rest : Bool) (A : Array) → test || rest ≡ false → (cond test (put A a) A ≡ A) × (rest ≡ false)
 read_next a false rest A none = (refl, none)
@@ -97,3 +97,12 @@ read_only_answers s A (Called call accesses answer ∷ parts) made well none =
 read_only_answers s A (Other accesses ∷ parts) made well none =
     let leaves = reads_leave accesses (accesses_in parts) A none in
     read_only_answers s A parts (subst (λ (B : Array). AreMade s B parts) leaves.0 made.1) well leaves.1
+
+-- what a transaction of the history that began at a commit is answered
+pub live_at : (s : Store) → IsOfItsBlocks s → (g : Geometry) (H : History) (begin : ℕ) (parts : List (Part s.Call s.Answer)) → IsByCalls s g H → H.first ≤ begin + 1 → begin ≤ last H
+    → AreMade s (array_at H begin) parts → AnswerInOrder s parts (array_at H begin) (own (array_at H begin) (accesses_in parts))
+live_at s regional g H begin parts by from to made = live_in_order s regional (array_at H begin) parts made (well_formed_at s regional g H by begin from to)
+
+pub read_only_at : (s : Store) → IsOfItsBlocks s → (g : Geometry) (H : History) (begin : ℕ) (parts : List (Part s.Call s.Answer)) → IsByCalls s g H → H.first ≤ begin + 1 → begin ≤ last H
+    → AreMade s (array_at H begin) parts → has_write (accesses_in parts) ≡ false → answers_in parts ≡ map (λ call. (s.act call (s.map_of (array_at H begin))).0) (calls_in parts)
+read_only_at s regional g H begin parts by from to made none = read_only_answers s (array_at H begin) parts made (well_formed_at s regional g H by begin from to) none

@@ -8,8 +8,8 @@ use Rattle.iso_model.specs.Conflict.{IsSerialAt}
 use Rattle.iso_model.specs.Effect.{own}
 use Rattle.iso_model.specs.History.{History, array_at, last}
 use Rattle.iso_model.specs.Isolation.{IsIsolated}
-use Rattle.store_laws.specs.Both.{AreMixed, AreOfBoth, BothInOrder, BothWellFormed, First, IsOfBoth, Mixed, MixedParts, Neither, Second, firsts, seconds}
-use Rattle.store_laws.specs.Parts.{AnswerInOrder, AreMade, AreOfCalls, IsOfCalls, accesses_in}
+use Rattle.store_laws.specs.Both.{AreMixed, AreOfBoth, BothInOrder, BothWellFormed, First, IsByBoth, IsOfBoth, Mixed, MixedParts, Neither, Second, firsts, seconds}
+use Rattle.store_laws.specs.Parts.{AnswerInOrder, AreMade, AreOfCalls, IsByCalls, IsOfCalls, accesses_in}
 use Rattle.store_laws.specs.Region.{IsOfItsBlocks, Store}
 use Rattle.store_laws.proofs.Histories.{commits_in_order, if_some, well_formed_at}
 use Rattle.store_laws.proofs.InOrder.{commit_by, live_in_order}
@@ -75,12 +75,17 @@ two_if : {A : Type 0} (P Q R : A → Type 0) (o : Option A) → ((x : A) → P x
 two_if P Q R None each p q = tt
 two_if P Q R (Some x) each p q = each x p q
 
-pub both_commits : (s t : Store) → IsOfItsBlocks s → IsOfItsBlocks t → (g : Geometry) (H : History) → 0 < H.first → IsIsolated g H → AreOfBoth s t H → BothWellFormed s t (array_at H (H.first - 1))
-    → (k : ℕ) → H.first ≤ k → k ≤ last H
+first_by : (s t : Store) (g : Geometry) (H : History) → IsByBoth s t g H → IsByCalls s g H
+first_by s t g H by = record { first = by.first; isolated = by.isolated; calls = firsts_of s t H by.calls; begins = by.begins.first }
+
+second_by : (s t : Store) (g : Geometry) (H : History) → IsByBoth s t g H → IsByCalls t g H
+second_by s t g H by = record { first = by.first; isolated = by.isolated; calls = seconds_of s t H by.calls; begins = by.begins.second }
+
+pub both_commits : (s t : Store) → IsOfItsBlocks s → IsOfItsBlocks t → (g : Geometry) (H : History) → IsByBoth s t g H → (k : ℕ) → H.first ≤ k → k ≤ last H
     → IfSome (slice_get H.commits (k - H.first)) (λ c. (of : IsOfBoth s t H c) → BothInOrder s t of.parts (array_at H (k - 1)) (array_at H k))
-both_commits s t one two g H first isolated of well k from to =
+both_commits s t one two g H by k from to =
     two_if (λ c. (is : IsOfCalls s H c) → AnswerInOrder s is.parts (array_at H (k - 1)) (array_at H k)) (λ c. (is : IsOfCalls t H c) → AnswerInOrder t is.parts (array_at H (k - 1)) (array_at H k))
     (λ c. (of : IsOfBoth s t H c) → BothInOrder s t of.parts (array_at H (k - 1)) (array_at H k)) (slice_get H.commits (k - H.first))
     (λ c p q is. record { first = p (first_of_calls s t H c is); second = q (second_of_calls s t H c is) })
-    (commits_in_order s one g H first isolated (firsts_of s t H of) well.first k from to)
-    (commits_in_order t two g H first isolated (seconds_of s t H of) well.second k from to)
+    (commits_in_order s one g H (first_by s t g H by) k from to)
+    (commits_in_order t two g H (second_by s t g H by) k from to)

@@ -1,11 +1,13 @@
 -- Transactions that call two stores.
-use Rattle.std.specs.Prelude.{◌≡◌, ◌⊎◌, ℕ, ◌-◌, ◌≤◌, IfSome, List, [], ◌∷◌, slice_get}
+use Rattle.std.specs.Prelude.{◌≡◌, ◌⊎◌, ℕ, ◌-◌, ◌<◌, ◌≤◌, IfSome, List, [], ◌∷◌, slice_get}
 use Rattle.iso_model.specs.declared.access.Access.{Access}
 use Rattle.iso_model.specs.declared.access.Commit.{Commit}
+use Rattle.iso_model.specs.declared.access.Geometry.{Geometry}
 use Rattle.iso_model.specs.declared.access.Mode.TheVariants.{Serial}
 use Rattle.iso_model.specs.Array.{Array}
 use Rattle.iso_model.specs.Effect.{own}
 use Rattle.iso_model.specs.History.{History, array_at, last}
+use Rattle.iso_model.specs.Isolation.{IsIsolated}
 use Rattle.iso_model.specs.Stores.{IsLocal}
 use Rattle.store_laws.specs.Region.{Store, SpareRegion}
 use Rattle.store_laws.specs.Parts.{AnswerInOrder, Called, Other, Part, accesses_in, calls_in}
@@ -64,3 +66,10 @@ pub record IsOfBoth (s t : Store) (H : History) (c : Commit) : Type 0 where
 -- each commit does
 abbrev pub AreOfBoth : (s t : Store) → History → Type 0
 AreOfBoth s t H = (k : ℕ) → H.first ≤ k → k ≤ last H → IfSome (slice_get H.commits (k - H.first)) (IsOfBoth s t H)
+
+-- A history whose commits are isolated and write the two regions by calls alone, and in which both begin well formed.
+pub record IsByBoth (s t : Store) (g : Geometry) (H : History) : Type 0 where
+  pub first : 0 < H.first
+  pub isolated : IsIsolated g H
+  pub calls : AreOfBoth s t H
+  pub begins : BothWellFormed s t (array_at H (H.first - 1))

@@ -1,11 +1,13 @@
 -- A transaction cut into the calls of a store and other accesses, and the same calls on a map by one thread.
-use Rattle.std.specs.Prelude.{◌≡◌, ◌⊎◌, ℕ, ◌-◌, ◌≤◌, IfSome, List, [], ◌∷◌, ◌++◌, slice_get}
+use Rattle.std.specs.Prelude.{◌≡◌, ◌⊎◌, ℕ, ◌-◌, ◌<◌, ◌≤◌, IfSome, List, [], ◌∷◌, ◌++◌, slice_get}
 use Rattle.iso_model.specs.declared.access.Access.{Access}
 use Rattle.iso_model.specs.declared.access.Commit.{Commit}
+use Rattle.iso_model.specs.declared.access.Geometry.{Geometry}
 use Rattle.iso_model.specs.declared.access.Mode.TheVariants.{Serial}
 use Rattle.iso_model.specs.Array.{Array}
 use Rattle.iso_model.specs.Effect.{own}
 use Rattle.iso_model.specs.History.{History, array_at, last}
+use Rattle.iso_model.specs.Isolation.{IsIsolated}
 use Rattle.iso_model.specs.Stores.{IsLocal}
 use Rattle.store_laws.specs.Region.{Store, SpareRegion}
 
@@ -60,3 +62,10 @@ pub record IsOfCalls (s : Store) (H : History) (c : Commit) : Type 0 where
 -- each commit does
 abbrev pub AreOfCalls : Store → History → Type 0
 AreOfCalls s H = (k : ℕ) → H.first ≤ k → k ≤ last H → IfSome (slice_get H.commits (k - H.first)) (IsOfCalls s H)
+
+-- A history whose commits are isolated and write the region by calls alone, and in which the region begins well formed.
+pub record IsByCalls (s : Store) (g : Geometry) (H : History) : Type 0 where
+  pub first : 0 < H.first
+  pub isolated : IsIsolated g H
+  pub calls : AreOfCalls s H
+  pub begins : s.IsWellFormed (array_at H (H.first - 1))

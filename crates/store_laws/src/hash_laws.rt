@@ -1,5 +1,5 @@
 // The laws of stores, at the hash store.
-ghost use Rattle.std.specs.Prelude.{◌≡◌, ℕ, Bool, ◌<◌, ◌≤◌, ◌+◌, ◌-◌, IfSome, List, [], ◌∷◌, ◌++◌, Ok, Option, Some, replicate, slice_get};
+ghost use Rattle.std.specs.Prelude.{◌≡◌, ℕ, Bool, ◌<◌, ◌≤◌, ◌+◌, ◌-◌, IfSome, IsFalse, List, [], ◌∷◌, ◌++◌, Ok, Option, Some, map, replicate, slice_get};
 ghost use Rattle.iso_model.specs.declared.access.Geometry.{Geometry};
 ghost use Rattle.iso_model.specs.declared.stores.Area.{Area};
 ghost use Rattle.std.specs.FinMap.{empty};
@@ -7,11 +7,11 @@ ghost use Rattle.iso_model.specs.Array.{zeros, Array};
 ghost use Rattle.iso_model.specs.Premises.{block_at};
 ghost use Rattle.iso_model.specs.HashCalls.{del_program, get_program, put_program};
 ghost use Rattle.iso_model.specs.HashRegion.{del_op, get_op, hash_map, put_op, IsHashArea, IsHashRegion};
+ghost use Rattle.iso_model.specs.Effect.{has_write};
 ghost use Rattle.iso_model.specs.History.{array_at, last, History};
-ghost use Rattle.iso_model.specs.Isolation.{IsIsolated};
 ghost use Rattle.store_laws.specs.Growing.{IsMadeOf};
-ghost use Rattle.store_laws.specs.Hash.{hash_store, Del, Get, Got, HashAnswer, HashCall, Put, WasPut, WasThere};
-ghost use Rattle.store_laws.specs.Parts.{AnswerInOrder, AreOfCalls, Called, IsOfCalls, Part};
+ghost use Rattle.store_laws.specs.Hash.{hash_act, hash_store, Del, Get, Got, HashAnswer, HashCall, Put, WasPut, WasThere};
+ghost use Rattle.store_laws.specs.Parts.{accesses_in, answers_in, calls_in, AnswerInOrder, AreMade, Called, IsByCalls, IsOfCalls, Part};
 ghost use Rattle.store_laws.specs.Writes.{WriteWithin};
 ghost use Rattle.tx_blocks.specs.Runs.{HasEnded, IsLocalCall};
 ghost use Rattle.tx_blocks.specs.Tx.{added, Tx};
@@ -20,9 +20,11 @@ ghost use Rattle.tx_blocks.specs.Tx.{added, Tx};
 /// calls of each commit answer as one thread's `get`, `insert` and `remove` on a finite map: it begins as the map of the array directly
 /// before the commit, and ends as the map of the array directly after it.
 pub fn committed_hash_calls_answer_in_order()
-    ensures { (a : Area) (g : Geometry) (H : History) → IsHashArea a → 0 < H.first → IsIsolated g H → AreOfCalls (hash_store a) H → IsHashRegion a (array_at H (H.first - 1))
-        → (k : ℕ) → H.first ≤ k → k ≤ last H
+    ensures history { (a : Area) (g : Geometry) (H : History) → IsHashArea a → IsByCalls (hash_store a) g H → (k : ℕ) → H.first ≤ k → k ≤ last H
         → IfSome (slice_get H.commits (k - H.first)) (λ c. (of : IsOfCalls (hash_store a) H c) → AnswerInOrder (hash_store a) of.parts (array_at H (k - 1)) (array_at H k)) }
+    ensures read_only { (a : Area) (g : Geometry) (H : History) (begin : ℕ) (parts : List (Part HashCall HashAnswer)) → IsHashArea a → IsByCalls (hash_store a) g H
+        → H.first ≤ begin + 1 → begin ≤ last H → AreMade (hash_store a) (array_at H begin) parts → IsFalse (has_write (accesses_in parts))
+        → answers_in parts ≡ map (λ call. (hash_act call (hash_map a (array_at H begin))).0) (calls_in parts) }
 {}
 
 /// What the calls of the hash store promise of an answer Ok, that they made the accesses of their program and are local, makes them

@@ -1,53 +1,54 @@
 // The laws of stores: each function does nothing, and its contract is the law.
 ghost use Rattle.std.specs.Prelude.{◌≡◌, ℕ, ◌<◌, ◌≤◌, ◌+◌, ◌-◌, IsFalse, IfSome, List, [], ◌∷◌, ◌++◌, Some, map, slice_get};
+ghost use Rattle.iso_model.specs.declared.access.Access.{Access};
 ghost use Rattle.iso_model.specs.declared.access.Commit.{Commit};
 ghost use Rattle.iso_model.specs.declared.access.Geometry.{Geometry};
 ghost use Rattle.iso_model.specs.Array.{Array};
 ghost use Rattle.iso_model.specs.Conflict.{IsSerialAt};
 ghost use Rattle.iso_model.specs.Effect.{has_write, own};
 ghost use Rattle.iso_model.specs.History.{array_at, last, History};
-ghost use Rattle.iso_model.specs.Isolation.{IsIsolated};
-ghost use Rattle.store_laws.specs.Both.{firsts, AreMixed, AreOfBoth, BothInOrder, BothWellFormed, IsOfBoth, MixedParts};
+ghost use Rattle.store_laws.specs.Both.{firsts, AreMixed, BothInOrder, BothWellFormed, IsByBoth, IsOfBoth, MixedParts};
 ghost use Rattle.store_laws.specs.Growing.{IsMadeOf};
-ghost use Rattle.store_laws.specs.Parts.{accesses_in, answers_in, calls_in, AnswerInOrder, AreMade, AreOfCalls, IsOfCalls, Called, Other, Part};
-ghost use Rattle.store_laws.specs.Writes.{AreApart, WriteWithin};
+ghost use Rattle.store_laws.specs.Parts.{accesses_in, answers_in, calls_in, AnswerInOrder, AreMade, Called, IsByCalls, IsOfCalls, Other, Part};
 ghost use Rattle.store_laws.specs.Region.{SpareRegion};
+ghost use Rattle.store_laws.specs.Writes.{AreApart, WriteWithin};
 ghost use Rattle.tx_blocks.specs.Runs.{IsLocalCall};
 ghost use Rattle.tx_blocks.specs.Tx.{added, with_accesses, Tx};
-ghost use Rattle.iso_model.specs.declared.access.Access.{Access};
 
 use crate::RegionStore;
 
-/// Where a region begins well formed, and commits write it by calls of its store alone, the calls of a commit answer as one
-/// thread's calls on a map, which begins as the map directly before the commit and ends as the map directly after it.
-/// `commit` says it of one commit that is serial, `history` of all commits of an isolated history.
+/// The calls of a commit answer as one thread's calls on a map, which begins as the map directly before the commit and ends as the
+/// map directly after it: `commit` says it of a commit that is serial, `history` of all commits of a history. In a history each
+/// region is well formed, a transaction's calls answer so by the map at its begin, and one without writes leaves that map.
 pub fn committed_calls_answer_in_order<S: RegionStore>(store: &S)
     ensures commit { let s = S.store store.now in (H : History) (k : ℕ) (c : Commit) (parts : List (Part s.Call s.Answer)) → 0 < H.first → H.first ≤ k
         → slice_get H.commits (k - H.first) ≡ Some c → IsSerialAt H k → accesses_in parts ≡ c.accesses → AreMade s (array_at H c.begin) parts
         → s.IsWellFormed (array_at H (k - 1)) → AnswerInOrder s parts (array_at H (k - 1)) (array_at H k) }
-    ensures history { let s = S.store store.now in (g : Geometry) (H : History) → 0 < H.first → IsIsolated g H → AreOfCalls s H → s.IsWellFormed (array_at H (H.first - 1))
-        → (k : ℕ) → H.first ≤ k → k ≤ last H
+    ensures history { let s = S.store store.now in (g : Geometry) (H : History) → IsByCalls s g H → (k : ℕ) → H.first ≤ k → k ≤ last H
         → IfSome (slice_get H.commits (k - H.first)) (λ c. (of : IsOfCalls s H c) → AnswerInOrder s of.parts (array_at H (k - 1)) (array_at H k)) }
-    ensures well_formed { let s = S.store store.now in (g : Geometry) (H : History) → 0 < H.first → IsIsolated g H → AreOfCalls s H → s.IsWellFormed (array_at H (H.first - 1))
-        → (n : ℕ) → H.first ≤ n + 1 → n ≤ last H → s.IsWellFormed (array_at H n) }
+    ensures well_formed { let s = S.store store.now in (g : Geometry) (H : History) → IsByCalls s g H → (n : ℕ) → H.first ≤ n + 1 → n ≤ last H
+        → s.IsWellFormed (array_at H n) }
+    ensures live { let s = S.store store.now in (g : Geometry) (H : History) (begin : ℕ) (parts : List (Part s.Call s.Answer)) → IsByCalls s g H
+        → H.first ≤ begin + 1 → begin ≤ last H → AreMade s (array_at H begin) parts
+        → AnswerInOrder s parts (array_at H begin) (own (array_at H begin) (accesses_in parts)) }
+    ensures read_only { let s = S.store store.now in (g : Geometry) (H : History) (begin : ℕ) (parts : List (Part s.Call s.Answer)) → IsByCalls s g H
+        → H.first ≤ begin + 1 → begin ≤ last H → AreMade s (array_at H begin) parts → IsFalse (has_write (accesses_in parts))
+        → answers_in parts ≡ map (λ call. (s.act call (s.map_of (array_at H begin))).0) (calls_in parts) }
 {}
 
-/// The calls of a transaction answer as one thread's calls on the map that was there at its begin; where it writes nothing, each of
-/// them by that map.
+/// The calls of a transaction answer as one thread's calls on the map of what it is shown, whatever the history.
 pub fn calls_answer_by_what_is_shown<S: RegionStore>(store: &S)
-    ensures live { let s = S.store store.now in (A : Array) (parts : List (Part s.Call s.Answer)) → AreMade s A parts → s.IsWellFormed A
+    ensures { let s = S.store store.now in (A : Array) (parts : List (Part s.Call s.Answer)) → AreMade s A parts → s.IsWellFormed A
         → AnswerInOrder s parts A (own A (accesses_in parts)) }
-    ensures read_only { let s = S.store store.now in (A : Array) (parts : List (Part s.Call s.Answer)) → AreMade s A parts → s.IsWellFormed A
-        → IsFalse (has_write (accesses_in parts)) → answers_in parts ≡ map (λ call. (s.act call (s.map_of A)).0) (calls_in parts) }
 {}
 
-/// The same of transactions that call two stores, whose regions are apart: the calls of each answer as one thread's calls on its map.
+/// The same of transactions that call two stores: the calls of each answer as one thread's calls on its map. Where the stores are
+/// apart, what writes the region of the one spares that of the other.
 pub fn calls_of_two_stores_answer_in_order<S: RegionStore, T: RegionStore>(first: &S, second: &T)
     ensures commit { let s = S.store first.now in let t = T.store second.now in (H : History) (k : ℕ) (c : Commit) (parts : MixedParts s t) → 0 < H.first → H.first ≤ k
         → slice_get H.commits (k - H.first) ≡ Some c → IsSerialAt H k → accesses_in (firsts parts) ≡ c.accesses → AreMixed s t (array_at H c.begin) parts
         → BothWellFormed s t (array_at H (k - 1)) → BothInOrder s t parts (array_at H (k - 1)) (array_at H k) }
-    ensures history { let s = S.store first.now in let t = T.store second.now in (g : Geometry) (H : History) → 0 < H.first → IsIsolated g H → AreOfBoth s t H
-        → BothWellFormed s t (array_at H (H.first - 1)) → (k : ℕ) → H.first ≤ k → k ≤ last H
+    ensures history { let s = S.store first.now in let t = T.store second.now in (g : Geometry) (H : History) → IsByBoth s t g H → (k : ℕ) → H.first ≤ k → k ≤ last H
         → IfSome (slice_get H.commits (k - H.first)) (λ c. (of : IsOfBoth s t H c) → BothInOrder s t of.parts (array_at H (k - 1)) (array_at H k)) }
     ensures live { let s = S.store first.now in let t = T.store second.now in (A : Array) (parts : MixedParts s t) → AreMixed s t A parts → BothWellFormed s t A
         → BothInOrder s t parts A (own A (accesses_in (firsts parts))) }

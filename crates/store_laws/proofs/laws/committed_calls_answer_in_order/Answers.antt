@@ -1,5 +1,5 @@
 use Rattle.std.proofs.Common.{inr}
-use Rattle.store_laws.proofs.Histories.{commits_in_order, well_formed_at}
+use Rattle.store_laws.proofs.Histories.{commits_in_order, live_at, read_only_at, well_formed_at}
 use Rattle.store_laws.proofs.InOrder.{commit_by}
 use Rattle.store_laws.proofs.laws.committed_calls_answer_in_order.Goals as goal
 
@@ -12,3 +12,9 @@ returns-clause-history g c = commits_in_order (g.S.RegionStore.store c.args.stor
 
 pub returns-clause-well_formed : goal.returns-clause-well_formed
 returns-clause-well_formed g c = well_formed_at (g.S.RegionStore.store c.args.store.now) (g.S.RegionStore.regional c.args.store.now)
+
+pub returns-clause-live : goal.returns-clause-live
+returns-clause-live g c = live_at (g.S.RegionStore.store c.args.store.now) (g.S.RegionStore.regional c.args.store.now)
+
+pub returns-clause-read_only : goal.returns-clause-read_only
+returns-clause-read_only g c = read_only_at (g.S.RegionStore.store c.args.store.now) (g.S.RegionStore.regional c.args.store.now)
