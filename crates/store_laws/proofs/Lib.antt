@@ -6,3 +6,4 @@ pub mod Growth
 pub mod Blank
 pub mod Programs
 pub mod HashWrites
+mod Rows

@@ -1,0 +1,123 @@
+-- A counter in the first byte of block 0, as a store: what the laws say of two additions, and what they refuse.
+use Rattle.std.proofs.Common.{◌≡◌, ◌∙◌, sym, refl, ap, ℕ, zero, suc, ◌+◌, ◌-◌, ◌<◌, ◌≤◌, ◌==◌, true, false, List, [], ◌∷◌, ◌++◌, IfSome, length, replicate, slice_get, arith, inl, inr}
+use Rattle.std.proofs.lemmas.Bool.{eqb-true}
+use Rattle.iso_model.specs.declared.access.Access.{Access}
+use Rattle.iso_model.specs.declared.access.Commit.{Commit}
+use Rattle.iso_model.specs.declared.access.Mode.TheVariants.{Serial, Snapshot}
+use Rattle.iso_model.specs.declared.access.Span.{Span}
+use Rattle.iso_model.specs.Array.{Array, byte_at, put, zeros}
+use Rattle.iso_model.specs.Conflict.{IsSerialAt}
+use Rattle.iso_model.specs.Effect.{own}
+use Rattle.iso_model.specs.History.{History, array_at}
+use Rattle.iso_model.specs.Premises.{block_at}
+use Rattle.iso_model.specs.Stores.{Agree, IsLocal, SameShape, depends, look_access, store_access}
+use Rattle.iso_model.proofs.Bytes.{length-block_put, put_here}
+use Rattle.iso_model.proofs.Isolation.{if_some_from}
+use Rattle.store_laws.specs.Parts.{AnswerInOrder, AreMade, Called, IsOfCalls, Other, Part, accesses_in, answers_in, calls_in, run}
+use Rattle.store_laws.specs.Region.{IsOfItsBlocks, SpareRegion, Store}
+use Rattle.store_laws.proofs.InOrder.{commit_by}
+
+-- a call adds a number, and answers what was there
+abbrev counter : Store
+counter = record {
+  Map = ℕ;
+  Call = ℕ;
+  Answer = ℕ;
+  has_block = λ b. b == 0;
+  IsWellFormed = λ A. length (block_at A 0) ≡ 64;
+  map_of = λ A. byte_at A 0 0;
+  act = λ n m. (m, m + n);
+}
+
+pub counter_is_of_its_blocks : IsOfItsBlocks counter
+counter_is_of_its_blocks = record {
+  well_formed = λ A B same well. ap length (same 0 refl) ∙ well;
+  map_is = λ A B same well. ap (λ (block : List ℕ). Rattle.std.proofs.Common.get_or block 0 0) (same 0 refl);
+}
+
+abbrev first_byte : List Span
+first_byte = record { off = 0; len = 1 } ∷ []
+
+-- the accesses of an addition to what is shown
+abbrev adding : (shown n : ℕ) → List Access
+adding shown n = look_access 0 first_byte ∷ store_access 0 first_byte ((shown + n) ∷ replicate 63 0) ∷ []
+
+pub adding_is_local : (A : Array) (shown n : ℕ) → byte_at A 0 0 ≡ shown → IsLocal counter.IsWellFormed counter.map_of (counter.act n) A (adding shown n) shown
+adding_is_local A shown n is = record {
+  answers = λ B same well agree. agree 0 0 refl ∙ is;
+  well_formed = λ B same well agree. length-block_put B (store_access 0 first_byte ((shown + n) ∷ replicate 63 0)) 0 ∙ well;
+  maps = λ B same well agree.
+      put_here B (store_access 0 first_byte ((shown + n) ∷ replicate 63 0)) 0 (sym well) (omega arith)
+      ∙ ap (λ (m : ℕ). m + n) (sym (agree 0 0 refl ∙ is));
+}
+
+-- an addition in a transaction that began at a commit
+abbrev added_from : (begin shown n : ℕ) → Commit
+added_from begin shown n = record { begin = begin; mode = Serial; accesses = adding shown n }
+
+abbrev history : List Commit → History
+history commits = record { first = 1; base = zeros 64 4; commits = commits }
+
+abbrev one_call : (shown n : ℕ) → List (Part ℕ ℕ)
+one_call shown n = Called n (adding shown n) shown ∷ []
+
+-- Two additions, one after the other: the second read what the first wrote.
+abbrev in_turn : History
+in_turn = history (added_from 0 0 5 ∷ added_from 1 5 2 ∷ [])
+
+pub each_began_before_itself : IsSerialAt in_turn 2
+each_began_before_itself = λ i p. if_some_from _ (slice_get (adding 5 2) i) (λ a is covered. refl)
+
+pub second_answers_five : AnswerInOrder counter (one_call 5 2) (array_at in_turn 1) (array_at in_turn 2)
+unfolding put
+second_answers_five =
+    commit_by counter counter_is_of_its_blocks in_turn 2 (added_from 1 5 2) (one_call 5 2) (omega arith) (omega arith) refl (inr each_began_before_itself) refl
+    (adding_is_local (array_at in_turn 1) 5 2 refl, tt) refl
+
+pub counts_seven : run counter 0 (5 ∷ 2 ∷ []) ≡ (0 ∷ 5 ∷ [], 7)
+counts_seven = refl
+
+pub holds_seven : counter.map_of (array_at in_turn 2) ≡ 7
+unfolding put
+holds_seven = refl
+
+some_number : (n : ℕ) → zero ≡ suc n → ⊥
+some_number n e = cc
+
+-- A lost update: both began at 0. Each made its call on what it was shown, and the second is not serial; nor did it answer in order.
+abbrev lost_update : History
+lost_update = history (added_from 0 0 5 ∷ added_from 0 0 2 ∷ [])
+
+pub lost_update_is_made : AreMade counter (array_at lost_update 0) (one_call 0 2)
+lost_update_is_made = (adding_is_local (array_at lost_update 0) 0 2 refl, tt)
+
+pub lost_update_is_not_serial : IsSerialAt lost_update 2 → ⊥
+unfolding put
+lost_update_is_not_serial is = some_number 4 (is 0 0 refl)
+
+head_of : List ℕ → ℕ
+head_of xs = Rattle.std.proofs.Common.get_or xs 0 0
+
+pub lost_update_is_not_in_order : AnswerInOrder counter (one_call 0 2) (array_at lost_update 1) (array_at lost_update 2) → ⊥
+unfolding put head_of
+lost_update_is_not_in_order is = some_number 4 (sym (ap head_of is.answers))
+
+-- A plain write of the region is no other access.
+pub plain_write_is_no_part : SpareRegion counter (store_access 0 first_byte (replicate 64 1) ∷ []) → ⊥
+plain_write_is_no_part spare = Rattle.std.proofs.lemmas.Bool.false≢true (sym (spare.0 refl))
+
+none_read : (b p : ℕ) → depends (store_access 0 first_byte (2 ∷ replicate 63 0) ∷ []) b p ≡ true → ⊥
+none_read b p has = Rattle.std.proofs.lemmas.Bool.false≢true (Rattle.std.proofs.lemmas.Bool.and_parts _ false has).1
+
+-- one byte of block 0 is another
+abbrev other_array : Array
+other_array = (1 ∷ replicate 63 0) ∷ replicate 3 (replicate 64 0)
+
+other_lengths : (b : ℕ) → length (block_at other_array b) ≡ length (block_at (zeros 64 4) b)
+other_lengths zero = refl
+other_lengths (suc b) = refl
+
+-- A call that answers by what it has not read is not local.
+pub unread_is_not_local : IsLocal counter.IsWellFormed counter.map_of (counter.act 2) (zeros 64 4) (store_access 0 first_byte (2 ∷ replicate 63 0) ∷ []) 0 → ⊥
+unread_is_not_local local =
+    some_number 0 (sym (local.answers other_array (record { blocks = refl; bytes = other_lengths }) refl (λ b p has. absurd (none_read b p has))))
