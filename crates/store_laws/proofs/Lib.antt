@@ -7,3 +7,4 @@ pub mod Blank
 pub mod Programs
 pub mod HashWrites
 mod Rows
+pub mod PutAndGet

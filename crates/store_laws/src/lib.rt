@@ -8,3 +8,6 @@ mod store;
 
 pub use hash::HashStore;
 pub use store::RegionStore;
+
+#[cfg(test)]
+mod tests;

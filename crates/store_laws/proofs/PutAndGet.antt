@@ -1,0 +1,58 @@
+-- A get behind a put of its key, in one transaction.
+use Rattle.std.proofs.Common.{◌≡◌, ◌∙◌, sym, refl, ap, subst, ℕ, ◌+◌, ◌≤◌, cond, List, [], ◌∷◌, Option, Some, None, Ok, Err, IfOk, Result}
+use Rattle.std.specs.Cmp.Lexicographic.{nat_list_cmp_total, slice_cmp}
+use Rattle.std.specs.FinMap.{get, get-insert, insert}
+use Rattle.std.specs.Ordering.{eq_by_cmp, nat_cmp}
+use Rattle.std.proofs.lemmas.Slice.Eq.{bytes_eq-Decides}
+use Rattle.iso_model.specs.declared.stores.Area.{Area}
+use Rattle.iso_model.specs.declared.stores.Region.{Region}
+use Rattle.iso_model.specs.declared.stores.StoreError.{StoreError}
+use Rattle.iso_model.specs.Array.{Array}
+use Rattle.iso_model.specs.HashCalls.{get_program, put_program}
+use Rattle.iso_model.specs.HashRegion.{IsHashArea, IsHashRegion, Pairs, get_op, hash_map, put_op}
+use Rattle.iso_model.specs.Stores.{Program}
+use Rattle.tx_blocks.specs.Runs.{HasEnded, IsLocalCall, area_of}
+use Rattle.tx_blocks.specs.Tx.{Tx, added}
+use Rattle.iso_hash.proofs.Finding.{ties}
+use Rattle.store_laws.specs.Hash.{Get, Got, HashAnswer, HashCall, Put, WasPut, WasThere, hash_store}
+use Rattle.store_laws.specs.HashBlocks.{hash_is_of_its_blocks}
+use Rattle.store_laws.specs.Parts.{Called, Part}
+use Rattle.store_laws.proofs.Growth.{begun, got, was_put}
+use Rattle.store_laws.proofs.InOrder.{live_in_order}
+
+gets_what_was_put : (m : Pairs) (key value : List ℕ) → get (insert m key value) key ≡ Some value
+gets_what_was_put m key value =
+    get-insert nat_list_cmp_total m key value key ∙ ap (λ t. cond t (Some value) (get m key)) (ties key key ∙ (bytes_eq-Decides key key).1 refl)
+
+-- what the second of two answers told
+second_told : List HashAnswer → Option (List ℕ)
+second_told (x ∷ Got value ∷ answers) = value
+second_told (x ∷ WasPut ∷ answers) = None
+second_told (x ∷ WasThere there ∷ answers) = None
+second_told (x ∷ []) = None
+second_told [] = None
+
+pub put_then_get : (a : Area) (key value : List ℕ) (t u v : Tx) (p : Unit {0}) (r : Option (List ℕ)) (A : Array) → IsHashArea a → t.base ≡ Some A → t.accesses ≡ [] → IsHashRegion a A
+    → HasEnded (put_program a key value) t u (Ok p) → IsLocalCall (IsHashRegion a) (hash_map a) (put_op key value) t u p
+    → HasEnded (get_program a key) u v (Ok r) → IsLocalCall (IsHashRegion a) (hash_map a) (get_op key) u v r → r ≡ Some value
+unfolding second_told
+put_then_get a key value t u v p r A area base none region put_ended put_local get_ended get_local =
+    let s = hash_store a in
+    let one = was_put a (put_program a key value) key value A t u [] p (begun s A t base none) put_ended put_local in
+    let both = got a (get_program a key) key A u v (Called (Put key value) (added t u) WasPut ∷ []) r one get_ended get_local in
+    let order = live_in_order s (hash_is_of_its_blocks a area) A (Called (Put key value) (added t u) WasPut ∷ Called (Get key) (added u v) (Got r) ∷ []) both.made region in
+    sym (ap second_told order.answers) ∙ gets_what_was_put (hash_map a A) key value
+
+-- the same of two calls, as their contracts say what they left
+pub put_then_get_call : (region : Region) (key value : List ℕ) (t u v : Tx) (p : Unit {0}) (result : Result (Option (List ℕ)) StoreError) → IsHashArea (area_of t region)
+    → HasEnded (put_program (area_of t region) key value) t u (Ok p)
+    → IsLocalCall (IsHashRegion (area_of t region)) (hash_map (area_of t region)) (put_op key value) t u p
+    → HasEnded (get_program (area_of u region) key) u v result
+    → IfOk result (IsLocalCall (IsHashRegion (area_of u region)) (hash_map (area_of u region)) (get_op key) u v)
+    → IfOk result (λ r. (A : Array) → t.base ≡ Some A → t.accesses ≡ [] → IsHashRegion (area_of t region) A → r ≡ Some value)
+put_then_get_call region key value t u v p (Err e) area put_ended put_local get_ended get_local = tt
+put_then_get_call region key value t u v p (Ok r) area put_ended put_local get_ended get_local = λ A base none well.
+    let same : area_of u region ≡ area_of t region = ap (λ (w : Tx). area_of w region) put_ended.is in
+    put_then_get (area_of t region) key value t u v p r A area base none well put_ended put_local
+    (subst (λ (a : Area). HasEnded (get_program a key) u v (Ok r)) same get_ended)
+    (subst (λ (a : Area). IsLocalCall (IsHashRegion a) (hash_map a) (get_op key) u v r) same get_local)
