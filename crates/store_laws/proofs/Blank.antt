@@ -1,5 +1,5 @@
 -- A region of zeros is a well-formed hash region, and its map is empty.
-use Rattle.std.proofs.Common.{◌≡◌, ◌≢◌, ◌↔◌, ◌∙◌, sym, refl, ap, subst, ℕ, zero, suc, ◌+◌, ◌-◌, ◌*◌, ◌/◌, ◌%◌, ◌<◌, ◌≤◌, Bool, true, false, ◌&&◌, ◌==◌, cond, IsTrue, IsFalse, List, [], ◌∷◌, ◌++◌, length, get_or, take, drop, replicate, arith, inl, inr}
+use Rattle.std.proofs.Common.{◌≡◌, ◌∙◌, sym, refl, ap, subst, ℕ, zero, suc, ◌+◌, ◌-◌, ◌%◌, ◌<◌, ◌≤◌, true, false, ◌==◌, cond, List, [], ◌∷◌, ◌++◌, length, get_or, take, replicate, arith, inl, inr}
 use Rattle.std.specs.List.{flat_map, list_all, range_with_len}
 use Rattle.std.specs.Int.{bit_at, from_be_bytes, w32}
 use Rattle.std.specs.FinMap.{empty, from_entries}
@@ -10,7 +10,7 @@ use Rattle.iso_model.specs.declared.stores.Area.{Area}
 use Rattle.iso_model.specs.declared.access.Span.{Span}
 use Rattle.iso_model.specs.Array.{Array, zeros}
 use Rattle.iso_model.specs.Cells.{are_key_parts, cell_count, is_part, is_unused, is_zero, key_mark, keys_end, keys_mark, value_mark, word_at}
-use Rattle.iso_model.specs.FreeMap.{bit_place, map_bit, map_bytes}
+use Rattle.iso_model.specs.FreeMap.{bit_place, map_bit}
 use Rattle.iso_model.specs.HashRegion.{AreLinked, HaveValues, IsHashArea, IsHashRegion, IsIn, IsKeyed, IsOverflow, Pairs, Stands, all_pairs, bucket_pairs, buckets, chain, chain_from, hash_map, is_linked, last_position, next_of, pairs_from, view_of}
 use Rattle.iso_model.specs.Premises.{block_at}
 use Rattle.iso_model.specs.Stores.{bytes_in}

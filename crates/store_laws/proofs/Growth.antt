@@ -1,5 +1,5 @@
 -- A transaction grows by calls of a store and by other accesses.
-use Rattle.std.proofs.Common.{◌≡◌, ◌∙◌, sym, refl, ap, subst, ℕ, Bool, List, [], ◌∷◌, ◌++◌, length, append_assoc, append-nil, drop, Option, Some, Result, Ok}
+use Rattle.std.proofs.Common.{◌≡◌, ◌∙◌, sym, refl, ap, subst, ℕ, Bool, List, [], ◌∷◌, ◌++◌, append_assoc, append-nil, Option, Some, Result, Ok}
 use Rattle.iso_model.specs.declared.access.Access.{Access}
 use Rattle.iso_model.specs.declared.stores.Area.{Area}
 use Rattle.iso_model.specs.declared.stores.StoreError.{StoreError}

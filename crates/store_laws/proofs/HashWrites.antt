@@ -1,5 +1,5 @@
 -- The calls of the hash store write blocks of its area alone.
-use Rattle.std.proofs.Common.{◌≡◌, ◌≢◌, ◌∙◌, sym, refl, ap, subst, ℕ, zero, suc, ◌+◌, ◌-◌, ◌<◌, ◌≤◌, Bool, true, false, ◌==◌, not, cond, IsTrue, List, [], ◌∷◌, Option, Some, None, IfSome, Result, Ok, arith, inl, inr}
+use Rattle.std.proofs.Common.{◌≡◌, refl, subst, ℕ, zero, suc, ◌+◌, ◌<◌, Bool, true, false, ◌==◌, not, List, Option, Some, None, IfSome, Result, Ok, arith}
 use Rattle.std.proofs.lemmas.Bool.{eqb-false}
 use Rattle.iso_model.specs.declared.access.Access.{Access}
 use Rattle.iso_model.specs.declared.stores.Area.{Area}

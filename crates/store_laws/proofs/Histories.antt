@@ -1,11 +1,9 @@
 -- A history of commits that write a region by calls alone, and transactions without writes.
 use Rattle.std.proofs.Common.{◌≡◌, ◌⊎◌, ◌∙◌, sym, refl, ap, subst, ℕ, zero, suc, ◌+◌, ◌-◌, ◌<◌, ◌≤◌, Bool, true, false, ◌||◌, cond, IfSome, List, [], ◌∷◌, ◌++◌, length, map, Option, Some, None, slice_get, arith, inl, inr}
-use Rattle.std.proofs.lemmas.Option.{none-some}
 use Rattle.iso_model.specs.declared.access.Access.{Access}
 use Rattle.iso_model.specs.declared.access.Commit.{Commit}
 use Rattle.iso_model.specs.declared.access.Geometry.{Geometry}
 use Rattle.iso_model.specs.declared.access.Mode.{Mode}
-use Rattle.iso_model.specs.declared.access.Mode.TheVariants.{Serial}
 use Rattle.iso_model.specs.Array.{Array, put}
 use Rattle.iso_model.specs.Conflict.{IsSerialAt}
 use Rattle.iso_model.specs.Effect.{has_write, is_write, own}

@@ -1,9 +1,8 @@
 -- What a program may answer, and which blocks it may write, whatever it reads.
-use Rattle.std.proofs.Common.{◌≡◌, sym, refl, subst, ℕ, Bool, true, false, cond, IsTrue, List, [], ◌∷◌, Option, Some, None}
+use Rattle.std.proofs.Common.{◌≡◌, refl, ℕ, Bool, true, false, cond, List, [], ◌∷◌}
 use Rattle.std.proofs.lemmas.Bool.{both_ways}
 use Rattle.iso_model.specs.declared.access.Access.{Access}
 use Rattle.iso_model.specs.Array.{Array, put}
-use Rattle.iso_model.specs.Effect.{is_write}
 use Rattle.iso_model.specs.Premises.{block_at}
 use Rattle.iso_model.specs.Stores.{Done, Look, LookWhole, Program, Reserve, Store, accesses_of, bytes_in, further_bytes, store_access, then_do}
 use Rattle.store_laws.specs.Region as region

@@ -1,8 +1,7 @@
 -- A get behind a put of its key, in one transaction.
-use Rattle.std.proofs.Common.{◌≡◌, ◌∙◌, sym, refl, ap, subst, ℕ, ◌+◌, ◌≤◌, cond, List, [], ◌∷◌, Option, Some, None, Ok, Err, IfOk, Result}
-use Rattle.std.specs.Cmp.Lexicographic.{nat_list_cmp_total, slice_cmp}
+use Rattle.std.proofs.Common.{◌≡◌, ◌∙◌, sym, refl, ap, subst, ℕ, cond, List, [], ◌∷◌, Option, Some, None, Ok, Err, IfOk, Result}
+use Rattle.std.specs.Cmp.Lexicographic.{nat_list_cmp_total}
 use Rattle.std.specs.FinMap.{get, get-insert, insert}
-use Rattle.std.specs.Ordering.{eq_by_cmp, nat_cmp}
 use Rattle.std.proofs.lemmas.Slice.Eq.{bytes_eq-Decides}
 use Rattle.iso_model.specs.declared.stores.Area.{Area}
 use Rattle.iso_model.specs.declared.stores.Region.{Region}
@@ -10,13 +9,12 @@ use Rattle.iso_model.specs.declared.stores.StoreError.{StoreError}
 use Rattle.iso_model.specs.Array.{Array}
 use Rattle.iso_model.specs.HashCalls.{get_program, put_program}
 use Rattle.iso_model.specs.HashRegion.{IsHashArea, IsHashRegion, Pairs, get_op, hash_map, put_op}
-use Rattle.iso_model.specs.Stores.{Program}
 use Rattle.tx_blocks.specs.Runs.{HasEnded, IsLocalCall, area_of}
 use Rattle.tx_blocks.specs.Tx.{Tx, added}
 use Rattle.iso_hash.proofs.Finding.{ties}
-use Rattle.store_laws.specs.Hash.{Get, Got, HashAnswer, HashCall, Put, WasPut, WasThere, hash_store}
+use Rattle.store_laws.specs.Hash.{Get, Got, HashAnswer, Put, WasPut, WasThere, hash_store}
 use Rattle.store_laws.specs.HashBlocks.{hash_is_of_its_blocks}
-use Rattle.store_laws.specs.Parts.{Called, Part}
+use Rattle.store_laws.specs.Parts.{Called}
 use Rattle.store_laws.proofs.Growth.{begun, got, was_put}
 use Rattle.store_laws.proofs.InOrder.{live_in_order}
 

@@ -3,17 +3,16 @@ use Rattle.std.proofs.Common.{◌≡◌, ◌∙◌, sym, refl, ap, ℕ, zero, su
 use Rattle.std.proofs.lemmas.Bool.{eqb-true}
 use Rattle.iso_model.specs.declared.access.Access.{Access}
 use Rattle.iso_model.specs.declared.access.Commit.{Commit}
-use Rattle.iso_model.specs.declared.access.Mode.TheVariants.{Serial, Snapshot}
+use Rattle.iso_model.specs.declared.access.Mode.TheVariants.{Serial}
 use Rattle.iso_model.specs.declared.access.Span.{Span}
 use Rattle.iso_model.specs.Array.{Array, byte_at, put, zeros}
 use Rattle.iso_model.specs.Conflict.{IsSerialAt}
-use Rattle.iso_model.specs.Effect.{own}
 use Rattle.iso_model.specs.History.{History, array_at}
 use Rattle.iso_model.specs.Premises.{block_at}
-use Rattle.iso_model.specs.Stores.{Agree, IsLocal, SameShape, depends, look_access, store_access}
+use Rattle.iso_model.specs.Stores.{IsLocal, depends, look_access, store_access}
 use Rattle.iso_model.proofs.Bytes.{length-block_put, put_here}
 use Rattle.iso_model.proofs.Isolation.{if_some_from}
-use Rattle.store_laws.specs.Parts.{AnswerInOrder, AreMade, Called, IsOfCalls, Other, Part, accesses_in, answers_in, calls_in, run}
+use Rattle.store_laws.specs.Parts.{AnswerInOrder, AreMade, Called, Part, run}
 use Rattle.store_laws.specs.Region.{IsOfItsBlocks, SpareRegion, Store}
 use Rattle.store_laws.proofs.InOrder.{commit_by}
 

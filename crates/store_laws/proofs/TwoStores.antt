@@ -1,5 +1,5 @@
 -- What a transaction that calls two stores is to each of them.
-use Rattle.std.proofs.Common.{◌≡◌, ◌⊎◌, ◌∙◌, sym, refl, ap, subst, ℕ, ◌+◌, ◌-◌, ◌<◌, ◌≤◌, IfSome, List, [], ◌∷◌, ◌++◌, Option, Some, None, slice_get, inl, inr}
+use Rattle.std.proofs.Common.{◌≡◌, ◌∙◌, refl, ap, subst, ℕ, ◌-◌, ◌<◌, ◌≤◌, IfSome, List, [], ◌∷◌, ◌++◌, Option, Some, None, slice_get, inl, inr}
 use Rattle.iso_model.specs.declared.access.Access.{Access}
 use Rattle.iso_model.specs.declared.access.Commit.{Commit}
 use Rattle.iso_model.specs.declared.access.Geometry.{Geometry}
@@ -7,11 +7,10 @@ use Rattle.iso_model.specs.Array.{Array}
 use Rattle.iso_model.specs.Conflict.{IsSerialAt}
 use Rattle.iso_model.specs.Effect.{own}
 use Rattle.iso_model.specs.History.{History, array_at, last}
-use Rattle.iso_model.specs.Isolation.{IsIsolated}
-use Rattle.store_laws.specs.Both.{AreMixed, AreOfBoth, BothInOrder, BothWellFormed, First, IsByBoth, IsOfBoth, Mixed, MixedParts, Neither, Second, firsts, seconds}
+use Rattle.store_laws.specs.Both.{AreMixed, AreOfBoth, BothInOrder, BothWellFormed, First, IsByBoth, IsOfBoth, MixedParts, Neither, Second, firsts, seconds}
 use Rattle.store_laws.specs.Parts.{AnswerInOrder, AreMade, AreOfCalls, IsByCalls, IsOfCalls, accesses_in}
 use Rattle.store_laws.specs.Region.{IsOfItsBlocks, Store}
-use Rattle.store_laws.proofs.Histories.{commits_in_order, if_some, well_formed_at}
+use Rattle.store_laws.proofs.Histories.{commits_in_order, if_some}
 use Rattle.store_laws.proofs.InOrder.{commit_by, live_in_order}
 
 -- each store sees the same accesses

@@ -1,6 +1,5 @@
 -- A transaction over blocks, as the parts that it was made of so far.
 use Rattle.std.specs.Prelude.{◌≡◌, List, Some}
-use Rattle.iso_model.specs.declared.access.Access.{Access}
 use Rattle.iso_model.specs.Array.{Array}
 use Rattle.tx_blocks.specs.Tx.{Tx}
 use Rattle.store_laws.specs.Parts.{AreMade, Part, accesses_in}

@@ -6,14 +6,14 @@ use Rattle.std.proofs.lemmas.Bool.Decides.{nat_tests}
 use Rattle.iso_model.specs.declared.stores.Area.{Area}
 use Rattle.iso_model.specs.Array.{Array}
 use Rattle.iso_model.specs.Cells.{cell_count, is_part, is_unused, is_zero, key_at, keys_mark, value_mark}
-use Rattle.iso_model.specs.FreeMap.{map_bit, map_bytes}
-use Rattle.iso_model.specs.HashRegion.{AreLinked, HaveValues, IsHashArea, IsHashRegion, IsIn, IsKeyed, IsOverflow, Stands, all_pairs, bucket_of, bucket_pairs, buckets, chain, chain_from, hash_map, is_linked, last_position, next_of, pairs_from, view_of}
+use Rattle.iso_model.specs.FreeMap.{map_bit}
+use Rattle.iso_model.specs.HashRegion.{AreLinked, HaveValues, IsHashArea, IsHashRegion, IsIn, IsKeyed, IsOverflow, Stands, bucket_of, bucket_pairs, buckets, chain, hash_map, is_linked, last_position, next_of, pairs_from, view_of}
 use Rattle.iso_model.specs.Premises.{block_at}
 use Rattle.iso_model.specs.Stores.{bytes_in}
 use Rattle.iso_hash.proofs.Chains.{block_inside, length-chain_from, linked_alike}
 use Rattle.iso_hash.proofs.Linking.{chain_of}
 use Rattle.store_laws.specs.Hash.{hash_store, in_area}
-use Rattle.store_laws.specs.Region.{IsOfItsBlocks, SameRegion}
+use Rattle.store_laws.specs.Region.{IsOfItsBlocks}
 
 -- what is done over a list, or over a range, is the same where each step is
 same_over : {X : Type 0} (f g : ℕ → List X) (xs : List ℕ) → ((k : ℕ) → IsIn k xs → f k ≡ g k) → flat_map f xs ≡ flat_map g xs
