@@ -9,18 +9,18 @@ use Rattle.iso_model.specs.Conflict.{IsSerialAt}
 use Rattle.iso_model.specs.Effect.{has_write, is_write, own}
 use Rattle.iso_model.specs.History.{History, array_at, last}
 use Rattle.iso_model.specs.Isolation.{HasSeen, IsIsolated, IsIsolatedAt}
-use Rattle.store_laws.specs.Region.{IsOfItsBlocks, Store}
+use Rattle.store_laws.specs.Region.{IsOfItsBlocks, MapStore}
 use Rattle.store_laws.specs.Parts.{AnswerInOrder, AreMade, AreOfCalls, Called, IsByCalls, IsOfCalls, Other, Part, accesses_in, answers_in, calls_in}
 use Rattle.store_laws.proofs.InOrder.{commit_by, live_in_order, same_shape}
 
 -- a commit that has seen what it should, and makes no calls or is serial
-mode_serial : (s : Store) (g : Geometry) (H : History) (k : ℕ) (c : Commit) (of : IsOfCalls s H c) → HasSeen g H k c → (calls_in of.parts ≡ []) ⊎ IsSerialAt H k
+mode_serial : (s : MapStore) (g : Geometry) (H : History) (k : ℕ) (c : Commit) (of : IsOfCalls s H c) → HasSeen g H k c → (calls_in of.parts ≡ []) ⊎ IsSerialAt H k
 mode_serial s g H k c of seen = elim of.mode [
   | inl none ↦ inl none
   | inr serial ↦ inr (subst (λ (mode : Mode). IsIsolatedAt g H mode k) serial seen.isolated)
 ]
 
-pub commit_follows : (s : Store) → IsOfItsBlocks s → (g : Geometry) (H : History) (k : ℕ) (c : Commit) → 0 < H.first → H.first ≤ k → slice_get H.commits (k - H.first) ≡ Some c
+pub commit_follows : (s : MapStore) → IsOfItsBlocks s → (g : Geometry) (H : History) (k : ℕ) (c : Commit) → 0 < H.first → H.first ≤ k → slice_get H.commits (k - H.first) ≡ Some c
     → HasSeen g H k c → (of : IsOfCalls s H c) → s.IsWellFormed (array_at H (k - 1)) → AnswerInOrder s of.parts (array_at H (k - 1)) (array_at H k)
 commit_follows s regional g H k c first from is seen of well = commit_by s regional H k c of.parts first from is (mode_serial s g H k c of seen) of.are of.made well
 
@@ -33,7 +33,7 @@ there_is_one [] i below is R = absurd (omega arith)
 there_is_one (x ∷ xs) zero below is R = cc
 there_is_one (x ∷ xs) (suc i) below is R = there_is_one xs i (omega arith) is R
 
-well_after : (s : Store) → IsOfItsBlocks s → (g : Geometry) (H : History) → 0 < H.first → IsIsolated g H → AreOfCalls s H → s.IsWellFormed (array_at H (H.first - 1))
+well_after : (s : MapStore) → IsOfItsBlocks s → (g : Geometry) (H : History) → 0 < H.first → IsIsolated g H → AreOfCalls s H → s.IsWellFormed (array_at H (H.first - 1))
     → (n : ℕ) → n ≤ length H.commits → s.IsWellFormed (array_at H (H.first - 1 + n))
 well_after s regional g H first isolated of well zero within = let e : H.first - 1 + 0 ≡ H.first - 1 = omega arith in subst (λ m. s.IsWellFormed (array_at H m)) (sym e) well
 well_after s regional g H first isolated of well (suc n) within =
@@ -51,7 +51,7 @@ well_after s regional g H first isolated of well (suc n) within =
     (isolated k from to) (of k from to))
 
 -- the region is well formed at each number
-pub well_formed_at : (s : Store) → IsOfItsBlocks s → (g : Geometry) (H : History) → IsByCalls s g H → (n : ℕ) → H.first ≤ n + 1 → n ≤ last H → s.IsWellFormed (array_at H n)
+pub well_formed_at : (s : MapStore) → IsOfItsBlocks s → (g : Geometry) (H : History) → IsByCalls s g H → (n : ℕ) → H.first ≤ n + 1 → n ≤ last H → s.IsWellFormed (array_at H n)
 well_formed_at s regional g H by n from to =
     let first = by.first in
     let m = n + 1 - H.first in
@@ -63,7 +63,11 @@ pub if_some : {A : Type 0} (P Q : A → Type 0) (o : Option A) → ((x : A) → 
 if_some P Q None each p = tt
 if_some P Q (Some x) each p = each x refl p
 
-pub commits_in_order : (s : Store) → IsOfItsBlocks s → (g : Geometry) (H : History) → IsByCalls s g H → (k : ℕ) → H.first ≤ k → k ≤ last H
+pub two_if : {A : Type 0} (P Q R : A → Type 0) (o : Option A) → ((x : A) → P x → Q x → R x) → IfSome o P → IfSome o Q → IfSome o R
+two_if P Q R None each p q = tt
+two_if P Q R (Some x) each p q = each x p q
+
+pub commits_in_order : (s : MapStore) → IsOfItsBlocks s → (g : Geometry) (H : History) → IsByCalls s g H → (k : ℕ) → H.first ≤ k → k ≤ last H
     → IfSome (slice_get H.commits (k - H.first)) (λ c. (of : IsOfCalls s H c) → AnswerInOrder s of.parts (array_at H (k - 1)) (array_at H k))
 commits_in_order s regional g H by k from to =
     let first = by.first in
@@ -84,7 +88,7 @@ reads_leave (a ∷ xs) ys A none =
     (ap (λ (B : Array). own B xs) here.0 ∙ ih.0, ih.1)
 
 -- Without a write each call answers by the map that was there at the begin.
-pub read_only_answers : (s : Store) (A : Array) (parts : List (Part s.Call s.Answer)) → AreMade s A parts → s.IsWellFormed A → has_write (accesses_in parts) ≡ false
+pub read_only_answers : (s : MapStore) (A : Array) (parts : List (Part s.Call s.Answer)) → AreMade s A parts → s.IsWellFormed A → has_write (accesses_in parts) ≡ false
     → answers_in parts ≡ map (λ call. (s.act call (s.map_of A)).0) (calls_in parts)
 read_only_answers s A [] made well none = refl
 read_only_answers s A (Called call accesses answer ∷ parts) made well none =
@@ -97,10 +101,10 @@ read_only_answers s A (Other accesses ∷ parts) made well none =
     read_only_answers s A parts (subst (λ (B : Array). AreMade s B parts) leaves.0 made.1) well leaves.1
 
 -- what a transaction of the history that began at a commit is answered
-pub live_at : (s : Store) → IsOfItsBlocks s → (g : Geometry) (H : History) (begin : ℕ) (parts : List (Part s.Call s.Answer)) → IsByCalls s g H → H.first ≤ begin + 1 → begin ≤ last H
+pub live_at : (s : MapStore) → IsOfItsBlocks s → (g : Geometry) (H : History) (begin : ℕ) (parts : List (Part s.Call s.Answer)) → IsByCalls s g H → H.first ≤ begin + 1 → begin ≤ last H
     → AreMade s (array_at H begin) parts → AnswerInOrder s parts (array_at H begin) (own (array_at H begin) (accesses_in parts))
 live_at s regional g H begin parts by from to made = live_in_order s regional (array_at H begin) parts made (well_formed_at s regional g H by begin from to)
 
-pub read_only_at : (s : Store) → IsOfItsBlocks s → (g : Geometry) (H : History) (begin : ℕ) (parts : List (Part s.Call s.Answer)) → IsByCalls s g H → H.first ≤ begin + 1 → begin ≤ last H
+pub read_only_at : (s : MapStore) → IsOfItsBlocks s → (g : Geometry) (H : History) (begin : ℕ) (parts : List (Part s.Call s.Answer)) → IsByCalls s g H → H.first ≤ begin + 1 → begin ≤ last H
     → AreMade s (array_at H begin) parts → has_write (accesses_in parts) ≡ false → answers_in parts ≡ map (λ call. (s.act call (s.map_of (array_at H begin))).0) (calls_in parts)
 read_only_at s regional g H begin parts by from to made none = read_only_answers s (array_at H begin) parts made (well_formed_at s regional g H by begin from to) none

@@ -11,17 +11,17 @@ use Rattle.iso_model.specs.Premises.{block_at}
 use Rattle.iso_model.specs.Stores.{SameShape}
 use Rattle.iso_model.proofs.Bytes.{other_block}
 use Rattle.tx_blocks.proofs.Progress.{own_append}
-use Rattle.store_laws.specs.Region.{IsOfItsBlocks, SameRegion, SpareRegion, Store}
+use Rattle.store_laws.specs.Region.{IsOfItsBlocks, SameRegion, SpareRegion, MapStore}
 use Rattle.store_laws.specs.Parts.{AnswerInOrder, AreMade, Called, Other, Part, accesses_in, calls_in, run}
 use Rattle.store_laws.proofs.SameReads.{SameReads, agree_where, array_next, next, reads_split, same_shape_at, same_shape_own, serial_reads}
 
-spare_access : (s : Store) (a : Access) (test : Bool) (A : Array) (b : ℕ) → (IsTrue test → s.has_block a.block ≡ false) → s.has_block b ≡ true
+spare_access : (s : MapStore) (a : Access) (test : Bool) (A : Array) (b : ℕ) → (IsTrue test → s.has_block a.block ≡ false) → s.has_block b ≡ true
     → block_at (cond test (put A a) A) b ≡ block_at A b
 spare_access s a false A b spare has = refl
 spare_access s a true A b spare has = other_block A a b (λ e. both_ways (s.has_block b) (ap s.has_block e ∙ spare refl) has)
 
 -- accesses that write no block of the region leave its blocks
-pub region_stays : (s : Store) (accesses : List Access) (A : Array) → SpareRegion s accesses → SameRegion s A (own A accesses)
+pub region_stays : (s : MapStore) (accesses : List Access) (A : Array) → SpareRegion s accesses → SameRegion s A (own A accesses)
 region_stays s [] A spare b has = refl
 region_stays s (a ∷ accesses) A spare b has = region_stays s accesses (next A a) spare.1 b has ∙ spare_access s a (is_write a) A b spare.0 has
 
@@ -33,22 +33,22 @@ reads_same (a ∷ accesses) A = (λ p covered. refl, reads_same accesses (next A
 pub same_shape : (A : Array) → SameShape A A
 same_shape A = record { blocks = refl; bytes = λ b. refl }
 
-later_reads : (s : Store) (accesses : List Access) (parts : List (Part s.Call s.Answer)) (A B : Array) → ((calls_in parts ≡ []) ⊎ SameReads (accesses ++ accesses_in parts) A B)
+later_reads : (s : MapStore) (accesses : List Access) (parts : List (Part s.Call s.Answer)) (A B : Array) → ((calls_in parts ≡ []) ⊎ SameReads (accesses ++ accesses_in parts) A B)
     → (calls_in parts ≡ []) ⊎ SameReads (accesses_in parts) (own A accesses) (own B accesses)
 later_reads s accesses parts A B (inl none) = inl none
 later_reads s accesses parts A B (inr same) = inr (reads_split accesses (accesses_in parts) A B same).1
 
-called_reads : (s : Store) (call : s.Call) (accesses : List Access) (parts : List (Part s.Call s.Answer)) (A B : Array) → ((call ∷ calls_in parts ≡ []) ⊎ SameReads (accesses ++ accesses_in parts) A B)
+called_reads : (s : MapStore) (call : s.Call) (accesses : List Access) (parts : List (Part s.Call s.Answer)) (A B : Array) → ((call ∷ calls_in parts ≡ []) ⊎ SameReads (accesses ++ accesses_in parts) A B)
     → SameReads accesses A B × SameReads (accesses_in parts) (own A accesses) (own B accesses)
 called_reads s call accesses parts A B (inl none) = cc
 called_reads s call accesses parts A B (inr same) = reads_split accesses (accesses_in parts) A B same
 
 -- the same end, written as one
-end_at : (s : Store) (parts : List (Part s.Call s.Answer)) (A B C : Array) → B ≡ C → AnswerInOrder s parts A B → AnswerInOrder s parts A C
+end_at : (s : MapStore) (parts : List (Part s.Call s.Answer)) (A B C : Array) → B ≡ C → AnswerInOrder s parts A B → AnswerInOrder s parts A C
 end_at s parts A B C e order = subst (λ (D : Array). AnswerInOrder s parts A D) e order
 
 -- The parts were shown one array; the calls answer by the map of another, on which their reads show the same.
-pub in_order : (s : Store) → IsOfItsBlocks s → (parts : List (Part s.Call s.Answer)) (A B : Array) → SameShape A B → AreMade s A parts
+pub in_order : (s : MapStore) → IsOfItsBlocks s → (parts : List (Part s.Call s.Answer)) (A B : Array) → SameShape A B → AreMade s A parts
     → ((calls_in parts ≡ []) ⊎ SameReads (accesses_in parts) A B) → s.IsWellFormed B → AnswerInOrder s parts B (own B (accesses_in parts))
 in_order s regional [] A B shape made same well = record { answers = refl; ends = refl; well_formed = well }
 in_order s regional (Called call accesses answer ∷ parts) A B shape made same well =
@@ -76,12 +76,12 @@ in_order s regional (Other accesses ∷ parts) A B shape made same well =
     })
 
 -- A transaction's calls answer by the map of the array that it is shown.
-pub live_in_order : (s : Store) → IsOfItsBlocks s → (A : Array) (parts : List (Part s.Call s.Answer)) → AreMade s A parts → s.IsWellFormed A
+pub live_in_order : (s : MapStore) → IsOfItsBlocks s → (A : Array) (parts : List (Part s.Call s.Answer)) → AreMade s A parts → s.IsWellFormed A
     → AnswerInOrder s parts A (own A (accesses_in parts))
 live_in_order s regional A parts made well = in_order s regional parts A A (same_shape A) made (inr (reads_same (accesses_in parts) A)) well
 
 -- The calls of a commit answer by the map directly before it.
-pub commit_by : (s : Store) → IsOfItsBlocks s → (H : History) (k : ℕ) (c : Commit) (parts : List (Part s.Call s.Answer)) → 0 < H.first → H.first ≤ k
+pub commit_by : (s : MapStore) → IsOfItsBlocks s → (H : History) (k : ℕ) (c : Commit) (parts : List (Part s.Call s.Answer)) → 0 < H.first → H.first ≤ k
     → slice_get H.commits (k - H.first) ≡ Some c → ((calls_in parts ≡ []) ⊎ IsSerialAt H k) → accesses_in parts ≡ c.accesses → AreMade s (array_at H c.begin) parts
     → s.IsWellFormed (array_at H (k - 1)) → AnswerInOrder s parts (array_at H (k - 1)) (array_at H k)
 commit_by s regional H k c parts first from is serial are made well =

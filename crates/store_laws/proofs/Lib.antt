@@ -2,6 +2,7 @@ pub mod SameReads
 pub mod InOrder
 pub mod Histories
 pub mod TwoStores
+pub mod Longer
 pub mod Growth
 pub mod Blank
 pub mod Programs

@@ -5,8 +5,7 @@ use Rattle.iso_model.specs.declared.access.Access.{Access}
 use Rattle.iso_model.specs.Array.{Array, put}
 use Rattle.iso_model.specs.Premises.{block_at}
 use Rattle.iso_model.specs.Stores.{Done, Look, LookWhole, Program, Reserve, Store, accesses_of, bytes_in, further_bytes, store_access, then_do}
-use Rattle.store_laws.specs.Region as region
-use Rattle.store_laws.specs.Region.{SpareRegion}
+use Rattle.store_laws.specs.Region.{MapStore, SpareRegion}
 use Rattle.store_laws.specs.Writes.{AreApart, WriteWithin}
 
 -- each answer that it may give has the property
@@ -33,7 +32,7 @@ stores_then has P (LookWhole block next) f stores answers each = λ xs. stores_t
 stores_then has P (Reserve count next) f stores answers each = stores_then has P next f stores answers each
 stores_then has P (Store block spans bytes next) f stores answers each = (stores.0, stores_then has P next f stores.1 answers each)
 
-pub writes_within : {R : Type 0} (s : region.Store) (p : Program R) (A : Array) → StoresIn s.has_block p → WriteWithin s (accesses_of p A)
+pub writes_within : {R : Type 0} (s : MapStore) (p : Program R) (A : Array) → StoresIn s.has_block p → WriteWithin s (accesses_of p A)
 writes_within s (Done r) A stores = tt
 writes_within s (Look block mark further next) A stores =
     let x = bytes_in mark (block_at A block) in
@@ -52,6 +51,6 @@ answers_cond P true p q one two = one refl
 answers_cond P false p q one two = two refl
 
 -- what is written in one region is not written in the other
-pub spare_where_apart : (s t : region.Store) (accesses : List Access) → AreApart s t → WriteWithin s accesses → SpareRegion t accesses
+pub spare_where_apart : (s t : MapStore) (accesses : List Access) → AreApart s t → WriteWithin s accesses → SpareRegion t accesses
 spare_where_apart s t [] apart within = tt
 spare_where_apart s t (a ∷ accesses) apart within = (λ write. apart a.block (within.0 write), spare_where_apart s t accesses apart within.1)

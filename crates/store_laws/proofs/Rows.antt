@@ -1,5 +1,5 @@
--- A counter in the first byte of block 0, as a store: what the laws say of two additions, and what they refuse.
-use Rattle.std.proofs.Common.{◌≡◌, ◌∙◌, sym, refl, ap, ℕ, zero, suc, ◌+◌, ◌-◌, ◌<◌, ◌≤◌, ◌==◌, true, false, List, [], ◌∷◌, ◌++◌, IfSome, length, replicate, slice_get, arith, inl, inr}
+-- Counters in the first bytes of blocks, as stores: what the laws say of additions, and what they refuse.
+use Rattle.std.proofs.Common.{◌≡◌, ◌∙◌, sym, refl, ap, ℕ, zero, suc, ◌+◌, ◌==◌, true, false, List, [], ◌∷◌, length, replicate, slice_get, arith, inr, eq-eqb, get_or}
 use Rattle.std.proofs.lemmas.Bool.{eqb-true}
 use Rattle.iso_model.specs.declared.access.Access.{Access}
 use Rattle.iso_model.specs.declared.access.Commit.{Commit}
@@ -7,47 +7,64 @@ use Rattle.iso_model.specs.declared.access.Mode.TheVariants.{Serial}
 use Rattle.iso_model.specs.declared.access.Span.{Span}
 use Rattle.iso_model.specs.Array.{Array, byte_at, put, zeros}
 use Rattle.iso_model.specs.Conflict.{IsSerialAt}
+use Rattle.iso_model.specs.Effect.{own}
 use Rattle.iso_model.specs.History.{History, array_at}
 use Rattle.iso_model.specs.Premises.{block_at}
 use Rattle.iso_model.specs.Stores.{IsLocal, depends, look_access, store_access}
 use Rattle.iso_model.proofs.Bytes.{length-block_put, put_here}
 use Rattle.iso_model.proofs.Isolation.{if_some_from}
-use Rattle.store_laws.specs.Parts.{AnswerInOrder, AreMade, Called, Part, run}
-use Rattle.store_laws.specs.Region.{IsOfItsBlocks, SpareRegion, Store}
+use Rattle.store_laws.specs.Parts.{AnswerInOrder, AreMade, Called, Part, accesses_in, run}
+use Rattle.store_laws.specs.Region.{IsOfItsBlocks, SpareRegion, MapStore}
+use Rattle.store_laws.specs.Both.{BothInOrder, First, MixedParts, Second, firsts}
 use Rattle.store_laws.proofs.InOrder.{commit_by}
+use Rattle.store_laws.proofs.TwoStores.{both_live}
 
--- a call adds a number, and answers what was there
-abbrev counter : Store
-counter = record {
+-- a counter in the first byte of a block: a call adds a number, and answers what was there
+abbrev counter_in : ℕ → MapStore
+counter_in block = record {
   Map = ℕ;
   Call = ℕ;
   Answer = ℕ;
-  has_block = λ b. b == 0;
-  IsWellFormed = λ A. length (block_at A 0) ≡ 64;
-  map_of = λ A. byte_at A 0 0;
+  has_block = λ b. b == block;
+  IsWellFormed = λ A. length (block_at A block) ≡ 64;
+  map_of = λ A. byte_at A block 0;
   act = λ n m. (m, m + n);
 }
 
-pub counter_is_of_its_blocks : IsOfItsBlocks counter
-counter_is_of_its_blocks = record {
-  well_formed = λ A B same well. ap length (same 0 refl) ∙ well;
-  map_is = λ A B same well. ap (λ (block : List ℕ). Rattle.std.proofs.Common.get_or block 0 0) (same 0 refl);
+-- the counter of block 0
+abbrev counter : MapStore
+counter = counter_in 0
+
+itself : (b : ℕ) → (b == b) ≡ true
+itself b = eq-eqb b b refl
+
+pub counter_is_of_its_blocks : (b : ℕ) → IsOfItsBlocks (counter_in b)
+counter_is_of_its_blocks b = record {
+  well_formed = λ A B same well. ap length (same b (itself b)) ∙ well;
+  map_is = λ A B same well. ap (λ (bytes : List ℕ). get_or bytes 0 0) (same b (itself b));
 }
 
 abbrev first_byte : List Span
 first_byte = record { off = 0; len = 1 } ∷ []
 
--- the accesses of an addition to what is shown
-abbrev adding : (shown n : ℕ) → List Access
-adding shown n = look_access 0 first_byte ∷ store_access 0 first_byte ((shown + n) ∷ replicate 63 0) ∷ []
+-- the accesses of an addition to what a block shows
+abbrev adding_in : (block shown n : ℕ) → List Access
+adding_in block shown n = look_access block first_byte ∷ store_access block first_byte ((shown + n) ∷ replicate 63 0) ∷ []
 
-pub adding_is_local : (A : Array) (shown n : ℕ) → byte_at A 0 0 ≡ shown → IsLocal counter.IsWellFormed counter.map_of (counter.act n) A (adding shown n) shown
-adding_is_local A shown n is = record {
-  answers = λ B same well agree. agree 0 0 refl ∙ is;
-  well_formed = λ B same well agree. length-block_put B (store_access 0 first_byte ((shown + n) ∷ replicate 63 0)) 0 ∙ well;
+abbrev adding : (shown n : ℕ) → List Access
+adding shown n = adding_in 0 shown n
+
+reads_it : (b shown n : ℕ) → depends (adding_in b shown n) b 0 ≡ true
+reads_it b shown n = let same = itself b in rw same refl
+
+pub adding_is_local : (b : ℕ) (A : Array) (shown n : ℕ) → byte_at A b 0 ≡ shown
+    → IsLocal (counter_in b).IsWellFormed (counter_in b).map_of ((counter_in b).act n) A (adding_in b shown n) shown
+adding_is_local b A shown n is = record {
+  answers = λ B same well agree. agree b 0 (reads_it b shown n) ∙ is;
+  well_formed = λ B same well agree. length-block_put B (store_access b first_byte ((shown + n) ∷ replicate 63 0)) b ∙ well;
   maps = λ B same well agree.
-      put_here B (store_access 0 first_byte ((shown + n) ∷ replicate 63 0)) 0 (sym well) (omega arith)
-      ∙ ap (λ (m : ℕ). m + n) (sym (agree 0 0 refl ∙ is));
+      put_here B (store_access b first_byte ((shown + n) ∷ replicate 63 0)) 0 (sym well) (omega arith)
+      ∙ ap (λ (m : ℕ). m + n) (sym (agree b 0 (reads_it b shown n) ∙ is));
 }
 
 -- an addition in a transaction that began at a commit
@@ -70,8 +87,8 @@ each_began_before_itself = λ i p. if_some_from _ (slice_get (adding 5 2) i) (λ
 pub second_answers_five : AnswerInOrder counter (one_call 5 2) (array_at in_turn 1) (array_at in_turn 2)
 unfolding put
 second_answers_five =
-    commit_by counter counter_is_of_its_blocks in_turn 2 (added_from 1 5 2) (one_call 5 2) (omega arith) (omega arith) refl (inr each_began_before_itself) refl
-    (adding_is_local (array_at in_turn 1) 5 2 refl, tt) refl
+    commit_by counter (counter_is_of_its_blocks 0) in_turn 2 (added_from 1 5 2) (one_call 5 2) (omega arith) (omega arith) refl (inr each_began_before_itself) refl
+    (adding_is_local 0 (array_at in_turn 1) 5 2 refl, tt) refl
 
 pub counts_seven : run counter 0 (5 ∷ 2 ∷ []) ≡ (0 ∷ 5 ∷ [], 7)
 counts_seven = refl
@@ -79,6 +96,24 @@ counts_seven = refl
 pub holds_seven : counter.map_of (array_at in_turn 2) ≡ 7
 unfolding put
 holds_seven = refl
+
+-- One transaction adds to the counters of blocks 0 and 1, in turn: each counts for itself.
+abbrev both_counters : MixedParts (counter_in 0) (counter_in 1)
+both_counters = First 5 (adding_in 0 0 5) 0 ∷ Second 9 (adding_in 1 0 9) 0 ∷ First 2 (adding_in 0 5 2) 5 ∷ []
+
+pub both_count : BothInOrder (counter_in 0) (counter_in 1) both_counters (zeros 64 4) (own (zeros 64 4) (accesses_in (firsts both_counters)))
+unfolding put
+both_count =
+    both_live (counter_in 0) (counter_in 1) (counter_is_of_its_blocks 0) (counter_is_of_its_blocks 1) (zeros 64 4) both_counters (
+      adding_is_local 0 (zeros 64 4) 0 5 refl,
+      ((λ write. refl, (λ write. refl, tt))),
+      (
+        adding_is_local 1 (own (zeros 64 4) (adding_in 0 0 5)) 0 9 refl,
+        ((λ write. refl, (λ write. refl, tt))),
+        (adding_is_local 0 (own (own (zeros 64 4) (adding_in 0 0 5)) (adding_in 1 0 9)) 5 2 refl, (λ write. refl, (λ write. refl, tt)), tt),
+      ),
+    )
+    (record { first = refl; second = refl })
 
 some_number : (n : ℕ) → zero ≡ suc n → ⊥
 some_number n e = cc
@@ -88,14 +123,14 @@ abbrev lost_update : History
 lost_update = history (added_from 0 0 5 ∷ added_from 0 0 2 ∷ [])
 
 pub lost_update_is_made : AreMade counter (array_at lost_update 0) (one_call 0 2)
-lost_update_is_made = (adding_is_local (array_at lost_update 0) 0 2 refl, tt)
+lost_update_is_made = (adding_is_local 0 (array_at lost_update 0) 0 2 refl, tt)
 
 pub lost_update_is_not_serial : IsSerialAt lost_update 2 → ⊥
 unfolding put
 lost_update_is_not_serial is = some_number 4 (is 0 0 refl)
 
 head_of : List ℕ → ℕ
-head_of xs = Rattle.std.proofs.Common.get_or xs 0 0
+head_of xs = get_or xs 0 0
 
 pub lost_update_is_not_in_order : AnswerInOrder counter (one_call 0 2) (array_at lost_update 1) (array_at lost_update 2) → ⊥
 unfolding put head_of

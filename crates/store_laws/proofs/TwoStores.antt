@@ -1,5 +1,5 @@
 -- What a transaction that calls two stores is to each of them.
-use Rattle.std.proofs.Common.{◌≡◌, ◌∙◌, refl, ap, subst, ℕ, ◌-◌, ◌<◌, ◌≤◌, IfSome, List, [], ◌∷◌, ◌++◌, Option, Some, None, slice_get, inl, inr}
+use Rattle.std.proofs.Common.{◌≡◌, ◌∙◌, refl, ap, subst, ℕ, ◌-◌, ◌<◌, ◌≤◌, IfSome, List, [], ◌∷◌, ◌++◌, Some, slice_get, inl, inr}
 use Rattle.iso_model.specs.declared.access.Access.{Access}
 use Rattle.iso_model.specs.declared.access.Commit.{Commit}
 use Rattle.iso_model.specs.declared.access.Geometry.{Geometry}
@@ -9,30 +9,30 @@ use Rattle.iso_model.specs.Effect.{own}
 use Rattle.iso_model.specs.History.{History, array_at, last}
 use Rattle.store_laws.specs.Both.{AreMixed, AreOfBoth, BothInOrder, BothWellFormed, First, IsByBoth, IsOfBoth, MixedParts, Neither, Second, firsts, seconds}
 use Rattle.store_laws.specs.Parts.{AnswerInOrder, AreMade, AreOfCalls, IsByCalls, IsOfCalls, accesses_in}
-use Rattle.store_laws.specs.Region.{IsOfItsBlocks, Store}
-use Rattle.store_laws.proofs.Histories.{commits_in_order, if_some}
+use Rattle.store_laws.specs.Region.{IsOfItsBlocks, MapStore}
+use Rattle.store_laws.proofs.Histories.{commits_in_order, if_some, two_if}
 use Rattle.store_laws.proofs.InOrder.{commit_by, live_in_order}
 
 -- each store sees the same accesses
-pub same_accesses : (s t : Store) (parts : MixedParts s t) → accesses_in (seconds parts) ≡ accesses_in (firsts parts)
+pub same_accesses : (s t : MapStore) (parts : MixedParts s t) → accesses_in (seconds parts) ≡ accesses_in (firsts parts)
 same_accesses s t [] = refl
 same_accesses s t (First call accesses answer ∷ parts) = ap (λ (rest : List Access). accesses ++ rest) (same_accesses s t parts)
 same_accesses s t (Second call accesses answer ∷ parts) = ap (λ (rest : List Access). accesses ++ rest) (same_accesses s t parts)
 same_accesses s t (Neither accesses ∷ parts) = ap (λ (rest : List Access). accesses ++ rest) (same_accesses s t parts)
 
-pub first_made : (s t : Store) (A : Array) (parts : MixedParts s t) → AreMixed s t A parts → AreMade s A (firsts parts)
+pub first_made : (s t : MapStore) (A : Array) (parts : MixedParts s t) → AreMixed s t A parts → AreMade s A (firsts parts)
 first_made s t A [] made = tt
 first_made s t A (First call accesses answer ∷ parts) made = (made.0, first_made s t (own A accesses) parts made.2)
 first_made s t A (Second call accesses answer ∷ parts) made = (made.1, first_made s t (own A accesses) parts made.2)
 first_made s t A (Neither accesses ∷ parts) made = (made.0, first_made s t (own A accesses) parts made.2)
 
-pub second_made : (s t : Store) (A : Array) (parts : MixedParts s t) → AreMixed s t A parts → AreMade t A (seconds parts)
+pub second_made : (s t : MapStore) (A : Array) (parts : MixedParts s t) → AreMixed s t A parts → AreMade t A (seconds parts)
 second_made s t A [] made = tt
 second_made s t A (First call accesses answer ∷ parts) made = (made.1, second_made s t (own A accesses) parts made.2)
 second_made s t A (Second call accesses answer ∷ parts) made = (made.0, second_made s t (own A accesses) parts made.2)
 second_made s t A (Neither accesses ∷ parts) made = (made.1, second_made s t (own A accesses) parts made.2)
 
-abbrev pub first_of_calls : (s t : Store) (H : History) (c : Commit) → IsOfBoth s t H c → IsOfCalls s H c
+abbrev pub first_of_calls : (s t : MapStore) (H : History) (c : Commit) → IsOfBoth s t H c → IsOfCalls s H c
 first_of_calls s t H c of = record {
   parts = firsts of.parts;
   are = of.are;
@@ -40,7 +40,7 @@ first_of_calls s t H c of = record {
   mode = elim of.mode [ inl none ↦ inl none.0 | inr serial ↦ inr serial ];
 }
 
-abbrev pub second_of_calls : (s t : Store) (H : History) (c : Commit) → IsOfBoth s t H c → IsOfCalls t H c
+abbrev pub second_of_calls : (s t : MapStore) (H : History) (c : Commit) → IsOfBoth s t H c → IsOfCalls t H c
 second_of_calls s t H c of = record {
   parts = seconds of.parts;
   are = same_accesses s t of.parts ∙ of.are;
@@ -48,7 +48,7 @@ second_of_calls s t H c of = record {
   mode = elim of.mode [ inl none ↦ inl none.1 | inr serial ↦ inr serial ];
 }
 
-pub both_commit : (s t : Store) → IsOfItsBlocks s → IsOfItsBlocks t → (H : History) (k : ℕ) (c : Commit) (parts : MixedParts s t) → 0 < H.first → H.first ≤ k
+pub both_commit : (s t : MapStore) → IsOfItsBlocks s → IsOfItsBlocks t → (H : History) (k : ℕ) (c : Commit) (parts : MixedParts s t) → 0 < H.first → H.first ≤ k
     → slice_get H.commits (k - H.first) ≡ Some c → IsSerialAt H k → accesses_in (firsts parts) ≡ c.accesses → AreMixed s t (array_at H c.begin) parts
     → BothWellFormed s t (array_at H (k - 1)) → BothInOrder s t parts (array_at H (k - 1)) (array_at H k)
 both_commit s t one two H k c parts first from is serial are made well = record {
@@ -56,7 +56,7 @@ both_commit s t one two H k c parts first from is serial are made well = record 
   second = commit_by t two H k c (seconds parts) first from is (inr serial) (same_accesses s t parts ∙ are) (second_made s t (array_at H c.begin) parts made) well.second;
 }
 
-pub both_live : (s t : Store) → IsOfItsBlocks s → IsOfItsBlocks t → (A : Array) (parts : MixedParts s t) → AreMixed s t A parts → BothWellFormed s t A
+pub both_live : (s t : MapStore) → IsOfItsBlocks s → IsOfItsBlocks t → (A : Array) (parts : MixedParts s t) → AreMixed s t A parts → BothWellFormed s t A
     → BothInOrder s t parts A (own A (accesses_in (firsts parts)))
 both_live s t one two A parts made well = record {
   first = live_in_order s one A (firsts parts) (first_made s t A parts made) well.first;
@@ -64,23 +64,19 @@ both_live s t one two A parts made well = record {
       (live_in_order t two A (seconds parts) (second_made s t A parts made) well.second);
 }
 
-firsts_of : (s t : Store) (H : History) → AreOfBoth s t H → AreOfCalls s H
+firsts_of : (s t : MapStore) (H : History) → AreOfBoth s t H → AreOfCalls s H
 firsts_of s t H of k from to = if_some (IsOfBoth s t H) (IsOfCalls s H) (slice_get H.commits (k - H.first)) (λ c is. first_of_calls s t H c) (of k from to)
 
-seconds_of : (s t : Store) (H : History) → AreOfBoth s t H → AreOfCalls t H
+seconds_of : (s t : MapStore) (H : History) → AreOfBoth s t H → AreOfCalls t H
 seconds_of s t H of k from to = if_some (IsOfBoth s t H) (IsOfCalls t H) (slice_get H.commits (k - H.first)) (λ c is. second_of_calls s t H c) (of k from to)
 
-two_if : {A : Type 0} (P Q R : A → Type 0) (o : Option A) → ((x : A) → P x → Q x → R x) → IfSome o P → IfSome o Q → IfSome o R
-two_if P Q R None each p q = tt
-two_if P Q R (Some x) each p q = each x p q
-
-first_by : (s t : Store) (g : Geometry) (H : History) → IsByBoth s t g H → IsByCalls s g H
+first_by : (s t : MapStore) (g : Geometry) (H : History) → IsByBoth s t g H → IsByCalls s g H
 first_by s t g H by = record { first = by.first; isolated = by.isolated; calls = firsts_of s t H by.calls; begins = by.begins.first }
 
-second_by : (s t : Store) (g : Geometry) (H : History) → IsByBoth s t g H → IsByCalls t g H
+second_by : (s t : MapStore) (g : Geometry) (H : History) → IsByBoth s t g H → IsByCalls t g H
 second_by s t g H by = record { first = by.first; isolated = by.isolated; calls = seconds_of s t H by.calls; begins = by.begins.second }
 
-pub both_commits : (s t : Store) → IsOfItsBlocks s → IsOfItsBlocks t → (g : Geometry) (H : History) → IsByBoth s t g H → (k : ℕ) → H.first ≤ k → k ≤ last H
+pub both_commits : (s t : MapStore) → IsOfItsBlocks s → IsOfItsBlocks t → (g : Geometry) (H : History) → IsByBoth s t g H → (k : ℕ) → H.first ≤ k → k ≤ last H
     → IfSome (slice_get H.commits (k - H.first)) (λ c. (of : IsOfBoth s t H c) → BothInOrder s t of.parts (array_at H (k - 1)) (array_at H k))
 both_commits s t one two g H by k from to =
     two_if (λ c. (is : IsOfCalls s H c) → AnswerInOrder s is.parts (array_at H (k - 1)) (array_at H k)) (λ c. (is : IsOfCalls t H c) → AnswerInOrder t is.parts (array_at H (k - 1)) (array_at H k))

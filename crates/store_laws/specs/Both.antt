@@ -9,7 +9,7 @@ use Rattle.iso_model.specs.Effect.{own}
 use Rattle.iso_model.specs.History.{History, array_at, last}
 use Rattle.iso_model.specs.Isolation.{IsIsolated}
 use Rattle.iso_model.specs.Stores.{IsLocal}
-use Rattle.store_laws.specs.Region.{Store, SpareRegion}
+use Rattle.store_laws.specs.Region.{MapStore, SpareRegion}
 use Rattle.store_laws.specs.Parts.{AnswerInOrder, Called, Other, Part, accesses_in, calls_in}
 
 -- A part of a transaction: a call of the first store or of the second, with the accesses that it made and its answer, or other accesses.
@@ -19,7 +19,7 @@ pub data Mixed (OneCall OneAnswer TwoCall TwoAnswer : Type 0) : Type 0 where
   Neither : (accesses : List Access) → Mixed OneCall OneAnswer TwoCall TwoAnswer
 
 -- the parts as those of two stores
-abbrev pub MixedParts : (s t : Store) → Type 0
+abbrev pub MixedParts : (s t : MapStore) → Type 0
 MixedParts s t = List (Mixed s.Call s.Answer t.Call t.Answer)
 
 -- what the transaction is to the first store: calls of the second are other accesses
@@ -38,7 +38,7 @@ seconds (Neither accesses ∷ parts) = Other accesses ∷ seconds parts
 
 -- The parts of a transaction that is shown this array: each call is local for its store, and writes no block of the other's region;
 -- all other accesses write neither region.
-abbrev pub AreMixed : (s t : Store) → Array → MixedParts s t → Type 0
+abbrev pub AreMixed : (s t : MapStore) → Array → MixedParts s t → Type 0
 AreMixed s t A [] = Unit {0}
 AreMixed s t A (First call accesses answer ∷ parts) =
     IsLocal s.IsWellFormed s.map_of (s.act call) A accesses answer × SpareRegion t accesses × AreMixed s t (own A accesses) parts
@@ -47,28 +47,28 @@ AreMixed s t A (Second call accesses answer ∷ parts) =
 AreMixed s t A (Neither accesses ∷ parts) = SpareRegion s accesses × SpareRegion t accesses × AreMixed s t (own A accesses) parts
 
 -- both regions of an array are well formed
-pub record BothWellFormed (s t : Store) (A : Array) : Type 0 where
+pub record BothWellFormed (s t : MapStore) (A : Array) : Type 0 where
   pub first : s.IsWellFormed A
   pub second : t.IsWellFormed A
 
 -- the calls of each store answered in order
-pub record BothInOrder (s t : Store) (parts : MixedParts s t) (A B : Array) : Type 0 where
+pub record BothInOrder (s t : MapStore) (parts : MixedParts s t) (A B : Array) : Type 0 where
   pub first : AnswerInOrder s (firsts parts) A B
   pub second : AnswerInOrder t (seconds parts) A B
 
 -- A commit that writes the two regions by calls of their stores alone; a snapshot makes none.
-pub record IsOfBoth (s t : Store) (H : History) (c : Commit) : Type 0 where
+pub record IsOfBoth (s t : MapStore) (H : History) (c : Commit) : Type 0 where
   pub parts : MixedParts s t
   pub are : accesses_in (firsts parts) ≡ c.accesses
   pub made : AreMixed s t (array_at H c.begin) parts
   pub mode : ((calls_in (firsts parts) ≡ []) × (calls_in (seconds parts) ≡ [])) ⊎ (c.mode ≡ Serial)
 
 -- each commit does
-abbrev pub AreOfBoth : (s t : Store) → History → Type 0
+abbrev pub AreOfBoth : (s t : MapStore) → History → Type 0
 AreOfBoth s t H = (k : ℕ) → H.first ≤ k → k ≤ last H → IfSome (slice_get H.commits (k - H.first)) (IsOfBoth s t H)
 
 -- A history whose commits are isolated and write the two regions by calls alone, and in which both begin well formed.
-pub record IsByBoth (s t : Store) (g : Geometry) (H : History) : Type 0 where
+pub record IsByBoth (s t : MapStore) (g : Geometry) (H : History) : Type 0 where
   pub first : 0 < H.first
   pub isolated : IsIsolated g H
   pub calls : AreOfBoth s t H

@@ -3,10 +3,10 @@ use Rattle.std.specs.Prelude.{◌≡◌, List, Some}
 use Rattle.iso_model.specs.Array.{Array}
 use Rattle.tx_blocks.specs.Tx.{Tx}
 use Rattle.store_laws.specs.Parts.{AreMade, Part, accesses_in}
-use Rattle.store_laws.specs.Region.{Store}
+use Rattle.store_laws.specs.Region.{MapStore}
 
 -- The transaction began with this array, and its accesses are those of these parts.
-pub record IsMadeOf (s : Store) (A : Array) (t : Tx) (parts : List (Part s.Call s.Answer)) : Type 0 where
+pub record IsMadeOf (s : MapStore) (A : Array) (t : Tx) (parts : List (Part s.Call s.Answer)) : Type 0 where
   pub base : t.base ≡ Some A
   pub are : accesses_in parts ≡ t.accesses
   pub made : AreMade s A parts

@@ -2,7 +2,7 @@
 use Rattle.std.specs.Prelude.{ℕ, ◌+◌, Bool, ◌&&◌, List, Option, nat_le, nat_lt}
 use Rattle.iso_model.specs.declared.stores.Area.{Area}
 use Rattle.iso_model.specs.HashRegion.{IsHashRegion, Pairs, del_op, get_op, hash_map, put_op}
-use Rattle.store_laws.specs.Region.{Store}
+use Rattle.store_laws.specs.Region.{MapStore}
 
 -- a call, and what one that answered Ok answers
 pub data HashCall : Type 0 where
@@ -25,7 +25,7 @@ hash_act (Del key) m = (WasThere (del_op key m).0, (del_op key m).1)
 abbrev pub in_area : Area → ℕ → Bool
 in_area a b = nat_le a.start b && nat_lt b (a.start + a.blocks)
 
-abbrev pub hash_store : Area → Store
+abbrev pub hash_store : Area → MapStore
 hash_store a = record {
   Map = Pairs;
   Call = HashCall;

@@ -9,7 +9,7 @@ use Rattle.iso_model.specs.Effect.{own}
 use Rattle.iso_model.specs.History.{History, array_at, last}
 use Rattle.iso_model.specs.Isolation.{IsIsolated}
 use Rattle.iso_model.specs.Stores.{IsLocal}
-use Rattle.store_laws.specs.Region.{Store, SpareRegion}
+use Rattle.store_laws.specs.Region.{MapStore, SpareRegion}
 
 -- A part of a transaction: a call with the accesses that it made and its answer, or other accesses.
 pub data Part (Call Answer : Type 0) : Type 0 where
@@ -36,35 +36,35 @@ answers_in (Other accesses ∷ parts) = answers_in parts
 
 -- The parts of a transaction that is shown this array: each call was made on what it was shown and is local, and all other
 -- accesses may read what they like, and write no block of the region.
-abbrev pub AreMade : (s : Store) → Array → List (Part s.Call s.Answer) → Type 0
+abbrev pub AreMade : (s : MapStore) → Array → List (Part s.Call s.Answer) → Type 0
 AreMade s A [] = Unit {0}
 AreMade s A (Called call accesses answer ∷ parts) = IsLocal s.IsWellFormed s.map_of (s.act call) A accesses answer × AreMade s (own A accesses) parts
 AreMade s A (Other accesses ∷ parts) = SpareRegion s accesses × AreMade s (own A accesses) parts
 
 -- one thread calls the store on a map: what each call answers, and the map in the end
-abbrev pub run : (s : Store) → s.Map → List s.Call → List s.Answer × s.Map
+abbrev pub run : (s : MapStore) → s.Map → List s.Call → List s.Answer × s.Map
 run s m [] = ([], m)
 run s m (call ∷ calls) = ((s.act call m).0 ∷ (run s (s.act call m).1 calls).0, (run s (s.act call m).1 calls).1)
 
 -- The calls of the parts answered as one thread's calls on the map of A, which end in the map of B, a well-formed region.
-pub record AnswerInOrder (s : Store) (parts : List (Part s.Call s.Answer)) (A B : Array) : Type 0 where
+pub record AnswerInOrder (s : MapStore) (parts : List (Part s.Call s.Answer)) (A B : Array) : Type 0 where
   pub answers : (run s (s.map_of A) (calls_in parts)).0 ≡ answers_in parts
   pub ends : (run s (s.map_of A) (calls_in parts)).1 ≡ s.map_of B
   pub well_formed : s.IsWellFormed B
 
 -- A commit that writes the region by calls alone; a snapshot makes none.
-pub record IsOfCalls (s : Store) (H : History) (c : Commit) : Type 0 where
+pub record IsOfCalls (s : MapStore) (H : History) (c : Commit) : Type 0 where
   pub parts : List (Part s.Call s.Answer)
   pub are : accesses_in parts ≡ c.accesses
   pub made : AreMade s (array_at H c.begin) parts
   pub mode : (calls_in parts ≡ []) ⊎ (c.mode ≡ Serial)
 
 -- each commit does
-abbrev pub AreOfCalls : Store → History → Type 0
+abbrev pub AreOfCalls : MapStore → History → Type 0
 AreOfCalls s H = (k : ℕ) → H.first ≤ k → k ≤ last H → IfSome (slice_get H.commits (k - H.first)) (IsOfCalls s H)
 
 -- A history whose commits are isolated and write the region by calls alone, and in which the region begins well formed.
-pub record IsByCalls (s : Store) (g : Geometry) (H : History) : Type 0 where
+pub record IsByCalls (s : MapStore) (g : Geometry) (H : History) : Type 0 where
   pub first : 0 < H.first
   pub isolated : IsIsolated g H
   pub calls : AreOfCalls s H

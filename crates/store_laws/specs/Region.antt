@@ -8,7 +8,7 @@ use Rattle.iso_model.specs.Premises.{block_at}
 
 -- The blocks of its region; when the region of an array is well formed, and which map it then holds; what a call answers on a
 -- map, and the map after it.
-pub record Store : Type 1 where
+pub record MapStore : Type 1 where
   pub Map : Type 0
   pub Call : Type 0
   pub Answer : Type 0
@@ -18,14 +18,14 @@ pub record Store : Type 1 where
   pub act : Call → Map → Answer × Map
 
 -- arrays with the same blocks in the region
-abbrev pub SameRegion : Store → Array → Array → Type 0
+abbrev pub SameRegion : MapStore → Array → Array → Type 0
 SameRegion s A B = (b : ℕ) → IsTrue (s.has_block b) → block_at B b ≡ block_at A b
 
 -- what a region is depends on its blocks alone
-pub record IsOfItsBlocks (s : Store) : Type 0 where
+pub record IsOfItsBlocks (s : MapStore) : Type 0 where
   pub well_formed : (A B : Array) → SameRegion s A B → s.IsWellFormed A → s.IsWellFormed B
   pub map_is : (A B : Array) → SameRegion s A B → s.IsWellFormed A → s.map_of B ≡ s.map_of A
 
 -- accesses that write no block of the region
-abbrev pub SpareRegion : Store → List Access → Type 0
+abbrev pub SpareRegion : MapStore → List Access → Type 0
 SpareRegion s accesses = AllByRecursion (λ a. IsTrue (is_write a) → IsFalse (s.has_block a.block)) accesses

@@ -1,12 +1,16 @@
 // The laws of stores: each function does nothing, and its contract is the law.
-ghost use Rattle.std.specs.Prelude.{◌≡◌, ℕ, ◌<◌, ◌≤◌, ◌+◌, ◌-◌, IsFalse, IfSome, List, [], ◌∷◌, ◌++◌, Some, map, slice_get};
+ghost use Rattle.std.specs.Prelude.{◌≡◌, ◌⊎◌, ℕ, ◌<◌, ◌≤◌, ◌+◌, ◌-◌, IsFalse, IfSome, List, [], ◌∷◌, ◌++◌, Some, map, slice_get};
 ghost use Rattle.iso_model.specs.declared.access.Access.{Access};
 ghost use Rattle.iso_model.specs.declared.access.Commit.{Commit};
 ghost use Rattle.iso_model.specs.declared.access.Geometry.{Geometry};
-ghost use Rattle.iso_model.specs.Array.{Array};
+ghost use Rattle.iso_model.specs.Array.{zeros, Array};
+ghost use Rattle.iso_model.specs.declared.access.Mode.TheVariants.{Serial};
 ghost use Rattle.iso_model.specs.Conflict.{IsSerialAt};
 ghost use Rattle.iso_model.specs.Effect.{has_write, own};
 ghost use Rattle.iso_model.specs.History.{array_at, last, History};
+ghost use Rattle.iso_model.specs.Isolation.{IsIsolated};
+ghost use Rattle.iso_model.specs.Premises.{appended};
+ghost use Rattle.iso_model.specs.World.{empty_history};
 ghost use Rattle.store_laws.specs.Both.{firsts, AreMixed, BothInOrder, BothWellFormed, IsByBoth, IsOfBoth, MixedParts};
 ghost use Rattle.store_laws.specs.Growing.{IsMadeOf};
 ghost use Rattle.store_laws.specs.Parts.{accesses_in, answers_in, calls_in, AnswerInOrder, AreMade, Called, IsByCalls, IsOfCalls, Other, Part};
@@ -55,12 +59,22 @@ pub fn calls_of_two_stores_answer_in_order<S: RegionStore, T: RegionStore>(first
     ensures apart { let s = S.store first.now in let t = T.store second.now in (accesses : List Access) → AreApart s t → WriteWithin s accesses → SpareRegion t accesses }
 {}
 
+/// The history of a new image is one by calls where the region of an array of zeros is well formed, and a history stays one as
+/// commits by calls come to it.
+pub fn histories_stay_by_calls<S: RegionStore>(store: &S)
+    ensures empty { let s = S.store store.now in (g : Geometry) → s.IsWellFormed (zeros g.block g.blocks) → IsByCalls s g (empty_history g) }
+    ensures appended { let s = S.store store.now in (g : Geometry) (H : History) (c : Commit) → IsByCalls s g H → IsIsolated g (appended H c) → IsOfCalls s H c
+        → IsByCalls s g (appended H c) }
+{}
+
 /// A transaction is made of no parts at its begin, and of one part more after each call that is local for its store, and after other
-/// accesses that write no block of the region.
+/// accesses that write no block of the region. Its commit is by calls then.
 pub fn transactions_grow_by_parts<S: RegionStore>(store: &S)
     ensures begun { let s = S.store store.now in (A : Array) (t : Tx) → t.base ≡ Some A → t.accesses ≡ [] → IsMadeOf s A t [] }
     ensures called { let s = S.store store.now in (A : Array) (t u : Tx) (parts : List (Part s.Call s.Answer)) (call : s.Call) (answer : s.Answer) (done : List Access) → IsMadeOf s A t parts
         → u ≡ with_accesses t done → IsLocalCall s.IsWellFormed s.map_of (s.act call) t u answer → IsMadeOf s A u (parts ++ Called call (added t u) answer ∷ []) }
     ensures other { let s = S.store store.now in (A : Array) (t u : Tx) (parts : List (Part s.Call s.Answer)) (done : List Access) → IsMadeOf s A t parts
         → u ≡ with_accesses t done → SpareRegion s done → IsMadeOf s A u (parts ++ Other done ∷ []) }
+    ensures committed { let s = S.store store.now in (H : History) (c : Commit) (t : Tx) (parts : List (Part s.Call s.Answer)) → IsMadeOf s (array_at H c.begin) t parts
+        → t.accesses ≡ c.accesses → (calls_in parts ≡ []) ⊎ (c.mode ≡ Serial) → IsOfCalls s H c }
 {}

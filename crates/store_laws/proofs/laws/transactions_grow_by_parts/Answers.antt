@@ -1,4 +1,5 @@
 use Rattle.store_laws.proofs.Growth.{begun, called, other}
+use Rattle.store_laws.proofs.Longer.{commits_by_calls}
 use Rattle.store_laws.proofs.laws.transactions_grow_by_parts.Goals as goal
 
 pub returns-clause-begun : goal.returns-clause-begun
@@ -9,3 +10,6 @@ returns-clause-called g c = called (g.S.RegionStore.store c.args.store.now)
 
 pub returns-clause-other : goal.returns-clause-other
 returns-clause-other g c = other (g.S.RegionStore.store c.args.store.now)
+
+pub returns-clause-committed : goal.returns-clause-committed
+returns-clause-committed g c = commits_by_calls (g.S.RegionStore.store c.args.store.now)

@@ -1,0 +1,65 @@
+-- A history stays one whose commits write a region by calls alone, as commits come to it.
+use Rattle.std.proofs.Common.{◌≡◌, ◌⊎◌, ◌∙◌, sym, refl, ap, subst, ℕ, zero, suc, ◌+◌, ◌-◌, ◌<◌, ◌≤◌, IfSome, List, [], ◌∷◌, ◌++◌, length, Option, Some, slice_get, arith, inl, inr}
+use Rattle.std.proofs.lemmas.Bool.{cases_lt}
+use Rattle.std.proofs.lemmas.List.{length-append, take-append-le}
+use Rattle.iso_model.specs.declared.access.Commit.{Commit}
+use Rattle.iso_model.specs.declared.access.Geometry.{Geometry}
+use Rattle.iso_model.specs.declared.access.Mode.TheVariants.{Serial}
+use Rattle.iso_model.specs.Array.{Array, zeros}
+use Rattle.iso_model.specs.History.{History, all_own, array_at, last}
+use Rattle.iso_model.specs.Isolation.{HasSeen, IsIsolated}
+use Rattle.iso_model.specs.Premises.{appended}
+use Rattle.iso_model.specs.World.{empty_history}
+use Rattle.iso_model.proofs.Isolation.{slice_get_append_left}
+use Rattle.tx_blocks.specs.Tx.{Tx}
+use Rattle.store_laws.specs.Growing.{IsMadeOf}
+use Rattle.store_laws.specs.Parts.{AreMade, AreOfCalls, IsByCalls, IsOfCalls, Part, calls_in}
+use Rattle.store_laws.specs.Region.{MapStore}
+use Rattle.store_laws.proofs.Histories.{two_if}
+
+array_longer : (H : History) (c : Commit) (n : ℕ) → 0 < H.first → n ≤ last H → array_at (appended H c) n ≡ array_at H n
+array_longer H c n first before = ap (all_own H.base) (take-append-le (n + 1 - H.first) H.commits (c ∷ []) (omega arith))
+
+of_longer : (s : MapStore) (H : History) (c d : Commit) → 0 < H.first → d.begin ≤ last H → IsOfCalls s H d → IsOfCalls s (appended H c) d
+of_longer s H c d first before of = record {
+  parts = of.parts;
+  are = of.are;
+  made = subst (λ (A : Array). AreMade s A of.parts) (sym (array_longer H c d.begin first before)) of.made;
+  mode = of.mode;
+}
+
+last_of : {X : Type 0} (xs : List X) (y : X) (i : ℕ) → i ≡ length xs → slice_get (xs ++ y ∷ []) i ≡ Some y
+last_of [] y zero is = refl
+last_of [] y (suc i) is = absurd (omega arith)
+last_of (x ∷ xs) y zero is = absurd (omega arith)
+last_of (x ∷ xs) y (suc i) is = last_of xs y i (omega arith)
+
+calls_longer : (s : MapStore) (g : Geometry) (H : History) (c : Commit) → IsByCalls s g H → IsIsolated g (appended H c) → IsOfCalls s H c → AreOfCalls s (appended H c)
+calls_longer s g H c by isolated of k from to = elim (cases_lt (last H) k) [
+  | inl past ↦
+      (let first = by.first in
+      let more = length-append H.commits (c ∷ []) in
+      let at : slice_get (H.commits ++ c ∷ []) (k - H.first) ≡ Some c = last_of H.commits c (k - H.first) (omega arith) in
+      let seen : HasSeen g (appended H c) k c = subst (λ (o : Option Commit). IfSome o (HasSeen g (appended H c) k)) at (isolated k from to) in
+      subst (λ (o : Option Commit). IfSome o (IsOfCalls s (appended H c))) (sym at) (of_longer s H c c first (let before = seen.before in omega arith) of))
+  | inr low ↦
+      (let first = by.first in
+      subst (λ (o : Option Commit). IfSome o (IsOfCalls s (appended H c))) (sym (slice_get_append_left H.commits (c ∷ []) (k - H.first) (omega arith)))
+      (two_if (HasSeen g H k) (IsOfCalls s H) (IsOfCalls s (appended H c)) (slice_get H.commits (k - H.first))
+      (λ d seen is. of_longer s H c d first (let before = seen.before in omega arith) is) (by.isolated k from low) (by.calls k from low)))
+]
+
+pub begins_by_calls : (s : MapStore) (g : Geometry) → s.IsWellFormed (zeros g.block g.blocks) → IsByCalls s g (empty_history g)
+begins_by_calls s g well = record { first = omega arith; isolated = λ k from to. tt; calls = λ k from to. tt; begins = well }
+
+pub stays_by_calls : (s : MapStore) (g : Geometry) (H : History) (c : Commit) → IsByCalls s g H → IsIsolated g (appended H c) → IsOfCalls s H c → IsByCalls s g (appended H c)
+stays_by_calls s g H c by isolated of = record {
+  first = by.first;
+  isolated = isolated;
+  calls = calls_longer s g H c by isolated of;
+  begins = (let first = by.first in subst s.IsWellFormed (sym (array_longer H c (H.first - 1) first (omega arith))) by.begins);
+}
+
+pub commits_by_calls : (s : MapStore) (H : History) (c : Commit) (t : Tx) (parts : List (Part s.Call s.Answer)) → IsMadeOf s (array_at H c.begin) t parts → t.accesses ≡ c.accesses → (calls_in parts ≡ []) ⊎ (c.mode ≡ Serial)
+    → IsOfCalls s H c
+commits_by_calls s H c t parts is same mode = record { parts = parts; are = is.are ∙ same; made = is.made; mode = mode }
