@@ -33,30 +33,27 @@ there_is_one [] i below is R = absurd (omega arith)
 there_is_one (x ∷ xs) zero below is R = cc
 there_is_one (x ∷ xs) (suc i) below is R = there_is_one xs i (omega arith) is R
 
-well_after : (s : MapStore) → IsOfItsBlocks s → (g : Geometry) (H : History) → 0 < H.first → IsIsolated g H → AreOfCalls s H → s.IsWellFormed (array_at H (H.first - 1))
-    → (n : ℕ) → n ≤ length H.commits → s.IsWellFormed (array_at H (H.first - 1 + n))
-well_after s regional g H first isolated of well zero within = let e : H.first - 1 + 0 ≡ H.first - 1 = omega arith in subst (λ m. s.IsWellFormed (array_at H m)) (sym e) well
-well_after s regional g H first isolated of well (suc n) within =
-    let k = H.first + n in
+well_after : (s : MapStore) → IsOfItsBlocks s → (g : Geometry) (H : History) (n : ℕ) → IsByCalls s g H n → (more : ℕ) → n + more ≤ last H → s.IsWellFormed (array_at H (n + more))
+well_after s regional g H n by zero within = let e : n + 0 ≡ n = omega arith in subst (λ m. s.IsWellFormed (array_at H m)) (sym e) by.begins
+well_after s regional g H n by (suc more) within =
+    let k = n + suc more in
+    let first = by.first in
+    let since = by.since in
+    let after : n < k = omega arith in
     let from : H.first ≤ k = omega arith in
-    let to : k ≤ last H = omega arith in
-    let before : H.first - 1 + n ≡ k - 1 = omega arith in
-    let here : H.first - 1 + suc n ≡ k = omega arith in
+    let before : n + more ≡ k - 1 = omega arith in
     let place : k - H.first < length H.commits = omega arith in
-    let ih = well_after s regional g H first isolated of well n (omega arith) in
-    subst (λ m. s.IsWellFormed (array_at H m)) (sym here)
-    (some_of (HasSeen g H k) (IsOfCalls s H) (s.IsWellFormed (array_at H k)) (slice_get H.commits (k - H.first))
+    let ih = well_after s regional g H n by more (omega arith) in
+    some_of (HasSeen g H k) (IsOfCalls s H) (s.IsWellFormed (array_at H k)) (slice_get H.commits (k - H.first))
     (λ c is seen has. (commit_follows s regional g H k c first from is seen has (subst (λ m. s.IsWellFormed (array_at H m)) before ih)).well_formed)
     (λ none. there_is_one H.commits (k - H.first) place none (s.IsWellFormed (array_at H k)))
-    (isolated k from to) (of k from to))
+    (by.isolated k from within) (by.calls k after within)
 
 -- the region is well formed at each number
-pub well_formed_at : (s : MapStore) → IsOfItsBlocks s → (g : Geometry) (H : History) → IsByCalls s g H → (n : ℕ) → H.first ≤ n + 1 → n ≤ last H → s.IsWellFormed (array_at H n)
-well_formed_at s regional g H by n from to =
-    let first = by.first in
-    let m = n + 1 - H.first in
-    let e : H.first - 1 + m ≡ n = omega arith in
-    subst (λ j. s.IsWellFormed (array_at H j)) e (well_after s regional g H by.first by.isolated by.calls by.begins m (omega arith))
+pub well_formed_at : (s : MapStore) → IsOfItsBlocks s → (g : Geometry) (H : History) (n m : ℕ) → IsByCalls s g H n → n ≤ m → m ≤ last H → s.IsWellFormed (array_at H m)
+well_formed_at s regional g H n m by after to =
+    let e : n + (m - n) ≡ m = omega arith in
+    subst (λ j. s.IsWellFormed (array_at H j)) e (well_after s regional g H n by (m - n) (omega arith))
 
 -- each commit's calls answer by the map directly before it
 pub if_some : {A : Type 0} (P Q : A → Type 0) (o : Option A) → ((x : A) → o ≡ Some x → P x → Q x) → IfSome o P → IfSome o Q
@@ -67,12 +64,13 @@ pub two_if : {A : Type 0} (P Q R : A → Type 0) (o : Option A) → ((x : A) →
 two_if P Q R None each p q = tt
 two_if P Q R (Some x) each p q = each x p q
 
-pub commits_in_order : (s : MapStore) → IsOfItsBlocks s → (g : Geometry) (H : History) → IsByCalls s g H → (k : ℕ) → H.first ≤ k → k ≤ last H
+pub commits_in_order : (s : MapStore) → IsOfItsBlocks s → (g : Geometry) (H : History) (n : ℕ) → IsByCalls s g H n → (k : ℕ) → n < k → k ≤ last H
     → IfSome (slice_get H.commits (k - H.first)) (λ c. (of : IsOfCalls s H c) → AnswerInOrder s of.parts (array_at H (k - 1)) (array_at H k))
-commits_in_order s regional g H by k from to =
-    let first = by.first in
+commits_in_order s regional g H n by k after to =
+    let since = by.since in
+    let from : H.first ≤ k = omega arith in
     if_some (HasSeen g H k) (λ c. (of : IsOfCalls s H c) → AnswerInOrder s of.parts (array_at H (k - 1)) (array_at H k)) (slice_get H.commits (k - H.first))
-    (λ c is seen has. commit_follows s regional g H k c by.first from is seen has (well_formed_at s regional g H by (k - 1) (omega arith) (omega arith)))
+    (λ c is seen has. commit_follows s regional g H k c by.first from is seen has (well_formed_at s regional g H n (k - 1) by (omega arith) (omega arith)))
     (by.isolated k from to)
 
 read_next : (a : Access) (test rest : Bool) (A : Array) → test || rest ≡ false → (cond test (put A a) A ≡ A) × (rest ≡ false)
@@ -101,10 +99,10 @@ read_only_answers s A (Other accesses ∷ parts) made well none =
     read_only_answers s A parts (subst (λ (B : Array). AreMade s B parts) leaves.0 made.1) well leaves.1
 
 -- what a transaction of the history that began at a commit is answered
-pub live_at : (s : MapStore) → IsOfItsBlocks s → (g : Geometry) (H : History) (begin : ℕ) (parts : List (Part s.Call s.Answer)) → IsByCalls s g H → H.first ≤ begin + 1 → begin ≤ last H
+pub live_at : (s : MapStore) → IsOfItsBlocks s → (g : Geometry) (H : History) (n begin : ℕ) (parts : List (Part s.Call s.Answer)) → IsByCalls s g H n → n ≤ begin → begin ≤ last H
     → AreMade s (array_at H begin) parts → AnswerInOrder s parts (array_at H begin) (own (array_at H begin) (accesses_in parts))
-live_at s regional g H begin parts by from to made = live_in_order s regional (array_at H begin) parts made (well_formed_at s regional g H by begin from to)
+live_at s regional g H n begin parts by from to made = live_in_order s regional (array_at H begin) parts made (well_formed_at s regional g H n begin by from to)
 
-pub read_only_at : (s : MapStore) → IsOfItsBlocks s → (g : Geometry) (H : History) (begin : ℕ) (parts : List (Part s.Call s.Answer)) → IsByCalls s g H → H.first ≤ begin + 1 → begin ≤ last H
+pub read_only_at : (s : MapStore) → IsOfItsBlocks s → (g : Geometry) (H : History) (n begin : ℕ) (parts : List (Part s.Call s.Answer)) → IsByCalls s g H n → n ≤ begin → begin ≤ last H
     → AreMade s (array_at H begin) parts → has_write (accesses_in parts) ≡ false → answers_in parts ≡ map (λ call. (s.act call (s.map_of (array_at H begin))).0) (calls_in parts)
-read_only_at s regional g H begin parts by from to made none = read_only_answers s (array_at H begin) parts made (well_formed_at s regional g H by begin from to) none
+read_only_at s regional g H n begin parts by from to made none = read_only_answers s (array_at H begin) parts made (well_formed_at s regional g H n begin by from to) none

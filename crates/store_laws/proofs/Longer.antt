@@ -8,7 +8,7 @@ use Rattle.iso_model.specs.declared.access.Mode.TheVariants.{Serial}
 use Rattle.iso_model.specs.Array.{Array, zeros}
 use Rattle.iso_model.specs.History.{History, all_own, array_at, last}
 use Rattle.iso_model.specs.Isolation.{HasSeen, IsIsolated}
-use Rattle.iso_model.specs.Premises.{appended}
+use Rattle.iso_model.specs.Premises.{IsHistory, appended}
 use Rattle.iso_model.specs.World.{empty_history}
 use Rattle.iso_model.proofs.Isolation.{slice_get_append_left}
 use Rattle.tx_blocks.specs.Tx.{Tx}
@@ -34,30 +34,41 @@ last_of [] y (suc i) is = absurd (omega arith)
 last_of (x ∷ xs) y zero is = absurd (omega arith)
 last_of (x ∷ xs) y (suc i) is = last_of xs y i (omega arith)
 
-calls_longer : (s : MapStore) (g : Geometry) (H : History) (c : Commit) → IsByCalls s g H → IsIsolated g (appended H c) → IsOfCalls s H c → AreOfCalls s (appended H c)
-calls_longer s g H c by isolated of k from to = elim (cases_lt (last H) k) [
-  | inl past ↦
-      (let first = by.first in
-      let more = length-append H.commits (c ∷ []) in
-      let at : slice_get (H.commits ++ c ∷ []) (k - H.first) ≡ Some c = last_of H.commits c (k - H.first) (omega arith) in
-      let seen : HasSeen g (appended H c) k c = subst (λ (o : Option Commit). IfSome o (HasSeen g (appended H c) k)) at (isolated k from to) in
-      subst (λ (o : Option Commit). IfSome o (IsOfCalls s (appended H c))) (sym at) (of_longer s H c c first (let before = seen.before in omega arith) of))
-  | inr low ↦
-      (let first = by.first in
-      subst (λ (o : Option Commit). IfSome o (IsOfCalls s (appended H c))) (sym (slice_get_append_left H.commits (c ∷ []) (k - H.first) (omega arith)))
-      (two_if (HasSeen g H k) (IsOfCalls s H) (IsOfCalls s (appended H c)) (slice_get H.commits (k - H.first))
-      (λ d seen is. of_longer s H c d first (let before = seen.before in omega arith) is) (by.isolated k from low) (by.calls k from low)))
-]
+calls_longer : (s : MapStore) (g : Geometry) (H : History) (c : Commit) (n : ℕ) → IsByCalls s g H n → IsIsolated g (appended H c) → IsOfCalls s H c → AreOfCalls s (appended H c) n
+calls_longer s g H c n by isolated of k after to =
+    let first = by.first in
+    let since = by.since in
+    let from : H.first ≤ k = omega arith in
+    elim (cases_lt (last H) k) [
+      | inl past ↦
+          (let more = length-append H.commits (c ∷ []) in
+          let at : slice_get (H.commits ++ c ∷ []) (k - H.first) ≡ Some c = last_of H.commits c (k - H.first) (omega arith) in
+          let seen : HasSeen g (appended H c) k c = subst (λ (o : Option Commit). IfSome o (HasSeen g (appended H c) k)) at (isolated k from to) in
+          subst (λ (o : Option Commit). IfSome o (IsOfCalls s (appended H c))) (sym at) (of_longer s H c c first (let before = seen.before in omega arith) of))
+      | inr low ↦
+          subst (λ (o : Option Commit). IfSome o (IsOfCalls s (appended H c))) (sym (slice_get_append_left H.commits (c ∷ []) (k - H.first) (omega arith)))
+          (two_if (HasSeen g H k) (IsOfCalls s H) (IsOfCalls s (appended H c)) (slice_get H.commits (k - H.first))
+          (λ d seen is. of_longer s H c d first (let before = seen.before in omega arith) is) (by.isolated k from low) (by.calls k after low))
+    ]
 
-pub begins_by_calls : (s : MapStore) (g : Geometry) → s.IsWellFormed (zeros g.block g.blocks) → IsByCalls s g (empty_history g)
-begins_by_calls s g well = record { first = omega arith; isolated = λ k from to. tt; calls = λ k from to. tt; begins = well }
-
-pub stays_by_calls : (s : MapStore) (g : Geometry) (H : History) (c : Commit) → IsByCalls s g H → IsIsolated g (appended H c) → IsOfCalls s H c → IsByCalls s g (appended H c)
-stays_by_calls s g H c by isolated of = record {
-  first = by.first;
+pub begins_by_calls : (s : MapStore) (g : Geometry) (H : History) → IsHistory g H → IsIsolated g H → s.IsWellFormed (array_at H (last H)) → IsByCalls s g H (last H)
+begins_by_calls s g H is isolated well = record {
+  first = is.first;
+  since = (let first = is.first in omega arith);
+  within = omega arith;
   isolated = isolated;
-  calls = calls_longer s g H c by isolated of;
-  begins = (let first = by.first in subst s.IsWellFormed (sym (array_longer H c (H.first - 1) first (omega arith))) by.begins);
+  calls = λ k after to. absurd (omega arith);
+  begins = well;
+}
+
+pub stays_by_calls : (s : MapStore) (g : Geometry) (H : History) (c : Commit) (n : ℕ) → IsByCalls s g H n → IsIsolated g (appended H c) → IsOfCalls s H c → IsByCalls s g (appended H c) n
+stays_by_calls s g H c n by isolated of = record {
+  first = by.first;
+  since = by.since;
+  within = (let within = by.within in let more = length-append H.commits (c ∷ []) in omega arith);
+  isolated = isolated;
+  calls = calls_longer s g H c n by isolated of;
+  begins = subst s.IsWellFormed (sym (array_longer H c n by.first by.within)) by.begins;
 }
 
 pub commits_by_calls : (s : MapStore) (H : History) (c : Commit) (t : Tx) (parts : List (Part s.Call s.Answer)) → IsMadeOf s (array_at H c.begin) t parts → t.accesses ≡ c.accesses → (calls_in parts ≡ []) ⊎ (c.mode ≡ Serial)

@@ -64,23 +64,31 @@ both_live s t one two A parts made well = record {
       (live_in_order t two A (seconds parts) (second_made s t A parts made) well.second);
 }
 
-firsts_of : (s t : MapStore) (H : History) → AreOfBoth s t H → AreOfCalls s H
-firsts_of s t H of k from to = if_some (IsOfBoth s t H) (IsOfCalls s H) (slice_get H.commits (k - H.first)) (λ c is. first_of_calls s t H c) (of k from to)
+first_by : (s t : MapStore) (g : Geometry) (H : History) (n : ℕ) → IsByBoth s t g H n → IsByCalls s g H n
+first_by s t g H n by = record {
+  first = by.first;
+  since = by.since;
+  within = by.within;
+  isolated = by.isolated;
+  calls = λ k from to. if_some (IsOfBoth s t H) (IsOfCalls s H) (slice_get H.commits (k - H.first)) (λ c is. first_of_calls s t H c) (by.calls k from to);
+  begins = by.begins.first;
+}
 
-seconds_of : (s t : MapStore) (H : History) → AreOfBoth s t H → AreOfCalls t H
-seconds_of s t H of k from to = if_some (IsOfBoth s t H) (IsOfCalls t H) (slice_get H.commits (k - H.first)) (λ c is. second_of_calls s t H c) (of k from to)
+second_by : (s t : MapStore) (g : Geometry) (H : History) (n : ℕ) → IsByBoth s t g H n → IsByCalls t g H n
+second_by s t g H n by = record {
+  first = by.first;
+  since = by.since;
+  within = by.within;
+  isolated = by.isolated;
+  calls = λ k from to. if_some (IsOfBoth s t H) (IsOfCalls t H) (slice_get H.commits (k - H.first)) (λ c is. second_of_calls s t H c) (by.calls k from to);
+  begins = by.begins.second;
+}
 
-first_by : (s t : MapStore) (g : Geometry) (H : History) → IsByBoth s t g H → IsByCalls s g H
-first_by s t g H by = record { first = by.first; isolated = by.isolated; calls = firsts_of s t H by.calls; begins = by.begins.first }
-
-second_by : (s t : MapStore) (g : Geometry) (H : History) → IsByBoth s t g H → IsByCalls t g H
-second_by s t g H by = record { first = by.first; isolated = by.isolated; calls = seconds_of s t H by.calls; begins = by.begins.second }
-
-pub both_commits : (s t : MapStore) → IsOfItsBlocks s → IsOfItsBlocks t → (g : Geometry) (H : History) → IsByBoth s t g H → (k : ℕ) → H.first ≤ k → k ≤ last H
+pub both_commits : (s t : MapStore) → IsOfItsBlocks s → IsOfItsBlocks t → (g : Geometry) (H : History) (n : ℕ) → IsByBoth s t g H n → (k : ℕ) → n < k → k ≤ last H
     → IfSome (slice_get H.commits (k - H.first)) (λ c. (of : IsOfBoth s t H c) → BothInOrder s t of.parts (array_at H (k - 1)) (array_at H k))
-both_commits s t one two g H by k from to =
+both_commits s t one two g H n by k after to =
     two_if (λ c. (is : IsOfCalls s H c) → AnswerInOrder s is.parts (array_at H (k - 1)) (array_at H k)) (λ c. (is : IsOfCalls t H c) → AnswerInOrder t is.parts (array_at H (k - 1)) (array_at H k))
     (λ c. (of : IsOfBoth s t H c) → BothInOrder s t of.parts (array_at H (k - 1)) (array_at H k)) (slice_get H.commits (k - H.first))
     (λ c p q is. record { first = p (first_of_calls s t H c is); second = q (second_of_calls s t H c is) })
-    (commits_in_order s one g H (first_by s t g H by) k from to)
-    (commits_in_order t two g H (second_by s t g H by) k from to)
+    (commits_in_order s one g H n (first_by s t g H n by) k after to)
+    (commits_in_order t two g H n (second_by s t g H n by) k after to)

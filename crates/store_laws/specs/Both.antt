@@ -1,5 +1,5 @@
 -- Transactions that call two stores.
-use Rattle.std.specs.Prelude.{◌≡◌, ◌⊎◌, ℕ, ◌-◌, ◌<◌, ◌≤◌, IfSome, List, [], ◌∷◌, slice_get}
+use Rattle.std.specs.Prelude.{◌≡◌, ◌⊎◌, ℕ, ◌+◌, ◌-◌, ◌<◌, ◌≤◌, IfSome, List, [], ◌∷◌, slice_get}
 use Rattle.iso_model.specs.declared.access.Access.{Access}
 use Rattle.iso_model.specs.declared.access.Commit.{Commit}
 use Rattle.iso_model.specs.declared.access.Geometry.{Geometry}
@@ -63,13 +63,15 @@ pub record IsOfBoth (s t : MapStore) (H : History) (c : Commit) : Type 0 where
   pub made : AreMixed s t (array_at H c.begin) parts
   pub mode : ((calls_in (firsts parts) ≡ []) × (calls_in (seconds parts) ≡ [])) ⊎ (c.mode ≡ Serial)
 
--- each commit does
-abbrev pub AreOfBoth : (s t : MapStore) → History → Type 0
-AreOfBoth s t H = (k : ℕ) → H.first ≤ k → k ≤ last H → IfSome (slice_get H.commits (k - H.first)) (IsOfBoth s t H)
+-- each commit after n does
+abbrev pub AreOfBoth : (s t : MapStore) → History → (n : ℕ) → Type 0
+AreOfBoth s t H n = (k : ℕ) → n < k → k ≤ last H → IfSome (slice_get H.commits (k - H.first)) (IsOfBoth s t H)
 
--- A history whose commits are isolated and write the two regions by calls alone, and in which both begin well formed.
-pub record IsByBoth (s t : MapStore) (g : Geometry) (H : History) : Type 0 where
+-- An isolated history whose commits after n write the two regions by calls alone, and in which both are well formed at n.
+pub record IsByBoth (s t : MapStore) (g : Geometry) (H : History) (n : ℕ) : Type 0 where
   pub first : 0 < H.first
+  pub since : H.first ≤ n + 1
+  pub within : n ≤ last H
   pub isolated : IsIsolated g H
-  pub calls : AreOfBoth s t H
-  pub begins : BothWellFormed s t (array_at H (H.first - 1))
+  pub calls : AreOfBoth s t H n
+  pub begins : BothWellFormed s t (array_at H n)

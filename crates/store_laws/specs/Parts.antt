@@ -1,5 +1,5 @@
 -- A transaction cut into the calls of a store and other accesses, and the same calls on a map by one thread.
-use Rattle.std.specs.Prelude.{◌≡◌, ◌⊎◌, ℕ, ◌-◌, ◌<◌, ◌≤◌, IfSome, List, [], ◌∷◌, ◌++◌, slice_get}
+use Rattle.std.specs.Prelude.{◌≡◌, ◌⊎◌, ℕ, ◌+◌, ◌-◌, ◌<◌, ◌≤◌, IfSome, List, [], ◌∷◌, ◌++◌, slice_get}
 use Rattle.iso_model.specs.declared.access.Access.{Access}
 use Rattle.iso_model.specs.declared.access.Commit.{Commit}
 use Rattle.iso_model.specs.declared.access.Geometry.{Geometry}
@@ -59,13 +59,15 @@ pub record IsOfCalls (s : MapStore) (H : History) (c : Commit) : Type 0 where
   pub made : AreMade s (array_at H c.begin) parts
   pub mode : (calls_in parts ≡ []) ⊎ (c.mode ≡ Serial)
 
--- each commit does
-abbrev pub AreOfCalls : MapStore → History → Type 0
-AreOfCalls s H = (k : ℕ) → H.first ≤ k → k ≤ last H → IfSome (slice_get H.commits (k - H.first)) (IsOfCalls s H)
+-- each commit after n does
+abbrev pub AreOfCalls : MapStore → History → (n : ℕ) → Type 0
+AreOfCalls s H n = (k : ℕ) → n < k → k ≤ last H → IfSome (slice_get H.commits (k - H.first)) (IsOfCalls s H)
 
--- A history whose commits are isolated and write the region by calls alone, and in which the region begins well formed.
-pub record IsByCalls (s : MapStore) (g : Geometry) (H : History) : Type 0 where
+-- An isolated history whose commits after n write the region by calls alone, and in which the region is well formed at n.
+pub record IsByCalls (s : MapStore) (g : Geometry) (H : History) (n : ℕ) : Type 0 where
   pub first : 0 < H.first
+  pub since : H.first ≤ n + 1
+  pub within : n ≤ last H
   pub isolated : IsIsolated g H
-  pub calls : AreOfCalls s H
-  pub begins : s.IsWellFormed (array_at H (H.first - 1))
+  pub calls : AreOfCalls s H n
+  pub begins : s.IsWellFormed (array_at H n)

@@ -20,10 +20,10 @@ ghost use Rattle.tx_blocks.specs.Tx.{added, Tx};
 /// calls of each commit answer as one thread's `get`, `insert` and `remove` on a finite map: it begins as the map of the array directly
 /// before the commit, and ends as the map of the array directly after it.
 pub fn committed_hash_calls_answer_in_order()
-    ensures history { (a : Area) (g : Geometry) (H : History) → IsHashArea a → IsByCalls (hash_store a) g H → (k : ℕ) → H.first ≤ k → k ≤ last H
+    ensures history { (a : Area) (g : Geometry) (H : History) (n : ℕ) → IsHashArea a → IsByCalls (hash_store a) g H n → (k : ℕ) → n < k → k ≤ last H
         → IfSome (slice_get H.commits (k - H.first)) (λ c. (of : IsOfCalls (hash_store a) H c) → AnswerInOrder (hash_store a) of.parts (array_at H (k - 1)) (array_at H k)) }
-    ensures read_only { (a : Area) (g : Geometry) (H : History) (begin : ℕ) (parts : List (Part HashCall HashAnswer)) → IsHashArea a → IsByCalls (hash_store a) g H
-        → H.first ≤ begin + 1 → begin ≤ last H → AreMade (hash_store a) (array_at H begin) parts → IsFalse (has_write (accesses_in parts))
+    ensures read_only { (a : Area) (g : Geometry) (H : History) (n begin : ℕ) (parts : List (Part HashCall HashAnswer)) → IsHashArea a → IsByCalls (hash_store a) g H n
+        → n ≤ begin → begin ≤ last H → AreMade (hash_store a) (array_at H begin) parts → IsFalse (has_write (accesses_in parts))
         → answers_in parts ≡ map (λ call. (hash_act call (hash_map a (array_at H begin))).0) (calls_in parts) }
 {}
 

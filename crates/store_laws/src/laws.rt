@@ -3,14 +3,13 @@ ghost use Rattle.std.specs.Prelude.{◌≡◌, ◌⊎◌, ℕ, ◌<◌, ◌≤�
 ghost use Rattle.iso_model.specs.declared.access.Access.{Access};
 ghost use Rattle.iso_model.specs.declared.access.Commit.{Commit};
 ghost use Rattle.iso_model.specs.declared.access.Geometry.{Geometry};
-ghost use Rattle.iso_model.specs.Array.{zeros, Array};
+ghost use Rattle.iso_model.specs.Array.{Array};
 ghost use Rattle.iso_model.specs.declared.access.Mode.TheVariants.{Serial};
 ghost use Rattle.iso_model.specs.Conflict.{IsSerialAt};
 ghost use Rattle.iso_model.specs.Effect.{has_write, own};
 ghost use Rattle.iso_model.specs.History.{array_at, last, History};
 ghost use Rattle.iso_model.specs.Isolation.{IsIsolated};
-ghost use Rattle.iso_model.specs.Premises.{appended};
-ghost use Rattle.iso_model.specs.World.{empty_history};
+ghost use Rattle.iso_model.specs.Premises.{appended, IsHistory};
 ghost use Rattle.store_laws.specs.Both.{firsts, AreMixed, BothInOrder, BothWellFormed, IsByBoth, IsOfBoth, MixedParts};
 ghost use Rattle.store_laws.specs.Growing.{IsMadeOf};
 ghost use Rattle.store_laws.specs.Parts.{accesses_in, answers_in, calls_in, AnswerInOrder, AreMade, Called, IsByCalls, IsOfCalls, Other, Part};
@@ -22,21 +21,21 @@ ghost use Rattle.tx_blocks.specs.Tx.{added, with_accesses, Tx};
 use crate::RegionStore;
 
 /// The calls of a commit answer as one thread's calls on a map, which begins as the map directly before the commit and ends as the
-/// map directly after it: `commit` says it of a commit that is serial, `history` of all commits of a history. In a history each
-/// region is well formed, a transaction's calls answer so by the map at its begin, and one without writes leaves that map.
+/// map directly after it: `commit` says it of a commit that is serial, `history` of all commits after some number, where they are made of
+/// calls. The region is well formed from there on, the calls of a transaction answer so by the map at its begin (`live`), and where it
+/// writes nothing, each of them by that map (`read_only`).
 pub fn committed_calls_answer_in_order<S: RegionStore>(store: &S)
     ensures commit { let s = S.store store.now in (H : History) (k : ℕ) (c : Commit) (parts : List (Part s.Call s.Answer)) → 0 < H.first → H.first ≤ k
         → slice_get H.commits (k - H.first) ≡ Some c → IsSerialAt H k → accesses_in parts ≡ c.accesses → AreMade s (array_at H c.begin) parts
         → s.IsWellFormed (array_at H (k - 1)) → AnswerInOrder s parts (array_at H (k - 1)) (array_at H k) }
-    ensures history { let s = S.store store.now in (g : Geometry) (H : History) → IsByCalls s g H → (k : ℕ) → H.first ≤ k → k ≤ last H
+    ensures history { let s = S.store store.now in (g : Geometry) (H : History) (n : ℕ) → IsByCalls s g H n → (k : ℕ) → n < k → k ≤ last H
         → IfSome (slice_get H.commits (k - H.first)) (λ c. (of : IsOfCalls s H c) → AnswerInOrder s of.parts (array_at H (k - 1)) (array_at H k)) }
-    ensures well_formed { let s = S.store store.now in (g : Geometry) (H : History) → IsByCalls s g H → (n : ℕ) → H.first ≤ n + 1 → n ≤ last H
-        → s.IsWellFormed (array_at H n) }
-    ensures live { let s = S.store store.now in (g : Geometry) (H : History) (begin : ℕ) (parts : List (Part s.Call s.Answer)) → IsByCalls s g H
-        → H.first ≤ begin + 1 → begin ≤ last H → AreMade s (array_at H begin) parts
+    ensures well_formed { let s = S.store store.now in (g : Geometry) (H : History) (n m : ℕ) → IsByCalls s g H n → n ≤ m → m ≤ last H → s.IsWellFormed (array_at H m) }
+    ensures live { let s = S.store store.now in (g : Geometry) (H : History) (n begin : ℕ) (parts : List (Part s.Call s.Answer)) → IsByCalls s g H n
+        → n ≤ begin → begin ≤ last H → AreMade s (array_at H begin) parts
         → AnswerInOrder s parts (array_at H begin) (own (array_at H begin) (accesses_in parts)) }
-    ensures read_only { let s = S.store store.now in (g : Geometry) (H : History) (begin : ℕ) (parts : List (Part s.Call s.Answer)) → IsByCalls s g H
-        → H.first ≤ begin + 1 → begin ≤ last H → AreMade s (array_at H begin) parts → IsFalse (has_write (accesses_in parts))
+    ensures read_only { let s = S.store store.now in (g : Geometry) (H : History) (n begin : ℕ) (parts : List (Part s.Call s.Answer)) → IsByCalls s g H n
+        → n ≤ begin → begin ≤ last H → AreMade s (array_at H begin) parts → IsFalse (has_write (accesses_in parts))
         → answers_in parts ≡ map (λ call. (s.act call (s.map_of (array_at H begin))).0) (calls_in parts) }
 {}
 
@@ -52,19 +51,20 @@ pub fn calls_of_two_stores_answer_in_order<S: RegionStore, T: RegionStore>(first
     ensures commit { let s = S.store first.now in let t = T.store second.now in (H : History) (k : ℕ) (c : Commit) (parts : MixedParts s t) → 0 < H.first → H.first ≤ k
         → slice_get H.commits (k - H.first) ≡ Some c → IsSerialAt H k → accesses_in (firsts parts) ≡ c.accesses → AreMixed s t (array_at H c.begin) parts
         → BothWellFormed s t (array_at H (k - 1)) → BothInOrder s t parts (array_at H (k - 1)) (array_at H k) }
-    ensures history { let s = S.store first.now in let t = T.store second.now in (g : Geometry) (H : History) → IsByBoth s t g H → (k : ℕ) → H.first ≤ k → k ≤ last H
+    ensures history { let s = S.store first.now in let t = T.store second.now in (g : Geometry) (H : History) (n : ℕ) → IsByBoth s t g H n → (k : ℕ) → n < k → k ≤ last H
         → IfSome (slice_get H.commits (k - H.first)) (λ c. (of : IsOfBoth s t H c) → BothInOrder s t of.parts (array_at H (k - 1)) (array_at H k)) }
     ensures live { let s = S.store first.now in let t = T.store second.now in (A : Array) (parts : MixedParts s t) → AreMixed s t A parts → BothWellFormed s t A
         → BothInOrder s t parts A (own A (accesses_in (firsts parts))) }
     ensures apart { let s = S.store first.now in let t = T.store second.now in (accesses : List Access) → AreApart s t → WriteWithin s accesses → SpareRegion t accesses }
 {}
 
-/// The history of a new image is one by calls where the region of an array of zeros is well formed, and a history stays one as
-/// commits by calls come to it.
+/// A history, of a new image or of one that was opened, is one by calls from its last commit on where the region is well formed
+/// there, and it stays one as commits by calls come to it.
 pub fn histories_stay_by_calls<S: RegionStore>(store: &S)
-    ensures empty { let s = S.store store.now in (g : Geometry) → s.IsWellFormed (zeros g.block g.blocks) → IsByCalls s g (empty_history g) }
-    ensures appended { let s = S.store store.now in (g : Geometry) (H : History) (c : Commit) → IsByCalls s g H → IsIsolated g (appended H c) → IsOfCalls s H c
-        → IsByCalls s g (appended H c) }
+    ensures begun { let s = S.store store.now in (g : Geometry) (H : History) → IsHistory g H → IsIsolated g H → s.IsWellFormed (array_at H (last H))
+        → IsByCalls s g H (last H) }
+    ensures appended { let s = S.store store.now in (g : Geometry) (H : History) (c : Commit) (n : ℕ) → IsByCalls s g H n → IsIsolated g (appended H c) → IsOfCalls s H c
+        → IsByCalls s g (appended H c) n }
 {}
 
 /// A transaction is made of no parts at its begin, and of one part more after each call that is local for its store, and after other
