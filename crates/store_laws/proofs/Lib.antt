@@ -9,3 +9,4 @@ pub mod Programs
 pub mod HashWrites
 mod Rows
 pub mod PutAndGet
+mod Skew
