@@ -8,9 +8,9 @@ use Rattle.iso_model.specs.Array.{Array, put}
 use Rattle.iso_model.specs.Conflict.{IsSerialAt}
 use Rattle.iso_model.specs.Effect.{has_write, is_write, own}
 use Rattle.iso_model.specs.History.{History, array_at, last}
-use Rattle.iso_model.specs.Isolation.{HasSeen, IsIsolated, IsIsolatedAt}
+use Rattle.iso_model.specs.Isolation.{HasSeen, IsIsolatedAt}
 use Rattle.store_laws.specs.Region.{IsOfItsBlocks, MapStore}
-use Rattle.store_laws.specs.Parts.{AnswerInOrder, AreMade, AreOfCalls, Called, IsByCalls, IsOfCalls, Other, Part, accesses_in, answers_in, calls_in}
+use Rattle.store_laws.specs.Parts.{AnswerInOrder, AreMade, Called, IsByCalls, IsOfCalls, Other, Part, accesses_in, answers_in, calls_in}
 use Rattle.store_laws.proofs.InOrder.{commit_by, live_in_order, same_shape}
 
 -- a commit that has seen what it should, and makes no calls or is serial

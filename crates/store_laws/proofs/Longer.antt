@@ -5,11 +5,10 @@ use Rattle.std.proofs.lemmas.List.{length-append, take-append-le}
 use Rattle.iso_model.specs.declared.access.Commit.{Commit}
 use Rattle.iso_model.specs.declared.access.Geometry.{Geometry}
 use Rattle.iso_model.specs.declared.access.Mode.TheVariants.{Serial}
-use Rattle.iso_model.specs.Array.{Array, zeros}
+use Rattle.iso_model.specs.Array.{Array}
 use Rattle.iso_model.specs.History.{History, all_own, array_at, last}
 use Rattle.iso_model.specs.Isolation.{HasSeen, IsIsolated}
 use Rattle.iso_model.specs.Premises.{IsHistory, appended}
-use Rattle.iso_model.specs.World.{empty_history}
 use Rattle.iso_model.proofs.Isolation.{slice_get_append_left}
 use Rattle.tx_blocks.specs.Tx.{Tx}
 use Rattle.store_laws.specs.Growing.{IsMadeOf}

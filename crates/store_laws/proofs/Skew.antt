@@ -1,5 +1,5 @@
 -- Two snapshots that are isolated and whose calls are in no order: so snapshots make no calls.
-use Rattle.std.proofs.Common.{◌≡◌, ◌∙◌, sym, refl, ap, subst, ℕ, zero, suc, ◌+◌, ◌-◌, ◌<◌, ◌≤◌, ◌==◌, Bool, true, false, cond, List, [], ◌∷◌, IfSome, IsTrue, length, replicate, slice_get, arith, inl, inr, get_or}
+use Rattle.std.proofs.Common.{◌≡◌, ◌∙◌, sym, refl, ap, subst, ℕ, zero, suc, ◌-◌, ◌<◌, ◌≤◌, ◌==◌, Bool, true, false, cond, List, [], ◌∷◌, IfSome, IsTrue, length, replicate, slice_get, arith, inl, inr, get_or}
 use Rattle.std.proofs.lemmas.Bool.{and_parts, false≢true, leb-true, ltb-true, or_cases}
 use Rattle.iso_model.specs.declared.access.Access.{Access}
 use Rattle.iso_model.specs.declared.access.Commit.{Commit}
@@ -13,7 +13,7 @@ use Rattle.iso_model.specs.Premises.{block_at}
 use Rattle.iso_model.specs.Stores.{IsLocal, look_access, store_access}
 use Rattle.iso_model.proofs.Bytes.{length-block_put, put_here, put_kept}
 use Rattle.iso_model.proofs.Rows.{small}
-use Rattle.store_laws.specs.Parts.{AnswerInOrder, AreMade, Called, Part}
+use Rattle.store_laws.specs.Parts.{AnswerInOrder, AreMade, Called}
 use Rattle.store_laws.specs.Region.{MapStore}
 
 -- two numbers in block 0: a call copies the second over the first, or the first over the second, and answers what it copied

@@ -7,8 +7,8 @@ use Rattle.iso_model.specs.Array.{Array}
 use Rattle.iso_model.specs.Conflict.{IsSerialAt}
 use Rattle.iso_model.specs.Effect.{own}
 use Rattle.iso_model.specs.History.{History, array_at, last}
-use Rattle.store_laws.specs.Both.{AreMixed, AreOfBoth, BothInOrder, BothWellFormed, First, IsByBoth, IsOfBoth, MixedParts, Neither, Second, firsts, seconds}
-use Rattle.store_laws.specs.Parts.{AnswerInOrder, AreMade, AreOfCalls, IsByCalls, IsOfCalls, accesses_in}
+use Rattle.store_laws.specs.Both.{AreMixed, BothInOrder, BothWellFormed, First, IsByBoth, IsOfBoth, MixedParts, Neither, Second, firsts, seconds}
+use Rattle.store_laws.specs.Parts.{AnswerInOrder, AreMade, IsByCalls, IsOfCalls, accesses_in}
 use Rattle.store_laws.specs.Region.{IsOfItsBlocks, MapStore}
 use Rattle.store_laws.proofs.Histories.{commits_in_order, if_some, two_if}
 use Rattle.store_laws.proofs.InOrder.{commit_by, live_in_order}
