@@ -1,13 +1,14 @@
 -- A transaction grows by calls of a store and by other accesses.
 use Rattle.std.proofs.Common.{◌≡◌, ◌∙◌, sym, refl, ap, subst, ℕ, Bool, List, [], ◌∷◌, ◌++◌, append_assoc, append-nil, Option, Some, Result, Ok}
+use Rattle.std.proofs.lemmas.Bool.{both_ways}
 use Rattle.iso_model.specs.declared.access.Access.{Access}
 use Rattle.iso_model.specs.declared.stores.Area.{Area}
 use Rattle.iso_model.specs.declared.stores.StoreError.{StoreError}
 use Rattle.iso_model.specs.Array.{Array}
-use Rattle.iso_model.specs.Effect.{own}
+use Rattle.iso_model.specs.Effect.{is_write, own}
 use Rattle.iso_model.specs.HashRegion.{IsHashRegion, del_op, get_op, hash_map, put_op}
-use Rattle.iso_model.specs.Stores.{IsLocal, Program}
-use Rattle.tx_blocks.specs.Runs.{HasEnded, IsLocalCall}
+use Rattle.iso_model.specs.Stores.{AreReads, IsLocal, Program}
+use Rattle.tx_blocks.specs.Runs.{HasEnded, HasRead, IsLocalCall}
 use Rattle.tx_blocks.specs.Tx.{Tx, added, with_accesses}
 use Rattle.store_laws.specs.Growing.{IsMadeOf}
 use Rattle.store_laws.specs.Hash.{Del, Get, Got, HashAnswer, HashCall, Put, WasPut, WasThere, hash_store}
@@ -49,6 +50,13 @@ called s A t u parts call answer done is further local =
 pub other : (s : MapStore) (A : Array) (t u : Tx) (parts : List (Part s.Call s.Answer)) (done : List Access) → IsMadeOf s A t parts → u ≡ with_accesses t done
     → SpareRegion s done → IsMadeOf s A u (parts ++ Other done ∷ [])
 other s A t u parts done is further spare = grown s A t u parts (Other done) done is further (append-nil done) (spare, tt)
+
+reads_spare : (s : MapStore) (accesses : List Access) → AreReads accesses → SpareRegion s accesses
+reads_spare s [] reads = tt
+reads_spare s (a ∷ accesses) reads = (λ write. absurd (both_ways (is_write a) reads.0 write), reads_spare s accesses reads.1)
+
+pub refused : (s : MapStore) (A : Array) (t u : Tx) (parts : List (Part s.Call s.Answer)) → IsMadeOf s A t parts → (read : HasRead t u) → IsMadeOf s A u (parts ++ Other read.done ∷ [])
+refused s A t u parts is read = other s A t u parts read.done is read.is (reads_spare s read.done read.reads)
 
 -- the calls of the hash store, by what their contracts say
 get_local : (a : Area) (key : List ℕ) (A : Array) (accesses : List Access) (r : Option (List ℕ)) → IsLocal (IsHashRegion a) (hash_map a) (get_op key) A accesses r

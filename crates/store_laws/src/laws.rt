@@ -15,7 +15,7 @@ ghost use Rattle.store_laws.specs.Growing.{IsMadeOf};
 ghost use Rattle.store_laws.specs.Parts.{accesses_in, answers_in, calls_in, AnswerInOrder, AreMade, Called, IsByCalls, IsOfCalls, Other, Part};
 ghost use Rattle.store_laws.specs.Region.{SpareRegion};
 ghost use Rattle.store_laws.specs.Writes.{AreApart, WriteWithin};
-ghost use Rattle.tx_blocks.specs.Runs.{IsLocalCall};
+ghost use Rattle.tx_blocks.specs.Runs.{HasRead, IsLocalCall};
 ghost use Rattle.tx_blocks.specs.Tx.{added, with_accesses, Tx};
 
 use crate::RegionStore;
@@ -68,13 +68,15 @@ pub fn histories_stay_by_calls<S: RegionStore>(store: &S)
 {}
 
 /// A transaction is made of no parts at its begin, and of one part more after each call that is local for its store, and after other
-/// accesses that write no block of the region. Its commit is by calls then.
+/// accesses that write no block of the region, as the reads of a call that was refused. Its commit is by calls then.
 pub fn transactions_grow_by_parts<S: RegionStore>(store: &S)
     ensures begun { let s = S.store store.now in (A : Array) (t : Tx) → t.base ≡ Some A → t.accesses ≡ [] → IsMadeOf s A t [] }
     ensures called { let s = S.store store.now in (A : Array) (t u : Tx) (parts : List (Part s.Call s.Answer)) (call : s.Call) (answer : s.Answer) (done : List Access) → IsMadeOf s A t parts
         → u ≡ with_accesses t done → IsLocalCall s.IsWellFormed s.map_of (s.act call) t u answer → IsMadeOf s A u (parts ++ Called call (added t u) answer ∷ []) }
     ensures other { let s = S.store store.now in (A : Array) (t u : Tx) (parts : List (Part s.Call s.Answer)) (done : List Access) → IsMadeOf s A t parts
         → u ≡ with_accesses t done → SpareRegion s done → IsMadeOf s A u (parts ++ Other done ∷ []) }
+    ensures refused { let s = S.store store.now in (A : Array) (t u : Tx) (parts : List (Part s.Call s.Answer)) → IsMadeOf s A t parts → (read : HasRead t u)
+        → IsMadeOf s A u (parts ++ Other read.done ∷ []) }
     ensures committed { let s = S.store store.now in (H : History) (c : Commit) (t : Tx) (parts : List (Part s.Call s.Answer)) → IsMadeOf s (array_at H c.begin) t parts
         → t.accesses ≡ c.accesses → (calls_in parts ≡ []) ⊎ (c.mode ≡ Serial) → IsOfCalls s H c }
 {}

@@ -1,4 +1,4 @@
-use Rattle.store_laws.proofs.Growth.{begun, called, other}
+use Rattle.store_laws.proofs.Growth.{begun, called, other, refused}
 use Rattle.store_laws.proofs.Longer.{commits_by_calls}
 use Rattle.store_laws.proofs.laws.transactions_grow_by_parts.Goals as goal
 
@@ -13,3 +13,6 @@ returns-clause-other g c = other (g.S.RegionStore.store c.args.store.now)
 
 pub returns-clause-committed : goal.returns-clause-committed
 returns-clause-committed g c = commits_by_calls (g.S.RegionStore.store c.args.store.now)
+
+pub returns-clause-refused : goal.returns-clause-refused
+returns-clause-refused g c = refused (g.S.RegionStore.store c.args.store.now)
