@@ -1,0 +1,132 @@
+-- A transaction that has just begun.
+use Rattle.std.proofs.Common.{◌≡◌, ◌≢◌, ℕ, suc, zero, ◌+◌, ◌-◌, ◌<◌, ◌≤◌, ◌==◌, Bool, true, false, ◌&&◌, not, cond, List, [], ◌∷◌, ◌++◌, Option, Some, None, Result, Ok, Err, IfOk, IsTrue, nat_le, nat_lt, length, take, drop, eq-eqb, refl, sym, ap, ◌∙◌, subst, arith}
+use Rattle.std.specs.Prelude.{IsErrOf}
+use Rattle.std.proofs.lemmas.Bool.{and_parts}
+use Rattle.std.proofs.lemmas.Bool.Decides.{nat_tests}
+use Rattle.conflict_rule.specs.declared.decision.Checked.{Checked}
+use Rattle.conflict_rule.specs.Decision.{up_to}
+use Rattle.iso_core.specs.declared.answers.Begun.{Begun}
+use Rattle.iso_core.specs.declared.core_itself.Core.{Core}
+use Rattle.iso_core.specs.Core.{StandsFor}
+use Rattle.iso_core.specs.Standing.{Standing, up, down}
+use Rattle.iso_disk.specs.Disk.{DiskState}
+use Rattle.iso_model.specs.declared.access.Access.{Access}
+use Rattle.iso_model.specs.declared.access.Commit.{Commit}
+use Rattle.iso_model.specs.declared.access.Geometry.{Geometry}
+use Rattle.iso_model.specs.declared.access.Mode.{Mode}
+use Rattle.iso_model.specs.declared.access.Mode.TheVariants.{Serial}
+use Rattle.iso_model.specs.declared.core_error.CoreError.{CoreError}
+use Rattle.iso_model.specs.declared.core_error.CoreError.TheVariants as error
+use Rattle.iso_model.specs.declared.limits.TheConstants.{LAST, MAX_LIVE}
+use Rattle.iso_model.specs.declared.script.Reply.{Reply}
+use Rattle.iso_model.specs.declared.script.Reply.TheVariants as reply
+use Rattle.iso_model.specs.Conflict.{clash, clash_from, first_after}
+use Rattle.iso_model.specs.Effect.{has_write}
+use Rattle.iso_model.specs.Geometry.{is_block_size, is_valid, same_mode}
+use Rattle.iso_model.specs.History.{History, last}
+use Rattle.iso_model.specs.Step.{after_begin, begin_step, mode_named}
+use Rattle.iso_model.specs.World.{World, Live, unattached}
+use Rattle.iso_model.specs.Worlds.{IsWorld}
+use Rattle.tx_table.specs.Work.{Doing}
+use Rattle.iso_shared.specs.declared.entry.Entry.{Entry}
+use Rattle.iso_shared.specs.declared.entry.Entry.TheVariants as entry
+use Rattle.iso_shared.specs.Legal.{IsLegal}
+use Rattle.iso_shared.specs.Ports.{IsAhead, IsOwn}
+use Rattle.iso_shared.specs.Standing.{Holds, IsOn, standing_of}
+use Rattle.iso_shared.specs.States.{Start, State, after, is_live, live_of, opened, state_at}
+use Rattle.iso_shared.proofs.Trace.{after_snoc, legal_last, opened_sound, sound_all}
+
+-- a sound world has blocks of a size that a work may have
+pub block_size : (W : World) → IsWorld W → IsTrue (is_block_size W.geometry.block)
+unfolding is_valid
+block_size W is =
+    let a = and_parts _ _ is.valid in
+    let b = and_parts _ _ a.0 in
+    let c = and_parts _ _ b.0 in
+    let d = and_parts _ _ c.0 in
+    let e = and_parts _ _ d.0 in
+    let f = and_parts _ _ e.0 in
+    let g = and_parts _ _ f.0 in
+    let h = and_parts _ _ g.0 in
+    (and_parts _ _ h.0).0
+
+-- a begin that is answered begins at the last commit
+began_last : (W : World) (mode : Mode) (at : ℕ) → (begin_step W unattached mode).0 ≡ reply.Began at → at ≡ last W.history
+unfolding begin_step
+began_last W mode at e = by ((W.geometry.form == 1) && not (same_mode mode W.geometry.mode)) (nat_le MAX_LIVE (length W.live)) (nat_lt LAST W.next) e
+  where
+    by : (x y z : Bool) → (let r : Reply × World = cond x (reply.ModeFixed, W) (cond y (reply.TooManyTx, W) (cond z (reply.Worn, W) (reply.Began (last W.history), after_begin W unattached mode))) in r.0 ≡ reply.Began at) → at ≡ last W.history
+    by true y z e = absurd (cc e)
+    by false true z e = absurd (cc e)
+    by false false true e = absurd (cc e)
+    by false false false e = cc e
+
+of_new : (n : ℕ) (live : List Live) (t : Live) → t.number ≡ n → (is_live n live ≡ true → ⊥) → live_of n (live ++ t ∷ []) ≡ t
+of_new n [] t same never = ap (λ (b : Bool). cond b t (record { number = n; begin = 0; mode = Serial; accesses = []; place = unattached })) (eq-eqb t.number n same)
+of_new n (u ∷ live) t same never = by (u.number == n) never (of_new n live t same)
+  where
+    by : (b : Bool) → (cond b true (is_live n live) ≡ true → ⊥) → ((is_live n live ≡ true → ⊥) → live_of n (live ++ t ∷ []) ≡ t) → cond b u (live_of n (live ++ t ∷ [])) ≡ t
+    by true never ih = absurd (never refl)
+    by false never ih = ih never
+
+drop_of_take : {T : Type 0} → (k : ℕ) (xs : List T) → drop k (take k xs) ≡ []
+drop_of_take zero xs = refl
+drop_of_take (suc k) [] = refl
+drop_of_take (suc k) (x ∷ xs) = drop_of_take k xs
+
+-- a transaction clashes with no commit up to its begin
+pub clash_none : (g : Geometry) (H : History) (mode : Mode) (begin : ℕ) (accesses : List Access) → None ≡ clash g (up_to H begin) mode begin accesses
+unfolding clash
+clash_none g H mode begin accesses =
+    by (has_write accesses) ∙ ap (λ commits. cond (has_write accesses) (clash_from g mode accesses (first_after H begin) commits) None) (sym (drop_of_take (begin + 1 - H.first) H.commits))
+  where
+    by : (b : Bool) → None ≡ cond b (clash_from g mode accesses (first_after H begin) []) None
+    by true = refl
+    by false = refl
+
+-- nothing was checked yet
+pub ahead_first : (S : State) (work : Doing) (checked : Checked) → 0 < S.world.history.first → work.begin ≤ last S.world.history → checked ≡ record { upto = work.begin; clash = None } → IsAhead S work checked
+ahead_first S work checked some within is =
+    subst (λ v. IsAhead S work v) (sym is) (record { first = some; from = omega arith; to = within; clash_is = clash_none S.world.geometry S.world.history work.mode work.begin work.accesses })
+
+-- what a legal begin made
+pub began_own : (A : Start) (es : List Entry) (n at : ℕ) (mode : Mode) (work : Doing) → A.world.live ≡ [] → IsLegal A (es ++ entry.Begin n at mode ∷ [])
+    → work.begin ≡ at → work.mode ≡ mode → IsOn (state_at A es).world.geometry work → IsOwn (state_at A (es ++ entry.Begin n at mode ∷ [])) n work
+began_own A es n at mode work none legal begin is_mode on =
+    let l = legal_last (opened A) es (entry.Begin n at mode) legal in
+    let S : State = state_at A es in
+    let s = sound_all (opened A) es (opened_sound A none) l.0 in
+    let a = l.1.answers in
+    let next : n ≡ S.world.next = a.1 in
+    let never : is_live n S.world.live ≡ true → ⊥ = λ is. (let lt = s.below n is in absurd (omega (arith, next))) in
+    let t : Live = record { number = S.world.next; begin = last S.world.history; mode = mode; accesses = []; place = unattached } in
+    let new : live_of n (S.world.live ++ t ∷ []) ≡ t = of_new n S.world.live t (sym next) never in
+    subst (λ T. IsOwn T n work) (sym (after_snoc (opened A) es (entry.Begin n at mode)))
+    (record {
+      number = omega (arith, next);
+      begin = λ is. ap (λ v. v.begin) new ∙ sym (began_last S.world mode at a.2) ∙ sym begin;
+      mode = λ is. ap (λ v. v.mode) new ∙ sym is_mode;
+      on = record { size = on.size; blocks = on.blocks };
+    })
+
+pub began_ahead : (A : Start) (es : List Entry) (n at : ℕ) (mode : Mode) (work : Doing) (checked : Checked) → A.world.live ≡ [] → IsLegal A (es ++ entry.Begin n at mode ∷ []) → 0 < (state_at A es).world.history.first
+    → work.begin ≡ at → checked ≡ record { upto = work.begin; clash = None } → IsAhead (state_at A (es ++ entry.Begin n at mode ∷ [])) work checked
+began_ahead A es n at mode work checked none legal some begin is =
+    let l = legal_last (opened A) es (entry.Begin n at mode) legal in
+    let S : State = state_at A es in
+    let at_last : at ≡ last S.world.history = began_last S.world mode at l.1.answers.2 in
+    subst (λ T. IsAhead T work checked) (sym (after_snoc (opened A) es (entry.Begin n at mode)))
+    (ahead_first (after S (entry.Begin n at mode)) work checked some (omega (arith, begin, at_last)) is)
+
+-- the mode of a begin that was answered
+pub begun_mode : {D : Type 0} → (disk : D → DiskState) (S : State) (old new : Core D) (named : Option Mode) (r : Result Begun CoreError) (t : Begun) → Holds disk old S
+    → ((W : World) → StandsFor disk old W up → IfOk r (λ t. (t.tx ≡ W.next) × (t.mode ≡ mode_named W named) × ((begin_step W unattached (mode_named W named)).0 ≡ reply.Began t.at) × StandsFor disk new (after_begin W unattached (mode_named W named)) up))
+    → ((W : World) (lost : List Commit) → StandsFor disk old W (down lost) → r ≡ Err error.Down)
+    → r ≡ Ok t → t.mode ≡ mode_named S.world named
+begun_mode disk S old new named r t h begun fallen is = by S.lost refl
+  where
+    by : (o : Option (List Commit)) → S.lost ≡ o → t.mode ≡ mode_named S.world named
+    by None lost =
+        let so = begun S.world (subst (λ v. StandsFor disk old S.world (standing_of v)) lost h.world) in
+        (subst (λ v. IfOk v (λ u. (u.tx ≡ S.world.next) × (u.mode ≡ mode_named S.world named) × ((begin_step S.world unattached (mode_named S.world named)).0 ≡ reply.Began u.at) × StandsFor disk new (after_begin S.world unattached (mode_named S.world named)) up)) is so).1
+    by (Some commits) lost = absurd (cc (is, fallen S.world commits (subst (λ v. StandsFor disk old S.world (standing_of v)) lost h.world)))

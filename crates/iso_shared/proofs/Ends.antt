@@ -1,0 +1,234 @@
+-- The end of a transaction leaves an entry that is legal at its place.
+use Rattle.std.proofs.Common.{◌≡◌, ◌≢◌, ◌⊎◌, inl, inr, ⊎_elim, ℕ, ◌+◌, ◌-◌, ◌<◌, ◌≤◌, Bool, true, false, cond, List, [], ◌∷◌, ◌++◌, Option, Some, None, Result, Ok, Err, IfOk, IfErr, OnOk, OnErr, IsSome, length, nat_lt, refl, sym, ap, ◌∙◌, subst, arith}
+use Rattle.std.specs.Prelude.{IsErrOf, ◌==◌, is_some, not}
+use Rattle.conflict_rule.specs.declared.decision.Checked.{Checked}
+use Rattle.conflict_rule.specs.Decision.{up_to}
+use Rattle.iso_core.specs.declared.core_itself.Core.{Core}
+use Rattle.iso_core.specs.Calls.{BlamesDisk, IsCheckedOf, IsWorkOf, Refuses, Writes}
+use Rattle.iso_core.specs.Calls as calls
+use Rattle.iso_core.specs.Core.{StandsFor, disk_of}
+use Rattle.iso_core.specs.Ends.{commit_of}
+use Rattle.iso_core.specs.Standing.{Standing, up, down}
+use Rattle.iso_disk.specs.Disk.{DiskState, StaysTold}
+use Rattle.iso_model.specs.declared.access.Access.{Access}
+use Rattle.iso_model.specs.declared.access.Clash.{Clash}
+use Rattle.iso_model.specs.declared.access.Commit.{Commit}
+use Rattle.iso_model.specs.declared.access.EndReply.{EndReply}
+use Rattle.iso_model.specs.declared.access.EndReply.TheVariants.{Committed, ReadOnly, Conflict}
+use Rattle.iso_model.specs.declared.access.Geometry.{Geometry}
+use Rattle.iso_model.specs.declared.core_error.CoreError.{CoreError}
+use Rattle.iso_model.specs.declared.core_error.CoreError.TheVariants as error
+use Rattle.iso_model.specs.declared.limits.TheConstants.{LAST}
+use Rattle.iso_model.specs.declared.script.Reply.{Reply}
+use Rattle.iso_model.specs.declared.script.Reply.TheVariants as reply
+use Rattle.iso_model.specs.Conflict.{clash}
+use Rattle.iso_model.specs.Effect.{has_write}
+use Rattle.iso_model.specs.History.{last}
+use Rattle.iso_model.specs.Step.{after_commit, after_leaving, commit_step, end_step, need}
+use Rattle.iso_model.specs.World.{World, Live, used}
+use Rattle.tx_table.specs.Work.{AreWithin, Doing}
+use Rattle.iso_shared.specs.declared.entry.Call.TheVariants as call
+use Rattle.iso_shared.specs.declared.entry.Entry.{Entry}
+use Rattle.iso_shared.specs.declared.entry.Entry.TheVariants as entry
+use Rattle.iso_shared.specs.Legal.{Answers, IsUp, MayHaveMade, end_answer, reply_of}
+use Rattle.iso_shared.specs.Ports.{IsAhead, IsOwn}
+use Rattle.iso_shared.specs.Standing.{Holds, IsOn, faults_of, standing_of}
+use Rattle.iso_shared.specs.States.{State, after, after_end, is_live, live_of, lost_commit, tx_of, with_world}
+use Rattle.iso_shared.specs.Told.{end_entry}
+use Rattle.iso_shared.proofs.Cores.{Did, by_lost, holds_other, holds_up, refused_down, refused_up}
+
+same_reply : (r : EndReply) → calls.reply_of r ≡ reply_of r
+same_reply (Committed n) = refl
+same_reply ReadOnly = refl
+same_reply (Conflict c) = refl
+
+module _ (W : World) (n : ℕ) (accesses : List Access) where
+  -- a world that the reply leads to
+  abbrev pub Leads : Reply × World → Type 0
+  Leads x = (r : EndReply) → x.0 ≡ reply_of r → x.1 ≡ after_end W n accesses r
+
+  in_conflict : (c : Clash) → Leads (reply.Conflict c, after_leaving W (tx_of W n accesses))
+  in_conflict c (Committed k) e = absurd (cc e)
+  in_conflict c ReadOnly e = absurd (cc e)
+  in_conflict c (Conflict d) e = refl
+
+  read_only : Leads (reply.ReadOnly, after_leaving W (tx_of W n accesses))
+  read_only (Committed k) e = absurd (cc e)
+  read_only ReadOnly e = refl
+  read_only (Conflict d) e = absurd (cc e)
+
+  committed : (k : ℕ) → Leads (reply.Committed k, after_commit W (tx_of W n accesses))
+  committed k (Committed m) e = refl
+  committed k ReadOnly e = absurd (cc e)
+  committed k (Conflict d) e = absurd (cc e)
+
+  worn : Leads (reply.Worn, W)
+  worn (Committed k) e = absurd (cc e)
+  worn ReadOnly e = absurd (cc e)
+  worn (Conflict d) e = absurd (cc e)
+
+  log_full : (wanted free : ℕ) → Leads (reply.LogFull wanted free, W)
+  log_full wanted free (Committed k) e = absurd (cc e)
+  log_full wanted free ReadOnly e = absurd (cc e)
+  log_full wanted free (Conflict d) e = absurd (cc e)
+
+  chosen : (test : Bool) (x y : Reply × World) → Leads x → Leads y → Leads (cond test x y)
+  chosen true x y first second = first
+  chosen false x y first second = second
+
+  commit_leads : (o : Option Clash) → Leads (commit_step W (tx_of W n accesses) o)
+  unfolding commit_step
+  commit_leads (Some c) = in_conflict c
+  commit_leads None =
+      chosen (last W.history == LAST) _ _ worn
+      (chosen (nat_lt (W.geometry.log - used W) (need W (tx_of W n accesses))) _ _ (log_full (need W (tx_of W n accesses)) (W.geometry.log - used W)) (committed (last W.history + 1)))
+
+  -- the world that the rules give is the one that the reply tells
+  pub ends_so : Leads (end_step W (tx_of W n accesses))
+  unfolding end_step
+  ends_so = chosen (has_write accesses) _ _ (commit_leads (clash W.geometry W.history (tx_of W n accesses).mode (tx_of W n accesses).begin accesses)) read_only
+
+pub by_disk : (e : CoreError) → (e ≡ error.Disk) ⊎ (e ≢ error.Disk)
+by_disk error.Down = inr (λ e. cc e)
+by_disk error.TooManyTx = inr (λ e. cc e)
+by_disk (error.LogFull wanted free) = inr (λ e. cc e)
+by_disk error.Disk = inl refl
+by_disk error.Memory = inr (λ e. cc e)
+by_disk (error.Worn at) = inr (λ e. cc e)
+by_disk error.ModeFixed = inr (λ e. cc e)
+
+unwritten_err : (P : Type 0) (e : CoreError) → e ≢ error.Disk → Writes (Err e) ⊎ P → P
+unwritten_err P error.Down other w = ⊎_elim (λ (x : Writes (Err error.Down)). absurd x) (λ (x : P). x) w
+unwritten_err P error.TooManyTx other w = ⊎_elim (λ (x : Writes (Err error.TooManyTx)). absurd x) (λ (x : P). x) w
+unwritten_err P (error.LogFull wanted free) other w = ⊎_elim (λ (x : Writes (Err (error.LogFull wanted free))). absurd x) (λ (x : P). x) w
+unwritten_err P error.Disk other w = absurd (other refl)
+unwritten_err P error.Memory other w = ⊎_elim (λ (x : Writes (Err error.Memory)). absurd x) (λ (x : P). x) w
+unwritten_err P (error.Worn at) other w = ⊎_elim (λ (x : Writes (Err (error.Worn at))). absurd x) (λ (x : P). x) w
+unwritten_err P error.ModeFixed other w = ⊎_elim (λ (x : Writes (Err error.ModeFixed)). absurd x) (λ (x : P). x) w
+
+module _ {D : Type 0} (disk : D → DiskState) (S : State) (old new : Core D) (tx : ℕ) (accesses : List Access) where
+  pub did_end : (r : Result EndReply CoreError) → Holds disk old S → MayHaveMade S.world accesses
+      → (StandsFor disk old S.world up → IfOk r (λ x. ((end_step S.world (tx_of S.world tx accesses)).0 ≡ calls.reply_of x) × StandsFor disk new (end_step S.world (tx_of S.world tx accesses)).1 up))
+      → (StandsFor disk old S.world up → IfErr r (λ e. (e ≡ error.Disk) ⊎ Refuses (end_step S.world (tx_of S.world tx accesses)).0 e))
+      → (StandsFor disk old S.world up → IfErr r (λ e. e ≢ error.Disk → StandsFor disk new S.world up))
+      → ((W : World) (lost : List Commit) → StandsFor disk old W (down lost) → (r ≡ Err error.Down) × (new ≡ old))
+      → Writes r ⊎ (disk_of new ≡ disk_of old)
+      → (StandsFor disk old S.world up → IsErrOf r error.Disk → ((end_step S.world (tx_of S.world tx accesses)).0 ≡ reply.Committed (last S.world.history + 1)) × StandsFor disk new (after_leaving S.world (tx_of S.world tx accesses)) (down (commit_of (tx_of S.world tx accesses) ∷ [])))
+      → OnOk r (StaysTold (disk (disk_of old)) (disk (disk_of new)))
+      → BlamesDisk (faults_of disk old) (faults_of disk new) r
+      → Did disk S new (end_entry (faults_of disk old) (faults_of disk new) tx accesses r)
+  did_end r h made ended refused same fallen unwritten lost told cause =
+      by_lost disk S old (Did disk S new (end_entry (faults_of disk old) (faults_of disk new) tx accesses r)) h
+      (λ is stands. up_by r is (ended stands) (refused stands) (same stands) unwritten (lost stands) told cause)
+      (λ commits is stands. let so = fallen S.world commits stands in refused_down disk S old new (faults_of disk old) (faults_of disk new) (call.End tx accesses) (λ x. entry.End tx accesses x) r commits h is made tt so.0 so.1)
+    where
+      counts : S.faults ≤ faults_of disk old
+      counts = h.counts
+
+      faulted : S.lost ≡ None → ((end_step S.world (tx_of S.world tx accesses)).0 ≡ reply.Committed (last S.world.history + 1)) × StandsFor disk new (after_leaving S.world (tx_of S.world tx accesses)) (down (commit_of (tx_of S.world tx accesses) ∷ []))
+          → BlamesDisk {T = EndReply} (faults_of disk old) (faults_of disk new) (Err error.Disk) → Did disk S new (end_entry (faults_of disk old) (faults_of disk new) tx accesses (Err error.Disk))
+      faulted is so cause = (
+        (made, ((is, so.0), counts, cause.failed refl, cause.later)),
+        record { world = so.1; counts = omega arith; told = λ up. absurd (cc up) },
+      )
+
+      others : (e : CoreError) → S.lost ≡ None → e ≢ error.Disk → Refuses (end_step S.world (tx_of S.world tx accesses)).0 e → StandsFor disk new S.world up → disk_of new ≡ disk_of old
+          → Did disk S new (end_entry (faults_of disk old) (faults_of disk new) tx accesses (Err e))
+      others e is other so stands equal =
+          refused_up disk S new (faults_of disk old) (faults_of disk new) (call.End tx accesses) e is made is so (holds_other disk S new (call.End tx accesses) (holds_up disk S old new S.world is h stands (same_count equal) (same_tells equal)))
+        where
+          same_count : disk_of new ≡ disk_of old → faults_of disk old ≤ faults_of disk new
+          same_count equal = let e : faults_of disk new ≡ faults_of disk old = ap (λ d. (disk d).faults) equal in omega arith
+
+          same_tells : disk_of new ≡ disk_of old → IsSome (disk (disk_of old)).contents → IsSome (disk (disk_of new)).contents
+          same_tells equal some = subst (λ d. IsSome (disk d).contents) (sym equal) some
+
+      up_by : (r : Result EndReply CoreError) → S.lost ≡ None
+          → IfOk r (λ x. ((end_step S.world (tx_of S.world tx accesses)).0 ≡ calls.reply_of x) × StandsFor disk new (end_step S.world (tx_of S.world tx accesses)).1 up)
+          → IfErr r (λ e. (e ≡ error.Disk) ⊎ Refuses (end_step S.world (tx_of S.world tx accesses)).0 e)
+          → IfErr r (λ e. e ≢ error.Disk → StandsFor disk new S.world up)
+          → Writes r ⊎ (disk_of new ≡ disk_of old)
+          → (IsErrOf r error.Disk → ((end_step S.world (tx_of S.world tx accesses)).0 ≡ reply.Committed (last S.world.history + 1)) × StandsFor disk new (after_leaving S.world (tx_of S.world tx accesses)) (down (commit_of (tx_of S.world tx accesses) ∷ [])))
+          → OnOk r (StaysTold (disk (disk_of old)) (disk (disk_of new)))
+          → BlamesDisk (faults_of disk old) (faults_of disk new) r
+          → Did disk S new (end_entry (faults_of disk old) (faults_of disk new) tx accesses r)
+      up_by (Ok x) is so never same unwritten lost told cause =
+          let answer : end_answer S.world tx accesses ≡ reply_of x = so.0 ∙ same_reply x in
+          let later : faults_of disk old ≤ faults_of disk new = cause.later in (
+            (is, made, answer),
+            holds_up disk S old new (after_end S.world tx accesses x) is h (subst (λ V. StandsFor disk new V up) (ends_so S.world tx accesses x answer) so.1) later told,
+          )
+      up_by (Err e) is so refused same unwritten lost told cause =
+          ⊎_elim
+          (λ (d : e ≡ error.Disk). subst (λ v. Did disk S new (end_entry (faults_of disk old) (faults_of disk new) tx accesses (Err v))) (sym d)
+          (faulted is (lost (ap Err d)) (subst (λ v. BlamesDisk {T = EndReply} (faults_of disk old) (faults_of disk new) (Err v)) d cause)))
+          (λ (other : e ≢ error.Disk). others e is other (⊎_elim (λ (d : e ≡ error.Disk). absurd (other d)) (λ (x : Refuses (end_step S.world (tx_of S.world tx accesses)).0 e). x) refused) (same other)
+          (unwritten_err (disk_of new ≡ disk_of old) e other unwritten))
+          (by_disk e)
+
+-- what the pass knows of its work is what the core asks of it
+pub work_of : (S : State) (tx : ℕ) (work : Doing) → IsOwn S tx work → is_live tx S.world.live ≡ true → IsWorkOf S.world (tx_of S.world tx work.accesses) work
+work_of S tx work own live = record {
+  begin = sym (own.begin live);
+  mode = sym (own.mode live);
+  size = own.on.size;
+  blocks = own.on.blocks;
+  accesses = refl;
+}
+
+pub checked_of : (S : State) (tx : ℕ) (work : Doing) (checked : Checked) → IsOwn S tx work → is_live tx S.world.live ≡ true → IsAhead S work checked → IsCheckedOf S.world (tx_of S.world tx work.accesses) checked
+checked_of S tx work checked own live is =
+    let begin : (live_of tx S.world.live).begin ≡ work.begin = own.begin live in
+    let from : work.begin ≤ checked.upto = is.from in
+    record {
+      from = omega (arith, begin);
+      to = is.to;
+      clash = is.clash_is ∙ (λ i. clash S.world.geometry (up_to S.world.history checked.upto) (sym (own.mode live) i) (sym begin i) work.accesses);
+    }
+
+pub may_have : (S : State) (tx : ℕ) (work : Doing) → IsOwn S tx work → AreWithin work.size work.blocks work.accesses → length work.accesses ≤ 4096 → MayHaveMade S.world work.accesses
+may_have S tx work own within count = record { each = within S.world.geometry (sym own.on.size) (sym own.on.blocks); count = count }
+
+-- settling changes nothing that the pass knows of its work
+pub own_same : (S : State) (tx : ℕ) (old new : Doing) → new ≡ record old { settled = new.settled } → IsOwn S tx old → IsOwn S tx new
+own_same S tx old new is own = record {
+  number = own.number;
+  begin = λ live. own.begin live ∙ sym (ap (λ (w : Doing). w.begin) is);
+  mode = λ live. own.mode live ∙ sym (ap (λ (w : Doing). w.mode) is);
+  on = record { size = ap (λ (w : Doing). w.size) is ∙ own.on.size; blocks = ap (λ (w : Doing). w.blocks) is ∙ own.on.blocks };
+}
+
+pub ahead_same : (S : State) (old new : Doing) (checked : Checked) → new ≡ record old { settled = new.settled } → IsAhead S old checked → IsAhead S new checked
+ahead_same S old new checked is ahead =
+    let begin : new.begin ≡ old.begin = ap (λ (w : Doing). w.begin) is in
+    let from : old.begin ≤ checked.upto = ahead.from in
+    record {
+      first = ahead.first;
+      from = omega (arith, begin);
+      to = ahead.to;
+      clash_is = ahead.clash_is ∙ (λ i. clash S.world.geometry (up_to S.world.history checked.upto) (ap (λ (w : Doing). w.mode) (sym is) i) (sym begin i) (ap (λ (w : Doing). w.accesses) (sym is) i));
+    }
+
+-- two lists with one entry more each
+pub init_same : (xs ys : List Entry) (x y : Entry) → xs ++ x ∷ [] ≡ ys ++ y ∷ [] → xs ≡ ys
+init_same [] [] x y e = refl
+init_same [] (z ∷ []) x y e = absurd (cc e)
+init_same [] (z ∷ w ∷ ys) x y e = absurd (cc e)
+init_same (z ∷ []) [] x y e = absurd (cc e)
+init_same (z ∷ w ∷ xs) [] x y e = absurd (cc e)
+init_same (z ∷ xs) (w ∷ ys) x y e =
+    let heads : z ≡ w = cc e in
+    let tails : xs ++ x ∷ [] ≡ ys ++ y ∷ [] = cc e in
+    let rest = init_same xs ys x y tails in
+    λ i. heads i ∷ rest i
+
+pub up_is : (o : Option (List Commit)) → not (is_some o) ≡ true → o ≡ None
+up_is None is = refl
+up_is (Some lost) is = absurd (cc is)
+
+pub if_err_by : {T E : Type 0} → (P : E → Type 0) (r : Result T E) → ((e : E) → r ≡ Err e → P e) → IfErr r P
+if_err_by P (Ok x) each = tt
+if_err_by P (Err e) each = each e refl
+
+pub on_same : (g : Geometry) (old new : Doing) → new ≡ record old { settled = new.settled } → IsOn g old → IsOn g new
+on_same g old new is on = record { size = ap (λ (w : Doing). w.size) is ∙ on.size; blocks = ap (λ (w : Doing). w.blocks) is ∙ on.blocks }

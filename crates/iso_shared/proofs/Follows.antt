@@ -1,0 +1,217 @@
+-- What stays along a list: the history grows, and a transaction keeps its begin and its mode for as long as it is live.
+use Rattle.std.proofs.Common.{◌≡◌, ℕ, ◌+◌, ◌-◌, ◌<◌, ◌≤◌, ◌==◌, Bool, true, false, not, cond, List, [], ◌∷◌, ◌++◌, Option, Some, None, length, length-append, take, drop, refl, sym, ap, ◌∙◌, subst, arith}
+use Rattle.std.specs.Prelude.{option_map}
+use Rattle.std.proofs.lemmas.Bool.Decides.{nat_tests}
+use Rattle.std.proofs.lemmas.List.{take-append-le}
+use mathlib.Core.List.{IsPrefix}
+use Rattle.conflict_rule.specs.declared.decision.Checked.{Checked}
+use Rattle.conflict_rule.specs.Decision.{up_to}
+use Rattle.iso_model.specs.declared.access.Access.{Access}
+use Rattle.iso_model.specs.declared.access.Commit.{Commit}
+use Rattle.iso_model.specs.declared.access.EndReply.{EndReply}
+use Rattle.iso_model.specs.declared.access.EndReply.TheVariants.{Committed, ReadOnly, Conflict}
+use Rattle.iso_model.specs.declared.access.Geometry.{Geometry}
+use Rattle.iso_model.specs.declared.access.Mode.{Mode}
+use Rattle.iso_model.specs.Conflict.{clash, clash_from, clashes, first_after, first_byte}
+use Rattle.iso_model.specs.Effect.{has_write, or_else}
+use Rattle.iso_model.specs.History.{History, last}
+use Rattle.iso_model.specs.World.{World, Live, without}
+use Rattle.iso_model.specs.Worlds.{Extends}
+use Rattle.iso_model.proofs.Worlds.{extends_itself, extends_on}
+use Rattle.tx_table.specs.Work.{Doing}
+use Rattle.iso_shared.specs.declared.entry.Call.{Call}
+use Rattle.iso_shared.specs.declared.entry.Call.TheVariants as call
+use Rattle.iso_shared.specs.declared.entry.Cause.{Cause}
+use Rattle.iso_shared.specs.declared.entry.Cause.TheVariants as cause
+use Rattle.iso_shared.specs.declared.entry.Entry.{Entry}
+use Rattle.iso_shared.specs.declared.entry.Entry.TheVariants as entry
+use Rattle.iso_shared.specs.Ports.{IsAhead, IsOwn}
+use Rattle.iso_shared.specs.States.{Start, State, opened, is_live, live_of, after, after_all, after_end, after_fault, after_refusal, after_sweep, lost_commit, state_at}
+use Rattle.iso_shared.proofs.Lives.{live_snoc, live_without, of_snoc, of_without}
+use Rattle.iso_shared.proofs.Trace.{after_append}
+
+-- what leads from a state to a later one
+pub record Follows (S T : State) : Type 0 where
+  pub next : S.world.next ≤ T.world.next
+  pub block : T.world.geometry.block ≡ S.world.geometry.block
+  pub blocks : T.world.geometry.blocks ≡ S.world.geometry.blocks
+  pub mode : T.world.geometry.mode ≡ S.world.geometry.mode
+  pub history : Extends S.world.history T.world.history
+  pub live : (n : ℕ) → n < S.world.next → is_live n T.world.live ≡ true → (is_live n S.world.live ≡ true) × (live_of n T.world.live ≡ live_of n S.world.live)
+
+pub follows_itself : (S : State) → Follows S S
+follows_itself S = record { next = omega arith; block = refl; blocks = refl; mode = refl; history = extends_itself S.world.history; live = λ n below is. (is, refl) }
+
+pub follows_on : (S T U : State) → Follows S T → Follows T U → Follows S U
+follows_on S T U f g =
+    let a : S.world.next ≤ T.world.next = f.next in
+    let b : T.world.next ≤ U.world.next = g.next in
+    record {
+      next = omega arith;
+      block = g.block ∙ f.block;
+      blocks = g.blocks ∙ f.blocks;
+      mode = g.mode ∙ f.mode;
+      history = extends_on S.world.history T.world.history U.world.history f.history g.history;
+      live = λ n below is.
+          let later = g.live n (omega (arith, a)) is in
+          let first = f.live n below later.0 in
+          (first.0, later.1 ∙ first.1);
+    }
+
+-- a state with the same world
+same_world : (S T : State) → T.world ≡ S.world → Follows S T
+same_world S T same = subst (λ (W : World). Follows S (record T { world = W })) (sym same) (follows_itself' S T)
+  where
+    follows_itself' : (S T : State) → Follows S (record T { world = S.world })
+    follows_itself' S T = record { next = omega arith; block = refl; blocks = refl; mode = refl; history = extends_itself S.world.history; live = λ n below is. (is, refl) }
+
+left_by : (n k : ℕ) (live : List Live) (b : Bool) → (k == n) ≡ b → cond b false (is_live n live) ≡ true → (is_live n live ≡ true) × (live_of n (without k live) ≡ live_of n live)
+left_by n k live true is l = absurd (cc l)
+left_by n k live false is l = (l, of_without k n live is)
+
+left_live : (n k : ℕ) (live : List Live) → is_live n (without k live) ≡ true → (is_live n live ≡ true) × (live_of n (without k live) ≡ live_of n live)
+left_live n k live l = left_by n k live (k == n) refl (sym (live_without k n live) ∙ l)
+
+pub follows_left : (S T : State) (k : ℕ) → T.world.live ≡ without k S.world.live → T.world.next ≡ S.world.next → T.world.geometry ≡ S.world.geometry → Extends S.world.history T.world.history → Follows S T
+follows_left S T k left next geometry history = record {
+  next = omega (arith, next);
+  block = ap (λ g. g.block) geometry;
+  blocks = ap (λ g. g.blocks) geometry;
+  mode = ap (λ g. g.mode) geometry;
+  history = history;
+  live = λ n below is.
+      let r = left_live n k S.world.live (sym (ap (is_live n) left) ∙ is) in
+      (r.0, ap (live_of n) left ∙ r.1);
+}
+
+one_more_commit : (H : History) (c : Commit) → Extends H (record H { commits = H.commits ++ c ∷ [] })
+one_more_commit H c = record { first = refl; base = refl; more = c ∷ []; commits = refl }
+
+follows_end : (S : State) (k : ℕ) (accesses : List Access) (r : EndReply) → Follows S (after S (entry.End k accesses r))
+follows_end S k accesses (Committed c) = follows_left S (after S (entry.End k accesses (Committed c))) k refl refl refl (one_more_commit S.world.history (lost_commit S.world k accesses))
+follows_end S k accesses ReadOnly = follows_left S (after S (entry.End k accesses ReadOnly)) k refl refl refl (extends_itself S.world.history)
+follows_end S k accesses (Conflict c) = follows_left S (after S (entry.End k accesses (Conflict c))) k refl refl refl (extends_itself S.world.history)
+
+follows_fault : (S : State) (c : Call) (now : ℕ) → Follows S (after_fault S c now)
+follows_fault S (call.Begin named) now = same_world S _ refl
+follows_fault S (call.Fetch n block) now = same_world S _ refl
+follows_fault S (call.End n accesses) now = follows_left S (after_fault S (call.End n accesses) now) n refl refl refl (extends_itself S.world.history)
+follows_fault S call.Trim now = same_world S _ refl
+follows_fault S call.Compact now = same_world S _ refl
+follows_fault S call.Upgrade now = same_world S _ refl
+follows_fault S (call.Post n l accesses) now = same_world S _ refl
+follows_fault S (call.Recent n) now = same_world S _ refl
+
+follows_refusal : (S : State) (c : Call) (why : Cause) → Follows S (after_refusal S c why)
+follows_refusal S c cause.Down = follows_itself S
+follows_refusal S c (cause.Disk before now) = follows_fault S c now
+follows_refusal S c cause.TooManyTx = same_world S _ refl
+follows_refusal S c (cause.LogFull need free) = same_world S _ refl
+follows_refusal S c cause.Memory = same_world S _ refl
+follows_refusal S c cause.Worn = same_world S _ refl
+follows_refusal S c cause.ModeFixed = same_world S _ refl
+follows_refusal S c cause.LabelTaken = same_world S _ refl
+
+begun_by : (n : ℕ) (t : Live) (live : List Live) → (t.number == n) ≡ false → is_live n (live ++ t ∷ []) ≡ true → is_live n live ≡ true
+begun_by n t live other is = sym (ap (λ b. cond b true (is_live n live)) other) ∙ sym (live_snoc n live t) ∙ is
+
+follows_begin : (S : State) (t : Live) (T : State) → T.world.live ≡ S.world.live ++ t ∷ [] → t.number ≡ S.world.next → T.world.next ≡ S.world.next + 1 → T.world.geometry ≡ S.world.geometry
+    → T.world.history ≡ S.world.history → Follows S T
+follows_begin S t T live number next geometry history = record {
+  next = omega (arith, next);
+  block = ap (λ g. g.block) geometry;
+  blocks = ap (λ g. g.blocks) geometry;
+  mode = ap (λ g. g.mode) geometry;
+  history = subst (Extends S.world.history) (sym history) (extends_itself S.world.history);
+  live = λ n below is.
+      let m : ℕ = t.number in
+      let same : m ≡ S.world.next = number in
+      let other : (m == n) ≡ false = not_same m n (omega (arith, below)) in
+      let was = begun_by n t S.world.live other (sym (ap (is_live n) live) ∙ is) in
+      (was, ap (live_of n) live ∙ of_snoc n S.world.live t was);
+}
+  where
+    not_same : (k n : ℕ) → n < k → (k == n) ≡ false
+    not_same k n lt = grind (arith, nat_tests)
+
+follows_sweep : (S : State) (found : Option ℕ) → Follows S (after_sweep S found)
+follows_sweep S None = follows_itself S
+follows_sweep S (Some k) = follows_left S (after_sweep S (Some k)) k refl refl refl (extends_itself S.world.history)
+
+pub follows_next : (S : State) (e : Entry) → Follows S (after S e)
+follows_next S (entry.Begin k at mode) = follows_begin S _ (after S (entry.Begin k at mode)) refl refl refl refl refl
+follows_next S (entry.Fetch k block bytes) = follows_itself S
+follows_next S (entry.End k accesses r) = follows_end S k accesses r
+follows_next S (entry.Abort k) = follows_left S (after S (entry.Abort k)) k refl refl refl (extends_itself S.world.history)
+follows_next S (entry.Trim k) = record { next = omega arith; block = refl; blocks = refl; mode = refl; history = extends_itself S.world.history; live = λ n below is. (is, refl) }
+follows_next S (entry.Compact k) = record { next = omega arith; block = refl; blocks = refl; mode = refl; history = extends_itself S.world.history; live = λ n below is. (is, refl) }
+follows_next S (entry.Upgrade k) = record { next = omega arith; block = refl; blocks = refl; mode = refl; history = extends_itself S.world.history; live = λ n below is. (is, refl) }
+follows_next S (entry.Stat k) = follows_itself S
+follows_next S (entry.Post k l accesses) = same_world S _ refl
+follows_next S (entry.Look l found) = same_world S _ refl
+follows_next S (entry.Sweep found) = follows_sweep S found
+follows_next S (entry.Recent k upto) = follows_itself S
+follows_next S (entry.Refused c why) = follows_refusal S c why
+
+pub follows_all : (S : State) (es : List Entry) → Follows S (after_all S es)
+follows_all S [] = follows_itself S
+follows_all S (e ∷ es) = follows_on S (after S e) (after_all (after S e) es) (follows_next S e) (follows_all (after S e) es)
+
+-- a list that begins with another one leads on from its state
+pub follows_prefix : (A : Start) (xs ys : List Entry) → IsPrefix xs ys → Follows (state_at A xs) (state_at A ys)
+follows_prefix A xs ys p =
+    subst (λ l. Follows (state_at A xs) (state_at A l)) p.1
+    (subst (λ T. Follows (state_at A xs) T) (sym (after_append (opened A) xs p.0)) (follows_all (state_at A xs) p.0))
+
+pub own_kept : (S T : State) (tx : ℕ) (work : Doing) → Follows S T → IsOwn S tx work → IsOwn T tx work
+own_kept S T tx work f own =
+    let below : tx < S.world.next = own.number in
+    let next : S.world.next ≤ T.world.next = f.next in
+    record {
+      number = omega arith;
+      begin = λ is. let was = f.live tx below is in ap (λ t. t.begin) was.1 ∙ own.begin was.0;
+      mode = λ is. let was = f.live tx below is in ap (λ t. t.mode) was.1 ∙ own.mode was.0;
+      on = record { size = own.on.size ∙ sym f.block; blocks = own.on.blocks ∙ sym f.blocks };
+    }
+
+clash_from_same : (g f : Geometry) (mode : Mode) (accesses : List Access) (k : ℕ) (commits : List Commit) → f.block ≡ g.block → f.blocks ≡ g.blocks
+    → clash_from g mode accesses k commits ≡ clash_from f mode accesses k commits
+clash_from_same g f mode accesses k [] block blocks = refl
+clash_from_same g f mode accesses k (c ∷ commits) block blocks =
+    let later = clash_from_same g f mode accesses (k + 1) commits block blocks in
+    λ i. or_else (option_map (λ (at : ℕ × ℕ). record { commit = k; block = at.0; at = at.1 }) (first_byte (clashes mode c accesses) (sym block i) 0 (sym blocks i))) (later i)
+
+-- a clash hangs on the size and the number of blocks alone
+pub clash_same : (g f : Geometry) (H : History) (mode : Mode) (begin : ℕ) (accesses : List Access) → f.block ≡ g.block → f.blocks ≡ g.blocks
+    → clash g H mode begin accesses ≡ clash f H mode begin accesses
+unfolding clash
+clash_same g f H mode begin accesses block blocks = ap (λ v. cond (has_write accesses) v None) (clash_from_same g f mode accesses (first_after H begin) (drop (begin + 1 - H.first) H.commits) block blocks)
+
+-- the commits up to a number that a history has are those of each longer history
+pub up_to_same : (H G : History) (n : ℕ) → 0 < H.first → n ≤ last H → Extends H G → up_to G n ≡ up_to H n
+up_to_same H G n some within more =
+    let a : G.first ≡ H.first = more.first in
+    let b : n + 1 - G.first ≡ n + 1 - H.first = omega (arith, a) in
+    let c : take (n + 1 - H.first) (H.commits ++ more.more) ≡ take (n + 1 - H.first) H.commits = take-append-le (n + 1 - H.first) H.commits more.more (omega arith) in
+    λ i. record { first = more.first i; base = more.base i; commits = (ap (λ (k : ℕ). take k G.commits) b ∙ ap (take (n + 1 - H.first)) more.commits ∙ c) i }
+
+last_longer : (H G : History) → 0 < H.first → Extends H G → last H ≤ last G
+last_longer H G some more =
+    let a : G.first ≡ H.first = more.first in
+    let b : length G.commits ≡ length H.commits + length more.more = ap length more.commits ∙ length-append H.commits more.more in
+    omega arith
+
+pub ahead_kept : (S T : State) (work : Doing) (checked : Checked) → Follows S T → IsAhead S work checked → IsAhead T work checked
+ahead_kept S T work checked f is =
+    let first : T.world.history.first ≡ S.world.history.first = f.history.first in
+    let some : 0 < S.world.history.first = is.first in
+    let longer = last_longer S.world.history T.world.history is.first f.history in
+    let to : checked.upto ≤ last S.world.history = is.to in
+    record {
+      first = omega arith;
+      from = is.from;
+      to = omega arith;
+      clash_is = is.clash_is
+          ∙ clash_same S.world.geometry T.world.geometry (up_to S.world.history checked.upto) work.mode work.begin work.accesses f.block f.blocks
+          ∙ ap (λ H. clash T.world.geometry H work.mode work.begin work.accesses) (sym (up_to_same S.world.history T.world.history checked.upto is.first is.to f.history));
+    }

@@ -1,0 +1,15 @@
+pub mod Lives
+pub mod Trace
+pub mod Follows
+pub mod Standings
+pub mod Mades
+pub mod Cores
+pub mod Giving
+pub mod Begins
+pub mod Ends
+pub mod Switches
+pub mod Postings
+pub mod Racked
+pub mod Checks
+pub mod Rows
+pub mod TestDisks

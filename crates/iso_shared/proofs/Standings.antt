@@ -1,0 +1,68 @@
+-- What lies under the lock, with one entry more.
+use Rattle.std.proofs.Common.{◌≡◌, ℕ, ◌+◌, ◌<◌, ◌≤◌, Bool, true, false, List, [], ◌∷◌, ◌++◌, Option, Some, None, map, refl, sym, ap, ◌∙◌, subst, arith}
+use Rattle.std.specs.Prelude.{bytes_eq, drop, option_map, option_to_list, slice_get}
+use Rattle.std.specs.Map.{lookup, remove_entry}
+use Rattle.std.specs.List.{AllByRecursion}
+use Rattle.iso_core.specs.declared.core_itself.Core.{Core}
+use Rattle.iso_core.specs.Core.{StandsFor}
+use Rattle.iso_core.specs.Standing.{Standing}
+use Rattle.iso_disk.specs.Disk.{DiskState}
+use Rattle.iso_model.specs.World.{World}
+use Rattle.turn_lock.specs.Lists.{times}
+use Rattle.turn_lock.specs.Numbers.{AreFree, AreHeld, AreOut, IsOut}
+use Rattle.iso_shared.specs.declared.entry.Entry.{Entry}
+use Rattle.iso_shared.specs.declared.entry.Posting.{Posting}
+use Rattle.iso_shared.specs.declared.guarded.Posted.{Posted}
+use Rattle.iso_shared.specs.Legal.{AreLoose, Answers, Fits, IsLegal, LegalFrom, handed, needed, returned}
+use Rattle.iso_shared.specs.Standing.{Holds, IsOn, StandsAt, posting_in, postings, standing_of}
+use Rattle.iso_shared.specs.States.{Start, State, after, is_live, opened, state_at}
+use Rattle.iso_shared.proofs.Trace.{NotLoose, after_snoc, legal_last, legal_snoc, loose_is, not_loose, opened_sound, out_is, sound_all, IsSound}
+
+-- each number that a pass holds is out
+abbrev pub HoldsOut : List ℕ → List Entry → Type 0
+HoldsOut holds es = (n : ℕ) → 0 < times n holds → IsOut handed returned n es
+
+-- a pass that holds these numbers may leave the entry
+abbrev pub MayLeave : List ℕ → Entry → Type 0
+MayLeave holds e = AreHeld (needed e) holds × AreHeld (returned e) holds
+
+module _ {D : Type 0} (disk : D → DiskState) (A : Start) where
+  free_by : (es : List Entry) → A.world.live ≡ [] → IsLegal A es → (h : Option ℕ) → NotLoose h (state_at A es) → AreFree handed returned (option_to_list h) es
+  free_by es none legal None not = tt
+  free_by es none legal (Some n) not = (out_is A es n none legal ∙ not, tt)
+
+  -- a number that the last entry hands out was not out before it
+  pub free_before : (core : Core D) (items : List (List ℕ × Posted)) (es : List Entry) (e : Entry) → StandsAt disk A core items (es ++ e ∷ []) → AreFree handed returned (option_to_list (handed e)) es
+  free_before core items es e s =
+      let l = legal_last (opened A) es e s.legal in
+      let sound = sound_all (opened A) es (opened_sound A s.start) l.0 in
+      free_by es s.start l.0 (handed e) (not_loose (state_at A es) e sound l.1.answers)
+
+  -- numbers that are held are loose
+  pub held_loose : (core : Core D) (items : List (List ℕ × Posted)) (es : List Entry) (holds : List ℕ) → StandsAt disk A core items es → HoldsOut holds es → (ns : List ℕ) → AreHeld ns holds → AreLoose ns (state_at A es)
+  held_loose core items es holds s out [] held = tt
+  held_loose core items es holds s out (n ∷ ns) held = (sym (out_is A es n s.start s.legal) ∙ out n held.0, held_loose core items es holds s out ns held.1)
+
+  pub held_live : (core : Core D) (items : List (List ℕ × Posted)) (es : List Entry) (holds : List ℕ) → StandsAt disk A core items es → HoldsOut holds es → (n : ℕ) → 0 < times n holds → is_live n (state_at A es).world.live ≡ true
+  held_live core items es holds s out n held = (loose_is n (state_at A es) (held_loose core items es holds s out (n ∷ []) (held, tt)).0).0
+
+  pub sound_at : (core : Core D) (items : List (List ℕ × Posted)) (es : List Entry) → StandsAt disk A core items es → IsSound (state_at A es)
+  sound_at core items es s = sound_all (opened A) es (opened_sound A s.start) s.legal
+
+  -- what stood for the list stands for it with one entry more
+  pub stands_next : (old new : Core D) (items left : List (List ℕ × Posted)) (es : List Entry) (e : Entry) (holds : List ℕ)
+      → StandsAt disk A old items es → HoldsOut holds es → MayLeave holds e
+      → Answers (state_at A es) e → Holds disk new (after (state_at A es) e) → postings left ≡ (after (state_at A es) e).rack → AllByRecursion (λ i. IsOn A.world.geometry i.1.work) left
+      → StandsAt disk A new left (es ++ e ∷ [])
+  stands_next old new items left es e holds s out may answers core rack works =
+      let step = after_snoc (opened A) es e in record {
+        start = s.start;
+        legal = legal_snoc (opened A) es e s.legal (record { needs = held_loose old items es holds s out (needed e) may.0; takes = held_loose old items es holds s out (returned e) may.1; answers = answers });
+        core = subst (Holds disk new) (sym step) core;
+        rack = rack ∙ sym (ap (λ S. S.rack) step);
+        works = works;
+      }
+
+  -- what stands at the start
+  pub stands_first : (core : Core D) → Holds disk core (opened A) → A.world.live ≡ [] → StandsAt disk A core [] []
+  stands_first core holds none = record { start = none; legal = tt; core = holds; rack = refl; works = tt }

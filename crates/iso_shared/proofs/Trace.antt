@@ -1,0 +1,369 @@
+-- The state along a list, and which numbers are out in it.
+use Rattle.std.proofs.Common.{◌≡◌, ℕ, zero, suc, ◌+◌, ◌<◌, ◌≤◌, ◌==◌, Bool, true, false, ◌&&◌, ◌||◌, cond, List, [], ◌∷◌, ◌++◌, Option, Some, None, refl, sym, ap, ◌∙◌, subst, arith}
+use Rattle.std.specs.Prelude.{bytes_eq, drop, option_map, option_to_list, slice_get}
+use Rattle.std.specs.Map.{lookup, remove_entry}
+use Rattle.std.specs.List.{AllByRecursion}
+use Rattle.std.proofs.lemmas.Bool.Decides.{nat_tests}
+use Rattle.turn_lock.specs.Lists.{hit, times}
+use Rattle.turn_lock.specs.Numbers.{is_among, out_next, out_from, is_out, AreFree}
+use Rattle.turn_lock.proofs.Totals.{hit_same}
+use Rattle.iso_model.specs.World.{World, Live, without}
+use Rattle.iso_model.specs.declared.access.Access.{Access}
+use Rattle.iso_model.specs.declared.access.EndReply.{EndReply}
+use Rattle.iso_model.specs.declared.access.EndReply.TheVariants.{Committed, ReadOnly, Conflict}
+use Rattle.iso_shared.specs.declared.entry.Call.{Call}
+use Rattle.iso_shared.specs.declared.entry.Call.TheVariants as call
+use Rattle.iso_shared.specs.declared.entry.Cause.{Cause}
+use Rattle.iso_shared.specs.declared.entry.Cause.TheVariants as cause
+use Rattle.iso_shared.specs.declared.entry.Entry.{Entry}
+use Rattle.iso_shared.specs.declared.entry.Entry.TheVariants as entry
+use Rattle.iso_shared.specs.declared.entry.Posting.{Posting}
+use Rattle.iso_shared.specs.States.{Start, State, opened, is_live, is_loose, racked, after, after_all, after_end, after_fault, after_refusal, after_sweep, state_at, tx_of}
+use Rattle.iso_shared.specs.Legal.{AreLoose, Answers, Fits, LegalFrom, IsLegal, handed, returned, ended_by}
+use Rattle.iso_shared.proofs.Lives.{live_snoc, live_without, racked_snoc, label_parts, first_parts, hits}
+
+-- the state after one entry more
+pub after_snoc : (S : State) (es : List Entry) (e : Entry) → after_all S (es ++ e ∷ []) ≡ after (after_all S es) e
+after_snoc S [] e = refl
+after_snoc S (x ∷ es) e = after_snoc (after S x) es e
+
+pub after_append : (S : State) (es ds : List Entry) → after_all S (es ++ ds) ≡ after_all (after_all S es) ds
+after_append S [] ds = refl
+after_append S (x ∷ es) ds = after_append (after S x) es ds
+
+pub legal_snoc : (S : State) (es : List Entry) (e : Entry) → LegalFrom S es → Fits (after_all S es) e → LegalFrom S (es ++ e ∷ [])
+legal_snoc S [] e legal fits = (fits, tt)
+legal_snoc S (x ∷ es) e legal fits = (legal.0, legal_snoc (after S x) es e legal.1 fits)
+
+-- a legal list with one entry more is legal without it, and the entry is legal at its place
+pub legal_last : (S : State) (es : List Entry) (e : Entry) → LegalFrom S (es ++ e ∷ []) → LegalFrom S es × Fits (after_all S es) e
+legal_last S [] e legal = (tt, legal.0)
+legal_last S (x ∷ es) e legal = let r = legal_last (after S x) es e legal.1 in ((legal.0, r.0), r.1)
+
+pub legal_append : (S : State) (es ds : List Entry) → LegalFrom S (es ++ ds) → LegalFrom S es × LegalFrom (after_all S es) ds
+legal_append S [] ds legal = (tt, legal)
+legal_append S (x ∷ es) ds legal = let r = legal_append (after S x) es ds legal.1 in ((legal.0, r.0), r.1)
+
+-- live numbers are below the next one, and labelled ones are live, each under one label
+pub record Sound (live : ℕ → Bool) (held : ℕ → ℕ) (k : ℕ) : Type 0 where
+  pub below : (n : ℕ) → live n ≡ true → n < k
+  pub racked : (n : ℕ) → 0 < held n → live n ≡ true
+  pub alone : (n : ℕ) → held n ≤ 1
+
+abbrev pub IsSound : State → Type 0
+IsSound S = Sound (λ n. is_live n S.world.live) (λ n. times n (racked S.rack)) S.world.next
+
+both_true : (a b : Bool) → (a && b) ≡ true → (a ≡ true) × (b ≡ true)
+both_true true b e = (refl, e)
+both_true false b e = absurd (cc e)
+
+and_false : (a : Bool) → (a && false) ≡ false
+and_false true = refl
+and_false false = refl
+
+none_is : (k : ℕ) → (k == 0) ≡ true → k ≡ 0
+none_is k e = grind (arith, nat_tests)
+
+is_none : (k : ℕ) → k ≡ 0 → (k == 0) ≡ true
+is_none k e = grind (arith, nat_tests)
+
+some_is : (k : ℕ) → 0 < k → (k == 0) ≡ false
+some_is k e = grind (arith, nat_tests)
+
+module _ (L L' : ℕ → Bool) (R R' : ℕ → ℕ) (k : ℕ) where
+  unlive_by : Sound L R k → (j n : ℕ) (b : Bool) → (j == n) ≡ b → R j ≡ 0 → 0 < R n → cond b false (L n) ≡ true
+  unlive_by s j n true is none some = let e : j ≡ n = grind (arith, nat_tests) in let z : R n ≡ 0 = subst (λ (v : ℕ). R v ≡ 0) e none in absurd (omega arith)
+  unlive_by s j n false is none some = s.racked n some
+
+  still : (b a : Bool) → cond b false a ≡ true → a ≡ true
+  still true a e = absurd (cc e)
+  still false a e = e
+
+  -- one that is not labelled leaves
+  pub sound_leave : Sound L R k → (j : ℕ) → R j ≡ 0 → ((n : ℕ) → L' n ≡ cond (j == n) false (L n)) → Sound L' R k
+  sound_leave s j none is = record {
+    below = λ n e. s.below n (still (j == n) (L n) (sym (is n) ∙ e));
+    racked = λ n some. is n ∙ unlive_by s j n (j == n) refl none some;
+    alone = s.alone;
+  }
+
+  post_by : Sound L R k → (j n : ℕ) → L j ≡ true → R j ≡ 0 → (b : Bool) → (j == n) ≡ b → (0 < R n + cond b 1 0 → L n ≡ true) × (R n + cond b 1 0 ≤ 1)
+  post_by s j n live none true is =
+      let e : j ≡ n = grind (arith, nat_tests) in
+      let z : R n ≡ 0 = subst (λ (v : ℕ). R v ≡ 0) e none in ((λ some. subst (λ (v : ℕ). L v ≡ true) e live), omega arith)
+  post_by s j n live none false is = let a = s.alone n in ((λ some. s.racked n (omega arith)), omega arith)
+
+  -- one that is not labelled gets a label
+  pub sound_post : Sound L R k → (j : ℕ) → L j ≡ true → R j ≡ 0 → ((n : ℕ) → R' n ≡ R n + hit j n) → Sound L R' k
+  sound_post s j live none is = record {
+    below = s.below;
+    racked = λ n some. let e = is n in (post_by s j n live none (j == n) refl).0 (omega arith);
+    alone = λ n. let e = is n in let p = (post_by s j n live none (j == n) refl).1 in omega arith;
+  }
+
+  -- some are no longer labelled
+  pub sound_less : Sound L R k → ((n : ℕ) → R' n ≤ R n) → Sound L R' k
+  sound_less s le = record {
+    below = s.below;
+    racked = λ n some. let e = le n in s.racked n (omega arith);
+    alone = λ n. let e = le n in let a = s.alone n in omega arith;
+  }
+
+  sweep_by : Sound L R k → (j n : ℕ) (b : Bool) → (j == n) ≡ b → R n ≡ cond b 1 0 + R' n → 0 < R' n → cond b false (L n) ≡ true
+  sweep_by s j n true is e some = let a = s.alone n in absurd (omega arith)
+  sweep_by s j n false is e some = s.racked n (omega arith)
+
+  -- a labelled one leaves
+  pub sound_sweep : Sound L R k → (j : ℕ) → ((n : ℕ) → L' n ≡ cond (j == n) false (L n)) → ((n : ℕ) → R n ≡ hit j n + R' n) → Sound L' R' k
+  sound_sweep s j is parts = record {
+    below = λ n e. s.below n (still (j == n) (L n) (sym (is n) ∙ e));
+    racked = λ n some. is n ∙ sweep_by s j n (j == n) refl (parts n) some;
+    alone = λ n. let e = parts n in let a = s.alone n in omega arith;
+  }
+
+  begin_by : Sound L R k → (n : ℕ) (b : Bool) → (k == n) ≡ b → cond b true (L n) ≡ true → n < k + 1
+  begin_by s n true is e = let same : k ≡ n = grind (arith, nat_tests) in omega arith
+  begin_by s n false is e = let a = s.below n e in omega arith
+
+  more : (b a : Bool) → a ≡ true → cond b true a ≡ true
+  more true a e = refl
+  more false a e = e
+
+  -- the next one begins
+  pub sound_begin : Sound L R k → ((n : ℕ) → L' n ≡ cond (k == n) true (L n)) → Sound L' R (k + 1)
+  sound_begin s is = record {
+    below = λ n e. begin_by s n (k == n) refl (sym (is n) ∙ e);
+    racked = λ n some. is n ∙ more (k == n) (L n) (s.racked n some);
+    alone = s.alone;
+  }
+
+-- what looseness says
+pub loose_is : (n : ℕ) (S : State) → is_loose n S ≡ true → (is_live n S.world.live ≡ true) × (times n (racked S.rack) ≡ 0)
+loose_is n S e = let b = both_true (is_live n S.world.live) (times n (racked S.rack) == 0) e in (b.0, none_is (times n (racked S.rack)) b.1)
+
+sound_left : (S : State) (k : ℕ) → IsSound S → is_loose k S ≡ true → Sound (λ n. is_live n (without k S.world.live)) (λ n. times n (racked S.rack)) S.world.next
+sound_left S k s loose =
+    sound_leave (λ n. is_live n S.world.live) (λ n. is_live n (without k S.world.live)) (λ n. times n (racked S.rack)) (λ n. times n (racked S.rack)) S.world.next s k (loose_is k S loose).1
+    (λ n. live_without k n S.world.live)
+
+end_left : (S : State) (k : ℕ) (accesses : List Access) (r : EndReply) → IsSound S → is_loose k S ≡ true → IsSound (after S (entry.End k accesses r))
+end_left S k accesses (Committed c) s loose = sound_left S k s loose
+end_left S k accesses ReadOnly s loose = sound_left S k s loose
+end_left S k accesses (Conflict c) s loose = sound_left S k s loose
+
+fault_left : (S : State) (c : Call) (before now : ℕ) → IsSound S → AreLoose (ended_by c (cause.Disk before now)) S → IsSound (after_fault S c now)
+fault_left S (call.Begin named) before now s loose = s
+fault_left S (call.Fetch n b) before now s loose = s
+fault_left S (call.End n accesses) before now s loose = sound_left S n s loose.0
+fault_left S call.Trim before now s loose = s
+fault_left S call.Compact before now s loose = s
+fault_left S call.Upgrade before now s loose = s
+fault_left S (call.Post n l accesses) before now s loose = s
+fault_left S (call.Recent n) before now s loose = s
+
+refusal_left : (S : State) (c : Call) (why : Cause) → IsSound S → AreLoose (ended_by c why) S → IsSound (after_refusal S c why)
+refusal_left S c (cause.Disk before now) s loose = fault_left S c before now s loose
+refusal_left S c cause.LabelTaken s loose = s
+refusal_left S c cause.Memory s loose = s
+refusal_left S c cause.Down s loose = s
+refusal_left S c cause.TooManyTx s loose = s
+refusal_left S c cause.Worn s loose = s
+refusal_left S c cause.ModeFixed s loose = s
+refusal_left S c (cause.LogFull need free) s loose = s
+
+hits_are : (n : ℕ) (o : Option (List ℕ × Posting)) (k : ℕ) → Some k ≡ option_map (λ e. e.1.number) o → hits n (option_map (λ e. e.1) o) ≡ hit k n
+hits_are n None k is = absurd (cc is)
+hits_are n (Some e) k is = let same : e.1.number ≡ k = cc is in ap (λ (v : ℕ). hit v n) same
+
+look_less : (test : List ℕ → Bool) (n : ℕ) (rack : List (List ℕ × Posting)) → times n (racked (remove_entry test rack)) ≤ times n (racked rack)
+look_less test n rack = let h : ℕ = hits n (lookup test rack) in let e : times n (racked rack) ≡ h + times n (racked (remove_entry test rack)) = label_parts n test rack in omega arith
+
+sweep_left : (S : State) (found : Option ℕ) → IsSound S → found ≡ option_map (λ e. e.1.number) (slice_get S.rack 0) → IsSound (after_sweep S found)
+sweep_left S None s is = s
+sweep_left S (Some k) s is =
+    sound_sweep (λ n. is_live n S.world.live) (λ n. is_live n (without k S.world.live)) (λ n. times n (racked S.rack)) (λ n. times n (racked (drop 1 S.rack))) S.world.next s k
+    (λ n. live_without k n S.world.live)
+    (λ n. first_parts n S.rack ∙ ap (λ v. v + times n (racked (drop 1 S.rack))) (hits_are n (slice_get S.rack 0) k is))
+
+-- an entry that is legal at its place keeps the state sound
+pub sound_next : (S : State) (e : Entry) → IsSound S → Fits S e → IsSound (after S e)
+sound_next S (entry.Begin k at mode) s fits = sound_begin (λ n. is_live n S.world.live) (λ n. is_live n (after S (entry.Begin k at mode)).world.live) (λ n. times n (racked S.rack)) (λ n. times n (racked S.rack)) S.world.next s (λ n. live_snoc n S.world.live _)
+sound_next S (entry.Fetch k block bytes) s fits = s
+sound_next S (entry.End k accesses r) s fits = end_left S k accesses r s fits.takes.0
+sound_next S (entry.Abort k) s fits = sound_left S k s fits.takes.0
+sound_next S (entry.Trim k) s fits = s
+sound_next S (entry.Compact k) s fits = s
+sound_next S (entry.Upgrade k) s fits = s
+sound_next S (entry.Stat k) s fits = s
+sound_next S (entry.Post k l accesses) s fits =
+    let loose = loose_is k S fits.takes.0 in
+    sound_post (λ n. is_live n S.world.live) (λ n. is_live n S.world.live) (λ n. times n (racked S.rack)) (λ n. times n (racked (after S (entry.Post k l accesses)).rack)) S.world.next s k loose.0 loose.1 (λ n. racked_snoc n S.rack _)
+sound_next S (entry.Look l found) s fits = sound_less (λ n. is_live n S.world.live) (λ n. is_live n S.world.live) (λ n. times n (racked S.rack)) (λ n. times n (racked (remove_entry (bytes_eq l) S.rack))) S.world.next s (λ n. look_less (bytes_eq l) n S.rack)
+sound_next S (entry.Sweep found) s fits = sweep_left S found s fits.answers
+sound_next S (entry.Recent k upto) s fits = s
+sound_next S (entry.Refused c why) s fits = refusal_left S c why s fits.takes
+
+one_among : (n k : ℕ) → is_among n (k ∷ []) ≡ (k == n)
+one_among n k = or_false (k == n)
+  where
+    or_false : (b : Bool) → (b || false) ≡ b
+    or_false true = refl
+    or_false false = refl
+
+-- an entry that takes one number back, or hands one out
+takes_one : (n k : ℕ) (b : Bool) → cond (is_among n (k ∷ [])) false b ≡ cond (k == n) false b
+takes_one n k b = ap (λ v. cond v false b) (one_among n k)
+
+hands_one : (n k : ℕ) (b : Bool) → cond (is_among n (k ∷ [])) true b ≡ cond (k == n) true b
+hands_one n k b = ap (λ v. cond v true b) (one_among n k)
+
+leave_by : (b a z : Bool) → cond b false (a && z) ≡ (cond b false a && z)
+leave_by true a z = refl
+leave_by false a z = refl
+
+left_loose : (n k : ℕ) (S : State) → cond (is_among n (k ∷ [])) false (is_loose n S) ≡ (is_live n (without k S.world.live) && (times n (racked S.rack) == 0))
+left_loose n k S = takes_one n k (is_loose n S) ∙ leave_by (k == n) (is_live n S.world.live) (times n (racked S.rack) == 0) ∙ ap (λ v. v && (times n (racked S.rack) == 0)) (sym (live_without k n S.world.live))
+
+join_by : (b a z : Bool) → (b ≡ true → z ≡ true) → cond b true (a && z) ≡ (cond b true a && z)
+join_by true a z all = sym (all refl)
+join_by false a z all = refl
+
+none_racked : (R : ℕ) (k n : ℕ) (L : Bool) → (0 < R → L ≡ true) → (L ≡ true → n < k) → (k == n) ≡ true → R ≡ 0
+none_racked zero k n L live below is = refl
+none_racked (suc R) k n L live below is = let same : k ≡ n = grind (arith, nat_tests) in let b = below (live (omega arith)) in absurd (omega arith)
+
+begin_loose : (S : State) (n k : ℕ) (t : Live) → IsSound S → k ≡ S.world.next → t.number ≡ S.world.next
+    → cond (is_among n (k ∷ [])) true (is_loose n S) ≡ (is_live n (S.world.live ++ t ∷ []) && (times n (racked S.rack) == 0))
+begin_loose S n k t s is number =
+    let z : Bool = times n (racked S.rack) == 0 in
+    hands_one n k (is_loose n S)
+    ∙ ap (λ (v : ℕ). cond (v == n) true (is_loose n S)) (is ∙ sym number)
+    ∙ join_by (t.number == n) (is_live n S.world.live) z (λ same. is_none (times n (racked S.rack)) (none_racked (times n (racked S.rack)) S.world.next n (is_live n S.world.live) (s.racked n) (s.below n) (ap (λ (v : ℕ). v == n) (sym number) ∙ same)))
+    ∙ ap (λ v. v && z) (sym (live_snoc n S.world.live t))
+
+post_loose_by : (b a : Bool) (R R' : ℕ) → R' ≡ R + cond b 1 0 → cond b false (a && (R == 0)) ≡ (a && (R' == 0))
+post_loose_by true a R R' e = sym (ap (λ v. a && v) (some_is R' (omega arith)) ∙ and_false a)
+post_loose_by false a R R' e = let same : R ≡ R' = omega arith in ap (λ (v : ℕ). a && (v == 0)) same
+
+look_loose_by : (b a : Bool) (R R' : ℕ) → R ≡ cond b 1 0 + R' → R ≤ 1 → (0 < R → a ≡ true) → cond b true (a && (R == 0)) ≡ (a && (R' == 0))
+look_loose_by true a R R' e one live = let z : R' ≡ 0 = omega arith in sym (ap (λ v. v && (R' == 0)) (live (omega arith)) ∙ is_none R' z)
+look_loose_by false a R R' e one live = let same : R ≡ R' = omega arith in ap (λ (v : ℕ). a && (v == 0)) same
+
+look_loose : (S : State) (n : ℕ) (test : List ℕ → Bool) (found : Option Posting) → IsSound S → found ≡ lookup test S.rack
+    → cond (is_among n (option_to_list (option_map (λ p. p.number) found))) true (is_loose n S) ≡ (is_live n S.world.live && (times n (racked (remove_entry test S.rack)) == 0))
+look_loose S n test None s is =
+    let e : times n (racked S.rack) ≡ 0 + times n (racked (remove_entry test S.rack)) = label_parts n test S.rack ∙ ap (λ v. hits n v + times n (racked (remove_entry test S.rack))) (sym is) in
+    look_loose_by false (is_live n S.world.live) (times n (racked S.rack)) (times n (racked (remove_entry test S.rack))) e (s.alone n) (s.racked n)
+look_loose S n test (Some p) s is =
+    let e : times n (racked S.rack) ≡ hit p.number n + times n (racked (remove_entry test S.rack)) = label_parts n test S.rack ∙ ap (λ v. hits n v + times n (racked (remove_entry test S.rack))) (sym is) in
+    hands_one n p.number (is_loose n S) ∙ look_loose_by (p.number == n) (is_live n S.world.live) (times n (racked S.rack)) (times n (racked (remove_entry test S.rack))) e (s.alone n) (s.racked n)
+
+sweep_loose_by : (b a : Bool) (R R' : ℕ) → R ≡ cond b 1 0 + R' → (a && (R == 0)) ≡ (cond b false a && (R' == 0))
+sweep_loose_by true a R R' e = ap (λ v. a && v) (some_is R (omega arith)) ∙ and_false a
+sweep_loose_by false a R R' e = let same : R ≡ R' = omega arith in ap (λ (v : ℕ). a && (v == 0)) same
+
+sweep_loose : (S : State) (n : ℕ) (found : Option ℕ) → found ≡ option_map (λ e. e.1.number) (slice_get S.rack 0) → is_loose n S ≡ is_loose n (after_sweep S found)
+sweep_loose S n None is = refl
+sweep_loose S n (Some k) is =
+    let R' : ℕ = times n (racked (drop 1 S.rack)) in
+    let e : times n (racked S.rack) ≡ hit k n + R' = first_parts n S.rack ∙ ap (λ v. v + R') (hits_are n (slice_get S.rack 0) k is) in
+    sweep_loose_by (k == n) (is_live n S.world.live) (times n (racked S.rack)) R' e ∙ ap (λ v. v && (R' == 0)) (sym (live_without k n S.world.live))
+
+fault_loose : (S : State) (n : ℕ) (c : Call) (before now : ℕ) → cond (is_among n (ended_by c (cause.Disk before now))) false (is_loose n S) ≡ is_loose n (after_fault S c now)
+fault_loose S n (call.Begin named) before now = refl
+fault_loose S n (call.Fetch k b) before now = refl
+fault_loose S n (call.End k accesses) before now = left_loose n k S
+fault_loose S n call.Trim before now = refl
+fault_loose S n call.Compact before now = refl
+fault_loose S n call.Upgrade before now = refl
+fault_loose S n (call.Post k l accesses) before now = refl
+fault_loose S n (call.Recent k) before now = refl
+
+refusal_loose : (S : State) (n : ℕ) (c : Call) (why : Cause) → cond (is_among n (ended_by c why)) false (is_loose n S) ≡ is_loose n (after_refusal S c why)
+refusal_loose S n c (cause.Disk before now) = fault_loose S n c before now
+refusal_loose S n c cause.LabelTaken = refl
+refusal_loose S n c cause.Memory = refl
+refusal_loose S n c cause.Down = refl
+refusal_loose S n c cause.TooManyTx = refl
+refusal_loose S n c cause.Worn = refl
+refusal_loose S n c cause.ModeFixed = refl
+refusal_loose S n c (cause.LogFull need free) = refl
+
+end_loose : (S : State) (n k : ℕ) (accesses : List Access) (r : EndReply) → cond (is_among n (k ∷ [])) false (is_loose n S) ≡ is_loose n (after S (entry.End k accesses r))
+end_loose S n k accesses (Committed c) = left_loose n k S
+end_loose S n k accesses ReadOnly = left_loose n k S
+end_loose S n k accesses (Conflict c) = left_loose n k S
+
+-- out after the entry is what is live and under no label after it
+loose_next : (S : State) (e : Entry) (n : ℕ) → IsSound S → Fits S e → out_next handed returned n (is_loose n S) e ≡ is_loose n (after S e)
+loose_next S (entry.Begin k at mode) n s fits = begin_loose S n k _ s fits.answers.1 refl
+loose_next S (entry.Fetch k block bytes) n s fits = refl
+loose_next S (entry.End k accesses r) n s fits = end_loose S n k accesses r
+loose_next S (entry.Abort k) n s fits = left_loose n k S
+loose_next S (entry.Trim k) n s fits = refl
+loose_next S (entry.Compact k) n s fits = refl
+loose_next S (entry.Upgrade k) n s fits = refl
+loose_next S (entry.Stat k) n s fits = refl
+loose_next S (entry.Post k l accesses) n s fits =
+    takes_one n k (is_loose n S) ∙ post_loose_by (k == n) (is_live n S.world.live) (times n (racked S.rack)) (times n (racked (after S (entry.Post k l accesses)).rack)) (racked_snoc n S.rack _)
+loose_next S (entry.Look l found) n s fits = look_loose S n (bytes_eq l) found s fits.answers
+loose_next S (entry.Sweep found) n s fits = sweep_loose S n found fits.answers
+loose_next S (entry.Recent k upto) n s fits = refl
+loose_next S (entry.Refused c why) n s fits = refusal_loose S n c why
+
+-- the numbers that are out are those of transactions which are live and under no label
+pub out_from_is : (S : State) (es : List Entry) (n : ℕ) → IsSound S → LegalFrom S es → out_from handed returned n (is_loose n S) es ≡ is_loose n (after_all S es)
+out_from_is S [] n s legal = refl
+out_from_is S (e ∷ es) n s legal =
+    ap (λ (b : Bool). out_from handed returned n b es) (loose_next S e n s legal.0) ∙ out_from_is (after S e) es n (sound_next S e s legal.0) legal.1
+
+pub sound_all : (S : State) (es : List Entry) → IsSound S → LegalFrom S es → IsSound (after_all S es)
+sound_all S [] s legal = s
+sound_all S (e ∷ es) s legal = sound_all (after S e) es (sound_next S e s legal.0) legal.1
+
+no_live : (L : List Live) (n : ℕ) → L ≡ [] → is_live n L ≡ false
+no_live L n e = ap (is_live n) e
+
+pub opened_sound : (A : Start) → A.world.live ≡ [] → IsSound (opened A)
+opened_sound A e = record {
+  below = λ n is. absurd (cc (is, no_live A.world.live n e));
+  racked = λ n some. absurd (omega arith);
+  alone = λ n. omega arith;
+}
+
+-- A number is out in a legal list exactly where its transaction is live and under no label.
+pub out_is : (A : Start) (es : List Entry) (n : ℕ) → A.world.live ≡ [] → IsLegal A es → is_out handed returned n es ≡ is_loose n (state_at A es)
+out_is A es n e legal =
+    ap (λ (b : Bool). out_from handed returned n b es) (sym (ap (λ v. v && (0 == 0)) (no_live A.world.live n e))) ∙ out_from_is (opened A) es n (opened_sound A e) legal
+
+-- a number that an entry hands out was not loose
+abbrev pub NotLoose : Option ℕ → State → Type 0
+NotLoose None S = Unit {0}
+NotLoose (Some n) S = is_loose n S ≡ false
+
+unless : (a z : Bool) → (a ≡ true → ⊥) → (a && z) ≡ false
+unless true z never = absurd (never refl)
+unless false z never = refl
+
+look_not : (S : State) (test : List ℕ → Bool) (found : Option Posting) → found ≡ lookup test S.rack → NotLoose (option_map (λ p. p.number) found) S
+look_not S test None is = tt
+look_not S test (Some p) is =
+    let R' : ℕ = times p.number (racked (remove_entry test S.rack)) in
+    let e : times p.number (racked S.rack) ≡ hit p.number p.number + R' = label_parts p.number test S.rack ∙ ap (λ v. hits p.number v + R') (sym is) in
+    let h = hit_same p.number p.number refl in
+    ap (λ v. is_live p.number S.world.live && v) (some_is (times p.number (racked S.rack)) (omega arith)) ∙ and_false (is_live p.number S.world.live)
+
+pub not_loose : (S : State) (e : Entry) → IsSound S → Answers S e → NotLoose (handed e) S
+not_loose S (entry.Begin k at mode) s a = unless (is_live k S.world.live) (times k (racked S.rack) == 0) (λ live. let b = s.below k live in let e : k ≡ S.world.next = a.1 in absurd (omega arith))
+not_loose S (entry.Fetch k block bytes) s a = tt
+not_loose S (entry.End k accesses r) s a = tt
+not_loose S (entry.Abort k) s a = tt
+not_loose S (entry.Trim k) s a = tt
+not_loose S (entry.Compact k) s a = tt
+not_loose S (entry.Upgrade k) s a = tt
+not_loose S (entry.Stat k) s a = tt
+not_loose S (entry.Post k l accesses) s a = tt
+not_loose S (entry.Look l found) s a = look_not S (bytes_eq l) found a
+not_loose S (entry.Sweep found) s a = tt
+not_loose S (entry.Recent k upto) s a = tt
+not_loose S (entry.Refused c why) s a = tt

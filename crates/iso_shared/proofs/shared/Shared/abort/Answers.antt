@@ -1,0 +1,46 @@
+use Rattle.std.proofs.Common.{[], ap, refl, arith, ◌∙◌, rules}
+use Rattle.turn_lock.proofs.Prefixes.{prefix_trans}
+use Rattle.iso_shared.specs.declared.entry.Entry.TheVariants.{Abort}
+use Rattle.iso_shared.specs.Standing.{standing_of}
+use Rattle.iso_shared.specs.States.{state_at, tx_of}
+use Rattle.iso_shared.proofs.Cores.{did_abort, is_tx}
+use Rattle.iso_shared.proofs.Giving.{core_at, stands_call}
+use Rattle.iso_shared.proofs.Mades.{both_by, held_same, units_by}
+use Rattle.iso_shared.proofs.Standings.{held_live}
+use Rattle.iso_shared.proofs.shared.Shared.abort.Goals as goal
+
+pub abort-requires : goal.abort-requires
+abort-requires g c =
+    let d = g.D.Disk.state in
+    let A = g.O.Origin.start in
+    let n = c.args.tx.number in
+    let held = held_same n _ _ (c.take-turn.ensures.same.1 ∙ c.tell.ensures.same.1) c.requires.tx.1.held in
+    let S = state_at A c.take-turn.new.pass.me.0.seen in (
+      S.world,
+      standing_of S.lost,
+      tx_of S.world n [],
+      (core_at d A _ _ _ _ c.take-turn.ensures.value (ap (λ v. v.core) c.value-guarded.ensures.value)).world,
+      is_tx S.world n [] (held_live d A _ _ _ _ c.take-turn.ensures.value c.take-turn.ensures.out n held),
+    )
+
+pub give-requires-clause-value : goal.give-requires-clause-value
+give-requires-clause-value g c =
+    let d = g.D.Disk.state in
+    let A = g.O.Origin.start in
+    let n = c.args.tx.number in
+    let held = held_same n _ _ (c.take-turn.ensures.same.1 ∙ c.tell.ensures.same.1) c.requires.tx.1.held in
+    let S = state_at A c.take-turn.new.pass.me.0.seen in
+    stands_call d A _ _ _ _ _ (Abort n) (Abort n) c.take-turn.new.pass.me.0.holds c.take-turn.ensures.value (ap (λ v. v.rack) c.value-guarded.ensures.value) c.take-turn.ensures.out
+    (tt, (held, tt)) refl
+    (did_abort d S c.value-guarded.result.now.core c.abort.new.self n (core_at d A _ _ _ _ c.take-turn.ensures.value (ap (λ v. v.core) c.value-guarded.ensures.value))
+    (held_live d A _ _ _ _ c.take-turn.ensures.value c.take-turn.ensures.out n held) c.abort.ensures.left c.abort.ensures.disk)
+    (λ T. refl)
+
+pub returns-clause-made : goal.returns-clause-made
+returns-clause-made g c =
+    both_by g.O.Origin.start c.args.port.now.pass.me.0 c.tell.new.from.me.0 c.args.tx.pass.me.0 c.take-turn.new.pass.me.0 c.give.new.pass.me.0 c.spend.new.port.pass.me.0 _
+    c.tell.ensures.from.1
+    (prefix_trans _ _ _ c.tell.ensures.told c.take-turn.ensures.seen)
+    (prefix_trans _ _ _ c.tell.ensures.begins c.take-turn.ensures.seen)
+    (c.take-turn.ensures.same.0 ∙ c.tell.ensures.same.0)
+    c.give.ensures.seen c.give.ensures.mine c.give.ensures.legal c.spend.ensures.seen c.spend.ensures.places

@@ -1,0 +1,95 @@
+use Rattle.std.proofs.Common.{◌≡◌, List, [], ◌∷◌, ◌++◌, ap, refl, sym, subst, arith, ◌∙◌, rules, Option, Some, None, ◌<◌, ℕ, IsTrue}
+use Rattle.std.specs.Prelude.{unwrap_or}
+use Rattle.iso_model.specs.declared.access.Mode.{Mode}
+use Rattle.iso_model.specs.Geometry.{is_block_size}
+use Rattle.turn_lock.proofs.Outs.{held_first}
+use Rattle.turn_lock.specs.Lists.{times}
+use Rattle.turn_lock.specs.Numbers.{held_after}
+use Rattle.turn_lock.specs.declared.view.View.{View}
+use Rattle.tx_table.specs.Work.{Doing}
+use Rattle.iso_shared.specs.declared.entry.Call.TheVariants as call
+use Rattle.iso_shared.specs.declared.entry.Entry.{Entry}
+use Rattle.iso_shared.specs.declared.entry.Entry.TheVariants as entry
+use Rattle.iso_shared.specs.Legal.{IsLegal, handed, returned}
+use Rattle.iso_shared.specs.Ports.{IsAhead, IsOwn}
+use Rattle.iso_shared.specs.Standing.{faults_of, standing_of}
+use Rattle.iso_shared.specs.States.{opened, state_at}
+use Rattle.iso_shared.specs.Told.{begin_entry}
+use Rattle.iso_shared.proofs.Begins.{began_ahead, began_own, begun_mode, block_size}
+use Rattle.iso_shared.proofs.Cores.{did_begin}
+use Rattle.iso_shared.proofs.Follows.{follows_all}
+use Rattle.iso_shared.proofs.Giving.{core_at, entry_keeps, entry_may, stands_call}
+use Rattle.iso_shared.proofs.Mades.{held_same, made_by}
+use Rattle.iso_shared.proofs.shared.Shared.begin.Goals as goal
+
+pub give-requires-clause-value : goal.give-requires-clause-value
+give-requires-clause-value g c =
+    let d = g.D.Disk.state in
+    let A = g.O.Origin.start in
+    let S = state_at A c.take-turn.new.pass.me.0.seen in
+    let lent = c.value-guarded.result.now.core in
+    let shot = faults_of d c.of-before.result.value in
+    let new = c.begin-result.new.self in
+    let r = c.begin-result.result in
+    stands_call d A _ _ _ _ _ (begin_entry shot (faults_of d new) c.args.named r) (begin_entry shot (faults_of d new) c.args.named r)
+    c.take-turn.new.pass.me.0.holds c.take-turn.ensures.value (ap (λ v. v.rack) c.value-guarded.ensures.value) c.take-turn.ensures.out
+    (entry_may shot (faults_of d new) (call.Begin c.args.named) (λ t. entry.Begin t.tx t.at t.mode) _ (λ x. (tt, tt)) tt r)
+    refl
+    (did_begin d S lent new shot (faults_of d new) c.args.named r (core_at d A _ _ _ _ c.take-turn.ensures.value (ap (λ v. v.core) c.value-guarded.ensures.value))
+    c.begin-result.ensures.begun c.begin-result.ensures.refused c.begin-result.ensures.down c.begin-result.ensures.kept c.begin-result.ensures.disk)
+    (entry_keeps shot (faults_of d new) (call.Begin c.args.named) (λ t. entry.Begin t.tx t.at t.mode) (λ x T. refl) r)
+
+pub give-requires-clause-held : goal.give-requires-clause-held
+give-requires-clause-held g c = entry_may _ _ (call.Begin c.args.named) (λ t. entry.Begin t.tx t.at t.mode) _ (λ x. (tt, tt)) tt c.begin-result.result
+
+pub split-pass-requires-clause-number : goal.split-pass-requires-clause-number
+split-pass-requires-clause-number g c =
+    let holds = c.take-turn.new.pass.me.0.holds in
+    let is = c.give.ensures.holds ∙ ap (λ r. held_after handed returned (begin_entry (faults_of g.D.Disk.state c.of-before.result.value) (faults_of g.D.Disk.state c.begin-result.new.self) c.args.named r) holds) c.in-Ok.is in
+    ((held_same c.in-Ok.begun.tx _ _ is (held_first c.in-Ok.begun.tx holds), tt), λ some. omega arith)
+
+pub begin-requires : goal.begin-requires
+begin-requires g c =
+    let d = g.D.Disk.state in
+    let A = g.O.Origin.start in
+    let S = state_at A c.take-turn.new.pass.me.0.seen in
+    let h = core_at d A _ _ _ _ c.take-turn.ensures.value (ap (λ v. v.core) c.value-guarded.ensures.value) in
+    let geometry = c.geometry-geometry.ensures S.world (standing_of S.lost) h.world in
+    subst (λ (k : ℕ). IsTrue (is_block_size k)) (sym (ap (λ v. v.block) geometry)) (block_size S.world h.world.kept_of.world)
+
+pub returns-in-Ok-clause-tx : goal.returns-in-Ok-clause-tx
+returns-in-Ok-clause-tx g c =
+    let d = g.D.Disk.state in
+    let A = g.O.Origin.start in
+    let es = c.take-turn.new.pass.me.0.seen in
+    let b = c.in-Ok.begun in
+    let work = c.begin.result in
+    let S = state_at A es in
+    let none = c.take-turn.ensures.value.start in
+    let h = core_at d A _ _ _ _ c.take-turn.ensures.value (ap (λ v. v.core) c.value-guarded.ensures.value) in
+    let geometry = c.geometry-geometry.ensures S.world (standing_of S.lost) h.world in
+    let given = c.split-pass.ensures.given in
+    let last : c.give.new.pass.me.0.seen ≡ es ++ entry.Begin b.tx b.at b.mode ∷ [] = c.give.ensures.seen ∙ ap (λ r. es ++ begin_entry (faults_of d c.of-before.result.value) (faults_of d c.begin-result.new.self) c.args.named r ∷ []) c.in-Ok.is in
+    let seen : c.split-pass.result.me.0.seen ≡ es ++ entry.Begin b.tx b.at b.mode ∷ [] = ap (λ (v : View Entry). v.seen) given ∙ last in
+    let legal = subst (IsLegal A) last c.give.ensures.legal in
+    let is = c.begin.ensures in
+    let mode = begun_mode d S c.value-guarded.result.now.core c.begin-result.new.self c.args.named c.begin-result.result b h c.begin-result.ensures.begun c.begin-result.ensures.down c.in-Ok.is in
+    let begin : work.begin ≡ b.at = ap (λ (w : Doing). w.begin) is in
+    let of : work.mode ≡ b.mode = ap (λ (w : Doing). w.mode) is in
+    let f = follows_all (opened A) es in (
+      (
+        search rules,
+        record {
+          held = held_same b.tx _ _ (ap (λ (v : View Entry). v.holds) given) (held_first b.tx []);
+          on = record { size = ap (λ (w : Doing). w.size) is ∙ ap (λ v. v.block) geometry ∙ f.block; blocks = ap (λ (w : Doing). w.blocks) is ∙ ap (λ v. v.blocks) geometry ∙ f.blocks };
+          own = subst (λ l. IsOwn (state_at A l) b.tx work) (sym seen)
+              (began_own A es b.tx b.at b.mode work none legal begin of
+              (record { size = ap (λ (w : Doing). w.size) is ∙ ap (λ v. v.block) geometry; blocks = ap (λ (w : Doing). w.blocks) is ∙ ap (λ v. v.blocks) geometry }));
+          ahead = subst (λ l. IsAhead (state_at A l) work (record { upto = b.at; clash = None })) (sym seen)
+              (began_ahead A es b.tx b.at b.mode work (record { upto = b.at; clash = None }) none legal h.world.kept_of.world.history.first begin
+              (ap (λ (k : ℕ). record { upto = k; clash = None }) (sym begin)));
+        },
+      ),
+      ap (λ (w : Doing). w.accesses) is,
+      of ∙ mode ∙ ap (λ (m : Mode). unwrap_or c.args.named m) f.mode,
+    )

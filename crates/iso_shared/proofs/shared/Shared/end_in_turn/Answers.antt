@@ -1,0 +1,142 @@
+use Rattle.std.proofs.Common.{[], ◌∷◌, ◌++◌, Err, ap, refl, sym, arith, ◌∙◌, rules, ◌<◌, ◌≤◌, ◌+◌, ◌-◌, subst, length, ◌≡◌, ℕ, List, true}
+use Rattle.iso_core.specs.declared.core_itself.Core.{Core}
+use Rattle.iso_core.specs.Core.{StandsFor}
+use Rattle.iso_core.specs.Standing.{up}
+use Rattle.iso_model.specs.History.{last}
+use Rattle.tx_table.specs.Work.{Doing}
+use Rattle.turn_lock.specs.Numbers.{held_after}
+use Rattle.iso_shared.specs.declared.entry.Call.TheVariants as call
+use Rattle.iso_shared.specs.declared.entry.Entry.{Entry}
+use Rattle.iso_shared.specs.declared.entry.Entry.TheVariants as entry
+use Rattle.iso_shared.specs.Legal.{handed, returned}
+use Rattle.iso_shared.specs.Ports.{most_steps}
+use Rattle.iso_shared.specs.Standing.{faults_of, standing_of}
+use Rattle.iso_shared.specs.States.{is_up_at, state_at, tx_of}
+use Rattle.iso_shared.specs.Told.{end_entry}
+use Rattle.iso_shared.proofs.Cores.{is_tx}
+use Rattle.iso_shared.proofs.Ends.{ahead_same, checked_of, did_end, if_err_by, init_same, may_have, on_same, own_same, up_is, work_of}
+use Rattle.iso_shared.proofs.Giving.{core_at, entry_keeps, entry_may, refused_holds, stands_call}
+use Rattle.iso_shared.proofs.Mades.{ahead_on, held_same, made_by, one_more, own_on}
+use Rattle.iso_shared.proofs.Standings.{held_live}
+use Rattle.iso_shared.proofs.shared.Shared.end_in_turn.Goals as goal
+
+pub end-result-requires : goal.end-result-requires
+end-result-requires g c =
+    let d = g.D.Disk.state in
+    let A = g.O.Origin.start in
+    let n = c.args.tx.now.number in
+    let es = c.take-turn.new.pass.me.0.seen in
+    let S = state_at A es in
+    let work = c.settle.new.work in
+    let live = held_live d A _ _ _ _ c.take-turn.ensures.value c.take-turn.ensures.out n (held_same n _ _ c.take-turn.ensures.same.1 c.requires.tx.1.held) in
+    let own = own_same S n c.args.tx.now.work work c.settle.ensures.work (own_on A _ es n _ c.take-turn.ensures.seen c.requires.tx.1.own) in
+    let ahead = ahead_same S c.args.tx.now.work work c.args.tx.now.checked c.settle.ensures.work (ahead_on A _ es _ _ c.take-turn.ensures.seen c.requires.tx.1.ahead) in (
+      S.world,
+      standing_of S.lost,
+      tx_of S.world n work.accesses,
+      (core_at d A _ _ _ _ c.take-turn.ensures.value (ap (λ v. v.core) c.value-guarded.ensures.value)).world,
+      is_tx S.world n work.accesses live,
+      work_of S n work own live,
+      checked_of S n work c.args.tx.now.checked own live ahead,
+    )
+
+pub give-requires-clause-value : goal.give-requires-clause-value
+give-requires-clause-value g c =
+    let d = g.D.Disk.state in
+    let A = g.O.Origin.start in
+    let n = c.args.tx.now.number in
+    let es = c.take-turn.new.pass.me.0.seen in
+    let S = state_at A es in
+    let work = c.settle.new.work in
+    let held = held_same n _ _ c.take-turn.ensures.same.1 c.requires.tx.1.held in
+    let live = held_live d A _ _ _ _ c.take-turn.ensures.value c.take-turn.ensures.out n held in
+    let own = own_same S n c.args.tx.now.work work c.settle.ensures.work (own_on A _ es n _ c.take-turn.ensures.seen c.requires.tx.1.own) in
+    let ahead = ahead_same S c.args.tx.now.work work c.args.tx.now.checked c.settle.ensures.work (ahead_on A _ es _ _ c.take-turn.ensures.seen c.requires.tx.1.ahead) in
+    let t = tx_of S.world n work.accesses in
+    let here = is_tx S.world n work.accesses live in
+    let of = work_of S n work own live in
+    let checked = checked_of S n work c.args.tx.now.checked own live ahead in
+    let lent = c.value-guarded.result.now.core in
+    let shot = faults_of d c.of-before.result.value in
+    let new = c.end-result.new.self in
+    let last = c.end-result.new.work in
+    let r = c.end-result.result in
+    let same : last.accesses ≡ work.accesses = ap (λ (w : Doing). w.accesses) c.end-result.ensures.work in
+    stands_call d A _ _ _ _ _ (end_entry shot (faults_of d new) n last.accesses r) (end_entry (faults_of d lent) (faults_of d new) n work.accesses r)
+    c.take-turn.new.pass.me.0.holds c.take-turn.ensures.value (ap (λ v. v.rack) c.value-guarded.ensures.value) c.take-turn.ensures.out
+    (entry_may shot (faults_of d new) (call.End n last.accesses) (λ x. entry.End n last.accesses x) _ (λ x. (tt, (held, tt))) (held, tt) r)
+    (ap (λ v. end_entry (faults_of d v) (faults_of d new) n last.accesses r) c.of-before.ensures ∙ ap (λ a. end_entry (faults_of d lent) (faults_of d new) n a r) same)
+    (did_end d S lent new n work.accesses r (core_at d A _ _ _ _ c.take-turn.ensures.value (ap (λ v. v.core) c.value-guarded.ensures.value))
+    (may_have S n work own c.settle.ensures.within c.settle.ensures.count)
+    (λ stands. c.end-result.ensures.ended S.world t stands here of checked)
+    (λ stands. c.end-result.ensures.refused S.world t stands here of checked)
+    (λ stands. c.end-result.ensures.same S.world stands)
+    c.end-result.ensures.down c.end-result.ensures.unwritten
+    (λ stands is. c.end-result.ensures.lost S.world t stands here of checked is)
+    c.end-result.ensures.told c.end-result.ensures.cause)
+    (entry_keeps shot (faults_of d new) (call.End n last.accesses) (λ x. entry.End n last.accesses x) (λ x T. refl) r)
+
+pub give-requires-clause-held : goal.give-requires-clause-held
+give-requires-clause-held g c =
+    let n = c.args.tx.now.number in
+    let held = held_same n _ _ c.take-turn.ensures.same.1 c.requires.tx.1.held in
+    let last = c.end-result.new.work in
+    entry_may _ _ (call.End n last.accesses) (λ x. entry.End n last.accesses x) _ (λ x. (tt, (held, tt))) (held, tt) c.end-result.result
+
+pub returns-clause-tx : goal.returns-clause-tx
+returns-clause-tx g c =
+    let d = g.D.Disk.state in
+    let A = g.O.Origin.start in
+    let n = c.args.tx.now.number in
+    let last = c.end-result.new.work in
+    let holds = c.take-turn.new.pass.me.0.holds in
+    let begins = one_more c.args.tx.now.pass.me.0 c.take-turn.new.pass.me.0 c.give.new.pass.me.0 _ c.take-turn.ensures.seen c.give.ensures.seen in
+    let T = state_at A c.give.new.pass.me.0.seen in
+    let own = own_same T n _ last c.end-result.ensures.work (own_same T n c.args.tx.now.work _ c.settle.ensures.work (own_on A _ _ n _ begins c.requires.tx.1.own)) in
+    let ahead = ahead_same T _ last _ c.end-result.ensures.work (ahead_same T c.args.tx.now.work _ c.args.tx.now.checked c.settle.ensures.work (ahead_on A _ _ _ _ begins c.requires.tx.1.ahead)) in
+    if_err_by _ c.end-result.result (λ e is other. (
+      search rules,
+      record {
+        held = held_same n _ _
+            (c.give.ensures.holds
+            ∙ ap (λ r. held_after handed returned (end_entry (faults_of d c.of-before.result.value) (faults_of d c.end-result.new.self) n last.accesses r) holds) is
+            ∙ refused_holds _ _ (call.End n last.accesses) e holds (λ disk. absurd (other disk))
+            ∙ c.take-turn.ensures.same.1) c.requires.tx.1.held;
+        on = on_same A.world.geometry _ last c.end-result.ensures.work (on_same A.world.geometry c.args.tx.now.work _ c.settle.ensures.work c.requires.tx.1.on);
+        own = own;
+        ahead = ahead;
+      },
+    ))
+
+pub returns-clause-made : goal.returns-clause-made
+returns-clause-made g c =
+    let d = g.D.Disk.state in
+    let A = g.O.Origin.start in
+    let n = c.args.tx.now.number in
+    let x = faults_of d c.of-before.result.value in
+    let y = faults_of d c.end-result.new.self in
+    let es = c.take-turn.new.pass.me.0.seen in
+    let accesses = ap (λ (w : Doing). w.accesses) c.end-result.ensures.work ∙ ap (λ (w : Doing). w.accesses) c.settle.ensures.work in (
+      x,
+      y,
+      made_by A c.args.tx.now.pass.me.0 c.args.tx.now.pass.me.0 c.take-turn.new.pass.me.0 c.give.new.pass.me.0 _ c.take-turn.ensures.seen c.take-turn.ensures.seen c.take-turn.ensures.same.0
+          (c.give.ensures.seen ∙ ap (λ a. es ++ end_entry x y n a c.end-result.result ∷ []) accesses) c.give.ensures.mine c.give.ensures.legal,
+    )
+
+pub returns-clause-steps : goal.returns-clause-steps
+returns-clause-steps g c list e seen is_up =
+    let d = g.D.Disk.state in
+    let A = g.O.Origin.start in
+    let n = c.args.tx.now.number in
+    let es = c.take-turn.new.pass.me.0.seen in
+    let S = state_at A es in
+    let work = c.settle.new.work in
+    let live = held_live d A _ _ _ _ c.take-turn.ensures.value c.take-turn.ensures.out n (held_same n _ _ c.take-turn.ensures.same.1 c.requires.tx.1.held) in
+    let own = own_same S n c.args.tx.now.work work c.settle.ensures.work (own_on A _ es n _ c.take-turn.ensures.seen c.requires.tx.1.own) in
+    let ahead = ahead_same S c.args.tx.now.work work c.args.tx.now.checked c.settle.ensures.work (ahead_on A _ es _ _ c.take-turn.ensures.seen c.requires.tx.1.ahead) in
+    let same : es ≡ list = init_same es list _ e (sym c.give.ensures.seen ∙ seen) in
+    let lost = up_is S.lost (subst (λ l. is_up_at A l ≡ true) (sym same) is_up) in
+    let h = core_at d A _ _ _ _ c.take-turn.ensures.value (ap (λ v. v.core) c.value-guarded.ensures.value) in
+    let stands = subst (λ o. StandsFor d c.value-guarded.result.now.core S.world (standing_of o)) lost h.world in
+    subst (λ l. c.end-result.new.steps ≤ c.args.steps.now + most_steps A l c.args.tx.now.checked.upto) same
+    (c.end-result.ensures.steps S.world (tx_of S.world n work.accesses) stands (is_tx S.world n work.accesses live) (checked_of S n work c.args.tx.now.checked own live ahead))

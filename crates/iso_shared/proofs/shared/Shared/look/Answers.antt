@@ -1,0 +1,49 @@
+use Rattle.std.proofs.Common.{[], ◌∷◌, ◌++◌, ◌≡◌, ℕ, Option, Some, None, ap, arith, refl, rules, sym, ◌∙◌}
+use Rattle.std.specs.Prelude.{bytes_eq, option_map}
+use Rattle.std.specs.Map.{lookup}
+use Rattle.conflict_rule.specs.declared.decision.Checked.{Checked}
+use Rattle.turn_lock.proofs.Outs.{held_first}
+use Rattle.turn_lock.proofs.Prefixes.{prefix_self}
+use Rattle.turn_lock.specs.declared.view.View.{View}
+use Rattle.iso_shared.specs.declared.entry.Entry.{Entry}
+use Rattle.iso_shared.specs.declared.entry.Entry.TheVariants as entry
+use Rattle.iso_shared.specs.declared.guarded.Posted.{Posted}
+use Rattle.iso_shared.specs.Standing.{posting_in}
+use Rattle.iso_shared.specs.States.{state_at}
+use Rattle.iso_shared.proofs.Begins.{ahead_first}
+use Rattle.iso_shared.proofs.Mades.{ahead_on, held_same, one_more, own_on}
+use Rattle.iso_shared.proofs.Postings.{stands_look}
+use Rattle.iso_shared.proofs.Racked.{found_own}
+use Rattle.iso_shared.proofs.shared.Shared.look.Goals as goal
+
+pub give-requires-clause-value : goal.give-requires-clause-value
+give-requires-clause-value g c =
+    stands_look g.D.Disk.state g.O.Origin.start _ _ _ _ _ _ c.take-turn.new.pass.me.0.holds c.args.label.now c.look-found.result c.take-turn.ensures.value (ap (λ v. v.core) c.value-guarded.ensures.value)
+    (ap (λ v. v.rack) c.value-guarded.ensures.value) c.take-turn.ensures.out c.look-found.ensures.item c.look-found.ensures.rest
+
+pub returns-in-Some-clause-tx : goal.returns-in-Some-clause-tx
+returns-in-Some-clause-tx g c =
+    let A = g.O.Origin.start in
+    let es = c.take-turn.new.pass.me.0.seen in
+    let p = c.in-Some.field-0 in
+    let work = p.work in
+    let test = bytes_eq c.args.label.now in
+    let f = found_own g.D.Disk.state A _ _ es test p c.take-turn.ensures.value (sym (ap (λ v. lookup test v.rack) c.value-guarded.ensures.value) ∙ sym c.look-found.ensures.item ∙ c.in-Some.is) in
+    let given = c.split-pass.ensures.given in
+    let last : c.give.new.pass.me.0.seen ≡ es ++ entry.Look c.args.label.now (Some (posting_in p)) ∷ [] = c.give.ensures.seen ∙ ap (λ (o : Option Posted). es ++ entry.Look c.args.label.now (option_map posting_in o) ∷ []) c.in-Some.is in
+    let seen : c.split-pass.result.me.0.seen ≡ es ++ entry.Look c.args.label.now (Some (posting_in p)) ∷ [] = ap (λ (v : View Entry). v.seen) given ∙ last in
+    let begins = one_more c.take-turn.new.pass.me.0 c.take-turn.new.pass.me.0 c.split-pass.result.me.0 _ (prefix_self es) seen in
+    let checked : Checked = record { upto = c.begun_at-upto.result; clash = None } in (
+      (
+        search rules,
+        record {
+          held = held_same p.number _ _ (ap (λ (v : View Entry). v.holds) given) (held_first p.number []);
+          on = f.on;
+          own = own_on A es _ p.number work begins f.own;
+          ahead = ahead_on A es _ work checked begins (ahead_first (state_at A es) work checked f.first f.within (ap (λ (k : ℕ). record { upto = k; clash = None }) c.begun_at-upto.ensures));
+        },
+      ),
+      search rules,
+      search rules,
+      search rules,
+    )

@@ -1,0 +1,6 @@
+use Rattle.std.proofs.Common.{rules}
+use Rattle.iso_shared.proofs.Standings.{stands_first}
+use Rattle.iso_shared.proofs.shared.Shared.new.Goals as goal
+
+pub returns-in-Ok-clause-ok : goal.returns-in-Ok-clause-ok
+returns-in-Ok-clause-ok g c = (search rules, search rules, c.geometry-geometry.ensures g.O.Origin.start.world _ c.requires.start.0.world)

@@ -1,0 +1,109 @@
+use Rattle.std.proofs.Common.{[], ◌∷◌, ◌++◌, ◌≡◌, ℕ, List, Option, Some, None, Ok, Err, ◌<◌, ap, arith, refl, rules, subst, sym, ◌∙◌}
+use Rattle.std.specs.Prelude.{IsErr, bytes_eq}
+use Rattle.std.specs.Map.{lookup}
+use Rattle.turn_lock.proofs.Prefixes.{prefix_trans}
+use Rattle.turn_lock.specs.Numbers.{held_after}
+use Rattle.tx_table.specs.Work.{Doing}
+use Rattle.iso_shared.specs.declared.entry.Entry.{Entry}
+use Rattle.iso_shared.specs.declared.guarded.Posted.{Posted}
+use Rattle.iso_shared.specs.Ports.{IsAhead, IsOwn}
+use Rattle.iso_shared.specs.States.{state_at}
+use Rattle.turn_lock.specs.Lists.{times}
+use Rattle.iso_shared.specs.Legal.{handed, returned}
+use Rattle.iso_shared.specs.Standing.{IsOn, StandsAt}
+use Rattle.iso_shared.specs.Told.{post_entry}
+use Rattle.iso_shared.proofs.Mades.{ahead_on, both_by, held_same, made_by, one_more, own_on, units_by}
+use Rattle.iso_shared.proofs.Postings.{free_by, none_by, post_holds, post_may, stands_post, stands_unposted, taken_by}
+use Rattle.iso_shared.proofs.shared.Shared.post.Goals as goal
+
+settled_same : (old new : Doing) → new ≡ old → new ≡ record old { settled = new.settled }
+settled_same old new is = subst (λ (w : Doing). w ≡ record old { settled = w.settled }) (sym is) refl
+
+pub give-requires-clause-value : goal.give-requires-clause-value
+give-requires-clause-value g c =
+    let d = g.D.Disk.state in
+    let A = g.O.Origin.start in
+    let es = c.take-turn.new.pass.me.0.seen in
+    let tx = c.tell_tx.new.tx in
+    let p : Posted = record { number = tx.number; work = tx.work } in
+    let entry_is : post_entry c.of-name.result.value c.of-item.result.value (Ok tt) ≡ post_entry c.args.label p (Ok tt) = λ i. post_entry (c.of-name.ensures i) (c.of-item.ensures i) (Ok tt) in
+    let kept = c.value-guarded.result.now.rack in
+    subst (λ (e : Entry). StandsAt d A c.value-guarded.result.now.core c.post.new.self (es ++ e ∷ [])) (sym entry_is)
+    (stands_post d A _ _ _ kept _ es c.take-turn.new.pass.me.0.holds c.args.label p c.take-turn.ensures.value (ap (λ v. v.core) c.value-guarded.ensures.value) (ap (λ v. v.rack) c.value-guarded.ensures.value) c.take-turn.ensures.out
+    (held_same tx.number _ _ c.take-turn.ensures.same.1 c.tell_tx.ensures.tx.1.held)
+    (own_on A _ es tx.number tx.work c.take-turn.ensures.seen c.tell_tx.ensures.tx.1.own)
+    (none_by (lookup (bytes_eq c.args.label) kept) (λ is. (let no_error = subst (λ r. IsErr r) c.in-Ok.is (c.post.ensures.held is) in absurd (cc no_error))))
+    c.in-Ok.ensures.ok)
+
+pub give-requires-in-Err-clause-value : goal.give-requires-in-Err-clause-value
+give-requires-in-Err-clause-value g c =
+    let d = g.D.Disk.state in
+    let A = g.O.Origin.start in
+    let es = c.take-turn.new.pass.me.0.seen in
+    let tx = c.tell_tx.new.tx in
+    let p : Posted = record { number = tx.number; work = tx.work } in
+    let e = c.in-Err.error in
+    let entry_is : post_entry c.of-name.result.value c.of-item.result.value (Err e) ≡ post_entry c.args.label p (Err e) = λ i. post_entry (c.of-name.ensures i) (c.of-item.ensures i) (Err e) in
+    let kept = c.value-guarded.result.now.rack in
+    subst (λ (x : Entry). StandsAt d A c.value-guarded.result.now.core c.post.new.self (es ++ x ∷ [])) (sym entry_is)
+    (stands_unposted d A _ _ _ kept _ es c.take-turn.new.pass.me.0.holds c.args.label p e c.take-turn.ensures.value (ap (λ v. v.core) c.value-guarded.ensures.value) (ap (λ v. v.rack) c.value-guarded.ensures.value) c.take-turn.ensures.out
+    (held_same tx.number _ _ c.take-turn.ensures.same.1 c.tell_tx.ensures.tx.1.held)
+    c.in-Err.ensures.err.0
+    (taken_by (lookup (bytes_eq c.args.label) kept) e c.in-Err.ensures.free)
+    (free_by (lookup (bytes_eq c.args.label) kept) e c.in-Err.ensures.taken))
+
+pub returns-in-Ok-clause-ok : goal.returns-in-Ok-clause-ok
+returns-in-Ok-clause-ok g c =
+    let A = g.O.Origin.start in
+    let es = c.take-turn.new.pass.me.0.seen in
+    let same = c.tell_tx.ensures.same in
+    let entry_is : post_entry c.of-name.result.value c.of-item.result.value (Ok tt) ≡ post_entry c.args.label (record { number = c.args.tx.number; work = c.args.tx.work }) (Ok tt) =
+    λ i. post_entry (c.of-name.ensures i) ((c.of-item.ensures ∙ (λ j. record { number = same.0.number j; work = same.1 j })) i) (Ok tt) in (
+      both_by A c.args.port.now.pass.me.0 c.tell_tx.new.port.pass.me.0 c.args.tx.pass.me.0 c.take-turn.new.pass.me.0 c.give.new.pass.me.0 c.take_back.new.port.pass.me.0 _
+          c.tell_tx.ensures.port.1
+          (prefix_trans _ _ _ c.tell_tx.ensures.told c.take-turn.ensures.seen)
+          (prefix_trans _ _ _ c.tell_tx.ensures.begins c.take-turn.ensures.seen)
+          (c.take-turn.ensures.same.0 ∙ same.2.0)
+          (c.give.ensures.seen ∙ ap (λ (e : Entry). es ++ e ∷ []) entry_is) c.give.ensures.mine c.give.ensures.legal c.take_back.ensures.seen c.take_back.ensures.places,
+      units_by c.tell_tx.new.port.pass.me.0 c.args.port.now.pass.me.0 c.args.tx.pass.me.0 c.give.new.pass.me.0 c.take_back.new.port.pass.me.0 c.tell_tx.ensures.port.1 (c.give.ensures.units ∙ c.take-turn.ensures.same.2 ∙ same.2.2) c.take_back.ensures.units,
+    )
+
+pub returns-in-Err-clause-err : goal.returns-in-Err-clause-err
+returns-in-Err-clause-err g c =
+    let A = g.O.Origin.start in
+    let es = c.take-turn.new.pass.me.0.seen in
+    let same = c.tell_tx.ensures.same in
+    let tx = c.tell_tx.new.tx in
+    let back : c.in-Err.field-0-1 ≡ record { number = tx.number; work = tx.work } = c.in-Err.ensures.err.1 in
+    let number = ap (λ (v : Posted). v.number) back in
+    let work = ap (λ (v : Posted). v.work) back in
+    let e = c.in-Err.error in
+    let w = c.give-in-Err.new.pass.me.0 in
+    let entry_is : post_entry c.of-name.result.value c.of-item.result.value (Err e) ≡ post_entry c.args.label (record { number = c.args.tx.number; work = c.args.tx.work }) (Err e) =
+    λ i. post_entry (c.of-name.ensures i) ((c.of-item.ensures ∙ (λ j. record { number = same.0.number j; work = same.1 j })) i) (Err e) in
+    let begins = one_more tx.pass.me.0 c.take-turn.new.pass.me.0 w _ c.take-turn.ensures.seen c.give-in-Err.ensures.seen in
+    let held = held_same tx.number _ _ (c.give-in-Err.ensures.holds ∙ post_holds c.of-name.result.value c.of-item.result.value e _ ∙ c.take-turn.ensures.same.1) c.tell_tx.ensures.tx.1.held in
+    let own = own_on A _ w.seen tx.number tx.work begins c.tell_tx.ensures.tx.1.own in
+    let ahead = ahead_on A _ w.seen tx.work tx.checked begins c.tell_tx.ensures.tx.1.ahead in (
+      (
+        search rules,
+        record {
+          held = subst (λ (k : ℕ). 0 < times k w.holds) (sym number) held;
+          on = subst (λ (v : Posted). IsOn A.world.geometry v.work) (sym back) c.tell_tx.ensures.tx.1.on;
+          own = subst (λ (v : Posted). IsOwn (state_at A w.seen) v.number v.work) (sym back) own;
+          ahead = subst (λ (v : Posted). IsAhead (state_at A w.seen) v.work tx.checked) (sym back) ahead;
+        },
+      ),
+      record {
+        number = number ∙ same.0.number;
+        work = settled_same c.args.tx.work _ (work ∙ same.1);
+        checked = same.0.checked;
+      },
+      c.give-in-Err.ensures.units ∙ c.take-turn.ensures.same.2 ∙ same.2.2,
+      c.tell_tx.ensures.port.1,
+      made_by A c.args.port.now.pass.me.0 c.args.tx.pass.me.0 c.take-turn.new.pass.me.0 w _
+          (prefix_trans _ _ _ c.tell_tx.ensures.told c.take-turn.ensures.seen)
+          (prefix_trans _ _ _ c.tell_tx.ensures.begins c.take-turn.ensures.seen)
+          (c.take-turn.ensures.same.0 ∙ same.2.0)
+          (c.give-in-Err.ensures.seen ∙ ap (λ (x : Entry). es ++ x ∷ []) entry_is) c.give-in-Err.ensures.mine c.give-in-Err.ensures.legal,
+    )

@@ -1,0 +1,6 @@
+use Rattle.iso_shared.specs.Standing.{faults_of}
+use Rattle.iso_shared.specs.Told.{told_entry}
+use Rattle.iso_shared.proofs.shared.Shared.sweep.Given as goal
+
+abbrev pub ghosts-give : goal.ghosts-give
+ghosts-give g a = record { entry = told_entry (faults_of g.D.Disk.state a.before.value) (faults_of g.D.Disk.state a.turn.value.core) a.told }

@@ -1,0 +1,22 @@
+use Rattle.std.proofs.Common.{ap, rules, subst, sym}
+use Rattle.turn_lock.specs.declared.view.View.{View}
+use Rattle.iso_shared.specs.declared.entry.Entry.{Entry}
+use Rattle.iso_shared.specs.Ports.{IsAhead, IsOwn}
+use Rattle.iso_shared.specs.States.{state_at}
+use Rattle.iso_shared.proofs.Mades.{held_same}
+use Rattle.iso_shared.proofs.shared.Shared.tell_port.Goals as goal
+
+pub returns-clause-tx : goal.returns-clause-tx
+returns-clause-tx g c =
+    let same = c.tell.ensures.from.1 in (
+      (
+        search rules,
+        record {
+          held = held_same _ _ _ (ap (λ (v : View Entry). v.holds) same) c.requires.tx.1.held;
+          on = c.requires.tx.1.on;
+          own = subst (λ (v : View Entry). IsOwn (state_at g.O.Origin.start v.seen) c.args.tx.now.number c.args.tx.now.work) (sym same) c.requires.tx.1.own;
+          ahead = subst (λ (v : View Entry). IsAhead (state_at g.O.Origin.start v.seen) c.args.tx.now.work c.args.tx.now.checked) (sym same) c.requires.tx.1.ahead;
+        },
+      ),
+      same,
+    )

@@ -1,0 +1,14 @@
+use Rattle.std.proofs.Common.{rules}
+use Rattle.iso_shared.proofs.Mades.{ahead_on, held_same, own_on}
+use Rattle.iso_shared.proofs.shared.Shared.tell_tx.Goals as goal
+
+pub returns-clause-tx : goal.returns-clause-tx
+returns-clause-tx g c = (
+  search rules,
+  record {
+    held = held_same _ _ _ c.tell.ensures.same.1 c.requires.tx.1.held;
+    on = c.requires.tx.1.on;
+    own = own_on g.O.Origin.start _ _ _ _ c.tell.ensures.begins c.requires.tx.1.own;
+    ahead = ahead_on g.O.Origin.start _ _ _ _ c.tell.ensures.begins c.requires.tx.1.ahead;
+  },
+)

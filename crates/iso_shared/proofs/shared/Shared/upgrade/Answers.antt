@@ -1,0 +1,35 @@
+use Rattle.std.proofs.Common.{[], ap, refl, ◌∙◌}
+use Rattle.iso_model.specs.declared.script.Reply.TheVariants.{Done}
+use Rattle.iso_shared.specs.declared.entry.Call.TheVariants as call
+use Rattle.iso_shared.specs.declared.entry.Entry.TheVariants as entry
+use Rattle.iso_shared.specs.Standing.{faults_of, standing_of}
+use Rattle.iso_shared.specs.States.{state_at}
+use Rattle.iso_shared.specs.Told.{upgrade_entry}
+use Rattle.iso_shared.proofs.Switches.{did_upgrade}
+use Rattle.iso_shared.proofs.Giving.{core_at, entry_keeps, entry_may, stands_call}
+use Rattle.iso_shared.proofs.shared.Shared.upgrade.Goals as goal
+
+pub give-requires-clause-value : goal.give-requires-clause-value
+give-requires-clause-value g c =
+    let d = g.D.Disk.state in
+    let A = g.O.Origin.start in
+    let S = state_at A c.take-turn.new.pass.me.0.seen in
+    let lent = c.value-guarded.result.now.core in
+    let shot = faults_of d c.of-before.result.value in
+    let new = c.upgrade-result.new.self in
+    let r = c.upgrade-result.result in
+    let said = c.upgrade-result.ensures in
+    stands_call d A _ _ _ _ _ (upgrade_entry shot (faults_of d new) r) (upgrade_entry (faults_of d lent) (faults_of d new) r)
+    c.take-turn.new.pass.me.0.holds c.take-turn.ensures.value (ap (λ v. v.rack) c.value-guarded.ensures.value) c.take-turn.ensures.out
+    (entry_may shot (faults_of d new) call.Upgrade (λ n. entry.Upgrade n) _ (λ n. (tt, tt)) tt r)
+    (ap (λ v. upgrade_entry (faults_of d v) (faults_of d new) r) c.of-before.ensures)
+    (did_upgrade d S lent new r (core_at d A _ _ _ _ c.take-turn.ensures.value (ap (λ v. v.core) c.value-guarded.ensures.value)) (record {
+      switched = said.switched S.world;
+      refused = said.refused S.world Done;
+      same = said.same S.world;
+      fallen = said.down S.world;
+      lost = said.lost S.world;
+      told = said.told;
+      cause = said.cause;
+    }))
+    (entry_keeps shot (faults_of d new) call.Upgrade (λ n. entry.Upgrade n) (λ n T. refl) r)

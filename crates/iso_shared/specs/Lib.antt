@@ -1,0 +1,6 @@
+pub mod States
+pub mod Legal
+pub mod Standing
+pub mod Told
+pub mod Ports
+pub mod TestImage

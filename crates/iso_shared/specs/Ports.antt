@@ -1,0 +1,99 @@
+-- What ports and transactions are between two calls, and what a call does to their views.
+use Rattle.std.specs.Prelude.{◌≡◌, ℕ, ◌+◌, ◌-◌, ◌<◌, ◌≤◌, true, List, [], ◌∷◌, ◌++◌, length}
+use mathlib.Core.List.{IsPrefix}
+use Rattle.conflict_rule.specs.declared.decision.Checked.{Checked}
+use Rattle.conflict_rule.specs.Decision.{AreNotesAfter, up_to}
+use Rattle.iso_core.specs.declared.answers.Recent.{Recent}
+use Rattle.iso_model.specs.Conflict.{clash}
+use Rattle.iso_model.specs.History.{last}
+use Rattle.tx_table.specs.Work.{Doing}
+use Rattle.turn_lock.specs.declared.lock.TurnLock.{TurnLock}
+use Rattle.turn_lock.specs.declared.view.View.{View}
+use Rattle.turn_lock.specs.Lists.{hit, times}
+use Rattle.turn_lock.specs.Lock.{lock_id}
+use Rattle.turn_lock.specs.Pass.{PassOf, view, HasNoTurn}
+use Rattle.iso_shared.specs.declared.entry.Entry.{Entry}
+use Rattle.iso_shared.specs.declared.shared.Port.{Port}
+use Rattle.iso_shared.specs.declared.shared.Shared.{Shared}
+use Rattle.iso_shared.specs.declared.tx.Tx.{Tx}
+use Rattle.iso_shared.specs.Legal.{IsLegal}
+use Rattle.iso_shared.specs.Standing.{IsOn}
+use Rattle.iso_shared.specs.States.{Start, State, is_live, is_up_at, live_of, state_at}
+
+-- a pass of the lock, at rest, with a unit
+abbrev pub IsOf : {X E : Type 0} → TurnLock X E → PassOf X E → Type 0
+IsOf l p = (p.table_id ≡ lock_id l) × HasNoTurn p × (0 < (view p).units)
+
+-- the work is that of the transaction of this number, in as far as it is still live
+pub record IsOwn (S : State) (tx : ℕ) (work : Doing) : Type 0 where
+  pub number : tx < S.world.next
+  pub begin : is_live tx S.world.live ≡ true → (live_of tx S.world.live).begin ≡ work.begin
+  pub mode : is_live tx S.world.live ≡ true → (live_of tx S.world.live).mode ≡ work.mode
+  pub on : IsOn S.world.geometry work
+
+-- what was checked ahead: the commits up to a number from the begin on, and the clash with them
+pub record IsAhead (S : State) (work : Doing) (checked : Checked) : Type 0 where
+  pub first : 0 < S.world.history.first
+  pub from : work.begin ≤ checked.upto
+  pub to : checked.upto ≤ last S.world.history
+  pub clash_is : checked.clash ≡ clash S.world.geometry (up_to S.world.history checked.upto) work.mode work.begin work.accesses
+
+-- the commits above what was checked, up to a number
+pub record IsRecent (S : State) (checked : Checked) (recent : Recent) : Type 0 where
+  pub from : recent.after ≡ checked.upto
+  pub later : recent.after ≤ recent.upto
+  pub to : recent.upto ≤ last S.world.history
+  pub notes : AreNotesAfter S.world.geometry (up_to S.world.history recent.upto) recent.after recent.notes.notes
+
+module _ {D O : Type 0} where
+  -- what the transaction has seen
+  abbrev pub state_of : Start → Tx D O → State
+  state_of A t = state_at A (view t.pass).seen
+
+  -- its pass holds its number, and its work and its check are those of the transaction
+  pub record IsTxOf (A : Start) (t : Tx D O) : Type 0 where
+    pub held : 0 < times t.number (view t.pass).holds
+    -- on blocks of the size that they had at the start, and as many of them
+    pub on : IsOn A.world.geometry t.work
+    pub own : IsOwn (state_of A t) t.number t.work
+    pub ahead : IsAhead (state_of A t) t.work t.checked
+
+  -- a port of the device, between two calls
+  abbrev pub IsPort : Shared D O → Port D O → Type 0
+  IsPort s p = IsOf s.lock p.pass
+
+  -- a transaction of the device, between two calls
+  abbrev pub IsTx : Shared D O → Start → Tx D O → Type 0
+  IsTx s A t = IsOf s.lock t.pass × IsTxOf A t
+
+  -- the same transaction, with its begin, its mode and its accesses
+  pub record IsSameTx (t u : Tx D O) : Type 0 where
+    pub number : u.number ≡ t.number
+    pub work : u.work ≡ record t.work { settled = u.work.settled }
+    pub checked : u.checked ≡ t.checked
+
+-- The pass of u, which was told what v had seen, made one entry, e, which is the last that w has seen. All of that is legal.
+pub record Made (A : Start) (v u : View Entry) (e : Entry) (w : View Entry) : Type 0 where
+  pub before : List Entry
+  pub told : IsPrefix v.seen before
+  pub begins : IsPrefix u.seen before
+  pub seen : w.seen ≡ before ++ e ∷ []
+  pub mine : w.mine ≡ u.mine ++ length before ∷ []
+  pub legal : IsLegal A w.seen
+
+-- the same, where the pass of u was then joined into that of v
+pub record MadeBoth (A : Start) (v u : View Entry) (e : Entry) (w : View Entry) : Type 0 where
+  pub before : List Entry
+  pub told : IsPrefix v.seen before
+  pub begins : IsPrefix u.seen before
+  pub seen : w.seen ≡ before ++ e ∷ []
+  pub mine : (p : ℕ) → times p w.mine ≡ times p v.mine + times p u.mine + hit (length before) p
+  pub legal : IsLegal A w.seen
+
+-- so many steps at most, where these entries stood before and the device was up
+abbrev pub most_steps : Start → List Entry → (upto : ℕ) → ℕ
+most_steps A before upto = last (state_at A before).world.history - upto
+
+-- so many steps at most were taken in the turn that made the last entry that was seen, where the device was up before it
+abbrev pub TookFew : Start → (seen : List Entry) → (upto old new : ℕ) → Type 0
+TookFew A seen upto old new = (list : List Entry) (e : Entry) → seen ≡ list ++ e ∷ [] → is_up_at A list ≡ true → new ≤ old + most_steps A list upto

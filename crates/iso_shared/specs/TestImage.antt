@@ -1,0 +1,17 @@
+-- The image of the tests.
+use Rattle.std.specs.Prelude.{◌≡◌, ℕ, List, []}
+use Rattle.iso_core.specs.declared.core_itself.Core.{Core}
+use Rattle.iso_disk.specs.Disk.{DiskState}
+use Rattle.iso_model.specs.declared.access.Geometry.{Geometry}
+use Rattle.iso_model.specs.declared.access.Mode.TheVariants.{Serial}
+use Rattle.iso_shared.specs.Standing.{Holds}
+use Rattle.iso_shared.specs.States.{Start, opened}
+
+abbrev pub small : Geometry
+small = record { block = 64; blocks = 4; log = 4096; mode = Serial; hash = 0; tree = 0; form = 1 }
+
+-- a list of this core may begin there
+pub record MayStart {D : Type 0} (disk : D → DiskState) (A : Start) (core : Core D) : Type 0 where
+  pub holds : Holds disk core (opened A)
+  pub live : A.world.live ≡ []
+  pub geometry : A.world.geometry ≡ small

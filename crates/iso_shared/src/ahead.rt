@@ -1,0 +1,84 @@
+// The check ahead of the turn of an end.
+ghost use Rattle.std.specs.Prelude.{◌≡◌, ℕ, ◌<◌, ◌≤◌, IfOk, true, List};
+ghost use Rattle.iso_model.specs.declared.access.Access.{Access};
+ghost use Rattle.iso_model.specs.declared.access.Geometry.{Geometry};
+ghost use Rattle.iso_model.specs.Conflict.{clash};
+ghost use Rattle.iso_model.specs.History.{History};
+ghost use Rattle.byte_marks.specs.declared.extent.Extent.{Extent};
+ghost use Rattle.byte_marks.specs.Touched.{AreTouched};
+ghost use Rattle.conflict_rule.specs.Decision.{IsAsked};
+ghost use Rattle.iso_model.specs.declared.access.Kind.TheVariants.{Read, Write};
+ghost use Rattle.iso_shared.specs.Ports.{IsRecent, IsSameTx, IsTx, Made, state_of};
+ghost use Rattle.iso_shared.specs.Told.{recent_entry};
+ghost use Rattle.turn_lock.specs.Pass.{view};
+
+use crate::guarded::Origin;
+use crate::shared::Shared;
+use crate::told::Told;
+use crate::tx::Tx;
+use conflict_rule::{Checked, Notes, decide};
+use iso_core::Recent;
+use iso_disk::Disk;
+use iso_model::{Clash, CoreError};
+use std::marker::Brand;
+use std::snapshot::Snapshot;
+use std::sync::Wait;
+use std::sync::ledger::Blank;
+use step_count::{Ledger, Steps};
+use tx_table::Work;
+
+impl<D: Disk + Drop, O: Origin> Shared<D, O> {
+    /// The commits after those that the transaction was checked against, for a check ahead of the turn of its end.
+    pub fn recent<R: Wait>(&self, rt: &R, tx: &mut Tx<D, O>) -> Result<Recent, CoreError>
+        requires tx { IsTx self.now O.start tx.old }
+        ensures tx { IsTx self.now O.start tx.new }
+        ensures same { IsSameTx tx.old tx.new × (tx.new.work ≡ tx.old.work) × ((view tx.new.pass).units ≡ (view tx.old.pass).units) }
+        ensures made { (before : ℕ) × (now : ℕ) × Made O.start (view tx.old.pass) (view tx.old.pass) (recent_entry before now tx.old.number result) (view tx.new.pass) }
+        ensures recent { IfOk result (IsRecent (state_of O.start tx.new) tx.new.checked) }
+    {
+        let mut turn = self.lock.take(rt, &mut tx.pass);
+        let guarded = turn.value();
+        let before = Snapshot::of(&guarded.core);
+        let result = guarded.core.recent(tx.number, tx.checked.upto);
+        self.give::<Brand>(&mut tx.pass, turn, before, Told::Recent(tx.number, &result));
+        result
+    }
+}
+
+// How a transaction meets the commits that these notes tell, if it does.
+pub(crate) fn meeting(work: &Work, checked: &Checked, notes: &Notes) -> Option<Clash>
+    requires { work.now.settled ≡ true }
+    ensures { (g : Geometry) (H : History) → g.block ≡ work.now.size → g.blocks ≡ work.now.blocks
+        → ((reads writes : List (ℕ × List Extent)) → AreTouched work.now.size work.now.blocks Read work.now.accesses reads → AreTouched work.now.size work.now.blocks Write work.now.accesses writes
+        → IsAsked g H work.now.mode work.now.begin work.now.accesses checked.now.upto checked.now.clash reads writes notes.now.notes)
+        → result ≡ clash g H work.now.mode work.now.begin work.now.accesses }
+{
+    meeting_in::<Brand>(Blank::new(1), work, checked, notes)
+}
+
+// The same over a ledger of its own, in which the steps are counted.
+fn meeting_in<L: Ledger>(
+    blank: Blank,
+    work: &Work,
+    checked: &Checked,
+    notes: &Notes,
+) -> Option<Clash>
+    requires name { blank.name ≡ L.name }
+    requires parts { blank.parts ≡ L.parts }
+    requires some { 0 < L.parts }
+    requires settled { work.now.settled ≡ true }
+    ensures { (g : Geometry) (H : History) → g.block ≡ work.now.size → g.blocks ≡ work.now.blocks
+        → ((reads writes : List (ℕ × List Extent)) → AreTouched work.now.size work.now.blocks Read work.now.accesses reads → AreTouched work.now.size work.now.blocks Write work.now.accesses writes
+        → IsAsked g H work.now.mode work.now.begin work.now.accesses checked.now.upto checked.now.clash reads writes notes.now.notes)
+        → result ≡ clash g H work.now.mode work.now.begin work.now.accesses }
+{
+    let mut steps = Steps::<L>::start(blank);
+    decide(
+        work.mode(),
+        checked,
+        work.reads(),
+        work.writes(),
+        notes,
+        &mut steps,
+    )
+}

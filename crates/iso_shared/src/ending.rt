@@ -1,0 +1,104 @@
+// The end of a transaction, in one turn.
+ghost use Rattle.std.specs.Prelude.{◌≡◌, ◌≢◌, ◌+◌, ◌-◌, ◌<◌, ◌≤◌, ℕ, List, [], ◌∷◌, ◌++◌, Some, None, Ok, Err, length, IfOk, IfErr, IfSome, IfNone, MatchOption, MatchResult};
+ghost use Rattle.iso_model.specs.declared.core_error.CoreError.TheVariants.{Disk as OfDisk};
+ghost use Rattle.iso_shared.specs.declared.entry.Call.TheVariants as TheCall;
+ghost use Rattle.iso_shared.specs.declared.entry.Entry.TheVariants.{End, Refused};
+ghost use Rattle.iso_shared.specs.Ports.{IsPort, IsSameTx, IsTx, Made, MadeBoth, TookFew};
+ghost use Rattle.iso_shared.specs.Told.{cause_of, end_entry};
+ghost use Rattle.tx_table.specs.Work.{AreWithin};
+ghost use Rattle.turn_lock.specs.Lock.{lock_id};
+ghost use Rattle.turn_lock.specs.Pass.{view, HasNoTurn};
+
+use crate::guarded::Origin;
+use crate::shared::{Port, Shared};
+use crate::told::Told;
+use crate::tx::Tx;
+use iso_disk::Disk;
+use iso_model::{CoreError, EndReply};
+use std::marker::Brand;
+use std::snapshot::Snapshot;
+use std::sync::Wait;
+use step_count::{Ledger, Steps};
+use tx_table::Work;
+
+// Settles the work ahead of the turn. Where memory is wanting, the end tells so.
+fn settle(work: &mut Work)
+    ensures work { work.new ≡ record work.old { settled = work.new.settled } }
+    ensures within { AreWithin work.new.size work.new.blocks work.new.accesses }
+    ensures count { length work.new.accesses ≤ 4096 }
+{
+    let _ = work.settle();
+    let _ = work.room();
+}
+
+impl<D: Disk + Drop, O: Origin> Shared<D, O> {
+    // The turn of an end. Where a fault of the disk did not end it, the transaction is as before.
+    fn end_in_turn<L: Ledger, R: Wait>(
+        &self,
+        rt: &R,
+        tx: &mut Tx<D, O>,
+        steps: &mut Steps<L>,
+    ) -> Result<EndReply, CoreError>
+        requires tx { IsTx self.now O.start tx.old }
+        ensures pass { (tx.new.pass.table_id ≡ lock_id self.now.lock) × HasNoTurn tx.new.pass }
+        ensures units { (view tx.new.pass).units ≡ (view tx.old.pass).units }
+        ensures tx { IfErr result (λ e. e ≢ OfDisk → IsTx self.now O.start tx.new) }
+        ensures same { IsSameTx tx.old tx.new }
+        ensures made { (before : ℕ) × (now : ℕ) × Made O.start (view tx.old.pass) (view tx.old.pass) (end_entry before now tx.old.number tx.old.work.accesses result) (view tx.new.pass) }
+        ensures steps { TookFew O.start (view tx.new.pass).seen tx.old.checked.upto steps.old steps.new }
+    {
+        settle(&mut tx.work);
+        let mut turn = self.lock.take(rt, &mut tx.pass);
+        let guarded = turn.value();
+        let before = Snapshot::of(&guarded.core);
+        let result = guarded
+            .core
+            .end(tx.number, &mut tx.work, &tx.checked, steps);
+        self.give::<Brand>(
+            &mut tx.pass,
+            turn,
+            before,
+            Told::End(tx.number, &tx.work, result),
+        );
+        result
+    }
+
+    /// Ends a transaction, as the core does at this turn. Where it is refused, the transaction is handed back as it was; after
+    /// a fault of the disk there is none, and its units go to the port, as after an answer.
+    pub fn end<L: Ledger, R: Wait>(
+        &self,
+        rt: &R,
+        port: &mut Port<D, O>,
+        mut tx: Tx<D, O>,
+        steps: &mut Steps<L>,
+    ) -> Result<EndReply, (CoreError, Option<Tx<D, O>>)>
+        requires port { IsPort self.now port.old }
+        requires tx { IsTx self.now O.start tx }
+        ensures port { IsPort self.now port.new }
+        ensures ok { IfOk result (λ r. MadeBoth O.start (view port.old.pass) (view tx.pass) (End tx.number tx.work.accesses r) (view port.new.pass)
+            × ((view port.new.pass).units ≡ (view port.old.pass).units + (view tx.pass).units)) }
+        ensures gone { IfErr result (λ e. IfNone e.1 ((e.0 ≡ OfDisk) × ((view port.new.pass).units ≡ (view port.old.pass).units + (view tx.pass).units)
+            × ((before : ℕ) × (now : ℕ) × MadeBoth O.start (view port.old.pass) (view tx.pass) (Refused (TheCall.End tx.number tx.work.accesses) (cause_of before now e.0)) (view port.new.pass)))) }
+        ensures kept { IfErr result (λ e. IfSome e.1 (λ t. (e.0 ≢ OfDisk) × IsTx self.now O.start t × IsSameTx tx t × ((view t.pass).units ≡ (view tx.pass).units) × (view port.new.pass ≡ view port.old.pass)
+            × ((before : ℕ) × (now : ℕ) × Made O.start (view port.old.pass) (view tx.pass) (Refused (TheCall.End tx.number tx.work.accesses) (cause_of before now e.0)) (view t.pass)))) }
+
+        // A step is a commit looked at: those that were checked ahead are not looked at again.
+        ensures steps { MatchResult result (λ _. TookFew O.start (view port.new.pass).seen tx.checked.upto steps.old steps.new)
+            (λ e. MatchOption e.1 (TookFew O.start (view port.new.pass).seen tx.checked.upto steps.old steps.new) (λ t. TookFew O.start (view t.pass).seen tx.checked.upto steps.old steps.new)) }
+    {
+        self.tell_tx(port, &mut tx);
+        match self.end_in_turn(rt, &mut tx, steps) {
+            Ok(reply) => {
+                self.spend(port, tx);
+                Ok(reply)
+            }
+            Err(error) => match error {
+                CoreError::Disk => {
+                    self.spend(port, tx);
+                    Err((CoreError::Disk, None))
+                }
+                other => Err((other, Some(tx))),
+            },
+        }
+    }
+}

@@ -1,0 +1,129 @@
+// The calls on labels.
+ghost use Rattle.std.specs.Prelude.{◌≡◌, ℕ, ◌+◌, ◌<◌, [], ◌∷◌, Some, None, length, IfErr, IfOk, IfNone, IfSome, MatchOption};
+ghost use Rattle.iso_shared.specs.declared.entry.Call.TheVariants as TheCall;
+ghost use Rattle.iso_shared.specs.declared.entry.Entry.TheVariants.{Look, Post, Refused, Sweep};
+ghost use Rattle.iso_shared.specs.Ports.{IsPort, IsSameTx, IsTx, Made, MadeBoth};
+ghost use Rattle.iso_shared.specs.Told.{post_cause, posting_of_tx};
+ghost use Rattle.turn_lock.specs.Lists.{places};
+ghost use Rattle.turn_lock.specs.Pass.{view};
+
+use crate::guarded::{Origin, Posted};
+use crate::shared::{Port, Shared};
+use crate::told::Told;
+use crate::tx::Tx;
+use conflict_rule::Checked;
+use iso_disk::Disk;
+use iso_model::{LAST, Label};
+use std::marker::Brand;
+use std::snapshot::Snapshot;
+use std::sync::Wait;
+use tx_table::PostError;
+
+impl<D: Disk + Drop, O: Origin> Shared<D, O> {
+    /// Puts a transaction under a label, and its units go to the port. It hands the transaction back where the label is held,
+    /// and where memory is wanting.
+    pub fn post<R: Wait>(
+        &self,
+        rt: &R,
+        port: &mut Port<D, O>,
+        label: Label,
+        mut tx: Tx<D, O>,
+    ) -> Result<(), (PostError, Tx<D, O>)>
+        requires port { IsPort self.now port.old }
+        requires tx { IsTx self.now O.start tx }
+        ensures port { IsPort self.now port.new }
+        ensures ok { IfOk result (λ _. MadeBoth O.start (view port.old.pass) (view tx.pass) (Post tx.number label tx.work.accesses) (view port.new.pass)
+            × ((view port.new.pass).units ≡ (view port.old.pass).units + (view tx.pass).units)) }
+        ensures err { IfErr result (λ e. IsTx self.now O.start e.1 × IsSameTx tx e.1 × ((view e.1.pass).units ≡ (view tx.pass).units) × (view port.new.pass ≡ view port.old.pass)
+            × Made O.start (view port.old.pass) (view tx.pass) (Refused (TheCall.Post tx.number label tx.work.accesses) (post_cause e.0)) (view e.1.pass)) }
+    {
+        self.tell_tx(port, &mut tx);
+        let mut turn = self.lock.take(rt, &mut tx.pass);
+        let guarded = turn.value();
+        let before = Snapshot::of(&guarded.core);
+        let Tx {
+            mut pass,
+            number,
+            work,
+            checked,
+        } = tx;
+        let posted = Posted { number, work };
+        let name = Snapshot::of(&label);
+        let item = Snapshot::of(&posted);
+        match guarded.rack.post(label, posted) {
+            Ok(()) => {
+                self.give::<Brand>(&mut pass, turn, before, Told::Post(name, item, Ok(())));
+                self.take_back(port, pass);
+                Ok(())
+            }
+            Err((error, Posted { number, work })) => {
+                self.give::<Brand>(&mut pass, turn, before, Told::Post(name, item, Err(error)));
+                Err((
+                    error,
+                    Tx {
+                        pass,
+                        number,
+                        work,
+                        checked,
+                    },
+                ))
+            }
+        }
+    }
+
+    /// Takes the transaction under a label, with one of the port's units, and none exactly where the label is not held. It
+    /// takes no memory.
+    pub fn look<R: Wait>(&self, rt: &R, port: &mut Port<D, O>, label: &Label) -> Option<Tx<D, O>>
+        requires port { IsPort self.now port.old × (1 < (view port.old.pass).units) }
+        ensures port { IsPort self.now port.new }
+        ensures tx { IfSome result (λ t. IsTx self.now O.start t × ((view t.pass).seen ≡ (view port.new.pass).seen) × ((view t.pass).mine ≡ []) × ((view t.pass).units ≡ 1)) }
+        ensures found { IfSome result (λ t. Made O.start (view port.old.pass) (view port.old.pass) (Look label.now (Some (posting_of_tx t.number t.work))) (view port.new.pass)) }
+        ensures none { IfNone result (Made O.start (view port.old.pass) (view port.old.pass) (Look label.now None) (view port.new.pass)) }
+        ensures units { MatchOption result ((view port.new.pass).units ≡ (view port.old.pass).units) (λ _. (view port.new.pass).units + 1 ≡ (view port.old.pass).units) }
+    {
+        let mut turn = self.lock.take(rt, &mut port.pass);
+        let guarded = turn.value();
+        let before = Snapshot::of(&guarded.core);
+        let found = guarded.rack.look(label);
+        self.give::<Brand>(&mut port.pass, turn, before, Told::Look(label, &found));
+        match found {
+            Some(Posted { number, work }) => {
+                let pass = self.lock.split(&mut port.pass, Some(number), 1);
+                let upto = work.begun_at();
+                Some(Tx {
+                    pass,
+                    number,
+                    work,
+                    checked: Checked { upto, clash: None },
+                })
+            }
+            None => None,
+        }
+    }
+
+    /// Aborts the transaction that was put under its label first, and answers its number; none exactly where no label is held.
+    /// It takes no memory.
+    pub fn sweep<R: Wait>(&self, rt: &R, port: &mut Port<D, O>) -> Option<u64>
+        requires port { IsPort self.now port.old }
+        ensures port { IsPort self.now port.new }
+        ensures made { Made O.start (view port.old.pass) (view port.old.pass) (Sweep result) (view port.new.pass) }
+        ensures units { (view port.new.pass).units ≡ (view port.old.pass).units }
+        ensures all { (view port.new.pass).units ≡ LAST → (view port.new.pass).mine ≡ places (length (view port.new.pass).seen) }
+    {
+        let mut turn = self.lock.take(rt, &mut port.pass);
+        let guarded = turn.value();
+        let before = Snapshot::of(&guarded.core);
+        match guarded.rack.pop() {
+            Some(item) => {
+                let number = item.number;
+                guarded.core.abort(number);
+                self.give::<Brand>(&mut port.pass, turn, before, Told::Sweep(Some(number)));
+                Some(number)
+            }
+            None => {
+                self.give::<Brand>(&mut port.pass, turn, before, Told::Sweep(None));
+                None
+            }
+        }
+    }
+}

@@ -1,0 +1,23 @@
+//! A core and its labels, shared by threads behind a turn lock: one legal list for all of them.
+#![tactic(auto)]
+
+mod ahead;
+mod ending;
+mod entry;
+mod guarded;
+mod labels;
+mod shared;
+mod told;
+mod transactions;
+mod tx;
+mod upkeep;
+
+pub use entry::{Call, Cause, Entry, Numbers, Posting};
+pub use guarded::{Guarded, Origin, Posted};
+pub use shared::{Port, Shared};
+pub use tx::Tx;
+
+#[cfg(test)]
+mod answer_tests;
+#[cfg(test)]
+mod tests;

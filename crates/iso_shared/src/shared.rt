@@ -1,0 +1,227 @@
+// The shared device itself, and its ports.
+ghost use Rattle.std.specs.Prelude.{◌≡◌, ◌+◌, ◌<◌, ℕ, [], ◌∷◌, ◌++◌, Some, None, length, IfOk, IfErr, option_to_list};
+ghost use mathlib.Core.List.{IsPrefix};
+ghost use Rattle.turn_lock.specs.Lists.{longer, places, times};
+ghost use Rattle.turn_lock.specs.Lock.{lock_id, turn_number, turn_value};
+ghost use Rattle.turn_lock.specs.Numbers.{AreHeld, held_after};
+ghost use Rattle.turn_lock.specs.Pass.{view, HasNoTurn, HasTurn, IsAlike, IsSamePass};
+ghost use Rattle.turn_lock.specs.Views.{fresh, given_part, kept_part};
+ghost use Rattle.iso_shared.specs.Legal.{IsLegal, handed, needed, returned};
+ghost use Rattle.iso_shared.specs.Standing.{Holds, StandsAt, faults_of};
+ghost use Rattle.iso_shared.specs.States.{opened, state_at};
+ghost use Rattle.iso_shared.specs.Told.{told_entry};
+
+use crate::entry::Entry;
+use crate::guarded::{Guarded, Origin};
+use crate::told::Told;
+use crate::tx::Tx;
+use iso_core::Core;
+use iso_disk::Disk;
+use iso_model::{Geometry, LAST, Memory};
+use std::alloc::Global;
+use std::marker::PhantomData;
+use std::snapshot::Snapshot;
+use turn_lock::{Names, Pass, Turn, TurnLock};
+use tx_table::Rack;
+
+/// A core and its labels behind a turn lock. Each call of a core adds one entry to one legal list.
+#[derive(Drop)]
+pub struct Shared<D: Disk + Drop, O: Origin> {
+    pub(crate) lock: TurnLock<Guarded<D, O>>,
+    pub(crate) alloc: Global,
+    geometry: Geometry,
+}
+
+/// A caller's pass.
+#[derive(Drop)]
+pub struct Port<D: Disk + Drop, O: Origin> {
+    pub(crate) pass: Pass<Guarded<D, O>>,
+}
+
+impl<D: Disk + Drop, O: Origin> Shared<D, O> {
+    ghost use Rattle.iso_shared.specs.Ports.{IsOf, IsPort, IsSameTx, IsTx, IsTxOf};
+
+    /// A device over a core that is up and has no live transaction, and its first port, which has all units. It takes all
+    /// memory of the lock.
+    pub fn new(
+        alloc: Global,
+        core: Core<D>,
+    ) -> Result<(Shared<D, O>, Port<D, O>), (Memory, Core<D>)>
+        requires start { Holds D.state core (opened O.start) × (O.start.world.live ≡ []) }
+        ensures ok { IfOk result (λ r. IsPort r.0 r.1 × (view r.1.pass ≡ fresh) × (r.0.geometry ≡ O.start.world.geometry)) }
+        ensures err { IfErr result (λ e. e.1 ≡ core) }
+    {
+        let geometry = core.geometry();
+        let guarded = Guarded {
+            core,
+            rack: Rack::empty(alloc),
+            origin: PhantomData,
+        };
+        match TurnLock::new(alloc, guarded) {
+            Ok((lock, pass)) => Ok((
+                Shared {
+                    lock,
+                    alloc,
+                    geometry,
+                },
+                Port { pass },
+            )),
+            Err((memory, guarded)) => {
+                let Guarded {
+                    core,
+                    rack: _,
+                    origin: _,
+                } = guarded;
+                Err((memory, core))
+            }
+        }
+    }
+
+    /// The numbers of the image that the core had at the start. It waits for nobody.
+    pub fn geometry(&self) -> Geometry
+        ensures { result ≡ self.now.geometry }
+    {
+        self.geometry
+    }
+
+    // Gives the turn back, with the entry of what the call did.
+    pub(crate) fn give<N: Names<Entry>>(
+        &self,
+        pass: &mut Pass<Guarded<D, O>>,
+        turn: Turn<Guarded<D, O>>,
+        before: Snapshot<Core<D>>,
+        told: Told,
+    )
+        requires named { N.entry ≡ told_entry (faults_of D.state before.value) (faults_of D.state (turn_value turn).core) told }
+        requires lock { (pass.old.table_id ≡ lock_id self.now.lock) × HasTurn pass.old turn }
+        requires value { StandsAt D.state O.start (turn_value turn).core (turn_value turn).rack ((view pass.old).seen ++ N.entry ∷ []) }
+        requires held { AreHeld (needed N.entry) (view pass.old).holds × AreHeld (returned N.entry) (view pass.old).holds }
+        ensures lock { (pass.new.table_id ≡ lock_id self.now.lock) × HasNoTurn pass.new }
+        ensures seen { (view pass.new).seen ≡ (view pass.old).seen ++ N.entry ∷ [] }
+        ensures mine { (view pass.new).mine ≡ (view pass.old).mine ++ length (view pass.old).seen ∷ [] }
+        ensures holds { (view pass.new).holds ≡ held_after handed returned N.entry (view pass.old).holds }
+        ensures units { (view pass.new).units ≡ (view pass.old).units }
+        ensures legal { IsLegal O.start (view pass.new).seen }
+    {
+        let _ = before;
+        let _ = told;
+        self.lock.give::<N>(pass, turn);
+    }
+
+    // Tells one pass what another has seen, by a note without a unit.
+    pub(crate) fn tell(&self, from: &mut Pass<Guarded<D, O>>, to: &mut Pass<Guarded<D, O>>)
+        requires from { IsOf self.now.lock from.old }
+        requires to { IsOf self.now.lock to.old }
+        ensures from { IsOf self.now.lock from.new × (view from.new ≡ view from.old) }
+        ensures to { IsOf self.now.lock to.new }
+        ensures same { IsAlike (view to.old) (view to.new) }
+        ensures told { IsPrefix (view from.old).seen (view to.new).seen }
+        ensures begins { IsPrefix (view to.old).seen (view to.new).seen }
+    {
+        let note = self.lock.split(from, None, 0);
+        self.lock.join(to, note);
+    }
+
+    /// Another port, which gets these units.
+    pub fn port(&self, from: &mut Port<D, O>, units: u64) -> Port<D, O>
+        requires from { IsPort self.now from.old }
+        requires units { (0 < units) × (units < (view from.old.pass).units) }
+        ensures from { IsPort self.now from.new × (view from.new.pass ≡ kept_part None units (view from.old.pass)) }
+        ensures new { IsPort self.now result × (view result.pass ≡ given_part None units (view from.old.pass)) }
+    {
+        Port {
+            pass: self.lock.split(&mut from.pass, None, units),
+        }
+    }
+
+    /// Takes another port into this one, with its units.
+    pub fn join(&self, into: &mut Port<D, O>, from: Port<D, O>)
+        requires into { IsPort self.now into.old }
+        requires from { IsPort self.now from }
+        ensures into { IsPort self.now into.new }
+        ensures units { (view into.new.pass).units ≡ (view into.old.pass).units + (view from.pass).units }
+        ensures seen { IsPrefix (view into.old.pass).seen (view into.new.pass).seen × IsPrefix (view from.pass).seen (view into.new.pass).seen }
+        ensures places { (p : ℕ) → times p (view into.new.pass).mine ≡ times p (view into.old.pass).mine + times p (view from.pass).mine }
+    {
+        let Port { pass } = from;
+        self.lock.join(&mut into.pass, pass);
+    }
+
+    /// Tells a transaction what a port has seen. It makes no entry, and waits for nobody.
+    pub fn tell_tx(&self, port: &mut Port<D, O>, tx: &mut Tx<D, O>)
+        requires port { IsPort self.now port.old }
+        requires tx { IsTx self.now O.start tx.old }
+        ensures port { IsPort self.now port.new × (view port.new.pass ≡ view port.old.pass) }
+        ensures tx { IsTx self.now O.start tx.new }
+        ensures same { IsSameTx tx.old tx.new × (tx.new.work ≡ tx.old.work) × IsAlike (view tx.old.pass) (view tx.new.pass) }
+        ensures told { IsPrefix (view port.old.pass).seen (view tx.new.pass).seen }
+        ensures begins { IsPrefix (view tx.old.pass).seen (view tx.new.pass).seen }
+    {
+        self.tell(&mut port.pass, &mut tx.pass);
+    }
+
+    /// Tells a port what a transaction has seen. It makes no entry, and waits for nobody.
+    pub fn tell_port(&self, tx: &mut Tx<D, O>, port: &mut Port<D, O>)
+        requires tx { IsTx self.now O.start tx.old }
+        requires port { IsPort self.now port.old }
+        ensures tx { IsTx self.now O.start tx.new × (view tx.new.pass ≡ view tx.old.pass) }
+        ensures same { IsSameTx tx.old tx.new × (tx.new.work ≡ tx.old.work) }
+        ensures port { IsPort self.now port.new }
+        ensures alike { IsAlike (view port.old.pass) (view port.new.pass) }
+        ensures told { IsPrefix (view tx.old.pass).seen (view port.new.pass).seen }
+        ensures begins { IsPrefix (view port.old.pass).seen (view port.new.pass).seen }
+    {
+        self.tell(&mut tx.pass, &mut port.pass);
+    }
+
+    // Joins the pass of a transaction that is no longer its own into a port.
+    pub(crate) fn take_back(&self, port: &mut Port<D, O>, pass: Pass<Guarded<D, O>>)
+        requires port { IsPort self.now port.old }
+        requires pass { IsOf self.now.lock pass }
+        ensures port { IsPort self.now port.new }
+        ensures units { (view port.new.pass).units ≡ (view port.old.pass).units + (view pass).units }
+        ensures seen { (view port.new.pass).seen ≡ longer (view port.old.pass).seen (view pass).seen }
+        ensures places { (p : ℕ) → times p (view port.new.pass).mine ≡ times p (view port.old.pass).mine + times p (view pass).mine }
+    {
+        self.lock.join(&mut port.pass, pass);
+    }
+
+    // Spends a transaction that has ended: its pass goes to a port.
+    pub(crate) fn spend(&self, port: &mut Port<D, O>, tx: Tx<D, O>)
+        requires port { IsPort self.now port.old }
+        requires pass { IsOf self.now.lock tx.pass }
+        ensures port { IsPort self.now port.new }
+        ensures units { (view port.new.pass).units ≡ (view port.old.pass).units + (view tx.pass).units }
+        ensures seen { (view port.new.pass).seen ≡ longer (view port.old.pass).seen (view tx.pass).seen }
+        ensures places { (p : ℕ) → times p (view port.new.pass).mine ≡ times p (view port.old.pass).mine + times p (view tx.pass).mine }
+    {
+        let Tx {
+            pass,
+            number: _,
+            work: _,
+            checked: _,
+        } = tx;
+        self.take_back(port, pass);
+    }
+
+    /// Ends the device, and gives the core back, which stands for the whole list. The port has all units. It waits for nobody.
+    pub fn close(self, port: Port<D, O>) -> Core<D>
+        requires port { IsPort self port × ((view port.pass).units ≡ LAST) }
+        ensures legal { IsLegal O.start (view port.pass).seen }
+        ensures core { Holds D.state result (state_at O.start (view port.pass).seen) }
+        ensures all { (view port.pass).mine ≡ places (length (view port.pass).seen) }
+    {
+        let Shared {
+            lock,
+            alloc: _,
+            geometry: _,
+        } = self;
+        let Port { pass } = port;
+        let Guarded {
+            core,
+            rack: _,
+            origin: _,
+        } = lock.close(pass);
+        core
+    }
+}

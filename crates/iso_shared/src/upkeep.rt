@@ -1,0 +1,78 @@
+// The calls that need no transaction.
+ghost use Rattle.std.specs.Prelude.{◌≡◌, ℕ, ◌<◌, length};
+ghost use Rattle.iso_shared.specs.declared.entry.Entry.TheVariants.{Stat as OfStat};
+ghost use Rattle.iso_shared.specs.Ports.{IsPort, Made};
+ghost use Rattle.iso_shared.specs.Told.{compact_entry, numbers_of, trim_entry, upgrade_entry};
+ghost use Rattle.turn_lock.specs.Pass.{view};
+
+use crate::guarded::Origin;
+use crate::shared::{Port, Shared};
+use crate::told::Told;
+use iso_core::Stat;
+use iso_disk::Disk;
+use iso_model::CoreError;
+use std::marker::Brand;
+use std::snapshot::Snapshot;
+use std::sync::Wait;
+
+impl<D: Disk + Drop, O: Origin> Shared<D, O> {
+    /// Lets the versions go that no transaction can be shown any more, and answers the floor.
+    pub fn trim<R: Wait>(&self, rt: &R, port: &mut Port<D, O>) -> Result<u64, CoreError>
+        requires port { IsPort self.now port.old }
+        ensures port { IsPort self.now port.new }
+        ensures units { (view port.new.pass).units ≡ (view port.old.pass).units }
+        ensures made { (before : ℕ) × (now : ℕ) × Made O.start (view port.old.pass) (view port.old.pass) (trim_entry before now result) (view port.new.pass) }
+    {
+        let mut turn = self.lock.take(rt, &mut port.pass);
+        let guarded = turn.value();
+        let before = Snapshot::of(&guarded.core);
+        let result = guarded.core.trim();
+        self.give::<Brand>(&mut port.pass, turn, before, Told::Trim(result));
+        result
+    }
+
+    /// Moves the base to the floor, in the other half, and answers the floor.
+    pub fn compact<R: Wait>(&self, rt: &R, port: &mut Port<D, O>) -> Result<u64, CoreError>
+        requires port { IsPort self.now port.old }
+        ensures port { IsPort self.now port.new }
+        ensures units { (view port.new.pass).units ≡ (view port.old.pass).units }
+        ensures made { (before : ℕ) × (now : ℕ) × Made O.start (view port.old.pass) (view port.old.pass) (compact_entry before now result) (view port.new.pass) }
+    {
+        let mut turn = self.lock.take(rt, &mut port.pass);
+        let guarded = turn.value();
+        let before = Snapshot::of(&guarded.core);
+        let result = guarded.core.compact();
+        self.give::<Brand>(&mut port.pass, turn, before, Told::Compact(result));
+        result
+    }
+
+    /// Does so with an image of form 2, in which transactions of either mode may begin.
+    pub fn upgrade<R: Wait>(&self, rt: &R, port: &mut Port<D, O>) -> Result<u64, CoreError>
+        requires port { IsPort self.now port.old }
+        ensures port { IsPort self.now port.new }
+        ensures units { (view port.new.pass).units ≡ (view port.old.pass).units }
+        ensures made { (before : ℕ) × (now : ℕ) × Made O.start (view port.old.pass) (view port.old.pass) (upgrade_entry before now result) (view port.new.pass) }
+    {
+        let mut turn = self.lock.take(rt, &mut port.pass);
+        let guarded = turn.value();
+        let before = Snapshot::of(&guarded.core);
+        let result = guarded.core.upgrade();
+        self.give::<Brand>(&mut port.pass, turn, before, Told::Upgrade(result));
+        result
+    }
+
+    /// The numbers of the image and of its transactions.
+    pub fn stat<R: Wait>(&self, rt: &R, port: &mut Port<D, O>) -> Stat
+        requires port { IsPort self.now port.old }
+        ensures port { IsPort self.now port.new }
+        ensures units { (view port.new.pass).units ≡ (view port.old.pass).units }
+        ensures made { Made O.start (view port.old.pass) (view port.old.pass) (OfStat (numbers_of result)) (view port.new.pass) }
+    {
+        let mut turn = self.lock.take(rt, &mut port.pass);
+        let guarded = turn.value();
+        let before = Snapshot::of(&guarded.core);
+        let stat = guarded.core.stat();
+        self.give::<Brand>(&mut port.pass, turn, before, Told::Stat(stat));
+        stat
+    }
+}
