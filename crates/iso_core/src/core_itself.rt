@@ -138,6 +138,7 @@ impl<D: Disk> Core<D> {
         ensures work { work.new ≡ record work.old { settled = work.new.settled } }
         ensures steps { (W : World) (t : Live) → StandsFor D.state self.old W up → IsTx W tx t → IsCheckedOf W t checked.now
             → steps.new ≤ steps.old + (last W.history - checked.now.upto) }
+        ensures no_steps { (W : World) (lost : List Commit) → StandsFor D.state self.old W (down lost) → steps.new ≡ steps.old }
         ensures told { OnOk result (StaysTold (D.state (disk_of self.old)) (D.state (disk_of self.new))) }
         ensures cause { BlamesDisk (D.state (disk_of self.old)).faults (D.state (disk_of self.new)).faults result }
     {
@@ -182,8 +183,10 @@ impl<D: Disk> Core<D> {
         ensures down { (W : World) (lost : List Commit) → StandsFor D.state self.old W (down lost) → (result ≡ Err CoreError.Down) × (self.new ≡ self.old) }
         ensures lost { (W : World) → StandsFor D.state self.old W up → IsErrOf result CoreError.Disk → StandsFor D.state self.new W (down []) }
         ensures moments { (W : World) → StandsFor D.state self.old W up → LeavesOnly (D.state (disk_of self.old)) (D.state (disk_of self.new)) (ShowsLast W) }
+        ensures unworn { (W : World) (answer : Reply) → StandsFor D.state self.old W up → IsErrOf result CoreError.Disk → (switch_step W W.geometry.form answer).0 ≡ answer }
         ensures worn { IfErr result (λ e. e ≢ CoreError.Disk → e ≢ CoreError.Memory → disk_of self.new ≡ disk_of self.old) }
         ensures told { OnOk result (StaysTold (D.state (disk_of self.old)) (D.state (disk_of self.new))) }
+        ensures still_told { IfErr result (λ e. e ≢ CoreError.Disk → StaysTold (D.state (disk_of self.old)) (D.state (disk_of self.new))) }
         ensures cause { BlamesDisk (D.state (disk_of self.old)).faults (D.state (disk_of self.new)).faults result }
     {
         if self.kept.down {
@@ -203,8 +206,10 @@ impl<D: Disk> Core<D> {
         ensures down { (W : World) (lost : List Commit) → StandsFor D.state self.old W (down lost) → (result ≡ Err CoreError.Down) × (self.new ≡ self.old) }
         ensures lost { (W : World) → StandsFor D.state self.old W up → IsErrOf result CoreError.Disk → StandsFor D.state self.new W (down []) }
         ensures moments { (W : World) → StandsFor D.state self.old W up → LeavesOnly (D.state (disk_of self.old)) (D.state (disk_of self.new)) (ShowsLast W) }
+        ensures unworn { (W : World) (answer : Reply) → StandsFor D.state self.old W up → IsErrOf result CoreError.Disk → (switch_step W 2 answer).0 ≡ answer }
         ensures worn { IfErr result (λ e. e ≢ CoreError.Disk → e ≢ CoreError.Memory → disk_of self.new ≡ disk_of self.old) }
         ensures told { OnOk result (StaysTold (D.state (disk_of self.old)) (D.state (disk_of self.new))) }
+        ensures still_told { IfErr result (λ e. e ≢ CoreError.Disk → StaysTold (D.state (disk_of self.old)) (D.state (disk_of self.new))) }
         ensures cause { BlamesDisk (D.state (disk_of self.old)).faults (D.state (disk_of self.new)).faults result }
     {
         if self.kept.down {

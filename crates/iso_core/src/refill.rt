@@ -33,6 +33,7 @@ pub(crate) fn refill<D: Disk>(
         → OnOk result ((c : List ℕ) → (D.state disk.new).now c → IsHeld (in_form plan.now.geometry.form g) (refilled g plan.now.generation plan.now.base x) c) }
     ensures settled { OnOk result (IsSettled (D.state disk.new)) }
     ensures told { OnOk result (StaysTold (D.state disk.old) (D.state disk.new)) }
+    ensures still_told { IsErrOf result SwitchError.Memory → StaysTold (D.state disk.old) (D.state disk.new) }
     ensures closed { IsErrOf result SwitchError.Memory → IsSettled (D.state disk.new) }
     ensures held { (g : Geometry) (x : Half) (other : ℕ) → x.at + other ≡ 1 → to.now ≡ place_of g other → Copies g x from.now plan.now → ((c : List ℕ) → (D.state disk.old).now c → IsHeld g x c)
         → IsErrOf result SwitchError.Memory → (c : List ℕ) → (D.state disk.new).now c → IsHeld g x c }

@@ -34,7 +34,9 @@ pub(crate) fn switch_half<D: Disk>(
     ensures lost { (W : World) → AreOf (D.state disk.old) kept.old W up → IsForm W form → IsErrOf result CoreError.Disk → AreOf (D.state disk.new) kept.new W (down []) }
     ensures moments { (W : World) → AreOf (D.state disk.old) kept.old W up → IsForm W form → LeavesOnly (D.state disk.old) (D.state disk.new) (ShowsLast W) }
     ensures worn { IfErr result (λ e. e ≢ CoreError.Disk → e ≢ CoreError.Memory → disk.new ≡ disk.old) }
+    ensures unworn { (W : World) (answer : Reply) → AreOf (D.state disk.old) kept.old W up → IsForm W form → IsErrOf result CoreError.Disk → (switch_step W form answer).0 ≡ answer }
     ensures told { OnOk result (StaysTold (D.state disk.old) (D.state disk.new)) }
+    ensures still_told { IfErr result (λ e. e ≢ CoreError.Disk → StaysTold (D.state disk.old) (D.state disk.new)) }
     ensures cause { BlamesDisk (D.state disk.old).faults (D.state disk.new).faults result }
 {
     if kept.generation >= LAST {

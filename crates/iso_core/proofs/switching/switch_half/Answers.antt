@@ -7,6 +7,7 @@ use Rattle.iso_image.specs.declared.places.HalfPlace.{HalfPlace}
 use Rattle.iso_image.specs.Half.{IsHeld, half_of_world}
 use Rattle.iso_model.specs.declared.access.Geometry.{Geometry}
 use Rattle.iso_model.specs.declared.limits.TheConstants.{LAST}
+use Rattle.iso_model.specs.declared.script.Reply.{Reply}
 use Rattle.iso_model.specs.Geometry.{image_size, log_place}
 use Rattle.iso_model.specs.Step.{after_switch}
 use Rattle.iso_model.specs.World.{World, floor}
@@ -193,6 +194,11 @@ returns-in-Err-Disk-clause-moments g c W of fits =
     let run = c.refill.ensures.moments W.geometry (half_of_world W kept.half) (1 - kept.half) (both kept W c.args.form of.kept_of fits) there copied of.images.each in
     let shown = weakened run (λ image x. shows_both kept W c.args.form of.kept_of fits next image (elim x [ inl before ↦ inl before | inr after ↦ inr (new_half kept W c.args.form of.kept_of fits plan refl refl to image after) ])) in
     shown
+
+pub returns-in-Err-Disk-clause-unworn : goal.returns-in-Err-Disk-clause-unworn
+returns-in-Err-Disk-clause-unworn g c W answer of fits failed =
+    let fresh : W.generation ≢ LAST = λ e. absurd (omega (arith, c.if-kept-ge-LAST.false, of.kept_of.keeps.generation, e)) in
+    ap (λ (x : Reply × World). x.0) (is_switched W c.args.form answer fresh)
 
 pub returns-in-Err-Disk-clause-lost : goal.returns-in-Err-Disk-clause-lost
 returns-in-Err-Disk-clause-lost g c W of fits failed =

@@ -38,3 +38,9 @@ returns-clause-lost g c W of = c.switch_half.ensures.lost W of (own_form W c.arg
 
 pub returns-clause-moments : goal.returns-clause-moments
 returns-clause-moments g c W of = c.switch_half.ensures.moments W of (own_form W c.args.self.now.kept.geometry.form of.kept_of.world (ap (λ (h : Geometry). h.form) of.kept_of.keeps.geometry))
+
+pub returns-clause-unworn : goal.returns-clause-unworn
+returns-clause-unworn g c W answer of failed =
+    let same = ap (λ (h : Geometry). h.form) of.kept_of.keeps.geometry in
+    subst (λ (n : ℕ). (switch_step W n answer).0 ≡ answer) same
+    (c.switch_half.ensures.unworn W answer of (own_form W c.args.self.now.kept.geometry.form of.kept_of.world same) failed)
