@@ -39,7 +39,7 @@ use Rattle.iso_shared.specs.declared.entry.Entry.{Entry}
 use Rattle.iso_shared.specs.declared.entry.Entry.TheVariants as entry
 use Rattle.iso_shared.specs.Legal.{Answers, IsCall, IsOfCore, IsUp, MayHaveMade, MayRefuse, MayWantMemory, answer_to, end_answer, numbers_at, reply_of}
 use Rattle.iso_shared.specs.Standing.{Holds, faults_of, standing_of}
-use Rattle.iso_shared.specs.States.{State, after, after_end, after_other, is_live, live_of, tells_after, tx_of, with_world}
+use Rattle.iso_shared.specs.States.{State, after, after_end, is_live, live_of, tx_of, with_world}
 use Rattle.iso_shared.specs.Told.{begin_entry, cause_of, compact_entry, end_entry, entry_of, fetch_entry, numbers_of, recent_entry, trim_entry, upgrade_entry}
 
 -- the transaction of this number is one of those that are live, where it is
@@ -94,21 +94,8 @@ module _ {D : Type 0} (disk : D → DiskState) where
   refused_down S old new b n c made r lost h is args core refused same =
       subst (λ v. Did S new (entry_of b n c made v)) (sym refused) ((args, (core, ap (λ o. is_some o) is)), subst (λ v. Holds disk v S) (sym same) h)
 
-  told_still : (c : Call) (tells : Bool) → tells_after c tells ≡ true → tells ≡ true
-  told_still (call.Begin named) tells is = is
-  told_still (call.Fetch k block) tells is = is
-  told_still (call.End k accesses) tells is = is
-  told_still call.Trim tells is = is
-  told_still call.Compact tells is = absurd (cc is)
-  told_still call.Upgrade tells is = absurd (cc is)
-  told_still (call.Post k label accesses) tells is = is
-  told_still (call.Recent k) tells is = is
-
-  pub holds_other : (S : State) (new : Core D) (c : Call) → Holds disk new S → Holds disk new (after_other S c)
-  holds_other S new c h = record { world = h.world; counts = h.counts; told = λ up is. h.told up (told_still c S.tells is) }
-
   -- a core that is up refuses as the rules say, or for want of memory
-  pub refused_up : (S : State) (new : Core D) (b n : ℕ) (c : Call) (e : CoreError) → S.lost ≡ None → IsCall S.world c → MayWantMemory S c → Refuses (answer_to S.world c) e → Holds disk new (after_other S c)
+  pub refused_up : (S : State) (new : Core D) (b n : ℕ) (c : Call) (e : CoreError) → S.lost ≡ None → IsCall S.world c → MayWantMemory S c → Refuses (answer_to S.world c) e → Holds disk new S
       → Did S new (entry.Refused c (cause_of b n e))
   refused_up S new b n c error.Down is args memory never h = absurd (⊎_elim (λ (x : error.Down ≡ error.Memory). cc x) (λ (x : None ≡ Some (answer_to S.world c)). cc x) never)
   refused_up S new b n c error.TooManyTx is args memory so h = ((args, (is, ⊎_elim (λ (x : error.TooManyTx ≡ error.Memory). absurd (cc x)) (λ (x : Some reply.TooManyTx ≡ Some (answer_to S.world c)). cc x) so)), h)
@@ -137,7 +124,7 @@ module _ {D : Type 0} (disk : D → DiskState) where
         (is, so.0, ap (λ m. (begin_step S.world unattached m).0) so.1 ∙ so.2),
         holds_up S old new (after_begin S.world unattached t.mode) is h (subst (λ m. StandsFor disk new (after_begin S.world unattached m) up) (sym so.1) so.3) (same_faults old new same) (same_told old new same),
       )
-      up_by (Err e) is so never kept = refused_up S new b n (call.Begin named) e is tt is never (holds_other S new (call.Begin named) (subst (λ v. Holds disk v S) (sym kept) h))
+      up_by (Err e) is so never kept = refused_up S new b n (call.Begin named) e is tt is never (subst (λ v. Holds disk v S) (sym kept) h)
 
   pub did_abort : (S : State) (old new : Core D) (tx : ℕ) → Holds disk old S → is_live tx S.world.live ≡ true
       → ((W : World) (standing : Standing) (t : Live) → StandsFor disk old W standing → IsTx W tx t → StandsFor disk new (after_leaving W t) standing)

@@ -35,7 +35,7 @@ use Rattle.iso_shared.specs.Ports.{IsAhead, IsOwn}
 use Rattle.iso_shared.specs.Standing.{Holds, IsOn, faults_of, standing_of}
 use Rattle.iso_shared.specs.States.{State, after, after_end, is_live, live_of, lost_commit, tx_of, with_world}
 use Rattle.iso_shared.specs.Told.{end_entry}
-use Rattle.iso_shared.proofs.Cores.{Did, by_lost, holds_other, holds_up, refused_down, refused_up}
+use Rattle.iso_shared.proofs.Cores.{Did, by_lost, holds_up, refused_down, refused_up}
 
 same_reply : (r : EndReply) → calls.reply_of r ≡ reply_of r
 same_reply (Committed n) = refl
@@ -135,7 +135,7 @@ module _ {D : Type 0} (disk : D → DiskState) (S : State) (old new : Core D) (t
       others : (e : CoreError) → S.lost ≡ None → e ≢ error.Disk → Refuses (end_step S.world (tx_of S.world tx accesses)).0 e → StandsFor disk new S.world up → disk_of new ≡ disk_of old
           → Did disk S new (end_entry (faults_of disk old) (faults_of disk new) tx accesses (Err e))
       others e is other so stands equal =
-          refused_up disk S new (faults_of disk old) (faults_of disk new) (call.End tx accesses) e is made is so (holds_other disk S new (call.End tx accesses) (holds_up disk S old new S.world is h stands (same_count equal) (same_tells equal)))
+          refused_up disk S new (faults_of disk old) (faults_of disk new) (call.End tx accesses) e is made is so (holds_up disk S old new S.world is h stands (same_count equal) (same_tells equal))
         where
           same_count : disk_of new ≡ disk_of old → faults_of disk old ≤ faults_of disk new
           same_count equal = let e : faults_of disk new ≡ faults_of disk old = ap (λ d. (disk d).faults) equal in omega arith

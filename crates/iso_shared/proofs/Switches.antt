@@ -19,7 +19,7 @@ use Rattle.iso_shared.specs.declared.entry.Entry.{Entry}
 use Rattle.iso_shared.specs.declared.entry.Entry.TheVariants as entry
 use Rattle.iso_shared.specs.Legal.{Answers, IsUp, switch_answer}
 use Rattle.iso_shared.specs.Standing.{Holds, faults_of, standing_of}
-use Rattle.iso_shared.specs.States.{State, after, after_other, with_world}
+use Rattle.iso_shared.specs.States.{State, after, with_world}
 use Rattle.iso_shared.specs.Told.{cause_of, compact_entry, entry_of, upgrade_entry}
 use Rattle.iso_shared.proofs.Cores.{Did, by_lost, holds_up, refused_down, refused_up}
 use Rattle.iso_shared.proofs.Ends.{by_disk}
@@ -32,7 +32,9 @@ module _ {D : Type 0} (disk : D → DiskState) (S : State) (old new : Core D) (f
     pub same : StandsFor disk old S.world up → IfErr r (λ e. e ≢ error.Disk → StandsFor disk new S.world up)
     pub fallen : (lost : List Commit) → StandsFor disk old S.world (down lost) → (r ≡ Err error.Down) × (new ≡ old)
     pub lost : StandsFor disk old S.world up → IsErrOf r error.Disk → StandsFor disk new S.world (down [])
+    pub unworn : StandsFor disk old S.world up → IsErrOf r error.Disk → switch_answer S.world form ≡ reply.Done
     pub told : OnOk r (StaysTold (disk (disk_of old)) (disk (disk_of new)))
+    pub still : IfErr r (λ e. e ≢ error.Disk → StaysTold (disk (disk_of old)) (disk (disk_of new)))
     pub cause : BlamesDisk (faults_of disk old) (faults_of disk new) r
 
   -- the state after an answer, after a fault, and after another refusal
@@ -42,19 +44,11 @@ module _ {D : Type 0} (disk : D → DiskState) (S : State) (old new : Core D) (f
   faulted : Holds disk old S → StandsFor disk new S.world (down []) → faults_of disk old ≤ faults_of disk new → Holds disk new (record S { lost = Some []; faults = faults_of disk new })
   faulted h stands later = record { world = stands; counts = omega arith; told = λ up. absurd (cc up) }
 
-  untold : Holds disk old S → S.lost ≡ None → StandsFor disk new S.world up → faults_of disk old ≤ faults_of disk new → Holds disk new (record S { tells = false })
-  untold h is stands later =
-      let counts : S.faults ≤ faults_of disk old = h.counts in record {
-        world = subst (λ v. StandsFor disk new S.world (standing_of v)) (sym is) stands;
-        counts = omega arith;
-        told = λ up tells. absurd (cc tells);
-      }
-
   module _ (c : Call) (made : ℕ → Entry) where
     by_answer : (r : Result ℕ CoreError) → Holds disk old S → S.lost ≡ None → StandsFor disk old S.world up → Switches r
         → ((n : ℕ) → n ≡ floor S.world → switch_answer S.world form ≡ reply.Done → Holds disk new (with_world S (after_switch S.world form)) → Did disk S new (made n))
-        → ((e : CoreError) → e ≢ error.Disk → Refuses (switch_answer S.world form) e → Holds disk new (record S { tells = false }) → Did disk S new (entry.Refused c (cause_of (faults_of disk old) (faults_of disk new) e)))
-        → (BlamesDisk {T = ℕ} (faults_of disk old) (faults_of disk new) (Err error.Disk) → Holds disk new (record S { lost = Some []; faults = faults_of disk new }) → Did disk S new (entry.Refused c (cause_of (faults_of disk old) (faults_of disk new) error.Disk)))
+        → ((e : CoreError) → e ≢ error.Disk → Refuses (switch_answer S.world form) e → Holds disk new S → Did disk S new (entry.Refused c (cause_of (faults_of disk old) (faults_of disk new) e)))
+        → (BlamesDisk {T = ℕ} (faults_of disk old) (faults_of disk new) (Err error.Disk) → switch_answer S.world form ≡ reply.Done → Holds disk new (record S { lost = Some []; faults = faults_of disk new }) → Did disk S new (entry.Refused c (cause_of (faults_of disk old) (faults_of disk new) error.Disk)))
         → Did disk S new (entry_of (faults_of disk old) (faults_of disk new) c made r)
     by_answer (Ok n) h is stands so done other fault =
         let r = so.switched stands in
@@ -63,8 +57,8 @@ module _ {D : Type 0} (disk : D → DiskState) (S : State) (old new : Core D) (f
         let later : faults_of disk old ≤ faults_of disk new = so.cause.later in
         ⊎_elim
         (λ (d : e ≡ error.Disk). subst (λ v. Did disk S new (entry.Refused c (cause_of (faults_of disk old) (faults_of disk new) v))) (sym d)
-        (fault (subst (λ v. BlamesDisk {T = ℕ} (faults_of disk old) (faults_of disk new) (Err v)) d so.cause) (faulted h (so.lost stands (ap Err d)) later)))
-        (λ (n : e ≢ error.Disk). other e n (⊎_elim (λ (d : e ≡ error.Disk). absurd (n d)) (λ (x : Refuses (switch_answer S.world form) e). x) (so.refused stands)) (untold h is (so.same stands n) later))
+        (fault (subst (λ v. BlamesDisk {T = ℕ} (faults_of disk old) (faults_of disk new) (Err v)) d so.cause) (so.unworn stands (ap Err d)) (faulted h (so.lost stands (ap Err d)) later)))
+        (λ (n : e ≢ error.Disk). other e n (⊎_elim (λ (d : e ≡ error.Disk). absurd (n d)) (λ (x : Refuses (switch_answer S.world form) e). x) (so.refused stands)) (holds_up disk S old new S.world is h (so.same stands n) later (so.still n)))
         (by_disk e)
 
 pub did_compact : {D : Type 0} → (disk : D → DiskState) (S : State) (old new : Core D) (r : Result ℕ CoreError) → Holds disk old S → Switches disk S old new S.world.geometry.form r → Did disk S new (compact_entry (faults_of disk old) (faults_of disk new) r)
@@ -73,7 +67,7 @@ did_compact disk S old new r h so =
     (λ is stands. by_answer disk S old new S.world.geometry.form call.Compact (λ n. entry.Compact n) r h is stands so
     (λ n at answer holds. ((is, at, answer), holds))
     (λ e other refuses holds. refused_up disk S new (faults_of disk old) (faults_of disk new) call.Compact e is tt is refuses holds)
-    (λ cause holds. ((tt, (is, h.counts, cause.failed refl, cause.later)), holds)))
+    (λ cause unworn holds. ((tt, ((is, unworn), h.counts, cause.failed refl, cause.later)), holds)))
     (λ lost is stands. let f = so.fallen lost stands in refused_down disk S old new (faults_of disk old) (faults_of disk new) call.Compact (λ n. entry.Compact n) r lost h is tt tt f.0 f.1)
 
 pub did_upgrade : {D : Type 0} → (disk : D → DiskState) (S : State) (old new : Core D) (r : Result ℕ CoreError) → Holds disk old S → Switches disk S old new 2 r → Did disk S new (upgrade_entry (faults_of disk old) (faults_of disk new) r)
@@ -82,5 +76,5 @@ did_upgrade disk S old new r h so =
     (λ is stands. by_answer disk S old new 2 call.Upgrade (λ n. entry.Upgrade n) r h is stands so
     (λ n at answer holds. ((is, at, answer), holds))
     (λ e other refuses holds. refused_up disk S new (faults_of disk old) (faults_of disk new) call.Upgrade e is tt is refuses holds)
-    (λ cause holds. ((tt, (is, h.counts, cause.failed refl, cause.later)), holds)))
+    (λ cause unworn holds. ((tt, ((is, unworn), h.counts, cause.failed refl, cause.later)), holds)))
     (λ lost is stands. let f = so.fallen lost stands in refused_down disk S old new (faults_of disk old) (faults_of disk new) call.Upgrade (λ n. entry.Upgrade n) r lost h is tt tt f.0 f.1)

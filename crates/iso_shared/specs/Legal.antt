@@ -92,14 +92,14 @@ MayWantMemory S call.Upgrade = IsUp S
 MayWantMemory S (call.Post n label accesses) = IsFree label S
 MayWantMemory S (call.Recent n) = IsUp S
 
--- where the disk may fail: an end calls it for a commit alone
+-- where the disk may fail: an end calls it for a commit alone, and a switch where it is not worn
 abbrev pub MayFail : State → Call → Type 0
 MayFail S (call.Begin named) = ⊥
 MayFail S (call.Fetch n block) = IsUp S
 MayFail S (call.End n accesses) = IsUp S × (end_answer S.world n accesses ≡ reply.Committed (last S.world.history + 1))
 MayFail S call.Trim = ⊥
-MayFail S call.Compact = IsUp S
-MayFail S call.Upgrade = IsUp S
+MayFail S call.Compact = IsUp S × (switch_answer S.world S.world.geometry.form ≡ reply.Done)
+MayFail S call.Upgrade = IsUp S × (switch_answer S.world 2 ≡ reply.Done)
 MayFail S (call.Post n label accesses) = ⊥
 MayFail S (call.Recent n) = ⊥
 

@@ -33,7 +33,7 @@ pub record State : Type 0 where
   pub lost : Option (List Commit)
   -- the largest count of faults that an entry carried
   pub faults : ℕ
-  -- whether the disk still tells its bytes
+  -- whether the disk tells its bytes
   pub tells : Bool
 
 abbrev pub opened : Start → State
@@ -88,19 +88,10 @@ after_fault S call.Upgrade k = record S { lost = Some []; faults = k }
 after_fault S (call.Post n label accesses) k = record S { faults = k }
 after_fault S (call.Recent n) k = record S { faults = k }
 
--- whether the disk is known to tell its bytes after the call was refused
-abbrev pub tells_after : Call → Bool → Bool
-tells_after call.Compact tells = false
-tells_after call.Upgrade tells = false
-tells_after c tells = tells
-
-abbrev pub after_other : State → Call → State
-after_other S c = record S { tells = tells_after c S.tells }
-
+-- a refusal changes nothing, but for a fault
 abbrev pub after_refusal : State → Call → Cause → State
-after_refusal S c cause.Down = S
 after_refusal S c (cause.Disk before now) = after_fault S c now
-after_refusal S c why = after_other S c
+after_refusal S c why = S
 
 abbrev pub after_sweep : State → Option ℕ → State
 after_sweep S None = S

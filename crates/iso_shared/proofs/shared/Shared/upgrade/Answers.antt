@@ -29,7 +29,9 @@ give-requires-clause-value g c =
       same = said.same S.world;
       fallen = said.down S.world;
       lost = said.lost S.world;
+      unworn = said.unworn S.world Done;
       told = said.told;
+      still = said.still_told;
       cause = said.cause;
     }))
     (entry_keeps shot (faults_of d new) call.Upgrade (λ n. entry.Upgrade n) (λ n T. refl) r)
