@@ -222,10 +222,6 @@ init_same (z ∷ xs) (w ∷ ys) x y e =
     let rest = init_same xs ys x y tails in
     λ i. heads i ∷ rest i
 
-pub up_is : (o : Option (List Commit)) → not (is_some o) ≡ true → o ≡ None
-up_is None is = refl
-up_is (Some lost) is = absurd (cc is)
-
 pub if_err_by : {T E : Type 0} → (P : E → Type 0) (r : Result T E) → ((e : E) → r ≡ Err e → P e) → IfErr r P
 if_err_by P (Ok x) each = tt
 if_err_by P (Err e) each = each e refl

@@ -4,8 +4,10 @@ use mathlib.Core.List.{IsPrefix}
 use Rattle.conflict_rule.specs.declared.decision.Checked.{Checked}
 use Rattle.conflict_rule.specs.Decision.{AreNotesAfter, up_to}
 use Rattle.iso_core.specs.declared.answers.Recent.{Recent}
+use Rattle.iso_model.specs.declared.access.Geometry.{Geometry}
 use Rattle.iso_model.specs.Conflict.{clash}
 use Rattle.iso_model.specs.History.{last}
+use Rattle.iso_model.specs.Isolation.{IsIsolated}
 use Rattle.tx_table.specs.Work.{Doing}
 use Rattle.turn_lock.specs.declared.lock.TurnLock.{TurnLock}
 use Rattle.turn_lock.specs.declared.view.View.{View}
@@ -13,12 +15,13 @@ use Rattle.turn_lock.specs.Lists.{hit, times}
 use Rattle.turn_lock.specs.Lock.{lock_id}
 use Rattle.turn_lock.specs.Pass.{PassOf, view, HasNoTurn}
 use Rattle.iso_shared.specs.declared.entry.Entry.{Entry}
+use Rattle.iso_shared.specs.declared.guarded.Guarded.{Guarded}
 use Rattle.iso_shared.specs.declared.shared.Port.{Port}
 use Rattle.iso_shared.specs.declared.shared.Shared.{Shared}
 use Rattle.iso_shared.specs.declared.tx.Tx.{Tx}
 use Rattle.iso_shared.specs.Legal.{IsLegal}
 use Rattle.iso_shared.specs.Standing.{IsOn}
-use Rattle.iso_shared.specs.States.{Start, State, is_live, is_up_at, live_of, state_at}
+use Rattle.iso_shared.specs.States.{Start, State, is_live, live_of, state_at}
 
 -- a pass of the lock, at rest, with a unit
 abbrev pub IsOf : {X E : Type 0} → TurnLock X E → PassOf X E → Type 0
@@ -45,10 +48,42 @@ pub record IsRecent (S : State) (checked : Checked) (recent : Recent) : Type 0 w
   pub to : recent.upto ≤ last S.world.history
   pub notes : AreNotesAfter S.world.geometry (up_to S.world.history recent.upto) recent.after recent.notes.notes
 
+-- the history that the list leads to is isolated: each commit in it is serial or snapshot at its number, as its mode says
+abbrev pub IsIsolatedAt : Start → List Entry → Type 0
+IsIsolatedAt A es = IsIsolated (state_at A es).world.geometry (state_at A es).world.history
+
 module _ {D O : Type 0} where
+  -- what a port and a transaction know of the list
+  abbrev pub port_view : Port D O → View Entry
+  port_view p = view p.pass
+
+  abbrev pub tx_view : Tx D O → View Entry
+  tx_view t = view t.pass
+
+  -- a transaction's pass, its number, what it does, and what was checked of it ahead
+  abbrev pub pass_of : Tx D O → PassOf (Guarded D O) Entry
+  pass_of t = t.pass
+
+  abbrev pub number_of : Tx D O → ℕ
+  number_of t = t.number
+
+  abbrev pub doing_of : Tx D O → Doing
+  doing_of t = t.work
+
+  abbrev pub check_of : Tx D O → Checked
+  check_of t = t.checked
+
+  -- the transaction with something else to do
+  abbrev pub doing : Tx D O → Doing → Tx D O
+  doing t work = record t { work = work }
+
+  -- the numbers of the image that the core had at the start
+  abbrev pub first_geometry : Shared D O → Geometry
+  first_geometry s = s.geometry
+
   -- what the transaction has seen
   abbrev pub state_of : Start → Tx D O → State
-  state_of A t = state_at A (view t.pass).seen
+  state_of A t = state_at A (tx_view t).seen
 
   -- its pass holds its number, and its work and its check are those of the transaction
   pub record IsTxOf (A : Start) (t : Tx D O) : Type 0 where
@@ -90,10 +125,10 @@ pub record MadeBoth (A : Start) (v u : View Entry) (e : Entry) (w : View Entry) 
   pub mine : (p : ℕ) → times p w.mine ≡ times p v.mine + times p u.mine + hit (length before) p
   pub legal : IsLegal A w.seen
 
--- so many steps at most, where these entries stood before and the device was up
+-- so many steps at most, where these entries stood before
 abbrev pub most_steps : Start → List Entry → (upto : ℕ) → ℕ
 most_steps A before upto = last (state_at A before).world.history - upto
 
--- so many steps at most were taken in the turn that made the last entry that was seen, where the device was up before it
+-- so many steps at most were taken in the turn that made the last entry that was seen
 abbrev pub TookFew : Start → (seen : List Entry) → (upto old new : ℕ) → Type 0
-TookFew A seen upto old new = (list : List Entry) (e : Entry) → seen ≡ list ++ e ∷ [] → is_up_at A list ≡ true → new ≤ old + most_steps A list upto
+TookFew A seen upto old new = (list : List Entry) (e : Entry) → seen ≡ list ++ e ∷ [] → new ≤ old + most_steps A list upto

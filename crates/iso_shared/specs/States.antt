@@ -1,5 +1,5 @@
 -- The state of a shared device at a place of its list, and what each entry makes of it.
-use Rattle.std.specs.Prelude.{◌≡◌, ℕ, ◌+◌, ◌==◌, Bool, true, false, ◌&&◌, not, cond, List, [], ◌∷◌, ◌++◌, Option, Some, None, bytes_eq, drop, is_some, map}
+use Rattle.std.specs.Prelude.{◌≡◌, ℕ, ◌+◌, ◌==◌, Bool, true, false, ◌&&◌, cond, List, [], ◌∷◌, ◌++◌, Option, Some, None, bytes_eq, drop, map}
 use Rattle.std.specs.Map.{remove_entry}
 use Rattle.iso_model.specs.declared.access.Access.{Access}
 use Rattle.iso_model.specs.declared.access.Commit.{Commit}
@@ -121,7 +121,3 @@ after_all S (e ∷ es) = after_all (after S e) es
 -- the state after a list that begins there
 abbrev pub state_at : Start → List Entry → State
 state_at A es = after_all (opened A) es
-
--- whether the device is up after the list
-abbrev pub is_up_at : Start → List Entry → Bool
-is_up_at A es = not (is_some (state_at A es).lost)

@@ -8,7 +8,7 @@ ghost use Rattle.byte_marks.specs.declared.extent.Extent.{Extent};
 ghost use Rattle.byte_marks.specs.Touched.{AreTouched};
 ghost use Rattle.conflict_rule.specs.Decision.{IsAsked};
 ghost use Rattle.iso_model.specs.declared.access.Kind.TheVariants.{Read, Write};
-ghost use Rattle.iso_shared.specs.Ports.{IsRecent, IsSameTx, IsTx, Made, state_of};
+ghost use Rattle.iso_shared.specs.Ports.{IsRecent, IsSameTx, IsTx, Made, check_of, doing_of, number_of, state_of, tx_view};
 ghost use Rattle.iso_shared.specs.Told.{recent_entry};
 ghost use Rattle.turn_lock.specs.Pass.{view};
 
@@ -32,9 +32,9 @@ impl<D: Disk + Drop, O: Origin> Shared<D, O> {
     pub fn recent<R: Wait>(&self, rt: &R, tx: &mut Tx<D, O>) -> Result<Recent, CoreError>
         requires tx { IsTx self.now O.start tx.old }
         ensures tx { IsTx self.now O.start tx.new }
-        ensures same { IsSameTx tx.old tx.new × (tx.new.work ≡ tx.old.work) × ((view tx.new.pass).units ≡ (view tx.old.pass).units) }
-        ensures made { (before : ℕ) × (now : ℕ) × Made O.start (view tx.old.pass) (view tx.old.pass) (recent_entry before now tx.old.number result) (view tx.new.pass) }
-        ensures recent { IfOk result (IsRecent (state_of O.start tx.new) tx.new.checked) }
+        ensures same { IsSameTx tx.old tx.new × (doing_of tx.new ≡ doing_of tx.old) × ((tx_view tx.new).units ≡ (tx_view tx.old).units) }
+        ensures made { (before : ℕ) × (now : ℕ) × Made O.start (tx_view tx.old) (tx_view tx.old) (recent_entry before now (number_of tx.old) result) (tx_view tx.new) }
+        ensures recent { IfOk result (IsRecent (state_of O.start tx.new) (check_of tx.new)) }
     {
         let mut turn = self.lock.take(rt, &mut tx.pass);
         let guarded = turn.value();

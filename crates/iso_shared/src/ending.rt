@@ -3,7 +3,7 @@ ghost use Rattle.std.specs.Prelude.{◌≡◌, ◌≢◌, ◌+◌, ◌-◌, ◌<
 ghost use Rattle.iso_model.specs.declared.core_error.CoreError.TheVariants.{Disk as OfDisk};
 ghost use Rattle.iso_shared.specs.declared.entry.Call.TheVariants as TheCall;
 ghost use Rattle.iso_shared.specs.declared.entry.Entry.TheVariants.{End, Refused};
-ghost use Rattle.iso_shared.specs.Ports.{IsPort, IsSameTx, IsTx, Made, MadeBoth, TookFew};
+ghost use Rattle.iso_shared.specs.Ports.{IsPort, IsSameTx, IsTx, Made, MadeBoth, TookFew, check_of, doing_of, number_of, port_view, tx_view};
 ghost use Rattle.iso_shared.specs.Told.{cause_of, end_entry};
 ghost use Rattle.tx_table.specs.Work.{AreWithin};
 ghost use Rattle.turn_lock.specs.Lock.{lock_id};
@@ -41,11 +41,11 @@ impl<D: Disk + Drop, O: Origin> Shared<D, O> {
     ) -> Result<EndReply, CoreError>
         requires tx { IsTx self.now O.start tx.old }
         ensures pass { (tx.new.pass.table_id ≡ lock_id self.now.lock) × HasNoTurn tx.new.pass }
-        ensures units { (view tx.new.pass).units ≡ (view tx.old.pass).units }
+        ensures units { (tx_view tx.new).units ≡ (tx_view tx.old).units }
         ensures tx { IfErr result (λ e. e ≢ OfDisk → IsTx self.now O.start tx.new) }
         ensures same { IsSameTx tx.old tx.new }
-        ensures made { (before : ℕ) × (now : ℕ) × Made O.start (view tx.old.pass) (view tx.old.pass) (end_entry before now tx.old.number tx.old.work.accesses result) (view tx.new.pass) }
-        ensures steps { TookFew O.start (view tx.new.pass).seen tx.old.checked.upto steps.old steps.new }
+        ensures made { (before : ℕ) × (now : ℕ) × Made O.start (tx_view tx.old) (tx_view tx.old) (end_entry before now (number_of tx.old) (doing_of tx.old).accesses result) (tx_view tx.new) }
+        ensures steps { TookFew O.start (tx_view tx.new).seen (check_of tx.old).upto steps.old steps.new }
     {
         settle(&mut tx.work);
         let mut turn = self.lock.take(rt, &mut tx.pass);
@@ -75,16 +75,16 @@ impl<D: Disk + Drop, O: Origin> Shared<D, O> {
         requires port { IsPort self.now port.old }
         requires tx { IsTx self.now O.start tx }
         ensures port { IsPort self.now port.new }
-        ensures ok { IfOk result (λ r. MadeBoth O.start (view port.old.pass) (view tx.pass) (End tx.number tx.work.accesses r) (view port.new.pass)
-            × ((view port.new.pass).units ≡ (view port.old.pass).units + (view tx.pass).units)) }
-        ensures gone { IfErr result (λ e. IfNone e.1 ((e.0 ≡ OfDisk) × ((view port.new.pass).units ≡ (view port.old.pass).units + (view tx.pass).units)
-            × ((before : ℕ) × (now : ℕ) × MadeBoth O.start (view port.old.pass) (view tx.pass) (Refused (TheCall.End tx.number tx.work.accesses) (cause_of before now e.0)) (view port.new.pass)))) }
-        ensures kept { IfErr result (λ e. IfSome e.1 (λ t. (e.0 ≢ OfDisk) × IsTx self.now O.start t × IsSameTx tx t × ((view t.pass).units ≡ (view tx.pass).units) × (view port.new.pass ≡ view port.old.pass)
-            × ((before : ℕ) × (now : ℕ) × Made O.start (view port.old.pass) (view tx.pass) (Refused (TheCall.End tx.number tx.work.accesses) (cause_of before now e.0)) (view t.pass)))) }
+        ensures ok { IfOk result (λ r. MadeBoth O.start (port_view port.old) (tx_view tx) (End (number_of tx) (doing_of tx).accesses r) (port_view port.new)
+            × ((port_view port.new).units ≡ (port_view port.old).units + (tx_view tx).units)) }
+        ensures gone { IfErr result (λ e. IfNone e.1 ((e.0 ≡ OfDisk) × ((port_view port.new).units ≡ (port_view port.old).units + (tx_view tx).units)
+            × ((before : ℕ) × (now : ℕ) × MadeBoth O.start (port_view port.old) (tx_view tx) (Refused (TheCall.End (number_of tx) (doing_of tx).accesses) (cause_of before now e.0)) (port_view port.new)))) }
+        ensures kept { IfErr result (λ e. IfSome e.1 (λ t. (e.0 ≢ OfDisk) × IsTx self.now O.start t × IsSameTx tx t × ((tx_view t).units ≡ (tx_view tx).units) × (port_view port.new ≡ port_view port.old)
+            × ((before : ℕ) × (now : ℕ) × Made O.start (port_view port.old) (tx_view tx) (Refused (TheCall.End (number_of tx) (doing_of tx).accesses) (cause_of before now e.0)) (tx_view t)))) }
 
         // A step is a commit looked at: those that were checked ahead are not looked at again.
-        ensures steps { MatchResult result (λ _. TookFew O.start (view port.new.pass).seen tx.checked.upto steps.old steps.new)
-            (λ e. MatchOption e.1 (TookFew O.start (view port.new.pass).seen tx.checked.upto steps.old steps.new) (λ t. TookFew O.start (view t.pass).seen tx.checked.upto steps.old steps.new)) }
+        ensures steps { MatchResult result (λ _. TookFew O.start (port_view port.new).seen (check_of tx).upto steps.old steps.new)
+            (λ e. MatchOption e.1 (TookFew O.start (port_view port.new).seen (check_of tx).upto steps.old steps.new) (λ t. TookFew O.start (tx_view t).seen (check_of tx).upto steps.old steps.new)) }
     {
         self.tell_tx(port, &mut tx);
         match self.end_in_turn(rt, &mut tx, steps) {

@@ -2,7 +2,7 @@
 ghost use Rattle.std.specs.Prelude.{◌≡◌, ℕ, ◌+◌, ◌<◌, [], ◌∷◌, Some, None, length, IfErr, IfOk, IfNone, IfSome, MatchOption};
 ghost use Rattle.iso_shared.specs.declared.entry.Call.TheVariants as TheCall;
 ghost use Rattle.iso_shared.specs.declared.entry.Entry.TheVariants.{Look, Post, Refused, Sweep};
-ghost use Rattle.iso_shared.specs.Ports.{IsPort, IsSameTx, IsTx, Made, MadeBoth};
+ghost use Rattle.iso_shared.specs.Ports.{IsPort, IsSameTx, IsTx, Made, MadeBoth, doing_of, number_of, port_view, tx_view};
 ghost use Rattle.iso_shared.specs.Told.{post_cause, posting_of_tx};
 ghost use Rattle.turn_lock.specs.Lists.{places};
 ghost use Rattle.turn_lock.specs.Pass.{view};
@@ -32,10 +32,10 @@ impl<D: Disk + Drop, O: Origin> Shared<D, O> {
         requires port { IsPort self.now port.old }
         requires tx { IsTx self.now O.start tx }
         ensures port { IsPort self.now port.new }
-        ensures ok { IfOk result (λ _. MadeBoth O.start (view port.old.pass) (view tx.pass) (Post tx.number label tx.work.accesses) (view port.new.pass)
-            × ((view port.new.pass).units ≡ (view port.old.pass).units + (view tx.pass).units)) }
-        ensures err { IfErr result (λ e. IsTx self.now O.start e.1 × IsSameTx tx e.1 × ((view e.1.pass).units ≡ (view tx.pass).units) × (view port.new.pass ≡ view port.old.pass)
-            × Made O.start (view port.old.pass) (view tx.pass) (Refused (TheCall.Post tx.number label tx.work.accesses) (post_cause e.0)) (view e.1.pass)) }
+        ensures ok { IfOk result (λ _. MadeBoth O.start (port_view port.old) (tx_view tx) (Post (number_of tx) label (doing_of tx).accesses) (port_view port.new)
+            × ((port_view port.new).units ≡ (port_view port.old).units + (tx_view tx).units)) }
+        ensures err { IfErr result (λ e. IsTx self.now O.start e.1 × IsSameTx tx e.1 × ((tx_view e.1).units ≡ (tx_view tx).units) × (port_view port.new ≡ port_view port.old)
+            × Made O.start (port_view port.old) (tx_view tx) (Refused (TheCall.Post (number_of tx) label (doing_of tx).accesses) (post_cause e.0)) (tx_view e.1)) }
     {
         self.tell_tx(port, &mut tx);
         let mut turn = self.lock.take(rt, &mut tx.pass);
@@ -74,12 +74,12 @@ impl<D: Disk + Drop, O: Origin> Shared<D, O> {
     /// Takes the transaction under a label, with one of the port's units, and none exactly where the label is not held. It
     /// takes no memory.
     pub fn look<R: Wait>(&self, rt: &R, port: &mut Port<D, O>, label: &Label) -> Option<Tx<D, O>>
-        requires port { IsPort self.now port.old × (1 < (view port.old.pass).units) }
+        requires port { IsPort self.now port.old × (1 < (port_view port.old).units) }
         ensures port { IsPort self.now port.new }
-        ensures tx { IfSome result (λ t. IsTx self.now O.start t × ((view t.pass).seen ≡ (view port.new.pass).seen) × ((view t.pass).mine ≡ []) × ((view t.pass).units ≡ 1)) }
-        ensures found { IfSome result (λ t. Made O.start (view port.old.pass) (view port.old.pass) (Look label.now (Some (posting_of_tx t.number t.work))) (view port.new.pass)) }
-        ensures none { IfNone result (Made O.start (view port.old.pass) (view port.old.pass) (Look label.now None) (view port.new.pass)) }
-        ensures units { MatchOption result ((view port.new.pass).units ≡ (view port.old.pass).units) (λ _. (view port.new.pass).units + 1 ≡ (view port.old.pass).units) }
+        ensures tx { IfSome result (λ t. IsTx self.now O.start t × ((tx_view t).seen ≡ (port_view port.new).seen) × ((tx_view t).mine ≡ []) × ((tx_view t).units ≡ 1)) }
+        ensures found { IfSome result (λ t. Made O.start (port_view port.old) (port_view port.old) (Look label.now (Some (posting_of_tx (number_of t) (doing_of t)))) (port_view port.new)) }
+        ensures none { IfNone result (Made O.start (port_view port.old) (port_view port.old) (Look label.now None) (port_view port.new)) }
+        ensures units { MatchOption result ((port_view port.new).units ≡ (port_view port.old).units) (λ _. (port_view port.new).units + 1 ≡ (port_view port.old).units) }
     {
         let mut turn = self.lock.take(rt, &mut port.pass);
         let guarded = turn.value();
@@ -106,9 +106,9 @@ impl<D: Disk + Drop, O: Origin> Shared<D, O> {
     pub fn sweep<R: Wait>(&self, rt: &R, port: &mut Port<D, O>) -> Option<u64>
         requires port { IsPort self.now port.old }
         ensures port { IsPort self.now port.new }
-        ensures made { Made O.start (view port.old.pass) (view port.old.pass) (Sweep result) (view port.new.pass) }
-        ensures units { (view port.new.pass).units ≡ (view port.old.pass).units }
-        ensures all { (view port.new.pass).units ≡ LAST → (view port.new.pass).mine ≡ places (length (view port.new.pass).seen) }
+        ensures made { Made O.start (port_view port.old) (port_view port.old) (Sweep result) (port_view port.new) }
+        ensures units { (port_view port.new).units ≡ (port_view port.old).units }
+        ensures all { (port_view port.new).units ≡ LAST → (port_view port.new).mine ≡ places (length (port_view port.new).seen) }
     {
         let mut turn = self.lock.take(rt, &mut port.pass);
         let guarded = turn.value();

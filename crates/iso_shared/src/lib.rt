@@ -6,6 +6,7 @@ mod ending;
 mod entry;
 mod guarded;
 mod labels;
+mod laws;
 mod shared;
 mod told;
 mod transactions;
@@ -14,6 +15,7 @@ mod upkeep;
 
 pub use entry::{Call, Cause, Entry, Numbers, Posting};
 pub use guarded::{Guarded, Origin, Posted};
+pub use laws::numbers_out_are_loose;
 pub use shared::{Port, Shared};
 pub use tx::Tx;
 

@@ -39,7 +39,7 @@ pub struct Port<D: Disk + Drop, O: Origin> {
 }
 
 impl<D: Disk + Drop, O: Origin> Shared<D, O> {
-    ghost use Rattle.iso_shared.specs.Ports.{IsOf, IsPort, IsSameTx, IsTx, IsTxOf};
+    ghost use Rattle.iso_shared.specs.Ports.{IsIsolatedAt, IsOf, IsPort, IsSameTx, IsTx, IsTxOf, doing_of, first_geometry, port_view, tx_view};
 
     /// A device over a core that is up and has no live transaction, and its first port, which has all units. It takes all
     /// memory of the lock.
@@ -48,7 +48,7 @@ impl<D: Disk + Drop, O: Origin> Shared<D, O> {
         core: Core<D>,
     ) -> Result<(Shared<D, O>, Port<D, O>), (Memory, Core<D>)>
         requires start { Holds D.state core (opened O.start) × (O.start.world.live ≡ []) }
-        ensures ok { IfOk result (λ r. IsPort r.0 r.1 × (view r.1.pass ≡ fresh) × (r.0.geometry ≡ O.start.world.geometry)) }
+        ensures ok { IfOk result (λ r. IsPort r.0 r.1 × (port_view r.1 ≡ fresh) × (first_geometry r.0 ≡ O.start.world.geometry)) }
         ensures err { IfErr result (λ e. e.1 ≡ core) }
     {
         let geometry = core.geometry();
@@ -79,7 +79,7 @@ impl<D: Disk + Drop, O: Origin> Shared<D, O> {
 
     /// The numbers of the image that the core had at the start. It waits for nobody.
     pub fn geometry(&self) -> Geometry
-        ensures { result ≡ self.now.geometry }
+        ensures { result ≡ first_geometry self.now }
     {
         self.geometry
     }
@@ -125,9 +125,9 @@ impl<D: Disk + Drop, O: Origin> Shared<D, O> {
     /// Another port, which gets these units.
     pub fn port(&self, from: &mut Port<D, O>, units: u64) -> Port<D, O>
         requires from { IsPort self.now from.old }
-        requires units { (0 < units) × (units < (view from.old.pass).units) }
-        ensures from { IsPort self.now from.new × (view from.new.pass ≡ kept_part None units (view from.old.pass)) }
-        ensures new { IsPort self.now result × (view result.pass ≡ given_part None units (view from.old.pass)) }
+        requires units { (0 < units) × (units < (port_view from.old).units) }
+        ensures from { IsPort self.now from.new × (port_view from.new ≡ kept_part None units (port_view from.old)) }
+        ensures new { IsPort self.now result × (port_view result ≡ given_part None units (port_view from.old)) }
     {
         Port {
             pass: self.lock.split(&mut from.pass, None, units),
@@ -139,9 +139,9 @@ impl<D: Disk + Drop, O: Origin> Shared<D, O> {
         requires into { IsPort self.now into.old }
         requires from { IsPort self.now from }
         ensures into { IsPort self.now into.new }
-        ensures units { (view into.new.pass).units ≡ (view into.old.pass).units + (view from.pass).units }
-        ensures seen { IsPrefix (view into.old.pass).seen (view into.new.pass).seen × IsPrefix (view from.pass).seen (view into.new.pass).seen }
-        ensures places { (p : ℕ) → times p (view into.new.pass).mine ≡ times p (view into.old.pass).mine + times p (view from.pass).mine }
+        ensures units { (port_view into.new).units ≡ (port_view into.old).units + (port_view from).units }
+        ensures seen { IsPrefix (port_view into.old).seen (port_view into.new).seen × IsPrefix (port_view from).seen (port_view into.new).seen }
+        ensures places { (p : ℕ) → times p (port_view into.new).mine ≡ times p (port_view into.old).mine + times p (port_view from).mine }
     {
         let Port { pass } = from;
         self.lock.join(&mut into.pass, pass);
@@ -151,11 +151,11 @@ impl<D: Disk + Drop, O: Origin> Shared<D, O> {
     pub fn tell_tx(&self, port: &mut Port<D, O>, tx: &mut Tx<D, O>)
         requires port { IsPort self.now port.old }
         requires tx { IsTx self.now O.start tx.old }
-        ensures port { IsPort self.now port.new × (view port.new.pass ≡ view port.old.pass) }
+        ensures port { IsPort self.now port.new × (port_view port.new ≡ port_view port.old) }
         ensures tx { IsTx self.now O.start tx.new }
-        ensures same { IsSameTx tx.old tx.new × (tx.new.work ≡ tx.old.work) × IsAlike (view tx.old.pass) (view tx.new.pass) }
-        ensures told { IsPrefix (view port.old.pass).seen (view tx.new.pass).seen }
-        ensures begins { IsPrefix (view tx.old.pass).seen (view tx.new.pass).seen }
+        ensures same { IsSameTx tx.old tx.new × (doing_of tx.new ≡ doing_of tx.old) × IsAlike (tx_view tx.old) (tx_view tx.new) }
+        ensures told { IsPrefix (port_view port.old).seen (tx_view tx.new).seen }
+        ensures begins { IsPrefix (tx_view tx.old).seen (tx_view tx.new).seen }
     {
         self.tell(&mut port.pass, &mut tx.pass);
     }
@@ -164,12 +164,12 @@ impl<D: Disk + Drop, O: Origin> Shared<D, O> {
     pub fn tell_port(&self, tx: &mut Tx<D, O>, port: &mut Port<D, O>)
         requires tx { IsTx self.now O.start tx.old }
         requires port { IsPort self.now port.old }
-        ensures tx { IsTx self.now O.start tx.new × (view tx.new.pass ≡ view tx.old.pass) }
-        ensures same { IsSameTx tx.old tx.new × (tx.new.work ≡ tx.old.work) }
+        ensures tx { IsTx self.now O.start tx.new × (tx_view tx.new ≡ tx_view tx.old) }
+        ensures same { IsSameTx tx.old tx.new × (doing_of tx.new ≡ doing_of tx.old) }
         ensures port { IsPort self.now port.new }
-        ensures alike { IsAlike (view port.old.pass) (view port.new.pass) }
-        ensures told { IsPrefix (view tx.old.pass).seen (view port.new.pass).seen }
-        ensures begins { IsPrefix (view port.old.pass).seen (view port.new.pass).seen }
+        ensures alike { IsAlike (port_view port.old) (port_view port.new) }
+        ensures told { IsPrefix (tx_view tx.old).seen (port_view port.new).seen }
+        ensures begins { IsPrefix (port_view port.old).seen (port_view port.new).seen }
     {
         self.tell(&mut tx.pass, &mut port.pass);
     }
@@ -179,9 +179,9 @@ impl<D: Disk + Drop, O: Origin> Shared<D, O> {
         requires port { IsPort self.now port.old }
         requires pass { IsOf self.now.lock pass }
         ensures port { IsPort self.now port.new }
-        ensures units { (view port.new.pass).units ≡ (view port.old.pass).units + (view pass).units }
-        ensures seen { (view port.new.pass).seen ≡ longer (view port.old.pass).seen (view pass).seen }
-        ensures places { (p : ℕ) → times p (view port.new.pass).mine ≡ times p (view port.old.pass).mine + times p (view pass).mine }
+        ensures units { (port_view port.new).units ≡ (port_view port.old).units + (view pass).units }
+        ensures seen { (port_view port.new).seen ≡ longer (port_view port.old).seen (view pass).seen }
+        ensures places { (p : ℕ) → times p (port_view port.new).mine ≡ times p (port_view port.old).mine + times p (view pass).mine }
     {
         self.lock.join(&mut port.pass, pass);
     }
@@ -191,9 +191,9 @@ impl<D: Disk + Drop, O: Origin> Shared<D, O> {
         requires port { IsPort self.now port.old }
         requires pass { IsOf self.now.lock tx.pass }
         ensures port { IsPort self.now port.new }
-        ensures units { (view port.new.pass).units ≡ (view port.old.pass).units + (view tx.pass).units }
-        ensures seen { (view port.new.pass).seen ≡ longer (view port.old.pass).seen (view tx.pass).seen }
-        ensures places { (p : ℕ) → times p (view port.new.pass).mine ≡ times p (view port.old.pass).mine + times p (view tx.pass).mine }
+        ensures units { (port_view port.new).units ≡ (port_view port.old).units + (tx_view tx).units }
+        ensures seen { (port_view port.new).seen ≡ longer (port_view port.old).seen (tx_view tx).seen }
+        ensures places { (p : ℕ) → times p (port_view port.new).mine ≡ times p (port_view port.old).mine + times p (tx_view tx).mine }
     {
         let Tx {
             pass,
@@ -205,11 +205,13 @@ impl<D: Disk + Drop, O: Origin> Shared<D, O> {
     }
 
     /// Ends the device, and gives the core back, which stands for the whole list. The port has all units. It waits for nobody.
+    /// The list's commits stand in one order, in which each is serial or snapshot, as its mode says.
     pub fn close(self, port: Port<D, O>) -> Core<D>
-        requires port { IsPort self port × ((view port.pass).units ≡ LAST) }
-        ensures legal { IsLegal O.start (view port.pass).seen }
-        ensures core { Holds D.state result (state_at O.start (view port.pass).seen) }
-        ensures all { (view port.pass).mine ≡ places (length (view port.pass).seen) }
+        requires port { IsPort self port × ((port_view port).units ≡ LAST) }
+        ensures legal { IsLegal O.start (port_view port).seen }
+        ensures isolated { IsIsolatedAt O.start (port_view port).seen }
+        ensures core { Holds D.state result (state_at O.start (port_view port).seen) }
+        ensures all { (port_view port).mine ≡ places (length (port_view port).seen) }
     {
         let Shared {
             lock,

@@ -5,7 +5,7 @@ ghost use Rattle.iso_model.specs.declared.core_error.CoreError.TheVariants.{Disk
 ghost use Rattle.iso_model.specs.Step.{mode_named};
 ghost use Rattle.iso_shared.specs.declared.entry.Call.TheVariants as TheCall;
 ghost use Rattle.iso_shared.specs.declared.entry.Entry.TheVariants.{Abort, Begin, End, Refused};
-ghost use Rattle.iso_shared.specs.Ports.{IsOf, IsPort, IsSameTx, IsTx, IsTxOf, Made, MadeBoth};
+ghost use Rattle.iso_shared.specs.Ports.{IsOf, IsPort, IsSameTx, IsTx, IsTxOf, Made, MadeBoth, doing_of, number_of, port_view, tx_view};
 ghost use Rattle.iso_shared.specs.Told.{begin_entry, cause_of, end_entry, fetch_entry};
 ghost use Rattle.turn_lock.specs.Pass.{view};
 
@@ -29,13 +29,13 @@ impl<D: Disk + Drop, O: Origin> Shared<D, O> {
         port: &mut Port<D, O>,
         named: Option<Mode>,
     ) -> Result<Tx<D, O>, CoreError>
-        requires port { IsPort self.now port.old × (1 < (view port.old.pass).units) }
+        requires port { IsPort self.now port.old × (1 < (port_view port.old).units) }
         ensures port { IsPort self.now port.new }
-        ensures tx { IfOk result (λ t. IsTx self.now O.start t × (t.work.accesses ≡ []) × (t.work.mode ≡ mode_named O.start.world named)) }
-        ensures new { IfOk result (λ t. ((view t.pass).seen ≡ (view port.new.pass).seen) × ((view t.pass).mine ≡ []) × ((view t.pass).units ≡ 1)) }
-        ensures made { IfOk result (λ t. Made O.start (view port.old.pass) (view port.old.pass) (Begin t.number t.work.begin t.work.mode) (view port.new.pass)) }
-        ensures err { IfErr result (λ e. (before : ℕ) × (now : ℕ) × Made O.start (view port.old.pass) (view port.old.pass) (Refused (TheCall.Begin named) (cause_of before now e)) (view port.new.pass)) }
-        ensures units { MatchResult result (λ _. (view port.new.pass).units + 1 ≡ (view port.old.pass).units) (λ _. (view port.new.pass).units ≡ (view port.old.pass).units) }
+        ensures tx { IfOk result (λ t. IsTx self.now O.start t × ((doing_of t).accesses ≡ []) × ((doing_of t).mode ≡ mode_named O.start.world named)) }
+        ensures new { IfOk result (λ t. ((tx_view t).seen ≡ (port_view port.new).seen) × ((tx_view t).mine ≡ []) × ((tx_view t).units ≡ 1)) }
+        ensures made { IfOk result (λ t. Made O.start (port_view port.old) (port_view port.old) (Begin (number_of t) (doing_of t).begin (doing_of t).mode) (port_view port.new)) }
+        ensures err { IfErr result (λ e. (before : ℕ) × (now : ℕ) × Made O.start (port_view port.old) (port_view port.old) (Refused (TheCall.Begin named) (cause_of before now e)) (port_view port.new)) }
+        ensures units { MatchResult result (λ _. (port_view port.new).units + 1 ≡ (port_view port.old).units) (λ _. (port_view port.new).units ≡ (port_view port.old).units) }
     {
         let mut turn = self.lock.take(rt, &mut port.pass);
         let guarded = turn.value();
@@ -76,8 +76,8 @@ impl<D: Disk + Drop, O: Origin> Shared<D, O> {
         requires block { block < O.start.world.geometry.blocks }
         requires size { length into.old ≡ O.start.world.geometry.block }
         ensures tx { IsTx self.now O.start tx.new }
-        ensures same { IsSameTx tx.old tx.new × (tx.new.work ≡ tx.old.work) × ((view tx.new.pass).units ≡ (view tx.old.pass).units) }
-        ensures made { (before : ℕ) × (now : ℕ) × Made O.start (view tx.old.pass) (view tx.old.pass) (fetch_entry before now tx.old.number block into.new result) (view tx.new.pass) }
+        ensures same { IsSameTx tx.old tx.new × (doing_of tx.new ≡ doing_of tx.old) × ((tx_view tx.new).units ≡ (tx_view tx.old).units) }
+        ensures made { (before : ℕ) × (now : ℕ) × Made O.start (tx_view tx.old) (tx_view tx.old) (fetch_entry before now (number_of tx.old) block into.new result) (tx_view tx.new) }
     {
         let mut turn = self.lock.take(rt, &mut tx.pass);
         let guarded = turn.value();
@@ -97,8 +97,8 @@ impl<D: Disk + Drop, O: Origin> Shared<D, O> {
         requires port { IsPort self.now port.old }
         requires tx { IsTx self.now O.start tx }
         ensures port { IsPort self.now port.new }
-        ensures made { MadeBoth O.start (view port.old.pass) (view tx.pass) (Abort tx.number) (view port.new.pass) }
-        ensures units { (view port.new.pass).units ≡ (view port.old.pass).units + (view tx.pass).units }
+        ensures made { MadeBoth O.start (port_view port.old) (tx_view tx) (Abort (number_of tx)) (port_view port.new) }
+        ensures units { (port_view port.new).units ≡ (port_view port.old).units + (tx_view tx).units }
     {
         self.tell(&mut port.pass, &mut tx.pass);
         let mut turn = self.lock.take(rt, &mut tx.pass);

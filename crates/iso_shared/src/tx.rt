@@ -25,39 +25,39 @@ pub struct Tx<D: Disk + Drop, O: Origin> {
 }
 
 impl<D: Disk + Drop, O: Origin> Tx<D, O> {
-    ghost use Rattle.iso_shared.specs.Ports.{IsRecent, IsTxOf, state_of};
+    ghost use Rattle.iso_shared.specs.Ports.{IsRecent, IsTxOf, check_of, doing, doing_of, number_of, pass_of, state_of};
 
     /// Its begin.
     pub fn at(&self) -> u64
-        ensures { result ≡ self.now.work.begin }
+        ensures { result ≡ (doing_of self.now).begin }
     {
         self.work.begun_at()
     }
 
     /// Its mode.
     pub fn mode(&self) -> Mode
-        ensures { result ≡ self.now.work.mode }
+        ensures { result ≡ (doing_of self.now).mode }
     {
         self.work.mode()
     }
 
     /// How many more accesses there may be.
     pub fn room(&self) -> u32
-        ensures { result + length self.now.work.accesses ≡ 4096 }
+        ensures { result + length (doing_of self.now).accesses ≡ 4096 }
     {
         self.work.room()
     }
 
     /// Up to which commit it was checked ahead.
     pub fn checked(&self) -> u64
-        ensures { result ≡ self.now.checked.upto }
+        ensures { result ≡ (check_of self.now).upto }
     {
         self.checked.upto
     }
 
     // Nothing is checked ahead any more.
     fn uncheck(&mut self)
-        ensures same { self.new ≡ record self.old { checked = record { upto = self.old.work.begin; clash = None } } }
+        ensures same { self.new ≡ record self.old { checked = record { upto = (doing_of self.old).begin; clash = None } } }
     {
         self.checked = Checked {
             upto: self.work.begun_at(),
@@ -67,10 +67,10 @@ impl<D: Disk + Drop, O: Origin> Tx<D, O> {
 
     /// Makes room for one more access to a block. Where the room is there already it takes no memory.
     pub fn reserve(&mut self, block: u32) -> Result<(), Memory>
-        requires block { block < self.old.work.blocks }
+        requires block { block < (doing_of self.old).blocks }
         requires tx { IsTxOf O.start self.old }
         ensures tx { IsTxOf O.start self.new }
-        ensures ok { OnOk result (self.new ≡ record self.old { work = record self.old.work { ready = Some block } }) }
+        ensures ok { OnOk result (self.new ≡ doing self.old (record (doing_of self.old) { ready = Some block })) }
         ensures err { OnErr result (self.new ≡ self.old) }
     {
         self.work.reserve(block)
@@ -78,14 +78,14 @@ impl<D: Disk + Drop, O: Origin> Tx<D, O> {
 
     /// A read of a block, which is lent as it stood at the begin: the own writes are laid over it. It takes no memory.
     pub fn read(&mut self, block: u32, into: &mut [u8])
-        requires ready { self.old.work.ready ≡ Some block }
-        requires room { length self.old.work.accesses < 4096 }
-        requires bytes { length into.old ≡ self.old.work.size }
+        requires ready { (doing_of self.old).ready ≡ Some block }
+        requires room { length (doing_of self.old).accesses < 4096 }
+        requires bytes { length into.old ≡ (doing_of self.old).size }
         requires tx { IsTxOf O.start self.old }
         ensures tx { IsTxOf O.start self.new }
-        ensures same { (self.new.pass ≡ self.old.pass) × (self.new.number ≡ self.old.number) × (self.new.checked.upto ≡ self.new.work.begin) }
-        ensures work { self.new.work ≡ record self.old.work { accesses = self.old.work.accesses ++ read_access block ∷ []; ready = None; settled = false } }
-        ensures shown { (A : Array) → block_at A block ≡ into.old → into.new ≡ block_at (own A self.old.work.accesses) block }
+        ensures same { (pass_of self.new ≡ pass_of self.old) × (number_of self.new ≡ number_of self.old) × ((check_of self.new).upto ≡ (doing_of self.new).begin) }
+        ensures work { doing_of self.new ≡ record (doing_of self.old) { accesses = (doing_of self.old).accesses ++ read_access block ∷ []; ready = None; settled = false } }
+        ensures shown { (A : Array) → block_at A block ≡ into.old → into.new ≡ block_at (own A (doing_of self.old).accesses) block }
     {
         self.work.read(block, into);
         self.uncheck();
@@ -93,13 +93,13 @@ impl<D: Disk + Drop, O: Origin> Tx<D, O> {
 
     /// A write of a block. It takes no memory.
     pub fn write(&mut self, block: u32, bytes: &[u8])
-        requires ready { self.old.work.ready ≡ Some block }
-        requires room { length self.old.work.accesses < 4096 }
-        requires bytes { length bytes.now ≡ self.old.work.size }
+        requires ready { (doing_of self.old).ready ≡ Some block }
+        requires room { length (doing_of self.old).accesses < 4096 }
+        requires bytes { length bytes.now ≡ (doing_of self.old).size }
         requires tx { IsTxOf O.start self.old }
         ensures tx { IsTxOf O.start self.new }
-        ensures same { (self.new.pass ≡ self.old.pass) × (self.new.number ≡ self.old.number) × (self.new.checked.upto ≡ self.new.work.begin) }
-        ensures work { self.new.work ≡ record self.old.work { accesses = self.old.work.accesses ++ write_access block bytes.now ∷ []; ready = None; settled = false } }
+        ensures same { (pass_of self.new ≡ pass_of self.old) × (number_of self.new ≡ number_of self.old) × ((check_of self.new).upto ≡ (doing_of self.new).begin) }
+        ensures work { doing_of self.new ≡ record (doing_of self.old) { accesses = (doing_of self.old).accesses ++ write_access block bytes.now ∷ []; ready = None; settled = false } }
     {
         self.work.write(block, bytes);
         self.uncheck();
@@ -109,10 +109,10 @@ impl<D: Disk + Drop, O: Origin> Tx<D, O> {
     pub fn mark(&mut self, off: u16, len: u16) -> Result<(), MarkError>
         requires tx { IsTxOf O.start self.old }
         ensures tx { IsTxOf O.start self.new }
-        ensures same { (self.new.pass ≡ self.old.pass) × (self.new.number ≡ self.old.number) }
-        ensures ok { OnOk result ((mark_fault self.old.work.size off len self.old.work.accesses ≡ None) × (self.new.checked.upto ≡ self.new.work.begin)
-            × (self.new.work ≡ record self.old.work { accesses = marked (span_at off len) self.old.work.accesses; settled = false })) }
-        ensures err { (fault : MarkError) → result ≡ Err fault → (mark_fault self.old.work.size off len self.old.work.accesses ≡ Some fault) × (self.new ≡ self.old) }
+        ensures same { (pass_of self.new ≡ pass_of self.old) × (number_of self.new ≡ number_of self.old) }
+        ensures ok { OnOk result ((mark_fault (doing_of self.old).size off len (doing_of self.old).accesses ≡ None) × ((check_of self.new).upto ≡ (doing_of self.new).begin)
+            × (doing_of self.new ≡ record (doing_of self.old) { accesses = marked (span_at off len) (doing_of self.old).accesses; settled = false })) }
+        ensures err { (fault : MarkError) → result ≡ Err fault → (mark_fault (doing_of self.old).size off len (doing_of self.old).accesses ≡ Some fault) × (self.new ≡ self.old) }
     {
         match self.work.mark(off, len) {
             Ok(()) => {
@@ -126,11 +126,11 @@ impl<D: Disk + Drop, O: Origin> Tx<D, O> {
     /// Compares what it did with later commits, ahead of the turn of its end, and answers up to which one it is then checked.
     pub fn check(&mut self, recent: Recent) -> Result<u64, Memory>
         requires tx { IsTxOf O.start self.old }
-        requires recent { IsRecent (state_of O.start self.old) self.old.checked recent }
+        requires recent { IsRecent (state_of O.start self.old) (check_of self.old) recent }
         ensures tx { IsTxOf O.start self.new }
-        ensures same { (self.new.pass ≡ self.old.pass) × (self.new.number ≡ self.old.number) × (self.new.work ≡ record self.old.work { settled = self.new.work.settled }) }
-        ensures ok { (upto : ℕ) → result ≡ Ok upto → (upto ≡ recent.upto) × (self.new.checked.upto ≡ recent.upto) }
-        ensures err { OnErr result (self.new.checked ≡ self.old.checked) }
+        ensures same { (pass_of self.new ≡ pass_of self.old) × (number_of self.new ≡ number_of self.old) × (doing_of self.new ≡ record (doing_of self.old) { settled = (doing_of self.new).settled }) }
+        ensures ok { (upto : ℕ) → result ≡ Ok upto → (upto ≡ recent.upto) × ((check_of self.new).upto ≡ recent.upto) }
+        ensures err { OnErr result (check_of self.new ≡ check_of self.old) }
     {
         self.work.settle()?;
         let _ = self.work.block_size();

@@ -1,7 +1,7 @@
 // The calls that need no transaction.
 ghost use Rattle.std.specs.Prelude.{◌≡◌, ℕ, ◌<◌, length};
 ghost use Rattle.iso_shared.specs.declared.entry.Entry.TheVariants.{Stat as OfStat};
-ghost use Rattle.iso_shared.specs.Ports.{IsPort, Made};
+ghost use Rattle.iso_shared.specs.Ports.{IsPort, Made, port_view};
 ghost use Rattle.iso_shared.specs.Told.{compact_entry, numbers_of, trim_entry, upgrade_entry};
 ghost use Rattle.turn_lock.specs.Pass.{view};
 
@@ -20,8 +20,8 @@ impl<D: Disk + Drop, O: Origin> Shared<D, O> {
     pub fn trim<R: Wait>(&self, rt: &R, port: &mut Port<D, O>) -> Result<u64, CoreError>
         requires port { IsPort self.now port.old }
         ensures port { IsPort self.now port.new }
-        ensures units { (view port.new.pass).units ≡ (view port.old.pass).units }
-        ensures made { (before : ℕ) × (now : ℕ) × Made O.start (view port.old.pass) (view port.old.pass) (trim_entry before now result) (view port.new.pass) }
+        ensures units { (port_view port.new).units ≡ (port_view port.old).units }
+        ensures made { (before : ℕ) × (now : ℕ) × Made O.start (port_view port.old) (port_view port.old) (trim_entry before now result) (port_view port.new) }
     {
         let mut turn = self.lock.take(rt, &mut port.pass);
         let guarded = turn.value();
@@ -35,8 +35,8 @@ impl<D: Disk + Drop, O: Origin> Shared<D, O> {
     pub fn compact<R: Wait>(&self, rt: &R, port: &mut Port<D, O>) -> Result<u64, CoreError>
         requires port { IsPort self.now port.old }
         ensures port { IsPort self.now port.new }
-        ensures units { (view port.new.pass).units ≡ (view port.old.pass).units }
-        ensures made { (before : ℕ) × (now : ℕ) × Made O.start (view port.old.pass) (view port.old.pass) (compact_entry before now result) (view port.new.pass) }
+        ensures units { (port_view port.new).units ≡ (port_view port.old).units }
+        ensures made { (before : ℕ) × (now : ℕ) × Made O.start (port_view port.old) (port_view port.old) (compact_entry before now result) (port_view port.new) }
     {
         let mut turn = self.lock.take(rt, &mut port.pass);
         let guarded = turn.value();
@@ -50,8 +50,8 @@ impl<D: Disk + Drop, O: Origin> Shared<D, O> {
     pub fn upgrade<R: Wait>(&self, rt: &R, port: &mut Port<D, O>) -> Result<u64, CoreError>
         requires port { IsPort self.now port.old }
         ensures port { IsPort self.now port.new }
-        ensures units { (view port.new.pass).units ≡ (view port.old.pass).units }
-        ensures made { (before : ℕ) × (now : ℕ) × Made O.start (view port.old.pass) (view port.old.pass) (upgrade_entry before now result) (view port.new.pass) }
+        ensures units { (port_view port.new).units ≡ (port_view port.old).units }
+        ensures made { (before : ℕ) × (now : ℕ) × Made O.start (port_view port.old) (port_view port.old) (upgrade_entry before now result) (port_view port.new) }
     {
         let mut turn = self.lock.take(rt, &mut port.pass);
         let guarded = turn.value();
@@ -65,8 +65,8 @@ impl<D: Disk + Drop, O: Origin> Shared<D, O> {
     pub fn stat<R: Wait>(&self, rt: &R, port: &mut Port<D, O>) -> Stat
         requires port { IsPort self.now port.old }
         ensures port { IsPort self.now port.new }
-        ensures units { (view port.new.pass).units ≡ (view port.old.pass).units }
-        ensures made { Made O.start (view port.old.pass) (view port.old.pass) (OfStat (numbers_of result)) (view port.new.pass) }
+        ensures units { (port_view port.new).units ≡ (port_view port.old).units }
+        ensures made { Made O.start (port_view port.old) (port_view port.old) (OfStat (numbers_of result)) (port_view port.new) }
     {
         let mut turn = self.lock.take(rt, &mut port.pass);
         let guarded = turn.value();

@@ -11,10 +11,10 @@ use Rattle.iso_shared.specs.declared.entry.Entry.TheVariants as entry
 use Rattle.iso_shared.specs.Legal.{handed, returned}
 use Rattle.iso_shared.specs.Ports.{most_steps}
 use Rattle.iso_shared.specs.Standing.{faults_of, standing_of}
-use Rattle.iso_shared.specs.States.{is_up_at, state_at, tx_of}
+use Rattle.iso_shared.specs.States.{state_at, tx_of}
 use Rattle.iso_shared.specs.Told.{end_entry}
-use Rattle.iso_shared.proofs.Cores.{is_tx}
-use Rattle.iso_shared.proofs.Ends.{ahead_same, checked_of, did_end, if_err_by, init_same, may_have, on_same, own_same, up_is, work_of}
+use Rattle.iso_shared.proofs.Cores.{by_lost, is_tx}
+use Rattle.iso_shared.proofs.Ends.{ahead_same, checked_of, did_end, if_err_by, init_same, may_have, on_same, own_same, work_of}
 use Rattle.iso_shared.proofs.Giving.{core_at, entry_keeps, entry_may, refused_holds, stands_call}
 use Rattle.iso_shared.proofs.Mades.{ahead_on, held_same, made_by, one_more, own_on}
 use Rattle.iso_shared.proofs.Standings.{held_live}
@@ -124,19 +124,20 @@ returns-clause-made g c =
     )
 
 pub returns-clause-steps : goal.returns-clause-steps
-returns-clause-steps g c list e seen is_up =
+returns-clause-steps g c list e seen =
     let d = g.D.Disk.state in
     let A = g.O.Origin.start in
     let n = c.args.tx.now.number in
     let es = c.take-turn.new.pass.me.0.seen in
     let S = state_at A es in
+    let upto = c.args.tx.now.checked.upto in
     let work = c.settle.new.work in
     let live = held_live d A _ _ _ _ c.take-turn.ensures.value c.take-turn.ensures.out n (held_same n _ _ c.take-turn.ensures.same.1 c.requires.tx.1.held) in
     let own = own_same S n c.args.tx.now.work work c.settle.ensures.work (own_on A _ es n _ c.take-turn.ensures.seen c.requires.tx.1.own) in
     let ahead = ahead_same S c.args.tx.now.work work c.args.tx.now.checked c.settle.ensures.work (ahead_on A _ es _ _ c.take-turn.ensures.seen c.requires.tx.1.ahead) in
     let same : es ≡ list = init_same es list _ e (sym c.give.ensures.seen ∙ seen) in
-    let lost = up_is S.lost (subst (λ l. is_up_at A l ≡ true) (sym same) is_up) in
     let h = core_at d A _ _ _ _ c.take-turn.ensures.value (ap (λ v. v.core) c.value-guarded.ensures.value) in
-    let stands = subst (λ o. StandsFor d c.value-guarded.result.now.core S.world (standing_of o)) lost h.world in
-    subst (λ l. c.end-result.new.steps ≤ c.args.steps.now + most_steps A l c.args.tx.now.checked.upto) same
-    (c.end-result.ensures.steps S.world (tx_of S.world n work.accesses) stands (is_tx S.world n work.accesses live) (checked_of S n work c.args.tx.now.checked own live ahead))
+    subst (λ l. c.end-result.new.steps ≤ c.args.steps.now + most_steps A l upto) same
+    (by_lost d S c.value-guarded.result.now.core (c.end-result.new.steps ≤ c.args.steps.now + most_steps A es upto) h
+    (λ is stands. c.end-result.ensures.steps S.world (tx_of S.world n work.accesses) stands (is_tx S.world n work.accesses live) (checked_of S n work c.args.tx.now.checked own live ahead))
+    (λ lost is stands. let none : c.end-result.new.steps ≡ c.args.steps.now = c.end-result.ensures.no_steps S.world lost stands in omega arith))
