@@ -12,4 +12,5 @@ pub mod Postings
 pub mod Racked
 pub mod Checks
 pub mod Rows
+pub mod Traps
 pub mod TestDisks

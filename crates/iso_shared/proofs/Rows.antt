@@ -1,6 +1,6 @@
 -- What the definitions of legal lists compute on small lists, and what no legal list holds.
 use Rattle.std.proofs.Common.{◌≡◌, ◌≢◌, ℕ, Bool, true, false, List, [], ◌∷◌, ◌++◌, Option, Some, None, ap, length, replicate, refl, arith}
-use Rattle.std.specs.Prelude.{option_map}
+use Rattle.std.specs.Prelude.{is_some, option_map}
 use Rattle.iso_model.specs.declared.access.Access.{Access}
 use Rattle.iso_model.specs.declared.access.EndReply.TheVariants.{Committed, ReadOnly, Conflict}
 use Rattle.iso_model.specs.declared.access.Geometry.{Geometry}
@@ -19,22 +19,22 @@ use Rattle.iso_shared.specs.declared.entry.Entry.{Entry}
 use Rattle.iso_shared.specs.declared.entry.Entry.TheVariants as entry
 use Rattle.iso_shared.specs.declared.entry.Posting.{Posting}
 use Rattle.iso_shared.specs.Legal.{Answers, Fits, IsLegal, MayRefuse, answer_to, end_answer, handed, needed, numbers_at, returned}
-use Rattle.iso_shared.specs.States.{Start, State, after, is_loose, is_up_at, opened, state_at}
+use Rattle.iso_shared.specs.States.{Start, State, after, is_loose, opened, state_at}
 
-abbrev small : Geometry
+abbrev pub small : Geometry
 small = record { block = 64; blocks = 4; log = 256; mode = Serial; hash = 0; tree = 0; form = 1 }
 
-abbrev start : Start
+abbrev pub start : Start
 start = record { world = fresh small 1 (empty_history small); faults = 3; tells = true }
 
 -- a write of one byte of block 2, and a read of that block
-abbrev one_put : Access
+abbrev pub one_put : Access
 one_put = put_access 64 2 0 (170 ∷ [])
 
-abbrev two_begun : List Entry
+abbrev pub two_begun : List Entry
 two_begun = entry.Begin 1 0 Serial ∷ entry.Begin 2 0 Serial ∷ []
 
-abbrev one_ended : List Entry
+abbrev pub one_ended : List Entry
 one_ended = two_begun ++ entry.End 1 (one_put ∷ []) (Committed 1) ∷ []
 
 -- a first begin has number 1 and begins at commit 0
@@ -94,7 +94,7 @@ has_ended : (is_loose 1 (state_at start one_ended) ≡ false) × (is_out handed 
 has_ended = (refl, refl, refl)
 
 -- a post under a label, which is "a", and the look that takes it out
-abbrev posted : List Entry
+abbrev pub posted : List Entry
 posted = two_begun ++ entry.Post 2 (97 ∷ []) (one_put ∷ []) ∷ []
 
 looks_it_up : Fits (state_at start posted) (entry.Look (97 ∷ []) (Some (record { number = 2; begin = 0; mode = Serial; accesses = one_put ∷ [] })))
@@ -134,7 +134,7 @@ never_down : MayRefuse (opened start) call.Trim cause.Down → ⊥
 never_down may = cc (may.1)
 
 -- a fault of an end carries counts from those of the start on
-abbrev fallen : List Entry
+abbrev pub fallen : List Entry
 fallen = two_begun ++ entry.Refused (call.End 1 (one_put ∷ [])) (cause.Disk 3 4) ∷ []
 
 may_fail : MayRefuse (state_at start two_begun) (call.End 1 (one_put ∷ [])) (cause.Disk 3 4)
@@ -153,7 +153,7 @@ unfolding end_step
 no_disk may = cc (may.0.1)
 
 -- then the device is down: the transaction is gone, and nothing but an abort, a stat and the calls on labels is answered
-is_down : (is_up_at start fallen ≡ false) × (is_loose 1 (state_at start fallen) ≡ false) × (is_loose 2 (state_at start fallen) ≡ true) × ((numbers_at (state_at start fallen)).down ≡ true)
+is_down : (is_some (state_at start fallen).lost ≡ true) × (is_loose 1 (state_at start fallen) ≡ false) × (is_loose 2 (state_at start fallen) ≡ true) × ((numbers_at (state_at start fallen)).down ≡ true)
 is_down = (refl, refl, refl, refl)
 
 no_begin : Fits (state_at start fallen) (entry.Begin 3 0 Serial) → ⊥

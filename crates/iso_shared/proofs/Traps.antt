@@ -1,0 +1,178 @@
+-- What no legal list holds that a looser word would let in, and what the rows of the other file leave.
+use Rattle.std.proofs.Common.{◌≡◌, ℕ, ◌+◌, ◌-◌, zero, suc, Bool, true, false, List, [], ◌∷◌, ◌++◌, Option, Some, None, ap, length, replicate, refl, sym, ◌∙◌, arith}
+use Rattle.iso_model.specs.declared.access.Access.{Access}
+use Rattle.iso_model.specs.declared.access.EndReply.TheVariants.{Committed, ReadOnly, Conflict}
+use Rattle.iso_model.specs.declared.access.Mode.TheVariants.{Serial, Snapshot}
+use Rattle.iso_model.specs.declared.limits.TheConstants.{LAST}
+use Rattle.iso_model.specs.declared.script.Reply.{Reply}
+use Rattle.iso_model.specs.declared.script.Reply.TheVariants as reply
+use Rattle.iso_model.specs.Array.{put}
+use Rattle.iso_model.specs.Conflict.{clash}
+use Rattle.iso_model.specs.Effect.{runs}
+use Rattle.iso_model.specs.History.{last}
+use Rattle.iso_model.specs.Step.{begin_step, commit_step, end_step, put_access, read_access, switch_step, write_access}
+use Rattle.iso_model.specs.Versions.{versions}
+use Rattle.iso_model.specs.World.{World, Live, empty_history, floor, fresh, unattached, used}
+use Rattle.iso_shared.specs.declared.entry.Call.TheVariants as call
+use Rattle.iso_shared.specs.declared.entry.Cause.TheVariants as cause
+use Rattle.iso_shared.specs.declared.entry.Entry.{Entry}
+use Rattle.iso_shared.specs.declared.entry.Entry.TheVariants as entry
+use Rattle.iso_shared.specs.declared.entry.Numbers.{Numbers}
+use Rattle.iso_shared.specs.Legal.{Answers, Fits, MayHaveMade, MayRefuse, answer_to, end_answer, numbers_at, switch_answer}
+use Rattle.iso_shared.specs.Ports.{most_steps}
+use Rattle.iso_shared.specs.States.{Start, State, after, is_loose, opened, state_at}
+use Rattle.iso_shared.proofs.Rows.{fallen, one_ended, one_put, posted, small, start, two_begun}
+
+-- where the disk tells nothing, a fetch may have any bytes
+abbrev untold : Start
+untold = record start { tells = false }
+
+any_bytes : Fits (state_at untold two_begun) (entry.Fetch 2 3 [])
+any_bytes = record { needs = (refl, tt); takes = tt; answers = (refl, omega arith, λ tells. absurd (cc tells)) }
+
+not_any_bytes : Fits (state_at start two_begun) (entry.Fetch 2 3 []) → ⊥
+not_any_bytes f = let e : 0 ≡ 64 = ap (λ (l : List ℕ). length l) (f.answers.2 refl) in absurd (cc e)
+
+-- in a list that is down nothing stands that a call of the core answered
+no_end : Fits (state_at start fallen) (entry.End 2 [] ReadOnly) → ⊥
+no_end f = cc (f.answers.0)
+
+no_trim : Fits (state_at start fallen) (entry.Trim 0) → ⊥
+no_trim f = cc (f.answers.0)
+
+no_compact : Fits (state_at start fallen) (entry.Compact 0) → ⊥
+no_compact f = cc (f.answers.0)
+
+no_upgrade : Fits (state_at start fallen) (entry.Upgrade 0) → ⊥
+no_upgrade f = cc (f.answers.0)
+
+no_recent : Fits (state_at start fallen) (entry.Recent 2 0) → ⊥
+no_recent f = cc (f.answers.0)
+
+-- a fetch takes no memory, and a post is refused as down nowhere
+no_memory_for_a_fetch : MayRefuse (state_at start two_begun) (call.Fetch 1 0) cause.Memory → ⊥
+no_memory_for_a_fetch may = may
+
+no_down_for_a_post : MayRefuse (state_at start fallen) (call.Post 2 (97 ∷ []) []) cause.Down → ⊥
+no_down_for_a_post may = may.0
+
+-- a refusal that names a transaction needs it too, live and under no label
+not_under_a_label : Fits (state_at start posted) (entry.Refused (call.Recent 2) cause.Memory) → ⊥
+not_under_a_label f = cc (f.needs.0)
+
+not_after_its_end : Fits (state_at start one_ended) (entry.Refused (call.Fetch 1 0) (cause.Disk 3 4)) → ⊥
+not_after_its_end f = cc (f.needs.0)
+
+-- an end that conflicts calls no disk
+no_disk_in_conflict : MayRefuse (state_at start one_ended) (call.End 2 (read_access 2 ∷ one_put ∷ [])) (cause.Disk 3 4) → ⊥
+unfolding put clash runs end_step commit_step
+no_disk_in_conflict may = cc (may.0.1)
+
+-- no end has accesses that no transaction of the image may have made
+no_access_outside : Fits (state_at start two_begun) (entry.End 1 (write_access 4 (replicate 64 0) ∷ []) (Committed 1)) → ⊥
+no_access_outside f = let inside = f.answers.1.each.0.block in absurd (omega arith)
+
+no_short_write : Fits (state_at start two_begun) (entry.End 1 (write_access 3 [] ∷ []) (Committed 1)) → ⊥
+no_short_write f = let e = f.answers.1.each.0.bytes refl in absurd (cc e)
+
+-- each fault carries counts from those of the faults before it on
+abbrev one_fault : List Entry
+one_fault = two_begun ++ entry.Refused (call.Fetch 1 0) (cause.Disk 4 6) ∷ []
+
+later_counts : MayRefuse (state_at start one_fault) (call.Fetch 2 0) (cause.Disk 6 7)
+later_counts = (refl, omega arith, omega arith, omega arith)
+
+no_earlier_counts : MayRefuse (state_at start one_fault) (call.Fetch 2 0) (cause.Disk 5 7) → ⊥
+no_earlier_counts may = let since = may.1 in absurd (omega arith)
+
+-- the log is full by these two numbers, and no others
+abbrev whole_block : Access
+whole_block = write_access 1 (replicate 64 5)
+
+abbrev two_blocks : List Entry
+two_blocks =
+    entry.Begin 1 0 Serial
+    ∷ entry.End 1 (whole_block ∷ []) (Committed 1)
+    ∷ entry.Begin 2 1 Serial
+    ∷ entry.End 2 (whole_block ∷ []) (Committed 2)
+    ∷ entry.Begin 3 2 Serial
+    ∷ []
+
+abbrev wanted : Reply → ℕ
+wanted (reply.LogFull need free) = need
+wanted answer = 0
+
+log_is_full : MayRefuse (state_at start two_blocks) (call.End 3 (whole_block ∷ [])) (cause.LogFull 93 72)
+unfolding put clash runs end_step commit_step
+log_is_full = (refl, refl)
+
+no_other_need : MayRefuse (state_at start two_blocks) (call.End 3 (whole_block ∷ [])) (cause.LogFull 92 72) → ⊥
+no_other_need may = next_apart 92 (ap wanted (sym (log_is_full.1) ∙ may.1))
+  where
+    next_apart : (n : ℕ) → suc n ≡ n → ⊥
+    next_apart n e = absurd (omega arith)
+
+abbrev full_numbers : Numbers
+full_numbers = record { last = 2; base = 0; trim = 0; live = 1; used = 184; versions = 2; down = false }
+
+its_numbers : numbers_at (state_at start two_blocks) ≡ full_numbers
+unfolding put runs versions
+its_numbers = refl
+
+-- a compaction answers the floor; it is worn at the last generation, and then blames no disk
+compacts : Fits (state_at start two_blocks) (entry.Compact 2)
+unfolding switch_step
+compacts = record { needs = tt; takes = tt; answers = (refl, refl, refl) }
+
+not_beyond_the_floor : Fits (state_at start two_begun) (entry.Compact 1) → ⊥
+not_beyond_the_floor f = cc (f.answers.1)
+
+abbrev last_half : Start
+last_half = record { world = fresh small LAST (empty_history small); faults = 3; tells = true }
+
+worn : MayRefuse (opened last_half) call.Compact cause.Worn
+unfolding switch_step
+worn = (refl, refl)
+
+blames_no_disk : MayRefuse (opened last_half) call.Compact (cause.Disk 3 4) → ⊥
+unfolding switch_step
+blames_no_disk may = cc (may.0.1)
+
+not_worn_before : MayRefuse (opened start) call.Upgrade cause.Worn → ⊥
+unfolding switch_step
+not_worn_before may = cc (may.1)
+
+-- after an upgrade a begin in the other mode is answered
+upgraded : Fits (state_at start (entry.Upgrade 0 ∷ [])) (entry.Begin 1 0 Snapshot)
+unfolding begin_step
+upgraded = record { needs = tt; takes = tt; answers = (refl, refl, refl) }
+
+-- a sweep takes the one that was posted first since it was last taken out, though it began later
+abbrev posted_again : List Entry
+posted_again =
+    two_begun
+    ++ entry.Post 1 (97 ∷ []) []
+    ∷ entry.Post 2 (98 ∷ []) []
+    ∷ entry.Look (97 ∷ []) (Some (record { number = 1; begin = 0; mode = Serial; accesses = [] }))
+    ∷ entry.Post 1 (97 ∷ []) []
+    ∷ []
+
+sweeps_the_second : Fits (state_at start posted_again) (entry.Sweep (Some 2))
+sweeps_the_second = record { needs = tt; takes = tt; answers = refl }
+
+not_the_first : Fits (state_at start posted_again) (entry.Sweep (Some 1)) → ⊥
+not_the_first f = cc (f.answers)
+
+not_no_sweep : Fits (state_at start posted_again) (entry.Sweep None) → ⊥
+not_no_sweep f = cc (f.answers)
+
+-- thirteen commits by others after a transaction began: it was checked against ten of them, or against none
+abbrev commits : (from count : ℕ) → List Entry
+commits from zero = []
+commits from (suc n) = entry.Begin (from + 1) (from - 1) Serial ∷ entry.End (from + 1) (one_put ∷ []) (Committed from) ∷ commits (from + 1) n
+
+abbrev thirteen : List Entry
+thirteen = entry.Begin 1 0 Serial ∷ commits 1 13
+
+three_steps : (most_steps start thirteen 10 ≡ 3) × (most_steps start thirteen 0 ≡ 13)
+three_steps = (refl, refl)
