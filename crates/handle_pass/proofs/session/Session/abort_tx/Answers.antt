@@ -1,0 +1,13 @@
+use Rattle.std.proofs.Common.{ap, sym, ◌∙◌}
+use Rattle.handle_pass.specs.Sessions.{own_in, own_of}
+use Rattle.handle_pass.proofs.Entering.{made_gone}
+use Rattle.handle_pass.proofs.session.Session.abort_tx.Goals as goal
+
+pub returns-clause-did : goal.returns-clause-did
+returns-clause-did g c =
+    let was = sym c.take.ensures.value ∙ c.in-Some.is in (
+      own_in c.in-Some.tx,
+      ap own_of was,
+      ap own_of c.take.ensures.after,
+      made_gone g.O.Origin.start c.args.self.now c.abort.new.port c.take.new.self c.in-Some.tx _ c.requires.session was c.take.ensures.after c.abort.ensures.made c.abort.ensures.units,
+    )

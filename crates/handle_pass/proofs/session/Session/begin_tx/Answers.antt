@@ -1,0 +1,28 @@
+use Rattle.std.proofs.Common.{ap, subst, sym, ◌∙◌, ◌≡◌, ℕ, Some}
+use Rattle.iso_shared.specs.declared.entry.Entry.TheVariants.{Begin}
+use Rattle.handle_pass.specs.Sessions.{own_of, Made}
+use Rattle.handle_pass.proofs.Entering.{is_none, made_new, made_port, new_own}
+use Rattle.handle_pass.proofs.session.Session.begin_tx.Goals as goal
+
+pub returns-in-Ok-clause-did : goal.returns-in-Ok-clause-did
+returns-in-Ok-clause-did g c =
+    let A = g.O.Origin.start in
+    let s = c.args.self.now in
+    let t = c.in-Ok.tx in
+    let none = is_none s.tx (sym c.is_some.ensures ∙ c.if-is_some.false) in
+    let new = c.in-Ok.ensures.new in
+    let made = made_new A s c.begin.new.port c.attach.new.place t (Begin t.number t.work.begin t.work.mode) c.requires.session none c.attach.ensures c.in-Ok.ensures.made new.1 new.2 c.in-Ok.ensures.units in (
+      ap own_of none,
+      t.number,
+      t.work.mode,
+      subst (λ (at : ℕ). Made A s (record { shared = s.shared; port = c.begin.new.port; tx = c.attach.new.place }) (Begin t.number at t.work.mode)) (sym c.at-at.ensures) made,
+      c.in-Ok.ensures.tx.2,
+      ap own_of c.attach.ensures ∙ ap Some (new_own t c.at-at.result c.at-at.ensures c.in-Ok.ensures.tx.1),
+    )
+
+pub returns-in-Err-clause-did : goal.returns-in-Err-clause-did
+returns-in-Err-clause-did g c =
+    let s = c.args.self.now in
+    let none = ap own_of (is_none s.tx (sym c.is_some.ensures ∙ c.if-is_some.false)) in
+    let m = c.in-Err.ensures.err in
+    (none, none, m.0, m.1, made_port g.O.Origin.start s c.begin.new.port _ c.requires.session m.2 c.in-Err.ensures.units)

@@ -1,0 +1,13 @@
+use Rattle.std.proofs.Common.{ap, refl, subst, sym, None, Option}
+use Rattle.turn_lock.specs.Pass.{view}
+use Rattle.handle_pass.specs.Calls.{EndsWith}
+use Rattle.handle_pass.specs.Sessions.{own_of, Own}
+use Rattle.handle_pass.proofs.Entering.{made_gone}
+use Rattle.handle_pass.proofs.session.Session.finish.Goals as goal
+
+pub returns-in-Some-clause-did : goal.returns-in-Some-clause-did
+returns-in-Some-clause-did g c =
+    let A = g.O.Origin.start in
+    let s = c.args.self in
+    let made = made_gone A s c.abort.new.port None c.in-Some.tx _ c.requires.session c.in-Some.is refl c.abort.ensures.made c.abort.ensures.units in
+    subst (λ (o : Option Own). EndsWith A s o (view c.abort.new.port.pass)) (sym (ap own_of c.in-Some.is)) made.entered

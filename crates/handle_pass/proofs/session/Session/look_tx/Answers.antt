@@ -1,0 +1,23 @@
+use Rattle.std.proofs.Common.{ap, sym, ◌∙◌}
+use Rattle.handle_pass.specs.Sessions.{own_in, own_of}
+use Rattle.handle_pass.proofs.Entering.{is_none, made_new, made_port}
+use Rattle.handle_pass.proofs.session.Session.look_tx.Goals as goal
+
+pub returns-in-Some-clause-did : goal.returns-in-Some-clause-did
+returns-in-Some-clause-did g c =
+    let s = c.args.self.now in
+    let t = c.in-Some.tx in
+    let none = is_none s.tx (sym c.is_some.ensures ∙ c.if-is_some.false) in
+    let new = c.in-Some.ensures.tx in (
+      ap own_of none,
+      own_in t,
+      ap own_of c.attach.ensures,
+      c.at-at.ensures,
+      made_new g.O.Origin.start s c.look.new.port c.attach.new.place t _ c.requires.session none c.attach.ensures c.in-Some.ensures.found new.2 new.3 c.in-Some.ensures.units,
+    )
+
+pub returns-in-None-clause-did : goal.returns-in-None-clause-did
+returns-in-None-clause-did g c =
+    let s = c.args.self.now in
+    let none = ap own_of (is_none s.tx (sym c.is_some.ensures ∙ c.if-is_some.false)) in
+    (none, none, made_port g.O.Origin.start s c.look.new.port _ c.requires.session c.in-None.ensures.none c.in-None.ensures.units)

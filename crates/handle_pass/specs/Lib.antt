@@ -1,0 +1,5 @@
+pub mod Sessions
+pub mod Calls
+pub mod Accesses
+pub mod Handles
+pub mod Logs

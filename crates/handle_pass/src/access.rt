@@ -1,0 +1,101 @@
+// Reads, writes and marks of a session's transaction.
+ghost use Rattle.std.specs.Prelude.{◌≡◌, length};
+ghost use Rattle.handle_pass.specs.Accesses.{access_answer, mark_answer, HasMarked, HasRead, HasWritten, IsReadCause, IsWriteCause};
+ghost use Rattle.handle_pass.specs.Sessions.{IsSession};
+ghost use Rattle.tx_blocks.specs.Tx.{IsRefused};
+
+use crate::session::Session;
+use iso_disk::Disk;
+use iso_model::{CoreError, MarkError, TxError};
+use iso_shared::Origin;
+use std::sync::Wait;
+
+impl<'a, D: Disk + Drop, O: Origin> Session<'a, D, O> {
+    /// Reads a block as it stood when the transaction began, with its own writes over it. The access covers the whole block
+    /// until it is marked. Each refusal leaves the transaction as it was.
+    pub fn read_block<R: Wait>(
+        &mut self,
+        rt: &R,
+        block: u32,
+        into: &mut [u8],
+    ) -> Result<(), TxError>
+        requires session { IsSession O.start self.old }
+        requires size { length into.old ≡ O.start.world.geometry.block }
+        ensures session { IsSession O.start self.new }
+        ensures cause { IsRefused (access_answer O.start self.old block) IsReadCause result }
+        ensures did { HasRead O.start self.old block result into.new self.new }
+    {
+        match &mut self.tx {
+            None => Err(TxError::NotInTx),
+            Some(tx) => {
+                if block >= self.shared.geometry().blocks {
+                    return Err(TxError::BadBlock);
+                }
+                if tx.room() == 0 {
+                    return Err(TxError::TooManyAccesses);
+                }
+                if let Err(_) = tx.reserve(block) {
+                    return Err(TxError::Memory);
+                }
+                self.shared.tell_tx(&mut self.port, tx);
+                let fetched = self.shared.fetch(rt, tx, block, into);
+                self.shared.tell_port(tx, &mut self.port);
+                match fetched {
+                    Ok(()) => {
+                        tx.read(block, into);
+                        Ok(())
+                    }
+                    Err(error) => match error {
+                        CoreError::Disk => Err(TxError::Disk),
+                        _ => Err(TxError::Down),
+                    },
+                }
+            }
+        }
+    }
+
+    /// Writes a block, or those bytes of it that are marked after. It waits for nobody. Each refusal leaves all as it was.
+    pub fn write_block(&mut self, block: u32, bytes: &[u8]) -> Result<(), TxError>
+        requires session { IsSession O.start self.old }
+        requires size { length bytes.now ≡ O.start.world.geometry.block }
+        ensures session { IsSession O.start self.new }
+        ensures cause { IsRefused (access_answer O.start self.old block) IsWriteCause result }
+        ensures did { HasWritten self.old block bytes.now result self.new }
+    {
+        match &mut self.tx {
+            None => Err(TxError::NotInTx),
+            Some(tx) => {
+                if block >= self.shared.geometry().blocks {
+                    return Err(TxError::BadBlock);
+                }
+                if tx.room() == 0 {
+                    return Err(TxError::TooManyAccesses);
+                }
+                if let Err(_) = tx.reserve(block) {
+                    return Err(TxError::Memory);
+                }
+                tx.write(block, bytes);
+                Ok(())
+            }
+        }
+    }
+
+    /// Marks a range of the last access: the first mark stands for the whole block, and further ones add to it. It waits for
+    /// nobody, and takes no memory. Each refusal leaves all as it was.
+    pub fn mark_accessed(&mut self, off: u16, len: u16) -> Result<(), TxError>
+        requires session { IsSession O.start self.old }
+        ensures session { IsSession O.start self.new }
+        ensures cause { IsRefused (mark_answer O.start self.old off len) (λ e. ⊥) result }
+        ensures did { HasMarked self.old off len result self.new }
+    {
+        match &mut self.tx {
+            None => Err(TxError::NotInTx),
+            Some(tx) => match tx.mark(off, len) {
+                Ok(()) => Ok(()),
+                Err(MarkError::BadRange) => Err(TxError::BadRange),
+                Err(MarkError::NoAccess) => Err(TxError::NoAccess),
+                Err(MarkError::TooManyMarks) => Err(TxError::TooManyMarks),
+            },
+        }
+    }
+}

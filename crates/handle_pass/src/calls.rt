@@ -1,0 +1,97 @@
+// The begin of a session's transaction, its end and its abort, and the check ahead of its end.
+ghost use Rattle.std.specs.Prelude.{◌≡◌, ◌<◌};
+ghost use Rattle.handle_pass.specs.Calls.{HasAborted, HasBegun, HasChecked, HasEnded};
+ghost use Rattle.handle_pass.specs.Sessions.{units, IsSession};
+
+use crate::errors::{BeginError, EndError};
+use crate::session::{Session, attach};
+use iso_disk::Disk;
+use iso_model::{CoreError, EndReply, Mode, NotInTx};
+use iso_shared::Origin;
+use std::sync::Wait;
+use step_count::{Ledger, Steps};
+
+impl<'a, D: Disk + Drop, O: Origin> Session<'a, D, O> {
+    /// Begins a transaction in the mode that is named, or else in the image's, and answers its begin.
+    pub fn begin_tx<R: Wait>(&mut self, rt: &R, mode: Option<Mode>) -> Result<u64, BeginError>
+        requires session { IsSession O.start self.old }
+        requires units { 1 < units self.old }
+        ensures session { IsSession O.start self.new }
+        ensures did { HasBegun O.start self.old mode result self.new }
+    {
+        if self.tx.is_some() {
+            return Err(BeginError::InTx);
+        }
+        match self.shared.begin(rt, &mut self.port, mode) {
+            Ok(tx) => {
+                let at = tx.at();
+                attach(&mut self.tx, tx);
+                Ok(at)
+            }
+            Err(error) => Err(BeginError::Core(error)),
+        }
+    }
+
+    /// Compares what the transaction did with the commits since, ahead of the turn of its end, and answers up to which one.
+    /// After a refusal it is attached as it was.
+    pub fn check_tx<R: Wait>(&mut self, rt: &R) -> Result<u64, EndError>
+        requires session { IsSession O.start self.old }
+        ensures session { IsSession O.start self.new }
+        ensures did { HasChecked O.start self.old result self.new }
+    {
+        match &mut self.tx {
+            None => Err(EndError::NotInTx),
+            Some(tx) => {
+                self.shared.tell_tx(&mut self.port, tx);
+                let recent = self.shared.recent(rt, tx);
+                self.shared.tell_port(tx, &mut self.port);
+                match recent {
+                    Ok(recent) => match tx.check(recent) {
+                        Ok(upto) => Ok(upto),
+                        Err(_) => Err(EndError::Core(CoreError::Memory)),
+                    },
+                    Err(error) => Err(EndError::Core(error)),
+                }
+            }
+        }
+    }
+
+    /// Ends the transaction. After `Disk` it is gone, as after an answer; after any other refusal it is attached as it was.
+    pub fn end_tx<L: Ledger, R: Wait>(
+        &mut self,
+        rt: &R,
+        steps: &mut Steps<L>,
+    ) -> Result<EndReply, EndError>
+        requires session { IsSession O.start self.old }
+        ensures session { IsSession O.start self.new }
+        ensures did { HasEnded O.start self.old steps.old result self.new steps.new }
+    {
+        let Some(tx) = self.tx.take() else {
+            return Err(EndError::NotInTx);
+        };
+        match self.shared.end(rt, &mut self.port, tx, steps) {
+            Ok(reply) => Ok(reply),
+            Err((error, back)) => match back {
+                None => Err(EndError::Core(error)),
+                Some(mut tx) => {
+                    self.shared.tell_port(&mut tx, &mut self.port);
+                    attach(&mut self.tx, tx);
+                    Err(EndError::Core(error))
+                }
+            },
+        }
+    }
+
+    /// Aborts the transaction.
+    pub fn abort_tx<R: Wait>(&mut self, rt: &R) -> Result<(), NotInTx>
+        requires session { IsSession O.start self.old }
+        ensures session { IsSession O.start self.new }
+        ensures did { HasAborted O.start self.old result self.new }
+    {
+        let Some(tx) = self.tx.take() else {
+            return Err(NotInTx);
+        };
+        self.shared.abort(rt, &mut self.port, tx);
+        Ok(())
+    }
+}

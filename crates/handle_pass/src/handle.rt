@@ -1,0 +1,47 @@
+// A transaction that goes from one session to another, without an entry of the list.
+ghost use Rattle.std.specs.Prelude.{◌≡◌};
+ghost use Rattle.handle_pass.specs.Handles.{HasReleased, HasTakenOver, IsHandle};
+ghost use Rattle.handle_pass.specs.Sessions.{device, IsSession};
+
+use crate::session::{Session, attach};
+use iso_disk::Disk;
+use iso_model::{InTx, NotInTx};
+use iso_shared::{Origin, Tx};
+
+/// A transaction that no session has. It has one holder, and must be spent.
+pub struct Handle<D: Disk + Drop, O: Origin> {
+    pub(crate) tx: Tx<D, O>,
+}
+
+impl<'a, D: Disk + Drop, O: Origin> Session<'a, D, O> {
+    /// Detaches the transaction, which then knows all that the session does. It waits for nobody, and takes no memory.
+    pub fn release_tx(&mut self) -> Result<Handle<D, O>, NotInTx>
+        requires session { IsSession O.start self.old }
+        ensures session { IsSession O.start self.new }
+        ensures did { HasReleased O.start self.old result self.new }
+    {
+        let Some(mut tx) = self.tx.take() else {
+            return Err(NotInTx);
+        };
+        self.shared.tell_tx(&mut self.port, &mut tx);
+        Ok(Handle { tx })
+    }
+
+    /// Attaches a transaction, and answers its begin; the session then knows all that it does. A session in a transaction hands
+    /// it back. It waits for nobody, and takes no memory.
+    pub fn takeover_tx(&mut self, handle: Handle<D, O>) -> Result<u64, (InTx, Handle<D, O>)>
+        requires session { IsSession O.start self.old }
+        requires handle { IsHandle O.start (device self.old) handle }
+        ensures session { IsSession O.start self.new }
+        ensures did { HasTakenOver self.old handle result self.new }
+    {
+        if self.tx.is_some() {
+            return Err((InTx, handle));
+        }
+        let Handle { mut tx } = handle;
+        self.shared.tell_port(&mut tx, &mut self.port);
+        let at = tx.at();
+        attach(&mut self.tx, tx);
+        Ok(at)
+    }
+}

@@ -1,0 +1,57 @@
+// Transactions under labels.
+ghost use Rattle.std.specs.Prelude.{◌≡◌, ◌<◌};
+ghost use Rattle.handle_pass.specs.Handles.{HasLooked, HasPosted};
+ghost use Rattle.handle_pass.specs.Sessions.{units, IsSession};
+
+use crate::errors::PostTxError;
+use crate::session::{Session, attach};
+use iso_disk::Disk;
+use iso_model::{InTx, Label};
+use iso_shared::Origin;
+use std::sync::Wait;
+use tx_table::PostError;
+
+impl<'a, D: Disk + Drop, O: Origin> Session<'a, D, O> {
+    /// Puts the transaction under a label. After a refusal it is attached as it was.
+    pub fn post_tx<R: Wait>(&mut self, rt: &R, label: Label) -> Result<(), PostTxError>
+        requires session { IsSession O.start self.old }
+        ensures session { IsSession O.start self.new }
+        ensures did { HasPosted O.start self.old label result self.new }
+    {
+        let Some(tx) = self.tx.take() else {
+            return Err(PostTxError::NotInTx);
+        };
+        match self.shared.post(rt, &mut self.port, label, tx) {
+            Ok(()) => Ok(()),
+            Err((error, mut tx)) => {
+                self.shared.tell_port(&mut tx, &mut self.port);
+                attach(&mut self.tx, tx);
+                match error {
+                    PostError::LabelTaken => Err(PostTxError::LabelTaken),
+                    PostError::Memory => Err(PostTxError::Memory),
+                }
+            }
+        }
+    }
+
+    /// Attaches the transaction under a label and answers its begin, and none exactly where the label is not held. It takes no
+    /// memory.
+    pub fn look_tx<R: Wait>(&mut self, rt: &R, label: &Label) -> Result<Option<u64>, InTx>
+        requires session { IsSession O.start self.old }
+        requires units { 1 < units self.old }
+        ensures session { IsSession O.start self.new }
+        ensures did { HasLooked O.start self.old label.now result self.new }
+    {
+        if self.tx.is_some() {
+            return Err(InTx);
+        }
+        match self.shared.look(rt, &mut self.port, label) {
+            Some(tx) => {
+                let at = tx.at();
+                attach(&mut self.tx, tx);
+                Ok(Some(at))
+            }
+            None => Ok(None),
+        }
+    }
+}

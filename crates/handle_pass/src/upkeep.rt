@@ -1,0 +1,54 @@
+// The calls that need no transaction, and leave the one that there is.
+ghost use Rattle.std.specs.Prelude.{◌≡◌, ℕ};
+ghost use Rattle.iso_shared.specs.declared.entry.Entry.TheVariants.{Stat as OfStat};
+ghost use Rattle.iso_shared.specs.Told.{compact_entry, numbers_of, trim_entry, upgrade_entry};
+ghost use Rattle.handle_pass.specs.Sessions.{KeepsTx, IsSession, Made};
+
+use crate::session::Session;
+use iso_core::Stat;
+use iso_disk::Disk;
+use iso_model::CoreError;
+use iso_shared::Origin;
+use std::sync::Wait;
+
+impl<'a, D: Disk + Drop, O: Origin> Session<'a, D, O> {
+    /// Lets the versions go that no transaction can be shown any more, and answers the floor.
+    pub fn trim<R: Wait>(&mut self, rt: &R) -> Result<u64, CoreError>
+        requires session { IsSession O.start self.old }
+        ensures session { IsSession O.start self.new }
+        ensures did { (before : ℕ) × (now : ℕ) × Made O.start self.old self.new (trim_entry before now result) }
+        ensures tx { KeepsTx self.old self.new }
+    {
+        self.shared.trim(rt, &mut self.port)
+    }
+
+    /// Moves the base to the floor, in the other half, and answers the floor.
+    pub fn compact<R: Wait>(&mut self, rt: &R) -> Result<u64, CoreError>
+        requires session { IsSession O.start self.old }
+        ensures session { IsSession O.start self.new }
+        ensures did { (before : ℕ) × (now : ℕ) × Made O.start self.old self.new (compact_entry before now result) }
+        ensures tx { KeepsTx self.old self.new }
+    {
+        self.shared.compact(rt, &mut self.port)
+    }
+
+    /// Does so with an image of form 2, in which transactions of either mode may begin.
+    pub fn upgrade<R: Wait>(&mut self, rt: &R) -> Result<u64, CoreError>
+        requires session { IsSession O.start self.old }
+        ensures session { IsSession O.start self.new }
+        ensures did { (before : ℕ) × (now : ℕ) × Made O.start self.old self.new (upgrade_entry before now result) }
+        ensures tx { KeepsTx self.old self.new }
+    {
+        self.shared.upgrade(rt, &mut self.port)
+    }
+
+    /// The numbers of the image and of its transactions.
+    pub fn stat<R: Wait>(&mut self, rt: &R) -> Stat
+        requires session { IsSession O.start self.old }
+        ensures session { IsSession O.start self.new }
+        ensures did { Made O.start self.old self.new (OfStat (numbers_of result)) }
+        ensures tx { KeepsTx self.old self.new }
+    {
+        self.shared.stat(rt, &mut self.port)
+    }
+}
