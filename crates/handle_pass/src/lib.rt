@@ -9,6 +9,9 @@ mod labels;
 mod session;
 mod upkeep;
 
+#[cfg(test)]
+mod tests;
+
 pub use errors::{BeginError, EndError, PostTxError};
 pub use handle::Handle;
 pub use session::Session;
