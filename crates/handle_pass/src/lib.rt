@@ -7,10 +7,9 @@ mod errors;
 mod handle;
 mod labels;
 mod session;
-mod upkeep;
-
 #[cfg(test)]
 mod tests;
+mod upkeep;
 
 pub use errors::{BeginError, EndError, PostTxError};
 pub use handle::Handle;

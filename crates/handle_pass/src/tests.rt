@@ -6,13 +6,12 @@ ghost use Rattle.iso_core.specs.Standing.{up};
 ghost use Rattle.iso_memdisk.specs.MemDisk.{state_of};
 ghost use Rattle.iso_model.specs.Geometry.{is_valid};
 ghost use Rattle.iso_model.specs.World.{empty_history, fresh};
-ghost use Rattle.iso_shared.specs.Ports.{first_geometry, port_view, IsPort};
 ghost use Rattle.iso_shared.specs.TestImage.{small, MayStart};
 ghost use Rattle.handle_pass.specs.Handles.{IsHandle};
 ghost use Rattle.handle_pass.specs.Sessions.{device, own, units, IsSession};
 
 use crate::{EndError, Handle, PostTxError, Session};
-use iso_core::Core;
+use iso_core::{Core, Stat};
 use iso_memdisk::MemDisk;
 use iso_model::{EndReply, Geometry, InTx, Label, Memory, Mode, NotInTx};
 use iso_recover::format_image;
@@ -22,7 +21,7 @@ use std::marker::Brand;
 use std::sync::Wait;
 use std::sync::ledger::{Blank, Ledger};
 use std::test::Fail;
-use std::thread::{Threads, join};
+use std::thread::{Threads, join_mut};
 use step_count::Steps;
 
 #[tactic(auto, unfolding(iso_model::specs::Geometry::is_valid))]
@@ -112,35 +111,190 @@ fn committed<O: Origin, R: Wait>(
     Some((bytes[0], reply))
 }
 
-/// One thread begins a transaction and writes.
-fn hand_out<O: Origin, R: Wait>(
+/// The same of a handle that lies in this place, which is empty then.
+fn committed_from<O: Origin, R: Wait>(
     rt: &R,
-    shared: &Shared<MemDisk, O>,
-    port: Port<MemDisk, O>,
-) -> (Port<MemDisk, O>, Option<Handle<MemDisk, O>>)
-    requires port { IsPort shared.now port × (1 < (port_view port).units) }
-    requires image { (O.start.world.geometry ≡ small) × (first_geometry shared.now ≡ small) }
-    ensures port { IsPort shared.now result.0 }
-    ensures handle { IfSome result.1 (IsHandle O.start shared.now) }
+    session: &mut Session<MemDisk, O>,
+    place: &mut Option<Handle<MemDisk, O>>,
+) -> Option<(u8, EndReply)>
+    requires session { IsSession O.start session.old × (own session.old ≡ None) }
+    requires handle { IfSome place.old (IsHandle O.start (device session.old)) }
+    requires image { O.start.world.geometry ≡ small }
+    ensures session { IsSession O.start session.new × (device session.new ≡ device session.old) }
+    ensures place { place.new ≡ None }
 {
-    let mut session = Session::new(shared, port);
-    let handle = written(rt, &mut session);
-    (session.finish(rt), handle)
+    match place.take() {
+        None => None,
+        Some(handle) => committed(rt, session, handle),
+    }
 }
 
-/// Another one takes it over, reads and commits.
-fn take_on<O: Origin, R: Wait>(
+/// A transaction is begun and written in one thread; then another thread takes it over and commits it. Beside them the other
+/// session reads the numbers of the image.
+fn across<O: Origin + Send + Sync, R: Threads + Wait + Sync>(
     rt: &R,
-    shared: &Shared<MemDisk, O>,
-    port: Port<MemDisk, O>,
-    handle: Handle<MemDisk, O>,
-) -> (Port<MemDisk, O>, Option<(u8, EndReply)>)
-    requires port { IsPort shared.now port }
-    requires handle { IsHandle O.start shared.now handle }
-    requires image { (O.start.world.geometry ≡ small) × (first_geometry shared.now ≡ small) }
-    ensures port { IsPort shared.now result.0 }
+    first: &mut Session<MemDisk, O>,
+    second: &mut Session<MemDisk, O>,
+) -> Option<(u8, EndReply)>
+    requires first { IsSession O.start first.old × (1 < units first.old) }
+    requires second { IsSession O.start second.old × (own second.old ≡ None) }
+    requires one { device second.old ≡ device first.old }
+    requires image { O.start.world.geometry ≡ small }
+    ensures first { IsSession O.start first.new × (device first.new ≡ device first.old) }
+    ensures second { IsSession O.start second.new × (device second.new ≡ device second.old) }
 {
-    let mut session = Session::new(shared, port);
-    let seen = committed(rt, &mut session, handle);
-    (session.finish(rt), seen)
+    let (handle, _) = join_mut(
+        rt,
+        &mut || -> Option<Handle<MemDisk, O>>
+            requires { IsSync R.row × IsSession O.start first.now × (1 < units first.now) × (O.start.world.geometry ≡ small) }
+            ensures { IsSession O.start first.exit.now × (device first.exit.now ≡ device first.entry.now) × IfSome result (IsHandle O.start (device first.entry.now)) }
+        { written(rt, first) },
+        &mut || -> Stat
+            requires { IsSync R.row × IsSession O.start second.now }
+            ensures { IsSession O.start second.exit.now × (device second.exit.now ≡ device second.entry.now) × (own second.exit.now ≡ own second.entry.now) }
+        { second.stat(rt) },
+    );
+    let mut place = Some(handle?);
+    let (_, seen) = join_mut(
+        rt,
+        &mut || -> Stat
+            requires { IsSync R.row × IsSession O.start first.now }
+            ensures { IsSession O.start first.exit.now × (device first.exit.now ≡ device first.entry.now) }
+        { first.stat(rt) },
+        &mut || -> Option<(u8, EndReply)>
+            requires { IsSync R.row × IsSession O.start second.now × (own second.now ≡ None) × IfSome place (IsHandle O.start (device second.now)) × (O.start.world.geometry ≡ small) }
+            ensures { IsSession O.start second.exit.now × (device second.exit.now ≡ device second.entry.now) × (place.exit ≡ None) }
+        { committed_from(rt, second, &mut place) },
+    );
+    if let Some(_) = place {
+        unreachable!()
+    }
+    seen
+}
+
+/// The same of two sessions over a core.
+fn run_across<O: Origin + Send + Sync, R: Threads + Wait + Sync>(
+    rt: &R,
+    alloc: Global,
+    core: Core<MemDisk>,
+) -> Option<(u8, EndReply)>
+    requires start { MayStart state_of O.start core }
+{
+    match Shared::<MemDisk, O>::new(alloc, core) {
+        Err((_memory, _core)) => None,
+        Ok((shared, mut port)) => {
+            let other = shared.port(&mut port, 1 << 32);
+            let mut first = Session::new(&shared, port);
+            let mut second = Session::new(&shared, other);
+            let seen = across(rt, &mut first, &mut second);
+            let _ = first.finish(rt);
+            let _ = second.finish(rt);
+            seen
+        }
+    }
+}
+
+/// The same over a new core.
+fn across_threads<R: Threads + Wait + Sync>(rt: &R, alloc: Global) -> Option<(u8, EndReply)> {
+    let core = new_core(alloc).ok()?;
+    run_across::<Brand, R>(rt, alloc, core)
+}
+
+#[test]
+fn a_handle_goes_to_another_thread(rt: HostRuntime) -> Result<(), Fail> {
+    let (shown, reply) = across_threads(&rt, rt.alloc()).expect(&rt, "a transaction");
+    assert_eq!(rt; shown, 7);
+    assert!(rt; matches!(reply, EndReply::Committed(1)));
+    Ok(())
+}
+
+/// A session in a transaction hands a handle back, which the session that released it then takes.
+fn passed_back<O: Origin, R: Wait>(
+    rt: &R,
+    first: &mut Session<MemDisk, O>,
+    second: &mut Session<MemDisk, O>,
+) -> Option<bool>
+    requires first { IsSession O.start first.old × (own first.old ≡ None) × (1 < units first.old) }
+    requires second { IsSession O.start second.old × (own second.old ≡ None) × (1 < units second.old) }
+    requires one { device second.old ≡ device first.old }
+    ensures first { IsSession O.start first.new × (device first.new ≡ device first.old) }
+    ensures second { IsSession O.start second.new × (device second.new ≡ device second.old) }
+{
+    second.begin_tx(rt, None).ok()?;
+    first.begin_tx(rt, None).ok()?;
+    let handle = first.release_tx().ok()?;
+    match second.takeover_tx(handle) {
+        Err((InTx, handle)) => match first.takeover_tx(handle) {
+            Ok(_) => Some(true),
+            Err(_) => unreachable!(),
+        },
+        Ok(_) => unreachable!(),
+    }
+}
+
+/// A label that is held is taken; the transaction stays. Then the first session has none to release.
+fn label_taken<O: Origin, R: Wait>(
+    rt: &R,
+    first: &mut Session<MemDisk, O>,
+    second: &mut Session<MemDisk, O>,
+) -> Option<(bool, bool, u64)>
+    requires first { IsSession O.start first.old }
+    requires second { IsSession O.start second.old }
+    ensures first { IsSession O.start first.new × (device first.new ≡ device first.old) }
+    ensures second { IsSession O.start second.new × (device second.new ≡ device second.old) }
+{
+    first.post_tx(rt, Label::new(b"moved")?).ok()?;
+    let refused = matches!(
+        second.post_tx(rt, Label::new(b"moved")?),
+        Err(PostTxError::LabelTaken)
+    );
+    let none = match first.release_tx() {
+        Err(NotInTx) => true,
+        Ok(handle) => match first.takeover_tx(handle) {
+            Ok(_) => false,
+            Err(_) => unreachable!(),
+        },
+    };
+    Some((refused, none, first.stat(rt).live.into()))
+}
+
+/// Both of two sessions over a core.
+fn run_refusals<O: Origin, R: Wait>(
+    rt: &R,
+    alloc: Global,
+    core: Core<MemDisk>,
+) -> Option<(bool, bool, u64)>
+    requires start { MayStart state_of O.start core }
+{
+    match Shared::<MemDisk, O>::new(alloc, core) {
+        Err((_memory, _core)) => None,
+        Ok((shared, mut port)) => {
+            let other = shared.port(&mut port, 1 << 32);
+            let mut first = Session::new(&shared, port);
+            let mut second = Session::new(&shared, other);
+            let passed = passed_back(rt, &mut first, &mut second);
+            let said = match passed {
+                Some(true) => label_taken(rt, &mut first, &mut second),
+                _ => None,
+            };
+            let _ = first.finish(rt);
+            let _ = second.finish(rt);
+            said
+        }
+    }
+}
+
+/// The same over a new core.
+fn refusals<R: Wait>(rt: &R, alloc: Global) -> Option<(bool, bool, u64)> {
+    let core = new_core(alloc).ok()?;
+    run_refusals::<Brand, R>(rt, alloc, core)
+}
+
+#[test]
+fn a_session_in_a_transaction_hands_a_handle_back(rt: HostRuntime) -> Result<(), Fail> {
+    let (refused, none, live) = refusals(&rt, rt.alloc()).expect(&rt, "two transactions");
+    assert!(rt; refused);
+    assert!(rt; none);
+    assert_eq!(rt; live, 2);
+    Ok(())
 }
