@@ -1,9 +1,8 @@
 // What the calls of a device answer through the lock, one after another: the check ahead, labels and upkeep.
 ghost use Rattle.std.specs.Prelude.{◌≡◌, ◌+◌, ◌<◌, ◌≤◌, ℕ, IfSome, MatchOption};
 ghost use Rattle.iso_memdisk.specs.MemDisk.{state_of};
-ghost use Rattle.iso_shared.specs.Ports.{IsPort, IsTx};
+ghost use Rattle.iso_shared.specs.Ports.{IsPort, IsTx, port_view, tx_view};
 ghost use Rattle.iso_shared.specs.TestImage.{small, MayStart};
-ghost use Rattle.turn_lock.specs.Pass.{view};
 
 use crate::tests::{commits, ended, new_core, put};
 use crate::{Origin, Port, Shared, Tx};
@@ -18,15 +17,15 @@ use std::test::Fail;
 use tx_table::PostError;
 
 /// A transaction that has read block 0 and written the first byte of block 2.
-fn one_at_work<O: Origin, R: Wait>(
+pub(crate) fn one_at_work<O: Origin, R: Wait>(
     rt: &R,
     shared: &Shared<MemDisk, O>,
     port: &mut Port<MemDisk, O>,
 ) -> Option<Tx<MemDisk, O>>
-    requires port { IsPort shared.now port.old × (1 < (view port.old.pass).units) }
+    requires port { IsPort shared.now port.old × (1 < (port_view port.old).units) }
     requires image { O.start.world.geometry ≡ small }
     ensures port { IsPort shared.now port.new }
-    ensures units { MatchOption result ((view port.new.pass).units ≡ (view port.old.pass).units) (λ t. (view port.new.pass).units + (view t.pass).units ≡ (view port.old.pass).units) }
+    ensures units { MatchOption result ((port_view port.new).units ≡ (port_view port.old).units) (λ t. (port_view port.new).units + (tx_view t).units ≡ (port_view port.old).units) }
     ensures tx { IfSome result (IsTx shared.now O.start) }
 {
     let Ok(mut tx) = shared.begin(rt, port, None) else {
@@ -59,7 +58,7 @@ fn check<O: Origin, R: Wait>(
 ) -> Option<u64>
     requires tx { IsTx shared.now O.start tx.old }
     ensures tx { IsTx shared.now O.start tx.new }
-    ensures units { (view tx.new.pass).units ≡ (view tx.old.pass).units }
+    ensures units { (tx_view tx.new).units ≡ (tx_view tx.old).units }
 {
     match shared.recent(rt, tx) {
         Ok(recent) => match tx.check(recent) {
@@ -75,7 +74,7 @@ fn run_ahead<O: Origin, R: Wait>(
     rt: &R,
     alloc: Global,
     core: Core<MemDisk>,
-) -> Option<(Option<u64>, u64, Option<EndReply>)>
+) -> Option<(Option<u64>, u64, Result<EndReply, CoreError>)>
     requires start { MayStart state_of O.start core }
 {
     match Shared::<MemDisk, O>::new(alloc, core) {
@@ -94,7 +93,10 @@ fn run_ahead<O: Origin, R: Wait>(
 }
 
 /// The same over a new core.
-fn checked_ahead<R: Wait>(rt: &R, alloc: Global) -> Option<(Option<u64>, u64, Option<EndReply>)> {
+fn checked_ahead<R: Wait>(
+    rt: &R,
+    alloc: Global,
+) -> Option<(Option<u64>, u64, Result<EndReply, CoreError>)> {
     let core = new_core(alloc).ok()?;
     run_ahead::<Brand, R>(rt, alloc, core)
 }
@@ -104,7 +106,7 @@ fn a_check_ahead_leaves_three_commits(rt: HostRuntime) -> Result<(), Fail> {
     let (upto, checked, reply) = checked_ahead(&rt, rt.alloc()).expect(&rt, "a device");
     assert_eq!(rt; upto, Some(10));
     assert_eq!(rt; checked, 10);
-    assert_eq!(rt; reply, Some(EndReply::Committed(14)));
+    assert_eq!(rt; reply, Ok(EndReply::Committed(14)));
     Ok(())
 }
 
@@ -115,10 +117,10 @@ fn post<O: Origin, R: Wait>(
     port: &mut Port<MemDisk, O>,
     label: Label,
 ) -> Option<(Result<(), PostError>, u32)>
-    requires port { IsPort shared.now port.old × (1 < (view port.old.pass).units) }
+    requires port { IsPort shared.now port.old × (1 < (port_view port.old).units) }
     requires image { O.start.world.geometry ≡ small }
     ensures port { IsPort shared.now port.new }
-    ensures units { (view port.new.pass).units ≡ (view port.old.pass).units }
+    ensures units { (port_view port.new).units ≡ (port_view port.old).units }
 {
     let tx = one_at_work(rt, shared, port)?;
     let answer = match shared.post(rt, port, label, tx) {
@@ -137,10 +139,10 @@ fn look<O: Origin, R: Wait>(
     shared: &Shared<MemDisk, O>,
     port: &mut Port<MemDisk, O>,
     label: &Label,
-) -> Option<(u64, u32, Option<EndReply>)>
-    requires port { IsPort shared.now port.old × (1 < (view port.old.pass).units) }
+) -> Option<(u64, u32, Result<EndReply, CoreError>)>
+    requires port { IsPort shared.now port.old × (1 < (port_view port.old).units) }
     ensures port { IsPort shared.now port.new }
-    ensures units { (view port.new.pass).units ≡ (view port.old.pass).units }
+    ensures units { (port_view port.new).units ≡ (port_view port.old).units }
 {
     let tx = shared.look(rt, port, label)?;
     let at = tx.at();
@@ -149,14 +151,28 @@ fn look<O: Origin, R: Wait>(
     Some((at, room, reply))
 }
 
+/// What three sweeps answer.
+fn sweeps<O: Origin, R: Wait>(
+    rt: &R,
+    shared: &Shared<MemDisk, O>,
+    port: &mut Port<MemDisk, O>,
+) -> (Option<u64>, Option<u64>, Option<u64>)
+    requires port { IsPort shared.now port.old }
+    ensures port { IsPort shared.now port.new }
+{
+    let first = shared.sweep(rt, port);
+    let second = shared.sweep(rt, port);
+    let third = shared.sweep(rt, port);
+    (first, second, third)
+}
+
 /// What the calls on labels answer.
 type LabelAnswers = (
     Option<(Result<(), PostError>, u32)>,
     Option<(Result<(), PostError>, u32)>,
-    Option<(u64, u32, Option<EndReply>)>,
-    Option<(u64, u32, Option<EndReply>)>,
-    Option<u64>,
-    Option<u64>,
+    Option<(u64, u32, Result<EndReply, CoreError>)>,
+    Option<(u64, u32, Result<EndReply, CoreError>)>,
+    (Option<u64>, Option<u64>, Option<u64>),
 );
 
 fn run_labels<O: Origin, R: Wait>(
@@ -164,6 +180,7 @@ fn run_labels<O: Origin, R: Wait>(
     alloc: Global,
     core: Core<MemDisk>,
     label: &Label,
+    other: Label,
 ) -> Option<LabelAnswers>
     requires start { MayStart state_of O.start core }
 {
@@ -174,10 +191,10 @@ fn run_labels<O: Origin, R: Wait>(
             let second = post(rt, &shared, &mut port, label.copy());
             let found = look(rt, &shared, &mut port, label);
             let none = look(rt, &shared, &mut port, label);
+            let _ = post(rt, &shared, &mut port, other);
             let _ = post(rt, &shared, &mut port, label.copy());
-            let swept = shared.sweep(rt, &mut port);
-            let empty = shared.sweep(rt, &mut port);
-            Some((first, second, found, none, swept, empty))
+            let swept = sweeps(rt, &shared, &mut port);
+            Some((first, second, found, none, swept))
         }
     }
 }
@@ -185,32 +202,49 @@ fn run_labels<O: Origin, R: Wait>(
 /// The same over a new core.
 fn label_answers<R: Wait>(rt: &R, alloc: Global) -> Option<LabelAnswers> {
     let label = Label::new(b"a1")?;
+    let other = Label::new(b"z9")?;
     let core = new_core(alloc).ok()?;
-    run_labels::<Brand, R>(rt, alloc, core, &label)
+    run_labels::<Brand, R>(rt, alloc, core, &label, other)
 }
 
 #[test]
 fn labels_answer_through_the_lock(rt: HostRuntime) -> Result<(), Fail> {
-    let (first, second, found, none, swept, empty) = label_answers(&rt, rt.alloc()).expect(
+    let (first, second, found, none, swept) = label_answers(&rt, rt.alloc()).expect(
         &rt, "a device",
     );
     assert_eq!(rt; first, Some((Ok(()), 1)));
     assert_eq!(rt; second, Some((Err(PostError::LabelTaken), 1)));
-    assert_eq!(rt; found, Some((0, 4094, Some(EndReply::Committed(1)))));
+    assert_eq!(rt; found, Some((0, 4094, Ok(EndReply::Committed(1)))));
     assert_eq!(rt; none, None);
-    assert_eq!(rt; swept, Some(3));
-    assert_eq!(rt; empty, None);
+    assert_eq!(rt; swept, (Some(3), Some(4), None));
     Ok(())
 }
 
-/// What a begin in snapshot mode is answered before an upgrade and after it, and what upkeep answers.
-type UpkeepAnswers = (
-    Result<Mode, CoreError>,
+/// What a trim, a compaction and an upgrade answer.
+pub(crate) type Upkeep = (
     Result<u64, CoreError>,
     Result<u64, CoreError>,
     Result<u64, CoreError>,
-    Result<Mode, CoreError>,
 );
+
+/// A trim, a compaction and an upgrade.
+pub(crate) fn upkeep<O: Origin, R: Wait>(
+    rt: &R,
+    shared: &Shared<MemDisk, O>,
+    port: &mut Port<MemDisk, O>,
+) -> Upkeep
+    requires port { IsPort shared.now port.old }
+    ensures port { IsPort shared.now port.new }
+    ensures units { (port_view port.new).units ≡ (port_view port.old).units }
+{
+    let trimmed = shared.trim(rt, port);
+    let compacted = shared.compact(rt, port);
+    let upgraded = shared.upgrade(rt, port);
+    (trimmed, compacted, upgraded)
+}
+
+/// What a begin in snapshot mode is answered before an upgrade and after it, and what upkeep answers.
+type UpkeepAnswers = (Result<Mode, CoreError>, Upkeep, Result<Mode, CoreError>);
 
 /// The mode of a transaction that begins in snapshot mode, and is aborted.
 fn begun_in<O: Origin, R: Wait>(
@@ -218,9 +252,9 @@ fn begun_in<O: Origin, R: Wait>(
     shared: &Shared<MemDisk, O>,
     port: &mut Port<MemDisk, O>,
 ) -> Result<Mode, CoreError>
-    requires port { IsPort shared.now port.old × (1 < (view port.old.pass).units) }
+    requires port { IsPort shared.now port.old × (1 < (port_view port.old).units) }
     ensures port { IsPort shared.now port.new }
-    ensures units { (view port.new.pass).units ≡ (view port.old.pass).units }
+    ensures units { (port_view port.new).units ≡ (port_view port.old).units }
 {
     match shared.begin(rt, port, Some(Mode::Snapshot)) {
         Ok(tx) => {
@@ -244,11 +278,9 @@ fn run_upkeep<O: Origin, R: Wait>(
         Ok((shared, mut port)) => {
             let _ = put(rt, &shared, &mut port, 1, 7);
             let fixed = begun_in(rt, &shared, &mut port);
-            let trimmed = shared.trim(rt, &mut port);
-            let compacted = shared.compact(rt, &mut port);
-            let upgraded = shared.upgrade(rt, &mut port);
+            let kept = upkeep(rt, &shared, &mut port);
             let free = begun_in(rt, &shared, &mut port);
-            Some((fixed, trimmed, compacted, upgraded, free))
+            Some((fixed, kept, free))
         }
     }
 }
@@ -261,13 +293,9 @@ fn upkeep_answers<R: Wait>(rt: &R, alloc: Global) -> Option<UpkeepAnswers> {
 
 #[test]
 fn upkeep_answers_through_the_lock(rt: HostRuntime) -> Result<(), Fail> {
-    let (fixed, trimmed, compacted, upgraded, free) = upkeep_answers(&rt, rt.alloc()).expect(
-        &rt, "a device",
-    );
+    let (fixed, kept, free) = upkeep_answers(&rt, rt.alloc()).expect(&rt, "a device");
     assert_eq!(rt; fixed, Err(CoreError::ModeFixed));
-    assert_eq!(rt; trimmed, Ok(1));
-    assert_eq!(rt; compacted, Ok(1));
-    assert_eq!(rt; upgraded, Ok(1));
+    assert_eq!(rt; kept, (Ok(1), Ok(1), Ok(1)));
     assert_eq!(rt; free, Ok(Mode::Snapshot));
     Ok(())
 }

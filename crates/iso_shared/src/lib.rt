@@ -22,4 +22,6 @@ pub use tx::Tx;
 #[cfg(test)]
 mod answer_tests;
 #[cfg(test)]
+mod refusal_tests;
+#[cfg(test)]
 mod tests;

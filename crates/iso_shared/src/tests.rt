@@ -7,14 +7,13 @@ ghost use Rattle.iso_core.specs.Standing.{up};
 ghost use Rattle.iso_model.specs.World.{empty_history, fresh};
 ghost use Rattle.iso_memdisk.specs.MemDisk.{state_of};
 ghost use Rattle.iso_model.specs.Geometry.{is_valid};
-ghost use Rattle.iso_shared.specs.Ports.{IsPort, IsTx};
+ghost use Rattle.iso_shared.specs.Ports.{IsPort, IsTx, port_view, tx_view};
 ghost use Rattle.iso_shared.specs.TestImage.{small, MayStart};
-ghost use Rattle.turn_lock.specs.Pass.{view};
 
 use crate::{Origin, Port, Shared, Tx};
 use iso_core::{Core, Stat};
-use iso_memdisk::MemDisk;
-use iso_model::{EndReply, Geometry, Memory, Mode};
+use iso_memdisk::{CallKind, MemDisk};
+use iso_model::{CoreError, EndReply, Geometry, Memory, Mode};
 use iso_recover::format_image;
 use std::alloc::{AllocError, Global};
 use std::marker::Brand;
@@ -46,42 +45,55 @@ fn zeros(alloc: Global) -> Result<Vec<u8>, AllocError>
     Ok(vec![in alloc; 0; 8832]?)
 }
 
-/// A core over a new image.
-pub(crate) fn new_core(alloc: Global) -> Result<Core<MemDisk>, Memory>
+/// A core over a new image, on a disk of which the call of this kind with this number fails alone.
+pub(crate) fn core_failing(
+    alloc: Global,
+    kind: CallKind,
+    number: u64,
+) -> Result<Core<MemDisk>, Memory>
     ensures { IfOk result (λ core. StandsFor state_of core (fresh small 1 (empty_history small)) up) }
 {
     let bytes = zeros(alloc)?;
-    match format_image(alloc, MemDisk::new(alloc, bytes), &small()) {
+    let mut disk = MemDisk::new(alloc, bytes);
+    disk.fail_kind(kind, number);
+    match format_image(alloc, disk, &small()) {
         Ok(core) => Ok(core),
         Err((_error, _disk)) => Err(Memory),
     }
 }
 
-/// The end of a transaction, and none where it is not answered.
+/// A core over a new image, on a disk that does not fail.
+pub(crate) fn new_core(alloc: Global) -> Result<Core<MemDisk>, Memory>
+    ensures { IfOk result (λ core. StandsFor state_of core (fresh small 1 (empty_history small)) up) }
+{
+    core_failing(alloc, CallKind::Bind, 0)
+}
+
+/// What the end of a transaction is answered. Where it is handed back, it is aborted.
 pub(crate) fn ended<O: Origin, L: Ledger, R: Wait>(
     blank: Blank,
     rt: &R,
     shared: &Shared<MemDisk, O>,
     port: &mut Port<MemDisk, O>,
     tx: Tx<MemDisk, O>,
-) -> Option<EndReply>
+) -> Result<EndReply, CoreError>
     requires name { blank.name ≡ L.name }
     requires parts { blank.parts ≡ L.parts }
     requires some { 0 < L.parts }
     requires port { IsPort shared.now port.old }
     requires tx { IsTx shared.now O.start tx }
     ensures port { IsPort shared.now port.new }
-    ensures units { (view port.new.pass).units ≡ (view port.old.pass).units + (view tx.pass).units }
+    ensures units { (port_view port.new).units ≡ (port_view port.old).units + (tx_view tx).units }
 {
     let mut steps = Steps::<L>::start(blank);
     match shared.end(rt, port, tx, &mut steps) {
-        Ok(reply) => Some(reply),
-        Err((_error, back)) => match back {
+        Ok(reply) => Ok(reply),
+        Err((error, back)) => match back {
             Some(tx) => {
                 shared.abort(rt, port, tx);
-                None
+                Err(error)
             }
-            None => None,
+            None => Err(error),
         },
     }
 }
@@ -93,26 +105,24 @@ pub(crate) fn put<O: Origin, R: Wait>(
     port: &mut Port<MemDisk, O>,
     block: u32,
     byte: u8,
-) -> Option<(u64, EndReply)>
-    requires port { IsPort shared.now port.old × (1 < (view port.old.pass).units) }
+) -> Result<(u64, EndReply), CoreError>
+    requires port { IsPort shared.now port.old × (1 < (port_view port.old).units) }
     requires image { (O.start.world.geometry ≡ small) × (block < 4) }
     ensures port { IsPort shared.now port.new }
-    ensures units { (view port.new.pass).units ≡ (view port.old.pass).units }
+    ensures units { (port_view port.new).units ≡ (port_view port.old).units }
 {
-    let Ok(mut tx) = shared.begin(rt, port, None) else {
-        return None;
-    };
+    let mut tx = shared.begin(rt, port, None)?;
     let at = tx.at();
     if tx.reserve(block).is_err() {
         shared.abort(rt, port, tx);
-        return None;
+        return Err(CoreError::Memory);
     }
     let mut bytes = [0; 64];
     bytes[0] = byte;
     tx.write(block, &bytes);
     let _ = tx.mark(0, 1);
     let reply = ended::<O, Brand, R>(Blank::new(1), rt, shared, port, tx)?;
-    Some((at, reply))
+    Ok((at, reply))
 }
 
 /// So many commits in a block; whether each is one, and begins at the last one before it or later.
@@ -123,16 +133,16 @@ pub(crate) fn commits<O: Origin, R: Wait>(
     block: u32,
     times: u32,
 ) -> (Port<MemDisk, O>, bool)
-    requires port { IsPort shared.now port × (1 < (view port.pass).units) }
+    requires port { IsPort shared.now port × (1 < (port_view port).units) }
     requires image { (O.start.world.geometry ≡ small) × (block < 4) }
     ensures port { IsPort shared.now result.0 }
-    ensures units { (view result.0.pass).units ≡ (view port.pass).units }
+    ensures units { (port_view result.0).units ≡ (port_view port).units }
 {
     let mut last = 0;
     let mut in_order = true;
     for i in 0..times {
         match put(rt, shared, &mut port, block, (i % 100) as u8) {
-            Some((at, EndReply::Committed(number))) => {
+            Ok((at, EndReply::Committed(number))) => {
                 in_order = in_order && last <= at && at < number;
                 last = number;
             }
@@ -150,21 +160,21 @@ fn side_by_side<O: Origin + Send + Sync, R: Threads + Wait + Sync>(
     second: Port<MemDisk, O>,
     times: u32,
 ) -> (Port<MemDisk, O>, bool)
-    requires first { IsPort shared.now first × (1 < (view first.pass).units) }
-    requires second { IsPort shared.now second × (1 < (view second.pass).units) }
+    requires first { IsPort shared.now first × (1 < (port_view first).units) }
+    requires second { IsPort shared.now second × (1 < (port_view second).units) }
     requires image { O.start.world.geometry ≡ small }
     ensures port { IsPort shared.now result.0 }
-    ensures units { (view result.0.pass).units ≡ (view first.pass).units + (view second.pass).units }
+    ensures units { (port_view result.0).units ≡ (port_view first).units + (port_view second).units }
 {
     let ((mut first, left), (second, right)) = join(
         rt,
         || -> (Port<MemDisk, O>, bool)
-            requires { IsSync R.row × IsPort shared.now first × (1 < (view first.pass).units) × (O.start.world.geometry ≡ small) }
-            ensures { IsPort shared.entry.now result.0 × ((view result.0.pass).units ≡ (view first.pass).units) }
+            requires { IsSync R.row × IsPort shared.now first × (1 < (port_view first).units) × (O.start.world.geometry ≡ small) }
+            ensures { IsPort shared.entry.now result.0 × ((port_view result.0).units ≡ (port_view first).units) }
         { commits(rt, shared, first, 0, times) },
         || -> (Port<MemDisk, O>, bool)
-            requires { IsSync R.row × IsPort shared.now second × (1 < (view second.pass).units) × (O.start.world.geometry ≡ small) }
-            ensures { IsPort shared.entry.now result.0 × ((view result.0.pass).units ≡ (view second.pass).units) }
+            requires { IsSync R.row × IsPort shared.now second × (1 < (port_view second).units) × (O.start.world.geometry ≡ small) }
+            ensures { IsPort shared.entry.now result.0 × ((port_view result.0).units ≡ (port_view second).units) }
         { commits(rt, shared, second, 1, times) },
     );
     shared.join(&mut first, second);

@@ -70,6 +70,7 @@ impl<D: Disk + Drop, O: Origin> Tx<D, O> {
         requires block { block < (doing_of self.old).blocks }
         requires tx { IsTxOf O.start self.old }
         ensures tx { IsTxOf O.start self.new }
+        ensures same { (pass_of self.new ≡ pass_of self.old) × (number_of self.new ≡ number_of self.old) × (check_of self.new ≡ check_of self.old) }
         ensures ok { OnOk result (self.new ≡ doing self.old (record (doing_of self.old) { ready = Some block })) }
         ensures err { OnErr result (self.new ≡ self.old) }
     {
