@@ -12,24 +12,3 @@ mod top;
 
 pub use ended::Ended;
 pub use top::alone;
-
-#[cfg(test)]
-mod tests;
-#[cfg(test)]
-mod tests_commands;
-#[cfg(test)]
-mod tests_crash;
-#[cfg(test)]
-mod tests_images;
-#[cfg(test)]
-mod tests_limits;
-#[cfg(test)]
-mod tests_long;
-#[cfg(test)]
-mod tests_rows;
-#[cfg(test)]
-mod tests_runs;
-#[cfg(test)]
-mod tests_statuses;
-#[cfg(test)]
-mod tests_streams;

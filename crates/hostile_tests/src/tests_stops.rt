@@ -1,11 +1,12 @@
-// Disks that stop after each call, or fail at one call alone: what the images are opened to that a crash then leaves.
-use crate::tests::{Outcome, RUN, SMALL, call, call_on, no_disk, run_image, small_image, stat_of};
+// Disks that stop after each call of a formatting and of commits, or fail at one call alone: what the images are opened to
+// that a crash then leaves.
 use iso_memdisk::MemDisk;
-use std::alloc::{AllocError, Global};
+use std::alloc::Global;
 use std::test::Fail;
+use top_calls::{Outcome, RUN, SMALL, call_on, no_disk, run_image, small_image};
 
 /// Whether the images for the picks 0 and 1 are opened so by a script, and the other ones in one of these two ways.
-fn leaves(
+pub(crate) fn leaves(
     alloc: Global,
     disk: &MemDisk,
     script: &[u8],
@@ -146,139 +147,5 @@ fn a_fault_at_each_call_of_two_commits(rt: HostRuntime) -> Result<(), Fail> {
         assert!(rt; is_as_expected(alloc, &outcome, calls)?, "{calls}");
         assert_eq!(rt; outcome.disk.calls(), number.min(14));
     }
-    Ok(())
-}
-
-/// A commit beside a labelled transaction, a compaction below it, and one above it.
-const AROUND_A_LABEL: &[u8] =
-    b"1 begin\n1 get 0 0 1\n1 release a\n2 begin\n2 put 0 0 cc\n2 end\n2 trim\n2 compact\n2 stat\n3 takeover a\n3 get 0 0 1\n3 end\n3 compact\n3 stat\n";
-
-/// Whether each image that a crash leaves is opened at commit 1, or at none where that was not acknowledged.
-fn opens_at_the_commit(alloc: Global, outcome: &Outcome) -> Result<bool, Fail> {
-    let acknowledged =
-        b"1 ok begin 0\n1 ok 00\n1 ok\n2 ok begin 0\n2 ok\n2 ok commit 1\n".as_slice();
-    for pick in 0..6 {
-        let stat = stat_of(alloc, outcome.disk.crash(alloc, pick)?)?;
-        let before = stat.starts_with(b"1 ok last 0 ") && !outcome.output.starts_with(acknowledged);
-        if !(before || stat.starts_with(b"1 ok last 1 ")) {
-            return Ok(false);
-        }
-    }
-    Ok(true)
-}
-
-#[test]
-fn a_stop_after_each_call_of_compactions_around_a_label(rt: HostRuntime) -> Result<(), Fail> {
-    let alloc = rt.alloc();
-    let mut ended = false;
-    for calls in 6..100 {
-        if !ended {
-            let mut disk = no_disk(alloc);
-            disk.fuse(calls);
-            let outcome = call_on(alloc, SMALL, disk, AROUND_A_LABEL)?;
-            assert!(rt; opens_at_the_commit(alloc, &outcome)?, "{calls}");
-            ended = outcome.status == 0;
-            assert!(rt; ended || outcome.status == 5);
-            assert!(rt; ended || outcome.output.ends_with(b"! disk fault\n"));
-        }
-    }
-    assert!(rt; ended);
-    Ok(())
-}
-
-/// Three commits that use 213 bytes of the log.
-const THREE: &[u8] =
-    b"1 begin\n1 fill 0 11\n1 end\n1 begin\n1 fill 0 11\n1 end\n1 begin\n1 put 1 0 33\n1 end\n";
-
-const SHOW_THREE: &[u8] = b"1 stat\n1 begin\n1 get 0 62 2\n1 get 1 0 2\n";
-
-const OLD_THREE: &[u8] =
-    b"1 ok last 3 base 0 trim 0 live 0 used 213 versions 3\n1 ok begin 3\n1 ok 1111\n1 ok 3300\n";
-
-const NEW_THREE: &[u8] =
-    b"1 ok last 3 base 3 trim 3 live 0 used 0 versions 0\n1 ok begin 3\n1 ok 1111\n1 ok 3300\n";
-
-/// What a switch of halves gives on an image whose disk stops after so many calls.
-fn switched(alloc: Global, image: &[u8], script: &[u8], calls: u64) -> Result<Outcome, AllocError> {
-    let mut disk = MemDisk::new(alloc, image.to_vec(alloc)?);
-    disk.fuse(calls);
-    call_on(alloc, RUN, disk, script)
-}
-
-/// Whether an image shows the three commits, from the one half or from the other.
-fn shows_three(alloc: Global, image: Vec<u8>) -> Result<bool, AllocError> {
-    let opened = run_image(alloc, image, SHOW_THREE)?;
-    let found = opened.output.as_slice();
-    Ok(opened.status == 0 && (found == OLD_THREE || found == NEW_THREE))
-}
-
-#[test]
-fn a_stop_after_each_call_of_a_switch_of_halves(rt: HostRuntime) -> Result<(), Fail> {
-    let alloc = rt.alloc();
-    let image = call(alloc, SMALL, THREE)?.disk.crash(alloc, 0)?;
-    for (script, reply) in [
-        (b"1 compact\n".as_slice(), b"1 ok compact 3\n".as_slice()),
-        (b"1 upgrade\n", b"1 ok upgrade 3\n"),
-    ] {
-        let mut ended = false;
-        for calls in 0..100 {
-            if !ended {
-                let outcome = switched(alloc, &image, script, calls)?;
-                ended = outcome.status == 0;
-                let output = if ended { reply } else { b"! disk fault\n" };
-                assert_eq!(rt; outcome.output.as_slice(), output);
-                for pick in 0..6 {
-                    assert!(rt; shows_three(alloc, outcome.disk.crash(alloc, pick)?)?);
-                }
-            }
-        }
-        assert!(rt; ended);
-    }
-    Ok(())
-}
-
-#[test]
-fn a_switch_that_is_done_stands(rt: HostRuntime) -> Result<(), Fail> {
-    let alloc = rt.alloc();
-    let image = call(alloc, SMALL, THREE)?.disk.crash(alloc, 0)?;
-    for script in [b"1 compact\n".as_slice(), b"1 upgrade\n"] {
-        let outcome = switched(alloc, &image, script, 1000)?;
-        assert!(rt; leaves(alloc, &outcome.disk, SHOW_THREE, NEW_THREE, NEW_THREE)?);
-    }
-    Ok(())
-}
-
-/// Whether a second compaction of an image shows the three commits wherever its disk stops, until it is done.
-fn survives_a_second(alloc: Global, image: &[u8]) -> Result<bool, Fail> {
-    for calls in 6..100 {
-        let outcome = switched(alloc, image, b"1 compact\n", calls)?;
-        for pick in 0..3 {
-            if !shows_three(alloc, outcome.disk.crash(alloc, pick)?)? {
-                return Ok(false);
-            }
-        }
-        if outcome.status == 0 {
-            return Ok(true);
-        }
-    }
-    Ok(false)
-}
-
-#[test]
-fn a_second_compaction_is_stopped_behind_a_first_one(rt: HostRuntime) -> Result<(), Fail> {
-    let alloc = rt.alloc();
-    let image = call(alloc, SMALL, THREE)?.disk.crash(alloc, 0)?;
-    let mut ended = false;
-    for calls in 6..100 {
-        if !ended {
-            let outcome = switched(alloc, &image, b"1 compact\n", calls)?;
-            ended = outcome.status == 0;
-            for pick in 0..3 {
-                let left = outcome.disk.crash(alloc, pick)?;
-                assert!(rt; survives_a_second(alloc, &left)?, "{calls} {pick}");
-            }
-        }
-    }
-    assert!(rt; ended);
     Ok(())
 }

@@ -1,8 +1,8 @@
 // One long script with every operation and nearly every refusal, in two runs on a small image: each line stands beside its
 // reply, as the rules have it. Behind each group it is said what stands then.
-use crate::tests::{RUN, SMALL, call, call_on, text};
 use std::alloc::{AllocError, Global};
 use std::test::Fail;
+use top_calls::{RUN, SMALL, call, call_on, text};
 
 // Outside a transaction nothing is tried but that. A compaction of nothing goes into the other half.
 const OUTSIDE: &[(&str, &str)] = &[

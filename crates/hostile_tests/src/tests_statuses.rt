@@ -1,17 +1,13 @@
 // Each status with its causes, and what stands behind it.
-use crate::tests::{
-    RECOVER, RUN, SMALL, call, call_on, joined, no_disk, one_put_image, small_image,
-};
 use iso_memdisk::{CallKind, MemDisk};
 use std::alloc::{AllocError, Global};
 use std::test::Fail;
+use top_calls::{RECOVER, RUN, SMALL, call, call_on, no_disk, one_put_image, small_image};
 
 const USAGE: &[u8] =
     b"! usage\nnew IMAGE [--block-size B] [--blocks N] [--log L] [--mode serial|snapshot] [--hash H] [--tree T]\nrun IMAGE\npar IMAGE\nrecover IMAGE\nbench IMAGE SEED COUNT\n";
 
 const ONE_PUT: &[u8] = b"1 begin\n1 put 2 5 abcd\n1 end\n";
-
-const ONE_PUT_REPLIES: &[u8] = b"1 ok begin 0\n1 ok\n1 ok commit 1\n";
 
 #[test]
 fn words_outside_the_grammar(rt: HostRuntime) -> Result<(), Fail> {
@@ -73,101 +69,6 @@ fn options_stand_anywhere_and_in_two_spellings(rt: HostRuntime) -> Result<(), Fa
     Ok(())
 }
 
-/// Whether a new small image answers a script of one bad line so.
-fn is_bad(alloc: Global, script: &[u8], last: &[u8]) -> Result<bool, AllocError> {
-    let outcome = call(alloc, SMALL, script)?;
-    Ok(outcome.status == 3 && outcome.output.as_slice() == last)
-}
-
-#[test]
-fn a_bad_line_has_the_cause_of_its_first_failing_test(rt: HostRuntime) -> Result<(), Fail> {
-    let alloc = rt.alloc();
-    for (script, cause) in [
-        (b"65 begin".as_slice(), b'1'),
-        (b"01 begin", b'1'),
-        (b"0 begin", b'1'),
-        (b"begin", b'1'),
-        (b" # x", b'1'),
-        (b"1", b'2'),
-        (b"1 jump", b'2'),
-        (b"1 Begin", b'2'),
-        (b"1 jump 00 A", b'2'),
-        (b"1 begin serial x", b'3'),
-        (b"1 put 0 0", b'3'),
-        (b"1 put x 0 a 1", b'3'),
-        (b"1 end 1", b'3'),
-        (b"1 put 00 0 aa", b'4'),
-        (b"1 put x 0 a", b'4'),
-        (b"1 put 4294967296 0 aa", b'4'),
-        (b"1 get 0 -1 1", b'4'),
-        (b"1 put 0 0 a", b'5'),
-        (b"1 put 0 0 ag", b'5'),
-        (b"1 fill 0 -", b'5'),
-        (b"1 release A", b'6'),
-        (b"1 takeover abcdefghijklmnopq", b'6'),
-        (b"1 begin\r", b'8'),
-        (b"1\tbegin", b'8'),
-        (b"x\x7f", b'8'),
-        (b"0 \x80", b'8'),
-    ] {
-        let mut last = b"! bad line 1 cause ".to_vec(alloc)?;
-        last.push(cause)?;
-        last.push(b'\n')?;
-        assert!(rt; is_bad(alloc, script, &last)?, "{cause}");
-    }
-    assert!(rt; is_bad(alloc, b"1 begin x\n1 jump\n", b"! bad line 1 cause 10\n")?);
-    Ok(())
-}
-
-#[test]
-fn a_line_may_have_16384_bytes(rt: HostRuntime) -> Result<(), Fail> {
-    let alloc = rt.alloc();
-    // blanks, a comment, and the spaces behind an operation
-    for front in [b"".as_slice(), b"#", b"1 begin"] {
-        let mut script = front.to_vec(alloc)?;
-        script.resize(16_384, b' ')?;
-        let whole = script.clone()?;
-        script.push(b' ')?;
-        let longer = joined(alloc, &script, b"\n1 jump\n")?;
-        assert!(rt; is_bad(alloc, &script, b"! bad line 1 cause 7\n")?);
-        assert!(rt; is_bad(alloc, &longer, b"! bad line 1 cause 7\n")?);
-        assert_eq!(rt; call(alloc, SMALL, &whole)?.status, 0);
-    }
-    Ok(())
-}
-
-#[test]
-fn a_bad_line_behind_a_reply(rt: HostRuntime) -> Result<(), Fail> {
-    let alloc = rt.alloc();
-    let replies = b"1 ok begin 0\n! bad line 2 cause 2\n";
-    assert!(rt; is_bad(alloc, b"1 begin\n1 jump", replies)?);
-    assert!(rt; is_bad(alloc, b"1 begin\n1 jump\n1 end\n", replies)?);
-    // lines that are skipped are counted
-    let counted = b"1 ok begin 0\n! bad line 4 cause 5\n";
-    assert!(rt; is_bad(alloc, b"# x\n\n1 begin\n1 put 0 0 a", counted)?);
-    Ok(())
-}
-
-#[test]
-fn commits_stand_that_were_made_before_a_bad_line(rt: HostRuntime) -> Result<(), Fail> {
-    let alloc = rt.alloc();
-    let script = joined(alloc, ONE_PUT, b"1 begin\n1 put 0 0 aa\n1 jump\n1 end\n")?;
-    let outcome = call(alloc, SMALL, &script)?;
-    let replies = joined(
-        alloc,
-        ONE_PUT_REPLIES,
-        b"1 ok begin 1\n1 ok\n! bad line 6 cause 2\n",
-    )?;
-    assert_eq!(rt; outcome.status, 3);
-    assert_eq!(rt; outcome.output.as_slice(), replies.as_slice());
-    let expected = one_put_image(alloc)?;
-    for pick in 0..3 {
-        let left = outcome.disk.crash(alloc, pick)?;
-        assert!(rt; left.as_slice() == expected.as_slice());
-    }
-    Ok(())
-}
-
 #[test]
 fn a_bind_that_fails_ends_the_call(rt: HostRuntime) -> Result<(), Fail> {
     let alloc = rt.alloc();
@@ -216,19 +117,27 @@ fn an_opening_that_fails_ends_the_call(rt: HostRuntime) -> Result<(), Fail> {
     Ok(())
 }
 
+/// How many reads a run of a script on an image makes, up to a hundred.
+fn reads_of(alloc: Global, image: &[u8], script: &[u8]) -> Result<u64, AllocError> {
+    let mut count = 0;
+    for number in 1..101 {
+        let mut disk = MemDisk::new(alloc, image.to_vec(alloc)?);
+        disk.fail_kind(CallKind::Read, number);
+        if call_on(alloc, RUN, disk, script)?.status == 5 {
+            count = number;
+        }
+    }
+    Ok(count)
+}
+
 #[test]
 fn a_read_that_fails_ends_the_run(rt: HostRuntime) -> Result<(), Fail> {
     let alloc = rt.alloc();
     let image = one_put_image(alloc)?;
-    let opened = call_on(
-        alloc,
-        RUN,
-        MemDisk::new(alloc, image.clone()?),
-        b"1 begin\n",
-    )?;
+    let of_the_opening = reads_of(alloc, &image, b"1 begin\n")?;
     let mut disk = MemDisk::new(alloc, image.clone()?);
-    disk.fail(opened.disk.calls().saturating_add(1));
-    let outcome = call_on(alloc, RUN, disk, b"1 begin\n1 read 2\n1 read 2\n")?;
+    disk.fail_kind(CallKind::Read, of_the_opening.saturating_add(1));
+    let outcome = call_on(alloc, RUN, disk, b"1 begin\n1 read 2\n")?;
     assert_eq!(rt; outcome.status, 5);
     let replies = b"1 ok begin 1\n! disk fault\n".as_slice();
     assert_eq!(rt; outcome.output.as_slice(), replies);
@@ -236,6 +145,20 @@ fn a_read_that_fails_ends_the_run(rt: HostRuntime) -> Result<(), Fail> {
         let left = outcome.disk.crash(alloc, pick)?;
         assert!(rt; left.as_slice() == image.as_slice());
     }
+    Ok(())
+}
+
+#[test]
+fn no_read_is_tried_again(rt: HostRuntime) -> Result<(), Fail> {
+    let alloc = rt.alloc();
+    let image = one_put_image(alloc)?;
+    let opened = call_on(alloc, RUN, MemDisk::new(alloc, image.clone()?), b"")?;
+    let number = opened.disk.calls().saturating_add(1);
+    let mut disk = MemDisk::new(alloc, image);
+    disk.fail(number);
+    let outcome = call_on(alloc, RUN, disk, b"1 begin\n1 read 2\n1 read 2\n")?;
+    assert_eq!(rt; outcome.status, 5);
+    assert_eq!(rt; outcome.disk.calls(), number);
     Ok(())
 }
 

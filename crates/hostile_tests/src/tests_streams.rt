@@ -1,13 +1,13 @@
 // Sources and sinks that fail, and what stands behind them.
 ghost use Rattle.std.specs.Prelude.{◌<◌};
 
-use crate::tests::{
-    Outcome, RECOVER, RUN, SMALL, call_over, no_disk, one_put_image, small_image, stat_of,
-};
 use iso_io::{MemSink, MemSource};
 use iso_memdisk::{CallKind, MemDisk};
 use std::alloc::{AllocError, Global};
 use std::test::Fail;
+use top_calls::{
+    Outcome, RECOVER, RUN, SMALL, call_over, joined, no_disk, one_put_image, small_image, stat_of,
+};
 
 const SCRIPT: &[u8] =
     b"1 begin\n2 begin\n1 put 0 0 aa\n2 put 0 1 bb\n1 end\n2 end\n1 begin\n1 get 0 0 2\n1 end\n";
@@ -49,6 +49,37 @@ fn a_source_that_fails_at_its_second_call(rt: HostRuntime) -> Result<(), Fail> {
     assert_eq!(rt; outcome.status, 6);
     let replies = b"1 ok begin 0\n! input fault\n".as_slice();
     assert_eq!(rt; outcome.output.as_slice(), replies);
+    Ok(())
+}
+
+#[test]
+fn a_source_that_gives_all_at_once_fails_at_a_call(rt: HostRuntime) -> Result<(), Fail> {
+    let alloc = rt.alloc();
+    // the second call finds the end, and there is no third
+    let cut = joined(alloc, REPLIES, b"! input fault\n")?;
+    for (number, status, output) in [
+        (1, 6, b"! input fault\n".as_slice()),
+        (2, 6, cut.as_slice()),
+        (3, 0, REPLIES),
+        (4, 0, REPLIES),
+        (5, 0, REPLIES),
+        (6, 0, REPLIES),
+    ] {
+        let source = failing_source(alloc, SCRIPT, number, 1000)?;
+        let sink = MemSink::new(alloc, Vec::new(alloc));
+        let outcome = call_over(alloc, SMALL, no_disk(alloc), source, sink)?;
+        assert_eq!(rt; outcome.status, status, "{number}");
+        assert_eq!(rt; outcome.output.as_slice(), output, "{number}");
+    }
+    Ok(())
+}
+
+#[test]
+fn a_sink_that_fails_at_its_first_call(rt: HostRuntime) -> Result<(), Fail> {
+    let alloc = rt.alloc();
+    let outcome = run_into(alloc, b"1 begin", failing_sink(alloc, 1)?)?;
+    assert_eq!(rt; outcome.status, 7);
+    assert_eq!(rt; outcome.output.len(), 0);
     Ok(())
 }
 

@@ -1,9 +1,9 @@
 // The commands that read no script. The digests were made by another program, over the bytes that the rules say.
-use crate::tests::{Outcome, RECOVER, RUN, call, call_on, call_over, no_disk, one_put_image, part};
 use iso_io::{MemSink, MemSource};
 use iso_memdisk::{CallKind, MemDisk};
 use std::alloc::{AllocError, Global};
 use std::test::Fail;
+use top_calls::{Outcome, RECOVER, RUN, call, call_on, call_over, no_disk, one_put_image, part};
 
 const ONE_PUT_LINE: &[u8] =
     b"last 1 base 0 sha256 f370e2888af0e189545aa7b782add4dbf5f49125a6f5cf94f25c0fde4605d5dd\n";

@@ -1,8 +1,8 @@
 // Scripts on new images, reply by reply, and the bytes of images.
-use crate::tests::{
+use std::test::Fail;
+use top_calls::{
     RECORD, RUN, SMALL, answers, answers_on, call, call_on, joined, part, small_image,
 };
-use std::test::Fail;
 
 const SNAPSHOT: &str = "isotope new t.img --block-size 64 --blocks 4 --log 256 --mode snapshot";
 

@@ -1,7 +1,7 @@
 // The limits of an image: transactions, accesses, numbers, clients, and the largest geometries of a new image.
-use crate::tests::{SMALL, answers, call, change, run_image, small_image};
 use std::alloc::{AllocError, Global};
 use std::test::Fail;
+use top_calls::{SMALL, answers, call, change, run_image, small_image};
 
 /// Transactions of client 1, 1,024 of them, each under a label of its own.
 fn all_released(alloc: Global) -> Result<Vec<u8>, AllocError> {

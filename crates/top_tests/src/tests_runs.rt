@@ -1,7 +1,7 @@
 // One command after the other on the same image.
-use crate::tests::{Outcome, RUN, SMALL, call, call_on, part};
 use std::alloc::{AllocError, Global};
 use std::test::Fail;
+use top_calls::{Outcome, RUN, SMALL, call, call_on, part};
 
 /// A run on the image that a call has left. None where its status or its output is another.
 fn then(

@@ -1,0 +1,122 @@
+// What images are opened to.
+use std::alloc::{AllocError, Global};
+use std::test::Fail;
+use top_calls::{Outcome, RECORD, change, one_put_image, part, run_image, small_image};
+
+/// What an image is opened to, in numbers, and the two bytes of its one put.
+fn opened(alloc: Global, image: Vec<u8>) -> Result<Outcome, AllocError> {
+    run_image(alloc, image, b"1 stat\n1 begin\n1 get 2 5 2\n")
+}
+
+#[test]
+fn a_record_is_told_again(rt: HostRuntime) -> Result<(), Fail> {
+    let alloc = rt.alloc();
+    let outcome = opened(alloc, one_put_image(alloc)?)?;
+    let replies =
+        b"1 ok last 1 base 0 trim 0 live 0 used 30 versions 1\n1 ok begin 1\n1 ok abcd\n".as_slice();
+    assert_eq!(rt; outcome.status, 0);
+    assert_eq!(rt; outcome.output.as_slice(), replies);
+    Ok(())
+}
+
+#[test]
+fn the_half_of_the_larger_generation_is_opened(rt: HostRuntime) -> Result<(), Fail> {
+    let alloc = rt.alloc();
+    let mut image = one_put_image(alloc)?;
+    // the other half has commit 5 as its base, with ef at byte 5 of block 2, and the same generation
+    change(&mut image, 608, &[1, 1]);
+    change(&mut image, 623, &[1]);
+    change(&mut image, 631, &[5]);
+    change(&mut image, 773, &[0xef]);
+    let first =
+        b"1 ok last 1 base 0 trim 0 live 0 used 30 versions 1\n1 ok begin 1\n1 ok abcd\n".as_slice();
+    let other =
+        b"1 ok last 5 base 5 trim 5 live 0 used 0 versions 0\n1 ok begin 5\n1 ok ef00\n".as_slice();
+    let tie = opened(alloc, image.clone()?)?;
+    assert_eq!(rt; tie.output.as_slice(), first);
+    change(&mut image, 623, &[2]);
+    let later = opened(alloc, image.clone()?)?;
+    assert_eq!(rt; later.output.as_slice(), other);
+    change(&mut image, 608, &[2]);
+    let closed = opened(alloc, image)?;
+    assert_eq!(rt; closed.output.as_slice(), first);
+    Ok(())
+}
+
+/// A script whose first transaction reads what the second one writes, and then writes elsewhere.
+const READ_THEN_WRITTEN: &[u8] =
+    b"1 begin snapshot\n2 begin\n1 get 0 0 2\n2 put 0 0 aa\n2 end\n1 put 1 0 bb\n1 end\n";
+
+/// The same in the mode of the image.
+const READ_IN_SERIAL: &[u8] =
+    b"1 begin serial\n2 begin\n1 get 0 0 2\n2 put 0 0 aa\n2 end\n1 put 1 0 bb\n1 end\n";
+
+#[test]
+fn an_image_of_form_2_has_commits_of_both_modes(rt: HostRuntime) -> Result<(), Fail> {
+    let alloc = rt.alloc();
+    let front = b"1 ok begin 0\n2 ok begin 0\n1 ok 0000\n2 ok\n2 ok commit 1\n1 ok\n".as_slice();
+    for (script, end) in [
+        (READ_THEN_WRITTEN, b"1 ok commit 2\n".as_slice()),
+        (READ_IN_SERIAL, b"1 conflict with 1 block 0 at 0\n"),
+    ] {
+        let mut image = small_image(alloc)?;
+        change(&mut image, 65, &[2]);
+        let outcome = run_image(alloc, image, script)?;
+        assert_eq!(rt; outcome.status, 0);
+        assert!(rt; outcome.output.starts_with(front));
+        assert!(rt; outcome.output.ends_with(end));
+        assert_eq!(rt; outcome.output.len(), front.len().saturating_add(end.len()));
+    }
+    Ok(())
+}
+
+#[test]
+fn a_commit_of_the_other_mode_has_its_kind(rt: HostRuntime) -> Result<(), Fail> {
+    let alloc = rt.alloc();
+    let mut image = small_image(alloc)?;
+    change(&mut image, 65, &[2]);
+    let outcome = run_image(alloc, image, READ_THEN_WRITTEN)?;
+    let record = [
+        1, 2, 0, 0, 0, 0, 0, 1, 0, 0, 0, 9, 0, 0, 0, 0, 0, 0, 0, 2, 0, 0, 0, 1, 0, 0, 0, 1, 0xbb, 0,
+    ];
+    let left = outcome.disk.crash(alloc, 0)?;
+    assert_eq!(rt; part(&left, 381, 30), record.as_slice());
+    // and is told again
+    let again = run_image(alloc, left, b"1 stat\n")?;
+    let stat = b"1 ok last 2 base 0 trim 0 live 0 used 58 versions 2\n".as_slice();
+    assert_eq!(rt; again.output.as_slice(), stat);
+    Ok(())
+}
+
+#[test]
+fn an_image_of_form_1_has_one_mode(rt: HostRuntime) -> Result<(), Fail> {
+    let alloc = rt.alloc();
+    let outcome = run_image(
+        alloc,
+        small_image(alloc)?,
+        b"1 begin snapshot\n1 begin serial\n1 begin snapshot\n",
+    )?;
+    let replies = b"1 mode-fixed\n1 ok begin 0\n1 in-tx\n".as_slice();
+    assert_eq!(rt; outcome.status, 0);
+    assert_eq!(rt; outcome.output.as_slice(), replies);
+    Ok(())
+}
+
+#[test]
+fn a_commit_is_laid_behind_those_that_stand(rt: HostRuntime) -> Result<(), Fail> {
+    let alloc = rt.alloc();
+    let outcome = run_image(
+        alloc,
+        one_put_image(alloc)?,
+        b"1 begin\n1 put 2 5 12\n1 end\n",
+    )?;
+    let record = [
+        1, 1, 0, 0, 0, 0, 0, 1, 0, 0, 0, 9, 0, 0, 0, 0, 0, 0, 0, 2, 0, 0, 0, 2, 0, 5, 0, 1, 0x12, 0,
+    ];
+    let mut expected = one_put_image(alloc)?;
+    change(&mut expected, 382, &record);
+    let left = outcome.disk.crash(alloc, 0)?;
+    assert_eq!(rt; part(&expected, 352, 30), &RECORD[..30]);
+    assert!(rt; left.as_slice() == expected.as_slice());
+    Ok(())
+}

@@ -1,0 +1,13 @@
+//! What the tests of the top call share: calls over a disk, a source and a sink in memory, and a small image.
+#![tactic(auto)]
+
+mod calls;
+mod images;
+mod texts;
+
+pub use calls::{
+    Outcome, RECOVER, RUN, SMALL, answers, answers_on, call, call_on, call_over, no_disk,
+    run_image, stat_of,
+};
+pub use images::{RECORD, change, one_put_image, part, small_image};
+pub use texts::{joined, text};

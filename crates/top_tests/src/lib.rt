@@ -1,0 +1,13 @@
+//! Tests of the top call: rows of replies, commands, runs one behind the other, limits, and one long script.
+#![tactic(auto)]
+
+#[cfg(test)]
+mod tests_commands;
+#[cfg(test)]
+mod tests_limits;
+#[cfg(test)]
+mod tests_long;
+#[cfg(test)]
+mod tests_rows;
+#[cfg(test)]
+mod tests_runs;
