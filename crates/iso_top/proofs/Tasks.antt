@@ -1,5 +1,5 @@
 -- What `recover` and `bench` have done, from the world that a call begins with.
-use Rattle.std.proofs.Common.{◌≡◌, ◌≢◌, ◌⊎◌, inl, inr, ◌+◌, ℕ, List, Option, Some, None, IsSome, refl, sym, ◌∙◌, ap, subst, arith}
+use Rattle.std.proofs.Common.{◌≡◌, ◌≢◌, ◌⊎◌, inl, inr, ◌+◌, ℕ, List, [], Option, Some, None, IsSome, refl, sym, ◌∙◌, ap, subst, arith}
 use Rattle.fault_count.specs.Count.{Rose}
 use Rattle.iso_disk.specs.Disk.{DiskState, LeavesOnly, StaysTold}
 use Rattle.iso_disk.proofs.Moments.{since_bind, still_bound}
@@ -80,11 +80,11 @@ module _ {D : Type 0} (state : D → DiskState) (name : List ℕ) where
   }
 
   pub benched : (seed count status : ℕ) (disk new : D) (core : Core D) (source : SourceState) (old put : SinkState) (has : HasCore state (Some bench_geometry) name disk core)
-      (e : RunEnd) (drawn rest : SourceState) (empty held : SinkState) → drawn.rest ≡ Some (bench_text count seed)
+      (e : RunEnd) (drawn rest : SourceState) (empty held : SinkState) → drawn.rest ≡ Some (bench_text count seed) → empty.written ≡ Some []
       → HasRun (λ V. Unit {0}) (state (disk_of core)) (state new) drawn rest empty held bench_world e
       → PrintedBench seed count status e (state (disk_of core)) old put → HasBenched state name seed count status disk new source source old put
   unfolding made_world
-  benched seed count status disk new core source old put has e drawn rest empty held script_is run printed = record {
+  benched seed count status disk new core source old put has e drawn rest empty held script_is nothing_held run printed = record {
     end = e;
     start = disk_of core;
     drawn = drawn;
@@ -92,6 +92,7 @@ module _ {D : Type 0} (state : D → DiskState) (name : List ℕ) where
     empty = empty;
     held = held;
     script_is = script_is;
+    nothing_held = nothing_held;
     run = run;
     begun = has_begun state (Some bench_geometry) name disk new core (made_world state bench_geometry name disk core has) drawn rest empty held e run;
     printed = bench_told seed count status e (state disk) (state (disk_of core)) has.told old put printed;

@@ -1,5 +1,5 @@
 -- What a call on an image has done.
-use Rattle.std.specs.Prelude.{◌≡◌, ◌≢◌, ◌⊎◌, ℕ, List, ◌++◌, Option, Some, None}
+use Rattle.std.specs.Prelude.{◌≡◌, ◌≢◌, ◌⊎◌, ℕ, List, [], ◌++◌, Option, Some, None}
 use Rattle.std.specs.Option.{ForSome}
 use Rattle.command_line.specs.declared.task.Task.{Task}
 use Rattle.command_line.specs.declared.task.Task.TheVariants.{New, Run, Recover, Bench}
@@ -138,6 +138,7 @@ pub record HasBenched {D : Type 0} (state : D → DiskState) (name : List ℕ) (
   pub empty : SinkState
   pub held : SinkState
   pub script_is : drawn.rest ≡ Some (bench_text count seed)
+  pub nothing_held : empty.written ≡ Some []
   pub run : HasRun (λ V. Unit {0}) (state start) (state disk_new) drawn rest empty held bench_world end
   pub begun : HasBegun (Some bench_geometry) name (state disk_old) (state start) (state disk_new) bench_world (after bench_world (run.done ++ run.next))
   pub printed : PrintedBench seed count status end (state disk_old) output_old output_new

@@ -1,5 +1,5 @@
 // A script that is drawn, answered on a new image.
-ghost use Rattle.std.specs.Prelude.{◌≡◌, ◌⊎◌, ◌≤◌, ℕ, List, Some};
+ghost use Rattle.std.specs.Prelude.{◌≡◌, ◌⊎◌, ◌≤◌, [], ℕ, List, Some};
 ghost use Rattle.iso_core.specs.Core.{StandsFor, disk_of};
 ghost use Rattle.iso_core.specs.Standing.{up};
 ghost use Rattle.iso_io.specs.Sink.{SinkState};
@@ -61,7 +61,7 @@ pub(crate) fn answer_drawn<I: Image, K: Sink>(
 ) -> Ended<I>
     requires world { StandsFor I.state core bench_world up }
     requires count { count ≤ 100000 }
-    ensures { (end : RunEnd) × (drawn : SourceState) × (rest : SourceState) × (empty : SinkState) × (held : SinkState) × (drawn.rest ≡ Some (bench_text count seed))
+    ensures { (end : RunEnd) × (drawn : SourceState) × (rest : SourceState) × (empty : SinkState) × (held : SinkState) × (drawn.rest ≡ Some (bench_text count seed)) × (empty.written ≡ Some [])
         × HasRun (λ V. Unit {0}) (I.state (disk_of core)) (I.state result.image) drawn rest empty held bench_world end
         × PrintedBench seed count result.status end (I.state (disk_of core)) (K.state output.old) (K.state output.new) }
 {

@@ -43,6 +43,7 @@ returns g c =
       held_state none,
       held,
       refl,
+      refl,
       whole,
       printed_bench c.args.seed c.args.count c.put_summary-status.result (c.drawn_scripts_are_good.ensures c.args.seed c.args.count c.requires.count) (state (disk_of c.args.core)) (state c.disk_behind-image.result) c.run-end.new.input c.run-end.new.output
           (g.K.Sink.state c.args.output.now) (g.K.Sink.state c.put_summary-status.new.output) c.text.result.now c.text.ensures c.run-end.result whole
