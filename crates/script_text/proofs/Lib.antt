@@ -7,4 +7,5 @@ pub mod FirstItems
 pub mod Fronts
 pub mod Numerals
 pub mod Spaces
+pub mod WordCuts
 pub mod Readings

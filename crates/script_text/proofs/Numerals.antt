@@ -10,12 +10,9 @@ use Rattle.iso_model.specs.Premises.{AreBytes}
 use Rattle.iso_model.specs.Script.{hex_argument, label_argument}
 use Rattle.iso_model.specs.Text.{digit_of, hex_text, is_decimal, is_digit, is_label, is_label_byte, number_of, value_of}
 use Rattle.script_text.specs.Spelling.{AreSome}
+use Rattle.script_text.specs.Words.{is_word_byte}
 use Rattle.script_text.proofs.HexLemmas.{encode_lower-hex_text, hex_argument-ok}
 use Rattle.script_text.proofs.WordLemmas.{is_decimal-by_all, number_of-decimal}
-
--- a byte of a word: printable, and no space
-abbrev pub is_word_byte : ℕ → Bool
-is_word_byte b = nat_le 33 b && nat_le b 126
 
 pub record IsWord (word : List ℕ) : Type 0 where
   pub some : 0 < length word

@@ -1,13 +1,15 @@
 -- Words with one space between them are the words of their line.
-use Rattle.std.proofs.Common.{◌≡◌, ◌∙◌, ◌≢◌, ap, refl, ℕ, ◌≤◌, ◌<◌, true, false, not, nat_le, List, [], ◌∷◌, ◌++◌, length, arith}
+use Rattle.std.proofs.Common.{◌≡◌, ◌∙◌, ◌≢◌, ap, refl, ℕ, ◌≤◌, ◌<◌, Bool, true, false, ◌&&◌, not, nat_le, List, [], ◌∷◌, ◌++◌, length, arith}
 use Rattle.std.specs.List.{list_all}
 use Rattle.std.specs.Prelude.{filter}
 use Rattle.std.proofs.lemmas.Bool.{and_parts, cond-false, ne_eqb, leb-true, le-leb}
+use Rattle.std.proofs.lemmas.Bool.Decides.{nat_tests}
 use Rattle.std.proofs.lemmas.List.Folds.{list_all-append}
 use Rattle.iso_model.specs.Script.{is_printable, is_skipped}
 use Rattle.iso_model.specs.Text.{before_piece, is_digit, is_empty, pieces, words_of}
 use Rattle.script_text.specs.Spelling.{spaced}
-use Rattle.script_text.proofs.Numerals.{is_word_byte, IsWord}
+use Rattle.script_text.specs.Words.{is_word_byte, word_before}
+use Rattle.script_text.proofs.Numerals.{IsWord}
 
 abbrev pub AreWords : List (List ℕ) → Type 0
 AreWords [] = Unit {0}
@@ -62,6 +64,39 @@ spaced_printable (word ∷ []) are = word_printable word are.0.bytes
 spaced_printable (word ∷ next ∷ words) are =
     list_all-append is_printable word (32 ∷ spaced (next ∷ words))
     ∙ rw (word_printable word are.0.bytes) (spaced_printable (next ∷ words) are.1)
+
+-- a word that is cut off before a space, and at the end
+kept_before : (word : List ℕ) (words : List (List ℕ)) → filter (λ w. not (is_empty w)) (word ∷ words) ≡ word_before word (filter (λ w. not (is_empty w)) words)
+kept_before [] words = refl
+kept_before (b ∷ word) words = refl
+
+pub words_of-cut : (word more : List ℕ) → list_all is_word_byte word ≡ true → words_of (word ++ 32 ∷ more) ≡ word_before word (words_of more)
+unfolding words_of
+words_of-cut word more all =
+    ap (filter (λ (w : List ℕ). not (is_empty w))) (piece_before word more all) ∙ kept_before word (pieces 32 more)
+
+pub words_of-last : (word : List ℕ) → list_all is_word_byte word ≡ true → words_of word ≡ word_before word (words_of [])
+unfolding words_of
+words_of-last word all =
+    ap (filter (λ (w : List ℕ). not (is_empty w))) (piece_alone word all) ∙ kept_before word []
+
+pub printable_cut : (word more : List ℕ) → list_all is_word_byte word ≡ true → list_all is_printable (word ++ 32 ∷ more) ≡ list_all is_printable more
+printable_cut word more all = list_all-append is_printable word (32 ∷ more) ∙ rw (word_printable word all) refl
+
+pub printable_last : (word : List ℕ) → list_all is_word_byte word ≡ true → list_all is_printable word ≡ true
+printable_last = word_printable
+
+-- a byte that ends a word and is no space is not printable
+not_printable : (b : ℕ) → is_word_byte b ≡ false → b ≢ 32 → is_printable b ≡ false
+not_printable b ends other = grind (arith, nat_tests)
+
+and_false : (b : Bool) → (b && false) ≡ false
+and_false true = refl
+and_false false = refl
+
+pub printable_not : (word : List ℕ) (b : ℕ) (more : List ℕ) → is_word_byte b ≡ false → b ≢ 32 → list_all is_printable (word ++ b ∷ more) ≡ false
+printable_not word b more ends other =
+    list_all-append is_printable word (b ∷ more) ∙ ap (λ (t : Bool). list_all is_printable word && (t && list_all is_printable more)) (not_printable b ends other) ∙ and_false (list_all is_printable word)
 
 -- a line whose first word is a number says something
 not_skipped : (b : ℕ) (text : List ℕ) → is_digit b ≡ true → is_skipped (b ∷ text) ≡ false

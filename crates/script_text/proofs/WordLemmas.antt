@@ -1,32 +1,36 @@
--- The words of a line, and the numbers that they spell.
-use Rattle.std.proofs.Common.{◌≡◌, ℕ, ◌+◌, ◌-◌, ◌*◌, ◌^◌, ◌<◌, ◌≤◌, ◌≢◌, Bool, true, false, ◌&&◌, nat_eq, List, [], ◌∷◌, length, get_or, drop, Some, None, refl, ap, sym, ◌∙◌, arith}
-use Rattle.std.specs.Prelude.{fold, cond, nat_lt, not}
-use Rattle.std.specs.List.{slice_split, onto_first, list_all}
-use Rattle.std.proofs.lemmas.List.{drop_more, drop_all}
-use Rattle.std.proofs.lemmas.Bool.{ne_eqb, cond-true, cond-false, le-ltb, lt-ltb}
-use Rattle.iso_model.specs.Text.{pieces, before_piece, is_empty, is_digit, is_decimal, value_of, number_of}
+-- The numbers that words spell.
+use Rattle.std.proofs.Common.{◌≡◌, ℕ, zero, suc, ◌+◌, ◌-◌, ◌*◌, ◌^◌, ◌<◌, ◌≤◌, ◌≢◌, Bool, true, false, ◌&&◌, List, [], ◌∷◌, length, get_or, drop, take, Some, None, refl, ap, sym, ◌∙◌, arith}
+use Rattle.std.specs.Prelude.{fold, nat_lt, not}
+use Rattle.std.specs.List.{list_all}
+use Rattle.std.proofs.lemmas.List.{drop_more, drop_all, take_all}
+use Rattle.std.proofs.lemmas.Bool.{and_parts, ne_eqb, cond-true, cond-false, le-ltb, lt-ltb}
+use Rattle.iso_model.specs.Text.{is_digit, is_decimal, value_of, number_of}
+use Rattle.script_text.specs.Words.{may_be_decimal}
 
-onto_first-before_piece : (b : ℕ) (parts : List (List ℕ)) → onto_first b parts ≡ before_piece b parts
-onto_first-before_piece b [] = refl
-onto_first-before_piece b (part ∷ parts) = refl
+-- a word is decimal where it has no zero before others, and all its bytes are digits
+is_decimal-by_parts : (word : List ℕ) → is_decimal word ≡ (may_be_decimal word && list_all is_digit word)
+is_decimal-by_parts [] = refl
+is_decimal-by_parts (b ∷ []) = grind arith
+is_decimal-by_parts (b ∷ c ∷ word) = refl
 
--- what split gives at the spaces are the pieces between them
-pub slice_split-pieces : (text : List ℕ) → slice_split (λ b. nat_eq b 32) text ≡ pieces 32 text
-slice_split-pieces [] = refl
-slice_split-pieces (b ∷ text) =
-    ap (λ parts. cond (nat_eq b 32) ([] ∷ parts) (onto_first b parts)) (slice_split-pieces text)
-    ∙ ap (cond (nat_eq b 32) ([] ∷ pieces 32 text)) (onto_first-before_piece b (pieces 32 text))
-
--- a word is empty where its length is 0
-pub is_empty-by_length : (word : List ℕ) → is_empty word ≡ nat_eq (length word) 0
-is_empty-by_length [] = refl
-is_empty-by_length (b ∷ word) = sym (ne_eqb (length (b ∷ word)) 0 (omega arith))
-
--- a word that does not begin with a zero is decimal where all its bytes are digits
+-- and so where it does not begin with a zero
 pub is_decimal-by_all : (word : List ℕ) (r : Bool) → 0 < length word → get_or word 0 0 ≢ 48 → r ≡ list_all is_digit word → r ≡ is_decimal word
 is_decimal-by_all [] r some nonzero all = absurd (omega arith)
 is_decimal-by_all (b ∷ []) r some nonzero all = grind arith
 is_decimal-by_all (b ∷ c ∷ word) r some nonzero all = all ∙ ap (λ zero. not zero && list_all is_digit (b ∷ c ∷ word)) (sym (ne_eqb b 48 nonzero))
+
+pub is_decimal-whole : (word : List ℕ) (n : ℕ) → may_be_decimal word ≡ true → list_all is_digit (take n word) ≡ true → length word ≤ n → is_decimal word ≡ true
+is_decimal-whole word n begins digits all =
+    is_decimal-by_parts word ∙ rw (begins, sym (take_all n word all)) digits
+
+all_at : (p : ℕ → Bool) (word : List ℕ) (i : ℕ) → i < length word → list_all p word ≡ true → p (get_or word i 0) ≡ true
+all_at p [] i below all = absurd (omega (arith, below))
+all_at p (b ∷ word) zero below all = (and_parts (p b) (list_all p word) all).0
+all_at p (b ∷ word) (suc i) below all = all_at p word i (omega (arith, below)) (and_parts (p b) (list_all p word) all).1
+
+is_no : (b c : Bool) → c ≡ false → (b ≡ true → c ≡ true) → b ≡ false
+is_no true c not_c so = sym (so refl) ∙ not_c
+is_no false c not_c so = refl
 
 -- the value of digits that follow those of n
 abbrev pub value_after : (n : ℕ) → List ℕ → ℕ
@@ -41,6 +45,17 @@ value_after-grows n (d ∷ digits) = let grows = value_after-grows (10 * n + (d 
 pub number_of-no_decimal : (word : List ℕ) → is_decimal word ≡ false → None ≡ number_of word
 unfolding number_of
 number_of-no_decimal word e = sym (cond-false _ _ _ (ap (λ b. b && nat_lt (value_of word) (2 ^ 32)) e))
+
+pub number_of-begun : (word : List ℕ) → may_be_decimal word ≡ false → None ≡ number_of word
+number_of-begun word e = number_of-no_decimal word (is_decimal-by_parts word ∙ ap (λ (b : Bool). b && list_all is_digit word) e)
+
+pub number_of-no_digit : (word : List ℕ) (i : ℕ) → i < length word → is_digit (get_or word i 0) ≡ false → None ≡ number_of word
+number_of-no_digit word i below other =
+    number_of-no_decimal word (is_decimal-by_parts word ∙ and_no (may_be_decimal word) (list_all is_digit word) (is_no (list_all is_digit word) (is_digit (get_or word i 0)) other (all_at is_digit word i below)))
+  where
+    and_no : (b c : Bool) → c ≡ false → (b && c) ≡ false
+    and_no true c not_c = not_c
+    and_no false c not_c = refl
 
 -- nor does one whose value is too great
 number_of-too_great : (word : List ℕ) → is_decimal word ≡ true → 2 ^ 32 ≤ value_of word → None ≡ number_of word
@@ -60,12 +75,16 @@ value_after-step : (word : List ℕ) (i n : ℕ) → i < length word
 value_after-step word i n h = ap (value_after n) (drop_more word i 0 h)
 
 -- where the value so far and one digit more are too great, the word spells no number
-pub number_of-over : (word : List ℕ) (i n : ℕ) → is_decimal word ≡ true → value_after n (drop i word) ≡ value_of word
+pub number_of-over : (word : List ℕ) (i n : ℕ) → value_after n (drop i word) ≡ value_of word
     → i < length word → 2 ^ 32 ≤ 10 * n + (get_or word i 0 - 48) → None ≡ number_of word
-number_of-over word i n decimal value h over =
+number_of-over word i n value h over =
     let more = value_after-step word i n h in
     let grows = value_after-grows (10 * n + (get_or word i 0 - 48)) (drop (i + 1) word) in
-    number_of-too_great word decimal (omega (arith, value, more, grows))
+    by_decimal (is_decimal word) refl (omega (arith, value, more, grows))
+  where
+    by_decimal : (b : Bool) → is_decimal word ≡ b → 2 ^ 32 ≤ value_of word → None ≡ number_of word
+    by_decimal true is great = number_of-too_great word is great
+    by_decimal false is great = number_of-no_decimal word is
 
 -- at the end of the word the value so far is its number
 pub number_of-whole : (word : List ℕ) (i n : ℕ) → is_decimal word ≡ true → value_after n (drop i word) ≡ value_of word

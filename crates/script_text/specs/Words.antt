@@ -1,7 +1,22 @@
--- What the words of a line are, where a slice holds them.
-use Rattle.std.specs.Prelude.{ℕ, List, map}
+-- The words of a line, where slices hold them, and their bytes.
+use Rattle.std.specs.Prelude.{ℕ, ◌==◌, Bool, true, false, ◌&&◌, cond, not, List, [], ◌∷◌, map, nat_le}
+use Rattle.iso_model.specs.Text.{is_empty}
 use denote.Ref.{Bor}
 
 -- what the slices borrow
 abbrev pub texts : List (Bor (List ℕ)) → List (List ℕ)
 texts slices = map (λ slice. slice.now) slices
+
+-- a byte of a word: printable, and no space
+abbrev pub is_word_byte : ℕ → Bool
+is_word_byte b = nat_le 33 b && nat_le b 126
+
+-- a word before others, if it has a byte
+abbrev pub word_before : List ℕ → List (List ℕ) → List (List ℕ)
+word_before word words = cond (is_empty word) words (word ∷ words)
+
+-- whether a word has a byte, and no zero before others
+abbrev pub may_be_decimal : List ℕ → Bool
+may_be_decimal [] = false
+may_be_decimal (b ∷ []) = true
+may_be_decimal (b ∷ c ∷ word) = not (b == 48)

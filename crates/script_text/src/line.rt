@@ -21,11 +21,10 @@ pub fn parse_line(alloc: Global, text: &[u8]) -> Result<Parsed, LineError>
     if is_skipped(text) {
         return Ok(Parsed::Skip);
     }
-    if !text.iter().all(|byte| (b' '..=b'~').contains(byte)) {
-        return Err(LineError::Cause(8));
-    }
     let mut places: [&[u8]; MOST_WORDS] = [b""; MOST_WORDS];
-    let count = cut_words(text, &mut places);
+    let Some(count) = cut_words(text, &mut places) else {
+        return Err(LineError::Cause(8));
+    };
     said(alloc, &places[..count])
 }
 

@@ -73,6 +73,7 @@ fn other_operation(name: &[u8], arguments: &[&[u8]]) -> Result<Op, LineError>
 }
 
 /// An operation that has no arguments.
+#[inline(always)]
 fn bare(op: Op, arguments: &[&[u8]]) -> Result<Op, LineError>
     ensures { Gives result (bare op (texts arguments.now)) }
 {

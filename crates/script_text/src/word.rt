@@ -1,35 +1,75 @@
 // The words of a line, and the numbers that they spell.
-ghost use Rattle.std.specs.Prelude.{◌≡◌, ◌≤◌, length, take};
-ghost use Rattle.iso_model.specs.Text.{is_decimal, number_of, words_of};
-ghost use Rattle.script_text.specs.Words.{texts};
+ghost use Rattle.std.specs.Prelude.{◌≡◌, ◌<◌, ◌≤◌, IfNone, IfSome, false, length, slice_index, take, true};
+ghost use Rattle.std.specs.List.{list_all};
+ghost use Rattle.std.specs.Option.{is_some};
+ghost use Rattle.iso_model.specs.Script.{is_printable};
+ghost use Rattle.iso_model.specs.Text.{number_of, words_of};
+ghost use Rattle.script_text.specs.Words.{is_word_byte, may_be_decimal, texts, word_before};
 
 /// How many words a line is cut into. No operation has so many, so what follows them changes nothing.
 pub(crate) const MOST_WORDS: usize = 6;
 
-/// Puts the first words between spaces into the places, and tells how many these are.
-pub(crate) fn cut_words<'a>(line: &'a [u8], places: &mut [&'a [u8]; MOST_WORDS]) -> usize
-    ensures words { texts (take result places.new) ≡ take MOST_WORDS (words_of line.now) }
-    ensures fits { result ≤ length places.new }
+/// How many bytes at the front of a line belong to one word: they are printable, and no spaces.
+fn word_length(rest: &[u8]) -> usize
+    ensures within { result ≤ length rest.now }
+    ensures word { list_all is_word_byte (take result rest.now) ≡ true }
+    ensures stops { result < length rest.now → is_word_byte (slice_index rest.now result) ≡ false }
+{
+    for (at, byte) in rest.iter().enumerate() {
+        if !(b'!'..=b'~').contains(byte) {
+            return at;
+        }
+    }
+    rest.len()
+}
+
+/// The bytes before the first space, and what follows it. None where a byte before it is not printable.
+#[inline(always)]
+fn cut_word(rest: &[u8]) -> Option<(&[u8], &[u8])>
+    requires { 0 < length rest.now }
+    ensures shorter { IfSome result (λ cut. length cut.1.now < length rest.now) }
+    ensures printable { IfSome result (λ cut. list_all is_printable rest.now ≡ list_all is_printable cut.1.now) }
+    ensures words { IfSome result (λ cut. words_of rest.now ≡ word_before cut.0.now (words_of cut.1.now)) }
+    ensures none { IfNone result (list_all is_printable rest.now ≡ false) }
+{
+    let (word, behind) = rest.split_at(word_length(rest));
+    let Some((first, more)) = behind.split_first() else {
+        return Some((word, behind));
+    };
+    if *first != b' ' {
+        return None;
+    }
+    Some((word, more))
+}
+
+/// Puts the first words between spaces into the places, and tells how many these are. None where the line has a byte that is
+/// not printable.
+pub(crate) fn cut_words<'a>(line: &'a [u8], places: &mut [&'a [u8]; MOST_WORDS]) -> Option<usize>
+    ensures words { IfSome result (λ count. texts (take count places.new) ≡ take MOST_WORDS (words_of line.now)) }
+    ensures fits { IfSome result (λ count. count ≤ length places.new) }
+    ensures printable { is_some result ≡ list_all is_printable line.now }
 {
     let mut count = 0;
-    let pieces = line.split(|byte| *byte == b' ');
-    for word in pieces.filter(|piece| !piece.is_empty()) {
-        if count < MOST_WORDS {
+    let mut rest = line;
+    while !rest.is_empty() {
+        let (word, behind) = cut_word(rest)?;
+        rest = behind;
+        if !word.is_empty() && count < MOST_WORDS {
             places[count] = word;
             count += 1;
         }
     }
-    count
+    Some(count)
 }
 
-/// Whether the word is decimal digits without a leading zero, but for 0 itself.
-fn is_decimal(word: &[u8]) -> bool
-    ensures { result ≡ is_decimal word.now }
+/// Whether a word has a byte, and no zero before others.
+fn may_be_decimal(word: &[u8]) -> bool
+    ensures { result ≡ may_be_decimal word.now }
 {
     match word {
         [] => false,
-        [digit] => digit.is_ascii_digit(),
-        [first, ..] => *first != b'0' && word.iter().all(u8::is_ascii_digit),
+        [b'0', _, ..] => false,
+        _ => true,
     }
 }
 
@@ -37,11 +77,14 @@ fn is_decimal(word: &[u8]) -> bool
 pub fn number_of(word: &[u8]) -> Option<u32>
     ensures { result ≡ number_of word.now }
 {
-    if !is_decimal(word) {
+    if !may_be_decimal(word) {
         return None;
     }
     let mut value: u32 = 0;
     for digit in word {
+        if !digit.is_ascii_digit() {
+            return None;
+        }
         value = value
             .checked_mul(10)?
             .checked_add(u32::from(*digit - b'0'))?;

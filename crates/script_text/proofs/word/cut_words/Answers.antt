@@ -1,34 +1,61 @@
-use Rattle.std.proofs.Common.{ℕ, nat_eq, List, take, Bor, rules, tests, arith, not, ◌∙◌, ap, sym}
-use Rattle.std.proofs.lemmas.Iterator.Consumers.{YieldsList-end, YieldsList-from_filter}
-use Rattle.std.proofs.lemmas.Iterator.Splits.{YieldsList-from_slice_split}
-use Rattle.std.proofs.lemmas.List.{take-map, length-set}
-use Rattle.std.specs.Prelude.{filter}
-use Rattle.iso_model.specs.Text.{is_empty, words_of}
-use Rattle.script_text.specs.declared.word.TheConstants.{MOST_WORDS}
+-- A word that has bytes takes the next place, while there is one.
+use Rattle.std.proofs.Common.{◌≡◌, ◌∙◌, ◌<◌, arith, Bor, ℕ, List, [], ◌∷◌, ◌++◌, length, take}
+use Rattle.std.proofs.lemmas.Bool.Decides.{nat_tests}
+use Rattle.std.proofs.lemmas.List.{length-set}
+use Rattle.iso_model.specs.Text.{words_of}
 use Rattle.script_text.specs.Words.{texts}
-use Rattle.script_text.proofs.FirstItems.{first_grow}
-use Rattle.script_text.proofs.WordLemmas.{slice_split-pieces, is_empty-by_length}
+use Rattle.script_text.specs.declared.word.TheConstants.{MOST_WORDS}
+use Rattle.script_text.proofs.FirstItems.{first_grow, first_stay}
+use Rattle.script_text.proofs.WordCuts.{cut_all, cut_more, cut_none, length_nil}
 use Rattle.script_text.proofs.word.cut_words.Goals as goal
+use Rattle.script_text.proofs.word.cut_words.Goals.{else-not-is_empty-via-then-not-is_empty+else-count-lt-MOST_WORDS, else-not-is_empty-via-else-not-is_empty}
 
-pub loop-word-preserved-then-count-lt-MOST_WORDS :
-    goal.loop-word-preserved-then-count-lt-MOST_WORDS
-loop-word-preserved-then-count-lt-MOST_WORDS c =
-    let kept = c.loop-word.invariant in
+pub loop-rest-preserved-then-count-lt-MOST_WORDS :
+    goal.loop-rest-preserved-then-count-lt-MOST_WORDS
+loop-rest-preserved-then-count-lt-MOST_WORDS c =
+    let was = c.loop-rest.invariant in
+    let (cut, so, kept) = was.words in
+    let some : 0 < length c.in_ok-word.word.now = grind (arith, nat_tests) in
     record {
       fits = omega (arith, c.if-count-lt-MOST_WORDS.true);
-      room = length-set c.loop-word.places c.loop-word.count c.in-Some.word ∙ kept.room;
-      words = first_grow MOST_WORDS c.loop-word.count c.loop-word.places c.loop-word.yielded c.in-Some.word c.if-count-lt-MOST_WORDS.true kept.room kept.words;
+      room = length-set c.loop-rest.places c.loop-rest.count c.in_ok-word.word ∙ was.room;
+      printable = was.printable ∙ c.in_ok-word.ensures.printable;
+      words = (
+        cut ++ c.in_ok-word.word ∷ [],
+        cut_more (words_of c.args.line.now) (words_of c.loop-rest.rest.now) (words_of c.in_ok-word.behind.now) cut c.in_ok-word.word so c.in_ok-word.ensures.words some,
+        first_grow MOST_WORDS c.loop-rest.count c.loop-rest.places cut c.in_ok-word.word c.if-count-lt-MOST_WORDS.true was.room kept,
+      );
+    }
+
+pub loop-rest-preserved : goal.loop-rest-preserved
+loop-rest-preserved c =
+    let was = c.loop-rest.invariant in
+    let (cut, so, kept) = was.words in
+    let by_case : (x : List (Bor (List ℕ))) × (words_of c.args.line.now ≡ texts x ++ words_of c.in_ok-word.behind.now) × (take c.loop-rest.count c.loop-rest.places ≡ take MOST_WORDS x) =
+    elim c.else-not-is_empty.branch [
+      | else-not-is_empty-via-then-not-is_empty+else-count-lt-MOST_WORDS w ↦
+          (let some : 0 < length c.in_ok-word.word.now = grind (arith, nat_tests, w.if-not-is_empty.true) in (
+            cut ++ c.in_ok-word.word ∷ [],
+            cut_more (words_of c.args.line.now) (words_of c.loop-rest.rest.now) (words_of c.in_ok-word.behind.now) cut c.in_ok-word.word so c.in_ok-word.ensures.words some,
+            first_stay MOST_WORDS c.loop-rest.count c.loop-rest.places cut c.in_ok-word.word was.fits (omega (arith, w.if-count-lt-MOST_WORDS.false)) was.room kept,
+          ))
+      | else-not-is_empty-via-else-not-is_empty w ↦
+          (let none : length c.in_ok-word.word.now ≡ 0 = grind (arith, nat_tests, w.if-not-is_empty.false) in (
+            cut,
+            cut_none (words_of c.args.line.now) (words_of c.loop-rest.rest.now) (words_of c.in_ok-word.behind.now) cut c.in_ok-word.word.now so c.in_ok-word.ensures.words none,
+            kept,
+          ))
+    ] in
+    record {
+      fits = was.fits;
+      room = was.room;
+      printable = was.printable ∙ c.in_ok-word.ensures.printable;
+      words = by_case;
     }
 
 pub returns-clause-words : goal.returns-clause-words
-unfolding words_of
 returns-clause-words c =
-    let ended = YieldsList-end
-    (YieldsList-from_filter _ (λ word. not (is_empty word)) (YieldsList-from_slice_split _ (λ b. nat_eq b 32) c.args.line.now (cc) (cc) (cc) (λ x b q k. search (rules, tests))) c.filter-word-items.ensures.closure (λ x b q k. grind (rules, is_empty-by_length)))
-    c.loop-word.yielded _ c.loop-word.yielded_by _ _ c.in-None.is c.next.ensures.steps in
-    ap texts c.loop-word.invariant.words
-    ∙ sym (take-map (λ (slice : Bor (List ℕ)). slice.now) MOST_WORDS c.loop-word.yielded)
-    ∙ ap (take MOST_WORDS) (ended.0 ∙ ap (filter (λ (word : List ℕ). not (is_empty word))) (slice_split-pieces c.args.line.now))
-
-pub returns-clause-fits : goal.returns-clause-fits
-returns-clause-fits c = omega (arith, c.loop-word.invariant.fits, c.loop-word.invariant.room)
+    let was = c.loop-rest.invariant in
+    let (cut, so, kept) = was.words in
+    let none : length c.loop-rest.rest.now ≡ 0 = grind (arith, nat_tests) in
+    cut_all MOST_WORDS (words_of c.args.line.now) cut (take c.loop-rest.count c.loop-rest.places) c.loop-rest.rest.now so (length_nil c.loop-rest.rest.now none) kept

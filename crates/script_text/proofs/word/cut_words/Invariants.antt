@@ -1,10 +1,19 @@
-use Rattle.std.proofs.Common.{◌≡◌, ◌≤◌, take, length}
+-- What was cut off so far, and what is left of the line.
+use Rattle.std.proofs.Common.{◌≡◌, ◌≤◌, ◌++◌, Bor, ℕ, List, take, length}
+use Rattle.std.specs.List.{list_all}
+use Rattle.iso_model.specs.Script.{is_printable}
+use Rattle.iso_model.specs.Text.{words_of}
 use Rattle.script_text.specs.declared.word.TheConstants.{MOST_WORDS}
+use Rattle.script_text.specs.Words.{texts}
 use Rattle.script_text.proofs.word.cut_words.Given as goal
 
-abbrev pub invariant-loop-word : goal.invariant-loop-word
-invariant-loop-word l = record {
+abbrev pub invariant-loop-rest : goal.invariant-loop-rest
+invariant-loop-rest l = record {
   fits : l.count ≤ MOST_WORDS;
   room : length l.places ≡ MOST_WORDS;
-  words : take l.count l.places ≡ take MOST_WORDS l.yielded;
+  printable : list_all is_printable l.line ≡ list_all is_printable l.rest;
+  words : (cut : List (Bor (List ℕ))) × (words_of l.line ≡ texts cut ++ words_of l.rest) × (take l.count l.places ≡ take MOST_WORDS cut);
 }
+
+abbrev pub decreases-loop-rest : goal.decreases-loop-rest
+decreases-loop-rest l = length l.rest

@@ -1,13 +1,15 @@
-use Rattle.std.proofs.Common.{◌≡◌, ◌<◌, ◌^◌, true, drop}
+-- The digits so far, and the value of all.
+use Rattle.std.proofs.Common.{◌≡◌, ◌<◌, ◌^◌, true, drop, take}
 use Rattle.std.specs.List.{list_all}
-use Rattle.iso_model.specs.Text.{is_decimal, is_digit, value_of}
+use Rattle.iso_model.specs.Text.{is_digit, value_of}
+use Rattle.script_text.specs.Words.{may_be_decimal}
 use Rattle.script_text.proofs.WordLemmas.{value_after}
 use Rattle.script_text.proofs.word.number_of.Given as goal
 
 abbrev pub invariant-loop-digit : goal.invariant-loop-digit
 invariant-loop-digit l = record {
-  decimal : is_decimal l.word ≡ true;
-  digits : list_all is_digit (drop l.digit-index l.word) ≡ true;
+  begins : may_be_decimal l.word ≡ true;
+  digits : list_all is_digit (take l.digit-index l.word) ≡ true;
   small : l.value < 2 ^ 32;
   value : value_after l.value (drop l.digit-index l.word) ≡ value_of l.word;
 }
