@@ -10,6 +10,7 @@ ghost use Rattle.iso_model.specs.Premises.{block_at};
 ghost use Rattle.iso_model.specs.World.{World, Live};
 ghost use Rattle.mv_index.specs.Shown.{AllLie, Lies, ShowTheSame};
 ghost use Rattle.mv_index.specs.Versions.{upto, versions_in};
+ghost use Rattle.version_read.specs.Blocks.{IsOver};
 ghost use Rattle.iso_core.specs.Calls.{IsTx};
 ghost use Rattle.iso_core.specs.Core.{AreOf};
 ghost use Rattle.iso_core.specs.Kept.{IsOf};
@@ -22,7 +23,7 @@ use mv_index::{MvIndex, Version};
 use std::marker::Brand;
 use std::sync::ledger::Blank;
 use step_count::{Ledger, Steps};
-use version_read::read_block;
+use version_read::{read_block, read_pieces};
 
 /// The versions of a block up to a number.
 fn versions_upto<L: Ledger>(blank: Blank, index: &MvIndex, block: u32, at: u64) -> &[Version]
@@ -49,6 +50,29 @@ fn versions_at(index: &MvIndex, block: u32, at: u64, last: u64) -> &[Version]
     }
 }
 
+/// Reads a block by these versions. Those that show at the last commit hide nothing of each other.
+fn read_by<D: Disk>(
+    disk: &mut D,
+    base: u64,
+    versions: &[Version],
+    show_at_last: bool,
+    into: &mut [u8],
+) -> Result<(), DiskFault>
+    requires size { length into.old ≤ 4096 }
+    requires base { base + length into.old ≤ (D.state disk.old).size }
+    requires versions { AllLie (length into.old) (D.state disk.old).size versions.now }
+    ensures bytes { OnOk result (ForSome (D.state disk.old).contents (λ c. IsOver c base versions.now into.new)) }
+    ensures unwritten { WritesNothing (D.state disk.old) (D.state disk.new) }
+    ensures cause { HasCause (D.state disk.old).faults (D.state disk.new).faults result }
+{
+    if show_at_last {
+        read_pieces(disk, base, versions, into)?;
+    } else {
+        read_block(disk, base, versions, into)?;
+    }
+    Ok(())
+}
+
 /// Reads a block as it stood when a transaction began. It takes no memory, and on a fault any bytes may be in the slice.
 pub(crate) fn fetch<D: Disk>(
     kept: &Kept,
@@ -68,6 +92,6 @@ pub(crate) fn fetch<D: Disk>(
     let place = half_place(&kept.geometry, kept.half);
     let base = place.base + u64::from(block) * u64::from(kept.geometry.block);
     let versions = versions_at(&kept.index, block, at, last);
-    read_block(disk, base, versions, into)?;
+    read_by(disk, base, versions, at == last, into)?;
     Ok(())
 }

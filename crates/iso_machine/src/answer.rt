@@ -66,6 +66,7 @@ impl<D: Disk> Machine<D> {
     }
 
     /// Does what a client asks for, and answers it.
+    #[inline(always)]
     pub(crate) fn answer(&mut self, client: u8, op: &Op) -> Result<Reply, Stop>
         requires { (W : World) × IsMachineOf D.state self.old W }
         ensures { (W : World) → IsMachineOf D.state self.old W → IsOp op.now

@@ -16,11 +16,11 @@ use tx_table::Work;
 
 /// The work of a transaction that begins at a number: in the memory of one that has left, where there is some for blocks of
 /// the same size. It takes no memory.
-fn begin_work(alloc: Global, spare: &mut Option<Work>, geometry: &Geometry, at: u64) -> Work
+fn begin_work(alloc: Global, spare: &mut Vec<Work>, geometry: &Geometry, at: u64) -> Work
     requires { IsTrue (is_block_size geometry.now.block) }
     ensures { result ≡ record { begin = at; mode = geometry.now.mode; size = geometry.now.block; blocks = geometry.now.blocks; accesses = []; ready = None; settled = true } }
 {
-    match spare.take() {
+    match spare.pop() {
         Some(mut work) if work.block_size() == geometry.block => {
             work.restart(at, geometry);
             work

@@ -63,6 +63,17 @@ fn ended(reply: EndReply) -> Reply
     }
 }
 
+/// How many transactions may leave their memory to later ones.
+const MOST_SPARE: usize = 8;
+
+/// Keeps the memory of a transaction that has left for a later one, unless there is enough.
+fn keep_spare(spare: &mut Vec<Work>, work: Work) {
+    if spare.len() < MOST_SPARE {
+        // Without memory for the list it is let go.
+        let _ = spare.push(work);
+    }
+}
+
 impl<D: Disk> Machine<D> {
     ghost use Rattle.iso_core.specs.Core.{disk_of};
     ghost use Rattle.iso_machine.specs.Answering.{Answers};
@@ -89,7 +100,7 @@ impl<D: Disk> Machine<D> {
             Err(error) => return refused(error),
         };
         let gone = self.live.remove(i);
-        self.spare = Some(gone.work);
+        keep_spare(&mut self.spare, gone.work);
         Ok(ended(reply))
     }
 
@@ -104,7 +115,7 @@ impl<D: Disk> Machine<D> {
         };
         let gone = self.live.remove(i);
         self.core.abort(gone.tx);
-        self.spare = Some(gone.work);
+        keep_spare(&mut self.spare, gone.work);
         Ok(Reply::Done)
     }
 }

@@ -18,8 +18,8 @@ pub struct Machine<D: Disk> {
     pub(crate) alloc: Global,
     pub(crate) core: Core<D>,
     pub(crate) live: Vec<Attached>,
-    // the memory of a transaction that has left
-    pub(crate) spare: Option<Work>,
+    // the memory of transactions that have left
+    pub(crate) spare: Vec<Work>,
     // for the bytes of one block
     pub(crate) buffer: Vec<u8>,
 }
@@ -38,7 +38,7 @@ impl<D: Disk> Machine<D> {
             alloc,
             core,
             live: Vec::new(alloc),
-            spare: None,
+            spare: Vec::new(alloc),
             buffer: Vec::new(alloc),
         }
     }
@@ -77,6 +77,7 @@ impl<D: Disk> ScriptMachine for Machine<D> {
 
     ghost lawful = { λ m. D.lawful (disk_of (core_of m)) };
 
+    #[inline(always)]
     fn step(&mut self, client: u8, op: &Op) -> Result<Reply, Stop> {
         self.answer(client, op)
     }

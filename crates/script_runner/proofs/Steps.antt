@@ -44,10 +44,10 @@ counts_on : (k mid l : SinkState) → CountsStand k mid → CountsStand mid l �
 counts_on k mid l first second = record { faults = second.faults ∙ first.faults; refusals = second.refusals ∙ first.refusals }
 
 -- the text of one reply
-pub reply_is : (W : World) (number : ℕ) (said : Line) (answer : Reply) (given pushed cleared : List ℕ) → given ≡ pushed → pushed ≡ cleared ++ reply_line said.client answer → cleared ≡ []
+pub reply_is : (W : World) (number : ℕ) (said : Line) (answer : Reply) (given set : List ℕ) → given ≡ set → set ≡ reply_line said.client answer
     → answer ≡ (step W said.client said.op).0 → given ≡ replies W ((number, said) ∷ [])
-reply_is W number said answer given pushed cleared same more none is =
-    same ∙ more ∙ ap (λ xs. xs ++ reply_line said.client answer) none ∙ ap (reply_line said.client) is ∙ sym (append-nil _)
+reply_is W number said answer given set same line is =
+    same ∙ line ∙ ap (reply_line said.client) is ∙ sym (append-nil _)
 
 module _ {stands : World → Type 0} {d : DiskState} {k : SinkState} (W : World) where
   -- before the first line

@@ -8,12 +8,13 @@ use crate::machine::{ScriptMachine, Stop};
 use crate::run_end::Halt;
 use iso_io::{Sink, put_all};
 use iso_model::{BadLine, Line, LineError, Parsed};
-use script_text::push_reply;
+use script_text::ReplyLine;
 
 /// Runs the operation of a line, and hands its reply to the sink.
+#[inline(always)]
 fn answer_line<M: ScriptMachine, K: Sink>(
     line: &Line,
-    reply: &mut Vec<u8>,
+    reply: &mut ReplyLine,
     machine: &mut M,
     output: &mut K,
 ) -> Result<(), Halt>
@@ -30,11 +31,10 @@ fn answer_line<M: ScriptMachine, K: Sink>(
         Err(Stop::Disk) => return Err(Halt::Disk),
         Err(Stop::Memory) => return Err(Halt::Memory),
     };
-    reply.clear();
-    if let Err(_) = push_reply(reply, line.client, &answer) {
+    if let Err(_) = reply.set(line.client, &answer) {
         return Err(Halt::Memory);
     }
-    if let Err(_) = put_all(output, reply) {
+    if let Err(_) = put_all(output, reply.text()) {
         return Err(Halt::Output);
     }
     Ok(())
@@ -54,10 +54,11 @@ fn halt_of(number: u64, error: LineError) -> Halt
 }
 
 /// Answers what a text says.
+#[inline(always)]
 pub(crate) fn answer_parsed<M: ScriptMachine, K: Sink>(
     number: u64,
     parsed: Result<Parsed, LineError>,
-    reply: &mut Vec<u8>,
+    reply: &mut ReplyLine,
     machine: &mut M,
     output: &mut K,
 ) -> Result<(), Halt>

@@ -13,7 +13,7 @@ use crate::run_end::Halt;
 use iso_io::Sink;
 use iso_model::{LineError, Parsed};
 use memchr::memchr;
-use script_text::parse_whole_line;
+use script_text::{ReplyLine, parse_whole_line};
 use std::alloc::Global;
 
 /// Where a run stands in the input.
@@ -23,8 +23,8 @@ pub(crate) struct Progress {
     pub(crate) number: u64,
     /// The front of it that was taken.
     pub(crate) held: Vec<u8>,
-    /// Room for a reply.
-    pub(crate) reply: Vec<u8>,
+    /// The line of the last reply.
+    pub(crate) reply: ReplyLine,
 }
 
 /// The bytes before the first line feed, and what follows it. None where there is no line feed.
@@ -39,6 +39,7 @@ fn split_line(text: &[u8]) -> Option<(&[u8], &[u8])>
 }
 
 /// What a whole line says, whose front is held. Where it says something, nothing is held then.
+#[inline(always)]
 fn parse_held(alloc: Global, held: &mut Vec<u8>, line: &[u8]) -> Result<Parsed, LineError>
     ensures parsed { Gives result (parse_whole (held.old.items ++ line.now)) }
     ensures held { OnOk result (held.new.items ≡ []) }

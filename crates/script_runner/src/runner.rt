@@ -13,7 +13,7 @@ use crate::piece::{Progress, answer_piece};
 use crate::run_end::{Halt, RunEnd};
 use iso_io::{Sink, Source};
 use iso_model::{BadLine, MAX_INPUT, MAX_LINE};
-use script_text::parse_line;
+use script_text::{ReplyLine, parse_line};
 use std::alloc::{AllocError, Global};
 
 /// The most bytes that one take is asked for.
@@ -125,7 +125,7 @@ fn answer_input<M: ScriptMachine, S: Source, K: Sink>(
     let mut progress = Progress {
         number: 1,
         held: Vec::new(alloc),
-        reply: Vec::new(alloc),
+        reply: ReplyLine::new(alloc),
     };
     let mut left = MAX_INPUT;
     while left > 0 {

@@ -4,6 +4,7 @@ pub mod Bits
 pub mod Fetched
 pub mod Fills
 pub mod Following
+pub mod Layings
 pub mod Lying
 pub mod Overlays
 pub mod Records

@@ -1,13 +1,13 @@
 // A block, read by its versions.
-ghost use Rattle.std.specs.Prelude.{◌≡◌, ◌+◌, ◌-◌, ◌*◌, ◌<◌, ◌≤◌, ◌++◌, ◌||◌, ℕ, IfOk, OnOk, count_by, drop, length, not, take};
+ghost use Rattle.std.specs.Prelude.{◌≡◌, ◌+◌, ◌-◌, ◌*◌, ◌<◌, ◌≤◌, ◌++◌, ◌||◌, ℕ, IfOk, OnOk, count_by, drop, length, not, slice_index_or, take, true};
 ghost use Rattle.std.specs.List.{range_with_len, slice_range};
 ghost use Rattle.std.specs.Option.{ForSome};
 ghost use Rattle.iso_disk.specs.Disk.{WritesNothing};
 ghost use Rattle.fault_count.specs.Count.{HasCause};
 ghost use Rattle.mv_index.specs.Masks.{is_seen};
 ghost use Rattle.mv_index.specs.Shown.{AllLie};
-ghost use Rattle.mv_index.specs.Versions.{in_bytes};
-ghost use Rattle.version_read.specs.Blocks.{IsOver};
+ghost use Rattle.mv_index.specs.Versions.{in_bytes, no_version};
+ghost use Rattle.version_read.specs.Blocks.{IsLaid, IsOver};
 ghost use Rattle.version_read.specs.Fills.{IsFilled};
 
 use crate::mask::next_byte;
@@ -79,6 +79,60 @@ fn fill<D: Disk>(
     }
     see(seen, off, len);
     Ok(count)
+}
+
+/// Reads the bytes of each version into their place in a block, from the oldest version on, one read each.
+fn lay_over<D: Disk>(disk: &mut D, versions: &[Version], into: &mut [u8]) -> Result<(), DiskFault>
+    requires { AllLie (length into.old) (D.state disk.old).size versions.now }
+    ensures bytes { OnOk result (ForSome (D.state disk.old).contents (λ c. IsLaid c versions.now into.old into.new)) }
+    ensures unwritten { WritesNothing (D.state disk.old) (D.state disk.new) }
+    ensures cause { HasCause (D.state disk.old).faults (D.state disk.new).faults result }
+{
+    for version in versions {
+        read_part(
+            disk,
+            version.place,
+            version.off as usize,
+            version.len as usize,
+            into,
+        )?;
+    }
+    Ok(())
+}
+
+/// Whether the first of the versions has all bytes of a block of this size.
+fn is_whole(versions: &[Version], size: usize) -> bool
+    ensures { result ≡ true → (0 < length versions.now) × (size ≤ (slice_index_or versions.now 0 no_version).len) }
+{
+    match versions.first() {
+        Some(version) => version.len as usize >= size,
+        None => false,
+    }
+}
+
+/// Reads a block, whose base bytes stand at a place, with its versions over them: the base bytes, and then each version
+/// from the oldest on, one read each. So it is meant for few versions that hide nothing of each other; where the first one
+/// has the whole block, the base bytes are not read. It takes no memory and writes nothing. On an error any bytes may be in
+/// the slice.
+pub fn read_pieces<D: Disk>(
+    disk: &mut D,
+    base: u64,
+    versions: &[Version],
+    into: &mut [u8],
+) -> Result<(), DiskFault>
+    requires base { base + length into.old ≤ (D.state disk.old).size }
+    requires versions { AllLie (length into.old) (D.state disk.old).size versions.now }
+    ensures bytes { OnOk result (ForSome (D.state disk.old).contents (λ c. IsOver c base versions.now into.new)) }
+    ensures unwritten { WritesNothing (D.state disk.old) (D.state disk.new) }
+    ensures cause { HasCause (D.state disk.old).faults (D.state disk.new).faults result }
+{
+    if is_whole(versions, into.len()) {
+        lay_over(disk, versions, into)?;
+        return Ok(());
+    }
+    disk.read(base, into)?;
+    lay_over(disk, versions, into)?;
+    Ok(())
 }
 
 /// Reads a block of at most 4,096 bytes, whose base bytes stand at a place, with its versions over them: from the newest

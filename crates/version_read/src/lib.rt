@@ -7,7 +7,7 @@ pub mod laws;
 mod mask;
 mod part_span;
 
-pub use block::read_block;
+pub use block::{read_block, read_pieces};
 pub use index::{add_parts, list_parts, reserve_parts};
 pub use part_span::PartSpan;
 

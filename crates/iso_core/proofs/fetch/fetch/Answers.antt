@@ -11,14 +11,14 @@ use Rattle.iso_core.proofs.Fetches.{block_is, versions_lie}
 use Rattle.iso_core.proofs.Leaves.{begins_at}
 use Rattle.iso_core.proofs.fetch.fetch.Goals as goal
 
-pub read_block-requires-clause-size : goal.read_block-requires-clause-size
-read_block-requires-clause-size g c =
+pub read_by-requires-clause-size : goal.read_by-requires-clause-size
+read_by-requires-clause-size g c =
     let (W, t, of, here, below, long) = c.requires in
     let most = (limits W.geometry of.kept_of.world.valid).largest_block in
     omega (arith, long, most)
 
-pub read_block-requires-clause-versions : goal.read_block-requires-clause-versions
-read_block-requires-clause-versions g c =
+pub read_by-requires-clause-versions : goal.read_by-requires-clause-versions
+read_by-requires-clause-versions g c =
     let (W, t, of, here, below, long) = c.requires in
     transport (λ i. AllLie (sym long i) (sym of.size i) c.versions_at-versions.result.now)
     (c.versions_at-versions.ensures.lie W.geometry.block (image_size W.geometry) (versions_lie c.args.kept.now W of.kept_of c.args.block))
@@ -31,7 +31,7 @@ returns-clause-block g c W t of here below long = λ image told.
     let size = ap (λ (h : Geometry). h.block) of.kept_of.keeps.geometry in
     let base : c.half_place-place.result.base + c.from.result * c.from-2.result ≡ base_place W.geometry kept.half + c.args.block * W.geometry.block =
     λ i. place i + c.from.ensures i * (c.from-2.ensures ∙ size) i in
-    block_is kept W of.kept_of t c.args.tx c.args.block c.unwrap_or-at.result c.versions_at-versions.result.now image c.read_block.new.into here begin
-    (of.images.each image ((g.met.D.Disk.lawful c.args.disk.now).reads_as_image image told)) below (c.read_block.auto.into ∙ long)
+    block_is kept W of.kept_of t c.args.tx c.args.block c.unwrap_or-at.result c.versions_at-versions.result.now image c.read_by.new.into here begin
+    (of.images.each image ((g.met.D.Disk.lawful c.args.disk.now).reads_as_image image told)) below (c.read_by.auto.into ∙ long)
     (elim c.versions_at-versions.ensures.chosen [ inl same ↦ inl same | inr shows ↦ inr (shows.0 ∙ c.last-last.ensures, shows.1) ])
-    (subst (λ (n : ℕ). IsOver image n c.versions_at-versions.result.now c.read_block.new.into) base (c.in_ok-read_block.ensures.bytes image told))
+    (subst (λ (n : ℕ). IsOver image n c.versions_at-versions.result.now c.read_by.new.into) base (c.in_ok-read_by.ensures.bytes image told))

@@ -39,11 +39,11 @@ pub returns-in-Err-put_all-clause-halted : goal.returns-in-Err-put_all-clause-ha
 returns-in-Err-put_all-clause-halted g c W number stood =
     let law = g.met.M.ScriptMachine in
     let x : ℕ × Line = (number, c.args.line.now) in
-    let text : IfTold (g.M.ScriptMachine.disk c.args.machine.now) (c.deref.result.now ≡ replies W (x ∷ [])) =
-    λ told. reply_is W number c.args.line.now c.in-Ok.answer c.deref.result.now c.push_reply.new.out.items c.clear.new.self.items c.deref.ensures.value c.in_default.ensures.ok
-    c.clear.ensures.items (c.in-Ok.ensures.reply W stood told) in
+    let text : IfTold (g.M.ScriptMachine.disk c.args.machine.now) (c.text.result.now ≡ replies W (x ∷ [])) =
+    λ told. reply_is W number c.args.line.now c.in-Ok.answer c.text.result.now c.set.new.self c.text.ensures c.in_default.ensures.ok
+    (c.in-Ok.ensures.reply W stood told) in
     let put = c.put_all.ensures in
-    let err : WroteFront (g.K.Sink.state c.args.output.now) (g.K.Sink.state c.put_all.new.sink) c.deref.result.now = c.in-Err-put_all.ensures.err in
+    let err : WroteFront (g.K.Sink.state c.args.output.now) (g.K.Sink.state c.put_all.new.sink) c.text.result.now = c.in-Err-put_all.ensures.err in
     let failed : SinkFailed (g.K.Sink.state c.args.output.now) (g.K.Sink.state c.put_all.new.sink) =
     elim c.in-Err-put_all.field-0 as (λ e. c.in-Err-put_all.field-0 ≡ e → SinkFailed (g.K.Sink.state c.args.output.now) (g.K.Sink.state c.put_all.new.sink)) [
       | Failed ↦ λ is. let how = c.in-Err-put_all.is ∙ ap (λ s. Err s) is in inl (put.failed how, put.not_refused how)
@@ -63,9 +63,9 @@ pub returns-clause-ran : goal.returns-clause-ran
 returns-clause-ran g c W number stood =
     let law = g.met.M.ScriptMachine in
     let x : ℕ × Line = (number, c.args.line.now) in
-    let text : IfTold (g.M.ScriptMachine.disk c.args.machine.now) (c.deref.result.now ≡ replies W (x ∷ [])) =
-    λ told. reply_is W number c.args.line.now c.in-Ok.answer c.deref.result.now c.push_reply.new.out.items c.clear.new.self.items c.deref.ensures.value c.in_default.ensures.ok
-    c.clear.ensures.items (c.in-Ok.ensures.reply W stood told) in
+    let text : IfTold (g.M.ScriptMachine.disk c.args.machine.now) (c.text.result.now ≡ replies W (x ∷ [])) =
+    λ told. reply_is W number c.args.line.now c.in-Ok.answer c.text.result.now c.set.new.self c.text.ensures c.in_default.ensures.ok
+    (c.in-Ok.ensures.reply W stood told) in
     let up = c.in-Ok.ensures.world W stood in
     ran_one W x (law.sound c.args.machine.now W stood) c.requires.line.op (c.step.ensures.moments W stood) up (λ d here. law.shown c.step.new.self (after W (x ∷ [])) d up here)
     (λ told. c.in_default-put_all.ensures.ok ∙ ap (append_known (g.K.Sink.state c.args.output.now).written) (text told)) c.in-Ok.ensures.told c.in-Ok.ensures.cause.passed c.in_default-put_all.ensures.passed

@@ -1,0 +1,13 @@
+-- So many versions are laid over the block.
+use Rattle.std.proofs.Common.{◌≡◌, take}
+use Rattle.std.specs.Option.{ForSome}
+use Rattle.iso_disk.specs.Disk.{WritesNothing}
+use Rattle.version_read.specs.Blocks.{IsLaid}
+use Rattle.version_read.proofs.block.lay_over.Given as goal
+
+abbrev pub invariant-loop-version : goal.invariant-loop-version
+invariant-loop-version g l = record {
+  laid : ForSome (g.D.Disk.state l.fn.disk).contents (λ c. IsLaid c (take l.version-index l.versions) l.fn.into l.into);
+  faults : (g.D.Disk.state l.disk).faults ≡ (g.D.Disk.state l.fn.disk).faults;
+  unwritten : WritesNothing (g.D.Disk.state l.fn.disk) (g.D.Disk.state l.disk);
+}
