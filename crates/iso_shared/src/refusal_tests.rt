@@ -34,11 +34,12 @@ fn run_full<O: Origin, R: Wait>(
     match Shared::<MemDisk, O>::new(alloc, core) {
         Err((_memory, _core)) => None,
         Ok((shared, mut port)) => {
+            let mut others = shared.port(&mut port, 1 << 32);
             let tx = one_at_work(rt, &shared, &mut port)?;
-            let _ = put(rt, &shared, &mut port, 0, 3);
+            let _ = put(rt, &shared, &mut others, 0, 3);
             let clash = ended::<O, Brand, R>(Blank::new(1), rt, &shared, &mut port, tx);
-            let (mut port, in_order) = commits(rt, &shared, port, 1, 140);
-            let full = put(rt, &shared, &mut port, 1, 4);
+            let (mut others, in_order) = commits(rt, &shared, others, 1, 140);
+            let full = put(rt, &shared, &mut others, 1, 4);
             Some((clash, in_order, full))
         }
     }

@@ -8,7 +8,7 @@ use Rattle.iso_shared.proofs.TestDisks.{blank_now, still_starts}
 use Rattle.iso_shared.proofs.tests.core_failing.Goals as goal
 
 pub format_image-requires-clause-blank : goal.format_image-requires-clause-blank
-format_image-requires-clause-blank c = blank_now c.fail_kind.new.self c.in_ok-bytes.bytes.items (still_starts c.new.result _ _ c.fail_kind.ensures.untouched c.new.ensures.stable) c.in_ok-bytes.ensures
+format_image-requires-clause-blank c = blank_now c.fail_kind.new.self c.in_ok-bytes.bytes.items (still_starts c.new-disk.result _ _ c.fail_kind.ensures.untouched c.new-disk.ensures.stable) c.in_ok-bytes.ensures
 
 pub returns-in-Ok : goal.returns-in-Ok
 returns-in-Ok c = subst (λ (g : Geometry). StandsFor state_of c.in-Ok.core (fresh g 1 (empty_history g)) up) c.small.ensures.same c.in-Ok.ensures.stands
