@@ -1,6 +1,6 @@
 -- The end of a transaction leaves an entry that is legal at its place.
-use Rattle.std.proofs.Common.{◌≡◌, ◌≢◌, ◌⊎◌, inl, inr, ⊎_elim, ℕ, ◌+◌, ◌-◌, ◌<◌, ◌≤◌, Bool, true, false, cond, List, [], ◌∷◌, ◌++◌, Option, Some, None, Result, Ok, Err, IfOk, IfErr, OnOk, OnErr, IsSome, length, nat_lt, refl, sym, ap, ◌∙◌, subst, arith}
-use Rattle.std.specs.Prelude.{IsErrOf, ◌==◌, is_some, not}
+use Rattle.std.proofs.Common.{◌≡◌, ◌≢◌, ◌⊎◌, inl, inr, ⊎_elim, ℕ, ◌+◌, ◌-◌, ◌≤◌, Bool, true, false, cond, List, [], ◌∷◌, ◌++◌, Option, Some, None, Result, Ok, Err, IfOk, IfErr, OnOk, IsSome, length, nat_lt, refl, sym, ap, ◌∙◌, subst, arith}
+use Rattle.std.specs.Prelude.{IsErrOf, ◌==◌}
 use Rattle.conflict_rule.specs.declared.decision.Checked.{Checked}
 use Rattle.conflict_rule.specs.Decision.{up_to}
 use Rattle.iso_core.specs.declared.core_itself.Core.{Core}
@@ -8,7 +8,7 @@ use Rattle.iso_core.specs.Calls.{BlamesDisk, IsCheckedOf, IsWorkOf, Refuses, Wri
 use Rattle.iso_core.specs.Calls as calls
 use Rattle.iso_core.specs.Core.{StandsFor, disk_of}
 use Rattle.iso_core.specs.Ends.{commit_of}
-use Rattle.iso_core.specs.Standing.{Standing, up, down}
+use Rattle.iso_core.specs.Standing.{up, down}
 use Rattle.iso_disk.specs.Disk.{DiskState, StaysTold}
 use Rattle.iso_model.specs.declared.access.Access.{Access}
 use Rattle.iso_model.specs.declared.access.Clash.{Clash}
@@ -25,15 +25,15 @@ use Rattle.iso_model.specs.Conflict.{clash}
 use Rattle.iso_model.specs.Effect.{has_write}
 use Rattle.iso_model.specs.History.{last}
 use Rattle.iso_model.specs.Step.{after_commit, after_leaving, commit_step, end_step, need}
-use Rattle.iso_model.specs.World.{World, Live, used}
+use Rattle.iso_model.specs.World.{World, used}
 use Rattle.tx_table.specs.Work.{AreWithin, Doing}
 use Rattle.iso_shared.specs.declared.entry.Call.TheVariants as call
 use Rattle.iso_shared.specs.declared.entry.Entry.{Entry}
 use Rattle.iso_shared.specs.declared.entry.Entry.TheVariants as entry
-use Rattle.iso_shared.specs.Legal.{Answers, IsUp, MayHaveMade, end_answer, reply_of}
+use Rattle.iso_shared.specs.Legal.{MayHaveMade, end_answer, reply_of}
 use Rattle.iso_shared.specs.Ports.{IsAhead, IsOwn}
-use Rattle.iso_shared.specs.Standing.{Holds, IsOn, faults_of, standing_of}
-use Rattle.iso_shared.specs.States.{State, after, after_end, is_live, live_of, lost_commit, tx_of, with_world}
+use Rattle.iso_shared.specs.Standing.{Holds, IsOn, faults_of}
+use Rattle.iso_shared.specs.States.{State, after_end, is_live, live_of, tx_of}
 use Rattle.iso_shared.specs.Told.{end_entry}
 use Rattle.iso_shared.proofs.Cores.{Did, by_lost, holds_up, refused_down, refused_up}
 

@@ -1,23 +1,22 @@
 -- What stands under the lock after a call of the core that leaves the labels.
-use Rattle.std.proofs.Common.{◌≡◌, ◌≢◌, ℕ, ◌+◌, ◌<◌, ◌≤◌, Bool, true, false, List, [], ◌∷◌, ◌++◌, Option, Some, None, Result, Ok, Err, refl, sym, ap, ◌∙◌, subst, arith}
+use Rattle.std.proofs.Common.{◌≡◌, ℕ, List, [], ◌∷◌, ◌++◌, Result, Ok, Err, refl, sym, ap, ◌∙◌, subst}
 use Rattle.iso_core.specs.declared.answers.Recent.{Recent}
 use Rattle.iso_core.specs.declared.core_itself.Core.{Core}
 use Rattle.iso_disk.specs.Disk.{DiskState}
 use Rattle.iso_model.specs.declared.core_error.CoreError.{CoreError}
 use Rattle.iso_model.specs.declared.core_error.CoreError.TheVariants as error
-use Rattle.turn_lock.specs.Lists.{times}
 use Rattle.turn_lock.specs.Numbers.{AreHeld, held_after, without}
 use Rattle.iso_shared.specs.declared.entry.Call.{Call}
 use Rattle.iso_shared.specs.declared.entry.Call.TheVariants as call
 use Rattle.iso_shared.specs.declared.entry.Entry.{Entry}
 use Rattle.iso_shared.specs.declared.entry.Entry.TheVariants as entry
 use Rattle.iso_shared.specs.declared.guarded.Posted.{Posted}
-use Rattle.iso_shared.specs.Legal.{ended, ended_by, handed, needed, returned, tx_in}
-use Rattle.iso_shared.specs.Standing.{Holds, StandsAt, postings}
-use Rattle.iso_shared.specs.States.{Start, State, after, after_fault, is_live, state_at}
+use Rattle.iso_shared.specs.Legal.{ended, handed, returned, tx_in}
+use Rattle.iso_shared.specs.Standing.{Holds, StandsAt}
+use Rattle.iso_shared.specs.States.{Start, State, after, after_fault, state_at}
 use Rattle.iso_shared.specs.Told.{cause_of, entry_of, fetch_entry, recent_entry}
 use Rattle.iso_shared.proofs.Cores.{Did}
-use Rattle.iso_shared.proofs.Standings.{HoldsOut, MayLeave, held_live, stands_next}
+use Rattle.iso_shared.proofs.Standings.{HoldsOut, MayLeave, stands_next}
 
 -- the entry leaves the labels
 abbrev pub KeepsRack : Entry → Type 0

@@ -3,9 +3,9 @@ use Rattle.std.proofs.Common.{zero, suc, Bool, true, false, cond, nat_lt, length
 use mathlib.Core.List.{IsPrefix}
 use Rattle.conflict_rule.specs.declared.decision.Checked.{Checked}
 use Rattle.tx_table.specs.Work.{Doing}
-use Rattle.turn_lock.specs.Lists.{hit, times, longer, count_up, places}
+use Rattle.turn_lock.specs.Lists.{times, longer, count_up, places}
 use Rattle.turn_lock.specs.declared.view.View.{View}
-use Rattle.turn_lock.proofs.Prefixes.{longer_whole, prefix_more, prefix_self, prefix_trans, prefix_whole}
+use Rattle.turn_lock.proofs.Prefixes.{prefix_more, prefix_trans, prefix_whole}
 use Rattle.turn_lock.proofs.Rising.{times_append}
 use Rattle.std.proofs.lemmas.Bool.Decides.{nat_tests}
 use Rattle.iso_shared.specs.declared.entry.Entry.{Entry}

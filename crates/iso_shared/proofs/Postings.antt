@@ -1,36 +1,27 @@
 -- What stands under the lock after a call on labels.
-use Rattle.std.proofs.Common.{◌≡◌, ◌≢◌, ℕ, ◌+◌, ◌<◌, ◌≤◌, Bool, true, false, cond, List, [], ◌∷◌, ◌++◌, Option, Some, None, Result, Ok, Err, map, refl, sym, ap, ◌∙◌, subst, arith}
-use Rattle.std.specs.Prelude.{bytes_eq, drop, is_some, option_map, option_to_list, slice_get}
+use Rattle.std.proofs.Common.{◌≡◌, ℕ, ◌<◌, Bool, true, false, cond, List, [], ◌∷◌, ◌++◌, Option, Some, None, Ok, Err, refl, sym, ap, ◌∙◌, subst, arith}
+use Rattle.std.specs.Prelude.{bytes_eq, drop, is_some, option_map, slice_get}
 use Rattle.std.specs.Map.{lookup, remove_entry}
 use Rattle.std.specs.List.{AllByRecursion}
 use Rattle.std.proofs.lemmas.Map.Made.{lookup-map_values}
 use Rattle.std.proofs.lemmas.List.{map-append}
-use mathlib.Core.List.{IsPrefix}
 use Rattle.iso_core.specs.declared.core_itself.Core.{Core}
-use Rattle.iso_core.specs.Core.{StandsFor}
 use Rattle.iso_disk.specs.Disk.{DiskState}
-use Rattle.iso_model.specs.declared.access.Access.{Access}
-use Rattle.iso_model.specs.declared.access.Geometry.{Geometry}
-use Rattle.iso_model.specs.World.{World}
-use Rattle.turn_lock.specs.Lists.{hit, times}
-use Rattle.turn_lock.specs.Numbers.{AreHeld, held_after}
+use Rattle.turn_lock.specs.Lists.{times}
+use Rattle.turn_lock.specs.Numbers.{held_after}
 use Rattle.turn_lock.proofs.Totals.{hit_same}
 use Rattle.tx_table.specs.declared.rack.PostError.{PostError}
 use Rattle.tx_table.specs.declared.rack.PostError.TheVariants as post
-use Rattle.tx_table.specs.Work.{Doing}
-use Rattle.iso_shared.specs.declared.entry.Call.TheVariants as call
 use Rattle.iso_shared.specs.declared.entry.Entry.{Entry}
 use Rattle.iso_shared.specs.declared.entry.Entry.TheVariants as entry
-use Rattle.iso_shared.specs.declared.entry.Posting.{Posting}
 use Rattle.iso_shared.specs.declared.guarded.Posted.{Posted}
 use Rattle.iso_shared.specs.Legal.{Answers, handed, returned}
 use Rattle.iso_shared.specs.Ports.{IsOwn}
 use Rattle.iso_shared.specs.Standing.{Holds, IsOn, StandsAt, posting_in, postings}
-use Rattle.iso_shared.specs.States.{Start, State, after, is_live, live_of, opened, posting_of, racked, state_at}
+use Rattle.iso_shared.specs.States.{Start, State, after, is_live, opened, posting_of, racked, state_at}
 use Rattle.iso_shared.specs.Told.{post_entry}
 use Rattle.iso_shared.proofs.Cores.{Did}
 use Rattle.iso_shared.proofs.Follows.{follows_all}
-use Rattle.iso_shared.proofs.Lives.{first_parts, label_parts}
 use Rattle.iso_shared.proofs.Standings.{HoldsOut, MayLeave, held_live, sound_at, stands_next}
 
 removed_by : (test : List ℕ → Bool) (e : List ℕ × Posted) (items : List (List ℕ × Posted)) (b : Bool) → postings (remove_entry test items) ≡ remove_entry test (postings items)

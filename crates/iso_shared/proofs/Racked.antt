@@ -1,13 +1,12 @@
 -- What a transaction under a label has kept.
-use Rattle.std.proofs.Common.{◌≡◌, ℕ, ◌+◌, ◌<◌, ◌≤◌, ◌==◌, Bool, true, false, cond, List, [], ◌∷◌, ◌++◌, Option, Some, None, map, refl, sym, ap, ◌∙◌, subst, arith}
-use Rattle.std.specs.Prelude.{bytes_eq, drop, option_map, slice_get}
+use Rattle.std.proofs.Common.{◌≡◌, ℕ, ◌+◌, ◌<◌, ◌≤◌, ◌==◌, Bool, true, false, cond, List, [], ◌∷◌, ◌++◌, Option, Some, None, refl, sym, ap, ◌∙◌, subst, arith}
+use Rattle.std.specs.Prelude.{bytes_eq, drop, option_map}
 use Rattle.std.specs.Map.{lookup, remove_entry}
 use Rattle.std.specs.List.{AllByRecursion}
 use Rattle.std.proofs.lemmas.Map.Made.{lookup-map_values}
 use Rattle.iso_core.specs.declared.core_itself.Core.{Core}
 use Rattle.iso_disk.specs.Disk.{DiskState}
 use Rattle.iso_model.specs.declared.access.Geometry.{Geometry}
-use Rattle.iso_model.specs.declared.access.Mode.{Mode}
 use Rattle.iso_model.specs.History.{last}
 use Rattle.iso_model.specs.World.{World, Live}
 use Rattle.iso_model.specs.Worlds.{IsLive}
@@ -18,16 +17,14 @@ use Rattle.iso_shared.specs.declared.entry.Entry.TheVariants as entry
 use Rattle.iso_shared.specs.declared.entry.Posting.{Posting}
 use Rattle.iso_shared.specs.declared.guarded.Posted.{Posted}
 use Rattle.iso_shared.specs.declared.entry.Call.{Call}
-use Rattle.iso_shared.specs.declared.entry.Call.TheVariants as call
 use Rattle.iso_shared.specs.declared.entry.Cause.{Cause}
 use Rattle.iso_shared.specs.declared.entry.Cause.TheVariants as cause
 use Rattle.iso_shared.specs.Legal.{Fits, LegalFrom}
 use Rattle.iso_shared.specs.Ports.{IsOwn}
-use Rattle.iso_shared.specs.Standing.{IsOn, StandsAt, posting_in, postings}
-use Rattle.iso_shared.specs.States.{Start, State, after, after_all, after_fault, after_refusal, is_live, live_of, opened, posting_of, racked, state_at}
+use Rattle.iso_shared.specs.Standing.{IsOn, StandsAt, posting_in}
+use Rattle.iso_shared.specs.States.{Start, State, after, after_all, after_refusal, is_live, live_of, opened, posting_of, racked, state_at}
 use Rattle.iso_shared.proofs.Follows.{Follows, follows_all, follows_next}
 use Rattle.iso_shared.proofs.Giving.{fault_keeps}
-use Rattle.iso_shared.proofs.Lives.{label_parts}
 use Rattle.iso_shared.proofs.Standings.{sound_at}
 use Rattle.iso_shared.proofs.Trace.{IsSound, loose_is, opened_sound, sound_next}
 

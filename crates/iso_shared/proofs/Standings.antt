@@ -1,21 +1,16 @@
 -- What lies under the lock, with one entry more.
-use Rattle.std.proofs.Common.{◌≡◌, ℕ, ◌+◌, ◌<◌, ◌≤◌, Bool, true, false, List, [], ◌∷◌, ◌++◌, Option, Some, None, map, refl, sym, ap, ◌∙◌, subst, arith}
-use Rattle.std.specs.Prelude.{bytes_eq, drop, option_map, option_to_list, slice_get}
-use Rattle.std.specs.Map.{lookup, remove_entry}
+use Rattle.std.proofs.Common.{◌≡◌, ℕ, ◌<◌, true, List, [], ◌∷◌, ◌++◌, Option, Some, None, refl, sym, ap, ◌∙◌, subst}
+use Rattle.std.specs.Prelude.{option_to_list}
 use Rattle.std.specs.List.{AllByRecursion}
 use Rattle.iso_core.specs.declared.core_itself.Core.{Core}
-use Rattle.iso_core.specs.Core.{StandsFor}
-use Rattle.iso_core.specs.Standing.{Standing}
 use Rattle.iso_disk.specs.Disk.{DiskState}
-use Rattle.iso_model.specs.World.{World}
 use Rattle.turn_lock.specs.Lists.{times}
-use Rattle.turn_lock.specs.Numbers.{AreFree, AreHeld, AreOut, IsOut}
+use Rattle.turn_lock.specs.Numbers.{AreFree, AreHeld, IsOut}
 use Rattle.iso_shared.specs.declared.entry.Entry.{Entry}
-use Rattle.iso_shared.specs.declared.entry.Posting.{Posting}
 use Rattle.iso_shared.specs.declared.guarded.Posted.{Posted}
-use Rattle.iso_shared.specs.Legal.{AreLoose, Answers, Fits, IsLegal, LegalFrom, handed, needed, returned}
-use Rattle.iso_shared.specs.Standing.{Holds, IsOn, StandsAt, posting_in, postings, standing_of}
-use Rattle.iso_shared.specs.States.{Start, State, after, is_live, opened, state_at}
+use Rattle.iso_shared.specs.Legal.{AreLoose, Answers, IsLegal, handed, needed, returned}
+use Rattle.iso_shared.specs.Standing.{Holds, IsOn, StandsAt, postings}
+use Rattle.iso_shared.specs.States.{Start, after, is_live, opened, state_at}
 use Rattle.iso_shared.proofs.Trace.{NotLoose, after_snoc, legal_last, legal_snoc, loose_is, not_loose, opened_sound, out_is, sound_all, IsSound}
 
 -- each number that a pass holds is out

@@ -2,12 +2,11 @@
 use Rattle.std.proofs.Common.{◌≡◌, ℕ, zero, suc, ◌+◌, ◌<◌, ◌≤◌, ◌==◌, Bool, true, false, ◌&&◌, ◌||◌, cond, List, [], ◌∷◌, ◌++◌, Option, Some, None, refl, sym, ap, ◌∙◌, subst, arith}
 use Rattle.std.specs.Prelude.{bytes_eq, drop, option_map, option_to_list, slice_get}
 use Rattle.std.specs.Map.{lookup, remove_entry}
-use Rattle.std.specs.List.{AllByRecursion}
 use Rattle.std.proofs.lemmas.Bool.Decides.{nat_tests}
 use Rattle.turn_lock.specs.Lists.{hit, times}
-use Rattle.turn_lock.specs.Numbers.{is_among, out_next, out_from, is_out, AreFree}
+use Rattle.turn_lock.specs.Numbers.{is_among, out_next, out_from, is_out}
 use Rattle.turn_lock.proofs.Totals.{hit_same}
-use Rattle.iso_model.specs.World.{World, Live, without}
+use Rattle.iso_model.specs.World.{Live, without}
 use Rattle.iso_model.specs.declared.access.Access.{Access}
 use Rattle.iso_model.specs.declared.access.EndReply.{EndReply}
 use Rattle.iso_model.specs.declared.access.EndReply.TheVariants.{Committed, ReadOnly, Conflict}
@@ -18,7 +17,7 @@ use Rattle.iso_shared.specs.declared.entry.Cause.TheVariants as cause
 use Rattle.iso_shared.specs.declared.entry.Entry.{Entry}
 use Rattle.iso_shared.specs.declared.entry.Entry.TheVariants as entry
 use Rattle.iso_shared.specs.declared.entry.Posting.{Posting}
-use Rattle.iso_shared.specs.States.{Start, State, opened, is_live, is_loose, racked, after, after_all, after_end, after_fault, after_refusal, after_sweep, state_at, tx_of}
+use Rattle.iso_shared.specs.States.{Start, State, opened, is_live, is_loose, racked, after, after_all, after_fault, after_refusal, after_sweep, state_at}
 use Rattle.iso_shared.specs.Legal.{AreLoose, Answers, Fits, LegalFrom, IsLegal, handed, returned, ended_by}
 use Rattle.iso_shared.proofs.Lives.{live_snoc, live_without, racked_snoc, label_parts, first_parts, hits}
 

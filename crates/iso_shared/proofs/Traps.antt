@@ -1,7 +1,7 @@
 -- What no legal list holds that a looser word would let in, and what the rows of the other file leave.
-use Rattle.std.proofs.Common.{◌≡◌, ℕ, ◌+◌, ◌-◌, zero, suc, Bool, true, false, List, [], ◌∷◌, ◌++◌, Option, Some, None, ap, length, replicate, refl, sym, ◌∙◌, arith}
+use Rattle.std.proofs.Common.{◌≡◌, ℕ, ◌+◌, ◌-◌, zero, suc, true, false, List, [], ◌∷◌, ◌++◌, Some, None, ap, length, replicate, refl, sym, ◌∙◌, arith}
 use Rattle.iso_model.specs.declared.access.Access.{Access}
-use Rattle.iso_model.specs.declared.access.EndReply.TheVariants.{Committed, ReadOnly, Conflict}
+use Rattle.iso_model.specs.declared.access.EndReply.TheVariants.{Committed, ReadOnly}
 use Rattle.iso_model.specs.declared.access.Mode.TheVariants.{Serial, Snapshot}
 use Rattle.iso_model.specs.declared.limits.TheConstants.{LAST}
 use Rattle.iso_model.specs.declared.script.Reply.{Reply}
@@ -9,18 +9,17 @@ use Rattle.iso_model.specs.declared.script.Reply.TheVariants as reply
 use Rattle.iso_model.specs.Array.{put}
 use Rattle.iso_model.specs.Conflict.{clash}
 use Rattle.iso_model.specs.Effect.{runs}
-use Rattle.iso_model.specs.History.{last}
-use Rattle.iso_model.specs.Step.{begin_step, commit_step, end_step, put_access, read_access, switch_step, write_access}
+use Rattle.iso_model.specs.Step.{begin_step, commit_step, end_step, read_access, switch_step, write_access}
 use Rattle.iso_model.specs.Versions.{versions}
-use Rattle.iso_model.specs.World.{World, Live, empty_history, floor, fresh, unattached, used}
+use Rattle.iso_model.specs.World.{empty_history, fresh}
 use Rattle.iso_shared.specs.declared.entry.Call.TheVariants as call
 use Rattle.iso_shared.specs.declared.entry.Cause.TheVariants as cause
 use Rattle.iso_shared.specs.declared.entry.Entry.{Entry}
 use Rattle.iso_shared.specs.declared.entry.Entry.TheVariants as entry
 use Rattle.iso_shared.specs.declared.entry.Numbers.{Numbers}
-use Rattle.iso_shared.specs.Legal.{Answers, Fits, MayHaveMade, MayRefuse, answer_to, end_answer, numbers_at, switch_answer}
+use Rattle.iso_shared.specs.Legal.{Fits, MayRefuse, numbers_at}
 use Rattle.iso_shared.specs.Ports.{most_steps}
-use Rattle.iso_shared.specs.States.{Start, State, after, is_loose, opened, state_at}
+use Rattle.iso_shared.specs.States.{Start, opened, state_at}
 use Rattle.iso_shared.proofs.Rows.{fallen, one_ended, one_put, posted, small, start, two_begun}
 
 -- where the disk tells nothing, a fetch may have any bytes

@@ -1,5 +1,5 @@
 -- Which lists of entries a shared device may stand for: each entry is the answer that the rules of one thread give at its place.
-use Rattle.std.specs.Prelude.{◌≡◌, ◌≢◌, ℕ, ◌+◌, ◌<◌, ◌≤◌, Bool, true, false, List, [], ◌∷◌, Option, Some, None, IsSome, bytes_eq, length, is_some, option_map, slice_get}
+use Rattle.std.specs.Prelude.{◌≡◌, ℕ, ◌+◌, ◌<◌, ◌≤◌, true, List, [], ◌∷◌, Option, Some, None, IsSome, bytes_eq, length, is_some, option_map, slice_get}
 use Rattle.std.specs.Map.{lookup}
 use Rattle.std.specs.List.{AllByRecursion}
 use Rattle.fault_count.specs.Count.{Rose}
@@ -22,8 +22,7 @@ use Rattle.iso_shared.specs.declared.entry.Cause.TheVariants as cause
 use Rattle.iso_shared.specs.declared.entry.Entry.{Entry}
 use Rattle.iso_shared.specs.declared.entry.Entry.TheVariants as entry
 use Rattle.iso_shared.specs.declared.entry.Numbers.{Numbers}
-use Rattle.iso_shared.specs.declared.entry.Posting.{Posting}
-use Rattle.iso_shared.specs.States.{Start, State, opened, after, is_loose, live_of, tx_of, posting_of}
+use Rattle.iso_shared.specs.States.{Start, State, opened, after, is_loose, live_of, tx_of}
 
 abbrev pub reply_of : EndReply → Reply
 reply_of (Committed n) = reply.Committed n

@@ -1,5 +1,5 @@
 -- The image of the tests.
-use Rattle.std.specs.Prelude.{◌≡◌, ℕ, List, []}
+use Rattle.std.specs.Prelude.{◌≡◌, []}
 use Rattle.iso_core.specs.declared.core_itself.Core.{Core}
 use Rattle.iso_disk.specs.Disk.{DiskState}
 use Rattle.iso_model.specs.declared.access.Geometry.{Geometry}

@@ -1,6 +1,5 @@
 -- Which entry a call leaves.
 use Rattle.std.specs.Prelude.{ℕ, List, Result, Ok, Err, Option, option_map}
-use Rattle.conflict_rule.specs.declared.notes.Notes.{Notes}
 use Rattle.iso_core.specs.declared.answers.Begun.{Begun}
 use Rattle.iso_core.specs.declared.answers.Recent.{Recent}
 use Rattle.iso_core.specs.declared.answers.Stat.{Stat}

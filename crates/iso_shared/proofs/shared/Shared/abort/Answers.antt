@@ -1,11 +1,11 @@
-use Rattle.std.proofs.Common.{[], ap, refl, arith, ◌∙◌, rules}
+use Rattle.std.proofs.Common.{[], ap, refl, ◌∙◌}
 use Rattle.turn_lock.proofs.Prefixes.{prefix_trans}
 use Rattle.iso_shared.specs.declared.entry.Entry.TheVariants.{Abort}
 use Rattle.iso_shared.specs.Standing.{standing_of}
 use Rattle.iso_shared.specs.States.{state_at, tx_of}
 use Rattle.iso_shared.proofs.Cores.{did_abort, is_tx}
 use Rattle.iso_shared.proofs.Giving.{core_at, stands_call}
-use Rattle.iso_shared.proofs.Mades.{both_by, held_same, units_by}
+use Rattle.iso_shared.proofs.Mades.{both_by, held_same}
 use Rattle.iso_shared.proofs.Standings.{held_live}
 use Rattle.iso_shared.proofs.shared.Shared.abort.Goals as goal
 

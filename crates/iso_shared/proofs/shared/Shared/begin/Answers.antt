@@ -1,9 +1,8 @@
-use Rattle.std.proofs.Common.{◌≡◌, List, [], ◌∷◌, ◌++◌, ap, refl, sym, subst, arith, ◌∙◌, rules, Option, Some, None, ◌<◌, ℕ, IsTrue}
+use Rattle.std.proofs.Common.{◌≡◌, [], ◌∷◌, ◌++◌, ap, refl, sym, subst, arith, ◌∙◌, rules, None, ℕ, IsTrue}
 use Rattle.std.specs.Prelude.{unwrap_or}
 use Rattle.iso_model.specs.declared.access.Mode.{Mode}
 use Rattle.iso_model.specs.Geometry.{is_block_size}
 use Rattle.turn_lock.proofs.Outs.{held_first}
-use Rattle.turn_lock.specs.Lists.{times}
 use Rattle.turn_lock.specs.Numbers.{held_after}
 use Rattle.turn_lock.specs.declared.view.View.{View}
 use Rattle.tx_table.specs.Work.{Doing}
@@ -19,7 +18,7 @@ use Rattle.iso_shared.proofs.Begins.{began_ahead, began_own, begun_mode, block_s
 use Rattle.iso_shared.proofs.Cores.{did_begin}
 use Rattle.iso_shared.proofs.Follows.{follows_all}
 use Rattle.iso_shared.proofs.Giving.{core_at, entry_keeps, entry_may, stands_call}
-use Rattle.iso_shared.proofs.Mades.{held_same, made_by}
+use Rattle.iso_shared.proofs.Mades.{held_same}
 use Rattle.iso_shared.proofs.shared.Shared.begin.Goals as goal
 
 pub give-requires-clause-value : goal.give-requires-clause-value

@@ -1,4 +1,4 @@
-use Rattle.std.proofs.Common.{[], ◌∷◌, Err, IfErr, ap, refl, sym, arith, ◌≡◌, ◌≢◌, ◌∙◌, rules, subst}
+use Rattle.std.proofs.Common.{Err, IfErr, ap, refl, sym, ◌≢◌, ◌∙◌, rules, subst}
 use Rattle.iso_model.specs.declared.core_error.CoreError.TheVariants.{Disk as OfDisk}
 use Rattle.tx_table.specs.Work.{Doing}
 use Rattle.iso_shared.specs.declared.entry.Entry.{Entry}

@@ -1,12 +1,7 @@
-use Rattle.std.proofs.Common.{[], ◌∷◌, ◌++◌, Err, ap, refl, sym, arith, ◌∙◌, rules, ◌<◌, ◌≤◌, ◌+◌, ◌-◌, subst, length, ◌≡◌, ℕ, List, true}
-use Rattle.iso_core.specs.declared.core_itself.Core.{Core}
-use Rattle.iso_core.specs.Core.{StandsFor}
-use Rattle.iso_core.specs.Standing.{up}
-use Rattle.iso_model.specs.History.{last}
+use Rattle.std.proofs.Common.{[], ◌∷◌, ◌++◌, ap, refl, sym, arith, ◌∙◌, rules, ◌≤◌, ◌+◌, subst, ◌≡◌}
 use Rattle.tx_table.specs.Work.{Doing}
 use Rattle.turn_lock.specs.Numbers.{held_after}
 use Rattle.iso_shared.specs.declared.entry.Call.TheVariants as call
-use Rattle.iso_shared.specs.declared.entry.Entry.{Entry}
 use Rattle.iso_shared.specs.declared.entry.Entry.TheVariants as entry
 use Rattle.iso_shared.specs.Legal.{handed, returned}
 use Rattle.iso_shared.specs.Ports.{most_steps}

@@ -1,4 +1,4 @@
-use Rattle.std.proofs.Common.{[], ◌∷◌, ap, refl, sym, arith, ◌∙◌, rules, ◌<◌, subst, length, ◌≡◌, ℕ}
+use Rattle.std.proofs.Common.{[], ap, refl, sym, ◌∙◌, rules, ◌<◌, subst, ℕ}
 use Rattle.iso_shared.specs.declared.entry.Call.TheVariants as call
 use Rattle.iso_shared.specs.declared.entry.Entry.TheVariants as entry
 use Rattle.iso_shared.specs.Standing.{faults_of, standing_of}

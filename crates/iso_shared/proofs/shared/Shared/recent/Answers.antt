@@ -1,12 +1,9 @@
-use Rattle.std.proofs.Common.{[], ◌∷◌, ◌++◌, Ok, ◌≡◌, ◌+◌, ◌<◌, ◌≤◌, ℕ, ap, arith, length, refl, rules, subst, sym, ◌∙◌}
-use Rattle.turn_lock.specs.Numbers.{held_after}
-use Rattle.iso_model.specs.History.{last}
+use Rattle.std.proofs.Common.{[], ◌∷◌, ◌++◌, ◌≡◌, ◌≤◌, ℕ, ap, refl, rules, subst, sym, ◌∙◌}
 use Rattle.iso_shared.specs.declared.entry.Call.TheVariants as call
-use Rattle.iso_shared.specs.declared.entry.Entry.{Entry}
 use Rattle.iso_shared.specs.declared.entry.Entry.TheVariants as entry
 use Rattle.iso_shared.specs.Ports.{IsRecent}
 use Rattle.iso_shared.specs.Standing.{faults_of, standing_of}
-use Rattle.iso_shared.specs.States.{live_of, state_at, tx_of}
+use Rattle.iso_shared.specs.States.{state_at, tx_of}
 use Rattle.iso_shared.specs.Told.{recent_entry}
 use Rattle.iso_shared.proofs.Checks.{did_recent, if_ok_by, is_recent, recent_state}
 use Rattle.iso_shared.proofs.Cores.{is_tx}

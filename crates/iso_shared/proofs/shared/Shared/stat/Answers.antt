@@ -1,4 +1,4 @@
-use Rattle.std.proofs.Common.{[], ap, refl, ◌∙◌}
+use Rattle.std.proofs.Common.{ap, refl}
 use Rattle.iso_shared.specs.declared.entry.Entry.TheVariants as entry
 use Rattle.iso_shared.specs.States.{state_at}
 use Rattle.iso_shared.specs.Told.{numbers_of}

@@ -1,4 +1,4 @@
-use Rattle.std.proofs.Common.{[], ap, refl, sym, ◌∙◌}
+use Rattle.std.proofs.Common.{[], ap, sym, ◌∙◌}
 use Rattle.iso_shared.specs.Standing.{standing_of}
 use Rattle.iso_shared.specs.States.{state_at, tx_of}
 use Rattle.iso_shared.proofs.Cores.{did_abort, is_tx}

@@ -1,8 +1,7 @@
-use Rattle.std.proofs.Common.{[], ap, refl, ◌∙◌}
-use Rattle.iso_model.specs.declared.script.Reply.TheVariants.{Done}
+use Rattle.std.proofs.Common.{ap, refl}
 use Rattle.iso_shared.specs.declared.entry.Call.TheVariants as call
 use Rattle.iso_shared.specs.declared.entry.Entry.TheVariants as entry
-use Rattle.iso_shared.specs.Standing.{faults_of, standing_of}
+use Rattle.iso_shared.specs.Standing.{faults_of}
 use Rattle.iso_shared.specs.States.{state_at}
 use Rattle.iso_shared.specs.Told.{trim_entry}
 use Rattle.iso_shared.proofs.Cores.{did_trim}

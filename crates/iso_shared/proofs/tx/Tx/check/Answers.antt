@@ -1,4 +1,4 @@
-use Rattle.std.proofs.Common.{◌≡◌, ◌+◌, ◌<◌, ◌≤◌, ℕ, List, true, ap, arith, refl, subst, sym, ◌∙◌}
+use Rattle.std.proofs.Common.{◌≡◌, ◌<◌, ◌≤◌, ℕ, true, ap, arith, refl, subst, sym, ◌∙◌}
 use Rattle.conflict_rule.specs.Decision.{up_to}
 use Rattle.conflict_rule.proofs.Following.{dropped_after}
 use Rattle.byte_marks.specs.Touched.{AreTouched}
