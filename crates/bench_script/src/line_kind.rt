@@ -4,7 +4,7 @@ ghost use Rattle.iso_model.specs.declared.script.Reply.{Reply};
 ghost use Rattle.iso_model.specs.Text.{reply_text};
 ghost use Rattle.bench_script.specs.Kinds.{kind_of};
 
-use crate::split::split_at_byte;
+use crate::split::split_near;
 
 /// What a tally counts of a reply.
 #[derive(Clone, Copy, Debug, PartialEq, Eq)]
@@ -18,7 +18,7 @@ pub(crate) enum LineKind {
 pub(crate) fn kind_of_line(line: &[u8]) -> LineKind
     ensures { (client : ℕ) (reply : Reply) → line.now ≡ decimal client ++ 32 ∷ reply_text reply → result ≡ kind_of reply }
 {
-    match split_at_byte(b' ', line) {
+    match split_near(b' ', line) {
         Some((_client, text)) => kind_of_text(text),
         None => LineKind::Other,
     }
