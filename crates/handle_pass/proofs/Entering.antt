@@ -1,6 +1,6 @@
 -- What an entry of a session changes, by how port and transaction stand before and after it.
 use Rattle.std.proofs.Common.{◌≡◌, ℕ, ◌+◌, ◌<◌, ◌≤◌, Bool, true, false, nat_lt, List, [], ◌∷◌, ◌++◌, Option, Some, None, IfSome, length, refl, sym, ap, ◌∙◌, subst, arith}
-use Rattle.std.specs.Prelude.{IsSome, is_some}
+use Rattle.std.specs.Prelude.{is_some}
 use Rattle.std.proofs.lemmas.Bool.Decides.{nat_tests}
 use mathlib.Core.List.{IsPrefix}
 use Rattle.tx_table.specs.Work.{Doing}
@@ -27,7 +27,7 @@ use Rattle.iso_shared.specs.Told.{cause_of, posting_of_tx}
 use Rattle.iso_shared.proofs.Mades.{own_on}
 use Rattle.iso_shared.proofs.Trace.{legal_last, loose_is}
 use Rattle.handle_pass.specs.declared.session.Session.{Session}
-use Rattle.handle_pass.specs.Sessions.{Own, checked_of, count, count_of, own_in, own_of, seen, units, units_of, Entered, IsSession, Made, Rested}
+use Rattle.handle_pass.specs.Sessions.{Own, count, count_of, own_in, own_of, seen, units, units_of, IsSession, Made, Rested}
 use Rattle.handle_pass.specs.Calls.{left_by}
 
 -- a number that stands in a list of such is below the bound

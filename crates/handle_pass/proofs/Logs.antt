@@ -1,10 +1,10 @@
 -- The entries of a session, as it makes more.
-use Rattle.std.proofs.Common.{◌≡◌, ℕ, ◌+◌, ◌<◌, ◌≤◌, List, [], ◌∷◌, ◌++◌, get_or, length, refl, sym, ap, ◌∙◌, subst, append_assoc, arith, length-append}
+use Rattle.std.proofs.Common.{◌≡◌, ℕ, ◌+◌, List, [], ◌∷◌, ◌++◌, get_or, length, refl, sym, ap, ◌∙◌, subst, append_assoc, arith, length-append}
 use Rattle.std.proofs.lemmas.List.{map-append, append-nil}
 use Rattle.std.proofs.Math.ListN.{get_or-append}
 use Rattle.std.proofs.Math.Seq.{get_or-append_seam}
 use mathlib.Core.List.{IsPrefix}
-use Rattle.turn_lock.specs.Lists.{hit, times, AllBelow, RisesFrom}
+use Rattle.turn_lock.specs.Lists.{hit, AllBelow}
 use Rattle.turn_lock.proofs.Prefixes.{prefix_length, prefix_self, prefix_trans}
 use Rattle.turn_lock.proofs.Rising.{below_more, below_snoc, rises_snoc, times_append}
 use Rattle.iso_shared.specs.declared.entry.Entry.{Entry}

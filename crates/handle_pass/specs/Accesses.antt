@@ -1,6 +1,5 @@
 -- How the reads, writes and marks of a session end.
 use Rattle.std.specs.Prelude.{◌≡◌, ℕ, ◌⊎◌, true, List, [], ◌∷◌, ◌++◌, Option, Some, None, Result, Ok, Err, is_some}
-use mathlib.Core.List.{IsPrefix}
 use Rattle.iso_model.specs.declared.access.Access.{Access}
 use Rattle.iso_model.specs.declared.stores.TxError.{TxError}
 use Rattle.iso_model.specs.declared.stores.TxError.TheVariants as error
@@ -17,7 +16,7 @@ use Rattle.iso_shared.specs.States.{Start, state_at}
 use Rattle.tx_blocks.specs.Tx.{Tx, access_refusal, mark_refusal}
 use Rattle.tx_table.specs.Work.{span_at}
 use Rattle.handle_pass.specs.declared.session.Session.{Session}
-use Rattle.handle_pass.specs.Sessions.{Own, own, seen, Made, Rested}
+use Rattle.handle_pass.specs.Sessions.{Own, own, Made, Rested}
 
 abbrev pub accesses_of : Option Own → List Access
 accesses_of None = []

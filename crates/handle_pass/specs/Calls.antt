@@ -1,5 +1,5 @@
 -- How the calls of a session end that begin, check, end and abort its transaction.
-use Rattle.std.specs.Prelude.{◌≡◌, ℕ, ◌+◌, ◌≤◌, ◌⊎◌, true, List, [], ◌∷◌, Option, Some, None, IsSome, Result, Ok, Err}
+use Rattle.std.specs.Prelude.{◌≡◌, ℕ, ◌+◌, ◌≤◌, ◌⊎◌, [], Option, Some, None, IsSome, Result, Ok, Err}
 use Rattle.iso_model.specs.declared.access.EndReply.{EndReply}
 use Rattle.iso_model.specs.declared.access.Mode.{Mode}
 use Rattle.iso_model.specs.declared.core_error.CoreError.{CoreError}

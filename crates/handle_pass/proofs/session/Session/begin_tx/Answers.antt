@@ -1,4 +1,4 @@
-use Rattle.std.proofs.Common.{ap, subst, sym, ◌∙◌, ◌≡◌, ℕ, Some}
+use Rattle.std.proofs.Common.{ap, subst, sym, ◌∙◌, ℕ, Some}
 use Rattle.iso_shared.specs.declared.entry.Entry.TheVariants.{Begin}
 use Rattle.handle_pass.specs.Sessions.{own_of, Made}
 use Rattle.handle_pass.proofs.Entering.{is_none, made_new, made_port, new_own}

@@ -1,4 +1,4 @@
-use Rattle.std.proofs.Common.{[], ap, inl, inr, refl, subst, sym, ◌∙◌, ◌≡◌, ℕ, Some, Ok}
+use Rattle.std.proofs.Common.{ap, inl, inr, refl, subst, sym, ◌∙◌, ◌≡◌, Some}
 use Rattle.conflict_rule.specs.declared.decision.Checked.{Checked}
 use Rattle.turn_lock.specs.Pass.{view}
 use Rattle.iso_shared.specs.declared.entry.Call.TheVariants.{Recent as OfRecent}

@@ -1,4 +1,4 @@
-use Rattle.std.proofs.Common.{ap, refl, subst, sym, ◌∙◌, ◌≡◌, ◌+◌, ◌≤◌, ℕ, Some}
+use Rattle.std.proofs.Common.{ap, refl, subst, sym, ◌∙◌, ◌+◌, ◌≤◌, ℕ, Some}
 use Rattle.iso_model.specs.declared.core_error.CoreError.{CoreError}
 use Rattle.turn_lock.specs.Pass.{view}
 use Rattle.turn_lock.proofs.Prefixes.{prefix_self}

@@ -1,4 +1,4 @@
-use Rattle.std.proofs.Common.{ap, refl, subst, sym, ◌∙◌, ◌≡◌, ℕ, Some}
+use Rattle.std.proofs.Common.{ap, refl, subst, sym, ◌∙◌, Some}
 use Rattle.conflict_rule.specs.declared.decision.Checked.{Checked}
 use Rattle.turn_lock.specs.Pass.{view}
 use Rattle.turn_lock.proofs.Prefixes.{prefix_self}

@@ -1,4 +1,4 @@
-use Rattle.std.proofs.Common.{[], ap, refl, rules, subst, sym, ◌∷◌, ◌∙◌, ◌≡◌, ℕ, List, Some}
+use Rattle.std.proofs.Common.{ap, refl, rules, subst, ◌∙◌, ◌≡◌, List, Some}
 use Rattle.iso_model.specs.Effect as effect
 use Rattle.iso_model.specs.Premises.{block_at}
 use Rattle.iso_model.specs.Step.{read_access}
@@ -8,7 +8,7 @@ use Rattle.iso_shared.specs.declared.entry.Entry.{Entry}
 use Rattle.iso_shared.specs.declared.entry.Entry.TheVariants.{Fetch, Refused}
 use Rattle.iso_shared.specs.Legal.{IsLegal}
 use Rattle.iso_shared.specs.Ports.{Made}
-use Rattle.iso_shared.specs.Told.{cause_of, fetch_entry}
+use Rattle.iso_shared.specs.Told.{cause_of}
 use Rattle.turn_lock.specs.Pass.{view}
 use Rattle.turn_lock.proofs.Prefixes.{prefix_trans}
 use Rattle.handle_pass.specs.Accesses.{with_access}

@@ -1,4 +1,4 @@
-use Rattle.std.proofs.Common.{[], ap, ◌∷◌, ◌∙◌, ◌≡◌, Some}
+use Rattle.std.proofs.Common.{ap, ◌∙◌, ◌≡◌, Some}
 use Rattle.iso_model.specs.Step.{write_access}
 use Rattle.handle_pass.specs.Accesses.{with_access}
 use Rattle.handle_pass.specs.Sessions.{own_in, own_of}
