@@ -1,0 +1,10 @@
+use Rattle.std.proofs.Common.{◌≡◌, take}
+use Rattle.par_runner.specs.Runs.{Went}
+use Rattle.par_runner.proofs.run.run_lines.Given as goal
+
+abbrev pub invariant-loop-number : goal.invariant-loop-number
+invariant-loop-number g l = record {
+  done : l.done ≡ l.number-index;
+  fit : g.C.Client.fits l.client;
+  went : Went g.C.Client.steps l.initial.client (take l.number-index l.lines) l.client;
+}

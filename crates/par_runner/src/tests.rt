@@ -1,0 +1,8 @@
+//! Small runs.
+
+use std::test::Fail;
+
+#[test]
+fn nothing(_rt: HostRuntime) -> Result<(), Fail> {
+    Ok(())
+}
