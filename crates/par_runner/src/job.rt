@@ -35,6 +35,7 @@ pub trait Gate: Sync {
 }
 
 /// A client with its numbered lines, and how many steps it made.
+#[derive(Drop)]
 pub struct Job<C> {
     pub client: C,
     pub id: u8,

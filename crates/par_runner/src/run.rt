@@ -44,11 +44,7 @@ fn run_job<C: Client, G: Gate, R: Wait>(rt: &R, job: &mut Job<C>, gate: &G)
 
 /// Runs the lines of each job in order until a step halts, in as many threads as there are jobs, or one job after another
 /// where no thread can be made. The gate is called before each step. It takes no memory.
-pub fn run_all<C: Client, G: Gate, R: Threads + Wait + Sync>(
-    rt: &R,
-    jobs: &mut [Job<C>],
-    gate: &G,
-)
+pub fn run_all<C: Client, G: Gate, R: Threads + Wait + Sync>(rt: &R, jobs: &mut [Job<C>], gate: &G)
     requires { All (λ j. C.fits j.client) jobs.old }
     ensures fits { All (λ j. C.fits j.client) jobs.new }
     ensures ran { (i : ℕ) (d : Job C) → i < length jobs.old → JobRan C.steps (slice_index_or jobs.old i d) (slice_index_or jobs.new i d) }

@@ -1,8 +1,127 @@
-//! Small runs.
+//! Runs of small clients: what no clause says.
+ghost use Rattle.std.specs.Prelude.{ℕ};
 
+use crate::{Client, Flow, Gate, Job, run_all};
+use iso_model::{Line, Op};
+use std::alloc::Global;
+use std::process::Abort;
+use std::sync::Wait;
+use std::sync::atomic::{AtomicBool, AtomicU64, Ordering};
 use std::test::Fail;
 
+// It keeps the digits of the lines that it was given, and halts at an `abort`.
+#[derive(Drop)]
+struct Digits {
+    digits: u64,
+}
+
+impl Client for Digits {
+    ghost fits = { λ _. Unit {0} };
+
+    ghost steps = { λ _ _ _ _ _. Unit {0} };
+
+    fn step<R: Wait>(&mut self, _rt: &R, number: u64, line: &Line) -> Flow {
+        self.digits = self.digits.wrapping_mul(10).wrapping_add(number);
+        match line.op {
+            Op::Abort => Flow::Halt,
+            _ => Flow::Go,
+        }
+    }
+}
+
+// Before its first line each of two clients sets its flag, and looks for the other's.
+#[derive(Drop)]
+struct Meeting {
+    first: AtomicBool,
+    second: AtomicBool,
+    met: AtomicU64,
+}
+
+impl Gate for Meeting {
+    fn before(&self, client: u8, number: u64) {
+        if number != 1 {
+            return;
+        }
+        let (own, other) = if client == 1 {
+            (&self.first, &self.second)
+        } else {
+            (&self.second, &self.first)
+        };
+        own.store(true, Ordering::SeqCst);
+        for _ in 0..1_000_000_000 {
+            if other.load(Ordering::SeqCst) {
+                let _ = self.met.fetch_add(1, Ordering::SeqCst);
+                return;
+            }
+        }
+    }
+}
+
+// It counts its calls.
+#[derive(Drop)]
+struct Calls {
+    calls: AtomicU64,
+}
+
+impl Gate for Calls {
+    fn before(&self, _client: u8, _number: u64) {
+        let _ = self.calls.fetch_add(1, Ordering::SeqCst);
+    }
+}
+
+// A job of lines 1, 2, 3, of which this one is an `abort`.
+fn job<R: Abort>(rt: &R, alloc: Global, id: u8, halts_at: u64) -> Job<Digits> {
+    let mut lines = Vec::new(alloc);
+    for number in 1..4 {
+        let op = if number == halts_at {
+            Op::Abort
+        } else {
+            Op::Stat
+        };
+        lines
+            .push((number, Line { client: id, op }))
+            .expect(rt, "memory");
+    }
+    Job {
+        client: Digits { digits: 0 },
+        id,
+        lines,
+        done: 0,
+    }
+}
+
+fn two_jobs<R: Abort>(rt: &R, alloc: Global, halts_at: u64) -> Vec<Job<Digits>> {
+    let mut jobs = Vec::new(alloc);
+    jobs.push(job(rt, alloc, 1, 0)).expect(rt, "memory");
+    jobs.push(job(rt, alloc, 2, halts_at)).expect(rt, "memory");
+    jobs
+}
+
 #[test]
-fn nothing(_rt: HostRuntime) -> Result<(), Fail> {
+fn held_until_second(rt: HostRuntime) -> Result<(), Fail> {
+    let gate = Meeting {
+        first: AtomicBool::new(false),
+        second: AtomicBool::new(false),
+        met: AtomicU64::new(0),
+    };
+    let mut jobs = two_jobs(&rt, rt.alloc(), 0);
+    run_all(&rt, jobs.as_mut_slice(), &gate);
+    assert_eq!(rt; gate.met.load(Ordering::SeqCst), 2);
+    Ok(())
+}
+
+#[test]
+fn a_halt_ends_its_job_alone(rt: HostRuntime) -> Result<(), Fail> {
+    let gate = Calls {
+        calls: AtomicU64::new(0),
+    };
+    let mut jobs = two_jobs(&rt, rt.alloc(), 2);
+    run_all(&rt, jobs.as_mut_slice(), &gate);
+    let [first, second] = jobs.as_slice() else {
+        panic!(rt; "two jobs")
+    };
+    assert_eq!(rt; (first.id, first.done, first.client.digits), (1, 3, 123));
+    assert_eq!(rt; (second.id, second.done, second.client.digits), (2, 2, 12));
+    assert_eq!(rt; gate.calls.load(Ordering::SeqCst), 5);
     Ok(())
 }

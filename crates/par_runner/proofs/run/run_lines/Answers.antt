@@ -6,7 +6,7 @@ use Rattle.par_runner.proofs.run.run_lines.Goals as goal
 pub loop-number-preserved : goal.loop-number-preserved
 loop-number-preserved g c =
     let more : take (c.loop-number.number-index + 1) c.args.lines.now ≡ take c.loop-number.number-index c.args.lines.now ++ c.loop-number-item.result ∷ []
-          = take_more c.args.lines.now c.loop-number.number-index c.loop-number-item.result c.loop-number-test.true ∙ ap (λ v. take c.loop-number.number-index c.args.lines.now ++ v ∷ []) (sym c.loop-number-item.is)
+    = take_more c.args.lines.now c.loop-number.number-index c.loop-number-item.result c.loop-number-test.true ∙ ap (λ v. take c.loop-number.number-index c.args.lines.now ++ v ∷ []) (sym c.loop-number-item.is)
     in record {
       done = omega arith;
       fit = c.step-flow.ensures.fits;
