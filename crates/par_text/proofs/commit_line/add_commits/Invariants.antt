@@ -1,0 +1,6 @@
+use Rattle.std.proofs.Common.{◌≡◌, ◌++◌, flat_map, take}
+use Rattle.par_text.specs.Output.{commit_by}
+use Rattle.par_text.proofs.commit_line.add_commits.Given as goal
+
+abbrev pub invariant-loop-line : goal.invariant-loop-line
+invariant-loop-line l = l.commits.items ≡ l.initial.commits.items ++ flat_map (λ t. commit_by l.client t.0 t.1) (take l.line-index l.told)

@@ -1,0 +1,6 @@
+use Rattle.std.proofs.Common.{◌≡◌, flat_map, take}
+use Rattle.par_text.specs.Output.{commits_of}
+use Rattle.par_text.proofs.commit_line.all_commits.Given as goal
+
+abbrev pub invariant-loop-part : goal.invariant-loop-part
+invariant-loop-part l = l.commits.items ≡ flat_map commits_of (take l.part-index l.parts)

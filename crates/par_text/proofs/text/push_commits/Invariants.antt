@@ -1,0 +1,7 @@
+use Rattle.std.proofs.Common.{◌≡◌, ◌++◌, map, take}
+use Rattle.std.specs.List.{concat}
+use Rattle.par_text.specs.Output.{commit_line}
+use Rattle.par_text.proofs.text.push_commits.Given as goal
+
+abbrev pub invariant-loop-commit : goal.invariant-loop-commit
+invariant-loop-commit l = l.out.items ≡ l.initial.out.items ++ concat (take l.commit-index (map commit_line l.commits))

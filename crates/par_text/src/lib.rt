@@ -1,0 +1,14 @@
+//! What a run of clients beside each other prints: the replies of each client, and then its commits.
+#![tactic(auto)]
+
+mod commit_line;
+mod part;
+mod text;
+
+pub use commit_line::CommitLine;
+pub use part::Part;
+pub use script_runner::Stop;
+pub use text::par_text;
+
+#[cfg(test)]
+mod tests;

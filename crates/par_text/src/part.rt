@@ -1,0 +1,12 @@
+// What one client was told.
+
+use iso_model::{Items, Reply};
+use script_runner::Stop;
+
+/// A client, the replies to its lines with their numbers, and why it stopped at the line behind them, if it did.
+#[derive(Debug, Drop)]
+pub struct Part {
+    pub client: u8,
+    pub told: Items<(u64, Reply)>,
+    pub stop: Option<Stop>,
+}
