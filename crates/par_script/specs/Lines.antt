@@ -1,0 +1,212 @@
+-- What the lines of one client make of its own transaction, with the answers of their entries.
+use Rattle.std.specs.Prelude.{◌≡◌, ◌⊎◌, ℕ, ◌-◌, ◌<◌, List, [], ◌∷◌, ◌++◌, Option, Some, None, Result, Ok, Err, replicate, unwrap_or}
+use Rattle.iso_model.specs.declared.access.Geometry.{Geometry}
+use Rattle.iso_model.specs.declared.access.Mode.{Mode}
+use Rattle.iso_model.specs.declared.script.Line.{Line}
+use Rattle.iso_model.specs.declared.script.Op.{Op}
+use Rattle.iso_model.specs.declared.script.Op.TheVariants as op
+use Rattle.iso_model.specs.declared.script.Reply.{Reply}
+use Rattle.iso_model.specs.declared.script.Reply.TheVariants as reply
+use Rattle.iso_model.specs.Array.{Array}
+use Rattle.iso_model.specs.Step.{step}
+use Rattle.iso_model.specs.World.{World, Live, client, fresh}
+use Rattle.iso_shared.specs.declared.entry.Call.TheVariants as call
+use Rattle.iso_shared.specs.declared.entry.Cause.{Cause}
+use Rattle.iso_shared.specs.declared.entry.Cause.TheVariants as cause
+use Rattle.iso_shared.specs.declared.entry.Entry.{Entry}
+use Rattle.iso_shared.specs.declared.entry.Entry.TheVariants as entry
+use Rattle.iso_shared.specs.declared.entry.Numbers.{Numbers}
+use Rattle.iso_shared.specs.declared.entry.Posting.{Posting}
+use Rattle.iso_shared.specs.Legal.{reply_of}
+use Rattle.script_runner.specs.declared.machine.Stop.{Stop}
+use Rattle.script_runner.specs.declared.machine.Stop.TheVariants as stop
+use Rattle.par_script.specs.declared.TheConstants.{MAX_LOOKS}
+
+-- a transaction as its client sees it: its number, its begin, its mode and its accesses
+abbrev pub Own : Type 0
+Own = Posting
+
+abbrev pub live_of : Own → Live
+live_of o = record { number = o.number; begin = o.begin; mode = o.mode; accesses = o.accesses; place = client 1 }
+
+abbrev pub lives_of : Option Own → List Live
+lives_of None = []
+lives_of (Some o) = live_of o ∷ []
+
+abbrev pub own_among : List Live → Option Own
+own_among [] = None
+own_among (t ∷ live) = Some (record { number = t.number; begin = t.begin; mode = t.mode; accesses = t.accesses })
+
+-- a world of this geometry whose base is the array, and in which the client is alone
+abbrev pub alone : Geometry → Array → Option Own → World
+alone g base own = record (fresh g 1 (record { first = 1; base = base; commits = [] })) { live = lives_of own }
+
+-- what the rules of one thread answer the client there, and what its transaction is then
+abbrev pub answer : Geometry → Array → Option Own → Op → Reply
+answer g base own o = (step (alone g base own) 1 o).0
+
+abbrev pub own_after : Geometry → Array → Option Own → Op → Option Own
+own_after g base own o = own_among (step (alone g base own) 1 o).1.live
+
+-- an array with these bytes in the block
+abbrev pub with_block : (block : ℕ) → List ℕ → Array
+with_block block bytes = replicate block [] ++ bytes ∷ []
+
+-- what a call that is refused is answered: the refusals of the rules are replies, and the others stop the client
+abbrev pub refused : Cause → Result Reply Stop
+refused cause.Down = Err stop.Down
+refused cause.TooManyTx = Ok reply.TooManyTx
+refused (cause.LogFull need free) = Ok (reply.LogFull need free)
+refused (cause.Disk before now) = Err stop.Disk
+refused cause.Memory = Err stop.Memory
+refused cause.Worn = Ok reply.Worn
+refused cause.ModeFixed = Ok reply.ModeFixed
+refused cause.LabelTaken = Ok reply.LabelTaken
+
+-- a line that its client's own state, or its arguments, answer: it makes no entry
+abbrev pub Says : Geometry → Option Own → Op → List Entry → Result Reply Stop → Option Own → Type 0
+Says g own o es r own' = (es ≡ []) × (r ≡ Ok (answer g [] own o)) × (own' ≡ own_after g [] own o)
+
+-- want of memory before a turn: no entry, and the client stops
+abbrev pub Wants : Option Own → List Entry → Result Reply Stop → Option Own → Type 0
+Wants own es r own' = (es ≡ []) × (r ≡ Err stop.Memory) × (own' ≡ own)
+
+abbrev pub Begins : Geometry → Option Mode → List Entry → Result Reply Stop → Option Own → Type 0
+Begins g named (entry.Begin n at mode ∷ []) r own' =
+    (mode ≡ unwrap_or named g.mode) × (r ≡ Ok (reply.Began at)) × (own' ≡ Some (record { number = n; begin = at; mode = mode; accesses = [] }))
+Begins g named (entry.Refused c why ∷ []) r own' = (c ≡ call.Begin named) × (r ≡ refused why) × (own' ≡ None)
+Begins g named es r own' = ⊥
+
+-- a read of a block that is not refused: one fetch, also of a block that the transaction has written
+abbrev pub Fetches : Geometry → Own → Op → (block : ℕ) → List Entry → Result Reply Stop → Option Own → Type 0
+Fetches g t o block (entry.Fetch n b bytes ∷ []) r own' =
+    (n ≡ t.number) × (b ≡ block) × (r ≡ Ok (answer g (with_block block bytes) (Some t) o)) × (own' ≡ own_after g (with_block block bytes) (Some t) o)
+Fetches g t o block (entry.Refused c why ∷ []) r own' = (c ≡ call.Fetch t.number block) × (r ≡ refused why) × (own' ≡ Some t)
+Fetches g t o block es r own' = ⊥
+
+-- the one where the reply shows bytes, and the other where it refuses
+abbrev pub WhereShown : Reply → (shown other : Type 0) → Type 0
+WhereShown (reply.Shown bytes) P Q = P
+WhereShown r P Q = Q
+
+abbrev pub Reads : Geometry → Own → Op → (block : ℕ) → List Entry → Result Reply Stop → Option Own → Type 0
+Reads g t o block es r own' = WhereShown (answer g [] (Some t) o) (Fetches g t o block es r own') (Says g (Some t) o es r own')
+
+-- a fault of the disk ends the transaction of an end
+abbrev pub left_by : Cause → Own → Option Own
+left_by (cause.Disk before now) t = None
+left_by why t = Some t
+
+-- after the later commits were asked for: the end, unless memory was wanting for the check
+abbrev pub EndsThen : Own → List Entry → Result Reply Stop → Option Own → Type 0
+EndsThen t [] r own' = (r ≡ Err stop.Memory) × (own' ≡ Some t)
+EndsThen t (entry.End n accesses answered ∷ []) r own' = (n ≡ t.number) × (accesses ≡ t.accesses) × (r ≡ Ok (reply_of answered)) × (own' ≡ None)
+EndsThen t (entry.Refused c why ∷ []) r own' = (c ≡ call.End t.number t.accesses) × (r ≡ refused why) × (own' ≡ left_by why t)
+EndsThen t es r own' = ⊥
+
+abbrev pub Ends : Own → List Entry → Result Reply Stop → Option Own → Type 0
+Ends t (entry.Refused c why ∷ []) r own' = (c ≡ call.Recent t.number) × (r ≡ refused why) × (own' ≡ Some t)
+Ends t (entry.Recent n upto ∷ es) r own' = (n ≡ t.number) × EndsThen t es r own'
+Ends t es r own' = ⊥
+
+abbrev pub Aborts : Own → List Entry → Result Reply Stop → Option Own → Type 0
+Aborts t (entry.Abort n ∷ []) r own' = (n ≡ t.number) × (r ≡ Ok reply.Done) × (own' ≡ None)
+Aborts t es r own' = ⊥
+
+abbrev pub Posts : Own → (label : List ℕ) → List Entry → Result Reply Stop → Option Own → Type 0
+Posts t label (entry.Post n l accesses ∷ []) r own' = (n ≡ t.number) × (l ≡ label) × (accesses ≡ t.accesses) × (r ≡ Ok reply.Done) × (own' ≡ None)
+Posts t label (entry.Refused c why ∷ []) r own' = (c ≡ call.Post t.number label t.accesses) × (r ≡ refused why) × (own' ≡ Some t)
+Posts t label es r own' = ⊥
+
+-- what a look is answered: the begin of the transaction that it found
+abbrev pub look_reply : Option Own → Reply
+look_reply None = reply.NoHandle
+look_reply (Some t) = reply.Began t.begin
+
+abbrev pub Looks : (label : List ℕ) → List Entry → Result Reply Stop → Option Own → Type 0
+Looks label (entry.Look l found ∷ []) r own' = (l ≡ label) × (r ≡ Ok (look_reply found)) × (own' ≡ found)
+Looks label es r own' = ⊥
+
+-- looks up to the first that finds, or so many that find none
+abbrev pub LooksFor : (label : List ℕ) → (most : ℕ) → List Entry → Result Reply Stop → Option Own → Type 0
+LooksFor label most [] r own' = (most ≡ 0) × (r ≡ Ok reply.NoHandle) × (own' ≡ None)
+LooksFor label most (entry.Look l None ∷ es) r own' = (0 < most) × (l ≡ label) × LooksFor label (most - 1) es r own'
+LooksFor label most (entry.Look l (Some t) ∷ []) r own' = (0 < most) × (l ≡ label) × (r ≡ Ok (reply.Began t.begin)) × (own' ≡ Some t)
+LooksFor label most es r own' = ⊥
+
+abbrev pub Trims : Option Own → List Entry → Result Reply Stop → Option Own → Type 0
+Trims own (entry.Trim n ∷ []) r own' = (r ≡ Ok (reply.Trimmed n)) × (own' ≡ own)
+Trims own (entry.Refused c why ∷ []) r own' = (c ≡ call.Trim) × (r ≡ refused why) × (own' ≡ own)
+Trims own es r own' = ⊥
+
+abbrev pub Compacts : Option Own → List Entry → Result Reply Stop → Option Own → Type 0
+Compacts own (entry.Compact n ∷ []) r own' = (r ≡ Ok (reply.Compacted n)) × (own' ≡ own)
+Compacts own (entry.Refused c why ∷ []) r own' = (c ≡ call.Compact) × (r ≡ refused why) × (own' ≡ own)
+Compacts own es r own' = ⊥
+
+abbrev pub Upgrades : Option Own → List Entry → Result Reply Stop → Option Own → Type 0
+Upgrades own (entry.Upgrade n ∷ []) r own' = (r ≡ Ok (reply.Upgraded n)) × (own' ≡ own)
+Upgrades own (entry.Refused c why ∷ []) r own' = (c ≡ call.Upgrade) × (r ≡ refused why) × (own' ≡ own)
+Upgrades own es r own' = ⊥
+
+abbrev pub stat_reply : Numbers → Reply
+stat_reply n = reply.Numbers n.last n.base n.trim n.live n.used n.versions
+
+abbrev pub Stats : Option Own → List Entry → Result Reply Stop → Option Own → Type 0
+Stats own (entry.Stat numbers ∷ []) r own' = (r ≡ Ok (stat_reply numbers)) × (own' ≡ own)
+Stats own es r own' = ⊥
+
+-- these entries are the line's, and it is answered so; the client has the one transaction before it and the other after it
+abbrev pub Does : Geometry → Option Own → Op → List Entry → Result Reply Stop → Option Own → Type 0
+Does g None (op.Begin named) es r own' = Begins g named es r own'
+Does g None (op.Takeover label) es r own' = Looks label es r own'
+Does g None (op.Await label) es r own' = LooksFor label MAX_LOOKS es r own'
+Does g (Some t) (op.Read block) es r own' = Reads g t (op.Read block) block es r own'
+Does g (Some t) (op.Get block off len) es r own' = Reads g t (op.Get block off len) block es r own'
+Does g (Some t) op.End es r own' = Ends t es r own'
+Does g (Some t) op.Abort es r own' = Aborts t es r own'
+Does g (Some t) (op.Release label) es r own' = Posts t label es r own'
+Does g own op.Trim es r own' = Trims own es r own'
+Does g own op.Stat es r own' = Stats own es r own'
+Does g own op.Compact es r own' = Compacts own es r own'
+Does g own op.Upgrade es r own' = Upgrades own es r own'
+Does g own o es r own' = Says g own o es r own'
+
+abbrev pub Did : Geometry → Option Own → Op → List Entry → Result Reply Stop → Option Own → Type 0
+Did g own o es r own' = Does g own o es r own' ⊎ Wants own es r own'
+
+-- each of these lines was answered, and the replies carry their numbers
+abbrev pub Walk : Geometry → Option Own → List (ℕ × Line) → List Entry → List (ℕ × Reply) → Option Own → Type 0
+Walk g own [] F told own' = (F ≡ []) × (told ≡ []) × (own' ≡ own)
+Walk g own (l ∷ lines) F told own' =
+    (es : List Entry) × (r : Reply) × (mid : Option Own) × (G : List Entry) × (rest : List (ℕ × Reply))
+    × (F ≡ es ++ G) × (told ≡ (l.0, r) ∷ rest) × Did g own l.1.op es (Ok r) mid × Walk g mid lines G rest own'
+
+-- the last of these lines is the one at which the client stopped: it has no reply, and the entries of the calls that it made
+pub record StopsAtLast (g : Geometry) (lines : List (ℕ × Line)) (told : List (ℕ × Reply)) (why : Stop) (F : List Entry) (own' : Option Own) : Type 0 where
+  pub first : List (ℕ × Line)
+  pub last : ℕ × Line
+  pub are : lines ≡ first ++ last ∷ []
+  pub walked : List Entry
+  pub mid : Option Own
+  pub walk : Walk g None first walked told mid
+  pub entries : List Entry
+  pub did : Did g mid last.1.op entries (Err why) own'
+  pub all : F ≡ walked ++ entries
+
+-- the lines were run, to their end or to the one at which the client stopped
+abbrev pub Ran : Geometry → List (ℕ × Line) → List (ℕ × Reply) → Option Stop → List Entry → Option Own → Type 0
+Ran g lines told None F own' = Walk g None lines F told own'
+Ran g lines told (Some why) F own' = StopsAtLast g lines told why F own'
+
+-- at its end a client aborts the transaction that it still has
+abbrev pub last_abort : Option Own → List Entry
+last_abort None = []
+last_abort (Some t) = entry.Abort t.number ∷ []
+
+-- the client's entries are those of its lines, in their order, and then the abort
+pub record ClientLines (g : Geometry) (lines : List (ℕ × Line)) (told : List (ℕ × Reply)) (why : Option Stop) (F : List Entry) : Type 0 where
+  pub made : List Entry
+  pub own : Option Own
+  pub ran : Ran g lines told why made own
+  pub all : F ≡ made ++ last_abort own
