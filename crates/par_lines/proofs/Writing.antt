@@ -1,6 +1,6 @@
 -- Accesses that make no entry: what the rules answer the client, and what the session does.
 use Rattle.std.proofs.Common.{◌≡◌, ℕ, ◌<◌, ◌≤◌, ◌==◌, Bool, true, false, cond, List, [], ◌∷◌, ◌++◌, Option, Some, None, ap, inl, inr, length, refl, sym, subst, ◌∙◌, eq-eqb, nat_le, nat_eq}
-use Rattle.std.specs.Prelude.{Result, Ok, Err, IfErr, is_some, not, replicate}
+use Rattle.std.specs.Prelude.{Result, Ok, Err, IfErr, is_some, not, replicate, slice_index}
 use Rattle.std.proofs.lemmas.Bool.{eqb-true}
 use Rattle.handle_pass.specs.declared.session.Session.{Session}
 use Rattle.handle_pass.specs.Accesses.{access_answer, accesses_of, with_access, HasWritten, IsWriteCause}
@@ -15,7 +15,7 @@ use Rattle.iso_model.specs.declared.script.Reply.{Reply}
 use Rattle.iso_model.specs.declared.script.Reply.TheVariants as reply
 use Rattle.iso_model.specs.declared.stores.TxError.{TxError}
 use Rattle.iso_model.specs.declared.stores.TxError.TheVariants as error
-use Rattle.iso_model.specs.Step.{access_step, step, write_access, write_step}
+use Rattle.iso_model.specs.Step.{access_step, fill_step, step, write_access, write_step}
 use Rattle.iso_model.specs.Step as rules
 use Rattle.iso_model.specs.World.{World}
 use Rattle.iso_shared.specs.States.{Start}
@@ -177,3 +177,32 @@ module _ {D O : Type 0} (A : Start) (block : ℕ) (bytes : List ℕ) where
       → HasWritten s block bytes r t → Answered A s (op.Write block bytes) (say.accessed r) t
   right_write h s t r is same cause did =
       written A (op.Write block bytes) block bytes (write_parts A.world.geometry block bytes false (ap not (eq-eqb (length bytes) A.world.geometry.block (same ∙ ap (λ k. k.block) is)))) s t r cause did
+
+-- a write of a block full of one byte
+pub fill_parts : (g : Geometry) (block : ℕ) (bytes : List ℕ) (b : Bool) → not (length bytes == 1) ≡ b → IsAccessing g (op.Fill block bytes) block b (write_access block (replicate g.block (slice_index bytes 0)))
+unfolding step fill_step
+fill_parts g block bytes b is = record {
+  opened = λ o. ap (λ v. access_step (alone g [] (Some o)) (live_of o) block v reply.Done (write_access block (replicate g.block (slice_index bytes 0)))) is;
+  closed = refl;
+  says = does;
+}
+  where
+    does : (own own' : Option Own) (r : Result Reply Stop) → r ≡ Ok (answer g [] own (op.Fill block bytes)) → own' ≡ own_after g [] own (op.Fill block bytes) → Does g own (op.Fill block bytes) [] r own'
+    does None own' r said left = (refl, said, left)
+    does (Some o) own' r said left = (refl, said, left)
+
+module _ {D O : Type 0} (A : Start) (block : ℕ) (bytes : List ℕ) where
+  pub wrong_fill : (h : Geometry) (s : Session D O) → h ≡ A.world.geometry → (length bytes ≡ 1 → ⊥) → Answered A s (op.Fill block bytes) (Ok (say.wrong_bytes h.blocks (own s) block)) s
+  wrong_fill h s is differ =
+      subst (λ k. Answered A s (op.Fill block bytes) (Ok (say.wrong_bytes k.blocks (own s) block)) s) (sym is)
+      (wrong_bytes A (op.Fill block bytes) block (write_access block (replicate A.world.geometry.block (slice_index bytes 0))) (fill_parts A.world.geometry block bytes true (differ_test (length bytes) 1 differ)) s)
+
+  pub right_fill : (h : Geometry) (s t : Session D O) (buffer : List ℕ) (r : Result (Unit {0}) TxError) → h ≡ A.world.geometry → length bytes ≡ 1 → buffer ≡ replicate h.block (slice_index bytes 0)
+      → IsRefused (access_answer A s block) IsWriteCause r → HasWritten s block buffer r t → Answered A s (op.Fill block bytes) (say.accessed r) t
+  right_fill h s t buffer r is one full cause did =
+      written A (op.Fill block bytes) block (replicate A.world.geometry.block (slice_index bytes 0)) (fill_parts A.world.geometry block bytes false (ap not (eq-eqb (length bytes) 1 one))) s t r cause
+      (subst (λ v. HasWritten s block v r t) (full ∙ ap (λ k. replicate k.block (slice_index bytes 0)) is) did)
+
+  -- without memory before it, a line stops the client
+  pub wants : (s : Session D O) (x : Op) → Answered A s x (Err stop.Memory) s
+  wants s x = record { entries = []; moves = moves_none s; did = inr (refl, refl, refl); of = refl }

@@ -47,3 +47,34 @@ pub(crate) fn write<'a, D: Disk + Drop, O: Origin>(
     }
     accessed(session.write_block(block, bytes))
 }
+
+/// Makes the buffer a block full of one byte.
+fn fill_up(buffer: &mut Vec<u8>, size: u32, byte: u8) -> Result<(), Memory>
+    ensures { OnOk result (buffer.new.items ≡ replicate size byte) }
+{
+    buffer.clear();
+    buffer.resize(size as usize, byte)?;
+    Ok(())
+}
+
+/// Writes a block full of one byte.
+pub(crate) fn fill<'a, D: Disk + Drop, O: Origin>(
+    session: &mut Session<'a, D, O>,
+    geometry: &Geometry,
+    buffer: &mut Vec<u8>,
+    block: u32,
+    bytes: &[u8],
+) -> Result<Reply, Stop>
+    requires session { IsSession O.start session.old }
+    requires geometry { geometry.now ≡ O.start.world.geometry }
+    ensures session { IsSession O.start session.new }
+    ensures did { Answered O.start session.old (Fill block bytes.now) result session.new }
+{
+    if bytes.len() != 1 {
+        return Ok(wrong_bytes(session, geometry, block));
+    }
+    match fill_up(buffer, geometry.block, bytes[0]) {
+        Ok(()) => accessed(session.write_block(block, buffer.as_slice())),
+        Err(_) => Err(Stop::Memory),
+    }
+}
