@@ -1,6 +1,6 @@
 -- What each call of a session makes of a client's line.
-use Rattle.std.proofs.Common.{◌≡◌, ◌⊎◌, ℕ, List, [], ◌∷◌, ◌++◌, Option, Some, None, ap, inl, inr, refl, sym, subst, ◌∙◌}
-use Rattle.std.specs.Prelude.{IsSome, Result, Ok, Err, unwrap_or}
+use Rattle.std.proofs.Common.{◌≡◌, ℕ, List, [], ◌∷◌, Option, Some, None, ap, inl, inr, refl, sym, subst, ◌∙◌}
+use Rattle.std.specs.Prelude.{IsSome, Result, Ok, Err}
 use Rattle.handle_pass.specs.declared.errors.BeginError.{BeginError}
 use Rattle.handle_pass.specs.declared.errors.BeginError.TheVariants as begin
 use Rattle.handle_pass.specs.declared.errors.EndError.{EndError}
@@ -10,8 +10,7 @@ use Rattle.handle_pass.specs.declared.errors.PostTxError.TheVariants as post
 use Rattle.handle_pass.specs.declared.session.Session.{Session}
 use Rattle.handle_pass.specs.Calls.{left_by, HasAborted, HasBegun, HasChecked, HasEnded, IsCheckCause}
 use Rattle.handle_pass.specs.Handles.{HasLooked, HasPosted}
-use Rattle.handle_pass.specs.Logs.{Moves}
-use Rattle.handle_pass.specs.Sessions.{device, own, KeepsTx, Made}
+use Rattle.handle_pass.specs.Sessions.{own, KeepsTx, Made}
 use Rattle.handle_pass.proofs.Logs.{moves_made, moves_none, moves_on}
 use Rattle.iso_core.specs.declared.answers.Stat.{Stat}
 use Rattle.iso_shared.specs.Legal.{reply_of}

@@ -1,5 +1,5 @@
 -- Looks for a label that is not held.
-use Rattle.std.proofs.Common.{◌≡◌, ℕ, zero, suc, ◌+◌, ◌-◌, ◌<◌, ◌≤◌, List, [], ◌∷◌, ◌++◌, Option, Some, None, ap, inl, refl, replicate, sym, subst, ◌∙◌, arith, append_assoc}
+use Rattle.std.proofs.Common.{◌≡◌, ℕ, zero, suc, ◌+◌, ◌-◌, ◌<◌, ◌≤◌, List, [], ◌∷◌, ◌++◌, Option, Some, None, ap, inl, refl, replicate, sym, subst, ◌∙◌, arith}
 use Rattle.std.specs.Prelude.{IsSome, Result, Ok, Err, is_some, option_map, true, false}
 use Rattle.std.proofs.lemmas.List.{append-nil}
 use Rattle.handle_pass.specs.declared.session.Session.{Session}

@@ -1,10 +1,10 @@
 -- Accesses that make no entry: what the rules answer the client, and what the session does.
-use Rattle.std.proofs.Common.{◌≡◌, ℕ, ◌<◌, ◌≤◌, ◌==◌, Bool, true, false, cond, List, [], ◌∷◌, ◌++◌, Option, Some, None, ap, inl, inr, length, refl, sym, subst, ◌∙◌, eq-eqb, nat_le, nat_eq}
+use Rattle.std.proofs.Common.{◌≡◌, ℕ, ◌==◌, Bool, true, false, cond, List, [], ◌∷◌, ◌++◌, Option, Some, None, ap, inl, inr, length, refl, sym, subst, ◌∙◌, eq-eqb, nat_le}
 use Rattle.std.specs.Prelude.{Result, Ok, Err, IfErr, is_some, not, replicate, slice_index}
 use Rattle.std.proofs.lemmas.Bool.{eqb-true}
 use Rattle.handle_pass.specs.declared.session.Session.{Session}
 use Rattle.handle_pass.specs.Accesses.{access_answer, accesses_of, with_access, HasWritten, IsWriteCause}
-use Rattle.handle_pass.specs.Sessions.{device, own, Rested}
+use Rattle.handle_pass.specs.Sessions.{own}
 use Rattle.handle_pass.proofs.Logs.{moves_none, moves_rested}
 use Rattle.iso_model.specs.declared.access.Access.{Access}
 use Rattle.iso_model.specs.declared.access.Geometry.{Geometry}
@@ -22,7 +22,7 @@ use Rattle.iso_shared.specs.States.{Start}
 use Rattle.script_runner.specs.declared.machine.Stop.{Stop}
 use Rattle.script_runner.specs.declared.machine.Stop.TheVariants as stop
 use Rattle.tx_blocks.specs.Tx.{access_refusal, IsRefused}
-use Rattle.par_script.specs.Lines.{Own, Did, Does, Says, alone, answer, live_of, own_after, own_among}
+use Rattle.par_script.specs.Lines.{Own, Did, Does, alone, answer, live_of, own_after, own_among}
 use Rattle.par_lines.specs.Answers.{Answered}
 use Rattle.par_lines.specs.Replies as say
 

@@ -1,7 +1,7 @@
 use Rattle.std.proofs.Common.{ap, arith, subst, sym, ◌∙◌}
 use Rattle.std.specs.Prelude.{Ok}
 use Rattle.handle_pass.specs.Handles.{HasLooked}
-use Rattle.par_lines.proofs.Awaiting.{answers_in_tx, found, is_none, never_found, not_in_tx, not_now, not_yet}
+use Rattle.par_lines.proofs.Awaiting.{answers_in_tx, found, never_found, not_now}
 use Rattle.par_lines.proofs.labels.await_label.Goals as goal
 
 pub returns-then-is_some-clause-did : goal.returns-then-is_some-clause-did

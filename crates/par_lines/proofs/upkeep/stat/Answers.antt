@@ -1,4 +1,4 @@
-use Rattle.std.proofs.Common.{ap, sym, subst}
+use Rattle.std.proofs.Common.{sym, subst}
 use Rattle.std.specs.Prelude.{Ok}
 use Rattle.iso_model.specs.declared.script.Op.TheVariants.{Stat}
 use Rattle.par_lines.specs.Answers.{Answered}
