@@ -1,6 +1,7 @@
 //! A script, answered line by line on a machine.
 #![tactic(auto)]
 
+mod feed;
 mod line;
 mod machine;
 mod piece;

@@ -7,12 +7,12 @@ ghost use Rattle.script_text.specs.Parsing.{Gives};
 ghost use Rattle.script_runner.specs.Lines.{EndsAt, Reads, end_of};
 ghost use Rattle.script_runner.specs.Run.{HasNoFeed};
 
+use crate::feed::find_feed;
 use crate::line::answer_parsed;
 use crate::machine::ScriptMachine;
 use crate::run_end::Halt;
 use iso_io::Sink;
 use iso_model::{LineError, Parsed};
-use memchr::memchr;
 use script_text::{ReplyLine, parse_whole_line};
 use std::alloc::Global;
 
@@ -33,7 +33,7 @@ fn split_line(text: &[u8]) -> Option<(&[u8], &[u8])>
     ensures line { IfSome result (λ found. HasNoFeed found.0.now) }
     ensures none { IfNone result (HasNoFeed text.now) }
 {
-    let end = memchr(b'\n', text)?;
+    let end = find_feed(text)?;
     let (line, rest) = text.split_at(end);
     Some((line, &rest[1..]))
 }
