@@ -34,12 +34,12 @@ module _ {D : Type 0} (state : D → DiskState) (core new : Core D) (live : List
     pub is_tx : IsTx W (get_or live i d).tx (live_of (get_or live i d))
     is_tx = record { number = refl; among = subst (λ (l : List Live). IsAmong (live_of (get_or live i d)) l) of.live_are (among_at live i d inside) }
 
-    pub is_work : IsWorkOf W (live_of (get_or live i d)) (get_or live i d).work
+    pub is_work : IsWorkOf W (live_of (get_or live i d)) (get_or live i d).work.value
     is_work =
         let sized = all_at (IsSized W.geometry) live i d of.sized inside in
         record { begin = refl; mode = refl; size = sized.size; blocks = sized.blocks; accesses = refl }
 
-    pub is_active : IsActive W (live_of (get_or live i d)) (get_or live i d).work
+    pub is_active : IsActive W (live_of (get_or live i d)) (get_or live i d).work.value
     is_active = record {
       is_work = is_work;
       here = ap (λ (l : List Live). with (live_of (get_or live i d)) l) (sym of.live_are) ∙ with_at live i d (get_or live i d) distinct inside refl
@@ -47,7 +47,7 @@ module _ {D : Type 0} (state : D → DiskState) (core new : Core D) (live : List
     }
 
     -- another work of the same transaction, or another place
-    pub changed : (b : Attached) → b.tx ≡ (get_or live i d).tx → b.work.begin ≡ (get_or live i d).work.begin → b.work.mode ≡ (get_or live i d).work.mode → IsSized W.geometry b
+    pub changed : (b : Attached) → b.tx ≡ (get_or live i d).tx → b.work.value.begin ≡ (get_or live i d).work.value.begin → b.work.value.mode ≡ (get_or live i d).work.value.mode → IsSized W.geometry b
         → StandsFor state new W up → IsWorld (with_live W (with (live_of b) W.live)) → AreOf state new (set live i b) (with_live W (with (live_of b) W.live))
     changed b tx begin mode sized stands is =
         let now : map live_of (set live i b) ≡ with (live_of b) W.live =
@@ -62,14 +62,14 @@ module _ {D : Type 0} (state : D → DiskState) (core new : Core D) (live : List
         }
 
     pub worked_on : (work : Doing) (given : World) → IsWorkedTo W (live_of (get_or live i d)) given work → StandsFor state new W up → IsWorld given
-        → AreOf state new (set live i (record (get_or live i d) { work = work })) given
+        → AreOf state new (set live i (record (get_or live i d) { work = record (get_or live i d).work { value = work } })) given
     worked_on work given to stands is =
         let a : Attached = get_or live i d in
-        let same : live_of (record a { work = work }) ≡ record (live_of a) { accesses = work.accesses } =
+        let same : live_of (record a { work = record a.work { value = work } }) ≡ record (live_of a) { accesses = work.accesses } =
         λ j. record { number = a.tx; begin = to.is_work.begin j; mode = to.is_work.mode j; accesses = work.accesses; place = (live_of a).place } in
-        let world : given ≡ with_live W (with (live_of (record a { work = work })) W.live) = to.world ∙ ap (λ (t : Live). with_live W (with t W.live)) (sym same) in
-        subst (λ (V : World). AreOf state new (set live i (record a { work = work })) V) (sym world)
-        (changed (record a { work = work }) refl to.is_work.begin to.is_work.mode (record { size = to.is_work.size; blocks = to.is_work.blocks }) stands (subst (λ (V : World). IsWorld V) world is))
+        let world : given ≡ with_live W (with (live_of (record a { work = record a.work { value = work } })) W.live) = to.world ∙ ap (λ (t : Live). with_live W (with t W.live)) (sym same) in
+        subst (λ (V : World). AreOf state new (set live i (record a { work = record a.work { value = work } })) V) (sym world)
+        (changed (record a { work = record a.work { value = work } }) refl to.is_work.begin to.is_work.mode (record { size = to.is_work.size; blocks = to.is_work.blocks }) stands (subst (λ (V : World). IsWorld V) world is))
 
     pub left : (V : World) → V.live ≡ without (get_or live i d).tx W.live → V.geometry ≡ W.geometry → StandsFor state new V up → AreOf state new (remove live i) V
     left V live_is geometry stands = record {

@@ -11,7 +11,6 @@ use Rattle.iso_model.specs.Image.{Shows}
 use Rattle.iso_model.specs.World.{World}
 use Rattle.iso_core.specs.Calls as core
 use Rattle.iso_core.specs.Calls.{Refuses}
-use Rattle.script_runner.specs.declared.machine.Stop.TheVariants as stop
 use Rattle.script_runner.specs.Between.{IsBeforeOrAfter}
 use Rattle.iso_machine.specs.Answering.{Answers, answer_to}
 use Rattle.iso_machine.proofs.Accesses.{same_but_shown}

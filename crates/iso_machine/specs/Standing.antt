@@ -19,12 +19,12 @@ place_of (spot.Label text) = label text
 
 -- the live transaction of the model
 abbrev pub live_of : Attached → Live
-live_of a = record { number = a.tx; begin = a.work.begin; mode = a.work.mode; accesses = a.work.accesses; place = place_of a.spot }
+live_of a = record { number = a.tx; begin = a.work.value.begin; mode = a.work.value.mode; accesses = a.work.value.accesses; place = place_of a.spot }
 
 -- the work is on blocks of the world's image
 pub record IsSized (g : Geometry) (a : Attached) : Type 0 where
-  pub size : a.work.size ≡ g.block
-  pub blocks : a.work.blocks ≡ g.blocks
+  pub size : a.work.value.size ≡ g.block
+  pub blocks : a.work.value.blocks ≡ g.blocks
 
 -- A core that is up and these transactions stand for the world, whose live transactions they are.
 pub record AreOf {D : Type 0} (state : D → DiskState) (core : Core D) (live : List Attached) (W : World) : Type 0 where

@@ -32,7 +32,7 @@ impl<D: Disk> Machine<D> {
             self.alloc,
             &mut self.core,
             attached.tx,
-            &mut attached.work,
+            &mut *attached.work,
             &mut self.buffer,
             op,
         )

@@ -19,7 +19,7 @@ pub(crate) enum Spot {
 pub(crate) struct Attached {
     pub(crate) tx: u64,
     pub(crate) spot: Spot,
-    pub(crate) work: Work,
+    pub(crate) work: Box<Work>,
 }
 
 /// Whether it is attached to a client.

@@ -1,31 +1,35 @@
 // Transactions that begin.
-ghost use Rattle.std.specs.Prelude.{◌≡◌, IsTrue, None, [], true, OnErr};
+ghost use Rattle.std.specs.Prelude.{◌≡◌, IsTrue, IfOk};
 ghost use Rattle.iso_model.specs.declared.script.Op.TheVariants.{Begin};
 ghost use Rattle.iso_model.specs.Geometry.{is_block_size};
 ghost use Rattle.iso_model.specs.Step.{step};
 ghost use Rattle.iso_model.specs.World.{World};
 
 use crate::attached::{Attached, Spot, index_at_client};
+use crate::ending::keep_spare;
 use crate::machine::Machine;
 use crate::refusing::refused;
 use iso_disk::Disk;
-use iso_model::{Geometry, Mode, Reply};
+use iso_model::{Geometry, Memory, Mode, Reply};
 use script_runner::Stop;
 use std::alloc::Global;
 use tx_table::Work;
 
-/// The work of a transaction that begins at a number: in the memory of one that has left, where there is some for blocks of
-/// the same size. It takes no memory.
-fn begin_work(alloc: Global, spare: &mut Vec<Work>, geometry: &Geometry, at: u64) -> Work
+/// Memory for the work of one more transaction in blocks of this size: that of one that has left, where there is some.
+fn take_work(
+    alloc: Global,
+    spare: &mut Vec<Box<Work>>,
+    geometry: &Geometry,
+) -> Result<Box<Work>, Memory>
     requires { IsTrue (is_block_size geometry.now.block) }
-    ensures { result ≡ record { begin = at; mode = geometry.now.mode; size = geometry.now.block; blocks = geometry.now.blocks; accesses = []; ready = None; settled = true } }
+    ensures { IfOk result (λ work. work.value.size ≡ geometry.now.block) }
 {
     match spare.pop() {
-        Some(mut work) if work.block_size() == geometry.block => {
-            work.restart(at, geometry);
-            work
-        }
-        _ => Work::begin(alloc, at, geometry),
+        Some(work) if work.block_size() == geometry.block => Ok(work),
+        _ => match Box::new(alloc, Work::begin(alloc, 0, geometry)) {
+            Ok(work) => Ok(work),
+            Err(_) => Err(Memory),
+        },
     }
 }
 
@@ -46,16 +50,24 @@ impl<D: Disk> Machine<D> {
         if let Err(_) = self.live.reserve(1) {
             return Err(Stop::Memory);
         }
+        let mut geometry = self.core.geometry();
+        let mut work = match take_work(self.alloc, &mut self.spare, &geometry) {
+            Ok(work) => work,
+            Err(_) => return Err(Stop::Memory),
+        };
         let begun = match self.core.begin(mode) {
             Ok(begun) => begun,
-            Err(error) => return refused(error),
+            Err(error) => {
+                keep_spare(&mut self.spare, work);
+                return refused(error);
+            }
         };
-        let mut geometry = self.core.geometry();
         geometry.mode = begun.mode;
+        work.restart(begun.at, &geometry);
         self.live.push_reserved(Attached {
             tx: begun.tx,
             spot: Spot::Client(client),
-            work: begin_work(self.alloc, &mut self.spare, &geometry, begun.at),
+            work,
         });
         Ok(Reply::Began(begun.at))
     }

@@ -67,7 +67,7 @@ fn ended(reply: EndReply) -> Reply
 const MOST_SPARE: usize = 8;
 
 /// Keeps the memory of a transaction that has left for a later one, unless there is enough.
-fn keep_spare(spare: &mut Vec<Work>, work: Work) {
+pub(crate) fn keep_spare(spare: &mut Vec<Box<Work>>, work: Box<Work>) {
     if spare.len() < MOST_SPARE {
         // Without memory for the list it is let go.
         let _ = spare.push(work);
@@ -94,7 +94,7 @@ impl<D: Disk> Machine<D> {
             Blank::new(1),
             &mut self.core,
             attached.tx,
-            &mut attached.work,
+            &mut *attached.work,
         ) {
             Ok(reply) => reply,
             Err(error) => return refused(error),

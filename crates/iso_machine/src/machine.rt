@@ -19,7 +19,7 @@ pub struct Machine<D: Disk> {
     pub(crate) core: Core<D>,
     pub(crate) live: Vec<Attached>,
     // the memory of transactions that have left
-    pub(crate) spare: Vec<Work>,
+    pub(crate) spare: Vec<Box<Work>>,
     // for the bytes of one block
     pub(crate) buffer: Vec<u8>,
 }

@@ -5,6 +5,7 @@ use Rattle.iso_model.specs.Step.{in_transaction}
 use Rattle.iso_model.specs.World.{World, Live, attached}
 use Rattle.iso_core.specs.Calls.{IsTx}
 use Rattle.iso_core.specs.Core.{disk_of}
+use Rattle.tx_table.specs.Work.{Doing}
 use Rattle.iso_machine.specs.declared.attached.Attached.{Attached}
 use Rattle.iso_machine.specs.Accessing.{IsActive, act_step}
 use Rattle.iso_machine.specs.Answering.{Answers}
@@ -33,7 +34,8 @@ act-requires g c =
       live_of a,
       of.core_of,
       subst (λ (b : Attached). IsTx W b.tx (live_of b)) (sym c.index_mut-attached.ensures.value) (is_tx g.D.Disk.state m.core m.core m.live.items W of c.in-Some.i a inside),
-      subst (λ (b : Attached). IsActive W (live_of b) b.work) (sym c.index_mut-attached.ensures.value) (is_active g.D.Disk.state m.core m.core m.live.items W of c.in-Some.i a inside),
+      subst (λ (w : Doing). IsActive W (live_of a) w) (sym c.deref_mut.ensures.value)
+          (subst (λ (b : Attached). IsActive W (live_of b) b.work.value) (sym c.index_mut-attached.ensures.value) (is_active g.D.Disk.state m.core m.core m.live.items W of c.in-Some.i a inside)),
     )
 
 pub returns : goal.returns
@@ -47,15 +49,16 @@ returns g c W of isop =
     let same : d ≡ a = c.index_mut-attached.ensures.value in
     let inside : i < length m.live.items = subst (λ (l : List Attached). i < length l) c.deref.ensures.value c.in-Some.ensures.0 in
     let tx : IsTx W d.tx (live_of a) = subst (λ (b : Attached). IsTx W b.tx (live_of a)) (sym same) (is_tx state m.core m.core m.live.items W of i d inside) in
-    let active : IsActive W (live_of a) d.work = subst (λ (b : Attached). IsActive W (live_of a) b.work) (sym same) (is_active state m.core m.core m.live.items W of i d inside) in
+    let active : IsActive W (live_of a) c.deref_mut.result.now = subst (λ (w : Doing). IsActive W (live_of a) w) (sym c.deref_mut.ensures.value)
+    (subst (λ (b : Attached). IsActive W (live_of a) b.work.value) (sym same) (is_active state m.core m.core m.live.items W of i d inside)) in
     let here : attached W c.args.client ≡ Some (live_of a) =
     attached_some state m.core m.core m.live.items W of c.args.client c.deref.result.now i d c.deref.ensures.value (c.in-Some.ensures.1 d) in
-    let items : List Attached = set m.live.items i (record d { work = c.act.new.work }) in
+    let items : List Attached = set m.live.items i (record d { work = record d.work { value = c.act.new.work } }) in
     subst (λ (given : Reply × World). Answers (AreOf state c.act.new.core items) (state (disk_of m.core)) (state (disk_of c.act.new.core)) W given c.act.result)
     (sym (ap (λ (p : Option Live). in_transaction W p (λ t. act_step W t o)) here))
     (acted (AreOf state c.act.new.core items) (state (disk_of m.core)) (g.met.D.Disk.lawful (disk_of m.core)) W (shows state m.core W of.core_of)
     (state (disk_of c.act.new.core)) (live_of a) c.act.new.work (act_step W (live_of a) o) c.act.result (c.act.ensures.given W (live_of a) of.core_of tx active)
-    (λ to. subst (λ (b : Attached). AreOf state c.act.new.core (set m.live.items i (record b { work = c.act.new.work })) (act_step W (live_of a) o).1) (sym same)
+    (λ to. subst (λ (b : Attached). AreOf state c.act.new.core (set m.live.items i (record b { work = record b.work { value = c.act.new.work } })) (act_step W (live_of a) o).1) (sym same)
     (worked_on state m.core c.act.new.core m.live.items W of i d inside c.act.new.work (act_step W (live_of a) o).1 to (c.act.ensures.same W of.core_of)
     (act_leads W c.args.client (live_of a) o of.core_of.kept_of.world isop here)))
     c.act.ensures.unwritten c.act.ensures.up c.act.ensures.cause)

@@ -44,6 +44,13 @@ returns-in-Err g c W of =
     quiet_memory (AreOf state m.core c.reserve.new.self.items) (state (disk_of m.core)) (g.met.D.Disk.lawful (disk_of m.core)) W (shows state m.core W of.core_of)
     (step W c.args.client (op.Begin c.args.mode))
 
+pub returns-in-Err-take_work : goal.returns-in-Err-take_work
+returns-in-Err-take_work g c W of =
+    let m = c.args.self.now in
+    let state = g.D.Disk.state in
+    quiet_memory (AreOf state m.core c.reserve.new.self.items) (state (disk_of m.core)) (g.met.D.Disk.lawful (disk_of m.core)) W (shows state m.core W of.core_of)
+    (step W c.args.client (op.Begin c.args.mode))
+
 pub returns-in-Err-begin : goal.returns-in-Err-begin
 returns-in-Err-begin g c W of =
     let m = c.args.self.now in
@@ -63,11 +70,10 @@ returns-in-Err-begin g c W of =
     (subst (λ (k : Core g.row.D.Denot). Answers (AreOf state k live) (state (disk_of m.core)) (state (disk_of k)) W (step W c.args.client (op.Begin c.args.mode)) (answer_to e)) (sym c.in-Err-begin.ensures.kept)
     (subst (λ (given : Reply × World). Answers (AreOf state m.core live) (state (disk_of m.core)) (state (disk_of m.core)) W given (answer_to e)) (sym says) answer))
 
-pub begin_work-requires : goal.begin_work-requires
-begin_work-requires g c =
+pub take_work-requires : goal.take_work-requires
+take_work-requires g c =
     let (W, of) = c.requires in
-    let is = c.in-Ok.ensures.begun W of.core_of in
-    let geometry : c.geometry-geometry.result ≡ W.geometry = c.geometry-geometry.ensures (after_begin W unattached (mode_named W c.args.mode)) up is.3 in
+    let geometry : c.geometry-geometry.result ≡ W.geometry = c.geometry-geometry.ensures W up of.core_of in
     subst (λ (h : Geometry). IsTrue (is_block_size h.block)) (sym geometry) (valid_block W.geometry of.core_of.kept_of.world.valid)
 
 pub returns : goal.returns
@@ -76,24 +82,24 @@ returns g c W of =
     let state = g.D.Disk.state in
     let mode = mode_named W c.args.mode in
     let place = client c.args.client in
-    let at = c.in-Ok.begun.at in
-    let b : Attached = record { tx = c.in-Ok.begun.tx; spot = spot.Client c.args.client; work = c.begin_work.result } in
-    let is = c.in-Ok.ensures.begun W of.core_of in
-    let geometry : c.geometry-geometry.result ≡ W.geometry = c.geometry-geometry.ensures (after_begin W unattached mode) up is.3 in
+    let at = c.in-Ok-begin.begun.at in
+    let b : Attached = record { tx = c.in-Ok-begin.begun.tx; spot = spot.Client c.args.client; work = record c.in-Ok.work { value = c.restart.new.self } } in
+    let is = c.in-Ok-begin.ensures.begun W of.core_of in
+    let geometry : c.geometry-geometry.result ≡ W.geometry = c.geometry-geometry.ensures W up of.core_of in
     let began : (begin_step W place mode).0 ≡ reply.Began at = begins_alike W place unattached mode ∙ is.2 in
     let says : step W c.args.client (op.Begin c.args.mode) ≡ (reply.Began at, after_begin W place mode) =
     begin_is W c.args.client c.args.mode None (attached_none state m.core m.core m.live.items W of c.args.client c.deref.result.now c.deref.ensures.value c.in_default.ensures)
     ∙ has_begun W place mode at began in
     let world : IsWorld (after_begin W place mode) =
     subst (λ (given : Reply × World). IsWorld given.1) says (step_leads W c.args.client (op.Begin c.args.mode) of.core_of.kept_of.world tt).world in
-    let begin : c.begin_work.result.begin ≡ last W.history = ap (λ (w : Doing). w.begin) c.begin_work.ensures ∙ began_at W place mode at began in
-    let its_mode : c.begin_work.result.mode ≡ mode = ap (λ (w : Doing). w.mode) c.begin_work.ensures ∙ is.1 in
-    let none : c.begin_work.result.accesses ≡ [] = ap (λ (w : Doing). w.accesses) c.begin_work.ensures in
+    let begin : c.restart.new.self.begin ≡ last W.history = ap (λ (w : Doing). w.begin) c.restart.ensures ∙ began_at W place mode at began in
+    let its_mode : c.restart.new.self.mode ≡ mode = ap (λ (w : Doing). w.mode) c.restart.ensures ∙ is.1 in
+    let none : c.restart.new.self.accesses ≡ [] = ap (λ (w : Doing). w.accesses) c.restart.ensures in
     let live_is : live_of b ≡ record { number = W.next; begin = last W.history; mode = mode; accesses = []; place = place } =
     λ i. record { number = is.0 i; begin = begin i; mode = its_mode i; accesses = none i; place = place } in
     let sized : IsSized W.geometry b = record {
-      size = ap (λ (w : Doing). w.size) c.begin_work.ensures ∙ ap (λ (h : Geometry). h.block) geometry;
-      blocks = ap (λ (w : Doing). w.blocks) c.begin_work.ensures ∙ ap (λ (h : Geometry). h.blocks) geometry;
+      size = ap (λ (w : Doing). w.size) c.restart.ensures ∙ ap (λ (h : Geometry). h.block) geometry;
+      blocks = ap (λ (w : Doing). w.blocks) c.restart.ensures ∙ ap (λ (h : Geometry). h.blocks) geometry;
     } in
     let after : AreOf state c.begin.new.self (m.live.items ++ b ∷ []) (after_begin W place mode) = begun state m.core c.begin.new.self m.live.items W of b place mode live_is sized is.3 world in
     let items : c.push_reserved.new.self.items ≡ m.live.items ++ b ∷ [] = c.push_reserved.ensures.items ∙ ap (λ (l : List Attached). l ++ b ∷ []) c.reserve.ensures.items in

@@ -41,7 +41,8 @@ end_whole-requires-clause-stands g c =
       live_of a,
       of.core_of,
       subst (λ (b : Attached). IsTx W b.tx (live_of b)) (sym c.index_mut-attached.ensures.value) (is_tx state m.core m.core m.live.items W of c.in-Some.i a inside),
-      subst (λ (b : Attached). IsWorkOf W (live_of b) b.work) (sym c.index_mut-attached.ensures.value) (is_work state m.core m.core m.live.items W of c.in-Some.i a inside),
+      subst (λ (w : Doing). IsWorkOf W (live_of a) w) (sym c.deref_mut.ensures.value)
+          (subst (λ (b : Attached). IsWorkOf W (live_of b) b.work.value) (sym c.index_mut-attached.ensures.value) (is_work state m.core m.core m.live.items W of c.in-Some.i a inside)),
     )
 
 pub returns-in-Err : goal.returns-in-Err
@@ -57,17 +58,20 @@ returns-in-Err g c W of =
     let same : d ≡ a = c.index_mut-attached.ensures.value in
     let inside : i < length m.live.items = subst (λ (l : List Attached). i < length l) c.deref.ensures.value c.in-Some.ensures.0 in
     let tx : IsTx W d.tx (live_of a) = subst (λ (b : Attached). IsTx W b.tx (live_of a)) (sym same) (is_tx state m.core m.core m.live.items W of i d inside) in
-    let does : IsWorkOf W (live_of a) d.work = subst (λ (b : Attached). IsWorkOf W (live_of a) b.work) (sym same) (is_work state m.core m.core m.live.items W of i d inside) in
-    let active : IsActive W (live_of a) d.work = subst (λ (b : Attached). IsActive W (live_of a) b.work) (sym same) (is_active state m.core m.core m.live.items W of i d inside) in
-    let items : List Attached = set m.live.items i (record d { work = work }) in
+    let w : Doing = c.deref_mut.result.now in
+    let does : IsWorkOf W (live_of a) w = subst (λ (v : Doing). IsWorkOf W (live_of a) v) (sym c.deref_mut.ensures.value)
+    (subst (λ (b : Attached). IsWorkOf W (live_of a) b.work.value) (sym same) (is_work state m.core m.core m.live.items W of i d inside)) in
+    let active : IsActive W (live_of a) w = subst (λ (v : Doing). IsActive W (live_of a) v) (sym c.deref_mut.ensures.value)
+    (subst (λ (b : Attached). IsActive W (live_of a) b.work.value) (sym same) (is_active state m.core m.core m.live.items W of i d inside)) in
+    let items : List Attached = set m.live.items i (record d { work = record d.work { value = work } }) in
     let says : step W c.args.client op.End ≡ end_step W (live_of a) =
     end_is W c.args.client (Some (live_of a)) (attached_some state m.core m.core m.live.items W of c.args.client c.deref.result.now i d c.deref.ensures.value (c.in-Some.ensures.1 d)) in
     let answer : Answers (AreOf state new items) (state (disk_of m.core)) (state (disk_of new)) W (end_step W (live_of a)) (answer_to e) =
     refused (AreOf state new items) (state (disk_of m.core)) (state (disk_of new)) W (end_step W (live_of a)) e (record {
       is = c.in-Err.ensures.refused W (live_of a) of.core_of tx does;
       keeps = end_keeps W (live_of a);
-      same = λ other. subst (λ (b : Attached). AreOf state new (set m.live.items i (record b { work = work })) W) (sym same)
-          (worked_on state m.core new m.live.items W of i d inside work W (prepared W (live_of a) d.work active work work.settled c.in-Err.ensures.work)
+      same = λ other. subst (λ (b : Attached). AreOf state new (set m.live.items i (record b { work = record b.work { value = work } })) W) (sym same)
+          (worked_on state m.core new m.live.items W of i d inside work W (prepared W (live_of a) w active work work.settled c.in-Err.ensures.work)
           (c.in-Err.ensures.same W of.core_of other) of.core_of.kept_of.world);
       told = λ some told. subst (λ (disk : g.row.D.Denot). IsSome (state disk).contents) (sym (unwritten (disk_of m.core) (disk_of new) e some c.in-Err.ensures.unwritten)) told;
       moments = c.in-Err.ensures.moments W (live_of a) of.core_of tx does;
@@ -87,14 +91,16 @@ returns g c W of =
     let same : d ≡ a = c.index_mut-attached.ensures.value in
     let inside : i < length m.live.items = subst (λ (l : List Attached). i < length l) c.deref.ensures.value c.in-Some.ensures.0 in
     let tx : IsTx W d.tx (live_of a) = subst (λ (b : Attached). IsTx W b.tx (live_of a)) (sym same) (is_tx state m.core m.core m.live.items W of i d inside) in
-    let does : IsWorkOf W (live_of a) d.work = subst (λ (b : Attached). IsWorkOf W (live_of a) b.work) (sym same) (is_work state m.core m.core m.live.items W of i d inside) in
+    let w : Doing = c.deref_mut.result.now in
+    let does : IsWorkOf W (live_of a) w = subst (λ (v : Doing). IsWorkOf W (live_of a) v) (sym c.deref_mut.ensures.value)
+    (subst (λ (b : Attached). IsWorkOf W (live_of a) b.work.value) (sym same) (is_work state m.core m.core m.live.items W of i d inside)) in
     let items : List Attached = c.remove-gone.new.self.items in
     let V : World = (end_step W (live_of a)).1 in
     let is = c.in-Ok.ensures.ended W (live_of a) of.core_of tx does in
     let gone = has_gone W (live_of a) c.in-Ok.reply is.0 in
     let says : step W c.args.client op.End ≡ end_step W (live_of a) =
     end_is W c.args.client (Some (live_of a)) (attached_some state m.core m.core m.live.items W of c.args.client c.deref.result.now i d c.deref.ensures.value (c.in-Some.ensures.1 d)) in
-    let items_are : items ≡ remove m.live.items i = c.remove-gone.ensures.items ∙ remove_set m.live.items i (record d { work = c.end_whole.new.work }) in
+    let items_are : items ≡ remove m.live.items i = c.remove-gone.ensures.items ∙ remove_set m.live.items i (record d { work = record d.work { value = c.end_whole.new.work } }) in
     let after : AreOf state new items V = subst (λ (l : List Attached). AreOf state new l V) (sym items_are) (left state m.core new m.live.items W of i d inside V gone.live gone.geometry is.1) in
     subst (λ (given : Reply × World). Answers (AreOf state new items) (state (disk_of m.core)) (state (disk_of new)) W given (Ok c.ended.result)) (sym says)
     (answered (AreOf state new items) (state (disk_of m.core)) (state (disk_of new)) W (end_step W (live_of a)) c.ended.result c.in-Ok.reply (c.ended.ensures ∙ sym is.0) c.in-Ok.ensures.told after

@@ -7,6 +7,7 @@ use Rattle.iso_model.specs.World.{World, client, held}
 use Rattle.iso_model.specs.Worlds.{IsWorld}
 use Rattle.iso_model.proofs.Worlds.{step_leads}
 use Rattle.iso_core.specs.Core.{disk_of}
+use Rattle.tx_table.specs.Work.{Doing}
 use Rattle.iso_machine.specs.declared.attached.Attached.{Attached}
 use Rattle.iso_machine.specs.declared.attached.Spot.TheVariants as spot
 use Rattle.iso_machine.specs.Answering.{Answers}
@@ -47,7 +48,7 @@ returns g c W of =
     let text = c.args.label.now in
     let b : Attached = record a { spot = spot.Client c.args.client } in
     let inside : i < length m.live.items = subst (λ (l : List Attached). i < length l) c.deref-2.ensures.value c.in-Some-index_under_label.ensures.0 in
-    let says : step W c.args.client (op.Takeover text) ≡ (reply.Began a.work.begin, placed W (live_of a) (client c.args.client)) =
+    let says : step W c.args.client (op.Takeover text) ≡ (reply.Began a.work.value.begin, placed W (live_of a) (client c.args.client)) =
     takeover_is W c.args.client text None (Some (live_of a))
     (attached_none state m.core m.core m.live.items W of c.args.client c.deref.result.now c.deref.ensures.value c.in_default.ensures)
     (held_some state m.core m.core m.live.items W of text c.deref-2.result.now i d c.deref-2.ensures.value (c.in-Some-index_under_label.ensures.1 d)) in
@@ -58,7 +59,7 @@ returns g c W of =
     changed state m.core m.core m.live.items W of i d inside b refl refl refl (record { size = sized.size; blocks = sized.blocks }) of.core_of world in
     let same : set m.live.items i b ≡ set m.live.items i (record d { spot = spot.Client c.args.client }) =
     λ j. set m.live.items i (record (sym c.index_mut-attached.ensures.value j) { spot = spot.Client c.args.client }) in
-    let at : a.work.begin ≡ c.begun_at.result = sym (c.begun_at.ensures ∙ ap (λ (x : Attached). x.work.begin) c.index_mut-attached.ensures.value) in
+    let at : a.work.value.begin ≡ c.begun_at.result = sym (c.begun_at.ensures ∙ ap (λ (w : Doing). w.begin) c.deref-3.ensures ∙ ap (λ (x : Attached). x.work.value.begin) c.index_mut-attached.ensures.value) in
     subst (λ (l : List Attached). Answers (AreOf state m.core l) (state (disk_of m.core)) (state (disk_of m.core)) W (step W c.args.client (op.Takeover text)) (Ok (reply.Began c.begun_at.result))) same
     (quiet (AreOf state m.core (set m.live.items i b)) (state (disk_of m.core)) (g.met.D.Disk.lawful (disk_of m.core)) W (shows state m.core W of.core_of)
     (step W c.args.client (op.Takeover text)) (reply.Began c.begun_at.result) (placed W (live_of a) (client c.args.client))

@@ -3,7 +3,7 @@ use Rattle.iso_disk.proofs.Moments.{weakened}
 use Rattle.iso_model.specs.declared.script.Op.TheVariants as op
 use Rattle.iso_model.specs.declared.script.Reply.{Reply}
 use Rattle.iso_model.specs.declared.script.Reply.TheVariants as reply
-use Rattle.iso_model.specs.Step.{after_switch, step, switch_step}
+use Rattle.iso_model.specs.Step.{after_switch, step}
 use Rattle.iso_model.specs.World.{World, floor}
 use Rattle.iso_core.specs.Core.{disk_of}
 use Rattle.script_runner.specs.declared.machine.Stop.{Stop}
