@@ -1,5 +1,9 @@
 -- What a step of the parser answers.
 use Rattle.std.specs.Prelude.{◌≡◌, ℕ, Result, Ok, Err}
+use Rattle.iso_model.specs.declared.script.Op.{Op}
+use Rattle.iso_model.specs.declared.script.Parsed.{Parsed}
+use Rattle.iso_model.specs.declared.script.Parsed.TheVariants.{Line as Says}
+use Rattle.iso_model.specs.Script.{◌>>=◌}
 use Rattle.iso_model.specs.declared.script.LineError.{LineError}
 use Rattle.iso_model.specs.declared.script.LineError.TheVariants.{Cause, Memory}
 
@@ -12,3 +16,9 @@ Fails Memory defined = Unit {0}
 abbrev pub Gives : {X : Type 0} → Result X LineError → Result X ℕ → Type 0
 Gives (Ok x) defined = defined ≡ Ok x
 Gives (Err error) defined = Fails error defined
+
+-- an operation as what a line of this client says
+abbrev pub said_by : (client : ℕ) → Result Op ℕ → Result Parsed ℕ
+said_by client defined = do
+  op ← defined
+  Ok (Says (record { client = client; op = op }))

@@ -7,7 +7,7 @@ ghost use Rattle.script_text.specs.Words.{texts};
 use crate::argument::client;
 use crate::operation::operation_of;
 use crate::word::{MOST_WORDS, cut_words};
-use iso_model::{Line, LineError, MAX_LINE, Parsed};
+use iso_model::{LineError, MAX_LINE, Parsed};
 use std::alloc::Global;
 
 /// What a line without its line feed says, or the first test that it fails.
@@ -66,8 +66,7 @@ fn said(alloc: Global, words: &[&[u8]]) -> Result<Parsed, LineError>
         }
         [first, name, arguments @ ..] => {
             let client = client(first)?;
-            let op = operation_of(alloc, name, arguments)?;
-            Ok(Parsed::Line(Line { client, op }))
+            operation_of(alloc, client, name, arguments)
         }
     }
 }
