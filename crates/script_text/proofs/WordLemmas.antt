@@ -92,3 +92,16 @@ pub number_of-whole : (word : List ℕ) (i n : ℕ) → is_decimal word ≡ true
 number_of-whole word i n decimal value h small =
     let e : n ≡ value_of word = ap (value_after n) (sym (drop_all i word h)) ∙ value in
     ap Some e ∙ number_of-decimal word decimal (omega (arith, e))
+
+-- a word of one byte is a number where this is a digit
+pub number_of-one : (b : ℕ) → is_digit b ≡ true → Some (b - 48) ≡ number_of (b ∷ [])
+number_of-one b digit =
+    let fits = within_digits b digit in
+    let same : b - 48 ≡ 0 + (b - 48) = omega arith in
+    ap Some same ∙ number_of-decimal (b ∷ []) digit (omega (arith, fits))
+  where
+    within_digits : (b : ℕ) → is_digit b ≡ true → b ≤ 57
+    within_digits b digit = grind arith
+
+pub number_of-not_one : (b : ℕ) → is_digit b ≡ false → None ≡ number_of (b ∷ [])
+number_of-not_one b other = number_of-no_decimal (b ∷ []) other

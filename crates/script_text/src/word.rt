@@ -1,5 +1,5 @@
 // The words of a line, and the numbers that they spell.
-ghost use Rattle.std.specs.Prelude.{◌≡◌, ◌<◌, ◌≤◌, IfNone, IfSome, false, length, slice_index, take, true};
+ghost use Rattle.std.specs.Prelude.{◌≡◌, ◌<◌, ◌≤◌, [], ◌∷◌, IfNone, IfSome, false, length, slice_index, take, true};
 ghost use Rattle.std.specs.List.{list_all};
 ghost use Rattle.std.specs.Option.{is_some};
 ghost use Rattle.iso_model.specs.Script.{is_printable};
@@ -73,10 +73,25 @@ fn may_be_decimal(word: &[u8]) -> bool
     }
 }
 
+/// The number that a word of one byte spells.
+#[inline(always)]
+fn one_digit(digit: u8) -> Option<u32>
+    ensures { result ≡ number_of (digit ∷ []) }
+{
+    if !digit.is_ascii_digit() {
+        return None;
+    }
+    Some(u32::from(digit - b'0'))
+}
+
 /// The number that a word spells, if it is below 2^32.
 pub fn number_of(word: &[u8]) -> Option<u32>
     ensures { result ≡ number_of word.now }
 {
+    // most numbers of a script have one digit
+    if let [digit] = word {
+        return one_digit(*digit);
+    }
     if !may_be_decimal(word) {
         return None;
     }
