@@ -1,13 +1,13 @@
--- The least begin, one begin more.
-use Rattle.std.proofs.Common.{◌≡◌, ◌∙◌, refl, sym, ap, ℕ, zero, suc, ◌+◌, ◌<◌, min, List, [], ◌∷◌, length, get_or, map, take, arith, Option, Some, None, nat_eq, slice_get}
-use Rattle.std.specs.Borrow.{Bor}
-use Rattle.std.specs.Map.Iter.{deref_pair}
+-- The least begin, one begin more, and the entry of a transaction.
+use Rattle.std.proofs.Common.{◌≡◌, ◌∙◌, refl, sym, ap, ℕ, zero, suc, ◌+◌, ◌<◌, min, true, List, [], ◌∷◌, ◌++◌, length, get_or, drop, map, take, arith, Some, nat_eq, slice_get}
+use Rattle.std.specs.Map.{lookup, remove_entry}
 use Rattle.std.specs.Option.{option_map}
-use Rattle.std.proofs.lemmas.Option.{same_Some}
+use Rattle.std.proofs.lemmas.Bool.{cond-true}
+use Rattle.std.proofs.lemmas.Grind.{common_steps}
+use Rattle.std.proofs.lemmas.List.{drop_more}
 use Rattle.iso_model.specs.World.{floor_of, least_begin}
 use Rattle.tx_table.specs.declared.live.Begun.{Begun}
-use Rattle.std.specs.Map.{lookup}
-use Rattle.tx_table.specs.Live.{at_work, begin_of}
+use Rattle.tx_table.specs.Live.{IsPlace, at_work}
 
 least_more : (n i : ℕ) (live : List (ℕ × Begun)) (d : ℕ × Begun) → i < length live
     → least_begin n (map at_work (take (i + 1) live)) ≡ min (least_begin n (map at_work (take i live))) (get_or live i d).1.at
@@ -30,21 +30,23 @@ get_there [] i d lt = absurd (omega arith)
 get_there (x ∷ live) zero d lt = refl
 get_there (x ∷ live) (suc i) d lt = get_there live i d (omega arith)
 
-pub none_there : (live : List (ℕ × Begun)) (i : ℕ) → i < length live → slice_get live i ≡ None → ⊥
-none_there [] i lt none = absurd (omega arith)
-none_there (x ∷ live) zero lt none = absurd (cc)
-none_there (x ∷ live) (suc i) lt none = none_there live i (omega arith) none
+-- the first entry of the list
+first_found : (tx : ℕ) (e : ℕ × Begun) (live : List (ℕ × Begun)) → e.0 ≡ tx → lookup (nat_eq tx) (e ∷ live) ≡ Some e.1
+first_found tx e live same = let here : nat_eq tx e.0 ≡ true = grind (arith, common_steps) in cond-true _ _ _ here
 
--- what is lent at a place is what stands there
-pub lent_at : (o : Option (Bor ℕ × Bor Begun)) (y : Bor ℕ × Bor Begun) (x : ℕ × Begun) → option_map deref_pair o ≡ Some x → o ≡ Some y → y.1.now ≡ x.1
-lent_at o y x is some =
-    let e : Some (deref_pair y) ≡ Some x = ap (option_map deref_pair) (sym some) ∙ is in
-    ap (λ (p : ℕ × Begun). p.1) (same_Some _ _ e)
+first_gone : (tx : ℕ) (e : ℕ × Begun) (live : List (ℕ × Begun)) → e.0 ≡ tx → remove_entry (nat_eq tx) (e ∷ live) ≡ live
+first_gone tx e live same = let here : nat_eq tx e.0 ≡ true = grind (arith, common_steps) in cond-true _ _ _ here
 
--- what has no begin is not live
-pub not_live : (tx : ℕ) (live : List (ℕ × Begun)) → begin_of tx live ≡ None → lookup (nat_eq tx) live ≡ None
-not_live tx live none = by (lookup (nat_eq tx) live) none
-  where
-    by : (o : Option Begun) → option_map (λ begun. begun.at) o ≡ None → o ≡ None
-    by None off = refl
-    by (Some begun) off = absurd (cc)
+-- the first one with that number
+pub place_here : (tx i : ℕ) (live : List (ℕ × Begun)) (d : ℕ × Begun) → i < length live
+    → lookup (nat_eq tx) live ≡ lookup (nat_eq tx) (drop i live)
+    → remove_entry (nat_eq tx) live ≡ take i live ++ remove_entry (nat_eq tx) (drop i live)
+    → (get_or live i d).0 ≡ tx → IsPlace tx live i
+place_here tx i live d lt found rest same =
+    let next = drop_more live i d lt in
+    record {
+      below = lt;
+      found = ap (option_map (λ (e : ℕ × Begun). e.1)) (get_there live i d lt)
+          ∙ sym (found ∙ ap (lookup (nat_eq tx)) next ∙ first_found tx (get_or live i d) (drop (i + 1) live) same);
+      rest = sym (rest ∙ ap (λ (l : List (ℕ × Begun)). take i live ++ l) (ap (remove_entry (nat_eq tx)) next ∙ first_gone tx (get_or live i d) (drop (i + 1) live) same));
+    }

@@ -1,6 +1,6 @@
 -- What contracts see of `Live`: the numbers of the live transactions in the order of their begins, each with what it began with.
-use Rattle.std.specs.Prelude.{ℕ, nat_eq, List, [], Option, option_map}
-use Rattle.std.specs.Map.{lookup}
+use Rattle.std.specs.Prelude.{◌≡◌, ℕ, ◌+◌, ◌<◌, nat_eq, List, [], ◌++◌, Option, drop, length, option_map, slice_get, take}
+use Rattle.std.specs.Map.{lookup, remove_entry}
 use Rattle.iso_model.specs.declared.access.Mode.{Mode}
 use Rattle.iso_model.specs.World as model
 use Rattle.tx_table.specs.declared.live.Begun.{Begun}
@@ -16,3 +16,9 @@ mode_of tx live = option_map (λ begun. begun.mode) (lookup (nat_eq tx) live)
 -- the transaction of the model that has begun so and done nothing
 abbrev pub at_work : ℕ × Begun → model.Live
 at_work entry = record { number = entry.0; begin = entry.1.at; mode = entry.1.mode; accesses = []; place = model.unattached }
+
+-- the first entry of the transaction stands at that place
+pub record IsPlace (tx : ℕ) (live : List (ℕ × Begun)) (place : ℕ) : Type 0 where
+  pub below : place < length live
+  pub found : option_map (λ entry. entry.1) (slice_get live place) ≡ lookup (nat_eq tx) live
+  pub rest : take place live ++ drop (place + 1) live ≡ remove_entry (nat_eq tx) live

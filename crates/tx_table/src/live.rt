@@ -1,11 +1,10 @@
 // The transactions that are live.
-ghost use Rattle.std.specs.Prelude.{◌≡◌, ℕ, ◌+◌, ◌<◌, ◌≤◌, [], ◌∷◌, ◌++◌, Some, None, Err, IsSome, OnOk, OnErr, length, nat_eq, map, option_map};
-ghost use Rattle.std.specs.Map.{remove_entry};
+ghost use Rattle.std.specs.Prelude.{◌≡◌, ℕ, ◌+◌, ◌<◌, ◌≤◌, [], ◌∷◌, ◌++◌, Some, None, Err, IfNone, IfSome, IsSome, OnOk, OnErr, length, nat_eq, map, option_map};
+ghost use Rattle.std.specs.Map.{lookup, remove_entry};
 ghost use Rattle.iso_model.specs.declared.limits.TheConstants.{MAX_LIVE};
 ghost use Rattle.iso_model.specs.World.{floor_of};
-ghost use Rattle.tx_table.specs.Live.{at_work, begin_of, mode_of};
+ghost use Rattle.tx_table.specs.Live.{IsPlace, at_work, begin_of, mode_of};
 
-use indexmap::IndexMap;
 use iso_model::{MAX_LIVE, Mode};
 use std::alloc::Global;
 use std::marker::Model;
@@ -27,20 +26,19 @@ pub struct Begun {
 /// The live transactions in the order of their begins. Contracts see the list of their numbers, each with what it began with.
 #[derive(Drop)]
 pub struct Live {
-    begins: IndexMap<u64, Begun>,
+    begins: Vec<(u64, Begun)>,
 }
 
 impl Model for Live {
-    ghost use Rattle.std.specs.Prelude.{List, ℕ, ◌≤◌, length, nat_eq};
+    ghost use Rattle.std.specs.Prelude.{List, ℕ, ◌≤◌, length};
     ghost use Rattle.iso_model.specs.declared.limits.TheConstants.{MAX_LIVE};
-    ghost use Rattle.indexmap.specs.IndexMap.{IsUnique};
     ghost use Rattle.tx_table.specs.declared.live.Begun.{Begun};
 
     ghost Value = { List (ℕ × Begun) };
 
-    ghost view = { λ a. a.begins.entries };
+    ghost view = { λ a. a.begins.items };
 
-    ghost invariant = { λ a. (IsUnique nat_eq a.begins) × (length a.begins.entries ≤ MAX_LIVE) };
+    ghost invariant = { λ a. length a.begins.items ≤ MAX_LIVE };
 }
 
 impl Live {
@@ -49,7 +47,7 @@ impl Live {
         ensures { result ≡ [] }
     {
         Live {
-            begins: IndexMap::new(alloc),
+            begins: Vec::new(alloc),
         }
     }
 
@@ -64,7 +62,7 @@ impl Live {
         if self.begins.len() >= MAX_LIVE {
             return Err(EnterError::TooManyTx);
         }
-        let Ok(_) = self.begins.insert(tx, Begun { at, mode }) else {
+        let Ok(_) = self.begins.push((tx, Begun { at, mode })) else {
             return Err(EnterError::Memory);
         };
         Ok(())
@@ -75,23 +73,25 @@ impl Live {
         requires { IsSome (begin_of tx self.old) }
         ensures { self.new ≡ remove_entry (nat_eq tx) self.old }
     {
-        self.begins.shift_remove(&tx);
+        if let Some(place) = place_of(&self.begins, tx) {
+            self.begins.remove(place);
+        }
     }
 
     /// The begin of a transaction, and none exactly where it is not live. It takes no memory.
     pub fn at(&self, tx: u64) -> Option<u64>
         ensures { result ≡ begin_of tx self.now }
     {
-        let begun = self.begins.get(&tx).copied()?;
-        Some(begun.at)
+        let place = place_of(&self.begins, tx)?;
+        Some(self.begins[place].1.at)
     }
 
     /// The mode of a transaction, and none exactly where it is not live.
     pub fn mode(&self, tx: u64) -> Option<Mode>
         ensures { result ≡ mode_of tx self.now }
     {
-        let begun = self.begins.get(&tx).copied()?;
-        Some(begun.mode)
+        let place = place_of(&self.begins, tx)?;
+        Some(self.begins[place].1.mode)
     }
 
     /// The least begin, or `last` where no transaction is live.
@@ -99,14 +99,12 @@ impl Live {
         ensures { result ≡ floor_of last (map at_work self.now) }
     {
         let mut least = last;
-        for i in 0..self.begins.len() {
-            if let Some((_, begun)) = self.begins.get_index(i) {
-                least = if i == 0 {
-                    begun.at
-                } else {
-                    least.min(begun.at)
-                };
-            }
+        for (i, entry) in self.begins.iter().enumerate() {
+            least = if i == 0 {
+                entry.1.at
+            } else {
+                least.min(entry.1.at)
+            };
         }
         least
     }
@@ -117,4 +115,17 @@ impl Live {
     {
         self.begins.len() as u32
     }
+}
+
+/// Where the entry of a transaction stands, and none exactly where it has none.
+fn place_of(entries: &[(u64, Begun)], tx: u64) -> Option<usize>
+    ensures some { IfSome result (λ place. IsPlace tx entries.now place) }
+    ensures none { IfNone result (lookup (nat_eq tx) entries.now ≡ None) }
+{
+    for (place, entry) in entries.iter().enumerate() {
+        if entry.0 == tx {
+            return Some(place);
+        }
+    }
+    None
 }
