@@ -53,11 +53,13 @@ owner_times c (l ∷ logs) p few = here (nat_lt 0 (times p l.1)) refl (λ less. 
     first : (b : Bool) (t rest other : ℕ) → t ≡ 1 → rest ≡ 0 → other ≡ 0 → cond b (t + rest) 0 ≡ cond b t 0 + other
     first true t rest other one none never = omega arith
     first false t rest other one none never = omega arith
+
     later : (b d : Bool) (t rest other : ℕ) → t ≡ 0 → cond b rest 0 ≡ other → cond b (t + rest) 0 ≡ cond d t 0 + other
     later true true t rest other none same = omega arith
     later true false t rest other none same = omega arith
     later false true t rest other none same = omega arith
     later false false t rest other none same = omega arith
+
     here : (b : Bool) → nat_lt 0 (times p l.1) ≡ b → (dealt_times logs p ≤ 1 → cond (owner logs p == c) (dealt_times logs p) 0 ≡ own_times c logs p) → cond (cond b l.0 (owner logs p) == c) (times p l.1 + dealt_times logs p) 0 ≡ cond (l.0 == c) (times p l.1) 0 + own_times c logs p
     here true is ih =
         let some : 0 < times p l.1 = grind (arith, nat_tests) in
@@ -96,18 +98,22 @@ all_own (l ∷ logs) apart = (here, behind logs apart.0 (all_own logs apart.1))
     same : (b : Bool) (t : ℕ) → b ≡ true → cond b t 0 ≡ t
     same true t is = refl
     same false t is = absurd (cc is)
+
     here : AreOwn (l ∷ logs) l
     here p =
         let none = no_times l.0 logs p apart.0 in
         let this : cond (l.0 == l.0) (times p l.1) 0 ≡ times p l.1 = same (l.0 == l.0) (times p l.1) (eq-eqb l.0 l.0 refl) in
         omega arith
+
     behind : (rest : Dealt) → times l.0 (ids rest) ≡ 0 → AllByRecursion (AreOwn logs) rest → AllByRecursion (AreOwn (l ∷ logs)) rest
     behind [] none all = tt
-    behind (m ∷ rest) none all =
-        (λ p.
-            let other : cond (l.0 == m.0) (times p l.1) 0 ≡ 0 = cond_hit (l.0 == m.0) (times p l.1) (swapped m.0 (omega arith)) in
-            let own = all.0 p in
-            omega arith, behind rest (omega arith) all.1)
+    behind (m ∷ rest) none all = (
+      λ p.
+          let other : cond (l.0 == m.0) (times p l.1) 0 ≡ 0 = cond_hit (l.0 == m.0) (times p l.1) (swapped m.0 (omega arith)) in
+          let own = all.0 p in
+          omega arith,
+      behind rest (omega arith) all.1,
+    )
       where
         swapped : (n : ℕ) → hit n l.0 ≡ 0 → hit l.0 n ≡ 0
         swapped n none = by (l.0 == n) refl
@@ -137,6 +143,7 @@ same_rising k (x ∷ xs) (y ∷ ys) r s same = one (heads (nat_lt x y) (nat_lt y
         let none = times_before x y (x ∷ xs) less (let le : x ≤ x = omega arith in (le, r.1)) in
         absurd (omega arith)
     heads false false lt gt = grind (arith, nat_tests)
+
     one : x ≡ y → (x ≡ y → ((p : ℕ) → times p xs ≡ times p ys) → xs ≡ ys) → x ∷ xs ≡ y ∷ ys
     one e more =
         let tail : xs ≡ ys = more e (λ p. (let a = same p in let b : hit x p ≡ hit y p = ap (λ v. hit v p) e in omega arith)) in
@@ -153,6 +160,7 @@ times_filter q p (x ∷ xs) = by (q x) (q p) refl refl (times_filter q p xs)
   where
     other : (a b : Bool) → q x ≡ a → q p ≡ b → (a ≡ b → ⊥) → hit x p ≡ 0
     other a b is at differ = hit_other x p (λ e. differ (sym is ∙ ap q e ∙ at))
+
     by : (a b : Bool) → q x ≡ a → q p ≡ b → times p (filter q xs) ≡ cond b (times p xs) 0 → times p (cond a (x ∷ filter q xs) (filter q xs)) ≡ cond b (hit x p + times p xs) 0
     by true true is at ih = ap (λ n. hit x p + n) ih
     by true false is at ih = let h = other true false is at (λ e. cc e) in omega arith
@@ -181,6 +189,7 @@ count_once k (suc m) p = by (k == p) refl (count_once (suc k) m p)
         hit_few : (b : Bool) → one_if b ≤ 1
         hit_few true = omega arith
         hit_few false = omega arith
+
     by : (b : Bool) → (k == p) ≡ b → times p (count_up (suc k) m) ≤ 1 → hit k p + times p (count_up (suc k) m) ≤ 1
     by true is ih =
         let e : k ≡ p = eqb-true k p is in
@@ -200,9 +209,10 @@ entries_by d E front f c k (suc m) (e ∷ es) is at size =
   where
     here : get_or E k d ≡ e
     here = ap (λ l. get_or l k d) is ∙ ap (λ n. get_or (front ++ e ∷ es) n d) (sym at) ∙ get_or-append_seam front e es d
+
     by : (b : Bool) → entries_of c (map f (count_up (suc k) m)) es ≡ map (λ p. get_or E p d) (filter (λ p. f p == c) (count_up (suc k) m))
         → cond b (e ∷ entries_of c (map f (count_up (suc k) m)) es) (entries_of c (map f (count_up (suc k) m)) es)
-          ≡ map (λ p. get_or E p d) (cond b (k ∷ filter (λ p. f p == c) (count_up (suc k) m)) (filter (λ p. f p == c) (count_up (suc k) m)))
+        ≡ map (λ p. get_or E p d) (cond b (k ∷ filter (λ p. f p == c) (count_up (suc k) m)) (filter (λ p. f p == c) (count_up (suc k) m)))
     by true rest = λ j. sym here j ∷ rest j
     by false rest = rest
 
@@ -225,7 +235,8 @@ dealt_entries d E logs apart rising once = each logs rising (all_own logs apart)
     one c ps rises own =
         same_rising 0 (filter (λ p. owner logs p == c) (places (length E))) ps (rises_filter (λ p. owner logs p == c) 0 (places (length E)) (count_rises 0 (length E))) rises
         (λ p. times_filter (λ q. owner logs q == c) p (places (length E)) ∙ ap (λ n. if_so (owner logs p == c) n) (sym (once p))
-            ∙ owner_times c logs p (let few = count_once 0 (length E) p in let e = once p in omega arith) ∙ own p)
+        ∙ owner_times c logs p (let few = count_once 0 (length E) p in let e = once p in omega arith) ∙ own p)
+
     each : (rest : Dealt) → AreRising rest → AllByRecursion (AreOwn logs) rest → AllByRecursion (ReadsAt d E (owners_of logs E)) rest
     each [] r all = tt
     each (l ∷ rest) r all =
@@ -264,9 +275,11 @@ owned_by logs E once = each 0 (length E) (λ p from to. (let e = once p in let f
             let differ : k ≡ p → ⊥ = λ e. cc (sym is ∙ eq-eqb k p e) in
             let rest = ih (apart k p from differ) in
             omega arith
+
     or_true : (b : Bool) → (b || true) ≡ true
     or_true true = refl
     or_true false = refl
+
     among : (logs : Dealt) (p : ℕ) → 0 < dealt_times logs p → list_any (λ l. l.0 == owner logs p) logs ≡ true
     among [] p some = absurd (omega arith)
     among (l ∷ logs) p some = by (nat_lt 0 (times p l.1)) refl (λ more. among logs p more)
@@ -277,6 +290,7 @@ owned_by logs E once = each 0 (length E) (λ p from to. (let e = once p in let f
         by false is ih =
             let none : times p l.1 ≡ 0 = grind (arith, nat_tests) in
             ap (λ b. (l.0 == owner logs p) || b) (ih (omega (arith, none, some))) ∙ or_true (l.0 == owner logs p)
+
     each : (k m : ℕ) → ((p : ℕ) → k ≤ p → p < k + m → 0 < dealt_times logs p) → AllByRecursion (λ o. list_any (λ l. l.0 == o) logs ≡ true) (map (owner logs) (count_up k m))
     each k zero some = tt
     each k (suc m) some = (among logs k (some k (omega arith) (omega arith)), each (suc k) m (λ p from to. some p (omega arith) (omega arith)))

@@ -157,23 +157,120 @@ releases_b : Did small (Some at_b) (op.Release b) (entry.Post 2 b (get_both ∷ 
 releases_b = inl (refl, refl, refl, refl, refl)
 
 first_walk : Walk small None first_lines first_entries first_told None
-first_walk =
-    (_, _, _, _, _, refl, refl, begins_one,
-    (_, _, _, _, _, refl, refl, puts_aa,
-    (_, _, _, _, _, refl, refl, releases_a,
-    (_, _, _, _, _, refl, refl, awaits_b,
-    (_, _, _, _, _, refl, refl, ends_two,
-    (refl, refl, refl))))))
+first_walk = (
+  _,
+  _,
+  _,
+  _,
+  _,
+  refl,
+  refl,
+  begins_one,
+  (
+    _,
+    _,
+    _,
+    _,
+    _,
+    refl,
+    refl,
+    puts_aa,
+    (
+      _,
+      _,
+      _,
+      _,
+      _,
+      refl,
+      refl,
+      releases_a,
+      (
+        _,
+        _,
+        _,
+        _,
+        _,
+        refl,
+        refl,
+        awaits_b,
+        (
+          _,
+          _,
+          _,
+          _,
+          _,
+          refl,
+          refl,
+          ends_two,
+          (refl, refl, refl),
+        ),
+      ),
+    ),
+  ),
+)
 
 second_walk : Walk small None second_lines second_entries second_told None
-second_walk =
-    (_, _, _, _, _, refl, refl, awaits_a,
-    (_, _, _, _, _, refl, refl, puts_bb,
-    (_, _, _, _, _, refl, refl, ends_one,
-    (_, _, _, _, _, refl, refl, begins_two,
-    (_, _, _, _, _, refl, refl, gets_both,
-    (_, _, _, _, _, refl, refl, releases_b,
-    (refl, refl, refl)))))))
+second_walk = (
+  _,
+  _,
+  _,
+  _,
+  _,
+  refl,
+  refl,
+  awaits_a,
+  (
+    _,
+    _,
+    _,
+    _,
+    _,
+    refl,
+    refl,
+    puts_bb,
+    (
+      _,
+      _,
+      _,
+      _,
+      _,
+      refl,
+      refl,
+      ends_one,
+      (
+        _,
+        _,
+        _,
+        _,
+        _,
+        refl,
+        refl,
+        begins_two,
+        (
+          _,
+          _,
+          _,
+          _,
+          _,
+          refl,
+          refl,
+          gets_both,
+          (
+            _,
+            _,
+            _,
+            _,
+            _,
+            refl,
+            refl,
+            releases_b,
+            (refl, refl, refl),
+          ),
+        ),
+      ),
+    ),
+  ),
+)
 
 -- the accesses are ones that a transaction may have made
 one_byte : (value : ℕ) → value < 256 → AreBytes (value ∷ [])
@@ -188,22 +285,49 @@ may_get = get_is_access small 0 0 2 (omega arith) (record { some = omega arith; 
 
 legal : IsLegal start (made ++ entry.Sweep None ∷ [])
 unfolding put clash runs begin_step commit_step end_step
-legal =
-    (record { needs = tt; takes = tt; answers = refl },
-    (record { needs = tt; takes = tt; answers = (refl, refl, refl) },
-    (record { needs = tt; takes = (refl, tt); answers = refl },
-    (record { needs = tt; takes = tt; answers = refl },
-    (record { needs = tt; takes = tt; answers = refl },
-    (record { needs = (refl, tt); takes = tt; answers = (refl, refl) },
-    (record { needs = tt; takes = (refl, tt); answers = (refl, record { each = (may_put 0 170 (omega arith) (omega arith), (may_put 1 187 (omega arith) (omega arith), tt)); count = omega arith }, refl) },
-    (record { needs = tt; takes = tt; answers = (refl, refl, refl) },
-    (record { needs = (refl, tt); takes = tt; answers = (refl, omega arith, λ tells. refl) },
-    (record { needs = tt; takes = (refl, tt); answers = refl },
-    (record { needs = tt; takes = tt; answers = refl },
-    (record { needs = (refl, tt); takes = tt; answers = (refl, refl) },
-    (record { needs = tt; takes = (refl, tt); answers = (refl, record { each = (may_get, tt); count = omega arith }, refl) },
-    (record { needs = tt; takes = tt; answers = refl },
-    tt))))))))))))))
+legal = (
+  record { needs = tt; takes = tt; answers = refl },
+  (
+    record { needs = tt; takes = tt; answers = (refl, refl, refl) },
+    (
+      record { needs = tt; takes = (refl, tt); answers = refl },
+      (
+        record { needs = tt; takes = tt; answers = refl },
+        (
+          record { needs = tt; takes = tt; answers = refl },
+          (
+            record { needs = (refl, tt); takes = tt; answers = (refl, refl) },
+            (
+              record { needs = tt; takes = (refl, tt); answers = (refl, record { each = (may_put 0 170 (omega arith) (omega arith), (may_put 1 187 (omega arith) (omega arith), tt)); count = omega arith }, refl) },
+              (
+                record { needs = tt; takes = tt; answers = (refl, refl, refl) },
+                (
+                  record { needs = (refl, tt); takes = tt; answers = (refl, omega arith, λ tells. refl) },
+                  (
+                    record { needs = tt; takes = (refl, tt); answers = refl },
+                    (
+                      record { needs = tt; takes = tt; answers = refl },
+                      (
+                        record { needs = (refl, tt); takes = tt; answers = (refl, refl) },
+                        (
+                          record { needs = tt; takes = (refl, tt); answers = (refl, record { each = (may_get, tt); count = omega arith }, refl) },
+                          (
+                            record { needs = tt; takes = tt; answers = refl },
+                            tt,
+                          ),
+                        ),
+                      ),
+                    ),
+                  ),
+                ),
+              ),
+            ),
+          ),
+        ),
+      ),
+    ),
+  ),
+)
 
 -- the whole: one legal list, in which each client was told so
 told : Told start lines (record { client = 1; told = first_told; stop = None } ∷ record { client = 2; told = second_told; stop = None } ∷ []) (made ++ entry.Sweep None ∷ [])

@@ -13,6 +13,14 @@ pub walk_snoc : (g : Geometry) (own mid own' : Option Own) (lines : List (ℕ ×
     → Walk g own lines F told mid → Did g mid l.1.op es (Ok r) own' → Walk g own (lines ++ l ∷ []) (F ++ es) (told ++ (l.0, r) ∷ []) own'
 walk_snoc g own mid own' [] F es told l r w did =
     (es, r, own', [], [], ap (λ v. v ++ es) w.0 ∙ sym (append-nil es), ap (λ v. v ++ (l.0, r) ∷ []) w.1, subst (λ o. Did g o l.1.op es (Ok r) own') w.2 did, (refl, refl, refl))
-walk_snoc g own mid own' (x ∷ lines) F es told l r w did =
-    (w.0, w.1, w.2, w.3 ++ es, w.4 ++ (l.0, r) ∷ [], ap (λ v. v ++ es) w.5 ∙ append_assoc w.0 w.3 es, ap (λ v. v ++ (l.0, r) ∷ []) w.6, w.7,
-      walk_snoc g w.2 mid own' lines w.3 es w.4 l r w.8 did)
+walk_snoc g own mid own' (x ∷ lines) F es told l r w did = (
+  w.0,
+  w.1,
+  w.2,
+  w.3 ++ es,
+  w.4 ++ (l.0, r) ∷ [],
+  ap (λ v. v ++ es) w.5 ∙ append_assoc w.0 w.3 es,
+  ap (λ v. v ++ (l.0, r) ∷ []) w.6,
+  w.7,
+  walk_snoc g w.2 mid own' lines w.3 es w.4 l r w.8 did,
+)
