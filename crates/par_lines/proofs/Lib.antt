@@ -1,3 +1,0 @@
-pub mod Answering
-pub mod Awaiting
-pub mod Writing
