@@ -109,7 +109,7 @@ no_end : (A : Start) → Does A.world.geometry None op.End [] (Ok reply.NotInTx)
 unfolding step
 no_end A = (refl, refl, refl)
 
-same_own : (o p : Own) → Some o ≡ Some p → o ≡ p
+pub same_own : (o p : Own) → Some o ≡ Some p → o ≡ p
 same_own o p is = ap (unwrap_or' o) is
   where
     unwrap_or' : Own → Option Own → Own
@@ -118,7 +118,7 @@ same_own o p is = ap (unwrap_or' o) is
 
 module _ {D O : Type 0} (A : Start) where
   -- a line of one entry
-  by_entry : (s t : Session D O) (o : Op) (e : Entry) (r : Result Reply Stop) (was : Option Own) → own s ≡ was → Made A s t e → Does A.world.geometry was o (e ∷ []) r (own t) → Answered A s o r t
+  pub by_entry : (s t : Session D O) (o : Op) (e : Entry) (r : Result Reply Stop) (was : Option Own) → own s ≡ was → Made A s t e → Does A.world.geometry was o (e ∷ []) r (own t) → Answered A s o r t
   by_entry s t o e r was is m does = record {
     entries = e ∷ [];
     moves = moves_made A s t e m;
@@ -127,7 +127,7 @@ module _ {D O : Type 0} (A : Start) where
   }
 
   -- a line that the client's own state answers
-  by_none : (s t : Session D O) (o : Op) (r : Result Reply Stop) (was : Option Own) → own s ≡ was → t ≡ s → Does A.world.geometry was o [] r was → Answered A s o r t
+  pub by_none : (s t : Session D O) (o : Op) (r : Result Reply Stop) (was : Option Own) → own s ≡ was → t ≡ s → Does A.world.geometry was o [] r was → Answered A s o r t
   by_none s t o r was is same does =
       subst (λ u. Answered A s o r u) (sym same) (record {
         entries = [];

@@ -32,19 +32,19 @@ tested blocks block is_wrong is_full said = cond (nat_le blocks block) reply.Bad
 
 module _ (g : Geometry) (o : Own) (block : ℕ) (said : Reply) (a : Access) where
   -- the client's only transaction has the one access more
-  after : own_among (rules.with_access (alone g [] (Some o)) (live_of o) a).live ≡ Some (with_access o a)
+  pub after : own_among (rules.with_access (alone g [] (Some o)) (live_of o) a).live ≡ Some (with_access o a)
   after = ap (λ b. own_among (cond b (record (live_of o) { accesses = o.accesses ++ a ∷ [] }) (live_of o) ∷ [])) (eq-eqb o.number o.number refl)
 
-  outside : (wrong : Bool) → nat_le g.blocks block ≡ true → access_step (alone g [] (Some o)) (live_of o) block wrong said a ≡ (reply.BadBlock, alone g [] (Some o))
+  pub outside : (wrong : Bool) → nat_le g.blocks block ≡ true → access_step (alone g [] (Some o)) (live_of o) block wrong said a ≡ (reply.BadBlock, alone g [] (Some o))
   outside wrong is = rw is refl
 
-  wrong_range : nat_le g.blocks block ≡ false → access_step (alone g [] (Some o)) (live_of o) block true said a ≡ (reply.BadRange, alone g [] (Some o))
+  pub wrong_range : nat_le g.blocks block ≡ false → access_step (alone g [] (Some o)) (live_of o) block true said a ≡ (reply.BadRange, alone g [] (Some o))
   wrong_range is = rw is refl
 
-  full : nat_le g.blocks block ≡ false → nat_le MAX_ACCESSES (length o.accesses) ≡ true → access_step (alone g [] (Some o)) (live_of o) block false said a ≡ (reply.TooManyAccesses, alone g [] (Some o))
+  pub full : nat_le g.blocks block ≡ false → nat_le MAX_ACCESSES (length o.accesses) ≡ true → access_step (alone g [] (Some o)) (live_of o) block false said a ≡ (reply.TooManyAccesses, alone g [] (Some o))
   full is few = rw is (rw few refl)
 
-  added : nat_le g.blocks block ≡ false → nat_le MAX_ACCESSES (length o.accesses) ≡ false
+  pub added : nat_le g.blocks block ≡ false → nat_le MAX_ACCESSES (length o.accesses) ≡ false
       → access_step (alone g [] (Some o)) (live_of o) block false said a ≡ (said, rules.with_access (alone g [] (Some o)) (live_of o) a)
   added is few = rw is (rw few refl)
 

@@ -1,5 +1,5 @@
 -- What the answers of a session's calls are for a client.
-use Rattle.std.specs.Prelude.{ℕ, Option, Some, None, Result, Ok, Err, if◌then◌else◌, nat_le}
+use Rattle.std.specs.Prelude.{ℕ, List, Option, Some, None, Result, Ok, Err, if◌then◌else◌, nat_le}
 use Rattle.handle_pass.specs.declared.errors.BeginError.{BeginError}
 use Rattle.handle_pass.specs.declared.errors.BeginError.TheVariants as begin
 use Rattle.handle_pass.specs.declared.errors.EndError.{EndError}
@@ -94,3 +94,13 @@ accessed (Err tx.Disk) = Err stop.Disk
 abbrev pub wrong_bytes : (blocks : ℕ) → Option Posting → (block : ℕ) → Reply
 wrong_bytes blocks None block = reply.NotInTx
 wrong_bytes blocks (Some o) block = if nat_le blocks block then reply.BadBlock else reply.BadRange
+
+-- what a mark is refused whose bytes are outside a block
+abbrev pub refused_mark : Option Posting → TxError
+refused_mark None = tx.NotInTx
+refused_mark (Some o) = tx.BadRange
+
+-- what a line is answered that read these bytes, or could not
+abbrev pub shown : Result (Unit {0}) TxError → (bytes : List ℕ) → Result Reply Stop
+shown (Ok done) bytes = Ok (reply.Shown bytes)
+shown (Err e) bytes = accessed (Err e)

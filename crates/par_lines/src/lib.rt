@@ -3,6 +3,16 @@
 
 mod accesses;
 mod calls;
+mod client;
+mod deal;
 mod labels;
+mod par;
+mod reads;
 mod replies;
+mod run;
 mod upkeep;
+
+pub use par::{ParEnd, par_lines};
+
+#[cfg(test)]
+mod tests;
