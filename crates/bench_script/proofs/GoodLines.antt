@@ -13,13 +13,14 @@ use Rattle.iso_model.specs.declared.script.Parsed.{Parsed}
 use Rattle.iso_model.specs.declared.script.Parsed.TheVariants.{Line as Says}
 use Rattle.iso_model.specs.Bench.{after_draws, bench_text, drawn_round, nth_drawn, round_text}
 use Rattle.iso_model.specs.Premises.{AreBytes}
-use Rattle.iso_model.specs.Script.{before_script, is_printable, parse_whole, script, script_from, without_return}
+use Rattle.iso_model.specs.Script.{Script, before_script, is_printable, parse_whole, script, script_from, without_return}
 use Rattle.iso_model.specs.Text.{hex_text, pieces}
 use Rattle.script_text.specs.Spelling.{line_text, line_words, AreSome, IsLine}
 use Rattle.script_text.proofs.Numerals.{IsWord, decimal_word, hex_word}
 use Rattle.script_text.proofs.Readings.{parse-printed}
 use Rattle.script_text.proofs.Spaces.{AreWords, spaced_printable}
 use Rattle.script_runner.specs.Run.{HasNoFeed}
+use Rattle.script_runner.specs.Told.{ArePlain, IsPlain}
 use Rattle.script_runner.proofs.Feeds.{no_feed-cons, no_feed-nil}
 use Rattle.script_runner.proofs.Fronts.{script-line}
 
@@ -43,6 +44,7 @@ pub record IsSaid (line : Line) : Type 0 where
   pub is_line : IsLine line
   pub words : AreWords (line_words line)
   pub short : length (line_text line) ≤ MAX_LINE
+  pub plain : IsPlain line.op
 
 whole_line : (line : Line) → IsSaid line → list_all is_printable (line_text line) ≡ true → parse_whole (line_text line) ≡ Ok (Says line)
 unfolding parse_whole
@@ -54,14 +56,14 @@ printed : (line : Line) → IsSaid line → list_all is_printable (line_text lin
 unfolding line_text
 printed line is = spaced_printable (line_words line) is.words
 
--- it is no bad one
+-- it is the first of the script
 good_line : (n : ℕ) (line : Line) (text more : List ℕ) → text ≡ line_text line → IsSaid line
-    → (script_from false n (pieces 10 (text ++ 10 ∷ more))).bad ≡ (script_from false (n + 1) (pieces 10 more)).bad
+    → script_from false n (pieces 10 (text ++ 10 ∷ more)) ≡ before_script n (Ok (Says line)) (script_from false (n + 1) (pieces 10 more))
 good_line n line text more spelled is =
     let printable = printed line is in
-    ap (λ (t : List ℕ). (script_from false n (pieces 10 (t ++ 10 ∷ more))).bad) spelled
-    ∙ ap (λ s. s.bad) (script-line false n (line_text line) more (printable_has_no_feed (line_text line) printable))
-    ∙ ap (λ (r : Result Parsed ℕ). (before_script n r (script_from false (n + 1) (pieces 10 more))).bad) (whole_line line is printable)
+    ap (λ (t : List ℕ). script_from false n (pieces 10 (t ++ 10 ∷ more))) spelled
+    ∙ script-line false n (line_text line) more (printable_has_no_feed (line_text line) printable)
+    ∙ ap (λ (r : Result Parsed ℕ). before_script n r (script_from false (n + 1) (pieces 10 more))) (whole_line line is printable)
 
 abbrev said_by : ℕ → Op → Line
 said_by client op = record { client = client; op = op }
@@ -79,6 +81,7 @@ module _ (client : ℕ) (first : 1 ≤ client) (last : client < 10) where
     is_line = record { first = first; last = omega arith; op = tt };
     words = (client_word, (record { some = omega arith; bytes = refl }, tt));
     short = omega (arith, client_size, length-append (decimal client) (codes " begin"));
+    plain = tt;
   }
 
   end_said : IsSaid (said_by client End)
@@ -87,6 +90,7 @@ module _ (client : ℕ) (first : 1 ≤ client) (last : client < 10) where
     is_line = record { first = first; last = omega arith; op = tt };
     words = (client_word, (record { some = omega arith; bytes = refl }, tt));
     short = omega (arith, client_size, length-append (decimal client) (codes " end"));
+    plain = tt;
   }
 
 number_size : (n : ℕ) → n < 100 → length (decimal n) ≤ 2
@@ -102,6 +106,7 @@ get_said client block off first last inside small = record {
   is_line = record { first = first; last = omega arith; op = (omega arith, omega arith, omega arith) };
   words = (client_word client first last, (record { some = omega arith; bytes = refl }, (number_word block inside, (number_word off small, (number_word 4 (omega arith), tt)))));
   short = simp length-append (omega (arith, client_size client first last, number_size block inside, number_size off small, number_size 4 (omega arith)));
+  plain = tt;
 }
 
 byte_is : (v : ℕ) → v < 256 → AreBytes (v ∷ [])
@@ -115,6 +120,7 @@ put_said client block off v first last inside small byte =
       is_line = record { first = first; last = omega arith; op = (omega arith, omega arith, some) };
       words = (client_word client first last, (record { some = omega arith; bytes = refl }, (number_word block inside, (number_word off small, (hex_word (v ∷ []) some, tt)))));
       short = simp length-append (omega (arith, client_size client first last, number_size block inside, number_size off small));
+      plain = tt;
     }
 
 -- the words of a line of a bench are those of the line
@@ -161,13 +167,16 @@ one_by_one : (b1 b2 b3 b4 b5 b6 b7 b8 end more : List ℕ)
     ≡ b1 ++ (end ++ (b2 ++ (end ++ (b3 ++ (end ++ (b4 ++ (end ++ (b5 ++ (end ++ (b6 ++ (end ++ (b7 ++ (end ++ (b8 ++ (end ++ more)))))))))))))))
 one_by_one b1 b2 b3 b4 b5 b6 b7 b8 end more = simp append_assoc
 
--- no line of the text is bad, the first of which has this number
+-- no line of the text is bad, the first of which has this number, and none calls a store
 record IsGoodFrom (n : ℕ) (text : List ℕ) : Type 0 where
   pub good : (script_from false n (pieces 10 text)).bad ≡ None
+  pub plain : ArePlain (script_from false n (pieces 10 text)).lines
 
 -- a text is good where what follows its first line is
 goes_on : {n : ℕ} (line : Line) (text : List ℕ) {more : List ℕ} → text ≡ line_text line → IsSaid line → IsGoodFrom (n + 1) more → IsGoodFrom n (text ++ 10 ∷ more)
-goes_on {n} line text {more} spelled is rest = record { good = good_line n line text more spelled is ∙ rest.good }
+goes_on {n} line text {more} spelled is rest =
+    let first = good_line n line text more spelled is in
+    record { good = ap (λ (s : Script). s.bad) first ∙ rest.good; plain = subst (λ (s : Script). ArePlain s.lines) (sym first) (is.plain, rest.plain) }
 
 -- a round, and what follows it
 round_good : (n p q i j v w : ℕ) (more : List ℕ) → p < 64 → q < 64 → i < 16 → j < 16 → v < 256 → w < 256 → ((m : ℕ) → IsGoodFrom m more)
@@ -193,7 +202,7 @@ round_good n p q i j v w more first second place other byte last good =
 -- so is the text of any number of rounds
 text_good : (count x n : ℕ) → IsGoodFrom n (bench_text count x)
 unfolding bench_text
-text_good zero x n = record { good = refl }
+text_good zero x n = record { good = refl; plain = tt }
 text_good (suc count) x n =
     round_good n (nth_drawn x 1 64) (nth_drawn x 2 64) (nth_drawn x 3 16) (nth_drawn x 4 16) (nth_drawn x 5 256) (nth_drawn x 6 256) (bench_text count (after_draws 6 x))
     (omega arith) (omega arith) (omega arith) (omega arith) (omega arith) (omega arith) (text_good count (after_draws 6 x))
@@ -214,13 +223,20 @@ text_size (suc count) x =
       round_size (nth_drawn x 1 64) (nth_drawn x 2 64) (nth_drawn x 3 16) (nth_drawn x 4 16) (nth_drawn x 5 256) (nth_drawn x 6 256) (omega arith) (omega arith) (omega arith) (omega arith),
     )
 
--- a text that is not cut is good where its lines are
-whole_text : (text : List ℕ) (most : ℕ) → length text < most → IsGoodFrom 1 text → (script_from (nat_le most (length text)) 1 (pieces 10 (take most text))).bad ≡ None
-whole_text text most short is =
-    ap (λ (cut : Bool). (script_from cut 1 (pieces 10 (take most text))).bad) (lt-leb most (length text) short)
-    ∙ ap (λ (t : List ℕ). (script_from false 1 (pieces 10 t)).bad) (take_all most text (omega (arith, short))) ∙ is.good
+-- a text that is not cut is read whole
+whole_text : (text : List ℕ) (most : ℕ) → length text < most → script_from (nat_le most (length text)) 1 (pieces 10 (take most text)) ≡ script_from false 1 (pieces 10 text)
+whole_text text most short =
+    ap (λ (cut : Bool). script_from cut 1 (pieces 10 (take most text))) (lt-leb most (length text) short)
+    ∙ ap (λ (t : List ℕ). script_from false 1 (pieces 10 t)) (take_all most text (omega (arith, short)))
+
+script_is : (seed count : ℕ) → count ≤ 100000 → script (bench_text count seed) ≡ script_from false 1 (pieces 10 (bench_text count seed))
+unfolding script
+script_is seed count few = whole_text (bench_text count seed) MAX_INPUT (omega (arith, text_size count seed, few))
 
 -- no line of a script of a bench is bad
 pub scripts_are_good : (seed count : ℕ) → count ≤ 100000 → (script (bench_text count seed)).bad ≡ None
-unfolding script
-scripts_are_good seed count few = whole_text (bench_text count seed) MAX_INPUT (omega (arith, text_size count seed, few)) (text_good count seed 1)
+scripts_are_good seed count few = ap (λ (s : Script). s.bad) (script_is seed count few) ∙ (text_good count seed 1).good
+
+-- and none calls a store
+pub scripts_are_plain : (seed count : ℕ) → count ≤ 100000 → ArePlain (script (bench_text count seed)).lines
+scripts_are_plain seed count few = subst (λ (s : Script). ArePlain s.lines) (sym (script_is seed count few)) (text_good count seed 1).plain

@@ -3,7 +3,7 @@ use Rattle.std.proofs.Common.{◌≡◌, ◌∙◌, sym, refl, ap, ℕ, ◌+◌,
 use Rattle.std.specs.Prelude.{filter}
 use Rattle.std.specs.Cmp.Lexicographic.{pointwise}
 use Rattle.iso_model.specs.declared.script.Reply.{Reply}
-use Rattle.iso_model.specs.declared.script.Reply.TheVariants.{Done, Began, Shown, Committed, ReadOnly, Conflict, Trimmed, Compacted, Upgraded, Numbers, InTx, NotInTx, ModeFixed, BadBlock, BadRange, NoAccess, TooManyMarks, TooManyAccesses, NoHandle, LabelTaken, TooManyTx, Worn, LogFull}
+use Rattle.iso_model.specs.declared.script.Reply.TheVariants.{Done, Began, Shown, Committed, ReadOnly, Conflict, Trimmed, Compacted, Upgraded, Numbers, Found, Missing, InTx, NotInTx, ModeFixed, NoStore, StoreMode, BadKey, BadValue, BadBlock, BadRange, NoAccess, TooManyMarks, TooManyAccesses, Broken, NoBlocks, NoHandle, LabelTaken, TooManyTx, Worn, LogFull}
 use Rattle.iso_model.specs.Bench.{is_committed, is_conflict}
 use Rattle.iso_model.specs.Text.{digit_of, reply_text}
 use Rattle.bench_script.specs.declared.line_kind.LineKind.{LineKind}
@@ -25,6 +25,11 @@ and_no false = refl
 abbrev starts : (word text : List ℕ) → Bool
 starts word text = pointwise nat_eq word (take (length word) text)
 
+found_starts : (bytes : List ℕ) → starts (codes "ok comm") (reply_text (Found bytes)) ≡ false
+unfolding reply_text
+found_starts [] = refl
+found_starts (b ∷ bytes) = rw (no_letter b) (and_no (nat_eq 99 (digit_of (b / 16))))
+
 shown_starts : (bytes : List ℕ) → starts (codes "ok comm") (reply_text (Shown bytes)) ≡ false
 unfolding reply_text
 shown_starts [] = refl
@@ -43,6 +48,14 @@ kind_by_text (Trimmed n) = refl
 kind_by_text (Compacted n) = refl
 kind_by_text (Upgraded n) = refl
 kind_by_text (Numbers last base trim live used versions) = refl
+kind_by_text (Found bytes) = ap (λ t. by_tests t false) (found_starts bytes)
+kind_by_text Missing = refl
+kind_by_text NoStore = refl
+kind_by_text StoreMode = refl
+kind_by_text BadKey = refl
+kind_by_text BadValue = refl
+kind_by_text (Broken block) = refl
+kind_by_text (NoBlocks need free) = refl
 kind_by_text InTx = refl
 kind_by_text NotInTx = refl
 kind_by_text ModeFixed = refl

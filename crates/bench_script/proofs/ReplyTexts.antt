@@ -5,8 +5,8 @@ use Rattle.std.specs.Fmt.{digits, digits_onto, digit_glyph}
 use Rattle.std.proofs.lemmas.Bool.{ne_eqb}
 use Rattle.std.proofs.lemmas.List.Folds.{list_all-append}
 use Rattle.iso_model.specs.declared.script.Reply.{Reply}
-use Rattle.iso_model.specs.declared.script.Reply.TheVariants.{Done, Began, Shown, Committed, ReadOnly, Conflict, Trimmed, Compacted, Upgraded, Numbers, InTx, NotInTx, ModeFixed, BadBlock, BadRange, NoAccess, TooManyMarks, TooManyAccesses, NoHandle, LabelTaken, TooManyTx, Worn, LogFull}
-use Rattle.iso_model.specs.Text.{digit_of, hex_text, reply_text}
+use Rattle.iso_model.specs.declared.script.Reply.TheVariants.{Done, Began, Shown, Committed, ReadOnly, Conflict, Trimmed, Compacted, Upgraded, Numbers, Found, Missing, InTx, NotInTx, ModeFixed, NoStore, StoreMode, BadKey, BadValue, BadBlock, BadRange, NoAccess, TooManyMarks, TooManyAccesses, Broken, NoBlocks, NoHandle, LabelTaken, TooManyTx, Worn, LogFull}
+use Rattle.iso_model.specs.Text.{dashed, digit_of, hex_text, reply_text}
 
 -- the byte is another one
 abbrev pub is_other : ℕ → ℕ → Bool
@@ -61,6 +61,11 @@ numbered word n all = record { all = both 10 word (decimal n) all (no_feed n) }
 numbered_on : {text : List ℕ} (word : List ℕ) (n : ℕ) → list_all (is_other 10) word ≡ true → IsFeedless text → IsFeedless (text ++ word ++ decimal n)
 numbered_on {text} word n all before = record { all = both 10 (text ++ word) (decimal n) (both 10 text word before.all all) (no_feed n) }
 
+-- a key or a value
+dashed_bytes : (bytes : List ℕ) → list_all (is_other 10) (dashed bytes) ≡ true
+dashed_bytes [] = refl
+dashed_bytes (b ∷ bytes) = hex_bytes (b ∷ bytes)
+
 -- no reply has a line feed
 pub reply_has_no_feed : (reply : Reply) → list_all (is_other 10) (reply_text reply) ≡ true
 unfolding reply_text
@@ -77,6 +82,14 @@ reply_has_no_feed (Upgraded n) = (numbered (codes "ok upgrade ") n refl).all
 reply_has_no_feed (Numbers last base trim live used versions) =
     (numbered_on (codes " versions ") versions refl (numbered_on (codes " used ") used refl (numbered_on (codes " live ") live refl (numbered_on (codes " trim ") trim refl
     (numbered_on (codes " base ") base refl (numbered (codes "ok last ") last refl)))))).all
+reply_has_no_feed (Found value) = both 10 (codes "ok ") (dashed value) refl (dashed_bytes value)
+reply_has_no_feed Missing = refl
+reply_has_no_feed NoStore = refl
+reply_has_no_feed StoreMode = refl
+reply_has_no_feed BadKey = refl
+reply_has_no_feed BadValue = refl
+reply_has_no_feed (Broken block) = (numbered (codes "broken block ") block refl).all
+reply_has_no_feed (NoBlocks need free) = (numbered_on (codes " free ") free refl (numbered (codes "no-blocks need ") need refl)).all
 reply_has_no_feed InTx = refl
 reply_has_no_feed NotInTx = refl
 reply_has_no_feed ModeFixed = refl

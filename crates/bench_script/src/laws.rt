@@ -2,11 +2,13 @@
 ghost use Rattle.std.specs.Prelude.{◌≡◌, ℕ, ◌≤◌, None};
 ghost use Rattle.iso_model.specs.Bench.{bench_text};
 ghost use Rattle.iso_model.specs.Script.{script};
+ghost use Rattle.script_runner.specs.Told.{ArePlain};
 ghost use Rattle.bench_script.specs.Ends.{DrawnState, drawn_state};
 
-/// No line of a bench is bad: it is read to its end.
+/// No line of a bench is bad: it is read to its end. No line calls a store.
 pub fn drawn_scripts_are_good()
-    ensures { (seed count : ℕ) → count ≤ 100000 → (script (bench_text count seed)).bad ≡ None }
+    ensures good { (seed count : ℕ) → count ≤ 100000 → (script (bench_text count seed)).bad ≡ None }
+    ensures plain { (seed count : ℕ) → count ≤ 100000 → ArePlain (script (bench_text count seed)).lines }
 {}
 
 /// The script of a bench never fails as a source.

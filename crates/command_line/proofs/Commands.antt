@@ -9,13 +9,17 @@ use Rattle.command_line.specs.Grammar.{rows_found}
 use Rattle.command_line.specs.Requests.{geometry_of, geometry_with, request_of, task_of}
 use Rattle.command_line.specs.Values.{long_number_of}
 
-pub commands_have_their_tasks-new : request_of (words_of (codes "isotope new a")) ≡ Some (codes "a", New (geometry_with 4096 1024 4194304 Serial))
+pub commands_have_their_tasks-new : request_of (words_of (codes "isotope new a")) ≡ Some (codes "a", New (geometry_with 4096 1024 4194304 Serial 0))
 unfolding clap_on_literals words_of request_of rows_found task_of geometry_of number_of is_valid long_number_of
 commands_have_their_tasks-new = refl
 
-pub commands_have_their_tasks-new_with_options : request_of (words_of (codes "isotope new a --block-size 64 --blocks 16384 --log 67108864 --mode snapshot")) ≡ Some (codes "a", New (geometry_with 64 16384 67108864 Snapshot))
+pub commands_have_their_tasks-new_with_options : request_of (words_of (codes "isotope new a --block-size 64 --blocks 16384 --log 67108864 --mode snapshot")) ≡ Some (codes "a", New (geometry_with 64 16384 67108864 Snapshot 0))
 unfolding clap_on_literals words_of request_of rows_found task_of geometry_of number_of is_valid long_number_of
 commands_have_their_tasks-new_with_options = refl
+
+pub commands_have_their_tasks-new_with_a_store : request_of (words_of (codes "isotope new a --hash 8")) ≡ Some (codes "a", New (geometry_with 4096 1024 4194304 Serial 8))
+unfolding clap_on_literals words_of request_of rows_found task_of geometry_of number_of is_valid long_number_of
+commands_have_their_tasks-new_with_a_store = refl
 
 pub commands_have_their_tasks-run : request_of (words_of (codes "isotope run a")) ≡ Some (codes "a", Run)
 unfolding clap_on_literals words_of request_of rows_found task_of geometry_of number_of is_valid long_number_of
@@ -33,15 +37,15 @@ pub commands_have_their_tasks-bench_of_nothing : request_of (words_of (codes "is
 unfolding clap_on_literals words_of request_of rows_found task_of geometry_of number_of is_valid long_number_of
 commands_have_their_tasks-bench_of_nothing = refl
 
-pub options_stand_anywhere_behind_the_command-before : request_of (words_of (codes "isotope new --log=64 a --mode serial")) ≡ Some (codes "a", New (geometry_with 4096 1024 64 Serial))
+pub options_stand_anywhere_behind_the_command-before : request_of (words_of (codes "isotope new --log=64 a --mode serial")) ≡ Some (codes "a", New (geometry_with 4096 1024 64 Serial 0))
 unfolding clap_on_literals words_of request_of rows_found task_of geometry_of number_of is_valid long_number_of
 options_stand_anywhere_behind_the_command-before = refl
 
-pub options_stand_anywhere_behind_the_command-behind : request_of (words_of (codes "isotope new a --blocks=1 --block-size=128")) ≡ Some (codes "a", New (geometry_with 128 1 4194304 Serial))
+pub options_stand_anywhere_behind_the_command-behind : request_of (words_of (codes "isotope new a --blocks=1 --block-size=128")) ≡ Some (codes "a", New (geometry_with 128 1 4194304 Serial 0))
 unfolding clap_on_literals words_of request_of rows_found task_of geometry_of number_of is_valid long_number_of
 options_stand_anywhere_behind_the_command-behind = refl
 
-pub options_stand_anywhere_behind_the_command-ended : request_of (words_of (codes "isotope new --log 64 -- a")) ≡ Some (codes "a", New (geometry_with 4096 1024 64 Serial))
+pub options_stand_anywhere_behind_the_command-ended : request_of (words_of (codes "isotope new --log 64 -- a")) ≡ Some (codes "a", New (geometry_with 4096 1024 64 Serial 0))
 unfolding clap_on_literals words_of request_of rows_found task_of geometry_of number_of is_valid long_number_of
 options_stand_anywhere_behind_the_command-ended = refl
 
@@ -49,7 +53,7 @@ pub options_stand_anywhere_behind_the_command-ended_behind : request_of (words_o
 unfolding clap_on_literals words_of request_of rows_found task_of geometry_of number_of is_valid long_number_of
 options_stand_anywhere_behind_the_command-ended_behind = refl
 
-pub options_stand_anywhere_behind_the_command-an_option_behind_the_end : request_of (words_of (codes "isotope new -- --log=64")) ≡ Some (codes "--log=64", New (geometry_with 4096 1024 4194304 Serial))
+pub options_stand_anywhere_behind_the_command-an_option_behind_the_end : request_of (words_of (codes "isotope new -- --log=64")) ≡ Some (codes "--log=64", New (geometry_with 4096 1024 4194304 Serial 0))
 unfolding clap_on_literals words_of request_of rows_found task_of geometry_of number_of is_valid long_number_of
 options_stand_anywhere_behind_the_command-an_option_behind_the_end = refl
 

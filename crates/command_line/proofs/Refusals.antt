@@ -71,7 +71,7 @@ pub these_words_have_a_wrong_option-of_another_command : request_of (words_of (c
 unfolding clap_on_literals words_of request_of rows_found task_of geometry_of number_of is_valid long_number_of
 these_words_have_a_wrong_option-of_another_command = refl
 
-pub these_words_have_a_wrong_option-closed : request_of (words_of (codes "isotope new a --hash 4")) ≡ None
+pub these_words_have_a_wrong_option-closed : request_of (words_of (codes "isotope new a --tree 4")) ≡ None
 unfolding clap_on_literals words_of request_of rows_found task_of geometry_of number_of is_valid long_number_of
 these_words_have_a_wrong_option-closed = refl
 

@@ -63,6 +63,14 @@ pub these_words_have_a_wrong_value-block_size : request_of (words_of (codes "iso
 unfolding clap_on_literals words_of request_of rows_found task_of geometry_of number_of is_valid long_number_of
 these_words_have_a_wrong_value-block_size = refl
 
+pub these_words_have_a_wrong_value-small_store : request_of (words_of (codes "isotope new a --hash 2")) ≡ None
+unfolding clap_on_literals words_of request_of rows_found task_of geometry_of number_of is_valid long_number_of
+these_words_have_a_wrong_value-small_store = refl
+
+pub these_words_have_a_wrong_value-store_in_snapshot_mode : request_of (words_of (codes "isotope new a --hash 8 --mode snapshot")) ≡ None
+unfolding clap_on_literals words_of request_of rows_found task_of geometry_of number_of is_valid long_number_of
+these_words_have_a_wrong_value-store_in_snapshot_mode = refl
+
 pub these_words_have_a_wrong_value-mode : request_of (words_of (codes "isotope new a --mode Serial")) ≡ None
 unfolding clap_on_literals words_of request_of rows_found task_of geometry_of number_of is_valid long_number_of
 these_words_have_a_wrong_value-mode = refl

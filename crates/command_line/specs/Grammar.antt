@@ -29,7 +29,7 @@ image_app name = with_rule (bare_app name) (placed_rule (codes "IMAGE"))
 
 -- the options of a new image that are open
 abbrev pub new_options : List Text
-new_options = codes "block-size" ∷ codes "blocks" ∷ codes "log" ∷ codes "mode" ∷ []
+new_options = codes "block-size" ∷ codes "blocks" ∷ codes "log" ∷ codes "mode" ∷ codes "hash" ∷ []
 
 -- the command that makes an image and answers a script
 abbrev pub new_image_app : App

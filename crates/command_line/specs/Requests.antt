@@ -10,14 +10,14 @@ use Rattle.command_line.specs.declared.task.Task.TheVariants.{New, Run, Recover,
 use Rattle.command_line.specs.Grammar.{rows_found}
 use Rattle.command_line.specs.Values.{count_of, long_number_of, mode_or_serial, number_or}
 
--- an image without regions
-abbrev pub geometry_with : (block blocks log : ℕ) → Mode → Geometry
-geometry_with block blocks log mode = record {
+-- an image without a tree store
+abbrev pub geometry_with : (block blocks log : ℕ) → Mode → (hash : ℕ) → Geometry
+geometry_with block blocks log mode hash = record {
   block = block;
   blocks = blocks;
   log = log;
   mode = mode;
-  hash = 0;
+  hash = hash;
   tree = 0;
   form = 1;
 }
@@ -29,8 +29,9 @@ if_valid g = if is_valid g then Some g else None
 -- The geometry of a new image, with what is not given by default. None where a value is not in the grammar.
 unfoldable pub geometry_of : List Row → Option Geometry
 geometry_of rows =
-    option_and_then (λ block. option_and_then (λ blocks. option_and_then (λ log. option_and_then (λ mode.
-    if_valid (geometry_with block blocks log mode))
+    option_and_then (λ block. option_and_then (λ blocks. option_and_then (λ log. option_and_then (λ mode. option_and_then (λ hash.
+    if_valid (geometry_with block blocks log mode hash))
+    (number_or 0 (first_of (codes "hash") rows)))
     (mode_or_serial (first_of (codes "mode") rows)))
     (number_or 4194304 (first_of (codes "log") rows)))
     (number_or 1024 (first_of (codes "blocks") rows)))
@@ -71,9 +72,9 @@ made_geometry Run = None
 made_geometry Recover = None
 made_geometry (Bench seed count) = Some bench_geometry
 
--- a geometry that words may ask for: within its limits, of the first form, and without regions
+-- a geometry that words may ask for: within its limits, of the first form, and without a tree store
 abbrev pub IsOpenGeometry : Geometry → Type 0
-IsOpenGeometry g = IsTrue (is_valid g) × (g.form ≡ 1) × (g.hash ≡ 0) × (g.tree ≡ 0)
+IsOpenGeometry g = IsTrue (is_valid g) × (g.form ≡ 1) × (g.tree ≡ 0)
 
 -- what a task that the words ask for keeps
 abbrev pub KeepsLimits : Task → Type 0

@@ -51,7 +51,8 @@ fn new_command<'a>(alloc: Global) -> Result<Command<'a>, AllocError>
         .arg(valued(alloc, "block-size"))?
         .arg(valued(alloc, "blocks"))?
         .arg(valued(alloc, "log"))?
-        .arg(valued(alloc, "mode"))
+        .arg(valued(alloc, "mode"))?
+        .arg(valued(alloc, "hash"))
 }
 
 /// The command that makes an image and answers a script that is drawn.

@@ -22,14 +22,14 @@ pub fn every_image_is_opened()
 
 /// Every image of every geometry that keeps the limits can be asked for.
 pub fn every_geometry_is_made()
-    ensures { (program image b n l m : Text) (block blocks log : ℕ) (mode : Mode)
+    ensures { (program image b n l m h : Text) (block blocks log : ℕ) (mode : Mode) (hash : ℕ)
         → number_of b ≡ Some block → number_of n ≡ Some blocks
-        → number_of l ≡ Some log → mode_of m ≡ Some mode
-        → IsTrue (is_valid (geometry_with block blocks log mode))
+        → number_of l ≡ Some log → mode_of m ≡ Some mode → number_of h ≡ Some hash
+        → IsTrue (is_valid (geometry_with block blocks log mode hash))
         → request_of (program ∷ codes "new"
         ∷ (codes "--block-size=" ++ b) ∷ (codes "--blocks=" ++ n)
-        ∷ (codes "--log=" ++ l) ∷ (codes "--mode=" ++ m) ∷ codes "--" ∷ image ∷ [])
-        ≡ Some (image, New (geometry_with block blocks log mode)) }
+        ∷ (codes "--log=" ++ l) ∷ (codes "--mode=" ++ m) ∷ (codes "--hash=" ++ h) ∷ codes "--" ∷ image ∷ [])
+        ≡ Some (image, New (geometry_with block blocks log mode hash)) }
 {}
 
 /// Every seed and every number of rounds that keeps its limit can be asked for.

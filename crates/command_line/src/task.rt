@@ -67,12 +67,13 @@ fn geometry_of(matches: &ArgMatches<'_>) -> Option<Geometry>
     let blocks = number_or(1024, text_of(matches, "blocks"))?;
     let log = number_or(4_194_304, text_of(matches, "log"))?;
     let mode = mode_or_serial(text_of(matches, "mode"))?;
+    let hash = number_or(0, text_of(matches, "hash"))?;
     if_valid(Geometry {
         block,
         blocks,
         log,
         mode,
-        hash: 0,
+        hash,
         tree: 0,
         form: 1,
     })

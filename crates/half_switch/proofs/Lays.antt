@@ -9,8 +9,8 @@ use Rattle.iso_model.specs.declared.access.Run.{Run}
 use Rattle.iso_model.specs.Array.{Array, byte_at, in_span}
 use Rattle.iso_model.specs.Effect.{or_else, own}
 use Rattle.iso_model.specs.History.{all_own}
-use Rattle.iso_model.specs.Image.{AreRuns, IsRecord, IsRun, Written, blocks_of, commit_of, commits_of}
-use Rattle.iso_model.specs.Premises.{HasBytes, block_at, recorded, value_in, value_of}
+use Rattle.iso_model.specs.Image.{AreRuns, IsRecord, IsRun, Written, blocks_of, commit_of, commits_of, recorded}
+use Rattle.iso_model.specs.Premises.{HasBytes, block_at, value_in, value_of}
 use Rattle.iso_model.proofs.Bytes.{own_at}
 use Rattle.iso_model.proofs.Recorded.{HasSize, effect_recorded, length-recorded, own_size, same_arrays}
 use Rattle.iso_disk.specs.Disk.{spliced}

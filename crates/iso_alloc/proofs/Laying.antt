@@ -1,12 +1,8 @@
 -- Bytes that are laid into a block.
-use Rattle.std.proofs.Common.{◌≡◌, ◌∙◌, ap, ℕ, ◌+◌, ◌≤◌, List, ◌++◌, length, take, drop, arith, length-append}
-use Rattle.std.proofs.lemmas.List.{length-take-le, length-drop, take_at, drop_at}
+use Rattle.std.proofs.Common.{◌≡◌, ◌∙◌, ap, ℕ, ◌+◌, ◌≤◌, List, ◌++◌, length, take, drop, arith}
+use Rattle.std.proofs.lemmas.List.{length-take-le, take_at, drop_at}
 use Rattle.iso_model.specs.Stores.{bytes_in}
 use Rattle.iso_model.specs.Cells.{laid_at}
-
-pub length-laid_at : (at : ℕ) (bytes block : List ℕ) → at + length bytes ≤ length block → length (laid_at at bytes block) ≡ length block
-length-laid_at at bytes block fits =
-    omega (arith, length-append (take at block) (bytes ++ drop (at + length bytes) block), length-append bytes (drop (at + length bytes) block), length-take-le at block (omega arith), length-drop (at + length bytes) block)
 
 -- the bytes that were laid
 pub laid_here : (at n : ℕ) (bytes block : List ℕ) → length bytes ≡ n → at + length bytes ≤ length block → bytes_in (record { off = at; len = n }) (laid_at at bytes block) ≡ bytes

@@ -33,7 +33,8 @@ use Rattle.iso_hash.proofs.Grown.{put_grown}
 use Rattle.iso_hash.proofs.Linking.{length-block_with}
 use Rattle.iso_hash.proofs.NewBlocks.{size_most, length-new_block}
 use Rattle.iso_hash.proofs.Puts.{HasPut, put_found, put_spare, length-with_cell, cells_fit}
-use Rattle.iso_hash.proofs.Ways.{Way, way, first_below, first_passes, cell_below, Found, IsSpare}
+use Rattle.iso_model.proofs.HashAccesses.{first_below}
+use Rattle.iso_hash.proofs.Ways.{Way, way, first_passes, cell_below, Found, IsSpare}
 
 -- what is done after a walk is done on the same array
 module _ {X : Type 0} (a : Area) (key : List ℕ) (f : Walked → Program X) (A : Array) where

@@ -10,7 +10,8 @@ use Rattle.iso_model.specs.Stores.{bytes_in}
 use Rattle.iso_model.specs.Cells.{cell_count, keys_end, keys_mark, key_mark, next_mark, word_at, is_part, block_with}
 use Rattle.iso_model.specs.FreeMap.{bit_place, bit_mark}
 use Rattle.iso_model.specs.HashRegion.{last_position, next_of, is_next, is_linked, chain_from, chain, AreLinked}
-use Rattle.iso_alloc.proofs.Laying.{length-laid_at, laid_here}
+use Rattle.iso_alloc.proofs.Laying.{laid_here}
+use Rattle.iso_model.proofs.Laying.{length-laid_at}
 use Rattle.iso_alloc.proofs.Loops.{all_at}
 use Rattle.iso_hash.proofs.Chains.{chain_is, head_of}
 use Rattle.iso_hash.proofs.Frames.{kept_1, laid_all, piece_of}

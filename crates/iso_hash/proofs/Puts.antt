@@ -14,7 +14,8 @@ use Rattle.iso_model.specs.Cells.{cell_count, keys_end, keys_mark, key_mark, val
 use Rattle.iso_model.specs.HashRegion.{view_of, buckets, bucket_of, chain, all_pairs, hash_map, IsIn, Stands, IsKeyed, HaveValues, IsHashRegion, IsHashArea}
 use Rattle.iso_model.specs.HashCalls.{with_cell}
 use Rattle.iso_model.proofs.Bytes.{length-block_put, written_block, other_block}
-use Rattle.iso_alloc.proofs.Laying.{length-laid_at, laid_here}
+use Rattle.iso_alloc.proofs.Laying.{laid_here}
+use Rattle.iso_model.proofs.Laying.{length-laid_at}
 use Rattle.iso_hash.proofs.Chains.{one_bucket, block_inside, placed}
 use Rattle.iso_hash.proofs.Frames.{kept_1, laid_all, laid_kept, length-part_of, part_is_part, part_text}
 use Rattle.iso_hash.proofs.Gets.{bucket_below}

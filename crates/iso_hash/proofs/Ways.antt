@@ -12,22 +12,11 @@ use Rattle.iso_model.specs.Conflict.{first_from}
 use Rattle.iso_model.specs.Premises.{block_at}
 use Rattle.iso_model.specs.Stores.{Program, Done, bytes_in, further_bytes, answer_of, accesses_of, AreReads}
 use Rattle.iso_model.specs.Cells.{cell_count, key_mark, value_mark, is_unused, key_at, cell_with, unused_cell}
+use Rattle.iso_model.proofs.HashAccesses.{first_below}
 use Rattle.iso_model.specs.HashRegion.{view_of, next_of, is_linked, chain_from, IsIn}
 use Rattle.iso_model.specs.HashCalls.{Walked, AtCell, AtEnd, AtBroken, spot_in, spare_in, at_cell, walk_from}
 
--- the number that is found first is one of those tried, and passes
-pub first_below : (test : ℕ → Bool) (i n j : ℕ) → first_from test i n ≡ Some j → j < i + n
-first_below test i zero j e = cc
-first_below test i (suc n) j e = elim (cases_Bool (test i)) [
-  | inl pass ↦
-      (let here : Some i ≡ Some j = sym (rw pass refl) ∙ e in
-      let same : i ≡ j = cc in
-      omega arith)
-  | inr fail ↦
-      (let ih = first_below test (i + 1) n j (sym (rw fail refl) ∙ e) in
-      omega arith)
-]
-
+-- the number that is found first passes
 pub first_passes : (test : ℕ → Bool) (i n j : ℕ) → first_from test i n ≡ Some j → test j ≡ true
 first_passes test i zero j e = cc
 first_passes test i (suc n) j e = elim (cases_Bool (test i)) [

@@ -6,8 +6,8 @@ use Rattle.iso_model.specs.declared.access.Geometry.{Geometry}
 use Rattle.iso_model.specs.Effect.{record_length, runs}
 use Rattle.iso_model.specs.Geometry.{log_place}
 use Rattle.iso_model.specs.History.{History, all_own, array_at, last}
-use Rattle.iso_model.specs.Image.{IsImage, IsLog, Shows, Written, commits_of, current_half, half_header, held, kind_of, records, spell, written}
-use Rattle.iso_model.specs.Premises.{IsHistory, recorded}
+use Rattle.iso_model.specs.Image.{IsImage, IsLog, Shows, Written, commits_of, current_half, half_header, held, kind_of, records, spell, written, recorded}
+use Rattle.iso_model.specs.Premises.{IsHistory}
 use Rattle.iso_model.specs.World.{World, Live, fresh, used}
 use Rattle.iso_model.specs.Step.{after_commit}
 use Rattle.iso_model.proofs.Held.{held_shows}

@@ -134,6 +134,9 @@ act_leads W c t op.Trim is isop here = is
 act_leads W c t op.Stat is isop here = is
 act_leads W c t op.Compact is isop here = is
 act_leads W c t op.Upgrade is isop here = is
+act_leads W c t (op.HashPut key value) is isop here = is
+act_leads W c t (op.HashGet key) is isop here = is
+act_leads W c t (op.HashDelete key) is isop here = is
 
 -- a release and a takeover, by who is where
 pub release_is : (W : World) (c : ℕ) (text : List ℕ) (o p : Option Live) → attached W c ≡ o → held W text ≡ p → step W c (op.Release text) ≡ in_transaction W o (λ t. release_step W t text p)

@@ -10,7 +10,7 @@ use Rattle.script_runner.specs.declared.machine.Stop.{Stop}
 use Rattle.script_runner.specs.declared.machine.Stop.TheVariants as stop
 use Rattle.script_runner.specs.Between.{IsBeforeOrAfter}
 use Rattle.script_runner.specs.Counts.{BlamesDisk}
-use Rattle.script_runner.specs.Told.{IfTold, SameButShown}
+use Rattle.script_runner.specs.Told.{IfTold, SameButShown, StandsSo}
 
 -- From the world W, the reply and the world are those that are given, but for bytes that are shown and that the disk does
 -- not tell. At each moment an image shows the world before or the world after.
@@ -19,6 +19,16 @@ pub record Answers (stands : World → Type 0) (old new : DiskState) (W : World)
   pub but_shown : IfOk result (λ r. SameButShown r given.0)
   pub told : OnOk result (IfTold old (IsSome new.contents))
   pub world : OnOk result (stands given.1)
+  pub moments : LeavesOnly old new (IsBeforeOrAfter W given.1)
+  pub up : ¬ IsErrOf result stop.Down
+  pub cause : BlamesDisk old.faults new.faults result
+
+-- So, but for what a store's call, which is not plain, does with bytes that the disk does not tell.
+pub record AnswersTold (stands : World → Type 0) (old new : DiskState) (W : World) (given : Reply × World) (plain : Type 0) (result : Result Reply Stop) : Type 0 where
+  pub reply : IfOk result (λ r. IfTold old (r ≡ given.0))
+  pub but_shown : plain → IfOk result (λ r. SameButShown r given.0)
+  pub told : OnOk result (IfTold old (IsSome new.contents))
+  pub world : OnOk result (StandsSo stands old plain given.1)
   pub moments : LeavesOnly old new (IsBeforeOrAfter W given.1)
   pub up : ¬ IsErrOf result stop.Down
   pub cause : BlamesDisk old.faults new.faults result

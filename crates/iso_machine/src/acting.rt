@@ -62,6 +62,9 @@ pub(crate) fn act<D: Disk>(
         | Op::Trim
         | Op::Stat
         | Op::Compact
-        | Op::Upgrade => Ok(Reply::NotInTx),
+        | Op::Upgrade
+        | Op::HashPut { .. }
+        | Op::HashGet { .. }
+        | Op::HashDelete { .. } => Ok(Reply::NotInTx),
     }
 }

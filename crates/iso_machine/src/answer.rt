@@ -8,6 +8,7 @@ ghost use Rattle.iso_model.specs.Worlds.{IsOp};
 use crate::acting::act;
 use crate::attached::index_at_client;
 use crate::machine::Machine;
+use crate::storing::store;
 use iso_disk::Disk;
 use iso_model::{Op, Reply};
 use script_runner::Stop;
@@ -15,8 +16,10 @@ use script_runner::Stop;
 impl<D: Disk> Machine<D> {
     ghost use Rattle.iso_core.specs.Core.{disk_of};
     ghost use Rattle.iso_machine.specs.Accessing.{act_step};
-    ghost use Rattle.iso_machine.specs.Answering.{Answers};
+    ghost use Rattle.iso_machine.specs.Answering.{Answers, AnswersTold};
     ghost use Rattle.iso_machine.specs.Standing.{IsMachineOf, core_of};
+    ghost use Rattle.iso_machine.specs.Storing.{store_act};
+    ghost use Rattle.script_runner.specs.Told.{IsPlain};
 
     /// An access or a mark of a client's transaction.
     fn access(&mut self, client: u8, op: &Op) -> Result<Reply, Stop>
@@ -65,12 +68,31 @@ impl<D: Disk> Machine<D> {
         }
     }
 
+    /// An operation on the hash store by a client's transaction.
+    fn stored(&mut self, client: u8, op: &Op) -> Result<Reply, Stop>
+        requires { (W : World) × IsMachineOf D.state self.old W }
+        ensures { (W : World) → IsMachineOf D.state self.old W
+            → AnswersTold (IsMachineOf D.state self.new) (D.state (disk_of (core_of self.old))) (D.state (disk_of (core_of self.new))) W (in_transaction W (attached W client) (λ t. store_act W t op.now)) ⊥ result }
+    {
+        let Some(i) = index_at_client(&self.live, client) else {
+            return Ok(Reply::NotInTx);
+        };
+        let attached = &mut self.live[i];
+        store(
+            self.alloc,
+            &mut self.core,
+            attached.tx,
+            &mut *attached.work,
+            op,
+        )
+    }
+
     /// Does what a client asks for, and answers it.
     #[inline(always)]
     pub(crate) fn answer(&mut self, client: u8, op: &Op) -> Result<Reply, Stop>
         requires { (W : World) × IsMachineOf D.state self.old W }
         ensures { (W : World) → IsMachineOf D.state self.old W → IsOp op.now
-            → Answers (IsMachineOf D.state self.new) (D.state (disk_of (core_of self.old))) (D.state (disk_of (core_of self.new))) W (step W client op.now) result }
+            → AnswersTold (IsMachineOf D.state self.new) (D.state (disk_of (core_of self.old))) (D.state (disk_of (core_of self.new))) W (step W client op.now) (IsPlain op.now) result }
     {
         match op {
             Op::Put { .. }
@@ -88,6 +110,9 @@ impl<D: Disk> Machine<D> {
             Op::End => self.end(client),
             Op::Compact => self.compact(),
             Op::Upgrade => self.upgrade(),
+            Op::HashPut { .. } | Op::HashGet { .. } | Op::HashDelete { .. } => {
+                self.stored(client, op)
+            }
         }
     }
 }

@@ -6,12 +6,14 @@ mod acting;
 mod answer;
 mod attached;
 mod begin;
+mod calling;
 mod ending;
 mod handles;
 mod leaving;
 mod machine;
 mod reading;
 mod refusing;
+mod storing;
 mod switching;
 
 pub use machine::Machine;

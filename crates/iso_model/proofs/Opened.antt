@@ -17,9 +17,9 @@ use Rattle.iso_model.specs.Array.{Array}
 use Rattle.iso_model.specs.Effect.{covers, runs, record_length}
 use Rattle.iso_model.specs.Geometry.{image_size, base_place, log_place}
 use Rattle.iso_model.specs.History.{History}
-use Rattle.iso_model.specs.Image.{AreRuns, IsRecord, IsImage, Written, written, commit_of, commits_of, records, spell, part, kind_of, blocks_of, chosen_half}
+use Rattle.iso_model.specs.Image.{AreRuns, IsRecord, IsImage, Written, written, commit_of, commits_of, records, spell, part, kind_of, blocks_of, chosen_half, recorded}
 use Rattle.iso_model.specs.Isolation.{IsIsolated, IsIsolatedAt}
-use Rattle.iso_model.specs.Premises.{block_at, AreAccesses, AreBytes, recorded}
+use Rattle.iso_model.specs.Premises.{block_at, AreAccesses, AreBytes}
 use Rattle.iso_model.specs.World.{used, fresh}
 use Rattle.iso_model.specs.Worlds.{IsWorld}
 use Rattle.iso_model.proofs.ByteLists.{no_bytes, bytes_back, bytes_drop, bytes_front, bytes_take}

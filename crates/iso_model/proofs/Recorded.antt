@@ -12,9 +12,9 @@ use Rattle.iso_model.specs.declared.access.Kind.TheVariants.{Write}
 use Rattle.iso_model.specs.Array.{Array, in_span, byte_at, put}
 use Rattle.iso_model.specs.Effect.{is_write, covers, or_else, effect_at, own, runs}
 use Rattle.iso_model.specs.History.{History, array_at, all_own}
-use Rattle.iso_model.specs.Image.{AreRuns, SameEffect, SameCommit, written, commits_of}
+use Rattle.iso_model.specs.Image.{AreRuns, SameEffect, SameCommit, written, commits_of, recorded}
 use Rattle.iso_model.specs.Step.{put_access}
-use Rattle.iso_model.specs.Premises.{block_at, AreBytes, HasShape, HasBytes, AreAccesses, IsHistory, in_run, value_of, value_in, recorded}
+use Rattle.iso_model.specs.Premises.{block_at, AreBytes, HasShape, HasBytes, AreAccesses, IsHistory, in_run, value_of, value_in}
 use Rattle.iso_model.proofs.ByteLists.{merged_bytes}
 use Rattle.iso_model.proofs.Bytes.{written_block, other_block, own_at, length-own, length-block_own}
 use Rattle.iso_model.proofs.Lookups.{value_runs}
@@ -106,7 +106,7 @@ own_size g A accesses size = record {
 }
 
 -- writes of bytes leave bytes
-put_values : (A : Array) (w : Access) → ((b : ℕ) → AreBytes (block_at A b)) → AreBytes w.bytes → (b : ℕ) → AreBytes (block_at (put A w) b)
+pub put_values : (A : Array) (w : Access) → ((b : ℕ) → AreBytes (block_at A b)) → AreBytes w.bytes → (b : ℕ) → AreBytes (block_at (put A w) b)
 put_values A w values bytes b = elim (cases_eq b w.block) [
   | inl e ↦ rw e (rw (written_block A w) (merged_bytes w.spans 0 (block_at A w.block) w.bytes (values w.block) bytes))
   | inr other ↦ rw (other_block A w b other) (values b)

@@ -3,13 +3,13 @@ use Rattle.std.proofs.Common.{◌≡◌, refl, ℕ, ◌+◌, ◌-◌, ◌*◌, �
 use Rattle.std.proofs.lemmas.Bool.{and_parts, leb-true}
 use Rattle.iso_model.specs.declared.limits.TheConstants.{MAX_INPUT, MAX_LINE}
 use Rattle.iso_model.specs.declared.script.Op.{Op}
-use Rattle.iso_model.specs.declared.script.Op.TheVariants.{Begin, End, Abort, Put, Read, Get, Write, Fill, Mark, Release, Takeover, Await, Trim, Stat, Compact, Upgrade}
+use Rattle.iso_model.specs.declared.script.Op.TheVariants.{Begin, End, Abort, Put, Read, Get, Write, Fill, Mark, Release, Takeover, Await, Trim, Stat, Compact, Upgrade, HashPut, HashGet, HashDelete}
 use Rattle.std.specs.List.{AllByRecursion}
 use Rattle.iso_model.specs.declared.script.Line.{Line}
 use Rattle.iso_model.specs.declared.script.Parsed.{Parsed}
 use Rattle.iso_model.specs.declared.script.Parsed.TheVariants.{Skip, Line as Says}
 use Rattle.iso_model.specs.Premises.{AreBytes}
-use Rattle.iso_model.specs.Script.{◌>>=◌, without_return, bad_line, bare, begin_arguments, put_arguments, one_number, two_numbers, three_numbers, number_and_bytes, one_label, number_argument, hex_argument, label_argument, mode_argument, operation_of, other_operation, said, parse, parse_whole, last_piece, before_script, script_from, script, client_in_range, no_lines, Script}
+use Rattle.iso_model.specs.Script.{◌>>=◌, without_return, bad_line, bare, begin_arguments, put_arguments, one_number, two_numbers, three_numbers, number_and_bytes, one_label, number_argument, hex_argument, label_argument, mode_argument, operation_of, other_operation, one_key, key_and_value, store_argument, store_operation, said, parse, parse_whole, last_piece, before_script, script_from, script, client_in_range, no_lines, Script}
 use Rattle.iso_model.specs.Text.{is_empty, pieces, words_of, is_digit, hex_digit, hex_pair, hex_pairs, hex_of, number_of, is_label, label_of}
 use Rattle.iso_model.specs.Worlds.{IsOp, AreLines}
 use Rattle.iso_model.proofs.ByteLists.{no_bytes, bytes_cons}
@@ -133,6 +133,29 @@ label_op op is (text ∷ []) =
     given_next (λ l. IsTrue (is_label l)) IsOp (label_argument text) _ (or_cause (λ l. IsTrue (is_label l)) (label_of text) 6 (label_is text)) (λ l good. given_one IsOp (op l) (is l good))
 label_op op is (text ∷ more ∷ words) = given_none IsOp 3
 
+store_given : (word : List ℕ) → IfGiven AreBytes (store_argument word)
+store_given word = given_cond AreBytes _ (Ok []) _ (given_one AreBytes [] no_bytes) (or_cause AreBytes (hex_of word) 5 (hex_bytes word))
+
+key_op : (op : List ℕ → Op) → ((key : List ℕ) → IsOp (op key)) → (words : List (List ℕ)) → IfGiven IsOp (one_key op words)
+key_op op is [] = given_none IsOp 3
+key_op op is (key ∷ []) = given_next AreBytes IsOp (store_argument key) _ (store_given key) (λ k are. given_one IsOp (op k) (is k))
+key_op op is (key ∷ more ∷ words) = given_none IsOp 3
+
+value_op : (op : List ℕ → List ℕ → Op) → ((key value : List ℕ) → AreBytes key → AreBytes value → IsOp (op key value)) → (words : List (List ℕ)) → IfGiven IsOp (key_and_value op words)
+value_op op is [] = given_none IsOp 3
+value_op op is (key ∷ []) = given_none IsOp 3
+value_op op is (key ∷ value ∷ []) =
+    given_next AreBytes IsOp (store_argument key) _ (store_given key) (λ k k_are.
+    given_next AreBytes IsOp (store_argument value) _ (store_given value) (λ v v_are. given_one IsOp (op k v) (is k v k_are v_are)))
+value_op op is (key ∷ value ∷ more ∷ words) = given_none IsOp 3
+
+store_op : (name : List ℕ) (words : List (List ℕ)) → IfGiven IsOp (store_operation name words)
+unfolding store_operation
+store_op name words =
+    given_cond IsOp _ (key_and_value HashPut words) _ (value_op HashPut (λ key value k_are v_are. (k_are, v_are)) words)
+    (given_cond IsOp _ (one_key HashGet words) _ (key_op HashGet (λ key. tt) words)
+    (given_cond IsOp _ (one_key HashDelete words) _ (key_op HashDelete (λ key. tt) words) (given_none IsOp 2)))
+
 other_op : (name : List ℕ) (words : List (List ℕ)) → IfGiven IsOp (other_operation name words)
 unfolding other_operation
 other_op name words =
@@ -142,7 +165,7 @@ other_op name words =
     (given_cond IsOp _ (bare Trim words) _ (bare_op IsOp Trim words tt)
     (given_cond IsOp _ (bare Stat words) _ (bare_op IsOp Stat words tt)
     (given_cond IsOp _ (bare Compact words) _ (bare_op IsOp Compact words tt)
-    (given_cond IsOp _ (bare Upgrade words) _ (bare_op IsOp Upgrade words tt) (given_none IsOp 2)))))))
+    (given_cond IsOp _ (bare Upgrade words) _ (bare_op IsOp Upgrade words tt) (store_op name words)))))))
 
 named_op : (name : List ℕ) (words : List (List ℕ)) → IfGiven IsOp (operation_of name words)
 unfolding operation_of

@@ -9,8 +9,8 @@ use Rattle.iso_model.specs.declared.access.Geometry.{Geometry}
 use Rattle.iso_model.specs.declared.access.Run.{Run}
 use Rattle.iso_model.specs.Array.{in_span}
 use Rattle.iso_model.specs.Effect.{or_else, runs}
-use Rattle.iso_model.specs.Image.{IsRun, AreRuns}
-use Rattle.iso_model.specs.Premises.{in_run, value_of, value_in, recorded}
+use Rattle.iso_model.specs.Image.{IsRun, AreRuns, recorded}
+use Rattle.iso_model.specs.Premises.{in_run, value_of, value_in}
 use Rattle.iso_model.proofs.Lookups.{value_runs, or_else_none, value_of_within, value_of_outside}
 use Rattle.iso_model.proofs.Maximal.{are_runs}
 use Rattle.iso_model.proofs.Recorded.{effect_recorded}

@@ -1,8 +1,8 @@
 -- Each step of a sound world leads to a sound one.
-use Rattle.std.proofs.Common.{◌≡◌, ◌≢◌, ◌∙◌, sym, refl, ap, ℕ, ◌+◌, ◌-◌, ◌<◌, ◌≤◌, Bool, true, false, ◌&&◌, ◌==◌, not, cond, IsTrue, List, [], ◌∷◌, ◌++◌, length, filter, drop, Option, Some, None, nat_le, nat_lt, replicate, sum_by, slice_index, arith, eq-eqb, subst}
+use Rattle.std.proofs.Common.{◌≡◌, ◌≢◌, ◌∙◌, sym, refl, ap, ℕ, ◌+◌, ◌-◌, ◌<◌, ◌≤◌, Bool, true, false, ◌&&◌, ◌==◌, not, cond, IsTrue, List, [], ◌∷◌, ◌++◌, length, filter, drop, Option, Some, None, Result, nat_le, nat_lt, replicate, sum_by, slice_index, arith, eq-eqb, subst}
 use Rattle.std.specs.List.{AllByRecursion}
 use Rattle.std.proofs.lemmas.Bool.{leb-false, ltb-false, eqb-false, eqb-true, not-false}
-use Rattle.std.proofs.lemmas.List.{append_assoc, append-nil, length_push, length-replicate, drop-append-le, drop-drop}
+use Rattle.std.proofs.lemmas.List.{append_assoc, append-nil, length-append, length_push, length-replicate, drop-append-le, drop-drop}
 use Rattle.std.proofs.lemmas.List.Sums.{sum_by-append, sum_by-take-drop}
 use Rattle.iso_model.specs.declared.access.Access.{Access}
 use Rattle.iso_model.specs.declared.access.Clash.{Clash}
@@ -15,18 +15,21 @@ use Rattle.iso_model.specs.declared.access.Span.{Span}
 use Rattle.iso_model.specs.declared.limits.TheConstants.{LAST, MAX_ACCESSES, MAX_LIVE}
 use Rattle.iso_model.specs.declared.script.Line.{Line}
 use Rattle.iso_model.specs.declared.script.Op.{Op}
-use Rattle.iso_model.specs.declared.script.Op.TheVariants.{Begin, End, Abort, Put, Read as ReadBlock, Get, Write as WriteBlock, Fill, Mark, Release, Takeover, Await, Trim, Stat, Compact, Upgrade}
+use Rattle.iso_model.specs.declared.script.Op.TheVariants.{Begin, End, Abort, Put, Read as ReadBlock, Get, Write as WriteBlock, Fill, Mark, Release, Takeover, Await, Trim, Stat, Compact, Upgrade, HashPut, HashGet, HashDelete}
 use Rattle.iso_model.specs.declared.script.Reply.{Reply}
 use Rattle.iso_model.specs.declared.script.Reply.TheVariants as reply
+use Rattle.iso_model.specs.declared.stores.StoreError.{StoreError}
 use Rattle.iso_model.specs.Conflict.{clash}
 use Rattle.iso_model.specs.Effect.{has_write, runs, record_length}
-use Rattle.iso_model.specs.Geometry.{same_mode}
-use Rattle.iso_model.specs.History.{History, last}
+use Rattle.iso_model.specs.Geometry.{is_serial, same_mode}
+use Rattle.iso_model.specs.HashCalls.{del_program, get_program, put_program}
+use Rattle.iso_model.specs.History.{History, array_at, last}
 use Rattle.iso_model.specs.Image.{IsRecord, written}
 use Rattle.iso_model.specs.Premises.{IsAccess, AreAccesses, AreBytes}
 use Rattle.iso_model.specs.Script.{after}
 use Rattle.iso_model.specs.Marks.{is_outside, marked, mark_fault}
-use Rattle.iso_model.specs.Step.{step, begin_step, access_step, put_step, read_step, get_step, write_step, fill_step, mark_step, marked_step, release_step, takeover_step, switch_step, commit_step, end_step, put_access, read_access, get_access, write_access, with_access, with_accesses, placed, shown_to, after_leaving, after_commit, after_begin, after_trim, mode_named, need, out_of_transaction, in_transaction}
+use Rattle.iso_model.specs.Step.{step, begin_step, access_step, put_step, read_step, get_step, write_step, fill_step, mark_step, marked_step, release_step, takeover_step, switch_step, commit_step, end_step, put_access, read_access, get_access, write_access, with_access, with_accesses, placed, shown_to, after_leaving, after_commit, after_begin, after_trim, mode_named, need, out_of_transaction, in_transaction, array_of, store_step, in_store, hash_area, hash_put_step, hash_get_step, hash_delete_step, found_reply, removed_reply}
+use Rattle.iso_model.specs.Stores.{Program, outcome}
 use Rattle.iso_model.specs.Text.{is_label}
 use Rattle.iso_model.specs.World.{World, Live, Place, client, label, used, fresh, attached, held, floor, without, with, is_at_client, is_under_label}
 use Rattle.iso_model.specs.Worlds.{MayHave, IsLive, AreRecords, AreApart, AreTwo, AreDistinct, IsPlace, Extends, KeepsGeometry, IsOp, AreLines, IsWorld, LeadsTo}
@@ -37,8 +40,11 @@ use Rattle.iso_model.proofs.Floors.{floor_above, floor_below, floor_under}
 use Rattle.iso_model.proofs.Forms.{in_form, valid_in, accesses_in, history_in, isolated_in, records_in, lengths_in}
 use Rattle.iso_model.proofs.Places.{distinct_placed, all_apart_from_label}
 use Rattle.iso_model.proofs.Growth.{both_of, all_push, all_weaker, appended_is}
+use Rattle.iso_model.proofs.HashAccesses.{IsIn, del_fits, get_fits, hash_area_is, put_fits}
 use Rattle.iso_model.proofs.Isolation.{stays_isolated}
 use Rattle.iso_model.proofs.Maximal.{are_runs}
+use Rattle.iso_model.proofs.Recorded.{array_shape, own_shape}
+use Rattle.iso_model.proofs.StoreAccesses.{AllFit, outcome_fits}
 use Rattle.iso_model.proofs.Written.{runs_where_write}
 use Rattle.iso_model.proofs.Accesses.{get_is_access, inside_block, length-marked, marked_are, put_is_access, read_is_access, write_is_access}
 
@@ -147,7 +153,7 @@ leaves W t is =
     (omega (arith, length-filter test W.live)) is.next
 
 -- the transaction of a client with other accesses
-accesses_are : (W : World) (c : ℕ) (t : Live) (accesses : List Access) → IsWorld W → attached W c ≡ Some t → IsLive W t → length accesses ≤ MAX_ACCESSES
+pub accesses_are : (W : World) (c : ℕ) (t : Live) (accesses : List Access) → IsWorld W → attached W c ≡ Some t → IsLive W t → length accesses ≤ MAX_ACCESSES
     → AreAccesses W.geometry accesses → LeadsTo W (with_accesses W t accesses)
 accesses_are W c t accesses is found live few all =
     let u : Live = record t { accesses = accesses } in
@@ -168,6 +174,22 @@ accesses_more : (W : World) (c : ℕ) (t : Live) (a : Access) → IsWorld W → 
 accesses_more W c t a is found live few access =
     accesses_are W c t (t.accesses ++ a ∷ []) is found live (omega (arith, length_push t.accesses a))
     (all_push (IsAccess W.geometry) t.accesses a live.accesses access)
+
+all_append : {X : Type 0} (P : X → Type 0) (xs ys : List X) → AllByRecursion P xs → AllByRecursion P ys → AllByRecursion P (xs ++ ys)
+all_append P [] ys first second = second
+all_append P (x ∷ xs) ys first second = (first.0, all_append P xs ys first.1 second)
+
+-- a call of a store, whatever bytes it reads
+store_leads : {R : Type 0} (W : World) (c : ℕ) (t : Live) (program : Program (Result R StoreError)) (answer : R → Reply) → IsWorld W → attached W c ≡ Some t → IsLive W t
+    → AllFit W.geometry (λ r. Unit {0}) program → LeadsTo W (store_step W t program answer).1
+unfolding store_step
+store_leads W c t program answer is found live fit =
+    let ended = outcome (MAX_ACCESSES - length t.accesses) program (array_of W t) in
+    let shape = own_shape W.geometry (array_at W.history t.begin) t.accesses live.accesses (array_shape W.geometry W.history t.begin is.history) in
+    let fits = outcome_fits W.geometry (λ r. Unit {0}) (MAX_ACCESSES - length t.accesses) program (array_of W t) shape fit in
+    let few : length t.accesses ≤ MAX_ACCESSES = live.count in
+    accesses_are W c t (t.accesses ++ ended.0) is found live (omega (arith, length-append t.accesses ended.0, fits.count, few))
+    (all_append (IsAccess W.geometry) t.accesses ended.0 live.accesses fits.accesses)
 
 -- a transaction in another place, at which no other is
 places : (W : World) (t : Live) (place : Place) → IsWorld W → IsLive W t → IsPlace place → AllByRecursion (λ u. AreApart u.place place) W.live
@@ -228,6 +250,30 @@ begin_leads W place mode is at apart =
     chosen W (nat_le MAX_LIVE (length W.live)) _ _ (stays W is) (λ few.
     chosen W (nat_lt LAST W.next) _ _ (stays W is) (λ fresh.
     begins W place mode is (may_have W.geometry mode test) (leb-false MAX_LIVE (length W.live) few) (ltb-false LAST W.next fresh) at apart)))
+
+-- a call of the hash store
+hash_leads : (W : World) (t : Live) (result : Reply × World) → IsWorld W → (IsIn W.geometry (hash_area W.geometry) → LeadsTo W result.1) → LeadsTo W (in_store W t W.geometry.hash result).1
+hash_leads W t result is leads =
+    let bounds = limits W.geometry is.valid in
+    chosen W (W.geometry.hash == 0) _ _ (stays W is) (λ some.
+    chosen W (is_serial t.mode) _ _
+    (leads (record { area = hash_area_is W.geometry is.valid (eqb-false W.geometry.hash 0 some); size = refl; fits = omega (arith, bounds.regions) }))
+    (λ snapshot. stays W is))
+
+hash_put_leads : (W : World) (c : ℕ) (t : Live) (key value : List ℕ) → IsWorld W → AreBytes key → AreBytes value → attached W c ≡ Some t → IsLive W t → LeadsTo W (hash_put_step W t key value).1
+unfolding hash_put_step
+hash_put_leads W c t key value is key_values value_values found live =
+    hash_leads W t _ is (λ there. store_leads W c t (put_program (hash_area W.geometry) key value) _ is found live (put_fits W.geometry (hash_area W.geometry) there key value key_values value_values))
+
+hash_get_leads : (W : World) (c : ℕ) (t : Live) (key : List ℕ) → IsWorld W → attached W c ≡ Some t → IsLive W t → LeadsTo W (hash_get_step W t key).1
+unfolding hash_get_step
+hash_get_leads W c t key is found live =
+    hash_leads W t _ is (λ there. store_leads W c t (get_program (hash_area W.geometry) key) found_reply is found live (get_fits W.geometry (hash_area W.geometry) there key))
+
+hash_delete_leads : (W : World) (c : ℕ) (t : Live) (key : List ℕ) → IsWorld W → attached W c ≡ Some t → IsLive W t → LeadsTo W (hash_delete_step W t key).1
+unfolding hash_delete_step
+hash_delete_leads W c t key is found live =
+    hash_leads W t _ is (λ there. store_leads W c t (del_program (hash_area W.geometry) key) removed_reply is found live (del_fits W.geometry (hash_area W.geometry) there key))
 
 -- an access that is there once it is not refused
 access_leads : (W : World) (c : ℕ) (t : Live) (block : ℕ) (is_wrong : Bool) (answer : Reply) (a : Access) → IsWorld W → attached W c ≡ Some t → IsLive W t
@@ -395,7 +441,7 @@ in_leads : (W : World) (o : Option Live) (act : Live → Reply × World) → IsW
 in_leads W None act is leads = stays W is
 in_leads W (Some t) act is leads = leads t refl
 
-live_at : (W : World) (c : ℕ) (t : Live) → IsWorld W → attached W c ≡ Some t → IsLive W t
+pub live_at : (W : World) (c : ℕ) (t : Live) → IsWorld W → attached W c ≡ Some t → IsLive W t
 live_at W c t is found = all_find (IsLive W) (λ u. is_at_client c u.place) W.live t is.live found
 
 -- the floor lies between the trim number and the last commit
@@ -499,6 +545,12 @@ step_leads W c Trim is good = trim_leads W is
 step_leads W c Stat is good = stays W is
 step_leads W c Compact is good = switch_leads W W.geometry.form (reply.Compacted (floor W)) is (omega arith) ((limits W.geometry is.valid).largest_form)
 step_leads W c Upgrade is good = switch_leads W 2 (reply.Upgraded (floor W)) is ((limits W.geometry is.valid).largest_form) (omega arith)
+step_leads W c (HashPut key value) is good =
+    in_leads W (attached W c) (λ t. hash_put_step W t key value) is (λ t found. hash_put_leads W c t key value is good.0 good.1 found (live_at W c t is found))
+step_leads W c (HashGet key) is good =
+    in_leads W (attached W c) (λ t. hash_get_step W t key) is (λ t found. hash_get_leads W c t key is found (live_at W c t is found))
+step_leads W c (HashDelete key) is good =
+    in_leads W (attached W c) (λ t. hash_delete_step W t key) is (λ t found. hash_delete_leads W c t key is found (live_at W c t is found))
 
 -- all lines
 pub after_leads : (W : World) (lines : List (ℕ × Line)) → IsWorld W → AreLines lines → LeadsTo W (after W lines)

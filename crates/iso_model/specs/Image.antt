@@ -15,6 +15,10 @@ use Rattle.iso_model.specs.Geometry.{is_valid, same_mode, image_size, header_pla
 use Rattle.iso_model.specs.History.{History, last, array_at}
 use Rattle.iso_model.specs.Step.{put_access}
 
+-- the writes that a record with these runs stands for
+abbrev pub recorded : Geometry → List Run → List Access
+recorded g runs = map (λ run. put_access g.block run.block run.off run.bytes) runs
+
 abbrev pub mode_byte : Mode → ℕ
 mode_byte Serial = 0
 mode_byte Snapshot = 1
@@ -63,7 +67,7 @@ records g n (w ∷ more) = spell 1 (kind_of g w.mode) n w.parts ++ records g (n 
 
 -- the commit that a record stands for: a write for each part
 abbrev pub commit_of : Geometry → (n : ℕ) → Written → Commit
-commit_of g n w = record { begin = n - 1; mode = w.mode; accesses = map (λ run. put_access g.block run.block run.off run.bytes) w.parts }
+commit_of g n w = record { begin = n - 1; mode = w.mode; accesses = recorded g w.parts }
 
 abbrev pub commits_of : Geometry → (n : ℕ) → List Written → List Commit
 commits_of g n [] = []

@@ -21,3 +21,7 @@ pub mod Cells
 pub mod FreeMap
 pub mod HashRegion
 pub mod HashCalls
+pub mod TreeNodes
+pub mod Trees
+pub mod TreeCalls
+pub mod TreeRegion

@@ -11,7 +11,6 @@ use Rattle.iso_model.specs.Array.{Array, in_span}
 use Rattle.iso_model.specs.Effect.{is_write, or_else}
 use Rattle.iso_model.specs.Geometry.{image_size, half_size}
 use Rattle.iso_model.specs.History.{History}
-use Rattle.iso_model.specs.Step.{put_access}
 
 -- the limits that a valid geometry keeps
 pub record Limits (g : Geometry) : Type 0 where
@@ -85,7 +84,3 @@ value_of run b p = cond (in_run b p run) (Some (slice_index run.bytes (p - run.o
 abbrev pub value_in : List Run → (b p : ℕ) → Option ℕ
 value_in [] b p = None
 value_in (run ∷ runs) b p = or_else (value_in runs b p) (value_of run b p)
-
--- the writes that a record with these runs stands for
-abbrev pub recorded : Geometry → List Run → List Access
-recorded g runs = map (λ run. put_access g.block run.block run.off run.bytes) runs

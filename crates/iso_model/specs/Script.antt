@@ -5,7 +5,7 @@ use Rattle.iso_model.specs.declared.limits.TheConstants.{MAX_INPUT, MAX_LINE}
 use Rattle.iso_model.specs.declared.script.BadLine.{BadLine}
 use Rattle.iso_model.specs.declared.script.Line.{Line}
 use Rattle.iso_model.specs.declared.script.Op.{Op}
-use Rattle.iso_model.specs.declared.script.Op.TheVariants.{Begin, End, Abort, Put, Read, Get, Write, Fill, Mark, Release, Takeover, Await, Trim, Stat, Compact, Upgrade}
+use Rattle.iso_model.specs.declared.script.Op.TheVariants.{Begin, End, Abort, Put, Read, Get, Write, Fill, Mark, Release, Takeover, Await, Trim, Stat, Compact, Upgrade, HashPut, HashGet, HashDelete}
 use Rattle.iso_model.specs.declared.script.Parsed.{Parsed}
 use Rattle.iso_model.specs.declared.script.Parsed.TheVariants.{Skip, Line as Says}
 use Rattle.iso_model.specs.Step.{step}
@@ -107,6 +107,33 @@ one_label op (text ∷ []) = do
   Ok (op l)
 one_label op words = Err 3
 
+-- a key or a value of a store: bytes, or a dash for none
+abbrev pub store_argument : List ℕ → Result (List ℕ) ℕ
+store_argument word = if bytes_eq word (codes "-") then Ok [] else hex_argument word
+
+-- a key
+abbrev pub one_key : (List ℕ → Op) → List (List ℕ) → Result Op ℕ
+one_key op (key ∷ []) = do
+  k ← store_argument key
+  Ok (op k)
+one_key op words = Err 3
+
+-- a key and a value
+abbrev pub key_and_value : (List ℕ → List ℕ → Op) → List (List ℕ) → Result Op ℕ
+key_and_value op (key ∷ value ∷ []) = do
+  k ← store_argument key
+  v ← store_argument value
+  Ok (op k v)
+key_and_value op words = Err 3
+
+-- the operation on a store of this name
+unfoldable pub store_operation : (name : List ℕ) → (arguments : List (List ℕ)) → Result Op ℕ
+store_operation name arguments =
+    if bytes_eq name (codes "hput") then key_and_value HashPut arguments
+    else if bytes_eq name (codes "hget") then one_key HashGet arguments
+    else if bytes_eq name (codes "hdel") then one_key HashDelete arguments
+    else Err 2
+
 -- the operation of this name, if it is none of a transaction's accesses, its begin and its end
 unfoldable pub other_operation : (name : List ℕ) → (arguments : List (List ℕ)) → Result Op ℕ
 other_operation name arguments =
@@ -117,7 +144,7 @@ other_operation name arguments =
     else if bytes_eq name (codes "stat") then bare Stat arguments
     else if bytes_eq name (codes "compact") then bare Compact arguments
     else if bytes_eq name (codes "upgrade") then bare Upgrade arguments
-    else Err 2
+    else store_operation name arguments
 
 -- the operation of this name
 unfoldable pub operation_of : (name : List ℕ) → (arguments : List (List ℕ)) → Result Op ℕ

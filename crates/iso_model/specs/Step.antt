@@ -1,22 +1,29 @@
 -- What each operation of a client is answered, and the world after it.
-use Rattle.std.specs.Prelude.{ℕ, ◌+◌, ◌-◌, Bool, false, ◌&&◌, ◌==◌, not, if◌then◌else◌, List, [], ◌∷◌, ◌++◌, Option, Some, None, length, take, drop, replicate, nat_le, nat_lt, slice_index, unwrap_or}
+use Rattle.std.specs.Prelude.{ℕ, ◌+◌, ◌-◌, Bool, true, false, ◌&&◌, ◌==◌, not, if◌then◌else◌, List, [], ◌∷◌, ◌++◌, Option, Some, None, Result, Ok, Err, length, take, drop, replicate, nat_le, nat_lt, slice_index, unwrap_or}
 use Rattle.iso_model.specs.declared.access.Access.{Access}
 use Rattle.iso_model.specs.declared.access.Clash.{Clash}
+use Rattle.iso_model.specs.declared.access.Geometry.{Geometry}
 use Rattle.iso_model.specs.declared.access.Kind.TheVariants.{Read, Write}
 use Rattle.iso_model.specs.declared.access.Mode.{Mode}
 use Rattle.iso_model.specs.declared.access.Span.{Span}
 use Rattle.iso_model.specs.declared.script.Op.{Op}
 use Rattle.iso_model.specs.declared.access.MarkError.{MarkError}
 use Rattle.iso_model.specs.declared.access.MarkError.TheVariants as mark
-use Rattle.iso_model.specs.declared.script.Op.TheVariants.{Begin, End, Abort, Put, Read as ReadBlock, Get, Write as WriteBlock, Fill, Mark, Release, Takeover, Await, Trim, Stat, Compact, Upgrade}
+use Rattle.iso_model.specs.declared.script.Op.TheVariants.{Begin, End, Abort, Put, Read as ReadBlock, Get, Write as WriteBlock, Fill, Mark, Release, Takeover, Await, Trim, Stat, Compact, Upgrade, HashPut, HashGet, HashDelete}
 use Rattle.iso_model.specs.declared.script.Reply.{Reply}
 use Rattle.iso_model.specs.declared.script.Reply.TheVariants as reply
 use Rattle.iso_model.specs.declared.limits.TheConstants.{LAST, MAX_ACCESSES, MAX_LIVE}
+use Rattle.iso_model.specs.declared.stores.Area.{Area}
+use Rattle.iso_model.specs.declared.stores.StoreError.{StoreError}
+use Rattle.iso_model.specs.declared.stores.StoreError.TheVariants as store
+use Rattle.iso_model.specs.Array.{Array}
 use Rattle.iso_model.specs.Conflict.{clash}
-use Rattle.iso_model.specs.Geometry.{same_mode}
-use Rattle.iso_model.specs.Effect.{has_write, record_length, runs}
-use Rattle.iso_model.specs.History.{last, shown_block}
+use Rattle.iso_model.specs.Geometry.{is_serial, same_mode}
+use Rattle.iso_model.specs.Effect.{has_write, own, record_length, runs}
+use Rattle.iso_model.specs.HashCalls.{del_program, get_program, put_program}
+use Rattle.iso_model.specs.History.{array_at, last, shown_block}
 use Rattle.iso_model.specs.Marks.{is_outside, mark_fault, marked}
+use Rattle.iso_model.specs.Stores.{Program, outcome}
 use Rattle.iso_model.specs.Versions.{versions}
 use Rattle.iso_model.specs.World.{World, Live, Place, client, label, attached, held, floor, without, with, used}
 
@@ -134,6 +141,62 @@ marked_step W t span None = (reply.Done, with_accesses W t (marked span t.access
 unfoldable pub mark_step : World → Live → (off len : ℕ) → Reply × World
 mark_step W t off len = marked_step W t (record { off = off; len = len }) (mark_fault W.geometry.block off len t.accesses)
 
+-- the array that the transaction is shown
+abbrev pub array_of : World → Live → Array
+array_of W t = own (array_at W.history t.begin) t.accesses
+
+-- what a store that refuses is answered; a program has no refusal of a transaction, and wants no memory
+abbrev pub store_refusal : StoreError → Reply
+store_refusal store.BadKey = reply.BadKey
+store_refusal store.BadValue = reply.BadValue
+store_refusal (store.NoBlocks need free) = reply.NoBlocks need free
+store_refusal (store.Broken block) = reply.Broken block
+store_refusal (store.Tx e) = reply.TooManyAccesses
+store_refusal store.Memory = reply.TooManyAccesses
+
+-- what a call of a store is answered whose program ended so: it has no answer where an access did not fit
+abbrev pub store_reply : {R : Type 0} → (R → Reply) → Option (Result R StoreError) → Reply
+store_reply answer None = reply.TooManyAccesses
+store_reply answer (Some (Ok r)) = answer r
+store_reply answer (Some (Err e)) = store_refusal e
+
+-- the reply and the world after accesses of a store's program and its answer
+abbrev pub after_store : {R : Type 0} → World → Live → (R → Reply) → List Access × Option (Result R StoreError) → Reply × World
+after_store W t answer ended = (store_reply answer ended.1, with_accesses W t (t.accesses ++ ended.0))
+
+-- A call of a store: its program on the array that the transaction is shown. What it has read before a refusal stays.
+unfoldable pub store_step : {R : Type 0} → World → Live → Program (Result R StoreError) → (R → Reply) → Reply × World
+store_step W t program answer = after_store W t answer (outcome (MAX_ACCESSES - length t.accesses) program (array_of W t))
+
+-- a store of so many blocks that is there, in a transaction that is serial
+abbrev pub in_store : World → Live → (blocks : ℕ) → Reply × World → Reply × World
+in_store W t blocks result =
+    if blocks == 0 then (reply.NoStore, W)
+    else if is_serial t.mode then result
+    else (reply.StoreMode, W)
+
+-- where the hash store is
+abbrev pub hash_area : Geometry → Area
+hash_area g = record { size = g.block; start = 0; blocks = g.hash }
+
+-- what a look-up and a removal answer
+abbrev pub found_reply : Option (List ℕ) → Reply
+found_reply None = reply.Missing
+found_reply (Some value) = reply.Found value
+
+abbrev pub removed_reply : Bool → Reply
+removed_reply true = reply.Done
+removed_reply false = reply.Missing
+
+unfoldable pub hash_put_step : World → Live → (key value : List ℕ) → Reply × World
+hash_put_step W t key value = in_store W t W.geometry.hash (store_step W t (put_program (hash_area W.geometry) key value) (λ done. reply.Done))
+
+unfoldable pub hash_get_step : World → Live → (key : List ℕ) → Reply × World
+hash_get_step W t key = in_store W t W.geometry.hash (store_step W t (get_program (hash_area W.geometry) key) found_reply)
+
+unfoldable pub hash_delete_step : World → Live → (key : List ℕ) → Reply × World
+hash_delete_step W t key = in_store W t W.geometry.hash (store_step W t (del_program (hash_area W.geometry) key) removed_reply)
+
 -- the end of a transaction with a write, once its least clash is known
 unfoldable pub commit_step : World → Live → Option Clash → Reply × World
 commit_step W t (Some c) = (reply.Conflict c, after_leaving W t)
@@ -201,3 +264,6 @@ step W c Trim = (reply.Trimmed (floor W), after_trim W)
 step W c Stat = (numbers W, W)
 step W c Compact = switch_step W W.geometry.form (reply.Compacted (floor W))
 step W c Upgrade = switch_step W 2 (reply.Upgraded (floor W))
+step W c (HashPut key value) = in_transaction W (attached W c) (λ t. hash_put_step W t key value)
+step W c (HashGet key) = in_transaction W (attached W c) (λ t. hash_get_step W t key)
+step W c (HashDelete key) = in_transaction W (attached W c) (λ t. hash_delete_step W t key)

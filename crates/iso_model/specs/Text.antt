@@ -4,7 +4,7 @@ use Rattle.std.specs.List.{list_all}
 use Rattle.iso_model.specs.declared.access.Mode.{Mode}
 use Rattle.iso_model.specs.declared.access.Mode.TheVariants.{Serial, Snapshot}
 use Rattle.iso_model.specs.declared.script.Reply.{Reply}
-use Rattle.iso_model.specs.declared.script.Reply.TheVariants.{Done, Began, Shown, Committed, ReadOnly, Conflict, Trimmed, Compacted, Upgraded, Numbers, InTx, NotInTx, ModeFixed, BadBlock, BadRange, NoAccess, TooManyMarks, TooManyAccesses, NoHandle, LabelTaken, TooManyTx, Worn, LogFull}
+use Rattle.iso_model.specs.declared.script.Reply.TheVariants.{Done, Began, Shown, Committed, ReadOnly, Conflict, Trimmed, Compacted, Upgraded, Numbers, Found, Missing, InTx, NotInTx, ModeFixed, NoStore, StoreMode, BadKey, BadValue, BadBlock, BadRange, NoAccess, TooManyMarks, TooManyAccesses, Broken, NoBlocks, NoHandle, LabelTaken, TooManyTx, Worn, LogFull}
 
 -- the byte before the first piece
 abbrev pub before_piece : ℕ → List (List ℕ) → List (List ℕ)
@@ -91,6 +91,11 @@ digit_of n = cond (nat_lt n 10) (48 + n) (87 + n)
 abbrev pub hex_text : List ℕ → List ℕ
 hex_text bytes = flat_map (λ b. digit_of (b / 16) ∷ digit_of (b % 16) ∷ []) bytes
 
+-- a key or a value of a store as a word, which is a dash where it is empty
+abbrev pub dashed : List ℕ → List ℕ
+dashed [] = codes "-"
+dashed (b ∷ bytes) = hex_text (b ∷ bytes)
+
 -- what a reply says
 unfoldable pub reply_text : Reply → List ℕ
 reply_text Done = codes "ok"
@@ -105,14 +110,22 @@ reply_text (Upgraded n) = codes "ok upgrade " ++ decimal n
 reply_text (Numbers last base trim live used versions) =
     codes "ok last " ++ decimal last ++ codes " base " ++ decimal base ++ codes " trim " ++ decimal trim
     ++ codes " live " ++ decimal live ++ codes " used " ++ decimal used ++ codes " versions " ++ decimal versions
+reply_text (Found value) = codes "ok " ++ dashed value
+reply_text Missing = codes "ok none"
 reply_text InTx = codes "in-tx"
 reply_text NotInTx = codes "not-in-tx"
 reply_text ModeFixed = codes "mode-fixed"
+reply_text NoStore = codes "no-store"
+reply_text StoreMode = codes "store-mode"
+reply_text BadKey = codes "bad-key"
+reply_text BadValue = codes "bad-value"
 reply_text BadBlock = codes "bad-block"
 reply_text BadRange = codes "bad-range"
 reply_text NoAccess = codes "no-access"
 reply_text TooManyMarks = codes "too-many-marks"
 reply_text TooManyAccesses = codes "too-many-accesses"
+reply_text (Broken block) = codes "broken block " ++ decimal block
+reply_text (NoBlocks need free) = codes "no-blocks need " ++ decimal need ++ codes " free " ++ decimal free
 reply_text NoHandle = codes "no-handle"
 reply_text LabelTaken = codes "label-taken"
 reply_text TooManyTx = codes "too-many-tx"

@@ -17,9 +17,9 @@ ghost use Rattle.iso_model.specs.Conflict.{clash, IsClash, IsSerialAt, IsSnapsho
 ghost use Rattle.iso_model.specs.Effect.{effect_at, has_write, own, runs, touches};
 ghost use Rattle.iso_model.specs.Geometry.{is_valid};
 ghost use Rattle.iso_model.specs.History.{array_at, last, History};
-ghost use Rattle.iso_model.specs.Image.{commits_of, held, written, AreRuns, IsImage, IsRecord, SameEffect, Shows};
+ghost use Rattle.iso_model.specs.Image.{commits_of, held, written, AreRuns, IsImage, IsRecord, SameEffect, Shows, recorded};
 ghost use Rattle.iso_model.specs.Isolation.{IsIsolated};
-ghost use Rattle.iso_model.specs.Premises.{appended, block_at, recorded, value_in, AreAccesses, AreBytes, HasBytes, HasShape, IsAccess, IsHistory, Limits};
+ghost use Rattle.iso_model.specs.Premises.{appended, block_at, value_in, AreAccesses, AreBytes, HasBytes, HasShape, IsAccess, IsHistory, Limits};
 ghost use Rattle.iso_model.specs.Script.{after, script};
 ghost use Rattle.iso_model.specs.Step.{put_access, read_access, step};
 ghost use Rattle.iso_model.specs.World.{empty_history, fresh, World};

@@ -35,6 +35,12 @@ pub enum Op {
     Compact,
     /// As `Compact`, with an image of form 2.
     Upgrade,
+    /// Puts a value at a key of the hash store.
+    HashPut { key: Bytes, value: Bytes },
+    /// The value of a key of the hash store.
+    HashGet { key: Bytes },
+    /// Removes a key of the hash store.
+    HashDelete { key: Bytes },
 }
 
 /// A line of a script: an operation of a client, 1 to 64.
@@ -87,14 +93,35 @@ pub enum Reply {
         used: u32,
         versions: u64,
     },
+    /// The value of a key of a store.
+    Found(Bytes),
+    /// A store has no such key.
+    Missing,
     InTx,
     NotInTx,
     ModeFixed,
+    /// The image has no such store.
+    NoStore,
+    /// The transaction is not serial.
+    StoreMode,
+    /// A key does not have 1 to 28 bytes.
+    BadKey,
+    /// A value has more than 32 bytes.
+    BadValue,
     BadBlock,
     BadRange,
     NoAccess,
     TooManyMarks,
     TooManyAccesses,
+    /// This block of the image is not what a store has to find there.
+    Broken {
+        block: u32,
+    },
+    /// A store needs more blocks than are free.
+    NoBlocks {
+        need: u32,
+        free: u32,
+    },
     NoHandle,
     LabelTaken,
     TooManyTx,

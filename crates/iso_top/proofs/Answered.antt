@@ -1,17 +1,13 @@
 -- A script that was answered from the world that a call begins with.
-use Rattle.std.proofs.Common.{◌≡◌, ◌++◌, ℕ, List, Option}
+use Rattle.std.proofs.Common.{ℕ, List, Option}
 use Rattle.iso_disk.specs.Disk.{DiskState}
 use Rattle.iso_io.specs.Sink.{SinkState}
 use Rattle.iso_io.specs.Source.{SourceState}
 use Rattle.iso_model.specs.declared.access.Geometry.{Geometry}
-use Rattle.iso_model.specs.Script.{after}
-use Rattle.iso_model.specs.World.{World}
-use Rattle.iso_model.specs.Worlds.{LeadsTo}
 use Rattle.iso_core.specs.declared.core_itself.Core.{Core}
 use Rattle.iso_core.specs.Core.{disk_of}
 use Rattle.script_runner.specs.declared.run_end.RunEnd.{RunEnd}
 use Rattle.script_runner.specs.Run.{HasRun}
-use Rattle.script_runner.proofs.Histories.{leads_on}
 use Rattle.iso_top.specs.Begun.{HasCore}
 use Rattle.iso_top.specs.Outcome.{HasAnswered, HasBegun, PrintedEnd}
 use Rattle.iso_top.proofs.Beginnings.{begun}
@@ -19,11 +15,8 @@ use Rattle.iso_top.proofs.Beginnings.{begun}
 module _ {D : Type 0} (state : D → DiskState) (made : Option Geometry) (name : List ℕ) (disk new : D) (core : Core D) (has : HasCore state made name disk core)
     (input_old input_new : SourceState) (output_old replied : SinkState) (e : RunEnd)
     (run : HasRun (λ V. Unit {0}) (state (disk_of core)) (state new) input_old input_new output_old replied has.world e) where
-  pub has_begun : HasBegun made name (state disk) (state (disk_of core)) (state new) has.world (after has.world (run.done ++ run.next))
-  has_begun =
-      let leads : LeadsTo has.world (after has.world (run.done ++ run.next)) =
-      leads_on has.world (after has.world run.done) (after has.world (run.done ++ run.next)) run.answered.order run.answered.order_next in
-      begun state made name disk new core has (after has.world (run.done ++ run.next)) leads run.answered.moments
+  pub has_begun : HasBegun made name (state disk) (state (disk_of core)) (state new) has.world run.answered.final
+  has_begun = begun state made name disk new core has run.answered.final run.answered.final_is.leads run.answered.moments
 
   pub answered : (output_new : SinkState) → PrintedEnd e replied output_new → HasAnswered state made name e disk new input_old input_new output_old output_new
   answered output_new last = record { world = has.world; start = disk_of core; replied = replied; run = run; begun = has_begun; last = last }

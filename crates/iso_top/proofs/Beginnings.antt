@@ -1,14 +1,12 @@
 -- What a call begins with, once an image is bound, and made or opened.
-use Rattle.std.proofs.Common.{◌≡◌, inl, inr, ⊎_elim, ◌≤◌, ℕ, List, [], Option, Some, None, IsTrue, refl, sym, ◌∙◌, ap, subst, arith, ◌⊎◌}
+use Rattle.std.proofs.Common.{◌≡◌, inl, inr, ⊎_elim, ℕ, List, Option, Some, None, IsTrue, refl, sym, ◌∙◌, subst, arith, ◌⊎◌}
 use Rattle.std.proofs.lemmas.Option.{same_Some}
 use Rattle.std.specs.Option.{ForSome}
-use Rattle.iso_disk.specs.Disk.{DiskState, IsBoundTo, IsLawful, IsSettled, LeavesOnly, SinceBind, StaysTold, WritesNothing}
+use Rattle.iso_disk.specs.Disk.{DiskState, IsLawful, IsSettled, LeavesOnly, StaysTold, WritesNothing}
 use Rattle.iso_disk.proofs.Moments.{joined, since_bind, still_bound, weakened}
 use Rattle.iso_disk.proofs.Told.{told_same}
-use Rattle.iso_image.specs.Half.{IsHeld, half_of}
 use Rattle.iso_image.proofs.Histories.{half_shows}
 use Rattle.iso_model.specs.declared.access.Geometry.{Geometry}
-use Rattle.iso_model.specs.declared.limits.TheConstants.{LAST}
 use Rattle.iso_model.specs.Geometry.{is_valid}
 use Rattle.iso_model.specs.World.{World, empty_history, fresh}
 use Rattle.iso_model.specs.Worlds.{IsWorld, LeadsTo}
@@ -19,10 +17,9 @@ use Rattle.iso_core.specs.Standing.{up}
 use Rattle.iso_machine.specs.Shown.{shows}
 use Rattle.iso_recover.specs.Cause.{IsBlamed, IsTest}
 use Rattle.iso_recover.specs.Made.{IsUnmadeOrEmpty}
-use Rattle.iso_recover.specs.Opened.{HasOpened, TellsImage}
+use Rattle.iso_recover.specs.Opened.{HasOpened}
 use Rattle.iso_refusal.specs.declared.open_error.OpenError.{OpenError}
-use Rattle.iso_refusal.specs.declared.open_error.OpenError.TheVariants as error
-use Rattle.iso_refusal.specs.Refusal.{opened, refusal}
+use Rattle.iso_refusal.specs.Refusal.{refusal}
 use Rattle.script_runner.specs.Between.{ShowsBetween}
 use Rattle.script_runner.proofs.Histories.{between_on, shows_last}
 use Rattle.iso_top.specs.Begun.{HasCore, HasNoCore}

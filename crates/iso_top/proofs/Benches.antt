@@ -1,9 +1,8 @@
 -- What is put of a bench.
-use Rattle.std.proofs.Common.{◌≡◌, ◌⊎◌, inl, inr, ◌+◌, ◌≤◌, ℕ, List, [], ◌∷◌, Option, Some, None, false, refl, sym, ◌∙◌, ap, subst, arith}
+use Rattle.std.proofs.Common.{◌≡◌, ◌⊎◌, inl, inr, ℕ, List, [], Some, None, false, refl, sym, ◌∙◌, ap, arith}
 use Rattle.bench_script.specs.Ends.{DrawnState, HeldState, drawn_state, held_state}
 use Rattle.iso_disk.specs.Disk.{DiskState}
 use Rattle.iso_io.specs.Sink.{SinkState}
-use Rattle.iso_model.specs.declared.script.BadLine.{BadLine}
 use Rattle.iso_model.specs.declared.script.Line.{Line}
 use Rattle.iso_model.specs.Bench.{bench_summary, bench_text, bench_world}
 use Rattle.iso_model.specs.Script.{Script, replies, script}

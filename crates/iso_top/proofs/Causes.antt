@@ -1,5 +1,5 @@
 -- What the status of a call on an image has for its cause.
-use Rattle.std.proofs.Common.{◌≡◌, ◌≢◌, ◌⊎◌, inl, inr, ⊎_elim, ◌≤◌, ℕ, List, Option, Some, None, IfSome, refl, sym, ◌∙◌, ap, subst, arith}
+use Rattle.std.proofs.Common.{◌≡◌, ◌≢◌, ◌⊎◌, inl, inr, ⊎_elim, ℕ, List, Option, Some, None, IfSome, refl, sym, ap, subst}
 use Rattle.std.specs.Option.{ForSome}
 use Rattle.command_line.specs.declared.task.Task.{Task}
 use Rattle.command_line.specs.declared.task.Task.TheVariants.{New, Run, Recover, Bench}
@@ -13,14 +13,13 @@ use Rattle.iso_model.specs.declared.script.BadLine.{BadLine}
 use Rattle.iso_model.specs.declared.script.Line.{Line}
 use Rattle.iso_model.specs.Bench.{bench_output, bench_world, recover_output}
 use Rattle.iso_model.specs.Script.{Script, script}
-use Rattle.iso_recover.specs.Cause.{IsTest}
 use Rattle.iso_refusal.specs.declared.open_error.OpenError.{OpenError}
 use Rattle.iso_refusal.specs.declared.open_error.OpenError.TheVariants as error
 use Rattle.iso_refusal.specs.Refusal.{refusal}
 use Rattle.script_runner.specs.declared.run_end.RunEnd.{RunEnd}
 use Rattle.script_runner.specs.declared.run_end.RunEnd.TheVariants as end
 use Rattle.script_runner.specs.Run.{AreLinesOf, HasRun}
-use Rattle.iso_top.specs.Outcome.{HasAnswered, HasBenched, HasDone, HasMet, HasNotBegun, HasRecovered, IsAccepted, IsGoodInput, IsStatus, PrintedBench, PrintedDigest, PrintedResult}
+use Rattle.iso_top.specs.Outcome.{HasAnswered, HasBenched, HasMet, HasNotBegun, HasRecovered, IsAccepted, IsGoodInput, IsStatus, PrintedBench, PrintedDigest, PrintedResult}
 use Rattle.iso_top.specs.Prints.{SinkFailed}
 use Rattle.iso_top.specs.Texts.{end_status, error_status}
 

@@ -1,10 +1,9 @@
 -- A run, without what its machine stands for.
-use Rattle.std.proofs.Common.{◌≡◌, ◌⊎◌, inl, inr, ◌++◌, ℕ, List, subst}
+use Rattle.std.proofs.Common.{◌≡◌, ◌⊎◌, inl, inr, subst}
 use Rattle.iso_disk.specs.Disk.{DiskState}
 use Rattle.iso_io.specs.Sink.{SinkState}
 use Rattle.iso_io.specs.Source.{SourceState}
 use Rattle.iso_model.specs.declared.script.BadLine.{BadLine}
-use Rattle.iso_model.specs.Script.{after}
 use Rattle.iso_model.specs.World.{World}
 use Rattle.script_runner.specs.declared.run_end.RunEnd.{RunEnd}
 use Rattle.script_runner.specs.declared.run_end.RunEnd.TheVariants as end
@@ -46,10 +45,16 @@ run_alone stands disk_old disk_new input_old input_new output_old output_new W e
   told = r.told;
   whole = r.whole;
   answered = record {
+    good = r.answered.good;
     replies = r.answered.replies;
     order = r.answered.order;
     order_next = r.answered.order_next;
     acknowledged = r.answered.acknowledged;
+    reached = r.answered.reached;
+    final = r.answered.final;
+    reached_is = r.answered.reached_is;
+    final_is = r.answered.final_is;
+    final_on = r.answered.final_on;
     exit = r.answered.exit;
     moments = r.answered.moments;
     world = nothing_up e;

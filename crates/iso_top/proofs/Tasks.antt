@@ -1,13 +1,15 @@
 -- What `recover` and `bench` have done, from the world that a call begins with.
-use Rattle.std.proofs.Common.{◌≡◌, ◌≢◌, ◌⊎◌, inl, inr, ◌+◌, ℕ, List, [], Option, Some, None, IsSome, refl, sym, ◌∙◌, ap, subst, arith}
+use Rattle.std.proofs.Common.{◌≡◌, ◌≢◌, ◌⊎◌, inl, inr, ◌+◌, ◌++◌, ℕ, List, [], Option, Some, None, IfSome, append-nil, refl, sym, ◌∙◌, ap, subst, arith}
 use Rattle.fault_count.specs.Count.{Rose}
 use Rattle.iso_disk.specs.Disk.{DiskState, LeavesOnly, StaysTold}
 use Rattle.iso_disk.proofs.Moments.{since_bind, still_bound}
 use Rattle.iso_io.specs.Sink.{SinkState}
 use Rattle.iso_io.specs.Source.{SourceState}
 use Rattle.iso_model.specs.declared.access.Geometry.{Geometry}
+use Rattle.iso_model.specs.declared.script.Line.{Line}
 use Rattle.iso_model.specs.Bench.{bench_geometry, bench_output, bench_text, bench_world, recover_output}
 use Rattle.iso_model.specs.History.{History}
+use Rattle.iso_model.specs.Script.{Script, script}
 use Rattle.iso_model.specs.Worlds.{IsWorld}
 use Rattle.iso_model.specs.World.{World, empty_history, fresh}
 use Rattle.iso_core.specs.declared.core_itself.Core.{Core}
@@ -15,10 +17,12 @@ use Rattle.iso_core.specs.Core.{StandsFor, disk_of}
 use Rattle.iso_core.specs.Standing.{up}
 use Rattle.script_runner.specs.declared.run_end.RunEnd.{RunEnd}
 use Rattle.script_runner.specs.declared.run_end.RunEnd.TheVariants as end
-use Rattle.script_runner.specs.Run.{HasRun}
+use Rattle.script_runner.specs.Run.{AreFirst, AreLinesOf, HasRun}
+use Rattle.script_runner.specs.Told.{ArePlain, IsPlain}
+use Rattle.script_runner.proofs.Steps.{all_first}
 use Rattle.script_runner.specs.Between.{ShowsBetween}
 use Rattle.iso_top.specs.Begun.{HasCore}
-use Rattle.iso_top.specs.Outcome.{HasBenched, HasRecovered, IsUntouched, MayBeUnmade, OpensTo, PrintedBench, PrintedDigest, PrintedResult}
+use Rattle.iso_top.specs.Outcome.{HasBegun, HasBenched, HasRecovered, IsUntouched, MayBeUnmade, OpensTo, PrintedBench, PrintedDigest, PrintedResult}
 use Rattle.iso_top.proofs.Answered.{has_begun}
 
 -- a core over a new image stands for the fresh world
@@ -61,6 +65,29 @@ opens_at given W sound opens =
     let some = sound.history.first in
     omega (arith, base, first, some)
 
+-- the lines of a script that is known
+lines_known : (e : RunEnd) (rest : Option (List ℕ)) (done next : List (ℕ × Line)) (text : List ℕ) → rest ≡ Some text → IfSome rest (λ all. AreLinesOf e (script all) done next) → AreLinesOf e (script text) done next
+lines_known e rest done next text is told = subst (λ (o : Option (List ℕ)). IfSome o (λ all. AreLinesOf e (script all) done next)) is told
+
+-- where no line of a script calls a store, none of the lines that were run does
+plain_all : (S T : Script) (done next : List (ℕ × Line)) → S ≡ T → T.lines ≡ done → next ≡ [] → ArePlain S.lines → ArePlain (done ++ next)
+plain_all S T done next is all none plain =
+    let same : S.lines ≡ done ++ next = ap (λ (s : Script). s.lines) is ∙ all ∙ sym (append-nil done) ∙ ap (λ (xs : List (ℕ × Line)). done ++ xs) (sym none) in
+    subst (λ (xs : List (ℕ × Line)). ArePlain xs) same plain
+
+plain_some : (lines done next : List (ℕ × Line)) → AreFirst lines done next → ArePlain lines → ArePlain (done ++ next)
+plain_some lines done next first plain =
+    all_first (λ (line : ℕ × Line). IsPlain line.1.op) (done ++ next) first.later
+    (subst (λ (xs : List (ℕ × Line)). ArePlain xs) first.all plain)
+
+plain_first : (e : RunEnd) (S : Script) (done next : List (ℕ × Line)) → AreLinesOf e S done next → ArePlain S.lines → ArePlain (done ++ next)
+plain_first end.Done S done next (is, none) plain = plain_all S _ done next is refl none plain
+plain_first (end.BadLine bad) S done next (is, none) plain = plain_all S _ done next is refl none plain
+plain_first end.Input S done next (first, none) plain = plain_some S.lines done next first plain
+plain_first end.Disk S done next first plain = plain_some S.lines done next first plain
+plain_first end.Output S done next first plain = plain_some S.lines done next first plain
+plain_first end.Memory S done next first plain = plain_some S.lines done next first plain
+
 module _ {D : Type 0} (state : D → DiskState) (name : List ℕ) where
   pub recovered : (status : ℕ) (disk new : D) (core : Core D) (source : SourceState) (old put : SinkState) (has : HasCore state None name disk core)
       → ((W : World) → StandsFor state core W up → W.base + 1 ≡ W.history.first → PrintedDigest status (state (disk_of core)) W.history old put)
@@ -80,11 +107,11 @@ module _ {D : Type 0} (state : D → DiskState) (name : List ℕ) where
   }
 
   pub benched : (seed count status : ℕ) (disk new : D) (core : Core D) (source : SourceState) (old put : SinkState) (has : HasCore state (Some bench_geometry) name disk core)
-      (e : RunEnd) (drawn rest : SourceState) (empty held : SinkState) → drawn.rest ≡ Some (bench_text count seed) → empty.written ≡ Some []
+      (e : RunEnd) (drawn rest : SourceState) (empty held : SinkState) → drawn.rest ≡ Some (bench_text count seed) → empty.written ≡ Some [] → ArePlain (script (bench_text count seed)).lines
       → HasRun (λ V. Unit {0}) (state (disk_of core)) (state new) drawn rest empty held bench_world e
       → PrintedBench seed count status e (state (disk_of core)) old put → HasBenched state name seed count status disk new source source old put
   unfolding made_world
-  benched seed count status disk new core source old put has e drawn rest empty held script_is nothing_held run printed = record {
+  benched seed count status disk new core source old put has e drawn rest empty held script_is nothing_held plain run printed = record {
     end = e;
     start = disk_of core;
     drawn = drawn;
@@ -94,7 +121,9 @@ module _ {D : Type 0} (state : D → DiskState) (name : List ℕ) where
     script_is = script_is;
     nothing_held = nothing_held;
     run = run;
-    begun = has_begun state (Some bench_geometry) name disk new core (made_world state bench_geometry name disk core has) drawn rest empty held e run;
+    begun = subst (λ (V : World). HasBegun (Some bench_geometry) name (state disk) (state (disk_of core)) (state new) bench_world V)
+        (run.answered.final_is.known (inr (plain_first e (script (bench_text count seed)) run.done run.next (lines_known e drawn.rest run.done run.next (bench_text count seed) script_is run.told) plain)))
+        (has_begun state (Some bench_geometry) name disk new core (made_world state bench_geometry name disk core has) drawn rest empty held e run);
     printed = bench_told seed count status e (state disk) (state (disk_of core)) has.told old put printed;
     unread = refl;
   }

@@ -94,7 +94,7 @@ pub record HasAnswered {D : Type 0} (state : D → DiskState) (made : Option Geo
   pub start : D
   pub replied : SinkState
   pub run : HasRun (λ V. Unit {0}) (state start) (state disk_new) input_old input_new output_old replied world end
-  pub begun : HasBegun made name (state disk_old) (state start) (state disk_new) world (after world (run.done ++ run.next))
+  pub begun : HasBegun made name (state disk_old) (state start) (state disk_new) world run.answered.final
   pub last : PrintedEnd end replied output_new
 
 -- A result was put whole, or, only where the sink failed, a front of it: it is this text, where the disk told its bytes.

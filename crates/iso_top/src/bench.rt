@@ -6,8 +6,9 @@ ghost use Rattle.iso_io.specs.Sink.{SinkState};
 ghost use Rattle.iso_io.specs.Source.{SourceState};
 ghost use Rattle.iso_model.specs.declared.script.Line.{Line};
 ghost use Rattle.iso_model.specs.Bench.{bench_summary, bench_text, bench_world};
-ghost use Rattle.iso_model.specs.Script.{replies};
+ghost use Rattle.iso_model.specs.Script.{replies, script};
 ghost use Rattle.script_runner.specs.Run.{HasRun};
+ghost use Rattle.script_runner.specs.Told.{ArePlain};
 ghost use Rattle.iso_top.specs.Outcome.{PrintedBench};
 ghost use Rattle.iso_top.specs.Prints.{Printed, WasCut, WroteWhole};
 ghost use Rattle.iso_top.specs.Texts.{disk_fault_text, memory_text};
@@ -61,7 +62,8 @@ pub(crate) fn answer_drawn<I: Image, K: Sink>(
 ) -> Ended<I>
     requires world { StandsFor I.state core bench_world up }
     requires count { count ≤ 100000 }
-    ensures { (end : RunEnd) × (drawn : SourceState) × (rest : SourceState) × (empty : SinkState) × (held : SinkState) × (drawn.rest ≡ Some (bench_text count seed)) × (empty.written ≡ Some [])
+    ensures plain { ArePlain (script (bench_text count seed)).lines }
+    ensures ran { (end : RunEnd) × (drawn : SourceState) × (rest : SourceState) × (empty : SinkState) × (held : SinkState) × (drawn.rest ≡ Some (bench_text count seed)) × (empty.written ≡ Some [])
         × HasRun (λ V. Unit {0}) (I.state (disk_of core)) (I.state result.image) drawn rest empty held bench_world end
         × PrintedBench seed count result.status end (I.state (disk_of core)) (K.state output.old) (K.state output.new) }
 {

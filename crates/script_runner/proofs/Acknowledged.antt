@@ -1,5 +1,5 @@
 -- A commit that a reply tells is one of the world after it.
-use Rattle.std.proofs.Common.{◌≡◌, ◌⊎◌, ◌<◌, ◌≤◌, ◌+◌, ◌-◌, ℕ, Bool, true, false, cond, List, [], ◌∷◌, ◌++◌, Option, Some, None, inl, inr, ⊎_elim, drop, take, length-append, arith}
+use Rattle.std.proofs.Common.{◌≡◌, ◌<◌, ◌≤◌, ◌+◌, ◌-◌, ℕ, Bool, true, false, cond, List, [], ◌∷◌, length, Option, Some, None, Result, Ok, Err, inl, inr, drop, take, length-append, arith}
 use Rattle.iso_model.specs.declared.access.Access.{Access}
 use Rattle.iso_model.specs.declared.access.Clash.{Clash}
 use Rattle.iso_model.specs.declared.access.MarkError.{MarkError}
@@ -8,17 +8,24 @@ use Rattle.iso_model.specs.declared.access.Mode.{Mode}
 use Rattle.iso_model.specs.declared.access.Span.{Span}
 use Rattle.iso_model.specs.declared.script.Line.{Line}
 use Rattle.iso_model.specs.declared.script.Op.{Op}
-use Rattle.iso_model.specs.declared.script.Op.TheVariants.{Begin, End, Abort, Put, Read as ReadBlock, Get, Write as WriteBlock, Fill, Mark, Release, Takeover, Await, Trim, Stat, Compact, Upgrade}
+use Rattle.iso_model.specs.declared.script.Op.TheVariants.{Begin, End, Abort, Put, Read as ReadBlock, Get, Write as WriteBlock, Fill, Mark, Release, Takeover, Await, Trim, Stat, Compact, Upgrade, HashPut, HashGet, HashDelete}
 use Rattle.iso_model.specs.declared.script.Reply.{Reply}
 use Rattle.iso_model.specs.declared.script.Reply.TheVariants as reply
+use Rattle.iso_model.specs.declared.stores.StoreError.{StoreError}
+use Rattle.iso_model.specs.declared.stores.StoreError.TheVariants as store
+use Rattle.iso_model.specs.declared.limits.TheConstants.{MAX_ACCESSES}
 use Rattle.iso_model.specs.Conflict.{clash}
+use Rattle.iso_model.specs.HashCalls.{del_program, get_program, put_program}
 use Rattle.iso_model.specs.History.{last}
 use Rattle.iso_model.specs.Marks.{mark_fault}
 use Rattle.iso_model.specs.Script.{after}
-use Rattle.iso_model.specs.Step.{access_step, after_commit, begin_step, commit_step, end_step, fill_step, get_step, in_transaction, mark_step, marked_step, mode_named, need, numbers, out_of_transaction, put_step, read_access, read_step, release_step, shown_to, step, switch_step, takeover_step, write_step}
+use Rattle.iso_model.specs.Step.{access_step, after_commit, after_store, array_of, begin_step, commit_step, end_step, fill_step, found_reply, get_step, hash_area, hash_delete_step, hash_get_step, hash_put_step, in_store, in_transaction, mark_step, marked_step, mode_named, need, numbers, out_of_transaction, put_step, read_access, read_step, release_step, removed_reply, shown_to, step, store_step, switch_step, takeover_step, write_step}
+use Rattle.iso_model.specs.Stores.{Program, outcome}
 use Rattle.iso_model.specs.World.{Live, Place, World, attached, client, floor, held, used}
-use Rattle.iso_model.specs.Worlds.{IsWorld}
+use Rattle.iso_model.specs.Worlds.{AreLines, IsWorld}
+use Rattle.iso_model.proofs.Worlds.{after_leads, step_leads}
 use Rattle.script_runner.specs.Run.{Acknowledges}
+use Rattle.script_runner.proofs.Histories.{longer}
 
 -- a commit that the reply tells is one of the world beside it
 record Tells (result : Reply × World) : Type 0 where
@@ -93,6 +100,48 @@ end_tells : (W : World) (t : Live) → IsWorld W → Tells (end_step W t)
 unfolding end_step
 end_tells W t is = tells_either _ _ _ (commit_tells W t (clash W.geometry W.history t.mode t.begin t.accesses) is) (other reply.ReadOnly _ (λ n e. cc))
 
+-- a call of a store makes no commit
+stored_tells : {R : Type 0} (W : World) (t : Live) (answer : R → Reply) → ((r : R) (n : ℕ) → answer r ≡ reply.Committed n → ⊥)
+    → (done : List Access) (end : Option (Result R StoreError)) → Tells (after_store W t answer (done, end))
+stored_tells W t answer none done None = record { each = λ n e. cc }
+stored_tells W t answer none done (Some (Ok r)) = record { each = λ n e. absurd (none r n e) }
+stored_tells W t answer none done (Some (Err store.BadKey)) = record { each = λ n e. cc }
+stored_tells W t answer none done (Some (Err store.BadValue)) = record { each = λ n e. cc }
+stored_tells W t answer none done (Some (Err (store.NoBlocks need free))) = record { each = λ n e. cc }
+stored_tells W t answer none done (Some (Err (store.Broken block))) = record { each = λ n e. cc }
+stored_tells W t answer none done (Some (Err (store.Tx error))) = record { each = λ n e. cc }
+stored_tells W t answer none done (Some (Err store.Memory)) = record { each = λ n e. cc }
+
+store_tells : {R : Type 0} (W : World) (t : Live) (program : Program (Result R StoreError)) (answer : R → Reply) → ((r : R) (n : ℕ) → answer r ≡ reply.Committed n → ⊥)
+    → Tells (store_step W t program answer)
+unfolding store_step
+store_tells W t program answer none =
+    let ended = outcome (MAX_ACCESSES - length t.accesses) program (array_of W t) in
+    stored_tells W t answer none ended.0 ended.1
+
+in_store_tells : (W : World) (t : Live) (blocks : ℕ) (result : Reply × World) → Tells result → Tells (in_store W t blocks result)
+in_store_tells W t blocks result tells = refuses _ reply.NoStore W _ (λ n e. cc) (tells_either _ _ _ tells (other reply.StoreMode _ (λ n e. cc)))
+
+hash_put_tells : (W : World) (t : Live) (key value : List ℕ) → Tells (hash_put_step W t key value)
+unfolding hash_put_step
+hash_put_tells W t key value = in_store_tells W t W.geometry.hash _ (store_tells W t (put_program (hash_area W.geometry) key value) (λ done. reply.Done) (λ r n e. cc))
+
+hash_get_tells : (W : World) (t : Live) (key : List ℕ) → Tells (hash_get_step W t key)
+unfolding hash_get_step
+hash_get_tells W t key = in_store_tells W t W.geometry.hash _ (store_tells W t (get_program (hash_area W.geometry) key) found_reply found)
+  where
+    found : (r : Option (List ℕ)) (n : ℕ) → found_reply r ≡ reply.Committed n → ⊥
+    found None n e = cc
+    found (Some value) n e = cc
+
+hash_delete_tells : (W : World) (t : Live) (key : List ℕ) → Tells (hash_delete_step W t key)
+unfolding hash_delete_step
+hash_delete_tells W t key = in_store_tells W t W.geometry.hash _ (store_tells W t (del_program (hash_area W.geometry) key) removed_reply removed)
+  where
+    removed : (r : Bool) (n : ℕ) → removed_reply r ≡ reply.Committed n → ⊥
+    removed true n e = cc
+    removed false n e = cc
+
 release_tells : (W : World) (t : Live) (text : List ℕ) (found : Option Live) → Tells (release_step W t text found)
 release_tells W t text (Some other) = record { each = λ n e. cc }
 release_tells W t text None = record { each = λ n e. cc }
@@ -131,15 +180,17 @@ step_tells W c Trim is = record { each = λ n e. cc }
 step_tells W c Stat is = record { each = λ n e. cc }
 step_tells W c Compact is = switch_tells W W.geometry.form (reply.Compacted (floor W)) (λ n e. cc)
 step_tells W c Upgrade is = switch_tells W 2 (reply.Upgraded (floor W)) (λ n e. cc)
+step_tells W c (HashPut key value) is = in_tells W (attached W c) _ (λ t. hash_put_tells W t key value)
+step_tells W c (HashGet key) is = in_tells W (attached W c) _ (λ t. hash_get_tells W t key)
+step_tells W c (HashDelete key) is = in_tells W (attached W c) _ (λ t. hash_delete_tells W t key)
 
--- one line
-pub one_kept : (W : World) (x : ℕ × Line) → IsWorld W → (n : ℕ) → Acknowledges W (x ∷ []) n → n ≤ last (after W (x ∷ [])).history
-one_kept W x is n (inl says) = (step_tells W x.1.client x.1.op is).each n says
-one_kept W x is n (inr none) = absurd none
-
--- a line of the first or of the others
-pub acknowledges-append : (W : World) (xs ys : List (ℕ × Line)) (n : ℕ) → Acknowledges W (xs ++ ys) n → Acknowledges W xs n ⊎ Acknowledges (after W xs) ys n
-acknowledges-append W [] ys n told = inr told
-acknowledges-append W (x ∷ xs) ys n (inl says) = inl (inl says)
-acknowledges-append W (x ∷ xs) ys n (inr later) =
-    ⊎_elim (λ there. inl (inr there)) (λ there. inr there) (acknowledges-append (step W x.1.client x.1.op).1 xs ys n later)
+-- all lines
+pub all_kept : (W : World) (xs : List (ℕ × Line)) → IsWorld W → AreLines xs → (n : ℕ) → Acknowledges W xs n → n ≤ last (after W xs).history
+all_kept W [] is good n told = absurd told
+all_kept W (x ∷ xs) is good n (inl says) =
+    let U = (step W x.1.client x.1.op).1 in
+    let one = step_leads W x.1.client x.1.op is good.0 in
+    omega (arith, (step_tells W x.1.client x.1.op is).each n says, longer U (after U xs) (after_leads U xs one.world good.1))
+all_kept W (x ∷ xs) is good n (inr later) =
+    let one = step_leads W x.1.client x.1.op is good.0 in
+    all_kept (step W x.1.client x.1.op).1 xs one.world good.1 n later

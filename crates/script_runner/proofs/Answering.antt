@@ -8,7 +8,7 @@ use Rattle.iso_model.specs.declared.script.LineError.{LineError}
 use Rattle.iso_model.specs.declared.script.LineError.TheVariants.{Cause, Memory as NoMemory}
 use Rattle.iso_model.specs.declared.script.Parsed.{Parsed}
 use Rattle.iso_model.specs.declared.script.Parsed.TheVariants.{Skip, Line as Says}
-use Rattle.iso_model.specs.Script.{Script, after, before_script, parse_whole, script_from}
+use Rattle.iso_model.specs.Script.{Script, before_script, parse_whole, script_from}
 use Rattle.iso_model.specs.Text.{pieces}
 use Rattle.iso_model.specs.World.{World}
 use Rattle.script_text.specs.Parsing.{Gives}
@@ -51,7 +51,7 @@ step_lines halt.Memory S done next by first = first
 module _ (stands_new : World → Type 0) (e : DiskState) (l : SinkState) {stands_old : World → Type 0} {d mid : DiskState} {k mid_sink : SinkState}
     (W : World) (bytes : List ℕ) (number : ℕ) (held line : List ℕ) (none : HasNoFeed line) (r : Reads stands_old d mid k mid_sink W bytes number held) where
   -- the line was answered
-  next_reads : (parsed : Parsed) → Gives (Ok parsed) (parse_whole (held ++ line)) → Ran stands_new mid e mid_sink l (after W r.done) (lines_of number parsed)
+  next_reads : (parsed : Parsed) → Gives (Ok parsed) (parse_whole (held ++ line)) → Ran stands_new mid e mid_sink l r.ran.reached (lines_of number parsed)
       → Reads stands_new d e k l W (bytes ++ (line ++ 10 ∷ [])) (number + 1) []
   next_reads parsed given ran =
       let whole : HasNoFeed (held ++ line) = no_feed-append held line r.no_feed none in
@@ -70,7 +70,7 @@ module _ (stands_new : World → Type 0) (e : DiskState) (l : SinkState) {stands
       }
 
   pub reads_line : (parsed : Result Parsed LineError) (ok : Unit {0}) (left : List ℕ) → Gives parsed (parse_whole (held ++ line)) → OnOk parsed (left ≡ [])
-      → AnswersParsed stands_new mid e mid_sink l (after W r.done) number parsed (Ok ok)
+      → AnswersParsed stands_new mid e mid_sink l r.ran.reached number parsed (Ok ok)
       → Reads stands_new d e k l W (bytes ++ (line ++ 10 ∷ [])) (number + 1) left
   reads_line (Ok Skip) ok left given nothing answers =
       subst (λ (xs : List ℕ). Reads stands_new d e k l W (bytes ++ (line ++ 10 ∷ [])) (number + 1) xs) (sym nothing) (next_reads Skip given answers)
@@ -84,7 +84,7 @@ module _ (stands_new : World → Type 0) (e : DiskState) (l : SinkState) {stands
 
   -- a line halts
   line_ends : (said : Line) (halt : Halt) → Gives (Ok (Says said)) (parse_whole (held ++ line)) → IsByStep halt
-      → Answered stands_new mid e mid_sink l (after W r.done) (end_of halt) [] ((number, said) ∷ [])
+      → Answered stands_new mid e mid_sink l r.ran.reached (end_of halt) [] ((number, said) ∷ [])
       → EndsAt stands_new d e k l W (bytes ++ (line ++ 10 ∷ [])) (end_of halt)
   line_ends said halt given by halted =
       let next : List (ℕ × Line) = (number, said) ∷ [] in
@@ -98,11 +98,11 @@ module _ (stands_new : World → Type 0) (e : DiskState) (l : SinkState) {stands
         answered = halted_more W r.done next (end_of halt) r.ran halted;
       }
 
-  all_ran : Ran stands_new mid e mid_sink l (after W r.done) [] → Ran stands_new d e k l W r.done
+  all_ran : Ran stands_new mid e mid_sink l r.ran.reached [] → Ran stands_new d e k l W r.done
   all_ran ran = subst (λ (xs : List (ℕ × Line)). Ran stands_new d e k l W xs) (append-nil r.done) (ran_more W r.done [] r.ran ran)
 
   -- a bad line
-  bad_ends : (cause : ℕ) → parse_whole (held ++ line) ≡ Err cause → Ran stands_new mid e mid_sink l (after W r.done) []
+  bad_ends : (cause : ℕ) → parse_whole (held ++ line) ≡ Err cause → Ran stands_new mid e mid_sink l r.ran.reached []
       → EndsAt stands_new d e k l W (bytes ++ (line ++ 10 ∷ [])) (end.BadLine (record { line = number; cause = cause }))
   bad_ends cause given ran =
       let bad : BadLine = record { line = number; cause = cause } in
@@ -119,7 +119,7 @@ module _ (stands_new : World → Type 0) (e : DiskState) (l : SinkState) {stands
       }
 
   -- want of memory before the line was run
-  starved_ends : Ran stands_new mid e mid_sink l (after W r.done) [] → EndsAt stands_new d e k l W (bytes ++ (line ++ 10 ∷ [])) end.Memory
+  starved_ends : Ran stands_new mid e mid_sink l r.ran.reached [] → EndsAt stands_new d e k l W (bytes ++ (line ++ 10 ∷ [])) end.Memory
   starved_ends ran = record {
     done = r.done;
     next = [];
@@ -129,7 +129,7 @@ module _ (stands_new : World → Type 0) (e : DiskState) (l : SinkState) {stands
   }
 
   pub ends_line : (parsed : Result Parsed LineError) (halt : Halt) → Gives parsed (parse_whole (held ++ line))
-      → AnswersParsed stands_new mid e mid_sink l (after W r.done) number parsed (Err halt)
+      → AnswersParsed stands_new mid e mid_sink l r.ran.reached number parsed (Err halt)
       → EndsAt stands_new d e k l W (bytes ++ (line ++ 10 ∷ [])) (end_of halt)
   ends_line (Ok Skip) halt given answers = absurd answers
   ends_line (Ok (Says said)) halt given answers = line_ends said halt given answers.0 answers.1
@@ -141,8 +141,8 @@ module _ (stands_new : World → Type 0) (e : DiskState) (l : SinkState) {stands
 -- the machine stands for some world
 pub stands_on : (stands : World → Type 0) (d e : DiskState) (k l : SinkState) (W : World) (number : ℕ) (parsed : Result Parsed LineError) (result : Result (Unit {0}) Halt)
     → AnswersParsed stands d e k l W number parsed result → OnOk result ((V : World) × stands V)
-stands_on stands d e k l W number (Ok Skip) (Ok _) answers = (after W [], answers.world)
-stands_on stands d e k l W number (Ok (Says said)) (Ok _) answers = (after W ((number, said) ∷ []), answers.world)
+stands_on stands d e k l W number (Ok Skip) (Ok _) answers = (answers.reached, answers.world)
+stands_on stands d e k l W number (Ok (Says said)) (Ok _) answers = (answers.reached, answers.world)
 stands_on stands d e k l W number (Err error) (Ok _) answers = absurd answers
 stands_on stands d e k l W number parsed (Err halt) answers = tt
 

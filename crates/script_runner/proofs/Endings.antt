@@ -19,7 +19,7 @@ use Rattle.iso_model.specs.declared.script.Parsed.{Parsed}
 use Rattle.iso_model.specs.declared.script.Parsed.TheVariants.{Skip, Line as Says}
 use Rattle.iso_model.specs.History.{last}
 use Rattle.iso_model.specs.Image.{Shows}
-use Rattle.iso_model.specs.Script.{Script, after, bad_line, before_script, last_piece, no_lines, parse, parse_whole, script, script_from}
+use Rattle.iso_model.specs.Script.{Script, bad_line, before_script, last_piece, no_lines, parse, parse_whole, script, script_from}
 use Rattle.iso_model.specs.Text.{is_empty, pieces}
 use Rattle.iso_model.specs.World.{World}
 use Rattle.iso_model.specs.Worlds.{IsWorld}
@@ -290,7 +290,7 @@ module _ {stands : World → Type 0} {d e : DiskState} {k l : SinkState} (W : Wo
   module _ (i j : SourceState) (gave : Gave i j bytes) (met : MetEnd i j bytes) (few : length bytes < MAX_INPUT) (some : 0 < length held)
       (stands_new : World → Type 0) (f : DiskState) (m : SinkState) where
     -- the last line was answered
-    last_answered : (parsed : Parsed) → Gives (Ok parsed) (parse held) → Ran stands_new e f l m (after W r.done) (lines_of number parsed)
+    last_answered : (parsed : Parsed) → Gives (Ok parsed) (parse held) → Ran stands_new e f l m r.ran.reached (lines_of number parsed)
         → HasRun stands_new d f i j k m W end.Done
     last_answered parsed given ran =
         let lines = lines_of number parsed in
@@ -301,7 +301,7 @@ module _ {stands : World → Type 0} {d e : DiskState} {k l : SinkState} (W : Wo
         ) (ended_here W (r.done ++ lines) end.Done tt (ran_more W r.done lines r.ran ran))
 
     last_halts : (said : Line) (halt : Halt) → Gives (Ok (Says said)) (parse held) → IsByStep halt
-        → Answered stands_new e f l m (after W r.done) (end_of halt) [] ((number, said) ∷ []) → HasRun stands_new d f i j k m W (end_of halt)
+        → Answered stands_new e f l m r.ran.reached (end_of halt) [] ((number, said) ∷ []) → HasRun stands_new d f i j k m W (end_of halt)
     last_halts said halt given by halted =
         let next : List (ℕ × Line) = (number, said) ∷ [] in
         met_runs i j (end_of halt) r.done next gave met few (halt_uninput halt) (halt_count halt i.faults j.faults gave.faults)
@@ -309,10 +309,10 @@ module _ {stands : World → Type 0} {d e : DiskState} {k l : SinkState} (W : Wo
         (ap (λ (s : Script). s.lines) (last_script some ∙ ap (behind r.done) (before-parsed number (Says said) (parse held) no_lines given))) (omega arith)))
         (halted_more W r.done next (end_of halt) r.ran halted)
 
-    all_ran : Ran stands_new e f l m (after W r.done) [] → Ran stands_new d f k m W r.done
+    all_ran : Ran stands_new e f l m r.ran.reached [] → Ran stands_new d f k m W r.done
     all_ran ran = subst (λ (xs : List (ℕ × Line)). Ran stands_new d f k m W xs) (append-nil r.done) (ran_more W r.done [] r.ran ran)
 
-    last_bad : (cause : ℕ) → parse held ≡ Err cause → Ran stands_new e f l m (after W r.done) []
+    last_bad : (cause : ℕ) → parse held ≡ Err cause → Ran stands_new e f l m r.ran.reached []
         → HasRun stands_new d f i j k m W (end.BadLine (record { line = number; cause = cause }))
     last_bad cause given ran =
         let bad : BadLine = record { line = number; cause = cause } in
@@ -320,20 +320,20 @@ module _ {stands : World → Type 0} {d e : DiskState} {k l : SinkState} (W : Wo
         (last_script some ∙ ap (λ (p : Result Parsed ℕ). behind r.done (before_script number p no_lines)) given ∙ with_nil r.done (Some bad), refl)
         (ended_here W r.done (end.BadLine bad) tt (all_ran ran))
 
-    last_starved : Ran stands_new e f l m (after W r.done) [] → HasRun stands_new d f i j k m W end.Memory
+    last_starved : Ran stands_new e f l m r.ran.reached [] → HasRun stands_new d f i j k m W end.Memory
     last_starved ran =
         met_runs i j end.Memory r.done [] gave met few (λ input. cc) gave.faults
         (first_none _ r.done (last_piece false number held).lines (ap (λ (s : Script). s.lines) (taken_script false)))
         (ended_here W r.done end.Memory tt (all_ran ran))
 
     pub last_done : (parsed : Result Parsed LineError) (ok : Unit {0}) → Gives parsed (parse held)
-        → AnswersParsed stands_new e f l m (after W r.done) number parsed (Ok ok) → HasRun stands_new d f i j k m W end.Done
+        → AnswersParsed stands_new e f l m r.ran.reached number parsed (Ok ok) → HasRun stands_new d f i j k m W end.Done
     last_done (Ok Skip) ok given answers = last_answered Skip given answers
     last_done (Ok (Says said)) ok given answers = last_answered (Says said) given answers
     last_done (Err error) ok given answers = absurd answers
 
     pub last_runs : (parsed : Result Parsed LineError) (halt : Halt) → Gives parsed (parse held)
-        → AnswersParsed stands_new e f l m (after W r.done) number parsed (Err halt) → HasRun stands_new d f i j k m W (end_of halt)
+        → AnswersParsed stands_new e f l m r.ran.reached number parsed (Err halt) → HasRun stands_new d f i j k m W (end_of halt)
     last_runs (Ok Skip) halt given answers = absurd answers
     last_runs (Ok (Says said)) halt given answers = last_halts said halt given answers.0 answers.1
     last_runs (Err (Cause cause)) halt given answers =

@@ -1,31 +1,33 @@
 -- Lines that are answered one after the other.
-use Rattle.std.proofs.Common.{◌≡◌, ◌≤◌, ℕ, List, [], ◌∷◌, ◌++◌, take, ap, refl, sym, subst, ◌∙◌, inl, inr, ⊎_elim, append_assoc, append-nil, arith}
+use Rattle.std.proofs.Common.{◌≡◌, ◌≤◌, ℕ, List, [], ◌∷◌, ◌++◌, take, ap, refl, sym, subst, ◌∙◌, inl, inr, ⊎_elim, append_assoc, append-nil}
 use Rattle.std.specs.Prelude.{IsSome}
+use Rattle.std.specs.List.{AllByRecursion}
 use Rattle.std.specs.Io.KnownBytes.{append_known}
 use Rattle.fault_count.specs.Count.{Rose}
 use Rattle.iso_disk.specs.Disk.{DiskState, IsLawful, LeavesOnly}
 use Rattle.iso_disk.proofs.Moments.{started, weakened, at_end}
 use Rattle.iso_io.specs.Sink.{SinkState, CountsStand, Wrote}
 use Rattle.iso_io.proofs.Told.{append_known-append, append_known-nil}
+use Rattle.iso_model.specs.declared.access.Geometry.{Geometry}
 use Rattle.iso_model.specs.declared.script.Line.{Line}
 use Rattle.iso_model.specs.declared.script.Reply.{Reply}
-use Rattle.iso_model.specs.History.{last}
+use Rattle.iso_model.specs.History.{History, last}
 use Rattle.iso_model.specs.Image.{Shows}
 use Rattle.iso_model.specs.Script.{replies, after}
 use Rattle.iso_model.specs.Step.{step}
 use Rattle.iso_model.specs.Text.{reply_line}
 use Rattle.iso_model.specs.World.{World}
-use Rattle.iso_model.specs.Worlds.{IsOp, IsWorld, LeadsTo}
+use Rattle.iso_model.specs.Worlds.{AreLines, Extends, IsOp, IsWorld, KeepsGeometry, LeadsTo}
 use Rattle.iso_model.proofs.Worlds.{after_leads, step_leads}
 use Rattle.script_runner.specs.declared.run_end.RunEnd.{RunEnd}
 use Rattle.script_runner.specs.declared.run_end.RunEnd.TheVariants.{Done, BadLine as Bad, Disk, Input, Output, Memory}
 use Rattle.script_runner.specs.Between.{IsBeforeOrAfter, ShowsBetween}
 use Rattle.script_runner.specs.Counts.{DiskCount, SinkCounts}
 use Rattle.script_runner.specs.Lines.{Ran}
-use Rattle.script_runner.specs.Told.{IfTold}
-use Rattle.script_runner.specs.Run.{Answered, IfUp, Replied}
-use Rattle.script_runner.proofs.Acknowledged.{acknowledges-append, one_kept}
-use Rattle.script_runner.proofs.Histories.{leads_on, longer, runs_joined, shows_last, step_between}
+use Rattle.script_runner.specs.Told.{IfTold, IsPlain, StandsSo}
+use Rattle.script_runner.specs.Run.{Answered, IfUp, IsBehind, Replied}
+use Rattle.script_runner.proofs.Acknowledged.{all_kept}
+use Rattle.script_runner.proofs.Histories.{between_since, leads_on, runs_joined, shows_last, step_between}
 
 pub after-append : (W : World) (xs ys : List (ℕ × Line)) → after W (xs ++ ys) ≡ after (after W xs) ys
 after-append W [] ys = refl
@@ -49,15 +51,66 @@ pub reply_is : (W : World) (number : ℕ) (said : Line) (answer : Reply) (given 
 reply_is W number said answer given set same line is =
     same ∙ line ∙ ap (reply_line said.client) is ∙ sym (append-nil _)
 
+-- what holds of all lines holds of the first and of the others
+pub all_append : (P : ℕ × Line → Type 0) (xs ys : List (ℕ × Line)) → AllByRecursion P xs → AllByRecursion P ys → AllByRecursion P (xs ++ ys)
+all_append P [] ys first second = second
+all_append P (x ∷ xs) ys first second = (first.0, all_append P xs ys first.1 second)
+
+pub all_first : (P : ℕ × Line → Type 0) (xs ys : List (ℕ × Line)) → AllByRecursion P (xs ++ ys) → AllByRecursion P xs
+all_first P [] ys all = tt
+all_first P (x ∷ xs) ys all = (all.0, all_first P xs ys all.1)
+
+all_others : (P : ℕ × Line → Type 0) (xs ys : List (ℕ × Line)) → AllByRecursion P (xs ++ ys) → AllByRecursion P ys
+all_others P [] ys all = all
+all_others P (x ∷ xs) ys all = all_others P xs ys all.1
+
+-- the world behind lines, and then behind more of them
+behind_on : (d mid : DiskState) (W V U : World) (xs ys : List (ℕ × Line)) → IfTold d (IsSome mid.contents) → IsBehind d W xs V → IsBehind mid V ys U → IsBehind d W (xs ++ ys) U
+behind_on d mid W V U xs ys tells first second =
+    let P = λ (line : ℕ × Line). IsPlain line.1.op in
+    record {
+      known = λ how.
+          ⊎_elim
+          (λ told. second.known (inl (tells told)) ∙ ap (λ (X : World). after X ys) (first.known (inl told)) ∙ sym (after-append W xs ys))
+          (λ plain. second.known (inr (all_others P xs ys plain)) ∙ ap (λ (X : World). after X ys) (first.known (inr (all_first P xs ys plain))) ∙ sym (after-append W xs ys))
+          how;
+      leads = leads_on W V U first.leads second.leads;
+    }
+
+-- behind no line
+behind_none : (d : DiskState) (W : World) → IsWorld W → IsBehind d W [] W
+behind_none d W is = record { known = λ how. refl; leads = after_leads W [] is tt }
+
+-- behind one line that the machine has run
+pub behind_one : {stands : World → Type 0} {d : DiskState} (W : World) (x : ℕ × Line) → IsWorld W → IsOp x.1.op
+    → (so : StandsSo stands d (IsPlain x.1.op) (step W x.1.client x.1.op).1) → IsWorld so.world → IsBehind d W (x ∷ []) so.world
+behind_one W x is good so sound =
+    let U = (step W x.1.client x.1.op).1 in
+    let leads = step_leads W x.1.client x.1.op is good in
+    record {
+      known = λ how. so.known (⊎_elim inl (λ plain. inr plain.0) how);
+      leads = record {
+        world = sound;
+        geometry = subst (λ (g : Geometry). KeepsGeometry W.geometry g) (sym so.geometry) leads.geometry;
+        history = subst (λ (H : History). Extends W.history H) (sym so.history) leads.history;
+      };
+    }
+
+-- behind one line that it may have run
+pub behind_step : {d : DiskState} (W : World) (x : ℕ × Line) → IsWorld W → IsOp x.1.op → IsBehind d W (x ∷ []) (step W x.1.client x.1.op).1
+behind_step W x is good = record { known = λ how. refl; leads = step_leads W x.1.client x.1.op is good }
+
 module _ {stands : World → Type 0} {d : DiskState} {k : SinkState} (W : World) where
   -- before the first line
   pub ran_none : IsLawful d → IsWorld W → stands W → ((c : List ℕ) → d.now c → Shows c W.geometry W.history (last W.history))
       → Ran stands d d k k W []
   ran_none laws is stood shown = record {
+    sound = is;
+    good = tt;
     replies = λ told. sym (append_known-nil _);
     told = λ told. told;
-    order = after_leads W [] is tt;
-    acknowledged = λ n told. absurd told;
+    reached = W;
+    reached_is = behind_none d W is;
     moments = started laws (λ c here. shows_last W c (shown c here));
     exit = λ c here. shows_last W c (shown c here);
     world = stood;
@@ -65,42 +118,76 @@ module _ {stands : World → Type 0} {d : DiskState} {k : SinkState} (W : World)
     output = counts_stand k;
   }
 
+-- an image shows a history, whatever its world is
+between_same : (W U V : World) → V.history ≡ U.history → V.geometry ≡ U.geometry → (c : List ℕ) → ShowsBetween W U c → ShowsBetween W V c
+between_same W U V history geometry c shown = record {
+  at = shown.at;
+  from = shown.from;
+  to = subst (λ (H : History). shown.at ≤ last H) (sym history) shown.to;
+  shows = subst (λ (g : Geometry). Shows c g V.history shown.at) (sym geometry) (subst (λ (H : History). Shows c U.geometry H shown.at) (sym history) shown.shows);
+}
+
 -- the moments of one line
-line_moments : {d e : DiskState} (W : World) (x : ℕ × Line) → IsWorld W → IsOp x.1.op
-    → LeavesOnly d e (IsBeforeOrAfter W (step W x.1.client x.1.op).1) → LeavesOnly d e (ShowsBetween W (after W (x ∷ [])))
-line_moments W x is good moments = weakened moments (step_between W (after W (x ∷ [])) is (step_leads W x.1.client x.1.op is good))
+line_moments : {d e : DiskState} (W : World) (x : ℕ × Line) → IsWorld W → IsOp x.1.op → (V : World) → V.history ≡ (step W x.1.client x.1.op).1.history
+    → V.geometry ≡ (step W x.1.client x.1.op).1.geometry → LeavesOnly d e (IsBeforeOrAfter W (step W x.1.client x.1.op).1) → LeavesOnly d e (ShowsBetween W V)
+line_moments W x is good V history geometry moments =
+    let U = (step W x.1.client x.1.op).1 in
+    weakened moments (λ c shown. between_same W U V history geometry c (step_between W U is (step_leads W x.1.client x.1.op is good) c shown))
 
 module _ {stands : World → Type 0} {d e : DiskState} {k l : SinkState} (W : World) (x : ℕ × Line) (is : IsWorld W) (good : IsOp x.1.op)
     (moments : LeavesOnly d e (IsBeforeOrAfter W (step W x.1.client x.1.op).1)) where
   -- one line was run, and the sink took its whole reply
-  pub ran_one : stands (step W x.1.client x.1.op).1 → ((c : List ℕ) → e.now c → Shows c (after W (x ∷ [])).geometry (after W (x ∷ [])).history (last (after W (x ∷ [])).history))
+  pub ran_one : (so : StandsSo stands d (IsPlain x.1.op) (step W x.1.client x.1.op).1) → IsWorld so.world
+      → ((c : List ℕ) → e.now c → Shows c so.world.geometry so.world.history (last so.world.history))
       → IfTold d (Wrote k l (replies W (x ∷ []))) → IfTold d (IsSome e.contents) → e.faults ≡ d.faults → CountsStand k l → Ran stands d e k l W (x ∷ [])
-  ran_one stood shown text tells faults counts = record {
+  ran_one so sound shown text tells faults counts = record {
+    sound = is;
+    good = (good, tt);
     replies = text;
     told = tells;
-    order = step_leads W x.1.client x.1.op is good;
-    acknowledged = one_kept W x is;
-    moments = line_moments W x is good moments;
-    exit = λ c here. shows_last (after W (x ∷ [])) c (shown c here);
-    world = stood;
+    reached = so.world;
+    reached_is = behind_one W x is good so sound;
+    moments = line_moments W x is good so.world so.history so.geometry moments;
+    exit = λ c here. shows_last so.world c (shown c here);
+    world = so.is;
     disk = faults;
     output = counts;
   }
 
   -- one line may have been run, and halts
-  pub halted_one : (end : RunEnd) → IsLawful e → IfTold d (Replied end k l [] (replies W (x ∷ []))) → IfUp end (stands (step W x.1.client x.1.op).1)
+  halted_at : (end : RunEnd) (V : World) → V.history ≡ (step W x.1.client x.1.op).1.history → V.geometry ≡ (step W x.1.client x.1.op).1.geometry → IsBehind d W (x ∷ []) V
+      → IsLawful e → IfTold d (Replied end k l [] (replies W (x ∷ []))) → IfUp end (stands V)
       → DiskCount end d.faults e.faults → SinkCounts end k l → Answered stands d e k l W end [] (x ∷ [])
-  halted_one end laws text up faults counts = record {
-    replies = text;
-    order = after_leads W [] is tt;
-    acknowledged = λ n told. absurd told;
-    order_next = step_leads W x.1.client x.1.op is good;
-    exit = at_end laws (line_moments W x is good moments);
-    moments = line_moments W x is good moments;
-    world = up;
-    disk = faults;
-    output = counts;
-  }
+  halted_at end V history geometry behind laws text up faults counts =
+      let shown : LeavesOnly d e (ShowsBetween W V) = line_moments W x is good V history geometry moments in
+      record {
+        good = (good, tt);
+        replies = text;
+        order = after_leads W [] is tt;
+        order_next = step_leads W x.1.client x.1.op is good;
+        acknowledged = λ n told. absurd told;
+        reached = W;
+        final = V;
+        reached_is = behind_none d W is;
+        final_is = behind;
+        final_on = behind.leads;
+        exit = at_end laws shown;
+        moments = shown;
+        world = up;
+        disk = faults;
+        output = counts;
+      }
+
+  -- the step failed
+  pub halted_step : (end : RunEnd) → IsLawful e → IfTold d (Replied end k l [] (replies W (x ∷ []))) → IfUp end (stands (step W x.1.client x.1.op).1)
+      → DiskCount end d.faults e.faults → SinkCounts end k l → Answered stands d e k l W end [] (x ∷ [])
+  halted_step end laws text up faults counts = halted_at end (step W x.1.client x.1.op).1 refl refl (behind_step W x is good) laws text up faults counts
+
+  -- the step was done
+  pub halted_one : (end : RunEnd) → (so : StandsSo stands d (IsPlain x.1.op) (step W x.1.client x.1.op).1) → IsWorld so.world
+      → IsLawful e → IfTold d (Replied end k l [] (replies W (x ∷ []))) → IfUp end (stands so.world)
+      → DiskCount end d.faults e.faults → SinkCounts end k l → Answered stands d e k l W end [] (x ∷ [])
+  halted_one end so sound laws text up faults counts = halted_at end so.world so.history so.geometry (behind_one W x is good so sound) laws text up faults counts
 
 -- counts, after a run in which they stand
 disk_on : (end : RunEnd) (before mid now : ℕ) → mid ≡ before → DiskCount end mid now → DiskCount end before now
@@ -168,39 +255,53 @@ if_up Memory P is = tt
 if_up Disk P is = tt
 if_up Output P is = is
 
+-- a run between two others
+after_on : (W : World) (xs ys : List (ℕ × Line)) → IsWorld W → AreLines xs → AreLines ys → LeadsTo (after W xs) (after W (xs ++ ys))
+after_on W xs ys is good more =
+    subst (λ (V : World). LeadsTo (after W xs) V) (sym (after-append W xs ys)) (after_leads (after W xs) ys (after_leads W xs is good).world more)
+
 module _ {stands : World → Type 0} {d mid e : DiskState} {k mid_sink l : SinkState} {before_stands : World → Type 0} (W : World) (xs ys : List (ℕ × Line)) where
   -- more lines
-  pub ran_more : Ran before_stands d mid k mid_sink W xs → Ran stands mid e mid_sink l (after W xs) ys → Ran stands d e k l W (xs ++ ys)
+  pub ran_more : (first : Ran before_stands d mid k mid_sink W xs) → Ran stands mid e mid_sink l first.reached ys → Ran stands d e k l W (xs ++ ys)
   ran_more first second =
-      let U = after W xs in
-      let lead = leads_on W U (after U ys) first.order second.order in
-      let all = sym (after-append W xs ys) in
+      let U = first.reached in
       record {
-        replies = λ told. wrote_on k mid_sink l (replies W xs) (replies U ys) (first.replies told) (second.replies (first.told told)) ∙ ap (append_known k.written) (sym (replies-append W xs ys));
+        sound = first.sound;
+        good = all_append (λ line. IsOp line.1.op) xs ys first.good second.good;
+        replies = λ told.
+            wrote_on k mid_sink l (replies W xs) (replies (after W xs) ys) (first.replies told)
+            (subst (λ (V : World). Wrote mid_sink l (replies V ys)) (first.reached_is.known (inl told)) (second.replies (first.told told)))
+            ∙ ap (append_known k.written) (sym (replies-append W xs ys));
         told = λ told. second.told (first.told told);
-        order = subst (λ (V : World). LeadsTo W V) all lead;
-        acknowledged = λ n told. subst (λ (V : World). n ≤ last V.history) all
-            (⊎_elim (λ early. omega (arith, first.acknowledged n early, longer U (after U ys) second.order)) (second.acknowledged n) (acknowledges-append W xs ys n told));
-        moments = subst (λ (V : World). LeavesOnly d e (ShowsBetween W V)) all (runs_joined W U (after U ys) first.order second.order first.moments second.moments);
-        exit = λ c here. subst (λ (V : World). ShowsBetween V V c) all (second.exit c here);
-        world = subst (λ (V : World). stands V) all second.world;
+        reached = second.reached;
+        reached_is = behind_on d mid W U second.reached xs ys first.told first.reached_is second.reached_is;
+        moments = runs_joined W U second.reached first.reached_is.leads second.reached_is.leads first.moments second.moments;
+        exit = second.exit;
+        world = second.world;
         disk = second.disk ∙ first.disk;
         output = counts_on k mid_sink l first.output second.output;
       }
 
   -- more lines, behind which one halts
-  pub halted_more : (end : RunEnd) → Ran before_stands d mid k mid_sink W xs → Answered stands mid e mid_sink l (after W xs) end [] ys → Answered stands d e k l W end xs ys
+  pub halted_more : (end : RunEnd) → (first : Ran before_stands d mid k mid_sink W xs) → Answered stands mid e mid_sink l first.reached end [] ys
+      → Answered stands d e k l W end xs ys
   halted_more end first second =
-      let U = after W xs in
-      let all = sym (after-append W xs ys) in
+      let U = first.reached in
       record {
-        replies = λ told. replied_on end k mid_sink l (replies W xs) (replies U ys) (first.replies told) (second.replies (first.told told));
-        order = first.order;
-        acknowledged = first.acknowledged;
-        order_next = subst (λ (V : World). LeadsTo U V) all second.order_next;
-        exit = λ c here. subst (λ (V : World). ShowsBetween U V c) all (second.exit c here);
-        moments = subst (λ (V : World). LeavesOnly d e (ShowsBetween W V)) all (runs_joined W U (after U ys) first.order second.order_next first.moments second.moments);
-        world = subst (λ (V : World). IfUp end (stands V)) all second.world;
+        good = all_append (λ line. IsOp line.1.op) xs ys first.good second.good;
+        replies = λ told. replied_on end k mid_sink l (replies W xs) (replies (after W xs) ys) (first.replies told)
+            (subst (λ (V : World). Replied end mid_sink l [] (replies V ys)) (first.reached_is.known (inl told)) (second.replies (first.told told)));
+        order = after_leads W xs first.sound first.good;
+        order_next = after_on W xs ys first.sound first.good second.good;
+        acknowledged = all_kept W xs first.sound first.good;
+        reached = U;
+        final = second.final;
+        reached_is = first.reached_is;
+        final_is = behind_on d mid W U second.final xs ys first.told first.reached_is second.final_is;
+        final_on = second.final_is.leads;
+        exit = λ c here. between_since U second.reached second.final second.reached_is.leads c (second.exit c here);
+        moments = runs_joined W U second.final first.reached_is.leads second.final_is.leads first.moments second.moments;
+        world = second.world;
         disk = disk_on end d.faults mid.faults e.faults first.disk second.disk;
         output = sink_on end k mid_sink l first.output second.output;
       }
@@ -209,15 +310,21 @@ module _ {stands : World → Type 0} {d mid e : DiskState} {k mid_sink l : SinkS
 pub ended_here : {stands : World → Type 0} {d e : DiskState} {k l : SinkState} (W : World) (xs : List (ℕ × Line)) (end : RunEnd) → IsQuiet end → Ran stands d e k l W xs
     → Answered stands d e k l W end xs []
 ended_here {stands = stands} {d = d} {e = e} {k = k} {l = l} W xs end quiet ran =
-    let all = ap (after W) (sym (append-nil xs)) in
+    let all : xs ≡ xs ++ [] = sym (append-nil xs) in
     record {
+      good = subst (λ (ys : List (ℕ × Line)). AreLines ys) all ran.good;
       replies = λ told. quiet_replies end k l (replies W xs) [] quiet (ran.replies told);
-      order = ran.order;
-      acknowledged = ran.acknowledged;
-      order_next = subst (λ (V : World). LeadsTo (after W xs) V) all (after_leads (after W xs) [] ran.order.world tt);
-      exit = λ c here. subst (λ (V : World). ShowsBetween (after W xs) V c) all (ran.exit c here);
-      moments = subst (λ (V : World). LeavesOnly d e (ShowsBetween W V)) all ran.moments;
-      world = subst (λ (V : World). IfUp end (stands V)) all (if_up end (stands (after W xs)) ran.world);
+      order = after_leads W xs ran.sound ran.good;
+      order_next = after_on W xs [] ran.sound ran.good tt;
+      acknowledged = all_kept W xs ran.sound ran.good;
+      reached = ran.reached;
+      final = ran.reached;
+      reached_is = ran.reached_is;
+      final_is = subst (λ (ys : List (ℕ × Line)). IsBehind d W ys ran.reached) all ran.reached_is;
+      final_on = after_leads ran.reached [] ran.reached_is.leads.world tt;
+      exit = ran.exit;
+      moments = ran.moments;
+      world = if_up end (stands ran.reached) ran.world;
       disk = quiet_disk end d.faults e.faults quiet ran.disk;
       output = quiet_sink end k l quiet ran.output;
     }

@@ -8,18 +8,17 @@ use Rattle.iso_model.specs.declared.script.LineError.{LineError}
 use Rattle.iso_model.specs.declared.script.LineError.TheVariants.{Cause, Memory as NoMemory}
 use Rattle.iso_model.specs.declared.script.Parsed.{Parsed}
 use Rattle.iso_model.specs.declared.script.Parsed.TheVariants.{Skip, Line as Says}
-use Rattle.iso_model.specs.History.{last}
-use Rattle.iso_model.specs.Script.{Script, after, replies, script_from}
+use Rattle.iso_model.specs.Script.{Script, replies, script_from}
 use Rattle.iso_model.specs.Text.{pieces}
 use Rattle.iso_model.specs.World.{World}
-use Rattle.iso_model.specs.Worlds.{IsOp, IsWorld, LeadsTo}
+use Rattle.iso_model.specs.Worlds.{AreLines, IsOp, IsWorld}
 use Rattle.script_runner.specs.declared.run_end.Halt.{Halt}
 use Rattle.script_runner.specs.declared.run_end.Halt.TheVariants as halt
 use Rattle.script_runner.specs.declared.run_end.RunEnd.{RunEnd}
 use Rattle.script_runner.specs.declared.run_end.RunEnd.TheVariants as end
 use Rattle.script_runner.specs.Between.{ShowsBetween}
 use Rattle.script_runner.specs.Told.{IfTold}
-use Rattle.script_runner.specs.Run.{Acknowledges, AreLinesOf, Answered, EndsInFeed, HasNoFeed}
+use Rattle.script_runner.specs.Run.{AreLinesOf, Answered, EndsInFeed, HasNoFeed, IsBehind}
 
 -- a line that a machine may be asked
 pub record IsLine (line : Line) : Type 0 where
@@ -56,13 +55,15 @@ IsByStep end = Unit {0}
 
 -- From the world W these lines were answered, and no count rose.
 pub record Ran (stands : World → Type 0) (disk_old disk_new : DiskState) (output_old output_new : SinkState) (W : World) (done : List (ℕ × Line)) : Type 0 where
+  pub sound : IsWorld W
+  pub good : AreLines done
   pub replies : IfTold disk_old (Wrote output_old output_new (replies W done))
   pub told : IfTold disk_old (IsSome disk_new.contents)
-  pub order : LeadsTo W (after W done)
-  pub acknowledged : (n : ℕ) → Acknowledges W done n → n ≤ last (after W done).history
-  pub moments : LeavesOnly disk_old disk_new (ShowsBetween W (after W done))
-  pub exit : (c : List ℕ) → disk_new.now c → ShowsBetween (after W done) (after W done) c
-  pub world : stands (after W done)
+  pub reached : World
+  pub reached_is : IsBehind disk_old W done reached
+  pub moments : LeavesOnly disk_old disk_new (ShowsBetween W reached)
+  pub exit : (c : List ℕ) → disk_new.now c → ShowsBetween reached reached c
+  pub world : stands reached
   pub disk : disk_new.faults ≡ disk_old.faults
   pub output : CountsStand output_old output_new
 

@@ -10,12 +10,12 @@ use Rattle.iso_model.specs.History.{last}
 use Rattle.iso_model.specs.Script.{Script, after, replies, script}
 use Rattle.iso_model.specs.Step.{step}
 use Rattle.iso_model.specs.World.{World}
-use Rattle.iso_model.specs.Worlds.{LeadsTo}
+use Rattle.iso_model.specs.Worlds.{AreLines, LeadsTo}
 use Rattle.script_runner.specs.declared.run_end.RunEnd.{RunEnd}
 use Rattle.script_runner.specs.declared.run_end.RunEnd.TheVariants.{Done, BadLine as Bad, Disk, Input, Output, Memory}
 use Rattle.script_runner.specs.Between.{ShowsBetween}
 use Rattle.script_runner.specs.Counts.{DiskCount, SinkCounts, SourceCount}
-use Rattle.script_runner.specs.Told.{IfTold}
+use Rattle.script_runner.specs.Told.{ArePlain, IfKnown, IfTold}
 
 -- the lines `done` and then `next`, of which there is one at most, are the first of these lines
 pub record AreFirst (lines done next : List (ℕ × Line)) : Type 0 where
@@ -72,23 +72,36 @@ Acknowledges W [] n = ⊥
 Acknowledges W (line ∷ lines) n =
     ((step W line.1.client line.1.op).0 ≡ Committed n) ⊎ Acknowledges (step W line.1.client line.1.op).1 lines n
 
+-- The world that these lines led to from the world W. It is sound, and its history begins with that of W. It is the model's, where
+-- the disk tells its bytes or no line calls a store; else the accesses of such calls are not known, and it is the one that they made.
+pub record IsBehind (d : DiskState) (W : World) (lines : List (ℕ × Line)) (V : World) : Type 0 where
+  pub known : IfKnown d (ArePlain lines) (V ≡ after W lines)
+  pub leads : LeadsTo W V
+
 -- From the world W the lines `done` were answered: the sink took the whole reply to each. Behind them the machine may
 -- have run the lines `next`.
 pub record Answered (stands : World → Type 0) (disk_old disk_new : DiskState) (output_old output_new : SinkState) (W : World) (end : RunEnd)
     (done next : List (ℕ × Line)) : Type 0 where
+  pub good : AreLines (done ++ next)
   -- the reply theorem: the sink took the replies of the world and these lines, where the disk tells what a read shows
   pub replies : IfTold disk_old (Replied end output_old output_new (replies W done) (replies (after W done) next))
   -- the order theorem: the world after these lines is sound, so each of its commits is isolated, and its history begins with the one before
   pub order : LeadsTo W (after W done)
   pub order_next : LeadsTo (after W done) (after W (done ++ next))
-  -- the crash theorem: each image that a crash leaves now shows the history at a commit from the last one of these lines on,
-  -- and so at none before one that was acknowledged; and each that a crash might have left in the run shows it at a commit
-  -- from the last one before the run on
   pub acknowledged : (n : ℕ) → Acknowledges W done n → n ≤ last (after W done).history
-  pub exit : (c : List ℕ) → disk_new.now c → ShowsBetween (after W done) (after W (done ++ next)) c
-  pub moments : LeavesOnly disk_old disk_new (ShowsBetween W (after W (done ++ next)))
+  -- the worlds that the lines answered, and all lines, led to
+  pub reached : World
+  pub final : World
+  pub reached_is : IsBehind disk_old W done reached
+  pub final_is : IsBehind disk_old W (done ++ next) final
+  pub final_on : LeadsTo reached final
+  -- the crash theorem: each image that a crash leaves now shows the history at a commit from the last one of the lines answered
+  -- on, and so at none before one that was acknowledged; and each that a crash might have left in the run shows it at a commit
+  -- from the last one before the run on
+  pub exit : (c : List ℕ) → disk_new.now c → ShowsBetween reached final c
+  pub moments : LeavesOnly disk_old disk_new (ShowsBetween W final)
   -- the machine answers as the world after these lines
-  pub world : IfUp end (stands (after W (done ++ next)))
+  pub world : IfUp end (stands final)
   -- no fault was passed over
   pub disk : DiskCount end disk_old.faults disk_new.faults
   pub output : SinkCounts end output_old output_new

@@ -1,8 +1,13 @@
--- What a machine's disk tells of its bytes, and so what its replies show.
-use Rattle.std.specs.Prelude.{◌≡◌, IsSome}
+-- What a machine's disk tells of its bytes, and so what is known of its replies and its worlds.
+use Rattle.std.specs.Prelude.{◌≡◌, ◌⊎◌, ℕ, List, IsSome}
+use Rattle.std.specs.List.{AllByRecursion}
 use Rattle.iso_disk.specs.Disk.{DiskState}
+use Rattle.iso_model.specs.declared.script.Line.{Line}
+use Rattle.iso_model.specs.declared.script.Op.{Op}
+use Rattle.iso_model.specs.declared.script.Op.TheVariants.{HashPut, HashGet, HashDelete}
 use Rattle.iso_model.specs.declared.script.Reply.{Reply}
 use Rattle.iso_model.specs.declared.script.Reply.TheVariants.{Shown}
+use Rattle.iso_model.specs.World.{World}
 
 -- what holds where the disk tells its bytes; a real file tells none, so what a read of it gives is not known
 abbrev pub IfTold : DiskState → Type 0 → Type 0
@@ -12,3 +17,27 @@ IfTold d P = IsSome d.contents → P
 abbrev pub SameButShown : Reply → Reply → Type 0
 SameButShown (Shown xs) (Shown ys) = Unit {0}
 SameButShown r s = r ≡ s
+
+-- an operation that calls no store
+abbrev pub IsPlain : Op → Type 0
+IsPlain (HashPut key value) = ⊥
+IsPlain (HashGet key) = ⊥
+IsPlain (HashDelete key) = ⊥
+IsPlain op = Unit {0}
+
+-- lines that call no store
+abbrev pub ArePlain : List (ℕ × Line) → Type 0
+ArePlain lines = AllByRecursion (λ line. IsPlain line.1.op) lines
+
+-- what holds where the disk tells its bytes, or no store is called: what a store's call does with bytes that are not told is not
+-- known
+abbrev pub IfKnown : DiskState → (plain : Type 0) → Type 0 → Type 0
+IfKnown d plain P = IsSome d.contents ⊎ plain → P
+
+-- The machine stands for the world that is given, where it is known; else for one that has the same history, and other accesses.
+pub record StandsSo (stands : World → Type 0) (d : DiskState) (plain : Type 0) (given : World) : Type 0 where
+  pub world : World
+  pub is : stands world
+  pub known : IfKnown d plain (world ≡ given)
+  pub history : world.history ≡ given.history
+  pub geometry : world.geometry ≡ given.geometry

@@ -8,7 +8,7 @@ ghost use Rattle.iso_model.specs.World.{World};
 ghost use Rattle.iso_model.specs.Worlds.{IsOp, IsWorld};
 ghost use Rattle.script_runner.specs.Between.{IsBeforeOrAfter};
 ghost use Rattle.script_runner.specs.Counts.{BlamesDisk};
-ghost use Rattle.script_runner.specs.Told.{IfTold, SameButShown};
+ghost use Rattle.script_runner.specs.Told.{IfTold, IsPlain, SameButShown, StandsSo};
 
 use iso_model::{Op, Reply};
 
@@ -38,11 +38,13 @@ pub trait ScriptMachine {
         requires client { (1 ≤ client) × (client ≤ 64) }
         requires op { IsOp op.now }
 
-        // Over a disk that tells no bytes, as a real file, the bytes that a reply shows are not known.
+        // Over a disk that tells no bytes, as a real file, the bytes that a reply shows are not known, and so neither is what a
+        // store's call does with what it is shown. It leaves the history as it is in any case.
         ensures reply { (W : World) → stands self.old W → IfOk result (λ r. IfTold (disk self.old) (r ≡ (step W client op.now).0)) }
-        ensures but_shown { (W : World) → stands self.old W → IfOk result (λ r. SameButShown r (step W client op.now).0) }
+        ensures but_shown { (W : World) → stands self.old W → IsPlain op.now → IfOk result (λ r. SameButShown r (step W client op.now).0) }
         ensures told { OnOk result (IfTold (disk self.old) (IsSome (disk self.new).contents)) }
-        ensures world { (W : World) → stands self.old W → OnOk result (stands self.new (step W client op.now).1) }
+        ensures world { (W : World) → stands self.old W
+            → OnOk result (StandsSo (stands self.new) (disk self.old) (IsPlain op.now) (step W client op.now).1) }
         ensures moments { (W : World) → stands self.old W
             → LeavesOnly (disk self.old) (disk self.new) (IsBeforeOrAfter W (step W client op.now).1) }
         ensures up { ¬ IsErrOf result Stop.Down }

@@ -1,13 +1,14 @@
 -- A printed line is read as that line, and as no other.
-use Rattle.std.proofs.Common.{◌≡◌, ◌∙◌, ap, sym, refl, ℕ, ◌≤◌, ◌<◌, ◌^◌, IsTrue, List, [], ◌∷◌, length, Some, None, Result, Ok, Err, decimal, arith}
+use Rattle.std.proofs.Common.{◌≡◌, ◌∙◌, ap, sym, refl, bytes_eq, codes, ◌==◌, ◌&&◌, ◌/◌, ◌%◌, true, false, ℕ, ◌≤◌, ◌<◌, ◌^◌, IsTrue, List, [], ◌∷◌, length, Some, None, Result, Ok, Err, decimal, arith}
 use Rattle.iso_model.specs.declared.access.Mode.TheVariants.{Serial, Snapshot}
 use Rattle.iso_model.specs.declared.limits.TheConstants.{MAX_LINE}
 use Rattle.iso_model.specs.declared.script.Line.{Line}
 use Rattle.iso_model.specs.declared.script.Op.{Op}
-use Rattle.iso_model.specs.declared.script.Op.TheVariants.{Begin, End, Abort, Put, Read, Get, Write, Fill, Mark, Release, Takeover, Await, Trim, Stat, Compact, Upgrade}
+use Rattle.iso_model.specs.declared.script.Op.TheVariants.{Begin, End, Abort, Put, Read, Get, Write, Fill, Mark, Release, Takeover, Await, Trim, Stat, Compact, Upgrade, HashPut, HashGet, HashDelete}
 use Rattle.iso_model.specs.declared.script.Parsed.TheVariants.{Line as Says}
-use Rattle.iso_model.specs.Script.{◌>>=◌, client_in_range, number_argument, number_and_bytes, one_label, one_number, operation_of, other_operation, parse, put_arguments, said, three_numbers, two_numbers}
-use Rattle.iso_model.specs.Text.{hex_text, is_label, number_of, words_of}
+use Rattle.iso_model.specs.Script.{◌>>=◌, client_in_range, key_and_value, number_argument, number_and_bytes, one_key, one_label, one_number, operation_of, other_operation, store_argument, store_operation, parse, put_arguments, said, three_numbers, two_numbers}
+use Rattle.iso_model.specs.Text.{dashed, digit_of, hex_text, is_label, number_of, words_of}
+use Rattle.iso_model.specs.Premises.{AreBytes}
 use Rattle.script_text.specs.Spelling.{arguments_of, line_text, line_words, name_of, spaced, AreSome, IsLine, IsSayable}
 use Rattle.script_text.proofs.LineLemmas.{parse-said}
 use Rattle.script_text.proofs.Numerals.{IsWord, decimal_digits, decimal_word, hex_argument-printed, hex_word, label_argument-printed, label_word, number_of-printed}
@@ -30,6 +31,13 @@ name_word Trim = record { some = omega arith; bytes = refl }
 name_word Stat = record { some = omega arith; bytes = refl }
 name_word Compact = record { some = omega arith; bytes = refl }
 name_word Upgrade = record { some = omega arith; bytes = refl }
+name_word (HashPut key value) = record { some = omega arith; bytes = refl }
+name_word (HashGet key) = record { some = omega arith; bytes = refl }
+name_word (HashDelete key) = record { some = omega arith; bytes = refl }
+
+dashed_word : (bytes : List ℕ) → AreBytes bytes → IsWord (dashed bytes)
+dashed_word [] are = record { some = omega arith; bytes = refl }
+dashed_word (b ∷ bytes) are = hex_word (b ∷ bytes) (record { some = omega arith; values = are })
 
 arguments_words : (op : Op) → IsSayable op → AreWords (arguments_of op)
 arguments_words (Begin None) can = tt
@@ -50,6 +58,9 @@ arguments_words Trim can = tt
 arguments_words Stat can = tt
 arguments_words Compact can = tt
 arguments_words Upgrade can = tt
+arguments_words (HashPut key value) can = (dashed_word key can.0, (dashed_word value can.1, tt))
+arguments_words (HashGet key) can = (dashed_word key can, tt)
+arguments_words (HashDelete key) can = (dashed_word key can, tt)
 
 line_are_words : (line : Line) → IsLine line → AreWords (line_words line)
 line_are_words line is = (decimal_word line.client (omega (arith, is.last)), (name_word line.op, arguments_words line.op is.op))
@@ -84,8 +95,22 @@ put_printed block off bytes first second are =
 label_printed : (op : List ℕ → Op) (label : List ℕ) → IsTrue (is_label label) → one_label op (label ∷ []) ≡ Ok (op label)
 label_printed op label is = after _ _ label (label_argument-printed label is)
 
+-- a key or a value, which is not a dash where it has a byte
+not_dash : (x y : ℕ) (word : List ℕ) → bytes_eq (x ∷ y ∷ word) (codes "-") ≡ false
+not_dash x y word = elim (x == 45) as (λ t. (t && false) ≡ false) [ true ↦ refl | false ↦ refl ]
+
+stored_printed : (bytes : List ℕ) → AreBytes bytes → store_argument (dashed bytes) ≡ Ok bytes
+stored_printed [] are = refl
+stored_printed (b ∷ bytes) are = rw (not_dash (digit_of (b / 16)) (digit_of (b % 16)) (hex_text bytes)) (hex_argument-printed (b ∷ bytes) (record { some = omega arith; values = are }))
+
+key_printed : (op : List ℕ → Op) (key : List ℕ) → AreBytes key → one_key op (dashed key ∷ []) ≡ Ok (op key)
+key_printed op key are = after _ _ key (stored_printed key are)
+
+value_printed : (op : List ℕ → List ℕ → Op) (key value : List ℕ) → AreBytes key → AreBytes value → key_and_value op (dashed key ∷ dashed value ∷ []) ≡ Ok (op key value)
+value_printed op key value first second = after _ _ key (stored_printed key first) ∙ after _ _ value (stored_printed value second)
+
 pub operation_of-printed : (op : Op) → IsSayable op → operation_of (name_of op) (arguments_of op) ≡ Ok op
-unfolding operation_of other_operation
+unfolding operation_of other_operation store_operation
 operation_of-printed (Begin None) can = refl
 operation_of-printed (Begin (Some Serial)) can = refl
 operation_of-printed (Begin (Some Snapshot)) can = refl
@@ -104,6 +129,9 @@ operation_of-printed Trim can = refl
 operation_of-printed Stat can = refl
 operation_of-printed Compact can = refl
 operation_of-printed Upgrade can = refl
+operation_of-printed (HashPut key value) can = value_printed HashPut key value can.0 can.1
+operation_of-printed (HashGet key) can = key_printed HashGet key can
+operation_of-printed (HashDelete key) can = key_printed HashDelete key can
 
 client_fits : (c : ℕ) → 1 ≤ c → c ≤ 64 → client_in_range (Some c) ≡ Ok c
 client_fits c first last = grind arith

@@ -1,7 +1,8 @@
 -- What a step of the printer asks for and leaves.
-use Rattle.std.specs.Prelude.{◌≡◌, ◌≤◌, ℕ, List, ◌++◌, length}
+use Rattle.std.specs.Prelude.{◌≡◌, ◌<◌, ◌≤◌, ℕ, List, ◌++◌, length}
 use Rattle.iso_model.specs.declared.script.Reply.{Reply}
-use Rattle.iso_model.specs.declared.script.Reply.TheVariants.{Shown}
+use Rattle.iso_model.specs.declared.script.Reply.TheVariants.{Found, Shown}
+use Rattle.iso_model.specs.Text.{reply_text}
 use Rattle.script_text.specs.declared.reply.TheConstants.{MOST_SHOWN}
 
 -- the old bytes stand, and others may follow them
@@ -12,4 +13,11 @@ pub record Extends (old new : List ℕ) : Type 0 where
 -- a reply whose line fits in place
 abbrev pub IsShort : Reply → Type 0
 IsShort (Shown bytes) = length bytes ≤ MOST_SHOWN
+IsShort (Found bytes) = length bytes ≤ MOST_SHOWN
 IsShort reply = Unit {0}
+
+-- a reply that tells these bytes, which are too many for that
+pub record IsLong (reply : Reply) (bytes : List ℕ) : Type 0 where
+  pub text : reply_text reply ≡ reply_text (Shown bytes)
+  pub many : MOST_SHOWN < length bytes
+  pub long : ¬ IsShort reply

@@ -4,9 +4,9 @@ use Rattle.iso_model.specs.declared.access.Mode.{Mode}
 use Rattle.iso_model.specs.declared.access.Mode.TheVariants.{Serial, Snapshot}
 use Rattle.iso_model.specs.declared.script.Line.{Line}
 use Rattle.iso_model.specs.declared.script.Op.{Op}
-use Rattle.iso_model.specs.declared.script.Op.TheVariants.{Begin, End, Abort, Put, Read, Get, Write, Fill, Mark, Release, Takeover, Await, Trim, Stat, Compact, Upgrade}
+use Rattle.iso_model.specs.declared.script.Op.TheVariants.{Begin, End, Abort, Put, Read, Get, Write, Fill, Mark, Release, Takeover, Await, Trim, Stat, Compact, Upgrade, HashPut, HashGet, HashDelete}
 use Rattle.iso_model.specs.Premises.{AreBytes}
-use Rattle.iso_model.specs.Text.{hex_text, is_label}
+use Rattle.iso_model.specs.Text.{dashed, hex_text, is_label}
 
 -- the name of an operation
 abbrev pub name_of : Op → List ℕ
@@ -26,12 +26,15 @@ name_of Trim = codes "trim"
 name_of Stat = codes "stat"
 name_of Compact = codes "compact"
 name_of Upgrade = codes "upgrade"
+name_of (HashPut key value) = codes "hput"
+name_of (HashGet key) = codes "hget"
+name_of (HashDelete key) = codes "hdel"
 
 abbrev pub mode_word : Mode → List ℕ
 mode_word Serial = codes "serial"
 mode_word Snapshot = codes "snapshot"
 
--- the words behind the name: numbers in decimal, bytes in hexadecimal in lower case
+-- the words behind the name: numbers in decimal, bytes in hexadecimal in lower case, a dash for no key or value
 abbrev pub arguments_of : Op → List (List ℕ)
 arguments_of (Begin None) = []
 arguments_of (Begin (Some mode)) = mode_word mode ∷ []
@@ -44,6 +47,9 @@ arguments_of (Mark off len) = decimal off ∷ decimal len ∷ []
 arguments_of (Release label) = label ∷ []
 arguments_of (Takeover label) = label ∷ []
 arguments_of (Await label) = label ∷ []
+arguments_of (HashPut key value) = dashed key ∷ dashed value ∷ []
+arguments_of (HashGet key) = dashed key ∷ []
+arguments_of (HashDelete key) = dashed key ∷ []
 arguments_of op = []
 
 -- words with one space between two of them
@@ -76,6 +82,9 @@ IsSayable (Mark off len) = (off < 2 ^ 32) × (len < 2 ^ 32)
 IsSayable (Release label) = IsTrue (is_label label)
 IsSayable (Takeover label) = IsTrue (is_label label)
 IsSayable (Await label) = IsTrue (is_label label)
+IsSayable (HashPut key value) = AreBytes key × AreBytes value
+IsSayable (HashGet key) = AreBytes key
+IsSayable (HashDelete key) = AreBytes key
 IsSayable op = Unit {0}
 
 -- a line that can be said

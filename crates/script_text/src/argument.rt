@@ -1,5 +1,5 @@
 // The arguments of an operation, each with the cause that it fails by.
-ghost use Rattle.iso_model.specs.Script.{client_in_range, hex_argument, label_argument, mode_argument, number_argument};
+ghost use Rattle.iso_model.specs.Script.{client_in_range, hex_argument, label_argument, mode_argument, number_argument, store_argument};
 ghost use Rattle.iso_model.specs.Text.{number_of};
 ghost use Rattle.script_text.specs.Parsing.{Gives};
 
@@ -36,6 +36,16 @@ pub(crate) fn hex(alloc: Global, word: &[u8]) -> Result<Bytes, LineError>
         Ok(()) => Ok(Bytes::of(bytes)),
         Err(_) => Err(LineError::Cause(5)),
     }
+}
+
+/// A key or a value of a store: a dash stands for none.
+pub(crate) fn stored(alloc: Global, word: &[u8]) -> Result<Bytes, LineError>
+    ensures { Gives result (store_argument word.now) }
+{
+    if word == b"-".as_slice() {
+        return Ok(Bytes::empty(alloc));
+    }
+    hex(alloc, word)
 }
 
 pub(crate) fn label(word: &[u8]) -> Result<Label, LineError>

@@ -1,11 +1,11 @@
 // The operations, each with its arguments, which are tested from the left.
 ghost use Rattle.std.specs.Prelude.{◌≡◌};
-ghost use Rattle.iso_model.specs.Script.{bare, begin_arguments, number_and_bytes, one_label, one_number, operation_of, other_operation, put_arguments, three_numbers, two_numbers};
+ghost use Rattle.iso_model.specs.Script.{bare, begin_arguments, key_and_value, number_and_bytes, one_key, one_label, one_number, operation_of, other_operation, put_arguments, store_operation, three_numbers, two_numbers};
 ghost use Rattle.iso_model.specs.declared.script.Op.TheVariants as ops;
 ghost use Rattle.script_text.specs.Parsing.{Gives, said_by};
 ghost use Rattle.script_text.specs.Words.{texts};
 
-use crate::argument::{hex, label, mode, number};
+use crate::argument::{hex, label, mode, number, stored};
 use iso_model::{Line, LineError, Op, Parsed};
 use std::alloc::Global;
 
@@ -46,11 +46,16 @@ pub(crate) fn operation_of(
     if name == b"abort".as_slice() {
         return bare(client, Op::Abort, arguments);
     }
-    other_operation(client, name, arguments)
+    other_operation(alloc, client, name, arguments)
 }
 
 #[tactic(auto, unfolding(iso_model::specs::Script::other_operation))]
-fn other_operation(client: u8, name: &[u8], arguments: &[&[u8]]) -> Result<Parsed, LineError>
+fn other_operation(
+    alloc: Global,
+    client: u8,
+    name: &[u8],
+    arguments: &[&[u8]],
+) -> Result<Parsed, LineError>
     ensures { Gives result (said_by client (other_operation name.now (texts arguments.now))) }
 {
     if name == b"release".as_slice() {
@@ -73,6 +78,27 @@ fn other_operation(client: u8, name: &[u8], arguments: &[&[u8]]) -> Result<Parse
     }
     if name == b"upgrade".as_slice() {
         return bare(client, Op::Upgrade, arguments);
+    }
+    store_operation(alloc, client, name, arguments)
+}
+
+#[tactic(auto, unfolding(iso_model::specs::Script::store_operation))]
+fn store_operation(
+    alloc: Global,
+    client: u8,
+    name: &[u8],
+    arguments: &[&[u8]],
+) -> Result<Parsed, LineError>
+    ensures { Gives result (said_by client (store_operation name.now (texts arguments.now))) }
+{
+    if name == b"hput".as_slice() {
+        return hash_put(alloc, client, arguments);
+    }
+    if name == b"hget".as_slice() {
+        return hash_get(alloc, client, arguments);
+    }
+    if name == b"hdel".as_slice() {
+        return hash_delete(alloc, client, arguments);
     }
     Err(LineError::Cause(2))
 }
@@ -228,5 +254,45 @@ fn await_label(client: u8, arguments: &[&[u8]]) -> Result<Parsed, LineError>
     Ok(Parsed::Line(Line {
         client,
         op: Op::Await { label },
+    }))
+}
+
+fn hash_put(alloc: Global, client: u8, arguments: &[&[u8]]) -> Result<Parsed, LineError>
+    ensures { Gives result (said_by client (key_and_value ops.HashPut (texts arguments.now))) }
+{
+    let [key, value] = arguments else {
+        return Err(LineError::Cause(3));
+    };
+    let key = stored(alloc, key)?;
+    let value = stored(alloc, value)?;
+    Ok(Parsed::Line(Line {
+        client,
+        op: Op::HashPut { key, value },
+    }))
+}
+
+fn hash_get(alloc: Global, client: u8, arguments: &[&[u8]]) -> Result<Parsed, LineError>
+    ensures { Gives result (said_by client (one_key ops.HashGet (texts arguments.now))) }
+{
+    let [key] = arguments else {
+        return Err(LineError::Cause(3));
+    };
+    let key = stored(alloc, key)?;
+    Ok(Parsed::Line(Line {
+        client,
+        op: Op::HashGet { key },
+    }))
+}
+
+fn hash_delete(alloc: Global, client: u8, arguments: &[&[u8]]) -> Result<Parsed, LineError>
+    ensures { Gives result (said_by client (one_key ops.HashDelete (texts arguments.now))) }
+{
+    let [key] = arguments else {
+        return Err(LineError::Cause(3));
+    };
+    let key = stored(alloc, key)?;
+    Ok(Parsed::Line(Line {
+        client,
+        op: Op::HashDelete { key },
     }))
 }

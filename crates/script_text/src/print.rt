@@ -3,6 +3,7 @@ ghost use Rattle.std.specs.Prelude.{◌≡◌, ◌≤◌, ◌∷◌, ◌++◌, I
 ghost use Rattle.iso_model.specs.declared.limits.TheConstants.{MAX_LINE};
 ghost use Rattle.iso_model.specs.declared.script.Parsed.TheVariants.{Line as Says};
 ghost use Rattle.iso_model.specs.Script.{parse};
+ghost use Rattle.iso_model.specs.Text.{dashed};
 ghost use Rattle.script_text.specs.Spelling.{arguments_of, line_text, name_of, spaced, IsLine};
 
 use crate::push::{push_bytes, push_hex, push_number};
@@ -70,7 +71,24 @@ fn push_operation(out: &mut Vec<u8>, op: &Op) -> Result<(), Memory>
         Op::Stat => push_bytes(out, b"stat"),
         Op::Compact => push_bytes(out, b"compact"),
         Op::Upgrade => push_bytes(out, b"upgrade"),
+        Op::HashPut { key, value } => {
+            push_dashed(out, b"hput ", key.as_slice())?;
+            push_dashed(out, b" ", value.as_slice())
+        }
+        Op::HashGet { key } => push_dashed(out, b"hget ", key.as_slice()),
+        Op::HashDelete { key } => push_dashed(out, b"hdel ", key.as_slice()),
     }
+}
+
+/// Adds a text and a key or a value of a store.
+fn push_dashed(out: &mut Vec<u8>, text: &[u8], bytes: &[u8]) -> Result<(), Memory>
+    ensures { OnOk result (out.new.items ≡ out.old.items ++ text.now ++ dashed bytes.now) }
+{
+    push_bytes(out, text)?;
+    if bytes.is_empty() {
+        return push_bytes(out, b"-");
+    }
+    push_hex(out, bytes)
 }
 
 /// Adds a text and a number in decimal.

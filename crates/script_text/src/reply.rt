@@ -1,8 +1,8 @@
 // The line of a reply.
-ghost use Rattle.std.specs.Prelude.{◌≡◌, ◌+◌, ◌*◌, ◌<◌, ◌≤◌, ◌++◌, IfOk, MatchOption, OnOk, OnErr, decimal, length};
+ghost use Rattle.std.specs.Prelude.{◌≡◌, ◌+◌, ◌*◌, ◌<◌, ◌≤◌, ◌++◌, IfOk, MatchOption, OnOk, OnErr, codes, decimal, length};
 ghost use Rattle.iso_model.specs.declared.script.Reply.TheVariants.{Shown};
-ghost use Rattle.iso_model.specs.Text.{reply_line, reply_text};
-ghost use Rattle.script_text.specs.Printing.{Extends, IsShort};
+ghost use Rattle.iso_model.specs.Text.{dashed, reply_line, reply_text};
+ghost use Rattle.script_text.specs.Printing.{Extends, IsLong, IsShort};
 ghost use Rattle.script_text.specs.declared.reply.TheConstants.{MOST_SHOWN};
 
 use crate::ending::Ending;
@@ -36,12 +36,12 @@ pub fn push_reply(out: &mut Vec<u8>, client: u8, reply: &Reply) -> Result<(), Me
     }
 }
 
-/// The bytes that a reply shows, where they are too many for a line that is made in place.
+/// The bytes that a reply tells, where they are too many for a line that is made in place.
 pub(crate) fn many_shown(reply: &Reply) -> Option<&[u8]>
-    ensures { MatchOption result (IsShort reply.now) (λ bytes. (reply.now ≡ Shown bytes.now) × (MOST_SHOWN < length bytes.now)) }
+    ensures { MatchOption result (IsShort reply.now) (λ bytes. IsLong reply.now bytes.now) }
 {
     match reply {
-        Reply::Shown(bytes) => {
+        Reply::Shown(bytes) | Reply::Found(bytes) => {
             if bytes.len() > MOST_SHOWN {
                 Some(bytes.as_slice())
             } else {
@@ -135,14 +135,30 @@ fn put_text(line: &mut Ending, reply: &Reply)
             put_two(line, b" trim ", *trim, b" live ", u64::from(*live));
             put_two(line, b"ok last ", *last, b" base ", *base);
         }
+        Reply::Found(value) => put_found(line, value.as_slice()),
+        Reply::Missing => line.put(b"ok none"),
         Reply::InTx => line.put(b"in-tx"),
         Reply::NotInTx => line.put(b"not-in-tx"),
         Reply::ModeFixed => line.put(b"mode-fixed"),
+        Reply::NoStore => line.put(b"no-store"),
+        Reply::StoreMode => line.put(b"store-mode"),
+        Reply::BadKey => line.put(b"bad-key"),
+        Reply::BadValue => line.put(b"bad-value"),
         Reply::BadBlock => line.put(b"bad-block"),
         Reply::BadRange => line.put(b"bad-range"),
         Reply::NoAccess => line.put(b"no-access"),
         Reply::TooManyMarks => line.put(b"too-many-marks"),
         Reply::TooManyAccesses => line.put(b"too-many-accesses"),
+        Reply::Broken { block } => put_numbered(line, b"broken block ", u64::from(*block)),
+        Reply::NoBlocks { need, free } => {
+            put_two(
+                line,
+                b"no-blocks need ",
+                u64::from(*need),
+                b" free ",
+                u64::from(*free),
+            );
+        }
         Reply::NoHandle => line.put(b"no-handle"),
         Reply::LabelTaken => line.put(b"label-taken"),
         Reply::TooManyTx => line.put(b"too-many-tx"),
@@ -150,6 +166,21 @@ fn put_text(line: &mut Ending, reply: &Reply)
         Reply::LogFull { need, free } => {
             put_two(line, b"log full need ", *need, b" free ", *free);
         }
+    }
+}
+
+/// Puts what a look-up of a store has found before the text.
+fn put_found(line: &mut Ending, value: &[u8])
+    requires room { 131 ≤ line.old.room }
+    requires few { length value.now ≤ MOST_SHOWN }
+    ensures text { line.new.text ≡ codes "ok " ++ dashed value.now ++ line.old.text }
+    ensures room { line.old.room ≤ line.new.room + 131 }
+{
+    if value.is_empty() {
+        line.put(b"ok -");
+    } else {
+        line.put_hex(value);
+        line.put(b"ok ");
     }
 }
 

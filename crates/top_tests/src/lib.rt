@@ -1,4 +1,4 @@
-//! Tests of the top call: rows of replies, commands, runs one behind the other, limits, and one long script.
+//! Tests of the top call: rows of replies, commands, runs one behind the other, limits, scripts on stores, and one long script.
 #![tactic(auto)]
 
 #[cfg(test)]
@@ -11,3 +11,5 @@ mod tests_long;
 mod tests_rows;
 #[cfg(test)]
 mod tests_runs;
+#[cfg(test)]
+mod tests_stores;

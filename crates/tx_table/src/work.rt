@@ -224,6 +224,14 @@ impl Work {
         (MAX_ACCESSES - self.rows.len()) as u32
     }
 
+    /// How many accesses there are. Each is one to a block of the image.
+    pub fn count(&self) -> usize
+        ensures count { result ≡ length self.now.accesses }
+        ensures within { AreWithin self.now.size self.now.blocks self.now.accesses }
+    {
+        self.rows.len()
+    }
+
     /// Whether there is a write.
     pub fn has_write(&self) -> bool
         ensures { result ≡ model.has_write self.now.accesses }

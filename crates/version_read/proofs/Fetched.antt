@@ -10,8 +10,8 @@ use Rattle.iso_model.specs.Array.{Array, byte_at}
 use Rattle.iso_model.specs.Effect.{own, record_length}
 use Rattle.iso_model.specs.Geometry.{base_place, log_place}
 use Rattle.iso_model.specs.History.{History, all_own, array_at, last}
-use Rattle.iso_model.specs.Image.{IsRecord, Written, blocks_of, commits_of, records, written}
-use Rattle.iso_model.specs.Premises.{IsHistory, block_at, recorded}
+use Rattle.iso_model.specs.Image.{IsRecord, Written, blocks_of, commits_of, records, written, recorded}
+use Rattle.iso_model.specs.Premises.{IsHistory, block_at}
 use Rattle.iso_model.proofs.Held.{held_array}
 use Rattle.iso_model.proofs.Recorded.{HasSize, own_size}
 use Rattle.iso_image.specs.Half.{Half, IsHeld, half_of, history_of, last_told}

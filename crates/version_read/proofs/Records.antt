@@ -8,8 +8,8 @@ use Rattle.iso_model.specs.declared.access.Run.{Run}
 use Rattle.iso_model.specs.Array.{Array, byte_at, in_span}
 use Rattle.iso_model.specs.Effect.{effect_at, or_else, own, record_length}
 use Rattle.iso_model.specs.History.{all_own}
-use Rattle.iso_model.specs.Image.{AreRuns, IsRecord, Written, body_length, commits_of, kind_of, part, records, spell}
-use Rattle.iso_model.specs.Premises.{HasBytes, recorded, value_in}
+use Rattle.iso_model.specs.Image.{AreRuns, IsRecord, Written, body_length, commits_of, kind_of, part, records, spell, recorded}
+use Rattle.iso_model.specs.Premises.{HasBytes, value_in}
 use Rattle.iso_model.proofs.Bytes.{own_at}
 use Rattle.iso_model.proofs.Opened.{length-part, length-spell}
 use Rattle.iso_model.proofs.Recorded.{HasSize, effect_recorded, length-recorded, own_size}

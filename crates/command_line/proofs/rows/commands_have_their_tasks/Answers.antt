@@ -1,4 +1,4 @@
-use Rattle.command_line.proofs.Commands.{commands_have_their_tasks-new, commands_have_their_tasks-new_with_options, commands_have_their_tasks-run, commands_have_their_tasks-recover, commands_have_their_tasks-bench, commands_have_their_tasks-bench_of_nothing}
+use Rattle.command_line.proofs.Commands.{commands_have_their_tasks-new_with_a_store, commands_have_their_tasks-new, commands_have_their_tasks-new_with_options, commands_have_their_tasks-run, commands_have_their_tasks-recover, commands_have_their_tasks-bench, commands_have_their_tasks-bench_of_nothing}
 use Rattle.command_line.proofs.rows.commands_have_their_tasks.Goals as goal
 
 pub returns-clause-new : goal.returns-clause-new
@@ -6,6 +6,9 @@ returns-clause-new c = commands_have_their_tasks-new
 
 pub returns-clause-new_with_options : goal.returns-clause-new_with_options
 returns-clause-new_with_options c = commands_have_their_tasks-new_with_options
+
+pub returns-clause-new_with_a_store : goal.returns-clause-new_with_a_store
+returns-clause-new_with_a_store c = commands_have_their_tasks-new_with_a_store
 
 pub returns-clause-run : goal.returns-clause-run
 returns-clause-run c = commands_have_their_tasks-run

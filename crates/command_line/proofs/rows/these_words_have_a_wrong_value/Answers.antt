@@ -1,4 +1,4 @@
-use Rattle.command_line.proofs.RefusedValues.{these_words_have_a_wrong_value-empty, these_words_have_a_wrong_value-empty_word, these_words_have_a_wrong_value-hyphen, these_words_have_a_wrong_value-negative, these_words_have_a_wrong_value-signed, these_words_have_a_wrong_value-equals, these_words_have_a_wrong_value-leading_zero, these_words_have_a_wrong_value-hexadecimal, these_words_have_a_wrong_value-small_log, these_words_have_a_wrong_value-large_log, these_words_have_a_wrong_value-very_large_log, these_words_have_a_wrong_value-no_blocks, these_words_have_a_wrong_value-many_blocks, these_words_have_a_wrong_value-block_size, these_words_have_a_wrong_value-mode, these_words_have_a_wrong_value-large_seed, these_words_have_a_wrong_value-signed_seed, these_words_have_a_wrong_value-large_count, these_words_have_a_wrong_value-leading_zero_of_a_count}
+use Rattle.command_line.proofs.RefusedValues.{these_words_have_a_wrong_value-store_in_snapshot_mode, these_words_have_a_wrong_value-small_store, these_words_have_a_wrong_value-empty, these_words_have_a_wrong_value-empty_word, these_words_have_a_wrong_value-hyphen, these_words_have_a_wrong_value-negative, these_words_have_a_wrong_value-signed, these_words_have_a_wrong_value-equals, these_words_have_a_wrong_value-leading_zero, these_words_have_a_wrong_value-hexadecimal, these_words_have_a_wrong_value-small_log, these_words_have_a_wrong_value-large_log, these_words_have_a_wrong_value-very_large_log, these_words_have_a_wrong_value-no_blocks, these_words_have_a_wrong_value-many_blocks, these_words_have_a_wrong_value-block_size, these_words_have_a_wrong_value-mode, these_words_have_a_wrong_value-large_seed, these_words_have_a_wrong_value-signed_seed, these_words_have_a_wrong_value-large_count, these_words_have_a_wrong_value-leading_zero_of_a_count}
 use Rattle.command_line.proofs.rows.these_words_have_a_wrong_value.Goals as goal
 
 pub returns-clause-empty : goal.returns-clause-empty
@@ -42,6 +42,12 @@ returns-clause-many_blocks c = these_words_have_a_wrong_value-many_blocks
 
 pub returns-clause-block_size : goal.returns-clause-block_size
 returns-clause-block_size c = these_words_have_a_wrong_value-block_size
+
+pub returns-clause-small_store : goal.returns-clause-small_store
+returns-clause-small_store c = these_words_have_a_wrong_value-small_store
+
+pub returns-clause-store_in_snapshot_mode : goal.returns-clause-store_in_snapshot_mode
+returns-clause-store_in_snapshot_mode c = these_words_have_a_wrong_value-store_in_snapshot_mode
 
 pub returns-clause-mode : goal.returns-clause-mode
 returns-clause-mode c = these_words_have_a_wrong_value-mode

@@ -11,7 +11,8 @@ use Rattle.iso_machine.proofs.acting.act.Goals as goal
 
 -- any other operation
 others : (W : World) (t : Live) (o : Op) → ((m : Option Mode) × (o ≡ op.Begin m)) ⊎ (o ≡ op.End) ⊎ (o ≡ op.Abort) ⊎ ((x : List ℕ) × (o ≡ op.Release x)) ⊎ ((x : List ℕ) × (o ≡ op.Takeover x))
-    ⊎ ((x : List ℕ) × (o ≡ op.Await x)) ⊎ (o ≡ op.Trim) ⊎ (o ≡ op.Stat) ⊎ (o ≡ op.Compact) ⊎ (o ≡ op.Upgrade) → act_step W t o ≡ (reply.NotInTx, W)
+    ⊎ ((x : List ℕ) × (o ≡ op.Await x)) ⊎ (o ≡ op.Trim) ⊎ (o ≡ op.Stat) ⊎ (o ≡ op.Compact) ⊎ (o ≡ op.Upgrade)
+    ⊎ ((k : List ℕ) × (v : List ℕ) × (o ≡ op.HashPut k v)) ⊎ ((k : List ℕ) × (o ≡ op.HashGet k)) ⊎ ((k : List ℕ) × (o ≡ op.HashDelete k)) → act_step W t o ≡ (reply.NotInTx, W)
 others W t o (inl (m, is)) = ap (act_step W t) is
 others W t o (inr (inl is)) = ap (act_step W t) is
 others W t o (inr (inr (inl is))) = ap (act_step W t) is
@@ -21,7 +22,10 @@ others W t o (inr (inr (inr (inr (inr (inl (x, is))))))) = ap (act_step W t) is
 others W t o (inr (inr (inr (inr (inr (inr (inl is))))))) = ap (act_step W t) is
 others W t o (inr (inr (inr (inr (inr (inr (inr (inl is)))))))) = ap (act_step W t) is
 others W t o (inr (inr (inr (inr (inr (inr (inr (inr (inl is))))))))) = ap (act_step W t) is
-others W t o (inr (inr (inr (inr (inr (inr (inr (inr (inr is))))))))) = ap (act_step W t) is
+others W t o (inr (inr (inr (inr (inr (inr (inr (inr (inr (inl is)))))))))) = ap (act_step W t) is
+others W t o (inr (inr (inr (inr (inr (inr (inr (inr (inr (inr (inl (k, v, is)))))))))))) = ap (act_step W t) is
+others W t o (inr (inr (inr (inr (inr (inr (inr (inr (inr (inr (inr (inl (k, is))))))))))))) = ap (act_step W t) is
+others W t o (inr (inr (inr (inr (inr (inr (inr (inr (inr (inr (inr (inr (k, is))))))))))))) = ap (act_step W t) is
 
 pub returns-in-Begin-clause-given : goal.returns-in-Begin-clause-given
 returns-in-Begin-clause-given g c W t of tx active =

@@ -1,9 +1,8 @@
-use Rattle.std.proofs.Common.{◌≡◌, ◌∙◌, ◌++◌, [], false, refl, sym, subst, ap}
+use Rattle.std.proofs.Common.{[], false, refl, sym, subst, ap}
 use Rattle.bench_script.specs.Ends.{DrawnState, HeldState, drawn_state, held_state}
 use Rattle.iso_core.specs.Core.{disk_of}
 use Rattle.iso_machine.specs.Standing.{IsMachineOf}
 use Rattle.iso_model.specs.Bench.{bench_text, bench_world}
-use Rattle.iso_model.specs.Script.{after}
 use Rattle.iso_model.specs.World.{World}
 use Rattle.script_runner.specs.Run.{HasRun}
 use Rattle.iso_top.proofs.Benches.{printed_bench}
@@ -17,11 +16,14 @@ pub disk_behind-image-requires : goal.disk_behind-image-requires
 disk_behind-image-requires g c =
     let ran = c.run-end.ensures.ran bench_world (c.over-machine.ensures.stands bench_world c.requires.world refl) in
     let machine = c.run-end.new.machine in
-    up_on (IsMachineOf g.I.Disk.state machine (after bench_world (ran.done ++ ran.next))) ((V : World) × IsMachineOf g.I.Disk.state machine V)
-    (λ is. (after bench_world (ran.done ++ ran.next), is)) c.run-end.result ran.answered.world
+    up_on (IsMachineOf g.I.Disk.state machine ran.answered.final) ((V : World) × IsMachineOf g.I.Disk.state machine V)
+    (λ is. (ran.answered.final, is)) c.run-end.result ran.answered.world
 
-pub returns : goal.returns
-returns g c =
+pub returns-clause-plain : goal.returns-clause-plain
+returns-clause-plain g c = c.drawn_scripts_are_good.ensures.plain c.args.seed c.args.count c.requires.count
+
+pub returns-clause-ran : goal.returns-clause-ran
+returns-clause-ran g c =
     let state = g.I.Disk.state in
     let fresh : DrawnState = record { left = bench_text c.args.count c.args.seed; is_ended = false } in
     let none : HeldState = record { text = []; faults = 0 } in
@@ -45,7 +47,7 @@ returns g c =
       refl,
       refl,
       whole,
-      printed_bench c.args.seed c.args.count c.put_summary-status.result (c.drawn_scripts_are_good.ensures c.args.seed c.args.count c.requires.count) (state (disk_of c.args.core)) (state c.disk_behind-image.result) c.run-end.new.input c.run-end.new.output
+      printed_bench c.args.seed c.args.count c.put_summary-status.result (c.drawn_scripts_are_good.ensures.good c.args.seed c.args.count c.requires.count) (state (disk_of c.args.core)) (state c.disk_behind-image.result) c.run-end.new.input c.run-end.new.output
           (g.K.Sink.state c.args.output.now) (g.K.Sink.state c.put_summary-status.new.output) c.text.result.now c.text.ensures c.run-end.result whole
           c.put_summary-status.ensures.done c.put_summary-status.ensures.disk c.put_summary-status.ensures.memory,
     )

@@ -1,4 +1,3 @@
-use Rattle.std.proofs.Common.{◌≡◌, refl, ◌∙◌, sym}
 use Rattle.iso_top.proofs.Beginnings.{opened_core}
 use Rattle.iso_top.proofs.engine.open_core.Goals as goal
 

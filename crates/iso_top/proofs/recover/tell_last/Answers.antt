@@ -1,4 +1,4 @@
-use Rattle.std.proofs.Common.{◌≡◌, ap, arith}
+use Rattle.std.proofs.Common.{ap, arith}
 use Rattle.iso_core.specs.Core.{disk_of}
 use Rattle.iso_core.specs.Standing.{up}
 use Rattle.iso_core.specs.declared.answers.Stat.{Stat}

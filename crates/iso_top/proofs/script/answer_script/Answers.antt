@@ -1,7 +1,6 @@
-use Rattle.std.proofs.Common.{◌≡◌, ◌∙◌, ◌++◌, sym, subst, ap}
+use Rattle.std.proofs.Common.{sym, subst, ap}
 use Rattle.iso_core.specs.Core.{disk_of}
 use Rattle.iso_machine.specs.Standing.{IsMachineOf}
-use Rattle.iso_model.specs.Script.{after}
 use Rattle.iso_model.specs.World.{World}
 use Rattle.script_runner.specs.Run.{HasRun}
 use Rattle.iso_top.proofs.Runs.{run_alone, up_on}
@@ -15,8 +14,8 @@ disk_behind-image-requires g c =
     let (W, stands, idle) = c.requires in
     let ran = c.run-end.ensures.ran W (c.over-machine.ensures.stands W stands idle) in
     let machine = c.run-end.new.machine in
-    up_on (IsMachineOf g.I.Disk.state machine (after W (ran.done ++ ran.next))) ((V : World) × IsMachineOf g.I.Disk.state machine V)
-    (λ is. (after W (ran.done ++ ran.next), is)) c.run-end.result ran.answered.world
+    up_on (IsMachineOf g.I.Disk.state machine ran.answered.final) ((V : World) × IsMachineOf g.I.Disk.state machine V)
+    (λ is. (ran.answered.final, is)) c.run-end.result ran.answered.world
 
 pub returns : goal.returns
 returns g c W stands idle =

@@ -4,18 +4,18 @@ use Rattle.iso_io.proofs.Told.{append_known-nil}
 use Rattle.iso_io.specs.Sink.{WroteFront}
 use Rattle.iso_io.specs.declared.sink.PutError.TheVariants.{Failed, TookNothing}
 use Rattle.iso_model.specs.declared.script.Line.{Line}
-use Rattle.iso_model.specs.Script.{after, replies}
+use Rattle.iso_model.specs.Script.{replies}
 use Rattle.script_runner.specs.declared.run_end.RunEnd.TheVariants.{Disk, Memory, Output}
 use Rattle.script_runner.specs.Counts.{SinkFailed}
 use Rattle.script_runner.specs.Told.{IfTold}
-use Rattle.script_runner.proofs.Steps.{counts_stand, halted_one, ran_one, reply_is}
+use Rattle.script_runner.proofs.Steps.{counts_stand, halted_one, halted_step, ran_one, reply_is}
 use Rattle.script_runner.proofs.line.answer_line.Goals as goal
 
 pub returns-in-Err-Disk-clause-halted : goal.returns-in-Err-Disk-clause-halted
 returns-in-Err-Disk-clause-halted g c W number stood =
     let law = g.met.M.ScriptMachine in (
       tt,
-      halted_one W (number, c.args.line.now) (law.sound c.args.machine.now W stood) c.requires.line.op (c.step.ensures.moments W stood) Disk (law.lawful c.step.new.self)
+      halted_step {stands = g.M.ScriptMachine.stands c.step.new.self} W (number, c.args.line.now) (law.sound c.args.machine.now W stood) c.requires.line.op (c.step.ensures.moments W stood) Disk (law.lawful c.step.new.self)
           (λ told. sym (append_known-nil _)) tt (c.step.ensures.cause.failed (c.in-Err-Disk.is ∙ ap (λ s. Err s) c.in-Err-Disk.field-0-is)) (counts_stand _),
     )
 
@@ -23,7 +23,7 @@ pub returns-in-Err-Memory-clause-halted : goal.returns-in-Err-Memory-clause-halt
 returns-in-Err-Memory-clause-halted g c W number stood =
     let law = g.met.M.ScriptMachine in (
       tt,
-      halted_one W (number, c.args.line.now) (law.sound c.args.machine.now W stood) c.requires.line.op (c.step.ensures.moments W stood) Memory (law.lawful c.step.new.self)
+      halted_step {stands = g.M.ScriptMachine.stands c.step.new.self} W (number, c.args.line.now) (law.sound c.args.machine.now W stood) c.requires.line.op (c.step.ensures.moments W stood) Memory (law.lawful c.step.new.self)
           (λ told. sym (append_known-nil _)) tt (c.step.ensures.cause.memory (c.in-Err-Memory.is ∙ ap (λ s. Err s) c.in-Err-Memory.field-0-is)) (counts_stand _),
     )
 
@@ -31,7 +31,7 @@ pub returns-in-Err-clause-halted : goal.returns-in-Err-clause-halted
 returns-in-Err-clause-halted g c W number stood =
     let law = g.met.M.ScriptMachine in (
       tt,
-      halted_one W (number, c.args.line.now) (law.sound c.args.machine.now W stood) c.requires.line.op (c.step.ensures.moments W stood) Memory (law.lawful c.step.new.self)
+      halted_one W (number, c.args.line.now) (law.sound c.args.machine.now W stood) c.requires.line.op (c.step.ensures.moments W stood) Memory (c.in-Ok.ensures.world W stood) (law.sound c.step.new.self (c.in-Ok.ensures.world W stood).world (c.in-Ok.ensures.world W stood).is) (law.lawful c.step.new.self)
           (λ told. sym (append_known-nil _)) tt c.in-Ok.ensures.cause.passed (counts_stand _),
     )
 
@@ -42,6 +42,7 @@ returns-in-Err-put_all-clause-halted g c W number stood =
     let text : IfTold (g.M.ScriptMachine.disk c.args.machine.now) (c.text.result.now ≡ replies W (x ∷ [])) =
     λ told. reply_is W number c.args.line.now c.in-Ok.answer c.text.result.now c.set.new.self c.text.ensures c.in_default.ensures.ok
     (c.in-Ok.ensures.reply W stood told) in
+    let so = c.in-Ok.ensures.world W stood in
     let put = c.put_all.ensures in
     let err : WroteFront (g.K.Sink.state c.args.output.now) (g.K.Sink.state c.put_all.new.sink) c.text.result.now = c.in-Err-put_all.ensures.err in
     let failed : SinkFailed (g.K.Sink.state c.args.output.now) (g.K.Sink.state c.put_all.new.sink) =
@@ -50,13 +51,13 @@ returns-in-Err-put_all-clause-halted g c W number stood =
       | TookNothing ↦ λ is. let how = c.in-Err-put_all.is ∙ ap (λ s. Err s) is in inr (put.took_nothing how, put.not_failed how)
     ] refl in (
       tt,
-      halted_one W x (law.sound c.args.machine.now W stood) c.requires.line.op (c.step.ensures.moments W stood) Output (law.lawful c.step.new.self)
+      halted_one W x (law.sound c.args.machine.now W stood) c.requires.line.op (c.step.ensures.moments W stood) Output so (law.sound c.step.new.self so.world so.is) (law.lawful c.step.new.self)
           (λ told. record {
             count = err.count;
             short = subst (λ (t : List ℕ). err.count < length t) (text told) err.short;
             wrote = err.wrote ∙ ap (λ t. append_known (g.K.Sink.state c.args.output.now).written (take err.count t)) (text told);
           })
-          (c.in-Ok.ensures.world W stood) c.in-Ok.ensures.cause.passed failed,
+          so.is c.in-Ok.ensures.cause.passed failed,
     )
 
 pub returns-clause-ran : goal.returns-clause-ran
@@ -66,6 +67,6 @@ returns-clause-ran g c W number stood =
     let text : IfTold (g.M.ScriptMachine.disk c.args.machine.now) (c.text.result.now ≡ replies W (x ∷ [])) =
     λ told. reply_is W number c.args.line.now c.in-Ok.answer c.text.result.now c.set.new.self c.text.ensures c.in_default.ensures.ok
     (c.in-Ok.ensures.reply W stood told) in
-    let up = c.in-Ok.ensures.world W stood in
-    ran_one W x (law.sound c.args.machine.now W stood) c.requires.line.op (c.step.ensures.moments W stood) up (λ d here. law.shown c.step.new.self (after W (x ∷ [])) d up here)
+    let so = c.in-Ok.ensures.world W stood in
+    ran_one W x (law.sound c.args.machine.now W stood) c.requires.line.op (c.step.ensures.moments W stood) so (law.sound c.step.new.self so.world so.is) (λ d here. law.shown c.step.new.self so.world d so.is here)
     (λ told. c.in_default-put_all.ensures.ok ∙ ap (append_known (g.K.Sink.state c.args.output.now).written) (text told)) c.in-Ok.ensures.told c.in-Ok.ensures.cause.passed c.in_default-put_all.ensures.passed

@@ -1,4 +1,4 @@
-use Rattle.iso_model.specs.Script.{after, parse_whole}
+use Rattle.iso_model.specs.Script.{parse_whole}
 use Rattle.script_runner.proofs.Answering.{ends_line, reads_line}
 use Rattle.script_runner.proofs.Said.{given_line, whole_says_line}
 use Rattle.script_runner.proofs.piece.answer_whole.Goals as goal
@@ -10,10 +10,10 @@ pub returns-clause-reads : goal.returns-clause-reads
 returns-clause-reads g c W m k bytes r =
     reads_line (g.M.ScriptMachine.stands c.answer_parsed-answered.new.machine) (g.M.ScriptMachine.disk c.answer_parsed-answered.new.machine) (g.K.Sink.state c.answer_parsed-answered.new.output)
     W bytes c.args.progress.now.number c.args.progress.now.held.items c.args.line.now c.requires.line r c.parse_held-parsed.result c.in_default.field-0 c.parse_held-parsed.new.held.items
-    c.parse_held-parsed.ensures.parsed c.parse_held-parsed.ensures.held (c.in_default.ensures (after W r.done) r.ran.world)
+    c.parse_held-parsed.ensures.parsed c.parse_held-parsed.ensures.held (c.in_default.ensures r.ran.reached r.ran.world)
 
 pub returns-in-Err-clause-ends : goal.returns-in-Err-clause-ends
 returns-in-Err-clause-ends g c W m k bytes r =
     ends_line (g.M.ScriptMachine.stands c.answer_parsed-answered.new.machine) (g.M.ScriptMachine.disk c.answer_parsed-answered.new.machine) (g.K.Sink.state c.answer_parsed-answered.new.output)
     W bytes c.args.progress.now.number c.args.progress.now.held.items c.args.line.now c.requires.line r c.parse_held-parsed.result c.in-Err.halt
-    c.parse_held-parsed.ensures.parsed (c.in-Err.ensures (after W r.done) r.ran.world)
+    c.parse_held-parsed.ensures.parsed (c.in-Err.ensures r.ran.reached r.ran.world)

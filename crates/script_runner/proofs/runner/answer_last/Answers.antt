@@ -1,5 +1,5 @@
 use Rattle.std.proofs.Common.{◌<◌, ℕ, List, length, subst, sym, ◌∙◌}
-use Rattle.iso_model.specs.Script.{after, parse}
+use Rattle.iso_model.specs.Script.{parse}
 use Rattle.script_text.specs.Parsing.{Gives}
 use Rattle.script_runner.specs.declared.run_end.RunEnd.{RunEnd}
 use Rattle.script_runner.specs.Run.{HasRun}
@@ -21,7 +21,7 @@ returns-in-Ok g c W m i j k bytes gave met few r =
     subst (λ (xs : List ℕ). Gives c.parse_line-parsed.result (parse xs)) c.deref.ensures.value c.parse_line-parsed.ensures in
     let some : 0 < length c.args.progress.now.held.items = some_held _ c.args.progress.now.held.items c.args.progress.now.held.ok.0 (sym c.if-is_empty.false ∙ c.is_empty.ensures) in
     last_done W bytes c.args.progress.now.number c.args.progress.now.held.items r i j gave met few some (g.M.ScriptMachine.stands c.answer_parsed.new.machine)
-    (g.M.ScriptMachine.disk c.answer_parsed.new.machine) (g.K.Sink.state c.answer_parsed.new.output) c.parse_line-parsed.result c.in-Ok.field-0 given (c.in-Ok.ensures (after W r.done) r.ran.world)
+    (g.M.ScriptMachine.disk c.answer_parsed.new.machine) (g.K.Sink.state c.answer_parsed.new.output) c.parse_line-parsed.result c.in-Ok.field-0 given (c.in-Ok.ensures r.ran.reached r.ran.world)
 
 pub returns-in-Err : goal.returns-in-Err
 returns-in-Err g c W m i j k bytes gave met few r =
@@ -31,4 +31,4 @@ returns-in-Err g c W m i j k bytes gave met few r =
     subst (λ (how : RunEnd). HasRun (g.M.ScriptMachine.stands c.answer_parsed.new.machine) (g.M.ScriptMachine.disk m) (g.M.ScriptMachine.disk c.answer_parsed.new.machine) i j k (g.K.Sink.state c.answer_parsed.new.output) W how)
     (sym c.end_of.ensures)
     (last_runs W bytes c.args.progress.now.number c.args.progress.now.held.items r i j gave met few some (g.M.ScriptMachine.stands c.answer_parsed.new.machine)
-    (g.M.ScriptMachine.disk c.answer_parsed.new.machine) (g.K.Sink.state c.answer_parsed.new.output) c.parse_line-parsed.result c.in-Err.halt given (c.in-Err.ensures (after W r.done) r.ran.world))
+    (g.M.ScriptMachine.disk c.answer_parsed.new.machine) (g.K.Sink.state c.answer_parsed.new.output) c.parse_line-parsed.result c.in-Err.halt given (c.in-Err.ensures r.ran.reached r.ran.world))

@@ -1,15 +1,19 @@
-use Rattle.std.proofs.Common.{◌≡◌, ◌∙◌, ◌⊎◌, inl, inr, sym, refl, ap, subst, ℕ, List}
+use Rattle.std.proofs.Common.{◌≡◌, ◌∙◌, ◌⊎◌, inl, inr, sym, refl, ap, subst, ℕ, List, Ok}
 use Rattle.iso_model.specs.declared.script.Op.{Op}
 use Rattle.iso_model.specs.declared.script.Op.TheVariants as op
 use Rattle.iso_model.specs.declared.script.Reply.{Reply}
-use Rattle.iso_model.specs.Step.{in_transaction, numbers, step}
+use Rattle.iso_model.specs.Step.{hash_delete_step, hash_get_step, hash_put_step, in_transaction, numbers, step, store_step}
 use Rattle.iso_model.specs.World.{World, attached}
+use Rattle.iso_model.specs.Worlds.{IsOp}
 use Rattle.iso_core.specs.Core.{disk_of}
 use Rattle.iso_machine.specs.Accessing.{act_step}
-use Rattle.iso_machine.specs.Answering.{Answers}
+use Rattle.iso_machine.specs.Answering.{Answers, AnswersTold}
 use Rattle.iso_machine.specs.Shown.{shows}
 use Rattle.iso_machine.specs.Standing.{AreOf}
+use Rattle.iso_machine.specs.Storing.{store_act}
 use Rattle.iso_machine.proofs.Quiet.{quiet}
+use Rattle.script_runner.specs.Told.{IsPlain}
+use Rattle.iso_machine.proofs.Told.{never_plain, told_so}
 use Rattle.iso_machine.proofs.machine.Machine.answer.Goals as goal
 
 trim_is : (W : World) (c : ℕ) → step W 1 op.Trim ≡ step W c op.Trim
@@ -37,24 +41,27 @@ returns-in-Put g c W of isop =
     let m = c.args.self.now in
     let n = c.access.new.self in
     let state = g.D.Disk.state in
-    subst (λ (given : Reply × World). Answers (AreOf state n.core n.live.items) (state (disk_of m.core)) (state (disk_of n.core)) W given c.access.result)
-    (access_is W c.args.client c.args.op.now c.in-Put.is) (c.access.ensures W of isop)
+    told_so (AreOf state n.core n.live.items) (state (disk_of m.core)) (state (disk_of n.core)) W (step W c.args.client c.args.op.now) (IsPlain c.args.op.now) c.access.result
+    (subst (λ (given : Reply × World). Answers (AreOf state n.core n.live.items) (state (disk_of m.core)) (state (disk_of n.core)) W given c.access.result)
+    (access_is W c.args.client c.args.op.now c.in-Put.is) (c.access.ensures W of isop))
 
 pub returns-in-Trim : goal.returns-in-Trim
 returns-in-Trim g c W of isop =
     let m = c.args.self.now in
     let n = c.trim.new.self in
     let state = g.D.Disk.state in
-    subst (λ (given : Reply × World). Answers (AreOf state n.core n.live.items) (state (disk_of m.core)) (state (disk_of n.core)) W given c.trim.result)
-    (trim_is W c.args.client ∙ ap (λ (o : Op). step W c.args.client o) (sym c.in-Trim.is)) (c.trim.ensures W of)
+    told_so (AreOf state n.core n.live.items) (state (disk_of m.core)) (state (disk_of n.core)) W (step W c.args.client c.args.op.now) (IsPlain c.args.op.now) c.trim.result
+    (subst (λ (given : Reply × World). Answers (AreOf state n.core n.live.items) (state (disk_of m.core)) (state (disk_of n.core)) W given c.trim.result)
+    (trim_is W c.args.client ∙ ap (λ (o : Op). step W c.args.client o) (sym c.in-Trim.is)) (c.trim.ensures W of))
 
 pub returns-in-Stat : goal.returns-in-Stat
 returns-in-Stat g c W of isop =
     let m = c.args.self.now in
     let state = g.D.Disk.state in
-    quiet (AreOf state m.core m.live.items) (state (disk_of m.core)) (g.met.D.Disk.lawful (disk_of m.core)) W (shows state m.core W of.core_of)
+    told_so (AreOf state m.core m.live.items) (state (disk_of m.core)) (state (disk_of m.core)) W (step W c.args.client c.args.op.now) (IsPlain c.args.op.now) (Ok c.stat.result)
+    (quiet (AreOf state m.core m.live.items) (state (disk_of m.core)) (g.met.D.Disk.lawful (disk_of m.core)) W (shows state m.core W of.core_of)
     (step W c.args.client c.args.op.now) c.stat.result W
-    (ap (λ (o : Op). step W c.args.client o) c.in-Stat.is ∙ stat_is W c.args.client ∙ ap (λ (r : Reply). (r, W)) (sym (c.stat.ensures W of))) of
+    (ap (λ (o : Op). step W c.args.client o) c.in-Stat.is ∙ stat_is W c.args.client ∙ ap (λ (r : Reply). (r, W)) (sym (c.stat.ensures W of))) of)
 
 compact_is : (W : World) (c : ℕ) → step W 1 op.Compact ≡ step W c op.Compact
 unfolding step
@@ -69,16 +76,18 @@ returns-in-Compact g c W of isop =
     let m = c.args.self.now in
     let n = c.compact.new.self in
     let state = g.D.Disk.state in
-    subst (λ (given : Reply × World). Answers (AreOf state n.core n.live.items) (state (disk_of m.core)) (state (disk_of n.core)) W given c.compact.result)
-    (compact_is W c.args.client ∙ ap (λ (o : Op). step W c.args.client o) (sym c.in-Compact.is)) (c.compact.ensures W of)
+    told_so (AreOf state n.core n.live.items) (state (disk_of m.core)) (state (disk_of n.core)) W (step W c.args.client c.args.op.now) (IsPlain c.args.op.now) c.compact.result
+    (subst (λ (given : Reply × World). Answers (AreOf state n.core n.live.items) (state (disk_of m.core)) (state (disk_of n.core)) W given c.compact.result)
+    (compact_is W c.args.client ∙ ap (λ (o : Op). step W c.args.client o) (sym c.in-Compact.is)) (c.compact.ensures W of))
 
 pub returns-in-Upgrade : goal.returns-in-Upgrade
 returns-in-Upgrade g c W of isop =
     let m = c.args.self.now in
     let n = c.upgrade.new.self in
     let state = g.D.Disk.state in
-    subst (λ (given : Reply × World). Answers (AreOf state n.core n.live.items) (state (disk_of m.core)) (state (disk_of n.core)) W given c.upgrade.result)
-    (upgrade_is W c.args.client ∙ ap (λ (o : Op). step W c.args.client o) (sym c.in-Upgrade.is)) (c.upgrade.ensures W of)
+    told_so (AreOf state n.core n.live.items) (state (disk_of m.core)) (state (disk_of n.core)) W (step W c.args.client c.args.op.now) (IsPlain c.args.op.now) c.upgrade.result
+    (subst (λ (given : Reply × World). Answers (AreOf state n.core n.live.items) (state (disk_of m.core)) (state (disk_of n.core)) W given c.upgrade.result)
+    (upgrade_is W c.args.client ∙ ap (λ (o : Op). step W c.args.client o) (sym c.in-Upgrade.is)) (c.upgrade.ensures W of))
 
 await_is : (W : World) (c : ℕ) (text : List ℕ) → step W c (op.Takeover text) ≡ step W c (op.Await text)
 unfolding step
@@ -93,5 +102,61 @@ returns-in-Takeover g c W of isop =
     let m = c.args.self.now in
     let n = c.takeover.new.self in
     let state = g.D.Disk.state in
-    subst (λ (given : Reply × World). Answers (AreOf state n.core n.live.items) (state (disk_of m.core)) (state (disk_of n.core)) W given c.takeover.result)
-    (takeover_or_await W c.args.client c.in-Takeover.label c.args.op.now c.in-Takeover.is) (c.takeover.ensures W of)
+    told_so (AreOf state n.core n.live.items) (state (disk_of m.core)) (state (disk_of n.core)) W (step W c.args.client c.args.op.now) (IsPlain c.args.op.now) c.takeover.result
+    (subst (λ (given : Reply × World). Answers (AreOf state n.core n.live.items) (state (disk_of m.core)) (state (disk_of n.core)) W given c.takeover.result)
+    (takeover_or_await W c.args.client c.in-Takeover.label c.args.op.now c.in-Takeover.is) (c.takeover.ensures W of))
+
+pub returns-in-Abort : goal.returns-in-Abort
+returns-in-Abort g c W of isop =
+    let m = c.args.self.now in
+    let n = c.abort.new.self in
+    let state = g.D.Disk.state in
+    told_so (AreOf state n.core n.live.items) (state (disk_of m.core)) (state (disk_of n.core)) W (step W c.args.client c.args.op.now) (IsPlain c.args.op.now) c.abort.result
+    (subst (λ (o : Op). Answers (AreOf state n.core n.live.items) (state (disk_of m.core)) (state (disk_of n.core)) W (step W c.args.client o) c.abort.result) (sym c.in-Abort.is) (c.abort.ensures W of))
+
+pub returns-in-End : goal.returns-in-End
+returns-in-End g c W of isop =
+    let m = c.args.self.now in
+    let n = c.end.new.self in
+    let state = g.D.Disk.state in
+    told_so (AreOf state n.core n.live.items) (state (disk_of m.core)) (state (disk_of n.core)) W (step W c.args.client c.args.op.now) (IsPlain c.args.op.now) c.end.result
+    (subst (λ (o : Op). Answers (AreOf state n.core n.live.items) (state (disk_of m.core)) (state (disk_of n.core)) W (step W c.args.client o) c.end.result) (sym c.in-End.is) (c.end.ensures W of))
+
+pub returns-in-Begin : goal.returns-in-Begin
+returns-in-Begin g c W of isop =
+    let m = c.args.self.now in
+    let n = c.begin.new.self in
+    let state = g.D.Disk.state in
+    told_so (AreOf state n.core n.live.items) (state (disk_of m.core)) (state (disk_of n.core)) W (step W c.args.client c.args.op.now) (IsPlain c.args.op.now) c.begin.result
+    (subst (λ (o : Op). Answers (AreOf state n.core n.live.items) (state (disk_of m.core)) (state (disk_of n.core)) W (step W c.args.client o) c.begin.result) (sym c.in-Begin.is) (c.begin.ensures W of))
+
+pub returns-in-Release : goal.returns-in-Release
+returns-in-Release g c W of isop =
+    let m = c.args.self.now in
+    let n = c.release.new.self in
+    let state = g.D.Disk.state in
+    told_so (AreOf state n.core n.live.items) (state (disk_of m.core)) (state (disk_of n.core)) W (step W c.args.client c.args.op.now) (IsPlain c.args.op.now) c.release.result
+    (subst (λ (o : Op). Answers (AreOf state n.core n.live.items) (state (disk_of m.core)) (state (disk_of n.core)) W (step W c.args.client o) c.release.result) (sym c.in-Release.is) (c.release.ensures W of (subst (λ (o : Op). IsOp o) c.in-Release.is isop)))
+
+-- an operation on the hash store
+store_is : (W : World) (c : ℕ) (o : Op) → ((k : List ℕ) × (v : List ℕ) × (o ≡ op.HashPut k v)) ⊎ ((k : List ℕ) × (o ≡ op.HashGet k)) ⊎ ((k : List ℕ) × (o ≡ op.HashDelete k))
+    → in_transaction W (attached W c) (λ t. store_act W t o) ≡ step W c o
+unfolding step hash_put_step hash_get_step hash_delete_step store_step
+store_is W c o (inl (k, v, is)) = subst (λ (p : Op). in_transaction W (attached W c) (λ t. store_act W t p) ≡ step W c p) (sym is) refl
+store_is W c o (inr (inl (k, is))) = subst (λ (p : Op). in_transaction W (attached W c) (λ t. store_act W t p) ≡ step W c p) (sym is) refl
+store_is W c o (inr (inr (k, is))) = subst (λ (p : Op). in_transaction W (attached W c) (λ t. store_act W t p) ≡ step W c p) (sym is) refl
+
+store_not_plain : (o : Op) → ((k : List ℕ) × (v : List ℕ) × (o ≡ op.HashPut k v)) ⊎ ((k : List ℕ) × (o ≡ op.HashGet k)) ⊎ ((k : List ℕ) × (o ≡ op.HashDelete k)) → IsPlain o → ⊥
+store_not_plain o (inl (k, v, is)) plain = subst (λ (p : Op). IsPlain p) is plain
+store_not_plain o (inr (inl (k, is))) plain = subst (λ (p : Op). IsPlain p) is plain
+store_not_plain o (inr (inr (k, is))) plain = subst (λ (p : Op). IsPlain p) is plain
+
+pub returns-in-HashPut : goal.returns-in-HashPut
+returns-in-HashPut g c W of isop =
+    let m = c.args.self.now in
+    let n = c.stored.new.self in
+    let state = g.D.Disk.state in
+    never_plain (AreOf state n.core n.live.items) (state (disk_of m.core)) (state (disk_of n.core)) W (step W c.args.client c.args.op.now) (IsPlain c.args.op.now) c.stored.result
+    (store_not_plain c.args.op.now c.in-HashPut.is)
+    (subst (λ (given : Reply × World). AnswersTold (AreOf state n.core n.live.items) (state (disk_of m.core)) (state (disk_of n.core)) W given ⊥ c.stored.result)
+    (store_is W c.args.client c.args.op.now c.in-HashPut.is) (c.stored.ensures W of))

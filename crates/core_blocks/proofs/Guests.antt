@@ -1,0 +1,159 @@
+-- A guest after one more call on its transaction.
+use Rattle.std.proofs.Common.{◌≡◌, ◌∙◌, sym, refl, ap, subst, false, ℕ, suc, ◌+◌, ◌≤◌, List, [], ◌∷◌, ◌++◌, length, Option, Some, None, Result, Ok, Err, OnOk, arith}
+use Rattle.std.specs.Prelude.{IsSome}
+use Rattle.std.specs.Option.{ForSome}
+use Rattle.std.proofs.lemmas.List.{length_push}
+use Rattle.fault_count.specs.Count.{Rose, one_more}
+use Rattle.iso_disk.specs.Disk.{DiskState, IsLawful, WritesNothing}
+use Rattle.iso_disk.proofs.Moments.{joined_unwritten}
+use Rattle.iso_model.specs.declared.access.Access.{Access}
+use Rattle.iso_model.specs.declared.access.MarkError.{MarkError}
+use Rattle.iso_model.specs.declared.access.Span.{Span}
+use Rattle.iso_model.specs.Array.{Array}
+use Rattle.iso_model.specs.Marks.{mark_fault, marked}
+use Rattle.iso_model.specs.World.{World}
+use Rattle.tx_table.specs.Work.{Doing, span_at}
+use Rattle.tx_blocks.specs.Tx.{IsTx as AreLimits}
+use Rattle.iso_core.specs.declared.core_itself.Core.{Core}
+use Rattle.iso_core.specs.Core.{StandsFor, disk_of}
+use Rattle.iso_core.specs.Standing.{up}
+use Rattle.core_blocks.specs.Guests.{Counts, IsGuest, IsSameWork, tx_of}
+
+same_work : (a b c : Doing) → IsSameWork a b → IsSameWork b c → IsSameWork a c
+same_work a b c first second = record {
+  begin = second.begin ∙ first.begin;
+  mode = second.mode ∙ first.mode;
+  size = second.size ∙ first.size;
+  blocks = second.blocks ∙ first.blocks;
+}
+
+-- the limits of a transaction that is the same but for its accesses
+same_limits : (array : Option Array) (old new : Doing) → IsSameWork old new → length new.accesses ≤ 4096 → AreLimits (tx_of array old) → AreLimits (tx_of array new)
+same_limits array old new same few is = record {
+  least = omega (arith, same.size, is.least);
+  most = omega (arith, same.size, is.most);
+  few = omega (arith, same.blocks, is.few);
+  base = λ A told.
+      let shape = is.base A told in
+      record { blocks = shape.blocks ∙ sym same.blocks; bytes = λ b below. shape.bytes b (omega (arith, same.blocks, below)) ∙ sym same.size };
+  count = few;
+}
+
+module _ {D : Type 0} (state : D → DiskState) (stood : World → Type 0) (before : DiskState) (begun : Doing) (array : Option Array) (core new : Core D) (tx : ℕ) (old doing : Doing)
+    (failures count : ℕ) (is : IsGuest state stood before begun array core tx old failures) where
+  -- a call of the core that writes nothing
+  pub goes_on : IsLawful (state (disk_of core)) → ((W : World) → StandsFor state core W up → StandsFor state new W up) → WritesNothing (state (disk_of core)) (state (disk_of new))
+      → Counts count before.faults (state (disk_of new)).faults → IsSameWork old doing → length doing.accesses ≤ 4096 → IsGuest state stood before begun array new tx doing count
+  goes_on laws stands unwritten counts same few = record {
+    world = is.world;
+    live = is.live;
+    was = is.was;
+    here = is.here;
+    size = is.size;
+    blocks = is.blocks;
+    stands = λ W stood_for. stands W (is.stands W stood_for);
+    unwritten = joined_unwritten laws is.unwritten unwritten;
+    counts = counts;
+    same = same_work begun old doing is.same same;
+    told = is.told;
+    shown = is.shown;
+    limits = same_limits array old doing same few is.limits;
+  }
+
+  -- no call of the core
+  pub works_on : IsSameWork old doing → length doing.accesses ≤ 4096 → IsGuest state stood before begun array core tx doing failures
+  works_on same few = record {
+    world = is.world;
+    live = is.live;
+    was = is.was;
+    here = is.here;
+    size = is.size;
+    blocks = is.blocks;
+    stands = is.stands;
+    unwritten = is.unwritten;
+    counts = is.counts;
+    same = same_work begun old doing is.same same;
+    told = is.told;
+    shown = is.shown;
+    limits = same_limits array old doing same few is.limits;
+  }
+
+-- faults after a call of the core that was Ok, and after one that failed
+pub counts_ok : (failures before mid now : ℕ) → Counts failures before mid → now ≡ mid → Counts failures before now
+counts_ok failures before mid now counts same = subst (λ (n : ℕ). Counts failures before n) (sym same) counts
+
+pub counts_failed : (failures count before mid now : ℕ) → Counts failures before mid → count ≡ one_more failures → Rose mid now → mid ≤ now → Counts count before now
+counts_failed failures count before mid now counts is rose later = record {
+  later = omega (arith, counts.later, later);
+  none = λ zero. absurd (raised failures (sym is ∙ zero));
+  some = λ more. higher before mid now counts.later rose;
+}
+  where
+    raised : (n : ℕ) → one_more n ≡ 0 → ⊥
+    raised n e = omega (arith, e)
+
+    higher : (a b c : ℕ) → a ≤ b → Rose b c → Rose a c
+    higher a b c below rose = omega (arith, below, rose)
+
+-- a mark, taken or refused
+pub mark_keeps : (old new : Doing) (off len : ℕ) (result : Result (Unit {0}) MarkError)
+    → OnOk result ((mark_fault old.size off len old.accesses ≡ None) × (new ≡ record old { accesses = marked (span_at off len) old.accesses; settled = false }))
+    → ((fault : MarkError) → result ≡ Err fault → (mark_fault old.size off len old.accesses ≡ Some fault) × (new ≡ old)) → IsSameWork old new × (length new.accesses ≡ length old.accesses)
+mark_keeps old new off len (Ok x) ok err = (
+  record {
+    begin = ap (λ (w : Doing). w.begin) ok.1;
+    mode = ap (λ (w : Doing). w.mode) ok.1;
+    size = ap (λ (w : Doing). w.size) ok.1;
+    blocks = ap (λ (w : Doing). w.blocks) ok.1;
+  },
+  ap (λ (w : Doing). length w.accesses) ok.1 ∙ length-marked (span_at off len) old.accesses,
+)
+  where
+    length-marked : (span : Span) (xs : List Access) → length (marked span xs) ≡ length xs
+    length-marked span [] = refl
+    length-marked span (a ∷ []) = refl
+    length-marked span (a ∷ b ∷ xs) = ap suc (length-marked span (b ∷ xs))
+mark_keeps old new off len (Err fault) ok err = let same = (err fault refl).1 in (
+  record {
+    begin = ap (λ (w : Doing). w.begin) same;
+    mode = ap (λ (w : Doing). w.mode) same;
+    size = ap (λ (w : Doing). w.size) same;
+    blocks = ap (λ (w : Doing). w.blocks) same;
+  },
+  ap (λ (w : Doing). length w.accesses) same,
+)
+
+-- one more access
+pub access_keeps : (old mid new : Doing) (block : ℕ) (a : Access) → mid ≡ record old { ready = Some block } → new ≡ record mid { accesses = mid.accesses ++ a ∷ []; ready = None; settled = false }
+    → IsSameWork old new × (length new.accesses ≡ length old.accesses + 1)
+access_keeps old mid new block a prepared is =
+    let made : new ≡ record old { accesses = old.accesses ++ a ∷ []; ready = None; settled = false } =
+    is ∙ ap (λ (w : Doing). let v : Doing = record w { accesses = w.accesses ++ a ∷ []; ready = None; settled = false } in v) prepared in (
+      record {
+        begin = ap (λ (w : Doing). w.begin) made;
+        mode = ap (λ (w : Doing). w.mode) made;
+        size = ap (λ (w : Doing). w.size) made;
+        blocks = ap (λ (w : Doing). w.blocks) made;
+      },
+      ap (λ (w : Doing). length w.accesses) made ∙ length_push old.accesses a,
+    )
+
+pub ready_keeps : (old new : Doing) (block : ℕ) → new ≡ record old { ready = Some block } → IsSameWork old new × (length new.accesses ≡ length old.accesses)
+ready_keeps old new block is = (
+  record {
+    begin = ap (λ (w : Doing). w.begin) is;
+    mode = ap (λ (w : Doing). w.mode) is;
+    size = ap (λ (w : Doing). w.size) is;
+    blocks = ap (λ (w : Doing). w.blocks) is;
+  },
+  ap (λ (w : Doing). length w.accesses) is,
+)
+
+-- the disk tells its bytes still
+pub told_still : (array : Option Array) (A : Array) (before now : DiskState) → (IsSome array → IsSome before.contents) → array ≡ Some A → now.contents ≡ before.contents → IsSome now.contents
+told_still array A before now told is same =
+    subst (λ (o : Option (List ℕ)). IsSome o) (sym same) (told (subst (λ (o : Option Array). IsSome o) (sym is) refl))
+
+pub if_told : {P : Type 0} (o : Option (List ℕ)) → IsSome o → ForSome o (λ c. P) → P
+if_told None told each = absurd (cc told)
+if_told (Some c) told each = each c refl

@@ -1,0 +1,15 @@
+use Rattle.std.proofs.Common.{arith}
+use Rattle.core_blocks.proofs.Guests.{mark_keeps, works_on}
+use Rattle.core_blocks.proofs.guest.Guest.mark.Goals as goal
+
+pub invariant_of-self : goal.invariant_of-self
+invariant_of-self g c =
+    let guest = c.self.invariant.2 in
+    let kept = mark_keeps c.self.inside.work.now c.mark.new.self c.args.off c.args.len c.mark.result c.mark.ensures.ok c.mark.ensures.err in
+    (c.self.invariant.0, c.self.invariant.1, works_on _ _ _ _ _ _ c.self.inside.core.now _ _ _ _ 0 guest kept.0 (omega (arith, kept.1, guest.limits.count)))
+
+pub returns-clause-limits : goal.returns-clause-limits
+returns-clause-limits g c =
+    let guest = c.self.invariant.2 in
+    let kept = mark_keeps c.self.inside.work.now c.mark.new.self c.args.off c.args.len c.mark.result c.mark.ensures.ok c.mark.ensures.err in
+    (works_on _ _ _ _ _ _ c.self.inside.core.now _ _ _ _ 0 guest kept.0 (omega (arith, kept.1, guest.limits.count))).limits

@@ -1,0 +1,27 @@
+-- What a call of a store tells of the disk.
+use Rattle.std.proofs.Common.{◌≡◌, ℕ, ◌<◌, true, false, Result, Ok, Err, IsErrOf, arith}
+use Rattle.iso_model.specs.declared.script.Reply.{Reply}
+use Rattle.tx_blocks.specs.Tx.{Device}
+use Rattle.script_runner.specs.declared.machine.Stop.{Stop}
+use Rattle.script_runner.specs.declared.machine.Stop.TheVariants as stop
+use Rattle.script_runner.specs.Counts.{BlamesDisk}
+use Rattle.core_blocks.specs.Guests.{Counts}
+use Rattle.iso_machine.specs.Storing.{Stops}
+
+abbrev pub device : ℕ → Device
+device faults = record { faults = faults; is_down = false }
+
+-- the disk did not fail
+pub blames : (failures before now : ℕ) (r : Result Reply Stop) → Counts failures before now → failures ≡ 0 → Stops (device 0) (device failures) r → BlamesDisk before now r
+blames failures before now (Ok r) counts none stops =
+    record { later = counts.later; failed = λ e. absurd (cc e); passed = counts.none none; memory = λ e. absurd (cc e) }
+blames failures before now (Err e) counts none stops =
+    record { later = counts.later; failed = λ is. absurd (omega (arith, stops.disk is, none)); passed = tt; memory = λ is. counts.none none }
+
+-- it failed
+pub blames_failed : (failures before now : ℕ) → Counts failures before now → 0 < failures → BlamesDisk before now (Err stop.Disk)
+blames_failed failures before now counts some = record { later = counts.later; failed = λ e. counts.some some; passed = tt; memory = λ e. absurd (cc e) }
+
+-- a guest's core is up
+pub stays_up : (failures : ℕ) (r : Result Reply Stop) → Stops (device 0) (device failures) r → ¬ IsErrOf r stop.Down
+stays_up failures r stops = λ is. let bad : false ≡ true = stops.down is in cc

@@ -1,0 +1,118 @@
+-- Answers where the disk tells its bytes, and else.
+use Rattle.std.proofs.Common.{◌≡◌, ◌∙◌, sym, refl, ap, subst, inl, inr, ⊎_elim, ◌==◌, Bool, true, false, cond, ℕ, List, Result, Ok, Err, IfOk, IsErrOf, Option}
+use Rattle.std.specs.Prelude.{IsSome}
+use Rattle.iso_disk.specs.Disk.{DiskState, WritesNothing}
+use Rattle.iso_disk.proofs.Moments.{stays}
+use Rattle.iso_model.specs.declared.script.Op.{Op}
+use Rattle.iso_model.specs.declared.script.Reply.{Reply}
+use Rattle.iso_model.specs.declared.script.Reply.TheVariants as reply
+use Rattle.iso_model.specs.Geometry.{is_serial}
+use Rattle.iso_model.specs.History.{last}
+use Rattle.iso_model.specs.Image.{Shows}
+use Rattle.iso_model.specs.Step.{in_store}
+use Rattle.iso_model.specs.World.{World, Live}
+use Rattle.tx_table.specs.Work.{Doing}
+use Rattle.script_runner.specs.declared.machine.Stop.{Stop}
+use Rattle.script_runner.specs.declared.machine.Stop.TheVariants as stop
+use Rattle.script_runner.specs.Counts.{BlamesDisk}
+use Rattle.iso_machine.specs.Accessing.{IsWorkedTo}
+use Rattle.iso_machine.specs.Answering.{Answers, AnswersTold}
+use Rattle.iso_machine.specs.Storing.{IsStored, store_act}
+
+-- an answer that is known in any case
+pub told_so : (stands : World → Type 0) (old new : DiskState) (W : World) (given : Reply × World) (plain : Type 0) (result : Result Reply Stop) → Answers stands old new W given result
+    → AnswersTold stands old new W given plain result
+told_so stands old new W given plain (Ok r) is = record {
+  reply = is.reply;
+  but_shown = λ call. is.but_shown;
+  told = is.told;
+  world = record { world = given.1; is = is.world; known = λ how. refl; history = refl; geometry = refl };
+  moments = is.moments;
+  up = is.up;
+  cause = is.cause;
+}
+told_so stands old new W given plain (Err e) is = record {
+  reply = tt;
+  but_shown = λ call. tt;
+  told = tt;
+  world = tt;
+  moments = is.moments;
+  up = is.up;
+  cause = is.cause;
+}
+
+-- what holds of any call holds of one that is not plain
+pub never_plain : (stands : World → Type 0) (old new : DiskState) (W : World) (given : Reply × World) (plain : Type 0) (result : Result Reply Stop) → (plain → ⊥) → AnswersTold stands old new W given ⊥ result
+    → AnswersTold stands old new W given plain result
+never_plain stands old new W given plain (Ok r) never is = record {
+  reply = is.reply;
+  but_shown = λ call. absurd (never call);
+  told = is.told;
+  world = record {
+    world = is.world.world;
+    is = is.world.is;
+    known = λ how. is.world.known (⊎_elim inl (λ call. inr (never call)) how);
+    history = is.world.history;
+    geometry = is.world.geometry;
+  };
+  moments = is.moments;
+  up = is.up;
+  cause = is.cause;
+}
+never_plain stands old new W given plain (Err e) never is = record {
+  reply = tt;
+  but_shown = λ call. tt;
+  told = tt;
+  world = tt;
+  moments = is.moments;
+  up = is.up;
+  cause = is.cause;
+}
+
+-- a call of a store leaves the history as it is
+in_store_keeps : (W : World) (t : Live) (blocks : ℕ) (result : Reply × World) → result.1.history ≡ W.history → result.1.geometry ≡ W.geometry
+    → ((in_store W t blocks result).1.history ≡ W.history) × ((in_store W t blocks result).1.geometry ≡ W.geometry)
+in_store_keeps W t blocks result history geometry = refused (blocks == 0) reply.NoStore (cond (is_serial t.mode) result (reply.StoreMode, W)) (elim (is_serial t.mode) as (λ b. Kept (cond b result (reply.StoreMode, W))) [
+  | true ↦ (history, geometry)
+  | false ↦ (refl, refl)
+])
+  where
+    Kept : Reply × World → Type 0
+    Kept given = (given.1.history ≡ W.history) × (given.1.geometry ≡ W.geometry)
+
+    refused : (b : Bool) (r : Reply) (given : Reply × World) → Kept given → Kept (cond b (r, W) given)
+    refused true r given kept = (refl, refl)
+    refused false r given kept = kept
+
+pub store_keeps : (W : World) (t : Live) (op : Op) → ((store_act W t op).1.history ≡ W.history) × ((store_act W t op).1.geometry ≡ W.geometry)
+store_keeps W t op = in_store_keeps W t W.geometry.hash _ refl refl
+
+-- a call of a store on one transaction
+module _ (stands : World → Type 0) (old new : DiskState) (W : World) (t : Live) (work : Doing) (given : Reply × World) (history : given.1.history ≡ W.history) (geometry : given.1.geometry ≡ W.geometry)
+    (here : (c : List ℕ) → old.now c → Shows c W.geometry W.history (last W.history)) (still : WritesNothing old new) where
+  pub stored_so : (result : Result Reply Stop) → IfOk result (IsStored old W t given work)
+      → ((V : World) → IsWorkedTo W t V work → stands V) → ¬ IsErrOf result stop.Down → BlamesDisk old.faults new.faults result → AnswersTold stands old new W given ⊥ result
+  stored_so (Ok r) is world not_down cause = record {
+    reply = is.reply;
+    but_shown = λ call. absurd call;
+    told = λ told. subst (λ (o : Option (List ℕ)). IsSome o) (sym still.same_contents) told;
+    world = record {
+      world = is.world;
+      is = world is.world is.worked;
+      known = λ how. ⊎_elim is.told (λ call. absurd call) how;
+      history = ap (λ (V : World). V.history) is.worked.world ∙ sym history;
+      geometry = ap (λ (V : World). V.geometry) is.worked.world ∙ sym geometry;
+    };
+    moments = stays still (λ c image. inl (here c image));
+    up = not_down;
+    cause = cause;
+  }
+  stored_so (Err e) is world not_down cause = record {
+    reply = tt;
+    but_shown = λ call. tt;
+    told = tt;
+    world = tt;
+    moments = stays still (λ c image. inl (here c image));
+    up = not_down;
+    cause = cause;
+  }

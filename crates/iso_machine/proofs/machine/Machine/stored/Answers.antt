@@ -1,0 +1,81 @@
+use Rattle.std.proofs.Common.{◌≡◌, sym, ap, subst, List, Option, Some, ◌<◌, ◌≤◌, length, get_or, set, Ok}
+use Rattle.iso_model.specs.declared.script.Reply.{Reply}
+use Rattle.iso_model.specs.declared.script.Reply.TheVariants as reply
+use Rattle.iso_model.specs.Step.{in_transaction}
+use Rattle.iso_model.specs.World.{World, Live, attached}
+use Rattle.iso_model.specs.Worlds.{IsWorld}
+use Rattle.iso_model.proofs.Worlds.{accesses_are, live_at}
+use Rattle.iso_core.specs.Calls.{IsTx}
+use Rattle.iso_core.specs.Core.{disk_of}
+use Rattle.tx_table.specs.Work.{Doing}
+use Rattle.iso_machine.specs.declared.attached.Attached.{Attached}
+use Rattle.iso_machine.specs.Accessing.{IsActive, IsWorkedTo}
+use Rattle.iso_machine.specs.Answering.{AnswersTold}
+use Rattle.iso_machine.specs.Standing.{AreOf, live_of}
+use Rattle.iso_machine.specs.Storing.{store_act}
+use Rattle.iso_machine.proofs.Machines.{attached_none, attached_some, is_active, is_tx, worked_on}
+use Rattle.iso_machine.specs.Shown.{shows}
+use Rattle.iso_machine.proofs.Quiet.{quiet}
+use Rattle.iso_machine.proofs.Told.{store_keeps, stored_so, told_so}
+use Rattle.iso_machine.proofs.machine.Machine.stored.Goals as goal
+
+pub returns-in_default : goal.returns-in_default
+returns-in_default g c W of =
+    let m = c.args.self.now in
+    let state = g.D.Disk.state in
+    told_so (AreOf state m.core m.live.items) (state (disk_of m.core)) (state (disk_of m.core)) W (in_transaction W (attached W c.args.client) (λ t. store_act W t c.args.op.now)) ⊥ (Ok reply.NotInTx)
+    (quiet (AreOf state m.core m.live.items) (state (disk_of m.core)) (g.met.D.Disk.lawful (disk_of m.core)) W (shows state m.core W of.core_of)
+    (in_transaction W (attached W c.args.client) (λ t. store_act W t c.args.op.now)) reply.NotInTx W
+    (ap (λ (o : Option Live). in_transaction W o (λ t. store_act W t c.args.op.now))
+    (attached_none state m.core m.core m.live.items W of c.args.client c.deref.result.now c.deref.ensures.value c.in_default.ensures)) of)
+
+pub store-requires : goal.store-requires
+store-requires g c =
+    let m = c.args.self.now in
+    let state = g.D.Disk.state in
+    let W = c.requires.0 in
+    let of = c.requires.1 in
+    let a = c.index_mut-attached.result.now in
+    let i = c.in-Some.i in
+    let inside : i < length m.live.items = subst (λ (l : List Attached). i < length l) c.deref.ensures.value c.in-Some.ensures.0 in
+    let here : attached W c.args.client ≡ Some (live_of (get_or m.live.items i a)) =
+    attached_some state m.core m.core m.live.items W of c.args.client c.deref.result.now i a c.deref.ensures.value (c.in-Some.ensures.1 a) in (
+      W,
+      live_of a,
+      of.core_of,
+      subst (λ (b : Attached). IsTx W b.tx (live_of b)) (sym c.index_mut-attached.ensures.value) (is_tx state m.core m.core m.live.items W of i a inside),
+      subst (λ (w : Doing). IsActive W (live_of a) w) (sym c.deref_mut.ensures.value)
+          (subst (λ (b : Attached). IsActive W (live_of b) b.work.value) (sym c.index_mut-attached.ensures.value) (is_active state m.core m.core m.live.items W of i a inside)),
+      subst (λ (w : Doing). length w.accesses ≤ 4096) (sym c.deref_mut.ensures.value)
+          (subst (λ (b : Attached). length b.work.value.accesses ≤ 4096) (sym c.index_mut-attached.ensures.value) (live_at W c.args.client (live_of (get_or m.live.items i a)) of.core_of.kept_of.world here).count),
+    )
+
+pub returns : goal.returns
+returns g c W of =
+    let m = c.args.self.now in
+    let state = g.D.Disk.state in
+    let i = c.in-Some.i in
+    let d = c.index_mut-attached.result.now in
+    let a : Attached = get_or m.live.items i d in
+    let o = c.args.op.now in
+    let same : d ≡ a = c.index_mut-attached.ensures.value in
+    let inside : i < length m.live.items = subst (λ (l : List Attached). i < length l) c.deref.ensures.value c.in-Some.ensures.0 in
+    let tx : IsTx W d.tx (live_of a) = subst (λ (b : Attached). IsTx W b.tx (live_of a)) (sym same) (is_tx state m.core m.core m.live.items W of i d inside) in
+    let active : IsActive W (live_of a) c.deref_mut.result.now = subst (λ (w : Doing). IsActive W (live_of a) w) (sym c.deref_mut.ensures.value)
+    (subst (λ (b : Attached). IsActive W (live_of a) b.work.value) (sym same) (is_active state m.core m.core m.live.items W of i d inside)) in
+    let here : attached W c.args.client ≡ Some (live_of a) =
+    attached_some state m.core m.core m.live.items W of c.args.client c.deref.result.now i d c.deref.ensures.value (c.in-Some.ensures.1 d) in
+    let items : List Attached = set m.live.items i (record d { work = record d.work { value = c.store.new.work } }) in
+    let live = live_at W c.args.client (live_of a) of.core_of.kept_of.world here in
+    let keeps = store_keeps W (live_of a) o in
+    let sound : (V : World) → IsWorkedTo W (live_of a) V c.store.new.work → IsWorld V =
+    λ V to. subst (λ (U : World). IsWorld U) (sym to.world)
+    (accesses_are W c.args.client (live_of a) c.store.new.work.accesses of.core_of.kept_of.world here live c.store.ensures.few
+    (c.store.ensures.within W.geometry (sym to.is_work.size) (sym to.is_work.blocks))).world in
+    subst (λ (given : Reply × World). AnswersTold (AreOf state c.store.new.core items) (state (disk_of m.core)) (state (disk_of c.store.new.core)) W given ⊥ c.store.result)
+    (sym (ap (λ (p : Option Live). in_transaction W p (λ t. store_act W t o)) here))
+    (stored_so (AreOf state c.store.new.core items) (state (disk_of m.core)) (state (disk_of c.store.new.core)) W (live_of a) c.store.new.work (store_act W (live_of a) o) keeps.0 keeps.1
+    (shows state m.core W of.core_of) c.store.ensures.unwritten c.store.result (c.store.ensures.given W (live_of a) of.core_of tx active)
+    (λ V to. subst (λ (b : Attached). AreOf state c.store.new.core (set m.live.items i (record b { work = record b.work { value = c.store.new.work } })) V) (sym same)
+    (worked_on state m.core c.store.new.core m.live.items W of i d inside c.store.new.work V to (c.store.ensures.same W of.core_of) (sound V to)))
+    c.store.ensures.up c.store.ensures.cause)

@@ -1,0 +1,13 @@
+use Rattle.std.proofs.Common.{ap, subst}
+use Rattle.core_blocks.specs.Guests.{Seen, tx_of}
+use Rattle.tx_blocks.specs.Runs.{area_of}
+use Rattle.tx_blocks.specs.Tx.{Tx}
+use Rattle.iso_machine.specs.Storing.{HasCalled, store_ended}
+use Rattle.iso_machine.proofs.storing.call_from.Goals as goal
+
+pub returns-clause-called : goal.returns-clause-called
+returns-clause-called g c =
+    let before = ap (λ (s : Seen). s.tx) c.over-blocks.ensures in
+    let after = ap (λ (s : Seen). s.tx) c.leave-core.ensures.seen in
+    subst (λ (u : Tx). HasCalled (store_ended (area_of (tx_of g.K.Origin.array c.args.work.now) c.args.region) c.args.op.now) (tx_of g.K.Origin.array c.args.work.now) u c.call-result.result) after
+    (subst (λ (t : Tx). HasCalled (store_ended (area_of t c.args.region) c.args.op.now) t c.call-result.new.tx.guest.tx c.call-result.result) before c.call-result.ensures.called)

@@ -1,0 +1,15 @@
+-- The transaction began as it is at the call.
+use Rattle.iso_core.specs.Core.{StandsFor, disk_of}
+use Rattle.iso_core.specs.Standing.{up}
+use Rattle.core_blocks.specs.Shown.{array_told}
+use Rattle.iso_machine.proofs.storing.call_on.Given as goal
+
+abbrev pub ghosts-call_from : goal.ghosts-call_from
+ghosts-call_from g a = record {
+  stood = λ W. StandsFor g.D.Disk.state a.core.now W up;
+  disk = g.D.Disk.state (disk_of a.core.now);
+  doing = a.work.now;
+  array = array_told g.D.Disk.state a.core.now a.work.now.begin;
+  core_name = a.core.ghost_name;
+  work_name = a.work.ghost_name;
+}

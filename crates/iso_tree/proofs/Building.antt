@@ -1,0 +1,176 @@
+-- A node's bytes, cell by cell.
+use Rattle.std.proofs.Common.{◌≡◌, ◌∙◌, sym, refl, ap, ℕ, zero, suc, ◌+◌, ◌-◌, ◌*◌, ◌/◌, ◌%◌, ◌<◌, ◌≤◌, Bool, true, false, not, cond, List, [], ◌∷◌, ◌++◌, take, drop, length, replicate, set, arith}
+use Rattle.std.specs.List.{AllByRecursion, flat_map, filter}
+use Rattle.std.proofs.lemmas.List.{append_assoc, append-nil, take_at, drop_at, length-append, length-replicate}
+use Rattle.std.proofs.lemmas.Grind.{flat_map-append}
+use Rattle.iso_model.specs.Cells.{cell_count, keys_end, key_part, key_at, laid_at, value_mark}
+use Rattle.iso_model.specs.Stores.{bytes_in}
+use Rattle.std.specs.Str.{bytes_eq}
+use Rattle.iso_model.specs.TreeCalls.{without_key}
+use Rattle.iso_tree.proofs.Fits.{cells_fit}
+use Rattle.iso_model.specs.TreeNodes.{is_node, count_of, IsBlock, FitCells, Cell, node_bytes, cells_by}
+use Rattle.iso_tree.proofs.Bytes.{length-key_part, length-keys, length-values}
+use Rattle.iso_tree.proofs.Passes.{zeros_more}
+
+-- bytes in the place of as many others
+pub laid_mid : (xs ys zs ws : List ℕ) (at : ℕ) → length xs ≡ at → length zs ≡ length ys → laid_at at ys (xs ++ (zs ++ ws)) ≡ xs ++ (ys ++ ws)
+laid_mid xs ys zs ws at here same =
+    let front : take at (xs ++ (zs ++ ws)) ≡ xs = take_at xs (zs ++ ws) at here in
+    let back : drop (at + length ys) (xs ++ (zs ++ ws)) ≡ ws =
+    ap (drop (at + length ys)) (sym (append_assoc xs zs ws)) ∙ drop_at (xs ++ zs) ws (at + length ys) (omega (arith, length-append xs zs)) in
+    λ i. front i ++ (ys ++ back i)
+
+module _ (size level : ℕ) (cs : List Cell) (key part : List ℕ) (fit : FitCells cs) (few : length cs < cell_count size) (short : length key ≤ 28) (whole : length part ≡ 33) where
+  abbrev n : ℕ
+  n = length cs
+
+  abbrev m : ℕ
+  m = cell_count size - suc (length cs)
+
+  abbrev head : (count : ℕ) → List ℕ
+  head count = 1 ∷ level ∷ count / 256 ∷ count % 256 ∷ replicate 60 0
+
+  abbrev Ks : List ℕ
+  Ks = flat_map (λ (c : Cell). key_part c.0) cs
+
+  abbrev Vs : List ℕ
+  Vs = flat_map (λ (c : Cell). c.1) cs
+
+  abbrev Zk : List ℕ
+  Zk = replicate (31 * m) 0
+
+  abbrev Zv : List ℕ
+  Zv = replicate (33 * m) 0
+
+  left : cell_count size - length cs ≡ suc m
+  left = omega arith
+
+  zeros_k : replicate {A = ℕ} (31 * (cell_count size - length cs)) 0 ≡ replicate 31 0 ++ Zk
+  zeros_k = let e : 31 * (cell_count size - length cs) ≡ 31 + 31 * m = omega arith in ap (λ k. replicate k 0) e ∙ zeros_more 31 (31 * m)
+
+  zeros_v : replicate {A = ℕ} (33 * (cell_count size - length cs)) 0 ≡ replicate 33 0 ++ Zv
+  zeros_v = let e : 33 * (cell_count size - length cs) ≡ 33 + 33 * m = omega arith in ap (λ k. replicate k 0) e ∙ zeros_more 33 (33 * m)
+
+  old_is : node_bytes size level cs ≡ (head n ++ Ks) ++ (replicate 31 0 ++ (Zk ++ (Vs ++ (replicate 33 0 ++ Zv))))
+  old_is =
+      (λ i. (head n ++ (Ks ++ zeros_k i)) ++ (Vs ++ zeros_v i))
+      ∙ append_assoc (head n) (Ks ++ (replicate 31 0 ++ Zk)) (Vs ++ (replicate 33 0 ++ Zv))
+      ∙ ap (λ l. head n ++ l) (append_assoc Ks (replicate 31 0 ++ Zk) (Vs ++ (replicate 33 0 ++ Zv)) ∙ ap (λ l. Ks ++ l) (append_assoc (replicate 31 0) Zk (Vs ++ (replicate 33 0 ++ Zv))))
+      ∙ sym (append_assoc (head n) Ks (replicate 31 0 ++ (Zk ++ (Vs ++ (replicate 33 0 ++ Zv)))))
+
+  front_long : length (head n ++ Ks) ≡ 64 + 31 * n
+  front_long = let h : length (head n) ≡ 64 = refl in omega (arith, length-append (head n) Ks, length-keys cs fit)
+
+  key_laid : laid_at (64 + 31 * n) (key_part key) (node_bytes size level cs) ≡ (head n ++ Ks) ++ (key_part key ++ (Zk ++ (Vs ++ (replicate 33 0 ++ Zv))))
+  key_laid = ap (laid_at (64 + 31 * n) (key_part key)) old_is
+      ∙ laid_mid (head n ++ Ks) (key_part key) (replicate 31 0) (Zk ++ (Vs ++ (replicate 33 0 ++ Zv))) (64 + 31 * n) front_long (let e : length (replicate {A = ℕ} 31 0) ≡ 31 = refl in e ∙ sym (length-key_part key short))
+
+  mid_is : (head n ++ Ks) ++ (key_part key ++ (Zk ++ (Vs ++ (replicate 33 0 ++ Zv)))) ≡ (((head n ++ Ks) ++ (key_part key ++ Zk)) ++ Vs) ++ (replicate 33 0 ++ Zv)
+  mid_is =
+      ap (λ l. (head n ++ Ks) ++ l) (sym (append_assoc (key_part key) Zk (Vs ++ (replicate 33 0 ++ Zv))))
+      ∙ sym (append_assoc (head n ++ Ks) (key_part key ++ Zk) (Vs ++ (replicate 33 0 ++ Zv)))
+      ∙ sym (append_assoc ((head n ++ Ks) ++ (key_part key ++ Zk)) Vs (replicate 33 0 ++ Zv))
+
+  mid_long : length (((head n ++ Ks) ++ (key_part key ++ Zk)) ++ Vs) ≡ keys_end size + 33 * n
+  mid_long = omega (
+    arith,
+    length-append ((head n ++ Ks) ++ (key_part key ++ Zk)) Vs,
+    length-append (head n ++ Ks) (key_part key ++ Zk),
+    length-append (key_part key) Zk,
+    front_long,
+    length-key_part key short,
+    length-replicate {A = ℕ} (31 * m) 0,
+    length-values cs fit,
+  )
+
+  both_laid : laid_at (keys_end size + 33 * n) part (laid_at (64 + 31 * n) (key_part key) (node_bytes size level cs)) ≡ (((head n ++ Ks) ++ (key_part key ++ Zk)) ++ Vs) ++ (part ++ Zv)
+  both_laid = ap (laid_at (keys_end size + 33 * n) part) (key_laid ∙ mid_is)
+      ∙ laid_mid (((head n ++ Ks) ++ (key_part key ++ Zk)) ++ Vs) part (replicate 33 0) Zv (keys_end size + 33 * n) mid_long (let e : length (replicate {A = ℕ} 33 0) ≡ 33 = refl in e ∙ sym whole)
+
+  counted : set (set ((((head n ++ Ks) ++ (key_part key ++ Zk)) ++ Vs) ++ (part ++ Zv)) 2 ((n + 1) / 256)) 3 ((n + 1) % 256) ≡ (((head (n + 1) ++ Ks) ++ (key_part key ++ Zk)) ++ Vs) ++ (part ++ Zv)
+  counted = refl
+
+  new_is : node_bytes size level (cs ++ (key, part) ∷ []) ≡ (((head (n + 1) ++ Ks) ++ (key_part key ++ Zk)) ++ Vs) ++ (part ++ Zv)
+  new_is =
+      let more : List Cell = cs ++ (key, part) ∷ [] in
+      let long : length more ≡ n + 1 = length-append cs ((key, part) ∷ []) in
+      let keys : flat_map (λ (c : Cell). key_part c.0) more ≡ Ks ++ key_part key = flat_map-append (λ (c : Cell). key_part c.0) cs ((key, part) ∷ []) ∙ ap (λ l. Ks ++ l) (append-nil (key_part key)) in
+      let values : flat_map (λ (c : Cell). c.1) more ≡ Vs ++ part = flat_map-append (λ (c : Cell). c.1) cs ((key, part) ∷ []) ∙ ap (λ l. Vs ++ l) (append-nil part) in
+      let rest : cell_count size - length more ≡ m = omega arith in
+      (λ i. (head (long i) ++ (keys i ++ replicate (31 * rest i) 0)) ++ (values i ++ replicate (33 * rest i) 0))
+      ∙ (λ i. (head (n + 1) ++ append_assoc Ks (key_part key) Zk i) ++ append_assoc Vs part Zv i)
+      ∙ ap (λ l. l ++ (Vs ++ (part ++ Zv))) (sym (append_assoc (head (n + 1)) Ks (key_part key ++ Zk)))
+      ∙ sym (append_assoc ((head (n + 1) ++ Ks) ++ (key_part key ++ Zk)) Vs (part ++ Zv))
+
+  -- a cell more
+  pub cell_added : set (set (laid_at (keys_end size + 33 * length cs) part (laid_at (64 + 31 * length cs) (key_part key) (node_bytes size level cs))) 2 ((length cs + 1) / 256)) 3 ((length cs + 1) % 256)
+      ≡ node_bytes size level (cs ++ (key, part) ∷ [])
+  cell_added = ap (λ l. set (set l 2 ((n + 1) / 256)) 3 ((n + 1) % 256)) both_laid ∙ counted ∙ sym new_is
+
+-- the cells of a row, with one more
+pub cells_more : (keys : List ℕ) (value : ℕ → List ℕ) (i m : ℕ) → cells_by keys value i (m + 1) ≡ cells_by keys value i m ++ (key_at keys (i + m), value (i + m)) ∷ []
+cells_more keys value i zero = let e : i + 0 ≡ i = omega arith in λ j. (key_at keys (sym e j), value (sym e j)) ∷ []
+cells_more keys value i (suc m) =
+    let e : suc m + 1 ≡ suc (m + 1) = omega arith in
+    let f : i + 1 + m ≡ i + suc m = omega arith in
+    ap (cells_by keys value i) e ∙ ap (λ l. (key_at keys i, value i) ∷ l) (cells_more keys value (i + 1) m ∙ (λ j. cells_by keys value (i + 1) m ++ (key_at keys (f j), value (f j)) ∷ []))
+
+pub filter_more : (p : Cell → Bool) (cs : List Cell) (c : Cell) → filter p (cs ++ c ∷ []) ≡ filter p cs ++ cond (p c) (c ∷ []) []
+filter_more p [] c = refl
+filter_more p (d ∷ ds) c = elim (p d) as (λ t. cond t (d ∷ filter p (ds ++ c ∷ [])) (filter p (ds ++ c ∷ [])) ≡ cond t (d ∷ filter p ds) (filter p ds) ++ cond (p c) (c ∷ []) []) [
+  | true ↦ ap (λ l. d ∷ l) (filter_more p ds c)
+  | false ↦ filter_more p ds c
+]
+
+pub fit_first : (P : Cell → Type 0) (keys : List ℕ) (value : ℕ → List ℕ) (i m n : ℕ) → m ≤ n → AllByRecursion P (cells_by keys value i n) → AllByRecursion P (cells_by keys value i m)
+fit_first P keys value i zero n le all = tt
+fit_first P keys value i (suc m) zero le all = absurd (omega arith)
+fit_first P keys value i (suc m) (suc n) le all = (all.0, fit_first P keys value (i + 1) m n (omega arith) all.1)
+
+-- a node without cells
+pub empty_is : (size level : ℕ) → IsBlock size → set (set (replicate size 0) 0 1) 1 level ≡ node_bytes size level []
+empty_is size level sized =
+    let n = cell_count size in
+    let none : n - 0 ≡ n = omega arith in
+    let whole : size ≡ 64 + (31 * n + 33 * n) = omega (arith, sized.whole) in
+    let split : replicate {A = ℕ} size 0 ≡ (replicate 64 0 ++ replicate (31 * n) 0) ++ replicate (33 * n) 0 =
+    ap (λ k. replicate k 0) whole ∙ zeros_more 64 (31 * n + 33 * n) ∙ ap (λ l. replicate 64 0 ++ l) (zeros_more (31 * n) (33 * n)) ∙ sym (append_assoc (replicate 64 0) (replicate (31 * n) 0) (replicate (33 * n) 0)) in
+    let made : set (set ((replicate 64 0 ++ replicate (31 * n) 0) ++ replicate (33 * n) 0) 0 1) 1 level ≡ ((1 ∷ level ∷ 0 ∷ 0 ∷ replicate 60 0) ++ replicate (31 * n) 0) ++ replicate (33 * n) 0 = refl in
+    ap (λ l. set (set l 0 1) 1 level) split ∙ made ∙ (λ i. ((1 ∷ level ∷ 0 ∷ 0 ∷ replicate 60 0) ++ replicate (31 * sym none i) 0) ++ replicate (33 * sym none i) 0)
+
+pub filter_all : (P : Cell → Type 0) (p : Cell → Bool) (cs : List Cell) → AllByRecursion P cs → AllByRecursion P (filter p cs)
+filter_all P p [] all = tt
+filter_all P p (c ∷ cs) all = elim (p c) as (λ t. AllByRecursion P (cond t (c ∷ filter p cs) (filter p cs))) [
+  | true ↦ (all.0, filter_all P p cs all.1)
+  | false ↦ filter_all P p cs all.1
+]
+
+-- the cells of a leaf so far, without those of a key
+abbrev pub copied : (key : List ℕ) → (size : ℕ) → (old : List ℕ) → (cell : ℕ) → List Cell
+copied key size old cell = without_key key (cells_by (take (keys_end size) old) (λ i. bytes_in (value_mark size i) old) 0 cell)
+
+module _ (key : List ℕ) (size : ℕ) (old : List ℕ) (cell : ℕ) where
+  abbrev keys : List ℕ
+  keys = take (keys_end size) old
+
+  abbrev value : ℕ → List ℕ
+  value i = bytes_in (value_mark size i) old
+
+  pub copied_more : copied key size old (cell + 1) ≡ copied key size old cell ++ cond (not (bytes_eq (key_at keys cell) key)) ((key_at keys cell, value cell) ∷ []) []
+  copied_more =
+      let e : 0 + cell ≡ cell = omega arith in
+      ap (without_key key) (cells_more keys value 0 cell ∙ (λ j. cells_by keys value 0 cell ++ (key_at keys (e j), value (e j)) ∷ []))
+      ∙ filter_more (λ c. not (bytes_eq c.0 key)) (cells_by keys value 0 cell) (key_at keys cell, value cell)
+
+  one_or_none : (t : Bool) (c : Cell) → length (cond t (c ∷ []) []) ≡ cond t 1 0
+  one_or_none true c = refl
+  one_or_none false c = refl
+
+  pub copied_long : length (copied key size old (cell + 1)) ≡ length (copied key size old cell) + cond (not (bytes_eq (key_at keys cell) key)) 1 0
+  copied_long = ap length copied_more ∙ length-append (copied key size old cell) (cond (not (bytes_eq (key_at keys cell) key)) ((key_at keys cell, value cell) ∷ []) [])
+      ∙ ap (λ n. length (copied key size old cell) + n) (one_or_none (not (bytes_eq (key_at keys cell) key)) (key_at keys cell, value cell))
+
+  pub copied_fit : IsBlock size → length old ≡ size → is_node size 0 keys ≡ true → cell ≤ count_of keys → FitCells (copied key size old cell)
+  copied_fit sized long node inside =
+      filter_all (λ (c : Cell). (length c.0 ≤ 28) × (length c.1 ≡ 33)) (λ c. not (bytes_eq c.0 key)) (cells_by keys value 0 cell)
+      (fit_first (λ (c : Cell). (length c.0 ≤ 28) × (length c.1 ≡ 33)) keys value 0 cell (count_of keys) inside (cells_fit size 0 old sized long node))

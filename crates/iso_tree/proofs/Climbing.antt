@@ -1,0 +1,213 @@
+-- The way up, write by write.
+use Rattle.std.proofs.Common.{◌≡◌, ◌∙◌, sym, refl, ap, subst, ℕ, zero, suc, ◌+◌, ◌-◌, ◌*◌, ◌/◌, ◌<◌, ◌≤◌, ◌==◌, Bool, true, false, cond, nat_le, List, [], ◌∷◌, ◌++◌, length, take, drop, None, Result, arith, inl, inr, eq-eqb, ne_eqb, length-append}
+use Rattle.std.proofs.lemmas.Bool.Decides.{nat_tests}
+use Rattle.std.proofs.lemmas.List.{take_at, drop_at}
+use Rattle.iso_model.specs.declared.access.Access.{Access}
+use Rattle.iso_model.specs.declared.stores.Area.{Area}
+use Rattle.iso_model.specs.declared.stores.StoreError.{StoreError}
+use Rattle.iso_model.specs.declared.stores.TxError.{TxError}
+use Rattle.iso_model.specs.Cells.{cell_count, keys_end, value_mark}
+use Rattle.iso_model.specs.Stores.{Program, Store, bytes_in, store_access}
+use Rattle.tx_blocks.specs.Tx.{Tx, Device, with_accesses, room_of}
+use Rattle.tx_blocks.specs.Runs.{HasRun, IsCut, IsCause}
+use Rattle.tx_blocks.proofs.Progress.{IsAt, at_start, at_store}
+use Rattle.tx_blocks.proofs.Refusals.{cut_at_store}
+use Rattle.tx_blocks.proofs.Parts.{run_from}
+use Rattle.iso_model.specs.TreeNodes.{Cell, child_part, count_of, used_cells}
+use Rattle.iso_tree.specs.Rows.{key_in_row, row_from, nodes_from, IsUsable, AreUsable, AreInside, AreBlocks}
+use Rattle.iso_model.specs.Trees.{Put, first_key, emptied, half, halves, fit}
+use Rattle.iso_model.specs.TreeCalls.{Answer, Climb, climb, climb_on, full_row, need_of, placed}
+use Rattle.iso_tree.proofs.Enough.{fits_one}
+use Rattle.iso_tree.proofs.Filling.{row_split, length-row}
+use Rattle.iso_tree.proofs.Fits.{length-cells}
+use Rattle.iso_tree.proofs.Ways.{length-placed}
+use Rattle.std.proofs.lemmas.Bool.{cases_eq}
+
+-- one way on, with the node's writes
+abbrev on_from : (n : ℕ) → (key : List ℕ) → (level block : ℕ) → List (ℕ × List Cell) → Put → Climb
+on_from n key level block nodes q = climb_on q (λ s. climb n key (suc level) (s.0, child_part s.1) block nodes q.left) q.second
+
+pub one_way : (n : ℕ) (key : List ℕ) (level : ℕ) (new : Cell) (below : ℕ) (node : ℕ × List Cell) (nodes : List (ℕ × List Cell)) (news : List ℕ) → length (placed level key new node.1) ≤ n
+    → ◌≡◌ {A = Climb} (climb n key level new below (node ∷ nodes) news) (record { writes = (node.0, level, placed level key new node.1) ∷ []; root = None })
+one_way n key level new below node nodes news few = ap (on_from n key level node.0 nodes) (fits_one n level node.0 (placed level key new node.1) news few)
+
+fits_halves : (n level block : ℕ) (cs : List Cell) (news : List ℕ) → n < length cs → fit n level block cs news ≡ halves n level block cs news
+fits_halves n level block cs news many =
+    let e : nat_le (length cs) n ≡ false = grind (arith, nat_tests) in
+    ap (λ (t : Bool). cond t (record { writes = (block, level, cs) ∷ []; second = None; taken = []; left = news; enough = true }) (halves n level block cs news)) e
+
+-- the writes of a split, and those of the way on
+abbrev pub split_writes : (n : ℕ) → (key : List ℕ) → (level block : ℕ) → (L R : List Cell) → (sep : List ℕ) → List (ℕ × List Cell) → (r : ℕ) → List ℕ → List (ℕ × ℕ × List Cell)
+split_writes n key level block L R sep nodes r more =
+    (block, level, L) ∷ (r, level, emptied level R) ∷ (climb n key (suc level) (sep, child_part r) block nodes more).writes
+
+two_way : (n : ℕ) (key : List ℕ) (level : ℕ) (new : Cell) (below : ℕ) (node : ℕ × List Cell) (nodes : List (ℕ × List Cell)) (r : ℕ) (more : List ℕ) → n < length (placed level key new node.1)
+    → (climb n key level new below (node ∷ nodes) (r ∷ more)).writes
+    ≡ split_writes n key level node.0 (take (half n) (placed level key new node.1)) (drop (half n) (placed level key new node.1)) (first_key (drop (half n) (placed level key new node.1))) nodes r more
+two_way n key level new below node nodes r more many = ap (λ (q : Put). (on_from n key level node.0 nodes q).writes) (fits_halves n level node.0 (placed level key new node.1) (r ∷ more) many)
+
+first_row : (size : ℕ) (node : List ℕ) (place : ℕ) (new : Cell) (from n : ℕ) → 0 < n → first_key (row_from size node place new from n) ≡ key_in_row (take (keys_end size) node) place new.0 from
+first_row size node place new from zero some = absurd (omega arith)
+first_row size node place new from (suc n) some = refl
+
+-- the same by the rows of the node
+pub row_way : (size n : ℕ) (key : List ℕ) (level : ℕ) (new : Cell) (below block : ℕ) (node : List ℕ) (place : ℕ) (nodes : List (ℕ × List Cell)) (r : ℕ) (more : List ℕ)
+    → row_from size node place new 0 (n + 1) ≡ placed level key new (used_cells size node) → half n ≤ n
+    → (climb n key level new below ((block, used_cells size node) ∷ nodes) (r ∷ more)).writes
+    ≡ split_writes n key level block (row_from size node place new 0 (half n)) (row_from size node place new (half n) (n + 1 - half n)) (key_in_row (take (keys_end size) node) place new.0 (half n)) nodes r more
+row_way size n key level new below block node place nodes r more row less =
+    let m = half n in
+    let L = row_from size node place new 0 m in
+    let R = row_from size node place new m (n + 1 - m) in
+    let e : n + 1 ≡ m + (n + 1 - m) = omega arith in
+    let z : 0 + m ≡ m = omega arith in
+    let whole : placed level key new (used_cells size node) ≡ L ++ R =
+    sym row ∙ ap (row_from size node place new 0) e ∙ row_split size node place new 0 m (n + 1 - m) ∙ ap (λ (k : ℕ). L ++ row_from size node place new k (n + 1 - m)) z in
+    let long : n < length (placed level key new (used_cells size node)) = omega (arith, ap length (sym row), length-row size node place new 0 (n + 1)) in
+    let left : take m (placed level key new (used_cells size node)) ≡ L = ap (take m) whole ∙ take_at L R m (length-row size node place new 0 m) in
+    let right : drop m (placed level key new (used_cells size node)) ≡ R = ap (drop m) whole ∙ drop_at L R m (length-row size node place new 0 m) in
+    two_way n key level new below (block, used_cells size node) nodes r more long
+    ∙ (λ i. split_writes n key level block (left i) (right i) (first_key (right i)) nodes r more)
+    ∙ ap (λ (k : List ℕ). split_writes n key level block L R k nodes r more) (first_row size node place new m (n + 1 - m) (omega arith))
+
+-- RUNS
+module _ (b1 b2 : ℕ) (L R : List ℕ) (rest : Program Answer) (t u : Tx) (first : u ≡ with_accesses t (store_access b1 [] L ∷ [])) (fits : length u.accesses ≤ 4096) where
+  abbrev whole : Program Answer
+  whole = Store b1 [] L (Store b2 [] R rest)
+
+  at_second : IsAt whole (Store b2 [] R rest) t u
+  at_second = at_store whole b1 [] L (Store b2 [] R rest) t t u (at_start whole t) fits first
+
+  pub second_fails : (v : Tx) (before now : Device) (e : TxError) → v ≡ u → IsCause v 1 before now e → IsCut whole t v e
+  second_fails v before now e same cause = cut_at_store whole b2 [] R rest t u v before now e at_second same cause
+
+  pub both_run : (v w : Tx) (result : Result (Unit {0}) StoreError) → v ≡ with_accesses u (store_access b2 [] R ∷ []) → length v.accesses ≤ 4096 → HasRun rest v w result → HasRun whole t w result
+  both_run v w result second fits2 run = run_from whole rest t v w result (at_store whole b2 [] R rest t u v at_second fits2 second) run
+
+pub first_fails : (b1 : ℕ) (L : List ℕ) (rest : Program Answer) (t v : Tx) (before now : Device) (e : TxError) → v ≡ t → IsCause v 1 before now e → IsCut (Store b1 [] L rest) t v e
+first_fails b1 L rest t v before now e same cause = cut_at_store (Store b1 [] L rest) b1 [] L rest t t v before now e (at_start (Store b1 [] L rest) t) same cause
+
+-- the room after an access
+pub room_after : (u v : Tx) (a : Access) → v ≡ with_accesses u (a ∷ []) → length v.accesses ≤ 4096 → room_of u ≡ suc (room_of v)
+room_after u v a is fits =
+    let long : length v.accesses ≡ length u.accesses + 1 = ap (λ (w : Tx). length w.accesses) is ∙ length-append u.accesses (a ∷ []) in
+    omega arith
+
+pub open_after : (u v : Tx) (a : Access) → v ≡ with_accesses u (a ∷ []) → u.is_open ≡ true → v.is_open ≡ true
+open_after u v a is open_is = ap (λ (w : Tx). w.is_open) is ∙ open_is
+
+-- A PATH'S FIRST NODE
+module _ (a : Area) (key : List ℕ) (level : ℕ) (new : Cell) (below block count i : ℕ) (rest path : List (ℕ × ℕ)) (nodes news : List ℕ) (is : path ≡ (block, count) ∷ rest) (usable : AreUsable a.size nodes i path) where
+  abbrev n : ℕ
+  n = cell_count a.size
+
+  abbrev node : List ℕ
+  node = bytes_in (record { off = i * a.size; len = a.size }) nodes
+
+  pub first_usable : IsUsable a.size node count
+  first_usable = (subst (AreUsable a.size nodes i) is usable).0
+
+  pub rest_usable : AreUsable a.size nodes (i + 1) rest
+  rest_usable = (subst (AreUsable a.size nodes i) is usable).1
+
+  pub rest_inside : AreInside a path → AreInside a rest
+  rest_inside all = (subst (AreInside a) is all).1
+
+  pub room_for : (size : ℕ) → (i + length path) * a.size ≤ size → i * a.size + a.size + length rest * a.size ≤ size
+  room_for size fits = let h : (i + suc (length rest)) * a.size ≤ size = subst (λ (p : List (ℕ × ℕ)). (i + length p) * a.size ≤ size) is fits in omega arith
+
+  pub rest_room : (size : ℕ) → (i + length path) * a.size ≤ size → (i + 1 + length rest) * a.size ≤ size
+  rest_room size fits = let h : (i + suc (length rest)) * a.size ≤ size = subst (λ (p : List (ℕ × ℕ)). (i + length p) * a.size ≤ size) is fits in let e : i + suc (length rest) ≡ i + 1 + length rest = omega arith in subst (λ (k : ℕ). k * a.size ≤ size) e h
+
+  used : length (used_cells a.size node) ≡ count
+  used = length-cells (take (keys_end a.size) node) (λ j. bytes_in (value_mark a.size j) node) 0 (count_of (take (keys_end a.size) node)) ∙ first_usable.count_is
+
+  -- where it is not full
+  pub last_writes : count < n → (climb n key level new below (nodes_from a.size nodes i path) news).writes ≡ (block, level, placed level key new (used_cells a.size node)) ∷ []
+  last_writes room =
+      ap (λ (p : List (ℕ × ℕ)). (climb n key level new below (nodes_from a.size nodes i p) news).writes) is
+      ∙ ap (λ (w : Climb). w.writes) (one_way n key level new below (block, used_cells a.size node) (nodes_from a.size nodes (i + 1) rest) news (omega (arith, used, length-placed level key new (used_cells a.size node))))
+
+  -- where it is full
+  module _ (full : n ≤ count) (r : ℕ) (more : List ℕ) (news_are : news ≡ r ∷ more) (place : ℕ) (row : row_from a.size node place new 0 (count_of (take (keys_end a.size) node) + 1) ≡ placed level key new (used_cells a.size node)) (two : 2 ≤ n) where
+    pub count_n : count ≡ n
+    count_n = let few = first_usable.few in omega arith
+
+    abbrev pub L : List Cell
+    L = row_from a.size node place new 0 (half n)
+
+    abbrev pub R : List Cell
+    R = row_from a.size node place new (half n) (n + 1 - half n)
+
+    abbrev pub sep : List ℕ
+    sep = key_in_row (take (keys_end a.size) node) place new.0 (half n)
+
+    abbrev pub way_on : List (ℕ × ℕ × List Cell)
+    way_on = (climb n key (suc level) (sep, child_part r) block (nodes_from a.size nodes (i + 1) rest) more).writes
+
+    pub full_writes : (climb n key level new below (nodes_from a.size nodes i path) news).writes ≡ (block, level, L) ∷ (r, level, emptied level R) ∷ way_on
+    full_writes =
+        (λ j. (climb n key level new below (nodes_from a.size nodes i (is j)) (news_are j)).writes)
+        ∙ row_way a.size n key level new below block node place (nodes_from a.size nodes (i + 1) rest) r more
+        (ap (λ (k : ℕ). row_from a.size node place new 0 (k + 1)) (sym (first_usable.count_is ∙ count_n)) ∙ row) (omega arith)
+
+    pub rest_enough : need_of n path ≤ length news → need_of n rest ≤ length more
+    rest_enough enough =
+        let h : need_of n ((block, count) ∷ rest) ≤ suc (length more) = subst (λ (p : List (ℕ × ℕ)). need_of n p ≤ suc (length more)) is (subst (λ (l : List ℕ). need_of n path ≤ length l) news_are enough) in
+        let e : (count == n) ≡ true = eq-eqb count n count_n in
+        let row_is : full_row n ((block, count) ∷ rest) ≡ suc (full_row n rest) = ap (λ (t : Bool). cond t (suc (full_row n rest)) 0) e in
+        elim (cases_eq (full_row n rest) (length rest)) [
+          | inl all ↦
+              (let t : (full_row n rest == length rest) ≡ true = eq-eqb (full_row n rest) (length rest) all in
+              let s : (full_row n ((block, count) ∷ rest) == suc (length rest)) ≡ true = eq-eqb (full_row n ((block, count) ∷ rest)) (suc (length rest)) (row_is ∙ ap suc all) in
+              let g : need_of n ((block, count) ∷ rest) ≡ full_row n ((block, count) ∷ rest) + 1 = ap (λ (b : Bool). full_row n ((block, count) ∷ rest) + cond b 1 0) s in
+              let k : need_of n rest ≡ full_row n rest + 1 = ap (λ (b : Bool). full_row n rest + cond b 1 0) t in
+              omega arith)
+          | inr part ↦
+              (let t : (full_row n rest == length rest) ≡ false = ne_eqb (full_row n rest) (length rest) part in
+              let k : need_of n rest ≡ full_row n rest + 0 = ap (λ (b : Bool). full_row n rest + cond b 1 0) t in
+              omega arith)
+        ]
+
+    pub news_inside : AreBlocks a news → r < a.blocks
+    news_inside all = (subst (AreBlocks a) news_are all).0
+
+    pub more_inside : AreBlocks a news → AreBlocks a more
+    more_inside all = (subst (AreBlocks a) news_are all).1
+
+  -- a full node needs a new block
+  pub full_some : n ≤ count → need_of n path ≤ length news → news ≡ [] → ⊥
+  full_some full enough none =
+      let e : (count == n) ≡ true = eq-eqb count n (let few = first_usable.few in omega arith) in
+      let h : need_of n ((block, count) ∷ rest) ≤ 0 = subst (λ (p : List (ℕ × ℕ)). need_of n p ≤ 0) is (subst (λ (l : List ℕ). need_of n path ≤ length l) none enough) in
+      let row_is : full_row n ((block, count) ∷ rest) ≡ suc (full_row n rest) = ap (λ (t : Bool). cond t (suc (full_row n rest)) 0) e in
+      absurd (omega arith)
+
+-- the writes of a split, as the code has them
+module _ (a : Area) (key : List ℕ) (level : ℕ) (new : Cell) (below block count i : ℕ) (rest path : List (ℕ × ℕ)) (nodes news : List ℕ) (is : path ≡ (block, count) ∷ rest) (usable : AreUsable a.size nodes i path)
+    (full : cell_count a.size ≤ count) (r : ℕ) (more : List ℕ) (news_are : news ≡ r ∷ more) (place : ℕ) (b : List ℕ) (b_is : b ≡ bytes_in (record { off = i * a.size; len = a.size }) nodes)
+    (row : row_from a.size b place new 0 (count_of (take (keys_end a.size) b) + 1) ≡ placed level key new (used_cells a.size b)) (two : 2 ≤ cell_count a.size)
+    (k p : List ℕ) (k_is : k ≡ key_in_row (take (keys_end a.size) b) place new.0 ((count + 1) / 2)) (p_is : p ≡ child_part r) where
+  abbrev pub left_row : List Cell
+  left_row = row_from a.size b place new 0 ((count + 1) / 2)
+
+  abbrev pub right_row : List Cell
+  right_row = row_from a.size b place new ((count + 1) / 2) (count + 1 - (count + 1) / 2)
+
+  abbrev pub on_writes : List (ℕ × ℕ × List Cell)
+  on_writes = (climb (cell_count a.size) key (level + 1) (k, p) block (nodes_from a.size nodes (i + 1) rest) more).writes
+
+  count_is_n : count ≡ cell_count a.size
+  count_is_n = count_n a key level new below block count i rest path nodes news is usable full r more news_are place (subst (λ (x : List ℕ). row_from a.size x place new 0 (count_of (take (keys_end a.size) x) + 1) ≡ placed level key new (used_cells a.size x)) b_is row) two
+
+  pub code_writes : (climb (cell_count a.size) key level new below (nodes_from a.size nodes i path) news).writes ≡ (block, level, left_row) ∷ (r, level, emptied level right_row) ∷ on_writes
+  code_writes =
+      let node = bytes_in (record { off = i * a.size; len = a.size }) nodes in
+      let row2 = subst (λ (x : List ℕ). row_from a.size x place new 0 (count_of (take (keys_end a.size) x) + 1) ≡ placed level key new (used_cells a.size x)) b_is row in
+      let next : suc level ≡ level + 1 = omega arith in
+      let k_back : key_in_row (take (keys_end a.size) node) place new.0 (half (cell_count a.size)) ≡ k =
+      (λ j. key_in_row (take (keys_end a.size) (sym b_is j)) place new.0 ((sym count_is_n j + 1) / 2)) ∙ sym k_is in
+      full_writes a key level new below block count i rest path nodes news is usable full r more news_are place row2 two
+      ∙ (λ j. (block, level, row_from a.size (sym b_is j) place new 0 ((sym count_is_n j + 1) / 2))
+      ∷ (r, level, emptied level (row_from a.size (sym b_is j) place new ((sym count_is_n j + 1) / 2) (sym count_is_n j + 1 - (sym count_is_n j + 1) / 2)))
+      ∷ (climb (cell_count a.size) key (next j) (k_back j, sym p_is j) block (nodes_from a.size nodes (i + 1) rest) more).writes)

@@ -1,0 +1,257 @@
+-- A removal is local.
+use Rattle.std.proofs.Common.{◌≡◌, ◌≢◌, ◌∙◌, sym, refl, ap, subst, ℕ, suc, ◌+◌, ◌<◌, ◌≤◌, ◌==◌, Bool, true, false, not, cond, List, [], ◌∷◌, ◌++◌, length, Option, Some, None, Result, Ok, Err, option_map, is_some, arith, inl, inr, eq-eqb, ne_eqb}
+use Rattle.std.specs.List.{AllByRecursion, filter}
+use Rattle.std.specs.Str.{bytes_eq}
+use Rattle.std.specs.FinMap.{get, remove}
+use Rattle.std.proofs.lemmas.Bool.{cases_Bool, cases_eq}
+use Rattle.iso_model.specs.declared.access.Access.{Access}
+use Rattle.iso_model.specs.declared.stores.Area.{Area}
+use Rattle.iso_model.specs.declared.stores.StoreError.{StoreError}
+use Rattle.iso_model.specs.declared.stores.StoreError.TheVariants.{BadKey, Broken}
+use Rattle.iso_model.specs.Array.{Array, put}
+use Rattle.iso_model.specs.Effect.{own}
+use Rattle.iso_model.specs.HashCalls.{at_cell, is_key}
+use Rattle.iso_model.specs.HashRegion.{del_op}
+use Rattle.iso_model.specs.Premises.{block_at}
+use Rattle.iso_model.specs.Stores.{Program, Done, bytes_in, then_do, accesses_of, answer_of, store_access, IsLocal}
+use Rattle.iso_model.specs.Cells.{cell_count, keys_mark, value_mark, is_part, text_of}
+use Rattle.tx_blocks.proofs.Programs.{AreWhole, accesses_then, own_reads, whole_reads, IsCorrect, local_from}
+use Rattle.iso_model.specs.TreeNodes.{IsBlock, FitCells, Cell, cell_of, count_of, node_bytes, is_head, head_mark}
+use Rattle.iso_model.specs.Trees.{Rise, in_range, tree_at, IsOrdered}
+use Rattle.iso_model.specs.TreeCalls.{Descent, AtLeaf, AtBroken, descend, with_head, without_key, edit_leaf, del_at, del_below, del_program}
+use Rattle.iso_model.specs.TreeRegion.{cells_in, root_of, level_of, IsTreeArea, IsTreeRegion, tree_pairs, tree_map}
+use Rattle.iso_tree.proofs.Building.{filter_all}
+use Rattle.iso_tree.proofs.Bytes.{length-node_bytes}
+use Rattle.iso_tree.proofs.Edits.{leaf_of}
+use Rattle.iso_tree.proofs.Filters.{filter_rises}
+use Rattle.iso_tree.proofs.Ending.{order_of, ends_of, answer_at, own_at, found_of}
+use Rattle.iso_tree.proofs.Facts.{head_parts}
+use Rattle.iso_tree.proofs.Finding.{found_in}
+use Rattle.iso_tree.proofs.Fits.{area_block, cells_fit, cells_few, rise_strict}
+use Rattle.iso_tree.proofs.Gets.{descend_reads, map_gets, parts_all}
+use Rattle.iso_tree.proofs.Leaves.{EndsAtLeaf, leaf_rises, HasLanded, lands}
+use Rattle.iso_tree.proofs.Reading.{same_ok}
+use Rattle.iso_tree.proofs.Dels.{IsLeafEdit, leaf_written, edit_region, edit_pairs, edit_found, map_without, map_missing}
+
+filter_few : (p : Cell → Bool) (cs : List Cell) → length (filter p cs) ≤ length cs
+filter_few p [] = omega arith
+filter_few p (c ∷ cs) = let rest = filter_few p cs in elim (p c) as (λ t. length (cond t (c ∷ filter p cs) (filter p cs)) ≤ suc (length cs)) [
+  | true ↦ omega (arith, rest)
+  | false ↦ omega (arith, rest)
+]
+
+-- what a removal is to the map
+record HasRemoved (a : Area) (key : List ℕ) (A : Array) (r : Bool) (C : Array) : Type 0 where
+  found : is_some (get (tree_map a A) key) ≡ r
+  region : IsTreeRegion a C
+  map_is : tree_map a C ≡ remove (tree_map a A) key
+
+empty_map : (a : Area) (key : List ℕ) (A : Array) → found_in key (tree_pairs a A) ≡ None → tree_map a A ≡ remove (tree_map a A) key
+unfolding tree_map
+empty_map a key A none = map_missing key (tree_pairs a A) none
+
+-- a removal where the tree is not empty
+module _ (a : Area) (key : List ℕ) (A : Array) (area : IsTreeArea a) (region : IsTreeRegion a A) (below : root_of a A < a.blocks) (some : root_of a A ≢ 0) where
+  abbrev root : ℕ
+  root = root_of a A
+
+  abbrev level : ℕ
+  level = level_of a A
+
+  order : IsOrdered level [] None (tree_at (cells_in a A) level root)
+  order = order_of a key A region below some
+
+  ends : EndsAtLeaf a A key level root []
+  ends = ends_of a key A region below some
+
+  abbrev at : ℕ
+  at = leaf_of (cells_in a A) key level root
+
+  abbrev keys : List ℕ
+  keys = bytes_in (keys_mark a.size) (block_at A (a.start + at))
+
+  del_is : del_below a key root level ≡ then_do (descend a key false level root []) (del_at a key)
+  del_is = ap (λ (b : Bool). cond b (Done (Ok false)) (then_do (descend a key false level root []) (del_at a key))) (ne_eqb root 0 some)
+
+  answer_is : answer_of (del_below a key root level) A ≡ answer_of (del_at a key (AtLeaf ends.passed at keys ends.value)) A
+  answer_is = ap (λ (p : Program (Result Bool StoreError)). answer_of p A) del_is ∙ answer_at a key A region below some (del_at a key)
+
+  own_is : own A (accesses_of (del_below a key root level) A) ≡ own A (accesses_of (del_at a key (AtLeaf ends.passed at keys ends.value)) A)
+  own_is = ap (λ (p : Program (Result Bool StoreError)). own A (accesses_of p A)) del_is ∙ own_at a key A region below some (del_at a key)
+
+  found_is : found_in key (tree_pairs a A) ≡ option_map (λ j. text_of (bytes_in (value_mark a.size j) (block_at A (a.start + at)))) (cell_of key keys)
+  found_is = found_of a key A region below some
+
+  get_is : get (tree_map a A) key ≡ option_map (λ j. text_of (bytes_in (value_mark a.size j) (block_at A (a.start + at)))) (cell_of key keys)
+  get_is = map_gets a A key ∙ found_is
+
+  sized : IsBlock a.size
+  sized = area_block a area
+
+  abbrev cs : List Cell
+  cs = without_key key (cells_in a A at)
+
+  old_fit : FitCells (cells_in a A at)
+  old_fit = cells_fit a.size 0 (block_at A (a.start + at)) sized (region.shape at ends.below) ends.node.keys
+
+  new_fit : FitCells cs
+  new_fit = filter_all (λ (c : Cell). (length c.0 ≤ 28) × (length c.1 ≡ 33)) (λ c. not (bytes_eq c.0 key)) (cells_in a A at) old_fit
+
+  new_few : length cs ≤ cell_count a.size
+  new_few = omega (arith, filter_few (λ c. not (bytes_eq c.0 key)) (cells_in a A at), cells_few a.size 0 (block_at A (a.start + at)) ends.node.keys)
+
+  new_parts : AllByRecursion (λ (c : Cell). is_part 32 c.1 ≡ true) cs
+  new_parts = filter_all (λ (c : Cell). is_part 32 c.1 ≡ true) (λ c. not (bytes_eq c.0 key)) (cells_in a A at)
+      (parts_all (λ p. is_part 32 p ≡ true) keys (λ j. bytes_in (value_mark a.size j) (block_at A (a.start + at))) 0 (count_of keys) (λ j from to. ends.node.used j (omega arith)))
+
+  keeps : (low : List ℕ) (high : Option (List ℕ)) → in_range low high key ≡ true → Rise low high (cells_in a A at) → Rise low high cs
+  keeps low high inside rise = filter_rises (λ c. not (bytes_eq c.0 key)) low high (cells_in a A at) rise
+
+  -- the array after a removal
+  abbrev after : Array
+  after = put A (store_access (a.start + at) [] (node_bytes a.size 0 cs))
+
+  strict : Rattle.iso_tree.proofs.Passes.Strict cs
+  strict =
+      let range = leaf_rises (cells_in a A) key level root [] None order in
+      rise_strict range.0 range.1 cs (filter_rises (λ c. not (bytes_eq c.0 key)) range.0 range.1 (cells_in a A at) range.2)
+
+  edit : IsLeafEdit a A after at cs
+  edit = leaf_written a A at cs sized (region.shape at ends.below) new_fit new_few new_parts strict
+
+  after_region : IsTreeRegion a after
+  after_region = edit_region a A after key cs region some ends.some ends.node edit keeps
+
+  after_map : tree_map a after ≡ remove (tree_map a A) key
+  unfolding tree_map
+  after_map = map_without key (cells_in a A at) (tree_pairs a A) (tree_pairs a after)
+      (edit_pairs a A after key cs region some ends.some ends.node edit keeps)
+      (edit_found a A after key cs region some ends.some ends.node edit keeps)
+
+  missing_map : cell_of key keys ≡ None → tree_map a A ≡ remove (tree_map a A) key
+  unfolding tree_map
+  missing_map none = map_missing key (tree_pairs a A) (found_is ∙ ap (option_map (λ j. text_of (bytes_in (value_mark a.size j) (block_at A (a.start + at))))) none)
+
+  -- what the call does where the leaf has the key, and where it has not
+  does : (o : Option ℕ) → cell_of key keys ≡ o → (r : Bool) → answer_of (del_below a key root level) A ≡ Ok r → HasRemoved a key A r (own A (accesses_of (del_below a key root level) A))
+  does None none r is =
+      let at_end : del_at a key (AtLeaf ends.passed at keys ends.value) ≡ Done (Ok false) = ap (λ (o : Option ℕ). at_cell o (λ i. edit_leaf a at (without_key key) (Ok true)) (Done (Ok false))) none in
+      let answer : false ≡ r = same_ok false r StoreError (sym (answer_is ∙ ap (λ (p : Program (Result Bool StoreError)). answer_of p A) at_end) ∙ is) in
+      let same : own A (accesses_of (del_below a key root level) A) ≡ A = own_is ∙ ap (λ (p : Program (Result Bool StoreError)). own A (accesses_of p A)) at_end in
+      record {
+        found = ap is_some (get_is ∙ ap (option_map (λ j. text_of (bytes_in (value_mark a.size j) (block_at A (a.start + at))))) none) ∙ answer;
+        region = subst (IsTreeRegion a) (sym same) region;
+        map_is = ap (tree_map a) same ∙ missing_map none;
+      }
+  does (Some i) found r is =
+      let at_end : del_at a key (AtLeaf ends.passed at keys ends.value) ≡ edit_leaf a at (without_key key) (Ok true) = ap (λ (o : Option ℕ). at_cell o (λ i. edit_leaf a at (without_key key) (Ok true)) (Done (Ok false))) found in
+      let answer : true ≡ r = same_ok true r StoreError (sym (answer_is ∙ ap (λ (p : Program (Result Bool StoreError)). answer_of p A) at_end) ∙ is) in
+      let same : own A (accesses_of (del_below a key root level) A) ≡ after = own_is ∙ ap (λ (p : Program (Result Bool StoreError)). own A (accesses_of p A)) at_end in
+      record {
+        found = ap is_some (get_is ∙ ap (option_map (λ j. text_of (bytes_in (value_mark a.size j) (block_at A (a.start + at))))) found) ∙ answer;
+        region = subst (IsTreeRegion a) (sym same) after_region;
+        map_is = ap (tree_map a) same ∙ after_map;
+      }
+
+empty_does : (a : Area) (key : List ℕ) (A : Array) → IsTreeRegion a A → root_of a A ≡ 0 → (r : Bool) → answer_of (del_below a key (root_of a A) (level_of a A)) A ≡ Ok r
+    → HasRemoved a key A r (own A (accesses_of (del_below a key (root_of a A) (level_of a A)) A))
+empty_does a key A region empty r is =
+    let root = root_of a A in
+    let level = level_of a A in
+    let test : (root == 0) ≡ true = eq-eqb root 0 empty in
+    let program : del_below a key root level ≡ Done (Ok false) = ap (λ (b : Bool). cond b (Done (Ok false)) (then_do (descend a key false level root []) (del_at a key))) test in
+    let answer : false ≡ r = same_ok false r StoreError (sym (ap (λ (p : Program (Result Bool StoreError)). answer_of p A) program) ∙ is) in
+    let same : own A (accesses_of (del_below a key root level) A) ≡ A = ap (λ (p : Program (Result Bool StoreError)). own A (accesses_of p A)) program in
+    let none : found_in key (tree_pairs a A) ≡ None = ap (λ (t : Bool). found_in key (cond t [] (Rattle.iso_model.specs.Trees.pairs_in level (tree_at (cells_in a A) level root)))) test in
+    record {
+      found = ap is_some (map_gets a A key ∙ none) ∙ answer;
+      region = subst (IsTreeRegion a) (sym same) region;
+      map_is = ap (tree_map a) same ∙ empty_map a key A none;
+    }
+
+below_does : (a : Area) (key : List ℕ) (A : Array) → IsTreeArea a → IsTreeRegion a A → (r : Bool) → answer_of (del_below a key (root_of a A) (level_of a A)) A ≡ Ok r
+    → HasRemoved a key A r (own A (accesses_of (del_below a key (root_of a A) (level_of a A)) A))
+below_does a key A area region r is = elim (cases_eq (root_of a A) 0) [
+  | inl empty ↦ empty_does a key A region empty r is
+  | inr some ↦ does a key A area region (head_parts a (bytes_in head_mark (block_at A a.start)) region.head).root some (cell_of key (keys a key A area region (head_parts a (bytes_in head_mark (block_at A a.start)) region.head).root some)) refl r is
+]
+
+-- the whole call
+call_does : (a : Area) (key : List ℕ) (A : Array) → IsTreeArea a → is_key key ≡ true → IsTreeRegion a A → (r : Bool) → answer_of (del_program a key) A ≡ Ok r
+    → HasRemoved a key A r (own A (accesses_of (del_program a key) A))
+unfolding del_program
+call_does a key A area key_is region r is =
+    let answer : answer_of (cond (is_key key) (with_head a (del_below a key)) (Done (Err BadKey))) A ≡ answer_of (del_below a key (root_of a A) (level_of a A)) A =
+    ap (λ (k : Bool). answer_of (cond k (with_head a (del_below a key)) (Done (Err BadKey))) A) key_is
+    ∙ ap (λ (h : Bool). answer_of (cond h (del_below a key (root_of a A) (level_of a A)) (Done (Err (Broken a.start)))) A) region.head in
+    let same : own A (accesses_of (cond (is_key key) (with_head a (del_below a key)) (Done (Err BadKey))) A) ≡ own A (accesses_of (del_below a key (root_of a A) (level_of a A)) A) =
+    ap (λ (k : Bool). own A (accesses_of (cond k (with_head a (del_below a key)) (Done (Err BadKey))) A)) key_is
+    ∙ ap (λ (h : Bool). own A (accesses_of (cond h (del_below a key (root_of a A) (level_of a A)) (Done (Err (Broken a.start)))) A)) region.head in
+    subst (HasRemoved a key A r) (sym same) (below_does a key A area region r (sym answer ∙ is))
+
+-- A removal is that of the region's map.
+pub del_correct : (a : Area) (key : List ℕ) → IsTreeArea a → is_key key ≡ true → IsCorrect (IsTreeRegion a) (tree_map a) (del_op key) Ok (del_program a key)
+del_correct a key area is = record {
+  answer = λ B r region e. (call_does a key B area is region r e).found;
+  well_formed = λ B r region e. (call_does a key B area is region r e).region;
+  maps = λ B r region e. (call_does a key B area is region r e).map_is;
+}
+
+-- each block of the region has the size of one
+abbrev pub HasBlocks : Area → Array → Type 0
+HasBlocks a A = (k : ℕ) → k < a.blocks → length (block_at A (a.start + k)) ≡ a.size
+
+-- The call writes whole blocks, on whatever array.
+del_whole_at : (a : Area) (key : List ℕ) (A : Array) (d : Descent) → IsBlock a.size → HasBlocks a A → HasLanded a A d → AreWhole A (accesses_of (del_at a key d) A)
+del_whole_at a key A (AtBroken block) sized shape landed = tt
+del_whole_at a key A (AtLeaf path leaf keys x) sized shape landed =
+    let none : Program (Result Bool StoreError) = Done (Ok false) in
+    let found : ℕ → Program (Result Bool StoreError) = λ i. edit_leaf a leaf (without_key key) (Ok true) in
+    elim (cell_of key keys) as (λ o. AreWhole A (accesses_of (at_cell o found none) A)) [
+      | None ↦ tt
+      | Some i ↦
+          (let long = shape leaf landed.below in
+          let fit = cells_fit a.size 0 (block_at A (a.start + leaf)) sized long landed.node in
+          let few = cells_few a.size 0 (block_at A (a.start + leaf)) landed.node in
+          let p : Cell → Bool = λ c. not (bytes_eq c.0 key) in (
+            λ write. absurd (Rattle.iso_tree.proofs.Facts.nothing_is write),
+            (λ write. length-node_bytes a.size 0 (without_key key (cells_in a A leaf)) (filter_all (λ (c : Cell). (length c.0 ≤ 28) × (length c.1 ≡ 33)) p (cells_in a A leaf) fit) (omega (arith, filter_few p (cells_in a A leaf), few)) sized.whole ∙ sym long, tt),
+          ))
+    ]
+
+pub whole_append : (A : Array) (xs ys : List Access) → AreWhole A xs → AreWhole A ys → AreWhole A (xs ++ ys)
+whole_append A [] ys all more = more
+whole_append A (y ∷ xs) ys all more = (all.0, whole_append A xs ys all.1 more)
+
+del_whole_below : (a : Area) (key : List ℕ) (A : Array) (root level : ℕ) → IsBlock a.size → HasBlocks a A → root < a.blocks → AreWhole A (accesses_of (del_below a key root level) A)
+del_whole_below a key A root level sized shape below =
+    elim (root == 0) as (λ t. AreWhole A (accesses_of (cond t (Done (Ok false)) (then_do (descend a key false level root []) (del_at a key))) A)) [
+      | true ↦ tt
+      | false ↦
+          (let reads = accesses_of (descend a key false level root []) A in
+          let same : own A reads ≡ A = own_reads A reads (descend_reads a key false level root [] A) in
+          subst (AreWhole A) (sym (accesses_then (descend a key false level root []) (del_at a key) A ∙ ap (λ (C : Array). reads ++ accesses_of (del_at a key (answer_of (descend a key false level root []) A)) C) same))
+          (whole_append A reads (accesses_of (del_at a key (answer_of (descend a key false level root []) A)) A) (whole_reads A reads (descend_reads a key false level root [] A))
+          (del_whole_at a key A (answer_of (descend a key false level root []) A) sized shape (lands a A key false level root [] below))))
+    ]
+
+del_whole : (a : Area) (key : List ℕ) (A : Array) → IsBlock a.size → HasBlocks a A → AreWhole A (accesses_of (del_program a key) A)
+unfolding del_program
+del_whole a key A sized shape =
+    elim (is_key key) as (λ k. AreWhole A (accesses_of (cond k (with_head a (del_below a key)) (Done (Err BadKey))) A)) [
+      | false ↦ tt
+      | true ↦ (
+        λ write. absurd (Rattle.iso_tree.proofs.Facts.nothing_is write),
+        elim (cases_Bool (is_head a (bytes_in head_mark (block_at A a.start)))) [
+          | inl good ↦
+              subst (λ (h : Bool). AreWhole A (accesses_of (cond h (del_below a key (root_of a A) (level_of a A)) (Done (Err (Broken a.start)))) A)) (sym good)
+              (del_whole_below a key A (root_of a A) (level_of a A) sized shape (head_parts a (bytes_in head_mark (block_at A a.start)) good).root)
+          | inr bad ↦ subst (λ (h : Bool). AreWhole A (accesses_of (cond h (del_below a key (root_of a A) (level_of a A)) (Done (Err (Broken a.start)))) A)) (sym bad) tt
+        ],
+      )
+    ]
+
+pub del_local : (a : Area) (key : List ℕ) (A : Array) (r : Bool) → IsTreeArea a → is_key key ≡ true → HasBlocks a A → answer_of (del_program a key) A ≡ Ok r
+    → IsLocal (IsTreeRegion a) (tree_map a) (del_op key) A (accesses_of (del_program a key) A) r
+del_local a key A r area is shape e =
+    local_from (IsTreeRegion a) (tree_map a) (del_op key) Ok (del_program a key) A r (del_correct a key area is) (del_whole a key A (area_block a area) shape) e

@@ -1,0 +1,182 @@
+-- A descent, step by step.
+use Rattle.std.proofs.Common.{◌≡◌, ◌∙◌, sym, refl, ap, subst, ℕ, zero, suc, ◌+◌, ◌≤◌, ◌&&◌, Bool, true, false, cond, List, [], ◌∷◌, ◌++◌, length, take, Option, None, Result, Ok, Err, IfOk, IfErr, arith}
+use Rattle.iso_model.specs.declared.stores.Area.{Area}
+use Rattle.iso_model.specs.declared.stores.StoreError.{StoreError}
+use Rattle.iso_model.specs.declared.stores.StoreError.TheVariants as store
+use Rattle.iso_model.specs.declared.stores.TxError.{TxError}
+use Rattle.iso_model.specs.declared.stores.TxError.TheVariants as error
+use Rattle.iso_model.specs.Effect.{own}
+use Rattle.iso_model.specs.Stores.{Program, Done, Look, further_bytes, then_do, after, outcome}
+use Rattle.iso_model.specs.Cells.{keys_end, keys_mark}
+use Rattle.tx_blocks.specs.Tx.{Tx, Device, IsLater, with_accesses, room_of}
+use Rattle.tx_blocks.specs.Runs.{Ends, Ran, Stopped, IsCut, HasRun, HasRead, IsStoreCause}
+use Rattle.tx_blocks.proofs.Progress.{IsAt, at_then, ran_at, same_base, with_more}
+use Rattle.tx_blocks.proofs.Refusals.{cut_then, later_than, cause_earlier}
+use Rattle.tx_blocks.proofs.Parts.{read_join}
+use Rattle.iso_tree.specs.declared.descent.Leaf.{Leaf}
+use Rattle.iso_model.specs.TreeNodes.{is_node, is_child, child_of, count_of}
+use Rattle.iso_model.specs.TreeCalls.{Descent, AtLeaf, AtBroken, descend, inner_further, leaf_further}
+use Rattle.iso_tree.specs.Walks.{IsWalkError, OnlyReads, child_program, leaf_program, HasDescended, HasReadLeaf}
+use Rattle.iso_tree.proofs.Looking.{at_as}
+
+-- A part that is cut short cuts the call short.
+ends_from : {R : Type 0} (whole rest : Program R) (t u v : Tx) (end : Option R) → IsAt whole rest t u → Ends rest u v end → Ends whole t v end
+ends_from whole rest t u v end now ended = record {
+  done = now.done ++ ended.done;
+  is = ended.is ∙ ap (λ (w : Tx). with_accesses w ended.done) now.is ∙ with_more t now.done ended.done;
+  told = λ A told. now.told A told ∙ ap (after now.done) (ended.told A (same_base whole rest t u now ∙ told));
+}
+
+take_more : {X : Type 0} (xs ys : List X) (n : ℕ) → take (length xs + n) (xs ++ ys) ≡ xs ++ take n ys
+take_more [] ys n = let e : 0 + n ≡ n = omega arith in ap (λ (m : ℕ). take m ys) e
+take_more (x ∷ xs) ys n = let e : suc (length xs) + n ≡ suc (length xs + n) = omega arith in ap (λ (m : ℕ). take m (x ∷ (xs ++ ys))) e ∙ ap (λ rest. x ∷ rest) (take_more xs ys n)
+
+stopped_from : {R : Type 0} (whole rest : Program R) (t u v : Tx) → IsAt whole rest t u → Stopped rest u v → Stopped whole t v
+stopped_from whole rest t u v now stopped = record {
+  done = now.done ++ stopped.done;
+  is = stopped.is ∙ ap (λ (w : Tx). with_accesses w stopped.done) now.is ∙ with_more t now.done stopped.done;
+  told = λ A told.
+      let part = stopped.told A (same_base whole rest t u now ∙ told) in (
+        length now.done + part.0,
+        ap (λ xs. now.done ++ xs) part.1 ∙ sym (take_more now.done (outcome (room_of u) rest (own A u.accesses)).0 part.0) ∙ sym (ap (λ x. take (length now.done + part.0) x.0) (now.told A told)),
+      );
+}
+
+pub cut_from : {R : Type 0} (whole rest : Program R) (t u v : Tx) (e : TxError) → IsAt whole rest t u → IsCut rest u v e → IsCut whole t v e
+cut_from whole rest t u v error.TooManyAccesses now cut = ends_from whole rest t u v None now cut
+cut_from whole rest t u v error.Memory now cut = stopped_from whole rest t u v now cut
+cut_from whole rest t u v error.Down now cut = stopped_from whole rest t u v now cut
+cut_from whole rest t u v error.Disk now cut = stopped_from whole rest t u v now cut
+cut_from whole rest t u v error.NotInTx now cut = stopped_from whole rest t u v now cut
+cut_from whole rest t u v error.BadBlock now cut = cut
+cut_from whole rest t u v error.BadRange now cut = cut
+cut_from whole rest t u v error.NoAccess now cut = cut
+cut_from whole rest t u v error.TooManyMarks now cut = cut
+
+module _ (a : Area) (key : List ℕ) (with_value : Bool) where
+  -- what follows a step, and the read of the leaf
+  abbrev after_step : (level block : ℕ) → List (ℕ × ℕ) → Result (ℕ × ℕ) StoreError → Program Descent
+  after_step level block path (Ok x) = descend a key with_value level x.0 ((block, x.1) ∷ path)
+  after_step level block path (Err (store.Broken broken)) = Done (AtBroken broken)
+  after_step level block path (Err store.BadKey) = Done (AtBroken 0)
+  after_step level block path (Err store.BadValue) = Done (AtBroken 0)
+  after_step level block path (Err (store.NoBlocks need free)) = Done (AtBroken 0)
+  after_step level block path (Err (store.Tx e)) = Done (AtBroken 0)
+  after_step level block path (Err store.Memory) = Done (AtBroken 0)
+
+  abbrev after_leaf : (block : ℕ) → List (ℕ × ℕ) → Result (List ℕ × List ℕ) StoreError → Program Descent
+  after_leaf block path (Ok x) = Done (AtLeaf path block x.0 x.1)
+  after_leaf block path (Err (store.Broken broken)) = Done (AtBroken broken)
+  after_leaf block path (Err store.BadKey) = Done (AtBroken 0)
+  after_leaf block path (Err store.BadValue) = Done (AtBroken 0)
+  after_leaf block path (Err (store.NoBlocks need free)) = Done (AtBroken 0)
+  after_leaf block path (Err (store.Tx e)) = Done (AtBroken 0)
+  after_leaf block path (Err store.Memory) = Done (AtBroken 0)
+
+  step_same : (level block : ℕ) (path : List (ℕ × ℕ)) (keys value : List ℕ) (t : Bool)
+      → cond t (descend a key with_value level (child_of value) ((block, count_of keys) ∷ path)) (Done (AtBroken (a.start + block)))
+      ≡ after_step level block path (cond t (Ok (child_of value, count_of keys)) (Err (store.Broken (a.start + block))))
+  step_same level block path keys value true = refl
+  step_same level block path keys value false = refl
+
+  leaf_same : (block : ℕ) (path : List (ℕ × ℕ)) (keys value : List ℕ) (t : Bool)
+      → cond t (Done (AtLeaf path block keys value)) (Done (AtBroken (a.start + block))) ≡ after_leaf block path (cond t (Ok (keys, value)) (Err (store.Broken (a.start + block))))
+  leaf_same block path keys value true = refl
+  leaf_same block path keys value false = refl
+
+  step_as : (level block : ℕ) (path : List (ℕ × ℕ)) → descend a key with_value (suc level) block path ≡ then_do (child_program a key (suc level) block) (after_step level block path)
+  step_as level block path = λ i. Look (a.start + block) (keys_mark a.size) (inner_further a key (suc level))
+      (λ keys value. step_same level block path keys value (is_node a.size (suc level) keys && is_child a.blocks value) i)
+
+  leaf_as : (block : ℕ) (path : List (ℕ × ℕ)) → descend a key with_value zero block path ≡ then_do (leaf_program a key with_value block) (after_leaf block path)
+  leaf_as block path = λ i. Look (a.start + block) (keys_mark a.size) (leaf_further a key with_value) (λ keys value. leaf_same block path keys value (is_node a.size 0 keys) i)
+
+  module _ (whole : Program Descent) (level block : ℕ) (path : List (ℕ × ℕ)) (t u v : Tx) where
+    pub step_on : (l : ℕ) (x : ℕ × ℕ) → l ≡ suc level → IsAt whole (descend a key with_value l block path) t u → Ran (child_program a key l block) u v (Ok x)
+        → IsAt whole (descend a key with_value level x.0 ((block, x.1) ∷ path)) t v
+    step_on l x e now ran =
+        at_then whole (child_program a key (suc level) block) (after_step level block path) t u v (Ok x)
+        (at_as whole _ _ t u (step_as level block path) (subst (λ (n : ℕ). IsAt whole (descend a key with_value n block path) t u) e now))
+        (subst (λ (n : ℕ). Ran (child_program a key n block) u v (Ok x)) e ran)
+
+    -- a step that is refused
+    pub step_refused : (l : ℕ) (path' : List (ℕ × ℕ)) (buffer : List ℕ) (root top : ℕ) (e : StoreError) → whole ≡ descend a key with_value top root [] → l ≡ suc level → IsAt whole (descend a key with_value l block path) t u
+        → IsWalkError e → HasRun (child_program a key l block) u v (Err e) → HasDescended a key with_value root top t v path' buffer (Err e)
+    step_refused l path' buffer root top store.BadKey same e now known run = known
+    step_refused l path' buffer root top store.BadValue same e now known run = known
+    step_refused l path' buffer root top (store.NoBlocks need free) same e now known run = known
+    step_refused l path' buffer root top (store.Broken broken) same e now known run =
+        subst (λ (p : Program Descent). Ran p t v (AtBroken broken)) same
+        (ran_at whole t v (AtBroken broken) (at_then whole (child_program a key (suc level) block) (after_step level block path) t u v (Err (store.Broken broken))
+        (at_as whole _ _ t u (step_as level block path) (subst (λ (n : ℕ). IsAt whole (descend a key with_value n block path) t u) e now))
+        (subst (λ (n : ℕ). Ran (child_program a key n block) u v (Err (store.Broken broken))) e run)))
+    step_refused l path' buffer root top (store.Tx x) same e now known run =
+        subst (λ (p : Program Descent). IsCut p t v x) same
+        (cut_from whole (then_do (child_program a key (suc level) block) (after_step level block path)) t u v x
+        (at_as whole _ _ t u (step_as level block path) (subst (λ (n : ℕ). IsAt whole (descend a key with_value n block path) t u) e now))
+        (cut_then (child_program a key (suc level) block) (after_step level block path) u v x (subst (λ (n : ℕ). IsCut (child_program a key n block) u v x) e run)))
+    step_refused l path' buffer root top store.Memory same e now known run = run
+
+  module _ (whole : Program Descent) (block : ℕ) (path : List (ℕ × ℕ)) (t u v : Tx) (root top l : ℕ) (same : whole ≡ descend a key with_value top root []) (last : l ≡ 0)
+      (now : IsAt whole (descend a key with_value l block path) t u) where
+    at_leaf : IsAt whole (then_do (leaf_program a key with_value block) (after_leaf block path)) t u
+    at_leaf = at_as whole _ _ t u (leaf_as block path) (subst (λ (n : ℕ). IsAt whole (descend a key with_value n block path) t u) last now)
+
+    -- the leaf was read
+    pub leaf_ends : (buffer : List ℕ) (leaf : Leaf) → leaf.block ≡ block → HasReadLeaf a key with_value block u v buffer (Ok leaf) → HasDescended a key with_value root top t v path buffer (Ok leaf)
+    leaf_ends buffer leaf here ran =
+        let x : List ℕ × List ℕ = (take (keys_end a.size) buffer, further_bytes (leaf_further a key with_value (take (keys_end a.size) buffer)) buffer) in
+        subst (λ (b : ℕ). Ran (descend a key with_value top root []) t v (AtLeaf path b x.0 x.1)) (sym here)
+        (subst (λ (p : Program Descent). Ran p t v (AtLeaf path block x.0 x.1)) same
+        (ran_at whole t v (AtLeaf path block x.0 x.1) (at_then whole (leaf_program a key with_value block) (after_leaf block path) t u v (Ok x) at_leaf ran)))
+
+    pub leaf_refused : (path' : List (ℕ × ℕ)) (buffer : List ℕ) (e : StoreError) → IsWalkError e → HasReadLeaf a key with_value block u v buffer (Err e) → HasDescended a key with_value root top t v path' buffer (Err e)
+    leaf_refused path' buffer store.BadKey known ran = known
+    leaf_refused path' buffer store.BadValue known ran = known
+    leaf_refused path' buffer (store.NoBlocks need free) known ran = known
+    leaf_refused path' buffer (store.Broken broken) known ran =
+        subst (λ (p : Program Descent). Ran p t v (AtBroken broken)) same
+        (ran_at whole t v (AtBroken broken) (at_then whole (leaf_program a key with_value block) (after_leaf block path) t u v (Err (store.Broken broken)) at_leaf ran))
+    leaf_refused path' buffer (store.Tx x) known ran =
+        subst (λ (p : Program Descent). IsCut p t v x) same
+        (cut_from whole (then_do (leaf_program a key with_value block) (after_leaf block path)) t u v x at_leaf (cut_then (leaf_program a key with_value block) (after_leaf block path) u v x ran))
+    leaf_refused path' buffer store.Memory known ran = ran
+
+    pub leaf_any : (buffer : List ℕ) (result : Result Leaf StoreError) → IfOk result (λ (leaf : Leaf). leaf.block ≡ block) → IfErr result IsWalkError → HasReadLeaf a key with_value block u v buffer result
+        → HasDescended a key with_value root top t v path buffer result
+    leaf_any buffer (Ok leaf) here known ran = leaf_ends buffer leaf here ran
+    leaf_any buffer (Err e) here known ran = leaf_refused path buffer e known ran
+
+cause_since : (u : Tx) (before mid now : Device) (e : StoreError) → before.faults ≤ mid.faults → IsStoreCause u 1 mid now e → IsStoreCause u 1 before now e
+cause_since u before mid now store.BadKey le cause = tt
+cause_since u before mid now store.BadValue le cause = tt
+cause_since u before mid now (store.NoBlocks need free) le cause = tt
+cause_since u before mid now (store.Broken block) le cause = tt
+cause_since u before mid now (store.Tx e) le cause = cause_earlier u 1 1 before mid now e (omega arith) le cause
+cause_since u before mid now store.Memory le cause = tt
+
+-- after reads that went well
+pub reads_after : {R : Type 0} (t u v : Tx) (before mid now : Device) (result : Result R StoreError) → HasRead t u → IsLater before mid → mid.faults ≡ before.faults → OnlyReads u v mid now result → OnlyReads t v before now result
+reads_after t u v before mid now (Ok x) read later passed is = record {
+  reads = read_join t u v read is.reads;
+  cause = tt;
+  known = tt;
+  later = later_than before mid now later is.later;
+  passed = is.passed ∙ passed;
+  is_open = is.is_open;
+}
+reads_after t u v before mid now (Err e) read later passed is = record {
+  reads = read_join t u v read is.reads;
+  cause = cause_since v before mid now e (omega (arith, later.faults)) is.cause;
+  known = is.known;
+  later = later_than before mid now later is.later;
+  passed = tt;
+  is_open = tt;
+}
+
+-- the answer of another part of a call
+pub reads_as : {R S : Type 0} (t v : Tx) (before now : Device) (e : StoreError) → OnlyReads {R = R} t v before now (Err e) → OnlyReads {R = S} t v before now (Err e)
+reads_as t v before now e is = record { reads = is.reads; cause = is.cause; known = is.known; later = is.later; passed = tt; is_open = tt }
+
+pub reads_ok : {R S : Type 0} (t v : Tx) (before now : Device) (r : R) (s : S) → OnlyReads t v before now (Ok r) → OnlyReads t v before now (Ok s)
+reads_ok t v before now r s is = record { reads = is.reads; cause = tt; known = tt; later = is.later; passed = is.passed; is_open = is.is_open }

@@ -1,0 +1,224 @@
+-- A put that takes new blocks: what the code counts, and its writes in turn.
+use Rattle.std.proofs.Common.{◌≡◌, ◌≢◌, ◌∙◌, sym, refl, ap, subst, ℕ, zero, suc, ◌+◌, ◌-◌, ◌*◌, ◌<◌, ◌≤◌, ◌==◌, Bool, true, false, not, cond, List, [], ◌∷◌, length, map, take, get_or, Option, Some, None, Result, Ok, Err, IfErr, arith, inl, inr, eq-eqb, ne_eqb}
+use Rattle.std.specs.List.{AllByRecursion, filter, range_with_len}
+use Rattle.std.proofs.lemmas.Bool.{cases_eq}
+use Rattle.std.proofs.lemmas.List.{length-take-le}
+use Rattle.iso_model.specs.declared.stores.Area.{Area}
+use Rattle.iso_model.specs.declared.stores.StoreError.{StoreError}
+use Rattle.iso_model.specs.declared.stores.StoreError.TheVariants as store
+use Rattle.iso_model.specs.declared.stores.TxError.{TxError}
+use Rattle.iso_model.specs.declared.stores.TxError.TheVariants as error
+use Rattle.iso_model.specs.Cells.{cell_count, keys_end, value_mark}
+use Rattle.iso_model.specs.FreeMap.{bit_place, free_count, map_bit, map_bytes, map_mark}
+use Rattle.iso_model.specs.HashRegion.{IsIn}
+use Rattle.iso_model.specs.Stores.{Program, Done, Store, bytes_in}
+use Rattle.tx_blocks.specs.Tx.{Tx, Device, with_accesses, room_of}
+use Rattle.tx_blocks.specs.Runs.{Behaves, HasRun, IsCut, IsCause}
+use Rattle.tx_blocks.proofs.Progress.{IsAt, at_start, at_store, at_reserve, full_at_reserve}
+use Rattle.tx_blocks.proofs.Refusals.{cut_at_store, later_same, read_none}
+use Rattle.tx_blocks.proofs.Parts.{run_from, refused_memory, done_so}
+use Rattle.iso_tree.specs.FirstBlock.{first_spans, first_bytes, first_access}
+use Rattle.iso_model.specs.TreeNodes.{Cell, count_of, used_cells, IsBlock}
+use Rattle.iso_tree.specs.Rows.{nodes_from, AreBlocks, AreUsable, IsUsable}
+use Rattle.iso_model.specs.TreeCalls.{Answer, Climb, climb, first_write, free_list, full_row, need_of, put_writes, store_nodes, with_used}
+use Rattle.iso_model.specs.TreeRegion.{IsTreeArea}
+use Rattle.iso_tree.proofs.Fits.{length-cells}
+use Rattle.iso_tree.proofs.Growing.{climb_shape, count_same, list_same, take_used}
+use Rattle.iso_tree.proofs.Ways.{counts}
+
+-- THE NODES THAT WERE READ
+used_long : (size : ℕ) (node : List ℕ) (count : ℕ) → IsUsable size node count → length (used_cells size node) ≡ count
+used_long size node count is = length-cells (take (keys_end size) node) (λ j. bytes_in (value_mark size j) node) 0 (count_of (take (keys_end size) node)) ∙ is.count_is
+
+pub path_counts : (size : ℕ) (nodes : List ℕ) (i : ℕ) (path : List (ℕ × ℕ)) → AreUsable size nodes i path → counts (nodes_from size nodes i path) ≡ path
+path_counts size nodes i [] is = refl
+path_counts size nodes i (p ∷ path) is =
+    (λ j. (p.0, used_long size (bytes_in (record { off = i * size; len = size }) nodes) p.1 is.0 j) ∷ path_counts size nodes (i + 1) path is.1 j)
+
+path_few : (size : ℕ) (nodes : List ℕ) (i : ℕ) (path : List (ℕ × ℕ)) → AreUsable size nodes i path → AllByRecursion (λ (w : ℕ × List Cell). length w.1 ≤ cell_count size) (nodes_from size nodes i path)
+path_few size nodes i [] is = tt
+path_few size nodes i (p ∷ path) is =
+    (let few = is.0.few in omega (arith, used_long size (bytes_in (record { off = i * size; len = size }) nodes) p.1 is.0), path_few size nodes (i + 1) path is.1)
+
+length-nodes : (size : ℕ) (nodes : List ℕ) (i : ℕ) (path : List (ℕ × ℕ)) → length (nodes_from size nodes i path) ≡ length path
+length-nodes size nodes i [] = refl
+length-nodes size nodes i (p ∷ path) = ap suc (length-nodes size nodes (i + 1) path)
+
+-- THE WAY UP OVER THEM
+pub record IsWay (n : ℕ) (path : List (ℕ × ℕ)) (news : List ℕ) (way : Climb) : Type 0 where
+  pub count : length way.writes ≡ 2 * full_row n path + 1
+  pub root : way.root ≡ cond (full_row n path == length path) (Some (get_or news (length path) 0, length path)) None
+
+pub way_is : (a : Area) (key : List ℕ) (new : Cell) (nodes : List ℕ) (path : List (ℕ × ℕ)) (news : List ℕ) → 1 ≤ cell_count a.size → AreUsable a.size nodes 0 path → need_of (cell_count a.size) path ≤ length news
+    → IsWay (cell_count a.size) path news (climb (cell_count a.size) key 0 new 0 (nodes_from a.size nodes 0 path) news)
+way_is a key new nodes path news some usable enough =
+    let n = cell_count a.size in
+    let ws = nodes_from a.size nodes 0 path in
+    let same = path_counts a.size nodes 0 path usable in
+    let long = length-nodes a.size nodes 0 path in
+    let shape = climb_shape n key 0 new 0 ws news some (path_few a.size nodes 0 path usable) (subst (λ (p : List (ℕ × ℕ)). need_of n p ≤ length news) (sym same) enough) in
+    let none : 0 + length ws ≡ length path = omega (arith, long) in
+    record {
+      count = shape.count ∙ ap (λ (p : List (ℕ × ℕ)). 2 * full_row n p + 1) same;
+      root = shape.root ∙ (λ i. cond {A = Option (ℕ × ℕ)} (full_row n (same i) == long i) (Some (get_or news (long i) 0, none i)) None);
+    }
+
+-- THE WRITES
+first_store : {R : Type 0} (a : Area) (first taken : List ℕ) (root : Option (ℕ × ℕ)) (next : Program R) → first_write a first taken root next ≡ Store a.start (first_spans taken root) (first_bytes a first taken root) next
+first_store a first taken None next = refl
+first_store a first taken (Some root) next = refl
+
+module _ (a : Area) (first taken : List ℕ) (way : Climb) (full : ℕ) (count : length way.writes ≡ 2 * full + 1) (t : Tx) where
+  abbrev whole : Program Answer
+  whole = put_writes a first taken way
+
+  abbrev nodes_next : Program Answer
+  nodes_next = store_nodes a way.writes (Done (Ok tt))
+
+  at_writes : 2 + 2 * full ≤ room_of t → IsAt whole (Store a.start (first_spans taken way.root) (first_bytes a first taken way.root) nodes_next) t t
+  at_writes room =
+      subst (λ (p : Program Answer). IsAt whole p t t) (first_store a first taken way.root nodes_next)
+      (at_reserve whole (1 + length way.writes) (first_write a first taken way.root nodes_next) t t (at_start whole t) (omega arith))
+
+  -- where not all of them fit
+  pub writes_unfit : (e : TxError) → e ≡ error.TooManyAccesses → room_of t < 2 + 2 * full → IsCut whole t t e
+  writes_unfit e is few = subst (IsCut whole t t) (sym is) (full_at_reserve whole (1 + length way.writes) (first_write a first taken way.root nodes_next) t t t (at_start whole t) refl (omega arith))
+
+  -- where the first is refused
+  pub first_unwritten : (v : Tx) (before now : Device) (e : TxError) → 2 + 2 * full ≤ room_of t → v ≡ t → IsCause v 1 before now e → IsCut whole t v e
+  first_unwritten v before now e room same cause =
+      cut_at_store whole a.start (first_spans taken way.root) (first_bytes a first taken way.root) nodes_next t t v before now e (at_writes room) same cause
+
+  -- and where it is made
+  pub then_nodes : (root : Option (ℕ × ℕ)) (u v : Tx) (result : Result (Unit {0}) StoreError) → 2 + 2 * full ≤ room_of t → way.root ≡ root → u ≡ with_accesses t (first_access a first taken root ∷ []) → length u.accesses ≤ 4096
+      → HasRun nodes_next u v result → HasRun whole t v result
+  then_nodes root u v result room root_is is fits run =
+      run_from whole nodes_next t u v result
+      (at_store whole a.start (first_spans taken way.root) (first_bytes a first taken way.root) nodes_next t t u (at_writes room) fits
+      (is ∙ ap (λ (o : Option (ℕ × ℕ)). with_accesses t (first_access a first taken o ∷ [])) (sym root_is))) run
+
+-- what a part leaves that makes all of its writes, or wants memory
+pub behaves_memory : (t v : Tx) (writes : ℕ) (before now : Device) (result : Result (Unit {0}) StoreError) → IfErr result (λ e. e ≡ store.Tx error.Memory) → now ≡ before → Behaves t v writes before now result
+behaves_memory t v writes before now (Ok x) memory same = done_so t v writes before now x same
+behaves_memory t v writes before now (Err e) memory same =
+    subst (λ (x : StoreError). Behaves {R = Unit {0}} t v writes before now (Err x)) (sym memory) (refused_memory t v writes before now error.Memory refl same)
+
+-- a reservation that does not fit
+pub unfit_so : (full : ℕ) (t : Tx) (before : Device) (e : TxError) → full ≤ 32 → (e ≡ error.TooManyAccesses) × (room_of t < 2 + 2 * full) → Behaves {R = Unit {0}} t t 66 before before (Err (store.Tx e))
+unfit_so full t before e few is = subst (λ (x : TxError). Behaves {R = Unit {0}} t t 66 before before (Err (store.Tx x))) (sym is.0)
+    (record { cause = let r = is.1 in omega arith; unwritten = λ other. read_none t; known = (λ x. cc, λ x. cc); later = later_same before before refl; passed = tt })
+
+-- the same by the count that the code has
+pub record IsWayOf (path : List (ℕ × ℕ)) (news : List ℕ) (full : ℕ) (way : Climb) : Type 0 where
+  pub count : length way.writes ≡ 2 * full + 1
+  pub root : way.root ≡ cond (full == length path) (Some (get_or news (length path) 0, length path)) None
+
+pub way_of : (a : Area) (area : IsTreeArea a) (key : List ℕ) (new : Cell) (nodes : List ℕ) (path : List (ℕ × ℕ)) (news : List ℕ) (full : ℕ) → IsBlock a.size → AreUsable a.size nodes 0 path → need_of (cell_count a.size) path ≤ length news
+    → full ≡ full_row (cell_count a.size) path → IsWayOf path news full (climb (cell_count a.size) key 0 new 0 (nodes_from a.size nodes 0 path) news)
+way_of a area key new nodes path news full is usable enough full_is =
+    let least = area.least_size in
+    let whole = is.whole in
+    let way = way_is a key new nodes path news (omega arith) usable enough in
+    record {
+      count = way.count ∙ ap (λ (f : ℕ). 2 * f + 1) (sym full_is);
+      root = way.root ∙ ap (λ (f : ℕ). cond {A = Option (ℕ × ℕ)} (f == length path) (Some (get_or news (length path) 0, length path)) None) (sym full_is);
+    }
+
+-- WHAT THE CODE COUNTS
+-- the nodes that are written: the full ones in a row, and one more
+pub row_taken : (n : ℕ) (path : List (ℕ × ℕ)) → full_row n (take (suc (full_row n path)) path) ≡ full_row n path
+row_taken n [] = refl
+row_taken n (p ∷ path) = elim (cases_eq p.1 n) [
+  | inl full ↦
+      (let e : (p.1 == n) ≡ true = eq-eqb p.1 n full in
+      let row : full_row n (p ∷ path) ≡ suc (full_row n path) = ap (λ t. cond t (suc (full_row n path)) 0) e in
+      ap (λ (k : ℕ). full_row n (take (suc k) (p ∷ path))) row
+      ∙ ap (λ t. cond t (suc (full_row n (take (suc (full_row n path)) path))) 0) e
+      ∙ ap suc (row_taken n path) ∙ sym row)
+  | inr other ↦
+      (let e : (p.1 == n) ≡ false = ne_eqb p.1 n other in
+      let row : full_row n (p ∷ path) ≡ 0 = ap (λ t. cond t (suc (full_row n path)) 0) e in
+      ap (λ (k : ℕ). full_row n (take (suc k) (p ∷ path))) row
+      ∙ ap (λ t. cond t (suc (full_row n (take 0 path))) 0) e ∙ sym row)
+]
+
+row_short : (n : ℕ) (path : List (ℕ × ℕ)) → full_row n path ≤ length path
+row_short n [] = omega arith
+row_short n (p ∷ path) = elim (p.1 == n) as (λ t. cond t (suc (full_row n path)) 0 ≤ suc (length path)) [
+  | true ↦ (let rest = row_short n path in omega arith)
+  | false ↦ omega arith
+]
+
+need_equal : (n : ℕ) (path : List (ℕ × ℕ)) → full_row n path ≡ length path → need_of n path ≡ full_row n path + 1
+need_equal n path is = ap (λ (t : Bool). full_row n path + cond t 1 0) (eq-eqb (full_row n path) (length path) is)
+
+need_other : (n : ℕ) (path : List (ℕ × ℕ)) → full_row n path ≢ length path → need_of n path ≡ full_row n path + 0
+need_other n path other = ap (λ (t : Bool). full_row n path + cond t 1 0) (ne_eqb (full_row n path) (length path) other)
+
+-- so many new blocks are needed for them as for the whole path
+pub need_taken : (n : ℕ) (path : List (ℕ × ℕ)) → need_of n (take (suc (full_row n path)) path) ≤ need_of n path
+need_taken n path =
+    let rows = take (suc (full_row n path)) path in
+    let same = row_taken n path in
+    let short = row_short n path in
+    elim (cases_eq (full_row n path) (length path)) [
+      | inl all ↦
+          (let one = need_equal n path all in
+          elim (cases_eq (full_row n rows) (length rows)) [
+            | inl is ↦ (let two = need_equal n rows is in omega arith)
+            | inr other ↦ (let two = need_other n rows other in omega arith)
+          ])
+      | inr part ↦
+          (let one = need_other n path part in
+          let long : length rows ≡ suc (full_row n path) = length-take-le (suc (full_row n path)) path (omega arith) in
+          let two = need_other n rows (λ e. absurd (omega arith)) in
+          omega arith)
+    ]
+
+pub all_taken : {X : Type 0} (P : X → Type 0) (n : ℕ) (xs : List X) → AllByRecursion P xs → AllByRecursion P (take n xs)
+all_taken P zero [] all = tt
+all_taken P zero (x ∷ xs) all = tt
+all_taken P (suc n) [] all = tt
+all_taken P (suc n) (x ∷ xs) all = (all.0, all_taken P n xs all.1)
+
+pub few_taken : {X : Type 0} (n : ℕ) (xs : List X) → length (take n xs) ≤ length xs
+few_taken zero [] = omega arith
+few_taken zero (x ∷ xs) = omega arith
+few_taken (suc n) [] = omega arith
+few_taken (suc n) (x ∷ xs) = (let rest = few_taken n xs in omega arith)
+
+-- what they need of the buffer
+pub room_taken : (size n many : ℕ) (path : List (ℕ × ℕ)) → length path ≤ 32 → many ≡ 32 * size → (0 + length (take n path)) * size ≤ many
+room_taken size n many path short is =
+    let few = few_taken n path in
+    let le : (0 + length (take n path)) * size ≤ 32 * size = Rattle.std.proofs.Math.Nat.mul-le-mul_right size (omega arith) in
+    omega arith
+
+-- THE BLOCKS THAT ARE TAKEN
+blocks_in : (a : Area) (news : List ℕ) (k : ℕ) → AreBlocks a news → IsIn k news → k < a.blocks
+blocks_in a [] k all is = absurd is
+blocks_in a (x ∷ xs) k all is = elim is [
+  | inl here ↦ subst (λ (j : ℕ). j < a.blocks) here all.0
+  | inr later ↦ blocks_in a xs k all.1 later
+]
+
+pub blocks_from : (a : Area) (news : List ℕ) → ((k : ℕ) → IsIn k news → k < a.blocks) → AreBlocks a news
+blocks_from a [] each = tt
+blocks_from a (k ∷ news) each = (each k (inl refl), blocks_from a news (λ j is. each j (inr is)))
+
+module _ (a : Area) (area : IsTreeArea a) (F : List ℕ) where
+  abbrev m : ℕ
+  m = 64 + map_bytes a.blocks
+
+  low : (k : ℕ) → k < 1 + (a.blocks - 1) → bit_place k < m
+  low k inside = let l = area.least in omega arith
+
+  pub free_same : free_count (bytes_in (map_mark a.blocks) F) 1 (a.blocks - 1) ≡ free_count F 1 (a.blocks - 1)
+  free_same = count_same F m 1 (a.blocks - 1) low
+
+  pub taken_same : (need : ℕ) → take need (free_list a (bytes_in (map_mark a.blocks) F)) ≡ take need (filter (λ k. not (map_bit F k)) (range_with_len 1 (a.blocks - 1)))
+  taken_same need = ap (take need) (list_same F m 1 (a.blocks - 1) low)
+
+  -- they are taken in what was read of the map
+  pub used_same : (map news : List ℕ) → AreBlocks a news → map ≡ with_used F news → take m map ≡ with_used (bytes_in (map_mark a.blocks) F) news
+  used_same map news all is = ap (take m) is ∙ take_used m news F (λ k at. low k (let b = blocks_in a news k all at in let l = area.least in omega arith))

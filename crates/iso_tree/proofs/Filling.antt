@@ -1,0 +1,230 @@
+-- The bytes of a node that gets a cell, cell by cell.
+use Rattle.std.proofs.Common.{◌≡◌, ◌∙◌, sym, refl, ap, ℕ, zero, suc, ◌+◌, ◌-◌, ◌*◌, ◌/◌, ◌%◌, ◌<◌, ◌≤◌, ◌==◌, true, false, cond, List, [], ◌∷◌, ◌++◌, length, map, take, drop, replicate, arith, inl, inr, eq-eqb, ne_eqb}
+use Rattle.std.specs.Prelude.{nat_lt}
+use Rattle.std.specs.List.{range_with_len, flat_map}
+use Rattle.std.proofs.lemmas.Bool.{cases_lt, cases_eq}
+use Rattle.std.proofs.lemmas.Bool.Decides.{nat_tests}
+use Rattle.std.proofs.lemmas.List.{append_assoc, length-take, length-drop}
+use Rattle.iso_model.specs.Cells.{cell_count, keys_end, key_part, value_mark, key_at, are_key_parts, laid_at}
+use Rattle.iso_model.specs.Stores.{bytes_in}
+use Rattle.iso_model.specs.TreeNodes.{before, Cell, FitCells, IsBlock, count_of, cells_by, used_cells, node_bytes}
+use Rattle.iso_tree.specs.Rows.{upto_from, key_in_row, part_in_row, row_from}
+use Rattle.iso_model.specs.Trees.{put_after}
+use Rattle.iso_model.specs.TreeCalls.{placed}
+use Rattle.iso_tree.proofs.Building.{laid_mid}
+use Rattle.iso_tree.proofs.Bytes.{length-key_part}
+use Rattle.iso_tree.proofs.Fits.{key_short}
+
+-- STEPS OF THE LOOP OVER KEYS
+upto_step : (key keys : List ℕ) (i n : ℕ) → i < n → upto_from key keys i (n - i) ≡ cond (before key (key_at keys i)) 0 (suc (upto_from key keys (i + 1) (n - (i + 1))))
+upto_step key keys i n below = let e : n - i ≡ suc (n - (i + 1)) = omega arith in rw e refl
+
+pub upto_goes_on : (key keys : List ℕ) (i n c total : ℕ) → i < n → c + upto_from key keys i (n - i) ≡ total → before key (key_at keys i) ≡ false → c + 1 + upto_from key keys (i + 1) (n - (i + 1)) ≡ total
+upto_goes_on key keys i n c total below so not =
+    let e : upto_from key keys i (n - i) ≡ suc (upto_from key keys (i + 1) (n - (i + 1))) = upto_step key keys i n below ∙ ap (λ t. cond t 0 (suc (upto_from key keys (i + 1) (n - (i + 1))))) not in
+    omega arith
+
+pub upto_ends : (key keys : List ℕ) (i n c total : ℕ) → i < n → c + upto_from key keys i (n - i) ≡ total → before key (key_at keys i) ≡ true → c ≡ total
+upto_ends key keys i n c total below so less =
+    let e : upto_from key keys i (n - i) ≡ 0 = upto_step key keys i n below ∙ ap (λ t. cond t 0 (suc (upto_from key keys (i + 1) (n - (i + 1))))) less in
+    omega arith
+
+pub upto_past : (key keys : List ℕ) (i n c total : ℕ) → n ≤ i → c + upto_from key keys i (n - i) ≡ total → c ≡ total
+upto_past key keys i n c total past so =
+    let e : n - i ≡ 0 = omega arith in
+    let f : upto_from key keys i (n - i) ≡ 0 = rw e refl in
+    omega arith
+
+-- ROWS
+more_map : (f : ℕ → Cell) (from n : ℕ) → map f (range_with_len from (n + 1)) ≡ map f (range_with_len from n) ++ f (from + n) ∷ []
+more_map f from zero = let e : from + 0 ≡ from = omega arith in ap (λ (k : ℕ). f k ∷ []) (sym e)
+more_map f from (suc n) =
+    let e : suc n + 1 ≡ suc (n + 1) = omega arith in
+    let g : from + 1 + n ≡ from + suc n = omega arith in
+    ap (λ (k : ℕ). map f (range_with_len from k)) e ∙ ap (λ l. f from ∷ l) (more_map f (from + 1) n ∙ ap (λ (k : ℕ). map f (range_with_len (from + 1) n) ++ f k ∷ []) g)
+
+pub length-range : (f : ℕ → Cell) (from n : ℕ) → length (map f (range_with_len from n)) ≡ n
+length-range f from zero = refl
+length-range f from (suc n) = ap suc (length-range f (from + 1) n)
+
+module _ (size : ℕ) (node : List ℕ) (place : ℕ) (new : Cell) where
+  abbrev K : List ℕ
+  K = take (keys_end size) node
+
+  abbrev V : ℕ → List ℕ
+  V i = bytes_in (value_mark size i) node
+
+  abbrev pub at_row : ℕ → Cell
+  at_row i = (key_in_row K place new.0 i, part_in_row size node place new.1 i)
+
+  pub row_more : (from n : ℕ) → row_from size node place new from (n + 1) ≡ row_from size node place new from n ++ at_row (from + n) ∷ []
+  row_more from n = more_map at_row from n
+
+  pub length-row : (from n : ℕ) → length (row_from size node place new from n) ≡ n
+  length-row from n = length-range at_row from n
+
+  -- a cell of the row fits its place
+  pub key_fits : are_key_parts size K ≡ true → length new.0 ≤ 28 → place ≤ cell_count size → (cell : ℕ) → cell ≤ cell_count size → length (key_in_row K place new.0 cell) ≤ 28
+  key_fits parts short inside cell most = elim (cases_lt cell place) [
+    | inl low ↦
+        (let t : nat_lt cell place ≡ true = grind (arith, nat_tests) in
+        let same : key_in_row K place new.0 cell ≡ key_at K cell = ap (λ b. cond b (key_at K cell) (cond (cell == place) new.0 (key_at K (cell - 1)))) t in
+        omega (arith, ap length same, key_short size K cell parts (omega arith)))
+    | inr high ↦
+        (let t : nat_lt cell place ≡ false = grind (arith, nat_tests) in
+        let rest : key_in_row K place new.0 cell ≡ cond (cell == place) new.0 (key_at K (cell - 1)) = ap (λ b. cond b (key_at K cell) (cond (cell == place) new.0 (key_at K (cell - 1)))) t in
+        elim (cases_eq cell place) [
+          | inl here ↦
+              (let e : (cell == place) ≡ true = eq-eqb cell place here in
+              omega (arith, ap length (rest ∙ ap (λ b. cond b new.0 (key_at K (cell - 1))) e)))
+          | inr other ↦
+              (let e : (cell == place) ≡ false = ne_eqb cell place other in
+              omega (arith, ap length (rest ∙ ap (λ b. cond b new.0 (key_at K (cell - 1))) e), key_short size K (cell - 1) parts (omega arith)))
+        ])
+  ]
+
+  part_fits : IsBlock size → length node ≡ size → length new.1 ≡ 33 → place ≤ cell_count size → (cell : ℕ) → cell ≤ cell_count size → length (part_in_row size node place new.1 cell) ≡ 33
+  part_fits sized long whole inside cell most =
+      let w = sized.whole in
+      elim (cases_lt cell place) [
+        | inl low ↦
+            (let t : nat_lt cell place ≡ true = grind (arith, nat_tests) in
+            let same : part_in_row size node place new.1 cell ≡ V cell = ap (λ b. cond b (V cell) (cond (cell == place) new.1 (V (cell - 1)))) t in
+            omega (arith, ap length same, length-take 33 (drop (keys_end size + 33 * cell) node), length-drop (keys_end size + 33 * cell) node))
+        | inr high ↦
+            (let t : nat_lt cell place ≡ false = grind (arith, nat_tests) in
+            let rest : part_in_row size node place new.1 cell ≡ cond (cell == place) new.1 (V (cell - 1)) = ap (λ b. cond b (V cell) (cond (cell == place) new.1 (V (cell - 1)))) t in
+            elim (cases_eq cell place) [
+              | inl here ↦
+                  (let e : (cell == place) ≡ true = eq-eqb cell place here in
+                  omega (arith, ap length (rest ∙ ap (λ b. cond b new.1 (V (cell - 1))) e)))
+              | inr other ↦
+                  (let e : (cell == place) ≡ false = ne_eqb cell place other in
+                  omega (arith, ap length (rest ∙ ap (λ b. cond b new.1 (V (cell - 1))) e), length-take 33 (drop (keys_end size + 33 * (cell - 1)) node), length-drop (keys_end size + 33 * (cell - 1)) node))
+            ])
+      ]
+
+  pub row_fits : are_key_parts size K ≡ true → length new.0 ≤ 28 → IsBlock size → length node ≡ size → length new.1 ≡ 33 → place ≤ cell_count size → (from n : ℕ) → from + n ≤ cell_count size + 1 → FitCells (row_from size node place new from n)
+  row_fits parts short sized long whole inside from zero most = tt
+  row_fits parts short sized long whole inside from (suc n) most =
+      ((key_fits parts short inside from (omega arith), part_fits sized long whole inside from (omega arith)), row_fits parts short sized long whole inside (from + 1) n (omega arith))
+
+-- the row is the node's cells with the new one in its place
+before_place : (size : ℕ) (node : List ℕ) (place : ℕ) (new : Cell) (i n : ℕ) → i + n ≤ place → row_from size node place new i n ≡ cells_by (take (keys_end size) node) (λ j. bytes_in (value_mark size j) node) i n
+before_place size node place new i zero most = refl
+before_place size node place new i (suc n) most =
+    let t : nat_lt i place ≡ true = grind (arith, nat_tests) in
+    (λ j. (
+      cond (t j) (key_at (take (keys_end size) node) i) (cond (i == place) new.0 (key_at (take (keys_end size) node) (i - 1))),
+      cond (t j) (bytes_in (value_mark size i) node) (cond (i == place) new.1 (bytes_in (value_mark size (i - 1)) node)),
+    ) ∷ before_place size node place new (i + 1) n (omega arith) j)
+
+after_place : (size : ℕ) (node : List ℕ) (place : ℕ) (new : Cell) (i n : ℕ) → place < i → row_from size node place new i n ≡ cells_by (take (keys_end size) node) (λ j. bytes_in (value_mark size j) node) (i - 1) n
+after_place size node place new i zero past = refl
+after_place size node place new i (suc n) past =
+    let t : nat_lt i place ≡ false = grind (arith, nat_tests) in
+    let e : (i == place) ≡ false = ne_eqb i place (λ s. absurd (omega arith)) in
+    let g : i + 1 - 1 ≡ i - 1 + 1 = omega arith in
+    (λ j. (
+      cond (t j) (key_at (take (keys_end size) node) i) (cond (e j) new.0 (key_at (take (keys_end size) node) (i - 1))),
+      cond (t j) (bytes_in (value_mark size i) node) (cond (e j) new.1 (bytes_in (value_mark size (i - 1)) node)),
+    )
+    ∷ (after_place size node place new (i + 1) n (omega arith) ∙ ap (λ (k : ℕ). cells_by (take (keys_end size) node) (λ j. bytes_in (value_mark size j) node) k n) g) j)
+
+range_parts : (f : ℕ → Cell) (i m n : ℕ) → map f (range_with_len i (m + n)) ≡ map f (range_with_len i m) ++ map f (range_with_len (i + m) n)
+range_parts f i zero n = let e : 0 + n ≡ n = omega arith in let g : i + 0 ≡ i = omega arith in (λ j. map f (range_with_len (sym g j) (e j)))
+range_parts f i (suc m) n =
+    let e : suc m + n ≡ suc (m + n) = omega arith in
+    let g : i + 1 + m ≡ i + suc m = omega arith in
+    ap (λ (k : ℕ). map f (range_with_len i k)) e ∙ ap (λ l. f i ∷ l) (range_parts f (i + 1) m n ∙ ap (λ (k : ℕ). map f (range_with_len (i + 1) m) ++ map f (range_with_len k n)) g)
+
+pub row_split : (size : ℕ) (node : List ℕ) (place : ℕ) (new : Cell) (i m n : ℕ) → row_from size node place new i (m + n) ≡ row_from size node place new i m ++ row_from size node place new (i + m) n
+row_split size node place new i m n = range_parts (at_row size node place new) i m n
+
+at_place : (size : ℕ) (node : List ℕ) (place : ℕ) (new : Cell) → at_row size node place new place ≡ new
+at_place size node place new =
+    let t : nat_lt place place ≡ false = grind (arith, nat_tests) in
+    let e : (place == place) ≡ true = eq-eqb place place refl in
+    (λ j. (
+      cond (t j) (key_at (take (keys_end size) node) place) (cond (e j) new.0 (key_at (take (keys_end size) node) (place - 1))),
+      cond (t j) (bytes_in (value_mark size place) node) (cond (e j) new.1 (bytes_in (value_mark size (place - 1)) node)),
+    ))
+
+-- a cell put in after those whose keys are not above
+put_cells : (key keys : List ℕ) (value : ℕ → List ℕ) (new : Cell) (i m : ℕ)
+    → put_after key new (cells_by keys value i m) ≡ cells_by keys value i (upto_from key keys i m) ++ new ∷ cells_by keys value (i + upto_from key keys i m) (m - upto_from key keys i m)
+put_cells key keys value new i zero = let e : 0 - 0 ≡ 0 = omega arith in ap (λ (k : ℕ). new ∷ cells_by keys value (i + 0) k) (sym e)
+put_cells key keys value new i (suc m) =
+    elim (before key (key_at keys i)) as (λ b. cond b (new ∷ (key_at keys i, value i) ∷ cells_by keys value (i + 1) m) ((key_at keys i, value i) ∷ put_after key new (cells_by keys value (i + 1) m))
+    ≡ cells_by keys value i (cond b 0 (suc (upto_from key keys (i + 1) m))) ++ new ∷ cells_by keys value (i + cond b 0 (suc (upto_from key keys (i + 1) m))) (suc m - cond b 0 (suc (upto_from key keys (i + 1) m)))) [
+      | true ↦ (let e : i + 0 ≡ i = omega arith in let g : suc m - 0 ≡ suc m = omega arith in λ j. new ∷ cells_by keys value (sym e j) (sym g j))
+      | false ↦
+          (let u = upto_from key keys (i + 1) m in
+          let e : i + 1 + u ≡ i + suc u = omega arith in
+          let g : m - u ≡ suc m - suc u = omega arith in
+          ap (λ l. (key_at keys i, value i) ∷ l) (put_cells key keys value new (i + 1) m ∙ (λ j. cells_by keys value (i + 1) u ++ new ∷ cells_by keys value (e j) (g j))))
+    ]
+
+upto_most : (key keys : List ℕ) (i n : ℕ) → upto_from key keys i n ≤ n
+upto_most key keys i zero = omega arith
+upto_most key keys i (suc n) = let rest = upto_most key keys (i + 1) n in elim (before key (key_at keys i)) as (λ b. cond b 0 (suc (upto_from key keys (i + 1) n)) ≤ suc n) [ true ↦ omega arith | false ↦ omega arith ]
+
+-- the whole row, where `start` cells stay before the search
+row_whole : (size : ℕ) (node key : List ℕ) (new : Cell) (start m : ℕ) → row_from size node (start + upto_from key (take (keys_end size) node) start m) new start (m + 1) ≡ put_after key new (cells_by (take (keys_end size) node) (λ j. bytes_in (value_mark size j) node) start m)
+row_whole size node key new start m =
+    let K = take (keys_end size) node in
+    let V : ℕ → List ℕ = λ j. bytes_in (value_mark size j) node in
+    let u = upto_from key K start m in
+    let most = upto_most key K start m in
+    let e : m + 1 ≡ u + suc (m - u) = omega arith in
+    let back : start + u + 1 - 1 ≡ start + u = omega arith in
+    ap (λ (k : ℕ). row_from size node (start + u) new start k) e
+    ∙ row_split size node (start + u) new start u (suc (m - u))
+    ∙ (λ j. before_place size node (start + u) new start u (omega arith) j ++ at_place size node (start + u) new j ∷ after_place size node (start + u) new (start + u + 1) (m - u) (omega arith) j)
+    ∙ ap (λ (k : ℕ). cells_by K V start u ++ new ∷ cells_by K V k (m - u)) back
+    ∙ sym (put_cells key K V new start m)
+
+place_row : (size : ℕ) (node key : List ℕ) (level : ℕ) (new : Cell) (count : ℕ) → (level ≡ 0 → ⊥) → 1 ≤ count
+    → row_from size node (1 + upto_from key (take (keys_end size) node) 1 (count - 1)) new 0 (count + 1) ≡ placed 1 key new (cells_by (take (keys_end size) node) (λ j. bytes_in (value_mark size j) node) 0 count)
+place_row size node key level new zero inner some = absurd (omega arith)
+place_row size node key level new (suc m) inner some =
+    let K = take (keys_end size) node in
+    let e : suc m - 1 ≡ m = omega arith in
+    let g : suc m + 1 ≡ 1 + (m + 1) = omega arith in
+    let u = upto_from key K 1 m in
+    let z : 0 + 1 ≡ 1 = omega arith in
+    ap (λ (k : ℕ). row_from size node (1 + upto_from key K 1 k) new 0 (suc m + 1)) e
+    ∙ ap (λ (k : ℕ). row_from size node (1 + u) new 0 k) g
+    ∙ row_split size node (1 + u) new 0 1 (m + 1)
+    ∙ (λ j. before_place size node (1 + u) new 0 1 (omega arith) j ++ row_from size node (1 + u) new (z j) (m + 1))
+    ∙ ap (λ l. (key_at K 0, bytes_in (value_mark size 0) node) ∷ l) (row_whole size node key new 1 m)
+
+same_placed : (level : ℕ) (key : List ℕ) (new : Cell) (cs : List Cell) → placed 1 key new cs ≡ placed (suc level) key new cs
+same_placed level key new [] = refl
+same_placed level key new (c ∷ cs) = refl
+
+-- The row of a node is its cells with the new one.
+pub row_is : (size : ℕ) (node key : List ℕ) (level : ℕ) (new : Cell) → (level ≡ 0 → ⊥) → 1 ≤ count_of (take (keys_end size) node)
+    → row_from size node (1 + upto_from key (take (keys_end size) node) 1 (count_of (take (keys_end size) node) - 1)) new 0 (count_of (take (keys_end size) node) + 1) ≡ placed level key new (used_cells size node)
+row_is size node key zero new inner some = absurd (inner refl)
+row_is size node key (suc level) new inner some = place_row size node key (suc level) new (count_of (take (keys_end size) node)) inner some ∙ same_placed level key new (used_cells size node)
+
+pub leaf_row_is : (size : ℕ) (node key : List ℕ) (new : Cell) → row_from size node (upto_from key (take (keys_end size) node) 0 (count_of (take (keys_end size) node))) new 0 (count_of (take (keys_end size) node) + 1) ≡ put_after key new (used_cells size node)
+leaf_row_is size node key new =
+    let K = take (keys_end size) node in
+    let z : 0 + upto_from key K 0 (count_of K) ≡ upto_from key K 0 (count_of K) = omega arith in
+    ap (λ (p : ℕ). row_from size node p new 0 (count_of K + 1)) (sym z) ∙ row_whole size node key new 0 (count_of K)
+
+-- a first key that was made empty
+pub first_emptied : (size level : ℕ) (key part : List ℕ) (cs : List Cell) → length key ≤ 28 → laid_at 64 (replicate 31 0) (node_bytes size level ((key, part) ∷ cs)) ≡ node_bytes size level (([], part) ∷ cs)
+first_emptied size level key part cs short =
+    let n = suc (length cs) in
+    let head : List ℕ = 1 ∷ level ∷ n / 256 ∷ n % 256 ∷ replicate 60 0 in
+    let Ks = flat_map (λ (c : Cell). key_part c.0) cs in
+    let Zk : List ℕ = replicate (31 * (cell_count size - n)) 0 in
+    let Vs = (part ++ flat_map (λ (c : Cell). c.1) cs) ++ replicate (33 * (cell_count size - n)) 0 in
+    let shape : (k : List ℕ) → (head ++ ((k ++ Ks) ++ Zk)) ++ Vs ≡ head ++ (k ++ ((Ks ++ Zk) ++ Vs)) =
+    λ k. append_assoc head ((k ++ Ks) ++ Zk) Vs ∙ ap (λ l. head ++ l) (ap (λ l. l ++ Vs) (append_assoc k Ks Zk) ∙ append_assoc k (Ks ++ Zk) Vs) in
+    ap (laid_at 64 (replicate 31 0)) (shape (key_part key))
+    ∙ laid_mid head (replicate 31 0) (key_part key) ((Ks ++ Zk) ++ Vs) 64 refl (length-key_part key short)
+    ∙ sym (shape (key_part []))

@@ -1,0 +1,48 @@
+-- What a look-up finds among pairs.
+use Rattle.std.proofs.Common.{◌≡◌, ◌≢◌, ◌∙◌, sym, refl, ap, subst, ℕ, ◌+◌, Bool, true, false, ◌==◌, cond, List, [], ◌∷◌, ◌++◌, Option, Some, None, option_map, arith}
+use Rattle.std.specs.List.{AllByRecursion}
+use Rattle.std.specs.Ordering.{nat_cmp, eq_by_cmp}
+use Rattle.std.specs.Cmp.Lexicographic.{slice_cmp, lists_ties}
+use Rattle.std.specs.FinMap.{find}
+use Rattle.std.specs.Str.{bytes_eq}
+use Rattle.std.proofs.lemmas.Bool.{false_from_ne_true}
+use Rattle.std.proofs.lemmas.Bool.Decides.{nat_tests}
+use Rattle.std.proofs.lemmas.Slice.Eq.{bytes_eq-Decides}
+use Rattle.iso_model.specs.Conflict.{first_from}
+use Rattle.iso_model.specs.Effect.{or_else}
+use Rattle.iso_model.specs.Trees.{in_range}
+
+nat_ties : (x y : ℕ) → (x == y) ≡ eq_by_cmp nat_cmp x y
+nat_ties x y = grind (arith, nat_tests)
+
+-- a map finds a key by the equality of its bytes
+pub ties : (q k : List ℕ) → eq_by_cmp (slice_cmp nat_cmp) q k ≡ bytes_eq q k
+ties q k = sym (lists_ties nat_cmp nat_ties q k)
+
+pub not_bytes_eq : (x y : List ℕ) → x ≢ y → bytes_eq x y ≡ false
+not_bytes_eq x y other = false_from_ne_true (bytes_eq x y) (λ e. other ((bytes_eq-Decides x y).0 e))
+
+abbrev pub found_in : (q : List ℕ) → List (List ℕ × List ℕ) → Option (List ℕ)
+found_in q pairs = find (slice_cmp nat_cmp) q pairs
+
+pub find_append : (q : List ℕ) (xs ys : List (List ℕ × List ℕ)) → found_in q (xs ++ ys) ≡ or_else (found_in q xs) (found_in q ys)
+find_append q [] ys = refl
+find_append q (x ∷ xs) ys =
+    elim (eq_by_cmp (slice_cmp nat_cmp) q x.0) as (λ t. cond t (Some x.1) (found_in q (xs ++ ys)) ≡ or_else (cond t (Some x.1) (found_in q xs)) (found_in q ys)) [
+      | true ↦ refl
+      | false ↦ find_append q xs ys
+    ]
+
+-- the first number that passes, and what stands there
+pub at_test : (t : Bool) (x : List ℕ) (i n : ℕ) (f : ℕ → List ℕ) (test : ℕ → Bool) {rest : Option (List ℕ)} → x ≡ f i → rest ≡ option_map f (first_from test (i + 1) n)
+    → cond t (Some x) rest ≡ option_map f (cond t (Some i) (first_from test (i + 1) n))
+at_test true x i n f test e ih = ap (λ y. Some y) e
+at_test false x i n f test e ih = ih
+
+-- a key outside of the range of all pairs is not found
+pub find_outside : (key low : List ℕ) (high : Option (List ℕ)) (pairs : List (List ℕ × List ℕ)) → AllByRecursion (λ (pair : List ℕ × List ℕ). in_range low high pair.0 ≡ true) pairs → (in_range low high key ≡ true → ⊥) → found_in key pairs ≡ None
+find_outside key low high [] all out = refl
+find_outside key low high (pair ∷ pairs) all out =
+    let other : key ≢ pair.0 = λ e. out (subst (λ (k : List ℕ). in_range low high k ≡ true) (sym e) all.0) in
+    let not : eq_by_cmp (slice_cmp nat_cmp) key pair.0 ≡ false = ties key pair.0 ∙ not_bytes_eq key pair.0 other in
+    rw not (find_outside key low high pairs all.1 out)

@@ -1,0 +1,15 @@
+-- Root and level, laid one after the other.
+use Rattle.std.proofs.Common.{◌≡◌, ◌∙◌, sym, refl, ap, ℕ, ◌+◌, ◌≤◌, List, ◌++◌, length, take, drop, arith}
+use Rattle.std.proofs.lemmas.List.{append_assoc, take_at, drop_at, drop-drop}
+use Rattle.iso_model.specs.Cells.{laid_at}
+
+pub laid_twice : (x y block : List ℕ) → length x ≡ 4 → length y ≡ 4 → laid_at 4 y (laid_at 0 x block) ≡ laid_at 0 (x ++ y) block
+laid_twice x y block four too =
+    let z : 0 + length x ≡ 4 = omega arith in
+    let first : laid_at 0 x block ≡ x ++ drop 4 block = ap (λ (n : ℕ). x ++ drop n block) z in
+    let e : 4 + length y ≡ 4 + 4 = omega arith in
+    let s : 0 + length (x ++ y) ≡ 4 + 4 = omega (arith, Rattle.std.proofs.Common.length-append x y) in
+    ap (laid_at 4 y) first
+    ∙ (λ i. take_at x (drop 4 block) 4 four i ++ (y ++ drop (e i) (x ++ drop 4 block)))
+    ∙ ap (λ l. x ++ (y ++ l)) (sym (drop-drop 4 4 (x ++ drop 4 block)) ∙ ap (drop 4) (drop_at x (drop 4 block) 4 four) ∙ drop-drop 4 4 block ∙ ap (λ (n : ℕ). drop n block) (sym s))
+    ∙ sym (append_assoc x y (drop (0 + length (x ++ y)) block))

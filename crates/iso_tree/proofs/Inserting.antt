@@ -1,0 +1,109 @@
+-- A put, part by part.
+use Rattle.std.proofs.Common.{◌≡◌, ◌≢◌, ◌∙◌, sym, ap, subst, ℕ, suc, ◌+◌, ◌*◌, ◌<◌, ◌≤◌, Bool, true, false, cond, List, [], ◌∷◌, take, Option, Some, None, Result, Ok, Err, arith, ne_eqb, eq-eqb}
+use Rattle.std.specs.Prelude.{nat_lt}
+use Rattle.std.proofs.lemmas.Bool.Decides.{nat_tests}
+use Rattle.iso_model.specs.declared.stores.Area.{Area}
+use Rattle.iso_model.specs.declared.stores.StoreError.{StoreError}
+use Rattle.iso_model.specs.declared.stores.StoreError.TheVariants as store
+use Rattle.iso_model.specs.HashCalls.{at_cell, is_key, is_value}
+use Rattle.iso_model.specs.Cells.{block_with, cell_count, keys_end, value_mark, value_part}
+use Rattle.iso_model.specs.Stores.{Program, Done, Store, then_do}
+use Rattle.tx_blocks.specs.Tx.{Tx, Device}
+use Rattle.tx_blocks.specs.Runs.{Behaves, Ran, HasRead, HasRun, IsCut}
+use Rattle.tx_blocks.proofs.Progress.{IsAt, at_start, at_then, ran_at}
+use Rattle.tx_blocks.proofs.Refusals.{cut_then, store_cause}
+use Rattle.tx_blocks.proofs.Parts.{run_from}
+use Rattle.iso_tree.specs.declared.descent.Leaf.{Leaf}
+use Rattle.iso_tree.specs.Rows.{AreShownUsable}
+use Rattle.iso_model.specs.Trees.{put_after}
+use Rattle.iso_model.specs.TreeCalls.{Answer, Descent, AtBroken, descend, edit_leaf, full_row, need_of, put_at, put_below_root, put_program, with_head, with_map}
+use Rattle.iso_tree.specs.Walks.{HasDescended, IsLeaf}
+use Rattle.iso_tree.proofs.Looking.{at_as}
+use Rattle.iso_tree.proofs.Usable.{path_usable}
+
+-- the put below a root
+module _ (a : Area) (key value : List ℕ) (root level : ℕ) (some : root ≢ 0) (t u : Tx) where
+  abbrev whole : Program Answer
+  whole = put_below_root a key value root level
+
+  below_is : whole ≡ then_do (descend a key false level root []) (put_at a key value)
+  below_is = ap (λ (b : Bool). cond b (with_map a key value []) (then_do (descend a key false level root []) (put_at a key value))) (ne_eqb root 0 some)
+
+  below_at : (d : Descent) → Ran (descend a key false level root []) t u d → IsAt whole (put_at a key value d) t u
+  below_at d ran = at_then whole (descend a key false level root []) (put_at a key value) t t u d (at_as whole _ _ t t below_is (at_start whole t)) ran
+
+  pub put_refused : (path : List (ℕ × ℕ)) (buffer : List ℕ) (e : StoreError) → HasDescended a key false root level t u path buffer (Err e) → HasRun whole t u (Err e)
+  put_refused path buffer store.BadKey ended = absurd ended
+  put_refused path buffer store.BadValue ended = absurd ended
+  put_refused path buffer (store.NoBlocks need free) ended = absurd ended
+  put_refused path buffer (store.Broken block) ended = ran_at whole t u (Err (store.Broken block)) (below_at (AtBroken block) ended)
+  put_refused path buffer (store.Tx e) ended = subst (λ (p : Program Answer). IsCut p t u e) (sym below_is) (cut_then (descend a key false level root []) (put_at a key value) t u e ended)
+  put_refused path buffer store.Memory ended = absurd ended
+
+  module _ (path : List (ℕ × ℕ)) (buffer : List ℕ) (leaf : Leaf) (is : IsLeaf a key buffer leaf) (ended : HasDescended a key false root level t u path buffer (Ok leaf)) where
+    abbrev n : ℕ
+    n = cell_count a.size
+
+    abbrev here : ℕ → Program Answer
+    here i = Store (a.start + leaf.block) (value_mark a.size i ∷ []) (block_with a.size (keys_end a.size + 33 * i) (value_part value)) (Done (Ok tt))
+
+    abbrev add : Program Answer
+    add = edit_leaf a leaf.block (put_after key (key, value_part value)) (Ok tt)
+
+    abbrev grow : ℕ → Program Answer
+    grow count = with_map a key value ((leaf.block, count) ∷ path)
+
+    abbrev at_count : ℕ → Program Answer
+    at_count count = cond (nat_lt count n) add (grow count)
+
+    at_leaf : (o : Option ℕ) → leaf.cell ≡ o → IsAt whole (at_cell o here (at_count leaf.count)) t u
+    at_leaf o cell =
+        at_as whole _ _ t u (λ i. at_cell ((sym is.cell ∙ cell) i) here (at_count (sym is.count i))) (below_at _ ended)
+
+    pub put_found : (i : ℕ) (v : Tx) (result : Result (Unit {0}) StoreError) → leaf.cell ≡ Some i → HasRun (here i) u v result → HasRun whole t v result
+    put_found i v result cell run = run_from whole (here i) t u v result (at_leaf (Some i) cell) run
+
+    pub put_room : (v : Tx) (result : Result (Unit {0}) StoreError) → leaf.cell ≡ None → leaf.count < n → HasRun add u v result → HasRun whole t v result
+    put_room v result none room run =
+        let test : nat_lt leaf.count n ≡ true = grind (arith, nat_tests) in
+        run_from whole add t u v result (at_as whole _ _ t u (ap (λ (b : Bool). cond b add (grow leaf.count)) test) (at_leaf None none)) run
+
+    pub put_full : (v : Tx) (result : Result (Unit {0}) StoreError) → leaf.cell ≡ None → n ≤ leaf.count → HasRun (grow leaf.count) u v result → HasRun whole t v result
+    put_full v result none full run =
+        let test : nat_lt leaf.count n ≡ false = grind (arith, nat_tests) in
+        run_from whole (grow leaf.count) t u v result (at_as whole _ _ t u (ap (λ (b : Bool). cond b add (grow leaf.count)) test) (at_leaf None none)) run
+
+    pub leaf_usable : HasRead t u → 1 ≤ leaf.count → AreShownUsable a u ((leaf.block, leaf.count) ∷ path)
+    leaf_usable read one =
+        subst (λ (count : ℕ). AreShownUsable a u ((leaf.block, count) ∷ path)) (sym is.count)
+        (path_usable a key root level t u path leaf.block (take (keys_end a.size) buffer) _ read ended (omega (arith, one, is.count)))
+
+-- an empty tree
+pub put_empty : (a : Area) (key value : List ℕ) (root level : ℕ) (t v : Tx) (result : Result (Unit {0}) StoreError) → root ≡ 0 → HasRun (with_map a key value []) t v result → HasRun (put_below_root a key value root level) t v result
+put_empty a key value root level t v result none run =
+    let e : put_below_root a key value root level ≡ with_map a key value [] = ap (λ (b : Bool). cond b (with_map a key value []) (then_do (descend a key false level root []) (put_at a key value))) (eq-eqb root 0 none) in
+    subst (λ (p : Program Answer). HasRun p t v result) (sym e) run
+
+-- a full leaf needs a new block
+pub full_needs : (n leaf count : ℕ) (path : List (ℕ × ℕ)) → count ≡ n → 1 ≤ need_of n ((leaf, count) ∷ path)
+full_needs n leaf count path full =
+    let one : full_row n ((leaf, count) ∷ path) ≡ suc (full_row n path) = ap (λ (t : Bool). cond t (suc (full_row n path)) 0) (eq-eqb count n full) in
+    omega arith
+
+-- a part with fewer writes behaves as one with more
+pub behaves_more : {R : Type 0} (t u : Tx) (few many : ℕ) (before now : Device) (result : Result R StoreError) → few ≤ many → Behaves t u few before now result → Behaves t u many before now result
+behaves_more t u few many before now (Ok x) le is = record { cause = tt; unwritten = tt; known = tt; later = is.later; passed = is.passed }
+behaves_more t u few many before now (Err e) le is = record { cause = store_cause u few many before now e le is.cause; unwritten = is.unwritten; known = is.known; later = is.later; passed = tt }
+
+-- arguments that are well formed, or are not
+pub put_run : (a : Area) (key value : List ℕ) (t u : Tx) (result : Result (Unit {0}) StoreError) → is_key key ≡ true → is_value value ≡ true → HasRun (with_head a (put_below_root a key value)) t u result → HasRun (put_program a key value) t u result
+unfolding put_program
+put_run a key value t u result is short run = rw (is, short) run
+
+pub put_bad_key : (a : Area) (key value : List ℕ) (t : Tx) → is_key key ≡ false → Ran (put_program a key value) t t (Err store.BadKey)
+unfolding put_program
+put_bad_key a key value t not = rw not (ran_at (Done (Err store.BadKey)) t t (Err store.BadKey) (at_start (Done (Err store.BadKey)) t))
+
+pub put_bad_value : (a : Area) (key value : List ℕ) (t : Tx) → is_key key ≡ true → is_value value ≡ false → Ran (put_program a key value) t t (Err store.BadValue)
+unfolding put_program
+put_bad_value a key value t is not = rw (is, not) (ran_at (Done (Err store.BadValue)) t t (Err store.BadValue) (at_start (Done (Err store.BadValue)) t))

@@ -1,0 +1,112 @@
+-- The nodes of a put are read once more.
+use Rattle.std.proofs.Common.{◌≡◌, ◌∙◌, sym, refl, ap, subst, ℕ, suc, ◌+◌, ◌*◌, ◌≤◌, List, [], ◌∷◌, ◌++◌, length, map, take, drop, Some, Result, Ok, Err, OnOk, IfErr, arith, append_assoc}
+use Rattle.std.proofs.lemmas.List.{take_at, take-take, length-take-le}
+use Rattle.iso_model.specs.declared.access.Access.{Access}
+use Rattle.iso_model.specs.declared.stores.Area.{Area}
+use Rattle.iso_model.specs.declared.stores.StoreError.{StoreError}
+use Rattle.iso_model.specs.declared.stores.TxError.{TxError}
+use Rattle.iso_model.specs.Array.{Array}
+use Rattle.iso_model.specs.Effect.{own}
+use Rattle.iso_model.specs.Cells.{laid_at}
+use Rattle.iso_model.specs.Stores.{Program, LookWhole, bytes_in, look_access, after}
+use Rattle.iso_alloc.proofs.Laying.{laid_here}
+use Rattle.tx_blocks.specs.Tx.{Tx, Device, with_accesses}
+use Rattle.tx_blocks.specs.Runs.{Ran, IsCut, IsCause, HasRun}
+use Rattle.tx_blocks.proofs.Programs.{own_reads}
+use Rattle.tx_blocks.proofs.Progress.{IsAt, at_start, at_look_whole, own_append, same_base, with_more}
+use Rattle.tx_blocks.proofs.Parts.{run_from}
+use Rattle.iso_model.specs.TreeNodes.{Cell, used_cells}
+use Rattle.iso_tree.specs.Rows.{nodes_from, AreShownUsable, AreUsable, IsUsable}
+use Rattle.iso_model.specs.TreeCalls.{look_again, Answer}
+use Rattle.iso_tree.specs.Walks.{AreBytesOf}
+use Rattle.iso_tree.proofs.Frames.{piece_of}
+use Rattle.iso_tree.proofs.Removing.{cut_at_whole}
+
+pub map_ok : {X E P Q : Type 0} (r : Result X E) → (P → Q) → OnOk r P → OnOk r Q
+map_ok (Ok x) f h = f h
+map_ok (Err e) f h = tt
+
+pub map_err : {X E : Type 0} {P Q : E → Type 0} (r : Result X E) → ((e : E) → P e → Q e) → IfErr r P → IfErr r Q
+map_err (Ok x) f h = tt
+map_err (Err e) f h = f e h
+
+-- one part after another
+pub at_join : {R : Type 0} (whole rest next : Program R) (t u v : Tx) → IsAt whole rest t u → IsAt rest next u v → IsAt whole next t v
+at_join whole rest next t u v now more = record {
+  done = now.done ++ more.done;
+  is = more.is ∙ ap (λ (w : Tx). with_accesses w more.done) now.is ∙ with_more t now.done more.done;
+  told = λ A told.
+      now.told A told ∙ ap (after now.done) (more.told A (same_base whole rest t u now ∙ told))
+      ∙ ap (λ xs. (xs, (Rattle.iso_model.specs.Stores.outcome (Rattle.tx_blocks.specs.Tx.room_of v) next (own A v.accesses)).1)) (sym (append_assoc now.done more.done (Rattle.iso_model.specs.Stores.outcome (Rattle.tx_blocks.specs.Tx.room_of v) next (own A v.accesses)).0));
+}
+
+module _ (a : Area) (block count : ℕ) (rest path : List (ℕ × ℕ)) (is : path ≡ (block, count) ∷ rest) (f : List (ℕ × List Cell) → Program Answer) where
+  abbrev whole : Program Answer
+  whole = look_again a (map (λ p. p.0) path) f
+
+  abbrev whole_here : Program Answer
+  whole_here = look_again a (block ∷ map (λ p. p.0) rest) f
+
+  pub first_refused : (t v : Tx) (before now : Device) (e : TxError) → v ≡ t → IsCause v 1 before now e → IsCut whole t v e
+  first_refused t v before now e same cause =
+      subst (λ (p : List (ℕ × ℕ)). IsCut (look_again a (map (λ p. p.0) p) f) t v e) (sym is)
+      (cut_at_whole whole_here (a.start + block) (λ (bytes : List ℕ). look_again a (map (λ p. p.0) rest) (λ nodes. f ((block, used_cells a.size bytes) ∷ nodes))) t t v before now e (at_start whole_here t) same cause)
+
+  module _ (bytes : List ℕ) (t u : Tx) (bytes_are : AreBytesOf t (a.start + block) bytes) (fits : length u.accesses ≤ 4096) (read : u ≡ with_accesses t (look_access (a.start + block) [] ∷ [])) where
+    abbrev next : Program Answer
+    next = look_again a (map (λ p. p.0) rest) (λ nodes. f ((block, used_cells a.size bytes) ∷ nodes))
+
+    at_next : IsAt whole next t u
+    at_next = subst (λ (p : List (ℕ × ℕ)). IsAt (look_again a (map (λ p. p.0) p) f) next t u) (sym is)
+        (at_look_whole whole_here (a.start + block) (λ (b : List ℕ). look_again a (map (λ p. p.0) rest) (λ nodes. f ((block, used_cells a.size b) ∷ nodes))) t t u bytes (at_start whole_here t) bytes_are fits read)
+
+    pub rest_refused : (v : Tx) (e : StoreError) → HasRun next u v (Err e) → HasRun whole t v (Err e)
+    rest_refused v e run = run_from whole next t u v (Err e) at_next run
+
+    pub rest_read : (v : Tx) (nodes : List ℕ) (i : ℕ) → bytes_in (record { off = i * a.size; len = a.size }) nodes ≡ bytes → IsAt next (f ((block, used_cells a.size bytes) ∷ nodes_from a.size nodes (i + 1) rest)) u v
+        → IsAt whole (f (nodes_from a.size nodes i path)) t v
+    rest_read v nodes i here now =
+        subst (λ (p : List (ℕ × ℕ)). IsAt whole (f (nodes_from a.size nodes i p)) t v) (sym is)
+        (subst (λ (b : List ℕ). IsAt whole (f ((block, used_cells a.size b) ∷ nodes_from a.size nodes (i + 1) rest)) t v) (sym here)
+        (at_join whole next (f ((block, used_cells a.size bytes) ∷ nodes_from a.size nodes (i + 1) rest)) t u v at_next now))
+
+-- a block that was not usable was not told
+pub never_told : (a : Area) (block count : ℕ) (rest path : List (ℕ × ℕ)) (t : Tx) (bytes : List ℕ) → path ≡ (block, count) ∷ rest → AreShownUsable a t path → AreBytesOf t (a.start + block) bytes → (IsUsable a.size bytes count → ⊥)
+    → (A : Array) → t.base ≡ Some A → ⊥
+never_told a block count rest path t bytes is usable are not A told =
+    not (subst (λ (b : List ℕ). IsUsable a.size b count) (sym (are A told)) (subst (λ (p : List (ℕ × ℕ)). Rattle.iso_tree.specs.Rows.ArePathUsable a (own A t.accesses) p) is (usable A told)).0)
+
+pub broken_run : {R : Type 0} (p : Program R) (t u : Tx) (r : R) (a : Access) → u ≡ with_accesses t (a ∷ []) → ((A : Array) → t.base ≡ Some A → ⊥) → Ran p t u r
+broken_run p t u r a is never = record { done = a ∷ []; is = is; told = λ A told. absurd (never A told) }
+
+-- what stands on the path is usable after a read too
+pub shown_after : (a : Area) (block count : ℕ) (rest path : List (ℕ × ℕ)) (t u : Tx) (b : ℕ) → path ≡ (block, count) ∷ rest → u ≡ with_accesses t (look_access b [] ∷ []) → AreShownUsable a t path → AreShownUsable a u rest
+shown_after a block count rest path t u b is read usable = λ A told.
+    let same : own A u.accesses ≡ own A t.accesses = ap (λ (w : Tx). own A w.accesses) read ∙ own_append A t.accesses (look_access b [] ∷ []) ∙ own_reads (own A t.accesses) (look_access b [] ∷ []) (refl, tt) in
+    subst (λ (B : Array). Rattle.iso_tree.specs.Rows.ArePathUsable a B rest) (sym same)
+    (subst (λ (p : List (ℕ × ℕ)). Rattle.iso_tree.specs.Rows.ArePathUsable a (own A t.accesses) p) is (usable A (sym (ap (λ (w : Tx). w.base) read) ∙ told))).1
+
+-- BYTES
+pub here_after : (size i : ℕ) (bytes old mid new : List ℕ) → length bytes ≡ size → i * size + size ≤ length old → mid ≡ laid_at (i * size) bytes old → take ((i + 1) * size) new ≡ take ((i + 1) * size) mid
+    → bytes_in (record { off = i * size; len = size }) new ≡ bytes
+here_after size i bytes old mid new long fits laid kept =
+    let e : i * size + size ≤ (i + 1) * size = omega arith in
+    sym (piece_of (record { off = i * size; len = size }) ((i + 1) * size) new e) ∙ ap (bytes_in (record { off = i * size; len = size })) kept
+    ∙ piece_of (record { off = i * size; len = size }) ((i + 1) * size) mid e ∙ ap (bytes_in (record { off = i * size; len = size })) laid
+    ∙ laid_here (i * size) size bytes old long (omega arith)
+
+pub before_after : (size i : ℕ) (bytes old mid new : List ℕ) → i * size + size ≤ length old → mid ≡ laid_at (i * size) bytes old → take ((i + 1) * size) new ≡ take ((i + 1) * size) mid → take (i * size) new ≡ take (i * size) old
+before_after size i bytes old mid new fits laid kept =
+    let e : i * size ≤ (i + 1) * size = omega arith in
+    sym (take-take (i * size) ((i + 1) * size) new e) ∙ ap (take (i * size)) kept ∙ take-take (i * size) ((i + 1) * size) mid e ∙ ap (take (i * size)) laid
+    ∙ take_at (take (i * size) old) (bytes ++ drop (i * size + length bytes) old) (i * size) (length-take-le (i * size) old (omega arith))
+
+pub path_room : (size i many : ℕ) (block count : ℕ) (rest path : List (ℕ × ℕ)) → path ≡ (block, count) ∷ rest → (i + length path) * size ≤ many → (i * size + size ≤ many) × ((i + 1 + length rest) * size ≤ many)
+path_room size i many block count rest path is fits =
+    let h : (i + suc (length rest)) * size ≤ many = subst (λ (p : List (ℕ × ℕ)). (i + length p) * size ≤ many) is fits in
+    let e : i + suc (length rest) ≡ i + 1 + length rest = omega arith in
+    (omega arith, subst (λ (k : ℕ). k * size ≤ many) e h)
+
+pub usable_more : (size i : ℕ) (block count : ℕ) (rest path : List (ℕ × ℕ)) (nodes bytes : List ℕ) → path ≡ (block, count) ∷ rest → bytes_in (record { off = i * size; len = size }) nodes ≡ bytes → IsUsable size bytes count → AreUsable size nodes (i + 1) rest → AreUsable size nodes i path
+usable_more size i block count rest path nodes bytes is here first others =
+    subst (AreUsable size nodes i) (sym is) (subst (λ (b : List ℕ). IsUsable size b count) (sym here) first, others)

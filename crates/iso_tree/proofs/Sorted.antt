@@ -1,0 +1,82 @@
+-- The pairs of an ordered tree rise: they are the entries of the region's map.
+use Rattle.std.proofs.Common.{◌≡◌, ◌∙◌, sym, refl, ap, subst, ℕ, zero, suc, Bool, true, List, [], ◌∷◌, ◌++◌, Option, Some}
+use Rattle.std.specs.List.{AllByRecursion, flat_map}
+use Rattle.std.specs.Ordering.{nat_cmp}
+use Rattle.std.specs.Cmp.Lexicographic.{slice_cmp, nat_list_cmp_total}
+use Rattle.std.specs.FinMap.{from_entries, from_sorted, entries, entries-from_sorted, get-from_entries, get-from_sorted, same_map, slice_cmp-IsAntisymmetric, nat_cmp-IsAntisymmetric}
+use Rattle.std.specs.FinMap.Entries.{is_sorted, below_all}
+use Rattle.std.proofs.Math.Dec.{T}
+use Rattle.std.proofs.lemmas.Bool.{and_from, and_parts}
+use Rattle.std.proofs.lemmas.List.{append-nil}
+use Rattle.iso_model.specs.TreeNodes.{before, Cell}
+use Rattle.iso_model.specs.Trees.{in_range, Tree, pairs_in, AreAfter, AreChildren, IsOrdered, Rise, RiseAfter}
+use Rattle.iso_tree.proofs.Edits.{leaf_pairs}
+use Rattle.iso_tree.proofs.Gets.{ordered_in, pairs_after}
+use Rattle.iso_tree.proofs.Order.{before_trans}
+use Rattle.iso_tree.proofs.Ranges.{all_weaker, before_through, low_of}
+
+abbrev pub sorted : List (List ℕ × List ℕ) → Bool
+sorted pairs = is_sorted (slice_cmp nat_cmp) pairs
+
+abbrev above : List ℕ → List (List ℕ × List ℕ) → Bool
+above key pairs = below_all (slice_cmp nat_cmp) key pairs
+
+above_all : (key : List ℕ) (pairs : List (List ℕ × List ℕ)) → AllByRecursion (λ (pair : List ℕ × List ℕ). before key pair.0 ≡ true) pairs → above key pairs ≡ true
+above_all key [] all = refl
+above_all key (pair ∷ pairs) all = and_from _ _ all.0 (above_all key pairs all.1)
+
+above_both : (key : List ℕ) (xs ys : List (List ℕ × List ℕ)) → above key xs ≡ true → above key ys ≡ true → above key (xs ++ ys) ≡ true
+above_both key [] ys one two = two
+above_both key (x ∷ xs) ys one two = and_from _ _ (and_parts _ _ one).0 (above_both key xs ys (and_parts _ _ one).1 two)
+
+-- pairs before a key, and pairs from it on
+sorted_join : (low mid : List ℕ) (high : Option (List ℕ)) (xs ys : List (List ℕ × List ℕ)) → sorted xs ≡ true → sorted ys ≡ true → AllByRecursion (λ (pair : List ℕ × List ℕ). in_range low (Some mid) pair.0 ≡ true) xs
+    → AllByRecursion (λ (pair : List ℕ × List ℕ). in_range mid high pair.0 ≡ true) ys → sorted (xs ++ ys) ≡ true
+sorted_join low mid high [] ys one two left right = two
+sorted_join low mid high (x ∷ xs) ys one two left right =
+    let parts = and_parts (above x.0 xs) (sorted xs) one in
+    let early : before x.0 mid ≡ true = (and_parts _ _ left.0).1 in
+    and_from _ _
+    (above_both x.0 xs ys parts.0 (above_all x.0 ys
+    (all_weaker (λ (pair : List ℕ × List ℕ). in_range mid high pair.0 ≡ true) (λ (pair : List ℕ × List ℕ). before x.0 pair.0 ≡ true) ys (λ pair is. before_through x.0 mid pair.0 early (low_of mid high pair.0 is)) right)))
+    (sorted_join low mid high xs ys parts.1 two left.1 right)
+
+-- a leaf
+rise_above : (last : List ℕ) (high : Option (List ℕ)) (cs : List Cell) → RiseAfter last high cs → AllByRecursion (λ (pair : List ℕ × List ℕ). before last pair.0 ≡ true) (leaf_pairs cs)
+rise_above last high [] is = tt
+rise_above last high (c ∷ cs) is = (
+  is.0,
+  all_weaker (λ (pair : List ℕ × List ℕ). before c.0 pair.0 ≡ true) (λ (pair : List ℕ × List ℕ). before last pair.0 ≡ true) (leaf_pairs cs) (λ pair more. before_trans last c.0 pair.0 is.0 more) (rise_above c.0 high cs is.2),
+)
+
+after_sorted : (last : List ℕ) (high : Option (List ℕ)) (cs : List Cell) → RiseAfter last high cs → sorted (leaf_pairs cs) ≡ true
+after_sorted last high [] is = refl
+after_sorted last high (c ∷ cs) is = and_from _ _ (above_all c.0 (leaf_pairs cs) (rise_above c.0 high cs is.2)) (after_sorted c.0 high cs is.2)
+
+leaf_sorted : (low : List ℕ) (high : Option (List ℕ)) (cs : List Cell) → Rise low high cs → sorted (leaf_pairs cs) ≡ true
+leaf_sorted low high [] is = refl
+leaf_sorted low high (c ∷ cs) is = and_from _ _ (above_all c.0 (leaf_pairs cs) (rise_above c.0 high cs is.1)) (after_sorted c.0 high cs is.1)
+
+-- an inner node
+module _ (level : ℕ) (each : (low : List ℕ) (high : Option (List ℕ)) (t : Tree level) → IsOrdered level low high t → sorted (pairs_in level t) ≡ true) where
+  row_sorted : (last low : List ℕ) (high : Option (List ℕ)) (t : Tree level) (ts : List (List ℕ × Tree level)) → AreAfter (IsOrdered level) last low high t ts → sorted (pairs_in level t ++ flat_map (λ c. pairs_in level c.1) ts) ≡ true
+  row_sorted last low high t [] is = ap sorted (append-nil (pairs_in level t)) ∙ each low high t is
+  row_sorted last low high t (d ∷ ds) is =
+      sorted_join low d.0 high (pairs_in level t) (pairs_in level d.1 ++ flat_map (λ c. pairs_in level c.1) ds) (each low (Some d.0) t is.2) (row_sorted d.0 d.0 high d.1 ds is.3)
+      (ordered_in level low (Some d.0) t is.2) (pairs_after (IsOrdered level) (pairs_in level) (ordered_in level) d.0 d.0 high d.1 ds is.3)
+
+  children_sorted : (low : List ℕ) (high : Option (List ℕ)) (ts : List (List ℕ × Tree level)) → AreChildren (IsOrdered level) low high ts → sorted (flat_map (λ c. pairs_in level c.1) ts) ≡ true
+  children_sorted low high [] is = absurd is
+  children_sorted low high (t ∷ ts) is = row_sorted [] low high t.1 ts is.1
+
+pub tree_sorted : (level : ℕ) (low : List ℕ) (high : Option (List ℕ)) (t : Tree level) → IsOrdered level low high t → sorted (pairs_in level t) ≡ true
+tree_sorted zero low high t is = leaf_sorted low high t.1 is
+tree_sorted (suc level) low high t is = children_sorted level (tree_sorted level) low high t.1 is
+
+-- the entries of a map of pairs that rise
+pub entries_are : (pairs : List (List ℕ × List ℕ)) → sorted pairs ≡ true → ◌≡◌ {A = List (List ℕ × List ℕ)} (entries {R = slice_cmp nat_cmp} (from_entries pairs)) pairs
+entries_are pairs equal =
+    let is : T (sorted pairs) = subst T (sym equal) tt in
+    ap entries (same_map nat_list_cmp_total (slice_cmp-IsAntisymmetric nat_cmp-IsAntisymmetric) (from_entries pairs) (from_sorted pairs)
+    (λ q. get-from_entries nat_list_cmp_total pairs q ∙ sym (get-from_sorted (slice_cmp nat_cmp) pairs q is)))
+    ∙ entries-from_sorted (slice_cmp nat_cmp) pairs is

@@ -1,0 +1,8 @@
+use Rattle.std.proofs.Common.{◌∙◌, sym, ap, not, cond, Bool, [], ◌∷◌, ◌++◌}
+use Rattle.iso_model.specs.TreeNodes.{node_bytes}
+use Rattle.iso_tree.proofs.build.add_other.Goals as goal
+
+pub returns-clause-added : goal.returns-clause-added
+returns-clause-added c = λ size level cs is count fit long.
+    c.add_cell.ensures.added size level cs is count fit long
+    ∙ ap (λ (t : Bool). node_bytes size level (cs ++ cond t ((c.args.other.now, c.args.part.now) ∷ []) [])) (sym (ap not (sym c.eq.ensures ∙ c.if-eq.false)))

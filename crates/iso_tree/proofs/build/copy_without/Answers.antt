@@ -1,0 +1,57 @@
+use Rattle.std.proofs.Common.{◌≡◌, ◌∙◌, sym, refl, ap, ◌+◌, ◌*◌, ◌<◌, ◌≤◌, ℕ, List, not, cond, [], ◌∷◌, ◌++◌, length, take, drop, arith}
+use Rattle.std.specs.Str.{bytes_eq}
+use Rattle.iso_model.specs.Cells.{cell_count, keys_end, key_at, are_key_parts, value_mark}
+use Rattle.iso_model.specs.Stores.{bytes_in}
+use Rattle.iso_model.specs.TreeNodes.{count_of, node_bytes}
+use Rattle.iso_tree.proofs.Building.{copied, copied_more, copied_long, copied_fit}
+use Rattle.iso_tree.proofs.Facts.{node_parts}
+use Rattle.iso_tree.proofs.Fits.{key_short}
+use Rattle.iso_tree.proofs.build.copy_without.Goals as goal
+
+pub piece-part-requires : goal.piece-part-requires
+piece-part-requires c =
+    let old = c.args.old.now in
+    let keys = take (keys_end (length old)) old in
+    let keys_is : c.piece-keys.result.now ≡ keys = c.piece-keys.ensures.value ∙ ap (λ (n : ℕ). take (64 + 31 * n) old) c.cell_count.ensures in
+    let parts = node_parts (length old) 0 keys c.requires.node in
+    omega (arith, c.requires.size.whole, parts.few, c.loop-cell-test.true, c.count_of-cell-end.ensures, ap count_of keys_is, c.cell_count.ensures)
+
+pub key_of-requires-clause-parts : goal.key_of-requires-clause-parts
+key_of-requires-clause-parts c =
+    let old = c.args.old.now in
+    let keys = take (keys_end (length old)) old in
+    let keys_is : c.piece-keys.result.now ≡ keys = c.piece-keys.ensures.value ∙ ap (λ (n : ℕ). take (64 + 31 * n) old) c.cell_count.ensures in
+    ap (are_key_parts (length old)) keys_is ∙ (node_parts (length old) 0 keys c.requires.node).parts
+
+pub add_other-kept-requires-clause-other : goal.add_other-kept-requires-clause-other
+add_other-kept-requires-clause-other c =
+    let old = c.args.old.now in
+    let keys = take (keys_end (length old)) old in
+    let keys_is : c.piece-keys.result.now ≡ keys = c.piece-keys.ensures.value ∙ ap (λ (n : ℕ). take (64 + 31 * n) old) c.cell_count.ensures in
+    let parts = node_parts (length old) 0 keys c.requires.node in
+    let inside : c.loop-cell.cell < cell_count (length old) = omega (arith, parts.few, c.loop-cell-test.true, c.count_of-cell-end.ensures, ap count_of keys_is) in
+    let short = key_short (length old) keys c.loop-cell.cell parts.parts inside in
+    let same : c.key_of.result.now ≡ key_at keys c.loop-cell.cell = c.key_of.ensures ∙ ap (λ (k : List ℕ). key_at k c.loop-cell.cell) keys_is in
+    omega (arith, short, ap length same)
+
+pub loop-cell-preserved : goal.loop-cell-preserved
+loop-cell-preserved c =
+    let old = c.args.old.now in
+    let size = length old in
+    let key = c.args.key.now in
+    let cell = c.loop-cell.cell in
+    let keys = take (keys_end (length old)) old in
+    let keys_is : c.piece-keys.result.now ≡ keys = c.piece-keys.ensures.value ∙ ap (λ (n : ℕ). take (64 + 31 * n) old) c.cell_count.ensures in
+    let parts = node_parts (length old) 0 keys c.requires.node in
+    let inside : cell ≤ count_of keys = omega (arith, c.loop-cell-test.true, c.count_of-cell-end.ensures, ap count_of keys_is) in
+    let same : c.key_of.result.now ≡ key_at keys cell = c.key_of.ensures ∙ ap (λ (k : List ℕ). key_at k cell) keys_is in
+    let part : c.piece-part.result.now ≡ bytes_in (value_mark size cell) old = c.piece-part.ensures.value ∙ ap (λ (n : ℕ). take 33 (drop (64 + 31 * n + 33 * cell) old)) c.cell_count.ensures in
+    let cs = copied key size old cell in
+    let fit = copied_fit key size old cell c.requires.size refl c.requires.node inside in
+    record {
+      bytes = c.add_other-kept.ensures.added size 0 cs c.loop-cell.invariant.bytes (sym c.loop-cell.invariant.count) fit (c.loop-cell.auto.into ∙ c.empty_node.auto.into ∙ c.requires.into)
+          ∙ (λ i. node_bytes size 0 (cs ++ cond (not (bytes_eq (same i) key)) ((same i, part i) ∷ []) []))
+          ∙ ap (node_bytes size 0) (sym (copied_more key size old cell));
+      count = c.add_other-kept.ensures.count ∙ (λ i. c.loop-cell.invariant.count i + cond (not (bytes_eq (same i) key)) 1 0) ∙ sym (copied_long key size old cell);
+      few = omega (arith, c.add_other-kept.ensures.few, c.loop-cell.invariant.few);
+    }

@@ -1,0 +1,6 @@
+use Rattle.std.proofs.Common.{◌∙◌, ap, ℕ, List, set}
+use Rattle.iso_tree.proofs.Building.{empty_is}
+use Rattle.iso_tree.proofs.build.empty_node.Goals as goal
+
+pub returns : goal.returns
+returns c = ap (λ (l : List ℕ). set (set l 0 1) 1 c.args.level) c.clear.ensures ∙ empty_is _ c.args.level c.requires.size

@@ -1,0 +1,19 @@
+use Rattle.std.proofs.Common.{◌≡◌, ◌-◌, ◌<◌, [], length}
+use Rattle.iso_tree.specs.Rows.{AreInside}
+use Rattle.iso_model.specs.TreeCalls.{descend}
+use Rattle.tx_blocks.specs.Tx.{IsLater}
+use Rattle.tx_blocks.specs.Runs.{HasRead}
+use Rattle.tx_blocks.proofs.Progress.{IsAt}
+use Rattle.iso_tree.proofs.descent.descend.Given as goal
+
+-- the levels that are left are what is left of the descent
+abbrev pub invariant-loop-passed : goal.invariant-loop-passed
+invariant-loop-passed g l = record {
+  here : IsAt (descend l.area l.key l.with_value l.level l.root []) (descend l.area l.key l.with_value (l.level - l.passed) l.block l.path) (g.T.TxBlocks.state l.fn.tx) (g.T.TxBlocks.state l.tx);
+  inside : l.block < l.area.blocks;
+  long : length l.path ≡ l.passed;
+  path_in : AreInside l.area l.path;
+  reads : HasRead (g.T.TxBlocks.state l.fn.tx) (g.T.TxBlocks.state l.tx);
+  later : IsLater (g.T.TxBlocks.device l.fn.tx) (g.T.TxBlocks.device l.tx);
+  passed : (g.T.TxBlocks.device l.tx).faults ≡ (g.T.TxBlocks.device l.fn.tx).faults;
+}

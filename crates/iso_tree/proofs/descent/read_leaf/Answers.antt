@@ -1,0 +1,86 @@
+use Rattle.std.proofs.Common.{◌≡◌, ◌∙◌, sym, refl, ap, subst, ◌+◌, [], ◌∷◌, Some, None, arith}
+use Rattle.iso_model.specs.declared.access.Span.{Span}
+use Rattle.iso_model.specs.Cells.{keys_mark, value_mark}
+use Rattle.iso_model.specs.Stores.{bytes_in, look_access}
+use Rattle.tx_blocks.specs.Tx.{Device, mark_refusal, with_accesses}
+use Rattle.tx_blocks.proofs.Marking.{may_mark, marked_access}
+use Rattle.iso_model.specs.TreeNodes.{cell_of}
+use Rattle.iso_tree.proofs.Facts.{missing, cell_used, node_parts, nothing_is}
+use Rattle.iso_tree.proofs.Looking.{bytes_after, node_of, not_node, leaf_not_node, leaf_plain, leaf_missing, leaf_found, ok_read, later_as}
+use Rattle.iso_tree.proofs.descent.read_leaf.Goals as goal
+
+pub returns-in_default-of-clause-run : goal.returns-in_default-of-clause-run
+returns-in_default-of-clause-run g c =
+    let state = g.T.TxBlocks.state in
+    let a = c.args.area in
+    let access = c.in_default.ensures.read ∙ ap (λ (s : Span). with_accesses (state c.args.tx.now) (look_access (a.start + c.args.block) (s ∷ []) ∷ [])) c.keys_mark.ensures in
+    leaf_not_node a (state c.args.tx.now) (state c.look.new.tx) c.look.new.into (g.met.T.TxBlocks.limits c.look.new.tx).count c.args.block c.in_default.ensures.bytes c.args.key.now c.args.with_value access
+    (not_node a 0 c.look.new.into (c.look.auto.into ∙ c.requires.buffer) (λ e. nothing_is (c.in_default-of.ensures.some.1 e)))
+
+pub returns-then-not-with_value-clause-run : goal.returns-then-not-with_value-clause-run
+returns-then-not-with_value-clause-run g c =
+    let state = g.T.TxBlocks.state in
+    let a = c.args.area in
+    let node = node_of a 0 c.look.new.into c.in-Some.node c.region_of.result (c.look.auto.into ∙ c.requires.buffer) c.in-Some.ensures.value c.region_of.ensures (c.in-Some.ensures.some.0 refl) in
+    let access = c.in_default.ensures.read ∙ ap (λ (s : Span). with_accesses (state c.args.tx.now) (look_access (a.start + c.args.block) (s ∷ []) ∷ [])) c.keys_mark.ensures in
+    leaf_plain a (state c.args.tx.now) (state c.look.new.tx) c.look.new.into (g.met.T.TxBlocks.limits c.look.new.tx).count c.args.block c.in_default.ensures.bytes c.args.key.now c.args.with_value c.if-not-with_value.true access node.passes
+
+pub returns-in_default-cell-clause-run : goal.returns-in_default-cell-clause-run
+returns-in_default-cell-clause-run g c =
+    let state = g.T.TxBlocks.state in
+    let a = c.args.area in
+    let node = node_of a 0 c.look.new.into c.in-Some.node c.region_of.result (c.look.auto.into ∙ c.requires.buffer) c.in-Some.ensures.value c.region_of.ensures (c.in-Some.ensures.some.0 refl) in
+    let access = c.in_default.ensures.read ∙ ap (λ (s : Span). with_accesses (state c.args.tx.now) (look_access (a.start + c.args.block) (s ∷ []) ∷ [])) c.keys_mark.ensures in
+    let none = ap (cell_of c.args.key.now) (sym node.keys_are) ∙ sym c.cell.ensures.value ∙ missing c.cell.result c.in_default-cell.not-Some in
+    leaf_missing a (state c.args.tx.now) (state c.look.new.tx) c.look.new.into (g.met.T.TxBlocks.limits c.look.new.tx).count c.args.block c.in_default.ensures.bytes c.args.key.now c.args.with_value c.if-not-with_value.false none access node.passes
+
+pub mark-requires : goal.mark-requires
+mark-requires g c =
+    let state = g.T.TxBlocks.state in
+    let a = c.args.area in
+    let node = node_of a 0 c.look.new.into c.in-Some.node c.region_of.result (c.look.auto.into ∙ c.requires.buffer) c.in-Some.ensures.value c.region_of.ensures (c.in-Some.ensures.some.0 refl) in
+    let some : cell_of c.args.key.now (bytes_in (keys_mark a.size) c.look.new.into) ≡ Some c.in-Some-cell.cell =
+    ap (cell_of c.args.key.now) (sym node.keys_are) ∙ sym c.cell.ensures.value ∙ c.in-Some-cell.is in
+    let parts = node_parts a.size 0 (bytes_in (keys_mark a.size) c.look.new.into) node.passes in
+    let used = cell_used c.args.key.now (bytes_in (keys_mark a.size) c.look.new.into) c.in-Some-cell.cell some in
+    subst (λ (s : Span). mark_refusal (state c.look.new.tx) s.off s.len ≡ None) (sym c.value_mark.ensures)
+    (may_mark (state c.args.tx.now) (state c.look.new.tx) (look_access (a.start + c.args.block) (c.keys_mark.result ∷ [])) (value_mark a.size c.in-Some-cell.cell)
+    c.in_default.ensures.read c.in_default.ensures.is_open (record { some = omega arith; fits = omega (arith, c.requires.size, used, parts.few, c.requires.area.least_size) }) (omega arith))
+
+pub returns-clause-run : goal.returns-clause-run
+returns-clause-run g c =
+    let state = g.T.TxBlocks.state in
+    let a = c.args.area in
+    let node = node_of a 0 c.look.new.into c.in-Some.node c.region_of.result (c.look.auto.into ∙ c.requires.buffer) c.in-Some.ensures.value c.region_of.ensures (c.in-Some.ensures.some.0 refl) in
+    let some : cell_of c.args.key.now (bytes_in (keys_mark a.size) c.look.new.into) ≡ Some c.in-Some-cell.cell =
+    ap (cell_of c.args.key.now) (sym node.keys_are) ∙ sym c.cell.ensures.value ∙ c.in-Some-cell.is in
+    let parts = node_parts a.size 0 (bytes_in (keys_mark a.size) c.look.new.into) node.passes in
+    let used = cell_used c.args.key.now (bytes_in (keys_mark a.size) c.look.new.into) c.in-Some-cell.cell some in
+    let access : state c.mark.new.tx ≡ with_accesses (state c.args.tx.now) (look_access (a.start + c.args.block) (keys_mark a.size ∷ value_mark a.size c.in-Some-cell.cell ∷ []) ∷ []) =
+    marked_access (state c.args.tx.now) (state c.look.new.tx) (state c.mark.new.tx) _ _ c.in_default.ensures.read c.mark.ensures.marked
+    ∙ (λ i. with_accesses (state c.args.tx.now) (look_access (a.start + c.args.block) (c.keys_mark.ensures i ∷ c.value_mark.ensures i ∷ []) ∷ [])) in
+    leaf_found a (state c.args.tx.now) (state c.mark.new.tx) c.look.new.into (g.met.T.TxBlocks.limits c.mark.new.tx).count c.args.block c.in_default.ensures.bytes c.args.key.now c.args.with_value c.in-Some-cell.cell c.if-not-with_value.false some access node.passes
+
+pub returns-clause-reads : goal.returns-clause-reads
+returns-clause-reads g c =
+    let state = g.T.TxBlocks.state in
+    let device = g.T.TxBlocks.device in
+    ok_read (state c.args.tx.now) (state c.mark.new.tx) _ (device c.args.tx.now) (device c.mark.new.tx) (record { block = c.args.block; cell = c.cell.result; count = c.count.result })
+    (marked_access (state c.args.tx.now) (state c.look.new.tx) (state c.mark.new.tx) _ _ c.in_default.ensures.read c.mark.ensures.marked) refl c.in_default.ensures.is_open
+    (later_as (device c.args.tx.now) (device c.look.new.tx) (device c.mark.new.tx) c.in_default.ensures.later c.mark.ensures.device) (ap (λ (d : Device). d.faults) c.mark.ensures.device ∙ c.in_default.ensures.passed)
+
+pub returns-then-not-with_value-clause-bytes : goal.returns-then-not-with_value-clause-bytes
+returns-then-not-with_value-clause-bytes g c =
+    let state = g.T.TxBlocks.state in
+    bytes_after (state c.args.tx.now) (state c.look.new.tx) _ (c.args.area.start + c.args.block) c.look.new.into c.in_default.ensures.bytes c.in_default.ensures.read refl
+
+pub returns-in_default-cell-clause-bytes : goal.returns-in_default-cell-clause-bytes
+returns-in_default-cell-clause-bytes g c =
+    let state = g.T.TxBlocks.state in
+    bytes_after (state c.args.tx.now) (state c.look.new.tx) _ (c.args.area.start + c.args.block) c.look.new.into c.in_default.ensures.bytes c.in_default.ensures.read refl
+
+pub returns-clause-bytes : goal.returns-clause-bytes
+returns-clause-bytes g c =
+    let state = g.T.TxBlocks.state in
+    bytes_after (state c.args.tx.now) (state c.mark.new.tx) _ (c.args.area.start + c.args.block) c.look.new.into c.in_default.ensures.bytes
+    (marked_access (state c.args.tx.now) (state c.look.new.tx) (state c.mark.new.tx) _ _ c.in_default.ensures.read c.mark.ensures.marked) refl

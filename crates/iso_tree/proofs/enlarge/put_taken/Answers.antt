@@ -1,0 +1,94 @@
+use Rattle.std.proofs.Common.{◌∙◌, sym, ap, subst, ℕ, suc, ◌+◌, ◌*◌, ◌<◌, ◌≤◌, List, length, take, arith}
+use Rattle.iso_model.specs.declared.stores.Region.{Region}
+use Rattle.iso_model.specs.Cells.{cell_count}
+use Rattle.iso_model.specs.FreeMap.{map_mark}
+use Rattle.iso_model.specs.Stores.{bytes_in}
+use Rattle.tx_blocks.proofs.Parts.{behaves_after}
+use Rattle.iso_tree.specs.FirstBlock.{Up}
+use Rattle.iso_tree.specs.Rows.{AreBlocks, AreInside}
+use Rattle.iso_model.specs.TreeCalls.{full_row, need_of}
+use Rattle.iso_tree.proofs.Enlarging.{all_taken, blocks_from, need_taken, room_taken, row_taken, used_same}
+use Rattle.iso_tree.proofs.Joining.{shown_taken, are, taken_is, few_run, taken_refused, taken_run}
+use Rattle.iso_tree.proofs.enlarge.put_taken.Goals as goal
+
+pub returns-then-free-need-clause-run : goal.returns-then-free-need-clause-run
+returns-then-free-need-clause-run g c =
+    few_run c.args.area c.requires.area c.args.path.now c.args.map.now c.full_row-full.result c.need_of-need.result c.free_blocks-free.result c.full_row-full.ensures.value c.need_of-need.ensures
+    c.region_of-region.result.size (ap (λ (r : Region). r.size) c.region_of-region.ensures) c.free_blocks-free.ensures c.args.key.now c.args.value.now (g.T.TxBlocks.state c.args.tx.now) c.if-free-need.true
+
+pub look_nodes-requires-clause-path : goal.look_nodes-requires-clause-path
+look_nodes-requires-clause-path g c =
+    subst (AreInside c.args.area) (sym c.written-rows.ensures) (all_taken (λ (p : ℕ × ℕ). p.0 < c.args.area.blocks) (suc c.full_row-full.result) c.args.path.now c.requires.path)
+
+pub look_nodes-requires-clause-usable : goal.look_nodes-requires-clause-usable
+look_nodes-requires-clause-usable g c =
+    shown_taken c.args.area (g.T.TxBlocks.state c.args.tx.now) (suc c.full_row-full.result) c.written-rows.result.now c.args.path.now c.written-rows.ensures c.requires.usable
+
+pub returns-in-Err-clause-run : goal.returns-in-Err-clause-run
+returns-in-Err-clause-run g c =
+    taken_refused c.args.area c.requires.area c.args.path.now c.args.map.now c.full_row-full.result c.need_of-need.result c.free_blocks-free.result c.full_row-full.ensures.value c.need_of-need.ensures
+    c.region_of-region.result.size (ap (λ (r : Region). r.size) c.region_of-region.ensures) c.free_blocks-free.ensures c.args.key.now c.args.value.now (g.T.TxBlocks.state c.args.tx.now) (omega (arith, c.if-free-need.false))
+    c.written-rows.result.now c.written-rows.ensures (g.T.TxBlocks.state c.look_nodes.new.tx) c.in-Err.e c.in-Err.ensures.refused
+
+pub put_writes-requires-clause-path : goal.put_writes-requires-clause-path
+put_writes-requires-clause-path g c =
+    subst (AreInside c.args.area) (sym c.written-rows.ensures) (all_taken (λ (p : ℕ × ℕ). p.0 < c.args.area.blocks) (suc c.full_row-full.result) c.args.path.now c.requires.path)
+
+pub put_writes-requires-clause-full : goal.put_writes-requires-clause-full
+put_writes-requires-clause-full g c =
+    let n = cell_count c.args.area.size in
+    let e = c.full_row-full.ensures.value in
+    e ∙ sym (row_taken n c.args.path.now) ∙ ap (λ (f : ℕ). full_row n (take (suc f) c.args.path.now)) (sym e) ∙ ap (full_row n) (sym c.written-rows.ensures)
+
+pub put_writes-requires-clause-nodes : goal.put_writes-requires-clause-nodes
+put_writes-requires-clause-nodes g c =
+    subst (λ (p : List (ℕ × ℕ)). (0 + length p) * c.args.area.size ≤ length c.look_nodes.new.nodes) (sym c.written-rows.ensures)
+    (room_taken c.args.area.size (suc c.full_row-full.result) (length c.look_nodes.new.nodes) c.args.path.now c.requires.long (c.look_nodes.auto.nodes ∙ c.requires.nodes))
+
+pub put_writes-requires-clause-rising : goal.put_writes-requires-clause-rising
+put_writes-requires-clause-rising g c =
+    let is = taken_is c.args.area c.requires.area c.args.path.now c.args.map.now c.full_row-full.result c.need_of-need.result c.free_blocks-free.result c.full_row-full.ensures.value c.need_of-need.ensures
+    c.region_of-region.result.size (ap (λ (r : Region). r.size) c.region_of-region.ensures) c.free_blocks-free.ensures (omega (arith, c.if-free-need.false)) c.take_blocks.new.news c.take_blocks.ensures.taken in
+    let all = are c.args.area c.requires.area c.args.path.now c.args.map.now c.full_row-full.result c.need_of-need.result c.free_blocks-free.result c.full_row-full.ensures.value c.need_of-need.ensures
+    c.region_of-region.result.size (ap (λ (r : Region). r.size) c.region_of-region.ensures) c.free_blocks-free.ensures (omega (arith, c.if-free-need.false)) in
+    subst (Up 1) (sym is) all.up
+
+pub put_writes-requires-clause-news : goal.put_writes-requires-clause-news
+put_writes-requires-clause-news g c =
+    let is = taken_is c.args.area c.requires.area c.args.path.now c.args.map.now c.full_row-full.result c.need_of-need.result c.free_blocks-free.result c.full_row-full.ensures.value c.need_of-need.ensures
+    c.region_of-region.result.size (ap (λ (r : Region). r.size) c.region_of-region.ensures) c.free_blocks-free.ensures (omega (arith, c.if-free-need.false)) c.take_blocks.new.news c.take_blocks.ensures.taken in
+    let all = are c.args.area c.requires.area c.args.path.now c.args.map.now c.full_row-full.result c.need_of-need.result c.free_blocks-free.result c.full_row-full.ensures.value c.need_of-need.ensures
+    c.region_of-region.result.size (ap (λ (r : Region). r.size) c.region_of-region.ensures) c.free_blocks-free.ensures (omega (arith, c.if-free-need.false)) in
+    subst (AreBlocks c.args.area) (sym is) (blocks_from c.args.area _ all.below)
+
+pub put_writes-requires-clause-enough : goal.put_writes-requires-clause-enough
+put_writes-requires-clause-enough g c =
+    let n = cell_count c.args.area.size in
+    let e = c.full_row-full.ensures.value in
+    let is = taken_is c.args.area c.requires.area c.args.path.now c.args.map.now c.full_row-full.result c.need_of-need.result c.free_blocks-free.result c.full_row-full.ensures.value c.need_of-need.ensures
+    c.region_of-region.result.size (ap (λ (r : Region). r.size) c.region_of-region.ensures) c.free_blocks-free.ensures (omega (arith, c.if-free-need.false)) c.take_blocks.new.news c.take_blocks.ensures.taken in
+    let all = are c.args.area c.requires.area c.args.path.now c.args.map.now c.full_row-full.result c.need_of-need.result c.free_blocks-free.result c.full_row-full.ensures.value c.need_of-need.ensures
+    c.region_of-region.result.size (ap (λ (r : Region). r.size) c.region_of-region.ensures) c.free_blocks-free.ensures (omega (arith, c.if-free-need.false)) in
+    let rows : need_of n c.written-rows.result.now ≤ need_of n c.args.path.now =
+    subst (λ (p : List (ℕ × ℕ)). need_of n p ≤ need_of n c.args.path.now) (sym (c.written-rows.ensures ∙ ap (λ (f : ℕ). take (suc f) c.args.path.now) e)) (need_taken n c.args.path.now) in
+    omega (arith, rows, ap length is, all.count)
+
+pub returns-clause-run : goal.returns-clause-run
+returns-clause-run g c =
+    let state = g.T.TxBlocks.state in
+    let is = taken_is c.args.area c.requires.area c.args.path.now c.args.map.now c.full_row-full.result c.need_of-need.result c.free_blocks-free.result c.full_row-full.ensures.value c.need_of-need.ensures
+    c.region_of-region.result.size (ap (λ (r : Region). r.size) c.region_of-region.ensures) c.free_blocks-free.ensures (omega (arith, c.if-free-need.false)) c.take_blocks.new.news c.take_blocks.ensures.taken in
+    let all = are c.args.area c.requires.area c.args.path.now c.args.map.now c.full_row-full.result c.need_of-need.result c.free_blocks-free.result c.full_row-full.ensures.value c.need_of-need.ensures
+    c.region_of-region.result.size (ap (λ (r : Region). r.size) c.region_of-region.ensures) c.free_blocks-free.ensures (omega (arith, c.if-free-need.false)) in
+    let inside = subst (AreBlocks c.args.area) (sym is) (blocks_from c.args.area _ all.below) in
+    taken_run c.args.area c.requires.area c.args.path.now c.args.map.now c.full_row-full.result c.need_of-need.result c.free_blocks-free.result c.full_row-full.ensures.value c.need_of-need.ensures
+    c.region_of-region.result.size (ap (λ (r : Region). r.size) c.region_of-region.ensures) c.free_blocks-free.ensures c.args.key.now c.args.value.now (state c.args.tx.now) (omega (arith, c.if-free-need.false))
+    c.written-rows.result.now c.written-rows.ensures (state c.look_nodes.new.tx) (state c.put_writes.new.tx) c.put_writes.result c.look_nodes.new.nodes (take c.need_of-need.result c.take_blocks.new.news) c.value_part-part.result is c.value_part-part.ensures c.in_default.ensures.read
+    (c.put_writes.ensures.run (bytes_in (map_mark c.args.area.blocks) c.args.map.now) (used_same c.args.area c.requires.area c.args.map.now c.take_blocks.new.map (take c.need_of-need.result c.take_blocks.new.news) inside c.take_blocks.ensures.used))
+
+pub returns-clause-behaves : goal.returns-clause-behaves
+returns-clause-behaves g c =
+    let state = g.T.TxBlocks.state in
+    let device = g.T.TxBlocks.device in
+    behaves_after (state c.args.tx.now) (state c.look_nodes.new.tx) (state c.put_writes.new.tx) 66 (device c.args.tx.now) (device c.look_nodes.new.tx) (device c.put_writes.new.tx) c.put_writes.result
+    c.in_default.ensures.reads.reads c.in_default.ensures.reads.later c.in_default.ensures.reads.passed c.put_writes.ensures.behaves

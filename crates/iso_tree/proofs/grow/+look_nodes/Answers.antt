@@ -1,0 +1,103 @@
+use Rattle.std.proofs.Common.{◌≡◌, ◌∙◌, sym, refl, ap, subst, ℕ, suc, ◌+◌, ◌*◌, ◌≤◌, [], ◌∷◌, length, rules, arith}
+use Rattle.iso_model.specs.Stores.{look_access}
+use Rattle.tx_blocks.specs.Tx.{Tx}
+use Rattle.tx_blocks.proofs.Refusals.{read_none, read_more}
+use Rattle.iso_tree.proofs.Descending.{reads_after}
+use Rattle.iso_tree.proofs.Rereading.{map_ok, map_err, first_refused, rest_refused, rest_read, shown_after, here_after, before_after, path_room, usable_more}
+use Rattle.iso_tree.proofs.grow.+look_nodes.Goals as goal
+
+pub returns-in-Err-clause-refused : goal.returns-in-Err-clause-refused
+returns-in-Err-clause-refused g t c = λ f.
+    first_refused c.args.area c.in-Some.block c.in-Some.count c.in-Some.rest.now c.args.path.now c.in-Some.ensures.some f (g.T.TxBlocks.state c.args.tx.now) (g.T.TxBlocks.state c.look_whole.new.tx)
+    (g.T.TxBlocks.device c.args.tx.now) (g.T.TxBlocks.device c.look_whole.new.tx) c.in-Err.e c.in-Err.ensures.kept c.in-Err.ensures.cause
+
+pub lay-requires : goal.lay-requires
+lay-requires g t c =
+    omega (arith, (path_room c.args.area.size c.args.i (length c.args.nodes.now) c.in-Some.block c.in-Some.count c.in-Some.rest.now c.args.path.now c.in-Some.ensures.some c.requires.nodes).0, c.look_whole.auto.into, c.requires.into)
+
+pub overflow_add-i : goal.overflow_add-i
+overflow_add-i g t c =
+    let least = c.requires.area.least_size in
+    let room = (path_room c.args.area.size c.args.i (length c.args.nodes.now) c.in-Some.block c.in-Some.count c.in-Some.rest.now c.args.path.now c.in-Some.ensures.some c.requires.nodes).0 in
+    let le : c.args.i * 1 ≤ c.args.i * c.args.area.size = Rattle.std.proofs.Math.Nat.mul-le-mul_left c.args.i (omega arith) in
+    omega (arith, c.requires.short)
+
+pub look_nodes-requires : goal.look_nodes-requires
+look_nodes-requires g t c κs within =
+    let state = g.T.TxBlocks.state in
+    let read = c.in_default-look_whole.ensures.read in
+    let shorter : length c.args.path.now ≡ suc (length c.in-Some.rest.now) = ap length c.in-Some.ensures.some in
+    let room = (path_room c.args.area.size c.args.i (length c.args.nodes.now) c.in-Some.block c.in-Some.count c.in-Some.rest.now c.args.path.now c.in-Some.ensures.some c.requires.nodes).1 in
+    let inside = subst (Rattle.iso_tree.specs.Rows.AreInside c.args.area) c.in-Some.ensures.some c.requires.path in (
+      omega (arith, shorter, c.decreases),
+      (
+        search rules,
+        (
+          c.requires.area,
+          (
+            c.requires.block_size,
+            (
+              ap (λ (w : Tx). w.size) read ∙ c.requires.size,
+              (
+                omega (arith, c.requires.fits, ap (λ (w : Tx). w.blocks) read),
+                (
+                  ap (λ (w : Tx). w.is_open) read ∙ c.requires.is_open,
+                  (
+                    inside.1,
+                    (
+                      shown_after c.args.area c.in-Some.block c.in-Some.count c.in-Some.rest.now c.args.path.now (state c.args.tx.now) (state c.look_whole.new.tx) (c.args.area.start + c.in-Some.block) c.in-Some.ensures.some read c.requires.usable,
+                      (
+                        subst (λ (n : ℕ). (c.args.i + 1 + length c.in-Some.rest.now) * c.args.area.size ≤ n) (sym c.lay.auto.into) room,
+                        (
+                          omega (arith, c.requires.short, c.lay.auto.into),
+                          c.look_whole.auto.into ∙ c.requires.into,
+                        ),
+                      ),
+                    ),
+                  ),
+                ),
+              ),
+            ),
+          ),
+        ),
+      ),
+    )
+
+pub returns-clause-read : goal.returns-clause-read
+returns-clause-read g t c =
+    let state = g.T.TxBlocks.state in
+    let a = c.args.area in
+    let room = (path_room a.size c.args.i (length c.args.nodes.now) c.in-Some.block c.in-Some.count c.in-Some.rest.now c.args.path.now c.in-Some.ensures.some c.requires.nodes).0 in
+    let here = here_after a.size c.args.i c.look_whole.new.into c.args.nodes.now c.lay.new.into c.look_nodes.new.nodes (c.look_whole.auto.into ∙ c.requires.into) room c.lay.ensures c.look_nodes.ensures.kept in
+    map_ok c.look_nodes.result (λ read. λ f.
+    rest_read a c.in-Some.block c.in-Some.count c.in-Some.rest.now c.args.path.now c.in-Some.ensures.some f c.look_whole.new.into (state c.args.tx.now) (state c.look_whole.new.tx) c.in_default-look_whole.ensures.bytes
+    (g.met.T.TxBlocks.limits c.look_whole.new.tx).count c.in_default-look_whole.ensures.read (state c.look_nodes.new.tx) c.look_nodes.new.nodes c.args.i here (read (λ nodes. f ((c.in-Some.block, Rattle.iso_model.specs.TreeNodes.used_cells a.size c.look_whole.new.into) ∷ nodes)))) c.look_nodes.ensures.read
+
+pub returns-clause-refused : goal.returns-clause-refused
+returns-clause-refused g t c =
+    let state = g.T.TxBlocks.state in
+    let a = c.args.area in
+    map_err c.look_nodes.result (λ e run. λ f.
+    rest_refused a c.in-Some.block c.in-Some.count c.in-Some.rest.now c.args.path.now c.in-Some.ensures.some f c.look_whole.new.into (state c.args.tx.now) (state c.look_whole.new.tx) c.in_default-look_whole.ensures.bytes
+    (g.met.T.TxBlocks.limits c.look_whole.new.tx).count c.in_default-look_whole.ensures.read (state c.look_nodes.new.tx) e (run (λ nodes. f ((c.in-Some.block, Rattle.iso_model.specs.TreeNodes.used_cells a.size c.look_whole.new.into) ∷ nodes)))) c.look_nodes.ensures.refused
+
+pub returns-clause-usable : goal.returns-clause-usable
+returns-clause-usable g t c =
+    let a = c.args.area in
+    let room = (path_room a.size c.args.i (length c.args.nodes.now) c.in-Some.block c.in-Some.count c.in-Some.rest.now c.args.path.now c.in-Some.ensures.some c.requires.nodes).0 in
+    let here = here_after a.size c.args.i c.look_whole.new.into c.args.nodes.now c.lay.new.into c.look_nodes.new.nodes (c.look_whole.auto.into ∙ c.requires.into) room c.lay.ensures c.look_nodes.ensures.kept in
+    map_ok c.look_nodes.result (λ others. usable_more a.size c.args.i c.in-Some.block c.in-Some.count c.in-Some.rest.now c.args.path.now c.look_nodes.new.nodes c.look_whole.new.into c.in-Some.ensures.some here (c.is_usable.ensures.0 c.if-not-is_usable.false) others) c.look_nodes.ensures.usable
+
+pub returns-clause-kept : goal.returns-clause-kept
+returns-clause-kept g t c =
+    let a = c.args.area in
+    let room = (path_room a.size c.args.i (length c.args.nodes.now) c.in-Some.block c.in-Some.count c.in-Some.rest.now c.args.path.now c.in-Some.ensures.some c.requires.nodes).0 in
+    before_after a.size c.args.i c.look_whole.new.into c.args.nodes.now c.lay.new.into c.look_nodes.new.nodes room c.lay.ensures c.look_nodes.ensures.kept
+
+pub returns-clause-reads : goal.returns-clause-reads
+returns-clause-reads g t c =
+    let state = g.T.TxBlocks.state in
+    let device = g.T.TxBlocks.device in
+    reads_after (state c.args.tx.now) (state c.look_whole.new.tx) (state c.look_nodes.new.tx) (device c.args.tx.now) (device c.look_whole.new.tx) (device c.look_nodes.new.tx) c.look_nodes.result
+    (read_more (state c.args.tx.now) (state c.args.tx.now) (state c.look_whole.new.tx) (look_access (c.args.area.start + c.in-Some.block) []) (read_none (state c.args.tx.now)) c.in_default-look_whole.ensures.read refl)
+    c.in_default-look_whole.ensures.later c.in_default-look_whole.ensures.passed c.look_nodes.ensures.reads

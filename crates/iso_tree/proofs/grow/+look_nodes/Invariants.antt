@@ -1,0 +1,5 @@
+use Rattle.std.proofs.Common.{length}
+use Rattle.iso_tree.proofs.grow.+look_nodes.Given as goal
+
+abbrev pub decreases-look_nodes : goal.decreases-look_nodes
+decreases-look_nodes g l = length l.path.now

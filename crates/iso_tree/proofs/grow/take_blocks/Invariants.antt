@@ -1,0 +1,13 @@
+use Rattle.std.proofs.Common.{◌≡◌, ◌≤◌, ◌++◌, take, length}
+use Rattle.iso_model.specs.TreeCalls.{with_used}
+use Rattle.iso_tree.proofs.TakingLoop.{free_from}
+use Rattle.iso_tree.proofs.grow.take_blocks.Given as goal
+
+-- what was taken and what is free behind it
+abbrev pub invariant-loop-i : goal.invariant-loop-i
+invariant-loop-i l = record {
+  used : l.map ≡ with_used l.fn.map (take l.i l.news);
+  list : take l.i l.news ++ free_from l.map l.region.size l.first ≡ free_from l.fn.map l.region.size 1;
+  inside : l.first ≤ l.region.size;
+  long : length l.news ≡ length l.fn.news;
+}

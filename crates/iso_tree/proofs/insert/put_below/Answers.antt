@@ -1,0 +1,80 @@
+use Rattle.std.proofs.Common.{◌≡◌, ◌∙◌, sym, subst, ℕ, ◌≤◌, List, take, arith}
+use Rattle.iso_model.specs.Cells.{cell_count, keys_end}
+use Rattle.tx_blocks.specs.Runs.{HasRun}
+use Rattle.tx_blocks.proofs.Parts.{behaves_after}
+use Rattle.iso_tree.specs.Rows.{AreShownUsable}
+use Rattle.iso_model.specs.TreeCalls.{need_of, with_map}
+use Rattle.iso_tree.proofs.Facts.{cell_used, missing, node_parts}
+use Rattle.iso_tree.proofs.Inserting.{put_refused, put_found, put_room, put_full, leaf_usable, full_needs, behaves_more}
+use Rattle.iso_tree.proofs.insert.put_below.Goals as goal
+
+pub returns-in-Err-clause-run : goal.returns-in-Err-clause-run
+returns-in-Err-clause-run g c =
+    let state = g.T.TxBlocks.state in
+    put_refused c.args.area c.args.key.now c.args.value.now c.args.root c.args.level c.if-root-eq0.false (state c.args.tx.now) (state c.descend.new.tx) c.descend.new.path c.descend.new.buffer c.in-Err.e c.in-Err.ensures.run
+
+pub put_value-requires-clause-cell : goal.put_value-requires-clause-cell
+put_value-requires-clause-cell g c =
+    let keys = take (keys_end c.args.area.size) c.descend.new.buffer in
+    let parts = node_parts c.args.area.size 0 keys c.in-Ok.ensures.leaf.node in
+    let used = cell_used c.args.key.now keys c.in-Some.cell (sym c.in-Ok.ensures.leaf.cell ∙ c.in-Some.is) in
+    omega (arith, used, parts.few)
+
+pub returns-in-Some-clause-run : goal.returns-in-Some-clause-run
+returns-in-Some-clause-run g c =
+    let state = g.T.TxBlocks.state in
+    put_found c.args.area c.args.key.now c.args.value.now c.args.root c.args.level c.if-root-eq0.false (state c.args.tx.now) (state c.descend.new.tx) c.descend.new.path c.descend.new.buffer c.in-Ok.leaf c.in-Ok.ensures.leaf c.in-Ok.ensures.run
+    c.in-Some.cell (state c.put_value.new.tx) c.put_value.result c.in-Some.is c.put_value.ensures.run
+
+pub returns-in-Some-clause-behaves : goal.returns-in-Some-clause-behaves
+returns-in-Some-clause-behaves g c =
+    let state = g.T.TxBlocks.state in
+    let device = g.T.TxBlocks.device in
+    behaves_after (state c.args.tx.now) (state c.descend.new.tx) (state c.put_value.new.tx) 66 (device c.args.tx.now) (device c.descend.new.tx) (device c.put_value.new.tx) c.put_value.result
+    c.in-Ok.ensures.reads.reads c.in-Ok.ensures.reads.later c.in-Ok.ensures.reads.passed
+    (behaves_more (state c.descend.new.tx) (state c.put_value.new.tx) 1 66 (device c.descend.new.tx) (device c.put_value.new.tx) c.put_value.result (omega arith) c.put_value.ensures.behaves)
+
+pub returns-then-leaf-cell_count-clause-run : goal.returns-then-leaf-cell_count-clause-run
+returns-then-leaf-cell_count-clause-run g c =
+    let state = g.T.TxBlocks.state in
+    put_room c.args.area c.args.key.now c.args.value.now c.args.root c.args.level c.if-root-eq0.false (state c.args.tx.now) (state c.descend.new.tx) c.descend.new.path c.descend.new.buffer c.in-Ok.leaf c.in-Ok.ensures.leaf c.in-Ok.ensures.run
+    (state c.put_cell.new.tx) c.put_cell.result (missing c.in-Ok.leaf.cell c.in_default.not-Some) (omega (arith, c.if-leaf-cell_count.true, c.cell_count.ensures)) c.put_cell.ensures.run
+
+pub returns-then-leaf-cell_count-clause-behaves : goal.returns-then-leaf-cell_count-clause-behaves
+returns-then-leaf-cell_count-clause-behaves g c =
+    let state = g.T.TxBlocks.state in
+    let device = g.T.TxBlocks.device in
+    behaves_after (state c.args.tx.now) (state c.descend.new.tx) (state c.put_cell.new.tx) 66 (device c.args.tx.now) (device c.descend.new.tx) (device c.put_cell.new.tx) c.put_cell.result
+    c.in-Ok.ensures.reads.reads c.in-Ok.ensures.reads.later c.in-Ok.ensures.reads.passed
+    (behaves_more (state c.descend.new.tx) (state c.put_cell.new.tx) 1 66 (device c.descend.new.tx) (device c.put_cell.new.tx) c.put_cell.result (omega arith) c.put_cell.ensures.behaves)
+
+pub put_new-requires-2-clause-usable : goal.put_new-requires-2-clause-usable
+put_new-requires-2-clause-usable g c =
+    let state = g.T.TxBlocks.state in
+    let least = c.requires.area.least_size in
+    let one : 1 ≤ c.in-Ok.leaf.count = omega (arith, c.if-leaf-cell_count.false, c.cell_count.ensures) in
+    subst (AreShownUsable c.args.area (state c.descend.new.tx)) (sym (c.nodes.ensures ∙ c.push.ensures))
+    (leaf_usable c.args.area c.args.key.now c.args.value.now c.args.root c.args.level c.if-root-eq0.false (state c.args.tx.now) (state c.descend.new.tx) c.descend.new.path c.descend.new.buffer c.in-Ok.leaf c.in-Ok.ensures.leaf c.in-Ok.ensures.run
+    c.in-Ok.ensures.reads.reads one)
+
+pub put_new-requires-2-clause-some : goal.put_new-requires-2-clause-some
+put_new-requires-2-clause-some g c =
+    let keys = take (keys_end c.args.area.size) c.descend.new.buffer in
+    let n = cell_count c.args.area.size in
+    let few = (node_parts c.args.area.size 0 keys c.in-Ok.ensures.leaf.node).few in
+    let full : c.in-Ok.leaf.count ≡ n = omega (arith, c.if-leaf-cell_count.false, c.cell_count.ensures, c.in-Ok.ensures.leaf.count) in
+    subst (λ (p : List (ℕ × ℕ)). 1 ≤ need_of n p) (sym (c.nodes.ensures ∙ c.push.ensures)) (full_needs n c.in-Ok.leaf.block c.in-Ok.leaf.count c.descend.new.path full)
+
+pub returns-clause-run : goal.returns-clause-run
+returns-clause-run g c =
+    let state = g.T.TxBlocks.state in
+    put_full c.args.area c.args.key.now c.args.value.now c.args.root c.args.level c.if-root-eq0.false (state c.args.tx.now) (state c.descend.new.tx) c.descend.new.path c.descend.new.buffer c.in-Ok.leaf c.in-Ok.ensures.leaf c.in-Ok.ensures.run
+    (state c.put_new-2.new.tx) c.put_new-2.result (missing c.in-Ok.leaf.cell c.in_default.not-Some) (omega (arith, c.if-leaf-cell_count.false, c.cell_count.ensures))
+    (subst (λ (p : List (ℕ × ℕ)). HasRun (with_map c.args.area c.args.key.now c.args.value.now p) (state c.descend.new.tx) (state c.put_new-2.new.tx) c.put_new-2.result) (c.nodes.ensures ∙ c.push.ensures) c.put_new-2.ensures.run)
+
+pub returns-clause-behaves : goal.returns-clause-behaves
+returns-clause-behaves g c =
+    let state = g.T.TxBlocks.state in
+    let device = g.T.TxBlocks.device in
+    behaves_after (state c.args.tx.now) (state c.descend.new.tx) (state c.put_new-2.new.tx) 66 (device c.args.tx.now) (device c.descend.new.tx) (device c.put_new-2.new.tx) c.put_new-2.result
+    c.in-Ok.ensures.reads.reads c.in-Ok.ensures.reads.later c.in-Ok.ensures.reads.passed c.put_new-2.ensures.behaves

@@ -1,0 +1,18 @@
+use Rattle.std.proofs.Common.{◌≡◌, ◌∙◌, ◌-◌, sym, ap, ℕ, List, arith}
+use Rattle.iso_model.specs.Cells.{key_at}
+use Rattle.iso_model.specs.TreeNodes.{before, below_from}
+use Rattle.iso_tree.proofs.Loops.{below_ends, below_goes_on}
+use Rattle.iso_tree.proofs.keys.below.Goals as goal
+
+pub returns-then-not-is_before-clause-value : goal.returns-then-not-is_before-clause-value
+returns-then-not-is_before-clause-value c =
+    let e : before (key_at c.args.keys.now c.loop-cell.cell) c.args.key.now ≡ c.is_before.result = ap (λ (x : List ℕ). before x c.args.key.now) (sym c.key_of.ensures) ∙ sym c.is_before.ensures in
+    below_ends c.args.key.now c.args.keys.now c.loop-cell.cell c.count_of-count.result (c.loop-cell.cell - c.args.first) _ c.loop-cell-test.true c.loop-cell.invariant (e ∙ c.if-not-is_before.true)
+    ∙ ap (λ (n : ℕ). below_from c.args.key.now c.args.keys.now c.args.first (n - c.args.first)) c.count_of-count.ensures
+
+pub loop-cell-preserved : goal.loop-cell-preserved
+loop-cell-preserved c =
+    let e : before (key_at c.args.keys.now c.loop-cell.cell) c.args.key.now ≡ c.is_before.result = ap (λ (x : List ℕ). before x c.args.key.now) (sym c.key_of.ensures) ∙ sym c.is_before.ensures in
+    let on = below_goes_on c.args.key.now c.args.keys.now c.loop-cell.cell c.count_of-count.result (c.loop-cell.cell - c.args.first) _ c.loop-cell-test.true c.loop-cell.invariant (e ∙ c.if-not-is_before.false) in
+    let past = c.loop-cell.auto.cell in
+    omega arith

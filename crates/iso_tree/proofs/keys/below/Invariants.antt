@@ -1,0 +1,7 @@
+use Rattle.std.proofs.Common.{◌≡◌, ◌+◌, ◌-◌}
+use Rattle.iso_model.specs.TreeNodes.{below_from}
+use Rattle.iso_tree.proofs.keys.below.Given as goal
+
+-- those passed and those that are left
+abbrev pub invariant-loop-cell : goal.invariant-loop-cell
+invariant-loop-cell l = (l.cell - l.first) + below_from l.key l.keys l.cell (l.count - l.cell) ≡ below_from l.key l.keys l.first (l.count - l.first)

@@ -1,0 +1,14 @@
+use Rattle.std.proofs.Common.{◌≡◌, ap, ◌≤◌, ℕ, true, arith, List, get_or}
+use Rattle.std.proofs.lemmas.Bool.{and_parts, leb-true}
+use Rattle.iso_model.specs.Cells.{is_part, key_mark, cell_count}
+use Rattle.iso_model.specs.Stores.{bytes_in}
+use Rattle.iso_alloc.proofs.Loops.{all_at}
+use Rattle.iso_tree.proofs.keys.key_of.Goals as goal
+
+pub text_of-requires : goal.text_of-requires
+text_of-requires c =
+    let part : is_part 28 (bytes_in (key_mark c.args.cell) c.args.keys.now) ≡ true =
+    all_at (λ i. is_part 28 (bytes_in (key_mark i) c.args.keys.now)) 0 (cell_count c.args.size) c.args.cell c.requires.parts (omega arith) (omega (arith, c.requires.cell)) in
+    let short : get_or (bytes_in (key_mark c.args.cell) c.args.keys.now) 0 0 ≤ 28 = leb-true _ _ (and_parts _ _ part).0 in
+    let same : get_or c.key_part.result.now 0 0 ≡ get_or (bytes_in (key_mark c.args.cell) c.args.keys.now) 0 0 = ap (λ (x : List ℕ). get_or x 0 0) c.key_part.ensures.part in
+    omega (arith, c.key_part.ensures.length)

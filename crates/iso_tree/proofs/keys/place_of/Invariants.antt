@@ -1,0 +1,7 @@
+use Rattle.std.proofs.Common.{◌≡◌, ◌-◌}
+use Rattle.iso_model.specs.TreeNodes.{place_from, place_of}
+use Rattle.iso_tree.proofs.keys.place_of.Given as goal
+
+-- the cells that are left decide
+abbrev pub invariant-loop-cell : goal.invariant-loop-cell
+invariant-loop-cell l = place_from l.key l.keys (l.cell - 1) l.cell (l.count - l.cell) ≡ place_of l.key l.keys

@@ -1,0 +1,27 @@
+use Rattle.std.proofs.Common.{◌≡◌, ◌∙◌, ap, ℕ, ◌+◌, ◌-◌, ◌*◌, List, length, take, arith}
+use Rattle.iso_model.specs.Cells.{keys_end, are_key_parts}
+use Rattle.iso_model.specs.TreeNodes.{Cell, count_of, node_bytes}
+use Rattle.iso_tree.specs.Rows.{row_from, upto_from}
+use Rattle.iso_tree.proofs.Facts.{node_parts}
+use Rattle.iso_tree.proofs.Filling.{leaf_row_is}
+use Rattle.iso_tree.proofs.leaf.fill_leaf.Goals as goal
+
+pub upto-place-requires-clause-parts : goal.upto-place-requires-clause-parts
+upto-place-requires-clause-parts c =
+    let old = c.args.old.now in
+    let keys_is : c.piece-keys.result.now ≡ take (keys_end (length old)) old = c.piece-keys.ensures.value ∙ ap (λ (n : ℕ). take (64 + 31 * n) old) c.cell_count.ensures in
+    ap (are_key_parts (length old)) keys_is ∙ (node_parts (length old) 0 (take (keys_end (length old)) old) c.requires.node).parts
+
+pub fill_row-requires-clause-parts : goal.fill_row-requires-clause-parts
+fill_row-requires-clause-parts c = (node_parts (length c.args.old.now) 0 (take (keys_end (length c.args.old.now)) c.args.old.now) c.requires.node).parts
+
+pub returns : goal.returns
+returns c =
+    let old = c.args.old.now in
+    let size = length old in
+    let K = take (keys_end size) old in
+    let new : Cell = (c.args.key.now, c.args.part.now) in
+    let keys_is : c.piece-keys.result.now ≡ K = c.piece-keys.ensures.value ∙ ap (λ (n : ℕ). take (64 + 31 * n) old) c.cell_count.ensures in
+    let z : count_of K - 0 ≡ count_of K = omega arith in
+    let place : c.upto-place.result ≡ upto_from c.args.key.now K 0 (count_of K) = c.upto-place.ensures.value ∙ ap (λ (k : List ℕ). upto_from c.args.key.now k 0 (count_of k - 0)) keys_is ∙ ap (upto_from c.args.key.now K 0) z in
+    c.fill_row.ensures ∙ (λ i. node_bytes size 0 (row_from size old (place i) new 0 (c.requires.count i + 1))) ∙ ap (node_bytes size 0) (leaf_row_is size old c.args.key.now new)

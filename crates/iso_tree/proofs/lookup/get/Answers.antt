@@ -1,0 +1,15 @@
+use Rattle.std.proofs.Common.{◌∙◌, sym, subst, ℕ}
+use Rattle.iso_model.specs.TreeCalls.{get_program}
+use Rattle.tx_blocks.specs.Runs.{area_of, HasRun}
+use Rattle.iso_tree.proofs.Getting.{bad_key, local_any}
+use Rattle.iso_tree.proofs.lookup.get.Goals as goal
+
+pub returns-then-not-is_key-clause-ended : goal.returns-then-not-is_key-clause-ended
+returns-then-not-is_key-clause-ended g c =
+    bad_key (area_of (g.T.TxBlocks.state c.args.tx.now) c.args.region) c.args.key.now (g.T.TxBlocks.state c.args.tx.now) (sym c.is_key.ensures ∙ c.if-not-is_key.true)
+
+pub returns-clause-local : goal.returns-clause-local
+returns-clause-local g c =
+    let state = g.T.TxBlocks.state in
+    local_any (area_of (state c.args.tx.now) c.args.region) c.args.key.now (state c.args.tx.now) (state c.get_with.new.tx) c.get_with.result (sym c.is_key.ensures ∙ c.if-not-is_key.false)
+    (subst (λ (n : ℕ). HasRun (get_program (record { size = n; start = c.args.region.start; blocks = c.args.region.size }) c.args.key.now) (state c.args.tx.now) (state c.get_with.new.tx) c.get_with.result) c.block_size.ensures c.get_with.ensures.run)

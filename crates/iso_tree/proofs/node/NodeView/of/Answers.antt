@@ -1,0 +1,10 @@
+use Rattle.std.proofs.Common.{◌≡◌, ◌∙◌, sym, ap, List, ℕ, true}
+use Rattle.iso_model.specs.TreeNodes.{is_node}
+use Rattle.iso_tree.proofs.Facts.{node_parts}
+use Rattle.iso_tree.proofs.node.NodeView.of.Goals as goal
+
+pub invariant_of-result : goal.invariant_of-result
+invariant_of-result c =
+    let is = ap (is_node (Rattle.std.proofs.Common.length c.args.block.now) c.args.level) (sym c.keys_of.ensures.value) ∙ sym c.is_node.ensures ∙ c.if-not-is_node.false in
+    let parts = node_parts _ _ _ is in
+    (c.requires.least, (c.requires.most, (parts.parts, (parts.few, tt))))

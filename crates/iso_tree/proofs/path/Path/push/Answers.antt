@@ -1,0 +1,6 @@
+use Rattle.std.proofs.Common.{length, ap, arith}
+use Rattle.std.proofs.lemmas.List.{length-drop}
+use Rattle.iso_tree.proofs.path.Path.push.Goals as goal
+
+pub overflow_sub-self : goal.overflow_sub-self
+overflow_sub-self c = omega (arith, length-drop c.self.inside.first c.self.inside.passed, ap length c.self.view_is, c.requires, c.self.inside.inside, c.self.inside.whole)

@@ -1,0 +1,16 @@
+use Rattle.std.proofs.Common.{◌∙◌, sym, refl, subst, ℕ}
+use Rattle.tx_blocks.specs.Runs.{area_of, HasRun}
+use Rattle.iso_model.specs.TreeCalls.{del_program}
+use Rattle.iso_tree.proofs.Removing.{del_bad_key, del_call}
+use Rattle.iso_tree.proofs.remove.del.Goals as goal
+
+pub returns-then-not-is_key-clause-ended : goal.returns-then-not-is_key-clause-ended
+returns-then-not-is_key-clause-ended g c =
+    del_bad_key (area_of (g.T.TxBlocks.state c.args.tx.now) c.args.region) c.args.key.now (g.T.TxBlocks.state c.args.tx.now) (sym c.is_key.ensures ∙ c.if-not-is_key.true)
+
+pub returns-clause-local : goal.returns-clause-local
+returns-clause-local g c =
+    let state = g.T.TxBlocks.state in
+    del_call (area_of (state c.args.tx.now) c.args.region) c.args.key.now (state c.args.tx.now) (state c.remove_with.new.tx) c.remove_with.result c.requires.area (sym c.is_key.ensures ∙ c.if-not-is_key.false)
+    (g.met.T.TxBlocks.limits c.args.tx.now) refl c.requires.fits
+    (subst (λ (n : ℕ). HasRun (del_program (record { size = n; start = c.args.region.start; blocks = c.args.region.size }) c.args.key.now) (state c.args.tx.now) (state c.remove_with.new.tx) c.remove_with.result) c.block_size.ensures c.remove_with.ensures.run)

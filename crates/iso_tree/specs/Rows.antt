@@ -1,0 +1,61 @@
+-- The cells of a node that gets one more.
+use Rattle.std.specs.Prelude.{◌≡◌, ℕ, zero, suc, ◌+◌, ◌-◌, ◌*◌, ◌<◌, ◌≤◌, ◌==◌, true, cond, List, [], ◌∷◌, nat_lt, take, map}
+use Rattle.std.specs.List.{range_with_len, AllByRecursion}
+use Rattle.iso_model.specs.declared.stores.Area.{Area}
+use Rattle.std.specs.Option.{ForSome}
+use Rattle.iso_model.specs.Array.{Array}
+use Rattle.iso_model.specs.Effect.{own}
+use Rattle.iso_model.specs.Premises.{block_at}
+use Rattle.tx_blocks.specs.Tx.{Tx}
+use Rattle.iso_model.specs.Cells.{cell_count, keys_end, value_mark, key_at, are_key_parts}
+use Rattle.iso_model.specs.Stores.{bytes_in}
+use Rattle.iso_model.specs.TreeNodes.{before, Cell, count_of, used_cells}
+
+-- how many cells in a row from cell i on, at most n of them, have a key that is not above this one
+abbrev pub upto_from : (key keys : List ℕ) → (i n : ℕ) → ℕ
+upto_from key keys i zero = 0
+upto_from key keys i (suc n) = cond (before key (key_at keys i)) 0 (suc (upto_from key keys (i + 1) n))
+
+-- key and value part of a cell, once a new cell stands at a place
+abbrev pub key_in_row : (keys : List ℕ) → (place : ℕ) → (key : List ℕ) → (cell : ℕ) → List ℕ
+key_in_row keys place key cell = cond (nat_lt cell place) (key_at keys cell) (cond (cell == place) key (key_at keys (cell - 1)))
+
+abbrev pub part_in_row : (size : ℕ) → (node : List ℕ) → (place : ℕ) → (part : List ℕ) → (cell : ℕ) → List ℕ
+part_in_row size node place part cell =
+    cond (nat_lt cell place) (bytes_in (value_mark size cell) node) (cond (cell == place) part (bytes_in (value_mark size (cell - 1)) node))
+
+-- so many cells from one on
+abbrev pub row_from : (size : ℕ) → (node : List ℕ) → (place : ℕ) → Cell → (from n : ℕ) → List Cell
+row_from size node place new from n = map (λ i. (key_in_row (take (keys_end size) node) place new.0 i, part_in_row size node place new.1 i)) (range_with_len from n)
+
+-- the nodes of a path whose blocks stand one after the other, from block i on
+abbrev pub nodes_from : (size : ℕ) → (nodes : List ℕ) → (i : ℕ) → List (ℕ × ℕ) → List (ℕ × List Cell)
+nodes_from size nodes i [] = []
+nodes_from size nodes i (p ∷ path) = (p.0, used_cells size (bytes_in (record { off = i * size; len = size }) nodes)) ∷ nodes_from size nodes (i + 1) path
+
+-- a block whose key parts and count are those of a node with so many cells
+pub record IsUsable (size : ℕ) (block : List ℕ) (count : ℕ) : Type 0 where
+  pub parts : are_key_parts size (take (keys_end size) block) ≡ true
+  pub count_is : count_of (take (keys_end size) block) ≡ count
+  pub some : 1 ≤ count
+  pub few : count ≤ cell_count size
+
+-- the same of each block of a path, from block i on
+abbrev pub AreUsable : (size : ℕ) → (nodes : List ℕ) → (i : ℕ) → List (ℕ × ℕ) → Type 0
+AreUsable size nodes i [] = Unit {0}
+AreUsable size nodes i (p ∷ path) = IsUsable size (bytes_in (record { off = i * size; len = size }) nodes) p.1 × AreUsable size nodes (i + 1) path
+
+-- blocks of a region
+abbrev pub AreInside : Area → List (ℕ × ℕ) → Type 0
+AreInside a path = AllByRecursion (λ (p : ℕ × ℕ). p.0 < a.blocks) path
+
+abbrev pub AreBlocks : Area → List ℕ → Type 0
+AreBlocks a blocks = AllByRecursion (λ (b : ℕ). b < a.blocks) blocks
+
+-- the same of each block of a path, where it stands in an array
+abbrev pub ArePathUsable : Area → Array → List (ℕ × ℕ) → Type 0
+ArePathUsable a A path = AllByRecursion (λ (p : ℕ × ℕ). IsUsable a.size (block_at A (a.start + p.0)) p.1) path
+
+-- the same of the array that a transaction shows, where it is told
+abbrev pub AreShownUsable : Area → Tx → List (ℕ × ℕ) → Type 0
+AreShownUsable a t path = ForSome t.base (λ A. ArePathUsable a (own A t.accesses) path)

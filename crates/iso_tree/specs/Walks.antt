@@ -1,0 +1,97 @@
+-- What the parts of a call leave, and how a descent ends.
+use Rattle.std.specs.Prelude.{◌≡◌, ℕ, ◌+◌, ◌<◌, ◌≤◌, Bool, ◌&&◌, cond, true, List, [], Result, Ok, Err, IfErr, OnOk, take}
+use Rattle.std.specs.Option.{ForSome}
+use Rattle.iso_model.specs.declared.stores.Area.{Area}
+use Rattle.iso_model.specs.declared.stores.StoreError.{StoreError}
+use Rattle.iso_model.specs.declared.stores.StoreError.TheVariants as store
+use Rattle.iso_model.specs.Effect.{own}
+use Rattle.iso_model.specs.Premises.{block_at}
+use Rattle.iso_model.specs.Cells.{keys_end, keys_mark}
+use Rattle.iso_model.specs.Stores.{Program, Done, Look, further_bytes}
+use Rattle.tx_blocks.specs.Tx.{Tx, Device, IsLater}
+use Rattle.tx_blocks.specs.Runs.{Ran, IsCut, HasRead, IsStoreCause}
+use Rattle.iso_tree.specs.declared.descent.Leaf.{Leaf}
+use Rattle.iso_model.specs.TreeNodes.{cell_of, count_of, is_node, is_child, child_of}
+use Rattle.iso_model.specs.TreeCalls.{AtLeaf, AtBroken, descend, inner_further, leaf_further, with_head}
+
+-- a refusal of a walk: a block is not well formed, or the transaction refuses an access
+abbrev pub IsWalkError : StoreError → Type 0
+IsWalkError (store.Broken block) = Unit {0}
+IsWalkError (store.Tx e) = Unit {0}
+IsWalkError store.BadKey = ⊥
+IsWalkError store.BadValue = ⊥
+IsWalkError (store.NoBlocks need free) = ⊥
+IsWalkError store.Memory = ⊥
+
+-- What a part of a call that reads alone leaves: further reads; why it is refused, which is as walks are; that the disk's
+-- faults do not fall, and stand after Ok where they stood.
+pub record OnlyReads {R : Type 0} (t u : Tx) (before now : Device) (result : Result R StoreError) : Type 0 where
+  pub reads : HasRead t u
+  pub cause : IfErr result (IsStoreCause u 1 before now)
+  pub known : IfErr result IsWalkError
+  pub later : IsLater before now
+  pub passed : OnOk result (now.faults ≡ before.faults)
+  pub is_open : OnOk result (u.is_open ≡ true)
+
+-- the read of root and level
+abbrev pub head_program : Area → Program (Result (ℕ × ℕ) StoreError)
+head_program a = with_head a (λ root level. Done (Ok (root, level)))
+
+-- one step of a descent, from an inner node to the child of a key: the child, and how many cells the node has
+abbrev pub child_program : Area → (key : List ℕ) → (level block : ℕ) → Program (Result (ℕ × ℕ) StoreError)
+child_program a key level block =
+    Look (a.start + block) (keys_mark a.size) (inner_further a key level)
+    (λ keys value. Done (cond (is_node a.size level keys && is_child a.blocks value) (Ok (child_of value, count_of keys)) (Err (store.Broken (a.start + block)))))
+
+-- a block of the region but the first, and at most so many cells
+pub record IsChild (a : Area) (x : ℕ × ℕ) : Type 0 where
+  pub some : 1 ≤ x.0
+  pub below : x.0 < a.blocks
+
+-- root and level of a head that is well formed
+pub record IsHead (a : Area) (x : ℕ × ℕ) : Type 0 where
+  pub root : x.0 < a.blocks
+  pub level : x.1 ≤ 31
+
+-- a leaf that a descent of a key has read: the buffer has its block, and these are the key's cell and the count
+pub record IsLeaf (a : Area) (key buffer : List ℕ) (leaf : Leaf) : Type 0 where
+  pub inside : leaf.block < a.blocks
+  pub node : is_node a.size 0 (take (keys_end a.size) buffer) ≡ true
+  pub cell : leaf.cell ≡ cell_of key (take (keys_end a.size) buffer)
+  pub count : leaf.count ≡ count_of (take (keys_end a.size) buffer)
+
+-- the bytes are those of the block that the transaction shows, where that is told
+abbrev pub AreBytesOf : Tx → (block : ℕ) → List ℕ → Type 0
+AreBytesOf t block bytes = ForSome t.base (λ A. bytes ≡ block_at (own A t.accesses) block)
+
+-- the leaf's value part of a key, as far as it was read
+abbrev pub leaf_value : Area → (key : List ℕ) → (with_value : Bool) → (buffer : List ℕ) → List ℕ
+leaf_value a key with_value buffer = further_bytes (leaf_further a key with_value (take (keys_end a.size) buffer)) buffer
+
+-- The descent made its reads and ended here; at a leaf, the buffer has its block.
+abbrev pub HasDescended : Area → List ℕ → Bool → (root level : ℕ) → (t u : Tx) → (path : List (ℕ × ℕ)) → (buffer : List ℕ) → Result Leaf StoreError → Type 0
+HasDescended a key with_value root level t u path buffer (Ok leaf) =
+    Ran (descend a key with_value level root []) t u (AtLeaf path leaf.block (take (keys_end a.size) buffer) (leaf_value a key with_value buffer))
+HasDescended a key with_value root level t u path buffer (Err (store.Broken block)) = Ran (descend a key with_value level root []) t u (AtBroken block)
+HasDescended a key with_value root level t u path buffer (Err (store.Tx e)) = IsCut (descend a key with_value level root []) t u e
+HasDescended a key with_value root level t u path buffer (Err store.BadKey) = ⊥
+HasDescended a key with_value root level t u path buffer (Err store.BadValue) = ⊥
+HasDescended a key with_value root level t u path buffer (Err (store.NoBlocks need free)) = ⊥
+HasDescended a key with_value root level t u path buffer (Err store.Memory) = ⊥
+
+-- the read of a leaf: its head and key parts, and the bytes of the key's value part where they are wanted
+abbrev pub leaf_program : Area → (key : List ℕ) → (with_value : Bool) → (block : ℕ) → Program (Result (List ℕ × List ℕ) StoreError)
+leaf_program a key with_value block =
+    Look (a.start + block) (keys_mark a.size) (leaf_further a key with_value)
+    (λ keys value. Done (cond (is_node a.size 0 keys) (Ok (keys, value)) (Err (store.Broken (a.start + block)))))
+
+-- how the read of a leaf ends; after it, the buffer has its block
+abbrev pub HasReadLeaf : Area → List ℕ → Bool → (block : ℕ) → (t u : Tx) → (buffer : List ℕ) → Result Leaf StoreError → Type 0
+HasReadLeaf a key with_value block t u buffer (Ok leaf) =
+    Ran (leaf_program a key with_value block) t u (Ok (take (keys_end a.size) buffer, leaf_value a key with_value buffer))
+HasReadLeaf a key with_value block t u buffer (Err (store.Broken broken)) = Ran (leaf_program a key with_value block) t u (Err (store.Broken broken))
+HasReadLeaf a key with_value block t u buffer (Err (store.Tx e)) = IsCut (leaf_program a key with_value block) t u e
+HasReadLeaf a key with_value block t u buffer (Err store.BadKey) = ⊥
+HasReadLeaf a key with_value block t u buffer (Err store.BadValue) = ⊥
+HasReadLeaf a key with_value block t u buffer (Err (store.NoBlocks need free)) = ⊥
+HasReadLeaf a key with_value block t u buffer (Err store.Memory) = ⊥

@@ -1,0 +1,82 @@
+// The bytes of a node, made of its cells.
+ghost use Rattle.std.specs.Prelude.{◌≡◌, ◌+◌, ◌*◌, ◌<◌, ◌≤◌, ℕ, List, length, [], ◌∷◌, ◌++◌, take, replicate, true, not, cond};
+ghost use Rattle.std.specs.Str.{bytes_eq};
+ghost use Rattle.iso_model.specs.Cells.{cell_count, keys_end};
+ghost use Rattle.iso_model.specs.TreeNodes.{is_node, node_bytes, used_cells, Cell, FitCells, IsBlock};
+ghost use Rattle.iso_model.specs.TreeCalls.{without_key};
+
+use crate::keys::{count_of, key_of};
+use iso_alloc::{cell_count, lay, piece, spell};
+
+// Zeros throughout.
+fn clear(into: &mut [u8])
+    ensures { into.new ≡ replicate (length into.old) 0 }
+{
+    into.fill(0);
+}
+
+/// A node of a level without cells.
+pub fn empty_node(into: &mut [u8], level: u8)
+    requires least { 256 ≤ length into.old }
+    requires size { IsBlock (length into.old) }
+    ensures { into.new ≡ node_bytes (length into.old) level [] }
+{
+    clear(into);
+    into[0] = 1;
+    into[1] = level;
+}
+
+/// Adds a cell behind so many others.
+pub fn add_cell(into: &mut [u8], count: usize, key: &[u8], part: &[u8])
+    requires least { 256 ≤ length into.old }
+    requires most { length into.old ≤ 4096 }
+    requires count { count < cell_count (length into.old) }
+    requires key { length key.now ≤ 28 }
+    requires part { length part.now ≡ 33 }
+    ensures added { (size level : ℕ) → (cs : List Cell) → into.old ≡ node_bytes size level cs → length cs ≡ count → FitCells cs → length into.old ≡ size → into.new ≡ node_bytes size level (cs ++ (key.now, part.now) ∷ []) }
+{
+    let end = 64 + 31 * cell_count(into.len());
+    let mut key_part = [0u8; 31];
+    spell(&mut key_part, key);
+    lay(into, 64 + 31 * count, &key_part);
+    lay(into, end + 33 * count, part);
+    into[2] = ((count + 1) / 256) as u8;
+    into[3] = ((count + 1) % 256) as u8;
+}
+
+// Adds a cell, unless it is that of a key; says how many cells there are then.
+fn add_other(into: &mut [u8], count: usize, key: &[u8], other: &[u8], part: &[u8]) -> usize
+    requires least { 256 ≤ length into.old }
+    requires most { length into.old ≤ 4096 }
+    requires count { count < cell_count (length into.old) }
+    requires other { length other.now ≤ 28 }
+    requires part { length part.now ≡ 33 }
+    ensures few { result ≤ count + 1 }
+    ensures count { result ≡ count + cond (not (bytes_eq other.now key.now)) 1 0 }
+    ensures added { (size level : ℕ) → (cs : List Cell) → into.old ≡ node_bytes size level cs → length cs ≡ count → FitCells cs → length into.old ≡ size → into.new ≡ node_bytes size level (cs ++ cond (not (bytes_eq other.now key.now)) ((other.now, part.now) ∷ []) []) }
+{
+    if other == key {
+        return count;
+    }
+    add_cell(into, count, other, part);
+    count + 1
+}
+
+/// The node of a leaf without the cells of a key.
+pub fn copy_without(key: &[u8], old: &[u8], into: &mut [u8])
+    requires least { 256 ≤ length old.now }
+    requires size { IsBlock (length old.now) }
+    requires into { length into.old ≡ length old.now }
+    requires node { is_node (length old.now) 0 (take (keys_end (length old.now)) old.now) ≡ true }
+    ensures { into.new ≡ node_bytes (length old.now) 0 (without_key key.now (used_cells (length old.now) old.now)) }
+{
+    let size = old.len();
+    let end = 64 + 31 * cell_count(size);
+    let keys = piece(old, 0, end);
+    empty_node(into, 0);
+    let mut kept = 0;
+    for cell in 0..count_of(keys) {
+        let part = piece(old, end + 33 * cell, 33);
+        kept = add_other(into, kept, key, key_of(size, keys, cell), part);
+    }
+}

@@ -1,0 +1,221 @@
+// The way from the root to the leaf of a key.
+ghost use Rattle.std.specs.Prelude.{◌≡◌, ◌+◌, ◌*◌, ◌<◌, ◌≤◌, [], IfOk, OnOk, length, true};
+ghost use Rattle.iso_model.specs.Cells.{cell_count, keys_mark, value_mark};
+ghost use Rattle.iso_model.specs.Stores.{bytes_in};
+ghost use Rattle.tx_blocks.specs.Runs.{HasRun};
+ghost use Rattle.iso_model.specs.TreeNodes.{is_head};
+ghost use Rattle.iso_tree.specs.Rows.{AreInside};
+ghost use Rattle.iso_model.specs.TreeRegion.{IsTreeArea};
+ghost use Rattle.iso_tree.specs.Walks.{child_program, head_program, HasDescended, HasReadLeaf, IsChild, IsHead, IsLeaf, AreBytesOf, OnlyReads};
+
+use crate::node::NodeView;
+use crate::path::Path;
+use iso_alloc::{Region, cell_count, piece, word_at};
+use iso_model::{Area, Span, StoreError};
+use tx_blocks::{TxBlocks, look, mark};
+
+/// The region of an area.
+pub fn region_of(area: Area) -> Region
+    ensures { result ≡ record { start = area.start; size = area.blocks } }
+{
+    Region {
+        start: area.start,
+        size: area.blocks,
+    }
+}
+
+/// The mark over head and key parts.
+pub fn keys_mark(size: u32) -> Span
+    requires least { 256 ≤ size }
+    requires most { size ≤ 4096 }
+    ensures { result ≡ keys_mark size }
+{
+    Span {
+        off: 0,
+        len: (64 + 31 * cell_count(size as usize)) as u16,
+    }
+}
+
+/// The mark over the value part of a cell.
+pub fn value_mark(size: u32, cell: u32) -> Span
+    requires least { 256 ≤ size }
+    requires most { size ≤ 4096 }
+    requires cell { cell < cell_count size }
+    ensures { result ≡ value_mark size cell }
+{
+    Span {
+        off: (64 + 31 * cell_count(size as usize) + 33 * cell as usize) as u16,
+        len: 33,
+    }
+}
+
+// Whether root and level are well formed.
+fn is_head(area: Area, head: &[u8]) -> bool
+    requires { length head.now ≡ 8 }
+    ensures { result ≡ is_head area head.now }
+{
+    let root = word_at(head, 0);
+    let level = word_at(head, 4);
+    root < area.blocks && level <= 31 && (root != 0 || level == 0)
+}
+
+/// The value part of a cell.
+pub fn value_part(size: u32, block: &[u8], cell: u32) -> &[u8]
+    requires size { length block.now ≡ size }
+    requires least { 256 ≤ size }
+    requires most { size ≤ 4096 }
+    requires cell { cell < cell_count size }
+    ensures value { result.now ≡ bytes_in (value_mark size cell) block.now }
+    ensures length { length result.now ≡ 33 }
+{
+    let span = value_mark(size, cell);
+    piece(block, span.off as usize, 33)
+}
+
+/// Root and level of the region's tree; the root is 0 where there is none.
+pub fn read_head<T: TxBlocks>(
+    tx: &mut T,
+    area: Area,
+    buffer: &mut [u8],
+) -> Result<(u32, u8), StoreError>
+    requires area { IsTreeArea area }
+    requires size { (T.state tx.old).size ≡ area.size }
+    requires fits { area.start + area.blocks ≤ (T.state tx.old).blocks }
+    requires buffer { length buffer.old ≡ area.size }
+    ensures run { HasRun (head_program area) (T.state tx.old) (T.state tx.new) result }
+    ensures inside { IfOk result (IsHead area) }
+    ensures reads { OnlyReads (T.state tx.old) (T.state tx.new) (T.device tx.old) (T.device tx.new) result }
+{
+    let head_mark = Span { off: 0, len: 8 };
+    if let Err(e) = look(tx, area.start, head_mark, buffer) {
+        return Err(StoreError::Tx(e));
+    }
+    let head = piece(buffer, 0, 8);
+    if !is_head(area, head) {
+        return Err(StoreError::Broken { block: area.start });
+    }
+    Ok((word_at(head, 0), word_at(head, 4) as u8))
+}
+
+// The child of an inner node that a key is below, and how many cells the node has.
+fn enter<T: TxBlocks>(
+    tx: &mut T,
+    area: Area,
+    key: &[u8],
+    level: u8,
+    block: u32,
+    buffer: &mut [u8],
+) -> Result<(u32, u32), StoreError>
+    requires area { IsTreeArea area }
+    requires size { (T.state tx.old).size ≡ area.size }
+    requires fits { area.start + area.blocks ≤ (T.state tx.old).blocks }
+    requires level { 0 < level }
+    requires block { block < area.blocks }
+    requires buffer { length buffer.old ≡ area.size }
+    ensures run { HasRun (child_program area key.now level block) (T.state tx.old) (T.state tx.new) result }
+    ensures inside { IfOk result (IsChild area) }
+    ensures reads { OnlyReads (T.state tx.old) (T.state tx.new) (T.device tx.old) (T.device tx.new) result }
+{
+    let image_block = area.start + block;
+    if let Err(e) = look(tx, image_block, keys_mark(area.size), buffer) {
+        return Err(StoreError::Tx(e));
+    }
+    let Some(node) = NodeView::of(buffer, level, region_of(area)) else {
+        return Err(StoreError::Broken { block: image_block });
+    };
+    let place = node.place(key);
+    mark(tx, value_mark(area.size, place));
+    if !node.has_child(place) {
+        return Err(StoreError::Broken { block: image_block });
+    }
+    Ok((node.child(place), node.count()))
+}
+
+/// The leaf of a key: its block in the region, the cell that has the key, and how many cells it has.
+#[derive(Clone, Copy, Debug)]
+pub struct Leaf {
+    pub block: u32,
+    pub cell: Option<u32>,
+    pub count: u32,
+}
+
+// Reads the leaf of a key, and its value part where that is wanted.
+fn read_leaf<T: TxBlocks>(
+    tx: &mut T,
+    area: Area,
+    key: &[u8],
+    with_value: bool,
+    block: u32,
+    buffer: &mut [u8],
+) -> Result<Leaf, StoreError>
+    requires area { IsTreeArea area }
+    requires size { (T.state tx.old).size ≡ area.size }
+    requires fits { area.start + area.blocks ≤ (T.state tx.old).blocks }
+    requires block { block < area.blocks }
+    requires buffer { length buffer.old ≡ area.size }
+    ensures run { HasReadLeaf area key.now with_value block (T.state tx.old) (T.state tx.new) buffer.new result }
+    ensures leaf { IfOk result (IsLeaf area key.now buffer.new) }
+    ensures bytes { OnOk result (AreBytesOf (T.state tx.new) (area.start + block) buffer.new) }
+    ensures block { IfOk result (λ leaf. leaf.block ≡ block) }
+    ensures reads { OnlyReads (T.state tx.old) (T.state tx.new) (T.device tx.old) (T.device tx.new) result }
+    ensures size { length buffer.new ≡ area.size }
+{
+    let image_block = area.start + block;
+    if let Err(e) = look(tx, image_block, keys_mark(area.size), buffer) {
+        return Err(StoreError::Tx(e));
+    }
+    let Some(node) = NodeView::of(buffer, 0, region_of(area)) else {
+        return Err(StoreError::Broken { block: image_block });
+    };
+    let leaf = Leaf {
+        block,
+        cell: node.cell(key),
+        count: node.count(),
+    };
+    if !with_value {
+        return Ok(leaf);
+    }
+    let Some(cell) = leaf.cell else {
+        return Ok(leaf);
+    };
+    mark(tx, value_mark(area.size, cell));
+    Ok(leaf)
+}
+
+/// The leaf of a key below a root, with the inner nodes on the way. The buffer has the leaf's block then.
+pub fn descend<T: TxBlocks>(
+    tx: &mut T,
+    area: Area,
+    key: &[u8],
+    with_value: bool,
+    root: u32,
+    level: u8,
+    path: &mut Path,
+    buffer: &mut [u8],
+) -> Result<Leaf, StoreError>
+    requires area { IsTreeArea area }
+    requires size { (T.state tx.old).size ≡ area.size }
+    requires fits { area.start + area.blocks ≤ (T.state tx.old).blocks }
+    requires root { root < area.blocks }
+    requires level { level ≤ 31 }
+    requires path { path.old ≡ [] }
+    requires buffer { length buffer.old ≡ area.size }
+    ensures run { HasDescended area key.now with_value root level (T.state tx.old) (T.state tx.new) path.new buffer.new result }
+    ensures leaf { IfOk result (IsLeaf area key.now buffer.new) }
+    ensures path { OnOk result (AreInside area path.new) }
+    ensures long { OnOk result (length path.new ≡ level) }
+    ensures bytes { IfOk result (λ leaf. AreBytesOf (T.state tx.new) (area.start + leaf.block) buffer.new) }
+    ensures reads { OnlyReads (T.state tx.old) (T.state tx.new) (T.device tx.old) (T.device tx.new) result }
+    ensures size { length buffer.new ≡ area.size }
+{
+    let mut block = root;
+    for passed in 0..level {
+        let (child, count) = match enter(tx, area, key, level - passed, block, buffer) {
+            Ok(next) => next,
+            Err(e) => return Err(e),
+        };
+        path.push(block, count);
+        block = child;
+    }
+    read_leaf(tx, area, key, with_value, block, buffer)
+}

@@ -1,0 +1,139 @@
+// The bytes of nodes that get a new cell.
+ghost use Rattle.std.specs.Prelude.{◌≡◌, ◌+◌, ◌-◌, ◌*◌, ◌<◌, ◌≤◌, ℕ, List, length, take, [], ◌∷◌, true};
+ghost use Rattle.iso_model.specs.Cells.{are_key_parts, cell_count, keys_end};
+ghost use Rattle.iso_model.specs.TreeNodes.{child_part, count_of, node_bytes, Cell, IsBlock};
+ghost use Rattle.iso_tree.specs.Rows.{key_in_row, part_in_row, row_from, upto_from};
+ghost use Rattle.iso_model.specs.TreeCalls.{root_cells};
+
+use crate::build::{add_cell, empty_node};
+use crate::keys::{count_of, is_before, key_of};
+use iso_alloc::{cell_count, lay, piece, spell};
+
+/// How many cells in a row from one on have a key that is not above this one.
+pub fn upto(size: usize, key: &[u8], keys: &[u8], first: usize) -> usize
+    requires size { 64 ≤ size }
+    requires keys { length keys.now ≡ keys_end size }
+    requires parts { are_key_parts size keys.now ≡ true }
+    requires few { count_of keys.now ≤ cell_count size }
+    requires first { first ≤ count_of keys.now }
+    ensures value { result ≡ upto_from key.now keys.now first (count_of keys.now - first) }
+    ensures most { result ≤ count_of keys.now - first }
+{
+    let count = count_of(keys);
+    for cell in first..count {
+        if is_before(key, key_of(size, keys, cell)) {
+            return cell - first;
+        }
+    }
+    count - first
+}
+
+/// The key of a cell of a node that got a cell at a place.
+pub fn row_key<'a>(
+    size: usize,
+    keys: &'a [u8],
+    place: usize,
+    key: &'a [u8],
+    cell: usize,
+) -> &'a [u8]
+    requires size { 64 ≤ size }
+    requires keys { length keys.now ≡ keys_end size }
+    requires parts { are_key_parts size keys.now ≡ true }
+    requires place { place ≤ cell_count size }
+    requires cell { cell ≤ cell_count size }
+    ensures { result.now ≡ key_in_row keys.now place key.now cell }
+{
+    if cell < place {
+        return key_of(size, keys, cell);
+    }
+    if cell == place {
+        return key;
+    }
+    key_of(size, keys, cell - 1)
+}
+
+// The value part of a cell of a node that got a cell at a place.
+fn row_part<'a>(node: &'a [u8], place: usize, part: &'a [u8], cell: usize) -> &'a [u8]
+    requires size { IsBlock (length node.now) }
+    requires least { 256 ≤ length node.now }
+    requires part { length part.now ≡ 33 }
+    requires place { place ≤ cell_count (length node.now) }
+    requires cell { cell ≤ cell_count (length node.now) }
+    ensures value { result.now ≡ part_in_row (length node.now) node.now place part.now cell }
+    ensures length { length result.now ≡ 33 }
+{
+    let end = 64 + 31 * cell_count(node.len());
+    if cell < place {
+        return piece(node, end + 33 * cell, 33);
+    }
+    if cell == place {
+        return part;
+    }
+    piece(node, end + 33 * (cell - 1), 33)
+}
+
+/// A node of so many cells of another node that got a cell at a place, from a cell on.
+pub fn fill_row(
+    into: &mut [u8],
+    level: u8,
+    node: &[u8],
+    place: usize,
+    key: &[u8],
+    part: &[u8],
+    from: usize,
+    count: usize,
+)
+    requires size { IsBlock (length node.now) }
+    requires least { 256 ≤ length node.now }
+    requires into { length into.old ≡ length node.now }
+    requires parts { are_key_parts (length node.now) (take (keys_end (length node.now)) node.now) ≡ true }
+    requires place { place ≤ cell_count (length node.now) }
+    requires key { length key.now ≤ 28 }
+    requires part { length part.now ≡ 33 }
+    requires inside { from + count ≤ cell_count (length node.now) + 1 }
+    requires count { count ≤ cell_count (length node.now) }
+    ensures { into.new ≡ node_bytes (length node.now) level (row_from (length node.now) node.now place (key.now, part.now) from count) }
+{
+    let size = node.len();
+    let keys = piece(node, 0, 64 + 31 * cell_count(size));
+    empty_node(into, level);
+    for i in 0..count {
+        let cell_key = row_key(size, keys, place, key, from + i);
+        let cell_part = row_part(node, place, part, from + i);
+        add_cell(into, i, cell_key, cell_part);
+    }
+}
+
+/// Makes the first key of a node empty.
+pub fn empty_first(into: &mut [u8])
+    requires least { 256 ≤ length into.old }
+    ensures { (size level : ℕ) → (key part : List ℕ) → (cs : List Cell) → into.old ≡ node_bytes size level ((key, part) ∷ cs) → length key ≤ 28 → into.new ≡ node_bytes size level (([], part) ∷ cs) }
+{
+    lay(into, 64, &[0u8; 31]);
+}
+
+/// The value part that names a block.
+pub fn child_part(block: u32) -> [u8; 33]
+    ensures { result ≡ child_part block }
+{
+    let mut part = [0u8; 33];
+    spell(&mut part, &block.to_be_bytes());
+    part
+}
+
+/// A new root: of the first leaf, or over the old root and the new block.
+pub fn fill_root(into: &mut [u8], level: u8, below: u32, key: &[u8], part: &[u8])
+    requires size { IsBlock (length into.old) }
+    requires least { 256 ≤ length into.old }
+    requires key { length key.now ≤ 28 }
+    requires part { length part.now ≡ 33 }
+    ensures { into.new ≡ node_bytes (length into.old) level (root_cells level below (key.now, part.now)) }
+{
+    empty_node(into, level);
+    if level == 0 {
+        add_cell(into, 0, key, part);
+        return;
+    }
+    add_cell(into, 0, &[], &child_part(below));
+    add_cell(into, 1, key, part);
+}

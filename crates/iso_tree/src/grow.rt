@@ -1,0 +1,95 @@
+// A put that takes new blocks.
+ghost use Rattle.std.specs.Prelude.{◌≡◌, ◌+◌, ◌-◌, ◌*◌, ◌<◌, ◌≤◌, ◌↔◌, IsTrue, not, List, ℕ, OnOk, OnErr, IfErr, Err, length, map, take, [], ◌∷◌, true};
+ghost use Rattle.std.specs.List.{filter, range_with_len};
+ghost use Rattle.iso_model.specs.Cells.{are_key_parts, cell_count, keys_end};
+ghost use Rattle.iso_model.specs.FreeMap.{free_count, map_bit, map_bytes};
+ghost use Rattle.iso_model.specs.Stores.{Program};
+ghost use Rattle.tx_blocks.specs.Runs.{HasRun};
+ghost use Rattle.tx_blocks.proofs.Progress.{IsAt};
+ghost use Rattle.iso_model.specs.TreeNodes.{count_of, Cell, IsBlock};
+ghost use Rattle.iso_tree.specs.Rows.{nodes_from, AreInside, AreShownUsable, AreUsable, IsUsable};
+ghost use Rattle.iso_model.specs.TreeCalls.{look_again, with_used, Answer};
+ghost use Rattle.iso_model.specs.TreeRegion.{IsTreeArea};
+ghost use Rattle.iso_tree.specs.Walks.{OnlyReads};
+
+use crate::climb::first_node;
+use crate::keys::count_of;
+use crate::whole::look_whole;
+use iso_alloc::{are_key_parts, cell_count, lay, piece, take_lowest};
+use iso_model::{Area, Region, StoreError};
+use tx_blocks::TxBlocks;
+
+/// Takes so many free blocks, lowest first.
+pub fn take_blocks(map: &mut [u8], region: Region, need: usize, news: &mut [u32])
+    requires map { 64 + map_bytes region.size ≤ length map.old }
+    requires some { 1 ≤ region.size }
+    requires low { region.size < 4294967295 }
+    requires need { need ≤ free_count map.old 1 (region.size - 1) }
+    requires news { need ≤ length news.old }
+    ensures taken { take need news.new ≡ take need (filter (λ k. not (map_bit map.old k)) (range_with_len 1 (region.size - 1))) }
+    ensures used { map.new ≡ with_used map.old (take need news.new) }
+{
+    let mut first = 1;
+    for i in 0..need {
+        let Some(block) = take_lowest(map, region, first) else {
+            return;
+        };
+        news[i] = block;
+        first = block + 1;
+    }
+}
+
+// Whether key parts and count are those of a node with so many cells.
+fn is_usable(size: usize, block: &[u8], count: u32) -> bool
+    requires size { IsBlock size }
+    requires least { 256 ≤ size }
+    requires block { length block.now ≡ size }
+    ensures { IsTrue result ↔ IsUsable size block.now count }
+{
+    let keys = piece(block, 0, 64 + 31 * cell_count(size));
+    if !are_key_parts(size, keys) {
+        return false;
+    }
+    count_of(keys) == count as usize && 1 <= count && count as usize <= cell_count(size)
+}
+
+/// Reads the nodes of a path once more, unmarked; their bytes stand from block `i` on.
+pub fn look_nodes<T: TxBlocks>(
+    tx: &mut T,
+    area: Area,
+    path: &[(u32, u32)],
+    i: usize,
+    nodes: &mut [u8],
+    into: &mut [u8],
+) -> Result<(), StoreError>
+    requires area { IsTreeArea area }
+    requires block_size { IsBlock area.size }
+    requires size { (T.state tx.old).size ≡ area.size }
+    requires fits { area.start + area.blocks ≤ (T.state tx.old).blocks }
+    requires is_open { (T.state tx.old).is_open ≡ true }
+    requires path { AreInside area path.now }
+    requires usable { AreShownUsable area (T.state tx.old) path.now }
+    requires nodes { (i + length path.now) * area.size ≤ length nodes.old }
+    requires short { length nodes.old ≤ 1048576 }
+    requires into { length into.old ≡ area.size }
+    ensures read { OnOk result ((f : List (ℕ × List Cell) → Program Answer) → IsAt (look_again area (map (λ p. p.0) path.now) f) (f (nodes_from area.size nodes.new i path.now)) (T.state tx.old) (T.state tx.new)) }
+    ensures refused { IfErr result (λ e. (f : List (ℕ × List Cell) → Program Answer) → HasRun (look_again area (map (λ p. p.0) path.now) f) (T.state tx.old) (T.state tx.new) (Err e)) }
+    ensures usable { OnOk result (AreUsable area.size nodes.new i path.now) }
+    ensures kept { take (i * area.size) nodes.new ≡ take (i * area.size) nodes.old }
+    ensures reads { OnlyReads (T.state tx.old) (T.state tx.new) (T.device tx.old) (T.device tx.new) result }
+{
+    let size = area.size as usize;
+    let Some(((block, count), rest)) = first_node(path) else {
+        return Ok(());
+    };
+    if let Err(e) = look_whole(tx, area.start + block, into) {
+        return Err(StoreError::Tx(e));
+    }
+    if !is_usable(size, into, count) {
+        return Err(StoreError::Broken {
+            block: area.start + block,
+        });
+    }
+    lay(nodes, i * size, into);
+    look_nodes(tx, area, rest, i + 1, nodes, into)
+}

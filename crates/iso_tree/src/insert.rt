@@ -1,0 +1,128 @@
+// The put of a key.
+ghost use Rattle.std.specs.Prelude.{◌≡◌, ◌↔◌, ◌+◌, ◌*◌, ◌<◌, ◌≤◌, Err, IsFalse, IsTrue, true, IfOk, IfErr, OnOk, length};
+ghost use Rattle.iso_model.specs.HashCalls.{is_key, is_value};
+ghost use Rattle.iso_model.specs.HashRegion.{put_op};
+ghost use Rattle.tx_blocks.specs.Tx.{IsLater};
+ghost use Rattle.tx_blocks.specs.Runs.{area_of, Behaves, HasEnded, HasRun, IsLocalCall, IsStoreCause, IsUnwritten};
+ghost use Rattle.iso_model.specs.TreeCalls.{put_below_root, put_program};
+ghost use Rattle.iso_model.specs.TreeRegion.{tree_map, IsTreeArea, IsTreeRegion};
+
+use crate::buffer::{buffer, is_key, is_value};
+use crate::descent::{descend, read_head};
+use crate::enlarge::put_new;
+use crate::leaf::{put_cell, put_value};
+use crate::path::Path;
+use iso_alloc::cell_count;
+use iso_model::{Area, Region, StoreError};
+use std::alloc::Global;
+use tx_blocks::TxBlocks;
+
+// Puts a value at a key below a root. `nodes` has room for a path.
+fn put_below<T: TxBlocks>(
+    tx: &mut T,
+    area: Area,
+    key: &[u8],
+    value: &[u8],
+    root: u32,
+    level: u8,
+    block: &mut [u8],
+    nodes: &mut [u8],
+    into: &mut [u8],
+) -> Result<(), StoreError>
+    requires area { IsTreeArea area }
+    requires size { (T.state tx.old).size ≡ area.size }
+    requires fits { area.start + area.blocks ≤ (T.state tx.old).blocks }
+    requires key { length key.now ≤ 28 }
+    requires value { length value.now ≤ 32 }
+    requires root { root < area.blocks }
+    requires level { level ≤ 31 }
+    requires block { length block.old ≡ area.size }
+    requires nodes { length nodes.old ≡ 32 * area.size }
+    requires into { length into.old ≡ area.size }
+    ensures run { HasRun (put_below_root area key.now value.now root level) (T.state tx.old) (T.state tx.new) result }
+    ensures behaves { Behaves (T.state tx.old) (T.state tx.new) 66 (T.device tx.old) (T.device tx.new) result }
+{
+    if root == 0 {
+        return put_new(tx, area, key, value, &[], block, nodes, into);
+    }
+    let mut path = Path::empty();
+    let leaf = match descend(tx, area, key, false, root, level, &mut path, block) {
+        Ok(leaf) => leaf,
+        Err(e) => return Err(e),
+    };
+    if let Some(cell) = leaf.cell {
+        return put_value(tx, area, leaf.block, cell, value, into);
+    }
+    if (leaf.count as usize) < cell_count(area.size as usize) {
+        return put_cell(tx, area, key, value, leaf, block, into);
+    }
+    path.push(leaf.block, leaf.count);
+    put_new(tx, area, key, value, path.nodes(), block, nodes, into)
+}
+
+// Puts a value at a key, with buffers for two blocks and a path.
+fn put_with<T: TxBlocks>(
+    tx: &mut T,
+    area: Area,
+    key: &[u8],
+    value: &[u8],
+    block: &mut [u8],
+    nodes: &mut [u8],
+    into: &mut [u8],
+) -> Result<(), StoreError>
+    requires area { IsTreeArea area }
+    requires size { (T.state tx.old).size ≡ area.size }
+    requires fits { area.start + area.blocks ≤ (T.state tx.old).blocks }
+    requires key { is_key key.now ≡ true }
+    requires value { is_value value.now ≡ true }
+    requires block { length block.old ≡ area.size }
+    requires nodes { length nodes.old ≡ 32 * area.size }
+    requires into { length into.old ≡ area.size }
+    ensures run { HasRun (put_program area key.now value.now) (T.state tx.old) (T.state tx.new) result }
+    ensures behaves { Behaves (T.state tx.old) (T.state tx.new) 66 (T.device tx.old) (T.device tx.new) result }
+{
+    match read_head(tx, area, block) {
+        Ok((root, level)) => { put_below(tx, area, key, value, root, level, block, nodes, into) }
+        Err(e) => Err(e),
+    }
+}
+
+/// Puts a value at a key: the region's map has it then. `BadKey` comes exactly where the key does not have 1 to 28 bytes, else
+/// `BadValue` exactly where the value has more than 32; `Broken` where the head or a node of the descent fails a test; `NoBlocks`
+/// where fewer blocks are free than are needed. A refusal has written nothing, but where the transaction wants memory between two
+/// writes.
+pub fn put<T: TxBlocks>(
+    alloc: Global,
+    tx: &mut T,
+    region: Region,
+    key: &[u8],
+    value: &[u8],
+) -> Result<(), StoreError>
+    requires area { IsTreeArea (area_of (T.state tx.old) region) }
+    requires fits { region.start + region.size ≤ (T.state tx.old).blocks }
+    ensures ended { HasEnded (put_program (area_of (T.state tx.old) region) key.now value.now) (T.state tx.old) (T.state tx.new) result }
+    ensures local { IfOk result (IsLocalCall (IsTreeRegion (area_of (T.state tx.old) region)) (tree_map (area_of (T.state tx.old) region)) (put_op key.now value.now) (T.state tx.old) (T.state tx.new)) }
+    ensures bad_key { result ≡ Err StoreError.BadKey ↔ IsFalse (is_key key.now) }
+    ensures bad_value { result ≡ Err StoreError.BadValue ↔ (IsTrue (is_key key.now) × IsFalse (is_value value.now)) }
+    ensures cause { IfErr result (IsStoreCause (T.state tx.new) 66 (T.device tx.old) (T.device tx.new)) }
+    ensures unwritten { IfErr result (IsUnwritten (T.state tx.old) (T.state tx.new)) }
+    ensures later { IsLater (T.device tx.old) (T.device tx.new) }
+    ensures passed { OnOk result ((T.device tx.new).faults ≡ (T.device tx.old).faults) }
+{
+    if !is_key(key) {
+        return Err(StoreError::BadKey);
+    }
+    if !is_value(value) {
+        return Err(StoreError::BadValue);
+    }
+    let area = Area {
+        size: tx.block_size(),
+        start: region.start,
+        blocks: region.size,
+    };
+    let size = area.size as usize;
+    let mut block = buffer(alloc, size)?;
+    let mut nodes = buffer(alloc, 32 * size)?;
+    let mut into = buffer(alloc, size)?;
+    put_with(tx, area, key, value, &mut block, &mut nodes, &mut into)
+}

@@ -1,0 +1,119 @@
+// A put into a leaf that has the key, or room for it.
+ghost use Rattle.std.specs.Prelude.{◌≡◌, ◌+◌, ◌*◌, ◌<◌, ◌≤◌, length, take, true, Ok, [], ◌∷◌};
+ghost use Rattle.iso_model.specs.Cells.{block_with, cell_count, keys_end, value_mark, value_part};
+ghost use Rattle.iso_model.specs.Stores.{Done, Store};
+ghost use Rattle.tx_blocks.specs.Runs.{Behaves, HasRun};
+ghost use Rattle.iso_model.specs.TreeNodes.{count_of, is_node, node_bytes, used_cells, IsBlock};
+ghost use Rattle.iso_model.specs.Trees.{put_after};
+ghost use Rattle.iso_model.specs.TreeCalls.{edit_leaf};
+ghost use Rattle.iso_model.specs.TreeRegion.{IsTreeArea};
+ghost use Rattle.iso_tree.specs.Walks.{AreBytesOf, IsLeaf};
+
+use crate::descent::{Leaf, value_mark};
+use crate::fill::{fill_row, upto};
+use crate::whole::look_whole;
+use iso_alloc::{cell_count, lay, piece, spell};
+use iso_model::{Area, StoreError};
+use tx_blocks::{TxBlocks, store};
+
+/// The value part that spells a value.
+pub fn value_part(value: &[u8]) -> [u8; 33]
+    requires { length value.now ≤ 32 }
+    ensures { result ≡ value_part value.now }
+{
+    let mut part = [0u8; 33];
+    spell(&mut part, value);
+    part
+}
+
+// Zeros, but for these bytes from `at` on.
+fn lay_alone(into: &mut [u8], at: usize, bytes: &[u8])
+    requires { at + length bytes.now ≤ length into.old }
+    ensures { into.new ≡ block_with (length into.old) at bytes.now }
+{
+    into.fill(0);
+    lay(into, at, bytes);
+}
+
+/// Writes the value of the cell that has the key.
+pub fn put_value<T: TxBlocks>(
+    tx: &mut T,
+    area: Area,
+    block: u32,
+    cell: u32,
+    value: &[u8],
+    into: &mut [u8],
+) -> Result<(), StoreError>
+    requires area { IsTreeArea area }
+    requires block_size { IsBlock area.size }
+    requires size { (T.state tx.old).size ≡ area.size }
+    requires fits { area.start + area.blocks ≤ (T.state tx.old).blocks }
+    requires block { block < area.blocks }
+    requires cell { cell < cell_count area.size }
+    requires value { length value.now ≤ 32 }
+    requires into { length into.old ≡ area.size }
+    ensures run { HasRun (Store (area.start + block) (value_mark area.size cell ∷ []) (block_with area.size (keys_end area.size + 33 * cell) (value_part value.now)) (Done (Ok tt))) (T.state tx.old) (T.state tx.new) result }
+    ensures behaves { Behaves (T.state tx.old) (T.state tx.new) 1 (T.device tx.old) (T.device tx.new) result }
+{
+    let span = value_mark(area.size, cell);
+    let part = value_part(value);
+    lay_alone(into, span.off as usize, &part);
+    match store(tx, area.start + block, &[span], into) {
+        Ok(()) => Ok(()),
+        Err(e) => Err(StoreError::Tx(e)),
+    }
+}
+
+/// Writes the leaf with a new cell. The leaf is read once more, unmarked, so that the put depends on all of it: its bytes are
+/// those that the descent has read.
+pub fn put_cell<T: TxBlocks>(
+    tx: &mut T,
+    area: Area,
+    key: &[u8],
+    value: &[u8],
+    leaf: Leaf,
+    old: &[u8],
+    into: &mut [u8],
+) -> Result<(), StoreError>
+    requires area { IsTreeArea area }
+    requires block_size { IsBlock area.size }
+    requires size { (T.state tx.old).size ≡ area.size }
+    requires fits { area.start + area.blocks ≤ (T.state tx.old).blocks }
+    requires leaf { IsLeaf area key.now old.now leaf }
+    requires room { leaf.count < cell_count area.size }
+    requires bytes { AreBytesOf (T.state tx.old) (area.start + leaf.block) old.now }
+    requires key { length key.now ≤ 28 }
+    requires value { length value.now ≤ 32 }
+    requires old { length old.now ≡ area.size }
+    requires into { length into.old ≡ area.size }
+    ensures run { HasRun (edit_leaf area leaf.block (put_after key.now (key.now, value_part value.now)) (Ok tt)) (T.state tx.old) (T.state tx.new) result }
+    ensures behaves { Behaves (T.state tx.old) (T.state tx.new) 1 (T.device tx.old) (T.device tx.new) result }
+{
+    let image_block = area.start + leaf.block;
+    if let Err(e) = look_whole(tx, image_block, into) {
+        return Err(StoreError::Tx(e));
+    }
+    fill_leaf(into, old, key, &value_part(value), leaf.count as usize);
+    match store(tx, image_block, &[], into) {
+        Ok(()) => Ok(()),
+        Err(e) => Err(StoreError::Tx(e)),
+    }
+}
+
+// The bytes of a leaf with a new cell.
+fn fill_leaf(into: &mut [u8], old: &[u8], key: &[u8], part: &[u8], count: usize)
+    requires size { IsBlock (length old.now) }
+    requires least { 256 ≤ length old.now }
+    requires into { length into.old ≡ length old.now }
+    requires node { is_node (length old.now) 0 (take (keys_end (length old.now)) old.now) ≡ true }
+    requires count { count ≡ count_of (take (keys_end (length old.now)) old.now) }
+    requires room { count < cell_count (length old.now) }
+    requires key { length key.now ≤ 28 }
+    requires part { length part.now ≡ 33 }
+    ensures { into.new ≡ node_bytes (length old.now) 0 (put_after key.now (key.now, part.now) (used_cells (length old.now) old.now)) }
+{
+    let size = old.len();
+    let keys = piece(old, 0, 64 + 31 * cell_count(size));
+    let place = upto(size, key, keys, 0);
+    fill_row(into, 0, old, place, key, part, 0, count + 1);
+}

@@ -1,0 +1,26 @@
+//! The tree store over the blocks of a transaction.
+#![tactic(auto)]
+
+mod buffer;
+mod build;
+mod climb;
+mod descent;
+mod enlarge;
+mod fill;
+mod first;
+mod grow;
+mod insert;
+mod keys;
+mod leaf;
+mod lookup;
+mod node;
+mod path;
+mod remove;
+#[cfg(test)]
+mod tests;
+mod whole;
+
+pub use insert::put;
+pub use lookup::get;
+pub use node::NodeView;
+pub use remove::del;

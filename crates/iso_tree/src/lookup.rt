@@ -1,0 +1,112 @@
+// The look-up of a key.
+ghost use Rattle.std.specs.Prelude.{◌≡◌, ◌↔◌, ◌+◌, ◌<◌, ◌≤◌, [], Err, IsFalse, true, IfOk, IfErr, OnOk, length};
+ghost use Rattle.iso_model.specs.HashCalls.{is_key};
+ghost use Rattle.iso_model.specs.HashRegion.{get_op};
+ghost use Rattle.tx_blocks.specs.Tx.{IsLater};
+ghost use Rattle.tx_blocks.specs.Runs.{area_of, HasEnded, HasRead, HasRun, IsLocalCall, IsStoreCause};
+ghost use Rattle.iso_model.specs.TreeCalls.{get_below, get_program};
+ghost use Rattle.iso_model.specs.TreeRegion.{tree_map, IsTreeArea, IsTreeRegion};
+ghost use Rattle.iso_tree.specs.Walks.{OnlyReads};
+
+use crate::buffer::{buffer, is_key, spelled};
+use crate::descent::{descend, read_head, value_part};
+use crate::path::Path;
+use iso_alloc::is_part;
+use iso_model::{Area, Bytes, Items, Region, StoreError};
+use std::alloc::Global;
+use tx_blocks::TxBlocks;
+
+// The value of a key below a root.
+fn get_below<T: TxBlocks>(
+    tx: &mut T,
+    area: Area,
+    key: &[u8],
+    root: u32,
+    level: u8,
+    block: &mut [u8],
+    room: Vec<u8>,
+) -> Result<Option<Bytes>, StoreError>
+    requires area { IsTreeArea area }
+    requires size { (T.state tx.old).size ≡ area.size }
+    requires fits { area.start + area.blocks ≤ (T.state tx.old).blocks }
+    requires root { root < area.blocks }
+    requires level { level ≤ 31 }
+    requires block { length block.old ≡ area.size }
+    requires room { length room.items ≡ 32 }
+    requires is_open { (T.state tx.old).is_open ≡ true }
+    ensures run { HasRun (get_below area key.now root level) (T.state tx.old) (T.state tx.new) result }
+    ensures reads { OnlyReads (T.state tx.old) (T.state tx.new) (T.device tx.old) (T.device tx.new) result }
+{
+    if root == 0 {
+        return Ok(None);
+    }
+    let mut path = Path::empty();
+    let leaf = match descend(tx, area, key, true, root, level, &mut path, block) {
+        Ok(leaf) => leaf,
+        Err(e) => return Err(e),
+    };
+    let Some(cell) = leaf.cell else {
+        return Ok(None);
+    };
+    let part = value_part(area.size, block, cell);
+    if !is_part(part, 32) {
+        return Err(StoreError::Broken {
+            block: area.start + leaf.block,
+        });
+    }
+    Ok(Some(Items::of(spelled(part, room))))
+}
+
+// The value of a key, with buffers for a block and for the value.
+fn get_with<T: TxBlocks>(
+    tx: &mut T,
+    area: Area,
+    key: &[u8],
+    block: &mut [u8],
+    room: Vec<u8>,
+) -> Result<Option<Bytes>, StoreError>
+    requires area { IsTreeArea area }
+    requires size { (T.state tx.old).size ≡ area.size }
+    requires fits { area.start + area.blocks ≤ (T.state tx.old).blocks }
+    requires key { is_key key.now ≡ true }
+    requires block { length block.old ≡ area.size }
+    requires room { length room.items ≡ 32 }
+    ensures run { HasRun (get_program area key.now) (T.state tx.old) (T.state tx.new) result }
+    ensures reads { OnlyReads (T.state tx.old) (T.state tx.new) (T.device tx.old) (T.device tx.new) result }
+{
+    match read_head(tx, area, block) {
+        Ok((root, level)) => get_below(tx, area, key, root, level, block, room),
+        Err(e) => Err(e),
+    }
+}
+
+/// The value of a key, and none where the region's map has none. `BadKey` comes exactly where the key does not have 1 to 28 bytes,
+/// `Broken` where the head, a node of the descent or the value part fails a test. It writes nothing.
+pub fn get<T: TxBlocks>(
+    alloc: Global,
+    tx: &mut T,
+    region: Region,
+    key: &[u8],
+) -> Result<Option<Bytes>, StoreError>
+    requires area { IsTreeArea (area_of (T.state tx.old) region) }
+    requires fits { region.start + region.size ≤ (T.state tx.old).blocks }
+    ensures ended { HasEnded (get_program (area_of (T.state tx.old) region) key.now) (T.state tx.old) (T.state tx.new) result }
+    ensures local { IfOk result (IsLocalCall (IsTreeRegion (area_of (T.state tx.old) region)) (tree_map (area_of (T.state tx.old) region)) (get_op key.now) (T.state tx.old) (T.state tx.new)) }
+    ensures reads { HasRead (T.state tx.old) (T.state tx.new) }
+    ensures bad_key { result ≡ Err StoreError.BadKey ↔ IsFalse (is_key key.now) }
+    ensures cause { IfErr result (IsStoreCause (T.state tx.new) 1 (T.device tx.old) (T.device tx.new)) }
+    ensures later { IsLater (T.device tx.old) (T.device tx.new) }
+    ensures passed { OnOk result ((T.device tx.new).faults ≡ (T.device tx.old).faults) }
+{
+    if !is_key(key) {
+        return Err(StoreError::BadKey);
+    }
+    let area = Area {
+        size: tx.block_size(),
+        start: region.start,
+        blocks: region.size,
+    };
+    let mut block = buffer(alloc, area.size as usize)?;
+    let room = buffer(alloc, 32)?;
+    get_with(tx, area, key, &mut block, room)
+}

@@ -1,0 +1,137 @@
+// The removal of a key.
+ghost use Rattle.std.specs.Prelude.{◌≡◌, ◌↔◌, ◌+◌, ◌<◌, ◌≤◌, [], Err, Ok, IsFalse, true, IfOk, IfErr, OnOk, length};
+ghost use Rattle.iso_model.specs.HashCalls.{is_key};
+ghost use Rattle.iso_model.specs.HashRegion.{del_op};
+ghost use Rattle.tx_blocks.specs.Tx.{IsLater};
+ghost use Rattle.tx_blocks.specs.Runs.{area_of, Behaves, HasEnded, HasRun, IsLocalCall, IsStoreCause, IsUnwritten};
+ghost use Rattle.iso_model.specs.TreeCalls.{del_below, del_program, edit_leaf, without_key};
+ghost use Rattle.iso_model.specs.TreeRegion.{tree_map, IsTreeArea, IsTreeRegion};
+ghost use Rattle.iso_tree.specs.Walks.{AreBytesOf, IsLeaf};
+
+use crate::buffer::{buffer, is_key};
+use crate::build::copy_without;
+use crate::descent::{Leaf, descend, read_head};
+use crate::path::Path;
+use crate::whole::look_whole;
+use iso_model::{Area, Region, StoreError};
+use std::alloc::Global;
+use tx_blocks::{TxBlocks, store};
+
+// Writes the leaf without the key. The leaf is read once more, unmarked, so that the removal depends on all of it: its bytes are
+// those that the descent has read.
+fn remove_cell<T: TxBlocks>(
+    tx: &mut T,
+    area: Area,
+    key: &[u8],
+    leaf: Leaf,
+    old: &[u8],
+    into: &mut [u8],
+) -> Result<bool, StoreError>
+    requires area { IsTreeArea area }
+    requires size { (T.state tx.old).size ≡ area.size }
+    requires fits { area.start + area.blocks ≤ (T.state tx.old).blocks }
+    requires leaf { IsLeaf area key.now old.now leaf }
+    requires bytes { AreBytesOf (T.state tx.old) (area.start + leaf.block) old.now }
+    requires old { length old.now ≡ area.size }
+    requires into { length into.old ≡ area.size }
+    ensures run { HasRun (edit_leaf area leaf.block (without_key key.now) (Ok true)) (T.state tx.old) (T.state tx.new) result }
+    ensures behaves { Behaves (T.state tx.old) (T.state tx.new) 1 (T.device tx.old) (T.device tx.new) result }
+{
+    let image_block = area.start + leaf.block;
+    if let Err(e) = look_whole(tx, image_block, into) {
+        return Err(StoreError::Tx(e));
+    }
+    copy_without(key, old, into);
+    match store(tx, image_block, &[], into) {
+        Ok(()) => Ok(true),
+        Err(e) => Err(StoreError::Tx(e)),
+    }
+}
+
+// Removes a key below a root.
+fn remove_below<T: TxBlocks>(
+    tx: &mut T,
+    area: Area,
+    key: &[u8],
+    root: u32,
+    level: u8,
+    block: &mut [u8],
+    into: &mut [u8],
+) -> Result<bool, StoreError>
+    requires area { IsTreeArea area }
+    requires size { (T.state tx.old).size ≡ area.size }
+    requires fits { area.start + area.blocks ≤ (T.state tx.old).blocks }
+    requires root { root < area.blocks }
+    requires level { level ≤ 31 }
+    requires block { length block.old ≡ area.size }
+    requires into { length into.old ≡ area.size }
+    ensures run { HasRun (del_below area key.now root level) (T.state tx.old) (T.state tx.new) result }
+    ensures behaves { Behaves (T.state tx.old) (T.state tx.new) 1 (T.device tx.old) (T.device tx.new) result }
+{
+    if root == 0 {
+        return Ok(false);
+    }
+    let mut path = Path::empty();
+    let leaf = match descend(tx, area, key, false, root, level, &mut path, block) {
+        Ok(leaf) => leaf,
+        Err(e) => return Err(e),
+    };
+    let Some(_) = leaf.cell else {
+        return Ok(false);
+    };
+    remove_cell(tx, area, key, leaf, block, into)
+}
+
+// Removes a key, with buffers for two blocks.
+fn remove_with<T: TxBlocks>(
+    tx: &mut T,
+    area: Area,
+    key: &[u8],
+    block: &mut [u8],
+    into: &mut [u8],
+) -> Result<bool, StoreError>
+    requires area { IsTreeArea area }
+    requires size { (T.state tx.old).size ≡ area.size }
+    requires fits { area.start + area.blocks ≤ (T.state tx.old).blocks }
+    requires key { is_key key.now ≡ true }
+    requires block { length block.old ≡ area.size }
+    requires into { length into.old ≡ area.size }
+    ensures run { HasRun (del_program area key.now) (T.state tx.old) (T.state tx.new) result }
+    ensures behaves { Behaves (T.state tx.old) (T.state tx.new) 1 (T.device tx.old) (T.device tx.new) result }
+{
+    match read_head(tx, area, block) {
+        Ok((root, level)) => remove_below(tx, area, key, root, level, block, into),
+        Err(e) => Err(e),
+    }
+}
+
+/// Removes a key, and says whether the region's map had it. `BadKey` comes exactly where the key does not have 1 to 28 bytes,
+/// `Broken` where the head or a node of the descent fails a test. A refusal has written nothing.
+pub fn del<T: TxBlocks>(
+    alloc: Global,
+    tx: &mut T,
+    region: Region,
+    key: &[u8],
+) -> Result<bool, StoreError>
+    requires area { IsTreeArea (area_of (T.state tx.old) region) }
+    requires fits { region.start + region.size ≤ (T.state tx.old).blocks }
+    ensures ended { HasEnded (del_program (area_of (T.state tx.old) region) key.now) (T.state tx.old) (T.state tx.new) result }
+    ensures local { IfOk result (IsLocalCall (IsTreeRegion (area_of (T.state tx.old) region)) (tree_map (area_of (T.state tx.old) region)) (del_op key.now) (T.state tx.old) (T.state tx.new)) }
+    ensures bad_key { result ≡ Err StoreError.BadKey ↔ IsFalse (is_key key.now) }
+    ensures cause { IfErr result (IsStoreCause (T.state tx.new) 1 (T.device tx.old) (T.device tx.new)) }
+    ensures unwritten { IfErr result (IsUnwritten (T.state tx.old) (T.state tx.new)) }
+    ensures later { IsLater (T.device tx.old) (T.device tx.new) }
+    ensures passed { OnOk result ((T.device tx.new).faults ≡ (T.device tx.old).faults) }
+{
+    if !is_key(key) {
+        return Err(StoreError::BadKey);
+    }
+    let area = Area {
+        size: tx.block_size(),
+        start: region.start,
+        blocks: region.size,
+    };
+    let mut block = buffer(alloc, area.size as usize)?;
+    let mut into = buffer(alloc, area.size as usize)?;
+    remove_with(tx, area, key, &mut block, &mut into)
+}

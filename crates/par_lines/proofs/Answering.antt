@@ -1,0 +1,213 @@
+-- What each call of a session makes of a client's line.
+use Rattle.std.proofs.Common.{◌≡◌, ℕ, List, [], ◌∷◌, Option, Some, None, ap, inl, inr, refl, sym, subst, ◌∙◌}
+use Rattle.std.specs.Prelude.{IsSome, Result, Ok, Err}
+use Rattle.handle_pass.specs.declared.errors.BeginError.{BeginError}
+use Rattle.handle_pass.specs.declared.errors.BeginError.TheVariants as begin
+use Rattle.handle_pass.specs.declared.errors.EndError.{EndError}
+use Rattle.handle_pass.specs.declared.errors.EndError.TheVariants as end
+use Rattle.handle_pass.specs.declared.errors.PostTxError.{PostTxError}
+use Rattle.handle_pass.specs.declared.errors.PostTxError.TheVariants as post
+use Rattle.handle_pass.specs.declared.session.Session.{Session}
+use Rattle.handle_pass.specs.Calls.{left_by, HasAborted, HasBegun, HasChecked, HasEnded, IsCheckCause}
+use Rattle.handle_pass.specs.Handles.{HasLooked, HasPosted}
+use Rattle.handle_pass.specs.Sessions.{own, KeepsTx, Made}
+use Rattle.handle_pass.proofs.Logs.{moves_made, moves_none, moves_on}
+use Rattle.iso_core.specs.declared.answers.Stat.{Stat}
+use Rattle.iso_shared.specs.Legal.{reply_of}
+use Rattle.iso_model.specs.declared.access.EndReply.{EndReply}
+use Rattle.iso_model.specs.declared.access.Mode.{Mode}
+use Rattle.iso_model.specs.declared.core_error.CoreError.{CoreError}
+use Rattle.iso_model.specs.declared.core_error.CoreError.TheVariants as error
+use Rattle.iso_model.specs.declared.memory.InTx.{InTx}
+use Rattle.iso_model.specs.declared.memory.NotInTx.{NotInTx}
+use Rattle.iso_model.specs.declared.script.Op.{Op}
+use Rattle.iso_model.specs.declared.script.Op.TheVariants as op
+use Rattle.iso_model.specs.declared.script.Reply.{Reply}
+use Rattle.iso_model.specs.declared.script.Reply.TheVariants as reply
+use Rattle.iso_model.specs.Step.{step}
+use Rattle.iso_shared.specs.declared.entry.Call.TheVariants as call
+use Rattle.iso_shared.specs.declared.entry.Cause.TheVariants as cause
+use Rattle.iso_shared.specs.declared.entry.Entry.{Entry}
+use Rattle.iso_shared.specs.declared.entry.Entry.TheVariants as entry
+use Rattle.iso_shared.specs.States.{Start}
+use Rattle.iso_shared.specs.Told.{cause_of, compact_entry, numbers_of, trim_entry, upgrade_entry}
+use Rattle.script_runner.specs.declared.machine.Stop.{Stop}
+use Rattle.par_script.specs.Lines.{Own, Did, Does, EndsThen}
+use Rattle.par_script.specs.Lines as lines
+use Rattle.par_lines.specs.Answers.{Answered}
+use Rattle.par_lines.specs.Replies as say
+
+-- a refusal of the device, as the client is answered
+pub refused_is : (before now : ℕ) (e : CoreError) → say.refused e ≡ lines.refused (cause_of before now e)
+refused_is before now error.Down = refl
+refused_is before now error.TooManyTx = refl
+refused_is before now (error.LogFull need free) = refl
+refused_is before now error.Disk = refl
+refused_is before now error.Memory = refl
+refused_is before now (error.Worn at) = refl
+refused_is before now error.ModeFixed = refl
+
+left_is : (before now : ℕ) (e : CoreError) (o : Own) → left_by e o ≡ lines.left_by (cause_of before now e) o
+left_is before now error.Down o = refl
+left_is before now error.TooManyTx o = refl
+left_is before now (error.LogFull need free) o = refl
+left_is before now error.Disk o = refl
+left_is before now error.Memory o = refl
+left_is before now (error.Worn at) o = refl
+left_is before now error.ModeFixed o = refl
+
+some_own : (own : Option Own) → IsSome own → (o : Own) × (own ≡ Some o)
+some_own None never = absurd (cc never)
+some_own (Some o) is = (o, refl)
+
+in_tx : (A : Start) → (o : Own) (named : Option Mode) → Does A.world.geometry (Some o) (op.Begin named) [] (Ok reply.InTx) (Some o)
+unfolding step
+in_tx A o named = (refl, refl, refl)
+
+no_abort : (A : Start) → Does A.world.geometry None op.Abort [] (Ok reply.NotInTx) None
+unfolding step
+no_abort A = (refl, refl, refl)
+
+no_release : (A : Start) → (label : List ℕ) → Does A.world.geometry None (op.Release label) [] (Ok reply.NotInTx) None
+unfolding step
+no_release A label = (refl, refl, refl)
+
+no_takeover : (A : Start) → (o : Own) (label : List ℕ) → Does A.world.geometry (Some o) (op.Takeover label) [] (Ok reply.InTx) (Some o)
+unfolding step
+no_takeover A o label = (refl, refl, refl)
+
+trims : (A : Start) → (k : ℕ) (was own' : Option Own) → own' ≡ was → Does A.world.geometry was op.Trim (entry.Trim k ∷ []) (Ok (reply.Trimmed k)) own'
+trims A k None own' is = (refl, is)
+trims A k (Some o) own' is = (refl, is)
+
+no_trim : (A : Start) → (b n : ℕ) (e : CoreError) (was own' : Option Own) → own' ≡ was → Does A.world.geometry was op.Trim (entry.Refused call.Trim (cause_of b n e) ∷ []) (say.refused e) own'
+no_trim A b n e None own' is = (refl, refused_is b n e, is)
+no_trim A b n e (Some o) own' is = (refl, refused_is b n e, is)
+
+compacts : (A : Start) → (k : ℕ) (was own' : Option Own) → own' ≡ was → Does A.world.geometry was op.Compact (entry.Compact k ∷ []) (Ok (reply.Compacted k)) own'
+compacts A k None own' is = (refl, is)
+compacts A k (Some o) own' is = (refl, is)
+
+no_compact : (A : Start) → (b n : ℕ) (e : CoreError) (was own' : Option Own) → own' ≡ was → Does A.world.geometry was op.Compact (entry.Refused call.Compact (cause_of b n e) ∷ []) (say.refused e) own'
+no_compact A b n e None own' is = (refl, refused_is b n e, is)
+no_compact A b n e (Some o) own' is = (refl, refused_is b n e, is)
+
+upgrades : (A : Start) → (k : ℕ) (was own' : Option Own) → own' ≡ was → Does A.world.geometry was op.Upgrade (entry.Upgrade k ∷ []) (Ok (reply.Upgraded k)) own'
+upgrades A k None own' is = (refl, is)
+upgrades A k (Some o) own' is = (refl, is)
+
+no_upgrade : (A : Start) → (b n : ℕ) (e : CoreError) (was own' : Option Own) → own' ≡ was → Does A.world.geometry was op.Upgrade (entry.Refused call.Upgrade (cause_of b n e) ∷ []) (say.refused e) own'
+no_upgrade A b n e None own' is = (refl, refused_is b n e, is)
+no_upgrade A b n e (Some o) own' is = (refl, refused_is b n e, is)
+
+tells : (A : Start) → (n : Stat) (was own' : Option Own) → own' ≡ was → Does A.world.geometry was op.Stat (entry.Stat (numbers_of n) ∷ []) (Ok (say.numbers n)) own'
+tells A n None own' is = (refl, is)
+tells A n (Some o) own' is = (refl, is)
+
+-- the check ahead of an end, and the end
+no_end : (A : Start) → Does A.world.geometry None op.End [] (Ok reply.NotInTx) None
+unfolding step
+no_end A = (refl, refl, refl)
+
+pub same_own : (o p : Own) → Some o ≡ Some p → o ≡ p
+same_own o p is = ap (unwrap_or' o) is
+  where
+    unwrap_or' : Own → Option Own → Own
+    unwrap_or' d None = d
+    unwrap_or' d (Some x) = x
+
+module _ {D O : Type 0} (A : Start) where
+  -- a line of one entry
+  pub by_entry : (s t : Session D O) (o : Op) (e : Entry) (r : Result Reply Stop) (was : Option Own) → own s ≡ was → Made A s t e → Does A.world.geometry was o (e ∷ []) r (own t) → Answered A s o r t
+  by_entry s t o e r was is m does = record {
+    entries = e ∷ [];
+    moves = moves_made A s t e m;
+    did = inl (subst (λ w. Does A.world.geometry w o (e ∷ []) r (own t)) (sym is) does);
+    of = ap (λ v. v.now) m.of;
+  }
+
+  -- a line that the client's own state answers
+  pub by_none : (s t : Session D O) (o : Op) (r : Result Reply Stop) (was : Option Own) → own s ≡ was → t ≡ s → Does A.world.geometry was o [] r was → Answered A s o r t
+  by_none s t o r was is same does =
+      subst (λ u. Answered A s o r u) (sym same) (record {
+        entries = [];
+        moves = moves_none s;
+        did = subst (λ w. Did A.world.geometry w o [] r w) (sym is) (inl does);
+        of = refl;
+      })
+
+  pub begun : (s t : Session D O) (named : Option Mode) (r : Result ℕ BeginError) → HasBegun A s named r t → Answered A s (op.Begin named) (say.begun r) t
+  begun s t named (Ok at) h = by_entry s t (op.Begin named) (entry.Begin h.1 at h.2) (Ok (reply.Began at)) None h.0 h.3 (h.4, refl, h.5)
+  begun s t named (Err begin.InTx) h =
+      let o = some_own (own s) h.0 in
+      by_none s t (op.Begin named) (Ok reply.InTx) (Some o.0) o.1 h.1 (in_tx A o.0 named)
+  begun s t named (Err (begin.Core e)) h =
+      by_entry s t (op.Begin named) (entry.Refused (call.Begin named) (cause_of h.2 h.3 e)) (say.refused e) None h.0 h.4 (refl, refused_is h.2 h.3 e, h.1)
+
+  pub aborted : (s t : Session D O) (r : Result (Unit {0}) NotInTx) → HasAborted A s r t → Answered A s op.Abort (say.aborted r) t
+  aborted s t (Ok done) h = by_entry s t op.Abort (entry.Abort h.0.number) (Ok reply.Done) (Some h.0) h.1 h.3 (refl, refl, h.2)
+  aborted s t (Err e) h = by_none s t op.Abort (Ok reply.NotInTx) None h.0 h.1 (no_abort A)
+
+  pub posted : (s t : Session D O) (label : List ℕ) (r : Result (Unit {0}) PostTxError) → HasPosted A s label r t → Answered A s (op.Release label) (say.posted r) t
+  posted s t label (Ok done) h =
+      by_entry s t (op.Release label) (entry.Post h.0.number label h.0.accesses) (Ok reply.Done) (Some h.0) h.1 h.3 (refl, refl, refl, refl, h.2)
+  posted s t label (Err post.NotInTx) h = by_none s t (op.Release label) (Ok reply.NotInTx) None h.0 h.1 (no_release A label)
+  posted s t label (Err post.LabelTaken) h =
+      by_entry s t (op.Release label) (entry.Refused (call.Post h.0.number label h.0.accesses) cause.LabelTaken) (Ok reply.LabelTaken) (Some h.0) h.1 h.3 (refl, refl, h.2.is ∙ h.1)
+  posted s t label (Err post.Memory) h =
+      by_entry s t (op.Release label) (entry.Refused (call.Post h.0.number label h.0.accesses) cause.Memory) (say.posted (Err post.Memory)) (Some h.0) h.1 h.3 (refl, refl, h.2.is ∙ h.1)
+
+  pub looked : (s t : Session D O) (label : List ℕ) (r : Result (Option ℕ) InTx) → HasLooked A s label r t → Answered A s (op.Takeover label) (say.looked r) t
+  looked s t label (Ok (Some at)) h =
+      by_entry s t (op.Takeover label) (entry.Look label (Some h.1)) (Ok (reply.Began at)) None h.0 h.4 (refl, ap (λ n. Ok (reply.Began n)) h.3, h.2)
+  looked s t label (Ok None) h = by_entry s t (op.Takeover label) (entry.Look label None) (Ok reply.NoHandle) None h.0 h.2 (refl, refl, h.1)
+  looked s t label (Err e) h =
+      let o = some_own (own s) h.0 in
+      by_none s t (op.Takeover label) (Ok reply.InTx) (Some o.0) o.1 h.1 (no_takeover A o.0 label)
+
+  -- a line that leaves the transaction, whatever it is
+  kept : (s t : Session D O) (o : Op) (e : Entry) (r : Result Reply Stop) → Made A s t e → own t ≡ own s → ((was own' : Option Own) → own' ≡ was → Does A.world.geometry was o (e ∷ []) r own')
+      → Answered A s o r t
+  kept s t o e r m same does = by_entry s t o e r (own s) refl m (does (own s) (own t) same)
+
+  pub trimmed : (s t : Session D O) (b n : ℕ) (r : Result ℕ CoreError) → Made A s t (trim_entry b n r) → KeepsTx s t → Answered A s op.Trim (say.trimmed r) t
+  trimmed s t b n (Ok k) m keeps = kept s t op.Trim (entry.Trim k) (Ok (reply.Trimmed k)) m keeps.is (trims A k)
+  trimmed s t b n (Err e) m keeps = kept s t op.Trim (entry.Refused call.Trim (cause_of b n e)) (say.refused e) m keeps.is (no_trim A b n e)
+
+  pub compacted : (s t : Session D O) (b n : ℕ) (r : Result ℕ CoreError) → Made A s t (compact_entry b n r) → KeepsTx s t → Answered A s op.Compact (say.compacted r) t
+  compacted s t b n (Ok k) m keeps = kept s t op.Compact (entry.Compact k) (Ok (reply.Compacted k)) m keeps.is (compacts A k)
+  compacted s t b n (Err e) m keeps = kept s t op.Compact (entry.Refused call.Compact (cause_of b n e)) (say.refused e) m keeps.is (no_compact A b n e)
+
+  pub upgraded : (s t : Session D O) (b n : ℕ) (r : Result ℕ CoreError) → Made A s t (upgrade_entry b n r) → KeepsTx s t → Answered A s op.Upgrade (say.upgraded r) t
+  upgraded s t b n (Ok k) m keeps = kept s t op.Upgrade (entry.Upgrade k) (Ok (reply.Upgraded k)) m keeps.is (upgrades A k)
+  upgraded s t b n (Err e) m keeps = kept s t op.Upgrade (entry.Refused call.Upgrade (cause_of b n e)) (say.refused e) m keeps.is (no_upgrade A b n e)
+
+  pub told_numbers : (s t : Session D O) (n : Stat) → Made A s t (entry.Stat (numbers_of n)) → KeepsTx s t → Answered A s op.Stat (Ok (say.numbers n)) t
+  told_numbers s t n m keeps = kept s t op.Stat (entry.Stat (numbers_of n)) (Ok (say.numbers n)) m keeps.is (tells A n)
+
+  pub unchecked : (s t : Session D O) (e : EndError) → HasChecked A s (Err e) t → Answered A s op.End (say.not_ended e) t
+  unchecked s t end.NotInTx h = by_none s t op.End (Ok reply.NotInTx) None h.0 h.1 (no_end A)
+  unchecked s t (end.Core e) h = by_cause h.3
+    where
+      by_cause : IsCheckCause A s t h.0 e → Answered A s op.End (say.refused e) t
+      by_cause (inl c) = by_entry s t op.End (entry.Refused (call.Recent h.0.number) (cause_of c.0 c.1 e)) (say.refused e) (Some h.0) h.1 c.2 (refl, refused_is c.0 c.1 e, h.2.is ∙ h.1)
+      by_cause (inr c) = by_entry s t op.End (entry.Recent h.0.number c.1) (say.refused e) (Some h.0) h.1 c.2 (refl, (ap say.refused c.0, h.2.is ∙ h.1))
+
+  -- the end behind a check
+  two : (s m t : Session D O) (o : Own) (upto : ℕ) (e : Entry) (r : Result Reply Stop) → own s ≡ Some o → Made A s m (entry.Recent o.number upto) → Made A m t e → EndsThen o (e ∷ []) r (own t)
+      → Answered A s op.End r t
+  two s m t o upto e r is first second ends = record {
+    entries = entry.Recent o.number upto ∷ e ∷ [];
+    moves = moves_on s m t (entry.Recent o.number upto ∷ []) (e ∷ []) (moves_made A s m (entry.Recent o.number upto) first) (moves_made A m t e second);
+    did = inl (subst (λ w. Does A.world.geometry w op.End (entry.Recent o.number upto ∷ e ∷ []) r (own t)) (sym is) (refl, ends));
+    of = ap (λ v. v.now) second.of ∙ ap (λ v. v.now) first.of;
+  }
+
+  pub ended : (s m t : Session D O) (upto old new : ℕ) (r : Result EndReply EndError) → HasChecked A s (Ok upto) m → HasEnded A m old r t new → Answered A s op.End (say.ended r) t
+  ended s m t upto old new (Ok answer) c h =
+      let same : h.0 ≡ c.0 = same_own h.0 c.0 (sym h.1 ∙ c.2) in
+      two s m t c.0 upto _ (Ok (reply_of answer)) c.1 c.4 h.3 (ap (λ (o : Own). o.number) same, ap (λ (o : Own). o.accesses) same, refl, h.2)
+  ended s m t upto old new (Err end.NotInTx) c h = absurd (cc (sym h.0 ∙ c.2))
+  ended s m t upto old new (Err (end.Core e)) c h =
+      let same : h.0 ≡ c.0 = same_own h.0 c.0 (sym h.1 ∙ c.2) in
+      two s m t c.0 upto _ (say.refused e) c.1 c.4 h.5 (ap (λ (o : Own). call.End o.number o.accesses) same, refused_is h.3 h.4 e, h.2 ∙ left_is h.3 h.4 e h.0 ∙ ap (lines.left_by (cause_of h.3 h.4 e)) same)

@@ -1,0 +1,10 @@
+pub mod Answering
+pub mod Awaiting
+pub mod Writing
+pub mod Allowing
+pub mod Marking
+pub mod Fetching
+pub mod Putting
+pub mod Gathering
+pub mod Sweeping
+pub mod Dealing

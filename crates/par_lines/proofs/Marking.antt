@@ -1,0 +1,116 @@
+-- Marks of a client's last access: what the rules answer, and what the session does.
+use Rattle.std.proofs.Common.{◌≡◌, ℕ, false, cond, eq-eqb, List, [], ◌∷◌, ◌++◌, Option, Some, None, ap, inl, refl, sym, subst, ◌∙◌}
+use Rattle.std.specs.Prelude.{Result, Ok, Err, is_some, option_map}
+use Rattle.handle_pass.specs.declared.session.Session.{Session}
+use Rattle.handle_pass.specs.Accesses.{accesses_of, mark_answer, with_mark, HasMarked}
+use Rattle.handle_pass.specs.Sessions.{Rested}
+use Rattle.handle_pass.specs.Sessions as handle
+use Rattle.handle_pass.proofs.Logs.{moves_rested}
+use Rattle.iso_model.specs.declared.access.Access.{Access}
+use Rattle.iso_model.specs.declared.access.Geometry.{Geometry}
+use Rattle.iso_model.specs.declared.access.MarkError.{MarkError}
+use Rattle.iso_model.specs.declared.access.MarkError.TheVariants as mark
+use Rattle.iso_model.specs.declared.script.Op.TheVariants as op
+use Rattle.iso_model.specs.declared.script.Reply.{Reply}
+use Rattle.iso_model.specs.declared.script.Reply.TheVariants as reply
+use Rattle.iso_model.specs.declared.stores.TxError.{TxError}
+use Rattle.iso_model.specs.declared.stores.TxError.TheVariants as error
+use Rattle.iso_model.specs.Marks.{is_outside, mark_fault, marked, marks_fault}
+use Rattle.iso_model.specs.Step.{mark_refused, mark_step, marked_step, step}
+use Rattle.iso_model.specs.World.{World}
+use Rattle.iso_shared.specs.States.{Start}
+use Rattle.tx_blocks.specs.Tx.{mark_refusal, marking, IsRefused}
+use Rattle.tx_table.specs.Work.{span_at}
+use Rattle.par_script.specs.Lines.{Own, Did, Does, alone, live_of, own_among}
+use Rattle.par_lines.specs.Answers.{Answered}
+use Rattle.par_lines.specs.Replies as say
+use Rattle.par_lines.proofs.Answering.{by_none, same_own}
+
+-- why a mark is refused to a client with this transaction
+abbrev mark_refused_to : Geometry → Option Own → (off len : ℕ) → Option TxError
+mark_refused_to g was off len = mark_refusal (record { size = g.block; blocks = g.blocks; base = None; accesses = accesses_of was; is_open = is_some was }) off len
+
+-- an access without a mark takes one
+pub takes_mark : (size off len : ℕ) (accesses : List Access) (a : Access) → a.spans ≡ [] → is_outside size off len ≡ false → mark_fault size off len (accesses ++ a ∷ []) ≡ None
+takes_mark size off len accesses a none is = rw is (last accesses)
+  where
+    last : (accesses : List Access) → marks_fault (accesses ++ a ∷ []) ≡ None
+    last [] = rw none refl
+    last (b ∷ []) = rw none refl
+    last (b ∷ c ∷ accesses) = last (c ∷ accesses)
+
+marks_to : (g : Geometry) (o : Own) (off len : ℕ) → step (alone g [] (Some o)) 1 (op.Mark off len) ≡ marked_step (alone g [] (Some o)) (live_of o) (span_at off len) (mark_fault g.block off len o.accesses)
+unfolding step mark_step
+marks_to g o off len = refl
+
+no_mark : (g : Geometry) (off len : ℕ) → Does g None (op.Mark off len) [] (Ok reply.NotInTx) None
+unfolding step
+no_mark g off len = (refl, refl, refl)
+
+says_mark : (g : Geometry) (o : Own) (own' : Option Own) (off len : ℕ) (w : Reply × World) → step (alone g [] (Some o)) 1 (op.Mark off len) ≡ w → own' ≡ own_among w.1.live → Does g (Some o) (op.Mark off len) [] (Ok w.0) own'
+says_mark g o own' off len w is left = (refl, ap (λ (v : Reply × World). Ok v.0) (sym is), left ∙ ap (λ (v : Reply × World). own_among v.1.live) (sym is))
+
+refused_reply : (e : MarkError) → say.accessed (Err (marking e)) ≡ Ok (mark_refused e)
+refused_reply mark.BadRange = refl
+refused_reply mark.NoAccess = refl
+refused_reply mark.TooManyMarks = refl
+
+with_last : (o : Own) (off len : ℕ) (g : Geometry) → own_among (marked_step (alone g [] (Some o)) (live_of o) (span_at off len) None).1.live ≡ Some (with_mark o off len)
+with_last o off len g = ap (λ b. own_among (cond b (record (live_of o) { accesses = marked (span_at off len) o.accesses }) (live_of o) ∷ [])) (eq-eqb o.number o.number refl)
+
+-- a mark that was not refused
+pub record Marked {D O : Type 0} (s : Session D O) (off len : ℕ) (r : Result (Unit {0}) TxError) (t : Session D O) : Type 0 where
+  pub answered : r ≡ Ok tt
+  pub own : Own
+  pub was : handle.own s ≡ Some own
+  pub is : handle.own t ≡ Some (with_mark own off len)
+  pub rested : Rested s t
+
+pub never_refused : {D O : Type 0} (s t : Session D O) (off len : ℕ) (r : Result (Unit {0}) TxError) → IsRefused None (λ e. ⊥) r → HasMarked s off len r t → Marked s off len r t
+never_refused s t off len (Ok done) cause did = record { answered = refl; own = did.0; was = did.1; is = did.2; rested = did.3 }
+never_refused s t off len (Err e) cause did = absurd cause
+
+module _ {D O : Type 0} (A : Start) (off len : ℕ) where
+  refused_so : (s t : Session D O) (was : Option Own) (e : TxError) (r : Result (Unit {0}) TxError) → handle.own s ≡ was → r ≡ Err e → HasMarked s off len r t
+      → Does A.world.geometry was (op.Mark off len) [] (say.accessed (Err e)) was → Answered A s (op.Mark off len) (say.accessed r) t
+  refused_so s t was e r is so did does =
+      subst (λ q. HasMarked s off len q t → Answered A s (op.Mark off len) (say.accessed q) t) (sym so) (λ same. by_none A s t (op.Mark off len) (say.accessed (Err e)) was is same does) did
+
+  marked_so : (s t : Session D O) (o : Own) (r : Result (Unit {0}) TxError) → handle.own s ≡ Some o → mark_fault A.world.geometry.block off len o.accesses ≡ None → Marked s off len r t
+      → Answered A s (op.Mark off len) (say.accessed r) t
+  marked_so s t o r is fine m =
+      let g : Geometry = A.world.geometry in
+      let same : m.own ≡ o = same_own m.own o (sym m.was ∙ is) in
+      let stepped : step (alone g [] (Some o)) 1 (op.Mark off len) ≡ marked_step (alone g [] (Some o)) (live_of o) (span_at off len) None = marks_to g o off len ∙ ap (marked_step (alone g [] (Some o)) (live_of o) (span_at off len)) fine in
+      subst (λ q. Answered A s (op.Mark off len) (say.accessed q) t) (sym m.answered) (record {
+        entries = [];
+        moves = moves_rested s t m.rested;
+        did = subst (λ w. Did g w (op.Mark off len) [] (Ok reply.Done) (handle.own t)) (sym is)
+            (inl (says_mark g o (handle.own t) off len (marked_step (alone g [] (Some o)) (live_of o) (span_at off len) None) stepped (m.is ∙ ap (λ p. Some (with_mark p off len)) same ∙ sym (with_last o off len g))));
+        of = ap (λ v. v.now) m.rested.of;
+      })
+
+  -- a line that marks
+  pub mark_line : (s t : Session D O) (r : Result (Unit {0}) TxError) → IsRefused (mark_answer A s off len) (λ e. ⊥) r → HasMarked s off len r t → Answered A s (op.Mark off len) (say.accessed r) t
+  mark_line s t r cause did = by (handle.own s) refl
+    where
+      by : (was : Option Own) → handle.own s ≡ was → Answered A s (op.Mark off len) (say.accessed r) t
+      by None is = refused_so s t None error.NotInTx r is (subst (λ w. IsRefused (mark_refused_to A.world.geometry w off len) (λ e. ⊥) r) is cause) did (no_mark A.world.geometry off len)
+      by (Some o) is = fault (mark_fault A.world.geometry.block off len o.accesses) refl
+        where
+          known : IsRefused (mark_refused_to A.world.geometry (Some o) off len) (λ e. ⊥) r
+          known = subst (λ w. IsRefused (mark_refused_to A.world.geometry w off len) (λ e. ⊥) r) is cause
+
+          at : (f : Option MarkError) → mark_fault A.world.geometry.block off len o.accesses ≡ f → IsRefused (option_map marking f) (λ e. ⊥) r
+          at f so = subst (λ v. IsRefused (option_map marking v) (λ e. ⊥) r) so known
+
+          fault : (f : Option MarkError) → mark_fault A.world.geometry.block off len o.accesses ≡ f → Answered A s (op.Mark off len) (say.accessed r) t
+          fault (Some e) so =
+              let stepped = marks_to A.world.geometry o off len ∙ ap (marked_step (alone A.world.geometry [] (Some o)) (live_of o) (span_at off len)) so in
+              refused_so s t (Some o) (marking e) r is (at (Some e) so) did
+              (subst (λ q. Does A.world.geometry (Some o) (op.Mark off len) [] q (Some o)) (sym (refused_reply e)) (says_mark A.world.geometry o (Some o) off len (mark_refused e, alone A.world.geometry [] (Some o)) stepped refl))
+          fault None so = marked_so s t o r is so (never_refused s t off len r (at None so) did)
+
+-- a mark is not refused to a session whose transaction may take it
+pub mark_free : {D O : Type 0} (A : Start) (s : Session D O) (o : Own) (off len : ℕ) → handle.own s ≡ Some o → mark_fault A.world.geometry.block off len o.accesses ≡ None → mark_answer A s off len ≡ None
+mark_free A s o off len is fine = ap (λ w. mark_refused_to A.world.geometry w off len) is ∙ ap (option_map marking) fine

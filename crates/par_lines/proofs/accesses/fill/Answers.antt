@@ -1,0 +1,20 @@
+use Rattle.std.proofs.Common.{subst, sym, ◌∙◌}
+use Rattle.std.specs.Prelude.{Ok}
+use Rattle.iso_model.specs.declared.script.Op.TheVariants.{Fill}
+use Rattle.par_lines.specs.Answers.{Answered}
+use Rattle.par_lines.proofs.Writing.{right_fill, wants, wrong_fill}
+use Rattle.par_lines.proofs.accesses.fill.Goals as goal
+
+pub returns-then-bytes-ne1-clause-did : goal.returns-then-bytes-ne1-clause-did
+returns-then-bytes-ne1-clause-did g c =
+    subst (λ r. Answered g.O.Origin.start c.args.session.now (Fill c.args.block c.args.bytes.now) (Ok r) c.args.session.now) (sym c.wrong_bytes.ensures)
+    (wrong_fill g.O.Origin.start c.args.block c.args.bytes.now c.args.geometry.now c.args.session.now c.requires.geometry c.if-bytes-ne1.true)
+
+pub returns-in-Ok-clause-did : goal.returns-in-Ok-clause-did
+returns-in-Ok-clause-did g c =
+    subst (λ r. Answered g.O.Origin.start c.args.session.now (Fill c.args.block c.args.bytes.now) r c.write_block.new.self) (sym c.accessed.ensures)
+    (right_fill g.O.Origin.start c.args.block c.args.bytes.now c.args.geometry.now c.args.session.now c.write_block.new.self c.as_slice.result.now c.write_block.result c.requires.geometry c.if-bytes-ne1.false
+    (c.as_slice.ensures.value ∙ c.in-Ok.ensures) c.write_block.ensures.cause c.write_block.ensures.did)
+
+pub returns-in-Err-clause-did : goal.returns-in-Err-clause-did
+returns-in-Err-clause-did g c = wants g.O.Origin.start c.args.block c.args.bytes.now c.args.session.now (Fill c.args.block c.args.bytes.now)

@@ -1,0 +1,12 @@
+use Rattle.std.proofs.Common.{[], inr, refl}
+use Rattle.std.specs.Prelude.{Err}
+use Rattle.handle_pass.proofs.Logs.{moves_none}
+use Rattle.script_runner.specs.declared.machine.Stop.TheVariants as stop
+use Rattle.par_lines.proofs.client.ParClientClient.step.Goals as goal
+
+pub returns-in-Err-clause-steps : goal.returns-in-Err-clause-steps
+returns-in-Err-clause-steps g c = record {
+  answer = Err stop.Memory;
+  made = record { entries = []; moves = moves_none c.args.self.now.session; did = inr (refl, refl, refl); of = refl };
+  tells = (c.reserve.ensures.items, refl);
+}

@@ -1,0 +1,13 @@
+use Rattle.std.proofs.Common.{◌≡◌, ◌-◌, ◌≤◌, ℕ, length, map, reverse}
+use Rattle.std.specs.Prelude.{All, filter}
+use Rattle.std.specs.List.{range_with_len}
+use Rattle.par_script.specs.Told.{has_line, lines_of}
+use Rattle.par_lines.proofs.deal.deal.Given as goal
+
+abbrev pub invariant-loop-client : goal.invariant-loop-client
+invariant-loop-client l = record {
+  rest : (c : ℕ) → l.client ≤ c → lines_of c (reverse l.rest.items) ≡ lines_of c l.fn.lines.items;
+  clients : map (λ a. a.0) l.dealt.items ≡ filter (has_line l.fn.lines.items) (range_with_len 1 (l.client - 1));
+  few : length l.dealt.items ≤ l.client - 1;
+  lines : All (λ a. a.1.items ≡ lines_of a.0 l.fn.lines.items) l.dealt.items;
+}

@@ -1,0 +1,9 @@
+use Rattle.handle_pass.specs.Sessions.{IsSession}
+use Rattle.par_lines.proofs.Awaiting.{Looking}
+use Rattle.par_lines.proofs.labels.await_label.Given as goal
+
+abbrev pub invariant-loop-round : goal.invariant-loop-round
+invariant-loop-round g l = record {
+  session : IsSession g.O.Origin.start l.session;
+  looking : Looking l.initial.session l.label l.round l.session;
+}

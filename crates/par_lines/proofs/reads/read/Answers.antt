@@ -1,0 +1,14 @@
+use Rattle.std.proofs.Common.{[], subst, sym}
+use Rattle.iso_model.specs.declared.script.Op.TheVariants.{Read}
+use Rattle.par_lines.specs.Answers.{Answered}
+use Rattle.par_lines.proofs.Fetching.{read_line}
+use Rattle.par_lines.proofs.Writing.{wants}
+use Rattle.par_lines.proofs.reads.read.Goals as goal
+
+pub returns-in-Ok-clause-did : goal.returns-in-Ok-clause-did
+returns-in-Ok-clause-did g c =
+    subst (λ r. Answered g.O.Origin.start c.args.session.now (Read c.args.block) r c.read_into-answer.new.session) (sym c.shown.ensures)
+    (read_line g.O.Origin.start c.args.block c.args.session.now c.read_into-answer.new.session c.read_into-answer.new.bytes.items c.read_into-answer.result c.read_into-answer.ensures.cause c.read_into-answer.ensures.did)
+
+pub returns-in-Err-clause-did : goal.returns-in-Err-clause-did
+returns-in-Err-clause-did g c = wants g.O.Origin.start c.args.block [] c.args.session.now (Read c.args.block)

@@ -1,0 +1,19 @@
+use Rattle.std.proofs.Common.{◌≡◌, ◌+◌, ◌≤◌, ◌++◌, length, map, reverse}
+use Rattle.std.specs.Prelude.{All, sum_by}
+use Rattle.turn_lock.specs.Lists.{times}
+use Rattle.iso_shared.specs.Ports.{IsPort, port_view}
+use Rattle.par_lines.specs.Jobs.{units_in, AllTold, Finished}
+use Rattle.par_lines.proofs.run.gather.Given as goal
+
+abbrev pub invariant-loop-job : goal.invariant-loop-job
+invariant-loop-job g l = record {
+  port : IsPort l.shared l.port;
+  units : (port_view l.port).units + sum_by units_in l.jobs.items ≡ (port_view l.initial.port).units + sum_by units_in l.initial.jobs.items;
+  jobs : All (λ j. Finished g.O.Origin.start l.shared l.lines.value.items j) l.jobs.items;
+  room : length l.jobs.items ≤ l.parts.room;
+  clients : reverse (map (λ j. j.id) l.initial.jobs.items) ≡ map (λ p. p.client) l.parts.items ++ reverse (map (λ j. j.id) l.jobs.items);
+  told : AllTold g.O.Origin.start l.lines.value.items (port_view l.port).seen l.parts.items (λ p. times p (port_view l.port).mine);
+}
+
+abbrev pub decreases-loop-job : goal.decreases-loop-job
+decreases-loop-job g l = goal.left-loop-job g l

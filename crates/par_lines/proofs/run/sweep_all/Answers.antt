@@ -1,0 +1,19 @@
+use Rattle.std.proofs.Common.{◌∙◌}
+use Rattle.par_lines.proofs.Sweeping.{swept_last, swept_more}
+use Rattle.par_lines.proofs.run.sweep_all.Goals as goal
+
+pub returns-in-None-sweep-clause-all : goal.returns-in-None-sweep-clause-all
+returns-in-None-sweep-clause-all g c =
+    (swept_last g.O.Origin.start c.args.port.now.pass.me.0 c.loop.port.pass.me.0 c.sweep.new.port.pass.me.0 c.loop.invariant.swept c.in-None-sweep.ensures.made (c.sweep.ensures.all (c.sweep.ensures.units ∙ c.loop.invariant.units)) c.loop.invariant.port.1.2.0 c.loop.invariant.port.1.2.1).0
+
+pub returns-in-None-sweep-clause-swept : goal.returns-in-None-sweep-clause-swept
+returns-in-None-sweep-clause-swept g c =
+    (swept_last g.O.Origin.start c.args.port.now.pass.me.0 c.loop.port.pass.me.0 c.sweep.new.port.pass.me.0 c.loop.invariant.swept c.in-None-sweep.ensures.made (c.sweep.ensures.all (c.sweep.ensures.units ∙ c.loop.invariant.units)) c.loop.invariant.port.1.2.0 c.loop.invariant.port.1.2.1).1
+
+pub loop-preserved : goal.loop-preserved
+loop-preserved g c = record {
+  iterates = (tt, tt);
+  port = c.sweep.ensures.port;
+  units = c.sweep.ensures.units ∙ c.loop.invariant.units;
+  swept = swept_more g.O.Origin.start c.args.port.now.pass.me.0 c.loop.port.pass.me.0 c.sweep.new.port.pass.me.0 c.in-Some-sweep.field-0 c.loop.invariant.swept c.in-Some-sweep.ensures.made (c.sweep.ensures.all (c.sweep.ensures.units ∙ c.loop.invariant.units)) c.loop.invariant.port.1.2.0 c.loop.invariant.port.1.2.1;
+}

@@ -1,0 +1,18 @@
+-- What a client's line makes of its session.
+use Rattle.std.specs.Prelude.{◌≡◌, List, Result}
+use Rattle.iso_model.specs.declared.script.Op.{Op}
+use Rattle.iso_model.specs.declared.script.Reply.{Reply}
+use Rattle.iso_shared.specs.declared.entry.Entry.{Entry}
+use Rattle.iso_shared.specs.States.{Start}
+use Rattle.script_runner.specs.declared.machine.Stop.{Stop}
+use Rattle.handle_pass.specs.declared.session.Session.{Session}
+use Rattle.handle_pass.specs.Logs.{Moves}
+use Rattle.handle_pass.specs.Sessions.{device, own}
+use Rattle.par_script.specs.Lines.{Did}
+
+-- A line was answered, or stopped its client: its entries came to those that the session made, and no others.
+pub record Answered {D O : Type 0} (A : Start) (s : Session D O) (op : Op) (r : Result Reply Stop) (t : Session D O) : Type 0 where
+  pub entries : List Entry
+  pub moves : Moves s t entries
+  pub did : Did A.world.geometry (own s) op entries r (own t)
+  pub of : device t ≡ device s

@@ -1,0 +1,33 @@
+-- What contracts see of a client, and what a line makes of it.
+use Rattle.std.specs.Prelude.{◌≡◌, ℕ, ◌<◌, ◌≤◌, List, [], ◌∷◌, ◌++◌, Option, Some, Result, Ok, Err}
+use Rattle.iso_model.specs.declared.script.Line.{Line}
+use Rattle.iso_model.specs.declared.script.Reply.{Reply}
+use Rattle.iso_shared.specs.States.{Start}
+use Rattle.script_runner.specs.declared.machine.Stop.{Stop}
+use Rattle.par_runner.specs.declared.job.Flow.{Flow}
+use Rattle.par_runner.specs.declared.job.Flow.TheVariants.{Go, Halt}
+use Rattle.handle_pass.specs.Sessions.{IsSession}
+use Rattle.handle_pass.specs.Sessions as handle
+use Rattle.par_lines.specs.declared.client.ParClient.{ParClient}
+use Rattle.par_lines.specs.Answers.{Answered}
+
+-- A line that was answered has its reply behind the others; one that was not leaves them, and says why the client stops.
+abbrev pub Tells : Flow → (number : ℕ) → Result Reply Stop → (told : List (ℕ × Reply)) → (was : Option Stop) → (told' : List (ℕ × Reply)) → (now : Option Stop) → Type 0
+Tells Go number (Ok r) told was told' now = (told' ≡ told ++ (number, r) ∷ []) × (now ≡ was)
+Tells Go number (Err why) told was told' now = ⊥
+Tells Halt number (Ok r) told was told' now = ⊥
+Tells Halt number (Err why) told was told' now = (told' ≡ told) × (now ≡ Some why)
+
+module _ {D O : Type 0} where
+  -- it may make a step
+  pub record IsClient (A : Start) (c : ParClient D O) : Type 0 where
+    pub session : IsSession A c.session
+    pub units : 1 < handle.units c.session
+    pub geometry : c.geometry ≡ A.world.geometry
+    pub small : c.geometry.block ≤ 4096
+
+  -- one step of a client
+  pub record Stepped (A : Start) (c : ParClient D O) (number : ℕ) (line : Line) (flow : Flow) (d : ParClient D O) : Type 0 where
+    pub answer : Result Reply Stop
+    pub made : Answered A c.session line.op answer d.session
+    pub tells : Tells flow number answer c.told.items c.stop d.told.items d.stop

@@ -1,0 +1,5 @@
+pub mod Replies
+pub mod Answers
+pub mod Clients
+pub mod Jobs
+pub mod Ends

@@ -1,0 +1,175 @@
+// The lines that write and mark, which make no entry.
+ghost use Rattle.std.specs.Prelude.{◌≡◌, ◌+◌, ◌-◌, ◌≤◌, ◌++◌, OnOk, length, replicate};
+ghost use Rattle.iso_model.specs.declared.script.Op.TheVariants.{Fill, Mark, Put, Write};
+ghost use Rattle.iso_model.specs.Marks.{is_outside};
+ghost use Rattle.handle_pass.specs.Accesses.{mark_answer, HasMarked};
+ghost use Rattle.handle_pass.specs.Sessions.{own, IsSession};
+ghost use Rattle.tx_blocks.specs.Tx.{IsRefused};
+ghost use Rattle.par_lines.specs.Answers.{Answered};
+ghost use Rattle.par_lines.specs.Replies as spec;
+
+use crate::replies::accessed;
+use handle_pass::Session;
+use iso_disk::Disk;
+use iso_model::{Geometry, Memory, Reply, TxError};
+use iso_shared::Origin;
+use script_runner::Stop;
+
+/// Whether the bytes from `off` on, so many of them, are none or pass the end of a block.
+pub(crate) fn is_outside(size: u32, off: u32, len: usize) -> bool
+    ensures { result ≡ is_outside size off len }
+{
+    len == 0 || len > size as usize || off as usize + len > size as usize
+}
+
+/// What an access is answered whose bytes are wrong.
+pub(crate) fn wrong_bytes<'a, D: Disk + Drop, O: Origin>(
+    session: &Session<'a, D, O>,
+    geometry: &Geometry,
+    block: u32,
+) -> Reply
+    ensures { result ≡ spec.wrong_bytes geometry.now.blocks (own session.now) block }
+{
+    if session.mode().is_none() {
+        Reply::NotInTx
+    } else if block >= geometry.blocks {
+        Reply::BadBlock
+    } else {
+        Reply::BadRange
+    }
+}
+
+/// Writes a whole block.
+pub(crate) fn write<'a, D: Disk + Drop, O: Origin>(
+    session: &mut Session<'a, D, O>,
+    geometry: &Geometry,
+    block: u32,
+    bytes: &[u8],
+) -> Result<Reply, Stop>
+    requires session { IsSession O.start session.old }
+    requires geometry { geometry.now ≡ O.start.world.geometry }
+    ensures session { IsSession O.start session.new }
+    ensures did { Answered O.start session.old (Write block bytes.now) result session.new }
+{
+    if bytes.len() != geometry.block as usize {
+        return Ok(wrong_bytes(session, geometry, block));
+    }
+    accessed(session.write_block(block, bytes))
+}
+
+/// Makes the buffer a block full of one byte.
+fn fill_up(buffer: &mut Vec<u8>, size: u32, byte: u8) -> Result<(), Memory>
+    ensures { OnOk result (buffer.new.items ≡ replicate size byte) }
+{
+    buffer.clear();
+    buffer.resize(size as usize, byte)?;
+    Ok(())
+}
+
+/// Writes a block full of one byte.
+pub(crate) fn fill<'a, D: Disk + Drop, O: Origin>(
+    session: &mut Session<'a, D, O>,
+    geometry: &Geometry,
+    buffer: &mut Vec<u8>,
+    block: u32,
+    bytes: &[u8],
+) -> Result<Reply, Stop>
+    requires session { IsSession O.start session.old }
+    requires geometry { geometry.now ≡ O.start.world.geometry }
+    ensures session { IsSession O.start session.new }
+    ensures did { Answered O.start session.old (Fill block bytes.now) result session.new }
+{
+    if bytes.len() != 1 {
+        return Ok(wrong_bytes(session, geometry, block));
+    }
+    match fill_up(buffer, geometry.block, bytes[0]) {
+        Ok(()) => accessed(session.write_block(block, buffer.as_slice())),
+        Err(_) => Err(Stop::Memory),
+    }
+}
+
+/// How a mark is refused whose bytes are outside a block.
+fn refused_mark<'a, D: Disk + Drop, O: Origin>(session: &Session<'a, D, O>) -> TxError
+    ensures { result ≡ spec.refused_mark (own session.now) }
+{
+    if session.mode().is_none() {
+        TxError::NotInTx
+    } else {
+        TxError::BadRange
+    }
+}
+
+/// Marks a range of the last access, by numbers that may be larger than a block.
+pub(crate) fn mark_range<'a, D: Disk + Drop, O: Origin>(
+    session: &mut Session<'a, D, O>,
+    geometry: &Geometry,
+    off: u32,
+    len: u32,
+) -> Result<(), TxError>
+    requires session { IsSession O.start session.old }
+    requires geometry { geometry.now ≡ O.start.world.geometry }
+    requires small { geometry.now.block ≤ 4096 }
+    ensures session { IsSession O.start session.new }
+    ensures cause { IsRefused (mark_answer O.start session.old off len) (λ e. ⊥) result }
+    ensures did { HasMarked session.old off len result session.new }
+{
+    if is_outside(geometry.block, off, len as usize) {
+        return Err(refused_mark(session));
+    }
+    session.mark_accessed(off as u16, len as u16)
+}
+
+/// Marks a range of the last access.
+pub(crate) fn mark<'a, D: Disk + Drop, O: Origin>(
+    session: &mut Session<'a, D, O>,
+    geometry: &Geometry,
+    off: u32,
+    len: u32,
+) -> Result<Reply, Stop>
+    requires session { IsSession O.start session.old }
+    requires geometry { geometry.now ≡ O.start.world.geometry }
+    requires small { geometry.now.block ≤ 4096 }
+    ensures session { IsSession O.start session.new }
+    ensures did { Answered O.start session.old (Mark off len) result session.new }
+{
+    accessed(mark_range(session, geometry, off, len))
+}
+
+/// Makes the buffer a block of zeros with these bytes at `off`.
+fn lay_out(buffer: &mut Vec<u8>, size: u32, off: u32, bytes: &[u8]) -> Result<(), Memory>
+    requires { off + length bytes.now ≤ size }
+    ensures { OnOk result (buffer.new.items ≡ replicate off 0 ++ bytes.now ++ replicate (size - (off + length bytes.now)) 0) }
+{
+    buffer.clear();
+    buffer.resize(off as usize, 0)?;
+    buffer.extend_from_slice(bytes)?;
+    buffer.resize(size as usize, 0)?;
+    Ok(())
+}
+
+/// Writes these bytes at `off`, and claims no others.
+pub(crate) fn put<'a, D: Disk + Drop, O: Origin>(
+    session: &mut Session<'a, D, O>,
+    geometry: &Geometry,
+    buffer: &mut Vec<u8>,
+    block: u32,
+    off: u32,
+    bytes: &[u8],
+) -> Result<Reply, Stop>
+    requires session { IsSession O.start session.old }
+    requires geometry { geometry.now ≡ O.start.world.geometry }
+    requires small { geometry.now.block ≤ 4096 }
+    ensures session { IsSession O.start session.new }
+    ensures did { Answered O.start session.old (Put block off bytes.now) result session.new }
+{
+    if is_outside(geometry.block, off, bytes.len()) {
+        return Ok(wrong_bytes(session, geometry, block));
+    }
+    if let Err(_) = lay_out(buffer, geometry.block, off, bytes) {
+        return Err(Stop::Memory);
+    }
+    match session.write_block(block, buffer.as_slice()) {
+        Ok(()) => accessed(mark_range(session, geometry, off, bytes.len() as u32)),
+        Err(error) => accessed(Err(error)),
+    }
+}

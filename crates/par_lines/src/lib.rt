@@ -1,0 +1,18 @@
+//! Clients beside each other on one device: each runs its lines on a session of its own.
+#![tactic(auto)]
+
+mod accesses;
+mod calls;
+mod client;
+mod deal;
+mod labels;
+mod par;
+mod reads;
+mod replies;
+mod run;
+mod upkeep;
+
+pub use par::{ParEnd, par_lines};
+
+#[cfg(test)]
+mod tests;

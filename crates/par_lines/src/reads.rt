@@ -1,0 +1,116 @@
+// The lines that read.
+ghost use Rattle.std.specs.Prelude.{◌≡◌, ◌+◌, ◌≤◌, IfOk, drop, length, take, vec_len};
+ghost use Rattle.iso_model.specs.declared.script.Op.TheVariants.{Get, Read};
+ghost use Rattle.handle_pass.specs.Accesses.{access_answer, HasRead, IsReadCause};
+ghost use Rattle.handle_pass.specs.Sessions.{IsSession};
+ghost use Rattle.tx_blocks.specs.Tx.{IsRefused};
+ghost use Rattle.par_lines.specs.Answers.{Answered};
+ghost use Rattle.par_lines.specs.Replies as spec;
+
+use crate::accesses::{is_outside, mark_range, wrong_bytes};
+use crate::replies::accessed;
+use handle_pass::Session;
+use iso_disk::Disk;
+use iso_model::{Bytes, Geometry, Memory, Reply, TxError};
+use iso_shared::Origin;
+use script_runner::Stop;
+use std::alloc::Global;
+use std::sync::Wait;
+
+/// Zeros, as many as a block has bytes.
+fn zeros(alloc: Global, size: u32) -> Result<Vec<u8>, Memory>
+    ensures { IfOk result (λ bytes. length bytes.items ≡ size) }
+{
+    let bytes = vec![in alloc; 0u8; size as usize]?;
+    Ok(bytes)
+}
+
+/// Keeps so many bytes from `off` on.
+fn cut(bytes: &mut Vec<u8>, off: u32, len: u32)
+    requires { off + len ≤ vec_len bytes.old }
+    ensures { bytes.new.items ≡ take len (drop off bytes.old.items) }
+{
+    bytes.copy_within(off as usize..off as usize + len as usize, 0);
+    bytes.truncate(len as usize);
+}
+
+/// Reads a block into a vector that has as many bytes.
+fn read_into<'a, D: Disk + Drop, O: Origin, R: Wait>(
+    rt: &R,
+    session: &mut Session<'a, D, O>,
+    bytes: &mut Vec<u8>,
+    block: u32,
+) -> Result<(), TxError>
+    requires session { IsSession O.start session.old }
+    requires size { length bytes.old.items ≡ O.start.world.geometry.block }
+    ensures session { IsSession O.start session.new }
+    ensures cause { IsRefused (access_answer O.start session.old block) IsReadCause result }
+    ensures did { HasRead O.start session.old block result bytes.new.items session.new }
+    ensures length { vec_len bytes.new ≡ O.start.world.geometry.block }
+{
+    session.read_block(rt, block, bytes.as_mut_slice())
+}
+
+/// What a line is answered that read these bytes, or could not.
+fn shown(answer: Result<(), TxError>, bytes: Vec<u8>) -> Result<Reply, Stop>
+    ensures { result ≡ spec.shown answer bytes.items }
+{
+    match answer {
+        Ok(()) => Ok(Reply::Shown(Bytes::of(bytes))),
+        Err(error) => accessed(Err(error)),
+    }
+}
+
+/// Reads a whole block.
+pub(crate) fn read<'a, D: Disk + Drop, O: Origin, R: Wait>(
+    rt: &R,
+    alloc: Global,
+    session: &mut Session<'a, D, O>,
+    geometry: &Geometry,
+    block: u32,
+) -> Result<Reply, Stop>
+    requires session { IsSession O.start session.old }
+    requires geometry { geometry.now ≡ O.start.world.geometry }
+    ensures session { IsSession O.start session.new }
+    ensures did { Answered O.start session.old (Read block) result session.new }
+{
+    match zeros(alloc, geometry.block) {
+        Ok(mut bytes) => {
+            let answer = read_into(rt, session, &mut bytes, block);
+            shown(answer, bytes)
+        }
+        Err(_) => Err(Stop::Memory),
+    }
+}
+
+/// Reads `len` bytes at `off`, and claims no others.
+pub(crate) fn get<'a, D: Disk + Drop, O: Origin, R: Wait>(
+    rt: &R,
+    alloc: Global,
+    session: &mut Session<'a, D, O>,
+    geometry: &Geometry,
+    block: u32,
+    off: u32,
+    len: u32,
+) -> Result<Reply, Stop>
+    requires session { IsSession O.start session.old }
+    requires geometry { geometry.now ≡ O.start.world.geometry }
+    requires small { geometry.now.block ≤ 4096 }
+    ensures session { IsSession O.start session.new }
+    ensures did { Answered O.start session.old (Get block off len) result session.new }
+{
+    if is_outside(geometry.block, off, len as usize) {
+        return Ok(wrong_bytes(session, geometry, block));
+    }
+    let Ok(mut bytes) = zeros(alloc, geometry.block) else {
+        return Err(Stop::Memory);
+    };
+    match read_into(rt, session, &mut bytes, block) {
+        Ok(()) => {
+            let answer = mark_range(session, geometry, off, len);
+            cut(&mut bytes, off, len);
+            shown(answer, bytes)
+        }
+        Err(error) => accessed(Err(error)),
+    }
+}

@@ -1,0 +1,128 @@
+// Clients beside each other over a device in memory: what no clause says. The image has four blocks of 64 bytes.
+ghost use Rattle.std.specs.Prelude.{◌≡◌, replicate, IfOk, IsTrue};
+ghost use Rattle.iso_core.specs.Core.{StandsFor};
+ghost use Rattle.iso_core.specs.Standing.{up};
+ghost use Rattle.iso_memdisk.specs.MemDisk.{state_of};
+ghost use Rattle.iso_model.specs.Geometry.{is_valid};
+ghost use Rattle.iso_model.specs.World.{empty_history, fresh};
+ghost use Rattle.iso_shared.specs.TestImage.{small, MayStart};
+
+use crate::{ParEnd, par_lines};
+use iso_core::Core;
+use iso_memdisk::MemDisk;
+use iso_model::{Geometry, Line, Memory, Mode, Parsed};
+use iso_recover::format_image;
+use iso_shared::{Origin, Shared};
+use par_runner::Gate;
+use script_text::parse_line;
+use std::alloc::{AllocError, Global};
+use std::marker::Brand;
+use std::sync::Wait;
+use std::test::Fail;
+use std::thread::Threads;
+
+#[tactic(auto, unfolding(iso_model::specs::Geometry::is_valid))]
+fn small() -> Geometry
+    ensures same { result ≡ small }
+    ensures valid { IsTrue (is_valid result) }
+{
+    Geometry {
+        block: 64,
+        blocks: 4,
+        log: 4096,
+        mode: Mode::Serial,
+        hash: 0,
+        tree: 0,
+        form: 1,
+    }
+}
+
+fn zeros(alloc: Global) -> Result<Vec<u8>, AllocError>
+    ensures { IfOk result (λ v. v.items ≡ replicate 8832 0) }
+{
+    Ok(vec![in alloc; 0; 8832]?)
+}
+
+fn new_core(alloc: Global) -> Result<Core<MemDisk>, Memory>
+    ensures { IfOk result (λ core. StandsFor state_of core (fresh small 1 (empty_history small)) up) }
+{
+    let bytes = zeros(alloc)?;
+    match format_image(alloc, MemDisk::new(alloc, bytes), &small()) {
+        Ok(core) => Ok(core),
+        Err((_error, _disk)) => Err(Memory),
+    }
+}
+
+#[derive(Drop)]
+struct Open;
+
+impl Gate for Open {
+    fn before(&self, _client: u8, _number: u64) {}
+}
+
+/// The lines of a script, numbered from 1.
+fn lines_of(alloc: Global, script: &[&[u8]]) -> Option<Vec<(u64, Line)>> {
+    let mut lines = Vec::new(alloc);
+    let mut number = 0u64;
+    for text in script {
+        number = number.wrapping_add(1);
+        match parse_line(alloc, text) {
+            Ok(Parsed::Line(line)) => lines.push((number, line)).ok()?,
+            _ => return None,
+        }
+    }
+    Some(lines)
+}
+
+/// The run of these lines over a core.
+fn run_over<O: Origin + Send + Sync, R: Threads + Wait + Sync>(
+    rt: &R,
+    alloc: Global,
+    core: Core<MemDisk>,
+    lines: Vec<(u64, Line)>,
+) -> Option<ParEnd>
+    requires start { MayStart state_of O.start core }
+{
+    match Shared::<MemDisk, O>::new(alloc, core) {
+        Err((_memory, _core)) => None,
+        Ok((shared, mut port)) => {
+            let ended = par_lines(rt, alloc, &shared, &mut port, lines, &Open);
+            let _core = shared.close(port);
+            Some(ended)
+        }
+    }
+}
+
+/// The run of a script over a new image.
+fn run<R: Threads + Wait + Sync>(rt: &R, alloc: Global, script: &[&[u8]]) -> Option<ParEnd> {
+    let lines = lines_of(alloc, script)?;
+    let core = new_core(alloc).ok()?;
+    run_over::<Brand, R>(rt, alloc, core, lines)
+}
+
+#[test]
+fn a_label_that_nobody_posts_is_not_found(rt: HostRuntime) -> Result<(), Fail> {
+    let ended = run(&rt, rt.alloc(), &[b"1 await q"]).expect(&rt, "a run");
+    assert_eq!(rt; ended.status, 0);
+    assert!(rt; ended.text.as_slice() == b"1 no-handle\n".as_slice());
+    Ok(())
+}
+
+#[test]
+fn a_client_commits_what_another_one_wrote(rt: HostRuntime) -> Result<(), Fail> {
+    let script: &[&[u8]] = &[
+        b"1 begin",
+        b"1 put 2 5 abcd",
+        b"1 release a",
+        b"2 await a",
+        b"2 get 2 5 2",
+        b"2 end",
+    ];
+    let ended = run(&rt, rt.alloc(), script).expect(&rt, "a run");
+    assert_eq!(rt; ended.status, 0);
+    assert!(rt;
+        ended.text.as_slice()
+            == b"1 ok begin 0\n1 ok\n1 ok\n2 ok begin 0\n2 ok abcd\n2 ok commit 1\ncommit 1 by 2 line 6\n".as_slice()
+    );
+    Ok(())
+}

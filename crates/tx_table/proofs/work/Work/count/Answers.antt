@@ -1,0 +1,9 @@
+use Rattle.std.proofs.Common.{subst}
+use Rattle.tx_table.specs.Work.{AreWithin, Doing}
+use Rattle.tx_table.proofs.Last.{rows_within}
+use Rattle.tx_table.proofs.work.Work.count.Goals as goal
+
+pub returns-clause-within : goal.returns-clause-within
+returns-clause-within c =
+    subst (λ (w : Doing). AreWithin w.size w.blocks w.accesses) c.self.view_is
+    (rows_within c.self.inside.size c.self.inside.blocks c.self.inside.rows.items c.self.invariant.2)
