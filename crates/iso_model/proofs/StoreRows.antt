@@ -8,7 +8,7 @@ use Rattle.iso_model.specs.Array.{put}
 use Rattle.iso_model.specs.Conflict.{clash}
 use Rattle.iso_model.specs.Effect.{runs}
 use Rattle.iso_model.specs.HashCalls.{walk, get_program, put_program}
-use Rattle.iso_model.specs.Script.{operation_of, other_operation, store_operation}
+use Rattle.iso_model.specs.Script.{operation_of, other_operation, store_operation, tree_operation}
 use Rattle.iso_model.specs.Step.{step, begin_step, switch_step, store_step, hash_put_step, hash_get_step, hash_delete_step, tree_put_step, tree_get_step, tree_delete_step, tree_scan_step}
 use Rattle.iso_model.specs.TreeCalls as tree
 use Rattle.iso_model.specs.TreeCalls.{scan_program}
@@ -47,7 +47,7 @@ trees = record { block = 256; blocks = 8; log = 4096; mode = Serial; hash = 0; t
 pub scans_have_their_arguments :
     answers (made trees) (codes "1 tscan 61 62 1" ∷ codes "1 begin" ∷ codes "1 tscan - 62 0" ∷ codes "1 tscan 61 - 0" ∷ codes "1 tscan 61 62 0" ∷ codes "1 tput - 31" ∷ codes "1 tget -" ∷ codes "1 tdel -" ∷ codes "1 hget 61" ∷ [])
     ≡ text (codes "1 not-in-tx" ∷ codes "1 ok begin 0" ∷ codes "1 bad-key" ∷ codes "1 bad-key" ∷ codes "1 bad-range" ∷ codes "1 bad-key" ∷ codes "1 bad-key" ∷ codes "1 bad-key" ∷ codes "1 no-store" ∷ [])
-unfolding put clash runs operation_of other_operation store_operation step begin_step store_step tree_put_step tree_get_step tree_delete_step tree_scan_step hash_get_step scan_program tree.get_program tree.put_program tree.del_program words_of number_of hex_of reply_text digits
+unfolding put clash runs operation_of other_operation store_operation tree_operation step begin_step store_step tree_put_step tree_get_step tree_delete_step tree_scan_step hash_get_step scan_program tree.get_program tree.put_program tree.del_program words_of number_of hex_of reply_text digits
 scans_have_their_arguments = refl
 
 -- The texts of pairs, and of none.

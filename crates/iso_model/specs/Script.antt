@@ -135,17 +135,22 @@ scan_arguments (from ∷ to ∷ most ∷ []) = do
   Ok (TreeScan f t n)
 scan_arguments words = Err 3
 
+-- the operation on the tree store of this name
+unfoldable pub tree_operation : (name : List ℕ) → (arguments : List (List ℕ)) → Result Op ℕ
+tree_operation name arguments =
+    if bytes_eq name (codes "tput") then key_and_value TreePut arguments
+    else if bytes_eq name (codes "tget") then one_key TreeGet arguments
+    else if bytes_eq name (codes "tdel") then one_key TreeDelete arguments
+    else if bytes_eq name (codes "tscan") then scan_arguments arguments
+    else Err 2
+
 -- the operation on a store of this name
 unfoldable pub store_operation : (name : List ℕ) → (arguments : List (List ℕ)) → Result Op ℕ
 store_operation name arguments =
     if bytes_eq name (codes "hput") then key_and_value HashPut arguments
     else if bytes_eq name (codes "hget") then one_key HashGet arguments
     else if bytes_eq name (codes "hdel") then one_key HashDelete arguments
-    else if bytes_eq name (codes "tput") then key_and_value TreePut arguments
-    else if bytes_eq name (codes "tget") then one_key TreeGet arguments
-    else if bytes_eq name (codes "tdel") then one_key TreeDelete arguments
-    else if bytes_eq name (codes "tscan") then scan_arguments arguments
-    else Err 2
+    else tree_operation name arguments
 
 -- the operation of this name, if it is none of a transaction's accesses, its begin and its end
 unfoldable pub other_operation : (name : List ℕ) → (arguments : List (List ℕ)) → Result Op ℕ

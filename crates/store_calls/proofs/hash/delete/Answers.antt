@@ -5,9 +5,9 @@ use Rattle.iso_model.specs.Step.{removed_reply}
 use Rattle.iso_model.specs.Stores.{outcome}
 use Rattle.tx_blocks.specs.Runs.{area_of}
 use Rattle.script_runner.specs.declared.machine.Stop.{Stop}
-use Rattle.iso_machine.specs.Storing.{HasCalled, Stops, replied}
-use Rattle.iso_machine.proofs.Stores.{called_err, stops_err}
-use Rattle.iso_machine.proofs.calling.delete.Goals as goal
+use Rattle.store_calls.specs.Calls.{HasCalled, Stops, replied}
+use Rattle.store_calls.proofs.Called.{called_err, stops_err}
+use Rattle.store_calls.proofs.hash.delete.Goals as goal
 
 pub returns-in-Err-clause-called : goal.returns-in-Err-clause-called
 returns-in-Err-clause-called g c =

@@ -9,7 +9,7 @@ use Rattle.iso_model.specs.declared.stores.TxError.TheVariants as error
 use Rattle.iso_model.specs.Stores.{Program, outcome}
 use Rattle.tx_blocks.specs.Tx.{Tx, Device, with_accesses}
 use Rattle.tx_blocks.specs.Runs.{HasEnded, IsStoreCause}
-use Rattle.iso_machine.specs.Storing.{HasCalled, Stops, refusal_of, replied}
+use Rattle.store_calls.specs.Calls.{HasCalled, Stops, refusal_of, replied}
 
 pub no_more : (t : Tx) → t ≡ with_accesses t []
 no_more t = ap (λ (xs : List Access). let u : Tx = record t { accesses = xs } in u) (sym (append-nil t.accesses))
