@@ -1,34 +1,20 @@
 -- A region of zeros is a well-formed hash region, and its map is empty.
-use Rattle.std.proofs.Common.{◌≡◌, ◌∙◌, sym, refl, ap, subst, ℕ, zero, suc, ◌+◌, ◌-◌, ◌%◌, ◌<◌, ◌≤◌, true, false, ◌==◌, cond, List, [], ◌∷◌, ◌++◌, length, get_or, take, replicate, arith, inl, inr}
+use Rattle.std.proofs.Common.{◌≡◌, ◌∙◌, sym, refl, ap, subst, ℕ, zero, suc, ◌+◌, ◌<◌, ◌≤◌, true, false, ◌==◌, cond, List, [], ◌∷◌, ◌++◌, length, get_or, take, replicate, arith, inl, inr}
 use Rattle.std.specs.List.{flat_map, list_all, range_with_len}
-use Rattle.std.specs.Int.{bit_at, from_be_bytes, w32}
+use Rattle.std.specs.Int.{from_be_bytes, w32}
 use Rattle.std.specs.FinMap.{empty, from_entries}
-use Rattle.std.proofs.lemmas.Bool.{and_from, both_ways, cases_lt}
-use Rattle.std.proofs.lemmas.List.{drop-replicate, get_or-replicate, get_or_past, length-replicate, take-replicate}
-use Rattle.std.proofs.lemmas.Nat.Bits.{bit_at-zero}
+use Rattle.std.proofs.lemmas.Bool.{and_from, both_ways}
+use Rattle.std.proofs.lemmas.List.{length-replicate, take-replicate}
 use Rattle.iso_model.specs.declared.stores.Area.{Area}
-use Rattle.iso_model.specs.declared.access.Span.{Span}
-use Rattle.iso_model.specs.Array.{Array, zeros}
+use Rattle.iso_model.specs.Array.{Array}
 use Rattle.iso_model.specs.Cells.{are_key_parts, cell_count, is_part, is_unused, is_zero, key_mark, keys_end, keys_mark, value_mark, word_at}
-use Rattle.iso_model.specs.FreeMap.{bit_place, map_bit}
+use Rattle.iso_model.specs.FreeMap.{map_bit}
 use Rattle.iso_model.specs.HashRegion.{AreLinked, HaveValues, IsHashArea, IsHashRegion, IsIn, IsKeyed, IsOverflow, Pairs, Stands, all_pairs, bucket_pairs, buckets, chain, chain_from, hash_map, is_linked, last_position, next_of, pairs_from, view_of}
 use Rattle.iso_model.specs.Premises.{block_at}
 use Rattle.iso_model.specs.Stores.{bytes_in}
 use Rattle.iso_hash.proofs.Rewritten.{all_pass}
-
-zero_bytes : (span : Span) (n : ℕ) → span.off + span.len ≤ n → bytes_in span (replicate n 0) ≡ replicate span.len 0
-zero_bytes span n fits =
-    ap (take span.len) (drop-replicate span.off n 0) ∙ take-replicate span.len (n - span.off) 0 (omega arith)
-
-all_zero : (n : ℕ) → list_all is_zero (replicate n 0) ≡ true
-all_zero zero = refl
-all_zero (suc n) = all_zero n
-
-zero_at : (n p : ℕ) → ◌≡◌ {A = ℕ} (get_or (replicate n 0) p 0) 0
-zero_at n p = elim (cases_lt p n) [
-  | inl inside ↦ get_or-replicate n p 0 0 inside
-  | inr past ↦ get_or_past (replicate n 0) p 0 (let long = length-replicate {A = ℕ} n 0 in omega arith)
-]
+use Rattle.iso_tree.proofs.Frames.{piece_zero}
+use Rattle.store_laws.proofs.Zeros.{no_bit_in_zeros}
 
 no_pairs : (keys : List ℕ) (value : ℕ → List ℕ) (i n : ℕ) → ((j : ℕ) → i ≤ j → j < i + n → is_unused keys j ≡ true) → pairs_from keys value i n ≡ []
 no_pairs keys value i zero unused = refl
@@ -52,16 +38,16 @@ module _ (a : Area) (A : Array) (area : IsHashArea a) (blank : (k : ℕ) → k <
   blank_first = let e : a.start + 0 ≡ a.start = omega arith in ap (block_at A) (sym e) ∙ blank 0 first_in
 
   blank_keys : (k : ℕ) → k < a.blocks → (view_of a A).keys k ≡ replicate (keys_end a.size) 0
-  blank_keys k below = ap (bytes_in (keys_mark a.size)) (blank k below) ∙ zero_bytes (keys_mark a.size) a.size (let fits = keys_fit in omega arith)
+  blank_keys k below = ap (bytes_in (keys_mark a.size)) (blank k below) ∙ piece_zero (keys_mark a.size) a.size (let fits = keys_fit in omega arith)
 
   blank_value : (k i : ℕ) → k < a.blocks → i < cell_count a.size → (view_of a A).value k i ≡ replicate 33 0
-  blank_value k i below cell = ap (bytes_in (value_mark a.size i)) (blank k below) ∙ zero_bytes (value_mark a.size i) a.size (let least = area.least_size in omega arith)
+  blank_value k i below cell = ap (bytes_in (value_mark a.size i)) (blank k below) ∙ piece_zero (value_mark a.size i) a.size (let least = area.least_size in omega arith)
 
   key_zeros : (i : ℕ) → i < cell_count a.size → bytes_in (key_mark i) (replicate (keys_end a.size) 0) ≡ replicate 31 0
-  key_zeros i cell = zero_bytes (key_mark i) (keys_end a.size) (omega arith)
+  key_zeros i cell = piece_zero (key_mark i) (keys_end a.size) (omega arith)
 
   word_zero : (at : ℕ) → at + 4 ≤ 64 → word_at at (replicate (keys_end a.size) 0) ≡ 0
-  word_zero at low = ap (from_be_bytes w32) (zero_bytes (record { off = at; len = 4 }) (keys_end a.size) (omega arith))
+  word_zero at low = ap (from_be_bytes w32) (piece_zero (record { off = at; len = 4 }) (keys_end a.size) (omega arith))
 
   unused : (i : ℕ) → i < cell_count a.size → is_unused (replicate (keys_end a.size) 0) i ≡ true
   unused i cell = ap (λ (part : List ℕ). get_or part 0 0 == 0) (key_zeros i cell)
@@ -75,7 +61,7 @@ module _ (a : Area) (A : Array) (area : IsHashArea a) (blank : (k : ℕ) → k <
       let four = word_zero 4 (omega arith) in
       let eight = word_zero 8 (omega arith) in
       let next = word_zero 0 (omega arith) in
-      let rest : list_all is_zero (bytes_in (record { off = 12; len = 52 }) (replicate (keys_end a.size) 0)) ≡ true = ap (list_all is_zero) (zero_bytes (record { off = 12; len = 52 }) (keys_end a.size) (omega arith)) in
+      let rest : list_all is_zero (bytes_in (record { off = 12; len = 52 }) (replicate (keys_end a.size) 0)) ≡ true = ap (list_all is_zero) (piece_zero (record { off = 12; len = 52 }) (keys_end a.size) (omega arith)) in
       and_from _ _ (and_from _ _ (and_from _ _ (and_from _ _ (ap (λ (n : ℕ). n == 0) four) (ap (λ (n : ℕ). n == 0) eight)) rest) (ap (λ (n : ℕ). Rattle.iso_model.specs.HashRegion.is_next a 0 n) next)) parts
 
   next_zero : (k : ℕ) → k < a.blocks → next_of ((view_of a A).keys k) ≡ 0
@@ -106,7 +92,7 @@ module _ (a : Area) (A : Array) (area : IsHashArea a) (blank : (k : ℕ) → k <
       (refl, omega arith, ap (is_linked a b 0) (blank_keys (1 + b) (bucket_in b below)) ∙ linked_zeros b, next_zero (1 + b) (bucket_in b below))
 
   no_bit : (k : ℕ) → map_bit (view_of a A).first k ≡ false
-  no_bit k = ap (λ (first : List ℕ). map_bit first k) blank_first ∙ ap (λ (byte : ℕ). bit_at byte (k % 8) == 1) (zero_at a.size (bit_place k)) ∙ ap (λ (bit : ℕ). bit == 1) (bit_at-zero (k % 8))
+  no_bit k = ap (λ (first : List ℕ). map_bit first k) blank_first ∙ no_bit_in_zeros a.size k
 
   no_overflow : (k : ℕ) → IsOverflow a (view_of a A).keys k → ⊥
   no_overflow k is = let e = is_bucket is.bucket k is.below is.linked in let past = is.past in let below = is.below in omega arith
@@ -135,7 +121,3 @@ module _ (a : Area) (A : Array) (area : IsHashArea a) (blank : (k : ℕ) → k <
   pub blank_map : hash_map a A ≡ empty
   unfolding hash_map
   blank_map = ap from_entries (none_over (bucket_pairs a (view_of a A).keys (view_of a A).value) 0 (buckets a) (λ b below. no_bucket_pairs b (omega arith)))
-
--- the blocks of an array of zeros
-pub zeros_blank : (a : Area) (n : ℕ) → a.start + a.blocks ≤ n → (k : ℕ) → k < a.blocks → block_at (zeros a.size n) (a.start + k) ≡ replicate a.size 0
-zeros_blank a n fits k below = get_or-replicate n (a.start + k) (replicate a.size 0) [] (omega arith)

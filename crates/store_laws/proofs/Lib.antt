@@ -4,9 +4,16 @@ pub mod Histories
 pub mod TwoStores
 pub mod Longer
 pub mod Growth
-pub mod Blank
+pub mod BothGrowth
+pub mod KeyCalls
+pub mod Zeros
+pub mod HashBlank
+pub mod TreeBlank
 pub mod Programs
 pub mod HashWrites
+pub mod TreeWrites
+pub mod BothCalls
 mod Rows
 pub mod PutAndGet
+pub mod BothInTx
 mod Skew

@@ -1,6 +1,8 @@
 ghost use Rattle.std.specs.Prelude.{◌≡◌, ◌+◌, ◌≤◌, [], IfOk, Some};
 ghost use Rattle.iso_model.specs.Array.{Array};
 ghost use Rattle.iso_model.specs.HashRegion.{IsHashArea, IsHashRegion};
+ghost use Rattle.iso_model.specs.TreeRegion.{IsTreeArea, IsTreeRegion};
+ghost use Rattle.store_laws.specs.Calls.{AreDisjoint};
 ghost use Rattle.tx_blocks.specs.Runs.{area_of};
 
 use iso_hash::{get, put};
@@ -36,6 +38,65 @@ fn a_transaction_gets_what_it_puts(rt: HostRuntime) -> Result<(), Fail> {
     match put_and_get(rt.alloc(), &mut tx, region, b"key", b"value") {
         Ok(Some(found)) => assert_eq!(rt; found.as_slice(), b"value".as_slice()),
         _ => return Err(Fail::new("no value")),
+    }
+    Ok(())
+}
+
+// What a transaction puts under a key of a hash store and of a tree store, it gets from each, over any well-formed regions that have
+// no block in common.
+fn put_and_get_in_both<T: TxBlocks>(
+    alloc: Global,
+    tx: &mut T,
+    hash: Region,
+    tree: Region,
+    key: &[u8],
+    one: &[u8],
+    two: &[u8],
+) -> Result<(Option<Bytes>, Option<Bytes>), StoreError>
+    requires hash_area { IsHashArea (area_of (T.state tx.old) hash) }
+    requires hash_fits { hash.start + hash.size ≤ (T.state tx.old).blocks }
+    requires tree_area { IsTreeArea (area_of (T.state tx.old) tree) }
+    requires tree_fits { tree.start + tree.size ≤ (T.state tx.old).blocks }
+    requires disjoint { AreDisjoint (area_of (T.state tx.old) hash) (area_of (T.state tx.old) tree) }
+    ensures { IfOk result (λ r. (A : Array) → (T.state tx.old).base ≡ Some A → (T.state tx.old).accesses ≡ [] → IsHashRegion (area_of (T.state tx.old) hash) A
+        → IsTreeRegion (area_of (T.state tx.old) tree) A → (r.0 ≡ Some one.now) × (r.1 ≡ Some two.now)) }
+{
+    if let Err(e) = put(alloc, tx, hash, key, one) {
+        return Err(e);
+    }
+    if let Err(e) = iso_tree::put(alloc, tx, tree, key, two) {
+        return Err(e);
+    }
+    let first = match get(alloc, tx, hash, key) {
+        Ok(found) => found,
+        Err(e) => return Err(e),
+    };
+    match iso_tree::get(alloc, tx, tree, key) {
+        Ok(second) => Ok((first, second)),
+        Err(e) => Err(e),
+    }
+}
+
+// Whether a value was found, and is this one.
+fn is_value(found: &Option<Bytes>, value: &[u8]) -> bool {
+    match found {
+        Some(bytes) => bytes.as_slice() == value,
+        None => false,
+    }
+}
+
+#[test]
+fn both_stores_in_a_transaction_keep_their_own(rt: HostRuntime) -> Result<(), Fail> {
+    let bytes = vec![in rt.alloc(); 0u8; 2048]?;
+    let mut tx = PlainTx::new(rt.alloc(), bytes, 256);
+    let hash = Region { start: 1, size: 3 };
+    let tree = Region { start: 4, size: 4 };
+    match put_and_get_in_both(rt.alloc(), &mut tx, hash, tree, b"key", b"one", b"two") {
+        Ok(found) => {
+            assert!(rt; is_value(&found.0, b"one"));
+            assert!(rt; is_value(&found.1, b"two"));
+        }
+        Err(_) => return Err(Fail::new("a call was refused")),
     }
     Ok(())
 }
