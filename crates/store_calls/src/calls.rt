@@ -41,12 +41,7 @@ pub(crate) fn refusal(error: StoreError) -> Result<Reply, Stop>
 }
 
 /// An operation on the store in a region; any other one does nothing. The transaction refuses for its own causes alone.
-pub fn call<T: TxBlocks>(
-    alloc: Global,
-    tx: &mut T,
-    region: Region,
-    op: &Op,
-) -> Result<Reply, Stop>
+pub fn call<T: TxBlocks>(alloc: Global, tx: &mut T, region: Region, op: &Op) -> Result<Reply, Stop>
     requires is_open { (T.state tx.old).is_open ≡ true }
     requires area { IsStoreArea op.now (area_of (T.state tx.old) region) }
     requires fits { region.start + region.size ≤ (T.state tx.old).blocks }

@@ -33,7 +33,12 @@ pub(crate) fn put<T: TxBlocks>(
     }
 }
 
-pub(crate) fn get<T: TxBlocks>(alloc: Global, tx: &mut T, region: Region, key: &[u8]) -> Result<Reply, Stop>
+pub(crate) fn get<T: TxBlocks>(
+    alloc: Global,
+    tx: &mut T,
+    region: Region,
+    key: &[u8],
+) -> Result<Reply, Stop>
     requires is_open { (T.state tx.old).is_open ≡ true }
     requires area { IsHashArea (area_of (T.state tx.old) region) }
     requires fits { region.start + region.size ≤ (T.state tx.old).blocks }
@@ -47,7 +52,12 @@ pub(crate) fn get<T: TxBlocks>(alloc: Global, tx: &mut T, region: Region, key: &
     }
 }
 
-pub(crate) fn delete<T: TxBlocks>(alloc: Global, tx: &mut T, region: Region, key: &[u8]) -> Result<Reply, Stop>
+pub(crate) fn delete<T: TxBlocks>(
+    alloc: Global,
+    tx: &mut T,
+    region: Region,
+    key: &[u8],
+) -> Result<Reply, Stop>
     requires is_open { (T.state tx.old).is_open ≡ true }
     requires area { IsHashArea (area_of (T.state tx.old) region) }
     requires fits { region.start + region.size ≤ (T.state tx.old).blocks }
