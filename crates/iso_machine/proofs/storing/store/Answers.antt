@@ -1,5 +1,6 @@
-use Rattle.std.proofs.Common.{◌≡◌, ◌≢◌, ◌∙◌, sym, ap, subst, arith}
+use Rattle.std.proofs.Common.{◌≡◌, ◌≢◌, ℕ, ◌∙◌, sym, ap, subst, arith}
 use Rattle.iso_model.specs.declared.access.Geometry.{Geometry}
+use Rattle.iso_model.specs.declared.script.Op.{Op}
 use Rattle.iso_model.specs.declared.stores.Area.{Area}
 use Rattle.iso_model.specs.World.{World, Live}
 use Rattle.iso_core.specs.Core.{StandsFor, disk_of}
@@ -34,3 +35,25 @@ call_on-answer-requires-clause-fits g c =
     let at = placed c.geometry-geometry.result W.geometry c.store_region-region.result.start c.store_region-region.result.size c.args.op.now (c.geometry-geometry.ensures W up of) c.store_region-region.ensures in
     store_fits g.D.Disk.state c.args.core.now c.args.tx c.args.work.now c.args.op.now W t (g.met.D.Disk.lawful (disk_of c.args.core.now)) of here active few
     c.store_region-region.result.start c.store_region-region.result.size at
+
+pub returns-then-is_empty_scan-clause-given : goal.returns-then-is_empty_scan-clause-given
+returns-then-is_empty_scan-clause-given g c W t of here active =
+    let at = placed c.geometry-geometry.result W.geometry c.store_region-region.result.start c.store_region-region.result.size c.args.op.now (c.geometry-geometry.ensures W up of) c.store_region-region.ensures in
+    let some : c.store_region-region.result.size ≢ 0 = λ e. omega (arith, e, c.if-size-eq0.false) in
+    without_pairs g.D.Disk.state c.args.core.now c.args.tx c.args.work.now c.args.op.now W t (g.met.D.Disk.lawful (disk_of c.args.core.now)) of here active c.requires.5
+    c.store_region-region.result.start c.store_region-region.result.size at some (sym c.mode.ensures ∙ c.in-Serial.is) (sym c.is_empty_scan.ensures ∙ c.if-is_empty_scan.true)
+
+pub returns-in-Serial-clause-given : goal.returns-in-Serial-clause-given
+returns-in-Serial-clause-given g c W t of here active =
+    let at = placed c.geometry-geometry.result W.geometry c.store_region-region.result.start c.store_region-region.result.size c.args.op.now (c.geometry-geometry.ensures W up of) c.store_region-region.ensures in
+    let some : c.store_region-region.result.size ≢ 0 = λ e. omega (arith, e, c.if-size-eq0.false) in
+    stored_if g.D.Disk.state c.args.core.now c.args.tx c.args.work.now c.args.op.now W t (g.met.D.Disk.lawful (disk_of c.args.core.now)) of here active c.requires.5
+    c.store_region-region.result.start c.store_region-region.result.size at c.call_on-answer.new.work c.call_on-answer.result some (sym c.mode.ensures ∙ c.in-Serial.is) (sym c.is_empty_scan.ensures ∙ c.if-is_empty_scan.false)
+    c.call_on-answer.ensures.work c.call_on-answer.ensures.called
+
+pub returns-in-Snapshot-clause-given : goal.returns-in-Snapshot-clause-given
+returns-in-Snapshot-clause-given g c W t of here active =
+    let at = placed c.geometry-geometry.result W.geometry c.store_region-region.result.start c.store_region-region.result.size c.args.op.now (c.geometry-geometry.ensures W up of) c.store_region-region.ensures in
+    let some : c.store_region-region.result.size ≢ 0 = λ e. omega (arith, e, c.if-size-eq0.false) in
+    without_mode g.D.Disk.state c.args.core.now c.args.tx c.args.work.now c.args.op.now W t (g.met.D.Disk.lawful (disk_of c.args.core.now)) of here active c.requires.5
+    c.store_region-region.result.start c.store_region-region.result.size at some (sym c.mode.ensures ∙ c.in-Snapshot.is)
