@@ -14,6 +14,7 @@ pub mod HashWrites
 pub mod TreeWrites
 pub mod BothCalls
 mod Rows
+mod ScanRows
 pub mod PutAndGet
 pub mod BothInTx
 mod Skew

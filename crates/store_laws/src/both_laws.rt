@@ -47,16 +47,16 @@ pub fn calls_of_both_stores_are_parts()
     ensures hash_was_there { (a b : Area) (key : List ℕ) (A : Array) (t u : Tx) (parts : List StorePart) (r : Bool) → IsHashArea a → AreDisjoint a b → IsMadeOfStores a b A t parts
         → HasEnded (hash.del_program a key) t u (Ok r) → IsLocalCall (IsHashRegion a) (hash_map a) (del_op key) t u r
         → IsMadeOfStores a b A u (parts ++ First (Del key) (added t u) (WasThere r) ∷ []) }
-    ensures tree_got { (a b : Area) (key : List ℕ) (A : Array) (t u : Tx) (parts : List StorePart) (r : Option (List ℕ)) → IsTreeArea b → AreDisjoint a b → IsMadeOfStores a b A t parts
+    ensures tree_got { (a b : Area) (key : List ℕ) (A : Array) (t u : Tx) (parts : List StorePart) (r : Option (List ℕ)) → AreDisjoint a b → IsMadeOfStores a b A t parts
         → HasEnded (tree.get_program b key) t u (Ok r) → IsLocalCall (IsTreeRegion b) (tree_map b) (get_op key) t u r
         → IsMadeOfStores a b A u (parts ++ Second (OnKey (Get key)) (added t u) (Got r) ∷ []) }
     ensures tree_was_put { (a b : Area) (key value : List ℕ) (A : Array) (t u : Tx) (parts : List StorePart) (r : Unit {0}) → IsTreeArea b → AreDisjoint a b → IsMadeOfStores a b A t parts
         → HasEnded (tree.put_program b key value) t u (Ok r) → IsLocalCall (IsTreeRegion b) (tree_map b) (put_op key value) t u r
         → IsMadeOfStores a b A u (parts ++ Second (OnKey (Put key value)) (added t u) WasPut ∷ []) }
-    ensures tree_was_there { (a b : Area) (key : List ℕ) (A : Array) (t u : Tx) (parts : List StorePart) (r : Bool) → IsTreeArea b → AreDisjoint a b → IsMadeOfStores a b A t parts
+    ensures tree_was_there { (a b : Area) (key : List ℕ) (A : Array) (t u : Tx) (parts : List StorePart) (r : Bool) → AreDisjoint a b → IsMadeOfStores a b A t parts
         → HasEnded (tree.del_program b key) t u (Ok r) → IsLocalCall (IsTreeRegion b) (tree_map b) (del_op key) t u r
         → IsMadeOfStores a b A u (parts ++ Second (OnKey (Del key)) (added t u) (WasThere r) ∷ []) }
-    ensures tree_found { (a b : Area) (from to : List ℕ) (most : ℕ) (A : Array) (t u : Tx) (parts : List StorePart) (r : List (List ℕ × List ℕ)) → IsTreeArea b → AreDisjoint a b → IsMadeOfStores a b A t parts
+    ensures tree_found { (a b : Area) (from to : List ℕ) (most : ℕ) (A : Array) (t u : Tx) (parts : List StorePart) (r : List (List ℕ × List ℕ)) → AreDisjoint a b → IsMadeOfStores a b A t parts
         → HasEnded (tree.scan_program b from to most) t u (Ok r) → IsLocalCall (IsTreeRegion b) (tree_map b) (scan_op from to most) t u r
         → IsMadeOfStores a b A u (parts ++ Second (Scan from to most) (added t u) (Found r) ∷ []) }
 {}

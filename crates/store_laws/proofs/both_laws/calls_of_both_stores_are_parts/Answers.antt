@@ -23,7 +23,7 @@ returns-clause-hash_was_there _ = λ a b key A t u parts r area apart is ended l
     hash_part a b (hash.del_program a key) A t u parts (Del key) (WasThere r) r apart is ended (hash_writes.del_within a key A t u r area is.base ended) (del_local (IsHashRegion a) (hash_map a) key t u r local)
 
 pub returns-clause-tree_got : goal.returns-clause-tree_got
-returns-clause-tree_got _ = λ a b key A t u parts r area apart is ended local.
+returns-clause-tree_got _ = λ a b key A t u parts r apart is ended local.
     tree_part a b (tree.get_program b key) A t u parts (OnKey (Get key)) (Got r) r apart is ended (tree_writes.get_within b key A t u r is.base ended) (got_local (IsTreeRegion b) (tree_map b) key t u r local)
 
 pub returns-clause-tree_was_put : goal.returns-clause-tree_was_put
@@ -31,9 +31,9 @@ returns-clause-tree_was_put _ = λ a b key value A t u parts r area apart is end
     tree_part a b (tree.put_program b key value) A t u parts (OnKey (Put key value)) WasPut r apart is ended (tree_writes.put_within b key value A t u r area is.base ended) (put_local (IsTreeRegion b) (tree_map b) key value t u r local)
 
 pub returns-clause-tree_was_there : goal.returns-clause-tree_was_there
-returns-clause-tree_was_there _ = λ a b key A t u parts r area apart is ended local.
+returns-clause-tree_was_there _ = λ a b key A t u parts r apart is ended local.
     tree_part a b (tree.del_program b key) A t u parts (OnKey (Del key)) (WasThere r) r apart is ended (tree_writes.del_within b key A t u r is.base ended) (del_local (IsTreeRegion b) (tree_map b) key t u r local)
 
 pub returns-clause-tree_found : goal.returns-clause-tree_found
-returns-clause-tree_found _ = λ a b from to most A t u parts r area apart is ended local.
+returns-clause-tree_found _ = λ a b from to most A t u parts r apart is ended local.
     tree_part a b (tree.scan_program b from to most) A t u parts (Scan from to most) (Found r) r apart is ended (tree_writes.scan_within b from to most A t u r is.base ended) (scan_local (IsTreeRegion b) (tree_map b) from to most t u r local)
