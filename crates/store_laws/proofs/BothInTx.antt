@@ -1,5 +1,6 @@
 -- Gets behind puts into a hash store and into a tree store, in one transaction.
 use Rattle.std.proofs.Common.{◌≡◌, ◌∙◌, sym, ap, subst, ℕ, List, [], ◌∷◌, Option, Some, Ok}
+use Rattle.std.specs.FinMap.{get, insert}
 use Rattle.iso_model.specs.declared.stores.Area.{Area}
 use Rattle.iso_model.specs.declared.stores.Region.{Region}
 use Rattle.iso_model.specs.Array.{Array}
@@ -20,7 +21,7 @@ use Rattle.store_laws.proofs.BothCalls.{hash_part, tree_part}
 use Rattle.store_laws.proofs.BothGrowth.{both_begun}
 use Rattle.store_laws.proofs.HashWrites as hash_writes
 use Rattle.store_laws.proofs.KeyCalls.{got_local, put_local}
-use Rattle.store_laws.proofs.PutAndGet.{gets_what_was_put, second_told}
+use Rattle.store_laws.proofs.PutAndGet.{gets_what_was_put, same_got}
 use Rattle.store_laws.proofs.TreeWrites as tree_writes
 use Rattle.store_laws.proofs.TwoStores.{both_live}
 
@@ -37,7 +38,6 @@ pub record HavePutAndGot (a b : Area) (key one two : List ℕ) (t u v w x : Tx) 
 
 pub gets_of_both : (a b : Area) (key one two : List ℕ) (t u v w x : Tx) (r s : Option (List ℕ)) (A : Array) → IsHashArea a → IsTreeArea b → AreDisjoint a b → HavePutAndGot a b key one two t u v w x r s
     → t.base ≡ Some A → t.accesses ≡ [] → IsHashRegion a A → IsTreeRegion b A → (r ≡ Some one) × (s ≡ Some two)
-unfolding second_told
 gets_of_both a b key one two t u v w x r s A hash_area tree_area apart are base none first second =
     let W = IsHashRegion a in
     let V = IsTreeRegion b in
@@ -56,8 +56,8 @@ gets_of_both a b key one two t u v w x r s A hash_area tree_area apart are base 
     let parts4 : List StorePart =
     First (Put key one) (added t u) WasPut ∷ Second (OnKey (Put key two)) (added u v) WasPut ∷ First (Get key) (added v w) (Got r) ∷ Second (OnKey (Get key)) (added w x) (Got s) ∷ [] in
     let order = both_live (hash_store a) (tree_store b) (hash_is_of_its_blocks a hash_area) (tree_is_of_its_blocks b tree_area) A parts4 got2.made (record { first = first; second = second }) in (
-      sym (ap second_told order.first.answers) ∙ gets_what_was_put (hash_map a A) key one,
-      sym (ap second_told order.second.answers) ∙ gets_what_was_put (tree_map b A) key two,
+      sym (same_got (get (insert (hash_map a A) key one) key) r order.first.answers) ∙ gets_what_was_put (hash_map a A) key one,
+      sym (same_got (get (insert (tree_map b A) key two) key) s order.second.answers) ∙ gets_what_was_put (tree_map b A) key two,
     )
 
 -- the same of the calls, as their contracts say what they left

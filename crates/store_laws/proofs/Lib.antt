@@ -16,5 +16,6 @@ pub mod BothCalls
 mod Rows
 mod ScanRows
 pub mod PutAndGet
+pub mod PutAndScan
 pub mod BothInTx
 mod Skew

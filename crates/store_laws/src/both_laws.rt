@@ -1,12 +1,14 @@
 // The laws of stores, at a hash store and a tree store that one transaction calls.
-ghost use Rattle.std.specs.Prelude.{◌≡◌, ℕ, Bool, ◌<◌, ◌≤◌, ◌-◌, IfSome, IsFalse, List, [], ◌∷◌, ◌++◌, Ok, Option, slice_get};
+ghost use Rattle.std.specs.Prelude.{◌≡◌, ◌≢◌, ℕ, Bool, IsTrue, ◌<◌, ◌≤◌, ◌-◌, IfSome, IsFalse, List, [], ◌∷◌, ◌++◌, Ok, Option, slice_get};
 ghost use Rattle.iso_model.specs.declared.access.Geometry.{Geometry};
 ghost use Rattle.iso_model.specs.declared.stores.Area.{Area};
-ghost use Rattle.iso_model.specs.Array.{Array};
+ghost use Rattle.iso_model.specs.Array.{zeros, Array};
 ghost use Rattle.iso_model.specs.Effect.{has_write, own};
+ghost use Rattle.iso_model.specs.Geometry.{is_valid};
 ghost use Rattle.iso_model.specs.HashCalls as hash;
 ghost use Rattle.iso_model.specs.HashRegion.{del_op, get_op, hash_map, put_op, IsHashArea, IsHashRegion};
 ghost use Rattle.iso_model.specs.History.{array_at, last, History};
+ghost use Rattle.iso_model.specs.Step.{hash_area, tree_area};
 ghost use Rattle.iso_model.specs.TreeCalls as tree;
 ghost use Rattle.iso_model.specs.TreeRegion.{scan_op, tree_map, IsTreeArea, IsTreeRegion};
 ghost use Rattle.store_laws.specs.Both.{firsts, AreMixed, BothByMap, BothInOrder, BothWellFormed, First, IsByBoth, IsOfBoth, Second};
@@ -59,4 +61,13 @@ pub fn calls_of_both_stores_are_parts()
     ensures tree_found { (a b : Area) (from to : List ℕ) (most : ℕ) (A : Array) (t u : Tx) (parts : List StorePart) (r : List (List ℕ × List ℕ)) → AreDisjoint a b → IsMadeOfStores a b A t parts
         → HasEnded (tree.scan_program b from to most) t u (Ok r) → IsLocalCall (IsTreeRegion b) (tree_map b) (scan_op from to most) t u r
         → IsMadeOfStores a b A u (parts ++ Second (Scan from to most) (added t u) (Found r) ∷ []) }
+{}
+
+/// The stores of an image have no block in common. Where a valid image has both, their areas are such as the laws ask for, and the
+/// regions of a new one are well formed.
+pub fn stores_of_an_image_are_apart()
+    ensures disjoint { (g : Geometry) → AreDisjoint (hash_area g) (tree_area g) }
+    ensures areas { (g : Geometry) → IsTrue (is_valid g) → g.hash ≢ 0 → g.tree ≢ 0 → IsHashArea (hash_area g) × IsTreeArea (tree_area g) }
+    ensures made { (g : Geometry) → IsTrue (is_valid g) → g.hash ≢ 0 → g.tree ≢ 0
+        → BothWellFormed (hash_store (hash_area g)) (tree_store (tree_area g)) (zeros g.block g.blocks) }
 {}
