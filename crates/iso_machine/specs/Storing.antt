@@ -12,15 +12,16 @@ use Rattle.store_calls.specs.Calls.{is_empty_scan, store_area, store_ended}
 use Rattle.script_runner.specs.Told.{IfTold}
 use Rattle.iso_machine.specs.Accessing.{IsWorkedTo}
 
+-- the reply of a store that is called, and the world after it
+abbrev pub called_of : World → Live → Op → Reply × World
+called_of W t op = (
+  (store_ended (store_area W.geometry op) op (MAX_ACCESSES - length t.accesses) (array_of W t)).1,
+  with_accesses W t (t.accesses ++ (store_ended (store_area W.geometry op) op (MAX_ACCESSES - length t.accesses) (array_of W t)).0),
+)
+
 -- what the rules of one thread answer an operation on a store
 abbrev pub store_act : World → Live → Op → Reply × World
-store_act W t op =
-    in_store W t (store_area W.geometry op).blocks
-    (if is_empty_scan op then (reply.BadRange, W)
-    else (
-      (store_ended (store_area W.geometry op) op (MAX_ACCESSES - length t.accesses) (array_of W t)).1,
-      with_accesses W t (t.accesses ++ (store_ended (store_area W.geometry op) op (MAX_ACCESSES - length t.accesses) (array_of W t)).0),
-    ))
+store_act W t op = in_store W t (store_area W.geometry op).blocks (if is_empty_scan op then (reply.BadRange, W) else called_of W t op)
 
 -- The reply and the world are those that are given, where the disk tells its bytes; else the transaction has other accesses.
 pub record IsStored (d : DiskState) (W : World) (t : Live) (given : Reply × World) (work : Doing) (r : Reply) : Type 0 where
