@@ -1,12 +1,11 @@
 -- A scan, node by node.
-use Rattle.std.proofs.Common.{◌≡◌, ◌∙◌, sym, refl, ap, subst, ℕ, zero, suc, ◌+◌, ◌-◌, ◌<◌, ◌≤◌, ◌&&◌, ◌==◌, Bool, true, false, cond, List, [], ◌∷◌, ◌++◌, length, map, take, Result, Ok, Err, OnOk, IfOk, IfErr, arith, append_assoc, length-append, eq-eqb, ne_eqb}
+use Rattle.std.proofs.Common.{◌≡◌, ◌∙◌, sym, refl, ap, subst, ℕ, zero, suc, ◌+◌, ◌-◌, ◌<◌, ◌&&◌, Bool, true, false, cond, List, [], ◌∷◌, ◌++◌, length, map, take, Result, Ok, Err, IfOk, arith, append_assoc, length-append, eq-eqb, ne_eqb}
 use Rattle.std.specs.List.{list_all, AllByRecursion}
 use Rattle.std.proofs.lemmas.Bool.{and_parts}
 use Rattle.std.proofs.lemmas.List.{append-nil}
 use Rattle.iso_model.specs.declared.stores.Area.{Area}
 use Rattle.iso_model.specs.declared.stores.StoreError.{StoreError}
 use Rattle.iso_model.specs.declared.stores.StoreError.TheVariants as store
-use Rattle.iso_model.specs.declared.stores.TxError.{TxError}
 use Rattle.iso_model.specs.declared.stores.TxError.TheVariants as error
 use Rattle.iso_model.specs.HashCalls.{is_key}
 use Rattle.iso_model.specs.Stores.{Program, Done, Look, LookWhole, Reserve, Store, then_do}
@@ -15,9 +14,8 @@ use Rattle.iso_model.specs.TreeNodes.{child_of, is_child, is_node}
 use Rattle.iso_model.specs.TreeCalls.{and_then, first_in, many_in, pairs_with, parts_of, scan_below, scan_children, scan_from, scan_further, scan_program, with_head, Scanned}
 use Rattle.iso_model.specs.TreeRegion.{scan_op, tree_map, IsTreeRegion}
 use Rattle.tx_blocks.specs.Tx.{Tx}
-use Rattle.tx_blocks.specs.Runs.{Ran, IsCut, HasRun, IsLocalCall}
+use Rattle.tx_blocks.specs.Runs.{Ran, HasRun, IsLocalCall}
 use Rattle.tx_blocks.proofs.Progress.{IsAt, at_start, at_then, ran_at, stopped_at}
-use Rattle.tx_blocks.proofs.Parts.{run_from}
 use Rattle.tx_blocks.proofs.Refusals.{cut_then}
 use Rattle.iso_tree.specs.declared.visit.Visit.{Visit}
 use Rattle.iso_tree.specs.Visits.{keys_of, node_read, scan_nodes, values_of, visit_program, AreIn, IsVisited}

@@ -334,8 +334,8 @@ fn scan_agrees(
     alloc: Global,
     tx: &mut PlainTx,
     plain: &[u8; 32],
-    from: usize,
-    to: usize,
+    from: u8,
+    to: u8,
     max: u32,
 ) -> Result<bool, StoreError>
     requires ready { IsReady (state_of tx.old) }
@@ -343,13 +343,14 @@ fn scan_agrees(
     requires max { 0 < max }
     ensures { IsReady (state_of tx.new) }
 {
-    let found = scan_in(alloc, tx, &[from as u8], &[to as u8], max)?;
+    let found = scan_in(alloc, tx, &[from], &[to], max)?;
     let mut place = 0;
     for key in from..to {
-        if plain[key] == 0 || place == max {
+        let value = plain[key as usize];
+        if value == 0 || place == max {
             continue;
         }
-        if !has_pair(&found, place, key as u8, plain[key]) {
+        if !has_pair(&found, place, key, value) {
             return Ok(false);
         }
         place = place.wrapping_add(1);
@@ -376,7 +377,7 @@ fn step(
         return Ok(del_in(alloc, tx, &[key as u8])? == (old != 0));
     }
     if value % 8 == 1 {
-        return scan_agrees(alloc, tx, plain, key, 32, 1 + value as u32 / 16);
+        return scan_agrees(alloc, tx, plain, key as u8, 32, 1 + value as u32 / 16);
     }
     if value % 8 == 2 {
         return has(

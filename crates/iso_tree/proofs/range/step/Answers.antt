@@ -1,4 +1,4 @@
-use Rattle.std.proofs.Common.{◌≡◌, ◌∙◌, sym, ap, ◌+◌, ◌-◌, ◌*◌, ◌++◌, ℕ, length, map, take, drop}
+use Rattle.std.proofs.Common.{◌≡◌, ◌∙◌, ap, ◌+◌, ◌-◌, ◌*◌, ◌++◌, ℕ, length, map, take, drop}
 use Rattle.iso_model.specs.Cells.{are_key_parts}
 use Rattle.iso_model.specs.Stores.{bytes_in}
 use Rattle.iso_model.specs.TreeCalls.{pairs_with, parts_of}

@@ -1,4 +1,4 @@
-use Rattle.std.proofs.Common.{◌≡◌, ◌∙◌, subst, ◌-◌, ℕ, List, [], ◌∷◌, Err, length, arith}
+use Rattle.std.proofs.Common.{◌∙◌, subst, ◌-◌, ℕ, List, [], ◌∷◌, Err, length, arith}
 use Rattle.tx_blocks.proofs.Parts.{read_join, run_from}
 use Rattle.tx_blocks.proofs.Progress.{IsAt}
 use Rattle.tx_blocks.proofs.Refusals.{later_than}

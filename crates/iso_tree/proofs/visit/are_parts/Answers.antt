@@ -1,4 +1,4 @@
-use Rattle.std.proofs.Common.{◌≡◌, ◌∙◌, sym, ap, ◌+◌, ◌-◌, ◌*◌, ◌&&◌, Bool, true, false, take, drop, arith}
+use Rattle.std.proofs.Common.{◌≡◌, ◌∙◌, sym, ap, ◌+◌, ◌-◌, ◌*◌, ◌&&◌, Bool, true, false, take, drop}
 use Rattle.std.specs.List.{list_all}
 use Rattle.iso_model.specs.TreeCalls.{parts_of}
 use Rattle.iso_model.specs.TreeRegion.{is_part_at}

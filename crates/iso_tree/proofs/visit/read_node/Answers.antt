@@ -1,4 +1,4 @@
-use Rattle.std.proofs.Common.{◌≡◌, ◌∙◌, sym, refl, ap, ◌+◌, ◌*◌, ◌<◌, ◌≤◌, ◌==◌, not, cond, ℕ, List, [], ◌∷◌, true, false, Some, None, length, take, drop, arith}
+use Rattle.std.proofs.Common.{◌≡◌, ◌∙◌, sym, refl, ap, ◌+◌, ◌*◌, ◌≤◌, ◌==◌, not, cond, ℕ, List, [], ◌∷◌, true, false, Some, None, take, drop, arith}
 use Rattle.std.specs.List.{list_all}
 use Rattle.iso_model.specs.declared.access.Span.{Span}
 use Rattle.iso_model.specs.Cells.{are_key_parts, cell_count, keys_mark}
