@@ -29,29 +29,29 @@ pub bench_is_made : (program image s n : Text) (seed count : ℕ) → long_numbe
 bench_is_made program image s n seed count is_seed is_count few =
     bench_words program image s n ∙ bench_values image s n seed count is_seed is_count (le-leb count 100000 few)
 
-abbrev geometry_spelled : (b n l m h : Text) → Option Geometry
-geometry_spelled b n l m h =
-    option_and_then (λ block. option_and_then (λ blocks. option_and_then (λ log. option_and_then (λ mode. option_and_then (λ hash.
-    if_valid (geometry_with block blocks log mode hash))
-    (number_of h)) (mode_of m)) (number_of l)) (number_of n)) (number_of b)
+abbrev geometry_spelled : (b n l m h t : Text) → Option Geometry
+geometry_spelled b n l m h t =
+    option_and_then (λ block. option_and_then (λ blocks. option_and_then (λ log. option_and_then (λ mode. option_and_then (λ hash. option_and_then (λ tree.
+    if_valid (geometry_with block blocks log mode hash tree))
+    (number_of t)) (number_of h)) (mode_of m)) (number_of l)) (number_of n)) (number_of b)
 
 -- the words of a new image, before their values are read
-image_words : (program image b n l m h : Text)
-    → request_of (program ∷ codes "new" ∷ (codes "--block-size=" ++ b) ∷ (codes "--blocks=" ++ n) ∷ (codes "--log=" ++ l) ∷ (codes "--mode=" ++ m) ∷ (codes "--hash=" ++ h) ∷ codes "--" ∷ image ∷ [])
-    ≡ option_map (for_image image) (option_map New (geometry_spelled b n l m h))
+image_words : (program image b n l m h t : Text)
+    → request_of (program ∷ codes "new" ∷ (codes "--block-size=" ++ b) ∷ (codes "--blocks=" ++ n) ∷ (codes "--log=" ++ l) ∷ (codes "--mode=" ++ m) ∷ (codes "--hash=" ++ h) ∷ (codes "--tree=" ++ t) ∷ codes "--" ∷ image ∷ [])
+    ≡ option_map (for_image image) (option_map New (geometry_spelled b n l m h t))
 unfolding clap_on_literals request_of rows_found task_of geometry_of
-image_words program image b n l m h = refl
+image_words program image b n l m h t = refl
 
-image_values : (image b n l m h : Text) (block blocks log : ℕ) (mode : Mode) (hash : ℕ)
-    → number_of b ≡ Some block → number_of n ≡ Some blocks → number_of l ≡ Some log → mode_of m ≡ Some mode → number_of h ≡ Some hash
-    → IsTrue (is_valid (geometry_with block blocks log mode hash))
-    → option_map (for_image image) (option_map New (geometry_spelled b n l m h)) ≡ Some (image, New (geometry_with block blocks log mode hash))
-image_values image b n l m h block blocks log mode hash is_block is_blocks is_log is_mode is_hash valid = rw (is_block, is_blocks, is_log, is_mode, is_hash, valid) refl
+image_values : (image b n l m h t : Text) (block blocks log : ℕ) (mode : Mode) (hash tree : ℕ)
+    → number_of b ≡ Some block → number_of n ≡ Some blocks → number_of l ≡ Some log → mode_of m ≡ Some mode → number_of h ≡ Some hash → number_of t ≡ Some tree
+    → IsTrue (is_valid (geometry_with block blocks log mode hash tree))
+    → option_map (for_image image) (option_map New (geometry_spelled b n l m h t)) ≡ Some (image, New (geometry_with block blocks log mode hash tree))
+image_values image b n l m h t block blocks log mode hash tree is_block is_blocks is_log is_mode is_hash is_tree valid = rw (is_block, is_blocks, is_log, is_mode, is_hash, is_tree, valid) refl
 
-pub image_is_made : (program image b n l m h : Text) (block blocks log : ℕ) (mode : Mode) (hash : ℕ)
-    → number_of b ≡ Some block → number_of n ≡ Some blocks → number_of l ≡ Some log → mode_of m ≡ Some mode → number_of h ≡ Some hash
-    → IsTrue (is_valid (geometry_with block blocks log mode hash))
-    → request_of (program ∷ codes "new" ∷ (codes "--block-size=" ++ b) ∷ (codes "--blocks=" ++ n) ∷ (codes "--log=" ++ l) ∷ (codes "--mode=" ++ m) ∷ (codes "--hash=" ++ h) ∷ codes "--" ∷ image ∷ [])
-    ≡ Some (image, New (geometry_with block blocks log mode hash))
-image_is_made program image b n l m h block blocks log mode hash is_block is_blocks is_log is_mode is_hash valid =
-    image_words program image b n l m h ∙ image_values image b n l m h block blocks log mode hash is_block is_blocks is_log is_mode is_hash valid
+pub image_is_made : (program image b n l m h t : Text) (block blocks log : ℕ) (mode : Mode) (hash tree : ℕ)
+    → number_of b ≡ Some block → number_of n ≡ Some blocks → number_of l ≡ Some log → mode_of m ≡ Some mode → number_of h ≡ Some hash → number_of t ≡ Some tree
+    → IsTrue (is_valid (geometry_with block blocks log mode hash tree))
+    → request_of (program ∷ codes "new" ∷ (codes "--block-size=" ++ b) ∷ (codes "--blocks=" ++ n) ∷ (codes "--log=" ++ l) ∷ (codes "--mode=" ++ m) ∷ (codes "--hash=" ++ h) ∷ (codes "--tree=" ++ t) ∷ codes "--" ∷ image ∷ [])
+    ≡ Some (image, New (geometry_with block blocks log mode hash tree))
+image_is_made program image b n l m h t block blocks log mode hash tree is_block is_blocks is_log is_mode is_hash is_tree valid =
+    image_words program image b n l m h t ∙ image_values image b n l m h t block blocks log mode hash tree is_block is_blocks is_log is_mode is_hash is_tree valid

@@ -35,9 +35,9 @@ pub these_words_have_no_command-abbreviated : request_of (words_of (codes "isoto
 unfolding clap_on_literals words_of request_of rows_found task_of geometry_of number_of is_valid long_number_of
 these_words_have_no_command-abbreviated = refl
 
-pub these_words_have_no_command-closed : request_of (words_of (codes "isotope par a")) ≡ None
+pub these_words_have_no_command-no_image_of_a_par : request_of (words_of (codes "isotope par")) ≡ None
 unfolding clap_on_literals words_of request_of rows_found task_of geometry_of number_of is_valid long_number_of
-these_words_have_no_command-closed = refl
+these_words_have_no_command-no_image_of_a_par = refl
 
 pub these_words_have_no_command-ended : request_of (words_of (codes "isotope -- new a")) ≡ None
 unfolding clap_on_literals words_of request_of rows_found task_of geometry_of number_of is_valid long_number_of
@@ -71,9 +71,9 @@ pub these_words_have_a_wrong_option-of_another_command : request_of (words_of (c
 unfolding clap_on_literals words_of request_of rows_found task_of geometry_of number_of is_valid long_number_of
 these_words_have_a_wrong_option-of_another_command = refl
 
-pub these_words_have_a_wrong_option-closed : request_of (words_of (codes "isotope new a --tree 4")) ≡ None
+pub these_words_have_a_wrong_option-of_a_new_image : request_of (words_of (codes "isotope par a --tree 4")) ≡ None
 unfolding clap_on_literals words_of request_of rows_found task_of geometry_of number_of is_valid long_number_of
-these_words_have_a_wrong_option-closed = refl
+these_words_have_a_wrong_option-of_a_new_image = refl
 
 pub these_words_have_a_wrong_option-abbreviated : request_of (words_of (codes "isotope new a --block 64")) ≡ None
 unfolding clap_on_literals words_of request_of rows_found task_of geometry_of number_of is_valid long_number_of

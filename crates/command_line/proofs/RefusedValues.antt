@@ -67,6 +67,26 @@ pub these_words_have_a_wrong_value-small_store : request_of (words_of (codes "is
 unfolding clap_on_literals words_of request_of rows_found task_of geometry_of number_of is_valid long_number_of
 these_words_have_a_wrong_value-small_store = refl
 
+pub these_words_have_a_wrong_value-small_tree : request_of (words_of (codes "isotope new a --tree 1")) ≡ None
+unfolding clap_on_literals words_of request_of rows_found task_of geometry_of number_of is_valid long_number_of
+these_words_have_a_wrong_value-small_tree = refl
+
+pub these_words_have_a_wrong_value-large_tree : request_of (words_of (codes "isotope new a --block-size 256 --blocks 16384 --tree 1537")) ≡ None
+unfolding clap_on_literals words_of request_of rows_found task_of geometry_of number_of is_valid long_number_of
+these_words_have_a_wrong_value-large_tree = refl
+
+pub these_words_have_a_wrong_value-tree_in_small_blocks : request_of (words_of (codes "isotope new a --block-size 128 --tree 2")) ≡ None
+unfolding clap_on_literals words_of request_of rows_found task_of geometry_of number_of is_valid long_number_of
+these_words_have_a_wrong_value-tree_in_small_blocks = refl
+
+pub these_words_have_a_wrong_value-stores_past_the_blocks : request_of (words_of (codes "isotope new a --blocks 4 --hash 3 --tree 2")) ≡ None
+unfolding clap_on_literals words_of request_of rows_found task_of geometry_of number_of is_valid long_number_of
+these_words_have_a_wrong_value-stores_past_the_blocks = refl
+
+pub these_words_have_a_wrong_value-tree_in_snapshot_mode : request_of (words_of (codes "isotope new a --tree 2 --mode snapshot")) ≡ None
+unfolding clap_on_literals words_of request_of rows_found task_of geometry_of number_of is_valid long_number_of
+these_words_have_a_wrong_value-tree_in_snapshot_mode = refl
+
 pub these_words_have_a_wrong_value-store_in_snapshot_mode : request_of (words_of (codes "isotope new a --hash 8 --mode snapshot")) ≡ None
 unfolding clap_on_literals words_of request_of rows_found task_of geometry_of number_of is_valid long_number_of
 these_words_have_a_wrong_value-store_in_snapshot_mode = refl

@@ -27,9 +27,9 @@ bare_app name = record (new_app name) { top = bare (new_app name).top }
 abbrev pub image_app : Text → App
 image_app name = with_rule (bare_app name) (placed_rule (codes "IMAGE"))
 
--- the options of a new image that are open
+-- the options of a new image
 abbrev pub new_options : List Text
-new_options = codes "block-size" ∷ codes "blocks" ∷ codes "log" ∷ codes "mode" ∷ codes "hash" ∷ []
+new_options = codes "block-size" ∷ codes "blocks" ∷ codes "log" ∷ codes "mode" ∷ codes "hash" ∷ codes "tree" ∷ []
 
 -- the command that makes an image and answers a script
 abbrev pub new_image_app : App
@@ -39,9 +39,9 @@ new_image_app = fold (λ a name. with_rule a (valued_rule name)) (image_app (cod
 abbrev pub bench_app : App
 bench_app = with_rule (with_rule (image_app (codes "bench")) (placed_rule (codes "SEED"))) (placed_rule (codes "COUNT"))
 
--- the commands that are open
+-- the commands
 abbrev pub commands : List App
-commands = new_image_app ∷ image_app (codes "run") ∷ image_app (codes "recover") ∷ bench_app ∷ []
+commands = new_image_app ∷ image_app (codes "run") ∷ image_app (codes "par") ∷ image_app (codes "recover") ∷ bench_app ∷ []
 
 -- a command that has to be followed by one of its subcommands
 abbrev pub with_required : App → App

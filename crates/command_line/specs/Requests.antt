@@ -6,19 +6,19 @@ use Rattle.iso_model.specs.declared.access.Mode.{Mode}
 use Rattle.iso_model.specs.Bench.{bench_geometry}
 use Rattle.iso_model.specs.Geometry.{is_valid}
 use Rattle.command_line.specs.declared.task.Task.{Task}
-use Rattle.command_line.specs.declared.task.Task.TheVariants.{New, Run, Recover, Bench}
+use Rattle.command_line.specs.declared.task.Task.TheVariants.{New, Run, Par, Recover, Bench}
 use Rattle.command_line.specs.Grammar.{rows_found}
 use Rattle.command_line.specs.Values.{count_of, long_number_of, mode_or_serial, number_or}
 
--- an image without a tree store
-abbrev pub geometry_with : (block blocks log : ℕ) → Mode → (hash : ℕ) → Geometry
-geometry_with block blocks log mode hash = record {
+-- an image of the first form
+abbrev pub geometry_with : (block blocks log : ℕ) → Mode → (hash tree : ℕ) → Geometry
+geometry_with block blocks log mode hash tree = record {
   block = block;
   blocks = blocks;
   log = log;
   mode = mode;
   hash = hash;
-  tree = 0;
+  tree = tree;
   form = 1;
 }
 
@@ -29,8 +29,9 @@ if_valid g = if is_valid g then Some g else None
 -- The geometry of a new image, with what is not given by default. None where a value is not in the grammar.
 unfoldable pub geometry_of : List Row → Option Geometry
 geometry_of rows =
-    option_and_then (λ block. option_and_then (λ blocks. option_and_then (λ log. option_and_then (λ mode. option_and_then (λ hash.
-    if_valid (geometry_with block blocks log mode hash))
+    option_and_then (λ block. option_and_then (λ blocks. option_and_then (λ log. option_and_then (λ mode. option_and_then (λ hash. option_and_then (λ tree.
+    if_valid (geometry_with block blocks log mode hash tree))
+    (number_or 0 (first_of (codes "tree") rows)))
     (number_or 0 (first_of (codes "hash") rows)))
     (mode_or_serial (first_of (codes "mode") rows)))
     (number_or 4194304 (first_of (codes "log") rows)))
@@ -49,6 +50,7 @@ unfoldable pub task_of : (command : Text) → List Row → Option Task
 task_of command rows =
     if bytes_eq command (codes "new") then option_map New (geometry_of rows)
     else if bytes_eq command (codes "run") then Some Run
+    else if bytes_eq command (codes "par") then Some Par
     else if bytes_eq command (codes "recover") then Some Recover
     else if bytes_eq command (codes "bench") then bench_of rows
     else None
@@ -69,16 +71,18 @@ request_of words = option_and_then (λ found. request_behind found.0 found.1) (r
 abbrev pub made_geometry : Task → Option Geometry
 made_geometry (New g) = Some g
 made_geometry Run = None
+made_geometry Par = None
 made_geometry Recover = None
 made_geometry (Bench seed count) = Some bench_geometry
 
--- a geometry that words may ask for: within its limits, of the first form, and without a tree store
+-- a geometry that words may ask for: within its limits, and of the first form
 abbrev pub IsOpenGeometry : Geometry → Type 0
-IsOpenGeometry g = IsTrue (is_valid g) × (g.form ≡ 1) × (g.tree ≡ 0)
+IsOpenGeometry g = IsTrue (is_valid g) × (g.form ≡ 1)
 
 -- what a task that the words ask for keeps
 abbrev pub KeepsLimits : Task → Type 0
 KeepsLimits (New g) = IsOpenGeometry g
 KeepsLimits Run = Unit {0}
+KeepsLimits Par = Unit {0}
 KeepsLimits Recover = Unit {0}
 KeepsLimits (Bench seed count) = (seed < 2 ^ 64) × (count ≤ 100000)

@@ -52,7 +52,8 @@ fn new_command<'a>(alloc: Global) -> Result<Command<'a>, AllocError>
         .arg(valued(alloc, "blocks"))?
         .arg(valued(alloc, "log"))?
         .arg(valued(alloc, "mode"))?
-        .arg(valued(alloc, "hash"))
+        .arg(valued(alloc, "hash"))?
+        .arg(valued(alloc, "tree"))
 }
 
 /// The command that makes an image and answers a script that is drawn.
@@ -73,6 +74,7 @@ pub(crate) fn isotope_command<'a>(alloc: Global) -> Result<Command<'a>, AllocErr
         .subcommand_required(true)
         .subcommand(new_command(alloc)?)?
         .subcommand(with_image(alloc, "run")?)?
+        .subcommand(with_image(alloc, "par")?)?
         .subcommand(with_image(alloc, "recover")?)?
         .subcommand(bench_command(alloc)?)
 }

@@ -1,7 +1,7 @@
 // The laws of the grammar: each function does nothing, and its contract is the law.
 ghost use Rattle.std.specs.Prelude.{◌≡◌, ◌≤◌, ℕ, IsTrue, IsFalse, [], ◌∷◌, ◌++◌, Some, codes};
 ghost use Rattle.clap.specs.Words.{Text};
-ghost use Rattle.command_line.specs.declared.task.Task.TheVariants.{Bench, New, Recover, Run};
+ghost use Rattle.command_line.specs.declared.task.Task.TheVariants.{Bench, New, Par, Recover, Run};
 ghost use Rattle.command_line.specs.Requests.{geometry_with, request_of};
 ghost use Rattle.command_line.specs.Values.{begins_with_hyphen, long_number_of};
 ghost use Rattle.iso_model.specs.Geometry.{is_valid};
@@ -14,6 +14,10 @@ pub fn every_image_is_opened()
         → request_of (program ∷ codes "run" ∷ image ∷ []) ≡ Some (image, Run) }
     ensures run_behind_the_end { (program image : Text)
         → request_of (program ∷ codes "run" ∷ codes "--" ∷ image ∷ []) ≡ Some (image, Run) }
+    ensures par { (program image : Text) → IsFalse (begins_with_hyphen image)
+        → request_of (program ∷ codes "par" ∷ image ∷ []) ≡ Some (image, Par) }
+    ensures par_behind_the_end { (program image : Text)
+        → request_of (program ∷ codes "par" ∷ codes "--" ∷ image ∷ []) ≡ Some (image, Par) }
     ensures recover { (program image : Text) → IsFalse (begins_with_hyphen image)
         → request_of (program ∷ codes "recover" ∷ image ∷ []) ≡ Some (image, Recover) }
     ensures recover_behind_the_end { (program image : Text)
@@ -22,14 +26,16 @@ pub fn every_image_is_opened()
 
 /// Every image of every geometry that keeps the limits can be asked for.
 pub fn every_geometry_is_made()
-    ensures { (program image b n l m h : Text) (block blocks log : ℕ) (mode : Mode) (hash : ℕ)
+    ensures { (program image b n l m h t : Text) (block blocks log : ℕ) (mode : Mode) (hash tree : ℕ)
         → number_of b ≡ Some block → number_of n ≡ Some blocks
         → number_of l ≡ Some log → mode_of m ≡ Some mode → number_of h ≡ Some hash
-        → IsTrue (is_valid (geometry_with block blocks log mode hash))
+        → number_of t ≡ Some tree
+        → IsTrue (is_valid (geometry_with block blocks log mode hash tree))
         → request_of (program ∷ codes "new"
         ∷ (codes "--block-size=" ++ b) ∷ (codes "--blocks=" ++ n)
-        ∷ (codes "--log=" ++ l) ∷ (codes "--mode=" ++ m) ∷ (codes "--hash=" ++ h) ∷ codes "--" ∷ image ∷ [])
-        ≡ Some (image, New (geometry_with block blocks log mode hash)) }
+        ∷ (codes "--log=" ++ l) ∷ (codes "--mode=" ++ m) ∷ (codes "--hash=" ++ h)
+        ∷ (codes "--tree=" ++ t) ∷ codes "--" ∷ image ∷ [])
+        ≡ Some (image, New (geometry_with block blocks log mode hash tree)) }
 {}
 
 /// Every seed and every number of rounds that keeps its limit can be asked for.

@@ -2,18 +2,21 @@
 ghost use Rattle.std.specs.Prelude.{◌≡◌, [], ◌∷◌, Some, None, codes};
 ghost use Rattle.iso_model.specs.declared.access.Mode.TheVariants.{Serial, Snapshot};
 ghost use Rattle.iso_model.specs.Text.{words_of};
-ghost use Rattle.command_line.specs.declared.task.Task.TheVariants.{New, Run, Recover, Bench};
+ghost use Rattle.command_line.specs.declared.task.Task.TheVariants.{New, Run, Par, Recover, Bench};
 ghost use Rattle.command_line.specs.Requests.{geometry_with, request_of};
 
 /// Each command has its task, with the values given or those by default.
 pub fn commands_have_their_tasks()
     ensures new { request_of (words_of (codes "isotope new a"))
-        ≡ Some (codes "a", New (geometry_with 4096 1024 4194304 Serial 0)) }
+        ≡ Some (codes "a", New (geometry_with 4096 1024 4194304 Serial 0 0)) }
     ensures new_with_options { request_of (words_of (codes "isotope new a --block-size 64 --blocks 16384 --log 67108864 --mode snapshot"))
-        ≡ Some (codes "a", New (geometry_with 64 16384 67108864 Snapshot 0)) }
-    ensures new_with_a_store { request_of (words_of (codes "isotope new a --hash 8"))
-        ≡ Some (codes "a", New (geometry_with 4096 1024 4194304 Serial 8)) }
+        ≡ Some (codes "a", New (geometry_with 64 16384 67108864 Snapshot 0 0)) }
+    ensures new_with_stores { request_of (words_of (codes "isotope new a --hash 8 --tree 2"))
+        ≡ Some (codes "a", New (geometry_with 4096 1024 4194304 Serial 8 2)) }
+    ensures new_full_of_stores { request_of (words_of (codes "isotope new a --block-size 256 --blocks 5 --tree 2 --hash 3"))
+        ≡ Some (codes "a", New (geometry_with 256 5 4194304 Serial 3 2)) }
     ensures run { request_of (words_of (codes "isotope run a")) ≡ Some (codes "a", Run) }
+    ensures par { request_of (words_of (codes "isotope par a")) ≡ Some (codes "a", Par) }
     ensures recover { request_of (words_of (codes "isotope recover a"))
         ≡ Some (codes "a", Recover) }
     ensures bench { request_of (words_of (codes "isotope bench a 18446744073709551615 100000"))
@@ -25,15 +28,15 @@ pub fn commands_have_their_tasks()
 /// Options stand before or behind the image, in any order, with `=` or as two words, until `--`.
 pub fn options_stand_anywhere_behind_the_command()
     ensures before { request_of (words_of (codes "isotope new --log=64 a --mode serial"))
-        ≡ Some (codes "a", New (geometry_with 4096 1024 64 Serial 0)) }
+        ≡ Some (codes "a", New (geometry_with 4096 1024 64 Serial 0 0)) }
     ensures behind { request_of (words_of (codes "isotope new a --blocks=1 --block-size=128"))
-        ≡ Some (codes "a", New (geometry_with 128 1 4194304 Serial 0)) }
+        ≡ Some (codes "a", New (geometry_with 128 1 4194304 Serial 0 0)) }
     ensures ended { request_of (words_of (codes "isotope new --log 64 -- a"))
-        ≡ Some (codes "a", New (geometry_with 4096 1024 64 Serial 0)) }
+        ≡ Some (codes "a", New (geometry_with 4096 1024 64 Serial 0 0)) }
     ensures ended_behind { request_of (words_of (codes "isotope run a --"))
         ≡ Some (codes "a", Run) }
     ensures an_option_behind_the_end { request_of (words_of (codes "isotope new -- --log=64"))
-        ≡ Some (codes "--log=64", New (geometry_with 4096 1024 4194304 Serial 0)) }
+        ≡ Some (codes "--log=64", New (geometry_with 4096 1024 4194304 Serial 0 0)) }
 {}
 
 /// The name of an image is any word, but behind `--` alone one that begins with a hyphen and is longer.
@@ -58,7 +61,7 @@ pub fn these_words_have_no_command()
     ensures version_option { request_of (words_of (codes "isotope -V")) ≡ None }
     ensures unknown { request_of (words_of (codes "isotope format a")) ≡ None }
     ensures abbreviated { request_of (words_of (codes "isotope rec a")) ≡ None }
-    ensures closed { request_of (words_of (codes "isotope par a")) ≡ None }
+    ensures no_image_of_a_par { request_of (words_of (codes "isotope par")) ≡ None }
     ensures ended { request_of (words_of (codes "isotope -- new a")) ≡ None }
     ensures option_before { request_of (words_of (codes "isotope --log 64 new a")) ≡ None }
     ensures no_image { request_of (words_of (codes "isotope new")) ≡ None }
@@ -71,7 +74,7 @@ pub fn these_words_have_no_command()
 /// Outside the grammar: options of other commands, unknown ones, those without a value, and those given twice.
 pub fn these_words_have_a_wrong_option()
     ensures of_another_command { request_of (words_of (codes "isotope run a --log 64")) ≡ None }
-    ensures closed { request_of (words_of (codes "isotope new a --tree 4")) ≡ None }
+    ensures of_a_new_image { request_of (words_of (codes "isotope par a --tree 4")) ≡ None }
     ensures abbreviated { request_of (words_of (codes "isotope new a --block 64")) ≡ None }
     ensures short { request_of (words_of (codes "isotope new a -l 64")) ≡ None }
     ensures help { request_of (words_of (codes "isotope new a --help")) ≡ None }
@@ -104,6 +107,15 @@ pub fn these_words_have_a_wrong_value()
     ensures many_blocks { request_of (words_of (codes "isotope new a --blocks 16385")) ≡ None }
     ensures block_size { request_of (words_of (codes "isotope new a --block-size 96")) ≡ None }
     ensures small_store { request_of (words_of (codes "isotope new a --hash 2")) ≡ None }
+    ensures small_tree { request_of (words_of (codes "isotope new a --tree 1")) ≡ None }
+    ensures large_tree { request_of (words_of (codes "isotope new a --block-size 256 --blocks 16384 --tree 1537"))
+        ≡ None }
+    ensures tree_in_small_blocks { request_of (words_of (codes "isotope new a --block-size 128 --tree 2"))
+        ≡ None }
+    ensures stores_past_the_blocks { request_of (words_of (codes "isotope new a --blocks 4 --hash 3 --tree 2"))
+        ≡ None }
+    ensures tree_in_snapshot_mode { request_of (words_of (codes "isotope new a --tree 2 --mode snapshot"))
+        ≡ None }
     ensures store_in_snapshot_mode { request_of (words_of (codes "isotope new a --hash 8 --mode snapshot"))
         ≡ None }
     ensures mode { request_of (words_of (codes "isotope new a --mode Serial")) ≡ None }

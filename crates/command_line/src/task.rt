@@ -17,6 +17,8 @@ pub enum Task {
     New { geometry: Geometry },
     /// Open it, and answer the script on the input.
     Run,
+    /// Open it, and run the clients of the script on the input beside each other.
+    Par,
     /// Open it, and tell what it holds.
     Recover,
     /// Make it, and answer a script of so many rounds that is drawn from a seed.
@@ -32,7 +34,7 @@ impl Task {
     {
         match self {
             Task::New { geometry } => Some(*geometry),
-            Task::Run | Task::Recover => None,
+            Task::Run | Task::Par | Task::Recover => None,
             Task::Bench { .. } => Some(Geometry {
                 block: 64,
                 blocks: 64,
@@ -68,13 +70,14 @@ fn geometry_of(matches: &ArgMatches<'_>) -> Option<Geometry>
     let log = number_or(4_194_304, text_of(matches, "log"))?;
     let mode = mode_or_serial(text_of(matches, "mode"))?;
     let hash = number_or(0, text_of(matches, "hash"))?;
+    let tree = number_or(0, text_of(matches, "tree"))?;
     if_valid(Geometry {
         block,
         blocks,
         log,
         mode,
         hash,
-        tree: 0,
+        tree,
         form: 1,
     })
 }
@@ -99,6 +102,9 @@ pub(crate) fn task_of(name: &str, matches: &ArgMatches<'_>) -> Option<Task>
     }
     if name == "run" {
         return Some(Task::Run);
+    }
+    if name == "par" {
+        return Some(Task::Par);
     }
     if name == "recover" {
         return Some(Task::Recover);

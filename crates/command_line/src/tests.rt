@@ -66,7 +66,21 @@ fn commands_with_their_values(rt: HostRuntime) -> Result<(), Fail> {
             Task::New { geometry: given }
         )?
     );
+    let stores = Geometry {
+        hash: 3,
+        tree: 256,
+        ..DEFAULT
+    };
+    assert!(rt;
+        asks(
+            alloc,
+            "isotope new a --tree 256 --hash=3",
+            "a",
+            Task::New { geometry: stores }
+        )?
+    );
     assert!(rt; asks(alloc, "isotope run -", "-", Task::Run)?);
+    assert!(rt; asks(alloc, "isotope par a", "a", Task::Par)?);
     assert!(rt; asks(alloc, "isotope recover -- --log", "--log", Task::Recover)?);
     let seed = u64::MAX;
     assert!(rt;
@@ -89,10 +103,14 @@ fn words_outside_the_grammar(rt: HostRuntime) -> Result<(), Fail> {
     for line in [
         "isotope",
         "isotope help",
-        "isotope par a",
+        "isotope par",
+        "isotope par a b",
         "isotope new",
         "isotope new a b",
-        "isotope new a --tree 4",
+        "isotope par a --tree 4",
+        "isotope new a --tree 1",
+        "isotope new a --tree 2 --block-size 128",
+        "isotope new a --hash 512 --tree 513",
         "isotope new a --hash 2",
         "isotope new a --hash 8 --mode snapshot",
         "isotope new a --block 64",

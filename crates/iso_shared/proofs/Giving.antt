@@ -2,6 +2,7 @@
 use Rattle.std.proofs.Common.{◌≡◌, ℕ, List, [], ◌∷◌, ◌++◌, Result, Ok, Err, refl, sym, ap, ◌∙◌, subst}
 use Rattle.iso_core.specs.declared.answers.Recent.{Recent}
 use Rattle.iso_core.specs.declared.core_itself.Core.{Core}
+use Rattle.iso_core.specs.Core.{disk_of}
 use Rattle.iso_disk.specs.Disk.{DiskState}
 use Rattle.iso_model.specs.declared.core_error.CoreError.{CoreError}
 use Rattle.iso_model.specs.declared.core_error.CoreError.TheVariants as error
@@ -85,11 +86,15 @@ module _ {D : Type 0} (disk : D → DiskState) (A : Start) where
   pub core_at : (old mid : Core D) (items : List (List ℕ × Posted)) (es : List Entry) → StandsAt disk A old items es → mid ≡ old → Holds disk mid (state_at A es)
   core_at old mid items es s same = subst (λ v. Holds disk v (state_at A es)) (sym same) s.core
 
+  -- what is bound stays so from the core that was lent on
+  pub from_lent : (old lent new : Core D) → lent ≡ old → (disk (disk_of new)).bound ≡ (disk (disk_of lent)).bound → (disk (disk_of new)).bound ≡ (disk (disk_of old)).bound
+  from_lent old lent new same bound = bound ∙ ap (λ (c : Core D). (disk (disk_of c)).bound) same
+
   -- after a call of the core: e is the entry, and e' the same, told of the core that was lent
   pub stands_call : (old new : Core D) (items kept : List (List ℕ × Posted)) (es : List Entry) (e e' : Entry) (holds : List ℕ)
-      → StandsAt disk A old items es → kept ≡ items → HoldsOut holds es → MayLeave holds e → e ≡ e' → Did disk (state_at A es) new e' → KeepsRack e
+      → StandsAt disk A old items es → kept ≡ items → HoldsOut holds es → MayLeave holds e → e ≡ e' → (disk (disk_of new)).bound ≡ (disk (disk_of old)).bound → Did disk (state_at A es) new e' → KeepsRack e
       → StandsAt disk A new kept (es ++ e ∷ [])
-  stands_call old new items kept es e e' holds s rack out may same did keeps =
+  stands_call old new items kept es e e' holds s rack out may same bound did keeps =
       let did' : Did disk (state_at A es) new e = subst (Did disk (state_at A es) new) (sym same) did in
       subst (λ l. StandsAt disk A new l (es ++ e ∷ [])) (sym rack)
-      (stands_next disk A old new items items es e holds s out may did'.0 did'.1 (s.rack ∙ sym (keeps (state_at A es))) s.works)
+      (stands_next disk A old new items items es e holds s out may bound did'.0 did'.1 (s.rack ∙ sym (keeps (state_at A es))) s.works)

@@ -6,6 +6,7 @@ use Rattle.std.specs.List.{AllByRecursion}
 use Rattle.std.proofs.lemmas.Map.Made.{lookup-map_values}
 use Rattle.std.proofs.lemmas.List.{map-append}
 use Rattle.iso_core.specs.declared.core_itself.Core.{Core}
+use Rattle.iso_core.specs.Core.{disk_of}
 use Rattle.iso_disk.specs.Disk.{DiskState}
 use Rattle.turn_lock.specs.Lists.{times}
 use Rattle.turn_lock.specs.Numbers.{held_after}
@@ -68,6 +69,9 @@ first_number n [] e = absurd (cc e)
 first_number n (i ∷ items) e = let same : i.1.number ≡ n = cc e in let h = hit_same i.1.number n same in omega arith
 
 module _ {D : Type 0} (disk : D → DiskState) (A : Start) where
+  lent_bound : (old lent : Core D) → lent ≡ old → (disk (disk_of lent)).bound ≡ (disk (disk_of old)).bound
+  lent_bound old lent same = ap (λ (c : Core D). (disk (disk_of c)).bound) same
+
   pub stands_look : (old lent : Core D) (items kept left : List (List ℕ × Posted)) (es : List Entry) (holds : List ℕ) (label : List ℕ) (found : Option Posted)
       → StandsAt disk A old items es → lent ≡ old → kept ≡ items → HoldsOut holds es → found ≡ lookup (bytes_eq label) kept → left ≡ remove_entry (bytes_eq label) kept
       → StandsAt disk A lent left (es ++ entry.Look label (option_map posting_in found) ∷ [])
@@ -76,7 +80,7 @@ module _ {D : Type 0} (disk : D → DiskState) (A : Start) where
       let r : left ≡ remove_entry test items = rest ∙ ap (remove_entry test) rack in
       let f : option_map posting_in found ≡ lookup test (state_at A es).rack = ap (option_map posting_in) (is ∙ ap (lookup test) rack) ∙ sym (lookup-map_values posting_in test items) ∙ ap (lookup test) s.rack in
       let h = subst (λ v. Holds disk v (state_at A es)) (sym core) s.core in
-      stands_next disk A old lent items left es (entry.Look label (option_map posting_in found)) holds s out (tt, tt) f
+      stands_next disk A old lent items left es (entry.Look label (option_map posting_in found)) holds s out (tt, tt) (lent_bound old lent core) f
       (record { world = h.world; counts = h.counts; told = h.told })
       (ap postings r ∙ postings_removed test items ∙ ap (remove_entry test) s.rack)
       (subst (AllByRecursion (λ i. IsOn A.world.geometry i.1.work)) (sym r) (all_removed (λ i. IsOn A.world.geometry i.1.work) test items s.works))
@@ -87,13 +91,13 @@ module _ {D : Type 0} (disk : D → DiskState) (A : Start) where
       (sound_at disk A old items es s).racked n (subst (λ l. 0 < times n (racked l)) s.rack some)
 
   pub stands_sweep : (old new : Core D) (items kept left : List (List ℕ × Posted)) (es : List Entry) (holds : List ℕ) (n : ℕ)
-      → StandsAt disk A old items es → kept ≡ items → HoldsOut holds es → Some n ≡ option_map (λ e. e.1.number) (slice_get kept 0) → left ≡ drop 1 kept → Did disk (state_at A es) new (entry.Abort n)
+      → StandsAt disk A old items es → kept ≡ items → HoldsOut holds es → Some n ≡ option_map (λ e. e.1.number) (slice_get kept 0) → left ≡ drop 1 kept → (disk (disk_of new)).bound ≡ (disk (disk_of old)).bound → Did disk (state_at A es) new (entry.Abort n)
       → StandsAt disk A new left (es ++ entry.Sweep (Some n) ∷ [])
-  stands_sweep old new items kept left es holds n s rack out is rest did =
+  stands_sweep old new items kept left es holds n s rack out is rest bound did =
       let r : left ≡ drop 1 items = rest ∙ ap (drop 1) rack in
       let f : Some n ≡ option_map (λ e. e.1.number) (slice_get (state_at A es).rack 0) = is ∙ ap (λ l. option_map (λ e. e.1.number) (slice_get l 0)) rack ∙ sym (postings_first items) ∙ ap (λ l. option_map (λ e. e.1.number) (slice_get l 0)) s.rack in
       let h = did.1 in
-      stands_next disk A old new items left es (entry.Sweep (Some n)) holds s out (tt, tt) f
+      stands_next disk A old new items left es (entry.Sweep (Some n)) holds s out (tt, tt) bound f
       (record { world = h.world; counts = h.counts; told = h.told })
       (ap postings r ∙ postings_rest items ∙ ap (drop 1) s.rack)
       (subst (AllByRecursion (λ i. IsOn A.world.geometry i.1.work)) (sym r) (all_rest (λ i. IsOn A.world.geometry i.1.work) items s.works))
@@ -106,7 +110,7 @@ module _ {D : Type 0} (disk : D → DiskState) (A : Start) where
       let r : left ≡ items = rest ∙ ap (drop 1) rack ∙ ap (drop 1) e ∙ sym e in
       let f : None ≡ option_map (λ e. e.1.number) (slice_get (state_at A es).rack 0) = ap (λ l. option_map (λ e. e.1.number) (slice_get (postings l) 0)) (sym e) ∙ ap (λ l. option_map (λ e. e.1.number) (slice_get l 0)) s.rack in
       let h = subst (λ v. Holds disk v (state_at A es)) (sym core) s.core in
-      stands_next disk A old lent items left es (entry.Sweep None) holds s out (tt, tt) f h (ap postings r ∙ s.rack) (subst (AllByRecursion (λ i. IsOn A.world.geometry i.1.work)) (sym r) s.works)
+      stands_next disk A old lent items left es (entry.Sweep None) holds s out (tt, tt) (lent_bound old lent core) f h (ap postings r ∙ s.rack) (subst (AllByRecursion (λ i. IsOn A.world.geometry i.1.work)) (sym r) s.works)
     where
       none_first : (items : List (List ℕ × Posted)) → None ≡ option_map (λ e. e.1) (slice_get items 0) → items ≡ []
       none_first [] is = refl
@@ -125,7 +129,7 @@ module _ {D : Type 0} (disk : D → DiskState) (A : Start) where
       let posting : posting_in p ≡ posting_of S.world p.number p.work.accesses = λ i. record { number = p.number; begin = sym (own.begin live) i; mode = sym (own.mode live) i; accesses = p.work.accesses } in
       let g = follows_all (opened A) es in
       let h = subst (λ v. Holds disk v S) (sym core) s.core in
-      stands_next disk A old lent items left es (entry.Post p.number label p.work.accesses) holds s out (tt, (held, tt)) f
+      stands_next disk A old lent items left es (entry.Post p.number label p.work.accesses) holds s out (tt, (held, tt)) (lent_bound old lent core) f
       (record { world = h.world; counts = h.counts; told = h.told })
       (ap postings r ∙ map-append (λ (e : List ℕ × Posted). (e.0, posting_in e.1)) items ((label, p) ∷ []) ∙ ap (λ l. l ++ (label, posting_in p) ∷ []) s.rack ∙ ap (λ v. S.rack ++ (label, v) ∷ []) posting)
       (subst (AllByRecursion (λ i. IsOn A.world.geometry i.1.work)) (sym r)
@@ -150,7 +154,7 @@ module _ {D : Type 0} (disk : D → DiskState) (A : Start) where
       let looked : lookup test S.rack ≡ option_map posting_in (lookup test kept) = sym (ap (lookup test) s.rack) ∙ lookup-map_values posting_in test items ∙ ap (λ l. option_map posting_in (lookup test l)) (sym rack) in
       let h = subst (λ v. Holds disk v S) (sym core) s.core in
       let r = post_refused S lent label p e h (λ is. ap (λ o. is_some o) looked ∙ still (lookup test kept) (taken is)) (λ is. looked ∙ ap (option_map posting_in) (free is)) in
-      stands_next disk A old lent items left es (post_entry label p (Err e)) holds s out (post_may label p e holds held) r.0 r.1
+      stands_next disk A old lent items left es (post_entry label p (Err e)) holds s out (post_may label p e holds held) (lent_bound old lent core) r.0 r.1
       (ap postings (same ∙ rack) ∙ s.rack ∙ sym r.2) (subst (AllByRecursion (λ i. IsOn A.world.geometry i.1.work)) (sym (same ∙ rack)) s.works)
     where
       still : (o : Option Posted) → is_some o ≡ true → is_some (option_map posting_in o) ≡ true

@@ -24,7 +24,7 @@ abbrev pub small : Geometry
 small = record { block = 64; blocks = 4; log = 256; mode = Serial; hash = 0; tree = 0; form = 1 }
 
 abbrev pub start : Start
-start = record { world = fresh small 1 (empty_history small); faults = 3; tells = true }
+start = record { world = fresh small 1 (empty_history small); faults = 3; tells = true; contents = None; bound = None }
 
 -- a write of one byte of block 2, and a read of that block
 abbrev pub one_put : Access

@@ -3,13 +3,14 @@ use Rattle.std.proofs.Common.{◌≡◌, ℕ, ◌<◌, true, List, [], ◌∷◌
 use Rattle.std.specs.Prelude.{option_to_list}
 use Rattle.std.specs.List.{AllByRecursion}
 use Rattle.iso_core.specs.declared.core_itself.Core.{Core}
+use Rattle.iso_core.specs.Core.{disk_of}
 use Rattle.iso_disk.specs.Disk.{DiskState}
 use Rattle.turn_lock.specs.Lists.{times}
 use Rattle.turn_lock.specs.Numbers.{AreFree, AreHeld, IsOut}
 use Rattle.iso_shared.specs.declared.entry.Entry.{Entry}
 use Rattle.iso_shared.specs.declared.guarded.Posted.{Posted}
 use Rattle.iso_shared.specs.Legal.{AreLoose, Answers, IsLegal, handed, needed, returned}
-use Rattle.iso_shared.specs.Standing.{Holds, IsOn, StandsAt, postings}
+use Rattle.iso_shared.specs.Standing.{Came, Holds, IsOn, StandsAt, postings}
 use Rattle.iso_shared.specs.States.{Start, after, is_live, opened, state_at}
 use Rattle.iso_shared.proofs.Trace.{NotLoose, after_snoc, legal_last, legal_snoc, loose_is, not_loose, opened_sound, out_is, sound_all, IsSound}
 
@@ -44,20 +45,25 @@ module _ {D : Type 0} (disk : D → DiskState) (A : Start) where
   pub sound_at : (core : Core D) (items : List (List ℕ × Posted)) (es : List Entry) → StandsAt disk A core items es → IsSound (state_at A es)
   sound_at core items es s = sound_all (opened A) es (opened_sound A s.start) s.legal
 
+  some_entry : (es : List Entry) (e : Entry) → es ++ e ∷ [] ≡ [] → ⊥
+  some_entry [] e is = cc is
+  some_entry (x ∷ es) e is = cc is
+
   -- what stood for the list stands for it with one entry more
   pub stands_next : (old new : Core D) (items left : List (List ℕ × Posted)) (es : List Entry) (e : Entry) (holds : List ℕ)
       → StandsAt disk A old items es → HoldsOut holds es → MayLeave holds e
-      → Answers (state_at A es) e → Holds disk new (after (state_at A es) e) → postings left ≡ (after (state_at A es) e).rack → AllByRecursion (λ i. IsOn A.world.geometry i.1.work) left
+      → (disk (disk_of new)).bound ≡ (disk (disk_of old)).bound → Answers (state_at A es) e → Holds disk new (after (state_at A es) e) → postings left ≡ (after (state_at A es) e).rack → AllByRecursion (λ i. IsOn A.world.geometry i.1.work) left
       → StandsAt disk A new left (es ++ e ∷ [])
-  stands_next old new items left es e holds s out may answers core rack works =
+  stands_next old new items left es e holds s out may bound answers core rack works =
       let step = after_snoc (opened A) es e in record {
         start = s.start;
         legal = legal_snoc (opened A) es e s.legal (record { needs = held_loose old items es holds s out (needed e) may.0; takes = held_loose old items es holds s out (returned e) may.1; answers = answers });
         core = subst (Holds disk new) (sym step) core;
         rack = rack ∙ sym (ap (λ S. S.rack) step);
         works = works;
+        came = record { bound = bound ∙ s.came.bound; unwritten = λ none. absurd (some_entry es e none) };
       }
 
   -- what stands at the start
-  pub stands_first : (core : Core D) → Holds disk core (opened A) → A.world.live ≡ [] → StandsAt disk A core [] []
-  stands_first core holds none = record { start = none; legal = tt; core = holds; rack = refl; works = tt }
+  pub stands_first : (core : Core D) → Holds disk core (opened A) → A.world.live ≡ [] → Came A (disk (disk_of core)) [] → StandsAt disk A core [] []
+  stands_first core holds none came = record { start = none; legal = tt; core = holds; rack = refl; works = tt; came = came }

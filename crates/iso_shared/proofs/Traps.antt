@@ -127,7 +127,7 @@ not_beyond_the_floor : Fits (state_at start two_begun) (entry.Compact 1) → ⊥
 not_beyond_the_floor f = cc (f.answers.1)
 
 abbrev last_half : Start
-last_half = record { world = fresh small LAST (empty_history small); faults = 3; tells = true }
+last_half = record { world = fresh small LAST (empty_history small); faults = 3; tells = true; contents = None; bound = None }
 
 worn : MayRefuse (opened last_half) call.Compact cause.Worn
 unfolding switch_step

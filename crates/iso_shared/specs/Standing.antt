@@ -41,6 +41,11 @@ posting_in p = record { number = p.number; begin = p.work.begin; mode = p.work.m
 abbrev pub postings : List (List ℕ × Posted) → List (List ℕ × Posting)
 postings rack = map (λ e. (e.0, posting_in e.1)) rack
 
+-- The disk is bound as it was at the start, and before the first entry it tells what it told then.
+pub record Came (A : Start) (d : DiskState) (es : List Entry) : Type 0 where
+  pub bound : d.bound ≡ A.bound
+  pub unwritten : es ≡ [] → d.contents ≡ A.contents
+
 -- the core and the rack stand for the list
 pub record StandsAt {D : Type 0} (disk : D → DiskState) (A : Start) (held : Core D) (items : List (List ℕ × Posted)) (es : List Entry) : Type 0 where
   pub start : A.world.live ≡ []
@@ -48,13 +53,14 @@ pub record StandsAt {D : Type 0} (disk : D → DiskState) (A : Start) (held : Co
   pub core : Holds disk held (state_at A es)
   pub rack : postings items ≡ (state_at A es).rack
   pub works : AllByRecursion (λ e. IsOn A.world.geometry e.1.work) items
+  pub came : Came A (disk (disk_of held)) es
 
 abbrev pub some_geometry : Geometry
 some_geometry = record { block = 64; blocks = 1; log = 64; mode = Serial; hash = 0; tree = 0; form = 1 }
 
 abbrev pub some_start : Start
-some_start = record { world = fresh some_geometry 1 (empty_history some_geometry); faults = 0; tells = true }
+some_start = record { world = fresh some_geometry 1 (empty_history some_geometry); faults = 0; tells = true; contents = None; bound = None }
 
 -- where the list of a device begins whose core stands for the world, on this disk
 abbrev pub start_at : World → DiskState → Start
-start_at W d = record { world = W; faults = d.faults; tells = is_some d.contents }
+start_at W d = record { world = W; faults = d.faults; tells = is_some d.contents; contents = d.contents; bound = d.bound }

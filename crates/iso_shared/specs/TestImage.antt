@@ -4,7 +4,8 @@ use Rattle.iso_core.specs.declared.core_itself.Core.{Core}
 use Rattle.iso_disk.specs.Disk.{DiskState}
 use Rattle.iso_model.specs.declared.access.Geometry.{Geometry}
 use Rattle.iso_model.specs.declared.access.Mode.TheVariants.{Serial}
-use Rattle.iso_shared.specs.Standing.{Holds}
+use Rattle.iso_core.specs.Core.{disk_of}
+use Rattle.iso_shared.specs.Standing.{Came, Holds}
 use Rattle.iso_shared.specs.States.{Start, opened}
 
 abbrev pub small : Geometry
@@ -14,4 +15,5 @@ small = record { block = 64; blocks = 4; log = 4096; mode = Serial; hash = 0; tr
 pub record MayStart {D : Type 0} (disk : D → DiskState) (A : Start) (core : Core D) : Type 0 where
   pub holds : Holds disk core (opened A)
   pub live : A.world.live ≡ []
+  pub came : Came A (disk (disk_of core)) []
   pub geometry : A.world.geometry ≡ small

@@ -6,8 +6,9 @@ ghost use Rattle.turn_lock.specs.Lock.{lock_id, turn_number, turn_value};
 ghost use Rattle.turn_lock.specs.Numbers.{AreHeld, held_after};
 ghost use Rattle.turn_lock.specs.Pass.{view, HasNoTurn, HasTurn, IsAlike, IsSamePass};
 ghost use Rattle.turn_lock.specs.Views.{fresh, given_part, kept_part};
+ghost use Rattle.iso_core.specs.Core.{disk_of};
 ghost use Rattle.iso_shared.specs.Legal.{IsLegal, handed, needed, returned};
-ghost use Rattle.iso_shared.specs.Standing.{Holds, StandsAt, faults_of};
+ghost use Rattle.iso_shared.specs.Standing.{Came, Holds, StandsAt, faults_of};
 ghost use Rattle.iso_shared.specs.States.{opened, state_at};
 ghost use Rattle.iso_shared.specs.Told.{told_entry};
 
@@ -48,6 +49,7 @@ impl<D: Disk + Drop, O: Origin> Shared<D, O> {
         core: Core<D>,
     ) -> Result<(Shared<D, O>, Port<D, O>), (Memory, Core<D>)>
         requires start { Holds D.state core (opened O.start) × (O.start.world.live ≡ []) }
+        requires came { Came O.start (D.state (disk_of core)) [] }
         ensures ok { IfOk result (λ r. IsPort r.0 r.1 × (port_view r.1 ≡ fresh) × (first_geometry r.0 ≡ O.start.world.geometry)) }
         ensures err { IfErr result (λ e. e.1 ≡ core) }
     {
@@ -205,12 +207,13 @@ impl<D: Disk + Drop, O: Origin> Shared<D, O> {
     }
 
     /// Ends the device, and gives the core back, which stands for the whole list. The port has all units. It waits for nobody.
-    /// The list's commits stand in one order, in which each is serial or snapshot, as its mode says.
+    /// The list's commits stand in one order, in which each is serial or snapshot, as its mode says. The disk is bound as it was.
     pub fn close(self, port: Port<D, O>) -> Core<D>
         requires port { IsPort self port × ((port_view port).units ≡ LAST) }
         ensures legal { IsLegal O.start (port_view port).seen }
         ensures isolated { IsIsolatedAt O.start (port_view port).seen }
         ensures core { Holds D.state result (state_at O.start (port_view port).seen) }
+        ensures came { Came O.start (D.state (disk_of result)) (port_view port).seen }
         ensures all { (port_view port).mine ≡ places (length (port_view port).seen) }
     {
         let Shared {

@@ -23,7 +23,8 @@ use Rattle.iso_refusal.specs.Refusal.{refusal}
 use Rattle.script_runner.specs.Between.{ShowsBetween}
 use Rattle.script_runner.proofs.Histories.{between_on, shows_last}
 use Rattle.iso_top.specs.Begun.{HasCore, HasNoCore}
-use Rattle.iso_top.specs.Outcome.{HasBegun, IsUntouched, MayBeUnmade}
+use Rattle.iso_top.specs.Outcome.{HasBegun}
+use Rattle.iso_top.specs.Starts.{IsUntouched, MayBeUnmade}
 
 -- the world of a new image
 abbrev new_world : Geometry → World

@@ -2,7 +2,7 @@
 use Rattle.std.proofs.Common.{◌≡◌, ◌≢◌, ◌⊎◌, inl, inr, ⊎_elim, ℕ, List, Option, Some, None, IfSome, refl, sym, ap, subst}
 use Rattle.std.specs.Option.{ForSome}
 use Rattle.command_line.specs.declared.task.Task.{Task}
-use Rattle.command_line.specs.declared.task.Task.TheVariants.{New, Run, Recover, Bench}
+use Rattle.command_line.specs.declared.task.Task.TheVariants.{New, Run, Par, Recover, Bench}
 use Rattle.command_line.specs.Requests.{made_geometry}
 use Rattle.fault_count.specs.Count.{Rose}
 use Rattle.iso_disk.specs.Disk.{DiskState}
@@ -16,12 +16,17 @@ use Rattle.iso_model.specs.Script.{Script, script}
 use Rattle.iso_refusal.specs.declared.open_error.OpenError.{OpenError}
 use Rattle.iso_refusal.specs.declared.open_error.OpenError.TheVariants as error
 use Rattle.iso_refusal.specs.Refusal.{refusal}
+use Rattle.iso_shared.specs.Standing.{start_at}
+use Rattle.par_text.specs.declared.part.Part.{Part}
 use Rattle.script_runner.specs.declared.run_end.RunEnd.{RunEnd}
 use Rattle.script_runner.specs.declared.run_end.RunEnd.TheVariants as end
 use Rattle.script_runner.specs.Run.{AreLinesOf, HasRun}
 use Rattle.iso_top.specs.Outcome.{HasAnswered, HasBenched, HasMet, HasNotBegun, HasRecovered, IsAccepted, IsGoodInput, IsStatus, PrintedBench, PrintedDigest, PrintedResult}
+use Rattle.whole_script.specs.declared.lines.ScriptError.{ScriptError}
+use Rattle.whole_script.specs.declared.lines.ScriptError.TheVariants as lines
+use Rattle.iso_top.specs.Clients.{HasRunClients, HasRunNone, PrintedClients, WereRun}
 use Rattle.iso_top.specs.Prints.{SinkFailed}
-use Rattle.iso_top.specs.Texts.{end_status, error_status}
+use Rattle.iso_top.specs.Texts.{end_status, error_status, script_error_status}
 
 -- what a status tells of the counts
 pub record HasCauses (status : ℕ) (disk_old disk_new : DiskState) (input_old input_new : SourceState) (output_old output_new : SinkState) : Type 0 where
@@ -145,10 +150,30 @@ module _ {D : Type 0} (state : D → DiskState) (name : List ℕ) (status : ℕ)
       go end.Output run (is, text) = quiet status (state disk_old) (state disk_new) input_old input_new output_old output_new (inr (inr (inr is)))
       go end.Memory run (is, text) = quiet status (state disk_old) (state disk_new) input_old input_new output_old output_new (inr (inr (inr is)))
 
+  ran_none : (e : ScriptError) → status ≡ script_error_status e → HasRunNone name e (state disk_old) (state disk_new) input_old input_new output_old output_new → Caused
+  ran_none (lines.BadLine bad) is r = quiet status (state disk_old) (state disk_new) input_old input_new output_old output_new (inr (inl is))
+  ran_none lines.Input is r = by_input status (state disk_old) (state disk_new) input_old input_new output_old output_new is r.why
+  ran_none lines.Memory is r = quiet status (state disk_old) (state disk_new) input_old input_new output_old output_new (inr (inr (inr is)))
+
+  ran_clients : HasRunClients state name status disk_old disk_new input_old input_new output_old output_new → Caused
+  ran_clients r = go r.ran
+    where
+      put : (parts : List Part) → PrintedClients status parts output_old output_new → Caused
+      put parts (text, inl (is, none, output, whole)) = quiet status (state disk_old) (state disk_new) input_old input_new output_old output_new (inl is)
+      put parts (text, inr (inl (is, none, output, cut))) = by_output status (state disk_old) (state disk_new) input_old input_new output_old output_new is cut.failed
+      put parts (text, inr (inr (inl (is, stop, output, printed)))) = by_disk status (state disk_old) (state disk_new) input_old input_new output_old output_new is (r.failed is)
+      put parts (text, inr (inr (inr (is, whole, printed)))) = quiet status (state disk_old) (state disk_new) input_old input_new output_old output_new (inr (inr (inr is)))
+
+      go : WereRun (start_at r.world (state r.start)) r.lines r.entries status output_old output_new → Caused
+      go (inl (parts, told, printed)) = put parts printed
+      go (inr (none, is, printed)) = quiet status (state disk_old) (state disk_new) input_old input_new output_old output_new (inr (inr (inr is)))
+
   pub met_causes : (task : Task) → HasMet state task name status disk_old disk_new input_old input_new output_old output_new → Caused
   met_causes task (inl (e, is, not)) = unbegun (made_geometry task) e is not
   met_causes (New g) (inr (e, is, a)) = answered (Some g) e is a
   met_causes Run (inr (e, is, a)) = answered None e is a
+  met_causes Par (inr (inl (e, is, r))) = ran_none e is r
+  met_causes Par (inr (inr r)) = ran_clients r
   met_causes Recover (inr r) = recovered r
   met_causes (Bench seed count) (inr b) = benched seed count b
 
@@ -213,10 +238,33 @@ module _ {D : Type 0} (state : D → DiskState) (name : List ℕ) (status : ℕ)
         go end.Output run (is, text) = inr is
         go end.Memory run (is, text) = inr is
 
+    ran_none_all : (e : ScriptError) → status ≡ script_error_status e → (all : List ℕ) × (input_old.rest ≡ Some all) × ((script all).bad ≡ None)
+        → HasRunNone name e (state disk_old) (state disk_new) input_old input_new output_old output_new → Ends
+    ran_none_all (lines.BadLine bad) is (all, rest, good) r =
+        let told : (script all).bad ≡ Some bad = subst (λ (o : Option (List ℕ)). IfSome o (λ text. (script text).bad ≡ Some bad)) rest r.why.told in
+        absurd (cc (good, told))
+    ran_none_all lines.Input is good r = absurd (input_stands r.why)
+    ran_none_all lines.Memory is good r = inr is
+
+    ran_clients_all : HasRunClients state name status disk_old disk_new input_old input_new output_old output_new → Ends
+    ran_clients_all r = go r.ran
+      where
+        put : (parts : List Part) → PrintedClients status parts output_old output_new → Ends
+        put parts (text, inl (is, none, output, whole)) = inl is
+        put parts (text, inr (inl (is, none, output, cut))) = absurd (output_stands cut.failed)
+        put parts (text, inr (inr (inl (is, stop, output, printed)))) = absurd (disk_stands (r.failed is))
+        put parts (text, inr (inr (inr (is, whole, printed)))) = inr is
+
+        go : WereRun (start_at r.world (state r.start)) r.lines r.entries status output_old output_new → Ends
+        go (inl (parts, told, printed)) = put parts printed
+        go (inr (none, is, printed)) = inr is
+
     pub met_all : (task : Task) → IsAccepted (made_geometry task) (state disk_old).contents → IsGoodInput task input_old.rest
         → HasMet state task name status disk_old disk_new input_old input_new output_old output_new → Ends
     met_all task accepted good (inl (e, is, not)) = begun_all (made_geometry task) e is accepted not
     met_all (New g) accepted good (inr (e, is, a)) = answered_all (Some g) e is good a
     met_all Run accepted good (inr (e, is, a)) = answered_all None e is good a
+    met_all Par accepted good (inr (inl (e, is, r))) = ran_none_all e is good r
+    met_all Par accepted good (inr (inr r)) = ran_clients_all r
     met_all Recover accepted good (inr r) = recovered_all r
     met_all (Bench seed count) accepted good (inr b) = benched_all seed count b

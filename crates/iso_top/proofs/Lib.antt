@@ -5,3 +5,8 @@ mod Causes
 mod Results
 mod Benches
 mod Tasks
+mod Stops
+mod Rising
+mod Behind
+mod RunsOfClients
+mod ClientsMet

@@ -22,7 +22,8 @@ use Rattle.script_runner.specs.Told.{ArePlain, IsPlain}
 use Rattle.script_runner.proofs.Steps.{all_first}
 use Rattle.script_runner.specs.Between.{ShowsBetween}
 use Rattle.iso_top.specs.Begun.{HasCore}
-use Rattle.iso_top.specs.Outcome.{HasBegun, HasBenched, HasRecovered, IsUntouched, MayBeUnmade, OpensTo, PrintedBench, PrintedDigest, PrintedResult}
+use Rattle.iso_top.specs.Outcome.{HasBegun, HasBenched, HasRecovered, PrintedBench, PrintedDigest, PrintedResult}
+use Rattle.iso_top.specs.Starts.{IsUntouched, MayBeUnmade, OpensTo}
 use Rattle.iso_top.proofs.Answered.{has_begun}
 
 -- a core over a new image stands for the fresh world

@@ -12,7 +12,7 @@ use Rattle.iso_recover.specs.Cause.{IsBlamed, IsTest}
 use Rattle.iso_refusal.specs.declared.open_error.OpenError.{OpenError}
 use Rattle.iso_refusal.specs.Refusal.{refusal}
 use Rattle.script_runner.specs.Between.{ShowsBetween}
-use Rattle.iso_top.specs.Outcome.{IsUnbegun, IsUntouched, MayBeUnmade, StartsFrom}
+use Rattle.iso_top.specs.Starts.{IsUnbegun, IsUntouched, MayBeUnmade, StartsFrom}
 
 -- The core is up and stands for the world that the call begins with, which has no live transaction. Its disk was bound to the
 -- name; each image since then is as it is before a script, and none of this project or one that shows that world.

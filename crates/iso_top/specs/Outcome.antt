@@ -2,7 +2,7 @@
 use Rattle.std.specs.Prelude.{◌≡◌, ◌≢◌, ◌⊎◌, ℕ, List, [], ◌++◌, Option, Some, None}
 use Rattle.std.specs.Option.{ForSome}
 use Rattle.command_line.specs.declared.task.Task.{Task}
-use Rattle.command_line.specs.declared.task.Task.TheVariants.{New, Run, Recover, Bench}
+use Rattle.command_line.specs.declared.task.Task.TheVariants.{New, Run, Par, Recover, Bench}
 use Rattle.command_line.specs.Requests.{made_geometry}
 use Rattle.fault_count.specs.Count.{Rose}
 use Rattle.iso_disk.specs.Disk.{DiskState, IsBoundTo, SinceBind, StaysTold}
@@ -12,52 +12,25 @@ use Rattle.iso_model.specs.declared.access.Geometry.{Geometry}
 use Rattle.iso_model.specs.Bench.{bench_geometry, bench_output, bench_text, bench_world, recover_output}
 use Rattle.iso_model.specs.History.{History}
 use Rattle.iso_model.specs.Script.{after, script}
-use Rattle.iso_model.specs.World.{World, empty_history, fresh}
+use Rattle.iso_model.specs.World.{World}
 use Rattle.iso_model.specs.Worlds.{IsWorld}
 use Rattle.iso_recover.specs.Cause.{IsBlamed, IsTest}
-use Rattle.iso_recover.specs.Made.{IsUnmade, IsUnmadeOrEmpty}
-use Rattle.iso_recover.specs.Opened.{TellsImage}
 use Rattle.iso_refusal.specs.declared.open_error.OpenError.{OpenError}
-use Rattle.iso_refusal.specs.declared.open_error.OpenError.TheVariants as error
 use Rattle.iso_refusal.specs.Refusal.{refusal}
 use Rattle.script_runner.specs.declared.run_end.RunEnd.{RunEnd}
 use Rattle.script_runner.specs.declared.run_end.RunEnd.TheVariants as end
 use Rattle.script_runner.specs.Between.{ShowsBetween}
 use Rattle.script_runner.specs.Run.{HasRun}
 use Rattle.script_runner.specs.Told.{IfTold}
+use Rattle.whole_script.specs.declared.lines.ScriptError.{ScriptError}
+use Rattle.iso_top.specs.Clients.{HasRunClients, HasRunNone}
 use Rattle.iso_top.specs.Prints.{Printed, WasCut, WroteWhole}
-use Rattle.iso_top.specs.Texts.{disk_fault_text, end_status, end_text, error_status, error_text, memory_text, usage_text}
+use Rattle.iso_top.specs.Starts.{IsUnbegun, IsUntouched, MayBeUnmade, OpensTo, StartsFrom}
+use Rattle.iso_top.specs.Texts.{disk_fault_text, end_status, end_text, error_status, error_text, memory_text, script_error_status, usage_text}
 
 -- one of the statuses of the program
 abbrev pub IsStatus : ℕ → Type 0
 IsStatus status = (status ≡ 0) ⊎ (status ≡ 2) ⊎ (status ≡ 3) ⊎ (status ≡ 4) ⊎ (status ≡ 5) ⊎ (status ≡ 6) ⊎ (status ≡ 7) ⊎ (status ≡ 8)
-
--- The world that the image as given opens to, where the disk told it.
-pub record OpensTo (contents : Option (List ℕ)) (W : World) : Type 0 where
-  pub geometry : Geometry
-  pub generation : ℕ
-  pub history : History
-  pub told : TellsImage contents geometry generation history
-  pub world_is : W ≡ fresh geometry generation history
-
--- The world that a call begins with: that of a new image of the geometry, or that of the image as given.
-abbrev pub StartsFrom : (made : Option Geometry) → (given : Option (List ℕ)) → World → Type 0
-StartsFrom (Some g) given W = W ≡ fresh g 1 (empty_history g)
-StartsFrom None given W = OpensTo given W
-
--- what an image is before a script is begun: none of this project or empty where it is made, and as given where it is opened
-abbrev pub IsUntouched : (made : Option Geometry) → (given : Option (List ℕ)) → List ℕ → Type 0
-IsUntouched (Some g) given image = IsUnmadeOrEmpty g image
-IsUntouched None given image = ForSome given (λ c. image ≡ c)
-
--- an image that is made may be none of this project for a while
-abbrev pub MayBeUnmade : (made : Option Geometry) → List ℕ → Type 0
-MayBeUnmade (Some g) image = IsUnmade image
-MayBeUnmade None image = ⊥
-
--- the bind failed, or else each image left since it is as it was before a script
-abbrev pub IsUnbegun : (made : Option Geometry) → (given : Option (List ℕ)) → (name : List ℕ) → OpenError → DiskState → Type 0
-IsUnbegun made given name e disk = ((e ≡ error.Disk) × (disk.bound ≡ None)) ⊎ (IsBoundTo name disk × SinceBind disk (IsUntouched made given))
 
 -- No script was begun, for this reason: the image as given fails this test, or its disk failed, or memory was wanting. The
 -- script was not read, and the line that tells the reason was put.
@@ -150,6 +123,9 @@ HasDone state (New g) name status disk_old disk_new input_old input_new output_o
     (e : RunEnd) × (status ≡ end_status e) × HasAnswered state (Some g) name e disk_old disk_new input_old input_new output_old output_new
 HasDone state Run name status disk_old disk_new input_old input_new output_old output_new =
     (e : RunEnd) × (status ≡ end_status e) × HasAnswered state None name e disk_old disk_new input_old input_new output_old output_new
+HasDone state Par name status disk_old disk_new input_old input_new output_old output_new =
+    ((e : ScriptError) × (status ≡ script_error_status e) × HasRunNone name e (state disk_old) (state disk_new) input_old input_new output_old output_new)
+    ⊎ HasRunClients state name status disk_old disk_new input_old input_new output_old output_new
 HasDone state Recover name status disk_old disk_new input_old input_new output_old output_new =
     HasRecovered name status (state disk_old) (state disk_new) input_old input_new output_old output_new
 HasDone state (Bench seed count) name status disk_old disk_new input_old input_new output_old output_new =
@@ -185,5 +161,6 @@ IsAccepted None given = (c : List ℕ) × (given ≡ Some c) × (refusal c ≡ N
 abbrev pub IsGoodInput : Task → (rest : Option (List ℕ)) → Type 0
 IsGoodInput (New g) rest = (all : List ℕ) × (rest ≡ Some all) × ((script all).bad ≡ None)
 IsGoodInput Run rest = (all : List ℕ) × (rest ≡ Some all) × ((script all).bad ≡ None)
+IsGoodInput Par rest = (all : List ℕ) × (rest ≡ Some all) × ((script all).bad ≡ None)
 IsGoodInput Recover rest = Unit {0}
 IsGoodInput (Bench seed count) rest = Unit {0}

@@ -6,6 +6,8 @@ use Rattle.iso_refusal.specs.declared.open_error.OpenError.{OpenError}
 use Rattle.iso_refusal.specs.declared.open_error.OpenError.TheVariants as error
 use Rattle.script_runner.specs.declared.run_end.RunEnd.{RunEnd}
 use Rattle.script_runner.specs.declared.run_end.RunEnd.TheVariants as end
+use Rattle.whole_script.specs.declared.lines.ScriptError.{ScriptError}
+use Rattle.whole_script.specs.declared.lines.ScriptError.TheVariants as script
 
 -- a text and its line feed
 abbrev pub line : List ℕ → List ℕ
@@ -64,6 +66,18 @@ end_text end.Disk = disk_fault_text
 end_text end.Input = input_fault_text
 end_text end.Output = []
 end_text end.Memory = memory_text
+
+-- the line that says why no line of a script was run, once the image was opened
+abbrev pub script_error_text : ScriptError → List ℕ
+script_error_text (script.BadLine bad) = bad_line_text bad
+script_error_text script.Input = input_fault_text
+script_error_text script.Memory = memory_text
+
+-- the status that goes with it
+abbrev pub script_error_status : ScriptError → ℕ
+script_error_status (script.BadLine bad) = 3
+script_error_status script.Input = 6
+script_error_status script.Memory = 8
 
 -- the line of `recover`, with a last number, a base number and a digest
 abbrev pub recover_text : (last base : ℕ) → (digest : List ℕ) → List ℕ

@@ -2,13 +2,14 @@
 ghost use Rattle.std.specs.Prelude.{◌≡◌, ◌+◌, ◌≤◌, [], ◌∷◌, ◌++◌, decimal, length};
 ghost use Rattle.arrayvec.specs.ArrayVec.{array_vec_len};
 ghost use Rattle.iso_top.specs.Prints.{Printed};
-ghost use Rattle.iso_top.specs.Texts.{bad_line_text, error_text, usage_text};
+ghost use Rattle.iso_top.specs.Texts.{bad_line_text, error_text, script_error_text, usage_text};
 
 use arrayvec::ArrayVec;
 use iso_io::{Sink, put_all};
 use iso_model::BadLine;
 use iso_refusal::OpenError;
 use itoa::Buffer;
+use whole_script::ScriptError;
 
 /// How many bytes a last line may have.
 const ROOM: usize = 128;
@@ -25,6 +26,15 @@ pub(crate) fn put_last<K: Sink>(output: &mut K, line: &[u8])
     ensures { Printed (K.state output.old) (K.state output.new) line.now }
 {
     let _ = put_all(output, line);
+}
+
+/// Puts a text, and a last line behind it. Where the sink fails, it has taken a front of both.
+pub(crate) fn put_behind<K: Sink>(output: &mut K, text: &[u8], line: &[u8])
+    ensures { Printed (K.state output.old) (K.state output.new) (text.now ++ line.now) }
+{
+    if let Ok(()) = put_all(output, text) {
+        put_last(output, line);
+    }
 }
 
 /// Adds a text, for which there is room.
@@ -85,6 +95,17 @@ fn line_of(text: &[u8]) -> ArrayVec<u8, ROOM>
     let mut line = ArrayVec::new();
     push_text(&mut line, text);
     line
+}
+
+/// The line that says why no line of a script was run.
+pub(crate) fn script_error_line(error: ScriptError) -> ArrayVec<u8, ROOM>
+    ensures { result.items ≡ script_error_text error }
+{
+    match error {
+        ScriptError::BadLine(bad) => bad_line(&bad),
+        ScriptError::Input => line_of(b"! input fault\n"),
+        ScriptError::Memory => line_of(b"! memory\n"),
+    }
 }
 
 /// The line that says why no script was begun.

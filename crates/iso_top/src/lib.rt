@@ -1,14 +1,17 @@
-//! The call that the program makes: it makes an image or opens one, and answers a script on it.
+//! The call that the program makes: it makes an image or opens one, and answers a script on it, or runs its clients in threads.
 #![tactic(auto)]
 
+mod beginning;
 mod bench;
+mod clients;
 mod ended;
 mod engine;
 mod last_line;
+mod opened;
 mod recover;
 mod result_line;
 mod script;
 mod top;
 
 pub use ended::Ended;
-pub use top::alone;
+pub use top::{alone, isotope};

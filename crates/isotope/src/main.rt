@@ -11,7 +11,8 @@ mod tests;
 
 use file_disk::FileDisk;
 use iso_io::{StdSink, StdSource, put_all};
-use iso_top::alone;
+use iso_top::isotope;
+use par_runner::Gate;
 use std::alloc::AllocError;
 use std::process::ExitCode;
 use std::rt::Env;
@@ -24,6 +25,14 @@ fn words_of<R: Env + AllocGlobal>(rt: &R) -> Result<Vec<String>, AllocError> {
         Err(error) if error.kind() == io::ErrorKind::OutOfMemory => Err(AllocError),
         Err(_) => Ok(Vec::new(rt.alloc())),
     }
+}
+
+/// A gate at which no client waits.
+#[derive(Drop)]
+struct Open;
+
+impl Gate for Open {
+    fn before(&self, _client: u8, _number: u64) {}
 }
 
 /// The status of the program.
@@ -41,7 +50,19 @@ fn main(rt: HostRuntime) -> ExitCode {
         let _ = put_all(&mut output, b"! memory\n");
         return exit_of(8);
     };
-    let disk = FileDisk::new(rt, alloc);
-    let ended = alone(alloc, &words, disk, &mut input, &mut output);
+    let Ok(files) = rt.clone() else {
+        let _ = put_all(&mut output, b"! memory\n");
+        return exit_of(8);
+    };
+    let disk = FileDisk::new(files, alloc);
+    let ended = isotope(
+        &rt,
+        alloc,
+        &words,
+        disk,
+        &mut input,
+        &mut output,
+        &Open,
+    );
     exit_of(ended.status)
 }

@@ -2,7 +2,8 @@
 use crate::file_disk::FileDisk;
 use iso_disk::{Disk, DiskFault, Image};
 use iso_io::{MemSink, MemSource};
-use iso_top::alone;
+use crate::Open;
+use iso_top::isotope;
 use std::alloc::Allocator;
 use std::fs::{self, File, Metadata, OpenOptions};
 use std::io;
@@ -146,7 +147,15 @@ fn a_good_script_ends_with_status_0(rt: HostRuntime) -> Result<(), Fail> {
     let mut input = MemSource::new(script.to_vec(alloc)?, Vec::new(alloc));
     let mut output = MemSink::new(alloc, Vec::new(alloc));
     let disk = FileDisk::new(rt.clone()?, alloc);
-    let ended = alone(alloc, &words, disk, &mut input, &mut output);
+    let ended = isotope(
+        &rt,
+        alloc,
+        &words,
+        disk,
+        &mut input,
+        &mut output,
+        &Open,
+    );
     assert_eq!(rt; ended.status, 0);
     assert_eq!(rt; ended.image.faults(), 0);
     assert_eq!(rt;

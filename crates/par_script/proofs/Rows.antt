@@ -32,7 +32,7 @@ abbrev small : Geometry
 small = record { block = 64; blocks = 4; log = 256; mode = Serial; hash = 0; tree = 0; form = 1 }
 
 abbrev start : Start
-start = record { world = fresh small 1 (empty_history small); faults = 0; tells = true }
+start = record { world = fresh small 1 (empty_history small); faults = 0; tells = true; contents = None; bound = None }
 
 abbrev says : (number client : ℕ) → Op → ℕ × Line
 says number client o = (number, record { client = client; op = o })

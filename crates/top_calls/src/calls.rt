@@ -1,14 +1,26 @@
 // Calls of the top call over a disk, a source and a sink in memory.
+ghost use Rattle.std.specs.Prelude.{◌≡◌, ◌≢◌, false};
+ghost use Rattle.std.specs.Option.{ForSome};
+ghost use Rattle.command_line.specs.declared.task.Task.TheVariants.{Par};
+ghost use Rattle.command_line.specs.Grammar.{texts};
+ghost use Rattle.command_line.specs.Requests.{request_of};
+
 use crate::texts::text;
+use command_line::{Task, read_words};
 use iso_io::{MemSink, MemSource};
 use iso_memdisk::MemDisk;
-use iso_top::alone;
+use iso_top::{alone, isotope};
+use par_runner::Gate;
 use std::alloc::{AllocError, Global};
+use std::sync::Wait;
+use std::thread::Threads;
 
 /// The words that make a small image.
 pub const SMALL: &str = "isotope new t.img --block-size 64 --blocks 4 --log 256";
 
 pub const RUN: &str = "isotope run t.img";
+
+pub const PAR: &str = "isotope par t.img";
 
 pub const RECOVER: &str = "isotope recover t.img";
 
@@ -34,7 +46,21 @@ pub fn no_disk(alloc: Global) -> MemDisk {
     MemDisk::new(alloc, Vec::new(alloc))
 }
 
-/// A call over a disk, a source and a sink.
+/// Whether the words may be a `par` command.
+fn may_be_par(alloc: Global, words: &[String]) -> bool
+    ensures { result ≡ false → ForSome (request_of (texts words.now)) (λ r. r.1 ≢ Par) }
+{
+    match read_words(alloc, words) {
+        Ok(Some(request)) => match request.task {
+            Task::Par => true,
+            Task::New { .. } | Task::Run | Task::Recover | Task::Bench { .. } => false,
+        },
+        Ok(None) => false,
+        Err(_) => true,
+    }
+}
+
+/// A call over a disk, a source and a sink, on this thread alone. None of a `par` command.
 pub fn call_over(
     alloc: Global,
     line: &str,
@@ -45,6 +71,9 @@ pub fn call_over(
     let words = words_of(alloc, line)?;
     let mut source = source;
     let mut sink = sink;
+    if may_be_par(alloc, &words) {
+        return Err(AllocError);
+    }
     let ended = alone(alloc, &words, disk, &mut source, &mut sink);
     let output = sink.bytes().to_vec(alloc)?;
     Ok(Outcome {
@@ -52,6 +81,55 @@ pub fn call_over(
         output,
         disk: ended.image,
     })
+}
+
+/// A gate at which no client waits.
+#[derive(Drop)]
+struct Open;
+
+impl Gate for Open {
+    fn before(&self, _client: u8, _number: u64) {}
+}
+
+/// A call over a disk, a source and a sink, of which a `par` command runs its clients in threads.
+pub fn threads_over<R: Threads + Wait + Sync>(
+    rt: &R,
+    alloc: Global,
+    line: &str,
+    disk: MemDisk,
+    source: MemSource,
+    sink: MemSink,
+) -> Result<Outcome, AllocError> {
+    let words = words_of(alloc, line)?;
+    let mut source = source;
+    let mut sink = sink;
+    let ended = isotope(
+        rt,
+        alloc,
+        &words,
+        disk,
+        &mut source,
+        &mut sink,
+        &Open,
+    );
+    let output = sink.bytes().to_vec(alloc)?;
+    Ok(Outcome {
+        status: ended.status,
+        output,
+        disk: ended.image,
+    })
+}
+
+/// The clients of a script in threads, on an image of these bytes, where nothing fails.
+pub fn par_image<R: Threads + Wait + Sync>(
+    rt: &R,
+    alloc: Global,
+    image: Vec<u8>,
+    input: &[u8],
+) -> Result<Outcome, AllocError> {
+    let source = MemSource::new(input.to_vec(alloc)?, Vec::new(alloc));
+    let sink = MemSink::new(alloc, Vec::new(alloc));
+    threads_over(rt, alloc, PAR, MemDisk::new(alloc, image), source, sink)
 }
 
 /// A call over a disk whose source and sink do not fail.

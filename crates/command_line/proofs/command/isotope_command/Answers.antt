@@ -15,7 +15,9 @@ returns c =
     ∙ ap₂ with_subcommand a1 (ap (λ (a : App). a.top) c.in_ok-with_image.ensures.app) in
     let a3 = c.in_ok-subcommand-3.ensures.shape c.in_ok-with_image-2.ensures.local
     ∙ ap₂ with_subcommand a2 (ap (λ (a : App). a.top) c.in_ok-with_image-2.ensures.app) in
+    let a4 = c.in_ok-subcommand-4.ensures.shape c.in_ok-with_image-3.ensures.local
+    ∙ ap₂ with_subcommand a3 (ap (λ (a : App). a.top) c.in_ok-with_image-3.ensures.app) in
     record {
-      app = IfOk-weaker c.subcommand-4.result _ _ (λ r h. h.shape c.in_ok-bench_command.ensures.local
-          ∙ ap₂ with_subcommand a3 (ap (λ (a : App). a.top) c.in_ok-bench_command.ensures.app)) c.subcommand-4.ensures;
+      app = IfOk-weaker c.subcommand-5.result _ _ (λ r h. h.shape c.in_ok-bench_command.ensures.local
+          ∙ ap₂ with_subcommand a4 (ap (λ (a : App). a.top) c.in_ok-bench_command.ensures.app)) c.subcommand-5.ensures;
     }

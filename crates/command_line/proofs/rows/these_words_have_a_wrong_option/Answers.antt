@@ -1,11 +1,11 @@
-use Rattle.command_line.proofs.Refusals.{these_words_have_a_wrong_option-of_another_command, these_words_have_a_wrong_option-closed, these_words_have_a_wrong_option-abbreviated, these_words_have_a_wrong_option-short, these_words_have_a_wrong_option-help, these_words_have_a_wrong_option-short_help, these_words_have_a_wrong_option-version, these_words_have_a_wrong_option-hyphenated_image, these_words_have_a_wrong_option-twice, these_words_have_a_wrong_option-no_value, these_words_have_a_wrong_option-option_for_a_value, these_words_have_a_wrong_option-end_for_a_value, these_words_have_a_wrong_option-negative}
+use Rattle.command_line.proofs.Refusals.{these_words_have_a_wrong_option-of_another_command, these_words_have_a_wrong_option-of_a_new_image, these_words_have_a_wrong_option-abbreviated, these_words_have_a_wrong_option-short, these_words_have_a_wrong_option-help, these_words_have_a_wrong_option-short_help, these_words_have_a_wrong_option-version, these_words_have_a_wrong_option-hyphenated_image, these_words_have_a_wrong_option-twice, these_words_have_a_wrong_option-no_value, these_words_have_a_wrong_option-option_for_a_value, these_words_have_a_wrong_option-end_for_a_value, these_words_have_a_wrong_option-negative}
 use Rattle.command_line.proofs.rows.these_words_have_a_wrong_option.Goals as goal
 
 pub returns-clause-of_another_command : goal.returns-clause-of_another_command
 returns-clause-of_another_command c = these_words_have_a_wrong_option-of_another_command
 
-pub returns-clause-closed : goal.returns-clause-closed
-returns-clause-closed c = these_words_have_a_wrong_option-closed
+pub returns-clause-of_a_new_image : goal.returns-clause-of_a_new_image
+returns-clause-of_a_new_image c = these_words_have_a_wrong_option-of_a_new_image
 
 pub returns-clause-abbreviated : goal.returns-clause-abbreviated
 returns-clause-abbreviated c = these_words_have_a_wrong_option-abbreviated

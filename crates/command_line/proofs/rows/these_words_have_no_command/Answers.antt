@@ -1,4 +1,4 @@
-use Rattle.command_line.proofs.Refusals.{these_words_have_no_command-no_words, these_words_have_no_command-no_command, these_words_have_no_command-help, these_words_have_no_command-help_option, these_words_have_no_command-version_option, these_words_have_no_command-unknown, these_words_have_no_command-abbreviated, these_words_have_no_command-closed, these_words_have_no_command-ended, these_words_have_no_command-option_before, these_words_have_no_command-no_image, these_words_have_no_command-two_images, these_words_have_no_command-two_ends, these_words_have_no_command-no_count, these_words_have_no_command-one_word_more}
+use Rattle.command_line.proofs.Refusals.{these_words_have_no_command-no_words, these_words_have_no_command-no_command, these_words_have_no_command-help, these_words_have_no_command-help_option, these_words_have_no_command-version_option, these_words_have_no_command-unknown, these_words_have_no_command-abbreviated, these_words_have_no_command-no_image_of_a_par, these_words_have_no_command-ended, these_words_have_no_command-option_before, these_words_have_no_command-no_image, these_words_have_no_command-two_images, these_words_have_no_command-two_ends, these_words_have_no_command-no_count, these_words_have_no_command-one_word_more}
 use Rattle.command_line.proofs.rows.these_words_have_no_command.Goals as goal
 
 pub returns-clause-no_words : goal.returns-clause-no_words
@@ -22,8 +22,8 @@ returns-clause-unknown c = these_words_have_no_command-unknown
 pub returns-clause-abbreviated : goal.returns-clause-abbreviated
 returns-clause-abbreviated c = these_words_have_no_command-abbreviated
 
-pub returns-clause-closed : goal.returns-clause-closed
-returns-clause-closed c = these_words_have_no_command-closed
+pub returns-clause-no_image_of_a_par : goal.returns-clause-no_image_of_a_par
+returns-clause-no_image_of_a_par c = these_words_have_no_command-no_image_of_a_par
 
 pub returns-clause-ended : goal.returns-clause-ended
 returns-clause-ended c = these_words_have_no_command-ended

@@ -17,7 +17,7 @@ use Rattle.iso_shared.specs.Told.{begin_entry}
 use Rattle.iso_shared.proofs.Begins.{began_ahead, began_own, begun_mode, block_size}
 use Rattle.iso_shared.proofs.Cores.{did_begin}
 use Rattle.iso_shared.proofs.Follows.{follows_all}
-use Rattle.iso_shared.proofs.Giving.{core_at, entry_keeps, entry_may, stands_call}
+use Rattle.iso_shared.proofs.Giving.{core_at, entry_keeps, entry_may, stands_call, from_lent}
 use Rattle.iso_shared.proofs.Mades.{held_same}
 use Rattle.iso_shared.proofs.shared.Shared.begin.Goals as goal
 
@@ -34,6 +34,7 @@ give-requires-clause-value g c =
     c.take-turn.new.pass.me.0.holds c.take-turn.ensures.value (ap (λ v. v.rack) c.value-guarded.ensures.value) c.take-turn.ensures.out
     (entry_may shot (faults_of d new) (call.Begin c.args.named) (λ t. entry.Begin t.tx t.at t.mode) _ (λ x. (tt, tt)) tt r)
     refl
+    (from_lent d A _ lent new (ap (λ v. v.core) c.value-guarded.ensures.value) (ap (λ x. (d x).bound) c.begin-result.ensures.disk))
     (did_begin d S lent new shot (faults_of d new) c.args.named r (core_at d A _ _ _ _ c.take-turn.ensures.value (ap (λ v. v.core) c.value-guarded.ensures.value))
     c.begin-result.ensures.begun c.begin-result.ensures.refused c.begin-result.ensures.down c.begin-result.ensures.kept c.begin-result.ensures.disk)
     (entry_keeps shot (faults_of d new) (call.Begin c.args.named) (λ t. entry.Begin t.tx t.at t.mode) (λ x T. refl) r)

@@ -1,6 +1,7 @@
 use Rattle.std.proofs.Common.{[], ◌∷◌, ◌++◌, ap, refl, sym, arith, ◌∙◌, rules, ◌≤◌, ◌+◌, subst, ◌≡◌}
 use Rattle.tx_table.specs.Work.{Doing}
 use Rattle.turn_lock.specs.Numbers.{held_after}
+use Rattle.iso_core.specs.Core.{disk_of}
 use Rattle.iso_shared.specs.declared.entry.Call.TheVariants as call
 use Rattle.iso_shared.specs.declared.entry.Entry.TheVariants as entry
 use Rattle.iso_shared.specs.Legal.{handed, returned}
@@ -10,7 +11,7 @@ use Rattle.iso_shared.specs.States.{state_at, tx_of}
 use Rattle.iso_shared.specs.Told.{end_entry}
 use Rattle.iso_shared.proofs.Cores.{by_lost, is_tx}
 use Rattle.iso_shared.proofs.Ends.{ahead_same, checked_of, did_end, if_err_by, init_same, may_have, on_same, own_same, work_of}
-use Rattle.iso_shared.proofs.Giving.{core_at, entry_keeps, entry_may, refused_holds, stands_call}
+use Rattle.iso_shared.proofs.Giving.{core_at, entry_keeps, entry_may, refused_holds, stands_call, from_lent}
 use Rattle.iso_shared.proofs.Mades.{ahead_on, held_same, made_by, one_more, own_on}
 use Rattle.iso_shared.proofs.Standings.{held_live}
 use Rattle.iso_shared.proofs.shared.Shared.end_in_turn.Goals as goal
@@ -61,6 +62,9 @@ give-requires-clause-value g c =
     c.take-turn.new.pass.me.0.holds c.take-turn.ensures.value (ap (λ v. v.rack) c.value-guarded.ensures.value) c.take-turn.ensures.out
     (entry_may shot (faults_of d new) (call.End n last.accesses) (λ x. entry.End n last.accesses x) _ (λ x. (tt, (held, tt))) (held, tt) r)
     (ap (λ v. end_entry (faults_of d v) (faults_of d new) n last.accesses r) c.of-before.ensures ∙ ap (λ a. end_entry (faults_of d lent) (faults_of d new) n a r) same)
+    (from_lent d A _ lent new (ap (λ v. v.core) c.value-guarded.ensures.value)
+    (by_lost d S lent _ (core_at d A _ _ _ _ c.take-turn.ensures.value (ap (λ v. v.core) c.value-guarded.ensures.value)) (λ is stands. (c.end-result.ensures.moments S.world t stands here of checked).same_bound)
+    (λ lost is stands. ap (λ v. (d (disk_of v)).bound) (c.end-result.ensures.down S.world lost stands).1)))
     (did_end d S lent new n work.accesses r (core_at d A _ _ _ _ c.take-turn.ensures.value (ap (λ v. v.core) c.value-guarded.ensures.value))
     (may_have S n work own c.settle.ensures.within c.settle.ensures.count)
     (λ stands. c.end-result.ensures.ended S.world t stands here of checked)

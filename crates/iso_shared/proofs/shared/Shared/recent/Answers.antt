@@ -7,7 +7,7 @@ use Rattle.iso_shared.specs.States.{state_at, tx_of}
 use Rattle.iso_shared.specs.Told.{recent_entry}
 use Rattle.iso_shared.proofs.Checks.{did_recent, if_ok_by, is_recent, recent_state}
 use Rattle.iso_shared.proofs.Cores.{is_tx}
-use Rattle.iso_shared.proofs.Giving.{core_at, entry_keeps, entry_may, recent_holds, stands_call}
+use Rattle.iso_shared.proofs.Giving.{core_at, entry_keeps, entry_may, recent_holds, stands_call, from_lent}
 use Rattle.iso_shared.proofs.Mades.{ahead_on, held_same, made_by, one_more, own_on}
 use Rattle.iso_shared.proofs.Standings.{held_live}
 use Rattle.iso_shared.proofs.shared.Shared.recent.Goals as goal
@@ -52,6 +52,7 @@ give-requires-clause-value g c =
     c.take-turn.new.pass.me.0.holds c.take-turn.ensures.value (ap (λ v. v.rack) c.value-guarded.ensures.value) c.take-turn.ensures.out
     (entry_may x (faults_of d lent) (call.Recent n) (λ y. entry.Recent n y.upto) _ (λ y. ((held, tt), tt)) (held, tt) r)
     refl
+    (from_lent d A _ lent lent (ap (λ v. v.core) c.value-guarded.ensures.value) refl)
     (did_recent d S lent n c.args.tx.now.checked.upto x (faults_of d lent) r (core_at d A _ _ _ _ c.take-turn.ensures.value (ap (λ v. v.core) c.value-guarded.ensures.value))
     (record {
       notes = λ stands. said.notes S.world (tx_of S.world n []) stands here begin;

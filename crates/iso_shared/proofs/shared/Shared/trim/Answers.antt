@@ -5,7 +5,7 @@ use Rattle.iso_shared.specs.Standing.{faults_of}
 use Rattle.iso_shared.specs.States.{state_at}
 use Rattle.iso_shared.specs.Told.{trim_entry}
 use Rattle.iso_shared.proofs.Cores.{did_trim}
-use Rattle.iso_shared.proofs.Giving.{core_at, entry_keeps, entry_may, stands_call}
+use Rattle.iso_shared.proofs.Giving.{core_at, entry_keeps, entry_may, stands_call, from_lent}
 use Rattle.iso_shared.proofs.shared.Shared.trim.Goals as goal
 
 pub give-requires-clause-value : goal.give-requires-clause-value
@@ -22,5 +22,6 @@ give-requires-clause-value g c =
     c.take-turn.new.pass.me.0.holds c.take-turn.ensures.value (ap (λ v. v.rack) c.value-guarded.ensures.value) c.take-turn.ensures.out
     (entry_may shot (faults_of d new) call.Trim (λ n. entry.Trim n) _ (λ n. (tt, tt)) tt r)
     (ap (λ v. trim_entry (faults_of d v) (faults_of d new) r) c.of-before.ensures)
+    (from_lent d A _ lent new (ap (λ v. v.core) c.value-guarded.ensures.value) (ap (λ x. (d x).bound) said.disk))
     (did_trim d S lent new (faults_of d lent) (faults_of d new) r (core_at d A _ _ _ _ c.take-turn.ensures.value (ap (λ v. v.core) c.value-guarded.ensures.value)) said.trimmed said.down said.disk)
     (entry_keeps shot (faults_of d new) call.Trim (λ n. entry.Trim n) (λ n T. refl) r)

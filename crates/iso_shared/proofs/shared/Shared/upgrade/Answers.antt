@@ -1,12 +1,14 @@
 use Rattle.std.proofs.Common.{ap, refl}
 use Rattle.iso_model.specs.declared.script.Reply.TheVariants.{Done}
+use Rattle.iso_core.specs.Core.{disk_of}
 use Rattle.iso_shared.specs.declared.entry.Call.TheVariants as call
 use Rattle.iso_shared.specs.declared.entry.Entry.TheVariants as entry
 use Rattle.iso_shared.specs.Standing.{faults_of}
 use Rattle.iso_shared.specs.States.{state_at}
 use Rattle.iso_shared.specs.Told.{upgrade_entry}
+use Rattle.iso_shared.proofs.Cores.{by_lost}
 use Rattle.iso_shared.proofs.Switches.{did_upgrade}
-use Rattle.iso_shared.proofs.Giving.{core_at, entry_keeps, entry_may, stands_call}
+use Rattle.iso_shared.proofs.Giving.{core_at, entry_keeps, entry_may, stands_call, from_lent}
 use Rattle.iso_shared.proofs.shared.Shared.upgrade.Goals as goal
 
 pub give-requires-clause-value : goal.give-requires-clause-value
@@ -23,6 +25,9 @@ give-requires-clause-value g c =
     c.take-turn.new.pass.me.0.holds c.take-turn.ensures.value (ap (λ v. v.rack) c.value-guarded.ensures.value) c.take-turn.ensures.out
     (entry_may shot (faults_of d new) call.Upgrade (λ n. entry.Upgrade n) _ (λ n. (tt, tt)) tt r)
     (ap (λ v. upgrade_entry (faults_of d v) (faults_of d new) r) c.of-before.ensures)
+    (from_lent d A _ lent new (ap (λ v. v.core) c.value-guarded.ensures.value)
+    (by_lost d S lent _ (core_at d A _ _ _ _ c.take-turn.ensures.value (ap (λ v. v.core) c.value-guarded.ensures.value)) (λ is stands. (said.moments S.world stands).same_bound)
+    (λ lost is stands. ap (λ v. (d (disk_of v)).bound) (said.down S.world lost stands).1)))
     (did_upgrade d S lent new r (core_at d A _ _ _ _ c.take-turn.ensures.value (ap (λ v. v.core) c.value-guarded.ensures.value)) (record {
       switched = said.switched S.world;
       refused = said.refused S.world Done;

@@ -1,0 +1,18 @@
+use Rattle.std.proofs.Common.{sym, subst}
+use Rattle.iso_shared.specs.Ports.{port_view}
+use Rattle.iso_shared.specs.Standing.{Came}
+use Rattle.iso_top.proofs.clients.run_over.Goals as goal
+
+pub returns-in-Ok-clause-ended : goal.returns-in-Ok-clause-ended
+returns-in-Ok-clause-ended g c =
+    let state = g.I.Disk.state in
+    let entries = (port_view c.par_lines-end.new.port).seen in
+    record {
+      entries = entries;
+      ended = c.par_lines-end.ensures.ended;
+      isolated = c.close-core.ensures.isolated;
+      core = c.close-core.result;
+      holds = c.close-core.ensures.core;
+      image_is = c.into_disk-in-Ok.ensures;
+      came = subst (λ d. Came g.O.Origin.start (state d) entries) (sym c.into_disk-in-Ok.ensures) c.close-core.ensures.came;
+    }

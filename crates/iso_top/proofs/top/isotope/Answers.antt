@@ -1,0 +1,23 @@
+use Rattle.std.proofs.Common.{sym, subst}
+use Rattle.command_line.specs.declared.task.Task.{Task}
+use Rattle.iso_top.specs.Outcome.{HasMet}
+use Rattle.iso_top.proofs.Causes.{met_all}
+use Rattle.iso_top.proofs.top.isotope.Goals as goal
+
+pub returns-in-Par-clause-complete : goal.returns-in-Par-clause-complete
+returns-in-Par-clause-complete g c =
+    let state = g.I.Disk.state in
+    let input_old = g.S.Source.state c.args.input.now in
+    let input_new = g.S.Source.state c.run_clients.new.input in
+    let old = g.K.Sink.state c.args.output.now in
+    let new = g.K.Sink.state c.run_clients.new.output in
+    let name = c.in-Ok-Some.request.image.now in
+    let met = subst (λ (task : Task). HasMet state task name c.run_clients.result.status c.args.image c.run_clients.result.image input_old input_new old new) (sym c.in-Par.is) c.run_clients.ensures in
+    rw (sym c.in-Ok-Some.ensures.request) (rw c.in-Ok-Some.field-0-is
+    (λ accepted good d i o. met_all state name c.run_clients.result.status c.args.image c.run_clients.result.image input_old input_new old new d i o c.in-Ok-Some.request.task accepted good met))
+
+pub returns-in-New-clause-complete : goal.returns-in-New-clause-complete
+returns-in-New-clause-complete g c =
+    rw (sym c.in-Ok-Some.ensures.request) (rw c.in-Ok-Some.field-0-is
+    (λ accepted good d i o. met_all g.I.Disk.state c.in-Ok-Some.request.image.now c.meet.result.status c.args.image c.meet.result.image (g.S.Source.state c.args.input.now)
+    (g.S.Source.state c.meet.new.input) (g.K.Sink.state c.args.output.now) (g.K.Sink.state c.meet.new.output) d i o c.in-Ok-Some.request.task accepted good c.meet.ensures))

@@ -1,0 +1,82 @@
+-- What a run of clients beside each other on an image has done.
+use Rattle.std.specs.Prelude.{◌≡◌, ◌⊎◌, ℕ, List, [], ◌++◌, Option, Some, None}
+use Rattle.fault_count.specs.Count.{Rose}
+use Rattle.iso_core.specs.Standing.{ShowsLast, ShowsWith}
+use Rattle.iso_disk.specs.Disk.{DiskState, IsBoundTo, SinceBind, StaysTold}
+use Rattle.iso_io.specs.Sink.{SinkState}
+use Rattle.iso_io.specs.Source.{SourceState}
+use Rattle.iso_model.specs.declared.access.Commit.{Commit}
+use Rattle.iso_model.specs.declared.script.Line.{Line}
+use Rattle.iso_model.specs.World.{World}
+use Rattle.iso_shared.specs.declared.entry.Entry.{Entry}
+use Rattle.iso_shared.specs.Ports.{IsIsolatedAt}
+use Rattle.iso_shared.specs.Standing.{start_at}
+use Rattle.iso_shared.specs.States.{Start, State, state_at}
+use Rattle.par_lines.specs.Ends.{status_of}
+use Rattle.par_script.specs.Told.{Told}
+use Rattle.par_text.specs.declared.part.Part.{Part}
+use Rattle.par_text.specs.Output.{IsFront, IsOutput}
+use Rattle.whole_script.specs.declared.lines.ScriptError.{ScriptError}
+use Rattle.whole_script.specs.Read.{HasNoLines, HasRead}
+use Rattle.iso_top.specs.Prints.{Printed, WasCut, WroteWhole}
+use Rattle.iso_top.specs.Starts.{IsUntouched, OpensTo}
+use Rattle.iso_top.specs.Texts.{disk_fault_text, memory_text, script_error_text}
+
+-- The image was opened, and no line of the script was run, for this reason: it has a bad line, its source failed, or memory was
+-- wanting. Nothing was written to the image, and the line that tells the reason was put.
+pub record HasRunNone (name : List ℕ) (e : ScriptError) (disk_old disk_new : DiskState) (input_old input_new : SourceState) (output_old output_new : SinkState) : Type 0 where
+  pub world : World
+  pub opens : OpensTo disk_old.contents world
+  pub bound : IsBoundTo name disk_new
+  pub unwritten : SinceBind disk_new (IsUntouched None disk_old.contents)
+  pub why : HasNoLines input_old input_new e
+  pub printed : Printed output_old output_new (script_error_text e)
+  pub passed : disk_new.faults ≡ disk_old.faults
+
+-- What was put of a run of clients, by the status: the whole text with 0, and a front of it, where the sink failed, with 7; with 5
+-- and 8 the whole text and the line that tells of the fault, or, without memory for the text, first lines of it and that line, or,
+-- only where the sink failed, a front of that.
+abbrev pub PrintedClients : (status : ℕ) → List Part → SinkState → SinkState → Type 0
+PrintedClients status parts old new =
+    (text : List ℕ)
+    × (((status ≡ 0) × (status_of parts ≡ 0) × IsOutput parts text × WroteWhole old new text)
+    ⊎ ((status ≡ 7) × (status_of parts ≡ 0) × IsOutput parts text × WasCut old new text)
+    ⊎ ((status ≡ 5) × (status_of parts ≡ 5) × IsOutput parts text × Printed old new (text ++ disk_fault_text))
+    ⊎ ((status ≡ 8) × (((status_of parts ≡ 8) × IsOutput parts text) ⊎ IsFront parts text) × Printed old new (text ++ memory_text)))
+
+-- the image shows the history at its last commit; or, once a fault set the device down, that or that with the lost commits behind it
+abbrev pub ShowsBehind : (lost : Option (List Commit)) → World → (image : List ℕ) → Type 0
+ShowsBehind None W image = ShowsLast W image
+ShowsBehind (Some lost) W image = ShowsWith W lost image
+
+abbrev pub ShowsState : State → (image : List ℕ) → Type 0
+ShowsState S image = ShowsBehind S.lost S.world image
+
+-- What each client was told by the one list of entries, and what was put of it; or memory was wanting before the first line was
+-- run, and there is no entry.
+abbrev pub WereRun : Start → List (ℕ × Line) → List Entry → (status : ℕ) → SinkState → SinkState → Type 0
+WereRun A lines entries status old new =
+    ((parts : List Part) × Told A lines parts entries × PrintedClients status parts old new) ⊎ ((entries ≡ []) × (status ≡ 8) × Printed old new memory_text)
+
+-- The clients of the script were run: from the world that the image as given opens to, on its disk as it was when the list of
+-- entries began.
+pub record HasRunClients {D : Type 0} (state : D → DiskState) (name : List ℕ) (status : ℕ) (disk_old disk_new : D) (input_old input_new : SourceState)
+    (output_old output_new : SinkState) : Type 0 where
+  pub world : World
+  pub opens : OpensTo (state disk_old).contents world
+  pub start : D
+  pub tells : StaysTold (state disk_old) (state start)
+  pub faults : (state start).faults ≡ (state disk_old).faults
+  -- the input was read to its end: its lines, none of which is bad
+  pub lines : List (ℕ × Line)
+  pub read : HasRead input_old input_new lines
+  pub entries : List Entry
+  pub ran : WereRun (start_at world (state start)) lines entries status output_old output_new
+  -- the order theorem: each commit of the list's history is serial or snapshot at its number, by its mode
+  pub isolated : IsIsolatedAt (start_at world (state start)) entries
+  -- the crash theorem, once the threads have returned
+  pub exit : (image : List ℕ) → (state disk_new).now image → ShowsState (state_at (start_at world (state start)) entries) image
+  pub bound : IsBoundTo name (state disk_new)
+  -- without an entry nothing was written: a crash now leaves the image as given
+  pub unwritten : entries ≡ [] → (image : List ℕ) → (state disk_new).now image → IsUntouched None (state disk_old).contents image
+  pub failed : status ≡ 5 → Rose (state disk_old).faults (state disk_new).faults

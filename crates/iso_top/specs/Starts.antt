@@ -1,0 +1,38 @@
+-- What a call begins with.
+use Rattle.std.specs.Prelude.{◌≡◌, ◌⊎◌, ℕ, List, Option, Some, None}
+use Rattle.std.specs.Option.{ForSome}
+use Rattle.iso_disk.specs.Disk.{DiskState, IsBoundTo, SinceBind}
+use Rattle.iso_model.specs.declared.access.Geometry.{Geometry}
+use Rattle.iso_model.specs.History.{History}
+use Rattle.iso_model.specs.World.{World, empty_history, fresh}
+use Rattle.iso_recover.specs.Made.{IsUnmade, IsUnmadeOrEmpty}
+use Rattle.iso_recover.specs.Opened.{TellsImage}
+use Rattle.iso_refusal.specs.declared.open_error.OpenError.{OpenError}
+use Rattle.iso_refusal.specs.declared.open_error.OpenError.TheVariants as error
+
+-- The world that the image as given opens to, where the disk told it.
+pub record OpensTo (contents : Option (List ℕ)) (W : World) : Type 0 where
+  pub geometry : Geometry
+  pub generation : ℕ
+  pub history : History
+  pub told : TellsImage contents geometry generation history
+  pub world_is : W ≡ fresh geometry generation history
+
+-- The world that a call begins with: that of a new image of the geometry, or that of the image as given.
+abbrev pub StartsFrom : (made : Option Geometry) → (given : Option (List ℕ)) → World → Type 0
+StartsFrom (Some g) given W = W ≡ fresh g 1 (empty_history g)
+StartsFrom None given W = OpensTo given W
+
+-- what an image is before a script is begun: none of this project or empty where it is made, and as given where it is opened
+abbrev pub IsUntouched : (made : Option Geometry) → (given : Option (List ℕ)) → List ℕ → Type 0
+IsUntouched (Some g) given image = IsUnmadeOrEmpty g image
+IsUntouched None given image = ForSome given (λ c. image ≡ c)
+
+-- an image that is made may be none of this project for a while
+abbrev pub MayBeUnmade : (made : Option Geometry) → List ℕ → Type 0
+MayBeUnmade (Some g) image = IsUnmade image
+MayBeUnmade None image = ⊥
+
+-- the bind failed, or else each image left since it is as it was before a script
+abbrev pub IsUnbegun : (made : Option Geometry) → (given : Option (List ℕ)) → (name : List ℕ) → OpenError → DiskState → Type 0
+IsUnbegun made given name e disk = ((e ≡ error.Disk) × (disk.bound ≡ None)) ⊎ (IsBoundTo name disk × SinceBind disk (IsUntouched made given))

@@ -1,0 +1,7 @@
+//! Tests of the top call with clients in threads.
+#![tactic(auto)]
+
+#[cfg(test)]
+mod tests_clients;
+#[cfg(test)]
+mod tests_statuses;

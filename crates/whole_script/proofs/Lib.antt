@@ -1,0 +1,3 @@
+mod LastPieces
+mod WholeScripts
+mod Reading

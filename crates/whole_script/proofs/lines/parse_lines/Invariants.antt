@@ -1,0 +1,12 @@
+use Rattle.std.proofs.Common.{◌+◌, ◌≤◌, length}
+use Rattle.whole_script.proofs.WholeScripts.{AreFirst}
+use Rattle.whole_script.proofs.lines.parse_lines.Given as goal
+
+abbrev pub invariant-loop-line : goal.invariant-loop-line
+invariant-loop-line l = record {
+  count : l.number + length l.rest ≤ length l.bytes + 1;
+  first : AreFirst l.bytes l.rest l.number l.lines.items;
+}
+
+abbrev pub decreases-loop-line : goal.decreases-loop-line
+decreases-loop-line l = length l.rest
