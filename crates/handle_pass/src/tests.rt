@@ -305,15 +305,15 @@ fn through<'s, 'a, O: Origin, R: Wait, V: Visit<MemDisk, O>>(
     rt: &'s R,
     session: &'s mut Session<'a, MemDisk, O>,
     shown: &mut (u8, u8),
-) -> Left<'s, 'a, MemDisk, O>
+) -> &'s mut Session<'a, MemDisk, O>
     requires session { IsSession O.start session.old }
     requires image { O.start.world.geometry ≡ small }
     requires valid { IsTrue (is_valid O.start.world.geometry) }
     requires name { session.ghost_name ≡ V.name }
     requires before { V.before ≡ Some session.old }
-    ensures name { result.session.ghost_name ≡ session.entry.ghost_name }
-    ensures session { IsSession O.start result.session.now }
-    ensures device { device result.session.now ≡ device session.old }
+    ensures name { result.ghost_name ≡ session.entry.ghost_name }
+    ensures session { IsSession O.start result.now }
+    ensures device { device result.now ≡ device session.old }
 {
     let mut blocks = session.blocks::<R, V>(rt);
     let mut own = [0; 64];
@@ -322,11 +322,15 @@ fn through<'s, 'a, O: Origin, R: Wait, V: Visit<MemDisk, O>>(
     let _ = blocks.read_block(2, &mut own);
     let _ = blocks.read_block(3, &mut other);
     *shown = (own[0], other[0]);
-    blocks.leave()
+    let Left { session, failures: _, is_down: _ } = blocks.leave();
+    session
 }
 
 /// The same in a new transaction of a session, which then stands as before.
-fn shown_through<O: Origin, R: Wait>(rt: &R, session: &mut Session<MemDisk, O>) -> Option<(u8, u8)>
+fn shown_through<'s, 'a, O: Origin, R: Wait>(
+    rt: &'s R,
+    session: &'s mut Session<'a, MemDisk, O>,
+) -> Option<(u8, u8)>
     requires session { IsSession O.start session.old × (1 < units session.old) }
     requires image { O.start.world.geometry ≡ small }
     requires valid { IsTrue (is_valid O.start.world.geometry) }
@@ -334,7 +338,7 @@ fn shown_through<O: Origin, R: Wait>(rt: &R, session: &mut Session<MemDisk, O>) 
 {
     session.begin_tx(rt, None).ok()?;
     let mut shown = (0, 0);
-    let _left = through::<O, R, Brand>(rt, session, &mut shown);
+    let _session = through::<O, R, Brand>(rt, session, &mut shown);
     Some(shown)
 }
 
