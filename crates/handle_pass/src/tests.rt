@@ -322,7 +322,11 @@ fn through<'s, 'a, O: Origin, R: Wait, V: Visit<MemDisk, O>>(
     let _ = blocks.read_block(2, &mut own);
     let _ = blocks.read_block(3, &mut other);
     *shown = (own[0], other[0]);
-    let Left { session, failures: _, is_down: _ } = blocks.leave();
+    let Left {
+        session,
+        failures: _,
+        is_down: _,
+    } = blocks.leave();
     session
 }
 

@@ -324,11 +324,11 @@ module _ {D O : Type 0} (A : Start) (s : Session D O) (x : Op) (is : IsOnStore x
         reads = refl;
         left = ap (λ l. Some (record o { accesses = l })) (sym (append-nil o.accesses));
         told = λ tells. record {
-            array = [];
-            has = tt;
-            reply = ap (λ (w : Reply × World). w.0) (sym whole);
-            leaves = ap (λ (w : Reply × World). own_among w.1.live) (sym whole);
-          };
+          array = [];
+          has = tt;
+          reply = ap (λ (w : Reply × World). w.0) (sym whole);
+          leaves = ap (λ (w : Reply × World). own_among w.1.live) (sym whole);
+        };
       })))
 
   -- the store was called

@@ -92,8 +92,14 @@ pub(crate) fn store<'a, D: Disk + Drop, O: Origin, R: Wait>(
                         return Ok(Reply::BadRange);
                     }
                     let mut answer = Err(Stop::Memory);
-                    let _session =
-                        visit::<D, O, R, Brand>(rt, alloc, session, region, op, &mut answer);
+                    let _session = visit::<D, O, R, Brand>(
+                        rt,
+                        alloc,
+                        session,
+                        region,
+                        op,
+                        &mut answer,
+                    );
                     answer
                 }
             }

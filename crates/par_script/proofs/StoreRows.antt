@@ -72,11 +72,11 @@ gets = record {
   reads = refl;
   left = refl;
   told = λ tells. record {
-      array = zeros 256 8;
-      has = (refl, tt);
-      reply = sym (missing (zeros 256 8) refl);
-      leaves = sym (reads_once (zeros 256 8) refl);
-    };
+    array = zeros 256 8;
+    has = (refl, tt);
+    reply = sym (missing (zeros 256 8) refl);
+    leaves = sym (reads_once (zeros 256 8) refl);
+  };
 }
 
 -- a client of a store makes one line of it
