@@ -363,6 +363,7 @@ fn run_through<O: Origin, R: Wait>(rt: &R, alloc: Global, core: Core<MemDisk>) -
 }
 
 /// The same over a new core.
+#[tactic(auto, unfolding(iso_model::specs::Geometry::is_valid))]
 fn through_blocks<R: Wait>(rt: &R, alloc: Global) -> Option<(u8, u8)> {
     let _ = small();
     let core = new_core(alloc).ok()?;
