@@ -1,5 +1,5 @@
 -- A run of clients on an image that was opened, as the whole call has done it.
-use Rattle.std.proofs.Common.{◌≡◌, ◌⊎◌, inl, inr, ◌≤◌, ℕ, List, [], Option, Some, None, refl, sym, ◌∙◌, ap, subst, arith}
+use Rattle.std.proofs.Common.{◌≡◌, ◌⊎◌, inl, inr, ◌≤◌, ℕ, List, Option, None, refl, sym, ◌∙◌, ap, subst, arith}
 use Rattle.fault_count.specs.Count.{Rose}
 use Rattle.iso_core.specs.declared.core_itself.Core.{Core}
 use Rattle.iso_core.specs.Core.{StandsFor, disk_of}
@@ -27,7 +27,7 @@ use Rattle.iso_top.specs.Outcome.{HasNotBegun}
 use Rattle.iso_top.specs.Prints.{Printed}
 use Rattle.iso_top.specs.Ran.{HasClosed, HasRunLines, PutOf}
 use Rattle.iso_top.specs.Starts.{IsUntouched, OpensTo}
-use Rattle.iso_top.specs.Texts.{error_text, memory_text, script_error_status, script_error_text}
+use Rattle.iso_top.specs.Texts.{error_text, script_error_status, script_error_text}
 use Rattle.iso_top.proofs.RunsOfClients.{failed_run, images_shown, were_run}
 
 -- nothing was begun

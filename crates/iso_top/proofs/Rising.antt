@@ -1,5 +1,5 @@
 -- The count of faults along a legal list.
-use Rattle.std.proofs.Common.{◌≡◌, ◌⊎◌, inl, inr, ⊎_elim, ℕ, ◌≤◌, Bool, true, false, cond, List, [], ◌∷◌, ◌++◌, Option, Some, None, IsSome, refl, sym, ap, subst, arith}
+use Rattle.std.proofs.Common.{◌≡◌, ◌⊎◌, inl, inr, ℕ, ◌≤◌, Bool, true, false, cond, List, [], ◌∷◌, ◌++◌, Option, Some, None, IsSome, refl, sym, subst, arith}
 use Rattle.std.specs.List.{list_any}
 use Rattle.fault_count.specs.Count.{Rose}
 use Rattle.iso_model.specs.declared.access.Commit.{Commit}

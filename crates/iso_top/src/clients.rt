@@ -110,15 +110,7 @@ pub(crate) fn run_clients<
     K: Sink,
     G: Gate,
     R: Threads + Wait + Sync,
->(
-    rt: &R,
-    alloc: Global,
-    name: &str,
-    image: I,
-    input: &mut S,
-    output: &mut K,
-    gate: &G,
-) -> Ended<I>
+>(rt: &R, alloc: Global, name: &str, image: I, input: &mut S, output: &mut K, gate: &G) -> Ended<I>
     ensures { HasMet I.state Par name.now result.status image result.image (S.state input.old) (S.state input.new) (K.state output.old) (K.state output.new) }
 {
     let given = Snapshot::of(&image);

@@ -144,7 +144,8 @@ fn push_number(out: &mut Vec<u8>, number: u8) -> Result<(), AllocError> {
     if number >= 10 {
         out.push(b'0' + (number / 10) % 10)?;
     }
-    out.push(b'0' + number % 10)
+    out.push(b'0' + number % 10)?;
+    Ok(())
 }
 
 #[test]

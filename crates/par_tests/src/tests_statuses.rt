@@ -23,7 +23,7 @@ fn par_on<R: Threads + Wait + Sync>(
 }
 
 /// Whether every image that a crash may leave is this one.
-fn is_left(alloc: Global, disk: &MemDisk, image: &[u8]) -> Result<bool, AllocError> {
+fn is_left(alloc: Global, disk: &MemDisk, image: &[u8]) -> Result<bool, Fail> {
     for pick in 0..3 {
         let left = disk.crash(alloc, pick)?;
         if left.as_slice() != image {

@@ -4,7 +4,7 @@ use Prim.Native.Nat.{ℕ}
 use mathlib.Core.List.{List, [], ◌∷◌, ◌++◌}
 use seplogic.Ra.Ura.{Ura}
 use mir.Syntax.{Fn, Dict, dcons, dnil, a_type}
-use mir.Val.{Val, vptr, vstruct, vcons, vnil}
+use mir.Val.{Val, vptr, vstruct, vnil}
 use mir.MapTy.{inst_fn}
 use base.Logic.{SProp, ent, via, fst∗, snd∗}
 use base.Fml.{Fml}
@@ -18,11 +18,10 @@ use contract.Monad.{Fun, fact, fact_use}
 use contract.Running.{tables, tables_of}
 use sound.WpLaws.{WpFn-mono}
 use types.Kit.{‵, raw, ◌⊛◌, ◌$◌, ◌∵◌, !, qed, move, keep, split, join, fjoin, use0, suffices, done}
-use types.Run.{no_more, and_then, returns, enter}
+use types.Run.{no_more, returns, enter}
 use types.Part.{agg}
-use types.ByLocal.{alloc_all, pass_all, free_all, look_at, get, sets, env}
+use types.ByLocal.{alloc_all, pass_all, free_all, look_at, sets}
 use denote.RattleType.{RattleType, owns}
-use denote.Memory.{mem}
 use denote.Exit.{yes}
 use denote.Laws.{Are, Ises, owns_show, showss}
 use denote.Param.{param, bounded}
