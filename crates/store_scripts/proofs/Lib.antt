@@ -1,0 +1,8 @@
+pub mod Growing
+pub mod Locality
+pub mod Finding
+pub mod Noted
+pub mod Steps
+pub mod Calls
+pub mod Lines
+pub mod Order
