@@ -1,12 +1,11 @@
 -- Where a call of a store, a mark and an end lead, with what is told of the transactions.
-use Rattle.std.proofs.Common.{◌≡◌, ◌≢◌, ◌∙◌, sym, refl, ap, subst, ℕ, ◌+◌, ◌-◌, ◌<◌, ◌≤◌, ◌==◌, ◌&&◌, ◌||◌, not, Bool, true, false, cond, IsTrue, List, [], ◌∷◌, ◌++◌, length, drop, Option, Some, None, Result, Ok, Err, arith}
+use Rattle.std.proofs.Common.{◌≡◌, ◌≢◌, sym, refl, subst, ℕ, ◌+◌, ◌-◌, ◌≤◌, ◌==◌, ◌&&◌, not, Bool, true, false, cond, IsTrue, List, length, drop, Option, Some, None, Result, Ok, arith}
 use Rattle.std.specs.Prelude.{nat_lt}
 use Rattle.std.specs.List.{list_all}
 use Rattle.std.proofs.lemmas.Bool.{and_parts, eqb-false, ltb-false, ltb-true}
 use Rattle.iso_model.specs.declared.access.Access.{Access}
 use Rattle.iso_model.specs.declared.access.Clash.{Clash}
 use Rattle.iso_model.specs.declared.access.MarkError.{MarkError}
-use Rattle.iso_model.specs.declared.access.MarkError.TheVariants as mark
 use Rattle.iso_model.specs.declared.access.Mode.{Mode}
 use Rattle.iso_model.specs.declared.access.Mode.TheVariants.{Serial, Snapshot}
 use Rattle.iso_model.specs.declared.access.Span.{Span}
@@ -23,7 +22,7 @@ use Rattle.iso_model.specs.Geometry.{is_serial}
 use Rattle.iso_model.specs.History.{array_at, last}
 use Rattle.iso_model.specs.Marks.{mark_fault, marked}
 use Rattle.iso_model.specs.Premises.{appended}
-use Rattle.iso_model.specs.Step.{after_commit, after_leaving, array_of, commit_step, end_step, in_store, mark_refused, mark_step, marked_step, need, store_refusal, store_step, with_accesses}
+use Rattle.iso_model.specs.Step.{after_commit, after_leaving, array_of, commit_step, end_step, in_store, mark_refused, mark_step, marked_step, need, store_refusal, store_step}
 use Rattle.iso_model.specs.Stores.{Program, outcome}
 use Rattle.iso_model.specs.World.{Live, World, attached, used}
 use Rattle.iso_model.specs.Worlds.{IsLive}
@@ -35,7 +34,7 @@ use Rattle.store_laws.specs.Tree.{TreeCall}
 use Rattle.store_laws.proofs.Longer.{array_longer, stays_by_both}
 use Rattle.store_scripts.specs.Kept.{IsToldOf}
 use Rattle.store_scripts.specs.Stores.{image_hash, image_tree}
-use Rattle.store_scripts.specs.Told.{Answered, Notes, OfHash, OfTree, answered, spares_calls, spares_stores, told_more}
+use Rattle.store_scripts.specs.Told.{Notes, OfHash, OfTree, answered, spares_stores, told_more}
 use Rattle.store_scripts.proofs.Growing.{hash_told, mark_told, of_both, tree_told}
 use Rattle.store_scripts.proofs.Locality.{IsHashCall, IsTreeCall}
 use Rattle.store_scripts.proofs.Noted.{Goes, IsKept, IsNoted, changes, choose, notes_by, quiet, stays}

@@ -1,6 +1,5 @@
 -- What is told of a transaction stays true as accesses come to it.
-use Rattle.std.proofs.Common.{◌≡◌, ◌⊎◌, ◌∙◌, sym, refl, ap, subst, ℕ, suc, ◌<◌, Bool, List, [], ◌∷◌, ◌++◌, length, append_assoc, append-nil, arith, inl, inr}
-use Rattle.std.proofs.lemmas.List.{length-append}
+use Rattle.std.proofs.Common.{◌≡◌, ◌⊎◌, ◌∙◌, sym, refl, ap, subst, ℕ, ◌<◌, Bool, List, [], ◌∷◌, ◌++◌, length, append_assoc, append-nil, arith, inl, inr}
 use Rattle.iso_model.specs.declared.access.Access.{Access}
 use Rattle.iso_model.specs.declared.access.Commit.{Commit}
 use Rattle.iso_model.specs.declared.access.Geometry.{Geometry}

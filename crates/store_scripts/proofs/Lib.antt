@@ -6,3 +6,8 @@ pub mod Steps
 pub mod Calls
 pub mod Lines
 pub mod Order
+pub mod Refused
+pub mod Refusals
+pub mod Commits
+pub mod Images
+mod Rows

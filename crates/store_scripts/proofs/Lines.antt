@@ -15,10 +15,10 @@ use Rattle.iso_model.specs.HashCalls.{is_key}
 use Rattle.iso_model.specs.History.{array_at, last}
 use Rattle.iso_model.specs.Premises.{HasShape}
 use Rattle.iso_model.specs.Script.{after}
-use Rattle.iso_model.specs.Step.{after_leaving, array_of, end_step, fill_step, found_reply, get_step, hash_area, hash_delete_step, hash_get_step, hash_put_step, in_transaction, mark_step, mode_named, numbers, pairs_reply, put_step, read_access, read_step, release_step, removed_reply, shown_to, step, store_refusal, store_step, tree_area, tree_delete_step, tree_get_step, tree_put_step, tree_scan_step, write_step}
+use Rattle.iso_model.specs.Step.{after_leaving, array_of, end_step, fill_step, found_reply, get_step, hash_area, hash_delete_step, hash_get_step, hash_put_step, in_transaction, mark_step, mode_named, numbers, pairs_reply, put_step, read_access, read_step, release_step, removed_reply, shown_to, step, store_refusal, tree_area, tree_delete_step, tree_get_step, tree_put_step, tree_scan_step, write_step}
 use Rattle.iso_model.specs.TreeCalls as tree
 use Rattle.iso_model.specs.World.{Live, World, attached, client, held}
-use Rattle.iso_model.specs.Worlds.{AreLines, IsOp, IsWorld}
+use Rattle.iso_model.specs.Worlds.{AreLines, IsOp}
 use Rattle.iso_model.proofs.Recorded.{array_shape, own_shape}
 use Rattle.iso_model.proofs.Worlds.{live_at, step_leads}
 use Rattle.store_laws.specs.Calls.{Del, Found as WasFound, Get as GetKey, Got, Put as PutKey, WasPut, WasThere}
@@ -26,7 +26,7 @@ use Rattle.store_laws.specs.Tree.{OnKey, Scan}
 use Rattle.store_laws.proofs.Longer.{begins_by_both}
 use Rattle.store_scripts.specs.Kept.{BeginsWell}
 use Rattle.store_scripts.specs.Stores.{image_hash, image_tree}
-use Rattle.store_scripts.specs.Told.{Answered, CommitKeeps, CommitsKeep, Notes, OfHash, OfTree, answered, del_answer, get_answer, no_notes, noted, notes_after, nothing_told, put_answer, scan_answer, told_by}
+use Rattle.store_scripts.specs.Told.{CommitKeeps, CommitsKeep, Notes, OfHash, OfTree, answered, del_answer, get_answer, no_notes, noted, notes_after, nothing_told, put_answer, scan_answer, told_by}
 use Rattle.store_scripts.proofs.Calls.{AreRefusals, end_goes, hash_goes, in_store_goes, mark_goes, tree_goes}
 use Rattle.store_scripts.proofs.Locality.{hash_got, hash_was_put, hash_was_there, tree_found, tree_got, tree_was_put, tree_was_there}
 use Rattle.store_scripts.proofs.Noted.{Goes, IsKept, IsNoted, choose, other_is, stays}
@@ -66,23 +66,23 @@ scan_refused (store.Tx e) = refl
 scan_refused store.Memory = refl
 
 -- the answers
-got_named : (key : List ℕ) (r : Option (List ℕ)) → answered (HashGet key) (found_reply r) ≡ Some (OfHash (GetKey key) (Got r))
+pub got_named : (key : List ℕ) (r : Option (List ℕ)) → answered (HashGet key) (found_reply r) ≡ Some (OfHash (GetKey key) (Got r))
 got_named key None = refl
 got_named key (Some value) = refl
 
-tree_got_named : (key : List ℕ) (r : Option (List ℕ)) → answered (TreeGet key) (found_reply r) ≡ Some (OfTree (OnKey (GetKey key)) (Got r))
+pub tree_got_named : (key : List ℕ) (r : Option (List ℕ)) → answered (TreeGet key) (found_reply r) ≡ Some (OfTree (OnKey (GetKey key)) (Got r))
 tree_got_named key None = refl
 tree_got_named key (Some value) = refl
 
-there_named : (key : List ℕ) (r : Bool) → answered (HashDelete key) (removed_reply r) ≡ Some (OfHash (Del key) (WasThere r))
+pub there_named : (key : List ℕ) (r : Bool) → answered (HashDelete key) (removed_reply r) ≡ Some (OfHash (Del key) (WasThere r))
 there_named key true = refl
 there_named key false = refl
 
-tree_there_named : (key : List ℕ) (r : Bool) → answered (TreeDelete key) (removed_reply r) ≡ Some (OfTree (OnKey (Del key)) (WasThere r))
+pub tree_there_named : (key : List ℕ) (r : Bool) → answered (TreeDelete key) (removed_reply r) ≡ Some (OfTree (OnKey (Del key)) (WasThere r))
 tree_there_named key true = refl
 tree_there_named key false = refl
 
-found_named : (from to : List ℕ) (most : ℕ) (r : List (List ℕ × List ℕ)) → answered (TreeScan from to most) (pairs_reply r) ≡ Some (OfTree (Scan from to most) (WasFound r))
+pub found_named : (from to : List ℕ) (most : ℕ) (r : List (List ℕ × List ℕ)) → answered (TreeScan from to most) (pairs_reply r) ≡ Some (OfTree (Scan from to most) (WasFound r))
 found_named from to most [] = refl
 found_named from to most (pair ∷ pairs) = refl
 

@@ -1,7 +1,7 @@
 -- What is told of the live transactions of a world is true, and how it stays so.
-use Rattle.std.proofs.Common.{◌≡◌, ◌≢◌, ◌∙◌, sym, refl, ap, subst, ℕ, ◌+◌, ◌<◌, ◌≤◌, ◌==◌, ◌&&◌, ◌||◌, not, Bool, true, false, cond, IsTrue, List, [], ◌∷◌, ◌++◌, length, drop, Option, Some, None, arith, inl, inr, eq-eqb, ne_eqb}
+use Rattle.std.proofs.Common.{◌≡◌, ◌≢◌, ◌∙◌, sym, refl, ap, subst, ℕ, ◌≤◌, ◌==◌, ◌&&◌, ◌||◌, not, Bool, true, false, cond, IsTrue, List, [], ◌∷◌, ◌++◌, length, drop, Option, Some, None, arith, inl, inr, eq-eqb, ne_eqb}
 use Rattle.std.specs.List.{AllByRecursion, list_all}
-use Rattle.std.proofs.lemmas.Bool.{and_parts, both_ways, cases_Bool, cases_eq}
+use Rattle.std.proofs.lemmas.Bool.{and_parts, cases_eq}
 use Rattle.iso_model.specs.declared.access.Access.{Access}
 use Rattle.iso_model.specs.declared.access.Geometry.{Geometry}
 use Rattle.iso_model.specs.declared.script.Op.{Op}
@@ -47,7 +47,7 @@ pub choose : (n : ℕ) (W : World) (notes : Notes) (c : ℕ) (op : Op) (o : Opti
 choose n W notes c op o true x y one two = one
 choose n W notes c op o false x y one two = two refl
 
-drop_past : (xs ys : List Access) → drop (length xs) (xs ++ ys) ≡ ys
+pub drop_past : (xs ys : List Access) → drop (length xs) (xs ++ ys) ≡ ys
 drop_past [] ys = refl
 drop_past (x ∷ xs) ys = drop_past xs ys
 

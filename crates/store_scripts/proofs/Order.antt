@@ -1,15 +1,12 @@
 -- The calls that are told of a transaction answer in order, by what its parts are.
-use Rattle.std.proofs.Common.{◌≡◌, ◌≢◌, ◌∙◌, sym, refl, ap, subst, ℕ, zero, suc, ◌+◌, ◌-◌, ◌<◌, ◌≤◌, ◌==◌, Bool, true, false, cond, IsTrue, IfSome, List, [], ◌∷◌, ◌++◌, length, map, slice_get, Option, Some, None, arith}
+use Rattle.std.proofs.Common.{◌≡◌, ◌≢◌, ◌∙◌, sym, refl, ap, subst, ℕ, zero, suc, ◌+◌, ◌-◌, ◌<◌, ◌≤◌, ◌==◌, Bool, true, false, cond, IsTrue, IfSome, List, [], ◌∷◌, map, slice_get, Option, Some, None, arith}
 use Rattle.std.specs.Prelude.{nat_lt}
-use Rattle.std.specs.FinMap.{empty}
 use Rattle.std.proofs.lemmas.List.{length-append}
-use Rattle.std.proofs.lemmas.Option.{same_Some}
 use Rattle.iso_model.specs.declared.access.Access.{Access}
 use Rattle.iso_model.specs.declared.access.Clash.{Clash}
 use Rattle.iso_model.specs.declared.access.Commit.{Commit}
 use Rattle.iso_model.specs.declared.access.Geometry.{Geometry}
 use Rattle.iso_model.specs.declared.limits.TheConstants.{LAST}
-use Rattle.iso_model.specs.declared.script.Line.{Line}
 use Rattle.iso_model.specs.declared.script.Op.TheVariants.{End}
 use Rattle.iso_model.specs.declared.script.Reply.{Reply}
 use Rattle.iso_model.specs.declared.script.Reply.TheVariants as reply
@@ -18,7 +15,7 @@ use Rattle.iso_model.specs.Conflict.{clash}
 use Rattle.iso_model.specs.Effect.{has_write, own}
 use Rattle.iso_model.specs.Geometry.{is_valid}
 use Rattle.iso_model.specs.HashRegion.{IsHashRegion, Pairs, hash_map}
-use Rattle.iso_model.specs.History.{History, array_at, last}
+use Rattle.iso_model.specs.History.{array_at, last}
 use Rattle.iso_model.specs.Premises.{appended}
 use Rattle.iso_model.specs.Step.{after_commit, after_leaving, array_of, commit_step, end_step, hash_area, in_transaction, need, step, tree_area}
 use Rattle.iso_model.specs.TreeRegion.{IsTreeRegion, tree_map}
@@ -32,7 +29,7 @@ use Rattle.store_laws.specs.Both.{AreMixed, BothInOrder, IsOfBoth, firsts, secon
 use Rattle.store_laws.specs.BothStores.{StorePart}
 use Rattle.store_laws.specs.Calls.{KeyCall, StoreAnswer, in_area, key_act}
 use Rattle.store_laws.specs.HashBlocks.{hash_is_of_its_blocks}
-use Rattle.store_laws.specs.Parts.{accesses_in, answers_in, calls_in, run}
+use Rattle.store_laws.specs.Parts.{answers_in, calls_in, run}
 use Rattle.store_laws.specs.Region.{IsOfItsBlocks, MapStore}
 use Rattle.store_laws.specs.Tree.{TreeCall, tree_act}
 use Rattle.store_laws.specs.TreeBlocks.{tree_is_of_its_blocks}
@@ -170,3 +167,11 @@ module _ (n : ℕ) (V : World) (notes : Notes) (is : IsNoted n V notes) (c : ℕ
       let world_is : (step V c End).1 ≡ after_commit V t = ap (λ (x : Reply × World). x.1) ends.0 in
       let sound = subst IsWorld world_is (step_leads V c End is.world tt).world in
       subst (λ (U : World). ToldInOrder g (notes t.number) (array_at U.history (k - 1)) (array_at U.history k)) (sym world_is) (committed_told k ends.1 sound)
+
+  -- the commit is the last one then
+  pub committed_last : (k : ℕ) → (step V c End).0 ≡ reply.Committed k → k ≤ last (step V c End).1.history
+  committed_last k done =
+      let ends = ends_so k done in
+      let more = length-append V.history.commits (commit t ∷ []) in
+      let first : 0 < V.history.first = is.by.first in
+      subst (λ (U : World). k ≤ last U.history) (sym (ap (λ (x : Reply × World). x.1) ends.0)) (let at = ends.1 in omega arith)

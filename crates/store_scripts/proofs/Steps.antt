@@ -1,40 +1,25 @@
 -- Where each operation of a client leads, with what is told of the transactions.
-use Rattle.std.proofs.Common.{◌≡◌, ◌≢◌, ◌∙◌, sym, refl, ap, subst, ℕ, ◌+◌, ◌-◌, ◌<◌, ◌≤◌, ◌==◌, ◌&&◌, not, Bool, true, false, cond, IsTrue, List, [], ◌∷◌, ◌++◌, length, drop, nat_le, Option, Some, None, Result, Ok, Err, arith}
+use Rattle.std.proofs.Common.{◌≡◌, sym, refl, subst, ℕ, ◌-◌, ◌≤◌, ◌==◌, ◌&&◌, not, Bool, true, false, cond, IsTrue, List, [], ◌∷◌, ◌++◌, length, nat_le, Option, Some, None, Result, Ok, Err, arith}
 use Rattle.std.specs.Prelude.{nat_lt}
-use Rattle.std.specs.List.{AllByRecursion, list_all}
-use Rattle.std.proofs.lemmas.Bool.{and_parts, eqb-false, ltb-false, ltb-true}
-use Rattle.std.proofs.lemmas.List.{length-append}
+use Rattle.std.specs.List.{AllByRecursion}
 use Rattle.iso_model.specs.declared.access.Access.{Access}
-use Rattle.iso_model.specs.declared.access.Clash.{Clash}
-use Rattle.iso_model.specs.declared.access.MarkError.{MarkError}
 use Rattle.iso_model.specs.declared.access.Mode.{Mode}
-use Rattle.iso_model.specs.declared.access.Span.{Span}
 use Rattle.iso_model.specs.declared.limits.TheConstants.{LAST, MAX_ACCESSES, MAX_LIVE}
 use Rattle.iso_model.specs.declared.script.Op.{Op}
-use Rattle.iso_model.specs.declared.script.Op.TheVariants.{End, Mark}
 use Rattle.iso_model.specs.declared.script.Reply.{Reply}
 use Rattle.iso_model.specs.declared.script.Reply.TheVariants as reply
 use Rattle.iso_model.specs.declared.stores.StoreError.{StoreError}
-use Rattle.iso_model.specs.Array.{Array}
-use Rattle.iso_model.specs.Conflict.{clash}
-use Rattle.iso_model.specs.Effect.{has_write}
-use Rattle.iso_model.specs.Geometry.{is_serial, same_mode}
-use Rattle.iso_model.specs.History.{History, array_at, last}
-use Rattle.iso_model.specs.Marks.{mark_fault, marked}
-use Rattle.iso_model.specs.Premises.{appended}
-use Rattle.iso_model.specs.Step.{access_step, after_begin, after_commit, after_leaving, after_switch, after_trim, array_of, begin_step, commit_step, end_step, in_store, in_transaction, mark_refused, mark_step, marked_step, need, out_of_transaction, placed, release_step, store_refusal, store_reply, store_step, switch_step, takeover_step, with_accesses}
+use Rattle.iso_model.specs.Geometry.{same_mode}
+use Rattle.iso_model.specs.History.{array_at, last}
+use Rattle.iso_model.specs.Step.{access_step, after_begin, after_leaving, after_switch, after_trim, array_of, begin_step, in_transaction, out_of_transaction, placed, release_step, store_refusal, store_reply, switch_step, takeover_step, with_accesses}
 use Rattle.iso_model.specs.Stores.{Program, outcome}
-use Rattle.iso_model.specs.World.{Live, Place, World, attached, client, held, is_at_client, is_under_label, label, used, with, without}
-use Rattle.iso_model.specs.Worlds.{IsLive, IsWorld}
+use Rattle.iso_model.specs.World.{Live, Place, World, attached, client, held, is_at_client, is_under_label, label, with}
+use Rattle.iso_model.specs.Worlds.{IsWorld}
 use Rattle.iso_model.proofs.Distinct.{all_filter, all_find}
-use Rattle.iso_model.proofs.Growth.{all_push, all_weaker, both_of}
-use Rattle.iso_model.proofs.Worlds.{commit, commits, live_at, switch_leads}
-use Rattle.store_laws.specs.Both.{IsByBoth}
-use Rattle.store_laws.proofs.Longer.{array_longer, stays_by_both}
+use Rattle.iso_model.proofs.Growth.{all_push, all_weaker}
 use Rattle.store_scripts.specs.Kept.{IsToldOf}
-use Rattle.store_scripts.specs.Stores.{image_hash, image_tree}
-use Rattle.store_scripts.specs.Told.{Answered, OfHash, OfTree, Notes, Told, answered, nothing_told, spares_stores, told_more, with_call}
-use Rattle.store_scripts.proofs.Growing.{begins_told, in_form, mark_told, of_both}
+use Rattle.store_scripts.specs.Told.{Answered, OfHash, OfTree, Notes, Told, answered, told_more, with_call}
+use Rattle.store_scripts.proofs.Growing.{begins_told, in_form}
 use Rattle.store_scripts.proofs.Noted.{Goes, IsKept, IsNoted, adds, changes, choose, notes_by, quiet, stays}
 
 kept_before : (told : Told) (call : Answered) (over : ℕ) → IsTrue (with_call told call over).kept → IsTrue told.kept

@@ -2,7 +2,6 @@
 use Rattle.std.specs.Prelude.{ℕ, zero, suc}
 use Rattle.std.specs.FinMap.{empty}
 use Rattle.iso_model.specs.declared.access.Geometry.{Geometry}
-use Rattle.iso_model.specs.Array.{Array}
 use Rattle.iso_model.specs.HashRegion.{IsHashRegion, Pairs, hash_map}
 use Rattle.iso_model.specs.Step.{hash_area, tree_area}
 use Rattle.iso_model.specs.TreeRegion.{IsTreeRegion, tree_map}

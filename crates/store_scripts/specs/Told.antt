@@ -50,6 +50,17 @@ answered (TreeDelete key) r = option_map (OfTree (OnKey (Del key))) (del_answer 
 answered (TreeScan from to most) r = option_map (OfTree (Scan from to most)) (scan_answer r)
 answered op r = None
 
+-- an operation that calls a store
+abbrev pub CallsStore : Op → Type 0
+CallsStore (HashPut key value) = Unit {0}
+CallsStore (HashGet key) = Unit {0}
+CallsStore (HashDelete key) = Unit {0}
+CallsStore (TreePut key value) = Unit {0}
+CallsStore (TreeGet key) = Unit {0}
+CallsStore (TreeDelete key) = Unit {0}
+CallsStore (TreeScan from to most) = Unit {0}
+CallsStore op = ⊥
+
 -- calls of a store, in order, and what each was answered
 pub record Asked (Call : Type 0) : Type 0 where
   pub calls : List Call
