@@ -17,7 +17,7 @@ use Rattle.store_laws.proofs.BothGrowth.{first_called, second_called}
 use Rattle.store_laws.proofs.Programs.{spare_where_apart}
 
 -- blocks of the one area are none of the other
-disjoint_blocks : (a b : Area) → AreDisjoint a b → (k : ℕ) → in_area a k ≡ true → in_area b k ≡ false
+pub disjoint_blocks : (a b : Area) → AreDisjoint a b → (k : ℕ) → in_area a k ≡ true → in_area b k ≡ false
 disjoint_blocks a b apart k has = grind (arith, nat_tests)
 
 other_way : (a b : Area) → AreDisjoint a b → AreDisjoint b a

@@ -16,11 +16,11 @@ use Rattle.store_laws.specs.Region.{MapStore, SpareRegion}
 use Rattle.store_laws.proofs.Growth.{reads_spare}
 
 module _ (s t : MapStore) where
-  abbrev accesses_of_all : MixedParts s t → List Access
+  abbrev pub accesses_of_all : MixedParts s t → List Access
   accesses_of_all parts = accesses_in (firsts parts)
 
   -- the accesses of parts, and of parts after them
-  mixed_append : (parts more : MixedParts s t) → accesses_of_all (parts ++ more) ≡ accesses_of_all parts ++ accesses_of_all more
+  pub mixed_append : (parts more : MixedParts s t) → accesses_of_all (parts ++ more) ≡ accesses_of_all parts ++ accesses_of_all more
   mixed_append [] more = refl
   mixed_append (First call accesses answer ∷ parts) more =
       ap (λ (rest : List Access). accesses ++ rest) (mixed_append parts more) ∙ sym (append_assoc accesses (accesses_of_all parts) (accesses_of_all more))
@@ -32,7 +32,7 @@ module _ (s t : MapStore) where
   further : (A : Array) (accesses : List Access) (parts more : MixedParts s t) → AreMixed s t (own A (accesses ++ accesses_of_all parts)) more → AreMixed s t (own (own A accesses) (accesses_of_all parts)) more
   further A accesses parts more then = subst (λ (B : Array). AreMixed s t B more) (own_append A accesses (accesses_of_all parts)) then
 
-  made_append : (A : Array) (parts more : MixedParts s t) → AreMixed s t A parts → AreMixed s t (own A (accesses_of_all parts)) more → AreMixed s t A (parts ++ more)
+  pub made_append : (A : Array) (parts more : MixedParts s t) → AreMixed s t A parts → AreMixed s t (own A (accesses_of_all parts)) more → AreMixed s t A (parts ++ more)
   made_append A [] more made then = then
   made_append A (First call accesses answer ∷ parts) more made then = (made.0, made.1, made_append (own A accesses) parts more made.2 (further A accesses parts more then))
   made_append A (Second call accesses answer ∷ parts) more made then = (made.0, made.1, made_append (own A accesses) parts more made.2 (further A accesses parts more then))

@@ -91,17 +91,17 @@ del_stores a (AtCell s before ks v) area ends =
 del_stores a (AtEnd spare last place) area ends = tt
 del_stores a (AtBroken block) area ends = tt
 
-get_program_stores : (a : Area) (key : List ℕ) → IsHashArea a → StoresIn (in_area a) (get_program a key)
+pub get_program_stores : (a : Area) (key : List ℕ) → IsHashArea a → StoresIn (in_area a) (get_program a key)
 unfolding get_program
 get_program_stores a key area = stores_cond (in_area a) (Rattle.iso_model.specs.HashCalls.is_key key) _ _ (after_walk a key true (λ w. Done (got a w)) area (λ w ends. tt)) tt
 
-put_program_stores : (a : Area) (key value : List ℕ) → IsHashArea a → StoresIn (in_area a) (put_program a key value)
+pub put_program_stores : (a : Area) (key value : List ℕ) → IsHashArea a → StoresIn (in_area a) (put_program a key value)
 unfolding put_program
 put_program_stores a key value area =
     stores_cond (in_area a) (Rattle.iso_model.specs.HashCalls.is_key key) _ _
     (stores_cond (in_area a) (Rattle.iso_model.specs.HashCalls.is_value value) _ _ (after_walk a key false (put_at a key value) area (λ w ends. put_stores a key value w area ends)) tt) tt
 
-del_program_stores : (a : Area) (key : List ℕ) → IsHashArea a → StoresIn (in_area a) (del_program a key)
+pub del_program_stores : (a : Area) (key : List ℕ) → IsHashArea a → StoresIn (in_area a) (del_program a key)
 unfolding del_program
 del_program_stores a key area = stores_cond (in_area a) (Rattle.iso_model.specs.HashCalls.is_key key) _ _ (after_walk a key false (del_at a) area (λ w ends. del_stores a w area ends)) tt
 

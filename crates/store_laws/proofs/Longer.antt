@@ -17,7 +17,7 @@ use Rattle.store_laws.specs.Parts.{AreMade, IsByCalls, IsOfCalls, Part, calls_in
 use Rattle.store_laws.specs.Region.{MapStore}
 use Rattle.store_laws.proofs.Histories.{two_if}
 
-array_longer : (H : History) (c : Commit) (n : ℕ) → 0 < H.first → n ≤ last H → array_at (appended H c) n ≡ array_at H n
+pub array_longer : (H : History) (c : Commit) (n : ℕ) → 0 < H.first → n ≤ last H → array_at (appended H c) n ≡ array_at H n
 array_longer H c n first before = ap (all_own H.base) (take-append-le (n + 1 - H.first) H.commits (c ∷ []) (omega arith))
 
 of_longer : (s : MapStore) (H : History) (c d : Commit) → 0 < H.first → d.begin ≤ last H → IsOfCalls s H d → IsOfCalls s (appended H c) d
@@ -28,7 +28,7 @@ of_longer s H c d first before of = record {
   mode = of.mode;
 }
 
-last_of : {X : Type 0} (xs : List X) (y : X) (i : ℕ) → i ≡ length xs → slice_get (xs ++ y ∷ []) i ≡ Some y
+pub last_of : {X : Type 0} (xs : List X) (y : X) (i : ℕ) → i ≡ length xs → slice_get (xs ++ y ∷ []) i ≡ Some y
 last_of [] y zero is = refl
 last_of [] y (suc i) is = absurd (omega arith)
 last_of (x ∷ xs) y zero is = absurd (omega arith)

@@ -150,7 +150,7 @@ del_stores : (a : Area) (key : List ℕ) (d : Descent) → EndsIn a d → Stores
 del_stores a key (AtLeaf path leaf keys x) ends = stores_cell (in_area a) (cell_of key keys) _ _ (λ i. (λ bytes. (in_its_area a leaf ends.0, tt))) tt
 del_stores a key (AtBroken block) ends = tt
 
-put_program_stores : (a : Area) (key value : List ℕ) → IsTreeArea a → StoresIn (in_area a) (put_program a key value)
+pub put_program_stores : (a : Area) (key value : List ℕ) → IsTreeArea a → StoresIn (in_area a) (put_program a key value)
 unfolding put_program
 put_program_stores a key value area =
     stores_cond (in_area a) (is_key key) _ _
@@ -158,7 +158,7 @@ put_program_stores a key value area =
     (after_head a (put_below_root a key value) (λ root level below.
     stores_cond (in_area a) (root == 0) _ _ (map_stores a key value [] area tt) (after_descent a key level root (put_at a key value) below (λ d ends. put_stores a key value d area ends)))) tt) tt
 
-del_program_stores : (a : Area) (key : List ℕ) → StoresIn (in_area a) (del_program a key)
+pub del_program_stores : (a : Area) (key : List ℕ) → StoresIn (in_area a) (del_program a key)
 unfolding del_program
 del_program_stores a key =
     stores_cond (in_area a) (is_key key) _ _
