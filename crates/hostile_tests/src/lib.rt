@@ -9,6 +9,8 @@ mod tests_images;
 #[cfg(test)]
 mod tests_lines;
 #[cfg(test)]
+mod tests_par;
+#[cfg(test)]
 mod tests_statuses;
 #[cfg(test)]
 mod tests_stops;

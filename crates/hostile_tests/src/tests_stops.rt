@@ -84,17 +84,17 @@ fn a_disk_that_makes_no_call(rt: HostRuntime) -> Result<(), Fail> {
     Ok(())
 }
 
-const TWO_PUTS: &[u8] = b"1 begin\n1 put 0 0 aa\n1 end\n1 begin\n1 put 0 1 bb\n1 end\n";
+pub(crate) const TWO_PUTS: &[u8] = b"1 begin\n1 put 0 0 aa\n1 end\n1 begin\n1 put 0 1 bb\n1 end\n";
 
-const SHOW_TWO: &[u8] = b"1 stat\n1 begin\n1 get 0 0 2\n";
+pub(crate) const SHOW_TWO: &[u8] = b"1 stat\n1 begin\n1 get 0 0 2\n";
 
-const NONE_OF_TWO: &[u8] =
+pub(crate) const NONE_OF_TWO: &[u8] =
     b"1 ok last 0 base 0 trim 0 live 0 used 0 versions 0\n1 ok begin 0\n1 ok 0000\n";
 
-const ONE_OF_TWO: &[u8] =
+pub(crate) const ONE_OF_TWO: &[u8] =
     b"1 ok last 1 base 0 trim 0 live 0 used 29 versions 1\n1 ok begin 1\n1 ok aa00\n";
 
-const BOTH: &[u8] =
+pub(crate) const BOTH: &[u8] =
     b"1 ok last 2 base 0 trim 0 live 0 used 58 versions 2\n1 ok begin 2\n1 ok aabb\n";
 
 /// What a run of the two puts gives on a small image, that stops after so many calls: opening it takes six, and each commit

@@ -34,20 +34,36 @@ const IN_THE_BASE: &[u8] =
     b"1 ok last 1 base 1 trim 1 live 0 used 0 versions 0\n1 ok begin 1\n1 ok cc\n";
 
 /// Whether each image that a crash leaves is opened to a commit from the last one that was told of to the last one that was
-/// being made; in the base only where the switch above the label was reached.
-fn opens_at_the_commit(alloc: Global, outcome: &Outcome) -> Result<bool, Fail> {
-    let output = outcome.output.as_slice();
+/// being made: `begun` says whether the commit may be there, and `told` whether its end was told of. In the base only behind
+/// that, where the switch above the label was reached.
+pub(crate) fn opens_at_the_commit(
+    alloc: Global,
+    disk: &MemDisk,
+    begun: bool,
+    told: bool,
+) -> Result<bool, Fail> {
     for pick in 0..6 {
-        let opened = run_image(alloc, outcome.disk.crash(alloc, pick)?, SHOW)?;
+        let opened = run_image(alloc, disk.crash(alloc, pick)?, SHOW)?;
         let found = opened.output.as_slice();
-        let none = found == WITHOUT_COMMIT && !output.starts_with(WITH_IT);
-        let logged = found == IN_THE_LOG && output.starts_with(BEFORE_IT);
-        let moved = found == IN_THE_BASE && output.starts_with(WITH_IT);
+        let none = found == WITHOUT_COMMIT && !told;
+        let logged = found == IN_THE_LOG && begun;
+        let moved = found == IN_THE_BASE && told;
         if !(none || logged || moved) {
             return Ok(false);
         }
     }
     Ok(true)
+}
+
+/// The same of a run, by its output.
+fn opens_as_told(alloc: Global, outcome: &Outcome) -> Result<bool, Fail> {
+    let output = outcome.output.as_slice();
+    opens_at_the_commit(
+        alloc,
+        &outcome.disk,
+        output.starts_with(BEFORE_IT),
+        output.starts_with(WITH_IT),
+    )
 }
 
 /// Whether a run ended with all replies, or with a fault of the disk behind some of them.
@@ -71,7 +87,7 @@ fn made_until(alloc: Global, script: &[u8], calls: u64) -> Result<Outcome, Alloc
 fn each_stop_is_survived(alloc: Global, script: &[u8]) -> Result<bool, Fail> {
     for calls in 6..100 {
         let outcome = made_until(alloc, script, calls)?;
-        if !is_cut_or_whole(&outcome) || !opens_at_the_commit(alloc, &outcome)? {
+        if !is_cut_or_whole(&outcome) || !opens_as_told(alloc, &outcome)? {
             return Ok(false);
         }
         if outcome.status == 0 {
@@ -99,7 +115,7 @@ fn each_fault_is_survived(alloc: Global, script: &[u8]) -> Result<bool, Fail> {
         let mut disk = no_disk(alloc);
         disk.fail(number);
         let outcome = call_on(alloc, SMALL, disk, script)?;
-        if !is_cut_or_whole(&outcome) || !opens_at_the_commit(alloc, &outcome)? {
+        if !is_cut_or_whole(&outcome) || !opens_as_told(alloc, &outcome)? {
             return Ok(false);
         }
         if outcome.status == 0 {

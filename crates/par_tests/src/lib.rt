@@ -4,4 +4,8 @@
 #[cfg(test)]
 mod tests_clients;
 #[cfg(test)]
+mod tests_drawn;
+#[cfg(test)]
 mod tests_statuses;
+#[cfg(test)]
+mod tests_stores;

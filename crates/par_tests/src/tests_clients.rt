@@ -121,8 +121,15 @@ fn an_upgraded_image_has_both_modes(rt: HostRuntime) -> Result<(), Fail> {
     let outcome = par_image(&rt, alloc, made.disk.crash(alloc, 0)?, script)?;
     assert_eq!(rt; outcome.status, 0);
     assert_eq!(rt; outcome.output.as_slice(), replies.as_slice());
-    let again = run_image(alloc, outcome.disk.crash(alloc, 0)?, b"1 begin\n1 get 0 0 2\n")?;
-    assert_eq!(rt; again.output.as_slice(), b"1 ok begin 2\n1 ok aabb\n".as_slice());
+    let again = run_image(
+        alloc,
+        outcome.disk.crash(alloc, 0)?,
+        b"1 begin\n1 get 0 0 2\n",
+    )?;
+    assert_eq!(rt;
+        again.output.as_slice(),
+        b"1 ok begin 2\n1 ok aabb\n".as_slice()
+    );
     Ok(())
 }
 

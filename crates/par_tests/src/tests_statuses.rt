@@ -41,8 +41,14 @@ fn a_bad_line_anywhere_runs_nothing(rt: HostRuntime) -> Result<(), Fail> {
             b"1 begin\n1 put 0 0 aa\n1 end\n1 jump\n2 begin\n".as_slice(),
             b"! bad line 4 cause 2\n".as_slice(),
         ),
-        (b"1 begin\n1 put 0 0 aa\n1 end\n65 end", b"! bad line 4 cause 1\n"),
-        (b"1 begin\n\n1 put 0 0 a\n1 jump\n", b"! bad line 3 cause 5\n"),
+        (
+            b"1 begin\n1 put 0 0 aa\n1 end\n65 end",
+            b"! bad line 4 cause 1\n",
+        ),
+        (
+            b"1 begin\n\n1 put 0 0 a\n1 jump\n",
+            b"! bad line 3 cause 5\n",
+        ),
     ] {
         let image = small_image(alloc)?;
         let outcome = par_image(&rt, alloc, image.clone()?, script)?;
@@ -61,7 +67,10 @@ fn a_line_that_is_too_long_runs_nothing(rt: HostRuntime) -> Result<(), Fail> {
     script.extend_from_slice(&long)?;
     let outcome = par_image(&rt, alloc, small_image(alloc)?, &script)?;
     assert_eq!(rt; outcome.status, 3);
-    assert_eq!(rt; outcome.output.as_slice(), b"! bad line 4 cause 7\n".as_slice());
+    assert_eq!(rt;
+        outcome.output.as_slice(),
+        b"! bad line 4 cause 7\n".as_slice()
+    );
     Ok(())
 }
 
@@ -71,12 +80,18 @@ fn an_image_is_refused_before_its_script_is_read(rt: HostRuntime) -> Result<(), 
     let zeros = vec![in alloc; 0; 1152]?;
     let refused = par_image(&rt, alloc, zeros, b"1 jump\n")?;
     assert_eq!(rt; refused.status, 4);
-    assert_eq!(rt; refused.output.as_slice(), b"! not an Isotope image\n".as_slice());
+    assert_eq!(rt;
+        refused.output.as_slice(),
+        b"! not an Isotope image\n".as_slice()
+    );
     let mut image = small_image(alloc)?;
     let _ = image.pop();
     let short = par_image(&rt, alloc, image, b"1 jump\n")?;
     assert_eq!(rt; short.status, 4);
-    assert_eq!(rt; short.output.as_slice(), b"! wrong size want 1152 have 1151\n".as_slice());
+    assert_eq!(rt;
+        short.output.as_slice(),
+        b"! wrong size want 1152 have 1151\n".as_slice()
+    );
     Ok(())
 }
 

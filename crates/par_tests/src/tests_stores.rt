@@ -1,0 +1,58 @@
+// Stores that several clients call beside each other.
+use std::alloc::{AllocError, Global};
+use std::test::Fail;
+use top_calls::{call, par_image, run_image};
+
+/// An image whose store, of one of the two kinds, has two keys as its commit 1.
+fn with_two_keys(alloc: Global, words: &str, script: &[u8]) -> Result<Vec<u8>, AllocError> {
+    call(alloc, words, script)?
+        .disk
+        .crash(alloc, 0)
+        .or(Err(AllocError))
+}
+
+const HASH: &str = "isotope new t.img --block-size 256 --blocks 8 --log 4096 --hash 3";
+
+const TREE: &str = "isotope new t.img --block-size 256 --blocks 8 --log 4096 --tree 3";
+
+/// Client 1 begins two transactions before it hands out the first of them, so both begin at the same commit.
+const TWO_KEYS: &[u8] =
+    b"1 begin\n1 release x\n1 begin\n1 release b\n1 takeover x\n1 release a\n2 await b\n2 hput 62 38\n2 end\n3 await a\n3 hput 61 39\n3 end\n";
+
+const SECOND_CLIENT_FIRST: &[u8] =
+    b"1 ok begin 1\n1 ok\n1 ok begin 1\n1 ok\n1 ok begin 1\n1 ok\n2 ok begin 1\n2 ok\n2 ok commit 2\n3 ok begin 1\n3 ok\n3 ok commit 3\ncommit 2 by 2 line 9\ncommit 3 by 3 line 12\n";
+
+const THIRD_CLIENT_FIRST: &[u8] =
+    b"1 ok begin 1\n1 ok\n1 ok begin 1\n1 ok\n1 ok begin 1\n1 ok\n2 ok begin 1\n2 ok\n2 ok commit 3\n3 ok begin 1\n3 ok\n3 ok commit 2\ncommit 2 by 3 line 12\ncommit 3 by 2 line 9\n";
+
+#[test]
+fn two_clients_change_keys_of_one_block(rt: HostRuntime) -> Result<(), Fail> {
+    let alloc = rt.alloc();
+    let image = with_two_keys(alloc, HASH, b"1 begin\n1 hput 61 31\n1 hput 62 32\n1 end\n")?;
+    let outcome = par_image(&rt, alloc, image, TWO_KEYS)?;
+    assert_eq!(rt; outcome.status, 0);
+    let found = outcome.output.as_slice();
+    assert!(rt; found == SECOND_CLIENT_FIRST || found == THIRD_CLIENT_FIRST);
+    let left = outcome.disk.crash(alloc, 0)?;
+    let shown = run_image(alloc, left, b"1 begin\n1 hget 61\n1 hget 62\n")?;
+    assert_eq!(rt;
+        shown.output.as_slice(),
+        b"1 ok begin 3\n1 ok 39\n1 ok 38\n".as_slice()
+    );
+    Ok(())
+}
+
+#[test]
+fn a_scan_of_one_client_meets_a_key_of_another(rt: HostRuntime) -> Result<(), Fail> {
+    let alloc = rt.alloc();
+    let image = with_two_keys(alloc, TREE, b"1 begin\n1 tput 61 31\n1 tput 62 32\n1 end\n")?;
+    // client 1 has read the range when client 2 puts a key into it, and waits for that commit before it ends
+    let script =
+        b"1 begin\n1 tscan 61 7a 9\n1 release a\n1 await b\n1 tput 64 34\n1 end\n2 await a\n2 release c\n2 begin\n2 tput 63 33\n2 end\n2 takeover c\n2 release b\n";
+    let replies =
+        b"1 ok begin 1\n1 ok 61=31 62=32\n1 ok\n1 ok begin 1\n1 ok\n1 conflict with 2 block 1 at 0\n2 ok begin 1\n2 ok\n2 ok begin 1\n2 ok\n2 ok commit 2\n2 ok begin 1\n2 ok\ncommit 2 by 2 line 11\n".as_slice();
+    let outcome = par_image(&rt, alloc, image, script)?;
+    assert_eq!(rt; outcome.status, 0);
+    assert_eq!(rt; outcome.output.as_slice(), replies);
+    Ok(())
+}
