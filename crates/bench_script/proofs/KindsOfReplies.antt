@@ -3,7 +3,7 @@ use Rattle.std.proofs.Common.{◌≡◌, ◌∙◌, sym, refl, ap, ℕ, ◌+◌,
 use Rattle.std.specs.Prelude.{filter}
 use Rattle.std.specs.Cmp.Lexicographic.{pointwise}
 use Rattle.iso_model.specs.declared.script.Reply.{Reply}
-use Rattle.iso_model.specs.declared.script.Reply.TheVariants.{Done, Began, Shown, Committed, ReadOnly, Conflict, Trimmed, Compacted, Upgraded, Numbers, Found, Missing, InTx, NotInTx, ModeFixed, NoStore, StoreMode, BadKey, BadValue, BadBlock, BadRange, NoAccess, TooManyMarks, TooManyAccesses, Broken, NoBlocks, NoHandle, LabelTaken, TooManyTx, Worn, LogFull}
+use Rattle.iso_model.specs.declared.script.Reply.TheVariants.{Done, Began, Shown, Committed, ReadOnly, Conflict, Trimmed, Compacted, Upgraded, Numbers, Found, Pairs, Missing, InTx, NotInTx, ModeFixed, NoStore, StoreMode, BadKey, BadValue, BadBlock, BadRange, NoAccess, TooManyMarks, TooManyAccesses, Broken, NoBlocks, NoHandle, LabelTaken, TooManyTx, Worn, LogFull}
 use Rattle.iso_model.specs.Bench.{is_committed, is_conflict}
 use Rattle.iso_model.specs.Text.{digit_of, reply_text}
 use Rattle.bench_script.specs.declared.line_kind.LineKind.{LineKind}
@@ -30,6 +30,12 @@ unfolding reply_text
 found_starts [] = refl
 found_starts (b ∷ bytes) = rw (no_letter b) (and_no (nat_eq 99 (digit_of (b / 16))))
 
+pairs_starts : (pairs : List (List ℕ × List ℕ)) → starts (codes "ok comm") (reply_text (Pairs pairs)) ≡ false
+unfolding reply_text
+pairs_starts [] = refl
+pairs_starts (([] , value) ∷ pairs) = refl
+pairs_starts (((b ∷ bytes) , value) ∷ pairs) = rw (no_letter b) (and_no (nat_eq 99 (digit_of (b / 16))))
+
 shown_starts : (bytes : List ℕ) → starts (codes "ok comm") (reply_text (Shown bytes)) ≡ false
 unfolding reply_text
 shown_starts [] = refl
@@ -49,6 +55,7 @@ kind_by_text (Compacted n) = refl
 kind_by_text (Upgraded n) = refl
 kind_by_text (Numbers last base trim live used versions) = refl
 kind_by_text (Found bytes) = ap (λ t. by_tests t false) (found_starts bytes)
+kind_by_text (Pairs pairs) = ap (λ t. by_tests t false) (pairs_starts pairs)
 kind_by_text Missing = refl
 kind_by_text NoStore = refl
 kind_by_text StoreMode = refl

@@ -1,12 +1,12 @@
 -- The bytes of a number and of a reply.
-use Rattle.std.proofs.Common.{◌≡◌, ◌≢◌, ◌∙◌, refl, ℕ, zero, suc, ◌/◌, ◌%◌, ◌<◌, Bool, true, false, cond, not, ◌==◌, List, [], ◌∷◌, ◌++◌, decimal, codes, arith}
+use Rattle.std.proofs.Common.{◌≡◌, ◌≢◌, ◌∙◌, refl, ℕ, zero, suc, ◌/◌, ◌%◌, ◌<◌, Bool, true, false, cond, not, ◌==◌, List, [], ◌∷◌, ◌++◌, decimal, codes, flat_map, arith}
 use Rattle.std.specs.List.{list_all}
 use Rattle.std.specs.Fmt.{digits, digits_onto, digit_glyph}
 use Rattle.std.proofs.lemmas.Bool.{ne_eqb}
 use Rattle.std.proofs.lemmas.List.Folds.{list_all-append}
 use Rattle.iso_model.specs.declared.script.Reply.{Reply}
-use Rattle.iso_model.specs.declared.script.Reply.TheVariants.{Done, Began, Shown, Committed, ReadOnly, Conflict, Trimmed, Compacted, Upgraded, Numbers, Found, Missing, InTx, NotInTx, ModeFixed, NoStore, StoreMode, BadKey, BadValue, BadBlock, BadRange, NoAccess, TooManyMarks, TooManyAccesses, Broken, NoBlocks, NoHandle, LabelTaken, TooManyTx, Worn, LogFull}
-use Rattle.iso_model.specs.Text.{dashed, digit_of, hex_text, reply_text}
+use Rattle.iso_model.specs.declared.script.Reply.TheVariants.{Done, Began, Shown, Committed, ReadOnly, Conflict, Trimmed, Compacted, Upgraded, Numbers, Found, Pairs, Missing, InTx, NotInTx, ModeFixed, NoStore, StoreMode, BadKey, BadValue, BadBlock, BadRange, NoAccess, TooManyMarks, TooManyAccesses, Broken, NoBlocks, NoHandle, LabelTaken, TooManyTx, Worn, LogFull}
+use Rattle.iso_model.specs.Text.{dashed, digit_of, hex_text, pair_text, reply_text}
 
 -- the byte is another one
 abbrev pub is_other : ℕ → ℕ → Bool
@@ -66,6 +66,13 @@ dashed_bytes : (bytes : List ℕ) → list_all (is_other 10) (dashed bytes) ≡ 
 dashed_bytes [] = refl
 dashed_bytes (b ∷ bytes) = hex_bytes (b ∷ bytes)
 
+pair_bytes : (pairs : List (List ℕ × List ℕ)) → list_all (is_other 10) (flat_map pair_text pairs) ≡ true
+pair_bytes [] = refl
+pair_bytes (pair ∷ pairs) =
+    both 10 (pair_text pair) (flat_map pair_text pairs)
+    (both 10 (32 ∷ dashed pair.0) (61 ∷ dashed pair.1) (both 10 (32 ∷ []) (dashed pair.0) refl (dashed_bytes pair.0)) (both 10 (61 ∷ []) (dashed pair.1) refl (dashed_bytes pair.1)))
+    (pair_bytes pairs)
+
 -- no reply has a line feed
 pub reply_has_no_feed : (reply : Reply) → list_all (is_other 10) (reply_text reply) ≡ true
 unfolding reply_text
@@ -83,6 +90,7 @@ reply_has_no_feed (Numbers last base trim live used versions) =
     (numbered_on (codes " versions ") versions refl (numbered_on (codes " used ") used refl (numbered_on (codes " live ") live refl (numbered_on (codes " trim ") trim refl
     (numbered_on (codes " base ") base refl (numbered (codes "ok last ") last refl)))))).all
 reply_has_no_feed (Found value) = both 10 (codes "ok ") (dashed value) refl (dashed_bytes value)
+reply_has_no_feed (Pairs pairs) = both 10 (codes "ok") (flat_map pair_text pairs) refl (pair_bytes pairs)
 reply_has_no_feed Missing = refl
 reply_has_no_feed NoStore = refl
 reply_has_no_feed StoreMode = refl

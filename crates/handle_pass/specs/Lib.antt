@@ -3,3 +3,5 @@ pub mod Calls
 pub mod Accesses
 pub mod Handles
 pub mod Logs
+pub mod Visits
+pub mod Looks

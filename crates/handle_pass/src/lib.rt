@@ -7,10 +7,16 @@ mod errors;
 mod handle;
 mod labels;
 mod session;
+mod session_blocks;
 #[cfg(test)]
 mod tests;
 mod upkeep;
+mod visit;
+mod visitor;
 
 pub use errors::{BeginError, EndError, PostTxError};
 pub use handle::Handle;
 pub use session::Session;
+pub use session_blocks::{Left, SessionBlocks};
+pub use visit::Visit;
+pub use visitor::Visitor;

@@ -1,6 +1,7 @@
 // The session itself.
-ghost use Rattle.std.specs.Prelude.{◌≡◌, None, Some, option_map};
+ghost use Rattle.std.specs.Prelude.{◌≡◌, ◌-◌, ◌≤◌, None, Some, cond, is_some, length, option_map};
 ghost use Rattle.iso_shared.specs.Ports.{IsPort, first_geometry, port_view};
+ghost use Rattle.handle_pass.specs.Accesses.{accesses_of};
 ghost use Rattle.handle_pass.specs.Calls.{HasFinished};
 ghost use Rattle.handle_pass.specs.Sessions.{device, own, port_of, units, IsSession};
 
@@ -49,6 +50,17 @@ impl<'a, D: Disk + Drop, O: Origin> Session<'a, D, O> {
         match &self.tx {
             None => None,
             Some(tx) => Some(tx.mode()),
+        }
+    }
+
+    /// How many more accesses the transaction may make; all of them where there is none.
+    pub(crate) fn room(&self) -> u32
+        ensures room { result ≡ cond (is_some (own self.now)) (4096 - length (accesses_of (own self.now))) 4096 }
+        ensures few { length (accesses_of (own self.now)) ≤ 4096 }
+    {
+        match &self.tx {
+            None => 4096,
+            Some(tx) => tx.room(),
         }
     }
 

@@ -1,5 +1,5 @@
 // Sessions over a device in memory, in two threads and in one. The image has four blocks of 64 bytes and logs of 4,096 bytes.
-ghost use Rattle.std.specs.Prelude.{◌≡◌, ◌<◌, ◌≤◌, None, replicate, IfOk, IfSome, IsTrue};
+ghost use Rattle.std.specs.Prelude.{◌≡◌, ◌<◌, ◌≤◌, None, Some, replicate, IfOk, IfSome, IsTrue};
 ghost use denote.Param.Send.{IsSync};
 ghost use Rattle.iso_core.specs.Core.{StandsFor};
 ghost use Rattle.iso_core.specs.Standing.{up};
@@ -10,7 +10,7 @@ ghost use Rattle.iso_shared.specs.TestImage.{small, MayStart};
 ghost use Rattle.handle_pass.specs.Handles.{IsHandle};
 ghost use Rattle.handle_pass.specs.Sessions.{device, own, units, IsSession};
 
-use crate::{EndError, Handle, PostTxError, Session};
+use crate::{EndError, Handle, Left, PostTxError, Session, Visit};
 use iso_core::{Core, Stat};
 use iso_memdisk::MemDisk;
 use iso_model::{EndReply, Geometry, InTx, Label, Memory, Mode, NotInTx};
@@ -23,6 +23,7 @@ use std::sync::ledger::{Blank, Ledger};
 use std::test::Fail;
 use std::thread::{Threads, join_mut};
 use step_count::Steps;
+use tx_blocks::TxBlocks;
 
 #[tactic(auto, unfolding(iso_model::specs::Geometry::is_valid))]
 fn small() -> Geometry
@@ -296,5 +297,83 @@ fn a_session_in_a_transaction_hands_a_handle_back(rt: HostRuntime) -> Result<(),
     assert!(rt; refused);
     assert!(rt; none);
     assert_eq!(rt; live, 2);
+    Ok(())
+}
+
+/// Writes a block through the transaction as stores see it, and reads it and another one.
+fn through<'s, 'a, O: Origin, R: Wait, V: Visit<MemDisk, O>>(
+    rt: &'s R,
+    session: &'s mut Session<'a, MemDisk, O>,
+    shown: &mut (u8, u8),
+) -> &'s mut Session<'a, MemDisk, O>
+    requires session { IsSession O.start session.old }
+    requires image { O.start.world.geometry ≡ small }
+    requires valid { IsTrue (is_valid O.start.world.geometry) }
+    requires name { session.ghost_name ≡ V.name }
+    requires before { V.before ≡ Some session.old }
+    ensures name { result.ghost_name ≡ session.entry.ghost_name }
+    ensures session { IsSession O.start result.now }
+    ensures device { device result.now ≡ device session.old }
+{
+    let mut blocks = session.blocks::<R, V>(rt);
+    let mut own = [0; 64];
+    let mut other = [1; 64];
+    let _ = blocks.write_block(2, &[5; 64]);
+    let _ = blocks.read_block(2, &mut own);
+    let _ = blocks.read_block(3, &mut other);
+    *shown = (own[0], other[0]);
+    let Left {
+        session,
+        failures: _,
+        is_down: _,
+    } = blocks.leave();
+    session
+}
+
+/// The same in a new transaction of a session, which then stands as before.
+fn shown_through<'s, 'a, O: Origin, R: Wait>(
+    rt: &'s R,
+    session: &'s mut Session<'a, MemDisk, O>,
+) -> Option<(u8, u8)>
+    requires session { IsSession O.start session.old × (1 < units session.old) }
+    requires image { O.start.world.geometry ≡ small }
+    requires valid { IsTrue (is_valid O.start.world.geometry) }
+    ensures session { IsSession O.start session.new }
+{
+    session.begin_tx(rt, None).ok()?;
+    let mut shown = (0, 0);
+    let _session = through::<O, R, Brand>(rt, session, &mut shown);
+    Some(shown)
+}
+
+/// The same over a core.
+fn run_through<O: Origin, R: Wait>(rt: &R, alloc: Global, core: Core<MemDisk>) -> Option<(u8, u8)>
+    requires start { MayStart state_of O.start core }
+    requires valid { IsTrue (is_valid O.start.world.geometry) }
+{
+    match Shared::<MemDisk, O>::new(alloc, core) {
+        Err((_memory, _core)) => None,
+        Ok((shared, port)) => {
+            let mut session = Session::new(&shared, port);
+            let shown = shown_through(rt, &mut session);
+            let _ = session.finish(rt);
+            shown
+        }
+    }
+}
+
+/// The same over a new core.
+#[tactic(auto, unfolding(iso_model::specs::Geometry::is_valid))]
+fn through_blocks<R: Wait>(rt: &R, alloc: Global) -> Option<(u8, u8)> {
+    let _ = small();
+    let core = new_core(alloc).ok()?;
+    run_through::<Brand, R>(rt, alloc, core)
+}
+
+#[test]
+fn stores_see_the_transaction_of_a_session(rt: HostRuntime) -> Result<(), Fail> {
+    let (own, other) = through_blocks(&rt, rt.alloc()).expect(&rt, "a transaction");
+    assert_eq!(rt; own, 5);
+    assert_eq!(rt; other, 0);
     Ok(())
 }

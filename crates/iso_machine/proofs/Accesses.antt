@@ -171,6 +171,7 @@ same_but_shown r s is = subst (λ (x : Reply). SameButShown r x) is (itself r)
     itself reply.NotInTx = refl
     itself reply.ModeFixed = refl
     itself (reply.Found value) = refl
+    itself (reply.Pairs pairs) = refl
     itself reply.Missing = refl
     itself reply.NoStore = refl
     itself reply.StoreMode = refl

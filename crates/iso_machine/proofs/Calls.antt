@@ -6,7 +6,7 @@ use Rattle.script_runner.specs.declared.machine.Stop.{Stop}
 use Rattle.script_runner.specs.declared.machine.Stop.TheVariants as stop
 use Rattle.script_runner.specs.Counts.{BlamesDisk}
 use Rattle.core_blocks.specs.Guests.{Counts}
-use Rattle.iso_machine.specs.Storing.{Stops}
+use Rattle.store_calls.specs.Calls.{Stops}
 
 abbrev pub device : ℕ → Device
 device faults = record { faults = faults; is_down = false }

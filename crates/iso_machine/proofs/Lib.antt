@@ -7,7 +7,6 @@ pub mod Refusals
 pub mod Begins
 pub mod Endings
 pub mod Switches
-pub mod Stores
 pub mod Stored
 pub mod Told
 pub mod Calls

@@ -137,6 +137,10 @@ act_leads W c t op.Upgrade is isop here = is
 act_leads W c t (op.HashPut key value) is isop here = is
 act_leads W c t (op.HashGet key) is isop here = is
 act_leads W c t (op.HashDelete key) is isop here = is
+act_leads W c t (op.TreePut key value) is isop here = is
+act_leads W c t (op.TreeGet key) is isop here = is
+act_leads W c t (op.TreeDelete key) is isop here = is
+act_leads W c t (op.TreeScan from to most) is isop here = is
 
 -- a release and a takeover, by who is where
 pub release_is : (W : World) (c : ℕ) (text : List ℕ) (o p : Option Live) → attached W c ≡ o → held W text ≡ p → step W c (op.Release text) ≡ in_transaction W o (λ t. release_step W t text p)

@@ -17,7 +17,8 @@ use Rattle.script_runner.specs.declared.machine.Stop.TheVariants as stop
 use Rattle.script_runner.specs.Counts.{BlamesDisk}
 use Rattle.iso_machine.specs.Accessing.{IsWorkedTo}
 use Rattle.iso_machine.specs.Answering.{Answers, AnswersTold}
-use Rattle.iso_machine.specs.Storing.{IsStored, store_act}
+use Rattle.store_calls.specs.Calls.{is_empty_scan, store_area}
+use Rattle.iso_machine.specs.Storing.{IsStored, called_of, store_act}
 
 -- an answer that is known in any case
 pub told_so : (stands : World → Type 0) (old new : DiskState) (W : World) (given : Reply × World) (plain : Type 0) (result : Result Reply Stop) → Answers stands old new W given result
@@ -85,7 +86,10 @@ in_store_keeps W t blocks result history geometry = refused (blocks == 0) reply.
     refused false r given kept = kept
 
 pub store_keeps : (W : World) (t : Live) (op : Op) → ((store_act W t op).1.history ≡ W.history) × ((store_act W t op).1.geometry ≡ W.geometry)
-store_keeps W t op = in_store_keeps W t W.geometry.hash _ refl refl
+store_keeps W t op = elim (is_empty_scan op) as (λ b. let x : Reply × World = in_store W t (store_area W.geometry op).blocks (cond b (reply.BadRange, W) (called_of W t op)) in (x.1.history ≡ W.history) × (x.1.geometry ≡ W.geometry)) [
+  | true ↦ in_store_keeps W t (store_area W.geometry op).blocks (reply.BadRange, W) refl refl
+  | false ↦ in_store_keeps W t (store_area W.geometry op).blocks (called_of W t op) refl refl
+]
 
 -- a call of a store on one transaction
 module _ (stands : World → Type 0) (old new : DiskState) (W : World) (t : Live) (work : Doing) (given : Reply × World) (history : given.1.history ≡ W.history) (geometry : given.1.geometry ≡ W.geometry)

@@ -65,6 +65,10 @@ pub(crate) fn act<D: Disk>(
         | Op::Upgrade
         | Op::HashPut { .. }
         | Op::HashGet { .. }
-        | Op::HashDelete { .. } => Ok(Reply::NotInTx),
+        | Op::HashDelete { .. }
+        | Op::TreePut { .. }
+        | Op::TreeGet { .. }
+        | Op::TreeDelete { .. }
+        | Op::TreeScan { .. } => Ok(Reply::NotInTx),
     }
 }

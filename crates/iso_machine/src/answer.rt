@@ -68,7 +68,7 @@ impl<D: Disk> Machine<D> {
         }
     }
 
-    /// An operation on the hash store by a client's transaction.
+    /// An operation on a store by a client's transaction.
     fn stored(&mut self, client: u8, op: &Op) -> Result<Reply, Stop>
         requires { (W : World) × IsMachineOf D.state self.old W }
         ensures { (W : World) → IsMachineOf D.state self.old W
@@ -110,9 +110,13 @@ impl<D: Disk> Machine<D> {
             Op::End => self.end(client),
             Op::Compact => self.compact(),
             Op::Upgrade => self.upgrade(),
-            Op::HashPut { .. } | Op::HashGet { .. } | Op::HashDelete { .. } => {
-                self.stored(client, op)
-            }
+            Op::HashPut { .. }
+            | Op::HashGet { .. }
+            | Op::HashDelete { .. }
+            | Op::TreePut { .. }
+            | Op::TreeGet { .. }
+            | Op::TreeDelete { .. }
+            | Op::TreeScan { .. } => self.stored(client, op),
         }
     }
 }

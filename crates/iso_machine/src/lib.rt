@@ -6,7 +6,6 @@ mod acting;
 mod answer;
 mod attached;
 mod begin;
-mod calling;
 mod ending;
 mod handles;
 mod leaving;

@@ -1,7 +1,6 @@
-// Calls of the hash store on a transaction of the core.
-ghost use Rattle.std.specs.Prelude.{◌≡◌, ◌+◌, ◌≤◌, ℕ, IfOk, IsErrOf, length};
+// Calls of the stores on a transaction of the core.
+ghost use Rattle.std.specs.Prelude.{◌≡◌, ◌+◌, ◌≤◌, ℕ, IfOk, IsErrOf, false, length};
 ghost use Rattle.iso_disk.specs.Disk.{WritesNothing};
-ghost use Rattle.iso_model.specs.HashRegion.{IsHashArea};
 ghost use Rattle.iso_model.specs.World.{Live, World};
 ghost use Rattle.iso_core.specs.Calls.{IsTx, IsWorkOf};
 ghost use Rattle.iso_core.specs.Core.{StandsFor, disk_of};
@@ -12,9 +11,9 @@ ghost use Rattle.tx_blocks.specs.Runs.{area_of};
 ghost use Rattle.tx_table.specs.Work.{AreWithin};
 ghost use Rattle.script_runner.specs.Counts.{BlamesDisk};
 ghost use Rattle.iso_machine.specs.Accessing.{IsActive};
-ghost use Rattle.iso_machine.specs.Storing.{HasCalled, IsStored, store_act, store_ended};
+ghost use Rattle.iso_machine.specs.Storing.{IsStored, store_act};
+ghost use Rattle.store_calls.specs.Calls.{HasCalled, IsStoreArea, is_empty_scan, store_ended};
 
-use crate::calling::call;
 use core_blocks::{CoreBlocks, Lent, Origin};
 use iso_core::Core;
 use iso_disk::Disk;
@@ -22,6 +21,7 @@ use iso_model::{Mode, Op, Region, Reply};
 use script_runner::Stop;
 use std::alloc::Global;
 use std::marker::Brand;
+use store_calls::{call, is_empty_scan, store_region};
 use tx_table::Work;
 
 /// A core and the work of one of its transactions after a call.
@@ -44,8 +44,9 @@ fn call_from<'a, D: Disk, K: Origin>(
     requires core { core.ghost_name ≡ K.core_name }
     requires work { work.ghost_name ≡ K.work_name }
     requires guest { IsGuest D.state K.stood K.disk K.doing K.array core.old tx work.old 0 }
-    requires area { IsHashArea (area_of (tx_of K.array work.old) region) }
+    requires area { IsStoreArea op.now (area_of (tx_of K.array work.old) region) }
     requires fits { region.start + region.size ≤ work.old.blocks }
+    requires some { is_empty_scan op.now ≡ false }
     ensures same_core { result.core.ghost_name ≡ core.entry.ghost_name }
     ensures same_work { result.work.ghost_name ≡ work.entry.ghost_name }
     ensures guest { (number : ℕ) × (failures : ℕ) × IsGuest D.state K.stood K.disk K.doing K.array result.core.now number result.work.now failures }
@@ -81,8 +82,9 @@ fn call_on<D: Disk>(
 ) -> Result<Reply, Stop>
     requires live { (W : World) × (t : Live) × StandsFor D.state core.old W up × IsTx W tx t × IsWorkOf W t work.old }
     requires few { length work.old.accesses ≤ 4096 }
-    requires area { IsHashArea (area_of (tx_of (array_told D.state core.old work.old.begin) work.old) region) }
+    requires area { IsStoreArea op.now (area_of (tx_of (array_told D.state core.old work.old.begin) work.old) region) }
     requires fits { region.start + region.size ≤ work.old.blocks }
+    requires some { is_empty_scan op.now ≡ false }
     ensures same { (W : World) → StandsFor D.state core.old W up → StandsFor D.state core.new W up }
     ensures unwritten { WritesNothing (D.state (disk_of core.old)) (D.state (disk_of core.new)) }
     ensures work { IsSameWork work.old work.new }
@@ -97,7 +99,7 @@ fn call_on<D: Disk>(
     answer
 }
 
-/// An operation on the hash store by a transaction.
+/// An operation on a store by a transaction.
 pub(crate) fn store<D: Disk>(
     alloc: Global,
     core: &mut Core<D>,
@@ -115,14 +117,18 @@ pub(crate) fn store<D: Disk>(
     ensures up { ¬ IsErrOf result Stop.Down }
     ensures cause { BlamesDisk (D.state (disk_of core.old)).faults (D.state (disk_of core.new)).faults result }
 {
-    let size = core.geometry().hash;
+    let geometry = core.geometry();
+    let region = store_region(&geometry, op);
     let _ = work.count();
-    if size == 0 {
+    if region.size == 0 {
         return Ok(Reply::NoStore);
     }
     match work.mode() {
         Mode::Serial => {
-            let answer = call_on(alloc, core, tx, work, Region { start: 0, size }, op);
+            if is_empty_scan(op) {
+                return Ok(Reply::BadRange);
+            }
+            let answer = call_on(alloc, core, tx, work, region, op);
             let _ = work.count();
             answer
         }

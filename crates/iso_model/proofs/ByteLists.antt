@@ -1,5 +1,5 @@
 -- Lists of bytes, and their pieces.
-use Rattle.std.proofs.Common.{inl, inr, ℕ, zero, suc, ◌+◌, ◌<◌, Bool, true, false, cond, List, [], ◌∷◌, ◌++◌, take, drop, replicate, arith}
+use Rattle.std.proofs.Common.{inl, inr, ℕ, zero, suc, ◌+◌, ◌<◌, Bool, true, false, cond, List, [], ◌∷◌, ◌++◌, take, drop, replicate, set, arith}
 use Rattle.std.proofs.lemmas.Bool.{cases_lt}
 use Rattle.std.proofs.lemmas.List.{get_or-drop, get_or-take, get_or_past, length-take}
 use Rattle.iso_model.specs.declared.access.Span.{Span}
@@ -40,6 +40,11 @@ bytes_take n bytes all i = elim (cases_lt i n) [
 pub replicate_bytes : (n x : ℕ) → x < 256 → AreBytes (replicate n x)
 replicate_bytes zero x below = no_bytes
 replicate_bytes (suc n) x below = bytes_cons x (replicate n x) below (replicate_bytes n x below)
+
+pub set_bytes : (bytes : List ℕ) (i x : ℕ) → x < 256 → AreBytes bytes → AreBytes (set bytes i x)
+set_bytes [] i x below all = no_bytes
+set_bytes (y ∷ bytes) zero x below all = bytes_cons x bytes below (bytes_rest y bytes all)
+set_bytes (y ∷ bytes) (suc i) x below all = bytes_cons y (set bytes i x) (all 0) (set_bytes bytes i x below (bytes_rest y bytes all))
 
 pub merged_bytes : (spans : List Span) (p : ℕ) (old new : List ℕ) → AreBytes old → AreBytes new → AreBytes (merged spans p old new)
 merged_bytes spans p [] new first second = no_bytes

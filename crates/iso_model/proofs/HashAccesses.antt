@@ -77,7 +77,7 @@ next_below a bucket position keys linked more =
     ]
 
 -- a byte with one bit
-bit_small : (block : ℕ) → 2 ^ (block % 8) < 256
+pub bit_small : (block : ℕ) → 2 ^ (block % 8) < 256
 bit_small block = small (block % 8) (mod-lt block (omega arith))
   where
     small : (n : ℕ) → n < 8 → 2 ^ n < 256

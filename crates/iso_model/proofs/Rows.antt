@@ -16,7 +16,7 @@ use Rattle.iso_model.specs.History.{History, array_at}
 use Rattle.iso_model.specs.Conflict.{clash}
 use Rattle.iso_model.specs.Effect.{runs}
 use Rattle.iso_model.specs.Image.{superblock, half_header, spell, chosen_half}
-use Rattle.iso_model.specs.Script.{script, last_piece, bad_line, parse_whole, parse, said, operation_of, other_operation, store_operation, replies}
+use Rattle.iso_model.specs.Script.{script, last_piece, bad_line, parse_whole, parse, said, operation_of, other_operation, store_operation, tree_operation, replies}
 use Rattle.iso_model.specs.Step.{put_access, read_access, step, begin_step, put_step, read_step, commit_step, end_step}
 use Rattle.iso_model.specs.Text.{is_label, words_of, number_of, hex_of, reply_text}
 use Rattle.iso_model.specs.World.{World, Live, Place, client, label, unattached, attached, floor, fresh, empty_history}
@@ -163,7 +163,7 @@ log_one_byte_too_short = refl
 pub the_first_bad_line :
     (script (text (codes "1 begin" ∷ codes "1 jump" ∷ []))).bad
     ≡ Some (record { line = 2; cause = 2 })
-unfolding put clash runs script parse_whole parse said operation_of other_operation store_operation step begin_step put_step read_step commit_step end_step words_of number_of hex_of reply_text digits
+unfolding put clash runs script parse_whole parse said operation_of other_operation store_operation tree_operation step begin_step put_step read_step commit_step end_step words_of number_of hex_of reply_text digits
 the_first_bad_line = refl
 
 -- A carriage return before a line feed, a comment, and a last line without a line feed.
@@ -294,7 +294,7 @@ chosen_halves = refl
 pub edges_of_a_line :
     map (λ line. parse (codes line)) ("0 begin" ∷ "1 put 0 4294967296 a" ∷ "1 begin~" ∷ "1 begin x y" ∷ "1 release A" ∷ [])
     ≡ map Err (1 ∷ 4 ∷ 2 ∷ 3 ∷ 6 ∷ [])
-unfolding put clash runs script parse_whole parse said operation_of other_operation store_operation step begin_step put_step read_step commit_step end_step words_of number_of hex_of reply_text digits
+unfolding put clash runs script parse_whole parse said operation_of other_operation store_operation tree_operation step begin_step put_step read_step commit_step end_step words_of number_of hex_of reply_text digits
 edges_of_a_line = refl
 
 pub a_byte_above_the_last_printable_one : parse (codes "1 begin" ++ 127 ∷ []) ≡ Err 8

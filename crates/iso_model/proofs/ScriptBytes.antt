@@ -3,13 +3,13 @@ use Rattle.std.proofs.Common.{◌≡◌, refl, ℕ, ◌+◌, ◌-◌, ◌*◌, �
 use Rattle.std.proofs.lemmas.Bool.{and_parts, leb-true}
 use Rattle.iso_model.specs.declared.limits.TheConstants.{MAX_INPUT, MAX_LINE}
 use Rattle.iso_model.specs.declared.script.Op.{Op}
-use Rattle.iso_model.specs.declared.script.Op.TheVariants.{Begin, End, Abort, Put, Read, Get, Write, Fill, Mark, Release, Takeover, Await, Trim, Stat, Compact, Upgrade, HashPut, HashGet, HashDelete}
+use Rattle.iso_model.specs.declared.script.Op.TheVariants.{Begin, End, Abort, Put, Read, Get, Write, Fill, Mark, Release, Takeover, Await, Trim, Stat, Compact, Upgrade, HashPut, HashGet, HashDelete, TreePut, TreeGet, TreeDelete, TreeScan}
 use Rattle.std.specs.List.{AllByRecursion}
 use Rattle.iso_model.specs.declared.script.Line.{Line}
 use Rattle.iso_model.specs.declared.script.Parsed.{Parsed}
 use Rattle.iso_model.specs.declared.script.Parsed.TheVariants.{Skip, Line as Says}
 use Rattle.iso_model.specs.Premises.{AreBytes}
-use Rattle.iso_model.specs.Script.{◌>>=◌, without_return, bad_line, bare, begin_arguments, put_arguments, one_number, two_numbers, three_numbers, number_and_bytes, one_label, number_argument, hex_argument, label_argument, mode_argument, operation_of, other_operation, one_key, key_and_value, store_argument, store_operation, said, parse, parse_whole, last_piece, before_script, script_from, script, client_in_range, no_lines, Script}
+use Rattle.iso_model.specs.Script.{◌>>=◌, without_return, bad_line, bare, begin_arguments, put_arguments, one_number, two_numbers, three_numbers, number_and_bytes, one_label, number_argument, hex_argument, label_argument, mode_argument, operation_of, other_operation, one_key, key_and_value, scan_arguments, store_argument, store_operation, tree_operation, said, parse, parse_whole, last_piece, before_script, script_from, script, client_in_range, no_lines, Script}
 use Rattle.iso_model.specs.Text.{is_empty, pieces, words_of, is_digit, hex_digit, hex_pair, hex_pairs, hex_of, number_of, is_label, label_of}
 use Rattle.iso_model.specs.Worlds.{IsOp, AreLines}
 use Rattle.iso_model.proofs.ByteLists.{no_bytes, bytes_cons}
@@ -149,12 +149,30 @@ value_op op is (key ∷ value ∷ []) =
     given_next AreBytes IsOp (store_argument value) _ (store_given value) (λ v v_are. given_one IsOp (op k v) (is k v k_are v_are)))
 value_op op is (key ∷ value ∷ more ∷ words) = given_none IsOp 3
 
+scan_op : (words : List (List ℕ)) → IfGiven IsOp (scan_arguments words)
+scan_op [] = given_none IsOp 3
+scan_op (from ∷ []) = given_none IsOp 3
+scan_op (from ∷ to ∷ []) = given_none IsOp 3
+scan_op (from ∷ to ∷ most ∷ []) =
+    given_next AreBytes IsOp (store_argument from) _ (store_given from) (λ f f_are.
+    given_next AreBytes IsOp (store_argument to) _ (store_given to) (λ t t_are.
+    given_next (λ n. Unit {0}) IsOp (number_argument most) _ (any_given (number_argument most)) (λ n given. given_one IsOp (TreeScan f t n) tt)))
+scan_op (from ∷ to ∷ most ∷ more ∷ words) = given_none IsOp 3
+
+tree_op : (name : List ℕ) (words : List (List ℕ)) → IfGiven IsOp (tree_operation name words)
+unfolding tree_operation
+tree_op name words =
+    given_cond IsOp _ (key_and_value TreePut words) _ (value_op TreePut (λ key value k_are v_are. (k_are, v_are)) words)
+    (given_cond IsOp _ (one_key TreeGet words) _ (key_op TreeGet (λ key. tt) words)
+    (given_cond IsOp _ (one_key TreeDelete words) _ (key_op TreeDelete (λ key. tt) words)
+    (given_cond IsOp _ (scan_arguments words) _ (scan_op words) (given_none IsOp 2))))
+
 store_op : (name : List ℕ) (words : List (List ℕ)) → IfGiven IsOp (store_operation name words)
 unfolding store_operation
 store_op name words =
     given_cond IsOp _ (key_and_value HashPut words) _ (value_op HashPut (λ key value k_are v_are. (k_are, v_are)) words)
     (given_cond IsOp _ (one_key HashGet words) _ (key_op HashGet (λ key. tt) words)
-    (given_cond IsOp _ (one_key HashDelete words) _ (key_op HashDelete (λ key. tt) words) (given_none IsOp 2)))
+    (given_cond IsOp _ (one_key HashDelete words) _ (key_op HashDelete (λ key. tt) words) (tree_op name words)))
 
 other_op : (name : List ℕ) (words : List (List ℕ)) → IfGiven IsOp (other_operation name words)
 unfolding other_operation

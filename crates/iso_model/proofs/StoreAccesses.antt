@@ -73,22 +73,65 @@ either_fits : {R : Type 0} (g : Geometry) (room : ℕ) (test : Bool) (ended : Li
 either_fits g room true ended fits = fits
 either_fits g room false ended fits = nothing_fits g room None
 
--- what the program does in a transaction that has room for so many more accesses
-pub outcome_fits : {R : Type 0} (g : Geometry) (P : R → Type 0) (room : ℕ) (p : Program R) (A : Array) → HasShape g A → AllFit g P p → Fits g room (outcome room p A)
-outcome_fits g P room (Done r) A shape fit = nothing_fits g room (Some r)
-outcome_fits g P zero (Look block mark further next) A shape fit = nothing_fits g zero None
-outcome_fits g P (suc room) (Look block mark further next) A shape (inside, span, spans, rest) =
+-- The same of a program that runs on this array: it reads what is there, and each answer has P with the array in the end.
+abbrev pub FitsOn : {R : Type 0} → Geometry → (R → Array → Type 0) → Program R → Array → Type 0
+FitsOn g P (Done r) A = P r A
+FitsOn g P (Look block mark further next) A =
+    (block < g.blocks) × IsSpan g.block mark × IfSome (further (bytes_in mark (block_at A block))) (IsSpan g.block)
+    × FitsOn g P (next (bytes_in mark (block_at A block)) (further_bytes (further (bytes_in mark (block_at A block))) (block_at A block))) A
+FitsOn g P (LookWhole block next) A = (block < g.blocks) × FitsOn g P (next (block_at A block)) A
+FitsOn g P (Reserve count next) A = FitsOn g P next A
+FitsOn g P (Store block spans bytes next) A = IsAccess g (store_access block spans bytes) × FitsOn g P next (put A (store_access block spans bytes))
+
+pub fits_then : {R S : Type 0} (g : Geometry) (P : R → Array → Type 0) (Q : S → Array → Type 0) (p : Program R) (f : R → Program S) (A : Array)
+    → FitsOn g P p A → ((r : R) (B : Array) → P r B → FitsOn g Q (f r) B) → FitsOn g Q (then_do p f) A
+fits_then g P Q (Done r) f A fit more = more r A fit
+fits_then g P Q (Look block mark further next) f A (inside, span, other, rest) more =
+    (inside, span, other, fits_then g P Q (next (bytes_in mark (block_at A block)) (further_bytes (further (bytes_in mark (block_at A block))) (block_at A block))) f A rest more)
+fits_then g P Q (LookWhole block next) f A (inside, rest) more = (inside, fits_then g P Q (next (block_at A block)) f A rest more)
+fits_then g P Q (Reserve count next) f A fit more = fits_then g P Q next f A fit more
+fits_then g P Q (Store block spans bytes next) f A (access, rest) more = (access, fits_then g P Q next f (put A (store_access block spans bytes)) rest more)
+
+pub fits_cond : {R : Type 0} (g : Geometry) (P : R → Array → Type 0) (test : Bool) (p q : Program R) (A : Array) → (test ≡ true → FitsOn g P p A) → (test ≡ false → FitsOn g P q A)
+    → FitsOn g P (cond test p q) A
+fits_cond g P true p q A yes_fits no_fits = yes_fits refl
+fits_cond g P false p q A yes_fits no_fits = no_fits refl
+
+-- with less to say of each answer
+pub fits_more : {R : Type 0} (g : Geometry) (P Q : R → Array → Type 0) (p : Program R) (A : Array) → FitsOn g P p A → ((r : R) (B : Array) → P r B → Q r B) → FitsOn g Q p A
+fits_more g P Q (Done r) A fit more = more r A fit
+fits_more g P Q (Look block mark further next) A (inside, span, other, rest) more =
+    (inside, span, other, fits_more g P Q (next (bytes_in mark (block_at A block)) (further_bytes (further (bytes_in mark (block_at A block))) (block_at A block))) A rest more)
+fits_more g P Q (LookWhole block next) A (inside, rest) more = (inside, fits_more g P Q (next (block_at A block)) A rest more)
+fits_more g P Q (Reserve count next) A fit more = fits_more g P Q next A fit more
+fits_more g P Q (Store block spans bytes next) A (access, rest) more = (access, fits_more g P Q next (put A (store_access block spans bytes)) rest more)
+
+-- a program that fits whatever it reads fits on each array
+pub fits_on : {R : Type 0} (g : Geometry) (P : R → Type 0) (p : Program R) (A : Array) → HasShape g A → AllFit g P p → FitsOn g (λ r B. P r) p A
+fits_on g P (Done r) A shape fit = fit
+fits_on g P (Look block mark further next) A shape (inside, span, spans, rest) =
     let x = bytes_in mark (block_at A block) in
     let y = further_bytes (further x) (block_at A block) in
-    one_fits g room (look_access block (mark ∷ with_further (further x))) (outcome room (next x y) A) (look_is g block mark (further x) inside span (spans x))
-    (outcome_fits g P room (next x y) A shape
-    (rest x y (span_bytes mark (block_at A block) (shape.values block)) (further_are_bytes (further x) (block_at A block) (shape.values block))))
-outcome_fits g P zero (LookWhole block next) A shape fit = nothing_fits g zero None
-outcome_fits g P (suc room) (LookWhole block next) A shape (inside, rest) =
-    one_fits g room (look_access block []) (outcome room (next (block_at A block)) A) (whole_is g block inside)
-    (outcome_fits g P room (next (block_at A block)) A shape (rest (block_at A block) (shape.bytes block inside) (shape.values block)))
-outcome_fits g P room (Reserve count next) A shape fit = either_fits g room (nat_le count room) (outcome room next A) (outcome_fits g P room next A shape fit)
-outcome_fits g P zero (Store block spans bytes next) A shape fit = nothing_fits g zero None
-outcome_fits g P (suc room) (Store block spans bytes next) A shape (access, rest) =
+    (inside, span, spans x, fits_on g P (next x y) A shape (rest x y (span_bytes mark (block_at A block) (shape.values block)) (further_are_bytes (further x) (block_at A block) (shape.values block))))
+fits_on g P (LookWhole block next) A shape (inside, rest) = (inside, fits_on g P (next (block_at A block)) A shape (rest (block_at A block) (shape.bytes block inside) (shape.values block)))
+fits_on g P (Reserve count next) A shape fit = fits_on g P next A shape fit
+fits_on g P (Store block spans bytes next) A shape (access, rest) =
+    (access, fits_on g P next (put A (store_access block spans bytes)) (shape_put g A (store_access block spans bytes) shape access) rest)
+
+-- what the program does in a transaction that has room for so many more accesses
+pub outcome_fits : {R : Type 0} (g : Geometry) (P : R → Array → Type 0) (room : ℕ) (p : Program R) (A : Array) → FitsOn g P p A → Fits g room (outcome room p A)
+outcome_fits g P room (Done r) A fit = nothing_fits g room (Some r)
+outcome_fits g P zero (Look block mark further next) A fit = nothing_fits g zero None
+outcome_fits g P (suc room) (Look block mark further next) A (inside, span, other, rest) =
+    let x = bytes_in mark (block_at A block) in
+    let y = further_bytes (further x) (block_at A block) in
+    one_fits g room (look_access block (mark ∷ with_further (further x))) (outcome room (next x y) A) (look_is g block mark (further x) inside span other)
+    (outcome_fits g P room (next x y) A rest)
+outcome_fits g P zero (LookWhole block next) A fit = nothing_fits g zero None
+outcome_fits g P (suc room) (LookWhole block next) A (inside, rest) =
+    one_fits g room (look_access block []) (outcome room (next (block_at A block)) A) (whole_is g block inside) (outcome_fits g P room (next (block_at A block)) A rest)
+outcome_fits g P room (Reserve count next) A fit = either_fits g room (nat_le count room) (outcome room next A) (outcome_fits g P room next A fit)
+outcome_fits g P zero (Store block spans bytes next) A fit = nothing_fits g zero None
+outcome_fits g P (suc room) (Store block spans bytes next) A (access, rest) =
     one_fits g room (store_access block spans bytes) (outcome room next (put A (store_access block spans bytes))) access
-    (outcome_fits g P room next (put A (store_access block spans bytes)) (shape_put g A (store_access block spans bytes) shape access) rest)
+    (outcome_fits g P room next (put A (store_access block spans bytes)) rest)

@@ -1,7 +1,7 @@
 -- What upkeep leaves as it is.
 use Rattle.std.proofs.Common.{◌≡◌, refl, ap, ℕ, ◌==◌, true, false, cond}
 use Rattle.iso_model.specs.declared.script.Op.{Op}
-use Rattle.iso_model.specs.declared.script.Op.TheVariants.{Begin, End, Abort, Put, Read, Get, Write, Fill, Mark, Release, Takeover, Await, Trim, Stat, Compact, Upgrade, HashPut, HashGet, HashDelete}
+use Rattle.iso_model.specs.declared.script.Op.TheVariants.{Begin, End, Abort, Put, Read, Get, Write, Fill, Mark, Release, Takeover, Await, Trim, Stat, Compact, Upgrade, HashPut, HashGet, HashDelete, TreePut, TreeGet, TreeDelete, TreeScan}
 use Rattle.iso_model.specs.declared.script.Reply.{Reply}
 use Rattle.iso_model.specs.declared.script.Reply.TheVariants as reply
 use Rattle.iso_model.specs.declared.limits.TheConstants.{LAST}
@@ -41,6 +41,10 @@ keeps W client (Mark off len) is = absurd is
 keeps W client (HashPut key value) is = absurd is
 keeps W client (HashGet key) is = absurd is
 keeps W client (HashDelete key) is = absurd is
+keeps W client (TreePut key value) is = absurd is
+keeps W client (TreeGet key) is = absurd is
+keeps W client (TreeDelete key) is = absurd is
+keeps W client (TreeScan from to most) is = absurd is
 keeps W client (Release text) is = absurd is
 keeps W client (Takeover text) is = absurd is
 keeps W client (Await text) is = absurd is

@@ -15,21 +15,23 @@ use Rattle.iso_model.specs.declared.access.Span.{Span}
 use Rattle.iso_model.specs.declared.limits.TheConstants.{LAST, MAX_ACCESSES, MAX_LIVE}
 use Rattle.iso_model.specs.declared.script.Line.{Line}
 use Rattle.iso_model.specs.declared.script.Op.{Op}
-use Rattle.iso_model.specs.declared.script.Op.TheVariants.{Begin, End, Abort, Put, Read as ReadBlock, Get, Write as WriteBlock, Fill, Mark, Release, Takeover, Await, Trim, Stat, Compact, Upgrade, HashPut, HashGet, HashDelete}
+use Rattle.iso_model.specs.declared.script.Op.TheVariants.{Begin, End, Abort, Put, Read as ReadBlock, Get, Write as WriteBlock, Fill, Mark, Release, Takeover, Await, Trim, Stat, Compact, Upgrade, HashPut, HashGet, HashDelete, TreePut, TreeGet, TreeDelete, TreeScan}
 use Rattle.iso_model.specs.declared.script.Reply.{Reply}
 use Rattle.iso_model.specs.declared.script.Reply.TheVariants as reply
 use Rattle.iso_model.specs.declared.stores.StoreError.{StoreError}
 use Rattle.iso_model.specs.Conflict.{clash}
 use Rattle.iso_model.specs.Effect.{has_write, runs, record_length}
 use Rattle.iso_model.specs.Geometry.{is_serial, same_mode}
-use Rattle.iso_model.specs.HashCalls.{del_program, get_program, put_program}
+use Rattle.iso_model.specs.HashCalls.{del_program, get_program, put_program, is_key}
 use Rattle.iso_model.specs.History.{History, array_at, last}
 use Rattle.iso_model.specs.Image.{IsRecord, written}
-use Rattle.iso_model.specs.Premises.{IsAccess, AreAccesses, AreBytes}
+use Rattle.iso_model.specs.Premises.{IsAccess, AreAccesses, AreBytes, HasShape}
 use Rattle.iso_model.specs.Script.{after}
 use Rattle.iso_model.specs.Marks.{is_outside, marked, mark_fault}
-use Rattle.iso_model.specs.Step.{step, begin_step, access_step, put_step, read_step, get_step, write_step, fill_step, mark_step, marked_step, release_step, takeover_step, switch_step, commit_step, end_step, put_access, read_access, get_access, write_access, with_access, with_accesses, placed, shown_to, after_leaving, after_commit, after_begin, after_trim, mode_named, need, out_of_transaction, in_transaction, array_of, store_step, in_store, hash_area, hash_put_step, hash_get_step, hash_delete_step, found_reply, removed_reply}
+use Rattle.iso_model.specs.Step.{step, begin_step, access_step, put_step, read_step, get_step, write_step, fill_step, mark_step, marked_step, release_step, takeover_step, switch_step, commit_step, end_step, put_access, read_access, get_access, write_access, with_access, with_accesses, placed, shown_to, after_leaving, after_commit, after_begin, after_trim, mode_named, need, out_of_transaction, in_transaction, array_of, store_step, in_store, hash_area, hash_put_step, hash_get_step, hash_delete_step, found_reply, removed_reply, pairs_reply, tree_area, tree_put_step, tree_get_step, tree_delete_step, tree_scan_step}
 use Rattle.iso_model.specs.Stores.{Program, outcome}
+use Rattle.iso_model.specs.TreeCalls as tree
+use Rattle.iso_model.specs.TreeCalls.{scan_program}
 use Rattle.iso_model.specs.Text.{is_label}
 use Rattle.iso_model.specs.World.{World, Live, Place, client, label, used, fresh, attached, held, floor, without, with, is_at_client, is_under_label}
 use Rattle.iso_model.specs.Worlds.{MayHave, IsLive, AreRecords, AreApart, AreTwo, AreDistinct, IsPlace, Extends, KeepsGeometry, IsOp, AreLines, IsWorld, LeadsTo}
@@ -44,7 +46,8 @@ use Rattle.iso_model.proofs.HashAccesses.{IsIn, del_fits, get_fits, hash_area_is
 use Rattle.iso_model.proofs.Isolation.{stays_isolated}
 use Rattle.iso_model.proofs.Maximal.{are_runs}
 use Rattle.iso_model.proofs.Recorded.{array_shape, own_shape}
-use Rattle.iso_model.proofs.StoreAccesses.{AllFit, outcome_fits}
+use Rattle.iso_model.proofs.StoreAccesses.{AllFit, FitsOn, fits_on, outcome_fits}
+use Rattle.iso_model.proofs.TreeAccesses.{IsTreeIn, tree_area_is, tree_del_fits, tree_get_fits, tree_put_fits, tree_scan_fits}
 use Rattle.iso_model.proofs.Written.{runs_where_write}
 use Rattle.iso_model.proofs.Accesses.{get_is_access, inside_block, length-marked, marked_are, put_is_access, read_is_access, write_is_access}
 
@@ -179,14 +182,14 @@ all_append : {X : Type 0} (P : X → Type 0) (xs ys : List X) → AllByRecursion
 all_append P [] ys first second = second
 all_append P (x ∷ xs) ys first second = (first.0, all_append P xs ys first.1 second)
 
--- a call of a store, whatever bytes it reads
+-- a call of a store, on the array that the transaction is shown
 store_leads : {R : Type 0} (W : World) (c : ℕ) (t : Live) (program : Program (Result R StoreError)) (answer : R → Reply) → IsWorld W → attached W c ≡ Some t → IsLive W t
-    → AllFit W.geometry (λ r. Unit {0}) program → LeadsTo W (store_step W t program answer).1
+    → (HasShape W.geometry (array_of W t) → FitsOn W.geometry (λ r B. Unit {0}) program (array_of W t)) → LeadsTo W (store_step W t program answer).1
 unfolding store_step
 store_leads W c t program answer is found live fit =
     let ended = outcome (MAX_ACCESSES - length t.accesses) program (array_of W t) in
     let shape = own_shape W.geometry (array_at W.history t.begin) t.accesses live.accesses (array_shape W.geometry W.history t.begin is.history) in
-    let fits = outcome_fits W.geometry (λ r. Unit {0}) (MAX_ACCESSES - length t.accesses) program (array_of W t) shape fit in
+    let fits = outcome_fits W.geometry (λ r B. Unit {0}) (MAX_ACCESSES - length t.accesses) program (array_of W t) (fit shape) in
     let few : length t.accesses ≤ MAX_ACCESSES = live.count in
     accesses_are W c t (t.accesses ++ ended.0) is found live (omega (arith, length-append t.accesses ended.0, fits.count, few))
     (all_append (IsAccess W.geometry) t.accesses ended.0 live.accesses fits.accesses)
@@ -251,29 +254,68 @@ begin_leads W place mode is at apart =
     chosen W (nat_lt LAST W.next) _ _ (stays W is) (λ fresh.
     begins W place mode is (may_have W.geometry mode test) (leb-false MAX_LIVE (length W.live) few) (ltb-false LAST W.next fresh) at apart)))
 
+-- a call of a store that is there, in a transaction that is serial
+in_store_leads : (W : World) (t : Live) (blocks : ℕ) (result : Reply × World) → IsWorld W → (blocks ≢ 0 → LeadsTo W result.1) → LeadsTo W (in_store W t blocks result).1
+in_store_leads W t blocks result is leads =
+    chosen W (blocks == 0) _ _ (stays W is) (λ some.
+    chosen W (is_serial t.mode) _ _ (leads (eqb-false blocks 0 some)) (λ snapshot. stays W is))
+
 -- a call of the hash store
-hash_leads : (W : World) (t : Live) (result : Reply × World) → IsWorld W → (IsIn W.geometry (hash_area W.geometry) → LeadsTo W result.1) → LeadsTo W (in_store W t W.geometry.hash result).1
-hash_leads W t result is leads =
+hash_leads : {R : Type 0} (W : World) (c : ℕ) (t : Live) (program : Program (Result R StoreError)) (answer : R → Reply) → IsWorld W → attached W c ≡ Some t → IsLive W t
+    → (IsIn W.geometry (hash_area W.geometry) → AllFit W.geometry (λ r. Unit {0}) program) → LeadsTo W (in_store W t W.geometry.hash (store_step W t program answer)).1
+hash_leads W c t program answer is found live fit =
     let bounds = limits W.geometry is.valid in
-    chosen W (W.geometry.hash == 0) _ _ (stays W is) (λ some.
-    chosen W (is_serial t.mode) _ _
-    (leads (record { area = hash_area_is W.geometry is.valid (eqb-false W.geometry.hash 0 some); size = refl; fits = omega (arith, bounds.regions) }))
-    (λ snapshot. stays W is))
+    in_store_leads W t W.geometry.hash _ is (λ some.
+    store_leads W c t program answer is found live (λ shape. fits_on W.geometry (λ r. Unit {0}) program (array_of W t) shape
+    (fit (record { area = hash_area_is W.geometry is.valid some; size = refl; fits = omega (arith, bounds.regions) }))))
 
 hash_put_leads : (W : World) (c : ℕ) (t : Live) (key value : List ℕ) → IsWorld W → AreBytes key → AreBytes value → attached W c ≡ Some t → IsLive W t → LeadsTo W (hash_put_step W t key value).1
 unfolding hash_put_step
 hash_put_leads W c t key value is key_values value_values found live =
-    hash_leads W t _ is (λ there. store_leads W c t (put_program (hash_area W.geometry) key value) _ is found live (put_fits W.geometry (hash_area W.geometry) there key value key_values value_values))
+    hash_leads W c t (put_program (hash_area W.geometry) key value) _ is found live (λ there. put_fits W.geometry (hash_area W.geometry) there key value key_values value_values)
 
 hash_get_leads : (W : World) (c : ℕ) (t : Live) (key : List ℕ) → IsWorld W → attached W c ≡ Some t → IsLive W t → LeadsTo W (hash_get_step W t key).1
 unfolding hash_get_step
 hash_get_leads W c t key is found live =
-    hash_leads W t _ is (λ there. store_leads W c t (get_program (hash_area W.geometry) key) found_reply is found live (get_fits W.geometry (hash_area W.geometry) there key))
+    hash_leads W c t (get_program (hash_area W.geometry) key) found_reply is found live (λ there. get_fits W.geometry (hash_area W.geometry) there key)
 
 hash_delete_leads : (W : World) (c : ℕ) (t : Live) (key : List ℕ) → IsWorld W → attached W c ≡ Some t → IsLive W t → LeadsTo W (hash_delete_step W t key).1
 unfolding hash_delete_step
 hash_delete_leads W c t key is found live =
-    hash_leads W t _ is (λ there. store_leads W c t (del_program (hash_area W.geometry) key) removed_reply is found live (del_fits W.geometry (hash_area W.geometry) there key))
+    hash_leads W c t (del_program (hash_area W.geometry) key) removed_reply is found live (λ there. del_fits W.geometry (hash_area W.geometry) there key)
+
+-- a call of the tree store
+tree_leads : {R : Type 0} (W : World) (c : ℕ) (t : Live) (program : Program (Result R StoreError)) (answer : R → Reply) → IsWorld W → W.geometry.tree ≢ 0 → attached W c ≡ Some t → IsLive W t
+    → (IsTreeIn W.geometry (tree_area W.geometry) (array_of W t) → FitsOn W.geometry (λ r B. Unit {0}) program (array_of W t)) → LeadsTo W (store_step W t program answer).1
+tree_leads W c t program answer is some found live fit =
+    let bounds = limits W.geometry is.valid in
+    store_leads W c t program answer is found live (λ shape.
+    fit (record { area = tree_area_is W.geometry is.valid some; size = refl; fits = bounds.regions; shape = shape }))
+
+tree_put_leads : (W : World) (c : ℕ) (t : Live) (key value : List ℕ) → IsWorld W → AreBytes key → AreBytes value → attached W c ≡ Some t → IsLive W t → LeadsTo W (tree_put_step W t key value).1
+unfolding tree_put_step
+tree_put_leads W c t key value is key_values value_values found live =
+    in_store_leads W t W.geometry.tree _ is (λ some. tree_leads W c t (tree.put_program (tree_area W.geometry) key value) _ is some found live
+    (λ there. tree_put_fits W.geometry (tree_area W.geometry) (array_of W t) there key value key_values value_values))
+
+tree_get_leads : (W : World) (c : ℕ) (t : Live) (key : List ℕ) → IsWorld W → attached W c ≡ Some t → IsLive W t → LeadsTo W (tree_get_step W t key).1
+unfolding tree_get_step
+tree_get_leads W c t key is found live =
+    in_store_leads W t W.geometry.tree _ is (λ some. tree_leads W c t (tree.get_program (tree_area W.geometry) key) found_reply is some found live
+    (λ there. tree_get_fits W.geometry (tree_area W.geometry) (array_of W t) there key))
+
+tree_delete_leads : (W : World) (c : ℕ) (t : Live) (key : List ℕ) → IsWorld W → attached W c ≡ Some t → IsLive W t → LeadsTo W (tree_delete_step W t key).1
+unfolding tree_delete_step
+tree_delete_leads W c t key is found live =
+    in_store_leads W t W.geometry.tree _ is (λ some. tree_leads W c t (tree.del_program (tree_area W.geometry) key) removed_reply is some found live
+    (λ there. tree_del_fits W.geometry (tree_area W.geometry) (array_of W t) there key))
+
+tree_scan_leads : (W : World) (c : ℕ) (t : Live) (from to : List ℕ) (most : ℕ) → IsWorld W → attached W c ≡ Some t → IsLive W t → LeadsTo W (tree_scan_step W t from to most).1
+unfolding tree_scan_step
+tree_scan_leads W c t from to most is found live =
+    in_store_leads W t W.geometry.tree _ is (λ some. chosen W (is_key from && is_key to && (most == 0)) _ _ (stays W is)
+    (λ good. tree_leads W c t (scan_program (tree_area W.geometry) from to most) pairs_reply is some found live
+    (λ there. tree_scan_fits W.geometry (tree_area W.geometry) (array_of W t) there from to most)))
 
 -- an access that is there once it is not refused
 access_leads : (W : World) (c : ℕ) (t : Live) (block : ℕ) (is_wrong : Bool) (answer : Reply) (a : Access) → IsWorld W → attached W c ≡ Some t → IsLive W t
@@ -551,6 +593,14 @@ step_leads W c (HashGet key) is good =
     in_leads W (attached W c) (λ t. hash_get_step W t key) is (λ t found. hash_get_leads W c t key is found (live_at W c t is found))
 step_leads W c (HashDelete key) is good =
     in_leads W (attached W c) (λ t. hash_delete_step W t key) is (λ t found. hash_delete_leads W c t key is found (live_at W c t is found))
+step_leads W c (TreePut key value) is good =
+    in_leads W (attached W c) (λ t. tree_put_step W t key value) is (λ t found. tree_put_leads W c t key value is good.0 good.1 found (live_at W c t is found))
+step_leads W c (TreeGet key) is good =
+    in_leads W (attached W c) (λ t. tree_get_step W t key) is (λ t found. tree_get_leads W c t key is found (live_at W c t is found))
+step_leads W c (TreeDelete key) is good =
+    in_leads W (attached W c) (λ t. tree_delete_step W t key) is (λ t found. tree_delete_leads W c t key is found (live_at W c t is found))
+step_leads W c (TreeScan from to most) is good =
+    in_leads W (attached W c) (λ t. tree_scan_step W t from to most) is (λ t found. tree_scan_leads W c t from to most is found (live_at W c t is found))
 
 -- all lines
 pub after_leads : (W : World) (lines : List (ℕ × Line)) → IsWorld W → AreLines lines → LeadsTo W (after W lines)

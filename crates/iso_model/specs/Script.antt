@@ -5,7 +5,7 @@ use Rattle.iso_model.specs.declared.limits.TheConstants.{MAX_INPUT, MAX_LINE}
 use Rattle.iso_model.specs.declared.script.BadLine.{BadLine}
 use Rattle.iso_model.specs.declared.script.Line.{Line}
 use Rattle.iso_model.specs.declared.script.Op.{Op}
-use Rattle.iso_model.specs.declared.script.Op.TheVariants.{Begin, End, Abort, Put, Read, Get, Write, Fill, Mark, Release, Takeover, Await, Trim, Stat, Compact, Upgrade, HashPut, HashGet, HashDelete}
+use Rattle.iso_model.specs.declared.script.Op.TheVariants.{Begin, End, Abort, Put, Read, Get, Write, Fill, Mark, Release, Takeover, Await, Trim, Stat, Compact, Upgrade, HashPut, HashGet, HashDelete, TreePut, TreeGet, TreeDelete, TreeScan}
 use Rattle.iso_model.specs.declared.script.Parsed.{Parsed}
 use Rattle.iso_model.specs.declared.script.Parsed.TheVariants.{Skip, Line as Says}
 use Rattle.iso_model.specs.Step.{step}
@@ -126,13 +126,31 @@ key_and_value op (key ∷ value ∷ []) = do
   Ok (op k v)
 key_and_value op words = Err 3
 
+-- two keys and a number
+abbrev pub scan_arguments : List (List ℕ) → Result Op ℕ
+scan_arguments (from ∷ to ∷ most ∷ []) = do
+  f ← store_argument from
+  t ← store_argument to
+  n ← number_argument most
+  Ok (TreeScan f t n)
+scan_arguments words = Err 3
+
+-- the operation on the tree store of this name
+unfoldable pub tree_operation : (name : List ℕ) → (arguments : List (List ℕ)) → Result Op ℕ
+tree_operation name arguments =
+    if bytes_eq name (codes "tput") then key_and_value TreePut arguments
+    else if bytes_eq name (codes "tget") then one_key TreeGet arguments
+    else if bytes_eq name (codes "tdel") then one_key TreeDelete arguments
+    else if bytes_eq name (codes "tscan") then scan_arguments arguments
+    else Err 2
+
 -- the operation on a store of this name
 unfoldable pub store_operation : (name : List ℕ) → (arguments : List (List ℕ)) → Result Op ℕ
 store_operation name arguments =
     if bytes_eq name (codes "hput") then key_and_value HashPut arguments
     else if bytes_eq name (codes "hget") then one_key HashGet arguments
     else if bytes_eq name (codes "hdel") then one_key HashDelete arguments
-    else Err 2
+    else tree_operation name arguments
 
 -- the operation of this name, if it is none of a transaction's accesses, its begin and its end
 unfoldable pub other_operation : (name : List ℕ) → (arguments : List (List ℕ)) → Result Op ℕ

@@ -9,7 +9,7 @@ use Rattle.iso_model.specs.declared.access.Span.{Span}
 use Rattle.iso_model.specs.declared.script.Op.{Op}
 use Rattle.iso_model.specs.declared.access.MarkError.{MarkError}
 use Rattle.iso_model.specs.declared.access.MarkError.TheVariants as mark
-use Rattle.iso_model.specs.declared.script.Op.TheVariants.{Begin, End, Abort, Put, Read as ReadBlock, Get, Write as WriteBlock, Fill, Mark, Release, Takeover, Await, Trim, Stat, Compact, Upgrade, HashPut, HashGet, HashDelete}
+use Rattle.iso_model.specs.declared.script.Op.TheVariants.{Begin, End, Abort, Put, Read as ReadBlock, Get, Write as WriteBlock, Fill, Mark, Release, Takeover, Await, Trim, Stat, Compact, Upgrade, HashPut, HashGet, HashDelete, TreePut, TreeGet, TreeDelete, TreeScan}
 use Rattle.iso_model.specs.declared.script.Reply.{Reply}
 use Rattle.iso_model.specs.declared.script.Reply.TheVariants as reply
 use Rattle.iso_model.specs.declared.limits.TheConstants.{LAST, MAX_ACCESSES, MAX_LIVE}
@@ -20,10 +20,12 @@ use Rattle.iso_model.specs.Array.{Array}
 use Rattle.iso_model.specs.Conflict.{clash}
 use Rattle.iso_model.specs.Geometry.{is_serial, same_mode}
 use Rattle.iso_model.specs.Effect.{has_write, own, record_length, runs}
-use Rattle.iso_model.specs.HashCalls.{del_program, get_program, put_program}
+use Rattle.iso_model.specs.HashCalls.{del_program, get_program, put_program, is_key}
 use Rattle.iso_model.specs.History.{array_at, last, shown_block}
 use Rattle.iso_model.specs.Marks.{is_outside, mark_fault, marked}
 use Rattle.iso_model.specs.Stores.{Program, outcome}
+use Rattle.iso_model.specs.TreeCalls as tree
+use Rattle.iso_model.specs.TreeCalls.{scan_program}
 use Rattle.iso_model.specs.Versions.{versions}
 use Rattle.iso_model.specs.World.{World, Live, Place, client, label, attached, held, floor, without, with, used}
 
@@ -179,6 +181,10 @@ in_store W t blocks result =
 abbrev pub hash_area : Geometry → Area
 hash_area g = record { size = g.block; start = 0; blocks = g.hash }
 
+-- where the tree store is: behind the hash store
+abbrev pub tree_area : Geometry → Area
+tree_area g = record { size = g.block; start = g.hash; blocks = g.tree }
+
 -- what a look-up and a removal answer
 abbrev pub found_reply : Option (List ℕ) → Reply
 found_reply None = reply.Missing
@@ -196,6 +202,27 @@ hash_get_step W t key = in_store W t W.geometry.hash (store_step W t (get_progra
 
 unfoldable pub hash_delete_step : World → Live → (key : List ℕ) → Reply × World
 hash_delete_step W t key = in_store W t W.geometry.hash (store_step W t (del_program (hash_area W.geometry) key) removed_reply)
+
+unfoldable pub tree_put_step : World → Live → (key value : List ℕ) → Reply × World
+tree_put_step W t key value = in_store W t W.geometry.tree (store_step W t (tree.put_program (tree_area W.geometry) key value) (λ done. reply.Done))
+
+unfoldable pub tree_get_step : World → Live → (key : List ℕ) → Reply × World
+tree_get_step W t key = in_store W t W.geometry.tree (store_step W t (tree.get_program (tree_area W.geometry) key) found_reply)
+
+unfoldable pub tree_delete_step : World → Live → (key : List ℕ) → Reply × World
+tree_delete_step W t key = in_store W t W.geometry.tree (store_step W t (tree.del_program (tree_area W.geometry) key) removed_reply)
+
+-- what a scan answers
+abbrev pub pairs_reply : List (List ℕ × List ℕ) → Reply
+pairs_reply [] = reply.Missing
+pairs_reply (pair ∷ pairs) = reply.Pairs (pair ∷ pairs)
+
+-- a scan, which is to find at least one pair at most
+unfoldable pub tree_scan_step : World → Live → (from to : List ℕ) → (most : ℕ) → Reply × World
+tree_scan_step W t from to most =
+    in_store W t W.geometry.tree
+    (if is_key from && is_key to && (most == 0) then (reply.BadRange, W)
+    else store_step W t (scan_program (tree_area W.geometry) from to most) pairs_reply)
 
 -- the end of a transaction with a write, once its least clash is known
 unfoldable pub commit_step : World → Live → Option Clash → Reply × World
@@ -267,3 +294,7 @@ step W c Upgrade = switch_step W 2 (reply.Upgraded (floor W))
 step W c (HashPut key value) = in_transaction W (attached W c) (λ t. hash_put_step W t key value)
 step W c (HashGet key) = in_transaction W (attached W c) (λ t. hash_get_step W t key)
 step W c (HashDelete key) = in_transaction W (attached W c) (λ t. hash_delete_step W t key)
+step W c (TreePut key value) = in_transaction W (attached W c) (λ t. tree_put_step W t key value)
+step W c (TreeGet key) = in_transaction W (attached W c) (λ t. tree_get_step W t key)
+step W c (TreeDelete key) = in_transaction W (attached W c) (λ t. tree_delete_step W t key)
+step W c (TreeScan from to most) = in_transaction W (attached W c) (λ t. tree_scan_step W t from to most)

@@ -4,7 +4,7 @@ use Rattle.std.specs.List.{list_all}
 use Rattle.iso_model.specs.declared.access.Mode.{Mode}
 use Rattle.iso_model.specs.declared.access.Mode.TheVariants.{Serial, Snapshot}
 use Rattle.iso_model.specs.declared.script.Reply.{Reply}
-use Rattle.iso_model.specs.declared.script.Reply.TheVariants.{Done, Began, Shown, Committed, ReadOnly, Conflict, Trimmed, Compacted, Upgraded, Numbers, Found, Missing, InTx, NotInTx, ModeFixed, NoStore, StoreMode, BadKey, BadValue, BadBlock, BadRange, NoAccess, TooManyMarks, TooManyAccesses, Broken, NoBlocks, NoHandle, LabelTaken, TooManyTx, Worn, LogFull}
+use Rattle.iso_model.specs.declared.script.Reply.TheVariants.{Done, Began, Shown, Committed, ReadOnly, Conflict, Trimmed, Compacted, Upgraded, Numbers, Found, Pairs, Missing, InTx, NotInTx, ModeFixed, NoStore, StoreMode, BadKey, BadValue, BadBlock, BadRange, NoAccess, TooManyMarks, TooManyAccesses, Broken, NoBlocks, NoHandle, LabelTaken, TooManyTx, Worn, LogFull}
 
 -- the byte before the first piece
 abbrev pub before_piece : ℕ → List (List ℕ) → List (List ℕ)
@@ -96,6 +96,10 @@ abbrev pub dashed : List ℕ → List ℕ
 dashed [] = codes "-"
 dashed (b ∷ bytes) = hex_text (b ∷ bytes)
 
+-- a pair of a store behind a space
+abbrev pub pair_text : List ℕ × List ℕ → List ℕ
+pair_text pair = 32 ∷ dashed pair.0 ++ 61 ∷ dashed pair.1
+
 -- what a reply says
 unfoldable pub reply_text : Reply → List ℕ
 reply_text Done = codes "ok"
@@ -111,6 +115,7 @@ reply_text (Numbers last base trim live used versions) =
     codes "ok last " ++ decimal last ++ codes " base " ++ decimal base ++ codes " trim " ++ decimal trim
     ++ codes " live " ++ decimal live ++ codes " used " ++ decimal used ++ codes " versions " ++ decimal versions
 reply_text (Found value) = codes "ok " ++ dashed value
+reply_text (Pairs pairs) = codes "ok" ++ flat_map pair_text pairs
 reply_text Missing = codes "ok none"
 reply_text InTx = codes "in-tx"
 reply_text NotInTx = codes "not-in-tx"

@@ -6,7 +6,7 @@ use Rattle.iso_model.specs.declared.access.Geometry.{Geometry}
 use Rattle.iso_model.specs.declared.access.Mode.{Mode}
 use Rattle.iso_model.specs.declared.script.Line.{Line}
 use Rattle.iso_model.specs.declared.script.Op.{Op}
-use Rattle.iso_model.specs.declared.script.Op.TheVariants.{Begin, End, Abort, Put, Read, Get, Write, Fill, Mark, Release, Takeover, Await, Trim, Stat, Compact, Upgrade, HashPut, HashGet, HashDelete}
+use Rattle.iso_model.specs.declared.script.Op.TheVariants.{Begin, End, Abort, Put, Read, Get, Write, Fill, Mark, Release, Takeover, Await, Trim, Stat, Compact, Upgrade, HashPut, HashGet, HashDelete, TreePut, TreeGet, TreeDelete, TreeScan}
 use Rattle.iso_model.specs.declared.limits.TheConstants.{LAST, MAX_ACCESSES, MAX_LIVE}
 use Rattle.iso_model.specs.Geometry.{is_valid}
 use Rattle.iso_model.specs.History.{History, last}
@@ -116,6 +116,10 @@ IsOp Upgrade = Unit {0}
 IsOp (HashPut key value) = AreBytes key × AreBytes value
 IsOp (HashGet key) = Unit {0}
 IsOp (HashDelete key) = Unit {0}
+IsOp (TreePut key value) = AreBytes key × AreBytes value
+IsOp (TreeGet key) = Unit {0}
+IsOp (TreeDelete key) = Unit {0}
+IsOp (TreeScan from to most) = Unit {0}
 
 -- lines of such operations
 abbrev pub AreLines : List (ℕ × Line) → Type 0

@@ -1,6 +1,7 @@
 // The one implementation of the list types. Contracts see a list of items.
-ghost use Rattle.std.specs.Prelude.{◌≡◌, ◌==◌, [], ◌∷◌, ◌++◌, length, OnOk, OnErr, option_copied, slice_get};
+ghost use Rattle.std.specs.Prelude.{◌≡◌, ◌≤◌, ◌==◌, [], ◌∷◌, ◌++◌, length, IfErr, IfOk, OnOk, OnErr, option_copied, slice_get};
 
+use crate::reserved::Reserved;
 use crate::{Access, Memory, Span};
 use std::alloc::Global;
 use std::marker::Model;
@@ -46,12 +47,25 @@ impl<T> Items<T> {
     }
 
     /// Makes room for so many more items, so that adding them takes no memory. The items stay. Contracts do not see the
-    /// room of a list that is data of the model; those of `Reserved` do.
+    /// room of a list that is data of the model; with `with_room` they do.
     pub fn reserve(&mut self, more: u32) -> Result<(), Memory>
         ensures { self.new ≡ self.old }
     {
         self.items.reserve(more as usize)?;
         Ok(())
+    }
+
+    /// The list with room for so many more items, within which a push takes no memory; `into_items` is the way back. Without
+    /// memory the list is handed back.
+    pub fn with_room(self, more: u32) -> Result<Reserved<T>, Items<T>>
+        ensures ok { IfOk result (λ r. (r.items ≡ self) × (more ≤ r.room)) }
+        ensures err { IfErr result (λ list. list ≡ self) }
+    {
+        let Items { mut items } = self;
+        match items.reserve(more as usize) {
+            Ok(()) => Ok(Reserved::of(items)),
+            Err(_) => Err(Items { items }),
+        }
     }
 
     /// Adds an item at the end. Without memory the list stays as it is.

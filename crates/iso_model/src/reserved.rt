@@ -1,5 +1,5 @@
 // A list with room that was made before it is needed.
-ghost use Rattle.std.specs.Prelude.{◌≡◌, ◌+◌, ◌-◌, ◌<◌, ◌≤◌, ◌==◌, ◌↔◌, [], ◌∷◌, ◌++◌, length, take, IsOk, IsSome, OnOk, OnErr, option_copied, slice_get};
+ghost use Rattle.std.specs.Prelude.{◌≡◌, ◌+◌, ◌-◌, ◌<◌, ◌≤◌, ◌==◌, ◌↔◌, [], ◌∷◌, ◌++◌, length, take, IsOk, IsSome, OnOk, OnErr, option_copied, slice_get, vec_capacity, vec_len};
 ghost use Rattle.std.specs.Borrow.{sem};
 ghost use Rattle.std.specs.List.{IsItemAtMut, ItemMut};
 ghost use Rattle.std.specs.Option.{option_to_list};
@@ -35,6 +35,13 @@ impl<T> Reserved<T> {
         Reserved {
             items: Vec::new(alloc),
         }
+    }
+
+    // The items of a vector, and the room that it has.
+    pub(crate) fn of(items: Vec<T>) -> Self
+        ensures { result ≡ record { items = items.items; room = vec_capacity items - vec_len items } }
+    {
+        Reserved { items }
     }
 
     /// Makes room for so many more items. Where there is room for them already it takes no memory.

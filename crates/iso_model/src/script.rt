@@ -1,6 +1,6 @@
 // The operations of a script, its lines and the replies. Operations that are added later are further variants.
 
-use crate::{Bytes, Clash, Label, Mode};
+use crate::{Bytes, Clash, Label, Mode, PairList};
 
 /// What a client asks for.
 #[derive(Debug, Drop)]
@@ -41,6 +41,14 @@ pub enum Op {
     HashGet { key: Bytes },
     /// Removes a key of the hash store.
     HashDelete { key: Bytes },
+    /// Puts a value at a key of the tree store.
+    TreePut { key: Bytes, value: Bytes },
+    /// The value of a key of the tree store.
+    TreeGet { key: Bytes },
+    /// Removes a key of the tree store.
+    TreeDelete { key: Bytes },
+    /// The first pairs of the tree store from one key on and before another, at most so many.
+    TreeScan { from: Bytes, to: Bytes, most: u32 },
 }
 
 /// A line of a script: an operation of a client, 1 to 64.
@@ -95,7 +103,9 @@ pub enum Reply {
     },
     /// The value of a key of a store.
     Found(Bytes),
-    /// A store has no such key.
+    /// Pairs of the tree store, at least one.
+    Pairs(PairList),
+    /// A store has no such key, or no key of the range.
     Missing,
     InTx,
     NotInTx,

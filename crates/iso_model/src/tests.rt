@@ -21,6 +21,23 @@ fn items_stand_in_order(rt: HostRuntime) -> Result<(), Fail> {
 }
 
 #[test]
+fn a_list_gets_room_and_keeps_its_items(rt: HostRuntime) -> Result<(), Fail> {
+    let alloc = rt.alloc();
+    let list = Items::of(Vec::from_slice(alloc, &[1u32, 2])?);
+    match list.with_room(2) {
+        Ok(mut list) => {
+            assert!(rt; list.room() >= 2);
+            list.push(3)?;
+            list.push(4)?;
+            let items = list.into_items();
+            assert_eq!(rt; items.as_slice(), [1, 2, 3, 4].as_slice());
+        }
+        Err(_) => assert!(rt; false),
+    }
+    Ok(())
+}
+
+#[test]
 fn parts_keep_a_copy_of_their_bytes(rt: HostRuntime) -> Result<(), Fail> {
     let alloc = rt.alloc();
     let mut parts = PartList::empty(alloc);

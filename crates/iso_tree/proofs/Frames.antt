@@ -10,7 +10,7 @@ use Rattle.iso_model.specs.Stores.{bytes_in}
 use Rattle.iso_model.specs.Cells.{is_zero, is_part, text_of, part_of, laid_at}
 use Rattle.iso_model.proofs.Bytes.{length-merged, merged_at, merged_kept}
 use Rattle.tx_blocks.proofs.Programs.{same_bytes}
-use Rattle.iso_alloc.proofs.Laying.{length-laid_at}
+use Rattle.iso_model.proofs.Laying.{length-laid_at}
 
 -- spans that stand apart
 abbrev pub AreApart : Span → Span → Type 0

@@ -59,3 +59,5 @@ pub mod ScanNodes
 pub mod ScanTrees
 pub mod Sorted
 pub mod ScanCalls
+pub mod Visiting
+pub mod Scanning

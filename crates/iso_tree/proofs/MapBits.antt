@@ -13,7 +13,8 @@ use Rattle.iso_model.specs.Cells.{laid_at}
 use Rattle.iso_model.specs.FreeMap.{map_bytes, map_mark, bit_place, map_bit, set_bit, with_bit}
 use Rattle.iso_model.proofs.Bytes.{merged_at}
 use Rattle.iso_alloc.proofs.Bits.{with_bits}
-use Rattle.iso_alloc.proofs.Laying.{length-laid_at, laid_here}
+use Rattle.iso_alloc.proofs.Laying.{laid_here}
+use Rattle.iso_model.proofs.Laying.{length-laid_at}
 use Rattle.iso_tree.specs.FirstBlock.{Up, first_spans, first_bytes}
 use Rattle.iso_model.specs.TreeNodes.{head_mark}
 use Rattle.iso_model.specs.TreeCalls.{with_used, last_of, changed_mark, changed_map}

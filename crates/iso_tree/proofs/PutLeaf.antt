@@ -17,7 +17,8 @@ use Rattle.iso_model.specs.Premises.{block_at}
 use Rattle.iso_model.specs.Stores.{bytes_in, store_access}
 use Rattle.iso_model.specs.Cells.{cell_count, keys_end, keys_mark, value_mark, is_zero, is_part, text_of, value_part, key_at, block_with}
 use Rattle.iso_model.proofs.Bytes.{length-block_put, written_block, other_block}
-use Rattle.iso_alloc.proofs.Laying.{length-laid_at, laid_here}
+use Rattle.iso_alloc.proofs.Laying.{laid_here}
+use Rattle.iso_model.proofs.Laying.{length-laid_at}
 use Rattle.iso_model.specs.TreeNodes.{Cell, FitCells, IsBlock, count_of, is_node, cell_of, cells_by, node_bytes}
 use Rattle.iso_model.specs.Trees.{in_range, Rise, RiseAfter, put_after}
 use Rattle.iso_model.specs.TreeRegion.{cells_in, root_of, level_of, IsNode, IsTreeArea, IsTreeRegion, tree_pairs, tree_map}

@@ -17,7 +17,7 @@ use Rattle.iso_model.specs.Premises.{block_at}
 use Rattle.iso_model.specs.Stores.{Program, Done, Store, bytes_in, further_bytes, store_access, then_do, accesses_of, answer_of, IsLocal}
 use Rattle.iso_model.specs.Cells.{cell_count, keys_end, keys_mark, value_mark, value_part, block_with}
 use Rattle.iso_model.specs.FreeMap.{map_bytes, map_mark, free_count}
-use Rattle.iso_alloc.proofs.Laying.{length-laid_at}
+use Rattle.iso_model.proofs.Laying.{length-laid_at}
 use Rattle.tx_blocks.specs.Tx.{Tx, IsTx}
 use Rattle.tx_blocks.specs.Runs.{HasRun, IsLocalCall}
 use Rattle.tx_blocks.proofs.Programs.{AreWhole, accesses_then, own_reads, whole_reads, local_from}

@@ -28,7 +28,7 @@ pub take_nil : {X : Type 0} (n : ℕ) → ◌≡◌ {A = List X} (take n []) []
 take_nil zero = refl
 take_nil (suc n) = refl
 
-take_zero : {X : Type 0} (xs : List X) → ◌≡◌ {A = List X} (take 0 xs) []
+pub take_zero : {X : Type 0} (xs : List X) → ◌≡◌ {A = List X} (take 0 xs) []
 take_zero [] = refl
 take_zero (x ∷ xs) = refl
 

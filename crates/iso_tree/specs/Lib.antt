@@ -1,4 +1,5 @@
 pub mod Walks
 pub mod Rows
 pub mod FirstBlock
+pub mod Visits
 pub mod Ready

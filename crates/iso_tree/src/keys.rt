@@ -97,7 +97,7 @@ fn are_cells(size: usize, keys: &[u8], count: usize) -> bool
 }
 
 /// Whether head and key parts are those of a node of this level.
-#[tactic(auto, unfolding(crate::specs::Nodes::is_node))]
+#[tactic(auto, unfolding(iso_model::specs::TreeNodes::is_node))]
 pub fn is_node(size: usize, level: u8, keys: &[u8]) -> bool
     requires size { 256 ≤ size }
     requires keys { length keys.now ≡ keys_end size }

@@ -15,12 +15,16 @@ mod leaf;
 mod lookup;
 mod node;
 mod path;
+mod range;
 mod remove;
 #[cfg(test)]
 mod tests;
+mod unread;
+mod visit;
 mod whole;
 
 pub use insert::put;
 pub use lookup::get;
 pub use node::NodeView;
+pub use range::scan;
 pub use remove::del;

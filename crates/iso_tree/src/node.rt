@@ -37,6 +37,15 @@ fn keys_of(block: &[u8]) -> &[u8]
     piece(block, 0, 64 + 31 * cell_count(block.len()))
 }
 
+/// Whether a value part names a block of a region of so many, but the first.
+pub fn is_child(blocks: u32, part: &[u8]) -> bool
+    requires { length part.now ≡ 33 }
+    ensures { result ≡ is_child blocks part.now }
+{
+    let child = word_at(part, 1);
+    part[0] == 4 && 1 <= child && child < blocks && are_zero(&part[5..])
+}
+
 impl<'a> NodeView<'a> {
     /// The node of a region at a level; none exactly where head and key parts are not well formed for that level.
     pub fn of(block: &'a [u8], level: u8, region: Region) -> Option<NodeView<'a>>
@@ -120,8 +129,6 @@ impl<'a> NodeView<'a> {
         requires { i < cell_count (length self.now.block) }
         ensures { result ≡ is_child self.now.blocks (value_in self.now i) }
     {
-        let part = self.value_part(i);
-        let child = self.child(i);
-        part[0] == 4 && 1 <= child && child < self.blocks && are_zero(&part[5..])
+        is_child(self.blocks, self.value_part(i))
     }
 }

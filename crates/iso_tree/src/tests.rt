@@ -4,7 +4,7 @@ ghost use Rattle.iso_tree.specs.Ready.{IsReady};
 
 use super::*;
 use iso_alloc::{lay, word_at};
-use iso_model::{Bytes, Region, StoreError};
+use iso_model::{Bytes, PairList, Region, StoreError};
 use plain_tx::PlainTx;
 use std::alloc::Global;
 use std::test::Fail;
@@ -124,6 +124,52 @@ fn has(alloc: Global, tx: &mut PlainTx, key: &[u8], value: Option<u8>) -> Result
     }
 }
 
+fn scan_in(
+    alloc: Global,
+    tx: &mut PlainTx,
+    from: &[u8],
+    to: &[u8],
+    max: u32,
+) -> Result<PairList, StoreError>
+    requires ready { IsReady (state_of tx.old) }
+    requires max { 0 < max }
+    ensures { IsReady (state_of tx.new) }
+{
+    scan(alloc, tx, region(), from, to, max)
+}
+
+// Whether the pair at a place is this key of one byte with this value of one byte.
+fn has_pair(found: &PairList, place: u32, key: u8, value: u8) -> bool {
+    match found.get(place) {
+        Some((k, v)) => k.as_slice() == [key].as_slice() && v.as_slice() == [value].as_slice(),
+        None => false,
+    }
+}
+
+// Whether a scan answers these letters, each with its number in the alphabet.
+fn scans(
+    alloc: Global,
+    tx: &mut PlainTx,
+    from: &[u8],
+    to: &[u8],
+    max: u32,
+    letters: &[u8],
+) -> Result<bool, StoreError>
+    requires ready { IsReady (state_of tx.old) }
+    requires max { 0 < max }
+    ensures { IsReady (state_of tx.new) }
+{
+    let found = scan_in(alloc, tx, from, to, max)?;
+    let mut place = 0;
+    for letter in letters {
+        if !has_pair(&found, place, *letter, letter.wrapping_sub(96)) {
+            return Ok(false);
+        }
+        place = place.wrapping_add(1);
+    }
+    Ok(found.len() == letters.len())
+}
+
 #[test]
 fn keys_are_found_on_both_sides_of_a_separator(rt: HostRuntime) -> Result<(), Fail> {
     let mut tx = tree(rt.alloc(), 0, 0)?;
@@ -132,6 +178,62 @@ fn keys_are_found_on_both_sides_of_a_separator(rt: HostRuntime) -> Result<(), Fa
     assert_eq!(rt; has(rt.alloc(), &mut tx, b"d", Some(4)), Ok(true));
     assert_eq!(rt; has(rt.alloc(), &mut tx, b"bb", None), Ok(true));
     assert_eq!(rt; has(rt.alloc(), &mut tx, b"e", None), Ok(true));
+    Ok(())
+}
+
+#[test]
+fn a_scan_crosses_nodes_and_stops_at_its_most(rt: HostRuntime) -> Result<(), Fail> {
+    let mut tx = tree(rt.alloc(), 0, 0)?;
+    assert_eq!(rt;
+        scans(rt.alloc(), &mut tx, b"a", b"e", 9, b"abcd"),
+        Ok(true)
+    );
+    assert_eq!(rt; scans(rt.alloc(), &mut tx, b"a", b"e", 3, b"abc"), Ok(true));
+    assert_eq!(rt; scans(rt.alloc(), &mut tx, b"b", b"d", 9, b"bc"), Ok(true));
+    Ok(())
+}
+
+#[test]
+fn a_scan_of_an_empty_range_finds_nothing(rt: HostRuntime) -> Result<(), Fail> {
+    let mut tx = tree(rt.alloc(), 0, 0)?;
+    assert_eq!(rt; scans(rt.alloc(), &mut tx, b"bb", b"c", 9, b""), Ok(true));
+    assert_eq!(rt; scans(rt.alloc(), &mut tx, b"d", b"a", 9, b""), Ok(true));
+    let mut empty = blank(rt.alloc())?;
+    assert_eq!(rt; scans(rt.alloc(), &mut empty, b"a", b"z", 9, b""), Ok(true));
+    Ok(())
+}
+
+#[test]
+fn a_scan_names_a_damaged_node_that_it_reads(rt: HostRuntime) -> Result<(), Fail> {
+    // A byte of the head of the second leaf, which is block 3 of the image.
+    let mut tx = tree(rt.alloc(), 256 * 3 + 5, 1)?;
+    assert_eq!(rt;
+        scans(rt.alloc(), &mut tx, b"a", b"e", 9, b""),
+        Err(StoreError::Broken { block: 3 })
+    );
+    // Neither of these reads that leaf.
+    assert_eq!(rt; scans(rt.alloc(), &mut tx, b"a", b"c", 9, b"ab"), Ok(true));
+    assert_eq!(rt; scans(rt.alloc(), &mut tx, b"a", b"e", 2, b"ab"), Ok(true));
+    Ok(())
+}
+
+#[test]
+fn a_scan_tests_the_value_parts_of_its_range(rt: HostRuntime) -> Result<(), Fail> {
+    // The length of the value of `c`.
+    let mut tx = tree(rt.alloc(), 256 * 3 + 157, 64)?;
+    assert_eq!(rt;
+        scans(rt.alloc(), &mut tx, b"c", b"e", 9, b""),
+        Err(StoreError::Broken { block: 3 })
+    );
+    assert_eq!(rt; scans(rt.alloc(), &mut tx, b"d", b"e", 9, b"d"), Ok(true));
+    assert_eq!(rt;
+        scans(rt.alloc(), &mut tx, b"", b"e", 9, b""),
+        Err(StoreError::BadKey)
+    );
+    assert_eq!(rt;
+        scans(rt.alloc(), &mut tx, b"a", &[0; 29], 9, b""),
+        Err(StoreError::BadKey)
+    );
     Ok(())
 }
 
@@ -227,8 +329,37 @@ fn drawn(last: u32) -> u32 {
     last.wrapping_mul(1103515245).wrapping_add(12345)
 }
 
-// Puts or removes a drawn key, here and in a plain map from a byte to a byte, whose zeros are keys that it has not; says whether
-// both agree.
+// Whether a scan answers the first pairs of a range of a plain map.
+fn scan_agrees(
+    alloc: Global,
+    tx: &mut PlainTx,
+    plain: &[u8; 32],
+    from: u8,
+    to: u8,
+    max: u32,
+) -> Result<bool, StoreError>
+    requires ready { IsReady (state_of tx.old) }
+    requires to { to ≤ 32 }
+    requires max { 0 < max }
+    ensures { IsReady (state_of tx.new) }
+{
+    let found = scan_in(alloc, tx, &[from], &[to], max)?;
+    let mut place = 0;
+    for key in from..to {
+        let value = plain[key as usize];
+        if value == 0 || place == max {
+            continue;
+        }
+        if !has_pair(&found, place, key, value) {
+            return Ok(false);
+        }
+        place = place.wrapping_add(1);
+    }
+    Ok(found.len() == place as usize)
+}
+
+// Puts, removes, looks up or scans from a drawn key, here and in a plain map from a byte to a byte, whose zeros are keys that it
+// has not; says whether both agree.
 fn step(
     alloc: Global,
     tx: &mut PlainTx,
@@ -241,9 +372,20 @@ fn step(
     let key = (number >> 16) as usize % 32;
     let value = ((number >> 8) % 256) as u8;
     let old = plain[key];
-    if value % 4 == 0 {
+    if value % 8 == 0 {
         plain[key] = 0;
         return Ok(del_in(alloc, tx, &[key as u8])? == (old != 0));
+    }
+    if value % 8 == 1 {
+        return scan_agrees(alloc, tx, plain, key as u8, 32, 1 + value as u32 / 16);
+    }
+    if value % 8 == 2 {
+        return has(
+            alloc,
+            tx,
+            &[key as u8],
+            if old == 0 { None } else { Some(old) },
+        );
     }
     plain[key] = value;
     put_in(alloc, tx, 39, &[key as u8], &[value])?;
@@ -304,6 +446,10 @@ fn drawn_calls_agree_with_a_plain_map(rt: HostRuntime) -> Result<(), Fail> {
     let mut plain = [0; 32];
     assert_eq!(rt; run(rt.alloc(), &mut tx, &mut plain, 200), Ok(true));
     assert_eq!(rt; agrees(rt.alloc(), &mut tx, &plain), Ok(true));
+    assert_eq!(rt;
+        scan_agrees(rt.alloc(), &mut tx, &plain, 0, 32, 40),
+        Ok(true)
+    );
     // Three levels and more.
     let level = root_level(&mut tx);
     assert!(rt; level >= 2);

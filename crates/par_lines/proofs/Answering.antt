@@ -60,52 +60,52 @@ some_own : (own : Option Own) → IsSome own → (o : Own) × (own ≡ Some o)
 some_own None never = absurd (cc never)
 some_own (Some o) is = (o, refl)
 
-in_tx : (A : Start) → (o : Own) (named : Option Mode) → Does A.world.geometry (Some o) (op.Begin named) [] (Ok reply.InTx) (Some o)
+in_tx : (A : Start) → (o : Own) (named : Option Mode) → Does A.world.geometry A.tells (Some o) (op.Begin named) [] (Ok reply.InTx) (Some o)
 unfolding step
 in_tx A o named = (refl, refl, refl)
 
-no_abort : (A : Start) → Does A.world.geometry None op.Abort [] (Ok reply.NotInTx) None
+no_abort : (A : Start) → Does A.world.geometry A.tells None op.Abort [] (Ok reply.NotInTx) None
 unfolding step
 no_abort A = (refl, refl, refl)
 
-no_release : (A : Start) → (label : List ℕ) → Does A.world.geometry None (op.Release label) [] (Ok reply.NotInTx) None
+no_release : (A : Start) → (label : List ℕ) → Does A.world.geometry A.tells None (op.Release label) [] (Ok reply.NotInTx) None
 unfolding step
 no_release A label = (refl, refl, refl)
 
-no_takeover : (A : Start) → (o : Own) (label : List ℕ) → Does A.world.geometry (Some o) (op.Takeover label) [] (Ok reply.InTx) (Some o)
+no_takeover : (A : Start) → (o : Own) (label : List ℕ) → Does A.world.geometry A.tells (Some o) (op.Takeover label) [] (Ok reply.InTx) (Some o)
 unfolding step
 no_takeover A o label = (refl, refl, refl)
 
-trims : (A : Start) → (k : ℕ) (was own' : Option Own) → own' ≡ was → Does A.world.geometry was op.Trim (entry.Trim k ∷ []) (Ok (reply.Trimmed k)) own'
+trims : (A : Start) → (k : ℕ) (was own' : Option Own) → own' ≡ was → Does A.world.geometry A.tells was op.Trim (entry.Trim k ∷ []) (Ok (reply.Trimmed k)) own'
 trims A k None own' is = (refl, is)
 trims A k (Some o) own' is = (refl, is)
 
-no_trim : (A : Start) → (b n : ℕ) (e : CoreError) (was own' : Option Own) → own' ≡ was → Does A.world.geometry was op.Trim (entry.Refused call.Trim (cause_of b n e) ∷ []) (say.refused e) own'
+no_trim : (A : Start) → (b n : ℕ) (e : CoreError) (was own' : Option Own) → own' ≡ was → Does A.world.geometry A.tells was op.Trim (entry.Refused call.Trim (cause_of b n e) ∷ []) (say.refused e) own'
 no_trim A b n e None own' is = (refl, refused_is b n e, is)
 no_trim A b n e (Some o) own' is = (refl, refused_is b n e, is)
 
-compacts : (A : Start) → (k : ℕ) (was own' : Option Own) → own' ≡ was → Does A.world.geometry was op.Compact (entry.Compact k ∷ []) (Ok (reply.Compacted k)) own'
+compacts : (A : Start) → (k : ℕ) (was own' : Option Own) → own' ≡ was → Does A.world.geometry A.tells was op.Compact (entry.Compact k ∷ []) (Ok (reply.Compacted k)) own'
 compacts A k None own' is = (refl, is)
 compacts A k (Some o) own' is = (refl, is)
 
-no_compact : (A : Start) → (b n : ℕ) (e : CoreError) (was own' : Option Own) → own' ≡ was → Does A.world.geometry was op.Compact (entry.Refused call.Compact (cause_of b n e) ∷ []) (say.refused e) own'
+no_compact : (A : Start) → (b n : ℕ) (e : CoreError) (was own' : Option Own) → own' ≡ was → Does A.world.geometry A.tells was op.Compact (entry.Refused call.Compact (cause_of b n e) ∷ []) (say.refused e) own'
 no_compact A b n e None own' is = (refl, refused_is b n e, is)
 no_compact A b n e (Some o) own' is = (refl, refused_is b n e, is)
 
-upgrades : (A : Start) → (k : ℕ) (was own' : Option Own) → own' ≡ was → Does A.world.geometry was op.Upgrade (entry.Upgrade k ∷ []) (Ok (reply.Upgraded k)) own'
+upgrades : (A : Start) → (k : ℕ) (was own' : Option Own) → own' ≡ was → Does A.world.geometry A.tells was op.Upgrade (entry.Upgrade k ∷ []) (Ok (reply.Upgraded k)) own'
 upgrades A k None own' is = (refl, is)
 upgrades A k (Some o) own' is = (refl, is)
 
-no_upgrade : (A : Start) → (b n : ℕ) (e : CoreError) (was own' : Option Own) → own' ≡ was → Does A.world.geometry was op.Upgrade (entry.Refused call.Upgrade (cause_of b n e) ∷ []) (say.refused e) own'
+no_upgrade : (A : Start) → (b n : ℕ) (e : CoreError) (was own' : Option Own) → own' ≡ was → Does A.world.geometry A.tells was op.Upgrade (entry.Refused call.Upgrade (cause_of b n e) ∷ []) (say.refused e) own'
 no_upgrade A b n e None own' is = (refl, refused_is b n e, is)
 no_upgrade A b n e (Some o) own' is = (refl, refused_is b n e, is)
 
-tells : (A : Start) → (n : Stat) (was own' : Option Own) → own' ≡ was → Does A.world.geometry was op.Stat (entry.Stat (numbers_of n) ∷ []) (Ok (say.numbers n)) own'
+tells : (A : Start) → (n : Stat) (was own' : Option Own) → own' ≡ was → Does A.world.geometry A.tells was op.Stat (entry.Stat (numbers_of n) ∷ []) (Ok (say.numbers n)) own'
 tells A n None own' is = (refl, is)
 tells A n (Some o) own' is = (refl, is)
 
 -- the check ahead of an end, and the end
-no_end : (A : Start) → Does A.world.geometry None op.End [] (Ok reply.NotInTx) None
+no_end : (A : Start) → Does A.world.geometry A.tells None op.End [] (Ok reply.NotInTx) None
 unfolding step
 no_end A = (refl, refl, refl)
 
@@ -118,21 +118,21 @@ same_own o p is = ap (unwrap_or' o) is
 
 module _ {D O : Type 0} (A : Start) where
   -- a line of one entry
-  pub by_entry : (s t : Session D O) (o : Op) (e : Entry) (r : Result Reply Stop) (was : Option Own) → own s ≡ was → Made A s t e → Does A.world.geometry was o (e ∷ []) r (own t) → Answered A s o r t
+  pub by_entry : (s t : Session D O) (o : Op) (e : Entry) (r : Result Reply Stop) (was : Option Own) → own s ≡ was → Made A s t e → Does A.world.geometry A.tells was o (e ∷ []) r (own t) → Answered A s o r t
   by_entry s t o e r was is m does = record {
     entries = e ∷ [];
     moves = moves_made A s t e m;
-    did = inl (subst (λ w. Does A.world.geometry w o (e ∷ []) r (own t)) (sym is) does);
+    did = inl (subst (λ w. Does A.world.geometry A.tells w o (e ∷ []) r (own t)) (sym is) does);
     of = ap (λ v. v.now) m.of;
   }
 
   -- a line that the client's own state answers
-  pub by_none : (s t : Session D O) (o : Op) (r : Result Reply Stop) (was : Option Own) → own s ≡ was → t ≡ s → Does A.world.geometry was o [] r was → Answered A s o r t
+  pub by_none : (s t : Session D O) (o : Op) (r : Result Reply Stop) (was : Option Own) → own s ≡ was → t ≡ s → Does A.world.geometry A.tells was o [] r was → Answered A s o r t
   by_none s t o r was is same does =
       subst (λ u. Answered A s o r u) (sym same) (record {
         entries = [];
         moves = moves_none s;
-        did = subst (λ w. Did A.world.geometry w o [] r w) (sym is) (inl does);
+        did = subst (λ w. Did A.world.geometry A.tells w o [] r w) (sym is) (inl does);
         of = refl;
       })
 
@@ -166,7 +166,7 @@ module _ {D O : Type 0} (A : Start) where
       by_none s t (op.Takeover label) (Ok reply.InTx) (Some o.0) o.1 h.1 (no_takeover A o.0 label)
 
   -- a line that leaves the transaction, whatever it is
-  kept : (s t : Session D O) (o : Op) (e : Entry) (r : Result Reply Stop) → Made A s t e → own t ≡ own s → ((was own' : Option Own) → own' ≡ was → Does A.world.geometry was o (e ∷ []) r own')
+  kept : (s t : Session D O) (o : Op) (e : Entry) (r : Result Reply Stop) → Made A s t e → own t ≡ own s → ((was own' : Option Own) → own' ≡ was → Does A.world.geometry A.tells was o (e ∷ []) r own')
       → Answered A s o r t
   kept s t o e r m same does = by_entry s t o e r (own s) refl m (does (own s) (own t) same)
 
@@ -199,7 +199,7 @@ module _ {D O : Type 0} (A : Start) where
   two s m t o upto e r is first second ends = record {
     entries = entry.Recent o.number upto ∷ e ∷ [];
     moves = moves_on s m t (entry.Recent o.number upto ∷ []) (e ∷ []) (moves_made A s m (entry.Recent o.number upto) first) (moves_made A m t e second);
-    did = inl (subst (λ w. Does A.world.geometry w op.End (entry.Recent o.number upto ∷ e ∷ []) r (own t)) (sym is) (refl, ends));
+    did = inl (subst (λ w. Does A.world.geometry A.tells w op.End (entry.Recent o.number upto ∷ e ∷ []) r (own t)) (sym is) (refl, ends));
     of = ap (λ v. v.now) second.of ∙ ap (λ v. v.now) first.of;
   }
 

@@ -36,7 +36,7 @@ one_behind (suc n) x =
     let next : suc n + 1 ≡ suc (n + 1) = omega arith in
     ap (λ l. x ∷ l) (one_behind n x) ∙ ap (λ m. replicate m x) (sym next)
 
-in_tx : (g : Start) (o : Own) (label : List ℕ) → Does g.world.geometry (Some o) (op.Await label) [] (Ok reply.InTx) (Some o)
+in_tx : (g : Start) (o : Own) (label : List ℕ) → Does g.world.geometry g.tells (Some o) (op.Await label) [] (Ok reply.InTx) (Some o)
 unfolding step
 in_tx g o label = (refl, refl, refl)
 
@@ -66,7 +66,7 @@ module _ {D O : Type 0} where
   awaits A s t label es r none moves of does = record {
     entries = es;
     moves = moves;
-    did = inl (subst (λ w. Does A.world.geometry w (op.Await label) es r (own t)) (sym none) does);
+    did = inl (subst (λ w. Does A.world.geometry A.tells w (op.Await label) es r (own t)) (sym none) does);
     of = of;
   }
 
@@ -92,7 +92,7 @@ module _ {D O : Type 0} where
     where
       by : (was : Option Own) → own s ≡ was → Answered A s (op.Await label) (Ok reply.InTx) s
       by None e = absurd (cc (sym some ∙ ap is_some is ∙ ap (λ w. is_some (option_map (λ (o : Own). o.mode) w)) e))
-      by (Some o) e = record { entries = []; moves = moves_none s; did = subst (λ w. Did A.world.geometry w (op.Await label) [] (Ok reply.InTx) w) (sym e) (inl (in_tx A o label)); of = refl }
+      by (Some o) e = record { entries = []; moves = moves_none s; did = subst (λ w. Did A.world.geometry A.tells w (op.Await label) [] (Ok reply.InTx) w) (sym e) (inl (in_tx A o label)); of = refl }
 
   pub is_none : (s : Session D O) (mode : Option Mode) → mode ≡ option_map (λ (o : Own). o.mode) (own s) → is_some mode ≡ false → own s ≡ None
   is_none s mode is none = by (own s) refl

@@ -48,7 +48,7 @@ use Rattle.par_lines.proofs.Writing.{outside, wrong_range}
 abbrev pub own_block : Array → Own → (block : ℕ) → List ℕ
 own_block B o block = block_at (effect.own B o.accesses) block
 
-no_take : (n : ℕ) → take {A = Commit} n [] ≡ []
+pub no_take : (n : ℕ) → take {A = Commit} n [] ≡ []
 no_take zero = refl
 no_take (suc n) = refl
 
@@ -59,8 +59,8 @@ shows view block B o = reply.Shown (view (own_block B o block))
 -- an operation that reads: what it shows of a block, and the access
 pub record IsReading (g : Geometry) (x : Op) (block : ℕ) (view : List ℕ → List ℕ) (a : Access) : Type 0 where
   pub can : IsAllowed g x block (shows view block) a
-  pub none : (r : Reply) → Refuses g x None r → Does g None x [] (Ok r) None
-  pub some : (o : Own) (es : List Entry) (r : Result Reply Stop) (own' : Option Own) → WhereShown (answer g [] (Some o) x) (Fetches g o x block es r own') (Says g (Some o) x es r own') → Does g (Some o) x es r own'
+  pub none : (tells : Bool) (r : Reply) → Refuses g x None r → Does g tells None x [] (Ok r) None
+  pub some : (tells : Bool) (o : Own) (es : List Entry) (r : Result Reply Stop) (own' : Option Own) → WhereShown (answer g [] (Some o) x) (Fetches g o x block es r own') (Says g (Some o) x es r own') → Does g tells (Some o) x es r own'
 
 -- the array of the one block has it
 with_block_at : (block : ℕ) (bytes : List ℕ) → block_at (with_block block bytes) block ≡ bytes
@@ -78,8 +78,8 @@ read_parts g block = record {
     opened = λ B o. read_opened g block B o ∙ ap (λ c. access_step (alone g B (Some o)) (live_of o) block false (reply.Shown (block_at (effect.own (all_own B c) o.accesses) block)) (read_access block)) (no_take (o.begin + 1 - 1));
     closed = refl;
   };
-  none = λ r refuses. (refl, ap (λ v. Ok v) (sym refuses.answer_is), sym refuses.left);
-  some = λ o es r own' does. does;
+  none = λ tells r refuses. (refl, ap (λ v. Ok v) (sym refuses.answer_is), sym refuses.left);
+  some = λ tells o es r own' does. does;
 }
 
 get_opened : (g : Geometry) (block off len : ℕ) (B : Array) (o : Own)
@@ -96,8 +96,8 @@ get_parts g block off len is = record {
         ∙ ap (λ b. access_step (alone g B (Some o)) (live_of o) block b (reply.Shown (take len (drop off (own_block B o block)))) (get_access block off len)) is;
     closed = refl;
   };
-  none = λ r refuses. (refl, ap (λ v. Ok v) (sym refuses.answer_is), sym refuses.left);
-  some = λ o es r own' does. does;
+  none = λ tells r refuses. (refl, ap (λ v. Ok v) (sym refuses.answer_is), sym refuses.left);
+  some = λ tells o es r own' does. does;
 }
 
 same_err : (f e : TxError) → ◌≡◌ {A = Result (Unit {0}) TxError} (Err e) (Err f) → f ≡ e
@@ -109,21 +109,21 @@ same_err f e is = sym (ap (unwrap e) is)
 
 module _ (A : Start) (x : Op) (block : ℕ) (view : List ℕ → List ℕ) (a : Access) (parts : IsReading A.world.geometry x block view a) where
   not_shown : (o : Own) (r : Reply) (es : List Entry) (q : Result Reply Stop) (own' : Option Own) → Refuses A.world.geometry x (Some o) r
-      → WhereShown r (Fetches A.world.geometry o x block es q own') (Says A.world.geometry (Some o) x es q own') → Does A.world.geometry (Some o) x es q own'
-  not_shown o r es q own' refuses says = parts.some o es q own' (subst (λ v. WhereShown v (Fetches A.world.geometry o x block es q own') (Says A.world.geometry (Some o) x es q own')) (sym refuses.answer_is) says)
+      → WhereShown r (Fetches A.world.geometry o x block es q own') (Says A.world.geometry (Some o) x es q own') → Does A.world.geometry A.tells (Some o) x es q own'
+  not_shown o r es q own' refuses says = parts.some A.tells o es q own' (subst (λ v. WhereShown v (Fetches A.world.geometry o x block es q own') (Says A.world.geometry (Some o) x es q own')) (sym refuses.answer_is) says)
 
   said : (o : Own) (r : Reply) → Refuses A.world.geometry x (Some o) r → Says A.world.geometry (Some o) x [] (Ok r) (Some o)
   said o r refuses = (refl, ap (λ v. Ok v) (sym refuses.answer_is), sym refuses.left)
 
-  fetched : (o : Own) (es : List Entry) (r : Result Reply Stop) (own' : Option Own) → answer A.world.geometry [] (Some o) x ≡ shows view block [] o → Fetches A.world.geometry o x block es r own' → Does A.world.geometry (Some o) x es r own'
-  fetched o es r own' is does = parts.some o es r own' (subst (λ v. WhereShown v (Fetches A.world.geometry o x block es r own') (Says A.world.geometry (Some o) x es r own')) (sym is) does)
+  fetched : (o : Own) (es : List Entry) (r : Result Reply Stop) (own' : Option Own) → answer A.world.geometry [] (Some o) x ≡ shows view block [] o → Fetches A.world.geometry o x block es r own' → Does A.world.geometry A.tells (Some o) x es r own'
+  fetched o es r own' is does = parts.some A.tells o es r own' (subst (λ v. WhereShown v (Fetches A.world.geometry o x block es r own') (Says A.world.geometry (Some o) x es r own')) (sym is) does)
 
 module _ {D O : Type 0} (A : Start) (x : Op) (block : ℕ) (view : List ℕ → List ℕ) (a : Access) (parts : IsReading A.world.geometry x block view a) where
   -- a read that is refused before it asks
   refused : (s t : Session D O) (e : TxError) (into : List ℕ) → HasRead A s block (Err e) into t → refusal A.world.geometry (handle.own s) block ≡ Some e → Answered A s x (say.accessed (Err e)) t
   refused s t e into did so =
       by_tests A.world.geometry x block (shows view block) a parts.can (λ was f. handle.own s ≡ was → HasRead A s block (Err f) into t → Answered A s x (say.accessed (Err f)) t) (handle.own s) e so
-      (λ refuses is same. by_none A s t x (Ok reply.NotInTx) None is same (parts.none reply.NotInTx refuses))
+      (λ refuses is same. by_none A s t x (Ok reply.NotInTx) None is same (parts.none A.tells reply.NotInTx refuses))
       (λ o refuses is same. by_none A s t x (Ok reply.BadBlock) (Some o) is same (not_shown A x block view a parts o reply.BadBlock [] (Ok reply.BadBlock) (Some o) refuses (said A x block view a parts o reply.BadBlock refuses)))
       (λ o refuses is same. by_none A s t x (Ok reply.TooManyAccesses) (Some o) is same (not_shown A x block view a parts o reply.TooManyAccesses [] (Ok reply.TooManyAccesses) (Some o) refuses (said A x block view a parts o reply.TooManyAccesses refuses)))
       refl did
@@ -196,9 +196,9 @@ module _ {D O : Type 0} (A : Start) (x : Op) (block : ℕ) (view : List ℕ → 
             is = did.2;
           }
 
-no_get : (g : Geometry) (block off len : ℕ) → Does g None (op.Get block off len) [] (Ok reply.NotInTx) None
+no_get : (g : Geometry) (tells : Bool) (block off len : ℕ) → Does g tells None (op.Get block off len) [] (Ok reply.NotInTx) None
 unfolding step
-no_get g block off len = (refl, refl, refl)
+no_get g tells block off len = (refl, refl, refl)
 
 module _ {D O : Type 0} (A : Start) (block : ℕ) where
   -- a line that reads a whole block
@@ -228,7 +228,7 @@ module _ {D O : Type 0} (A : Start) (block : ℕ) where
       subst (λ q. Answered A s (op.Get block off len) (say.shown q bytes) t) (sym k.answered) (record {
         entries = entry.Fetch f.own.number block f.bytes ∷ [];
         moves = moves_on s m t (entry.Fetch f.own.number block f.bytes ∷ []) [] (moves_made A s m (entry.Fetch f.own.number block f.bytes) f.made) (moves_rested m t k.rested);
-        did = subst (λ w. Did A.world.geometry w (op.Get block off len) (entry.Fetch f.own.number block f.bytes ∷ []) (Ok (reply.Shown bytes)) (handle.own t)) (sym f.was)
+        did = subst (λ w. Did A.world.geometry A.tells w (op.Get block off len) (entry.Fetch f.own.number block f.bytes ∷ []) (Ok (reply.Shown bytes)) (handle.own t)) (sym f.was)
             (inl (fetched A (op.Get block off len) block view a parts f.own (entry.Fetch f.own.number block f.bytes ∷ []) (Ok (reply.Shown bytes)) (handle.own t) f.shown
             (refl, refl, ap (λ l. Ok (reply.Shown l)) cut ∙ ap (λ v. Ok v) (sym f.answers), k.is ∙ ap (λ p. Some (with_mark p off len)) own' ∙ ap (λ l. Some (record f.own { accesses = l })) last ∙ sym f.leaves)));
         of = ap (λ v. v.now) k.rested.of ∙ ap (λ v. v.now) f.made.of;
@@ -247,7 +247,7 @@ module _ {D O : Type 0} (A : Start) (block : ℕ) where
 
       so : (o : Own) (r : Reply) (w : Reply × World) → access_step (alone A.world.geometry [] (Some o)) (live_of o) block true (bytes o) (get_access block off len) ≡ w → w.0 ≡ r → own_among w.1.live ≡ Some o
           → (WhereShown r (Fetches A.world.geometry o (op.Get block off len) block [] (Ok r) (Some o)) (Says A.world.geometry (Some o) (op.Get block off len) [] (Ok r) (Some o)) ≡ Says A.world.geometry (Some o) (op.Get block off len) [] (Ok r) (Some o))
-          → Does A.world.geometry (Some o) (op.Get block off len) [] (Ok r) (Some o)
+          → Does A.world.geometry A.tells (Some o) (op.Get block off len) [] (Ok r) (Some o)
       so o r w stepped says left other =
           let whole : step (alone A.world.geometry [] (Some o)) 1 (op.Get block off len) ≡ w = get_opened A.world.geometry block off len [] o
           ∙ ap (λ b. access_step (alone A.world.geometry [] (Some o)) (live_of o) block b (bytes o) (get_access block off len)) wrong ∙ stepped in
@@ -257,7 +257,7 @@ module _ {D O : Type 0} (A : Start) (block : ℕ) where
           (subst (λ (T : Type 0). T) (sym other) (refl, ap (λ v. Ok v) (sym answers), sym leaves))
 
       by : (was : Option Own) → handle.own s ≡ was → Answered A s (op.Get block off len) (Ok (say.wrong_bytes A.world.geometry.blocks (handle.own s) block)) s
-      by None is = subst (λ w. Answered A s (op.Get block off len) (Ok (say.wrong_bytes A.world.geometry.blocks w block)) s) (sym is) (by_none A s s (op.Get block off len) (Ok reply.NotInTx) None is refl (no_get A.world.geometry block off len))
+      by None is = subst (λ w. Answered A s (op.Get block off len) (Ok (say.wrong_bytes A.world.geometry.blocks w block)) s) (sym is) (by_none A s s (op.Get block off len) (Ok reply.NotInTx) None is refl (no_get A.world.geometry A.tells block off len))
       by (Some o) is = subst (λ w. Answered A s (op.Get block off len) (Ok (say.wrong_bytes A.world.geometry.blocks w block)) s) (sym is) (tests (nat_le A.world.geometry.blocks block) refl)
         where
           tests : (b : Bool) → nat_le A.world.geometry.blocks block ≡ b → Answered A s (op.Get block off len) (Ok (cond b reply.BadBlock reply.BadRange)) s

@@ -1,5 +1,5 @@
 -- What the clients of a run were told, from what their steps did.
-use Rattle.std.proofs.Common.{◌≡◌, ⊎_elim, ℕ, zero, suc, ◌+◌, ◌<◌, cond, List, [], ◌∷◌, ◌++◌, Option, Some, None, length, take, map, reverse, get_or, refl, sym, ap, ◌∙◌, subst, arith, length-append, append_assoc}
+use Rattle.std.proofs.Common.{◌≡◌, Bool, ⊎_elim, ℕ, zero, suc, ◌+◌, ◌<◌, cond, List, [], ◌∷◌, ◌++◌, Option, Some, None, length, take, map, reverse, get_or, refl, sym, ap, ◌∙◌, subst, arith, length-append, append_assoc}
 use Rattle.std.proofs.lemmas.List.{append-nil, map-append, reverse-append, take_at}
 use Rattle.std.specs.Prelude.{slice_get, is_some, All, sum_by, Result, Ok, Err}
 use Rattle.std.proofs.Math.ListN.{get_or-append}
@@ -44,14 +44,14 @@ told_seen A lines E G (q ∷ parts) count pre t = (t.0, t.1, t.2, (t.3.0, log_se
 
 -- with one client more
 told_snoc : (A : Start) (lines : List (ℕ × Line)) (E : List Entry) (parts : List Part) (q : Part) (count one count' : ℕ → ℕ) (F : List Entry) → AllTold A lines E parts count → Log one E F
-    → ClientLines A.world.geometry (lines_run lines q) q.told q.stop F → ((p : ℕ) → count' p ≡ count p + one p) → AllTold A lines E (parts ++ q ∷ []) count'
+    → ClientLines A.world.geometry A.tells (lines_run lines q) q.told q.stop F → ((p : ℕ) → count' p ≡ count p + one p) → AllTold A lines E (parts ++ q ∷ []) count'
 told_snoc A lines E [] q count one count' F t log told sum = (one, λ p. 0, (λ p. let a = t p in let b = sum p in omega arith), (F, log, told), λ p. refl)
 told_snoc A lines E (r ∷ parts) q count one count' F t log told sum =
     (t.0, λ p. t.1 p + one p, (λ p. let a = t.2 p in let b = sum p in omega arith), t.3, told_snoc A lines E parts q t.1 one (λ p. t.1 p + one p) F t.4 log told (λ p. refl))
 
-walk_length : (g : Geometry) (was own' : Option Own) (ls : List (ℕ × Line)) (F : List Entry) (told : List (ℕ × Reply)) → Walk g was ls F told own' → length told ≡ length ls
-walk_length g was own' [] F told w = ap length w.1
-walk_length g was own' (l ∷ ls) F told w = ap length w.6 ∙ ap suc (walk_length g w.2 own' ls w.3 w.4 w.8)
+walk_length : (g : Geometry) (tells : Bool) (was own' : Option Own) (ls : List (ℕ × Line)) (F : List Entry) (told : List (ℕ × Reply)) → Walk g tells was ls F told own' → length told ≡ length ls
+walk_length g tells was own' [] F told w = ap length w.1
+walk_length g tells was own' (l ∷ ls) F told w = ap length w.6 ∙ ap suc (walk_length g tells w.2 own' ls w.3 w.4 w.8)
 
 -- one line more of a list
 take_next : (n : ℕ) (ls : List (ℕ × Line)) (l : ℕ × Line) → slice_get ls n ≡ Some l → (take (n + 1) ls ≡ take n ls ++ l ∷ []) × (length (take n ls) ≡ n)
@@ -64,14 +64,14 @@ take_next zero (x ∷ ls) l is = let same : x ≡ l = cc is in (ap (λ v. v ∷ 
 take_next (suc n) (x ∷ ls) l is = let rest = take_next n ls l is in let e : suc n + 1 ≡ suc (n + 1) = omega arith in (ap (λ m. take m (x ∷ ls)) e ∙ ap (λ v. x ∷ v) rest.0, ap suc rest.1)
 
 -- lines that were run to their end, and lines that ended in a stop
-ran_all : (g : Geometry) (lines xs : List (ℕ × Line)) (q : Part) (made : List Entry) (own' : Option Own) → q.stop ≡ None → xs ≡ lines_of q.client lines → Walk g None xs made q.told own' → Ran g (lines_run lines q) q.told q.stop made own'
-ran_all g lines xs q made own' is same walk =
-    subst (λ st. Ran g (cond (is_some st) (take (length q.told + 1) (lines_of q.client lines)) (lines_of q.client lines)) q.told st made own') (sym is) (subst (λ l. Walk g None l made q.told own') same walk)
+ran_all : (g : Geometry) (tells : Bool) (lines xs : List (ℕ × Line)) (q : Part) (made : List Entry) (own' : Option Own) → q.stop ≡ None → xs ≡ lines_of q.client lines → Walk g tells None xs made q.told own' → Ran g tells (lines_run lines q) q.told q.stop made own'
+ran_all g tells lines xs q made own' is same walk =
+    subst (λ st. Ran g tells (cond (is_some st) (take (length q.told + 1) (lines_of q.client lines)) (lines_of q.client lines)) q.told st made own') (sym is) (subst (λ l. Walk g tells None l made q.told own') same walk)
 
-ran_stopped : (g : Geometry) (lines xs : List (ℕ × Line)) (q : Part) (why : Stop) (made : List Entry) (own' : Option Own) → q.stop ≡ Some why → xs ≡ lines_of q.client lines → StopsAtLast g (take (length q.told + 1) xs) q.told why made own'
-    → Ran g (lines_run lines q) q.told q.stop made own'
-ran_stopped g lines xs q why made own' is same stops =
-    subst (λ st. Ran g (cond (is_some st) (take (length q.told + 1) (lines_of q.client lines)) (lines_of q.client lines)) q.told st made own') (sym is) (subst (λ l. StopsAtLast g (take (length q.told + 1) l) q.told why made own') same stops)
+ran_stopped : (g : Geometry) (tells : Bool) (lines xs : List (ℕ × Line)) (q : Part) (why : Stop) (made : List Entry) (own' : Option Own) → q.stop ≡ Some why → xs ≡ lines_of q.client lines → StopsAtLast g tells (take (length q.told + 1) xs) q.told why made own'
+    → Ran g tells (lines_run lines q) q.told q.stop made own'
+ran_stopped g tells lines xs q why made own' is same stops =
+    subst (λ st. Ran g tells (cond (is_some st) (take (length q.told + 1) (lines_of q.client lines)) (lines_of q.client lines)) q.told st made own') (sym is) (subst (λ l. StopsAtLast g tells (take (length q.told + 1) l) q.told why made own') same stops)
 
 module _ {D O : Type 0} (A : Start) where
   -- what a client's steps did
@@ -80,7 +80,7 @@ module _ {D O : Type 0} (A : Start) where
     pub made : List Entry
     pub texts : List (ℕ × Reply)
     pub moves : Moves c.session d.session made
-    pub walk : Walk A.world.geometry (own c.session) ls made texts (own d.session)
+    pub walk : Walk A.world.geometry A.tells (own c.session) ls made texts (own d.session)
     pub said : d.told.items ≡ c.told.items ++ texts
     pub stop : d.stop ≡ c.stop
 
@@ -114,7 +114,7 @@ module _ {D O : Type 0} (A : Start) where
       let s : Stepped A c l.0 l.1 Go m = went.1 in
       let rest : Stretch m ls d = went_stretch m d ls went.2 in
       let t = step_text c m l.0 l.1 s in
-      let did : Did A.world.geometry (own c.session) l.1.op s.made.entries (Ok t.0) (own m.session) = subst (λ r. Did A.world.geometry (own c.session) l.1.op s.made.entries r (own m.session)) t.1 s.made.did in
+      let did : Did A.world.geometry A.tells (own c.session) l.1.op s.made.entries (Ok t.0) (own m.session) = subst (λ r. Did A.world.geometry A.tells (own c.session) l.1.op s.made.entries r (own m.session)) t.1 s.made.did in
       record {
         of = rest.of ∙ s.made.of;
         made = s.made.entries ++ rest.made;
@@ -129,9 +129,9 @@ module _ {D O : Type 0} (A : Start) where
   texts_new c d texts none said = sym (said ∙ ap (λ l. l ++ texts) none)
 
   -- the walk of a client that was new
-  walk_new : (c d : ParClient D O) (ls : List (ℕ × Line)) (s : Stretch c ls d) → own c.session ≡ None → c.told.items ≡ [] → Walk A.world.geometry None ls s.made d.told.items (own d.session)
+  walk_new : (c d : ParClient D O) (ls : List (ℕ × Line)) (s : Stretch c ls d) → own c.session ≡ None → c.told.items ≡ [] → Walk A.world.geometry A.tells None ls s.made d.told.items (own d.session)
   walk_new c d ls s none told =
-      subst (λ v. Walk A.world.geometry None ls s.made v (own d.session)) (texts_new c d s.texts told s.said) (subst (λ o. Walk A.world.geometry o ls s.made s.texts (own d.session)) none s.walk)
+      subst (λ v. Walk A.world.geometry A.tells None ls s.made v (own d.session)) (texts_new c d s.texts told s.said) (subst (λ o. Walk A.world.geometry A.tells o ls s.made s.texts (own d.session)) none s.walk)
 
   -- a job of a new client, after it was run
   pub finished_job : (l : Shared D O) (lines : List (ℕ × Line)) (j k : Job (ParClient D O)) → IsNew A l lines j → IsClient A k.client → JobRan (λ c n line flow d. Stepped A c n line flow d) j k → Finished A l lines k × (units_in k ≡ units_in j)
@@ -151,7 +151,7 @@ module _ {D O : Type 0} (A : Start) where
               client = fits;
               made = s.made;
               log = s.moves.log [] start;
-              ran = ran_all A.world.geometry lines j.lines.items (part_of k) s.made (own k.client.session) (s.stop ∙ n.stop) own_lines (walk_new j.client k.client j.lines.items s n.none n.told);
+              ran = ran_all A.world.geometry A.tells lines j.lines.items (part_of k) s.made (own k.client.session) (s.stop ∙ n.stop) own_lines (walk_new j.client k.client j.lines.items s n.none n.told);
             },
             s.moves.units,
           )
@@ -161,24 +161,24 @@ module _ {D O : Type 0} (A : Start) where
           let s : Stretch j.client (take h.number j.lines.items) h.before = went_stretch j.client h.before (take h.number j.lines.items) h.went in
           let t : Stepped A h.before h.line.0 h.line.1 Halt k.client = h.halt in
           let stopped = step_stop h.before k.client h.line.0 h.line.1 t in
-          let walk : Walk A.world.geometry None (take h.number j.lines.items) s.made h.before.told.items (own h.before.session) = walk_new j.client h.before (take h.number j.lines.items) s n.none n.told in
+          let walk : Walk A.world.geometry A.tells None (take h.number j.lines.items) s.made h.before.told.items (own h.before.session) = walk_new j.client h.before (take h.number j.lines.items) s n.none n.told in
           let next = take_next h.number j.lines.items h.line h.line_is in
-          let size : length k.client.told.items ≡ h.number = ap length stopped.2 ∙ walk_length A.world.geometry None (own h.before.session) (take h.number j.lines.items) s.made h.before.told.items walk ∙ next.1 in
+          let size : length k.client.told.items ≡ h.number = ap length stopped.2 ∙ walk_length A.world.geometry A.tells None (own h.before.session) (take h.number j.lines.items) s.made h.before.told.items walk ∙ next.1 in
           let both = moves_on j.client.session h.before.session k.client.session s.made t.made.entries s.moves t.made.moves in (
             record {
               device = t.made.of ∙ s.of ∙ n.device;
               client = fits;
               made = s.made ++ t.made.entries;
               log = both.log [] start;
-              ran = ran_stopped A.world.geometry lines j.lines.items (part_of k) stopped.0 (s.made ++ t.made.entries) (own k.client.session) stopped.3 own_lines (record {
+              ran = ran_stopped A.world.geometry A.tells lines j.lines.items (part_of k) stopped.0 (s.made ++ t.made.entries) (own k.client.session) stopped.3 own_lines (record {
                 first = take h.number j.lines.items;
                 last = h.line;
                 are = ap (λ m. take (m + 1) j.lines.items) size ∙ next.0;
                 walked = s.made;
                 mid = own h.before.session;
-                walk = subst (λ v. Walk A.world.geometry None (take h.number j.lines.items) s.made v (own h.before.session)) (sym stopped.2) walk;
+                walk = subst (λ v. Walk A.world.geometry A.tells None (take h.number j.lines.items) s.made v (own h.before.session)) (sym stopped.2) walk;
                 entries = t.made.entries;
-                did = subst (λ v. Did A.world.geometry (own h.before.session) h.line.1.op t.made.entries v (own k.client.session)) stopped.1 t.made.did;
+                did = subst (λ v. Did A.world.geometry A.tells (own h.before.session) h.line.1.op t.made.entries v (own k.client.session)) stopped.1 t.made.did;
                 all = refl;
               });
             },

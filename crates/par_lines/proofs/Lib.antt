@@ -8,3 +8,4 @@ pub mod Putting
 pub mod Gathering
 pub mod Sweeping
 pub mod Dealing
+pub mod Storing

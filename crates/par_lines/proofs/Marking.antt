@@ -1,5 +1,5 @@
 -- Marks of a client's last access: what the rules answer, and what the session does.
-use Rattle.std.proofs.Common.{◌≡◌, ℕ, false, cond, eq-eqb, List, [], ◌∷◌, ◌++◌, Option, Some, None, ap, inl, refl, sym, subst, ◌∙◌}
+use Rattle.std.proofs.Common.{◌≡◌, Bool, ℕ, false, cond, eq-eqb, List, [], ◌∷◌, ◌++◌, Option, Some, None, ap, inl, refl, sym, subst, ◌∙◌}
 use Rattle.std.specs.Prelude.{Result, Ok, Err, is_some, option_map}
 use Rattle.handle_pass.specs.declared.session.Session.{Session}
 use Rattle.handle_pass.specs.Accesses.{accesses_of, mark_answer, with_mark, HasMarked}
@@ -43,12 +43,12 @@ marks_to : (g : Geometry) (o : Own) (off len : ℕ) → step (alone g [] (Some o
 unfolding step mark_step
 marks_to g o off len = refl
 
-no_mark : (g : Geometry) (off len : ℕ) → Does g None (op.Mark off len) [] (Ok reply.NotInTx) None
+no_mark : (g : Geometry) (tells : Bool) (off len : ℕ) → Does g tells None (op.Mark off len) [] (Ok reply.NotInTx) None
 unfolding step
-no_mark g off len = (refl, refl, refl)
+no_mark g tells off len = (refl, refl, refl)
 
-says_mark : (g : Geometry) (o : Own) (own' : Option Own) (off len : ℕ) (w : Reply × World) → step (alone g [] (Some o)) 1 (op.Mark off len) ≡ w → own' ≡ own_among w.1.live → Does g (Some o) (op.Mark off len) [] (Ok w.0) own'
-says_mark g o own' off len w is left = (refl, ap (λ (v : Reply × World). Ok v.0) (sym is), left ∙ ap (λ (v : Reply × World). own_among v.1.live) (sym is))
+says_mark : (g : Geometry) (tells : Bool) (o : Own) (own' : Option Own) (off len : ℕ) (w : Reply × World) → step (alone g [] (Some o)) 1 (op.Mark off len) ≡ w → own' ≡ own_among w.1.live → Does g tells (Some o) (op.Mark off len) [] (Ok w.0) own'
+says_mark g tells o own' off len w is left = (refl, ap (λ (v : Reply × World). Ok v.0) (sym is), left ∙ ap (λ (v : Reply × World). own_among v.1.live) (sym is))
 
 refused_reply : (e : MarkError) → say.accessed (Err (marking e)) ≡ Ok (mark_refused e)
 refused_reply mark.BadRange = refl
@@ -72,7 +72,7 @@ never_refused s t off len (Err e) cause did = absurd cause
 
 module _ {D O : Type 0} (A : Start) (off len : ℕ) where
   refused_so : (s t : Session D O) (was : Option Own) (e : TxError) (r : Result (Unit {0}) TxError) → handle.own s ≡ was → r ≡ Err e → HasMarked s off len r t
-      → Does A.world.geometry was (op.Mark off len) [] (say.accessed (Err e)) was → Answered A s (op.Mark off len) (say.accessed r) t
+      → Does A.world.geometry A.tells was (op.Mark off len) [] (say.accessed (Err e)) was → Answered A s (op.Mark off len) (say.accessed r) t
   refused_so s t was e r is so did does =
       subst (λ q. HasMarked s off len q t → Answered A s (op.Mark off len) (say.accessed q) t) (sym so) (λ same. by_none A s t (op.Mark off len) (say.accessed (Err e)) was is same does) did
 
@@ -85,8 +85,8 @@ module _ {D O : Type 0} (A : Start) (off len : ℕ) where
       subst (λ q. Answered A s (op.Mark off len) (say.accessed q) t) (sym m.answered) (record {
         entries = [];
         moves = moves_rested s t m.rested;
-        did = subst (λ w. Did g w (op.Mark off len) [] (Ok reply.Done) (handle.own t)) (sym is)
-            (inl (says_mark g o (handle.own t) off len (marked_step (alone g [] (Some o)) (live_of o) (span_at off len) None) stepped (m.is ∙ ap (λ p. Some (with_mark p off len)) same ∙ sym (with_last o off len g))));
+        did = subst (λ w. Did g A.tells w (op.Mark off len) [] (Ok reply.Done) (handle.own t)) (sym is)
+            (inl (says_mark g A.tells o (handle.own t) off len (marked_step (alone g [] (Some o)) (live_of o) (span_at off len) None) stepped (m.is ∙ ap (λ p. Some (with_mark p off len)) same ∙ sym (with_last o off len g))));
         of = ap (λ v. v.now) m.rested.of;
       })
 
@@ -95,7 +95,7 @@ module _ {D O : Type 0} (A : Start) (off len : ℕ) where
   mark_line s t r cause did = by (handle.own s) refl
     where
       by : (was : Option Own) → handle.own s ≡ was → Answered A s (op.Mark off len) (say.accessed r) t
-      by None is = refused_so s t None error.NotInTx r is (subst (λ w. IsRefused (mark_refused_to A.world.geometry w off len) (λ e. ⊥) r) is cause) did (no_mark A.world.geometry off len)
+      by None is = refused_so s t None error.NotInTx r is (subst (λ w. IsRefused (mark_refused_to A.world.geometry w off len) (λ e. ⊥) r) is cause) did (no_mark A.world.geometry A.tells off len)
       by (Some o) is = fault (mark_fault A.world.geometry.block off len o.accesses) refl
         where
           known : IsRefused (mark_refused_to A.world.geometry (Some o) off len) (λ e. ⊥) r
@@ -108,7 +108,7 @@ module _ {D O : Type 0} (A : Start) (off len : ℕ) where
           fault (Some e) so =
               let stepped = marks_to A.world.geometry o off len ∙ ap (marked_step (alone A.world.geometry [] (Some o)) (live_of o) (span_at off len)) so in
               refused_so s t (Some o) (marking e) r is (at (Some e) so) did
-              (subst (λ q. Does A.world.geometry (Some o) (op.Mark off len) [] q (Some o)) (sym (refused_reply e)) (says_mark A.world.geometry o (Some o) off len (mark_refused e, alone A.world.geometry [] (Some o)) stepped refl))
+              (subst (λ q. Does A.world.geometry A.tells (Some o) (op.Mark off len) [] q (Some o)) (sym (refused_reply e)) (says_mark A.world.geometry A.tells o (Some o) off len (mark_refused e, alone A.world.geometry [] (Some o)) stepped refl))
           fault None so = marked_so s t o r is so (never_refused s t off len r (at None so) did)
 
 -- a mark is not refused to a session whose transaction may take it

@@ -36,9 +36,9 @@ put_parts g block off bytes b is = record {
   says = does;
 }
   where
-    does : (own own' : Option Own) (r : Result Reply Stop) → r ≡ Ok (answer g [] own (op.Put block off bytes)) → own' ≡ own_after g [] own (op.Put block off bytes) → Does g own (op.Put block off bytes) [] r own'
-    does None own' r said left = (refl, said, left)
-    does (Some o) own' r said left = (refl, said, left)
+    does : (tells : Bool) (own own' : Option Own) (r : Result Reply Stop) → r ≡ Ok (answer g [] own (op.Put block off bytes)) → own' ≡ own_after g [] own (op.Put block off bytes) → Does g tells own (op.Put block off bytes) [] r own'
+    does tells None own' r said left = (refl, said, left)
+    does tells (Some o) own' r said left = (refl, said, left)
 
 put_allowed : (g : Geometry) (block off : ℕ) (bytes : List ℕ) → is_outside g.block off (length bytes) ≡ false → IsAllowed g (op.Put block off bytes) block (λ B o. reply.Done) (put_access g.block block off bytes)
 unfolding step put_step
@@ -52,8 +52,8 @@ module _ (A : Start) (block off : ℕ) (bytes : List ℕ) (inside : is_outside A
   can = put_allowed A.world.geometry block off bytes inside
 
   says : (was own' : Option Own) (r : Result Reply Stop) → r ≡ Ok (answer A.world.geometry [] was (op.Put block off bytes)) → own' ≡ own_after A.world.geometry [] was (op.Put block off bytes)
-      → Does A.world.geometry was (op.Put block off bytes) [] r own'
-  says = (put_parts A.world.geometry block off bytes false inside).says
+      → Does A.world.geometry A.tells was (op.Put block off bytes) [] r own'
+  says = (put_parts A.world.geometry block off bytes false inside).says A.tells
 
 module _ {D O : Type 0} (A : Start) (block off : ℕ) (bytes : List ℕ) (inside : is_outside A.world.geometry.block off (length bytes) ≡ false) where
   refused : (s t : Session D O) (e : TxError) → t ≡ s → refusal A.world.geometry (handle.own s) block ≡ Some e → Answered A s (op.Put block off bytes) (say.accessed (Err e)) t
@@ -65,7 +65,7 @@ module _ {D O : Type 0} (A : Start) (block off : ℕ) (bytes : List ℕ) (inside
       (λ o refuses is. by_none A s t (op.Put block off bytes) (Ok reply.TooManyAccesses) (Some o) is same (left (Some o) reply.TooManyAccesses refuses))
       refl
     where
-      left : (was : Option Own) (r : Reply) → Refuses A.world.geometry (op.Put block off bytes) was r → Does A.world.geometry was (op.Put block off bytes) [] (Ok r) was
+      left : (was : Option Own) (r : Reply) → Refuses A.world.geometry (op.Put block off bytes) was r → Does A.world.geometry A.tells was (op.Put block off bytes) [] (Ok r) was
       left was r refuses = says A block off bytes inside was was (Ok r) (ap (λ v. Ok v) (sym refuses.answer_is)) (sym refuses.left)
 
   -- a put whose write was refused
@@ -109,7 +109,7 @@ module _ {D O : Type 0} (A : Start) (block off : ℕ) (bytes : List ℕ) (inside
           subst (λ q. Answered A s (op.Put block off bytes) (say.accessed q) t) (sym k.answered) (record {
             entries = [];
             moves = moves_on s m t [] [] (moves_rested s m wrote.3) (moves_rested m t k.rested);
-            did = subst (λ w. Did A.world.geometry w (op.Put block off bytes) [] (Ok reply.Done) (handle.own t)) (sym a.own_is)
+            did = subst (λ w. Did A.world.geometry A.tells w (op.Put block off bytes) [] (Ok reply.Done) (handle.own t)) (sym a.own_is)
                 (inl (says A block off bytes inside (Some a.own) (handle.own t) (Ok reply.Done) (ap (λ v. Ok v) (sym (a.answers [])))
                 (k.is ∙ ap (λ p. Some (with_mark p off (length bytes))) own' ∙ ap (λ l. Some (record o { accesses = l })) last ∙ ap (λ p. Some (with_access p (put_access A.world.geometry.block block off bytes))) same ∙ sym (a.leaves []))));
             of = ap (λ v. v.now) k.rested.of ∙ ap (λ v. v.now) wrote.3.of;

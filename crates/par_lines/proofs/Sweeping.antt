@@ -123,10 +123,10 @@ module _ (A : Start) (lines : List (ℕ × Line)) (E : List Entry) where
   rising (q ∷ parts) count t = (t.3.1.rises, rising parts t.1 t.4)
 
   told_each : (owners : List ℕ) (parts : List Part) (count : ℕ → ℕ) (t : AllTold A lines E parts count) → AllByRecursion (ReadsAt (entry.Abort 0) E owners) (logs_of parts count t)
-      → AllByRecursion (λ q. ClientLines A.world.geometry (lines_run lines q) q.told q.stop (entries_of q.client owners E)) parts
+      → AllByRecursion (λ q. ClientLines A.world.geometry A.tells (lines_run lines q) q.told q.stop (entries_of q.client owners E)) parts
   told_each owners [] count t reads = tt
   told_each owners (q ∷ parts) count t reads =
-      (subst (λ F. ClientLines A.world.geometry (lines_run lines q) q.told q.stop F) (sym (reads.0 ∙ t.3.1.reads)) t.3.2, told_each owners parts t.1 t.4 reads.1)
+      (subst (λ F. ClientLines A.world.geometry A.tells (lines_run lines q) q.told q.stop F) (sym (reads.0 ∙ t.3.1.reads)) t.3.2, told_each owners parts t.1 t.4 reads.1)
 
   any_same : (o : ℕ) (parts : List Part) (count : ℕ → ℕ) (t : AllTold A lines E parts count) → list_any (λ l. l.0 == o) (logs_of parts count t) ≡ list_any (λ q. q.client == o) parts
   any_same o [] count t = refl

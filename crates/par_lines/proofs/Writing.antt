@@ -52,7 +52,7 @@ module _ (g : Geometry) (o : Own) (block : ℕ) (said : Reply) (a : Access) wher
 pub record IsAccessing (g : Geometry) (x : Op) (block : ℕ) (wrong : Bool) (a : Access) : Type 0 where
   pub opened : (o : Own) → step (alone g [] (Some o)) 1 x ≡ access_step (alone g [] (Some o)) (live_of o) block wrong reply.Done a
   pub closed : step (alone g [] None) 1 x ≡ (reply.NotInTx, alone g [] None)
-  pub says : (own own' : Option Own) (r : Result Reply Stop) → r ≡ Ok (answer g [] own x) → own' ≡ own_after g [] own x → Does g own x [] r own'
+  pub says : (tells : Bool) (own own' : Option Own) (r : Result Reply Stop) → r ≡ Ok (answer g [] own x) → own' ≡ own_after g [] own x → Does g tells own x [] r own'
 
 -- why an access is refused to a client with this transaction
 abbrev refusal : Geometry → Option Own → (block : ℕ) → Option TxError
@@ -61,25 +61,25 @@ refusal g was block = access_refusal (record { size = g.block; blocks = g.blocks
 module _ (A : Start) (x : Op) (block : ℕ) (bytes : List ℕ) (parts : IsAccessing A.world.geometry x block false (write_access block bytes)) where
   -- the rules answer as the session does
   rules_say : (o : Own) (said : Reply) → access_step (alone A.world.geometry [] (Some o)) (live_of o) block false reply.Done (write_access block bytes) ≡ (said, alone A.world.geometry [] (Some o))
-      → Did A.world.geometry (Some o) x [] (Ok said) (Some o)
+      → Did A.world.geometry A.tells (Some o) x [] (Ok said) (Some o)
   rules_say o said is =
       let whole = parts.opened o ∙ is in
-      inl (parts.says (Some o) (Some o) (Ok said) (ap (λ (w : Reply × World). Ok w.0) (sym whole)) (ap (λ (w : Reply × World). own_among w.1.live) (sym whole)))
+      inl (parts.says A.tells (Some o) (Some o) (Ok said) (ap (λ (w : Reply × World). Ok w.0) (sym whole)) (ap (λ (w : Reply × World). own_among w.1.live) (sym whole)))
 
-  stopped : (was : Option Own) → Did A.world.geometry was x [] (Err stop.Memory) was
+  stopped : (was : Option Own) → Did A.world.geometry A.tells was x [] (Err stop.Memory) was
   stopped was = inr (refl, refl, refl)
 
 module _ {D O : Type 0} (A : Start) (x : Op) (block : ℕ) (bytes : List ℕ) (parts : IsAccessing A.world.geometry x block false (write_access block bytes)) where
   -- a line that answers so, and leaves the session
-  left : (s : Session D O) (was : Option Own) (r : Result Reply Stop) → own s ≡ was → Did A.world.geometry was x [] r was → Answered A s x r s
+  left : (s : Session D O) (was : Option Own) (r : Result Reply Stop) → own s ≡ was → Did A.world.geometry A.tells was x [] r was → Answered A s x r s
   left s was r is did = record {
     entries = [];
     moves = moves_none s;
-    did = subst (λ w. Did A.world.geometry w x [] r w) (sym is) did;
+    did = subst (λ w. Did A.world.geometry A.tells w x [] r w) (sym is) did;
     of = refl;
   }
 
-  refused_by : (s t : Session D O) (was : Option Own) (e : TxError) (r : Result (Unit {0}) TxError) → own s ≡ was → r ≡ Err e → HasWritten s block bytes r t → Did A.world.geometry was x [] (say.accessed (Err e)) was
+  refused_by : (s t : Session D O) (was : Option Own) (e : TxError) (r : Result (Unit {0}) TxError) → own s ≡ was → r ≡ Err e → HasWritten s block bytes r t → Did A.world.geometry A.tells was x [] (say.accessed (Err e)) was
       → Answered A s x (say.accessed r) t
   refused_by s t was e r is so did does =
       subst (λ q. HasWritten s block bytes q t → Answered A s x (say.accessed q) t) (sym so) (λ same. subst (λ u. Answered A s x (say.accessed (Err e)) u) (sym same) (left s was (say.accessed (Err e)) is does)) did
@@ -92,8 +92,8 @@ module _ {D O : Type 0} (A : Start) (x : Op) (block : ℕ) (bytes : List ℕ) (p
       record {
         entries = [];
         moves = moves_rested s t did.3;
-        did = subst (λ w. Did A.world.geometry w x [] (Ok reply.Done) (own t)) (sym is)
-            (inl (parts.says (Some o) (own t) (Ok reply.Done) (ap (λ (w : Reply × World). Ok w.0) (sym whole))
+        did = subst (λ w. Did A.world.geometry A.tells w x [] (Ok reply.Done) (own t)) (sym is)
+            (inl (parts.says A.tells (Some o) (own t) (Ok reply.Done) (ap (λ (w : Reply × World). Ok w.0) (sym whole))
             (did.2 ∙ ap (λ p. Some (with_access p (write_access block bytes))) same ∙ sym (after A.world.geometry o block reply.Done (write_access block bytes)) ∙ ap (λ (w : Reply × World). own_among w.1.live) (sym whole))));
         of = ap (λ v. v.now) did.3.of;
       }
@@ -102,7 +102,7 @@ module _ {D O : Type 0} (A : Start) (x : Op) (block : ℕ) (bytes : List ℕ) (p
       unwrap d None = d
       unwrap d (Some p) = p
   written_so s t o (Err e) is within few cause did =
-      subst (λ u. Answered A s x (say.accessed (Err e)) u) (sym did) (left s (Some o) (say.accessed (Err e)) is (subst (λ f. Did A.world.geometry (Some o) x [] (say.accessed (Err f)) (Some o)) (sym cause) (stopped A x block bytes parts (Some o))))
+      subst (λ u. Answered A s x (say.accessed (Err e)) u) (sym did) (left s (Some o) (say.accessed (Err e)) is (subst (λ f. Did A.world.geometry A.tells (Some o) x [] (say.accessed (Err f)) (Some o)) (sym cause) (stopped A x block bytes parts (Some o))))
 
   pub written : (s t : Session D O) (r : Result (Unit {0}) TxError) → IsRefused (access_answer A s block) IsWriteCause r → HasWritten s block bytes r t → Answered A s x (say.accessed r) t
   written s t r cause did = by (own s) refl
@@ -110,7 +110,7 @@ module _ {D O : Type 0} (A : Start) (x : Op) (block : ℕ) (bytes : List ℕ) (p
       by : (was : Option Own) → own s ≡ was → Answered A s x (say.accessed r) t
       by None is =
           refused_by s t None error.NotInTx r is (subst (λ w. IsRefused (refusal A.world.geometry w block) IsWriteCause r) is cause) did
-          (inl (parts.says None None (Ok reply.NotInTx) (ap (λ (w : Reply × World). Ok w.0) (sym parts.closed)) (ap (λ (w : Reply × World). own_among w.1.live) (sym parts.closed))))
+          (inl (parts.says A.tells None None (Ok reply.NotInTx) (ap (λ (w : Reply × World). Ok w.0) (sym parts.closed)) (ap (λ (w : Reply × World). own_among w.1.live) (sym parts.closed))))
       by (Some o) is = tests (nat_le A.world.geometry.blocks block) (nat_le MAX_ACCESSES (length o.accesses)) refl refl
         where
           known : IsRefused (refusal A.world.geometry (Some o) block) IsWriteCause r
@@ -131,16 +131,16 @@ module _ {D O : Type 0} (A : Start) (x : Op) (block : ℕ) (bytes : List ℕ) (p
 
 -- what the rules answer where the bytes are wrong
 module _ (A : Start) (x : Op) (block : ℕ) (a : Access) (parts : IsAccessing A.world.geometry x block true a) where
-  wrong_says : (was : Option Own) → Does A.world.geometry was x [] (Ok (say.wrong_bytes A.world.geometry.blocks was block)) was
-  wrong_says None = parts.says None None (Ok reply.NotInTx) (ap (λ (w : Reply × World). Ok w.0) (sym parts.closed)) (ap (λ (w : Reply × World). own_among w.1.live) (sym parts.closed))
+  wrong_says : (was : Option Own) → Does A.world.geometry A.tells was x [] (Ok (say.wrong_bytes A.world.geometry.blocks was block)) was
+  wrong_says None = parts.says A.tells None None (Ok reply.NotInTx) (ap (λ (w : Reply × World). Ok w.0) (sym parts.closed)) (ap (λ (w : Reply × World). own_among w.1.live) (sym parts.closed))
   wrong_says (Some o) = by (nat_le A.world.geometry.blocks block) refl
     where
-      so : (said : Reply) → access_step (alone A.world.geometry [] (Some o)) (live_of o) block true reply.Done a ≡ (said, alone A.world.geometry [] (Some o)) → Does A.world.geometry (Some o) x [] (Ok said) (Some o)
+      so : (said : Reply) → access_step (alone A.world.geometry [] (Some o)) (live_of o) block true reply.Done a ≡ (said, alone A.world.geometry [] (Some o)) → Does A.world.geometry A.tells (Some o) x [] (Ok said) (Some o)
       so said is =
           let whole = parts.opened o ∙ is in
-          parts.says (Some o) (Some o) (Ok said) (ap (λ (w : Reply × World). Ok w.0) (sym whole)) (ap (λ (w : Reply × World). own_among w.1.live) (sym whole))
+          parts.says A.tells (Some o) (Some o) (Ok said) (ap (λ (w : Reply × World). Ok w.0) (sym whole)) (ap (λ (w : Reply × World). own_among w.1.live) (sym whole))
 
-      by : (b : Bool) → nat_le A.world.geometry.blocks block ≡ b → Does A.world.geometry (Some o) x [] (Ok (cond b reply.BadBlock reply.BadRange)) (Some o)
+      by : (b : Bool) → nat_le A.world.geometry.blocks block ≡ b → Does A.world.geometry A.tells (Some o) x [] (Ok (cond b reply.BadBlock reply.BadRange)) (Some o)
       by true is = so reply.BadBlock (outside A.world.geometry o block reply.Done a true is)
       by false is = so reply.BadRange (wrong_range A.world.geometry o block reply.Done a is)
 
@@ -156,9 +156,9 @@ write_parts g block bytes b is = record {
   says = does;
 }
   where
-    does : (own own' : Option Own) (r : Result Reply Stop) → r ≡ Ok (answer g [] own (op.Write block bytes)) → own' ≡ own_after g [] own (op.Write block bytes) → Does g own (op.Write block bytes) [] r own'
-    does None own' r said left = (refl, said, left)
-    does (Some o) own' r said left = (refl, said, left)
+    does : (tells : Bool) (own own' : Option Own) (r : Result Reply Stop) → r ≡ Ok (answer g [] own (op.Write block bytes)) → own' ≡ own_after g [] own (op.Write block bytes) → Does g tells own (op.Write block bytes) [] r own'
+    does tells None own' r said left = (refl, said, left)
+    does tells (Some o) own' r said left = (refl, said, left)
 
 differ_test : (m n : ℕ) → (m ≡ n → ⊥) → not (m == n) ≡ true
 differ_test m n differ = by (m == n) refl
@@ -187,9 +187,9 @@ fill_parts g block bytes b is = record {
   says = does;
 }
   where
-    does : (own own' : Option Own) (r : Result Reply Stop) → r ≡ Ok (answer g [] own (op.Fill block bytes)) → own' ≡ own_after g [] own (op.Fill block bytes) → Does g own (op.Fill block bytes) [] r own'
-    does None own' r said left = (refl, said, left)
-    does (Some o) own' r said left = (refl, said, left)
+    does : (tells : Bool) (own own' : Option Own) (r : Result Reply Stop) → r ≡ Ok (answer g [] own (op.Fill block bytes)) → own' ≡ own_after g [] own (op.Fill block bytes) → Does g tells own (op.Fill block bytes) [] r own'
+    does tells None own' r said left = (refl, said, left)
+    does tells (Some o) own' r said left = (refl, said, left)
 
 module _ {D O : Type 0} (A : Start) (block : ℕ) (bytes : List ℕ) where
   pub wrong_fill : (h : Geometry) (s : Session D O) → h ≡ A.world.geometry → (length bytes ≡ 1 → ⊥) → Answered A s (op.Fill block bytes) (Ok (say.wrong_bytes h.blocks (own s) block)) s

@@ -14,5 +14,5 @@ use Rattle.par_script.specs.Lines.{Did}
 pub record Answered {D O : Type 0} (A : Start) (s : Session D O) (op : Op) (r : Result Reply Stop) (t : Session D O) : Type 0 where
   pub entries : List Entry
   pub moves : Moves s t entries
-  pub did : Did A.world.geometry (own s) op entries r (own t)
+  pub did : Did A.world.geometry A.tells (own s) op entries r (own t)
   pub of : device t ≡ device s

@@ -1,7 +1,8 @@
 -- What contracts see of a client, and what a line makes of it.
-use Rattle.std.specs.Prelude.{◌≡◌, ℕ, ◌<◌, ◌≤◌, List, [], ◌∷◌, ◌++◌, Option, Some, Result, Ok, Err}
+use Rattle.std.specs.Prelude.{◌≡◌, ℕ, ◌<◌, ◌≤◌, List, [], ◌∷◌, ◌++◌, Option, Some, Result, Ok, Err, IsTrue}
 use Rattle.iso_model.specs.declared.script.Line.{Line}
 use Rattle.iso_model.specs.declared.script.Reply.{Reply}
+use Rattle.iso_model.specs.Geometry.{is_valid}
 use Rattle.iso_shared.specs.States.{Start}
 use Rattle.script_runner.specs.declared.machine.Stop.{Stop}
 use Rattle.par_runner.specs.declared.job.Flow.{Flow}
@@ -25,6 +26,7 @@ module _ {D O : Type 0} where
     pub units : 1 < handle.units c.session
     pub geometry : c.geometry ≡ A.world.geometry
     pub small : c.geometry.block ≤ 4096
+    pub valid : IsTrue (is_valid A.world.geometry)
 
   -- one step of a client
   pub record Stepped (A : Start) (c : ParClient D O) (number : ℕ) (line : Line) (flow : Flow) (d : ParClient D O) : Type 0 where

@@ -38,7 +38,7 @@ module _ {D O : Type 0} where
     pub client : IsClient A j.client
     pub made : List Entry
     pub log : Log (count j.client.session) (seen j.client.session) made
-    pub ran : Ran A.world.geometry (lines_run lines (part_of j)) j.client.told.items j.client.stop made (own j.client.session)
+    pub ran : Ran A.world.geometry A.tells (lines_run lines (part_of j)) j.client.told.items j.client.stop made (own j.client.session)
 
   abbrev pub units_in : Job (ParClient D O) → ℕ
   units_in j = handle.units j.client.session
@@ -48,7 +48,7 @@ abbrev pub AllTold : Start → (lines : List (ℕ × Line)) → List Entry → L
 AllTold A lines E [] count = (p : ℕ) → count p ≡ 0
 AllTold A lines E (q ∷ parts) count =
     (one : ℕ → ℕ) × (others : ℕ → ℕ) × ((p : ℕ) → count p ≡ one p + others p)
-    × ((F : List Entry) × Log one E F × ClientLines A.world.geometry (lines_run lines q) q.told q.stop F) × AllTold A lines E parts others
+    × ((F : List Entry) × Log one E F × ClientLines A.world.geometry A.tells (lines_run lines q) q.told q.stop F) × AllTold A lines E parts others
 
 -- a port has swept: its places were all places, once it has
 pub record Swept (v w : View Entry) : Type 0 where

@@ -3,3 +3,4 @@ pub mod Answers
 pub mod Clients
 pub mod Jobs
 pub mod Ends
+pub mod Stores

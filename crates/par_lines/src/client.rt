@@ -1,5 +1,6 @@
 // A client: its session, and what it was told.
-ghost use Rattle.std.specs.Prelude.{◌≡◌, ◌<◌, ◌≤◌};
+ghost use Rattle.std.specs.Prelude.{◌≡◌, ◌<◌, ◌≤◌, IsTrue};
+ghost use Rattle.iso_model.specs.Geometry.{is_valid};
 ghost use Rattle.handle_pass.specs.Sessions.{units, IsSession};
 ghost use Rattle.iso_model.specs.declared.script.Op.TheVariants.{End as OfEnd};
 ghost use Rattle.par_lines.specs.Answers.{Answered};
@@ -8,6 +9,7 @@ use crate::accesses::{fill, mark, put, write};
 use crate::calls::{abort, begin, end};
 use crate::labels::{await_label, release, takeover};
 use crate::reads::{get, read};
+use crate::stores::store;
 use crate::upkeep::{compact, stat, trim, upgrade};
 use handle_pass::Session;
 use iso_disk::Disk;
@@ -51,6 +53,7 @@ pub(crate) fn answer<'a, D: Disk + Drop, O: Origin, R: Wait>(
     requires units { 1 < units session.old }
     requires geometry { geometry.now ≡ O.start.world.geometry }
     requires small { geometry.now.block ≤ 4096 }
+    requires valid { IsTrue (is_valid O.start.world.geometry) }
     ensures session { IsSession O.start session.new }
     ensures did { Answered O.start session.old op.now result session.new }
 {
@@ -73,6 +76,13 @@ pub(crate) fn answer<'a, D: Disk + Drop, O: Origin, R: Wait>(
         Op::Stat => Ok(stat(rt, session)),
         Op::Compact => compact(rt, session),
         Op::Upgrade => upgrade(rt, session),
+        Op::HashPut { .. }
+        | Op::HashGet { .. }
+        | Op::HashDelete { .. }
+        | Op::TreePut { .. }
+        | Op::TreeGet { .. }
+        | Op::TreeDelete { .. }
+        | Op::TreeScan { .. } => store(rt, alloc, session, geometry, op),
     }
 }
 

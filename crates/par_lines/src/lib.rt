@@ -10,6 +10,7 @@ mod par;
 mod reads;
 mod replies;
 mod run;
+mod stores;
 mod upkeep;
 
 pub use par::{ParEnd, par_lines};

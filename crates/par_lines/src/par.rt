@@ -1,6 +1,7 @@
 // The lines of several clients, beside each other.
-ghost use Rattle.std.specs.Prelude.{◌≡◌, ◌+◌, ◌*◌, ◌<◌, ◌≤◌, [], ℕ, All, OnOk, length, map, reverse, sum_by, vec_capacity};
+ghost use Rattle.std.specs.Prelude.{◌≡◌, ◌+◌, ◌*◌, ◌<◌, ◌≤◌, [], ℕ, All, IsTrue, OnOk, length, map, reverse, sum_by, vec_capacity};
 ghost use Rattle.std.specs.List.{list_any};
+ghost use Rattle.iso_model.specs.Geometry.{is_valid};
 ghost use Rattle.turn_lock.specs.Lists.{times};
 ghost use Rattle.turn_lock.specs.Views.{fresh};
 ghost use Rattle.iso_shared.specs.Ports.{IsPort, first_geometry, port_view};
@@ -46,6 +47,7 @@ fn new_job<'a, D: Disk + Drop, O: Origin>(
     requires units { 4294967296 < (port_view port.old).units }
     requires image { first_geometry shared.now ≡ O.start.world.geometry }
     requires small { O.start.world.geometry.block ≤ 4096 }
+    requires valid { IsTrue (is_valid O.start.world.geometry) }
     requires own { own.items ≡ lines_of id lines.now.value.items }
     ensures port { IsPort shared.now port.new }
     ensures units { (port_view port.new).units + 4294967296 ≡ (port_view port.old).units }
@@ -83,6 +85,7 @@ fn make_jobs<'a, D: Disk + Drop, O: Origin>(
     requires units { ((port_view port.old).units ≡ LAST) × ((port_view port.old).mine ≡ []) }
     requires image { first_geometry shared.now ≡ O.start.world.geometry }
     requires small { O.start.world.geometry.block ≤ 4096 }
+    requires valid { IsTrue (is_valid O.start.world.geometry) }
     requires dealt { All (λ a. a.1.items ≡ lines_of a.0 lines.now.value.items) dealt.items }
     requires few { length dealt.items ≤ 64 }
     requires jobs { jobs.old.items ≡ [] }
@@ -192,6 +195,7 @@ fn run_dealt<D: Disk + Drop + Send, O: Origin + Send + Sync, G: Gate, R: Threads
     requires port { IsPort shared.now port.old × (port_view port.old ≡ fresh) }
     requires image { first_geometry shared.now ≡ O.start.world.geometry }
     requires small { O.start.world.geometry.block ≤ 4096 }
+    requires valid { IsTrue (is_valid O.start.world.geometry) }
     requires clients { map (λ a. a.0) dealt.items ≡ clients_in lines.now.value.items }
     requires few { length dealt.items ≤ 64 }
     requires dealt { All (λ a. a.1.items ≡ lines_of a.0 lines.now.value.items) dealt.items }
@@ -225,7 +229,7 @@ pub fn par_lines<D: Disk + Drop + Send, O: Origin + Send + Sync, G: Gate, R: Thr
 ) -> ParEnd
     requires port { IsPort shared.now port.old × (port_view port.old ≡ fresh) }
     requires image { first_geometry shared.now ≡ O.start.world.geometry }
-    requires small { O.start.world.geometry.block ≤ 4096 }
+    requires valid { IsTrue (is_valid O.start.world.geometry) }
     ensures port { IsPort shared.now port.new }
     ensures units { (port_view port.new).units ≡ LAST }
     ensures ended { HasEnded O.start lines.items result (port_view port.new).seen }

@@ -82,6 +82,7 @@ fn run_over<O: Origin + Send + Sync, R: Threads + Wait + Sync>(
     lines: Vec<(u64, Line)>,
 ) -> Option<ParEnd>
     requires start { MayStart state_of O.start core }
+    requires valid { IsTrue (is_valid O.start.world.geometry) }
 {
     match Shared::<MemDisk, O>::new(alloc, core) {
         Err((_memory, _core)) => None,
@@ -94,6 +95,7 @@ fn run_over<O: Origin + Send + Sync, R: Threads + Wait + Sync>(
 }
 
 /// The run of a script over a new image.
+#[tactic(auto, unfolding(iso_model::specs::Geometry::is_valid))]
 fn run<R: Threads + Wait + Sync>(rt: &R, alloc: Global, script: &[&[u8]]) -> Option<ParEnd> {
     let lines = lines_of(alloc, script)?;
     let core = new_core(alloc).ok()?;

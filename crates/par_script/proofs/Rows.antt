@@ -120,43 +120,43 @@ its_entries : (entries_of 1 owners made ≡ first_entries) × (entries_of 2 owne
 its_entries = (refl, refl)
 
 -- the lines of each, one after another
-begins_one : Did small None (op.Begin None) (entry.Begin 1 0 Serial ∷ []) (Ok (reply.Began 0)) (Some (record at_a { accesses = [] }))
+begins_one : Did small true None (op.Begin None) (entry.Begin 1 0 Serial ∷ []) (Ok (reply.Began 0)) (Some (record at_a { accesses = [] }))
 begins_one = inl (refl, refl, refl)
 
-puts_aa : Did small (Some (record at_a { accesses = [] })) (op.Put 0 0 (170 ∷ [])) [] (Ok reply.Done) (Some at_a)
+puts_aa : Did small true (Some (record at_a { accesses = [] })) (op.Put 0 0 (170 ∷ [])) [] (Ok reply.Done) (Some at_a)
 unfolding step put_step
 puts_aa = inl (refl, refl, refl)
 
-releases_a : Did small (Some at_a) (op.Release a) (entry.Post 1 a (put_aa ∷ []) ∷ []) (Ok reply.Done) None
+releases_a : Did small true (Some at_a) (op.Release a) (entry.Post 1 a (put_aa ∷ []) ∷ []) (Ok reply.Done) None
 releases_a = inl (refl, refl, refl, refl, refl)
 
-awaits_b : Did small None (op.Await b) (entry.Look b None ∷ entry.Look b (Some at_b) ∷ []) (Ok (reply.Began 1)) (Some at_b)
+awaits_b : Did small true None (op.Await b) (entry.Look b None ∷ entry.Look b (Some at_b) ∷ []) (Ok (reply.Began 1)) (Some at_b)
 awaits_b = inl (omega arith, refl, (omega arith, refl, refl, refl))
 
-ends_two : Did small (Some at_b) op.End (entry.Recent 2 1 ∷ entry.End 2 (get_both ∷ []) ReadOnly ∷ []) (Ok reply.ReadOnly) None
+ends_two : Did small true (Some at_b) op.End (entry.Recent 2 1 ∷ entry.End 2 (get_both ∷ []) ReadOnly ∷ []) (Ok reply.ReadOnly) None
 ends_two = inl (refl, (refl, refl, refl, refl))
 
-puts_bb : Did small (Some at_a) (op.Put 0 1 (187 ∷ [])) [] (Ok reply.Done) (Some (record at_a { accesses = put_aa ∷ put_bb ∷ [] }))
+puts_bb : Did small true (Some at_a) (op.Put 0 1 (187 ∷ [])) [] (Ok reply.Done) (Some (record at_a { accesses = put_aa ∷ put_bb ∷ [] }))
 unfolding step put_step
 puts_bb = inl (refl, refl, refl)
 
-gets_both : Did small (Some (record at_b { accesses = [] })) (op.Get 0 0 2) (entry.Fetch 2 0 block ∷ []) (Ok (reply.Shown (170 ∷ 187 ∷ []))) (Some at_b)
+gets_both : Did small true (Some (record at_b { accesses = [] })) (op.Get 0 0 2) (entry.Fetch 2 0 block ∷ []) (Ok (reply.Shown (170 ∷ 187 ∷ []))) (Some at_b)
 unfolding step get_step
 gets_both = inl (refl, refl, refl, refl)
 
-awaits_a : Did small None (op.Await a) (entry.Look a None ∷ entry.Look a (Some at_a) ∷ []) (Ok (reply.Began 0)) (Some at_a)
+awaits_a : Did small true None (op.Await a) (entry.Look a None ∷ entry.Look a (Some at_a) ∷ []) (Ok (reply.Began 0)) (Some at_a)
 awaits_a = inl (omega arith, refl, (omega arith, refl, refl, refl))
 
-ends_one : Did small (Some (record at_a { accesses = put_aa ∷ put_bb ∷ [] })) op.End (entry.Recent 1 0 ∷ entry.End 1 (put_aa ∷ put_bb ∷ []) (Committed 1) ∷ []) (Ok (reply.Committed 1)) None
+ends_one : Did small true (Some (record at_a { accesses = put_aa ∷ put_bb ∷ [] })) op.End (entry.Recent 1 0 ∷ entry.End 1 (put_aa ∷ put_bb ∷ []) (Committed 1) ∷ []) (Ok (reply.Committed 1)) None
 ends_one = inl (refl, (refl, refl, refl, refl))
 
-begins_two : Did small None (op.Begin None) (entry.Begin 2 1 Serial ∷ []) (Ok (reply.Began 1)) (Some (record at_b { accesses = [] }))
+begins_two : Did small true None (op.Begin None) (entry.Begin 2 1 Serial ∷ []) (Ok (reply.Began 1)) (Some (record at_b { accesses = [] }))
 begins_two = inl (refl, refl, refl)
 
-releases_b : Did small (Some at_b) (op.Release b) (entry.Post 2 b (get_both ∷ []) ∷ []) (Ok reply.Done) None
+releases_b : Did small true (Some at_b) (op.Release b) (entry.Post 2 b (get_both ∷ []) ∷ []) (Ok reply.Done) None
 releases_b = inl (refl, refl, refl, refl, refl)
 
-first_walk : Walk small None first_lines first_entries first_told None
+first_walk : Walk small true None first_lines first_entries first_told None
 first_walk = (
   _,
   _,
@@ -209,7 +209,7 @@ first_walk = (
   ),
 )
 
-second_walk : Walk small None second_lines second_entries second_told None
+second_walk : Walk small true None second_lines second_entries second_told None
 second_walk = (
   _,
   _,
@@ -346,47 +346,47 @@ told = record {
 
 -- What is refused: a reply of another answer, an end without its look at the later commits, an entry of a line that the
 -- client's own state answers, a look for another label, and a read of the block as it is without the own writes.
-not_read_only : Does small (Some at_a) op.End (entry.Recent 1 0 ∷ entry.End 1 (put_aa ∷ []) (Committed 1) ∷ []) (Ok reply.ReadOnly) None → ⊥
+not_read_only : Does small true (Some at_a) op.End (entry.Recent 1 0 ∷ entry.End 1 (put_aa ∷ []) (Committed 1) ∷ []) (Ok reply.ReadOnly) None → ⊥
 not_read_only does = cc (does.1.2)
 
-not_unchecked : Does small (Some at_a) op.End (entry.End 1 (put_aa ∷ []) (Committed 1) ∷ []) (Ok (reply.Committed 1)) None → ⊥
+not_unchecked : Does small true (Some at_a) op.End (entry.End 1 (put_aa ∷ []) (Committed 1) ∷ []) (Ok (reply.Committed 1)) None → ⊥
 not_unchecked does = does
 
-not_in_one : Does small (Some at_a) (op.Begin None) (entry.Begin 2 0 Serial ∷ []) (Ok (reply.Began 0)) (Some at_a) → ⊥
+not_in_one : Does small true (Some at_a) (op.Begin None) (entry.Begin 2 0 Serial ∷ []) (Ok (reply.Began 0)) (Some at_a) → ⊥
 unfolding step
 not_in_one does = cc (does.0)
 
-answers_in_tx : Does small (Some at_a) (op.Begin None) [] (Ok reply.InTx) (Some at_a)
+answers_in_tx : Does small true (Some at_a) (op.Begin None) [] (Ok reply.InTx) (Some at_a)
 unfolding step
 answers_in_tx = (refl, refl, refl)
 
 not_equal : (m n : ℕ) → m < n → m ≡ n → ⊥
 not_equal m n less same = absurd (omega arith)
 
-not_another_label : Does small None (op.Takeover a) (entry.Look b (Some at_b) ∷ []) (Ok (reply.Began 1)) (Some at_b) → ⊥
+not_another_label : Does small true None (op.Takeover a) (entry.Look b (Some at_b) ∷ []) (Ok (reply.Began 1)) (Some at_b) → ⊥
 not_another_label does = not_equal (slice_index a 0) (slice_index b 0) (omega arith) (ap (λ l. slice_index l 0) (sym does.0))
 
-not_another_begin : Does small None (op.Takeover b) (entry.Look b (Some at_b) ∷ []) (Ok (reply.Began 0)) (Some at_b) → ⊥
+not_another_begin : Does small true None (op.Takeover b) (entry.Look b (Some at_b) ∷ []) (Ok (reply.Began 0)) (Some at_b) → ⊥
 not_another_begin does = cc (does.1)
 
 -- an await that gives up at its first look
-not_at_once : Does small None (op.Await b) (entry.Look b None ∷ []) (Ok reply.NoHandle) None → ⊥
+not_at_once : Does small true None (op.Await b) (entry.Look b None ∷ []) (Ok reply.NoHandle) None → ⊥
 not_at_once does = cc (does.2.0)
 
 -- what the own state, or the arguments, refuse makes no entry
-outside : Does small (Some at_a) (op.Read 4) [] (Ok reply.BadBlock) (Some at_a)
+outside : Does small true (Some at_a) (op.Read 4) [] (Ok reply.BadBlock) (Some at_a)
 unfolding step read_step
 outside = (refl, refl, refl)
 
-no_fetch_outside : Does small (Some at_a) (op.Read 4) (entry.Fetch 1 4 [] ∷ []) (Ok reply.BadBlock) (Some at_a) → ⊥
+no_fetch_outside : Does small true (Some at_a) (op.Read 4) (entry.Fetch 1 4 [] ∷ []) (Ok reply.BadBlock) (Some at_a) → ⊥
 unfolding step read_step
 no_fetch_outside does = cc (does.0)
 
 -- a fault of an end: the client stops, and has nothing to abort; after a fault of a fetch it has
-stops_without : Does small (Some at_a) op.End (entry.Recent 1 0 ∷ entry.Refused (call.End 1 (put_aa ∷ [])) (cause.Disk 0 1) ∷ []) (Err stop.Disk) None
+stops_without : Does small true (Some at_a) op.End (entry.Recent 1 0 ∷ entry.Refused (call.End 1 (put_aa ∷ [])) (cause.Disk 0 1) ∷ []) (Err stop.Disk) None
 stops_without = (refl, (refl, refl, refl))
 
-stops_with : Does small (Some at_a) (op.Read 0) (entry.Refused (call.Fetch 1 0) (cause.Disk 0 1) ∷ []) (Err stop.Disk) (Some at_a)
+stops_with : Does small true (Some at_a) (op.Read 0) (entry.Refused (call.Fetch 1 0) (cause.Disk 0 1) ∷ []) (Err stop.Disk) (Some at_a)
 unfolding step read_step
 stops_with = (refl, refl, refl)
 

@@ -1,5 +1,5 @@
 -- Lines that were answered, and one more.
-use Rattle.std.proofs.Common.{◌≡◌, ℕ, List, [], ◌∷◌, ◌++◌, Option, Some, None, ap, refl, sym, subst, ◌∙◌, append_assoc}
+use Rattle.std.proofs.Common.{◌≡◌, ℕ, Bool, List, [], ◌∷◌, ◌++◌, Option, Some, None, ap, refl, sym, subst, ◌∙◌, append_assoc}
 use Rattle.std.specs.Prelude.{Ok}
 use Rattle.std.proofs.lemmas.List.{append-nil}
 use Rattle.iso_model.specs.declared.access.Geometry.{Geometry}
@@ -9,11 +9,11 @@ use Rattle.iso_shared.specs.declared.entry.Entry.{Entry}
 use Rattle.par_script.specs.Lines.{Own, Did, Walk}
 
 -- a line that was answered behind others
-pub walk_snoc : (g : Geometry) (own mid own' : Option Own) (lines : List (ℕ × Line)) (F es : List Entry) (told : List (ℕ × Reply)) (l : ℕ × Line) (r : Reply)
-    → Walk g own lines F told mid → Did g mid l.1.op es (Ok r) own' → Walk g own (lines ++ l ∷ []) (F ++ es) (told ++ (l.0, r) ∷ []) own'
-walk_snoc g own mid own' [] F es told l r w did =
-    (es, r, own', [], [], ap (λ v. v ++ es) w.0 ∙ sym (append-nil es), ap (λ v. v ++ (l.0, r) ∷ []) w.1, subst (λ o. Did g o l.1.op es (Ok r) own') w.2 did, (refl, refl, refl))
-walk_snoc g own mid own' (x ∷ lines) F es told l r w did = (
+pub walk_snoc : (g : Geometry) (tells : Bool) (own mid own' : Option Own) (lines : List (ℕ × Line)) (F es : List Entry) (told : List (ℕ × Reply)) (l : ℕ × Line) (r : Reply)
+    → Walk g tells own lines F told mid → Did g tells mid l.1.op es (Ok r) own' → Walk g tells own (lines ++ l ∷ []) (F ++ es) (told ++ (l.0, r) ∷ []) own'
+walk_snoc g tells own mid own' [] F es told l r w did =
+    (es, r, own', [], [], ap (λ v. v ++ es) w.0 ∙ sym (append-nil es), ap (λ v. v ++ (l.0, r) ∷ []) w.1, subst (λ o. Did g tells o l.1.op es (Ok r) own') w.2 did, (refl, refl, refl))
+walk_snoc g tells own mid own' (x ∷ lines) F es told l r w did = (
   w.0,
   w.1,
   w.2,
@@ -22,5 +22,5 @@ walk_snoc g own mid own' (x ∷ lines) F es told l r w did = (
   ap (λ v. v ++ es) w.5 ∙ append_assoc w.0 w.3 es,
   ap (λ v. v ++ (l.0, r) ∷ []) w.6,
   w.7,
-  walk_snoc g w.2 mid own' lines w.3 es w.4 l r w.8 did,
+  walk_snoc g tells w.2 mid own' lines w.3 es w.4 l r w.8 did,
 )

@@ -1,5 +1,7 @@
 -- What the lines of one client make of its own transaction, with the answers of their entries.
-use Rattle.std.specs.Prelude.{◌≡◌, ◌⊎◌, ℕ, ◌-◌, ◌<◌, List, [], ◌∷◌, ◌++◌, Option, Some, None, Result, Ok, Err, replicate, unwrap_or}
+use Rattle.std.specs.Prelude.{◌≡◌, ◌⊎◌, ℕ, ◌-◌, ◌<◌, ◌==◌, ◌&&◌, Bool, true, false, cond, not, List, [], ◌∷◌, ◌++◌, Option, Some, None, Result, Ok, Err, IfOk, map, replicate, unwrap_or}
+use Rattle.std.specs.List.{AllByRecursion}
+use Rattle.iso_model.specs.declared.access.Access.{Access}
 use Rattle.iso_model.specs.declared.access.Geometry.{Geometry}
 use Rattle.iso_model.specs.declared.access.Mode.{Mode}
 use Rattle.iso_model.specs.declared.script.Line.{Line}
@@ -8,6 +10,9 @@ use Rattle.iso_model.specs.declared.script.Op.TheVariants as op
 use Rattle.iso_model.specs.declared.script.Reply.{Reply}
 use Rattle.iso_model.specs.declared.script.Reply.TheVariants as reply
 use Rattle.iso_model.specs.Array.{Array}
+use Rattle.iso_model.specs.Effect.{is_write}
+use Rattle.iso_model.specs.Geometry.{is_serial}
+use Rattle.iso_model.specs.Premises.{block_at}
 use Rattle.iso_model.specs.Step.{step}
 use Rattle.iso_model.specs.World.{World, Live, client, fresh}
 use Rattle.iso_shared.specs.declared.entry.Call.TheVariants as call
@@ -156,48 +161,109 @@ abbrev pub Stats : Option Own → List Entry → Result Reply Stop → Option Ow
 Stats own (entry.Stat numbers ∷ []) r own' = (r ≡ Ok (stat_reply numbers)) × (own' ≡ own)
 Stats own es r own' = ⊥
 
--- these entries are the line's, and it is answered so; the client has the one transaction before it and the other after it
-abbrev pub Does : Geometry → Option Own → Op → List Entry → Result Reply Stop → Option Own → Type 0
-Does g None (op.Begin named) es r own' = Begins g named es r own'
-Does g None (op.Takeover label) es r own' = Looks label es r own'
-Does g None (op.Await label) es r own' = LooksFor label MAX_LOOKS es r own'
-Does g (Some t) (op.Read block) es r own' = Reads g t (op.Read block) block es r own'
-Does g (Some t) (op.Get block off len) es r own' = Reads g t (op.Get block off len) block es r own'
-Does g (Some t) op.End es r own' = Ends t es r own'
-Does g (Some t) op.Abort es r own' = Aborts t es r own'
-Does g (Some t) (op.Release label) es r own' = Posts t label es r own'
-Does g own op.Trim es r own' = Trims own es r own'
-Does g own op.Stat es r own' = Stats own es r own'
-Does g own op.Compact es r own' = Compacts own es r own'
-Does g own op.Upgrade es r own' = Upgrades own es r own'
-Does g own o es r own' = Says g own o es r own'
+-- the blocks of the reads among accesses, in order
+abbrev pub blocks_read : List Access → List ℕ
+blocks_read [] = []
+blocks_read (a ∷ accesses) = cond (is_write a) (blocks_read accesses) (a.block ∷ blocks_read accesses)
 
-abbrev pub Did : Geometry → Option Own → Op → List Entry → Result Reply Stop → Option Own → Type 0
-Did g own o es r own' = Does g own o es r own' ⊎ Wants own es r own'
+-- blocks with the bytes that were fetched of them, in order
+abbrev pub Fetched : Type 0
+Fetched = List (ℕ × List ℕ)
+
+-- the entries of these fetches by a transaction, and of the one at which they stopped, where one was refused
+abbrev pub fetches : (number : ℕ) → Fetched → List Entry
+fetches n fetched = map (λ f. entry.Fetch n f.0 f.1) fetched
+
+abbrev pub refused_fetch : (number : ℕ) → Option (ℕ × Cause) → List Entry
+refused_fetch n None = []
+refused_fetch n (Some f) = entry.Refused (call.Fetch n f.0) f.1 ∷ []
+
+-- a client stops at Down or Disk where a fetch was refused so, and nowhere else
+abbrev pub StopsBy : Option (ℕ × Cause) → Result Reply Stop → Type 0
+StopsBy (Some (b, cause.Down)) r = r ≡ Err stop.Down
+StopsBy (Some (b, cause.Disk before now)) r = r ≡ Err stop.Disk
+StopsBy (Some (b, why)) r = ⊥
+StopsBy None (Ok said) = Unit {0}
+StopsBy None (Err stop.Memory) = Unit {0}
+StopsBy None (Err why) = ⊥
+
+-- what the rules of one thread answer, and what they make of the transaction, on an array with these bytes
+pub record AnswersOn (g : Geometry) (t : Own) (o : Op) (fetched : Fetched) (said : Reply) (own' : Option Own) : Type 0 where
+  pub array : Array
+  pub has : AllByRecursion (λ f. block_at array f.0 ≡ f.1) fetched
+  pub reply : said ≡ answer g array (Some t) o
+  pub leaves : own' ≡ own_after g array (Some t) o
+
+-- A call of a store by a transaction: one fetch for each read that came, in their order, and where one was refused that one last.
+-- The transaction gets these accesses, and is else the same. Where the device tells its bytes they and the reply are those of
+-- the rules, over the bytes that were fetched.
+pub record CallsStore (g : Geometry) (tells : Bool) (t : Own) (o : Op) (es : List Entry) (r : Result Reply Stop) (own' : Option Own) : Type 0 where
+  pub fetched : Fetched
+  pub refused : Option (ℕ × Cause)
+  pub done : List Access
+  pub are : es ≡ fetches t.number fetched ++ refused_fetch t.number refused
+  pub stops : StopsBy refused r
+  pub reads : blocks_read done ≡ map (λ f. f.0) fetched
+  pub left : own' ≡ Some (record t { accesses = t.accesses ++ done })
+  pub told : tells ≡ true → IfOk r (λ said. AnswersOn g t o fetched said own')
+
+abbrev pub Where : Bool → (P Q : Type 0) → Type 0
+Where true P Q = P
+Where false P Q = Q
+
+-- the one in a serial transaction of an image that has the store, and the other in all others
+abbrev pub InStore : (blocks : ℕ) → Own → (stored other : Type 0) → Type 0
+InStore blocks t P Q = Where (not (blocks == 0) && is_serial t.mode) P Q
+
+-- these entries are the line's, and it is answered so; the client has the one transaction before it and the other after it
+abbrev pub Does : Geometry → (tells : Bool) → Option Own → Op → List Entry → Result Reply Stop → Option Own → Type 0
+Does g tells None (op.Begin named) es r own' = Begins g named es r own'
+Does g tells None (op.Takeover label) es r own' = Looks label es r own'
+Does g tells None (op.Await label) es r own' = LooksFor label MAX_LOOKS es r own'
+Does g tells (Some t) (op.Read block) es r own' = Reads g t (op.Read block) block es r own'
+Does g tells (Some t) (op.Get block off len) es r own' = Reads g t (op.Get block off len) block es r own'
+Does g tells (Some t) op.End es r own' = Ends t es r own'
+Does g tells (Some t) op.Abort es r own' = Aborts t es r own'
+Does g tells (Some t) (op.Release label) es r own' = Posts t label es r own'
+Does g tells (Some t) (op.HashPut key value) es r own' = InStore g.hash t (CallsStore g tells t (op.HashPut key value) es r own') (Says g (Some t) (op.HashPut key value) es r own')
+Does g tells (Some t) (op.HashGet key) es r own' = InStore g.hash t (CallsStore g tells t (op.HashGet key) es r own') (Says g (Some t) (op.HashGet key) es r own')
+Does g tells (Some t) (op.HashDelete key) es r own' = InStore g.hash t (CallsStore g tells t (op.HashDelete key) es r own') (Says g (Some t) (op.HashDelete key) es r own')
+Does g tells (Some t) (op.TreePut key value) es r own' = InStore g.tree t (CallsStore g tells t (op.TreePut key value) es r own') (Says g (Some t) (op.TreePut key value) es r own')
+Does g tells (Some t) (op.TreeGet key) es r own' = InStore g.tree t (CallsStore g tells t (op.TreeGet key) es r own') (Says g (Some t) (op.TreeGet key) es r own')
+Does g tells (Some t) (op.TreeDelete key) es r own' = InStore g.tree t (CallsStore g tells t (op.TreeDelete key) es r own') (Says g (Some t) (op.TreeDelete key) es r own')
+Does g tells (Some t) (op.TreeScan from to most) es r own' = InStore g.tree t (CallsStore g tells t (op.TreeScan from to most) es r own') (Says g (Some t) (op.TreeScan from to most) es r own')
+Does g tells own op.Trim es r own' = Trims own es r own'
+Does g tells own op.Stat es r own' = Stats own es r own'
+Does g tells own op.Compact es r own' = Compacts own es r own'
+Does g tells own op.Upgrade es r own' = Upgrades own es r own'
+Does g tells own o es r own' = Says g own o es r own'
+
+abbrev pub Did : Geometry → (tells : Bool) → Option Own → Op → List Entry → Result Reply Stop → Option Own → Type 0
+Did g tells own o es r own' = Does g tells own o es r own' ⊎ Wants own es r own'
 
 -- each of these lines was answered, and the replies carry their numbers
-abbrev pub Walk : Geometry → Option Own → List (ℕ × Line) → List Entry → List (ℕ × Reply) → Option Own → Type 0
-Walk g own [] F told own' = (F ≡ []) × (told ≡ []) × (own' ≡ own)
-Walk g own (l ∷ lines) F told own' =
+abbrev pub Walk : Geometry → (tells : Bool) → Option Own → List (ℕ × Line) → List Entry → List (ℕ × Reply) → Option Own → Type 0
+Walk g tells own [] F told own' = (F ≡ []) × (told ≡ []) × (own' ≡ own)
+Walk g tells own (l ∷ lines) F told own' =
     (es : List Entry) × (r : Reply) × (mid : Option Own) × (G : List Entry) × (rest : List (ℕ × Reply))
-    × (F ≡ es ++ G) × (told ≡ (l.0, r) ∷ rest) × Did g own l.1.op es (Ok r) mid × Walk g mid lines G rest own'
+    × (F ≡ es ++ G) × (told ≡ (l.0, r) ∷ rest) × Did g tells own l.1.op es (Ok r) mid × Walk g tells mid lines G rest own'
 
 -- the last of these lines is the one at which the client stopped: it has no reply, and the entries of the calls that it made
-pub record StopsAtLast (g : Geometry) (lines : List (ℕ × Line)) (told : List (ℕ × Reply)) (why : Stop) (F : List Entry) (own' : Option Own) : Type 0 where
+pub record StopsAtLast (g : Geometry) (tells : Bool) (lines : List (ℕ × Line)) (told : List (ℕ × Reply)) (why : Stop) (F : List Entry) (own' : Option Own) : Type 0 where
   pub first : List (ℕ × Line)
   pub last : ℕ × Line
   pub are : lines ≡ first ++ last ∷ []
   pub walked : List Entry
   pub mid : Option Own
-  pub walk : Walk g None first walked told mid
+  pub walk : Walk g tells None first walked told mid
   pub entries : List Entry
-  pub did : Did g mid last.1.op entries (Err why) own'
+  pub did : Did g tells mid last.1.op entries (Err why) own'
   pub all : F ≡ walked ++ entries
 
 -- the lines were run, to their end or to the one at which the client stopped
-abbrev pub Ran : Geometry → List (ℕ × Line) → List (ℕ × Reply) → Option Stop → List Entry → Option Own → Type 0
-Ran g lines told None F own' = Walk g None lines F told own'
-Ran g lines told (Some why) F own' = StopsAtLast g lines told why F own'
+abbrev pub Ran : Geometry → (tells : Bool) → List (ℕ × Line) → List (ℕ × Reply) → Option Stop → List Entry → Option Own → Type 0
+Ran g tells lines told None F own' = Walk g tells None lines F told own'
+Ran g tells lines told (Some why) F own' = StopsAtLast g tells lines told why F own'
 
 -- at its end a client aborts the transaction that it still has
 abbrev pub last_abort : Option Own → List Entry
@@ -205,8 +271,8 @@ last_abort None = []
 last_abort (Some t) = entry.Abort t.number ∷ []
 
 -- the client's entries are those of its lines, in their order, and then the abort
-pub record ClientLines (g : Geometry) (lines : List (ℕ × Line)) (told : List (ℕ × Reply)) (why : Option Stop) (F : List Entry) : Type 0 where
+pub record ClientLines (g : Geometry) (tells : Bool) (lines : List (ℕ × Line)) (told : List (ℕ × Reply)) (why : Option Stop) (F : List Entry) : Type 0 where
   pub made : List Entry
   pub own : Option Own
-  pub ran : Ran g lines told why made own
+  pub ran : Ran g tells lines told why made own
   pub all : F ≡ made ++ last_abort own

@@ -48,4 +48,4 @@ pub record Told (A : Start) (lines : List (ℕ × Line)) (parts : List Part) (E 
   pub each : length owners ≡ length made
   pub clients : map (λ p. p.client) parts ≡ clients_in lines
   pub owned : AllByRecursion (λ owner. list_any (λ p. p.client == owner) parts ≡ true) owners
-  pub told : AllByRecursion (λ p. ClientLines A.world.geometry (lines_run lines p) p.told p.stop (entries_of p.client owners made)) parts
+  pub told : AllByRecursion (λ p. ClientLines A.world.geometry A.tells (lines_run lines p) p.told p.stop (entries_of p.client owners made)) parts

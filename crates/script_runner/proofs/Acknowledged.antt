@@ -8,7 +8,7 @@ use Rattle.iso_model.specs.declared.access.Mode.{Mode}
 use Rattle.iso_model.specs.declared.access.Span.{Span}
 use Rattle.iso_model.specs.declared.script.Line.{Line}
 use Rattle.iso_model.specs.declared.script.Op.{Op}
-use Rattle.iso_model.specs.declared.script.Op.TheVariants.{Begin, End, Abort, Put, Read as ReadBlock, Get, Write as WriteBlock, Fill, Mark, Release, Takeover, Await, Trim, Stat, Compact, Upgrade, HashPut, HashGet, HashDelete}
+use Rattle.iso_model.specs.declared.script.Op.TheVariants.{Begin, End, Abort, Put, Read as ReadBlock, Get, Write as WriteBlock, Fill, Mark, Release, Takeover, Await, Trim, Stat, Compact, Upgrade, HashPut, HashGet, HashDelete, TreePut, TreeGet, TreeDelete, TreeScan}
 use Rattle.iso_model.specs.declared.script.Reply.{Reply}
 use Rattle.iso_model.specs.declared.script.Reply.TheVariants as reply
 use Rattle.iso_model.specs.declared.stores.StoreError.{StoreError}
@@ -19,8 +19,9 @@ use Rattle.iso_model.specs.HashCalls.{del_program, get_program, put_program}
 use Rattle.iso_model.specs.History.{last}
 use Rattle.iso_model.specs.Marks.{mark_fault}
 use Rattle.iso_model.specs.Script.{after}
-use Rattle.iso_model.specs.Step.{access_step, after_commit, after_store, array_of, begin_step, commit_step, end_step, fill_step, found_reply, get_step, hash_area, hash_delete_step, hash_get_step, hash_put_step, in_store, in_transaction, mark_step, marked_step, mode_named, need, numbers, out_of_transaction, put_step, read_access, read_step, release_step, removed_reply, shown_to, step, store_step, switch_step, takeover_step, write_step}
+use Rattle.iso_model.specs.Step.{access_step, after_commit, after_store, array_of, begin_step, commit_step, end_step, fill_step, found_reply, get_step, hash_area, hash_delete_step, hash_get_step, hash_put_step, in_store, in_transaction, mark_step, marked_step, mode_named, need, numbers, out_of_transaction, put_step, read_access, read_step, release_step, removed_reply, shown_to, step, store_step, switch_step, takeover_step, write_step, pairs_reply, tree_area, tree_put_step, tree_get_step, tree_delete_step, tree_scan_step}
 use Rattle.iso_model.specs.Stores.{Program, outcome}
+use Rattle.iso_model.specs.TreeCalls as tree
 use Rattle.iso_model.specs.World.{Live, Place, World, attached, client, floor, held, used}
 use Rattle.iso_model.specs.Worlds.{AreLines, IsWorld}
 use Rattle.iso_model.proofs.Worlds.{after_leads, step_leads}
@@ -122,25 +123,50 @@ store_tells W t program answer none =
 in_store_tells : (W : World) (t : Live) (blocks : ℕ) (result : Reply × World) → Tells result → Tells (in_store W t blocks result)
 in_store_tells W t blocks result tells = refuses _ reply.NoStore W _ (λ n e. cc) (tells_either _ _ _ tells (other reply.StoreMode _ (λ n e. cc)))
 
+-- what the calls answer
+done_tells : (r : Unit {0}) (n : ℕ) → reply.Done ≡ reply.Committed n → ⊥
+done_tells r n e = cc
+
+found_tells : (r : Option (List ℕ)) (n : ℕ) → found_reply r ≡ reply.Committed n → ⊥
+found_tells None n e = cc
+found_tells (Some value) n e = cc
+
+removed_tells : (r : Bool) (n : ℕ) → removed_reply r ≡ reply.Committed n → ⊥
+removed_tells true n e = cc
+removed_tells false n e = cc
+
+pairs_tells : (r : List (List ℕ × List ℕ)) (n : ℕ) → pairs_reply r ≡ reply.Committed n → ⊥
+pairs_tells [] n e = cc
+pairs_tells (pair ∷ pairs) n e = cc
+
 hash_put_tells : (W : World) (t : Live) (key value : List ℕ) → Tells (hash_put_step W t key value)
 unfolding hash_put_step
-hash_put_tells W t key value = in_store_tells W t W.geometry.hash _ (store_tells W t (put_program (hash_area W.geometry) key value) (λ done. reply.Done) (λ r n e. cc))
+hash_put_tells W t key value = in_store_tells W t W.geometry.hash _ (store_tells W t (put_program (hash_area W.geometry) key value) (λ done. reply.Done) done_tells)
 
 hash_get_tells : (W : World) (t : Live) (key : List ℕ) → Tells (hash_get_step W t key)
 unfolding hash_get_step
-hash_get_tells W t key = in_store_tells W t W.geometry.hash _ (store_tells W t (get_program (hash_area W.geometry) key) found_reply found)
-  where
-    found : (r : Option (List ℕ)) (n : ℕ) → found_reply r ≡ reply.Committed n → ⊥
-    found None n e = cc
-    found (Some value) n e = cc
+hash_get_tells W t key = in_store_tells W t W.geometry.hash _ (store_tells W t (get_program (hash_area W.geometry) key) found_reply found_tells)
 
 hash_delete_tells : (W : World) (t : Live) (key : List ℕ) → Tells (hash_delete_step W t key)
 unfolding hash_delete_step
-hash_delete_tells W t key = in_store_tells W t W.geometry.hash _ (store_tells W t (del_program (hash_area W.geometry) key) removed_reply removed)
-  where
-    removed : (r : Bool) (n : ℕ) → removed_reply r ≡ reply.Committed n → ⊥
-    removed true n e = cc
-    removed false n e = cc
+hash_delete_tells W t key = in_store_tells W t W.geometry.hash _ (store_tells W t (del_program (hash_area W.geometry) key) removed_reply removed_tells)
+
+tree_put_tells : (W : World) (t : Live) (key value : List ℕ) → Tells (tree_put_step W t key value)
+unfolding tree_put_step
+tree_put_tells W t key value = in_store_tells W t W.geometry.tree _ (store_tells W t (tree.put_program (tree_area W.geometry) key value) (λ done. reply.Done) done_tells)
+
+tree_get_tells : (W : World) (t : Live) (key : List ℕ) → Tells (tree_get_step W t key)
+unfolding tree_get_step
+tree_get_tells W t key = in_store_tells W t W.geometry.tree _ (store_tells W t (tree.get_program (tree_area W.geometry) key) found_reply found_tells)
+
+tree_delete_tells : (W : World) (t : Live) (key : List ℕ) → Tells (tree_delete_step W t key)
+unfolding tree_delete_step
+tree_delete_tells W t key = in_store_tells W t W.geometry.tree _ (store_tells W t (tree.del_program (tree_area W.geometry) key) removed_reply removed_tells)
+
+tree_scan_tells : (W : World) (t : Live) (from to : List ℕ) (most : ℕ) → Tells (tree_scan_step W t from to most)
+unfolding tree_scan_step
+tree_scan_tells W t from to most =
+    in_store_tells W t W.geometry.tree _ (refuses _ reply.BadRange W _ (λ n e. cc) (store_tells W t (tree.scan_program (tree_area W.geometry) from to most) pairs_reply pairs_tells))
 
 release_tells : (W : World) (t : Live) (text : List ℕ) (found : Option Live) → Tells (release_step W t text found)
 release_tells W t text (Some other) = record { each = λ n e. cc }
@@ -183,6 +209,10 @@ step_tells W c Upgrade is = switch_tells W 2 (reply.Upgraded (floor W)) (λ n e.
 step_tells W c (HashPut key value) is = in_tells W (attached W c) _ (λ t. hash_put_tells W t key value)
 step_tells W c (HashGet key) is = in_tells W (attached W c) _ (λ t. hash_get_tells W t key)
 step_tells W c (HashDelete key) is = in_tells W (attached W c) _ (λ t. hash_delete_tells W t key)
+step_tells W c (TreePut key value) is = in_tells W (attached W c) _ (λ t. tree_put_tells W t key value)
+step_tells W c (TreeGet key) is = in_tells W (attached W c) _ (λ t. tree_get_tells W t key)
+step_tells W c (TreeDelete key) is = in_tells W (attached W c) _ (λ t. tree_delete_tells W t key)
+step_tells W c (TreeScan from to most) is = in_tells W (attached W c) _ (λ t. tree_scan_tells W t from to most)
 
 -- all lines
 pub all_kept : (W : World) (xs : List (ℕ × Line)) → IsWorld W → AreLines xs → (n : ℕ) → Acknowledges W xs n → n ≤ last (after W xs).history

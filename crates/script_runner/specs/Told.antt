@@ -4,7 +4,7 @@ use Rattle.std.specs.List.{AllByRecursion}
 use Rattle.iso_disk.specs.Disk.{DiskState}
 use Rattle.iso_model.specs.declared.script.Line.{Line}
 use Rattle.iso_model.specs.declared.script.Op.{Op}
-use Rattle.iso_model.specs.declared.script.Op.TheVariants.{HashPut, HashGet, HashDelete}
+use Rattle.iso_model.specs.declared.script.Op.TheVariants.{HashPut, HashGet, HashDelete, TreePut, TreeGet, TreeDelete, TreeScan}
 use Rattle.iso_model.specs.declared.script.Reply.{Reply}
 use Rattle.iso_model.specs.declared.script.Reply.TheVariants.{Shown}
 use Rattle.iso_model.specs.World.{World}
@@ -23,6 +23,10 @@ abbrev pub IsPlain : Op → Type 0
 IsPlain (HashPut key value) = ⊥
 IsPlain (HashGet key) = ⊥
 IsPlain (HashDelete key) = ⊥
+IsPlain (TreePut key value) = ⊥
+IsPlain (TreeGet key) = ⊥
+IsPlain (TreeDelete key) = ⊥
+IsPlain (TreeScan from to most) = ⊥
 IsPlain op = Unit {0}
 
 -- lines that call no store

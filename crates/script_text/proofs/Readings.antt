@@ -4,9 +4,9 @@ use Rattle.iso_model.specs.declared.access.Mode.TheVariants.{Serial, Snapshot}
 use Rattle.iso_model.specs.declared.limits.TheConstants.{MAX_LINE}
 use Rattle.iso_model.specs.declared.script.Line.{Line}
 use Rattle.iso_model.specs.declared.script.Op.{Op}
-use Rattle.iso_model.specs.declared.script.Op.TheVariants.{Begin, End, Abort, Put, Read, Get, Write, Fill, Mark, Release, Takeover, Await, Trim, Stat, Compact, Upgrade, HashPut, HashGet, HashDelete}
+use Rattle.iso_model.specs.declared.script.Op.TheVariants.{Begin, End, Abort, Put, Read, Get, Write, Fill, Mark, Release, Takeover, Await, Trim, Stat, Compact, Upgrade, HashPut, HashGet, HashDelete, TreePut, TreeGet, TreeDelete, TreeScan}
 use Rattle.iso_model.specs.declared.script.Parsed.TheVariants.{Line as Says}
-use Rattle.iso_model.specs.Script.{◌>>=◌, client_in_range, key_and_value, number_argument, number_and_bytes, one_key, one_label, one_number, operation_of, other_operation, store_argument, store_operation, parse, put_arguments, said, three_numbers, two_numbers}
+use Rattle.iso_model.specs.Script.{◌>>=◌, client_in_range, key_and_value, number_argument, number_and_bytes, one_key, one_label, one_number, operation_of, other_operation, store_argument, store_operation, tree_operation, parse, put_arguments, said, scan_arguments, three_numbers, two_numbers}
 use Rattle.iso_model.specs.Text.{dashed, digit_of, hex_text, is_label, number_of, words_of}
 use Rattle.iso_model.specs.Premises.{AreBytes}
 use Rattle.script_text.specs.Spelling.{arguments_of, line_text, line_words, name_of, spaced, AreSome, IsLine, IsSayable}
@@ -34,6 +34,10 @@ name_word Upgrade = record { some = omega arith; bytes = refl }
 name_word (HashPut key value) = record { some = omega arith; bytes = refl }
 name_word (HashGet key) = record { some = omega arith; bytes = refl }
 name_word (HashDelete key) = record { some = omega arith; bytes = refl }
+name_word (TreePut key value) = record { some = omega arith; bytes = refl }
+name_word (TreeGet key) = record { some = omega arith; bytes = refl }
+name_word (TreeDelete key) = record { some = omega arith; bytes = refl }
+name_word (TreeScan from to most) = record { some = omega arith; bytes = refl }
 
 dashed_word : (bytes : List ℕ) → AreBytes bytes → IsWord (dashed bytes)
 dashed_word [] are = record { some = omega arith; bytes = refl }
@@ -61,6 +65,10 @@ arguments_words Upgrade can = tt
 arguments_words (HashPut key value) can = (dashed_word key can.0, (dashed_word value can.1, tt))
 arguments_words (HashGet key) can = (dashed_word key can, tt)
 arguments_words (HashDelete key) can = (dashed_word key can, tt)
+arguments_words (TreePut key value) can = (dashed_word key can.0, (dashed_word value can.1, tt))
+arguments_words (TreeGet key) can = (dashed_word key can, tt)
+arguments_words (TreeDelete key) can = (dashed_word key can, tt)
+arguments_words (TreeScan from to most) can = (dashed_word from can.0, (dashed_word to can.1, (decimal_word most can.2, tt)))
 
 line_are_words : (line : Line) → IsLine line → AreWords (line_words line)
 line_are_words line is = (decimal_word line.client (omega (arith, is.last)), (name_word line.op, arguments_words line.op is.op))
@@ -109,8 +117,12 @@ key_printed op key are = after _ _ key (stored_printed key are)
 value_printed : (op : List ℕ → List ℕ → Op) (key value : List ℕ) → AreBytes key → AreBytes value → key_and_value op (dashed key ∷ dashed value ∷ []) ≡ Ok (op key value)
 value_printed op key value first second = after _ _ key (stored_printed key first) ∙ after _ _ value (stored_printed value second)
 
+scan_printed : (from to : List ℕ) (most : ℕ) → AreBytes from → AreBytes to → most < 2 ^ 32 → scan_arguments (dashed from ∷ dashed to ∷ decimal most ∷ []) ≡ Ok (TreeScan from to most)
+scan_printed from to most first second small =
+    after _ _ from (stored_printed from first) ∙ after _ _ to (stored_printed to second) ∙ after _ _ most (number_printed most small)
+
 pub operation_of-printed : (op : Op) → IsSayable op → operation_of (name_of op) (arguments_of op) ≡ Ok op
-unfolding operation_of other_operation store_operation
+unfolding operation_of other_operation store_operation tree_operation
 operation_of-printed (Begin None) can = refl
 operation_of-printed (Begin (Some Serial)) can = refl
 operation_of-printed (Begin (Some Snapshot)) can = refl
@@ -132,6 +144,10 @@ operation_of-printed Upgrade can = refl
 operation_of-printed (HashPut key value) can = value_printed HashPut key value can.0 can.1
 operation_of-printed (HashGet key) can = key_printed HashGet key can
 operation_of-printed (HashDelete key) can = key_printed HashDelete key can
+operation_of-printed (TreePut key value) can = value_printed TreePut key value can.0 can.1
+operation_of-printed (TreeGet key) can = key_printed TreeGet key can
+operation_of-printed (TreeDelete key) can = key_printed TreeDelete key can
+operation_of-printed (TreeScan from to most) can = scan_printed from to most can.0 can.1 can.2
 
 client_fits : (c : ℕ) → 1 ≤ c → c ≤ 64 → client_in_range (Some c) ≡ Ok c
 client_fits c first last = grind arith

@@ -1,7 +1,7 @@
 -- What a step of the printer asks for and leaves.
 use Rattle.std.specs.Prelude.{◌≡◌, ◌<◌, ◌≤◌, ℕ, List, ◌++◌, length}
 use Rattle.iso_model.specs.declared.script.Reply.{Reply}
-use Rattle.iso_model.specs.declared.script.Reply.TheVariants.{Found, Shown}
+use Rattle.iso_model.specs.declared.script.Reply.TheVariants.{Found, Pairs, Shown}
 use Rattle.iso_model.specs.Text.{reply_text}
 use Rattle.script_text.specs.declared.reply.TheConstants.{MOST_SHOWN}
 
@@ -14,7 +14,13 @@ pub record Extends (old new : List ℕ) : Type 0 where
 abbrev pub IsShort : Reply → Type 0
 IsShort (Shown bytes) = length bytes ≤ MOST_SHOWN
 IsShort (Found bytes) = length bytes ≤ MOST_SHOWN
+IsShort (Pairs pairs) = ⊥
 IsShort reply = Unit {0}
+
+-- a reply that tells no pairs
+abbrev pub IsOther : Reply → Type 0
+IsOther (Pairs pairs) = ⊥
+IsOther reply = Unit {0}
 
 -- a reply that tells these bytes, which are too many for that
 pub record IsLong (reply : Reply) (bytes : List ℕ) : Type 0 where

@@ -4,7 +4,7 @@ use Rattle.iso_model.specs.declared.access.Mode.{Mode}
 use Rattle.iso_model.specs.declared.access.Mode.TheVariants.{Serial, Snapshot}
 use Rattle.iso_model.specs.declared.script.Line.{Line}
 use Rattle.iso_model.specs.declared.script.Op.{Op}
-use Rattle.iso_model.specs.declared.script.Op.TheVariants.{Begin, End, Abort, Put, Read, Get, Write, Fill, Mark, Release, Takeover, Await, Trim, Stat, Compact, Upgrade, HashPut, HashGet, HashDelete}
+use Rattle.iso_model.specs.declared.script.Op.TheVariants.{Begin, End, Abort, Put, Read, Get, Write, Fill, Mark, Release, Takeover, Await, Trim, Stat, Compact, Upgrade, HashPut, HashGet, HashDelete, TreePut, TreeGet, TreeDelete, TreeScan}
 use Rattle.iso_model.specs.Premises.{AreBytes}
 use Rattle.iso_model.specs.Text.{dashed, hex_text, is_label}
 
@@ -29,6 +29,10 @@ name_of Upgrade = codes "upgrade"
 name_of (HashPut key value) = codes "hput"
 name_of (HashGet key) = codes "hget"
 name_of (HashDelete key) = codes "hdel"
+name_of (TreePut key value) = codes "tput"
+name_of (TreeGet key) = codes "tget"
+name_of (TreeDelete key) = codes "tdel"
+name_of (TreeScan from to most) = codes "tscan"
 
 abbrev pub mode_word : Mode → List ℕ
 mode_word Serial = codes "serial"
@@ -50,6 +54,10 @@ arguments_of (Await label) = label ∷ []
 arguments_of (HashPut key value) = dashed key ∷ dashed value ∷ []
 arguments_of (HashGet key) = dashed key ∷ []
 arguments_of (HashDelete key) = dashed key ∷ []
+arguments_of (TreePut key value) = dashed key ∷ dashed value ∷ []
+arguments_of (TreeGet key) = dashed key ∷ []
+arguments_of (TreeDelete key) = dashed key ∷ []
+arguments_of (TreeScan from to most) = dashed from ∷ dashed to ∷ decimal most ∷ []
 arguments_of op = []
 
 -- words with one space between two of them
@@ -85,6 +93,10 @@ IsSayable (Await label) = IsTrue (is_label label)
 IsSayable (HashPut key value) = AreBytes key × AreBytes value
 IsSayable (HashGet key) = AreBytes key
 IsSayable (HashDelete key) = AreBytes key
+IsSayable (TreePut key value) = AreBytes key × AreBytes value
+IsSayable (TreeGet key) = AreBytes key
+IsSayable (TreeDelete key) = AreBytes key
+IsSayable (TreeScan from to most) = AreBytes from × AreBytes to × (most < 2 ^ 32)
 IsSayable op = Unit {0}
 
 -- a line that can be said

@@ -7,6 +7,7 @@ mod generator;
 pub mod laws;
 mod line;
 mod operation;
+mod pairs;
 mod print;
 mod push;
 mod reply;

@@ -1,6 +1,6 @@
 // The operations, each with its arguments, which are tested from the left.
 ghost use Rattle.std.specs.Prelude.{◌≡◌};
-ghost use Rattle.iso_model.specs.Script.{bare, begin_arguments, key_and_value, number_and_bytes, one_key, one_label, one_number, operation_of, other_operation, put_arguments, store_operation, three_numbers, two_numbers};
+ghost use Rattle.iso_model.specs.Script.{bare, begin_arguments, key_and_value, number_and_bytes, one_key, one_label, one_number, operation_of, other_operation, put_arguments, scan_arguments, store_operation, three_numbers, tree_operation, two_numbers};
 ghost use Rattle.iso_model.specs.declared.script.Op.TheVariants as ops;
 ghost use Rattle.script_text.specs.Parsing.{Gives, said_by};
 ghost use Rattle.script_text.specs.Words.{texts};
@@ -99,6 +99,30 @@ fn store_operation(
     }
     if name == b"hdel".as_slice() {
         return hash_delete(alloc, client, arguments);
+    }
+    tree_operation(alloc, client, name, arguments)
+}
+
+#[tactic(auto, unfolding(iso_model::specs::Script::tree_operation))]
+fn tree_operation(
+    alloc: Global,
+    client: u8,
+    name: &[u8],
+    arguments: &[&[u8]],
+) -> Result<Parsed, LineError>
+    ensures { Gives result (said_by client (tree_operation name.now (texts arguments.now))) }
+{
+    if name == b"tput".as_slice() {
+        return tree_put(alloc, client, arguments);
+    }
+    if name == b"tget".as_slice() {
+        return tree_get(alloc, client, arguments);
+    }
+    if name == b"tdel".as_slice() {
+        return tree_delete(alloc, client, arguments);
+    }
+    if name == b"tscan".as_slice() {
+        return tree_scan(alloc, client, arguments);
     }
     Err(LineError::Cause(2))
 }
@@ -294,5 +318,60 @@ fn hash_delete(alloc: Global, client: u8, arguments: &[&[u8]]) -> Result<Parsed,
     Ok(Parsed::Line(Line {
         client,
         op: Op::HashDelete { key },
+    }))
+}
+
+fn tree_put(alloc: Global, client: u8, arguments: &[&[u8]]) -> Result<Parsed, LineError>
+    ensures { Gives result (said_by client (key_and_value ops.TreePut (texts arguments.now))) }
+{
+    let [key, value] = arguments else {
+        return Err(LineError::Cause(3));
+    };
+    let key = stored(alloc, key)?;
+    let value = stored(alloc, value)?;
+    Ok(Parsed::Line(Line {
+        client,
+        op: Op::TreePut { key, value },
+    }))
+}
+
+fn tree_get(alloc: Global, client: u8, arguments: &[&[u8]]) -> Result<Parsed, LineError>
+    ensures { Gives result (said_by client (one_key ops.TreeGet (texts arguments.now))) }
+{
+    let [key] = arguments else {
+        return Err(LineError::Cause(3));
+    };
+    let key = stored(alloc, key)?;
+    Ok(Parsed::Line(Line {
+        client,
+        op: Op::TreeGet { key },
+    }))
+}
+
+fn tree_delete(alloc: Global, client: u8, arguments: &[&[u8]]) -> Result<Parsed, LineError>
+    ensures { Gives result (said_by client (one_key ops.TreeDelete (texts arguments.now))) }
+{
+    let [key] = arguments else {
+        return Err(LineError::Cause(3));
+    };
+    let key = stored(alloc, key)?;
+    Ok(Parsed::Line(Line {
+        client,
+        op: Op::TreeDelete { key },
+    }))
+}
+
+fn tree_scan(alloc: Global, client: u8, arguments: &[&[u8]]) -> Result<Parsed, LineError>
+    ensures { Gives result (said_by client (scan_arguments (texts arguments.now))) }
+{
+    let [from, to, most] = arguments else {
+        return Err(LineError::Cause(3));
+    };
+    let from = stored(alloc, from)?;
+    let to = stored(alloc, to)?;
+    let most = number(most)?;
+    Ok(Parsed::Line(Line {
+        client,
+        op: Op::TreeScan { from, to, most },
     }))
 }

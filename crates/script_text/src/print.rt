@@ -3,10 +3,9 @@ ghost use Rattle.std.specs.Prelude.{◌≡◌, ◌≤◌, ◌∷◌, ◌++◌, I
 ghost use Rattle.iso_model.specs.declared.limits.TheConstants.{MAX_LINE};
 ghost use Rattle.iso_model.specs.declared.script.Parsed.TheVariants.{Line as Says};
 ghost use Rattle.iso_model.specs.Script.{parse};
-ghost use Rattle.iso_model.specs.Text.{dashed};
 ghost use Rattle.script_text.specs.Spelling.{arguments_of, line_text, name_of, spaced, IsLine};
 
-use crate::push::{push_bytes, push_hex, push_number};
+use crate::push::{push_bytes, push_dashed, push_hex, push_number};
 use iso_model::{Line, Memory, Mode, Op};
 use std::alloc::Global;
 
@@ -77,18 +76,18 @@ fn push_operation(out: &mut Vec<u8>, op: &Op) -> Result<(), Memory>
         }
         Op::HashGet { key } => push_dashed(out, b"hget ", key.as_slice()),
         Op::HashDelete { key } => push_dashed(out, b"hdel ", key.as_slice()),
+        Op::TreePut { key, value } => {
+            push_dashed(out, b"tput ", key.as_slice())?;
+            push_dashed(out, b" ", value.as_slice())
+        }
+        Op::TreeGet { key } => push_dashed(out, b"tget ", key.as_slice()),
+        Op::TreeDelete { key } => push_dashed(out, b"tdel ", key.as_slice()),
+        Op::TreeScan { from, to, most } => {
+            push_dashed(out, b"tscan ", from.as_slice())?;
+            push_dashed(out, b" ", to.as_slice())?;
+            push_numbered(out, b" ", *most)
+        }
     }
-}
-
-/// Adds a text and a key or a value of a store.
-fn push_dashed(out: &mut Vec<u8>, text: &[u8], bytes: &[u8]) -> Result<(), Memory>
-    ensures { OnOk result (out.new.items ≡ out.old.items ++ text.now ++ dashed bytes.now) }
-{
-    push_bytes(out, text)?;
-    if bytes.is_empty() {
-        return push_bytes(out, b"-");
-    }
-    push_hex(out, bytes)
 }
 
 /// Adds a text and a number in decimal.

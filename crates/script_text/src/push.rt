@@ -1,6 +1,7 @@
 // Texts that grow at their end.
 ghost use Rattle.std.specs.Prelude.{◌≡◌, ◌+◌, ◌*◌, ◌++◌, OnOk, OnErr, decimal, length, take};
-ghost use Rattle.iso_model.specs.Text.{hex_text};
+ghost use Rattle.iso_model.specs.Text.{dashed, hex_text};
+ghost use Rattle.script_text.specs.Printing.{Extends};
 
 use iso_model::Memory;
 use itoa::Buffer;
@@ -51,4 +52,16 @@ pub fn write_hex(bytes: &[u8], room: &mut [u8])
 {
     // The room is that of the digits, so this does not fail.
     let _ = hex::encode_to_slice(bytes, room);
+}
+
+/// Adds a text and a key or a value of a store. Without memory a part of that may be added.
+pub(crate) fn push_dashed(out: &mut Vec<u8>, text: &[u8], bytes: &[u8]) -> Result<(), Memory>
+    ensures ok { OnOk result (out.new.items ≡ out.old.items ++ text.now ++ dashed bytes.now) }
+    ensures err { OnErr result (Extends out.old.items out.new.items) }
+{
+    push_bytes(out, text)?;
+    if bytes.is_empty() {
+        return push_bytes(out, b"-");
+    }
+    push_hex(out, bytes)
 }

@@ -2,10 +2,11 @@
 ghost use Rattle.std.specs.Prelude.{◌≡◌, ◌+◌, ◌*◌, ◌<◌, ◌≤◌, ◌++◌, IfOk, MatchOption, OnOk, OnErr, codes, decimal, length};
 ghost use Rattle.iso_model.specs.declared.script.Reply.TheVariants.{Shown};
 ghost use Rattle.iso_model.specs.Text.{dashed, reply_line, reply_text};
-ghost use Rattle.script_text.specs.Printing.{Extends, IsLong, IsShort};
+ghost use Rattle.script_text.specs.Printing.{Extends, IsLong, IsOther, IsShort};
 ghost use Rattle.script_text.specs.declared.reply.TheConstants.{MOST_SHOWN};
 
 use crate::ending::Ending;
+use crate::pairs::push_pairs;
 use crate::push::{push_bytes, push_hex, push_number};
 use iso_model::{Memory, Reply};
 use std::alloc::Global;
@@ -30,6 +31,17 @@ pub fn push_reply(out: &mut Vec<u8>, client: u8, reply: &Reply) -> Result<(), Me
     ensures ok { OnOk result (out.new.items ≡ out.old.items ++ reply_line client reply.now) }
     ensures err { OnErr result (out.new.items ≡ out.old.items) }
 {
+    match reply {
+        Reply::Pairs(pairs) => push_pairs(out, client, pairs.as_slice()),
+        _ => push_other(out, client, reply),
+    }
+}
+
+fn push_other(out: &mut Vec<u8>, client: u8, reply: &Reply) -> Result<(), Memory>
+    requires { IsOther reply.now }
+    ensures ok { OnOk result (out.new.items ≡ out.old.items ++ reply_line client reply.now) }
+    ensures err { OnErr result (out.new.items ≡ out.old.items) }
+{
     match many_shown(reply) {
         Some(bytes) => push_shown(out, client, bytes),
         None => push_short(out, client, reply),
@@ -38,6 +50,7 @@ pub fn push_reply(out: &mut Vec<u8>, client: u8, reply: &Reply) -> Result<(), Me
 
 /// The bytes that a reply tells, where they are too many for a line that is made in place.
 pub(crate) fn many_shown(reply: &Reply) -> Option<&[u8]>
+    requires { IsOther reply.now }
     ensures { MatchOption result (IsShort reply.now) (λ bytes. IsLong reply.now bytes.now) }
 {
     match reply {
@@ -136,6 +149,7 @@ fn put_text(line: &mut Ending, reply: &Reply)
             put_two(line, b"ok last ", *last, b" base ", *base);
         }
         Reply::Found(value) => put_found(line, value.as_slice()),
+        Reply::Pairs(_) => unreachable!(),
         Reply::Missing => line.put(b"ok none"),
         Reply::InTx => line.put(b"in-tx"),
         Reply::NotInTx => line.put(b"not-in-tx"),

@@ -1,9 +1,10 @@
 // The line of a reply, in a text that is kept for the next one.
 ghost use Rattle.std.specs.Prelude.{◌≡◌, [], IsOk, OnErr, OnOk};
 ghost use Rattle.iso_model.specs.Text.{reply_line};
-ghost use Rattle.script_text.specs.Printing.{IsShort};
+ghost use Rattle.script_text.specs.Printing.{IsOther, IsShort};
 
 use crate::ending::Ending;
+use crate::pairs::push_pairs;
 use crate::reply::{many_shown, push_shown, put_reply};
 use iso_model::{Memory, Reply};
 use std::alloc::Global;
@@ -38,8 +39,24 @@ impl ReplyLine {
     }
 
     /// Makes the line that tells a client its reply. It takes memory only where the reply shows more than `MOST_SHOWN`
-    /// bytes; without that there is no line.
+    /// bytes, or pairs; without that there is no line.
     pub fn set(&mut self, client: u8, reply: &Reply) -> Result<(), Memory>
+        ensures ok { OnOk result (self.new ≡ reply_line client reply.now) }
+        ensures err { OnErr result (self.new ≡ []) }
+        ensures succeeds { IsShort reply.now → IsOk result }
+    {
+        match reply {
+            Reply::Pairs(pairs) => {
+                self.long.clear();
+                self.is_long = true;
+                push_pairs(&mut self.long, client, pairs.as_slice())
+            }
+            _ => self.set_other(client, reply),
+        }
+    }
+
+    fn set_other(&mut self, client: u8, reply: &Reply) -> Result<(), Memory>
+        requires { IsOther reply.now }
         ensures ok { OnOk result (self.new ≡ reply_line client reply.now) }
         ensures err { OnErr result (self.new ≡ []) }
         ensures succeeds { IsShort reply.now → IsOk result }

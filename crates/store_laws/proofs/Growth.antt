@@ -1,17 +1,13 @@
 -- A transaction grows by calls of a store and by other accesses.
-use Rattle.std.proofs.Common.{◌≡◌, ◌∙◌, sym, refl, ap, subst, ℕ, Bool, List, [], ◌∷◌, ◌++◌, append_assoc, append-nil, Option, Some, Result, Ok}
+use Rattle.std.proofs.Common.{◌≡◌, ◌∙◌, sym, refl, ap, subst, List, [], ◌∷◌, ◌++◌, append_assoc, append-nil, Some}
 use Rattle.std.proofs.lemmas.Bool.{both_ways}
 use Rattle.iso_model.specs.declared.access.Access.{Access}
-use Rattle.iso_model.specs.declared.stores.Area.{Area}
-use Rattle.iso_model.specs.declared.stores.StoreError.{StoreError}
 use Rattle.iso_model.specs.Array.{Array}
 use Rattle.iso_model.specs.Effect.{is_write, own}
-use Rattle.iso_model.specs.HashRegion.{IsHashRegion, del_op, get_op, hash_map, put_op}
-use Rattle.iso_model.specs.Stores.{AreReads, IsLocal, Program}
-use Rattle.tx_blocks.specs.Runs.{HasEnded, HasRead, IsLocalCall}
+use Rattle.iso_model.specs.Stores.{AreReads}
+use Rattle.tx_blocks.specs.Runs.{HasRead, IsLocalCall}
 use Rattle.tx_blocks.specs.Tx.{Tx, added, with_accesses}
 use Rattle.store_laws.specs.Growing.{IsMadeOf}
-use Rattle.store_laws.specs.Hash.{Del, Get, Got, HashAnswer, HashCall, Put, WasPut, WasThere, hash_store}
 use Rattle.store_laws.specs.Parts.{AreMade, Called, Other, Part, accesses_in}
 use Rattle.store_laws.specs.Region.{SpareRegion, MapStore}
 use Rattle.tx_blocks.proofs.Progress.{added_is, own_append}
@@ -51,45 +47,9 @@ pub other : (s : MapStore) (A : Array) (t u : Tx) (parts : List (Part s.Call s.A
     → SpareRegion s done → IsMadeOf s A u (parts ++ Other done ∷ [])
 other s A t u parts done is further spare = grown s A t u parts (Other done) done is further (append-nil done) (spare, tt)
 
-reads_spare : (s : MapStore) (accesses : List Access) → AreReads accesses → SpareRegion s accesses
+pub reads_spare : (s : MapStore) (accesses : List Access) → AreReads accesses → SpareRegion s accesses
 reads_spare s [] reads = tt
 reads_spare s (a ∷ accesses) reads = (λ write. absurd (both_ways (is_write a) reads.0 write), reads_spare s accesses reads.1)
 
 pub refused : (s : MapStore) (A : Array) (t u : Tx) (parts : List (Part s.Call s.Answer)) → IsMadeOf s A t parts → (read : HasRead t u) → IsMadeOf s A u (parts ++ Other read.done ∷ [])
 refused s A t u parts is read = other s A t u parts read.done is read.is (reads_spare s read.done read.reads)
-
--- the calls of the hash store, by what their contracts say
-get_local : (a : Area) (key : List ℕ) (A : Array) (accesses : List Access) (r : Option (List ℕ)) → IsLocal (IsHashRegion a) (hash_map a) (get_op key) A accesses r
-    → IsLocal (hash_store a).IsWellFormed (hash_store a).map_of ((hash_store a).act (Get key)) A accesses (Got r)
-get_local a key A accesses r local = record {
-  answers = λ B shape well agree. ap (λ value. Got value) (local.answers B shape well agree);
-  well_formed = local.well_formed;
-  maps = local.maps;
-}
-
-put_local : (a : Area) (key value : List ℕ) (A : Array) (accesses : List Access) (r : Unit {0}) → IsLocal (IsHashRegion a) (hash_map a) (put_op key value) A accesses r
-    → IsLocal (hash_store a).IsWellFormed (hash_store a).map_of ((hash_store a).act (Put key value)) A accesses WasPut
-put_local a key value A accesses r local = record { answers = λ B shape well agree. refl; well_formed = local.well_formed; maps = local.maps }
-
-del_local : (a : Area) (key : List ℕ) (A : Array) (accesses : List Access) (r : Bool) → IsLocal (IsHashRegion a) (hash_map a) (del_op key) A accesses r
-    → IsLocal (hash_store a).IsWellFormed (hash_store a).map_of ((hash_store a).act (Del key)) A accesses (WasThere r)
-del_local a key A accesses r local = record {
-  answers = λ B shape well agree. ap (λ there. WasThere there) (local.answers B shape well agree);
-  well_formed = local.well_formed;
-  maps = local.maps;
-}
-
-pub got : (a : Area) (p : Program (Result (Option (List ℕ)) StoreError)) (key : List ℕ) (A : Array) (t u : Tx) (parts : List (Part HashCall HashAnswer)) (r : Option (List ℕ)) → IsMadeOf (hash_store a) A t parts
-    → HasEnded p t u (Ok r) → IsLocalCall (IsHashRegion a) (hash_map a) (get_op key) t u r → IsMadeOf (hash_store a) A u (parts ++ Called (Get key) (added t u) (Got r) ∷ [])
-got a p key A t u parts r is ended local =
-    called (hash_store a) A t u parts (Get key) (Got r) ended.done is ended.is (λ B base. get_local a key (own B t.accesses) (added t u) r (local B base))
-
-pub was_put : (a : Area) (p : Program (Result (Unit {0}) StoreError)) (key value : List ℕ) (A : Array) (t u : Tx) (parts : List (Part HashCall HashAnswer)) (r : Unit {0}) → IsMadeOf (hash_store a) A t parts
-    → HasEnded p t u (Ok r) → IsLocalCall (IsHashRegion a) (hash_map a) (put_op key value) t u r → IsMadeOf (hash_store a) A u (parts ++ Called (Put key value) (added t u) WasPut ∷ [])
-was_put a p key value A t u parts r is ended local =
-    called (hash_store a) A t u parts (Put key value) WasPut ended.done is ended.is (λ B base. put_local a key value (own B t.accesses) (added t u) r (local B base))
-
-pub was_there : (a : Area) (p : Program (Result Bool StoreError)) (key : List ℕ) (A : Array) (t u : Tx) (parts : List (Part HashCall HashAnswer)) (r : Bool) → IsMadeOf (hash_store a) A t parts
-    → HasEnded p t u (Ok r) → IsLocalCall (IsHashRegion a) (hash_map a) (del_op key) t u r → IsMadeOf (hash_store a) A u (parts ++ Called (Del key) (added t u) (WasThere r) ∷ [])
-was_there a p key A t u parts r is ended local =
-    called (hash_store a) A t u parts (Del key) (WasThere r) ended.done is ended.is (λ B base. del_local a key (own B t.accesses) (added t u) r (local B base))

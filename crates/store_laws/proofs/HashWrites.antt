@@ -1,27 +1,24 @@
 -- The calls of the hash store write blocks of its area alone.
-use Rattle.std.proofs.Common.{◌≡◌, refl, subst, ℕ, zero, suc, ◌+◌, ◌<◌, Bool, true, false, ◌==◌, not, List, Option, Some, None, IfSome, Result, Ok, arith}
+use Rattle.std.proofs.Common.{◌≡◌, refl, ℕ, zero, suc, ◌+◌, ◌<◌, Bool, true, false, ◌==◌, not, List, Option, Some, None, IfSome, Ok, arith}
 use Rattle.std.proofs.lemmas.Bool.{eqb-false}
-use Rattle.iso_model.specs.declared.access.Access.{Access}
 use Rattle.iso_model.specs.declared.stores.Area.{Area}
 use Rattle.iso_model.specs.declared.stores.Spot.{Spot}
-use Rattle.iso_model.specs.declared.stores.StoreError.{StoreError}
 use Rattle.iso_model.specs.Array.{Array}
 use Rattle.iso_model.specs.Cells.{cell_with, unused_cell}
-use Rattle.iso_model.specs.Effect.{own}
 use Rattle.iso_model.specs.FreeMap.{lowest_free, map_bit}
 use Rattle.iso_model.specs.HashCalls.{AtBroken, AtCell, AtEnd, Walked, at_cell, del_at, del_program, get_program, got, is_spent, put_at, put_new, put_program, spare_in, spot_in, walk, walk_from}
 use Rattle.iso_model.specs.HashRegion.{IsHashArea, bucket_of, buckets, is_linked, last_position, next_of}
 use Rattle.iso_model.specs.Stores.{Done, Program, accesses_of}
-use Rattle.tx_blocks.proofs.Progress.{whole_run}
 use Rattle.tx_blocks.specs.Runs.{HasEnded}
 use Rattle.tx_blocks.specs.Tx.{Tx, added}
 use Rattle.iso_hash.proofs.Chains.{head_of, next_in}
 use Rattle.iso_hash.proofs.Gets.{bucket_below}
-use Rattle.iso_hash.proofs.Ways.{first_below}
-use Rattle.store_laws.specs.Hash.{hash_store, in_area}
-use Rattle.store_laws.specs.HashBlocks.{in_its_area}
+use Rattle.iso_model.proofs.HashAccesses.{first_below}
+use Rattle.store_laws.specs.AreaBlocks.{in_its_area, start_in}
+use Rattle.store_laws.specs.Calls.{in_area}
+use Rattle.store_laws.specs.Hash.{hash_store}
 use Rattle.store_laws.specs.Writes.{WriteWithin}
-use Rattle.store_laws.proofs.Programs.{Answers, StoresIn, answers_cond, stores_cond, stores_then, writes_within}
+use Rattle.store_laws.proofs.Programs.{Answers, StoresIn, answers_cond, ended_within, stores_cell, stores_cond, stores_then}
 
 -- where a walk ends lies in the area
 abbrev EndsIn : Area → Walked → Type 0
@@ -55,15 +52,11 @@ walk_ends a key bucket with_value (suc left) position before block spare low bel
     (λ broken. tt)
 
 -- a walk stores nothing
-cell_stores : (has : ℕ → Bool) (c : Option ℕ) (f : ℕ → Program Walked) (q : Program Walked) → ((i : ℕ) → StoresIn has (f i)) → StoresIn has q → StoresIn has (at_cell c f q)
-cell_stores has None f q found other = other
-cell_stores has (Some i) f q found other = found i
-
 walk_stores : (has : ℕ → Bool) (a : Area) (key : List ℕ) (bucket : ℕ) (with_value : Bool) (left position before block : ℕ) (spare : Option Spot)
     → StoresIn has (walk_from a key bucket with_value left position before block spare)
 walk_stores has a key bucket with_value zero position before block spare = tt
 walk_stores has a key bucket with_value (suc left) position before block spare = λ xs ys.
-    stores_cond has (is_linked a bucket position xs) _ _ (cell_stores has (cell_with a.size key xs) _ _ (λ i. tt)
+    stores_cond has (is_linked a bucket position xs) _ _ (stores_cell has (cell_with a.size key xs) _ _ (λ i. tt)
     (stores_cond has (next_of xs == 0) _ _ tt (walk_stores has a key bucket with_value left (position + 1) block (next_of xs) (spare_in a spare block xs)))) tt
 
 after_walk : {R : Type 0} (a : Area) (key : List ℕ) (with_value : Bool) (f : Walked → Program R) → IsHashArea a → ((w : Walked) → EndsIn a w → StoresIn (in_area a) (f w))
@@ -78,16 +71,13 @@ after_walk a key with_value f area each =
     (walk_stores (in_area a) a key (bucket_of a key) with_value (last_position a + 1) 0 0 (1 + bucket_of a key) None)
     (walk_ends a key (bucket_of a key) with_value (last_position a + 1) 0 0 (1 + bucket_of a key) None low first tt) each
 
-start_in : (a : Area) → IsHashArea a → in_area a a.start ≡ true
-start_in a area = let least = area.least in let e : a.start + 0 ≡ a.start = omega arith in subst (λ (b : ℕ). in_area a b ≡ true) e (in_its_area a 0 (omega arith))
-
 new_stores : (a : Area) (key value : List ℕ) (last place : ℕ) (map : List ℕ) (o : Option ℕ) → IsHashArea a → last < a.blocks
     → lowest_free map (buckets a + 1) (last_position a) ≡ o → StoresIn (in_area a) (put_new a key value last place map o)
 new_stores a key value last place map None area below found = tt
 new_stores a key value last place map (Some block) area below found =
     let high = first_below (λ k. not (map_bit map k)) (buckets a + 1) (last_position a) block found in
     let least = area.least in
-    (start_in a area, (in_its_area a block (omega arith), (in_its_area a last below, tt)))
+    (start_in a (omega arith), (in_its_area a block (omega arith), (in_its_area a last below, tt)))
 
 put_stores : (a : Area) (key value : List ℕ) (w : Walked) → IsHashArea a → EndsIn a w → StoresIn (in_area a) (put_at a key value w)
 put_stores a key value (AtCell s before ks v) area ends = (in_its_area a s.block ends.0, tt)
@@ -97,34 +87,29 @@ put_stores a key value (AtBroken block) area ends = tt
 
 del_stores : (a : Area) (w : Walked) → IsHashArea a → EndsIn a w → StoresIn (in_area a) (del_at a w)
 del_stores a (AtCell s before ks v) area ends =
-    stores_cond (in_area a) (is_spent a s ks) _ _ (λ map none. (start_in a area, (in_its_area a before ends.1, tt))) (in_its_area a s.block ends.0, tt)
+    stores_cond (in_area a) (is_spent a s ks) _ _ (λ map none. (start_in a (let least = area.least in omega arith), (in_its_area a before ends.1, tt))) (in_its_area a s.block ends.0, tt)
 del_stores a (AtEnd spare last place) area ends = tt
 del_stores a (AtBroken block) area ends = tt
 
-get_program_stores : (a : Area) (key : List ℕ) → IsHashArea a → StoresIn (in_area a) (get_program a key)
+pub get_program_stores : (a : Area) (key : List ℕ) → IsHashArea a → StoresIn (in_area a) (get_program a key)
 unfolding get_program
 get_program_stores a key area = stores_cond (in_area a) (Rattle.iso_model.specs.HashCalls.is_key key) _ _ (after_walk a key true (λ w. Done (got a w)) area (λ w ends. tt)) tt
 
-put_program_stores : (a : Area) (key value : List ℕ) → IsHashArea a → StoresIn (in_area a) (put_program a key value)
+pub put_program_stores : (a : Area) (key value : List ℕ) → IsHashArea a → StoresIn (in_area a) (put_program a key value)
 unfolding put_program
 put_program_stores a key value area =
     stores_cond (in_area a) (Rattle.iso_model.specs.HashCalls.is_key key) _ _
     (stores_cond (in_area a) (Rattle.iso_model.specs.HashCalls.is_value value) _ _ (after_walk a key false (put_at a key value) area (λ w ends. put_stores a key value w area ends)) tt) tt
 
-del_program_stores : (a : Area) (key : List ℕ) → IsHashArea a → StoresIn (in_area a) (del_program a key)
+pub del_program_stores : (a : Area) (key : List ℕ) → IsHashArea a → StoresIn (in_area a) (del_program a key)
 unfolding del_program
 del_program_stores a key area = stores_cond (in_area a) (Rattle.iso_model.specs.HashCalls.is_key key) _ _ (after_walk a key false (del_at a) area (λ w ends. del_stores a w area ends)) tt
 
-ended_within : {X : Type 0} (a : Area) (p : Program (Result X StoreError)) (A : Array) (t u : Tx) (r : X) → StoresIn (in_area a) p → t.base ≡ Some A → HasEnded p t u (Ok r)
-    → WriteWithin (hash_store a) (added t u)
-ended_within a p A t u r stores base ended =
-    subst (λ (accesses : List Access). WriteWithin (hash_store a) accesses) (whole_run p t u (Ok r) ended A base).accesses_are (writes_within (hash_store a) p (own A t.accesses) stores)
-
 pub get_within : (a : Area) (key : List ℕ) (A : Array) (t u : Tx) (r : Option (List ℕ)) → IsHashArea a → t.base ≡ Some A → HasEnded (get_program a key) t u (Ok r) → WriteWithin (hash_store a) (added t u)
-get_within a key A t u r area = ended_within a (get_program a key) A t u r (get_program_stores a key area)
+get_within a key A t u r area = ended_within (hash_store a) (get_program a key) A t u r (get_program_stores a key area)
 
 pub put_within : (a : Area) (key value : List ℕ) (A : Array) (t u : Tx) (r : Unit {0}) → IsHashArea a → t.base ≡ Some A → HasEnded (put_program a key value) t u (Ok r) → WriteWithin (hash_store a) (added t u)
-put_within a key value A t u r area = ended_within a (put_program a key value) A t u r (put_program_stores a key value area)
+put_within a key value A t u r area = ended_within (hash_store a) (put_program a key value) A t u r (put_program_stores a key value area)
 
 pub del_within : (a : Area) (key : List ℕ) (A : Array) (t u : Tx) (r : Bool) → IsHashArea a → t.base ≡ Some A → HasEnded (del_program a key) t u (Ok r) → WriteWithin (hash_store a) (added t u)
-del_within a key A t u r area = ended_within a (del_program a key) A t u r (del_program_stores a key area)
+del_within a key A t u r area = ended_within (hash_store a) (del_program a key) A t u r (del_program_stores a key area)

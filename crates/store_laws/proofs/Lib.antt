@@ -4,9 +4,18 @@ pub mod Histories
 pub mod TwoStores
 pub mod Longer
 pub mod Growth
-pub mod Blank
+pub mod BothGrowth
+pub mod KeyCalls
+pub mod Zeros
+pub mod HashBlank
+pub mod TreeBlank
 pub mod Programs
 pub mod HashWrites
+pub mod TreeWrites
+pub mod BothCalls
 mod Rows
+mod ScanRows
 pub mod PutAndGet
+pub mod PutAndScan
+pub mod BothInTx
 mod Skew

@@ -1,4 +1,4 @@
--- A history stays one whose commits write a region by calls alone, as commits come to it.
+-- A history stays one whose commits write a region, or two, by calls alone, as commits come to it.
 use Rattle.std.proofs.Common.{◌≡◌, ◌⊎◌, ◌∙◌, sym, refl, ap, subst, ℕ, zero, suc, ◌+◌, ◌-◌, ◌<◌, ◌≤◌, IfSome, List, [], ◌∷◌, ◌++◌, length, Option, Some, slice_get, arith, inl, inr}
 use Rattle.std.proofs.lemmas.Bool.{cases_lt}
 use Rattle.std.proofs.lemmas.List.{length-append, take-append-le}
@@ -11,12 +11,13 @@ use Rattle.iso_model.specs.Isolation.{HasSeen, IsIsolated}
 use Rattle.iso_model.specs.Premises.{IsHistory, appended}
 use Rattle.iso_model.proofs.Isolation.{slice_get_append_left}
 use Rattle.tx_blocks.specs.Tx.{Tx}
+use Rattle.store_laws.specs.Both.{AreMixed, BothWellFormed, IsByBoth, IsOfBoth}
 use Rattle.store_laws.specs.Growing.{IsMadeOf}
-use Rattle.store_laws.specs.Parts.{AreMade, AreOfCalls, IsByCalls, IsOfCalls, Part, calls_in}
+use Rattle.store_laws.specs.Parts.{AreMade, IsByCalls, IsOfCalls, Part, calls_in}
 use Rattle.store_laws.specs.Region.{MapStore}
 use Rattle.store_laws.proofs.Histories.{two_if}
 
-array_longer : (H : History) (c : Commit) (n : ℕ) → 0 < H.first → n ≤ last H → array_at (appended H c) n ≡ array_at H n
+pub array_longer : (H : History) (c : Commit) (n : ℕ) → 0 < H.first → n ≤ last H → array_at (appended H c) n ≡ array_at H n
 array_longer H c n first before = ap (all_own H.base) (take-append-le (n + 1 - H.first) H.commits (c ∷ []) (omega arith))
 
 of_longer : (s : MapStore) (H : History) (c d : Commit) → 0 < H.first → d.begin ≤ last H → IsOfCalls s H d → IsOfCalls s (appended H c) d
@@ -27,27 +28,30 @@ of_longer s H c d first before of = record {
   mode = of.mode;
 }
 
-last_of : {X : Type 0} (xs : List X) (y : X) (i : ℕ) → i ≡ length xs → slice_get (xs ++ y ∷ []) i ≡ Some y
+pub last_of : {X : Type 0} (xs : List X) (y : X) (i : ℕ) → i ≡ length xs → slice_get (xs ++ y ∷ []) i ≡ Some y
 last_of [] y zero is = refl
 last_of [] y (suc i) is = absurd (omega arith)
 last_of (x ∷ xs) y zero is = absurd (omega arith)
 last_of (x ∷ xs) y (suc i) is = last_of xs y i (omega arith)
 
-calls_longer : (s : MapStore) (g : Geometry) (H : History) (c : Commit) (n : ℕ) → IsByCalls s g H n → IsIsolated g (appended H c) → IsOfCalls s H c → AreOfCalls s (appended H c) n
-calls_longer s g H c n by isolated of k after to =
-    let first = by.first in
-    let since = by.since in
+-- what holds of each commit after n, for a history and a commit
+abbrev Each : (History → Commit → Type 0) → History → (n : ℕ) → Type 0
+Each P H n = (k : ℕ) → n < k → k ≤ last H → IfSome (slice_get H.commits (k - H.first)) (P H)
+
+each_longer : (P : History → Commit → Type 0) (g : Geometry) (H : History) (c : Commit) (n : ℕ) → H.first ≤ n + 1 → n ≤ last H → IsIsolated g H → IsIsolated g (appended H c)
+    → ((d : Commit) → d.begin ≤ last H → P H d → P (appended H c) d) → P H c → Each P H n → Each P (appended H c) n
+each_longer P g H c n since within was isolated stays is each k after to =
     let from : H.first ≤ k = omega arith in
     elim (cases_lt (last H) k) [
       | inl past ↦
           (let more = length-append H.commits (c ∷ []) in
           let at : slice_get (H.commits ++ c ∷ []) (k - H.first) ≡ Some c = last_of H.commits c (k - H.first) (omega arith) in
           let seen : HasSeen g (appended H c) k c = subst (λ (o : Option Commit). IfSome o (HasSeen g (appended H c) k)) at (isolated k from to) in
-          subst (λ (o : Option Commit). IfSome o (IsOfCalls s (appended H c))) (sym at) (of_longer s H c c first (let before = seen.before in omega arith) of))
+          subst (λ (o : Option Commit). IfSome o (P (appended H c))) (sym at) (stays c (let before = seen.before in omega arith) is))
       | inr low ↦
-          subst (λ (o : Option Commit). IfSome o (IsOfCalls s (appended H c))) (sym (slice_get_append_left H.commits (c ∷ []) (k - H.first) (omega arith)))
-          (two_if (HasSeen g H k) (IsOfCalls s H) (IsOfCalls s (appended H c)) (slice_get H.commits (k - H.first))
-          (λ d seen is. of_longer s H c d first (let before = seen.before in omega arith) is) (by.isolated k from low) (by.calls k after low))
+          subst (λ (o : Option Commit). IfSome o (P (appended H c))) (sym (slice_get_append_left H.commits (c ∷ []) (k - H.first) (omega arith)))
+          (two_if (HasSeen g H k) (P H) (P (appended H c)) (slice_get H.commits (k - H.first))
+          (λ d seen has. stays d (let before = seen.before in omega arith) has) (was k from low) (each k after low))
     ]
 
 pub begins_by_calls : (s : MapStore) (g : Geometry) (H : History) → IsHistory g H → IsIsolated g H → s.IsWellFormed (array_at H (last H)) → IsByCalls s g H (last H)
@@ -66,10 +70,39 @@ stays_by_calls s g H c n by isolated of = record {
   since = by.since;
   within = (let within = by.within in let more = length-append H.commits (c ∷ []) in omega arith);
   isolated = isolated;
-  calls = calls_longer s g H c n by isolated of;
+  calls = each_longer (IsOfCalls s) g H c n by.since by.within by.isolated isolated (λ d before. of_longer s H c d by.first before) of by.calls;
   begins = subst s.IsWellFormed (sym (array_longer H c n by.first by.within)) by.begins;
 }
 
 pub commits_by_calls : (s : MapStore) (H : History) (c : Commit) (t : Tx) (parts : List (Part s.Call s.Answer)) → IsMadeOf s (array_at H c.begin) t parts → t.accesses ≡ c.accesses → (calls_in parts ≡ []) ⊎ (c.mode ≡ Serial)
     → IsOfCalls s H c
 commits_by_calls s H c t parts is same mode = record { parts = parts; are = is.are ∙ same; made = is.made; mode = mode }
+
+-- THE SAME OF TWO STORES
+both_longer : (s t : MapStore) (H : History) (c d : Commit) → 0 < H.first → d.begin ≤ last H → IsOfBoth s t H d → IsOfBoth s t (appended H c) d
+both_longer s t H c d first before of = record {
+  parts = of.parts;
+  are = of.are;
+  made = subst (λ (A : Array). AreMixed s t A of.parts) (sym (array_longer H c d.begin first before)) of.made;
+  mode = of.mode;
+}
+
+pub begins_by_both : (s t : MapStore) (g : Geometry) (H : History) → IsHistory g H → IsIsolated g H → BothWellFormed s t (array_at H (last H)) → IsByBoth s t g H (last H)
+begins_by_both s t g H is isolated well = record {
+  first = is.first;
+  since = (let first = is.first in omega arith);
+  within = omega arith;
+  isolated = isolated;
+  calls = λ k after to. absurd (omega arith);
+  begins = well;
+}
+
+pub stays_by_both : (s t : MapStore) (g : Geometry) (H : History) (c : Commit) (n : ℕ) → IsByBoth s t g H n → IsIsolated g (appended H c) → IsOfBoth s t H c → IsByBoth s t g (appended H c) n
+stays_by_both s t g H c n by isolated of = record {
+  first = by.first;
+  since = by.since;
+  within = (let within = by.within in let more = length-append H.commits (c ∷ []) in omega arith);
+  isolated = isolated;
+  calls = each_longer (IsOfBoth s t) g H c n by.since by.within by.isolated isolated (λ d before. both_longer s t H c d by.first before) of by.calls;
+  begins = subst (BothWellFormed s t) (sym (array_longer H c n by.first by.within)) by.begins;
+}

@@ -1,10 +1,16 @@
 -- What a program may answer, and which blocks it may write, whatever it reads.
-use Rattle.std.proofs.Common.{◌≡◌, refl, ℕ, Bool, true, false, cond, List, [], ◌∷◌}
+use Rattle.std.proofs.Common.{◌≡◌, refl, subst, ℕ, Bool, true, false, cond, List, [], ◌∷◌, Option, Some, None, Result, Ok}
 use Rattle.std.proofs.lemmas.Bool.{both_ways}
 use Rattle.iso_model.specs.declared.access.Access.{Access}
+use Rattle.iso_model.specs.declared.stores.StoreError.{StoreError}
 use Rattle.iso_model.specs.Array.{Array, put}
+use Rattle.iso_model.specs.Effect.{is_write, own}
+use Rattle.iso_model.specs.HashCalls.{at_cell}
 use Rattle.iso_model.specs.Premises.{block_at}
-use Rattle.iso_model.specs.Stores.{Done, Look, LookWhole, Program, Reserve, Store, accesses_of, bytes_in, further_bytes, store_access, then_do}
+use Rattle.iso_model.specs.Stores.{AreReads, Done, Look, LookWhole, Program, Reserve, Store, accesses_of, bytes_in, further_bytes, store_access, then_do}
+use Rattle.tx_blocks.proofs.Progress.{whole_run}
+use Rattle.tx_blocks.specs.Runs.{HasEnded}
+use Rattle.tx_blocks.specs.Tx.{Tx, added}
 use Rattle.store_laws.specs.Region.{MapStore, SpareRegion}
 use Rattle.store_laws.specs.Writes.{AreApart, WriteWithin}
 
@@ -42,9 +48,35 @@ writes_within s (LookWhole block next) A stores = (λ write. absurd (both_ways f
 writes_within s (Reserve count next) A stores = writes_within s next A stores
 writes_within s (Store block spans bytes next) A stores = (λ write. stores.0, writes_within s next (put A (store_access block spans bytes)) stores.1)
 
+-- what a call that answered Ok wrote, by its program
+ended_as : {X : Type 0} (s : MapStore) (p : Program (Result X StoreError)) (A : Array) (t u : Tx) (r : X) → ((B : Array) → WriteWithin s (accesses_of p B)) → t.base ≡ Some A → HasEnded p t u (Ok r)
+    → WriteWithin s (added t u)
+ended_as s p A t u r within base ended =
+    subst (λ (accesses : List Access). WriteWithin s accesses) (whole_run p t u (Ok r) ended A base).accesses_are (within (own A t.accesses))
+
+pub ended_within : {X : Type 0} (s : MapStore) (p : Program (Result X StoreError)) (A : Array) (t u : Tx) (r : X) → StoresIn s.has_block p → t.base ≡ Some A → HasEnded p t u (Ok r)
+    → WriteWithin s (added t u)
+ended_within s p A t u r stores = ended_as s p A t u r (λ B. writes_within s p B stores)
+
+reads_within : (s : MapStore) (accesses : List Access) → AreReads accesses → WriteWithin s accesses
+reads_within s [] reads = tt
+reads_within s (a ∷ accesses) reads = (λ write. absurd (both_ways (is_write a) reads.0 write), reads_within s accesses reads.1)
+
+-- the same of a call that reads alone
+pub read_within : {X : Type 0} (s : MapStore) (p : Program (Result X StoreError)) (A : Array) (t u : Tx) (r : X) → ((B : Array) → AreReads (accesses_of p B)) → t.base ≡ Some A → HasEnded p t u (Ok r)
+    → WriteWithin s (added t u)
+read_within s p A t u r reads = ended_as s p A t u r (λ B. reads_within s (accesses_of p B) (reads B))
+
+pub stores_if : {R : Type 0} (has : ℕ → Bool) (t : Bool) (p q : Program R) → (t ≡ true → StoresIn has p) → (t ≡ false → StoresIn has q) → StoresIn has (cond t p q)
+stores_if has true p q one two = one refl
+stores_if has false p q one two = two refl
+
 pub stores_cond : {R : Type 0} (has : ℕ → Bool) (t : Bool) (p q : Program R) → StoresIn has p → StoresIn has q → StoresIn has (cond t p q)
-stores_cond has true p q one two = one
-stores_cond has false p q one two = two
+stores_cond has t p q one two = stores_if has t p q (λ is. one) (λ is. two)
+
+pub stores_cell : {R : Type 0} (has : ℕ → Bool) (c : Option ℕ) (f : ℕ → Program R) (q : Program R) → ((i : ℕ) → StoresIn has (f i)) → StoresIn has q → StoresIn has (at_cell c f q)
+stores_cell has None f q found other = other
+stores_cell has (Some i) f q found other = found i
 
 pub answers_cond : {R : Type 0} (P : R → Type 0) (t : Bool) (p q : Program R) → (t ≡ true → Answers P p) → (t ≡ false → Answers P q) → Answers P (cond t p q)
 answers_cond P true p q one two = one refl

@@ -1,5 +1,5 @@
 -- A get behind a put of its key, in one transaction.
-use Rattle.std.proofs.Common.{◌≡◌, ◌∙◌, sym, refl, ap, subst, ℕ, cond, List, [], ◌∷◌, Option, Some, None, Ok, Err, IfOk, Result}
+use Rattle.std.proofs.Common.{◌≡◌, ◌∙◌, sym, refl, ap, subst, ℕ, cond, List, [], ◌∷◌, Option, Some, Ok, Err, IfOk, Result}
 use Rattle.std.specs.Cmp.Lexicographic.{nat_list_cmp_total}
 use Rattle.std.specs.FinMap.{get, get-insert, insert}
 use Rattle.std.proofs.lemmas.Slice.Eq.{bytes_eq-Decides}
@@ -12,34 +12,31 @@ use Rattle.iso_model.specs.HashRegion.{IsHashArea, IsHashRegion, Pairs, get_op, 
 use Rattle.tx_blocks.specs.Runs.{HasEnded, IsLocalCall, area_of}
 use Rattle.tx_blocks.specs.Tx.{Tx, added}
 use Rattle.iso_hash.proofs.Finding.{ties}
-use Rattle.store_laws.specs.Hash.{Get, Got, HashAnswer, Put, WasPut, WasThere, hash_store}
+use Rattle.store_laws.specs.Calls.{Get, Got, Put, WasPut}
+use Rattle.store_laws.specs.Hash.{hash_store}
 use Rattle.store_laws.specs.HashBlocks.{hash_is_of_its_blocks}
 use Rattle.store_laws.specs.Parts.{Called}
-use Rattle.store_laws.proofs.Growth.{begun, got, was_put}
+use Rattle.store_laws.proofs.Growth.{begun, called}
 use Rattle.store_laws.proofs.InOrder.{live_in_order}
+use Rattle.store_laws.proofs.KeyCalls.{got_local, put_local}
 
-gets_what_was_put : (m : Pairs) (key value : List ℕ) → get (insert m key value) key ≡ Some value
+pub gets_what_was_put : (m : Pairs) (key value : List ℕ) → get (insert m key value) key ≡ Some value
 gets_what_was_put m key value =
     get-insert nat_list_cmp_total m key value key ∙ ap (λ t. cond t (Some value) (get m key)) (ties key key ∙ (bytes_eq-Decides key key).1 refl)
 
--- what the second of two answers told
-second_told : List HashAnswer → Option (List ℕ)
-second_told (x ∷ Got value ∷ answers) = value
-second_told (x ∷ WasPut ∷ answers) = None
-second_told (x ∷ WasThere there ∷ answers) = None
-second_told (x ∷ []) = None
-second_told [] = None
+-- what the second of two calls answered
+pub same_got : (x y : Option (List ℕ)) → WasPut ∷ Got x ∷ [] ≡ WasPut ∷ Got y ∷ [] → x ≡ y
+same_got x y e = cc
 
 pub put_then_get : (a : Area) (key value : List ℕ) (t u v : Tx) (p : Unit {0}) (r : Option (List ℕ)) (A : Array) → IsHashArea a → t.base ≡ Some A → t.accesses ≡ [] → IsHashRegion a A
     → HasEnded (put_program a key value) t u (Ok p) → IsLocalCall (IsHashRegion a) (hash_map a) (put_op key value) t u p
     → HasEnded (get_program a key) u v (Ok r) → IsLocalCall (IsHashRegion a) (hash_map a) (get_op key) u v r → r ≡ Some value
-unfolding second_told
-put_then_get a key value t u v p r A area base none region put_ended put_local get_ended get_local =
+put_then_get a key value t u v p r A area base none region put_ended put_is get_ended get_is =
     let s = hash_store a in
-    let one = was_put a (put_program a key value) key value A t u [] p (begun s A t base none) put_ended put_local in
-    let both = got a (get_program a key) key A u v (Called (Put key value) (added t u) WasPut ∷ []) r one get_ended get_local in
+    let one = called s A t u [] (Put key value) WasPut put_ended.done (begun s A t base none) put_ended.is (put_local (IsHashRegion a) (hash_map a) key value t u p put_is) in
+    let both = called s A u v (Called (Put key value) (added t u) WasPut ∷ []) (Get key) (Got r) get_ended.done one get_ended.is (got_local (IsHashRegion a) (hash_map a) key u v r get_is) in
     let order = live_in_order s (hash_is_of_its_blocks a area) A (Called (Put key value) (added t u) WasPut ∷ Called (Get key) (added u v) (Got r) ∷ []) both.made region in
-    sym (ap second_told order.answers) ∙ gets_what_was_put (hash_map a A) key value
+    sym (same_got (get (insert (hash_map a A) key value) key) r order.answers) ∙ gets_what_was_put (hash_map a A) key value
 
 -- the same of two calls, as their contracts say what they left
 pub put_then_get_call : (region : Region) (key value : List ℕ) (t u v : Tx) (p : Unit {0}) (result : Result (Option (List ℕ)) StoreError) → IsHashArea (area_of t region)

@@ -1,16 +1,16 @@
 -- What a transaction that calls two stores is to each of them.
-use Rattle.std.proofs.Common.{◌≡◌, ◌∙◌, refl, ap, subst, ℕ, ◌-◌, ◌<◌, ◌≤◌, IfSome, List, [], ◌∷◌, ◌++◌, Some, slice_get, inl, inr}
+use Rattle.std.proofs.Common.{◌≡◌, ◌∙◌, refl, ap, subst, ℕ, ◌-◌, ◌<◌, ◌≤◌, IfSome, false, List, [], ◌∷◌, ◌++◌, Some, slice_get, inl, inr}
 use Rattle.iso_model.specs.declared.access.Access.{Access}
 use Rattle.iso_model.specs.declared.access.Commit.{Commit}
 use Rattle.iso_model.specs.declared.access.Geometry.{Geometry}
 use Rattle.iso_model.specs.Array.{Array}
 use Rattle.iso_model.specs.Conflict.{IsSerialAt}
-use Rattle.iso_model.specs.Effect.{own}
+use Rattle.iso_model.specs.Effect.{has_write, own}
 use Rattle.iso_model.specs.History.{History, array_at, last}
-use Rattle.store_laws.specs.Both.{AreMixed, BothInOrder, BothWellFormed, First, IsByBoth, IsOfBoth, MixedParts, Neither, Second, firsts, seconds}
+use Rattle.store_laws.specs.Both.{AreMixed, BothByMap, BothInOrder, BothWellFormed, First, IsByBoth, IsOfBoth, MixedParts, Neither, Second, firsts, seconds}
 use Rattle.store_laws.specs.Parts.{AnswerInOrder, AreMade, IsByCalls, IsOfCalls, accesses_in}
 use Rattle.store_laws.specs.Region.{IsOfItsBlocks, MapStore}
-use Rattle.store_laws.proofs.Histories.{commits_in_order, if_some, two_if}
+use Rattle.store_laws.proofs.Histories.{commits_in_order, if_some, read_only_at, two_if, well_formed_at}
 use Rattle.store_laws.proofs.InOrder.{commit_by, live_in_order}
 
 -- each store sees the same accesses
@@ -83,6 +83,21 @@ second_by s t g H n by = record {
   calls = λ k from to. if_some (IsOfBoth s t H) (IsOfCalls t H) (slice_get H.commits (k - H.first)) (λ c is. second_of_calls s t H c) (by.calls k from to);
   begins = by.begins.second;
 }
+
+pub both_well_formed : (s t : MapStore) → IsOfItsBlocks s → IsOfItsBlocks t → (g : Geometry) (H : History) (n m : ℕ) → IsByBoth s t g H n → n ≤ m → m ≤ last H → BothWellFormed s t (array_at H m)
+both_well_formed s t one two g H n m by from to = record {
+  first = well_formed_at s one g H n m (first_by s t g H n by) from to;
+  second = well_formed_at t two g H n m (second_by s t g H n by) from to;
+}
+
+pub both_read_only : (s t : MapStore) → IsOfItsBlocks s → IsOfItsBlocks t → (g : Geometry) (H : History) (n begin : ℕ) (parts : MixedParts s t) → IsByBoth s t g H n → n ≤ begin → begin ≤ last H
+    → AreMixed s t (array_at H begin) parts → has_write (accesses_in (firsts parts)) ≡ false → BothByMap s t parts (array_at H begin)
+both_read_only s t one two g H n begin parts by from to made none =
+    let A = array_at H begin in
+    record {
+      first = read_only_at s one g H n begin (firsts parts) (first_by s t g H n by) from to (first_made s t A parts made) none;
+      second = read_only_at t two g H n begin (seconds parts) (second_by s t g H n by) from to (second_made s t A parts made) (ap has_write (same_accesses s t parts) ∙ none);
+    }
 
 pub both_commits : (s t : MapStore) → IsOfItsBlocks s → IsOfItsBlocks t → (g : Geometry) (H : History) (n : ℕ) → IsByBoth s t g H n → (k : ℕ) → n < k → k ≤ last H
     → IfSome (slice_get H.commits (k - H.first)) (λ c. (of : IsOfBoth s t H c) → BothInOrder s t of.parts (array_at H (k - 1)) (array_at H k))

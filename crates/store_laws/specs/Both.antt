@@ -1,5 +1,5 @@
 -- Transactions that call two stores.
-use Rattle.std.specs.Prelude.{◌≡◌, ◌⊎◌, ℕ, ◌+◌, ◌-◌, ◌<◌, ◌≤◌, IfSome, List, [], ◌∷◌, slice_get}
+use Rattle.std.specs.Prelude.{◌≡◌, ◌⊎◌, ℕ, ◌+◌, ◌-◌, ◌<◌, ◌≤◌, IfSome, List, [], ◌∷◌, map, slice_get}
 use Rattle.iso_model.specs.declared.access.Access.{Access}
 use Rattle.iso_model.specs.declared.access.Commit.{Commit}
 use Rattle.iso_model.specs.declared.access.Geometry.{Geometry}
@@ -10,7 +10,7 @@ use Rattle.iso_model.specs.History.{History, array_at, last}
 use Rattle.iso_model.specs.Isolation.{IsIsolated}
 use Rattle.iso_model.specs.Stores.{IsLocal}
 use Rattle.store_laws.specs.Region.{MapStore, SpareRegion}
-use Rattle.store_laws.specs.Parts.{AnswerInOrder, Called, Other, Part, accesses_in, calls_in}
+use Rattle.store_laws.specs.Parts.{AnswerInOrder, Called, Other, Part, accesses_in, answers_in, calls_in}
 
 -- A part of a transaction: a call of the first store or of the second, with the accesses that it made and its answer, or other accesses.
 pub data Mixed (OneCall OneAnswer TwoCall TwoAnswer : Type 0) : Type 0 where
@@ -55,6 +55,11 @@ pub record BothWellFormed (s t : MapStore) (A : Array) : Type 0 where
 pub record BothInOrder (s t : MapStore) (parts : MixedParts s t) (A B : Array) : Type 0 where
   pub first : AnswerInOrder s (firsts parts) A B
   pub second : AnswerInOrder t (seconds parts) A B
+
+-- each call answered by its store's map of this array
+pub record BothByMap (s t : MapStore) (parts : MixedParts s t) (A : Array) : Type 0 where
+  pub first : answers_in (firsts parts) ≡ map (λ call. (s.act call (s.map_of A)).0) (calls_in (firsts parts))
+  pub second : answers_in (seconds parts) ≡ map (λ call. (t.act call (t.map_of A)).0) (calls_in (seconds parts))
 
 -- A commit that writes the two regions by calls of their stores alone; a snapshot makes none.
 pub record IsOfBoth (s t : MapStore) (H : History) (c : Commit) : Type 0 where

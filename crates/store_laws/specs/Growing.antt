@@ -2,6 +2,7 @@
 use Rattle.std.specs.Prelude.{◌≡◌, List, Some}
 use Rattle.iso_model.specs.Array.{Array}
 use Rattle.tx_blocks.specs.Tx.{Tx}
+use Rattle.store_laws.specs.Both.{AreMixed, MixedParts, firsts}
 use Rattle.store_laws.specs.Parts.{AreMade, Part, accesses_in}
 use Rattle.store_laws.specs.Region.{MapStore}
 
@@ -10,3 +11,9 @@ pub record IsMadeOf (s : MapStore) (A : Array) (t : Tx) (parts : List (Part s.Ca
   pub base : t.base ≡ Some A
   pub are : accesses_in parts ≡ t.accesses
   pub made : AreMade s A parts
+
+-- the same of parts of two stores
+pub record IsMadeOfBoth (s t : MapStore) (A : Array) (tx : Tx) (parts : MixedParts s t) : Type 0 where
+  pub base : tx.base ≡ Some A
+  pub are : accesses_in (firsts parts) ≡ tx.accesses
+  pub made : AreMixed s t A parts

@@ -2,7 +2,6 @@
 use Rattle.std.proofs.Common.{◌≡◌, ◌≢◌, ◌↔◌, ◌∙◌, sym, refl, ap, subst, ℕ, zero, suc, ◌+◌, ◌*◌, ◌<◌, ◌≤◌, Bool, true, false, cond, IsTrue, IsFalse, List, [], ◌∷◌, ◌++◌, length, arith, inl, inr}
 use Rattle.std.specs.List.{flat_map, list_all, range_with_len}
 use Rattle.std.specs.FinMap.{from_entries}
-use Rattle.std.proofs.lemmas.Bool.Decides.{nat_tests}
 use Rattle.iso_model.specs.declared.stores.Area.{Area}
 use Rattle.iso_model.specs.Array.{Array}
 use Rattle.iso_model.specs.Cells.{cell_count, is_part, is_unused, is_zero, key_at, keys_mark, value_mark}
@@ -12,7 +11,9 @@ use Rattle.iso_model.specs.Premises.{block_at}
 use Rattle.iso_model.specs.Stores.{bytes_in}
 use Rattle.iso_hash.proofs.Chains.{block_inside, length-chain_from, linked_alike}
 use Rattle.iso_hash.proofs.Linking.{chain_of}
-use Rattle.store_laws.specs.Hash.{hash_store, in_area}
+use Rattle.store_laws.specs.AreaBlocks.{same_block, same_first}
+use Rattle.store_laws.specs.Calls.{in_area}
+use Rattle.store_laws.specs.Hash.{hash_store}
 use Rattle.store_laws.specs.Region.{IsOfItsBlocks}
 
 -- what is done over a list, or over a range, is the same where each step is
@@ -26,10 +27,6 @@ same_in_range f g from (suc n) same =
     ap (λ first. first ++ flat_map f (range_with_len (from + 1) n)) (same from (omega arith))
     ∙ ap (λ rest. g from ++ rest) (same_in_range f g (from + 1) n (λ k below. same k (omega arith)))
 
--- the blocks of an area
-pub in_its_area : (a : Area) (k : ℕ) → k < a.blocks → in_area a (a.start + k) ≡ true
-in_its_area a k below = grind (arith, nat_tests)
-
 module _ (a : Area) (A B : Array) (area : IsHashArea a) (same : (b : ℕ) → in_area a b ≡ true → block_at B b ≡ block_at A b) (region : IsHashRegion a A) where
   old : ℕ → List ℕ
   old = (view_of a A).keys
@@ -37,20 +34,15 @@ module _ (a : Area) (A B : Array) (area : IsHashArea a) (same : (b : ℕ) → in
   new : ℕ → List ℕ
   new = (view_of a B).keys
 
-  same_block : (k : ℕ) → k < a.blocks → block_at B (a.start + k) ≡ block_at A (a.start + k)
-  same_block k below = same (a.start + k) (in_its_area a k below)
-
   same_keys : (k : ℕ) → k < a.blocks → new k ≡ old k
   unfolding new old
-  same_keys k below = ap (bytes_in (keys_mark a.size)) (same_block k below)
+  same_keys k below = ap (bytes_in (keys_mark a.size)) (same_block a A B same k below)
 
   same_value : (k i : ℕ) → k < a.blocks → (view_of a B).value k i ≡ (view_of a A).value k i
-  same_value k i below = ap (bytes_in (value_mark a.size i)) (same_block k below)
+  same_value k i below = ap (bytes_in (value_mark a.size i)) (same_block a A B same k below)
 
-  same_first : (view_of a B).first ≡ (view_of a A).first
-  same_first =
-      let e : a.start + 0 ≡ a.start = omega arith in
-      subst (λ (n : ℕ). block_at B n ≡ block_at A n) e (same_block 0 (let least = area.least in omega arith))
+  first_kept : (view_of a B).first ≡ (view_of a A).first
+  first_kept = same_first a A B same (let least = area.least in omega arith)
 
   in_chain : (b k : ℕ) → b < buckets a → IsIn k (chain a old b) → k < a.blocks
   unfolding old
@@ -94,9 +86,9 @@ module _ (a : Area) (A B : Array) (area : IsHashArea a) (same : (b : ℕ) → in
         linked = λ b below. subst (λ (blocks : List ℕ). AreLinked a new b 0 blocks (1 + b) 0) (sym (same_chain b below)) (linked_new b below);
         bits = λ k below.
             let here = was.bits k below in
-            let bit : map_bit (view_of a B).first k ≡ map_bit (view_of a A).first k = ap (λ (first : List ℕ). map_bit first k) same_first in
+            let bit : map_bit (view_of a B).first k ≡ map_bit (view_of a A).first k = ap (λ (first : List ℕ). map_bit first k) first_kept in
             (λ set. overflow_new k (here.0 (sym bit ∙ set)), λ is. bit ∙ here.1 (overflow_old k is));
-        head = ap (λ (first : List ℕ). list_all is_zero (Rattle.std.proofs.Common.take 64 first)) same_first ∙ was.head;
+        head = ap (λ (first : List ℕ). list_all is_zero (Rattle.std.proofs.Common.take 64 first)) first_kept ∙ was.head;
         in_bucket = λ b k i stands. ap (bucket_of a) (key_old b k i stands) ∙ was.in_bucket b k i (stands_old b k i stands);
         apart = λ b k i c l j one two e.
             was.apart b k i c l j (stands_old b k i one) (stands_old c l j two) (sym (key_old b k i one) ∙ e ∙ key_old c l j two);
@@ -115,7 +107,7 @@ module _ (a : Area) (A B : Array) (area : IsHashArea a) (same : (b : ℕ) → in
   pub region_new : IsHashRegion a B
   unfolding new
   region_new = record {
-    shape = λ k below. ap length (same_block k below) ∙ region.shape k below;
+    shape = λ k below. ap length (same_block a A B same k below) ∙ region.shape k below;
     keyed = keyed_new;
     values = values_new;
   }

@@ -3,5 +3,10 @@ pub mod Parts
 pub mod Both
 pub mod Growing
 pub mod Writes
+pub mod Calls
+pub mod AreaBlocks
 pub mod Hash
 pub mod HashBlocks
+pub mod Tree
+pub mod TreeBlocks
+pub mod BothStores

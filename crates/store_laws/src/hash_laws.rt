@@ -10,7 +10,8 @@ ghost use Rattle.iso_model.specs.HashRegion.{del_op, get_op, hash_map, put_op, I
 ghost use Rattle.iso_model.specs.Effect.{has_write};
 ghost use Rattle.iso_model.specs.History.{array_at, last, History};
 ghost use Rattle.store_laws.specs.Growing.{IsMadeOf};
-ghost use Rattle.store_laws.specs.Hash.{hash_act, hash_store, Del, Get, Got, HashAnswer, HashCall, Put, WasPut, WasThere};
+ghost use Rattle.store_laws.specs.Calls.{key_act, Del, Get, Got, KeyCall, Put, StoreAnswer, WasPut, WasThere};
+ghost use Rattle.store_laws.specs.Hash.{hash_store};
 ghost use Rattle.store_laws.specs.Parts.{accesses_in, answers_in, calls_in, AnswerInOrder, AreMade, Called, IsByCalls, IsOfCalls, Part};
 ghost use Rattle.store_laws.specs.Writes.{WriteWithin};
 ghost use Rattle.tx_blocks.specs.Runs.{HasEnded, IsLocalCall};
@@ -22,21 +23,21 @@ ghost use Rattle.tx_blocks.specs.Tx.{added, Tx};
 pub fn committed_hash_calls_answer_in_order()
     ensures history { (a : Area) (g : Geometry) (H : History) (n : ℕ) → IsHashArea a → IsByCalls (hash_store a) g H n → (k : ℕ) → n < k → k ≤ last H
         → IfSome (slice_get H.commits (k - H.first)) (λ c. (of : IsOfCalls (hash_store a) H c) → AnswerInOrder (hash_store a) of.parts (array_at H (k - 1)) (array_at H k)) }
-    ensures read_only { (a : Area) (g : Geometry) (H : History) (n begin : ℕ) (parts : List (Part HashCall HashAnswer)) → IsHashArea a → IsByCalls (hash_store a) g H n
+    ensures read_only { (a : Area) (g : Geometry) (H : History) (n begin : ℕ) (parts : List (Part KeyCall StoreAnswer)) → IsHashArea a → IsByCalls (hash_store a) g H n
         → n ≤ begin → begin ≤ last H → AreMade (hash_store a) (array_at H begin) parts → IsFalse (has_write (accesses_in parts))
-        → answers_in parts ≡ map (λ call. (hash_act call (hash_map a (array_at H begin))).0) (calls_in parts) }
+        → answers_in parts ≡ map (λ call. (key_act call (hash_map a (array_at H begin))).0) (calls_in parts) }
 {}
 
 /// What the calls of the hash store promise of an answer Ok, that they made the accesses of their program and are local, makes them
 /// parts of their transaction.
 pub fn hash_calls_are_parts()
-    ensures got { (a : Area) (key : List ℕ) (A : Array) (t u : Tx) (parts : List (Part HashCall HashAnswer)) (r : Option (List ℕ)) → IsMadeOf (hash_store a) A t parts
+    ensures got { (a : Area) (key : List ℕ) (A : Array) (t u : Tx) (parts : List (Part KeyCall StoreAnswer)) (r : Option (List ℕ)) → IsMadeOf (hash_store a) A t parts
         → HasEnded (get_program a key) t u (Ok r) → IsLocalCall (IsHashRegion a) (hash_map a) (get_op key) t u r
         → IsMadeOf (hash_store a) A u (parts ++ Called (Get key) (added t u) (Got r) ∷ []) }
-    ensures was_put { (a : Area) (key value : List ℕ) (A : Array) (t u : Tx) (parts : List (Part HashCall HashAnswer)) (r : Unit {0}) → IsMadeOf (hash_store a) A t parts
+    ensures was_put { (a : Area) (key value : List ℕ) (A : Array) (t u : Tx) (parts : List (Part KeyCall StoreAnswer)) (r : Unit {0}) → IsMadeOf (hash_store a) A t parts
         → HasEnded (put_program a key value) t u (Ok r) → IsLocalCall (IsHashRegion a) (hash_map a) (put_op key value) t u r
         → IsMadeOf (hash_store a) A u (parts ++ Called (Put key value) (added t u) WasPut ∷ []) }
-    ensures was_there { (a : Area) (key : List ℕ) (A : Array) (t u : Tx) (parts : List (Part HashCall HashAnswer)) (r : Bool) → IsMadeOf (hash_store a) A t parts
+    ensures was_there { (a : Area) (key : List ℕ) (A : Array) (t u : Tx) (parts : List (Part KeyCall StoreAnswer)) (r : Bool) → IsMadeOf (hash_store a) A t parts
         → HasEnded (del_program a key) t u (Ok r) → IsLocalCall (IsHashRegion a) (hash_map a) (del_op key) t u r
         → IsMadeOf (hash_store a) A u (parts ++ Called (Del key) (added t u) (WasThere r) ∷ []) }
 {}

@@ -13,3 +13,5 @@ mod tests_rows;
 mod tests_runs;
 #[cfg(test)]
 mod tests_stores;
+#[cfg(test)]
+mod tests_trees;

@@ -2,7 +2,7 @@ use Rattle.std.proofs.Common.{ap, subst}
 use Rattle.core_blocks.specs.Guests.{Seen, tx_of}
 use Rattle.tx_blocks.specs.Runs.{area_of}
 use Rattle.tx_blocks.specs.Tx.{Tx}
-use Rattle.iso_machine.specs.Storing.{HasCalled, store_ended}
+use Rattle.store_calls.specs.Calls.{HasCalled, store_ended}
 use Rattle.iso_machine.proofs.storing.call_from.Goals as goal
 
 pub returns-clause-called : goal.returns-clause-called

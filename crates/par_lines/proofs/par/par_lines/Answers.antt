@@ -1,6 +1,7 @@
 use Rattle.std.proofs.Common.{◌≡◌, ap, subst, sym, ◌∙◌}
 use Rattle.std.specs.Prelude.{All}
 use Rattle.par_script.specs.Told.{clients_in, lines_of}
+use Rattle.iso_model.proofs.Bounds.{limits}
 use Rattle.par_lines.proofs.par.par_lines.Goals as goal
 
 pub run_dealt-requires-clause-clients : goal.run_dealt-requires-clause-clients
@@ -8,3 +9,6 @@ run_dealt-requires-clause-clients g c κs within = c.in-Ok.ensures.clients ∙ a
 
 pub run_dealt-requires-clause-dealt : goal.run_dealt-requires-clause-dealt
 run_dealt-requires-clause-dealt g c κs within = subst (λ v. All (λ a. a.1.items ≡ lines_of a.0 v.items) c.in-Ok.dealt.items) (sym c.of-all.ensures) c.in-Ok.ensures.lines
+
+pub run_dealt-requires-clause-small : goal.run_dealt-requires-clause-small
+run_dealt-requires-clause-small g c κs within = (limits g.O.Origin.start.world.geometry c.requires.valid).largest_block

@@ -1,5 +1,7 @@
-use Rattle.std.proofs.Common.{◌+◌, ap, reverse, ◌∙◌}
+use Rattle.std.proofs.Common.{◌+◌, List, ap, reverse, subst, sym, ◌∙◌}
+use Rattle.std.specs.Prelude.{All}
 use Rattle.iso_shared.specs.Ports.{port_view}
+use Rattle.par_lines.specs.Jobs.{IsNew}
 use Rattle.par_lines.proofs.Gathering.{jobs_done}
 use Rattle.par_lines.proofs.Sweeping.{told_all}
 use Rattle.par_lines.proofs.run.run_jobs.Goals as goal
@@ -18,3 +20,7 @@ returns-clause-told g c =
     let d = jobs_done g.O.Origin.start c.args.shared.now c.args.lines.now.value.items c.args.jobs.items c.as_mut_slice.result.now c.run_all.new.jobs _ c.args.jobs.len c.as_mut_slice.ensures.value c.run_all.auto.jobs c.as_mut_slice.ensures.len c.requires.jobs c.run_all.ensures.fits c.run_all.ensures.ran in
     told_all g.O.Origin.start c.args.lines.now.value.items c.gather.new.parts.items (port_view c.gather.new.port) (port_view c.sweep_all.new.port) c.gather.ensures.told c.sweep_all.ensures.all c.sweep_all.ensures.legal c.sweep_all.ensures.swept
     (c.gather.ensures.clients ∙ (ap reverse d.ids ∙ c.requires.clients))
+
+pub run_all-requires-after_bounds : goal.run_all-requires-after_bounds
+run_all-requires-after_bounds g c κs within k d below =
+    (subst (All (IsNew g.O.Origin.start c.args.shared.now c.args.lines.now.value.items)) (sym c.as_mut_slice.ensures.value) c.requires.jobs k d below).client

@@ -1,5 +1,6 @@
 use Rattle.iso_model.specs.Array.{zeros}
-use Rattle.store_laws.proofs.Blank.{blank_map, blank_region, zeros_blank}
+use Rattle.store_laws.proofs.HashBlank.{blank_map, blank_region}
+use Rattle.store_laws.proofs.Zeros.{zeros_blank}
 use Rattle.store_laws.proofs.hash_laws.blank_hash_regions_are_empty.Goals as goal
 
 pub returns-clause-blank : goal.returns-clause-blank

@@ -2,7 +2,7 @@ use Rattle.std.proofs.Common.{◌≡◌, ◌∙◌, ◌⊎◌, inl, inr, sym, re
 use Rattle.iso_model.specs.declared.script.Op.{Op}
 use Rattle.iso_model.specs.declared.script.Op.TheVariants as op
 use Rattle.iso_model.specs.declared.script.Reply.{Reply}
-use Rattle.iso_model.specs.Step.{hash_delete_step, hash_get_step, hash_put_step, in_transaction, numbers, step, store_step}
+use Rattle.iso_model.specs.Step.{hash_delete_step, hash_get_step, hash_put_step, in_transaction, numbers, step, store_step, tree_put_step, tree_get_step, tree_delete_step, tree_scan_step}
 use Rattle.iso_model.specs.World.{World, attached}
 use Rattle.iso_model.specs.Worlds.{IsOp}
 use Rattle.iso_core.specs.Core.{disk_of}
@@ -138,18 +138,31 @@ returns-in-Release g c W of isop =
     told_so (AreOf state n.core n.live.items) (state (disk_of m.core)) (state (disk_of n.core)) W (step W c.args.client c.args.op.now) (IsPlain c.args.op.now) c.release.result
     (subst (λ (o : Op). Answers (AreOf state n.core n.live.items) (state (disk_of m.core)) (state (disk_of n.core)) W (step W c.args.client o) c.release.result) (sym c.in-Release.is) (c.release.ensures W of (subst (λ (o : Op). IsOp o) c.in-Release.is isop)))
 
--- an operation on the hash store
-store_is : (W : World) (c : ℕ) (o : Op) → ((k : List ℕ) × (v : List ℕ) × (o ≡ op.HashPut k v)) ⊎ ((k : List ℕ) × (o ≡ op.HashGet k)) ⊎ ((k : List ℕ) × (o ≡ op.HashDelete k))
-    → in_transaction W (attached W c) (λ t. store_act W t o) ≡ step W c o
-unfolding step hash_put_step hash_get_step hash_delete_step store_step
+-- an operation on a store
+abbrev IsStoreOp : Op → Type 0
+IsStoreOp o =
+    ((k : List ℕ) × (v : List ℕ) × (o ≡ op.HashPut k v)) ⊎ ((k : List ℕ) × (o ≡ op.HashGet k)) ⊎ ((k : List ℕ) × (o ≡ op.HashDelete k))
+    ⊎ ((k : List ℕ) × (v : List ℕ) × (o ≡ op.TreePut k v)) ⊎ ((k : List ℕ) × (o ≡ op.TreeGet k)) ⊎ ((k : List ℕ) × (o ≡ op.TreeDelete k))
+    ⊎ ((f : List ℕ) × (u : List ℕ) × (m : ℕ) × (o ≡ op.TreeScan f u m))
+
+store_is : (W : World) (c : ℕ) (o : Op) → IsStoreOp o → in_transaction W (attached W c) (λ t. store_act W t o) ≡ step W c o
+unfolding step hash_put_step hash_get_step hash_delete_step tree_put_step tree_get_step tree_delete_step tree_scan_step store_step
 store_is W c o (inl (k, v, is)) = subst (λ (p : Op). in_transaction W (attached W c) (λ t. store_act W t p) ≡ step W c p) (sym is) refl
 store_is W c o (inr (inl (k, is))) = subst (λ (p : Op). in_transaction W (attached W c) (λ t. store_act W t p) ≡ step W c p) (sym is) refl
-store_is W c o (inr (inr (k, is))) = subst (λ (p : Op). in_transaction W (attached W c) (λ t. store_act W t p) ≡ step W c p) (sym is) refl
+store_is W c o (inr (inr (inl (k, is)))) = subst (λ (p : Op). in_transaction W (attached W c) (λ t. store_act W t p) ≡ step W c p) (sym is) refl
+store_is W c o (inr (inr (inr (inl (k, v, is))))) = subst (λ (p : Op). in_transaction W (attached W c) (λ t. store_act W t p) ≡ step W c p) (sym is) refl
+store_is W c o (inr (inr (inr (inr (inl (k, is)))))) = subst (λ (p : Op). in_transaction W (attached W c) (λ t. store_act W t p) ≡ step W c p) (sym is) refl
+store_is W c o (inr (inr (inr (inr (inr (inl (k, is))))))) = subst (λ (p : Op). in_transaction W (attached W c) (λ t. store_act W t p) ≡ step W c p) (sym is) refl
+store_is W c o (inr (inr (inr (inr (inr (inr (f, u, m, is))))))) = subst (λ (p : Op). in_transaction W (attached W c) (λ t. store_act W t p) ≡ step W c p) (sym is) refl
 
-store_not_plain : (o : Op) → ((k : List ℕ) × (v : List ℕ) × (o ≡ op.HashPut k v)) ⊎ ((k : List ℕ) × (o ≡ op.HashGet k)) ⊎ ((k : List ℕ) × (o ≡ op.HashDelete k)) → IsPlain o → ⊥
+store_not_plain : (o : Op) → IsStoreOp o → IsPlain o → ⊥
 store_not_plain o (inl (k, v, is)) plain = subst (λ (p : Op). IsPlain p) is plain
 store_not_plain o (inr (inl (k, is))) plain = subst (λ (p : Op). IsPlain p) is plain
-store_not_plain o (inr (inr (k, is))) plain = subst (λ (p : Op). IsPlain p) is plain
+store_not_plain o (inr (inr (inl (k, is)))) plain = subst (λ (p : Op). IsPlain p) is plain
+store_not_plain o (inr (inr (inr (inl (k, v, is))))) plain = subst (λ (p : Op). IsPlain p) is plain
+store_not_plain o (inr (inr (inr (inr (inl (k, is)))))) plain = subst (λ (p : Op). IsPlain p) is plain
+store_not_plain o (inr (inr (inr (inr (inr (inl (k, is))))))) plain = subst (λ (p : Op). IsPlain p) is plain
+store_not_plain o (inr (inr (inr (inr (inr (inr (f, u, m, is))))))) plain = subst (λ (p : Op). IsPlain p) is plain
 
 pub returns-in-HashPut : goal.returns-in-HashPut
 returns-in-HashPut g c W of isop =

@@ -1,0 +1,99 @@
+-- The array at the begin of a session's transaction is the same at each later place of the list.
+use Rattle.std.proofs.Common.{◌≡◌, ℕ, ◌+◌, ◌<◌, ◌≤◌, List, [], ◌∷◌, ◌++◌, Option, Some, None, IfSome, refl, sym, ap, ◌∙◌, arith, length}
+use mathlib.Core.List.{IsPrefix}
+use Rattle.iso_model.specs.History.{History, all_own, array_at, last}
+use Rattle.iso_model.specs.Worlds.{Extends}
+use Rattle.turn_lock.proofs.Prefixes.{prefix_trans}
+use Rattle.iso_shared.specs.declared.entry.Call.{Call}
+use Rattle.iso_shared.specs.declared.entry.Call.TheVariants as call
+use Rattle.iso_shared.specs.declared.entry.Cause.{Cause}
+use Rattle.iso_shared.specs.declared.entry.Cause.TheVariants as cause
+use Rattle.iso_shared.specs.declared.entry.Entry.{Entry}
+use Rattle.iso_shared.specs.declared.entry.Entry.TheVariants as entry
+use Rattle.iso_shared.specs.declared.shared.Shared.{Shared}
+use Rattle.iso_shared.specs.declared.tx.Tx.{Tx}
+use Rattle.iso_shared.specs.Ports.{IsAhead, IsTx, tx_view}
+use Rattle.iso_shared.specs.States.{Start, State, after, after_all, after_fault, after_refusal, after_sweep, opened, state_at}
+use Rattle.iso_shared.proofs.Follows.{follows_prefix, up_to_same}
+use Rattle.iso_shared.proofs.Mades.{ahead_on}
+use Rattle.handle_pass.specs.declared.session.Session.{Session}
+use Rattle.handle_pass.specs.Sessions.{Own, own, own_of, seen, IsSession}
+
+tells_fault : (S : State) (c : Call) (now : ℕ) → (after_fault S c now).tells ≡ S.tells
+tells_fault S (call.Begin named) now = refl
+tells_fault S (call.Fetch n block) now = refl
+tells_fault S (call.End n accesses) now = refl
+tells_fault S call.Trim now = refl
+tells_fault S call.Compact now = refl
+tells_fault S call.Upgrade now = refl
+tells_fault S (call.Post n l accesses) now = refl
+tells_fault S (call.Recent n) now = refl
+
+tells_refusal : (S : State) (c : Call) (why : Cause) → (after_refusal S c why).tells ≡ S.tells
+tells_refusal S c cause.Down = refl
+tells_refusal S c (cause.Disk before now) = tells_fault S c now
+tells_refusal S c cause.TooManyTx = refl
+tells_refusal S c (cause.LogFull need free) = refl
+tells_refusal S c cause.Memory = refl
+tells_refusal S c cause.Worn = refl
+tells_refusal S c cause.ModeFixed = refl
+tells_refusal S c cause.LabelTaken = refl
+
+tells_sweep : (S : State) (found : Option ℕ) → (after_sweep S found).tells ≡ S.tells
+tells_sweep S None = refl
+tells_sweep S (Some n) = refl
+
+tells_next : (S : State) (e : Entry) → (after S e).tells ≡ S.tells
+tells_next S (entry.Begin k at mode) = refl
+tells_next S (entry.Fetch k block bytes) = refl
+tells_next S (entry.End k accesses r) = refl
+tells_next S (entry.Abort k) = refl
+tells_next S (entry.Trim k) = refl
+tells_next S (entry.Compact k) = refl
+tells_next S (entry.Upgrade k) = refl
+tells_next S (entry.Stat k) = refl
+tells_next S (entry.Post k l accesses) = refl
+tells_next S (entry.Look l found) = refl
+tells_next S (entry.Sweep found) = tells_sweep S found
+tells_next S (entry.Recent k upto) = refl
+tells_next S (entry.Refused c why) = tells_refusal S c why
+
+tells_all : (S : State) (es : List Entry) → (after_all S es).tells ≡ S.tells
+tells_all S [] = refl
+tells_all S (e ∷ es) = tells_all (after S e) es ∙ tells_next S e
+
+-- whether the disk tells its bytes is the same at each place of the list
+pub tells_at : (A : Start) (es : List Entry) → (state_at A es).tells ≡ A.tells
+tells_at A es = tells_all (opened A) es
+
+-- the array at a number that a history has is that of each longer history
+array_same : (H G : History) (n : ℕ) → 0 < H.first → n ≤ last H → Extends H G → array_at G n ≡ array_at H n
+array_same H G n some within more = ap (λ (h : History). all_own h.base h.commits) (up_to_same H G n some within more)
+
+-- a list in which the transaction has begun
+pub record HasBegin (A : Start) (es : List Entry) (begin : ℕ) : Type 0 where
+  pub first : 0 < (state_at A es).world.history.first
+  pub within : begin ≤ last (state_at A es).world.history
+
+module _ {D O : Type 0} where
+  begun_by : (A : Start) (sh : Shared D O) (xs : List Entry) (tx : Option (Tx D O)) (o : Own) → IfSome tx (λ t. IsTx sh A t × IsPrefix (tx_view t).seen xs) → own_of tx ≡ Some o → HasBegin A xs o.begin
+  begun_by A sh xs None o is has = absurd (cc has)
+  begun_by A sh xs (Some t) o is has =
+      let ahead = ahead_on A (tx_view t).seen xs t.work t.checked is.1 is.0.1.ahead in
+      let begin : t.work.begin ≡ o.begin = ap begin_in has in
+      let from : t.work.begin ≤ t.checked.upto = ahead.from in
+      let to : t.checked.upto ≤ last (state_at A xs).world.history = ahead.to in
+      record { first = ahead.first; within = omega arith }
+    where
+      begin_in : Option Own → ℕ
+      begin_in None = 0
+      begin_in (Some p) = p.begin
+
+  -- what a session has seen has the begin of its transaction
+  pub has_begin : (A : Start) (s : Session D O) (o : Own) → IsSession A s → own s ≡ Some o → HasBegin A (seen s) o.begin
+  has_begin A s o is has = begun_by A s.shared.now (seen s) s.tx o is.tx has
+
+-- the array at the begin is the same at each later place
+pub array_kept : (A : Start) (xs ys : List Entry) (begin : ℕ) → HasBegin A xs begin → IsPrefix xs ys → array_at (state_at A ys).world.history begin ≡ array_at (state_at A xs).world.history begin
+array_kept A xs ys begin has more =
+    array_same (state_at A xs).world.history (state_at A ys).world.history begin has.first has.within (follows_prefix A xs ys more).history

@@ -1,0 +1,8 @@
+use Rattle.handle_pass.proofs.Beginning.{visit_begins}
+use Rattle.handle_pass.proofs.session.Session.blocks.Goals as goal
+
+pub invariant_of-visitor : goal.invariant_of-visitor
+invariant_of-visitor g c = (c.requires.name, visit_begins g.O.Origin.start c.args.self.now g.V.Visit.before c.requires.before c.requires.session c.requires.valid c.room.ensures.few)
+
+pub invariant_of-result : goal.invariant_of-result
+invariant_of-result g c = record { limits = (visit_begins g.O.Origin.start c.args.self.now g.V.Visit.before c.requires.before c.requires.session c.requires.valid c.room.ensures.few).limits }

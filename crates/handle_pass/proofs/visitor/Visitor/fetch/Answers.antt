@@ -1,0 +1,25 @@
+use Rattle.std.proofs.Common.{ap, sym, ◌∙◌}
+use Rattle.handle_pass.specs.Visits.{Seen}
+use Rattle.handle_pass.proofs.Looking.{tried}
+use Rattle.handle_pass.proofs.visitor.Visitor.fetch.Goals as goal
+
+pub read_block-answer-requires-clause-size : goal.read_block-answer-requires-clause-size
+read_block-answer-requires-clause-size g c = c.requires.size ∙ sym (ap (λ (v : Seen). v.tx.size) c.self.view_is)
+
+pub invariant_of-self : goal.invariant_of-self
+invariant_of-self g c =
+    let r = c.read_block-answer in
+    let size = r.auto.into ∙ c.requires.size ∙ sym (ap (λ (v : Seen). v.tx.size) c.self.view_is) in (
+      c.self.invariant.0,
+      (tried g.O.Origin.start g.V.Visit.before c.self.inside.session.now r.new.self c.self.inside.failures c.self.inside.is_down c.failures_of-self-inside.result c.sets_down-self-inside.result c.args.self.now c.args.block r.result
+          r.new.into c.self.view_is c.requires.sound c.self.invariant.1 r.ensures.session r.ensures.cause r.ensures.did size c.failures_of-self-inside.ensures c.sets_down-self-inside.ensures).0,
+    )
+
+pub returns : goal.returns
+returns g c =
+    let r = c.read_block-answer in
+    let size = r.auto.into ∙ c.requires.size ∙ sym (ap (λ (v : Seen). v.tx.size) c.self.view_is) in
+    record {
+      did = (tried g.O.Origin.start g.V.Visit.before c.self.inside.session.now r.new.self c.self.inside.failures c.self.inside.is_down c.failures_of-self-inside.result c.sets_down-self-inside.result c.args.self.now c.args.block r.result
+          r.new.into c.self.view_is c.requires.sound c.self.invariant.1 r.ensures.session r.ensures.cause r.ensures.did size c.failures_of-self-inside.ensures c.sets_down-self-inside.ensures).1;
+    }

@@ -1,0 +1,102 @@
+-- A session while calls are made on its transaction: what was fetched since the first of them, and what it saw.
+use Rattle.std.specs.Prelude.{◌≡◌, ℕ, ◌<◌, Bool, true, false, cond, List, [], ◌∷◌, ◌++◌, Option, Some, None, length, map, option_map, slice_index}
+use Rattle.std.specs.List.{AllByRecursion, range_with_len}
+use Rattle.std.specs.Option.{ForSome}
+use Rattle.iso_model.specs.declared.access.Access.{Access}
+use Rattle.iso_model.specs.declared.access.Geometry.{Geometry}
+use Rattle.iso_model.specs.Array.{Array}
+use Rattle.iso_model.specs.Effect.{is_write}
+use Rattle.iso_model.specs.History.{array_at}
+use Rattle.iso_model.specs.Premises.{block_at}
+use Rattle.iso_shared.specs.declared.entry.Call.TheVariants as call
+use Rattle.iso_shared.specs.declared.entry.Cause.{Cause}
+use Rattle.iso_shared.specs.declared.entry.Cause.TheVariants as cause
+use Rattle.iso_shared.specs.declared.entry.Entry.{Entry}
+use Rattle.iso_shared.specs.declared.entry.Entry.TheVariants as entry
+use Rattle.iso_shared.specs.States.{Start, state_at}
+use Rattle.tx_blocks.specs.Tx.{Device, Tx, IsTx as AreLimits}
+use Rattle.handle_pass.specs.declared.session.Session.{Session}
+use Rattle.handle_pass.specs.Accesses.{accesses_of, tx_on}
+use Rattle.handle_pass.specs.Logs.{Moves}
+use Rattle.handle_pass.specs.Sessions.{Own, own, seen, IsSession}
+
+-- the blocks of the geometry, each with the array's bytes: the array itself, where it has that shape
+abbrev pub shaped : Geometry → Array → Array
+shaped g A = map (λ b. map (λ p. slice_index (block_at A b) p) (range_with_len 0 g.block)) (range_with_len 0 g.blocks)
+
+-- the blocks of the reads, in order
+abbrev pub blocks_read : List Access → List ℕ
+blocks_read [] = []
+blocks_read (a ∷ accesses) = cond (is_write a) (blocks_read accesses) (a.block ∷ blocks_read accesses)
+
+abbrev pub number_in : Option Own → ℕ
+number_in None = 0
+number_in (Some o) = o.number
+
+-- blocks with the bytes that were fetched of them, in order
+abbrev pub Fetched : Type 0
+Fetched = List (ℕ × List ℕ)
+
+-- the entries of these fetches by the transaction, and of one more that was refused, if one was
+abbrev pub fetches : (number : ℕ) → Fetched → List Entry
+fetches n fetched = map (λ f. entry.Fetch n f.0 f.1) fetched
+
+abbrev pub refusals : (number : ℕ) → Option (ℕ × Cause) → List Entry
+refusals n None = []
+refusals n (Some refused) = entry.Refused (call.Fetch n refused.0) refused.1 ∷ []
+
+-- how often the disk has failed then, and whether the device was down
+abbrev pub Failed : Option (ℕ × Cause) → (failures : ℕ) → (is_down : Bool) → Type 0
+Failed None failures is_down = (failures ≡ 0) × (is_down ≡ false)
+Failed (Some (b, cause.Down)) failures is_down = (failures ≡ 0) × (is_down ≡ true)
+Failed (Some (b, cause.Disk before now)) failures is_down = (0 < failures) × (is_down ≡ false)
+Failed (Some (b, why)) failures is_down = ⊥
+
+-- what a store sees of the session's transaction and of the device
+pub record Seen : Type 0 where
+  pub tx : Tx
+  pub device : Device
+
+-- the transaction is the same but for its accesses
+abbrev pub with_list : List Access → Own → Own
+with_list accesses o = record o { accesses = accesses }
+
+abbrev pub KeepsOwn : (before now : Option Own) → Type 0
+KeepsOwn before now = now ≡ option_map (with_list (accesses_of now)) before
+
+module _ {D O : Type 0} where
+  -- the array at the begin of the session's transaction, by what the session has seen
+  abbrev pub begin_array : Start → Session D O → Option Array
+  begin_array A s = option_map (λ o. shaped A.world.geometry (array_at (state_at A (seen s)).world.history o.begin)) (own s)
+
+  -- the same, where the disk tells its bytes
+  abbrev pub base_in : Start → Session D O → Option Array
+  base_in A s = cond A.tells (begin_array A s) None
+
+  abbrev pub base_of : Start → Option (Session D O) → Option Array
+  base_of A None = None
+  base_of A (Some s) = base_in A s
+
+  abbrev pub seen_by : Start → (before : Option (Session D O)) → (now : Session D O) → (failures : ℕ) → (is_down : Bool) → Seen
+  seen_by A before now failures is_down = record { tx = tx_on A now (base_of A before); device = record { faults = failures; is_down = is_down } }
+
+  -- From the one state to the other the session made these fetches, one for each read that came, and where one was refused that one
+  -- last. Its transaction has further accesses, and is else the same.
+  pub record Visited (A : Start) (s t : Session D O) (refused : Option (ℕ × Cause)) : Type 0 where
+    pub fetched : Fetched
+    pub moves : Moves s t (fetches (number_in (own s)) fetched ++ refusals (number_in (own s)) refused)
+    pub keeps : KeepsOwn (own s) (own t)
+    pub reads : blocks_read (accesses_of (own t)) ≡ blocks_read (accesses_of (own s)) ++ map (λ f. f.0) fetched
+    pub told : ForSome (base_in A s) (λ B. AllByRecursion (λ f. f.1 ≡ block_at B f.0) fetched)
+    pub of : t.shared ≡ s.shared
+
+  -- the session, which was so before, while calls are made on its transaction
+  pub record IsVisit (A : Start) (before : Option (Session D O)) (now : Session D O) (failures : ℕ) (is_down : Bool) : Type 0 where
+    pub was : Session D O
+    pub is : before ≡ Some was
+    pub first : IsSession A was
+    pub session : IsSession A now
+    pub refused : Option (ℕ × Cause)
+    pub made : Visited A was now refused
+    pub failed : Failed refused failures is_down
+    pub limits : AreLimits (tx_on A now (base_of A before))

@@ -1,0 +1,14 @@
+use Rattle.std.proofs.Common.{◌≡◌, ◌*◌, ◌-◌, ◌≤◌, ◌++◌, drop, map}
+use Rattle.iso_model.specs.TreeCalls.{parts_of}
+use Rattle.iso_model.specs.TreeNodes.{child_of}
+use Rattle.iso_tree.proofs.range.add_children.Given as goal
+
+-- the last children stand before the nodes that were unread
+abbrev pub invariant-loop-i : goal.invariant-loop-i
+invariant-loop-i l = record {
+  nodes : l.unread ≡ map (λ part. (l.level, child_of part)) (parts_of (drop (33 * l.i) l.values) (l.many - l.i)) ++ l.fn.unread;
+  few : l.i ≤ l.many;
+}
+
+abbrev pub decreases-loop-i : goal.decreases-loop-i
+decreases-loop-i l = l.i

@@ -1,0 +1,46 @@
+use Rattle.std.proofs.Common.{◌∙◌, subst, ◌-◌, ℕ, List, [], ◌∷◌, Err, length, arith}
+use Rattle.tx_blocks.proofs.Parts.{read_join, run_from}
+use Rattle.tx_blocks.proofs.Progress.{IsAt}
+use Rattle.tx_blocks.proofs.Refusals.{later_than}
+use Rattle.iso_tree.specs.Visits.{scan_nodes}
+use Rattle.iso_tree.proofs.Rereading.{at_join}
+use Rattle.iso_tree.proofs.Scanning.{walk_full}
+use Rattle.iso_tree.proofs.range.walk.Goals as goal
+
+pub returns-in-Err-clause-run : goal.returns-in-Err-clause-run
+returns-in-Err-clause-run g c =
+    let state = g.T.TxBlocks.state in
+    let a = c.args.area in
+    let whole = scan_nodes a c.args.from.now c.args.to.now c.args.unread.now c.args.max [] in
+    let max = c.args.max in
+    let found = c.loop-alloc.found in
+    let next = scan_nodes a c.args.from.now c.args.to.now ((c.in-Some.level, c.in-Some.block) ∷ c.pop.new.self) (max - length found) found in
+    let here : IsAt whole next (state c.args.tx.now) (state c.loop-alloc.tx) =
+    subst (λ (nodes : List (ℕ × ℕ)). IsAt whole (scan_nodes a c.args.from.now c.args.to.now nodes (max - length found) found) (state c.args.tx.now) (state c.loop-alloc.tx)) c.in-Some.ensures.some c.loop-alloc.invariant.here in
+    run_from whole next (state c.args.tx.now) (state c.loop-alloc.tx) (state c.step.new.tx) (Err c.in-Err.e) here c.in-Err.ensures.refused
+
+pub loop-alloc-preserved : goal.loop-alloc-preserved
+loop-alloc-preserved g c =
+    let state = g.T.TxBlocks.state in
+    let a = c.args.area in
+    let whole = scan_nodes a c.args.from.now c.args.to.now c.args.unread.now c.args.max [] in
+    let max = c.args.max in
+    let found = c.loop-alloc.found in
+    let next = scan_nodes a c.args.from.now c.args.to.now ((c.in-Some.level, c.in-Some.block) ∷ c.pop.new.self) (max - length found) found in
+    let here : IsAt whole next (state c.args.tx.now) (state c.loop-alloc.tx) =
+    subst (λ (nodes : List (ℕ × ℕ)). IsAt whole (scan_nodes a c.args.from.now c.args.to.now nodes (max - length found) found) (state c.args.tx.now) (state c.loop-alloc.tx)) c.in-Some.ensures.some c.loop-alloc.invariant.here in
+    let device = g.T.TxBlocks.device in
+    record {
+      here = at_join whole next (scan_nodes a c.args.from.now c.args.to.now c.step.new.unread (max - length c.step.new.found) c.step.new.found) (state c.args.tx.now) (state c.loop-alloc.tx) (state c.step.new.tx) here c.in_default-step.ensures.run;
+      nodes = c.in_default-step.ensures.nodes;
+      reads = read_join (state c.args.tx.now) (state c.loop-alloc.tx) (state c.step.new.tx) c.loop-alloc.invariant.reads c.in_default-step.ensures.reads.reads;
+      later = later_than (device c.args.tx.now) (device c.loop-alloc.tx) (device c.step.new.tx) c.loop-alloc.invariant.later c.in_default-step.ensures.reads.later;
+      passed = c.in_default-step.ensures.reads.passed ∙ c.loop-alloc.invariant.passed;
+    }
+
+pub returns-clause-run : goal.returns-clause-run
+returns-clause-run g c =
+    let state = g.T.TxBlocks.state in
+    let a = c.args.area in
+    let left = c.args.max - length c.loop-alloc.found in
+    walk_full a c.args.from.now c.args.to.now (scan_nodes a c.args.from.now c.args.to.now c.args.unread.now c.args.max []) (state c.args.tx.now) (state c.loop-alloc.tx) c.loop-alloc.unread left c.loop-alloc.found c.loop-alloc.invariant.here (omega (arith, c.loop-alloc-test.false))

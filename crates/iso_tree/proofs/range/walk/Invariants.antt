@@ -1,0 +1,19 @@
+use Rattle.std.proofs.Common.{◌≡◌, ◌-◌, [], length}
+use Rattle.tx_blocks.specs.Tx.{IsLater}
+use Rattle.tx_blocks.specs.Runs.{HasRead}
+use Rattle.tx_blocks.proofs.Progress.{IsAt}
+use Rattle.iso_tree.specs.Visits.{scan_nodes, AreIn}
+use Rattle.iso_tree.proofs.range.walk.Given as goal
+
+-- the unread nodes are what is left of the walk
+abbrev pub invariant-loop-alloc : goal.invariant-loop-alloc
+invariant-loop-alloc g l = record {
+  here : IsAt (scan_nodes l.area l.from l.to l.fn.unread l.max []) (scan_nodes l.area l.from l.to l.unread (l.max - length l.found) l.found) (g.T.TxBlocks.state l.fn.tx) (g.T.TxBlocks.state l.tx);
+  nodes : AreIn l.area l.unread;
+  reads : HasRead (g.T.TxBlocks.state l.fn.tx) (g.T.TxBlocks.state l.tx);
+  later : IsLater (g.T.TxBlocks.device l.fn.tx) (g.T.TxBlocks.device l.tx);
+  passed : (g.T.TxBlocks.device l.tx).faults ≡ (g.T.TxBlocks.device l.fn.tx).faults;
+}
+
+abbrev pub decreases-loop-alloc : goal.decreases-loop-alloc
+decreases-loop-alloc g l = 4096 - length (g.T.TxBlocks.state l.tx).accesses

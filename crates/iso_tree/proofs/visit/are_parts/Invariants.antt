@@ -1,0 +1,9 @@
+use Rattle.std.proofs.Common.{◌≡◌, ◌*◌, ◌-◌, drop}
+use Rattle.std.specs.List.{list_all}
+use Rattle.iso_model.specs.TreeCalls.{parts_of}
+use Rattle.iso_model.specs.TreeRegion.{is_part_at}
+use Rattle.iso_tree.proofs.visit.are_parts.Given as goal
+
+-- all pass where those that are left do
+abbrev pub invariant-loop-i : goal.invariant-loop-i
+invariant-loop-i l = list_all (is_part_at l.area l.level) (parts_of l.values l.many) ≡ list_all (is_part_at l.area l.level) (parts_of (drop (33 * l.i) l.values) (l.many - l.i))

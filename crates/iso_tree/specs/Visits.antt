@@ -1,0 +1,54 @@
+-- The nodes that a scan visits, one after the other.
+use Rattle.std.specs.Prelude.{◌≡◌, ℕ, zero, suc, ◌+◌, ◌-◌, ◌*◌, ◌<◌, ◌&&◌, true, cond, List, [], ◌∷◌, ◌++◌, Result, Ok, Err, length}
+use Rattle.std.specs.List.{list_all, AllByRecursion}
+use Rattle.iso_model.specs.declared.access.Span.{Span}
+use Rattle.iso_model.specs.declared.stores.Area.{Area}
+use Rattle.iso_model.specs.declared.stores.StoreError.{StoreError}
+use Rattle.iso_model.specs.declared.stores.StoreError.TheVariants.{Broken}
+use Rattle.iso_model.specs.Cells.{keys_end, keys_mark}
+use Rattle.iso_model.specs.Stores.{Program, Done, Look, bytes_in, further_bytes, then_do}
+use Rattle.iso_model.specs.TreeNodes.{is_node}
+use Rattle.iso_model.specs.TreeCalls.{and_then, first_in, many_in, parts_of, scan_from, scan_further, Scanned}
+use Rattle.iso_model.specs.TreeRegion.{is_part_at}
+use Rattle.iso_tree.specs.declared.visit.Visit.{Visit}
+
+-- the mark over the value parts of so many cells from one on
+abbrev pub values_mark : (size first many : ℕ) → Span
+values_mark size first many = record { off = keys_end size + 33 * first; len = 33 * many }
+
+-- head and key parts of a block, and the value parts of the cells that were visited
+abbrev pub keys_of : Area → (bytes : List ℕ) → List ℕ
+keys_of a bytes = bytes_in (keys_mark a.size) bytes
+
+abbrev pub values_of : Area → Visit → (bytes : List ℕ) → List ℕ
+values_of a visit bytes = bytes_in (values_mark a.size visit.first visit.many) bytes
+
+-- the read of a node: its head and key parts, and the value parts of the cells that a scan visits
+abbrev pub visit_program : Area → (from to : List ℕ) → (level block : ℕ) → Program (Result (List ℕ × List ℕ) StoreError)
+visit_program a from to level block =
+    Look (a.start + block) (keys_mark a.size) (scan_further a level from to)
+    (λ keys values.
+    Done (cond (is_node a.size level keys && list_all (is_part_at a level) (parts_of values (many_in level from to keys))) (Ok (keys, values))
+    (Err (Broken (a.start + block)))))
+
+-- what it reads of a block
+abbrev pub node_read : Area → (from to : List ℕ) → (level : ℕ) → (bytes : List ℕ) → List ℕ × List ℕ
+node_read a from to level bytes = (keys_of a bytes, further_bytes (scan_further a level from to (keys_of a bytes)) bytes)
+
+-- a node of a level that is well formed, with the value parts of the cells that a scan visits
+pub record IsVisited (a : Area) (from to : List ℕ) (level : ℕ) (bytes : List ℕ) (visit : Visit) : Type 0 where
+  pub node : is_node a.size level (keys_of a bytes) ≡ true
+  pub first : visit.first ≡ first_in level from (keys_of a bytes)
+  pub many : visit.many ≡ many_in level from to (keys_of a bytes)
+  pub parts : list_all (is_part_at a level) (parts_of (values_of a visit bytes) visit.many) ≡ true
+
+-- The scans of nodes (level and block) in turn, until so many pairs are found; these were found before.
+abbrev pub scan_nodes : Area → (from to : List ℕ) → List (ℕ × ℕ) → (most : ℕ) → List (List ℕ × List ℕ) → Program Scanned
+scan_nodes a from to [] most found = Done (Ok found)
+scan_nodes a from to (node ∷ nodes) zero found = Done (Ok found)
+scan_nodes a from to (node ∷ nodes) (suc most) found =
+    then_do (scan_from a from to node.0 node.1 (suc most)) (λ r. and_then r (λ pairs. scan_nodes a from to nodes (suc most - length pairs) (found ++ pairs)))
+
+-- blocks of the region
+abbrev pub AreIn : Area → List (ℕ × ℕ) → Type 0
+AreIn a nodes = AllByRecursion (λ (node : ℕ × ℕ). node.1 < a.blocks) nodes

@@ -1,0 +1,268 @@
+// The pairs of a range of keys.
+ghost use Rattle.std.specs.Prelude.{◌≡◌, ◌↔◌, ◌&&◌, ◌+◌, ◌-◌, ◌*◌, ◌<◌, ◌≤◌, ◌++◌, [], ◌∷◌, Err, IsFalse, true, IfOk, IfErr, OnOk, length, map, take};
+ghost use Rattle.std.specs.List.{list_all};
+ghost use Rattle.iso_model.specs.Cells.{are_key_parts, cell_count, is_part, keys_end};
+ghost use Rattle.iso_model.specs.HashCalls.{is_key};
+ghost use Rattle.iso_model.specs.Stores.{bytes_in};
+ghost use Rattle.iso_model.specs.TreeCalls.{pairs_with, parts_of, scan_below, scan_program};
+ghost use Rattle.iso_model.specs.TreeNodes.{child_of};
+ghost use Rattle.iso_model.specs.TreeRegion.{scan_op, tree_map, IsTreeArea, IsTreeRegion};
+ghost use Rattle.tx_blocks.proofs.Progress.{IsAt};
+ghost use Rattle.tx_blocks.specs.Tx.{IsLater};
+ghost use Rattle.tx_blocks.specs.Runs.{area_of, HasEnded, HasRead, HasRun, IsLocalCall, IsStoreCause};
+ghost use Rattle.iso_tree.specs.Visits.{scan_nodes, AreIn};
+ghost use Rattle.iso_tree.specs.Walks.{OnlyReads};
+
+use crate::buffer::{buffer, is_key};
+use crate::descent::read_head;
+use crate::keys::key_of;
+use crate::unread::Unread;
+use crate::visit::{Visit, read_node, values};
+use iso_alloc::{cell_count, piece, text_of, word_at};
+use iso_model::{Area, Bytes, Items, PairList, Region, StoreError, TxError};
+use std::alloc::Global;
+use tx_blocks::TxBlocks;
+
+// Whether both are keys.
+fn are_keys(from: &[u8], to: &[u8]) -> bool
+    ensures { result ≡ (is_key from.now && is_key to.now) }
+{
+    is_key(from) && is_key(to)
+}
+
+// A copy of a text.
+fn copied(alloc: Global, text: &[u8]) -> Result<Bytes, StoreError>
+    ensures text { IfOk result (λ copy. copy ≡ text.now) }
+    ensures memory { IfErr result (λ e. e ≡ StoreError.Tx TxError.Memory) }
+{
+    match text.to_vec(alloc) {
+        Ok(items) => Ok(Items::of(items)),
+        Err(_) => Err(StoreError::Tx(TxError::Memory)),
+    }
+}
+
+// Adds a pair at the end.
+fn add_pair(alloc: Global, key: &[u8], value: &[u8], found: &mut PairList) -> Result<(), StoreError>
+    ensures ok { OnOk result (found.new ≡ found.old ++ (key.now, value.now) ∷ []) }
+    ensures memory { IfErr result (λ e. e ≡ StoreError.Tx TxError.Memory) }
+{
+    let pair = (copied(alloc, key)?, copied(alloc, value)?);
+    match found.push(pair) {
+        Ok(()) => Ok(()),
+        Err(_) => Err(StoreError::Tx(TxError::Memory)),
+    }
+}
+
+// Adds the pairs of cells from one on at the end, until there are so many.
+fn add_pairs(
+    alloc: Global,
+    size: usize,
+    keys: &[u8],
+    values: &[u8],
+    visit: Visit,
+    max: usize,
+    found: &mut PairList,
+) -> Result<(), StoreError>
+    requires size { 64 ≤ size }
+    requires keys { length keys.now ≡ keys_end size }
+    requires parts { are_key_parts size keys.now ≡ true }
+    requires inside { visit.first + visit.many ≤ cell_count size }
+    requires values { length values.now ≡ 33 * visit.many }
+    requires texts { list_all (is_part 32) (parts_of values.now visit.many) ≡ true }
+    ensures ok { OnOk result (found.new ≡ found.old ++ take (max - length found.old) (pairs_with keys.now visit.first (parts_of values.now visit.many))) }
+    ensures memory { IfErr result (λ e. e ≡ StoreError.Tx TxError.Memory) }
+{
+    for i in 0..visit.many {
+        if max <= found.len() {
+            return Ok(());
+        }
+        let key = key_of(size, keys, visit.first + i);
+        let value = text_of(piece(values, 33 * i, 33));
+        add_pair(alloc, key, value, found)?;
+    }
+    Ok(())
+}
+
+// Puts the children that value parts name before all unread nodes, in their order.
+fn add_children(
+    unread: &mut Unread,
+    level: u8,
+    values: &[u8],
+    many: usize,
+) -> Result<(), StoreError>
+    requires { length values.now ≡ 33 * many }
+    ensures ok { OnOk result (unread.new ≡ map (λ part. (level, child_of part)) (parts_of values.now many) ++ unread.old) }
+    ensures memory { IfErr result (λ e. e ≡ StoreError.Tx TxError.Memory) }
+{
+    let mut i = many;
+    while 0 < i {
+        i -= 1;
+        unread.push(level, word_at(piece(values, 33 * i, 33), 1))?;
+    }
+    Ok(())
+}
+
+// Reads the next node. Its pairs are found then, or its children come before all that are unread.
+fn step<T: TxBlocks>(
+    alloc: Global,
+    tx: &mut T,
+    area: Area,
+    from: &[u8],
+    to: &[u8],
+    level: u8,
+    block: u32,
+    max: usize,
+    buffer: &mut [u8],
+    unread: &mut Unread,
+    found: &mut PairList,
+) -> Result<(), StoreError>
+    requires area { IsTreeArea area }
+    requires size { (T.state tx.old).size ≡ area.size }
+    requires fits { area.start + area.blocks ≤ (T.state tx.old).blocks }
+    requires block { block < area.blocks }
+    requires buffer { length buffer.old ≡ area.size }
+    requires nodes { AreIn area unread.old }
+    requires few { length found.old < max }
+    ensures run { OnOk result (IsAt (scan_nodes area from.now to.now ((level, block) ∷ unread.old) (max - length found.old) found.old) (scan_nodes area from.now to.now unread.new (max - length found.new) found.new) (T.state tx.old) (T.state tx.new)) }
+    ensures refused { IfErr result (λ e. HasRun (scan_nodes area from.now to.now ((level, block) ∷ unread.old) (max - length found.old) found.old) (T.state tx.old) (T.state tx.new) (Err e)) }
+    ensures nodes { OnOk result (AreIn area unread.new) }
+    ensures more { OnOk result (length (T.state tx.new).accesses ≡ length (T.state tx.old).accesses + 1) }
+    ensures reads { OnlyReads (T.state tx.old) (T.state tx.new) (T.device tx.old) (T.device tx.new) result }
+{
+    let size = area.size as usize;
+    let visit = match read_node(tx, area, from, to, level, block, buffer) {
+        Ok(visit) => visit,
+        Err(e) => return Err(e),
+    };
+    let values = values(buffer, visit);
+    if level == 0 {
+        let keys = piece(buffer, 0, 64 + 31 * cell_count(size));
+        return add_pairs(alloc, size, keys, values, visit, max, found);
+    }
+    add_children(unread, level - 1, values, visit.many)
+}
+
+// The first pairs of the range below the unread nodes, at most so many.
+fn walk<T: TxBlocks>(
+    alloc: Global,
+    tx: &mut T,
+    area: Area,
+    from: &[u8],
+    to: &[u8],
+    max: usize,
+    buffer: &mut [u8],
+    unread: &mut Unread,
+) -> Result<PairList, StoreError>
+    requires area { IsTreeArea area }
+    requires size { (T.state tx.old).size ≡ area.size }
+    requires fits { area.start + area.blocks ≤ (T.state tx.old).blocks }
+    requires buffer { length buffer.old ≡ area.size }
+    requires nodes { AreIn area unread.old }
+    requires is_open { (T.state tx.old).is_open ≡ true }
+    ensures run { HasRun (scan_nodes area from.now to.now unread.old max []) (T.state tx.old) (T.state tx.new) result }
+    ensures reads { OnlyReads (T.state tx.old) (T.state tx.new) (T.device tx.old) (T.device tx.new) result }
+{
+    let mut found = Items::empty(alloc);
+    while found.len() < max {
+        let Some((level, block)) = unread.pop() else {
+            return Ok(found);
+        };
+        if let Err(e) = step(
+            alloc, tx, area, from, to, level, block, max, buffer, unread, &mut found,
+        ) {
+            return Err(e);
+        }
+    }
+    Ok(found)
+}
+
+// The first pairs of the range below a root.
+fn scan_below<T: TxBlocks>(
+    alloc: Global,
+    tx: &mut T,
+    area: Area,
+    from: &[u8],
+    to: &[u8],
+    max: u32,
+    root: u32,
+    level: u8,
+    buffer: &mut [u8],
+) -> Result<PairList, StoreError>
+    requires area { IsTreeArea area }
+    requires size { (T.state tx.old).size ≡ area.size }
+    requires fits { area.start + area.blocks ≤ (T.state tx.old).blocks }
+    requires root { root < area.blocks }
+    requires buffer { length buffer.old ≡ area.size }
+    requires max { 0 < max }
+    requires is_open { (T.state tx.old).is_open ≡ true }
+    ensures run { HasRun (scan_below area from.now to.now max root level) (T.state tx.old) (T.state tx.new) result }
+    ensures reads { OnlyReads (T.state tx.old) (T.state tx.new) (T.device tx.old) (T.device tx.new) result }
+{
+    let mut unread = Unread::empty(alloc);
+    if root == 0 {
+        return Ok(Items::empty(alloc));
+    }
+    match unread.push(level, root) {
+        Ok(()) => walk(alloc, tx, area, from, to, max as usize, buffer, &mut unread),
+        Err(e) => Err(e),
+    }
+}
+
+// The first pairs of the range, with a buffer for a block.
+fn scan_with<T: TxBlocks>(
+    alloc: Global,
+    tx: &mut T,
+    area: Area,
+    from: &[u8],
+    to: &[u8],
+    max: u32,
+    buffer: &mut [u8],
+) -> Result<PairList, StoreError>
+    requires area { IsTreeArea area }
+    requires size { (T.state tx.old).size ≡ area.size }
+    requires fits { area.start + area.blocks ≤ (T.state tx.old).blocks }
+    requires keys { (is_key from.now && is_key to.now) ≡ true }
+    requires buffer { length buffer.old ≡ area.size }
+    requires max { 0 < max }
+    ensures run { HasRun (scan_program area from.now to.now max) (T.state tx.old) (T.state tx.new) result }
+    ensures reads { OnlyReads (T.state tx.old) (T.state tx.new) (T.device tx.old) (T.device tx.new) result }
+{
+    match read_head(tx, area, buffer) {
+        Ok((root, level)) => scan_below(alloc, tx, area, from, to, max, root, level, buffer),
+        Err(e) => Err(e),
+    }
+}
+
+/// The first pairs of the region's map whose key is at least `from` and below `to`, in order, at most so many. `BadKey` comes
+/// exactly where one of the keys does not have 1 to 28 bytes, `Broken` where the head, a node or a value part that is read fails
+/// a test. Want of memory for the pairs is that of the transaction: the reads that came before it stay. It writes nothing.
+pub fn scan<T: TxBlocks>(
+    alloc: Global,
+    tx: &mut T,
+    region: Region,
+    from: &[u8],
+    to: &[u8],
+    max: u32,
+) -> Result<PairList, StoreError>
+    requires area { IsTreeArea (area_of (T.state tx.old) region) }
+    requires fits { region.start + region.size ≤ (T.state tx.old).blocks }
+    requires max { 0 < max }
+    ensures ended { HasEnded (scan_program (area_of (T.state tx.old) region) from.now to.now max) (T.state tx.old) (T.state tx.new) result }
+    ensures local { IfOk result (IsLocalCall (IsTreeRegion (area_of (T.state tx.old) region)) (tree_map (area_of (T.state tx.old) region)) (scan_op from.now to.now max) (T.state tx.old) (T.state tx.new)) }
+    ensures reads { HasRead (T.state tx.old) (T.state tx.new) }
+    ensures bad_key { result ≡ Err StoreError.BadKey ↔ IsFalse (is_key from.now && is_key to.now) }
+    ensures cause { IfErr result (IsStoreCause (T.state tx.new) 1 (T.device tx.old) (T.device tx.new)) }
+    ensures later { IsLater (T.device tx.old) (T.device tx.new) }
+    ensures passed { OnOk result ((T.device tx.new).faults ≡ (T.device tx.old).faults) }
+{
+    if !are_keys(from, to) {
+        return Err(StoreError::BadKey);
+    }
+    let area = Area {
+        size: tx.block_size(),
+        start: region.start,
+        blocks: region.size,
+    };
+    let mut block = buffer(alloc, area.size as usize)?;
+    scan_with(alloc, tx, area, from, to, max, &mut block)
+}

@@ -1,0 +1,50 @@
+// The nodes that a scan has still to read.
+ghost use Rattle.std.specs.Prelude.{◌≡◌, [], ◌∷◌, OnOk, IfErr, IfSome, IfNone};
+
+use iso_model::{StoreError, TxError};
+use std::alloc::Global;
+use std::marker::Model;
+
+/// The nodes that a scan has still to read. Contracts see a list of level and block, the next node first.
+#[derive(Drop)]
+pub struct Unread {
+    nodes: Vec<(u8, u32)>,
+}
+
+impl Model for Unread {
+    ghost use Rattle.std.specs.Prelude.{ℕ, List, reverse};
+
+    ghost Value = { List (ℕ × ℕ) };
+
+    ghost view = { λ a. reverse a.nodes.items };
+}
+
+impl Unread {
+    /// No node. It takes no memory.
+    pub fn empty(alloc: Global) -> Unread
+        ensures { result ≡ [] }
+    {
+        Unread {
+            nodes: Vec::new(alloc),
+        }
+    }
+
+    /// Puts a node before all others.
+    pub fn push(&mut self, level: u8, block: u32) -> Result<(), StoreError>
+        ensures ok { OnOk result (self.new ≡ (level, block) ∷ self.old) }
+        ensures memory { IfErr result (λ e. e ≡ StoreError.Tx TxError.Memory) }
+    {
+        match self.nodes.push((level, block)) {
+            Ok(()) => Ok(()),
+            Err(_) => Err(StoreError::Tx(TxError::Memory)),
+        }
+    }
+
+    /// Takes the next node off, if there is one.
+    pub fn pop(&mut self) -> Option<(u8, u32)>
+        ensures some { IfSome result (λ node. self.old ≡ node ∷ self.new) }
+        ensures none { IfNone result (self.old ≡ []) }
+    {
+        self.nodes.pop()
+    }
+}

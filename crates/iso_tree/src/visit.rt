@@ -1,0 +1,153 @@
+// The read of a node that a scan visits.
+ghost use Rattle.std.specs.Prelude.{◌≡◌, ◌+◌, ◌*◌, ◌<◌, ◌≤◌, IfOk, IfErr, OnOk, Ok, Err, None, length, true};
+ghost use Rattle.std.specs.List.{list_all};
+ghost use Rattle.iso_model.specs.Cells.{are_key_parts, cell_count, keys_end};
+ghost use Rattle.iso_model.specs.Marks.{marked};
+ghost use Rattle.iso_model.specs.Stores.{bytes_in};
+ghost use Rattle.iso_model.specs.TreeCalls.{first_in, many_in, parts_of};
+ghost use Rattle.iso_model.specs.TreeNodes.{count_of};
+ghost use Rattle.iso_model.specs.TreeRegion.{is_part_at, IsTreeArea};
+ghost use Rattle.tx_blocks.specs.Runs.{HasRun, Ran};
+ghost use Rattle.tx_blocks.specs.Tx.{mark_refusal};
+ghost use Rattle.iso_tree.specs.Visits.{node_read, values_mark, visit_program, IsVisited};
+ghost use Rattle.iso_tree.specs.Walks.{OnlyReads};
+
+use crate::descent::keys_mark;
+use crate::keys::{below, count_of, is_node, place_of};
+use crate::node::is_child;
+use iso_alloc::{cell_count, is_part, piece};
+use iso_model::{Area, Span, StoreError};
+use tx_blocks::{TxBlocks, look, mark};
+
+/// The cells of a node that a scan visits: the first, and how many.
+#[derive(Clone, Copy, Debug)]
+pub struct Visit {
+    pub first: usize,
+    pub many: usize,
+}
+
+// The cells of a node that a scan visits.
+fn cells_between(size: usize, level: u8, from: &[u8], to: &[u8], keys: &[u8]) -> Visit
+    requires size { 64 ≤ size }
+    requires keys { length keys.now ≡ keys_end size }
+    requires parts { are_key_parts size keys.now ≡ true }
+    requires few { count_of keys.now ≤ cell_count size }
+    requires some { 0 < level → 0 < count_of keys.now }
+    ensures first { result.first ≡ first_in level from.now keys.now }
+    ensures many { result.many ≡ many_in level from.now to.now keys.now }
+    ensures inside { result.first + result.many ≤ count_of keys.now }
+{
+    if level == 0 {
+        let first = below(size, from, keys, 0);
+        let many = below(size, to, keys, 0).saturating_sub(first);
+        return Visit { first, many };
+    }
+    let first = place_of(size, from, keys);
+    let many = (1 + below(size, to, keys, 1)).saturating_sub(first);
+    Visit { first, many }
+}
+
+// The mark over the value parts of cells.
+fn values_mark(size: u32, visit: Visit) -> Span
+    requires least { 256 ≤ size }
+    requires most { size ≤ 4096 }
+    requires inside { visit.first + visit.many ≤ cell_count size }
+    ensures { result ≡ values_mark size visit.first visit.many }
+{
+    Span {
+        off: (64 + 31 * cell_count(size as usize) + 33 * visit.first) as u16,
+        len: (33 * visit.many) as u16,
+    }
+}
+
+// Marks the value parts of cells, where there are any.
+fn mark_values<T: TxBlocks>(tx: &mut T, size: u32, visit: Visit)
+    requires least { 256 ≤ size }
+    requires most { size ≤ 4096 }
+    requires inside { visit.first + visit.many ≤ cell_count size }
+    requires open { 0 < visit.many → mark_refusal (T.state tx.old) (keys_end size + 33 * visit.first) (33 * visit.many) ≡ None }
+    ensures none { visit.many ≡ 0 → T.state tx.new ≡ T.state tx.old }
+    ensures some { 0 < visit.many → T.state tx.new ≡ record (T.state tx.old) { accesses = marked (values_mark size visit.first visit.many) (T.state tx.old).accesses } }
+    ensures device { T.device tx.new ≡ T.device tx.old }
+{
+    if visit.many == 0 {
+        return;
+    }
+    mark(tx, values_mark(size, visit));
+}
+
+// Whether a value part is that of a cell of this level.
+fn is_part_at(area: Area, level: u8, part: &[u8]) -> bool
+    requires { length part.now ≡ 33 }
+    ensures { result ≡ is_part_at area level part.now }
+{
+    if level == 0 {
+        return is_part(part, 32);
+    }
+    is_child(area.blocks, part)
+}
+
+// Whether value parts are those of cells of this level.
+fn are_parts(area: Area, level: u8, values: &[u8], many: usize) -> bool
+    requires { length values.now ≡ 33 * many }
+    ensures { result ≡ list_all (is_part_at area level) (parts_of values.now many) }
+{
+    for i in 0..many {
+        if !is_part_at(area, level, piece(values, 33 * i, 33)) {
+            return false;
+        }
+    }
+    true
+}
+
+/// The value parts of cells of a block.
+pub fn values(block: &[u8], visit: Visit) -> &[u8]
+    requires least { 256 ≤ length block.now }
+    requires most { length block.now ≤ 4096 }
+    requires inside { visit.first + visit.many ≤ cell_count (length block.now) }
+    ensures value { result.now ≡ bytes_in (values_mark (length block.now) visit.first visit.many) block.now }
+    ensures length { length result.now ≡ 33 * visit.many }
+{
+    let at = 64 + 31 * cell_count(block.len()) + 33 * visit.first;
+    piece(block, at, 33 * visit.many)
+}
+
+/// Reads a node of a level, and marks the value parts of the cells that a scan visits. The buffer has the node's block then.
+pub fn read_node<T: TxBlocks>(
+    tx: &mut T,
+    area: Area,
+    from: &[u8],
+    to: &[u8],
+    level: u8,
+    block: u32,
+    buffer: &mut [u8],
+) -> Result<Visit, StoreError>
+    requires area { IsTreeArea area }
+    requires size { (T.state tx.old).size ≡ area.size }
+    requires fits { area.start + area.blocks ≤ (T.state tx.old).blocks }
+    requires block { block < area.blocks }
+    requires buffer { length buffer.old ≡ area.size }
+    ensures run { OnOk result (Ran (visit_program area from.now to.now level block) (T.state tx.old) (T.state tx.new) (Ok (node_read area from.now to.now level buffer.new))) }
+    ensures refused { IfErr result (λ e. HasRun (visit_program area from.now to.now level block) (T.state tx.old) (T.state tx.new) (Err e)) }
+    ensures visited { IfOk result (IsVisited area from.now to.now level buffer.new) }
+    ensures inside { IfOk result (λ visit. visit.first + visit.many ≤ cell_count area.size) }
+    ensures more { OnOk result (length (T.state tx.new).accesses ≡ length (T.state tx.old).accesses + 1) }
+    ensures reads { OnlyReads (T.state tx.old) (T.state tx.new) (T.device tx.old) (T.device tx.new) result }
+    ensures size { length buffer.new ≡ area.size }
+{
+    let size = area.size as usize;
+    let image_block = area.start + block;
+    if let Err(e) = look(tx, image_block, keys_mark(area.size), buffer) {
+        return Err(StoreError::Tx(e));
+    }
+    let keys = piece(buffer, 0, 64 + 31 * cell_count(size));
+    if !is_node(size, level, keys) {
+        return Err(StoreError::Broken { block: image_block });
+    }
+    let visit = cells_between(size, level, from, to, keys);
+    mark_values(tx, area.size, visit);
+    if !are_parts(area, level, values(buffer, visit), visit.many) {
+        return Err(StoreError::Broken { block: image_block });
+    }
+    Ok(visit)
+}

@@ -1,0 +1,390 @@
+-- Lines that call a store: what the session did, and what the rules answer over the bytes that were fetched.
+use Rattle.std.proofs.Common.{◌≡◌, ◌≢◌, ℕ, ◌+◌, ◌-◌, ◌<◌, ◌≤◌, ◌==◌, ◌&&◌, Bool, true, false, cond, not, nat_lt, List, [], ◌∷◌, ◌++◌, Option, Some, None, option_map, length, map, ap, eq-eqb, inl, refl, sym, subst, ◌∙◌, arith}
+use Rattle.std.specs.Prelude.{IfOk, IsTrue, Result, Ok, Err}
+use Rattle.std.specs.List.{AllByRecursion}
+use Rattle.std.proofs.lemmas.Bool.Decides.{nat_tests}
+use Rattle.std.proofs.lemmas.Bool.{ne_eqb}
+use Rattle.std.proofs.lemmas.List.{append_cancel_left, append-nil}
+use Rattle.handle_pass.specs.declared.session.Session.{Session}
+use Rattle.handle_pass.specs.Accesses.{accesses_of, tx_on}
+use Rattle.handle_pass.specs.Logs.{Moves}
+use Rattle.handle_pass.specs.Visits.{Failed, IsVisit, Seen, Visited, base_in, base_of, begin_array, seen_by}
+use Rattle.handle_pass.specs.Visits as visits
+use Rattle.handle_pass.proofs.Visiting.{blocks_append}
+use Rattle.handle_pass.specs.Sessions as handle
+use Rattle.iso_model.specs.declared.access.Access.{Access}
+use Rattle.iso_model.specs.declared.access.Geometry.{Geometry}
+use Rattle.iso_model.specs.declared.access.Mode.{Mode}
+use Rattle.iso_model.specs.declared.access.Mode.TheVariants.{Serial, Snapshot}
+use Rattle.iso_model.specs.declared.script.Op.{Op}
+use Rattle.iso_model.specs.declared.script.Op.TheVariants as op
+use Rattle.iso_model.specs.declared.script.Reply.{Reply}
+use Rattle.iso_model.specs.declared.script.Reply.TheVariants as reply
+use Rattle.iso_model.specs.declared.stores.Area.{Area}
+use Rattle.iso_model.specs.declared.stores.Region.{Region}
+use Rattle.iso_model.specs.Array.{Array}
+use Rattle.iso_model.specs.Effect.{own}
+use Rattle.iso_model.specs.Premises.{block_at}
+use Rattle.iso_shared.specs.declared.entry.Entry.{Entry}
+use Rattle.iso_shared.specs.declared.entry.Cause.{Cause}
+use Rattle.iso_shared.specs.declared.entry.Cause.TheVariants as cause
+use Rattle.iso_model.specs.Geometry.{is_serial, is_valid}
+use Rattle.store_calls.proofs.Areas.{store_area_fits, store_area_is}
+use Rattle.iso_model.specs.History.{all_own, array_at}
+use Rattle.iso_model.specs.Step.{array_of, hash_delete_step, hash_get_step, hash_put_step, in_store, step, store_step, tree_delete_step, tree_get_step, tree_put_step, tree_scan_step}
+use Rattle.iso_model.specs.Step as rules
+use Rattle.iso_model.specs.World.{World, Live}
+use Rattle.iso_shared.specs.States.{Start, state_at}
+use Rattle.script_runner.specs.declared.machine.Stop.{Stop}
+use Rattle.script_runner.specs.declared.machine.Stop.TheVariants as stop
+use Rattle.std.specs.Option.{ForSome}
+use Rattle.tx_blocks.specs.Tx.{Tx, room_of, with_accesses}
+use Rattle.tx_blocks.specs.Runs.{area_of}
+use Rattle.store_calls.specs.Calls.{HasCalled, IsStoreArea, Stops, is_empty_scan, store_area, store_ended}
+use Rattle.par_script.specs.Lines.{AnswersOn, CallsStore, Did, Does, InStore, Own, Says, StopsBy, Where, alone, answer, blocks_read, live_of, own_after, own_among}
+use Rattle.par_lines.specs.Answers.{Answered}
+use Rattle.par_lines.specs.Stores.{IsOnStore, settled}
+use Rattle.par_lines.proofs.Answering.{by_none}
+use Rattle.par_lines.proofs.Fetching.{no_take}
+
+blocks_same : (xs : List Access) → visits.blocks_read xs ≡ blocks_read xs
+blocks_same [] = refl
+blocks_same (a ∷ xs) = refl
+
+settled_ok : (failures : ℕ) (is_down : Bool) (r : Result Reply Stop) (said : Reply) → settled failures is_down r ≡ Ok said → r ≡ Ok said
+settled_ok failures is_down r said = by (nat_lt 0 failures) is_down
+  where
+    by : (a b : Bool) → cond a (Err stop.Disk) (cond b (Err stop.Down) r) ≡ Ok said → r ≡ Ok said
+    by true b is = absurd (cc is)
+    by false true is = absurd (cc is)
+    by false false is = is
+
+-- the client stops at a fault, and nowhere else
+module _ (r : Result Reply Stop) (failures : ℕ) (is_down : Bool) (stops : Stops (record { faults = 0; is_down = false }) (record { faults = failures; is_down = is_down }) r) where
+  stops_none : (failures ≡ 0) × (is_down ≡ false) → StopsBy None (settled failures is_down r)
+  stops_none none =
+      let whole : settled failures is_down r ≡ r = λ i. cond (nat_lt 0 (none.0 i)) (Err stop.Disk) (cond (none.1 i) (Err stop.Down) r) in
+      subst (StopsBy None) (sym whole) (by r refl)
+    where
+      by : (q : Result Reply Stop) → r ≡ q → StopsBy None q
+      by (Ok said) is = tt
+      by (Err stop.Memory) is = tt
+      by (Err stop.Down) is = absurd (cc (sym none.1 ∙ stops.down is))
+      by (Err stop.Disk) is = let rose = stops.disk is in absurd (omega (arith, none.0, rose))
+
+  stops_down : (failures ≡ 0) × (is_down ≡ true) → settled failures is_down r ≡ Err stop.Down
+  stops_down is = λ i. cond (nat_lt 0 (is.0 i)) (Err stop.Disk) (cond (is.1 i) (Err stop.Down) r)
+
+  stops_disk : 0 < failures → settled failures is_down r ≡ Err stop.Disk
+  stops_disk some = let rose : nat_lt 0 failures ≡ true = grind (arith, nat_tests) in ap (λ b. cond b (Err stop.Disk) (cond is_down (Err stop.Down) r)) rose
+
+  pub stops_by : (refused : Option (ℕ × Cause)) → Failed refused failures is_down → StopsBy refused (settled failures is_down r)
+  stops_by None failed = stops_none failed
+  stops_by (Some (b, cause.Down)) failed = stops_down failed
+  stops_by (Some (b, cause.Disk before now)) failed = stops_disk failed.0
+  stops_by (Some (b, cause.TooManyTx)) failed = failed
+  stops_by (Some (b, cause.LogFull need free)) failed = failed
+  stops_by (Some (b, cause.Memory)) failed = failed
+  stops_by (Some (b, cause.Worn)) failed = failed
+  stops_by (Some (b, cause.ModeFixed)) failed = failed
+  stops_by (Some (b, cause.LabelTaken)) failed = failed
+
+flipped : (B : Array) (fetched : List (ℕ × List ℕ)) → AllByRecursion (λ f. f.1 ≡ block_at B f.0) fetched → AllByRecursion (λ f. block_at B f.0 ≡ f.1) fetched
+flipped B [] all = tt
+flipped B (f ∷ fetched) all = (sym all.0, flipped B fetched all.1)
+
+-- how the rules answer the operation in a transaction, on each array
+pub record IsServed (g : Geometry) (o : Own) (x : Op) (ended : (room : ℕ) → Array → List Access × Reply) : Type 0 where
+  pub answers : (B : Array) → answer g B (Some o) x ≡ (ended (4096 - length o.accesses) (own B o.accesses)).1
+  pub leaves : (B : Array) → own_after g B (Some o) x ≡ Some (record o { accesses = o.accesses ++ (ended (4096 - length o.accesses) (own B o.accesses)).0 })
+
+module _ {D O : Type 0} (A : Start) (s t : Session D O) (o : Own) (was : handle.own s ≡ Some o) where
+  -- what the transaction is after the call
+  module _ (done : List Access) (is : tx_on A t (base_in A s) ≡ with_accesses (tx_on A s (base_in A s)) done) (refused : Option (ℕ × Cause)) (v : Visited A s t refused) where
+    accesses_are : accesses_of (handle.own t) ≡ accesses_of (handle.own s) ++ done
+    accesses_are = ap (λ (w : Tx). w.accesses) is
+
+    left_is : handle.own t ≡ Some (record o { accesses = o.accesses ++ done })
+    left_is = v.keeps ∙ ap (option_map (λ (p : Own). record p { accesses = accesses_of (handle.own t) })) was
+        ∙ ap (λ l. Some (record o { accesses = l })) (accesses_are ∙ ap (λ w. accesses_of w ++ done) was)
+
+    reads_are : blocks_read done ≡ map (λ f. f.0) v.fetched
+    reads_are = sym (blocks_same done)
+        ∙ append_cancel_left (visits.blocks_read (accesses_of (handle.own s))) (visits.blocks_read done) (map (λ f. f.0) v.fetched)
+        (sym (blocks_append (accesses_of (handle.own s)) done) ∙ sym (ap visits.blocks_read accesses_are) ∙ v.reads)
+
+  -- a call of a store made the line's entries
+  pub called : (x : Op) (ended : (room : ℕ) → Array → List Access × Reply) (r : Result Reply Stop) (failures : ℕ) (is_down : Bool) → IsServed A.world.geometry o x ended
+      → HasCalled ended (tx_on A s (base_in A s)) (tx_on A t (base_in A s)) r → Stops (record { faults = 0; is_down = false }) (record { faults = failures; is_down = is_down }) r
+      → (refused : Option (ℕ × Cause)) (v : Visited A s t refused) → Failed refused failures is_down
+      → CallsStore A.world.geometry A.tells o x (visits.fetches o.number v.fetched ++ visits.refusals o.number refused) (settled failures is_down r) (handle.own t)
+  called x ended r failures is_down served has stops refused v failed = record {
+    fetched = v.fetched;
+    refused = refused;
+    done = has.done;
+    are = refl;
+    stops = stops_by r failures is_down stops refused failed;
+    reads = reads_are has.done has.is refused v;
+    left = left_is has.done has.is refused v;
+    told = λ tells. told (settled failures is_down r) refl tells;
+  }
+    where
+      base : Array
+      base = visits.shaped A.world.geometry (array_at (state_at A (handle.seen s)).world.history o.begin)
+
+      base_is : A.tells ≡ true → base_in A s ≡ Some base
+      base_is tells = ap (λ b. cond b (begin_array A s) None) tells
+          ∙ ap (option_map (λ (p : Own). visits.shaped A.world.geometry (array_at (state_at A (handle.seen s)).world.history p.begin))) was
+
+      told : (q : Result Reply Stop) → settled failures is_down r ≡ q → A.tells ≡ true → IfOk q (λ said. AnswersOn A.world.geometry o x v.fetched said (handle.own t))
+      told (Err e) is tells = tt
+      told (Ok said) is tells =
+          let r_is : r ≡ Ok said = settled_ok failures is_down r said is in
+          let so = subst (λ (q : Result Reply Stop). IfOk q (λ y. ForSome (base_in A s) (λ B. ended (room_of (tx_on A s (base_in A s))) (own B (accesses_of (handle.own s))) ≡ (has.done, y)))) r_is has.told in
+          let ends : ended (4096 - length o.accesses) (own base o.accesses) ≡ (has.done, said) =
+          sym (ap (λ w. ended (4096 - length (accesses_of w)) (own base (accesses_of w))) was) ∙ so base (base_is tells) in
+          record {
+            array = base;
+            has = flipped base v.fetched (v.told base (base_is tells));
+            reply = sym (served.answers base ∙ ap (λ (e : List Access × Reply). e.1) ends);
+            leaves = left_is has.done has.is refused v ∙ sym (served.leaves base ∙ ap (λ (e : List Access × Reply). Some (record o { accesses = o.accesses ++ e.0 })) ends);
+          }
+
+-- a call of a store that is there, and the answers where it is not
+there_is : (W : World) (t : Live) (blocks : ℕ) (result : Reply × World) → blocks ≢ 0 → t.mode ≡ Serial → in_store W t blocks result ≡ result
+there_is W t blocks result some mode = let there : (blocks == 0) ≡ false = ne_eqb blocks 0 some in rw (there, mode) refl
+
+no_store : (W : World) (t : Live) (blocks : ℕ) (result : Reply × World) → blocks ≡ 0 → in_store W t blocks result ≡ (reply.NoStore, W)
+no_store W t blocks result e = let none : (blocks == 0) ≡ true = eq-eqb blocks 0 e in rw none refl
+
+no_serial : (W : World) (t : Live) (blocks : ℕ) (result : Reply × World) → blocks ≢ 0 → t.mode ≡ Snapshot → in_store W t blocks result ≡ (reply.StoreMode, W)
+no_serial W t blocks result some mode = let there : (blocks == 0) ≡ false = ne_eqb blocks 0 some in rw (there, mode) refl
+
+-- what a call ends with where the client is alone
+abbrev ended : Geometry → Array → Own → Op → List Access × Reply
+ended g B o x = store_ended (store_area g x) x (4096 - length o.accesses) (array_of (alone g B (Some o)) (live_of o))
+
+-- the rules' step, where the store is there
+abbrev act : Geometry → Array → Own → Op → Reply × World
+act g B o x = ((ended g B o x).1, rules.with_accesses (alone g B (Some o)) (live_of o) (o.accesses ++ (ended g B o x).0))
+
+stepped : (g : Geometry) (B : Array) (o : Own) (x : Op) → IsOnStore x
+    → step (alone g B (Some o)) 1 x ≡ in_store (alone g B (Some o)) (live_of o) (store_area g x).blocks (cond (is_empty_scan x) (reply.BadRange, alone g B (Some o)) (act g B o x))
+unfolding step hash_put_step hash_get_step hash_delete_step tree_put_step tree_get_step tree_delete_step tree_scan_step store_step
+stepped g B o (op.HashPut key value) is = refl
+stepped g B o (op.HashGet key) is = refl
+stepped g B o (op.HashDelete key) is = refl
+stepped g B o (op.TreePut key value) is = refl
+stepped g B o (op.TreeGet key) is = refl
+stepped g B o (op.TreeDelete key) is = refl
+stepped g B o (op.TreeScan from to most) is = refl
+stepped g B o (op.Begin mode) is = absurd is
+stepped g B o op.End is = absurd is
+stepped g B o op.Abort is = absurd is
+stepped g B o (op.Put block off bytes) is = absurd is
+stepped g B o (op.Read block) is = absurd is
+stepped g B o (op.Get block off len) is = absurd is
+stepped g B o (op.Write block bytes) is = absurd is
+stepped g B o (op.Fill block bytes) is = absurd is
+stepped g B o (op.Mark off len) is = absurd is
+stepped g B o (op.Release label) is = absurd is
+stepped g B o (op.Takeover label) is = absurd is
+stepped g B o (op.Await label) is = absurd is
+stepped g B o op.Trim is = absurd is
+stepped g B o op.Stat is = absurd is
+stepped g B o op.Compact is = absurd is
+stepped g B o op.Upgrade is = absurd is
+
+array_is : (g : Geometry) (B : Array) (o : Own) → array_of (alone g B (Some o)) (live_of o) ≡ own B o.accesses
+array_is g B o = ap (λ c. own (all_own B c) o.accesses) (no_take (o.begin + 1 - 1))
+
+own_with : (g : Geometry) (B : Array) (o : Own) (l : List Access) → own_among (rules.with_accesses (alone g B (Some o)) (live_of o) l).live ≡ Some (record o { accesses = l })
+own_with g B o l = ap (λ b. own_among (cond b (record (live_of o) { accesses = l }) (live_of o) ∷ [])) (eq-eqb o.number o.number refl)
+
+module _ (g : Geometry) (o : Own) (x : Op) (is : IsOnStore x) where
+  served : (store_area g x).blocks ≢ 0 → o.mode ≡ Serial → is_empty_scan x ≡ false → IsServed g o x (store_ended (store_area g x) x)
+  served some mode full =
+      let whole : (B : Array) → step (alone g B (Some o)) 1 x ≡ act g B o x =
+      λ B. stepped g B o x is ∙ there_is (alone g B (Some o)) (live_of o) (store_area g x).blocks _ some mode ∙ ap (λ b. cond b (reply.BadRange, alone g B (Some o)) (act g B o x)) full in
+      record {
+        answers = λ B. ap (λ (w : Reply × World). w.0) (whole B) ∙ ap (λ C. (store_ended (store_area g x) x (4096 - length o.accesses) C).1) (array_is g B o);
+        leaves = λ B. ap (λ (w : Reply × World). own_among w.1.live) (whole B) ∙ own_with g B o (o.accesses ++ (ended g B o x).0)
+            ∙ ap (λ C. Some (record o { accesses = o.accesses ++ (store_ended (store_area g x) x (4096 - length o.accesses) C).0 })) (array_is g B o);
+      }
+
+-- which of the two a line is
+in_store_so : (P Q : Type 0) (blocks : ℕ) (o : Own) → blocks ≢ 0 → o.mode ≡ Serial → P → InStore blocks o P Q
+in_store_so P Q blocks o some mode p =
+    let there : (blocks == 0) ≡ false = ne_eqb blocks 0 some in
+    subst (λ b. Where (not b && is_serial o.mode) P Q) (sym there) (subst (λ m. Where (is_serial m) P Q) (sym mode) p)
+
+not_in_store : (P Q : Type 0) (blocks : ℕ) (o : Own) → blocks ≡ 0 → Q → InStore blocks o P Q
+not_in_store P Q blocks o none q =
+    let gone : (blocks == 0) ≡ true = eq-eqb blocks 0 none in
+    subst (λ b. Where (not b && is_serial o.mode) P Q) (sym gone) q
+
+not_so_in_store : (P Q : Type 0) (blocks : ℕ) (o : Own) → blocks ≢ 0 → o.mode ≡ Snapshot → Q → InStore blocks o P Q
+not_so_in_store P Q blocks o some mode q =
+    let there : (blocks == 0) ≡ false = ne_eqb blocks 0 some in
+    subst (λ b. Where (not b && is_serial o.mode) P Q) (sym there) (subst (λ m. Where (is_serial m) P Q) (sym mode) q)
+
+module _ (g : Geometry) (tells : Bool) (o : Own) (es : List Entry) (r : Result Reply Stop) (own' : Option Own) where
+  -- the clause of each operation on a store
+  does_in : (x : Op) → IsOnStore x → InStore (store_area g x).blocks o (CallsStore g tells o x es r own') (Says g (Some o) x es r own') → Does g tells (Some o) x es r own'
+  does_in (op.HashPut key value) is does = does
+  does_in (op.HashGet key) is does = does
+  does_in (op.HashDelete key) is does = does
+  does_in (op.TreePut key value) is does = does
+  does_in (op.TreeGet key) is does = does
+  does_in (op.TreeDelete key) is does = does
+  does_in (op.TreeScan from to most) is does = does
+  does_in (op.Begin mode) is does = absurd is
+  does_in op.End is does = absurd is
+  does_in op.Abort is does = absurd is
+  does_in (op.Put block off bytes) is does = absurd is
+  does_in (op.Read block) is does = absurd is
+  does_in (op.Get block off len) is does = absurd is
+  does_in (op.Write block bytes) is does = absurd is
+  does_in (op.Fill block bytes) is does = absurd is
+  does_in (op.Mark off len) is does = absurd is
+  does_in (op.Release label) is does = absurd is
+  does_in (op.Takeover label) is does = absurd is
+  does_in (op.Await label) is does = absurd is
+  does_in op.Trim is does = absurd is
+  does_in op.Stat is does = absurd is
+  does_in op.Compact is does = absurd is
+  does_in op.Upgrade is does = absurd is
+
+no_tx : (g : Geometry) (tells : Bool) (x : Op) → IsOnStore x → Does g tells None x [] (Ok reply.NotInTx) None
+unfolding step
+no_tx g tells (op.HashPut key value) is = (refl, refl, refl)
+no_tx g tells (op.HashGet key) is = (refl, refl, refl)
+no_tx g tells (op.HashDelete key) is = (refl, refl, refl)
+no_tx g tells (op.TreePut key value) is = (refl, refl, refl)
+no_tx g tells (op.TreeGet key) is = (refl, refl, refl)
+no_tx g tells (op.TreeDelete key) is = (refl, refl, refl)
+no_tx g tells (op.TreeScan from to most) is = (refl, refl, refl)
+no_tx g tells (op.Begin mode) is = absurd is
+no_tx g tells op.End is = absurd is
+no_tx g tells op.Abort is = absurd is
+no_tx g tells (op.Put block off bytes) is = absurd is
+no_tx g tells (op.Read block) is = absurd is
+no_tx g tells (op.Get block off len) is = absurd is
+no_tx g tells (op.Write block bytes) is = absurd is
+no_tx g tells (op.Fill block bytes) is = absurd is
+no_tx g tells (op.Mark off len) is = absurd is
+no_tx g tells (op.Release label) is = absurd is
+no_tx g tells (op.Takeover label) is = absurd is
+no_tx g tells (op.Await label) is = absurd is
+no_tx g tells op.Trim is = absurd is
+no_tx g tells op.Stat is = absurd is
+no_tx g tells op.Compact is = absurd is
+no_tx g tells op.Upgrade is = absurd is
+
+says_by : (g : Geometry) (o : Own) (x : Op) (r : Reply) → step (alone g [] (Some o)) 1 x ≡ (r, alone g [] (Some o)) → Says g (Some o) x [] (Ok r) (Some o)
+says_by g o x r e = (refl, ap (λ (w : Reply × World). Ok w.0) (sym e), ap (λ (w : Reply × World). own_among w.1.live) (sym e))
+
+-- the transaction of a session whose mode is known
+pub has_own : (x : Option Own) (m : Mode) → option_map (λ (o : Own). o.mode) x ≡ Some m → (o : Own) × (x ≡ Some o) × (o.mode ≡ m)
+has_own None m e = absurd (cc e)
+has_own (Some o) m e = (o, refl, cc e)
+
+module _ {D O : Type 0} (A : Start) (s : Session D O) (x : Op) (is : IsOnStore x) where
+  pub without_tx : handle.own s ≡ None → Answered A s x (Ok reply.NotInTx) s
+  without_tx none = by_none A s s x (Ok reply.NotInTx) None none refl (no_tx A.world.geometry A.tells x is)
+
+  pub without_store : (o : Own) → handle.own s ≡ Some o → (store_area A.world.geometry x).blocks ≡ 0 → Answered A s x (Ok reply.NoStore) s
+  without_store o was none =
+      by_none A s s x (Ok reply.NoStore) (Some o) was refl
+      (does_in A.world.geometry A.tells o [] (Ok reply.NoStore) (Some o) x is
+      (not_in_store (CallsStore A.world.geometry A.tells o x [] (Ok reply.NoStore) (Some o)) (Says A.world.geometry (Some o) x [] (Ok reply.NoStore) (Some o)) (store_area A.world.geometry x).blocks o none
+      (says_by A.world.geometry o x reply.NoStore (stepped A.world.geometry [] o x is ∙ no_store (alone A.world.geometry [] (Some o)) (live_of o) (store_area A.world.geometry x).blocks _ none))))
+
+  pub without_mode : (o : Own) → handle.own s ≡ Some o → (store_area A.world.geometry x).blocks ≢ 0 → o.mode ≡ Snapshot → Answered A s x (Ok reply.StoreMode) s
+  without_mode o was some mode =
+      by_none A s s x (Ok reply.StoreMode) (Some o) was refl
+      (does_in A.world.geometry A.tells o [] (Ok reply.StoreMode) (Some o) x is
+      (not_so_in_store (CallsStore A.world.geometry A.tells o x [] (Ok reply.StoreMode) (Some o)) (Says A.world.geometry (Some o) x [] (Ok reply.StoreMode) (Some o)) (store_area A.world.geometry x).blocks o some mode
+      (says_by A.world.geometry o x reply.StoreMode (stepped A.world.geometry [] o x is ∙ no_serial (alone A.world.geometry [] (Some o)) (live_of o) (store_area A.world.geometry x).blocks _ some mode))))
+
+  -- a scan that is to find no pair reads nothing
+  pub without_pairs : (o : Own) → handle.own s ≡ Some o → (store_area A.world.geometry x).blocks ≢ 0 → o.mode ≡ Serial → is_empty_scan x ≡ true → Answered A s x (Ok reply.BadRange) s
+  without_pairs o was some mode empty =
+      let g : Geometry = A.world.geometry in
+      let whole : step (alone g [] (Some o)) 1 x ≡ (reply.BadRange, alone g [] (Some o)) =
+      stepped g [] o x is ∙ there_is (alone g [] (Some o)) (live_of o) (store_area g x).blocks _ some mode ∙ ap (λ b. cond b (reply.BadRange, alone g [] (Some o)) (act g [] o x)) empty in
+      by_none A s s x (Ok reply.BadRange) (Some o) was refl
+      (does_in g A.tells o [] (Ok reply.BadRange) (Some o) x is
+      (in_store_so (CallsStore g A.tells o x [] (Ok reply.BadRange) (Some o)) (Says g (Some o) x [] (Ok reply.BadRange) (Some o)) (store_area g x).blocks o some mode (record {
+        fetched = [];
+        refused = None;
+        done = [];
+        are = refl;
+        stops = tt;
+        reads = refl;
+        left = ap (λ l. Some (record o { accesses = l })) (sym (append-nil o.accesses));
+        told = λ tells. record {
+          array = [];
+          has = tt;
+          reply = ap (λ (w : Reply × World). w.0) (sym whole);
+          leaves = ap (λ (w : Reply × World). own_among w.1.live) (sym whole);
+        };
+      })))
+
+  -- the store was called
+  pub visited : (t : Session D O) (before : Option (Session D O)) (o : Own) (region : Region) (failures : ℕ) (is_down : Bool) (r q : Result Reply Stop) (v w : Seen) → before ≡ Some s → handle.own s ≡ Some o → o.mode ≡ Serial
+      → ◌≡◌ {A = Area} (record { size = A.world.geometry.block; start = region.start; blocks = region.size }) (store_area A.world.geometry x) → 0 < region.size → is_empty_scan x ≡ false
+      → v ≡ seen_by A before s 0 false → w ≡ seen_by A before t failures is_down → HasCalled (store_ended (area_of v.tx region) x) v.tx w.tx r → Stops v.device w.device r → IsVisit A before t failures is_down
+      → q ≡ settled failures is_down r → Answered A s x q t
+  visited t before o region failures is_down r q v w begun was mode area some full first last has stops visit ends =
+      let g : Geometry = A.world.geometry in
+      let there : (store_area g x).blocks ≢ 0 = λ none. (let size : region.size ≡ (store_area g x).blocks = ap (λ (a : Area). a.blocks) area in absurd (omega (arith, none, size, some))) in
+      let base : base_of A before ≡ base_in A s = ap (base_of A) begun in
+      let same : visit.was ≡ s = same_session visit.was s (sym visit.is ∙ begun) in
+      let made : Visited A s t visit.refused = subst (λ u. Visited A u t visit.refused) same visit.made in
+      let n : visits.number_in (handle.own s) ≡ o.number = ap visits.number_in was in
+      let calls = called A s t o was x (store_ended (store_area g x) x) r failures is_down (served g o x is there mode full)
+      (subst (λ (b : Option Array). HasCalled (store_ended (store_area g x) x) (tx_on A s b) (tx_on A t b) r) base
+      (subst (λ (a : Area). HasCalled (store_ended a x) (tx_on A s (base_of A before)) (tx_on A t (base_of A before)) r) area
+      (subst (λ (y : Seen). HasCalled (store_ended (area_of (tx_on A s (base_of A before)) region) x) (tx_on A s (base_of A before)) y.tx r) last
+      (subst (λ (y : Seen). HasCalled (store_ended (area_of y.tx region) x) y.tx w.tx r) first has))))
+      (subst (λ (y : Seen). Stops (record { faults = 0; is_down = false }) y.device r) last (subst (λ (y : Seen). Stops y.device w.device r) first stops))
+      visit.refused made visit.failed in
+      record {
+        entries = visits.fetches o.number made.fetched ++ visits.refusals o.number visit.refused;
+        moves = subst (λ (k : ℕ). Moves s t (visits.fetches k made.fetched ++ visits.refusals k visit.refused)) n made.moves;
+        did = subst (λ y. Did g A.tells y x (visits.fetches o.number made.fetched ++ visits.refusals o.number visit.refused) q (handle.own t)) (sym was)
+            (inl (subst (λ y. Does g A.tells (Some o) x (visits.fetches o.number made.fetched ++ visits.refusals o.number visit.refused) y (handle.own t)) (sym ends)
+            (does_in g A.tells o (visits.fetches o.number made.fetched ++ visits.refusals o.number visit.refused) (settled failures is_down r) (handle.own t) x is (in_store_so (CallsStore g A.tells o x (visits.fetches o.number made.fetched ++ visits.refusals o.number visit.refused) (settled failures is_down r) (handle.own t)) (Says g (Some o) x (visits.fetches o.number made.fetched ++ visits.refusals o.number visit.refused) (settled failures is_down r) (handle.own t)) (store_area g x).blocks o there mode calls))));
+        of = ap (λ y. y.now) made.of;
+      }
+    where
+      same_session : (a b : Session D O) → Some a ≡ Some b → a ≡ b
+      same_session a b e = cc e
+
+pub no_own : (x : Option Own) → option_map (λ (o : Own). o.mode) x ≡ None → x ≡ None
+no_own None e = refl
+no_own (Some o) e = absurd (cc e)
+
+-- the region of the image's store, by the numbers that the image had at the start
+pub region_at : (h g : Geometry) (region : Region) (x : Op) → h ≡ g → ◌≡◌ {A = Area} (record { size = h.block; start = region.start; blocks = region.size }) (store_area h x)
+    → ◌≡◌ {A = Area} (record { size = g.block; start = region.start; blocks = region.size }) (store_area g x)
+region_at h g region x is area = subst (λ (k : Geometry). ◌≡◌ {A = Area} (record { size = k.block; start = region.start; blocks = region.size }) (store_area k x)) is area
+
+pub blocks_at : (g : Geometry) (region : Region) (x : Op) → ◌≡◌ {A = Area} (record { size = g.block; start = region.start; blocks = region.size }) (store_area g x) → region.size ≡ (store_area g x).blocks
+blocks_at g region x area = ap (λ (a : Area). a.blocks) area
+
+pub some_blocks : (g : Geometry) (region : Region) (x : Op) → ◌≡◌ {A = Area} (record { size = g.block; start = region.start; blocks = region.size }) (store_area g x) → 0 < region.size → (store_area g x).blocks ≢ 0
+some_blocks g region x area some none = let size = blocks_at g region x area in absurd (omega (arith, none, size, some))
+
+-- a call of a store may be made there
+pub may_call : {D O : Type 0} (A : Start) (before : Option (Session D O)) (s : Session D O) (region : Region) (x : Op) (v : Seen) → v ≡ seen_by A before s 0 false
+    → ◌≡◌ {A = Area} (record { size = A.world.geometry.block; start = region.start; blocks = region.size }) (store_area A.world.geometry x) → 0 < region.size → IsTrue (is_valid A.world.geometry)
+    → IsStoreArea x (area_of v.tx region) × (region.start + region.size ≤ v.tx.blocks)
+may_call A before s region x v is area some valid =
+    let g : Geometry = A.world.geometry in
+    let at : area_of v.tx region ≡ store_area g x = ap (λ (y : Seen). area_of y.tx region) is ∙ area in
+    let start : region.start ≡ (store_area g x).start = ap (λ (a : Area). a.start) area in
+    let size : region.size ≡ (store_area g x).blocks = blocks_at g region x area in
+    let blocks : v.tx.blocks ≡ g.blocks = ap (λ (y : Seen). y.tx.blocks) is in
+    (subst (IsStoreArea x) (sym at) (store_area_is g x valid (some_blocks g region x area some)), omega (arith, start, size, blocks, store_area_fits g x valid))

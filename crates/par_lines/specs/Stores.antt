@@ -1,0 +1,22 @@
+-- How a line that calls a store ends.
+use Rattle.std.specs.Prelude.{ℕ, Bool, cond, nat_lt, Result, Err}
+use Rattle.iso_model.specs.declared.script.Op.{Op}
+use Rattle.iso_model.specs.declared.script.Op.TheVariants as op
+use Rattle.iso_model.specs.declared.script.Reply.{Reply}
+use Rattle.script_runner.specs.declared.machine.Stop.{Stop}
+use Rattle.script_runner.specs.declared.machine.Stop.TheVariants as stop
+
+-- as the call does, unless the disk failed in it, or the device was down
+abbrev pub settled : (failures : ℕ) → (is_down : Bool) → Result Reply Stop → Result Reply Stop
+settled failures is_down r = cond (nat_lt 0 failures) (Err stop.Disk) (cond is_down (Err stop.Down) r)
+
+-- an operation on a store
+abbrev pub IsOnStore : Op → Type 0
+IsOnStore (op.HashPut key value) = Unit {0}
+IsOnStore (op.HashGet key) = Unit {0}
+IsOnStore (op.HashDelete key) = Unit {0}
+IsOnStore (op.TreePut key value) = Unit {0}
+IsOnStore (op.TreeGet key) = Unit {0}
+IsOnStore (op.TreeDelete key) = Unit {0}
+IsOnStore (op.TreeScan from to most) = Unit {0}
+IsOnStore x = ⊥

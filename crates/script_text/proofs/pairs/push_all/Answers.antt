@@ -1,0 +1,13 @@
+use Rattle.std.proofs.Common.{◌++◌, Result, Ok, Err, OnErr, flat_map, take}
+use Rattle.iso_model.specs.Text.{pair_text}
+use Rattle.script_text.proofs.Extending.{on_err}
+use Rattle.script_text.proofs.pairs.push_all.Goals as goal
+
+always : {T E P : Type 0} (r : Result T E) → P → OnErr r P
+always (Ok x) p = tt
+always (Err e) p = p
+
+pub returns-in_err-push_pair-clause-err : goal.returns-in_err-push_pair-clause-err
+returns-in_err-push_pair-clause-err c =
+    on_err c.from_residual.result c.args.out.now.items c.loop-pair.out.items c.push_pair.new.out.items (flat_map pair_text (take c.loop-pair.pair-index c.args.pairs.now)) c.loop-pair.invariant
+    (always c.from_residual.result c.in_err-push_pair.ensures.err)

@@ -1,0 +1,6 @@
+use Rattle.std.proofs.Common.{◌≡◌, ◌++◌, take, flat_map}
+use Rattle.iso_model.specs.Text.{pair_text}
+use Rattle.script_text.proofs.pairs.push_all.Given as goal
+
+abbrev pub invariant-loop-pair : goal.invariant-loop-pair
+invariant-loop-pair l = l.out.items ≡ l.initial.out.items ++ flat_map pair_text (take l.pair-index l.pairs)

@@ -1,5 +1,0 @@
-use Rattle.script_text.proofs.reply_line.ReplyLine.set.Goals as goal
-
-pub returns-in-Some-clause-succeeds : goal.returns-in-Some-clause-succeeds
-returns-in-Some-clause-succeeds c = λ short.
-    absurd (c.in-Some.ensures.long short)

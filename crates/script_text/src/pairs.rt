@@ -1,0 +1,55 @@
+// The line of a reply that tells pairs of a store.
+ghost use Rattle.std.specs.Prelude.{◌≡◌, ◌++◌, OnErr, OnOk, codes, decimal, flat_map};
+ghost use Rattle.iso_model.specs.declared.script.Reply.TheVariants.{Pairs};
+ghost use Rattle.iso_model.specs.Text.{pair_text, reply_line};
+ghost use Rattle.script_text.specs.Printing.{Extends};
+
+use crate::push::{push_bytes, push_dashed, push_number};
+use iso_model::{Bytes, Memory};
+
+/// Adds the line that tells a client these pairs. Without memory nothing is added.
+pub(crate) fn push_pairs(
+    out: &mut Vec<u8>,
+    client: u8,
+    pairs: &[(Bytes, Bytes)],
+) -> Result<(), Memory>
+    ensures ok { OnOk result (out.new.items ≡ out.old.items ++ reply_line client (Pairs pairs.now)) }
+    ensures err { OnErr result (out.new.items ≡ out.old.items) }
+{
+    let start = out.len();
+    let pushed = push_line(out, client, pairs);
+    if pushed.is_err() {
+        out.truncate(start);
+    }
+    pushed
+}
+
+#[tactic(auto, unfolding(iso_model::specs::Text::reply_text))]
+fn push_line(out: &mut Vec<u8>, client: u8, pairs: &[(Bytes, Bytes)]) -> Result<(), Memory>
+    ensures ok { OnOk result (out.new.items ≡ out.old.items ++ reply_line client (Pairs pairs.now)) }
+    ensures err { OnErr result (Extends out.old.items out.new.items) }
+{
+    push_number(out, u64::from(client))?;
+    push_bytes(out, b" ok")?;
+    push_all(out, pairs)?;
+    push_bytes(out, b"\n")
+}
+
+/// Adds the pairs, each behind a space.
+fn push_all(out: &mut Vec<u8>, pairs: &[(Bytes, Bytes)]) -> Result<(), Memory>
+    ensures ok { OnOk result (out.new.items ≡ out.old.items ++ flat_map pair_text pairs.now) }
+    ensures err { OnErr result (Extends out.old.items out.new.items) }
+{
+    for pair in pairs {
+        push_pair(out, pair)?;
+    }
+    Ok(())
+}
+
+fn push_pair(out: &mut Vec<u8>, pair: &(Bytes, Bytes)) -> Result<(), Memory>
+    ensures ok { OnOk result (out.new.items ≡ out.old.items ++ pair_text pair.now) }
+    ensures err { OnErr result (Extends out.old.items out.new.items) }
+{
+    push_dashed(out, b" ", pair.0.as_slice())?;
+    push_dashed(out, b"=", pair.1.as_slice())
+}

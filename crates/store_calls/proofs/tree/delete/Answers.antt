@@ -1,0 +1,26 @@
+use Rattle.std.proofs.Common.{sym, subst, Result}
+use Rattle.iso_model.specs.declared.script.Reply.{Reply}
+use Rattle.iso_model.specs.TreeCalls.{del_program}
+use Rattle.iso_model.specs.Step.{removed_reply}
+use Rattle.iso_model.specs.Stores.{outcome}
+use Rattle.tx_blocks.specs.Runs.{area_of}
+use Rattle.script_runner.specs.declared.machine.Stop.{Stop}
+use Rattle.store_calls.specs.Calls.{HasCalled, Stops, replied}
+use Rattle.store_calls.proofs.Called.{called_err, stops_err}
+use Rattle.store_calls.proofs.tree.delete.Goals as goal
+
+pub returns-in-Err-clause-called : goal.returns-in-Err-clause-called
+returns-in-Err-clause-called g c =
+    let t = g.T.TxBlocks.state c.args.tx.now in
+    let u = g.T.TxBlocks.state c.del.new.tx in
+    let p = del_program (area_of t c.args.region) c.args.key.now in
+    subst (λ (r : Result Reply Stop). HasCalled (λ room A. replied removed_reply (outcome room p A)) t u r) (sym c.refusal.ensures) (called_err p t u removed_reply c.in-Err.error c.in-Err.ensures.ended)
+
+pub returns-in-Err-clause-stops : goal.returns-in-Err-clause-stops
+returns-in-Err-clause-stops g c =
+    let t = g.T.TxBlocks.state c.args.tx.now in
+    let u = g.T.TxBlocks.state c.del.new.tx in
+    let p = del_program (area_of t c.args.region) c.args.key.now in
+    let before = g.T.TxBlocks.device c.args.tx.now in
+    let now = g.T.TxBlocks.device c.del.new.tx in
+    subst (λ (r : Result Reply Stop). Stops before now r) (sym c.refusal.ensures) (stops_err p t u before now 1 c.in-Err.error c.requires.is_open c.in-Err.ensures.ended c.in-Err.ensures.cause)

@@ -1,0 +1,46 @@
+use Rattle.std.proofs.Common.{◌≡◌, [], sym, subst, refl, ap, ◌&&◌, ◌==◌, Bool, true, false, cond, ℕ, List, Result, Ok, Err, eq-eqb, arith}
+use Rattle.iso_model.specs.declared.access.Access.{Access}
+use Rattle.iso_model.specs.declared.script.Reply.{Reply}
+use Rattle.iso_model.specs.declared.script.Reply.TheVariants as reply
+use Rattle.iso_model.specs.declared.stores.Area.{Area}
+use Rattle.iso_model.specs.declared.stores.StoreError.TheVariants.{BadKey}
+use Rattle.iso_model.specs.Array.{Array}
+use Rattle.iso_model.specs.HashCalls.{is_key}
+use Rattle.iso_model.specs.Step.{pairs_reply}
+use Rattle.iso_model.specs.Stores.{Done, Program, outcome}
+use Rattle.iso_model.specs.TreeCalls.{Scanned, scan_below, scan_program, with_head}
+use Rattle.tx_blocks.specs.Runs.{area_of}
+use Rattle.script_runner.specs.declared.machine.Stop.{Stop}
+use Rattle.store_calls.specs.Calls.{HasCalled, replied}
+use Rattle.store_calls.proofs.Called.{called_err, no_more}
+use Rattle.store_calls.proofs.tree.scan.Goals as goal
+
+not_both : (x y z : Bool) → (x && y && z) ≡ false → z ≡ true → (x && y) ≡ false
+not_both true true true e t = e
+not_both true true false e t = sym t
+not_both true false z e t = refl
+not_both false y z e t = refl
+
+-- a scan of which one key is none
+no_key : (a : Area) (from to : List ℕ) (most room : ℕ) (A : Array) → (is_key from && is_key to) ≡ false → replied pairs_reply (outcome room (scan_program a from to most) A) ≡ ([], reply.BadKey)
+unfolding scan_program
+no_key a from to most room A bad =
+    let call : Bool → Program Scanned = λ t. cond t (with_head a (scan_below a from to most)) (Done (Err BadKey)) in
+    ap (λ t. replied pairs_reply (outcome room (call t) A)) bad
+
+pub returns-then-most-eq0-clause-called : goal.returns-then-most-eq0-clause-called
+returns-then-most-eq0-clause-called g c =
+    let t = g.T.TxBlocks.state c.args.tx.now in
+    let none : (c.args.most == 0) ≡ true = eq-eqb c.args.most 0 (omega (arith, c.if-most-eq0.true)) in
+    record {
+      done = [];
+      is = no_more t;
+      told = λ A told. no_key (area_of t c.args.region) c.args.from.now c.args.to.now c.args.most _ _ (not_both (is_key c.args.from.now) (is_key c.args.to.now) (c.args.most == 0) c.requires.some none);
+    }
+
+pub returns-in-Err-clause-called : goal.returns-in-Err-clause-called
+returns-in-Err-clause-called g c =
+    let t = g.T.TxBlocks.state c.args.tx.now in
+    let u = g.T.TxBlocks.state c.scan.new.tx in
+    let p = scan_program (area_of t c.args.region) c.args.from.now c.args.to.now c.args.most in
+    subst (λ (r : Result Reply Stop). HasCalled (λ room A. replied pairs_reply (outcome room p A)) t u r) (sym c.refusal.ensures) (called_err p t u pairs_reply c.in-Err.error c.in-Err.ensures.ended)

@@ -1,0 +1,10 @@
+//! The operations of a script on the stores, on any transaction over blocks.
+#![tactic(auto)]
+
+mod calls;
+mod hash;
+mod region;
+mod tree;
+
+pub use calls::call;
+pub use region::{is_empty_scan, store_region};

@@ -1,0 +1,10 @@
+use Rattle.iso_model.specs.Array.{zeros}
+use Rattle.store_laws.proofs.TreeBlank.{blank_map, blank_region}
+use Rattle.store_laws.proofs.Zeros.{zeros_blank}
+use Rattle.store_laws.proofs.tree_laws.blank_tree_regions_are_empty.Goals as goal
+
+pub returns-clause-blank : goal.returns-clause-blank
+returns-clause-blank _ = λ a A area blank. (blank_region a A area blank, blank_map a A area blank)
+
+pub returns-clause-made : goal.returns-clause-made
+returns-clause-made _ = λ a n area fits. (blank_region a (zeros a.size n) area (zeros_blank a n fits), blank_map a (zeros a.size n) area (zeros_blank a n fits))

@@ -1,0 +1,71 @@
+-- The lines of a script that commit, by the history after all its lines.
+use Rattle.std.proofs.Common.{◌≡◌, ◌∙◌, sym, refl, ap, subst, ℕ, ◌+◌, ◌-◌, ◌<◌, ◌≤◌, IsTrue, List, [], ◌∷◌, ◌++◌, take, Some, arith}
+use Rattle.std.proofs.lemmas.List.{take-append-le}
+use Rattle.iso_model.specs.declared.script.Line.{Line}
+use Rattle.iso_model.specs.declared.script.Op.{Op}
+use Rattle.iso_model.specs.declared.script.Op.TheVariants.{End}
+use Rattle.iso_model.specs.declared.script.Reply.TheVariants as reply
+use Rattle.iso_model.specs.Array.{Array}
+use Rattle.iso_model.specs.History.{History, all_own, array_at, last}
+use Rattle.iso_model.specs.Script.{after}
+use Rattle.iso_model.specs.Step.{step}
+use Rattle.iso_model.specs.World.{Live, World, attached}
+use Rattle.iso_model.specs.Worlds.{AreLines, Extends, IsOp}
+use Rattle.iso_model.proofs.Worlds.{after_leads, step_leads}
+use Rattle.store_scripts.specs.Kept.{BeginsWell, ToldInOrder}
+use Rattle.store_scripts.specs.Told.{CommitKeeps, CommitsKeep, Notes, no_notes, noted, notes_after}
+use Rattle.store_scripts.proofs.Lines.{noted_after, noted_begins}
+use Rattle.store_scripts.proofs.Noted.{IsNoted}
+use Rattle.store_scripts.proofs.Order.{commit_told, committed_last}
+
+array_extends : (H G : History) (n : ℕ) → 0 < H.first → Extends H G → n ≤ last H → array_at G n ≡ array_at H n
+array_extends H G n first more before =
+    (λ i. all_own (more.base i) (take (n + 1 - more.first i) (more.commits i)))
+    ∙ ap (all_own H.base) (take-append-le (n + 1 - H.first) H.commits more.more (omega arith))
+
+-- a script before a line, and after it
+lines_split : (before later : List (ℕ × Line)) (line : ℕ × Line) → AreLines (before ++ line ∷ later) → AreLines before × IsOp line.1.op × AreLines later
+lines_split [] later line good = (tt, good.0, good.1)
+lines_split (first ∷ before) later line good = let rest = lines_split before later line good.1 in ((good.0, rest.0), rest.1, rest.2)
+
+keep_split : (W : World) (notes : Notes) (before later : List (ℕ × Line)) (line : ℕ × Line) → CommitsKeep W notes (before ++ line ∷ later)
+    → CommitsKeep W notes before × CommitKeeps (after W before) (notes_after W notes before) line.1.client line.1.op
+keep_split W notes [] later line keeps = (tt, keeps.0)
+keep_split W notes (first ∷ before) later line keeps =
+    let rest = keep_split (step W first.1.client first.1.op).1 (noted W notes first.1.client first.1.op) before later line keeps.1 in
+    ((keeps.0, rest.0), rest.1)
+
+after_split : (W : World) (before later : List (ℕ × Line)) (line : ℕ × Line) → after W (before ++ line ∷ later) ≡ after (step (after W before) line.1.client line.1.op).1 later
+after_split W [] later line = refl
+after_split W (first ∷ before) later line = after_split (step W first.1.client first.1.op).1 before later line
+
+-- what an end told stands in each later history
+later_told : (n : ℕ) (V : World) (notes : Notes) (is : IsNoted n V notes) (c k : ℕ) (t : Live) (later : List (ℕ × Line)) → attached V c ≡ Some t → (step V c End).0 ≡ reply.Committed k
+    → IsTrue (notes t.number).kept → AreLines later
+    → let H = (after (step V c End).1 later).history in ToldInOrder V.geometry (notes t.number) (array_at H (k - 1)) (array_at H k)
+later_told n V notes is c k t later found done kept good =
+    let U = (step V c End).1 in
+    let H = (after U later).history in
+    let leads = step_leads V c End is.world tt in
+    let more = (after_leads U later leads.world good).history in
+    let first : 0 < U.history.first = leads.world.history.first in
+    let within : k ≤ last U.history = committed_last n V notes is c t found kept k done in
+    let one : array_at H (k - 1) ≡ array_at U.history (k - 1) = array_extends U.history H (k - 1) first more (omega arith) in
+    let two : array_at H k ≡ array_at U.history k = array_extends U.history H k first more within in
+    subst (λ (A : Array). ToldInOrder V.geometry (notes t.number) A (array_at H k)) (sym one)
+    (subst (λ (B : Array). ToldInOrder V.geometry (notes t.number) (array_at U.history (k - 1)) B) (sym two) (commit_told n V notes is c t found kept k done))
+
+pub commits_told : (W : World) (before later : List (ℕ × Line)) (line : ℕ × Line) (k : ℕ) (t : Live) → BeginsWell W → AreLines (before ++ line ∷ later) → CommitsKeep W no_notes (before ++ line ∷ later)
+    → let V = after W before in let H = (after W (before ++ line ∷ later)).history in
+    line.1.op ≡ End → attached V line.1.client ≡ Some t → (step V line.1.client End).0 ≡ reply.Committed k
+    → ToldInOrder V.geometry (notes_after W no_notes before t.number) (array_at H (k - 1)) (array_at H k)
+commits_told W before later line k t begins good keeps is_end found done =
+    let V = after W before in
+    let c = line.1.client in
+    let lines = lines_split before later line good in
+    let keep = keep_split W no_notes before later line keeps in
+    let noted_is = noted_after (last W.history) W no_notes before (noted_begins W begins) lines.0 keep.0 in
+    let kept = keep.1 t k found (ap (λ (op : Op). (step V c op).0) is_end ∙ done) in
+    let told = later_told (last W.history) V (notes_after W no_notes before) noted_is c k t later found done kept lines.2 in
+    let world_is : after W (before ++ line ∷ later) ≡ after (step V c End).1 later = after_split W before later line ∙ ap (λ (op : Op). after (step V c op).1 later) is_end in
+    subst (λ (U : World). ToldInOrder V.geometry (notes_after W no_notes before t.number) (array_at U.history (k - 1)) (array_at U.history k)) (sym world_is) told

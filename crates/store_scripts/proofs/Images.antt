@@ -1,0 +1,45 @@
+-- The stores of an image, where it has them.
+use Rattle.std.proofs.Common.{◌≡◌, ◌≢◌, ◌↔◌, refl, ℕ, zero, suc, ◌≤◌, IsTrue, arith}
+use Rattle.std.specs.FinMap.{empty}
+use Rattle.iso_model.specs.declared.access.Geometry.{Geometry}
+use Rattle.iso_model.specs.declared.limits.TheConstants.{LAST}
+use Rattle.iso_model.specs.Array.{zeros}
+use Rattle.iso_model.specs.Geometry.{is_valid}
+use Rattle.iso_model.specs.HashRegion.{IsHashRegion, Pairs}
+use Rattle.iso_model.specs.Step.{hash_area, tree_area}
+use Rattle.iso_model.specs.TreeRegion.{IsTreeRegion}
+use Rattle.iso_model.specs.World.{empty_history, fresh}
+use Rattle.iso_model.proofs.Bounds.{limits}
+use Rattle.iso_model.proofs.FreshWorlds.{empty_world_is}
+use Rattle.iso_model.proofs.HashAccesses.{hash_area_is}
+use Rattle.iso_model.proofs.TreeAccesses.{tree_area_is}
+use Rattle.store_laws.proofs.HashBlank as hash
+use Rattle.store_laws.proofs.TreeBlank as tree
+use Rattle.store_laws.proofs.Zeros.{zeros_blank}
+use Rattle.store_scripts.specs.Kept.{BeginsWell}
+use Rattle.store_scripts.specs.Stores.{IfAny, pairs_if_any}
+
+pub if_any_is : (n : ℕ) (P : Type 0) (m : Pairs) → n ≢ 0 → (IfAny n P ↔ P) × (pairs_if_any n m ≡ m)
+if_any_is zero P m some = absurd (some refl)
+if_any_is (suc n) P m some = (((λ x. x), (λ x. x)), refl)
+
+pub none_is_empty : (n : ℕ) (m : Pairs) → n ≡ 0 → pairs_if_any n m ≡ empty
+none_is_empty zero m none = refl
+none_is_empty (suc n) m none = absurd (omega arith)
+
+if_any : (n : ℕ) (P : Type 0) → (n ≢ 0 → P) → IfAny n P
+if_any zero P is = tt
+if_any (suc n) P is = is (λ e. absurd (omega arith))
+
+pub begins_well : (g : Geometry) (generation : ℕ) → IsTrue (is_valid g) → generation ≤ LAST → BeginsWell (fresh g generation (empty_history g))
+begins_well g generation valid few =
+    let regions = (limits g valid).regions in
+    let A = zeros g.block g.blocks in
+    record {
+      world = empty_world_is g generation valid few;
+      none = refl;
+      stores = record {
+        first = if_any g.hash (IsHashRegion (hash_area g) A) (λ some. hash.blank_region (hash_area g) A (hash_area_is g valid some) (zeros_blank (hash_area g) g.blocks (omega arith)));
+        second = if_any g.tree (IsTreeRegion (tree_area g) A) (λ some. tree.blank_region (tree_area g) A (tree_area_is g valid some) (zeros_blank (tree_area g) g.blocks (omega arith)));
+      };
+    }

@@ -1,0 +1,13 @@
+pub mod Growing
+pub mod Locality
+pub mod Finding
+pub mod Noted
+pub mod Steps
+pub mod Calls
+pub mod Lines
+pub mod Order
+pub mod Refused
+pub mod Refusals
+pub mod Commits
+pub mod Images
+mod Rows

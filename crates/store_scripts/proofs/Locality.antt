@@ -1,0 +1,198 @@
+-- A program of a store's call that answered Ok is local for its store, and spares the other.
+use Rattle.std.proofs.Common.{◌≡◌, ◌≢◌, refl, ap, subst, ℕ, zero, suc, ◌+◌, ◌<◌, ◌&&◌, Bool, true, false, cond, IsTrue, List, length, Option, Some, Result, Ok, Err, arith, inl, inr}
+use Rattle.std.proofs.lemmas.Bool.{and_parts}
+use Rattle.iso_model.specs.declared.access.Access.{Access}
+use Rattle.iso_model.specs.declared.access.Geometry.{Geometry}
+use Rattle.iso_model.specs.declared.stores.Area.{Area}
+use Rattle.iso_model.specs.declared.stores.StoreError.{StoreError}
+use Rattle.iso_model.specs.declared.stores.StoreError.TheVariants.{BadKey, BadValue}
+use Rattle.iso_model.specs.Array.{Array}
+use Rattle.iso_model.specs.Geometry.{is_valid}
+use Rattle.iso_model.specs.HashCalls as hash
+use Rattle.iso_model.specs.HashCalls.{is_key, is_value}
+use Rattle.iso_model.specs.HashRegion.{IsHashRegion, Pairs, del_op, get_op, hash_map, put_op}
+use Rattle.iso_model.specs.Premises.{HasShape, block_at}
+use Rattle.iso_model.specs.Step.{hash_area, tree_area}
+use Rattle.iso_model.specs.Stores.{Done, IsLocal, Program, accesses_of, answer_of, outcome}
+use Rattle.iso_model.specs.TreeCalls as tree
+use Rattle.iso_model.specs.TreeRegion.{IsTreeRegion, scan_op, tree_map}
+use Rattle.iso_model.proofs.Bounds.{limits}
+use Rattle.iso_model.proofs.HashAccesses.{hash_area_is}
+use Rattle.iso_model.proofs.TreeAccesses.{tree_area_is}
+use Rattle.iso_hash.proofs.Changes as hash_changes
+use Rattle.iso_hash.proofs.Gets as hash_gets
+use Rattle.iso_tree.proofs.DelCalls as tree_dels
+use Rattle.iso_tree.proofs.Gets as tree_gets
+use Rattle.iso_tree.proofs.PutWhole as tree_puts
+use Rattle.iso_tree.proofs.ScanCalls as tree_scans
+use Rattle.tx_blocks.proofs.Outcomes.{outcome_whole}
+use Rattle.store_laws.specs.Calls.{Del, Found, Get, Got, KeyCall, Put, StoreAnswer, WasPut, WasThere, key_act}
+use Rattle.store_laws.specs.Region.{SpareRegion}
+use Rattle.store_laws.specs.Tree.{OnKey, Scan, TreeCall, tree_act}
+use Rattle.store_laws.specs.Writes.{AreApart}
+use Rattle.store_laws.proofs.BothCalls.{disjoint_blocks}
+use Rattle.store_laws.proofs.Growth.{reads_spare}
+use Rattle.store_laws.proofs.HashWrites as hash_writes
+use Rattle.store_laws.proofs.Programs.{spare_where_apart, writes_within}
+use Rattle.store_laws.proofs.TreeWrites as tree_writes
+use Rattle.store_scripts.specs.Stores.{IfAny, image_hash, image_tree, pairs_if_any}
+
+-- what is local for a store is local for that of the image which has blocks, with the answer under its name
+if_local : {R : Type 0} (n : ℕ) (Well : Array → Type 0) (map_of : Array → Pairs) (name : R → StoreAnswer) (op : Pairs → R × Pairs) (B : Array) (accesses : List Access) (r : R) → n ≢ 0
+    → IsLocal Well map_of op B accesses r
+    → IsLocal (λ (A : Array). IfAny n (Well A)) (λ (A : Array). pairs_if_any n (map_of A)) (λ m. (name (op m).0, (op m).1)) B accesses (name r)
+if_local zero Well map_of name op B accesses r some local = absurd (some refl)
+if_local (suc n) Well map_of name op B accesses r some local = record {
+  answers = λ C shape well agree. ap name (local.answers C shape well agree);
+  well_formed = local.well_formed;
+  maps = local.maps;
+}
+
+-- a test of the arguments was passed where the answer is Ok
+passed : {R : Type 0} (test : Bool) (p : Program (Result R StoreError)) (e : StoreError) (B : Array) (r : R) → answer_of (cond test p (Done (Err e))) B ≡ Ok r
+    → (test ≡ true) × (answer_of p B ≡ Ok r)
+passed true p e B r is = (refl, is)
+passed false p e B r is = cc
+
+-- the arguments of a call that answered Ok are right
+hash_get_key : (a : Area) (key : List ℕ) (B : Array) (r : Option (List ℕ)) → answer_of (hash.get_program a key) B ≡ Ok r → is_key key ≡ true
+unfolding hash.get_program
+hash_get_key a key B r is = (passed (is_key key) _ BadKey B r is).0
+
+hash_put_key : (a : Area) (key value : List ℕ) (B : Array) (r : Unit {0}) → answer_of (hash.put_program a key value) B ≡ Ok r → (is_key key ≡ true) × (is_value value ≡ true)
+unfolding hash.put_program
+hash_put_key a key value B r is = let one = passed (is_key key) _ BadKey B r is in (one.0, (passed (is_value value) _ BadValue B r one.1).0)
+
+hash_del_key : (a : Area) (key : List ℕ) (B : Array) (r : Bool) → answer_of (hash.del_program a key) B ≡ Ok r → is_key key ≡ true
+unfolding hash.del_program
+hash_del_key a key B r is = (passed (is_key key) _ BadKey B r is).0
+
+tree_get_key : (a : Area) (key : List ℕ) (B : Array) (r : Option (List ℕ)) → answer_of (tree.get_program a key) B ≡ Ok r → is_key key ≡ true
+unfolding tree.get_program
+tree_get_key a key B r is = (passed (is_key key) _ BadKey B r is).0
+
+tree_put_key : (a : Area) (key value : List ℕ) (B : Array) (r : Unit {0}) → answer_of (tree.put_program a key value) B ≡ Ok r → (is_key key ≡ true) × (is_value value ≡ true)
+unfolding tree.put_program
+tree_put_key a key value B r is = let one = passed (is_key key) _ BadKey B r is in (one.0, (passed (is_value value) _ BadValue B r one.1).0)
+
+tree_del_key : (a : Area) (key : List ℕ) (B : Array) (r : Bool) → answer_of (tree.del_program a key) B ≡ Ok r → is_key key ≡ true
+unfolding tree.del_program
+tree_del_key a key B r is = (passed (is_key key) _ BadKey B r is).0
+
+tree_scan_keys : (a : Area) (from to : List ℕ) (most : ℕ) (B : Array) (r : List (List ℕ × List ℕ)) → answer_of (tree.scan_program a from to most) B ≡ Ok r → (is_key from ≡ true) × (is_key to ≡ true)
+unfolding tree.scan_program
+tree_scan_keys a from to most B r is = and_parts (is_key from) (is_key to) (passed (is_key from && is_key to) _ BadKey B r is).0
+
+-- A call that answered Ok: local for its store with this answer, and it writes no block of the other.
+pub record IsHashCall (g : Geometry) (call : KeyCall) (B : Array) (done : List Access) (answer : StoreAnswer) : Type 0 where
+  pub local : IsLocal (image_hash g).IsWellFormed (image_hash g).map_of (key_act call) B done answer
+  pub spare : SpareRegion (image_tree g) done
+
+pub record IsTreeCall (g : Geometry) (call : TreeCall) (B : Array) (done : List Access) (answer : StoreAnswer) : Type 0 where
+  pub local : IsLocal (image_tree g).IsWellFormed (image_tree g).map_of (tree_act call) B done answer
+  pub spare : SpareRegion (image_hash g) done
+
+module _ (g : Geometry) (valid : IsTrue (is_valid g)) (B : Array) (shape : HasShape g B) (room : ℕ) where
+  apart : AreApart (image_hash g) (image_tree g)
+  apart = disjoint_blocks (hash_area g) (tree_area g) (inl (omega arith))
+
+  apart_too : AreApart (image_tree g) (image_hash g)
+  apart_too = disjoint_blocks (tree_area g) (hash_area g) (inr (omega arith))
+
+  hash_blocks : (k : ℕ) → k < g.hash → length (block_at B (0 + k)) ≡ g.block
+  hash_blocks k below = shape.bytes (0 + k) (let bounds = limits g valid in let within = bounds.regions in omega arith)
+
+  tree_blocks : (k : ℕ) → k < g.tree → length (block_at B (g.hash + k)) ≡ g.block
+  tree_blocks k below = shape.bytes (g.hash + k) (let bounds = limits g valid in let within = bounds.regions in omega arith)
+
+  -- THE HASH STORE
+  pub hash_got : (key : List ℕ) (r : Option (List ℕ)) → g.hash ≢ 0 → (outcome room (hash.get_program (hash_area g) key) B).1 ≡ Some (Ok r)
+      → IsHashCall g (Get key) B (outcome room (hash.get_program (hash_area g) key) B).0 (Got r)
+  hash_got key r some is =
+      let a = hash_area g in
+      let p = hash.get_program a key in
+      let whole = outcome_whole room p B (Ok r) is in
+      subst (λ (done : List Access). IsHashCall g (Get key) B done (Got r)) whole.accesses_are (record {
+        local = if_local g.hash (IsHashRegion a) (hash_map a) (λ value. Got value) (get_op key) B (accesses_of p B) r some
+            (hash_gets.get_local a key B r (hash_area_is g valid some) (hash_get_key a key B r whole.answer_is) whole.answer_is);
+        spare = reads_spare (image_tree g) (accesses_of p B) (hash_gets.get_reads a key B);
+      })
+
+  pub hash_was_put : (key value : List ℕ) (r : Unit {0}) → g.hash ≢ 0 → (outcome room (hash.put_program (hash_area g) key value) B).1 ≡ Some (Ok r)
+      → IsHashCall g (Put key value) B (outcome room (hash.put_program (hash_area g) key value) B).0 WasPut
+  hash_was_put key value r some is =
+      let a = hash_area g in
+      let p = hash.put_program a key value in
+      let whole = outcome_whole room p B (Ok r) is in
+      let area = hash_area_is g valid some in
+      let right = hash_put_key a key value B r whole.answer_is in
+      subst (λ (done : List Access). IsHashCall g (Put key value) B done WasPut) whole.accesses_are (record {
+        local = if_local g.hash (IsHashRegion a) (hash_map a) (λ done. WasPut) (put_op key value) B (accesses_of p B) r some
+            (hash_changes.put_local a key value B r area right.0 right.1 hash_blocks whole.answer_is);
+        spare = spare_where_apart (image_hash g) (image_tree g) (accesses_of p B) apart (writes_within (image_hash g) p B (hash_writes.put_program_stores a key value area));
+      })
+
+  pub hash_was_there : (key : List ℕ) (r : Bool) → g.hash ≢ 0 → (outcome room (hash.del_program (hash_area g) key) B).1 ≡ Some (Ok r)
+      → IsHashCall g (Del key) B (outcome room (hash.del_program (hash_area g) key) B).0 (WasThere r)
+  hash_was_there key r some is =
+      let a = hash_area g in
+      let p = hash.del_program a key in
+      let whole = outcome_whole room p B (Ok r) is in
+      let area = hash_area_is g valid some in
+      subst (λ (done : List Access). IsHashCall g (Del key) B done (WasThere r)) whole.accesses_are (record {
+        local = if_local g.hash (IsHashRegion a) (hash_map a) (λ there. WasThere there) (del_op key) B (accesses_of p B) r some
+            (hash_changes.del_local a key B r area (hash_del_key a key B r whole.answer_is) hash_blocks whole.answer_is);
+        spare = spare_where_apart (image_hash g) (image_tree g) (accesses_of p B) apart (writes_within (image_hash g) p B (hash_writes.del_program_stores a key area));
+      })
+
+  -- THE TREE STORE
+  pub tree_got : (key : List ℕ) (r : Option (List ℕ)) → g.tree ≢ 0 → (outcome room (tree.get_program (tree_area g) key) B).1 ≡ Some (Ok r)
+      → IsTreeCall g (OnKey (Get key)) B (outcome room (tree.get_program (tree_area g) key) B).0 (Got r)
+  tree_got key r some is =
+      let a = tree_area g in
+      let p = tree.get_program a key in
+      let whole = outcome_whole room p B (Ok r) is in
+      subst (λ (done : List Access). IsTreeCall g (OnKey (Get key)) B done (Got r)) whole.accesses_are (record {
+        local = if_local g.tree (IsTreeRegion a) (tree_map a) (λ value. Got value) (get_op key) B (accesses_of p B) r some
+            (tree_gets.get_local a key B r (tree_get_key a key B r whole.answer_is) whole.answer_is);
+        spare = reads_spare (image_hash g) (accesses_of p B) (tree_gets.get_reads a key B);
+      })
+
+  pub tree_was_put : (key value : List ℕ) (r : Unit {0}) → g.tree ≢ 0 → (outcome room (tree.put_program (tree_area g) key value) B).1 ≡ Some (Ok r)
+      → IsTreeCall g (OnKey (Put key value)) B (outcome room (tree.put_program (tree_area g) key value) B).0 WasPut
+  tree_was_put key value r some is =
+      let a = tree_area g in
+      let p = tree.put_program a key value in
+      let whole = outcome_whole room p B (Ok r) is in
+      let area = tree_area_is g valid some in
+      let right = tree_put_key a key value B r whole.answer_is in
+      subst (λ (done : List Access). IsTreeCall g (OnKey (Put key value)) B done WasPut) whole.accesses_are (record {
+        local = if_local g.tree (IsTreeRegion a) (tree_map a) (λ done. WasPut) (put_op key value) B (accesses_of p B) r some
+            (tree_puts.put_local a key value B r area right.0 right.1 tree_blocks whole.answer_is);
+        spare = spare_where_apart (image_tree g) (image_hash g) (accesses_of p B) apart_too (writes_within (image_tree g) p B (tree_writes.put_program_stores a key value area));
+      })
+
+  pub tree_was_there : (key : List ℕ) (r : Bool) → g.tree ≢ 0 → (outcome room (tree.del_program (tree_area g) key) B).1 ≡ Some (Ok r)
+      → IsTreeCall g (OnKey (Del key)) B (outcome room (tree.del_program (tree_area g) key) B).0 (WasThere r)
+  tree_was_there key r some is =
+      let a = tree_area g in
+      let p = tree.del_program a key in
+      let whole = outcome_whole room p B (Ok r) is in
+      subst (λ (done : List Access). IsTreeCall g (OnKey (Del key)) B done (WasThere r)) whole.accesses_are (record {
+        local = if_local g.tree (IsTreeRegion a) (tree_map a) (λ there. WasThere there) (del_op key) B (accesses_of p B) r some
+            (tree_dels.del_local a key B r (tree_area_is g valid some) (tree_del_key a key B r whole.answer_is) tree_blocks whole.answer_is);
+        spare = spare_where_apart (image_tree g) (image_hash g) (accesses_of p B) apart_too (writes_within (image_tree g) p B (tree_writes.del_program_stores a key));
+      })
+
+  pub tree_found : (from to : List ℕ) (most : ℕ) (r : List (List ℕ × List ℕ)) → g.tree ≢ 0 → (outcome room (tree.scan_program (tree_area g) from to most) B).1 ≡ Some (Ok r)
+      → IsTreeCall g (Scan from to most) B (outcome room (tree.scan_program (tree_area g) from to most) B).0 (Found r)
+  tree_found from to most r some is =
+      let a = tree_area g in
+      let p = tree.scan_program a from to most in
+      let whole = outcome_whole room p B (Ok r) is in
+      let right = tree_scan_keys a from to most B r whole.answer_is in
+      subst (λ (done : List Access). IsTreeCall g (Scan from to most) B done (Found r)) whole.accesses_are (record {
+        local = if_local g.tree (IsTreeRegion a) (tree_map a) (λ pairs. Found pairs) (scan_op from to most) B (accesses_of p B) r some
+            (tree_scans.scan_local a from to most B r right.0 right.1 whole.answer_is);
+        spare = reads_spare (image_hash g) (accesses_of p B) (tree_scans.program_reads a from to most B);
+      })

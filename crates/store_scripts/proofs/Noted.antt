@@ -1,0 +1,161 @@
+-- What is told of the live transactions of a world is true, and how it stays so.
+use Rattle.std.proofs.Common.{◌≡◌, ◌≢◌, ◌∙◌, sym, refl, ap, subst, ℕ, ◌≤◌, ◌==◌, ◌&&◌, ◌||◌, not, Bool, true, false, cond, IsTrue, List, [], ◌∷◌, ◌++◌, length, drop, Option, Some, None, arith, inl, inr, eq-eqb, ne_eqb}
+use Rattle.std.specs.List.{AllByRecursion, list_all}
+use Rattle.std.proofs.lemmas.Bool.{and_parts, cases_eq}
+use Rattle.iso_model.specs.declared.access.Access.{Access}
+use Rattle.iso_model.specs.declared.access.Geometry.{Geometry}
+use Rattle.iso_model.specs.declared.script.Op.{Op}
+use Rattle.iso_model.specs.declared.script.Reply.{Reply}
+use Rattle.iso_model.specs.Effect.{is_write}
+use Rattle.iso_model.specs.History.{History, array_at}
+use Rattle.iso_model.specs.Step.{hash_area, tree_area, with_accesses}
+use Rattle.iso_model.specs.World.{Live, World, attached, with}
+use Rattle.iso_model.specs.Worlds.{IsWorld}
+use Rattle.iso_model.proofs.Growth.{all_weaker}
+use Rattle.store_laws.specs.Both.{IsByBoth}
+use Rattle.store_laws.specs.Calls.{in_area}
+use Rattle.store_laws.specs.Region.{SpareRegion}
+use Rattle.store_scripts.specs.Kept.{IsToldOf}
+use Rattle.store_scripts.specs.Stores.{image_hash, image_tree}
+use Rattle.store_scripts.specs.Told.{Answered, Notes, Told, accesses_or_none, answered, nothing_told, spares_calls, spares_stores, told_by, told_more}
+use Rattle.store_scripts.proofs.Finding.{attached_with}
+use Rattle.store_scripts.proofs.Growing.{other_told, same_told}
+
+-- A transaction that keeps to the stores began at n or later, and what is told of it is true.
+abbrev pub IsKept : (n : ℕ) → Geometry → History → Notes → Live → Type 0
+IsKept n g H notes t = IsTrue (notes t.number).kept → (n ≤ t.begin) × IsToldOf g (array_at H t.begin) t.accesses t.mode (notes t.number)
+
+-- A sound world whose commits after n are by calls; what is told of its live transactions is true, and nothing of later ones.
+pub record IsNoted (n : ℕ) (W : World) (notes : Notes) : Type 0 where
+  pub world : IsWorld W
+  pub each : AllByRecursion (IsKept n W.geometry W.history notes) W.live
+  pub by : IsByBoth (image_hash W.geometry) (image_tree W.geometry) W.geometry W.history n
+  pub fresh : (number : ℕ) → W.next ≤ number → notes number ≡ nothing_told
+
+-- the notes after a line that is answered so, by who is attached to its client
+abbrev pub notes_by : World → Notes → (c : ℕ) → Op → Option Live → Reply × World → Notes
+notes_by W notes c op o x = λ number. told_by W.geometry c number op o x (notes number)
+
+-- where a line that is answered so leads
+pub record Goes (n : ℕ) (W : World) (notes : Notes) (c : ℕ) (op : Op) (o : Option Live) (x : Reply × World) : Type 0 where
+  pub next : W.next ≤ x.1.next
+  pub each : AllByRecursion (IsKept n x.1.geometry x.1.history (notes_by W notes c op o x)) x.1.live
+  pub by : IsByBoth (image_hash x.1.geometry) (image_tree x.1.geometry) x.1.geometry x.1.history n
+
+pub choose : (n : ℕ) (W : World) (notes : Notes) (c : ℕ) (op : Op) (o : Option Live) (test : Bool) (x y : Reply × World) → Goes n W notes c op o x → (test ≡ false → Goes n W notes c op o y)
+    → Goes n W notes c op o (cond test x y)
+choose n W notes c op o true x y one two = one
+choose n W notes c op o false x y one two = two refl
+
+pub drop_past : (xs ys : List Access) → drop (length xs) (xs ++ ys) ≡ ys
+drop_past [] ys = refl
+drop_past (x ∷ xs) ys = drop_past xs ys
+
+either_true : (x y : Bool) → (not x || y) ≡ true → x ≡ true → y ≡ true
+either_true true y is pass = is
+either_true false y is pass = cc
+
+not_true : (x : Bool) → not x ≡ true → x ≡ false
+not_true true is = cc
+not_true false is = refl
+
+-- accesses that pass the test write neither region
+spared : (g : Geometry) (accesses : List Access) → list_all (spares_stores g) accesses ≡ true → SpareRegion (image_hash g) accesses × SpareRegion (image_tree g) accesses
+spared g [] all = (tt, tt)
+spared g (a ∷ accesses) all =
+    let here = and_parts (spares_stores g a) (list_all (spares_stores g) accesses) all in
+    let rest = spared g accesses here.1 in
+    let neither = λ (write : is_write a ≡ true). and_parts (not (in_area (hash_area g) a.block)) (not (in_area (tree_area g) a.block)) (either_true (is_write a) _ here.0 write) in
+    ((λ write. not_true _ (neither write).0, rest.0), (λ write. not_true _ (neither write).1, rest.1))
+
+with_each : (P : Live → Type 0) (t : Live) (live : List Live) → P t → AllByRecursion (λ u. u.number ≢ t.number → P u) live → AllByRecursion P (with t live)
+with_each P t [] is all = tt
+with_each P t (u ∷ live) is all = (
+  elim (cases_eq u.number t.number) [
+    | inl owner ↦ subst P (sym (ap (λ (b : Bool). cond b t u) (eq-eqb u.number t.number owner))) is
+    | inr other ↦ subst P (sym (ap (λ (b : Bool). cond b t u) (ne_eqb u.number t.number other))) (all.0 other)
+  ],
+  with_each P t live is all.1,
+)
+
+module _ (n : ℕ) (W : World) (notes : Notes) (is : IsNoted n W notes) (c : ℕ) (op : Op) where
+  -- a line of another transaction tells nothing of it
+  pub other_is : (t : Live) (number : ℕ) (x : Reply × World) (told : Told) → t.number ≢ number → told_by W.geometry c number op (Some t) x told ≡ told
+  other_is t number x told other =
+      ap (λ (b : Bool). cond b (told_more W.geometry op x.0 t.accesses (accesses_or_none (attached x.1 c)) told (answered op x.0)) told) (ne_eqb t.number number other)
+
+  owner_is : (t : Live) (x : Reply × World) (told : Told)
+      → told_by W.geometry c t.number op (Some t) x told ≡ told_more W.geometry op x.0 t.accesses (accesses_or_none (attached x.1 c)) told (answered op x.0)
+  owner_is t x told =
+      ap (λ (b : Bool). cond b (told_more W.geometry op x.0 t.accesses (accesses_or_none (attached x.1 c)) told (answered op x.0)) told) (eq-eqb t.number t.number refl)
+
+  other_kept : (H : History) (t u : Live) (x : Reply × World) → u.number ≢ t.number → IsKept n W.geometry H notes u → IsKept n W.geometry H (notes_by W notes c op (Some t) x) u
+  other_kept H t u x other kept =
+      subst (λ (told : Told). IsTrue told.kept → (n ≤ u.begin) × IsToldOf W.geometry (array_at H u.begin) u.accesses u.mode told)
+      (sym (other_is t u.number x (notes u.number) (λ e. other (sym e)))) kept
+
+  -- a line that made no call which was answered Ok leaves what is told of calls
+  quiet_more : (g : Geometry) (A : List (List ℕ)) (u : Live) (before after : List Access) (r : Reply) (a : Option Answered) (told : Told) → a ≡ None
+      → (IsTrue told.kept → (n ≤ u.begin) × IsToldOf g A u.accesses u.mode told)
+      → IsTrue (told_more W.geometry op r before after told a).kept → (n ≤ u.begin) × IsToldOf g A u.accesses u.mode (told_more W.geometry op r before after told a)
+  quiet_more g A u before after r None told none kept = λ more.
+      let both = and_parts (told.kept && list_all (spares_stores W.geometry) (drop (length before) after)) (spares_calls op r told.over (length before)) more in
+      let was = kept (and_parts told.kept _ both.0).0 in
+      (was.0, same_told g A u.accesses u.mode told was.1 (told_more W.geometry op r before after told None).kept)
+  quiet_more g A u before after r (Some call) told none kept = absurd (cc none)
+
+  pub quiet : (g : Geometry) (H : History) (o : Option Live) (x : Reply × World) (u : Live) → answered op x.0 ≡ None → IsKept n g H notes u → IsKept n g H (notes_by W notes c op o x) u
+  quiet g H None x u none kept = kept
+  quiet g H (Some t) x u none kept =
+      elim (t.number == u.number) as (λ (b : Bool).
+      IsTrue (cond b (told_more W.geometry op x.0 t.accesses (accesses_or_none (attached x.1 c)) (notes u.number) (answered op x.0)) (notes u.number)).kept
+      → (n ≤ u.begin) × IsToldOf g (array_at H u.begin) u.accesses u.mode (cond b (told_more W.geometry op x.0 t.accesses (accesses_or_none (attached x.1 c)) (notes u.number) (answered op x.0)) (notes u.number))) [
+        | true ↦ quiet_more g (array_at H u.begin) u t.accesses (accesses_or_none (attached x.1 c)) x.0 (answered op x.0) (notes u.number) none kept
+        | false ↦ kept
+      ]
+
+  -- a line that changes nothing
+  pub stays : (o : Option Live) (r : Reply) → answered op r ≡ None → Goes n W notes c op o (r, W)
+  stays o r none = record {
+    next = omega arith;
+    each = all_weaker (IsKept n W.geometry W.history notes) (IsKept n W.geometry W.history (notes_by W notes c op o (r, W))) (λ u. quiet W.geometry W.history o (r, W) u none) W.live is.each;
+    by = is.by;
+  }
+
+  -- the transaction of a client gets other accesses
+  pub changes : (t : Live) (r : Reply) (accesses : List Access) → attached W c ≡ Some t
+      → (IsTrue (told_more W.geometry op r t.accesses accesses (notes t.number) (answered op r)).kept
+      → (n ≤ t.begin) × IsToldOf W.geometry (array_at W.history t.begin) accesses t.mode (told_more W.geometry op r t.accesses accesses (notes t.number) (answered op r)))
+      → Goes n W notes c op (Some t) (r, with_accesses W t accesses)
+  changes t r accesses found told =
+      let new : Live = record t { accesses = accesses } in
+      let x : Reply × World = (r, with_accesses W t accesses) in
+      let after_is : accesses_or_none (attached (with_accesses W t accesses) c) ≡ accesses = ap accesses_or_none (attached_with W c t accesses is.world found) in
+      let told_is : told_more W.geometry op r t.accesses accesses (notes t.number) (answered op r) ≡ told_by W.geometry c t.number op (Some t) x (notes t.number) =
+      sym (owner_is t x (notes t.number) ∙ ap (λ (after : List Access). told_more W.geometry op r t.accesses after (notes t.number) (answered op r)) after_is) in
+      record {
+        next = omega arith;
+        each = with_each (IsKept n W.geometry W.history (notes_by W notes c op (Some t) x)) new W.live
+            (subst (λ (m : Told). IsTrue m.kept → (n ≤ t.begin) × IsToldOf W.geometry (array_at W.history t.begin) accesses t.mode m) told_is told)
+            (all_weaker (IsKept n W.geometry W.history notes) (λ (u : Live). u.number ≢ t.number → IsKept n W.geometry W.history (notes_by W notes c op (Some t) x) u)
+            (λ u kept other. other_kept W.history t u x other kept) W.live is.each);
+        by = is.by;
+      }
+
+  -- with accesses of a line that made no call which was answered Ok
+  more_told : (t : Live) (r : Reply) (done : List Access) (a : Option Answered) → a ≡ None → IsKept n W.geometry W.history notes t
+      → IsTrue (told_more W.geometry op r t.accesses (t.accesses ++ done) (notes t.number) a).kept
+      → (n ≤ t.begin) × IsToldOf W.geometry (array_at W.history t.begin) (t.accesses ++ done) t.mode (told_more W.geometry op r t.accesses (t.accesses ++ done) (notes t.number) a)
+  more_told t r done None none kept = λ more.
+      let told = notes t.number in
+      let after = t.accesses ++ done in
+      let both = and_parts (told.kept && list_all (spares_stores W.geometry) (drop (length t.accesses) after)) (spares_calls op r told.over (length t.accesses)) more in
+      let parts = and_parts told.kept (list_all (spares_stores W.geometry) (drop (length t.accesses) after)) both.0 in
+      let was = kept parts.0 in
+      let spare = spared W.geometry done (sym (ap (list_all (spares_stores W.geometry)) (drop_past t.accesses done)) ∙ parts.1) in
+      (was.0, other_told W.geometry (array_at W.history t.begin) t.accesses t.mode told was.1 done (told_more W.geometry op r t.accesses after told None).kept spare.0 spare.1)
+  more_told t r done (Some call) none kept = absurd (cc none)
+
+  pub adds : (t : Live) (r : Reply) (done : List Access) → attached W c ≡ Some t → IsKept n W.geometry W.history notes t → answered op r ≡ None
+      → Goes n W notes c op (Some t) (r, with_accesses W t (t.accesses ++ done))
+  adds t r done found kept none = changes t r (t.accesses ++ done) found (more_told t r done (answered op r) none kept)

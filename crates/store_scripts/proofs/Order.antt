@@ -1,0 +1,177 @@
+-- The calls that are told of a transaction answer in order, by what its parts are.
+use Rattle.std.proofs.Common.{◌≡◌, ◌≢◌, ◌∙◌, sym, refl, ap, subst, ℕ, zero, suc, ◌+◌, ◌-◌, ◌<◌, ◌≤◌, ◌==◌, Bool, true, false, cond, IsTrue, IfSome, List, [], ◌∷◌, map, slice_get, Option, Some, None, arith}
+use Rattle.std.specs.Prelude.{nat_lt}
+use Rattle.std.proofs.lemmas.List.{length-append}
+use Rattle.iso_model.specs.declared.access.Access.{Access}
+use Rattle.iso_model.specs.declared.access.Clash.{Clash}
+use Rattle.iso_model.specs.declared.access.Commit.{Commit}
+use Rattle.iso_model.specs.declared.access.Geometry.{Geometry}
+use Rattle.iso_model.specs.declared.limits.TheConstants.{LAST}
+use Rattle.iso_model.specs.declared.script.Op.TheVariants.{End}
+use Rattle.iso_model.specs.declared.script.Reply.{Reply}
+use Rattle.iso_model.specs.declared.script.Reply.TheVariants as reply
+use Rattle.iso_model.specs.Array.{Array}
+use Rattle.iso_model.specs.Conflict.{clash}
+use Rattle.iso_model.specs.Effect.{has_write, own}
+use Rattle.iso_model.specs.Geometry.{is_valid}
+use Rattle.iso_model.specs.HashRegion.{IsHashRegion, Pairs, hash_map}
+use Rattle.iso_model.specs.History.{array_at, last}
+use Rattle.iso_model.specs.Premises.{appended}
+use Rattle.iso_model.specs.Step.{after_commit, after_leaving, array_of, commit_step, end_step, hash_area, in_transaction, need, step, tree_area}
+use Rattle.iso_model.specs.TreeRegion.{IsTreeRegion, tree_map}
+use Rattle.iso_model.specs.World.{Live, World, attached, is_at_client, used}
+use Rattle.iso_model.specs.Worlds.{IsWorld}
+use Rattle.iso_model.proofs.Distinct.{all_find}
+use Rattle.iso_model.proofs.HashAccesses.{hash_area_is}
+use Rattle.iso_model.proofs.TreeAccesses.{tree_area_is}
+use Rattle.iso_model.proofs.Worlds.{commit, live_at, step_leads}
+use Rattle.store_laws.specs.Both.{AreMixed, BothInOrder, IsOfBoth, firsts, seconds}
+use Rattle.store_laws.specs.BothStores.{StorePart}
+use Rattle.store_laws.specs.Calls.{KeyCall, StoreAnswer, in_area, key_act}
+use Rattle.store_laws.specs.HashBlocks.{hash_is_of_its_blocks}
+use Rattle.store_laws.specs.Parts.{answers_in, calls_in, run}
+use Rattle.store_laws.specs.Region.{IsOfItsBlocks, MapStore}
+use Rattle.store_laws.specs.Tree.{TreeCall, tree_act}
+use Rattle.store_laws.specs.TreeBlocks.{tree_is_of_its_blocks}
+use Rattle.store_laws.proofs.Longer.{array_longer, last_of, stays_by_both}
+use Rattle.store_laws.proofs.TwoStores.{both_commits, both_live, both_read_only, both_well_formed}
+use Rattle.store_scripts.specs.Kept.{IsToldOf, ToldByMap, ToldInOrder}
+use Rattle.store_scripts.specs.Stores.{IfAny, image_hash, image_tree, pairs_if_any}
+use Rattle.store_scripts.specs.Told.{Notes, Told}
+use Rattle.store_scripts.proofs.Growing.{AreAll, all_are, all_parts, of_both}
+use Rattle.store_scripts.proofs.Noted.{IsKept, IsNoted}
+
+-- THE STORES OF AN IMAGE DEPEND ON THEIR BLOCKS ALONE
+abbrev store_of : (Call : Type 0) → (Call → Pairs → StoreAnswer × Pairs) → (ℕ → Bool) → (Array → Type 0) → (Array → Pairs) → MapStore
+store_of Call act has Well map_of = record { Map = Pairs; Call = Call; Answer = StoreAnswer; has_block = has; IsWellFormed = Well; map_of = map_of; act = act }
+
+if_any_blocks : (Call : Type 0) (act : Call → Pairs → StoreAnswer × Pairs) (has : ℕ → Bool) (Well : Array → Type 0) (map_of : Array → Pairs) (n : ℕ)
+    → (n ≢ 0 → IsOfItsBlocks (store_of Call act has Well map_of))
+    → IsOfItsBlocks (store_of Call act has (λ (A : Array). IfAny n (Well A)) (λ (A : Array). pairs_if_any n (map_of A)))
+if_any_blocks Call act has Well map_of zero is = record { well_formed = λ A B same well. tt; map_is = λ A B same well. refl }
+if_any_blocks Call act has Well map_of (suc n) is = let blocks = is (λ e. absurd (omega arith)) in record { well_formed = blocks.well_formed; map_is = blocks.map_is }
+
+hash_blocks : (g : Geometry) → IsTrue (is_valid g) → IsOfItsBlocks (image_hash g)
+hash_blocks g valid =
+    if_any_blocks KeyCall key_act (in_area (hash_area g)) (IsHashRegion (hash_area g)) (hash_map (hash_area g)) g.hash (λ some. hash_is_of_its_blocks (hash_area g) (hash_area_is g valid some))
+
+tree_blocks : (g : Geometry) → IsTrue (is_valid g) → IsOfItsBlocks (image_tree g)
+tree_blocks g valid =
+    if_any_blocks TreeCall tree_act (in_area (tree_area g)) (IsTreeRegion (tree_area g)) (tree_map (tree_area g)) g.tree (λ some. tree_is_of_its_blocks (tree_area g) (tree_area_is g valid some))
+
+-- WHAT IS TOLD, BY ITS PARTS
+told_in_order : (g : Geometry) (told : Told) (parts : List StorePart) (A B : Array) → calls_in (firsts parts) ≡ told.hash.calls → answers_in (firsts parts) ≡ told.hash.answers
+    → calls_in (seconds parts) ≡ told.tree.calls → answers_in (seconds parts) ≡ told.tree.answers → BothInOrder (image_hash g) (image_tree g) parts A B → ToldInOrder g told A B
+told_in_order g told parts A B hash_calls hash_answers tree_calls tree_answers order = record {
+  hash_answers = sym (ap (λ (calls : List KeyCall). (run (image_hash g) ((image_hash g).map_of A) calls).0) hash_calls) ∙ order.first.answers ∙ hash_answers;
+  hash_ends = sym (ap (λ (calls : List KeyCall). (run (image_hash g) ((image_hash g).map_of A) calls).1) hash_calls) ∙ order.first.ends;
+  tree_answers = sym (ap (λ (calls : List TreeCall). (run (image_tree g) ((image_tree g).map_of A) calls).0) tree_calls) ∙ order.second.answers ∙ tree_answers;
+  tree_ends = sym (ap (λ (calls : List TreeCall). (run (image_tree g) ((image_tree g).map_of A) calls).1) tree_calls) ∙ order.second.ends;
+}
+
+module _ (n : ℕ) (V : World) (notes : Notes) (is : IsNoted n V notes) (c : ℕ) (t : Live) (found : attached V c ≡ Some t) (kept : IsTrue (notes t.number).kept) where
+  abbrev g : Geometry
+  g = V.geometry
+
+  abbrev A : Array
+  A = array_at V.history t.begin
+
+  kept_is : (n ≤ t.begin) × IsToldOf g A t.accesses t.mode (notes t.number)
+  kept_is = all_find (IsKept n V.geometry V.history notes) (λ u. is_at_client c u.place) V.live t is.each found kept
+
+  pub told_is : IsToldOf g A t.accesses t.mode (notes t.number)
+  told_is = kept_is.1
+
+  abbrev parts : List StorePart
+  parts = all_parts g A t.accesses t.mode (notes t.number) told_is
+
+  all_is : AreAll g A t.accesses t.mode (notes t.number) parts
+  all_is = all_are g A t.accesses t.mode (notes t.number) told_is
+
+  pub live_told : ToldInOrder g (notes t.number) A (array_of V t)
+  live_told =
+      let one = hash_blocks g is.world.valid in
+      let two = tree_blocks g is.world.valid in
+      let live = live_at V c t is.world found in
+      let well = both_well_formed (image_hash g) (image_tree g) one two g V.history n t.begin is.by kept_is.0 live.begin in
+      told_in_order g (notes t.number) parts A (own A t.accesses) all_is.hash_calls all_is.hash_answers all_is.tree_calls all_is.tree_answers
+      (subst (λ (accesses : List Access). BothInOrder (image_hash g) (image_tree g) parts A (own A accesses)) all_is.are
+      (both_live (image_hash g) (image_tree g) one two A parts all_is.made well))
+
+  pub read_only_told : has_write t.accesses ≡ false → ToldByMap g (notes t.number) A
+  read_only_told none =
+      let one = hash_blocks g is.world.valid in
+      let two = tree_blocks g is.world.valid in
+      let live = live_at V c t is.world found in
+      let by_map = both_read_only (image_hash g) (image_tree g) one two g V.history n t.begin parts is.by kept_is.0 live.begin all_is.made (ap has_write all_is.are ∙ none) in
+      record {
+        hash = sym all_is.hash_answers ∙ by_map.first ∙ ap (map (λ call. ((image_hash g).act call ((image_hash g).map_of A)).0)) all_is.hash_calls;
+        tree = sym all_is.tree_answers ∙ by_map.second ∙ ap (map (λ call. ((image_tree g).act call ((image_tree g).map_of A)).0)) all_is.tree_calls;
+      }
+
+  -- AN END THAT COMMITS
+  commit_only : (o : Option Clash) (k : ℕ) → (commit_step V t o).0 ≡ reply.Committed k → (commit_step V t o ≡ (reply.Committed k, after_commit V t)) × (k ≡ last V.history + 1)
+  unfolding commit_step
+  commit_only (Some d) k done = cc
+  commit_only None k done = one (last V.history == LAST) (nat_lt (V.geometry.log - used V) (need V t)) done
+    where
+      one : (a b : Bool)
+          → (cond {A = Reply × World} a (reply.Worn, V) (cond b (reply.LogFull (need V t) (V.geometry.log - used V), V) (reply.Committed (last V.history + 1), after_commit V t))).0 ≡ reply.Committed k
+          → (cond {A = Reply × World} a (reply.Worn, V) (cond b (reply.LogFull (need V t) (V.geometry.log - used V), V) (reply.Committed (last V.history + 1), after_commit V t))
+          ≡ (reply.Committed k, after_commit V t)) × (k ≡ last V.history + 1)
+      one true b done = cc
+      one false true done = cc
+      one false false done = (ap (λ (r : Reply). (r, after_commit V t)) done, sym (let e : last V.history + 1 ≡ k = cc in e))
+
+  end_only : (k : ℕ) → (end_step V t).0 ≡ reply.Committed k → (end_step V t ≡ (reply.Committed k, after_commit V t)) × (k ≡ last V.history + 1)
+  unfolding end_step
+  end_only k done = go (has_write t.accesses) done
+    where
+      go : (b : Bool) → (cond {A = Reply × World} b (commit_step V t (clash V.geometry V.history t.mode t.begin t.accesses)) (reply.ReadOnly, after_leaving V t)).0 ≡ reply.Committed k
+          → (cond {A = Reply × World} b (commit_step V t (clash V.geometry V.history t.mode t.begin t.accesses)) (reply.ReadOnly, after_leaving V t) ≡ (reply.Committed k, after_commit V t)) × (k ≡ last V.history + 1)
+      go true done = commit_only (clash V.geometry V.history t.mode t.begin t.accesses) k done
+      go false done = cc
+
+  ends_so : (k : ℕ) → (step V c End).0 ≡ reply.Committed k → (step V c End ≡ (reply.Committed k, after_commit V t)) × (k ≡ last V.history + 1)
+  unfolding step
+  ends_so k done =
+      let is_end : in_transaction V (attached V c) (end_step V) ≡ end_step V t = ap (λ (o : Option Live). in_transaction V o (end_step V)) found in
+      let ends = end_only k (sym (ap (λ (x : Reply × World). x.0) is_end) ∙ done) in
+      (is_end ∙ ends.0, ends.1)
+
+  committed_told : (k : ℕ) → k ≡ last V.history + 1 → IsWorld (after_commit V t) → ToldInOrder g (notes t.number) (array_at (appended V.history (commit t)) (k - 1)) (array_at (appended V.history (commit t)) k)
+  committed_told k at sound =
+      let one = hash_blocks g is.world.valid in
+      let two = tree_blocks g is.world.valid in
+      let H = appended V.history (commit t) in
+      let of = of_both g V.history (commit t) (notes t.number) told_is in
+      let by = stays_by_both (image_hash g) (image_tree g) g V.history (commit t) n is.by sound.isolated of in
+      let live = live_at V c t is.world found in
+      let more = length-append V.history.commits (commit t ∷ []) in
+      let first : 0 < V.history.first = is.by.first in
+      let low : n ≤ last V.history = is.by.within in
+      let is_last : slice_get H.commits (k - H.first) ≡ Some (commit t) = last_of V.history.commits (commit t) (k - H.first) (omega arith) in
+      let order = both_commits (image_hash g) (image_tree g) one two g H n by k (omega arith) (omega arith) in
+      let here = subst (λ (o : Option Commit). IfSome o (λ d. (d_of : IsOfBoth (image_hash g) (image_tree g) H d) → BothInOrder (image_hash g) (image_tree g) d_of.parts (array_at H (k - 1)) (array_at H k))) is_last order in
+      told_in_order g (notes t.number) parts (array_at H (k - 1)) (array_at H k) all_is.hash_calls all_is.hash_answers all_is.tree_calls all_is.tree_answers
+      (here (record {
+        parts = parts;
+        are = all_is.are;
+        made = subst (λ (B : Array). AreMixed (image_hash g) (image_tree g) B parts) (sym (array_longer V.history (commit t) t.begin first live.begin)) all_is.made;
+        mode = all_is.serial;
+      }))
+
+  pub commit_told : (k : ℕ) → (step V c End).0 ≡ reply.Committed k → ToldInOrder g (notes t.number) (array_at (step V c End).1.history (k - 1)) (array_at (step V c End).1.history k)
+  commit_told k done =
+      let ends = ends_so k done in
+      let world_is : (step V c End).1 ≡ after_commit V t = ap (λ (x : Reply × World). x.1) ends.0 in
+      let sound = subst IsWorld world_is (step_leads V c End is.world tt).world in
+      subst (λ (U : World). ToldInOrder g (notes t.number) (array_at U.history (k - 1)) (array_at U.history k)) (sym world_is) (committed_told k ends.1 sound)
+
+  -- the commit is the last one then
+  pub committed_last : (k : ℕ) → (step V c End).0 ≡ reply.Committed k → k ≤ last (step V c End).1.history
+  committed_last k done =
+      let ends = ends_so k done in
+      let more = length-append V.history.commits (commit t ∷ []) in
+      let first : 0 < V.history.first = is.by.first in
+      subst (λ (U : World). k ≤ last U.history) (sym (ap (λ (x : Reply × World). x.1) ends.0)) (let at = ends.1 in omega arith)

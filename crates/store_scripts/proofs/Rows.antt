@@ -1,0 +1,65 @@
+-- Worked examples: what lines and their replies tell of the calls of a tree store.
+use Rattle.std.specs.Prelude.{◌≡◌, ℕ, true, false, List, [], ◌∷◌, Some, None, refl, codes}
+use Rattle.std.specs.Fmt.{digits}
+use Rattle.iso_model.specs.declared.access.Geometry.{Geometry}
+use Rattle.iso_model.specs.declared.access.Mode.TheVariants.{Serial}
+use Rattle.iso_model.specs.Array.{put}
+use Rattle.iso_model.specs.Script.{operation_of, other_operation, store_operation, tree_operation}
+use Rattle.iso_model.specs.Step.{begin_step, fill_step, get_step, mark_step, step, store_step, tree_get_step, tree_put_step, tree_delete_step}
+use Rattle.iso_model.specs.Text.{hex_of, number_of, words_of}
+use Rattle.iso_model.specs.TreeCalls as tree
+use Rattle.iso_model.specs.TreeNodes.{is_node}
+use Rattle.iso_model.proofs.Small.{lines_of, made}
+use Rattle.store_laws.specs.Calls.{Del, Get, Got, Put, WasPut, WasThere}
+use Rattle.store_laws.specs.Tree.{OnKey}
+use Rattle.store_scripts.specs.Told.{Told, no_notes, notes_after}
+
+-- eight blocks, of which the first three are a tree store
+abbrev trees : Geometry
+trees = record { block = 256; blocks = 8; log = 4096; mode = Serial; hash = 0; tree = 3; form = 1 }
+
+-- what these lines tell of the first transaction
+abbrev told : List (List ℕ) → Told
+told texts = notes_after (made trees) no_notes (lines_of texts) 1
+
+-- A transaction that another client took over goes on with its calls; a refused call is none.
+pub calls_go_on_behind_a_takeover :
+    told (codes "1 begin" ∷ codes "1 tget 61" ∷ codes "1 tget -" ∷ codes "1 release a" ∷ codes "2 takeover a" ∷ codes "2 tdel 62" ∷ [])
+    ≡ record {
+      hash = record { calls = []; answers = [] };
+      tree = record { calls = OnKey (Get (97 ∷ [])) ∷ OnKey (Del (98 ∷ [])) ∷ []; answers = Got None ∷ WasThere false ∷ [] };
+      over = 2;
+      kept = true;
+    }
+unfolding put operation_of other_operation store_operation tree_operation step begin_step store_step tree_get_step tree_delete_step tree.get_program tree.del_program words_of number_of hex_of digits
+calls_go_on_behind_a_takeover = refl
+
+-- What it put, it gets.
+pub puts_and_gets_are_told :
+    told (codes "1 begin" ∷ codes "1 tput 61 31" ∷ codes "1 tget 61" ∷ [])
+    ≡ record {
+      hash = record { calls = []; answers = [] };
+      tree = record { calls = OnKey (Put (97 ∷ []) (49 ∷ [])) ∷ OnKey (Get (97 ∷ [])) ∷ []; answers = WasPut ∷ Got (Some (49 ∷ [])) ∷ [] };
+      over = 6;
+      kept = true;
+    }
+unfolding put operation_of other_operation store_operation tree_operation step begin_step store_step tree_get_step tree_put_step tree.get_program tree.put_program is_node words_of number_of hex_of digits
+puts_and_gets_are_told = refl
+
+-- A plain write outside of the stores keeps to them, one inside does not.
+pub plain_writes_keep_outside : (told (codes "1 begin" ∷ codes "1 tget 61" ∷ codes "1 fill 3 ff" ∷ [])).kept ≡ true
+unfolding put operation_of other_operation store_operation tree_operation step begin_step fill_step store_step tree_get_step tree.get_program words_of number_of hex_of digits
+plain_writes_keep_outside = refl
+
+pub plain_writes_break_inside : (told (codes "1 begin" ∷ codes "1 tget 61" ∷ codes "1 fill 2 ff" ∷ [])).kept ≡ false
+unfolding put operation_of other_operation store_operation tree_operation step begin_step fill_step store_step tree_get_step tree.get_program words_of number_of hex_of digits
+plain_writes_break_inside = refl
+
+-- A mark behind a call is on an access of it; one behind another access is not.
+pub marks_break_calls : (told (codes "1 begin" ∷ codes "1 tget 61" ∷ codes "1 mark 0 8" ∷ [])).kept ≡ false
+unfolding put operation_of other_operation store_operation tree_operation step begin_step mark_step store_step tree_get_step tree.get_program words_of number_of hex_of digits
+marks_break_calls = refl
+
+pub marks_keep_other_accesses : (told (codes "1 begin" ∷ codes "1 tget 61" ∷ codes "1 get 4 0 8" ∷ codes "1 mark 9 1" ∷ [])).kept ≡ true
+unfolding put operation_of other_operation store_operation tree_operation step begin_step get_step mark_step store_step tree_get_step tree.get_program words_of number_of hex_of digits
+marks_keep_other_accesses = refl

@@ -1,0 +1,20 @@
+use Rattle.iso_model.specs.HashRegion.{IsHashRegion, hash_map}
+use Rattle.iso_model.specs.Step.{hash_area, tree_area}
+use Rattle.iso_model.specs.TreeRegion.{IsTreeRegion, tree_map}
+use Rattle.store_scripts.proofs.Images.{begins_well, if_any_is, none_is_empty}
+use Rattle.store_scripts.proofs.laws.stores_of_an_image_are_its_regions.Goals as goal
+
+pub returns-clause-hash : goal.returns-clause-hash
+returns-clause-hash _ = λ g A. if_any_is g.hash (IsHashRegion (hash_area g) A) (hash_map (hash_area g) A)
+
+pub returns-clause-tree : goal.returns-clause-tree
+returns-clause-tree _ = λ g A. if_any_is g.tree (IsTreeRegion (tree_area g) A) (tree_map (tree_area g) A)
+
+pub returns-clause-no_hash : goal.returns-clause-no_hash
+returns-clause-no_hash _ = λ g A. none_is_empty g.hash (hash_map (hash_area g) A)
+
+pub returns-clause-no_tree : goal.returns-clause-no_tree
+returns-clause-no_tree _ = λ g A. none_is_empty g.tree (tree_map (tree_area g) A)
+
+pub returns-clause-made : goal.returns-clause-made
+returns-clause-made _ = begins_well
