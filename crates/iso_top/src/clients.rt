@@ -1,7 +1,8 @@
 // Clients beside each other on an image.
-ghost use Rattle.std.specs.Prelude.{◌≡◌, ◌⊎◌, ◌≤◌, [], ◌++◌, IfErr, IfOk};
+ghost use Rattle.std.specs.Prelude.{◌≡◌, ◌⊎◌, [], ◌++◌, IfErr, IfOk, IsTrue};
 ghost use Rattle.command_line.specs.declared.task.Task.TheVariants.{Par};
 ghost use Rattle.iso_core.specs.Core.{disk_of};
+ghost use Rattle.iso_model.specs.Geometry.{is_valid};
 ghost use Rattle.iso_model.specs.World.{World};
 ghost use Rattle.iso_shared.specs.Standing.{Came, Holds, start_at};
 ghost use Rattle.iso_shared.specs.States.{opened as opened_at};
@@ -43,7 +44,7 @@ fn run_over<I: Image + Drop + Send, O: Origin + Send + Sync, G: Gate, R: Threads
     requires begins { O.start ≡ start_at beginning.world (I.state (disk_of core)) }
     requires start { Holds I.state core (opened_at O.start) × (O.start.world.live ≡ []) }
     requires came { Came O.start (I.state (disk_of core)) [] }
-    requires small { O.start.world.geometry.block ≤ 4096 }
+    requires valid { IsTrue (is_valid O.start.world.geometry) }
     ensures ended { IfOk result (λ r. HasClosed I.state O.start lines.items r.0 r.1) }
     ensures unrun { IfErr result (λ image. image ≡ disk_of core) }
 {
