@@ -113,6 +113,6 @@ of_5 false false e = absurd (omega (arith, e))
 pub fault_rose : (A : Start) (lines : List (ℕ × Line)) (parts : List Part) (entries : List Entry) → Told A lines parts entries → status_of parts ≡ 5 → Rose A.faults (state_at A entries).faults
 fault_rose A lines parts entries told five =
     let (none, one) = of_5 (list_any (λ (p : Part). wants p.stop) parts) (list_any (λ (p : Part). stopped p.stop) parts) five in
-    let here : HasBlame told.made = parts_blame A.world.geometry told.made lines told.owners parts told.told none one in
+    let here : HasBlame told.made = parts_blame A.world.geometry A.tells told.made lines told.owners parts told.told none one in
     let all : HasBlame entries = subst HasBlame (sym told.are) (blame_left (told.made ++ told.swept) (entry.Sweep None ∷ []) (blame_left told.made told.swept here)) in
     blamed_all A.faults entries (opened A) told.legal all (omega arith, λ some. absurd (cc some))

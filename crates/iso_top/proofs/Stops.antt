@@ -1,5 +1,5 @@
 -- A client that the disk stopped: its own entries tell of a fault, or that the device is down.
-use Rattle.std.proofs.Common.{◌≡◌, ◌≢◌, ◌⊎◌, inl, inr, ◌==◌, ℕ, ◌-◌, Bool, true, false, cond, ◌||◌, List, [], ◌∷◌, ◌++◌, Option, Some, None, Err, sym, subst}
+use Rattle.std.proofs.Common.{◌≡◌, ◌≢◌, ◌⊎◌, inl, inr, ◌==◌, ℕ, ◌-◌, Bool, true, false, cond, ◌||◌, List, [], ◌∷◌, ◌++◌, Option, Some, None, Err, refl, sym, subst}
 use Rattle.std.specs.List.{AllByRecursion, list_any}
 use Rattle.iso_model.specs.declared.access.Geometry.{Geometry}
 use Rattle.iso_model.specs.declared.access.Mode.{Mode}
@@ -14,7 +14,7 @@ use Rattle.iso_shared.specs.declared.entry.Cause.TheVariants as cause
 use Rattle.iso_shared.specs.declared.entry.Entry.{Entry}
 use Rattle.iso_shared.specs.declared.entry.Entry.TheVariants as entry
 use Rattle.par_lines.specs.Ends.{stopped, wants}
-use Rattle.par_script.specs.Lines.{Aborts, Begins, ClientLines, Compacts, Did, Does, Ends, EndsThen, Fetches, Looks, LooksFor, Own, Posts, Reads, Says, Stats, StopsAtLast, Trims, Upgrades, WhereShown, refused}
+use Rattle.par_script.specs.Lines.{Aborts, Begins, CallsStore, ClientLines, Compacts, Did, Does, Ends, EndsThen, Fetches, Looks, LooksFor, Own, Posts, Reads, Says, Stats, StopsAtLast, StopsBy, Trims, Upgrades, Where, WhereShown, fetches as all_fetches, refused, refused_fetch}
 use Rattle.par_script.specs.Told.{entries_of, lines_run}
 use Rattle.par_text.specs.declared.part.Part.{Part}
 use Rattle.script_runner.specs.declared.machine.Stop.{Stop}
@@ -65,8 +65,23 @@ where_shown : (r : Reply) (P Q R : Type 0) → (P → R) → (Q → R) → Where
 where_shown (reply.Shown bytes) P Q R first second x = first x
 where_shown r P Q R first second x = second x
 
+where_of : (b : Bool) (P Q R : Type 0) → (P → R) → (Q → R) → Where b P Q → R
+where_of true P Q R first second x = first x
+where_of false P Q R first second x = second x
+
+stops_none : (w : Stop) → w ≢ stop.Memory → StopsBy None (Err w) → ⊥
+stops_none stop.Memory other s = other refl
+stops_none stop.Disk other s = s
+stops_none stop.Down other s = s
+
+stops_by : (w : Stop) → w ≢ stop.Memory → (n : ℕ) (f : Option (ℕ × Cause)) → StopsBy f (Err w) → HasBlame (refused_fetch n f)
+stops_by w other n None s = absurd (stops_none w other s)
+stops_by w other n (Some (b, cause.Down)) s = inl tt
+stops_by w other n (Some (b, cause.Disk before now)) s = inl tt
+stops_by w other n (Some (b, why)) s = absurd s
+
 -- the line at which a client stopped, where it did not want memory
-module _ (g : Geometry) (w : Stop) (other : w ≢ stop.Memory) where
+module _ (g : Geometry) (tells : Bool) (w : Stop) (other : w ≢ stop.Memory) where
   says : (own : Option Own) (o : Op) (es : List Entry) (own' : Option Own) → Says g own o es (Err w) own' → HasBlame es
   says own o es own' d = absurd (cc d.1)
 
@@ -132,7 +147,13 @@ module _ (g : Geometry) (w : Stop) (other : w ≢ stop.Memory) where
   stats own (entry.Stat numbers ∷ []) own' d = absurd (cc d.0)
   stats own es own' d = absurd d
 
-  does : (own : Option Own) (o : Op) (es : List Entry) (own' : Option Own) → Does g own o es (Err w) own' → HasBlame es
+  calls : (t : Own) (o : Op) (es : List Entry) (own' : Option Own) → CallsStore g tells t o es (Err w) own' → HasBlame es
+  calls t o es own' d = subst HasBlame (sym d.are) (blame_right (all_fetches t.number d.fetched) (refused_fetch t.number d.refused) (stops_by w other t.number d.refused d.stops))
+
+  in_store : (b : Bool) (t : Own) (o : Op) (es : List Entry) (own' : Option Own) → Where b (CallsStore g tells t o es (Err w) own') (Says g (Some t) o es (Err w) own') → HasBlame es
+  in_store b t o es own' d = where_of b (CallsStore g tells t o es (Err w) own') (Says g (Some t) o es (Err w) own') (HasBlame es) (calls t o es own') (says (Some t) o es own') d
+
+  does : (own : Option Own) (o : Op) (es : List Entry) (own' : Option Own) → Does g tells own o es (Err w) own' → HasBlame es
   does None (op.Begin named) es own' d = begins named es own' d
   does None (op.Takeover label) es own' d = looks label es own' d
   does None (op.Await label) es own' d = looks_for label _ es own' d
@@ -145,32 +166,39 @@ module _ (g : Geometry) (w : Stop) (other : w ≢ stop.Memory) where
   does (Some t) op.End es own' d = ends t es own' d
   does (Some t) op.Abort es own' d = aborts t es own' d
   does (Some t) (op.Release label) es own' d = posts t label es own' d
+  does (Some t) (op.HashPut key value) es own' d = in_store _ t (op.HashPut key value) es own' d
+  does (Some t) (op.HashGet key) es own' d = in_store _ t (op.HashGet key) es own' d
+  does (Some t) (op.HashDelete key) es own' d = in_store _ t (op.HashDelete key) es own' d
+  does (Some t) (op.TreePut key value) es own' d = in_store _ t (op.TreePut key value) es own' d
+  does (Some t) (op.TreeGet key) es own' d = in_store _ t (op.TreeGet key) es own' d
+  does (Some t) (op.TreeDelete key) es own' d = in_store _ t (op.TreeDelete key) es own' d
+  does (Some t) (op.TreeScan from to most) es own' d = in_store _ t (op.TreeScan from to most) es own' d
   does (Some t) op.Trim es own' d = trims (Some t) es own' d
   does (Some t) op.Stat es own' d = stats (Some t) es own' d
   does (Some t) op.Compact es own' d = compacts (Some t) es own' d
   does (Some t) op.Upgrade es own' d = upgrades (Some t) es own' d
   does own o es own' d = absurd (cc d.1)
 
-  did : (own : Option Own) (o : Op) (es : List Entry) (own' : Option Own) → Did g own o es (Err w) own' → HasBlame es
+  did : (own : Option Own) (o : Op) (es : List Entry) (own' : Option Own) → Did g tells own o es (Err w) own' → HasBlame es
   did own o es own' (inl d) = does own o es own' d
   did own o es own' (inr wanted) = absurd (other (cc wanted.1))
 
-  client_blames : (lines : List (ℕ × Line)) (told : List (ℕ × Reply)) (F : List Entry) → ClientLines g lines told (Some w) F → HasBlame F
+  client_blames : (lines : List (ℕ × Line)) (told : List (ℕ × Reply)) (F : List Entry) → ClientLines g tells lines told (Some w) F → HasBlame F
   client_blames lines told F c =
-      let s : StopsAtLast g lines told w c.made c.own = c.ran in
+      let s : StopsAtLast g tells lines told w c.made c.own = c.ran in
       let here : HasBlame (s.walked ++ s.entries) = blame_right s.walked s.entries (did s.mid s.last.1.op s.entries c.own s.did) in
       subst HasBlame (sym c.all) (blame_left c.made _ (subst HasBlame (sym s.all) here))
 
 -- of clients of which none wanted memory, but one stopped
-module _ (g : Geometry) (made : List Entry) where
-  part_or : (o : Option Stop) (lines : List (ℕ × Line)) (told : List (ℕ × Reply)) (F : List Entry) (V S : Bool) → ClientLines g lines told o F → (HasBlame F → HasBlame made)
+module _ (g : Geometry) (tells : Bool) (made : List Entry) where
+  part_or : (o : Option Stop) (lines : List (ℕ × Line)) (told : List (ℕ × Reply)) (F : List Entry) (V S : Bool) → ClientLines g tells lines told o F → (HasBlame F → HasBlame made)
       → (wants o || V) ≡ false → (stopped o || S) ≡ true → (V ≡ false → S ≡ true → HasBlame made) → HasBlame made
   part_or None lines told F V S c up none one rest = rest none one
   part_or (Some stop.Memory) lines told F V S c up none one rest = absurd (cc none)
-  part_or (Some stop.Disk) lines told F V S c up none one rest = up (client_blames g stop.Disk (λ e. cc e) lines told F c)
-  part_or (Some stop.Down) lines told F V S c up none one rest = up (client_blames g stop.Down (λ e. cc e) lines told F c)
+  part_or (Some stop.Disk) lines told F V S c up none one rest = up (client_blames g tells stop.Disk (λ e. cc e) lines told F c)
+  part_or (Some stop.Down) lines told F V S c up none one rest = up (client_blames g tells stop.Down (λ e. cc e) lines told F c)
 
-  pub parts_blame : (lines : List (ℕ × Line)) (owners : List ℕ) (parts : List Part) → AllByRecursion (λ p. ClientLines g (lines_run lines p) p.told p.stop (entries_of p.client owners made)) parts
+  pub parts_blame : (lines : List (ℕ × Line)) (owners : List ℕ) (parts : List Part) → AllByRecursion (λ p. ClientLines g tells (lines_run lines p) p.told p.stop (entries_of p.client owners made)) parts
       → list_any (λ p. wants p.stop) parts ≡ false → list_any (λ p. stopped p.stop) parts ≡ true → HasBlame made
   parts_blame lines owners [] all none one = absurd (cc one)
   parts_blame lines owners (p ∷ parts) all none one =
