@@ -24,8 +24,8 @@ ghost use Rattle.store_scripts.specs.Told.{answered, no_notes, noted, notes_afte
 
 /// Where the transactions that commit in a script keep to the stores, the history after it is one by calls of the stores (`by_calls`).
 /// The calls of a transaction that commits, as its lines and their replies tell them, answer as one thread's calls on the map directly
-/// before the commit, and end in the map directly after it (`commits`). Those of a live transaction answer so by the map at its begin (`live`), and where it writes nothing,
-/// each of them by that map alone (`read_only`).
+/// before the commit, and end in the map directly after it (`commits`). Those of a live transaction answer so by the map at its begin
+/// (`live`), and where it writes nothing, each of them by that map alone (`read_only`).
 pub fn store_calls_of_a_script_answer_in_order()
     ensures by_calls { (W : World) (lines : List (ℕ × Line)) → BeginsWell W → AreLines lines → CommitsKeep W no_notes lines → let V = after W lines in
         IsByBoth (image_hash V.geometry) (image_tree V.geometry) V.geometry V.history (last W.history) }
