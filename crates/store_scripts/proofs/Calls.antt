@@ -1,8 +1,9 @@
 -- Where a call of a store, a mark and an end lead, with what is told of the transactions.
-use Rattle.std.proofs.Common.{◌≡◌, ◌≢◌, sym, refl, subst, ℕ, ◌+◌, ◌-◌, ◌≤◌, ◌==◌, ◌&&◌, not, Bool, true, false, cond, IsTrue, List, length, drop, Option, Some, None, Result, Ok, arith}
+use Rattle.std.proofs.Common.{◌≡◌, ◌≢◌, sym, refl, subst, ℕ, ◌+◌, ◌-◌, ◌≤◌, ◌==◌, ◌&&◌, not, Bool, true, false, cond, IsTrue, List, [], ◌∷◌, length, drop, Option, Some, None, Result, Ok, arith}
 use Rattle.std.specs.Prelude.{nat_lt}
 use Rattle.std.specs.List.{list_all}
 use Rattle.std.proofs.lemmas.Bool.{and_parts, eqb-false, ltb-false, ltb-true}
+use Rattle.std.proofs.lemmas.List.{length-append}
 use Rattle.iso_model.specs.declared.access.Access.{Access}
 use Rattle.iso_model.specs.declared.access.Clash.{Clash}
 use Rattle.iso_model.specs.declared.access.MarkError.{MarkError}
@@ -51,51 +52,51 @@ pub record AreRefusals (op : Op) : Type 0 where
   pub full : answered op reply.TooManyAccesses ≡ None
   pub error : (e : StoreError) → answered op (store_refusal e) ≡ None
 
-module _ (n : ℕ) (W : World) (notes : Notes) (is : IsNoted n W notes) (c : ℕ) (op : Op) (t : Live) (found : attached W c ≡ Some t) (refusals : AreRefusals op) where
+module _ (Q : Type 0) (n : ℕ) (W : World) (notes : Notes) (is : IsNoted Q n W notes) (c : ℕ) (op : Op) (t : Live) (found : attached W c ≡ Some t) (refusals : AreRefusals op) where
   abbrev ended : {R : Type 0} → Program (Result R StoreError) → List Access × Option (Result R StoreError)
   ended program = outcome (MAX_ACCESSES - length t.accesses) program (array_of W t)
 
-  pub in_store_goes : (blocks : ℕ) (x : Reply × World) → (blocks ≢ 0 → t.mode ≡ Serial → Goes n W notes c op (Some t) x) → Goes n W notes c op (Some t) (in_store W t blocks x)
+  pub in_store_goes : (blocks : ℕ) (x : Reply × World) → (blocks ≢ 0 → t.mode ≡ Serial → Goes Q n W notes c op (Some t) x) → Goes Q n W notes c op (Some t) (in_store W t blocks x)
   in_store_goes blocks x goes =
-      choose n W notes c op (Some t) (blocks == 0) _ _ (stays n W notes is c op (Some t) reply.NoStore refusals.store) (λ some. go (is_serial t.mode) refl (eqb-false blocks 0 some))
+      choose Q n W notes c op (Some t) (blocks == 0) _ _ (stays Q n W notes is c op (Some t) reply.NoStore refusals.store) (λ some. go (is_serial t.mode) refl (eqb-false blocks 0 some))
     where
-      go : (b : Bool) → is_serial t.mode ≡ b → blocks ≢ 0 → Goes n W notes c op (Some t) (cond b x (reply.StoreMode, W))
+      go : (b : Bool) → is_serial t.mode ≡ b → blocks ≢ 0 → Goes Q n W notes c op (Some t) (cond b x (reply.StoreMode, W))
       go true serial some = goes some (serial_is t.mode serial)
-      go false snapshot some = stays n W notes is c op (Some t) reply.StoreMode refusals.mode
+      go false snapshot some = stays Q n W notes is c op (Some t) reply.StoreMode refusals.mode
 
   pub hash_goes : {R : Type 0} (program : Program (Result R StoreError)) (answer : R → Reply) (call : KeyCall) (name : R → StoreAnswer) → ((r : R) → answered op (answer r) ≡ Some (OfHash call (name r)))
-      → t.mode ≡ Serial → ((r : R) → (ended program).1 ≡ Some (Ok r) → IsHashCall W.geometry call (array_of W t) (ended program).0 (name r)) → Goes n W notes c op (Some t) (store_step W t program answer)
+      → t.mode ≡ Serial → ((r : R) → (ended program).1 ≡ Some (Ok r) → IsHashCall W.geometry call (array_of W t) (ended program).0 (name r)) → Goes Q n W notes c op (Some t) (store_step W t program answer)
   unfolding store_step
   hash_goes program answer call name named serial local =
-      called n W notes is c op t program answer (λ r. OfHash call (name r)) (ended program).1 found refusals.full refusals.error named refl
+      called Q n W notes is c op t program answer (λ r. OfHash call (name r)) (ended program).1 found refusals.full refusals.error named refl
       (λ r done ends done_is told.
       let is_call = subst (λ (d : List Access). IsHashCall W.geometry call (array_of W t) d (name r)) (sym done_is) (local r ends) in
       hash_told W.geometry (array_at W.history t.begin) t.accesses t.mode (notes t.number) told call (name r) done serial is_call.local is_call.spare)
 
   pub tree_goes : {R : Type 0} (program : Program (Result R StoreError)) (answer : R → Reply) (call : TreeCall) (name : R → StoreAnswer) → ((r : R) → answered op (answer r) ≡ Some (OfTree call (name r)))
-      → t.mode ≡ Serial → ((r : R) → (ended program).1 ≡ Some (Ok r) → IsTreeCall W.geometry call (array_of W t) (ended program).0 (name r)) → Goes n W notes c op (Some t) (store_step W t program answer)
+      → t.mode ≡ Serial → ((r : R) → (ended program).1 ≡ Some (Ok r) → IsTreeCall W.geometry call (array_of W t) (ended program).0 (name r)) → Goes Q n W notes c op (Some t) (store_step W t program answer)
   unfolding store_step
   tree_goes program answer call name named serial local =
-      called n W notes is c op t program answer (λ r. OfTree call (name r)) (ended program).1 found refusals.full refusals.error named refl
+      called Q n W notes is c op t program answer (λ r. OfTree call (name r)) (ended program).1 found refusals.full refusals.error named refl
       (λ r done ends done_is told.
       let is_call = subst (λ (d : List Access). IsTreeCall W.geometry call (array_of W t) d (name r)) (sym done_is) (local r ends) in
       tree_told W.geometry (array_at W.history t.begin) t.accesses t.mode (notes t.number) told call (name r) done serial is_call.local is_call.spare)
 
-module _ (n : ℕ) (W : World) (notes : Notes) (is : IsNoted n W notes) (c : ℕ) (t : Live) (found : attached W c ≡ Some t) where
+module _ (Q : Type 0) (n : ℕ) (W : World) (notes : Notes) (is : IsNoted Q n W notes) (c : ℕ) (t : Live) (found : attached W c ≡ Some t) where
   -- a mark on an access since the last call
-  pub mark_goes : (off len : ℕ) → Goes n W notes c (Mark off len) (Some t) (mark_step W t off len)
+  pub mark_goes : (off len : ℕ) → Goes Q n W notes c (Mark off len) (Some t) (mark_step W t off len)
   unfolding mark_step
   mark_goes off len = go (mark_fault W.geometry.block off len t.accesses)
     where
       span : Span
       span = record { off = off; len = len }
 
-      go : (o : Option MarkError) → Goes n W notes c (Mark off len) (Some t) (marked_step W t span o)
-      go (Some fault) = stays n W notes is c (Mark off len) (Some t) (mark_refused fault) refl
-      go None = changes n W notes is c (Mark off len) t reply.Done (marked span t.accesses) found (λ more.
+      go : (o : Option MarkError) → Goes Q n W notes c (Mark off len) (Some t) (marked_step W t span o)
+      go (Some fault) = stays Q n W notes is c (Mark off len) (Some t) (mark_refused fault) refl
+      go None = changes Q n W notes is c (Mark off len) t reply.Done (marked span t.accesses) found (λ more.
           let told = notes t.number in
           let both = and_parts (told.kept && list_all (spares_stores W.geometry) (drop (length t.accesses) (marked span t.accesses))) (nat_lt told.over (length t.accesses)) more in
-          let was = kept_of n W notes is c (Mark off len) t found (and_parts told.kept _ both.0).0 in (
+          let was = kept_of Q n W notes is c (Mark off len) t found (and_parts told.kept _ both.0).0 in (
             was.0,
             mark_told W.geometry (array_at W.history t.begin) t.accesses t.mode told was.1 span
                 (told_more W.geometry (Mark off len) reply.Done t.accesses (marked span t.accesses) told None).kept (ltb-true told.over (length t.accesses) both.1),
@@ -104,48 +105,50 @@ module _ (n : ℕ) (W : World) (notes : Notes) (is : IsNoted n W notes) (c : ℕ
   longer : (u : Live) (notes : Notes) → IsLive W u → IsKept n W.geometry W.history notes u → IsKept n W.geometry (appended W.history (commit t)) notes u
   longer u notes live kept = λ more.
       let was = kept more in
-      (was.0, subst (λ (A : Array). IsToldOf W.geometry A u.accesses u.mode (notes u.number)) (sym (array_longer W.history (commit t) u.begin is.by.first live.begin)) was.1)
+      (was.0, subst (λ (A : Array). IsToldOf W.geometry A u.accesses u.mode (notes u.number)) (sym (array_longer W.history (commit t) u.begin is.world.history.first live.begin)) was.1)
 
   committed : (k : ℕ) → has_write t.accesses ≡ true → clash W.geometry W.history t.mode t.begin t.accesses ≡ None → last W.history ≢ LAST → need W t ≤ W.geometry.log - used W
-      → IsTrue (notes t.number).kept → Goes n W notes c End (Some t) (reply.Committed k, after_commit W t)
+      → (Q → IsTrue (notes t.number).kept) → Goes Q n W notes c End (Some t) (reply.Committed k, after_commit W t)
   committed k write none unworn fits kept =
       let x : Reply × World = (reply.Committed k, after_commit W t) in
       let leads = commits W t is.world (live_at W c t is.world found) write none unworn fits in
-      let told = kept_of n W notes is c End t found kept in
+      let more = length-append W.history.commits (commit t ∷ []) in
+      let low : n ≤ last W.history = is.low in
       record {
         next = omega arith;
         each = all_filter (IsKept n W.geometry (appended W.history (commit t)) (notes_by W notes c End (Some t) x)) (λ (u : Live). not (u.number == t.number)) W.live
             (both_of (IsLive W) (IsKept n W.geometry W.history notes) (IsKept n W.geometry (appended W.history (commit t)) (notes_by W notes c End (Some t) x))
-            (λ u live was. longer u (notes_by W notes c End (Some t) x) live (quiet n W notes is c End W.geometry W.history (Some t) x u refl was)) W.live is.world.live is.each);
-        by = stays_by_both (image_hash W.geometry) (image_tree W.geometry) W.geometry W.history (commit t) n is.by leads.world.isolated
-            (of_both W.geometry W.history (commit t) (notes t.number) told.1);
+            (λ u live was. longer u (notes_by W notes c End (Some t) x) live (quiet Q n W notes is c End W.geometry W.history (Some t) x u refl was)) W.live is.world.live is.each);
+        low = omega arith;
+        by = λ q. stays_by_both (image_hash W.geometry) (image_tree W.geometry) W.geometry W.history (commit t) n (is.by q) leads.world.isolated
+            (of_both W.geometry W.history (commit t) (notes t.number) (kept_of Q n W notes is c End t found (kept q)).1);
       }
 
   commit_goes : (o : Option Clash) → has_write t.accesses ≡ true → clash W.geometry W.history t.mode t.begin t.accesses ≡ o
-      → ((k : ℕ) → (commit_step W t o).0 ≡ reply.Committed k → IsTrue (notes t.number).kept) → Goes n W notes c End (Some t) (commit_step W t o)
+      → ((k : ℕ) → (commit_step W t o).0 ≡ reply.Committed k → Q → IsTrue (notes t.number).kept) → Goes Q n W notes c End (Some t) (commit_step W t o)
   unfolding commit_step
-  commit_goes (Some d) write met keeps = leaves n W notes is c End t (reply.Conflict d) refl
+  commit_goes (Some d) write met keeps = leaves Q n W notes is c End t (reply.Conflict d) refl
   commit_goes None write none keeps = one (last W.history == LAST) refl keeps
     where
       two : (b : Bool) → nat_lt (W.geometry.log - used W) (need W t) ≡ b → last W.history ≢ LAST
-          → ((k : ℕ) → (cond {A = Reply × World} b (reply.LogFull (need W t) (W.geometry.log - used W), W) (reply.Committed (last W.history + 1), after_commit W t)).0 ≡ reply.Committed k → IsTrue (notes t.number).kept)
-          → Goes n W notes c End (Some t) (cond b (reply.LogFull (need W t) (W.geometry.log - used W), W) (reply.Committed (last W.history + 1), after_commit W t))
-      two true full unworn keeps = stays n W notes is c End (Some t) (reply.LogFull (need W t) (W.geometry.log - used W)) refl
+          → ((k : ℕ) → (cond {A = Reply × World} b (reply.LogFull (need W t) (W.geometry.log - used W), W) (reply.Committed (last W.history + 1), after_commit W t)).0 ≡ reply.Committed k → Q → IsTrue (notes t.number).kept)
+          → Goes Q n W notes c End (Some t) (cond b (reply.LogFull (need W t) (W.geometry.log - used W), W) (reply.Committed (last W.history + 1), after_commit W t))
+      two true full unworn keeps = stays Q n W notes is c End (Some t) (reply.LogFull (need W t) (W.geometry.log - used W)) refl
       two false fits unworn keeps =
           committed (last W.history + 1) write none unworn (ltb-false (W.geometry.log - used W) (need W t) fits) (keeps (last W.history + 1) refl)
 
       one : (b : Bool) → (last W.history == LAST) ≡ b
-          → ((k : ℕ) → (cond {A = Reply × World} b (reply.Worn, W) (cond (nat_lt (W.geometry.log - used W) (need W t)) (reply.LogFull (need W t) (W.geometry.log - used W), W) (reply.Committed (last W.history + 1), after_commit W t))).0 ≡ reply.Committed k → IsTrue (notes t.number).kept)
-          → Goes n W notes c End (Some t) (cond b (reply.Worn, W) (cond (nat_lt (W.geometry.log - used W) (need W t)) (reply.LogFull (need W t) (W.geometry.log - used W), W) (reply.Committed (last W.history + 1), after_commit W t)))
-      one true worn keeps = stays n W notes is c End (Some t) reply.Worn refl
+          → ((k : ℕ) → (cond {A = Reply × World} b (reply.Worn, W) (cond (nat_lt (W.geometry.log - used W) (need W t)) (reply.LogFull (need W t) (W.geometry.log - used W), W) (reply.Committed (last W.history + 1), after_commit W t))).0 ≡ reply.Committed k → Q → IsTrue (notes t.number).kept)
+          → Goes Q n W notes c End (Some t) (cond b (reply.Worn, W) (cond (nat_lt (W.geometry.log - used W) (need W t)) (reply.LogFull (need W t) (W.geometry.log - used W), W) (reply.Committed (last W.history + 1), after_commit W t)))
+      one true worn keeps = stays Q n W notes is c End (Some t) reply.Worn refl
       one false unworn keeps = two (nat_lt (W.geometry.log - used W) (need W t)) refl (eqb-false (last W.history) LAST unworn) keeps
 
-  pub end_goes : ((k : ℕ) → (end_step W t).0 ≡ reply.Committed k → IsTrue (notes t.number).kept) → Goes n W notes c End (Some t) (end_step W t)
+  pub end_goes : ((k : ℕ) → (end_step W t).0 ≡ reply.Committed k → Q → IsTrue (notes t.number).kept) → Goes Q n W notes c End (Some t) (end_step W t)
   unfolding end_step
   end_goes keeps = go (has_write t.accesses) refl keeps
     where
       go : (b : Bool) → has_write t.accesses ≡ b
-          → ((k : ℕ) → (cond {A = Reply × World} b (commit_step W t (clash W.geometry W.history t.mode t.begin t.accesses)) (reply.ReadOnly, after_leaving W t)).0 ≡ reply.Committed k → IsTrue (notes t.number).kept)
-          → Goes n W notes c End (Some t) (cond b (commit_step W t (clash W.geometry W.history t.mode t.begin t.accesses)) (reply.ReadOnly, after_leaving W t))
+          → ((k : ℕ) → (cond {A = Reply × World} b (commit_step W t (clash W.geometry W.history t.mode t.begin t.accesses)) (reply.ReadOnly, after_leaving W t)).0 ≡ reply.Committed k → Q → IsTrue (notes t.number).kept)
+          → Goes Q n W notes c End (Some t) (cond b (commit_step W t (clash W.geometry W.history t.mode t.begin t.accesses)) (reply.ReadOnly, after_leaving W t))
       go true write keeps = commit_goes (clash W.geometry W.history t.mode t.begin t.accesses) write refl keeps
-      go false none keeps = leaves n W notes is c End t reply.ReadOnly refl
+      go false none keeps = leaves Q n W notes is c End t reply.ReadOnly refl

@@ -40,7 +40,7 @@ after_split W [] later line = refl
 after_split W (first ∷ before) later line = after_split (step W first.1.client first.1.op).1 before later line
 
 -- what an end told stands in each later history
-later_told : (n : ℕ) (V : World) (notes : Notes) (is : IsNoted n V notes) (c k : ℕ) (t : Live) (later : List (ℕ × Line)) → attached V c ≡ Some t → (step V c End).0 ≡ reply.Committed k
+later_told : (n : ℕ) (V : World) (notes : Notes) (is : IsNoted (Unit {0}) n V notes) (c k : ℕ) (t : Live) (later : List (ℕ × Line)) → attached V c ≡ Some t → (step V c End).0 ≡ reply.Committed k
     → IsTrue (notes t.number).kept → AreLines later
     → let H = (after (step V c End).1 later).history in ToldInOrder V.geometry (notes t.number) (array_at H (k - 1)) (array_at H k)
 later_told n V notes is c k t later found done kept good =
@@ -64,7 +64,7 @@ commits_told W before later line k t begins good keeps is_end found done =
     let c = line.1.client in
     let lines = lines_split before later line good in
     let keep = keep_split W no_notes before later line keeps in
-    let noted_is = noted_after (last W.history) W no_notes before (noted_begins W begins) lines.0 keep.0 in
+    let noted_is = noted_after (Unit {0}) (last W.history) W no_notes before (noted_begins W begins) lines.0 (λ q. keep.0) in
     let kept = keep.1 t k found (ap (λ (op : Op). (step V c op).0) is_end ∙ done) in
     let told = later_told (last W.history) V (notes_after W no_notes before) noted_is c k t later found done kept lines.2 in
     let world_is : after W (before ++ line ∷ later) ≡ after (step V c End).1 later = after_split W before later line ∙ ap (λ (op : Op). after (step V c op).1 later) is_end in

@@ -7,7 +7,7 @@ use Rattle.iso_model.specs.declared.access.Geometry.{Geometry}
 use Rattle.iso_model.specs.declared.script.Op.{Op}
 use Rattle.iso_model.specs.declared.script.Reply.{Reply}
 use Rattle.iso_model.specs.Effect.{is_write}
-use Rattle.iso_model.specs.History.{History, array_at}
+use Rattle.iso_model.specs.History.{History, array_at, last}
 use Rattle.iso_model.specs.Step.{hash_area, tree_area, with_accesses}
 use Rattle.iso_model.specs.World.{Live, World, attached, with}
 use Rattle.iso_model.specs.Worlds.{IsWorld}
@@ -25,11 +25,13 @@ use Rattle.store_scripts.proofs.Growing.{other_told, same_told}
 abbrev pub IsKept : (n : ℕ) → Geometry → History → Notes → Live → Type 0
 IsKept n g H notes t = IsTrue (notes t.number).kept → (n ≤ t.begin) × IsToldOf g (array_at H t.begin) t.accesses t.mode (notes t.number)
 
--- A sound world whose commits after n are by calls; what is told of its live transactions is true, and nothing of later ones.
-pub record IsNoted (n : ℕ) (W : World) (notes : Notes) : Type 0 where
+-- A sound world: what is told of its live transactions is true, and nothing of later ones. Its commits after n are by calls, on the
+-- premise Q, by which those that commit keep to the stores.
+pub record IsNoted (Q : Type 0) (n : ℕ) (W : World) (notes : Notes) : Type 0 where
   pub world : IsWorld W
   pub each : AllByRecursion (IsKept n W.geometry W.history notes) W.live
-  pub by : IsByBoth (image_hash W.geometry) (image_tree W.geometry) W.geometry W.history n
+  pub low : n ≤ last W.history
+  pub by : Q → IsByBoth (image_hash W.geometry) (image_tree W.geometry) W.geometry W.history n
   pub fresh : (number : ℕ) → W.next ≤ number → notes number ≡ nothing_told
 
 -- the notes after a line that is answered so, by who is attached to its client
@@ -37,15 +39,16 @@ abbrev pub notes_by : World → Notes → (c : ℕ) → Op → Option Live → R
 notes_by W notes c op o x = λ number. told_by W.geometry c number op o x (notes number)
 
 -- where a line that is answered so leads
-pub record Goes (n : ℕ) (W : World) (notes : Notes) (c : ℕ) (op : Op) (o : Option Live) (x : Reply × World) : Type 0 where
+pub record Goes (Q : Type 0) (n : ℕ) (W : World) (notes : Notes) (c : ℕ) (op : Op) (o : Option Live) (x : Reply × World) : Type 0 where
   pub next : W.next ≤ x.1.next
   pub each : AllByRecursion (IsKept n x.1.geometry x.1.history (notes_by W notes c op o x)) x.1.live
-  pub by : IsByBoth (image_hash x.1.geometry) (image_tree x.1.geometry) x.1.geometry x.1.history n
+  pub low : n ≤ last x.1.history
+  pub by : Q → IsByBoth (image_hash x.1.geometry) (image_tree x.1.geometry) x.1.geometry x.1.history n
 
-pub choose : (n : ℕ) (W : World) (notes : Notes) (c : ℕ) (op : Op) (o : Option Live) (test : Bool) (x y : Reply × World) → Goes n W notes c op o x → (test ≡ false → Goes n W notes c op o y)
-    → Goes n W notes c op o (cond test x y)
-choose n W notes c op o true x y one two = one
-choose n W notes c op o false x y one two = two refl
+pub choose : (Q : Type 0) (n : ℕ) (W : World) (notes : Notes) (c : ℕ) (op : Op) (o : Option Live) (test : Bool) (x y : Reply × World) → Goes Q n W notes c op o x → (test ≡ false → Goes Q n W notes c op o y)
+    → Goes Q n W notes c op o (cond test x y)
+choose Q n W notes c op o true x y one two = one
+choose Q n W notes c op o false x y one two = two refl
 
 pub drop_past : (xs ys : List Access) → drop (length xs) (xs ++ ys) ≡ ys
 drop_past [] ys = refl
@@ -78,7 +81,7 @@ with_each P t (u ∷ live) is all = (
   with_each P t live is all.1,
 )
 
-module _ (n : ℕ) (W : World) (notes : Notes) (is : IsNoted n W notes) (c : ℕ) (op : Op) where
+module _ (Q : Type 0) (n : ℕ) (W : World) (notes : Notes) (is : IsNoted Q n W notes) (c : ℕ) (op : Op) where
   -- a line of another transaction tells nothing of it
   pub other_is : (t : Live) (number : ℕ) (x : Reply × World) (told : Told) → t.number ≢ number → told_by W.geometry c number op (Some t) x told ≡ told
   other_is t number x told other =
@@ -115,10 +118,11 @@ module _ (n : ℕ) (W : World) (notes : Notes) (is : IsNoted n W notes) (c : ℕ
       ]
 
   -- a line that changes nothing
-  pub stays : (o : Option Live) (r : Reply) → answered op r ≡ None → Goes n W notes c op o (r, W)
+  pub stays : (o : Option Live) (r : Reply) → answered op r ≡ None → Goes Q n W notes c op o (r, W)
   stays o r none = record {
     next = omega arith;
     each = all_weaker (IsKept n W.geometry W.history notes) (IsKept n W.geometry W.history (notes_by W notes c op o (r, W))) (λ u. quiet W.geometry W.history o (r, W) u none) W.live is.each;
+    low = is.low;
     by = is.by;
   }
 
@@ -126,7 +130,7 @@ module _ (n : ℕ) (W : World) (notes : Notes) (is : IsNoted n W notes) (c : ℕ
   pub changes : (t : Live) (r : Reply) (accesses : List Access) → attached W c ≡ Some t
       → (IsTrue (told_more W.geometry op r t.accesses accesses (notes t.number) (answered op r)).kept
       → (n ≤ t.begin) × IsToldOf W.geometry (array_at W.history t.begin) accesses t.mode (told_more W.geometry op r t.accesses accesses (notes t.number) (answered op r)))
-      → Goes n W notes c op (Some t) (r, with_accesses W t accesses)
+      → Goes Q n W notes c op (Some t) (r, with_accesses W t accesses)
   changes t r accesses found told =
       let new : Live = record t { accesses = accesses } in
       let x : Reply × World = (r, with_accesses W t accesses) in
@@ -139,6 +143,7 @@ module _ (n : ℕ) (W : World) (notes : Notes) (is : IsNoted n W notes) (c : ℕ
             (subst (λ (m : Told). IsTrue m.kept → (n ≤ t.begin) × IsToldOf W.geometry (array_at W.history t.begin) accesses t.mode m) told_is told)
             (all_weaker (IsKept n W.geometry W.history notes) (λ (u : Live). u.number ≢ t.number → IsKept n W.geometry W.history (notes_by W notes c op (Some t) x) u)
             (λ u kept other. other_kept W.history t u x other kept) W.live is.each);
+        low = is.low;
         by = is.by;
       }
 
@@ -157,5 +162,5 @@ module _ (n : ℕ) (W : World) (notes : Notes) (is : IsNoted n W notes) (c : ℕ
   more_told t r done (Some call) none kept = absurd (cc none)
 
   pub adds : (t : Live) (r : Reply) (done : List Access) → attached W c ≡ Some t → IsKept n W.geometry W.history notes t → answered op r ≡ None
-      → Goes n W notes c op (Some t) (r, with_accesses W t (t.accesses ++ done))
+      → Goes Q n W notes c op (Some t) (r, with_accesses W t (t.accesses ++ done))
   adds t r done found kept none = changes t r (t.accesses ++ done) found (more_told t r done (answered op r) none kept)

@@ -69,31 +69,37 @@ told_in_order g told parts A B hash_calls hash_answers tree_calls tree_answers o
   tree_ends = sym (ap (λ (calls : List TreeCall). (run (image_tree g) ((image_tree g).map_of A) calls).1) tree_calls) ∙ order.second.ends;
 }
 
-module _ (n : ℕ) (V : World) (notes : Notes) (is : IsNoted n V notes) (c : ℕ) (t : Live) (found : attached V c ≡ Some t) (kept : IsTrue (notes t.number).kept) where
+-- what is told of the transaction of a client is true
+kept_is : (Q : Type 0) (n : ℕ) (V : World) (notes : Notes) → IsNoted Q n V notes → (c : ℕ) (t : Live) → attached V c ≡ Some t → IsTrue (notes t.number).kept
+    → (n ≤ t.begin) × IsToldOf V.geometry (array_at V.history t.begin) t.accesses t.mode (notes t.number)
+kept_is Q n V notes is c t found kept = all_find (IsKept n V.geometry V.history notes) (λ u. is_at_client c u.place) V.live t is.each found kept
+
+pub told_is : (Q : Type 0) (n : ℕ) (V : World) (notes : Notes) → IsNoted Q n V notes → (c : ℕ) (t : Live) → attached V c ≡ Some t → IsTrue (notes t.number).kept
+    → IsToldOf V.geometry (array_at V.history t.begin) t.accesses t.mode (notes t.number)
+told_is Q n V notes is c t found kept = (kept_is Q n V notes is c t found kept).1
+
+module _ (n : ℕ) (V : World) (notes : Notes) (is : IsNoted (Unit {0}) n V notes) (c : ℕ) (t : Live) (found : attached V c ≡ Some t) (kept : IsTrue (notes t.number).kept) where
   abbrev g : Geometry
   g = V.geometry
 
   abbrev A : Array
   A = array_at V.history t.begin
 
-  kept_is : (n ≤ t.begin) × IsToldOf g A t.accesses t.mode (notes t.number)
-  kept_is = all_find (IsKept n V.geometry V.history notes) (λ u. is_at_client c u.place) V.live t is.each found kept
-
-  pub told_is : IsToldOf g A t.accesses t.mode (notes t.number)
-  told_is = kept_is.1
+  has : (n ≤ t.begin) × IsToldOf g A t.accesses t.mode (notes t.number)
+  has = kept_is (Unit {0}) n V notes is c t found kept
 
   abbrev parts : List StorePart
-  parts = all_parts g A t.accesses t.mode (notes t.number) told_is
+  parts = all_parts g A t.accesses t.mode (notes t.number) has.1
 
   all_is : AreAll g A t.accesses t.mode (notes t.number) parts
-  all_is = all_are g A t.accesses t.mode (notes t.number) told_is
+  all_is = all_are g A t.accesses t.mode (notes t.number) has.1
 
   pub live_told : ToldInOrder g (notes t.number) A (array_of V t)
   live_told =
       let one = hash_blocks g is.world.valid in
       let two = tree_blocks g is.world.valid in
       let live = live_at V c t is.world found in
-      let well = both_well_formed (image_hash g) (image_tree g) one two g V.history n t.begin is.by kept_is.0 live.begin in
+      let well = both_well_formed (image_hash g) (image_tree g) one two g V.history n t.begin (is.by tt) has.0 live.begin in
       told_in_order g (notes t.number) parts A (own A t.accesses) all_is.hash_calls all_is.hash_answers all_is.tree_calls all_is.tree_answers
       (subst (λ (accesses : List Access). BothInOrder (image_hash g) (image_tree g) parts A (own A accesses)) all_is.are
       (both_live (image_hash g) (image_tree g) one two A parts all_is.made well))
@@ -103,7 +109,7 @@ module _ (n : ℕ) (V : World) (notes : Notes) (is : IsNoted n V notes) (c : ℕ
       let one = hash_blocks g is.world.valid in
       let two = tree_blocks g is.world.valid in
       let live = live_at V c t is.world found in
-      let by_map = both_read_only (image_hash g) (image_tree g) one two g V.history n t.begin parts is.by kept_is.0 live.begin all_is.made (ap has_write all_is.are ∙ none) in
+      let by_map = both_read_only (image_hash g) (image_tree g) one two g V.history n t.begin parts (is.by tt) has.0 live.begin all_is.made (ap has_write all_is.are ∙ none) in
       record {
         hash = sym all_is.hash_answers ∙ by_map.first ∙ ap (map (λ call. ((image_hash g).act call ((image_hash g).map_of A)).0)) all_is.hash_calls;
         tree = sym all_is.tree_answers ∙ by_map.second ∙ ap (map (λ call. ((image_tree g).act call ((image_tree g).map_of A)).0)) all_is.tree_calls;
@@ -144,12 +150,12 @@ module _ (n : ℕ) (V : World) (notes : Notes) (is : IsNoted n V notes) (c : ℕ
       let one = hash_blocks g is.world.valid in
       let two = tree_blocks g is.world.valid in
       let H = appended V.history (commit t) in
-      let of = of_both g V.history (commit t) (notes t.number) told_is in
-      let by = stays_by_both (image_hash g) (image_tree g) g V.history (commit t) n is.by sound.isolated of in
+      let of = of_both g V.history (commit t) (notes t.number) has.1 in
+      let by = stays_by_both (image_hash g) (image_tree g) g V.history (commit t) n (is.by tt) sound.isolated of in
       let live = live_at V c t is.world found in
       let more = length-append V.history.commits (commit t ∷ []) in
-      let first : 0 < V.history.first = is.by.first in
-      let low : n ≤ last V.history = is.by.within in
+      let first : 0 < V.history.first = is.world.history.first in
+      let low : n ≤ last V.history = is.low in
       let is_last : slice_get H.commits (k - H.first) ≡ Some (commit t) = last_of V.history.commits (commit t) (k - H.first) (omega arith) in
       let order = both_commits (image_hash g) (image_tree g) one two g H n by k (omega arith) (omega arith) in
       let here = subst (λ (o : Option Commit). IfSome o (λ d. (d_of : IsOfBoth (image_hash g) (image_tree g) H d) → BothInOrder (image_hash g) (image_tree g) d_of.parts (array_at H (k - 1)) (array_at H k))) is_last order in
@@ -173,5 +179,5 @@ module _ (n : ℕ) (V : World) (notes : Notes) (is : IsNoted n V notes) (c : ℕ
   committed_last k done =
       let ends = ends_so k done in
       let more = length-append V.history.commits (commit t ∷ []) in
-      let first : 0 < V.history.first = is.by.first in
+      let first : 0 < V.history.first = is.world.history.first in
       subst (λ (U : World). k ≤ last U.history) (sym (ap (λ (x : Reply × World). x.1) ends.0)) (let at = ends.1 in omega arith)

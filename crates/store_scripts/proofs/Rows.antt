@@ -3,9 +3,13 @@ use Rattle.std.specs.Prelude.{◌≡◌, ℕ, true, false, List, [], ◌∷◌, 
 use Rattle.std.specs.Fmt.{digits}
 use Rattle.iso_model.specs.declared.access.Geometry.{Geometry}
 use Rattle.iso_model.specs.declared.access.Mode.TheVariants.{Serial}
+use Rattle.iso_model.specs.declared.script.Op.TheVariants.{End}
+use Rattle.iso_model.specs.declared.script.Reply.TheVariants.{Committed}
 use Rattle.iso_model.specs.Array.{put}
-use Rattle.iso_model.specs.Script.{operation_of, other_operation, store_operation, tree_operation}
-use Rattle.iso_model.specs.Step.{begin_step, fill_step, get_step, mark_step, step, store_step, tree_get_step, tree_put_step, tree_delete_step}
+use Rattle.iso_model.specs.Conflict.{clash}
+use Rattle.iso_model.specs.Effect.{runs}
+use Rattle.iso_model.specs.Script.{after, operation_of, other_operation, store_operation, tree_operation}
+use Rattle.iso_model.specs.Step.{begin_step, commit_step, end_step, fill_step, get_step, mark_step, step, store_step, tree_get_step, tree_put_step, tree_delete_step}
 use Rattle.iso_model.specs.Text.{hex_of, number_of, words_of}
 use Rattle.iso_model.specs.TreeCalls as tree
 use Rattle.iso_model.specs.TreeNodes.{is_node}
@@ -63,3 +67,8 @@ marks_break_calls = refl
 pub marks_keep_other_accesses : (told (codes "1 begin" ∷ codes "1 tget 61" ∷ codes "1 get 4 0 8" ∷ codes "1 mark 9 1" ∷ [])).kept ≡ true
 unfolding put operation_of other_operation store_operation tree_operation step begin_step get_step mark_step store_step tree_get_step tree.get_program words_of number_of hex_of digits
 marks_keep_other_accesses = refl
+
+-- What is told of it commits.
+pub told_calls_commit : (step (after (made trees) (lines_of (codes "1 begin" ∷ codes "1 tput 61 31" ∷ codes "1 tget 61" ∷ []))) 1 End).0 ≡ Committed 1
+unfolding put clash runs operation_of other_operation store_operation tree_operation step begin_step end_step commit_step store_step tree_get_step tree_put_step tree.get_program tree.put_program is_node words_of number_of hex_of digits
+told_calls_commit = refl

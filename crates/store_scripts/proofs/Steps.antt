@@ -26,47 +26,49 @@ kept_before : (told : Told) (call : Answered) (over : ℕ) → IsTrue (with_call
 kept_before told (OfHash call answer) over kept = kept
 kept_before told (OfTree call answer) over kept = kept
 
-module _ (n : ℕ) (W : World) (notes : Notes) (is : IsNoted n W notes) (c : ℕ) (op : Op) where
-  pub in_goes : (o : Option Live) (act : Live → Reply × World) → attached W c ≡ o → answered op reply.NotInTx ≡ None → ((t : Live) → attached W c ≡ Some t → Goes n W notes c op (Some t) (act t))
-      → Goes n W notes c op o (in_transaction W o act)
-  in_goes None act at none goes = stays n W notes is c op None reply.NotInTx none
+module _ (Q : Type 0) (n : ℕ) (W : World) (notes : Notes) (is : IsNoted Q n W notes) (c : ℕ) (op : Op) where
+  pub in_goes : (o : Option Live) (act : Live → Reply × World) → attached W c ≡ o → answered op reply.NotInTx ≡ None → ((t : Live) → attached W c ≡ Some t → Goes Q n W notes c op (Some t) (act t))
+      → Goes Q n W notes c op o (in_transaction W o act)
+  in_goes None act at none goes = stays Q n W notes is c op None reply.NotInTx none
   in_goes (Some t) act at none goes = goes t at
 
-  pub out_goes : (o : Option Live) (x : Reply × World) → answered op reply.InTx ≡ None → Goes n W notes c op None x → Goes n W notes c op o (out_of_transaction W o x)
-  out_goes (Some t) x none goes = stays n W notes is c op (Some t) reply.InTx none
+  pub out_goes : (o : Option Live) (x : Reply × World) → answered op reply.InTx ≡ None → Goes Q n W notes c op None x → Goes Q n W notes c op o (out_of_transaction W o x)
+  out_goes (Some t) x none goes = stays Q n W notes is c op (Some t) reply.InTx none
   out_goes None x none goes = goes
 
   pub kept_of : (t : Live) → attached W c ≡ Some t → IsKept n W.geometry W.history notes t
   kept_of t found = all_find (IsKept n W.geometry W.history notes) (λ u. is_at_client c u.place) W.live t is.each found
 
   -- a transaction begins, of which nothing is told
-  begins : (place : Place) (mode : Mode) (r : Reply) → answered op r ≡ None → Goes n W notes c op None (r, after_begin W place mode)
+  begins : (place : Place) (mode : Mode) (r : Reply) → answered op r ≡ None → Goes Q n W notes c op None (r, after_begin W place mode)
   begins place mode r none =
       let new : Live = record { number = W.next; begin = last W.history; mode = mode; accesses = []; place = place } in
       let x : Reply × World = (r, after_begin W place mode) in
       record {
         next = omega arith;
         each = all_push (IsKept n W.geometry W.history (notes_by W notes c op None x)) W.live new is.each
-            (λ kept. (is.by.within, subst (IsToldOf W.geometry (array_at W.history (last W.history)) [] mode) (sym (is.fresh W.next (omega arith))) (begins_told W.geometry (array_at W.history (last W.history)) mode)));
+            (λ kept. (is.low, subst (IsToldOf W.geometry (array_at W.history (last W.history)) [] mode) (sym (is.fresh W.next (omega arith))) (begins_told W.geometry (array_at W.history (last W.history)) mode)));
+        low = is.low;
         by = is.by;
       }
 
-  pub begin_goes : (place : Place) (mode : Mode) → ((r : Reply) → answered op r ≡ None) → Goes n W notes c op None (begin_step W place mode)
+  pub begin_goes : (place : Place) (mode : Mode) → ((r : Reply) → answered op r ≡ None) → Goes Q n W notes c op None (begin_step W place mode)
   unfolding begin_step
   begin_goes place mode none =
-      choose n W notes c op None ((W.geometry.form == 1) && not (same_mode mode W.geometry.mode)) _ _ (stays n W notes is c op None reply.ModeFixed (none _)) (λ a.
-      choose n W notes c op None (nat_le MAX_LIVE (length W.live)) _ _ (stays n W notes is c op None reply.TooManyTx (none _)) (λ b.
-      choose n W notes c op None (nat_lt LAST W.next) _ _ (stays n W notes is c op None reply.Worn (none _)) (λ d.
+      choose Q n W notes c op None ((W.geometry.form == 1) && not (same_mode mode W.geometry.mode)) _ _ (stays Q n W notes is c op None reply.ModeFixed (none _)) (λ a.
+      choose Q n W notes c op None (nat_le MAX_LIVE (length W.live)) _ _ (stays Q n W notes is c op None reply.TooManyTx (none _)) (λ b.
+      choose Q n W notes c op None (nat_lt LAST W.next) _ _ (stays Q n W notes is c op None reply.Worn (none _)) (λ d.
       begins place mode (reply.Began (last W.history)) (none _))))
 
   -- a transaction leaves
-  pub leaves : (t : Live) (r : Reply) → answered op r ≡ None → Goes n W notes c op (Some t) (r, after_leaving W t)
+  pub leaves : (t : Live) (r : Reply) → answered op r ≡ None → Goes Q n W notes c op (Some t) (r, after_leaving W t)
   leaves t r none =
       let x : Reply × World = (r, after_leaving W t) in
       record {
         next = omega arith;
         each = all_filter (IsKept n W.geometry W.history (notes_by W notes c op (Some t) x)) (λ (u : Live). not (u.number == t.number)) W.live
-            (all_weaker (IsKept n W.geometry W.history notes) (IsKept n W.geometry W.history (notes_by W notes c op (Some t) x)) (λ u. quiet n W notes is c op W.geometry W.history (Some t) x u none) W.live is.each);
+            (all_weaker (IsKept n W.geometry W.history notes) (IsKept n W.geometry W.history (notes_by W notes c op (Some t) x)) (λ u. quiet Q n W notes is c op W.geometry W.history (Some t) x u none) W.live is.each);
+        low = is.low;
         by = is.by;
       }
 
@@ -75,70 +77,75 @@ module _ (n : ℕ) (W : World) (notes : Notes) (is : IsNoted n W notes) (c : ℕ
   all_with P t (u ∷ live) has all = (elim (u.number == t.number) as (λ v. P (cond v t u)) [ true ↦ has | false ↦ all.0 ], all_with P t live has all.1)
 
   -- a transaction is somewhere else
-  places : (o : Option Live) (t : Live) (place : Place) (r : Reply) → answered op r ≡ None → IsKept n W.geometry W.history notes t → Goes n W notes c op o (r, placed W t place)
+  places : (o : Option Live) (t : Live) (place : Place) (r : Reply) → answered op r ≡ None → IsKept n W.geometry W.history notes t → Goes Q n W notes c op o (r, placed W t place)
   places o t place r none kept =
       let x : Reply × World = (r, placed W t place) in
       let new : Live = record t { place = place } in
       record {
         next = omega arith;
-        each = all_with (IsKept n W.geometry W.history (notes_by W notes c op o x)) new W.live (quiet n W notes is c op W.geometry W.history o x new none kept)
-            (all_weaker (IsKept n W.geometry W.history notes) (IsKept n W.geometry W.history (notes_by W notes c op o x)) (λ u. quiet n W notes is c op W.geometry W.history o x u none) W.live is.each);
+        each = all_with (IsKept n W.geometry W.history (notes_by W notes c op o x)) new W.live (quiet Q n W notes is c op W.geometry W.history o x new none kept)
+            (all_weaker (IsKept n W.geometry W.history notes) (IsKept n W.geometry W.history (notes_by W notes c op o x)) (λ u. quiet Q n W notes is c op W.geometry W.history o x u none) W.live is.each);
+        low = is.low;
         by = is.by;
       }
 
-  pub release_goes : (t : Live) (text : List ℕ) (o : Option Live) → attached W c ≡ Some t → ((r : Reply) → answered op r ≡ None) → Goes n W notes c op (Some t) (release_step W t text o)
-  release_goes t text (Some other) found none = stays n W notes is c op (Some t) reply.LabelTaken (none _)
+  pub release_goes : (t : Live) (text : List ℕ) (o : Option Live) → attached W c ≡ Some t → ((r : Reply) → answered op r ≡ None) → Goes Q n W notes c op (Some t) (release_step W t text o)
+  release_goes t text (Some other) found none = stays Q n W notes is c op (Some t) reply.LabelTaken (none _)
   release_goes t text None found none = places (Some t) t (label text) reply.Done (none _) (kept_of t found)
 
-  pub takeover_goes : (text : List ℕ) (o : Option Live) → held W text ≡ o → ((r : Reply) → answered op r ≡ None) → Goes n W notes c op None (takeover_step W c o)
-  takeover_goes text None found none = stays n W notes is c op None reply.NoHandle (none _)
+  pub takeover_goes : (text : List ℕ) (o : Option Live) → held W text ≡ o → ((r : Reply) → answered op r ≡ None) → Goes Q n W notes c op None (takeover_step W c o)
+  takeover_goes text None found none = stays Q n W notes is c op None reply.NoHandle (none _)
   takeover_goes text (Some t) found none =
       places None t (client c) (reply.Began t.begin) (none _) (all_find (IsKept n W.geometry W.history notes) (λ u. is_under_label text u.place) W.live t is.each found)
 
   -- an access
   pub access_goes : (t : Live) (block : ℕ) (is_wrong : Bool) (answer : Reply) (a : Access) → attached W c ≡ Some t → ((r : Reply) → answered op r ≡ None)
-      → Goes n W notes c op (Some t) (access_step W t block is_wrong answer a)
+      → Goes Q n W notes c op (Some t) (access_step W t block is_wrong answer a)
   access_goes t block is_wrong answer a found none =
-      choose n W notes c op (Some t) (nat_le W.geometry.blocks block) _ _ (stays n W notes is c op (Some t) reply.BadBlock (none _)) (λ x.
-      choose n W notes c op (Some t) is_wrong _ _ (stays n W notes is c op (Some t) reply.BadRange (none _)) (λ y.
-      choose n W notes c op (Some t) (nat_le MAX_ACCESSES (length t.accesses)) _ _ (stays n W notes is c op (Some t) reply.TooManyAccesses (none _)) (λ z.
-      adds n W notes is c op t answer (a ∷ []) found (kept_of t found) (none _))))
+      choose Q n W notes c op (Some t) (nat_le W.geometry.blocks block) _ _ (stays Q n W notes is c op (Some t) reply.BadBlock (none _)) (λ x.
+      choose Q n W notes c op (Some t) is_wrong _ _ (stays Q n W notes is c op (Some t) reply.BadRange (none _)) (λ y.
+      choose Q n W notes c op (Some t) (nat_le MAX_ACCESSES (length t.accesses)) _ _ (stays Q n W notes is c op (Some t) reply.TooManyAccesses (none _)) (λ z.
+      adds Q n W notes is c op t answer (a ∷ []) found (kept_of t found) (none _))))
 
   -- the numbers of an image change
   same_form : (form : ℕ) (o : Option Live) (x : Reply × World) (u : Live) → answered op x.0 ≡ None → IsKept n W.geometry W.history notes u
       → IsKept n (record W.geometry { form = form }) W.history (notes_by W notes c op o x) u
   same_form form o x u none kept = λ more.
-      let was = quiet n W notes is c op W.geometry W.history o x u none kept more in
+      let was = quiet Q n W notes is c op W.geometry W.history o x u none kept more in
       (was.0, in_form W.geometry form (array_at W.history u.begin) u.accesses u.mode (notes_by W notes c op o x u.number) was.1)
 
-  pub trim_goes : (o : Option Live) (r : Reply) → answered op r ≡ None → Goes n W notes c op o (r, after_trim W)
+  pub trim_goes : (o : Option Live) (r : Reply) → answered op r ≡ None → Goes Q n W notes c op o (r, after_trim W)
   trim_goes o r none = record {
     next = omega arith;
-    each = all_weaker (IsKept n W.geometry W.history notes) (IsKept n W.geometry W.history (notes_by W notes c op o (r, after_trim W))) (λ u. quiet n W notes is c op W.geometry W.history o (r, after_trim W) u none) W.live is.each;
+    each = all_weaker (IsKept n W.geometry W.history notes) (IsKept n W.geometry W.history (notes_by W notes c op o (r, after_trim W))) (λ u. quiet Q n W notes is c op W.geometry W.history o (r, after_trim W) u none) W.live is.each;
+    low = is.low;
     by = is.by;
   }
 
-  switches : (form : ℕ) (o : Option Live) (r : Reply) → answered op r ≡ None → IsWorld (after_switch W form) → Goes n W notes c op o (r, after_switch W form)
+  switches : (form : ℕ) (o : Option Live) (r : Reply) → answered op r ≡ None → IsWorld (after_switch W form) → Goes Q n W notes c op o (r, after_switch W form)
   switches form o r none sound = record {
     next = omega arith;
     each = all_weaker (IsKept n W.geometry W.history notes) (IsKept n (record W.geometry { form = form }) W.history (notes_by W notes c op o (r, after_switch W form)))
         (λ u. same_form form o (r, after_switch W form) u none) W.live is.each;
-    by = record {
-      first = is.by.first;
-      since = is.by.since;
-      within = is.by.within;
-      isolated = sound.isolated;
-      calls = is.by.calls;
-      begins = record { first = is.by.begins.first; second = is.by.begins.second };
-    };
+    low = is.low;
+    by = λ q.
+        let was = is.by q in
+        record {
+          first = was.first;
+          since = was.since;
+          within = was.within;
+          isolated = sound.isolated;
+          calls = was.calls;
+          begins = record { first = was.begins.first; second = was.begins.second };
+        };
   }
 
-  pub switch_goes : (form : ℕ) (o : Option Live) (answer : Reply) → ((r : Reply) → answered op r ≡ None) → IsWorld (switch_step W form answer).1 → Goes n W notes c op o (switch_step W form answer)
+  pub switch_goes : (form : ℕ) (o : Option Live) (answer : Reply) → ((r : Reply) → answered op r ≡ None) → IsWorld (switch_step W form answer).1 → Goes Q n W notes c op o (switch_step W form answer)
   unfolding switch_step
   switch_goes form o answer none sound = go (W.generation == LAST) sound
     where
-      go : (b : Bool) → IsWorld (cond {A = Reply × World} b (reply.Worn, W) (answer, after_switch W form)).1 → Goes n W notes c op o (cond b (reply.Worn, W) (answer, after_switch W form))
-      go true world = stays n W notes is c op o reply.Worn (none _)
+      go : (b : Bool) → IsWorld (cond {A = Reply × World} b (reply.Worn, W) (answer, after_switch W form)).1 → Goes Q n W notes c op o (cond b (reply.Worn, W) (answer, after_switch W form))
+      go true world = stays Q n W notes is c op o reply.Worn (none _)
       go false world = switches form o answer (none _) world
 
   call_told : (t : Live) (call : Answered) (done : List Access)
@@ -157,14 +164,14 @@ module _ (n : ℕ) (W : World) (notes : Notes) (is : IsNoted n W notes) (c : ℕ
       → ((r : R) (done : List Access) → (outcome (MAX_ACCESSES - length t.accesses) program (array_of W t)).1 ≡ Some (Ok r) → done ≡ (outcome (MAX_ACCESSES - length t.accesses) program (array_of W t)).0
       → IsToldOf W.geometry (array_at W.history t.begin) t.accesses t.mode (notes t.number)
       → IsToldOf W.geometry (array_at W.history t.begin) (t.accesses ++ done) t.mode (with_call (notes t.number) (name r) (length (t.accesses ++ done))))
-      → Goes n W notes c op (Some t) (store_reply answer end, with_accesses W t (t.accesses ++ (outcome (MAX_ACCESSES - length t.accesses) program (array_of W t)).0))
+      → Goes Q n W notes c op (Some t) (store_reply answer end, with_accesses W t (t.accesses ++ (outcome (MAX_ACCESSES - length t.accesses) program (array_of W t)).0))
   called t program answer name None found full refused named ends told =
-      adds n W notes is c op t reply.TooManyAccesses (outcome (MAX_ACCESSES - length t.accesses) program (array_of W t)).0 found (kept_of t found) full
+      adds Q n W notes is c op t reply.TooManyAccesses (outcome (MAX_ACCESSES - length t.accesses) program (array_of W t)).0 found (kept_of t found) full
   called t program answer name (Some (Err e)) found full refused named ends told =
-      adds n W notes is c op t (store_refusal e) (outcome (MAX_ACCESSES - length t.accesses) program (array_of W t)).0 found (kept_of t found) (refused e)
+      adds Q n W notes is c op t (store_refusal e) (outcome (MAX_ACCESSES - length t.accesses) program (array_of W t)).0 found (kept_of t found) (refused e)
   called t program answer name (Some (Ok r)) found full refused named ends told =
       let done = (outcome (MAX_ACCESSES - length t.accesses) program (array_of W t)).0 in
-      changes n W notes is c op t (answer r) (t.accesses ++ done) found
+      changes Q n W notes is c op t (answer r) (t.accesses ++ done) found
       (subst (λ (a : Option Answered).
       IsTrue (told_more W.geometry op (answer r) t.accesses (t.accesses ++ done) (notes t.number) a).kept
       → (n ≤ t.begin) × IsToldOf W.geometry (array_at W.history t.begin) (t.accesses ++ done) t.mode (told_more W.geometry op (answer r) t.accesses (t.accesses ++ done) (notes t.number) a))

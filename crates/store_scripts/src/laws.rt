@@ -1,5 +1,5 @@
 // The laws of scripts with stores: each function does nothing, and its contract is the law.
-ghost use Rattle.std.specs.Prelude.{◌≡◌, ◌≢◌, ◌↔◌, ℕ, ◌-◌, ◌≤◌, IsTrue, IsFalse, List, ◌∷◌, ◌++◌, None, Some};
+ghost use Rattle.std.specs.Prelude.{◌≡◌, ◌≢◌, ◌↔◌, ℕ, ◌-◌, ◌≤◌, IsTrue, IsFalse, List, [], ◌∷◌, ◌++◌, None, Some};
 ghost use Rattle.std.specs.FinMap.{empty};
 ghost use Rattle.iso_model.specs.declared.access.Geometry.{Geometry};
 ghost use Rattle.iso_model.specs.declared.limits.TheConstants.{LAST};
@@ -24,9 +24,8 @@ ghost use Rattle.store_scripts.specs.Told.{answered, no_notes, noted, notes_afte
 
 /// Where the transactions that commit in a script keep to the stores, the history after it is one by calls of the stores (`by_calls`).
 /// The calls of a transaction that commits, as its lines and their replies tell them, answer as one thread's calls on the map directly
-/// before the commit, and end in the map directly after it (`commits`). Those of a live transaction answer so by the map at its begin (`live`), and where it writes nothing,
-/// each of them by that map alone (`read_only`); its accesses are those of the calls that are told, and others that write
-/// neither region (`parts`).
+/// before the commit, and end in the map directly after it (`commits`). Those of a live transaction answer so by the map at its begin
+/// (`live`), and where it writes nothing, each of them by that map alone (`read_only`).
 pub fn store_calls_of_a_script_answer_in_order()
     ensures by_calls { (W : World) (lines : List (ℕ × Line)) → BeginsWell W → AreLines lines → CommitsKeep W no_notes lines → let V = after W lines in
         IsByBoth (image_hash V.geometry) (image_tree V.geometry) V.geometry V.history (last W.history) }
@@ -39,7 +38,12 @@ pub fn store_calls_of_a_script_answer_in_order()
     ensures read_only { (W : World) (lines : List (ℕ × Line)) (client : ℕ) (t : Live) → BeginsWell W → AreLines lines → CommitsKeep W no_notes lines → let V = after W lines in
         attached V client ≡ Some t → IsTrue (notes_after W no_notes lines t.number).kept → IsFalse (has_write t.accesses)
         → ToldByMap V.geometry (notes_after W no_notes lines t.number) (array_at V.history t.begin) }
-    ensures parts { (W : World) (lines : List (ℕ × Line)) (client : ℕ) (t : Live) → BeginsWell W → AreLines lines → CommitsKeep W no_notes lines → let V = after W lines in
+{}
+
+/// The accesses of a live transaction that keeps to the stores are those of the calls that its lines tell, each made on what the
+/// transaction was shown and local for its store, and others that write neither region, whatever other transactions do.
+pub fn told_calls_are_parts()
+    ensures { (W : World) (lines : List (ℕ × Line)) (client : ℕ) (t : Live) → IsWorld W → W.live ≡ [] → AreLines lines → let V = after W lines in
         attached V client ≡ Some t → IsTrue (notes_after W no_notes lines t.number).kept
         → IsToldOf V.geometry (array_at V.history t.begin) t.accesses t.mode (notes_after W no_notes lines t.number) }
 {}

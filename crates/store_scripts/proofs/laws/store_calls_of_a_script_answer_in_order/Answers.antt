@@ -3,23 +3,19 @@ use Rattle.iso_model.specs.Script.{after}
 use Rattle.store_scripts.specs.Told.{no_notes, notes_after}
 use Rattle.store_scripts.proofs.Commits.{commits_told}
 use Rattle.store_scripts.proofs.Lines.{noted_after, noted_begins}
-use Rattle.store_scripts.proofs.Order.{live_told, read_only_told, told_is}
+use Rattle.store_scripts.proofs.Order.{live_told, read_only_told}
 use Rattle.store_scripts.proofs.laws.store_calls_of_a_script_answer_in_order.Goals as goal
 
 pub returns-clause-by_calls : goal.returns-clause-by_calls
-returns-clause-by_calls _ = λ W lines begins good keeps. (noted_after (last W.history) W no_notes lines (noted_begins W begins) good keeps).by
+returns-clause-by_calls _ = λ W lines begins good keeps. (noted_after (Unit {0}) (last W.history) W no_notes lines (noted_begins W begins) good (λ q. keeps)).by tt
 
 pub returns-clause-commits : goal.returns-clause-commits
 returns-clause-commits _ = commits_told
 
 pub returns-clause-live : goal.returns-clause-live
 returns-clause-live _ = λ W lines client t begins good keeps found kept.
-    live_told (last W.history) (after W lines) (notes_after W no_notes lines) (noted_after (last W.history) W no_notes lines (noted_begins W begins) good keeps) client t found kept
+    live_told (last W.history) (after W lines) (notes_after W no_notes lines) (noted_after (Unit {0}) (last W.history) W no_notes lines (noted_begins W begins) good (λ q. keeps)) client t found kept
 
 pub returns-clause-read_only : goal.returns-clause-read_only
 returns-clause-read_only _ = λ W lines client t begins good keeps found kept none.
-    read_only_told (last W.history) (after W lines) (notes_after W no_notes lines) (noted_after (last W.history) W no_notes lines (noted_begins W begins) good keeps) client t found kept none
-
-pub returns-clause-parts : goal.returns-clause-parts
-returns-clause-parts _ = λ W lines client t begins good keeps found kept.
-    told_is (last W.history) (after W lines) (notes_after W no_notes lines) (noted_after (last W.history) W no_notes lines (noted_begins W begins) good keeps) client t found kept
+    read_only_told (last W.history) (after W lines) (notes_after W no_notes lines) (noted_after (Unit {0}) (last W.history) W no_notes lines (noted_begins W begins) good (λ q. keeps)) client t found kept none
