@@ -33,8 +33,8 @@ found_starts (b ∷ bytes) = rw (no_letter b) (and_no (nat_eq 99 (digit_of (b / 
 pairs_starts : (pairs : List (List ℕ × List ℕ)) → starts (codes "ok comm") (reply_text (Pairs pairs)) ≡ false
 unfolding reply_text
 pairs_starts [] = refl
-pairs_starts (([] , value) ∷ pairs) = refl
-pairs_starts (((b ∷ bytes) , value) ∷ pairs) = rw (no_letter b) (and_no (nat_eq 99 (digit_of (b / 16))))
+pairs_starts (([], value) ∷ pairs) = refl
+pairs_starts (((b ∷ bytes), value) ∷ pairs) = rw (no_letter b) (and_no (nat_eq 99 (digit_of (b / 16))))
 
 shown_starts : (bytes : List ℕ) → starts (codes "ok comm") (reply_text (Shown bytes)) ≡ false
 unfolding reply_text

@@ -55,14 +55,6 @@ fn main(rt: HostRuntime) -> ExitCode {
         return exit_of(8);
     };
     let disk = FileDisk::new(files, alloc);
-    let ended = isotope(
-        &rt,
-        alloc,
-        &words,
-        disk,
-        &mut input,
-        &mut output,
-        &Open,
-    );
+    let ended = isotope(&rt, alloc, &words, disk, &mut input, &mut output, &Open);
     exit_of(ended.status)
 }

@@ -1,8 +1,8 @@
 // The file disk over a real file: its bytes, its length, and its faults after each answer.
+use crate::Open;
 use crate::file_disk::FileDisk;
 use iso_disk::{Disk, DiskFault, Image};
 use iso_io::{MemSink, MemSource};
-use crate::Open;
 use iso_top::isotope;
 use std::alloc::Allocator;
 use std::fs::{self, File, Metadata, OpenOptions};
@@ -147,15 +147,7 @@ fn a_good_script_ends_with_status_0(rt: HostRuntime) -> Result<(), Fail> {
     let mut input = MemSource::new(script.to_vec(alloc)?, Vec::new(alloc));
     let mut output = MemSink::new(alloc, Vec::new(alloc));
     let disk = FileDisk::new(rt.clone()?, alloc);
-    let ended = isotope(
-        &rt,
-        alloc,
-        &words,
-        disk,
-        &mut input,
-        &mut output,
-        &Open,
-    );
+    let ended = isotope(&rt, alloc, &words, disk, &mut input, &mut output, &Open);
     assert_eq!(rt; ended.status, 0);
     assert_eq!(rt; ended.image.faults(), 0);
     assert_eq!(rt;

@@ -103,15 +103,7 @@ pub fn threads_over<R: Threads + Wait + Sync>(
     let words = words_of(alloc, line)?;
     let mut source = source;
     let mut sink = sink;
-    let ended = isotope(
-        rt,
-        alloc,
-        &words,
-        disk,
-        &mut source,
-        &mut sink,
-        &Open,
-    );
+    let ended = isotope(rt, alloc, &words, disk, &mut source, &mut sink, &Open);
     let output = sink.bytes().to_vec(alloc)?;
     Ok(Outcome {
         status: ended.status,
