@@ -1,5 +1,5 @@
 -- Where a call of a store, a mark and an end lead, with what is told of the transactions.
-use Rattle.std.proofs.Common.{◌≡◌, ◌≢◌, sym, refl, subst, ℕ, ◌+◌, ◌-◌, ◌≤◌, ◌==◌, ◌&&◌, not, Bool, true, false, cond, IsTrue, List, [], ◌∷◌, length, drop, Option, Some, None, Result, Ok, arith}
+use Rattle.std.proofs.Common.{◌≡◌, ◌≢◌, ◌∙◌, sym, refl, subst, ℕ, ◌+◌, ◌-◌, ◌≤◌, ◌==◌, ◌&&◌, not, Bool, true, false, cond, IsTrue, List, [], ◌∷◌, ◌++◌, length, drop, Option, Some, None, Result, Ok, arith}
 use Rattle.std.specs.Prelude.{nat_lt}
 use Rattle.std.specs.List.{list_all}
 use Rattle.std.proofs.lemmas.Bool.{and_parts, eqb-false, ltb-false, ltb-true}
@@ -30,15 +30,18 @@ use Rattle.iso_model.specs.Worlds.{IsLive}
 use Rattle.iso_model.proofs.Distinct.{all_filter}
 use Rattle.iso_model.proofs.Growth.{both_of}
 use Rattle.iso_model.proofs.Worlds.{commit, commits, live_at}
+use Rattle.store_laws.specs.Both.{BothWellFormed}
 use Rattle.store_laws.specs.Calls.{KeyCall, StoreAnswer}
 use Rattle.store_laws.specs.Tree.{TreeCall}
+use Rattle.store_laws.proofs.TwoStores.{both_well_formed}
 use Rattle.store_laws.proofs.Longer.{array_longer, stays_by_both}
-use Rattle.store_scripts.specs.Kept.{IsToldOf}
 use Rattle.store_scripts.specs.Stores.{image_hash, image_tree}
 use Rattle.store_scripts.specs.Told.{Notes, OfHash, OfTree, answered, spares_stores, told_more}
 use Rattle.store_scripts.proofs.Growing.{hash_told, mark_told, of_both, tree_told}
 use Rattle.store_scripts.proofs.Locality.{IsHashCall, IsTreeCall}
-use Rattle.store_scripts.proofs.Noted.{Goes, IsKept, IsNoted, changes, choose, notes_by, quiet, stays}
+use Rattle.store_scripts.proofs.Noted.{Goes, Holds, IsKept, IsNoted, changes, choose, notes_by, quiet, stays}
+use Rattle.store_scripts.proofs.Blocks.{hash_blocks, tree_blocks}
+use Rattle.store_scripts.proofs.Reading.{front_reads, hash_by_map, marked_writes, tree_by_map}
 use Rattle.store_scripts.proofs.Steps.{called, kept_of, leaves}
 
 serial_is : (m : Mode) → is_serial m ≡ true → m ≡ Serial
@@ -56,6 +59,12 @@ module _ (Q : Type 0) (n : ℕ) (W : World) (notes : Notes) (is : IsNoted Q n W 
   abbrev ended : {R : Type 0} → Program (Result R StoreError) → List Access × Option (Result R StoreError)
   ended program = outcome (MAX_ACCESSES - length t.accesses) program (array_of W t)
 
+  -- the stores at the transaction's begin
+  begins_well : n ≤ t.begin → Q → BothWellFormed (image_hash W.geometry) (image_tree W.geometry) (array_at W.history t.begin)
+  begins_well since q =
+      both_well_formed (image_hash W.geometry) (image_tree W.geometry) (hash_blocks W.geometry is.world.valid) (tree_blocks W.geometry is.world.valid) W.geometry W.history n t.begin (is.by q) since
+      (live_at W c t is.world found).begin
+
   pub in_store_goes : (blocks : ℕ) (x : Reply × World) → (blocks ≢ 0 → t.mode ≡ Serial → Goes Q n W notes c op (Some t) x) → Goes Q n W notes c op (Some t) (in_store W t blocks x)
   in_store_goes blocks x goes =
       choose Q n W notes c op (Some t) (blocks == 0) _ _ (stays Q n W notes is c op (Some t) reply.NoStore refusals.store) (λ some. go (is_serial t.mode) refl (eqb-false blocks 0 some))
@@ -71,7 +80,13 @@ module _ (Q : Type 0) (n : ℕ) (W : World) (notes : Notes) (is : IsNoted Q n W 
       called Q n W notes is c op t program answer (λ r. OfHash call (name r)) (ended program).1 found refusals.full refusals.error named refl
       (λ r done ends done_is told.
       let is_call = subst (λ (d : List Access). IsHashCall W.geometry call (array_of W t) d (name r)) (sym done_is) (local r ends) in
-      hash_told W.geometry (array_at W.history t.begin) t.accesses t.mode (notes t.number) told call (name r) done serial is_call.local is_call.spare)
+      record {
+        since = told.since;
+        made = λ more. hash_told W.geometry (array_at W.history t.begin) t.accesses t.mode (notes t.number) (told.made more) call (name r) done serial is_call.local is_call.spare;
+        by_map = λ q reads.
+            let before = front_reads t.accesses done reads in
+            hash_by_map W.geometry (array_at W.history t.begin) t.accesses done (notes t.number) (length (t.accesses ++ done)) before (told.by_map q before) call (name r) (begins_well told.since q).first is_call.local;
+      })
 
   pub tree_goes : {R : Type 0} (program : Program (Result R StoreError)) (answer : R → Reply) (call : TreeCall) (name : R → StoreAnswer) → ((r : R) → answered op (answer r) ≡ Some (OfTree call (name r)))
       → t.mode ≡ Serial → ((r : R) → (ended program).1 ≡ Some (Ok r) → IsTreeCall W.geometry call (array_of W t) (ended program).0 (name r)) → Goes Q n W notes c op (Some t) (store_step W t program answer)
@@ -80,7 +95,13 @@ module _ (Q : Type 0) (n : ℕ) (W : World) (notes : Notes) (is : IsNoted Q n W 
       called Q n W notes is c op t program answer (λ r. OfTree call (name r)) (ended program).1 found refusals.full refusals.error named refl
       (λ r done ends done_is told.
       let is_call = subst (λ (d : List Access). IsTreeCall W.geometry call (array_of W t) d (name r)) (sym done_is) (local r ends) in
-      tree_told W.geometry (array_at W.history t.begin) t.accesses t.mode (notes t.number) told call (name r) done serial is_call.local is_call.spare)
+      record {
+        since = told.since;
+        made = λ more. tree_told W.geometry (array_at W.history t.begin) t.accesses t.mode (notes t.number) (told.made more) call (name r) done serial is_call.local is_call.spare;
+        by_map = λ q reads.
+            let before = front_reads t.accesses done reads in
+            tree_by_map W.geometry (array_at W.history t.begin) t.accesses done (notes t.number) (length (t.accesses ++ done)) before (told.by_map q before) call (name r) (begins_well told.since q).second is_call.local;
+      })
 
 module _ (Q : Type 0) (n : ℕ) (W : World) (notes : Notes) (is : IsNoted Q n W notes) (c : ℕ) (t : Live) (found : attached W c ≡ Some t) where
   -- a mark on an access since the last call
@@ -93,19 +114,21 @@ module _ (Q : Type 0) (n : ℕ) (W : World) (notes : Notes) (is : IsNoted Q n W 
 
       go : (o : Option MarkError) → Goes Q n W notes c (Mark off len) (Some t) (marked_step W t span o)
       go (Some fault) = stays Q n W notes is c (Mark off len) (Some t) (mark_refused fault) refl
-      go None = changes Q n W notes is c (Mark off len) t reply.Done (marked span t.accesses) found (λ more.
+      go None =
           let told = notes t.number in
-          let both = and_parts (told.kept && list_all (spares_stores W.geometry) (drop (length t.accesses) (marked span t.accesses))) (nat_lt told.over (length t.accesses)) more in
-          let was = kept_of Q n W notes is c (Mark off len) t found (and_parts told.kept _ both.0).0 in (
-            was.0,
-            mark_told W.geometry (array_at W.history t.begin) t.accesses t.mode told was.1 span
-                (told_more W.geometry (Mark off len) reply.Done t.accesses (marked span t.accesses) told None).kept (ltb-true told.over (length t.accesses) both.1),
-          ))
+          let kept = kept_of Q n W notes is c (Mark off len) t found in
+          changes Q n W notes is c (Mark off len) t reply.Done (marked span t.accesses) found (record {
+            since = kept.since;
+            made = λ more.
+                let both = and_parts (told.kept && list_all (spares_stores W.geometry) (drop (length t.accesses) (marked span t.accesses))) (nat_lt told.over (length t.accesses)) more in
+                mark_told W.geometry (array_at W.history t.begin) t.accesses t.mode told (kept.made (and_parts told.kept _ both.0).0) span
+                (told_more W.geometry (Mark off len) reply.Done t.accesses (marked span t.accesses) told None).kept (ltb-true told.over (length t.accesses) both.1);
+            by_map = λ q reads. let was = kept.by_map q (sym (marked_writes span t.accesses) ∙ reads) in record { hash = was.hash; tree = was.tree };
+          })
 
-  longer : (u : Live) (notes : Notes) → IsLive W u → IsKept n W.geometry W.history notes u → IsKept n W.geometry (appended W.history (commit t)) notes u
-  longer u notes live kept = λ more.
-      let was = kept more in
-      (was.0, subst (λ (A : Array). IsToldOf W.geometry A u.accesses u.mode (notes u.number)) (sym (array_longer W.history (commit t) u.begin is.world.history.first live.begin)) was.1)
+  longer : (u : Live) (notes : Notes) → IsLive W u → IsKept Q n W.geometry W.history notes u → IsKept Q n W.geometry (appended W.history (commit t)) notes u
+  longer u notes live kept =
+      subst (λ (A : Array). Holds Q n W.geometry A u.begin u.accesses u.mode (notes u.number)) (sym (array_longer W.history (commit t) u.begin is.world.history.first live.begin)) kept
 
   committed : (k : ℕ) → has_write t.accesses ≡ true → clash W.geometry W.history t.mode t.begin t.accesses ≡ None → last W.history ≢ LAST → need W t ≤ W.geometry.log - used W
       → (Q → IsTrue (notes t.number).kept) → Goes Q n W notes c End (Some t) (reply.Committed k, after_commit W t)
@@ -116,12 +139,12 @@ module _ (Q : Type 0) (n : ℕ) (W : World) (notes : Notes) (is : IsNoted Q n W 
       let low : n ≤ last W.history = is.low in
       record {
         next = omega arith;
-        each = all_filter (IsKept n W.geometry (appended W.history (commit t)) (notes_by W notes c End (Some t) x)) (λ (u : Live). not (u.number == t.number)) W.live
-            (both_of (IsLive W) (IsKept n W.geometry W.history notes) (IsKept n W.geometry (appended W.history (commit t)) (notes_by W notes c End (Some t) x))
+        each = all_filter (IsKept Q n W.geometry (appended W.history (commit t)) (notes_by W notes c End (Some t) x)) (λ (u : Live). not (u.number == t.number)) W.live
+            (both_of (IsLive W) (IsKept Q n W.geometry W.history notes) (IsKept Q n W.geometry (appended W.history (commit t)) (notes_by W notes c End (Some t) x))
             (λ u live was. longer u (notes_by W notes c End (Some t) x) live (quiet Q n W notes is c End W.geometry W.history (Some t) x u refl was)) W.live is.world.live is.each);
         low = omega arith;
         by = λ q. stays_by_both (image_hash W.geometry) (image_tree W.geometry) W.geometry W.history (commit t) n (is.by q) leads.world.isolated
-            (of_both W.geometry W.history (commit t) (notes t.number) (kept_of Q n W notes is c End t found (kept q)).1);
+            (of_both W.geometry W.history (commit t) (notes t.number) ((kept_of Q n W notes is c End t found).made (kept q)));
       }
 
   commit_goes : (o : Option Clash) → has_write t.accesses ≡ true → clash W.geometry W.history t.mode t.begin t.accesses ≡ o

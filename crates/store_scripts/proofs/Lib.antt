@@ -1,6 +1,8 @@
 pub mod Growing
 pub mod Locality
 pub mod Finding
+pub mod Reading
+pub mod Blocks
 pub mod Noted
 pub mod Steps
 pub mod Calls

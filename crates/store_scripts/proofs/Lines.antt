@@ -243,7 +243,7 @@ noted_after Q n W notes (line ∷ lines) is good keeps =
 pub noted_begins : (W : World) → BeginsWell W → IsNoted (Unit {0}) (last W.history) W no_notes
 noted_begins W begins = record {
   world = begins.world;
-  each = subst (λ (live : List Live). AllByRecursion (IsKept (last W.history) W.geometry W.history no_notes) live) (sym begins.none) tt;
+  each = subst (λ (live : List Live). AllByRecursion (IsKept (Unit {0}) (last W.history) W.geometry W.history no_notes) live) (sym begins.none) tt;
   low = omega arith;
   by = λ q. begins_by_both (image_hash W.geometry) (image_tree W.geometry) W.geometry W.history begins.world.history begins.world.isolated begins.stores;
   fresh = λ number past. refl;
@@ -253,7 +253,7 @@ noted_begins W begins = record {
 pub noted_alone : (W : World) → IsWorld W → W.live ≡ [] → IsNoted ⊥ 0 W no_notes
 noted_alone W is none = record {
   world = is;
-  each = subst (λ (live : List Live). AllByRecursion (IsKept 0 W.geometry W.history no_notes) live) (sym none) tt;
+  each = subst (λ (live : List Live). AllByRecursion (IsKept ⊥ 0 W.geometry W.history no_notes) live) (sym none) tt;
   low = omega arith;
   by = λ q. absurd q;
   fresh = λ number past. refl;

@@ -4,9 +4,11 @@ use Rattle.std.specs.List.{AllByRecursion, list_all}
 use Rattle.std.proofs.lemmas.Bool.{and_parts, cases_eq}
 use Rattle.iso_model.specs.declared.access.Access.{Access}
 use Rattle.iso_model.specs.declared.access.Geometry.{Geometry}
+use Rattle.iso_model.specs.declared.access.Mode.{Mode}
 use Rattle.iso_model.specs.declared.script.Op.{Op}
 use Rattle.iso_model.specs.declared.script.Reply.{Reply}
-use Rattle.iso_model.specs.Effect.{is_write}
+use Rattle.iso_model.specs.Array.{Array}
+use Rattle.iso_model.specs.Effect.{has_write, is_write}
 use Rattle.iso_model.specs.History.{History, array_at, last}
 use Rattle.iso_model.specs.Step.{hash_area, tree_area, with_accesses}
 use Rattle.iso_model.specs.World.{Live, World, attached, with}
@@ -15,21 +17,37 @@ use Rattle.iso_model.proofs.Growth.{all_weaker}
 use Rattle.store_laws.specs.Both.{IsByBoth}
 use Rattle.store_laws.specs.Calls.{in_area}
 use Rattle.store_laws.specs.Region.{SpareRegion}
-use Rattle.store_scripts.specs.Kept.{IsToldOf}
+use Rattle.store_scripts.specs.Kept.{IsToldOf, ToldByMap}
 use Rattle.store_scripts.specs.Stores.{image_hash, image_tree}
 use Rattle.store_scripts.specs.Told.{Answered, Notes, Told, accesses_or_none, answered, nothing_told, spares_calls, spares_stores, told_by, told_more}
 use Rattle.store_scripts.proofs.Finding.{attached_with}
 use Rattle.store_scripts.proofs.Growing.{other_told, same_told}
+use Rattle.store_scripts.proofs.Reading.{front_reads}
 
--- A transaction that keeps to the stores began at n or later, and what is told of it is true.
-abbrev pub IsKept : (n : ℕ) → Geometry → History → Notes → Live → Type 0
-IsKept n g H notes t = IsTrue (notes t.number).kept → (n ≤ t.begin) × IsToldOf g (array_at H t.begin) t.accesses t.mode (notes t.number)
+-- What is told of a transaction that began at n or later: it is true where the transaction keeps to the stores; and on the premise Q,
+-- where it wrote nothing, each call answered by the map at its begin.
+pub record Holds (Q : Type 0) (n : ℕ) (g : Geometry) (A : Array) (begin : ℕ) (accesses : List Access) (mode : Mode) (told : Told) : Type 0 where
+  pub since : n ≤ begin
+  pub made : IsTrue told.kept → IsToldOf g A accesses mode told
+  pub by_map : Q → has_write accesses ≡ false → ToldByMap g told A
+
+abbrev pub IsKept : (Q : Type 0) → (n : ℕ) → Geometry → History → Notes → Live → Type 0
+IsKept Q n g H notes t = Holds Q n g (array_at H t.begin) t.begin t.accesses t.mode (notes t.number)
+
+-- the same calls, where no more transactions count as keeping to the stores
+pub holds_same : (Q : Type 0) (n : ℕ) (g : Geometry) (A : Array) (begin : ℕ) (accesses : List Access) (mode : Mode) (told : Told) (kept : Bool) → Holds Q n g A begin accesses mode told
+    → (IsTrue kept → IsTrue told.kept) → Holds Q n g A begin accesses mode (record told { kept = kept })
+holds_same Q n g A begin accesses mode told kept holds back = record {
+  since = holds.since;
+  made = λ more. same_told g A accesses mode told (holds.made (back more)) kept;
+  by_map = λ q none. let was = holds.by_map q none in record { hash = was.hash; tree = was.tree };
+}
 
 -- A sound world: what is told of its live transactions is true, and nothing of later ones. Its commits after n are by calls, on the
 -- premise Q, by which those that commit keep to the stores.
 pub record IsNoted (Q : Type 0) (n : ℕ) (W : World) (notes : Notes) : Type 0 where
   pub world : IsWorld W
-  pub each : AllByRecursion (IsKept n W.geometry W.history notes) W.live
+  pub each : AllByRecursion (IsKept Q n W.geometry W.history notes) W.live
   pub low : n ≤ last W.history
   pub by : Q → IsByBoth (image_hash W.geometry) (image_tree W.geometry) W.geometry W.history n
   pub fresh : (number : ℕ) → W.next ≤ number → notes number ≡ nothing_told
@@ -41,7 +59,7 @@ notes_by W notes c op o x = λ number. told_by W.geometry c number op o x (notes
 -- where a line that is answered so leads
 pub record Goes (Q : Type 0) (n : ℕ) (W : World) (notes : Notes) (c : ℕ) (op : Op) (o : Option Live) (x : Reply × World) : Type 0 where
   pub next : W.next ≤ x.1.next
-  pub each : AllByRecursion (IsKept n x.1.geometry x.1.history (notes_by W notes c op o x)) x.1.live
+  pub each : AllByRecursion (IsKept Q n x.1.geometry x.1.history (notes_by W notes c op o x)) x.1.live
   pub low : n ≤ last x.1.history
   pub by : Q → IsByBoth (image_hash x.1.geometry) (image_tree x.1.geometry) x.1.geometry x.1.history n
 
@@ -92,27 +110,25 @@ module _ (Q : Type 0) (n : ℕ) (W : World) (notes : Notes) (is : IsNoted Q n W 
   owner_is t x told =
       ap (λ (b : Bool). cond b (told_more W.geometry op x.0 t.accesses (accesses_or_none (attached x.1 c)) told (answered op x.0)) told) (eq-eqb t.number t.number refl)
 
-  other_kept : (H : History) (t u : Live) (x : Reply × World) → u.number ≢ t.number → IsKept n W.geometry H notes u → IsKept n W.geometry H (notes_by W notes c op (Some t) x) u
+  other_kept : (H : History) (t u : Live) (x : Reply × World) → u.number ≢ t.number → IsKept Q n W.geometry H notes u → IsKept Q n W.geometry H (notes_by W notes c op (Some t) x) u
   other_kept H t u x other kept =
-      subst (λ (told : Told). IsTrue told.kept → (n ≤ u.begin) × IsToldOf W.geometry (array_at H u.begin) u.accesses u.mode told)
+      subst (λ (told : Told). Holds Q n W.geometry (array_at H u.begin) u.begin u.accesses u.mode told)
       (sym (other_is t u.number x (notes u.number) (λ e. other (sym e)))) kept
 
   -- a line that made no call which was answered Ok leaves what is told of calls
-  quiet_more : (g : Geometry) (A : List (List ℕ)) (u : Live) (before after : List Access) (r : Reply) (a : Option Answered) (told : Told) → a ≡ None
-      → (IsTrue told.kept → (n ≤ u.begin) × IsToldOf g A u.accesses u.mode told)
-      → IsTrue (told_more W.geometry op r before after told a).kept → (n ≤ u.begin) × IsToldOf g A u.accesses u.mode (told_more W.geometry op r before after told a)
-  quiet_more g A u before after r None told none kept = λ more.
+  quiet_more : (g : Geometry) (A : Array) (u : Live) (before after : List Access) (r : Reply) (a : Option Answered) (told : Told) → a ≡ None → Holds Q n g A u.begin u.accesses u.mode told
+      → Holds Q n g A u.begin u.accesses u.mode (told_more W.geometry op r before after told a)
+  quiet_more g A u before after r None told none kept =
+      holds_same Q n g A u.begin u.accesses u.mode told (told_more W.geometry op r before after told None).kept kept (λ more.
       let both = and_parts (told.kept && list_all (spares_stores W.geometry) (drop (length before) after)) (spares_calls op r told.over (length before)) more in
-      let was = kept (and_parts told.kept _ both.0).0 in
-      (was.0, same_told g A u.accesses u.mode told was.1 (told_more W.geometry op r before after told None).kept)
+      (and_parts told.kept _ both.0).0)
   quiet_more g A u before after r (Some call) told none kept = absurd (cc none)
 
-  pub quiet : (g : Geometry) (H : History) (o : Option Live) (x : Reply × World) (u : Live) → answered op x.0 ≡ None → IsKept n g H notes u → IsKept n g H (notes_by W notes c op o x) u
+  pub quiet : (g : Geometry) (H : History) (o : Option Live) (x : Reply × World) (u : Live) → answered op x.0 ≡ None → IsKept Q n g H notes u → IsKept Q n g H (notes_by W notes c op o x) u
   quiet g H None x u none kept = kept
   quiet g H (Some t) x u none kept =
       elim (t.number == u.number) as (λ (b : Bool).
-      IsTrue (cond b (told_more W.geometry op x.0 t.accesses (accesses_or_none (attached x.1 c)) (notes u.number) (answered op x.0)) (notes u.number)).kept
-      → (n ≤ u.begin) × IsToldOf g (array_at H u.begin) u.accesses u.mode (cond b (told_more W.geometry op x.0 t.accesses (accesses_or_none (attached x.1 c)) (notes u.number) (answered op x.0)) (notes u.number))) [
+      Holds Q n g (array_at H u.begin) u.begin u.accesses u.mode (cond b (told_more W.geometry op x.0 t.accesses (accesses_or_none (attached x.1 c)) (notes u.number) (answered op x.0)) (notes u.number))) [
         | true ↦ quiet_more g (array_at H u.begin) u t.accesses (accesses_or_none (attached x.1 c)) x.0 (answered op x.0) (notes u.number) none kept
         | false ↦ kept
       ]
@@ -121,15 +137,14 @@ module _ (Q : Type 0) (n : ℕ) (W : World) (notes : Notes) (is : IsNoted Q n W 
   pub stays : (o : Option Live) (r : Reply) → answered op r ≡ None → Goes Q n W notes c op o (r, W)
   stays o r none = record {
     next = omega arith;
-    each = all_weaker (IsKept n W.geometry W.history notes) (IsKept n W.geometry W.history (notes_by W notes c op o (r, W))) (λ u. quiet W.geometry W.history o (r, W) u none) W.live is.each;
+    each = all_weaker (IsKept Q n W.geometry W.history notes) (IsKept Q n W.geometry W.history (notes_by W notes c op o (r, W))) (λ u. quiet W.geometry W.history o (r, W) u none) W.live is.each;
     low = is.low;
     by = is.by;
   }
 
   -- the transaction of a client gets other accesses
   pub changes : (t : Live) (r : Reply) (accesses : List Access) → attached W c ≡ Some t
-      → (IsTrue (told_more W.geometry op r t.accesses accesses (notes t.number) (answered op r)).kept
-      → (n ≤ t.begin) × IsToldOf W.geometry (array_at W.history t.begin) accesses t.mode (told_more W.geometry op r t.accesses accesses (notes t.number) (answered op r)))
+      → Holds Q n W.geometry (array_at W.history t.begin) t.begin accesses t.mode (told_more W.geometry op r t.accesses accesses (notes t.number) (answered op r))
       → Goes Q n W notes c op (Some t) (r, with_accesses W t accesses)
   changes t r accesses found told =
       let new : Live = record t { accesses = accesses } in
@@ -139,28 +154,30 @@ module _ (Q : Type 0) (n : ℕ) (W : World) (notes : Notes) (is : IsNoted Q n W 
       sym (owner_is t x (notes t.number) ∙ ap (λ (after : List Access). told_more W.geometry op r t.accesses after (notes t.number) (answered op r)) after_is) in
       record {
         next = omega arith;
-        each = with_each (IsKept n W.geometry W.history (notes_by W notes c op (Some t) x)) new W.live
-            (subst (λ (m : Told). IsTrue m.kept → (n ≤ t.begin) × IsToldOf W.geometry (array_at W.history t.begin) accesses t.mode m) told_is told)
-            (all_weaker (IsKept n W.geometry W.history notes) (λ (u : Live). u.number ≢ t.number → IsKept n W.geometry W.history (notes_by W notes c op (Some t) x) u)
+        each = with_each (IsKept Q n W.geometry W.history (notes_by W notes c op (Some t) x)) new W.live
+            (subst (λ (m : Told). Holds Q n W.geometry (array_at W.history t.begin) t.begin accesses t.mode m) told_is told)
+            (all_weaker (IsKept Q n W.geometry W.history notes) (λ (u : Live). u.number ≢ t.number → IsKept Q n W.geometry W.history (notes_by W notes c op (Some t) x) u)
             (λ u kept other. other_kept W.history t u x other kept) W.live is.each);
         low = is.low;
         by = is.by;
       }
 
   -- with accesses of a line that made no call which was answered Ok
-  more_told : (t : Live) (r : Reply) (done : List Access) (a : Option Answered) → a ≡ None → IsKept n W.geometry W.history notes t
-      → IsTrue (told_more W.geometry op r t.accesses (t.accesses ++ done) (notes t.number) a).kept
-      → (n ≤ t.begin) × IsToldOf W.geometry (array_at W.history t.begin) (t.accesses ++ done) t.mode (told_more W.geometry op r t.accesses (t.accesses ++ done) (notes t.number) a)
-  more_told t r done None none kept = λ more.
-      let told = notes t.number in
-      let after = t.accesses ++ done in
-      let both = and_parts (told.kept && list_all (spares_stores W.geometry) (drop (length t.accesses) after)) (spares_calls op r told.over (length t.accesses)) more in
-      let parts = and_parts told.kept (list_all (spares_stores W.geometry) (drop (length t.accesses) after)) both.0 in
-      let was = kept parts.0 in
-      let spare = spared W.geometry done (sym (ap (list_all (spares_stores W.geometry)) (drop_past t.accesses done)) ∙ parts.1) in
-      (was.0, other_told W.geometry (array_at W.history t.begin) t.accesses t.mode told was.1 done (told_more W.geometry op r t.accesses after told None).kept spare.0 spare.1)
+  more_told : (t : Live) (r : Reply) (done : List Access) (a : Option Answered) → a ≡ None → IsKept Q n W.geometry W.history notes t
+      → Holds Q n W.geometry (array_at W.history t.begin) t.begin (t.accesses ++ done) t.mode (told_more W.geometry op r t.accesses (t.accesses ++ done) (notes t.number) a)
+  more_told t r done None none kept = record {
+    since = kept.since;
+    made = λ more.
+        let told = notes t.number in
+        let after = t.accesses ++ done in
+        let both = and_parts (told.kept && list_all (spares_stores W.geometry) (drop (length t.accesses) after)) (spares_calls op r told.over (length t.accesses)) more in
+        let parts = and_parts told.kept (list_all (spares_stores W.geometry) (drop (length t.accesses) after)) both.0 in
+        let spare = spared W.geometry done (sym (ap (list_all (spares_stores W.geometry)) (drop_past t.accesses done)) ∙ parts.1) in
+        other_told W.geometry (array_at W.history t.begin) t.accesses t.mode told (kept.made parts.0) done (told_more W.geometry op r t.accesses after told None).kept spare.0 spare.1;
+    by_map = λ q reads. let was = kept.by_map q (front_reads t.accesses done reads) in record { hash = was.hash; tree = was.tree };
+  }
   more_told t r done (Some call) none kept = absurd (cc none)
 
-  pub adds : (t : Live) (r : Reply) (done : List Access) → attached W c ≡ Some t → IsKept n W.geometry W.history notes t → answered op r ≡ None
+  pub adds : (t : Live) (r : Reply) (done : List Access) → attached W c ≡ Some t → IsKept Q n W.geometry W.history notes t → answered op r ≡ None
       → Goes Q n W notes c op (Some t) (r, with_accesses W t (t.accesses ++ done))
   adds t r done found kept none = changes t r (t.accesses ++ done) found (more_told t r done (answered op r) none kept)

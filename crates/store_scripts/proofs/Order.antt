@@ -1,5 +1,5 @@
 -- The calls that are told of a transaction answer in order, by what its parts are.
-use Rattle.std.proofs.Common.{◌≡◌, ◌≢◌, ◌∙◌, sym, refl, ap, subst, ℕ, zero, suc, ◌+◌, ◌-◌, ◌<◌, ◌≤◌, ◌==◌, Bool, true, false, cond, IsTrue, IfSome, List, [], ◌∷◌, map, slice_get, Option, Some, None, arith}
+use Rattle.std.proofs.Common.{◌≡◌, ◌∙◌, sym, ap, subst, ℕ, ◌+◌, ◌-◌, ◌<◌, ◌≤◌, ◌==◌, Bool, true, false, cond, IsTrue, IfSome, List, [], ◌∷◌, slice_get, Option, Some, None, arith}
 use Rattle.std.specs.Prelude.{nat_lt}
 use Rattle.std.proofs.lemmas.List.{length-append}
 use Rattle.iso_model.specs.declared.access.Access.{Access}
@@ -13,51 +13,26 @@ use Rattle.iso_model.specs.declared.script.Reply.TheVariants as reply
 use Rattle.iso_model.specs.Array.{Array}
 use Rattle.iso_model.specs.Conflict.{clash}
 use Rattle.iso_model.specs.Effect.{has_write, own}
-use Rattle.iso_model.specs.Geometry.{is_valid}
-use Rattle.iso_model.specs.HashRegion.{IsHashRegion, Pairs, hash_map}
 use Rattle.iso_model.specs.History.{array_at, last}
 use Rattle.iso_model.specs.Premises.{appended}
-use Rattle.iso_model.specs.Step.{after_commit, after_leaving, array_of, commit_step, end_step, hash_area, in_transaction, need, step, tree_area}
-use Rattle.iso_model.specs.TreeRegion.{IsTreeRegion, tree_map}
+use Rattle.iso_model.specs.Step.{after_commit, after_leaving, array_of, commit_step, end_step, in_transaction, need, step}
 use Rattle.iso_model.specs.World.{Live, World, attached, is_at_client, used}
 use Rattle.iso_model.specs.Worlds.{IsWorld}
 use Rattle.iso_model.proofs.Distinct.{all_find}
-use Rattle.iso_model.proofs.HashAccesses.{hash_area_is}
-use Rattle.iso_model.proofs.TreeAccesses.{tree_area_is}
 use Rattle.iso_model.proofs.Worlds.{commit, live_at, step_leads}
 use Rattle.store_laws.specs.Both.{AreMixed, BothInOrder, IsOfBoth, firsts, seconds}
 use Rattle.store_laws.specs.BothStores.{StorePart}
-use Rattle.store_laws.specs.Calls.{KeyCall, StoreAnswer, in_area, key_act}
-use Rattle.store_laws.specs.HashBlocks.{hash_is_of_its_blocks}
+use Rattle.store_laws.specs.Calls.{KeyCall}
 use Rattle.store_laws.specs.Parts.{answers_in, calls_in, run}
-use Rattle.store_laws.specs.Region.{IsOfItsBlocks, MapStore}
-use Rattle.store_laws.specs.Tree.{TreeCall, tree_act}
-use Rattle.store_laws.specs.TreeBlocks.{tree_is_of_its_blocks}
+use Rattle.store_laws.specs.Tree.{TreeCall}
 use Rattle.store_laws.proofs.Longer.{array_longer, last_of, stays_by_both}
-use Rattle.store_laws.proofs.TwoStores.{both_commits, both_live, both_read_only, both_well_formed}
+use Rattle.store_laws.proofs.TwoStores.{both_commits, both_live, both_well_formed}
 use Rattle.store_scripts.specs.Kept.{IsToldOf, ToldByMap, ToldInOrder}
-use Rattle.store_scripts.specs.Stores.{IfAny, image_hash, image_tree, pairs_if_any}
+use Rattle.store_scripts.specs.Stores.{image_hash, image_tree}
 use Rattle.store_scripts.specs.Told.{Notes, Told}
+use Rattle.store_scripts.proofs.Blocks.{hash_blocks, tree_blocks}
 use Rattle.store_scripts.proofs.Growing.{AreAll, all_are, all_parts, of_both}
 use Rattle.store_scripts.proofs.Noted.{IsKept, IsNoted}
-
--- THE STORES OF AN IMAGE DEPEND ON THEIR BLOCKS ALONE
-abbrev store_of : (Call : Type 0) → (Call → Pairs → StoreAnswer × Pairs) → (ℕ → Bool) → (Array → Type 0) → (Array → Pairs) → MapStore
-store_of Call act has Well map_of = record { Map = Pairs; Call = Call; Answer = StoreAnswer; has_block = has; IsWellFormed = Well; map_of = map_of; act = act }
-
-if_any_blocks : (Call : Type 0) (act : Call → Pairs → StoreAnswer × Pairs) (has : ℕ → Bool) (Well : Array → Type 0) (map_of : Array → Pairs) (n : ℕ)
-    → (n ≢ 0 → IsOfItsBlocks (store_of Call act has Well map_of))
-    → IsOfItsBlocks (store_of Call act has (λ (A : Array). IfAny n (Well A)) (λ (A : Array). pairs_if_any n (map_of A)))
-if_any_blocks Call act has Well map_of zero is = record { well_formed = λ A B same well. tt; map_is = λ A B same well. refl }
-if_any_blocks Call act has Well map_of (suc n) is = let blocks = is (λ e. absurd (omega arith)) in record { well_formed = blocks.well_formed; map_is = blocks.map_is }
-
-hash_blocks : (g : Geometry) → IsTrue (is_valid g) → IsOfItsBlocks (image_hash g)
-hash_blocks g valid =
-    if_any_blocks KeyCall key_act (in_area (hash_area g)) (IsHashRegion (hash_area g)) (hash_map (hash_area g)) g.hash (λ some. hash_is_of_its_blocks (hash_area g) (hash_area_is g valid some))
-
-tree_blocks : (g : Geometry) → IsTrue (is_valid g) → IsOfItsBlocks (image_tree g)
-tree_blocks g valid =
-    if_any_blocks TreeCall tree_act (in_area (tree_area g)) (IsTreeRegion (tree_area g)) (tree_map (tree_area g)) g.tree (λ some. tree_is_of_its_blocks (tree_area g) (tree_area_is g valid some))
 
 -- WHAT IS TOLD, BY ITS PARTS
 told_in_order : (g : Geometry) (told : Told) (parts : List StorePart) (A B : Array) → calls_in (firsts parts) ≡ told.hash.calls → answers_in (firsts parts) ≡ told.hash.answers
@@ -72,7 +47,15 @@ told_in_order g told parts A B hash_calls hash_answers tree_calls tree_answers o
 -- what is told of the transaction of a client is true
 kept_is : (Q : Type 0) (n : ℕ) (V : World) (notes : Notes) → IsNoted Q n V notes → (c : ℕ) (t : Live) → attached V c ≡ Some t → IsTrue (notes t.number).kept
     → (n ≤ t.begin) × IsToldOf V.geometry (array_at V.history t.begin) t.accesses t.mode (notes t.number)
-kept_is Q n V notes is c t found kept = all_find (IsKept n V.geometry V.history notes) (λ u. is_at_client c u.place) V.live t is.each found kept
+kept_is Q n V notes is c t found kept =
+    let holds = all_find (IsKept Q n V.geometry V.history notes) (λ u. is_at_client c u.place) V.live t is.each found in
+    (holds.since, holds.made kept)
+
+-- without a write, each call by the map at its begin
+pub read_only_told : (n : ℕ) (V : World) (notes : Notes) → IsNoted (Unit {0}) n V notes → (c : ℕ) (t : Live) → attached V c ≡ Some t → has_write t.accesses ≡ false
+    → ToldByMap V.geometry (notes t.number) (array_at V.history t.begin)
+read_only_told n V notes is c t found none =
+    (all_find (IsKept (Unit {0}) n V.geometry V.history notes) (λ u. is_at_client c u.place) V.live t is.each found).by_map tt none
 
 pub told_is : (Q : Type 0) (n : ℕ) (V : World) (notes : Notes) → IsNoted Q n V notes → (c : ℕ) (t : Live) → attached V c ≡ Some t → IsTrue (notes t.number).kept
     → IsToldOf V.geometry (array_at V.history t.begin) t.accesses t.mode (notes t.number)
@@ -103,17 +86,6 @@ module _ (n : ℕ) (V : World) (notes : Notes) (is : IsNoted (Unit {0}) n V note
       told_in_order g (notes t.number) parts A (own A t.accesses) all_is.hash_calls all_is.hash_answers all_is.tree_calls all_is.tree_answers
       (subst (λ (accesses : List Access). BothInOrder (image_hash g) (image_tree g) parts A (own A accesses)) all_is.are
       (both_live (image_hash g) (image_tree g) one two A parts all_is.made well))
-
-  pub read_only_told : has_write t.accesses ≡ false → ToldByMap g (notes t.number) A
-  read_only_told none =
-      let one = hash_blocks g is.world.valid in
-      let two = tree_blocks g is.world.valid in
-      let live = live_at V c t is.world found in
-      let by_map = both_read_only (image_hash g) (image_tree g) one two g V.history n t.begin parts (is.by tt) has.0 live.begin all_is.made (ap has_write all_is.are ∙ none) in
-      record {
-        hash = sym all_is.hash_answers ∙ by_map.first ∙ ap (map (λ call. ((image_hash g).act call ((image_hash g).map_of A)).0)) all_is.hash_calls;
-        tree = sym all_is.tree_answers ∙ by_map.second ∙ ap (map (λ call. ((image_tree g).act call ((image_tree g).map_of A)).0)) all_is.tree_calls;
-      }
 
   -- AN END THAT COMMITS
   commit_only : (o : Option Clash) (k : ℕ) → (commit_step V t o).0 ≡ reply.Committed k → (commit_step V t o ≡ (reply.Committed k, after_commit V t)) × (k ≡ last V.history + 1)

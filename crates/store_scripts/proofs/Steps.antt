@@ -1,5 +1,5 @@
 -- Where each operation of a client leads, with what is told of the transactions.
-use Rattle.std.proofs.Common.{◌≡◌, sym, refl, subst, ℕ, ◌-◌, ◌≤◌, ◌==◌, ◌&&◌, not, Bool, true, false, cond, IsTrue, List, [], ◌∷◌, ◌++◌, length, nat_le, Option, Some, None, Result, Ok, Err, arith}
+use Rattle.std.proofs.Common.{◌≡◌, sym, refl, subst, ℕ, ◌-◌, ◌==◌, ◌&&◌, not, Bool, true, false, cond, List, [], ◌∷◌, ◌++◌, length, nat_le, Option, Some, None, Result, Ok, Err, arith}
 use Rattle.std.specs.Prelude.{nat_lt}
 use Rattle.std.specs.List.{AllByRecursion}
 use Rattle.iso_model.specs.declared.access.Access.{Access}
@@ -17,14 +17,9 @@ use Rattle.iso_model.specs.World.{Live, Place, World, attached, client, held, is
 use Rattle.iso_model.specs.Worlds.{IsWorld}
 use Rattle.iso_model.proofs.Distinct.{all_filter, all_find}
 use Rattle.iso_model.proofs.Growth.{all_push, all_weaker}
-use Rattle.store_scripts.specs.Kept.{IsToldOf}
-use Rattle.store_scripts.specs.Told.{Answered, OfHash, OfTree, Notes, Told, answered, told_more, with_call}
+use Rattle.store_scripts.specs.Told.{Answered, Notes, Told, answered, told_more, with_call}
 use Rattle.store_scripts.proofs.Growing.{begins_told, in_form}
-use Rattle.store_scripts.proofs.Noted.{Goes, IsKept, IsNoted, adds, changes, choose, notes_by, quiet, stays}
-
-kept_before : (told : Told) (call : Answered) (over : ℕ) → IsTrue (with_call told call over).kept → IsTrue told.kept
-kept_before told (OfHash call answer) over kept = kept
-kept_before told (OfTree call answer) over kept = kept
+use Rattle.store_scripts.proofs.Noted.{Goes, Holds, IsKept, IsNoted, adds, changes, choose, notes_by, quiet, stays}
 
 module _ (Q : Type 0) (n : ℕ) (W : World) (notes : Notes) (is : IsNoted Q n W notes) (c : ℕ) (op : Op) where
   pub in_goes : (o : Option Live) (act : Live → Reply × World) → attached W c ≡ o → answered op reply.NotInTx ≡ None → ((t : Live) → attached W c ≡ Some t → Goes Q n W notes c op (Some t) (act t))
@@ -36,8 +31,8 @@ module _ (Q : Type 0) (n : ℕ) (W : World) (notes : Notes) (is : IsNoted Q n W 
   out_goes (Some t) x none goes = stays Q n W notes is c op (Some t) reply.InTx none
   out_goes None x none goes = goes
 
-  pub kept_of : (t : Live) → attached W c ≡ Some t → IsKept n W.geometry W.history notes t
-  kept_of t found = all_find (IsKept n W.geometry W.history notes) (λ u. is_at_client c u.place) W.live t is.each found
+  pub kept_of : (t : Live) → attached W c ≡ Some t → IsKept Q n W.geometry W.history notes t
+  kept_of t found = all_find (IsKept Q n W.geometry W.history notes) (λ u. is_at_client c u.place) W.live t is.each found
 
   -- a transaction begins, of which nothing is told
   begins : (place : Place) (mode : Mode) (r : Reply) → answered op r ≡ None → Goes Q n W notes c op None (r, after_begin W place mode)
@@ -46,8 +41,12 @@ module _ (Q : Type 0) (n : ℕ) (W : World) (notes : Notes) (is : IsNoted Q n W 
       let x : Reply × World = (r, after_begin W place mode) in
       record {
         next = omega arith;
-        each = all_push (IsKept n W.geometry W.history (notes_by W notes c op None x)) W.live new is.each
-            (λ kept. (is.low, subst (IsToldOf W.geometry (array_at W.history (last W.history)) [] mode) (sym (is.fresh W.next (omega arith))) (begins_told W.geometry (array_at W.history (last W.history)) mode)));
+        each = all_push (IsKept Q n W.geometry W.history (notes_by W notes c op None x)) W.live new is.each
+            (subst (λ (told : Told). Holds Q n W.geometry (array_at W.history (last W.history)) (last W.history) [] mode told) (sym (is.fresh W.next (omega arith))) (record {
+              since = is.low;
+              made = λ kept. begins_told W.geometry (array_at W.history (last W.history)) mode;
+              by_map = λ q reads. record { hash = refl; tree = refl };
+            }));
         low = is.low;
         by = is.by;
       }
@@ -66,8 +65,8 @@ module _ (Q : Type 0) (n : ℕ) (W : World) (notes : Notes) (is : IsNoted Q n W 
       let x : Reply × World = (r, after_leaving W t) in
       record {
         next = omega arith;
-        each = all_filter (IsKept n W.geometry W.history (notes_by W notes c op (Some t) x)) (λ (u : Live). not (u.number == t.number)) W.live
-            (all_weaker (IsKept n W.geometry W.history notes) (IsKept n W.geometry W.history (notes_by W notes c op (Some t) x)) (λ u. quiet Q n W notes is c op W.geometry W.history (Some t) x u none) W.live is.each);
+        each = all_filter (IsKept Q n W.geometry W.history (notes_by W notes c op (Some t) x)) (λ (u : Live). not (u.number == t.number)) W.live
+            (all_weaker (IsKept Q n W.geometry W.history notes) (IsKept Q n W.geometry W.history (notes_by W notes c op (Some t) x)) (λ u. quiet Q n W notes is c op W.geometry W.history (Some t) x u none) W.live is.each);
         low = is.low;
         by = is.by;
       }
@@ -77,14 +76,14 @@ module _ (Q : Type 0) (n : ℕ) (W : World) (notes : Notes) (is : IsNoted Q n W 
   all_with P t (u ∷ live) has all = (elim (u.number == t.number) as (λ v. P (cond v t u)) [ true ↦ has | false ↦ all.0 ], all_with P t live has all.1)
 
   -- a transaction is somewhere else
-  places : (o : Option Live) (t : Live) (place : Place) (r : Reply) → answered op r ≡ None → IsKept n W.geometry W.history notes t → Goes Q n W notes c op o (r, placed W t place)
+  places : (o : Option Live) (t : Live) (place : Place) (r : Reply) → answered op r ≡ None → IsKept Q n W.geometry W.history notes t → Goes Q n W notes c op o (r, placed W t place)
   places o t place r none kept =
       let x : Reply × World = (r, placed W t place) in
       let new : Live = record t { place = place } in
       record {
         next = omega arith;
-        each = all_with (IsKept n W.geometry W.history (notes_by W notes c op o x)) new W.live (quiet Q n W notes is c op W.geometry W.history o x new none kept)
-            (all_weaker (IsKept n W.geometry W.history notes) (IsKept n W.geometry W.history (notes_by W notes c op o x)) (λ u. quiet Q n W notes is c op W.geometry W.history o x u none) W.live is.each);
+        each = all_with (IsKept Q n W.geometry W.history (notes_by W notes c op o x)) new W.live (quiet Q n W notes is c op W.geometry W.history o x new none kept)
+            (all_weaker (IsKept Q n W.geometry W.history notes) (IsKept Q n W.geometry W.history (notes_by W notes c op o x)) (λ u. quiet Q n W notes is c op W.geometry W.history o x u none) W.live is.each);
         low = is.low;
         by = is.by;
       }
@@ -96,7 +95,7 @@ module _ (Q : Type 0) (n : ℕ) (W : World) (notes : Notes) (is : IsNoted Q n W 
   pub takeover_goes : (text : List ℕ) (o : Option Live) → held W text ≡ o → ((r : Reply) → answered op r ≡ None) → Goes Q n W notes c op None (takeover_step W c o)
   takeover_goes text None found none = stays Q n W notes is c op None reply.NoHandle (none _)
   takeover_goes text (Some t) found none =
-      places None t (client c) (reply.Began t.begin) (none _) (all_find (IsKept n W.geometry W.history notes) (λ u. is_under_label text u.place) W.live t is.each found)
+      places None t (client c) (reply.Began t.begin) (none _) (all_find (IsKept Q n W.geometry W.history notes) (λ u. is_under_label text u.place) W.live t is.each found)
 
   -- an access
   pub access_goes : (t : Live) (block : ℕ) (is_wrong : Bool) (answer : Reply) (a : Access) → attached W c ≡ Some t → ((r : Reply) → answered op r ≡ None)
@@ -108,16 +107,20 @@ module _ (Q : Type 0) (n : ℕ) (W : World) (notes : Notes) (is : IsNoted Q n W 
       adds Q n W notes is c op t answer (a ∷ []) found (kept_of t found) (none _))))
 
   -- the numbers of an image change
-  same_form : (form : ℕ) (o : Option Live) (x : Reply × World) (u : Live) → answered op x.0 ≡ None → IsKept n W.geometry W.history notes u
-      → IsKept n (record W.geometry { form = form }) W.history (notes_by W notes c op o x) u
-  same_form form o x u none kept = λ more.
-      let was = quiet Q n W notes is c op W.geometry W.history o x u none kept more in
-      (was.0, in_form W.geometry form (array_at W.history u.begin) u.accesses u.mode (notes_by W notes c op o x u.number) was.1)
+  same_form : (form : ℕ) (o : Option Live) (x : Reply × World) (u : Live) → answered op x.0 ≡ None → IsKept Q n W.geometry W.history notes u
+      → IsKept Q n (record W.geometry { form = form }) W.history (notes_by W notes c op o x) u
+  same_form form o x u none kept =
+      let was = quiet Q n W notes is c op W.geometry W.history o x u none kept in
+      record {
+        since = was.since;
+        made = λ more. in_form W.geometry form (array_at W.history u.begin) u.accesses u.mode (notes_by W notes c op o x u.number) (was.made more);
+        by_map = λ q reads. let by_map = was.by_map q reads in record { hash = by_map.hash; tree = by_map.tree };
+      }
 
   pub trim_goes : (o : Option Live) (r : Reply) → answered op r ≡ None → Goes Q n W notes c op o (r, after_trim W)
   trim_goes o r none = record {
     next = omega arith;
-    each = all_weaker (IsKept n W.geometry W.history notes) (IsKept n W.geometry W.history (notes_by W notes c op o (r, after_trim W))) (λ u. quiet Q n W notes is c op W.geometry W.history o (r, after_trim W) u none) W.live is.each;
+    each = all_weaker (IsKept Q n W.geometry W.history notes) (IsKept Q n W.geometry W.history (notes_by W notes c op o (r, after_trim W))) (λ u. quiet Q n W notes is c op W.geometry W.history o (r, after_trim W) u none) W.live is.each;
     low = is.low;
     by = is.by;
   }
@@ -125,7 +128,7 @@ module _ (Q : Type 0) (n : ℕ) (W : World) (notes : Notes) (is : IsNoted Q n W 
   switches : (form : ℕ) (o : Option Live) (r : Reply) → answered op r ≡ None → IsWorld (after_switch W form) → Goes Q n W notes c op o (r, after_switch W form)
   switches form o r none sound = record {
     next = omega arith;
-    each = all_weaker (IsKept n W.geometry W.history notes) (IsKept n (record W.geometry { form = form }) W.history (notes_by W notes c op o (r, after_switch W form)))
+    each = all_weaker (IsKept Q n W.geometry W.history notes) (IsKept Q n (record W.geometry { form = form }) W.history (notes_by W notes c op o (r, after_switch W form)))
         (λ u. same_form form o (r, after_switch W form) u none) W.live is.each;
     low = is.low;
     by = λ q.
@@ -148,22 +151,13 @@ module _ (Q : Type 0) (n : ℕ) (W : World) (notes : Notes) (is : IsNoted Q n W 
       go true world = stays Q n W notes is c op o reply.Worn (none _)
       go false world = switches form o answer (none _) world
 
-  call_told : (t : Live) (call : Answered) (done : List Access)
-      → (IsToldOf W.geometry (array_at W.history t.begin) t.accesses t.mode (notes t.number)
-      → IsToldOf W.geometry (array_at W.history t.begin) (t.accesses ++ done) t.mode (with_call (notes t.number) call (length (t.accesses ++ done))))
-      → attached W c ≡ Some t → IsTrue (with_call (notes t.number) call (length (t.accesses ++ done))).kept
-      → (n ≤ t.begin) × IsToldOf W.geometry (array_at W.history t.begin) (t.accesses ++ done) t.mode (with_call (notes t.number) call (length (t.accesses ++ done)))
-  call_told t call done told found more =
-      let was = kept_of t found (kept_before (notes t.number) call (length (t.accesses ++ done)) more) in
-      (was.0, told was.1)
-
   -- A call of a store: refused, or answered Ok, where it is one more of those that are told.
   pub called : {R : Type 0} (t : Live) (program : Program (Result R StoreError)) (answer : R → Reply) (name : R → Answered) (end : Option (Result R StoreError)) → attached W c ≡ Some t
       → answered op reply.TooManyAccesses ≡ None → ((e : StoreError) → answered op (store_refusal e) ≡ None) → ((r : R) → answered op (answer r) ≡ Some (name r))
       → (outcome (MAX_ACCESSES - length t.accesses) program (array_of W t)).1 ≡ end
       → ((r : R) (done : List Access) → (outcome (MAX_ACCESSES - length t.accesses) program (array_of W t)).1 ≡ Some (Ok r) → done ≡ (outcome (MAX_ACCESSES - length t.accesses) program (array_of W t)).0
-      → IsToldOf W.geometry (array_at W.history t.begin) t.accesses t.mode (notes t.number)
-      → IsToldOf W.geometry (array_at W.history t.begin) (t.accesses ++ done) t.mode (with_call (notes t.number) (name r) (length (t.accesses ++ done))))
+      → IsKept Q n W.geometry W.history notes t
+      → Holds Q n W.geometry (array_at W.history t.begin) t.begin (t.accesses ++ done) t.mode (with_call (notes t.number) (name r) (length (t.accesses ++ done))))
       → Goes Q n W notes c op (Some t) (store_reply answer end, with_accesses W t (t.accesses ++ (outcome (MAX_ACCESSES - length t.accesses) program (array_of W t)).0))
   called t program answer name None found full refused named ends told =
       adds Q n W notes is c op t reply.TooManyAccesses (outcome (MAX_ACCESSES - length t.accesses) program (array_of W t)).0 found (kept_of t found) full
@@ -173,6 +167,5 @@ module _ (Q : Type 0) (n : ℕ) (W : World) (notes : Notes) (is : IsNoted Q n W 
       let done = (outcome (MAX_ACCESSES - length t.accesses) program (array_of W t)).0 in
       changes Q n W notes is c op t (answer r) (t.accesses ++ done) found
       (subst (λ (a : Option Answered).
-      IsTrue (told_more W.geometry op (answer r) t.accesses (t.accesses ++ done) (notes t.number) a).kept
-      → (n ≤ t.begin) × IsToldOf W.geometry (array_at W.history t.begin) (t.accesses ++ done) t.mode (told_more W.geometry op (answer r) t.accesses (t.accesses ++ done) (notes t.number) a))
-      (sym (named r)) (call_told t (name r) done (told r done ends refl) found))
+      Holds Q n W.geometry (array_at W.history t.begin) t.begin (t.accesses ++ done) t.mode (told_more W.geometry op (answer r) t.accesses (t.accesses ++ done) (notes t.number) a))
+      (sym (named r)) (told r done ends refl (kept_of t found)))

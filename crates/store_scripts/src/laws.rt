@@ -25,7 +25,7 @@ ghost use Rattle.store_scripts.specs.Told.{answered, no_notes, noted, notes_afte
 /// Where the transactions that commit in a script keep to the stores, the history after it is one by calls of the stores (`by_calls`).
 /// The calls of a transaction that commits, as its lines and their replies tell them, answer as one thread's calls on the map directly
 /// before the commit, and end in the map directly after it (`commits`). Those of a live transaction answer so by the map at its begin
-/// (`live`), and where it writes nothing, each of them by that map alone (`read_only`).
+/// (`live`), where it keeps to the stores; and where it writes nothing, each of them by that map alone, whatever it marks (`read_only`).
 pub fn store_calls_of_a_script_answer_in_order()
     ensures by_calls { (W : World) (lines : List (ℕ × Line)) → BeginsWell W → AreLines lines → CommitsKeep W no_notes lines → let V = after W lines in
         IsByBoth (image_hash V.geometry) (image_tree V.geometry) V.geometry V.history (last W.history) }
@@ -36,7 +36,7 @@ pub fn store_calls_of_a_script_answer_in_order()
         attached V client ≡ Some t → IsTrue (notes_after W no_notes lines t.number).kept
         → ToldInOrder V.geometry (notes_after W no_notes lines t.number) (array_at V.history t.begin) (array_of V t) }
     ensures read_only { (W : World) (lines : List (ℕ × Line)) (client : ℕ) (t : Live) → BeginsWell W → AreLines lines → CommitsKeep W no_notes lines → let V = after W lines in
-        attached V client ≡ Some t → IsTrue (notes_after W no_notes lines t.number).kept → IsFalse (has_write t.accesses)
+        attached V client ≡ Some t → IsFalse (has_write t.accesses)
         → ToldByMap V.geometry (notes_after W no_notes lines t.number) (array_at V.history t.begin) }
 {}
 

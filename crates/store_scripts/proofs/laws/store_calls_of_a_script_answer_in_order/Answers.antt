@@ -17,5 +17,5 @@ returns-clause-live _ = λ W lines client t begins good keeps found kept.
     live_told (last W.history) (after W lines) (notes_after W no_notes lines) (noted_after (Unit {0}) (last W.history) W no_notes lines (noted_begins W begins) good (λ q. keeps)) client t found kept
 
 pub returns-clause-read_only : goal.returns-clause-read_only
-returns-clause-read_only _ = λ W lines client t begins good keeps found kept none.
-    read_only_told (last W.history) (after W lines) (notes_after W no_notes lines) (noted_after (Unit {0}) (last W.history) W no_notes lines (noted_begins W begins) good (λ q. keeps)) client t found kept none
+returns-clause-read_only _ = λ W lines client t begins good keeps found none.
+    read_only_told (last W.history) (after W lines) (notes_after W no_notes lines) (noted_after (Unit {0}) (last W.history) W no_notes lines (noted_begins W begins) good (λ q. keeps)) client t found none

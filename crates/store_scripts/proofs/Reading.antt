@@ -1,0 +1,65 @@
+-- The calls of a transaction that writes nothing answer by the map at its begin, whatever it marks.
+use Rattle.std.proofs.Common.{◌≡◌, ◌∙◌, sym, refl, ap, subst, ℕ, Bool, true, false, ◌||◌, List, [], ◌∷◌, ◌++◌, map}
+use Rattle.iso_model.specs.declared.access.Access.{Access}
+use Rattle.iso_model.specs.declared.access.Geometry.{Geometry}
+use Rattle.iso_model.specs.declared.access.Span.{Span}
+use Rattle.iso_model.specs.Array.{Array}
+use Rattle.iso_model.specs.Effect.{has_write, is_write, own}
+use Rattle.iso_model.specs.Marks.{marked}
+use Rattle.iso_model.specs.Stores.{AreReads, IsLocal}
+use Rattle.tx_blocks.proofs.Programs.{own_reads}
+use Rattle.store_laws.specs.Calls.{KeyCall, StoreAnswer, key_act}
+use Rattle.store_laws.specs.Tree.{TreeCall, tree_act}
+use Rattle.store_laws.proofs.InOrder.{same_shape}
+use Rattle.store_scripts.specs.Kept.{ToldByMap}
+use Rattle.store_scripts.specs.Stores.{image_hash, image_tree}
+use Rattle.store_scripts.specs.Told.{OfHash, OfTree, Told, with_call}
+
+neither : (x y : Bool) → (x || y) ≡ false → (x ≡ false) × (y ≡ false)
+neither true y none = cc
+neither false y none = (refl, none)
+
+reads_of : (accesses : List Access) → has_write accesses ≡ false → AreReads accesses
+reads_of [] none = tt
+reads_of (a ∷ accesses) none = let both = neither (is_write a) (has_write accesses) none in (both.0, reads_of accesses both.1)
+
+pub front_reads : (xs ys : List Access) → has_write (xs ++ ys) ≡ false → has_write xs ≡ false
+front_reads [] ys none = refl
+front_reads (x ∷ xs) ys none =
+    let both = neither (is_write x) (has_write (xs ++ ys)) none in
+    ap (λ (b : Bool). b || has_write xs) both.0 ∙ front_reads xs ys both.1
+
+pub marked_writes : (span : Span) (accesses : List Access) → has_write (marked span accesses) ≡ has_write accesses
+marked_writes span [] = refl
+marked_writes span (a ∷ []) = refl
+marked_writes span (a ∷ b ∷ accesses) = ap (λ (x : Bool). is_write a || x) (marked_writes span (b ∷ accesses))
+
+map_push : {X Y : Type 0} (f : X → Y) (xs : List X) (x : X) → map f (xs ++ x ∷ []) ≡ map f xs ++ f x ∷ []
+map_push f [] x = refl
+map_push f (y ∷ xs) x = ap (λ rest. f y ∷ rest) (map_push f xs x)
+
+module _ (g : Geometry) (A : Array) (accesses done : List Access) (told : Told) (over : ℕ) (none : has_write accesses ≡ false) (was : ToldByMap g told A) where
+  shown : own A accesses ≡ A
+  shown = own_reads A accesses (reads_of accesses none)
+
+  pub hash_by_map : (call : KeyCall) (answer : StoreAnswer) → (image_hash g).IsWellFormed A → IsLocal (image_hash g).IsWellFormed (image_hash g).map_of (key_act call) (own A accesses) done answer
+      → ToldByMap g (with_call told (OfHash call answer) over) A
+  hash_by_map call answer well local =
+      let f = λ (c : KeyCall). (key_act c ((image_hash g).map_of A)).0 in
+      let here = subst (λ (B : Array). IsLocal (image_hash g).IsWellFormed (image_hash g).map_of (key_act call) B done answer) shown local in
+      let is : f call ≡ answer = here.answers A (same_shape A) well (λ b p depends. refl) in
+      record {
+        hash = ap (λ (xs : List StoreAnswer). xs ++ answer ∷ []) was.hash ∙ ap (λ (x : StoreAnswer). map f told.hash.calls ++ x ∷ []) (sym is) ∙ sym (map_push f told.hash.calls call);
+        tree = was.tree;
+      }
+
+  pub tree_by_map : (call : TreeCall) (answer : StoreAnswer) → (image_tree g).IsWellFormed A → IsLocal (image_tree g).IsWellFormed (image_tree g).map_of (tree_act call) (own A accesses) done answer
+      → ToldByMap g (with_call told (OfTree call answer) over) A
+  tree_by_map call answer well local =
+      let f = λ (c : TreeCall). (tree_act c ((image_tree g).map_of A)).0 in
+      let here = subst (λ (B : Array). IsLocal (image_tree g).IsWellFormed (image_tree g).map_of (tree_act call) B done answer) shown local in
+      let is : f call ≡ answer = here.answers A (same_shape A) well (λ b p depends. refl) in
+      record {
+        hash = was.hash;
+        tree = ap (λ (xs : List StoreAnswer). xs ++ answer ∷ []) was.tree ∙ ap (λ (x : StoreAnswer). map f told.tree.calls ++ x ∷ []) (sym is) ∙ sym (map_push f told.tree.calls call);
+      }
