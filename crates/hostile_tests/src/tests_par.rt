@@ -74,13 +74,13 @@ fn a_fault_at_each_call_of_two_commits_of_a_client(rt: HostRuntime) -> Result<()
     Ok(())
 }
 
-/// A transaction under a label, a commit of another client beside it, and switches of halves below and above it. Each client waits
-/// for the one before it, so the calls of the disk are always these.
+/// A client that hands a transaction to itself, with a commit beside it and switches of halves below and above it. Another client
+/// reads beside it.
 const COMPACTIONS: &[u8] =
-    b"1 begin\n1 get 0 0 1\n1 release a\n2 await a\n2 release b\n2 begin\n2 put 0 0 cc\n2 end\n2 trim\n2 compact\n2 takeover b\n2 release c\n3 await c\n3 get 0 0 1\n3 end\n3 compact\n3 stat\n";
+    b"1 begin\n1 get 0 0 1\n1 release a\n1 begin\n1 put 0 0 cc\n1 end\n1 trim\n1 compact\n1 takeover a\n1 get 0 0 1\n1 end\n1 compact\n1 stat\n2 begin\n2 get 1 0 1\n2 get 2 0 1\n2 abort\n";
 
 const UPGRADES: &[u8] =
-    b"1 begin\n1 get 0 0 1\n1 release a\n2 await a\n2 release b\n2 begin\n2 put 0 0 cc\n2 end\n2 trim\n2 upgrade\n2 takeover b\n2 release c\n3 await c\n3 get 0 0 1\n3 end\n3 upgrade\n3 stat\n";
+    b"1 begin\n1 get 0 0 1\n1 release a\n1 begin\n1 put 0 0 cc\n1 end\n1 trim\n1 upgrade\n1 takeover a\n1 get 0 0 1\n1 end\n1 upgrade\n1 stat\n2 begin\n2 get 1 0 1\n2 get 2 0 1\n2 abort\n";
 
 /// Whether a stop behind each call of a script of clients, until it is done, leaves what was told of.
 fn each_stop_is_survived<R: Threads + Wait + Sync>(
@@ -93,8 +93,8 @@ fn each_stop_is_survived<R: Threads + Wait + Sync>(
         disk.fuse(calls);
         let outcome = par_over(rt, alloc, disk, script)?;
         let output = outcome.output.as_slice();
-        let told = output.ends_with(b"commit 1 by 2 line 8\n! disk fault\n")
-            || output.ends_with(b"commit 1 by 2 line 8\n");
+        let told = output.ends_with(b"commit 1 by 1 line 6\n! disk fault\n")
+            || output.ends_with(b"commit 1 by 1 line 6\n");
         if !opens_at_the_commit(alloc, &outcome.disk, true, told)? {
             return Ok(false);
         }

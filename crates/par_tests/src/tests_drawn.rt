@@ -2,12 +2,16 @@
 // the numbers of begins and commits, which tell how the clients were interleaved.
 use std::alloc::{AllocError, Global};
 use std::test::Fail;
-use top_calls::{par_image, run_image, small_image};
+use top_calls::{call, par_image, run_image};
 
 /// How many clients there are; each has the block of its number.
 const CLIENTS: u8 = 4;
 
+/// The words that make an image whose log has room for all commits of a script.
+const ROOMY: &str = "isotope new t.img --block-size 64 --blocks 4 --log 8192";
+
 /// A few numbers that are drawn one after the other.
+#[derive(Drop)]
 struct Draws {
     state: u32,
 }
@@ -96,13 +100,21 @@ fn told(alloc: Global, replies: &[u8], client: u8) -> Result<Vec<u8>, AllocError
     Ok(out)
 }
 
+/// An image without commits.
+fn image(alloc: Global) -> Result<Vec<u8>, AllocError> {
+    call(alloc, ROOMY, b"")?
+        .disk
+        .crash(alloc, 0)
+        .or(Err(AllocError))
+}
+
 #[test]
 fn clients_without_shared_blocks_are_told_what_a_run_tells(rt: HostRuntime) -> Result<(), Fail> {
     let alloc = rt.alloc();
     for seed in 0..8u32 {
         let script = drawn(alloc, seed, 20)?;
-        let beside = par_image(&rt, alloc, small_image(alloc)?, &script)?;
-        let behind = run_image(alloc, small_image(alloc)?, &script)?;
+        let beside = par_image(&rt, alloc, image(alloc)?, &script)?;
+        let behind = run_image(alloc, image(alloc)?, &script)?;
         assert_eq!(rt; beside.status, 0);
         assert_eq!(rt; behind.status, 0);
         for client in 0..CLIENTS {
