@@ -1,23 +1,21 @@
 -- Lines that call the hash store: one that may be, and ones that are refused.
-use Rattle.std.proofs.Common.{◌≡◌, ℕ, ◌+◌, ◌<◌, true, false, List, [], ◌∷◌, ◌++◌, Option, Some, None, ap, length, length-append, map, replicate, refl, sym, ◌∙◌, arith}
+use Rattle.std.proofs.Common.{◌≡◌, ℕ, true, List, [], ◌∷◌, ◌++◌, Option, Some, None, ap, length, length-append, map, replicate, refl, sym, ◌∙◌, arith}
 use Rattle.std.specs.List.{AllByRecursion}
 use Rattle.std.proofs.lemmas.List.{length-map}
-use Rattle.std.specs.Prelude.{Result, Ok, Err}
+use Rattle.std.specs.Prelude.{Ok, Err}
 use Rattle.iso_model.specs.declared.access.Access.{Access}
 use Rattle.iso_model.specs.declared.access.Geometry.{Geometry}
 use Rattle.iso_model.specs.declared.access.Mode.TheVariants.{Serial, Snapshot}
 use Rattle.iso_model.specs.declared.script.Op.TheVariants as op
 use Rattle.iso_model.specs.declared.script.Reply.{Reply}
 use Rattle.iso_model.specs.declared.script.Reply.TheVariants as reply
-use Rattle.iso_model.specs.declared.stores.Area.{Area}
-use Rattle.iso_model.specs.declared.stores.StoreError.{StoreError}
 use Rattle.iso_model.specs.Array.{Array, zeros}
 use Rattle.iso_model.specs.Cells.{keys_mark}
 use Rattle.iso_model.specs.HashCalls.{get_program, got, walk, walk_of}
 use Rattle.iso_model.specs.HashRegion.{bucket_of, is_linked}
 use Rattle.iso_model.specs.Premises.{block_at}
 use Rattle.iso_model.specs.Step.{hash_area, hash_get_step, step, store_step}
-use Rattle.iso_model.specs.Stores.{Done, Program, look_access, then_do}
+use Rattle.iso_model.specs.Stores.{Done, look_access, then_do}
 use Rattle.iso_shared.specs.declared.entry.Call.TheVariants as call
 use Rattle.iso_shared.specs.declared.entry.Cause.{Cause}
 use Rattle.iso_shared.specs.declared.entry.Cause.TheVariants as cause
