@@ -3,6 +3,8 @@
 #![tactic(auto)]
 
 #[cfg(test)]
+mod tests_cut;
+#[cfg(test)]
 mod tests_damage;
 #[cfg(test)]
 mod tests_images;

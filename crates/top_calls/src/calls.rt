@@ -7,7 +7,7 @@ ghost use Rattle.command_line.specs.Requests.{request_of};
 
 use crate::texts::text;
 use command_line::{Task, read_words};
-use iso_io::{MemSink, MemSource};
+use iso_io::{MemSink, MemSource, Source};
 use iso_memdisk::MemDisk;
 use iso_top::{alone, isotope};
 use par_runner::Gate;
@@ -68,13 +68,24 @@ pub fn call_over(
     source: MemSource,
     sink: MemSink,
 ) -> Result<Outcome, AllocError> {
-    let words = words_of(alloc, line)?;
     let mut source = source;
+    call_from(alloc, line, disk, &mut source, sink)
+}
+
+/// The same over any source.
+pub fn call_from<S: Source>(
+    alloc: Global,
+    line: &str,
+    disk: MemDisk,
+    source: &mut S,
+    sink: MemSink,
+) -> Result<Outcome, AllocError> {
+    let words = words_of(alloc, line)?;
     let mut sink = sink;
     if may_be_par(alloc, &words) {
         return Err(AllocError);
     }
-    let ended = alone(alloc, &words, disk, &mut source, &mut sink);
+    let ended = alone(alloc, &words, disk, source, &mut sink);
     let output = sink.bytes().to_vec(alloc)?;
     Ok(Outcome {
         status: ended.status,
