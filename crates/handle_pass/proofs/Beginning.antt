@@ -1,5 +1,5 @@
 -- A visit of a session's transaction begins.
-use Rattle.std.proofs.Common.{◌≡◌, ℕ, ◌<◌, ◌≤◌, false, IsTrue, Option, Some, None, length, refl, sym, ap, ◌∙◌, subst, arith}
+use Rattle.std.proofs.Common.{◌≡◌, ◌≤◌, false, IsTrue, Option, Some, None, length, refl, sym, subst, arith}
 use Rattle.iso_model.specs.Array.{Array}
 use Rattle.iso_model.specs.Geometry.{is_valid}
 use Rattle.iso_model.specs.History.{array_at}

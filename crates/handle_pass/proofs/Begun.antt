@@ -1,9 +1,8 @@
 -- The array at the begin of a session's transaction is the same at each later place of the list.
-use Rattle.std.proofs.Common.{◌≡◌, ℕ, ◌+◌, ◌<◌, ◌≤◌, List, [], ◌∷◌, ◌++◌, Option, Some, None, IfSome, refl, sym, ap, ◌∙◌, arith, length}
+use Rattle.std.proofs.Common.{◌≡◌, ℕ, ◌<◌, ◌≤◌, List, [], ◌∷◌, Option, Some, None, IfSome, refl, ap, ◌∙◌, arith}
 use mathlib.Core.List.{IsPrefix}
 use Rattle.iso_model.specs.History.{History, all_own, array_at, last}
 use Rattle.iso_model.specs.Worlds.{Extends}
-use Rattle.turn_lock.proofs.Prefixes.{prefix_trans}
 use Rattle.iso_shared.specs.declared.entry.Call.{Call}
 use Rattle.iso_shared.specs.declared.entry.Call.TheVariants as call
 use Rattle.iso_shared.specs.declared.entry.Cause.{Cause}
@@ -12,7 +11,7 @@ use Rattle.iso_shared.specs.declared.entry.Entry.{Entry}
 use Rattle.iso_shared.specs.declared.entry.Entry.TheVariants as entry
 use Rattle.iso_shared.specs.declared.shared.Shared.{Shared}
 use Rattle.iso_shared.specs.declared.tx.Tx.{Tx}
-use Rattle.iso_shared.specs.Ports.{IsAhead, IsTx, tx_view}
+use Rattle.iso_shared.specs.Ports.{IsTx, tx_view}
 use Rattle.iso_shared.specs.States.{Start, State, after, after_all, after_fault, after_refusal, after_sweep, opened, state_at}
 use Rattle.iso_shared.proofs.Follows.{follows_prefix, up_to_same}
 use Rattle.iso_shared.proofs.Mades.{ahead_on}

@@ -1,8 +1,6 @@
 -- What a session's own calls make of a visit: its fetches, its transaction, and what a store sees.
-use Rattle.std.proofs.Common.{◌≡◌, ℕ, zero, suc, ◌+◌, ◌<◌, ◌≤◌, Bool, true, false, cond, not, List, [], ◌∷◌, ◌++◌, Option, Some, None, option_map, length, map, nat_le, refl, sym, ap, ◌∙◌, subst, append_assoc, arith}
-use Rattle.std.specs.List.{AllByRecursion}
+use Rattle.std.proofs.Common.{◌≡◌, ℕ, ◌<◌, Bool, true, false, cond, List, [], ◌∷◌, ◌++◌, Option, Some, None, option_map, length, map, refl, sym, ap, ◌∙◌, subst, append_assoc, arith}
 use Rattle.std.specs.Option.{ForSome}
-use Rattle.std.specs.Prelude.{is_some}
 use Rattle.std.proofs.lemmas.List.{map-append, append-nil}
 use Rattle.iso_model.specs.declared.access.Access.{Access}
 use Rattle.iso_model.specs.declared.access.Span.{Span}
@@ -21,7 +19,7 @@ use Rattle.handle_pass.specs.declared.session.Session.{Session}
 use Rattle.handle_pass.specs.Accesses.{accesses_of, Shows}
 use Rattle.handle_pass.specs.Logs.{Moves}
 use Rattle.handle_pass.specs.Sessions.{Own, own, seen, IsSession, Made, Rested}
-use Rattle.handle_pass.specs.Visits.{Failed, Fetched, KeepsOwn, Visited, base_in, begin_array, blocks_read, with_list, fetches, number_in, refusals, shaped}
+use Rattle.handle_pass.specs.Visits.{Failed, KeepsOwn, Visited, base_in, begin_array, blocks_read, with_list, fetches, number_in, refusals, shaped}
 use Rattle.handle_pass.proofs.Logs.{moves_made, moves_none, moves_on, moves_rested}
 use Rattle.handle_pass.proofs.Begun.{HasBegin, array_kept, has_begin, tells_at}
 use Rattle.handle_pass.proofs.Shapes.{all_snoc, block_shaped, length_laid}

@@ -1,5 +1,5 @@
 -- What one call on a session's transaction makes of what is seen of it.
-use Rattle.std.specs.Prelude.{◌≡◌, ℕ, ◌≤◌, ◌||◌, Bool, true, false, List, [], ◌∷◌, Result, Ok, Err, OnOk, OnErr, nat_lt}
+use Rattle.std.specs.Prelude.{◌≡◌, ℕ, ◌||◌, Bool, true, false, List, [], ◌∷◌, Result, Ok, Err, OnOk, OnErr, nat_lt}
 use Rattle.std.specs.Option.{ForSome}
 use Rattle.iso_model.specs.declared.stores.TxError.{TxError}
 use Rattle.iso_model.specs.declared.stores.TxError.TheVariants as error
