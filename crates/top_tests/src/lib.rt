@@ -4,6 +4,8 @@
 #[cfg(test)]
 mod tests_commands;
 #[cfg(test)]
+mod tests_drawn;
+#[cfg(test)]
 mod tests_limits;
 #[cfg(test)]
 mod tests_long;
