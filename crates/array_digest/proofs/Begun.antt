@@ -12,11 +12,12 @@ use Rattle.iso_model.specs.declared.access.Mode.TheVariants.{Serial, Snapshot}
 use Rattle.iso_model.specs.declared.core_error.CoreError.{CoreError}
 use Rattle.iso_model.specs.declared.core_error.CoreError.TheVariants as error
 use Rattle.iso_model.specs.declared.limits.TheConstants.{LAST, MAX_LIVE}
-use Rattle.iso_model.specs.declared.script.Reply.{Reply}
-use Rattle.iso_model.specs.declared.script.Reply.TheVariants as reply
+use Rattle.iso_model.specs.declared.core_reply.CoreReply.{CoreReply}
+use Rattle.iso_model.specs.declared.core_reply.CoreReply.TheVariants as reply
 use Rattle.iso_model.specs.Geometry.{same_mode}
 use Rattle.iso_model.specs.History.{last}
-use Rattle.iso_model.specs.Step.{after_begin, after_leaving, begin_step}
+use Rattle.iso_model.specs.Step.{after_begin, after_leaving}
+use Rattle.iso_model.specs.Step.{begin_step}
 use Rattle.iso_model.specs.World.{World, Live, unattached, without}
 
 -- the transaction that began
@@ -56,7 +57,7 @@ not_other false same is = refl
 may_begin : (W : World) → W.live ≡ [] → W.next ≤ LAST → (begin_step W unattached W.geometry.mode).0 ≡ reply.Began (last W.history)
 unfolding begin_step
 may_begin W none next =
-    ap (λ (r : Reply × World). r.0)
+    ap (λ (r : CoreReply × World). r.0)
     (cond-false _ _ _ (not_other (W.geometry.form == 1) (same_mode W.geometry.mode W.geometry.mode) (own_mode W.geometry.mode))
     ∙ cond-false _ _ _ (ap (λ (live : List Live). nat_le MAX_LIVE (length live)) none)
     ∙ cond-false _ _ _ (le-ltb LAST W.next next))
@@ -73,4 +74,4 @@ no_refusal error.ModeFixed n same = cc same
 -- where it does not, memory was wanting
 pub only_memory : (W : World) (e : CoreError) → W.live ≡ [] → W.next ≤ LAST → Refuses (begin_step W unattached W.geometry.mode).0 e → e ≡ error.Memory
 only_memory W e none next (inl memory) = memory
-only_memory W e none next (inr refused) = absurd (no_refusal e (last W.history) (refused ∙ ap (λ (r : Reply). Some r) (may_begin W none next)))
+only_memory W e none next (inr refused) = absurd (no_refusal e (last W.history) (refused ∙ ap (λ (r : CoreReply). Some r) (may_begin W none next)))

@@ -7,7 +7,7 @@ use Rattle.iso_core.specs.Core.{StandsFor}
 use Rattle.iso_core.specs.Standing.{up}
 use Rattle.iso_disk.specs.Disk.{DiskState}
 use Rattle.iso_model.specs.Array.{Array}
-use Rattle.iso_model.specs.Bench.{array_bytes}
+use Rattle.script_model.specs.Bench.{array_bytes}
 use Rattle.iso_model.specs.History.{array_at}
 use Rattle.iso_model.specs.Premises.{block_at}
 use Rattle.iso_model.specs.World.{World, Live}

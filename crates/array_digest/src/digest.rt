@@ -7,7 +7,7 @@ ghost use Rattle.iso_core.specs.Core.{StandsFor, disk_of};
 ghost use Rattle.iso_core.specs.Standing.{up};
 ghost use Rattle.iso_disk.specs.Disk.{WritesNothing};
 ghost use Rattle.iso_model.specs.declared.limits.TheConstants.{LAST};
-ghost use Rattle.iso_model.specs.Bench.{array_bytes};
+ghost use Rattle.script_model.specs.Bench.{array_bytes};
 ghost use Rattle.iso_model.specs.History.{array_at, last};
 ghost use Rattle.iso_model.specs.World.{World, Live};
 ghost use Rattle.sha2.specs.Sha256.{sha256};

@@ -4,6 +4,3 @@
 mod digest;
 
 pub use digest::{DigestError, digest_of};
-
-#[cfg(test)]
-mod tests;

@@ -2,12 +2,12 @@
 use Rattle.std.proofs.Common.{◌≡◌, ◌∙◌, sym, ap, ℕ, ◌+◌, ◌≤◌, true, List, [], ◌∷◌, ◌++◌, length, length-append, append_assoc, decimal, arith, subst}
 use Rattle.std.specs.Prelude.{Contains, filter}
 use Rattle.std.specs.List.{list_all}
-use Rattle.iso_model.specs.declared.script.Line.{Line}
-use Rattle.iso_model.specs.declared.script.Reply.{Reply}
-use Rattle.iso_model.specs.Bench.{answers_to, is_committed, is_conflict}
-use Rattle.iso_model.specs.Script.{replies}
-use Rattle.iso_model.specs.Step.{step}
-use Rattle.iso_model.specs.Text.{reply_line, reply_text}
+use Rattle.script_model.specs.declared.script.Line.{Line}
+use Rattle.script_model.specs.declared.script.Reply.{Reply}
+use Rattle.script_model.specs.Bench.{answers_to, is_committed, is_conflict}
+use Rattle.script_model.specs.Script.{replies}
+use Rattle.script_model.specs.Step.{step}
+use Rattle.script_model.specs.Text.{reply_line, reply_text}
 use Rattle.iso_model.specs.World.{World}
 use Rattle.bench_script.specs.declared.line_kind.LineKind.{LineKind}
 use Rattle.bench_script.specs.Kinds.{kind_of, commits_in, conflicts_in}

@@ -6,15 +6,15 @@ use Rattle.std.proofs.lemmas.Bool.{and_parts, cond-false, leb-true, le-ltb, lt-l
 use Rattle.std.proofs.lemmas.Fmt.{decimal_digit, length-decimal-le}
 use Rattle.std.proofs.lemmas.List.{take_all}
 use Rattle.iso_model.specs.declared.limits.TheConstants.{MAX_INPUT, MAX_LINE}
-use Rattle.iso_model.specs.declared.script.Line.{Line}
-use Rattle.iso_model.specs.declared.script.Op.{Op}
-use Rattle.iso_model.specs.declared.script.Op.TheVariants.{Begin, End, Put, Get}
-use Rattle.iso_model.specs.declared.script.Parsed.{Parsed}
-use Rattle.iso_model.specs.declared.script.Parsed.TheVariants.{Line as Says}
-use Rattle.iso_model.specs.Bench.{after_draws, bench_text, drawn_round, nth_drawn, round_text}
+use Rattle.script_model.specs.declared.script.Line.{Line}
+use Rattle.script_model.specs.declared.script.Op.{Op}
+use Rattle.script_model.specs.declared.script.Op.TheVariants.{Begin, End, Put, Get}
+use Rattle.script_model.specs.declared.script.Parsed.{Parsed}
+use Rattle.script_model.specs.declared.script.Parsed.TheVariants.{Line as Says}
+use Rattle.script_model.specs.Bench.{after_draws, bench_text, drawn_round, nth_drawn, round_text}
 use Rattle.iso_model.specs.Premises.{AreBytes}
-use Rattle.iso_model.specs.Script.{Script, before_script, is_printable, parse_whole, script, script_from, without_return}
-use Rattle.iso_model.specs.Text.{hex_text, pieces}
+use Rattle.script_model.specs.Script.{Script, before_script, is_printable, parse_whole, script, script_from, without_return}
+use Rattle.script_model.specs.Text.{hex_text, pieces}
 use Rattle.script_text.specs.Spelling.{line_text, line_words, AreSome, IsLine}
 use Rattle.script_text.proofs.Numerals.{IsWord, decimal_word, hex_word}
 use Rattle.script_text.proofs.Readings.{parse-printed}

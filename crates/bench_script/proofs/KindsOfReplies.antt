@@ -2,10 +2,10 @@
 use Rattle.std.proofs.Common.{◌≡◌, ◌∙◌, sym, refl, ap, ℕ, ◌+◌, ◌/◌, ◌%◌, Bool, true, false, cond, ◌&&◌, nat_eq, List, [], ◌∷◌, take, length, codes, arith}
 use Rattle.std.specs.Prelude.{filter}
 use Rattle.std.specs.Cmp.Lexicographic.{pointwise}
-use Rattle.iso_model.specs.declared.script.Reply.{Reply}
-use Rattle.iso_model.specs.declared.script.Reply.TheVariants.{Done, Began, Shown, Committed, ReadOnly, Conflict, Trimmed, Compacted, Upgraded, Numbers, Found, Pairs, Missing, InTx, NotInTx, ModeFixed, NoStore, StoreMode, BadKey, BadValue, BadBlock, BadRange, NoAccess, TooManyMarks, TooManyAccesses, Broken, NoBlocks, NoHandle, LabelTaken, TooManyTx, Worn, LogFull}
-use Rattle.iso_model.specs.Bench.{is_committed, is_conflict}
-use Rattle.iso_model.specs.Text.{digit_of, reply_text}
+use Rattle.script_model.specs.declared.script.Reply.{Reply}
+use Rattle.script_model.specs.declared.script.Reply.TheVariants.{Done, Began, Shown, Committed, ReadOnly, Conflict, Trimmed, Compacted, Upgraded, Numbers, Found, Pairs, Missing, InTx, NotInTx, ModeFixed, NoStore, StoreMode, BadKey, BadValue, BadBlock, BadRange, NoAccess, TooManyMarks, TooManyAccesses, Broken, NoBlocks, NoHandle, LabelTaken, TooManyTx, Worn, LogFull}
+use Rattle.script_model.specs.Bench.{is_committed, is_conflict}
+use Rattle.script_model.specs.Text.{digit_of, reply_text}
 use Rattle.bench_script.specs.declared.line_kind.LineKind.{LineKind}
 use Rattle.bench_script.specs.declared.line_kind.LineKind.TheVariants as kind
 use Rattle.bench_script.specs.Kinds.{kind_of, commits_in, conflicts_in}

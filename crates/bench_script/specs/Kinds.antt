@@ -1,7 +1,7 @@
 -- What a reply tells, as far as a tally counts it.
 use Rattle.std.specs.Prelude.{ℕ}
-use Rattle.iso_model.specs.declared.script.Reply.{Reply}
-use Rattle.iso_model.specs.declared.script.Reply.TheVariants.{Committed, Conflict}
+use Rattle.script_model.specs.declared.script.Reply.{Reply}
+use Rattle.script_model.specs.declared.script.Reply.TheVariants.{Committed, Conflict}
 use Rattle.bench_script.specs.declared.line_kind.LineKind.{LineKind}
 use Rattle.bench_script.specs.declared.line_kind.LineKind.TheVariants as kind
 

@@ -2,7 +2,7 @@
 ghost use Rattle.std.specs.Prelude.{◌≡◌, ◌≤◌, ◌<◌, ◌++◌, false, [], drop, length, min, take, IfOk, IsOk, OnErr};
 ghost use Rattle.fault_count.specs.Count.{HasCause};
 ghost use Rattle.iso_io.specs.Source.{GivesUpToEnd, Took, ended_after};
-ghost use Rattle.iso_model.specs.Bench.{bench_text};
+ghost use Rattle.script_model.specs.Bench.{bench_text};
 ghost use Rattle.bench_script.specs.Ends.{drawn_state};
 
 use iso_io::{Source, SourceFault};
@@ -23,7 +23,7 @@ pub struct DrawnScript {
 
 impl Model for DrawnScript {
     ghost use Rattle.std.specs.Prelude.{◌≤◌, ◌++◌, drop, length};
-    ghost use Rattle.iso_model.specs.Bench.{bench_text};
+    ghost use Rattle.script_model.specs.Bench.{bench_text};
     ghost use Rattle.bench_script.specs.Ends.{DrawnState};
 
     ghost Value = { DrawnState };

@@ -1,7 +1,7 @@
 //! The laws of a bench: each function does nothing, and its contract is the law.
 ghost use Rattle.std.specs.Prelude.{◌≡◌, ℕ, ◌≤◌, None};
-ghost use Rattle.iso_model.specs.Bench.{bench_text};
-ghost use Rattle.iso_model.specs.Script.{script};
+ghost use Rattle.script_model.specs.Bench.{bench_text};
+ghost use Rattle.script_model.specs.Script.{script};
 ghost use Rattle.script_runner.specs.Told.{ArePlain};
 ghost use Rattle.bench_script.specs.Ends.{DrawnState, drawn_state};
 

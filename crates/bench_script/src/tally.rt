@@ -1,8 +1,8 @@
 // How many replies tell of a commit, and how many of a conflict.
 ghost use Rattle.std.specs.Prelude.{◌≡◌, ◌+◌, ◌-◌, ◌<◌, ◌^◌, ℕ, List, filter, length};
-ghost use Rattle.iso_model.specs.declared.script.Line.{Line};
-ghost use Rattle.iso_model.specs.Bench.{answers_to, is_committed, is_conflict};
-ghost use Rattle.iso_model.specs.Script.{replies};
+ghost use Rattle.script_model.specs.declared.script.Line.{Line};
+ghost use Rattle.script_model.specs.Bench.{answers_to, is_committed, is_conflict};
+ghost use Rattle.script_model.specs.Script.{replies};
 ghost use Rattle.iso_model.specs.World.{World};
 ghost use Rattle.bench_script.specs.Kinds.{commits_in, conflicts_in};
 

@@ -3,7 +3,7 @@ use Rattle.std.proofs.Common.{◌≡◌, [], ◌∷◌, Some, refl, codes}
 use Rattle.clap.proofs.OnLiterals.{clap_on_literals}
 use Rattle.iso_model.specs.declared.access.Mode.TheVariants.{Serial, Snapshot}
 use Rattle.iso_model.specs.Geometry.{is_valid}
-use Rattle.iso_model.specs.Text.{number_of, words_of}
+use Rattle.script_model.specs.Text.{number_of, words_of}
 use Rattle.command_line.specs.declared.task.Task.TheVariants.{New, Run, Par, Recover, Bench}
 use Rattle.command_line.specs.Grammar.{rows_found}
 use Rattle.command_line.specs.Requests.{geometry_of, geometry_with, request_of, task_of}

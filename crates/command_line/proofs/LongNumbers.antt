@@ -6,7 +6,8 @@ use Rattle.std.specs.Result.{OkIff, result_ok}
 use Rattle.std.specs.Str.Parse.{ParsesUnsigned}
 use Rattle.std.proofs.lemmas.Bool.{cond-true, cond-false, lt-ltb}
 use Rattle.std.proofs.lemmas.Str.Parse.{IsNumeralModel, numerals_by_fold, parse_digits}
-use Rattle.iso_model.specs.Text.{is_decimal, is_digit, value_of}
+use Rattle.script_model.specs.Text.{is_decimal, value_of}
+use Rattle.iso_model.specs.Labels.{is_digit}
 use Rattle.command_line.specs.Values.{long_number_of}
 
 numerals : IsNumeralModel (λ ds. list_all is_digit ds ≡ true) value_of

@@ -7,7 +7,7 @@ use Rattle.clap.specs.Words.{Text}
 use Rattle.iso_model.specs.declared.access.Geometry.{Geometry}
 use Rattle.iso_model.specs.declared.access.Mode.{Mode}
 use Rattle.iso_model.specs.Geometry.{is_valid}
-use Rattle.iso_model.specs.Text.{mode_of, number_of}
+use Rattle.script_model.specs.Text.{mode_of, number_of}
 use Rattle.command_line.specs.declared.task.Task.TheVariants.{Bench, New}
 use Rattle.command_line.specs.Grammar.{rows_found}
 use Rattle.command_line.specs.Requests.{for_image, geometry_of, geometry_with, if_valid, request_of, task_of}

@@ -2,7 +2,7 @@
 use Rattle.std.proofs.Common.{◌≡◌, [], ◌∷◌, None, refl, codes}
 use Rattle.clap.proofs.OnLiterals.{clap_on_literals}
 use Rattle.iso_model.specs.Geometry.{is_valid}
-use Rattle.iso_model.specs.Text.{number_of, words_of}
+use Rattle.script_model.specs.Text.{number_of, words_of}
 use Rattle.command_line.specs.Grammar.{rows_found}
 use Rattle.command_line.specs.Requests.{geometry_of, request_of, task_of}
 use Rattle.command_line.specs.Values.{long_number_of}

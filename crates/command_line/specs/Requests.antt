@@ -3,7 +3,7 @@ use Rattle.std.specs.Prelude.{◌≡◌, ℕ, ◌<◌, ◌≤◌, ◌^◌, IsTru
 use Rattle.clap.specs.Words.{Row, Text, first_of}
 use Rattle.iso_model.specs.declared.access.Geometry.{Geometry}
 use Rattle.iso_model.specs.declared.access.Mode.{Mode}
-use Rattle.iso_model.specs.Bench.{bench_geometry}
+use Rattle.script_model.specs.Bench.{bench_geometry}
 use Rattle.iso_model.specs.Geometry.{is_valid}
 use Rattle.command_line.specs.declared.task.Task.{Task}
 use Rattle.command_line.specs.declared.task.Task.TheVariants.{New, Run, Par, Recover, Bench}

@@ -3,7 +3,7 @@ use Rattle.std.specs.Prelude.{ℕ, ◌^◌, ◌&&◌, ◌==◌, Bool, false, [],
 use Rattle.clap.specs.Words.{Text}
 use Rattle.iso_model.specs.declared.access.Mode.{Mode}
 use Rattle.iso_model.specs.declared.access.Mode.TheVariants.{Serial}
-use Rattle.iso_model.specs.Text.{is_decimal, mode_of, number_of, value_of}
+use Rattle.script_model.specs.Text.{is_decimal, mode_of, number_of, value_of}
 
 abbrev pub begins_with_hyphen : Text → Bool
 begins_with_hyphen [] = false

@@ -6,7 +6,7 @@ ghost use Rattle.command_line.specs.Requests.{geometry_with, request_of};
 ghost use Rattle.command_line.specs.Values.{begins_with_hyphen, long_number_of};
 ghost use Rattle.iso_model.specs.Geometry.{is_valid};
 ghost use Rattle.iso_model.specs.declared.access.Mode.{Mode};
-ghost use Rattle.iso_model.specs.Text.{mode_of, number_of};
+ghost use Rattle.script_model.specs.Text.{mode_of, number_of};
 
 /// Every word that does not begin with a hyphen names an image, and behind `--` every word does.
 pub fn every_image_is_opened()

@@ -1,6 +1,6 @@
 // Numbers of up to 64 bits.
 ghost use Rattle.std.specs.Prelude.{◌≡◌};
-ghost use Rattle.iso_model.specs.Text.{is_decimal};
+ghost use Rattle.script_model.specs.Text.{is_decimal};
 ghost use Rattle.command_line.specs.Values.{long_number_of};
 
 /// Whether the word is decimal digits without a leading zero, but for 0 itself.

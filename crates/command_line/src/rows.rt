@@ -1,7 +1,7 @@
 // Rows of the grammar: each function does nothing, and its contract says what some words ask for, and which are refused.
 ghost use Rattle.std.specs.Prelude.{◌≡◌, [], ◌∷◌, Some, None, codes};
 ghost use Rattle.iso_model.specs.declared.access.Mode.TheVariants.{Serial, Snapshot};
-ghost use Rattle.iso_model.specs.Text.{words_of};
+ghost use Rattle.script_model.specs.Text.{words_of};
 ghost use Rattle.command_line.specs.declared.task.Task.TheVariants.{New, Run, Par, Recover, Bench};
 ghost use Rattle.command_line.specs.Requests.{geometry_with, request_of};
 

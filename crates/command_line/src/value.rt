@@ -2,7 +2,7 @@
 ghost use Rattle.std.specs.Prelude.{◌≡◌, ◌≤◌, IfSome, option_map};
 ghost use Rattle.clap.specs.Words.{first_of, found_of, rows_of};
 ghost use Rattle.command_line.specs.Values.{count_of, mode_or_serial, number_or};
-ghost use Rattle.iso_model.specs.Text.{mode_of};
+ghost use Rattle.script_model.specs.Text.{mode_of};
 
 use clap::ArgMatches;
 use iso_model::Mode;

@@ -46,11 +46,11 @@ impl Counting {
 }
 
 impl Disk for Counting {
-    ghost state = { λ d. untold 8 d.faults None };
+    ghost state = { λ d. untold 8 d.faults 0 None };
 
     ghost size_fits = { λ _. lit< tt };
 
-    ghost lawful = { λ d. untold_is_lawful 8 d.faults None };
+    ghost lawful = { λ d. untold_is_lawful 8 d.faults 0 None };
 
     fn size(&self) -> u64 {
         8

@@ -12,7 +12,6 @@ use Rattle.iso_model.specs.declared.access.Kind.TheVariants.{Read, Write}
 use Rattle.iso_model.specs.declared.access.Mode.{Mode}
 use Rattle.iso_model.specs.declared.access.Mode.TheVariants.{Serial, Snapshot}
 use Rattle.iso_model.specs.Conflict.{clashes, clash_from, first_from, first_byte, guarded}
-use Rattle.iso_model.specs.Effect.{or_else}
 use Rattle.iso_model.specs.Effect as model
 use Rattle.conflict_rule.specs.Notes.{Note}
 use Rattle.conflict_rule.specs.Decision.{guarded_bytes, AreNotes, Bytes, IsLeastMeeting}

@@ -66,11 +66,33 @@ impl Notes {
         let _ = self.notes.push((number, writes));
     }
 
+    /// Makes room for as many more commits as others hold.
+    pub fn reserve_for(&mut self, others: &Notes) -> Result<(), Memory>
+        ensures same { self.new.notes ≡ self.old.notes }
+        ensures room { OnOk result (length self.new.notes + length others.now.notes ≤ self.new.room) }
+    {
+        self.notes.reserve(others.notes.len())?;
+        Ok(())
+    }
+
+    /// Adds later commits, for which there is room.
+    pub fn take_all(&mut self, others: Notes)
+        requires room { length self.old.notes + length others.notes ≤ self.old.room }
+        requires rising { RisesFrom 0 (self.old.notes ++ others.notes) }
+        ensures { self.new.notes ≡ self.old.notes ++ others.notes }
+    {
+        let mut more = others.notes;
+        let _ = self.notes.append(&mut more);
+    }
+
     /// Keeps the commits above the floor.
     pub fn drop_to(&mut self, floor: u64)
         ensures notes { self.new.notes ≡ above floor self.old.notes }
     {
-        self.notes.retain(|note| floor < note.0);
+        // Where the first note is above the floor, all are.
+        if place_after(self.notes.as_slice(), floor) > 0 {
+            self.notes.retain(|note| floor < note.0);
+        }
     }
 
     /// The notes of the commits above a number, once more.

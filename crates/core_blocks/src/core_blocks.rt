@@ -6,8 +6,8 @@ use crate::guest::Guest;
 use crate::origin::Origin;
 use iso_core::Core;
 use iso_disk::Disk;
-use iso_model::TxError;
 use std::marker::PhantomData;
+use store_model::TxError;
 use tx_blocks::TxBlocks;
 use tx_table::Work;
 

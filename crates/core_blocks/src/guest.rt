@@ -4,15 +4,16 @@ ghost use Rattle.std.specs.Option.{ForSome};
 ghost use Rattle.iso_model.specs.Effect.{own};
 ghost use Rattle.iso_model.specs.Marks.{marked};
 ghost use Rattle.iso_model.specs.Premises.{block_at};
-ghost use Rattle.iso_model.specs.Stores.{look_access, store_access};
+ghost use Rattle.store_model.specs.Stores.{look_access, store_access};
 ghost use Rattle.tx_blocks.specs.Tx.{IsFree, IsRefused, IsTx, access_refusal, mark_refusal, room_of, with_accesses};
 
 use crate::origin::Origin;
 use fault_count::raise;
 use iso_core::Core;
 use iso_disk::Disk;
-use iso_model::{MarkError, TxError};
+use iso_model::MarkError;
 use std::marker::{Model, PhantomData};
+use store_model::TxError;
 use tx_table::Work;
 
 /// A live transaction of a core that is up, with its work. It counts how often the disk has failed.

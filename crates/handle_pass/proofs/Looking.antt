@@ -5,8 +5,8 @@ use Rattle.std.proofs.lemmas.Bool.Decides.{nat_tests}
 use Rattle.std.proofs.lemmas.List.{append-nil, length_push}
 use Rattle.fault_count.specs.Count.{Rose}
 use Rattle.iso_model.specs.declared.access.Access.{Access}
-use Rattle.iso_model.specs.declared.stores.TxError.{TxError}
-use Rattle.iso_model.specs.declared.stores.TxError.TheVariants as error
+use Rattle.store_model.specs.declared.stores.TxError.{TxError}
+use Rattle.store_model.specs.declared.stores.TxError.TheVariants as error
 use Rattle.iso_model.specs.Effect as effect
 use Rattle.iso_model.specs.Marks.{marked}
 use Rattle.iso_model.specs.Premises.{block_at}

@@ -1,8 +1,8 @@
 -- How the reads, writes and marks of a session end.
 use Rattle.std.specs.Prelude.{◌≡◌, ℕ, ◌⊎◌, true, List, [], ◌∷◌, ◌++◌, Option, Some, None, Result, Ok, Err, is_some}
 use Rattle.iso_model.specs.declared.access.Access.{Access}
-use Rattle.iso_model.specs.declared.stores.TxError.{TxError}
-use Rattle.iso_model.specs.declared.stores.TxError.TheVariants as error
+use Rattle.store_model.specs.declared.stores.TxError.{TxError}
+use Rattle.store_model.specs.declared.stores.TxError.TheVariants as error
 use Rattle.iso_model.specs.Array.{Array}
 use Rattle.iso_model.specs.Effect as effect
 use Rattle.iso_model.specs.History.{array_at}

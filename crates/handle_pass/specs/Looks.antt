@@ -1,12 +1,12 @@
 -- What one call on a session's transaction makes of what is seen of it.
 use Rattle.std.specs.Prelude.{◌≡◌, ℕ, ◌||◌, Bool, true, false, List, [], ◌∷◌, Result, Ok, Err, OnOk, OnErr, nat_lt}
 use Rattle.std.specs.Option.{ForSome}
-use Rattle.iso_model.specs.declared.stores.TxError.{TxError}
-use Rattle.iso_model.specs.declared.stores.TxError.TheVariants as error
+use Rattle.store_model.specs.declared.stores.TxError.{TxError}
+use Rattle.store_model.specs.declared.stores.TxError.TheVariants as error
 use Rattle.iso_model.specs.Effect.{own}
 use Rattle.iso_model.specs.Marks.{marked}
 use Rattle.iso_model.specs.Premises.{block_at}
-use Rattle.iso_model.specs.Stores.{look_access, store_access}
+use Rattle.store_model.specs.Stores.{look_access, store_access}
 use Rattle.tx_blocks.specs.Tx.{Device, IsFree, IsLater, IsRefused, IsTx, access_refusal, mark_refusal, with_accesses}
 use Rattle.handle_pass.specs.Visits.{Seen}
 

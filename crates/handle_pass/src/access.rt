@@ -6,9 +6,10 @@ ghost use Rattle.tx_blocks.specs.Tx.{IsRefused};
 
 use crate::session::Session;
 use iso_disk::Disk;
-use iso_model::{CoreError, MarkError, TxError};
+use iso_model::{CoreError, MarkError};
 use iso_shared::Origin;
 use std::sync::Wait;
+use store_model::TxError;
 
 impl<'a, D: Disk + Drop, O: Origin> Session<'a, D, O> {
     /// Reads a block as it stood when the transaction began, with its own writes over it. The access covers the whole block

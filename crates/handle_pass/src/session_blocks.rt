@@ -9,10 +9,10 @@ use crate::session::Session;
 use crate::visit::Visit;
 use crate::visitor::Visitor;
 use iso_disk::Disk;
-use iso_model::TxError;
 use iso_shared::Origin;
 use std::marker::PhantomData;
 use std::sync::Wait;
+use store_model::TxError;
 use tx_blocks::TxBlocks;
 
 /// The transaction of a session, as a store sees it. Its count of faults counts those of this visit. Once a fetch was refused, each

@@ -179,7 +179,7 @@ fn run_across<O: Origin + Send + Sync, R: Threads + Wait + Sync>(
     alloc: Global,
     core: Core<MemDisk>,
 ) -> Option<(u8, EndReply)>
-    requires start { MayStart state_of O.start core }
+    requires start { MayStart state_of O.start O.disk core }
 {
     match Shared::<MemDisk, O>::new(alloc, core) {
         Err((_memory, _core)) => None,
@@ -265,7 +265,7 @@ fn run_refusals<O: Origin, R: Wait>(
     alloc: Global,
     core: Core<MemDisk>,
 ) -> Option<(bool, bool, u64)>
-    requires start { MayStart state_of O.start core }
+    requires start { MayStart state_of O.start O.disk core }
 {
     match Shared::<MemDisk, O>::new(alloc, core) {
         Err((_memory, _core)) => None,
@@ -348,7 +348,7 @@ fn shown_through<'s, 'a, O: Origin, R: Wait>(
 
 /// The same over a core.
 fn run_through<O: Origin, R: Wait>(rt: &R, alloc: Global, core: Core<MemDisk>) -> Option<(u8, u8)>
-    requires start { MayStart state_of O.start core }
+    requires start { MayStart state_of O.start O.disk core }
     requires valid { IsTrue (is_valid O.start.world.geometry) }
 {
     match Shared::<MemDisk, O>::new(alloc, core) {

@@ -7,10 +7,10 @@ use crate::session::Session;
 use crate::visit::Visit;
 use fault_count::raise;
 use iso_disk::Disk;
-use iso_model::TxError;
 use iso_shared::Origin;
 use std::marker::{Model, PhantomData};
 use std::sync::Wait;
+use store_model::TxError;
 
 /// A session on whose transaction calls are made. It counts how often the disk has failed, and knows whether the device is down.
 #[derive(Drop)]

@@ -5,7 +5,7 @@ use Rattle.std.specs.Int.{bit_at}
 use Rattle.std.proofs.lemmas.Bool.{cases_eq}
 use Rattle.std.proofs.lemmas.List.{get_or-set_same, get_or-set_other}
 use Rattle.std.proofs.lemmas.Nat.Bits.{bit_at_or, bit_at_xor, bit_at_and, bit_at-pow_same, bit_at-pow_other, bit_at-lt}
-use Rattle.iso_model.specs.FreeMap.{bit_place, map_bit, set_bit, clear_bit, with_bit, without_bit}
+use Rattle.store_model.specs.FreeMap.{bit_place, map_bit, set_bit, clear_bit, with_bit, without_bit}
 
 set_here : (byte k : ℕ) → bit_at (set_bit byte k) (k % 8) ≡ 1
 set_here byte k = let low = bit_at-lt byte (k % 8) in bit_at_or byte (2 ^ (k % 8)) (k % 8) ∙ ap (max (bit_at byte (k % 8))) (bit_at-pow_same (k % 8)) ∙ omega arith

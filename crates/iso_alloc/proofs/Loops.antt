@@ -2,9 +2,9 @@
 use Rattle.std.proofs.Common.{◌≡◌, sym, refl, ap, ℕ, zero, suc, ◌+◌, ◌-◌, ◌<◌, ◌≤◌, Bool, true, false, ◌&&◌, cond, Option, Some, None, arith}
 use Rattle.std.proofs.Common.{◌∙◌, inl, inr}
 use Rattle.std.proofs.lemmas.Bool.{and_parts, cases_eq}
-use Rattle.iso_model.specs.Cells.{all_from}
+use Rattle.store_model.specs.Cells.{all_from}
 use Rattle.iso_model.specs.Conflict.{first_from}
-use Rattle.iso_model.specs.FreeMap.{free_count, map_bit}
+use Rattle.store_model.specs.FreeMap.{free_count, map_bit}
 use Rattle.std.proofs.Common.{List}
 
 pub all_step : (test : ℕ → Bool) (i n : ℕ) → i < n → all_from test i (n - i) ≡ (test i && all_from test (i + 1) (n - (i + 1)))

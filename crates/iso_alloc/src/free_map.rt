@@ -1,8 +1,8 @@
 // The free map of a region.
 ghost use Rattle.std.specs.Prelude.{◌≡◌, ◌+◌, ◌-◌, ◌<◌, ◌≤◌, ◌==◌, ◌||◌, ◌&&◌, not, ℕ, length, IfNone, IfSome};
-ghost use Rattle.iso_model.specs.FreeMap.{bit_place, free_count, lowest_free, map_bit, map_bytes, with_bit, without_bit};
+ghost use Rattle.store_model.specs.FreeMap.{bit_place, free_count, lowest_free, map_bit, map_bytes, with_bit, without_bit};
 
-use iso_model::Region;
+use store_model::Region;
 
 // Whether the bit of a block is set.
 fn is_taken(map: &[u8], block: u32) -> bool

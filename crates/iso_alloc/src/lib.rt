@@ -10,6 +10,6 @@ mod tests;
 
 pub use cells::Cells;
 pub use free_map::{free_blocks, give_back, take_lowest};
-pub use iso_model::{Region, StoreError};
 pub use parts::{are_zero, cell_count, is_part, key_part, lay, piece, spell, text_of, word_at};
 pub use search::{are_key_parts, cell_with, is_alone, unused_cell};
+pub use store_model::{Region, StoreError};

@@ -1,5 +1,5 @@
 -- A core with one more commit.
-use Rattle.std.proofs.Common.{◌≡◌, ◌∙◌, ◌⊎◌, inl, inr, sym, refl, ap, ℕ, zero, suc, ◌+◌, ◌-◌, ◌<◌, ◌≤◌, Bool, ◌==◌, not, List, [], ◌∷◌, ◌++◌, length, map, filter, arith, subst, nat_eq, slice_index_or, drop, length-drop}
+use Rattle.std.proofs.Common.{◌≡◌, ◌∙◌, sym, ap, ℕ, zero, suc, ◌+◌, ◌-◌, ◌<◌, ◌≤◌, ◌==◌, not, List, [], ◌∷◌, ◌++◌, length, map, arith, subst, nat_eq, slice_index_or, drop, length-drop}
 use Rattle.std.proofs.Math.Path.{transport}
 use Rattle.std.proofs.lemmas.List.{drop-map, length_push}
 use Rattle.std.specs.List.{AllByRecursion}
@@ -8,7 +8,7 @@ use Rattle.byte_marks.specs.declared.extent.Extent.{Extent}
 use Rattle.conflict_rule.specs.Decision.{AreNotes, AreNotesAfter}
 use Rattle.conflict_rule.specs.Notes.{Held, Note, above}
 use Rattle.conflict_rule.proofs.Following.{added_after, dropped_after}
-use Rattle.iso_image.specs.Half.{Half, half_of_world, last_told, next_gate, told_bytes, with_records}
+use Rattle.iso_image.specs.Half.{Half, half_of_world, last_told, with_records}
 use Rattle.iso_image.proofs.Histories.{half_after}
 use Rattle.iso_log.specs.Extent.{Extent as LogExtent, extent_of}
 use Rattle.iso_model.specs.Geometry.{log_place}
@@ -16,24 +16,23 @@ use Rattle.iso_model.specs.History.{History, last}
 use Rattle.iso_model.specs.declared.access.Commit.{Commit}
 use Rattle.iso_model.specs.declared.access.Geometry.{Geometry}
 use Rattle.iso_model.specs.Image.{IsRecord, Written, written}
-use Rattle.iso_model.specs.Step.{after_commit, after_leaving}
+use Rattle.iso_model.specs.Step.{after_commit, commit_from}
 use Rattle.iso_model.specs.World.{World, Live, floor, floor_of, without}
 use Rattle.iso_model.specs.Worlds.{IsWorld}
 use Rattle.iso_model.proofs.Distinct.{all_filter}
 use Rattle.iso_model.proofs.Floors.{floor_above, floor_below}
-use Rattle.iso_model.proofs.Growth.{all_weaker}
 use Rattle.iso_model.proofs.Worlds.{floor_between}
 use Rattle.mv_index.specs.Placed.{IsIndexOf}
 use Rattle.mv_index.specs.Versions.{BlockVersions}
 use Rattle.tx_table.specs.Live.{at_work}
 use Rattle.tx_table.specs.declared.live.Begun.{Begun}
 use Rattle.version_read.specs.declared.part_span.PartSpan.{PartSpan}
-use Rattle.version_read.specs.Parts.{HasTaken, MayTake, part_of}
+use Rattle.version_read.specs.Parts.{HasTaken, MayTake}
 use Rattle.version_read.proofs.Following.{index_more}
 use Rattle.version_read.proofs.Taking.{may_take}
 use Rattle.iso_core.specs.declared.kept.Kept.{Kept}
-use Rattle.iso_core.specs.Ends.{IsGrownBy, commit_of, written_of}
-use Rattle.iso_core.specs.Kept.{bare, IsOf, NotesSince}
+use Rattle.iso_core.specs.Ends.{IsGrownBy, written_of}
+use Rattle.iso_core.specs.Kept.{bare, IsOf}
 use Rattle.iso_core.proofs.Numbers.{last_is}
 use Rattle.iso_core.proofs.Transactions.{kept_floor, kept_without}
 
@@ -100,7 +99,7 @@ module _ (W : World) (tx : ℕ) (t : Live) (kept : Kept) (gate : ℕ) (writes : 
 
   next_last : last (after_commit W t).history ≡ last W.history + 1
   next_last =
-      let count = length_push W.history.commits (commit_of t) in
+      let count = length_push W.history.commits (commit_from t) in
       let first : 0 < W.history.first = grown.was.world.history.first in
       omega (arith, count)
 
@@ -125,7 +124,7 @@ module _ (W : World) (tx : ℕ) (t : Live) (kept : Kept) (gate : ℕ) (writes : 
       let high : floor W ≤ last W.history = (floor_between W grown.was.world).1 in
       let rises = floor_rises in
       let n : number ≡ W.history.first + length W.history.commits = omega (arith, number_of, number_is, first) in
-      let all = added_after W.geometry W.history from kept.notes.notes (commit_of t) writes (omega (arith, low, high, first)) grown.was.keeps.notes.notes grown.prepared.touched in
+      let all = added_after W.geometry W.history from kept.notes.notes (commit_from t) writes (omega (arith, low, high, first)) grown.was.keeps.notes.notes grown.prepared.touched in
       let kept_notes = dropped_after W.geometry (after_commit W t).history from (floor (after_commit W t)) (kept.notes.notes ++ (W.history.first + length W.history.commits, writes) ∷ []) (omega (arith, low, rises)) all in
       subst (λ (l : List Note). AreNotesAfter W.geometry (after_commit W t).history (floor (after_commit W t)) l)
       (sym (is ∙ (λ i. above (to_is i) (kept.notes.notes ++ (n i, writes) ∷ [])))) kept_notes

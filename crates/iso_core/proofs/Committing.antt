@@ -1,30 +1,30 @@
 -- The steps of a commit: what is kept, and the disk, between two of them.
-use Rattle.std.proofs.Common.{◌≡◌, ◌≢◌, ◌∙◌, ◌⊎◌, inl, inr, sym, refl, ap, ℕ, ◌+◌, ◌-◌, ◌<◌, ◌≤◌, Bool, true, false, List, [], ◌∷◌, ◌++◌, length, arith, subst, None, Some, Vec}
+use Rattle.std.proofs.Common.{◌≡◌, ◌≢◌, ◌∙◌, sym, refl, ap, ℕ, ◌+◌, ◌-◌, ◌<◌, ◌≤◌, Bool, true, List, [], ◌∷◌, ◌++◌, length, arith, subst}
 use Rattle.std.proofs.lemmas.List.{length_push}
 use Rattle.byte_marks.specs.declared.extent.Extent.{Extent}
 use Rattle.iso_disk.specs.Disk.{DiskState, IsLawful, IsSettled, LeavesOnly}
-use Rattle.iso_disk.proofs.Moments.{at_end, started, weakened}
-use Rattle.iso_format.specs.Spelled.{Spelled}
+use Rattle.iso_disk.proofs.Moments.{at_end}
 use Rattle.iso_image.specs.Half.{Half, IsHeld, MayFollow, half_of_world, next_gate, with_records}
-use Rattle.iso_log.specs.Extent.{Extent as LogExtent, extent_of}
+use Rattle.iso_log.specs.Extent.{extent_of}
 use Rattle.iso_model.specs.declared.limits.TheConstants.{LAST}
-use Rattle.iso_model.specs.declared.script.Reply.{Reply}
-use Rattle.iso_model.specs.declared.script.Reply.TheVariants as reply
+use Rattle.iso_model.specs.declared.core_reply.CoreReply.{CoreReply}
+use Rattle.iso_model.specs.declared.core_reply.CoreReply.TheVariants as reply
 use Rattle.iso_model.specs.Geometry.{image_size}
 use Rattle.iso_model.specs.History.{last}
-use Rattle.iso_model.specs.Step.{after_commit, after_leaving, commit_step, need}
+use Rattle.iso_model.specs.Step.{after_commit, after_leaving, need, commit_from}
 use Rattle.iso_model.specs.World.{World, Live, unattached, used}
-use Rattle.iso_model.specs.Worlds.{IsLive, IsWorld}
+use Rattle.iso_model.specs.Worlds.{IsWorld}
 use Rattle.iso_model.proofs.Worlds.{commits}
 use Rattle.tx_table.specs.Work.{Doing}
 use Rattle.iso_core.specs.declared.kept.Kept.{Kept}
-use Rattle.iso_core.specs.Core.{AllHold, AreOf}
-use Rattle.iso_core.specs.Ends.{AreNextRecords, IsGrownBy, IsPrepared, IsSpelled, MayCommit, commit_of, written_of}
-use Rattle.iso_core.specs.Kept.{IsOf, Keeps}
-use Rattle.iso_core.specs.Standing.{ShowsEither, ShowsLast, ShowsWith, up, down}
+use Rattle.iso_core.specs.Core.{AreOf}
+use Rattle.iso_core.specs.Ends.{IsGrownBy, IsPrepared, IsSpelled, MayCommit, written_of}
+use Rattle.iso_core.specs.Kept.{IsOf}
+use Rattle.iso_core.specs.Standing.{up, down}
+use Rattle.iso_model.specs.Between.{ShowsEither}
 use Rattle.iso_core.proofs.Commits.{next_half}
 use Rattle.iso_core.proofs.Leaves.{has_begun}
-use Rattle.iso_core.proofs.Moments.{is_committed, record_needs, shows_either}
+use Rattle.iso_core.proofs.Moments.{record_needs}
 use Rattle.iso_core.proofs.Numbers.{log_last, log_room, log_used}
 use Rattle.iso_core.proofs.Prepares.{follows}
 use Rattle.iso_core.proofs.Standings.{stands_on}
@@ -120,12 +120,12 @@ grown_by W tx t kept new gate writes of is work may next prepared may_follow gat
       gate_is = gate_is;
     })
 
-module _ (W : World) (t : Live) (answer : Reply × World) (is : answer ≡ (reply.Committed (last W.history + 1), after_commit W t)) where
+module _ (W : World) (t : Live) (answer : CoreReply × World) (is : answer ≡ (reply.Committed (last W.history + 1), after_commit W t)) where
   pub answered : answer.0 ≡ reply.Committed (last W.history + 1)
-  answered = ap (λ (x : Reply × World). x.0) is
+  answered = ap (λ (x : CoreReply × World). x.0) is
 
   pub led : after_commit W t ≡ answer.1
-  led = sym (ap (λ (x : Reply × World). x.1) is)
+  led = sym (ap (λ (x : CoreReply × World). x.1) is)
 
 -- a core that committed
 pub committed_core : (old new : DiskState) (kept mid fin : Kept) (W : World) (t : Live) → AreOf old kept W up → IsWorld (after_commit W t) → IsOf fin (after_commit W t) → new.size ≡ old.size → IsSettled new
@@ -144,7 +144,7 @@ committed_core old new kept mid fin W t of next is same settled mid_half fin_hal
 
 -- a core that a fault set down in a commit
 pub lost_core : (new : DiskState) (old : DiskState) (fin : Kept) (W : World) (t : Live) → IsLawful new → old.size ≡ new.size → IsOf fin (after_leaving W t) → fin.down ≡ true
-    → old.size ≡ image_size W.geometry → LeavesOnly old new (ShowsEither W (after_commit W t)) → AreOf new fin (after_leaving W t) (down (commit_of t ∷ []))
+    → old.size ≡ image_size W.geometry → LeavesOnly old new (ShowsEither W (after_commit W t)) → AreOf new fin (after_leaving W t) (down (commit_from t ∷ []))
 lost_core new old fin W t laws same is fin_down size run = record {
   kept_of = is;
   is_down = fin_down;

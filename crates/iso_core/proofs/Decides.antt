@@ -3,7 +3,7 @@ use Rattle.std.proofs.Common.{◌≡◌, ◌∙◌, sym, refl, ap, ℕ, suc, ◌
 use Rattle.std.proofs.Math.Path.{transport}
 use Rattle.byte_marks.specs.Touched.{AreTouched}
 use Rattle.conflict_rule.specs.Decision.{AreNotes, AreNotesAfter, Bytes, IsAsked}
-use Rattle.conflict_rule.specs.Notes.{Held, Note, above}
+use Rattle.conflict_rule.specs.Notes.{Note, above}
 use Rattle.conflict_rule.specs.declared.decision.Checked.{Checked}
 use Rattle.conflict_rule.proofs.Following.{dropped_after}
 use Rattle.iso_model.specs.declared.access.Access.{Access}
@@ -11,7 +11,7 @@ use Rattle.iso_model.specs.declared.access.Commit.{Commit}
 use Rattle.iso_model.specs.declared.limits.TheConstants.{MAX_ACCESSES}
 use Rattle.iso_model.specs.declared.access.Geometry.{Geometry}
 use Rattle.iso_model.specs.declared.access.Kind.TheVariants.{Read, Write}
-use Rattle.iso_model.specs.History.{History, last}
+use Rattle.iso_model.specs.History.{last}
 use Rattle.iso_model.specs.Premises.{AreAccesses}
 use Rattle.iso_model.specs.World.{World, Live, floor}
 use Rattle.iso_model.proofs.Bounds.{limits}

@@ -1,9 +1,8 @@
 -- How an end goes, step by step.
-use Rattle.std.proofs.Common.{◌≡◌, ◌∙◌, sym, refl, ap, Bool, true, false, Option, Some, None, ℕ, List}
+use Rattle.std.proofs.Common.{◌≡◌, sym, refl, ap, true, false, Option, Some, None, ℕ}
 use Rattle.iso_disk.specs.Disk.{DiskState}
 use Rattle.iso_model.specs.declared.access.Clash.{Clash}
-use Rattle.iso_model.specs.declared.script.Reply.{Reply}
-use Rattle.iso_model.specs.declared.script.Reply.TheVariants as reply
+use Rattle.iso_model.specs.declared.core_reply.CoreReply.TheVariants as reply
 use Rattle.iso_model.specs.Conflict.{clash}
 use Rattle.iso_model.specs.Effect.{has_write}
 use Rattle.iso_model.specs.Step.{after_leaving, commit_step, end_step}
@@ -14,7 +13,7 @@ use Rattle.iso_core.specs.Calls.{IsTx}
 use Rattle.iso_core.specs.Core.{AreOf}
 use Rattle.iso_core.specs.Ends.{IsSettledOf, MayCommit}
 use Rattle.iso_core.specs.Kept.{IsOf}
-use Rattle.iso_core.specs.Standing.{Standing, up}
+use Rattle.iso_core.specs.Standing.{Standing}
 use Rattle.iso_core.proofs.Standings.{stands_on}
 
 module _ (W : World) (t : Live) where

@@ -1,28 +1,23 @@
 -- A block that is read by the versions of a core is the block at the transaction's begin.
-use Rattle.std.proofs.Common.{◌≡◌, ◌∙◌, ◌⊎◌, inl, inr, sym, refl, ap, ℕ, ◌+◌, ◌-◌, ◌*◌, ◌<◌, ◌≤◌, List, length, map, drop, Option, Some, arith, subst}
+use Rattle.std.proofs.Common.{◌≡◌, ◌∙◌, ◌⊎◌, inl, inr, ap, ℕ, ◌+◌, ◌*◌, ◌<◌, ◌≤◌, List, length, arith, subst}
 use Rattle.std.specs.List.{AllByRecursion}
-use Rattle.std.specs.Option.{ForSome}
-use Rattle.iso_disk.specs.Disk.{DiskState, IsLawful}
-use Rattle.iso_image.specs.Half.{IsHeld, half_of_world, told_bytes}
+use Rattle.iso_image.specs.Half.{IsHeld, half_of_world}
 use Rattle.iso_image.proofs.Histories.{world_bytes}
 use Rattle.iso_model.specs.Array.{Array}
-use Rattle.iso_model.specs.Geometry.{base_place, image_size, log_place}
-use Rattle.iso_model.specs.History.{array_at, last}
+use Rattle.iso_model.specs.Geometry.{base_place, image_size}
+use Rattle.iso_model.specs.History.{array_at}
 use Rattle.iso_model.specs.Image.{records}
 use Rattle.iso_model.specs.Premises.{block_at}
 use Rattle.iso_model.specs.World.{World, Live, used}
-use Rattle.iso_model.specs.Worlds.{IsWorld}
 use Rattle.mv_index.specs.declared.version.Version.{Version}
 use Rattle.mv_index.specs.Shown.{Lies, ShowTheSame}
 use Rattle.mv_index.specs.Versions.{upto, versions_in}
 use Rattle.version_read.specs.Blocks.{IsOver}
 use Rattle.version_read.proofs.Fetched.{array_of, fetched, last_of, newest}
-use Rattle.version_read.proofs.Lying.{all_lie, base_lies}
+use Rattle.version_read.proofs.Lying.{all_lie}
 use Rattle.iso_core.specs.declared.kept.Kept.{Kept}
 use Rattle.iso_core.specs.Calls.{IsTx}
-use Rattle.iso_core.specs.Core.{AllHold, AreOf}
 use Rattle.iso_core.specs.Kept.{IsOf}
-use Rattle.iso_core.specs.Standing.{up}
 use Rattle.iso_core.proofs.Commits.{held_records}
 use Rattle.iso_core.proofs.Leaves.{has_begun}
 use Rattle.iso_core.proofs.Numbers.{log_last}

@@ -1,9 +1,7 @@
 -- A core without one of its transactions, and what its transactions began with.
-use Rattle.std.proofs.Common.{◌≡◌, ◌∙◌, sym, refl, ap, ℕ, ◌+◌, ◌<◌, ◌≤◌, Bool, ◌==◌, not, List, [], length, filter, map, Option, Some, None, IsSome, arith, nat_eq, subst, is_some}
+use Rattle.std.proofs.Common.{◌≡◌, ◌∙◌, sym, refl, ap, ℕ, ◌<◌, ◌≤◌, ◌==◌, not, List, map, Some, IsSome, arith, nat_eq}
 use Rattle.std.specs.List.{AllByRecursion}
 use Rattle.std.specs.Map.{lookup, remove_entry}
-use Rattle.std.specs.Option.{option_map}
-use Rattle.iso_model.specs.declared.access.Mode.{Mode}
 use Rattle.iso_model.specs.History.{last}
 use Rattle.iso_model.specs.Step.{after_leaving}
 use Rattle.iso_model.specs.World.{World, Live, floor, without}
@@ -15,8 +13,8 @@ use Rattle.iso_model.proofs.Worlds.{floor_between, leaves}
 use Rattle.tx_table.specs.Live.{at_work, begin_of}
 use Rattle.tx_table.specs.declared.live.Begun.{Begun}
 use Rattle.iso_core.specs.declared.kept.Kept.{Kept}
-use Rattle.iso_core.specs.Calls.{IsAmong, IsTx}
-use Rattle.iso_core.specs.Kept.{bare, IsOf, Keeps, NotesSince}
+use Rattle.iso_core.specs.Calls.{IsTx}
+use Rattle.iso_core.specs.Kept.{bare, IsOf, NotesSince}
 use Rattle.iso_core.proofs.Transactions.{among, kept_tx, kept_without}
 
 -- what a live transaction began with

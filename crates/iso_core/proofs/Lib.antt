@@ -18,3 +18,8 @@ pub mod Openings
 pub mod Switches
 pub mod Refills
 pub mod Plans
+pub mod Judging
+pub mod Staging
+pub mod Grouping
+pub mod Reserving
+pub mod Replied

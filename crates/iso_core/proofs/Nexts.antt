@@ -1,21 +1,18 @@
 -- Records that follow the last one of a core.
-use Rattle.std.proofs.Common.{◌≡◌, ◌∙◌, sym, refl, ap, ℕ, ◌+◌, ◌-◌, ◌<◌, ◌≤◌, List, [], ◌∷◌, ◌++◌, length, arith, length-append, subst, true}
+use Rattle.std.proofs.Common.{◌≡◌, ◌∙◌, sym, ap, ℕ, ◌+◌, ◌≤◌, List, [], ◌∷◌, ◌++◌, length, arith, length-append, subst}
 use Rattle.iso_image.specs.Half.{Half, MayFollow, half_of_world, last_told, told_bytes, with_records}
 use Rattle.iso_image.proofs.Histories.{world_bytes}
 use Rattle.iso_image.proofs.Logs.{records-append}
 use Rattle.iso_log.specs.Log.{IsNext}
 use Rattle.iso_model.specs.declared.limits.TheConstants.{LAST}
-use Rattle.iso_model.specs.Effect.{has_write, runs}
 use Rattle.iso_model.specs.History.{last}
-use Rattle.iso_model.specs.Image.{IsRecord, Written, records}
-use Rattle.iso_model.specs.World.{World, Live, used}
+use Rattle.iso_model.specs.Image.{Written, records}
+use Rattle.iso_model.specs.World.{World, used}
 use Rattle.iso_model.specs.Worlds.{IsWorld}
-use Rattle.iso_model.proofs.Bounds.{limits}
-use Rattle.iso_model.proofs.Worlds.{commit_is_record}
 use Rattle.iso_core.specs.declared.kept.Kept.{Kept}
-use Rattle.iso_core.specs.Ends.{AreNextRecords, commit_of, written_of}
+use Rattle.iso_core.specs.Ends.{AreNextRecords}
 use Rattle.iso_core.specs.Kept.{IsOf}
-use Rattle.iso_core.proofs.Numbers.{last_is, log_last, log_used, log_room}
+use Rattle.iso_core.proofs.Numbers.{last_is, log_last}
 
 pub next_is : (kept : Kept) (W : World) (more : List Written) → IsOf kept W → AreNextRecords W more kept.buffer.records → (bytes : List ℕ) → bytes ≡ kept.buffer.records ++ 0 ∷ []
     → IsNext kept.log W.geometry more bytes

@@ -1,11 +1,11 @@
 -- The numbers of a core's log are those of its world.
-use Rattle.std.proofs.Common.{◌≡◌, ◌∙◌, sym, ap, ℕ, ◌+◌, ◌-◌, ◌<◌, ◌≤◌, List, length, map, drop, arith, length-drop}
+use Rattle.std.proofs.Common.{◌≡◌, ◌∙◌, ap, ℕ, ◌+◌, ◌-◌, ◌<◌, ◌≤◌, length, drop, arith, length-drop}
 use Rattle.std.proofs.lemmas.List.{length-map}
-use Rattle.iso_image.specs.Half.{Half, half_of_world, last_told, told_bytes}
+use Rattle.iso_image.specs.Half.{half_of_world, last_told}
 use Rattle.iso_image.proofs.Histories.{world_bytes}
 use Rattle.iso_log.specs.Extent.{Extent}
 use Rattle.iso_model.specs.History.{last}
-use Rattle.iso_model.specs.Image.{Written, written}
+use Rattle.iso_model.specs.Image.{written}
 use Rattle.iso_model.specs.World.{World, used}
 use Rattle.iso_model.specs.Worlds.{IsWorld}
 use Rattle.iso_core.specs.declared.kept.Kept.{Kept}

@@ -1,5 +1,5 @@
 -- A core that was just opened.
-use Rattle.std.proofs.Common.{◌≡◌, ◌∙◌, sym, refl, ap, ℕ, ◌+◌, ◌-◌, ◌<◌, ◌≤◌, List, [], length, map, arith, subst}
+use Rattle.std.proofs.Common.{◌≡◌, ◌∙◌, sym, ap, ℕ, ◌+◌, ◌-◌, ◌<◌, List, [], map, arith, subst}
 use Rattle.conflict_rule.specs.Decision.{AreNotesAfter}
 use Rattle.conflict_rule.specs.Notes.{Note}
 use Rattle.conflict_rule.proofs.Following.{none_after}
@@ -13,7 +13,7 @@ use Rattle.tx_table.specs.Live.{at_work}
 use Rattle.tx_table.specs.declared.live.Begun.{Begun}
 use Rattle.iso_core.specs.declared.kept.Kept.{Kept}
 use Rattle.iso_core.specs.declared.opening.Opened.{Opened}
-use Rattle.iso_core.specs.Kept.{bare, IsOf}
+use Rattle.iso_core.specs.Kept.{IsOf}
 use Rattle.iso_core.specs.Opening.{IsOpenedTo, opened_world}
 
 pub opens_so : (H : History) (opened : Opened) (kept : Kept) → IsOpenedTo H opened → kept.geometry ≡ opened.geometry → kept.half ≡ opened.half → kept.generation ≡ opened.generation

@@ -1,35 +1,31 @@
 -- The plan of a switch is that of the world.
-use Rattle.std.proofs.Common.{◌≡◌, ◌≢◌, ◌∙◌, ◌⊎◌, inl, inr, sym, refl, ap, ℕ, ◌+◌, ◌-◌, ◌<◌, ◌≤◌, List, [], true, IsTrue, arith, subst, length, Some, eq-eqb, ne_eqb}
+use Rattle.std.proofs.Common.{◌≡◌, ◌≢◌, ◌∙◌, ◌⊎◌, inl, inr, sym, refl, ap, ℕ, ◌+◌, ◌-◌, ◌<◌, ◌≤◌, List, IsTrue, arith, subst, eq-eqb, ne_eqb}
 use Rattle.std.proofs.Math.Path.{transport}
 use Rattle.half_switch.specs.declared.plan.FillPlan.{FillPlan}
-use Rattle.half_switch.specs.Plan.{AreHalves, Copies, IsFrom, place_of, refilled}
+use Rattle.half_switch.specs.Plan.{Copies, place_of, refilled}
 use Rattle.half_switch.proofs.Forms.{refilled_history}
-use Rattle.iso_disk.specs.Disk.{DiskState, IsLawful, IsSettled, LeavesOnly}
-use Rattle.iso_disk.proofs.Moments.{at_end, weakened}
 use Rattle.iso_image.specs.declared.places.HalfPlace.{HalfPlace}
-use Rattle.iso_image.specs.Half.{Half, IsHeld, half_of, half_of_world, in_form, last_told, told_bytes}
+use Rattle.iso_image.specs.Half.{Half, IsHeld, half_of_world, in_form}
 use Rattle.iso_image.proofs.Histories.{half_form, half_shows, world_bytes}
 use Rattle.iso_model.specs.declared.access.Geometry.{Geometry}
 use Rattle.iso_model.specs.declared.limits.TheConstants.{LAST}
-use Rattle.iso_model.specs.declared.script.Reply.{Reply}
-use Rattle.iso_model.specs.declared.script.Reply.TheVariants as reply
-use Rattle.iso_model.specs.Geometry.{image_size, is_valid}
-use Rattle.iso_model.specs.History.{last}
+use Rattle.iso_model.specs.declared.core_reply.CoreReply.{CoreReply}
+use Rattle.iso_model.specs.declared.core_reply.CoreReply.TheVariants as reply
+use Rattle.iso_model.specs.Geometry.{is_valid}
 use Rattle.iso_model.specs.Step.{after_switch, switch_step}
-use Rattle.iso_model.specs.World.{World, floor, used}
+use Rattle.iso_model.specs.World.{World, floor}
 use Rattle.iso_model.specs.Worlds.{IsWorld}
 use Rattle.iso_model.proofs.Bounds.{limits}
 use Rattle.iso_model.proofs.Worlds.{floor_between, switch_leads}
 use Rattle.iso_core.specs.declared.kept.Kept.{Kept}
-use Rattle.iso_core.specs.Core.{AllHold, AreOf}
 use Rattle.iso_core.specs.Kept.{IsOf}
-use Rattle.iso_core.specs.Standing.{ShowsLast, up, down}
+use Rattle.iso_model.specs.Between.{ShowsLast}
 use Rattle.iso_core.specs.Switching.{IsForm}
 use Rattle.iso_core.proofs.Moments.{shows_world}
-use Rattle.iso_core.proofs.Numbers.{last_is, log_last, log_used}
+use Rattle.iso_core.proofs.Numbers.{last_is, log_used}
 
 -- how a switch goes
-module _ (W : World) (form : ℕ) (answer : Reply) where
+module _ (W : World) (form : ℕ) (answer : CoreReply) where
   pub is_worn : W.generation ≡ LAST → (switch_step W form answer).0 ≡ reply.Worn
   unfolding switch_step
   is_worn is = rw (eq-eqb W.generation LAST is) refl
@@ -40,7 +36,7 @@ module _ (W : World) (form : ℕ) (answer : Reply) where
 
 pub next_world : (W : World) (form : ℕ) → IsWorld W → IsForm W form → W.generation ≢ LAST → IsWorld (after_switch W form)
 next_world W form is fits fresh =
-    subst (λ (x : Reply × World). IsWorld x.1) (is_switched W form reply.Done fresh) (switch_leads W form reply.Done is fits.rises fits.largest).world
+    subst (λ (x : CoreReply × World). IsWorld x.1) (is_switched W form reply.Done fresh) (switch_leads W form reply.Done is fits.rises fits.largest).world
 
 module _ (kept : Kept) (W : World) (form : ℕ) (of : IsOf kept W) (fits : IsForm W form) where
   pub both : kept.half + (1 - kept.half) ≡ 1

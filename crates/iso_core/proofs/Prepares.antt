@@ -1,34 +1,30 @@
 -- A commit before the first call of the disk.
-use Rattle.std.proofs.Common.{◌≡◌, ◌∙◌, ◌⊎◌, sym, refl, ap, ℕ, ◌+◌, ◌^◌, ◌<◌, ◌≤◌, List, [], ◌∷◌, ◌++◌, length, map, arith, subst, append-nil}
+use Rattle.std.proofs.Common.{◌≡◌, ◌∙◌, sym, ap, ℕ, ◌+◌, ◌^◌, ◌<◌, ◌≤◌, List, [], ◌∷◌, ◌++◌, length, map, arith, subst, append-nil}
 use Rattle.std.specs.List.{AllByRecursion}
 use Rattle.conflict_rule.specs.Decision.{AreNotesAfter}
 use Rattle.conflict_rule.specs.Notes.{Held, Note}
-use Rattle.iso_format.specs.Spelled.{Spelled}
 use Rattle.iso_format.specs.Writing.{LieInAnImage}
 use Rattle.iso_image.specs.Half.{MayFollow, half_of_world}
-use Rattle.iso_model.specs.declared.access.Access.{Access}
-use Rattle.iso_model.specs.declared.access.Geometry.{Geometry}
 use Rattle.iso_model.specs.declared.access.Mode.{Mode}
 use Rattle.iso_model.specs.declared.access.Run.{Run}
 use Rattle.iso_model.specs.declared.limits.TheConstants.{LAST}
 use Rattle.iso_model.specs.Effect.{runs}
-use Rattle.iso_model.specs.Geometry.{is_valid, log_place}
 use Rattle.iso_model.specs.History.{last}
-use Rattle.iso_model.specs.Image.{AreRuns, kind_of, records, spell}
-use Rattle.iso_model.specs.World.{World, Live, used}
+use Rattle.iso_model.specs.Image.{kind_of, spell}
+use Rattle.iso_model.specs.World.{World, Live}
 use Rattle.iso_model.proofs.Bounds.{limits}
 use Rattle.iso_model.proofs.Maximal.{are_runs}
 use Rattle.iso_model.proofs.Worlds.{commit_is_record}
 use Rattle.iso_model.proofs.Written.{runs_where_write}
-use Rattle.mv_index.specs.Placed.{IsIndexOf}
 use Rattle.mv_index.specs.Versions.{BlockVersions, versions_in}
 use Rattle.tx_table.specs.Work.{Doing}
 use Rattle.version_read.specs.declared.part_span.PartSpan.{PartSpan}
 use Rattle.version_read.specs.Parts.{BlocksRise, part_of}
 use Rattle.version_read.proofs.Taking.{parts_below, parts_few, parts_rise}
 use Rattle.iso_core.specs.declared.kept.Kept.{Kept}
-use Rattle.iso_core.specs.Ends.{AreNextRecords, IsSpelled, MayCommit, commit_of, written_of}
-use Rattle.iso_core.specs.Kept.{IsOf, NotesSince}
+use Rattle.iso_core.specs.Ends.{AreNextRecords, IsSpelled, MayCommit, written_of}
+use Rattle.iso_model.specs.Step.{commit_from}
+use Rattle.iso_core.specs.Kept.{IsOf}
 use Rattle.iso_core.proofs.Leaves.{has_begun}
 use Rattle.iso_core.proofs.Nexts.{may_follow}
 use Rattle.iso_core.proofs.Numbers.{log_last, log_used, log_room}
@@ -81,7 +77,7 @@ module _ (kept : Kept) (W : World) (tx : ℕ) (t : Live) (work : Doing) (of : Is
       let begun = has_begun W tx t of.world may.here in
       record {
         some = omega arith;
-        each = (commit_is_record W.geometry (commit_of t) (omega (arith, size)) may.settled.accesses may.write begun.mode, tt);
+        each = (commit_is_record W.geometry (commit_from t) (omega (arith, size)) may.settled.accesses may.write begun.mode, tt);
         numbers = omega (arith, last_of, fresh);
         bytes_are = is ∙ (λ i. spell 1 (kinds i) ((number_is ∙ ap (λ (n : ℕ). n + 1) last_of) i) (same_runs i)) ∙ sym (append-nil (spell 1 (kind_of W.geometry t.mode) (last W.history + 1) (runs W.geometry t.accesses)));
       }

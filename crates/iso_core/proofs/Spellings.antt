@@ -1,5 +1,5 @@
 -- The pieces of a patch, as parts of a record.
-use Rattle.std.proofs.Common.{◌≡◌, refl, ℕ, List, [], ◌∷◌, length, map, Option}
+use Rattle.std.proofs.Common.{◌≡◌, refl, ℕ, List, [], ◌∷◌, length, map}
 use Rattle.std.specs.List.{AllByRecursion}
 use Rattle.iso_model.specs.declared.access.Run.{Run}
 use Rattle.iso_model.specs.declared.access.Span.{Span}

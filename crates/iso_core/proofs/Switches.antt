@@ -1,13 +1,12 @@
 -- What is kept once the other half is the current one.
-use Rattle.std.proofs.Common.{◌≡◌, ◌∙◌, sym, refl, ap, ℕ, ◌+◌, ◌-◌, ◌*◌, ◌^◌, ◌<◌, ◌≤◌, List, length, map, drop, take, arith, subst, length-append, length-take-le}
+use Rattle.std.proofs.Common.{◌≡◌, ◌∙◌, sym, ap, ℕ, ◌+◌, ◌-◌, ◌*◌, ◌^◌, ◌<◌, ◌≤◌, List, length, drop, take, arith, subst, length-append, length-take-le}
 use Rattle.std.proofs.Math.Path.{transport}
 use Rattle.std.proofs.lemmas.List.{take-append-drop}
-use Rattle.iso_image.specs.Half.{Half, half_of, half_of_world, in_form, last_told, told_bytes}
+use Rattle.iso_image.specs.Half.{Half, half_of, half_of_world, in_form, told_bytes}
 use Rattle.iso_image.proofs.Frames.{log_inside}
 use Rattle.iso_image.proofs.Histories.{half_form, later_records, records_form, world_bytes}
 use Rattle.iso_image.proofs.Logs.{records-append}
-use Rattle.iso_log.specs.Extent.{Extent, extent_of}
-use Rattle.iso_model.specs.declared.access.Geometry.{Geometry}
+use Rattle.iso_log.specs.Extent.{extent_of}
 use Rattle.iso_model.specs.Geometry.{image_size, log_place}
 use Rattle.iso_model.specs.History.{last}
 use Rattle.iso_model.specs.Image.{Written, records}
@@ -28,7 +27,7 @@ use Rattle.iso_core.specs.declared.kept.Kept.{Kept}
 use Rattle.iso_core.specs.Kept.{IsOf}
 use Rattle.iso_core.proofs.Commits.{held_records}
 use Rattle.iso_core.proofs.Fetches.{versions_lie}
-use Rattle.iso_core.proofs.Numbers.{last_is, log_last, log_room, log_used}
+use Rattle.iso_core.proofs.Numbers.{last_is, log_last, log_room}
 
 module _ (kept : Kept) (W : World) (of : IsOf kept W) where
   -- the half, its records, and how many of them the floor leaves out

@@ -1,18 +1,13 @@
 -- The live transactions of a core and those of its world.
-use Rattle.std.proofs.Common.{◌≡◌, ◌≢◌, ◌⊎◌, inl, inr, ◌∙◌, sym, refl, ap, ℕ, suc, ◌+◌, ◌<◌, ◌≤◌, Bool, true, false, ◌==◌, not, cond, List, [], ◌∷◌, ◌++◌, length, filter, map, Option, Some, None, arith, eq-eqb, ne_eqb, subst, nat_eq, min}
+use Rattle.std.proofs.Common.{◌≡◌, ◌≢◌, ◌⊎◌, inl, inr, ◌∙◌, sym, refl, ap, ℕ, suc, ◌<◌, List, [], ◌∷◌, length, map, Some, None, arith, eq-eqb, ne_eqb, subst, nat_eq, min}
 use Rattle.std.specs.List.{AllByRecursion}
 use Rattle.std.specs.Map.{lookup, remove_entry}
-use Rattle.std.specs.Option.{option_map}
-use Rattle.std.proofs.lemmas.Bool.{cases_eq, eqb-true}
-use Rattle.iso_model.specs.declared.access.Mode.{Mode}
-use Rattle.iso_model.specs.History.{last}
-use Rattle.iso_model.specs.World.{World, Live, floor, floor_of, least_begin, without, unattached}
-use Rattle.iso_model.specs.Worlds.{AreApart, AreDistinct, AreTwo, IsLive, IsWorld}
-use Rattle.iso_model.proofs.Floors.{floor_above, floor_below}
-use Rattle.iso_model.proofs.Growth.{all_weaker}
-use Rattle.tx_table.specs.Live.{at_work, begin_of, mode_of}
+use Rattle.std.proofs.lemmas.Bool.{cases_eq}
+use Rattle.iso_model.specs.World.{Live, floor_of, least_begin, without}
+use Rattle.iso_model.specs.Worlds.{AreDistinct, AreTwo}
+use Rattle.tx_table.specs.Live.{at_work, begin_of}
 use Rattle.tx_table.specs.declared.live.Begun.{Begun}
-use Rattle.iso_core.specs.Calls.{IsAmong, IsTx}
+use Rattle.iso_core.specs.Calls.{IsAmong}
 use Rattle.iso_core.specs.Kept.{bare}
 
 -- what holds of all live transactions by their begins and modes holds of each of them

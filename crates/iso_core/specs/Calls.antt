@@ -7,8 +7,8 @@ use Rattle.iso_model.specs.declared.access.EndReply.{EndReply}
 use Rattle.iso_model.specs.declared.access.EndReply.TheVariants as ended
 use Rattle.iso_model.specs.declared.core_error.CoreError.{CoreError}
 use Rattle.iso_model.specs.declared.core_error.CoreError.TheVariants as error
-use Rattle.iso_model.specs.declared.script.Reply.{Reply}
-use Rattle.iso_model.specs.declared.script.Reply.TheVariants as reply
+use Rattle.iso_model.specs.declared.core_reply.CoreReply.{CoreReply}
+use Rattle.iso_model.specs.declared.core_reply.CoreReply.TheVariants as reply
 use Rattle.iso_model.specs.Conflict.{clash}
 use Rattle.iso_model.specs.History.{last}
 use Rattle.iso_model.specs.World.{World, Live}
@@ -40,7 +40,7 @@ pub record IsCheckedOf (W : World) (t : Live) (checked : Checked) : Type 0 where
   pub clash : checked.clash ≡ clash W.geometry (up_to W.history checked.upto) t.mode t.begin t.accesses
 
 -- the reply of the model that an error stands for; being down, a fault of the disk and want of memory are none of its replies
-abbrev pub refusal_of : CoreError → Option Reply
+abbrev pub refusal_of : CoreError → Option CoreReply
 refusal_of error.Down = None
 refusal_of error.TooManyTx = Some reply.TooManyTx
 refusal_of (error.LogFull need free) = Some (reply.LogFull need free)
@@ -50,7 +50,7 @@ refusal_of (error.Worn at) = Some reply.Worn
 refusal_of error.ModeFixed = Some reply.ModeFixed
 
 -- the reply of the model that the end of a transaction stands for
-abbrev pub reply_of : EndReply → Reply
+abbrev pub reply_of : EndReply → CoreReply
 reply_of (ended.Committed number) = reply.Committed number
 reply_of ended.ReadOnly = reply.ReadOnly
 reply_of (ended.Conflict clash) = reply.Conflict clash
@@ -63,7 +63,7 @@ Writes (Err error.Disk) = Unit {0}
 Writes (Err e) = ⊥
 
 -- the error is want of memory, or stands for the model's reply
-abbrev pub Refuses : Reply → CoreError → Type 0
+abbrev pub Refuses : CoreReply → CoreError → Type 0
 Refuses answer e = (e ≡ error.Memory) ⊎ (refusal_of e ≡ Some answer)
 
 -- the count of the disk's faults did not fall, a call that blames the disk raised it, and after any other answer it stands where it stood

@@ -1,12 +1,10 @@
 -- What stands between the steps of an end.
-use Rattle.std.specs.Prelude.{◌≡◌, ◌≢◌, ℕ, ◌+◌, ◌<◌, ◌≤◌, Bool, true, List, [], ◌∷◌, length, map, None}
+use Rattle.std.specs.Prelude.{◌≡◌, ℕ, ◌+◌, ◌<◌, ◌≤◌, true, List, [], ◌∷◌, length, map, None}
 use Rattle.std.specs.List.{AllByRecursion}
 use Rattle.byte_marks.specs.declared.extent.Extent.{Extent}
 use Rattle.byte_marks.specs.Touched.{AreTouched}
-use Rattle.iso_format.specs.Spelled.{Spelled}
 use Rattle.iso_image.specs.Half.{MayFollow, half_of_world, next_gate, with_records}
 use Rattle.iso_log.specs.Extent.{Extent as LogExtent, extent_of}
-use Rattle.iso_model.specs.declared.access.Commit.{Commit}
 use Rattle.iso_model.specs.declared.access.Kind.TheVariants.{Write}
 use Rattle.iso_model.specs.declared.limits.TheConstants.{LAST, MAX_ACCESSES}
 use Rattle.iso_model.specs.Conflict.{clash}
@@ -14,7 +12,7 @@ use Rattle.iso_model.specs.Effect.{has_write}
 use Rattle.iso_model.specs.History.{last}
 use Rattle.iso_model.specs.Image.{IsRecord, Written, records, written}
 use Rattle.iso_model.specs.Premises.{AreAccesses}
-use Rattle.iso_model.specs.Step.{after_commit}
+use Rattle.iso_model.specs.Step.{after_commit, commit_from}
 use Rattle.iso_model.specs.World.{World, Live}
 use Rattle.iso_model.specs.Worlds.{IsWorld}
 use Rattle.tx_table.specs.Work.{Doing}
@@ -23,13 +21,9 @@ use Rattle.iso_core.specs.declared.kept.Kept.{Kept}
 use Rattle.iso_core.specs.Calls.{IsTx, IsWorkOf}
 use Rattle.iso_core.specs.Kept.{IsOf}
 
--- the commit that a transaction becomes
-abbrev pub commit_of : Live → Commit
-commit_of t = record { begin = t.begin; mode = t.mode; accesses = t.accesses }
-
 -- the record that it becomes
 abbrev pub written_of : World → Live → Written
-written_of W t = written W.geometry (commit_of t)
+written_of W t = written W.geometry (commit_from t)
 
 -- the work is that of the transaction, whose accesses are such, and it is settled
 pub record IsSettledOf (W : World) (t : Live) (work : Doing) : Type 0 where

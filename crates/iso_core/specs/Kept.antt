@@ -1,5 +1,5 @@
 -- What a core keeps in memory, and of which world it is.
-use Rattle.std.specs.Prelude.{◌≡◌, ◌⊎◌, ℕ, ◌+◌, ◌≤◌, List, [], ◌∷◌, map}
+use Rattle.std.specs.Prelude.{◌≡◌, ℕ, ◌+◌, ◌≤◌, [], map}
 use Rattle.conflict_rule.specs.Decision.{AreNotesAfter}
 use Rattle.conflict_rule.specs.Notes.{Held}
 use Rattle.iso_image.specs.Half.{half_of_world}

@@ -5,3 +5,4 @@ pub mod Calls
 pub mod Ends
 pub mod Opening
 pub mod Switching
+pub mod Planned

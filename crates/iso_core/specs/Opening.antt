@@ -1,5 +1,5 @@
 -- What a core is opened with.
-use Rattle.std.specs.Prelude.{◌≡◌, ℕ, ◌+◌, ◌≤◌, List}
+use Rattle.std.specs.Prelude.{◌≡◌, ◌+◌, ◌≤◌}
 use Rattle.iso_image.specs.Half.{half_of_world}
 use Rattle.iso_log.specs.Extent.{extent_of}
 use Rattle.iso_model.specs.Geometry.{log_place}

@@ -1,9 +1,10 @@
 // The begin of a transaction.
-ghost use Rattle.std.specs.Prelude.{◌≡◌, ◌+◌, ◌&&◌, ◌==◌, IfOk, IfErr, OnErr, not};
+ghost use Rattle.std.specs.Prelude.{◌≡◌, ℕ, ◌+◌, ◌&&◌, ◌==◌, IfOk, IfErr, IsErrOf, OnErr, not};
+ghost use Rattle.iso_model.specs.declared.limits.TheConstants.{LAST};
 ghost use Rattle.iso_model.specs.Geometry.{same_mode};
 ghost use Rattle.iso_model.specs.Step.{after_begin, begin_step, mode_named};
 ghost use Rattle.iso_model.specs.World.{World, unattached};
-ghost use Rattle.iso_model.specs.declared.script.Reply.TheVariants as reply;
+ghost use Rattle.iso_model.specs.declared.core_reply.CoreReply.TheVariants as reply;
 ghost use Rattle.iso_core.specs.Calls.{Refuses};
 ghost use Rattle.iso_core.specs.Kept.{IsOf};
 
@@ -28,6 +29,7 @@ pub(crate) fn begin(kept: &mut Kept, mode: Option<Mode>) -> Result<Begun, CoreEr
     ensures begun { (W : World) → IsOf kept.old W → IfOk result (λ b. (b.tx ≡ W.next) × (b.mode ≡ mode_named W mode)
         × ((begin_step W unattached (mode_named W mode)).0 ≡ reply.Began b.at) × IsOf kept.new (after_begin W unattached (mode_named W mode))) }
     ensures refused { (W : World) → IsOf kept.old W → IfErr result (Refuses (begin_step W unattached (mode_named W mode)).0) }
+    ensures last { (at : ℕ) → IsErrOf result (CoreError.Worn at) → at ≡ LAST }
     ensures kept { OnErr result (kept.new ≡ kept.old) }
     ensures half { kept.new.half ≡ kept.old.half }
     ensures down { kept.new.down ≡ kept.old.down }

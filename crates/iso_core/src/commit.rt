@@ -4,15 +4,17 @@ ghost use Rattle.byte_marks.specs.Touched.{AreTouched};
 ghost use Rattle.iso_disk.specs.Disk.{LeavesOnly, StaysTold};
 ghost use Rattle.iso_image.specs.Half.{half_of_world, next_gate, with_records};
 ghost use Rattle.iso_log.specs.Extent.{extent_of};
+ghost use Rattle.iso_model.specs.declared.limits.TheConstants.{LAST};
 ghost use Rattle.iso_model.specs.History.{last};
-ghost use Rattle.iso_model.specs.Step.{after_commit, after_leaving, commit_step};
+ghost use Rattle.iso_model.specs.Step.{after_commit, after_leaving, commit_step, commit_from};
 ghost use Rattle.iso_model.specs.World.{World, Live};
-ghost use Rattle.iso_model.specs.declared.script.Reply.TheVariants as reply;
+ghost use Rattle.iso_model.specs.declared.core_reply.CoreReply.TheVariants as reply;
 ghost use Rattle.iso_core.specs.Calls.{BlamesDisk, Refuses, Writes, reply_of};
 ghost use Rattle.iso_core.specs.Core.{AreOf};
-ghost use Rattle.iso_core.specs.Ends.{IsGrownBy, IsPrepared, MayCommit, commit_of, written_of};
+ghost use Rattle.iso_core.specs.Ends.{IsGrownBy, IsPrepared, MayCommit, written_of};
 ghost use Rattle.iso_core.specs.Kept.{IsOf};
-ghost use Rattle.iso_core.specs.Standing.{ShowsEither, up, down};
+ghost use Rattle.iso_core.specs.Standing.{up, down};
+ghost use Rattle.iso_model.specs.Between.{ShowsEither};
 
 use crate::append::append;
 use crate::kept::Kept;
@@ -52,9 +54,10 @@ pub(crate) fn commit<D: Disk>(
     ensures refused { (W : World) (t : Live) → AreOf (D.state disk.old) kept.old W up → MayCommit W tx t work.now
         → IfErr result (λ e. (e ≡ CoreError.Disk) ⊎ Refuses (commit_step W t None).0 e) }
     ensures same { (W : World) → AreOf (D.state disk.old) kept.old W up → IfErr result (λ e. e ≢ CoreError.Disk → AreOf (D.state disk.new) kept.new W up) }
+    ensures last { (at : ℕ) → IsErrOf result (CoreError.Worn at) → at ≡ LAST }
     ensures unwritten { Writes result ⊎ (disk.new ≡ disk.old) }
     ensures lost { (W : World) (t : Live) → AreOf (D.state disk.old) kept.old W up → MayCommit W tx t work.now → IsErrOf result CoreError.Disk
-        → ((commit_step W t None).0 ≡ reply.Committed (last W.history + 1)) × AreOf (D.state disk.new) kept.new (after_leaving W t) (down (commit_of t ∷ [])) }
+        → ((commit_step W t None).0 ≡ reply.Committed (last W.history + 1)) × AreOf (D.state disk.new) kept.new (after_leaving W t) (down (commit_from t ∷ [])) }
     ensures moments { (W : World) (t : Live) → AreOf (D.state disk.old) kept.old W up → MayCommit W tx t work.now
         → LeavesOnly (D.state disk.old) (D.state disk.new) (ShowsEither W (commit_step W t None).1) }
     ensures told { OnOk result (StaysTold (D.state disk.old) (D.state disk.new)) }

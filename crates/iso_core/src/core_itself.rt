@@ -1,19 +1,22 @@
 // The core itself.
-ghost use Rattle.std.specs.Prelude.{◌≡◌, ◌≢◌, ◌⊎◌, ℕ, ◌+◌, ◌-◌, ◌<◌, ◌≤◌, List, [], ◌∷◌, Some, None, Ok, Err, OnOk, OnErr, IfOk, IfErr, IsErrOf, length};
+ghost use Rattle.std.specs.Prelude.{◌≡◌, ◌≢◌, ◌⊎◌, ℕ, ◌+◌, ◌-◌, ◌<◌, ◌≤◌, List, [], ◌∷◌, Some, Ok, Err, OnOk, OnErr, IfOk, IfErr, IsErrOf, length, map};
 ghost use Rattle.iso_model.specs.declared.access.Commit.{Commit};
+ghost use Rattle.iso_model.specs.declared.limits.TheConstants.{LAST};
 ghost use Rattle.iso_model.specs.History.{last};
 ghost use Rattle.iso_model.specs.Step.{after_begin, after_leaving, after_switch, after_trim, begin_step, end_step, mode_named, switch_step};
 ghost use Rattle.iso_model.specs.World.{World, Live, floor, unattached, used};
-ghost use Rattle.iso_model.specs.declared.script.Reply.{Reply};
-ghost use Rattle.iso_model.specs.declared.script.Reply.TheVariants as reply;
+ghost use Rattle.iso_model.specs.declared.core_reply.CoreReply.{CoreReply};
+ghost use Rattle.iso_model.specs.declared.core_reply.CoreReply.TheVariants as reply;
 ghost use Rattle.iso_model.specs.Versions.{versions};
 
 use crate::answers::{Begun, Recent, Stat};
 use crate::begin::begin;
 use crate::ending::end_tx;
 use crate::fetch::fetch;
+use crate::group_end::GroupEnd;
 use crate::kept::Kept;
 use crate::leave::leave;
+use crate::members::end_members;
 use crate::opening::{Opened, keep};
 use crate::switching::switch_half;
 use crate::trim::trim;
@@ -38,11 +41,16 @@ impl<D: Disk> Core<D> {
     ghost use Rattle.iso_model.specs.History.{History, array_at};
     ghost use Rattle.iso_model.specs.Premises.{block_at};
     ghost use Rattle.iso_core.specs.Calls.{BlamesDisk, IsCheckedOf, IsTx, IsWorkOf, Refuses, Writes, reply_of};
-    ghost use Rattle.iso_core.specs.Ends.{commit_of};
+    ghost use Rattle.iso_model.specs.Step.{commit_from};
     ghost use Rattle.iso_core.specs.Core.{AllHold, StandsFor, disk_of};
     ghost use Rattle.iso_core.specs.Opening.{IsOpenedTo, opened_world};
     ghost use Rattle.iso_model.specs.Geometry.{image_size};
-    ghost use Rattle.iso_core.specs.Standing.{ShowsEither, ShowsLast, Standing, up, down, is_down};
+    ghost use Rattle.iso_model.specs.Group.{group, leave_all};
+    ghost use Rattle.iso_model.specs.History.{with_commits};
+    ghost use Rattle.iso_core.specs.Planned.{AreEach, IsMember, bare_end, reply_in, unsettled};
+    ghost use Rattle.iso_core.specs.declared.group_end.TheConstants.{MAX_GROUP};
+    ghost use Rattle.iso_core.specs.Standing.{Standing, up, down, is_down};
+    ghost use Rattle.iso_model.specs.Between.{ShowsEither, ShowsLast};
 
     /// A core over an image that was just opened or made.
     pub fn over(alloc: Global, disk: D, opened: Opened) -> Result<Core<D>, (Memory, D)>
@@ -78,6 +86,7 @@ impl<D: Disk> Core<D> {
             × ((begin_step W unattached (mode_named W mode)).0 ≡ reply.Began b.at) × StandsFor D.state self.new (after_begin W unattached (mode_named W mode)) up) }
         ensures refused { (W : World) → StandsFor D.state self.old W up → IfErr result (Refuses (begin_step W unattached (mode_named W mode)).0) }
         ensures down { (W : World) (lost : List Commit) → StandsFor D.state self.old W (down lost) → result ≡ Err CoreError.Down }
+        ensures last { (at : ℕ) → IsErrOf result (CoreError.Worn at) → at ≡ LAST }
         ensures kept { OnErr result (self.new ≡ self.old) }
         ensures disk { disk_of self.new ≡ disk_of self.old }
     {
@@ -131,9 +140,10 @@ impl<D: Disk> Core<D> {
         // At each moment an image shows the history before the end or after it. Nothing is written but for a commit.
         ensures moments { (W : World) (t : Live) → StandsFor D.state self.old W up → IsTx W tx t → IsWorkOf W t work.old → IsCheckedOf W t checked.now
             → LeavesOnly (D.state (disk_of self.old)) (D.state (disk_of self.new)) (ShowsEither W (end_step W t).1) }
+        ensures last { (at : ℕ) → IsErrOf result (CoreError.Worn at) → at ≡ LAST }
         ensures unwritten { Writes result ⊎ (disk_of self.new ≡ disk_of self.old) }
         ensures lost { (W : World) (t : Live) → StandsFor D.state self.old W up → IsTx W tx t → IsWorkOf W t work.old → IsCheckedOf W t checked.now → IsErrOf result CoreError.Disk
-            → ((end_step W t).0 ≡ reply.Committed (last W.history + 1)) × StandsFor D.state self.new (after_leaving W t) (down (commit_of t ∷ [])) }
+            → ((end_step W t).0 ≡ reply.Committed (last W.history + 1)) × StandsFor D.state self.new (after_leaving W t) (down (commit_from t ∷ [])) }
 
         ensures work { work.new ≡ record work.old { settled = work.new.settled } }
         ensures steps { (W : World) (t : Live) → StandsFor D.state self.old W up → IsTx W tx t → IsCheckedOf W t checked.now
@@ -146,6 +156,43 @@ impl<D: Disk> Core<D> {
             return Err(CoreError::Down);
         }
         end_tx(&mut self.kept, &mut self.disk, tx, work, checked, steps)
+    }
+
+    /// Ends different transactions that are live, one after the other, with one append for all their commits, and gives each
+    /// its reply. A member that the log has no room or no number for is aborted. All memory is taken before the first call of
+    /// the disk. Want of memory and a core that is down leave all as before, and no member has a reply. After a fault the core
+    /// is down, no member is live or has a reply, and all their commits stand or none.
+    pub fn end_group(&mut self, ends: &mut [GroupEnd]) -> Result<(), CoreError>
+        requires ready { (W : World) × (standing : Standing) × (members : List Live) × StandsFor D.state self.old W standing × AreEach (IsMember W) ends.old members }
+        requires some { 0 < length ends.old }
+        requires most { length ends.old ≤ MAX_GROUP }
+
+        // The replies and the world are the model's.
+        ensures ended { (W : World) (members : List Live) → StandsFor D.state self.old W up → AreEach (IsMember W) ends.old members
+            → OnOk result ((map reply_in ends.new ≡ map Some (group W members).0) × StandsFor D.state self.new (group W members).1 up) }
+        ensures same { (W : World) → StandsFor D.state self.old W up → IfErr result (λ e. e ≢ CoreError.Disk → StandsFor D.state self.new W up) }
+        ensures down { (W : World) (lost : List Commit) → StandsFor D.state self.old W (down lost) → (result ≡ Err CoreError.Down) × (self.new ≡ self.old) × (ends.new ≡ ends.old) }
+        ensures only { (W : World) → StandsFor D.state self.old W up → IfErr result (λ e. (e ≡ CoreError.Disk) ⊎ (e ≡ CoreError.Memory)) }
+        ensures members { map bare_end ends.new ≡ map bare_end ends.old }
+        ensures untold { OnErr result (map unsettled ends.new ≡ map unsettled ends.old) }
+
+        // At each moment an image shows the history before the group or after the whole of it.
+        ensures moments { (W : World) (members : List Live) → StandsFor D.state self.old W up → AreEach (IsMember W) ends.old members
+            → LeavesOnly (D.state (disk_of self.old)) (D.state (disk_of self.new)) (ShowsEither W (group W members).1) }
+        ensures lost { (W : World) (members : List Live) → StandsFor D.state self.old W up → AreEach (IsMember W) ends.old members → IsErrOf result CoreError.Disk
+            → (more : List Commit) × ((group W members).1.history ≡ with_commits more W.history) × StandsFor D.state self.new (leave_all members W) (down more) }
+
+        // Nothing is written where no member commits, nor where memory is wanting.
+        ensures unwritten { (W : World) (members : List Live) → StandsFor D.state self.old W up → AreEach (IsMember W) ends.old members → (group W members).1.history ≡ W.history
+            → disk_of self.new ≡ disk_of self.old }
+        ensures untouched { IfErr result (λ e. e ≢ CoreError.Disk → disk_of self.new ≡ disk_of self.old) }
+        ensures told { OnOk result (StaysTold (D.state (disk_of self.old)) (D.state (disk_of self.new))) }
+        ensures cause { BlamesDisk (D.state (disk_of self.old)).faults (D.state (disk_of self.new)).faults result }
+    {
+        if self.kept.down {
+            return Err(CoreError::Down);
+        }
+        end_members(&mut self.kept, &mut self.disk, ends)
     }
 
     /// Takes a live transaction out, with all that it did. It takes no memory.
@@ -176,14 +223,15 @@ impl<D: Disk> Core<D> {
     /// any moment leaves the same commits. Want of memory may come after the other half was closed; all else is then as before.
     pub fn compact(&mut self) -> Result<u64, CoreError>
         requires { (W : World) × (standing : Standing) × StandsFor D.state self.old W standing }
-        ensures switched { (W : World) → StandsFor D.state self.old W up → IfOk result (λ n. (n ≡ floor W) × ((answer : Reply) → switch_step W W.geometry.form answer ≡ (answer, after_switch W W.geometry.form))
+        ensures switched { (W : World) → StandsFor D.state self.old W up → IfOk result (λ n. (n ≡ floor W) × ((answer : CoreReply) → switch_step W W.geometry.form answer ≡ (answer, after_switch W W.geometry.form))
             × StandsFor D.state self.new (after_switch W W.geometry.form) up) }
-        ensures refused { (W : World) (answer : Reply) → StandsFor D.state self.old W up → IfErr result (λ e. (e ≡ CoreError.Disk) ⊎ Refuses (switch_step W W.geometry.form answer).0 e) }
+        ensures refused { (W : World) (answer : CoreReply) → StandsFor D.state self.old W up → IfErr result (λ e. (e ≡ CoreError.Disk) ⊎ Refuses (switch_step W W.geometry.form answer).0 e) }
         ensures same { (W : World) → StandsFor D.state self.old W up → IfErr result (λ e. e ≢ CoreError.Disk → StandsFor D.state self.new W up) }
         ensures down { (W : World) (lost : List Commit) → StandsFor D.state self.old W (down lost) → (result ≡ Err CoreError.Down) × (self.new ≡ self.old) }
         ensures lost { (W : World) → StandsFor D.state self.old W up → IsErrOf result CoreError.Disk → StandsFor D.state self.new W (down []) }
         ensures moments { (W : World) → StandsFor D.state self.old W up → LeavesOnly (D.state (disk_of self.old)) (D.state (disk_of self.new)) (ShowsLast W) }
-        ensures unworn { (W : World) (answer : Reply) → StandsFor D.state self.old W up → IsErrOf result CoreError.Disk → (switch_step W W.geometry.form answer).0 ≡ answer }
+        ensures unworn { (W : World) (answer : CoreReply) → StandsFor D.state self.old W up → IsErrOf result CoreError.Disk → (switch_step W W.geometry.form answer).0 ≡ answer }
+        ensures last { (at : ℕ) → IsErrOf result (CoreError.Worn at) → at ≡ LAST }
         ensures worn { IfErr result (λ e. e ≢ CoreError.Disk → e ≢ CoreError.Memory → disk_of self.new ≡ disk_of self.old) }
         ensures told { OnOk result (StaysTold (D.state (disk_of self.old)) (D.state (disk_of self.new))) }
         ensures still_told { IfErr result (λ e. e ≢ CoreError.Disk → StaysTold (D.state (disk_of self.old)) (D.state (disk_of self.new))) }
@@ -199,14 +247,15 @@ impl<D: Disk> Core<D> {
     /// Does so with an image of form 2, in which transactions of either mode may begin.
     pub fn upgrade(&mut self) -> Result<u64, CoreError>
         requires { (W : World) × (standing : Standing) × StandsFor D.state self.old W standing }
-        ensures switched { (W : World) → StandsFor D.state self.old W up → IfOk result (λ n. (n ≡ floor W) × ((answer : Reply) → switch_step W 2 answer ≡ (answer, after_switch W 2))
+        ensures switched { (W : World) → StandsFor D.state self.old W up → IfOk result (λ n. (n ≡ floor W) × ((answer : CoreReply) → switch_step W 2 answer ≡ (answer, after_switch W 2))
             × StandsFor D.state self.new (after_switch W 2) up) }
-        ensures refused { (W : World) (answer : Reply) → StandsFor D.state self.old W up → IfErr result (λ e. (e ≡ CoreError.Disk) ⊎ Refuses (switch_step W 2 answer).0 e) }
+        ensures refused { (W : World) (answer : CoreReply) → StandsFor D.state self.old W up → IfErr result (λ e. (e ≡ CoreError.Disk) ⊎ Refuses (switch_step W 2 answer).0 e) }
         ensures same { (W : World) → StandsFor D.state self.old W up → IfErr result (λ e. e ≢ CoreError.Disk → StandsFor D.state self.new W up) }
         ensures down { (W : World) (lost : List Commit) → StandsFor D.state self.old W (down lost) → (result ≡ Err CoreError.Down) × (self.new ≡ self.old) }
         ensures lost { (W : World) → StandsFor D.state self.old W up → IsErrOf result CoreError.Disk → StandsFor D.state self.new W (down []) }
         ensures moments { (W : World) → StandsFor D.state self.old W up → LeavesOnly (D.state (disk_of self.old)) (D.state (disk_of self.new)) (ShowsLast W) }
-        ensures unworn { (W : World) (answer : Reply) → StandsFor D.state self.old W up → IsErrOf result CoreError.Disk → (switch_step W 2 answer).0 ≡ answer }
+        ensures unworn { (W : World) (answer : CoreReply) → StandsFor D.state self.old W up → IsErrOf result CoreError.Disk → (switch_step W 2 answer).0 ≡ answer }
+        ensures last { (at : ℕ) → IsErrOf result (CoreError.Worn at) → at ≡ LAST }
         ensures worn { IfErr result (λ e. e ≢ CoreError.Disk → e ≢ CoreError.Memory → disk_of self.new ≡ disk_of self.old) }
         ensures told { OnOk result (StaysTold (D.state (disk_of self.old)) (D.state (disk_of self.new))) }
         ensures still_told { IfErr result (λ e. e ≢ CoreError.Disk → StaysTold (D.state (disk_of self.old)) (D.state (disk_of self.new))) }

@@ -1,14 +1,15 @@
 // The end of a transaction.
 ghost use Rattle.std.specs.Prelude.{◌≡◌, ◌≢◌, ◌⊎◌, ◌+◌, ◌-◌, ◌≤◌, ℕ, [], ◌∷◌, Some, OnOk, IfOk, IfErr, IsErrOf};
 ghost use Rattle.iso_disk.specs.Disk.{LeavesOnly, StaysTold};
+ghost use Rattle.iso_model.specs.declared.limits.TheConstants.{LAST};
 ghost use Rattle.iso_model.specs.History.{last};
-ghost use Rattle.iso_model.specs.Step.{after_leaving, end_step};
+ghost use Rattle.iso_model.specs.Step.{after_leaving, end_step, commit_from};
 ghost use Rattle.iso_model.specs.World.{World, Live};
-ghost use Rattle.iso_model.specs.declared.script.Reply.TheVariants as reply;
+ghost use Rattle.iso_model.specs.declared.core_reply.CoreReply.TheVariants as reply;
 ghost use Rattle.iso_core.specs.Calls.{BlamesDisk, IsCheckedOf, IsTx, IsWorkOf, Refuses, Writes, reply_of};
 ghost use Rattle.iso_core.specs.Core.{AreOf};
-ghost use Rattle.iso_core.specs.Ends.{commit_of};
-ghost use Rattle.iso_core.specs.Standing.{ShowsEither, up, down};
+ghost use Rattle.iso_core.specs.Standing.{up, down};
+ghost use Rattle.iso_model.specs.Between.{ShowsEither};
 
 use crate::commit::commit;
 use crate::decide::decide_end;
@@ -35,9 +36,10 @@ pub(crate) fn end_tx<D: Disk, L: Ledger>(
     ensures refused { (W : World) (t : Live) → AreOf (D.state disk.old) kept.old W up → IsTx W tx t → IsWorkOf W t work.old → IsCheckedOf W t checked.now
         → IfErr result (λ e. (e ≡ CoreError.Disk) ⊎ Refuses (end_step W t).0 e) }
     ensures same { (W : World) → AreOf (D.state disk.old) kept.old W up → IfErr result (λ e. e ≢ CoreError.Disk → AreOf (D.state disk.new) kept.new W up) }
+    ensures last { (at : ℕ) → IsErrOf result (CoreError.Worn at) → at ≡ LAST }
     ensures unwritten { Writes result ⊎ (disk.new ≡ disk.old) }
     ensures lost { (W : World) (t : Live) → AreOf (D.state disk.old) kept.old W up → IsTx W tx t → IsWorkOf W t work.old → IsCheckedOf W t checked.now → IsErrOf result CoreError.Disk
-        → ((end_step W t).0 ≡ reply.Committed (last W.history + 1)) × AreOf (D.state disk.new) kept.new (after_leaving W t) (down (commit_of t ∷ [])) }
+        → ((end_step W t).0 ≡ reply.Committed (last W.history + 1)) × AreOf (D.state disk.new) kept.new (after_leaving W t) (down (commit_from t ∷ [])) }
     ensures moments { (W : World) (t : Live) → AreOf (D.state disk.old) kept.old W up → IsTx W tx t → IsWorkOf W t work.old → IsCheckedOf W t checked.now
         → LeavesOnly (D.state disk.old) (D.state disk.new) (ShowsEither W (end_step W t).1) }
     ensures work { work.new ≡ record work.old { settled = work.new.settled } }

@@ -8,6 +8,7 @@ pub started : {d : DiskState} {P : List ℕ → Type 0} → IsLawful d → ((c :
 started laws here = record {
   same_size = refl;
   same_bound = refl;
+  same_binds = refl;
   later = omega arith;
   each = λ c since. here c (laws.only_now c since);
   before = λ t c le since. inl since;
@@ -19,6 +20,7 @@ pub goes_on : {old mid new : DiskState} {P images : List ℕ → Type 0} → Lea
 goes_on {old = old} so_far call here = record {
   same_size = call.same_size ∙ so_far.same_size;
   same_bound = call.same_bound ∙ so_far.same_bound;
+  same_binds = call.same_binds ∙ so_far.same_binds;
   later = omega (arith, so_far.later, call.later);
   each = λ c since. ⊎_elim (so_far.each c) (here c) (call.during old.clock c so_far.later since);
   before = λ t c le since. ⊎_elim (so_far.before t c le) (λ image. inr (here c image)) (call.during t c (omega (arith, le, so_far.later)) since);
@@ -34,6 +36,7 @@ pub joined : {old mid new : DiskState} {P : List ℕ → Type 0} → LeavesOnly 
 joined {old = old} first second = record {
   same_size = second.same_size ∙ first.same_size;
   same_bound = second.same_bound ∙ first.same_bound;
+  same_binds = second.same_binds ∙ first.same_binds;
   later = omega (arith, first.later, second.later);
   each = λ c since. ⊎_elim (first.each c) (λ p. p) (second.before old.clock c first.later since);
   before = λ t c le since. ⊎_elim (first.before t c le) inr (second.before t c (omega (arith, le, first.later)) since);
@@ -45,6 +48,7 @@ pub weakened : {old new : DiskState} {P Q : List ℕ → Type 0} → LeavesOnly 
 weakened run implies = record {
   same_size = run.same_size;
   same_bound = run.same_bound;
+  same_binds = run.same_binds;
   later = run.later;
   each = λ c since. implies c (run.each c since);
   before = λ t c le since. ⊎_elim inl (λ p. inr (implies c p)) (run.before t c le since);

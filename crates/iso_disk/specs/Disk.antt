@@ -34,6 +34,10 @@ pub record DiskState : Type 1 where
   pub faults : ℕ
   -- the moment and the name of the last bind, where it answered Ok
   pub bound : Option (ℕ × List ℕ)
+  -- how often a bind was asked for
+  pub binds : ℕ
+  -- what a bind to this name that makes nothing would read, where the disk tells it
+  pub named : List ℕ → Option (List ℕ)
 
 -- what holds of each state of a disk
 pub record IsLawful (d : DiskState) : Type 0 where
@@ -72,6 +76,7 @@ IsSettled d = (c : List ℕ) → d.now c → d.contents ≡ Some c
 pub record Elapses (old new : DiskState) (images : List ℕ → Type 0) : Type 0 where
   pub same_size : new.size ≡ old.size
   pub same_bound : new.bound ≡ old.bound
+  pub same_binds : new.binds ≡ old.binds
   pub later : old.clock ≤ new.clock
   pub after : (c : List ℕ) → new.now c → images c
   pub during : (t : ℕ) (c : List ℕ) → t ≤ old.clock → new.left t c → old.left t c ⊎ images c
@@ -81,6 +86,7 @@ pub record Elapses (old new : DiskState) (images : List ℕ → Type 0) : Type 0
 pub record LeavesOnly (old new : DiskState) (P : List ℕ → Type 0) : Type 0 where
   pub same_size : new.size ≡ old.size
   pub same_bound : new.bound ≡ old.bound
+  pub same_binds : new.binds ≡ old.binds
   pub later : old.clock ≤ new.clock
   pub each : (c : List ℕ) → new.left old.clock c → P c
   -- for a run that began earlier

@@ -4,8 +4,8 @@ use Rattle.std.specs.Option.{option_map}
 use Rattle.iso_disk.specs.Disk.{DiskState, IsLawful}
 
 -- no contents, no images and one moment, so that each claim on bytes or crashes holds of it by itself
-abbrev pub untold : (size faults : ℕ) → Option (List ℕ) → DiskState
-untold size faults name = record {
+abbrev pub untold : (size faults binds : ℕ) → Option (List ℕ) → DiskState
+untold size faults binds name = record {
   size = size;
   contents = None;
   now = λ _. ⊥;
@@ -13,10 +13,12 @@ untold size faults name = record {
   left = λ _ _. ⊥;
   faults = faults;
   bound = option_map (λ n. (0, n)) name;
+  binds = binds;
+  named = λ _. None;
 }
 
-pub untold_is_lawful : (size faults : ℕ) (name : Option (List ℕ)) → IsLawful (untold size faults name)
-untold_is_lawful size faults name = record {
+pub untold_is_lawful : (size faults binds : ℕ) (name : Option (List ℕ)) → IsLawful (untold size faults binds name)
+untold_is_lawful size faults binds name = record {
   reads_as_image = λ c told. cc told;
   counts_now = λ t c le image. image;
   only_now = λ c image. image;

@@ -1,9 +1,9 @@
 // The contract between those who keep bytes and those who use them.
-ghost use Rattle.std.specs.Prelude.{◌≡◌, ◌+◌, ◌^◌, ◌<◌, ◌≤◌, ℕ, List, Option, length, replicate, OnOk, OnErr, IfNone, IfSome, Some, None};
+ghost use Rattle.std.specs.Prelude.{◌≡◌, ◌+◌, ◌^◌, ◌<◌, ◌≤◌, ℕ, List, Option, length, replicate, OnOk, OnErr, IfNone, IfSome, IsSome, Some, None};
 ghost use Rattle.std.specs.List.{slice_range};
 ghost use Rattle.std.specs.Option.{ForSome};
 ghost use Rattle.iso_disk.specs.Disk.{DiskState, IsLawful, TornFrom, Splices, TellsTorn, IsSettled, Elapses, StaysTold};
-ghost use Rattle.fault_count.specs.Count.{HasCause};
+ghost use Rattle.fault_count.specs.Count.{one_more, HasCause};
 
 /// The disk has failed in this call.
 #[derive(Clone, Copy, Debug, PartialEq, Eq)]
@@ -58,10 +58,11 @@ pub trait Image: Disk {
         ensures size { OnOk result (IfSome want (λ w. (Self.state self.new).size ≡ w)) }
         ensures blank { OnOk result (IfSome want (λ w. ForSome (Self.state self.new).contents (λ c. c ≡ replicate w 0))) }
         ensures blank_after_crash { OnOk result (IfSome want (λ w. (c : List ℕ) → (Self.state self.new).now c → c ≡ replicate w 0)) }
-        ensures existing { OnOk result (IfNone want (ForSome (Self.state self.old).contents (λ c. (Self.state self.new).contents ≡ Some c))) }
+        ensures existing { OnOk result (IfNone want (ForSome ((Self.state self.old).named name.now) (λ c. (Self.state self.new).contents ≡ Some c))) }
         ensures settled { OnOk result (IfNone want (IsSettled (Self.state self.new))) }
-        ensures told { OnOk result (StaysTold (Self.state self.old) (Self.state self.new)) }
+        ensures told { OnOk result (IsSome ((Self.state self.old).named name.now) → IsSome (Self.state self.new).contents) }
         ensures bound { OnOk result ((Self.state self.new).bound ≡ Some ((Self.state self.new).clock, name.now)) }
         ensures unbound { OnErr result ((Self.state self.new).bound ≡ None) }
+        ensures counted { (Self.state self.new).binds ≡ one_more (Self.state self.old).binds }
         ensures cause { HasCause (Self.state self.old).faults (Self.state self.new).faults result };
 }

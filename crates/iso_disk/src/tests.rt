@@ -17,6 +17,7 @@ struct Silent {
     size: u64,
     working: u64,
     faults: u64,
+    binds: u64,
     ghost fits: { size < 2 ^ 64 },
 }
 
@@ -35,11 +36,11 @@ impl Silent {
 }
 
 impl Disk for Silent {
-    ghost state = { λ d. untold d.size d.faults (option_map (λ name. name.items) d.name) };
+    ghost state = { λ d. untold d.size d.faults d.binds (option_map (λ name. name.items) d.name) };
 
     ghost size_fits = { λ d. d.fits };
 
-    ghost lawful = { λ d. untold_is_lawful d.size d.faults (option_map (λ name. name.items) d.name) };
+    ghost lawful = { λ d. untold_is_lawful d.size d.faults d.binds (option_map (λ name. name.items) d.name) };
 
     fn size(&self) -> u64 {
         self.size
@@ -60,6 +61,7 @@ impl Disk for Silent {
 
 impl Image for Silent {
     fn bind(&mut self, name: &str, want: Option<u64>) -> Result<(), DiskFault> {
+        raise(&mut self.binds);
         self.name = None;
         self.answer()?;
         match name.as_bytes().to_vec(self.alloc) {
@@ -84,6 +86,7 @@ fn a_disk_that_tells_nothing_counts_its_faults(rt: HostRuntime) -> Result<(), Fa
         size: 0,
         working: 4,
         faults: 0,
+        binds: 0,
     };
     disk.bind("t.img", Some(8))?;
     let len = disk.size();
@@ -93,5 +96,6 @@ fn a_disk_that_tells_nothing_counts_its_faults(rt: HostRuntime) -> Result<(), Fa
     disk.read(0, &mut [0; 8])?;
     assert_eq!(rt; disk.sync(), Err(DiskFault));
     assert_eq!(rt; disk.faults, 1);
+    assert_eq!(rt; disk.binds, 1);
     Ok(())
 }

@@ -3,28 +3,27 @@ use Rattle.std.proofs.Common.{◌≡◌, ◌⊎◌, ◌∙◌, sym, refl, ap, su
 use Rattle.std.specs.Int.{w32, to_be_bytes}
 use Rattle.std.specs.Ordering.{nat_cmp, eq_by_cmp}
 use Rattle.std.specs.Cmp.Lexicographic.{slice_cmp, nat_list_cmp_total}
-use Rattle.std.specs.FinMap.{get, insert, remove, get-remove, same_map, slice_cmp-IsAntisymmetric, nat_cmp-IsAntisymmetric}
-use Rattle.std.specs.List.{AllByRecursion}
-use Rattle.std.proofs.lemmas.Bool.{cases_eq, cases_Bool, both_ways, and_parts, eqb-true, ltb-true, leb-true}
+use Rattle.std.specs.FinMap.{get, remove, get-remove, same_map, slice_cmp-IsAntisymmetric, nat_cmp-IsAntisymmetric}
+use Rattle.std.proofs.lemmas.Bool.{cases_Bool, and_parts, eqb-true, ltb-true, leb-true}
 use Rattle.std.proofs.lemmas.List.{get_or-take, length-replicate}
 use Rattle.std.proofs.lemmas.Slice.Eq.{bytes_eq-Decides}
 use Rattle.iso_model.specs.declared.access.Access.{Access}
-use Rattle.iso_model.specs.declared.stores.Area.{Area}
-use Rattle.iso_model.specs.declared.stores.Spot.{Spot}
-use Rattle.iso_model.specs.declared.stores.StoreError.{StoreError}
-use Rattle.iso_model.specs.declared.stores.StoreError.TheVariants.{Broken, NoBlocks}
+use Rattle.store_model.specs.declared.stores.Area.{Area}
+use Rattle.store_model.specs.declared.stores.Spot.{Spot}
+use Rattle.store_model.specs.declared.stores.StoreError.{StoreError}
+use Rattle.store_model.specs.declared.stores.StoreError.TheVariants.{Broken, NoBlocks}
 use Rattle.iso_model.specs.Array.{Array, put}
 use Rattle.iso_model.specs.Effect.{own}
 use Rattle.iso_model.specs.Conflict.{first_from}
 use Rattle.iso_model.specs.Premises.{block_at}
-use Rattle.iso_model.specs.Stores.{Program, Done, Look, Reserve, Store, bytes_in, store_access, accesses_of, answer_of, then_do, IsLocal}
-use Rattle.iso_model.specs.Cells.{cell_count, keys_end, key_mark, value_mark, next_mark, key_part, value_part, key_at, laid_at, block_with}
-use Rattle.iso_model.specs.FreeMap.{map_bytes, map_mark, bit_place, bit_mark, map_bit, set_bit, clear_bit, lowest_free}
-use Rattle.iso_model.specs.HashRegion.{Pairs, view_of, buckets, bucket_of, last_position, next_of, chain, hash_map, AreLinked, Stands, IsHashRegion, IsHashArea, put_op, del_op}
-use Rattle.iso_model.specs.HashCalls.{Walked, AtCell, AtEnd, AtBroken, walk, spot_in, spare_in, put_new, put_at, put_program, is_spent, is_alone, del_at, del_program, is_key, is_value}
+use Rattle.store_model.specs.Stores.{Program, Done, Look, Reserve, Store, bytes_in, store_access, accesses_of, answer_of, then_do, IsLocal}
+use Rattle.store_model.specs.Cells.{cell_count, keys_end, key_mark, value_mark, next_mark, value_part, block_with}
+use Rattle.store_model.specs.FreeMap.{map_bytes, map_mark, bit_place, bit_mark, map_bit, set_bit, clear_bit, lowest_free}
+use Rattle.store_model.specs.HashRegion.{Pairs, view_of, buckets, bucket_of, last_position, next_of, chain, hash_map, AreLinked, Stands, IsHashRegion, IsHashArea, put_op, del_op}
+use Rattle.store_model.specs.HashCalls.{Walked, AtCell, AtEnd, AtBroken, walk, spot_in, spare_in, put_new, put_at, put_program, is_spent, is_alone, del_at, del_program, is_key, is_value}
 use Rattle.tx_blocks.proofs.Programs.{AreWhole, accesses_then, answer_then, own_reads, whole_reads, IsCorrect, local_from}
 use Rattle.tx_blocks.proofs.Progress.{own_append}
-use Rattle.iso_hash.proofs.Chains.{linked_split, placed, next_in, head_of}
+use Rattle.iso_hash.proofs.Chains.{linked_split, next_in, head_of}
 use Rattle.iso_hash.proofs.Dels.{del_cell, del_block}
 use Rattle.iso_hash.proofs.Finding.{ties, cases_key}
 use Rattle.iso_hash.proofs.Frames.{length-part_of}
@@ -33,7 +32,7 @@ use Rattle.iso_hash.proofs.Grown.{put_grown}
 use Rattle.iso_hash.proofs.Linking.{length-block_with}
 use Rattle.iso_hash.proofs.NewBlocks.{size_most, length-new_block}
 use Rattle.iso_hash.proofs.Puts.{HasPut, put_found, put_spare, length-with_cell, cells_fit}
-use Rattle.iso_model.proofs.HashAccesses.{first_below}
+use Rattle.store_model.proofs.HashAccesses.{first_below}
 use Rattle.iso_hash.proofs.Ways.{Way, way, first_passes, cell_below, Found, IsSpare}
 
 -- what is done after a walk is done on the same array
@@ -162,9 +161,9 @@ spare_within : (a : Area) (free : Option Spot) (block : ℕ) (keys : List ℕ) �
     → IfSome (spare_in a free block keys) (λ s. (s.block < a.blocks) × (s.cell < cell_count a.size))
 spare_within a (Some s) block keys inside is = is
 spare_within a None block keys inside is =
-    elim (Rattle.iso_model.specs.Cells.unused_cell a.size keys) as (λ o. Rattle.iso_model.specs.Cells.unused_cell a.size keys ≡ o → IfSome (spot_in block o) (λ s. (s.block < a.blocks) × (s.cell < cell_count a.size))) [
+    elim (Rattle.store_model.specs.Cells.unused_cell a.size keys) as (λ o. Rattle.store_model.specs.Cells.unused_cell a.size keys ≡ o → IfSome (spot_in block o) (λ s. (s.block < a.blocks) × (s.cell < cell_count a.size))) [
       | None ↦ λ e. tt
-      | Some i ↦ λ e. (inside, (let below = first_below (λ j. Rattle.iso_model.specs.Cells.is_unused keys j) 0 (cell_count a.size) i e in omega arith))
+      | Some i ↦ λ e. (inside, (let below = first_below (λ j. Rattle.store_model.specs.Cells.is_unused keys j) 0 (cell_count a.size) i e in omega arith))
     ] refl
 
 way_within : (a : Area) (key : List ℕ) (bucket : ℕ) (with_value : Bool) (A : Array) (left position before block : ℕ) (free : Option Spot) (w : Walked) → before < a.blocks → block < a.blocks

@@ -1,18 +1,18 @@
 -- A removal of a cell, and one that gives its block back: the region stays well formed, and its map loses the key.
 use Rattle.std.proofs.Common.{◌≡◌, ◌≢◌, ◌↔◌, ◌∙◌, sym, refl, ap, subst, ℕ, ◌+◌, ◌*◌, ◌<◌, ◌≤◌, true, false, ◌&&◌, ◌||◌, ◌==◌, not, IsTrue, List, [], ◌∷◌, ◌++◌, length, get_or, take, replicate, arith, inl, inr, eq-eqb, ne_eqb, length-append, append_assoc}
 use Rattle.std.specs.List.{list_all}
-use Rattle.std.specs.FinMap.{from_entries, remove}
+use Rattle.std.specs.FinMap.{remove}
 use Rattle.std.proofs.lemmas.Bool.{cases_eq, both_ways, and_parts, and_from, or_cases, eqb-true}
 use Rattle.std.proofs.lemmas.List.{length-replicate}
-use Rattle.iso_model.specs.declared.stores.Area.{Area}
-use Rattle.iso_model.specs.declared.stores.Spot.{Spot}
+use Rattle.store_model.specs.declared.stores.Area.{Area}
+use Rattle.store_model.specs.declared.stores.Spot.{Spot}
 use Rattle.iso_model.specs.Array.{Array, merged, put}
 use Rattle.iso_model.specs.Premises.{block_at}
-use Rattle.iso_model.specs.Stores.{bytes_in, store_access}
-use Rattle.iso_model.specs.Cells.{cell_count, keys_mark, key_mark, value_mark, next_mark, word_at, is_zero, is_part, text_of, is_unused, key_at, block_with}
-use Rattle.iso_model.specs.FreeMap.{map_bytes, bit_place, bit_mark, map_bit, clear_bit}
-use Rattle.iso_model.specs.HashRegion.{view_of, buckets, bucket_of, last_position, next_of, is_linked, chain, hash_map, IsIn, AreLinked, Stands, IsOverflow, HaveValues, IsHashRegion, IsHashArea}
-use Rattle.iso_model.specs.HashCalls.{is_alone}
+use Rattle.store_model.specs.Stores.{bytes_in, store_access}
+use Rattle.store_model.specs.Cells.{cell_count, keys_mark, key_mark, value_mark, next_mark, word_at, is_zero, is_part, text_of, is_unused, key_at, block_with}
+use Rattle.store_model.specs.FreeMap.{map_bytes, bit_place, bit_mark, map_bit, clear_bit}
+use Rattle.store_model.specs.HashRegion.{view_of, buckets, bucket_of, last_position, next_of, is_linked, chain, hash_map, IsIn, AreLinked, Stands, IsOverflow, HaveValues, IsHashRegion, IsHashArea}
+use Rattle.store_model.specs.HashCalls.{is_alone}
 use Rattle.iso_model.proofs.Bytes.{length-block_put, written_block, other_block}
 use Rattle.iso_alloc.proofs.Bits.{bits_without}
 use Rattle.iso_alloc.proofs.Loops.{all_at}

@@ -8,10 +8,10 @@ use Rattle.std.specs.Str.{bytes_eq}
 use Rattle.std.proofs.lemmas.Bool.{cases_eq, cases_Bool, false_from_ne_true}
 use Rattle.std.proofs.lemmas.Bool.Decides.{nat_tests}
 use Rattle.std.proofs.lemmas.Slice.Eq.{bytes_eq-Decides}
-use Rattle.iso_model.specs.declared.stores.Area.{Area}
+use Rattle.store_model.specs.declared.stores.Area.{Area}
 use Rattle.iso_model.specs.Effect.{or_else}
-use Rattle.iso_model.specs.Cells.{cell_count, text_of, is_unused, key_at}
-use Rattle.iso_model.specs.HashRegion.{buckets, chain, pairs_from, pairs_of, bucket_pairs, all_pairs, IsIn, Stands}
+use Rattle.store_model.specs.Cells.{cell_count, text_of, is_unused, key_at}
+use Rattle.store_model.specs.HashRegion.{buckets, chain, pairs_from, pairs_of, bucket_pairs, all_pairs, IsIn, Stands}
 
 nat_ties : (x y : ℕ) → (x == y) ≡ eq_by_cmp nat_cmp x y
 nat_ties x y = grind (arith, nat_tests)

@@ -2,15 +2,15 @@
 use Rattle.std.proofs.Common.{◌≡◌, ◌≢◌, ◌∙◌, sym, refl, ap, subst, ℕ, ◌+◌, ◌<◌, ◌≤◌, Bool, true, false, cond, List, length, Option, Some, None, Result, Ok, Err, arith, inl, inr}
 use Rattle.std.specs.FinMap.{get}
 use Rattle.std.proofs.lemmas.Bool.{cases_Bool, and_parts, leb-true}
-use Rattle.iso_model.specs.declared.stores.Area.{Area}
-use Rattle.iso_model.specs.declared.stores.Spot.{Spot}
-use Rattle.iso_model.specs.declared.stores.StoreError.{StoreError}
-use Rattle.iso_model.specs.declared.stores.StoreError.TheVariants.{BadKey, Broken}
+use Rattle.store_model.specs.declared.stores.Area.{Area}
+use Rattle.store_model.specs.declared.stores.Spot.{Spot}
+use Rattle.store_model.specs.declared.stores.StoreError.{StoreError}
+use Rattle.store_model.specs.declared.stores.StoreError.TheVariants.{BadKey, Broken}
 use Rattle.iso_model.specs.Array.{Array}
-use Rattle.iso_model.specs.Stores.{Done, accesses_of, answer_of, then_do, AreReads, IsLocal}
-use Rattle.iso_model.specs.Cells.{is_part, text_of, key_at}
-use Rattle.iso_model.specs.HashRegion.{view_of, buckets, bucket_of, last_position, chain, all_pairs, hash_map, Stands, IsHashRegion, IsHashArea, get_op}
-use Rattle.iso_model.specs.HashCalls.{Walked, AtCell, AtEnd, AtBroken, walk, is_key, got, get_program}
+use Rattle.store_model.specs.Stores.{Done, accesses_of, answer_of, then_do, AreReads, IsLocal}
+use Rattle.store_model.specs.Cells.{is_part, text_of, key_at}
+use Rattle.store_model.specs.HashRegion.{view_of, buckets, bucket_of, last_position, chain, hash_map, Stands, IsHashRegion, IsHashArea, get_op}
+use Rattle.store_model.specs.HashCalls.{Walked, AtCell, AtEnd, AtBroken, walk, is_key, got, get_program}
 use Rattle.tx_blocks.proofs.Programs.{answer_then, own_reads, whole_reads, reads_then, IsCorrect, local_from}
 use Rattle.iso_hash.proofs.Finding.{finds_it, finds_none, map_gets}
 use Rattle.iso_hash.proofs.Ways.{way, way_cell, way_end, walk_reads, key_used, Found, Missed}
@@ -59,7 +59,7 @@ pub missed_nowhere : (a : Area) (key : List ℕ) (A : Array) (spare : Option Spo
     → Missed a key A (chain a (view_of a A).keys (bucket_of a key)) 0 None spare last place → (b k i : ℕ) → Stands a (view_of a A).keys b k i → key_at ((view_of a A).keys k) i ≢ key
 missed_nowhere a key A spare last place region missed b k i stands is =
     let bucket : bucket_of a key ≡ b = ap (bucket_of a) (sym is) ∙ region.keyed.in_bucket b k i stands in
-    missed.missing k i (subst (λ (c : ℕ). Rattle.iso_model.specs.HashRegion.IsIn k (chain a (view_of a A).keys c)) (sym bucket) stands.block_is) stands.cell_is is
+    missed.missing k i (subst (λ (c : ℕ). Rattle.store_model.specs.HashRegion.IsIn k (chain a (view_of a A).keys c)) (sym bucket) stands.block_is) stands.cell_is is
 
 -- the look-up in the map of a region
 pub get_found : (a : Area) (A : Array) (key : List ℕ) (b k i : ℕ) → IsHashRegion a A → Stands a (view_of a A).keys b k i → key_at ((view_of a A).keys k) i ≡ key

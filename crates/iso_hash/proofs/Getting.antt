@@ -1,16 +1,16 @@
 -- What a get answers where its walk ends.
 use Rattle.std.proofs.Common.{◌≡◌, ◌≢◌, ◌∙◌, refl, ap, subst, ℕ, ◌+◌, ◌*◌, Bool, true, false, cond, List, [], take, drop, Option, Some, None, Result, Ok, Err}
 use Rattle.iso_model.specs.declared.access.Access.{Access}
-use Rattle.iso_model.specs.declared.stores.Area.{Area}
-use Rattle.iso_model.specs.declared.stores.Spot.{Spot}
-use Rattle.iso_model.specs.declared.stores.StoreError.{StoreError}
-use Rattle.iso_model.specs.declared.stores.StoreError.TheVariants as store
+use Rattle.store_model.specs.declared.stores.Area.{Area}
+use Rattle.store_model.specs.declared.stores.Spot.{Spot}
+use Rattle.store_model.specs.declared.stores.StoreError.{StoreError}
+use Rattle.store_model.specs.declared.stores.StoreError.TheVariants as store
 use Rattle.iso_model.specs.Effect.{own}
-use Rattle.iso_model.specs.Cells.{value_mark, keys_end, is_part, text_of}
-use Rattle.iso_model.specs.HashCalls as hash
-use Rattle.iso_model.specs.HashCalls.{get_program, got, walk, is_key}
-use Rattle.iso_model.specs.HashRegion.{IsHashArea, IsHashRegion, hash_map, get_op}
-use Rattle.iso_model.specs.Stores.{Done, then_do, bytes_in, IsLocal}
+use Rattle.store_model.specs.Cells.{value_mark, keys_end, is_part, text_of}
+use Rattle.store_model.specs.HashCalls as hash
+use Rattle.store_model.specs.HashCalls.{get_program, got, walk, is_key}
+use Rattle.store_model.specs.HashRegion.{IsHashArea, IsHashRegion, hash_map, get_op}
+use Rattle.store_model.specs.Stores.{Done, then_do, bytes_in, IsLocal}
 use Rattle.tx_blocks.specs.Tx.{Tx}
 use Rattle.tx_blocks.specs.Runs.{Ran, HasEnded, IsLocalCall}
 use Rattle.tx_blocks.proofs.Progress.{ran_at, at_start, at_then, whole_run}
@@ -69,7 +69,7 @@ call_local a key t u r area is ran = λ A told.
     subst (λ (accesses : List Access). IsLocal (IsHashRegion a) (hash_map a) (get_op key) (own A t.accesses) accesses r) whole.accesses_are (get_local a key (own A t.accesses) r area is whole.answer_is)
 
 -- the value part that the code tests
-pub part_is : (a : Area) (buffer part : List ℕ) (n i : ℕ) → n ≡ Rattle.iso_model.specs.Cells.cell_count a.size → part ≡ take 33 (drop (64 + 31 * n + 33 * i) buffer) → part ≡ bytes_in (value_mark a.size i) buffer
+pub part_is : (a : Area) (buffer part : List ℕ) (n i : ℕ) → n ≡ Rattle.store_model.specs.Cells.cell_count a.size → part ≡ take 33 (drop (64 + 31 * n + 33 * i) buffer) → part ≡ bytes_in (value_mark a.size i) buffer
 part_is a buffer part n i count is = is ∙ ap (λ (m : ℕ). take 33 (drop (64 + 31 * m + 33 * i) buffer)) count
 
 pub answers_value : (a : Area) (key : List ℕ) (t u : Tx) (spot : Spot) (before : ℕ) (ks part text : List ℕ) → is_key key ≡ true → Ran (walk a key true) t u (hash.AtCell spot before ks part) → is_part 32 part ≡ true → text ≡ text_of part

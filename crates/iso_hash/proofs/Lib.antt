@@ -15,4 +15,3 @@ pub mod Grown
 pub mod Dels
 pub mod Changes
 pub mod Storing
-pub mod Kept

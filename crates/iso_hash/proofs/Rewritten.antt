@@ -4,14 +4,14 @@ use Rattle.std.specs.List.{list_all}
 use Rattle.std.proofs.lemmas.Bool.{cases_eq, cases_lt, and_parts, and_from, or_left, or_right}
 use Rattle.iso_model.specs.declared.access.Access.{Access}
 use Rattle.iso_model.specs.declared.access.Span.{Span}
-use Rattle.iso_model.specs.declared.stores.Area.{Area}
-use Rattle.iso_model.specs.declared.stores.Spot.{Spot}
+use Rattle.store_model.specs.declared.stores.Area.{Area}
+use Rattle.store_model.specs.declared.stores.Spot.{Spot}
 use Rattle.iso_model.specs.Array.{Array, covered, in_span, merged, put}
 use Rattle.iso_model.specs.Premises.{block_at}
-use Rattle.iso_model.specs.Stores.{bytes_in, store_access}
-use Rattle.iso_model.specs.Cells.{cell_count, keys_end, keys_mark, key_mark, value_mark, word_at, is_zero, is_part, text_of, is_unused, all_from, are_key_parts}
-use Rattle.iso_model.specs.FreeMap.{map_bytes, map_bit}
-use Rattle.iso_model.specs.HashRegion.{view_of, last_position, next_of, is_next, is_linked, chain_from, chain, IsIn, AreLinked, Stands, IsOverflow, HaveValues, IsHashArea}
+use Rattle.store_model.specs.Stores.{bytes_in, store_access}
+use Rattle.store_model.specs.Cells.{cell_count, keys_end, keys_mark, key_mark, value_mark, word_at, is_zero, is_part, text_of, is_unused, all_from, are_key_parts}
+use Rattle.store_model.specs.FreeMap.{map_bytes, map_bit}
+use Rattle.store_model.specs.HashRegion.{view_of, last_position, next_of, is_next, is_linked, chain_from, chain, IsIn, AreLinked, Stands, IsOverflow, HaveValues, IsHashArea}
 use Rattle.iso_model.proofs.Bytes.{written_block, other_block}
 use Rattle.iso_alloc.proofs.Loops.{all_at}
 use Rattle.iso_hash.proofs.Chains.{linked_alike, LinkedAlike, head_of}

@@ -1,12 +1,12 @@
 -- How a walk ends.
 use Rattle.std.specs.Prelude.{ℕ, ◌<◌, Bool, IfSome, cond, List, [], Result, Ok, Err, take}
-use Rattle.iso_model.specs.declared.stores.Area.{Area}
-use Rattle.iso_model.specs.declared.stores.Spot.{Spot}
-use Rattle.iso_model.specs.declared.stores.StoreError.{StoreError}
-use Rattle.iso_model.specs.declared.stores.StoreError.TheVariants as store
-use Rattle.iso_model.specs.Cells.{keys_end, value_mark, cell_count}
-use Rattle.iso_model.specs.HashCalls as hash
-use Rattle.iso_model.specs.Stores.{bytes_in}
+use Rattle.store_model.specs.declared.stores.Area.{Area}
+use Rattle.store_model.specs.declared.stores.Spot.{Spot}
+use Rattle.store_model.specs.declared.stores.StoreError.{StoreError}
+use Rattle.store_model.specs.declared.stores.StoreError.TheVariants as store
+use Rattle.store_model.specs.Cells.{keys_end, value_mark, cell_count}
+use Rattle.store_model.specs.HashCalls as hash
+use Rattle.store_model.specs.Stores.{bytes_in}
 use Rattle.tx_blocks.specs.Tx.{Tx}
 use Rattle.tx_blocks.specs.Runs.{Ran, IsCut}
 use Rattle.iso_hash.specs.declared.walk.Walked.{Walked}

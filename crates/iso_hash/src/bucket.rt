@@ -1,12 +1,12 @@
 // Which blocks a bucket has.
 ghost use Rattle.std.specs.Prelude.{◌≡◌, ◌<◌, length};
-ghost use Rattle.iso_model.specs.Cells.{keys_end};
-ghost use Rattle.iso_model.specs.HashRegion.{buckets, bucket_of, last_position, is_linked, IsHashArea};
+ghost use Rattle.store_model.specs.Cells.{keys_end};
+ghost use Rattle.store_model.specs.HashRegion.{buckets, bucket_of, last_position, is_linked, IsHashArea};
 
 use byteorder::{BigEndian, ByteOrder};
 use iso_alloc::{are_key_parts, are_zero, piece, word_at};
-use iso_model::Area;
 use sha2::{Digest, Sha256};
+use store_model::Area;
 
 /// How many buckets there are.
 pub fn buckets(area: Area) -> u32
@@ -27,7 +27,7 @@ pub fn last_position(area: Area) -> u32
 }
 
 /// The bucket of a key.
-#[tactic(auto, unfolding(iso_model::specs::HashRegion::bucket_of))]
+#[tactic(auto, unfolding(store_model::specs::HashRegion::bucket_of))]
 pub fn bucket_of(area: Area, key: &[u8]) -> u32
     requires { IsHashArea area }
     ensures value { result ≡ bucket_of area key.now }
@@ -38,7 +38,7 @@ pub fn bucket_of(area: Area, key: &[u8]) -> u32
 }
 
 /// Whether a block of which these are head and key parts is well formed at this position of the bucket.
-#[tactic(auto, unfolding(iso_model::specs::HashRegion::is_linked))]
+#[tactic(auto, unfolding(store_model::specs::HashRegion::is_linked))]
 pub fn is_linked(area: Area, bucket: u32, position: u32, keys: &[u8]) -> bool
     requires area { IsHashArea area }
     requires keys { length keys.now ≡ keys_end area.size }

@@ -1,11 +1,11 @@
 // Buffers of a call, and the tests of its arguments.
 ghost use Rattle.std.specs.Prelude.{◌≡◌, ◌≤◌, IfOk, IfErr, length, take, true};
-ghost use Rattle.iso_model.specs.Cells.{is_part, text_of};
-ghost use Rattle.iso_model.specs.HashCalls.{is_key, is_value};
+ghost use Rattle.store_model.specs.Cells.{is_part, text_of};
+ghost use Rattle.store_model.specs.HashCalls.{is_key, is_value};
 
 use iso_alloc::text_of;
-use iso_model::StoreError;
 use std::alloc::Global;
+use store_model::StoreError;
 
 /// A buffer of so many bytes.
 pub fn buffer(alloc: Global, size: usize) -> Result<Vec<u8>, StoreError>

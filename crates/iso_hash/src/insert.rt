@@ -1,7 +1,7 @@
 // The put of a key.
 ghost use Rattle.std.specs.Prelude.{◌≡◌, ◌↔◌, ◌+◌, ◌<◌, ◌≤◌, Err, IsFalse, IsTrue, true, IfOk, IfErr, IfSome, OnOk, length};
-ghost use Rattle.iso_model.specs.HashCalls.{is_key, is_value, put_at, put_program, AtEnd};
-ghost use Rattle.iso_model.specs.HashRegion.{hash_map, put_op, IsHashArea, IsHashRegion};
+ghost use Rattle.store_model.specs.HashCalls.{is_key, is_value, put_at, put_program, AtEnd};
+ghost use Rattle.store_model.specs.HashRegion.{hash_map, put_op, IsHashArea, IsHashRegion};
 ghost use Rattle.tx_blocks.specs.Tx.{IsLater};
 ghost use Rattle.tx_blocks.specs.Runs.{area_of, Behaves, HasEnded, HasRun, IsLocalCall, IsStoreCause, IsUnwritten};
 ghost use Rattle.iso_hash.specs.Walks.{IsSpot};
@@ -10,8 +10,8 @@ use crate::buffer::{buffer, is_key, is_value};
 use crate::links::put_block;
 use crate::walk::{Walked, walk};
 use crate::writes::{put_cell, put_value};
-use iso_model::{Area, Region, Spot, StoreError};
 use std::alloc::Global;
+use store_model::{Area, Region, Spot, StoreError};
 use tx_blocks::TxBlocks;
 
 // Puts a key that the walk did not find.

@@ -7,8 +7,6 @@ mod insert;
 mod links;
 mod lookup;
 mod remove;
-#[cfg(test)]
-mod tests;
 mod walk;
 mod writes;
 

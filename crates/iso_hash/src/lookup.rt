@@ -1,15 +1,16 @@
 // The look-up of a key.
 ghost use Rattle.std.specs.Prelude.{◌≡◌, ◌≢◌, ◌↔◌, ◌+◌, ◌<◌, ◌≤◌, Err, IsFalse, true, IfOk, IfErr, OnOk, length};
-ghost use Rattle.iso_model.specs.HashCalls.{get_program, is_key};
-ghost use Rattle.iso_model.specs.HashRegion.{get_op, hash_map, IsHashArea, IsHashRegion};
+ghost use Rattle.store_model.specs.HashCalls.{get_program, is_key};
+ghost use Rattle.store_model.specs.HashRegion.{get_op, hash_map, IsHashArea, IsHashRegion};
 ghost use Rattle.tx_blocks.specs.Tx.{IsLater};
 ghost use Rattle.tx_blocks.specs.Runs.{area_of, HasEnded, HasRead, IsLocalCall, IsStoreCause};
 
 use crate::buffer::{buffer, is_key, spelled};
 use crate::walk::{Walked, walk};
 use iso_alloc::{cell_count, is_part, piece};
-use iso_model::{Area, Bytes, Items, Region, StoreError};
+use iso_model::{Bytes, Items};
 use std::alloc::Global;
+use store_model::{Area, Region, StoreError};
 use tx_blocks::TxBlocks;
 
 // The value of a key, with buffers for a block and for the value.

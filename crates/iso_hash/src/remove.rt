@@ -1,8 +1,8 @@
 // The removal of a key.
 ghost use Rattle.std.specs.Prelude.{◌≡◌, ◌↔◌, ◌+◌, ◌<◌, ◌≤◌, Err, IsFalse, true, IfOk, IfErr, OnOk, length};
-ghost use Rattle.iso_model.specs.Cells.{keys_end};
-ghost use Rattle.iso_model.specs.HashCalls.{del_program, is_key, is_spent};
-ghost use Rattle.iso_model.specs.HashRegion.{del_op, hash_map, IsHashArea, IsHashRegion};
+ghost use Rattle.store_model.specs.Cells.{keys_end};
+ghost use Rattle.store_model.specs.HashCalls.{del_program, is_key, is_spent};
+ghost use Rattle.store_model.specs.HashRegion.{del_op, hash_map, IsHashArea, IsHashRegion};
 ghost use Rattle.tx_blocks.specs.Tx.{IsLater};
 ghost use Rattle.tx_blocks.specs.Runs.{area_of, Behaves, HasEnded, HasRun, IsLocalCall, IsStoreCause, IsUnwritten};
 
@@ -12,8 +12,8 @@ use crate::links::del_block;
 use crate::walk::{Walked, walk};
 use crate::writes::clear_cell;
 use iso_alloc::{cell_count, is_alone, word_at};
-use iso_model::{Area, Region, Spot, StoreError};
 use std::alloc::Global;
+use store_model::{Area, Region, Spot, StoreError};
 use tx_blocks::TxBlocks;
 
 // Whether the block is an overflow block, the last of its chain, and has no other used cell.

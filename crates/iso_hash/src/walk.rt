@@ -1,15 +1,16 @@
 // The walk over the blocks of a chain.
 ghost use Rattle.std.specs.Prelude.{◌≡◌, ◌+◌, ◌<◌, ◌≤◌, ◌^◌, IfOk, IfErr, IfSome, OnOk, length, true};
 ghost use Rattle.iso_model.specs.Effect.{or_else};
-ghost use Rattle.iso_model.specs.HashCalls.{spot_in};
-ghost use Rattle.iso_model.specs.HashRegion.{IsHashArea};
+ghost use Rattle.store_model.specs.HashCalls.{spot_in};
+ghost use Rattle.store_model.specs.HashRegion.{IsHashArea};
 ghost use Rattle.tx_blocks.specs.Tx.{IsLater};
 ghost use Rattle.tx_blocks.specs.Runs.{HasRead, IsStoreCause};
 ghost use Rattle.iso_hash.specs.Walks.{HasWalked, IsInside};
 
 use crate::bucket::{bucket_of, is_linked, last_position};
 use iso_alloc::{cell_count, cell_with, unused_cell, word_at};
-use iso_model::{Area, Span, Spot, StoreError};
+use iso_model::Span;
+use store_model::{Area, Spot, StoreError};
 use tx_blocks::{TxBlocks, look, mark};
 
 /// Where a walk ends: at the key's cell, with the block before it in the chain (0 where there is none); or past the last block of

@@ -1,16 +1,17 @@
 // The writes that puts and removals are made of.
 ghost use Rattle.std.specs.Prelude.{◌≡◌, ◌+◌, ◌*◌, ◌<◌, ◌≤◌, length, Ok, true, [], ◌∷◌, replicate};
 ghost use Rattle.std.specs.List.{AllByRecursion};
-ghost use Rattle.iso_model.specs.Cells.{block_with, cell_count, key_mark, keys_end, laid_at, value_mark, value_part};
-ghost use Rattle.iso_model.specs.HashCalls.{with_cell};
-ghost use Rattle.iso_model.specs.HashRegion.{IsHashArea};
+ghost use Rattle.store_model.specs.Cells.{block_with, cell_count, key_mark, keys_end, laid_at, value_mark, value_part};
+ghost use Rattle.store_model.specs.HashCalls.{with_cell};
+ghost use Rattle.store_model.specs.HashRegion.{IsHashArea};
 ghost use Rattle.iso_model.specs.Premises.{IsSpan};
-ghost use Rattle.iso_model.specs.Stores.{Done, Store};
+ghost use Rattle.store_model.specs.Stores.{Done, Store};
 ghost use Rattle.tx_blocks.specs.Runs.{Behaves, HasRun};
 ghost use Rattle.iso_hash.specs.Walks.{IsSpot};
 
 use iso_alloc::{cell_count, lay, spell};
-use iso_model::{Area, Span, Spot, StoreError};
+use iso_model::Span;
+use store_model::{Area, Spot, StoreError};
 use tx_blocks::{TxBlocks, store};
 
 /// Zeros, but for these bytes from `at` on.

@@ -7,11 +7,12 @@ use Rattle.iso_model.specs.declared.access.Access.{Access}
 use Rattle.iso_model.specs.declared.access.MarkError.{MarkError}
 use Rattle.iso_model.specs.declared.access.MarkError.TheVariants as mark
 use Rattle.iso_model.specs.declared.limits.TheConstants.{MAX_ACCESSES}
-use Rattle.iso_model.specs.declared.script.Reply.{Reply}
-use Rattle.iso_model.specs.declared.script.Reply.TheVariants as reply
+use Rattle.script_model.specs.declared.script.Reply.{Reply}
+use Rattle.script_model.specs.declared.script.Reply.TheVariants as reply
 use Rattle.iso_model.specs.Geometry.{is_block_size}
 use Rattle.iso_model.specs.Marks.{is_outside, mark_fault, marked, marks_fault}
-use Rattle.iso_model.specs.Step.{access_step, fill_step, get_access, get_step, mark_refused, mark_step, marked_step, put_access, put_step, read_access, read_step, shown_to, with_access, with_accesses, with_live, write_access, write_step}
+use Rattle.script_model.specs.Step.{access_step, fill_step, get_step, mark_refused, mark_step, marked_step, put_step, read_step, with_access, write_step}
+use Rattle.iso_model.specs.Step.{get_access, put_access, read_access, shown_to, with_accesses, with_live, write_access}
 use Rattle.iso_model.specs.World.{World, Live}
 use Rattle.tx_table.specs.Work.{Doing, span_at}
 use Rattle.iso_core.specs.Calls.{IsWorkOf}

@@ -4,17 +4,19 @@ use Rattle.std.proofs.lemmas.Bool.{and_parts}
 use Rattle.iso_model.specs.declared.access.Geometry.{Geometry}
 use Rattle.iso_model.specs.declared.access.Mode.{Mode}
 use Rattle.iso_model.specs.declared.limits.TheConstants.{LAST, MAX_LIVE}
-use Rattle.iso_model.specs.declared.script.Op.TheVariants as op
-use Rattle.iso_model.specs.declared.script.Reply.{Reply}
-use Rattle.iso_model.specs.declared.script.Reply.TheVariants as reply
+use Rattle.script_model.specs.declared.script.Op.TheVariants as op
+use Rattle.iso_model.specs.declared.core_reply.CoreReply.{CoreReply}
+use Rattle.iso_model.specs.declared.core_reply.CoreReply.TheVariants as reply
+use Rattle.script_model.specs.CoreReplies.{as_step}
 use Rattle.iso_model.specs.Geometry.{is_block_size, is_valid, same_mode}
 use Rattle.iso_model.specs.History.{last}
-use Rattle.iso_model.specs.Step.{after_begin, begin_step, mode_named, out_of_transaction, step}
+use Rattle.iso_model.specs.Step.{after_begin, begin_step, mode_named}
+use Rattle.script_model.specs.Step.{out_of_transaction, step}
 use Rattle.iso_model.specs.World.{World, Live, Place, attached, client}
 use Rattle.iso_machine.proofs.Refusals.{KeepsRefused, keeps_either}
 
 -- the reply does not depend on the place
-same_either : (W : World) (test : Bool) (r : Reply) (x y : Reply × World) → x.0 ≡ y.0 → (cond test (r, W) x).0 ≡ (cond test (r, W) y).0
+same_either : (W : World) (test : Bool) (r : CoreReply) (x y : CoreReply × World) → x.0 ≡ y.0 → (cond test (r, W) x).0 ≡ (cond test (r, W) y).0
 same_either W true r x y is = refl
 same_either W false r x y is = is
 
@@ -34,7 +36,7 @@ begin_keeps W place mode =
     (keeps_either W (nat_lt LAST W.next) (reply.Worn, W) (reply.Began (last W.history), after_begin W place mode) (λ r. refl) (λ r. absurd r)))
 
 -- one that is not refused
-next_of : (test : Bool) (W : World) (refusal : Reply) (next : Reply × World) (n : ℕ) → refusal ≢ reply.Began n → (cond test (refusal, W) next).0 ≡ reply.Began n → cond test (refusal, W) next ≡ next
+next_of : (test : Bool) (W : World) (refusal : CoreReply) (next : CoreReply × World) (n : ℕ) → refusal ≢ reply.Began n → (cond test (refusal, W) next).0 ≡ reply.Began n → cond test (refusal, W) next ≡ next
 next_of true W refusal next n other is = absurd (other is)
 next_of false W refusal next n other is = refl
 
@@ -42,25 +44,25 @@ pub has_begun : (W : World) (place : Place) (mode : Mode) (n : ℕ) → (begin_s
 unfolding begin_step
 has_begun W place mode n is =
     let first = next_of ((W.geometry.form == 1) && not (same_mode mode W.geometry.mode)) W reply.ModeFixed _ n (λ e. cc e) is in
-    let second = next_of (nat_le MAX_LIVE (length W.live)) W reply.TooManyTx _ n (λ e. cc e) (sym (ap (λ (x : Reply × World). x.0) first) ∙ is) in
-    let third = next_of (nat_lt LAST W.next) W reply.Worn (reply.Began (last W.history), after_begin W place mode) n (λ e. cc e) (sym (ap (λ (x : Reply × World). x.0) (first ∙ second)) ∙ is) in
+    let second = next_of (nat_le MAX_LIVE (length W.live)) W reply.TooManyTx _ n (λ e. cc e) (sym (ap (λ (x : CoreReply × World). x.0) first) ∙ is) in
+    let third = next_of (nat_lt LAST W.next) W reply.Worn (reply.Began (last W.history), after_begin W place mode) n (λ e. cc e) (sym (ap (λ (x : CoreReply × World). x.0) (first ∙ second)) ∙ is) in
     let all = first ∙ second ∙ third in
-    let at : reply.Began (last W.history) ≡ reply.Began n = sym (ap (λ (x : Reply × World). x.0) all) ∙ is in
-    all ∙ ap (λ (r : Reply). (r, after_begin W place mode)) at
+    let at : reply.Began (last W.history) ≡ reply.Began n = sym (ap (λ (x : CoreReply × World). x.0) all) ∙ is in
+    all ∙ ap (λ (r : CoreReply). (r, after_begin W place mode)) at
 
 pub began_at : (W : World) (place : Place) (mode : Mode) (n : ℕ) → (begin_step W place mode).0 ≡ reply.Began n → n ≡ last W.history
 unfolding begin_step
 began_at W place mode n is =
     let first = next_of ((W.geometry.form == 1) && not (same_mode mode W.geometry.mode)) W reply.ModeFixed _ n (λ e. cc e) is in
-    let second = next_of (nat_le MAX_LIVE (length W.live)) W reply.TooManyTx _ n (λ e. cc e) (sym (ap (λ (x : Reply × World). x.0) first) ∙ is) in
-    let third = next_of (nat_lt LAST W.next) W reply.Worn (reply.Began (last W.history), after_begin W place mode) n (λ e. cc e) (sym (ap (λ (x : Reply × World). x.0) (first ∙ second)) ∙ is) in
-    let at : reply.Began (last W.history) ≡ reply.Began n = sym (ap (λ (x : Reply × World). x.0) (first ∙ second ∙ third)) ∙ is in
+    let second = next_of (nat_le MAX_LIVE (length W.live)) W reply.TooManyTx _ n (λ e. cc e) (sym (ap (λ (x : CoreReply × World). x.0) first) ∙ is) in
+    let third = next_of (nat_lt LAST W.next) W reply.Worn (reply.Began (last W.history), after_begin W place mode) n (λ e. cc e) (sym (ap (λ (x : CoreReply × World). x.0) (first ∙ second)) ∙ is) in
+    let at : reply.Began (last W.history) ≡ reply.Began n = sym (ap (λ (x : CoreReply × World). x.0) (first ∙ second ∙ third)) ∙ is in
     cc at
 
 -- by who is attached to the client
-pub begin_is : (W : World) (c : ℕ) (mode : Option Mode) (o : Option Live) → attached W c ≡ o → step W c (op.Begin mode) ≡ out_of_transaction W o (begin_step W (client c) (mode_named W mode))
+pub begin_is : (W : World) (c : ℕ) (mode : Option Mode) (o : Option Live) → attached W c ≡ o → step W c (op.Begin mode) ≡ out_of_transaction W o (as_step (begin_step W (client c) (mode_named W mode)))
 unfolding step
-begin_is W c mode o is = ap (λ (p : Option Live). out_of_transaction W p (begin_step W (client c) (mode_named W mode))) is
+begin_is W c mode o is = ap (λ (p : Option Live). out_of_transaction W p (as_step (begin_step W (client c) (mode_named W mode)))) is
 
 -- the size of a block
 pub valid_block : (g : Geometry) → IsTrue (is_valid g) → IsTrue (is_block_size g.block)

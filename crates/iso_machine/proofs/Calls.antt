@@ -1,9 +1,9 @@
 -- What a call of a store tells of the disk.
 use Rattle.std.proofs.Common.{◌≡◌, ℕ, ◌<◌, true, false, Result, Ok, Err, IsErrOf, arith}
-use Rattle.iso_model.specs.declared.script.Reply.{Reply}
+use Rattle.script_model.specs.declared.script.Reply.{Reply}
 use Rattle.tx_blocks.specs.Tx.{Device}
-use Rattle.script_runner.specs.declared.machine.Stop.{Stop}
-use Rattle.script_runner.specs.declared.machine.Stop.TheVariants as stop
+use Rattle.script_model.specs.declared.stop.Stop.{Stop}
+use Rattle.script_model.specs.declared.stop.Stop.TheVariants as stop
 use Rattle.script_runner.specs.Counts.{BlamesDisk}
 use Rattle.core_blocks.specs.Guests.{Counts}
 use Rattle.store_calls.specs.Calls.{Stops}

@@ -12,13 +12,15 @@ use Rattle.iso_model.specs.declared.access.Mode.{Mode}
 use Rattle.iso_model.specs.declared.core_error.CoreError.{CoreError}
 use Rattle.iso_model.specs.declared.core_error.CoreError.TheVariants as error
 use Rattle.iso_model.specs.declared.limits.TheConstants.{LAST}
-use Rattle.iso_model.specs.declared.script.Op.TheVariants as op
-use Rattle.iso_model.specs.declared.script.Reply.{Reply}
-use Rattle.iso_model.specs.declared.script.Reply.TheVariants as reply
+use Rattle.script_model.specs.declared.script.Op.TheVariants as op
+use Rattle.iso_model.specs.declared.core_reply.CoreReply.{CoreReply}
+use Rattle.iso_model.specs.declared.core_reply.CoreReply.TheVariants as reply
+use Rattle.script_model.specs.CoreReplies.{as_step}
 use Rattle.iso_model.specs.Conflict.{clash, clash_from, first_after}
 use Rattle.iso_model.specs.Effect.{has_write}
 use Rattle.iso_model.specs.History.{History, last}
-use Rattle.iso_model.specs.Step.{after_commit, after_leaving, commit_step, end_step, in_transaction, need, step}
+use Rattle.iso_model.specs.Step.{after_commit, after_leaving, commit_step, end_step, need}
+use Rattle.script_model.specs.Step.{in_transaction, step}
 use Rattle.iso_model.specs.World.{World, Live, attached, used, without}
 use Rattle.iso_model.specs.Worlds.{IsLive, IsWorld}
 use Rattle.iso_model.proofs.Growth.{all_weaker}
@@ -68,10 +70,10 @@ pub record IsGone (W : World) (t : Live) (V : World) : Type 0 where
   pub live : V.live ≡ without t.number W.live
   pub geometry : V.geometry ≡ W.geometry
 
-abbrev IsGoneUnless : World → Live → Reply × World → Type 0
+abbrev IsGoneUnless : World → Live → CoreReply × World → Type 0
 IsGoneUnless W t given = ¬ IsRefusal given.0 → IsGone W t given.1
 
-either : (W : World) (t : Live) (test : Bool) (x y : Reply × World) → IsGoneUnless W t x → IsGoneUnless W t y → IsGoneUnless W t (cond test x y)
+either : (W : World) (t : Live) (test : Bool) (x y : CoreReply × World) → IsGoneUnless W t x → IsGoneUnless W t y → IsGoneUnless W t (cond test x y)
 either W t true x y first second = first
 either W t false x y first second = second
 
@@ -95,7 +97,7 @@ no_refusal ended.ReadOnly is = is
 no_refusal (ended.Conflict clash) is = is
 
 pub has_gone : (W : World) (t : Live) (r : EndReply) → (end_step W t).0 ≡ reply_of r → IsGone W t (end_step W t).1
-has_gone W t r is = end_goes W t (subst (λ (x : Reply). ¬ IsRefusal x) (sym is) (no_refusal r))
+has_gone W t r is = end_goes W t (subst (λ (x : CoreReply). ¬ IsRefusal x) (sym is) (no_refusal r))
 
 -- an end that is refused writes nothing
 pub unwritten : {D : Type 0} (old new : D) (e : CoreError) → IsSome (refusal_of e) → Writes (Err e) ⊎ (new ≡ old) → new ≡ old
@@ -109,6 +111,6 @@ unwritten old new (error.Worn at) some (inl wrote) = absurd wrote
 unwritten old new error.ModeFixed some (inl wrote) = absurd wrote
 
 -- by who is attached to the client
-pub end_is : (W : World) (c : ℕ) (o : Option Live) → attached W c ≡ o → step W c op.End ≡ in_transaction W o (end_step W)
+pub end_is : (W : World) (c : ℕ) (o : Option Live) → attached W c ≡ o → step W c op.End ≡ in_transaction W o (λ t. as_step (end_step W t))
 unfolding step
-end_is W c o is = ap (λ (p : Option Live). in_transaction W p (end_step W)) is
+end_is W c o is = ap (λ (p : Option Live). in_transaction W p (λ t. as_step (end_step W t))) is

@@ -5,14 +5,16 @@ use Rattle.std.proofs.lemmas.List.{map_push, set-get_or}
 use Rattle.iso_disk.specs.Disk.{DiskState}
 use Rattle.iso_model.specs.declared.access.Geometry.{Geometry}
 use Rattle.iso_model.specs.declared.access.Mode.{Mode}
-use Rattle.iso_model.specs.declared.script.Op.{Op}
-use Rattle.iso_model.specs.declared.script.Op.TheVariants as op
+use Rattle.script_model.specs.declared.script.Op.{Op}
+use Rattle.script_model.specs.declared.script.Op.TheVariants as op
 use Rattle.iso_model.specs.History.{last}
-use Rattle.iso_model.specs.Step.{after_begin, in_transaction, out_of_transaction, release_step, step, takeover_step, with_live}
+use Rattle.iso_model.specs.Step.{after_begin, with_live}
+use Rattle.script_model.specs.Step.{in_transaction, out_of_transaction, release_step, step, takeover_step}
 use Rattle.iso_model.specs.World.{World, Live, Place, attached, held, is_at_client, is_under_label, unattached, with, without}
-use Rattle.iso_model.specs.Worlds.{AreDistinct, IsOp, IsWorld}
+use Rattle.iso_model.specs.Worlds.{AreDistinct, IsWorld}
+use Rattle.script_model.specs.Operations.{IsOp}
 use Rattle.iso_model.proofs.Growth.{all_push}
-use Rattle.iso_model.proofs.Worlds.{step_leads}
+use Rattle.script_model.proofs.Steps.{step_leads}
 use Rattle.iso_core.specs.declared.core_itself.Core.{Core}
 use Rattle.iso_core.specs.Calls.{IsAmong, IsTx, IsWorkOf}
 use Rattle.iso_core.specs.Core.{StandsFor}

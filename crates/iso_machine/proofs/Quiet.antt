@@ -3,14 +3,14 @@ use Rattle.std.proofs.Common.{◌≡◌, inl, sym, refl, subst, ℕ, List, Resul
 use Rattle.iso_core.specs.Calls as core
 use Rattle.iso_disk.specs.Disk.{DiskState, IsLawful, LeavesOnly, StaysTold, WritesNothing}
 use Rattle.iso_disk.proofs.Moments.{started, stays}
-use Rattle.iso_model.specs.declared.script.Reply.{Reply}
+use Rattle.script_model.specs.declared.script.Reply.{Reply}
 use Rattle.iso_model.specs.History.{last}
 use Rattle.iso_model.specs.Image.{Shows}
 use Rattle.iso_model.specs.World.{World, Live}
 use Rattle.tx_table.specs.Work.{Doing}
-use Rattle.script_runner.specs.declared.machine.Stop.{Stop}
-use Rattle.script_runner.specs.declared.machine.Stop.TheVariants as stop
-use Rattle.script_runner.specs.Between.{IsBeforeOrAfter}
+use Rattle.script_model.specs.declared.stop.Stop.{Stop}
+use Rattle.script_model.specs.declared.stop.Stop.TheVariants as stop
+use Rattle.iso_model.specs.Between.{ShowsEither}
 use Rattle.script_runner.specs.Counts.{BlamesDisk}
 use Rattle.iso_machine.specs.Accessing.{IsShown, IsWorkedTo}
 use Rattle.iso_machine.specs.Answering.{Answers}
@@ -18,7 +18,7 @@ use Rattle.iso_machine.proofs.Accesses.{same_but_shown}
 
 -- a call of the core that was answered
 pub answered : {T : Type 0} (stands : World → Type 0) (old new : DiskState) (W : World) (given : Reply × World) (r : Reply) (answer : T) → r ≡ given.0 → StaysTold old new → stands given.1
-    → LeavesOnly old new (IsBeforeOrAfter W given.1) → core.BlamesDisk old.faults new.faults (Ok answer) → Answers stands old new W given (Ok r)
+    → LeavesOnly old new (ShowsEither W given.1) → core.BlamesDisk old.faults new.faults (Ok answer) → Answers stands old new W given (Ok r)
 answered stands old new W given r answer is told after moments cause = record {
   reply = λ told. is;
   but_shown = same_but_shown r given.0 is;

@@ -4,19 +4,20 @@ use Rattle.iso_disk.specs.Disk.{DiskState, IsLawful, LeavesOnly, StaysTold}
 use Rattle.iso_disk.proofs.Moments.{started}
 use Rattle.iso_model.specs.declared.core_error.CoreError.{CoreError}
 use Rattle.iso_model.specs.declared.core_error.CoreError.TheVariants as error
-use Rattle.iso_model.specs.declared.script.Reply.{Reply}
-use Rattle.iso_model.specs.declared.script.Reply.TheVariants as reply
+use Rattle.iso_model.specs.declared.core_reply.CoreReply.{CoreReply}
+use Rattle.iso_model.specs.declared.core_reply.CoreReply.TheVariants as reply
+use Rattle.script_model.specs.CoreReplies.{as_reply, as_step}
 use Rattle.iso_model.specs.History.{last}
 use Rattle.iso_model.specs.Image.{Shows}
 use Rattle.iso_model.specs.World.{World}
 use Rattle.iso_core.specs.Calls as core
 use Rattle.iso_core.specs.Calls.{Refuses}
-use Rattle.script_runner.specs.Between.{IsBeforeOrAfter}
+use Rattle.iso_model.specs.Between.{ShowsEither}
 use Rattle.iso_machine.specs.Answering.{Answers, answer_to}
 use Rattle.iso_machine.proofs.Accesses.{same_but_shown}
 
 -- a reply that stands for an error of a core
-abbrev pub IsRefusal : Reply → Type 0
+abbrev pub IsRefusal : CoreReply → Type 0
 IsRefusal reply.TooManyTx = Unit {0}
 IsRefusal (reply.LogFull need free) = Unit {0}
 IsRefusal reply.Worn = Unit {0}
@@ -24,23 +25,23 @@ IsRefusal reply.ModeFixed = Unit {0}
 IsRefusal r = ⊥
 
 -- a refusal leaves the world as it was
-abbrev pub KeepsRefused : World → Reply × World → Type 0
+abbrev pub KeepsRefused : World → CoreReply × World → Type 0
 KeepsRefused W given = IsRefusal given.0 → given.1 ≡ W
 
 -- what a core promises of a call that it refuses
-pub record Refused (stands : World → Type 0) (old new : DiskState) (W : World) (given : Reply × World) (e : CoreError) : Type 0 where
+pub record Refused (stands : World → Type 0) (old new : DiskState) (W : World) (given : CoreReply × World) (e : CoreError) : Type 0 where
   pub is : (e ≡ error.Disk) ⊎ Refuses given.0 e
   pub keeps : KeepsRefused W given
   pub same : e ≢ error.Disk → stands W
   pub told : IsSome (core.refusal_of e) → StaysTold old new
-  pub moments : LeavesOnly old new (IsBeforeOrAfter W given.1)
+  pub moments : LeavesOnly old new (ShowsEither W given.1)
   pub cause : core.BlamesDisk {T = Unit {0}} old.faults new.faults (Err e)
 
-module _ (stands : World → Type 0) (old new : DiskState) (W : World) (given : Reply × World) where
-  replied : (e : CoreError) (r : Reply) → Refused stands old new W given e → Some r ≡ core.refusal_of e → e ≢ error.Disk → r ≡ given.0 → IsRefusal r → Answers stands old new W given (Ok r)
+module _ (stands : World → Type 0) (old new : DiskState) (W : World) (given : CoreReply × World) where
+  replied : (e : CoreError) (r : CoreReply) → Refused stands old new W given e → Some r ≡ core.refusal_of e → e ≢ error.Disk → r ≡ given.0 → IsRefusal r → Answers stands old new W (as_step given) (Ok (as_reply r))
   replied e r of some other is refusal = record {
-    reply = λ told. is;
-    but_shown = same_but_shown r given.0 is;
+    reply = λ told. ap as_reply is;
+    but_shown = same_but_shown (as_reply r) (as_reply given.0) (ap as_reply is);
     told = λ told. of.told (subst IsSome some refl) told;
     world = subst stands (sym (of.keeps (subst IsRefusal is refusal))) (of.same other);
     moments = of.moments;
@@ -48,10 +49,10 @@ module _ (stands : World → Type 0) (old new : DiskState) (W : World) (given : 
     cause = record { later = of.cause.later; failed = λ e. absurd (cc e); passed = of.cause.other other; memory = λ e. absurd (cc e) };
   }
 
-  pub refused : (e : CoreError) → Refused stands old new W given e → Answers stands old new W given (answer_to e)
+  pub refused : (e : CoreError) → Refused stands old new W given e → Answers stands old new W (as_step given) (answer_to e)
   refused e of = go e of of.is
     where
-      go : (e : CoreError) → Refused stands old new W given e → (e ≡ error.Disk) ⊎ Refuses given.0 e → Answers stands old new W given (answer_to e)
+      go : (e : CoreError) → Refused stands old new W given e → (e ≡ error.Disk) ⊎ Refuses given.0 e → Answers stands old new W (as_step given) (answer_to e)
       go error.Down of (inl is) = absurd (cc is)
       go error.Down of (inr (inl is)) = absurd (cc is)
       go error.Down of (inr (inr is)) = absurd (cc is)
@@ -87,7 +88,7 @@ module _ (stands : World → Type 0) (old new : DiskState) (W : World) (given : 
       go error.ModeFixed of (inr (inr is)) = replied error.ModeFixed reply.ModeFixed of refl (λ e. cc e) (cc is) tt
 
 -- an error that is refused as the model refuses is no fault of the disk
-not_disk : (r : Reply) (e : CoreError) → Refuses r e → e ≢ error.Disk
+not_disk : (r : CoreReply) (e : CoreError) → Refuses r e → e ≢ error.Disk
 not_disk r e (inl memory) disk = cc (memory, disk)
 not_disk r e (inr some) disk = absurd (none_is_not_some (ap core.refusal_of (sym disk) ∙ some))
   where
@@ -95,8 +96,8 @@ not_disk r e (inr some) disk = absurd (none_is_not_some (ap core.refusal_of (sym
     none_is_not_some is = cc is
 
 -- a call that is refused, and leaves the disk as it was
-pub refused_still : (stands : World → Type 0) (d : DiskState) → IsLawful d → (W : World) → ((c : List ℕ) → d.now c → Shows c W.geometry W.history (last W.history)) → (given : Reply × World) (e : CoreError)
-    → Refuses given.0 e → KeepsRefused W given → stands W → Answers stands d d W given (answer_to e)
+pub refused_still : (stands : World → Type 0) (d : DiskState) → IsLawful d → (W : World) → ((c : List ℕ) → d.now c → Shows c W.geometry W.history (last W.history)) → (given : CoreReply × World) (e : CoreError)
+    → Refuses given.0 e → KeepsRefused W given → stands W → Answers stands d d W (as_step given) (answer_to e)
 refused_still stands d laws W here given e is keeps same = refused stands d d W given e (record {
   is = inr is;
   keeps = keeps;
@@ -111,6 +112,6 @@ pub blames : {T : Type 0} (before now : ℕ) (e : CoreError) → core.BlamesDisk
 blames before now e cause = record { later = cause.later; failed = λ disk. cause.failed (ap Err (cc disk)); passed = tt; other = cause.other }
 
 -- of two answers, each of which leaves the world where it is a refusal
-pub keeps_either : (W : World) (test : Bool) (x y : Reply × World) → KeepsRefused W x → KeepsRefused W y → KeepsRefused W (cond test x y)
+pub keeps_either : (W : World) (test : Bool) (x y : CoreReply × World) → KeepsRefused W x → KeepsRefused W y → KeepsRefused W (cond test x y)
 keeps_either W true x y first second = first
 keeps_either W false x y first second = second

@@ -5,14 +5,15 @@ use Rattle.std.proofs.lemmas.Bool.{eq-eqb, ne_eqb}
 use Rattle.iso_disk.specs.Disk.{DiskState, IsLawful}
 use Rattle.iso_model.specs.declared.access.Access.{Access}
 use Rattle.iso_model.specs.declared.access.Mode.TheVariants.{Serial, Snapshot}
-use Rattle.iso_model.specs.declared.script.Op.{Op}
-use Rattle.iso_model.specs.declared.script.Reply.{Reply}
-use Rattle.iso_model.specs.declared.script.Reply.TheVariants as reply
-use Rattle.iso_model.specs.declared.stores.Area.{Area}
+use Rattle.script_model.specs.declared.script.Op.{Op}
+use Rattle.script_model.specs.declared.script.Reply.{Reply}
+use Rattle.script_model.specs.declared.script.Reply.TheVariants as reply
+use Rattle.store_model.specs.declared.stores.Area.{Area}
 use Rattle.iso_model.specs.Effect.{own}
 use Rattle.iso_model.specs.History.{array_at}
 use Rattle.iso_model.specs.declared.limits.TheConstants.{MAX_ACCESSES}
-use Rattle.iso_model.specs.Step.{array_of, in_store, with_accesses}
+use Rattle.script_model.specs.Step.{array_of, in_store}
+use Rattle.iso_model.specs.Step.{with_accesses}
 use Rattle.iso_model.specs.World.{World, Live}
 use Rattle.iso_core.specs.declared.core_itself.Core.{Core}
 use Rattle.iso_core.specs.Calls.{IsTx}
@@ -23,7 +24,7 @@ use Rattle.core_blocks.specs.Shown.{array_in, array_told}
 use Rattle.core_blocks.proofs.Arrays.{array_shown}
 use Rattle.tx_table.specs.Work.{Doing}
 use Rattle.tx_blocks.specs.Tx.{Tx}
-use Rattle.script_runner.specs.declared.machine.Stop.{Stop}
+use Rattle.script_model.specs.declared.stop.Stop.{Stop}
 use Rattle.script_runner.specs.Told.{IfTold}
 use Rattle.iso_machine.specs.Accessing.{IsActive, IsGiven}
 use Rattle.store_calls.specs.Calls.{HasCalled, IsStoreArea, is_empty_scan, store_area, store_ended}

@@ -5,16 +5,19 @@ use Rattle.iso_disk.proofs.Moments.{weakened}
 use Rattle.iso_model.specs.declared.core_error.CoreError.{CoreError}
 use Rattle.iso_model.specs.declared.core_error.CoreError.TheVariants as error
 use Rattle.iso_model.specs.declared.limits.TheConstants.{LAST}
-use Rattle.iso_model.specs.declared.script.Reply.{Reply}
-use Rattle.iso_model.specs.declared.script.Op.TheVariants as op
-use Rattle.iso_model.specs.declared.script.Reply.TheVariants as reply
-use Rattle.iso_model.specs.Step.{after_switch, step, switch_step}
+use Rattle.iso_model.specs.declared.core_reply.CoreReply.{CoreReply}
+use Rattle.iso_model.specs.declared.core_reply.CoreReply.TheVariants as reply
+use Rattle.script_model.specs.CoreReplies.{as_step}
+use Rattle.script_model.specs.declared.script.Op.TheVariants as op
+use Rattle.iso_model.specs.Step.{after_switch, switch_step}
+use Rattle.script_model.specs.Step.{step}
 use Rattle.iso_model.specs.World.{World, floor}
 use Rattle.iso_model.proofs.Growth.{all_weaker}
 use Rattle.iso_core.specs.declared.core_itself.Core.{Core}
 use Rattle.iso_core.specs.Calls.{BlamesDisk, Refuses, refusal_of}
 use Rattle.iso_core.specs.Core.{StandsFor, disk_of}
-use Rattle.iso_core.specs.Standing.{ShowsLast, up}
+use Rattle.iso_core.specs.Standing.{up}
+use Rattle.iso_model.specs.Between.{ShowsLast}
 use Rattle.iso_machine.specs.declared.attached.Attached.{Attached}
 use Rattle.iso_machine.specs.Answering.{Answers, answer_to}
 use Rattle.iso_machine.specs.Standing.{AreOf, IsSized}
@@ -30,19 +33,19 @@ switched state core new live W form of stands = record {
   sized = all_weaker (IsSized W.geometry) (IsSized (after_switch W form).geometry) (λ a is. record { size = is.size; blocks = is.blocks }) live of.sized;
 }
 
-pub compact_is : (W : World) (c : ℕ) → step W c op.Compact ≡ switch_step W W.geometry.form (reply.Compacted (floor W))
+pub compact_is : (W : World) (c : ℕ) → step W c op.Compact ≡ as_step (switch_step W W.geometry.form (reply.Compacted (floor W)))
 unfolding step
 compact_is W c = refl
 
-pub upgrade_is : (W : World) (c : ℕ) → step W c op.Upgrade ≡ switch_step W 2 (reply.Upgraded (floor W))
+pub upgrade_is : (W : World) (c : ℕ) → step W c op.Upgrade ≡ as_step (switch_step W 2 (reply.Upgraded (floor W)))
 unfolding step
 upgrade_is W c = refl
 
-keeps_worn : (W : World) (test : Bool) (form : ℕ) (answer : Reply) → (IsRefusal answer → ⊥) → KeepsRefused W (if test then (reply.Worn, W) else (answer, after_switch W form))
+keeps_worn : (W : World) (test : Bool) (form : ℕ) (answer : CoreReply) → (IsRefusal answer → ⊥) → KeepsRefused W (if test then (reply.Worn, W) else (answer, after_switch W form))
 keeps_worn W true form answer none = λ refusal. refl
 keeps_worn W false form answer none = λ refusal. absurd (none refusal)
 
-keeps_switch : (W : World) (form : ℕ) (answer : Reply) → (IsRefusal answer → ⊥) → KeepsRefused W (switch_step W form answer)
+keeps_switch : (W : World) (form : ℕ) (answer : CoreReply) → (IsRefusal answer → ⊥) → KeepsRefused W (switch_step W form answer)
 unfolding switch_step
 keeps_switch W form answer none = keeps_worn W (W.generation == LAST) form answer none
 
@@ -57,11 +60,11 @@ worn_still old new (error.Worn at) still some = still (λ e. cc e) (λ e. cc e)
 worn_still old new error.ModeFixed still some = still (λ e. cc e) (λ e. cc e)
 
 -- a switch that is refused
-pub switch_refused : {D : Type 0} (state : D → DiskState) (core new : Core D) (live : List Attached) (W : World) (form : ℕ) (answer : Reply) (e : CoreError) → AreOf state core live W
+pub switch_refused : {D : Type 0} (state : D → DiskState) (core new : Core D) (live : List Attached) (W : World) (form : ℕ) (answer : CoreReply) (e : CoreError) → AreOf state core live W
     → (IsRefusal answer → ⊥) → (e ≡ error.Disk) ⊎ Refuses (switch_step W form answer).0 e → (e ≢ error.Disk → StandsFor state new W up)
     → (e ≢ error.Disk → e ≢ error.Memory → disk_of new ≡ disk_of core) → LeavesOnly (state (disk_of core)) (state (disk_of new)) (ShowsLast W)
     → BlamesDisk {T = ℕ} (state (disk_of core)).faults (state (disk_of new)).faults (Err e)
-    → Answers (AreOf state new live) (state (disk_of core)) (state (disk_of new)) W (switch_step W form answer) (answer_to e)
+    → Answers (AreOf state new live) (state (disk_of core)) (state (disk_of new)) W (as_step (switch_step W form answer)) (answer_to e)
 switch_refused state core new live W form answer e of none is stands still moments cause =
     refused (AreOf state new live) (state (disk_of core)) (state (disk_of new)) W (switch_step W form answer) e (record {
       is = is;

@@ -3,17 +3,17 @@ use Rattle.std.proofs.Common.{◌≡◌, ◌∙◌, sym, refl, ap, subst, inl, i
 use Rattle.std.specs.Prelude.{IsSome}
 use Rattle.iso_disk.specs.Disk.{DiskState, WritesNothing}
 use Rattle.iso_disk.proofs.Moments.{stays}
-use Rattle.iso_model.specs.declared.script.Op.{Op}
-use Rattle.iso_model.specs.declared.script.Reply.{Reply}
-use Rattle.iso_model.specs.declared.script.Reply.TheVariants as reply
+use Rattle.script_model.specs.declared.script.Op.{Op}
+use Rattle.script_model.specs.declared.script.Reply.{Reply}
+use Rattle.script_model.specs.declared.script.Reply.TheVariants as reply
 use Rattle.iso_model.specs.Geometry.{is_serial}
 use Rattle.iso_model.specs.History.{last}
 use Rattle.iso_model.specs.Image.{Shows}
-use Rattle.iso_model.specs.Step.{in_store}
+use Rattle.script_model.specs.Step.{in_store}
 use Rattle.iso_model.specs.World.{World, Live}
 use Rattle.tx_table.specs.Work.{Doing}
-use Rattle.script_runner.specs.declared.machine.Stop.{Stop}
-use Rattle.script_runner.specs.declared.machine.Stop.TheVariants as stop
+use Rattle.script_model.specs.declared.stop.Stop.{Stop}
+use Rattle.script_model.specs.declared.stop.Stop.TheVariants as stop
 use Rattle.script_runner.specs.Counts.{BlamesDisk}
 use Rattle.iso_machine.specs.Accessing.{IsWorkedTo}
 use Rattle.iso_machine.specs.Answering.{Answers, AnswersTold}

@@ -1,17 +1,18 @@
 -- What an access or a mark of one transaction is answered, and what its work is then.
 use Rattle.std.specs.Prelude.{◌≡◌, Result, Ok, Err}
 use Rattle.iso_disk.specs.Disk.{DiskState}
-use Rattle.iso_model.specs.declared.script.Op.{Op}
-use Rattle.iso_model.specs.declared.script.Op.TheVariants.{Put, Read, Get, Write, Fill, Mark}
-use Rattle.iso_model.specs.declared.script.Reply.{Reply}
-use Rattle.iso_model.specs.declared.script.Reply.TheVariants as reply
+use Rattle.script_model.specs.declared.script.Op.{Op}
+use Rattle.script_model.specs.declared.script.Op.TheVariants.{Put, Read, Get, Write, Fill, Mark}
+use Rattle.script_model.specs.declared.script.Reply.{Reply}
+use Rattle.script_model.specs.declared.script.Reply.TheVariants as reply
 use Rattle.iso_model.specs.declared.memory.Memory.{Memory}
-use Rattle.iso_model.specs.Step.{fill_step, get_step, mark_step, put_step, read_step, with_accesses, write_step}
+use Rattle.script_model.specs.Step.{fill_step, get_step, mark_step, put_step, read_step, write_step}
+use Rattle.iso_model.specs.Step.{with_accesses}
 use Rattle.iso_model.specs.World.{World, Live, with}
 use Rattle.tx_table.specs.Work.{Doing}
 use Rattle.iso_core.specs.Calls.{IsWorkOf}
-use Rattle.script_runner.specs.declared.machine.Stop.{Stop}
-use Rattle.script_runner.specs.declared.machine.Stop.TheVariants as stop
+use Rattle.script_model.specs.declared.stop.Stop.{Stop}
+use Rattle.script_model.specs.declared.stop.Stop.TheVariants as stop
 use Rattle.script_runner.specs.Told.{IfTold, SameButShown}
 
 -- an access or a mark of the transaction

@@ -3,12 +3,12 @@ use Rattle.std.specs.Prelude.{◌≡◌, IfOk, IsErrOf, IsSome, OnOk, Result, Ok
 use Rattle.iso_disk.specs.Disk.{DiskState, LeavesOnly}
 use Rattle.iso_model.specs.declared.core_error.CoreError.{CoreError}
 use Rattle.iso_model.specs.declared.core_error.CoreError.TheVariants as error
-use Rattle.iso_model.specs.declared.script.Reply.{Reply}
-use Rattle.iso_model.specs.declared.script.Reply.TheVariants as reply
+use Rattle.script_model.specs.declared.script.Reply.{Reply}
+use Rattle.script_model.specs.declared.script.Reply.TheVariants as reply
 use Rattle.iso_model.specs.World.{World}
-use Rattle.script_runner.specs.declared.machine.Stop.{Stop}
-use Rattle.script_runner.specs.declared.machine.Stop.TheVariants as stop
-use Rattle.script_runner.specs.Between.{IsBeforeOrAfter}
+use Rattle.script_model.specs.declared.stop.Stop.{Stop}
+use Rattle.script_model.specs.declared.stop.Stop.TheVariants as stop
+use Rattle.iso_model.specs.Between.{ShowsEither}
 use Rattle.script_runner.specs.Counts.{BlamesDisk}
 use Rattle.script_runner.specs.Told.{IfTold, SameButShown, StandsSo}
 
@@ -19,7 +19,7 @@ pub record Answers (stands : World → Type 0) (old new : DiskState) (W : World)
   pub but_shown : IfOk result (λ r. SameButShown r given.0)
   pub told : OnOk result (IfTold old (IsSome new.contents))
   pub world : OnOk result (stands given.1)
-  pub moments : LeavesOnly old new (IsBeforeOrAfter W given.1)
+  pub moments : LeavesOnly old new (ShowsEither W given.1)
   pub up : ¬ IsErrOf result stop.Down
   pub cause : BlamesDisk old.faults new.faults result
 
@@ -29,7 +29,7 @@ pub record AnswersTold (stands : World → Type 0) (old new : DiskState) (W : Wo
   pub but_shown : plain → IfOk result (λ r. SameButShown r given.0)
   pub told : OnOk result (IfTold old (IsSome new.contents))
   pub world : OnOk result (StandsSo stands old plain given.1)
-  pub moments : LeavesOnly old new (IsBeforeOrAfter W given.1)
+  pub moments : LeavesOnly old new (ShowsEither W given.1)
   pub up : ¬ IsErrOf result stop.Down
   pub cause : BlamesDisk old.faults new.faults result
 

@@ -2,5 +2,4 @@ pub mod Standing
 pub mod Accessing
 pub mod Answering
 pub mod Shown
-pub mod TestMachines
 pub mod Storing

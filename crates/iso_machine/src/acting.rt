@@ -12,8 +12,8 @@ use crate::accessing::{fill, mark, put, write};
 use crate::reading::{get, read};
 use iso_core::Core;
 use iso_disk::Disk;
-use iso_model::{Memory, Op, Reply};
-use script_runner::Stop;
+use iso_model::Memory;
+use script_model::{Op, Reply, Stop};
 use std::alloc::Global;
 use tx_table::Work;
 

@@ -1,17 +1,16 @@
 // What each operation of a client is answered.
 ghost use Rattle.std.specs.Prelude.{◌≡◌};
-ghost use Rattle.iso_model.specs.declared.script.Op.TheVariants.{Trim};
-ghost use Rattle.iso_model.specs.Step.{in_transaction, numbers, step};
+ghost use Rattle.script_model.specs.declared.script.Op.TheVariants.{Trim};
+ghost use Rattle.script_model.specs.Step.{in_transaction, numbers, step};
 ghost use Rattle.iso_model.specs.World.{World, attached};
-ghost use Rattle.iso_model.specs.Worlds.{IsOp};
+ghost use Rattle.script_model.specs.Operations.{IsOp};
 
 use crate::acting::act;
 use crate::attached::index_at_client;
 use crate::machine::Machine;
 use crate::storing::store;
 use iso_disk::Disk;
-use iso_model::{Op, Reply};
-use script_runner::Stop;
+use script_model::{Op, Reply, Stop};
 
 impl<D: Disk> Machine<D> {
     ghost use Rattle.iso_core.specs.Core.{disk_of};

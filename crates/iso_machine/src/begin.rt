@@ -1,8 +1,8 @@
 // Transactions that begin.
 ghost use Rattle.std.specs.Prelude.{◌≡◌, IsTrue, IfOk};
-ghost use Rattle.iso_model.specs.declared.script.Op.TheVariants.{Begin};
+ghost use Rattle.script_model.specs.declared.script.Op.TheVariants.{Begin};
 ghost use Rattle.iso_model.specs.Geometry.{is_block_size};
-ghost use Rattle.iso_model.specs.Step.{step};
+ghost use Rattle.script_model.specs.Step.{step};
 ghost use Rattle.iso_model.specs.World.{World};
 
 use crate::attached::{Attached, Spot, index_at_client};
@@ -10,8 +10,8 @@ use crate::ending::keep_spare;
 use crate::machine::Machine;
 use crate::refusing::refused;
 use iso_disk::Disk;
-use iso_model::{Geometry, Memory, Mode, Reply};
-use script_runner::Stop;
+use iso_model::{Geometry, Memory, Mode};
+use script_model::{Reply, Stop};
 use std::alloc::Global;
 use tx_table::Work;
 

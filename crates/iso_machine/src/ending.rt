@@ -1,12 +1,15 @@
 // Transactions that end.
 ghost use Rattle.std.specs.Prelude.{◌≡◌, ◌≢◌, ◌⊎◌, ◌<◌, ◌≤◌, IfErr, IfOk, OnOk};
 ghost use Rattle.iso_disk.specs.Disk.{LeavesOnly, StaysTold};
-ghost use Rattle.iso_model.specs.declared.script.Op.TheVariants.{Abort, End};
-ghost use Rattle.iso_model.specs.Step.{end_step, step};
+ghost use Rattle.script_model.specs.declared.script.Op.TheVariants.{Abort, End};
+ghost use Rattle.script_model.specs.CoreReplies.{as_reply};
+ghost use Rattle.script_model.specs.Step.{step};
+ghost use Rattle.iso_model.specs.Step.{end_step};
 ghost use Rattle.iso_model.specs.World.{World, Live};
 ghost use Rattle.iso_core.specs.Calls.{BlamesDisk, IsTx, IsWorkOf, Refuses, Writes, reply_of};
 ghost use Rattle.iso_core.specs.Core.{StandsFor, disk_of};
-ghost use Rattle.iso_core.specs.Standing.{ShowsEither, up};
+ghost use Rattle.iso_core.specs.Standing.{up};
+ghost use Rattle.iso_model.specs.Between.{ShowsEither};
 
 use crate::attached::index_at_client;
 use crate::machine::Machine;
@@ -14,8 +17,8 @@ use crate::refusing::refused;
 use conflict_rule::Checked;
 use iso_core::Core;
 use iso_disk::Disk;
-use iso_model::{CoreError, EndReply, Reply};
-use script_runner::Stop;
+use iso_model::{CoreError, EndReply};
+use script_model::{Reply, Stop};
 use std::marker::Brand;
 use std::sync::ledger::{Blank, Ledger};
 use step_count::Steps;
@@ -54,7 +57,7 @@ fn end_whole<L: Ledger, D: Disk>(
 
 /// The reply that the end of a transaction stands for.
 fn ended(reply: EndReply) -> Reply
-    ensures { result ≡ reply_of reply }
+    ensures { result ≡ as_reply (reply_of reply) }
 {
     match reply {
         EndReply::Committed(number) => Reply::Committed(number),

@@ -1,15 +1,15 @@
 // Transactions that go from client to client.
 ghost use Rattle.std.specs.Prelude.{IsTrue};
-ghost use Rattle.iso_model.specs.declared.script.Op.TheVariants.{Release, Takeover};
-ghost use Rattle.iso_model.specs.Step.{step};
-ghost use Rattle.iso_model.specs.Text.{is_label};
+ghost use Rattle.script_model.specs.declared.script.Op.TheVariants.{Release, Takeover};
+ghost use Rattle.script_model.specs.Step.{step};
+ghost use Rattle.iso_model.specs.Labels.{is_label};
 ghost use Rattle.iso_model.specs.World.{World};
 
 use crate::attached::{Spot, index_at_client, index_under_label};
 use crate::machine::Machine;
 use iso_disk::Disk;
-use iso_model::{Label, Reply};
-use script_runner::Stop;
+use iso_model::Label;
+use script_model::{Reply, Stop};
 
 impl<D: Disk> Machine<D> {
     ghost use Rattle.iso_core.specs.Core.{disk_of};

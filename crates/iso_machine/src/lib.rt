@@ -16,12 +16,3 @@ mod storing;
 mod switching;
 
 pub use machine::Machine;
-
-#[cfg(test)]
-mod handle_tests;
-#[cfg(test)]
-mod limit_tests;
-#[cfg(test)]
-mod session;
-#[cfg(test)]
-mod tests;

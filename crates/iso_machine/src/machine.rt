@@ -7,8 +7,8 @@ use crate::attached::Attached;
 use crate::leaving::abort_all;
 use iso_core::Core;
 use iso_disk::Disk;
-use iso_model::{Op, Reply};
-use script_runner::{ScriptMachine, Stop};
+use script_model::{Op, Reply, Stop};
+use script_runner::ScriptMachine;
 use std::alloc::Global;
 use tx_table::Work;
 

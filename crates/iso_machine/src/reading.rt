@@ -2,7 +2,8 @@
 ghost use Rattle.std.specs.Prelude.{◌≡◌, ◌∷◌, ◌++◌, [], ◌+◌, ◌<◌, ◌≤◌, Some, None, false, IfOk, IsErrOf, OnOk, drop, length, take, vec_len};
 ghost use Rattle.fault_count.specs.Count.{HasCause};
 ghost use Rattle.iso_disk.specs.Disk.{WritesNothing};
-ghost use Rattle.iso_model.specs.Step.{get_step, read_access, read_step, shown_to};
+ghost use Rattle.script_model.specs.Step.{get_step, read_step};
+ghost use Rattle.iso_model.specs.Step.{read_access, shown_to};
 ghost use Rattle.iso_model.specs.World.{World, Live};
 ghost use Rattle.iso_core.specs.Calls.{IsTx, IsWorkOf};
 ghost use Rattle.iso_core.specs.Core.{StandsFor, disk_of};
@@ -14,8 +15,8 @@ ghost use Rattle.iso_machine.specs.Accessing.{IsActive, IsShown};
 use crate::accessing::{is_outside, mark_within, refusal};
 use iso_core::Core;
 use iso_disk::{Disk, DiskFault};
-use iso_model::{Bytes, Memory, Reply};
-use script_runner::Stop;
+use iso_model::{Bytes, Memory};
+use script_model::{Reply, Stop};
 use std::alloc::Global;
 use tx_table::Work;
 

@@ -2,8 +2,8 @@
 ghost use Rattle.std.specs.Prelude.{◌≡◌};
 ghost use Rattle.iso_machine.specs.Answering.{answer_to};
 
-use iso_model::{CoreError, Reply};
-use script_runner::Stop;
+use iso_model::CoreError;
+use script_model::{Reply, Stop};
 
 /// The reply that an error of a core stands for, or why there is none.
 pub(crate) fn refused(error: CoreError) -> Result<Reply, Stop>

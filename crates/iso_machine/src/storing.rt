@@ -17,11 +17,12 @@ ghost use Rattle.store_calls.specs.Calls.{HasCalled, IsStoreArea, is_empty_scan,
 use core_blocks::{CoreBlocks, Lent, Origin};
 use iso_core::Core;
 use iso_disk::Disk;
-use iso_model::{Mode, Op, Region, Reply};
-use script_runner::Stop;
+use iso_model::Mode;
+use script_model::{Op, Reply, Stop};
 use std::alloc::Global;
 use std::marker::Brand;
 use store_calls::{call, is_empty_scan, store_region};
+use store_model::Region;
 use tx_table::Work;
 
 /// A core and the work of one of its transactions after a call.

@@ -1,13 +1,12 @@
 // The base of the image, moved to the floor.
-ghost use Rattle.iso_model.specs.declared.script.Op.TheVariants.{Compact, Upgrade};
-ghost use Rattle.iso_model.specs.Step.{step};
+ghost use Rattle.script_model.specs.declared.script.Op.TheVariants.{Compact, Upgrade};
+ghost use Rattle.script_model.specs.Step.{step};
 ghost use Rattle.iso_model.specs.World.{World};
 
 use crate::machine::Machine;
 use crate::refusing::refused;
 use iso_disk::Disk;
-use iso_model::Reply;
-use script_runner::Stop;
+use script_model::{Reply, Stop};
 
 impl<D: Disk> Machine<D> {
     ghost use Rattle.iso_core.specs.Core.{disk_of};

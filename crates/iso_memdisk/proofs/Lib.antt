@@ -2,3 +2,4 @@ pub mod Calls
 pub mod Crash
 pub mod Moves
 pub mod Steps
+pub mod Blank

@@ -20,10 +20,11 @@ abbrev since : List Call → List ℕ → ℕ → List ℕ → Type 0
 since calls first t c = (k : ℕ) × (t ≤ k) × (k ≤ length calls) × images (take k calls) first c
 
 -- nothing was done
-pub elapses_untouched : {old new : MemDisk} {among : List ℕ → Type 0} → IsUntouched old new → new.name ≡ old.name → ((c : List ℕ) → now_of old c → among c) → Elapses (state_of old) (state_of new) among
-elapses_untouched {old = old} {new = new} {among = among} same named within = record {
+pub elapses_untouched : {old new : MemDisk} {among : List ℕ → Type 0} → IsUntouched old new → new.name ≡ old.name → new.failures.binds ≡ old.failures.binds → ((c : List ℕ) → now_of old c → among c) → Elapses (state_of old) (state_of new) among
+elapses_untouched {old = old} {new = new} {among = among} same named binds within = record {
   same_size = ap length same.first;
   same_bound = ap (option_map (λ (name : Vec ℕ Global). (0, name.items))) named;
+  same_binds = binds;
   later = omega (arith, ap length same.history);
   after = λ c image. within c (to_old c image);
   during = λ t c le left. inl (subst (λ (f : List ℕ). since old.history.items f t c) same.first (subst (λ (l : List Call). since l new.first.items t c) same.history left));
@@ -54,10 +55,11 @@ module _ {old new : MemDisk} {call : Call} (more : Appends old new call) where
       subst (λ (l : List Call). images l new.first.items c) (sym (ap (take k) more.history ∙ take-append-le k old.history.items (call ∷ []) le))
       (subst (λ (f : List ℕ). images (take k old.history.items) f c) (sym more.first) image)
 
-  pub elapses_call : {among : List ℕ → Type 0} → ((c : List ℕ) → images_after (call ∷ []) (bytes_of old) (now_of old) c → among c) → new.name ≡ old.name → Elapses (state_of old) (state_of new) among
-  elapses_call {among = among} within named = record {
+  pub elapses_call : {among : List ℕ → Type 0} → ((c : List ℕ) → images_after (call ∷ []) (bytes_of old) (now_of old) c → among c) → new.name ≡ old.name → new.failures.binds ≡ old.failures.binds → Elapses (state_of old) (state_of new) among
+  elapses_call {among = among} within named binds = record {
     same_size = ap length more.first;
     same_bound = ap (option_map (λ (name : Vec ℕ Global). (0, name.items))) named;
+    same_binds = binds;
     later = omega (arith, longer);
     after = λ c image. within c (images_now c image);
     during = λ t c le left. ⊎_elim
@@ -72,15 +74,15 @@ module _ {old new : MemDisk} {call : Call} (more : Appends old new call) where
       (λ i. written (more.history i) (more.first i)) ∙ written-append old.history.items (call ∷ []) old.first.items
 
 -- after a write
-pub elapses_write : {old new : MemDisk} (at : ℕ) (put : Vec ℕ Global) (bytes : List ℕ) → Appends old new (Write at put) → put.items ≡ bytes → new.name ≡ old.name → Elapses (state_of old) (state_of new) (TornFrom at (length bytes) (now_of old))
-elapses_write {old = old} at put bytes more is named = elapses_call more (λ c torn. subst (λ (b : List ℕ). TornFrom at (length b) (now_of old) c) is torn) named
+pub elapses_write : {old new : MemDisk} (at : ℕ) (put : Vec ℕ Global) (bytes : List ℕ) → Appends old new (Write at put) → put.items ≡ bytes → new.name ≡ old.name → new.failures.binds ≡ old.failures.binds → Elapses (state_of old) (state_of new) (TornFrom at (length bytes) (now_of old))
+elapses_write {old = old} at put bytes more is named binds = elapses_call more (λ c torn. subst (λ (b : List ℕ). TornFrom at (length b) (now_of old) c) is torn) named binds
 
 pub contents_write : {old new : MemDisk} (at : ℕ) (put : Vec ℕ Global) (bytes : List ℕ) → Appends old new (Write at put) → put.items ≡ bytes → contents_of new ≡ Some (spliced (bytes_of old) at bytes)
 contents_write {old = old} at put bytes more is = ap Some (bytes_call more ∙ ap (spliced (bytes_of old) at) is)
 
 -- after a sync
-pub elapses_sync : {old new : MemDisk} → Appends old new Sync → new.name ≡ old.name → Elapses (state_of old) (state_of new) (now_of old)
-elapses_sync {old = old} more named = elapses_call more (λ c is. subst (now_of old) (sym is) (written-image old.history.items old.first.items (λ b. b ≡ old.first.items) old.writes_fit refl)) named
+pub elapses_sync : {old new : MemDisk} → Appends old new Sync → new.name ≡ old.name → new.failures.binds ≡ old.failures.binds → Elapses (state_of old) (state_of new) (now_of old)
+elapses_sync {old = old} more named binds = elapses_call more (λ c is. subst (now_of old) (sym is) (written-image old.history.items old.first.items (λ b. b ≡ old.first.items) old.writes_fit refl)) named binds
 
 pub contents_sync : {old new : MemDisk} → Appends old new Sync → contents_of new ≡ contents_of old
 contents_sync more = ap Some (bytes_call more)

@@ -23,11 +23,18 @@ set_failing Bind number plan = record plan { bind = number }
 
 -- no call is to fail, and none was made
 abbrev pub no_failures : Failures
-no_failures = record { passing = None; failing = 0; kinds = record { read = 0; write = 0; sync = 0; bind = 0 }; calls = 0; faults = 0; starved = 0 }
+no_failures = record { passing = None; failing = 0; kinds = record { read = 0; write = 0; sync = 0; bind = 0 }; calls = 0; binds = 0; faults = 0; starved = 0 }
 
 -- the next call, of this kind, is to fail: none is left to pass, or it is one that fails alone
 abbrev pub IsNamed : CallKind → Failures → Type 0
 IsNamed kind f = (f.passing ≡ Some 0) ⊎ (f.failing ≡ 1) ⊎ (failing_of kind f.kinds ≡ 1)
+
+-- how often a bind was asked for, after one more call of this kind
+abbrev pub binds_after : CallKind → ℕ → ℕ
+binds_after Read binds = binds
+binds_after Write binds = binds
+binds_after Sync binds = binds
+binds_after Bind binds = one_more binds
 
 -- plan and counts after one more call of this kind, but for its fault
 abbrev pub counted : CallKind → Failures → Failures
@@ -36,4 +43,5 @@ counted kind f = record f {
   failing = f.failing - 1;
   kinds = set_failing kind (failing_of kind f.kinds - 1) f.kinds;
   calls = one_more f.calls;
+  binds = binds_after kind f.binds;
 }

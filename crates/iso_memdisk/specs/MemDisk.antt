@@ -41,7 +41,7 @@ abbrev pub bound_of : MemDisk → Option (ℕ × List ℕ)
 bound_of d = option_map (λ name. (0, name.items)) d.name
 
 abbrev pub state_of : MemDisk → DiskState
-state_of d = record { size = size_of d; contents = contents_of d; now = now_of d; clock = clock_of d; left = left_of d; faults = d.failures.faults; bound = bound_of d }
+state_of d = record { size = size_of d; contents = contents_of d; now = now_of d; clock = clock_of d; left = left_of d; faults = d.failures.faults; bound = bound_of d; binds = d.failures.binds; named = λ _. contents_of d }
 
 -- which calls are to fail, and the counts
 abbrev pub failures_of : MemDisk → Failures

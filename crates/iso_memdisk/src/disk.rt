@@ -3,7 +3,7 @@ ghost use Rattle.std.specs.Prelude.{◌≡◌, ◌⊎◌, ◌+◌, ◌^◌, ◌<
 ghost use Rattle.std.specs.List.{slice_range};
 ghost use Rattle.std.specs.Option.{ForSome};
 ghost use Rattle.iso_disk.specs.Disk.{TornFrom, Splices, TellsTorn, IsSettled, Elapses};
-ghost use Rattle.fault_count.specs.Count.{HasCause};
+ghost use Rattle.fault_count.specs.Count.{one_more, HasCause};
 ghost use Rattle.iso_memdisk.specs.Record.{written, AllFit};
 ghost use Rattle.iso_memdisk.specs.Held.{held};
 
@@ -168,8 +168,11 @@ impl MemDisk {
         self.history.clear();
     }
 
-    /// An image that a crash now may leave. Bytes that were written since the last sync have their value from before
-    /// for pick 0, the written one for pick 1, and drawn ones else.
+    /// An image that a crash now may leave. Pick 0 gives the bytes as the last sync left them, and pick 1 those that a read gives.
+    /// A pick from 2 on lays a byte of its own draws in the place of each byte of each write since the last sync: in the order of the
+    /// writes, one draw a byte, whatever was written or was there, and a later write lies over an earlier one. The seed of the
+    /// draws is the pick. The clauses promise of such an image only that a crash may leave it; which bytes are drawn, and that
+    /// they are drawn anew, tests alone promise.
     pub fn crash(&self, alloc: Global, pick: u64) -> Result<Vec<u8>, Memory>
         ensures image { IfOk result (λ image. now_of self.now image.items) }
         ensures synced { pick ≡ 0 → IfOk result (λ image. image.items ≡ synced_of self.now) }
@@ -252,11 +255,12 @@ impl Image for MemDisk {
         ensures size { OnOk result (IfSome want (λ w. (state_of self.new).size ≡ w)) }
         ensures blank { OnOk result (IfSome want (λ w. ForSome (state_of self.new).contents (λ c. c ≡ replicate w 0))) }
         ensures blank_after_crash { OnOk result (IfSome want (λ w. (c : List ℕ) → (state_of self.new).now c → c ≡ replicate w 0)) }
-        ensures existing { OnOk result (IfNone want (ForSome (state_of self.old).contents (λ c. (state_of self.new).contents ≡ Some c))) }
+        ensures existing { OnOk result (IfNone want (ForSome ((state_of self.old).named name.now) (λ c. (state_of self.new).contents ≡ Some c))) }
         ensures settled { OnOk result (IfNone want (IsSettled (state_of self.new))) }
         ensures cause { HasCause (state_of self.old).faults (state_of self.new).faults result }
         ensures bound { OnOk result ((state_of self.new).bound ≡ Some ((state_of self.new).clock, name.now)) }
         ensures unbound { OnErr result ((state_of self.new).bound ≡ None) }
+        ensures counted { (state_of self.new).binds ≡ one_more (state_of self.old).binds }
         ensures plan { FollowsPlan CallKind.Bind self.old self.new result }
     {
         self.name = None;

@@ -60,12 +60,13 @@ pub struct Failures {
     pub failing: u64,
     pub kinds: KindPlan,
     pub calls: u64,
+    pub binds: u64,
     pub faults: u64,
     pub starved: u64,
 }
 
 impl Failures {
-    ghost use Rattle.iso_memdisk.specs.Failures.{IsNamed, counted, no_failures};
+    ghost use Rattle.iso_memdisk.specs.Failures.{IsNamed, binds_after, counted, no_failures};
 
     /// No call is to fail, and none was made.
     pub fn none() -> Self
@@ -81,6 +82,7 @@ impl Failures {
                 bind: 0,
             },
             calls: 0,
+            binds: 0,
             faults: 0,
             starved: 0,
         }
@@ -94,6 +96,7 @@ impl Failures {
     {
         let named = self.is_named(kind);
         raise(&mut self.calls);
+        self.count_bind(kind);
         self.passing = self.passing.map(|left| left.saturating_sub(1));
         self.failing = self.failing.saturating_sub(1);
         self.kinds
@@ -103,6 +106,15 @@ impl Failures {
             return Err(DiskFault);
         }
         Ok(())
+    }
+
+    // Counts a bind among the calls.
+    fn count_bind(&mut self, kind: CallKind)
+        ensures { self.new ≡ record self.old { binds = binds_after kind self.old.binds } }
+    {
+        if kind == CallKind::Bind {
+            raise(&mut self.binds);
+        }
     }
 
     /// Counts want of memory, which is a fault too.

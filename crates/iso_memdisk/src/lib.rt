@@ -11,3 +11,5 @@ pub use failures::CallKind;
 
 #[cfg(test)]
 mod tests;
+#[cfg(test)]
+mod tests_draws;

@@ -1,5 +1,5 @@
 -- What an image shows whose base is a later commit, and what it shows of a longer history.
-use Rattle.std.proofs.Common.{◌≡◌, ◌∙◌, sym, ap, ℕ, zero, suc, ◌+◌, ◌-◌, ◌<◌, ◌≤◌, IfSome, List, [], ◌∷◌, ◌++◌, length, take, drop, map, slice_get, arith, subst, Option}
+use Rattle.std.proofs.Common.{◌≡◌, ◌∙◌, sym, ap, ℕ, zero, suc, ◌+◌, ◌-◌, ◌<◌, ◌≤◌, IfSome, List, [], ◌∷◌, ◌++◌, length, take, drop, map, slice_get, arith, subst, Option, Some, None}
 use Rattle.std.proofs.lemmas.List.{length-append, length-drop, take_all, take-append-le}
 use Rattle.iso_model.specs.declared.access.Commit.{Commit}
 use Rattle.iso_model.specs.declared.access.Geometry.{Geometry}
@@ -91,3 +91,22 @@ shows_longer bytes g H G p some more is =
           ∙ ap (λ (f : ℕ). slice_get G.commits (n - f)) (sym more.first))
           (is.commits n from to);
     }
+
+same_but_form : (g : Geometry) (form : ℕ) (o p : Option Commit) → IfSome o (λ c. IfSome p (SameCommit g c)) → IfSome o (λ c. IfSome p (SameCommit (record g { form = form }) c))
+same_but_form g form None p same = tt
+same_but_form g form (Some c) None same = tt
+same_but_form g form (Some c) (Some d) same = record { mode = same.mode; effect = same.effect }
+
+-- what an image shows does not depend on the form
+pub shows_any_form : (bytes : List ℕ) (g : Geometry) (form : ℕ) (H : History) (p : ℕ) → Shows bytes g H p → Shows bytes (record g { form = form }) H p
+shows_any_form bytes g form H p shown = record {
+  until = shown.until;
+  form = shown.form;
+  generation = shown.generation;
+  held = shown.held;
+  image = shown.image;
+  last = shown.last;
+  first = shown.first;
+  arrays = shown.arrays;
+  commits = λ n from to. same_but_form g form _ _ (shown.commits n from to);
+}

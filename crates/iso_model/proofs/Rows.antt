@@ -1,5 +1,5 @@
 -- Worked examples of the definitions on a small image, by computation.
-use Rattle.std.specs.Prelude.{◌≡◌, ℕ, ◌*◌, ◌-◌, ◌^◌, List, [], ◌∷◌, ◌++◌, None, Some, Ok, Err, refl, codes, flat_map, map, take, slice_index_or, replicate, Option, true, false, filter, option_map}
+use Rattle.std.specs.Prelude.{◌≡◌, ℕ, ◌-◌, ◌^◌, List, [], ◌∷◌, ◌++◌, None, Some, refl, codes, map, take, slice_index_or, replicate, Option, true, false, filter, option_map}
 use Rattle.std.specs.Fmt.{digits}
 use Rattle.iso_model.specs.declared.access.Access.{Access}
 use Rattle.iso_model.specs.declared.access.Commit.{Commit}
@@ -8,7 +8,6 @@ use Rattle.iso_model.specs.declared.access.Mode.{Mode}
 use Rattle.iso_model.specs.declared.access.Mode.TheVariants.{Serial, Snapshot}
 use Rattle.iso_model.specs.declared.access.Kind.TheVariants.{Read}
 use Rattle.iso_model.specs.declared.access.Clash.{Clash}
-use Rattle.iso_model.specs.declared.script.Parsed.TheVariants.{Skip}
 use Rattle.iso_model.specs.declared.limits.TheConstants.{LAST}
 use Rattle.iso_model.specs.Array.{put, zeros}
 use Rattle.iso_model.specs.Geometry.{image_size, log_place, is_block_size, is_valid}
@@ -16,22 +15,13 @@ use Rattle.iso_model.specs.History.{History, array_at}
 use Rattle.iso_model.specs.Conflict.{clash}
 use Rattle.iso_model.specs.Effect.{runs}
 use Rattle.iso_model.specs.Image.{superblock, half_header, spell, chosen_half}
-use Rattle.iso_model.specs.Script.{script, last_piece, bad_line, parse_whole, parse, said, operation_of, other_operation, store_operation, tree_operation, replies}
-use Rattle.iso_model.specs.Step.{put_access, read_access, step, begin_step, put_step, read_step, commit_step, end_step}
-use Rattle.iso_model.specs.Text.{is_label, words_of, number_of, hex_of, reply_text}
-use Rattle.iso_model.specs.World.{World, Live, Place, client, label, unattached, attached, floor, fresh, empty_history}
-
--- lines, each with its line feed
-abbrev text : List (List ℕ) → List ℕ
-text lines = flat_map (λ line. line ++ 10 ∷ []) lines
+use Rattle.iso_model.specs.Step.{put_access, read_access}
+use Rattle.iso_model.specs.Labels.{is_label}
+use Rattle.iso_model.specs.World.{World, Live, Place, client, label, unattached, attached, floor, fresh}
 
 -- blocks of 64 bytes, 4 of them, and a log of 256
 abbrev pub small : Geometry
 small = record { block = 64; blocks = 4; log = 256; mode = Serial; hash = 0; tree = 0; form = 1 }
-
--- what the fresh small image answers to an input
-abbrev answers : List ℕ → List ℕ
-answers input = replies (fresh small 1 (empty_history small)) (script input).lines
 
 -- a put in a transaction that began at a commit
 abbrev commit_put : (begin block off : ℕ) → List ℕ → Commit
@@ -48,10 +38,6 @@ pair_of c bytes = (c, bytes)
 -- a read of one byte of a block
 abbrev get_access : (block off : ℕ) → Access
 get_access block off = record { kind = Read; block = block; spans = record { off = off; len = 1 } ∷ []; bytes = [] }
-
--- the byte 11 so many times, in hexadecimal
-abbrev elevens : ℕ → List ℕ
-elevens n = replicate (2 * n) 49
 
 -- The superblock of the small image.
 pub blank_superblock :
@@ -73,13 +59,6 @@ pub blank_size :
     ≡ 1152 ∷ 16777344 ∷ []
 unfolding is_valid
 blank_size = refl
-
--- One put, committed.
-pub one_put :
-    answers (text (codes "1 begin" ∷ codes "1 put 2 5 abcd" ∷ codes "1 end" ∷ []))
-    ≡ text (codes "1 ok begin 0" ∷ codes "1 ok" ∷ codes "1 ok commit 1" ∷ [])
-unfolding put clash runs script parse_whole parse said operation_of other_operation step begin_step put_step read_step commit_step end_step words_of number_of hex_of reply_text digits
-one_put = refl
 
 -- The record of that commit, and where the log begins.
 pub one_put_record :
@@ -123,81 +102,6 @@ pub two_writes_in_serial_mode :
     ≡ None
 unfolding clash
 two_writes_in_serial_mode = refl
-
--- A transaction that only reads never conflicts, and reads as of its begin.
-pub a_reader_of_an_old_snapshot :
-    answers (text (codes "1 begin" ∷ codes "2 begin" ∷ codes "2 put 0 0 01" ∷ codes "2 end" ∷ codes "2 begin" ∷ codes "2 put 0 0 02" ∷ codes "2 end" ∷ codes "1 read 0" ∷ codes "1 end" ∷ []))
-    ≡ text (codes "1 ok begin 0" ∷ codes "2 ok begin 0" ∷ codes "2 ok" ∷ codes "2 ok commit 1" ∷ codes "2 ok begin 1" ∷ codes "2 ok" ∷ codes "2 ok commit 2" ∷ (codes "1 ok " ++ replicate 128 48) ∷ codes "1 ok read-only" ∷ [])
-unfolding put clash runs script parse_whole parse said operation_of other_operation step begin_step put_step read_step commit_step end_step words_of number_of hex_of reply_text digits
-a_reader_of_an_old_snapshot = refl
-
--- With a write it conflicts with the first commit that wrote what it read.
-pub a_writer_of_an_old_snapshot :
-    answers (text (codes "1 begin" ∷ codes "2 begin" ∷ codes "2 put 0 0 01" ∷ codes "2 end" ∷ codes "2 begin" ∷ codes "2 put 0 0 02" ∷ codes "2 end" ∷ codes "1 read 0" ∷ codes "1 put 1 0 aa" ∷ codes "1 end" ∷ []))
-    ≡ text (codes "1 ok begin 0" ∷ codes "2 ok begin 0" ∷ codes "2 ok" ∷ codes "2 ok commit 1" ∷ codes "2 ok begin 1" ∷ codes "2 ok" ∷ codes "2 ok commit 2" ∷ (codes "1 ok " ++ replicate 128 48) ∷ codes "1 ok" ∷ codes "1 conflict with 1 block 0 at 0" ∷ [])
-unfolding put clash runs script parse_whole parse said operation_of other_operation step begin_step put_step read_step commit_step end_step words_of number_of hex_of reply_text digits
-a_writer_of_an_old_snapshot = refl
-
--- Two clients on one block.
-pub conflict_of_two_clients :
-    answers (text (codes "1 begin" ∷ codes "2 begin" ∷ codes "2 read 0" ∷ codes "1 put 0 0 aa" ∷ codes "2 put 0 1 bb" ∷ codes "1 end" ∷ codes "2 end" ∷ codes "1 begin" ∷ codes "1 read 0" ∷ []))
-    ≡ text (codes "1 ok begin 0" ∷ codes "2 ok begin 0" ∷ (codes "2 ok " ++ replicate 128 48) ∷ codes "1 ok" ∷ codes "2 ok" ∷ codes "1 ok commit 1" ∷ codes "2 conflict with 1 block 0 at 0" ∷ codes "1 ok begin 1" ∷ (codes "1 ok aa" ++ replicate 126 48) ∷ [])
-unfolding put clash runs script parse_whole parse said operation_of other_operation step begin_step put_step read_step commit_step end_step words_of number_of hex_of reply_text digits
-conflict_of_two_clients = refl
-
--- The log is filled to its last byte but one, which is the next gate.
-pub log_filled_exactly :
-    answers (text (codes "1 begin" ∷ (codes "1 put 0 0 " ++ elevens 64) ∷ codes "1 end" ∷ codes "1 begin" ∷ (codes "1 put 0 0 " ++ elevens 64) ∷ codes "1 end" ∷ codes "1 begin" ∷ (codes "1 put 0 0 " ++ elevens 43) ∷ codes "1 end" ∷ codes "1 begin" ∷ codes "1 put 0 0 01" ∷ codes "1 end" ∷ []))
-    ≡ text (codes "1 ok begin 0" ∷ codes "1 ok" ∷ codes "1 ok commit 1" ∷ codes "1 ok begin 1" ∷ codes "1 ok" ∷ codes "1 ok commit 2" ∷ codes "1 ok begin 2" ∷ codes "1 ok" ∷ codes "1 ok commit 3" ∷ codes "1 ok begin 3" ∷ codes "1 ok" ∷ codes "1 log full need 30 free 1" ∷ [])
-unfolding put clash runs script parse_whole parse said operation_of other_operation step begin_step put_step read_step commit_step end_step words_of number_of hex_of reply_text digits
-log_filled_exactly = refl
-
--- One byte more does not fit, and the transaction stays.
-pub log_one_byte_too_short :
-    answers (text (codes "1 begin" ∷ (codes "1 put 0 0 " ++ elevens 64) ∷ codes "1 end" ∷ codes "1 begin" ∷ (codes "1 put 0 0 " ++ elevens 64) ∷ codes "1 end" ∷ codes "1 begin" ∷ (codes "1 put 0 0 " ++ elevens 44) ∷ codes "1 end" ∷ codes "1 begin" ∷ codes "1 abort" ∷ codes "1 end" ∷ []))
-    ≡ text (codes "1 ok begin 0" ∷ codes "1 ok" ∷ codes "1 ok commit 1" ∷ codes "1 ok begin 1" ∷ codes "1 ok" ∷ codes "1 ok commit 2" ∷ codes "1 ok begin 2" ∷ codes "1 ok" ∷ codes "1 log full need 73 free 72" ∷ codes "1 in-tx" ∷ codes "1 ok" ∷ codes "1 not-in-tx" ∷ [])
-unfolding put clash runs script parse_whole parse said operation_of other_operation step begin_step put_step read_step commit_step end_step words_of number_of hex_of reply_text digits
-log_one_byte_too_short = refl
-
--- An unknown operation is bad, and the lines before it stand.
-pub the_first_bad_line :
-    (script (text (codes "1 begin" ∷ codes "1 jump" ∷ []))).bad
-    ≡ Some (record { line = 2; cause = 2 })
-unfolding put clash runs script parse_whole parse said operation_of other_operation store_operation tree_operation step begin_step put_step read_step commit_step end_step words_of number_of hex_of reply_text digits
-the_first_bad_line = refl
-
--- A carriage return before a line feed, a comment, and a last line without a line feed.
-pub line_ends :
-    answers (codes "1 begin" ++ 13 ∷ 10 ∷ [] ++ codes "# x" ++ 10 ∷ [] ++ codes "1 end")
-    ≡ text (codes "1 ok begin 0" ∷ codes "1 ok read-only" ∷ [])
-unfolding put clash runs script parse_whole parse said operation_of other_operation step begin_step put_step read_step commit_step end_step words_of number_of hex_of reply_text digits
-line_ends = refl
-
--- The first test that a line fails.
-pub causes :
-    map (λ line. parse (codes line)) ("65 begin" ∷ "01 begin" ∷ "1" ∷ "1 begin x" ∷ "1 put 00 0 aa" ∷ "1 put x 0 a" ∷ "1 put 0 0 a" ∷ [])
-    ≡ map Err (1 ∷ 1 ∷ 2 ∷ 10 ∷ 4 ∷ 4 ∷ 5 ∷ [])
-unfolding put clash runs script parse_whole parse said operation_of other_operation step begin_step put_step read_step commit_step end_step words_of number_of hex_of reply_text digits
-causes = refl
-
--- A line that is too long is bad even where it says nothing.
-pub a_line_of_spaces :
-    parse (replicate 16385 32) ∷ parse (replicate 16384 32) ∷ []
-    ≡ Err 7 ∷ Ok Skip ∷ []
-unfolding parse
-a_line_of_spaces = refl
-
--- A byte that is not printable.
-pub a_tab :
-    parse (codes "1" ++ 9 ∷ [] ++ codes "begin")
-    ≡ Err 8
-unfolding parse
-a_tab = refl
-
--- The last piece of an input that was cut fails the test of its length first.
-pub cut_and_too_long : last_piece true 1 (replicate 16385 48) ∷ last_piece true 1 (replicate 16384 48) ∷ [] ≡ bad_line 1 7 ∷ bad_line 1 9 ∷ []
-unfolding parse
-cut_and_too_long = refl
 
 -- a live transaction without accesses
 abbrev live_from : (number begin : ℕ) → Place → Live
@@ -289,19 +193,3 @@ pub chosen_halves :
     chosen_half true 3 true 3 ∷ chosen_half true 3 true 4 ∷ chosen_half true 4 true 3 ∷ chosen_half false 9 true 3 ∷ chosen_half true 3 false 9 ∷ chosen_half false 9 false 9 ∷ []
     ≡ Some 0 ∷ Some 1 ∷ Some 0 ∷ Some 1 ∷ Some 0 ∷ None ∷ []
 chosen_halves = refl
-
--- The edges of numbers and bytes.
-pub edges_of_a_line :
-    map (λ line. parse (codes line)) ("0 begin" ∷ "1 put 0 4294967296 a" ∷ "1 begin~" ∷ "1 begin x y" ∷ "1 release A" ∷ [])
-    ≡ map Err (1 ∷ 4 ∷ 2 ∷ 3 ∷ 6 ∷ [])
-unfolding put clash runs script parse_whole parse said operation_of other_operation store_operation tree_operation step begin_step put_step read_step commit_step end_step words_of number_of hex_of reply_text digits
-edges_of_a_line = refl
-
-pub a_byte_above_the_last_printable_one : parse (codes "1 begin" ++ 127 ∷ []) ≡ Err 8
-unfolding parse
-a_byte_above_the_last_printable_one = refl
-
--- A carriage return at the end of the last piece is a byte of it.
-pub a_return_in_the_last_piece : (script (codes "1 begin" ++ 13 ∷ [])).bad ≡ Some (record { line = 1; cause = 8 })
-unfolding script parse_whole parse said operation_of words_of number_of
-a_return_in_the_last_piece = refl

@@ -1,5 +1,5 @@
 -- The commits of an image in order, and the array after each of them.
-use Rattle.std.specs.Prelude.{ℕ, ◌+◌, ◌-◌, List, [], ◌∷◌, length, take, slice_get, slice_index_or, unwrap_or, option_map}
+use Rattle.std.specs.Prelude.{ℕ, ◌+◌, ◌-◌, List, [], ◌∷◌, ◌++◌, length, take, slice_get, slice_index_or, unwrap_or, option_map}
 use Rattle.iso_model.specs.declared.access.Access.{Access}
 use Rattle.iso_model.specs.declared.access.Commit.{Commit}
 use Rattle.iso_model.specs.Array.{Array}
@@ -14,6 +14,10 @@ pub record History : Type 0 where
 -- the number of the last commit
 abbrev pub last : History → ℕ
 last H = H.first + length H.commits - 1
+
+-- the history with these commits behind the others
+abbrev pub with_commits : List Commit → History → History
+with_commits more H = record H { commits = H.commits ++ more }
 
 -- the array after the writes of these commits, in order
 abbrev pub all_own : Array → List Commit → Array

@@ -1,19 +1,16 @@
 -- What holds of every world that is reached from a sound one.
-use Rattle.std.specs.Prelude.{◌≡◌, ◌≢◌, ℕ, ◌+◌, ◌<◌, ◌≤◌, IsTrue, List, [], ◌∷◌, ◌++◌, length, map}
+use Rattle.std.specs.Prelude.{◌≡◌, ◌≢◌, ◌+◌, ◌<◌, ◌≤◌, IsTrue, List, [], ◌∷◌, ◌++◌, length, map}
 use Rattle.std.specs.List.{AllByRecursion}
 use Rattle.iso_model.specs.declared.access.Commit.{Commit}
 use Rattle.iso_model.specs.declared.access.Geometry.{Geometry}
 use Rattle.iso_model.specs.declared.access.Mode.{Mode}
-use Rattle.iso_model.specs.declared.script.Line.{Line}
-use Rattle.iso_model.specs.declared.script.Op.{Op}
-use Rattle.iso_model.specs.declared.script.Op.TheVariants.{Begin, End, Abort, Put, Read, Get, Write, Fill, Mark, Release, Takeover, Await, Trim, Stat, Compact, Upgrade, HashPut, HashGet, HashDelete, TreePut, TreeGet, TreeDelete, TreeScan}
 use Rattle.iso_model.specs.declared.limits.TheConstants.{LAST, MAX_ACCESSES, MAX_LIVE}
 use Rattle.iso_model.specs.Geometry.{is_valid}
 use Rattle.iso_model.specs.History.{History, last}
 use Rattle.iso_model.specs.Image.{IsRecord, written}
 use Rattle.iso_model.specs.Isolation.{IsIsolated}
-use Rattle.iso_model.specs.Premises.{AreAccesses, AreBytes, IsHistory}
-use Rattle.iso_model.specs.Text.{is_label}
+use Rattle.iso_model.specs.Premises.{AreAccesses, IsHistory}
+use Rattle.iso_model.specs.Labels.{is_label}
 use Rattle.iso_model.specs.World.{World, Live, Place, client, label, unattached, used}
 
 -- a mode that a transaction of the image may have: in form 1 it is the image's
@@ -94,41 +91,3 @@ pub record LeadsTo (W V : World) : Type 0 where
   pub world : IsWorld V
   pub geometry : KeepsGeometry W.geometry V.geometry
   pub history : Extends W.history V.history
-
--- an operation whose bytes are bytes, and whose label is one
-abbrev pub IsOp : Op → Type 0
-IsOp (Begin mode) = Unit {0}
-IsOp End = Unit {0}
-IsOp Abort = Unit {0}
-IsOp (Put block off bytes) = AreBytes bytes
-IsOp (Read block) = Unit {0}
-IsOp (Get block off len) = Unit {0}
-IsOp (Write block bytes) = AreBytes bytes
-IsOp (Fill block bytes) = AreBytes bytes
-IsOp (Mark off len) = Unit {0}
-IsOp (Release text) = IsTrue (is_label text)
-IsOp (Takeover text) = Unit {0}
-IsOp (Await text) = Unit {0}
-IsOp Trim = Unit {0}
-IsOp Stat = Unit {0}
-IsOp Compact = Unit {0}
-IsOp Upgrade = Unit {0}
-IsOp (HashPut key value) = AreBytes key × AreBytes value
-IsOp (HashGet key) = Unit {0}
-IsOp (HashDelete key) = Unit {0}
-IsOp (TreePut key value) = AreBytes key × AreBytes value
-IsOp (TreeGet key) = Unit {0}
-IsOp (TreeDelete key) = Unit {0}
-IsOp (TreeScan from to most) = Unit {0}
-
--- lines of such operations
-abbrev pub AreLines : List (ℕ × Line) → Type 0
-AreLines lines = AllByRecursion (λ line. IsOp line.1.op) lines
-
--- an operation that changes no transaction and no commit
-abbrev pub IsUpkeep : Op → Type 0
-IsUpkeep Trim = Unit {0}
-IsUpkeep Stat = Unit {0}
-IsUpkeep Compact = Unit {0}
-IsUpkeep Upgrade = Unit {0}
-IsUpkeep op = ⊥

@@ -72,6 +72,19 @@ pub enum EndReply {
     Conflict(Clash),
 }
 
+/// How a member of a group ended: with `Full` and `Worn` it was aborted.
+#[derive(Clone, Copy, Debug, PartialEq, Eq)]
+pub enum GroupReply {
+    /// Its writes are this commit.
+    Committed(u64),
+    ReadOnly,
+    Conflict(Clash),
+    /// Its record and the next gate need more bytes than the log has free behind the members before it.
+    Full { need: u64, free: u64 },
+    /// There is no number for it.
+    Worn,
+}
+
 /// Bytes that stand one behind the other in a block, from `off` on.
 #[derive(Debug, Drop)]
 pub struct Run {

@@ -2,7 +2,7 @@
 ghost use Rattle.std.specs.Prelude.{◌≡◌, ◌≤◌, ◌==◌, [], ◌∷◌, ◌++◌, length, IfErr, IfOk, OnOk, OnErr, option_copied, slice_get};
 
 use crate::reserved::Reserved;
-use crate::{Access, Memory, Span};
+use crate::{Access, GroupReply, Label, Memory, Span};
 use std::alloc::Global;
 use std::marker::Model;
 
@@ -28,6 +28,15 @@ pub type Bytes = Items<u8>;
 
 /// The accesses of a transaction, in order.
 pub type AccessList = Items<Access>;
+
+/// The labels of a group, in order.
+pub type LabelList = Items<Label>;
+
+/// The answers of a group, a member each.
+pub type ReplyList = Items<GroupReply>;
+
+/// The answers to the labels of a group: none for a label under which nothing was found.
+pub type LabelReplies = Items<Option<GroupReply>>;
 
 impl<T> Items<T> {
     /// No items. It takes no memory.

@@ -1,7 +1,7 @@
 // Names for transactions that no client has.
 ghost use Rattle.std.specs.Prelude.{◌≡◌, List, ℕ, IsTrue};
 ghost use Rattle.std.specs.List.{list_all};
-ghost use Rattle.iso_model.specs.Text.{is_label, is_label_byte, key_of, label_of};
+ghost use Rattle.iso_model.specs.Labels.{is_label, is_label_byte, key_of, label_of};
 
 use std::marker::Model;
 
@@ -14,7 +14,7 @@ pub struct Label {
 
 impl Model for Label {
     ghost use Rattle.std.specs.Prelude.{ℕ, List, ◌≤◌, IsTrue, take};
-    ghost use Rattle.iso_model.specs.Text.{is_label};
+    ghost use Rattle.iso_model.specs.Labels.{is_label};
 
     ghost Value = { List ℕ };
 

@@ -1,8 +1,10 @@
-//! The data of Isotope, and the definitions that every contract of the project cites.
+//! The data of an image and its transactions, and the definitions that every contract of the project cites.
 #![tactic(auto)]
 
 mod access;
 mod core_error;
+mod core_reply;
+pub mod group_laws;
 mod items;
 mod label;
 pub mod laws;
@@ -10,20 +12,19 @@ mod limits;
 mod memory;
 mod parts;
 mod reserved;
-mod script;
 pub mod step_laws;
-mod stores;
 
-pub use access::{Access, Clash, Commit, EndReply, Geometry, Kind, MarkError, Mode, Run, Span};
+pub use access::{
+    Access, Clash, Commit, EndReply, Geometry, GroupReply, Kind, MarkError, Mode, Run, Span,
+};
 pub use core_error::CoreError;
-pub use items::{AccessList, Bytes, Items, SpanList};
+pub use core_reply::CoreReply;
+pub use items::{AccessList, Bytes, Items, LabelList, LabelReplies, ReplyList, SpanList};
 pub use label::Label;
 pub use limits::{LAST, MAX_ACCESSES, MAX_INPUT, MAX_LINE, MAX_LIVE, MAX_SPANS};
 pub use memory::{InTx, Memory, NotInTx};
 pub use parts::PartList;
 pub use reserved::Reserved;
-pub use script::{BadLine, Line, LineError, Op, Parsed, Reply};
-pub use stores::{Area, PairList, Region, Spot, StoreError, TxError};
 
 #[cfg(test)]
 mod tests;

@@ -6,16 +6,13 @@ ghost use Rattle.iso_model.specs.declared.access.Commit.{Commit};
 ghost use Rattle.iso_model.specs.declared.access.Run.{Run};
 ghost use Rattle.iso_model.specs.declared.access.Span.{Span};
 ghost use Rattle.iso_model.specs.declared.limits.TheConstants.{MAX_INPUT};
-ghost use Rattle.iso_model.specs.declared.script.Op.{Op};
 ghost use Rattle.iso_model.specs.Array.{covered, in_span};
 ghost use Rattle.iso_model.specs.Effect.{effect_at, runs};
 ghost use Rattle.iso_model.specs.History.{last};
 ghost use Rattle.iso_model.specs.Marks.{marked};
-ghost use Rattle.iso_model.specs.Script.{script};
-ghost use Rattle.iso_model.specs.Step.{shown_to, step, write_access};
+ghost use Rattle.iso_model.specs.Step.{shown_to, write_access};
 ghost use Rattle.iso_model.specs.Versions.{is_kept, is_written, versions, IsWritten, StillShows};
 ghost use Rattle.iso_model.specs.World.{floor, logged_commits, BeganAt, Live, World};
-ghost use Rattle.iso_model.specs.Worlds.{IsUpkeep};
 
 /// A mark changes the last access alone. The first mark of an access stands in the place of its whole block, so that a write
 /// writes nothing outside it; a further one adds its bytes.
@@ -27,19 +24,6 @@ pub fn marks_change_the_last_access()
         → covered ((first ∷ spans) ++ span ∷ []) p ≡ (covered (first ∷ spans) p || in_span p span) }
     ensures unwritten { (span : Span) (accesses : List Access) (block : ℕ) (bytes : List ℕ) (p : ℕ) → IsFalse (in_span p span)
         → effect_at (marked span (accesses ++ write_access block bytes ∷ [])) block p ≡ effect_at accesses block p }
-{}
-
-/// An input that is cut has a bad line.
-pub fn cut_inputs_are_bad()
-    ensures { (input : List ℕ) → MAX_INPUT ≤ length input → IsSome (script input).bad }
-{}
-
-/// Trimming, numbers, compaction and an upgrade leave the commits and the transactions, and so all that they are shown.
-pub fn upkeep_changes_nothing_that_is_shown()
-    ensures live { (W : World) (client : ℕ) (op : Op) → IsUpkeep op → (step W client op).1.live ≡ W.live }
-    ensures history { (W : World) (client : ℕ) (op : Op) → IsUpkeep op → (step W client op).1.history ≡ W.history }
-    ensures shown { (W : World) (client : ℕ) (op : Op) (t : Live) (block : ℕ) → IsUpkeep op
-        → shown_to (step W client op).1 t block ≡ shown_to W t block }
 {}
 
 /// The floor is the least live begin, and the last commit's number where no transaction is live.

@@ -7,5 +7,5 @@ pub mod Scans
 pub mod Steps
 pub mod Values
 pub mod Opens
-pub mod TestDisks
 pub mod TestCores
+pub mod TestGroups

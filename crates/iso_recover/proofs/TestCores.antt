@@ -15,8 +15,8 @@ use Rattle.iso_model.specs.declared.access.Clash.{Clash}
 use Rattle.iso_model.specs.declared.access.Geometry.{Geometry}
 use Rattle.iso_model.specs.declared.access.Mode.{Mode}
 use Rattle.iso_model.specs.declared.limits.TheConstants.{LAST, MAX_ACCESSES, MAX_LIVE}
-use Rattle.iso_model.specs.declared.script.Reply.{Reply}
-use Rattle.iso_model.specs.declared.script.Reply.TheVariants as reply
+use Rattle.iso_model.specs.declared.core_reply.CoreReply.{CoreReply}
+use Rattle.iso_model.specs.declared.core_reply.CoreReply.TheVariants as reply
 use Rattle.iso_model.specs.Geometry.{same_mode}
 use Rattle.iso_model.specs.Conflict.{clash, clash_from, first_after}
 use Rattle.iso_model.specs.Effect.{has_write}
@@ -25,7 +25,6 @@ use Rattle.iso_model.specs.Premises.{AreAccesses, AreBytes}
 use Rattle.iso_model.specs.Step.{after_begin, begin_step, with_live, write_access}
 use Rattle.iso_model.specs.World.{World, Live, floor_of, unattached}
 use Rattle.iso_model.specs.Worlds.{IsLive, IsWorld}
-use Rattle.tx_table.specs.Live.{at_work}
 use Rattle.tx_table.specs.Work.{Doing}
 use Rattle.iso_recover.specs.TestCores.{IsDown}
 
@@ -108,11 +107,11 @@ is_checked W mode accesses upto is = record {
 }
 
 -- a begin that is not refused is at the last commit
-begun_by : (test : Bool) (W : World) (refusal : Reply) (next : Reply × World) (n : ℕ) → refusal ≢ reply.Began n → (cond test (refusal, W) next).0 ≡ reply.Began n → next.0 ≡ reply.Began n
+begun_by : (test : Bool) (W : World) (refusal : CoreReply) (next : CoreReply × World) (n : ℕ) → refusal ≢ reply.Began n → (cond test (refusal, W) next).0 ≡ reply.Began n → next.0 ≡ reply.Began n
 begun_by true W refusal next n other is = absurd (other is)
 begun_by false W refusal next n other is = is
 
-began_at : (W : World) (mode : Mode) (n : ℕ) → (begin_step W unattached mode).0 ≡ reply.Began n → n ≡ last W.history
+pub began_at : (W : World) (mode : Mode) (n : ℕ) → (begin_step W unattached mode).0 ≡ reply.Began n → n ≡ last W.history
 unfolding begin_step
 began_at W mode n is =
     let first = begun_by ((W.geometry.form == 1) && not (same_mode mode W.geometry.mode)) W reply.ModeFixed _ n (λ e. cc e) is in

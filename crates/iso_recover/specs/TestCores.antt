@@ -1,10 +1,14 @@
 -- The cores of the tests.
-use Rattle.std.specs.Prelude.{◌≡◌, List, []}
+use Rattle.std.specs.Prelude.{◌≡◌, ℕ, ◌≤◌, [], length}
 use Rattle.iso_core.specs.declared.core_itself.Core.{Core}
 use Rattle.iso_core.specs.Core.{StandsFor}
 use Rattle.iso_core.specs.Standing.{up, down}
 use Rattle.iso_disk.specs.Disk.{DiskState}
+use Rattle.iso_model.specs.declared.access.Geometry.{Geometry}
+use Rattle.iso_model.specs.declared.limits.TheConstants.{MAX_ACCESSES}
+use Rattle.iso_model.specs.Premises.{AreAccesses}
 use Rattle.iso_model.specs.World.{World}
+use Rattle.tx_table.specs.Work.{Doing}
 
 -- the core is up
 pub record IsUp {D : Type 0} (state : D → DiskState) (core : Core D) : Type 0 where
@@ -21,3 +25,12 @@ pub record IsIdle {D : Type 0} (state : D → DiskState) (core : Core D) : Type 
 pub record IsDown {D : Type 0} (state : D → DiskState) (core : Core D) : Type 0 where
   pub world : World
   pub stands : StandsFor state core world (down [])
+
+-- the work of a transaction that began there and did something
+pub record HasDone (g : Geometry) (at : ℕ) (work : Doing) : Type 0 where
+  pub begin : work.begin ≡ at
+  pub mode : work.mode ≡ g.mode
+  pub size : work.size ≡ g.block
+  pub blocks : work.blocks ≡ g.blocks
+  pub accesses : AreAccesses g work.accesses
+  pub few : length work.accesses ≤ MAX_ACCESSES

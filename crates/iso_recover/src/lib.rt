@@ -20,4 +20,6 @@ mod core_tests;
 #[cfg(test)]
 mod fault_tests;
 #[cfg(test)]
+mod group_tests;
+#[cfg(test)]
 mod tests;

@@ -16,8 +16,8 @@ use Rattle.iso_model.specs.declared.access.Mode.TheVariants.{Serial}
 use Rattle.iso_model.specs.declared.core_error.CoreError.{CoreError}
 use Rattle.iso_model.specs.declared.core_error.CoreError.TheVariants as error
 use Rattle.iso_model.specs.declared.limits.TheConstants.{LAST, MAX_LIVE}
-use Rattle.iso_model.specs.declared.script.Reply.{Reply}
-use Rattle.iso_model.specs.declared.script.Reply.TheVariants as reply
+use Rattle.iso_model.specs.declared.core_reply.CoreReply.{CoreReply}
+use Rattle.iso_model.specs.declared.core_reply.CoreReply.TheVariants as reply
 use Rattle.iso_model.specs.Conflict.{clash, clash_from, first_after}
 use Rattle.iso_model.specs.Effect.{has_write}
 use Rattle.iso_model.specs.Geometry.{is_block_size, is_valid, same_mode}
@@ -53,7 +53,7 @@ began_last : (W : World) (mode : Mode) (at : ℕ) → (begin_step W unattached m
 unfolding begin_step
 began_last W mode at e = by ((W.geometry.form == 1) && not (same_mode mode W.geometry.mode)) (nat_le MAX_LIVE (length W.live)) (nat_lt LAST W.next) e
   where
-    by : (x y z : Bool) → (let r : Reply × World = cond x (reply.ModeFixed, W) (cond y (reply.TooManyTx, W) (cond z (reply.Worn, W) (reply.Began (last W.history), after_begin W unattached mode))) in r.0 ≡ reply.Began at) → at ≡ last W.history
+    by : (x y z : Bool) → (let r : CoreReply × World = cond x (reply.ModeFixed, W) (cond y (reply.TooManyTx, W) (cond z (reply.Worn, W) (reply.Began (last W.history), after_begin W unattached mode))) in r.0 ≡ reply.Began at) → at ≡ last W.history
     by true y z e = absurd (cc e)
     by false true z e = absurd (cc e)
     by false false true e = absurd (cc e)

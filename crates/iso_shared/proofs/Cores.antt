@@ -16,7 +16,7 @@ use Rattle.iso_model.specs.declared.access.Commit.{Commit}
 use Rattle.iso_model.specs.declared.access.Mode.{Mode}
 use Rattle.iso_model.specs.declared.core_error.CoreError.{CoreError}
 use Rattle.iso_model.specs.declared.core_error.CoreError.TheVariants as error
-use Rattle.iso_model.specs.declared.script.Reply.TheVariants as reply
+use Rattle.iso_model.specs.declared.core_reply.CoreReply.TheVariants as reply
 use Rattle.iso_model.specs.History.{array_at, last}
 use Rattle.iso_model.specs.Premises.{block_at}
 use Rattle.iso_model.specs.Step.{after_begin, after_leaving, after_trim, begin_step, mode_named}

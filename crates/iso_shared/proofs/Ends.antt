@@ -1,5 +1,5 @@
 -- The end of a transaction leaves an entry that is legal at its place.
-use Rattle.std.proofs.Common.{◌≡◌, ◌≢◌, ◌⊎◌, inl, inr, ⊎_elim, ℕ, ◌+◌, ◌-◌, ◌≤◌, Bool, true, false, cond, List, [], ◌∷◌, ◌++◌, Option, Some, None, Result, Ok, Err, IfOk, IfErr, OnOk, IsSome, length, nat_lt, refl, sym, ap, ◌∙◌, subst, arith}
+use Rattle.std.proofs.Common.{◌≡◌, ◌≢◌, ◌⊎◌, inl, inr, ⊎_elim, ℕ, ◌+◌, ◌-◌, ◌<◌, ◌≤◌, Bool, true, false, cond, List, [], ◌∷◌, ◌++◌, Option, Some, None, Result, Ok, Err, IfOk, IfErr, OnOk, IsSome, length, nat_lt, refl, sym, ap, ◌∙◌, subst, arith}
 use Rattle.std.specs.Prelude.{IsErrOf, ◌==◌}
 use Rattle.conflict_rule.specs.declared.decision.Checked.{Checked}
 use Rattle.conflict_rule.specs.Decision.{up_to}
@@ -7,9 +7,10 @@ use Rattle.iso_core.specs.declared.core_itself.Core.{Core}
 use Rattle.iso_core.specs.Calls.{BlamesDisk, IsCheckedOf, IsWorkOf, Refuses, Writes}
 use Rattle.iso_core.specs.Calls as calls
 use Rattle.iso_core.specs.Core.{StandsFor, disk_of}
-use Rattle.iso_core.specs.Ends.{commit_of}
 use Rattle.iso_core.specs.Standing.{up, down}
-use Rattle.iso_disk.specs.Disk.{DiskState, StaysTold}
+use Rattle.iso_model.specs.Between.{ShowsEither, ShowsLast}
+use Rattle.iso_disk.specs.Disk.{DiskState, LeavesOnly, StaysTold}
+use Rattle.iso_disk.proofs.Moments.{weakened}
 use Rattle.iso_model.specs.declared.access.Access.{Access}
 use Rattle.iso_model.specs.declared.access.Clash.{Clash}
 use Rattle.iso_model.specs.declared.access.Commit.{Commit}
@@ -19,22 +20,24 @@ use Rattle.iso_model.specs.declared.access.Geometry.{Geometry}
 use Rattle.iso_model.specs.declared.core_error.CoreError.{CoreError}
 use Rattle.iso_model.specs.declared.core_error.CoreError.TheVariants as error
 use Rattle.iso_model.specs.declared.limits.TheConstants.{LAST}
-use Rattle.iso_model.specs.declared.script.Reply.{Reply}
-use Rattle.iso_model.specs.declared.script.Reply.TheVariants as reply
+use Rattle.iso_model.specs.declared.core_reply.CoreReply.{CoreReply}
+use Rattle.iso_model.specs.declared.core_reply.CoreReply.TheVariants as reply
 use Rattle.iso_model.specs.Conflict.{clash}
 use Rattle.iso_model.specs.Effect.{has_write}
 use Rattle.iso_model.specs.History.{last}
-use Rattle.iso_model.specs.Step.{after_commit, after_leaving, commit_step, end_step, need}
+use Rattle.iso_model.specs.Step.{after_commit, after_leaving, commit_step, end_step, need, commit_from}
 use Rattle.iso_model.specs.World.{World, used}
 use Rattle.tx_table.specs.Work.{AreWithin, Doing}
 use Rattle.iso_shared.specs.declared.entry.Call.TheVariants as call
 use Rattle.iso_shared.specs.declared.entry.Entry.{Entry}
 use Rattle.iso_shared.specs.declared.entry.Entry.TheVariants as entry
-use Rattle.iso_shared.specs.Legal.{MayHaveMade, end_answer, reply_of}
+use Rattle.iso_shared.specs.Legal.{Answers, IsLegal, MayHaveMade, end_answer, reply_of}
 use Rattle.iso_shared.specs.Ports.{IsAhead, IsOwn}
-use Rattle.iso_shared.specs.Standing.{Holds, IsOn, faults_of}
-use Rattle.iso_shared.specs.States.{State, after_end, is_live, live_of, tx_of}
+use Rattle.iso_shared.specs.Standing.{Holds, IsOn, ShowsSince, faults_of, with_lost}
+use Rattle.iso_shared.specs.States.{Start, State, after_end, is_live, live_of, state_at, tx_of}
 use Rattle.iso_shared.specs.Told.{end_entry}
+use Rattle.iso_shared.proofs.Growing.{since_after, since_last}
+use Rattle.iso_shared.proofs.Standings.{Moved}
 use Rattle.iso_shared.proofs.Cores.{Did, by_lost, holds_up, refused_down, refused_up}
 
 same_reply : (r : EndReply) → calls.reply_of r ≡ reply_of r
@@ -44,7 +47,7 @@ same_reply (Conflict c) = refl
 
 module _ (W : World) (n : ℕ) (accesses : List Access) where
   -- a world that the reply leads to
-  abbrev pub Leads : Reply × World → Type 0
+  abbrev pub Leads : CoreReply × World → Type 0
   Leads x = (r : EndReply) → x.0 ≡ reply_of r → x.1 ≡ after_end W n accesses r
 
   in_conflict : (c : Clash) → Leads (reply.Conflict c, after_leaving W (tx_of W n accesses))
@@ -72,7 +75,7 @@ module _ (W : World) (n : ℕ) (accesses : List Access) where
   log_full wanted free ReadOnly e = absurd (cc e)
   log_full wanted free (Conflict d) e = absurd (cc e)
 
-  chosen : (test : Bool) (x y : Reply × World) → Leads x → Leads y → Leads (cond test x y)
+  chosen : (test : Bool) (x y : CoreReply × World) → Leads x → Leads y → Leads (cond test x y)
   chosen true x y first second = first
   chosen false x y first second = second
 
@@ -113,7 +116,7 @@ module _ {D : Type 0} (disk : D → DiskState) (S : State) (old new : Core D) (t
       → (StandsFor disk old S.world up → IfErr r (λ e. e ≢ error.Disk → StandsFor disk new S.world up))
       → ((W : World) (lost : List Commit) → StandsFor disk old W (down lost) → (r ≡ Err error.Down) × (new ≡ old))
       → Writes r ⊎ (disk_of new ≡ disk_of old)
-      → (StandsFor disk old S.world up → IsErrOf r error.Disk → ((end_step S.world (tx_of S.world tx accesses)).0 ≡ reply.Committed (last S.world.history + 1)) × StandsFor disk new (after_leaving S.world (tx_of S.world tx accesses)) (down (commit_of (tx_of S.world tx accesses) ∷ [])))
+      → (StandsFor disk old S.world up → IsErrOf r error.Disk → ((end_step S.world (tx_of S.world tx accesses)).0 ≡ reply.Committed (last S.world.history + 1)) × StandsFor disk new (after_leaving S.world (tx_of S.world tx accesses)) (down (commit_from (tx_of S.world tx accesses) ∷ [])))
       → OnOk r (StaysTold (disk (disk_of old)) (disk (disk_of new)))
       → BlamesDisk (faults_of disk old) (faults_of disk new) r
       → Did disk S new (end_entry (faults_of disk old) (faults_of disk new) tx accesses r)
@@ -125,7 +128,7 @@ module _ {D : Type 0} (disk : D → DiskState) (S : State) (old new : Core D) (t
       counts : S.faults ≤ faults_of disk old
       counts = h.counts
 
-      faulted : S.lost ≡ None → ((end_step S.world (tx_of S.world tx accesses)).0 ≡ reply.Committed (last S.world.history + 1)) × StandsFor disk new (after_leaving S.world (tx_of S.world tx accesses)) (down (commit_of (tx_of S.world tx accesses) ∷ []))
+      faulted : S.lost ≡ None → ((end_step S.world (tx_of S.world tx accesses)).0 ≡ reply.Committed (last S.world.history + 1)) × StandsFor disk new (after_leaving S.world (tx_of S.world tx accesses)) (down (commit_from (tx_of S.world tx accesses) ∷ []))
           → BlamesDisk {T = EndReply} (faults_of disk old) (faults_of disk new) (Err error.Disk) → Did disk S new (end_entry (faults_of disk old) (faults_of disk new) tx accesses (Err error.Disk))
       faulted is so cause = (
         (made, ((is, so.0), counts, cause.failed refl, cause.later)),
@@ -148,7 +151,7 @@ module _ {D : Type 0} (disk : D → DiskState) (S : State) (old new : Core D) (t
           → IfErr r (λ e. (e ≡ error.Disk) ⊎ Refuses (end_step S.world (tx_of S.world tx accesses)).0 e)
           → IfErr r (λ e. e ≢ error.Disk → StandsFor disk new S.world up)
           → Writes r ⊎ (disk_of new ≡ disk_of old)
-          → (IsErrOf r error.Disk → ((end_step S.world (tx_of S.world tx accesses)).0 ≡ reply.Committed (last S.world.history + 1)) × StandsFor disk new (after_leaving S.world (tx_of S.world tx accesses)) (down (commit_of (tx_of S.world tx accesses) ∷ [])))
+          → (IsErrOf r error.Disk → ((end_step S.world (tx_of S.world tx accesses)).0 ≡ reply.Committed (last S.world.history + 1)) × StandsFor disk new (after_leaving S.world (tx_of S.world tx accesses)) (down (commit_from (tx_of S.world tx accesses) ∷ [])))
           → OnOk r (StaysTold (disk (disk_of old)) (disk (disk_of new)))
           → BlamesDisk (faults_of disk old) (faults_of disk new) r
           → Did disk S new (end_entry (faults_of disk old) (faults_of disk new) tx accesses r)
@@ -228,3 +231,45 @@ if_err_by P (Err e) each = each e refl
 
 pub on_same : (g : Geometry) (old new : Doing) → new ≡ record old { settled = new.settled } → IsOn g old → IsOn g new
 on_same g old new is on = record { size = ap (λ (w : Doing). w.size) is ∙ on.size; blocks = ap (λ (w : Doing). w.blocks) is ∙ on.blocks }
+
+-- a crash in the course of an end
+pub moved_end : {D : Type 0} (disk : D → DiskState) (A : Start) (es : List Entry) (old new : Core D) (b n tx : ℕ) (accesses : List Access) (r : Result EndReply CoreError)
+    → IsLegal A es → 0 < (state_at A es).world.history.first → (state_at A es).lost ≡ None → Answers (state_at A es) (end_entry b n tx accesses r)
+    → IfOk r (λ x. ((end_step (state_at A es).world (tx_of (state_at A es).world tx accesses)).0 ≡ calls.reply_of x) × StandsFor disk new (end_step (state_at A es).world (tx_of (state_at A es).world tx accesses)).1 up)
+    → (IsErrOf r error.Disk → ((end_step (state_at A es).world (tx_of (state_at A es).world tx accesses)).0 ≡ reply.Committed (last (state_at A es).world.history + 1))
+    × StandsFor disk new (after_leaving (state_at A es).world (tx_of (state_at A es).world tx accesses)) (down (commit_from (tx_of (state_at A es).world tx accesses) ∷ [])))
+    → Writes r ⊎ (disk_of new ≡ disk_of old)
+    → LeavesOnly (disk (disk_of old)) (disk (disk_of new)) (ShowsEither (state_at A es).world (end_step (state_at A es).world (tx_of (state_at A es).world tx accesses)).1)
+    → Moved disk A es (end_entry b n tx accesses r) old new
+moved_end {D} disk A es old new b n tx accesses r legal some is answers ended lost unwritten run = by r answers ended lost unwritten
+  where
+    S : State
+    S = state_at A es
+
+    before : (e : Entry) → Answers S e → (c : List ℕ) → ShowsLast S.world c → ShowsSince A (es ++ e ∷ []) c
+    before e answers c shown = since_last A es e legal some answers c (subst (λ (o : Option (List Commit)). ShowsLast (with_lost S.world o) c) (sym is) shown)
+
+    by : (r : Result EndReply CoreError) → Answers S (end_entry b n tx accesses r)
+        → IfOk r (λ x. ((end_step S.world (tx_of S.world tx accesses)).0 ≡ calls.reply_of x) × StandsFor disk new (end_step S.world (tx_of S.world tx accesses)).1 up)
+        → (IsErrOf r error.Disk → ((end_step S.world (tx_of S.world tx accesses)).0 ≡ reply.Committed (last S.world.history + 1)) × StandsFor disk new (after_leaving S.world (tx_of S.world tx accesses)) (down (commit_from (tx_of S.world tx accesses) ∷ [])))
+        → Writes r ⊎ (disk_of new ≡ disk_of old) → Moved disk A es (end_entry b n tx accesses r) old new
+    by (Ok x) answers ended lost unwritten =
+        let same = ends_so S.world tx accesses x (ended.0 ∙ same_reply x) in
+        inr (weakened run (λ c shown. ⊎_elim (before (entry.End tx accesses x) answers c)
+        (λ (after : ShowsLast (end_step S.world (tx_of S.world tx accesses)).1 c). since_after A es (entry.End tx accesses x) legal some answers c
+        (subst (λ (o : Option (List Commit)). ShowsLast (with_lost (after_end S.world tx accesses x) o) c) (sym is) (subst (λ (V : World). ShowsLast V c) same after)))
+        shown))
+    by (Err e) answers ended lost unwritten =
+        ⊎_elim
+        (λ (d : e ≡ error.Disk). subst (λ (v : CoreError). Moved disk A es (end_entry b n tx accesses (Err v)) old new) (sym d)
+        (failed (subst (λ (v : CoreError). Answers S (end_entry b n tx accesses (Err v))) d answers) (ends_so S.world tx accesses (Committed (last S.world.history + 1)) (lost (ap Err d)).0)))
+        (λ (other : e ≢ error.Disk). inl (unwritten_err (disk_of new ≡ disk_of old) e other unwritten))
+        (by_disk e)
+      where
+        failed : Answers S (end_entry b n tx accesses (Err error.Disk)) → (end_step S.world (tx_of S.world tx accesses)).1 ≡ after_end S.world tx accesses (Committed (last S.world.history + 1))
+            → Moved disk A es (end_entry b n tx accesses (Err error.Disk)) old new
+        failed answers same =
+            let e : Entry = end_entry b n tx accesses (Err error.Disk) in
+            inr (weakened run (λ c shown. ⊎_elim (before e answers c)
+            (λ (after : ShowsLast (end_step S.world (tx_of S.world tx accesses)).1 c). since_after A es e legal some answers c (subst (λ (V : World). ShowsLast V c) same after))
+            shown))

@@ -84,7 +84,7 @@ follows_left S T k left next geometry history = record {
       (r.0, ap (live_of n) left ∙ r.1);
 }
 
-one_more_commit : (H : History) (c : Commit) → Extends H (record H { commits = H.commits ++ c ∷ [] })
+pub one_more_commit : (H : History) (c : Commit) → Extends H (record H { commits = H.commits ++ c ∷ [] })
 one_more_commit H c = record { first = refl; base = refl; more = c ∷ []; commits = refl }
 
 follows_end : (S : State) (k : ℕ) (accesses : List Access) (r : EndReply) → Follows S (after S (entry.End k accesses r))
@@ -195,7 +195,7 @@ up_to_same H G n some within more =
     let c : take (n + 1 - H.first) (H.commits ++ more.more) ≡ take (n + 1 - H.first) H.commits = take-append-le (n + 1 - H.first) H.commits more.more (omega arith) in
     λ i. record { first = more.first i; base = more.base i; commits = (ap (λ (k : ℕ). take k G.commits) b ∙ ap (take (n + 1 - H.first)) more.commits ∙ c) i }
 
-last_longer : (H G : History) → 0 < H.first → Extends H G → last H ≤ last G
+pub last_longer : (H G : History) → 0 < H.first → Extends H G → last H ≤ last G
 last_longer H G some more =
     let a : G.first ≡ H.first = more.first in
     let b : length G.commits ≡ length H.commits + length more.more = ap length more.commits ∙ length-append H.commits more.more in

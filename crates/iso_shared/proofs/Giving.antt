@@ -1,9 +1,13 @@
 -- What stands under the lock after a call of the core that leaves the labels.
-use Rattle.std.proofs.Common.{◌≡◌, ℕ, List, [], ◌∷◌, ◌++◌, Result, Ok, Err, refl, sym, ap, ◌∙◌, subst}
+use Rattle.std.proofs.Common.{◌≡◌, inr, ℕ, ◌<◌, List, [], ◌∷◌, ◌++◌, Option, None, Result, Ok, Err, refl, sym, ap, ◌∙◌, subst}
 use Rattle.iso_core.specs.declared.answers.Recent.{Recent}
 use Rattle.iso_core.specs.declared.core_itself.Core.{Core}
 use Rattle.iso_core.specs.Core.{disk_of}
-use Rattle.iso_disk.specs.Disk.{DiskState}
+use Rattle.iso_disk.specs.Disk.{DiskState, IsLawful, LeavesOnly, WritesNothing}
+use Rattle.iso_disk.proofs.Moments.{at_end, weakened}
+use Rattle.iso_model.specs.declared.access.Commit.{Commit}
+use Rattle.iso_model.specs.World.{World}
+use Rattle.iso_model.specs.Between.{ShowsBetween, ShowsLast}
 use Rattle.iso_model.specs.declared.core_error.CoreError.{CoreError}
 use Rattle.iso_model.specs.declared.core_error.CoreError.TheVariants as error
 use Rattle.turn_lock.specs.Numbers.{AreHeld, held_after, without}
@@ -12,12 +16,14 @@ use Rattle.iso_shared.specs.declared.entry.Call.TheVariants as call
 use Rattle.iso_shared.specs.declared.entry.Entry.{Entry}
 use Rattle.iso_shared.specs.declared.entry.Entry.TheVariants as entry
 use Rattle.iso_shared.specs.declared.guarded.Posted.{Posted}
-use Rattle.iso_shared.specs.Legal.{ended, handed, returned, tx_in}
-use Rattle.iso_shared.specs.Standing.{Holds, StandsAt}
-use Rattle.iso_shared.specs.States.{Start, State, after, after_fault, state_at}
+use Rattle.iso_shared.specs.Legal.{Answers, IsLegal, ended, handed, returned, tx_in}
+use Rattle.iso_shared.specs.Standing.{Came, Holds, StandsAt, whole, with_lost}
+use Rattle.iso_shared.specs.States.{Start, State, after, after_fault, opened, state_at}
 use Rattle.iso_shared.specs.Told.{cause_of, entry_of, fetch_entry, recent_entry}
 use Rattle.iso_shared.proofs.Cores.{Did}
-use Rattle.iso_shared.proofs.Standings.{HoldsOut, MayLeave, stands_next}
+use Rattle.iso_shared.proofs.Growing.{since_last}
+use Rattle.iso_shared.proofs.Trace.{after_snoc}
+use Rattle.iso_shared.proofs.Standings.{HoldsOut, MayLeave, Moved, stands_next}
 
 -- the entry leaves the labels
 abbrev pub KeepsRack : Entry → Type 0
@@ -81,20 +87,48 @@ pub recent_holds : (b n tx : ℕ) (r : Result Recent CoreError) (holds : List �
 recent_holds b n tx (Ok x) holds = refl
 recent_holds b n tx (Err e) holds = refused_holds b n (call.Recent tx) e holds (λ is. refl)
 
-module _ {D : Type 0} (disk : D → DiskState) (A : Start) where
+-- the disk of the core that was lent
+pub from_lent : {D : Type 0} (disk : D → DiskState) (A : Start) (es : List Entry) (e : Entry) (old lent new : Core D) → lent ≡ old → Moved disk A es e lent new → Moved disk A es e old new
+from_lent {D} disk A es e old lent new same moved = subst (λ (c : Core D). Moved disk A es e c new) same moved
+
+-- an image that shows the last commit before the call shows it in the list with the entry
+pub moved_last : {D : Type 0} (disk : D → DiskState) (A : Start) (es : List Entry) (e : Entry) (old new : Core D) → IsLegal A es → 0 < (state_at A es).world.history.first → Answers (state_at A es) e
+    → (state_at A es).lost ≡ None → LeavesOnly (disk (disk_of old)) (disk (disk_of new)) (ShowsLast (state_at A es).world) → Moved disk A es e old new
+moved_last disk A es e old new legal some answers is run =
+    inr (weakened run (λ c shown. since_last A es e legal some answers c (subst (λ (o : Option (List Commit)). ShowsLast (with_lost (state_at A es).world o) c) (sym is) shown)))
+
+fetch_whole : (S : State) (b n tx block : ℕ) (bytes : List ℕ) (r : Result (Unit {0}) CoreError) → whole (after S (fetch_entry b n tx block bytes r)) ≡ whole S
+fetch_whole S b n tx block bytes (Ok done) = refl
+fetch_whole S b n tx block bytes (Err error.Down) = refl
+fetch_whole S b n tx block bytes (Err error.TooManyTx) = refl
+fetch_whole S b n tx block bytes (Err (error.LogFull need free)) = refl
+fetch_whole S b n tx block bytes (Err error.Disk) = refl
+fetch_whole S b n tx block bytes (Err error.Memory) = refl
+fetch_whole S b n tx block bytes (Err (error.Worn at)) = refl
+fetch_whole S b n tx block bytes (Err error.ModeFixed) = refl
+
+-- a fetch leaves the images that there were
+pub moved_fetch : {D : Type 0} (disk : D → DiskState) {first : DiskState} (A : Start) (es : List Entry) (b n tx block : ℕ) (bytes : List ℕ) (old new : Core D) (r : Result (Unit {0}) CoreError)
+    → IsLawful (disk (disk_of old)) → Came A first (disk (disk_of old)) es → WritesNothing (disk (disk_of old)) (disk (disk_of new)) → Moved disk A es (fetch_entry b n tx block bytes r) old new
+moved_fetch disk A es b n tx block bytes old new r laws came nothing =
+    let e : Entry = fetch_entry b n tx block bytes r in
+    inr (weakened nothing.moments (λ c here.
+    subst (λ (T : State). ShowsBetween A.world (whole T) c) (sym (after_snoc (opened A) es e))
+    (subst (λ (V : World). ShowsBetween A.world V c) (sym (fetch_whole (state_at A es) b n tx block bytes r)) (at_end laws came.moments c here))))
+
+module _ {D : Type 0} (disk : D → DiskState) {first : DiskState} (A : Start) where
   -- the core that was lent stands for the state
-  pub core_at : (old mid : Core D) (items : List (List ℕ × Posted)) (es : List Entry) → StandsAt disk A old items es → mid ≡ old → Holds disk mid (state_at A es)
+  pub core_at : (old mid : Core D) (items : List (List ℕ × Posted)) (es : List Entry) → StandsAt disk A first old items es → mid ≡ old → Holds disk mid (state_at A es)
   core_at old mid items es s same = subst (λ v. Holds disk v (state_at A es)) (sym same) s.core
 
-  -- what is bound stays so from the core that was lent on
-  pub from_lent : (old lent new : Core D) → lent ≡ old → (disk (disk_of new)).bound ≡ (disk (disk_of lent)).bound → (disk (disk_of new)).bound ≡ (disk (disk_of old)).bound
-  from_lent old lent new same bound = bound ∙ ap (λ (c : Core D). (disk (disk_of c)).bound) same
+  pub lent_came : (old lent : Core D) (items : List (List ℕ × Posted)) (es : List Entry) → StandsAt disk A first old items es → lent ≡ old → Came A first (disk (disk_of lent)) es
+  lent_came old lent items es s same = subst (λ (v : Core D). Came A first (disk (disk_of v)) es) (sym same) s.came
 
   -- after a call of the core: e is the entry, and e' the same, told of the core that was lent
   pub stands_call : (old new : Core D) (items kept : List (List ℕ × Posted)) (es : List Entry) (e e' : Entry) (holds : List ℕ)
-      → StandsAt disk A old items es → kept ≡ items → HoldsOut holds es → MayLeave holds e → e ≡ e' → (disk (disk_of new)).bound ≡ (disk (disk_of old)).bound → Did disk (state_at A es) new e' → KeepsRack e
-      → StandsAt disk A new kept (es ++ e ∷ [])
-  stands_call old new items kept es e e' holds s rack out may same bound did keeps =
+      → StandsAt disk A first old items es → kept ≡ items → HoldsOut holds es → MayLeave holds e → e ≡ e' → Moved disk A es e' old new → Did disk (state_at A es) new e' → KeepsRack e
+      → StandsAt disk A first new kept (es ++ e ∷ [])
+  stands_call old new items kept es e e' holds s rack out may same moved did keeps =
       let did' : Did disk (state_at A es) new e = subst (Did disk (state_at A es) new) (sym same) did in
-      subst (λ l. StandsAt disk A new l (es ++ e ∷ [])) (sym rack)
-      (stands_next disk A old new items items es e holds s out may bound did'.0 did'.1 (s.rack ∙ sym (keeps (state_at A es))) s.works)
+      subst (λ l. StandsAt disk A first new l (es ++ e ∷ [])) (sym rack)
+      (stands_next disk A old new items items es e holds s out may (subst (λ (x : Entry). Moved disk A es x old new) (sym same) moved) did'.0 did'.1 (s.rack ∙ sym (keeps (state_at A es))) s.works)

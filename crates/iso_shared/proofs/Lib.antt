@@ -1,7 +1,9 @@
 pub mod Lives
 pub mod Trace
 pub mod Follows
+pub mod Growing
 pub mod Standings
+pub mod TestStarts
 pub mod Mades
 pub mod Cores
 pub mod Giving
@@ -13,4 +15,3 @@ pub mod Racked
 pub mod Checks
 pub mod Rows
 pub mod Traps
-pub mod TestDisks

@@ -143,8 +143,8 @@ pub record IsFound (g : Geometry) (S : State) (p : Posted) : Type 0 where
   pub within : p.work.begin ≤ last S.world.history
   pub first : 0 < S.world.history.first
 
-pub found_own : {D : Type 0} → (disk : D → DiskState) (A : Start) (core : Core D) (items : List (List ℕ × Posted)) (es : List Entry) (test : List ℕ → Bool) (p : Posted)
-    → StandsAt disk A core items es → lookup test items ≡ Some p → IsFound A.world.geometry (state_at A es) p
+pub found_own : {D : Type 0} → (disk : D → DiskState) {first : DiskState} (A : Start) (core : Core D) (items : List (List ℕ × Posted)) (es : List Entry) (test : List ℕ → Bool) (p : Posted)
+    → StandsAt disk A first core items es → lookup test items ≡ Some p → IsFound A.world.geometry (state_at A es) p
 found_own disk A core items es test p s is =
     let S : State = state_at A es in
     let at : lookup test S.rack ≡ Some (posting_in p) = sym (ap (lookup test) s.rack) ∙ lookup-map_values posting_in test items ∙ ap (option_map posting_in) is in

@@ -5,7 +5,7 @@ use Rattle.iso_model.specs.declared.access.Access.{Access}
 use Rattle.iso_model.specs.declared.access.EndReply.TheVariants.{Committed}
 use Rattle.iso_model.specs.declared.access.Geometry.{Geometry}
 use Rattle.iso_model.specs.declared.access.Mode.TheVariants.{Serial, Snapshot}
-use Rattle.iso_model.specs.declared.script.Reply.TheVariants as reply
+use Rattle.iso_model.specs.declared.core_reply.CoreReply.TheVariants as reply
 use Rattle.iso_model.specs.Conflict.{clash}
 use Rattle.iso_model.specs.Array.{put}
 use Rattle.iso_model.specs.Effect.{runs}
@@ -24,7 +24,7 @@ abbrev pub small : Geometry
 small = record { block = 64; blocks = 4; log = 256; mode = Serial; hash = 0; tree = 0; form = 1 }
 
 abbrev pub start : Start
-start = record { world = fresh small 1 (empty_history small); faults = 3; tells = true; contents = None; bound = None }
+start = record { world = fresh small 1 (empty_history small); faults = 3; tells = true }
 
 -- a write of one byte of block 2, and a read of that block
 abbrev pub one_put : Access

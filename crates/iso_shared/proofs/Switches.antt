@@ -9,8 +9,8 @@ use Rattle.iso_disk.specs.Disk.{DiskState, StaysTold}
 use Rattle.iso_model.specs.declared.access.Commit.{Commit}
 use Rattle.iso_model.specs.declared.core_error.CoreError.{CoreError}
 use Rattle.iso_model.specs.declared.core_error.CoreError.TheVariants as error
-use Rattle.iso_model.specs.declared.script.Reply.{Reply}
-use Rattle.iso_model.specs.declared.script.Reply.TheVariants as reply
+use Rattle.iso_model.specs.declared.core_reply.CoreReply.{CoreReply}
+use Rattle.iso_model.specs.declared.core_reply.CoreReply.TheVariants as reply
 use Rattle.iso_model.specs.Step.{after_switch, switch_step}
 use Rattle.iso_model.specs.World.{floor}
 use Rattle.iso_shared.specs.declared.entry.Call.{Call}
@@ -27,7 +27,7 @@ use Rattle.iso_shared.proofs.Ends.{by_disk}
 module _ {D : Type 0} (disk : D → DiskState) (S : State) (old new : Core D) (form : ℕ) where
   -- what the clauses of a switch say of this state
   pub record Switches (r : Result ℕ CoreError) : Type 0 where
-    pub switched : StandsFor disk old S.world up → IfOk r (λ n. (n ≡ floor S.world) × ((answer : Reply) → switch_step S.world form answer ≡ (answer, after_switch S.world form)) × StandsFor disk new (after_switch S.world form) up)
+    pub switched : StandsFor disk old S.world up → IfOk r (λ n. (n ≡ floor S.world) × ((answer : CoreReply) → switch_step S.world form answer ≡ (answer, after_switch S.world form)) × StandsFor disk new (after_switch S.world form) up)
     pub refused : StandsFor disk old S.world up → IfErr r (λ e. (e ≡ error.Disk) ⊎ Refuses (switch_answer S.world form) e)
     pub same : StandsFor disk old S.world up → IfErr r (λ e. e ≢ error.Disk → StandsFor disk new S.world up)
     pub fallen : (lost : List Commit) → StandsFor disk old S.world (down lost) → (r ≡ Err error.Down) × (new ≡ old)

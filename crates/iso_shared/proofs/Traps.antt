@@ -4,8 +4,8 @@ use Rattle.iso_model.specs.declared.access.Access.{Access}
 use Rattle.iso_model.specs.declared.access.EndReply.TheVariants.{Committed, ReadOnly}
 use Rattle.iso_model.specs.declared.access.Mode.TheVariants.{Serial, Snapshot}
 use Rattle.iso_model.specs.declared.limits.TheConstants.{LAST}
-use Rattle.iso_model.specs.declared.script.Reply.{Reply}
-use Rattle.iso_model.specs.declared.script.Reply.TheVariants as reply
+use Rattle.iso_model.specs.declared.core_reply.CoreReply.{CoreReply}
+use Rattle.iso_model.specs.declared.core_reply.CoreReply.TheVariants as reply
 use Rattle.iso_model.specs.Array.{put}
 use Rattle.iso_model.specs.Conflict.{clash}
 use Rattle.iso_model.specs.Effect.{runs}
@@ -97,7 +97,7 @@ two_blocks =
     ∷ entry.Begin 3 2 Serial
     ∷ []
 
-abbrev wanted : Reply → ℕ
+abbrev wanted : CoreReply → ℕ
 wanted (reply.LogFull need free) = need
 wanted answer = 0
 
@@ -127,7 +127,7 @@ not_beyond_the_floor : Fits (state_at start two_begun) (entry.Compact 1) → ⊥
 not_beyond_the_floor f = cc (f.answers.1)
 
 abbrev last_half : Start
-last_half = record { world = fresh small LAST (empty_history small); faults = 3; tells = true; contents = None; bound = None }
+last_half = record { world = fresh small LAST (empty_history small); faults = 3; tells = true }
 
 worn : MayRefuse (opened last_half) call.Compact cause.Worn
 unfolding switch_step
@@ -175,3 +175,81 @@ thirteen = entry.Begin 1 0 Serial ∷ commits 1 13
 
 three_steps : (most_steps start thirteen 10 ≡ 3) × (most_steps start thirteen 0 ≡ 13)
 three_steps = (refl, refl)
+
+-- upkeep answers the floor, a look at later commits the last one, and by a transaction that is live
+not_another_floor : Fits (state_at start two_begun) (entry.Trim 1) → ⊥
+not_another_floor f = cc (f.answers.1)
+
+no_upgrade_beyond : Fits (state_at start two_begun) (entry.Upgrade 1) → ⊥
+no_upgrade_beyond f = cc (f.answers.1)
+
+not_another_last : Fits (state_at start one_ended) (entry.Recent 2 0) → ⊥
+not_another_last f = cc (f.answers.1)
+
+not_recent_unbegun : Fits (opened start) (entry.Recent 1 0) → ⊥
+not_recent_unbegun f = cc (f.needs.0)
+
+-- a stat tells the numbers there
+abbrev no_numbers : Numbers
+no_numbers = record { last = 0; base = 0; trim = 0; live = 0; used = 0; versions = 0; down = false }
+
+not_other_numbers : Fits (state_at start two_begun) (entry.Stat no_numbers) → ⊥
+not_other_numbers f = let e : 0 ≡ 2 = ap (λ (n : Numbers). n.live) f.answers in absurd (cc e)
+
+-- no fault stands in a call that calls no disk
+no_fault_of_a_begin : MayRefuse (opened start) (call.Begin None) (cause.Disk 3 4) → ⊥
+no_fault_of_a_begin may = may.0
+
+no_fault_of_a_trim : MayRefuse (opened start) call.Trim (cause.Disk 3 4) → ⊥
+no_fault_of_a_trim may = may.0
+
+no_fault_of_a_post : MayRefuse (state_at start two_begun) (call.Post 1 (97 ∷ []) []) (cause.Disk 3 4) → ⊥
+no_fault_of_a_post may = may.0
+
+no_fault_of_a_recent : MayRefuse (state_at start two_begun) (call.Recent 1) (cause.Disk 3 4) → ⊥
+no_fault_of_a_recent may = may.0
+
+-- nor in one on a device that is down
+no_fault_of_a_fetch_down : MayRefuse (state_at start fallen) (call.Fetch 2 3) (cause.Disk 4 5) → ⊥
+no_fault_of_a_fetch_down may = cc (may.0)
+
+no_fault_of_an_end_down : MayRefuse (state_at start fallen) (call.End 2 (one_put ∷ [])) (cause.Disk 4 5) → ⊥
+no_fault_of_an_end_down may = cc (may.0.0)
+
+no_fault_of_an_upgrade_down : MayRefuse (state_at start fallen) call.Upgrade (cause.Disk 4 5) → ⊥
+no_fault_of_an_upgrade_down may = cc (may.0.0)
+
+-- nor want of memory there
+no_memory_of_an_end_down : MayRefuse (state_at start fallen) (call.End 2 []) cause.Memory → ⊥
+no_memory_of_an_end_down may = cc may
+
+no_memory_of_a_compact_down : MayRefuse (state_at start fallen) call.Compact cause.Memory → ⊥
+no_memory_of_a_compact_down may = cc may
+
+no_memory_of_an_upgrade_down : MayRefuse (state_at start fallen) call.Upgrade cause.Memory → ⊥
+no_memory_of_an_upgrade_down may = cc may
+
+no_memory_of_a_recent_down : MayRefuse (state_at start fallen) (call.Recent 2) cause.Memory → ⊥
+no_memory_of_a_recent_down may = cc may
+
+-- nothing but a post finds a label taken, and a begin is refused for what it is
+not_taken_of_a_begin : MayRefuse (state_at start posted) (call.Begin None) cause.LabelTaken → ⊥
+not_taken_of_a_begin may = may
+
+not_taken_of_an_end : MayRefuse (state_at start posted) (call.End 1 []) cause.LabelTaken → ⊥
+not_taken_of_an_end may = may
+
+not_too_many : MayRefuse (opened start) (call.Begin None) cause.TooManyTx → ⊥
+unfolding begin_step
+not_too_many may = cc (may.1)
+
+not_mode_fixed : MayRefuse (opened start) (call.Begin None) cause.ModeFixed → ⊥
+unfolding begin_step
+not_mode_fixed may = cc (may.1)
+
+-- a call that is refused has arguments that it may have
+no_refusal_outside : Fits (state_at start two_begun) (entry.Refused (call.Fetch 1 4) (cause.Disk 3 4)) → ⊥
+no_refusal_outside f = let inside = f.answers.0 in absurd (omega arith)
+
+no_refused_end_outside : Fits (state_at start two_begun) (entry.Refused (call.End 1 (write_access 3 [] ∷ [])) cause.Memory) → ⊥
+no_refused_end_outside f = let e = f.answers.0.each.0.bytes refl in absurd (cc e)

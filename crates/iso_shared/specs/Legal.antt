@@ -8,8 +8,8 @@ use Rattle.iso_model.specs.declared.access.EndReply.{EndReply}
 use Rattle.iso_model.specs.declared.access.EndReply.TheVariants.{Committed, ReadOnly, Conflict}
 use Rattle.iso_model.specs.declared.access.Mode.{Mode}
 use Rattle.iso_model.specs.declared.limits.TheConstants.{MAX_ACCESSES}
-use Rattle.iso_model.specs.declared.script.Reply.{Reply}
-use Rattle.iso_model.specs.declared.script.Reply.TheVariants as reply
+use Rattle.iso_model.specs.declared.core_reply.CoreReply.{CoreReply}
+use Rattle.iso_model.specs.declared.core_reply.CoreReply.TheVariants as reply
 use Rattle.iso_model.specs.History.{array_at, last}
 use Rattle.iso_model.specs.Premises.{AreAccesses, block_at}
 use Rattle.iso_model.specs.Step.{begin_step, end_step, mode_named, switch_step}
@@ -24,23 +24,23 @@ use Rattle.iso_shared.specs.declared.entry.Entry.TheVariants as entry
 use Rattle.iso_shared.specs.declared.entry.Numbers.{Numbers}
 use Rattle.iso_shared.specs.States.{Start, State, opened, after, is_loose, live_of, tx_of}
 
-abbrev pub reply_of : EndReply → Reply
+abbrev pub reply_of : EndReply → CoreReply
 reply_of (Committed n) = reply.Committed n
 reply_of ReadOnly = reply.ReadOnly
 reply_of (Conflict c) = reply.Conflict c
 
 -- what the rules answer to a begin in this mode, to an end with these accesses, and to a switch to a half of this form
-abbrev pub begin_answer : World → Option Mode → Reply
+abbrev pub begin_answer : World → Option Mode → CoreReply
 begin_answer W named = (begin_step W unattached (mode_named W named)).0
 
-abbrev pub end_answer : World → (number : ℕ) → List Access → Reply
+abbrev pub end_answer : World → (number : ℕ) → List Access → CoreReply
 end_answer W n accesses = (end_step W (tx_of W n accesses)).0
 
-abbrev pub switch_answer : World → (form : ℕ) → Reply
+abbrev pub switch_answer : World → (form : ℕ) → CoreReply
 switch_answer W form = (switch_step W form reply.Done).0
 
 -- what the rules answer to a call that they may refuse; Done stands for all that they never refuse
-abbrev pub answer_to : World → Call → Reply
+abbrev pub answer_to : World → Call → CoreReply
 answer_to W (call.Begin named) = begin_answer W named
 answer_to W (call.Fetch n block) = reply.Done
 answer_to W (call.End n accesses) = end_answer W n accesses

@@ -4,11 +4,13 @@ use Rattle.std.specs.List.{AllByRecursion}
 use Rattle.iso_core.specs.declared.core_itself.Core.{Core}
 use Rattle.iso_core.specs.Core.{StandsFor, disk_of}
 use Rattle.iso_core.specs.Standing.{Standing, up, down}
-use Rattle.iso_disk.specs.Disk.{DiskState}
+use Rattle.iso_model.specs.History.{with_commits}
+use Rattle.iso_disk.specs.Disk.{DiskState, LeavesOnly, WritesNothing}
 use Rattle.iso_model.specs.declared.access.Commit.{Commit}
 use Rattle.iso_model.specs.declared.access.Geometry.{Geometry}
 use Rattle.iso_model.specs.declared.access.Mode.TheVariants.{Serial}
 use Rattle.iso_model.specs.World.{World, fresh, empty_history}
+use Rattle.iso_model.specs.Between.{ShowsBetween}
 use Rattle.tx_table.specs.Work.{Doing}
 use Rattle.iso_shared.specs.declared.entry.Entry.{Entry}
 use Rattle.iso_shared.specs.declared.entry.Posting.{Posting}
@@ -41,26 +43,40 @@ posting_in p = record { number = p.number; begin = p.work.begin; mode = p.work.m
 abbrev pub postings : List (List ℕ × Posted) → List (List ℕ × Posting)
 postings rack = map (λ e. (e.0, posting_in e.1)) rack
 
--- The disk is bound as it was at the start, and before the first entry it tells what it told then.
-pub record Came (A : Start) (d : DiskState) (es : List Entry) : Type 0 where
-  pub bound : d.bound ≡ A.bound
-  pub unwritten : es ≡ [] → d.contents ≡ A.contents
+-- the world with the lost commits behind the others
+abbrev pub with_lost : World → Option (List Commit) → World
+with_lost W None = W
+with_lost W (Some lost) = record W { history = with_commits lost W.history }
+
+-- the world at a place of the list, with the commits that may stand behind the others
+abbrev pub whole : State → World
+whole S = with_lost S.world S.lost
+
+-- the image shows the history that the list leads to, at a commit from the last one of its start on
+abbrev pub ShowsSince : Start → List Entry → (image : List ℕ) → Type 0
+ShowsSince A es image = ShowsBetween A.world (whole (state_at A es)) image
+
+-- What the disk has come to since the list began on the first one: at any moment a crash might have left no other image than
+-- one that shows the list's history. Before the first entry nothing is written.
+pub record Came (A : Start) (first d : DiskState) (es : List Entry) : Type 0 where
+  pub moments : LeavesOnly first d (ShowsSince A es)
+  pub unwritten : es ≡ [] → WritesNothing first d
 
 -- the core and the rack stand for the list
-pub record StandsAt {D : Type 0} (disk : D → DiskState) (A : Start) (held : Core D) (items : List (List ℕ × Posted)) (es : List Entry) : Type 0 where
+pub record StandsAt {D : Type 0} (disk : D → DiskState) (A : Start) (first : DiskState) (held : Core D) (items : List (List ℕ × Posted)) (es : List Entry) : Type 0 where
   pub start : A.world.live ≡ []
   pub legal : IsLegal A es
   pub core : Holds disk held (state_at A es)
   pub rack : postings items ≡ (state_at A es).rack
   pub works : AllByRecursion (λ e. IsOn A.world.geometry e.1.work) items
-  pub came : Came A (disk (disk_of held)) es
+  pub came : Came A first (disk (disk_of held)) es
 
 abbrev pub some_geometry : Geometry
 some_geometry = record { block = 64; blocks = 1; log = 64; mode = Serial; hash = 0; tree = 0; form = 1 }
 
 abbrev pub some_start : Start
-some_start = record { world = fresh some_geometry 1 (empty_history some_geometry); faults = 0; tells = true; contents = None; bound = None }
+some_start = record { world = fresh some_geometry 1 (empty_history some_geometry); faults = 0; tells = true }
 
 -- where the list of a device begins whose core stands for the world, on this disk
 abbrev pub start_at : World → DiskState → Start
-start_at W d = record { world = W; faults = d.faults; tells = is_some d.contents; contents = d.contents; bound = d.bound }
+start_at W d = record { world = W; faults = d.faults; tells = is_some d.contents }

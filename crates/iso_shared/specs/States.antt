@@ -17,13 +17,11 @@ use Rattle.iso_shared.specs.declared.entry.Entry.{Entry}
 use Rattle.iso_shared.specs.declared.entry.Entry.TheVariants as entry
 use Rattle.iso_shared.specs.declared.entry.Posting.{Posting}
 
--- where a list begins: the world, how often the disk has failed, whether the disk tells its bytes, what they are, and what is bound
+-- where a list begins: the world, how often the disk has failed, and whether the disk tells its bytes
 pub record Start : Type 0 where
   pub world : World
   pub faults : ℕ
   pub tells : Bool
-  pub contents : Option (List ℕ)
-  pub bound : Option (ℕ × List ℕ)
 
 -- what a shared device is at a place of the list
 pub record State : Type 0 where

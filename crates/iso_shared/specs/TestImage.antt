@@ -12,8 +12,8 @@ abbrev pub small : Geometry
 small = record { block = 64; blocks = 4; log = 4096; mode = Serial; hash = 0; tree = 0; form = 1 }
 
 -- a list of this core may begin there
-pub record MayStart {D : Type 0} (disk : D → DiskState) (A : Start) (core : Core D) : Type 0 where
+pub record MayStart {D : Type 0} (disk : D → DiskState) (A : Start) (first : DiskState) (core : Core D) : Type 0 where
   pub holds : Holds disk core (opened A)
   pub live : A.world.live ≡ []
-  pub came : Came A (disk (disk_of core)) []
+  pub came : Came A first (disk (disk_of core)) []
   pub geometry : A.world.geometry ≡ small

@@ -9,15 +9,24 @@ use tx_table::{Rack, Work};
 
 /// Where the list begins, for contracts alone. No value of it is made.
 pub trait Origin {
+    ghost use Rattle.iso_disk.specs.Disk.{DiskState};
     ghost use Rattle.iso_shared.specs.States.{Start};
 
+    /// The world, and what is known of the disk.
     ghost start: { Start };
+
+    /// The disk.
+    ghost disk: { DiskState };
 }
 
 impl Origin for Brand {
+    ghost use Rattle.std.specs.Prelude.{None};
+    ghost use Rattle.iso_disk.specs.Untold.{untold};
     ghost use Rattle.iso_shared.specs.Standing.{some_start};
 
     ghost start = { some_start };
+
+    ghost disk = { untold 0 0 0 None };
 }
 
 /// A transaction under a label.
@@ -41,7 +50,7 @@ impl<D: Disk, O: Origin> Stands for Guarded<D, O> {
 
     type Entry = Entry;
 
-    ghost stands = { λ g es. StandsAt D.state O.start g.core g.rack es };
+    ghost stands = { λ g es. StandsAt D.state O.start O.disk g.core g.rack es };
 
     ghost hands = { handed };
 

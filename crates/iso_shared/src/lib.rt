@@ -18,10 +18,3 @@ pub use guarded::{Guarded, Origin, Posted};
 pub use laws::numbers_out_are_loose;
 pub use shared::{Port, Shared};
 pub use tx::Tx;
-
-#[cfg(test)]
-mod answer_tests;
-#[cfg(test)]
-mod refusal_tests;
-#[cfg(test)]
-mod tests;

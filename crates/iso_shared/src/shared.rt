@@ -49,7 +49,7 @@ impl<D: Disk + Drop, O: Origin> Shared<D, O> {
         core: Core<D>,
     ) -> Result<(Shared<D, O>, Port<D, O>), (Memory, Core<D>)>
         requires start { Holds D.state core (opened O.start) × (O.start.world.live ≡ []) }
-        requires came { Came O.start (D.state (disk_of core)) [] }
+        requires came { Came O.start O.disk (D.state (disk_of core)) [] }
         ensures ok { IfOk result (λ r. IsPort r.0 r.1 × (port_view r.1 ≡ fresh) × (first_geometry r.0 ≡ O.start.world.geometry)) }
         ensures err { IfErr result (λ e. e.1 ≡ core) }
     {
@@ -96,7 +96,7 @@ impl<D: Disk + Drop, O: Origin> Shared<D, O> {
     )
         requires named { N.entry ≡ told_entry (faults_of D.state before.value) (faults_of D.state (turn_value turn).core) told }
         requires lock { (pass.old.table_id ≡ lock_id self.now.lock) × HasTurn pass.old turn }
-        requires value { StandsAt D.state O.start (turn_value turn).core (turn_value turn).rack ((view pass.old).seen ++ N.entry ∷ []) }
+        requires value { StandsAt D.state O.start O.disk (turn_value turn).core (turn_value turn).rack ((view pass.old).seen ++ N.entry ∷ []) }
         requires held { AreHeld (needed N.entry) (view pass.old).holds × AreHeld (returned N.entry) (view pass.old).holds }
         ensures lock { (pass.new.table_id ≡ lock_id self.now.lock) × HasNoTurn pass.new }
         ensures seen { (view pass.new).seen ≡ (view pass.old).seen ++ N.entry ∷ [] }
@@ -213,7 +213,7 @@ impl<D: Disk + Drop, O: Origin> Shared<D, O> {
         ensures legal { IsLegal O.start (port_view port).seen }
         ensures isolated { IsIsolatedAt O.start (port_view port).seen }
         ensures core { Holds D.state result (state_at O.start (port_view port).seen) }
-        ensures came { Came O.start (D.state (disk_of result)) (port_view port).seen }
+        ensures came { Came O.start O.disk (D.state (disk_of result)) (port_view port).seen }
         ensures all { (port_view port).mine ≡ places (length (port_view port).seen) }
     {
         let Shared {

@@ -20,11 +20,11 @@ use Rattle.iso_recover.specs.Made.{IsUnmadeOrEmpty}
 use Rattle.iso_recover.specs.Opened.{HasOpened}
 use Rattle.iso_refusal.specs.declared.open_error.OpenError.{OpenError}
 use Rattle.iso_refusal.specs.Refusal.{refusal}
-use Rattle.script_runner.specs.Between.{ShowsBetween}
+use Rattle.iso_model.specs.Between.{ShowsBetween}
 use Rattle.script_runner.proofs.Histories.{between_on, shows_last}
 use Rattle.iso_top.specs.Begun.{HasCore, HasNoCore}
 use Rattle.iso_top.specs.Outcome.{HasBegun}
-use Rattle.iso_top.specs.Starts.{IsUntouched, MayBeUnmade}
+use Rattle.iso_top.specs.Starts.{GoesOnTelling, IsUntouched, MayBeUnmade, WasBoundOnce}
 
 -- the world of a new image
 abbrev new_world : Geometry → World
@@ -38,7 +38,7 @@ empty_shows g valid c (inr held) =
     inr (shows_last (new_world g) c (half_shows g g.form 0 1 0 (empty_history g) c sound.history (omega arith) (omega arith) held))
 
 module _ {D : Type 0} (state : D → DiskState) (lawful : (d : D) → IsLawful (state d)) (name : List ℕ) (image bound : D)
-    (binds : (state bound).bound ≡ Some ((state bound).clock, name)) (told : StaysTold (state image) (state bound)) (faults : (state bound).faults ≡ (state image).faults) where
+    (binds : (state bound).bound ≡ Some ((state bound).clock, name)) (once : WasBoundOnce (state image) (state bound)) (told : GoesOnTelling name (state image) (state bound)) (faults : (state bound).faults ≡ (state image).faults) where
   pub made_core : (g : Geometry) (core : Core D) → IsTrue (is_valid g) → StandsFor state core (new_world g) up
       → LeavesOnly (state bound) (state (disk_of core)) (IsUnmadeOrEmpty g) → StaysTold (state bound) (state (disk_of core)) → (state (disk_of core)).faults ≡ (state bound).faults
       → HasCore state (Some g) name image core
@@ -52,6 +52,7 @@ module _ {D : Type 0} (state : D → DiskState) (lawful : (d : D) → IsLawful (
     faults = same ∙ faults;
     bound = bound;
     binds = binds;
+    once = once;
     untouched = moments;
     moments = weakened moments (empty_shows g valid);
   }
@@ -60,13 +61,14 @@ module _ {D : Type 0} (state : D → DiskState) (lawful : (d : D) → IsLawful (
       → HasNoCore (Some g) name e (state image) (state new)
   made_not g e new never moments blamed = record {
     unbegun = inr (still_bound name moments ((state bound).clock, binds), since_bind name binds moments);
+    once = moments.same_binds ∙ once;
     refused = λ test. absurd (never test);
     cause = subst (λ (n : ℕ). IsBlamed n (state new).faults e) faults blamed;
   }
 
   -- over an image as given, which is stable now
-  module _ (settled : IsSettled (state bound)) (existing : ForSome (state image).contents (λ c. (state bound).contents ≡ Some c)) where
-    as_given : (c : List ℕ) → (state bound).now c → IsUntouched None (state image).contents c
+  module _ (settled : IsSettled (state bound)) (existing : ForSome ((state image).named name) (λ c. (state bound).contents ≡ Some c)) where
+    as_given : (c : List ℕ) → (state bound).now c → IsUntouched None ((state image).named name) c
     as_given c image_now given is = same_Some c given (sym (settled c image_now) ∙ existing given is)
 
     pub opened_core : (core : Core D) → HasOpened state core (state bound).contents → WritesNothing (state bound) (state (disk_of core))
@@ -91,6 +93,7 @@ module _ {D : Type 0} (state : D → DiskState) (lawful : (d : D) → IsLawful (
           faults = same ∙ faults;
           bound = bound;
           binds = binds;
+          once = once;
           untouched = weakened still.moments as_given;
           moments = weakened still.moments (λ c here. inr (between c here));
         }
@@ -98,6 +101,7 @@ module _ {D : Type 0} (state : D → DiskState) (lawful : (d : D) → IsLawful (
     pub opened_not : (e : OpenError) (new : D) → (IsTest e → ForSome (state bound).contents (λ c. refusal c ≡ Some e)) → WritesNothing (state bound) (state new)
         → IsBlamed (state bound).faults (state new).faults e → HasNoCore None name e (state image) (state new)
     opened_not e new refuses still blamed = record {
+      once = still.moments.same_binds ∙ once;
       unbegun = inr (still_bound name still.moments ((state bound).clock, binds), since_bind name binds (weakened still.moments as_given));
       refused = λ test. (refl, λ c is. refuses test c (existing c is));
       cause = subst (λ (n : ℕ). IsBlamed n (state new).faults e) faults blamed;
@@ -118,5 +122,6 @@ begun state made name disk new core has V leads run =
       told = has.told;
       faults = has.faults;
       bound = still_bound name whole ((state has.bound).clock, has.binds);
+      once = whole.same_binds ∙ has.once;
       since = since_bind name has.binds whole;
     }

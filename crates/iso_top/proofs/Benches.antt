@@ -1,11 +1,11 @@
 -- What is put of a bench.
-use Rattle.std.proofs.Common.{◌≡◌, ◌⊎◌, inl, inr, ℕ, List, [], Some, None, false, refl, sym, ◌∙◌, ap, arith}
+use Rattle.std.proofs.Common.{◌≡◌, ◌⊎◌, inl, inr, ℕ, List, [], Some, None, false, refl, sym, ◌∙◌, ap, arith, IsSome}
 use Rattle.bench_script.specs.Ends.{DrawnState, HeldState, drawn_state, held_state}
 use Rattle.iso_disk.specs.Disk.{DiskState}
 use Rattle.iso_io.specs.Sink.{SinkState}
-use Rattle.iso_model.specs.declared.script.Line.{Line}
-use Rattle.iso_model.specs.Bench.{bench_summary, bench_text, bench_world}
-use Rattle.iso_model.specs.Script.{Script, replies, script}
+use Rattle.script_model.specs.declared.script.Line.{Line}
+use Rattle.script_model.specs.Bench.{bench_summary, bench_text, bench_world}
+use Rattle.script_model.specs.Script.{Script, replies, script}
 use Rattle.script_runner.specs.declared.run_end.RunEnd.{RunEnd}
 use Rattle.script_runner.specs.declared.run_end.RunEnd.TheVariants as end
 use Rattle.script_runner.specs.Run.{HasRun}
@@ -22,7 +22,7 @@ pub printed_bench : (seed count status : ℕ) → (script (bench_text count seed
     × (((status ≡ 0) × WroteWhole old new line) ⊎ ((status ≡ 7) × WasCut old new line)))
     → (e ≡ end.Disk → (status ≡ 5) × Printed old new disk_fault_text)
     → ((e ≡ end.Output) ⊎ (e ≡ end.Memory) → (status ≡ 8) × Printed old new memory_text)
-    → PrintedBench seed count status e disk old new
+    → PrintedBench seed count status e (IsSome disk.contents) old new
 printed_bench seed count status good disk disk_new rest held old new text text_is end.Done run done failed memory =
     let (line, is, put) = done refl in
     let lines : run.done ≡ (script (bench_text count seed)).lines = ap (λ (S : Script). S.lines) (sym run.told.0) in (

@@ -9,10 +9,10 @@ use Rattle.iso_disk.specs.Disk.{DiskState}
 use Rattle.iso_io.specs.Sink.{SinkState}
 use Rattle.iso_io.specs.Source.{SourceState}
 use Rattle.iso_model.specs.declared.access.Geometry.{Geometry}
-use Rattle.iso_model.specs.declared.script.BadLine.{BadLine}
-use Rattle.iso_model.specs.declared.script.Line.{Line}
-use Rattle.iso_model.specs.Bench.{bench_output, bench_world, recover_output}
-use Rattle.iso_model.specs.Script.{Script, script}
+use Rattle.script_model.specs.declared.script.BadLine.{BadLine}
+use Rattle.script_model.specs.declared.script.Line.{Line}
+use Rattle.script_model.specs.Bench.{bench_output, bench_world, recover_output}
+use Rattle.script_model.specs.Script.{Script, script}
 use Rattle.iso_refusal.specs.declared.open_error.OpenError.{OpenError}
 use Rattle.iso_refusal.specs.declared.open_error.OpenError.TheVariants as error
 use Rattle.iso_refusal.specs.Refusal.{refusal}
@@ -26,6 +26,7 @@ use Rattle.whole_script.specs.declared.lines.ScriptError.{ScriptError}
 use Rattle.whole_script.specs.declared.lines.ScriptError.TheVariants as lines
 use Rattle.iso_top.specs.Clients.{HasRunClients, HasRunNone, PrintedClients, WereRun}
 use Rattle.iso_top.specs.Prints.{SinkFailed}
+use Rattle.iso_top.specs.Starts.{TellsNamed}
 use Rattle.iso_top.specs.Texts.{end_status, error_status, script_error_status}
 
 -- what a status tells of the counts
@@ -126,15 +127,15 @@ module _ {D : Type 0} (state : D → DiskState) (name : List ℕ) (status : ℕ)
       (subst (λ (k : SinkState). SinkFailed output_old k) (sym a.last) (⊎_elim (λ failed. inl failed.0) (λ refused. inr refused.0) a.run.answered.output))
   answered made end.Memory is a = quiet status (state disk_old) (state disk_new) input_old input_new output_old output_new (inr (inr (inr is)))
 
-  resulted : (disk : DiskState) (defined : List ℕ) → PrintedResult status disk defined output_old output_new → Caused
-  resulted disk defined (text, told, inl (is, whole)) = quiet status (state disk_old) (state disk_new) input_old input_new output_old output_new (inl is)
-  resulted disk defined (text, told, inr (is, cut)) = by_output status (state disk_old) (state disk_new) input_old input_new output_old output_new is cut.failed
+  resulted : (tells : Type 0) (defined : List ℕ) → PrintedResult status tells defined output_old output_new → Caused
+  resulted tells defined (text, told, inl (is, whole)) = quiet status (state disk_old) (state disk_new) input_old input_new output_old output_new (inl is)
+  resulted tells defined (text, told, inr (is, cut)) = by_output status (state disk_old) (state disk_new) input_old input_new output_old output_new is cut.failed
 
   recovered : HasRecovered name status (state disk_old) (state disk_new) input_old input_new output_old output_new → Caused
   recovered r = go r.printed
     where
-      go : PrintedDigest status (state disk_old) r.world.history output_old output_new → Caused
-      go (inl result) = resulted (state disk_old) (recover_output r.world.history) result
+      go : PrintedDigest status (TellsNamed name (state disk_old)) r.world.history output_old output_new → Caused
+      go (inl result) = resulted (TellsNamed name (state disk_old)) (recover_output r.world.history) result
       go (inr (inl (is, text))) = by_disk status (state disk_old) (state disk_new) input_old input_new output_old output_new is (r.failed is)
       go (inr (inr (is, text))) = quiet status (state disk_old) (state disk_new) input_old input_new output_old output_new (inr (inr (inr is)))
 
@@ -142,8 +143,8 @@ module _ {D : Type 0} (state : D → DiskState) (name : List ℕ) (status : ℕ)
   benched seed count b = go b.end b.run b.printed
     where
       go : (e : RunEnd) → HasRun (λ V. Unit {0}) (state b.start) (state disk_new) b.drawn b.rest b.empty b.held bench_world e
-          → PrintedBench seed count status e (state disk_old) output_old output_new → Caused
-      go end.Done run result = resulted (state disk_old) (bench_output seed count) result
+          → PrintedBench seed count status e (TellsNamed name (state disk_old)) output_old output_new → Caused
+      go end.Done run result = resulted (TellsNamed name (state disk_old)) (bench_output seed count) result
       go (end.BadLine bad) run never = absurd never
       go end.Disk run (is, text) = by_disk status (state disk_old) (state disk_new) input_old input_new output_old output_new is (rose_since (state b.start).faults b.begun.faults run.answered.disk)
       go end.Input run never = absurd never
@@ -182,11 +183,11 @@ module _ {D : Type 0} (state : D → DiskState) (name : List ℕ) (status : ℕ)
     abbrev Ends : Type 0
     Ends = (status ≡ 0) ⊎ (status ≡ 8)
 
-    refused_not : (made : Option Geometry) (e : OpenError) → IsAccepted made (state disk_old).contents → (made ≡ None) × ForSome (state disk_old).contents (λ c. refusal c ≡ Some e) → ⊥
+    refused_not : (made : Option Geometry) (e : OpenError) → IsAccepted made ((state disk_old).named name) → (made ≡ None) × ForSome ((state disk_old).named name) (λ c. refusal c ≡ Some e) → ⊥
     refused_not (Some g) e accepted (none, fails) = cc (none)
     refused_not None e (c, is, passes) (none, fails) = cc (fails c is, passes)
 
-    begun_all : (made : Option Geometry) (e : OpenError) → status ≡ error_status e → IsAccepted made (state disk_old).contents
+    begun_all : (made : Option Geometry) (e : OpenError) → status ≡ error_status e → IsAccepted made ((state disk_old).named name)
         → HasNotBegun made name e (state disk_old) (state disk_new) input_old input_new output_old output_new → Ends
     begun_all made error.NotIsotope is accepted not = absurd (refused_not made _ accepted (not.refused tt))
     begun_all made (error.BadGeometry field) is accepted not = absurd (refused_not made _ accepted (not.refused tt))
@@ -214,15 +215,15 @@ module _ {D : Type 0} (state : D → DiskState) (name : List ℕ) (status : ℕ)
         absurd (output_stands (subst (λ (k : SinkState). SinkFailed output_old k) (sym a.last) (⊎_elim (λ failed. inl failed.0) (λ refused. inr refused.0) a.run.answered.output)))
     answered_all made end.Memory is good a = inr is
 
-    resulted_all : (disk : DiskState) (defined : List ℕ) → PrintedResult status disk defined output_old output_new → Ends
-    resulted_all disk defined (text, told, inl (is, whole)) = inl is
-    resulted_all disk defined (text, told, inr (is, cut)) = absurd (output_stands cut.failed)
+    resulted_all : (tells : Type 0) (defined : List ℕ) → PrintedResult status tells defined output_old output_new → Ends
+    resulted_all tells defined (text, told, inl (is, whole)) = inl is
+    resulted_all tells defined (text, told, inr (is, cut)) = absurd (output_stands cut.failed)
 
     recovered_all : HasRecovered name status (state disk_old) (state disk_new) input_old input_new output_old output_new → Ends
     recovered_all r = go r.printed
       where
-        go : PrintedDigest status (state disk_old) r.world.history output_old output_new → Ends
-        go (inl result) = resulted_all (state disk_old) (recover_output r.world.history) result
+        go : PrintedDigest status (TellsNamed name (state disk_old)) r.world.history output_old output_new → Ends
+        go (inl result) = resulted_all (TellsNamed name (state disk_old)) (recover_output r.world.history) result
         go (inr (inl (is, text))) = absurd (disk_stands (r.failed is))
         go (inr (inr (is, text))) = inr is
 
@@ -230,8 +231,8 @@ module _ {D : Type 0} (state : D → DiskState) (name : List ℕ) (status : ℕ)
     benched_all seed count b = go b.end b.run b.printed
       where
         go : (e : RunEnd) → HasRun (λ V. Unit {0}) (state b.start) (state disk_new) b.drawn b.rest b.empty b.held bench_world e
-            → PrintedBench seed count status e (state disk_old) output_old output_new → Ends
-        go end.Done run result = resulted_all (state disk_old) (bench_output seed count) result
+            → PrintedBench seed count status e (TellsNamed name (state disk_old)) output_old output_new → Ends
+        go end.Done run result = resulted_all (TellsNamed name (state disk_old)) (bench_output seed count) result
         go (end.BadLine bad) run never = absurd never
         go end.Disk run (is, text) = absurd (disk_stands (rose_since (state b.start).faults b.begun.faults run.answered.disk))
         go end.Input run never = absurd never
@@ -259,7 +260,7 @@ module _ {D : Type 0} (state : D → DiskState) (name : List ℕ) (status : ℕ)
         go (inl (parts, told, printed)) = put parts printed
         go (inr (none, is, printed)) = inr is
 
-    pub met_all : (task : Task) → IsAccepted (made_geometry task) (state disk_old).contents → IsGoodInput task input_old.rest
+    pub met_all : (task : Task) → IsAccepted (made_geometry task) ((state disk_old).named name) → IsGoodInput task input_old.rest
         → HasMet state task name status disk_old disk_new input_old input_new output_old output_new → Ends
     met_all task accepted good (inl (e, is, not)) = begun_all (made_geometry task) e is accepted not
     met_all (New g) accepted good (inr (e, is, a)) = answered_all (Some g) e is good a

@@ -10,3 +10,4 @@ mod Rising
 mod Behind
 mod RunsOfClients
 mod ClientsMet
+mod Plainly

@@ -6,7 +6,7 @@ use Rattle.array_digest.specs.declared.digest.DigestError.{DigestError}
 use Rattle.array_digest.specs.declared.digest.DigestError.TheVariants as error
 use Rattle.iso_disk.specs.Disk.{DiskState}
 use Rattle.iso_io.specs.Sink.{SinkState}
-use Rattle.iso_model.specs.Bench.{array_bytes}
+use Rattle.script_model.specs.Bench.{array_bytes}
 use Rattle.iso_model.specs.History.{History, array_at, last}
 use Rattle.iso_top.specs.Outcome.{PrintedDigest}
 use Rattle.iso_top.specs.Prints.{Printed, WasCut, WroteWhole}
@@ -21,7 +21,7 @@ pub printed_digest : (status : ℕ) (disk : DiskState) (H : History) (old new : 
     → IfOk told (λ digest. ForSome disk.contents (λ c. digest ≡ sha256 (array_bytes (array_at H (last H)))))
     → IfOk told (λ digest. ((status ≡ 0) × WroteWhole old new (recover_text number base digest)) ⊎ ((status ≡ 7) × WasCut old new (recover_text number base digest)))
     → (IsErrOf told error.Disk → (status ≡ 5) × Printed old new disk_fault_text) → (IsErrOf told error.Memory → (status ≡ 8) × Printed old new memory_text)
-    → PrintedDigest status disk H old new
+    → PrintedDigest status (IsSome disk.contents) H old new
 printed_digest status disk H old new (Ok digest) number base number_is base_is sum put failed memory =
     inl (recover_text number base digest, (λ told. let (c, is) = some_of disk.contents told in λ i. recover_text (number_is i) (base_is i) (sum c is i)), put)
 printed_digest status disk H old new (Err error.Disk) number base number_is base_is sum put failed memory = inr (inl (failed refl))

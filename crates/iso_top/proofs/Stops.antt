@@ -3,11 +3,11 @@ use Rattle.std.proofs.Common.{◌≡◌, ◌≢◌, ◌⊎◌, inl, inr, ◌==�
 use Rattle.std.specs.List.{AllByRecursion, list_any}
 use Rattle.iso_model.specs.declared.access.Geometry.{Geometry}
 use Rattle.iso_model.specs.declared.access.Mode.{Mode}
-use Rattle.iso_model.specs.declared.script.Line.{Line}
-use Rattle.iso_model.specs.declared.script.Op.{Op}
-use Rattle.iso_model.specs.declared.script.Op.TheVariants as op
-use Rattle.iso_model.specs.declared.script.Reply.{Reply}
-use Rattle.iso_model.specs.declared.script.Reply.TheVariants as reply
+use Rattle.script_model.specs.declared.script.Line.{Line}
+use Rattle.script_model.specs.declared.script.Op.{Op}
+use Rattle.script_model.specs.declared.script.Op.TheVariants as op
+use Rattle.script_model.specs.declared.script.Reply.{Reply}
+use Rattle.script_model.specs.declared.script.Reply.TheVariants as reply
 use Rattle.iso_shared.specs.declared.entry.Call.{Call}
 use Rattle.iso_shared.specs.declared.entry.Cause.{Cause}
 use Rattle.iso_shared.specs.declared.entry.Cause.TheVariants as cause
@@ -17,8 +17,8 @@ use Rattle.par_lines.specs.Ends.{stopped, wants}
 use Rattle.par_script.specs.Lines.{Aborts, Begins, CallsStore, ClientLines, Compacts, Did, Does, Ends, EndsThen, Fetches, Looks, LooksFor, Own, Posts, Reads, Says, Stats, StopsAtLast, StopsBy, Trims, Upgrades, Where, WhereShown, fetches as all_fetches, refused, refused_fetch}
 use Rattle.par_script.specs.Told.{entries_of, lines_run}
 use Rattle.par_text.specs.declared.part.Part.{Part}
-use Rattle.script_runner.specs.declared.machine.Stop.{Stop}
-use Rattle.script_runner.specs.declared.machine.Stop.TheVariants as stop
+use Rattle.script_model.specs.declared.stop.Stop.{Stop}
+use Rattle.script_model.specs.declared.stop.Stop.TheVariants as stop
 
 -- the entry tells of a fault, or that the device is down
 abbrev pub Blames : Entry → Type 0

@@ -1,15 +1,15 @@
 -- What `recover` and `bench` have done, from the world that a call begins with.
-use Rattle.std.proofs.Common.{◌≡◌, ◌≢◌, ◌⊎◌, inl, inr, ◌+◌, ◌++◌, ℕ, List, [], Option, Some, None, IfSome, append-nil, refl, sym, ◌∙◌, ap, subst, arith}
+use Rattle.std.proofs.Common.{◌≡◌, ◌≢◌, ◌⊎◌, inl, inr, ◌+◌, ◌++◌, ℕ, List, [], Option, Some, None, IfSome, IsSome, append-nil, refl, sym, ◌∙◌, ap, subst, arith}
 use Rattle.fault_count.specs.Count.{Rose}
-use Rattle.iso_disk.specs.Disk.{DiskState, LeavesOnly, StaysTold}
+use Rattle.iso_disk.specs.Disk.{DiskState, LeavesOnly}
 use Rattle.iso_disk.proofs.Moments.{since_bind, still_bound}
 use Rattle.iso_io.specs.Sink.{SinkState}
 use Rattle.iso_io.specs.Source.{SourceState}
 use Rattle.iso_model.specs.declared.access.Geometry.{Geometry}
-use Rattle.iso_model.specs.declared.script.Line.{Line}
-use Rattle.iso_model.specs.Bench.{bench_geometry, bench_output, bench_text, bench_world, recover_output}
+use Rattle.script_model.specs.declared.script.Line.{Line}
+use Rattle.script_model.specs.Bench.{bench_geometry, bench_output, bench_text, bench_world, recover_output}
 use Rattle.iso_model.specs.History.{History}
-use Rattle.iso_model.specs.Script.{Script, script}
+use Rattle.script_model.specs.Script.{Script, script}
 use Rattle.iso_model.specs.Worlds.{IsWorld}
 use Rattle.iso_model.specs.World.{World, empty_history, fresh}
 use Rattle.iso_core.specs.declared.core_itself.Core.{Core}
@@ -20,10 +20,10 @@ use Rattle.script_runner.specs.declared.run_end.RunEnd.TheVariants as end
 use Rattle.script_runner.specs.Run.{AreFirst, AreLinesOf, HasRun}
 use Rattle.script_runner.specs.Told.{ArePlain, IsPlain}
 use Rattle.script_runner.proofs.Steps.{all_first}
-use Rattle.script_runner.specs.Between.{ShowsBetween}
+use Rattle.iso_model.specs.Between.{ShowsBetween}
 use Rattle.iso_top.specs.Begun.{HasCore}
 use Rattle.iso_top.specs.Outcome.{HasBegun, HasBenched, HasRecovered, PrintedBench, PrintedDigest, PrintedResult}
-use Rattle.iso_top.specs.Starts.{IsUntouched, MayBeUnmade, OpensTo}
+use Rattle.iso_top.specs.Starts.{IsUntouched, MayBeUnmade, OpensTo, TellsNamed}
 use Rattle.iso_top.proofs.Answered.{has_begun}
 
 -- a core over a new image stands for the fresh world
@@ -38,19 +38,20 @@ made_world state g name disk core has = record {
   faults = has.faults;
   bound = has.bound;
   binds = has.binds;
+  once = has.once;
   untouched = has.untouched;
   moments = subst (λ (W : World). LeavesOnly (state has.bound) (state (disk_of core)) (λ c. MayBeUnmade (Some g) c ⊎ ShowsBetween W W c)) has.starts has.moments;
 }
 
 -- what is told of one disk is told of another that tells no more
-result_told : (status : ℕ) (old new : DiskState) → StaysTold old new → (defined : List ℕ) (a b : SinkState) → PrintedResult status new defined a b → PrintedResult status old defined a b
+result_told : (status : ℕ) (old new : Type 0) → (old → new) → (defined : List ℕ) (a b : SinkState) → PrintedResult status new defined a b → PrintedResult status old defined a b
 result_told status old new stays defined a b (text, told, put) = (text, (λ some. told (stays some)), put)
 
-digest_told : (status : ℕ) (old new : DiskState) → StaysTold old new → (H : History) (a b : SinkState) → PrintedDigest status new H a b → PrintedDigest status old H a b
+digest_told : (status : ℕ) (old new : Type 0) → (old → new) → (H : History) (a b : SinkState) → PrintedDigest status new H a b → PrintedDigest status old H a b
 digest_told status old new stays H a b (inl result) = inl (result_told status old new stays (recover_output H) a b result)
 digest_told status old new stays H a b (inr why) = inr why
 
-bench_told : (seed count status : ℕ) (e : RunEnd) (old new : DiskState) → StaysTold old new → (a b : SinkState) → PrintedBench seed count status e new a b → PrintedBench seed count status e old a b
+bench_told : (seed count status : ℕ) (e : RunEnd) (old new : Type 0) → (old → new) → (a b : SinkState) → PrintedBench seed count status e new a b → PrintedBench seed count status e old a b
 bench_told seed count status end.Done old new stays a b result = result_told status old new stays (bench_output seed count) a b result
 bench_told seed count status (end.BadLine bad) old new stays a b never = never
 bench_told seed count status end.Disk old new stays a b why = why
@@ -91,17 +92,18 @@ plain_first end.Memory S done next first plain = plain_some S.lines done next fi
 
 module _ {D : Type 0} (state : D → DiskState) (name : List ℕ) where
   pub recovered : (status : ℕ) (disk new : D) (core : Core D) (source : SourceState) (old put : SinkState) (has : HasCore state None name disk core)
-      → ((W : World) → StandsFor state core W up → W.base + 1 ≡ W.history.first → PrintedDigest status (state (disk_of core)) W.history old put)
-      → LeavesOnly (state has.bound) (state new) (IsUntouched None (state disk).contents) → (status ≡ 5 → Rose (state (disk_of core)).faults (state new).faults)
+      → ((W : World) → StandsFor state core W up → W.base + 1 ≡ W.history.first → PrintedDigest status (IsSome (state (disk_of core)).contents) W.history old put)
+      → LeavesOnly (state has.bound) (state new) (IsUntouched None ((state disk).named name)) → (status ≡ 5 → Rose (state (disk_of core)).faults (state new).faults)
       → (status ≢ 5 → (state new).faults ≡ (state (disk_of core)).faults)
       → HasRecovered name status (state disk) (state new) source source old put
   recovered status disk new core source old put has printed still failed passed = record {
     world = has.world;
     opens = has.starts;
     bound = still_bound name still ((state has.bound).clock, has.binds);
+    once = still.same_binds ∙ has.once;
     unwritten = since_bind name has.binds still;
-    printed = digest_told status (state disk) (state (disk_of core)) has.told has.world.history old put
-        (printed has.world has.stands (opens_at (state disk).contents has.world has.stands.kept_of.world has.starts));
+    printed = digest_told status (TellsNamed name (state disk)) (IsSome (state (disk_of core)).contents) has.told has.world.history old put
+        (printed has.world has.stands (opens_at ((state disk).named name) has.world has.stands.kept_of.world has.starts));
     failed = λ is. subst (λ (n : ℕ). Rose n (state new).faults) has.faults (failed is);
     passed = λ other. passed other ∙ has.faults;
     unread = refl;
@@ -110,7 +112,7 @@ module _ {D : Type 0} (state : D → DiskState) (name : List ℕ) where
   pub benched : (seed count status : ℕ) (disk new : D) (core : Core D) (source : SourceState) (old put : SinkState) (has : HasCore state (Some bench_geometry) name disk core)
       (e : RunEnd) (drawn rest : SourceState) (empty held : SinkState) → drawn.rest ≡ Some (bench_text count seed) → empty.written ≡ Some [] → ArePlain (script (bench_text count seed)).lines
       → HasRun (λ V. Unit {0}) (state (disk_of core)) (state new) drawn rest empty held bench_world e
-      → PrintedBench seed count status e (state (disk_of core)) old put → HasBenched state name seed count status disk new source source old put
+      → PrintedBench seed count status e (IsSome (state (disk_of core)).contents) old put → HasBenched state name seed count status disk new source source old put
   unfolding made_world
   benched seed count status disk new core source old put has e drawn rest empty held script_is nothing_held plain run printed = record {
     end = e;
@@ -125,6 +127,6 @@ module _ {D : Type 0} (state : D → DiskState) (name : List ℕ) where
     begun = subst (λ (V : World). HasBegun (Some bench_geometry) name (state disk) (state (disk_of core)) (state new) bench_world V)
         (run.answered.final_is.known (inr (plain_first e (script (bench_text count seed)) run.done run.next (lines_known e drawn.rest run.done run.next (bench_text count seed) script_is run.told) plain)))
         (has_begun state (Some bench_geometry) name disk new core (made_world state bench_geometry name disk core has) drawn rest empty held e run);
-    printed = bench_told seed count status e (state disk) (state (disk_of core)) has.told old put printed;
+    printed = bench_told seed count status e (TellsNamed name (state disk)) (IsSome (state (disk_of core)).contents) has.told old put printed;
     unread = refl;
   }

@@ -1,16 +1,17 @@
 -- What a run of clients beside each other on an image has done.
 use Rattle.std.specs.Prelude.{◌≡◌, ◌⊎◌, ℕ, List, [], ◌++◌, Option, Some, None}
 use Rattle.fault_count.specs.Count.{Rose}
-use Rattle.iso_core.specs.Standing.{ShowsLast, ShowsWith}
-use Rattle.iso_disk.specs.Disk.{DiskState, IsBoundTo, SinceBind, StaysTold}
+use Rattle.iso_core.specs.Standing.{ShowsWith}
+use Rattle.iso_model.specs.Between.{ShowsLast}
+use Rattle.iso_disk.specs.Disk.{DiskState, IsBoundTo, SinceBind}
 use Rattle.iso_io.specs.Sink.{SinkState}
 use Rattle.iso_io.specs.Source.{SourceState}
 use Rattle.iso_model.specs.declared.access.Commit.{Commit}
-use Rattle.iso_model.specs.declared.script.Line.{Line}
+use Rattle.script_model.specs.declared.script.Line.{Line}
 use Rattle.iso_model.specs.World.{World}
 use Rattle.iso_shared.specs.declared.entry.Entry.{Entry}
 use Rattle.iso_shared.specs.Ports.{IsIsolatedAt}
-use Rattle.iso_shared.specs.Standing.{start_at}
+use Rattle.iso_shared.specs.Standing.{ShowsSince, start_at}
 use Rattle.iso_shared.specs.States.{Start, State, state_at}
 use Rattle.par_lines.specs.Ends.{status_of}
 use Rattle.par_script.specs.Told.{Told}
@@ -19,16 +20,17 @@ use Rattle.par_text.specs.Output.{IsFront, IsOutput}
 use Rattle.whole_script.specs.declared.lines.ScriptError.{ScriptError}
 use Rattle.whole_script.specs.Read.{HasNoLines, HasRead}
 use Rattle.iso_top.specs.Prints.{Printed, WasCut, WroteWhole}
-use Rattle.iso_top.specs.Starts.{IsUntouched, OpensTo}
+use Rattle.iso_top.specs.Starts.{GoesOnTelling, IsUntouched, OpensTo, WasBoundOnce}
 use Rattle.iso_top.specs.Texts.{disk_fault_text, memory_text, script_error_text}
 
 -- The image was opened, and no line of the script was run, for this reason: it has a bad line, its source failed, or memory was
 -- wanting. Nothing was written to the image, and the line that tells the reason was put.
 pub record HasRunNone (name : List ℕ) (e : ScriptError) (disk_old disk_new : DiskState) (input_old input_new : SourceState) (output_old output_new : SinkState) : Type 0 where
   pub world : World
-  pub opens : OpensTo disk_old.contents world
+  pub opens : OpensTo (disk_old.named name) world
   pub bound : IsBoundTo name disk_new
-  pub unwritten : SinceBind disk_new (IsUntouched None disk_old.contents)
+  pub once : WasBoundOnce disk_old disk_new
+  pub unwritten : SinceBind disk_new (IsUntouched None (disk_old.named name))
   pub why : HasNoLines input_old input_new e
   pub printed : Printed output_old output_new (script_error_text e)
   pub passed : disk_new.faults ≡ disk_old.faults
@@ -63,9 +65,9 @@ WereRun A lines entries status old new =
 pub record HasRunClients {D : Type 0} (state : D → DiskState) (name : List ℕ) (status : ℕ) (disk_old disk_new : D) (input_old input_new : SourceState)
     (output_old output_new : SinkState) : Type 0 where
   pub world : World
-  pub opens : OpensTo (state disk_old).contents world
+  pub opens : OpensTo ((state disk_old).named name) world
   pub start : D
-  pub tells : StaysTold (state disk_old) (state start)
+  pub tells : GoesOnTelling name (state disk_old) (state start)
   pub faults : (state start).faults ≡ (state disk_old).faults
   -- the input was read to its end: its lines, none of which is bad
   pub lines : List (ℕ × Line)
@@ -74,9 +76,13 @@ pub record HasRunClients {D : Type 0} (state : D → DiskState) (name : List ℕ
   pub ran : WereRun (start_at world (state start)) lines entries status output_old output_new
   -- the order theorem: each commit of the list's history is serial or snapshot at its number, by its mode
   pub isolated : IsIsolatedAt (start_at world (state start)) entries
-  -- the crash theorem, once the threads have returned
+  -- the crash theorem: each image that a crash leaves once the threads have returned shows the history that the list leads to; and
+  -- each that a crash might have left since the bind, also while the threads ran, shows it at a commit from the last one of the
+  -- image as given on
   pub exit : (image : List ℕ) → (state disk_new).now image → ShowsState (state_at (start_at world (state start)) entries) image
+  pub since : SinceBind (state disk_new) (ShowsSince (start_at world (state start)) entries)
   pub bound : IsBoundTo name (state disk_new)
-  -- without an entry nothing was written: a crash now leaves the image as given
-  pub unwritten : entries ≡ [] → (image : List ℕ) → (state disk_new).now image → IsUntouched None (state disk_old).contents image
+  pub once : WasBoundOnce (state disk_old) (state disk_new)
+  -- without an entry nothing was written: a crash since the bind left the image as given
+  pub unwritten : entries ≡ [] → SinceBind (state disk_new) (IsUntouched None ((state disk_old).named name))
   pub failed : status ≡ 5 → Rose (state disk_old).faults (state disk_new).faults

@@ -7,3 +7,4 @@ pub mod Outcome
 pub mod Begun
 pub mod Founded
 pub mod Ran
+pub mod Plain

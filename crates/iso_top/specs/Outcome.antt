@@ -5,13 +5,13 @@ use Rattle.command_line.specs.declared.task.Task.{Task}
 use Rattle.command_line.specs.declared.task.Task.TheVariants.{New, Run, Par, Recover, Bench}
 use Rattle.command_line.specs.Requests.{made_geometry}
 use Rattle.fault_count.specs.Count.{Rose}
-use Rattle.iso_disk.specs.Disk.{DiskState, IsBoundTo, SinceBind, StaysTold}
+use Rattle.iso_disk.specs.Disk.{DiskState, IsBoundTo, SinceBind}
 use Rattle.iso_io.specs.Source.{SourceState}
 use Rattle.iso_io.specs.Sink.{SinkState}
 use Rattle.iso_model.specs.declared.access.Geometry.{Geometry}
-use Rattle.iso_model.specs.Bench.{bench_geometry, bench_output, bench_text, bench_world, recover_output}
+use Rattle.script_model.specs.Bench.{bench_geometry, bench_output, bench_text, bench_world, recover_output}
 use Rattle.iso_model.specs.History.{History}
-use Rattle.iso_model.specs.Script.{after, script}
+use Rattle.script_model.specs.Script.{after, script}
 use Rattle.iso_model.specs.World.{World}
 use Rattle.iso_model.specs.Worlds.{IsWorld}
 use Rattle.iso_recover.specs.Cause.{IsBlamed, IsTest}
@@ -19,13 +19,13 @@ use Rattle.iso_refusal.specs.declared.open_error.OpenError.{OpenError}
 use Rattle.iso_refusal.specs.Refusal.{refusal}
 use Rattle.script_runner.specs.declared.run_end.RunEnd.{RunEnd}
 use Rattle.script_runner.specs.declared.run_end.RunEnd.TheVariants as end
-use Rattle.script_runner.specs.Between.{ShowsBetween}
+use Rattle.iso_model.specs.Between.{ShowsBetween}
 use Rattle.script_runner.specs.Run.{HasRun}
-use Rattle.script_runner.specs.Told.{IfTold}
+use Rattle.store_scripts.specs.InOrder.{StoresAnswer}
 use Rattle.whole_script.specs.declared.lines.ScriptError.{ScriptError}
 use Rattle.iso_top.specs.Clients.{HasRunClients, HasRunNone}
 use Rattle.iso_top.specs.Prints.{Printed, WasCut, WroteWhole}
-use Rattle.iso_top.specs.Starts.{IsUnbegun, IsUntouched, MayBeUnmade, OpensTo, StartsFrom}
+use Rattle.iso_top.specs.Starts.{GoesOnTelling, IsUnbegun, IsUntouched, MayBeUnmade, OpensTo, StartsFrom, TellsNamed, WasBoundOnce}
 use Rattle.iso_top.specs.Texts.{disk_fault_text, end_status, end_text, error_status, error_text, memory_text, script_error_status, usage_text}
 
 -- one of the statuses of the program
@@ -36,19 +36,21 @@ IsStatus status = (status ≡ 0) ⊎ (status ≡ 2) ⊎ (status ≡ 3) ⊎ (stat
 -- script was not read, and the line that tells the reason was put.
 pub record HasNotBegun (made : Option Geometry) (name : List ℕ) (e : OpenError) (disk_old disk_new : DiskState) (input_old input_new : SourceState)
     (output_old output_new : SinkState) : Type 0 where
-  pub unbegun : IsUnbegun made disk_old.contents name e disk_new
-  pub refused : IsTest e → (made ≡ None) × ForSome disk_old.contents (λ c. refusal c ≡ Some e)
+  pub unbegun : IsUnbegun made (disk_old.named name) name e disk_new
+  pub once : WasBoundOnce disk_old disk_new
+  pub refused : IsTest e → (made ≡ None) × ForSome (disk_old.named name) (λ c. refusal c ≡ Some e)
   pub cause : IsBlamed disk_old.faults disk_new.faults e
   pub unread : input_new ≡ input_old
   pub printed : Printed output_old output_new (error_text e)
 
 -- A run was begun from the world W: since the bind the disk is what it was when the run began, or was left by the run.
 pub record HasBegun (made : Option Geometry) (name : List ℕ) (disk_old start disk_new : DiskState) (W V : World) : Type 0 where
-  pub starts : StartsFrom made disk_old.contents W
+  pub starts : StartsFrom made (disk_old.named name) W
   pub sound : IsWorld W
-  pub told : StaysTold disk_old start
+  pub told : GoesOnTelling name disk_old start
   pub faults : start.faults ≡ disk_old.faults
   pub bound : IsBoundTo name disk_new
+  pub once : WasBoundOnce disk_old disk_new
   -- each image that a crash might have left since the bind shows the history at a commit from the first world's last one on
   pub since : SinceBind disk_new (λ c. MayBeUnmade made c ⊎ ShowsBetween W V c)
 
@@ -68,37 +70,40 @@ pub record HasAnswered {D : Type 0} (state : D → DiskState) (made : Option Geo
   pub replied : SinkState
   pub run : HasRun (λ V. Unit {0}) (state start) (state disk_new) input_old input_new output_old replied world end
   pub begun : HasBegun made name (state disk_old) (state start) (state disk_new) world run.answered.final
+  -- the store theorem of all lines
+  pub stores : StoresAnswer world (run.done ++ run.next)
   pub last : PrintedEnd end replied output_new
 
--- A result was put whole, or, only where the sink failed, a front of it: it is this text, where the disk told its bytes.
-abbrev pub PrintedResult : (status : ℕ) → (disk : DiskState) → (defined : List ℕ) → SinkState → SinkState → Type 0
-PrintedResult status disk defined old new =
-    (text : List ℕ) × IfTold disk (text ≡ defined) × (((status ≡ 0) × WroteWhole old new text) ⊎ ((status ≡ 7) × WasCut old new text))
+-- A result was put whole, or, only where the sink failed, a front of it: it is this text, where the disk told what the name names.
+abbrev pub PrintedResult : (status : ℕ) → (tells : Type 0) → (defined : List ℕ) → SinkState → SinkState → Type 0
+PrintedResult status tells defined old new =
+    (text : List ℕ) × (tells → text ≡ defined) × (((status ≡ 0) × WroteWhole old new text) ⊎ ((status ≡ 7) × WasCut old new text))
 
 -- what `recover` has put, by its status
-abbrev pub PrintedDigest : (status : ℕ) → (disk : DiskState) → History → SinkState → SinkState → Type 0
-PrintedDigest status disk H old new =
-    PrintedResult status disk (recover_output H) old new ⊎ ((status ≡ 5) × Printed old new disk_fault_text) ⊎ ((status ≡ 8) × Printed old new memory_text)
+abbrev pub PrintedDigest : (status : ℕ) → (tells : Type 0) → History → SinkState → SinkState → Type 0
+PrintedDigest status tells H old new =
+    PrintedResult status tells (recover_output H) old new ⊎ ((status ≡ 5) × Printed old new disk_fault_text) ⊎ ((status ≡ 8) × Printed old new memory_text)
 
 -- The image was opened, and its last commit told. Nothing was written to it, and the input was not read.
 pub record HasRecovered (name : List ℕ) (status : ℕ) (disk_old disk_new : DiskState) (input_old input_new : SourceState) (output_old output_new : SinkState) : Type 0 where
   pub world : World
-  pub opens : OpensTo disk_old.contents world
+  pub opens : OpensTo (disk_old.named name) world
   pub bound : IsBoundTo name disk_new
-  pub unwritten : SinceBind disk_new (IsUntouched None disk_old.contents)
-  pub printed : PrintedDigest status disk_old world.history output_old output_new
+  pub once : WasBoundOnce disk_old disk_new
+  pub unwritten : SinceBind disk_new (IsUntouched None (disk_old.named name))
+  pub printed : PrintedDigest status (TellsNamed name disk_old) world.history output_old output_new
   pub failed : status ≡ 5 → Rose disk_old.faults disk_new.faults
   pub passed : status ≢ 5 → disk_new.faults ≡ disk_old.faults
   pub unread : input_new ≡ input_old
 
 -- What `bench` has put, by how the run over the script that it drew ended. The replies to it are held in memory.
-abbrev pub PrintedBench : (seed count status : ℕ) → RunEnd → (disk : DiskState) → SinkState → SinkState → Type 0
-PrintedBench seed count status end.Done disk old new = PrintedResult status disk (bench_output seed count) old new
-PrintedBench seed count status (end.BadLine bad) disk old new = ⊥
-PrintedBench seed count status end.Disk disk old new = (status ≡ 5) × Printed old new disk_fault_text
-PrintedBench seed count status end.Input disk old new = ⊥
-PrintedBench seed count status end.Output disk old new = (status ≡ 8) × Printed old new memory_text
-PrintedBench seed count status end.Memory disk old new = (status ≡ 8) × Printed old new memory_text
+abbrev pub PrintedBench : (seed count status : ℕ) → RunEnd → (tells : Type 0) → SinkState → SinkState → Type 0
+PrintedBench seed count status end.Done tells old new = PrintedResult status tells (bench_output seed count) old new
+PrintedBench seed count status (end.BadLine bad) tells old new = ⊥
+PrintedBench seed count status end.Disk tells old new = (status ≡ 5) × Printed old new disk_fault_text
+PrintedBench seed count status end.Input tells old new = ⊥
+PrintedBench seed count status end.Output tells old new = (status ≡ 8) × Printed old new memory_text
+PrintedBench seed count status end.Memory tells old new = (status ≡ 8) × Printed old new memory_text
 
 -- A script was drawn and answered on a new image: `run` has the order theorem and the crash theorem of it, with the replies that
 -- were held in place of those put.
@@ -114,7 +119,7 @@ pub record HasBenched {D : Type 0} (state : D → DiskState) (name : List ℕ) (
   pub nothing_held : empty.written ≡ Some []
   pub run : HasRun (λ V. Unit {0}) (state start) (state disk_new) drawn rest empty held bench_world end
   pub begun : HasBegun (Some bench_geometry) name (state disk_old) (state start) (state disk_new) bench_world (after bench_world (run.done ++ run.next))
-  pub printed : PrintedBench seed count status end (state disk_old) output_old output_new
+  pub printed : PrintedBench seed count status end (TellsNamed name (state disk_old)) output_old output_new
   pub unread : input_new ≡ input_old
 
 -- a call on an image has ended so, by its task

@@ -4,9 +4,10 @@ use Rattle.iso_core.specs.declared.core_itself.Core.{Core}
 use Rattle.iso_core.specs.Core.{disk_of}
 use Rattle.iso_disk.specs.Disk.{DiskState}
 use Rattle.iso_io.specs.Sink.{SinkState}
-use Rattle.iso_model.specs.declared.script.Line.{Line}
+use Rattle.script_model.specs.declared.script.Line.{Line}
 use Rattle.iso_model.specs.World.{World}
 use Rattle.iso_shared.specs.declared.entry.Entry.{Entry}
+use Rattle.iso_shared.specs.Legal.{IsLegal}
 use Rattle.iso_shared.specs.Ports.{IsIsolatedAt}
 use Rattle.iso_shared.specs.Standing.{Came, Holds, start_at}
 use Rattle.iso_shared.specs.States.{Start, state_at}
@@ -18,14 +19,15 @@ use Rattle.iso_top.specs.Prints.{Printed, WasCut, WroteWhole}
 use Rattle.iso_top.specs.Texts.{disk_fault_text, memory_text}
 
 -- The run has ended so, by this list of entries, which the core stood for at the end.
-pub record HasClosed {D : Type 0} (state : D → DiskState) (A : Start) (lines : List (ℕ × Line)) (end : ParEnd) (image : D) : Type 0 where
+pub record HasClosed {D : Type 0} (state : D → DiskState) (A : Start) (first : DiskState) (lines : List (ℕ × Line)) (end : ParEnd) (image : D) : Type 0 where
   pub entries : List Entry
   pub ended : HasEnded A lines end entries
+  pub legal : IsLegal A entries
   pub isolated : IsIsolatedAt A entries
   pub core : Core D
   pub holds : Holds state core (state_at A entries)
   pub image_is : image ≡ disk_of core
-  pub came : Came A (state image) entries
+  pub came : Came A first (state image) entries
 
 -- what was put of a run that ended with this status and this text
 pub record PutOf (ended : ℕ) (text : List ℕ) (status : ℕ) (old new : SinkState) : Type 0 where
@@ -36,5 +38,5 @@ pub record PutOf (ended : ℕ) (text : List ℕ) (status : ℕ) (old new : SinkS
 -- A run from a world that the core stands for was put; or memory was wanting for the device, and the disk is as it was.
 abbrev pub HasRunLines : {D : Type 0} → (state : D → DiskState) → Opened D → List (ℕ × Line) → (status : ℕ) → (image : D) → SinkState → SinkState → Type 0
 HasRunLines {D} state opened lines status image old new =
-    ((W : World) × (end : ParEnd) × BeginsWith state opened W × HasClosed state (start_at W (state (disk_of opened.core))) lines end image × PutOf end.status end.text status old new)
+    ((W : World) × (end : ParEnd) × BeginsWith state opened W × HasClosed state (start_at W (state (disk_of opened.core))) (state (disk_of opened.core)) lines end image × PutOf end.status end.text status old new)
     ⊎ ((status ≡ 8) × (image ≡ disk_of opened.core) × Printed old new memory_text)

@@ -1,6 +1,7 @@
 -- What a call begins with.
-use Rattle.std.specs.Prelude.{◌≡◌, ◌⊎◌, ℕ, List, Option, Some, None}
+use Rattle.std.specs.Prelude.{◌≡◌, ◌⊎◌, ℕ, List, Option, Some, None, IsSome}
 use Rattle.std.specs.Option.{ForSome}
+use Rattle.fault_count.specs.Count.{one_more}
 use Rattle.iso_disk.specs.Disk.{DiskState, IsBoundTo, SinceBind}
 use Rattle.iso_model.specs.declared.access.Geometry.{Geometry}
 use Rattle.iso_model.specs.History.{History}
@@ -9,6 +10,18 @@ use Rattle.iso_recover.specs.Made.{IsUnmade, IsUnmadeOrEmpty}
 use Rattle.iso_recover.specs.Opened.{TellsImage}
 use Rattle.iso_refusal.specs.declared.open_error.OpenError.{OpenError}
 use Rattle.iso_refusal.specs.declared.open_error.OpenError.TheVariants as error
+
+-- The disk tells what the name names, before it is bound.
+abbrev pub TellsNamed : List ℕ → DiskState → Type 0
+TellsNamed name disk = IsSome (disk.named name)
+
+-- what it told there, it tells of its bytes later
+abbrev pub GoesOnTelling : List ℕ → (old new : DiskState) → Type 0
+GoesOnTelling name old new = TellsNamed name old → IsSome new.contents
+
+-- Of all names that are bound from one state to the other, there is one: no other image was made, wiped or opened.
+abbrev pub WasBoundOnce : (old new : DiskState) → Type 0
+WasBoundOnce old new = new.binds ≡ one_more old.binds
 
 -- The world that the image as given opens to, where the disk told it.
 pub record OpensTo (contents : Option (List ℕ)) (W : World) : Type 0 where

@@ -1,12 +1,12 @@
 // A script that is drawn, answered on a new image.
-ghost use Rattle.std.specs.Prelude.{◌≡◌, ◌⊎◌, ◌≤◌, [], ℕ, List, Some};
+ghost use Rattle.std.specs.Prelude.{◌≡◌, ◌⊎◌, ◌≤◌, [], ℕ, List, IsSome, Some};
 ghost use Rattle.iso_core.specs.Core.{StandsFor, disk_of};
 ghost use Rattle.iso_core.specs.Standing.{up};
 ghost use Rattle.iso_io.specs.Sink.{SinkState};
 ghost use Rattle.iso_io.specs.Source.{SourceState};
-ghost use Rattle.iso_model.specs.declared.script.Line.{Line};
-ghost use Rattle.iso_model.specs.Bench.{bench_summary, bench_text, bench_world};
-ghost use Rattle.iso_model.specs.Script.{replies, script};
+ghost use Rattle.script_model.specs.declared.script.Line.{Line};
+ghost use Rattle.script_model.specs.Bench.{bench_summary, bench_text, bench_world};
+ghost use Rattle.script_model.specs.Script.{replies, script};
 ghost use Rattle.script_runner.specs.Run.{HasRun};
 ghost use Rattle.script_runner.specs.Told.{ArePlain};
 ghost use Rattle.iso_top.specs.Outcome.{PrintedBench};
@@ -65,7 +65,7 @@ pub(crate) fn answer_drawn<I: Image, K: Sink>(
     ensures plain { ArePlain (script (bench_text count seed)).lines }
     ensures ran { (end : RunEnd) × (drawn : SourceState) × (rest : SourceState) × (empty : SinkState) × (held : SinkState) × (drawn.rest ≡ Some (bench_text count seed)) × (empty.written ≡ Some [])
         × HasRun (λ V. Unit {0}) (I.state (disk_of core)) (I.state result.image) drawn rest empty held bench_world end
-        × PrintedBench seed count result.status end (I.state (disk_of core)) (K.state output.old) (K.state output.new) }
+        × PrintedBench seed count result.status end (IsSome (I.state (disk_of core)).contents) (K.state output.old) (K.state output.new) }
 {
     drawn_scripts_are_good();
     let mut input = DrawnScript::new(seed, count);

@@ -21,10 +21,10 @@ use crate::result_line::put_result;
 use iso_core::Core;
 use iso_disk::Image;
 use iso_io::{Sink, Source};
-use iso_model::Line;
 use iso_shared::{Origin, Shared};
 use par_lines::{ParEnd, par_lines};
 use par_runner::Gate;
+use script_model::Line;
 use std::alloc::Global;
 use std::marker::Brand;
 use std::snapshot::Snapshot;
@@ -43,9 +43,9 @@ fn run_over<I: Image + Drop + Send, O: Origin + Send + Sync, G: Gate, R: Threads
 ) -> Result<(ParEnd, I), I>
     requires begins { O.start ≡ start_at beginning.world (I.state (disk_of core)) }
     requires start { Holds I.state core (opened_at O.start) × (O.start.world.live ≡ []) }
-    requires came { Came O.start (I.state (disk_of core)) [] }
+    requires came { Came O.start O.disk (I.state (disk_of core)) [] }
     requires valid { IsTrue (is_valid O.start.world.geometry) }
-    ensures ended { IfOk result (λ r. HasClosed I.state O.start lines.items r.0 r.1) }
+    ensures ended { IfOk result (λ r. HasClosed I.state O.start O.disk lines.items r.0 r.1) }
     ensures unrun { IfErr result (λ image. image ≡ disk_of core) }
 {
     let _ = beginning;

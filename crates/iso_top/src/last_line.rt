@@ -6,9 +6,9 @@ ghost use Rattle.iso_top.specs.Texts.{bad_line_text, error_text, script_error_te
 
 use arrayvec::ArrayVec;
 use iso_io::{Sink, put_all};
-use iso_model::BadLine;
 use iso_refusal::OpenError;
 use itoa::Buffer;
+use script_model::BadLine;
 use whole_script::ScriptError;
 
 /// How many bytes a last line may have.

@@ -7,6 +7,7 @@ mod clients;
 mod ended;
 mod engine;
 mod last_line;
+pub mod laws;
 mod opened;
 mod recover;
 mod result_line;

@@ -1,5 +1,5 @@
 // What an image holds.
-ghost use Rattle.std.specs.Prelude.{◌≡◌, ◌≢◌, ◌⊎◌, ◌+◌, ◌≤◌, [], IfOk, IsErrOf};
+ghost use Rattle.std.specs.Prelude.{◌≡◌, ◌≢◌, ◌⊎◌, ◌+◌, ◌≤◌, [], IfOk, IsErrOf, IsSome};
 ghost use Rattle.fault_count.specs.Count.{Rose};
 ghost use Rattle.iso_core.specs.Core.{StandsFor, disk_of};
 ghost use Rattle.iso_core.specs.Standing.{up};
@@ -48,7 +48,7 @@ fn put_digest<K: Sink>(
 pub(crate) fn tell_last<I: Image, K: Sink>(alloc: Global, core: Core<I>, output: &mut K) -> Ended<I>
     requires { (W : World) × StandsFor I.state core W up × (W.live ≡ []) × (W.next ≤ LAST) }
     ensures printed { (W : World) → StandsFor I.state core W up → W.base + 1 ≡ W.history.first
-        → PrintedDigest result.status (I.state (disk_of core)) W.history (K.state output.old) (K.state output.new) }
+        → PrintedDigest result.status (IsSome (I.state (disk_of core)).contents) W.history (K.state output.old) (K.state output.new) }
     ensures unwritten { WritesNothing (I.state (disk_of core)) (I.state result.image) }
     ensures failed { result.status ≡ 5 → Rose (I.state (disk_of core)).faults (I.state result.image).faults }
     ensures passed { result.status ≢ 5 → (I.state result.image).faults ≡ (I.state (disk_of core)).faults }

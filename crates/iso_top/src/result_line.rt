@@ -1,7 +1,7 @@
 // The line of a result, made in a fixed buffer.
 ghost use Rattle.std.specs.Prelude.{◌≡◌, ◌⊎◌, ◌+◌, ◌≤◌, [], ◌∷◌, ◌++◌, codes, decimal, length};
 ghost use Rattle.arrayvec.specs.ArrayVec.{array_vec_len};
-ghost use Rattle.iso_model.specs.Text.{hex_text};
+ghost use Rattle.script_model.specs.Text.{hex_text};
 ghost use Rattle.iso_top.specs.Prints.{WasCut, WroteWhole};
 ghost use Rattle.iso_top.specs.Texts.{bench_text_of, recover_text};
 

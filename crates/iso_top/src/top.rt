@@ -86,7 +86,7 @@ pub fn alone<I: Image + Drop, S: Source, K: Sink>(
         → HasRefusedWords result.status image result.image (S.state input.old) (S.state input.new) (K.state output.old) (K.state output.new) }
 
     // Completeness: with nothing to blame all was done, but for want of memory.
-    ensures complete { IfSome (request_of (texts words.now)) (λ r. IsAccepted (made_geometry r.1) (I.state image).contents → IsGoodInput r.1 (S.state input.old).rest
+    ensures complete { IfSome (request_of (texts words.now)) (λ r. IsAccepted (made_geometry r.1) ((I.state image).named r.0) → IsGoodInput r.1 (S.state input.old).rest
         → ¬ Rose (I.state image).faults (I.state result.image).faults → ¬ Rose (S.state input.old).faults (S.state input.new).faults → ¬ SinkFailed (K.state output.old) (K.state output.new)
         → (result.status ≡ 0) ⊎ (result.status ≡ 8)) }
 
@@ -123,7 +123,7 @@ pub fn isotope<I: Image + Send + Drop, S: Source, K: Sink, G: Gate, R: Threads +
         → HasRefusedWords result.status image result.image (S.state input.old) (S.state input.new) (K.state output.old) (K.state output.new) }
 
     // Completeness: with nothing to blame all was done, but for want of memory.
-    ensures complete { IfSome (request_of (texts words.now)) (λ r. IsAccepted (made_geometry r.1) (I.state image).contents → IsGoodInput r.1 (S.state input.old).rest
+    ensures complete { IfSome (request_of (texts words.now)) (λ r. IsAccepted (made_geometry r.1) ((I.state image).named r.0) → IsGoodInput r.1 (S.state input.old).rest
         → ¬ Rose (I.state image).faults (I.state result.image).faults → ¬ Rose (S.state input.old).faults (S.state input.new).faults → ¬ SinkFailed (K.state output.old) (K.state output.new)
         → (result.status ≡ 0) ⊎ (result.status ≡ 8)) }
 

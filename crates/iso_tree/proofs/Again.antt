@@ -2,17 +2,17 @@
 use Rattle.std.proofs.Common.{◌≡◌, ◌∙◌, sym, refl, ap, ℕ, zero, suc, ◌+◌, ◌<◌, ◌≤◌, true, List, [], ◌∷◌, map, take, length, Option, None, arith, inl, inr}
 use Rattle.std.specs.List.{AllByRecursion, flat_map}
 use Rattle.std.proofs.lemmas.List.{append-nil}
-use Rattle.iso_model.specs.declared.stores.Area.{Area}
+use Rattle.store_model.specs.declared.stores.Area.{Area}
 use Rattle.iso_model.specs.Array.{Array}
 use Rattle.iso_model.specs.Effect.{own}
-use Rattle.iso_model.specs.HashRegion.{IsIn}
+use Rattle.store_model.specs.HashRegion.{IsIn}
 use Rattle.iso_model.specs.Premises.{block_at}
-use Rattle.iso_model.specs.Stores.{Program, accesses_of, answer_of}
-use Rattle.iso_model.specs.Cells.{cell_count}
-use Rattle.iso_model.specs.TreeNodes.{Cell, child_of, child_part, is_child}
-use Rattle.iso_model.specs.Trees.{tree_at, nodes_in, IsOrdered}
-use Rattle.iso_model.specs.TreeCalls.{climb, climb_on, full_row, look_again}
-use Rattle.iso_model.specs.TreeRegion.{cells_in, AreNodes}
+use Rattle.store_model.specs.Stores.{Program, accesses_of, answer_of}
+use Rattle.store_model.specs.Cells.{cell_count}
+use Rattle.store_model.specs.TreeNodes.{Cell, child_of, child_part, is_child}
+use Rattle.store_model.specs.Trees.{tree_at, nodes_in, IsOrdered}
+use Rattle.store_model.specs.TreeCalls.{climb, climb_on, full_row, look_again}
+use Rattle.store_model.specs.TreeRegion.{cells_in, AreNodes}
 use Rattle.iso_tree.proofs.Blocks.{in_cases}
 use Rattle.iso_tree.proofs.Climbs.{child_ordered}
 use Rattle.iso_tree.proofs.Facts.{child_below}

@@ -3,14 +3,14 @@ use Rattle.std.proofs.Common.{◌≡◌, ◌∙◌, sym, refl, ap, subst, ℕ, z
 use Rattle.std.specs.List.{flat_map, list_all}
 use Rattle.std.proofs.lemmas.Bool.{cases_eq}
 use Rattle.std.proofs.lemmas.List.{append_assoc, take_at, drop_at, length-append, length-replicate, ext_get_or, drop-drop, drop-replicate}
-use Rattle.iso_model.specs.declared.stores.Area.{Area}
+use Rattle.store_model.specs.declared.stores.Area.{Area}
 use Rattle.iso_model.specs.Array.{Array, merged, put}
 use Rattle.iso_model.specs.Premises.{block_at}
-use Rattle.iso_model.specs.Stores.{bytes_in, store_access}
-use Rattle.iso_model.specs.Cells.{cell_count, keys_end, keys_mark, value_mark, part_of, text_of, key_at, key_part, is_zero}
-use Rattle.iso_model.specs.TreeNodes.{FitCells, count_of, Cell, node_bytes, cells_by, used_cells}
+use Rattle.store_model.specs.Stores.{bytes_in, store_access}
+use Rattle.store_model.specs.Cells.{cell_count, keys_end, keys_mark, value_mark, part_of, text_of, key_at, key_part, is_zero}
+use Rattle.store_model.specs.TreeNodes.{FitCells, count_of, Cell, node_bytes, cells_by, used_cells}
 use Rattle.iso_tree.proofs.Shapes.{write_cells}
-use Rattle.iso_model.specs.TreeRegion.{cells_in}
+use Rattle.store_model.specs.TreeRegion.{cells_in}
 use Rattle.iso_model.proofs.Bytes.{length-merged, merged_at, written_block, other_block}
 use Rattle.iso_tree.proofs.Splits.{write_here, write_other}
 

@@ -3,20 +3,20 @@ use Rattle.std.proofs.Common.{◌≡◌, ◌∙◌, sym, refl, ap, subst, ℕ, z
 use Rattle.std.proofs.lemmas.Bool.Decides.{nat_tests}
 use Rattle.std.proofs.lemmas.List.{take_at, drop_at}
 use Rattle.iso_model.specs.declared.access.Access.{Access}
-use Rattle.iso_model.specs.declared.stores.Area.{Area}
-use Rattle.iso_model.specs.declared.stores.StoreError.{StoreError}
-use Rattle.iso_model.specs.declared.stores.TxError.{TxError}
-use Rattle.iso_model.specs.Cells.{cell_count, keys_end, value_mark}
-use Rattle.iso_model.specs.Stores.{Program, Store, bytes_in, store_access}
+use Rattle.store_model.specs.declared.stores.Area.{Area}
+use Rattle.store_model.specs.declared.stores.StoreError.{StoreError}
+use Rattle.store_model.specs.declared.stores.TxError.{TxError}
+use Rattle.store_model.specs.Cells.{cell_count, keys_end, value_mark}
+use Rattle.store_model.specs.Stores.{Program, Store, bytes_in, store_access}
 use Rattle.tx_blocks.specs.Tx.{Tx, Device, with_accesses, room_of}
 use Rattle.tx_blocks.specs.Runs.{HasRun, IsCut, IsCause}
 use Rattle.tx_blocks.proofs.Progress.{IsAt, at_start, at_store}
 use Rattle.tx_blocks.proofs.Refusals.{cut_at_store}
 use Rattle.tx_blocks.proofs.Parts.{run_from}
-use Rattle.iso_model.specs.TreeNodes.{Cell, child_part, count_of, used_cells}
+use Rattle.store_model.specs.TreeNodes.{Cell, child_part, count_of, used_cells}
 use Rattle.iso_tree.specs.Rows.{key_in_row, row_from, nodes_from, IsUsable, AreUsable, AreInside, AreBlocks}
-use Rattle.iso_model.specs.Trees.{Put, first_key, emptied, half, halves, fit}
-use Rattle.iso_model.specs.TreeCalls.{Answer, Climb, climb, climb_on, full_row, need_of, placed}
+use Rattle.store_model.specs.Trees.{Put, first_key, emptied, half, halves, fit}
+use Rattle.store_model.specs.TreeCalls.{Answer, Climb, climb, climb_on, full_row, need_of, placed}
 use Rattle.iso_tree.proofs.Enough.{fits_one}
 use Rattle.iso_tree.proofs.Filling.{row_split, length-row}
 use Rattle.iso_tree.proofs.Fits.{length-cells}

@@ -5,21 +5,21 @@ use Rattle.std.specs.Str.{bytes_eq}
 use Rattle.std.specs.FinMap.{get, remove}
 use Rattle.std.proofs.lemmas.Bool.{cases_Bool, cases_eq}
 use Rattle.iso_model.specs.declared.access.Access.{Access}
-use Rattle.iso_model.specs.declared.stores.Area.{Area}
-use Rattle.iso_model.specs.declared.stores.StoreError.{StoreError}
-use Rattle.iso_model.specs.declared.stores.StoreError.TheVariants.{BadKey, Broken}
+use Rattle.store_model.specs.declared.stores.Area.{Area}
+use Rattle.store_model.specs.declared.stores.StoreError.{StoreError}
+use Rattle.store_model.specs.declared.stores.StoreError.TheVariants.{BadKey, Broken}
 use Rattle.iso_model.specs.Array.{Array, put}
 use Rattle.iso_model.specs.Effect.{own}
-use Rattle.iso_model.specs.HashCalls.{at_cell, is_key}
-use Rattle.iso_model.specs.HashRegion.{del_op}
+use Rattle.store_model.specs.HashCalls.{at_cell, is_key}
+use Rattle.store_model.specs.HashRegion.{del_op}
 use Rattle.iso_model.specs.Premises.{block_at}
-use Rattle.iso_model.specs.Stores.{Program, Done, bytes_in, then_do, accesses_of, answer_of, store_access, IsLocal}
-use Rattle.iso_model.specs.Cells.{cell_count, keys_mark, value_mark, is_part, text_of}
+use Rattle.store_model.specs.Stores.{Program, Done, bytes_in, then_do, accesses_of, answer_of, store_access, IsLocal}
+use Rattle.store_model.specs.Cells.{cell_count, keys_mark, value_mark, is_part, text_of}
 use Rattle.tx_blocks.proofs.Programs.{AreWhole, accesses_then, own_reads, whole_reads, IsCorrect, local_from}
-use Rattle.iso_model.specs.TreeNodes.{IsBlock, FitCells, Cell, cell_of, count_of, node_bytes, is_head, head_mark}
-use Rattle.iso_model.specs.Trees.{Rise, in_range, tree_at, IsOrdered}
-use Rattle.iso_model.specs.TreeCalls.{Descent, AtLeaf, AtBroken, descend, with_head, without_key, edit_leaf, del_at, del_below, del_program}
-use Rattle.iso_model.specs.TreeRegion.{cells_in, root_of, level_of, IsTreeArea, IsTreeRegion, tree_pairs, tree_map}
+use Rattle.store_model.specs.TreeNodes.{IsBlock, FitCells, Cell, cell_of, count_of, node_bytes, is_head, head_mark}
+use Rattle.store_model.specs.Trees.{Rise, in_range, tree_at, IsOrdered}
+use Rattle.store_model.specs.TreeCalls.{Descent, AtLeaf, AtBroken, descend, with_head, without_key, edit_leaf, del_at, del_below, del_program}
+use Rattle.store_model.specs.TreeRegion.{cells_in, root_of, level_of, IsTreeArea, IsTreeRegion, tree_pairs, tree_map}
 use Rattle.iso_tree.proofs.Building.{filter_all}
 use Rattle.iso_tree.proofs.Bytes.{length-node_bytes}
 use Rattle.iso_tree.proofs.Edits.{leaf_of}
@@ -162,7 +162,7 @@ empty_does a key A region empty r is =
     let program : del_below a key root level ≡ Done (Ok false) = ap (λ (b : Bool). cond b (Done (Ok false)) (then_do (descend a key false level root []) (del_at a key))) test in
     let answer : false ≡ r = same_ok false r StoreError (sym (ap (λ (p : Program (Result Bool StoreError)). answer_of p A) program) ∙ is) in
     let same : own A (accesses_of (del_below a key root level) A) ≡ A = ap (λ (p : Program (Result Bool StoreError)). own A (accesses_of p A)) program in
-    let none : found_in key (tree_pairs a A) ≡ None = ap (λ (t : Bool). found_in key (cond t [] (Rattle.iso_model.specs.Trees.pairs_in level (tree_at (cells_in a A) level root)))) test in
+    let none : found_in key (tree_pairs a A) ≡ None = ap (λ (t : Bool). found_in key (cond t [] (Rattle.store_model.specs.Trees.pairs_in level (tree_at (cells_in a A) level root)))) test in
     record {
       found = ap is_some (map_gets a A key ∙ none) ∙ answer;
       region = subst (IsTreeRegion a) (sym same) region;

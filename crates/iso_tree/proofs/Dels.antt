@@ -1,25 +1,25 @@
 -- A removal takes the key out of the map of the region.
 use Rattle.std.proofs.Common.{◌≡◌, ◌≢◌, ◌∙◌, sym, refl, ap, subst, ℕ, suc, ◌+◌, ◌≤◌, ◌==◌, Bool, true, false, not, cond, IsTrue, List, [], ◌∷◌, ◌++◌, length, Option, Some, None, arith, inl, inr, ne_eqb}
-use Rattle.std.specs.List.{AllByRecursion, flat_map, filter}
+use Rattle.std.specs.List.{AllByRecursion}
 use Rattle.std.specs.Ordering.{nat_cmp, eq_by_cmp}
 use Rattle.std.specs.Str.{bytes_eq}
 use Rattle.std.specs.Cmp.Lexicographic.{slice_cmp, nat_list_cmp_total, nat_list_eq_equiv}
-use Rattle.std.specs.FinMap.{FinMap, from_entries, get, remove, get-from_entries, get-remove, same_map, slice_cmp-IsAntisymmetric, nat_cmp-IsAntisymmetric}
+use Rattle.std.specs.FinMap.{from_entries, get, remove, get-from_entries, get-remove, same_map, slice_cmp-IsAntisymmetric, nat_cmp-IsAntisymmetric}
 use Rattle.std.proofs.lemmas.Bool.{cases_Bool, cases_eq}
 use Rattle.std.proofs.lemmas.Slice.Eq.{bytes_eq-Decides}
-use Rattle.iso_model.specs.declared.stores.Area.{Area}
+use Rattle.store_model.specs.declared.stores.Area.{Area}
 use Rattle.iso_model.specs.Effect.{or_else}
 use Rattle.iso_model.specs.Array.{Array, put}
-use Rattle.iso_model.specs.HashRegion.{IsIn, Pairs}
+use Rattle.store_model.specs.HashRegion.{IsIn, Pairs}
 use Rattle.iso_model.specs.Premises.{block_at}
-use Rattle.iso_model.specs.Stores.{bytes_in, store_access}
-use Rattle.iso_model.specs.Cells.{cell_count, keys_mark, is_part, text_of, word_at}
+use Rattle.store_model.specs.Stores.{bytes_in, store_access}
+use Rattle.store_model.specs.Cells.{cell_count, keys_mark, is_part, text_of, word_at}
 use Rattle.iso_model.proofs.Bytes.{length-block_put, written_block, other_block}
-use Rattle.iso_model.specs.TreeNodes.{IsBlock, FitCells, Cell, child_of, is_node, used_cells, node_bytes, head_mark}
-use Rattle.iso_model.specs.Trees.{tree_at, pairs_in, nodes_in, IsApart, in_range, Rise, IsOrdered}
-use Rattle.iso_model.specs.TreeCalls.{without_key}
-use Rattle.iso_model.specs.TreeRegion.{cells_in, root_of, level_of, IsNode, AreNodes, IsTreeRegion, tree_pairs, tree_nodes}
-use Rattle.iso_tree.proofs.Bytes.{cells_after, length-node_bytes, merged_whole}
+use Rattle.store_model.specs.TreeNodes.{IsBlock, FitCells, Cell, is_node, used_cells, node_bytes, head_mark}
+use Rattle.store_model.specs.Trees.{tree_at, pairs_in, nodes_in, IsApart, in_range, Rise, IsOrdered}
+use Rattle.store_model.specs.TreeCalls.{without_key}
+use Rattle.store_model.specs.TreeRegion.{cells_in, root_of, level_of, IsNode, AreNodes, IsTreeRegion, tree_pairs, tree_nodes}
+use Rattle.iso_tree.proofs.Bytes.{length-node_bytes, merged_whole}
 use Rattle.iso_tree.proofs.Edits.{leaf_of, leaf_pairs, IsSwapped, IsEdited, edit_is}
 use Rattle.iso_tree.proofs.Finding.{found_in, find_append, ties}
 use Rattle.iso_tree.proofs.Leaves.{found_leaf, leaf_stays}
@@ -128,15 +128,15 @@ module _ (a : Area) (A B : Array) (key : List ℕ) (cs : List Cell) (region : Is
         | inl same ↦ subst (λ (j : ℕ). length (block_at B (a.start + j)) ≡ a.size) (sym same) edit.long
         | inr other ↦ ap length (block_kept k other) ∙ region.shape k inside
       ];
-      head = subst (λ (b : List ℕ). IsTrue (Rattle.iso_model.specs.TreeNodes.is_head a (bytes_in head_mark b))) (sym first_kept) region.head;
-      zeros = subst (λ (b : List ℕ). IsTrue (Rattle.std.specs.List.list_all Rattle.iso_model.specs.Cells.is_zero (bytes_in (record { off = 8; len = 56 }) b))) (sym first_kept) region.zeros;
+      head = subst (λ (b : List ℕ). IsTrue (Rattle.store_model.specs.TreeNodes.is_head a (bytes_in head_mark b))) (sym first_kept) region.head;
+      zeros = subst (λ (b : List ℕ). IsTrue (Rattle.std.specs.List.list_all Rattle.store_model.specs.Cells.is_zero (bytes_in (record { off = 8; len = 56 }) b))) (sym first_kept) region.zeros;
       nodes = inr nodes_B;
       ordered = inr order_B;
       once = subst IsApart (sym tree_nodes_kept) region.once;
       bits = λ k inside.
           let was = region.bits k inside in (
-            λ set. subst (λ (l : List ℕ). IsIn k l) (sym tree_nodes_kept) (was.0 (subst (λ (b : List ℕ). IsTrue (Rattle.iso_model.specs.FreeMap.map_bit b k)) first_kept set)),
-            λ is. subst (λ (b : List ℕ). IsTrue (Rattle.iso_model.specs.FreeMap.map_bit b k)) (sym first_kept) (was.1 (subst (λ (l : List ℕ). IsIn k l) tree_nodes_kept is)),
+            λ set. subst (λ (l : List ℕ). IsIn k l) (sym tree_nodes_kept) (was.0 (subst (λ (b : List ℕ). IsTrue (Rattle.store_model.specs.FreeMap.map_bit b k)) first_kept set)),
+            λ is. subst (λ (b : List ℕ). IsTrue (Rattle.store_model.specs.FreeMap.map_bit b k)) (sym first_kept) (was.1 (subst (λ (l : List ℕ). IsIn k l) tree_nodes_kept is)),
           );
     }
 

@@ -1,21 +1,21 @@
 -- A descent, step by step.
 use Rattle.std.proofs.Common.{◌≡◌, ◌∙◌, sym, refl, ap, subst, ℕ, zero, suc, ◌+◌, ◌≤◌, ◌&&◌, Bool, true, false, cond, List, [], ◌∷◌, ◌++◌, length, take, Option, None, Result, Ok, Err, IfOk, IfErr, arith}
-use Rattle.iso_model.specs.declared.stores.Area.{Area}
-use Rattle.iso_model.specs.declared.stores.StoreError.{StoreError}
-use Rattle.iso_model.specs.declared.stores.StoreError.TheVariants as store
-use Rattle.iso_model.specs.declared.stores.TxError.{TxError}
-use Rattle.iso_model.specs.declared.stores.TxError.TheVariants as error
+use Rattle.store_model.specs.declared.stores.Area.{Area}
+use Rattle.store_model.specs.declared.stores.StoreError.{StoreError}
+use Rattle.store_model.specs.declared.stores.StoreError.TheVariants as store
+use Rattle.store_model.specs.declared.stores.TxError.{TxError}
+use Rattle.store_model.specs.declared.stores.TxError.TheVariants as error
 use Rattle.iso_model.specs.Effect.{own}
-use Rattle.iso_model.specs.Stores.{Program, Done, Look, further_bytes, then_do, after, outcome}
-use Rattle.iso_model.specs.Cells.{keys_end, keys_mark}
+use Rattle.store_model.specs.Stores.{Program, Done, Look, further_bytes, then_do, after, outcome}
+use Rattle.store_model.specs.Cells.{keys_end, keys_mark}
 use Rattle.tx_blocks.specs.Tx.{Tx, Device, IsLater, with_accesses, room_of}
 use Rattle.tx_blocks.specs.Runs.{Ends, Ran, Stopped, IsCut, HasRun, HasRead, IsStoreCause}
 use Rattle.tx_blocks.proofs.Progress.{IsAt, at_then, ran_at, same_base, with_more}
 use Rattle.tx_blocks.proofs.Refusals.{cut_then, later_than, cause_earlier}
 use Rattle.tx_blocks.proofs.Parts.{read_join}
 use Rattle.iso_tree.specs.declared.descent.Leaf.{Leaf}
-use Rattle.iso_model.specs.TreeNodes.{is_node, is_child, child_of, count_of}
-use Rattle.iso_model.specs.TreeCalls.{Descent, AtLeaf, AtBroken, descend, inner_further, leaf_further}
+use Rattle.store_model.specs.TreeNodes.{is_node, is_child, child_of, count_of}
+use Rattle.store_model.specs.TreeCalls.{Descent, AtLeaf, AtBroken, descend, inner_further, leaf_further}
 use Rattle.iso_tree.specs.Walks.{IsWalkError, OnlyReads, child_program, leaf_program, HasDescended, HasReadLeaf}
 use Rattle.iso_tree.proofs.Looking.{at_as}
 

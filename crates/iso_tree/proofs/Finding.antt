@@ -10,7 +10,7 @@ use Rattle.std.proofs.lemmas.Bool.Decides.{nat_tests}
 use Rattle.std.proofs.lemmas.Slice.Eq.{bytes_eq-Decides}
 use Rattle.iso_model.specs.Conflict.{first_from}
 use Rattle.iso_model.specs.Effect.{or_else}
-use Rattle.iso_model.specs.Trees.{in_range}
+use Rattle.store_model.specs.Trees.{in_range}
 
 nat_ties : (x y : ℕ) → (x == y) ≡ eq_by_cmp nat_cmp x y
 nat_ties x y = grind (arith, nat_tests)

@@ -2,17 +2,17 @@
 use Rattle.std.proofs.Common.{◌≡◌, ◌∙◌, sym, refl, ap, subst, ℕ, suc, ◌+◌, ◌-◌, ◌/◌, ◌<◌, ◌≤◌, List, [], ◌∷◌, ◌++◌, length, take, drop, get_or, Some, None, arith}
 use Rattle.std.specs.Int.{w32, to_be_bytes}
 use Rattle.iso_model.specs.declared.access.Span.{Span}
-use Rattle.iso_model.specs.declared.stores.Area.{Area}
-use Rattle.iso_model.specs.Cells.{block_with, laid_at}
-use Rattle.iso_model.specs.FreeMap.{map_bytes}
+use Rattle.store_model.specs.declared.stores.Area.{Area}
+use Rattle.store_model.specs.Cells.{block_with, laid_at}
+use Rattle.store_model.specs.FreeMap.{map_bytes}
 use Rattle.iso_model.specs.Premises.{IsSpan}
-use Rattle.iso_model.specs.Stores.{bytes_in, store_access}
+use Rattle.store_model.specs.Stores.{bytes_in, store_access}
 use Rattle.tx_blocks.specs.Tx.{Tx, with_accesses}
 use Rattle.iso_tree.specs.FirstBlock.{Up, ends, first_access}
-use Rattle.iso_model.specs.TreeNodes.{head_mark}
+use Rattle.store_model.specs.TreeNodes.{head_mark}
 use Rattle.iso_tree.specs.Rows.{AreBlocks}
-use Rattle.iso_model.specs.TreeCalls.{with_used, last_of, changed_mark, changed_map}
-use Rattle.iso_model.specs.TreeRegion.{IsTreeArea}
+use Rattle.store_model.specs.TreeCalls.{with_used, last_of, changed_mark, changed_map}
+use Rattle.store_model.specs.TreeRegion.{IsTreeArea}
 use Rattle.iso_tree.proofs.Frames.{piece_of}
 
 pub ends_at : (news : List ℕ) → 0 < length news → (get_or news 0 0, get_or news (length news - 1) 0) ≡ ends news

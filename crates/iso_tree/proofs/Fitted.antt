@@ -3,16 +3,16 @@ use Rattle.std.proofs.Common.{◌≡◌, ◌≢◌, ◌⊎◌, ◌∙◌, sym, r
 use Rattle.std.specs.List.{AllByRecursion, flat_map}
 use Rattle.std.proofs.lemmas.List.{take-append-drop, map-append}
 use Rattle.std.proofs.lemmas.Grind.{flat_map-append}
-use Rattle.iso_model.specs.declared.stores.Area.{Area}
+use Rattle.store_model.specs.declared.stores.Area.{Area}
 use Rattle.iso_model.specs.Array.{Array, put}
-use Rattle.iso_model.specs.HashRegion.{IsIn}
+use Rattle.store_model.specs.HashRegion.{IsIn}
 use Rattle.iso_model.specs.Premises.{block_at}
-use Rattle.iso_model.specs.Stores.{store_access}
-use Rattle.iso_model.specs.Cells.{cell_count}
+use Rattle.store_model.specs.Stores.{store_access}
+use Rattle.store_model.specs.Cells.{cell_count}
 use Rattle.iso_model.proofs.Bytes.{length-block_put, other_block}
-use Rattle.iso_model.specs.TreeNodes.{Cell, FitCells, IsBlock, child_of, used_cells, node_bytes}
-use Rattle.iso_model.specs.Trees.{Tree, tree_at, nodes_in, IsApart, AreAfter, AreChildren, IsOrdered, Put, first_key, without_first, emptied, half, halves, fit}
-use Rattle.iso_model.specs.TreeRegion.{cells_in, is_part_at, IsNode, AreNodes}
+use Rattle.store_model.specs.TreeNodes.{Cell, FitCells, IsBlock, child_of, used_cells, node_bytes}
+use Rattle.store_model.specs.Trees.{Tree, tree_at, nodes_in, IsApart, AreAfter, AreChildren, IsOrdered, Put, first_key, without_first, emptied, half, halves, fit}
+use Rattle.store_model.specs.TreeRegion.{cells_in, is_part_at, IsNode, AreNodes}
 use Rattle.iso_tree.proofs.Blocks.{in_front, in_back, apart_parts}
 use Rattle.iso_tree.proofs.Bytes.{cells_are}
 use Rattle.iso_tree.proofs.Fits.{rise_strict}

@@ -6,11 +6,11 @@ use Rattle.std.proofs.lemmas.Bool.Decides.{nat_tests}
 use Rattle.std.proofs.lemmas.List.{ext_get_or, get_or_past, get_or-take, get_or-drop, get_or_append_left, get_or-append-add, length-append, length-replicate, length-take-le, take-take, drop-take, take_at, drop_at, drop-replicate, take-replicate}
 use Rattle.iso_model.specs.declared.access.Span.{Span}
 use Rattle.iso_model.specs.Array.{covered, in_span, merged}
-use Rattle.iso_model.specs.Stores.{bytes_in}
-use Rattle.iso_model.specs.Cells.{is_zero, is_part, text_of, part_of, laid_at}
+use Rattle.store_model.specs.Stores.{bytes_in}
+use Rattle.store_model.specs.Cells.{is_zero, is_part, text_of, part_of, laid_at}
 use Rattle.iso_model.proofs.Bytes.{length-merged, merged_at, merged_kept}
 use Rattle.tx_blocks.proofs.Programs.{same_bytes}
-use Rattle.iso_model.proofs.Laying.{length-laid_at}
+use Rattle.store_model.proofs.Laying.{length-laid_at}
 
 -- spans that stand apart
 abbrev pub AreApart : Span → Span → Type 0

@@ -7,22 +7,22 @@ use Rattle.std.specs.Cmp.Lexicographic.{slice_cmp, nat_list_cmp_total, nat_list_
 use Rattle.std.specs.FinMap.{get, get-from_entries}
 use Rattle.std.proofs.lemmas.Bool.{and_parts, both_ways, cases_eq}
 use Rattle.std.proofs.lemmas.List.{append-nil}
-use Rattle.iso_model.specs.declared.stores.Area.{Area}
-use Rattle.iso_model.specs.declared.stores.StoreError.{StoreError}
-use Rattle.iso_model.specs.declared.stores.StoreError.TheVariants.{Broken}
+use Rattle.store_model.specs.declared.stores.Area.{Area}
+use Rattle.store_model.specs.declared.stores.StoreError.{StoreError}
+use Rattle.store_model.specs.declared.stores.StoreError.TheVariants.{Broken}
 use Rattle.iso_model.specs.Array.{Array}
 use Rattle.iso_model.specs.Effect.{or_else}
 use Rattle.iso_model.specs.Conflict.{first_from}
 use Rattle.iso_model.specs.Premises.{block_at}
-use Rattle.iso_model.specs.Stores.{AreReads, Program, Done, bytes_in, further_bytes, accesses_of, answer_of, then_do, IsLocal}
-use Rattle.iso_model.specs.Cells.{keys_mark, value_mark, is_part, text_of, key_at}
-use Rattle.iso_model.specs.HashCalls.{at_cell, is_key}
-use Rattle.iso_model.specs.HashRegion.{get_op}
-use Rattle.iso_model.specs.TreeNodes.{before, count_of, place_from, place_of, is_child, is_node, Cell, child_of, head_mark, is_head, cells_by, cell_of}
-use Rattle.iso_model.specs.Trees.{in_range, Tree, tree_at, pairs_in, AreAfter, AreChildren, Rise, RiseAfter, IsOrdered}
+use Rattle.store_model.specs.Stores.{AreReads, Program, Done, bytes_in, further_bytes, accesses_of, answer_of, then_do, IsLocal}
+use Rattle.store_model.specs.Cells.{keys_mark, value_mark, is_part, text_of, key_at}
+use Rattle.store_model.specs.HashCalls.{at_cell, is_key}
+use Rattle.store_model.specs.HashRegion.{get_op}
+use Rattle.store_model.specs.TreeNodes.{before, count_of, place_from, place_of, is_child, is_node, Cell, child_of, head_mark, is_head, cells_by, cell_of}
+use Rattle.store_model.specs.Trees.{in_range, Tree, tree_at, pairs_in, AreAfter, AreChildren, Rise, RiseAfter, IsOrdered}
 use Rattle.iso_tree.proofs.Shapes.{kids, chosen, child_for}
-use Rattle.iso_model.specs.TreeCalls.{with_head, inner_further, get_below, Descent, AtLeaf, AtBroken, descend, got, get_program}
-use Rattle.iso_model.specs.TreeRegion.{cells_in, root_of, level_of, AreNodes, tree_pairs, IsTreeRegion, tree_map}
+use Rattle.store_model.specs.TreeCalls.{with_head, inner_further, get_below, Descent, AtLeaf, AtBroken, descend, got, get_program}
+use Rattle.store_model.specs.TreeRegion.{cells_in, root_of, level_of, AreNodes, tree_pairs, IsTreeRegion, tree_map}
 use Rattle.tx_blocks.proofs.Programs.{answer_then, own_reads, whole_reads, reads_then, IsCorrect, local_from}
 use Rattle.iso_tree.proofs.Finding.{found_in, find_append, find_outside, ties, at_test}
 use Rattle.iso_tree.proofs.Reading.{cond_reads, same_ok}

@@ -1,14 +1,14 @@
 -- What is written where a put takes blocks: how many writes, which root, and the bytes of the map.
-use Rattle.std.proofs.Common.{◌≡◌, ◌≢◌, ◌∙◌, sym, refl, ap, subst, ℕ, zero, suc, ◌+◌, ◌-◌, ◌*◌, ◌/◌, ◌%◌, ◌<◌, ◌≤◌, ◌==◌, Bool, true, false, not, cond, nat_le, List, [], ◌∷◌, ◌++◌, length, map, take, get_or, set, Option, Some, None, arith, inl, inr, eq-eqb, ne_eqb}
+use Rattle.std.proofs.Common.{◌≡◌, ◌≢◌, ◌∙◌, sym, refl, ap, ℕ, zero, suc, ◌+◌, ◌-◌, ◌*◌, ◌%◌, ◌<◌, ◌≤◌, ◌==◌, Bool, true, false, not, cond, nat_le, List, [], ◌∷◌, length, map, take, get_or, set, Option, Some, None, arith, inl, inr, eq-eqb, ne_eqb}
 use Rattle.std.specs.List.{AllByRecursion, filter, range_with_len}
 use Rattle.std.specs.Int.{bit_at}
 use Rattle.std.proofs.lemmas.Bool.{cases_eq}
 use Rattle.std.proofs.lemmas.List.{get_or-take}
-use Rattle.iso_model.specs.FreeMap.{map_bit, free_count, with_bit, bit_place, set_bit}
-use Rattle.iso_model.specs.HashRegion.{IsIn}
-use Rattle.iso_model.specs.TreeNodes.{Cell, child_part}
-use Rattle.iso_model.specs.Trees.{Put, halves, fit}
-use Rattle.iso_model.specs.TreeCalls.{Climb, climb, climb_on, placed, full_row, need_of, with_used}
+use Rattle.store_model.specs.FreeMap.{map_bit, free_count, with_bit, bit_place, set_bit}
+use Rattle.store_model.specs.HashRegion.{IsIn}
+use Rattle.store_model.specs.TreeNodes.{Cell, child_part}
+use Rattle.store_model.specs.Trees.{Put, halves, fit}
+use Rattle.store_model.specs.TreeCalls.{Climb, climb, climb_on, placed, full_row, need_of, with_used}
 use Rattle.iso_tree.proofs.Climbing.{one_way}
 use Rattle.iso_tree.proofs.Ways.{counts, length-placed}
 use Rattle.iso_tree.proofs.Order.{length-put_after}
@@ -116,7 +116,7 @@ climb_shape n key level new below (node ∷ nodes) (r ∷ news) some few enough 
       let split : fit n level node.0 (placed level key new node.1) (r ∷ news) ≡ halves n level node.0 (placed level key new node.1) (r ∷ news) =
       ap (λ (t : Bool). cond t (record { writes = (node.0, level, placed level key new node.1) ∷ []; second = None; taken = []; left = r ∷ news; enough = true }) (halves n level node.0 (placed level key new node.1) (r ∷ news))) fits in
       let h = halves n level node.0 (placed level key new node.1) (r ∷ news) in
-      let ih = climb_shape n key (suc level) (Rattle.iso_model.specs.Trees.first_key (Rattle.std.proofs.Common.drop (Rattle.iso_model.specs.Trees.half n) (placed level key new node.1)), child_part r) node.0 nodes news some few.1 rest_enough in
+      let ih = climb_shape n key (suc level) (Rattle.store_model.specs.Trees.first_key (Rattle.std.proofs.Common.drop (Rattle.store_model.specs.Trees.half n) (placed level key new node.1)), child_part r) node.0 nodes news some few.1 rest_enough in
       let whole : climb n key level new below (node ∷ nodes) (r ∷ news) ≡ on h = ap on split in
       let next : suc level + length nodes ≡ level + suc (length nodes) = omega arith in
       record {

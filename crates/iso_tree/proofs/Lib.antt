@@ -1,4 +1,3 @@
-mod TreeRows
 pub mod Ranges
 pub mod Shapes
 pub mod Finding
@@ -25,7 +24,6 @@ pub mod Building
 pub mod Dels
 pub mod DelCalls
 pub mod Removing
-pub mod Kept
 pub mod Ways
 pub mod Sizes
 pub mod Stored

@@ -4,21 +4,21 @@ use Rattle.std.specs.Option.{ForSome}
 use Rattle.std.proofs.lemmas.Bool.{false_from_ne_true}
 use Rattle.iso_model.specs.declared.access.Access.{Access}
 use Rattle.iso_model.specs.declared.access.Span.{Span}
-use Rattle.iso_model.specs.declared.stores.Area.{Area}
-use Rattle.iso_model.specs.declared.stores.Region.{Region}
-use Rattle.iso_model.specs.declared.stores.StoreError.TheVariants as store
+use Rattle.store_model.specs.declared.stores.Area.{Area}
+use Rattle.store_model.specs.declared.stores.Region.{Region}
+use Rattle.store_model.specs.declared.stores.StoreError.TheVariants as store
 use Rattle.iso_model.specs.Effect.{own, is_write}
 use Rattle.iso_model.specs.Premises.{block_at}
-use Rattle.iso_model.specs.Stores.{Program, Done, Look, bytes_in, further_bytes, with_further, look_access}
-use Rattle.iso_model.specs.Cells.{keys_mark, value_mark, word_at}
+use Rattle.store_model.specs.Stores.{Program, Done, Look, bytes_in, further_bytes, with_further, look_access}
+use Rattle.store_model.specs.Cells.{keys_mark, value_mark, word_at}
 use Rattle.tx_blocks.specs.Tx.{Tx, Device, IsLater, with_accesses}
 use Rattle.tx_blocks.specs.Runs.{Ran}
 use Rattle.iso_model.specs.Array.{Array}
 use Rattle.tx_blocks.proofs.Programs.{own_reads}
 use Rattle.tx_blocks.proofs.Progress.{own_append, IsAt, at_start, at_look, ran_at}
 use Rattle.tx_blocks.proofs.Refusals.{read_none, read_more}
-use Rattle.iso_model.specs.TreeNodes.{Node, keys_in, value_in, is_node, is_child, child_of, count_of, place_of, cell_of, head_mark, is_head}
-use Rattle.iso_model.specs.TreeCalls.{leaf_further, inner_further}
+use Rattle.store_model.specs.TreeNodes.{Node, keys_in, value_in, is_node, is_child, child_of, count_of, place_of, cell_of, head_mark, is_head}
+use Rattle.store_model.specs.TreeCalls.{leaf_further, inner_further}
 use Rattle.iso_tree.specs.Walks.{AreBytesOf, OnlyReads, head_program, child_program, leaf_program}
 
 -- what is left may be said in another way

@@ -2,18 +2,18 @@
 use Rattle.std.proofs.Common.{◌≡◌, ◌≢◌, ◌∙◌, sym, refl, ap, subst, ℕ, suc, ◌+◌, ◌^◌, ◌<◌, ◌≤◌, ◌==◌, Bool, true, false, cond, List, [], ◌∷◌, ◌++◌, map, take, length, Option, Some, None, arith, inl, inr, eq-eqb, ne_eqb}
 use Rattle.std.specs.List.{AllByRecursion, flat_map}
 use Rattle.std.proofs.lemmas.List.{append-nil, map-append, length-append}
-use Rattle.iso_model.specs.declared.stores.Area.{Area}
+use Rattle.store_model.specs.declared.stores.Area.{Area}
 use Rattle.iso_model.specs.Array.{Array, put}
-use Rattle.iso_model.specs.HashRegion.{IsIn}
+use Rattle.store_model.specs.HashRegion.{IsIn}
 use Rattle.iso_model.specs.Premises.{block_at}
-use Rattle.iso_model.specs.Stores.{bytes_in, store_access}
-use Rattle.iso_model.specs.Cells.{cell_count, is_part, text_of, value_part}
-use Rattle.iso_model.specs.FreeMap.{map_mark}
+use Rattle.store_model.specs.Stores.{bytes_in, store_access}
+use Rattle.store_model.specs.Cells.{cell_count, is_part, text_of, value_part}
+use Rattle.store_model.specs.FreeMap.{map_mark}
 use Rattle.iso_model.proofs.Bytes.{other_block}
-use Rattle.iso_model.specs.TreeNodes.{Cell, FitCells, IsBlock, child_of, child_part, is_child, used_cells, node_bytes}
-use Rattle.iso_model.specs.Trees.{Tree, tree_at, pairs_in, nodes_in, IsApart, IsOrdered, Put, half}
-use Rattle.iso_model.specs.TreeCalls.{Climb, climb, climb_on, full_row, need_of, root_cells}
-use Rattle.iso_model.specs.TreeRegion.{cells_in, root_of, level_of, IsNode, AreNodes, IsTreeArea, IsTreeRegion, tree_pairs, tree_nodes}
+use Rattle.store_model.specs.TreeNodes.{Cell, IsBlock, child_of, child_part, used_cells, node_bytes}
+use Rattle.store_model.specs.Trees.{Tree, tree_at, pairs_in, nodes_in, IsApart, IsOrdered, Put, half}
+use Rattle.store_model.specs.TreeCalls.{Climb, climb, climb_on, full_row, need_of, root_cells}
+use Rattle.store_model.specs.TreeRegion.{cells_in, root_of, level_of, IsNode, AreNodes, IsTreeArea, IsTreeRegion, tree_pairs, tree_nodes}
 use Rattle.iso_tree.proofs.Again.{nodes_at, way_is, path_few, nodes_inside}
 use Rattle.iso_tree.proofs.Blocks.{in_front, in_back, in_cases, apart_parts, grown_apart, grown_in}
 use Rattle.iso_tree.proofs.Bytes.{cells_are}
@@ -153,7 +153,7 @@ module _ (a : Area) (area : IsTreeArea a) (A : Array) (region : IsTreeRegion a A
     first_tree : IsNewTree a A D0 key text taken 0 r
     first_tree = record {
       nodes = subst (IsNode a 0) (sym here0) (row_is_node a 0 cs first_row (omega arith));
-      ordered = subst (Rattle.iso_model.specs.Trees.Rise [] None) (sym cells0) (ap Rattle.std.specs.Prelude.not (not_before_empty key), tt);
+      ordered = subst (Rattle.store_model.specs.Trees.Rise [] None) (sym cells0) (ap Rattle.std.specs.Prelude.not (not_before_empty key), tt);
       pairs = subst (λ (l : List (List ℕ × List ℕ)). IsGrown {X = List ℕ × List ℕ} ((key, text) ∷ []) l (pairs_in 0 (tree_at (cells_in a D0) 0 r))) (sym none_pairs)
           (subst (λ (c : List Cell). IsGrown {X = List ℕ × List ℕ} ((key, text) ∷ []) [] (Rattle.iso_tree.proofs.Edits.leaf_pairs c)) (sym cells0)
           (subst (λ (x : List ℕ). IsGrown {X = List ℕ × List ℕ} ((key, text) ∷ []) [] ((key, x) ∷ [])) (sym pair.spells) (((key, text) ∷ []), ([], [], refl, refl), refl)));
@@ -323,9 +323,9 @@ module _ (a : Area) (area : IsTreeArea a) (A : Array) (region : IsTreeRegion a A
         not_r : (j : ℕ) → IsIn j both → j ≢ r
         not_r j at e = (apart_parts both (r ∷ []) fresh).2 j at (inl (sym e))
 
-        sep : (Rattle.iso_model.specs.TreeNodes.before [] s.0 ≡ true) × (length s.0 ≤ 28)
+        sep : (Rattle.store_model.specs.TreeNodes.before [] s.0 ≡ true) × (length s.0 ≤ 28)
         sep =
-            let ordered = subst (λ (o : Option (List ℕ × ℕ)). Rattle.iso_model.specs.Trees.AreAfter (IsOrdered level) [] [] None t1 (second_kid (written cells p.writes) level o)) split
+            let ordered = subst (λ (o : Option (List ℕ × ℕ)). Rattle.store_model.specs.Trees.AreAfter (IsOrdered level) [] [] None t1 (second_kid (written cells p.writes) level o)) split
             (is.ordered [] None (ap Rattle.std.specs.Prelude.not (not_before_empty key)) order) in
             let size = subst (λ (o : Option (List ℕ × ℕ)). Rattle.iso_tree.proofs.Shapes.AreSized n level (second_kid (written cells p.writes) level o)) split
             (is.sized pair.short pair.whole (nodes_sized a A sizes.sized region.shape level root below nodes)).1 in

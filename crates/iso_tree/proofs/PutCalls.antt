@@ -4,22 +4,22 @@ use Rattle.std.specs.Prelude.{nat_lt}
 use Rattle.std.specs.List.{AllByRecursion}
 use Rattle.std.proofs.lemmas.Bool.{cases_Bool, cases_eq, leb-true, ltb-true}
 use Rattle.std.proofs.lemmas.Bool.Decides.{nat_tests}
-use Rattle.iso_model.specs.declared.stores.Area.{Area}
-use Rattle.iso_model.specs.declared.stores.StoreError.{StoreError}
-use Rattle.iso_model.specs.declared.stores.StoreError.TheVariants.{BadKey, BadValue, Broken, NoBlocks}
+use Rattle.store_model.specs.declared.stores.Area.{Area}
+use Rattle.store_model.specs.declared.stores.StoreError.{StoreError}
+use Rattle.store_model.specs.declared.stores.StoreError.TheVariants.{BadKey, BadValue, Broken, NoBlocks}
 use Rattle.iso_model.specs.Array.{Array, put}
 use Rattle.iso_model.specs.Effect.{own}
-use Rattle.iso_model.specs.HashCalls.{at_cell, is_key, is_value}
-use Rattle.iso_model.specs.HashRegion.{put_op}
+use Rattle.store_model.specs.HashCalls.{at_cell, is_key, is_value}
+use Rattle.store_model.specs.HashRegion.{put_op}
 use Rattle.iso_model.specs.Premises.{block_at}
-use Rattle.iso_model.specs.Stores.{Program, Done, Store, bytes_in, then_do, accesses_of, answer_of}
-use Rattle.iso_model.specs.Cells.{cell_count, keys_end, value_mark, value_part, block_with}
-use Rattle.iso_model.specs.FreeMap.{map_mark, free_count}
+use Rattle.store_model.specs.Stores.{Program, Done, Store, bytes_in, then_do, accesses_of, answer_of}
+use Rattle.store_model.specs.Cells.{cell_count, keys_end, value_mark, value_part, block_with}
+use Rattle.store_model.specs.FreeMap.{map_mark, free_count}
 use Rattle.tx_blocks.proofs.Programs.{IsCorrect}
-use Rattle.iso_model.specs.TreeNodes.{Cell, cell_of, count_of, head_mark}
-use Rattle.iso_model.specs.Trees.{put_after}
-use Rattle.iso_model.specs.TreeCalls.{AtLeaf, descend, with_head, look_again, climb, store_nodes, first_write, put_writes, with_map, edit_leaf, put_at, put_below_root, put_program, Answer, full_row, need_of, free_list}
-use Rattle.iso_model.specs.TreeRegion.{cells_in, root_of, level_of, IsTreeArea, IsTreeRegion, tree_pairs, tree_map}
+use Rattle.store_model.specs.TreeNodes.{Cell, cell_of, count_of, head_mark}
+use Rattle.store_model.specs.Trees.{put_after}
+use Rattle.store_model.specs.TreeCalls.{AtLeaf, descend, with_head, look_again, climb, store_nodes, first_write, put_writes, with_map, edit_leaf, put_at, put_below_root, put_program, Answer, full_row, need_of, free_list}
+use Rattle.store_model.specs.TreeRegion.{cells_in, root_of, level_of, IsTreeArea, IsTreeRegion, tree_pairs, tree_map}
 use Rattle.iso_tree.proofs.Again.{nodes_at, again_own}
 use Rattle.iso_tree.proofs.Ending.{at, keys, ends_of, answer_at, own_at}
 use Rattle.iso_tree.proofs.Facts.{head_parts, node_parts}
@@ -154,7 +154,7 @@ below_does a area A region key text pair r is = elim (cases_eq (root_of a A) 0) 
   | inl empty ↦
       (let e : put_below_root a key text (root_of a A) (level_of a A) ≡ with_map a key text [] =
       ap (λ (b : Bool). cond b (with_map a key text []) (then_do (descend a key false (level_of a A) (root_of a A) []) (put_at a key text))) (eq-eqb (root_of a A) 0 empty) in
-      let none : tree_pairs a A ≡ [] = ap (λ (t : Bool). cond t [] (Rattle.iso_model.specs.Trees.pairs_in (level_of a A) (Rattle.iso_model.specs.Trees.tree_at (cells_in a A) (level_of a A) (root_of a A)))) (eq-eqb (root_of a A) 0 empty) in
+      let none : tree_pairs a A ≡ [] = ap (λ (t : Bool). cond t [] (Rattle.store_model.specs.Trees.pairs_in (level_of a A) (Rattle.store_model.specs.Trees.tree_at (cells_in a A) (level_of a A) (root_of a A)))) (eq-eqb (root_of a A) 0 empty) in
       subst (HasPutInto a key text A) (sym (ap (λ (p : Program Answer). own A (accesses_of p A)) e))
       (map_does a area key text A []
       (λ taken are.

@@ -1,17 +1,17 @@
 -- A put below a node leaves nodes.
-use Rattle.std.proofs.Common.{◌≡◌, ◌≢◌, ◌⊎◌, ◌∙◌, sym, refl, ap, subst, ℕ, zero, suc, ◌+◌, ◌-◌, ◌*◌, ◌^◌, ◌<◌, ◌≤◌, Bool, true, false, cond, IsTrue, List, [], ◌∷◌, ◌++◌, map, length, replicate, Option, Some, None, arith, inl, inr}
+use Rattle.std.proofs.Common.{◌≡◌, ◌⊎◌, ◌∙◌, sym, refl, ap, subst, ℕ, zero, suc, ◌+◌, ◌-◌, ◌^◌, ◌<◌, ◌≤◌, Bool, true, false, cond, List, [], ◌∷◌, ◌++◌, length, replicate, Option, Some, None, arith, inl, inr}
 use Rattle.std.specs.List.{AllByRecursion, flat_map}
 use Rattle.std.proofs.lemmas.Bool.{and_parts, and_from}
 use Rattle.std.proofs.lemmas.List.{map-append}
-use Rattle.iso_model.specs.declared.stores.Area.{Area}
+use Rattle.store_model.specs.declared.stores.Area.{Area}
 use Rattle.iso_model.specs.Array.{Array}
-use Rattle.iso_model.specs.HashRegion.{IsIn}
+use Rattle.store_model.specs.HashRegion.{IsIn}
 use Rattle.iso_model.specs.Premises.{block_at}
-use Rattle.iso_model.specs.Stores.{bytes_in}
-use Rattle.iso_model.specs.Cells.{cell_count, keys_mark, value_mark, is_part}
-use Rattle.iso_model.specs.TreeNodes.{before, Cell, FitCells, IsBlock, child_of, child_part, count_of, is_child, used_cells}
-use Rattle.iso_model.specs.Trees.{in_range, Tree, tree_at, nodes_in, put_after, IsApart, AreAfter, AreChildren, IsOrdered, Put, half, fit}
-use Rattle.iso_model.specs.TreeRegion.{cells_in, is_part_at, IsNode, AreNodes}
+use Rattle.store_model.specs.Stores.{bytes_in}
+use Rattle.store_model.specs.Cells.{cell_count, keys_mark, value_mark, is_part}
+use Rattle.store_model.specs.TreeNodes.{before, Cell, FitCells, IsBlock, child_of, child_part, count_of, is_child, used_cells}
+use Rattle.store_model.specs.Trees.{in_range, tree_at, nodes_in, put_after, IsApart, AreAfter, AreChildren, IsOrdered, Put, half, fit}
+use Rattle.store_model.specs.TreeRegion.{cells_in, is_part_at, IsNode, AreNodes}
 use Rattle.iso_tree.proofs.Blocks.{in_front, in_back, in_cases, apart_parts, chosen_in}
 use Rattle.iso_tree.proofs.Climbs.{Lacks, IsPut, put_is, rows_apart, child_apart, child_lacks, child_enough}
 use Rattle.iso_tree.proofs.Facts.{child_below, inner_many}
@@ -99,7 +99,7 @@ nodes_sized a A sized shape (suc level) block below nodes =
     )
 
 -- the value part that names a block is a child's
-zeros_all : (n : ℕ) → Rattle.std.specs.List.list_all Rattle.iso_model.specs.Cells.is_zero (replicate n 0) ≡ true
+zeros_all : (n : ℕ) → Rattle.std.specs.List.list_all Rattle.store_model.specs.Cells.is_zero (replicate n 0) ≡ true
 zeros_all zero = refl
 zeros_all (suc n) = zeros_all n
 
@@ -285,7 +285,7 @@ module _ (a : Area) (sized : IsBlock a.size) (least : 256 ≤ a.size) (most : a.
 
 -- the leaf of a key, with a range that has the key
 pub leaf_range : (cells : ℕ → List Cell) (key : List ℕ) (level block : ℕ) (low : List ℕ) (high : Option (List ℕ)) → IsOrdered level low high (tree_at cells level block) → in_range low high key ≡ true
-    → (lo : List ℕ) × (hi : Option (List ℕ)) × (in_range lo hi key ≡ true) × Rattle.iso_model.specs.Trees.Rise lo hi (cells (Rattle.iso_tree.proofs.Edits.leaf_of cells key level block))
+    → (lo : List ℕ) × (hi : Option (List ℕ)) × (in_range lo hi key ≡ true) × Rattle.store_model.specs.Trees.Rise lo hi (cells (Rattle.iso_tree.proofs.Edits.leaf_of cells key level block))
 leaf_range cells key zero block low high is inside = (low, high, inside, is)
 leaf_range cells key (suc level) block low high is inside =
     let range = child_range cells level key low high (cells block) is inside in

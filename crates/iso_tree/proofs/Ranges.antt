@@ -6,8 +6,8 @@ use Rattle.std.specs.declared.cmp.Ordering.{Ordering}
 use Rattle.std.specs.declared.cmp.Ordering.TheVariants.{Less, Equal, Greater}
 use Rattle.std.specs.Cmp.Lexicographic.{slice_cmp, nat_list_cmp_total}
 use Rattle.std.proofs.lemmas.Bool.{and_from, and_parts, cases_Bool, both_ways}
-use Rattle.iso_model.specs.TreeNodes.{before}
-use Rattle.iso_model.specs.Trees.{in_range}
+use Rattle.store_model.specs.TreeNodes.{before}
+use Rattle.store_model.specs.Trees.{in_range}
 
 less_only : (o : Ordering) → is_lt o ≡ true → o ≡ Less
 less_only Less e = refl

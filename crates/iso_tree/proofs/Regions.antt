@@ -11,17 +11,17 @@ use Rattle.std.proofs.lemmas.Bool.Decides.{nat_tests}
 use Rattle.std.proofs.lemmas.List.{append-nil, take_at, drop_at, get_or-take}
 use Rattle.std.proofs.lemmas.Nat.{from_be_bytes-to_be_bytes_4}
 use Rattle.std.proofs.lemmas.Slice.Eq.{bytes_eq-Decides}
-use Rattle.iso_model.specs.declared.stores.Area.{Area}
+use Rattle.store_model.specs.declared.stores.Area.{Area}
 use Rattle.iso_model.specs.Array.{Array, merged, put}
-use Rattle.iso_model.specs.HashRegion.{IsIn}
+use Rattle.store_model.specs.HashRegion.{IsIn}
 use Rattle.iso_model.specs.Premises.{block_at}
-use Rattle.iso_model.specs.Stores.{bytes_in, store_access}
-use Rattle.iso_model.specs.Cells.{word_at, is_zero}
-use Rattle.iso_model.specs.FreeMap.{map_bytes, map_bit, map_mark, bit_place}
+use Rattle.store_model.specs.Stores.{bytes_in, store_access}
+use Rattle.store_model.specs.Cells.{word_at, is_zero}
+use Rattle.store_model.specs.FreeMap.{map_bytes, map_bit, map_mark, bit_place}
 use Rattle.iso_model.proofs.Bytes.{length-block_put, written_block, other_block}
-use Rattle.iso_model.specs.TreeNodes.{Cell, head_mark, is_head, node_bytes, used_cells}
-use Rattle.iso_model.specs.Trees.{tree_at, pairs_in, nodes_in, IsApart, IsOrdered}
-use Rattle.iso_model.specs.TreeRegion.{cells_in, root_of, level_of, AreNodes, IsTreeArea, IsTreeRegion, tree_pairs, tree_nodes, tree_map}
+use Rattle.store_model.specs.TreeNodes.{Cell, head_mark, is_head, node_bytes, used_cells}
+use Rattle.store_model.specs.Trees.{tree_at, pairs_in, nodes_in, IsApart, IsOrdered}
+use Rattle.store_model.specs.TreeRegion.{cells_in, root_of, level_of, AreNodes, IsTreeArea, IsTreeRegion, tree_pairs, tree_nodes, tree_map}
 use Rattle.iso_tree.proofs.Blocks.{in_front, in_back, in_cases, grown_apart, grown_in, apart_join, tree_same}
 use Rattle.iso_tree.proofs.Finding.{found_in, ties}
 use Rattle.iso_tree.specs.FirstBlock.{first_spans, first_bytes, first_access}

@@ -2,16 +2,16 @@
 use Rattle.std.proofs.Common.{◌≡◌, ◌≢◌, ◌∙◌, sym, ap, subst, ℕ, ◌+◌, ◌≤◌, Bool, true, false, cond, List, [], ◌∷◌, length, Option, Some, None, Result, Ok, Err, IfOk, arith, ne_eqb, eq-eqb}
 use Rattle.std.proofs.lemmas.List.{append-nil}
 use Rattle.iso_model.specs.declared.access.Access.{Access}
-use Rattle.iso_model.specs.declared.stores.Area.{Area}
-use Rattle.iso_model.specs.declared.stores.StoreError.{StoreError}
-use Rattle.iso_model.specs.declared.stores.StoreError.TheVariants as store
-use Rattle.iso_model.specs.declared.stores.TxError.{TxError}
-use Rattle.iso_model.specs.declared.stores.TxError.TheVariants as error
+use Rattle.store_model.specs.declared.stores.Area.{Area}
+use Rattle.store_model.specs.declared.stores.StoreError.{StoreError}
+use Rattle.store_model.specs.declared.stores.StoreError.TheVariants as store
+use Rattle.store_model.specs.declared.stores.TxError.{TxError}
+use Rattle.store_model.specs.declared.stores.TxError.TheVariants as error
 use Rattle.iso_model.specs.Array.{Array}
 use Rattle.iso_model.specs.Effect.{own}
-use Rattle.iso_model.specs.HashCalls.{at_cell, is_key}
-use Rattle.iso_model.specs.HashRegion.{del_op}
-use Rattle.iso_model.specs.Stores.{Program, Done, LookWhole, Store, look_access, store_access, then_do, after, outcome, IsLocal}
+use Rattle.store_model.specs.HashCalls.{at_cell, is_key}
+use Rattle.store_model.specs.HashRegion.{del_op}
+use Rattle.store_model.specs.Stores.{Program, Done, LookWhole, Store, look_access, store_access, then_do, after, outcome, IsLocal}
 use Rattle.iso_model.proofs.Bytes.{length-block_own}
 use Rattle.tx_blocks.specs.Tx.{Tx, Device, IsTx, with_accesses, room_of}
 use Rattle.tx_blocks.specs.Runs.{Ran, IsCut, IsCause, HasRun, IsLocalCall}
@@ -19,9 +19,9 @@ use Rattle.tx_blocks.proofs.Progress.{IsAt, at_start, at_then, at_look_whole, at
 use Rattle.tx_blocks.proofs.Refusals.{cut_at_store, cut_then}
 use Rattle.tx_blocks.proofs.Parts.{run_from}
 use Rattle.iso_tree.specs.declared.descent.Leaf.{Leaf}
-use Rattle.iso_model.specs.TreeNodes.{Cell, used_cells, node_bytes}
-use Rattle.iso_model.specs.TreeCalls.{Descent, AtBroken, descend, edit_leaf, without_key, del_at, del_below, del_program, with_head}
-use Rattle.iso_model.specs.TreeRegion.{tree_map, IsTreeArea, IsTreeRegion}
+use Rattle.store_model.specs.TreeNodes.{Cell, used_cells, node_bytes}
+use Rattle.store_model.specs.TreeCalls.{Descent, AtBroken, descend, edit_leaf, without_key, del_at, del_below, del_program, with_head}
+use Rattle.store_model.specs.TreeRegion.{tree_map, IsTreeArea, IsTreeRegion}
 use Rattle.iso_tree.specs.Walks.{HasDescended, IsLeaf, AreBytesOf}
 use Rattle.iso_tree.proofs.Looking.{at_as}
 use Rattle.iso_tree.proofs.DelCalls.{HasBlocks, del_local}

@@ -2,22 +2,22 @@
 use Rattle.std.proofs.Common.{◌≡◌, ◌∙◌, sym, refl, ap, subst, ℕ, suc, ◌+◌, ◌*◌, ◌≤◌, List, [], ◌∷◌, ◌++◌, length, map, take, drop, Some, Result, Ok, Err, OnOk, IfErr, arith, append_assoc}
 use Rattle.std.proofs.lemmas.List.{take_at, take-take, length-take-le}
 use Rattle.iso_model.specs.declared.access.Access.{Access}
-use Rattle.iso_model.specs.declared.stores.Area.{Area}
-use Rattle.iso_model.specs.declared.stores.StoreError.{StoreError}
-use Rattle.iso_model.specs.declared.stores.TxError.{TxError}
+use Rattle.store_model.specs.declared.stores.Area.{Area}
+use Rattle.store_model.specs.declared.stores.StoreError.{StoreError}
+use Rattle.store_model.specs.declared.stores.TxError.{TxError}
 use Rattle.iso_model.specs.Array.{Array}
 use Rattle.iso_model.specs.Effect.{own}
-use Rattle.iso_model.specs.Cells.{laid_at}
-use Rattle.iso_model.specs.Stores.{Program, LookWhole, bytes_in, look_access, after}
+use Rattle.store_model.specs.Cells.{laid_at}
+use Rattle.store_model.specs.Stores.{Program, bytes_in, look_access, after}
 use Rattle.iso_alloc.proofs.Laying.{laid_here}
 use Rattle.tx_blocks.specs.Tx.{Tx, Device, with_accesses}
 use Rattle.tx_blocks.specs.Runs.{Ran, IsCut, IsCause, HasRun}
 use Rattle.tx_blocks.proofs.Programs.{own_reads}
 use Rattle.tx_blocks.proofs.Progress.{IsAt, at_start, at_look_whole, own_append, same_base, with_more}
 use Rattle.tx_blocks.proofs.Parts.{run_from}
-use Rattle.iso_model.specs.TreeNodes.{Cell, used_cells}
+use Rattle.store_model.specs.TreeNodes.{Cell, used_cells}
 use Rattle.iso_tree.specs.Rows.{nodes_from, AreShownUsable, AreUsable, IsUsable}
-use Rattle.iso_model.specs.TreeCalls.{look_again, Answer}
+use Rattle.store_model.specs.TreeCalls.{look_again, Answer}
 use Rattle.iso_tree.specs.Walks.{AreBytesOf}
 use Rattle.iso_tree.proofs.Frames.{piece_of}
 use Rattle.iso_tree.proofs.Removing.{cut_at_whole}
@@ -37,7 +37,7 @@ at_join whole rest next t u v now more = record {
   is = more.is ∙ ap (λ (w : Tx). with_accesses w more.done) now.is ∙ with_more t now.done more.done;
   told = λ A told.
       now.told A told ∙ ap (after now.done) (more.told A (same_base whole rest t u now ∙ told))
-      ∙ ap (λ xs. (xs, (Rattle.iso_model.specs.Stores.outcome (Rattle.tx_blocks.specs.Tx.room_of v) next (own A v.accesses)).1)) (sym (append_assoc now.done more.done (Rattle.iso_model.specs.Stores.outcome (Rattle.tx_blocks.specs.Tx.room_of v) next (own A v.accesses)).0));
+      ∙ ap (λ xs. (xs, (Rattle.store_model.specs.Stores.outcome (Rattle.tx_blocks.specs.Tx.room_of v) next (own A v.accesses)).1)) (sym (append_assoc now.done more.done (Rattle.store_model.specs.Stores.outcome (Rattle.tx_blocks.specs.Tx.room_of v) next (own A v.accesses)).0));
 }
 
 module _ (a : Area) (block count : ℕ) (rest path : List (ℕ × ℕ)) (is : path ≡ (block, count) ∷ rest) (f : List (ℕ × List Cell) → Program Answer) where

@@ -8,11 +8,11 @@ use Rattle.std.proofs.lemmas.Bool.{cases_Bool}
 use Rattle.std.proofs.lemmas.Slice.Eq.{bytes_eq-Decides}
 use Rattle.std.proofs.lemmas.List.{append-nil}
 use Rattle.iso_model.specs.Effect.{or_else}
-use Rattle.iso_model.specs.Cells.{text_of}
-use Rattle.iso_model.specs.TreeNodes.{Cell, child_of}
-use Rattle.iso_model.specs.Trees.{Tree, tree_at, pairs_in, nodes_in, IsApart, AreAfter, IsOrdered, Put}
+use Rattle.store_model.specs.Cells.{text_of}
+use Rattle.store_model.specs.TreeNodes.{Cell, child_of}
+use Rattle.store_model.specs.Trees.{Tree, tree_at, pairs_in, nodes_in, IsApart, AreAfter, IsOrdered, Put}
 use Rattle.iso_tree.proofs.Shapes.{kids, IsAdded, IsGrown, write_cells, second_kid}
-use Rattle.iso_model.specs.HashRegion.{IsIn}
+use Rattle.store_model.specs.HashRegion.{IsIn}
 use Rattle.iso_tree.proofs.Finding.{found_in, find_append, ties, not_bytes_eq}
 use Rattle.iso_tree.proofs.Order.{grown_more, not_before_empty}
 use Rattle.iso_tree.proofs.Blocks.{in_front, in_back, apart_parts, grown_apart, tree_same}

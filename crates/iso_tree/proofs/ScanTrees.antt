@@ -3,18 +3,18 @@ use Rattle.std.proofs.Common.{◌≡◌, ◌∙◌, sym, refl, ap, subst, ℕ, z
 use Rattle.std.specs.List.{AllByRecursion, flat_map, list_all}
 use Rattle.std.proofs.lemmas.Bool.{and_from}
 use Rattle.std.proofs.lemmas.List.{append-nil}
-use Rattle.iso_model.specs.declared.stores.Area.{Area}
-use Rattle.iso_model.specs.declared.stores.StoreError.TheVariants.{Broken}
+use Rattle.store_model.specs.declared.stores.Area.{Area}
+use Rattle.store_model.specs.declared.stores.StoreError.TheVariants.{Broken}
 use Rattle.iso_model.specs.Array.{Array}
 use Rattle.iso_model.specs.Effect.{own}
 use Rattle.iso_model.specs.Premises.{block_at}
-use Rattle.iso_model.specs.Stores.{AreReads, Program, Done, bytes_in, further_bytes, accesses_of, answer_of}
-use Rattle.iso_model.specs.Cells.{is_part, key_at, keys_mark, value_mark}
+use Rattle.store_model.specs.Stores.{AreReads, Program, Done, bytes_in, further_bytes, accesses_of, answer_of}
+use Rattle.store_model.specs.Cells.{is_part, key_at, keys_mark, value_mark}
 use Rattle.tx_blocks.proofs.Programs.{accesses_then, answer_then, own_reads, reads_append}
-use Rattle.iso_model.specs.TreeNodes.{below_from, cells_by, count_of, is_child, is_node, place_from, Cell, child_of}
-use Rattle.iso_model.specs.Trees.{tree_at, pairs_in, AreAfter, AreChildren, IsOrdered}
-use Rattle.iso_model.specs.TreeCalls.{and_then, first_in, many_in, parts_of, pairs_with, scan_children, scan_from, scan_further, Scanned}
-use Rattle.iso_model.specs.TreeRegion.{cells_in, AreNodes}
+use Rattle.store_model.specs.TreeNodes.{below_from, cells_by, count_of, is_child, is_node, place_from, Cell, child_of}
+use Rattle.store_model.specs.Trees.{tree_at, pairs_in, AreAfter, AreChildren, IsOrdered}
+use Rattle.store_model.specs.TreeCalls.{and_then, first_in, many_in, parts_of, pairs_with, scan_children, scan_from, scan_further, Scanned}
+use Rattle.store_model.specs.TreeRegion.{cells_in, AreNodes}
 use Rattle.iso_tree.proofs.Edits.{leaf_pairs}
 use Rattle.iso_tree.proofs.Enlarging.{all_taken}
 use Rattle.iso_tree.proofs.Gets.{ordered_in}

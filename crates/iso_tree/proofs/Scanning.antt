@@ -3,16 +3,16 @@ use Rattle.std.proofs.Common.{◌≡◌, ◌∙◌, sym, refl, ap, subst, ℕ, z
 use Rattle.std.specs.List.{list_all, AllByRecursion}
 use Rattle.std.proofs.lemmas.Bool.{and_parts}
 use Rattle.std.proofs.lemmas.List.{append-nil}
-use Rattle.iso_model.specs.declared.stores.Area.{Area}
-use Rattle.iso_model.specs.declared.stores.StoreError.{StoreError}
-use Rattle.iso_model.specs.declared.stores.StoreError.TheVariants as store
-use Rattle.iso_model.specs.declared.stores.TxError.TheVariants as error
-use Rattle.iso_model.specs.HashCalls.{is_key}
-use Rattle.iso_model.specs.Stores.{Program, Done, Look, LookWhole, Reserve, Store, then_do}
-use Rattle.iso_model.specs.Cells.{is_part, keys_mark}
-use Rattle.iso_model.specs.TreeNodes.{child_of, is_child, is_node}
-use Rattle.iso_model.specs.TreeCalls.{and_then, first_in, many_in, pairs_with, parts_of, scan_below, scan_children, scan_from, scan_further, scan_program, with_head, Scanned}
-use Rattle.iso_model.specs.TreeRegion.{scan_op, tree_map, IsTreeRegion}
+use Rattle.store_model.specs.declared.stores.Area.{Area}
+use Rattle.store_model.specs.declared.stores.StoreError.{StoreError}
+use Rattle.store_model.specs.declared.stores.StoreError.TheVariants as store
+use Rattle.store_model.specs.declared.stores.TxError.TheVariants as error
+use Rattle.store_model.specs.HashCalls.{is_key}
+use Rattle.store_model.specs.Stores.{Program, Done, Look, LookWhole, Reserve, Store, then_do}
+use Rattle.store_model.specs.Cells.{is_part, keys_mark}
+use Rattle.store_model.specs.TreeNodes.{child_of, is_child, is_node}
+use Rattle.store_model.specs.TreeCalls.{and_then, first_in, many_in, pairs_with, parts_of, scan_below, scan_children, scan_from, scan_further, scan_program, with_head, Scanned}
+use Rattle.store_model.specs.TreeRegion.{scan_op, tree_map, IsTreeRegion}
 use Rattle.tx_blocks.specs.Tx.{Tx}
 use Rattle.tx_blocks.specs.Runs.{Ran, HasRun, IsLocalCall}
 use Rattle.tx_blocks.proofs.Progress.{IsAt, at_start, at_then, ran_at, stopped_at}

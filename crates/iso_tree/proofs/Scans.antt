@@ -4,10 +4,10 @@ use Rattle.std.specs.List.{AllByRecursion, filter, flat_map}
 use Rattle.std.proofs.lemmas.Bool.{and_from, and_parts, cases_Bool}
 use Rattle.std.proofs.lemmas.List.{append-nil}
 use Rattle.std.proofs.lemmas.List.Elements.{filter-append}
-use Rattle.iso_model.specs.Cells.{text_of}
-use Rattle.iso_model.specs.TreeNodes.{before, Cell}
-use Rattle.iso_model.specs.Trees.{in_range, Rise, RiseAfter, AreAfter}
-use Rattle.iso_model.specs.TreeRegion.{is_within}
+use Rattle.store_model.specs.Cells.{text_of}
+use Rattle.store_model.specs.TreeNodes.{before, Cell}
+use Rattle.store_model.specs.Trees.{in_range, Rise, RiseAfter, AreAfter}
+use Rattle.store_model.specs.TreeRegion.{is_within}
 use Rattle.iso_tree.proofs.Edits.{leaf_pairs}
 use Rattle.iso_tree.proofs.Gets.{pairs_after, rise_in}
 use Rattle.iso_tree.proofs.Order.{irreflexive, range_from}

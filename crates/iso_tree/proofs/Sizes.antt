@@ -2,7 +2,7 @@
 use Rattle.std.proofs.Common.{ℕ, zero, suc, ◌+◌, ◌≤◌, [], ◌∷◌, ◌++◌, length, arith}
 use Rattle.std.specs.List.{flat_map}
 use Rattle.std.proofs.lemmas.List.{length-append}
-use Rattle.iso_model.specs.Trees.{Tree, nodes_in}
+use Rattle.store_model.specs.Trees.{Tree, nodes_in}
 use Rattle.iso_tree.proofs.Shapes.{IsSized}
 
 unfoldable pub doubled : (level : ℕ) → ℕ

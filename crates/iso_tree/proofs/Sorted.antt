@@ -8,8 +8,8 @@ use Rattle.std.specs.FinMap.Entries.{is_sorted, below_all}
 use Rattle.std.proofs.Math.Dec.{T}
 use Rattle.std.proofs.lemmas.Bool.{and_from, and_parts}
 use Rattle.std.proofs.lemmas.List.{append-nil}
-use Rattle.iso_model.specs.TreeNodes.{before, Cell}
-use Rattle.iso_model.specs.Trees.{in_range, Tree, pairs_in, AreAfter, AreChildren, IsOrdered, Rise, RiseAfter}
+use Rattle.store_model.specs.TreeNodes.{before, Cell}
+use Rattle.store_model.specs.Trees.{in_range, Tree, pairs_in, AreAfter, AreChildren, IsOrdered, Rise, RiseAfter}
 use Rattle.iso_tree.proofs.Edits.{leaf_pairs}
 use Rattle.iso_tree.proofs.Gets.{ordered_in, pairs_after}
 use Rattle.iso_tree.proofs.Order.{before_trans}

@@ -1,18 +1,18 @@
 -- The array after unmarked writes of nodes, and the nodes that stay as they were.
-use Rattle.std.proofs.Common.{◌≡◌, ◌≢◌, ◌⊎◌, ◌∙◌, sym, refl, ap, subst, ℕ, zero, suc, ◌+◌, ◌-◌, ◌*◌, ◌<◌, ◌≤◌, ◌==◌, Bool, true, false, IsTrue, List, [], ◌∷◌, ◌++◌, map, length, arith, inl, inr}
+use Rattle.std.proofs.Common.{◌≡◌, ◌⊎◌, ◌∙◌, sym, refl, ap, subst, ℕ, zero, suc, ◌+◌, ◌-◌, ◌<◌, ◌≤◌, true, false, List, [], ◌∷◌, ◌++◌, map, length, arith, inl, inr}
 use Rattle.std.specs.List.{AllByRecursion, flat_map}
-use Rattle.iso_model.specs.declared.stores.Area.{Area}
+use Rattle.store_model.specs.declared.stores.Area.{Area}
 use Rattle.iso_model.specs.Array.{Array, put}
 use Rattle.iso_model.specs.Effect.{own}
-use Rattle.iso_model.specs.HashRegion.{IsIn}
+use Rattle.store_model.specs.HashRegion.{IsIn}
 use Rattle.iso_model.specs.Premises.{block_at}
-use Rattle.iso_model.specs.Stores.{Done, bytes_in, store_access, accesses_of}
-use Rattle.iso_model.specs.Cells.{cell_count, keys_mark, value_mark}
+use Rattle.store_model.specs.Stores.{Done, bytes_in, store_access, accesses_of}
+use Rattle.store_model.specs.Cells.{cell_count, keys_mark, value_mark}
 use Rattle.iso_model.proofs.Bytes.{length-block_put, written_block, other_block}
-use Rattle.iso_model.specs.TreeNodes.{Cell, FitCells, IsBlock, child_of, count_of, is_node, used_cells, node_bytes}
-use Rattle.iso_model.specs.Trees.{tree_at, nodes_in, IsApart, first_key}
-use Rattle.iso_model.specs.TreeCalls.{store_nodes}
-use Rattle.iso_model.specs.TreeRegion.{cells_in, is_part_at, IsNode, AreNodes}
+use Rattle.store_model.specs.TreeNodes.{Cell, FitCells, IsBlock, child_of, count_of, is_node, used_cells, node_bytes}
+use Rattle.store_model.specs.Trees.{tree_at, nodes_in, IsApart, first_key}
+use Rattle.store_model.specs.TreeCalls.{store_nodes}
+use Rattle.store_model.specs.TreeRegion.{cells_in, is_part_at, IsNode, AreNodes}
 use Rattle.iso_tree.proofs.Blocks.{in_front, in_back, apart_parts, chosen_in}
 use Rattle.iso_tree.proofs.Bytes.{keys_are, cells_are, unused_values, count_is, length-node_bytes, merged_whole}
 use Rattle.iso_tree.proofs.Fits.{cells_at}
@@ -102,7 +102,7 @@ module _ (a : Area) (A B : Array) where
   row_kept level key c (d ∷ ds) apart kept all new =
       let first = nodes_in level (tree_at (cells_in a A) level (child_of c.1)) in
       let parts = apart_parts first (nodes_below level (d ∷ ds)) apart in
-      elim (Rattle.iso_model.specs.TreeNodes.before key d.0) as (λ b.
+      elim (Rattle.store_model.specs.TreeNodes.before key d.0) as (λ b.
       ((k : ℕ) → IsIn k (nodes_below level (c ∷ d ∷ ds)) → (IsIn k (nodes_in level (tree_at (cells_in a A) level (child_of (Rattle.std.proofs.Common.cond b c.1 (chosen key d.1 ds))))) → ⊥) → Same k)
       → AreNodes a B level (child_of (Rattle.std.proofs.Common.cond b c.1 (chosen key d.1 ds))) → AllByRecursion (λ (c : Cell). AreNodes a B level (child_of c.1)) (c ∷ d ∷ ds)) [
         | true ↦ λ h is. (is, row_same level (d ∷ ds) (λ k has. h k (in_back k first _ has) (λ mine. parts.2 k mine has)) all.1)

@@ -2,11 +2,11 @@
 use Rattle.std.proofs.Common.{◌≡◌, refl, subst, ℕ, zero, suc, ◌+◌, ◌-◌, ◌<◌, ◌≤◌, Bool, true, false, not, cond, List, [], ◌∷◌, take, length, arith, inl, inr}
 use Rattle.std.specs.List.{filter, range_with_len}
 use Rattle.std.proofs.lemmas.List.{length-take-le}
-use Rattle.iso_model.specs.declared.stores.Area.{Area}
-use Rattle.iso_model.specs.HashRegion.{IsIn}
-use Rattle.iso_model.specs.FreeMap.{map_bit, free_count}
-use Rattle.iso_model.specs.Trees.{IsApart}
-use Rattle.iso_model.specs.TreeCalls.{free_list}
+use Rattle.store_model.specs.declared.stores.Area.{Area}
+use Rattle.store_model.specs.HashRegion.{IsIn}
+use Rattle.store_model.specs.FreeMap.{map_bit, free_count}
+use Rattle.store_model.specs.Trees.{IsApart}
+use Rattle.store_model.specs.TreeCalls.{free_list}
 use Rattle.iso_tree.specs.FirstBlock.{Up}
 use Rattle.iso_tree.proofs.MapBits.{up_in}
 

@@ -3,8 +3,8 @@ use Rattle.std.proofs.Common.{◌≡◌, ◌∙◌, sym, refl, ap, ℕ, zero, su
 use Rattle.std.specs.List.{filter, range_with_len}
 use Rattle.std.proofs.lemmas.List.{take_at}
 use Rattle.iso_model.specs.Conflict.{first_from}
-use Rattle.iso_model.specs.FreeMap.{map_bit, with_bit, lowest_free}
-use Rattle.iso_model.specs.TreeCalls.{with_used}
+use Rattle.store_model.specs.FreeMap.{map_bit, with_bit, lowest_free}
+use Rattle.store_model.specs.TreeCalls.{with_used}
 
 no_some : (b : ℕ) → ◌≡◌ {A = Option ℕ} None (Some b) → ⊥
 no_some b e = cc

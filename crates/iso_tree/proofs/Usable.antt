@@ -1,19 +1,19 @@
 -- The nodes that a descent has passed are usable, on whatever array.
 use Rattle.std.proofs.Common.{◌≡◌, ◌∙◌, sym, refl, ap, subst, ℕ, zero, suc, ◌+◌, ◌≤◌, ◌&&◌, Bool, true, false, cond, List, [], ◌∷◌, Some, arith}
 use Rattle.std.proofs.lemmas.Bool.{and_parts}
-use Rattle.iso_model.specs.declared.stores.Area.{Area}
+use Rattle.store_model.specs.declared.stores.Area.{Area}
 use Rattle.iso_model.specs.Array.{Array}
 use Rattle.iso_model.specs.Effect.{own}
 use Rattle.iso_model.specs.Premises.{block_at}
-use Rattle.iso_model.specs.Cells.{keys_mark}
-use Rattle.iso_model.specs.Stores.{Program, Done, bytes_in, further_bytes, answer_of}
+use Rattle.store_model.specs.Cells.{keys_mark}
+use Rattle.store_model.specs.Stores.{Program, Done, bytes_in, further_bytes, answer_of}
 use Rattle.tx_blocks.specs.Tx.{Tx}
 use Rattle.tx_blocks.specs.Runs.{Ran, HasRead}
 use Rattle.tx_blocks.proofs.Programs.{own_reads}
 use Rattle.tx_blocks.proofs.Progress.{own_append, whole_run}
-use Rattle.iso_model.specs.TreeNodes.{child_of, count_of, is_child, is_node}
+use Rattle.store_model.specs.TreeNodes.{child_of, count_of, is_child, is_node}
 use Rattle.iso_tree.specs.Rows.{ArePathUsable, AreShownUsable, IsUsable}
-use Rattle.iso_model.specs.TreeCalls.{Descent, AtLeaf, AtBroken, descend, leaf_further, inner_further}
+use Rattle.store_model.specs.TreeCalls.{Descent, AtLeaf, AtBroken, descend, leaf_further, inner_further}
 use Rattle.iso_tree.proofs.Facts.{node_parts, inner_many}
 
 abbrev HasPassed : Area → Array → Descent → Type 0
@@ -54,5 +54,5 @@ path_usable a key root level t u path leaf keys value read ran some = λ A told.
     let parts = node_parts a.size 0 keys passed.1 in
     let first : IsUsable a.size (block_at B (a.start + leaf)) (count_of keys) =
     subst (λ (k : List ℕ). IsUsable a.size (block_at B (a.start + leaf)) (count_of k)) (sym passed.2)
-    (record { parts = subst (λ (k : List ℕ). Rattle.iso_model.specs.Cells.are_key_parts a.size k ≡ true) passed.2 parts.parts; count_is = refl; some = subst (λ (k : List ℕ). 1 ≤ count_of k) passed.2 some; few = subst (λ (k : List ℕ). count_of k ≤ Rattle.iso_model.specs.Cells.cell_count a.size) passed.2 parts.few }) in
+    (record { parts = subst (λ (k : List ℕ). Rattle.store_model.specs.Cells.are_key_parts a.size k ≡ true) passed.2 parts.parts; count_is = refl; some = subst (λ (k : List ℕ). 1 ≤ count_of k) passed.2 some; few = subst (λ (k : List ℕ). count_of k ≤ Rattle.store_model.specs.Cells.cell_count a.size) passed.2 parts.few }) in
     subst (λ (C : Array). ArePathUsable a C ((leaf, count_of keys) ∷ path)) (sym (shown_same t u A read)) (first, passed.0)

@@ -6,17 +6,17 @@ use Rattle.std.proofs.lemmas.Bool.{and_parts, cases_eq, leb-true}
 use Rattle.std.proofs.lemmas.List.{append-nil, drop-drop}
 use Rattle.iso_model.specs.declared.access.Access.{Access}
 use Rattle.iso_model.specs.declared.access.Span.{Span}
-use Rattle.iso_model.specs.declared.stores.Area.{Area}
-use Rattle.iso_model.specs.declared.stores.StoreError.TheVariants as store
-use Rattle.iso_model.specs.declared.stores.TxError.{TxError}
+use Rattle.store_model.specs.declared.stores.Area.{Area}
+use Rattle.store_model.specs.declared.stores.StoreError.TheVariants as store
+use Rattle.store_model.specs.declared.stores.TxError.{TxError}
 use Rattle.iso_model.specs.Effect.{own}
 use Rattle.iso_model.specs.Marks.{marked}
 use Rattle.iso_model.specs.Premises.{block_at}
-use Rattle.iso_model.specs.Stores.{Done, bytes_in, further_bytes, with_further, look_access}
-use Rattle.iso_model.specs.Cells.{is_part, is_zero, key_at, keys_mark, text_of}
-use Rattle.iso_model.specs.TreeNodes.{is_child, is_node, child_of}
-use Rattle.iso_model.specs.TreeCalls.{first_in, many_in, pairs_with, parts_of, scan_further}
-use Rattle.iso_model.specs.TreeRegion.{is_part_at}
+use Rattle.store_model.specs.Stores.{Done, bytes_in, further_bytes, with_further, look_access}
+use Rattle.store_model.specs.Cells.{is_part, is_zero, key_at, keys_mark, text_of}
+use Rattle.store_model.specs.TreeNodes.{is_child, is_node, child_of}
+use Rattle.store_model.specs.TreeCalls.{first_in, many_in, pairs_with, parts_of, scan_further}
+use Rattle.store_model.specs.TreeRegion.{is_part_at}
 use Rattle.tx_blocks.specs.Tx.{Tx, Device, with_accesses}
 use Rattle.tx_blocks.specs.Runs.{Ran, IsCause, IsCut}
 use Rattle.tx_blocks.proofs.Marking.{marked_access}

@@ -4,10 +4,10 @@ use Rattle.std.specs.List.{AllByRecursion}
 use Rattle.std.proofs.lemmas.Bool.{cases_eq}
 use Rattle.std.proofs.lemmas.Bool.Decides.{nat_tests}
 use Rattle.std.proofs.lemmas.List.{append_assoc}
-use Rattle.iso_model.specs.TreeNodes.{Cell, child_of, child_part}
-use Rattle.iso_model.specs.Trees.{tree_at, AreChildren, IsOrdered, put_after, Put, halves, fit}
+use Rattle.store_model.specs.TreeNodes.{Cell, child_of, child_part}
+use Rattle.store_model.specs.Trees.{tree_at, AreChildren, IsOrdered, put_after, Put, halves, fit}
 use Rattle.iso_tree.proofs.Shapes.{kids, after_child, child_for, put_below}
-use Rattle.iso_model.specs.TreeCalls.{Climb, placed, climb_on, climb, full_row}
+use Rattle.store_model.specs.TreeCalls.{Climb, placed, climb_on, climb, full_row}
 use Rattle.iso_tree.proofs.Climbs.{child_ordered}
 use Rattle.iso_tree.proofs.Order.{length-put_after}
 

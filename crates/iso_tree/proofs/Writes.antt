@@ -4,16 +4,16 @@ use Rattle.std.specs.List.{AllByRecursion}
 use Rattle.std.specs.Int.{w32, to_be_bytes, from_be_bytes}
 use Rattle.std.proofs.lemmas.List.{take_at}
 use Rattle.std.proofs.lemmas.Nat.{from_be_bytes-to_be_bytes_4}
-use Rattle.iso_model.specs.declared.stores.Area.{Area}
+use Rattle.store_model.specs.declared.stores.Area.{Area}
 use Rattle.iso_model.specs.Array.{Array, put}
 use Rattle.iso_model.specs.Effect.{own}
 use Rattle.iso_model.specs.Premises.{block_at}
-use Rattle.iso_model.specs.Stores.{Done, store_access, accesses_of}
-use Rattle.iso_model.specs.Cells.{cell_count}
-use Rattle.iso_model.specs.TreeNodes.{FitCells, Cell, child_of, child_part, node_bytes}
+use Rattle.store_model.specs.Stores.{Done, store_access, accesses_of}
+use Rattle.store_model.specs.Cells.{cell_count}
+use Rattle.store_model.specs.TreeNodes.{FitCells, Cell, child_of, child_part, node_bytes}
 use Rattle.iso_tree.proofs.Shapes.{written}
-use Rattle.iso_model.specs.TreeRegion.{cells_in}
-use Rattle.iso_model.specs.TreeCalls.{store_nodes}
+use Rattle.store_model.specs.TreeRegion.{cells_in}
+use Rattle.store_model.specs.TreeCalls.{store_nodes}
 use Rattle.iso_model.proofs.Bytes.{length-block_put}
 use Rattle.iso_tree.proofs.Bytes.{cells_after}
 

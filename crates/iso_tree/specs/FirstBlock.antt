@@ -3,12 +3,12 @@ use Rattle.std.specs.Prelude.{◌≡◌, ℕ, suc, ◌≤◌, List, [], ◌∷�
 use Rattle.std.specs.Int.{w32, to_be_bytes}
 use Rattle.iso_model.specs.declared.access.Access.{Access}
 use Rattle.iso_model.specs.declared.access.Span.{Span}
-use Rattle.iso_model.specs.declared.stores.Area.{Area}
-use Rattle.iso_model.specs.Cells.{laid_at}
-use Rattle.iso_model.specs.Stores.{store_access}
+use Rattle.store_model.specs.declared.stores.Area.{Area}
+use Rattle.store_model.specs.Cells.{laid_at}
+use Rattle.store_model.specs.Stores.{store_access}
 use Rattle.tx_blocks.specs.Tx.{Tx, with_accesses}
-use Rattle.iso_model.specs.TreeNodes.{head_mark}
-use Rattle.iso_model.specs.TreeCalls.{last_of, changed_mark, changed_map}
+use Rattle.store_model.specs.TreeNodes.{head_mark}
+use Rattle.store_model.specs.TreeCalls.{last_of, changed_mark, changed_map}
 
 -- numbers that rise from one on
 abbrev pub Up : (low : ℕ) → List ℕ → Type 0

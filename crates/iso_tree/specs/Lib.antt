@@ -2,4 +2,3 @@ pub mod Walks
 pub mod Rows
 pub mod FirstBlock
 pub mod Visits
-pub mod Ready

@@ -2,14 +2,14 @@
 use Rattle.std.specs.Prelude.{◌≡◌, ℕ, zero, suc, ◌+◌, ◌-◌, ◌*◌, ◌<◌, ◌&&◌, true, cond, List, [], ◌∷◌, ◌++◌, Result, Ok, Err, length}
 use Rattle.std.specs.List.{list_all, AllByRecursion}
 use Rattle.iso_model.specs.declared.access.Span.{Span}
-use Rattle.iso_model.specs.declared.stores.Area.{Area}
-use Rattle.iso_model.specs.declared.stores.StoreError.{StoreError}
-use Rattle.iso_model.specs.declared.stores.StoreError.TheVariants.{Broken}
-use Rattle.iso_model.specs.Cells.{keys_end, keys_mark}
-use Rattle.iso_model.specs.Stores.{Program, Done, Look, bytes_in, further_bytes, then_do}
-use Rattle.iso_model.specs.TreeNodes.{is_node}
-use Rattle.iso_model.specs.TreeCalls.{and_then, first_in, many_in, parts_of, scan_from, scan_further, Scanned}
-use Rattle.iso_model.specs.TreeRegion.{is_part_at}
+use Rattle.store_model.specs.declared.stores.Area.{Area}
+use Rattle.store_model.specs.declared.stores.StoreError.{StoreError}
+use Rattle.store_model.specs.declared.stores.StoreError.TheVariants.{Broken}
+use Rattle.store_model.specs.Cells.{keys_end, keys_mark}
+use Rattle.store_model.specs.Stores.{Program, Done, Look, bytes_in, further_bytes, then_do}
+use Rattle.store_model.specs.TreeNodes.{is_node}
+use Rattle.store_model.specs.TreeCalls.{and_then, first_in, many_in, parts_of, scan_from, scan_further, Scanned}
+use Rattle.store_model.specs.TreeRegion.{is_part_at}
 use Rattle.iso_tree.specs.declared.visit.Visit.{Visit}
 
 -- the mark over the value parts of so many cells from one on

@@ -1,18 +1,18 @@
 // The way up of a put: the writes of nodes, from the leaf to the first one that is not full, or to a new root.
 ghost use Rattle.std.specs.Prelude.{◌≡◌, ◌+◌, ◌-◌, ◌*◌, ◌<◌, ◌≤◌, OnOk, OnErr, IfErr, IfSome, IfNone, Ok, length, take, [], ◌∷◌, true};
-ghost use Rattle.iso_model.specs.Cells.{are_key_parts, cell_count, keys_end};
-ghost use Rattle.iso_model.specs.Stores.{store_access, Done, Store};
+ghost use Rattle.store_model.specs.Cells.{are_key_parts, cell_count, keys_end};
+ghost use Rattle.store_model.specs.Stores.{store_access, Done, Store};
 ghost use Rattle.tx_blocks.specs.Tx.{room_of, with_accesses};
 ghost use Rattle.tx_blocks.specs.Runs.{HasRun, IsCause};
-ghost use Rattle.iso_model.specs.TreeNodes.{count_of, node_bytes, used_cells, Cell, IsBlock};
+ghost use Rattle.store_model.specs.TreeNodes.{count_of, node_bytes, used_cells, Cell, IsBlock};
 ghost use Rattle.iso_tree.specs.Rows.{nodes_from, row_from, upto_from, AreBlocks, AreInside, AreUsable, IsUsable};
-ghost use Rattle.iso_model.specs.Trees.{emptied};
-ghost use Rattle.iso_model.specs.TreeCalls.{climb, need_of, placed, store_nodes};
-ghost use Rattle.iso_model.specs.TreeRegion.{IsTreeArea};
+ghost use Rattle.store_model.specs.Trees.{emptied};
+ghost use Rattle.store_model.specs.TreeCalls.{climb, need_of, placed, store_nodes};
+ghost use Rattle.store_model.specs.TreeRegion.{IsTreeArea};
 
 use crate::fill::{child_part, empty_first, fill_root, fill_row, row_key, upto};
 use iso_alloc::{cell_count, piece};
-use iso_model::{Area, StoreError, TxError};
+use store_model::{Area, StoreError, TxError};
 use tx_blocks::{TxBlocks, store};
 
 // Where a new cell comes in a node: behind the last one whose key is not above the searched one. An inner node's first cell stays.

@@ -1,17 +1,18 @@
 // The way from the root to the leaf of a key.
 ghost use Rattle.std.specs.Prelude.{◌≡◌, ◌+◌, ◌*◌, ◌<◌, ◌≤◌, [], IfOk, OnOk, length, true};
-ghost use Rattle.iso_model.specs.Cells.{cell_count, keys_mark, value_mark};
-ghost use Rattle.iso_model.specs.Stores.{bytes_in};
+ghost use Rattle.store_model.specs.Cells.{cell_count, keys_mark, value_mark};
+ghost use Rattle.store_model.specs.Stores.{bytes_in};
 ghost use Rattle.tx_blocks.specs.Runs.{HasRun};
-ghost use Rattle.iso_model.specs.TreeNodes.{is_head};
+ghost use Rattle.store_model.specs.TreeNodes.{is_head};
 ghost use Rattle.iso_tree.specs.Rows.{AreInside};
-ghost use Rattle.iso_model.specs.TreeRegion.{IsTreeArea};
+ghost use Rattle.store_model.specs.TreeRegion.{IsTreeArea};
 ghost use Rattle.iso_tree.specs.Walks.{child_program, head_program, HasDescended, HasReadLeaf, IsChild, IsHead, IsLeaf, AreBytesOf, OnlyReads};
 
 use crate::node::NodeView;
 use crate::path::Path;
 use iso_alloc::{Region, cell_count, piece, word_at};
-use iso_model::{Area, Span, StoreError};
+use iso_model::Span;
+use store_model::{Area, StoreError};
 use tx_blocks::{TxBlocks, look, mark};
 
 /// The region of an area.

@@ -1,14 +1,14 @@
 // A put that takes new blocks, from the read of the map on.
 ghost use Rattle.std.specs.Prelude.{◌≡◌, ◌+◌, ◌-◌, ◌*◌, ◌<◌, ◌≤◌, ◌==◌, ℕ, List, cond, get_or, length, take, suc, true, Some, None};
-ghost use Rattle.iso_model.specs.Cells.{cell_count, value_part};
-ghost use Rattle.iso_model.specs.FreeMap.{map_bytes, map_mark};
-ghost use Rattle.iso_model.specs.Stores.{bytes_in};
+ghost use Rattle.store_model.specs.Cells.{cell_count, value_part};
+ghost use Rattle.store_model.specs.FreeMap.{map_bytes, map_mark};
+ghost use Rattle.store_model.specs.Stores.{bytes_in};
 ghost use Rattle.tx_blocks.specs.Runs.{Behaves, HasRun};
 ghost use Rattle.iso_tree.specs.FirstBlock.{Up};
-ghost use Rattle.iso_model.specs.TreeNodes.{IsBlock};
+ghost use Rattle.store_model.specs.TreeNodes.{IsBlock};
 ghost use Rattle.iso_tree.specs.Rows.{nodes_from, AreBlocks, AreInside, AreShownUsable, AreUsable};
-ghost use Rattle.iso_model.specs.TreeCalls.{climb, full_row, need_of, put_new, put_writes, with_map, with_used};
-ghost use Rattle.iso_model.specs.TreeRegion.{IsTreeArea};
+ghost use Rattle.store_model.specs.TreeCalls.{climb, full_row, need_of, put_new, put_writes, with_map, with_used};
+ghost use Rattle.store_model.specs.TreeRegion.{IsTreeArea};
 
 use crate::climb::{climb, first_node};
 use crate::descent::region_of;
@@ -16,7 +16,8 @@ use crate::first::store_first;
 use crate::grow::{look_nodes, take_blocks};
 use crate::leaf::value_part;
 use iso_alloc::{cell_count, free_blocks};
-use iso_model::{Area, Span, StoreError};
+use iso_model::Span;
+use store_model::{Area, StoreError};
 use tx_blocks::{TxBlocks, look, reserve};
 
 // How many nodes in a row from the leaf up are full.

@@ -1,22 +1,22 @@
 // A put that takes new blocks.
 ghost use Rattle.std.specs.Prelude.{◌≡◌, ◌+◌, ◌-◌, ◌*◌, ◌<◌, ◌≤◌, ◌↔◌, IsTrue, not, List, ℕ, OnOk, OnErr, IfErr, Err, length, map, take, [], ◌∷◌, true};
 ghost use Rattle.std.specs.List.{filter, range_with_len};
-ghost use Rattle.iso_model.specs.Cells.{are_key_parts, cell_count, keys_end};
-ghost use Rattle.iso_model.specs.FreeMap.{free_count, map_bit, map_bytes};
-ghost use Rattle.iso_model.specs.Stores.{Program};
+ghost use Rattle.store_model.specs.Cells.{are_key_parts, cell_count, keys_end};
+ghost use Rattle.store_model.specs.FreeMap.{free_count, map_bit, map_bytes};
+ghost use Rattle.store_model.specs.Stores.{Program};
 ghost use Rattle.tx_blocks.specs.Runs.{HasRun};
 ghost use Rattle.tx_blocks.proofs.Progress.{IsAt};
-ghost use Rattle.iso_model.specs.TreeNodes.{count_of, Cell, IsBlock};
+ghost use Rattle.store_model.specs.TreeNodes.{count_of, Cell, IsBlock};
 ghost use Rattle.iso_tree.specs.Rows.{nodes_from, AreInside, AreShownUsable, AreUsable, IsUsable};
-ghost use Rattle.iso_model.specs.TreeCalls.{look_again, with_used, Answer};
-ghost use Rattle.iso_model.specs.TreeRegion.{IsTreeArea};
+ghost use Rattle.store_model.specs.TreeCalls.{look_again, with_used, Answer};
+ghost use Rattle.store_model.specs.TreeRegion.{IsTreeArea};
 ghost use Rattle.iso_tree.specs.Walks.{OnlyReads};
 
 use crate::climb::first_node;
 use crate::keys::count_of;
 use crate::whole::look_whole;
 use iso_alloc::{are_key_parts, cell_count, lay, piece, take_lowest};
-use iso_model::{Area, Region, StoreError};
+use store_model::{Area, Region, StoreError};
 use tx_blocks::TxBlocks;
 
 /// Takes so many free blocks, lowest first.

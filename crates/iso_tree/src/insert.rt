@@ -1,11 +1,11 @@
 // The put of a key.
 ghost use Rattle.std.specs.Prelude.{◌≡◌, ◌↔◌, ◌+◌, ◌*◌, ◌<◌, ◌≤◌, Err, IsFalse, IsTrue, true, IfOk, IfErr, OnOk, length};
-ghost use Rattle.iso_model.specs.HashCalls.{is_key, is_value};
-ghost use Rattle.iso_model.specs.HashRegion.{put_op};
+ghost use Rattle.store_model.specs.HashCalls.{is_key, is_value};
+ghost use Rattle.store_model.specs.HashRegion.{put_op};
 ghost use Rattle.tx_blocks.specs.Tx.{IsLater};
 ghost use Rattle.tx_blocks.specs.Runs.{area_of, Behaves, HasEnded, HasRun, IsLocalCall, IsStoreCause, IsUnwritten};
-ghost use Rattle.iso_model.specs.TreeCalls.{put_below_root, put_program};
-ghost use Rattle.iso_model.specs.TreeRegion.{tree_map, IsTreeArea, IsTreeRegion};
+ghost use Rattle.store_model.specs.TreeCalls.{put_below_root, put_program};
+ghost use Rattle.store_model.specs.TreeRegion.{tree_map, IsTreeArea, IsTreeRegion};
 
 use crate::buffer::{buffer, is_key, is_value};
 use crate::descent::{descend, read_head};
@@ -13,8 +13,8 @@ use crate::enlarge::put_new;
 use crate::leaf::{put_cell, put_value};
 use crate::path::Path;
 use iso_alloc::cell_count;
-use iso_model::{Area, Region, StoreError};
 use std::alloc::Global;
+use store_model::{Area, Region, StoreError};
 use tx_blocks::TxBlocks;
 
 // Puts a value at a key below a root. `nodes` has room for a path.

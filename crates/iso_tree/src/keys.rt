@@ -1,7 +1,7 @@
 // Head and key parts of a node: tests, and the places of keys.
 ghost use Rattle.std.specs.Prelude.{◌≡◌, ◌+◌, ◌-◌, ◌<◌, ◌≤◌, true, length, IfSome};
-ghost use Rattle.iso_model.specs.Cells.{cell_count, keys_end, are_key_parts, is_unused, key_at, all_from};
-ghost use Rattle.iso_model.specs.TreeNodes.{are_cells, before, has_head, has_level, below_from, cell_of, count_of, is_node, place_of};
+ghost use Rattle.store_model.specs.Cells.{cell_count, keys_end, are_key_parts, is_unused, key_at, all_from};
+ghost use Rattle.store_model.specs.TreeNodes.{are_cells, before, has_head, has_level, below_from, cell_of, count_of, is_node, place_of};
 
 use iso_alloc::{are_key_parts, are_zero, cell_count, key_part, piece, text_of};
 
@@ -97,7 +97,7 @@ fn are_cells(size: usize, keys: &[u8], count: usize) -> bool
 }
 
 /// Whether head and key parts are those of a node of this level.
-#[tactic(auto, unfolding(iso_model::specs::TreeNodes::is_node))]
+#[tactic(auto, unfolding(store_model::specs::TreeNodes::is_node))]
 pub fn is_node(size: usize, level: u8, keys: &[u8]) -> bool
     requires size { 256 ≤ size }
     requires keys { length keys.now ≡ keys_end size }

@@ -17,8 +17,6 @@ mod node;
 mod path;
 mod range;
 mod remove;
-#[cfg(test)]
-mod tests;
 mod unread;
 mod visit;
 mod whole;

@@ -1,19 +1,20 @@
 // The look-up of a key.
 ghost use Rattle.std.specs.Prelude.{◌≡◌, ◌↔◌, ◌+◌, ◌<◌, ◌≤◌, [], Err, IsFalse, true, IfOk, IfErr, OnOk, length};
-ghost use Rattle.iso_model.specs.HashCalls.{is_key};
-ghost use Rattle.iso_model.specs.HashRegion.{get_op};
+ghost use Rattle.store_model.specs.HashCalls.{is_key};
+ghost use Rattle.store_model.specs.HashRegion.{get_op};
 ghost use Rattle.tx_blocks.specs.Tx.{IsLater};
 ghost use Rattle.tx_blocks.specs.Runs.{area_of, HasEnded, HasRead, HasRun, IsLocalCall, IsStoreCause};
-ghost use Rattle.iso_model.specs.TreeCalls.{get_below, get_program};
-ghost use Rattle.iso_model.specs.TreeRegion.{tree_map, IsTreeArea, IsTreeRegion};
+ghost use Rattle.store_model.specs.TreeCalls.{get_below, get_program};
+ghost use Rattle.store_model.specs.TreeRegion.{tree_map, IsTreeArea, IsTreeRegion};
 ghost use Rattle.iso_tree.specs.Walks.{OnlyReads};
 
 use crate::buffer::{buffer, is_key, spelled};
 use crate::descent::{descend, read_head, value_part};
 use crate::path::Path;
 use iso_alloc::is_part;
-use iso_model::{Area, Bytes, Items, Region, StoreError};
+use iso_model::{Bytes, Items};
 use std::alloc::Global;
+use store_model::{Area, Region, StoreError};
 use tx_blocks::TxBlocks;
 
 // The value of a key below a root.

@@ -1,8 +1,8 @@
 // A node of the tree, as the bytes of its block.
 ghost use Rattle.std.specs.Prelude.{◌≡◌, ◌↔◌, ◌+◌, ◌*◌, ◌<◌, ◌≤◌, IfOk, IfErr, IfSome, IsSome, IsTrue, length, true, cond, Some, None};
-ghost use Rattle.iso_model.specs.Cells.{are_key_parts, cell_count, keys_end, keys_mark, value_mark};
-ghost use Rattle.iso_model.specs.Stores.{bytes_in};
-ghost use Rattle.iso_model.specs.TreeNodes.{cell_of, child_of, count_of, find_in, is_child, is_node, keys_in, place_of, value_in};
+ghost use Rattle.store_model.specs.Cells.{are_key_parts, cell_count, keys_end, keys_mark, value_mark};
+ghost use Rattle.store_model.specs.Stores.{bytes_in};
+ghost use Rattle.store_model.specs.TreeNodes.{cell_of, child_of, count_of, find_in, is_child, is_node, keys_in, place_of, value_in};
 
 use crate::keys::{below, cell_of, count_of, is_node, place_of};
 use iso_alloc::{Cells, Region, are_zero, cell_count, piece, word_at};
@@ -20,7 +20,7 @@ pub struct NodeView<'a> {
 }
 
 impl<'a> Model for NodeView<'a> {
-    ghost use Rattle.iso_model.specs.TreeNodes.{Node};
+    ghost use Rattle.store_model.specs.TreeNodes.{Node};
 
     ghost Value = { Node };
 

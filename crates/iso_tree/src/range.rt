@@ -1,12 +1,12 @@
 // The pairs of a range of keys.
 ghost use Rattle.std.specs.Prelude.{◌≡◌, ◌↔◌, ◌&&◌, ◌+◌, ◌-◌, ◌*◌, ◌<◌, ◌≤◌, ◌++◌, [], ◌∷◌, Err, IsFalse, true, IfOk, IfErr, OnOk, length, map, take};
 ghost use Rattle.std.specs.List.{list_all};
-ghost use Rattle.iso_model.specs.Cells.{are_key_parts, cell_count, is_part, keys_end};
-ghost use Rattle.iso_model.specs.HashCalls.{is_key};
-ghost use Rattle.iso_model.specs.Stores.{bytes_in};
-ghost use Rattle.iso_model.specs.TreeCalls.{pairs_with, parts_of, scan_below, scan_program};
-ghost use Rattle.iso_model.specs.TreeNodes.{child_of};
-ghost use Rattle.iso_model.specs.TreeRegion.{scan_op, tree_map, IsTreeArea, IsTreeRegion};
+ghost use Rattle.store_model.specs.Cells.{are_key_parts, cell_count, is_part, keys_end};
+ghost use Rattle.store_model.specs.HashCalls.{is_key};
+ghost use Rattle.store_model.specs.Stores.{bytes_in};
+ghost use Rattle.store_model.specs.TreeCalls.{pairs_with, parts_of, scan_below, scan_program};
+ghost use Rattle.store_model.specs.TreeNodes.{child_of};
+ghost use Rattle.store_model.specs.TreeRegion.{scan_op, tree_map, IsTreeArea, IsTreeRegion};
 ghost use Rattle.tx_blocks.proofs.Progress.{IsAt};
 ghost use Rattle.tx_blocks.specs.Tx.{IsLater};
 ghost use Rattle.tx_blocks.specs.Runs.{area_of, HasEnded, HasRead, HasRun, IsLocalCall, IsStoreCause};
@@ -19,8 +19,9 @@ use crate::keys::key_of;
 use crate::unread::Unread;
 use crate::visit::{Visit, read_node, values};
 use iso_alloc::{cell_count, piece, text_of, word_at};
-use iso_model::{Area, Bytes, Items, PairList, Region, StoreError, TxError};
+use iso_model::{Bytes, Items};
 use std::alloc::Global;
+use store_model::{Area, PairList, Region, StoreError, TxError};
 use tx_blocks::TxBlocks;
 
 // Whether both are keys.

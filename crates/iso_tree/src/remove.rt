@@ -1,11 +1,11 @@
 // The removal of a key.
 ghost use Rattle.std.specs.Prelude.{◌≡◌, ◌↔◌, ◌+◌, ◌<◌, ◌≤◌, [], Err, Ok, IsFalse, true, IfOk, IfErr, OnOk, length};
-ghost use Rattle.iso_model.specs.HashCalls.{is_key};
-ghost use Rattle.iso_model.specs.HashRegion.{del_op};
+ghost use Rattle.store_model.specs.HashCalls.{is_key};
+ghost use Rattle.store_model.specs.HashRegion.{del_op};
 ghost use Rattle.tx_blocks.specs.Tx.{IsLater};
 ghost use Rattle.tx_blocks.specs.Runs.{area_of, Behaves, HasEnded, HasRun, IsLocalCall, IsStoreCause, IsUnwritten};
-ghost use Rattle.iso_model.specs.TreeCalls.{del_below, del_program, edit_leaf, without_key};
-ghost use Rattle.iso_model.specs.TreeRegion.{tree_map, IsTreeArea, IsTreeRegion};
+ghost use Rattle.store_model.specs.TreeCalls.{del_below, del_program, edit_leaf, without_key};
+ghost use Rattle.store_model.specs.TreeRegion.{tree_map, IsTreeArea, IsTreeRegion};
 ghost use Rattle.iso_tree.specs.Walks.{AreBytesOf, IsLeaf};
 
 use crate::buffer::{buffer, is_key};
@@ -13,8 +13,8 @@ use crate::build::copy_without;
 use crate::descent::{Leaf, descend, read_head};
 use crate::path::Path;
 use crate::whole::look_whole;
-use iso_model::{Area, Region, StoreError};
 use std::alloc::Global;
+use store_model::{Area, Region, StoreError};
 use tx_blocks::{TxBlocks, store};
 
 // Writes the leaf without the key. The leaf is read once more, unmarked, so that the removal depends on all of it: its bytes are

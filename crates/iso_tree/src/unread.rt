@@ -1,9 +1,9 @@
 // The nodes that a scan has still to read.
 ghost use Rattle.std.specs.Prelude.{◌≡◌, [], ◌∷◌, OnOk, IfErr, IfSome, IfNone};
 
-use iso_model::{StoreError, TxError};
 use std::alloc::Global;
 use std::marker::Model;
+use store_model::{StoreError, TxError};
 
 /// The nodes that a scan has still to read. Contracts see a list of level and block, the next node first.
 #[derive(Drop)]

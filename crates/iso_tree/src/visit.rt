@@ -1,12 +1,12 @@
 // The read of a node that a scan visits.
 ghost use Rattle.std.specs.Prelude.{◌≡◌, ◌+◌, ◌*◌, ◌<◌, ◌≤◌, IfOk, IfErr, OnOk, Ok, Err, None, length, true};
 ghost use Rattle.std.specs.List.{list_all};
-ghost use Rattle.iso_model.specs.Cells.{are_key_parts, cell_count, keys_end};
+ghost use Rattle.store_model.specs.Cells.{are_key_parts, cell_count, keys_end};
 ghost use Rattle.iso_model.specs.Marks.{marked};
-ghost use Rattle.iso_model.specs.Stores.{bytes_in};
-ghost use Rattle.iso_model.specs.TreeCalls.{first_in, many_in, parts_of};
-ghost use Rattle.iso_model.specs.TreeNodes.{count_of};
-ghost use Rattle.iso_model.specs.TreeRegion.{is_part_at, IsTreeArea};
+ghost use Rattle.store_model.specs.Stores.{bytes_in};
+ghost use Rattle.store_model.specs.TreeCalls.{first_in, many_in, parts_of};
+ghost use Rattle.store_model.specs.TreeNodes.{count_of};
+ghost use Rattle.store_model.specs.TreeRegion.{is_part_at, IsTreeArea};
 ghost use Rattle.tx_blocks.specs.Runs.{HasRun, Ran};
 ghost use Rattle.tx_blocks.specs.Tx.{mark_refusal};
 ghost use Rattle.iso_tree.specs.Visits.{node_read, values_mark, visit_program, IsVisited};
@@ -16,7 +16,8 @@ use crate::descent::keys_mark;
 use crate::keys::{below, count_of, is_node, place_of};
 use crate::node::is_child;
 use iso_alloc::{cell_count, is_part, piece};
-use iso_model::{Area, Span, StoreError};
+use iso_model::Span;
+use store_model::{Area, StoreError};
 use tx_blocks::{TxBlocks, look, mark};
 
 /// The cells of a node that a scan visits: the first, and how many.

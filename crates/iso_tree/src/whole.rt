@@ -1,11 +1,11 @@
 // Unmarked reads and writes of nodes.
 ghost use Rattle.std.specs.Prelude.{◌≡◌, ◌<◌, OnOk, OnErr, IfErr, [], ◌∷◌, length, true};
-ghost use Rattle.iso_model.specs.Stores.{look_access};
+ghost use Rattle.store_model.specs.Stores.{look_access};
 ghost use Rattle.tx_blocks.specs.Tx.{with_accesses, IsLater};
 ghost use Rattle.tx_blocks.specs.Runs.{IsCause};
 ghost use Rattle.iso_tree.specs.Walks.{AreBytesOf};
 
-use iso_model::TxError;
+use store_model::TxError;
 use tx_blocks::TxBlocks;
 
 /// Reads a block without a mark. A refusal leaves the transaction as it was.

@@ -1,17 +1,18 @@
-// The program: the file disk, standard input and standard output, handed to the top call.
+// The program: the file disk, of which pages are kept, standard input and standard output, handed to the top call.
 #![tactic(auto)]
 
 ghost use Rattle.std.specs.Prelude.{◌≡◌};
 ghost use Rattle.std.specs.Process.{exit_status};
 
-mod file_disk;
-mod files;
 #[cfg(test)]
 mod tests;
+#[cfg(test)]
+mod tests_lock;
 
 use file_disk::FileDisk;
 use iso_io::{StdSink, StdSource, put_all};
 use iso_top::isotope;
+use kept_disk::Kept;
 use par_runner::Gate;
 use std::alloc::AllocError;
 use std::process::ExitCode;
@@ -54,7 +55,7 @@ fn main(rt: HostRuntime) -> ExitCode {
         let _ = put_all(&mut output, b"! memory\n");
         return exit_of(8);
     };
-    let disk = FileDisk::new(files, alloc);
+    let disk = Kept::new(alloc, FileDisk::new(files, alloc));
     let ended = isotope(&rt, alloc, &words, disk, &mut input, &mut output, &Open);
     exit_of(ended.status)
 }

@@ -5,14 +5,14 @@ use Rattle.handle_pass.specs.Accesses.{accesses_of, with_access}
 use Rattle.iso_model.specs.declared.access.Access.{Access}
 use Rattle.iso_model.specs.declared.access.Geometry.{Geometry}
 use Rattle.iso_model.specs.declared.limits.TheConstants.{MAX_ACCESSES}
-use Rattle.iso_model.specs.declared.script.Op.{Op}
-use Rattle.iso_model.specs.declared.script.Reply.{Reply}
-use Rattle.iso_model.specs.declared.script.Reply.TheVariants as reply
-use Rattle.iso_model.specs.declared.stores.TxError.{TxError}
-use Rattle.iso_model.specs.declared.stores.TxError.TheVariants as error
+use Rattle.script_model.specs.declared.script.Op.{Op}
+use Rattle.script_model.specs.declared.script.Reply.{Reply}
+use Rattle.script_model.specs.declared.script.Reply.TheVariants as reply
+use Rattle.store_model.specs.declared.stores.TxError.{TxError}
+use Rattle.store_model.specs.declared.stores.TxError.TheVariants as error
 use Rattle.iso_model.specs.Array.{Array}
-use Rattle.iso_model.specs.Step.{access_step, step}
-use Rattle.iso_model.specs.Step as rules
+use Rattle.script_model.specs.Step.{access_step, step}
+use Rattle.script_model.specs.Step as rules
 use Rattle.iso_model.specs.World.{World}
 use Rattle.tx_blocks.specs.Tx.{access_refusal}
 use Rattle.par_script.specs.Lines.{Own, alone, answer, live_of, own_after, own_among}

@@ -20,18 +20,19 @@ use Rattle.iso_model.specs.declared.core_error.CoreError.{CoreError}
 use Rattle.iso_model.specs.declared.core_error.CoreError.TheVariants as error
 use Rattle.iso_model.specs.declared.memory.InTx.{InTx}
 use Rattle.iso_model.specs.declared.memory.NotInTx.{NotInTx}
-use Rattle.iso_model.specs.declared.script.Op.{Op}
-use Rattle.iso_model.specs.declared.script.Op.TheVariants as op
-use Rattle.iso_model.specs.declared.script.Reply.{Reply}
-use Rattle.iso_model.specs.declared.script.Reply.TheVariants as reply
-use Rattle.iso_model.specs.Step.{step}
+use Rattle.script_model.specs.CoreReplies.{as_reply}
+use Rattle.script_model.specs.declared.script.Op.{Op}
+use Rattle.script_model.specs.declared.script.Op.TheVariants as op
+use Rattle.script_model.specs.declared.script.Reply.{Reply}
+use Rattle.script_model.specs.declared.script.Reply.TheVariants as reply
+use Rattle.script_model.specs.Step.{step}
 use Rattle.iso_shared.specs.declared.entry.Call.TheVariants as call
 use Rattle.iso_shared.specs.declared.entry.Cause.TheVariants as cause
 use Rattle.iso_shared.specs.declared.entry.Entry.{Entry}
 use Rattle.iso_shared.specs.declared.entry.Entry.TheVariants as entry
 use Rattle.iso_shared.specs.States.{Start}
 use Rattle.iso_shared.specs.Told.{cause_of, compact_entry, numbers_of, trim_entry, upgrade_entry}
-use Rattle.script_runner.specs.declared.machine.Stop.{Stop}
+use Rattle.script_model.specs.declared.stop.Stop.{Stop}
 use Rattle.par_script.specs.Lines.{Own, Did, Does, EndsThen}
 use Rattle.par_script.specs.Lines as lines
 use Rattle.par_lines.specs.Answers.{Answered}
@@ -206,7 +207,7 @@ module _ {D O : Type 0} (A : Start) where
   pub ended : (s m t : Session D O) (upto old new : ℕ) (r : Result EndReply EndError) → HasChecked A s (Ok upto) m → HasEnded A m old r t new → Answered A s op.End (say.ended r) t
   ended s m t upto old new (Ok answer) c h =
       let same : h.0 ≡ c.0 = same_own h.0 c.0 (sym h.1 ∙ c.2) in
-      two s m t c.0 upto _ (Ok (reply_of answer)) c.1 c.4 h.3 (ap (λ (o : Own). o.number) same, ap (λ (o : Own). o.accesses) same, refl, h.2)
+      two s m t c.0 upto _ (Ok (as_reply (reply_of answer))) c.1 c.4 h.3 (ap (λ (o : Own). o.number) same, ap (λ (o : Own). o.accesses) same, refl, h.2)
   ended s m t upto old new (Err end.NotInTx) c h = absurd (cc (sym h.0 ∙ c.2))
   ended s m t upto old new (Err (end.Core e)) c h =
       let same : h.0 ≡ c.0 = same_own h.0 c.0 (sym h.1 ∙ c.2) in

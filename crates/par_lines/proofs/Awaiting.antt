@@ -9,14 +9,14 @@ use Rattle.handle_pass.specs.Sessions.{device, own, units}
 use Rattle.handle_pass.proofs.Logs.{moves_made, moves_none, moves_on}
 use Rattle.iso_model.specs.declared.access.Mode.{Mode}
 use Rattle.iso_model.specs.declared.memory.InTx.{InTx}
-use Rattle.iso_model.specs.declared.script.Op.TheVariants as op
-use Rattle.iso_model.specs.declared.script.Reply.{Reply}
-use Rattle.iso_model.specs.declared.script.Reply.TheVariants as reply
-use Rattle.iso_model.specs.Step.{step}
+use Rattle.script_model.specs.declared.script.Op.TheVariants as op
+use Rattle.script_model.specs.declared.script.Reply.{Reply}
+use Rattle.script_model.specs.declared.script.Reply.TheVariants as reply
+use Rattle.script_model.specs.Step.{step}
 use Rattle.iso_shared.specs.declared.entry.Entry.{Entry}
 use Rattle.iso_shared.specs.declared.entry.Entry.TheVariants as entry
 use Rattle.iso_shared.specs.States.{Start}
-use Rattle.script_runner.specs.declared.machine.Stop.{Stop}
+use Rattle.script_model.specs.declared.stop.Stop.{Stop}
 use Rattle.par_script.specs.declared.TheConstants.{MAX_LOOKS}
 use Rattle.par_script.specs.Lines.{Own, Did, Does, LooksFor}
 use Rattle.par_lines.specs.Answers.{Answered}

@@ -6,7 +6,7 @@ use Rattle.std.proofs.lemmas.List.Elements.{filter-append, All-append}
 use Rattle.std.proofs.Math.Seq.{drop-cons}
 use Rattle.std.specs.Prelude.{filter, All}
 use Rattle.std.specs.List.{list_any, range_with_len}
-use Rattle.iso_model.specs.declared.script.Line.{Line}
+use Rattle.script_model.specs.declared.script.Line.{Line}
 use Rattle.par_runner.specs.declared.job.Job.{Job}
 use Rattle.par_script.specs.Told.{has_line, lines_of}
 

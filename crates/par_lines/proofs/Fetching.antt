@@ -11,18 +11,19 @@ use Rattle.handle_pass.proofs.Logs.{moves_made, moves_none, moves_on, moves_rest
 use Rattle.iso_model.specs.declared.access.Access.{Access}
 use Rattle.iso_model.specs.declared.access.Commit.{Commit}
 use Rattle.iso_model.specs.declared.access.Geometry.{Geometry}
-use Rattle.iso_model.specs.declared.script.Op.{Op}
-use Rattle.iso_model.specs.declared.script.Op.TheVariants as op
-use Rattle.iso_model.specs.declared.script.Reply.{Reply}
-use Rattle.iso_model.specs.declared.script.Reply.TheVariants as reply
-use Rattle.iso_model.specs.declared.stores.TxError.{TxError}
-use Rattle.iso_model.specs.declared.stores.TxError.TheVariants as error
+use Rattle.script_model.specs.declared.script.Op.{Op}
+use Rattle.script_model.specs.declared.script.Op.TheVariants as op
+use Rattle.script_model.specs.declared.script.Reply.{Reply}
+use Rattle.script_model.specs.declared.script.Reply.TheVariants as reply
+use Rattle.store_model.specs.declared.stores.TxError.{TxError}
+use Rattle.store_model.specs.declared.stores.TxError.TheVariants as error
 use Rattle.iso_model.specs.Array.{Array}
 use Rattle.iso_model.specs.Effect as effect
 use Rattle.iso_model.specs.History.{all_own}
 use Rattle.iso_model.specs.Marks.{is_outside, mark_fault, marked}
 use Rattle.iso_model.specs.Premises.{block_at}
-use Rattle.iso_model.specs.Step.{access_step, get_access, get_step, read_access, read_step, step}
+use Rattle.script_model.specs.Step.{access_step, get_step, read_step, step}
+use Rattle.iso_model.specs.Step.{get_access, read_access}
 use Rattle.iso_model.proofs.Marked.{marked_last}
 use Rattle.iso_model.specs.World.{World}
 use Rattle.iso_shared.specs.declared.entry.Call.TheVariants as call
@@ -31,8 +32,8 @@ use Rattle.iso_shared.specs.declared.entry.Cause.TheVariants as cause
 use Rattle.iso_shared.specs.declared.entry.Entry.{Entry}
 use Rattle.iso_shared.specs.declared.entry.Entry.TheVariants as entry
 use Rattle.iso_shared.specs.States.{Start}
-use Rattle.script_runner.specs.declared.machine.Stop.{Stop}
-use Rattle.script_runner.specs.declared.machine.Stop.TheVariants as stop
+use Rattle.script_model.specs.declared.stop.Stop.{Stop}
+use Rattle.script_model.specs.declared.stop.Stop.TheVariants as stop
 use Rattle.tx_blocks.specs.Tx.{IsRefused}
 use Rattle.tx_table.specs.Work.{span_at}
 use Rattle.par_script.specs.Lines.{Own, Did, Does, Fetches, Says, WhereShown, alone, answer, live_of, own_after, own_among, with_block}

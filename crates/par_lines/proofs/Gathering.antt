@@ -7,8 +7,8 @@ use Rattle.std.proofs.Math.Seq.{get_or-append_seam}
 use Rattle.std.proofs.lemmas.List.Sums.{sum_by-append, sum_by-cons}
 use mathlib.Core.List.{IsPrefix}
 use Rattle.iso_model.specs.declared.access.Geometry.{Geometry}
-use Rattle.iso_model.specs.declared.script.Line.{Line}
-use Rattle.iso_model.specs.declared.script.Reply.{Reply}
+use Rattle.script_model.specs.declared.script.Line.{Line}
+use Rattle.script_model.specs.declared.script.Reply.{Reply}
 use Rattle.iso_shared.specs.declared.entry.Entry.{Entry}
 use Rattle.iso_shared.specs.declared.entry.Entry.TheVariants as entry
 use Rattle.iso_shared.specs.declared.shared.Shared.{Shared}
@@ -19,7 +19,7 @@ use Rattle.par_runner.specs.declared.job.Flow.TheVariants.{Go, Halt}
 use Rattle.par_runner.specs.declared.job.Job.{Job}
 use Rattle.par_runner.specs.Runs.{Went, Halted, JobRan}
 use Rattle.par_text.specs.declared.part.Part.{Part}
-use Rattle.script_runner.specs.declared.machine.Stop.{Stop}
+use Rattle.script_model.specs.declared.stop.Stop.{Stop}
 use Rattle.handle_pass.specs.declared.session.Session.{Session}
 use Rattle.handle_pass.specs.Calls.{EndsWith}
 use Rattle.handle_pass.specs.Logs.{Log, Moves}

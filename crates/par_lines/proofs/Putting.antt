@@ -6,17 +6,18 @@ use Rattle.handle_pass.specs.Accesses.{access_answer, mark_answer, with_access, 
 use Rattle.handle_pass.specs.Sessions as handle
 use Rattle.handle_pass.proofs.Logs.{moves_none, moves_on, moves_rested}
 use Rattle.iso_model.specs.declared.access.Geometry.{Geometry}
-use Rattle.iso_model.specs.declared.script.Op.TheVariants as op
-use Rattle.iso_model.specs.declared.script.Reply.{Reply}
-use Rattle.iso_model.specs.declared.script.Reply.TheVariants as reply
-use Rattle.iso_model.specs.declared.stores.TxError.{TxError}
-use Rattle.iso_model.specs.declared.stores.TxError.TheVariants as error
+use Rattle.script_model.specs.declared.script.Op.TheVariants as op
+use Rattle.script_model.specs.declared.script.Reply.{Reply}
+use Rattle.script_model.specs.declared.script.Reply.TheVariants as reply
+use Rattle.store_model.specs.declared.stores.TxError.{TxError}
+use Rattle.store_model.specs.declared.stores.TxError.TheVariants as error
 use Rattle.iso_model.specs.Marks.{is_outside, mark_fault, marked}
-use Rattle.iso_model.specs.Step.{access_step, put_access, put_step, step, write_access}
+use Rattle.script_model.specs.Step.{access_step, put_step, step}
+use Rattle.iso_model.specs.Step.{put_access, write_access}
 use Rattle.iso_model.proofs.Marked.{marked_last}
 use Rattle.iso_shared.specs.States.{Start}
-use Rattle.script_runner.specs.declared.machine.Stop.{Stop}
-use Rattle.script_runner.specs.declared.machine.Stop.TheVariants as stop
+use Rattle.script_model.specs.declared.stop.Stop.{Stop}
+use Rattle.script_model.specs.declared.stop.Stop.TheVariants as stop
 use Rattle.tx_blocks.specs.Tx.{IsRefused}
 use Rattle.tx_table.specs.Work.{span_at}
 use Rattle.par_script.specs.Lines.{Own, Did, Does, alone, answer, live_of, own_after}

@@ -9,18 +9,19 @@ use Rattle.handle_pass.proofs.Logs.{moves_none, moves_rested}
 use Rattle.iso_model.specs.declared.access.Access.{Access}
 use Rattle.iso_model.specs.declared.access.Geometry.{Geometry}
 use Rattle.iso_model.specs.declared.limits.TheConstants.{MAX_ACCESSES}
-use Rattle.iso_model.specs.declared.script.Op.{Op}
-use Rattle.iso_model.specs.declared.script.Op.TheVariants as op
-use Rattle.iso_model.specs.declared.script.Reply.{Reply}
-use Rattle.iso_model.specs.declared.script.Reply.TheVariants as reply
-use Rattle.iso_model.specs.declared.stores.TxError.{TxError}
-use Rattle.iso_model.specs.declared.stores.TxError.TheVariants as error
-use Rattle.iso_model.specs.Step.{access_step, fill_step, step, write_access, write_step}
-use Rattle.iso_model.specs.Step as rules
+use Rattle.script_model.specs.declared.script.Op.{Op}
+use Rattle.script_model.specs.declared.script.Op.TheVariants as op
+use Rattle.script_model.specs.declared.script.Reply.{Reply}
+use Rattle.script_model.specs.declared.script.Reply.TheVariants as reply
+use Rattle.store_model.specs.declared.stores.TxError.{TxError}
+use Rattle.store_model.specs.declared.stores.TxError.TheVariants as error
+use Rattle.script_model.specs.Step.{access_step, fill_step, step, write_step}
+use Rattle.iso_model.specs.Step.{write_access}
+use Rattle.script_model.specs.Step as rules
 use Rattle.iso_model.specs.World.{World}
 use Rattle.iso_shared.specs.States.{Start}
-use Rattle.script_runner.specs.declared.machine.Stop.{Stop}
-use Rattle.script_runner.specs.declared.machine.Stop.TheVariants as stop
+use Rattle.script_model.specs.declared.stop.Stop.{Stop}
+use Rattle.script_model.specs.declared.stop.Stop.TheVariants as stop
 use Rattle.tx_blocks.specs.Tx.{access_refusal, IsRefused}
 use Rattle.par_script.specs.Lines.{Own, Did, Does, alone, answer, live_of, own_after, own_among}
 use Rattle.par_lines.specs.Answers.{Answered}

@@ -1,10 +1,10 @@
 -- What a client's line makes of its session.
 use Rattle.std.specs.Prelude.{◌≡◌, List, Result}
-use Rattle.iso_model.specs.declared.script.Op.{Op}
-use Rattle.iso_model.specs.declared.script.Reply.{Reply}
+use Rattle.script_model.specs.declared.script.Op.{Op}
+use Rattle.script_model.specs.declared.script.Reply.{Reply}
 use Rattle.iso_shared.specs.declared.entry.Entry.{Entry}
 use Rattle.iso_shared.specs.States.{Start}
-use Rattle.script_runner.specs.declared.machine.Stop.{Stop}
+use Rattle.script_model.specs.declared.stop.Stop.{Stop}
 use Rattle.handle_pass.specs.declared.session.Session.{Session}
 use Rattle.handle_pass.specs.Logs.{Moves}
 use Rattle.handle_pass.specs.Sessions.{device, own}

@@ -1,10 +1,10 @@
 -- What contracts see of a client, and what a line makes of it.
 use Rattle.std.specs.Prelude.{◌≡◌, ℕ, ◌<◌, ◌≤◌, List, [], ◌∷◌, ◌++◌, Option, Some, Result, Ok, Err, IsTrue}
-use Rattle.iso_model.specs.declared.script.Line.{Line}
-use Rattle.iso_model.specs.declared.script.Reply.{Reply}
+use Rattle.script_model.specs.declared.script.Line.{Line}
+use Rattle.script_model.specs.declared.script.Reply.{Reply}
 use Rattle.iso_model.specs.Geometry.{is_valid}
 use Rattle.iso_shared.specs.States.{Start}
-use Rattle.script_runner.specs.declared.machine.Stop.{Stop}
+use Rattle.script_model.specs.declared.stop.Stop.{Stop}
 use Rattle.par_runner.specs.declared.job.Flow.{Flow}
 use Rattle.par_runner.specs.declared.job.Flow.TheVariants.{Go, Halt}
 use Rattle.handle_pass.specs.Sessions.{IsSession}

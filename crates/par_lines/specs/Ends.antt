@@ -1,11 +1,11 @@
 -- How a run of clients beside each other ends.
 use Rattle.std.specs.Prelude.{◌≡◌, ◌⊎◌, ℕ, List, [], Option, Some, None, Bool, true, false, cond}
 use Rattle.std.specs.List.{list_any}
-use Rattle.iso_model.specs.declared.script.Line.{Line}
+use Rattle.script_model.specs.declared.script.Line.{Line}
 use Rattle.iso_shared.specs.declared.entry.Entry.{Entry}
 use Rattle.iso_shared.specs.States.{Start}
-use Rattle.script_runner.specs.declared.machine.Stop.{Stop}
-use Rattle.script_runner.specs.declared.machine.Stop.TheVariants as stop
+use Rattle.script_model.specs.declared.stop.Stop.{Stop}
+use Rattle.script_model.specs.declared.stop.Stop.TheVariants as stop
 use Rattle.par_text.specs.declared.part.Part.{Part}
 use Rattle.par_text.specs.Output.{IsFront, IsOutput}
 use Rattle.par_script.specs.Told.{Told}

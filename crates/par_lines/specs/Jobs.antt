@@ -1,7 +1,7 @@
 -- What the clients of a run were told, as their threads have returned.
 use Rattle.std.specs.Prelude.{◌≡◌, ◌⊎◌, ℕ, ◌+◌, List, [], ◌∷◌, ◌++◌, None, length}
 use Rattle.std.specs.List.{AllByRecursion}
-use Rattle.iso_model.specs.declared.script.Line.{Line}
+use Rattle.script_model.specs.declared.script.Line.{Line}
 use Rattle.iso_shared.specs.declared.entry.Entry.{Entry}
 use Rattle.iso_shared.specs.declared.shared.Shared.{Shared}
 use Rattle.iso_shared.specs.States.{Start}

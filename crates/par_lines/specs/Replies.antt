@@ -12,16 +12,17 @@ use Rattle.iso_model.specs.declared.core_error.CoreError.{CoreError}
 use Rattle.iso_model.specs.declared.core_error.CoreError.TheVariants as error
 use Rattle.iso_model.specs.declared.memory.InTx.{InTx}
 use Rattle.iso_model.specs.declared.memory.NotInTx.{NotInTx}
-use Rattle.iso_model.specs.declared.stores.TxError.{TxError}
-use Rattle.iso_model.specs.declared.stores.TxError.TheVariants as tx
-use Rattle.iso_model.specs.declared.script.Reply.{Reply}
-use Rattle.iso_model.specs.declared.script.Reply.TheVariants as reply
+use Rattle.store_model.specs.declared.stores.TxError.{TxError}
+use Rattle.store_model.specs.declared.stores.TxError.TheVariants as tx
+use Rattle.script_model.specs.CoreReplies.{as_reply}
+use Rattle.script_model.specs.declared.script.Reply.{Reply}
+use Rattle.script_model.specs.declared.script.Reply.TheVariants as reply
 use Rattle.iso_shared.specs.declared.entry.Posting.{Posting}
 use Rattle.iso_shared.specs.Legal.{reply_of}
 use Rattle.iso_shared.specs.Told.{numbers_of}
 use Rattle.par_script.specs.Lines.{stat_reply}
-use Rattle.script_runner.specs.declared.machine.Stop.{Stop}
-use Rattle.script_runner.specs.declared.machine.Stop.TheVariants as stop
+use Rattle.script_model.specs.declared.stop.Stop.{Stop}
+use Rattle.script_model.specs.declared.stop.Stop.TheVariants as stop
 
 abbrev pub refused : CoreError → Result Reply Stop
 refused error.Down = Err stop.Down
@@ -42,7 +43,7 @@ not_ended end.NotInTx = Ok reply.NotInTx
 not_ended (end.Core e) = refused e
 
 abbrev pub ended : Result EndReply EndError → Result Reply Stop
-ended (Ok r) = Ok (reply_of r)
+ended (Ok r) = Ok (as_reply (reply_of r))
 ended (Err e) = not_ended e
 
 abbrev pub aborted : Result (Unit {0}) NotInTx → Result Reply Stop

@@ -1,10 +1,10 @@
 -- How a line that calls a store ends.
 use Rattle.std.specs.Prelude.{ℕ, Bool, cond, nat_lt, Result, Err}
-use Rattle.iso_model.specs.declared.script.Op.{Op}
-use Rattle.iso_model.specs.declared.script.Op.TheVariants as op
-use Rattle.iso_model.specs.declared.script.Reply.{Reply}
-use Rattle.script_runner.specs.declared.machine.Stop.{Stop}
-use Rattle.script_runner.specs.declared.machine.Stop.TheVariants as stop
+use Rattle.script_model.specs.declared.script.Op.{Op}
+use Rattle.script_model.specs.declared.script.Op.TheVariants as op
+use Rattle.script_model.specs.declared.script.Reply.{Reply}
+use Rattle.script_model.specs.declared.stop.Stop.{Stop}
+use Rattle.script_model.specs.declared.stop.Stop.TheVariants as stop
 
 -- as the call does, unless the disk failed in it, or the device was down
 abbrev pub settled : (failures : ℕ) → (is_down : Bool) → Result Reply Stop → Result Reply Stop

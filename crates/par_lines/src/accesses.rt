@@ -1,6 +1,6 @@
 // The lines that write and mark, which make no entry.
 ghost use Rattle.std.specs.Prelude.{◌≡◌, ◌+◌, ◌-◌, ◌≤◌, ◌++◌, OnOk, length, replicate};
-ghost use Rattle.iso_model.specs.declared.script.Op.TheVariants.{Fill, Mark, Put, Write};
+ghost use Rattle.script_model.specs.declared.script.Op.TheVariants.{Fill, Mark, Put, Write};
 ghost use Rattle.iso_model.specs.Marks.{is_outside};
 ghost use Rattle.handle_pass.specs.Accesses.{mark_answer, HasMarked};
 ghost use Rattle.handle_pass.specs.Sessions.{own, IsSession};
@@ -11,9 +11,10 @@ ghost use Rattle.par_lines.specs.Replies as spec;
 use crate::replies::accessed;
 use handle_pass::Session;
 use iso_disk::Disk;
-use iso_model::{Geometry, Memory, Reply, TxError};
+use iso_model::{Geometry, Memory};
 use iso_shared::Origin;
-use script_runner::Stop;
+use script_model::{Reply, Stop};
+use store_model::TxError;
 
 /// Whether the bytes from `off` on, so many of them, are none or pass the end of a block.
 pub(crate) fn is_outside(size: u32, off: u32, len: usize) -> bool

@@ -1,15 +1,15 @@
 // The lines that begin, end and abort a client's transaction.
 ghost use Rattle.std.specs.Prelude.{◌≡◌, ◌<◌};
-ghost use Rattle.iso_model.specs.declared.script.Op.TheVariants.{Abort, Begin, End};
+ghost use Rattle.script_model.specs.declared.script.Op.TheVariants.{Abort, Begin, End};
 ghost use Rattle.handle_pass.specs.Sessions.{units, IsSession};
 ghost use Rattle.par_lines.specs.Answers.{Answered};
 
 use crate::replies::{aborted, begun, ended, not_ended};
 use handle_pass::Session;
 use iso_disk::Disk;
-use iso_model::{Mode, Reply};
+use iso_model::Mode;
 use iso_shared::Origin;
-use script_runner::Stop;
+use script_model::{Reply, Stop};
 use std::sync::Wait;
 use step_count::{Ledger, Steps};
 

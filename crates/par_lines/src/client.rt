@@ -2,7 +2,7 @@
 ghost use Rattle.std.specs.Prelude.{◌≡◌, ◌<◌, ◌≤◌, IsTrue};
 ghost use Rattle.iso_model.specs.Geometry.{is_valid};
 ghost use Rattle.handle_pass.specs.Sessions.{units, IsSession};
-ghost use Rattle.iso_model.specs.declared.script.Op.TheVariants.{End as OfEnd};
+ghost use Rattle.script_model.specs.declared.script.Op.TheVariants.{End as OfEnd};
 ghost use Rattle.par_lines.specs.Answers.{Answered};
 
 use crate::accesses::{fill, mark, put, write};
@@ -13,10 +13,10 @@ use crate::stores::store;
 use crate::upkeep::{compact, stat, trim, upgrade};
 use handle_pass::Session;
 use iso_disk::Disk;
-use iso_model::{Geometry, Line, Op, Reply, Reserved};
+use iso_model::{Geometry, Reserved};
 use iso_shared::Origin;
 use par_runner::{Client, Flow};
-use script_runner::Stop;
+use script_model::{Line, Op, Reply, Stop};
 use std::alloc::Global;
 use std::marker::Brand;
 use std::sync::Wait;

@@ -2,7 +2,8 @@
 ghost use Rattle.std.specs.Prelude.{◌≡◌, ◌==◌, ◌++◌, ◌∷◌, ◌≤◌, [], All, IfOk, OnOk, cond, filter, length, map, not, reverse};
 ghost use Rattle.par_script.specs.Told.{clients_in, lines_of};
 
-use iso_model::{Line, Memory};
+use iso_model::Memory;
+use script_model::Line;
 use std::alloc::Global;
 
 /// The lines in the other order.

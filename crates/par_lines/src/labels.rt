@@ -1,16 +1,16 @@
 // The lines that hand a transaction on under a label.
 ghost use Rattle.std.specs.Prelude.{◌≡◌, ◌<◌};
-ghost use Rattle.iso_model.specs.declared.script.Op.TheVariants.{Await, Release, Takeover};
+ghost use Rattle.script_model.specs.declared.script.Op.TheVariants.{Await, Release, Takeover};
 ghost use Rattle.handle_pass.specs.Sessions.{units, IsSession};
 ghost use Rattle.par_lines.specs.Answers.{Answered};
 
 use crate::replies::{looked, posted};
 use handle_pass::Session;
 use iso_disk::Disk;
-use iso_model::{Label, Reply};
+use iso_model::Label;
 use iso_shared::Origin;
 use par_script::MAX_LOOKS;
-use script_runner::Stop;
+use script_model::{Reply, Stop};
 use std::sync::Wait;
 
 /// Puts the transaction under the label.

@@ -1,6 +1,6 @@
 // The lines that read.
 ghost use Rattle.std.specs.Prelude.{◌≡◌, ◌+◌, ◌≤◌, IfOk, drop, length, take, vec_len};
-ghost use Rattle.iso_model.specs.declared.script.Op.TheVariants.{Get, Read};
+ghost use Rattle.script_model.specs.declared.script.Op.TheVariants.{Get, Read};
 ghost use Rattle.handle_pass.specs.Accesses.{access_answer, HasRead, IsReadCause};
 ghost use Rattle.handle_pass.specs.Sessions.{IsSession};
 ghost use Rattle.tx_blocks.specs.Tx.{IsRefused};
@@ -11,11 +11,12 @@ use crate::accesses::{is_outside, mark_range, wrong_bytes};
 use crate::replies::accessed;
 use handle_pass::Session;
 use iso_disk::Disk;
-use iso_model::{Bytes, Geometry, Memory, Reply, TxError};
+use iso_model::{Bytes, Geometry, Memory};
 use iso_shared::Origin;
-use script_runner::Stop;
+use script_model::{Reply, Stop};
 use std::alloc::Global;
 use std::sync::Wait;
+use store_model::TxError;
 
 /// Zeros, as many as a block has bytes.
 fn zeros(alloc: Global, size: u32) -> Result<Vec<u8>, Memory>

@@ -4,8 +4,9 @@ ghost use Rattle.par_lines.specs.Replies as spec;
 
 use handle_pass::{BeginError, EndError, PostTxError};
 use iso_core::Stat;
-use iso_model::{CoreError, EndReply, InTx, NotInTx, Reply, TxError};
-use script_runner::Stop;
+use iso_model::{CoreError, EndReply, InTx, NotInTx};
+use script_model::{Reply, Stop};
+use store_model::TxError;
 
 /// A call of the device that was refused.
 pub(crate) fn refused(error: CoreError) -> Result<Reply, Stop>

@@ -11,10 +11,11 @@ ghost use Rattle.par_lines.specs.Jobs.{units_in, AllTold, Finished, IsNew};
 
 use crate::client::ParClient;
 use iso_disk::Disk;
-use iso_model::{Items, LAST, Line, Reserved};
+use iso_model::{Items, LAST, Reserved};
 use iso_shared::{Origin, Port, Shared};
 use par_runner::{Gate, Job, run_all};
 use par_text::Part;
+use script_model::Line;
 use std::snapshot::Snapshot;
 use std::sync::Wait;
 use std::thread::Threads;

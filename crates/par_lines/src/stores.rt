@@ -9,13 +9,14 @@ ghost use Rattle.par_lines.specs.Stores.{IsOnStore, settled};
 
 use handle_pass::{Left, Session, Visit};
 use iso_disk::Disk;
-use iso_model::{Geometry, Mode, Op, Region, Reply};
+use iso_model::{Geometry, Mode};
 use iso_shared::Origin;
-use script_runner::Stop;
+use script_model::{Op, Reply, Stop};
 use std::alloc::Global;
 use std::marker::Brand;
 use std::sync::Wait;
 use store_calls::{call, is_empty_scan, store_region};
+use store_model::Region;
 
 /// What a line ends with whose call ended so.
 fn settle(failures: u64, is_down: bool, answer: Result<Reply, Stop>) -> Result<Reply, Stop>

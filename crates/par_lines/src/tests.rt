@@ -10,10 +10,11 @@ ghost use Rattle.iso_shared.specs.TestImage.{small, MayStart};
 use crate::{ParEnd, par_lines};
 use iso_core::Core;
 use iso_memdisk::MemDisk;
-use iso_model::{Geometry, Line, Memory, Mode, Parsed};
+use iso_model::{Geometry, Memory, Mode};
 use iso_recover::format_image;
 use iso_shared::{Origin, Shared};
 use par_runner::Gate;
+use script_model::{Line, Parsed};
 use script_text::parse_line;
 use std::alloc::{AllocError, Global};
 use std::marker::Brand;
@@ -81,7 +82,7 @@ fn run_over<O: Origin + Send + Sync, R: Threads + Wait + Sync>(
     core: Core<MemDisk>,
     lines: Vec<(u64, Line)>,
 ) -> Option<ParEnd>
-    requires start { MayStart state_of O.start core }
+    requires start { MayStart state_of O.start O.disk core }
     requires valid { IsTrue (is_valid O.start.world.geometry) }
 {
     match Shared::<MemDisk, O>::new(alloc, core) {

@@ -1,15 +1,14 @@
 // The lines that need no transaction.
 ghost use Rattle.std.specs.Prelude.{◌≡◌, Ok};
-ghost use Rattle.iso_model.specs.declared.script.Op.TheVariants.{Compact, Stat, Trim, Upgrade};
+ghost use Rattle.script_model.specs.declared.script.Op.TheVariants.{Compact, Stat, Trim, Upgrade};
 ghost use Rattle.handle_pass.specs.Sessions.{IsSession};
 ghost use Rattle.par_lines.specs.Answers.{Answered};
 
 use crate::replies::{compacted, numbers, trimmed, upgraded};
 use handle_pass::Session;
 use iso_disk::Disk;
-use iso_model::Reply;
 use iso_shared::Origin;
-use script_runner::Stop;
+use script_model::{Reply, Stop};
 use std::sync::Wait;
 
 /// Lets versions go that nobody can be shown.

@@ -1,6 +1,6 @@
 -- Steps in a row.
 use Rattle.std.proofs.Common.{◌≡◌, ℕ, ◌+◌, List, [], ◌∷◌, ◌++◌, take, refl, sym, subst}
-use Rattle.iso_model.specs.declared.script.Line.{Line}
+use Rattle.script_model.specs.declared.script.Line.{Line}
 use Rattle.par_runner.specs.declared.job.Flow.{Flow}
 use Rattle.par_runner.specs.declared.job.Flow.TheVariants.{Go}
 use Rattle.par_runner.specs.Runs.{Went}

@@ -1,6 +1,6 @@
 -- What a job's steps made of its client.
 use Rattle.std.specs.Prelude.{◌≡◌, ◌⊎◌, ℕ, ◌+◌, List, [], ◌∷◌, Some, length, take, slice_get}
-use Rattle.iso_model.specs.declared.script.Line.{Line}
+use Rattle.script_model.specs.declared.script.Line.{Line}
 use Rattle.par_runner.specs.declared.job.Flow.{Flow}
 use Rattle.par_runner.specs.declared.job.Flow.TheVariants.{Go, Halt}
 use Rattle.par_runner.specs.declared.job.Job.{Job}

@@ -1,7 +1,7 @@
 // What is run: clients, their lines, and the gate that they pass.
 ghost use Rattle.std.specs.Prelude.{ℕ};
 
-use iso_model::Line;
+use script_model::Line;
 use std::sync::Wait;
 
 /// Whether a client goes on after a step.
@@ -13,7 +13,7 @@ pub enum Flow {
 
 /// It makes steps, of which each is one line.
 pub trait Client: Send {
-    ghost use Rattle.iso_model.specs.declared.script.Line.{Line};
+    ghost use Rattle.script_model.specs.declared.script.Line.{Line};
     ghost use Rattle.par_runner.specs.declared.job.Flow.{Flow};
 
     // It may make a step.

@@ -9,3 +9,5 @@ pub use run::run_all;
 
 #[cfg(test)]
 mod tests;
+#[cfg(test)]
+mod tests_gate;

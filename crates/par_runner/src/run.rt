@@ -4,7 +4,7 @@ ghost use denote.Param.Send.{IsSync, IsSend};
 ghost use Rattle.par_runner.specs.Runs.{Ran, JobRan};
 
 use crate::job::{Client, Flow, Gate, Job};
-use iso_model::Line;
+use script_model::Line;
 use std::sync::Wait;
 use std::thread;
 use std::thread::Threads;

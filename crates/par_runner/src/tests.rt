@@ -2,7 +2,7 @@
 ghost use Rattle.std.specs.Prelude.{ℕ};
 
 use crate::{Client, Flow, Gate, Job, run_all};
-use iso_model::{Line, Op};
+use script_model::{Line, Op};
 use std::alloc::Global;
 use std::process::Abort;
 use std::sync::Wait;
@@ -11,8 +11,8 @@ use std::test::Fail;
 
 // It keeps the digits of the lines that it was given, and halts at an `abort`.
 #[derive(Drop)]
-struct Digits {
-    digits: u64,
+pub(crate) struct Digits {
+    pub(crate) digits: u64,
 }
 
 impl Client for Digits {

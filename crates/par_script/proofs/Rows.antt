@@ -1,20 +1,21 @@
 -- Two clients who hand a transaction to each other under labels: one list that they may leave, with what each is told.
-use Rattle.std.proofs.Common.{◌≡◌, ℕ, ◌<◌, zero, suc, true, List, [], ◌∷◌, ◌++◌, Some, None, ap, inl, length, replicate, refl, sym, arith}
+use Rattle.std.proofs.Common.{◌≡◌, ℕ, ◌<◌, zero, suc, true, List, [], ◌∷◌, ◌++◌, Some, None, ap, inl, inr, length, replicate, refl, sym, arith}
 use Rattle.std.specs.Prelude.{Ok, Err, slice_index}
 use Rattle.iso_model.specs.declared.access.Access.{Access}
 use Rattle.iso_model.specs.declared.access.EndReply.TheVariants.{Committed, ReadOnly}
 use Rattle.iso_model.specs.declared.access.Geometry.{Geometry}
-use Rattle.iso_model.specs.declared.access.Mode.TheVariants.{Serial}
-use Rattle.iso_model.specs.declared.script.Line.{Line}
-use Rattle.iso_model.specs.declared.script.Op.{Op}
-use Rattle.iso_model.specs.declared.script.Op.TheVariants as op
-use Rattle.iso_model.specs.declared.script.Reply.{Reply}
-use Rattle.iso_model.specs.declared.script.Reply.TheVariants as reply
+use Rattle.iso_model.specs.declared.access.Mode.TheVariants.{Serial, Snapshot}
+use Rattle.script_model.specs.declared.script.Line.{Line}
+use Rattle.script_model.specs.declared.script.Op.{Op}
+use Rattle.script_model.specs.declared.script.Op.TheVariants as op
+use Rattle.script_model.specs.declared.script.Reply.{Reply}
+use Rattle.script_model.specs.declared.script.Reply.TheVariants as reply
 use Rattle.iso_model.specs.Array.{put}
 use Rattle.iso_model.specs.Conflict.{clash}
 use Rattle.iso_model.specs.Effect.{runs}
 use Rattle.iso_model.specs.Premises.{AreBytes, IsAccess}
-use Rattle.iso_model.specs.Step.{begin_step, commit_step, end_step, get_access, get_step, put_access, put_step, read_step, step}
+use Rattle.iso_model.specs.Step.{get_access, put_access, begin_step, commit_step, end_step}
+use Rattle.script_model.specs.Step.{get_step, put_step, read_step, step}
 use Rattle.iso_model.specs.World.{empty_history, fresh}
 use Rattle.iso_model.proofs.Accesses.{get_is_access, put_is_access}
 use Rattle.iso_model.proofs.ByteLists.{no_bytes}
@@ -24,15 +25,16 @@ use Rattle.iso_shared.specs.declared.entry.Entry.{Entry}
 use Rattle.iso_shared.specs.declared.entry.Entry.TheVariants as entry
 use Rattle.iso_shared.specs.States.{Start}
 use Rattle.iso_shared.specs.Legal.{IsLegal}
-use Rattle.script_runner.specs.declared.machine.Stop.TheVariants as stop
-use Rattle.par_script.specs.Lines.{Own, Does, Did, Walk}
+use Rattle.script_model.specs.declared.stop.Stop.TheVariants as stop
+use Rattle.par_script.specs.declared.TheConstants.{MAX_LOOKS}
+use Rattle.par_script.specs.Lines.{Own, Does, Did, Walk, last_abort}
 use Rattle.par_script.specs.Told.{Told, clients_in, entries_of, lines_of}
 
 abbrev small : Geometry
 small = record { block = 64; blocks = 4; log = 256; mode = Serial; hash = 0; tree = 0; form = 1 }
 
 abbrev start : Start
-start = record { world = fresh small 1 (empty_history small); faults = 0; tells = true; contents = None; bound = None }
+start = record { world = fresh small 1 (empty_history small); faults = 0; tells = true }
 
 abbrev says : (number client : ℕ) → Op → ℕ × Line
 says number client o = (number, record { client = client; op = o })
@@ -393,3 +395,77 @@ stops_with = (refl, refl, refl)
 -- the entries of the one client are not those of the other
 not_the_others : entries_of 1 owners made ≡ second_entries → ⊥
 not_the_others same = not_equal (length (entries_of 1 owners made)) (length second_entries) (omega arith) (ap length same)
+
+-- an await looks so often
+so_often : MAX_LOOKS ≡ 1000000
+so_often = refl
+
+-- a begin is in the mode that is named, and names it where it is refused
+not_another_mode : Does small true None (op.Begin (Some Snapshot)) (entry.Begin 1 0 Serial ∷ []) (Ok (reply.Began 0)) (Some (record at_a { accesses = [] })) → ⊥
+not_another_mode does = cc (does.0)
+
+not_another_begin_refused : Does small true None (op.Begin None) (entry.Refused (call.Begin (Some Snapshot)) cause.ModeFixed ∷ []) (Ok reply.ModeFixed) None → ⊥
+not_another_begin_refused does = cc (does.0)
+
+-- a read fetches its own block, by its own transaction
+not_another_block : Does small true (Some at_a) (op.Read 0) (entry.Fetch 1 1 block ∷ []) (Ok (reply.Shown block)) (Some at_a) → ⊥
+unfolding step read_step
+not_another_block does = cc (does.1)
+
+not_another_reader : Does small true (Some at_a) (op.Read 0) (entry.Fetch 2 0 block ∷ []) (Ok (reply.Shown block)) (Some at_a) → ⊥
+unfolding step read_step
+not_another_reader does = cc (does.0)
+
+-- an end is of the own transaction, with its accesses, and ends it
+not_anothers_end : Does small true (Some at_b) op.End (entry.Recent 2 1 ∷ entry.End 1 (get_both ∷ []) ReadOnly ∷ []) (Ok reply.ReadOnly) None → ⊥
+not_anothers_end does = cc (does.1.0)
+
+not_without_accesses : Does small true (Some at_b) op.End (entry.Recent 2 1 ∷ entry.End 2 [] ReadOnly ∷ []) (Ok reply.ReadOnly) None → ⊥
+not_without_accesses does = not_equal 0 1 (omega arith) (ap (λ (l : List Access). length l) (does.1.1))
+
+not_anothers_recent : Does small true (Some at_b) op.End (entry.Recent 1 1 ∷ entry.End 2 (get_both ∷ []) ReadOnly ∷ []) (Ok reply.ReadOnly) None → ⊥
+not_anothers_recent does = cc (does.0)
+
+not_kept_by_a_fault : Does small true (Some at_a) op.End (entry.Recent 1 0 ∷ entry.Refused (call.End 1 (put_aa ∷ [])) (cause.Disk 0 1) ∷ []) (Err stop.Disk) (Some at_a) → ⊥
+not_kept_by_a_fault does = cc (does.1.2)
+
+not_answered_over_a_fault : Does small true (Some at_a) op.End (entry.Recent 1 0 ∷ entry.Refused (call.End 1 (put_aa ∷ [])) (cause.Disk 0 1) ∷ []) (Ok reply.ReadOnly) None → ⊥
+not_answered_over_a_fault does = cc (does.1.1)
+
+-- an abort, a post and a look are of the own transaction and label
+not_anothers_abort : Does small true (Some at_a) op.Abort (entry.Abort 2 ∷ []) (Ok reply.Done) None → ⊥
+not_anothers_abort does = cc (does.0)
+
+not_anothers_post : Does small true (Some at_a) (op.Release a) (entry.Post 2 a (put_aa ∷ []) ∷ []) (Ok reply.Done) None → ⊥
+not_anothers_post does = cc (does.0)
+
+not_posted_bare : Does small true (Some at_a) (op.Release a) (entry.Post 1 a [] ∷ []) (Ok reply.Done) None → ⊥
+not_posted_bare does = not_equal 0 1 (omega arith) (ap (λ (l : List Access). length l) (does.2))
+
+not_kept_by_a_post : Does small true (Some at_a) (op.Release a) (entry.Post 1 a (put_aa ∷ []) ∷ []) (Ok reply.Done) (Some at_a) → ⊥
+not_kept_by_a_post does = cc (does.4)
+
+not_lost_by_a_look : Does small true None (op.Takeover b) (entry.Look b (Some at_b) ∷ []) (Ok (reply.Began 1)) None → ⊥
+not_lost_by_a_look does = cc (does.2)
+
+-- upkeep tells the floor, and keeps the transaction
+not_another_trim : Does small true None op.Trim (entry.Trim 0 ∷ []) (Ok (reply.Trimmed 1)) None → ⊥
+not_another_trim does = cc (does.0)
+
+not_lost_by_a_trim : Does small true (Some at_a) op.Trim (entry.Trim 0 ∷ []) (Ok (reply.Trimmed 0)) None → ⊥
+not_lost_by_a_trim does = cc (does.1)
+
+not_another_compact : Does small true None op.Compact (entry.Compact 0 ∷ []) (Ok (reply.Compacted 1)) None → ⊥
+not_another_compact does = cc (does.0)
+
+not_another_upgrade : Does small true None op.Upgrade (entry.Upgrade 0 ∷ []) (Ok (reply.Upgraded 1)) None → ⊥
+not_another_upgrade does = cc (does.0)
+
+-- at its end a client aborts what it still has
+aborts_the_last : last_abort (Some at_a) ≡ entry.Abort 1 ∷ []
+aborts_the_last = refl
+
+-- want of memory before a turn makes no entry
+no_entry_before_a_turn : Did small true (Some at_a) op.Abort (entry.Abort 2 ∷ []) (Err stop.Memory) (Some at_a) → ⊥
+no_entry_before_a_turn (inl does) = cc (does.0)
+no_entry_before_a_turn (inr wants) = cc (wants.0)

@@ -6,21 +6,22 @@ use Rattle.std.specs.Prelude.{Ok, Err}
 use Rattle.iso_model.specs.declared.access.Access.{Access}
 use Rattle.iso_model.specs.declared.access.Geometry.{Geometry}
 use Rattle.iso_model.specs.declared.access.Mode.TheVariants.{Serial, Snapshot}
-use Rattle.iso_model.specs.declared.script.Op.TheVariants as op
-use Rattle.iso_model.specs.declared.script.Reply.{Reply}
-use Rattle.iso_model.specs.declared.script.Reply.TheVariants as reply
+use Rattle.script_model.specs.declared.script.Op.TheVariants as op
+use Rattle.script_model.specs.declared.script.Reply.{Reply}
+use Rattle.script_model.specs.declared.script.Reply.TheVariants as reply
 use Rattle.iso_model.specs.Array.{Array, zeros}
-use Rattle.iso_model.specs.Cells.{keys_mark}
-use Rattle.iso_model.specs.HashCalls.{get_program, got, walk, walk_of}
-use Rattle.iso_model.specs.HashRegion.{bucket_of, is_linked}
+use Rattle.store_model.specs.Cells.{keys_mark}
+use Rattle.store_model.specs.HashCalls.{get_program, got, walk, walk_of}
+use Rattle.store_model.specs.HashRegion.{bucket_of, is_linked}
 use Rattle.iso_model.specs.Premises.{block_at}
-use Rattle.iso_model.specs.Step.{hash_area, hash_get_step, step, store_step}
-use Rattle.iso_model.specs.Stores.{Done, look_access, then_do}
+use Rattle.store_model.specs.Areas.{hash_area}
+use Rattle.script_model.specs.Step.{hash_get_step, step, store_step}
+use Rattle.store_model.specs.Stores.{Done, look_access, then_do}
 use Rattle.iso_shared.specs.declared.entry.Call.TheVariants as call
 use Rattle.iso_shared.specs.declared.entry.Cause.{Cause}
 use Rattle.iso_shared.specs.declared.entry.Cause.TheVariants as cause
 use Rattle.iso_shared.specs.declared.entry.Entry.TheVariants as entry
-use Rattle.script_runner.specs.declared.machine.Stop.TheVariants as stop
+use Rattle.script_model.specs.declared.stop.Stop.TheVariants as stop
 use Rattle.par_script.specs.Lines.{CallsStore, Does, Fetched, Own, StopsBy, answer, blocks_read, fetches, own_after, refused_fetch}
 
 -- eight blocks, of which the first three are a hash store with one bucket

@@ -3,8 +3,8 @@ use Rattle.std.proofs.Common.{ℕ, Bool, List, [], ◌∷◌, ◌++◌, Option, 
 use Rattle.std.specs.Prelude.{Ok}
 use Rattle.std.proofs.lemmas.List.{append-nil}
 use Rattle.iso_model.specs.declared.access.Geometry.{Geometry}
-use Rattle.iso_model.specs.declared.script.Line.{Line}
-use Rattle.iso_model.specs.declared.script.Reply.{Reply}
+use Rattle.script_model.specs.declared.script.Line.{Line}
+use Rattle.script_model.specs.declared.script.Reply.{Reply}
 use Rattle.iso_shared.specs.declared.entry.Entry.{Entry}
 use Rattle.par_script.specs.Lines.{Own, Did, Walk}
 

@@ -4,16 +4,17 @@ use Rattle.std.specs.List.{AllByRecursion}
 use Rattle.iso_model.specs.declared.access.Access.{Access}
 use Rattle.iso_model.specs.declared.access.Geometry.{Geometry}
 use Rattle.iso_model.specs.declared.access.Mode.{Mode}
-use Rattle.iso_model.specs.declared.script.Line.{Line}
-use Rattle.iso_model.specs.declared.script.Op.{Op}
-use Rattle.iso_model.specs.declared.script.Op.TheVariants as op
-use Rattle.iso_model.specs.declared.script.Reply.{Reply}
-use Rattle.iso_model.specs.declared.script.Reply.TheVariants as reply
+use Rattle.script_model.specs.CoreReplies.{as_reply}
+use Rattle.script_model.specs.declared.script.Line.{Line}
+use Rattle.script_model.specs.declared.script.Op.{Op}
+use Rattle.script_model.specs.declared.script.Op.TheVariants as op
+use Rattle.script_model.specs.declared.script.Reply.{Reply}
+use Rattle.script_model.specs.declared.script.Reply.TheVariants as reply
 use Rattle.iso_model.specs.Array.{Array}
 use Rattle.iso_model.specs.Effect.{is_write}
 use Rattle.iso_model.specs.Geometry.{is_serial}
 use Rattle.iso_model.specs.Premises.{block_at}
-use Rattle.iso_model.specs.Step.{step}
+use Rattle.script_model.specs.Step.{step}
 use Rattle.iso_model.specs.World.{World, Live, client, fresh}
 use Rattle.iso_shared.specs.declared.entry.Call.TheVariants as call
 use Rattle.iso_shared.specs.declared.entry.Cause.{Cause}
@@ -23,8 +24,8 @@ use Rattle.iso_shared.specs.declared.entry.Entry.TheVariants as entry
 use Rattle.iso_shared.specs.declared.entry.Numbers.{Numbers}
 use Rattle.iso_shared.specs.declared.entry.Posting.{Posting}
 use Rattle.iso_shared.specs.Legal.{reply_of}
-use Rattle.script_runner.specs.declared.machine.Stop.{Stop}
-use Rattle.script_runner.specs.declared.machine.Stop.TheVariants as stop
+use Rattle.script_model.specs.declared.stop.Stop.{Stop}
+use Rattle.script_model.specs.declared.stop.Stop.TheVariants as stop
 use Rattle.par_script.specs.declared.TheConstants.{MAX_LOOKS}
 
 -- a transaction as its client sees it: its number, its begin, its mode and its accesses
@@ -105,7 +106,7 @@ left_by why t = Some t
 -- after the later commits were asked for: the end, unless memory was wanting for the check
 abbrev pub EndsThen : Own → List Entry → Result Reply Stop → Option Own → Type 0
 EndsThen t [] r own' = (r ≡ Err stop.Memory) × (own' ≡ Some t)
-EndsThen t (entry.End n accesses answered ∷ []) r own' = (n ≡ t.number) × (accesses ≡ t.accesses) × (r ≡ Ok (reply_of answered)) × (own' ≡ None)
+EndsThen t (entry.End n accesses answered ∷ []) r own' = (n ≡ t.number) × (accesses ≡ t.accesses) × (r ≡ Ok (as_reply (reply_of answered))) × (own' ≡ None)
 EndsThen t (entry.Refused c why ∷ []) r own' = (c ≡ call.End t.number t.accesses) × (r ≡ refused why) × (own' ≡ left_by why t)
 EndsThen t es r own' = ⊥
 

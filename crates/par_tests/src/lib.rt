@@ -1,10 +1,16 @@
-//! Tests of the top call with clients in threads.
+//! Tests of the call that the program makes: each of its commands, and clients in threads.
 #![tactic(auto)]
 
 #[cfg(test)]
 mod tests_clients;
 #[cfg(test)]
+mod tests_commands;
+#[cfg(test)]
 mod tests_drawn;
+#[cfg(test)]
+mod tests_gate;
+#[cfg(test)]
+mod tests_operations;
 #[cfg(test)]
 mod tests_statuses;
 #[cfg(test)]

@@ -2,7 +2,7 @@
 // the numbers of begins and commits, which tell how the clients were interleaved.
 use std::alloc::{AllocError, Global};
 use std::test::Fail;
-use top_calls::{call, par_image, run_image};
+use top_calls::{made_image, par_image, run_image};
 
 /// How many clients there are; each has the block of its number.
 const CLIENTS: u8 = 4;
@@ -100,21 +100,13 @@ fn told(alloc: Global, replies: &[u8], client: u8) -> Result<Vec<u8>, AllocError
     Ok(out)
 }
 
-/// An image without commits.
-fn image(alloc: Global) -> Result<Vec<u8>, AllocError> {
-    call(alloc, ROOMY, b"")?
-        .disk
-        .crash(alloc, 0)
-        .or(Err(AllocError))
-}
-
 #[test]
 fn clients_without_shared_blocks_are_told_what_a_run_tells(rt: HostRuntime) -> Result<(), Fail> {
     let alloc = rt.alloc();
     for seed in 0..8u32 {
         let script = drawn(alloc, seed, 20)?;
-        let beside = par_image(&rt, alloc, image(alloc)?, &script)?;
-        let behind = run_image(alloc, image(alloc)?, &script)?;
+        let beside = par_image(&rt, alloc, made_image(alloc, ROOMY, b"")?, &script)?;
+        let behind = run_image(alloc, made_image(alloc, ROOMY, b"")?, &script)?;
         assert_eq!(rt; beside.status, 0);
         assert_eq!(rt; behind.status, 0);
         for client in 0..CLIENTS {

@@ -1,15 +1,6 @@
 // Stores that several clients call beside each other.
-use std::alloc::{AllocError, Global};
 use std::test::Fail;
-use top_calls::{call, par_image, run_image};
-
-/// An image whose store, of one of the two kinds, has two keys as its commit 1.
-fn with_two_keys(alloc: Global, words: &str, script: &[u8]) -> Result<Vec<u8>, AllocError> {
-    call(alloc, words, script)?
-        .disk
-        .crash(alloc, 0)
-        .or(Err(AllocError))
-}
+use top_calls::{made_image, par_image, run_image};
 
 const HASH: &str = "isotope new t.img --block-size 256 --blocks 8 --log 4096 --hash 3";
 
@@ -28,7 +19,7 @@ const THIRD_CLIENT_FIRST: &[u8] =
 #[test]
 fn two_clients_change_keys_of_one_block(rt: HostRuntime) -> Result<(), Fail> {
     let alloc = rt.alloc();
-    let image = with_two_keys(alloc, HASH, b"1 begin\n1 hput 61 31\n1 hput 62 32\n1 end\n")?;
+    let image = made_image(alloc, HASH, b"1 begin\n1 hput 61 31\n1 hput 62 32\n1 end\n")?;
     let outcome = par_image(&rt, alloc, image, TWO_KEYS)?;
     assert_eq!(rt; outcome.status, 0);
     let found = outcome.output.as_slice();
@@ -45,7 +36,7 @@ fn two_clients_change_keys_of_one_block(rt: HostRuntime) -> Result<(), Fail> {
 #[test]
 fn a_scan_of_one_client_meets_a_key_of_another(rt: HostRuntime) -> Result<(), Fail> {
     let alloc = rt.alloc();
-    let image = with_two_keys(alloc, TREE, b"1 begin\n1 tput 61 31\n1 tput 62 32\n1 end\n")?;
+    let image = made_image(alloc, TREE, b"1 begin\n1 tput 61 31\n1 tput 62 32\n1 end\n")?;
     // client 1 has read the range when client 2 puts a key into it, and waits for that commit before it ends
     let script =
         b"1 begin\n1 tscan 61 7a 9\n1 release a\n1 await b\n1 tput 64 34\n1 end\n2 await a\n2 release c\n2 begin\n2 tput 63 33\n2 end\n2 takeover c\n2 release b\n";

@@ -1,5 +1,5 @@
 -- Lines that are added one after another.
-use Rattle.std.proofs.Common.{◌≡◌, ℕ, ◌+◌, ◌<◌, ◌≤◌, List, [], ◌∷◌, ◌++◌, take, drop, length, get_or, map, flat_map, refl, sym, subst, ap, ◌∙◌, arith}
+use Rattle.std.proofs.Common.{◌≡◌, ℕ, ◌+◌, ◌<◌, ◌≤◌, List, [], ◌∷◌, ◌++◌, take, drop, length, get_or, map, flat_map, sym, subst, ap, ◌∙◌, arith}
 use Rattle.std.specs.Prelude.{Result, Ok, Err, OnErr}
 use Rattle.std.specs.List.{concat}
 use Rattle.std.proofs.Math.ListN.{get_or-map}
@@ -9,7 +9,7 @@ use Rattle.std.proofs.lemmas.List.Concat.{flat_map-append}
 use Rattle.std.proofs.lemmas.List.Folds.{concat-append}
 use Rattle.par_text.specs.declared.commit_line.CommitLine.{CommitLine}
 use Rattle.par_text.specs.declared.part.Part.{Part}
-use Rattle.par_text.specs.Output.{commit_line, told_lines, output_lines, AreCommits, AreFirst, IsFront, IsOutput}
+use Rattle.par_text.specs.Output.{commit_line, told_lines, AreCommits, AreFirst, IsFront, IsOutput}
 
 -- one line more
 pub snoc : (old : List ℕ) (lines : List (List ℕ)) (line : List ℕ) → (old ++ concat lines) ++ line ≡ old ++ concat (lines ++ line ∷ [])

@@ -3,8 +3,9 @@ ghost use Rattle.std.specs.Prelude.{◌≡◌, ◌++◌, IfOk, OnOk, OnErr, deci
 ghost use Rattle.par_text.specs.Output.{commit_by, commit_line, commits_of, AreCommits};
 
 use crate::part::Part;
-use iso_model::{Memory, Reply};
+use iso_model::Memory;
 use itoa::Buffer;
+use script_model::Reply;
 use std::alloc::Global;
 
 /// The bytes that the line of a commit fits into.

@@ -7,7 +7,7 @@ mod text;
 
 pub use commit_line::CommitLine;
 pub use part::Part;
-pub use script_runner::Stop;
+pub use script_model::Stop;
 pub use text::par_text;
 
 #[cfg(test)]

@@ -1,7 +1,7 @@
 // What one client was told.
 
-use iso_model::{Items, Reply};
-use script_runner::Stop;
+use iso_model::Items;
+use script_model::{Reply, Stop};
 
 /// A client, the replies to its lines with their numbers, and why it stopped at the line behind them, if it did.
 #[derive(Debug, Drop)]

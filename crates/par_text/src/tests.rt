@@ -1,7 +1,8 @@
 //! The text of small runs: what no clause says is that it is whole with ample memory.
 
 use crate::{Part, par_text};
-use iso_model::{Bytes, Items, Reply};
+use iso_model::{Bytes, Items};
+use script_model::Reply;
 use std::alloc::Global;
 use std::process::Abort;
 use std::test::Fail;

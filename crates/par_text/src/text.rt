@@ -1,12 +1,13 @@
 // The whole text.
 ghost use Rattle.std.specs.Prelude.{◌≡◌, [], ◌++◌, IfErr, IfOk, OnErr, OnOk, flat_map, map};
 ghost use Rattle.std.specs.List.{concat};
-ghost use Rattle.iso_model.specs.Text.{reply_line};
+ghost use Rattle.script_model.specs.Text.{reply_line};
 ghost use Rattle.par_text.specs.Output.{commit_line, told_lines, AreFirst, IsFront, IsOutput};
 
 use crate::commit_line::{CommitLine, print_commit, rising_commits};
 use crate::part::Part;
-use iso_model::{Bytes, Memory, Reply};
+use iso_model::{Bytes, Memory};
+use script_model::Reply;
 use script_text::push_reply;
 use std::alloc::Global;
 

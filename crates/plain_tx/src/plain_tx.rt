@@ -1,8 +1,9 @@
 // A transaction over an array in memory.
 ghost use Rattle.std.specs.Prelude.{◌≡◌, ◌*◌, ◌<◌, ◌≤◌, length};
 
-use iso_model::{Geometry, MarkError, Mode, TxError};
+use iso_model::{Geometry, MarkError, Mode};
 use std::alloc::Global;
+use store_model::TxError;
 use tx_blocks::TxBlocks;
 use tx_table::Work;
 

@@ -2,9 +2,9 @@ ghost use Rattle.std.specs.Prelude.{◌≡◌, IfOk};
 ghost use Rattle.plain_tx.specs.Plain.{state_of};
 
 use super::*;
-use iso_model::TxError;
 use std::alloc::Global;
 use std::test::Fail;
+use store_model::TxError;
 use tx_blocks::TxBlocks;
 
 // Two blocks of 64 bytes.

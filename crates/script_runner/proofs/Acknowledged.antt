@@ -1,32 +1,41 @@
 -- A commit that a reply tells is one of the world after it.
-use Rattle.std.proofs.Common.{◌≡◌, ◌<◌, ◌≤◌, ◌+◌, ◌-◌, ℕ, Bool, true, false, cond, List, [], ◌∷◌, length, Option, Some, None, Result, Ok, Err, inl, inr, drop, take, length-append, arith}
+use Rattle.std.proofs.Common.{◌≡◌, ◌<◌, ◌≤◌, ◌+◌, ◌-◌, ◌&&◌, ◌==◌, not, ℕ, Bool, true, false, cond, List, [], ◌∷◌, length, nat_le, nat_lt, Option, Some, None, Result, Ok, Err, inl, inr, drop, take, length-append, arith}
 use Rattle.iso_model.specs.declared.access.Access.{Access}
 use Rattle.iso_model.specs.declared.access.Clash.{Clash}
 use Rattle.iso_model.specs.declared.access.MarkError.{MarkError}
 use Rattle.iso_model.specs.declared.access.MarkError.TheVariants as mark
 use Rattle.iso_model.specs.declared.access.Mode.{Mode}
 use Rattle.iso_model.specs.declared.access.Span.{Span}
-use Rattle.iso_model.specs.declared.script.Line.{Line}
-use Rattle.iso_model.specs.declared.script.Op.{Op}
-use Rattle.iso_model.specs.declared.script.Op.TheVariants.{Begin, End, Abort, Put, Read as ReadBlock, Get, Write as WriteBlock, Fill, Mark, Release, Takeover, Await, Trim, Stat, Compact, Upgrade, HashPut, HashGet, HashDelete, TreePut, TreeGet, TreeDelete, TreeScan}
-use Rattle.iso_model.specs.declared.script.Reply.{Reply}
-use Rattle.iso_model.specs.declared.script.Reply.TheVariants as reply
-use Rattle.iso_model.specs.declared.stores.StoreError.{StoreError}
-use Rattle.iso_model.specs.declared.stores.StoreError.TheVariants as store
-use Rattle.iso_model.specs.declared.limits.TheConstants.{MAX_ACCESSES}
+use Rattle.iso_model.specs.declared.core_reply.CoreReply.{CoreReply}
+use Rattle.iso_model.specs.declared.core_reply.CoreReply.TheVariants as core
+use Rattle.script_model.specs.declared.script.Line.{Line}
+use Rattle.script_model.specs.declared.script.Op.{Op}
+use Rattle.script_model.specs.declared.script.Op.TheVariants.{Begin, End, Abort, Put, Read as ReadBlock, Get, Write as WriteBlock, Fill, Mark, Release, Takeover, Await, Trim, Stat, Compact, Upgrade, HashPut, HashGet, HashDelete, TreePut, TreeGet, TreeDelete, TreeScan}
+use Rattle.script_model.specs.declared.script.Reply.{Reply}
+use Rattle.script_model.specs.declared.script.Reply.TheVariants as reply
+use Rattle.store_model.specs.declared.stores.StoreError.{StoreError}
+use Rattle.store_model.specs.declared.stores.StoreError.TheVariants as store
+use Rattle.iso_model.specs.declared.limits.TheConstants.{LAST, MAX_ACCESSES, MAX_LIVE}
 use Rattle.iso_model.specs.Conflict.{clash}
-use Rattle.iso_model.specs.HashCalls.{del_program, get_program, put_program}
+use Rattle.iso_model.specs.Effect.{has_write}
+use Rattle.iso_model.specs.Geometry.{same_mode}
+use Rattle.store_model.specs.HashCalls.{del_program, get_program, put_program}
 use Rattle.iso_model.specs.History.{last}
 use Rattle.iso_model.specs.Marks.{mark_fault}
-use Rattle.iso_model.specs.Script.{after}
-use Rattle.iso_model.specs.Step.{access_step, after_commit, after_store, array_of, begin_step, commit_step, end_step, fill_step, found_reply, get_step, hash_area, hash_delete_step, hash_get_step, hash_put_step, in_store, in_transaction, mark_step, marked_step, mode_named, need, numbers, out_of_transaction, put_step, read_access, read_step, release_step, removed_reply, shown_to, step, store_step, switch_step, takeover_step, write_step, pairs_reply, tree_area, tree_put_step, tree_get_step, tree_delete_step, tree_scan_step}
-use Rattle.iso_model.specs.Stores.{Program, outcome}
-use Rattle.iso_model.specs.TreeCalls as tree
+use Rattle.script_model.specs.Script.{after}
+use Rattle.script_model.specs.Step.{access_step, after_store, array_of, fill_step, found_reply, get_step, hash_delete_step, hash_get_step, hash_put_step, in_store, in_transaction, mark_step, marked_step, numbers, out_of_transaction, put_step, read_step, release_step, removed_reply, step, store_step, takeover_step, write_step, pairs_reply, tree_put_step, tree_get_step, tree_delete_step, tree_scan_step}
+use Rattle.iso_model.specs.Step.{after_commit, begin_step, commit_step, end_step, switch_step, mode_named, need, read_access, shown_to}
+use Rattle.script_model.specs.CoreReplies.{as_reply, as_step}
+use Rattle.script_model.proofs.CoreSteps.{as_either}
+use Rattle.store_model.specs.Areas.{hash_area, tree_area}
+use Rattle.store_model.specs.Stores.{Program, outcome}
+use Rattle.store_model.specs.TreeCalls as tree
 use Rattle.iso_model.specs.World.{Live, Place, World, attached, client, floor, held, used}
-use Rattle.iso_model.specs.Worlds.{AreLines, IsWorld}
-use Rattle.iso_model.proofs.Worlds.{after_leads, step_leads}
+use Rattle.script_model.specs.Operations.{AreLines}
+use Rattle.iso_model.specs.Worlds.{IsWorld}
+use Rattle.script_model.proofs.Steps.{after_leads, step_leads}
 use Rattle.script_runner.specs.Run.{Acknowledges}
-use Rattle.script_runner.proofs.Histories.{longer}
+use Rattle.iso_model.proofs.Worlds.{longer}
 
 -- a commit that the reply tells is one of the world beside it
 record Tells (result : Reply × World) : Type 0 where
@@ -45,10 +54,12 @@ refuses false r V y other rest = rest
 other : (r : Reply) (V : World) → ((n : ℕ) → r ≡ reply.Committed n → ⊥) → Tells (r, V)
 other r V none = record { each = λ n e. absurd (none n e) }
 
-begin_tells : (W : World) (place : Place) (mode : Mode) → Tells (begin_step W place mode)
+begin_tells : (W : World) (place : Place) (mode : Mode) → Tells (as_step (begin_step W place mode))
 unfolding begin_step
 begin_tells W place mode =
-    refuses _ reply.ModeFixed W _ (λ n e. cc) (refuses _ reply.TooManyTx W _ (λ n e. cc) (refuses _ reply.Worn W _ (λ n e. cc) (other (reply.Began (last W.history)) _ (λ n e. cc))))
+    as_either Tells ((W.geometry.form == 1) && not (same_mode mode W.geometry.mode)) _ _ (other reply.ModeFixed W (λ n e. cc))
+    (as_either Tells (nat_le MAX_LIVE (length W.live)) _ _ (other reply.TooManyTx W (λ n e. cc))
+    (as_either Tells (nat_lt LAST W.next) _ _ (other reply.Worn W (λ n e. cc)) (other (reply.Began (last W.history)) _ (λ n e. cc))))
 
 access_tells : (W : World) (t : Live) (block : ℕ) (wrong : Bool) (answer : Reply) (a : Access) → ((n : ℕ) → answer ≡ reply.Committed n → ⊥) → Tells (access_step W t block wrong answer a)
 access_tells W t block wrong answer a other =
@@ -90,16 +101,17 @@ committed n W t first e =
     let same : last W.history + 1 ≡ n = cc in
     omega (arith, length-append W.history.commits (record { begin = t.begin; mode = t.mode; accesses = t.accesses } ∷ []))
 
-commit_tells : (W : World) (t : Live) (found : Option Clash) → IsWorld W → Tells (commit_step W t found)
+commit_tells : (W : World) (t : Live) (found : Option Clash) → IsWorld W → Tells (as_step (commit_step W t found))
 unfolding commit_step
 commit_tells W t (Some c) is = record { each = λ n e. cc }
 commit_tells W t None is =
-    refuses _ reply.Worn W _ (λ n e. cc) (refuses _ (reply.LogFull (need W t) (W.geometry.log - used W)) W _ (λ n e. cc)
+    as_either Tells (last W.history == LAST) _ _ (other reply.Worn W (λ n e. cc))
+    (as_either Tells (nat_lt (W.geometry.log - used W) (need W t)) _ _ (other (reply.LogFull (need W t) (W.geometry.log - used W)) W (λ n e. cc))
     (record { each = λ n e. committed n W t is.history.first e }))
 
-end_tells : (W : World) (t : Live) → IsWorld W → Tells (end_step W t)
+end_tells : (W : World) (t : Live) → IsWorld W → Tells (as_step (end_step W t))
 unfolding end_step
-end_tells W t is = tells_either _ _ _ (commit_tells W t (clash W.geometry W.history t.mode t.begin t.accesses) is) (other reply.ReadOnly _ (λ n e. cc))
+end_tells W t is = as_either Tells (has_write t.accesses) _ _ (commit_tells W t (clash W.geometry W.history t.mode t.begin t.accesses) is) (other reply.ReadOnly _ (λ n e. cc))
 
 -- a call of a store makes no commit
 stored_tells : {R : Type 0} (W : World) (t : Live) (answer : R → Reply) → ((r : R) (n : ℕ) → answer r ≡ reply.Committed n → ⊥)
@@ -176,9 +188,9 @@ takeover_tells : (W : World) (c : ℕ) (found : Option Live) → Tells (takeover
 takeover_tells W c None = record { each = λ n e. cc }
 takeover_tells W c (Some t) = record { each = λ n e. cc }
 
-switch_tells : (W : World) (form : ℕ) (answer : Reply) → ((n : ℕ) → answer ≡ reply.Committed n → ⊥) → Tells (switch_step W form answer)
+switch_tells : (W : World) (form : ℕ) (answer : CoreReply) → ((n : ℕ) → as_reply answer ≡ reply.Committed n → ⊥) → Tells (as_step (switch_step W form answer))
 unfolding switch_step
-switch_tells W form answer other = refuses _ reply.Worn W _ (λ n e. cc) (record { each = λ n e. absurd (other n e) })
+switch_tells W form answer none = as_either Tells (W.generation == LAST) _ _ (other reply.Worn W (λ n e. cc)) (other (as_reply answer) _ none)
 
 out_tells : (W : World) (found : Option Live) (result : Reply × World) → Tells result → Tells (out_of_transaction W found result)
 out_tells W (Some t) result tells = record { each = λ n e. cc }
@@ -204,8 +216,8 @@ step_tells W c (Takeover text) is = out_tells W (attached W c) _ (takeover_tells
 step_tells W c (Await text) is = out_tells W (attached W c) _ (takeover_tells W c (held W text))
 step_tells W c Trim is = record { each = λ n e. cc }
 step_tells W c Stat is = record { each = λ n e. cc }
-step_tells W c Compact is = switch_tells W W.geometry.form (reply.Compacted (floor W)) (λ n e. cc)
-step_tells W c Upgrade is = switch_tells W 2 (reply.Upgraded (floor W)) (λ n e. cc)
+step_tells W c Compact is = switch_tells W W.geometry.form (core.Compacted (floor W)) (λ n e. cc)
+step_tells W c Upgrade is = switch_tells W 2 (core.Upgraded (floor W)) (λ n e. cc)
 step_tells W c (HashPut key value) is = in_tells W (attached W c) _ (λ t. hash_put_tells W t key value)
 step_tells W c (HashGet key) is = in_tells W (attached W c) _ (λ t. hash_get_tells W t key)
 step_tells W c (HashDelete key) is = in_tells W (attached W c) _ (λ t. hash_delete_tells W t key)

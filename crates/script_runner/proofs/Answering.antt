@@ -2,14 +2,14 @@
 use Rattle.std.proofs.Common.{◌≡◌, ◌≤◌, ℕ, ◌+◌, Bool, List, [], ◌∷◌, ◌++◌, Some, Result, Ok, Err, IfErr, OnOk, inr, length, refl, sym, ap, subst, ◌∙◌, append_assoc, append-nil, length-append, arith}
 use Rattle.iso_disk.specs.Disk.{DiskState}
 use Rattle.iso_io.specs.Sink.{SinkState}
-use Rattle.iso_model.specs.declared.script.BadLine.{BadLine}
-use Rattle.iso_model.specs.declared.script.Line.{Line}
-use Rattle.iso_model.specs.declared.script.LineError.{LineError}
-use Rattle.iso_model.specs.declared.script.LineError.TheVariants.{Cause, Memory as NoMemory}
-use Rattle.iso_model.specs.declared.script.Parsed.{Parsed}
-use Rattle.iso_model.specs.declared.script.Parsed.TheVariants.{Skip, Line as Says}
-use Rattle.iso_model.specs.Script.{Script, before_script, parse_whole, script_from}
-use Rattle.iso_model.specs.Text.{pieces}
+use Rattle.script_model.specs.declared.script.BadLine.{BadLine}
+use Rattle.script_model.specs.declared.script.Line.{Line}
+use Rattle.script_model.specs.declared.script.LineError.{LineError}
+use Rattle.script_model.specs.declared.script.LineError.TheVariants.{Cause, Memory as NoMemory}
+use Rattle.script_model.specs.declared.script.Parsed.{Parsed}
+use Rattle.script_model.specs.declared.script.Parsed.TheVariants.{Skip, Line as Says}
+use Rattle.script_model.specs.Script.{Script, before_script, parse_whole, script_from}
+use Rattle.script_model.specs.Text.{pieces}
 use Rattle.iso_model.specs.World.{World}
 use Rattle.script_text.specs.Parsing.{Gives}
 use Rattle.script_runner.specs.declared.run_end.Halt.{Halt}

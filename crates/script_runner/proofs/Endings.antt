@@ -11,16 +11,16 @@ use Rattle.iso_io.specs.Sink.{SinkState}
 use Rattle.iso_io.specs.Source.{SourceState, MetEnd, Took}
 use Rattle.iso_io.proofs.Told.{prepend_known-append, prepend_known-nil}
 use Rattle.iso_model.specs.declared.limits.TheConstants.{MAX_INPUT, MAX_LINE}
-use Rattle.iso_model.specs.declared.script.BadLine.{BadLine}
-use Rattle.iso_model.specs.declared.script.Line.{Line}
-use Rattle.iso_model.specs.declared.script.LineError.{LineError}
-use Rattle.iso_model.specs.declared.script.LineError.TheVariants.{Cause, Memory as NoMemory}
-use Rattle.iso_model.specs.declared.script.Parsed.{Parsed}
-use Rattle.iso_model.specs.declared.script.Parsed.TheVariants.{Skip, Line as Says}
+use Rattle.script_model.specs.declared.script.BadLine.{BadLine}
+use Rattle.script_model.specs.declared.script.Line.{Line}
+use Rattle.script_model.specs.declared.script.LineError.{LineError}
+use Rattle.script_model.specs.declared.script.LineError.TheVariants.{Cause, Memory as NoMemory}
+use Rattle.script_model.specs.declared.script.Parsed.{Parsed}
+use Rattle.script_model.specs.declared.script.Parsed.TheVariants.{Skip, Line as Says}
 use Rattle.iso_model.specs.History.{last}
 use Rattle.iso_model.specs.Image.{Shows}
-use Rattle.iso_model.specs.Script.{Script, bad_line, before_script, last_piece, no_lines, parse, parse_whole, script, script_from}
-use Rattle.iso_model.specs.Text.{is_empty, pieces}
+use Rattle.script_model.specs.Script.{Script, bad_line, before_script, last_piece, no_lines, parse, parse_whole, script, script_from}
+use Rattle.script_model.specs.Text.{is_empty, pieces}
 use Rattle.iso_model.specs.World.{World}
 use Rattle.iso_model.specs.Worlds.{IsWorld}
 use Rattle.script_text.specs.Parsing.{Gives}

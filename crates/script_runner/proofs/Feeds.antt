@@ -3,7 +3,7 @@ use Rattle.std.proofs.Common.{◌≡◌, ◌≢◌, ℕ, Bool, true, false, cond
 use Rattle.std.proofs.lemmas.Bool.Decides.{eqb_tells}
 use Rattle.std.proofs.lemmas.List.Elements.{Contains-append_right, Contains-append_cases}
 use Rattle.std.specs.Prelude.{Contains}
-use Rattle.iso_model.specs.Text.{pieces, before_piece}
+use Rattle.script_model.specs.Text.{pieces, before_piece}
 use Rattle.script_runner.specs.Lines.{in_front}
 use Rattle.script_runner.specs.Run.{HasNoFeed}
 

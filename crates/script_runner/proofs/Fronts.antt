@@ -1,10 +1,10 @@
 -- What whole lines say, whatever follows them.
 use Rattle.std.proofs.Common.{◌≡◌, ℕ, ◌+◌, Bool, List, [], ◌∷◌, ◌++◌, Result, Ok, refl, sym, ap, ◌∙◌, append_assoc}
-use Rattle.iso_model.specs.declared.script.Line.{Line}
-use Rattle.iso_model.specs.declared.script.Parsed.{Parsed}
-use Rattle.iso_model.specs.declared.script.Parsed.TheVariants.{Skip, Line as Says}
-use Rattle.iso_model.specs.Script.{Script, before_script, parse_whole, script_from}
-use Rattle.iso_model.specs.Text.{pieces}
+use Rattle.script_model.specs.declared.script.Line.{Line}
+use Rattle.script_model.specs.declared.script.Parsed.{Parsed}
+use Rattle.script_model.specs.declared.script.Parsed.TheVariants.{Skip, Line as Says}
+use Rattle.script_model.specs.Script.{Script, before_script, parse_whole, script_from}
+use Rattle.script_model.specs.Text.{pieces}
 use Rattle.script_text.specs.Parsing.{Gives}
 use Rattle.script_runner.specs.Lines.{SaysFirst, behind, lines_of}
 use Rattle.script_runner.specs.Run.{HasNoFeed}

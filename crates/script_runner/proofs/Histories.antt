@@ -1,57 +1,15 @@
 -- What an image shows stays true while the history grows.
-use Rattle.std.proofs.Common.{inl, inr, ◌≤◌, ℕ, List, ◌++◌, length, Option, Some, None, IfSome, sym, ◌∙◌, ap, arith, length-append, append_assoc, subst}
-use Rattle.iso_model.specs.declared.access.Commit.{Commit}
+use Rattle.std.proofs.Common.{inl, inr, ℕ, List, sym, arith, subst}
 use Rattle.iso_model.specs.declared.access.Geometry.{Geometry}
-use Rattle.iso_model.specs.History.{History, last}
-use Rattle.iso_model.specs.Image.{SameCommit, Shows}
+use Rattle.iso_model.specs.History.{last}
+use Rattle.iso_model.specs.Image.{Shows}
 use Rattle.iso_model.specs.World.{World}
 use Rattle.iso_model.specs.Worlds.{IsWorld, LeadsTo}
-use Rattle.iso_model.proofs.Held.{shows_longer}
+use Rattle.iso_model.proofs.Held.{shows_any_form, shows_longer}
+use Rattle.iso_model.proofs.Worlds.{longer}
 use Rattle.iso_disk.specs.Disk.{DiskState, LeavesOnly}
 use Rattle.iso_disk.proofs.Moments.{joined, weakened}
-use Rattle.script_runner.specs.Between.{IsBeforeOrAfter, ShowsBetween}
-
--- what leads on
-pub leads_on : (W V U : World) → LeadsTo W V → LeadsTo V U → LeadsTo W U
-leads_on W V U first second = record {
-  world = second.world;
-  geometry = record {
-    same = second.geometry.same ∙ ap (λ (g : Geometry). let h : Geometry = record g { form = U.geometry.form } in h) first.geometry.same;
-    form = omega (arith, first.geometry.form, second.geometry.form);
-  };
-  history = record {
-    first = second.history.first ∙ first.history.first;
-    base = second.history.base ∙ first.history.base;
-    more = first.history.more ++ second.history.more;
-    commits = second.history.commits ∙ ap (λ (xs : List Commit). xs ++ second.history.more) first.history.commits
-        ∙ append_assoc W.history.commits first.history.more second.history.more;
-  };
-}
-
--- the last commit's number does not fall
-pub longer : (W V : World) → LeadsTo W V → last W.history ≤ last V.history
-longer W V leads =
-    omega (arith, leads.history.first, ap length leads.history.commits, length-append W.history.commits leads.history.more)
-
-same_but_form : (g : Geometry) (form : ℕ) (o p : Option Commit) → IfSome o (λ c. IfSome p (SameCommit g c))
-    → IfSome o (λ c. IfSome p (SameCommit (record g { form = form }) c))
-same_but_form g form None p same = tt
-same_but_form g form (Some c) None same = tt
-same_but_form g form (Some c) (Some d) same = record { mode = same.mode; effect = same.effect }
-
--- what an image shows does not depend on the form
-shows_any_form : (bytes : List ℕ) (g : Geometry) (form : ℕ) (H : History) (p : ℕ) → Shows bytes g H p → Shows bytes (record g { form = form }) H p
-shows_any_form bytes g form H p shown = record {
-  until = shown.until;
-  form = shown.form;
-  generation = shown.generation;
-  held = shown.held;
-  image = shown.image;
-  last = shown.last;
-  first = shown.first;
-  arrays = shown.arrays;
-  commits = λ n from to. same_but_form g form _ _ (shown.commits n from to);
-}
+use Rattle.iso_model.specs.Between.{ShowsEither, ShowsBetween}
 
 pub shows_on : (W V : World) (bytes : List ℕ) (p : ℕ) → IsWorld W → LeadsTo W V → Shows bytes W.geometry W.history p → Shows bytes V.geometry V.history p
 shows_on W V bytes p is leads shown =
@@ -63,7 +21,7 @@ pub shows_last : (W : World) (c : List ℕ) → Shows c W.geometry W.history (la
 shows_last W c shown = record { at = last W.history; from = omega arith; to = omega arith; shows = shown }
 
 -- one step of a run
-pub step_between : (W V : World) → IsWorld W → LeadsTo W V → (c : List ℕ) → IsBeforeOrAfter W V c → ShowsBetween W V c
+pub step_between : (W V : World) → IsWorld W → LeadsTo W V → (c : List ℕ) → ShowsEither W V c → ShowsBetween W V c
 step_between W V is leads c (inl before) = record { at = last W.history; from = omega arith; to = longer W V leads; shows = shows_on W V c (last W.history) is leads before }
 step_between W V is leads c (inr after) = record { at = last V.history; from = longer W V leads; to = omega arith; shows = after }
 

@@ -2,14 +2,15 @@
 use Rattle.std.proofs.Common.{◌≡◌, ℕ, ◌+◌, List, [], ◌∷◌, Option, Some, None, false, length, get_or, refl, sym, subst, arith}
 use Rattle.std.specs.Prelude.{is_some}
 use Rattle.iso_model.specs.declared.access.Mode.{Mode}
-use Rattle.iso_model.specs.declared.script.Op.{Op}
-use Rattle.iso_model.specs.declared.script.Op.TheVariants.{Begin, End, Put}
-use Rattle.iso_model.specs.declared.script.Reply.{Reply}
-use Rattle.iso_model.specs.declared.script.Reply.TheVariants as reply
+use Rattle.iso_model.specs.Step.{begin_step, commit_step, end_step}
+use Rattle.script_model.specs.declared.script.Op.{Op}
+use Rattle.script_model.specs.declared.script.Op.TheVariants.{Begin, End, Put}
+use Rattle.script_model.specs.declared.script.Reply.{Reply}
+use Rattle.script_model.specs.declared.script.Reply.TheVariants as reply
 use Rattle.iso_model.specs.Array.{put}
 use Rattle.iso_model.specs.Conflict.{clash}
 use Rattle.iso_model.specs.Effect.{runs}
-use Rattle.iso_model.specs.Step.{begin_step, commit_step, end_step, put_step, step}
+use Rattle.script_model.specs.Step.{put_step, step}
 use Rattle.iso_model.specs.World.{World}
 use Rattle.script_runner.specs.Rehearsal.{rehearsed}
 

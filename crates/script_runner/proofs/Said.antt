@@ -4,14 +4,14 @@ use Rattle.std.proofs.lemmas.Bool.{and_parts, leb-true, ltb-false, lt-leb}
 use Rattle.std.proofs.lemmas.List.{take_all}
 use Rattle.std.specs.List.{list_all}
 use Rattle.iso_model.specs.declared.limits.TheConstants.{MAX_INPUT, MAX_LINE}
-use Rattle.iso_model.specs.declared.script.Line.{Line}
-use Rattle.iso_model.specs.declared.script.LineError.{LineError}
-use Rattle.iso_model.specs.declared.script.Parsed.{Parsed}
-use Rattle.iso_model.specs.declared.script.Parsed.TheVariants.{Skip, Line as Says}
-use Rattle.iso_model.specs.Script.{Script, before_script, client_in_range, is_printable, is_skipped, no_lines, operation_of, parse, parse_whole, said, script, script_from, without_return}
-use Rattle.iso_model.specs.Text.{is_empty, number_of, pieces, words_of}
-use Rattle.iso_model.specs.Worlds.{AreLines, IsOp}
-use Rattle.iso_model.proofs.ScriptBytes.{IfGiven, any_given, given_next, given_none, given_one, script_lines}
+use Rattle.script_model.specs.declared.script.Line.{Line}
+use Rattle.script_model.specs.declared.script.LineError.{LineError}
+use Rattle.script_model.specs.declared.script.Parsed.{Parsed}
+use Rattle.script_model.specs.declared.script.Parsed.TheVariants.{Skip, Line as Says}
+use Rattle.script_model.specs.Script.{Script, before_script, client_in_range, is_printable, is_skipped, no_lines, operation_of, parse, parse_whole, said, script, script_from, without_return}
+use Rattle.script_model.specs.Text.{is_empty, number_of, pieces, words_of}
+use Rattle.script_model.specs.Operations.{AreLines, IsOp}
+use Rattle.script_model.proofs.ScriptBytes.{IfGiven, any_given, given_next, given_none, given_one, script_lines}
 use Rattle.script_text.specs.Parsing.{Gives}
 use Rattle.script_runner.specs.Lines.{IsLine, SaysLine}
 use Rattle.script_runner.specs.Run.{HasNoFeed}

@@ -9,25 +9,27 @@ use Rattle.iso_disk.proofs.Moments.{started, weakened, at_end}
 use Rattle.iso_io.specs.Sink.{SinkState, CountsStand, Wrote}
 use Rattle.iso_io.proofs.Told.{append_known-append, append_known-nil}
 use Rattle.iso_model.specs.declared.access.Geometry.{Geometry}
-use Rattle.iso_model.specs.declared.script.Line.{Line}
-use Rattle.iso_model.specs.declared.script.Reply.{Reply}
+use Rattle.script_model.specs.declared.script.Line.{Line}
+use Rattle.script_model.specs.declared.script.Reply.{Reply}
 use Rattle.iso_model.specs.History.{History, last}
 use Rattle.iso_model.specs.Image.{Shows}
-use Rattle.iso_model.specs.Script.{replies, after}
-use Rattle.iso_model.specs.Step.{step}
-use Rattle.iso_model.specs.Text.{reply_line}
+use Rattle.script_model.specs.Script.{replies, after}
+use Rattle.script_model.specs.Step.{step}
+use Rattle.script_model.specs.Text.{reply_line}
 use Rattle.iso_model.specs.World.{World}
-use Rattle.iso_model.specs.Worlds.{AreLines, Extends, IsOp, IsWorld, KeepsGeometry, LeadsTo}
-use Rattle.iso_model.proofs.Worlds.{after_leads, step_leads}
+use Rattle.script_model.specs.Operations.{AreLines, IsOp}
+use Rattle.iso_model.specs.Worlds.{Extends, IsWorld, KeepsGeometry, LeadsTo}
+use Rattle.script_model.proofs.Steps.{after_leads, step_leads}
 use Rattle.script_runner.specs.declared.run_end.RunEnd.{RunEnd}
 use Rattle.script_runner.specs.declared.run_end.RunEnd.TheVariants.{Done, BadLine as Bad, Disk, Input, Output, Memory}
-use Rattle.script_runner.specs.Between.{IsBeforeOrAfter, ShowsBetween}
+use Rattle.iso_model.specs.Between.{ShowsEither, ShowsBetween}
 use Rattle.script_runner.specs.Counts.{DiskCount, SinkCounts}
 use Rattle.script_runner.specs.Lines.{Ran}
 use Rattle.script_runner.specs.Told.{IfTold, IsPlain, StandsSo}
 use Rattle.script_runner.specs.Run.{Answered, IfUp, IsBehind, Replied}
 use Rattle.script_runner.proofs.Acknowledged.{all_kept}
-use Rattle.script_runner.proofs.Histories.{between_since, leads_on, runs_joined, shows_last, step_between}
+use Rattle.script_runner.proofs.Histories.{between_since, runs_joined, shows_last, step_between}
+use Rattle.iso_model.proofs.Worlds.{leads_on}
 
 pub after-append : (W : World) (xs ys : List (ℕ × Line)) → after W (xs ++ ys) ≡ after (after W xs) ys
 after-append W [] ys = refl
@@ -129,13 +131,13 @@ between_same W U V history geometry c shown = record {
 
 -- the moments of one line
 line_moments : {d e : DiskState} (W : World) (x : ℕ × Line) → IsWorld W → IsOp x.1.op → (V : World) → V.history ≡ (step W x.1.client x.1.op).1.history
-    → V.geometry ≡ (step W x.1.client x.1.op).1.geometry → LeavesOnly d e (IsBeforeOrAfter W (step W x.1.client x.1.op).1) → LeavesOnly d e (ShowsBetween W V)
+    → V.geometry ≡ (step W x.1.client x.1.op).1.geometry → LeavesOnly d e (ShowsEither W (step W x.1.client x.1.op).1) → LeavesOnly d e (ShowsBetween W V)
 line_moments W x is good V history geometry moments =
     let U = (step W x.1.client x.1.op).1 in
     weakened moments (λ c shown. between_same W U V history geometry c (step_between W U is (step_leads W x.1.client x.1.op is good) c shown))
 
 module _ {stands : World → Type 0} {d e : DiskState} {k l : SinkState} (W : World) (x : ℕ × Line) (is : IsWorld W) (good : IsOp x.1.op)
-    (moments : LeavesOnly d e (IsBeforeOrAfter W (step W x.1.client x.1.op).1)) where
+    (moments : LeavesOnly d e (ShowsEither W (step W x.1.client x.1.op).1)) where
   -- one line was run, and the sink took its whole reply
   pub ran_one : (so : StandsSo stands d (IsPlain x.1.op) (step W x.1.client x.1.op).1) → IsWorld so.world
       → ((c : List ℕ) → e.now c → Shows c so.world.geometry so.world.history (last so.world.history))

@@ -2,9 +2,9 @@
 use Rattle.std.specs.Prelude.{◌≡◌, ◌⊎◌, ℕ, ◌≤◌, Result, IsErrOf, OnOk}
 use Rattle.fault_count.specs.Count.{Rose}
 use Rattle.iso_io.specs.Sink.{SinkState, CountsStand}
-use Rattle.iso_model.specs.declared.script.Reply.{Reply}
-use Rattle.script_runner.specs.declared.machine.Stop.{Stop}
-use Rattle.script_runner.specs.declared.machine.Stop.TheVariants as stop
+use Rattle.script_model.specs.declared.script.Reply.{Reply}
+use Rattle.script_model.specs.declared.stop.Stop.{Stop}
+use Rattle.script_model.specs.declared.stop.Stop.TheVariants as stop
 use Rattle.script_runner.specs.declared.run_end.RunEnd.{RunEnd}
 use Rattle.script_runner.specs.declared.run_end.RunEnd.TheVariants.{Disk, Input, Output}
 

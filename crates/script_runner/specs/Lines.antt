@@ -3,20 +3,21 @@ use Rattle.std.specs.Prelude.{◌≡◌, ℕ, ◌+◌, ◌≤◌, List, [], ◌�
 use Rattle.iso_disk.specs.Disk.{DiskState, LeavesOnly}
 use Rattle.iso_io.specs.Source.{SourceState, Took}
 use Rattle.iso_io.specs.Sink.{SinkState, CountsStand, Wrote}
-use Rattle.iso_model.specs.declared.script.Line.{Line}
-use Rattle.iso_model.specs.declared.script.LineError.{LineError}
-use Rattle.iso_model.specs.declared.script.LineError.TheVariants.{Cause, Memory as NoMemory}
-use Rattle.iso_model.specs.declared.script.Parsed.{Parsed}
-use Rattle.iso_model.specs.declared.script.Parsed.TheVariants.{Skip, Line as Says}
-use Rattle.iso_model.specs.Script.{Script, replies, script_from}
-use Rattle.iso_model.specs.Text.{pieces}
+use Rattle.script_model.specs.declared.script.Line.{Line}
+use Rattle.script_model.specs.declared.script.LineError.{LineError}
+use Rattle.script_model.specs.declared.script.LineError.TheVariants.{Cause, Memory as NoMemory}
+use Rattle.script_model.specs.declared.script.Parsed.{Parsed}
+use Rattle.script_model.specs.declared.script.Parsed.TheVariants.{Skip, Line as Says}
+use Rattle.script_model.specs.Script.{Script, replies, script_from}
+use Rattle.script_model.specs.Text.{pieces}
 use Rattle.iso_model.specs.World.{World}
-use Rattle.iso_model.specs.Worlds.{AreLines, IsOp, IsWorld}
+use Rattle.script_model.specs.Operations.{AreLines, IsOp}
+use Rattle.iso_model.specs.Worlds.{IsWorld}
 use Rattle.script_runner.specs.declared.run_end.Halt.{Halt}
 use Rattle.script_runner.specs.declared.run_end.Halt.TheVariants as halt
 use Rattle.script_runner.specs.declared.run_end.RunEnd.{RunEnd}
 use Rattle.script_runner.specs.declared.run_end.RunEnd.TheVariants as end
-use Rattle.script_runner.specs.Between.{ShowsBetween}
+use Rattle.iso_model.specs.Between.{ShowsBetween}
 use Rattle.script_runner.specs.Told.{IfTold}
 use Rattle.script_runner.specs.Run.{AreLinesOf, Answered, EndsInFeed, HasNoFeed, IsBehind}
 

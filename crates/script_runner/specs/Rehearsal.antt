@@ -4,16 +4,17 @@ use Rattle.std.proofs.Common.{arith}
 use Rattle.std.specs.List.{AllByRecursion}
 use Rattle.iso_model.specs.declared.access.Geometry.{Geometry}
 use Rattle.iso_model.specs.declared.access.Mode.TheVariants.{Serial}
-use Rattle.iso_model.specs.declared.script.Line.{Line}
-use Rattle.iso_model.specs.declared.script.Op.{Op}
-use Rattle.iso_model.specs.declared.script.Op.TheVariants.{Begin, End, Put}
+use Rattle.script_model.specs.declared.script.Line.{Line}
+use Rattle.script_model.specs.declared.script.Op.{Op}
+use Rattle.script_model.specs.declared.script.Op.TheVariants.{Begin, End, Put}
 use Rattle.iso_model.specs.Geometry.{is_valid}
-use Rattle.iso_model.specs.Script.{after}
+use Rattle.script_model.specs.Script.{after}
 use Rattle.iso_model.specs.World.{World, empty_history, fresh}
-use Rattle.iso_model.specs.Worlds.{AreLines, IsOp, IsWorld}
+use Rattle.script_model.specs.Operations.{AreLines, IsOp}
+use Rattle.iso_model.specs.Worlds.{IsWorld}
 use Rattle.iso_model.proofs.ByteLists.{bytes_cons, no_bytes}
 use Rattle.iso_model.proofs.FreshWorlds.{empty_world_is}
-use Rattle.iso_model.proofs.Worlds.{after_leads}
+use Rattle.script_model.proofs.Steps.{after_leads}
 
 -- the small image
 abbrev pub small : Geometry

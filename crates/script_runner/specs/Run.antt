@@ -4,16 +4,17 @@ use Rattle.iso_disk.specs.Disk.{DiskState, LeavesOnly}
 use Rattle.iso_io.specs.Source.{SourceState, MetEnd, Took}
 use Rattle.iso_io.specs.Sink.{SinkState, Wrote}
 use Rattle.iso_model.specs.declared.limits.TheConstants.{MAX_INPUT}
-use Rattle.iso_model.specs.declared.script.Line.{Line}
-use Rattle.iso_model.specs.declared.script.Reply.TheVariants.{Committed}
+use Rattle.script_model.specs.declared.script.Line.{Line}
+use Rattle.script_model.specs.declared.script.Reply.TheVariants.{Committed}
 use Rattle.iso_model.specs.History.{last}
-use Rattle.iso_model.specs.Script.{Script, after, replies, script}
-use Rattle.iso_model.specs.Step.{step}
+use Rattle.script_model.specs.Script.{Script, after, replies, script}
+use Rattle.script_model.specs.Step.{step}
 use Rattle.iso_model.specs.World.{World}
-use Rattle.iso_model.specs.Worlds.{AreLines, LeadsTo}
+use Rattle.script_model.specs.Operations.{AreLines}
+use Rattle.iso_model.specs.Worlds.{LeadsTo}
 use Rattle.script_runner.specs.declared.run_end.RunEnd.{RunEnd}
 use Rattle.script_runner.specs.declared.run_end.RunEnd.TheVariants.{Done, BadLine as Bad, Disk, Input, Output, Memory}
-use Rattle.script_runner.specs.Between.{ShowsBetween}
+use Rattle.iso_model.specs.Between.{ShowsBetween}
 use Rattle.script_runner.specs.Counts.{DiskCount, SinkCounts, SourceCount}
 use Rattle.script_runner.specs.Told.{ArePlain, IfKnown, IfTold}
 

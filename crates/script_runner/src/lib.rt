@@ -8,7 +8,7 @@ mod piece;
 mod run_end;
 mod runner;
 
-pub use machine::{ScriptMachine, Stop};
+pub use machine::ScriptMachine;
 pub use run_end::RunEnd;
 pub use runner::run;
 

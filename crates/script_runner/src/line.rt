@@ -4,10 +4,10 @@ ghost use Rattle.iso_model.specs.World.{World};
 ghost use Rattle.script_runner.specs.Lines.{AnswersParsed, IsByStep, IsLine, Ran, SaysLine, end_of, halt_of};
 ghost use Rattle.script_runner.specs.Run.{Answered};
 
-use crate::machine::{ScriptMachine, Stop};
+use crate::machine::ScriptMachine;
 use crate::run_end::Halt;
 use iso_io::{Sink, put_all};
-use iso_model::{BadLine, Line, LineError, Parsed};
+use script_model::{BadLine, Line, LineError, Parsed, Stop};
 use script_text::ReplyLine;
 
 /// Runs the operation of a line, and hands its reply to the sink.

@@ -3,25 +3,15 @@ ghost use Rattle.std.specs.Prelude.{◌≡◌, ◌≤◌, ℕ, List, IfOk, IsErr
 ghost use Rattle.iso_disk.specs.Disk.{DiskState, IsLawful, LeavesOnly};
 ghost use Rattle.iso_model.specs.History.{last};
 ghost use Rattle.iso_model.specs.Image.{Shows};
-ghost use Rattle.iso_model.specs.Step.{step};
+ghost use Rattle.script_model.specs.Step.{step};
 ghost use Rattle.iso_model.specs.World.{World};
-ghost use Rattle.iso_model.specs.Worlds.{IsOp, IsWorld};
-ghost use Rattle.script_runner.specs.Between.{IsBeforeOrAfter};
+ghost use Rattle.script_model.specs.Operations.{IsOp};
+ghost use Rattle.iso_model.specs.Worlds.{IsWorld};
+ghost use Rattle.iso_model.specs.Between.{ShowsEither};
 ghost use Rattle.script_runner.specs.Counts.{BlamesDisk};
 ghost use Rattle.script_runner.specs.Told.{IfTold, IsPlain, SameButShown, StandsSo};
 
-use iso_model::{Op, Reply};
-
-/// Why a machine has no reply.
-#[derive(Clone, Copy, Debug, PartialEq, Eq)]
-pub enum Stop {
-    /// An earlier call took it down.
-    Down,
-    /// Its disk failed.
-    Disk,
-    /// Want of memory.
-    Memory,
-}
+use script_model::{Op, Reply, Stop};
 
 /// What answers the operations of clients on an image.
 pub trait ScriptMachine {
@@ -46,7 +36,7 @@ pub trait ScriptMachine {
         ensures world { (W : World) → stands self.old W
             → OnOk result (StandsSo (stands self.new) (disk self.old) (IsPlain op.now) (step W client op.now).1) }
         ensures moments { (W : World) → stands self.old W
-            → LeavesOnly (disk self.old) (disk self.new) (IsBeforeOrAfter W (step W client op.now).1) }
+            → LeavesOnly (disk self.old) (disk self.new) (ShowsEither W (step W client op.now).1) }
         ensures up { ¬ IsErrOf result Stop.Down }
         ensures cause { BlamesDisk (disk self.old).faults (disk self.new).faults result };
 

@@ -1,7 +1,7 @@
 // A piece of the input, and the lines in it.
 ghost use Rattle.std.specs.Prelude.{◌≡◌, ℕ, ◌+◌, ◌^◌, ◌<◌, ◌≤◌, [], ◌∷◌, ◌++◌, List, length, IfErr, IfNone, IfSome, OnOk};
 ghost use Rattle.iso_io.specs.Sink.{SinkState};
-ghost use Rattle.iso_model.specs.Script.{parse_whole};
+ghost use Rattle.script_model.specs.Script.{parse_whole};
 ghost use Rattle.iso_model.specs.World.{World};
 ghost use Rattle.script_text.specs.Parsing.{Gives};
 ghost use Rattle.script_runner.specs.Lines.{EndsAt, Reads, end_of};
@@ -12,7 +12,7 @@ use crate::line::answer_parsed;
 use crate::machine::ScriptMachine;
 use crate::run_end::Halt;
 use iso_io::Sink;
-use iso_model::{LineError, Parsed};
+use script_model::{LineError, Parsed};
 use script_text::{ReplyLine, parse_whole_line};
 use std::alloc::Global;
 

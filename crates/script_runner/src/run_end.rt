@@ -1,6 +1,6 @@
 // How a run ends.
 
-use iso_model::BadLine;
+use script_model::BadLine;
 
 /// How a run ended.
 #[derive(Clone, Copy, Debug, PartialEq, Eq)]

@@ -12,7 +12,8 @@ use crate::machine::ScriptMachine;
 use crate::piece::{Progress, answer_piece};
 use crate::run_end::{Halt, RunEnd};
 use iso_io::{Sink, Source};
-use iso_model::{BadLine, MAX_INPUT, MAX_LINE};
+use iso_model::{MAX_INPUT, MAX_LINE};
+use script_model::BadLine;
 use script_text::{ReplyLine, parse_line};
 use std::alloc::{AllocError, Global};
 

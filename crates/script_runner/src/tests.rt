@@ -3,18 +3,19 @@ ghost use Rattle.std.proofs.Common.{subst, sym};
 ghost use Rattle.std.specs.Prelude.{◌≡◌, ℕ, ◌+◌, ◌<◌, ◌≤◌, List, IfOk, IfSome, IsErrOf, None, OnOk};
 ghost use Rattle.iso_disk.specs.Disk.{LeavesOnly};
 ghost use Rattle.iso_disk.specs.Untold.{untold, untold_is_lawful};
-ghost use Rattle.iso_model.specs.declared.script.Op.TheVariants.{Begin, Put};
-ghost use Rattle.iso_model.specs.Step.{step};
+ghost use Rattle.script_model.specs.declared.script.Op.TheVariants.{Begin, Put};
+ghost use Rattle.script_model.specs.Step.{step};
 ghost use Rattle.iso_model.specs.World.{World};
 ghost use Rattle.iso_model.specs.Worlds.{IsWorld};
-ghost use Rattle.script_runner.specs.Between.{IsBeforeOrAfter};
+ghost use Rattle.iso_model.specs.Between.{ShowsEither};
 ghost use Rattle.script_runner.specs.Counts.{BlamesDisk};
 ghost use Rattle.script_runner.specs.Rehearsal.{rehearsed, rehearsed_is_world};
 
 use super::*;
 use fault_count::raise;
 use iso_io::{MemSink, MemSource};
-use iso_model::{BadLine, Mode, Op, Reply};
+use iso_model::Mode;
+use script_model::{BadLine, Op, Reply};
 use std::alloc::{AllocError, Global};
 use std::test::Fail;
 
@@ -75,13 +76,13 @@ fn put(done: u64, block: u32, off: u32, bytes: &[u8]) -> Option<Reply>
 impl ScriptMachine for Rehearsed {
     ghost stands = { λ m W. W ≡ rehearsed m.done };
 
-    ghost disk = { λ m. untold 0 m.faults None };
+    ghost disk = { λ m. untold 0 m.faults 0 None };
 
     ghost sound = { λ m W is. subst (λ V. IsWorld V) (sym is) (rehearsed_is_world m.done) };
 
     ghost shown = { λ m W c is here. absurd here };
 
-    ghost lawful = { λ m. untold_is_lawful 0 m.faults None };
+    ghost lawful = { λ m. untold_is_lawful 0 m.faults 0 None };
 
     fn step(&mut self, client: u8, op: &Op) -> Result<Reply, Stop> {
         if self.working == 0 {

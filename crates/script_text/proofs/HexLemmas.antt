@@ -7,8 +7,8 @@ use Rattle.std.proofs.lemmas.Bool.Decides.{nat_tests}
 use Rattle.hex.specs.Hex.{decode_of, decode_pairs, decode_sized, digit_or_error, encode_lower, encode_with, lower_digits, hex_digit_value, ◌>>=◌}
 use Rattle.hex.specs.declared.error.FromHexError.{FromHexError}
 use Rattle.hex.specs.declared.error.FromHexError.TheVariants.{OddLength}
-use Rattle.iso_model.specs.Script.{hex_argument}
-use Rattle.iso_model.specs.Text.{hex_digit, hex_pair, hex_pairs, hex_of, hex_text, digit_of}
+use Rattle.script_model.specs.Script.{hex_argument}
+use Rattle.script_model.specs.Text.{hex_digit, hex_pair, hex_pairs, hex_of, hex_text, digit_of}
 
 -- a digit has one value
 hex_digit-value : (b : ℕ) → hex_digit b ≡ hex_digit_value b

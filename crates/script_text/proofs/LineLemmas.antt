@@ -5,8 +5,8 @@ use Rattle.std.specs.List.{list_all}
 use Rattle.std.specs.Cmp.Lexicographic.{pointwise}
 use Rattle.std.proofs.lemmas.Bool.{cond-true, cond-false, ne_eqb, cases_eq, le-ltb}
 use Rattle.iso_model.specs.declared.limits.TheConstants.{MAX_LINE}
-use Rattle.iso_model.specs.Script.{is_printable, is_skipped, parse, said, without_return}
-use Rattle.iso_model.specs.Text.{words_of}
+use Rattle.script_model.specs.Script.{is_printable, is_skipped, parse, said, without_return}
+use Rattle.script_model.specs.Text.{words_of}
 
 -- a line that begins with no `#`, or is empty, says nothing where it is all spaces
 pub is_skipped-no_comment : (text : List ℕ) (r : Bool) → false ≡ pointwise nat_eq (35 ∷ []) (take 1 text) → r ≡ list_all (nat_eq 32) text → r ≡ is_skipped text

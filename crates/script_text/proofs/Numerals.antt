@@ -7,8 +7,9 @@ use Rattle.std.proofs.lemmas.List.Folds.{list_all-append}
 use Rattle.std.proofs.lemmas.List.Sums.{fold-append}
 use Rattle.hex.proofs.HexLemmas.{decode_of-encode_lower}
 use Rattle.iso_model.specs.Premises.{AreBytes}
-use Rattle.iso_model.specs.Script.{hex_argument, label_argument}
-use Rattle.iso_model.specs.Text.{digit_of, hex_text, is_decimal, is_digit, is_label, is_label_byte, number_of, value_of}
+use Rattle.script_model.specs.Script.{hex_argument, label_argument}
+use Rattle.script_model.specs.Text.{digit_of, hex_text, is_decimal, number_of, value_of}
+use Rattle.iso_model.specs.Labels.{is_digit, is_label, is_label_byte}
 use Rattle.script_text.specs.Spelling.{AreSome}
 use Rattle.script_text.specs.Words.{is_word_byte}
 use Rattle.script_text.proofs.HexLemmas.{encode_lower-hex_text, hex_argument-ok}

@@ -5,8 +5,9 @@ use Rattle.std.specs.Prelude.{filter}
 use Rattle.std.proofs.lemmas.Bool.{and_parts, cond-false, ne_eqb, leb-true, le-leb}
 use Rattle.std.proofs.lemmas.Bool.Decides.{nat_tests}
 use Rattle.std.proofs.lemmas.List.Folds.{list_all-append}
-use Rattle.iso_model.specs.Script.{is_printable, is_skipped}
-use Rattle.iso_model.specs.Text.{before_piece, is_digit, is_empty, pieces, words_of}
+use Rattle.script_model.specs.Script.{is_printable, is_skipped}
+use Rattle.script_model.specs.Text.{before_piece, is_empty, pieces, words_of}
+use Rattle.iso_model.specs.Labels.{is_digit}
 use Rattle.script_text.specs.Spelling.{spaced}
 use Rattle.script_text.specs.Words.{is_word_byte, word_before}
 use Rattle.script_text.proofs.Numerals.{IsWord}

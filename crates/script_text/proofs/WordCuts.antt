@@ -2,8 +2,8 @@
 use Rattle.std.proofs.Common.{◌≡◌, ◌∙◌, sym, refl, ap, ℕ, ◌<◌, true, Bor, List, [], ◌∷◌, ◌++◌, length, take, drop, arith}
 use Rattle.std.proofs.lemmas.List.{append-nil, take-append-drop, take-map}
 use Rattle.std.specs.List.{list_all}
-use Rattle.iso_model.specs.Script.{is_printable}
-use Rattle.iso_model.specs.Text.{words_of}
+use Rattle.script_model.specs.Script.{is_printable}
+use Rattle.script_model.specs.Text.{words_of}
 use Rattle.script_text.specs.Words.{is_word_byte, texts, word_before}
 use Rattle.script_text.proofs.Spaces.{printable_cut, printable_last, words_of-cut, words_of-last}
 

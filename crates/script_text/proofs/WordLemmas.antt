@@ -4,7 +4,8 @@ use Rattle.std.specs.Prelude.{fold, nat_lt, not}
 use Rattle.std.specs.List.{list_all}
 use Rattle.std.proofs.lemmas.List.{drop_more, drop_all, take_all}
 use Rattle.std.proofs.lemmas.Bool.{and_parts, ne_eqb, cond-true, cond-false, le-ltb, lt-ltb}
-use Rattle.iso_model.specs.Text.{is_digit, is_decimal, value_of, number_of}
+use Rattle.iso_model.specs.Labels.{is_digit}
+use Rattle.script_model.specs.Text.{is_decimal, value_of, number_of}
 use Rattle.script_text.specs.Words.{may_be_decimal}
 
 -- a word is decimal where it has no zero before others, and all its bytes are digits

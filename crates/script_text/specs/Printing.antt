@@ -1,8 +1,8 @@
 -- What a step of the printer asks for and leaves.
 use Rattle.std.specs.Prelude.{◌≡◌, ◌<◌, ◌≤◌, ℕ, List, ◌++◌, length}
-use Rattle.iso_model.specs.declared.script.Reply.{Reply}
-use Rattle.iso_model.specs.declared.script.Reply.TheVariants.{Found, Pairs, Shown}
-use Rattle.iso_model.specs.Text.{reply_text}
+use Rattle.script_model.specs.declared.script.Reply.{Reply}
+use Rattle.script_model.specs.declared.script.Reply.TheVariants.{Found, Pairs, Shown}
+use Rattle.script_model.specs.Text.{reply_text}
 use Rattle.script_text.specs.declared.reply.TheConstants.{MOST_SHOWN}
 
 -- the old bytes stand, and others may follow them

@@ -2,11 +2,12 @@
 use Rattle.std.specs.Prelude.{ℕ, ◌≤◌, ◌<◌, ◌^◌, IsTrue, List, [], ◌∷◌, ◌++◌, Some, None, codes, decimal, length}
 use Rattle.iso_model.specs.declared.access.Mode.{Mode}
 use Rattle.iso_model.specs.declared.access.Mode.TheVariants.{Serial, Snapshot}
-use Rattle.iso_model.specs.declared.script.Line.{Line}
-use Rattle.iso_model.specs.declared.script.Op.{Op}
-use Rattle.iso_model.specs.declared.script.Op.TheVariants.{Begin, End, Abort, Put, Read, Get, Write, Fill, Mark, Release, Takeover, Await, Trim, Stat, Compact, Upgrade, HashPut, HashGet, HashDelete, TreePut, TreeGet, TreeDelete, TreeScan}
+use Rattle.script_model.specs.declared.script.Line.{Line}
+use Rattle.script_model.specs.declared.script.Op.{Op}
+use Rattle.script_model.specs.declared.script.Op.TheVariants.{Begin, End, Abort, Put, Read, Get, Write, Fill, Mark, Release, Takeover, Await, Trim, Stat, Compact, Upgrade, HashPut, HashGet, HashDelete, TreePut, TreeGet, TreeDelete, TreeScan}
 use Rattle.iso_model.specs.Premises.{AreBytes}
-use Rattle.iso_model.specs.Text.{dashed, hex_text, is_label}
+use Rattle.script_model.specs.Text.{dashed, hex_text}
+use Rattle.iso_model.specs.Labels.{is_label}
 
 -- the name of an operation
 abbrev pub name_of : Op → List ℕ

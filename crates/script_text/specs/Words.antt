@@ -1,6 +1,6 @@
 -- The words of a line, where slices hold them, and their bytes.
 use Rattle.std.specs.Prelude.{ℕ, ◌==◌, Bool, true, false, ◌&&◌, cond, not, List, [], ◌∷◌, map, nat_le}
-use Rattle.iso_model.specs.Text.{is_empty}
+use Rattle.script_model.specs.Text.{is_empty}
 use denote.Ref.{Bor}
 
 -- what the slices borrow

@@ -1,10 +1,11 @@
 // The arguments of an operation, each with the cause that it fails by.
-ghost use Rattle.iso_model.specs.Script.{client_in_range, hex_argument, label_argument, mode_argument, number_argument, store_argument};
-ghost use Rattle.iso_model.specs.Text.{number_of};
+ghost use Rattle.script_model.specs.Script.{client_in_range, hex_argument, label_argument, mode_argument, number_argument, store_argument};
+ghost use Rattle.script_model.specs.Text.{number_of};
 ghost use Rattle.script_text.specs.Parsing.{Gives};
 
 use crate::word::number_of;
-use iso_model::{Bytes, Label, LineError, Mode};
+use iso_model::{Bytes, Label, Mode};
+use script_model::LineError;
 use std::alloc::Global;
 
 /// The client that the first word names, 1 to 64.

@@ -1,7 +1,7 @@
 // A text that grows at its front, in place: the last part of a line is put first.
 ghost use Rattle.std.specs.Prelude.{◌≡◌, ◌+◌, ◌-◌, ◌*◌, ◌≤◌, [], ◌++◌, decimal, length};
 ghost use Rattle.script_text.specs.declared.ending.TheConstants.{MOST_BYTES};
-ghost use Rattle.iso_model.specs.Text.{hex_text};
+ghost use Rattle.script_model.specs.Text.{hex_text};
 
 use crate::push::write_hex;
 use itoa::write_digits;

@@ -1,6 +1,6 @@
 // The numbers that a bench draws.
 ghost use Rattle.std.specs.Prelude.{◌≡◌};
-ghost use Rattle.iso_model.specs.Bench.{drawn, number_drawn};
+ghost use Rattle.script_model.specs.Bench.{drawn, number_drawn};
 
 use std::marker::Model;
 

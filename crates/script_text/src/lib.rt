@@ -16,13 +16,13 @@ mod round;
 mod word;
 
 pub use generator::Generator;
-pub use iso_model::{BadLine, Line, LineError, Op, Parsed, Reply};
 pub use line::{parse_line, parse_whole_line};
 pub use print::print_line;
 pub use push::write_hex;
 pub use reply::{MOST_SHOWN, print_reply, push_reply};
 pub use reply_line::ReplyLine;
 pub use round::Round;
+pub use script_model::{BadLine, Line, LineError, Op, Parsed, Reply};
 pub use word::number_of;
 
 #[cfg(test)]

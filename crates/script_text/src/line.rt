@@ -1,17 +1,18 @@
 // What a line of a script says.
 ghost use Rattle.std.specs.Prelude.{◌≡◌};
-ghost use Rattle.iso_model.specs.Script.{is_skipped, parse, parse_whole, said, without_return};
+ghost use Rattle.script_model.specs.Script.{is_skipped, parse, parse_whole, said, without_return};
 ghost use Rattle.script_text.specs.Parsing.{Gives};
 ghost use Rattle.script_text.specs.Words.{texts};
 
 use crate::argument::client;
 use crate::operation::operation_of;
 use crate::word::{MOST_WORDS, cut_words};
-use iso_model::{LineError, MAX_LINE, Parsed};
+use iso_model::MAX_LINE;
+use script_model::{LineError, Parsed};
 use std::alloc::Global;
 
 /// What a line without its line feed says, or the first test that it fails.
-#[tactic(auto, unfolding(iso_model::specs::Script::parse))]
+#[tactic(auto, unfolding(script_model::specs::Script::parse))]
 pub fn parse_line(alloc: Global, text: &[u8]) -> Result<Parsed, LineError>
     ensures { Gives result (parse text.now) }
 {
@@ -29,7 +30,7 @@ pub fn parse_line(alloc: Global, text: &[u8]) -> Result<Parsed, LineError>
 }
 
 /// What the bytes before a line feed say. A carriage return at their end counts in their length alone.
-#[tactic(auto, unfolding(iso_model::specs::Script::parse_whole))]
+#[tactic(auto, unfolding(script_model::specs::Script::parse_whole))]
 pub fn parse_whole_line(alloc: Global, piece: &[u8]) -> Result<Parsed, LineError>
     ensures { Gives result (parse_whole piece.now) }
 {
@@ -54,7 +55,7 @@ fn is_skipped(text: &[u8]) -> bool
 }
 
 /// What the words of a line say.
-#[tactic(auto, unfolding(iso_model::specs::Script::said))]
+#[tactic(auto, unfolding(script_model::specs::Script::said))]
 fn said(alloc: Global, words: &[&[u8]]) -> Result<Parsed, LineError>
     ensures { Gives result (said (texts words.now)) }
 {

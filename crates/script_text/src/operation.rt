@@ -1,16 +1,16 @@
 // The operations, each with its arguments, which are tested from the left.
 ghost use Rattle.std.specs.Prelude.{◌≡◌};
-ghost use Rattle.iso_model.specs.Script.{bare, begin_arguments, key_and_value, number_and_bytes, one_key, one_label, one_number, operation_of, other_operation, put_arguments, scan_arguments, store_operation, three_numbers, tree_operation, two_numbers};
-ghost use Rattle.iso_model.specs.declared.script.Op.TheVariants as ops;
+ghost use Rattle.script_model.specs.Script.{bare, begin_arguments, key_and_value, number_and_bytes, one_key, one_label, one_number, operation_of, other_operation, put_arguments, scan_arguments, store_operation, three_numbers, tree_operation, two_numbers};
+ghost use Rattle.script_model.specs.declared.script.Op.TheVariants as ops;
 ghost use Rattle.script_text.specs.Parsing.{Gives, said_by};
 ghost use Rattle.script_text.specs.Words.{texts};
 
 use crate::argument::{hex, label, mode, number, stored};
-use iso_model::{Line, LineError, Op, Parsed};
+use script_model::{Line, LineError, Op, Parsed};
 use std::alloc::Global;
 
 /// The line of this client with the operation of this name.
-#[tactic(auto, unfolding(iso_model::specs::Script::operation_of))]
+#[tactic(auto, unfolding(script_model::specs::Script::operation_of))]
 pub(crate) fn operation_of(
     alloc: Global,
     client: u8,
@@ -49,7 +49,7 @@ pub(crate) fn operation_of(
     other_operation(alloc, client, name, arguments)
 }
 
-#[tactic(auto, unfolding(iso_model::specs::Script::other_operation))]
+#[tactic(auto, unfolding(script_model::specs::Script::other_operation))]
 fn other_operation(
     alloc: Global,
     client: u8,
@@ -82,7 +82,7 @@ fn other_operation(
     store_operation(alloc, client, name, arguments)
 }
 
-#[tactic(auto, unfolding(iso_model::specs::Script::store_operation))]
+#[tactic(auto, unfolding(script_model::specs::Script::store_operation))]
 fn store_operation(
     alloc: Global,
     client: u8,
@@ -103,7 +103,7 @@ fn store_operation(
     tree_operation(alloc, client, name, arguments)
 }
 
-#[tactic(auto, unfolding(iso_model::specs::Script::tree_operation))]
+#[tactic(auto, unfolding(script_model::specs::Script::tree_operation))]
 fn tree_operation(
     alloc: Global,
     client: u8,

@@ -1,7 +1,7 @@
 // The line of a reply that tells pairs of a store.
 ghost use Rattle.std.specs.Prelude.{◌≡◌, ◌++◌, OnErr, OnOk, codes, decimal, flat_map};
-ghost use Rattle.iso_model.specs.declared.script.Reply.TheVariants.{Pairs};
-ghost use Rattle.iso_model.specs.Text.{pair_text, reply_line};
+ghost use Rattle.script_model.specs.declared.script.Reply.TheVariants.{Pairs};
+ghost use Rattle.script_model.specs.Text.{pair_text, reply_line};
 ghost use Rattle.script_text.specs.Printing.{Extends};
 
 use crate::push::{push_bytes, push_dashed, push_number};
@@ -24,7 +24,7 @@ pub(crate) fn push_pairs(
     pushed
 }
 
-#[tactic(auto, unfolding(iso_model::specs::Text::reply_text))]
+#[tactic(auto, unfolding(script_model::specs::Text::reply_text))]
 fn push_line(out: &mut Vec<u8>, client: u8, pairs: &[(Bytes, Bytes)]) -> Result<(), Memory>
     ensures ok { OnOk result (out.new.items ≡ out.old.items ++ reply_line client (Pairs pairs.now)) }
     ensures err { OnErr result (Extends out.old.items out.new.items) }

@@ -1,12 +1,13 @@
 // The printed spelling of a line.
 ghost use Rattle.std.specs.Prelude.{◌≡◌, ◌≤◌, ◌∷◌, ◌++◌, IfOk, Ok, OnOk, decimal, length};
 ghost use Rattle.iso_model.specs.declared.limits.TheConstants.{MAX_LINE};
-ghost use Rattle.iso_model.specs.declared.script.Parsed.TheVariants.{Line as Says};
-ghost use Rattle.iso_model.specs.Script.{parse};
+ghost use Rattle.script_model.specs.declared.script.Parsed.TheVariants.{Line as Says};
+ghost use Rattle.script_model.specs.Script.{parse};
 ghost use Rattle.script_text.specs.Spelling.{arguments_of, line_text, name_of, spaced, IsLine};
 
 use crate::push::{push_bytes, push_dashed, push_hex, push_number};
-use iso_model::{Line, Memory, Mode, Op};
+use iso_model::{Memory, Mode};
+use script_model::{Line, Op};
 use std::alloc::Global;
 
 /// The line in words with one space between them, numbers in decimal and bytes in hexadecimal in lower case, without a

@@ -1,6 +1,6 @@
 // Texts that grow at their end.
 ghost use Rattle.std.specs.Prelude.{◌≡◌, ◌+◌, ◌*◌, ◌++◌, OnOk, OnErr, decimal, length, take};
-ghost use Rattle.iso_model.specs.Text.{dashed, hex_text};
+ghost use Rattle.script_model.specs.Text.{dashed, hex_text};
 ghost use Rattle.script_text.specs.Printing.{Extends};
 
 use iso_model::Memory;

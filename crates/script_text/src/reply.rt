@@ -1,14 +1,15 @@
 // The line of a reply.
 ghost use Rattle.std.specs.Prelude.{◌≡◌, ◌+◌, ◌*◌, ◌<◌, ◌≤◌, ◌++◌, IfOk, MatchOption, OnOk, OnErr, codes, decimal, length};
-ghost use Rattle.iso_model.specs.declared.script.Reply.TheVariants.{Shown};
-ghost use Rattle.iso_model.specs.Text.{dashed, reply_line, reply_text};
+ghost use Rattle.script_model.specs.declared.script.Reply.TheVariants.{Shown};
+ghost use Rattle.script_model.specs.Text.{dashed, reply_line, reply_text};
 ghost use Rattle.script_text.specs.Printing.{Extends, IsLong, IsOther, IsShort};
 ghost use Rattle.script_text.specs.declared.reply.TheConstants.{MOST_SHOWN};
 
 use crate::ending::Ending;
 use crate::pairs::push_pairs;
 use crate::push::{push_bytes, push_hex, push_number};
-use iso_model::{Memory, Reply};
+use iso_model::Memory;
+use script_model::Reply;
 use std::alloc::Global;
 
 /// The bytes of a line that most replies fit into.
@@ -100,7 +101,7 @@ pub(crate) fn push_shown(out: &mut Vec<u8>, client: u8, bytes: &[u8]) -> Result<
     pushed
 }
 
-#[tactic(auto, unfolding(iso_model::specs::Text::reply_text))]
+#[tactic(auto, unfolding(script_model::specs::Text::reply_text))]
 fn push_parts(out: &mut Vec<u8>, client: u8, bytes: &[u8]) -> Result<(), Memory>
     ensures ok { OnOk result (out.new.items ≡ out.old.items ++ reply_line client (Shown bytes.now)) }
     ensures err { OnErr result (Extends out.old.items out.new.items) }
@@ -112,7 +113,7 @@ fn push_parts(out: &mut Vec<u8>, client: u8, bytes: &[u8]) -> Result<(), Memory>
 }
 
 /// Puts what the reply says before the text.
-#[tactic(auto, unfolding(iso_model::specs::Text::reply_text))]
+#[tactic(auto, unfolding(script_model::specs::Text::reply_text))]
 fn put_text(line: &mut Ending, reply: &Reply)
     requires room { 162 ≤ line.old.room }
     requires shown { IsShort reply.now }

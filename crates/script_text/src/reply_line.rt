@@ -1,12 +1,13 @@
 // The line of a reply, in a text that is kept for the next one.
 ghost use Rattle.std.specs.Prelude.{◌≡◌, [], IsOk, OnErr, OnOk};
-ghost use Rattle.iso_model.specs.Text.{reply_line};
+ghost use Rattle.script_model.specs.Text.{reply_line};
 ghost use Rattle.script_text.specs.Printing.{IsOther, IsShort};
 
 use crate::ending::Ending;
 use crate::pairs::push_pairs;
 use crate::reply::{many_shown, push_shown, put_reply};
-use iso_model::{Memory, Reply};
+use iso_model::Memory;
+use script_model::Reply;
 use std::alloc::Global;
 use std::marker::Model;
 

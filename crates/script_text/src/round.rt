@@ -1,6 +1,6 @@
 // The script of a bench, a round at a time.
 ghost use Rattle.std.specs.Prelude.{◌≡◌, ◌+◌, ◌≤◌, ◌<◌, [], ◌++◌, codes, decimal};
-ghost use Rattle.iso_model.specs.Bench.{after_draws, drawn_round, round_text};
+ghost use Rattle.script_model.specs.Bench.{after_draws, drawn_round, round_text};
 
 use crate::Generator;
 use crate::ending::Ending;

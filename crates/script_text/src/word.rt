@@ -2,8 +2,8 @@
 ghost use Rattle.std.specs.Prelude.{◌≡◌, ◌<◌, ◌≤◌, [], ◌∷◌, IfNone, IfSome, false, length, slice_index, take, true};
 ghost use Rattle.std.specs.List.{list_all};
 ghost use Rattle.std.specs.Option.{is_some};
-ghost use Rattle.iso_model.specs.Script.{is_printable};
-ghost use Rattle.iso_model.specs.Text.{number_of, words_of};
+ghost use Rattle.script_model.specs.Script.{is_printable};
+ghost use Rattle.script_model.specs.Text.{number_of, words_of};
 ghost use Rattle.script_text.specs.Words.{is_word_byte, may_be_decimal, texts, word_before};
 
 /// How many words a line is cut into. No operation has so many, so what follows them changes nothing.

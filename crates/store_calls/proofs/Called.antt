@@ -2,11 +2,11 @@
 use Rattle.std.proofs.Common.{◌≡◌, ◌∙◌, sym, ap, ℕ, true, List, [], append-nil, Result, Ok, Err}
 use Rattle.std.proofs.lemmas.Bool.{false≢true}
 use Rattle.iso_model.specs.declared.access.Access.{Access}
-use Rattle.iso_model.specs.declared.script.Reply.{Reply}
-use Rattle.iso_model.specs.declared.stores.StoreError.{StoreError}
-use Rattle.iso_model.specs.declared.stores.StoreError.TheVariants as store
-use Rattle.iso_model.specs.declared.stores.TxError.TheVariants as error
-use Rattle.iso_model.specs.Stores.{Program, outcome}
+use Rattle.script_model.specs.declared.script.Reply.{Reply}
+use Rattle.store_model.specs.declared.stores.StoreError.{StoreError}
+use Rattle.store_model.specs.declared.stores.StoreError.TheVariants as store
+use Rattle.store_model.specs.declared.stores.TxError.TheVariants as error
+use Rattle.store_model.specs.Stores.{Program, outcome}
 use Rattle.tx_blocks.specs.Tx.{Tx, Device, with_accesses}
 use Rattle.tx_blocks.specs.Runs.{HasEnded, IsStoreCause}
 use Rattle.store_calls.specs.Calls.{HasCalled, Stops, refusal_of, replied}

@@ -1,30 +1,31 @@
 -- What a call of a store on a transaction does, and what it is answered.
-use Rattle.std.specs.Prelude.{◌≡◌, ℕ, ◌&&◌, ◌==◌, Bool, false, cond, IsTrue, List, [], Option, Result, Ok, Err, IfOk, IsErrOf}
+use Rattle.std.specs.Prelude.{◌≡◌, ℕ, ◌&&◌, ◌==◌, Bool, false, IsTrue, List, [], Option, Result, Ok, Err, IfOk, IsErrOf}
 use Rattle.std.specs.Option.{ForSome}
 use Rattle.fault_count.specs.Count.{Rose}
 use Rattle.iso_model.specs.declared.access.Access.{Access}
 use Rattle.iso_model.specs.declared.access.Geometry.{Geometry}
-use Rattle.iso_model.specs.declared.script.Op.{Op}
-use Rattle.iso_model.specs.declared.script.Op.TheVariants.{HashPut, HashGet, HashDelete, TreePut, TreeGet, TreeDelete, TreeScan}
-use Rattle.iso_model.specs.declared.script.Reply.{Reply}
-use Rattle.iso_model.specs.declared.script.Reply.TheVariants as reply
-use Rattle.iso_model.specs.declared.stores.Area.{Area}
-use Rattle.iso_model.specs.declared.stores.StoreError.{StoreError}
-use Rattle.iso_model.specs.declared.stores.StoreError.TheVariants as store
-use Rattle.iso_model.specs.declared.stores.TxError.{TxError}
-use Rattle.iso_model.specs.declared.stores.TxError.TheVariants as error
+use Rattle.script_model.specs.declared.script.Op.{Op}
+use Rattle.script_model.specs.declared.script.Op.TheVariants.{HashPut, HashGet, HashDelete, TreePut, TreeGet, TreeDelete, TreeScan}
+use Rattle.script_model.specs.declared.script.Reply.{Reply}
+use Rattle.script_model.specs.declared.script.Reply.TheVariants as reply
+use Rattle.store_model.specs.declared.stores.Area.{Area}
+use Rattle.store_model.specs.declared.stores.StoreError.{StoreError}
+use Rattle.store_model.specs.declared.stores.StoreError.TheVariants as store
+use Rattle.store_model.specs.declared.stores.TxError.{TxError}
+use Rattle.store_model.specs.declared.stores.TxError.TheVariants as error
 use Rattle.iso_model.specs.Array.{Array}
 use Rattle.iso_model.specs.Effect.{own}
-use Rattle.iso_model.specs.HashCalls.{del_program, get_program, is_key, put_program}
-use Rattle.iso_model.specs.HashRegion.{IsHashArea}
-use Rattle.iso_model.specs.Step.{found_reply, hash_area, pairs_reply, removed_reply, store_reply, tree_area}
-use Rattle.iso_model.specs.Stores.{outcome}
-use Rattle.iso_model.specs.TreeCalls as tree
-use Rattle.iso_model.specs.TreeRegion.{IsTreeArea}
+use Rattle.store_model.specs.HashCalls.{del_program, get_program, is_key, put_program}
+use Rattle.store_model.specs.HashRegion.{IsHashArea}
+use Rattle.script_model.specs.Step.{found_reply, pairs_reply, removed_reply, store_reply}
+use Rattle.store_model.specs.Areas.{hash_area, tree_area}
+use Rattle.store_model.specs.Stores.{outcome}
+use Rattle.store_model.specs.TreeCalls as tree
+use Rattle.store_model.specs.TreeRegion.{IsTreeArea}
 use Rattle.tx_blocks.specs.Tx as tx
 use Rattle.tx_blocks.specs.Tx.{Tx, Device, room_of}
-use Rattle.script_runner.specs.declared.machine.Stop.{Stop}
-use Rattle.script_runner.specs.declared.machine.Stop.TheVariants as stop
+use Rattle.script_model.specs.declared.stop.Stop.{Stop}
+use Rattle.script_model.specs.declared.stop.Stop.TheVariants as stop
 
 -- where the store is that an operation calls; it has no blocks where the operation calls none
 abbrev pub store_area : Geometry → Op → Area

@@ -4,9 +4,9 @@ ghost use Rattle.tx_blocks.specs.Runs.{area_of};
 ghost use Rattle.store_calls.specs.Calls.{HasCalled, IsStoreArea, Stops, is_empty_scan, refusal_of, refused_access, store_ended};
 
 use crate::{hash, tree};
-use iso_model::{Op, Region, Reply, StoreError, TxError};
-use script_runner::Stop;
+use script_model::{Op, Reply, Stop};
 use std::alloc::Global;
+use store_model::{Region, StoreError, TxError};
 use tx_blocks::TxBlocks;
 
 /// What an access that is refused is answered, or why there is no reply.

@@ -1,17 +1,17 @@
 // Calls of the hash store on any transaction.
 ghost use Rattle.std.specs.Prelude.{◌≡◌, ◌+◌, ◌≤◌, true};
-ghost use Rattle.iso_model.specs.HashCalls.{del_program, get_program, put_program};
-ghost use Rattle.iso_model.specs.HashRegion.{IsHashArea};
-ghost use Rattle.iso_model.specs.Step.{found_reply, removed_reply};
-ghost use Rattle.iso_model.specs.Stores.{outcome};
-ghost use Rattle.iso_model.specs.declared.script.Reply.TheVariants as reply;
+ghost use Rattle.store_model.specs.HashCalls.{del_program, get_program, put_program};
+ghost use Rattle.store_model.specs.HashRegion.{IsHashArea};
+ghost use Rattle.script_model.specs.Step.{found_reply, removed_reply};
+ghost use Rattle.store_model.specs.Stores.{outcome};
+ghost use Rattle.script_model.specs.declared.script.Reply.TheVariants as reply;
 ghost use Rattle.tx_blocks.specs.Runs.{area_of};
 ghost use Rattle.store_calls.specs.Calls.{HasCalled, Stops, replied};
 
 use crate::calls::refusal;
-use iso_model::{Region, Reply};
-use script_runner::Stop;
+use script_model::{Reply, Stop};
 use std::alloc::Global;
+use store_model::Region;
 use tx_blocks::TxBlocks;
 
 pub(crate) fn put<T: TxBlocks>(

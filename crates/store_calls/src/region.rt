@@ -1,9 +1,11 @@
 // Where the store is that an operation calls.
 ghost use Rattle.std.specs.Prelude.{◌≡◌};
-ghost use Rattle.iso_model.specs.HashCalls.{is_key};
+ghost use Rattle.store_model.specs.HashCalls.{is_key};
 ghost use Rattle.store_calls.specs.Calls.{is_empty_scan, store_area};
 
-use iso_model::{Geometry, Op, Region};
+use iso_model::Geometry;
+use script_model::Op;
+use store_model::Region;
 
 /// The region of the store that an operation calls, by the image's geometry; it has no blocks where there is no such store,
 /// and where the operation calls none.

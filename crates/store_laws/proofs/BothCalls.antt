@@ -1,10 +1,10 @@
 -- A call of the hash store or of the tree store, as a part of a transaction that calls both in disjoint areas.
 use Rattle.std.proofs.Common.{◌≡◌, ℕ, true, false, List, [], ◌∷◌, ◌++◌, Result, Ok, arith, inl, inr}
 use Rattle.std.proofs.lemmas.Bool.Decides.{nat_tests}
-use Rattle.iso_model.specs.declared.stores.Area.{Area}
-use Rattle.iso_model.specs.declared.stores.StoreError.{StoreError}
+use Rattle.store_model.specs.declared.stores.Area.{Area}
+use Rattle.store_model.specs.declared.stores.StoreError.{StoreError}
 use Rattle.iso_model.specs.Array.{Array}
-use Rattle.iso_model.specs.Stores.{Program}
+use Rattle.store_model.specs.Stores.{Program}
 use Rattle.tx_blocks.specs.Runs.{HasEnded, IsLocalCall}
 use Rattle.tx_blocks.specs.Tx.{Tx, added}
 use Rattle.store_laws.specs.Both.{First, Second}

@@ -1,13 +1,13 @@
 -- Gets behind puts into a hash store and into a tree store, in one transaction.
 use Rattle.std.proofs.Common.{◌≡◌, ◌∙◌, sym, ap, subst, ℕ, List, [], ◌∷◌, Option, Some, Ok}
 use Rattle.std.specs.FinMap.{get, insert}
-use Rattle.iso_model.specs.declared.stores.Area.{Area}
-use Rattle.iso_model.specs.declared.stores.Region.{Region}
+use Rattle.store_model.specs.declared.stores.Area.{Area}
+use Rattle.store_model.specs.declared.stores.Region.{Region}
 use Rattle.iso_model.specs.Array.{Array}
-use Rattle.iso_model.specs.HashCalls as hash
-use Rattle.iso_model.specs.HashRegion.{IsHashArea, IsHashRegion, get_op, hash_map, put_op}
-use Rattle.iso_model.specs.TreeCalls as tree
-use Rattle.iso_model.specs.TreeRegion.{IsTreeArea, IsTreeRegion, tree_map}
+use Rattle.store_model.specs.HashCalls as hash
+use Rattle.store_model.specs.HashRegion.{IsHashArea, IsHashRegion, get_op, hash_map, put_op}
+use Rattle.store_model.specs.TreeCalls as tree
+use Rattle.store_model.specs.TreeRegion.{IsTreeArea, IsTreeRegion, tree_map}
 use Rattle.tx_blocks.specs.Runs.{HasEnded, IsLocalCall, area_of}
 use Rattle.tx_blocks.specs.Tx.{Tx, added}
 use Rattle.store_laws.specs.Both.{First, Second}

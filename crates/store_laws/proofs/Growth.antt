@@ -4,7 +4,7 @@ use Rattle.std.proofs.lemmas.Bool.{both_ways}
 use Rattle.iso_model.specs.declared.access.Access.{Access}
 use Rattle.iso_model.specs.Array.{Array}
 use Rattle.iso_model.specs.Effect.{is_write, own}
-use Rattle.iso_model.specs.Stores.{AreReads}
+use Rattle.store_model.specs.Stores.{AreReads}
 use Rattle.tx_blocks.specs.Runs.{HasRead, IsLocalCall}
 use Rattle.tx_blocks.specs.Tx.{Tx, added, with_accesses}
 use Rattle.store_laws.specs.Growing.{IsMadeOf}

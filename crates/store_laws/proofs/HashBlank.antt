@@ -5,13 +5,13 @@ use Rattle.std.specs.Int.{from_be_bytes, w32}
 use Rattle.std.specs.FinMap.{empty, from_entries}
 use Rattle.std.proofs.lemmas.Bool.{and_from, both_ways}
 use Rattle.std.proofs.lemmas.List.{length-replicate, take-replicate}
-use Rattle.iso_model.specs.declared.stores.Area.{Area}
+use Rattle.store_model.specs.declared.stores.Area.{Area}
 use Rattle.iso_model.specs.Array.{Array}
-use Rattle.iso_model.specs.Cells.{are_key_parts, cell_count, is_part, is_unused, is_zero, key_mark, keys_end, keys_mark, value_mark, word_at}
-use Rattle.iso_model.specs.FreeMap.{map_bit}
-use Rattle.iso_model.specs.HashRegion.{AreLinked, HaveValues, IsHashArea, IsHashRegion, IsIn, IsKeyed, IsOverflow, Pairs, Stands, all_pairs, bucket_pairs, buckets, chain, chain_from, hash_map, is_linked, last_position, next_of, pairs_from, view_of}
+use Rattle.store_model.specs.Cells.{are_key_parts, cell_count, is_part, is_unused, is_zero, key_mark, keys_end, keys_mark, value_mark, word_at}
+use Rattle.store_model.specs.FreeMap.{map_bit}
+use Rattle.store_model.specs.HashRegion.{AreLinked, IsHashArea, IsHashRegion, IsIn, IsOverflow, Stands, bucket_pairs, buckets, chain, chain_from, hash_map, is_linked, last_position, next_of, pairs_from, view_of}
 use Rattle.iso_model.specs.Premises.{block_at}
-use Rattle.iso_model.specs.Stores.{bytes_in}
+use Rattle.store_model.specs.Stores.{bytes_in}
 use Rattle.iso_hash.proofs.Rewritten.{all_pass}
 use Rattle.iso_tree.proofs.Frames.{piece_zero}
 use Rattle.store_laws.proofs.Zeros.{no_bit_in_zeros}
@@ -62,7 +62,7 @@ module _ (a : Area) (A : Array) (area : IsHashArea a) (blank : (k : ℕ) → k <
       let eight = word_zero 8 (omega arith) in
       let next = word_zero 0 (omega arith) in
       let rest : list_all is_zero (bytes_in (record { off = 12; len = 52 }) (replicate (keys_end a.size) 0)) ≡ true = ap (list_all is_zero) (piece_zero (record { off = 12; len = 52 }) (keys_end a.size) (omega arith)) in
-      and_from _ _ (and_from _ _ (and_from _ _ (and_from _ _ (ap (λ (n : ℕ). n == 0) four) (ap (λ (n : ℕ). n == 0) eight)) rest) (ap (λ (n : ℕ). Rattle.iso_model.specs.HashRegion.is_next a 0 n) next)) parts
+      and_from _ _ (and_from _ _ (and_from _ _ (and_from _ _ (ap (λ (n : ℕ). n == 0) four) (ap (λ (n : ℕ). n == 0) eight)) rest) (ap (λ (n : ℕ). Rattle.store_model.specs.HashRegion.is_next a 0 n) next)) parts
 
   next_zero : (k : ℕ) → k < a.blocks → next_of ((view_of a A).keys k) ≡ 0
   next_zero k below = ap next_of (blank_keys k below) ∙ word_zero 0 (omega arith)

@@ -1,19 +1,19 @@
 -- The calls of the hash store write blocks of its area alone.
 use Rattle.std.proofs.Common.{◌≡◌, refl, ℕ, zero, suc, ◌+◌, ◌<◌, Bool, true, false, ◌==◌, not, List, Option, Some, None, IfSome, Ok, arith}
 use Rattle.std.proofs.lemmas.Bool.{eqb-false}
-use Rattle.iso_model.specs.declared.stores.Area.{Area}
-use Rattle.iso_model.specs.declared.stores.Spot.{Spot}
+use Rattle.store_model.specs.declared.stores.Area.{Area}
+use Rattle.store_model.specs.declared.stores.Spot.{Spot}
 use Rattle.iso_model.specs.Array.{Array}
-use Rattle.iso_model.specs.Cells.{cell_with, unused_cell}
-use Rattle.iso_model.specs.FreeMap.{lowest_free, map_bit}
-use Rattle.iso_model.specs.HashCalls.{AtBroken, AtCell, AtEnd, Walked, at_cell, del_at, del_program, get_program, got, is_spent, put_at, put_new, put_program, spare_in, spot_in, walk, walk_from}
-use Rattle.iso_model.specs.HashRegion.{IsHashArea, bucket_of, buckets, is_linked, last_position, next_of}
-use Rattle.iso_model.specs.Stores.{Done, Program, accesses_of}
+use Rattle.store_model.specs.Cells.{cell_with, unused_cell}
+use Rattle.store_model.specs.FreeMap.{lowest_free, map_bit}
+use Rattle.store_model.specs.HashCalls.{AtBroken, AtCell, AtEnd, Walked, at_cell, del_at, del_program, get_program, got, is_spent, put_at, put_new, put_program, spare_in, spot_in, walk, walk_from}
+use Rattle.store_model.specs.HashRegion.{IsHashArea, bucket_of, buckets, is_linked, last_position, next_of}
+use Rattle.store_model.specs.Stores.{Done, Program}
 use Rattle.tx_blocks.specs.Runs.{HasEnded}
 use Rattle.tx_blocks.specs.Tx.{Tx, added}
 use Rattle.iso_hash.proofs.Chains.{head_of, next_in}
 use Rattle.iso_hash.proofs.Gets.{bucket_below}
-use Rattle.iso_model.proofs.HashAccesses.{first_below}
+use Rattle.store_model.proofs.HashAccesses.{first_below}
 use Rattle.store_laws.specs.AreaBlocks.{in_its_area, start_in}
 use Rattle.store_laws.specs.Calls.{in_area}
 use Rattle.store_laws.specs.Hash.{hash_store}
@@ -60,7 +60,7 @@ walk_stores has a key bucket with_value (suc left) position before block spare =
     (stores_cond has (next_of xs == 0) _ _ tt (walk_stores has a key bucket with_value left (position + 1) block (next_of xs) (spare_in a spare block xs)))) tt
 
 after_walk : {R : Type 0} (a : Area) (key : List ℕ) (with_value : Bool) (f : Walked → Program R) → IsHashArea a → ((w : Walked) → EndsIn a w → StoresIn (in_area a) (f w))
-    → StoresIn (in_area a) (Rattle.iso_model.specs.Stores.then_do (walk a key with_value) f)
+    → StoresIn (in_area a) (Rattle.store_model.specs.Stores.then_do (walk a key with_value) f)
 unfolding walk
 after_walk a key with_value f area each =
     let least = area.least in
@@ -93,17 +93,17 @@ del_stores a (AtBroken block) area ends = tt
 
 pub get_program_stores : (a : Area) (key : List ℕ) → IsHashArea a → StoresIn (in_area a) (get_program a key)
 unfolding get_program
-get_program_stores a key area = stores_cond (in_area a) (Rattle.iso_model.specs.HashCalls.is_key key) _ _ (after_walk a key true (λ w. Done (got a w)) area (λ w ends. tt)) tt
+get_program_stores a key area = stores_cond (in_area a) (Rattle.store_model.specs.HashCalls.is_key key) _ _ (after_walk a key true (λ w. Done (got a w)) area (λ w ends. tt)) tt
 
 pub put_program_stores : (a : Area) (key value : List ℕ) → IsHashArea a → StoresIn (in_area a) (put_program a key value)
 unfolding put_program
 put_program_stores a key value area =
-    stores_cond (in_area a) (Rattle.iso_model.specs.HashCalls.is_key key) _ _
-    (stores_cond (in_area a) (Rattle.iso_model.specs.HashCalls.is_value value) _ _ (after_walk a key false (put_at a key value) area (λ w ends. put_stores a key value w area ends)) tt) tt
+    stores_cond (in_area a) (Rattle.store_model.specs.HashCalls.is_key key) _ _
+    (stores_cond (in_area a) (Rattle.store_model.specs.HashCalls.is_value value) _ _ (after_walk a key false (put_at a key value) area (λ w ends. put_stores a key value w area ends)) tt) tt
 
 pub del_program_stores : (a : Area) (key : List ℕ) → IsHashArea a → StoresIn (in_area a) (del_program a key)
 unfolding del_program
-del_program_stores a key area = stores_cond (in_area a) (Rattle.iso_model.specs.HashCalls.is_key key) _ _ (after_walk a key false (del_at a) area (λ w ends. del_stores a w area ends)) tt
+del_program_stores a key area = stores_cond (in_area a) (Rattle.store_model.specs.HashCalls.is_key key) _ _ (after_walk a key false (del_at a) area (λ w ends. del_stores a w area ends)) tt
 
 pub get_within : (a : Area) (key : List ℕ) (A : Array) (t u : Tx) (r : Option (List ℕ)) → IsHashArea a → t.base ≡ Some A → HasEnded (get_program a key) t u (Ok r) → WriteWithin (hash_store a) (added t u)
 get_within a key A t u r area = ended_within (hash_store a) (get_program a key) A t u r (get_program_stores a key area)

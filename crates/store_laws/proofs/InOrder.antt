@@ -8,7 +8,7 @@ use Rattle.iso_model.specs.Conflict.{IsSerialAt}
 use Rattle.iso_model.specs.Effect.{is_write, own}
 use Rattle.iso_model.specs.History.{History, array_at}
 use Rattle.iso_model.specs.Premises.{block_at}
-use Rattle.iso_model.specs.Stores.{SameShape}
+use Rattle.store_model.specs.Stores.{SameShape}
 use Rattle.iso_model.proofs.Bytes.{other_block}
 use Rattle.tx_blocks.proofs.Progress.{own_append}
 use Rattle.store_laws.specs.Region.{IsOfItsBlocks, SameRegion, SpareRegion, MapStore}

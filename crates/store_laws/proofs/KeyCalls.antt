@@ -1,8 +1,8 @@
 -- What the calls of the stores promise, under the one type of answers.
 use Rattle.std.proofs.Common.{ap, ℕ, Bool, List, Option}
 use Rattle.iso_model.specs.Array.{Array}
-use Rattle.iso_model.specs.HashRegion.{Pairs, del_op, get_op, put_op}
-use Rattle.iso_model.specs.TreeRegion.{scan_op}
+use Rattle.store_model.specs.HashRegion.{Pairs, del_op, get_op, put_op}
+use Rattle.store_model.specs.TreeRegion.{scan_op}
 use Rattle.tx_blocks.specs.Runs.{IsLocalCall}
 use Rattle.tx_blocks.specs.Tx.{Tx}
 use Rattle.store_laws.specs.Calls.{Del, Found, Get, Got, Put, StoreAnswer, WasPut, WasThere, key_act}

@@ -2,12 +2,12 @@
 use Rattle.std.proofs.Common.{◌≡◌, refl, subst, ℕ, Bool, true, false, cond, List, [], ◌∷◌, Option, Some, None, Result, Ok}
 use Rattle.std.proofs.lemmas.Bool.{both_ways}
 use Rattle.iso_model.specs.declared.access.Access.{Access}
-use Rattle.iso_model.specs.declared.stores.StoreError.{StoreError}
+use Rattle.store_model.specs.declared.stores.StoreError.{StoreError}
 use Rattle.iso_model.specs.Array.{Array, put}
 use Rattle.iso_model.specs.Effect.{is_write, own}
-use Rattle.iso_model.specs.HashCalls.{at_cell}
+use Rattle.store_model.specs.HashCalls.{at_cell}
 use Rattle.iso_model.specs.Premises.{block_at}
-use Rattle.iso_model.specs.Stores.{AreReads, Done, Look, LookWhole, Program, Reserve, Store, accesses_of, bytes_in, further_bytes, store_access, then_do}
+use Rattle.store_model.specs.Stores.{AreReads, Done, Look, LookWhole, Program, Reserve, Store, accesses_of, bytes_in, further_bytes, store_access, then_do}
 use Rattle.tx_blocks.proofs.Progress.{whole_run}
 use Rattle.tx_blocks.specs.Runs.{HasEnded}
 use Rattle.tx_blocks.specs.Tx.{Tx, added}

@@ -3,12 +3,12 @@ use Rattle.std.proofs.Common.{◌≡◌, ◌∙◌, sym, refl, ap, subst, ℕ, c
 use Rattle.std.specs.Cmp.Lexicographic.{nat_list_cmp_total}
 use Rattle.std.specs.FinMap.{get, get-insert, insert}
 use Rattle.std.proofs.lemmas.Slice.Eq.{bytes_eq-Decides}
-use Rattle.iso_model.specs.declared.stores.Area.{Area}
-use Rattle.iso_model.specs.declared.stores.Region.{Region}
-use Rattle.iso_model.specs.declared.stores.StoreError.{StoreError}
+use Rattle.store_model.specs.declared.stores.Area.{Area}
+use Rattle.store_model.specs.declared.stores.Region.{Region}
+use Rattle.store_model.specs.declared.stores.StoreError.{StoreError}
 use Rattle.iso_model.specs.Array.{Array}
-use Rattle.iso_model.specs.HashCalls.{get_program, put_program}
-use Rattle.iso_model.specs.HashRegion.{IsHashArea, IsHashRegion, Pairs, get_op, hash_map, put_op}
+use Rattle.store_model.specs.HashCalls.{get_program, put_program}
+use Rattle.store_model.specs.HashRegion.{IsHashArea, IsHashRegion, Pairs, get_op, hash_map, put_op}
 use Rattle.tx_blocks.specs.Runs.{HasEnded, IsLocalCall, area_of}
 use Rattle.tx_blocks.specs.Tx.{Tx, added}
 use Rattle.iso_hash.proofs.Finding.{ties}

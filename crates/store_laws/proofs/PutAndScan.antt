@@ -1,13 +1,13 @@
 -- A scan behind a put, in one transaction.
 use Rattle.std.proofs.Common.{◌≡◌, sym, ap, subst, ℕ, List, [], ◌∷◌, Some, Ok, Err, IfOk, Result}
 use Rattle.std.specs.FinMap.{insert}
-use Rattle.iso_model.specs.declared.stores.Area.{Area}
-use Rattle.iso_model.specs.declared.stores.Region.{Region}
-use Rattle.iso_model.specs.declared.stores.StoreError.{StoreError}
+use Rattle.store_model.specs.declared.stores.Area.{Area}
+use Rattle.store_model.specs.declared.stores.Region.{Region}
+use Rattle.store_model.specs.declared.stores.StoreError.{StoreError}
 use Rattle.iso_model.specs.Array.{Array}
-use Rattle.iso_model.specs.HashRegion.{put_op}
-use Rattle.iso_model.specs.TreeCalls.{put_program, scan_program}
-use Rattle.iso_model.specs.TreeRegion.{IsTreeArea, IsTreeRegion, scan_op, tree_map}
+use Rattle.store_model.specs.HashRegion.{put_op}
+use Rattle.store_model.specs.TreeCalls.{put_program, scan_program}
+use Rattle.store_model.specs.TreeRegion.{IsTreeArea, IsTreeRegion, scan_op, tree_map}
 use Rattle.tx_blocks.specs.Runs.{HasEnded, IsLocalCall, area_of}
 use Rattle.tx_blocks.specs.Tx.{Tx, added}
 use Rattle.store_laws.specs.Calls.{Found, Put, WasPut}

@@ -1,6 +1,5 @@
 -- Counters in the first bytes of blocks, as stores: what the laws say of additions, and what they refuse.
 use Rattle.std.proofs.Common.{◌≡◌, ◌∙◌, sym, refl, ap, ℕ, zero, suc, ◌+◌, ◌==◌, true, false, List, [], ◌∷◌, length, replicate, slice_get, arith, inr, eq-eqb, get_or}
-use Rattle.std.proofs.lemmas.Bool.{eqb-true}
 use Rattle.iso_model.specs.declared.access.Access.{Access}
 use Rattle.iso_model.specs.declared.access.Commit.{Commit}
 use Rattle.iso_model.specs.declared.access.Mode.TheVariants.{Serial}
@@ -10,7 +9,7 @@ use Rattle.iso_model.specs.Conflict.{IsSerialAt}
 use Rattle.iso_model.specs.Effect.{own}
 use Rattle.iso_model.specs.History.{History, array_at}
 use Rattle.iso_model.specs.Premises.{block_at}
-use Rattle.iso_model.specs.Stores.{IsLocal, depends, look_access, store_access}
+use Rattle.store_model.specs.Stores.{IsLocal, depends, look_access, store_access}
 use Rattle.iso_model.proofs.Bytes.{length-block_put, put_here}
 use Rattle.iso_model.proofs.Isolation.{if_some_from}
 use Rattle.store_laws.specs.Parts.{AnswerInOrder, AreMade, Called, Part, accesses_in, run}

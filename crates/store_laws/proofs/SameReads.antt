@@ -10,7 +10,7 @@ use Rattle.iso_model.specs.Conflict.{IsSerialAt}
 use Rattle.iso_model.specs.Effect.{covers, is_write, own}
 use Rattle.iso_model.specs.History.{History, all_own, array_at, shown}
 use Rattle.iso_model.specs.Premises.{block_at}
-use Rattle.iso_model.specs.Stores.{Agree, SameShape}
+use Rattle.store_model.specs.Stores.{Agree, SameShape}
 use Rattle.iso_model.proofs.Bytes.{length-all_own, length-block_all_own, length-block_own, length-own, other_block, put_kept}
 
 -- the array after one access

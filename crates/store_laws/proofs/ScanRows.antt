@@ -4,9 +4,9 @@ use Rattle.std.specs.Cmp.Lexicographic.{nat_list_cmp_total, slice_cmp}
 use Rattle.std.specs.FinMap.{entries, entries-insert, from_entries, insert, put}
 use Rattle.std.specs.List.{filter}
 use Rattle.std.specs.Ordering.{nat_cmp}
-use Rattle.iso_model.specs.declared.stores.Area.{Area}
-use Rattle.iso_model.specs.HashRegion.{Pairs}
-use Rattle.iso_model.specs.TreeRegion.{is_within}
+use Rattle.store_model.specs.declared.stores.Area.{Area}
+use Rattle.store_model.specs.HashRegion.{Pairs}
+use Rattle.store_model.specs.TreeRegion.{is_within}
 use Rattle.iso_tree.proofs.Sorted.{entries_are}
 use Rattle.store_laws.specs.Calls.{Found, Put, StoreAnswer, WasPut, in_area}
 use Rattle.store_laws.specs.Parts.{run}

@@ -10,7 +10,7 @@ use Rattle.iso_model.specs.Conflict.{IsSnapshotAt, Meets}
 use Rattle.iso_model.specs.Effect.{is_write}
 use Rattle.iso_model.specs.History.{History, array_at}
 use Rattle.iso_model.specs.Premises.{block_at}
-use Rattle.iso_model.specs.Stores.{IsLocal, look_access, store_access}
+use Rattle.store_model.specs.Stores.{IsLocal, look_access, store_access}
 use Rattle.iso_model.proofs.Bytes.{length-block_put, put_here, put_kept}
 use Rattle.iso_model.proofs.Rows.{small}
 use Rattle.store_laws.specs.Parts.{AnswerInOrder, AreMade, Called}

@@ -6,16 +6,16 @@ use Rattle.std.specs.FinMap.{empty, from_entries}
 use Rattle.std.proofs.lemmas.Bool.{both_ways}
 use Rattle.std.proofs.lemmas.Bool.Decides.{nat_tests}
 use Rattle.std.proofs.lemmas.List.{length-replicate}
-use Rattle.iso_model.specs.declared.stores.Area.{Area}
+use Rattle.store_model.specs.declared.stores.Area.{Area}
 use Rattle.iso_model.specs.Array.{Array}
-use Rattle.iso_model.specs.Cells.{is_zero, word_at}
-use Rattle.iso_model.specs.FreeMap.{map_bit}
-use Rattle.iso_model.specs.HashRegion.{IsIn}
+use Rattle.store_model.specs.Cells.{is_zero, word_at}
+use Rattle.store_model.specs.FreeMap.{map_bit}
+use Rattle.store_model.specs.HashRegion.{IsIn}
 use Rattle.iso_model.specs.Premises.{block_at}
-use Rattle.iso_model.specs.Stores.{bytes_in}
-use Rattle.iso_model.specs.TreeNodes.{head_mark, is_head}
-use Rattle.iso_model.specs.Trees.{IsApart, nodes_in, pairs_in, tree_at}
-use Rattle.iso_model.specs.TreeRegion.{IsTreeArea, IsTreeRegion, cells_in, level_of, root_of, tree_map, tree_nodes}
+use Rattle.store_model.specs.Stores.{bytes_in}
+use Rattle.store_model.specs.TreeNodes.{head_mark, is_head}
+use Rattle.store_model.specs.Trees.{IsApart, nodes_in, pairs_in, tree_at}
+use Rattle.store_model.specs.TreeRegion.{IsTreeArea, IsTreeRegion, cells_in, level_of, root_of, tree_map, tree_nodes}
 use Rattle.iso_tree.proofs.Frames.{piece_zero}
 use Rattle.store_laws.proofs.Zeros.{no_bit_in_zeros}
 

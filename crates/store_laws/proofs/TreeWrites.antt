@@ -4,18 +4,18 @@ use Rattle.std.specs.Prelude.{nat_lt}
 use Rattle.std.specs.List.{AllByRecursion}
 use Rattle.std.proofs.lemmas.Bool.{and_parts}
 use Rattle.std.proofs.lemmas.Bool.Decides.{nat_tests}
-use Rattle.iso_model.specs.declared.stores.Area.{Area}
-use Rattle.iso_model.specs.declared.stores.StoreError.{StoreError}
+use Rattle.store_model.specs.declared.stores.Area.{Area}
+use Rattle.store_model.specs.declared.stores.StoreError.{StoreError}
 use Rattle.iso_model.specs.Array.{Array}
-use Rattle.iso_model.specs.Cells.{cell_count, value_part}
-use Rattle.iso_model.specs.FreeMap.{free_count}
-use Rattle.iso_model.specs.HashCalls.{is_key, is_value}
-use Rattle.iso_model.specs.HashRegion.{IsIn}
-use Rattle.iso_model.specs.Stores.{Done, Program, then_do}
-use Rattle.iso_model.specs.TreeCalls.{AtBroken, AtLeaf, Climb, Descent, climb, climb_on, del_at, del_below, del_program, descend, first_write, free_list, full_row, get_program, look_again, placed, put_at, put_below_root, put_new, put_program, put_writes, scan_program, store_nodes, with_head, with_map}
-use Rattle.iso_model.specs.TreeNodes.{Cell, cell_of, child_of, child_part, count_of, is_child, is_head, is_node, used_cells}
-use Rattle.iso_model.specs.TreeRegion.{IsTreeArea}
-use Rattle.iso_model.specs.Trees.{Put, fit, halves}
+use Rattle.store_model.specs.Cells.{cell_count, value_part}
+use Rattle.store_model.specs.FreeMap.{free_count}
+use Rattle.store_model.specs.HashCalls.{is_key, is_value}
+use Rattle.store_model.specs.HashRegion.{IsIn}
+use Rattle.store_model.specs.Stores.{Done, Program, then_do}
+use Rattle.store_model.specs.TreeCalls.{AtBroken, AtLeaf, Climb, Descent, climb, climb_on, del_at, del_below, del_program, descend, first_write, free_list, full_row, get_program, look_again, placed, put_at, put_below_root, put_new, put_program, put_writes, scan_program, store_nodes, with_head, with_map}
+use Rattle.store_model.specs.TreeNodes.{Cell, cell_of, child_of, child_part, count_of, is_child, is_head, is_node, used_cells}
+use Rattle.store_model.specs.TreeRegion.{IsTreeArea}
+use Rattle.store_model.specs.Trees.{Put, fit, halves}
 use Rattle.tx_blocks.specs.Runs.{HasEnded}
 use Rattle.tx_blocks.specs.Tx.{Tx, added}
 use Rattle.iso_tree.proofs.Facts.{child_below, head_parts}

@@ -4,9 +4,9 @@ use Rattle.std.specs.Int.{bit_at}
 use Rattle.std.proofs.lemmas.Bool.{cases_lt}
 use Rattle.std.proofs.lemmas.List.{get_or-replicate, get_or_past, length-replicate}
 use Rattle.std.proofs.lemmas.Nat.Bits.{bit_at-zero}
-use Rattle.iso_model.specs.declared.stores.Area.{Area}
+use Rattle.store_model.specs.declared.stores.Area.{Area}
 use Rattle.iso_model.specs.Array.{zeros}
-use Rattle.iso_model.specs.FreeMap.{bit_place, map_bit}
+use Rattle.store_model.specs.FreeMap.{bit_place, map_bit}
 use Rattle.iso_model.specs.Premises.{block_at}
 
 pub zero_at : (n p : ℕ) → ◌≡◌ {A = ℕ} (get_or (replicate n 0) p 0) 0

@@ -1,7 +1,7 @@
 -- The blocks of an area, on two arrays that have the same there.
 use Rattle.std.proofs.Common.{◌≡◌, subst, ℕ, ◌+◌, ◌<◌, true, arith}
 use Rattle.std.proofs.lemmas.Bool.Decides.{nat_tests}
-use Rattle.iso_model.specs.declared.stores.Area.{Area}
+use Rattle.store_model.specs.declared.stores.Area.{Area}
 use Rattle.iso_model.specs.Array.{Array}
 use Rattle.iso_model.specs.Premises.{block_at}
 use Rattle.store_laws.specs.Calls.{in_area}

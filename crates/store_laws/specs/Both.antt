@@ -8,7 +8,7 @@ use Rattle.iso_model.specs.Array.{Array}
 use Rattle.iso_model.specs.Effect.{own}
 use Rattle.iso_model.specs.History.{History, array_at, last}
 use Rattle.iso_model.specs.Isolation.{IsIsolated}
-use Rattle.iso_model.specs.Stores.{IsLocal}
+use Rattle.store_model.specs.Stores.{IsLocal}
 use Rattle.store_laws.specs.Region.{MapStore, SpareRegion}
 use Rattle.store_laws.specs.Parts.{AnswerInOrder, Called, Other, Part, accesses_in, answers_in, calls_in}
 

@@ -1,6 +1,6 @@
 -- Transactions that call a hash store in one area and a tree store in another.
 use Rattle.std.specs.Prelude.{List}
-use Rattle.iso_model.specs.declared.stores.Area.{Area}
+use Rattle.store_model.specs.declared.stores.Area.{Area}
 use Rattle.iso_model.specs.Array.{Array}
 use Rattle.tx_blocks.specs.Tx.{Tx}
 use Rattle.store_laws.specs.Both.{Mixed}

@@ -1,7 +1,7 @@
 -- What the stores share: the calls on one key with their operations on the map, what calls answer, and the blocks of an area.
 use Rattle.std.specs.Prelude.{◌⊎◌, ℕ, ◌+◌, ◌≤◌, Bool, ◌&&◌, List, Option, nat_le, nat_lt}
-use Rattle.iso_model.specs.declared.stores.Area.{Area}
-use Rattle.iso_model.specs.HashRegion.{Pairs, del_op, get_op, put_op}
+use Rattle.store_model.specs.declared.stores.Area.{Area}
+use Rattle.store_model.specs.HashRegion.{Pairs, del_op, get_op, put_op}
 
 -- a call on one key
 pub data KeyCall : Type 0 where

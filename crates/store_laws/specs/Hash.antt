@@ -1,6 +1,6 @@
 -- The hash store as a store over the blocks of its region.
-use Rattle.iso_model.specs.declared.stores.Area.{Area}
-use Rattle.iso_model.specs.HashRegion.{IsHashRegion, Pairs, hash_map}
+use Rattle.store_model.specs.declared.stores.Area.{Area}
+use Rattle.store_model.specs.HashRegion.{IsHashRegion, Pairs, hash_map}
 use Rattle.store_laws.specs.Calls.{KeyCall, StoreAnswer, in_area, key_act}
 use Rattle.store_laws.specs.Region.{MapStore}
 

@@ -1,14 +1,14 @@
 -- A hash region depends on the blocks of its area alone.
-use Rattle.std.proofs.Common.{◌≡◌, ◌≢◌, ◌↔◌, ◌∙◌, sym, refl, ap, subst, ℕ, zero, suc, ◌+◌, ◌*◌, ◌<◌, ◌≤◌, Bool, true, false, cond, IsTrue, IsFalse, List, [], ◌∷◌, ◌++◌, length, arith, inl, inr}
+use Rattle.std.proofs.Common.{◌≡◌, ◌∙◌, sym, refl, ap, subst, ℕ, zero, suc, ◌+◌, ◌<◌, true, List, [], ◌∷◌, ◌++◌, length, arith, inl, inr}
 use Rattle.std.specs.List.{flat_map, list_all, range_with_len}
 use Rattle.std.specs.FinMap.{from_entries}
-use Rattle.iso_model.specs.declared.stores.Area.{Area}
+use Rattle.store_model.specs.declared.stores.Area.{Area}
 use Rattle.iso_model.specs.Array.{Array}
-use Rattle.iso_model.specs.Cells.{cell_count, is_part, is_unused, is_zero, key_at, keys_mark, value_mark}
-use Rattle.iso_model.specs.FreeMap.{map_bit}
-use Rattle.iso_model.specs.HashRegion.{AreLinked, HaveValues, IsHashArea, IsHashRegion, IsIn, IsKeyed, IsOverflow, Stands, bucket_of, bucket_pairs, buckets, chain, hash_map, is_linked, last_position, next_of, pairs_from, view_of}
+use Rattle.store_model.specs.Cells.{cell_count, is_part, is_unused, is_zero, key_at, keys_mark, value_mark}
+use Rattle.store_model.specs.FreeMap.{map_bit}
+use Rattle.store_model.specs.HashRegion.{AreLinked, HaveValues, IsHashArea, IsHashRegion, IsIn, IsKeyed, IsOverflow, Stands, bucket_of, bucket_pairs, buckets, chain, hash_map, is_linked, last_position, next_of, pairs_from, view_of}
 use Rattle.iso_model.specs.Premises.{block_at}
-use Rattle.iso_model.specs.Stores.{bytes_in}
+use Rattle.store_model.specs.Stores.{bytes_in}
 use Rattle.iso_hash.proofs.Chains.{block_inside, length-chain_from, linked_alike}
 use Rattle.iso_hash.proofs.Linking.{chain_of}
 use Rattle.store_laws.specs.AreaBlocks.{same_block, same_first}

@@ -8,7 +8,7 @@ use Rattle.iso_model.specs.Array.{Array}
 use Rattle.iso_model.specs.Effect.{own}
 use Rattle.iso_model.specs.History.{History, array_at, last}
 use Rattle.iso_model.specs.Isolation.{IsIsolated}
-use Rattle.iso_model.specs.Stores.{IsLocal}
+use Rattle.store_model.specs.Stores.{IsLocal}
 use Rattle.store_laws.specs.Region.{MapStore, SpareRegion}
 
 -- A part of a transaction: a call with the accesses that it made and its answer, or other accesses.

@@ -1,8 +1,8 @@
 -- The tree store as a store over the blocks of its region.
 use Rattle.std.specs.Prelude.{ℕ, List}
-use Rattle.iso_model.specs.declared.stores.Area.{Area}
-use Rattle.iso_model.specs.HashRegion.{Pairs}
-use Rattle.iso_model.specs.TreeRegion.{IsTreeRegion, scan_op, tree_map}
+use Rattle.store_model.specs.declared.stores.Area.{Area}
+use Rattle.store_model.specs.HashRegion.{Pairs}
+use Rattle.store_model.specs.TreeRegion.{IsTreeRegion, scan_op, tree_map}
 use Rattle.store_laws.specs.Calls.{Found, KeyCall, StoreAnswer, in_area, key_act}
 use Rattle.store_laws.specs.Region.{MapStore}
 

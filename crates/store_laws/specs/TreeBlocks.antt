@@ -3,16 +3,16 @@ use Rattle.std.proofs.Common.{◌≡◌, ◌≢◌, ◌⊎◌, ◌∙◌, sym, a
 use Rattle.std.specs.List.{list_all}
 use Rattle.std.specs.FinMap.{from_entries}
 use Rattle.std.proofs.lemmas.Bool.{cases_eq}
-use Rattle.iso_model.specs.declared.stores.Area.{Area}
+use Rattle.store_model.specs.declared.stores.Area.{Area}
 use Rattle.iso_model.specs.Array.{Array}
-use Rattle.iso_model.specs.Cells.{is_zero, word_at}
-use Rattle.iso_model.specs.FreeMap.{map_bit}
-use Rattle.iso_model.specs.HashRegion.{IsIn}
+use Rattle.store_model.specs.Cells.{is_zero, word_at}
+use Rattle.store_model.specs.FreeMap.{map_bit}
+use Rattle.store_model.specs.HashRegion.{IsIn}
 use Rattle.iso_model.specs.Premises.{block_at}
-use Rattle.iso_model.specs.Stores.{bytes_in}
-use Rattle.iso_model.specs.TreeNodes.{head_mark, is_head, used_cells}
-use Rattle.iso_model.specs.Trees.{IsApart, IsOrdered, nodes_in, pairs_in, tree_at}
-use Rattle.iso_model.specs.TreeRegion.{AreNodes, IsTreeArea, IsTreeRegion, cells_in, level_of, root_of, tree_map, tree_nodes, tree_pairs}
+use Rattle.store_model.specs.Stores.{bytes_in}
+use Rattle.store_model.specs.TreeNodes.{head_mark, is_head, used_cells}
+use Rattle.store_model.specs.Trees.{IsApart, IsOrdered, nodes_in, pairs_in, tree_at}
+use Rattle.store_model.specs.TreeRegion.{AreNodes, IsTreeArea, IsTreeRegion, cells_in, level_of, root_of, tree_map, tree_nodes, tree_pairs}
 use Rattle.iso_tree.proofs.Again.{nodes_inside}
 use Rattle.iso_tree.proofs.Blocks.{tree_same}
 use Rattle.iso_tree.proofs.Facts.{head_parts}

@@ -1,16 +1,16 @@
 // The laws of stores, at a hash store and a tree store that one transaction calls.
 ghost use Rattle.std.specs.Prelude.{◌≡◌, ◌≢◌, ℕ, Bool, IsTrue, ◌<◌, ◌≤◌, ◌-◌, IfSome, IsFalse, List, [], ◌∷◌, ◌++◌, Ok, Option, slice_get};
 ghost use Rattle.iso_model.specs.declared.access.Geometry.{Geometry};
-ghost use Rattle.iso_model.specs.declared.stores.Area.{Area};
+ghost use Rattle.store_model.specs.declared.stores.Area.{Area};
 ghost use Rattle.iso_model.specs.Array.{zeros, Array};
 ghost use Rattle.iso_model.specs.Effect.{has_write, own};
 ghost use Rattle.iso_model.specs.Geometry.{is_valid};
-ghost use Rattle.iso_model.specs.HashCalls as hash;
-ghost use Rattle.iso_model.specs.HashRegion.{del_op, get_op, hash_map, put_op, IsHashArea, IsHashRegion};
+ghost use Rattle.store_model.specs.HashCalls as hash;
+ghost use Rattle.store_model.specs.HashRegion.{del_op, get_op, hash_map, put_op, IsHashArea, IsHashRegion};
 ghost use Rattle.iso_model.specs.History.{array_at, last, History};
-ghost use Rattle.iso_model.specs.Step.{hash_area, tree_area};
-ghost use Rattle.iso_model.specs.TreeCalls as tree;
-ghost use Rattle.iso_model.specs.TreeRegion.{scan_op, tree_map, IsTreeArea, IsTreeRegion};
+ghost use Rattle.store_model.specs.Areas.{hash_area, tree_area};
+ghost use Rattle.store_model.specs.TreeCalls as tree;
+ghost use Rattle.store_model.specs.TreeRegion.{scan_op, tree_map, IsTreeArea, IsTreeRegion};
 ghost use Rattle.store_laws.specs.Both.{firsts, AreMixed, BothByMap, BothInOrder, BothWellFormed, First, IsByBoth, IsOfBoth, Second};
 ghost use Rattle.store_laws.specs.BothStores.{IsMadeOfStores, StorePart};
 ghost use Rattle.store_laws.specs.Calls.{AreDisjoint, Del, Found, Get, Got, Put, WasPut, WasThere};

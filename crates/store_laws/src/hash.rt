@@ -1,11 +1,11 @@
 // The hash store, as the laws take stores.
 ghost use Rattle.std.specs.Prelude.{◌≡◌};
-ghost use Rattle.iso_model.specs.HashRegion.{IsHashArea};
+ghost use Rattle.store_model.specs.HashRegion.{IsHashArea};
 ghost use Rattle.store_laws.specs.Hash.{hash_store};
 ghost use Rattle.store_laws.specs.HashBlocks.{hash_is_of_its_blocks};
 
 use crate::RegionStore;
-use iso_model::Area;
+use store_model::Area;
 
 /// Where a hash store is.
 #[derive(Clone, Copy)]

@@ -1,12 +1,12 @@
 // The laws of stores, at the hash store.
 ghost use Rattle.std.specs.Prelude.{◌≡◌, ℕ, Bool, ◌<◌, ◌≤◌, ◌+◌, ◌-◌, IfSome, IsFalse, List, [], ◌∷◌, ◌++◌, Ok, Option, Some, map, replicate, slice_get};
 ghost use Rattle.iso_model.specs.declared.access.Geometry.{Geometry};
-ghost use Rattle.iso_model.specs.declared.stores.Area.{Area};
+ghost use Rattle.store_model.specs.declared.stores.Area.{Area};
 ghost use Rattle.std.specs.FinMap.{empty};
 ghost use Rattle.iso_model.specs.Array.{zeros, Array};
 ghost use Rattle.iso_model.specs.Premises.{block_at};
-ghost use Rattle.iso_model.specs.HashCalls.{del_program, get_program, put_program};
-ghost use Rattle.iso_model.specs.HashRegion.{del_op, get_op, hash_map, put_op, IsHashArea, IsHashRegion};
+ghost use Rattle.store_model.specs.HashCalls.{del_program, get_program, put_program};
+ghost use Rattle.store_model.specs.HashRegion.{del_op, get_op, hash_map, put_op, IsHashArea, IsHashRegion};
 ghost use Rattle.iso_model.specs.Effect.{has_write};
 ghost use Rattle.iso_model.specs.History.{array_at, last, History};
 ghost use Rattle.store_laws.specs.Growing.{IsMadeOf};

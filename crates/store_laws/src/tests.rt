@@ -1,17 +1,18 @@
 ghost use Rattle.std.specs.Prelude.{◌≡◌, ◌+◌, ◌<◌, ◌≤◌, [], IfOk, Some};
 ghost use Rattle.std.specs.FinMap.{insert};
 ghost use Rattle.iso_model.specs.Array.{Array};
-ghost use Rattle.iso_model.specs.HashRegion.{IsHashArea, IsHashRegion};
-ghost use Rattle.iso_model.specs.TreeRegion.{scan_op, tree_map, IsTreeArea, IsTreeRegion};
+ghost use Rattle.store_model.specs.HashRegion.{IsHashArea, IsHashRegion};
+ghost use Rattle.store_model.specs.TreeRegion.{scan_op, tree_map, IsTreeArea, IsTreeRegion};
 ghost use Rattle.store_laws.specs.Calls.{AreDisjoint};
 ghost use Rattle.tx_blocks.specs.Runs.{area_of};
 
 use iso_hash::{get, put};
-use iso_model::{Bytes, PairList, Region, StoreError};
+use iso_model::Bytes;
 use iso_tree::scan;
 use plain_tx::PlainTx;
 use std::alloc::Global;
 use std::test::Fail;
+use store_model::{PairList, Region, StoreError};
 use tx_blocks::TxBlocks;
 
 // What a transaction puts, it gets, over any well-formed region.

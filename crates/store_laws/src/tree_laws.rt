@@ -1,13 +1,13 @@
 // The laws of stores, at the tree store.
 ghost use Rattle.std.specs.Prelude.{◌≡◌, ℕ, Bool, ◌<◌, ◌≤◌, ◌+◌, ◌-◌, IfSome, IsFalse, List, [], ◌∷◌, ◌++◌, Ok, Option, Some, map, replicate, slice_get};
 ghost use Rattle.iso_model.specs.declared.access.Geometry.{Geometry};
-ghost use Rattle.iso_model.specs.declared.stores.Area.{Area};
+ghost use Rattle.store_model.specs.declared.stores.Area.{Area};
 ghost use Rattle.std.specs.FinMap.{empty};
 ghost use Rattle.iso_model.specs.Array.{zeros, Array};
 ghost use Rattle.iso_model.specs.Premises.{block_at};
-ghost use Rattle.iso_model.specs.TreeCalls.{del_program, get_program, put_program, scan_program};
-ghost use Rattle.iso_model.specs.HashRegion.{del_op, get_op, put_op};
-ghost use Rattle.iso_model.specs.TreeRegion.{scan_op, tree_map, IsTreeArea, IsTreeRegion};
+ghost use Rattle.store_model.specs.TreeCalls.{del_program, get_program, put_program, scan_program};
+ghost use Rattle.store_model.specs.HashRegion.{del_op, get_op, put_op};
+ghost use Rattle.store_model.specs.TreeRegion.{scan_op, tree_map, IsTreeArea, IsTreeRegion};
 ghost use Rattle.iso_model.specs.Effect.{has_write};
 ghost use Rattle.iso_model.specs.History.{array_at, last, History};
 ghost use Rattle.store_laws.specs.Calls.{Del, Found, Get, Got, Put, StoreAnswer, WasPut, WasThere};

@@ -3,11 +3,11 @@ use Rattle.std.proofs.Common.{◌≢◌, refl, ℕ, zero, suc, Bool, IsTrue, ari
 use Rattle.iso_model.specs.declared.access.Geometry.{Geometry}
 use Rattle.iso_model.specs.Array.{Array}
 use Rattle.iso_model.specs.Geometry.{is_valid}
-use Rattle.iso_model.specs.HashRegion.{IsHashRegion, Pairs, hash_map}
-use Rattle.iso_model.specs.Step.{hash_area, tree_area}
-use Rattle.iso_model.specs.TreeRegion.{IsTreeRegion, tree_map}
-use Rattle.iso_model.proofs.HashAccesses.{hash_area_is}
-use Rattle.iso_model.proofs.TreeAccesses.{tree_area_is}
+use Rattle.store_model.specs.HashRegion.{IsHashRegion, Pairs, hash_map}
+use Rattle.store_model.specs.Areas.{hash_area, tree_area}
+use Rattle.store_model.specs.TreeRegion.{IsTreeRegion, tree_map}
+use Rattle.store_model.proofs.HashAccesses.{hash_area_is}
+use Rattle.store_model.proofs.TreeAccesses.{tree_area_is}
 use Rattle.store_laws.specs.Calls.{KeyCall, StoreAnswer, in_area, key_act}
 use Rattle.store_laws.specs.HashBlocks.{hash_is_of_its_blocks}
 use Rattle.store_laws.specs.Region.{IsOfItsBlocks, MapStore}

@@ -10,12 +10,13 @@ use Rattle.iso_model.specs.declared.access.MarkError.{MarkError}
 use Rattle.iso_model.specs.declared.access.Mode.{Mode}
 use Rattle.iso_model.specs.declared.access.Mode.TheVariants.{Serial, Snapshot}
 use Rattle.iso_model.specs.declared.access.Span.{Span}
+use Rattle.iso_model.specs.declared.core_reply.CoreReply.TheVariants as core
 use Rattle.iso_model.specs.declared.limits.TheConstants.{LAST, MAX_ACCESSES}
-use Rattle.iso_model.specs.declared.script.Op.{Op}
-use Rattle.iso_model.specs.declared.script.Op.TheVariants.{End, Mark}
-use Rattle.iso_model.specs.declared.script.Reply.{Reply}
-use Rattle.iso_model.specs.declared.script.Reply.TheVariants as reply
-use Rattle.iso_model.specs.declared.stores.StoreError.{StoreError}
+use Rattle.script_model.specs.declared.script.Op.{Op}
+use Rattle.script_model.specs.declared.script.Op.TheVariants.{End, Mark}
+use Rattle.script_model.specs.declared.script.Reply.{Reply}
+use Rattle.script_model.specs.declared.script.Reply.TheVariants as reply
+use Rattle.store_model.specs.declared.stores.StoreError.{StoreError}
 use Rattle.iso_model.specs.Array.{Array}
 use Rattle.iso_model.specs.Conflict.{clash}
 use Rattle.iso_model.specs.Effect.{has_write}
@@ -23,13 +24,15 @@ use Rattle.iso_model.specs.Geometry.{is_serial}
 use Rattle.iso_model.specs.History.{array_at, last}
 use Rattle.iso_model.specs.Marks.{mark_fault, marked}
 use Rattle.iso_model.specs.Premises.{appended}
-use Rattle.iso_model.specs.Step.{after_commit, after_leaving, array_of, commit_step, end_step, in_store, mark_refused, mark_step, marked_step, need, store_refusal, store_step}
-use Rattle.iso_model.specs.Stores.{Program, outcome}
+use Rattle.iso_model.specs.Step.{after_commit, after_leaving, need, commit_from, commit_step, end_step}
+use Rattle.script_model.specs.CoreReplies.{as_step}
+use Rattle.script_model.specs.Step.{array_of, in_store, mark_refused, mark_step, marked_step, store_refusal, store_step}
+use Rattle.store_model.specs.Stores.{Program, outcome}
 use Rattle.iso_model.specs.World.{Live, World, attached, used}
 use Rattle.iso_model.specs.Worlds.{IsLive}
 use Rattle.iso_model.proofs.Distinct.{all_filter}
 use Rattle.iso_model.proofs.Growth.{both_of}
-use Rattle.iso_model.proofs.Worlds.{commit, commits, live_at}
+use Rattle.iso_model.proofs.Worlds.{commits, live_at}
 use Rattle.store_laws.specs.Both.{BothWellFormed}
 use Rattle.store_laws.specs.Calls.{KeyCall, StoreAnswer}
 use Rattle.store_laws.specs.Tree.{TreeCall}
@@ -126,52 +129,52 @@ module _ (Q : Type 0) (n : ℕ) (W : World) (notes : Notes) (is : IsNoted Q n W 
             by_map = λ q reads. let was = kept.by_map q (sym (marked_writes span t.accesses) ∙ reads) in record { hash = was.hash; tree = was.tree };
           })
 
-  longer : (u : Live) (notes : Notes) → IsLive W u → IsKept Q n W.geometry W.history notes u → IsKept Q n W.geometry (appended W.history (commit t)) notes u
+  longer : (u : Live) (notes : Notes) → IsLive W u → IsKept Q n W.geometry W.history notes u → IsKept Q n W.geometry (appended W.history (commit_from t)) notes u
   longer u notes live kept =
-      subst (λ (A : Array). Holds Q n W.geometry A u.begin u.accesses u.mode (notes u.number)) (sym (array_longer W.history (commit t) u.begin is.world.history.first live.begin)) kept
+      subst (λ (A : Array). Holds Q n W.geometry A u.begin u.accesses u.mode (notes u.number)) (sym (array_longer W.history (commit_from t) u.begin is.world.history.first live.begin)) kept
 
   committed : (k : ℕ) → has_write t.accesses ≡ true → clash W.geometry W.history t.mode t.begin t.accesses ≡ None → last W.history ≢ LAST → need W t ≤ W.geometry.log - used W
       → (Q → IsTrue (notes t.number).kept) → Goes Q n W notes c End (Some t) (reply.Committed k, after_commit W t)
   committed k write none unworn fits kept =
       let x : Reply × World = (reply.Committed k, after_commit W t) in
       let leads = commits W t is.world (live_at W c t is.world found) write none unworn fits in
-      let more = length-append W.history.commits (commit t ∷ []) in
+      let more = length-append W.history.commits (commit_from t ∷ []) in
       let low : n ≤ last W.history = is.low in
       record {
         next = omega arith;
-        each = all_filter (IsKept Q n W.geometry (appended W.history (commit t)) (notes_by W notes c End (Some t) x)) (λ (u : Live). not (u.number == t.number)) W.live
-            (both_of (IsLive W) (IsKept Q n W.geometry W.history notes) (IsKept Q n W.geometry (appended W.history (commit t)) (notes_by W notes c End (Some t) x))
+        each = all_filter (IsKept Q n W.geometry (appended W.history (commit_from t)) (notes_by W notes c End (Some t) x)) (λ (u : Live). not (u.number == t.number)) W.live
+            (both_of (IsLive W) (IsKept Q n W.geometry W.history notes) (IsKept Q n W.geometry (appended W.history (commit_from t)) (notes_by W notes c End (Some t) x))
             (λ u live was. longer u (notes_by W notes c End (Some t) x) live (quiet Q n W notes is c End W.geometry W.history (Some t) x u refl was)) W.live is.world.live is.each);
         low = omega arith;
-        by = λ q. stays_by_both (image_hash W.geometry) (image_tree W.geometry) W.geometry W.history (commit t) n (is.by q) leads.world.isolated
-            (of_both W.geometry W.history (commit t) (notes t.number) ((kept_of Q n W notes is c End t found).made (kept q)));
+        by = λ q. stays_by_both (image_hash W.geometry) (image_tree W.geometry) W.geometry W.history (commit_from t) n (is.by q) leads.world.isolated
+            (of_both W.geometry W.history (commit_from t) (notes t.number) ((kept_of Q n W notes is c End t found).made (kept q)));
       }
 
   commit_goes : (o : Option Clash) → has_write t.accesses ≡ true → clash W.geometry W.history t.mode t.begin t.accesses ≡ o
-      → ((k : ℕ) → (commit_step W t o).0 ≡ reply.Committed k → Q → IsTrue (notes t.number).kept) → Goes Q n W notes c End (Some t) (commit_step W t o)
+      → ((k : ℕ) → (as_step (commit_step W t o)).0 ≡ reply.Committed k → Q → IsTrue (notes t.number).kept) → Goes Q n W notes c End (Some t) (as_step (commit_step W t o))
   unfolding commit_step
   commit_goes (Some d) write met keeps = leaves Q n W notes is c End t (reply.Conflict d) refl
   commit_goes None write none keeps = one (last W.history == LAST) refl keeps
     where
       two : (b : Bool) → nat_lt (W.geometry.log - used W) (need W t) ≡ b → last W.history ≢ LAST
-          → ((k : ℕ) → (cond {A = Reply × World} b (reply.LogFull (need W t) (W.geometry.log - used W), W) (reply.Committed (last W.history + 1), after_commit W t)).0 ≡ reply.Committed k → Q → IsTrue (notes t.number).kept)
-          → Goes Q n W notes c End (Some t) (cond b (reply.LogFull (need W t) (W.geometry.log - used W), W) (reply.Committed (last W.history + 1), after_commit W t))
+          → ((k : ℕ) → (as_step (cond b (core.LogFull (need W t) (W.geometry.log - used W), W) (core.Committed (last W.history + 1), after_commit W t))).0 ≡ reply.Committed k → Q → IsTrue (notes t.number).kept)
+          → Goes Q n W notes c End (Some t) (as_step (cond b (core.LogFull (need W t) (W.geometry.log - used W), W) (core.Committed (last W.history + 1), after_commit W t)))
       two true full unworn keeps = stays Q n W notes is c End (Some t) (reply.LogFull (need W t) (W.geometry.log - used W)) refl
       two false fits unworn keeps =
           committed (last W.history + 1) write none unworn (ltb-false (W.geometry.log - used W) (need W t) fits) (keeps (last W.history + 1) refl)
 
       one : (b : Bool) → (last W.history == LAST) ≡ b
-          → ((k : ℕ) → (cond {A = Reply × World} b (reply.Worn, W) (cond (nat_lt (W.geometry.log - used W) (need W t)) (reply.LogFull (need W t) (W.geometry.log - used W), W) (reply.Committed (last W.history + 1), after_commit W t))).0 ≡ reply.Committed k → Q → IsTrue (notes t.number).kept)
-          → Goes Q n W notes c End (Some t) (cond b (reply.Worn, W) (cond (nat_lt (W.geometry.log - used W) (need W t)) (reply.LogFull (need W t) (W.geometry.log - used W), W) (reply.Committed (last W.history + 1), after_commit W t)))
+          → ((k : ℕ) → (as_step (cond b (core.Worn, W) (cond (nat_lt (W.geometry.log - used W) (need W t)) (core.LogFull (need W t) (W.geometry.log - used W), W) (core.Committed (last W.history + 1), after_commit W t)))).0 ≡ reply.Committed k → Q → IsTrue (notes t.number).kept)
+          → Goes Q n W notes c End (Some t) (as_step (cond b (core.Worn, W) (cond (nat_lt (W.geometry.log - used W) (need W t)) (core.LogFull (need W t) (W.geometry.log - used W), W) (core.Committed (last W.history + 1), after_commit W t))))
       one true worn keeps = stays Q n W notes is c End (Some t) reply.Worn refl
       one false unworn keeps = two (nat_lt (W.geometry.log - used W) (need W t)) refl (eqb-false (last W.history) LAST unworn) keeps
 
-  pub end_goes : ((k : ℕ) → (end_step W t).0 ≡ reply.Committed k → Q → IsTrue (notes t.number).kept) → Goes Q n W notes c End (Some t) (end_step W t)
+  pub end_goes : ((k : ℕ) → (as_step (end_step W t)).0 ≡ reply.Committed k → Q → IsTrue (notes t.number).kept) → Goes Q n W notes c End (Some t) (as_step (end_step W t))
   unfolding end_step
   end_goes keeps = go (has_write t.accesses) refl keeps
     where
       go : (b : Bool) → has_write t.accesses ≡ b
-          → ((k : ℕ) → (cond {A = Reply × World} b (commit_step W t (clash W.geometry W.history t.mode t.begin t.accesses)) (reply.ReadOnly, after_leaving W t)).0 ≡ reply.Committed k → Q → IsTrue (notes t.number).kept)
-          → Goes Q n W notes c End (Some t) (cond b (commit_step W t (clash W.geometry W.history t.mode t.begin t.accesses)) (reply.ReadOnly, after_leaving W t))
+          → ((k : ℕ) → (as_step (cond b (commit_step W t (clash W.geometry W.history t.mode t.begin t.accesses)) (core.ReadOnly, after_leaving W t))).0 ≡ reply.Committed k → Q → IsTrue (notes t.number).kept)
+          → Goes Q n W notes c End (Some t) (as_step (cond b (commit_step W t (clash W.geometry W.history t.mode t.begin t.accesses)) (core.ReadOnly, after_leaving W t)))
       go true write keeps = commit_goes (clash W.geometry W.history t.mode t.begin t.accesses) write refl keeps
       go false none keeps = leaves Q n W notes is c End t reply.ReadOnly refl

@@ -10,7 +10,7 @@ use Rattle.iso_model.specs.Array.{Array}
 use Rattle.iso_model.specs.Effect.{own}
 use Rattle.iso_model.specs.History.{History, array_at}
 use Rattle.iso_model.specs.Marks.{marked}
-use Rattle.iso_model.specs.Stores.{IsLocal}
+use Rattle.store_model.specs.Stores.{IsLocal}
 use Rattle.tx_blocks.proofs.Progress.{own_append}
 use Rattle.store_laws.specs.Both.{AreMixed, First, IsOfBoth, Neither, Second, firsts, seconds}
 use Rattle.store_laws.specs.BothStores.{StorePart}

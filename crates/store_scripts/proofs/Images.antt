@@ -5,14 +5,14 @@ use Rattle.iso_model.specs.declared.access.Geometry.{Geometry}
 use Rattle.iso_model.specs.declared.limits.TheConstants.{LAST}
 use Rattle.iso_model.specs.Array.{zeros}
 use Rattle.iso_model.specs.Geometry.{is_valid}
-use Rattle.iso_model.specs.HashRegion.{IsHashRegion, Pairs}
-use Rattle.iso_model.specs.Step.{hash_area, tree_area}
-use Rattle.iso_model.specs.TreeRegion.{IsTreeRegion}
+use Rattle.store_model.specs.HashRegion.{IsHashRegion, Pairs}
+use Rattle.store_model.specs.Areas.{hash_area, tree_area}
+use Rattle.store_model.specs.TreeRegion.{IsTreeRegion}
 use Rattle.iso_model.specs.World.{empty_history, fresh}
 use Rattle.iso_model.proofs.Bounds.{limits}
 use Rattle.iso_model.proofs.FreshWorlds.{empty_world_is}
-use Rattle.iso_model.proofs.HashAccesses.{hash_area_is}
-use Rattle.iso_model.proofs.TreeAccesses.{tree_area_is}
+use Rattle.store_model.proofs.HashAccesses.{hash_area_is}
+use Rattle.store_model.proofs.TreeAccesses.{tree_area_is}
 use Rattle.store_laws.proofs.HashBlank as hash
 use Rattle.store_laws.proofs.TreeBlank as tree
 use Rattle.store_laws.proofs.Zeros.{zeros_blank}

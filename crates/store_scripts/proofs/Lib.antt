@@ -13,3 +13,4 @@ pub mod Refusals
 pub mod Commits
 pub mod Images
 mod Rows
+pub mod Whole

@@ -1,26 +1,31 @@
 -- What is told of transactions stays true along the lines of a script.
 use Rattle.std.specs.List.{AllByRecursion}
 use Rattle.std.proofs.Common.{◌≡◌, ◌∙◌, sym, refl, subst, ap, ℕ, ◌-◌, ◌<◌, ◌≤◌, ◌==◌, ◌&&◌, Bool, true, false, IsTrue, length, option_map, List, [], ◌∷◌, Option, Some, None, arith}
-use Rattle.iso_model.specs.declared.script.Line.{Line}
-use Rattle.iso_model.specs.declared.script.Op.{Op}
-use Rattle.iso_model.specs.declared.script.Op.TheVariants.{Begin, End, Abort, Put, Read, Get, Write, Fill, Mark, Release, Takeover, Await, Trim, Stat, Compact, Upgrade, HashPut, HashGet, HashDelete, TreePut, TreeGet, TreeDelete, TreeScan}
-use Rattle.iso_model.specs.declared.script.Reply.{Reply}
-use Rattle.iso_model.specs.declared.script.Reply.TheVariants as reply
+use Rattle.script_model.specs.declared.script.Line.{Line}
+use Rattle.script_model.specs.declared.script.Op.{Op}
+use Rattle.script_model.specs.declared.script.Op.TheVariants.{Begin, End, Abort, Put, Read, Get, Write, Fill, Mark, Release, Takeover, Await, Trim, Stat, Compact, Upgrade, HashPut, HashGet, HashDelete, TreePut, TreeGet, TreeDelete, TreeScan}
+use Rattle.script_model.specs.declared.script.Reply.{Reply}
+use Rattle.script_model.specs.declared.script.Reply.TheVariants as reply
 use Rattle.iso_model.specs.declared.access.Geometry.{Geometry}
-use Rattle.iso_model.specs.declared.stores.StoreError.{StoreError}
-use Rattle.iso_model.specs.declared.stores.StoreError.TheVariants as store
+use Rattle.store_model.specs.declared.stores.StoreError.{StoreError}
+use Rattle.store_model.specs.declared.stores.StoreError.TheVariants as store
 use Rattle.iso_model.specs.declared.limits.TheConstants.{MAX_ACCESSES}
-use Rattle.iso_model.specs.HashCalls as hash
-use Rattle.iso_model.specs.HashCalls.{is_key}
+use Rattle.store_model.specs.HashCalls as hash
+use Rattle.store_model.specs.HashCalls.{is_key}
 use Rattle.iso_model.specs.History.{array_at, last}
 use Rattle.iso_model.specs.Premises.{HasShape}
-use Rattle.iso_model.specs.Script.{after}
-use Rattle.iso_model.specs.Step.{after_leaving, array_of, end_step, fill_step, found_reply, get_step, hash_area, hash_delete_step, hash_get_step, hash_put_step, in_transaction, mark_step, mode_named, numbers, pairs_reply, put_step, read_access, read_step, release_step, removed_reply, shown_to, step, store_refusal, tree_area, tree_delete_step, tree_get_step, tree_put_step, tree_scan_step, write_step}
-use Rattle.iso_model.specs.TreeCalls as tree
+use Rattle.script_model.specs.Script.{after}
+use Rattle.iso_model.specs.Step.{after_leaving, end_step, mode_named, read_access, shown_to}
+use Rattle.script_model.specs.CoreReplies.{as_step}
+use Rattle.script_model.specs.Step.{array_of, fill_step, found_reply, get_step, hash_delete_step, hash_get_step, hash_put_step, in_transaction, mark_step, numbers, pairs_reply, put_step, read_step, release_step, removed_reply, step, store_refusal, tree_delete_step, tree_get_step, tree_put_step, tree_scan_step, write_step}
+use Rattle.store_model.specs.Areas.{hash_area, tree_area}
+use Rattle.store_model.specs.TreeCalls as tree
 use Rattle.iso_model.specs.World.{Live, World, attached, client, held}
-use Rattle.iso_model.specs.Worlds.{AreLines, IsOp, IsWorld}
+use Rattle.script_model.specs.Operations.{AreLines, IsOp}
+use Rattle.iso_model.specs.Worlds.{IsWorld}
 use Rattle.iso_model.proofs.Recorded.{array_shape, own_shape}
-use Rattle.iso_model.proofs.Worlds.{live_at, step_leads}
+use Rattle.iso_model.proofs.Worlds.{live_at}
+use Rattle.script_model.proofs.Steps.{step_leads}
 use Rattle.store_laws.specs.Calls.{Del, Found as WasFound, Get as GetKey, Got, Put as PutKey, WasPut, WasThere}
 use Rattle.store_laws.specs.Tree.{OnKey, Scan}
 use Rattle.store_laws.proofs.Longer.{begins_by_both}
@@ -181,8 +186,8 @@ module _ (Q : Type 0) (n : ℕ) (W : World) (notes : Notes) (is : IsNoted Q n W 
   unfolding fill_step
   fill_goes t block bytes found = access_goes Q n W notes is c (Fill block bytes) t block _ reply.Done _ found (λ r. refl)
 
-  end_with : (o : Option Live) → attached W c ≡ o → ((t : Live) (k : ℕ) → o ≡ Some t → (in_transaction W o (end_step W)).0 ≡ reply.Committed k → Q → IsTrue (notes t.number).kept)
-      → Goes Q n W notes c End o (in_transaction W o (end_step W))
+  end_with : (o : Option Live) → attached W c ≡ o → ((t : Live) (k : ℕ) → o ≡ Some t → (in_transaction W o (λ u. as_step (end_step W u))).0 ≡ reply.Committed k → Q → IsTrue (notes t.number).kept)
+      → Goes Q n W notes c End o (in_transaction W o (λ u. as_step (end_step W u)))
   end_with None at keeps = stays Q n W notes is c End None reply.NotInTx refl
   end_with (Some t) at keeps = end_goes Q n W notes is c t at (λ k done. keeps t k refl done)
 

@@ -3,22 +3,22 @@ use Rattle.std.proofs.Common.{◌≡◌, ◌≢◌, refl, ap, subst, ℕ, zero, 
 use Rattle.std.proofs.lemmas.Bool.{and_parts}
 use Rattle.iso_model.specs.declared.access.Access.{Access}
 use Rattle.iso_model.specs.declared.access.Geometry.{Geometry}
-use Rattle.iso_model.specs.declared.stores.Area.{Area}
-use Rattle.iso_model.specs.declared.stores.StoreError.{StoreError}
-use Rattle.iso_model.specs.declared.stores.StoreError.TheVariants.{BadKey, BadValue}
+use Rattle.store_model.specs.declared.stores.Area.{Area}
+use Rattle.store_model.specs.declared.stores.StoreError.{StoreError}
+use Rattle.store_model.specs.declared.stores.StoreError.TheVariants.{BadKey, BadValue}
 use Rattle.iso_model.specs.Array.{Array}
 use Rattle.iso_model.specs.Geometry.{is_valid}
-use Rattle.iso_model.specs.HashCalls as hash
-use Rattle.iso_model.specs.HashCalls.{is_key, is_value}
-use Rattle.iso_model.specs.HashRegion.{IsHashRegion, Pairs, del_op, get_op, hash_map, put_op}
+use Rattle.store_model.specs.HashCalls as hash
+use Rattle.store_model.specs.HashCalls.{is_key, is_value}
+use Rattle.store_model.specs.HashRegion.{IsHashRegion, Pairs, del_op, get_op, hash_map, put_op}
 use Rattle.iso_model.specs.Premises.{HasShape, block_at}
-use Rattle.iso_model.specs.Step.{hash_area, tree_area}
-use Rattle.iso_model.specs.Stores.{Done, IsLocal, Program, accesses_of, answer_of, outcome}
-use Rattle.iso_model.specs.TreeCalls as tree
-use Rattle.iso_model.specs.TreeRegion.{IsTreeRegion, scan_op, tree_map}
+use Rattle.store_model.specs.Areas.{hash_area, tree_area}
+use Rattle.store_model.specs.Stores.{Done, IsLocal, Program, accesses_of, answer_of, outcome}
+use Rattle.store_model.specs.TreeCalls as tree
+use Rattle.store_model.specs.TreeRegion.{IsTreeRegion, scan_op, tree_map}
 use Rattle.iso_model.proofs.Bounds.{limits}
-use Rattle.iso_model.proofs.HashAccesses.{hash_area_is}
-use Rattle.iso_model.proofs.TreeAccesses.{tree_area_is}
+use Rattle.store_model.proofs.HashAccesses.{hash_area_is}
+use Rattle.store_model.proofs.TreeAccesses.{tree_area_is}
 use Rattle.iso_hash.proofs.Changes as hash_changes
 use Rattle.iso_hash.proofs.Gets as hash_gets
 use Rattle.iso_tree.proofs.DelCalls as tree_dels

@@ -5,12 +5,13 @@ use Rattle.std.proofs.lemmas.Bool.{and_parts, cases_eq}
 use Rattle.iso_model.specs.declared.access.Access.{Access}
 use Rattle.iso_model.specs.declared.access.Geometry.{Geometry}
 use Rattle.iso_model.specs.declared.access.Mode.{Mode}
-use Rattle.iso_model.specs.declared.script.Op.{Op}
-use Rattle.iso_model.specs.declared.script.Reply.{Reply}
+use Rattle.script_model.specs.declared.script.Op.{Op}
+use Rattle.script_model.specs.declared.script.Reply.{Reply}
 use Rattle.iso_model.specs.Array.{Array}
 use Rattle.iso_model.specs.Effect.{has_write, is_write}
 use Rattle.iso_model.specs.History.{History, array_at, last}
-use Rattle.iso_model.specs.Step.{hash_area, tree_area, with_accesses}
+use Rattle.store_model.specs.Areas.{hash_area, tree_area}
+use Rattle.iso_model.specs.Step.{with_accesses}
 use Rattle.iso_model.specs.World.{Live, World, attached, with}
 use Rattle.iso_model.specs.Worlds.{IsWorld}
 use Rattle.iso_model.proofs.Growth.{all_weaker}

@@ -6,20 +6,24 @@ use Rattle.iso_model.specs.declared.access.Access.{Access}
 use Rattle.iso_model.specs.declared.access.Clash.{Clash}
 use Rattle.iso_model.specs.declared.access.Commit.{Commit}
 use Rattle.iso_model.specs.declared.access.Geometry.{Geometry}
+use Rattle.iso_model.specs.declared.core_reply.CoreReply.TheVariants as core
 use Rattle.iso_model.specs.declared.limits.TheConstants.{LAST}
-use Rattle.iso_model.specs.declared.script.Op.TheVariants.{End}
-use Rattle.iso_model.specs.declared.script.Reply.{Reply}
-use Rattle.iso_model.specs.declared.script.Reply.TheVariants as reply
+use Rattle.script_model.specs.declared.script.Op.TheVariants.{End}
+use Rattle.script_model.specs.declared.script.Reply.{Reply}
+use Rattle.script_model.specs.declared.script.Reply.TheVariants as reply
 use Rattle.iso_model.specs.Array.{Array}
 use Rattle.iso_model.specs.Conflict.{clash}
 use Rattle.iso_model.specs.Effect.{has_write, own}
 use Rattle.iso_model.specs.History.{array_at, last}
 use Rattle.iso_model.specs.Premises.{appended}
-use Rattle.iso_model.specs.Step.{after_commit, after_leaving, array_of, commit_step, end_step, in_transaction, need, step}
+use Rattle.iso_model.specs.Step.{after_commit, after_leaving, need, commit_from, commit_step, end_step}
+use Rattle.script_model.specs.CoreReplies.{as_step}
+use Rattle.script_model.specs.Step.{array_of, in_transaction, step}
 use Rattle.iso_model.specs.World.{Live, World, attached, is_at_client, used}
 use Rattle.iso_model.specs.Worlds.{IsWorld}
 use Rattle.iso_model.proofs.Distinct.{all_find}
-use Rattle.iso_model.proofs.Worlds.{commit, live_at, step_leads}
+use Rattle.iso_model.proofs.Worlds.{live_at}
+use Rattle.script_model.proofs.Steps.{step_leads}
 use Rattle.store_laws.specs.Both.{AreMixed, BothInOrder, IsOfBoth, firsts, seconds}
 use Rattle.store_laws.specs.BothStores.{StorePart}
 use Rattle.store_laws.specs.Calls.{KeyCall}
@@ -88,54 +92,55 @@ module _ (n : ℕ) (V : World) (notes : Notes) (is : IsNoted (Unit {0}) n V note
       (both_live (image_hash g) (image_tree g) one two A parts all_is.made well))
 
   -- AN END THAT COMMITS
-  commit_only : (o : Option Clash) (k : ℕ) → (commit_step V t o).0 ≡ reply.Committed k → (commit_step V t o ≡ (reply.Committed k, after_commit V t)) × (k ≡ last V.history + 1)
+  commit_only : (o : Option Clash) (k : ℕ) → (as_step (commit_step V t o)).0 ≡ reply.Committed k → (as_step (commit_step V t o) ≡ (reply.Committed k, after_commit V t)) × (k ≡ last V.history + 1)
   unfolding commit_step
   commit_only (Some d) k done = cc
   commit_only None k done = one (last V.history == LAST) (nat_lt (V.geometry.log - used V) (need V t)) done
     where
       one : (a b : Bool)
-          → (cond {A = Reply × World} a (reply.Worn, V) (cond b (reply.LogFull (need V t) (V.geometry.log - used V), V) (reply.Committed (last V.history + 1), after_commit V t))).0 ≡ reply.Committed k
-          → (cond {A = Reply × World} a (reply.Worn, V) (cond b (reply.LogFull (need V t) (V.geometry.log - used V), V) (reply.Committed (last V.history + 1), after_commit V t))
+          → (as_step (cond a (core.Worn, V) (cond b (core.LogFull (need V t) (V.geometry.log - used V), V) (core.Committed (last V.history + 1), after_commit V t)))).0 ≡ reply.Committed k
+          → (as_step (cond a (core.Worn, V) (cond b (core.LogFull (need V t) (V.geometry.log - used V), V) (core.Committed (last V.history + 1), after_commit V t)))
           ≡ (reply.Committed k, after_commit V t)) × (k ≡ last V.history + 1)
       one true b done = cc
       one false true done = cc
       one false false done = (ap (λ (r : Reply). (r, after_commit V t)) done, sym (let e : last V.history + 1 ≡ k = cc in e))
 
-  end_only : (k : ℕ) → (end_step V t).0 ≡ reply.Committed k → (end_step V t ≡ (reply.Committed k, after_commit V t)) × (k ≡ last V.history + 1)
+  end_only : (k : ℕ) → (as_step (end_step V t)).0 ≡ reply.Committed k → (as_step (end_step V t) ≡ (reply.Committed k, after_commit V t)) × (k ≡ last V.history + 1)
   unfolding end_step
   end_only k done = go (has_write t.accesses) done
     where
-      go : (b : Bool) → (cond {A = Reply × World} b (commit_step V t (clash V.geometry V.history t.mode t.begin t.accesses)) (reply.ReadOnly, after_leaving V t)).0 ≡ reply.Committed k
-          → (cond {A = Reply × World} b (commit_step V t (clash V.geometry V.history t.mode t.begin t.accesses)) (reply.ReadOnly, after_leaving V t) ≡ (reply.Committed k, after_commit V t)) × (k ≡ last V.history + 1)
+      go : (b : Bool) → (as_step (cond b (commit_step V t (clash V.geometry V.history t.mode t.begin t.accesses)) (core.ReadOnly, after_leaving V t))).0 ≡ reply.Committed k
+          → (as_step (cond b (commit_step V t (clash V.geometry V.history t.mode t.begin t.accesses)) (core.ReadOnly, after_leaving V t)) ≡ (reply.Committed k, after_commit V t)) × (k ≡ last V.history + 1)
       go true done = commit_only (clash V.geometry V.history t.mode t.begin t.accesses) k done
       go false done = cc
 
   ends_so : (k : ℕ) → (step V c End).0 ≡ reply.Committed k → (step V c End ≡ (reply.Committed k, after_commit V t)) × (k ≡ last V.history + 1)
   unfolding step
   ends_so k done =
-      let is_end : in_transaction V (attached V c) (end_step V) ≡ end_step V t = ap (λ (o : Option Live). in_transaction V o (end_step V)) found in
+      let act : Live → Reply × World = λ u. as_step (end_step V u) in
+      let is_end : in_transaction V (attached V c) act ≡ act t = ap (λ (o : Option Live). in_transaction V o act) found in
       let ends = end_only k (sym (ap (λ (x : Reply × World). x.0) is_end) ∙ done) in
       (is_end ∙ ends.0, ends.1)
 
-  committed_told : (k : ℕ) → k ≡ last V.history + 1 → IsWorld (after_commit V t) → ToldInOrder g (notes t.number) (array_at (appended V.history (commit t)) (k - 1)) (array_at (appended V.history (commit t)) k)
+  committed_told : (k : ℕ) → k ≡ last V.history + 1 → IsWorld (after_commit V t) → ToldInOrder g (notes t.number) (array_at (appended V.history (commit_from t)) (k - 1)) (array_at (appended V.history (commit_from t)) k)
   committed_told k at sound =
       let one = hash_blocks g is.world.valid in
       let two = tree_blocks g is.world.valid in
-      let H = appended V.history (commit t) in
-      let of = of_both g V.history (commit t) (notes t.number) has.1 in
-      let by = stays_by_both (image_hash g) (image_tree g) g V.history (commit t) n (is.by tt) sound.isolated of in
+      let H = appended V.history (commit_from t) in
+      let of = of_both g V.history (commit_from t) (notes t.number) has.1 in
+      let by = stays_by_both (image_hash g) (image_tree g) g V.history (commit_from t) n (is.by tt) sound.isolated of in
       let live = live_at V c t is.world found in
-      let more = length-append V.history.commits (commit t ∷ []) in
+      let more = length-append V.history.commits (commit_from t ∷ []) in
       let first : 0 < V.history.first = is.world.history.first in
       let low : n ≤ last V.history = is.low in
-      let is_last : slice_get H.commits (k - H.first) ≡ Some (commit t) = last_of V.history.commits (commit t) (k - H.first) (omega arith) in
+      let is_last : slice_get H.commits (k - H.first) ≡ Some (commit_from t) = last_of V.history.commits (commit_from t) (k - H.first) (omega arith) in
       let order = both_commits (image_hash g) (image_tree g) one two g H n by k (omega arith) (omega arith) in
       let here = subst (λ (o : Option Commit). IfSome o (λ d. (d_of : IsOfBoth (image_hash g) (image_tree g) H d) → BothInOrder (image_hash g) (image_tree g) d_of.parts (array_at H (k - 1)) (array_at H k))) is_last order in
       told_in_order g (notes t.number) parts (array_at H (k - 1)) (array_at H k) all_is.hash_calls all_is.hash_answers all_is.tree_calls all_is.tree_answers
       (here (record {
         parts = parts;
         are = all_is.are;
-        made = subst (λ (B : Array). AreMixed (image_hash g) (image_tree g) B parts) (sym (array_longer V.history (commit t) t.begin first live.begin)) all_is.made;
+        made = subst (λ (B : Array). AreMixed (image_hash g) (image_tree g) B parts) (sym (array_longer V.history (commit_from t) t.begin first live.begin)) all_is.made;
         mode = all_is.serial;
       }))
 
@@ -150,6 +155,6 @@ module _ (n : ℕ) (V : World) (notes : Notes) (is : IsNoted (Unit {0}) n V note
   pub committed_last : (k : ℕ) → (step V c End).0 ≡ reply.Committed k → k ≤ last (step V c End).1.history
   committed_last k done =
       let ends = ends_so k done in
-      let more = length-append V.history.commits (commit t ∷ []) in
+      let more = length-append V.history.commits (commit_from t ∷ []) in
       let first : 0 < V.history.first = is.world.history.first in
       subst (λ (U : World). k ≤ last U.history) (sym (ap (λ (x : Reply × World). x.1) ends.0)) (let at = ends.1 in omega arith)

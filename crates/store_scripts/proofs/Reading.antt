@@ -6,7 +6,7 @@ use Rattle.iso_model.specs.declared.access.Span.{Span}
 use Rattle.iso_model.specs.Array.{Array}
 use Rattle.iso_model.specs.Effect.{has_write, is_write, own}
 use Rattle.iso_model.specs.Marks.{marked}
-use Rattle.iso_model.specs.Stores.{AreReads, IsLocal}
+use Rattle.store_model.specs.Stores.{AreReads, IsLocal}
 use Rattle.tx_blocks.proofs.Programs.{own_reads}
 use Rattle.store_laws.specs.Calls.{KeyCall, StoreAnswer, key_act}
 use Rattle.store_laws.specs.Tree.{TreeCall, tree_act}

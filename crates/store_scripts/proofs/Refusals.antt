@@ -3,17 +3,19 @@ use Rattle.std.proofs.Common.{◌≡◌, ◌∙◌, sym, refl, ap, subst, ℕ, �
 use Rattle.std.specs.List.{list_all}
 use Rattle.iso_model.specs.declared.access.Access.{Access}
 use Rattle.iso_model.specs.declared.limits.TheConstants.{MAX_ACCESSES}
-use Rattle.iso_model.specs.declared.script.Op.{Op}
-use Rattle.iso_model.specs.declared.script.Op.TheVariants.{Begin, End, Abort, Put, Read, Get, Write, Fill, Mark, Release, Takeover, Await, Trim, Stat, Compact, Upgrade, HashPut, HashGet, HashDelete, TreePut, TreeGet, TreeDelete, TreeScan}
-use Rattle.iso_model.specs.declared.script.Reply.{Reply}
-use Rattle.iso_model.specs.declared.script.Reply.TheVariants as reply
-use Rattle.iso_model.specs.declared.stores.StoreError.{StoreError}
-use Rattle.iso_model.specs.HashCalls as hash
-use Rattle.iso_model.specs.HashCalls.{is_key}
-use Rattle.iso_model.specs.Step.{array_of, found_reply, hash_area, hash_delete_step, hash_get_step, hash_put_step, in_store, in_transaction, pairs_reply, removed_reply, step, store_reply, store_step, tree_area, tree_delete_step, tree_get_step, tree_put_step, tree_scan_step, with_accesses}
+use Rattle.script_model.specs.declared.script.Op.{Op}
+use Rattle.script_model.specs.declared.script.Op.TheVariants.{Begin, End, Abort, Put, Read, Get, Write, Fill, Mark, Release, Takeover, Await, Trim, Stat, Compact, Upgrade, HashPut, HashGet, HashDelete, TreePut, TreeGet, TreeDelete, TreeScan}
+use Rattle.script_model.specs.declared.script.Reply.{Reply}
+use Rattle.script_model.specs.declared.script.Reply.TheVariants as reply
+use Rattle.store_model.specs.declared.stores.StoreError.{StoreError}
+use Rattle.store_model.specs.HashCalls as hash
+use Rattle.store_model.specs.HashCalls.{is_key}
+use Rattle.script_model.specs.Step.{array_of, found_reply, hash_delete_step, hash_get_step, hash_put_step, in_store, in_transaction, pairs_reply, removed_reply, step, store_reply, store_step, tree_delete_step, tree_get_step, tree_put_step, tree_scan_step}
+use Rattle.store_model.specs.Areas.{hash_area, tree_area}
+use Rattle.iso_model.specs.Step.{with_accesses}
 use Rattle.iso_model.specs.Geometry.{is_serial}
-use Rattle.iso_model.specs.Stores.{AreReads, Program, outcome}
-use Rattle.iso_model.specs.TreeCalls as tree
+use Rattle.store_model.specs.Stores.{AreReads, Program, outcome}
+use Rattle.store_model.specs.TreeCalls as tree
 use Rattle.iso_model.specs.World.{Live, World, attached}
 use Rattle.iso_model.specs.Worlds.{IsWorld}
 use Rattle.iso_hash.proofs.Gets as hash_gets

@@ -4,15 +4,20 @@ use Rattle.std.specs.Prelude.{nat_lt}
 use Rattle.std.specs.List.{AllByRecursion}
 use Rattle.iso_model.specs.declared.access.Access.{Access}
 use Rattle.iso_model.specs.declared.access.Mode.{Mode}
+use Rattle.iso_model.specs.declared.core_reply.CoreReply.{CoreReply}
+use Rattle.iso_model.specs.declared.core_reply.CoreReply.TheVariants as core
 use Rattle.iso_model.specs.declared.limits.TheConstants.{LAST, MAX_ACCESSES, MAX_LIVE}
-use Rattle.iso_model.specs.declared.script.Op.{Op}
-use Rattle.iso_model.specs.declared.script.Reply.{Reply}
-use Rattle.iso_model.specs.declared.script.Reply.TheVariants as reply
-use Rattle.iso_model.specs.declared.stores.StoreError.{StoreError}
+use Rattle.script_model.specs.declared.script.Op.{Op}
+use Rattle.script_model.specs.declared.script.Reply.{Reply}
+use Rattle.script_model.specs.declared.script.Reply.TheVariants as reply
+use Rattle.store_model.specs.declared.stores.StoreError.{StoreError}
 use Rattle.iso_model.specs.Geometry.{same_mode}
 use Rattle.iso_model.specs.History.{array_at, last}
-use Rattle.iso_model.specs.Step.{access_step, after_begin, after_leaving, after_switch, after_trim, array_of, begin_step, in_transaction, out_of_transaction, placed, release_step, store_refusal, store_reply, switch_step, takeover_step, with_accesses}
-use Rattle.iso_model.specs.Stores.{Program, outcome}
+use Rattle.script_model.specs.Step.{access_step, array_of, in_transaction, out_of_transaction, release_step, store_refusal, store_reply, takeover_step}
+use Rattle.iso_model.specs.Step.{after_begin, after_leaving, after_switch, after_trim, begin_step, placed, switch_step, with_accesses}
+use Rattle.script_model.specs.CoreReplies.{as_reply, as_step}
+use Rattle.script_model.proofs.CoreSteps.{as_either}
+use Rattle.store_model.specs.Stores.{Program, outcome}
 use Rattle.iso_model.specs.World.{Live, Place, World, attached, client, held, is_at_client, is_under_label, label, with}
 use Rattle.iso_model.specs.Worlds.{IsWorld}
 use Rattle.iso_model.proofs.Distinct.{all_filter, all_find}
@@ -51,13 +56,13 @@ module _ (Q : Type 0) (n : ℕ) (W : World) (notes : Notes) (is : IsNoted Q n W 
         by = is.by;
       }
 
-  pub begin_goes : (place : Place) (mode : Mode) → ((r : Reply) → answered op r ≡ None) → Goes Q n W notes c op None (begin_step W place mode)
+  pub begin_goes : (place : Place) (mode : Mode) → ((r : Reply) → answered op r ≡ None) → Goes Q n W notes c op None (as_step (begin_step W place mode))
   unfolding begin_step
   begin_goes place mode none =
-      choose Q n W notes c op None ((W.geometry.form == 1) && not (same_mode mode W.geometry.mode)) _ _ (stays Q n W notes is c op None reply.ModeFixed (none _)) (λ a.
-      choose Q n W notes c op None (nat_le MAX_LIVE (length W.live)) _ _ (stays Q n W notes is c op None reply.TooManyTx (none _)) (λ b.
-      choose Q n W notes c op None (nat_lt LAST W.next) _ _ (stays Q n W notes is c op None reply.Worn (none _)) (λ d.
-      begins place mode (reply.Began (last W.history)) (none _))))
+      let so = Goes Q n W notes c op None in
+      as_either so ((W.geometry.form == 1) && not (same_mode mode W.geometry.mode)) _ _ (stays Q n W notes is c op None reply.ModeFixed (none _))
+      (as_either so (nat_le MAX_LIVE (length W.live)) _ _ (stays Q n W notes is c op None reply.TooManyTx (none _))
+      (as_either so (nat_lt LAST W.next) _ _ (stays Q n W notes is c op None reply.Worn (none _)) (begins place mode (reply.Began (last W.history)) (none _))))
 
   -- a transaction leaves
   pub leaves : (t : Live) (r : Reply) → answered op r ≡ None → Goes Q n W notes c op (Some t) (r, after_leaving W t)
@@ -143,13 +148,13 @@ module _ (Q : Type 0) (n : ℕ) (W : World) (notes : Notes) (is : IsNoted Q n W 
         };
   }
 
-  pub switch_goes : (form : ℕ) (o : Option Live) (answer : Reply) → ((r : Reply) → answered op r ≡ None) → IsWorld (switch_step W form answer).1 → Goes Q n W notes c op o (switch_step W form answer)
+  pub switch_goes : (form : ℕ) (o : Option Live) (answer : CoreReply) → ((r : Reply) → answered op r ≡ None) → IsWorld (switch_step W form answer).1 → Goes Q n W notes c op o (as_step (switch_step W form answer))
   unfolding switch_step
   switch_goes form o answer none sound = go (W.generation == LAST) sound
     where
-      go : (b : Bool) → IsWorld (cond {A = Reply × World} b (reply.Worn, W) (answer, after_switch W form)).1 → Goes Q n W notes c op o (cond b (reply.Worn, W) (answer, after_switch W form))
+      go : (b : Bool) → IsWorld (cond {A = CoreReply × World} b (core.Worn, W) (answer, after_switch W form)).1 → Goes Q n W notes c op o (as_step (cond b (core.Worn, W) (answer, after_switch W form)))
       go true world = stays Q n W notes is c op o reply.Worn (none _)
-      go false world = switches form o answer (none _) world
+      go false world = switches form o (as_reply answer) (none _) world
 
   -- A call of a store: refused, or answered Ok, where it is one more of those that are told.
   pub called : {R : Type 0} (t : Live) (program : Program (Result R StoreError)) (answer : R → Reply) (name : R → Answered) (end : Option (Result R StoreError)) → attached W c ≡ Some t

@@ -2,9 +2,9 @@
 use Rattle.std.specs.Prelude.{ℕ, zero, suc}
 use Rattle.std.specs.FinMap.{empty}
 use Rattle.iso_model.specs.declared.access.Geometry.{Geometry}
-use Rattle.iso_model.specs.HashRegion.{IsHashRegion, Pairs, hash_map}
-use Rattle.iso_model.specs.Step.{hash_area, tree_area}
-use Rattle.iso_model.specs.TreeRegion.{IsTreeRegion, tree_map}
+use Rattle.store_model.specs.HashRegion.{IsHashRegion, Pairs, hash_map}
+use Rattle.store_model.specs.Areas.{hash_area, tree_area}
+use Rattle.store_model.specs.TreeRegion.{IsTreeRegion, tree_map}
 use Rattle.store_laws.specs.Calls.{KeyCall, StoreAnswer, in_area, key_act}
 use Rattle.store_laws.specs.Region.{MapStore}
 use Rattle.store_laws.specs.Tree.{TreeCall, tree_act}

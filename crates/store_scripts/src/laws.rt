@@ -3,21 +3,24 @@ ghost use Rattle.std.specs.Prelude.{◌≡◌, ◌≢◌, ◌↔◌, ℕ, ◌-�
 ghost use Rattle.std.specs.FinMap.{empty};
 ghost use Rattle.iso_model.specs.declared.access.Geometry.{Geometry};
 ghost use Rattle.iso_model.specs.declared.limits.TheConstants.{LAST};
-ghost use Rattle.iso_model.specs.declared.script.Line.{Line};
-ghost use Rattle.iso_model.specs.declared.script.Op.{Op};
-ghost use Rattle.iso_model.specs.declared.script.Op.TheVariants.{End};
-ghost use Rattle.iso_model.specs.declared.script.Reply.TheVariants.{Committed};
+ghost use Rattle.script_model.specs.declared.script.Line.{Line};
+ghost use Rattle.script_model.specs.declared.script.Op.{Op};
+ghost use Rattle.script_model.specs.declared.script.Op.TheVariants.{End};
+ghost use Rattle.script_model.specs.declared.script.Reply.TheVariants.{Committed};
 ghost use Rattle.iso_model.specs.Array.{Array};
 ghost use Rattle.iso_model.specs.Effect.{has_write};
 ghost use Rattle.iso_model.specs.Geometry.{is_valid};
-ghost use Rattle.iso_model.specs.HashRegion.{hash_map, IsHashRegion};
+ghost use Rattle.store_model.specs.HashRegion.{hash_map, IsHashRegion};
 ghost use Rattle.iso_model.specs.History.{array_at, last};
-ghost use Rattle.iso_model.specs.Script.{after};
-ghost use Rattle.iso_model.specs.Step.{array_of, hash_area, step, tree_area};
-ghost use Rattle.iso_model.specs.TreeRegion.{tree_map, IsTreeRegion};
+ghost use Rattle.script_model.specs.Script.{after};
+ghost use Rattle.script_model.specs.Step.{array_of, step};
+ghost use Rattle.store_model.specs.Areas.{hash_area, tree_area};
+ghost use Rattle.store_model.specs.TreeRegion.{tree_map, IsTreeRegion};
 ghost use Rattle.iso_model.specs.World.{attached, empty_history, fresh, Live, World};
-ghost use Rattle.iso_model.specs.Worlds.{AreLines, IsWorld};
+ghost use Rattle.script_model.specs.Operations.{AreLines};
+ghost use Rattle.iso_model.specs.Worlds.{IsWorld};
 ghost use Rattle.store_laws.specs.Both.{IsByBoth};
+ghost use Rattle.store_scripts.specs.InOrder.{StoresAnswer};
 ghost use Rattle.store_scripts.specs.Kept.{BeginsWell, IsToldOf, ToldByMap, ToldInOrder};
 ghost use Rattle.store_scripts.specs.Stores.{image_hash, image_tree};
 ghost use Rattle.store_scripts.specs.Told.{answered, no_notes, noted, notes_after, CallsStore, CommitsKeep, Notes};
@@ -38,6 +41,11 @@ pub fn store_calls_of_a_script_answer_in_order()
     ensures read_only { (W : World) (lines : List (ℕ × Line)) (client : ℕ) (t : Live) → BeginsWell W → AreLines lines → CommitsKeep W no_notes lines → let V = after W lines in
         attached V client ≡ Some t → IsFalse (has_write t.accesses)
         → ToldByMap V.geometry (notes_after W no_notes lines t.number) (array_at V.history t.begin) }
+{}
+
+/// All of this as one word, as the program's call says it.
+pub fn stores_of_a_script_answer()
+    ensures { (W : World) (lines : List (ℕ × Line)) → AreLines lines → StoresAnswer W lines }
 {}
 
 /// The accesses of a live transaction that keeps to the stores are those of the calls that its lines tell, each made on what the

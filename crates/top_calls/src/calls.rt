@@ -111,16 +111,42 @@ pub fn threads_over<R: Threads + Wait + Sync>(
     source: MemSource,
     sink: MemSink,
 ) -> Result<Outcome, AllocError> {
+    gated_over(rt, alloc, line, disk, source, sink, &Open)
+}
+
+/// The same with a gate, which is called before each line of a `par` command.
+pub fn gated_over<G: Gate, R: Threads + Wait + Sync>(
+    rt: &R,
+    alloc: Global,
+    line: &str,
+    disk: MemDisk,
+    source: MemSource,
+    sink: MemSink,
+    gate: &G,
+) -> Result<Outcome, AllocError> {
     let words = words_of(alloc, line)?;
     let mut source = source;
     let mut sink = sink;
-    let ended = isotope(rt, alloc, &words, disk, &mut source, &mut sink, &Open);
+    let ended = isotope(rt, alloc, &words, disk, &mut source, &mut sink, gate);
     let output = sink.bytes().to_vec(alloc)?;
     Ok(Outcome {
         status: ended.status,
         output,
         disk: ended.image,
     })
+}
+
+/// A call of `isotope` over a disk, in which source and sink do not fail.
+pub fn isotope_on<R: Threads + Wait + Sync>(
+    rt: &R,
+    alloc: Global,
+    line: &str,
+    disk: MemDisk,
+    input: &[u8],
+) -> Result<Outcome, AllocError> {
+    let source = MemSource::new(input.to_vec(alloc)?, Vec::new(alloc));
+    let sink = MemSink::new(alloc, Vec::new(alloc));
+    threads_over(rt, alloc, line, disk, source, sink)
 }
 
 /// The clients of a script in threads, on an image of these bytes, where nothing fails.
@@ -130,9 +156,7 @@ pub fn par_image<R: Threads + Wait + Sync>(
     image: Vec<u8>,
     input: &[u8],
 ) -> Result<Outcome, AllocError> {
-    let source = MemSource::new(input.to_vec(alloc)?, Vec::new(alloc));
-    let sink = MemSink::new(alloc, Vec::new(alloc));
-    threads_over(rt, alloc, PAR, MemDisk::new(alloc, image), source, sink)
+    isotope_on(rt, alloc, PAR, MemDisk::new(alloc, image), input)
 }
 
 /// A call over a disk whose source and sink do not fail.
@@ -150,6 +174,14 @@ pub fn call_on(
 /// A call over a disk without bytes, in which nothing fails.
 pub fn call(alloc: Global, line: &str, input: &[u8]) -> Result<Outcome, AllocError> {
     call_on(alloc, line, no_disk(alloc), input)
+}
+
+/// The image that these words make and this script leaves.
+pub fn made_image(alloc: Global, line: &str, script: &[u8]) -> Result<Vec<u8>, AllocError> {
+    call(alloc, line, script)?
+        .disk
+        .crash(alloc, 0)
+        .or(Err(AllocError))
 }
 
 /// A script on an image of these bytes, in which nothing fails.

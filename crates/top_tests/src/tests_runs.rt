@@ -78,6 +78,23 @@ fn a_compaction_in_the_middle_of_a_run(rt: HostRuntime) -> Result<(), Fail> {
 }
 
 #[test]
+fn an_image_opens_with_its_base_as_the_trim_number(rt: HostRuntime) -> Result<(), Fail> {
+    let alloc = rt.alloc();
+    let made = call(
+        alloc,
+        SMALL,
+        b"1 begin\n1 put 0 0 01\n1 end\n1 compact\n1 begin\n1 put 0 0 02\n1 end\n1 trim\n1 stat\n",
+    )?;
+    let replies =
+        b"1 ok begin 0\n1 ok\n1 ok commit 1\n1 ok compact 1\n1 ok begin 1\n1 ok\n1 ok commit 2\n1 ok trim 2\n1 ok last 2 base 1 trim 2 live 0 used 29 versions 1\n".as_slice();
+    assert_eq!(rt; made.output.as_slice(), replies);
+    let stat = b"1 ok last 2 base 1 trim 1 live 0 used 29 versions 1\n";
+    let opened = then(alloc, made, b"1 stat\n", stat)?.ok_or("the run")?;
+    assert_eq!(rt; opened.status, 0);
+    Ok(())
+}
+
+#[test]
 fn an_upgrade_lets_both_modes_in(rt: HostRuntime) -> Result<(), Fail> {
     let alloc = rt.alloc();
     let made = call(

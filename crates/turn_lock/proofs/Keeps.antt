@@ -1,5 +1,5 @@
 -- Each step keeps the rule of the table, and tells what it is to tell.
-use Rattle.std.proofs.Common.{◌≡◌, ℕ, ◌+◌, ◌%◌, ◌^◌, ◌<◌, ◌≤◌, ◌==◌, List, [], ◌∷◌, ◌++◌, length, set, get_or, Option, Some, None, IsSome, is_some, sym, refl, ap, ◌∙◌, subst, inl, inr, ⊎_elim, arith, length-append}
+use Rattle.std.proofs.Common.{◌≡◌, ℕ, ◌+◌, ◌-◌, ◌%◌, ◌^◌, ◌<◌, ◌≤◌, ◌==◌, List, [], ◌∷◌, ◌++◌, length, set, get_or, Option, Some, None, IsSome, is_some, sym, refl, ap, ◌∙◌, subst, inl, inr, ⊎_elim, arith, rules, length-append}
 use mathlib.Core.Logic.{dite}
 use mathlib.Core.Option.{none, some, some-injective}
 use mathlib.Core.Option as maybe
@@ -17,7 +17,7 @@ use Rattle.std.specs.Prelude.{option_to_list}
 use Rattle.turn_lock.specs.Numbers.{IsOut, AreOut, AreFree, AreHeld}
 use Rattle.turn_lock.specs.Views.{fresh, spent, waits, turns, gave, kept_part, given_part, both}
 use Rattle.turn_lock.specs.Ticket.{turns_at, turning, Dealt, Rests, Fair}
-use Rattle.turn_lock.specs.Steps.{ticket_of, Sat, drew, Turned, looked, advanced, settled, IsPlaced, IsAtRest, IsAtTurn, Settled}
+use Rattle.turn_lock.specs.Steps.{ticket_of, Sat, drew, Turned, looked, advanced, settled, stayed, IsPlaced, IsAtRest, IsAtTurn, Settled}
 use Rattle.turn_lock.proofs.Prefixes.{prefix_length, prefix_whole, prefix_shorter, longer_left, longer_right}
 use Rattle.turn_lock.proofs.Totals.{total_set, total_at}
 use Rattle.turn_lock.proofs.Rising.{below_more, below_snoc, rises_snoc}
@@ -41,6 +41,7 @@ module _ {X E : Type 0} (stands : X → List E → Type 0) (hands : E → Option
   stands_still s r i id v at = let same : set s.views id v ≡ s.views = set_again s.views id v at in record {
     list = r.list;
     tickets = r.tickets;
+    doors = r.doors;
     words_are = set-get_or s.words i 0 ∙ r.words_are;
     few = r.few;
     dealt = subst (Dealt hands takes_back r.list r.tickets) (sym same) r.dealt;
@@ -65,6 +66,7 @@ module _ {X E : Type 0} (stands : X → List E → Type 0) (hands : E → Option
         record {
           list = r.list;
           tickets = n + 1;
+          doors = r.doors;
           words_are = ap (λ ws. set ws 0 (n + 1)) r.words_are;
           few = omega arith;
           dealt = subst (λ z. Dealt hands takes_back r.list (z + 1) (set s.views id (waits z m.0))) (sym is) (deals_draw hands takes_back r.list r.tickets s.views r.dealt id m.0 at idle some_units);
@@ -73,6 +75,27 @@ module _ {X E : Type 0} (stands : X → List E → Type 0) (hands : E → Option
         (λ e. refl, λ ne. absurd (ne hit_it)),
       ))
       (λ missed. (m.0, keeps, tt, stands_still s r 0 id m.0 at, (λ e. absurd (missed e), λ ne. refl)))
+
+  -- a store behind the first two words
+  rung : (a b i n : ℕ) (doors : List ℕ) → 2 ≤ i → set (a ∷ b ∷ doors) i n ≡ a ∷ b ∷ set doors (i - 2) n
+  rung a b i n doors le = search rules
+
+  pub rings : (slots id i n : ℕ) (m : Sat X E) → 2 ≤ i → Allows Rule slots id m i (λ _. n) (λ _. stayed (step slots i n 0 none) m n)
+  rings slots id i n m le s r deep at fits = let same : set s.views id m.0 ≡ s.views = set_again s.views id m.0 at in (
+    m.0,
+    keeps,
+    tt,
+    record {
+      list = r.list;
+      tickets = r.tickets;
+      doors = set r.doors (i - 2) n;
+      words_are = ap (λ ws. set ws i n) r.words_are ∙ rung r.tickets (length r.list) i n r.doors le;
+      few = r.few;
+      dealt = subst (Dealt hands takes_back r.list r.tickets) (sym same) r.dealt;
+      slot = subst (λ (vs : List (View E)). Rests stands s.homes r.list (turning vs)) (sym same) r.slot;
+    },
+    refl,
+  )
 
   turn_comes : (slots id t : ℕ) (m : Sat X E) (s : Table) (r : Rule s) → m.0.stage ≡ Waits t → m.1 ≡ [] → get_elem? s.views id ≡ some m.0 → get_or s.words 1 0 ≡ t
       → (w : View E) × (a : Act (Option X)) × Valid s.homes m.1 a × Rule (stepped s 1 (get_or s.words 1 0) id m.1 w a) × Turned stands hands takes_back t m.0 (w, carried_after m.1 a)
@@ -90,6 +113,7 @@ module _ {X E : Type 0} (stands : X → List E → Type 0) (hands : E → Option
         record {
           list = r.list;
           tickets = r.tickets;
+          doors = r.doors;
           words_are = set-get_or s.words 1 0 ∙ r.words_are;
           few = r.few;
           dealt = deals_turn hands takes_back r.list r.tickets s.views r.dealt id t m.0 at stage place;
@@ -162,7 +186,8 @@ module _ {X E : Type 0} (stands : X → List E → Type 0) (hands : E → Option
         record {
           list = more;
           tickets = r.tickets;
-          words_are = ap (λ ws. set ws 1 next) r.words_are ∙ ap (λ q. r.tickets ∷ q ∷ []) next_is;
+          doors = r.doors;
+          words_are = ap (λ ws. set ws 1 next) r.words_are ∙ ap (λ q. r.tickets ∷ q ∷ r.doors) next_is;
           few = r.few;
           dealt = deals_entry hands takes_back r.list r.tickets s.views r.dealt id t m.0 e at stage free held;
           slot = inl (x, homes_back s.homes m.1 x has out.0, subst (λ (l : List E). stands x (l ++ e ∷ [])) whole.0 value, omega arith);
@@ -179,6 +204,7 @@ module _ {X E : Type 0} (stands : X → List E → Type 0) (hands : E → Option
   splits id v number units some_left held enough s r at = record {
     list = r.list;
     tickets = r.tickets;
+    doors = r.doors;
     words_are = r.words_are;
     few = r.few;
     dealt = deals_split hands takes_back r.list r.tickets s.views r.dealt id v number units at some_left held enough;
@@ -189,16 +215,18 @@ module _ {X E : Type 0} (stands : X → List E → Type 0) (hands : E → Option
   joins id other v w idle some_units s r at apart is = record {
     list = r.list;
     tickets = r.tickets;
+    doors = r.doors;
     words_are = r.words_are;
     few = r.few;
     dealt = deals_join hands takes_back r.list r.tickets s.views r.dealt id other v w at apart is idle some_units;
     slot = subst (Rests stands s.homes r.list) (sym (turning_join hands takes_back r.list r.tickets s.views r.dealt id other v w at is idle)) r.slot;
   }
 
-  pub starts : (x : X) → stands x [] → Rule (opening (0 ∷ 0 ∷ []) (Some x ∷ []) fresh)
-  starts x value = record {
+  pub starts : (doors : List ℕ) (x : X) → stands x [] → Rule (opening (0 ∷ 0 ∷ doors) (Some x ∷ []) fresh)
+  starts doors x value = record {
     list = [];
     tickets = 0;
+    doors = doors;
     words_are = refl;
     few = omega arith;
     dealt = deals_first hands takes_back;

@@ -57,6 +57,10 @@ looked stands hands takes st m found m' =
 abbrev pub advanced : {X E : Type 0} → (hands : E → Option ℕ) (takes : E → List ℕ) → E → Step (Option X) → Sat X E → ℕ → Sat X E → Type 0
 advanced hands takes e st m found m' = (m' ≡ (gave hands takes e m.0, rest m.1)) × AreFree hands takes (takes e) m'.0.seen
 
+-- nothing changes for the pass
+abbrev pub stayed : {X E : Type 0} → Step (Option X) → Sat X E → ℕ → Sat X E → Type 0
+stayed st m found m' = m' ≡ m
+
 -- what holds of a pass after a join
 pub record Settled {E : Type 0} (v : View E) : Type 0 where
   pub left : IsPrefix v.left v.seen

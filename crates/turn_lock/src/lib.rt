@@ -14,3 +14,5 @@ pub use view::{LAST, Names, Stage, Stands, View};
 
 #[cfg(test)]
 mod tests;
+#[cfg(test)]
+mod tests_crowd;

@@ -6,7 +6,7 @@ ghost use Rattle.turn_lock.specs.Numbers.{IsOut, AreOut, AreFree, AreHeld, held_
 ghost use Rattle.turn_lock.specs.Views.{fresh, waits, kept_part, given_part, both};
 ghost use Rattle.turn_lock.specs.Steps.{IsPlaced};
 
-use crate::plays::{Advance, Cut, Draw, Glue, Look, Portion, Settle};
+use crate::plays::{Advance, Cut, Draw, Glue, Look, Portion, Ring, Settle};
 use crate::turn::Turn;
 use crate::view::{LAST, Names, Stands, View};
 use atomic_table::{Refused, Seat, Table, TableRule};
@@ -16,10 +16,14 @@ use std::marker::Brand;
 use std::snapshot::Snapshot;
 use std::sync::Wait;
 
-// The words of the table, and its slot.
+// The words of the table, and its slot. Behind the first two stand the doors at which those wait who have a ticket.
 const TICKETS: usize = 0;
 
 const SERVED: usize = 1;
+
+const FIRST_DOOR: usize = 2;
+
+const DOORS: u64 = 64;
 
 const VALUE: usize = 0;
 
@@ -41,7 +45,7 @@ pub type Pass<V> = Seat<Option<V>, View<<V as Stands>::Entry>>;
 #[derive(Drop)]
 pub struct TurnLock<V: Stands + Drop> {
     table: Table<Option<V>, View<V::Entry>, (), Ticketed, Global>,
-    ghost sized: { (table.shared.table_id.words ≡ 2) × (table.shared.table_id.slots ≡ 1) },
+    ghost sized: { (table.shared.table_id.words ≡ 66) × (table.shared.table_id.slots ≡ 1) },
 }
 
 impl<V: Stands + Drop> TurnLock<V> {
@@ -59,7 +63,7 @@ impl<V: Stands + Drop> TurnLock<V> {
             slots.destroy_empty();
             return Err((Memory, failed.value.unwrap()));
         }
-        match Table::new(alloc, &[0, 0], slots, &()) {
+        match Table::new(alloc, &[0; 66], slots, &()) {
             Ok((table, pass)) => Ok((TurnLock { table }, pass)),
             Err(Refused { mut slots }) => {
                 let value = slots.pop().unwrap();
@@ -87,7 +91,10 @@ impl<V: Stands + Drop> TurnLock<V> {
         ensures all { (view pass.new).units ≡ LAST → (view pass.new).mine ≡ places (length (view pass.new).seen) }
     {
         let number = self.draw(rt, pass);
+        let door = door_of(number);
         for _ in rt.forever() {
+            // A ring after this look is not missed: it changes the door.
+            let rung = self.table.shared.peek(door);
             let served = self.table.shared.load::<Look>(pass, SERVED);
             if served == number {
                 let value = self.table.shared.exchange(pass, VALUE, None).unwrap();
@@ -98,7 +105,7 @@ impl<V: Stands + Drop> TurnLock<V> {
                     pass,
                 };
             }
-            self.table.shared.park(rt, SERVED, low_half(served));
+            self.table.shared.park(rt, door, low_half(rung));
         }
         unreachable!()
     }
@@ -157,13 +164,24 @@ impl<V: Stands + Drop> TurnLock<V> {
         let _ = self.table.shared.exchange(pass, VALUE, Some(value));
         let served = number.wrapping_add(1);
         self.table.shared.store::<Advance<N>>(pass, SERVED, served);
-        self.wake(served);
+        self.ring(pass, served);
     }
 
-    // Wakes as often as there are tickets that are not served, so that the next holder is among those woken.
-    fn wake(&self, served: u64) {
-        for _ in 0..self.table.shared.peek(TICKETS).saturating_sub(served) {
-            self.table.shared.wake_one(SERVED);
+    // Rings at the door of the ticket that is served, unless nobody waits. It wakes as many as may wait at that door, so that
+    // the holder of the ticket is among those woken.
+    fn ring(&self, pass: &mut Pass<V>, served: u64)
+        requires { pass.old.table_id ≡ lock_id self.now }
+        ensures lock { IsSamePass pass.old pass.new }
+        ensures same { pass.new.me ≡ pass.old.me }
+    {
+        let waiting = self.table.shared.peek(TICKETS).saturating_sub(served);
+        if waiting == 0 {
+            return;
+        }
+        let door = door_of(served);
+        self.table.shared.store::<Ring>(pass, door, served);
+        for _ in 0..waiting.div_ceil(DOORS) {
+            self.table.shared.wake_one(door);
         }
     }
 
@@ -233,6 +251,13 @@ impl<V: Stands + Drop> TurnLock<V> {
         closed.free();
         value.unwrap()
     }
+}
+
+// Where the holder of a ticket waits.
+fn door_of(ticket: u64) -> usize
+    ensures { (2 ≤ result) × (result < 66) }
+{
+    FIRST_DOOR + (ticket % DOORS) as usize
 }
 
 // A thread parks on the low half of a word.

@@ -1,6 +1,6 @@
 //! What each step on the table tells, and how passes are cut and joined.
 ghost use Rattle.std.specs.Prelude.{ℕ, Option, None};
-ghost use Rattle.turn_lock.specs.Steps.{drew, looked, settled, advanced};
+ghost use Rattle.turn_lock.specs.Steps.{drew, looked, settled, advanced, stayed};
 ghost use Rattle.turn_lock.specs.Views.{kept_part, given_part, both, spent};
 
 use crate::view::{Names, Stands, View};
@@ -28,6 +28,13 @@ pub(crate) struct Advance<N> {
 
 impl<V: Stands, N: Names<V::Entry>> Play<Option<V>, View<V::Entry>> for Advance<N> {
     ghost then = { advanced V.hands V.takes N.entry };
+}
+
+/// Tells those who wait at a door that it is rung.
+pub(crate) struct Ring;
+
+impl<V: Stands> Play<Option<V>, View<V::Entry>> for Ring {
+    ghost then = { stayed };
 }
 
 /// Looks, after a join, what follows for the joined pass.

@@ -18,15 +18,15 @@ use std::process::Abort;
 use std::sync::Wait;
 use std::test::Fail;
 use std::thread::{self, Threads, join};
-use std::time::{Clock, CpuClock, Duration};
+use std::time::{Clock, CpuClock, Duration, Instant};
 
 const TURNS: u64 = 5000;
 
 /// It stands for the list that it has.
 #[derive(Drop)]
-struct Log {
-    owner: u64,
-    entries: Vec<u64>,
+pub(crate) struct Log {
+    pub(crate) owner: u64,
+    pub(crate) entries: Vec<u64>,
 }
 
 impl Stands for Log {
@@ -47,9 +47,9 @@ impl Names<u64> for Brand {
 
 /// A caller of a lock, between two calls.
 #[derive(Drop)]
-struct Caller<'a, V: Stands + Drop> {
-    lock: &'a TurnLock<V>,
-    pass: Pass<V>,
+pub(crate) struct Caller<'a, V: Stands + Drop> {
+    pub(crate) lock: &'a TurnLock<V>,
+    pub(crate) pass: Pass<V>,
     ghost rests: { (pass.table_id ≡ lock_id lock.now) × HasNoTurn pass × (0 < (view pass).units) } by { Prim.hlevel pass_props },
 }
 
@@ -79,6 +79,16 @@ fn add<R: Abort>(rt: &R, lock: &TurnLock<Log>, pass: &mut Pass<Log>, turn: Turn<
     give::<Brand>(lock, pass, turn, number);
 }
 
+// Keeps its processor for so long.
+fn be_busy<R: Abort + Clock>(rt: &R, time: Duration) {
+    let start = Instant::now(rt).expect(rt, "a clock");
+    for _ in 0..1_000_000 {
+        if start.elapsed(rt).expect(rt, "a clock") >= time {
+            return;
+        }
+    }
+}
+
 impl<'a> Caller<'a, Log> {
     // One turn.
     fn count<R: Wait + Abort>(&mut self, rt: &R)
@@ -86,6 +96,15 @@ impl<'a> Caller<'a, Log> {
         ensures seen { IsPrefix (view self.old.pass).seen (view self.new.pass).seen }
     {
         let turn = self.lock.take(rt, &mut self.pass);
+        add(rt, self.lock, &mut self.pass, turn);
+    }
+
+    // One turn, which lasts so long.
+    pub(crate) fn hold<R: Wait + Abort + Clock>(&mut self, rt: &R, time: Duration)
+        ensures same { (self.new.lock.now ≡ self.old.lock.now) × ((view self.new.pass).units ≡ (view self.old.pass).units) }
+    {
+        let turn = self.lock.take(rt, &mut self.pass);
+        be_busy(rt, time);
         add(rt, self.lock, &mut self.pass, turn);
     }
 }
@@ -213,7 +232,7 @@ fn four_threads<R: Threads + Wait + Abort + Sync>(
 }
 
 // A lock over an empty log, and its first pass.
-fn made(rt: &impl Abort, alloc: Global) -> (TurnLock<Log>, Pass<Log>)
+pub(crate) fn made(rt: &impl Abort, alloc: Global) -> (TurnLock<Log>, Pass<Log>)
     ensures { (result.1.table_id ≡ lock_id result.0) × HasNoTurn result.1 × ((view result.1).units ≡ LAST) }
 {
     let log = Log {
@@ -239,7 +258,7 @@ fn tell(lock: &TurnLock<Log>, teller: &mut Pass<Log>, listener: &mut Pass<Log>)
     lock.join(listener, note);
 }
 
-fn counts_up(log: &Log) -> bool {
+pub(crate) fn counts_up(log: &Log) -> bool {
     log.entries.iter().enumerate().all(|(i, n)| *n == i as u64)
 }
 

@@ -4,7 +4,7 @@ use Rattle.iso_model.specs.declared.access.Access.{Access}
 use Rattle.iso_model.specs.Array.{Array, put}
 use Rattle.iso_model.specs.Effect.{own}
 use Rattle.iso_model.specs.Premises.{block_at}
-use Rattle.iso_model.specs.Stores.{Program, Done, Look, LookWhole, Reserve, Store, bytes_in, further_bytes, with_further, look_access, store_access, accesses_of, answer_of, after, outcome, then_do, AreReads}
+use Rattle.store_model.specs.Stores.{Program, Done, Look, LookWhole, Reserve, Store, bytes_in, further_bytes, with_further, look_access, store_access, accesses_of, answer_of, after, outcome, then_do, AreReads}
 
 no_answer : {R : Type 0} (r : R) → ◌≡◌ {A = Option R} None (Some r) → ⊥
 no_answer r is = cc

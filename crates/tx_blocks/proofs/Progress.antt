@@ -8,7 +8,7 @@ use Rattle.iso_model.specs.declared.access.Span.{Span}
 use Rattle.iso_model.specs.Array.{Array, put}
 use Rattle.iso_model.specs.Effect.{own, is_write}
 use Rattle.iso_model.specs.Premises.{block_at}
-use Rattle.iso_model.specs.Stores.{Program, Done, Look, LookWhole, Reserve, Store, bytes_in, further_bytes, with_further, look_access, store_access, after, outcome, then_do}
+use Rattle.store_model.specs.Stores.{Program, Done, Look, LookWhole, Reserve, Store, bytes_in, further_bytes, with_further, look_access, store_access, after, outcome, then_do}
 use Rattle.tx_blocks.specs.Tx.{Tx, with_accesses, added, room_of}
 use Rattle.tx_blocks.specs.Runs.{Ends, Ran, Stopped}
 use Rattle.tx_blocks.proofs.Outcomes.{IsWhole, outcome_whole, outcome_then, outcome_cut}

@@ -4,12 +4,12 @@ use Rattle.std.proofs.lemmas.List.{append-nil}
 use Rattle.fault_count.specs.Count.{Rose}
 use Rattle.iso_model.specs.declared.access.Access.{Access}
 use Rattle.iso_model.specs.declared.access.Span.{Span}
-use Rattle.iso_model.specs.declared.stores.StoreError.{StoreError}
-use Rattle.iso_model.specs.declared.stores.StoreError.TheVariants as store
-use Rattle.iso_model.specs.declared.stores.TxError.{TxError}
-use Rattle.iso_model.specs.declared.stores.TxError.TheVariants as error
+use Rattle.store_model.specs.declared.stores.StoreError.{StoreError}
+use Rattle.store_model.specs.declared.stores.StoreError.TheVariants as store
+use Rattle.store_model.specs.declared.stores.TxError.{TxError}
+use Rattle.store_model.specs.declared.stores.TxError.TheVariants as error
 use Rattle.iso_model.specs.Effect.{is_write}
-use Rattle.iso_model.specs.Stores.{Program, Look, Store, then_do}
+use Rattle.store_model.specs.Stores.{Program, Look, Store, then_do}
 use Rattle.tx_blocks.specs.Tx.{Tx, Device, IsLater, with_accesses}
 use Rattle.tx_blocks.specs.Runs.{IsCut, IsCause, HasRead, IsStoreCause}
 use Rattle.tx_blocks.proofs.Programs.{reads_append}

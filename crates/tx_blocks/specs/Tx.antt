@@ -5,8 +5,8 @@ use Rattle.fault_count.specs.Count.{Rose}
 use Rattle.iso_model.specs.declared.access.Access.{Access}
 use Rattle.iso_model.specs.declared.access.MarkError.{MarkError}
 use Rattle.iso_model.specs.declared.access.MarkError.TheVariants as mark
-use Rattle.iso_model.specs.declared.stores.TxError.{TxError}
-use Rattle.iso_model.specs.declared.stores.TxError.TheVariants as error
+use Rattle.store_model.specs.declared.stores.TxError.{TxError}
+use Rattle.store_model.specs.declared.stores.TxError.TheVariants as error
 use Rattle.iso_model.specs.Array.{Array}
 use Rattle.iso_model.specs.Marks.{mark_fault}
 use Rattle.iso_model.specs.Premises.{block_at}

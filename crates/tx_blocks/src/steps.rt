@@ -5,12 +5,13 @@ ghost use Rattle.std.specs.Option.{ForSome};
 ghost use Rattle.iso_model.specs.Effect.{own};
 ghost use Rattle.iso_model.specs.Marks.{marked};
 ghost use Rattle.iso_model.specs.Premises.{block_at, IsSpan};
-ghost use Rattle.iso_model.specs.Stores.{look_access, store_access};
+ghost use Rattle.store_model.specs.Stores.{look_access, store_access};
 ghost use Rattle.tx_blocks.specs.Tx.{mark_refusal, room_of, with_accesses, IsLater, Tx};
 ghost use Rattle.tx_blocks.specs.Runs.{IsCause};
 
 use crate::TxBlocks;
-use iso_model::{Span, TxError};
+use iso_model::Span;
+use store_model::TxError;
 
 /// Marks a range of the last access, which has fewer than 8 marks. It takes no memory.
 pub fn mark<T: TxBlocks>(tx: &mut T, span: Span)

@@ -4,10 +4,10 @@ ghost use Rattle.std.specs.Option.{ForSome};
 ghost use Rattle.iso_model.specs.Effect.{own};
 ghost use Rattle.iso_model.specs.Marks.{marked};
 ghost use Rattle.iso_model.specs.Premises.{block_at};
-ghost use Rattle.iso_model.specs.Stores.{look_access, store_access};
+ghost use Rattle.store_model.specs.Stores.{look_access, store_access};
 ghost use Rattle.tx_blocks.specs.Tx.{access_refusal, mark_refusal, room_of, with_accesses, Device, IsFree, IsLater, IsRefused, IsTx, Tx};
 
-use iso_model::TxError;
+use store_model::TxError;
 
 /// A transaction over the blocks of an image. Each refusal leaves the transaction as it was.
 pub trait TxBlocks {

@@ -6,7 +6,7 @@ use Rattle.std.specs.Option.{option_map}
 use Rattle.std.proofs.lemmas.Bool.{both_ways, cases_eq}
 use Rattle.std.proofs.lemmas.Slice.Eq.{bytes_eq-Decides}
 use Rattle.std.proofs.lemmas.Grind.{common_steps}
-use Rattle.iso_model.specs.Text.{is_label, key_of}
+use Rattle.iso_model.specs.Labels.{is_label, key_of}
 use Rattle.iso_model.proofs.Labels.{key_tells}
 use Rattle.tx_table.specs.Rack.{IsKeyed}
 

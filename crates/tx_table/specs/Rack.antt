@@ -1,6 +1,6 @@
 -- How a `Rack` keeps its items.
 use Rattle.std.specs.Prelude.{◌≡◌, ℕ, List, IsTrue}
-use Rattle.iso_model.specs.Text.{is_label, key_of}
+use Rattle.iso_model.specs.Labels.{is_label, key_of}
 
 -- the entry stands under the key of its label
 pub record IsKeyed {T : Type 0} (entry : ℕ × (List ℕ × T)) : Type 0 where

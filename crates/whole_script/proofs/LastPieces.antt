@@ -2,12 +2,12 @@
 use Rattle.std.proofs.Common.{◌≡◌, ℕ, Bool, true, false, cond, List, [], ◌∷◌, Some, Result, Ok, Err, refl, sym, ap, subst, length, nat_le, nat_lt, arith}
 use Rattle.std.proofs.lemmas.Bool.Decides.{nat_tests}
 use Rattle.iso_model.specs.declared.limits.TheConstants.{MAX_LINE}
-use Rattle.iso_model.specs.declared.script.Line.{Line}
-use Rattle.iso_model.specs.declared.script.LineError.{LineError}
-use Rattle.iso_model.specs.declared.script.LineError.TheVariants as line
-use Rattle.iso_model.specs.declared.script.Parsed.{Parsed}
-use Rattle.iso_model.specs.Script.{Script, bad_line, before_script, last_piece, no_lines, parse}
-use Rattle.iso_model.specs.Text.{is_empty}
+use Rattle.script_model.specs.declared.script.Line.{Line}
+use Rattle.script_model.specs.declared.script.LineError.{LineError}
+use Rattle.script_model.specs.declared.script.LineError.TheVariants as line
+use Rattle.script_model.specs.declared.script.Parsed.{Parsed}
+use Rattle.script_model.specs.Script.{Script, bad_line, before_script, last_piece, no_lines, parse}
+use Rattle.script_model.specs.Text.{is_empty}
 use Rattle.script_text.specs.Parsing.{Gives}
 use Rattle.script_runner.specs.Lines.{behind}
 use Rattle.whole_script.specs.declared.lines.ScriptError.{ScriptError}

@@ -6,8 +6,8 @@ use Rattle.std.proofs.lemmas.List.{take-append-le}
 use Rattle.std.specs.Io.KnownBytes.{prepend_known}
 use Rattle.iso_io.specs.Source.{MetEnd, SourceState, Took}
 use Rattle.iso_model.specs.declared.limits.TheConstants.{MAX_INPUT}
-use Rattle.iso_model.specs.Script.{Script, script, script_from}
-use Rattle.iso_model.specs.Text.{pieces}
+use Rattle.script_model.specs.Script.{Script, script, script_from}
+use Rattle.script_model.specs.Text.{pieces}
 use Rattle.whole_script.specs.declared.lines.ScriptError.{ScriptError}
 use Rattle.whole_script.specs.declared.lines.ScriptError.TheVariants as error
 use Rattle.whole_script.specs.Parts.{IsWhyOf}

@@ -2,11 +2,11 @@
 use Rattle.std.proofs.Common.{◌≡◌, ◌≤◌, ◌+◌, ℕ, Bool, List, [], ◌∷◌, ◌++◌, None, Result, Ok, Err, refl, sym, ap, ◌∙◌, subst, length, nat_le, take, append_assoc}
 use Rattle.std.proofs.lemmas.List.{take_all}
 use Rattle.iso_model.specs.declared.limits.TheConstants.{MAX_INPUT}
-use Rattle.iso_model.specs.declared.script.Line.{Line}
-use Rattle.iso_model.specs.declared.script.LineError.{LineError}
-use Rattle.iso_model.specs.declared.script.Parsed.{Parsed}
-use Rattle.iso_model.specs.Script.{Script, before_script, last_piece, parse_whole, script, script_from}
-use Rattle.iso_model.specs.Text.{pieces}
+use Rattle.script_model.specs.declared.script.Line.{Line}
+use Rattle.script_model.specs.declared.script.LineError.{LineError}
+use Rattle.script_model.specs.declared.script.Parsed.{Parsed}
+use Rattle.script_model.specs.Script.{Script, before_script, last_piece, parse_whole, script, script_from}
+use Rattle.script_model.specs.Text.{pieces}
 use Rattle.script_text.specs.Parsing.{Gives}
 use Rattle.script_runner.specs.Lines.{SaysFirst, behind}
 use Rattle.script_runner.specs.Run.{HasNoFeed}

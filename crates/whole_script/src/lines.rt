@@ -1,12 +1,13 @@
 // The lines of a whole script.
 ghost use Rattle.std.specs.Prelude.{◌≡◌, ◌<◌, ◌≤◌, ◌∷◌, ◌++◌, if◌then◌else◌, false, nat_le, List, ℕ, None, length, IfErr, IfNone, IfOk, IfSome, OnOk};
-ghost use Rattle.iso_model.specs.declared.script.Line.{Line};
-ghost use Rattle.iso_model.specs.Script.{last_piece, script};
+ghost use Rattle.script_model.specs.declared.script.Line.{Line};
+ghost use Rattle.script_model.specs.Script.{last_piece, script};
 ghost use Rattle.script_runner.specs.Run.{HasNoFeed};
 ghost use Rattle.whole_script.specs.Parts.{Adds, IsWhyOf, Stops};
 
-use iso_model::{BadLine, Line, LineError, MAX_INPUT, MAX_LINE, Parsed};
+use iso_model::{MAX_INPUT, MAX_LINE};
 use memchr::memchr;
+use script_model::{BadLine, Line, LineError, Parsed};
 use script_text::{parse_line, parse_whole_line};
 use std::alloc::Global;
 

@@ -4,7 +4,8 @@ ghost use Rattle.whole_script.specs.Read.{HasNoLines, HasRead};
 
 use crate::lines::{ScriptError, parse_lines};
 use iso_io::{Source, TakeError, take_all};
-use iso_model::{Line, MAX_INPUT};
+use iso_model::MAX_INPUT;
+use script_model::Line;
 use std::alloc::Global;
 
 /// The numbered lines of a script, which is read to its end, but no more than 2^32 bytes of it. A bad line anywhere is told

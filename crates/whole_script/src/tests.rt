@@ -2,7 +2,7 @@
 
 use crate::{ScriptError, read_script};
 use iso_io::MemSource;
-use iso_model::{BadLine, Line, Op};
+use script_model::{BadLine, Line, Op};
 use std::alloc::{AllocError, Global};
 use std::test::Fail;
 

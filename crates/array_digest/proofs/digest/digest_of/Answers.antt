@@ -3,7 +3,7 @@ use Rattle.std.specs.Prelude.{IfOk}
 use Rattle.std.specs.Option.{ForSome}
 use Rattle.iso_core.specs.Standing.{up}
 use Rattle.iso_model.specs.declared.access.Geometry.{Geometry}
-use Rattle.iso_model.specs.Bench.{array_bytes}
+use Rattle.script_model.specs.Bench.{array_bytes}
 use Rattle.iso_model.specs.History.{array_at, last}
 use Rattle.iso_model.specs.Step.{after_begin}
 use Rattle.iso_model.specs.World.{unattached}

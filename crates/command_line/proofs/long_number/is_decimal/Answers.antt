@@ -1,7 +1,7 @@
 use Rattle.std.proofs.Common.{rules, tests, arith}
 use Rattle.std.proofs.lemmas.Iterator.{YieldsList-from_slice}
 use Rattle.std.proofs.lemmas.Iterator.Search.{all_from_yields_List}
-use Rattle.iso_model.specs.Text.{is_digit}
+use Rattle.iso_model.specs.Labels.{is_digit}
 use Rattle.script_text.proofs.WordLemmas.{is_decimal-by_all}
 use Rattle.command_line.proofs.long_number.is_decimal.Goals as goal
 

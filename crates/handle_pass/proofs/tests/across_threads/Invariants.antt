@@ -7,4 +7,4 @@ use Rattle.iso_shared.specs.TestImage.{small}
 use Rattle.handle_pass.proofs.tests.across_threads.Given as goal
 
 abbrev pub ghosts-run_across : goal.ghosts-run_across
-ghosts-run_across g a = record { start = start_at (fresh small 1 (empty_history small)) (state_of (disk_of a.core)) }
+ghosts-run_across g a = record { start = start_at (fresh small 1 (empty_history small)) (state_of (disk_of a.core)); disk = state_of (disk_of a.core) }

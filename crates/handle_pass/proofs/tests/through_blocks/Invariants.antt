@@ -7,4 +7,4 @@ use Rattle.iso_shared.specs.TestImage.{small}
 use Rattle.handle_pass.proofs.tests.through_blocks.Given as goal
 
 abbrev pub ghosts-run_through : goal.ghosts-run_through
-ghosts-run_through g a = record { start = start_at (fresh small 1 (empty_history small)) (state_of (disk_of a.core)) }
+ghosts-run_through g a = record { start = start_at (fresh small 1 (empty_history small)) (state_of (disk_of a.core)); disk = state_of (disk_of a.core) }

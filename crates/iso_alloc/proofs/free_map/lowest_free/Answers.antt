@@ -1,5 +1,5 @@
 use Rattle.std.proofs.Common.{◌∙◌, sym, ap, not}
-use Rattle.iso_model.specs.FreeMap.{map_bit}
+use Rattle.store_model.specs.FreeMap.{map_bit}
 use Rattle.iso_alloc.proofs.Loops.{first_found, first_goes_on}
 use Rattle.iso_alloc.proofs.free_map.lowest_free.Goals as goal
 

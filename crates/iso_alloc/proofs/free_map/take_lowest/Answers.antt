@@ -1,5 +1,5 @@
 use Rattle.std.proofs.Common.{◌∙◌, ap, ℕ, List, arith}
-use Rattle.iso_model.specs.FreeMap.{map_bit}
+use Rattle.store_model.specs.FreeMap.{map_bit}
 use Rattle.iso_alloc.proofs.Bits.{with_bits}
 use Rattle.iso_alloc.proofs.free_map.take_lowest.Goals as goal
 

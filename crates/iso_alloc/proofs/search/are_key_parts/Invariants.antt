@@ -1,6 +1,6 @@
 use Rattle.std.proofs.Common.{◌≡◌, ◌-◌}
-use Rattle.iso_model.specs.Cells.{all_from, are_key_parts, is_part, key_mark}
-use Rattle.iso_model.specs.Stores.{bytes_in}
+use Rattle.store_model.specs.Cells.{all_from, are_key_parts, is_part, key_mark}
+use Rattle.store_model.specs.Stores.{bytes_in}
 use Rattle.iso_alloc.proofs.search.are_key_parts.Given as goal
 
 -- the parts that are left decide

@@ -1,6 +1,6 @@
 use Rattle.std.proofs.Common.{◌≡◌, ◌-◌}
 use Rattle.std.specs.Str.{bytes_eq}
-use Rattle.iso_model.specs.Cells.{cell_with, key_at}
+use Rattle.store_model.specs.Cells.{cell_with, key_at}
 use Rattle.iso_model.specs.Conflict.{first_from}
 use Rattle.iso_alloc.proofs.search.cell_with.Given as goal
 

@@ -1,6 +1,6 @@
 use Rattle.std.proofs.Common.{◌∙◌, sym, ◌==◌, ◌||◌}
-use Rattle.iso_model.specs.Cells.{is_unused}
-use Rattle.iso_model.specs.HashCalls.{is_alone}
+use Rattle.store_model.specs.Cells.{is_unused}
+use Rattle.store_model.specs.HashCalls.{is_alone}
 use Rattle.iso_alloc.proofs.Loops.{all_fails, all_goes_on}
 use Rattle.iso_alloc.proofs.search.is_alone.Goals as goal
 

@@ -1,6 +1,6 @@
 use Rattle.std.proofs.Common.{◌≡◌, ◌-◌, ◌==◌, ◌||◌}
-use Rattle.iso_model.specs.Cells.{all_from, is_unused}
-use Rattle.iso_model.specs.HashCalls.{is_alone}
+use Rattle.store_model.specs.Cells.{all_from, is_unused}
+use Rattle.store_model.specs.HashCalls.{is_alone}
 use Rattle.iso_alloc.proofs.search.is_alone.Given as goal
 
 -- the cells that are left decide

@@ -1,7 +1,7 @@
 use Rattle.std.proofs.Common.{◌≡◌, ◌-◌, ◌==◌, get_or}
-use Rattle.iso_model.specs.Cells.{unused_cell, key_mark}
+use Rattle.store_model.specs.Cells.{unused_cell, key_mark}
 use Rattle.iso_model.specs.Conflict.{first_from}
-use Rattle.iso_model.specs.Stores.{bytes_in}
+use Rattle.store_model.specs.Stores.{bytes_in}
 use Rattle.iso_alloc.proofs.search.unused_cell.Given as goal
 
 -- the cells that are left decide

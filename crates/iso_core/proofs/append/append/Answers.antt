@@ -1,5 +1,4 @@
-use Rattle.std.proofs.Common.{◌≡◌, ap}
-use Rattle.iso_image.specs.Half.{half_of_world, with_records}
+use Rattle.iso_image.specs.Half.{half_of_world}
 use Rattle.iso_core.proofs.Nexts.{next_is}
 use Rattle.iso_core.proofs.append.append.Goals as goal
 

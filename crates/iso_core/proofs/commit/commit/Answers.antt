@@ -1,21 +1,20 @@
-use Rattle.std.proofs.Common.{◌≡◌, ◌≢◌, ◌∙◌, inl, inr, sym, refl, ap, ℕ, ◌+◌, ◌-◌, ◌<◌, ◌≤◌, List, [], ◌∷◌, length, arith, subst, Some, None, true}
+use Rattle.std.proofs.Common.{◌≢◌, ◌∙◌, inr, sym, ap, ◌+◌, ◌-◌, ◌≤◌, [], ◌∷◌, length, arith, subst, Some, None, true}
 use Rattle.iso_disk.specs.Disk.{LeavesOnly}
 use Rattle.iso_disk.proofs.Moments.{weakened}
-use Rattle.iso_model.specs.declared.core_error.CoreError.TheVariants.{LogFull}
 use Rattle.iso_model.specs.declared.limits.TheConstants.{LAST}
-use Rattle.iso_model.specs.declared.script.Reply.TheVariants as reply
+use Rattle.iso_model.specs.declared.core_reply.CoreReply.TheVariants as reply
 use Rattle.iso_model.specs.History.{last}
-use Rattle.iso_model.specs.Step.{after_commit, commit_step, need}
-use Rattle.iso_model.specs.World.{World, Live, used}
+use Rattle.iso_model.specs.Step.{commit_step, need}
+use Rattle.iso_model.specs.World.{World, used}
 use Rattle.iso_core.specs.declared.kept.Kept.{Kept}
 use Rattle.iso_core.specs.Core.{AreOf}
 use Rattle.iso_core.specs.Ends.{written_of}
 use Rattle.iso_core.specs.Kept.{IsOf}
-use Rattle.iso_core.specs.Standing.{ShowsEither, up}
-use Rattle.iso_core.proofs.Committing.{answered, committed_core, down_on, ends_in, fits_log, full_log, grown_by, led, lost_core, next_world, prepared_stage, spelled_stage}
+use Rattle.iso_core.specs.Standing.{up}
+use Rattle.iso_model.specs.Between.{ShowsEither}
+use Rattle.iso_core.proofs.Committing.{answered, committed_core, down_on, ends_in, fits_log, full_log, led, lost_core, next_world, prepared_stage, spelled_stage}
 use Rattle.iso_core.proofs.Moments.{is_committed, is_full, is_worn, shows_either, stays_shown}
 use Rattle.iso_core.proofs.Numbers.{log_last}
-use Rattle.iso_core.proofs.Prepares.{follows}
 use Rattle.iso_core.proofs.commit.commit.Goals as goal
 
 pub returns-then-last-ge-LAST-clause-refused : goal.returns-then-last-ge-LAST-clause-refused

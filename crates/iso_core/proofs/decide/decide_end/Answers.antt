@@ -1,4 +1,4 @@
-use Rattle.std.proofs.Common.{◌≡◌, ◌∙◌, sym, ℕ, ◌+◌, ◌≤◌, arith, subst}
+use Rattle.std.proofs.Common.{◌≡◌, ◌∙◌, sym, arith, subst}
 use Rattle.conflict_rule.specs.Decision.{IsAsked}
 use Rattle.iso_model.specs.declared.access.Mode.{Mode}
 use Rattle.iso_model.specs.Conflict.{clash}

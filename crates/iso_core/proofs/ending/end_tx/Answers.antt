@@ -1,6 +1,5 @@
-use Rattle.std.proofs.Common.{◌≡◌, ◌∙◌, ◌⊎◌, sym, ap, subst, IfOk, IfErr, ℕ, List, Option, Some, None, Bool, true, false}
-use Rattle.iso_model.specs.declared.access.Access.{Access}
-use Rattle.iso_model.specs.declared.script.Reply.{Reply}
+use Rattle.std.proofs.Common.{◌≡◌, ◌∙◌, ◌⊎◌, sym, ap, subst, IfOk, IfErr, None, true, false}
+use Rattle.iso_model.specs.declared.core_reply.CoreReply.{CoreReply}
 use Rattle.iso_model.specs.Effect.{has_write}
 use Rattle.iso_model.specs.Step.{end_step}
 use Rattle.iso_model.specs.World.{World}
@@ -8,10 +7,10 @@ use Rattle.iso_disk.specs.Disk.{LeavesOnly}
 use Rattle.iso_model.specs.declared.core_error.CoreError.TheVariants.{Disk}
 use Rattle.iso_core.specs.Calls.{Refuses, reply_of}
 use Rattle.iso_core.specs.Core.{AreOf}
-use Rattle.iso_core.specs.Standing.{ShowsEither, up}
+use Rattle.iso_core.specs.Standing.{up}
+use Rattle.iso_model.specs.Between.{ShowsEither}
 use Rattle.iso_core.proofs.Endings.{ends_by, ends_in_conflict, ends_read_only, left_core, may_commit}
 use Rattle.iso_core.proofs.Moments.{stays_shown}
-use Rattle.iso_core.proofs.Standings.{if_err, if_ok}
 use Rattle.iso_core.proofs.ending.end_tx.Goals as goal
 
 pub leave-requires : goal.leave-requires
@@ -24,8 +23,8 @@ returns-then-not-has_write-clause-ended g c W t of here is_work is =
     let d = g.D.Disk.state c.args.disk.now in
     let none : has_write t.accesses ≡ false = ap has_write (sym is_work.accesses) ∙ sym c.has_write.ensures ∙ c.if-not-has_write.true in
     let step = ends_read_only W t none in (
-      ap (λ (x : Reply × World). x.0) step,
-      subst (λ (V : World). AreOf d c.leave.new.kept V up) (sym (ap (λ (x : Reply × World). x.1) step))
+      ap (λ (x : CoreReply × World). x.0) step,
+      subst (λ (V : World). AreOf d c.leave.new.kept V up) (sym (ap (λ (x : CoreReply × World). x.1) step))
           (left_core d c.args.kept.now c.leave.new.kept W up t of (c.leave.ensures.left W t of.kept_of here) c.leave.ensures.half c.leave.ensures.down),
     )
 
@@ -47,8 +46,8 @@ returns-in-Some-clause-ended g c W t of here is_work is =
     let d = g.D.Disk.state c.args.disk.now in
     let write : has_write t.accesses ≡ true = ap has_write (sym is_work.accesses) ∙ sym c.has_write.ensures ∙ c.if-not-has_write.false in
     let step = ends_in_conflict W t c.in-Some.clash write (sym c.in-Some.is ∙ c.in-Ok.ensures.clash W t of.kept_of here is_work is) in (
-      ap (λ (x : Reply × World). x.0) step,
-      subst (λ (V : World). AreOf d c.leave-in-Some.new.kept V up) (sym (ap (λ (x : Reply × World). x.1) step))
+      ap (λ (x : CoreReply × World). x.0) step,
+      subst (λ (V : World). AreOf d c.leave-in-Some.new.kept V up) (sym (ap (λ (x : CoreReply × World). x.1) step))
           (left_core d c.args.kept.now c.leave-in-Some.new.kept W up t of (c.leave-in-Some.ensures.left W t of.kept_of here) c.leave-in-Some.ensures.half c.leave-in-Some.ensures.down),
     )
 
@@ -68,7 +67,7 @@ returns-clause-ended g c W t of here is_work is =
     let none = sym c.in_default.is ∙ c.in-Ok.ensures.clash W t of.kept_of here is_work is in
     let may = may_commit W c.args.tx t c.decide_end.new.work here (c.in-Ok.ensures.settled W t is_work) write none in
     let step = ends_by W t None write none in
-    subst (λ (x : Reply × World). IfOk c.commit.result (λ r. (x.0 ≡ reply_of r) × AreOf (g.D.Disk.state c.commit.new.disk) c.commit.new.kept x.1 up)) (sym step) (c.commit.ensures.ended W t of may)
+    subst (λ (x : CoreReply × World). IfOk c.commit.result (λ r. (x.0 ≡ reply_of r) × AreOf (g.D.Disk.state c.commit.new.disk) c.commit.new.kept x.1 up)) (sym step) (c.commit.ensures.ended W t of may)
 
 pub returns-clause-refused : goal.returns-clause-refused
 returns-clause-refused g c W t of here is_work is =
@@ -76,7 +75,7 @@ returns-clause-refused g c W t of here is_work is =
     let none = sym c.in_default.is ∙ c.in-Ok.ensures.clash W t of.kept_of here is_work is in
     let may = may_commit W c.args.tx t c.decide_end.new.work here (c.in-Ok.ensures.settled W t is_work) write none in
     let step = ends_by W t None write none in
-    subst (λ (x : Reply × World). IfErr c.commit.result (λ e. (e ≡ Disk) ⊎ Refuses x.0 e)) (sym step) (c.commit.ensures.refused W t of may)
+    subst (λ (x : CoreReply × World). IfErr c.commit.result (λ e. (e ≡ Disk) ⊎ Refuses x.0 e)) (sym step) (c.commit.ensures.refused W t of may)
 
 pub returns-clause-lost : goal.returns-clause-lost
 returns-clause-lost g c W t of here is_work is failed =
@@ -85,7 +84,7 @@ returns-clause-lost g c W t of here is_work is failed =
     let may = may_commit W c.args.tx t c.decide_end.new.work here (c.in-Ok.ensures.settled W t is_work) write none in
     let step = ends_by W t None write none in
     let lost = c.commit.ensures.lost W t of may failed in
-    (ap (λ (x : Reply × World). x.0) step ∙ lost.0, lost.1)
+    (ap (λ (x : CoreReply × World). x.0) step ∙ lost.0, lost.1)
 
 pub returns-clause-moments : goal.returns-clause-moments
 returns-clause-moments g c W t of here is_work is =
@@ -93,4 +92,4 @@ returns-clause-moments g c W t of here is_work is =
     let none = sym c.in_default.is ∙ c.in-Ok.ensures.clash W t of.kept_of here is_work is in
     let may = may_commit W c.args.tx t c.decide_end.new.work here (c.in-Ok.ensures.settled W t is_work) write none in
     let step = ends_by W t None write none in
-    subst (λ (x : Reply × World). LeavesOnly (g.D.Disk.state c.args.disk.now) (g.D.Disk.state c.commit.new.disk) (ShowsEither W x.1)) (sym step) (c.commit.ensures.moments W t of may)
+    subst (λ (x : CoreReply × World). LeavesOnly (g.D.Disk.state c.args.disk.now) (g.D.Disk.state c.commit.new.disk) (ShowsEither W x.1)) (sym step) (c.commit.ensures.moments W t of may)

@@ -1,4 +1,4 @@
-use Rattle.std.proofs.Common.{◌≡◌, sym, subst, List}
+use Rattle.std.proofs.Common.{sym, subst, List}
 use Rattle.mv_index.specs.declared.version.Version.{Version}
 use Rattle.mv_index.specs.Shown.{AllLie, Lies}
 use Rattle.mv_index.specs.Versions.{no_version, upto, versions_in}

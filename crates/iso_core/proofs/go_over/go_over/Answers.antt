@@ -1,7 +1,5 @@
-use Rattle.std.proofs.Common.{◌≡◌, ◌∙◌, sym, ap, ℕ, ◌+◌, ◌-◌, ◌*◌, ◌≤◌, arith, subst, List}
+use Rattle.std.proofs.Common.{◌∙◌, sym, ◌+◌, ◌-◌, ◌*◌, arith, subst}
 use Rattle.iso_log.specs.Extent.{Extent}
-use Rattle.iso_model.specs.World.{used}
-use Rattle.iso_core.specs.declared.kept.Kept.{Kept}
 use Rattle.iso_core.specs.Kept.{IsOf}
 use Rattle.iso_model.specs.Step.{after_switch}
 use Rattle.iso_core.proofs.Numbers.{log_room, log_used}

@@ -1,4 +1,4 @@
-use Rattle.std.proofs.Common.{◌≡◌, ◌∙◌, sym, refl, ap, subst, List}
+use Rattle.std.proofs.Common.{◌∙◌, sym, subst, List}
 use Rattle.byte_marks.specs.Touched.{AreTouched}
 use Rattle.conflict_rule.specs.Decision.{Bytes}
 use Rattle.iso_model.specs.declared.access.Kind.TheVariants.{Write}

@@ -1,4 +1,4 @@
-use Rattle.std.proofs.Common.{◌≡◌, ◌∙◌, sym, refl, ap, ℕ, ◌+◌, List, ◌++◌, []}
+use Rattle.std.proofs.Common.{◌∙◌, sym, ap, ℕ, ◌+◌, ◌++◌}
 use Rattle.iso_format.specs.Spelled.{Spelled}
 use Rattle.iso_core.proofs.Prepares.{runs_lie, same_runs, some_runs, spelled_next}
 use Rattle.version_read.specs.Parts.{part_of}

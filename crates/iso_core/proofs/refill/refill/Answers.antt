@@ -1,10 +1,7 @@
-use Rattle.std.proofs.Common.{◌≡◌, ◌∙◌, ◌⊎◌, inl, inr, sym, ap, subst, ℕ, ◌+◌, ◌-◌, ◌<◌, ◌≤◌, List, arith}
-use Rattle.iso_disk.specs.Disk.{LeavesOnly}
+use Rattle.std.proofs.Common.{◌∙◌, inl, ap, arith}
 use Rattle.iso_disk.proofs.Moments.{at_end, joined, weakened}
 use Rattle.iso_image.specs.declared.places.HalfPlace.{HalfPlace}
-use Rattle.iso_image.specs.Half.{Half, IsHeld, in_form}
-use Rattle.iso_image.proofs.Switches.{end_inside}
-use Rattle.half_switch.specs.Plan.{place_of, refilled}
+use Rattle.half_switch.specs.Plan.{refilled}
 use Rattle.iso_model.specs.Geometry.{header_place}
 use Rattle.iso_core.proofs.Refills.{inside}
 use Rattle.iso_core.proofs.refill.refill.Goals as goal

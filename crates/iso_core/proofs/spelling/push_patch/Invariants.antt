@@ -1,5 +1,5 @@
 -- The pieces so far are pushed, and the others follow.
-use Rattle.std.proofs.Common.{◌≡◌, ◌++◌, List, map}
+use Rattle.std.proofs.Common.{◌≡◌, ◌++◌, map}
 use Rattle.std.specs.List.{AllByRecursion}
 use Rattle.iso_model.specs.Effect.{runs_from}
 use Rattle.merge_write.specs.Patch.{run_of}

@@ -1,5 +1,5 @@
 -- The patches so far are pushed, and the others follow.
-use Rattle.std.proofs.Common.{◌≡◌, ◌++◌, List, map, flat_map}
+use Rattle.std.proofs.Common.{◌≡◌, ◌++◌, map, flat_map}
 use Rattle.iso_model.specs.declared.access.Geometry.{Geometry}
 use Rattle.iso_model.specs.Effect.{runs, runs_from}
 use Rattle.version_read.specs.Parts.{part_of}

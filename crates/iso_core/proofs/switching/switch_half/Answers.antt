@@ -1,5 +1,4 @@
-use Rattle.std.proofs.Common.{◌≡◌, ◌≢◌, ◌∙◌, ◌⊎◌, inl, inr, sym, refl, ap, subst, ℕ, ◌+◌, ◌-◌, ◌<◌, ◌≤◌, List, [], arith, Some, true, Err}
-use Rattle.iso_disk.specs.Disk.{LeavesOnly}
+use Rattle.std.proofs.Common.{◌≡◌, ◌≢◌, ◌∙◌, inl, inr, sym, refl, ap, subst, ℕ, ◌+◌, ◌-◌, ◌≤◌, arith, Some, true, Err}
 use Rattle.iso_disk.proofs.Moments.{at_end, started, weakened}
 use Rattle.half_switch.specs.declared.plan.FillPlan.{FillPlan}
 use Rattle.half_switch.specs.Plan.{place_of}
@@ -7,10 +6,10 @@ use Rattle.iso_image.specs.declared.places.HalfPlace.{HalfPlace}
 use Rattle.iso_image.specs.Half.{IsHeld, half_of_world}
 use Rattle.iso_model.specs.declared.access.Geometry.{Geometry}
 use Rattle.iso_model.specs.declared.limits.TheConstants.{LAST}
-use Rattle.iso_model.specs.declared.script.Reply.{Reply}
+use Rattle.iso_model.specs.declared.core_reply.CoreReply.{CoreReply}
 use Rattle.iso_model.specs.Geometry.{image_size, log_place}
 use Rattle.iso_model.specs.Step.{after_switch}
-use Rattle.iso_model.specs.World.{World, floor}
+use Rattle.iso_model.specs.World.{World}
 use Rattle.iso_model.proofs.Worlds.{floor_between}
 use Rattle.iso_core.proofs.Committing.{down_on}
 use Rattle.iso_core.proofs.Moments.{shows_world}
@@ -198,7 +197,7 @@ returns-in-Err-Disk-clause-moments g c W of fits =
 pub returns-in-Err-Disk-clause-unworn : goal.returns-in-Err-Disk-clause-unworn
 returns-in-Err-Disk-clause-unworn g c W answer of fits failed =
     let fresh : W.generation ≢ LAST = λ e. absurd (omega (arith, c.if-kept-ge-LAST.false, of.kept_of.keeps.generation, e)) in
-    ap (λ (x : Reply × World). x.0) (is_switched W c.args.form answer fresh)
+    ap (λ (x : CoreReply × World). x.0) (is_switched W c.args.form answer fresh)
 
 pub returns-in-Err-Disk-clause-lost : goal.returns-in-Err-Disk-clause-lost
 returns-in-Err-Disk-clause-lost g c W of fits failed =

@@ -1,7 +1,7 @@
 use Rattle.std.proofs.Common.{◌≡◌, ◌∙◌, refl, ap, [], ◌∷◌, None, get_or, arith}
 use Rattle.iso_model.specs.declared.access.Span.{Span}
-use Rattle.iso_model.specs.FreeMap.{map_mark, bit_place, clear_bit}
-use Rattle.iso_model.specs.Stores.{look_access}
+use Rattle.store_model.specs.FreeMap.{map_mark, bit_place, clear_bit}
+use Rattle.store_model.specs.Stores.{look_access}
 use Rattle.tx_blocks.specs.Tx.{with_accesses}
 use Rattle.tx_blocks.proofs.Progress.{at_start}
 use Rattle.tx_blocks.proofs.Refusals.{cut_at_look, read_none, read_more, read_same}

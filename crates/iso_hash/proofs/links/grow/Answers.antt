@@ -1,10 +1,10 @@
 use Rattle.std.proofs.Common.{◌∙◌, ap, ◌+◌, [], ◌∷◌, Ok, arith}
 use Rattle.std.specs.Int.{w32, to_be_bytes}
-use Rattle.iso_model.specs.Cells.{next_mark, block_with}
-use Rattle.iso_model.specs.FreeMap.{bit_mark, bit_place}
-use Rattle.iso_model.specs.HashCalls.{new_block}
-use Rattle.iso_model.specs.HashRegion.{bucket_of}
-use Rattle.iso_model.specs.Stores.{Done}
+use Rattle.store_model.specs.Cells.{next_mark, block_with}
+use Rattle.store_model.specs.FreeMap.{bit_mark, bit_place}
+use Rattle.store_model.specs.HashCalls.{new_block}
+use Rattle.store_model.specs.HashRegion.{bucket_of}
+use Rattle.store_model.specs.Stores.{Done}
 use Rattle.tx_blocks.specs.Tx.{Tx}
 use Rattle.tx_blocks.proofs.Progress.{at_store, ran_at}
 use Rattle.tx_blocks.proofs.Refusals.{cut_at_store}

@@ -1,7 +1,7 @@
 use Rattle.std.proofs.Common.{◌∙◌, ap, ◌+◌, [], ◌∷◌, Ok, true, replicate, arith}
-use Rattle.iso_model.specs.Cells.{next_mark, block_with}
-use Rattle.iso_model.specs.FreeMap.{bit_mark, bit_place}
-use Rattle.iso_model.specs.Stores.{Done}
+use Rattle.store_model.specs.Cells.{next_mark, block_with}
+use Rattle.store_model.specs.FreeMap.{bit_mark, bit_place}
+use Rattle.store_model.specs.Stores.{Done}
 use Rattle.tx_blocks.specs.Tx.{Tx}
 use Rattle.tx_blocks.proofs.Refusals.{cut_at_store}
 use Rattle.tx_blocks.proofs.Parts.{refused_memory, done_so}

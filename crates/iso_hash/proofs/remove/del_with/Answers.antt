@@ -1,9 +1,9 @@
 use Rattle.std.proofs.Common.{◌∙◌, sym, ap, false, ◌+◌, ◌*◌, ℕ, Bool, [], Ok, take, Result, arith}
-use Rattle.iso_model.specs.declared.stores.StoreError.{StoreError}
-use Rattle.iso_model.specs.Cells.{keys_end}
-use Rattle.iso_model.specs.HashCalls as hash
-use Rattle.iso_model.specs.HashCalls.{del_at, is_spent}
-use Rattle.iso_model.specs.Stores.{Program, Done}
+use Rattle.store_model.specs.declared.stores.StoreError.{StoreError}
+use Rattle.store_model.specs.Cells.{keys_end}
+use Rattle.store_model.specs.HashCalls as hash
+use Rattle.store_model.specs.HashCalls.{is_spent}
+use Rattle.store_model.specs.Stores.{Program, Done}
 use Rattle.tx_blocks.proofs.Parts.{refused_so, behaves_after}
 use Rattle.tx_blocks.proofs.Progress.{ran_at, at_start}
 use Rattle.tx_blocks.proofs.Refusals.{store_cause}

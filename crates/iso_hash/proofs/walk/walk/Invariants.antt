@@ -1,5 +1,5 @@
 use Rattle.std.proofs.Common.{◌≡◌, ◌-◌, ◌<◌, IfSome}
-use Rattle.iso_model.specs.HashCalls.{walk, walk_from}
+use Rattle.store_model.specs.HashCalls.{walk, walk_from}
 use Rattle.tx_blocks.specs.Tx.{IsLater}
 use Rattle.tx_blocks.specs.Runs.{HasRead}
 use Rattle.tx_blocks.proofs.Progress.{IsAt}

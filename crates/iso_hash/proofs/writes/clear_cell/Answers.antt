@@ -1,7 +1,7 @@
 use Rattle.std.proofs.Common.{◌+◌, [], ◌∷◌, replicate, Ok, true, Result, Bool}
-use Rattle.iso_model.specs.declared.stores.StoreError.{StoreError}
-use Rattle.iso_model.specs.Cells.{key_mark, value_mark}
-use Rattle.iso_model.specs.Stores.{Program, Done, Store}
+use Rattle.store_model.specs.declared.stores.StoreError.{StoreError}
+use Rattle.store_model.specs.Cells.{key_mark, value_mark}
+use Rattle.store_model.specs.Stores.{Program, Done, Store}
 use Rattle.tx_blocks.proofs.Progress.{at_start}
 use Rattle.tx_blocks.proofs.Refusals.{cut_at_store}
 use Rattle.iso_hash.proofs.writes.clear_cell.Goals as goal

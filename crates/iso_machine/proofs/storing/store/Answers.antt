@@ -1,9 +1,8 @@
-use Rattle.std.proofs.Common.{◌≡◌, ◌≢◌, ℕ, ◌∙◌, sym, ap, subst, arith}
+use Rattle.std.proofs.Common.{◌≡◌, ◌≢◌, ℕ, ◌∙◌, sym, subst, arith}
 use Rattle.iso_model.specs.declared.access.Geometry.{Geometry}
-use Rattle.iso_model.specs.declared.script.Op.{Op}
-use Rattle.iso_model.specs.declared.stores.Area.{Area}
-use Rattle.iso_model.specs.World.{World, Live}
-use Rattle.iso_core.specs.Core.{StandsFor, disk_of}
+use Rattle.script_model.specs.declared.script.Op.{Op}
+use Rattle.store_model.specs.declared.stores.Area.{Area}
+use Rattle.iso_core.specs.Core.{disk_of}
 use Rattle.iso_core.specs.Standing.{up}
 use Rattle.store_calls.specs.Calls.{store_area}
 use Rattle.iso_machine.proofs.Stored.{may_store, store_fits, stored_if, without_mode, without_pairs, without_store}

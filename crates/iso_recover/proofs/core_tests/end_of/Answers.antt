@@ -1,4 +1,4 @@
-use Rattle.std.proofs.Common.{◌≡◌, ◌∙◌, ap, ℕ, List, [], ◌∷◌, ◌++◌, replicate, None, Some, true, false, arith}
+use Rattle.std.proofs.Common.{◌∙◌, ap, ℕ, [], ◌∷◌, ◌++◌, replicate, None, Some, false, arith}
 use Rattle.std.proofs.lemmas.List.{length-replicate}
 use Rattle.iso_memdisk.specs.MemDisk.{state_of}
 use Rattle.iso_model.proofs.ByteLists.{replicate_bytes}

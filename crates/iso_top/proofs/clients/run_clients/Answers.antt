@@ -1,7 +1,11 @@
 use Rattle.std.proofs.Common.{◌∙◌, inl, inr, refl, subst, ℕ, List, None}
 use Rattle.iso_top.specs.Prints.{Printed}
-use Rattle.iso_top.proofs.ClientsMet.{none_begun, ran_lines, ran_none}
+use Rattle.iso_top.proofs.ClientsMet.{may_begin, none_begun, ran_lines, ran_none}
 use Rattle.iso_top.proofs.clients.run_clients.Goals as goal
+
+pub run_lines-requires-after_bounds : goal.run_lines-requires-after_bounds
+run_lines-requires-after_bounds g c κs within =
+    may_begin g.I.Disk.state (g.met.I.Disk g.world.𝓛 g.world.𝓜 g.world.𝓡 ((λ s x. x), (λ x. x), (λ x. x), λ x. x)).lawful c.args.name.now c.args.image c.in-Ok.core c.in-Ok.ensures.begun (record { core = c.in-Ok.core; given = c.of-given.result }) refl c.of-given.ensures
 
 pub returns-in-Err : goal.returns-in-Err
 returns-in-Err g c =

@@ -1,4 +1,9 @@
+use Rattle.iso_shared.proofs.Standings.{came_first}
 use Rattle.iso_top.proofs.clients.run_lines.Goals as goal
 
 pub run_over-requires-clause-valid : goal.run_over-requires-clause-valid
 run_over-requires-clause-valid g c κs within = c.world_of-beginning.ensures.stands.kept_of.world.valid
+
+pub run_over-requires-clause-came : goal.run_over-requires-clause-came
+run_over-requires-clause-came g c κs within =
+    came_first g.I.Disk.state c.args.opened.core c.world_of-beginning.result.world ((g.met.I.Disk g.world.𝓛 g.world.𝓜 g.world.𝓡 ((λ s x. x), (λ x. x), (λ x. x), λ x. x)).lawful c.args.opened.core.disk) c.world_of-beginning.ensures.stands

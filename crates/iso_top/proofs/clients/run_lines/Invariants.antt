@@ -4,4 +4,4 @@ use Rattle.iso_shared.specs.Standing.{start_at}
 use Rattle.iso_top.proofs.clients.run_lines.Given as goal
 
 abbrev pub ghosts-run_over : goal.ghosts-run_over
-ghosts-run_over g a = record { start = start_at a.beginning.world (g.I.Disk.state (disk_of a.core)) }
+ghosts-run_over g a = record { start = start_at a.beginning.world (g.I.Disk.state (disk_of a.core)); disk = g.I.Disk.state (disk_of a.core) }

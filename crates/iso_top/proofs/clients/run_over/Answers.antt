@@ -10,9 +10,10 @@ returns-in-Ok-clause-ended g c =
     record {
       entries = entries;
       ended = c.par_lines-end.ensures.ended;
+      legal = c.close-core.ensures.legal;
       isolated = c.close-core.ensures.isolated;
       core = c.close-core.result;
       holds = c.close-core.ensures.core;
       image_is = c.into_disk-in-Ok.ensures;
-      came = subst (λ d. Came g.O.Origin.start (state d) entries) (sym c.into_disk-in-Ok.ensures) c.close-core.ensures.came;
+      came = subst (λ d. Came g.O.Origin.start g.O.Origin.disk (state d) entries) (sym c.into_disk-in-Ok.ensures) c.close-core.ensures.came;
     }

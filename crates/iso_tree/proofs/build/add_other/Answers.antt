@@ -1,5 +1,5 @@
 use Rattle.std.proofs.Common.{◌∙◌, sym, ap, not, cond, Bool, [], ◌∷◌, ◌++◌}
-use Rattle.iso_model.specs.TreeNodes.{node_bytes}
+use Rattle.store_model.specs.TreeNodes.{node_bytes}
 use Rattle.iso_tree.proofs.build.add_other.Goals as goal
 
 pub returns-clause-added : goal.returns-clause-added

@@ -1,5 +1,5 @@
 use Rattle.std.proofs.Common.{◌≡◌, ◌≤◌, length}
-use Rattle.iso_model.specs.TreeNodes.{node_bytes}
+use Rattle.store_model.specs.TreeNodes.{node_bytes}
 use Rattle.iso_tree.proofs.Building.{copied}
 use Rattle.iso_tree.proofs.build.copy_without.Given as goal
 

@@ -1,13 +1,13 @@
-use Rattle.std.proofs.Common.{◌≡◌, ◌∙◌, sym, refl, ap, subst, ℕ, suc, ◌+◌, ◌-◌, ◌*◌, ◌/◌, ◌<◌, ◌≤◌, List, [], ◌∷◌, length, take, drop, Ok, Err, rules, arith}
-use Rattle.iso_model.specs.declared.stores.StoreError.TheVariants as store
-use Rattle.iso_model.specs.declared.stores.TxError.{TxError}
-use Rattle.iso_model.specs.Cells.{cell_count, keys_end}
-use Rattle.iso_model.specs.Stores.{Done, Store, bytes_in}
+use Rattle.std.proofs.Common.{◌≡◌, ◌∙◌, sym, refl, ap, subst, ℕ, suc, ◌+◌, ◌-◌, ◌*◌, ◌/◌, ◌≤◌, List, [], length, take, Ok, rules, arith}
+use Rattle.store_model.specs.declared.stores.StoreError.TheVariants as store
+use Rattle.store_model.specs.declared.stores.TxError.{TxError}
+use Rattle.store_model.specs.Cells.{cell_count, keys_end}
+use Rattle.store_model.specs.Stores.{Done, Store, bytes_in}
 use Rattle.tx_blocks.specs.Tx.{Tx}
 use Rattle.tx_blocks.specs.Runs.{HasRun, IsCut}
-use Rattle.iso_model.specs.TreeNodes.{Cell, child_part, count_of, node_bytes, used_cells}
+use Rattle.store_model.specs.TreeNodes.{Cell, child_part, count_of, node_bytes, used_cells}
 use Rattle.iso_tree.specs.Rows.{key_in_row, row_from}
-use Rattle.iso_model.specs.TreeCalls.{Answer, placed, store_nodes}
+use Rattle.store_model.specs.TreeCalls.{Answer, placed, store_nodes}
 use Rattle.iso_tree.proofs.Climbing.{first_usable, rest_usable, rest_inside, room_for, rest_room, last_writes, code_writes, rest_enough, more_inside, full_some, first_fails, second_fails, both_run, room_after, open_after}
 use Rattle.iso_tree.proofs.Filling.{key_fits}
 use Rattle.iso_tree.proofs.climb.+climb.Goals as goal
@@ -145,7 +145,7 @@ climb-requires g t c κs within =
                 (
                   open_after u v _ c.in_default-store_right.ensures.stored (open_after (state c.args.tx.now) u _ c.in_default-store_left.ensures.stored c.requires.is_open),
                   (
-                    omega (arith, ap length k_is, key_fits a.size b c.place_in-place.result new (subst (λ (x : List ℕ). Rattle.iso_model.specs.Cells.are_key_parts a.size (take (keys_end a.size) x) ≡ Rattle.std.proofs.Common.true) (sym c.piece-bytes.ensures.value) usable.parts) c.requires.new_key c.place_in-place.ensures.most ((c.in-Some.count + 1) / 2) (let few = usable.few in omega arith)),
+                    omega (arith, ap length k_is, key_fits a.size b c.place_in-place.result new (subst (λ (x : List ℕ). Rattle.store_model.specs.Cells.are_key_parts a.size (take (keys_end a.size) x) ≡ Rattle.std.proofs.Common.true) (sym c.piece-bytes.ensures.value) usable.parts) c.requires.new_key c.place_in-place.ensures.most ((c.in-Some.count + 1) / 2) (let few = usable.few in omega arith)),
                     (
                       ap length c.child_part-new_part.ensures,
                       (

@@ -1,7 +1,7 @@
 use Rattle.std.proofs.Common.{◌≡◌, ◌≤◌, ◌∙◌, refl, ap, ℕ, zero, suc, List, [], ◌∷◌, length, arith}
-use Rattle.iso_model.specs.TreeNodes.{Cell, FitCells, node_bytes}
+use Rattle.store_model.specs.TreeNodes.{Cell, FitCells, node_bytes}
 use Rattle.iso_tree.specs.Rows.{row_from}
-use Rattle.iso_model.specs.Trees.{emptied}
+use Rattle.store_model.specs.Trees.{emptied}
 use Rattle.iso_tree.proofs.Filling.{row_fits, length-row}
 use Rattle.iso_tree.proofs.climb.fill_right.Goals as goal
 

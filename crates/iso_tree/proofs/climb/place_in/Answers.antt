@@ -1,9 +1,9 @@
 use Rattle.std.proofs.Common.{◌≡◌, ◌∙◌, refl, ap, ℕ, zero, suc, ◌+◌, ◌-◌, ◌*◌, List, take, arith}
-use Rattle.iso_model.specs.Cells.{keys_end}
-use Rattle.iso_model.specs.TreeNodes.{Cell, count_of, used_cells}
+use Rattle.store_model.specs.Cells.{keys_end}
+use Rattle.store_model.specs.TreeNodes.{Cell, count_of, used_cells}
 use Rattle.iso_tree.specs.Rows.{row_from, upto_from}
-use Rattle.iso_model.specs.Trees.{put_after}
-use Rattle.iso_model.specs.TreeCalls.{placed}
+use Rattle.store_model.specs.Trees.{put_after}
+use Rattle.store_model.specs.TreeCalls.{placed}
 use Rattle.iso_tree.proofs.Filling.{row_is, leaf_row_is}
 use Rattle.iso_tree.proofs.climb.place_in.Goals as goal
 

@@ -1,7 +1,7 @@
 use Rattle.std.proofs.Common.{◌∙◌, ap, subst, ℕ, ◌+◌, List, [], Ok}
-use Rattle.iso_model.specs.Stores.{Done, Store}
+use Rattle.store_model.specs.Stores.{Done, Store}
 use Rattle.tx_blocks.specs.Runs.{HasRun}
-use Rattle.iso_model.specs.TreeNodes.{node_bytes}
+use Rattle.store_model.specs.TreeNodes.{node_bytes}
 use Rattle.iso_tree.specs.Rows.{row_from}
 use Rattle.iso_tree.proofs.climb.store_grown.Goals as goal
 

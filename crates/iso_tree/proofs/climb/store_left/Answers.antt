@@ -1,7 +1,7 @@
 use Rattle.std.proofs.Common.{◌≡◌, ◌∙◌, ap, subst, ℕ, ◌+◌, List, [], ◌∷◌, OnOk}
-use Rattle.iso_model.specs.Stores.{store_access}
+use Rattle.store_model.specs.Stores.{store_access}
 use Rattle.tx_blocks.specs.Tx.{with_accesses}
-use Rattle.iso_model.specs.TreeNodes.{node_bytes}
+use Rattle.store_model.specs.TreeNodes.{node_bytes}
 use Rattle.iso_tree.specs.Rows.{row_from}
 use Rattle.iso_tree.proofs.climb.store_left.Goals as goal
 

@@ -1,6 +1,6 @@
 use Rattle.std.proofs.Common.{◌≡◌, ◌-◌, ◌<◌, [], length}
 use Rattle.iso_tree.specs.Rows.{AreInside}
-use Rattle.iso_model.specs.TreeCalls.{descend}
+use Rattle.store_model.specs.TreeCalls.{descend}
 use Rattle.tx_blocks.specs.Tx.{IsLater}
 use Rattle.tx_blocks.specs.Runs.{HasRead}
 use Rattle.tx_blocks.proofs.Progress.{IsAt}

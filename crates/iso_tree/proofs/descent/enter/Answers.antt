@@ -1,10 +1,10 @@
 use Rattle.std.proofs.Common.{◌≡◌, ◌∙◌, sym, refl, ap, subst, ◌+◌, ◌<◌, [], ◌∷◌, ℕ, true, None, arith}
 use Rattle.iso_model.specs.declared.access.Span.{Span}
-use Rattle.iso_model.specs.Cells.{cell_count, keys_mark, value_mark}
-use Rattle.iso_model.specs.Stores.{bytes_in, look_access}
+use Rattle.store_model.specs.Cells.{cell_count, keys_mark, value_mark}
+use Rattle.store_model.specs.Stores.{bytes_in, look_access}
 use Rattle.tx_blocks.specs.Tx.{Device, mark_refusal, with_accesses}
 use Rattle.tx_blocks.proofs.Marking.{may_mark, marked_access}
-use Rattle.iso_model.specs.TreeNodes.{count_of, place_of, is_child, child_of}
+use Rattle.store_model.specs.TreeNodes.{count_of, place_of, is_child, child_of}
 use Rattle.iso_tree.proofs.Facts.{inner_many, child_below, node_parts, nothing_is}
 use Rattle.iso_tree.proofs.Looking.{node_of, not_node, child_not_node, child_broken, child_read, ok_read, broken_read, later_as}
 use Rattle.iso_tree.proofs.descent.enter.Goals as goal
@@ -42,7 +42,7 @@ returns-then-not-has_child-clause-run g c =
     let a = c.args.area in
     let node = node_of a c.args.level c.look.new.into c.in-Some.node c.region_of.result (c.look.auto.into ∙ c.requires.buffer) c.in-Some.ensures.value c.region_of.ensures (c.in-Some.ensures.some.0 refl) in
     let place : c.place-place.result ≡ place_of c.args.key.now (bytes_in (keys_mark a.size) c.look.new.into) = c.place-place.ensures.value ∙ ap (place_of c.args.key.now) node.keys_are in
-    let part : is_child c.in-Some.node.blocks (Rattle.iso_model.specs.TreeNodes.value_in c.in-Some.node c.place-place.result) ≡ is_child a.blocks (bytes_in (value_mark a.size (place_of c.args.key.now (bytes_in (keys_mark a.size) c.look.new.into))) c.look.new.into) =
+    let part : is_child c.in-Some.node.blocks (Rattle.store_model.specs.TreeNodes.value_in c.in-Some.node c.place-place.result) ≡ is_child a.blocks (bytes_in (value_mark a.size (place_of c.args.key.now (bytes_in (keys_mark a.size) c.look.new.into))) c.look.new.into) =
     (λ i. is_child (node.blocks_are i) (node.values_are c.place-place.result i)) ∙ ap (λ (n : ℕ). is_child a.blocks (bytes_in (value_mark a.size n) c.look.new.into)) place in
     let access : state c.mark.new.tx ≡ with_accesses (state c.args.tx.now) (look_access (a.start + c.args.block) (keys_mark a.size ∷ value_mark a.size (place_of c.args.key.now (bytes_in (keys_mark a.size) c.look.new.into)) ∷ []) ∷ []) =
     marked_access (state c.args.tx.now) (state c.look.new.tx) (state c.mark.new.tx) _ _ c.in_default.ensures.read c.mark.ensures.marked
@@ -58,7 +58,7 @@ returns-then-not-has_child-clause-reads g c =
     let a = c.args.area in
     let node = node_of a c.args.level c.look.new.into c.in-Some.node c.region_of.result (c.look.auto.into ∙ c.requires.buffer) c.in-Some.ensures.value c.region_of.ensures (c.in-Some.ensures.some.0 refl) in
     let place : c.place-place.result ≡ place_of c.args.key.now (bytes_in (keys_mark a.size) c.look.new.into) = c.place-place.ensures.value ∙ ap (place_of c.args.key.now) node.keys_are in
-    let part : is_child c.in-Some.node.blocks (Rattle.iso_model.specs.TreeNodes.value_in c.in-Some.node c.place-place.result) ≡ is_child a.blocks (bytes_in (value_mark a.size (place_of c.args.key.now (bytes_in (keys_mark a.size) c.look.new.into))) c.look.new.into) =
+    let part : is_child c.in-Some.node.blocks (Rattle.store_model.specs.TreeNodes.value_in c.in-Some.node c.place-place.result) ≡ is_child a.blocks (bytes_in (value_mark a.size (place_of c.args.key.now (bytes_in (keys_mark a.size) c.look.new.into))) c.look.new.into) =
     (λ i. is_child (node.blocks_are i) (node.values_are c.place-place.result i)) ∙ ap (λ (n : ℕ). is_child a.blocks (bytes_in (value_mark a.size n) c.look.new.into)) place in
     let access : state c.mark.new.tx ≡ with_accesses (state c.args.tx.now) (look_access (a.start + c.args.block) (keys_mark a.size ∷ value_mark a.size (place_of c.args.key.now (bytes_in (keys_mark a.size) c.look.new.into)) ∷ []) ∷ []) =
     marked_access (state c.args.tx.now) (state c.look.new.tx) (state c.mark.new.tx) _ _ c.in_default.ensures.read c.mark.ensures.marked
@@ -73,7 +73,7 @@ returns-clause-run g c =
     let a = c.args.area in
     let node = node_of a c.args.level c.look.new.into c.in-Some.node c.region_of.result (c.look.auto.into ∙ c.requires.buffer) c.in-Some.ensures.value c.region_of.ensures (c.in-Some.ensures.some.0 refl) in
     let place : c.place-place.result ≡ place_of c.args.key.now (bytes_in (keys_mark a.size) c.look.new.into) = c.place-place.ensures.value ∙ ap (place_of c.args.key.now) node.keys_are in
-    let part : is_child c.in-Some.node.blocks (Rattle.iso_model.specs.TreeNodes.value_in c.in-Some.node c.place-place.result) ≡ is_child a.blocks (bytes_in (value_mark a.size (place_of c.args.key.now (bytes_in (keys_mark a.size) c.look.new.into))) c.look.new.into) =
+    let part : is_child c.in-Some.node.blocks (Rattle.store_model.specs.TreeNodes.value_in c.in-Some.node c.place-place.result) ≡ is_child a.blocks (bytes_in (value_mark a.size (place_of c.args.key.now (bytes_in (keys_mark a.size) c.look.new.into))) c.look.new.into) =
     (λ i. is_child (node.blocks_are i) (node.values_are c.place-place.result i)) ∙ ap (λ (n : ℕ). is_child a.blocks (bytes_in (value_mark a.size n) c.look.new.into)) place in
     let access : state c.mark.new.tx ≡ with_accesses (state c.args.tx.now) (look_access (a.start + c.args.block) (keys_mark a.size ∷ value_mark a.size (place_of c.args.key.now (bytes_in (keys_mark a.size) c.look.new.into)) ∷ []) ∷ []) =
     marked_access (state c.args.tx.now) (state c.look.new.tx) (state c.mark.new.tx) _ _ c.in_default.ensures.read c.mark.ensures.marked
@@ -91,7 +91,7 @@ returns-clause-inside g c =
     let a = c.args.area in
     let node = node_of a c.args.level c.look.new.into c.in-Some.node c.region_of.result (c.look.auto.into ∙ c.requires.buffer) c.in-Some.ensures.value c.region_of.ensures (c.in-Some.ensures.some.0 refl) in
     let place : c.place-place.result ≡ place_of c.args.key.now (bytes_in (keys_mark a.size) c.look.new.into) = c.place-place.ensures.value ∙ ap (place_of c.args.key.now) node.keys_are in
-    let part : is_child c.in-Some.node.blocks (Rattle.iso_model.specs.TreeNodes.value_in c.in-Some.node c.place-place.result) ≡ is_child a.blocks (bytes_in (value_mark a.size (place_of c.args.key.now (bytes_in (keys_mark a.size) c.look.new.into))) c.look.new.into) =
+    let part : is_child c.in-Some.node.blocks (Rattle.store_model.specs.TreeNodes.value_in c.in-Some.node c.place-place.result) ≡ is_child a.blocks (bytes_in (value_mark a.size (place_of c.args.key.now (bytes_in (keys_mark a.size) c.look.new.into))) c.look.new.into) =
     (λ i. is_child (node.blocks_are i) (node.values_are c.place-place.result i)) ∙ ap (λ (n : ℕ). is_child a.blocks (bytes_in (value_mark a.size n) c.look.new.into)) place in
     let access : state c.mark.new.tx ≡ with_accesses (state c.args.tx.now) (look_access (a.start + c.args.block) (keys_mark a.size ∷ value_mark a.size (place_of c.args.key.now (bytes_in (keys_mark a.size) c.look.new.into)) ∷ []) ∷ []) =
     marked_access (state c.args.tx.now) (state c.look.new.tx) (state c.mark.new.tx) _ _ c.in_default.ensures.read c.mark.ensures.marked
@@ -110,7 +110,7 @@ returns-clause-reads g c =
     let a = c.args.area in
     let node = node_of a c.args.level c.look.new.into c.in-Some.node c.region_of.result (c.look.auto.into ∙ c.requires.buffer) c.in-Some.ensures.value c.region_of.ensures (c.in-Some.ensures.some.0 refl) in
     let place : c.place-place.result ≡ place_of c.args.key.now (bytes_in (keys_mark a.size) c.look.new.into) = c.place-place.ensures.value ∙ ap (place_of c.args.key.now) node.keys_are in
-    let part : is_child c.in-Some.node.blocks (Rattle.iso_model.specs.TreeNodes.value_in c.in-Some.node c.place-place.result) ≡ is_child a.blocks (bytes_in (value_mark a.size (place_of c.args.key.now (bytes_in (keys_mark a.size) c.look.new.into))) c.look.new.into) =
+    let part : is_child c.in-Some.node.blocks (Rattle.store_model.specs.TreeNodes.value_in c.in-Some.node c.place-place.result) ≡ is_child a.blocks (bytes_in (value_mark a.size (place_of c.args.key.now (bytes_in (keys_mark a.size) c.look.new.into))) c.look.new.into) =
     (λ i. is_child (node.blocks_are i) (node.values_are c.place-place.result i)) ∙ ap (λ (n : ℕ). is_child a.blocks (bytes_in (value_mark a.size n) c.look.new.into)) place in
     let access : state c.mark.new.tx ≡ with_accesses (state c.args.tx.now) (look_access (a.start + c.args.block) (keys_mark a.size ∷ value_mark a.size (place_of c.args.key.now (bytes_in (keys_mark a.size) c.look.new.into)) ∷ []) ∷ []) =
     marked_access (state c.args.tx.now) (state c.look.new.tx) (state c.mark.new.tx) _ _ c.in_default.ensures.read c.mark.ensures.marked

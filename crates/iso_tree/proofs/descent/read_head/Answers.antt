@@ -1,6 +1,6 @@
 use Rattle.std.proofs.Common.{◌∙◌, sym, ap}
-use Rattle.iso_model.specs.Cells.{word_at}
-use Rattle.iso_model.specs.TreeNodes.{is_head}
+use Rattle.store_model.specs.Cells.{word_at}
+use Rattle.store_model.specs.TreeNodes.{is_head}
 use Rattle.iso_tree.proofs.Looking.{head_broken, head_read}
 use Rattle.iso_tree.proofs.descent.read_head.Goals as goal
 

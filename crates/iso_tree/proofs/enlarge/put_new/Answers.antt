@@ -1,7 +1,7 @@
 use Rattle.std.proofs.Common.{◌≡◌, ◌∙◌, refl, ap, [], ◌∷◌, arith}
 use Rattle.iso_model.specs.declared.access.Span.{Span}
-use Rattle.iso_model.specs.FreeMap.{map_mark}
-use Rattle.iso_model.specs.Stores.{look_access}
+use Rattle.store_model.specs.FreeMap.{map_mark}
+use Rattle.store_model.specs.Stores.{look_access}
 use Rattle.tx_blocks.specs.Tx.{Tx, with_accesses}
 use Rattle.tx_blocks.proofs.Refusals.{read_none, read_more, read_same}
 use Rattle.tx_blocks.proofs.Parts.{behaves_after, refused_reading}

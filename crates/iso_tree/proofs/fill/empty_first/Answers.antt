@@ -1,5 +1,5 @@
 use Rattle.std.proofs.Common.{◌∙◌, ap, replicate}
-use Rattle.iso_model.specs.Cells.{laid_at}
+use Rattle.store_model.specs.Cells.{laid_at}
 use Rattle.iso_tree.proofs.Filling.{first_emptied}
 use Rattle.iso_tree.proofs.fill.empty_first.Goals as goal
 

@@ -1,6 +1,6 @@
 use Rattle.std.proofs.Common.{◌∙◌, ◌≡◌, refl, ap, ℕ, zero, suc, List, [], ◌∷◌, length, arith}
-use Rattle.iso_model.specs.TreeNodes.{Cell, child_part, node_bytes}
-use Rattle.iso_model.specs.TreeCalls.{root_cells}
+use Rattle.store_model.specs.TreeNodes.{Cell, child_part, node_bytes}
+use Rattle.store_model.specs.TreeCalls.{root_cells}
 use Rattle.iso_tree.proofs.fill.fill_root.Goals as goal
 
 zero_root : (level below : ℕ) (new : Cell) → level ≡ 0 → new ∷ [] ≡ root_cells level below new

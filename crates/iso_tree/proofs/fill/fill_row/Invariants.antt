@@ -1,5 +1,5 @@
 use Rattle.std.proofs.Common.{◌≡◌, length}
-use Rattle.iso_model.specs.TreeNodes.{node_bytes}
+use Rattle.store_model.specs.TreeNodes.{node_bytes}
 use Rattle.iso_tree.specs.Rows.{row_from}
 use Rattle.iso_tree.proofs.fill.fill_row.Given as goal
 

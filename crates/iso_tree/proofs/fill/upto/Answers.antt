@@ -1,6 +1,6 @@
 use Rattle.std.proofs.Common.{◌≡◌, ◌∙◌, ◌-◌, sym, ap, ℕ, arith}
-use Rattle.iso_model.specs.Cells.{key_at}
-use Rattle.iso_model.specs.TreeNodes.{before}
+use Rattle.store_model.specs.Cells.{key_at}
+use Rattle.store_model.specs.TreeNodes.{before}
 use Rattle.iso_tree.specs.Rows.{upto_from}
 use Rattle.iso_tree.proofs.Filling.{upto_ends, upto_goes_on}
 use Rattle.iso_tree.proofs.fill.upto.Goals as goal

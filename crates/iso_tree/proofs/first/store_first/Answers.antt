@@ -1,6 +1,6 @@
 use Rattle.std.proofs.Common.{◌≡◌, ◌∙◌, sym, subst, ℕ, ◌+◌, ◌-◌, ◌/◌, [], ◌∷◌, ◌++◌, length, take, drop, Option, arith}
 use Rattle.std.specs.Int.{w32, to_be_bytes}
-use Rattle.iso_model.specs.Cells.{block_with, laid_at}
+use Rattle.store_model.specs.Cells.{block_with, laid_at}
 use Rattle.tx_blocks.specs.Tx.{with_accesses}
 use Rattle.iso_tree.specs.FirstBlock.{first_access}
 use Rattle.iso_tree.proofs.Facts.{missing_pair}

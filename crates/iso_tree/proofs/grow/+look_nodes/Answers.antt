@@ -1,5 +1,5 @@
 use Rattle.std.proofs.Common.{◌≡◌, ◌∙◌, sym, refl, ap, subst, ℕ, suc, ◌+◌, ◌*◌, ◌≤◌, [], ◌∷◌, length, rules, arith}
-use Rattle.iso_model.specs.Stores.{look_access}
+use Rattle.store_model.specs.Stores.{look_access}
 use Rattle.tx_blocks.specs.Tx.{Tx}
 use Rattle.tx_blocks.proofs.Refusals.{read_none, read_more}
 use Rattle.iso_tree.proofs.Descending.{reads_after}
@@ -71,7 +71,7 @@ returns-clause-read g t c =
     let here = here_after a.size c.args.i c.look_whole.new.into c.args.nodes.now c.lay.new.into c.look_nodes.new.nodes (c.look_whole.auto.into ∙ c.requires.into) room c.lay.ensures c.look_nodes.ensures.kept in
     map_ok c.look_nodes.result (λ read. λ f.
     rest_read a c.in-Some.block c.in-Some.count c.in-Some.rest.now c.args.path.now c.in-Some.ensures.some f c.look_whole.new.into (state c.args.tx.now) (state c.look_whole.new.tx) c.in_default-look_whole.ensures.bytes
-    (g.met.T.TxBlocks.limits c.look_whole.new.tx).count c.in_default-look_whole.ensures.read (state c.look_nodes.new.tx) c.look_nodes.new.nodes c.args.i here (read (λ nodes. f ((c.in-Some.block, Rattle.iso_model.specs.TreeNodes.used_cells a.size c.look_whole.new.into) ∷ nodes)))) c.look_nodes.ensures.read
+    (g.met.T.TxBlocks.limits c.look_whole.new.tx).count c.in_default-look_whole.ensures.read (state c.look_nodes.new.tx) c.look_nodes.new.nodes c.args.i here (read (λ nodes. f ((c.in-Some.block, Rattle.store_model.specs.TreeNodes.used_cells a.size c.look_whole.new.into) ∷ nodes)))) c.look_nodes.ensures.read
 
 pub returns-clause-refused : goal.returns-clause-refused
 returns-clause-refused g t c =
@@ -79,7 +79,7 @@ returns-clause-refused g t c =
     let a = c.args.area in
     map_err c.look_nodes.result (λ e run. λ f.
     rest_refused a c.in-Some.block c.in-Some.count c.in-Some.rest.now c.args.path.now c.in-Some.ensures.some f c.look_whole.new.into (state c.args.tx.now) (state c.look_whole.new.tx) c.in_default-look_whole.ensures.bytes
-    (g.met.T.TxBlocks.limits c.look_whole.new.tx).count c.in_default-look_whole.ensures.read (state c.look_nodes.new.tx) e (run (λ nodes. f ((c.in-Some.block, Rattle.iso_model.specs.TreeNodes.used_cells a.size c.look_whole.new.into) ∷ nodes)))) c.look_nodes.ensures.refused
+    (g.met.T.TxBlocks.limits c.look_whole.new.tx).count c.in_default-look_whole.ensures.read (state c.look_nodes.new.tx) e (run (λ nodes. f ((c.in-Some.block, Rattle.store_model.specs.TreeNodes.used_cells a.size c.look_whole.new.into) ∷ nodes)))) c.look_nodes.ensures.refused
 
 pub returns-clause-usable : goal.returns-clause-usable
 returns-clause-usable g t c =

@@ -1,9 +1,9 @@
 use Rattle.std.proofs.Common.{◌≡◌, ◌∙◌, sym, subst, ℕ, ◌≤◌, List, take, arith}
-use Rattle.iso_model.specs.Cells.{cell_count, keys_end}
+use Rattle.store_model.specs.Cells.{cell_count, keys_end}
 use Rattle.tx_blocks.specs.Runs.{HasRun}
 use Rattle.tx_blocks.proofs.Parts.{behaves_after}
 use Rattle.iso_tree.specs.Rows.{AreShownUsable}
-use Rattle.iso_model.specs.TreeCalls.{need_of, with_map}
+use Rattle.store_model.specs.TreeCalls.{need_of, with_map}
 use Rattle.iso_tree.proofs.Facts.{cell_used, missing, node_parts}
 use Rattle.iso_tree.proofs.Inserting.{put_refused, put_found, put_room, put_full, leaf_usable, full_needs, behaves_more}
 use Rattle.iso_tree.proofs.insert.put_below.Goals as goal

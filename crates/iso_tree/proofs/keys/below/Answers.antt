@@ -1,6 +1,6 @@
 use Rattle.std.proofs.Common.{◌≡◌, ◌∙◌, ◌-◌, sym, ap, ℕ, List, arith}
-use Rattle.iso_model.specs.Cells.{key_at}
-use Rattle.iso_model.specs.TreeNodes.{before, below_from}
+use Rattle.store_model.specs.Cells.{key_at}
+use Rattle.store_model.specs.TreeNodes.{before, below_from}
 use Rattle.iso_tree.proofs.Loops.{below_ends, below_goes_on}
 use Rattle.iso_tree.proofs.keys.below.Goals as goal
 

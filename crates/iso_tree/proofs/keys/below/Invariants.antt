@@ -1,5 +1,5 @@
 use Rattle.std.proofs.Common.{◌≡◌, ◌+◌, ◌-◌}
-use Rattle.iso_model.specs.TreeNodes.{below_from}
+use Rattle.store_model.specs.TreeNodes.{below_from}
 use Rattle.iso_tree.proofs.keys.below.Given as goal
 
 -- those passed and those that are left

@@ -1,8 +1,8 @@
 use Rattle.std.proofs.Common.{◌≡◌, ◌-◌}
 use Rattle.std.specs.Str.{bytes_eq}
-use Rattle.iso_model.specs.Cells.{key_at}
+use Rattle.store_model.specs.Cells.{key_at}
 use Rattle.iso_model.specs.Conflict.{first_from}
-use Rattle.iso_model.specs.TreeNodes.{cell_of}
+use Rattle.store_model.specs.TreeNodes.{cell_of}
 use Rattle.iso_tree.proofs.keys.cell_of.Given as goal
 
 -- the cells that are left decide

@@ -1,6 +1,6 @@
 use Rattle.std.proofs.Common.{◌≡◌, ◌∙◌, ◌+◌, sym}
-use Rattle.iso_model.specs.Cells.{key_at, all_from}
-use Rattle.iso_model.specs.TreeNodes.{before}
+use Rattle.store_model.specs.Cells.{key_at, all_from}
+use Rattle.store_model.specs.TreeNodes.{before}
 use Rattle.iso_alloc.proofs.Loops.{all_fails, all_goes_on}
 use Rattle.iso_tree.proofs.keys.do_rise.Goals as goal
 

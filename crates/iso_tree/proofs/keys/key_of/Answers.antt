@@ -1,7 +1,7 @@
 use Rattle.std.proofs.Common.{◌≡◌, ap, ◌≤◌, ℕ, true, arith, List, get_or}
 use Rattle.std.proofs.lemmas.Bool.{and_parts, leb-true}
-use Rattle.iso_model.specs.Cells.{is_part, key_mark, cell_count}
-use Rattle.iso_model.specs.Stores.{bytes_in}
+use Rattle.store_model.specs.Cells.{is_part, key_mark, cell_count}
+use Rattle.store_model.specs.Stores.{bytes_in}
 use Rattle.iso_alloc.proofs.Loops.{all_at}
 use Rattle.iso_tree.proofs.keys.key_of.Goals as goal
 

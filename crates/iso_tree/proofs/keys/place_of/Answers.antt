@@ -1,6 +1,6 @@
 use Rattle.std.proofs.Common.{◌≡◌, ◌∙◌, ◌-◌, sym, ap}
-use Rattle.iso_model.specs.Cells.{key_at}
-use Rattle.iso_model.specs.TreeNodes.{before, place_of}
+use Rattle.store_model.specs.Cells.{key_at}
+use Rattle.store_model.specs.TreeNodes.{before, place_of}
 use Rattle.iso_tree.proofs.Loops.{place_ends, place_goes_on}
 use Rattle.iso_tree.proofs.keys.place_of.Goals as goal
 

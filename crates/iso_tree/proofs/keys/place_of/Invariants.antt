@@ -1,5 +1,5 @@
 use Rattle.std.proofs.Common.{◌≡◌, ◌-◌}
-use Rattle.iso_model.specs.TreeNodes.{place_from, place_of}
+use Rattle.store_model.specs.TreeNodes.{place_from, place_of}
 use Rattle.iso_tree.proofs.keys.place_of.Given as goal
 
 -- the cells that are left decide

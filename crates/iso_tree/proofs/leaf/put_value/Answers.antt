@@ -1,9 +1,9 @@
 use Rattle.std.proofs.Common.{ℕ, ◌+◌, ◌*◌, List, [], ◌∷◌, Ok}
-use Rattle.iso_model.specs.Cells.{block_with, keys_end, value_mark, value_part}
-use Rattle.iso_model.specs.Stores.{Done, Store}
+use Rattle.store_model.specs.Cells.{block_with, keys_end, value_mark, value_part}
+use Rattle.store_model.specs.Stores.{Done, Store}
 use Rattle.tx_blocks.proofs.Progress.{at_start}
 use Rattle.tx_blocks.proofs.Refusals.{cut_at_store}
-use Rattle.iso_model.specs.TreeCalls.{Answer}
+use Rattle.store_model.specs.TreeCalls.{Answer}
 use Rattle.iso_tree.proofs.leaf.put_value.Goals as goal
 
 pub returns-in-Err-clause-run : goal.returns-in-Err-clause-run
@@ -11,6 +11,6 @@ returns-in-Err-clause-run g c =
     let state = g.T.TxBlocks.state in
     let a = c.args.area in
     let bytes : List ℕ = block_with a.size (keys_end a.size + 33 * c.args.cell) (value_part c.args.value.now) in
-    let whole : Rattle.iso_model.specs.Stores.Program Answer = Store (a.start + c.args.block) (value_mark a.size c.args.cell ∷ []) bytes (Done (Ok tt)) in
+    let whole : Rattle.store_model.specs.Stores.Program Answer = Store (a.start + c.args.block) (value_mark a.size c.args.cell ∷ []) bytes (Done (Ok tt)) in
     cut_at_store whole (a.start + c.args.block) (value_mark a.size c.args.cell ∷ []) bytes (Done (Ok tt)) (state c.args.tx.now) (state c.args.tx.now) (state c.store.new.tx)
     (g.T.TxBlocks.device c.args.tx.now) (g.T.TxBlocks.device c.store.new.tx) c.in-Err.e (at_start whole (state c.args.tx.now)) c.in-Err.ensures.kept c.in-Err.ensures.cause

@@ -1,5 +1,5 @@
 use Rattle.std.proofs.Common.{◌∙◌, sym, take, arith}
-use Rattle.iso_model.specs.Cells.{keys_end}
+use Rattle.store_model.specs.Cells.{keys_end}
 use Rattle.iso_tree.proofs.Facts.{cell_used, node_parts}
 use Rattle.iso_tree.proofs.Getting.{below_refused, below_missing, below_found, below_broken}
 use Rattle.iso_tree.proofs.lookup.get_below.Goals as goal

@@ -1,5 +1,5 @@
 use Rattle.std.proofs.Common.{Err}
-use Rattle.iso_model.specs.TreeCalls.{get_below}
+use Rattle.store_model.specs.TreeCalls.{get_below}
 use Rattle.iso_tree.proofs.Getting.{head_then, head_refused, get_run}
 use Rattle.iso_tree.proofs.lookup.get_with.Goals as goal
 

@@ -1,6 +1,6 @@
 use Rattle.std.proofs.Common.{◌≡◌, ◌*◌, ◌-◌, ◌≤◌, ◌++◌, drop, map}
-use Rattle.iso_model.specs.TreeCalls.{parts_of}
-use Rattle.iso_model.specs.TreeNodes.{child_of}
+use Rattle.store_model.specs.TreeCalls.{parts_of}
+use Rattle.store_model.specs.TreeNodes.{child_of}
 use Rattle.iso_tree.proofs.range.add_children.Given as goal
 
 -- the last children stand before the nodes that were unread

@@ -1,5 +1,5 @@
 use Rattle.std.proofs.Common.{◌∙◌, sym, subst, ℕ}
-use Rattle.iso_model.specs.TreeCalls.{scan_program}
+use Rattle.store_model.specs.TreeCalls.{scan_program}
 use Rattle.tx_blocks.specs.Runs.{area_of, HasRun}
 use Rattle.iso_tree.proofs.Scanning.{bad_keys, scan_any}
 use Rattle.iso_tree.proofs.range.scan.Goals as goal

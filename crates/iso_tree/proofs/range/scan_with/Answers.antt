@@ -1,5 +1,5 @@
 use Rattle.std.proofs.Common.{Err}
-use Rattle.iso_model.specs.TreeCalls.{scan_below}
+use Rattle.store_model.specs.TreeCalls.{scan_below}
 use Rattle.iso_tree.proofs.Getting.{head_refused, head_then}
 use Rattle.iso_tree.proofs.Scanning.{scan_run}
 use Rattle.iso_tree.proofs.range.scan_with.Goals as goal

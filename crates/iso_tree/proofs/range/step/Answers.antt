@@ -1,8 +1,8 @@
 use Rattle.std.proofs.Common.{◌≡◌, ◌∙◌, ap, ◌+◌, ◌-◌, ◌*◌, ◌++◌, ℕ, length, map, take, drop}
-use Rattle.iso_model.specs.Cells.{are_key_parts}
-use Rattle.iso_model.specs.Stores.{bytes_in}
-use Rattle.iso_model.specs.TreeCalls.{pairs_with, parts_of}
-use Rattle.iso_model.specs.TreeNodes.{child_of}
+use Rattle.store_model.specs.Cells.{are_key_parts}
+use Rattle.store_model.specs.Stores.{bytes_in}
+use Rattle.store_model.specs.TreeCalls.{pairs_with, parts_of}
+use Rattle.store_model.specs.TreeNodes.{child_of}
 use Rattle.iso_tree.specs.Visits.{keys_of, values_mark, values_of}
 use Rattle.iso_tree.proofs.Facts.{node_parts}
 use Rattle.iso_tree.proofs.Rereading.{map_err, map_ok}

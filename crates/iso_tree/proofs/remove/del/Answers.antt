@@ -1,6 +1,6 @@
 use Rattle.std.proofs.Common.{◌∙◌, sym, refl, subst, ℕ}
 use Rattle.tx_blocks.specs.Runs.{area_of, HasRun}
-use Rattle.iso_model.specs.TreeCalls.{del_program}
+use Rattle.store_model.specs.TreeCalls.{del_program}
 use Rattle.iso_tree.proofs.Removing.{del_bad_key, del_call}
 use Rattle.iso_tree.proofs.remove.del.Goals as goal
 

@@ -1,6 +1,6 @@
 use Rattle.std.proofs.Common.{◌∙◌, ap, ℕ, true, Ok, arith}
-use Rattle.iso_model.specs.TreeNodes.{node_bytes, used_cells}
-use Rattle.iso_model.specs.TreeCalls.{without_key}
+use Rattle.store_model.specs.TreeNodes.{node_bytes, used_cells}
+use Rattle.store_model.specs.TreeCalls.{without_key}
 use Rattle.tx_blocks.proofs.Parts.{refused_reading}
 use Rattle.tx_blocks.proofs.Refusals.{read_none, read_same}
 use Rattle.iso_tree.proofs.Removing.{edit_unread, edit_unwritten, edit_done}

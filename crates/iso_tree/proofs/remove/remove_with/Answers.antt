@@ -1,5 +1,5 @@
 use Rattle.std.proofs.Common.{Err}
-use Rattle.iso_model.specs.TreeCalls.{del_below}
+use Rattle.store_model.specs.TreeCalls.{del_below}
 use Rattle.tx_blocks.proofs.Parts.{behaves_after}
 use Rattle.iso_tree.proofs.Getting.{head_then, head_refused}
 use Rattle.iso_tree.proofs.Removing.{del_run}

@@ -1,5 +1,5 @@
 use Rattle.std.proofs.Common.{subst, sym}
-use Rattle.iso_model.specs.declared.script.Op.TheVariants.{Mark}
+use Rattle.script_model.specs.declared.script.Op.TheVariants.{Mark}
 use Rattle.par_lines.specs.Answers.{Answered}
 use Rattle.par_lines.proofs.Marking.{mark_line}
 use Rattle.par_lines.proofs.accesses.mark.Goals as goal

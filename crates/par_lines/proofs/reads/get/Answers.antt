@@ -1,6 +1,6 @@
 use Rattle.std.proofs.Common.{[], ap, drop, subst, sym, take, ◌∙◌}
 use Rattle.std.specs.Prelude.{Ok}
-use Rattle.iso_model.specs.declared.script.Op.TheVariants.{Get}
+use Rattle.script_model.specs.declared.script.Op.TheVariants.{Get}
 use Rattle.iso_model.specs.Marks.{is_outside}
 use Rattle.iso_model.specs.Step.{get_access}
 use Rattle.par_lines.specs.Answers.{Answered}

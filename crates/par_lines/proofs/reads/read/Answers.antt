@@ -1,5 +1,5 @@
 use Rattle.std.proofs.Common.{[], subst, sym}
-use Rattle.iso_model.specs.declared.script.Op.TheVariants.{Read}
+use Rattle.script_model.specs.declared.script.Op.TheVariants.{Read}
 use Rattle.par_lines.specs.Answers.{Answered}
 use Rattle.par_lines.proofs.Fetching.{read_line}
 use Rattle.par_lines.proofs.Writing.{wants}

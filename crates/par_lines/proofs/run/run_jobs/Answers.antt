@@ -1,4 +1,4 @@
-use Rattle.std.proofs.Common.{◌+◌, List, ap, reverse, subst, sym, ◌∙◌}
+use Rattle.std.proofs.Common.{◌+◌, ap, reverse, subst, sym, ◌∙◌}
 use Rattle.std.specs.Prelude.{All}
 use Rattle.iso_shared.specs.Ports.{port_view}
 use Rattle.par_lines.specs.Jobs.{IsNew}

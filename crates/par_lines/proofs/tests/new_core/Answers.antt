@@ -4,11 +4,11 @@ use Rattle.iso_core.specs.Standing.{up}
 use Rattle.iso_memdisk.specs.MemDisk.{state_of}
 use Rattle.iso_model.specs.declared.access.Geometry.{Geometry}
 use Rattle.iso_model.specs.World.{empty_history, fresh}
-use Rattle.iso_shared.proofs.TestDisks.{blank_now}
+use Rattle.iso_memdisk.proofs.Blank.{blank_now}
 use Rattle.par_lines.proofs.tests.new_core.Goals as goal
 
 pub format_image-requires-clause-blank : goal.format_image-requires-clause-blank
-format_image-requires-clause-blank c = blank_now c.new.result c.in_ok-bytes.bytes.items c.new.ensures.stable c.in_ok-bytes.ensures
+format_image-requires-clause-blank c = blank_now 8832 c.new.result c.in_ok-bytes.bytes.items c.new.ensures.stable c.in_ok-bytes.ensures
 
 pub returns-in-Ok : goal.returns-in-Ok
 returns-in-Ok c = subst (λ (g : Geometry). StandsFor state_of c.in-Ok.core (fresh g 1 (empty_history g)) up) c.small.ensures.same c.in-Ok.ensures.stands

@@ -7,4 +7,4 @@ use Rattle.iso_shared.specs.TestImage.{small}
 use Rattle.par_lines.proofs.tests.run.Given as goal
 
 abbrev pub ghosts-run_over : goal.ghosts-run_over
-ghosts-run_over g a = record { start = start_at (fresh small 1 (empty_history small)) (state_of (disk_of a.core)) }
+ghosts-run_over g a = record { start = start_at (fresh small 1 (empty_history small)) (state_of (disk_of a.core)); disk = state_of (disk_of a.core) }

@@ -1,6 +1,6 @@
 use Rattle.std.proofs.Common.{sym, subst}
 use Rattle.std.specs.Prelude.{Ok}
-use Rattle.iso_model.specs.declared.script.Op.TheVariants.{Stat}
+use Rattle.script_model.specs.declared.script.Op.TheVariants.{Stat}
 use Rattle.par_lines.specs.Answers.{Answered}
 use Rattle.par_lines.proofs.Answering.{told_numbers}
 use Rattle.par_lines.proofs.upkeep.stat.Goals as goal

@@ -3,8 +3,8 @@ use Rattle.std.specs.Io.KnownBytes.{append_known}
 use Rattle.iso_io.proofs.Told.{append_known-nil}
 use Rattle.iso_io.specs.Sink.{WroteFront}
 use Rattle.iso_io.specs.declared.sink.PutError.TheVariants.{Failed, TookNothing}
-use Rattle.iso_model.specs.declared.script.Line.{Line}
-use Rattle.iso_model.specs.Script.{replies}
+use Rattle.script_model.specs.declared.script.Line.{Line}
+use Rattle.script_model.specs.Script.{replies}
 use Rattle.script_runner.specs.declared.run_end.RunEnd.TheVariants.{Disk, Memory, Output}
 use Rattle.script_runner.specs.Counts.{SinkFailed}
 use Rattle.script_runner.specs.Told.{IfTold}

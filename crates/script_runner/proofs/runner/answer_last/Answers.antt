@@ -1,5 +1,5 @@
 use Rattle.std.proofs.Common.{◌<◌, ℕ, List, length, subst, sym, ◌∙◌}
-use Rattle.iso_model.specs.Script.{parse}
+use Rattle.script_model.specs.Script.{parse}
 use Rattle.script_text.specs.Parsing.{Gives}
 use Rattle.script_runner.specs.declared.run_end.RunEnd.{RunEnd}
 use Rattle.script_runner.specs.Run.{HasRun}

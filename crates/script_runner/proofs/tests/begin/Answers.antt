@@ -1,5 +1,5 @@
 use Rattle.std.proofs.Common.{None, ◌∙◌, refl, sym, ap}
-use Rattle.iso_model.specs.declared.script.Op.TheVariants.{Begin}
+use Rattle.script_model.specs.declared.script.Op.TheVariants.{Begin}
 use Rattle.script_runner.proofs.Rehearsals.{answers_at, first_begin, no_mode, second_begin}
 use Rattle.script_runner.proofs.tests.begin.Goals as goal
 

@@ -1,5 +1,5 @@
 use Rattle.std.proofs.Common.{◌≡◌, [], ◌∷◌, refl}
-use Rattle.iso_model.specs.declared.script.Op.TheVariants.{Put}
+use Rattle.script_model.specs.declared.script.Op.TheVariants.{Put}
 use Rattle.script_runner.proofs.Rehearsals.{answers_at, one_put, two_bytes}
 use Rattle.script_runner.proofs.tests.put.Goals as goal
 

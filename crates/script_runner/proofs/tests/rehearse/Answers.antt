@@ -1,4 +1,4 @@
-use Rattle.iso_model.specs.declared.script.Op.TheVariants.{End}
+use Rattle.script_model.specs.declared.script.Op.TheVariants.{End}
 use Rattle.script_runner.proofs.Rehearsals.{answers_at, first_end, second_end}
 use Rattle.script_runner.proofs.tests.rehearse.Goals as goal
 

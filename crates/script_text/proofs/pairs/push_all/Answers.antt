@@ -1,5 +1,5 @@
-use Rattle.std.proofs.Common.{◌++◌, Result, Ok, Err, OnErr, flat_map, take}
-use Rattle.iso_model.specs.Text.{pair_text}
+use Rattle.std.proofs.Common.{Result, Ok, Err, OnErr, flat_map, take}
+use Rattle.script_model.specs.Text.{pair_text}
 use Rattle.script_text.proofs.Extending.{on_err}
 use Rattle.script_text.proofs.pairs.push_all.Goals as goal
 

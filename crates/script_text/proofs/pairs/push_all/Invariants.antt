@@ -1,5 +1,5 @@
 use Rattle.std.proofs.Common.{◌≡◌, ◌++◌, take, flat_map}
-use Rattle.iso_model.specs.Text.{pair_text}
+use Rattle.script_model.specs.Text.{pair_text}
 use Rattle.script_text.proofs.pairs.push_all.Given as goal
 
 abbrev pub invariant-loop-pair : goal.invariant-loop-pair

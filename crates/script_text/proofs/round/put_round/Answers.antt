@@ -1,5 +1,5 @@
 use Rattle.std.proofs.Common.{◌≡◌, ◌∙◌, ◌*◌, ap, sym, ℕ, List, [], ◌∷◌, ◌++◌, append_assoc, append-nil, codes, decimal}
-use Rattle.iso_model.specs.Text.{hex_text}
+use Rattle.script_model.specs.Text.{hex_text}
 use Rattle.script_text.specs.Ending.{WithFront}
 use Rattle.script_text.proofs.round.put_round.Goals as goal
 

@@ -2,7 +2,7 @@
 use Rattle.std.proofs.Common.{◌≡◌, ◌∙◌, ◌<◌, arith, Bor, ℕ, List, [], ◌∷◌, ◌++◌, length, take}
 use Rattle.std.proofs.lemmas.Bool.Decides.{nat_tests}
 use Rattle.std.proofs.lemmas.List.{length-set}
-use Rattle.iso_model.specs.Text.{words_of}
+use Rattle.script_model.specs.Text.{words_of}
 use Rattle.script_text.specs.Words.{texts}
 use Rattle.script_text.specs.declared.word.TheConstants.{MOST_WORDS}
 use Rattle.script_text.proofs.FirstItems.{first_grow, first_stay}

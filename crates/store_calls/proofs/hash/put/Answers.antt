@@ -1,10 +1,10 @@
 use Rattle.std.proofs.Common.{sym, subst, Result}
-use Rattle.iso_model.specs.declared.script.Reply.{Reply}
-use Rattle.iso_model.specs.declared.script.Reply.TheVariants as reply
-use Rattle.iso_model.specs.HashCalls.{put_program}
-use Rattle.iso_model.specs.Stores.{outcome}
+use Rattle.script_model.specs.declared.script.Reply.{Reply}
+use Rattle.script_model.specs.declared.script.Reply.TheVariants as reply
+use Rattle.store_model.specs.HashCalls.{put_program}
+use Rattle.store_model.specs.Stores.{outcome}
 use Rattle.tx_blocks.specs.Runs.{area_of}
-use Rattle.script_runner.specs.declared.machine.Stop.{Stop}
+use Rattle.script_model.specs.declared.stop.Stop.{Stop}
 use Rattle.store_calls.specs.Calls.{HasCalled, Stops, replied}
 use Rattle.store_calls.proofs.Called.{called_err, called_ok, stops_err}
 use Rattle.store_calls.proofs.hash.put.Goals as goal

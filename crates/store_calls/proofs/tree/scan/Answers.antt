@@ -1,16 +1,15 @@
-use Rattle.std.proofs.Common.{◌≡◌, [], sym, subst, refl, ap, ◌&&◌, ◌==◌, Bool, true, false, cond, ℕ, List, Result, Ok, Err, eq-eqb, arith}
-use Rattle.iso_model.specs.declared.access.Access.{Access}
-use Rattle.iso_model.specs.declared.script.Reply.{Reply}
-use Rattle.iso_model.specs.declared.script.Reply.TheVariants as reply
-use Rattle.iso_model.specs.declared.stores.Area.{Area}
-use Rattle.iso_model.specs.declared.stores.StoreError.TheVariants.{BadKey}
+use Rattle.std.proofs.Common.{◌≡◌, [], sym, subst, refl, ap, ◌&&◌, ◌==◌, Bool, true, false, cond, ℕ, List, Result, Err, eq-eqb, arith}
+use Rattle.script_model.specs.declared.script.Reply.{Reply}
+use Rattle.script_model.specs.declared.script.Reply.TheVariants as reply
+use Rattle.store_model.specs.declared.stores.Area.{Area}
+use Rattle.store_model.specs.declared.stores.StoreError.TheVariants.{BadKey}
 use Rattle.iso_model.specs.Array.{Array}
-use Rattle.iso_model.specs.HashCalls.{is_key}
-use Rattle.iso_model.specs.Step.{pairs_reply}
-use Rattle.iso_model.specs.Stores.{Done, Program, outcome}
-use Rattle.iso_model.specs.TreeCalls.{Scanned, scan_below, scan_program, with_head}
+use Rattle.store_model.specs.HashCalls.{is_key}
+use Rattle.script_model.specs.Step.{pairs_reply}
+use Rattle.store_model.specs.Stores.{Done, Program, outcome}
+use Rattle.store_model.specs.TreeCalls.{Scanned, scan_below, scan_program, with_head}
 use Rattle.tx_blocks.specs.Runs.{area_of}
-use Rattle.script_runner.specs.declared.machine.Stop.{Stop}
+use Rattle.script_model.specs.declared.stop.Stop.{Stop}
 use Rattle.store_calls.specs.Calls.{HasCalled, replied}
 use Rattle.store_calls.proofs.Called.{called_err, no_more}
 use Rattle.store_calls.proofs.tree.scan.Goals as goal

@@ -1,7 +1,7 @@
-use Rattle.iso_model.specs.HashCalls as hash
-use Rattle.iso_model.specs.HashRegion.{IsHashRegion, hash_map}
-use Rattle.iso_model.specs.TreeCalls as tree
-use Rattle.iso_model.specs.TreeRegion.{IsTreeRegion, tree_map}
+use Rattle.store_model.specs.HashCalls as hash
+use Rattle.store_model.specs.HashRegion.{IsHashRegion, hash_map}
+use Rattle.store_model.specs.TreeCalls as tree
+use Rattle.store_model.specs.TreeRegion.{IsTreeRegion, tree_map}
 use Rattle.store_laws.specs.Calls.{Del, Found, Get, Got, Put, WasPut, WasThere}
 use Rattle.store_laws.specs.Tree.{OnKey, Scan}
 use Rattle.store_laws.proofs.BothCalls.{hash_part, tree_part}

@@ -1,9 +1,9 @@
 use Rattle.std.proofs.Common.{arith, inl}
 use Rattle.iso_model.specs.Array.{zeros}
-use Rattle.iso_model.specs.Step.{hash_area, tree_area}
+use Rattle.store_model.specs.Areas.{hash_area, tree_area}
 use Rattle.iso_model.proofs.Bounds.{limits}
-use Rattle.iso_model.proofs.HashAccesses.{hash_area_is}
-use Rattle.iso_model.proofs.TreeAccesses.{tree_area_is}
+use Rattle.store_model.proofs.HashAccesses.{hash_area_is}
+use Rattle.store_model.proofs.TreeAccesses.{tree_area_is}
 use Rattle.store_laws.proofs.HashBlank as hash
 use Rattle.store_laws.proofs.TreeBlank as tree
 use Rattle.store_laws.proofs.Zeros.{zeros_blank}

@@ -1,4 +1,4 @@
-use Rattle.iso_model.specs.HashRegion.{IsHashRegion, hash_map}
+use Rattle.store_model.specs.HashRegion.{IsHashRegion, hash_map}
 use Rattle.store_laws.specs.Calls.{Del, Get, Got, Put, WasPut, WasThere}
 use Rattle.store_laws.specs.Hash.{hash_store}
 use Rattle.store_laws.proofs.Growth.{called}

@@ -1,4 +1,4 @@
-use Rattle.iso_model.specs.TreeRegion.{IsTreeRegion, tree_map}
+use Rattle.store_model.specs.TreeRegion.{IsTreeRegion, tree_map}
 use Rattle.store_laws.specs.Calls.{Del, Found, Get, Got, Put, WasPut, WasThere}
 use Rattle.store_laws.specs.Tree.{OnKey, Scan, tree_store}
 use Rattle.store_laws.proofs.Growth.{called}

@@ -1,6 +1,6 @@
-use Rattle.iso_model.specs.HashRegion.{IsHashRegion, hash_map}
-use Rattle.iso_model.specs.Step.{hash_area, tree_area}
-use Rattle.iso_model.specs.TreeRegion.{IsTreeRegion, tree_map}
+use Rattle.store_model.specs.HashRegion.{IsHashRegion, hash_map}
+use Rattle.store_model.specs.Areas.{hash_area, tree_area}
+use Rattle.store_model.specs.TreeRegion.{IsTreeRegion, tree_map}
 use Rattle.store_scripts.proofs.Images.{begins_well, if_any_is, none_is_empty}
 use Rattle.store_scripts.proofs.laws.stores_of_an_image_are_its_regions.Goals as goal
 

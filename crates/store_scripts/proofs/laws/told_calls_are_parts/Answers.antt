@@ -1,4 +1,4 @@
-use Rattle.iso_model.specs.Script.{after}
+use Rattle.script_model.specs.Script.{after}
 use Rattle.store_scripts.specs.Told.{no_notes, notes_after}
 use Rattle.store_scripts.proofs.Lines.{noted_after, noted_alone}
 use Rattle.store_scripts.proofs.Order.{told_is}

@@ -1,5 +1,5 @@
 use Rattle.std.proofs.Common.{[], arith}
-use Rattle.iso_model.specs.Stores.{look_access}
+use Rattle.store_model.specs.Stores.{look_access}
 use Rattle.tx_blocks.proofs.Marking.{open_from, may_mark, marked_access}
 use Rattle.tx_blocks.proofs.steps.look.Goals as goal
 

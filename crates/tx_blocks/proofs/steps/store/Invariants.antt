@@ -1,5 +1,5 @@
 use Rattle.std.proofs.Common.{◌≡◌, take, [], ◌∷◌}
-use Rattle.iso_model.specs.Stores.{store_access}
+use Rattle.store_model.specs.Stores.{store_access}
 use Rattle.tx_blocks.specs.Tx.{with_accesses}
 use Rattle.tx_blocks.proofs.steps.store.Given as goal
 

@@ -1,10 +1,9 @@
 -- The next version is laid over what is there.
-use Rattle.std.proofs.Common.{◌≡◌, ◌∙◌, sym, ◌-◌, ◌+◌, ℕ, List, length, take, get_or, arith, subst}
+use Rattle.std.proofs.Common.{◌≡◌, ◌∙◌, sym, ◌-◌, ◌+◌, List, take, arith, subst}
 use Rattle.std.proofs.lemmas.List.{take_all}
 use Rattle.iso_disk.proofs.Images.{length-contents}
-use Rattle.iso_disk.proofs.Moments.{joined_unwritten, starts_unwritten}
+use Rattle.iso_disk.proofs.Moments.{joined_unwritten}
 use Rattle.mv_index.specs.declared.version.Version.{Version}
-use Rattle.mv_index.specs.Versions.{no_version}
 use Rattle.version_read.specs.Blocks.{IsLaid}
 use Rattle.version_read.proofs.Layings.{laid_more}
 use Rattle.version_read.proofs.block.lay_over.Goals as goal

@@ -1,6 +1,6 @@
 use Rattle.std.proofs.Common.{ap, sym, subst, Bool, ℕ, Some, ◌≡◌, ◌∙◌}
-use Rattle.iso_model.specs.declared.script.BadLine.{BadLine}
-use Rattle.iso_model.specs.Script.{last_piece}
+use Rattle.script_model.specs.declared.script.BadLine.{BadLine}
+use Rattle.script_model.specs.Script.{last_piece}
 use Rattle.whole_script.proofs.LastPieces.{cut_bad}
 use Rattle.whole_script.proofs.lines.add_last.Goals as goal
 

@@ -1,8 +1,8 @@
 -- What is kept are the notes above the floor.
-use Rattle.std.proofs.Common.{◌≡◌, ◌∙◌, List, ap, sym, subst, nat_lt, rules}
+use Rattle.std.proofs.Common.{◌≡◌, ◌∙◌, ◌<◌, List, ap, arith, length, sym, subst, nat_lt, rules}
 use Rattle.std.proofs.lemmas.Fn.{filter_same}
 use Rattle.conflict_rule.specs.Notes.{Held, Note, above, RisesFrom}
-use Rattle.conflict_rule.proofs.Numbers.{rises_above}
+use Rattle.conflict_rule.proofs.Numbers.{above_from, rises_above}
 use Rattle.conflict_rule.proofs.notes.Notes.drop_to.Goals as goal
 
 pub invariant_of-self : goal.invariant_of-self
@@ -11,8 +11,19 @@ invariant_of-self c =
     filter_same _ (λ (note : Note). nat_lt c.args.floor note.0) _ (λ x b q h. (search rules, search rules)) _ _ c.retain.ensures.filtered in
     subst (λ (l : List Note). RisesFrom 0 l) (sym kept) (rises_above 0 c.args.floor c.self.inside.notes.items c.self.invariant)
 
-pub returns : goal.returns
-returns c =
+pub returns-then-place_after-gt0 : goal.returns-then-place_after-gt0
+returns-then-place_after-gt0 c =
     let kept : c.retain.new.self.items ≡ above c.args.floor c.self.inside.notes.items =
     filter_same _ (λ (note : Note). nat_lt c.args.floor note.0) _ (λ x b q h. (search rules, search rules)) _ _ c.retain.ensures.filtered in
     record { notes = kept ∙ ap (above c.args.floor) (ap (λ (h : Held). h.notes) c.self.view_is) }
+
+pub returns-else-place_after-gt0 : goal.returns-else-place_after-gt0
+returns-else-place_after-gt0 c =
+    let xs = c.self.inside.notes.items in
+    let same : c.as_slice.result.now ≡ xs = c.as_slice.ensures.value in
+    let e : xs ≡ c.args.self.now.notes = ap (λ (h : Held). h.notes) c.self.view_is in
+    let from : xs ≡ above c.args.floor xs =
+    above_from 0 c.args.floor 0 xs c.self.invariant (omega arith)
+    (λ k lt d. omega arith)
+    (λ k le lt d. (let below : k < length c.as_slice.result.now = omega (arith, ap (length {A = Note}) same) in let h = c.place_after.ensures.after k (omega arith) below d in rw same at h)) in
+    record { notes = sym e ∙ from ∙ ap (above c.args.floor) e }

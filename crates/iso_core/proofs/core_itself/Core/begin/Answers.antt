@@ -1,4 +1,4 @@
-use Rattle.std.proofs.Common.{◌≡◌, ◌+◌, ◌++◌, ◌∷◌, []}
+use Rattle.std.proofs.Common.{◌+◌, ◌++◌, ◌∷◌, []}
 use Rattle.iso_model.specs.Step.{mode_named}
 use Rattle.iso_core.proofs.Begins.{begun}
 use Rattle.iso_core.proofs.Standings.{if_ok, stands_on}

@@ -1,13 +1,13 @@
-use Rattle.std.proofs.Common.{◌≡◌, ◌≢◌, ◌⊎◌, ap, subst, ℕ, IfOk, IfErr}
+use Rattle.std.proofs.Common.{◌≡◌, ◌⊎◌, ap, subst, ℕ, IfOk, IfErr}
 use Rattle.iso_model.specs.declared.access.Geometry.{Geometry}
 use Rattle.iso_model.specs.declared.core_error.CoreError.TheVariants.{Disk}
-use Rattle.iso_model.specs.declared.script.Reply.{Reply}
+use Rattle.iso_model.specs.declared.core_reply.CoreReply.{CoreReply}
 use Rattle.iso_model.specs.Step.{after_switch, switch_step}
 use Rattle.iso_model.specs.World.{floor}
 use Rattle.iso_core.specs.Calls.{Refuses}
 use Rattle.iso_core.specs.Core.{AreOf}
-use Rattle.iso_core.specs.Standing.{Standing, up, down, is_down}
-use Rattle.iso_core.proofs.Plans.{own_form, second_form}
+use Rattle.iso_core.specs.Standing.{up}
+use Rattle.iso_core.proofs.Plans.{own_form}
 use Rattle.iso_core.proofs.Standings.{up_of}
 use Rattle.iso_core.proofs.core_itself.Core.compact.Goals as goal
 
@@ -20,7 +20,7 @@ switch_half-requires g c =
 pub returns-clause-switched : goal.returns-clause-switched
 returns-clause-switched g c W of =
     let same = ap (λ (h : Geometry). h.form) of.kept_of.keeps.geometry in
-    subst (λ (n : ℕ). IfOk c.switch_half.result (λ m. (m ≡ floor W) × ((answer : Reply) → switch_step W n answer ≡ (answer, after_switch W n))
+    subst (λ (n : ℕ). IfOk c.switch_half.result (λ m. (m ≡ floor W) × ((answer : CoreReply) → switch_step W n answer ≡ (answer, after_switch W n))
     × AreOf (g.D.Disk.state c.switch_half.new.disk) c.switch_half.new.kept (after_switch W n) up)) same
     (c.switch_half.ensures.switched W of (own_form W c.args.self.now.kept.geometry.form of.kept_of.world same))
 

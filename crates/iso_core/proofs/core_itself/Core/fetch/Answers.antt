@@ -1,4 +1,3 @@
-use Rattle.std.proofs.Common.{◌≡◌}
 use Rattle.iso_core.proofs.Standings.{stands_still}
 use Rattle.iso_core.proofs.core_itself.Core.fetch.Goals as goal
 

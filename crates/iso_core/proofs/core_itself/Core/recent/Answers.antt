@@ -1,4 +1,4 @@
-use Rattle.std.proofs.Common.{◌≡◌, ◌∙◌, refl, sym, ap, subst, ℕ, ◌+◌, ◌<◌, ◌≤◌, List, arith}
+use Rattle.std.proofs.Common.{◌∙◌, refl, sym, subst, ◌≤◌, List, arith}
 use Rattle.conflict_rule.specs.Decision.{AreNotesAfter}
 use Rattle.conflict_rule.specs.Notes.{Note}
 use Rattle.conflict_rule.proofs.Following.{dropped_after}

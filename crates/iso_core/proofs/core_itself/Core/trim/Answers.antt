@@ -1,4 +1,4 @@
-use Rattle.std.proofs.Common.{◌≡◌, Ok, ap}
+use Rattle.std.proofs.Common.{Ok}
 use Rattle.iso_model.specs.World.{floor}
 use Rattle.iso_core.specs.Standing.{up}
 use Rattle.iso_core.proofs.Standings.{stands_on}

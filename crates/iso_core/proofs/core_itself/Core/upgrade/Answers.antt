@@ -1,13 +1,4 @@
-use Rattle.std.proofs.Common.{◌≡◌, ◌≢◌, ◌⊎◌, ap, subst, ℕ, IfOk, IfErr}
-use Rattle.iso_model.specs.declared.access.Geometry.{Geometry}
-use Rattle.iso_model.specs.declared.core_error.CoreError.TheVariants.{Disk}
-use Rattle.iso_model.specs.declared.script.Reply.{Reply}
-use Rattle.iso_model.specs.Step.{after_switch, switch_step}
-use Rattle.iso_model.specs.World.{floor}
-use Rattle.iso_core.specs.Calls.{Refuses}
-use Rattle.iso_core.specs.Core.{AreOf}
-use Rattle.iso_core.specs.Standing.{Standing, up, down, is_down}
-use Rattle.iso_core.proofs.Plans.{own_form, second_form}
+use Rattle.iso_core.proofs.Plans.{second_form}
 use Rattle.iso_core.proofs.Standings.{up_of}
 use Rattle.iso_core.proofs.core_itself.Core.upgrade.Goals as goal
 

@@ -1,7 +1,8 @@
 use Rattle.std.proofs.Common.{◌≡◌, sym, refl, ap, subst, ℕ, List, Option, Some, None, Ok, ◌<◌, length, get_or}
-use Rattle.iso_model.specs.declared.script.Op.TheVariants as op
-use Rattle.iso_model.specs.declared.script.Reply.TheVariants as reply
-use Rattle.iso_model.specs.Step.{after_leaving, in_transaction, step}
+use Rattle.script_model.specs.declared.script.Op.TheVariants as op
+use Rattle.script_model.specs.declared.script.Reply.TheVariants as reply
+use Rattle.iso_model.specs.Step.{after_leaving}
+use Rattle.script_model.specs.Step.{in_transaction, step}
 use Rattle.iso_model.specs.World.{World, Live, attached}
 use Rattle.iso_core.specs.Calls.{IsTx}
 use Rattle.iso_core.specs.Core.{disk_of}

@@ -1,10 +1,10 @@
 use Rattle.std.proofs.Common.{◌≡◌, ◌∙◌, ◌⊎◌, inl, inr, sym, refl, ap, subst, ℕ, List, Ok}
-use Rattle.iso_model.specs.declared.script.Op.{Op}
-use Rattle.iso_model.specs.declared.script.Op.TheVariants as op
-use Rattle.iso_model.specs.declared.script.Reply.{Reply}
-use Rattle.iso_model.specs.Step.{hash_delete_step, hash_get_step, hash_put_step, in_transaction, numbers, step, store_step, tree_put_step, tree_get_step, tree_delete_step, tree_scan_step}
+use Rattle.script_model.specs.declared.script.Op.{Op}
+use Rattle.script_model.specs.declared.script.Op.TheVariants as op
+use Rattle.script_model.specs.declared.script.Reply.{Reply}
+use Rattle.script_model.specs.Step.{hash_delete_step, hash_get_step, hash_put_step, in_transaction, numbers, step, store_step, tree_put_step, tree_get_step, tree_delete_step, tree_scan_step}
 use Rattle.iso_model.specs.World.{World, attached}
-use Rattle.iso_model.specs.Worlds.{IsOp}
+use Rattle.script_model.specs.Operations.{IsOp}
 use Rattle.iso_core.specs.Core.{disk_of}
 use Rattle.iso_machine.specs.Accessing.{act_step}
 use Rattle.iso_machine.specs.Answering.{Answers, AnswersTold}

@@ -1,20 +1,24 @@
 use Rattle.std.proofs.Common.{◌≡◌, ◌∙◌, sym, ap, subst, List, [], ◌∷◌, ◌++◌, Some, None, Ok, Result, get_or, IsTrue}
 use Rattle.iso_model.specs.declared.access.Geometry.{Geometry}
-use Rattle.iso_model.specs.declared.script.Op.TheVariants as op
-use Rattle.iso_model.specs.declared.script.Reply.{Reply}
-use Rattle.iso_model.specs.declared.script.Reply.TheVariants as reply
+use Rattle.iso_model.specs.declared.core_reply.CoreReply.{CoreReply}
+use Rattle.iso_model.specs.declared.core_reply.CoreReply.TheVariants as core
+use Rattle.script_model.specs.declared.script.Op.TheVariants as op
+use Rattle.script_model.specs.declared.script.Reply.{Reply}
+use Rattle.script_model.specs.declared.script.Reply.TheVariants as reply
 use Rattle.iso_model.specs.Geometry.{is_block_size}
 use Rattle.iso_model.specs.History.{last}
-use Rattle.iso_model.specs.Step.{after_begin, begin_step, mode_named, step}
+use Rattle.iso_model.specs.Step.{after_begin, begin_step, mode_named}
+use Rattle.script_model.specs.CoreReplies.{as_step}
+use Rattle.script_model.specs.Step.{step}
 use Rattle.iso_model.specs.World.{World, client, unattached}
 use Rattle.iso_model.specs.Worlds.{IsWorld}
-use Rattle.iso_model.proofs.Worlds.{step_leads}
+use Rattle.script_model.proofs.Steps.{step_leads}
 use Rattle.iso_core.specs.declared.core_itself.Core.{Core}
 use Rattle.iso_core.specs.Calls.{Refuses}
 use Rattle.iso_core.specs.Core.{disk_of}
 use Rattle.iso_core.specs.Standing.{up}
 use Rattle.tx_table.specs.Work.{Doing}
-use Rattle.script_runner.specs.declared.machine.Stop.{Stop}
+use Rattle.script_model.specs.declared.stop.Stop.{Stop}
 use Rattle.iso_machine.specs.declared.attached.Attached.{Attached}
 use Rattle.iso_machine.specs.declared.attached.Spot.TheVariants as spot
 use Rattle.iso_machine.specs.Answering.{Answers, answer_to}
@@ -58,12 +62,12 @@ returns-in-Err-begin g c W of =
     let live = c.reserve.new.self.items in
     let mode = mode_named W c.args.mode in
     let e = c.in-Err-begin.error in
-    let says : step W c.args.client (op.Begin c.args.mode) ≡ begin_step W (client c.args.client) mode =
+    let says : step W c.args.client (op.Begin c.args.mode) ≡ as_step (begin_step W (client c.args.client) mode) =
     begin_is W c.args.client c.args.mode None (attached_none state m.core m.core m.live.items W of c.args.client c.deref.result.now c.deref.ensures.value c.in_default.ensures) in
     let still : AreOf state m.core live W = subst (λ (l : List Attached). AreOf state m.core l W) (sym c.reserve.ensures.items) of in
     let refuses : Refuses (begin_step W (client c.args.client) mode).0 e =
-    subst (λ (r : Reply). Refuses r e) (begins_alike W unattached (client c.args.client) mode) (c.in-Err-begin.ensures.refused W of.core_of) in
-    let answer : Answers (AreOf state m.core live) (state (disk_of m.core)) (state (disk_of m.core)) W (begin_step W (client c.args.client) mode) (answer_to e) =
+    subst (λ (r : CoreReply). Refuses r e) (begins_alike W unattached (client c.args.client) mode) (c.in-Err-begin.ensures.refused W of.core_of) in
+    let answer : Answers (AreOf state m.core live) (state (disk_of m.core)) (state (disk_of m.core)) W (as_step (begin_step W (client c.args.client) mode)) (answer_to e) =
     refused_still (AreOf state m.core live) (state (disk_of m.core)) (g.met.D.Disk.lawful (disk_of m.core)) W (shows state m.core W of.core_of)
     (begin_step W (client c.args.client) mode) e refuses (begin_keeps W (client c.args.client) mode) still in
     subst (λ (r : Result Reply Stop). Answers (AreOf state c.begin.new.self live) (state (disk_of m.core)) (state (disk_of c.begin.new.self)) W (step W c.args.client (op.Begin c.args.mode)) r) (sym c.refused.ensures)
@@ -86,10 +90,10 @@ returns g c W of =
     let b : Attached = record { tx = c.in-Ok-begin.begun.tx; spot = spot.Client c.args.client; work = record c.in-Ok.work { value = c.restart.new.self } } in
     let is = c.in-Ok-begin.ensures.begun W of.core_of in
     let geometry : c.geometry-geometry.result ≡ W.geometry = c.geometry-geometry.ensures W up of.core_of in
-    let began : (begin_step W place mode).0 ≡ reply.Began at = begins_alike W place unattached mode ∙ is.2 in
+    let began : (begin_step W place mode).0 ≡ core.Began at = begins_alike W place unattached mode ∙ is.2 in
     let says : step W c.args.client (op.Begin c.args.mode) ≡ (reply.Began at, after_begin W place mode) =
     begin_is W c.args.client c.args.mode None (attached_none state m.core m.core m.live.items W of c.args.client c.deref.result.now c.deref.ensures.value c.in_default.ensures)
-    ∙ has_begun W place mode at began in
+    ∙ ap as_step (has_begun W place mode at began) in
     let world : IsWorld (after_begin W place mode) =
     subst (λ (given : Reply × World). IsWorld given.1) says (step_leads W c.args.client (op.Begin c.args.mode) of.core_of.kept_of.world tt).world in
     let begin : c.restart.new.self.begin ≡ last W.history = ap (λ (w : Doing). w.begin) c.restart.ensures ∙ began_at W place mode at began in

@@ -1,12 +1,15 @@
 use Rattle.std.proofs.Common.{◌≡◌, ◌∙◌, inl, sym, ap, subst, Result, Ok}
 use Rattle.iso_disk.proofs.Moments.{weakened}
-use Rattle.iso_model.specs.declared.script.Op.TheVariants as op
-use Rattle.iso_model.specs.declared.script.Reply.{Reply}
-use Rattle.iso_model.specs.declared.script.Reply.TheVariants as reply
-use Rattle.iso_model.specs.Step.{after_switch, step}
+use Rattle.script_model.specs.declared.script.Op.TheVariants as op
+use Rattle.script_model.specs.declared.script.Reply.{Reply}
+use Rattle.script_model.specs.declared.script.Reply.TheVariants as reply
+use Rattle.iso_model.specs.declared.core_reply.CoreReply.TheVariants as core
+use Rattle.iso_model.specs.Step.{after_switch}
+use Rattle.script_model.specs.CoreReplies.{as_step}
+use Rattle.script_model.specs.Step.{step}
 use Rattle.iso_model.specs.World.{World, floor}
 use Rattle.iso_core.specs.Core.{disk_of}
-use Rattle.script_runner.specs.declared.machine.Stop.{Stop}
+use Rattle.script_model.specs.declared.stop.Stop.{Stop}
 use Rattle.iso_machine.specs.Answering.{Answers, answer_to}
 use Rattle.iso_machine.specs.Standing.{AreOf}
 use Rattle.iso_machine.proofs.Quiet.{answered}
@@ -19,7 +22,7 @@ returns-in-Ok g c W of =
     let state = g.D.Disk.state in
     let new = c.compact.new.self in
     let is = c.in-Ok.ensures.switched W of.core_of in
-    let says : step W 1 op.Compact ≡ (reply.Compacted (floor W), after_switch W (W.geometry.form)) = compact_is W 1 ∙ is.1 (reply.Compacted (floor W)) in
+    let says : step W 1 op.Compact ≡ (reply.Compacted (floor W), after_switch W (W.geometry.form)) = compact_is W 1 ∙ ap as_step (is.1 (core.Compacted (floor W))) in
     subst (λ (given : Reply × World). Answers (AreOf state new m.live.items) (state (disk_of m.core)) (state (disk_of new)) W given (Ok (reply.Compacted c.in-Ok.floor))) (sym says)
     (answered (AreOf state new m.live.items) (state (disk_of m.core)) (state (disk_of new)) W (reply.Compacted (floor W), after_switch W (W.geometry.form)) (reply.Compacted c.in-Ok.floor) c.in-Ok.floor
     (ap reply.Compacted is.0) c.in-Ok.ensures.told (switched state m.core new m.live.items W (W.geometry.form) of is.2)
@@ -31,7 +34,7 @@ returns-in-Err g c W of =
     let state = g.D.Disk.state in
     let new = c.compact.new.self in
     let f = c.in-Err.ensures in
-    let answer = switch_refused state m.core new m.live.items W (W.geometry.form) (reply.Compacted (floor W)) c.in-Err.error of (λ none. none) (f.refused W (reply.Compacted (floor W)) of.core_of) (f.same W of.core_of)
+    let answer = switch_refused state m.core new m.live.items W (W.geometry.form) (core.Compacted (floor W)) c.in-Err.error of (λ none. none) (f.refused W (core.Compacted (floor W)) of.core_of) (f.same W of.core_of)
     f.worn (f.moments W of.core_of) f.cause in
     subst (λ (r : Result Reply Stop). Answers (AreOf state new m.live.items) (state (disk_of m.core)) (state (disk_of new)) W (step W 1 op.Compact) r) (sym c.refused.ensures)
     (subst (λ (given : Reply × World). Answers (AreOf state new m.live.items) (state (disk_of m.core)) (state (disk_of new)) W given (answer_to c.in-Err.error)) (sym (compact_is W 1)) answer)

@@ -1,14 +1,16 @@
-use Rattle.std.proofs.Common.{◌≡◌, ◌∙◌, sym, subst, ◌<◌, List, Some, None, Ok, Result, IsSome, length, get_or, set}
+use Rattle.std.proofs.Common.{◌≡◌, ◌∙◌, sym, ap, subst, ◌<◌, List, Some, None, Ok, Result, IsSome, length, get_or, set}
 use Rattle.std.specs.List.{remove}
-use Rattle.iso_model.specs.declared.script.Op.TheVariants as op
-use Rattle.iso_model.specs.declared.script.Reply.{Reply}
-use Rattle.iso_model.specs.declared.script.Reply.TheVariants as reply
-use Rattle.iso_model.specs.Step.{end_step, step}
+use Rattle.script_model.specs.declared.script.Op.TheVariants as op
+use Rattle.script_model.specs.declared.script.Reply.{Reply}
+use Rattle.script_model.specs.declared.script.Reply.TheVariants as reply
+use Rattle.script_model.specs.CoreReplies.{as_reply, as_step}
+use Rattle.iso_model.specs.Step.{end_step}
+use Rattle.script_model.specs.Step.{step}
 use Rattle.iso_model.specs.World.{World}
 use Rattle.iso_core.specs.Calls.{IsTx, IsWorkOf}
 use Rattle.iso_core.specs.Core.{disk_of}
 use Rattle.tx_table.specs.Work.{Doing}
-use Rattle.script_runner.specs.declared.machine.Stop.{Stop}
+use Rattle.script_model.specs.declared.stop.Stop.{Stop}
 use Rattle.iso_machine.specs.declared.attached.Attached.{Attached}
 use Rattle.iso_machine.specs.Accessing.{IsActive}
 use Rattle.iso_machine.specs.Answering.{Answers, answer_to}
@@ -64,9 +66,9 @@ returns-in-Err g c W of =
     let active : IsActive W (live_of a) w = subst (λ (v : Doing). IsActive W (live_of a) v) (sym c.deref_mut.ensures.value)
     (subst (λ (b : Attached). IsActive W (live_of a) b.work.value) (sym same) (is_active state m.core m.core m.live.items W of i d inside)) in
     let items : List Attached = set m.live.items i (record d { work = record d.work { value = work } }) in
-    let says : step W c.args.client op.End ≡ end_step W (live_of a) =
+    let says : step W c.args.client op.End ≡ as_step (end_step W (live_of a)) =
     end_is W c.args.client (Some (live_of a)) (attached_some state m.core m.core m.live.items W of c.args.client c.deref.result.now i d c.deref.ensures.value (c.in-Some.ensures.1 d)) in
-    let answer : Answers (AreOf state new items) (state (disk_of m.core)) (state (disk_of new)) W (end_step W (live_of a)) (answer_to e) =
+    let answer : Answers (AreOf state new items) (state (disk_of m.core)) (state (disk_of new)) W (as_step (end_step W (live_of a))) (answer_to e) =
     refused (AreOf state new items) (state (disk_of m.core)) (state (disk_of new)) W (end_step W (live_of a)) e (record {
       is = c.in-Err.ensures.refused W (live_of a) of.core_of tx does;
       keeps = end_keeps W (live_of a);
@@ -98,10 +100,10 @@ returns g c W of =
     let V : World = (end_step W (live_of a)).1 in
     let is = c.in-Ok.ensures.ended W (live_of a) of.core_of tx does in
     let gone = has_gone W (live_of a) c.in-Ok.reply is.0 in
-    let says : step W c.args.client op.End ≡ end_step W (live_of a) =
+    let says : step W c.args.client op.End ≡ as_step (end_step W (live_of a)) =
     end_is W c.args.client (Some (live_of a)) (attached_some state m.core m.core m.live.items W of c.args.client c.deref.result.now i d c.deref.ensures.value (c.in-Some.ensures.1 d)) in
     let items_are : items ≡ remove m.live.items i = c.remove-gone.ensures.items ∙ remove_set m.live.items i (record d { work = record d.work { value = c.end_whole.new.work } }) in
     let after : AreOf state new items V = subst (λ (l : List Attached). AreOf state new l V) (sym items_are) (left state m.core new m.live.items W of i d inside V gone.live gone.geometry is.1) in
     subst (λ (given : Reply × World). Answers (AreOf state new items) (state (disk_of m.core)) (state (disk_of new)) W given (Ok c.ended.result)) (sym says)
-    (answered (AreOf state new items) (state (disk_of m.core)) (state (disk_of new)) W (end_step W (live_of a)) c.ended.result c.in-Ok.reply (c.ended.ensures ∙ sym is.0) c.in-Ok.ensures.told after
+    (answered (AreOf state new items) (state (disk_of m.core)) (state (disk_of new)) W (as_step (end_step W (live_of a))) c.ended.result c.in-Ok.reply (c.ended.ensures ∙ ap as_reply (sym is.0)) c.in-Ok.ensures.told after
     (c.in-Ok.ensures.moments W (live_of a) of.core_of tx does) c.in-Ok.ensures.cause)

@@ -1,11 +1,12 @@
 use Rattle.std.proofs.Common.{◌≡◌, sym, refl, subst, ◌<◌, List, Some, None, Ok, length, get_or, set}
-use Rattle.iso_model.specs.declared.script.Op.TheVariants as op
-use Rattle.iso_model.specs.declared.script.Reply.{Reply}
-use Rattle.iso_model.specs.declared.script.Reply.TheVariants as reply
-use Rattle.iso_model.specs.Step.{placed, step}
+use Rattle.script_model.specs.declared.script.Op.TheVariants as op
+use Rattle.script_model.specs.declared.script.Reply.{Reply}
+use Rattle.script_model.specs.declared.script.Reply.TheVariants as reply
+use Rattle.iso_model.specs.Step.{placed}
+use Rattle.script_model.specs.Step.{step}
 use Rattle.iso_model.specs.World.{World, held, label}
 use Rattle.iso_model.specs.Worlds.{IsWorld}
-use Rattle.iso_model.proofs.Worlds.{step_leads}
+use Rattle.script_model.proofs.Steps.{step_leads}
 use Rattle.iso_core.specs.Core.{disk_of}
 use Rattle.iso_machine.specs.declared.attached.Attached.{Attached}
 use Rattle.iso_machine.specs.declared.attached.Spot.TheVariants as spot

@@ -1,6 +1,6 @@
 use Rattle.std.proofs.Common.{ap}
-use Rattle.iso_model.specs.declared.script.Reply.TheVariants as reply
-use Rattle.iso_model.specs.Step.{numbers}
+use Rattle.script_model.specs.declared.script.Reply.TheVariants as reply
+use Rattle.script_model.specs.Step.{numbers}
 use Rattle.iso_core.specs.declared.answers.Stat.{Stat}
 use Rattle.iso_core.specs.Standing.{up}
 use Rattle.iso_machine.proofs.machine.Machine.stat.Goals as goal

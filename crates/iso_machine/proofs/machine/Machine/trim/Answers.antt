@@ -1,7 +1,8 @@
 use Rattle.std.proofs.Common.{◌≡◌, ◌∙◌, sym, refl, ap, subst, ℕ, Ok}
-use Rattle.iso_model.specs.declared.script.Op.TheVariants as op
-use Rattle.iso_model.specs.declared.script.Reply.TheVariants as reply
-use Rattle.iso_model.specs.Step.{after_trim, step}
+use Rattle.script_model.specs.declared.script.Op.TheVariants as op
+use Rattle.script_model.specs.declared.script.Reply.TheVariants as reply
+use Rattle.iso_model.specs.Step.{after_trim}
+use Rattle.script_model.specs.Step.{step}
 use Rattle.iso_model.specs.World.{World, floor}
 use Rattle.iso_core.specs.Core.{disk_of}
 use Rattle.iso_machine.specs.Answering.{Answers}

@@ -1,4 +1,4 @@
-use Rattle.std.proofs.Common.{ap, arith}
+use Rattle.std.proofs.Common.{◌∙◌, ap, arith}
 use Rattle.iso_memdisk.specs.declared.failures.Failures.{Failures}
 use Rattle.iso_memdisk.specs.declared.record.Call.TheVariants.{Sync}
 use Rattle.iso_memdisk.specs.MemDisk.{Appends}
@@ -15,7 +15,7 @@ pub returns-in-Ok-clause-crash : goal.returns-in-Ok-clause-crash
 returns-in-Ok-clause-crash c =
     let done = c.in-Ok.ensures.ok in
     let more : Appends c.args.self.now c.try_sync.new.self Sync = record { first = done.first; history = done.history } in
-    elapses_sync more c.try_sync.ensures.name
+    elapses_sync more c.try_sync.ensures.name (ap (λ (f : Failures). f.binds) c.try_sync.ensures.failures ∙ ap (λ (f : Failures). f.binds) c.count_call.ensures.counted)
 
 pub returns-in-Err-clause-cause : goal.returns-in-Err-clause-cause
 returns-in-Err-clause-cause c =

@@ -1,4 +1,4 @@
-use Rattle.std.proofs.Common.{[], ap, refl, ◌∙◌}
+use Rattle.std.proofs.Common.{inl, [], ap, refl, ◌∙◌}
 use Rattle.turn_lock.proofs.Prefixes.{prefix_trans}
 use Rattle.iso_shared.specs.declared.entry.Entry.TheVariants.{Abort}
 use Rattle.iso_shared.specs.Standing.{standing_of}
@@ -31,7 +31,7 @@ give-requires-clause-value g c =
     let held = held_same n _ _ (c.take-turn.ensures.same.1 ∙ c.tell.ensures.same.1) c.requires.tx.1.held in
     let S = state_at A c.take-turn.new.pass.me.0.seen in
     stands_call d A _ _ _ _ _ (Abort n) (Abort n) c.take-turn.new.pass.me.0.holds c.take-turn.ensures.value (ap (λ v. v.rack) c.value-guarded.ensures.value) c.take-turn.ensures.out
-    (tt, (held, tt)) refl (from_lent d A _ c.value-guarded.result.now.core c.abort.new.self (ap (λ v. v.core) c.value-guarded.ensures.value) (ap (λ x. (d x).bound) c.abort.ensures.disk))
+    (tt, (held, tt)) refl (from_lent d A c.take-turn.new.pass.me.0.seen (Abort n) _ c.value-guarded.result.now.core c.abort.new.self (ap (λ v. v.core) c.value-guarded.ensures.value) (inl c.abort.ensures.disk))
     (did_abort d S c.value-guarded.result.now.core c.abort.new.self n (core_at d A _ _ _ _ c.take-turn.ensures.value (ap (λ v. v.core) c.value-guarded.ensures.value))
     (held_live d A _ _ _ _ c.take-turn.ensures.value c.take-turn.ensures.out n held) c.abort.ensures.left c.abort.ensures.disk)
     (λ T. refl)

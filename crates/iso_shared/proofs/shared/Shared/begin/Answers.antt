@@ -1,4 +1,4 @@
-use Rattle.std.proofs.Common.{◌≡◌, [], ◌∷◌, ◌++◌, ap, refl, sym, subst, arith, ◌∙◌, rules, None, ℕ, IsTrue}
+use Rattle.std.proofs.Common.{inl, ◌≡◌, [], ◌∷◌, ◌++◌, ap, refl, sym, subst, arith, ◌∙◌, rules, None, ℕ, IsTrue}
 use Rattle.std.specs.Prelude.{unwrap_or}
 use Rattle.iso_model.specs.declared.access.Mode.{Mode}
 use Rattle.iso_model.specs.Geometry.{is_block_size}
@@ -34,7 +34,7 @@ give-requires-clause-value g c =
     c.take-turn.new.pass.me.0.holds c.take-turn.ensures.value (ap (λ v. v.rack) c.value-guarded.ensures.value) c.take-turn.ensures.out
     (entry_may shot (faults_of d new) (call.Begin c.args.named) (λ t. entry.Begin t.tx t.at t.mode) _ (λ x. (tt, tt)) tt r)
     refl
-    (from_lent d A _ lent new (ap (λ v. v.core) c.value-guarded.ensures.value) (ap (λ x. (d x).bound) c.begin-result.ensures.disk))
+    (from_lent d A c.take-turn.new.pass.me.0.seen (begin_entry shot (faults_of d new) c.args.named r) _ lent new (ap (λ v. v.core) c.value-guarded.ensures.value) (inl c.begin-result.ensures.disk))
     (did_begin d S lent new shot (faults_of d new) c.args.named r (core_at d A _ _ _ _ c.take-turn.ensures.value (ap (λ v. v.core) c.value-guarded.ensures.value))
     c.begin-result.ensures.begun c.begin-result.ensures.refused c.begin-result.ensures.down c.begin-result.ensures.kept c.begin-result.ensures.disk)
     (entry_keeps shot (faults_of d new) (call.Begin c.args.named) (λ t. entry.Begin t.tx t.at t.mode) (λ x T. refl) r)

@@ -1,4 +1,4 @@
-use Rattle.std.proofs.Common.{[], ◌∷◌, ◌++◌, ap, refl, sym, arith, ◌∙◌, rules, ◌≤◌, ◌+◌, subst, ◌≡◌}
+use Rattle.std.proofs.Common.{inl, [], ◌∷◌, ◌++◌, ap, refl, sym, arith, ◌∙◌, rules, ◌≤◌, ◌+◌, subst, ◌≡◌}
 use Rattle.tx_table.specs.Work.{Doing}
 use Rattle.turn_lock.specs.Numbers.{held_after}
 use Rattle.iso_core.specs.Core.{disk_of}
@@ -10,7 +10,7 @@ use Rattle.iso_shared.specs.Standing.{faults_of, standing_of}
 use Rattle.iso_shared.specs.States.{state_at, tx_of}
 use Rattle.iso_shared.specs.Told.{end_entry}
 use Rattle.iso_shared.proofs.Cores.{by_lost, is_tx}
-use Rattle.iso_shared.proofs.Ends.{ahead_same, checked_of, did_end, if_err_by, init_same, may_have, on_same, own_same, work_of}
+use Rattle.iso_shared.proofs.Ends.{ahead_same, checked_of, did_end, if_err_by, init_same, moved_end, may_have, on_same, own_same, work_of}
 use Rattle.iso_shared.proofs.Giving.{core_at, entry_keeps, entry_may, refused_holds, stands_call, from_lent}
 use Rattle.iso_shared.proofs.Mades.{ahead_on, held_same, made_by, one_more, own_on}
 use Rattle.iso_shared.proofs.Standings.{held_live}
@@ -58,21 +58,25 @@ give-requires-clause-value g c =
     let last = c.end-result.new.work in
     let r = c.end-result.result in
     let same : last.accesses ≡ work.accesses = ap (λ (w : Doing). w.accesses) c.end-result.ensures.work in
-    stands_call d A _ _ _ _ _ (end_entry shot (faults_of d new) n last.accesses r) (end_entry (faults_of d lent) (faults_of d new) n work.accesses r)
-    c.take-turn.new.pass.me.0.holds c.take-turn.ensures.value (ap (λ v. v.rack) c.value-guarded.ensures.value) c.take-turn.ensures.out
-    (entry_may shot (faults_of d new) (call.End n last.accesses) (λ x. entry.End n last.accesses x) _ (λ x. (tt, (held, tt))) (held, tt) r)
-    (ap (λ v. end_entry (faults_of d v) (faults_of d new) n last.accesses r) c.of-before.ensures ∙ ap (λ a. end_entry (faults_of d lent) (faults_of d new) n a r) same)
-    (from_lent d A _ lent new (ap (λ v. v.core) c.value-guarded.ensures.value)
-    (by_lost d S lent _ (core_at d A _ _ _ _ c.take-turn.ensures.value (ap (λ v. v.core) c.value-guarded.ensures.value)) (λ is stands. (c.end-result.ensures.moments S.world t stands here of checked).same_bound)
-    (λ lost is stands. ap (λ v. (d (disk_of v)).bound) (c.end-result.ensures.down S.world lost stands).1)))
-    (did_end d S lent new n work.accesses r (core_at d A _ _ _ _ c.take-turn.ensures.value (ap (λ v. v.core) c.value-guarded.ensures.value))
+    let said = c.end-result.ensures in
+    let did = did_end d S lent new n work.accesses r (core_at d A _ _ _ _ c.take-turn.ensures.value (ap (λ v. v.core) c.value-guarded.ensures.value))
     (may_have S n work own c.settle.ensures.within c.settle.ensures.count)
     (λ stands. c.end-result.ensures.ended S.world t stands here of checked)
     (λ stands. c.end-result.ensures.refused S.world t stands here of checked)
     (λ stands. c.end-result.ensures.same S.world stands)
     c.end-result.ensures.down c.end-result.ensures.unwritten
     (λ stands is. c.end-result.ensures.lost S.world t stands here of checked is)
-    c.end-result.ensures.told c.end-result.ensures.cause)
+    c.end-result.ensures.told c.end-result.ensures.cause in
+    stands_call d A _ _ _ _ _ (end_entry shot (faults_of d new) n last.accesses r) (end_entry (faults_of d lent) (faults_of d new) n work.accesses r)
+    c.take-turn.new.pass.me.0.holds c.take-turn.ensures.value (ap (λ v. v.rack) c.value-guarded.ensures.value) c.take-turn.ensures.out
+    (entry_may shot (faults_of d new) (call.End n last.accesses) (λ x. entry.End n last.accesses x) _ (λ x. (tt, (held, tt))) (held, tt) r)
+    (ap (λ v. end_entry (faults_of d v) (faults_of d new) n last.accesses r) c.of-before.ensures ∙ ap (λ a. end_entry (faults_of d lent) (faults_of d new) n a r) same)
+    (from_lent d A c.take-turn.new.pass.me.0.seen (end_entry (faults_of d lent) (faults_of d new) n work.accesses r) _ lent new (ap (λ v. v.core) c.value-guarded.ensures.value)
+    (by_lost d S lent _ (core_at d A _ _ _ _ c.take-turn.ensures.value (ap (λ v. v.core) c.value-guarded.ensures.value))
+    (λ is stands. moved_end d A es lent new (faults_of d lent) (faults_of d new) n work.accesses r c.take-turn.ensures.value.legal c.take-turn.ensures.value.core.world.kept_of.world.history.first is did.0
+    (said.ended S.world t stands here of checked) (said.lost S.world t stands here of checked) said.unwritten (said.moments S.world t stands here of checked))
+    (λ lost is stands. inl (ap disk_of (said.down S.world lost stands).1))))
+    did
     (entry_keeps shot (faults_of d new) (call.End n last.accesses) (λ x. entry.End n last.accesses x) (λ x T. refl) r)
 
 pub give-requires-clause-held : goal.give-requires-clause-held

@@ -6,7 +6,7 @@ use Rattle.iso_shared.specs.States.{opened, state_at, tx_of}
 use Rattle.iso_shared.specs.Told.{fetch_entry}
 use Rattle.iso_shared.proofs.Cores.{did_fetch, is_tx}
 use Rattle.iso_shared.proofs.Follows.{follows_all}
-use Rattle.iso_shared.proofs.Giving.{core_at, entry_keeps, entry_may, fetch_holds, stands_call, from_lent}
+use Rattle.iso_shared.proofs.Giving.{core_at, lent_came, moved_fetch, entry_keeps, entry_may, fetch_holds, stands_call, from_lent}
 use Rattle.iso_shared.proofs.Mades.{ahead_on, held_same, made_by, one_more, own_on}
 use Rattle.iso_shared.proofs.Standings.{held_live}
 use Rattle.iso_shared.proofs.shared.Shared.fetch.Goals as goal
@@ -45,7 +45,8 @@ give-requires-clause-value g c =
     c.take-turn.new.pass.me.0.holds c.take-turn.ensures.value (ap (λ v. v.rack) c.value-guarded.ensures.value) c.take-turn.ensures.out
     (entry_may shot (faults_of d new) (call.Fetch n c.args.block) (λ x. entry.Fetch n c.args.block bytes) _ (λ x. ((held, tt), tt)) (held, tt) r)
     (ap (λ v. fetch_entry (faults_of d v) (faults_of d new) n c.args.block bytes r) c.of-before.ensures)
-    (from_lent d A _ lent new (ap (λ v. v.core) c.value-guarded.ensures.value) c.fetch-result.ensures.unwritten.moments.same_bound)
+    (from_lent d A c.take-turn.new.pass.me.0.seen (fetch_entry (faults_of d lent) (faults_of d new) n c.args.block bytes r) _ lent new (ap (λ v. v.core) c.value-guarded.ensures.value)
+    (moved_fetch d A c.take-turn.new.pass.me.0.seen (faults_of d lent) (faults_of d new) n c.args.block bytes lent new r (g.met.D.Disk.lawful lent.disk) (lent_came d A _ lent _ _ c.take-turn.ensures.value (ap (λ v. v.core) c.value-guarded.ensures.value)) c.fetch-result.ensures.unwritten))
     (did_fetch d S lent new n c.args.block bytes r (core_at d A _ _ _ _ c.take-turn.ensures.value (ap (λ v. v.core) c.value-guarded.ensures.value))
     (held_live d A _ _ _ _ c.take-turn.ensures.value c.take-turn.ensures.out n held)
     (subst (λ (k : ℕ). c.args.block < k) (sym f.blocks) c.requires.block)

@@ -26,7 +26,7 @@ give-requires-clause-value g c =
     let p : Posted = record { number = tx.number; work = tx.work } in
     let entry_is : post_entry c.of-name.result.value c.of-item.result.value (Ok tt) ≡ post_entry c.args.label p (Ok tt) = λ i. post_entry (c.of-name.ensures i) (c.of-item.ensures i) (Ok tt) in
     let kept = c.value-guarded.result.now.rack in
-    subst (λ (e : Entry). StandsAt d A c.value-guarded.result.now.core c.post.new.self (es ++ e ∷ [])) (sym entry_is)
+    subst (λ (e : Entry). StandsAt d A g.O.Origin.disk c.value-guarded.result.now.core c.post.new.self (es ++ e ∷ [])) (sym entry_is)
     (stands_post d A _ _ _ kept _ es c.take-turn.new.pass.me.0.holds c.args.label p c.take-turn.ensures.value (ap (λ v. v.core) c.value-guarded.ensures.value) (ap (λ v. v.rack) c.value-guarded.ensures.value) c.take-turn.ensures.out
     (held_same tx.number _ _ c.take-turn.ensures.same.1 c.tell_tx.ensures.tx.1.held)
     (own_on A _ es tx.number tx.work c.take-turn.ensures.seen c.tell_tx.ensures.tx.1.own)
@@ -43,7 +43,7 @@ give-requires-in-Err-clause-value g c =
     let e = c.in-Err.error in
     let entry_is : post_entry c.of-name.result.value c.of-item.result.value (Err e) ≡ post_entry c.args.label p (Err e) = λ i. post_entry (c.of-name.ensures i) (c.of-item.ensures i) (Err e) in
     let kept = c.value-guarded.result.now.rack in
-    subst (λ (x : Entry). StandsAt d A c.value-guarded.result.now.core c.post.new.self (es ++ x ∷ [])) (sym entry_is)
+    subst (λ (x : Entry). StandsAt d A g.O.Origin.disk c.value-guarded.result.now.core c.post.new.self (es ++ x ∷ [])) (sym entry_is)
     (stands_unposted d A _ _ _ kept _ es c.take-turn.new.pass.me.0.holds c.args.label p e c.take-turn.ensures.value (ap (λ v. v.core) c.value-guarded.ensures.value) (ap (λ v. v.rack) c.value-guarded.ensures.value) c.take-turn.ensures.out
     (held_same tx.number _ _ c.take-turn.ensures.same.1 c.tell_tx.ensures.tx.1.held)
     c.in-Err.ensures.err.0

@@ -1,4 +1,4 @@
-use Rattle.std.proofs.Common.{[], ◌∷◌, ◌++◌, ◌≡◌, ◌≤◌, ℕ, ap, refl, rules, subst, sym, ◌∙◌}
+use Rattle.std.proofs.Common.{inl, [], ◌∷◌, ◌++◌, ◌≡◌, ◌≤◌, ℕ, ap, refl, rules, subst, sym, ◌∙◌}
 use Rattle.iso_shared.specs.declared.entry.Call.TheVariants as call
 use Rattle.iso_shared.specs.declared.entry.Entry.TheVariants as entry
 use Rattle.iso_shared.specs.Ports.{IsRecent}
@@ -52,7 +52,7 @@ give-requires-clause-value g c =
     c.take-turn.new.pass.me.0.holds c.take-turn.ensures.value (ap (λ v. v.rack) c.value-guarded.ensures.value) c.take-turn.ensures.out
     (entry_may x (faults_of d lent) (call.Recent n) (λ y. entry.Recent n y.upto) _ (λ y. ((held, tt), tt)) (held, tt) r)
     refl
-    (from_lent d A _ lent lent (ap (λ v. v.core) c.value-guarded.ensures.value) refl)
+    (from_lent d A c.take-turn.new.pass.me.0.seen (recent_entry x (faults_of d lent) n r) _ lent lent (ap (λ v. v.core) c.value-guarded.ensures.value) (inl refl))
     (did_recent d S lent n c.args.tx.now.checked.upto x (faults_of d lent) r (core_at d A _ _ _ _ c.take-turn.ensures.value (ap (λ v. v.core) c.value-guarded.ensures.value))
     (record {
       notes = λ stands. said.notes S.world (tx_of S.world n []) stands here begin;

@@ -1,4 +1,4 @@
-use Rattle.std.proofs.Common.{ap, refl}
+use Rattle.std.proofs.Common.{inl, ap, refl}
 use Rattle.iso_shared.specs.declared.entry.Entry.TheVariants as entry
 use Rattle.iso_shared.specs.States.{state_at}
 use Rattle.iso_shared.specs.Told.{numbers_of}
@@ -15,6 +15,6 @@ give-requires-clause-value g c =
     let e = entry.Stat (numbers_of c.stat-stat.result) in
     stands_call d A _ _ _ _ _ e e
     c.take-turn.new.pass.me.0.holds c.take-turn.ensures.value (ap (λ v. v.rack) c.value-guarded.ensures.value) c.take-turn.ensures.out
-    (tt, tt) refl (from_lent d A _ lent lent (ap (λ v. v.core) c.value-guarded.ensures.value) refl)
+    (tt, tt) refl (from_lent d A c.take-turn.new.pass.me.0.seen e _ lent lent (ap (λ v. v.core) c.value-guarded.ensures.value) (inl refl))
     (did_stat d S lent c.stat-stat.result (core_at d A _ _ _ _ c.take-turn.ensures.value (ap (λ v. v.core) c.value-guarded.ensures.value)) c.stat-stat.ensures)
     (λ T. refl)

@@ -1,4 +1,5 @@
-use Rattle.std.proofs.Common.{[], ap, sym, ◌∙◌}
+use Rattle.std.proofs.Common.{inl, Some, [], ap, sym, ◌∙◌}
+use Rattle.iso_shared.specs.declared.entry.Entry.TheVariants.{Sweep}
 use Rattle.iso_shared.specs.Standing.{standing_of}
 use Rattle.iso_shared.specs.States.{state_at, tx_of}
 use Rattle.iso_shared.proofs.Cores.{did_abort, is_tx}
@@ -29,7 +30,7 @@ give-requires-clause-value g c =
     let first = first_is c.in-Some.item _ (sym c.in-Some.is ∙ c.pop.ensures.item) in
     let rack = ap (λ v. v.rack) c.value-guarded.ensures.value in
     stands_sweep d A _ _ _ _ _ _ c.take-turn.new.pass.me.0.holds n c.take-turn.ensures.value rack c.take-turn.ensures.out first c.pop.ensures.rest
-    (from_lent d A _ c.value-guarded.result.now.core c.abort.new.self (ap (λ v. v.core) c.value-guarded.ensures.value) (ap (λ x. (d x).bound) c.abort.ensures.disk))
+    (from_lent d A c.take-turn.new.pass.me.0.seen (Sweep (Some n)) _ c.value-guarded.result.now.core c.abort.new.self (ap (λ v. v.core) c.value-guarded.ensures.value) (inl c.abort.ensures.disk))
     (did_abort d S c.value-guarded.result.now.core c.abort.new.self n (core_at d A _ _ _ _ c.take-turn.ensures.value (ap (λ v. v.core) c.value-guarded.ensures.value))
     (swept_live d A _ _ _ _ n c.take-turn.ensures.value rack first) c.abort.ensures.left c.abort.ensures.disk)
 

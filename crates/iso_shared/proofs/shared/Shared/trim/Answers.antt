@@ -1,4 +1,4 @@
-use Rattle.std.proofs.Common.{ap, refl}
+use Rattle.std.proofs.Common.{inl, ap, refl}
 use Rattle.iso_shared.specs.declared.entry.Call.TheVariants as call
 use Rattle.iso_shared.specs.declared.entry.Entry.TheVariants as entry
 use Rattle.iso_shared.specs.Standing.{faults_of}
@@ -22,6 +22,6 @@ give-requires-clause-value g c =
     c.take-turn.new.pass.me.0.holds c.take-turn.ensures.value (ap (λ v. v.rack) c.value-guarded.ensures.value) c.take-turn.ensures.out
     (entry_may shot (faults_of d new) call.Trim (λ n. entry.Trim n) _ (λ n. (tt, tt)) tt r)
     (ap (λ v. trim_entry (faults_of d v) (faults_of d new) r) c.of-before.ensures)
-    (from_lent d A _ lent new (ap (λ v. v.core) c.value-guarded.ensures.value) (ap (λ x. (d x).bound) said.disk))
+    (from_lent d A c.take-turn.new.pass.me.0.seen (trim_entry (faults_of d lent) (faults_of d new) r) _ lent new (ap (λ v. v.core) c.value-guarded.ensures.value) (inl said.disk))
     (did_trim d S lent new (faults_of d lent) (faults_of d new) r (core_at d A _ _ _ _ c.take-turn.ensures.value (ap (λ v. v.core) c.value-guarded.ensures.value)) said.trimmed said.down said.disk)
     (entry_keeps shot (faults_of d new) call.Trim (λ n. entry.Trim n) (λ n T. refl) r)

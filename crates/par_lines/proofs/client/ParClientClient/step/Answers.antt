@@ -1,7 +1,7 @@
 use Rattle.std.proofs.Common.{[], inr, refl}
 use Rattle.std.specs.Prelude.{Err}
 use Rattle.handle_pass.proofs.Logs.{moves_none}
-use Rattle.script_runner.specs.declared.machine.Stop.TheVariants as stop
+use Rattle.script_model.specs.declared.stop.Stop.TheVariants as stop
 use Rattle.par_lines.proofs.client.ParClientClient.step.Goals as goal
 
 pub returns-in-Err-clause-steps : goal.returns-in-Err-clause-steps

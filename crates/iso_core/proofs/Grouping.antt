@@ -1,0 +1,204 @@
+-- A core that ends a group.
+use Rattle.std.proofs.Common.{◌≡◌, ◌≢◌, ◌∙◌, ◌⊎◌, inl, inr, sym, refl, ap, ℕ, ◌+◌, ◌<◌, ◌≤◌, true, List, [], ◌∷◌, ◌++◌, length, map, arith, subst}
+use Rattle.std.specs.List.{AllByRecursion}
+use Rattle.std.proofs.lemmas.List.{length-append, length-map, length_push}
+use Rattle.iso_disk.specs.Disk.{DiskState, IsLawful, IsSettled, LeavesOnly}
+use Rattle.iso_disk.proofs.Moments.{at_end}
+use Rattle.iso_image.specs.Half.{Half, IsHeld, half_of_world, next_gate, with_records}
+use Rattle.iso_log.specs.Extent.{extent_of}
+use Rattle.iso_model.specs.declared.access.Commit.{Commit}
+use Rattle.iso_model.specs.declared.access.Geometry.{Geometry}
+use Rattle.iso_model.specs.declared.limits.TheConstants.{LAST}
+use Rattle.iso_model.specs.Effect.{record_length}
+use Rattle.iso_model.specs.Geometry.{image_size}
+use Rattle.iso_model.specs.History.{History, last, with_commits}
+use Rattle.iso_model.specs.Image.{IsRecord, Written, records, written}
+use Rattle.iso_model.specs.Step.{after_leaving, with_live}
+use Rattle.iso_model.specs.World.{World, Live, used}
+use Rattle.iso_model.specs.Worlds.{IsWorld}
+use Rattle.iso_model.proofs.Opened.{length-records, sum_by-map}
+use Rattle.iso_model.specs.declared.access.GroupReply.{GroupReply}
+use Rattle.conflict_rule.specs.Decision.{AreNotes}
+use Rattle.conflict_rule.specs.Notes.{Note}
+use Rattle.iso_core.specs.declared.group_end.GroupEnd.{GroupEnd}
+use Rattle.iso_core.specs.declared.kept.Kept.{Kept}
+use Rattle.iso_core.specs.declared.plan.Staged.{Staged}
+use Rattle.iso_core.specs.declared.plan.Plan.{Plan}
+use Rattle.iso_core.specs.Core.{AreOf}
+use Rattle.iso_core.specs.Ends.{AreNextRecords}
+use Rattle.iso_model.specs.Group.{ahead, decided, group, leave_all}
+use Rattle.iso_core.specs.Kept.{IsOf}
+use Rattle.iso_core.specs.Planned.{AreEach, AreStaged, HasPlanned, HasStaged, IsAhead, IsReady, IsGrownWith, IsPlannedFor, IsReserved}
+use Rattle.iso_core.specs.Standing.{ShowsWith, up, down}
+use Rattle.iso_model.specs.Between.{ShowsEither, ShowsLast}
+use Rattle.iso_model.proofs.Groups.{group_is, nothing_ahead}
+use Rattle.iso_core.proofs.Judging.{last_ahead, settled_ahead, staged_count, used_ahead}
+use Rattle.iso_core.proofs.Moments.{shows_world}
+use Rattle.iso_core.proofs.Nexts.{may_follow}
+use Rattle.iso_core.proofs.Numbers.{log_room, log_used}
+use Rattle.iso_core.proofs.Staging.{half_ahead}
+use Rattle.iso_core.proofs.Standings.{stands_on}
+
+-- a world that some have left differs in what is live alone
+pub leave_all_is : (members : List Live) (W : World) → leave_all members W ≡ with_live W (leave_all members W).live
+leave_all_is [] W = refl
+leave_all_is (t ∷ members) W = leave_all_is members (after_leaving W t)
+
+-- the model's answer, by what was decided
+pub group_so : (W : World) (members : List Live) (all : List Commit) (replies : List GroupReply) → decided W members ≡ (replies, ahead W all) → group W members ≡ (replies, leave_all members (ahead W all))
+group_so W members all replies decides = group_is W members ∙ (λ i. ((decides i).0, leave_all members (decides i).1))
+
+-- the history after a group
+pub history_so : (W : World) (members : List Live) (all : List Commit) (replies : List GroupReply) → decided W members ≡ (replies, ahead W all) → (group W members).1.history ≡ with_commits all W.history
+history_so W members all replies decides =
+    ap (λ (x : List GroupReply × World). x.1.history) (group_so W members all replies decides)
+    ∙ ap (λ (V : World). V.history) (leave_all_is members (ahead W all))
+
+records_behind : (g : Geometry) (commits all : List Commit) → AllByRecursion (IsRecord g) (map (written g) (commits ++ all)) → AllByRecursion (IsRecord g) (map (written g) all)
+records_behind g [] all are = are
+records_behind g (c ∷ commits) all are = records_behind g commits all are.1
+
+module _ (W : World) (all : List Commit) (plan : Plan) (is : IsWorld W) (has : HasStaged W all plan) where
+  pub many : length plan.staged.items ≡ length all
+  many = staged_count W.geometry 0 plan.staged.items all has.staged
+
+  -- the records that are appended follow the last one
+  pub next_records : 0 < length plan.staged.items → AreNextRecords W (map (written W.geometry) all) (records W.geometry (last W.history + 1) (map (written W.geometry) all))
+  next_records some =
+      let count = length-map all (written W.geometry) in
+      let later = last_ahead W all is in
+      let most : last (ahead W all).history ≤ LAST = has.world.numbers in
+      record {
+        some = omega (arith, some, many, count);
+        each = records_behind W.geometry W.history.commits all has.world.records;
+        numbers = omega (arith, count, later, most);
+        bytes_are = refl;
+      }
+
+  pub bytes_fit : used W + length (records W.geometry (last W.history + 1) (map (written W.geometry) all)) + 1 ≤ W.geometry.log
+  bytes_fit =
+      let bytes = length-records W.geometry (last W.history + 1) (map (written W.geometry) all) ∙ sum_by-map (λ (w : Written). record_length w.parts) (written W.geometry) all in
+      let more = used_ahead W all is in
+      let room : used (ahead W all) + 1 ≤ W.geometry.log = has.world.room in
+      omega (arith, bytes, more, room)
+
+  pub fits_kept : (kept : Kept) (bytes : List ℕ) → IsOf kept W → bytes ≡ records W.geometry (last W.history + 1) (map (written W.geometry) all) ++ 0 ∷ [] → kept.log.used + length bytes ≤ kept.log.room
+  fits_kept kept bytes of bytes_are =
+      let count = ap (λ (l : List ℕ). length l) bytes_are ∙ length_push (records W.geometry (last W.history + 1) (map (written W.geometry) all)) 0 in
+      let taken = log_used kept W of.world of.keeps in
+      let room = log_room kept W of.world of.keeps in
+      omega (arith, count, taken, room, bytes_fit)
+
+  -- no commit, no change
+  pub none_ahead : length plan.staged.items ≡ 0 → ahead W all ≡ W
+  none_ahead none = go all (omega (arith, none, many))
+    where
+      go : (commits : List Commit) → length commits ≡ 0 → ahead W commits ≡ W
+      go [] e = sym (nothing_ahead W)
+      go (c ∷ commits) e = absurd (omega (arith, e))
+
+  -- the records were appended, and the commits may be taken in
+  pub grown_with : (kept new : Kept) (gate : ℕ) → 0 < length plan.staged.items → IsOf kept W → IsReserved plan kept
+      → new ≡ record kept { log = extent_of W.geometry (with_records (map (written W.geometry) all) (half_of_world W kept.half)) }
+      → gate ≡ next_gate W.geometry (half_of_world W kept.half) → IsGrownWith W all plan new gate
+  grown_with kept new gate some of reserved new_is gate_is =
+      subst (λ (k : Kept). IsGrownWith W all plan k gate) (sym new_is) (record {
+        old_log = kept.log;
+        was = of;
+        ahead_of = has;
+        reserved = record { room = reserved.room; note_room = reserved.note_room };
+        follows = may_follow W kept.half (map (written W.geometry) all) (records W.geometry (last W.history + 1) (map (written W.geometry) all)) is (next_records some) bytes_fit;
+        log = refl;
+        gate_is = gate_is;
+      })
+
+  -- what an image shows before the group or after the whole of it
+  pub shows_group : (at : ℕ) (members : List Live) (c : List ℕ) → IsHeld W.geometry (half_of_world W at) c ⊎ IsHeld W.geometry (with_records (map (written W.geometry) all) (half_of_world W at)) c
+      → ShowsEither W (leave_all members (ahead W all)) c
+  shows_group at members c (inl before) = inl (shows_world W at is c before)
+  shows_group at members c (inr after) =
+      inr (subst (λ (V : World). ShowsLast V c) (sym (leave_all_is members (ahead W all)))
+      (shows_world (ahead W all) at has.world c (subst (λ (h : Half). IsHeld W.geometry h c) (sym (half_ahead W all at is)) after)))
+
+  pub shows_lost : (at : ℕ) (members : List Live) (c : List ℕ) → IsHeld W.geometry (half_of_world W at) c ⊎ IsHeld W.geometry (with_records (map (written W.geometry) all) (half_of_world W at)) c
+      → ShowsWith (leave_all members W) all c
+  shows_lost at members c held = subst (λ (V : World). ShowsWith V all c) (sym (leave_all_is members W)) (go held)
+    where
+      go : IsHeld W.geometry (half_of_world W at) c ⊎ IsHeld W.geometry (with_records (map (written W.geometry) all) (half_of_world W at)) c → ShowsWith W all c
+      go (inl before) = inl (shows_world W at is c before)
+      go (inr after) = inr (shows_world (ahead W all) at has.world c (subst (λ (h : Half). IsHeld W.geometry h c) (sym (half_ahead W all at is)) after))
+
+  -- a core that committed a group
+  pub group_core : (old new : DiskState) (kept mid taken fin : Kept) (members : List Live) → AreOf old kept W up → IsOf fin (leave_all members (ahead W all)) → new.size ≡ old.size → IsSettled new
+      → mid.half ≡ kept.half → taken.half ≡ mid.half → fin.half ≡ taken.half → fin.down ≡ taken.down → taken.down ≡ mid.down → mid.down ≡ kept.down
+      → ((c : List ℕ) → new.now c → IsHeld W.geometry (with_records (map (written W.geometry) all) (half_of_world W kept.half)) c) → AreOf new fin (leave_all members (ahead W all)) up
+  group_core old new kept mid taken fin members of fin_of same settled mid_half taken_half fin_half fin_down taken_down mid_down held =
+      subst (λ (V : World). AreOf new fin V up) (sym (leave_all_is members (ahead W all)))
+      (record {
+        kept_of = subst (IsOf fin) (leave_all_is members (ahead W all)) fin_of;
+        is_down = fin_down ∙ taken_down ∙ mid_down ∙ of.is_down;
+        size = same ∙ of.size;
+        images = record {
+          settled = settled;
+          each = λ c image. subst (λ (n : ℕ). IsHeld W.geometry (half_of_world (ahead W all) n) c) (sym (fin_half ∙ taken_half ∙ mid_half))
+              (subst (λ (h : Half). IsHeld W.geometry h c) (sym (half_ahead W all kept.half is)) (held c image));
+        };
+      })
+
+-- a core without its members
+pub left_all : (d : DiskState) (kept fin : Kept) (W : World) (members : List Live) → AreOf d kept W up → IsOf fin (leave_all members W) → fin.half ≡ kept.half → fin.down ≡ kept.down → AreOf d fin (leave_all members W) up
+left_all d kept fin W members of fin_of half down_is =
+    subst (λ (V : World). AreOf d fin V up) (sym (leave_all_is members W))
+    (stands_on d kept fin W up (leave_all members W).live W.next W.trim of half down_is (subst (IsOf fin) (leave_all_is members W) fin_of))
+
+-- a core that a fault set down in a group
+pub lost_group : (old new : DiskState) (fin : Kept) (W : World) (all : List Commit) (members : List Live) → IsLawful new → old.size ≡ new.size → IsOf fin (leave_all members W) → fin.down ≡ true
+    → old.size ≡ image_size (leave_all members W).geometry → LeavesOnly old new (ShowsWith (leave_all members W) all) → AreOf new fin (leave_all members W) (down all)
+lost_group old new fin W all members laws same fin_of fin_down size run = record {
+  kept_of = fin_of;
+  is_down = fin_down;
+  size = sym same ∙ size;
+  images = at_end laws run;
+}
+
+pub ready_ahead : (W : World) (more : List Commit) (ms : List GroupEnd) (ts : List Live) → AreEach (IsReady W) ms ts → AreEach (IsReady (ahead W more)) ms ts
+ready_ahead W more [] [] each = tt
+ready_ahead W more [] (t ∷ ts) each = absurd each
+ready_ahead W more (m ∷ ms) [] each = absurd each
+ready_ahead W more (m ∷ ms) (t ∷ ts) each = (
+  record { here = record { number = each.0.here.number; among = each.0.here.among }; settled = settled_ahead W more t m.work each.0.settled; none = each.0.none },
+  each.1,
+  ready_ahead W more ms ts each.2,
+)
+
+-- a plan with a commit leads to another history
+pub other_history : (W : World) (members : List Live) (all : List Commit) (replies : List GroupReply) → decided W members ≡ (replies, ahead W all) → 0 < length all → (group W members).1.history ≢ W.history
+other_history W members all replies decides some same =
+    let e = ap (λ (H : History). length H.commits) (sym (history_so W members all replies decides) ∙ same) in
+    let count = length-append W.history.commits all in
+    absurd (omega (arith, e, count, some))
+
+-- before the first member nothing is planned
+pub ahead_none : (W : World) (plan : Plan) → IsWorld W → plan.bytes.items ≡ [] → plan.staged.items ≡ [] → plan.notes.notes ≡ [] → IsAhead W [] plan
+ahead_none W plan is bytes staged notes = record {
+  world = subst IsWorld (nothing_ahead W) is;
+  bytes = bytes;
+  notes = subst (λ (l : List Note). AreNotes W.geometry (last W.history + 1) l []) (sym notes) tt;
+  staged = subst (λ (l : List Staged). AreStaged W.geometry 0 l []) (sym staged) tt;
+}
+
+pub planned_for : (W : World) (members : List Live) (mid plan : Plan) (kept : Kept) (old new : List GroupReply) (h : HasPlanned W [] members mid old new) → old ≡ []
+    → plan.notes.notes ≡ mid.notes.notes → plan.staged.items ≡ mid.staged.items → plan.bytes.items ≡ mid.bytes.items ++ 0 ∷ [] → IsReserved plan kept → IsPlannedFor W members plan kept new
+planned_for W members mid plan kept old new h none notes staged bytes reserved =
+    let told : new ≡ h.told = h.replies ∙ ap (λ (l : List GroupReply). l ++ h.told) none in
+    record {
+      all = h.all;
+      has = record {
+        world = h.is.world;
+        notes = subst (λ (l : List Note). AreNotes W.geometry (last W.history + 1) l h.all) (sym notes) h.is.notes;
+        staged = subst (λ (l : List Staged). AreStaged W.geometry 0 l h.all) (sym staged) h.is.staged;
+      };
+      bytes = bytes ∙ ap (λ (l : List ℕ). l ++ 0 ∷ []) h.is.bytes;
+      reserved = reserved;
+      decides = ap (λ (V : World). decided V members) (nothing_ahead W) ∙ h.decides ∙ (let e = sym told in λ i. (e i, ahead W h.all));
+    }

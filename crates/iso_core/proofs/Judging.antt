@@ -1,0 +1,360 @@
+-- A member of a group, after those before it.
+use Rattle.std.proofs.Common.{◌≡◌, ◌≢◌, ◌∙◌, sym, refl, ap, ℕ, zero, suc, ◌+◌, ◌-◌, ◌<◌, ◌≤◌, Bool, true, false, cond, List, [], ◌∷◌, ◌++◌, length, map, take, drop, arith, subst, None, Option, sum_by, append-nil, slice_index_or, Result, Ok, Err, OnOk}
+use Rattle.std.proofs.Math.Path.{transport}
+use Rattle.std.specs.List.{AllByRecursion}
+use Rattle.std.proofs.lemmas.List.{append_assoc, length-append, take-append-le, take_all, drop-append-le, drop_all, drop-take, map-append, length-map}
+use Rattle.std.proofs.lemmas.List.Sums.{sum_by-append, sum_by-cons}
+use Rattle.byte_marks.specs.Touched.{AreTouched}
+use Rattle.conflict_rule.specs.Decision.{AreNotes, AreNotesAfter, Bytes, IsAsked, up_to}
+use Rattle.conflict_rule.specs.Notes.{Note, above}
+use Rattle.conflict_rule.proofs.Following.{notes_appended, notes_rise}
+use Rattle.conflict_rule.proofs.Numbers.{all_above}
+use Rattle.iso_format.specs.Writing.{LieInAnImage}
+use Rattle.iso_image.proofs.Logs.{records-append}
+use Rattle.iso_model.specs.declared.access.Access.{Access}
+use Rattle.iso_model.specs.declared.access.Clash.{Clash}
+use Rattle.iso_model.specs.declared.access.Commit.{Commit}
+use Rattle.iso_model.specs.declared.access.Geometry.{Geometry}
+use Rattle.iso_model.specs.declared.access.Kind.TheVariants.{Read, Write}
+use Rattle.iso_model.specs.declared.access.Mode.{Mode}
+use Rattle.iso_model.specs.declared.access.Run.{Run}
+use Rattle.iso_model.specs.declared.limits.TheConstants.{LAST}
+use Rattle.iso_model.specs.declared.core_reply.CoreReply.{CoreReply}
+use Rattle.iso_model.specs.declared.core_reply.CoreReply.TheVariants as reply
+use Rattle.iso_model.specs.Conflict.{clash, clash_from, first_after}
+use Rattle.iso_model.specs.Effect.{has_write, record_length, runs}
+use Rattle.iso_model.specs.History.{History, last}
+use Rattle.iso_model.specs.Image.{Written, kind_of, records, spell, written}
+use Rattle.iso_model.specs.Premises.{AreAccesses}
+use Rattle.iso_model.specs.Step.{commit_step, end_step, need, commit_from}
+use Rattle.iso_model.specs.World.{World, Live, logged_commits, used}
+use Rattle.iso_model.specs.Worlds.{IsWorld}
+use Rattle.iso_model.proofs.Bounds.{limits}
+use Rattle.iso_model.proofs.Maximal.{are_runs}
+use Rattle.iso_model.proofs.Opened.{length-records, sum_by-map}
+use Rattle.iso_model.proofs.Worlds.{commit_is_record}
+use Rattle.iso_model.proofs.Written.{runs_where_write}
+use Rattle.tx_table.specs.Work.{Doing}
+use Rattle.version_read.specs.Parts.{part_of}
+use Rattle.iso_model.specs.declared.access.GroupReply.{GroupReply}
+use Rattle.iso_model.specs.declared.access.GroupReply.TheVariants as member
+use Rattle.iso_core.specs.declared.group_end.GroupEnd.{GroupEnd}
+use Rattle.iso_core.specs.declared.kept.Kept.{Kept}
+use Rattle.iso_core.specs.declared.plan.Plan.{Plan}
+use Rattle.iso_core.specs.declared.plan.Staged.{Staged}
+use Rattle.iso_core.specs.Calls.{IsCheckedOf, IsTx}
+use Rattle.iso_core.specs.Ends.{AreNextRecords, IsSettledOf, MayCommit, written_of}
+use Rattle.iso_model.specs.Group.{ahead, decided, made_by, member_reply, with_first}
+use Rattle.iso_core.specs.Kept.{IsOf}
+use Rattle.iso_core.specs.Planned.{AreEach, AreStaged, HasPlanned, IfCommits, IsAhead, IsNextStaged, IsReady, is_commit}
+use Rattle.iso_core.proofs.Decides.{asked}
+use Rattle.iso_core.proofs.Endings.{ends_by}
+use Rattle.iso_model.proofs.Groups.{stays_ahead}
+use Rattle.iso_core.proofs.Leaves.{has_begun}
+use Rattle.iso_core.proofs.Moments.{is_committed, is_full, is_worn}
+use Rattle.iso_core.proofs.Numbers.{log_last, log_used, log_room}
+
+-- nothing was checked of a member
+no_more : (test : Bool) (found : Option Clash) → None ≡ found → None ≡ cond test found None
+no_more true found is = is
+no_more false found is = refl
+
+drop_back : {X : Type 0} (n : ℕ) (list : List X) → drop n (take n list) ≡ []
+drop_back n list = subst (λ (k : ℕ). drop n (take k list) ≡ []) (omega arith) (drop-take n 0 list)
+
+no_clash : (g : Geometry) (H : History) (mode : Mode) (accesses : List Access) (begin : ℕ) → None ≡ clash g (up_to H begin) mode begin accesses
+unfolding clash
+no_clash g H mode accesses begin =
+    no_more (has_write accesses) (clash_from g mode accesses (first_after H begin) (drop (begin + 1 - H.first) (take (begin + 1 - H.first) H.commits)))
+    (ap (clash_from g mode accesses (first_after H begin)) (sym (drop_back (begin + 1 - H.first) H.commits)))
+
+pub staged_count : (g : Geometry) (at : ℕ) (staged : List Staged) (commits : List Commit) → AreStaged g at staged commits → length staged ≡ length commits
+staged_count g at [] [] are = refl
+staged_count g at [] (c ∷ commits) are = absurd are
+staged_count g at (s ∷ staged) [] are = absurd are
+staged_count g at (s ∷ staged) (c ∷ commits) are = ap suc (staged_count g (at + record_length (written g c).parts) staged commits are.2)
+
+pub staged_push : (g : Geometry) (at : ℕ) (staged : List Staged) (commits : List Commit) (s : Staged) (c : Commit) → AreStaged g at staged commits
+    → s.at ≡ at + sum_by (λ (d : Commit). record_length (written g d).parts) commits → s.parts.items ≡ map part_of (written g c).parts
+    → AreStaged g at (staged ++ s ∷ []) (commits ++ c ∷ [])
+staged_push g at [] [] s c are here parts = (omega (arith, here), parts, tt)
+staged_push g at [] (d ∷ commits) s c are here parts = absurd are
+staged_push g at (r ∷ staged) [] s c are here parts = absurd are
+staged_push g at (r ∷ staged) (d ∷ commits) s c are here parts =
+    let f = λ (e : Commit). record_length (written g e).parts in
+    let split = sum_by-cons f d commits in
+    (are.0, are.1, staged_push g (at + record_length (written g d).parts) staged commits s c are.2 (omega (arith, here, split)) parts)
+
+module _ (W : World) (more : List Commit) (base : IsWorld W) where
+  pub last_ahead : last (ahead W more).history ≡ last W.history + length more
+  last_ahead =
+      let first : 0 < W.history.first = base.history.first in
+      let count = length-append W.history.commits more in
+      omega (arith, count, first)
+
+  pub used_ahead : used (ahead W more) ≡ used W + sum_by (λ (c : Commit). record_length (runs W.geometry c.accesses)) more
+  used_ahead =
+      let from : W.base ≤ W.trim = base.base in
+      let trim : W.trim ≤ last W.history = base.trim in
+      let first : 0 < W.history.first = base.history.first in
+      ap (sum_by (λ (c : Commit). record_length (runs W.geometry c.accesses))) (drop-append-le (W.base + 1 - W.history.first) W.history.commits more (omega arith))
+      ∙ sum_by-append (λ (c : Commit). record_length (runs W.geometry c.accesses)) (logged_commits W) more
+
+  -- the history so far is that of the world
+  so_far : up_to (ahead W more).history (last W.history) ≡ W.history
+  so_far =
+      let first : 0 < W.history.first = base.history.first in
+      let all : last W.history + 1 - W.history.first ≡ length W.history.commits = omega (arith, first) in
+      let front = take-append-le (last W.history + 1 - W.history.first) W.history.commits more (omega (arith, all)) ∙ take_all (last W.history + 1 - W.history.first) W.history.commits (omega (arith, all)) in
+      λ i. record W.history { commits = front i }
+
+  rest_of : drop (last W.history + 1 - W.history.first) (W.history.commits ++ more) ≡ more
+  rest_of =
+      let first : 0 < W.history.first = base.history.first in
+      let all : last W.history + 1 - W.history.first ≡ length W.history.commits = omega (arith, first) in
+      drop-append-le (last W.history + 1 - W.history.first) W.history.commits more (omega (arith, all))
+      ∙ ap (λ (l : List Commit). l ++ more) (drop_all (last W.history + 1 - W.history.first) W.history.commits (omega (arith, all)))
+
+  -- the notes of the commits ahead are those after the last commit of the world
+  pub ahead_notes : (notes : List Note) → AreNotes W.geometry (last W.history + 1) notes more → AreNotesAfter W.geometry (ahead W more).history (last W.history) (above (last W.history) notes)
+  ahead_notes notes are =
+      let first : 0 < W.history.first = base.history.first in
+      let k : last W.history + 1 ≡ first_after W.history (last W.history) = omega (arith, first) in
+      let same = all_above (last W.history + 1) (last W.history) notes (omega arith) (notes_rise W.geometry (last W.history + 1) notes more are) in
+      subst (λ (l : List Note). AreNotesAfter W.geometry (ahead W more).history (last W.history) l) (sym same)
+      (subst (λ (l : List Commit). AreNotes W.geometry (first_after W.history (last W.history)) notes l) (sym rest_of)
+      (subst (λ (n : ℕ). AreNotes W.geometry n notes more) k are))
+
+module _ (kept : Kept) (W : World) (more : List Commit) (plan : Plan) (of : IsOf kept W) (is : IsAhead W more plan) where
+  pub number_ahead : (last_number count : ℕ) → last_number ≡ kept.log.last → count ≡ length plan.staged.items → last_number + count ≡ last (ahead W more).history
+  number_ahead last_number count last_is count_is =
+      let one = last_is ∙ log_last kept W of.world of.keeps in
+      let two = staged_count W.geometry 0 plan.staged.items more is.staged in
+      let all = last_ahead W more of.world in
+      omega (arith, one, two, all, count_is)
+
+  pub bytes_ahead : length plan.bytes.items ≡ sum_by (λ (c : Commit). record_length (written W.geometry c).parts) more
+  bytes_ahead =
+      ap (λ (l : List ℕ). length l) is.bytes ∙ length-records W.geometry (last W.history + 1) (map (written W.geometry) more) ∙ sum_by-map (λ (w : Written). record_length w.parts) (written W.geometry) more
+
+  pub room_ahead : used (ahead W more) ≡ kept.log.used + length plan.bytes.items
+  room_ahead =
+      let one = log_used kept W of.world of.keeps in
+      let two = used_ahead W more of.world in
+      omega (arith, one, two, bytes_ahead)
+
+  pub fits_ahead : kept.log.used + length plan.bytes.items + 1 ≤ kept.log.room
+  fits_ahead =
+      let room = log_room kept W of.world of.keeps in
+      let most : used (ahead W more) + 1 ≤ W.geometry.log = is.world.room in
+      omega (arith, room, most, room_ahead)
+
+  -- what the first decision is asked
+  pub asked_first : (tx : ℕ) (t : Live) (work : Doing) → IsTx W tx t → IsSettledOf W t work → (upto : ℕ) → upto ≡ work.begin → (reads writes : Bytes)
+      → AreTouched work.size work.blocks Read work.accesses reads → AreTouched work.size work.blocks Write work.accesses writes
+      → IsAsked W.geometry W.history work.mode work.begin work.accesses upto None reads writes kept.notes.notes
+  asked_first tx t work here settled upto upto_is reads writes read written =
+      let w = settled.is_work in
+      let mode = sym w.mode in
+      let begin = sym w.begin in
+      let accesses = sym w.accesses in
+      let same = upto_is ∙ w.begin in
+      let until : t.begin ≤ last W.history = (has_begun W tx t of.world here).begin in
+      let checked : IsCheckedOf W t (record { upto = upto; clash = None }) = record {
+        from = omega (arith, same);
+        to = omega (arith, same, until);
+        clash = subst (λ (n : ℕ). None ≡ clash W.geometry (up_to W.history n) t.mode t.begin t.accesses) (sym same) (no_clash W.geometry W.history t.mode t.accesses t.begin);
+      } in
+      transport (λ i. IsAsked W.geometry W.history (mode i) (begin i) (accesses i) upto None reads writes kept.notes.notes)
+      (asked kept W tx t (record { upto = upto; clash = None }) of here checked settled.accesses work w reads writes read written)
+
+  -- what the second decision is asked, by the answer of the first
+  pub asked_second : (tx : ℕ) (t : Live) (work : Doing) → IsTx W tx t → IsSettledOf W t work → (upto : ℕ) (found : Option Clash) → upto ≡ kept.log.last
+      → found ≡ clash W.geometry W.history work.mode work.begin work.accesses → (reads writes : Bytes)
+      → AreTouched work.size work.blocks Read work.accesses reads → AreTouched work.size work.blocks Write work.accesses writes
+      → IsAsked W.geometry (ahead W more).history work.mode work.begin work.accesses upto found reads writes plan.notes.notes
+  asked_second tx t work here settled upto found upto_is found_is reads writes read written =
+      let w = settled.is_work in
+      let size : 64 ≤ W.geometry.block = (limits W.geometry of.world.valid).least_block in
+      let number = upto_is ∙ log_last kept W of.world of.keeps in
+      let until : t.begin ≤ last W.history = (has_begun W tx t of.world here).begin in
+      record {
+        size = omega arith;
+        well_formed = subst (λ (l : List Access). AreAccesses W.geometry l) (sym w.accesses) settled.accesses;
+        order = omega (arith, number, until, w.begin);
+        reads = transport (λ i. AreTouched (w.size i) (w.blocks i) Read work.accesses reads) read;
+        writes = transport (λ i. AreTouched (w.size i) (w.blocks i) Write work.accesses writes) written;
+        ahead = found_is ∙ (let e = sym (so_far W more of.world) in λ i. clash W.geometry (e i) work.mode work.begin work.accesses)
+            ∙ (let n = sym number in λ i. clash W.geometry (up_to (ahead W more).history (n i)) work.mode work.begin work.accesses);
+        later = subst (λ (n : ℕ). AreNotesAfter W.geometry (ahead W more).history n (above n plan.notes.notes)) (sym number) (ahead_notes W more of.world plan.notes.notes is.notes);
+      }
+
+-- a record that is spelled for a commit of a world
+module _ (U : World) (tx : ℕ) (t : Live) (work : Doing) (is : IsWorld U) (may : MayCommit U tx t work) where
+  pub same_runs : runs U.geometry work.accesses ≡ runs U.geometry t.accesses
+  same_runs = ap (runs U.geometry) may.settled.is_work.accesses
+
+  pub some_runs : 0 < length (runs U.geometry work.accesses)
+  some_runs =
+      let size : 64 ≤ U.geometry.block = (limits U.geometry is.valid).least_block in
+      subst (λ (l : List Run). 0 < length l) (sym same_runs) (runs_where_write U.geometry t.accesses (omega arith) may.settled.accesses may.write)
+
+  pub runs_lie : LieInAnImage (runs U.geometry work.accesses)
+  runs_lie = (U.geometry, is.valid, are_runs U.geometry work.accesses)
+
+  pub spelled_so : (g : Geometry) (number kind : ℕ) (mode : Mode) (bytes : List ℕ) → g ≡ U.geometry → number ≡ last U.history + 1 → last U.history < LAST → mode ≡ work.mode → kind ≡ kind_of g mode
+      → bytes ≡ [] ++ spell 1 kind number (runs U.geometry work.accesses) → AreNextRecords U (written_of U t ∷ []) bytes
+  spelled_so g number kind mode bytes same number_is fresh mode_is kind_is bytes_is =
+      let size : 64 ≤ U.geometry.block = (limits U.geometry is.valid).least_block in
+      let kinds : kind ≡ kind_of U.geometry t.mode = kind_is ∙ (λ i. kind_of (same i) ((mode_is ∙ may.settled.is_work.mode) i)) in
+      let begun = has_begun U tx t is may.here in
+      record {
+        some = omega arith;
+        each = (commit_is_record U.geometry (commit_from t) (omega (arith, size)) may.settled.accesses may.write begun.mode, tt);
+        numbers = omega (arith, fresh);
+        bytes_are = bytes_is ∙ (λ i. spell 1 (kinds i) (number_is i) (same_runs i)) ∙ sym (append-nil (spell 1 (kind_of U.geometry t.mode) (last U.history + 1) (runs U.geometry t.accesses)));
+      }
+
+  pub ends_as : end_step U t ≡ commit_step U t None
+  ends_as = ends_by U t None may.write (sym may.none)
+
+  pub worn_so : last U.history ≡ LAST → member.Worn ≡ member_reply (end_step U t).0
+  worn_so worn = ap member_reply (sym (ap (λ (x : CoreReply × World). x.0) ends_as ∙ is_worn U t worn))
+
+  pub full_so : (needs free : ℕ) → last U.history ≢ LAST → needs ≡ need U t → free ≡ U.geometry.log - used U → free < needs → member.Full needs free ≡ member_reply (end_step U t).0
+  full_so needs free fresh need_is free_is less =
+      (λ i. member.Full (need_is i) (free_is i))
+      ∙ ap member_reply (sym (ap (λ (x : CoreReply × World). x.0) ends_as ∙ is_full U t fresh (omega (arith, need_is, free_is, less))))
+
+  pub commits_as : last U.history ≢ LAST → need U t ≤ U.geometry.log - used U → (end_step U t).0 ≡ reply.Committed (last U.history + 1)
+  commits_as fresh fits = ap (λ (x : CoreReply × World). x.0) (ends_as ∙ is_committed U t fresh fits)
+
+-- commits behind commits
+pub ahead_twice : (W : World) (more others : List Commit) → ahead (ahead W more) others ≡ ahead W (more ++ others)
+ahead_twice W more others = let e = append_assoc W.history.commits more others in λ i. record W { history = record W.history { commits = e i } }
+
+-- one record more
+pub records_more : (g : Geometry) (n : ℕ) (more : List Commit) (c : Commit) → records g n (map (written g) more) ++ records g (n + length more) (written g c ∷ []) ≡ records g n (map (written g) (more ++ c ∷ []))
+records_more g n more c =
+    let count : length (map (written g) more) ≡ length more = length-map more (written g) in
+    (λ i. records g n (map (written g) more) ++ records g (n + sym count i) (written g c ∷ []))
+    ∙ sym (records-append g n (map (written g) more) (written g c ∷ []))
+    ∙ ap (records g n) (sym (map-append (written g) more (c ∷ [])))
+
+-- one commit more is staged
+module _ (kept : Kept) (W : World) (more : List Commit) (plan : Plan) (of : IsOf kept W) (is : IsAhead W more plan) (tx : ℕ) (t : Live) (next : IsNextStaged (ahead W more) tx t kept) where
+  pub staged_more : (new : Plan) (s : Staged) (number : ℕ) (writes : Bytes) → new.bytes.items ≡ plan.bytes.items ++ kept.buffer.records → new.staged.items ≡ plan.staged.items ++ s ∷ []
+      → new.notes.notes ≡ plan.notes.notes ++ (number, writes) ∷ [] → number ≡ last (ahead W more).history + 1 → s.at ≡ length plan.bytes.items → s.parts.items ≡ kept.parts.items
+      → AreTouched W.geometry.block W.geometry.blocks Write t.accesses writes → IsAhead W (more ++ commit_from t ∷ []) new
+  staged_more new s number writes bytes staged notes number_is at parts touched =
+      let from : last (ahead W more).history + 1 ≡ last W.history + 1 + length more = (let all = last_ahead W more of.world in omega (arith, all)) in
+      record {
+        world = subst IsWorld (ahead_twice W more (commit_from t ∷ [])) (stays_ahead (ahead W more) t is.world next.world).world;
+        bytes = bytes ∙ (λ i. is.bytes i ++ next.next.bytes_are i) ∙ (λ i. records W.geometry (last W.history + 1) (map (written W.geometry) more) ++ records W.geometry (from i) (written W.geometry (commit_from t) ∷ []))
+            ∙ records_more W.geometry (last W.history + 1) more (commit_from t);
+        notes = subst (λ (l : List Note). AreNotes W.geometry (last W.history + 1) l (more ++ commit_from t ∷ [])) (sym notes)
+            (notes_appended W.geometry (last W.history + 1) number plan.notes.notes more (commit_from t) writes is.notes (number_is ∙ from) touched);
+        staged = subst (λ (l : List Staged). AreStaged W.geometry 0 l (more ++ commit_from t ∷ [])) (sym staged)
+            (staged_push W.geometry 0 plan.staged.items more s (commit_from t) is.staged (let b = bytes_ahead kept W more plan of is in omega (arith, at, b)) (parts ∙ next.parts));
+      }
+
+-- the notes so far have lower numbers
+pub numbers_before : (g : Geometry) (m : ℕ) (notes : List Note) (commits : List Commit) → AreNotes g m notes commits → (k : ℕ) (d : Note) → k < length notes → (slice_index_or notes k d).0 + 1 ≤ m + length commits
+numbers_before g m [] commits are k d below = absurd (omega arith)
+numbers_before g m (note ∷ notes) [] are k d below = absurd are
+numbers_before g m (note ∷ notes) (c ∷ commits) are zero d below = omega (arith, are.0)
+numbers_before g m (note ∷ notes) (c ∷ commits) are (suc k) d below =
+    let low = numbers_before g (m + 1) notes commits are.2 k d (omega arith) in
+    omega (arith, low)
+
+-- a work of a member is one of the world with the commits ahead
+pub settled_ahead : (W : World) (more : List Commit) (t : Live) (work : Doing) → IsSettledOf W t work → IsSettledOf (ahead W more) t work
+settled_ahead W more t work s = record {
+  is_work = record { begin = s.is_work.begin; mode = s.is_work.mode; size = s.is_work.size; blocks = s.is_work.blocks; accesses = s.is_work.accesses };
+  accesses = s.accesses;
+  count = s.count;
+  settled = s.settled;
+}
+
+pub may_ahead : (W : World) (more : List Commit) (tx : ℕ) (t : Live) (work : Doing) → IsTx W tx t → IsSettledOf W t work → has_write t.accesses ≡ true
+    → clash W.geometry (ahead W more).history t.mode t.begin t.accesses ≡ None → MayCommit (ahead W more) tx t work
+may_ahead W more tx t work here s write none = record {
+  here = record { number = here.number; among = here.among };
+  settled = settled_ahead W more t work s;
+  write = write;
+  none = none;
+}
+
+-- how many bytes are free ahead
+pub free_ahead : (kept : Kept) (W : World) (more : List Commit) (plan : Plan) → IsOf kept W → IsAhead W more plan → (kept.log.room - kept.log.used) - length plan.bytes.items ≡ (ahead W more).geometry.log - used (ahead W more)
+free_ahead kept W more plan of is =
+    let room = log_room kept W of.world of.keeps in
+    let all = room_ahead kept W more plan of is in
+    omega (arith, room, all)
+
+-- what a reply says of the commit
+pub commits_then : (r : GroupReply) (P : Type 0) → is_commit r ≡ true → IfCommits r P → P
+commits_then (member.Committed number) P is p = p
+commits_then member.ReadOnly P is p = cc is
+commits_then (member.Conflict c) P is p = cc is
+commits_then (member.Full needs free) P is p = cc is
+commits_then member.Worn P is p = cc is
+
+pub makes_none : (t : Live) (r : GroupReply) → is_commit r ≡ false → made_by t r ≡ []
+makes_none t (member.Committed number) is = cc is
+makes_none t member.ReadOnly is = refl
+makes_none t (member.Conflict c) is = refl
+makes_none t (member.Full needs free) is = refl
+makes_none t member.Worn is = refl
+
+pub makes_one : (t : Live) (r : GroupReply) → is_commit r ≡ true → made_by t r ≡ commit_from t ∷ []
+makes_one t (member.Committed number) is = refl
+makes_one t member.ReadOnly is = cc is
+makes_one t (member.Conflict c) is = cc is
+makes_one t (member.Full needs free) is = cc is
+makes_one t member.Worn is = cc is
+
+pub on_ok : {A E P Q : Type 0} (r : Result A E) → (P → Q) → OnOk r P → OnOk r Q
+on_ok (Ok x) f p = f p
+on_ok (Err e) f p = p
+
+-- the first of the members, and the others
+pub record FirstReady (W : World) (m : GroupEnd) (rest : List GroupEnd) (members : List Live) : Type 0 where
+  pub first : Live
+  pub others : List Live
+  pub are : members ≡ first ∷ others
+  pub ready : IsReady W m first
+  pub apart : AllByRecursion (λ (u : Live). u.number ≢ first.number) others
+  pub each : AreEach (IsReady W) rest others
+
+pub parted : (W : World) (m : GroupEnd) (rest : List GroupEnd) (members : List Live) → AreEach (IsReady W) (m ∷ rest) members → FirstReady W m rest members
+parted W m rest [] each = absurd each
+parted W m rest (t ∷ members) each = record { first = t; others = members; are = refl; ready = each.0; apart = each.1; each = each.2 }
+
+pub none_ready : (W : World) (members : List Live) → AreEach (IsReady W) [] members → members ≡ []
+none_ready W [] each = refl
+none_ready W (t ∷ members) each = absurd each
+
+pub planned_none : (W : World) (more : List Commit) (members : List Live) (plan : Plan) (replies : List GroupReply) → members ≡ [] → IsAhead W more plan → HasPlanned W more members plan replies replies
+planned_none W more members plan replies none is = record {
+  all = more;
+  is = is;
+  told = [];
+  replies = sym (append-nil replies);
+  decides = ap (decided (ahead W more)) none;
+}
+
+pub planned_more : (W : World) (more : List Commit) (t : Live) (members all : List Live) (plan : Plan) (old mid new : List GroupReply) → all ≡ t ∷ members
+    → mid ≡ old ++ member_reply (end_step (ahead W more) t).0 ∷ [] → HasPlanned W (more ++ made_by t (member_reply (end_step (ahead W more) t).0)) members plan mid new
+    → HasPlanned W more all plan old new
+planned_more W more t members all plan old mid new all_are mid_is rest =
+    let r : GroupReply = member_reply (end_step (ahead W more) t).0 in
+    record {
+      all = rest.all;
+      is = rest.is;
+      told = r ∷ rest.told;
+      replies = rest.replies ∙ ap (λ (l : List GroupReply). l ++ rest.told) mid_is ∙ append_assoc old (r ∷ []) rest.told;
+      decides = ap (decided (ahead W more)) all_are
+          ∙ ap (λ (V : World). with_first r (decided V members)) (ahead_twice W more (made_by t r))
+          ∙ ap (with_first r) rest.decides;
+    }

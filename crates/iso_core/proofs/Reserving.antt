@@ -1,0 +1,104 @@
+-- Memory for the commits of a plan.
+use Rattle.std.proofs.Common.{◌≡◌, ◌∙◌, inl, inr, nat_lt, sym, refl, ap, ℕ, ◌+◌, ◌^◌, ◌<◌, ◌≤◌, ◌==◌, cond, List, [], ◌∷◌, ◌++◌, length, sum_by, arith, subst}
+use Rattle.std.specs.List.{AllByRecursion}
+use Rattle.std.specs.List.Sorted.{IsPermutation}
+use Rattle.std.proofs.lemmas.Bool.{cases_lt, le-ltb, lt-ltb}
+use Rattle.std.proofs.lemmas.List.{length-append, length-map}
+use Rattle.std.proofs.lemmas.List.Sorted.{sum_by-IsPermutation}
+use Rattle.std.proofs.lemmas.List.Sums.{sum_by-cons}
+use Rattle.iso_model.specs.declared.access.Commit.{Commit}
+use Rattle.iso_model.specs.declared.access.Geometry.{Geometry}
+use Rattle.iso_model.specs.declared.access.Run.{Run}
+use Rattle.iso_model.specs.Effect.{record_length, runs}
+use Rattle.iso_model.specs.Image.{written}
+use Rattle.iso_model.proofs.Bounds.{limits}
+use Rattle.iso_model.proofs.Maximal.{are_runs}
+use Rattle.iso_model.specs.World.{World, used}
+use Rattle.iso_model.specs.Worlds.{IsWorld}
+use Rattle.mv_index.specs.Versions.{BlockVersions}
+use Rattle.version_read.specs.declared.part_span.PartSpan.{PartSpan}
+use Rattle.version_read.specs.Parts.{HasRoom, part_of, parts_in}
+use Rattle.version_read.proofs.Taking.{parts_below}
+use Rattle.iso_core.specs.declared.plan.Staged.{Staged}
+use Rattle.iso_core.specs.declared.plan.Plan.{Plan}
+use Rattle.iso_model.specs.Group.{ahead}
+use Rattle.iso_core.specs.Planned.{AreStaged, IsAhead, all_parts}
+use Rattle.iso_core.proofs.Judging.{used_ahead}
+
+-- room for the sorted parts is room for the parts in order
+pub room_sorted : (xs ys : List PartSpan) (index : List BlockVersions) → IsPermutation xs ys → HasRoom ys index → HasRoom xs index
+room_sorted xs ys index same room b =
+    let count : parts_in b ys ≡ parts_in b xs = sum_by-IsPermutation (λ (part : PartSpan). cond (part.block == b) 1 0) xs ys same in
+    omega (arith, count, room b)
+
+all_both : {X : Type 0} (P : X → Type 0) (xs ys : List X) → AllByRecursion P xs → AllByRecursion P ys → AllByRecursion P (xs ++ ys)
+all_both P [] ys first second = second
+all_both P (x ∷ xs) ys first second = (first.0, all_both P xs ys first.1 second)
+
+-- the parts of all staged records lie in the array
+pub all_below : (g : Geometry) (at : ℕ) (staged : List Staged) (commits : List Commit) → AreStaged g at staged commits → AllByRecursion (λ (part : PartSpan). part.block < g.blocks) (all_parts staged)
+all_below g at [] commits are = tt
+all_below g at (s ∷ staged) [] are = absurd are
+all_below g at (s ∷ staged) (c ∷ commits) are =
+    all_both (λ (part : PartSpan). part.block < g.blocks) s.parts.items (all_parts staged)
+    (subst (AllByRecursion (λ (part : PartSpan). part.block < g.blocks)) (sym are.1) (parts_below g (runs g c.accesses) (are_runs g c.accesses)))
+    (all_below g (at + record_length (written g c).parts) staged commits are.2)
+
+few_runs : (rs : List Run) → length rs ≤ sum_by (λ (run : Run). 8 + length run.bytes) rs
+few_runs [] = omega arith
+few_runs (r ∷ rs) =
+    let all = sum_by-cons (λ (run : Run). 8 + length run.bytes) r rs in
+    omega (arith, all, few_runs rs)
+
+-- there are not more of them than bytes in their records
+pub all_few : (g : Geometry) (at : ℕ) (staged : List Staged) (commits : List Commit) → AreStaged g at staged commits
+    → length (all_parts staged) ≤ sum_by (λ (c : Commit). record_length (written g c).parts) commits
+all_few g at [] [] are = omega arith
+all_few g at [] (c ∷ commits) are = absurd are
+all_few g at (s ∷ staged) [] are = absurd are
+all_few g at (s ∷ staged) (c ∷ commits) are =
+    let both = length-append s.parts.items (all_parts staged) in
+    let one : length s.parts.items ≡ length (runs g c.accesses) = ap (λ (l : List PartSpan). length l) are.1 ∙ length-map (runs g c.accesses) part_of in
+    let few = few_runs (runs g c.accesses) in
+    let rest = all_few g (at + record_length (written g c).parts) staged commits are.2 in
+    let sum = sum_by-cons (λ (d : Commit). record_length (written g d).parts) c commits in
+    omega (arith, both, one, few, rest, sum)
+
+abbrev high : ℕ → PartSpan → ℕ
+high n part = cond (nat_lt part.block n) 0 1
+
+none_high : (n : ℕ) (ps : List PartSpan) → AllByRecursion (λ (part : PartSpan). part.block < n) ps → sum_by (high n) ps ≡ 0
+none_high n [] all = refl
+none_high n (p ∷ ps) all =
+    let e = sum_by-cons (high n) p ps in
+    let one : high n p ≡ 0 = rw (lt-ltb p.block n all.0) refl in
+    omega (arith, e, one, none_high n ps all.1)
+
+all_low : (n : ℕ) (ps : List PartSpan) → sum_by (high n) ps ≡ 0 → AllByRecursion (λ (part : PartSpan). part.block < n) ps
+all_low n [] e = tt
+all_low n (p ∷ ps) e =
+    let s = sum_by-cons (high n) p ps in
+    elim (cases_lt p.block n) [
+      | inl lt ↦ (lt, all_low n ps (omega (arith, e, s)))
+      | inr le ↦ (let one : high n p ≡ 1 = rw (le-ltb p.block n le) refl in absurd (omega (arith, e, s, one)))
+    ]
+
+-- what lies in the array does so in any order
+pub sorted_below : (n : ℕ) (xs ys : List PartSpan) → IsPermutation xs ys → AllByRecursion (λ (part : PartSpan). part.block < n) xs → AllByRecursion (λ (part : PartSpan). part.block < n) ys
+sorted_below n xs ys same all = all_low n ys (sum_by-IsPermutation (high n) xs ys same ∙ none_high n xs all)
+
+ones : (ps : List PartSpan) → sum_by (λ (part : PartSpan). 1) ps ≡ length ps
+ones [] = refl
+ones (p ∷ ps) = let e = sum_by-cons (λ (part : PartSpan). 1) p ps in omega (arith, e, ones ps)
+
+pub sorted_many : (xs ys : List PartSpan) → IsPermutation xs ys → length ys ≡ length xs
+sorted_many xs ys same = sym (ones ys) ∙ sum_by-IsPermutation (λ (part : PartSpan). 1) xs ys same ∙ ones xs
+
+pub few_staged : (W : World) (more : List Commit) (plan : Plan) (ys : List PartSpan) → IsWorld W → IsAhead W more plan → IsPermutation (all_parts plan.staged.items) ys → length ys < 2 ^ 32
+few_staged W more plan ys base is same =
+    let count = sorted_many (all_parts plan.staged.items) ys same in
+    let few = all_few W.geometry 0 plan.staged.items more is.staged in
+    let all = used_ahead W more base in
+    let room : used (ahead W more) + 1 ≤ W.geometry.log = is.world.room in
+    let most = (limits W.geometry base.valid).largest_log in
+    omega (arith, count, few, all, room, most)

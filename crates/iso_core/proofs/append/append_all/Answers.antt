@@ -1,0 +1,35 @@
+use Rattle.std.proofs.Common.{◌+◌}
+use Rattle.iso_image.specs.Half.{half_of_world}
+use Rattle.iso_core.proofs.Staging.{next_all, told_so}
+use Rattle.iso_core.proofs.append.append_all.Goals as goal
+
+pub append_group-requires-clause-next : goal.append_group-requires-clause-next
+append_group-requires-clause-next g c =
+    let (W, more, all, of, next, bytes) = c.requires.next in
+    (W.geometry, more, next_all c.args.kept.now W more all of.kept_of next c.args.bytes.now bytes)
+
+pub returns-in-Ok-clause-moments : goal.returns-in-Ok-clause-moments
+returns-in-Ok-clause-moments g c W more all of next bytes =
+    c.append_group.ensures.held_moments W.geometry (half_of_world W c.args.kept.now.half) more of.kept_of.keeps.log
+    (next_all c.args.kept.now W more all of.kept_of next c.args.bytes.now bytes) of.images.each
+
+pub returns-in-Ok-clause-held : goal.returns-in-Ok-clause-held
+returns-in-Ok-clause-held g c W more all of next bytes =
+    (c.in-Ok.ensures.held W.geometry (half_of_world W c.args.kept.now.half) more of.kept_of.keeps.log
+    (next_all c.args.kept.now W more all of.kept_of next c.args.bytes.now bytes) of.images.each).1
+
+pub returns-in-Ok-clause-grown : goal.returns-in-Ok-clause-grown
+returns-in-Ok-clause-grown g c W more all of next bytes =
+    let log_is = (c.in-Ok.ensures.held W.geometry (half_of_world W c.args.kept.now.half) more of.kept_of.keeps.log
+    (next_all c.args.kept.now W more all of.kept_of next c.args.bytes.now bytes) of.images.each).0 in
+    λ i. record c.args.kept.now { log = log_is i }
+
+pub returns-in-Err-clause-moments : goal.returns-in-Err-clause-moments
+returns-in-Err-clause-moments g c W more all of next bytes =
+    c.append_group.ensures.held_moments W.geometry (half_of_world W c.args.kept.now.half) more of.kept_of.keeps.log
+    (next_all c.args.kept.now W more all of.kept_of next c.args.bytes.now bytes) of.images.each
+
+pub append_group-requires-clause-told : goal.append_group-requires-clause-told
+append_group-requires-clause-told g c =
+    let (W, more, all, of, next, bytes) = c.requires.next in
+    (W.geometry, W.base + 1, (half_of_world W c.args.kept.now.half).told, told_so (g.D.Disk.state c.args.disk.now) c.args.kept.now W of)

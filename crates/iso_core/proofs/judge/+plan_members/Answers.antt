@@ -1,0 +1,42 @@
+use Rattle.std.proofs.Common.{◌≡◌, ap, suc, length, arith, subst, List, ◌++◌}
+use Rattle.iso_model.specs.Step.{end_step}
+use Rattle.iso_core.specs.declared.group_end.GroupEnd.{GroupEnd}
+use Rattle.iso_model.specs.Group.{ahead, made_by, member_reply}
+use Rattle.iso_core.specs.Planned.{AreEach, IsReady}
+use Rattle.iso_core.proofs.Committing.{buffer_on}
+use Rattle.iso_core.proofs.Judging.{none_ready, on_ok, parted, planned_more, planned_none}
+use Rattle.iso_core.proofs.judge.+plan_members.Goals as goal
+
+pub plan_member-requires : goal.plan_member-requires
+plan_member-requires t c =
+    let (W, more, members, of, is, each) = c.requires in
+    let p = parted W c.in-Some.member.now c.in-Some.rest.now members (subst (λ (l : List GroupEnd). AreEach (IsReady W) l members) c.in-Some.ensures.some each) in
+    (W, more, p.first, of, is, p.ready)
+
+pub plan_members-requires : goal.plan_members-requires
+plan_members-requires t c =
+    let (W, more, members, of, is, each) = c.requires in
+    let p = parted W c.in-Some.member.now c.in-Some.rest.now members (subst (λ (l : List GroupEnd). AreEach (IsReady W) l members) c.in-Some.ensures.some each) in
+    let shorter : length c.args.group.now ≡ suc (length c.in-Some.rest.now) = ap (λ (l : List GroupEnd). length l) c.in-Some.ensures.some in (
+      omega (arith, shorter, c.decreases),
+      (
+        W,
+        more ++ made_by p.first (member_reply (end_step (ahead W more) p.first).0),
+        p.others,
+        buffer_on c.args.kept.now W c.plan_member.new.kept of c.plan_member.ensures.same,
+        c.in_ok-plan_member.ensures.ahead W more p.first of is p.ready,
+        p.each,
+      ),
+    )
+
+pub returns-in_default-clause-planned : goal.returns-in_default-clause-planned
+returns-in_default-clause-planned t c W more members of is each =
+    planned_none W more members c.args.plan.now c.args.replies.now.items (none_ready W members (subst (λ (l : List GroupEnd). AreEach (IsReady W) l members) c.in_default.ensures.none each)) is
+
+pub returns-clause-planned : goal.returns-clause-planned
+returns-clause-planned t c W more members of is each =
+    let p = parted W c.in-Some.member.now c.in-Some.rest.now members (subst (λ (l : List GroupEnd). AreEach (IsReady W) l members) c.in-Some.ensures.some each) in
+    on_ok c.plan_members.result (planned_more W more p.first p.others members c.plan_members.new.plan c.args.replies.now.items c.plan_member.new.replies.items c.plan_members.new.replies.items p.are
+    (c.in_ok-plan_member.ensures.replies W more p.first of is p.ready))
+    (c.plan_members.ensures.planned W (more ++ made_by p.first (member_reply (end_step (ahead W more) p.first).0)) p.others (buffer_on c.args.kept.now W c.plan_member.new.kept of c.plan_member.ensures.same)
+    (c.in_ok-plan_member.ensures.ahead W more p.first of is p.ready) p.each)

@@ -1,0 +1,49 @@
+use Rattle.std.proofs.Common.{◌≡◌, ◌∙◌, sym, ap, true, false}
+use Rattle.iso_model.specs.declared.core_reply.CoreReply.{CoreReply}
+use Rattle.iso_model.specs.Effect.{has_write}
+use Rattle.iso_model.specs.World.{World}
+use Rattle.iso_model.specs.Group.{ahead, member_reply}
+use Rattle.iso_core.proofs.Endings.{ends_in_conflict, ends_read_only}
+use Rattle.iso_core.proofs.Judging.{may_ahead}
+use Rattle.iso_core.proofs.judge.judge.Goals as goal
+
+pub returns-then-not-has_write-clause-answer : goal.returns-then-not-has_write-clause-answer
+returns-then-not-has_write-clause-answer c W more t of is ready =
+    let none : has_write t.accesses ≡ false = ap has_write (sym ready.settled.is_work.accesses) ∙ sym c.has_write.ensures ∙ c.if-not-has_write.true in
+    ap (λ (x : CoreReply × World). member_reply x.0) (sym (ends_read_only (ahead W more) t none))
+
+pub clash_in-requires-clause-settled : goal.clash_in-requires-clause-settled
+clash_in-requires-clause-settled c =
+    let (W, more, t, of, is, ready) = c.requires in
+    ready.settled.settled
+
+pub returns-in-Some-clause-answer : goal.returns-in-Some-clause-answer
+returns-in-Some-clause-answer c W more t of is ready =
+    let write : has_write t.accesses ≡ true = ap has_write (sym ready.settled.is_work.accesses) ∙ sym c.has_write.ensures ∙ c.if-not-has_write.false in
+    ap (λ (x : CoreReply × World). member_reply x.0) (sym (ends_in_conflict (ahead W more) t c.in-Some.clash write (sym c.in-Some.is ∙ c.clash_in.ensures W more c.args.member.now.tx t of is ready.here ready.settled)))
+
+pub room_for-requires : goal.room_for-requires
+room_for-requires c =
+    let (W, more, t, of, is, ready) = c.requires in
+    let write : has_write t.accesses ≡ true = ap has_write (sym ready.settled.is_work.accesses) ∙ sym c.has_write.ensures ∙ c.if-not-has_write.false in (
+      W,
+      more,
+      c.args.member.now.tx,
+      t,
+      of,
+      is,
+      may_ahead W more c.args.member.now.tx t c.args.member.now.work ready.here ready.settled write
+          (sym (c.clash_in.ensures W more c.args.member.now.tx t of is ready.here ready.settled) ∙ c.in_default.is),
+    )
+
+pub returns-clause-answer : goal.returns-clause-answer
+returns-clause-answer c W more t of is ready =
+    let write : has_write t.accesses ≡ true = ap has_write (sym ready.settled.is_work.accesses) ∙ sym c.has_write.ensures ∙ c.if-not-has_write.false in
+    c.room_for.ensures.answer W more c.args.member.now.tx t of is (may_ahead W more c.args.member.now.tx t c.args.member.now.work ready.here ready.settled write
+    (sym (c.clash_in.ensures W more c.args.member.now.tx t of is ready.here ready.settled) ∙ c.in_default.is))
+
+pub returns-clause-next : goal.returns-clause-next
+returns-clause-next c W more t of is ready =
+    let write : has_write t.accesses ≡ true = ap has_write (sym ready.settled.is_work.accesses) ∙ sym c.has_write.ensures ∙ c.if-not-has_write.false in
+    c.room_for.ensures.next W more c.args.member.now.tx t of is (may_ahead W more c.args.member.now.tx t c.args.member.now.work ready.here ready.settled write
+    (sym (c.clash_in.ensures W more c.args.member.now.tx t of is ready.here ready.settled) ∙ c.in_default.is))

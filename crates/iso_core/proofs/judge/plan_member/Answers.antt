@@ -1,0 +1,23 @@
+use Rattle.std.proofs.Common.{◌∙◌, ap, subst, [], ◌∷◌, ◌++◌}
+use Rattle.iso_model.specs.declared.access.GroupReply.{GroupReply}
+use Rattle.iso_model.specs.Group.{made_by}
+use Rattle.iso_core.specs.Planned.{IsAhead}
+use Rattle.iso_core.proofs.Committing.{buffer_on}
+use Rattle.iso_core.proofs.judge.plan_member.Goals as goal
+
+pub judge-requires : goal.judge-requires
+judge-requires c = c.requires
+
+pub stage_if-requires : goal.stage_if-requires
+stage_if-requires c =
+    let (W, more, t, of, is, ready) = c.requires in
+    (W, more, c.args.member.now.tx, t, buffer_on c.args.kept.now W c.judge.new.kept of c.judge.ensures.same, is, ready.settled, c.in_ok-reply.ensures.next W more t of is ready)
+
+pub returns-clause-ahead : goal.returns-clause-ahead
+returns-clause-ahead c W more t of is ready =
+    subst (λ (r : GroupReply). IsAhead W (more ++ made_by t r) c.stage_if.new.plan) (c.in_ok-reply.ensures.answer W more t of is ready)
+    (c.in_ok-stage_if.ensures W more c.args.member.now.tx t (buffer_on c.args.kept.now W c.judge.new.kept of c.judge.ensures.same) is ready.settled (c.in_ok-reply.ensures.next W more t of is ready))
+
+pub returns-clause-replies : goal.returns-clause-replies
+returns-clause-replies c W more t of is ready =
+    c.in_ok-push_reply.ensures ∙ ap (λ (r : GroupReply). c.args.replies.now.items ++ r ∷ []) (c.in_ok-reply.ensures.answer W more t of is ready)

@@ -1,0 +1,21 @@
+use Rattle.std.proofs.Common.{◌∙◌, sym, ap, List, ◌++◌, OnOk, subst, append-nil}
+use Rattle.iso_model.specs.declared.access.Commit.{Commit}
+use Rattle.iso_core.specs.Planned.{IsAhead}
+use Rattle.iso_core.proofs.Judging.{commits_then, makes_none, makes_one}
+use Rattle.iso_core.proofs.judge.stage_if.Goals as goal
+
+pub returns-then-not-commits : goal.returns-then-not-commits
+returns-then-not-commits c W more tx t of is settled next =
+    let none = makes_none t c.args.reply.now (sym c.commits.ensures ∙ c.if-not-commits.true) in
+    subst (λ (l : List Commit). IsAhead W l c.args.plan.now) (sym (ap (λ (l : List Commit). more ++ l) none ∙ append-nil more)) is
+
+pub stage-requires : goal.stage-requires
+stage-requires c =
+    let (W, more, tx, t, of, is, settled, next) = c.requires in
+    (W, more, tx, t, of, is, settled, commits_then c.args.reply.now _ (sym c.commits.ensures ∙ c.if-not-commits.false) next)
+
+pub returns : goal.returns
+returns c W more tx t of is settled next =
+    let one = makes_one t c.args.reply.now (sym c.commits.ensures ∙ c.if-not-commits.false) in
+    subst (λ (l : List Commit). OnOk c.stage.result (IsAhead W (more ++ l) c.stage.new.plan)) (sym one)
+    (c.stage.ensures W more tx t of is settled (commits_then c.args.reply.now _ (sym c.commits.ensures ∙ c.if-not-commits.false) next))

@@ -1,0 +1,28 @@
+use Rattle.std.proofs.Common.{◌∙◌, sym, ap, List, length}
+use Rattle.iso_model.specs.declared.access.GroupReply.{GroupReply}
+use Rattle.iso_model.specs.Group.{group}
+use Rattle.iso_core.specs.Planned.{IsReady}
+use Rattle.iso_core.proofs.Moments.{stays_shown}
+use Rattle.iso_core.proofs.Replied.{bare_replied, bare_settled, each_one, each_replied}
+use Rattle.iso_core.proofs.members.end_members.Goals as goal
+
+pub returns-in-Err-clause-members : goal.returns-in-Err-clause-members
+returns-in-Err-clause-members g c = bare_settled c.settle_members.new.ends c.args.ends.now c.settle_members.ensures.same
+
+pub returns-in-Err-clause-moments : goal.returns-in-Err-clause-moments
+returns-in-Err-clause-moments g c W members of each =
+    stays_shown (g.D.Disk.state c.args.disk.now) (g.met.D.Disk.lawful c.args.disk.now) c.args.kept.now W (group W members).1 of
+
+pub put_replies-requires : goal.put_replies-requires
+put_replies-requires g c =
+    let (W, members, of, each) = c.requires in
+    let ready = c.in_default.ensures.ready W members each in
+    let told = (c.in-Ok.ensures.ended W members of ready).0 in
+    each_one (IsReady W) c.settle_members.new.ends members ready ∙ sym (each_replied W members) ∙ sym (ap (λ (l : List GroupReply). length l) (c.as_slice.ensures.value ∙ told))
+
+pub returns-in-Ok-clause-members : goal.returns-in-Ok-clause-members
+returns-in-Ok-clause-members g c =
+    bare_replied c.put_replies.new.ends c.settle_members.new.ends c.put_replies.ensures.rest ∙ bare_settled c.settle_members.new.ends c.args.ends.now c.settle_members.ensures.same
+
+pub returns-clause-members : goal.returns-clause-members
+returns-clause-members g c = bare_settled c.settle_members.new.ends c.args.ends.now c.settle_members.ensures.same

@@ -1,0 +1,9 @@
+use Rattle.std.proofs.Common.{rules, subst, IsPermutation}
+use Rattle.std.proofs.lemmas.List.Sorted.{IsNonDecreasingBy-from_sort_by_key}
+use Rattle.iso_core.proofs.taking.sorted_parts.Goals as goal
+
+pub returns-clause-same : goal.returns-clause-same
+returns-clause-same c = subst (λ v. IsPermutation v c.sort_by_key.new.self.items) c.in_ok-all.ensures c.sort_by_key.ensures.permutation
+
+pub returns-clause-order : goal.returns-clause-order
+returns-clause-order c = IsNonDecreasingBy-from_sort_by_key (λ k. k.block) _ c.in_ok-sort_by_key.ensures.sorted (λ a r q k. search rules)

@@ -1,0 +1,50 @@
+use Rattle.std.proofs.Common.{◌∙◌, sym, ap, ◌+◌, ◌-◌, arith, subst, List}
+use Rattle.iso_image.specs.Half.{half_of_world}
+use Rattle.iso_core.specs.declared.plan.Staged.{Staged}
+use Rattle.iso_core.specs.Planned.{MayTakeAll, all_parts}
+use Rattle.version_read.specs.Parts.{HasRoom}
+use Rattle.iso_core.proofs.Staging.{few_first, number_first, rising_notes, taken_in, takes_all}
+use Rattle.iso_core.proofs.taking.take_plan.Goals as goal
+
+pub overflow_sub-first : goal.overflow_sub-first
+overflow_sub-first c =
+    let (W, more, grown) = c.requires in
+    let few = few_first W more c.args.plan c.args.kept.now c.args.gate grown c.len.result (c.len.ensures ∙ c.args.plan.staged.ok.0) in
+    omega (arith, few, c.last.ensures)
+
+pub take_staged-requires-clause-follow : goal.take_staged-requires-clause-follow
+take_staged-requires-clause-follow c =
+    let (W, more, grown) = c.requires in
+    let number = number_first W more c.args.plan c.args.kept.now c.args.gate grown (c.last.result - c.len.result + 1) c.len.result (c.len.ensures ∙ c.args.plan.staged.ok.0) (ap (λ n. n - c.len.result + 1) c.last.ensures) in (
+      W.geometry,
+      half_of_world W c.args.kept.now.half,
+      W.trim,
+      0,
+      more,
+      subst (λ (l : List Staged). MayTakeAll W.geometry (half_of_world W c.args.kept.now.half) W.trim 0 more (c.last.result - c.len.result + 1) c.args.gate l c.args.kept.now.index) (sym c.as_slice.ensures.value)
+          (takes_all W more c.args.plan c.args.kept.now c.args.gate grown (c.last.result - c.len.result + 1) number),
+    )
+
+pub take_staged-requires-clause-room : goal.take_staged-requires-clause-room
+take_staged-requires-clause-room c =
+    let (W, more, grown) = c.requires in
+    subst (λ (l : List Staged). HasRoom (all_parts l) c.args.kept.now.index) (sym c.as_slice.ensures.value) grown.reserved.room
+
+pub take_all-requires-clause-room : goal.take_all-requires-clause-room
+take_all-requires-clause-room c =
+    let (W, more, grown) = c.requires in
+    grown.reserved.note_room
+
+pub take_all-requires-clause-rising : goal.take_all-requires-clause-rising
+take_all-requires-clause-rising c =
+    let (W, more, grown) = c.requires in
+    rising_notes W more c.args.plan c.args.kept.now c.args.gate grown
+
+pub returns-clause-taken : goal.returns-clause-taken
+returns-clause-taken c W more grown =
+    let number = number_first W more c.args.plan c.args.kept.now c.args.gate grown (c.last.result - c.len.result + 1) c.len.result (c.len.ensures ∙ c.args.plan.staged.ok.0) (ap (λ n. n - c.len.result + 1) c.last.ensures) in
+    taken_in W more c.args.plan c.args.kept.now c.args.gate grown c.take_staged.new.index c.take_all.new.self
+    (c.take_staged.ensures W.geometry (half_of_world W c.args.kept.now.half) W.trim 0 more
+    (subst (λ (l : List Staged). MayTakeAll W.geometry (half_of_world W c.args.kept.now.half) W.trim 0 more (c.last.result - c.len.result + 1) c.args.gate l c.args.kept.now.index) (sym c.as_slice.ensures.value)
+    (takes_all W more c.args.plan c.args.kept.now c.args.gate grown (c.last.result - c.len.result + 1) number)))
+    c.take_all.ensures

@@ -1,0 +1,156 @@
+-- What stands between the steps of a group.
+use Rattle.std.specs.Prelude.{◌≡◌, ◌≢◌, ℕ, ◌+◌, ◌≤◌, Bool, true, false, IsTrue, List, [], ◌∷◌, ◌++◌, length, map, flat_map, Option, None}
+use Rattle.std.specs.List.{AllByRecursion}
+use Rattle.conflict_rule.specs.Decision.{AreNotes}
+use Rattle.iso_model.specs.declared.access.Commit.{Commit}
+use Rattle.iso_model.specs.declared.access.Geometry.{Geometry}
+use Rattle.iso_image.specs.Half.{Half, MayFollow, half_of_world, last_told, next_gate, with_records}
+use Rattle.iso_log.specs.Extent.{Extent as LogExtent, extent_of}
+use Rattle.iso_model.specs.Effect.{record_length}
+use Rattle.iso_model.specs.History.{last}
+use Rattle.iso_model.specs.Geometry.{is_valid, log_place}
+use Rattle.iso_model.specs.Image.{IsRecord, records, written}
+use Rattle.mv_index.specs.Placed.{IsIndexOf}
+use Rattle.iso_model.specs.Step.{after_commit, end_step}
+use Rattle.iso_model.specs.World.{World, Live}
+use Rattle.iso_model.specs.Worlds.{IsWorld}
+use Rattle.iso_model.specs.declared.core_reply.CoreReply.TheVariants as reply
+use Rattle.mv_index.specs.Versions.{BlockVersions}
+use Rattle.version_read.specs.declared.part_span.PartSpan.{PartSpan}
+use Rattle.version_read.specs.Parts.{HasRoom, part_of}
+use Rattle.iso_model.specs.declared.access.GroupReply.{GroupReply}
+use Rattle.iso_model.specs.declared.access.GroupReply.TheVariants as member
+use Rattle.iso_core.specs.declared.group_end.GroupEnd.{GroupEnd}
+use Rattle.iso_core.specs.declared.kept.Kept.{Kept}
+use Rattle.iso_core.specs.declared.plan.Plan.{Plan}
+use Rattle.iso_core.specs.declared.plan.Staged.{Staged}
+use Rattle.iso_core.specs.Calls.{IsTx, IsWorkOf}
+use Rattle.iso_core.specs.Ends.{AreNextRecords, IsSettledOf, written_of}
+use Rattle.iso_model.specs.Group.{ahead, decided}
+use Rattle.iso_core.specs.Kept.{IsOf}
+
+-- a member is a live transaction with its work, and has no reply yet
+pub record IsMember (W : World) (m : GroupEnd) (t : Live) : Type 0 where
+  pub here : IsTx W m.tx t
+  pub work : IsWorkOf W t m.work
+  pub none : m.reply ≡ None
+
+-- and its work is settled
+pub record IsReady (W : World) (m : GroupEnd) (t : Live) : Type 0 where
+  pub here : IsTx W m.tx t
+  pub settled : IsSettledOf W t m.work
+  pub none : m.reply ≡ None
+
+-- the members are those transactions in order, which are different ones
+abbrev pub AreEach : (GroupEnd → Live → Type 0) → List GroupEnd → List Live → Type 0
+AreEach P [] [] = Unit {0}
+AreEach P [] (t ∷ ts) = ⊥
+AreEach P (m ∷ ms) [] = ⊥
+AreEach P (m ∷ ms) (t ∷ ts) = P m t × AllByRecursion (λ (u : Live). u.number ≢ t.number) ts × AreEach P ms ts
+
+-- a member without what is known of how far its work is settled
+abbrev pub unsettled : GroupEnd → GroupEnd
+unsettled m = record m { work = record m.work { settled = false } }
+
+-- the staged records are those of these commits, the first of which has its gate at this place behind the first one of all
+abbrev pub AreStaged : Geometry → (at : ℕ) → List Staged → List Commit → Type 0
+AreStaged g at [] [] = Unit {0}
+AreStaged g at [] (c ∷ commits) = ⊥
+AreStaged g at (s ∷ staged) [] = ⊥
+AreStaged g at (s ∷ staged) (c ∷ commits) =
+    (s.at ≡ at) × (s.parts.items ≡ map part_of (written g c).parts) × AreStaged g (at + record_length (written g c).parts) staged commits
+
+-- the plan has these commits, which may follow what is kept
+pub record IsAhead (W : World) (more : List Commit) (plan : Plan) : Type 0 where
+  pub world : IsWorld (ahead W more)
+  pub bytes : plan.bytes.items ≡ records W.geometry (last W.history + 1) (map (written W.geometry) more)
+  pub notes : AreNotes W.geometry (last W.history + 1) plan.notes.notes more
+  pub staged : AreStaged W.geometry 0 plan.staged.items more
+
+-- the transaction is the next commit of the world, and its record is spelled
+pub record IsNextStaged (U : World) (tx : ℕ) (t : Live) (kept : Kept) : Type 0 where
+  pub answer : (end_step U t).0 ≡ reply.Committed (last U.history + 1)
+  pub world : IsWorld (after_commit U t)
+  pub next : AreNextRecords U (written_of U t ∷ []) kept.buffer.records
+  pub parts : kept.parts.items ≡ map part_of (written_of U t).parts
+
+-- where the reply is a commit
+abbrev pub IfCommits : GroupReply → Type 0 → Type 0
+IfCommits (member.Committed number) P = P
+IfCommits member.ReadOnly P = Unit {0}
+IfCommits (member.Conflict clash) P = Unit {0}
+IfCommits (member.Full need free) P = Unit {0}
+IfCommits member.Worn P = Unit {0}
+
+-- whether the reply is a commit
+abbrev pub is_commit : GroupReply → Bool
+is_commit (member.Committed number) = true
+is_commit member.ReadOnly = false
+is_commit (member.Conflict clash) = false
+is_commit (member.Full need free) = false
+is_commit member.Worn = false
+
+-- the parts of all staged records, one record after the other
+abbrev pub all_parts : List Staged → List PartSpan
+all_parts staged = flat_map (λ s. s.parts.items) staged
+
+-- all memory is at hand that the commits of the plan take
+pub record IsReserved (plan : Plan) (kept : Kept) : Type 0 where
+  pub room : HasRoom (all_parts plan.staged.items) kept.index
+  pub note_room : length kept.notes.notes + length plan.notes.notes ≤ kept.notes.room
+
+-- a member without its reply
+abbrev pub without_reply : GroupEnd → GroupEnd
+without_reply m = record m { reply = None }
+
+-- a member without its reply, and without what is known of how far its work is settled
+abbrev pub bare_end : GroupEnd → GroupEnd
+bare_end m = without_reply (unsettled m)
+
+-- how a member ended
+abbrev pub reply_in : GroupEnd → Option GroupReply
+reply_in m = m.reply
+
+-- All members are decided, after those whose commits were planned before: the plan has the commits of all, and the replies are behind the others.
+pub record HasPlanned (W : World) (more : List Commit) (members : List Live) (plan : Plan) (old new : List GroupReply) : Type 0 where
+  pub all : List Commit
+  pub is : IsAhead W all plan
+  pub told : List GroupReply
+  pub replies : new ≡ old ++ told
+  pub decides : decided (ahead W more) members ≡ (told, ahead W all)
+
+-- What is staged may be taken in, one record after the other.
+pub record MayTakeAll (g : Geometry) (x : Half) (t at : ℕ) (commits : List Commit) (number gate : ℕ) (staged : List Staged) (index : List BlockVersions) : Type 0 where
+  pub valid : IsTrue (is_valid g)
+  pub half : x.at ≤ 1
+  pub each : AllByRecursion (IsRecord g) x.told
+  pub follow : MayFollow g x (map (written g) commits)
+  pub trim : t ≤ last_told x
+  pub is : IsIndexOf g (x.base + 1) (log_place g x.at) t x.told index
+  pub are : AreStaged g at staged commits
+  pub number_is : number ≡ last_told x + 1
+  pub gate_is : gate + at ≡ next_gate g x
+
+-- the plan has what is to be taken in of these commits
+pub record HasStaged (W : World) (more : List Commit) (plan : Plan) : Type 0 where
+  pub world : IsWorld (ahead W more)
+  pub notes : AreNotes W.geometry (last W.history + 1) plan.notes.notes more
+  pub staged : AreStaged W.geometry 0 plan.staged.items more
+
+-- All members are decided, and all is at hand that their commits take: their records with a closed gate behind them, and memory.
+pub record IsPlannedFor (W : World) (members : List Live) (plan : Plan) (kept : Kept) (replies : List GroupReply) : Type 0 where
+  pub all : List Commit
+  pub has : HasStaged W all plan
+  pub bytes : plan.bytes.items ≡ records W.geometry (last W.history + 1) (map (written W.geometry) all) ++ 0 ∷ []
+  pub reserved : IsReserved plan kept
+  pub decides : decided W members ≡ (replies, ahead W all)
+
+-- What is kept was that of the world with all that the commits of the plan want, and then their records were appended at the gate.
+pub record IsGrownWith (W : World) (more : List Commit) (plan : Plan) (kept : Kept) (gate : ℕ) : Type 0 where
+  pub old_log : LogExtent
+  pub was : IsOf (record kept { log = old_log }) W
+  pub ahead_of : HasStaged W more plan
+  pub reserved : IsReserved plan kept
+  pub follows : MayFollow W.geometry (half_of_world W kept.half) (map (written W.geometry) more)
+  pub log : kept.log ≡ extent_of W.geometry (with_records (map (written W.geometry) more) (half_of_world W kept.half))
+  pub gate_is : gate ≡ next_gate W.geometry (half_of_world W kept.half)

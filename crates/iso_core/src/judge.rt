@@ -1,0 +1,255 @@
+// How a member of a group ends, after those before it.
+ghost use Rattle.std.specs.Prelude.{◌≡◌, ℕ, ◌+◌, ◌<◌, ◌++◌, [], ◌∷◌, true, List, None, OnOk, IfNone, IfOk, IfSome, map};
+ghost use Rattle.byte_marks.specs.declared.extent.Extent.{Extent};
+ghost use Rattle.byte_marks.specs.Touched.{AreTouched};
+ghost use Rattle.iso_model.specs.declared.access.Kind.TheVariants.{Read, Write};
+ghost use Rattle.conflict_rule.specs.Decision.{IsAsked};
+ghost use Rattle.iso_model.specs.declared.access.Commit.{Commit};
+ghost use Rattle.iso_model.specs.declared.access.Geometry.{Geometry};
+ghost use Rattle.iso_model.specs.Conflict.{clash};
+ghost use Rattle.iso_model.specs.History.{History, last};
+ghost use Rattle.iso_model.specs.Step.{end_step, commit_from};
+ghost use Rattle.iso_model.specs.declared.limits.TheConstants.{LAST};
+ghost use Rattle.iso_model.specs.Worlds.{IsWorld};
+ghost use Rattle.version_read.specs.Parts.{part_of};
+ghost use Rattle.iso_model.specs.World.{World, Live};
+ghost use Rattle.iso_core.specs.Ends.{AreNextRecords, IsSettledOf, MayCommit, written_of};
+ghost use Rattle.iso_model.specs.Group.{ahead, made_by, member_reply};
+ghost use Rattle.iso_core.specs.Kept.{IsOf};
+ghost use Rattle.iso_core.specs.Calls.{IsTx};
+ghost use Rattle.iso_core.specs.Planned.{is_commit, IfCommits, IsAhead, AreEach, HasPlanned, IsNextStaged, IsReady};
+
+use crate::group_end::GroupEnd;
+use crate::kept::Kept;
+use crate::plan::{Plan, Staged};
+use crate::spelling::spell;
+use conflict_rule::{Checked, Notes, decide};
+use iso_format::RecordBuffer;
+use iso_image::kind_of;
+use iso_model::{Clash, GroupReply, LAST, Memory};
+use std::alloc::Global;
+use std::marker::Brand;
+use std::sync::ledger::{Blank, Ledger};
+use step_count::Steps;
+use tx_table::Work;
+use version_read::PartSpan;
+
+// How a work clashes with the commits that these notes tell, after those that were checked.
+fn clash_with<L: Ledger>(
+    work: &Work,
+    checked: &Checked,
+    notes: &Notes,
+    steps: &mut Steps<L>,
+) -> Option<Clash>
+    requires settled { work.now.settled ≡ true }
+    ensures { (g : Geometry) (H : History) → g.block ≡ work.now.size → g.blocks ≡ work.now.blocks
+        → ((reads writes : List (ℕ × List Extent)) → AreTouched work.now.size work.now.blocks Read work.now.accesses reads → AreTouched work.now.size work.now.blocks Write work.now.accesses writes
+        → IsAsked g H work.now.mode work.now.begin work.now.accesses checked.now.upto checked.now.clash reads writes notes.now.notes)
+        → result ≡ clash g H work.now.mode work.now.begin work.now.accesses }
+{
+    decide(
+        work.mode(),
+        checked,
+        work.reads(),
+        work.writes(),
+        notes,
+        steps,
+    )
+}
+
+// How a member clashes with the commits that are kept, and with those of the members before it.
+fn clash_in<L: Ledger>(blank: Blank, kept: &Kept, plan: &Plan, work: &Work) -> Option<Clash>
+    requires name { blank.name ≡ L.name }
+    requires parts { blank.parts ≡ L.parts }
+    requires some { 0 < L.parts }
+    requires settled { work.now.settled ≡ true }
+    ensures { (W : World) (more : List Commit) (tx : ℕ) (t : Live) → IsOf kept.now W → IsAhead W more plan.now → IsTx W tx t → IsSettledOf W t work.now
+        → result ≡ clash W.geometry (ahead W more).history t.mode t.begin t.accesses }
+{
+    let mut steps = Steps::<L>::start(blank);
+    let begun = Checked {
+        upto: work.begun_at(),
+        clash: None,
+    };
+    let clash = clash_with(work, &begun, &kept.notes, &mut steps);
+    let so_far = Checked {
+        upto: kept.log.last(),
+        clash,
+    };
+    clash_with(work, &so_far, &plan.notes, &mut steps)
+}
+
+// Spells the record of a transaction as that of a commit.
+fn spell_as(kept: &mut Kept, work: &Work, number: u64) -> Result<(), Memory>
+    requires { (W : World) × (U : World) × (tx : ℕ) × (t : Live) × IsOf kept.old W × (U.geometry ≡ W.geometry) × IsWorld U × MayCommit U tx t work.now × (number ≡ last U.history + 1) × (last U.history < LAST) }
+    ensures next { (W U : World) (tx : ℕ) (t : Live) → IsOf kept.old W → U.geometry ≡ W.geometry → IsWorld U → MayCommit U tx t work.now → number ≡ last U.history + 1 → last U.history < LAST
+        → OnOk result (AreNextRecords U (written_of U t ∷ []) kept.new.buffer.records) }
+    ensures parts { (W U : World) (tx : ℕ) (t : Live) → IsOf kept.old W → U.geometry ≡ W.geometry → IsWorld U → MayCommit U tx t work.now
+        → OnOk result (kept.new.parts.items ≡ map part_of (written_of U t).parts) }
+    ensures same { kept.new ≡ record kept.old { buffer = kept.new.buffer; parts = kept.new.parts } }
+{
+    kept.buffer.clear();
+    let kind = kind_of(&kept.geometry, work.mode());
+    spell(&mut kept.buffer, &mut kept.parts, work, number, kind)?;
+    Ok(())
+}
+
+/// How a transaction with a write and no clash ends. Where it is the next commit, its record is spelled.
+fn room_for(kept: &mut Kept, plan: &Plan, work: &Work) -> Result<GroupReply, Memory>
+    requires { (W : World) × (more : List Commit) × (tx : ℕ) × (t : Live) × IsOf kept.old W × IsAhead W more plan.now × MayCommit (ahead W more) tx t work.now }
+    ensures answer { (W : World) (more : List Commit) (tx : ℕ) (t : Live) → IsOf kept.old W → IsAhead W more plan.now → MayCommit (ahead W more) tx t work.now
+        → IfOk result (λ r. r ≡ member_reply (end_step (ahead W more) t).0) }
+    ensures next { (W : World) (more : List Commit) (tx : ℕ) (t : Live) → IsOf kept.old W → IsAhead W more plan.now → MayCommit (ahead W more) tx t work.now
+        → IfOk result (λ r. IfCommits r (IsNextStaged (ahead W more) tx t kept.new)) }
+    ensures same { kept.new ≡ record kept.old { buffer = kept.new.buffer; parts = kept.new.parts } }
+{
+    let last = kept.log.last() + plan.staged.len() as u64;
+    if last >= LAST {
+        return Ok(GroupReply::Worn);
+    }
+    spell_as(kept, work, last + 1)?;
+    let need = kept.buffer.with_closed_gate().len() as u64;
+    let free = u64::from(kept.log.free()) - plan.bytes.len() as u64;
+    if free < need {
+        return Ok(GroupReply::Full { need, free });
+    }
+    Ok(GroupReply::Committed(last + 1))
+}
+
+/// How a member ends, after those of the plan. Where it is the next commit, its record is spelled.
+pub(crate) fn judge(kept: &mut Kept, plan: &Plan, member: &GroupEnd) -> Result<GroupReply, Memory>
+    requires { (W : World) × (more : List Commit) × (t : Live) × IsOf kept.old W × IsAhead W more plan.now × IsReady W member.now t }
+    ensures answer { (W : World) (more : List Commit) (t : Live) → IsOf kept.old W → IsAhead W more plan.now → IsReady W member.now t
+        → IfOk result (λ r. r ≡ member_reply (end_step (ahead W more) t).0) }
+    ensures next { (W : World) (more : List Commit) (t : Live) → IsOf kept.old W → IsAhead W more plan.now → IsReady W member.now t
+        → IfOk result (λ r. IfCommits r (IsNextStaged (ahead W more) member.now.tx t kept.new)) }
+    ensures same { kept.new ≡ record kept.old { buffer = kept.new.buffer; parts = kept.new.parts } }
+{
+    if !member.work.has_write() {
+        return Ok(GroupReply::ReadOnly);
+    }
+    if let Some(clash) = clash_in::<Brand>(Blank::new(1), kept, plan, &member.work) {
+        return Ok(GroupReply::Conflict(clash));
+    }
+    room_for(kept, plan, &member.work)
+}
+
+// The records of a buffer, without the gate behind them.
+fn records_in(buffer: &RecordBuffer) -> &[u8]
+    ensures { result.now ≡ buffer.now.records }
+{
+    let bytes = buffer.with_closed_gate();
+    &bytes[..bytes.len() - 1]
+}
+
+fn copy_parts(alloc: Global, parts: &[PartSpan]) -> Result<Vec<PartSpan>, Memory>
+    ensures { IfOk result (λ copy. copy.items ≡ parts.now) }
+{
+    let mut copy = Vec::new(alloc);
+    copy.extend_from_slice(parts)?;
+    Ok(copy)
+}
+
+fn push_bytes(bytes: &mut Vec<u8>, more: &[u8]) -> Result<(), Memory>
+    ensures { OnOk result (bytes.new.items ≡ bytes.old.items ++ more.now) }
+{
+    bytes.extend_from_slice(more)?;
+    Ok(())
+}
+
+fn push_staged(staged: &mut Vec<Staged>, at: u64, parts: Vec<PartSpan>) -> Result<(), Memory>
+    ensures { OnOk result (staged.new.items ≡ staged.old.items ++ record { at = at; parts = parts } ∷ []) }
+{
+    staged.push(Staged { at, parts })?;
+    Ok(())
+}
+
+/// Puts the record that is spelled behind those of the plan, as that of a commit with this work.
+fn stage(kept: &Kept, plan: &mut Plan, work: &Work) -> Result<(), Memory>
+    requires { (W : World) × (more : List Commit) × (tx : ℕ) × (t : Live) × IsOf kept.now W × IsAhead W more plan.old × IsSettledOf W t work.now × IsNextStaged (ahead W more) tx t kept.now }
+    ensures { (W : World) (more : List Commit) (tx : ℕ) (t : Live) → IsOf kept.now W → IsAhead W more plan.old → IsSettledOf W t work.now → IsNextStaged (ahead W more) tx t kept.now
+        → OnOk result (IsAhead W (more ++ commit_from t ∷ []) plan.new) }
+{
+    let number = kept.log.last() + plan.staged.len() as u64 + 1;
+    let at = plan.bytes.len() as u64;
+    let parts = copy_parts(kept.alloc, kept.parts.as_slice())?;
+    let writes = work.writes().copy()?;
+    push_staged(&mut plan.staged, at, parts)?;
+    push_bytes(&mut plan.bytes, records_in(&kept.buffer))?;
+    plan.notes.reserve()?;
+    plan.notes.add(number, writes);
+    Ok(())
+}
+
+// Whether the reply is a commit.
+fn commits(reply: &GroupReply) -> bool
+    ensures { result ≡ is_commit reply.now }
+{
+    matches!(reply, GroupReply::Committed(_))
+}
+
+/// Puts the record that is spelled behind those of the plan, where the reply is a commit.
+fn stage_if(kept: &Kept, plan: &mut Plan, work: &Work, reply: &GroupReply) -> Result<(), Memory>
+    requires { (W : World) × (more : List Commit) × (tx : ℕ) × (t : Live) × IsOf kept.now W × IsAhead W more plan.old × IsSettledOf W t work.now × IfCommits reply.now (IsNextStaged (ahead W more) tx t kept.now) }
+    ensures { (W : World) (more : List Commit) (tx : ℕ) (t : Live) → IsOf kept.now W → IsAhead W more plan.old → IsSettledOf W t work.now → IfCommits reply.now (IsNextStaged (ahead W more) tx t kept.now)
+        → OnOk result (IsAhead W (more ++ made_by t reply.now) plan.new) }
+{
+    if !commits(reply) {
+        return Ok(());
+    }
+    stage(kept, plan, work)
+}
+
+fn push_reply(replies: &mut Vec<GroupReply>, reply: GroupReply) -> Result<(), Memory>
+    ensures { OnOk result (replies.new.items ≡ replies.old.items ++ reply ∷ []) }
+{
+    replies.push(reply)?;
+    Ok(())
+}
+
+/// Decides one member more, and puts its reply behind the others.
+pub(crate) fn plan_member(
+    kept: &mut Kept,
+    plan: &mut Plan,
+    replies: &mut Vec<GroupReply>,
+    member: &GroupEnd,
+) -> Result<(), Memory>
+    requires { (W : World) × (more : List Commit) × (t : Live) × IsOf kept.old W × IsAhead W more plan.old × IsReady W member.now t }
+    ensures ahead { (W : World) (more : List Commit) (t : Live) → IsOf kept.old W → IsAhead W more plan.old → IsReady W member.now t
+        → OnOk result (IsAhead W (more ++ made_by t (member_reply (end_step (ahead W more) t).0)) plan.new) }
+    ensures replies { (W : World) (more : List Commit) (t : Live) → IsOf kept.old W → IsAhead W more plan.old → IsReady W member.now t
+        → OnOk result (replies.new.items ≡ replies.old.items ++ member_reply (end_step (ahead W more) t).0 ∷ []) }
+    ensures same { kept.new ≡ record kept.old { buffer = kept.new.buffer; parts = kept.new.parts } }
+{
+    let reply = judge(kept, plan, member)?;
+    stage_if(kept, plan, &member.work, &reply)?;
+    push_reply(replies, reply)?;
+    Ok(())
+}
+
+/// The first member, and the others.
+pub(crate) fn first_member(group: &[GroupEnd]) -> Option<(&GroupEnd, &[GroupEnd])>
+    ensures some { IfSome result (λ x. group.now ≡ x.0.now ∷ x.1.now) }
+    ensures none { IfNone result (group.now ≡ []) }
+{
+    group.split_first()
+}
+
+/// Decides all members in order, each after those before it.
+pub(crate) fn plan_members(
+    kept: &mut Kept,
+    plan: &mut Plan,
+    replies: &mut Vec<GroupReply>,
+    group: &[GroupEnd],
+) -> Result<(), Memory>
+    requires { (W : World) × (more : List Commit) × (members : List Live) × IsOf kept.old W × IsAhead W more plan.old × AreEach (IsReady W) group.now members }
+    ensures planned { (W : World) (more : List Commit) (members : List Live) → IsOf kept.old W → IsAhead W more plan.old → AreEach (IsReady W) group.now members
+        → OnOk result (HasPlanned W more members plan.new replies.old.items replies.new.items) }
+    ensures same { kept.new ≡ record kept.old { buffer = kept.new.buffer; parts = kept.new.parts } }
+{
+    let Some((member, rest)) = first_member(group) else {
+        return Ok(());
+    };
+    plan_member(kept, plan, replies, member)?;
+    plan_members(kept, plan, replies, rest)
+}

@@ -1,0 +1,145 @@
+// The commits of a group are taken in, once their records stand.
+ghost use Rattle.std.specs.Prelude.{◌≡◌, ℕ, ◌+◌, ◌<◌, ◌++◌, [], ◌∷◌, List, IfNone, IfOk, IfSome, OnOk, map};
+ghost use Rattle.std.specs.List.Sorted.{IsNonDecreasingBy, IsPermutation};
+ghost use Rattle.iso_image.specs.Half.{Half};
+ghost use Rattle.iso_model.specs.declared.access.Commit.{Commit};
+ghost use Rattle.iso_model.specs.declared.access.Geometry.{Geometry};
+ghost use Rattle.iso_model.specs.Geometry.{log_place};
+ghost use Rattle.iso_model.specs.Image.{written};
+ghost use Rattle.iso_model.specs.World.{World, Live};
+ghost use Rattle.mv_index.specs.Placed.{IsIndexOf};
+ghost use Rattle.version_read.specs.Parts.{HasRoom};
+ghost use Rattle.iso_model.specs.Group.{ahead, leave_all};
+ghost use Rattle.iso_core.specs.Kept.{IsOf};
+ghost use Rattle.iso_core.specs.Planned.{AreEach, IsAhead, IsGrownWith, IsReady, IsReserved, MayTakeAll, all_parts};
+
+use crate::group_end::GroupEnd;
+use crate::judge::first_member;
+use crate::kept::Kept;
+use crate::leave::leave;
+use crate::plan::{Plan, Staged};
+use iso_model::Memory;
+use mv_index::MvIndex;
+use std::alloc::Global;
+use version_read::{PartSpan, add_parts, reserve_parts};
+
+// The first staged record, and the others.
+fn first_staged(staged: &[Staged]) -> Option<(&Staged, &[Staged])>
+    ensures some { IfSome result (λ x. staged.now ≡ x.0.now ∷ x.1.now) }
+    ensures none { IfNone result (staged.now ≡ []) }
+{
+    staged.split_first()
+}
+
+fn push_parts(all: &mut Vec<PartSpan>, parts: &[PartSpan]) -> Result<(), Memory>
+    ensures { OnOk result (all.new.items ≡ all.old.items ++ parts.now) }
+{
+    all.extend_from_slice(parts)?;
+    Ok(())
+}
+
+// Puts the parts of staged records behind the others.
+fn gather_parts(all: &mut Vec<PartSpan>, staged: &[Staged]) -> Result<(), Memory>
+    ensures { OnOk result (all.new.items ≡ all.old.items ++ all_parts staged.now) }
+{
+    let Some((record, rest)) = first_staged(staged) else {
+        return Ok(());
+    };
+    push_parts(all, record.parts.as_slice())?;
+    gather_parts(all, rest)
+}
+
+// The parts of staged records, in their order.
+fn parts_of(alloc: Global, staged: &[Staged]) -> Result<Vec<PartSpan>, Memory>
+    ensures { IfOk result (λ all. all.items ≡ all_parts staged.now) }
+{
+    let mut all = Vec::new(alloc);
+    gather_parts(&mut all, staged)?;
+    Ok(all)
+}
+
+// The parts of staged records, by their blocks.
+fn sorted_parts(alloc: Global, staged: &[Staged]) -> Result<Vec<PartSpan>, Memory>
+    ensures same { IfOk result (λ all. IsPermutation (all_parts staged.now) all.items) }
+    ensures order { IfOk result (λ all. IsNonDecreasingBy (λ part. part.block) all.items) }
+{
+    let mut all = parts_of(alloc, staged)?;
+    all.sort_by_key(|part| part.block)?;
+    Ok(all)
+}
+
+/// Takes all memory that the commits of a plan take.
+pub(crate) fn reserve_plan(kept: &mut Kept, plan: &Plan) -> Result<(), Memory>
+    requires { (W : World) × (more : List Commit) × IsOf kept.old W × IsAhead W more plan.now }
+    ensures reserved { (W : World) (more : List Commit) → IsOf kept.old W → IsAhead W more plan.now → OnOk result (IsReserved plan.now kept.new) }
+    ensures same { (W : World) → IsOf kept.old W → IsOf kept.new W }
+    ensures rest { kept.new ≡ record kept.old { index = kept.new.index; notes = kept.new.notes } }
+{
+    let all = sorted_parts(kept.alloc, plan.staged.as_slice())?;
+    reserve_parts(&mut kept.index, all.as_slice())?;
+    kept.notes.reserve_for(&plan.notes)?;
+    Ok(())
+}
+
+/// Adds the versions of staged records to the index of a half behind which they stand, the first of which has this number;
+/// the gate is that of the first one of all.
+fn take_staged(index: &mut MvIndex, number: u64, gate: u64, staged: &[Staged])
+    requires follow { (g : Geometry) × (x : Half) × (t : ℕ) × (at : ℕ) × (commits : List Commit) × MayTakeAll g x t at commits number gate staged.now index.old }
+    requires room { HasRoom (all_parts staged.now) index.old }
+    ensures { (g : Geometry) (x : Half) (t at : ℕ) (commits : List Commit) → MayTakeAll g x t at commits number gate staged.now index.old
+        → IsIndexOf g (x.base + 1) (log_place g x.at) t (x.told ++ map (written g) commits) index.new }
+{
+    let Some((record, rest)) = first_staged(staged) else {
+        return;
+    };
+    add_parts(index, number, gate + record.at, record.parts.as_slice());
+    take_staged(index, number + 1, gate, rest);
+}
+
+/// Takes in the commits of a plan, whose records were appended at a gate. All members are live still.
+pub(crate) fn take_plan(kept: &mut Kept, gate: u64, plan: Plan)
+    requires { (W : World) × (more : List Commit) × IsGrownWith W more plan kept.old gate }
+    ensures taken { (W : World) (more : List Commit) → IsGrownWith W more plan kept.old gate → IsOf kept.new (ahead W more) }
+    ensures half { kept.new.half ≡ kept.old.half }
+    ensures down { kept.new.down ≡ kept.old.down }
+{
+    let first = kept.log.last() - plan.staged.len() as u64 + 1;
+    take_staged(&mut kept.index, first, gate, plan.staged.as_slice());
+    kept.notes.take_all(plan.notes);
+}
+
+// Takes all members out, one after the other.
+fn leave_each(kept: &mut Kept, group: &[GroupEnd])
+    requires { (W : World) × (members : List Live) × IsOf kept.old W × AreEach (IsReady W) group.now members }
+    ensures left { (W : World) (members : List Live) → IsOf kept.old W → AreEach (IsReady W) group.now members → IsOf kept.new (leave_all members W) }
+    ensures half { kept.new.half ≡ kept.old.half }
+    ensures down { kept.new.down ≡ kept.old.down }
+{
+    let Some((member, rest)) = first_member(group) else {
+        return;
+    };
+    leave(kept, member.tx);
+    leave_each(kept, rest);
+}
+
+// Drops the notes that no live transaction needs any more.
+fn drop_notes(kept: &mut Kept)
+    requires { (W : World) × IsOf kept.old W }
+    ensures dropped { (W : World) → IsOf kept.old W → IsOf kept.new W }
+    ensures half { kept.new.half ≡ kept.old.half }
+    ensures down { kept.new.down ≡ kept.old.down }
+{
+    let floor = kept.live.floor(kept.log.last());
+    kept.notes.drop_to(floor);
+}
+
+/// Takes all members out, and the notes that no live transaction needs any more. It takes no memory.
+pub(crate) fn leave_members(kept: &mut Kept, group: &[GroupEnd])
+    requires { (W : World) × (members : List Live) × IsOf kept.old W × AreEach (IsReady W) group.now members }
+    ensures left { (W : World) (members : List Live) → IsOf kept.old W → AreEach (IsReady W) group.now members → IsOf kept.new (leave_all members W) }
+    ensures half { kept.new.half ≡ kept.old.half }
+    ensures down { kept.new.down ≡ kept.old.down }
+{
+    leave_each(kept, group);
+    drop_notes(kept);
+}

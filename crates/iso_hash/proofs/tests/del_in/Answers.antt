@@ -1,8 +1,0 @@
-use Rattle.plain_tx.specs.Plain.{state_of}
-use Rattle.iso_model.specs.HashCalls.{del_program}
-use Rattle.tx_blocks.specs.Runs.{area_of}
-use Rattle.iso_hash.proofs.Kept.{stays_ready}
-use Rattle.iso_hash.proofs.tests.del_in.Goals as goal
-
-pub returns : goal.returns
-returns c = stays_ready (del_program (area_of (state_of c.args.tx.now) c.region.result) c.args.key.now) (state_of c.args.tx.now) (state_of c.del.new.tx) c.del.result c.del.ensures.ended c.requires

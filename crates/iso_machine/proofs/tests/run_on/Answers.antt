@@ -1,6 +1,0 @@
-use Rattle.iso_machine.proofs.tests.run_on.Goals as goal
-
-pub finish-core-requires : goal.finish-core-requires
-finish-core-requires c =
-    let ran = c.in-Done.ensures.ran c.requires.world c.requires.stands in
-    (ran.answered.final, ran.answered.world)

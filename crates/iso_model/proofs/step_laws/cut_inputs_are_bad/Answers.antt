@@ -1,5 +1,0 @@
-use Rattle.iso_model.proofs.CutInputs.{cut_bad}
-use Rattle.iso_model.proofs.step_laws.cut_inputs_are_bad.Goals as goal
-
-pub returns : goal.returns
-returns _ = cut_bad

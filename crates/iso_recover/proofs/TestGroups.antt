@@ -1,0 +1,183 @@
+-- A core of the tests in which two transactions began and did something.
+use Rattle.std.proofs.Common.{◌≡◌, ◌∙◌, sym, refl, ap, subst, inl, inr, ℕ, ◌+◌, ◌<◌, ◌≤◌, false, List, [], ◌∷◌, ◌++◌, length, map, None, arith}
+use Rattle.std.specs.List.{AllByRecursion}
+use Rattle.iso_core.specs.declared.core_itself.Core.{Core}
+use Rattle.iso_core.specs.declared.group_end.GroupEnd.{GroupEnd}
+use Rattle.iso_core.specs.Calls.{IsWorkOf}
+use Rattle.iso_core.specs.Core.{StandsFor}
+use Rattle.iso_core.specs.Kept.{bare}
+use Rattle.iso_core.specs.Planned.{AreEach, IsMember}
+use Rattle.iso_core.specs.Standing.{Standing, up}
+use Rattle.iso_core.proofs.Standings.{stands_on}
+use Rattle.iso_disk.specs.Disk.{DiskState}
+use Rattle.iso_model.specs.declared.access.Access.{Access}
+use Rattle.iso_model.specs.declared.access.Geometry.{Geometry}
+use Rattle.iso_model.specs.declared.access.Mode.{Mode}
+use Rattle.iso_model.specs.declared.limits.TheConstants.{MAX_ACCESSES}
+use Rattle.iso_model.specs.declared.core_reply.CoreReply.TheVariants as reply
+use Rattle.iso_model.specs.History.{last}
+use Rattle.iso_model.specs.Premises.{AreAccesses, AreBytes, IsAccess}
+use Rattle.iso_model.specs.Step.{after_begin, begin_step, read_access, with_live, write_access}
+use Rattle.iso_model.specs.World.{World, Live, floor_of, unattached}
+use Rattle.iso_model.specs.Worlds.{IsLive, IsWorld}
+use Rattle.tx_table.specs.Work.{Doing}
+use Rattle.iso_recover.specs.TestCores.{HasDone}
+use Rattle.iso_recover.proofs.TestCores.{began_at, working}
+
+-- the world in which the two began
+abbrev pub two_begun : World → Mode → World
+two_begun W mode = after_begin (after_begin W unattached mode) unattached mode
+
+-- the second one
+abbrev pub second : World → Mode → List Access → Live
+second W mode accesses = record { number = W.next + 1; begin = last W.history; mode = mode; accesses = accesses; place = unattached }
+
+-- the world in which they alone are live
+abbrev pub two_worked : World → Mode → (a b : List Access) → World
+two_worked W mode a b = with_live (two_begun W mode) (working W mode a ∷ second W mode b ∷ [])
+
+module _ {D : Type 0} (state : D → DiskState) (core : Core D) (W : World) (mode : Mode) (a b : List Access)
+    (of : StandsFor state core (two_begun W mode) up) (none : W.live ≡ []) (first_accesses : AreAccesses W.geometry a) (second_accesses : AreAccesses W.geometry b)
+    (first_few : length a ≤ MAX_ACCESSES) (second_few : length b ≤ MAX_ACCESSES) where
+  both : List Live → List Live
+  both live = (live ++ working W mode [] ∷ []) ++ second W mode [] ∷ []
+
+  were : AllByRecursion (IsLive (two_begun W mode)) (working W mode [] ∷ second W mode [] ∷ [])
+  were = subst (λ (l : List Live). AllByRecursion (IsLive (two_begun W mode)) ((l ++ working W mode [] ∷ []) ++ second W mode [] ∷ [])) none of.kept_of.world.live
+
+  is_world : IsWorld (two_worked W mode a b)
+  is_world =
+      let old = of.kept_of.world in
+      let one = were.0 in
+      let two = were.1.0 in
+      record {
+        valid = old.valid;
+        history = old.history;
+        isolated = old.isolated;
+        records = old.records;
+        numbers = old.numbers;
+        since = old.since;
+        base = old.base;
+        trim = old.trim;
+        generation = old.generation;
+        room = old.room;
+        live = (
+          record { accesses = first_accesses; count = first_few; since = one.since; begin = one.begin; mode = one.mode; number = one.number; place = tt },
+          (record { accesses = second_accesses; count = second_few; since = two.since; begin = two.begin; mode = two.mode; number = two.number; place = tt }, tt),
+        );
+        distinct = ((record { numbers = λ e. absurd (omega (arith, e)); places = tt }, tt), (tt, tt));
+        count = omega arith;
+        next = old.next;
+      }
+
+  pub two_work : StandsFor state core (two_worked W mode a b) up
+  two_work =
+      let old = of.kept_of.keeps in
+      stands_on (state core.disk) core.kept core.kept (two_begun W mode) up (working W mode a ∷ second W mode b ∷ []) (W.next + 1 + 1) W.trim of refl refl (record {
+        world = is_world;
+        keeps = record {
+          geometry = old.geometry;
+          half = old.half;
+          generation = old.generation;
+          base = old.base;
+          trim = old.trim;
+          next = old.next;
+          log = old.log;
+          index = old.index;
+          notes = record {
+            from = old.notes.from;
+            before = subst (λ (l : List Live). old.notes.from ≤ floor_of (last W.history) ((l ++ working W mode [] ∷ []) ++ second W mode [] ∷ [])) none old.notes.before;
+            notes = old.notes.notes;
+          };
+          live = old.live ∙ ap (λ (l : List Live). map bare ((l ++ working W mode [] ∷ []) ++ second W mode [] ∷ [])) none;
+        };
+      })
+
+is_work : (V W : World) (t : Live) (g : Geometry) (at : ℕ) (work : Doing) → g ≡ W.geometry → V.geometry ≡ W.geometry → at ≡ t.begin → t.mode ≡ W.geometry.mode → t.accesses ≡ work.accesses → HasDone g at work → IsWorkOf V t work
+is_work V W t g at work same kept begin mode accesses did = record {
+  begin = did.begin ∙ begin;
+  mode = did.mode ∙ ap (λ (g : Geometry). g.mode) same ∙ sym mode;
+  size = did.size ∙ ap (λ (g : Geometry). g.block) (same ∙ sym kept);
+  blocks = did.blocks ∙ ap (λ (g : Geometry). g.blocks) (same ∙ sym kept);
+  accesses = sym accesses;
+}
+
+-- the two may end as a group
+pub may_group : {D : Type 0} (state : D → DiskState) (core : Core D) (W : World) → StandsFor state core (two_begun W W.geometry.mode) up → W.live ≡ []
+    → (g : Geometry) → g ≡ W.geometry → (m n : ℕ) → (begin_step W unattached W.geometry.mode).0 ≡ reply.Began m
+    → (begin_step (after_begin W unattached W.geometry.mode) unattached W.geometry.mode).0 ≡ reply.Began n
+    → (one two : GroupEnd) → one.tx ≡ W.next → two.tx ≡ W.next + 1 → one.reply ≡ None → two.reply ≡ None → HasDone g m one.work → HasDone g n two.work
+    → (V : World) × (standing : Standing) × (members : List Live) × StandsFor state core V standing × AreEach (IsMember V) (one ∷ two ∷ []) members
+may_group state core W of none g same m n began_one began_two one two first_tx second_tx no_first no_second did_one did_two =
+    let mode = W.geometry.mode in
+    let a = one.work.accesses in
+    let b = two.work.accesses in
+    let V : World = two_worked W mode a b in
+    let t : Live = working W mode a in
+    let u : Live = second W mode b in (
+      V,
+      up,
+      t ∷ u ∷ [],
+      two_work state core W mode a b of none (subst (λ (g : Geometry). AreAccesses g a) same did_one.accesses) (subst (λ (g : Geometry). AreAccesses g b) same did_two.accesses) did_one.few did_two.few,
+      (
+        record {
+          here = record { number = sym first_tx; among = inl refl };
+          work = is_work V W t g m one.work same refl (began_at W mode m began_one) refl refl did_one;
+          none = no_first;
+        },
+        ((λ e. absurd (omega (arith, e))), tt),
+        (
+          record {
+            here = record { number = sym second_tx; among = inr (inl refl) };
+            work = is_work V W u g n two.work same refl (began_at (after_begin W unattached mode) mode n began_two) refl refl did_two;
+            none = no_second;
+          },
+          tt,
+          tt,
+        ),
+      ),
+    )
+
+write_is : (g : Geometry) (block : ℕ) (bytes : List ℕ) → block < g.blocks → length bytes ≡ g.block → AreBytes bytes → IsAccess g (write_access block bytes)
+write_is g block bytes inside size values = record {
+  block = inside;
+  spans = tt;
+  few = omega arith;
+  bytes = λ is. size;
+  none = λ e. cc e;
+  values = values;
+}
+
+read_is : (g : Geometry) (block : ℕ) → block < g.blocks → IsAccess g (read_access block)
+read_is g block inside = record {
+  block = inside;
+  spans = tt;
+  few = omega arith;
+  bytes = λ e. cc e;
+  none = λ is. refl;
+  values = λ i. omega arith;
+}
+
+-- the work of one that filled a block
+pub filled : (g : Geometry) (at block : ℕ) (bytes : List ℕ) (work : Doing) → block < g.blocks → length bytes ≡ g.block → AreBytes bytes
+    → work ≡ record { begin = at; mode = g.mode; size = g.block; blocks = g.blocks; accesses = write_access block bytes ∷ []; ready = None; settled = false } → HasDone g at work
+filled g at block bytes work inside size values did = subst (HasDone g at) (sym did) (record {
+  begin = refl;
+  mode = refl;
+  size = refl;
+  blocks = refl;
+  accesses = (write_is g block bytes inside size values, tt);
+  few = omega arith;
+})
+
+-- and of one that read another block before
+pub read_and_filled : (g : Geometry) (at from block : ℕ) (bytes : List ℕ) (work : Doing) → from < g.blocks → block < g.blocks → length bytes ≡ g.block → AreBytes bytes
+    → work ≡ record { begin = at; mode = g.mode; size = g.block; blocks = g.blocks; accesses = read_access from ∷ write_access block bytes ∷ []; ready = None; settled = false } → HasDone g at work
+read_and_filled g at from block bytes work there inside size values did = subst (HasDone g at) (sym did) (record {
+  begin = refl;
+  mode = refl;
+  size = refl;
+  blocks = refl;
+  accesses = (read_is g from there, (write_is g block bytes inside size values, tt));
+  few = omega arith;
+})

@@ -1,0 +1,156 @@
+-- What images show of the history while the list grows.
+use Rattle.std.proofs.Common.{◌≡◌, ℕ, ◌+◌, ◌<◌, ◌≤◌, List, [], ◌∷◌, ◌++◌, Option, Some, None, refl, sym, ap, ◌∙◌, subst, arith}
+use Rattle.iso_model.specs.declared.access.Access.{Access}
+use Rattle.iso_model.specs.declared.access.Commit.{Commit}
+use Rattle.iso_model.specs.declared.access.EndReply.{EndReply}
+use Rattle.iso_model.specs.declared.access.EndReply.TheVariants.{Committed, ReadOnly, Conflict}
+use Rattle.iso_model.specs.declared.access.Geometry.{Geometry}
+use Rattle.iso_model.specs.History.{History, last, with_commits}
+use Rattle.iso_model.specs.Image.{Shows}
+use Rattle.iso_model.specs.World.{World}
+use Rattle.iso_model.specs.Worlds.{Extends}
+use Rattle.iso_model.proofs.Held.{shows_any_form, shows_longer}
+use Rattle.iso_model.proofs.Worlds.{extends_itself, extends_on}
+use Rattle.iso_model.specs.Between.{ShowsBetween, ShowsLast}
+use Rattle.iso_shared.specs.declared.entry.Call.{Call}
+use Rattle.iso_shared.specs.declared.entry.Call.TheVariants as call
+use Rattle.iso_shared.specs.declared.entry.Cause.{Cause}
+use Rattle.iso_shared.specs.declared.entry.Cause.TheVariants as cause
+use Rattle.iso_shared.specs.declared.entry.Entry.{Entry}
+use Rattle.iso_shared.specs.declared.entry.Entry.TheVariants as entry
+use Rattle.iso_shared.specs.Legal.{Answers, IsLegal, LegalFrom, MayRefuse}
+use Rattle.iso_shared.specs.Standing.{ShowsSince, whole, with_lost}
+use Rattle.iso_shared.specs.States.{Start, State, after, after_all, after_end, after_fault, after_refusal, lost_commit, opened, state_at}
+use Rattle.iso_shared.proofs.Follows.{last_longer, one_more_commit}
+use Rattle.iso_shared.proofs.Trace.{after_snoc}
+
+-- the geometry stays but for the form, and the history grows
+pub record Grows (W V : World) : Type 0 where
+  pub geometry : V.geometry ≡ record W.geometry { form = V.geometry.form }
+  pub history : Extends W.history V.history
+
+pub grows_itself : (W : World) → Grows W W
+grows_itself W = record { geometry = refl; history = extends_itself W.history }
+
+grows_on : (W V U : World) → Grows W V → Grows V U → Grows W U
+grows_on W V U first second = record {
+  geometry = second.geometry ∙ ap (λ (g : Geometry). let h : Geometry = record g { form = U.geometry.form } in h) first.geometry;
+  history = extends_on W.history V.history U.history first.history second.history;
+}
+
+shows_grown : (W V : World) (bytes : List ℕ) (p : ℕ) → 0 < W.history.first → Grows W V → Shows bytes W.geometry W.history p → Shows bytes V.geometry V.history p
+shows_grown W V bytes p some grows shown =
+    subst (λ (g : Geometry). Shows bytes g V.history p) (sym grows.geometry)
+    (shows_any_form bytes W.geometry V.geometry.form V.history p (shows_longer bytes W.geometry W.history V.history p some grows.history shown))
+
+-- what shows a history between two commits shows each longer one there
+pub between_grown : (W V U : World) (c : List ℕ) → 0 < V.history.first → Grows V U → ShowsBetween W V c → ShowsBetween W U c
+between_grown W V U c some grows shown =
+    let to : shown.at ≤ last V.history = shown.to in
+    let more = last_longer V.history U.history some grows.history in
+    record { at = shown.at; from = shown.from; to = omega arith; shows = shows_grown V U c shown.at some grows shown.shows }
+
+last_between : (W V U : World) (c : List ℕ) → 0 < W.history.first → Grows W V → 0 < V.history.first → Grows V U → ShowsLast V c → ShowsBetween W U c
+last_between W V U c first begins some grows shown =
+    record { at = last V.history; from = last_longer W.history V.history first begins.history; to = last_longer V.history U.history some grows.history; shows = shows_grown V U c (last V.history) some grows shown }
+
+-- ---- along the list
+
+-- the history stays, and the geometry but for the form
+formed : (W V : World) (o : Option (List Commit)) → V.geometry ≡ record W.geometry { form = V.geometry.form } → V.history ≡ W.history → Grows (with_lost W o) (with_lost V o)
+formed W V None geometry history = record { geometry = geometry; history = subst (λ (H : History). Extends W.history H) (sym history) (extends_itself W.history) }
+formed W V (Some lost) geometry history =
+    record { geometry = geometry; history = subst (λ (H : History). Extends (with_commits lost W.history) (with_commits lost H)) (sym history) (extends_itself (with_commits lost W.history)) }
+
+-- while the device is up, commits may be added
+added : (W V : World) (o p : Option (List Commit)) → o ≡ None → Grows W (with_lost V p) → Grows (with_lost W o) (with_lost V p)
+added W V o p up grows = subst (λ (q : Option (List Commit)). Grows (with_lost W q) (with_lost V p)) (sym up) grows
+
+grows_end : (S : State) (n : ℕ) (accesses : List Access) (r : EndReply) → S.lost ≡ None → Grows (whole S) (whole (after S (entry.End n accesses r)))
+grows_end S n accesses (Committed k) up =
+    subst (λ (q : Option (List Commit)). Grows (with_lost S.world q) (with_lost (after_end S.world n accesses (Committed k)) q)) (sym up)
+    (record { geometry = refl; history = one_more_commit S.world.history (lost_commit S.world n accesses) })
+grows_end S n accesses ReadOnly up = formed S.world (after S (entry.End n accesses ReadOnly)).world S.lost refl refl
+grows_end S n accesses (Conflict c) up = formed S.world (after S (entry.End n accesses (Conflict c))).world S.lost refl refl
+
+behind_it : (H : History) (lost : List Commit) → Extends H (with_commits lost H)
+behind_it H lost = record { first = refl; base = refl; more = lost; commits = refl }
+
+grows_fault : (S : State) (c : Call) (before now : ℕ) → MayRefuse S c (cause.Disk before now) → Grows (whole S) (whole (after_fault S c now))
+grows_fault S (call.Begin named) before now may = absurd may.0
+grows_fault S (call.Fetch n block) before now may = formed S.world S.world S.lost refl refl
+grows_fault S (call.End n accesses) before now may =
+    let T : State = after_fault S (call.End n accesses) now in
+    added S.world T.world S.lost T.lost may.0.0 (record { geometry = refl; history = behind_it S.world.history (lost_commit S.world n accesses ∷ []) })
+grows_fault S call.Trim before now may = absurd may.0
+grows_fault S call.Compact before now may = added S.world S.world S.lost (Some []) may.0.0 (record { geometry = refl; history = behind_it S.world.history [] })
+grows_fault S call.Upgrade before now may = added S.world S.world S.lost (Some []) may.0.0 (record { geometry = refl; history = behind_it S.world.history [] })
+grows_fault S (call.Post n label accesses) before now may = absurd may.0
+grows_fault S (call.Recent n) before now may = absurd may.0
+
+grows_refusal : (S : State) (c : Call) (why : Cause) → MayRefuse S c why → Grows (whole S) (whole (after_refusal S c why))
+grows_refusal S c cause.Down may = grows_itself (whole S)
+grows_refusal S c cause.TooManyTx may = grows_itself (whole S)
+grows_refusal S c (cause.LogFull need free) may = grows_itself (whole S)
+grows_refusal S c (cause.Disk before now) may = grows_fault S c before now may
+grows_refusal S c cause.Memory may = grows_itself (whole S)
+grows_refusal S c cause.Worn may = grows_itself (whole S)
+grows_refusal S c cause.ModeFixed may = grows_itself (whole S)
+grows_refusal S c cause.LabelTaken may = grows_itself (whole S)
+
+pub grows_next : (S : State) (e : Entry) → Answers S e → Grows (whole S) (whole (after S e))
+grows_next S (entry.Begin n at mode) a = formed S.world (after S (entry.Begin n at mode)).world S.lost refl refl
+grows_next S (entry.Fetch n block bytes) a = grows_itself (whole S)
+grows_next S (entry.End n accesses r) a = grows_end S n accesses r a.0
+grows_next S (entry.Abort n) a = formed S.world (after S (entry.Abort n)).world S.lost refl refl
+grows_next S (entry.Trim n) a = formed S.world (after S (entry.Trim n)).world S.lost refl refl
+grows_next S (entry.Compact n) a = formed S.world (after S (entry.Compact n)).world S.lost refl refl
+grows_next S (entry.Upgrade n) a = formed S.world (after S (entry.Upgrade n)).world S.lost refl refl
+grows_next S (entry.Stat numbers) a = grows_itself (whole S)
+grows_next S (entry.Post n label accesses) a = formed S.world S.world S.lost refl refl
+grows_next S (entry.Look label found) a = formed S.world S.world S.lost refl refl
+grows_next S (entry.Sweep None) a = grows_itself (whole S)
+grows_next S (entry.Sweep (Some n)) a = formed S.world (after S (entry.Sweep (Some n))).world S.lost refl refl
+grows_next S (entry.Recent n upto) a = grows_itself (whole S)
+grows_next S (entry.Refused c why) a = grows_refusal S c why a.1
+
+grows_from : (S : State) (es : List Entry) → LegalFrom S es → Grows (whole S) (whole (after_all S es))
+grows_from S [] legal = grows_itself (whole S)
+grows_from S (e ∷ es) legal = grows_on (whole S) (whole (after S e)) (whole (after_all (after S e) es)) (grows_next S e legal.0.answers) (grows_from (after S e) es legal.1)
+
+-- a legal list leads from its start to a longer history
+pub grows_all : (A : Start) (es : List Entry) → IsLegal A es → Grows A.world (whole (state_at A es))
+grows_all A es legal = grows_from (opened A) es legal
+
+first_whole : (W : World) (o : Option (List Commit)) → 0 < W.history.first → 0 < (with_lost W o).history.first
+first_whole W None some = some
+first_whole W (Some lost) some = some
+
+module _ (A : Start) (es : List Entry) (e : Entry) (legal : IsLegal A es) (some : 0 < (state_at A es).world.history.first) (answers : Answers (state_at A es) e) where
+  first_here : 0 < (whole (state_at A es)).history.first
+  first_here = first_whole (state_at A es).world (state_at A es).lost some
+
+  -- what the images showed before an entry they show after it
+  pub since_next : (c : List ℕ) → ShowsSince A es c → ShowsSince A (es ++ e ∷ []) c
+  since_next c shown =
+      subst (λ (T : State). ShowsBetween A.world (whole T) c) (sym (after_snoc (opened A) es e))
+      (between_grown A.world (whole (state_at A es)) (whole (after (state_at A es) e)) c first_here (grows_next (state_at A es) e answers) shown)
+
+  -- an image that shows the last commit before the entry, or the last one after it
+  pub since_last : (c : List ℕ) → ShowsLast (whole (state_at A es)) c → ShowsSince A (es ++ e ∷ []) c
+  since_last c shown =
+      let begins = grows_all A es legal in
+      let here = first_here in
+      let same : (whole (state_at A es)).history.first ≡ A.world.history.first = begins.history.first in
+      subst (λ (T : State). ShowsBetween A.world (whole T) c) (sym (after_snoc (opened A) es e))
+      (last_between A.world (whole (state_at A es)) (whole (after (state_at A es) e)) c (omega arith) begins first_here (grows_next (state_at A es) e answers) shown)
+
+  pub since_after : (c : List ℕ) → ShowsLast (whole (after (state_at A es) e)) c → ShowsSince A (es ++ e ∷ []) c
+  since_after c shown =
+      let begins = grows_all A es legal in
+      let next = grows_next (state_at A es) e answers in
+      let here = first_here in
+      let same : (whole (state_at A es)).history.first ≡ A.world.history.first = begins.history.first in
+      let later : (whole (after (state_at A es) e)).history.first ≡ (whole (state_at A es)).history.first = next.history.first in
+      subst (λ (T : State). ShowsBetween A.world (whole T) c) (sym (after_snoc (opened A) es e))
+      (last_between A.world (whole (after (state_at A es) e)) (whole (after (state_at A es) e)) c (omega arith) (grows_on A.world (whole (state_at A es)) (whole (after (state_at A es) e)) begins next) (omega arith) (grows_itself (whole (after (state_at A es) e))) shown)

@@ -1,0 +1,123 @@
+-- The laws that say what the promise means, from its records.
+use Rattle.std.proofs.Common.{◌≡◌, ◌⊎◌, inl, inr, ⊎_elim, ℕ, ◌≤◌, List, Option, Some, None, IfSome, IsSome, refl, sym, ◌∙◌, ap, subst, arith}
+use Rattle.command_line.specs.declared.task.Task.TheVariants.{New, Run, Recover}
+use Rattle.iso_disk.specs.Disk.{DiskState, SinceBind}
+use Rattle.iso_io.specs.Sink.{SinkState, Wrote}
+use Rattle.iso_io.specs.Source.{SourceState}
+use Rattle.iso_model.specs.declared.access.Geometry.{Geometry}
+use Rattle.iso_model.specs.Between.{ShowsBetween}
+use Rattle.iso_model.specs.History.{last}
+use Rattle.iso_model.specs.World.{World, empty_history, fresh}
+use Rattle.iso_refusal.specs.declared.open_error.OpenError.{OpenError}
+use Rattle.iso_refusal.specs.declared.open_error.OpenError.TheVariants as error
+use Rattle.iso_refusal.proofs.ImageLaws.{image_opens}
+use Rattle.script_model.specs.declared.script.Line.{Line}
+use Rattle.script_model.specs.Bench.{recover_output}
+use Rattle.script_model.specs.Script.{Script, after, replies, script}
+use Rattle.script_runner.specs.declared.run_end.RunEnd.{RunEnd}
+use Rattle.script_runner.specs.declared.run_end.RunEnd.TheVariants as end
+use Rattle.script_runner.specs.Run.{Acknowledges, AreLinesOf}
+use Rattle.iso_top.specs.Clients.{HasRunClients}
+use Rattle.iso_top.specs.Outcome.{HasAnswered, HasMet, PrintedDigest}
+use Rattle.iso_top.specs.Plain.{OpensFrom, PrintsDigestOf, PrintsReplies, PrintsRepliesOf}
+use Rattle.iso_top.specs.Starts.{MayBeUnmade, OpensTo, TellsNamed}
+use Rattle.iso_top.specs.Texts.{end_status, error_status}
+
+zero_is_done : (e : RunEnd) → 0 ≡ end_status e → e ≡ end.Done
+zero_is_done end.Done is = refl
+zero_is_done (end.BadLine bad) is = cc is
+zero_is_done end.Disk is = cc is
+zero_is_done end.Input is = cc is
+zero_is_done end.Output is = cc is
+zero_is_done end.Memory is = cc is
+
+zero_is_begun : (e : OpenError) → 0 ≡ error_status e → ⊥
+zero_is_begun error.NotIsotope is = cc is
+zero_is_begun (error.BadGeometry field) is = cc is
+zero_is_begun (error.WrongSize want have) is = cc is
+zero_is_begun error.NoHalf is = cc is
+zero_is_begun (error.Damaged at cause) is = cc is
+zero_is_begun (error.UnknownForm form) is = cc is
+zero_is_begun error.Disk is = cc is
+zero_is_begun error.Memory is = cc is
+
+opens_between : (W V : World) (c : List ℕ) → ShowsBetween W V c → OpensFrom (last W.history) c
+opens_between W V c shown =
+    let s = shown.shows in
+    let held = image_opens c _ s.generation s.held s.image in
+    let from = shown.from in
+    let at = s.last in
+    record { geometry = record V.geometry { form = s.form }; generation = s.generation; history = s.held; holds = s.image; accepted = held.free; opens = held.opens; last = omega arith }
+
+opens_later : (m n : ℕ) (c : List ℕ) → m ≤ n → OpensFrom n c → OpensFrom m c
+opens_later m n c le o =
+    let high = o.last in
+    record { geometry = o.geometry; generation = o.generation; history = o.history; holds = o.holds; accepted = o.accepted; opens = o.opens; last = omega arith }
+
+some_named : (o : Option (List ℕ)) (c : List ℕ) → o ≡ Some c → IsSome o
+some_named o c is = subst IsSome (sym is) refl
+
+module _ {D : Type 0} (state : D → DiskState) (name : List ℕ) (old new : D) (input_old input_new : SourceState) (output_old output_new : SinkState) where
+  prints : (made : Option Geometry) (all : List ℕ) (a : HasAnswered state made name end.Done old new input_old input_new output_old output_new) → TellsNamed name (state old)
+      → input_old.rest ≡ Some all → PrintsReplies a.world all output_old output_new
+  prints made all a tells rest =
+      let lines : AreLinesOf end.Done (script all) a.run.done a.run.next = subst (λ (o : Option (List ℕ)). IfSome o (λ text. AreLinesOf end.Done (script text) a.run.done a.run.next)) rest a.run.told in (
+        ap (λ (S : Script). S.bad) lines.0,
+        subst (λ (xs : List (ℕ × Line)). Wrote output_old output_new (replies a.world xs)) (sym (ap (λ (S : Script). S.lines) lines.0))
+            (subst (λ (k : SinkState). Wrote output_old k (replies a.world a.run.done)) (sym a.last) (a.run.answered.replies (a.begun.told tells))),
+      )
+
+  pub made_prints : (g : Geometry) (all : List ℕ) → HasMet state (New g) name 0 old new input_old input_new output_old output_new → TellsNamed name (state old) → input_old.rest ≡ Some all
+      → PrintsReplies (fresh g 1 (empty_history g)) all output_old output_new
+  made_prints g all (inl (e, is, not)) tells rest = absurd (zero_is_begun e is)
+  made_prints g all (inr (e, is, a)) tells rest =
+      let done : HasAnswered state (Some g) name end.Done old new input_old input_new output_old output_new =
+      subst (λ (f : RunEnd). HasAnswered state (Some g) name f old new input_old input_new output_old output_new) (zero_is_done e is) a in
+      subst (λ (W : World). PrintsReplies W all output_old output_new) done.begun.starts (prints (Some g) all done tells rest)
+
+  pub given_prints : (all image : List ℕ) → HasMet state Run name 0 old new input_old input_new output_old output_new → (state old).named name ≡ Some image → input_old.rest ≡ Some all
+      → PrintsRepliesOf image all output_old output_new
+  given_prints all image (inl (e, is, not)) named rest = absurd (zero_is_begun e is)
+  given_prints all image (inr (e, is, a)) named rest =
+      let done : HasAnswered state None name end.Done old new input_old input_new output_old output_new =
+      subst (λ (f : RunEnd). HasAnswered state None name f old new input_old input_new output_old output_new) (zero_is_done e is) a in
+      let opens : OpensTo ((state old).named name) done.world = done.begun.starts in
+      record {
+        geometry = opens.geometry;
+        generation = opens.generation;
+        history = opens.history;
+        holds = opens.told.image image named;
+        prints = subst (λ (W : World). PrintsReplies W all output_old output_new) opens.world_is (prints None all done (some_named ((state old).named name) image named) rest);
+      }
+
+  pub since_opens : (made : Option Geometry) (e : RunEnd) (a : HasAnswered state made name e old new input_old input_new output_old output_new)
+      → SinceBind (state new) (λ c. MayBeUnmade made c ⊎ OpensFrom (last a.world.history) c)
+  since_opens made e a moment is c left = ⊎_elim inl (λ shown. inr (opens_between a.world a.run.answered.final c shown)) (a.begun.since moment is c left)
+
+  pub exit_opens : (made : Option Geometry) (e : RunEnd) (a : HasAnswered state made name e old new input_old input_new output_old output_new) → TellsNamed name (state old)
+      → (n : ℕ) → Acknowledges a.world a.run.done n → (c : List ℕ) → (state new).now c → OpensFrom n c
+  exit_opens made e a tells n told c here =
+      let reached : a.run.answered.reached ≡ after a.world a.run.done = a.run.answered.reached_is.known (inl (a.begun.told tells)) in
+      opens_later n (last a.run.answered.reached.history) c
+      (subst (λ (W : World). n ≤ last W.history) (sym reached) (a.run.answered.acknowledged n told))
+      (opens_between a.run.answered.reached a.run.answered.final c (a.run.answered.exit c here))
+
+  pub clients_open : (status : ℕ) (r : HasRunClients state name status old new input_old input_new output_old output_new) → SinceBind (state new) (OpensFrom (last r.world.history))
+  clients_open status r moment is c left = opens_between r.world _ c (r.since moment is c left)
+
+  pub digest_prints : (image : List ℕ) → HasMet state Recover name 0 old new input_old input_new output_old output_new → (state old).named name ≡ Some image → PrintsDigestOf image output_old output_new
+  digest_prints image (inl (e, is, not)) named = absurd (zero_is_begun e is)
+  digest_prints image (inr r) named =
+      record { geometry = r.opens.geometry; generation = r.opens.generation; history = r.opens.history; holds = r.opens.told.image image named; prints = put r.printed }
+    where
+      tells : TellsNamed name (state old)
+      tells = some_named ((state old).named name) image named
+
+      history_is : r.world.history ≡ r.opens.history
+      history_is = ap (λ (W : World). W.history) r.opens.world_is
+
+      put : PrintedDigest 0 (TellsNamed name (state old)) r.world.history output_old output_new → Wrote output_old output_new (recover_output r.opens.history)
+      put (inl (text, told, inl (is, whole))) = subst (λ (t : List ℕ). Wrote output_old output_new t) (told tells ∙ ap recover_output history_is) whole.wrote
+      put (inl (text, told, inr (is, cut))) = cc is
+      put (inr (inl (is, text))) = cc is
+      put (inr (inr (is, text))) = cc is

@@ -1,0 +1,51 @@
+// What `met` of the top call means in plain words: each function does nothing, and its contract is the law.
+ghost use Rattle.std.specs.Prelude.{◌≡◌, ◌⊎◌, ℕ, List, Option, Some};
+ghost use Rattle.command_line.specs.declared.task.Task.TheVariants.{New, Run, Recover};
+ghost use Rattle.iso_disk.specs.Disk.{SinceBind};
+ghost use Rattle.iso_io.specs.Sink.{SinkState};
+ghost use Rattle.iso_io.specs.Source.{SourceState};
+ghost use Rattle.iso_model.specs.declared.access.Geometry.{Geometry};
+ghost use Rattle.iso_model.specs.History.{last};
+ghost use Rattle.iso_model.specs.World.{empty_history, fresh};
+ghost use Rattle.iso_top.specs.Clients.{HasRunClients};
+ghost use Rattle.iso_top.specs.Outcome.{HasAnswered, HasMet};
+ghost use Rattle.iso_top.specs.Plain.{OpensFrom, PrintsDigestOf, PrintsReplies, PrintsRepliesOf};
+ghost use Rattle.iso_top.specs.Starts.{MayBeUnmade, TellsNamed};
+ghost use Rattle.script_runner.specs.declared.run_end.RunEnd.{RunEnd};
+ghost use Rattle.script_runner.specs.Run.{Acknowledges};
+
+use iso_disk::Image;
+
+/// Status 0 of `new` and `run`, where the disk tells what the name names and the source its bytes: no line of the script is bad, and
+/// exactly the model's replies to all its lines were put, from a new image or from the image as given.
+pub fn replies_were_printed<I: Image>(_image: &I)
+    ensures made { (g : Geometry) (name all : List ℕ) (old new : I) (input_old input_new : SourceState) (output_old output_new : SinkState)
+        → HasMet I.state (New g) name 0 old new input_old input_new output_old output_new → TellsNamed name (I.state old) → input_old.rest ≡ Some all
+        → PrintsReplies (fresh g 1 (empty_history g)) all output_old output_new }
+    ensures given { (name all image : List ℕ) (old new : I) (input_old input_new : SourceState) (output_old output_new : SinkState)
+        → HasMet I.state Run name 0 old new input_old input_new output_old output_new → (I.state old).named name ≡ Some image → input_old.rest ≡ Some all
+        → PrintsRepliesOf image all output_old output_new }
+{}
+
+/// Each image that a crash might have left since the bind opens to a history that has at least the commits of the image as given; one
+/// that is being made may be refused as none of this project for a while. Each that a crash leaves when the call has ended opens to
+/// a history that has each commit that a reply told of, where the disk tells what the name names.
+pub fn images_of_a_crash_open<I: Image>(_image: &I)
+    ensures since { (made : Option Geometry) (name : List ℕ) (e : RunEnd) (old new : I) (input_old input_new : SourceState) (output_old output_new : SinkState)
+        → (a : HasAnswered I.state made name e old new input_old input_new output_old output_new)
+        → SinceBind (I.state new) (λ c. MayBeUnmade made c ⊎ OpensFrom (last a.world.history) c) }
+    ensures exit { (made : Option Geometry) (name : List ℕ) (e : RunEnd) (old new : I) (input_old input_new : SourceState) (output_old output_new : SinkState)
+        → (a : HasAnswered I.state made name e old new input_old input_new output_old output_new) → TellsNamed name (I.state old)
+        → (n : ℕ) → Acknowledges a.world a.run.done n → (c : List ℕ) → (I.state new).now c → OpensFrom n c }
+    ensures clients { (name : List ℕ) (status : ℕ) (old new : I) (input_old input_new : SourceState) (output_old output_new : SinkState)
+        → (r : HasRunClients I.state name status old new input_old input_new output_old output_new)
+        → SinceBind (I.state new) (OpensFrom (last r.world.history)) }
+{}
+
+/// Status 0 of `recover`, where the disk tells what the name names: its line tells the numbers of the history that the image holds, and
+/// the digest of the array at its last commit.
+pub fn the_digest_was_printed<I: Image>(_image: &I)
+    ensures { (name image : List ℕ) (old new : I) (input_old input_new : SourceState) (output_old output_new : SinkState)
+        → HasMet I.state Recover name 0 old new input_old input_new output_old output_new → (I.state old).named name ≡ Some image
+        → PrintsDigestOf image output_old output_new }
+{}

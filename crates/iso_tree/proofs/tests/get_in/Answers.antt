@@ -1,8 +1,0 @@
-use Rattle.plain_tx.specs.Plain.{state_of}
-use Rattle.tx_blocks.specs.Runs.{area_of}
-use Rattle.iso_model.specs.TreeCalls.{get_program}
-use Rattle.iso_tree.proofs.Kept.{stays_ready}
-use Rattle.iso_tree.proofs.tests.get_in.Goals as goal
-
-pub returns : goal.returns
-returns c = stays_ready (get_program (area_of (state_of c.args.tx.now) c.region.result) c.args.key.now) (state_of c.args.tx.now) (state_of c.get.new.tx) c.get.result c.get.ensures.ended c.requires

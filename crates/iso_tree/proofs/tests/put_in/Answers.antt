@@ -1,8 +1,0 @@
-use Rattle.plain_tx.specs.Plain.{state_of}
-use Rattle.tx_blocks.specs.Runs.{area_of}
-use Rattle.iso_model.specs.TreeCalls.{put_program}
-use Rattle.iso_tree.proofs.Kept.{stays_ready}
-use Rattle.iso_tree.proofs.tests.put_in.Goals as goal
-
-pub returns : goal.returns
-returns c = stays_ready (put_program (area_of (state_of c.args.tx.now) (record { start = 1; size = c.args.blocks })) c.args.key.now c.args.value.now) (state_of c.args.tx.now) (state_of c.put.new.tx) c.put.result c.put.ensures.ended c.requires.ready

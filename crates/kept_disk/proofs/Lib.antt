@@ -1,0 +1,4 @@
+pub mod Moments
+pub mod Paging
+pub mod Slices
+pub mod Standing

@@ -1,0 +1,26 @@
+use Rattle.std.proofs.Common.{◌≡◌, ◌+◌, ◌-◌, ◌≤◌, ℕ, List, length, take, subst, arith}
+use Rattle.std.proofs.lemmas.List.{take_all, length-take-le}
+use Rattle.iso_disk.specs.Disk.{spliced}
+use Rattle.iso_disk.proofs.Bytes.{length-spliced}
+use Rattle.kept_disk.specs.Pages.{Stand}
+use Rattle.kept_disk.proofs.Slices.{length-slice, laid_further}
+use Rattle.kept_disk.proofs.parts.lay_parts.Goals as goal
+
+pub loop-done-preserved : goal.loop-done-preserved
+loop-done-preserved c =
+    let done = c.loop-done.done in
+    let count = c.part_len-count.result in
+    let bytes = c.args.bytes.now in
+    let within : done + count ≤ length bytes = omega (arith, c.part_len-count.ensures.within) in
+    record {
+      within = within;
+      stand = λ l fits stand.
+          let first : length (take done bytes) ≡ done = length-take-le done bytes (omega (arith, within)) in
+          let size : length (spliced l c.args.at (take done bytes)) ≡ length l = length-spliced l c.args.at (take done bytes) (omega (arith, fits, first, within)) in
+          subst (λ (d : List ℕ). Stand c.lay_part.new.pages d) (laid_further l bytes c.args.at done count (done + count - done) (omega arith) within fits)
+          (c.lay_part.ensures (spliced l c.args.at (take done bytes)) (omega (arith, fits, within, size, length-slice (done + count - done) done bytes)) (c.loop-done.invariant.stand l fits stand));
+    }
+
+pub returns : goal.returns
+returns c l fits stand =
+    subst (λ (b : List ℕ). Stand c.loop-done.pages (spliced l c.args.at b)) (take_all c.loop-done.done c.args.bytes.now c.loop-done-test.false) (c.loop-done.invariant.stand l fits stand)

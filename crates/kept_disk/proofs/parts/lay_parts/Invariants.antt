@@ -1,0 +1,13 @@
+use Rattle.std.proofs.Common.{◌+◌, ◌-◌, ◌≤◌, ℕ, List, length, take}
+use Rattle.iso_disk.specs.Disk.{spliced}
+use Rattle.kept_disk.specs.Pages.{Stand}
+use Rattle.kept_disk.proofs.parts.lay_parts.Given as goal
+
+abbrev pub invariant-loop-done : goal.invariant-loop-done
+invariant-loop-done l = record {
+  within : l.done ≤ length l.bytes;
+  stand : (c : List ℕ) → l.at + length l.bytes ≤ length c → Stand l.fn.pages c → Stand l.pages (spliced c l.at (take l.done l.bytes));
+}
+
+abbrev pub decreases-loop-done : goal.decreases-loop-done
+decreases-loop-done l = length l.bytes - l.done

@@ -1,0 +1,45 @@
+use Rattle.std.proofs.Common.{◌≡◌, ◌<◌, ◌/◌, ◌%◌, ◌+◌, ◌-◌, ◌≤◌, ℕ, length, take, drop, sym, ◌∙◌, ap, arith}
+use Rattle.std.proofs.Math.Nat.{mod-lt}
+use Rattle.iso_disk.proofs.Bytes.{length-spliced}
+use Rattle.kept_disk.proofs.Moments.{further}
+use Rattle.kept_disk.proofs.Paging.{held_in, held_further}
+use Rattle.kept_disk.proofs.Slices.{length-slice, lent_part, read_further}
+use Rattle.kept_disk.proofs.parts.read_parts.Goals as goal
+
+pub returns-in_err-read_part-clause-held : goal.returns-in_err-read_part-clause-held
+returns-in_err-read_part-clause-held g c range =
+    let so_far = c.loop-done.invariant.held range in
+    let ended = c.in_err-read_part.ensures.held (held_in c.args.pages.now c.loop-done.pages c.args.at (length c.args.into.now) c.loop-done.done so_far.1 (omega (arith, c.loop-done-test.true, c.loop-done.auto.into)) range) in
+    absurd (cc (ended.0))
+
+pub loop-done-preserved : goal.loop-done-preserved
+loop-done-preserved g c =
+    let done = c.loop-done.done in
+    let count = c.part_len-count.result in
+    let so_far = c.loop-done.invariant in
+    let into = c.loop-done.into in
+    let part = c.read_part.new.into in
+    let fits : done + count ≤ length into = omega (arith, so_far.within, c.part_len-count.ensures.within) in
+    let size : length part ≡ count = omega (arith, fits, c.read_part.auto.into, length-slice (done + count - done) done into) in
+    let lies : done + length part ≤ length into = omega (arith, fits, size) in
+    let is = lent_part done (done + count - done) into part (omega (arith, size)) in
+    record {
+      within = omega (arith, fits, ap length is, length-spliced into done part lies);
+      bytes = λ l told.
+          let read = c.in_ok-read_part.ensures.bytes l (so_far.contents ∙ told) ∙ ap (λ (k : ℕ). take k (drop (c.args.at + done) l)) (sym c.read_part.auto.into) in
+          (let back : count ≡ length part = sym size in λ i. take (done + back i) (is i))
+          ∙ read_further into part l c.args.at done lies (so_far.bytes l told) read
+          ∙ ap (λ (k : ℕ). take (done + k) (drop c.args.at l)) size;
+      contents = c.read_part.ensures.contents ∙ so_far.contents;
+      crash = further so_far.crash c.read_part.ensures.crash;
+      faults = c.in_ok-read_part.ensures.cause.passed ∙ so_far.faults;
+      stand = λ l told. c.read_part.ensures.stand l (so_far.contents ∙ told);
+      held = λ range.
+          let before = so_far.held range in
+          let here = c.read_part.ensures.held (held_in c.args.pages.now c.loop-done.pages c.args.at (length c.args.into.now) done before.1 (omega (arith, c.loop-done-test.true, c.loop-done.auto.into)) range) in
+          (here.1 ∙ before.0, here.2 ∙ before.1);
+      holds = λ enough small.
+          let place : (c.args.at + done) / 4096 % 2048 < 2048 = mod-lt ((c.args.at + done) / 4096) (omega arith) in
+          let here = c.in_ok-read_part.ensures.holds (omega (arith, place, enough, c.loop-done.auto.pages)) in
+          held_further c.loop-done.pages c.read_part.new.pages c.args.at done count c.part_len-count.ensures.inside (omega (arith, fits, small, c.loop-done.auto.into)) here c.in_ok-read_part.ensures.others (so_far.holds enough small);
+    }

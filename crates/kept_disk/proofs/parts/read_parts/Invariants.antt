@@ -1,0 +1,20 @@
+use Rattle.std.proofs.Common.{◌≡◌, ◌-◌, ◌≤◌, length, take, drop}
+use Rattle.std.specs.Option.{ForSome}
+use Rattle.iso_disk.specs.Disk.{Elapses}
+use Rattle.kept_disk.specs.Pages.{HoldsRange, Stand}
+use Rattle.kept_disk.proofs.parts.read_parts.Given as goal
+
+abbrev pub invariant-loop-done : goal.invariant-loop-done
+invariant-loop-done g l = record {
+  within : l.done ≤ length l.into;
+  bytes : ForSome (g.D.Disk.state l.fn.disk).contents (λ c. take l.done l.into ≡ take l.done (drop l.at c));
+  contents : (g.D.Disk.state l.disk).contents ≡ (g.D.Disk.state l.fn.disk).contents;
+  crash : Elapses (g.D.Disk.state l.fn.disk) (g.D.Disk.state l.disk) (g.D.Disk.state l.fn.disk).now;
+  faults : (g.D.Disk.state l.disk).faults ≡ (g.D.Disk.state l.fn.disk).faults;
+  stand : ForSome (g.D.Disk.state l.fn.disk).contents (Stand l.pages);
+  held : HoldsRange l.fn.pages l.at (length l.fn.into) → (l.disk ≡ l.fn.disk) × (l.pages ≡ l.fn.pages);
+  holds : 2048 ≤ length l.fn.pages → length l.fn.into ≤ 65536 → HoldsRange l.pages l.at l.done;
+}
+
+abbrev pub decreases-loop-done : goal.decreases-loop-done
+decreases-loop-done g l = length l.into - l.done

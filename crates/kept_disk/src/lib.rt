@@ -1,0 +1,11 @@
+//! A disk whose pages are kept in memory, over any disk.
+#![tactic(auto)]
+
+mod kept;
+mod page;
+mod parts;
+
+pub use kept::Kept;
+
+#[cfg(test)]
+mod tests;

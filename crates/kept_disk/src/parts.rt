@@ -1,0 +1,132 @@
+// Reads and writes, one page at a time.
+ghost use Rattle.std.specs.Prelude.{◌≡◌, ◌+◌, ◌*◌, ◌/◌, ◌%◌, ◌^◌, ◌<◌, ◌≤◌, ℕ, List, length, take, drop, OnOk, IfOk, IsOk, slice_get};
+ghost use Rattle.std.specs.Option.{ForSome};
+ghost use Rattle.iso_disk.specs.Disk.{Elapses, spliced};
+ghost use Rattle.fault_count.specs.Count.{HasCause};
+ghost use Rattle.kept_disk.specs.Pages.{HoldsNone, HoldsRange, IsHeld, Stand};
+
+use crate::page::{PAGE, Page};
+use iso_disk::{Disk, DiskFault};
+use std::alloc::{AllocError, Global};
+
+/// How many pages are kept at most.
+const PAGES: usize = 2048;
+
+/// Reads bytes, from pages where these hold them, and through pages where not.
+pub(crate) fn read_parts<D: Disk>(
+    disk: &mut D,
+    pages: &mut [Page],
+    at: u64,
+    into: &mut [u8],
+) -> Result<(), DiskFault>
+    requires fits { at + length into.old ≤ (D.state disk.old).size }
+    requires stand { ForSome (D.state disk.old).contents (Stand pages.old) }
+    ensures bytes { OnOk result (ForSome (D.state disk.old).contents (λ c. into.new ≡ take (length into.old) (drop at c))) }
+    ensures contents { (D.state disk.new).contents ≡ (D.state disk.old).contents }
+    ensures crash { Elapses (D.state disk.old) (D.state disk.new) (D.state disk.old).now }
+    ensures cause { HasCause (D.state disk.old).faults (D.state disk.new).faults result }
+    ensures stand { ForSome (D.state disk.old).contents (Stand pages.new) }
+    ensures held { HoldsRange pages.old at (length into.old) → (IsOk result) × (disk.new ≡ disk.old) }
+    ensures holds { OnOk result (2048 ≤ length pages.old → length into.old ≤ 65536 → HoldsRange pages.new at (length into.old)) }
+{
+    let mut done = 0;
+    while done < into.len() {
+        let place = at + done as u64;
+        let count = part_len(place, into.len() - done);
+        read_part(disk, pages, place, &mut into[done..done + count])?;
+        done += count;
+    }
+    Ok(())
+}
+
+// How many of so many bytes from a place on lie in the page of that place.
+fn part_len(at: u64, len: usize) -> usize
+    requires { 0 < len }
+    ensures inside { at % 4096 + result ≤ 4096 }
+    ensures within { result ≤ len }
+    ensures some { 0 < result }
+{
+    (PAGE - at as usize % PAGE).min(len)
+}
+
+// Reads bytes of one page, which is then held where there is a place for it.
+fn read_part<D: Disk>(
+    disk: &mut D,
+    pages: &mut [Page],
+    at: u64,
+    into: &mut [u8],
+) -> Result<(), DiskFault>
+    requires fits { at + length into.old ≤ (D.state disk.old).size }
+    requires inside { at % 4096 + length into.old ≤ 4096 }
+    requires some { 0 < length into.old }
+    requires stand { ForSome (D.state disk.old).contents (Stand pages.old) }
+    ensures bytes { OnOk result (ForSome (D.state disk.old).contents (λ c. into.new ≡ take (length into.old) (drop at c))) }
+    ensures contents { (D.state disk.new).contents ≡ (D.state disk.old).contents }
+    ensures crash { Elapses (D.state disk.old) (D.state disk.new) (D.state disk.old).now }
+    ensures cause { HasCause (D.state disk.old).faults (D.state disk.new).faults result }
+    ensures stand { ForSome (D.state disk.old).contents (Stand pages.new) }
+    ensures held { IsHeld pages.old (at / 4096) → (IsOk result) × (disk.new ≡ disk.old) × (pages.new ≡ pages.old) }
+    ensures holds { OnOk result (at / 4096 % 2048 < length pages.old → IsHeld pages.new (at / 4096)) }
+    ensures others { (k : ℕ) → (k ≡ at / 4096 % 2048 → ⊥) → slice_get pages.new k ≡ slice_get pages.old k }
+{
+    let number = at / PAGE as u64;
+    let index = (number % PAGES as u64) as usize;
+    if index >= pages.len() {
+        return disk.read(at, into);
+    }
+    let page = &mut pages[index];
+    page.hold(disk, number)?;
+    page.copy_out((at % PAGE as u64) as usize, into);
+    Ok(())
+}
+
+/// Lays bytes over the pages that hold what they were written over.
+pub(crate) fn lay_parts(pages: &mut [Page], at: u64, bytes: &[u8])
+    requires { at + length bytes.now < 2 ^ 64 }
+    ensures { (c : List ℕ) → at + length bytes.now ≤ length c → Stand pages.old c → Stand pages.new (spliced c at bytes.now) }
+{
+    let mut done = 0;
+    while done < bytes.len() {
+        let place = at + done as u64;
+        let count = part_len(place, bytes.len() - done);
+        lay_part(pages, place, &bytes[done..done + count]);
+        done += count;
+    }
+}
+
+// Lays bytes over the page that they lie in, where it is held.
+fn lay_part(pages: &mut [Page], at: u64, bytes: &[u8])
+    requires { at % 4096 + length bytes.now ≤ 4096 }
+    ensures { (c : List ℕ) → at + length bytes.now ≤ length c → Stand pages.old c → Stand pages.new (spliced c at bytes.now) }
+{
+    let number = at / PAGE as u64;
+    let index = (number % PAGES as u64) as usize;
+    if index >= pages.len() {
+        return;
+    }
+    let page = &mut pages[index];
+    if page.holds(number) {
+        page.put((at % PAGE as u64) as usize, bytes);
+    }
+}
+
+/// Lets go of all that is held.
+pub(crate) fn forget_all(pages: &mut [Page])
+    ensures { HoldsNone pages.new }
+{
+    for page in pages.iter_mut() {
+        page.forget();
+    }
+}
+
+/// All pages, none of them held.
+pub(crate) fn blank_pages(alloc: Global) -> Result<Vec<Page>, AllocError>
+    ensures { IfOk result (λ v. HoldsNone v.items) }
+{
+    let mut pages = Vec::new(alloc);
+    pages.reserve(PAGES)?;
+    for _ in 0..PAGES {
+        pages.push(Page::blank(alloc)?)?;
+    }
+    Ok(pages)
+}

@@ -1,0 +1,2 @@
+pub mod TestCores
+pub mod TestMachines

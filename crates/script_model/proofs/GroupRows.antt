@@ -1,0 +1,54 @@
+-- Worked examples of groups.
+use Rattle.std.specs.Prelude.{◌≡◌, [], ◌∷◌, refl, codes, length, Some, None}
+use Rattle.std.specs.Fmt.{digits}
+use Rattle.iso_model.specs.declared.access.GroupReply.TheVariants as member
+use Rattle.iso_model.specs.declared.access.Geometry.{Geometry}
+use Rattle.iso_model.specs.Array.{put}
+use Rattle.iso_model.specs.Conflict.{clash}
+use Rattle.iso_model.specs.Effect.{runs}
+use Rattle.iso_model.specs.Group.{group_step}
+use Rattle.iso_model.specs.Step.{begin_step, commit_step, end_step}
+use Rattle.script_model.specs.Script.{operation_of, other_operation}
+use Rattle.script_model.specs.Step.{step, put_step, read_step}
+use Rattle.script_model.specs.Text.{words_of, number_of, hex_of}
+use Rattle.script_model.proofs.Small.{small, made, after_lines}
+
+-- Each member is answered, and a label under which nothing is has no member.
+pub two_commits_and_no_member :
+    (group_step (after_lines (made small) (codes "1 begin" ∷ codes "1 put 0 0 aa" ∷ codes "1 release a" ∷ codes "2 begin" ∷ codes "2 put 0 1 bb" ∷ codes "2 release b" ∷ [])) (codes "a" ∷ codes "b" ∷ codes "zz" ∷ [])).0
+    ≡ Some (member.Committed 1) ∷ Some (member.Committed 2) ∷ None ∷ []
+unfolding put clash runs operation_of other_operation step begin_step put_step commit_step end_step words_of number_of hex_of group_step digits
+two_commits_and_no_member = refl
+
+-- A member meets the commits of those before it.
+pub a_conflict_with_an_earlier_member :
+    (group_step (after_lines (made small) (codes "1 begin" ∷ codes "1 put 0 0 aa" ∷ codes "1 release a" ∷ codes "2 begin" ∷ codes "2 read 0" ∷ codes "2 put 1 0 bb" ∷ codes "2 release b" ∷ [])) (codes "a" ∷ codes "b" ∷ [])).0
+    ≡ Some (member.Committed 1) ∷ Some (member.Conflict (record { commit = 1; block = 0; at = 0 })) ∷ []
+unfolding put clash runs operation_of other_operation step begin_step put_step read_step commit_step end_step words_of number_of hex_of group_step digits
+a_conflict_with_an_earlier_member = refl
+
+-- A label that is named twice holds nothing at the second look.
+pub a_label_twice :
+    (group_step (after_lines (made small) (codes "1 begin" ∷ codes "1 put 0 0 aa" ∷ codes "1 release a" ∷ [])) (codes "a" ∷ codes "a" ∷ [])).0
+    ≡ Some (member.Committed 1) ∷ None ∷ []
+unfolding put clash runs operation_of other_operation step begin_step put_step commit_step end_step words_of number_of hex_of group_step digits
+a_label_twice = refl
+
+-- a log that has room for one record of one byte and for the gates, and for no second one
+abbrev short_log : Geometry
+short_log = record small { log = 58 }
+
+-- A member for which the log has no room is aborted, and the next one is asked by what is left: 29 bytes are, of which
+-- 31 and 30 are needed, and a member that writes nothing needs none.
+pub members_that_do_not_fit :
+    (group_step (after_lines (made short_log) (codes "1 begin" ∷ codes "1 put 0 0 aa" ∷ codes "1 release a" ∷ codes "2 begin" ∷ codes "2 put 1 0 bbbb" ∷ codes "2 release b" ∷ codes "3 begin" ∷ codes "3 put 2 0 cc" ∷ codes "3 release c" ∷ codes "4 begin" ∷ codes "4 read 3" ∷ codes "4 release d" ∷ [])) (codes "a" ∷ codes "b" ∷ codes "c" ∷ codes "d" ∷ [])).0
+    ≡ Some (member.Committed 1) ∷ Some (member.Full 31 29) ∷ Some (member.Full 30 29) ∷ Some member.ReadOnly ∷ []
+unfolding put clash runs operation_of other_operation step begin_step put_step read_step commit_step end_step words_of number_of hex_of group_step digits
+members_that_do_not_fit = refl
+
+-- and none of them is live afterwards
+pub no_member_is_live :
+    length (group_step (after_lines (made short_log) (codes "1 begin" ∷ codes "1 put 0 0 aa" ∷ codes "1 release a" ∷ codes "2 begin" ∷ codes "2 put 1 0 bbbb" ∷ codes "2 release b" ∷ codes "3 begin" ∷ [])) (codes "a" ∷ codes "b" ∷ [])).1.live
+    ≡ 1
+unfolding put clash runs operation_of other_operation step begin_step put_step read_step commit_step end_step words_of number_of hex_of group_step digits
+no_member_is_live = refl

@@ -1,0 +1,264 @@
+-- The bytes that a script's lines take are bytes.
+use Rattle.std.proofs.Common.{◌≡◌, refl, ℕ, ◌+◌, ◌-◌, ◌*◌, ◌<◌, ◌≤◌, Bool, true, false, ◌&&◌, cond, IsTrue, List, [], ◌∷◌, Option, Some, None, Result, Ok, Err, ok_or, nat_le, length, take, subst, arith}
+use Rattle.std.proofs.lemmas.Bool.{and_parts, leb-true}
+use Rattle.iso_model.specs.declared.limits.TheConstants.{MAX_INPUT, MAX_LINE}
+use Rattle.script_model.specs.declared.script.Op.{Op}
+use Rattle.script_model.specs.declared.script.Op.TheVariants.{Begin, End, Abort, Put, Read, Get, Write, Fill, Mark, Release, Takeover, Await, Trim, Stat, Compact, Upgrade, HashPut, HashGet, HashDelete, TreePut, TreeGet, TreeDelete, TreeScan}
+use Rattle.std.specs.List.{AllByRecursion}
+use Rattle.script_model.specs.declared.script.Line.{Line}
+use Rattle.script_model.specs.declared.script.Parsed.{Parsed}
+use Rattle.script_model.specs.declared.script.Parsed.TheVariants.{Skip, Line as Says}
+use Rattle.iso_model.specs.Premises.{AreBytes}
+use Rattle.script_model.specs.Script.{◌>>=◌, without_return, bad_line, bare, begin_arguments, put_arguments, one_number, two_numbers, three_numbers, number_and_bytes, one_label, number_argument, hex_argument, label_argument, mode_argument, operation_of, other_operation, one_key, key_and_value, scan_arguments, store_argument, store_operation, tree_operation, said, parse, parse_whole, last_piece, before_script, script_from, script, client_in_range, no_lines, Script}
+use Rattle.script_model.specs.Text.{is_empty, pieces, words_of, hex_digit, hex_pair, hex_pairs, hex_of, number_of}
+use Rattle.iso_model.specs.Labels.{is_digit, is_label, label_of}
+use Rattle.script_model.specs.Operations.{IsOp, AreLines}
+use Rattle.iso_model.proofs.ByteLists.{no_bytes, bytes_cons}
+
+-- what holds of a value, if there is one
+abbrev IfThere : {A : Type 0} → (A → Type 0) → Option A → Type 0
+IfThere P None = Unit {0}
+IfThere P (Some x) = P x
+
+pub record IfGiven {A : Type 0} (P : A → Type 0) (r : Result A ℕ) : Type 0 where
+  pub each : (x : A) → r ≡ Ok x → P x
+
+pub given_none : {A : Type 0} (P : A → Type 0) (cause : ℕ) → IfGiven P (Err cause)
+given_none P cause = record { each = λ x e. cc }
+
+pub given_one : {A : Type 0} (P : A → Type 0) (x : A) → P x → IfGiven P (Ok x)
+given_one P x is = record { each = λ y e. let same : x ≡ y = cc in subst P same is }
+
+there_cond : {A : Type 0} (P : A → Type 0) (t : Bool) (x y : Option A) → (t ≡ true → IfThere P x) → IfThere P y → IfThere P (cond t x y)
+there_cond P true x y first second = first refl
+there_cond P false x y first second = second
+
+pub given_cond : {A : Type 0} (P : A → Type 0) (t : Bool) (x y : Result A ℕ) → IfGiven P x → IfGiven P y → IfGiven P (cond t x y)
+given_cond P true x y first second = first
+given_cond P false x y first second = second
+
+pub given_next : {A B : Type 0} (P : A → Type 0) (Q : B → Type 0) (r : Result A ℕ) (next : A → Result B ℕ) → IfGiven P r → ((x : A) → P x → IfGiven Q (next x)) → IfGiven Q (r >>= next)
+given_next P Q (Ok x) next is each = each x (is.each x refl)
+given_next P Q (Err cause) next is each = given_none Q cause
+
+-- a hexadecimal digit is below 16
+digit_value : (low high down b : ℕ) → (nat_le low b && nat_le b high) ≡ true → high < down + 16 → b - down < 16
+digit_value low high down b test near =
+    let below : b ≤ high = leb-true b high (and_parts (nat_le low b) (nat_le b high) test).1 in
+    omega arith
+
+digit_small : (b : ℕ) → IfThere (λ n. n < 16) (hex_digit b)
+digit_small b =
+    there_cond (λ n. n < 16) (is_digit b) (Some (b - 48)) _ (λ t. digit_value 48 57 48 b t (omega arith))
+    (there_cond (λ n. n < 16) (nat_le 97 b && nat_le b 102) (Some (b - 87)) _ (λ t. digit_value 97 102 87 b t (omega arith))
+    (there_cond (λ n. n < 16) (nat_le 65 b && nat_le b 70) (Some (b - 55)) None (λ t. digit_value 65 70 55 b t (omega arith)) tt))
+
+pair_bytes : (high low : Option ℕ) (rest : Option (List ℕ)) → IfThere (λ n. n < 16) high → IfThere (λ n. n < 16) low → IfThere AreBytes rest → IfThere AreBytes (hex_pair high low rest)
+pair_bytes (Some high) (Some low) (Some bytes) first second rest = bytes_cons (16 * high + low) bytes (omega arith) rest
+pair_bytes (Some high) (Some low) None first second rest = tt
+pair_bytes (Some high) None rest first second others = tt
+pair_bytes None low rest first second others = tt
+
+pairs_bytes : (word : List ℕ) → IfThere AreBytes (hex_pairs word)
+pairs_bytes [] = no_bytes
+pairs_bytes (a ∷ []) = tt
+pairs_bytes (a ∷ b ∷ word) = pair_bytes (hex_digit a) (hex_digit b) (hex_pairs word) (digit_small a) (digit_small b) (pairs_bytes word)
+
+hex_bytes : (word : List ℕ) → IfThere AreBytes (hex_of word)
+unfolding hex_of
+hex_bytes word = there_cond AreBytes (is_empty word) None (hex_pairs word) (λ t. tt) (pairs_bytes word)
+
+or_cause : {A : Type 0} (P : A → Type 0) (o : Option A) (cause : ℕ) → IfThere P o → IfGiven P (ok_or o cause)
+or_cause P None cause is = given_none P cause
+or_cause P (Some x) cause is = given_one P x is
+
+pub any_given : {A : Type 0} (r : Result A ℕ) → IfGiven (λ x. Unit {0}) r
+any_given r = record { each = λ x e. tt }
+
+pub bare_op : (P : Op → Type 0) (op : Op) (words : List (List ℕ)) → P op → IfGiven P (bare op words)
+bare_op P op [] is = given_one P op is
+bare_op P op (word ∷ words) is = given_none P 3
+
+pub put_op : (P : Op → Type 0) → ((block off : ℕ) (bytes : List ℕ) → AreBytes bytes → P (Put block off bytes)) → (words : List (List ℕ)) → IfGiven P (put_arguments words)
+put_op P is [] = given_none P 3
+put_op P is (block ∷ []) = given_none P 3
+put_op P is (block ∷ off ∷ []) = given_none P 3
+put_op P is (block ∷ off ∷ bytes ∷ []) =
+    given_next (λ x. Unit {0}) P (number_argument block) _ (any_given (number_argument block)) (λ b any.
+    given_next (λ x. Unit {0}) P (number_argument off) _ (any_given (number_argument off)) (λ o more.
+    given_next AreBytes P (hex_argument bytes) _ (or_cause AreBytes (hex_of bytes) 5 (hex_bytes bytes)) (λ h are. given_one P (Put b o h) (is b o h are))))
+put_op P is (block ∷ off ∷ bytes ∷ more ∷ words) = given_none P 3
+
+begin_op : (words : List (List ℕ)) → IfGiven IsOp (begin_arguments words)
+begin_op [] = given_one IsOp (Begin None) tt
+begin_op (mode ∷ []) = given_next (λ x. Unit {0}) IsOp (mode_argument mode) _ (any_given (mode_argument mode)) (λ m is. given_one IsOp (Begin (Some m)) tt)
+begin_op (mode ∷ more ∷ words) = given_none IsOp 3
+
+pub one_op : (P : Op → Type 0) (op : ℕ → Op) → ((n : ℕ) → P (op n)) → (words : List (List ℕ)) → IfGiven P (one_number op words)
+one_op P op is [] = given_none P 3
+one_op P op is (number ∷ []) = given_next (λ x. Unit {0}) P (number_argument number) _ (any_given (number_argument number)) (λ n any. given_one P (op n) (is n))
+one_op P op is (number ∷ more ∷ words) = given_none P 3
+
+two_op : (op : ℕ → ℕ → Op) → ((m n : ℕ) → IsOp (op m n)) → (words : List (List ℕ)) → IfGiven IsOp (two_numbers op words)
+two_op op is [] = given_none IsOp 3
+two_op op is (first ∷ []) = given_none IsOp 3
+two_op op is (first ∷ second ∷ []) =
+    given_next (λ x. Unit {0}) IsOp (number_argument first) _ (any_given (number_argument first)) (λ m any.
+    given_next (λ x. Unit {0}) IsOp (number_argument second) _ (any_given (number_argument second)) (λ n more. given_one IsOp (op m n) (is m n)))
+two_op op is (first ∷ second ∷ third ∷ words) = given_none IsOp 3
+
+three_op : (op : ℕ → ℕ → ℕ → Op) → ((l m n : ℕ) → IsOp (op l m n)) → (words : List (List ℕ)) → IfGiven IsOp (three_numbers op words)
+three_op op is [] = given_none IsOp 3
+three_op op is (first ∷ []) = given_none IsOp 3
+three_op op is (first ∷ second ∷ []) = given_none IsOp 3
+three_op op is (first ∷ second ∷ third ∷ []) =
+    given_next (λ x. Unit {0}) IsOp (number_argument first) _ (any_given (number_argument first)) (λ l any.
+    given_next (λ x. Unit {0}) IsOp (number_argument second) _ (any_given (number_argument second)) (λ m more.
+    given_next (λ x. Unit {0}) IsOp (number_argument third) _ (any_given (number_argument third)) (λ n all. given_one IsOp (op l m n) (is l m n))))
+three_op op is (first ∷ second ∷ third ∷ fourth ∷ words) = given_none IsOp 3
+
+bytes_op : (op : ℕ → List ℕ → Op) → ((n : ℕ) (bytes : List ℕ) → AreBytes bytes → IsOp (op n bytes)) → (words : List (List ℕ)) → IfGiven IsOp (number_and_bytes op words)
+bytes_op op is [] = given_none IsOp 3
+bytes_op op is (number ∷ []) = given_none IsOp 3
+bytes_op op is (number ∷ bytes ∷ []) =
+    given_next (λ x. Unit {0}) IsOp (number_argument number) _ (any_given (number_argument number)) (λ n any.
+    given_next AreBytes IsOp (hex_argument bytes) _ (or_cause AreBytes (hex_of bytes) 5 (hex_bytes bytes)) (λ h are. given_one IsOp (op n h) (is n h are)))
+bytes_op op is (number ∷ bytes ∷ more ∷ words) = given_none IsOp 3
+
+label_is : (word : List ℕ) → IfThere (λ text. IsTrue (is_label text)) (label_of word)
+label_is word = there_cond (λ text. IsTrue (is_label text)) (is_label word) (Some word) None (λ t. t) tt
+
+label_op : (op : List ℕ → Op) → ((text : List ℕ) → IsTrue (is_label text) → IsOp (op text)) → (words : List (List ℕ)) → IfGiven IsOp (one_label op words)
+label_op op is [] = given_none IsOp 3
+label_op op is (text ∷ []) =
+    given_next (λ l. IsTrue (is_label l)) IsOp (label_argument text) _ (or_cause (λ l. IsTrue (is_label l)) (label_of text) 6 (label_is text)) (λ l good. given_one IsOp (op l) (is l good))
+label_op op is (text ∷ more ∷ words) = given_none IsOp 3
+
+store_given : (word : List ℕ) → IfGiven AreBytes (store_argument word)
+store_given word = given_cond AreBytes _ (Ok []) _ (given_one AreBytes [] no_bytes) (or_cause AreBytes (hex_of word) 5 (hex_bytes word))
+
+key_op : (op : List ℕ → Op) → ((key : List ℕ) → IsOp (op key)) → (words : List (List ℕ)) → IfGiven IsOp (one_key op words)
+key_op op is [] = given_none IsOp 3
+key_op op is (key ∷ []) = given_next AreBytes IsOp (store_argument key) _ (store_given key) (λ k are. given_one IsOp (op k) (is k))
+key_op op is (key ∷ more ∷ words) = given_none IsOp 3
+
+value_op : (op : List ℕ → List ℕ → Op) → ((key value : List ℕ) → AreBytes key → AreBytes value → IsOp (op key value)) → (words : List (List ℕ)) → IfGiven IsOp (key_and_value op words)
+value_op op is [] = given_none IsOp 3
+value_op op is (key ∷ []) = given_none IsOp 3
+value_op op is (key ∷ value ∷ []) =
+    given_next AreBytes IsOp (store_argument key) _ (store_given key) (λ k k_are.
+    given_next AreBytes IsOp (store_argument value) _ (store_given value) (λ v v_are. given_one IsOp (op k v) (is k v k_are v_are)))
+value_op op is (key ∷ value ∷ more ∷ words) = given_none IsOp 3
+
+scan_op : (words : List (List ℕ)) → IfGiven IsOp (scan_arguments words)
+scan_op [] = given_none IsOp 3
+scan_op (from ∷ []) = given_none IsOp 3
+scan_op (from ∷ to ∷ []) = given_none IsOp 3
+scan_op (from ∷ to ∷ most ∷ []) =
+    given_next AreBytes IsOp (store_argument from) _ (store_given from) (λ f f_are.
+    given_next AreBytes IsOp (store_argument to) _ (store_given to) (λ t t_are.
+    given_next (λ n. Unit {0}) IsOp (number_argument most) _ (any_given (number_argument most)) (λ n given. given_one IsOp (TreeScan f t n) tt)))
+scan_op (from ∷ to ∷ most ∷ more ∷ words) = given_none IsOp 3
+
+tree_op : (name : List ℕ) (words : List (List ℕ)) → IfGiven IsOp (tree_operation name words)
+unfolding tree_operation
+tree_op name words =
+    given_cond IsOp _ (key_and_value TreePut words) _ (value_op TreePut (λ key value k_are v_are. (k_are, v_are)) words)
+    (given_cond IsOp _ (one_key TreeGet words) _ (key_op TreeGet (λ key. tt) words)
+    (given_cond IsOp _ (one_key TreeDelete words) _ (key_op TreeDelete (λ key. tt) words)
+    (given_cond IsOp _ (scan_arguments words) _ (scan_op words) (given_none IsOp 2))))
+
+store_op : (name : List ℕ) (words : List (List ℕ)) → IfGiven IsOp (store_operation name words)
+unfolding store_operation
+store_op name words =
+    given_cond IsOp _ (key_and_value HashPut words) _ (value_op HashPut (λ key value k_are v_are. (k_are, v_are)) words)
+    (given_cond IsOp _ (one_key HashGet words) _ (key_op HashGet (λ key. tt) words)
+    (given_cond IsOp _ (one_key HashDelete words) _ (key_op HashDelete (λ key. tt) words) (tree_op name words)))
+
+other_op : (name : List ℕ) (words : List (List ℕ)) → IfGiven IsOp (other_operation name words)
+unfolding other_operation
+other_op name words =
+    given_cond IsOp _ (one_label Release words) _ (label_op Release (λ text good. good) words)
+    (given_cond IsOp _ (one_label Takeover words) _ (label_op Takeover (λ text good. tt) words)
+    (given_cond IsOp _ (one_label Await words) _ (label_op Await (λ text good. tt) words)
+    (given_cond IsOp _ (bare Trim words) _ (bare_op IsOp Trim words tt)
+    (given_cond IsOp _ (bare Stat words) _ (bare_op IsOp Stat words tt)
+    (given_cond IsOp _ (bare Compact words) _ (bare_op IsOp Compact words tt)
+    (given_cond IsOp _ (bare Upgrade words) _ (bare_op IsOp Upgrade words tt) (store_op name words)))))))
+
+named_op : (name : List ℕ) (words : List (List ℕ)) → IfGiven IsOp (operation_of name words)
+unfolding operation_of
+named_op name words =
+    given_cond IsOp _ (begin_arguments words) _ (begin_op words)
+    (given_cond IsOp _ (put_arguments words) _ (put_op IsOp (λ block off bytes are. are) words)
+    (given_cond IsOp _ (one_number Read words) _ (one_op IsOp Read (λ n. tt) words)
+    (given_cond IsOp _ (three_numbers Get words) _ (three_op Get (λ l m n. tt) words)
+    (given_cond IsOp _ (number_and_bytes Write words) _ (bytes_op Write (λ n bytes are. are) words)
+    (given_cond IsOp _ (number_and_bytes Fill words) _ (bytes_op Fill (λ n bytes are. are) words)
+    (given_cond IsOp _ (two_numbers Mark words) _ (two_op Mark (λ m n. tt) words)
+    (given_cond IsOp _ (bare End words) _ (bare_op IsOp End words tt)
+    (given_cond IsOp _ (bare Abort words) _ (bare_op IsOp Abort words tt)
+    (other_op name words)))))))))
+
+-- what a line says
+abbrev pub IsSaid : (Op → Type 0) → Parsed → Type 0
+IsSaid P Skip = Unit {0}
+IsSaid P (Says line) = P line.op
+
+-- what holds of each operation that a name and arguments give
+abbrev pub IsNamed : (Op → Type 0) → Type 0
+IsNamed P = (name : List ℕ) (words : List (List ℕ)) → IfGiven P (operation_of name words)
+
+said_op : (P : Op → Type 0) → IsNamed P → (words : List (List ℕ)) → IfGiven (IsSaid P) (said words)
+unfolding said
+said_op P named [] = given_none (IsSaid P) 1
+said_op P named (client ∷ []) =
+    given_next (λ x. Unit {0}) (IsSaid P) (client_in_range (number_of client)) _ (any_given (client_in_range (number_of client))) (λ c is. given_none (IsSaid P) 2)
+said_op P named (client ∷ name ∷ words) =
+    given_next (λ x. Unit {0}) (IsSaid P) (client_in_range (number_of client)) _ (any_given (client_in_range (number_of client))) (λ c is.
+    given_next P (IsSaid P) (operation_of name words) _ (named name words) (λ op good. given_one (IsSaid P) (Says (record { client = c; op = op })) good))
+
+pub parsed_op : (P : Op → Type 0) → IsNamed P → (text : List ℕ) → IfGiven (IsSaid P) (parse text)
+unfolding parse
+parsed_op P named text =
+    given_cond (IsSaid P) _ (Err 7) _ (given_none (IsSaid P) 7)
+    (given_cond (IsSaid P) _ (Ok Skip) _ (given_one (IsSaid P) Skip tt)
+    (given_cond (IsSaid P) _ (said (words_of text)) (Err 8) (said_op P named (words_of text)) (given_none (IsSaid P) 8)))
+
+pub whole_op : (P : Op → Type 0) → IsNamed P → (piece : List ℕ) → IfGiven (IsSaid P) (parse_whole piece)
+unfolding parse_whole
+whole_op P named piece = given_cond (IsSaid P) _ (Err 7) _ (given_none (IsSaid P) 7) (parsed_op P named (without_return piece))
+
+-- what holds of the operation of each line
+abbrev pub EachLine : (Op → Type 0) → List (ℕ × Line) → Type 0
+EachLine P lines = AllByRecursion (λ line. P line.1.op) lines
+
+before_lines : (P : Op → Type 0) (number : ℕ) (said : Result Parsed ℕ) (rest : Script) → IfGiven (IsSaid P) said → EachLine P rest.lines
+    → EachLine P (before_script number said rest).lines
+before_lines P number (Ok Skip) rest is others = others
+before_lines P number (Ok (Says line)) rest is others = (is.each (Says line) refl, others)
+before_lines P number (Err cause) rest is others = tt
+
+last_lines : (P : Op → Type 0) → IsNamed P → (cut : Bool) (number : ℕ) (piece : List ℕ) → EachLine P (last_piece cut number piece).lines
+last_lines P named cut number piece =
+    let rest = before_script number (parse piece) no_lines in
+    chosen (cut && nat_le (length piece) MAX_LINE) (bad_line number 9) (cond (is_empty piece) no_lines rest) tt
+    (chosen (is_empty piece) no_lines rest tt (before_lines P number (parse piece) no_lines (parsed_op P named piece) tt))
+  where
+    chosen : (t : Bool) (x y : Script) → EachLine P x.lines → EachLine P y.lines → EachLine P (cond t x y).lines
+    chosen true x y first second = first
+    chosen false x y first second = second
+
+from_lines : (P : Op → Type 0) → IsNamed P → (cut : Bool) (number : ℕ) (pieces : List (List ℕ)) → EachLine P (script_from cut number pieces).lines
+from_lines P named cut number [] = tt
+from_lines P named cut number (piece ∷ []) = last_lines P named cut number piece
+from_lines P named cut number (piece ∷ next ∷ more) =
+    before_lines P number (parse_whole piece) (script_from cut (number + 1) (next ∷ more)) (whole_op P named piece) (from_lines P named cut (number + 1) (next ∷ more))
+
+-- the lines of a script
+pub each_line : (P : Op → Type 0) → IsNamed P → (input : List ℕ) → EachLine P (script input).lines
+unfolding script
+each_line P named input = from_lines P named (nat_le MAX_INPUT (length input)) 1 (pieces 10 (take MAX_INPUT input))
+
+pub script_lines : (input : List ℕ) → AreLines (script input).lines
+script_lines input = each_line IsOp named_op input

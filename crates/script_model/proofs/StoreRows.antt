@@ -1,0 +1,57 @@
+-- Worked examples of the stores' operations.
+use Rattle.std.specs.Prelude.{◌≡◌, [], ◌∷◌, refl, codes}
+use Rattle.std.specs.Fmt.{digits}
+use Rattle.iso_model.specs.declared.access.Geometry.{Geometry}
+use Rattle.iso_model.specs.declared.access.Mode.TheVariants.{Serial}
+use Rattle.iso_model.specs.Step.{begin_step, switch_step}
+use Rattle.script_model.specs.declared.script.Reply.TheVariants.{Pairs}
+use Rattle.iso_model.specs.Array.{put}
+use Rattle.iso_model.specs.Conflict.{clash}
+use Rattle.iso_model.specs.Effect.{runs}
+use Rattle.store_model.specs.HashCalls.{walk, get_program, put_program}
+use Rattle.script_model.specs.Script.{operation_of, other_operation, store_operation, tree_operation}
+use Rattle.script_model.specs.Step.{step, store_step, hash_put_step, hash_get_step, hash_delete_step, tree_put_step, tree_get_step, tree_delete_step, tree_scan_step}
+use Rattle.store_model.specs.TreeCalls as tree
+use Rattle.store_model.specs.TreeCalls.{scan_program}
+use Rattle.script_model.specs.Text.{words_of, number_of, hex_of, reply_text}
+use Rattle.script_model.proofs.Small.{small, made, text, answers}
+
+-- eight blocks, of which the first three are a hash store
+abbrev stores : Geometry
+stores = record { block = 256; blocks = 8; log = 4096; mode = Serial; hash = 3; tree = 0; form = 1 }
+
+-- A key has 1 to 28 bytes.
+pub keys_have_their_lengths :
+    answers (made stores) (codes "1 hget 61" ∷ codes "1 begin" ∷ codes "1 hget -" ∷ codes "1 hput - 31" ∷ [])
+    ≡ text (codes "1 not-in-tx" ∷ codes "1 ok begin 0" ∷ codes "1 bad-key" ∷ codes "1 bad-key" ∷ [])
+unfolding put clash runs operation_of other_operation store_operation step begin_step store_step hash_put_step hash_get_step get_program put_program walk words_of number_of hex_of reply_text digits
+keys_have_their_lengths = refl
+
+-- An image without a store has none; the store of a transaction that is not serial is refused.
+pub stores_are_refused :
+    answers (made small) (codes "1 begin" ∷ codes "1 hget 61" ∷ codes "1 hput - 31" ∷ codes "1 hdel 61" ∷ [])
+    ≡ text (codes "1 ok begin 0" ∷ codes "1 no-store" ∷ codes "1 no-store" ∷ codes "1 no-store" ∷ [])
+unfolding put clash runs operation_of other_operation store_operation step begin_step hash_put_step hash_get_step hash_delete_step words_of number_of hex_of reply_text digits
+stores_are_refused = refl
+
+pub snapshot_transactions_have_no_store :
+    answers (made stores) (codes "1 upgrade" ∷ codes "1 begin snapshot" ∷ codes "1 hget 61" ∷ codes "1 hput - 31" ∷ codes "1 hdel -" ∷ [])
+    ≡ text (codes "1 ok upgrade 0" ∷ codes "1 ok begin 0" ∷ codes "1 store-mode" ∷ codes "1 store-mode" ∷ codes "1 store-mode" ∷ [])
+unfolding put clash runs operation_of other_operation store_operation step begin_step switch_step hash_put_step hash_get_step hash_delete_step words_of number_of hex_of reply_text digits
+snapshot_transactions_have_no_store = refl
+
+-- eight blocks, of which the first three are a tree store
+abbrev trees : Geometry
+trees = record { block = 256; blocks = 8; log = 4096; mode = Serial; hash = 0; tree = 3; form = 1 }
+
+-- Keys are tested before the number of pairs.
+pub scans_have_their_arguments :
+    answers (made trees) (codes "1 tscan 61 62 1" ∷ codes "1 begin" ∷ codes "1 tscan - 62 0" ∷ codes "1 tscan 61 - 0" ∷ codes "1 tscan 61 62 0" ∷ codes "1 tput - 31" ∷ codes "1 tget -" ∷ codes "1 tdel -" ∷ codes "1 hget 61" ∷ [])
+    ≡ text (codes "1 not-in-tx" ∷ codes "1 ok begin 0" ∷ codes "1 bad-key" ∷ codes "1 bad-key" ∷ codes "1 bad-range" ∷ codes "1 bad-key" ∷ codes "1 bad-key" ∷ codes "1 bad-key" ∷ codes "1 no-store" ∷ [])
+unfolding put clash runs operation_of other_operation store_operation tree_operation step begin_step store_step tree_put_step tree_get_step tree_delete_step tree_scan_step hash_get_step scan_program tree.get_program tree.put_program tree.del_program words_of number_of hex_of reply_text digits
+scans_have_their_arguments = refl
+
+-- The texts of pairs, and of none.
+pub pairs_have_their_text : reply_text (Pairs (((97 ∷ []), (49 ∷ 50 ∷ [])) ∷ ((98 ∷ []), []) ∷ [])) ≡ codes "ok 61=3132 62=-"
+unfolding reply_text
+pairs_have_their_text = refl

@@ -1,0 +1,60 @@
+-- What upkeep leaves as it is.
+use Rattle.std.proofs.Common.{◌≡◌, refl, ap, ℕ, ◌==◌, true, false, cond}
+use Rattle.script_model.specs.declared.script.Op.{Op}
+use Rattle.script_model.specs.declared.script.Op.TheVariants.{Begin, End, Abort, Put, Read, Get, Write, Fill, Mark, Release, Takeover, Await, Trim, Stat, Compact, Upgrade, HashPut, HashGet, HashDelete, TreePut, TreeGet, TreeDelete, TreeScan}
+use Rattle.iso_model.specs.declared.core_reply.CoreReply.{CoreReply}
+use Rattle.iso_model.specs.declared.core_reply.CoreReply.TheVariants as reply
+use Rattle.iso_model.specs.declared.limits.TheConstants.{LAST}
+use Rattle.iso_model.specs.History.{History, shown_block}
+use Rattle.script_model.specs.Step.{step}
+use Rattle.iso_model.specs.Step.{after_switch, shown_to, switch_step}
+use Rattle.iso_model.specs.World.{World, Live}
+use Rattle.script_model.specs.Operations.{IsUpkeep}
+
+-- the same commits and the same transactions
+record Keeps (W V : World) : Type 0 where
+  live : V.live ≡ W.live
+  history : V.history ≡ W.history
+
+switch_keeps : (W : World) (form : ℕ) (answer : CoreReply) → Keeps W (switch_step W form answer).1
+unfolding switch_step
+switch_keeps W form answer =
+    elim (W.generation == LAST) as (λ t. Keeps W (cond {A = CoreReply × World} t (reply.Worn, W) (answer, after_switch W form)).1) [
+      | true ↦ record { live = refl; history = refl }
+      | false ↦ record { live = refl; history = refl }
+    ]
+
+keeps : (W : World) (client : ℕ) (op : Op) → IsUpkeep op → Keeps W (step W client op).1
+unfolding step
+keeps W client Trim is = record { live = refl; history = refl }
+keeps W client Stat is = record { live = refl; history = refl }
+keeps W client Compact is = switch_keeps W _ _
+keeps W client Upgrade is = switch_keeps W _ _
+keeps W client (Begin mode) is = absurd is
+keeps W client End is = absurd is
+keeps W client Abort is = absurd is
+keeps W client (Put block off bytes) is = absurd is
+keeps W client (Read block) is = absurd is
+keeps W client (Get block off len) is = absurd is
+keeps W client (Write block bytes) is = absurd is
+keeps W client (Fill block bytes) is = absurd is
+keeps W client (Mark off len) is = absurd is
+keeps W client (HashPut key value) is = absurd is
+keeps W client (HashGet key) is = absurd is
+keeps W client (HashDelete key) is = absurd is
+keeps W client (TreePut key value) is = absurd is
+keeps W client (TreeGet key) is = absurd is
+keeps W client (TreeDelete key) is = absurd is
+keeps W client (TreeScan from to most) is = absurd is
+keeps W client (Release text) is = absurd is
+keeps W client (Takeover text) is = absurd is
+keeps W client (Await text) is = absurd is
+
+pub live_kept : (W : World) (client : ℕ) (op : Op) → IsUpkeep op → (step W client op).1.live ≡ W.live
+live_kept W client op is = (keeps W client op is).live
+
+pub history_kept : (W : World) (client : ℕ) (op : Op) → IsUpkeep op → (step W client op).1.history ≡ W.history
+history_kept W client op is = (keeps W client op is).history
+
+pub shown_kept : (W : World) (client : ℕ) (op : Op) (t : Live) (block : ℕ) → IsUpkeep op → shown_to (step W client op).1 t block ≡ shown_to W t block
+shown_kept W client op t block is = ap (λ (H : History). shown_block H t.begin t.accesses block) ((keeps W client op is).history)

@@ -1,0 +1,195 @@
+-- What each operation of a client is answered, and the world after it.
+use Rattle.std.specs.Prelude.{ℕ, ◌+◌, ◌-◌, Bool, true, false, ◌&&◌, ◌==◌, if◌then◌else◌, List, [], ◌∷◌, ◌++◌, Option, Some, None, Result, Ok, Err, length, take, drop, replicate, nat_le, slice_index, not}
+use Rattle.iso_model.specs.declared.access.Access.{Access}
+use Rattle.iso_model.specs.declared.access.Span.{Span}
+use Rattle.iso_model.specs.declared.core_reply.CoreReply.TheVariants as core
+use Rattle.script_model.specs.declared.script.Op.{Op}
+use Rattle.iso_model.specs.declared.access.MarkError.{MarkError}
+use Rattle.iso_model.specs.declared.access.MarkError.TheVariants as mark
+use Rattle.script_model.specs.declared.script.Op.TheVariants.{Begin, End, Abort, Put, Read as ReadBlock, Get, Write as WriteBlock, Fill, Mark, Release, Takeover, Await, Trim, Stat, Compact, Upgrade, HashPut, HashGet, HashDelete, TreePut, TreeGet, TreeDelete, TreeScan}
+use Rattle.script_model.specs.declared.script.Reply.{Reply}
+use Rattle.script_model.specs.declared.script.Reply.TheVariants as reply
+use Rattle.iso_model.specs.declared.limits.TheConstants.{MAX_ACCESSES}
+use Rattle.store_model.specs.declared.stores.StoreError.{StoreError}
+use Rattle.store_model.specs.declared.stores.StoreError.TheVariants as store
+use Rattle.iso_model.specs.Array.{Array}
+use Rattle.iso_model.specs.Geometry.{is_serial}
+use Rattle.iso_model.specs.Effect.{own}
+use Rattle.store_model.specs.HashCalls.{del_program, get_program, put_program, is_key}
+use Rattle.iso_model.specs.History.{array_at, last}
+use Rattle.iso_model.specs.Marks.{is_outside, mark_fault, marked}
+use Rattle.store_model.specs.Stores.{Program, outcome}
+use Rattle.store_model.specs.TreeCalls as tree
+use Rattle.store_model.specs.TreeCalls.{scan_program}
+use Rattle.iso_model.specs.Versions.{versions}
+use Rattle.iso_model.specs.World.{World, Live, client, label, attached, held, floor, used}
+use Rattle.iso_model.specs.Step.{put_access, read_access, get_access, write_access, with_accesses, placed, after_leaving, mode_named, shown_to, after_trim, begin_step, end_step, switch_step}
+use Rattle.store_model.specs.Areas.{hash_area, tree_area}
+use Rattle.script_model.specs.CoreReplies.{as_step}
+
+-- the world in which the transaction has one more access
+abbrev pub with_access : World → Live → Access → World
+with_access W t a = with_accesses W t (t.accesses ++ a ∷ [])
+
+-- an access, which is refused outside the array, where its bytes are wrong, and where the transaction has as many as it may
+abbrev pub access_step : World → Live → (block : ℕ) → (is_wrong : Bool) → Reply → Access → Reply × World
+access_step W t block is_wrong answer a =
+    if nat_le W.geometry.blocks block then (reply.BadBlock, W)
+    else if is_wrong then (reply.BadRange, W)
+    else if nat_le MAX_ACCESSES (length t.accesses) then (reply.TooManyAccesses, W)
+    else (answer, with_access W t a)
+
+unfoldable pub put_step : World → Live → (block off : ℕ) → List ℕ → Reply × World
+put_step W t block off bytes =
+    access_step W t block (is_outside W.geometry.block off (length bytes)) reply.Done (put_access W.geometry.block block off bytes)
+
+unfoldable pub read_step : World → Live → (block : ℕ) → Reply × World
+read_step W t block = access_step W t block false (reply.Shown (shown_to W t block)) (read_access block)
+
+unfoldable pub get_step : World → Live → (block off len : ℕ) → Reply × World
+get_step W t block off len =
+    access_step W t block (is_outside W.geometry.block off len) (reply.Shown (take len (drop off (shown_to W t block)))) (get_access block off len)
+
+unfoldable pub write_step : World → Live → (block : ℕ) → List ℕ → Reply × World
+write_step W t block bytes = access_step W t block (not (length bytes == W.geometry.block)) reply.Done (write_access block bytes)
+
+unfoldable pub fill_step : World → Live → (block : ℕ) → List ℕ → Reply × World
+fill_step W t block bytes =
+    access_step W t block (not (length bytes == 1)) reply.Done (write_access block (replicate W.geometry.block (slice_index bytes 0)))
+
+abbrev pub mark_refused : MarkError → Reply
+mark_refused mark.BadRange = reply.BadRange
+mark_refused mark.NoAccess = reply.NoAccess
+mark_refused mark.TooManyMarks = reply.TooManyMarks
+
+-- a mark, once the reason for which it is refused is known, if there is one
+abbrev pub marked_step : World → Live → Span → Option MarkError → Reply × World
+marked_step W t span (Some fault) = (mark_refused fault, W)
+marked_step W t span None = (reply.Done, with_accesses W t (marked span t.accesses))
+
+-- one more mark on the last access
+unfoldable pub mark_step : World → Live → (off len : ℕ) → Reply × World
+mark_step W t off len = marked_step W t (record { off = off; len = len }) (mark_fault W.geometry.block off len t.accesses)
+
+-- the array that the transaction is shown
+abbrev pub array_of : World → Live → Array
+array_of W t = own (array_at W.history t.begin) t.accesses
+
+-- what a store that refuses is answered; a program has no refusal of a transaction, and wants no memory
+abbrev pub store_refusal : StoreError → Reply
+store_refusal store.BadKey = reply.BadKey
+store_refusal store.BadValue = reply.BadValue
+store_refusal (store.NoBlocks need free) = reply.NoBlocks need free
+store_refusal (store.Broken block) = reply.Broken block
+store_refusal (store.Tx e) = reply.TooManyAccesses
+store_refusal store.Memory = reply.TooManyAccesses
+
+-- what a call of a store is answered whose program ended so: it has no answer where an access did not fit
+abbrev pub store_reply : {R : Type 0} → (R → Reply) → Option (Result R StoreError) → Reply
+store_reply answer None = reply.TooManyAccesses
+store_reply answer (Some (Ok r)) = answer r
+store_reply answer (Some (Err e)) = store_refusal e
+
+-- the reply and the world after accesses of a store's program and its answer
+abbrev pub after_store : {R : Type 0} → World → Live → (R → Reply) → List Access × Option (Result R StoreError) → Reply × World
+after_store W t answer ended = (store_reply answer ended.1, with_accesses W t (t.accesses ++ ended.0))
+
+-- A call of a store: its program on the array that the transaction is shown. What it has read before a refusal stays.
+unfoldable pub store_step : {R : Type 0} → World → Live → Program (Result R StoreError) → (R → Reply) → Reply × World
+store_step W t program answer = after_store W t answer (outcome (MAX_ACCESSES - length t.accesses) program (array_of W t))
+
+-- a store of so many blocks that is there, in a transaction that is serial
+abbrev pub in_store : World → Live → (blocks : ℕ) → Reply × World → Reply × World
+in_store W t blocks result =
+    if blocks == 0 then (reply.NoStore, W)
+    else if is_serial t.mode then result
+    else (reply.StoreMode, W)
+
+-- what a look-up and a removal answer
+abbrev pub found_reply : Option (List ℕ) → Reply
+found_reply None = reply.Missing
+found_reply (Some value) = reply.Found value
+
+abbrev pub removed_reply : Bool → Reply
+removed_reply true = reply.Done
+removed_reply false = reply.Missing
+
+unfoldable pub hash_put_step : World → Live → (key value : List ℕ) → Reply × World
+hash_put_step W t key value = in_store W t W.geometry.hash (store_step W t (put_program (hash_area W.geometry) key value) (λ done. reply.Done))
+
+unfoldable pub hash_get_step : World → Live → (key : List ℕ) → Reply × World
+hash_get_step W t key = in_store W t W.geometry.hash (store_step W t (get_program (hash_area W.geometry) key) found_reply)
+
+unfoldable pub hash_delete_step : World → Live → (key : List ℕ) → Reply × World
+hash_delete_step W t key = in_store W t W.geometry.hash (store_step W t (del_program (hash_area W.geometry) key) removed_reply)
+
+unfoldable pub tree_put_step : World → Live → (key value : List ℕ) → Reply × World
+tree_put_step W t key value = in_store W t W.geometry.tree (store_step W t (tree.put_program (tree_area W.geometry) key value) (λ done. reply.Done))
+
+unfoldable pub tree_get_step : World → Live → (key : List ℕ) → Reply × World
+tree_get_step W t key = in_store W t W.geometry.tree (store_step W t (tree.get_program (tree_area W.geometry) key) found_reply)
+
+unfoldable pub tree_delete_step : World → Live → (key : List ℕ) → Reply × World
+tree_delete_step W t key = in_store W t W.geometry.tree (store_step W t (tree.del_program (tree_area W.geometry) key) removed_reply)
+
+-- what a scan answers
+abbrev pub pairs_reply : List (List ℕ × List ℕ) → Reply
+pairs_reply [] = reply.Missing
+pairs_reply (pair ∷ pairs) = reply.Pairs (pair ∷ pairs)
+
+-- a scan, which is to find at least one pair at most
+unfoldable pub tree_scan_step : World → Live → (from to : List ℕ) → (most : ℕ) → Reply × World
+tree_scan_step W t from to most =
+    in_store W t W.geometry.tree
+    (if is_key from && is_key to && (most == 0) then (reply.BadRange, W)
+    else store_step W t (scan_program (tree_area W.geometry) from to most) pairs_reply)
+
+-- a release under a label, once it is known who is there
+abbrev pub release_step : World → Live → List ℕ → Option Live → Reply × World
+release_step W t text (Some other) = (reply.LabelTaken, W)
+release_step W t text None = (reply.Done, placed W t (label text))
+
+-- a takeover by a client, once it is known who is under the label
+abbrev pub takeover_step : World → (c : ℕ) → Option Live → Reply × World
+takeover_step W c None = (reply.NoHandle, W)
+takeover_step W c (Some t) = (reply.Began t.begin, placed W t (client c))
+
+-- the numbers of the image
+unfoldable pub numbers : World → Reply
+numbers W = reply.Numbers (last W.history) W.base W.trim (length W.live) (used W) (versions W)
+
+-- an operation that needs that there is no transaction
+abbrev pub out_of_transaction : World → Option Live → Reply × World → Reply × World
+out_of_transaction W (Some t) result = (reply.InTx, W)
+out_of_transaction W None result = result
+
+-- an operation that needs a transaction: refused where the client has none
+abbrev pub in_transaction : World → Option Live → (Live → Reply × World) → Reply × World
+in_transaction W None act = (reply.NotInTx, W)
+in_transaction W (Some t) act = act t
+
+-- the reply to a client's operation, and the world after it
+unfoldable pub step : World → (c : ℕ) → Op → Reply × World
+step W c (Begin mode) = out_of_transaction W (attached W c) (as_step (begin_step W (client c) (mode_named W mode)))
+step W c (Put block off bytes) = in_transaction W (attached W c) (λ t. put_step W t block off bytes)
+step W c (ReadBlock block) = in_transaction W (attached W c) (λ t. read_step W t block)
+step W c (Get block off len) = in_transaction W (attached W c) (λ t. get_step W t block off len)
+step W c (WriteBlock block bytes) = in_transaction W (attached W c) (λ t. write_step W t block bytes)
+step W c (Fill block bytes) = in_transaction W (attached W c) (λ t. fill_step W t block bytes)
+step W c (Mark off len) = in_transaction W (attached W c) (λ t. mark_step W t off len)
+step W c End = in_transaction W (attached W c) (λ t. as_step (end_step W t))
+step W c Abort = in_transaction W (attached W c) (λ t. (reply.Done, after_leaving W t))
+step W c (Release text) = in_transaction W (attached W c) (λ t. release_step W t text (held W text))
+step W c (Takeover text) = out_of_transaction W (attached W c) (takeover_step W c (held W text))
+step W c (Await text) = out_of_transaction W (attached W c) (takeover_step W c (held W text))
+step W c Trim = (reply.Trimmed (floor W), after_trim W)
+step W c Stat = (numbers W, W)
+step W c Compact = as_step (switch_step W W.geometry.form (core.Compacted (floor W)))
+step W c Upgrade = as_step (switch_step W 2 (core.Upgraded (floor W)))
+step W c (HashPut key value) = in_transaction W (attached W c) (λ t. hash_put_step W t key value)
+step W c (HashGet key) = in_transaction W (attached W c) (λ t. hash_get_step W t key)
+step W c (HashDelete key) = in_transaction W (attached W c) (λ t. hash_delete_step W t key)
+step W c (TreePut key value) = in_transaction W (attached W c) (λ t. tree_put_step W t key value)
+step W c (TreeGet key) = in_transaction W (attached W c) (λ t. tree_get_step W t key)
+step W c (TreeDelete key) = in_transaction W (attached W c) (λ t. tree_delete_step W t key)
+step W c (TreeScan from to most) = in_transaction W (attached W c) (λ t. tree_scan_step W t from to most)

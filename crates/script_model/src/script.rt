@@ -1,0 +1,144 @@
+// The operations of a script and its lines. Operations that are added later are further variants.
+
+use iso_model::{Bytes, Clash, Label, Mode};
+use store_model::PairList;
+
+/// What a client asks for.
+#[derive(Debug, Drop)]
+pub enum Op {
+    /// In the mode that is named, or else in the image's.
+    Begin { mode: Option<Mode> },
+    End,
+    Abort,
+    /// A write of these bytes at `off`, with one mark over them.
+    Put { block: u32, off: u32, bytes: Bytes },
+    /// A read of a whole block.
+    Read { block: u32 },
+    /// A read of `len` bytes at `off`, with one mark over them.
+    Get { block: u32, off: u32, len: u32 },
+    /// A write of a whole block.
+    Write { block: u32, bytes: Bytes },
+    /// A write of a block full of one byte.
+    Fill { block: u32, bytes: Bytes },
+    /// One more mark on the last access.
+    Mark { off: u32, len: u32 },
+    /// Puts the transaction under a label.
+    Release { label: Label },
+    /// Attaches the transaction under a label to the client.
+    Takeover { label: Label },
+    /// A takeover that waits for the label where clients run beside each other.
+    Await { label: Label },
+    /// Lets versions go that no transaction can be shown.
+    Trim,
+    /// The numbers of the image.
+    Stat,
+    /// Moves the base up to the floor, in the other half.
+    Compact,
+    /// As `Compact`, with an image of form 2.
+    Upgrade,
+    /// Puts a value at a key of the hash store.
+    HashPut { key: Bytes, value: Bytes },
+    /// The value of a key of the hash store.
+    HashGet { key: Bytes },
+    /// Removes a key of the hash store.
+    HashDelete { key: Bytes },
+    /// Puts a value at a key of the tree store.
+    TreePut { key: Bytes, value: Bytes },
+    /// The value of a key of the tree store.
+    TreeGet { key: Bytes },
+    /// Removes a key of the tree store.
+    TreeDelete { key: Bytes },
+    /// The first pairs of the tree store from one key on and before another, at most so many.
+    TreeScan { from: Bytes, to: Bytes, most: u32 },
+}
+
+/// A line of a script: an operation of a client, 1 to 64.
+#[derive(Debug, Drop)]
+pub struct Line {
+    pub client: u8,
+    pub op: Op,
+}
+
+/// What a line of a script says: nothing, or an operation of a client.
+#[derive(Debug, Drop)]
+pub enum Parsed {
+    Skip,
+    Line(Line),
+}
+
+/// The first bad line, counted from 1, and the first test that it fails.
+#[derive(Clone, Copy, Debug, PartialEq, Eq)]
+pub struct BadLine {
+    pub line: u64,
+    pub cause: u8,
+}
+
+/// Why a line gives no operation: the first test that it fails, 1 to 8 or 10, or want of memory.
+#[derive(Clone, Copy, Debug, PartialEq, Eq)]
+pub enum LineError {
+    Cause(u8),
+    Memory,
+}
+
+/// What an operation is answered.
+#[derive(Debug, Drop)]
+pub enum Reply {
+    Done,
+    Began(u64),
+    Shown(Bytes),
+    Committed(u64),
+    ReadOnly,
+    Conflict(Clash),
+    Trimmed(u64),
+    Compacted(u64),
+    Upgraded(u64),
+    /// The last commit's number, the base and the trim number, how many transactions are live, how many bytes of the
+    /// log records take, and how many versions are kept.
+    Numbers {
+        last: u64,
+        base: u64,
+        trim: u64,
+        live: u32,
+        used: u32,
+        versions: u64,
+    },
+    /// The value of a key of a store.
+    Found(Bytes),
+    /// Pairs of the tree store, at least one.
+    Pairs(PairList),
+    /// A store has no such key, or no key of the range.
+    Missing,
+    InTx,
+    NotInTx,
+    ModeFixed,
+    /// The image has no such store.
+    NoStore,
+    /// The transaction is not serial.
+    StoreMode,
+    /// A key does not have 1 to 28 bytes.
+    BadKey,
+    /// A value has more than 32 bytes.
+    BadValue,
+    BadBlock,
+    BadRange,
+    NoAccess,
+    TooManyMarks,
+    TooManyAccesses,
+    /// This block of the image is not what a store has to find there.
+    Broken {
+        block: u32,
+    },
+    /// A store needs more blocks than are free.
+    NoBlocks {
+        need: u32,
+        free: u32,
+    },
+    NoHandle,
+    LabelTaken,
+    TooManyTx,
+    Worn,
+    LogFull {
+        need: u64,
+        free: u64,
+    },
+}

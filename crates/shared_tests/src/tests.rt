@@ -1,0 +1,224 @@
+// Runs over a device in memory: threads, and what the calls answer through the lock. The image has four blocks of 64 bytes and
+// logs of 4,096 bytes.
+ghost use Rattle.std.specs.Prelude.{◌≡◌, ◌+◌, ◌<◌, ◌≤◌, ℕ, replicate, IfOk, IsTrue};
+ghost use denote.Param.Send.{IsSync};
+ghost use Rattle.iso_core.specs.Core.{StandsFor};
+ghost use Rattle.iso_core.specs.Standing.{up};
+ghost use Rattle.iso_model.specs.World.{empty_history, fresh};
+ghost use Rattle.iso_memdisk.specs.MemDisk.{state_of};
+ghost use Rattle.iso_model.specs.Geometry.{is_valid};
+ghost use Rattle.iso_shared.specs.Ports.{IsPort, IsTx, port_view, tx_view};
+ghost use Rattle.iso_shared.specs.TestImage.{small, MayStart};
+
+use iso_core::{Core, Stat};
+use iso_memdisk::{CallKind, MemDisk};
+use iso_model::{CoreError, EndReply, Geometry, Memory, Mode};
+use iso_recover::format_image;
+use iso_shared::{Origin, Port, Shared, Tx};
+use std::alloc::{AllocError, Global};
+use std::marker::Brand;
+use std::sync::Wait;
+use std::sync::ledger::{Blank, Ledger};
+use std::test::Fail;
+use std::thread::{Threads, join};
+use step_count::Steps;
+
+#[tactic(auto, unfolding(iso_model::specs::Geometry::is_valid))]
+fn small() -> Geometry
+    ensures same { result ≡ small }
+    ensures valid { IsTrue (is_valid result) }
+{
+    Geometry {
+        block: 64,
+        blocks: 4,
+        log: 4096,
+        mode: Mode::Serial,
+        hash: 0,
+        tree: 0,
+        form: 1,
+    }
+}
+
+fn zeros(alloc: Global) -> Result<Vec<u8>, AllocError>
+    ensures { IfOk result (λ v. v.items ≡ replicate 8832 0) }
+{
+    Ok(vec![in alloc; 0; 8832]?)
+}
+
+/// A core over a new image, on a disk of which the call of this kind with this number fails alone.
+pub(crate) fn core_failing(
+    alloc: Global,
+    kind: CallKind,
+    number: u64,
+) -> Result<Core<MemDisk>, Memory>
+    ensures { IfOk result (λ core. StandsFor state_of core (fresh small 1 (empty_history small)) up) }
+{
+    let bytes = zeros(alloc)?;
+    let mut disk = MemDisk::new(alloc, bytes);
+    disk.fail_kind(kind, number);
+    match format_image(alloc, disk, &small()) {
+        Ok(core) => Ok(core),
+        Err((_error, _disk)) => Err(Memory),
+    }
+}
+
+/// A core over a new image, on a disk that does not fail.
+pub(crate) fn new_core(alloc: Global) -> Result<Core<MemDisk>, Memory>
+    ensures { IfOk result (λ core. StandsFor state_of core (fresh small 1 (empty_history small)) up) }
+{
+    core_failing(alloc, CallKind::Bind, 0)
+}
+
+/// What the end of a transaction is answered. Where it is handed back, it is aborted.
+pub(crate) fn ended<O: Origin, L: Ledger, R: Wait>(
+    blank: Blank,
+    rt: &R,
+    shared: &Shared<MemDisk, O>,
+    port: &mut Port<MemDisk, O>,
+    tx: Tx<MemDisk, O>,
+) -> Result<EndReply, CoreError>
+    requires name { blank.name ≡ L.name }
+    requires parts { blank.parts ≡ L.parts }
+    requires some { 0 < L.parts }
+    requires port { IsPort shared.now port.old }
+    requires tx { IsTx shared.now O.start tx }
+    ensures port { IsPort shared.now port.new }
+    ensures units { (port_view port.new).units ≡ (port_view port.old).units + (tx_view tx).units }
+{
+    let mut steps = Steps::<L>::start(blank);
+    match shared.end(rt, port, tx, &mut steps) {
+        Ok(reply) => Ok(reply),
+        Err((error, back)) => match back {
+            Some(tx) => {
+                shared.abort(rt, port, tx);
+                Err(error)
+            }
+            None => Err(error),
+        },
+    }
+}
+
+/// A transaction that puts one byte at the begin of a block: its begin, and what its end is answered.
+pub(crate) fn put<O: Origin, R: Wait>(
+    rt: &R,
+    shared: &Shared<MemDisk, O>,
+    port: &mut Port<MemDisk, O>,
+    block: u32,
+    byte: u8,
+) -> Result<(u64, EndReply), CoreError>
+    requires port { IsPort shared.now port.old × (1 < (port_view port.old).units) }
+    requires image { (O.start.world.geometry ≡ small) × (block < 4) }
+    ensures port { IsPort shared.now port.new }
+    ensures units { (port_view port.new).units ≡ (port_view port.old).units }
+{
+    let mut tx = shared.begin(rt, port, None)?;
+    let at = tx.at();
+    if tx.reserve(block).is_err() {
+        shared.abort(rt, port, tx);
+        return Err(CoreError::Memory);
+    }
+    let mut bytes = [0; 64];
+    bytes[0] = byte;
+    tx.write(block, &bytes);
+    let _ = tx.mark(0, 1);
+    let reply = ended::<O, Brand, R>(Blank::new(1), rt, shared, port, tx)?;
+    Ok((at, reply))
+}
+
+/// So many commits in a block; whether each is one, and begins at the last one before it or later.
+pub(crate) fn commits<O: Origin, R: Wait>(
+    rt: &R,
+    shared: &Shared<MemDisk, O>,
+    mut port: Port<MemDisk, O>,
+    block: u32,
+    times: u32,
+) -> (Port<MemDisk, O>, bool)
+    requires port { IsPort shared.now port × (1 < (port_view port).units) }
+    requires image { (O.start.world.geometry ≡ small) × (block < 4) }
+    ensures port { IsPort shared.now result.0 }
+    ensures units { (port_view result.0).units ≡ (port_view port).units }
+{
+    let mut last = 0;
+    let mut in_order = true;
+    for i in 0..times {
+        match put(rt, shared, &mut port, block, (i % 100) as u8) {
+            Ok((at, EndReply::Committed(number))) => {
+                in_order = in_order && last <= at && at < number;
+                last = number;
+            }
+            _ => in_order = false,
+        }
+    }
+    (port, in_order)
+}
+
+/// Two threads that each make so many commits in a block of their own; whether all were in order.
+fn side_by_side<O: Origin + Send + Sync, R: Threads + Wait + Sync>(
+    rt: &R,
+    shared: &Shared<MemDisk, O>,
+    first: Port<MemDisk, O>,
+    second: Port<MemDisk, O>,
+    times: u32,
+) -> (Port<MemDisk, O>, bool)
+    requires first { IsPort shared.now first × (1 < (port_view first).units) }
+    requires second { IsPort shared.now second × (1 < (port_view second).units) }
+    requires image { O.start.world.geometry ≡ small }
+    ensures port { IsPort shared.now result.0 }
+    ensures units { (port_view result.0).units ≡ (port_view first).units + (port_view second).units }
+{
+    let ((mut first, left), (second, right)) = join(
+        rt,
+        || -> (Port<MemDisk, O>, bool)
+            requires { IsSync R.row × IsPort shared.now first × (1 < (port_view first).units) × (O.start.world.geometry ≡ small) }
+            ensures { IsPort shared.entry.now result.0 × ((port_view result.0).units ≡ (port_view first).units) }
+        { commits(rt, shared, first, 0, times) },
+        || -> (Port<MemDisk, O>, bool)
+            requires { IsSync R.row × IsPort shared.now second × (1 < (port_view second).units) × (O.start.world.geometry ≡ small) }
+            ensures { IsPort shared.entry.now result.0 × ((port_view result.0).units ≡ (port_view second).units) }
+        { commits(rt, shared, second, 1, times) },
+    );
+    shared.join(&mut first, second);
+    (first, left && right)
+}
+
+/// What such a run leaves of a core.
+fn run_two<O: Origin + Send + Sync, R: Threads + Wait + Sync>(
+    rt: &R,
+    alloc: Global,
+    core: Core<MemDisk>,
+    times: u32,
+) -> Option<(Stat, bool)>
+    requires start { MayStart state_of O.start O.disk core }
+{
+    match Shared::<MemDisk, O>::new(alloc, core) {
+        Err((_memory, _core)) => None,
+        Ok((shared, mut first)) => {
+            let second = shared.port(&mut first, 1 << 32);
+            let (all, in_order) = side_by_side(rt, &shared, first, second, times);
+            let core = shared.close(all);
+            Some((core.stat(), in_order))
+        }
+    }
+}
+
+/// The same over a new core.
+fn two_threads<R: Threads + Wait + Sync>(
+    rt: &R,
+    alloc: Global,
+    times: u32,
+) -> Option<(Stat, bool)> {
+    let core = new_core(alloc).ok()?;
+    run_two::<Brand, R>(rt, alloc, core, times)
+}
+
+#[test]
+fn two_threads_make_fifty_commits_each(rt: HostRuntime) -> Result<(), Fail> {
+    let made = two_threads(&rt, rt.alloc(), 50);
+    let (stat, in_order) = made.expect(&rt, "a device");
+    assert!(rt; in_order);
+    assert_eq!(rt; stat.last, 100);
+    assert_eq!(rt; stat.live, 0);
+    assert_eq!(rt; stat.used, 2900);
+    assert!(rt; !stat.down);
+    Ok(())
+}

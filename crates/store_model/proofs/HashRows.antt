@@ -1,0 +1,92 @@
+-- Worked examples of the hash store, by computation: four blocks of 256 bytes, so block 0, one bucket of three cells in block 1, and
+-- two blocks behind it.
+use Rattle.std.specs.Prelude.{◌≡◌, ℕ, List, [], ◌∷◌, None, Some, Ok, Err, true, false, refl, map, replicate}
+use Rattle.iso_model.specs.declared.access.Access.{Access}
+use Rattle.iso_model.specs.declared.access.Span.{Span}
+use Rattle.iso_model.specs.declared.access.Kind.{Kind}
+use Rattle.iso_model.specs.declared.access.Kind.TheVariants.{Read, Write}
+use Rattle.store_model.specs.declared.stores.Area.{Area}
+use Rattle.store_model.specs.declared.stores.StoreError.TheVariants.{Broken}
+use Rattle.iso_model.specs.Array.{Array, put, zeros}
+use Rattle.iso_model.specs.Effect.{own}
+use Rattle.sha2.specs.Sha256.{compress, digest_bytes, first_words, hash_after, rounds, schedule, sha256}
+use Rattle.store_model.specs.HashRegion.{bucket_of, is_linked}
+use Rattle.store_model.specs.HashCalls.{walk, get_program, put_program, del_program}
+use Rattle.store_model.specs.Stores.{accesses_of, answer_of, outcome}
+
+abbrev area : Area
+area = record { start = 0; blocks = 4; size = 256 }
+
+abbrev span : ℕ → ℕ → Span
+span off len = record { off = off; len = len }
+
+-- the kinds, blocks and marks of accesses
+abbrev shape : List Access → List (Kind × ℕ × List Span)
+shape accesses = map (λ a. (a.kind, a.block, a.spans)) accesses
+
+-- the array after puts of keys of one byte, each with a value of one byte
+abbrev puts : List (ℕ × ℕ) → Array → Array
+puts [] A = A
+puts (p ∷ ps) A = puts ps (own A (accesses_of (put_program area (p.0 ∷ []) (p.1 ∷ [])) A))
+
+abbrev deleted : ℕ → Array → Array
+deleted key A = own A (accesses_of (del_program area (key ∷ [])) A)
+
+abbrev three : Array
+three = puts ((97, 49) ∷ (98, 50) ∷ (99, 51) ∷ []) (zeros 256 4)
+
+abbrev four : Array
+four = puts ((100, 52) ∷ []) three
+
+-- a new key: the head and the keys are read, and the key and its value are written
+a_new_key : shape (accesses_of (put_program area (97 ∷ []) (49 ∷ [])) (zeros 256 4)) ≡ (Read, 1, span 0 157 ∷ []) ∷ (Write, 1, span 64 31 ∷ span 157 33 ∷ []) ∷ []
+unfolding put_program walk bucket_of is_linked sha256 digest_bytes hash_after compress rounds schedule first_words put
+a_new_key = refl
+
+-- a key that is there: its value alone
+an_old_key : shape (accesses_of (put_program area (97 ∷ []) (50 ∷ [])) three) ≡ (Read, 1, span 0 157 ∷ []) ∷ (Write, 1, span 157 33 ∷ []) ∷ []
+unfolding put_program walk bucket_of is_linked sha256 digest_bytes hash_after compress rounds schedule first_words put
+an_old_key = refl
+
+-- the fourth key: a block of the free map, which is read and marked, the new block whole, and the link to it
+a_key_behind_a_full_block : shape (accesses_of (put_program area (100 ∷ []) (52 ∷ [])) three)
+    ≡ (Read, 1, span 0 157 ∷ []) ∷ (Read, 0, span 0 65 ∷ []) ∷ (Write, 0, span 64 1 ∷ []) ∷ (Write, 2, []) ∷ (Write, 1, span 0 4 ∷ []) ∷ []
+unfolding put_program walk bucket_of is_linked sha256 digest_bytes hash_after compress rounds schedule first_words put
+a_key_behind_a_full_block = refl
+
+-- with room for four more accesses alone it writes nothing, and has no answer
+too_little_room : ((outcome 4 (put_program area (100 ∷ []) (52 ∷ [])) three).1 ≡ None) × (shape (outcome 4 (put_program area (100 ∷ []) (52 ∷ [])) three).0 ≡ (Read, 1, span 0 157 ∷ []) ∷ (Read, 0, span 0 65 ∷ []) ∷ [])
+unfolding put_program walk bucket_of is_linked sha256 digest_bytes hash_after compress rounds schedule first_words put
+too_little_room = (refl, refl)
+
+-- a get reads the value where the key is, behind the keys of the blocks before
+a_get_of_the_fourth : shape (accesses_of (get_program area (100 ∷ [])) four) ≡ (Read, 1, span 0 157 ∷ []) ∷ (Read, 2, span 0 157 ∷ span 157 33 ∷ []) ∷ []
+unfolding get_program put_program walk bucket_of is_linked sha256 digest_bytes hash_after compress rounds schedule first_words put
+a_get_of_the_fourth = refl
+
+its_value : answer_of (get_program area (100 ∷ [])) four ≡ Ok (Some (52 ∷ []))
+unfolding get_program put_program walk bucket_of is_linked sha256 digest_bytes hash_after compress rounds schedule first_words put
+its_value = refl
+
+-- the last key of a block behind the bucket's: the block goes back to the free map, and the link to it is cut
+a_delete_that_frees_a_block : shape (accesses_of (del_program area (100 ∷ [])) four)
+    ≡ (Read, 1, span 0 157 ∷ []) ∷ (Read, 2, span 0 157 ∷ []) ∷ (Read, 0, span 0 65 ∷ []) ∷ (Write, 0, span 64 1 ∷ []) ∷ (Write, 1, span 0 4 ∷ []) ∷ []
+unfolding del_program put_program walk bucket_of is_linked sha256 digest_bytes hash_after compress rounds schedule first_words put
+a_delete_that_frees_a_block = refl
+
+and_then_it_is_gone : (answer_of (del_program area (100 ∷ [])) four ≡ Ok true) × (answer_of (get_program area (100 ∷ [])) (deleted 100 four) ≡ Ok None) × (answer_of (del_program area (100 ∷ [])) (deleted 100 four) ≡ Ok false)
+unfolding get_program del_program put_program walk bucket_of is_linked sha256 digest_bytes hash_after compress rounds schedule first_words put
+and_then_it_is_gone = (refl, refl, refl)
+
+-- a key that was deleted leaves its cell to the next new one
+a_cell_is_used_again : shape (accesses_of (put_program area (101 ∷ []) (53 ∷ [])) (deleted 98 three)) ≡ (Read, 1, span 0 157 ∷ []) ∷ (Write, 1, span 95 31 ∷ span 190 33 ∷ []) ∷ []
+unfolding del_program put_program walk bucket_of is_linked sha256 digest_bytes hash_after compress rounds schedule first_words put
+a_cell_is_used_again = refl
+
+-- a value whose length is none: the get that reads it finds the block broken, and a put writes it anew
+abbrev too_long : Array
+too_long = own three (record { kind = Write; block = 1; spans = span 157 1 ∷ []; bytes = replicate 256 33 } ∷ [])
+
+a_value_that_is_broken : (answer_of (get_program area (97 ∷ [])) too_long ≡ Err (Broken 1)) × (answer_of (put_program area (97 ∷ []) (54 ∷ [])) too_long ≡ Ok tt)
+unfolding get_program put_program walk bucket_of is_linked sha256 digest_bytes hash_after compress rounds schedule first_words put
+a_value_that_is_broken = (refl, refl)

@@ -1,0 +1,12 @@
+-- Where the stores of an image are.
+use Rattle.std.specs.Prelude.{◌-◌}
+use Rattle.iso_model.specs.declared.access.Geometry.{Geometry}
+use Rattle.store_model.specs.declared.stores.Area.{Area}
+
+-- where the hash store is
+abbrev pub hash_area : Geometry → Area
+hash_area g = record { size = g.block; start = 0; blocks = g.hash }
+
+-- where the tree store is: behind the hash store
+abbrev pub tree_area : Geometry → Area
+tree_area g = record { size = g.block; start = g.hash; blocks = g.tree }

@@ -1,0 +1,10 @@
+pub mod Areas
+pub mod Stores
+pub mod Cells
+pub mod FreeMap
+pub mod HashRegion
+pub mod HashCalls
+pub mod TreeNodes
+pub mod Trees
+pub mod TreeCalls
+pub mod TreeRegion
