@@ -1,10 +1,10 @@
 -- The toolchain's hexadecimal texts are those of the model.
-use Rattle.std.proofs.Common.{◌≡◌, ℕ, suc, ◌+◌, ◌*◌, ◌/◌, ◌%◌, ◌<◌, ◌≢◌, inl, inr, true, nat_eq, List, [], ◌∷◌, length, get_or, Option, Some, None, Result, Ok, Err, refl, ap, subst, sym, ◌∙◌, arith}
-use Rattle.std.specs.Prelude.{cond, ok_or}
-use Rattle.std.specs.Result.{MatchResult, result_ok}
-use Rattle.std.proofs.lemmas.Bool.{cases_Bool, cond-true, cond-false, eqb-true, agree_below_at, eq-eqb}
+use Rattle.std.proofs.Common.{◌≡◌, ℕ, suc, ◌+◌, ◌*◌, ◌/◌, ◌%◌, ◌<◌, ◌≢◌, inl, inr, true, nat_eq, List, [], ◌∷◌, length, get_or, Option, Some, None, Result, Ok, Err, refl, ap, sym, ◌∙◌, arith}
+use Rattle.std.specs.Prelude.{ok_or}
+use Rattle.std.specs.Result.{result_ok}
+use Rattle.std.proofs.lemmas.Bool.{cases_Bool, cond-true, cond-false, eqb-true, agree_below_at}
 use Rattle.std.proofs.lemmas.Bool.Decides.{nat_tests}
-use Rattle.hex.specs.Hex.{decode_of, decode_pairs, decode_sized, digit_or_error, encode_lower, encode_with, lower_digits, hex_digit_value, ◌>>=◌}
+use Rattle.hex.specs.Hex.{decode_of, decode_pairs, digit_or_error, encode_lower, encode_with, lower_digits, hex_digit_value, ◌>>=◌}
 use Rattle.hex.specs.declared.error.FromHexError.{FromHexError}
 use Rattle.hex.specs.declared.error.FromHexError.TheVariants.{OddLength}
 use Rattle.script_model.specs.Script.{hex_argument}
@@ -65,29 +65,11 @@ hex_argument-decode_of (b ∷ word) some = ap (λ o. ok_or o 5) (hex_pairs-decod
 pub hex_argument-ok : (word bytes : List ℕ) → length word ≢ 0 → decode_of word ≡ Ok bytes → hex_argument word ≡ Ok bytes
 hex_argument-ok word bytes some e = hex_argument-decode_of word some ∙ ap (λ r. ok_or (result_ok r) 5) e
 
-pub hex_argument-err : (word : List ℕ) (e : FromHexError) → length word ≢ 0 → decode_of word ≡ Err e → hex_argument word ≡ Err 5
-hex_argument-err word error some e = hex_argument-decode_of word some ∙ ap (λ r. ok_or (result_ok r) 5) e
-
--- room for half as many bytes is what the digits need
-pub decode_sized-half : (word : List ℕ) (n : ℕ) → n ≡ length word / 2 → decode_sized word n ≡ decode_of word
-decode_sized-half word n e = ap (cond (nat_eq (length word % 2) 1) (Err OddLength)) (cond-true _ _ _ (eq-eqb (length word / 2) n (sym e)))
-
-abbrev Succeeds : Result (Unit {0}) FromHexError → Type 0
-Succeeds (Ok x) = Unit {0}
-Succeeds (Err error) = ⊥
-
--- what decoding into a slice says of a word
-module _ (word out : List ℕ) (r : Result (Unit {0}) FromHexError) (some : length word ≢ 0) where
-  abbrev pub Decoded : Result (List ℕ) FromHexError → Type 0
-  Decoded d = MatchResult d (λ bytes. (r ≡ Ok tt) × (out ≡ bytes)) (λ e. r ≡ Err e)
-
-  pub decoded_ok : (d : Result (List ℕ) FromHexError) → decode_of word ≡ d → Decoded d → r ≡ Ok tt → hex_argument word ≡ Ok out
-  decoded_ok (Ok bytes) e is ok = hex_argument-ok word bytes some e ∙ ap Ok (sym is.1)
-  decoded_ok (Err error) e is ok = absurd (subst Succeeds (sym ok ∙ is) tt)
-
-  pub decoded_err : (d : Result (List ℕ) FromHexError) (error : FromHexError) → decode_of word ≡ d → Decoded d → r ≡ Err error → hex_argument word ≡ Err 5
-  decoded_err (Ok bytes) error e is err = absurd (subst Succeeds (sym is.0 ∙ err) tt)
-  decoded_err (Err other) error e is err = hex_argument-err word other some e
+-- an odd number of digits is refused
+pub hex_argument-odd : (word : List ℕ) → length word % 2 ≡ 1 → hex_argument word ≡ Err 5
+unfolding hex_of
+hex_argument-odd [] odd = refl
+hex_argument-odd (b ∷ word) odd = ap (λ o. ok_or o 5) (hex_pairs-odd (b ∷ word) odd)
 
 -- the digit of the table at a place
 digit_at : (d : ℕ) → d < 16 → get_or lower_digits d 0 ≡ digit_of d

@@ -1,5 +1,6 @@
 pub mod WordLemmas
 pub mod HexLemmas
+pub mod HexPairs
 pub mod LineLemmas
 pub mod EnoughWords
 pub mod Extending

@@ -3,6 +3,7 @@ ghost use Rattle.script_model.specs.Script.{client_in_range, hex_argument, label
 ghost use Rattle.script_model.specs.Text.{number_of};
 ghost use Rattle.script_text.specs.Parsing.{Gives};
 
+use crate::hex_digits::decode;
 use crate::word::number_of;
 use iso_model::{Bytes, Label, Mode};
 use script_model::LineError;
@@ -27,16 +28,16 @@ pub(crate) fn number(word: &[u8]) -> Result<u32, LineError>
 pub(crate) fn hex(alloc: Global, word: &[u8]) -> Result<Bytes, LineError>
     ensures { Gives result (hex_argument word.now) }
 {
-    if word.is_empty() {
+    if word.is_empty() || word.len() % 2 == 1 {
         return Err(LineError::Cause(5));
     }
     let Ok(mut bytes) = vec![in alloc; 0u8; word.len() / 2] else {
         return Err(LineError::Memory);
     };
-    match hex::decode_to_slice(word, bytes.as_mut_slice()) {
-        Ok(()) => Ok(Bytes::of(bytes)),
-        Err(_) => Err(LineError::Cause(5)),
+    if !decode(word, bytes.as_mut_slice()) {
+        return Err(LineError::Cause(5));
     }
+    Ok(Bytes::of(bytes))
 }
 
 /// A key or a value of a store: a dash stands for none.

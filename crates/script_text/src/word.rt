@@ -1,5 +1,5 @@
 // The words of a line, and the numbers that they spell.
-ghost use Rattle.std.specs.Prelude.{◌≡◌, ◌<◌, ◌≤◌, [], ◌∷◌, IfNone, IfSome, false, length, slice_index, take, true};
+ghost use Rattle.std.specs.Prelude.{◌≡◌, ◌+◌, ◌<◌, ◌≤◌, [], ◌∷◌, IfNone, IfSome, drop, false, length, slice_index, take, true};
 ghost use Rattle.std.specs.List.{list_all};
 ghost use Rattle.std.specs.Option.{is_some};
 ghost use Rattle.script_model.specs.Script.{is_printable};
@@ -9,16 +9,46 @@ ghost use Rattle.script_text.specs.Words.{is_word_byte, may_be_decimal, texts, w
 /// How many words a line is cut into. No operation has so many, so what follows them changes nothing.
 pub(crate) const MOST_WORDS: usize = 6;
 
+// So many bytes of a long word are looked at with no way out between, and so at once. Most words are shorter.
+const LANES: usize = 16;
+
+/// Whether a byte belongs to a word: it is printable, and no space.
+#[inline(always)]
+fn is_word_byte(byte: u8) -> bool
+    ensures { result ≡ is_word_byte byte }
+{
+    (b'!'..=b'~').contains(&byte)
+}
+
+/// Whether so many bytes from a place on belong to a word.
+#[inline(always)]
+fn are_word_bytes(rest: &[u8], at: usize) -> bool
+    requires { at + LANES ≤ length rest.now }
+    ensures { result ≡ true → list_all is_word_byte (take LANES (drop at rest.now)) ≡ true }
+{
+    let mut good = true;
+    'bytes: for k in 0..LANES {
+        good &= is_word_byte(rest[at + k]);
+    }
+    good
+}
+
 /// How many bytes at the front of a line belong to one word: they are printable, and no spaces.
 fn word_length(rest: &[u8]) -> usize
     ensures within { result ≤ length rest.now }
     ensures word { list_all is_word_byte (take result rest.now) ≡ true }
     ensures stops { result < length rest.now → is_word_byte (slice_index rest.now result) ≡ false }
 {
-    for (at, byte) in rest.iter().enumerate() {
-        if !(b'!'..=b'~').contains(byte) {
+    let mut at = 0;
+    'bytes: while at < rest.len() {
+        if at >= LANES && rest.len() - at >= LANES && are_word_bytes(rest, at) {
+            at += LANES;
+            continue;
+        }
+        if !is_word_byte(rest[at]) {
             return at;
         }
+        at += 1;
     }
     rest.len()
 }

@@ -1,24 +1,26 @@
-use Rattle.std.proofs.Common.{◌≡◌, ◌/◌, length, sym, ◌∙◌, ap}
-use Rattle.std.specs.Prelude.{Ok}
+use Rattle.std.proofs.Common.{sym, ◌∙◌, ap}
+use Rattle.std.specs.Prelude.{Ok, ok_or}
 use Rattle.std.proofs.lemmas.Bool.{eqb-true, eqb-false}
 use Rattle.std.proofs.lemmas.List.{with_items_is}
-use Rattle.hex.specs.Hex.{decode_sized}
-use Rattle.script_text.proofs.HexLemmas.{hex_argument-empty, decode_sized-half, decoded_ok, decoded_err}
+use Rattle.script_text.proofs.HexLemmas.{hex_argument-empty, hex_argument-odd}
+use Rattle.script_text.proofs.HexPairs.{argument_is}
+use Rattle.script_text.proofs.argument.hex.Goals.{then-is_empty-via-then-is_empty, then-is_empty-via-else-is_empty+then-word-eq1}
 use Rattle.script_text.proofs.argument.hex.Goals as goal
 
 pub returns-then-is_empty : goal.returns-then-is_empty
-returns-then-is_empty c = hex_argument-empty c.args.word.now (eqb-true _ _ (sym c.if-is_empty.ensures))
+returns-then-is_empty c = elim c.then-is_empty.branch [
+  | then-is_empty-via-then-is_empty w ↦ hex_argument-empty c.args.word.now (eqb-true _ _ (sym c.is_empty.ensures ∙ w.if-is_empty.true))
+  | then-is_empty-via-else-is_empty+then-word-eq1 w ↦ hex_argument-odd c.args.word.now w.if-word-eq1.true
+]
 
-pub returns-in-Ok-decode_to_slice : goal.returns-in-Ok-decode_to_slice
-returns-in-Ok-decode_to_slice c =
-    let half : length c.as_mut_slice.result.now ≡ length c.args.word.now / 2 = c.as_mut_slice.ensures.len ∙ c.in-Ok.ensures.len in
-    let written = decoded_ok c.args.word.now c.decode_to_slice.new.out c.decode_to_slice.result (eqb-false _ _ (sym c.if-is_empty.ensures))
-    (decode_sized c.args.word.now (length c.as_mut_slice.result.now)) (sym (decode_sized-half c.args.word.now _ half)) c.decode_to_slice.ensures.value c.in-Ok-decode_to_slice.is in
-    let whole = with_items_is c.in-Ok.bytes c.decode_to_slice.new.out (c.decode_to_slice.auto.out ∙ c.as_mut_slice.ensures.len) in
-    written ∙ ap Ok (sym (c.of.ensures ∙ whole))
+pub returns-then-not-decode : goal.returns-then-not-decode
+returns-then-not-decode c =
+    argument_is c.args.word.now (eqb-false _ _ (sym c.if-is_empty.ensures))
+    ∙ ap (λ o. ok_or o 5) (rw c.if-not-decode.true at c.decode.ensures)
 
-pub returns-in-Err : goal.returns-in-Err
-returns-in-Err c =
-    let half : length c.as_mut_slice.result.now ≡ length c.args.word.now / 2 = c.as_mut_slice.ensures.len ∙ c.in-Ok.ensures.len in
-    decoded_err c.args.word.now c.decode_to_slice.new.out c.decode_to_slice.result (eqb-false _ _ (sym c.if-is_empty.ensures))
-    (decode_sized c.args.word.now (length c.as_mut_slice.result.now)) _ (sym (decode_sized-half c.args.word.now _ half)) c.decode_to_slice.ensures.value c.in-Err.is
+pub returns : goal.returns
+returns c =
+    let whole = with_items_is c.in-Ok.bytes c.decode.new.room (c.decode.auto.room ∙ c.as_mut_slice.ensures.len) in
+    argument_is c.args.word.now (eqb-false _ _ (sym c.if-is_empty.ensures))
+    ∙ ap (λ o. ok_or o 5) (rw c.if-not-decode.false at c.decode.ensures)
+    ∙ ap Ok (sym (c.of.ensures ∙ whole))

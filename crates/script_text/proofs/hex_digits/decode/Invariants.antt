@@ -1,0 +1,7 @@
+use Rattle.std.proofs.Common.{◌≡◌, ◌*◌, take, drop}
+use Rattle.script_model.specs.Text.{hex_pairs}
+use Rattle.script_text.proofs.HexPairs.{read_on}
+use Rattle.script_text.proofs.hex_digits.decode.Given as goal
+
+abbrev pub invariant-bytes : goal.invariant-bytes
+invariant-bytes l = hex_pairs l.word ≡ read_on l.good (take l.at l.room) (hex_pairs (drop (2 * l.at) l.word))

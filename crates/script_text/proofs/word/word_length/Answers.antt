@@ -1,0 +1,18 @@
+use Rattle.std.proofs.Common.{◌≡◌, ◌+◌, ℕ, true, List, ◌++◌, take, drop, refl, sym, ◌∙◌, ap, arith}
+use Rattle.std.specs.List.{list_all}
+use Rattle.std.proofs.lemmas.List.{drop-take, take-append-drop, take-take}
+use Rattle.std.proofs.lemmas.List.Folds.{list_all-append}
+use Rattle.script_text.specs.Words.{is_word_byte}
+use Rattle.script_text.proofs.word.word_length.Goals as goal
+
+-- the bytes up to a place and those behind it
+both : (text : List ℕ) (n m : ℕ) → list_all is_word_byte (take n text) ≡ true → list_all is_word_byte (take m (drop n text)) ≡ true
+    → list_all is_word_byte (take (n + m) text) ≡ true
+both text n m front back =
+    let parts : take n text ++ take m (drop n text) ≡ take (n + m) text =
+    ap (λ xs. xs ++ take m (drop n text)) (sym (take-take n (n + m) text (omega arith))) ∙ ap (λ xs. take n (take (n + m) text) ++ xs) (sym (drop-take n m text))
+    ∙ take-append-drop n (take (n + m) text) in
+    ap (list_all is_word_byte) (sym parts) ∙ list_all-append is_word_byte (take n text) (take m (drop n text)) ∙ rw (front, back) refl
+
+pub bytes-preserved-then-are_word_bytes : goal.bytes-preserved-then-are_word_bytes
+bytes-preserved-then-are_word_bytes c = (omega arith, both c.args.rest.now c.bytes.at 16 c.bytes.invariant.1 (c.are_word_bytes.ensures c.if-are_word_bytes.true))
