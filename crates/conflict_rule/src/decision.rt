@@ -31,16 +31,11 @@ fn least_meeting<L: Ledger>(
     ensures steps { steps.new ≤ steps.old + length (above upto notes.now.notes) }
 {
     let mut rest = notes.after(upto);
-    while let Some((first, others)) = rest.split_first() {
-        let marks = notes.look_at(first.0, steps)?;
+    while let Some(commit) = rest.pass() {
+        let marks = notes.look_at(commit, steps)?;
         if let Some((block, at)) = marks.first_meet(bytes) {
-            return Some(Clash {
-                commit: first.0,
-                block,
-                at,
-            });
+            return Some(Clash { commit, block, at });
         }
-        rest = others;
     }
     None
 }

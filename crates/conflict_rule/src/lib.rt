@@ -4,6 +4,7 @@
 mod decision;
 pub mod laws;
 mod notes;
+mod rest;
 
 pub use decision::{Checked, decide};
 pub use notes::Notes;

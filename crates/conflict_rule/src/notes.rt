@@ -4,6 +4,7 @@ ghost use Rattle.std.specs.List.{All};
 ghost use Rattle.byte_marks.specs.declared.extent.Extent.{Extent};
 ghost use Rattle.conflict_rule.specs.Notes.{above, note_of, RisesFrom};
 
+use crate::rest::Rest;
 use byte_marks::Touched;
 use iso_model::Memory;
 use std::alloc::Global;
@@ -122,13 +123,13 @@ impl Notes {
         }
     }
 
-    // The notes of the commits above a number.
-    pub(crate) fn after(&self, number: u64) -> &[(u64, Touched)]
-        ensures notes { result.now ≡ above number self.now.notes }
-        ensures rising { RisesFrom 0 result.now }
-        ensures held { (number : ℕ) → (marks : List (ℕ × List Extent)) → note_of number result.now ≡ Some marks → note_of number self.now.notes ≡ Some marks }
+    // The numbers of the commits above a number.
+    pub(crate) fn after(&self, number: u64) -> Rest<'_>
+        ensures notes { result ≡ above number self.now.notes }
+        ensures rising { RisesFrom 0 result }
+        ensures held { (number : ℕ) → (marks : List (ℕ × List Extent)) → note_of number result ≡ Some marks → note_of number self.now.notes ≡ Some marks }
     {
         let place = place_after(self.notes.as_slice(), number);
-        &self.notes.as_slice()[place..]
+        Rest::of(&self.notes.as_slice()[place..])
     }
 }

@@ -1,7 +1,7 @@
 // The begin of a session's transaction, its end and its abort, and the check ahead of its end.
-ghost use Rattle.std.specs.Prelude.{◌≡◌, ◌<◌};
+ghost use Rattle.std.specs.Prelude.{◌≡◌, ◌<◌, IfOk};
 ghost use Rattle.handle_pass.specs.Calls.{HasAborted, HasBegun, HasChecked, HasEnded};
-ghost use Rattle.handle_pass.specs.Sessions.{units, IsSession};
+ghost use Rattle.handle_pass.specs.Sessions.{checked, units, IsSession};
 
 use crate::errors::{BeginError, EndError};
 use crate::session::{Session, attach};
@@ -18,6 +18,7 @@ impl<'a, D: Disk + Drop, O: Origin> Session<'a, D, O> {
         requires units { 1 < units self.old }
         ensures session { IsSession O.start self.new }
         ensures did { HasBegun O.start self.old mode result self.new }
+        ensures checked { IfOk result (λ at. checked self.new ≡ at) }
     {
         if self.tx.is_some() {
             return Err(BeginError::InTx);

@@ -1,7 +1,7 @@
 // Transactions under labels.
-ghost use Rattle.std.specs.Prelude.{◌≡◌, ◌<◌};
+ghost use Rattle.std.specs.Prelude.{◌≡◌, ◌<◌, IfOk, IfSome};
 ghost use Rattle.handle_pass.specs.Handles.{HasLooked, HasPosted};
-ghost use Rattle.handle_pass.specs.Sessions.{units, IsSession};
+ghost use Rattle.handle_pass.specs.Sessions.{checked, units, IsSession};
 
 use crate::errors::PostTxError;
 use crate::session::{Session, attach};
@@ -41,6 +41,7 @@ impl<'a, D: Disk + Drop, O: Origin> Session<'a, D, O> {
         requires units { 1 < units self.old }
         ensures session { IsSession O.start self.new }
         ensures did { HasLooked O.start self.old label.now result self.new }
+        ensures checked { IfOk result (λ found. IfSome found (λ at. checked self.new ≡ at)) }
     {
         if self.tx.is_some() {
             return Err(InTx);

@@ -5,7 +5,7 @@ use Rattle.half_switch.specs.declared.plan.FillPlan.{FillPlan}
 use Rattle.half_switch.specs.Plan.{Copies, place_of, refilled}
 use Rattle.half_switch.proofs.Forms.{refilled_history}
 use Rattle.iso_image.specs.declared.places.HalfPlace.{HalfPlace}
-use Rattle.iso_image.specs.Half.{Half, IsHeld, half_of_world, in_form}
+use Rattle.iso_image.specs.Half.{Half, IsHeld, half_of_world, history_of, in_form}
 use Rattle.iso_image.proofs.Histories.{half_form, half_shows, world_bytes}
 use Rattle.iso_model.specs.declared.access.Geometry.{Geometry}
 use Rattle.iso_model.specs.declared.limits.TheConstants.{LAST}
@@ -20,7 +20,7 @@ use Rattle.iso_model.proofs.Worlds.{floor_between, switch_leads}
 use Rattle.iso_core.specs.declared.kept.Kept.{Kept}
 use Rattle.iso_core.specs.Kept.{IsOf}
 use Rattle.iso_model.specs.Between.{ShowsLast}
-use Rattle.iso_core.specs.Switching.{IsForm}
+use Rattle.iso_core.specs.Switching.{HasFormOr, IsForm}
 use Rattle.iso_core.proofs.Moments.{shows_world}
 use Rattle.iso_core.proofs.Numbers.{last_is, log_used}
 
@@ -81,6 +81,12 @@ module _ (kept : Kept) (W : World) (form : ℕ) (of : IsOf kept W) (fits : IsFor
       ∙ sym (half_form W.geometry form (1 - kept.half) (W.generation + 1) (floor W) W.history) in
       transport (λ i. IsHeld (in_form (form_is i) W.geometry) (half_is i) c) held
 
+  pub either_half : (plan : FillPlan) → plan.geometry ≡ record kept.geometry { form = form } → plan.generation ≡ kept.generation + 1 → plan.base ≡ floor W → (c : List ℕ)
+      → IsHeld W.geometry (half_of_world W kept.half) c ⊎ IsHeld (in_form plan.geometry.form W.geometry) (refilled W.geometry plan.generation plan.base (half_of_world W kept.half)) c
+      → IsHeld W.geometry (half_of_world W kept.half) c ⊎ IsHeld (after_switch W form).geometry (half_of_world (after_switch W form) (1 - kept.half)) c
+  either_half plan geometry generation base c (inl before) = inl before
+  either_half plan geometry generation base c (inr after) = inr (new_half plan geometry generation base c after)
+
   -- and shows the same history
   pub shows_both : IsWorld (after_switch W form) → (c : List ℕ) → IsHeld W.geometry (half_of_world W kept.half) c ⊎ IsHeld (after_switch W form).geometry (half_of_world (after_switch W form) (1 - kept.half)) c → ShowsLast W c
   shows_both next c (inl before) = shows_world W kept.half of.world c before
@@ -88,6 +94,12 @@ module _ (kept : Kept) (W : World) (form : ℕ) (of : IsOf kept W) (fits : IsFor
       let low : W.base ≤ floor W = omega (arith, of.world.base, (floor_between W of.world).0) in
       half_shows W.geometry form (1 - kept.half) (W.generation + 1) (floor W) W.history c of.world.history (omega (arith, of.world.since, low)) (floor_between W of.world).1
       (subst (λ (h : Half). IsHeld (in_form form W.geometry) h c) (half_form W.geometry form (1 - kept.half) (W.generation + 1) (floor W) W.history) after)
+
+  -- in the old form or in the new one
+  pub form_either : (c : List ℕ) → IsHeld W.geometry (half_of_world W kept.half) c ⊎ IsHeld (after_switch W form).geometry (half_of_world (after_switch W form) (1 - kept.half)) c → HasFormOr W form c
+  form_either c (inl before) = inl (record { generation = W.generation; history = history_of W.geometry (half_of_world W kept.half); image = before.image })
+  form_either c (inr after) =
+      inr (record { generation = W.generation + 1; history = history_of (after_switch W form).geometry (half_of_world (after_switch W form) (1 - kept.half)); image = after.image })
 
 -- the own form, and the second one
 pub own_form : (W : World) (form : ℕ) → IsWorld W → form ≡ W.geometry.form → IsForm W form

@@ -22,7 +22,7 @@ use crate::switching::switch_half;
 use crate::trim::trim;
 use conflict_rule::Checked;
 use iso_disk::Disk;
-use iso_model::{CoreError, EndReply, Geometry, Memory, Mode};
+use iso_model::{CoreError, EndReply, Geometry, Mode};
 use std::alloc::Global;
 use step_count::{Ledger, Steps};
 use tx_table::Work;
@@ -50,18 +50,18 @@ impl<D: Disk> Core<D> {
     ghost use Rattle.iso_core.specs.Planned.{AreEach, IsMember, bare_end, reply_in, unsettled};
     ghost use Rattle.iso_core.specs.declared.group_end.TheConstants.{MAX_GROUP};
     ghost use Rattle.iso_core.specs.Standing.{Standing, up, down, is_down};
+    ghost use Rattle.iso_core.specs.Switching.{HasForm, HasFormOr};
     ghost use Rattle.iso_model.specs.Between.{ShowsEither, ShowsLast};
 
-    /// A core over an image that was just opened or made.
-    pub fn over(alloc: Global, disk: D, opened: Opened) -> Result<Core<D>, (Memory, D)>
+    /// A core over an image that was just opened or made. It takes no memory.
+    pub fn over(alloc: Global, disk: D, opened: Opened) -> Core<D>
         ensures stands { (H : History) → IsOpenedTo H opened → (D.state disk).size ≡ image_size opened.geometry → AllHold (D.state disk) opened.half (opened_world H opened)
-            → IfOk result (λ core. StandsFor D.state core (opened_world H opened) up) }
-        ensures disk { IfOk result (λ core. disk_of core ≡ disk) }
-        ensures err { IfErr result (λ e. e.1 ≡ disk) }
+            → StandsFor D.state result (opened_world H opened) up }
+        ensures disk { disk_of result ≡ disk }
     {
-        match keep(alloc, opened) {
-            Ok(kept) => Ok(Core { disk, kept }),
-            Err(_) => Err((Memory, disk)),
+        Core {
+            disk,
+            kept: keep(alloc, opened),
         }
     }
 
@@ -229,7 +229,10 @@ impl<D: Disk> Core<D> {
         ensures same { (W : World) → StandsFor D.state self.old W up → IfErr result (λ e. e ≢ CoreError.Disk → StandsFor D.state self.new W up) }
         ensures down { (W : World) (lost : List Commit) → StandsFor D.state self.old W (down lost) → (result ≡ Err CoreError.Down) × (self.new ≡ self.old) }
         ensures lost { (W : World) → StandsFor D.state self.old W up → IsErrOf result CoreError.Disk → StandsFor D.state self.new W (down []) }
+
+        // At each moment an image shows the same history, and has the form that it had.
         ensures moments { (W : World) → StandsFor D.state self.old W up → LeavesOnly (D.state (disk_of self.old)) (D.state (disk_of self.new)) (ShowsLast W) }
+        ensures form { (W : World) → StandsFor D.state self.old W up → LeavesOnly (D.state (disk_of self.old)) (D.state (disk_of self.new)) (HasForm W W.geometry.form) }
         ensures unworn { (W : World) (answer : CoreReply) → StandsFor D.state self.old W up → IsErrOf result CoreError.Disk → (switch_step W W.geometry.form answer).0 ≡ answer }
         ensures last { (at : ℕ) → IsErrOf result (CoreError.Worn at) → at ≡ LAST }
         ensures worn { IfErr result (λ e. e ≢ CoreError.Disk → e ≢ CoreError.Memory → disk_of self.new ≡ disk_of self.old) }
@@ -253,7 +256,10 @@ impl<D: Disk> Core<D> {
         ensures same { (W : World) → StandsFor D.state self.old W up → IfErr result (λ e. e ≢ CoreError.Disk → StandsFor D.state self.new W up) }
         ensures down { (W : World) (lost : List Commit) → StandsFor D.state self.old W (down lost) → (result ≡ Err CoreError.Down) × (self.new ≡ self.old) }
         ensures lost { (W : World) → StandsFor D.state self.old W up → IsErrOf result CoreError.Disk → StandsFor D.state self.new W (down []) }
+
+        // At each moment an image shows the same history, and has the form that it had, or form 2.
         ensures moments { (W : World) → StandsFor D.state self.old W up → LeavesOnly (D.state (disk_of self.old)) (D.state (disk_of self.new)) (ShowsLast W) }
+        ensures form { (W : World) → StandsFor D.state self.old W up → LeavesOnly (D.state (disk_of self.old)) (D.state (disk_of self.new)) (HasFormOr W 2) }
         ensures unworn { (W : World) (answer : CoreReply) → StandsFor D.state self.old W up → IsErrOf result CoreError.Disk → (switch_step W 2 answer).0 ≡ answer }
         ensures last { (at : ℕ) → IsErrOf result (CoreError.Worn at) → at ≡ LAST }
         ensures worn { IfErr result (λ e. e ≢ CoreError.Disk → e ≢ CoreError.Memory → disk_of self.new ≡ disk_of self.old) }

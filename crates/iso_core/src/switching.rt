@@ -10,7 +10,7 @@ ghost use Rattle.iso_core.specs.Calls.{BlamesDisk, Refuses};
 ghost use Rattle.iso_core.specs.Core.{AreOf};
 ghost use Rattle.iso_core.specs.Standing.{up, down};
 ghost use Rattle.iso_model.specs.Between.{ShowsLast};
-ghost use Rattle.iso_core.specs.Switching.{IsForm};
+ghost use Rattle.iso_core.specs.Switching.{HasFormOr, IsForm};
 
 use crate::go_over::go_over;
 use crate::kept::Kept;
@@ -35,6 +35,7 @@ pub(crate) fn switch_half<D: Disk>(
     ensures same { (W : World) → AreOf (D.state disk.old) kept.old W up → IsForm W form → IfErr result (λ e. e ≢ CoreError.Disk → AreOf (D.state disk.new) kept.new W up) }
     ensures lost { (W : World) → AreOf (D.state disk.old) kept.old W up → IsForm W form → IsErrOf result CoreError.Disk → AreOf (D.state disk.new) kept.new W (down []) }
     ensures moments { (W : World) → AreOf (D.state disk.old) kept.old W up → IsForm W form → LeavesOnly (D.state disk.old) (D.state disk.new) (ShowsLast W) }
+    ensures form { (W : World) → AreOf (D.state disk.old) kept.old W up → IsForm W form → LeavesOnly (D.state disk.old) (D.state disk.new) (HasFormOr W form) }
     ensures last { (at : ℕ) → IsErrOf result (CoreError.Worn at) → at ≡ LAST }
     ensures worn { IfErr result (λ e. e ≢ CoreError.Disk → e ≢ CoreError.Memory → disk.new ≡ disk.old) }
     ensures unworn { (W : World) (answer : CoreReply) → AreOf (D.state disk.old) kept.old W up → IsForm W form → IsErrOf result CoreError.Disk → (switch_step W form answer).0 ≡ answer }

@@ -15,8 +15,9 @@ use Rattle.iso_refusal.proofs.LogLaws.{kind_again, form_1}
 use Rattle.iso_log.specs.declared.log_error.LogError.{LogError}
 use Rattle.iso_log.specs.declared.log_error.LogError.TheVariants.{LogFull, Disk, Memory, Damaged}
 use Rattle.iso_log.specs.Extent.{Extent, next_place}
-use Rattle.iso_log.specs.Scan.{IsDamaged, IsNextRecord, StandAt}
+use Rattle.iso_log.specs.Scan.{IsDamaged, IsNextRecord, IsTestBefore, StandAt}
 use Rattle.iso_log.proofs.Counts.{spell_gate, window_is}
+use Rattle.iso_log.proofs.Offsets.{fault_below, test_from, test_upto}
 
 -- ---- bytes that stand in an image
 
@@ -66,6 +67,15 @@ unfolding as_refused
 place_is {T = T} place fault e is at cause same =
     sym (ap as_refused (sym is ∙ error_is e (Damaged at cause) same))
 
+-- it names a place before one that the test's field stands before
+pub test_before : {T : Type 0} (place end : ℕ) (fault : FormatError) (e : LogError) → e ≡ Damaged (place + offset_of fault) (test_number fault) → place + offset_of fault < end
+    → (at cause : ℕ) → IsErrOf {T = T} {E = LogError} (Err e) (Damaged at cause) → IsTestBefore end at cause
+test_before {T = T} place end fault e is before at cause same =
+    let said : refused.Damaged at cause ≡ refused.Damaged (place + offset_of fault) (test_number fault) = place_is {T = T} place fault e is at cause same in
+    let at_is : at ≡ place + offset_of fault = cc said in
+    let cause_is : cause ≡ test_number fault = cc said in
+    record { inside = omega (arith, at_is, before); first = omega (arith, cause_is, test_from fault); last = omega (arith, cause_is, test_upto fault) }
+
 -- ---- the record
 
 pub next_record : (g : Geometry) (number : ℕ) (bytes : List ℕ) → BeginsWith g number (recorded bytes) bytes → get_or bytes 0 0 ≡ 1 → length bytes ≡ record_window bytes → length bytes < 2 ^ 32
@@ -97,6 +107,13 @@ module _ (b more : List ℕ) (front : take (length b) more ≡ b) (long : 20 ≤
   -- they are as many as the record asks for
   pub cut_window : record_window b ≤ length more → record_window (take (record_window b) more) ≡ record_window b
   cut_window enough = window_front more (record_window b) (omega arith) ∙ window_later
+
+  -- a test that they fail names one of them
+  pub fault_inside : (g : Geometry) (number : ℕ) (fault : FormatError) → record_window b ≤ length more → fault_of g number (take (record_window b) more) ≡ Some fault → offset_of fault < record_window b
+  fault_inside g number fault enough fails =
+      let size : length (take (record_window b) more) ≡ record_window b = length-take-le (record_window b) more enough in
+      let below = fault_below g number (take (record_window b) more) fault (omega (arith, size, cut_window enough)) fails in
+      omega (arith, below, size)
 
   -- the bytes that the record asks for
   pub found_record : (g : Geometry) (number : ℕ) → record_window b ≤ length more → record_window b < 2 ^ 32 → BeginsWith g number (recorded (take (record_window b) more)) (take (record_window b) more)

@@ -1,5 +1,5 @@
--- A test of a record that fails names a place in the bytes that the record needs.
-use Rattle.std.proofs.Common.{◌≡◌, ◌≤◌, ◌+◌, ◌*◌, ◌==◌, ◌||◌, ◌&&◌, not, cond, ℕ, zero, suc, Bool, true, false, List, [], ◌∷◌, length, drop, get_or, Option, Some, None, nat_lt, nat_le, refl, arith, length-drop, subst}
+-- A test of a record that fails names a place in the bytes that the record needs, and is one of eight.
+use Rattle.std.proofs.Common.{◌≡◌, ◌<◌, ◌≤◌, ◌+◌, ◌-◌, ◌*◌, ◌==◌, ◌||◌, ◌&&◌, not, cond, ℕ, zero, suc, Bool, true, false, List, [], ◌∷◌, length, drop, get_or, Option, Some, None, nat_lt, nat_le, refl, arith, length-drop, subst}
 use Rattle.std.specs.Option.{IfSome}
 use Rattle.std.specs.Int.{w32, w64}
 use Rattle.std.proofs.lemmas.Option.{same_Some}
@@ -9,7 +9,7 @@ use Rattle.iso_model.specs.Effect.{or_else}
 use Rattle.iso_format.specs.declared.format_error.FormatError.{FormatError}
 use Rattle.iso_format.specs.declared.format_error.FormatError.TheVariants.{Short, Kind, NotZero, Count, Order, Range, Length, Number}
 use Rattle.iso_format.proofs.PartLaws.{good}
-use Rattle.iso_format.specs.Faults.{offset_of}
+use Rattle.iso_format.specs.Faults.{offset_of, test_number}
 use Rattle.iso_format.specs.Reading.{number_at}
 use Rattle.iso_format.specs.Records.{fault_of, head_fault, number_fault, parts_fault, part_fault, part_size, part_end, body_of, follows, lies_in, is_kind, record_window}
 
@@ -58,12 +58,35 @@ below_is : (top : ℕ) (found : Option FormatError) (e : FormatError) → Below 
 below_is top None e below is = absurd cc
 below_is top (Some x) e below is = let same = same_Some x e is in subst (λ (y : FormatError). offset_of y ≤ top) same below
 
-pub fault_below : (g : Geometry) (n : ℕ) (bytes : List ℕ) (e : FormatError) → record_window bytes ≤ length bytes → fault_of g n bytes ≡ Some e → offset_of e ≤ length bytes
+pub fault_below : (g : Geometry) (n : ℕ) (bytes : List ℕ) (e : FormatError) → record_window bytes ≤ length bytes → fault_of g n bytes ≡ Some e → offset_of e < length bytes
 unfolding fault_of
 fault_below g n bytes e long fails =
-    below_is (length bytes) (fault_of g n bytes) e
-    (below_both (length bytes) (head_fault g bytes) _ (head_below g bytes (length bytes) (omega (arith, long)))
-    (λ head. below_both (length bytes) (parts_fault g None 20 (number_at w32 4 bytes) (body_of bytes)) _
-    (parts_below g None 20 (number_at w32 4 bytes) (body_of bytes) (length bytes) (omega (arith, long, length-take (number_at w32 8 bytes) (drop 20 bytes), length-drop 20 bytes)))
-    (λ parts. number_below n bytes (length bytes) (omega (arith, long)))))
-    fails
+    let top = record_window bytes - 1 in
+    let below : offset_of e ≤ record_window bytes - 1 =
+    below_is top (fault_of g n bytes) e
+    (below_both top (head_fault g bytes) _ (head_below g bytes top (omega arith))
+    (λ head. below_both top (parts_fault g None 20 (number_at w32 4 bytes) (body_of bytes)) _
+    (parts_below g None 20 (number_at w32 4 bytes) (body_of bytes) top (omega (arith, length-take (number_at w32 8 bytes) (drop 20 bytes), length-drop 20 bytes)))
+    (λ parts. number_below n bytes top (omega arith))))
+    fails in
+    omega (arith, below, long)
+
+pub test_from : (e : FormatError) → 1 ≤ test_number e
+test_from (Short at) = omega arith
+test_from (Kind at) = omega arith
+test_from (NotZero at) = omega arith
+test_from (Count at) = omega arith
+test_from (Order at) = omega arith
+test_from (Range at) = omega arith
+test_from (Length at) = omega arith
+test_from (Number at) = omega arith
+
+pub test_upto : (e : FormatError) → test_number e ≤ 8
+test_upto (Short at) = omega arith
+test_upto (Kind at) = omega arith
+test_upto (NotZero at) = omega arith
+test_upto (Count at) = omega arith
+test_upto (Order at) = omega arith
+test_upto (Range at) = omega arith
+test_upto (Length at) = omega arith
+test_upto (Number at) = omega arith

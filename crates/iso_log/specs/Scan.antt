@@ -33,6 +33,12 @@ pub record IsDamaged (g : Geometry) (place rest number : ℕ) (at cause : ℕ) (
   pub fails : fault_of g number (take rest (drop place image)) ≡ Some fault
   pub place_is : Damaged at cause ≡ damaged place fault
 
+-- the place lies before this one, and the number is that of a test
+pub record IsTestBefore (end at cause : ℕ) : Type 0 where
+  pub inside : at < end
+  pub first : 1 ≤ cause
+  pub last : cause ≤ 8
+
 -- The log has passed the next record, which these bytes are with the gate behind it.
 pub record IsTaken (g : Geometry) (old new : Extent) (bytes : List ℕ) : Type 0 where
   pub next : IsNextRecord g (old.last + 1) bytes

@@ -42,7 +42,7 @@ impl Log {
     ghost use Rattle.iso_log.specs.Cause.{BlamesDisk};
     ghost use Rattle.iso_log.specs.Extent.{extent_of, next_place};
     ghost use Rattle.iso_log.specs.Log.{AppendedTo, AppendingFrom, HasTold, IsNext};
-    ghost use Rattle.iso_log.specs.Scan.{IsDamaged, IsFirst, IsTaken, StandAt};
+    ghost use Rattle.iso_log.specs.Scan.{IsDamaged, IsFirst, IsTaken, IsTestBefore, StandAt};
 
     /// The log of `room` bytes at a place of the image, before its first record; `base` is the number before that one's.
     pub fn start(place: u64, room: u32, base: u64) -> Log
@@ -202,9 +202,10 @@ impl Log {
         ensures told { IfOk result (λ more. more ≡ true → ForSome (D.state disk.old).contents (StandAt (next_place self.old) into.new.items)) }
         ensures first { IfOk result (λ more. more ≡ true → ForSome (D.state disk.old).contents (IsFirst geometry.now (next_place self.old) (self.old.room - self.old.used) (self.old.last + 1))) }
 
-        // Damaged comes only where they fail one.
+        // Damaged comes only where they fail one, and names a place of the log, also where the disk tells nothing.
         ensures damaged { (at cause : ℕ) → IsErrOf result (LogError.Damaged at cause)
             → ForSome (D.state disk.old).contents (IsDamaged geometry.now (next_place self.old) (self.old.room - self.old.used) (self.old.last + 1) at cause) }
+        ensures test { (at cause : ℕ) → IsErrOf result (LogError.Damaged at cause) → IsTestBefore (self.old.place + self.old.room) at cause }
 
         ensures within { self.new.used + length ahead.new ≤ self.new.room }
         ensures ahead { ForSome (D.state disk.old).contents (StandAt (next_place self.new) ahead.new) }
@@ -248,6 +249,7 @@ impl Log {
         ensures first { IfOk result (λ more. more ≡ true → ForSome (D.state disk.old).contents (IsFirst geometry.now (next_place self.old) (self.old.room - self.old.used) (self.old.last + 1))) }
         ensures damaged { (at cause : ℕ) → IsErrOf result (LogError.Damaged at cause)
             → ForSome (D.state disk.old).contents (IsDamaged geometry.now (next_place self.old) (self.old.room - self.old.used) (self.old.last + 1) at cause) }
+        ensures test { (at cause : ℕ) → IsErrOf result (LogError.Damaged at cause) → IsTestBefore (self.old.place + self.old.room) at cause }
         ensures kept { OnErr result (self.new ≡ self.old) }
         ensures unwritten { WritesNothing (D.state disk.old) (D.state disk.new) }
         ensures cause { BlamesDisk (D.state disk.old).faults (D.state disk.new).faults result }

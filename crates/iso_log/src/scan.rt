@@ -6,7 +6,7 @@ ghost use Rattle.iso_disk.specs.Disk.{WritesNothing};
 ghost use Rattle.commit_gate.specs.Gate.{IsClosed};
 ghost use Rattle.iso_format.specs.Faults.{offset_of, test_number};
 ghost use Rattle.iso_log.specs.Cause.{BlamesDisk};
-ghost use Rattle.iso_log.specs.Scan.{IsDamaged, IsFirst, IsNextRecord, StandAt};
+ghost use Rattle.iso_log.specs.Scan.{IsDamaged, IsFirst, IsNextRecord, IsTestBefore, StandAt};
 
 use crate::ahead::ReadAhead;
 use crate::log_error::LogError;
@@ -47,6 +47,7 @@ pub fn find_record<D: Disk>(
     ensures found { IfOk result (λ found. IfSome found (λ n. (n ≤ length ahead.new) × IsNextRecord geometry.now number (take n ahead.new))) }
     ensures first { IfOk result (λ found. IfSome found (λ n. ForSome (D.state disk.old).contents (IsFirst geometry.now gate rest number))) }
     ensures damaged { (at cause : ℕ) → IsErrOf result (LogError.Damaged at cause) → ForSome (D.state disk.old).contents (IsDamaged geometry.now gate rest number at cause) }
+    ensures test { (at cause : ℕ) → IsErrOf result (LogError.Damaged at cause) → IsTestBefore (gate + rest) at cause }
     ensures within { length ahead.new ≤ rest }
     ensures ahead { ForSome (D.state disk.old).contents (StandAt gate ahead.new) }
     ensures unwritten { WritesNothing (D.state disk.old) (D.state disk.new) }

@@ -3,9 +3,11 @@ pub mod Whole
 pub mod Making
 pub mod Headers
 pub mod Fronts
+pub mod Shapes
 pub mod Scans
 pub mod Steps
 pub mod Values
 pub mod Opens
+pub mod Reopens
 pub mod TestCores
 pub mod TestGroups

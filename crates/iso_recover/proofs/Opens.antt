@@ -16,6 +16,7 @@ use Rattle.iso_model.proofs.Opened.{opened_is, told_again}
 use Rattle.iso_disk.specs.Disk.{DiskState, IsLawful, IsSettled}
 use Rattle.iso_disk.proofs.Images.{length-contents}
 use Rattle.iso_core.specs.declared.opening.Opened.{Opened}
+use Rattle.iso_format.specs.Spelled.{Spelled}
 use Rattle.iso_image.specs.Half.{Half, HasLog, IsHeld, half_of_world}
 use Rattle.iso_log.specs.Extent.{Extent, extent_of}
 use Rattle.iso_refusal.specs.declared.open_error.OpenError.{OpenError}
@@ -113,8 +114,8 @@ module _ (f : Front) (told : List Written) (log : Extent) (index : List BlockVer
       let has = whole_held f.geometry f.generation f.base told (omega (arith, r.read.left)) r.front.valid r.front.generation r.read.numbers r.read.each in
       opened_is _ f.geometry f.generation (told_history f (base_of f None) told) (whole_bytes f.geometry f.generation f.base told (omega (arith, form)) r.read.values) has.image
 
-  pub opens_to : IsOpened (opened_of f log index) (told_history f (base_of f d.contents) told) d
-  opens_to =
+  pub opens_to : (buffer : Spelled) → IsOpened (opened_of f log index buffer) (told_history f (base_of f d.contents) told) d
+  opens_to buffer =
       let half = half_is f (base_of f d.contents) told r.read.each in
       let place : f.log ≡ log_place f.geometry f.half = r.front.log in
       let index_here : IsIndexOf f.geometry (f.base + 1) (log_place f.geometry f.half) f.base told index =

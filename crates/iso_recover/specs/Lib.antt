@@ -5,3 +5,4 @@ pub mod Opened
 pub mod Scanned
 pub mod TestImage
 pub mod TestCores
+pub mod Shape

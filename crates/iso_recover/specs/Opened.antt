@@ -1,9 +1,9 @@
 -- What an image was opened to.
-use Rattle.std.specs.Prelude.{◌≡◌, ℕ, List, [], Option, Some, length}
+use Rattle.std.specs.Prelude.{◌≡◌, ℕ, ◌+◌, ◌≤◌, List, [], Option, Some, length}
 use Rattle.std.specs.Option.{ForSome}
 use Rattle.iso_model.specs.declared.access.Geometry.{Geometry}
 use Rattle.iso_model.specs.Geometry.{image_size, log_place}
-use Rattle.iso_model.specs.History.{History}
+use Rattle.iso_model.specs.History.{History, array_at, last}
 use Rattle.iso_model.specs.Image.{IsImage}
 use Rattle.iso_model.specs.World.{fresh}
 use Rattle.iso_core.specs.declared.core_itself.Core.{Core}
@@ -12,6 +12,7 @@ use Rattle.iso_core.specs.Core.{AllHold, StandsFor}
 use Rattle.iso_core.specs.Opening.{IsOpenedTo, opened_world}
 use Rattle.iso_core.specs.Standing.{up}
 use Rattle.iso_disk.specs.Disk.{DiskState}
+use Rattle.iso_format.specs.Spelled.{Spelled}
 use Rattle.iso_log.specs.Extent.{Extent}
 use Rattle.iso_refusal.specs.Refusal.{opened}
 use Rattle.iso_recover.specs.declared.front.Front.{Front}
@@ -29,9 +30,9 @@ pub record IsOpened (o : Opened) (H : History) (d : DiskState) : Type 0 where
   pub holds : AllHold d o.half (opened_world H o)
   pub told : TellsImage d.contents o.geometry o.generation H
 
--- the front, the log and the index together
-abbrev pub opened_of : Front → Extent → List BlockVersions → Opened
-opened_of f log index = record { geometry = f.geometry; half = f.half; generation = f.generation; base = f.base; log = log; index = index }
+-- the front, the log and the index together, and a buffer for records
+abbrev pub opened_of : Front → Extent → List BlockVersions → Spelled → Opened
+opened_of f log index buffer = record { geometry = f.geometry; half = f.half; generation = f.generation; base = f.base; log = log; index = index; buffer = buffer }
 
 -- what is known of an image on which nothing was committed
 pub record IsNew (g : Geometry) (o : Opened) : Type 0 where
@@ -42,6 +43,7 @@ pub record IsNew (g : Geometry) (o : Opened) : Type 0 where
     base = 0;
     log = record { place = log_place g 0; room = g.log; used = 0; last = 0 };
     index = o.index;
+    buffer = o.buffer;
   }
   pub blocks : length o.index ≡ g.blocks
   pub none : (b : ℕ) → versions_in o.index b ≡ []
@@ -53,3 +55,14 @@ pub record HasOpened {D : Type 0} (state : D → DiskState) (core : Core D) (con
   pub history : History
   pub stands : StandsFor state core (fresh geometry generation history) up
   pub told : TellsImage contents geometry generation history
+
+-- The core is up, and stands for the fresh world of a history that ends at commit p of this one, with its array there and
+-- at each earlier commit that it still has, in an image of this geometry of either form.
+pub record HasReopened {D : Type 0} (state : D → DiskState) (core : Core D) (g : Geometry) (H : History) (p : ℕ) : Type 0 where
+  pub form : ℕ
+  pub generation : ℕ
+  pub history : History
+  pub stands : StandsFor state core (fresh (record g { form = form }) generation history) up
+  pub last : last history ≡ p
+  pub array : array_at history p ≡ array_at H p
+  pub arrays : (n : ℕ) → history.first ≤ n + 1 → n ≤ p → array_at history n ≡ array_at H n

@@ -2,6 +2,9 @@
 ghost use Rattle.std.specs.Prelude.{◌≡◌, ◌≤◌, ℕ, List, replicate, Some, IfErr, IfOk, IsTrue};
 ghost use Rattle.std.specs.Option.{ForSome};
 ghost use Rattle.iso_model.specs.Geometry.{image_size, is_valid};
+ghost use Rattle.iso_model.specs.declared.access.Geometry.{Geometry};
+ghost use Rattle.iso_model.specs.History.{History};
+ghost use Rattle.iso_model.specs.Image.{Shows};
 ghost use Rattle.iso_model.specs.World.{empty_history, fresh};
 ghost use Rattle.iso_disk.specs.Disk.{LeavesOnly, StaysTold, WritesNothing};
 ghost use Rattle.fault_count.specs.Count.{Rose};
@@ -10,7 +13,8 @@ ghost use Rattle.iso_core.specs.Standing.{up};
 ghost use Rattle.iso_refusal.specs.Refusal.{refusal};
 ghost use Rattle.iso_recover.specs.Cause.{IsBlamed, IsTest};
 ghost use Rattle.iso_recover.specs.Made.{IsUnmadeOrEmpty};
-ghost use Rattle.iso_recover.specs.Opened.{HasOpened};
+ghost use Rattle.iso_recover.specs.Opened.{HasOpened, HasReopened};
+ghost use Rattle.iso_recover.specs.Shape.{IsShaped};
 
 use crate::image::read_image;
 use crate::make::{MakeError, make_image};
@@ -21,7 +25,7 @@ use iso_refusal::OpenError;
 use std::alloc::Global;
 
 /// Makes an image of the geometry's form on which nothing was committed of a blank disk, by five calls of the disk, and a
-/// core over it. An error hands the disk back.
+/// core over it. An error hands the disk back; want of memory comes before the first call.
 pub fn format_image<D: Disk>(
     alloc: Global,
     disk: D,
@@ -40,14 +44,11 @@ pub fn format_image<D: Disk>(
     ensures later { IfErr result (λ e. (D.state disk).faults ≤ (D.state e.1).faults) }
     ensures fault { IfErr result (λ e. e.0 ≡ MakeError.Disk → Rose (D.state disk).faults (D.state e.1).faults) }
     ensures no_fault { IfOk result (λ core. (D.state (disk_of core)).faults ≡ (D.state disk).faults) }
-    ensures memory { IfErr result (λ e. e.0 ≡ MakeError.Memory → (D.state e.1).faults ≡ (D.state disk).faults) }
+    ensures memory { IfErr result (λ e. e.0 ≡ MakeError.Memory → e.1 ≡ disk) }
 {
     let mut disk = disk;
     match make_image(alloc, &mut disk, geometry) {
-        Ok(opened) => match Core::over(alloc, disk, opened) {
-            Ok(core) => Ok(core),
-            Err((_, disk)) => Err((MakeError::Memory, disk)),
-        },
+        Ok(opened) => Ok(Core::over(alloc, disk, opened)),
         Err(error) => Err((error, disk)),
     }
 }
@@ -57,6 +58,12 @@ pub fn format_image<D: Disk>(
 pub fn open_image<D: Disk>(alloc: Global, disk: D) -> Result<Core<D>, (OpenError, D)>
     ensures opened { IfOk result (λ core. HasOpened D.state core (D.state disk).contents) }
     ensures refused { IfErr result (λ e. IsTest e.0 → ForSome (D.state disk).contents (λ c. refusal c ≡ Some e.0)) }
+    ensures shape { IfErr result (λ e. IsShaped (D.state disk).size e.0) }
+
+    // What shows a history opens to a history that ends at the commit shown, with the arrays shown, and fails no test.
+    ensures shown { (c : List ℕ) (g : Geometry) (H : History) (p : ℕ) → (D.state disk).contents ≡ Some c → Shows c g H p → IfOk result (λ core. HasReopened D.state core g H p) }
+    ensures opens { (c : List ℕ) (g : Geometry) (H : History) (p : ℕ) → (D.state disk).contents ≡ Some c → Shows c g H p → IfErr result (λ e. IsTest e.0 → ⊥) }
+
     ensures unwritten { IfOk result (λ core. WritesNothing (D.state disk) (D.state (disk_of core))) }
     ensures untouched { IfErr result (λ e. WritesNothing (D.state disk) (D.state e.1)) }
     ensures no_fault { IfOk result (λ core. (D.state (disk_of core)).faults ≡ (D.state disk).faults) }
@@ -64,10 +71,7 @@ pub fn open_image<D: Disk>(alloc: Global, disk: D) -> Result<Core<D>, (OpenError
 {
     let mut disk = disk;
     match read_image(alloc, &mut disk) {
-        Ok(opened) => match Core::over(alloc, disk, opened) {
-            Ok(core) => Ok(core),
-            Err((_, disk)) => Err((OpenError::Memory, disk)),
-        },
+        Ok(opened) => Ok(Core::over(alloc, disk, opened)),
         Err(error) => Err((error, disk)),
     }
 }

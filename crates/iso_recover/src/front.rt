@@ -5,6 +5,7 @@ ghost use Rattle.iso_disk.specs.Disk.{IsSettled, WritesNothing};
 ghost use Rattle.iso_refusal.specs.Refusal.{refusal};
 ghost use Rattle.iso_recover.specs.Cause.{BlamesDisk, IsTest};
 ghost use Rattle.iso_recover.specs.Front.{HasFront, IsFront};
+ghost use Rattle.iso_recover.specs.Shape.{IsShaped};
 
 use crate::halves::current_front;
 use crate::superblock::{read_bytes, read_geometry};
@@ -31,6 +32,7 @@ pub fn read_front<D: Disk>(disk: &mut D) -> Result<Front, OpenError>
     ensures front { IfOk result (λ f. IsFront f (D.state disk.old).size) }
     ensures told { IfOk result (λ f. ForSome (D.state disk.old).contents (HasFront f)) }
     ensures refused { IfErr result (λ e. IsTest e → ForSome (D.state disk.old).contents (λ c. refusal c ≡ Some e)) }
+    ensures shape { IfErr result (IsShaped (D.state disk.old).size) }
     ensures settled { IsErrOf result OpenError.Disk ⊎ IsSettled (D.state disk.new) }
     ensures unwritten { WritesNothing (D.state disk.old) (D.state disk.new) }
     ensures cause { BlamesDisk (D.state disk.old).faults (D.state disk.new).faults result }
@@ -46,6 +48,7 @@ fn find_front<D: Disk>(disk: &mut D) -> Result<Front, OpenError>
     ensures front { IfOk result (λ f. IsFront f (D.state disk.old).size) }
     ensures told { IfOk result (λ f. ForSome (D.state disk.old).contents (HasFront f)) }
     ensures refused { IfErr result (λ e. IsTest e → ForSome (D.state disk.old).contents (λ c. refusal c ≡ Some e)) }
+    ensures shape { IfErr result (IsShaped (D.state disk.old).size) }
     ensures unwritten { WritesNothing (D.state disk.old) (D.state disk.new) }
     ensures cause { BlamesDisk (D.state disk.old).faults (D.state disk.new).faults result }
     ensures no_memory { IfErr result (λ e. e ≢ OpenError.Memory) }

@@ -1,32 +1,16 @@
 // The headers of both halves: which half is the current one, and the first test that it fails.
 ghost use Rattle.std.specs.Prelude.{◌≡◌, ◌+◌, ◌^◌, ◌<◌, ◌≤◌, ◌==◌, None, Some, length, IfErr, IfOk, IsTrue};
 ghost use Rattle.iso_model.specs.Geometry.{header_place, is_valid};
-ghost use Rattle.iso_model.specs.Image.{chosen_half};
 ghost use Rattle.iso_format.specs.Reading.{half_of};
 ghost use Rattle.iso_refusal.specs.Refusal.{header_refusal};
 ghost use Rattle.iso_recover.specs.Front.{IsFrontOf, IsSaid, chosen_by, halves_refusal};
 
 use crate::front::Front;
-use iso_format::{HalfHeader, read_half, unclean_place};
+use half_switch::choose_half;
+use iso_format::{read_half, unclean_place};
 use iso_image::half_place;
 use iso_model::{Geometry, LAST};
 use iso_refusal::OpenError;
-
-// The half whose gate is open and whose generation is larger, the first on a tie.
-fn chosen_half(first: &HalfHeader, second: &HalfHeader) -> Option<u8>
-    ensures { result ≡ chosen_half (first.now.gate == 1) first.now.generation (second.now.gate == 1) second.now.generation }
-{
-    match (first.gate == 1, second.gate == 1) {
-        (true, true) => Some(if first.generation < second.generation {
-            1
-        } else {
-            0
-        }),
-        (true, false) => Some(0),
-        (false, true) => Some(1),
-        (false, false) => None,
-    }
-}
 
 // The first test that the header of a half fails, which stands at this place of the image.
 fn header_refusal(place: u64, header: &[u8]) -> Option<OpenError>
@@ -93,7 +77,7 @@ pub fn current_front(geometry: &Geometry, first: &[u8], second: &[u8]) -> Result
     ensures refused { IfErr result (λ e. halves_refusal geometry.now first.now second.now (chosen_by first.now second.now) ≡ Some e) }
     ensures front { IfOk result (λ f. IsFrontOf geometry.now first.now second.now f) }
 {
-    match chosen_half(&read_half(first), &read_half(second)) {
+    match choose_half(&read_half(first), &read_half(second)) {
         None => Err(OpenError::NoHalf),
         Some(0) => front_of(geometry, 0, first),
         Some(_) => front_of(geometry, 1, second),

@@ -6,11 +6,13 @@ ghost use Rattle.iso_disk.specs.Disk.{IsSettled, WritesNothing};
 ghost use Rattle.iso_refusal.specs.Refusal.{refusal};
 ghost use Rattle.iso_recover.specs.Cause.{BlamesDisk, IsTest};
 ghost use Rattle.iso_recover.specs.Opened.{IsOpened};
+ghost use Rattle.iso_recover.specs.Shape.{IsShaped};
 
 use crate::front::read_front;
 use crate::log::read_log;
 use iso_core::Opened;
 use iso_disk::Disk;
+use iso_format::RecordBuffer;
 use iso_refusal::OpenError;
 use std::alloc::Global;
 
@@ -20,6 +22,7 @@ use std::alloc::Global;
 pub fn read_image<D: Disk>(alloc: Global, disk: &mut D) -> Result<Opened, OpenError>
     ensures opened { IfOk result (λ o. (H : History) × IsOpened o H (D.state disk.new)) }
     ensures refused { IfErr result (λ e. IsTest e → ForSome (D.state disk.old).contents (λ c. refusal c ≡ Some e)) }
+    ensures shape { IfErr result (IsShaped (D.state disk.old).size) }
     ensures settled { IsErrOf result OpenError.Disk ⊎ IsSettled (D.state disk.new) }
     ensures unwritten { WritesNothing (D.state disk.old) (D.state disk.new) }
     ensures cause { BlamesDisk (D.state disk.old).faults (D.state disk.new).faults result }
@@ -27,6 +30,9 @@ pub fn read_image<D: Disk>(alloc: Global, disk: &mut D) -> Result<Opened, OpenEr
     let front = match read_front(disk) {
         Ok(front) => front,
         Err(error) => return Err(error),
+    };
+    let Ok(buffer) = RecordBuffer::new(alloc) else {
+        return Err(OpenError::Memory);
     };
     match read_log(alloc, disk, &front) {
         Ok((log, index)) => Ok(Opened {
@@ -36,6 +42,7 @@ pub fn read_image<D: Disk>(alloc: Global, disk: &mut D) -> Result<Opened, OpenEr
             base: front.base,
             log,
             index,
+            buffer,
         }),
         Err(error) => Err(error),
     }

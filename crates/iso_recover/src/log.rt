@@ -8,6 +8,7 @@ ghost use Rattle.iso_refusal.specs.Refusal.{log_at, log_refusal};
 ghost use Rattle.iso_recover.specs.Cause.{BlamesDisk, IsTest};
 ghost use Rattle.iso_recover.specs.Front.{IsFront};
 ghost use Rattle.iso_recover.specs.Scanned.{HasRead};
+ghost use Rattle.iso_recover.specs.Shape.{IsShaped};
 
 use crate::front::Front;
 use crate::scan::{scan_on, take_in};
@@ -32,6 +33,7 @@ pub fn read_log<D: Disk>(
         × ForSome (D.state disk.old).contents (HasLog front.now.log front.now.geometry.log front.now.geometry (front.now.base + 1) told)) }
     ensures refused { IfErr result (λ e. IsTest e → ForSome (D.state disk.old).contents
         (λ c. log_refusal front.now.geometry front.now.log (front.now.base + 1) front.now.geometry.log (log_at front.now.geometry front.now.half c) ≡ Some e)) }
+    ensures shape { IfErr result (IsShaped (D.state disk.old).size) }
     ensures unwritten { WritesNothing (D.state disk.old) (D.state disk.new) }
     ensures cause { BlamesDisk (D.state disk.old).faults (D.state disk.new).faults result }
 {

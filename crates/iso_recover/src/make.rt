@@ -10,6 +10,7 @@ ghost use Rattle.iso_recover.specs.Opened.{IsNew, IsOpened};
 use crate::format::put_front;
 use iso_core::Opened;
 use iso_disk::Disk;
+use iso_format::RecordBuffer;
 use iso_image::half_place;
 use iso_log::Log;
 use iso_model::{Geometry, Memory};
@@ -31,6 +32,7 @@ fn new_image(alloc: Global, geometry: &Geometry) -> Result<Opened, Memory>
     ensures { IfOk result (λ o. IsNew geometry.now o) }
 {
     let index = MvIndex::empty(alloc, geometry.blocks)?;
+    let buffer = RecordBuffer::new(alloc)?;
     let place = half_place(geometry, 0);
     Ok(Opened {
         geometry: *geometry,
@@ -39,6 +41,7 @@ fn new_image(alloc: Global, geometry: &Geometry) -> Result<Opened, Memory>
         base: 0,
         log: Log::start(place.log, geometry.log, 0),
         index,
+        buffer,
     })
 }
 

@@ -11,6 +11,7 @@ ghost use Rattle.iso_refusal.specs.Refusal.{told_first};
 ghost use Rattle.version_read.specs.Parts.{HasTaken, MayTake, part_of};
 ghost use Rattle.iso_recover.specs.Cause.{BlamesDisk, IsTest, opening};
 ghost use Rattle.iso_recover.specs.Scanned.{IsDamagedBy};
+ghost use Rattle.iso_recover.specs.Shape.{IsShaped};
 
 use iso_disk::Disk;
 use iso_format::read_record;
@@ -49,6 +50,7 @@ pub fn scan_on<D: Disk>(
     ensures values { AreBytes into.new.items }
     ensures told { IfOk result (λ more. more ≡ true → ForSome (D.state disk.old).contents (StandAt (next_place log.old) into.new.items)) }
     ensures first { IfOk result (λ more. more ≡ true → ForSome (D.state disk.old).contents (IsFirst geometry.now (next_place log.old) (log.old.room - log.old.used) (log.old.last + 1))) }
+    ensures shape { IfErr result (IsShaped (D.state disk.old).size) }
     ensures damaged { IfErr result (λ e. IsTest e → ForSome (D.state disk.old).contents (IsDamagedBy geometry.now (next_place log.old) (log.old.room - log.old.used) (log.old.last + 1) e)) }
     ensures within { log.new.used + length ahead.new ≤ log.new.room }
     ensures ahead { ForSome (D.state disk.old).contents (StandAt (next_place log.new) ahead.new) }

@@ -8,6 +8,7 @@ ghost use Rattle.iso_format.specs.Reading.{super_of};
 ghost use Rattle.iso_refusal.specs.Refusal.{refusal};
 ghost use Rattle.iso_recover.specs.Cause.{BlamesDisk, IsTest};
 ghost use Rattle.iso_recover.specs.Front.{super_refusal};
+ghost use Rattle.iso_recover.specs.Shape.{IsShaped};
 
 use iso_disk::Disk;
 use iso_format::{SuperError, read_super};
@@ -55,6 +56,7 @@ fn tested_geometry(block: &[u8], have: u64) -> Result<Geometry, OpenError>
 /// Reads the geometry of an image, which is of form 1 as a superblock tells no form.
 pub fn read_geometry<D: Disk>(disk: &mut D) -> Result<Geometry, OpenError>
     ensures refused { IfErr result (λ e. IsTest e → ForSome (D.state disk.old).contents (λ c. refusal c ≡ Some e)) }
+    ensures shape { IfErr result (IsShaped (D.state disk.old).size) }
     ensures valid { IfOk result (λ g. IsTrue (is_valid g) × (g.form ≡ 1)) }
     ensures size { IfOk result (λ g. (D.state disk.old).size ≡ image_size g) }
     ensures told { IfOk result (λ g. ForSome (D.state disk.old).contents (λ c. (super_of (take 64 c) ≡ Ok g) × (take 64 c ≡ superblock 1 g))) }

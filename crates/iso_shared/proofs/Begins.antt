@@ -49,7 +49,7 @@ block_size W is =
     (and_parts _ _ h.0).0
 
 -- a begin that is answered begins at the last commit
-began_last : (W : World) (mode : Mode) (at : ℕ) → (begin_step W unattached mode).0 ≡ reply.Began at → at ≡ last W.history
+pub began_last : (W : World) (mode : Mode) (at : ℕ) → (begin_step W unattached mode).0 ≡ reply.Began at → at ≡ last W.history
 unfolding begin_step
 began_last W mode at e = by ((W.geometry.form == 1) && not (same_mode mode W.geometry.mode)) (nat_le MAX_LIVE (length W.live)) (nat_lt LAST W.next) e
   where

@@ -15,3 +15,5 @@ pub mod Racked
 pub mod Checks
 pub mod Rows
 pub mod Traps
+pub mod PostsBefore
+pub mod CommitsBefore

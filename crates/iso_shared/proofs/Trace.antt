@@ -170,7 +170,7 @@ refusal_left S c cause.Worn s loose = s
 refusal_left S c cause.ModeFixed s loose = s
 refusal_left S c (cause.LogFull need free) s loose = s
 
-hits_are : (n : ℕ) (o : Option (List ℕ × Posting)) (k : ℕ) → Some k ≡ option_map (λ e. e.1.number) o → hits n (option_map (λ e. e.1) o) ≡ hit k n
+pub hits_are : (n : ℕ) (o : Option (List ℕ × Posting)) (k : ℕ) → Some k ≡ option_map (λ e. e.1.number) o → hits n (option_map (λ e. e.1) o) ≡ hit k n
 hits_are n None k is = absurd (cc is)
 hits_are n (Some e) k is = let same : e.1.number ≡ k = cc is in ap (λ (v : ℕ). hit v n) same
 

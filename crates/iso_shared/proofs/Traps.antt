@@ -1,9 +1,10 @@
 -- What no legal list holds that a looser word would let in, and what the rows of the other file leave.
-use Rattle.std.proofs.Common.{◌≡◌, ℕ, ◌+◌, ◌-◌, zero, suc, true, false, List, [], ◌∷◌, ◌++◌, Some, None, ap, length, replicate, refl, sym, ◌∙◌, arith}
+use Rattle.std.proofs.Common.{◌≡◌, ◌≤◌, ℕ, ◌+◌, ◌-◌, zero, suc, true, false, List, [], ◌∷◌, ◌++◌, Some, None, ap, length, replicate, refl, sym, ◌∙◌, arith}
+use Rattle.std.proofs.lemmas.List.{length-replicate}
 use Rattle.iso_model.specs.declared.access.Access.{Access}
 use Rattle.iso_model.specs.declared.access.EndReply.TheVariants.{Committed, ReadOnly}
 use Rattle.iso_model.specs.declared.access.Mode.TheVariants.{Serial, Snapshot}
-use Rattle.iso_model.specs.declared.limits.TheConstants.{LAST}
+use Rattle.iso_model.specs.declared.limits.TheConstants.{LAST, MAX_ACCESSES}
 use Rattle.iso_model.specs.declared.core_reply.CoreReply.{CoreReply}
 use Rattle.iso_model.specs.declared.core_reply.CoreReply.TheVariants as reply
 use Rattle.iso_model.specs.Array.{put}
@@ -18,7 +19,7 @@ use Rattle.iso_shared.specs.declared.entry.Entry.{Entry}
 use Rattle.iso_shared.specs.declared.entry.Entry.TheVariants as entry
 use Rattle.iso_shared.specs.declared.entry.Numbers.{Numbers}
 use Rattle.iso_shared.specs.Legal.{Fits, MayRefuse, numbers_at}
-use Rattle.iso_shared.specs.Ports.{most_steps}
+use Rattle.iso_shared.specs.Ports.{IsIsolatedAt, most_steps}
 use Rattle.iso_shared.specs.States.{Start, opened, state_at}
 use Rattle.iso_shared.proofs.Rows.{fallen, one_ended, one_put, posted, small, start, two_begun}
 
@@ -253,3 +254,34 @@ no_refusal_outside f = let inside = f.answers.0 in absurd (omega arith)
 
 no_refused_end_outside : Fits (state_at start two_begun) (entry.Refused (call.End 1 (write_access 3 [] ∷ [])) cause.Memory) → ⊥
 no_refused_end_outside f = let e = f.answers.0.each.0.bytes refl in absurd (cc e)
+
+-- nor more accesses than a transaction may have
+abbrev one_too_many : List Access
+one_too_many = replicate 4097 (read_access 1)
+
+no_access_too_many : Fits (state_at start two_begun) (entry.End 1 one_too_many ReadOnly) → ⊥
+no_access_too_many f =
+    let few : length one_too_many ≤ MAX_ACCESSES = f.answers.1.count in
+    let many : length one_too_many ≡ 4097 = length-replicate 4097 (read_access 1) in
+    absurd (omega (arith, few, many))
+
+no_refused_end_too_many : Fits (state_at start two_begun) (entry.Refused (call.End 1 one_too_many) cause.Memory) → ⊥
+no_refused_end_too_many f =
+    let few : length one_too_many ≤ MAX_ACCESSES = f.answers.0.count in
+    let many : length one_too_many ≡ 4097 = length-replicate 4097 (read_access 1) in
+    absurd (omega (arith, few, many))
+
+-- nor does a fetch find a label taken
+not_taken_of_a_fetch : MayRefuse (state_at start posted) (call.Fetch 1 0) cause.LabelTaken → ⊥
+not_taken_of_a_fetch may = may
+
+-- a list in which both commit, though the second has read what the first then wrote, leads to no isolated history
+abbrev lost_read : List Entry
+lost_read = one_ended ++ entry.End 2 (read_access 2 ∷ one_put ∷ []) (Committed 2) ∷ []
+
+some_number : (n : ℕ) → 0 ≡ suc n → ⊥
+some_number n e = cc e
+
+not_isolated : IsIsolatedAt start lost_read → ⊥
+unfolding put
+not_isolated is = some_number 169 ((is 2 (omega arith) (omega arith)).isolated 0 0 refl)

@@ -4,3 +4,4 @@ pub mod Standing
 pub mod Told
 pub mod Ports
 pub mod TestImage
+pub mod Plain

@@ -2,7 +2,7 @@
 ghost use Rattle.std.specs.Prelude.{◌≡◌, ℕ, ◌+◌, ◌<◌, [], ◌∷◌, Some, None, length, IfErr, IfOk, IfNone, IfSome, MatchOption};
 ghost use Rattle.iso_shared.specs.declared.entry.Call.TheVariants as TheCall;
 ghost use Rattle.iso_shared.specs.declared.entry.Entry.TheVariants.{Look, Post, Refused, Sweep};
-ghost use Rattle.iso_shared.specs.Ports.{IsPort, IsSameTx, IsTx, Made, MadeBoth, doing_of, number_of, port_view, tx_view};
+ghost use Rattle.iso_shared.specs.Ports.{IsPort, IsSameTx, IsTx, Made, MadeBoth, check_of, doing_of, number_of, port_view, tx_view};
 ghost use Rattle.iso_shared.specs.Told.{post_cause, posting_of_tx};
 ghost use Rattle.turn_lock.specs.Lists.{places};
 ghost use Rattle.turn_lock.specs.Pass.{view};
@@ -71,13 +71,14 @@ impl<D: Disk + Drop, O: Origin> Shared<D, O> {
         }
     }
 
-    /// Takes the transaction under a label, with one of the port's units, and none exactly where the label is not held. It
-    /// takes no memory.
+    /// Takes the transaction under a label, with one of the port's units, and none exactly where the label is not held. Nothing
+    /// of it is checked ahead. It takes no memory.
     pub fn look<R: Wait>(&self, rt: &R, port: &mut Port<D, O>, label: &Label) -> Option<Tx<D, O>>
         requires port { IsPort self.now port.old × (1 < (port_view port.old).units) }
         ensures port { IsPort self.now port.new }
         ensures tx { IfSome result (λ t. IsTx self.now O.start t × ((tx_view t).seen ≡ (port_view port.new).seen) × ((tx_view t).mine ≡ []) × ((tx_view t).units ≡ 1)) }
         ensures found { IfSome result (λ t. Made O.start (port_view port.old) (port_view port.old) (Look label.now (Some (posting_of_tx (number_of t) (doing_of t)))) (port_view port.new)) }
+        ensures checked { IfSome result (λ t. check_of t ≡ record { upto = (doing_of t).begin; clash = None }) }
         ensures none { IfNone result (Made O.start (port_view port.old) (port_view port.old) (Look label.now None) (port_view port.new)) }
         ensures units { MatchOption result ((port_view port.new).units ≡ (port_view port.old).units) (λ _. (port_view port.new).units + 1 ≡ (port_view port.old).units) }
     {

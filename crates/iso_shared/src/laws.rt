@@ -1,11 +1,26 @@
-// A law of legal lists.
-ghost use Rattle.std.specs.Prelude.{◌≡◌, ℕ, List, []};
+// The laws of legal lists: each function does nothing, and its contract is the law.
+ghost use Rattle.std.specs.Prelude.{◌≡◌, ℕ, ◌<◌, List, [], ◌∷◌, ◌++◌, Some};
+ghost use Rattle.std.specs.List.{AllByRecursion};
+ghost use Rattle.iso_model.specs.declared.access.Mode.{Mode};
 ghost use Rattle.iso_shared.specs.declared.entry.Entry.{Entry};
+ghost use Rattle.iso_shared.specs.declared.entry.Entry.TheVariants.{Begin, Look};
+ghost use Rattle.iso_shared.specs.declared.entry.Posting.{Posting};
 ghost use Rattle.iso_shared.specs.Legal.{IsLegal, handed, returned};
-ghost use Rattle.iso_shared.specs.States.{Start, is_loose, state_at};
+ghost use Rattle.iso_shared.specs.Plain.{CommitsUpTo, WasPosted};
+ghost use Rattle.iso_shared.specs.States.{Start, is_loose, opened, state_at};
 ghost use Rattle.turn_lock.specs.Numbers.{is_out};
 
 /// In a legal list a number is out exactly where its transaction is live and under no label.
 pub fn numbers_out_are_loose()
     ensures { (A : Start) (es : List Entry) (n : ℕ) → A.world.live ≡ [] → IsLegal A es → is_out handed returned n es ≡ is_loose n (state_at A es) }
+{}
+
+/// What a look finds was posted under its label, as it was then, and nothing between the two took it out.
+pub fn looks_find_what_was_posted()
+    ensures { (A : Start) (es : List Entry) (label : List ℕ) (p : Posting) → A.world.live ≡ [] → IsLegal A (es ++ Look label (Some p) ∷ []) → WasPosted (opened A) es label p }
+{}
+
+/// A begin is at or above each commit that was told of before it.
+pub fn begins_are_above_the_commits_before()
+    ensures { (A : Start) (es : List Entry) (n at : ℕ) (mode : Mode) → 0 < A.world.history.first → IsLegal A (es ++ Begin n at mode ∷ []) → AllByRecursion (λ e. CommitsUpTo at e) es }
 {}

@@ -5,7 +5,7 @@ ghost use Rattle.iso_model.specs.declared.core_error.CoreError.TheVariants.{Disk
 ghost use Rattle.iso_model.specs.Step.{mode_named};
 ghost use Rattle.iso_shared.specs.declared.entry.Call.TheVariants as TheCall;
 ghost use Rattle.iso_shared.specs.declared.entry.Entry.TheVariants.{Abort, Begin, End, Refused};
-ghost use Rattle.iso_shared.specs.Ports.{IsOf, IsPort, IsSameTx, IsTx, IsTxOf, Made, MadeBoth, doing_of, number_of, port_view, tx_view};
+ghost use Rattle.iso_shared.specs.Ports.{IsOf, IsPort, IsSameTx, IsTx, IsTxOf, Made, MadeBoth, check_of, doing_of, number_of, port_view, tx_view};
 ghost use Rattle.iso_shared.specs.Told.{begin_entry, cause_of, end_entry, fetch_entry};
 ghost use Rattle.turn_lock.specs.Pass.{view};
 
@@ -33,6 +33,7 @@ impl<D: Disk + Drop, O: Origin> Shared<D, O> {
         ensures port { IsPort self.now port.new }
         ensures tx { IfOk result (λ t. IsTx self.now O.start t × ((doing_of t).accesses ≡ []) × ((doing_of t).mode ≡ mode_named O.start.world named)) }
         ensures new { IfOk result (λ t. ((tx_view t).seen ≡ (port_view port.new).seen) × ((tx_view t).mine ≡ []) × ((tx_view t).units ≡ 1)) }
+        ensures checked { IfOk result (λ t. check_of t ≡ record { upto = (doing_of t).begin; clash = None }) }
         ensures made { IfOk result (λ t. Made O.start (port_view port.old) (port_view port.old) (Begin (number_of t) (doing_of t).begin (doing_of t).mode) (port_view port.new)) }
         ensures err { IfErr result (λ e. (before : ℕ) × (now : ℕ) × Made O.start (port_view port.old) (port_view port.old) (Refused (TheCall.Begin named) (cause_of before now e)) (port_view port.new)) }
         ensures units { MatchResult result (λ _. (port_view port.new).units + 1 ≡ (port_view port.old).units) (λ _. (port_view port.new).units ≡ (port_view port.old).units) }

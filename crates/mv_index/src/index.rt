@@ -2,7 +2,7 @@
 ghost use Rattle.std.specs.Prelude.{◌≡◌, ◌≢◌, ◌+◌, ◌-◌, ◌*◌, ◌^◌, ◌<◌, ◌≤◌, [], ℕ, IfOk, IsOk, OnOk, count_by, length, slice_index_or};
 ghost use Rattle.mv_index.specs.Moves.{AreSplit, moved_to};
 ghost use Rattle.mv_index.specs.Shown.{AllLie, ShowTheSame};
-ghost use Rattle.mv_index.specs.Versions.{AreAtMost, IsAdded, block_of, count_of, has, no_version, room_of, shown_since, upto, versions_in};
+ghost use Rattle.mv_index.specs.Versions.{AreAtMost, IsAdded, Rise, block_of, count_of, has, no_version, room_of, shown_since, upto, versions_in};
 ghost use Rattle.mv_index.specs.Weights.{bytes_above};
 
 use crate::row::Row;
@@ -47,6 +47,7 @@ impl MvIndex {
     pub fn find<L: Ledger>(&self, block: u32, at: u64, steps: &mut Steps<L>) -> &[Version]
         requires { block < length self.now }
         ensures exact { result.now ≡ upto at (versions_in self.now block) }
+        ensures rising { Rise result.now }
         ensures steps { steps.old ≤ steps.new }
         ensures cost { 2 ^ (steps.new - steps.old) ≤ 2 * length (versions_in self.now block) + 1 }
     {

@@ -2,7 +2,7 @@
 ghost use Rattle.std.specs.Prelude.{◌≡◌, ◌+◌, ◌-◌, ◌*◌, ◌^◌, ◌<◌, ◌≤◌, ◌++◌, [], ◌∷◌, ℕ, IsOk, OnOk, count_by, length, slice_index_or};
 ghost use Rattle.mv_index.specs.Moves.{AreSplit, moved_to};
 ghost use Rattle.mv_index.specs.Shown.{AllLie, ShowTheSame};
-ghost use Rattle.mv_index.specs.Versions.{AreAtMost, has, no_version, shown_since, upto};
+ghost use Rattle.mv_index.specs.Versions.{AreAtMost, Rise, has, no_version, shown_since, upto};
 ghost use Rattle.mv_index.specs.Weights.{part_bytes_above};
 
 use crate::moving::move_list;
@@ -46,9 +46,10 @@ impl Row {
         }
     }
 
-    /// The versions with a number at or below this one.
+    /// The versions with a number at or below this one, rising.
     pub fn find<L: Ledger>(&self, at: u64, steps: &mut Steps<L>) -> &[Version]
         ensures exact { result.now ≡ upto at self.now.versions }
+        ensures rising { Rise result.now }
         ensures steps { steps.old ≤ steps.new }
         ensures cost { 2 ^ (steps.new - steps.old) ≤ 2 * length self.now.versions + 1 }
     {

@@ -20,7 +20,8 @@ use std::test::Fail;
 use std::thread::{self, Threads, join};
 use std::time::{Clock, CpuClock, Duration, Instant};
 
-const TURNS: u64 = 5000;
+// So many that a lock stands still which misses a ring between its look at the ticket and the peek at its door.
+const TURNS: u64 = 100_000;
 
 /// It stands for the list that it has.
 #[derive(Drop)]

@@ -16,8 +16,8 @@ later_note x xs number marks rises is =
     let no : (x.0 == number) ≡ false = ne_eqb x.0 number (λ e. omega (arith, from)) in
     rw no is
 
-pub loop-first-init : goal.loop-first-init
-loop-first-init g c = record {
+pub loop-commit-init : goal.loop-commit-init
+loop-commit-init g c = record {
   all = λ found is. subst (λ (l : List Note). IsLeastMeeting c.args.bytes.now l found) c.after-rest.ensures.notes is;
   steps = omega (arith, ap (length {A = Note}) c.after-rest.ensures.notes);
   rising = c.after-rest.ensures.rising;
@@ -26,40 +26,40 @@ loop-first-init g c = record {
 
 pub returns-in_err-marks-clause-least : goal.returns-in_err-marks-clause-least
 returns-in_err-marks-clause-least g c =
-    let x = c.in-Some.first.now in
-    let xs = c.in-Some.others.now in
-    let rest_is = c.in-Some.ensures.cases.0 in
-    let held : note_of x.0 c.args.notes.now.notes ≡ Some x.1 = c.loop-first.invariant.held x.0 x.1 (ap (note_of x.0) rest_is ∙ first_note x xs) in
+    let (written, rest_is) = c.in-Some.ensures.some in
+    let x : Note = (c.in-Some.commit, written) in
+    let xs = c.pass.new.self in
+    let held : note_of x.0 c.args.notes.now.notes ≡ Some x.1 = c.loop-commit.invariant.held x.0 x.1 (ap (note_of x.0) rest_is ∙ first_note x xs) in
     let none : note_of x.0 c.args.notes.now.notes ≡ None = sym c.in_err-marks.ensures.note in
     absurd (cc (held, none))
 
 pub returns-in-Some-first_meet-clause-least : goal.returns-in-Some-first_meet-clause-least
 returns-in-Some-first_meet-clause-least g c =
-    let x = c.in-Some.first.now in
-    let xs = c.in-Some.others.now in
-    let rest_is = c.in-Some.ensures.cases.0 in
-    let held : note_of x.0 c.args.notes.now.notes ≡ Some x.1 = c.loop-first.invariant.held x.0 x.1 (ap (note_of x.0) rest_is ∙ first_note x xs) in
+    let (written, rest_is) = c.in-Some.ensures.some in
+    let x : Note = (c.in-Some.commit, written) in
+    let xs = c.pass.new.self in
+    let held : note_of x.0 c.args.notes.now.notes ≡ Some x.1 = c.loop-commit.invariant.held x.0 x.1 (ap (note_of x.0) rest_is ∙ first_note x xs) in
     let marks : c.in_ok-marks.marks.now ≡ x.1 = same_Some _ _ (c.in_ok-marks.ensures.note ∙ held) in
     let block = c.in-Some-first_meet.block in
     let at = c.in-Some-first_meet.at in
     let meet : IsFirstMeet c.in_ok-marks.marks.now c.args.bytes.now block at =
     record { both = c.in-Some-first_meet.ensures.found; least_block = c.in-Some-first_meet.ensures.least_block; least_byte = c.in-Some-first_meet.ensures.least_byte } in
     let here : IsFirstMeet x.1 c.args.bytes.now block at = subst (λ (m : Bytes). IsFirstMeet m c.args.bytes.now block at) marks meet in
-    c.loop-first.invariant.all _ (subst (λ (l : List Note). IsLeastMeeting c.args.bytes.now l (Some (record { commit = x.0; block = block; at = at }))) (sym rest_is)
+    c.loop-commit.invariant.all _ (subst (λ (l : List Note). IsLeastMeeting c.args.bytes.now l (Some (record { commit = x.0; block = block; at = at }))) (sym rest_is)
     (inr (block, at, here, refl)))
 
-pub loop-first-preserved : goal.loop-first-preserved
-loop-first-preserved g c =
-    let x = c.in-Some.first.now in
-    let xs = c.in-Some.others.now in
-    let rest_is = c.in-Some.ensures.cases.0 in
-    let held : note_of x.0 c.args.notes.now.notes ≡ Some x.1 = c.loop-first.invariant.held x.0 x.1 (ap (note_of x.0) rest_is ∙ first_note x xs) in
-    let rises : RisesFrom 0 (x ∷ xs) = subst (λ (l : List Note). RisesFrom 0 l) rest_is c.loop-first.invariant.rising in
+pub loop-commit-preserved : goal.loop-commit-preserved
+loop-commit-preserved g c =
+    let (written, rest_is) = c.in-Some.ensures.some in
+    let x : Note = (c.in-Some.commit, written) in
+    let xs = c.pass.new.self in
+    let held : note_of x.0 c.args.notes.now.notes ≡ Some x.1 = c.loop-commit.invariant.held x.0 x.1 (ap (note_of x.0) rest_is ∙ first_note x xs) in
+    let rises : RisesFrom 0 (x ∷ xs) = subst (λ (l : List Note). RisesFrom 0 l) rest_is c.loop-commit.invariant.rising in
     let marks : c.in_ok-marks.marks.now ≡ x.1 = same_Some _ _ (c.in_ok-marks.ensures.note ∙ held) in
     let apart : AreApart x.1 c.args.bytes.now = subst (λ (m : Bytes). AreApart m c.args.bytes.now) marks c.in_default-first_meet.ensures.none in
     record {
-      all = λ found is. c.loop-first.invariant.all found (subst (λ (l : List Note). IsLeastMeeting c.args.bytes.now l found) (sym rest_is) (inl (apart, is)));
-      steps = omega (arith, ap (length {A = Note}) rest_is, c.look_at.ensures.step, c.loop-first.invariant.steps);
+      all = λ found is. c.loop-commit.invariant.all found (subst (λ (l : List Note). IsLeastMeeting c.args.bytes.now l found) (sym rest_is) (inl (apart, is)));
+      steps = omega (arith, ap (length {A = Note}) rest_is, c.look_at.ensures.step, c.loop-commit.invariant.steps);
       rising = rises_earlier 0 (x.0 + 1) xs (omega arith) rises.1;
-      held = λ number marks is. c.loop-first.invariant.held number marks (ap (note_of number) rest_is ∙ later_note x xs number marks rises.1 is);
+      held = λ number marks is. c.loop-commit.invariant.held number marks (ap (note_of number) rest_is ∙ later_note x xs number marks rises.1 is);
     }

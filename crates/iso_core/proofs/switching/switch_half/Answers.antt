@@ -14,7 +14,7 @@ use Rattle.iso_model.proofs.Worlds.{floor_between}
 use Rattle.iso_core.proofs.Committing.{down_on}
 use Rattle.iso_core.proofs.Moments.{shows_world}
 use Rattle.iso_core.proofs.Numbers.{log_used}
-use Rattle.iso_core.proofs.Plans.{both, copies, is_switched, is_worn, new_half, next_world, shows_both, valid_form}
+use Rattle.iso_core.proofs.Plans.{both, copies, either_half, form_either, is_switched, is_worn, new_half, next_world, shows_both, valid_form}
 use Rattle.iso_core.proofs.Trims.{floor_is}
 use Rattle.iso_core.proofs.switching.switch_half.Goals as goal
 
@@ -26,6 +26,10 @@ returns-then-kept-ge-LAST-clause-refused g c W answer of fits =
 pub returns-then-kept-ge-LAST-clause-moments : goal.returns-then-kept-ge-LAST-clause-moments
 returns-then-kept-ge-LAST-clause-moments g c W of fits =
     started (g.met.D.Disk.lawful c.args.disk.now) (λ image now. shows_world W c.args.kept.now.half of.kept_of.world image (of.images.each image now))
+
+pub returns-then-kept-ge-LAST-clause-form : goal.returns-then-kept-ge-LAST-clause-form
+returns-then-kept-ge-LAST-clause-form g c W of fits =
+    started (g.met.D.Disk.lawful c.args.disk.now) (λ image now. form_either c.args.kept.now W c.args.form of.kept_of fits image (inl (of.images.each image now)))
 
 pub half_place-from-requires-clause-valid : goal.half_place-from-requires-clause-valid
 half_place-from-requires-clause-valid g c =
@@ -112,7 +116,7 @@ returns-in-Ok-clause-switched g c W of fits =
     let there : c.half_place-to.result ≡ place_of W.geometry (1 - kept.half) = c.half_place-to.ensures ∙ (λ i. place_of (record (geometry i) { form = c.args.form }) (1 - kept.half)) in
     let copied = copies kept W c.args.form of.kept_of fits plan c.half_place-from.result refl refl c.if-kept-ge-LAST.false refl to c.used.ensures c.half_place-from.ensures in
     let run = c.refill.ensures.moments W.geometry (half_of_world W kept.half) (1 - kept.half) (both kept W c.args.form of.kept_of fits) there copied of.images.each in
-    let shown = weakened run (λ image x. shows_both kept W c.args.form of.kept_of fits next image (elim x [ inl before ↦ inl before | inr after ↦ inr (new_half kept W c.args.form of.kept_of fits plan refl refl to image after) ])) in
+    let shown = weakened run (λ image x. shows_both kept W c.args.form of.kept_of fits next image (either_half kept W c.args.form of.kept_of fits plan refl refl to image x)) in
     let kept_of_next = c.go_over.ensures.switched W of.kept_of to (ap (λ (p : HalfPlace). p.log) c.half_place-from.ensures ∙ (λ i. log_place (record (geometry i) { form = c.args.form }) kept.half))
     (ap (λ (p : HalfPlace). p.log) c.half_place-to.ensures ∙ (λ i. log_place (record (geometry i) { form = c.args.form }) (1 - kept.half))) next in (
       to,
@@ -141,8 +145,19 @@ returns-in-Ok-clause-moments g c W of fits =
     let there : c.half_place-to.result ≡ place_of W.geometry (1 - kept.half) = c.half_place-to.ensures ∙ (λ i. place_of (record (geometry i) { form = c.args.form }) (1 - kept.half)) in
     let copied = copies kept W c.args.form of.kept_of fits plan c.half_place-from.result refl refl c.if-kept-ge-LAST.false refl to c.used.ensures c.half_place-from.ensures in
     let run = c.refill.ensures.moments W.geometry (half_of_world W kept.half) (1 - kept.half) (both kept W c.args.form of.kept_of fits) there copied of.images.each in
-    let shown = weakened run (λ image x. shows_both kept W c.args.form of.kept_of fits next image (elim x [ inl before ↦ inl before | inr after ↦ inr (new_half kept W c.args.form of.kept_of fits plan refl refl to image after) ])) in
+    let shown = weakened run (λ image x. shows_both kept W c.args.form of.kept_of fits next image (either_half kept W c.args.form of.kept_of fits plan refl refl to image x)) in
     shown
+
+pub returns-in-Ok-clause-form : goal.returns-in-Ok-clause-form
+returns-in-Ok-clause-form g c W of fits =
+    let kept = c.args.kept.now in
+    let geometry = of.kept_of.keeps.geometry in
+    let to = c.floor-floor.ensures ∙ floor_is kept W of.kept_of c.last.result c.last.ensures in
+    let plan : FillPlan = record { geometry = record kept.geometry { form = c.args.form }; generation = kept.generation + 1; old_base = kept.base; base = c.floor-floor.result; used = c.used.result } in
+    let there : c.half_place-to.result ≡ place_of W.geometry (1 - kept.half) = c.half_place-to.ensures ∙ (λ i. place_of (record (geometry i) { form = c.args.form }) (1 - kept.half)) in
+    let copied = copies kept W c.args.form of.kept_of fits plan c.half_place-from.result refl refl c.if-kept-ge-LAST.false refl to c.used.ensures c.half_place-from.ensures in
+    let run = c.refill.ensures.moments W.geometry (half_of_world W kept.half) (1 - kept.half) (both kept W c.args.form of.kept_of fits) there copied of.images.each in
+    weakened run (λ image x. form_either kept W c.args.form of.kept_of fits image (either_half kept W c.args.form of.kept_of fits plan refl refl to image x))
 
 pub returns-in-Err-Memory-clause-moments : goal.returns-in-Err-Memory-clause-moments
 returns-in-Err-Memory-clause-moments g c W of fits =
@@ -155,8 +170,19 @@ returns-in-Err-Memory-clause-moments g c W of fits =
     let there : c.half_place-to.result ≡ place_of W.geometry (1 - kept.half) = c.half_place-to.ensures ∙ (λ i. place_of (record (geometry i) { form = c.args.form }) (1 - kept.half)) in
     let copied = copies kept W c.args.form of.kept_of fits plan c.half_place-from.result refl refl c.if-kept-ge-LAST.false refl to c.used.ensures c.half_place-from.ensures in
     let run = c.refill.ensures.moments W.geometry (half_of_world W kept.half) (1 - kept.half) (both kept W c.args.form of.kept_of fits) there copied of.images.each in
-    let shown = weakened run (λ image x. shows_both kept W c.args.form of.kept_of fits next image (elim x [ inl before ↦ inl before | inr after ↦ inr (new_half kept W c.args.form of.kept_of fits plan refl refl to image after) ])) in
+    let shown = weakened run (λ image x. shows_both kept W c.args.form of.kept_of fits next image (either_half kept W c.args.form of.kept_of fits plan refl refl to image x)) in
     shown
+
+pub returns-in-Err-Memory-clause-form : goal.returns-in-Err-Memory-clause-form
+returns-in-Err-Memory-clause-form g c W of fits =
+    let kept = c.args.kept.now in
+    let geometry = of.kept_of.keeps.geometry in
+    let to = c.floor-floor.ensures ∙ floor_is kept W of.kept_of c.last.result c.last.ensures in
+    let plan : FillPlan = record { geometry = record kept.geometry { form = c.args.form }; generation = kept.generation + 1; old_base = kept.base; base = c.floor-floor.result; used = c.used.result } in
+    let there : c.half_place-to.result ≡ place_of W.geometry (1 - kept.half) = c.half_place-to.ensures ∙ (λ i. place_of (record (geometry i) { form = c.args.form }) (1 - kept.half)) in
+    let copied = copies kept W c.args.form of.kept_of fits plan c.half_place-from.result refl refl c.if-kept-ge-LAST.false refl to c.used.ensures c.half_place-from.ensures in
+    let run = c.refill.ensures.moments W.geometry (half_of_world W kept.half) (1 - kept.half) (both kept W c.args.form of.kept_of fits) there copied of.images.each in
+    weakened run (λ image x. form_either kept W c.args.form of.kept_of fits image (either_half kept W c.args.form of.kept_of fits plan refl refl to image x))
 
 pub returns-in-Err-Memory-clause-same : goal.returns-in-Err-Memory-clause-same
 returns-in-Err-Memory-clause-same g c W of fits other =
@@ -169,7 +195,7 @@ returns-in-Err-Memory-clause-same g c W of fits other =
     let there : c.half_place-to.result ≡ place_of W.geometry (1 - kept.half) = c.half_place-to.ensures ∙ (λ i. place_of (record (geometry i) { form = c.args.form }) (1 - kept.half)) in
     let copied = copies kept W c.args.form of.kept_of fits plan c.half_place-from.result refl refl c.if-kept-ge-LAST.false refl to c.used.ensures c.half_place-from.ensures in
     let run = c.refill.ensures.moments W.geometry (half_of_world W kept.half) (1 - kept.half) (both kept W c.args.form of.kept_of fits) there copied of.images.each in
-    let shown = weakened run (λ image x. shows_both kept W c.args.form of.kept_of fits next image (elim x [ inl before ↦ inl before | inr after ↦ inr (new_half kept W c.args.form of.kept_of fits plan refl refl to image after) ])) in
+    let shown = weakened run (λ image x. shows_both kept W c.args.form of.kept_of fits next image (either_half kept W c.args.form of.kept_of fits plan refl refl to image x)) in
     record {
       kept_of = of.kept_of;
       is_down = of.is_down;
@@ -191,8 +217,19 @@ returns-in-Err-Disk-clause-moments g c W of fits =
     let there : c.half_place-to.result ≡ place_of W.geometry (1 - kept.half) = c.half_place-to.ensures ∙ (λ i. place_of (record (geometry i) { form = c.args.form }) (1 - kept.half)) in
     let copied = copies kept W c.args.form of.kept_of fits plan c.half_place-from.result refl refl c.if-kept-ge-LAST.false refl to c.used.ensures c.half_place-from.ensures in
     let run = c.refill.ensures.moments W.geometry (half_of_world W kept.half) (1 - kept.half) (both kept W c.args.form of.kept_of fits) there copied of.images.each in
-    let shown = weakened run (λ image x. shows_both kept W c.args.form of.kept_of fits next image (elim x [ inl before ↦ inl before | inr after ↦ inr (new_half kept W c.args.form of.kept_of fits plan refl refl to image after) ])) in
+    let shown = weakened run (λ image x. shows_both kept W c.args.form of.kept_of fits next image (either_half kept W c.args.form of.kept_of fits plan refl refl to image x)) in
     shown
+
+pub returns-in-Err-Disk-clause-form : goal.returns-in-Err-Disk-clause-form
+returns-in-Err-Disk-clause-form g c W of fits =
+    let kept = c.args.kept.now in
+    let geometry = of.kept_of.keeps.geometry in
+    let to = c.floor-floor.ensures ∙ floor_is kept W of.kept_of c.last.result c.last.ensures in
+    let plan : FillPlan = record { geometry = record kept.geometry { form = c.args.form }; generation = kept.generation + 1; old_base = kept.base; base = c.floor-floor.result; used = c.used.result } in
+    let there : c.half_place-to.result ≡ place_of W.geometry (1 - kept.half) = c.half_place-to.ensures ∙ (λ i. place_of (record (geometry i) { form = c.args.form }) (1 - kept.half)) in
+    let copied = copies kept W c.args.form of.kept_of fits plan c.half_place-from.result refl refl c.if-kept-ge-LAST.false refl to c.used.ensures c.half_place-from.ensures in
+    let run = c.refill.ensures.moments W.geometry (half_of_world W kept.half) (1 - kept.half) (both kept W c.args.form of.kept_of fits) there copied of.images.each in
+    weakened run (λ image x. form_either kept W c.args.form of.kept_of fits image (either_half kept W c.args.form of.kept_of fits plan refl refl to image x))
 
 pub returns-in-Err-Disk-clause-unworn : goal.returns-in-Err-Disk-clause-unworn
 returns-in-Err-Disk-clause-unworn g c W answer of fits failed =
@@ -210,7 +247,7 @@ returns-in-Err-Disk-clause-lost g c W of fits failed =
     let there : c.half_place-to.result ≡ place_of W.geometry (1 - kept.half) = c.half_place-to.ensures ∙ (λ i. place_of (record (geometry i) { form = c.args.form }) (1 - kept.half)) in
     let copied = copies kept W c.args.form of.kept_of fits plan c.half_place-from.result refl refl c.if-kept-ge-LAST.false refl to c.used.ensures c.half_place-from.ensures in
     let run = c.refill.ensures.moments W.geometry (half_of_world W kept.half) (1 - kept.half) (both kept W c.args.form of.kept_of fits) there copied of.images.each in
-    let shown = weakened run (λ image x. shows_both kept W c.args.form of.kept_of fits next image (elim x [ inl before ↦ inl before | inr after ↦ inr (new_half kept W c.args.form of.kept_of fits plan refl refl to image after) ])) in
+    let shown = weakened run (λ image x. shows_both kept W c.args.form of.kept_of fits next image (either_half kept W c.args.form of.kept_of fits plan refl refl to image x)) in
     record {
       kept_of = down_on kept W true of.kept_of;
       is_down = refl;

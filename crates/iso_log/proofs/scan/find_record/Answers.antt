@@ -1,12 +1,10 @@
 use Rattle.std.proofs.Common.{◌≡◌, ◌+◌, ◌≤◌, ◌<◌, ◌^◌, ℕ, List, length, take, get_or, arith, ap, sym, ◌∙◌, subst}
-use Rattle.std.proofs.lemmas.List.{length-take-le}
 use Rattle.iso_disk.proofs.Images.{length-contents}
 use Rattle.iso_disk.proofs.Moments.{joined_unwritten}
 use Rattle.iso_format.specs.declared.format_error.FormatError.TheVariants.{Short}
 use Rattle.iso_format.specs.Records.{BeginsWith, Recorded, fault_of, record_window, recorded}
 use Rattle.iso_log.specs.Scan.{IsNextRecord, StandAt}
-use Rattle.iso_log.proofs.Finds.{first_is, place_is, gate_later, cut_window, found_record, found_fault, no_head, no_body}
-use Rattle.iso_log.proofs.Offsets.{fault_below}
+use Rattle.iso_log.proofs.Finds.{fault_inside, first_is, place_is, gate_later, found_record, found_fault, no_head, no_body, test_before}
 use Rattle.iso_log.proofs.scan.find_record.Goals as goal
 
 pub returns-in-Ok-clause-unwritten : goal.returns-in-Ok-clause-unwritten
@@ -47,6 +45,16 @@ returns-then-from-window-clause-damaged g c at cause is image told =
       place_is = place_is c.args.gate (Short 8) c.damaged-then-from-window.result c.damaged-then-from-window.ensures at cause is;
     }
 
+pub returns-then-rest-lt-HEAD-clause-test : goal.returns-then-rest-lt-HEAD-clause-test
+returns-then-rest-lt-HEAD-clause-test g c at cause is =
+    let some = c.requires.some in
+    test_before c.args.gate (c.args.gate + c.args.rest) (Short 0) c.damaged.result c.damaged.ensures (omega (arith, some)) at cause is
+
+pub returns-then-from-window-clause-test : goal.returns-then-from-window-clause-test
+returns-then-from-window-clause-test g c at cause is =
+    let long = c.if-rest-lt-HEAD.false in
+    test_before c.args.gate (c.args.gate + c.args.rest) (Short 8) c.damaged-then-from-window.result c.damaged-then-from-window.ensures (omega (arith, long)) at cause is
+
 pub damaged-requires-in-Err : goal.damaged-requires-in-Err
 damaged-requires-in-Err g c =
     let b : List ℕ = c.ask.new.self in
@@ -56,11 +64,21 @@ damaged-requires-in-Err g c =
     let window : c.record_window-window.result ≡ record_window b = c.record_window-window.ensures ∙ ap record_window c.as_slice-bytes.ensures in
     let enough : record_window b ≤ length more = omega (arith, window, c.in_ok-ask-2.ensures.enough) in
     let cut : c.split_at.result.0.now ≡ take (record_window b) more = c.split_at.ensures.front ∙ (λ i. take (window i) (c.as_slice.ensures i)) in
-    let size : length (take (record_window b) more) ≡ record_window b = length-take-le (record_window b) more enough in
-    let same = cut_window b more c.ask-2.ensures.front long one enough in
-    let below = fault_below c.args.geometry.now c.args.number (take (record_window b) more) c.in-Err.fault (omega (arith, size, same)) (ap (fault_of c.args.geometry.now c.args.number) (sym cut) ∙ c.in-Err.ensures.fault) in
+    let below = fault_inside b more c.ask-2.ensures.front long one c.args.geometry.now c.args.number c.in-Err.fault enough (ap (fault_of c.args.geometry.now c.args.number) (sym cut) ∙ c.in-Err.ensures.fault) in
     let whole = g.met.D.Disk.size_fits c.args.disk.now in
-    omega (arith, below, size, enough, c.ask-2.ensures.within, c.requires.fits, whole)
+    omega (arith, below, enough, c.ask-2.ensures.within, c.requires.fits, whole)
+
+pub returns-in-Err-clause-test : goal.returns-in-Err-clause-test
+returns-in-Err-clause-test g c at cause is =
+    let b : List ℕ = c.ask.new.self in
+    let more : List ℕ = c.ask-2.new.self in
+    let long : 20 ≤ length b = omega (arith, c.in_ok-ask.ensures.enough, c.min.ensures, c.if-rest-lt-HEAD.false) in
+    let one : get_or b 0 0 ≡ 1 = ap (λ (l : List ℕ). get_or l 0 0) (sym c.as_slice-bytes.ensures) ∙ c.if-bytes-ne1.false in
+    let window : c.record_window-window.result ≡ record_window b = c.record_window-window.ensures ∙ ap record_window c.as_slice-bytes.ensures in
+    let enough : record_window b ≤ length more = omega (arith, window, c.in_ok-ask-2.ensures.enough) in
+    let cut : c.split_at.result.0.now ≡ take (record_window b) more = c.split_at.ensures.front ∙ (λ i. take (window i) (c.as_slice.ensures i)) in
+    let below = fault_inside b more c.ask-2.ensures.front long one c.args.geometry.now c.args.number c.in-Err.fault enough (ap (fault_of c.args.geometry.now c.args.number) (sym cut) ∙ c.in-Err.ensures.fault) in
+    test_before c.args.gate (c.args.gate + c.args.rest) c.in-Err.fault c.damaged-in-Err.result c.damaged-in-Err.ensures (omega (arith, below, enough, c.ask-2.ensures.within)) at cause is
 
 pub returns-in-Ok-clause-found : goal.returns-in-Ok-clause-found
 returns-in-Ok-clause-found g c =

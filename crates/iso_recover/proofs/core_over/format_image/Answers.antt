@@ -4,8 +4,8 @@ use Rattle.iso_core.specs.Core.{StandsFor}
 use Rattle.iso_core.specs.Standing.{up}
 use Rattle.iso_recover.proofs.core_over.format_image.Goals as goal
 
-pub returns-in-Ok-over-clause-stands : goal.returns-in-Ok-over-clause-stands
-returns-in-Ok-over-clause-stands g c =
+pub returns-in-Ok-clause-stands : goal.returns-in-Ok-clause-stands
+returns-in-Ok-clause-stands g c =
     let (geometry, generation, is) = c.in-Ok.ensures.made in
-    subst (λ (W : World). StandsFor g.D.Disk.state c.in-Ok-over.core W up) (λ i. fresh (geometry i) (generation i) (empty_history c.args.geometry.now))
-    (c.in-Ok-over.ensures.stands (empty_history c.args.geometry.now) is.to is.size is.holds)
+    subst (λ (W : World). StandsFor g.D.Disk.state c.over.result W up) (λ i. fresh (geometry i) (generation i) (empty_history c.args.geometry.now))
+    (c.over.ensures.stands (empty_history c.args.geometry.now) is.to is.size is.holds)

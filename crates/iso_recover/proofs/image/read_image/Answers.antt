@@ -1,6 +1,7 @@
 use Rattle.std.proofs.Common.{ℕ, sym, ◌∙◌, subst}
 use Rattle.iso_disk.proofs.Moments.{stays_settled}
 use Rattle.iso_recover.specs.Front.{IsFront}
+use Rattle.iso_recover.specs.Shape.{IsShaped}
 use Rattle.iso_recover.proofs.Opens.{base_of, opens_to, settled_ok, told_history}
 use Rattle.iso_recover.proofs.image.read_image.Goals as goal
 
@@ -23,5 +24,8 @@ returns-in-Ok-read_log-clause-opened g c =
         told_front = λ image told_is. c.in-Ok.ensures.told image (sym all ∙ told_is);
         told_log = λ image told_is. logs image (sym same ∙ told_is);
         settled = settled;
-      }),
+      }) c.in-Ok-new.buffer,
     )
+
+pub returns-in-Err-read_log-clause-shape : goal.returns-in-Err-read_log-clause-shape
+returns-in-Err-read_log-clause-shape g c = subst (λ (n : ℕ). IsShaped n c.in-Err-read_log.error) c.read_front.ensures.unwritten.moments.same_size c.in-Err-read_log.ensures.shape

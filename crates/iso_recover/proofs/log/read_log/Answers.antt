@@ -3,6 +3,7 @@ use Rattle.iso_disk.proofs.Moments.{joined_unwritten}
 use Rattle.iso_log.specs.Scan.{IsNextRecord}
 use Rattle.iso_refusal.specs.Refusal.{told_first}
 use Rattle.version_read.specs.Parts.{HasTaken, MayTake, part_of}
+use Rattle.iso_recover.specs.Shape.{IsShaped}
 use Rattle.iso_recover.proofs.Steps.{below, blames_call, blames_memory, blames_none, few, gate_fits, goes_on_reading, grows, lies, may, reads_end, refuses_now, some_left, stands_now, starts_reading}
 use Rattle.iso_recover.proofs.log.read_log.Goals as goal
 
@@ -55,6 +56,9 @@ pub returns-in-Err-clause-refused : goal.returns-in-Err-clause-refused
 returns-in-Err-clause-refused g c test =
     refuses_now c.args.front.now (g.D.Disk.state c.args.disk.now) (g.D.Disk.state c.loop-i.disk) (g.met.D.Disk.lawful c.args.disk.now) c.loop-i.log c.loop-i.index c.loop-i.ahead c.requires c.loop-i.invariant.reading
     c.in-Err.error (c.in-Err.ensures.damaged test)
+
+pub returns-in-Err-clause-shape : goal.returns-in-Err-clause-shape
+returns-in-Err-clause-shape g c = subst (λ (n : ℕ). IsShaped n c.in-Err.error) c.loop-i.invariant.reading.unwritten.moments.same_size c.in-Err.ensures.shape
 
 pub returns-in-Err-clause-unwritten : goal.returns-in-Err-clause-unwritten
 returns-in-Err-clause-unwritten g c = joined_unwritten (g.met.D.Disk.lawful c.loop-i.disk) c.loop-i.invariant.reading.unwritten c.scan_on.ensures.unwritten

@@ -3,7 +3,9 @@ use Rattle.iso_log.specs.Extent.{next_place}
 use Rattle.iso_refusal.specs.declared.open_error.OpenError.{OpenError}
 use Rattle.iso_recover.specs.Cause.{IsTest}
 use Rattle.iso_recover.specs.Scanned.{IsDamagedBy}
+use Rattle.iso_recover.specs.Shape.{IsShaped}
 use Rattle.iso_recover.proofs.Scans.{damaged_by}
+use Rattle.iso_recover.proofs.Shapes.{opening_shaped}
 use Rattle.iso_recover.proofs.scan.scan_on.Goals as goal
 
 pub returns-in-Err-clause-damaged : goal.returns-in-Err-clause-damaged
@@ -11,3 +13,9 @@ returns-in-Err-clause-damaged g c test image told =
     subst (λ (e : OpenError). IsDamagedBy c.args.geometry.now (next_place c.args.log.now) (c.args.log.now.room - c.args.log.now.used) (c.args.log.now.last + 1) e image) (sym c.opening.ensures)
     (damaged_by c.in-Err.error c.args.geometry.now (next_place c.args.log.now) (c.args.log.now.room - c.args.log.now.used) (c.args.log.now.last + 1) image
     (λ at cause is. c.in-Err.ensures.damaged at cause is image told) (subst IsTest c.opening.ensures test))
+
+pub returns-in-Err-clause-shape : goal.returns-in-Err-clause-shape
+returns-in-Err-clause-shape g c =
+    let size = (g.D.Disk.state c.args.disk.now).size in
+    subst (IsShaped (g.D.Disk.state c.args.disk.now).size) (sym c.opening.ensures)
+    (opening_shaped c.in-Err.error size (c.args.log.now.place + c.args.log.now.room) c.requires.fits c.in-Err.ensures.test)

@@ -1,8 +1,10 @@
-use Rattle.std.proofs.Common.{◌≡◌, length, take, arith, sym, ◌∙◌}
+use Rattle.std.proofs.Common.{◌≡◌, ℕ, length, take, arith, sym, ◌∙◌, subst}
 use Rattle.iso_disk.proofs.Images.{length-contents}
 use Rattle.iso_format.specs.Reading.{super_of}
 use Rattle.iso_recover.specs.Front.{super_refusal}
+use Rattle.iso_recover.specs.Shape.{IsShaped}
 use Rattle.iso_recover.proofs.Fronts.{err_weaker, refused_short, refused_super}
+use Rattle.iso_recover.proofs.Shapes.{super_shaped}
 use Rattle.iso_recover.proofs.superblock.read_geometry.Goals as goal
 
 pub returns-then-have-lt64-clause-refused : goal.returns-then-have-lt64-clause-refused
@@ -16,3 +18,10 @@ returns-clause-refused g c =
     let size : c.size-have.result ≡ length image = c.size-have.ensures ∙ sym (length-contents (g.met.D.Disk.lawful c.args.disk.now) image told) in
     let block : c.read_bytes.new.into ≡ take 64 image = c.in_default.ensures.told image told in
     refused_super image e (omega (arith, size, c.if-have-lt64.false)) (sym (λ i. super_refusal (size i) (super_of (block i))) ∙ fails)) c.tested_geometry.ensures.refused
+
+pub returns-in-Err-clause-shape : goal.returns-in-Err-clause-shape
+returns-in-Err-clause-shape g c = subst (IsShaped (g.D.Disk.state c.args.disk.now).size) (sym c.in-Err.ensures.only) tt
+
+pub returns-clause-shape : goal.returns-clause-shape
+returns-clause-shape g c =
+    err_weaker c.tested_geometry.result (λ e fails. subst (λ (n : ℕ). IsShaped n e) c.size-have.ensures (super_shaped c.size-have.result c.read_bytes.new.into e fails)) c.tested_geometry.ensures.refused

@@ -18,7 +18,7 @@ returns-clause-notes c =
     above_from 0 c.args.number i xs c.self.invariant within
     (λ k lt d. (let h = c.place_after-place.ensures.before k lt d in rw same at h))
     (λ k le lt d. (let below : k < length c.as_slice.result.now = omega (arith, ap (length {A = Note}) same) in let h = c.place_after-place.ensures.after k le below d in rw same at h)) in
-    ap (λ (l : List Note). take (length l - i) (drop i l)) seen ∙ all ∙ from ∙ ap (above c.args.number) e
+    c.of.ensures ∙ ap (λ (l : List Note). take (length l - i) (drop i l)) seen ∙ all ∙ from ∙ ap (above c.args.number) e
 
 pub returns-clause-rising : goal.returns-clause-rising
 returns-clause-rising c =

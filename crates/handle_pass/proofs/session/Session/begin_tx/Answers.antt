@@ -1,6 +1,7 @@
 use Rattle.std.proofs.Common.{ap, subst, sym, ◌∙◌, ℕ, Some}
+use Rattle.conflict_rule.specs.declared.decision.Checked.{Checked}
 use Rattle.iso_shared.specs.declared.entry.Entry.TheVariants.{Begin}
-use Rattle.handle_pass.specs.Sessions.{own_of, Made}
+use Rattle.handle_pass.specs.Sessions.{checked_of, own_of, Made}
 use Rattle.handle_pass.proofs.Entering.{is_none, made_new, made_port, new_own}
 use Rattle.handle_pass.proofs.session.Session.begin_tx.Goals as goal
 
@@ -26,3 +27,6 @@ returns-in-Err-clause-did g c =
     let none = ap own_of (is_none s.tx (sym c.is_some.ensures ∙ c.if-is_some.false)) in
     let m = c.in-Err.ensures.err in
     (none, none, m.0, m.1, made_port g.O.Origin.start s c.begin.new.port _ c.requires.session m.2 c.in-Err.ensures.units)
+
+pub returns-in-Ok-clause-checked : goal.returns-in-Ok-clause-checked
+returns-in-Ok-clause-checked g c = ap checked_of c.attach.ensures ∙ ap (λ (k : Checked). k.upto) c.in-Ok.ensures.checked ∙ sym c.at-at.ensures

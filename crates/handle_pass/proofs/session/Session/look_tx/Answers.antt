@@ -1,5 +1,6 @@
 use Rattle.std.proofs.Common.{ap, sym, ◌∙◌}
-use Rattle.handle_pass.specs.Sessions.{own_in, own_of}
+use Rattle.conflict_rule.specs.declared.decision.Checked.{Checked}
+use Rattle.handle_pass.specs.Sessions.{checked_of, own_in, own_of}
 use Rattle.handle_pass.proofs.Entering.{is_none, made_new, made_port}
 use Rattle.handle_pass.proofs.session.Session.look_tx.Goals as goal
 
@@ -21,3 +22,6 @@ returns-in-None-clause-did g c =
     let s = c.args.self.now in
     let none = ap own_of (is_none s.tx (sym c.is_some.ensures ∙ c.if-is_some.false)) in
     (none, none, made_port g.O.Origin.start s c.look.new.port _ c.requires.session c.in-None.ensures.none c.in-None.ensures.units)
+
+pub returns-in-Some-clause-checked : goal.returns-in-Some-clause-checked
+returns-in-Some-clause-checked g c = ap checked_of c.attach.ensures ∙ ap (λ (k : Checked). k.upto) c.in-Some.ensures.checked ∙ sym c.at-at.ensures

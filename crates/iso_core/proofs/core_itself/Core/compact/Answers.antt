@@ -1,4 +1,5 @@
-use Rattle.std.proofs.Common.{◌≡◌, ◌⊎◌, ap, subst, ℕ, IfOk, IfErr}
+use Rattle.std.proofs.Common.{◌≡◌, ◌⊎◌, inl, inr, ap, subst, ℕ, IfOk, IfErr}
+use Rattle.iso_disk.proofs.Moments.{weakened}
 use Rattle.iso_model.specs.declared.access.Geometry.{Geometry}
 use Rattle.iso_model.specs.declared.core_error.CoreError.TheVariants.{Disk}
 use Rattle.iso_model.specs.declared.core_reply.CoreReply.{CoreReply}
@@ -7,6 +8,7 @@ use Rattle.iso_model.specs.World.{floor}
 use Rattle.iso_core.specs.Calls.{Refuses}
 use Rattle.iso_core.specs.Core.{AreOf}
 use Rattle.iso_core.specs.Standing.{up}
+use Rattle.iso_core.specs.Switching.{HasForm}
 use Rattle.iso_core.proofs.Plans.{own_form}
 use Rattle.iso_core.proofs.Standings.{up_of}
 use Rattle.iso_core.proofs.core_itself.Core.compact.Goals as goal
@@ -38,6 +40,14 @@ returns-clause-lost g c W of = c.switch_half.ensures.lost W of (own_form W c.arg
 
 pub returns-clause-moments : goal.returns-clause-moments
 returns-clause-moments g c W of = c.switch_half.ensures.moments W of (own_form W c.args.self.now.kept.geometry.form of.kept_of.world (ap (λ (h : Geometry). h.form) of.kept_of.keeps.geometry))
+
+pub returns-clause-form : goal.returns-clause-form
+returns-clause-form g c W of =
+    let same = ap (λ (h : Geometry). h.form) of.kept_of.keeps.geometry in
+    weakened (c.switch_half.ensures.form W of (own_form W c.args.self.now.kept.geometry.form of.kept_of.world same)) (λ image form. elim form [
+      | inl own ↦ own
+      | inr other ↦ subst (λ (n : ℕ). HasForm W n image) same other
+    ])
 
 pub returns-clause-unworn : goal.returns-clause-unworn
 returns-clause-unworn g c W answer of failed =

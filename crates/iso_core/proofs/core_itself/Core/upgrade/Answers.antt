@@ -22,5 +22,8 @@ returns-clause-lost g c W of = c.switch_half.ensures.lost W of (second_form W of
 pub returns-clause-moments : goal.returns-clause-moments
 returns-clause-moments g c W of = c.switch_half.ensures.moments W of (second_form W of.kept_of.world)
 
+pub returns-clause-form : goal.returns-clause-form
+returns-clause-form g c W of = c.switch_half.ensures.form W of (second_form W of.kept_of.world)
+
 pub returns-clause-unworn : goal.returns-clause-unworn
 returns-clause-unworn g c W answer of = c.switch_half.ensures.unworn W answer of (second_form W of.kept_of.world)

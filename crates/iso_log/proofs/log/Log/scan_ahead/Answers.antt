@@ -1,6 +1,6 @@
 use Rattle.std.proofs.Common.{◌≡◌, ◌+◌, ◌-◌, ◌++◌, ℕ, List, Err, take, drop, arith, ap, sym, ◌∙◌, subst}
 use Rattle.iso_log.specs.declared.log_error.LogError.TheVariants.{Damaged}
-use Rattle.iso_log.specs.Extent.{next_place}
+use Rattle.iso_log.specs.Extent.{Extent, next_place}
 use Rattle.iso_log.specs.Scan.{StandAt}
 use Rattle.iso_log.proofs.Finds.{error_is, damaged_here, stands_here}
 use Rattle.iso_log.proofs.Pieces.{stand_front, stand_behind}
@@ -11,6 +11,14 @@ returns-in-Err-clause-damaged g c at cause is image told =
     let same : c.in-Err.error ≡ Damaged at cause = error_is c.in-Err.error (Damaged at cause) is in
     damaged_here _ c.args.self.now c.self.view_is c.from.result c.from.ensures c.args.geometry.now at cause image
     (c.find_record.ensures.damaged at cause (c.in-Err.is ∙ (λ i. Err (same i))) image told)
+
+pub returns-in-Err-clause-test : goal.returns-in-Err-clause-test
+returns-in-Err-clause-test g c at cause is =
+    let same : c.in-Err.error ≡ Damaged at cause = error_is c.in-Err.error (Damaged at cause) is in
+    let test = c.find_record.ensures.test at cause (c.in-Err.is ∙ (λ i. Err (same i))) in
+    let view : (c.self.inside.place ≡ c.args.self.now.place) × (c.self.inside.used ≡ c.args.self.now.used) × (c.self.inside.room ≡ c.args.self.now.room) =
+    (ap (λ (e : Extent). e.place) c.self.view_is, ap (λ (e : Extent). e.used) c.self.view_is, ap (λ (e : Extent). e.room) c.self.view_is) in
+    record { inside = omega (arith, test.inside, c.from.ensures, view.0, view.1, view.2, c.requires.left); first = test.first; last = test.last }
 
 pub returns-clause-told : goal.returns-clause-told
 returns-clause-told g c on image told =

@@ -1,5 +1,6 @@
 use Rattle.std.proofs.Common.{inl, ◌≡◌, [], ◌∷◌, ◌++◌, ap, refl, sym, subst, arith, ◌∙◌, rules, None, ℕ, IsTrue}
 use Rattle.std.specs.Prelude.{unwrap_or}
+use Rattle.conflict_rule.specs.declared.decision.Checked.{Checked}
 use Rattle.iso_model.specs.declared.access.Mode.{Mode}
 use Rattle.iso_model.specs.Geometry.{is_block_size}
 use Rattle.turn_lock.proofs.Outs.{held_first}
@@ -93,3 +94,6 @@ returns-in-Ok-clause-tx g c =
       ap (λ (w : Doing). w.accesses) is,
       of ∙ mode ∙ ap (λ (m : Mode). unwrap_or c.args.named m) f.mode,
     )
+
+pub returns-in-Ok-clause-checked : goal.returns-in-Ok-clause-checked
+returns-in-Ok-clause-checked g c = ap (λ (k : ℕ). let x : Checked = record { upto = k; clash = None } in x) (sym (ap (λ (w : Doing). w.begin) c.begin.ensures))

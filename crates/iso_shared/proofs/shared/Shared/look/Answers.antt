@@ -47,3 +47,6 @@ returns-in-Some-clause-tx g c =
       search rules,
       search rules,
     )
+
+pub returns-in-Some-clause-checked : goal.returns-in-Some-clause-checked
+returns-in-Some-clause-checked g c = ap (λ (k : ℕ). let x : Checked = record { upto = k; clash = None } in x) c.begun_at-upto.ensures

@@ -1,0 +1,38 @@
+-- What the laws of legal lists speak of: commits that a list has told of, and transactions that came from under a label.
+use Rattle.std.specs.Prelude.{◌≡◌, ℕ, ◌≤◌, ◌==◌, Bool, false, List, ◌∷◌, ◌++◌, Option, Some, None, option_map}
+use Rattle.std.specs.List.{AllByRecursion}
+use Rattle.iso_model.specs.declared.access.EndReply.{EndReply}
+use Rattle.iso_model.specs.declared.access.EndReply.TheVariants.{Committed, ReadOnly, Conflict}
+use Rattle.iso_shared.specs.declared.entry.Entry.{Entry}
+use Rattle.iso_shared.specs.declared.entry.Entry.TheVariants as entry
+use Rattle.iso_shared.specs.declared.entry.Posting.{Posting}
+use Rattle.iso_shared.specs.States.{State, after_all, posting_of}
+
+-- a commit that is told of has this number at most
+abbrev pub IsReplyUpTo : ℕ → EndReply → Type 0
+IsReplyUpTo at (Committed k) = k ≤ at
+IsReplyUpTo at ReadOnly = Unit {0}
+IsReplyUpTo at (Conflict c) = Unit {0}
+
+abbrev pub CommitsUpTo : ℕ → Entry → Type 0
+CommitsUpTo at (entry.End n accesses reply) = IsReplyUpTo at reply
+CommitsUpTo at e = Unit {0}
+
+-- the entry takes the transaction of this number from under its label
+abbrev pub is_number : ℕ → Option ℕ → Bool
+is_number n None = false
+is_number n (Some k) = k == n
+
+abbrev pub takes_out : ℕ → Entry → Bool
+takes_out n (entry.Look label found) = is_number n (option_map (λ p. p.number) found)
+takes_out n (entry.Sweep found) = is_number n found
+takes_out n e = false
+
+-- The list, which begins at this state, has the post of the transaction under the label, with what it then was, and no
+-- entry behind that took it out.
+pub record WasPosted (S : State) (es : List Entry) (label : List ℕ) (p : Posting) : Type 0 where
+  pub before : List Entry
+  pub behind : List Entry
+  pub are : es ≡ before ++ entry.Post p.number label p.accesses ∷ behind
+  pub is : p ≡ posting_of (after_all S before).world p.number p.accesses
+  pub kept : AllByRecursion (λ e. takes_out p.number e ≡ false) behind
