@@ -11,7 +11,7 @@ use Rattle.store_model.specs.TreeCalls.{Scanned, scan_below, scan_program, with_
 use Rattle.tx_blocks.specs.Runs.{area_of}
 use Rattle.script_model.specs.declared.stop.Stop.{Stop}
 use Rattle.store_calls.specs.Calls.{HasCalled, Stops, replied}
-use Rattle.store_calls.proofs.Called.{called_ok, no_more, scanned_err, stops_scan}
+use Rattle.store_calls.proofs.Called.{no_more, scanned_err, stops_scan}
 use Rattle.store_calls.proofs.tree.scan.Goals as goal
 
 not_both : (x y z : Bool) → (x && y && z) ≡ false → z ≡ true → (x && y) ≡ false
