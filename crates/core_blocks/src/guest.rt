@@ -1,5 +1,5 @@
 // A transaction of a core, with all that is known of it.
-ghost use Rattle.std.specs.Prelude.{◌≡◌, ◌≤◌, OnOk, OnErr, cond, false, length, [], ◌∷◌};
+ghost use Rattle.std.specs.Prelude.{◌≡◌, ◌≢◌, ◌≤◌, Err, OnOk, OnErr, cond, false, length, [], ◌∷◌};
 ghost use Rattle.std.specs.Option.{ForSome};
 ghost use Rattle.iso_model.specs.Effect.{own};
 ghost use Rattle.iso_model.specs.Marks.{marked};
@@ -61,7 +61,7 @@ impl<D: Disk, K: Origin> Guest<'_, D, K> {
         ensures kept { OnErr result (self.new.tx ≡ self.old.tx) }
         ensures cause { IsRefused (access_refusal self.old.tx block) (IsFree (record { faults = self.old.faults; is_down = false }) (record { faults = self.new.faults; is_down = false })) result }
         ensures later { self.old.faults ≤ self.new.faults }
-        ensures passed { OnOk result (self.new.faults ≡ self.old.faults) }
+        ensures passed { result ≢ Err TxError.Disk → self.new.faults ≡ self.old.faults }
         ensures limits { IsTx self.new.tx }
     {
         if block >= self.work.blocks() {

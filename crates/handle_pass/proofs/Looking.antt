@@ -1,5 +1,5 @@
 -- How one call on a session's transaction answers a store.
-use Rattle.std.proofs.Common.{◌≡◌, ℕ, ◌<◌, ◌≤◌, Bool, true, false, not, if◌then◌else◌, List, [], ◌∷◌, ◌++◌, Option, Some, None, Result, Ok, Err, length, nat_le, inl, inr, refl, sym, ap, ◌∙◌, subst, arith}
+use Rattle.std.proofs.Common.{◌≡◌, ◌≢◌, ℕ, ◌<◌, ◌≤◌, Bool, true, false, not, if◌then◌else◌, List, [], ◌∷◌, ◌++◌, Option, Some, None, Result, Ok, Err, length, nat_le, inl, inr, refl, sym, ap, ◌∙◌, subst, arith}
 use Rattle.std.specs.Prelude.{is_some}
 use Rattle.std.proofs.lemmas.Bool.Decides.{nat_tests}
 use Rattle.std.proofs.lemmas.List.{append-nil, length_push}
@@ -19,6 +19,7 @@ use Rattle.iso_shared.specs.declared.entry.Entry.TheVariants as entry
 use Rattle.iso_shared.specs.States.{Start}
 use Rattle.tx_table.specs.Work.{span_at}
 use Rattle.tx_blocks.specs.Tx.{Device, IsArrayOf, IsFree, IsLater, IsRefused, IsTx, Tx, access_refusal, with_accesses}
+use Rattle.tx_blocks.specs.Runs.{Passed}
 use Rattle.handle_pass.specs.declared.session.Session.{Session}
 use Rattle.handle_pass.specs.Accesses.{HasMarked, HasRead, HasWritten, IsReadCause, IsWriteCause, access_answer, accesses_of, mark_answer, tx_on, with_access}
 use Rattle.handle_pass.specs.Looks.{Looked, Marked, Unlooked, Wrote, down_in, failed_in, failures_in}
@@ -71,9 +72,21 @@ abbrev first_device : Device
 first_device = record { faults = 0; is_down = false }
 
 read_free : (e : TxError) → IsReadCause e → IsFree first_device (after_read (Err e)) e
-read_free e (inl is) = subst (λ f. IsFree first_device (after_read (Err f)) f) (sym is) tt
+read_free e (inl is) = subst (λ f. IsFree first_device (after_read (Err f)) f) (sym is) refl
 read_free e (inr (inl is)) = subst (λ f. IsFree first_device (after_read (Err f)) f) (sym is) refl
 read_free e (inr (inr is)) = subst (λ f. IsFree first_device (after_read (Err f)) f) (sym is) (omega arith)
+
+-- no other refusal is a fault of the disk
+none_failed : (e : TxError) → ◌≢◌ {A = Result (Unit {0}) TxError} (Err e) (Err error.Disk) → failures_in (Err e) ≡ 0
+none_failed error.Disk other = absurd (other refl)
+none_failed error.Down other = refl
+none_failed error.Memory other = refl
+none_failed error.NotInTx other = refl
+none_failed error.BadBlock other = refl
+none_failed error.BadRange other = refl
+none_failed error.NoAccess other = refl
+none_failed error.TooManyMarks other = refl
+none_failed error.TooManyAccesses other = refl
 
 later_first : (d : Device) → IsLater first_device d
 later_first d = record { faults = omega arith; down = λ is. absurd (cc is) }
@@ -109,7 +122,7 @@ module _ {D O : Type 0} (A : Start) (before : Option (Session D O)) where
     cause = refused_as (access_answer A s block) IsReadCause (IsFree first_device (after_read (Err e))) (Err e)
         (λ f is here. subst (λ g. IsFree first_device (after_read g) f) (sym here) (read_free f is)) cause;
     later = later_first (after_read (Err e));
-    passed = tt;
+    passed = none_failed e;
     limits = limits_same (own s) (own t) same limits;
   }
 
@@ -126,7 +139,7 @@ module _ {D O : Type 0} (A : Start) (before : Option (Session D O)) where
         kept = tt;
         cause = refused_as (access_answer A s block) IsReadCause (IsFree first_device first_device) (Ok done) (λ f is here. absurd (no_error done f here)) cause;
         later = later_first first_device;
-        passed = refl;
+        passed = λ other. refl;
         limits = limits_of (own s) (own t) (few_more (own s) (own t) did.0 (read_access block) did.1 did.2 may.1) limits;
       }
 
@@ -320,21 +333,22 @@ module _ {D O : Type 0} (A : Start) (before : Option (Session D O)) where
   }
 
 -- reads that are refused, where a fetch was
-refusing : (v w : Seen) (block : ℕ) (e : TxError) → w.tx ≡ v.tx → IsLater v.device w.device → IsTx v.tx → IsRefused {T = Unit {0}} (access_refusal v.tx block) (IsFree v.device w.device) (Err e) → Unlooked v w block (Err e)
-refusing v w block e same later limits because = record {
-  fails = λ into. record { bytes = tt; read = tt; kept = same; cause = because; later = later; passed = tt; limits = subst IsTx (sym same) limits };
+refusing : (v w : Seen) (block : ℕ) (e : TxError) → w.tx ≡ v.tx → IsLater v.device w.device → IsTx v.tx → IsRefused {T = Unit {0}} (access_refusal v.tx block) (IsFree v.device w.device) (Err e)
+    → (◌≢◌ {A = Result (Unit {0}) TxError} (Err e) (Err error.Disk) → Passed v.device w.device) → Unlooked v w block (Err e)
+refusing v w block e same later limits because passed = record {
+  fails = λ into. record { bytes = tt; read = tt; kept = same; cause = because; later = later; passed = passed; limits = subst IsTx (sym same) limits };
 }
 
 itself_later : (d : Device) → IsLater d d
 itself_later d = record { faults = omega arith; down = λ is. is }
 
 pub refused_again : (v : Seen) (block : ℕ) (e : TxError) → IsTx v.tx → access_refusal v.tx block ≡ Some e → Unlooked v v block (Err e)
-refused_again v block e limits is = refusing v v block e refl (itself_later v.device) limits (subst (λ o. IsRefused {T = Unit {0}} o (IsFree v.device v.device) (Err e)) (sym is) refl)
+refused_again v block e limits is = refusing v v block e refl (itself_later v.device) limits (subst (λ o. IsRefused {T = Unit {0}} o (IsFree v.device v.device) (Err e)) (sym is) refl) (λ other. refl)
 
 pub down_again : (v : Seen) (block : ℕ) → IsTx v.tx → access_refusal v.tx block ≡ None → v.device.is_down ≡ true → Unlooked v v block (Err error.Down)
-down_again v block limits is down = refusing v v block error.Down refl (itself_later v.device) limits (subst (λ o. IsRefused {T = Unit {0}} o (IsFree v.device v.device) (Err error.Down)) (sym is) down)
+down_again v block limits is down = refusing v v block error.Down refl (itself_later v.device) limits (subst (λ o. IsRefused {T = Unit {0}} o (IsFree v.device v.device) (Err error.Down)) (sym is) down) (λ other. refl)
 
 pub disk_again : (v w : Seen) (block : ℕ) → IsTx v.tx → access_refusal v.tx block ≡ None → w.tx ≡ v.tx → w.device.is_down ≡ v.device.is_down → v.device.faults ≤ w.device.faults → Rose v.device.faults w.device.faults
     → Unlooked v w block (Err error.Disk)
 disk_again v w block limits is same down later rose =
-    refusing v w block error.Disk same (record { faults = later; down = λ d. down ∙ d }) limits (subst (λ o. IsRefused {T = Unit {0}} o (IsFree v.device w.device) (Err error.Disk)) (sym is) rose)
+    refusing v w block error.Disk same (record { faults = later; down = λ d. down ∙ d }) limits (subst (λ o. IsRefused {T = Unit {0}} o (IsFree v.device w.device) (Err error.Disk)) (sym is) rose) (λ other. absurd (other refl))

@@ -1,5 +1,5 @@
 -- What one call on a session's transaction makes of what is seen of it.
-use Rattle.std.specs.Prelude.{◌≡◌, ℕ, ◌||◌, Bool, true, false, List, [], ◌∷◌, Result, Ok, Err, OnOk, OnErr, nat_lt}
+use Rattle.std.specs.Prelude.{◌≡◌, ◌≢◌, ℕ, ◌||◌, Bool, true, false, List, [], ◌∷◌, Result, Ok, Err, OnOk, OnErr, nat_lt}
 use Rattle.std.specs.Option.{ForSome}
 use Rattle.store_model.specs.declared.stores.TxError.{TxError}
 use Rattle.store_model.specs.declared.stores.TxError.TheVariants as error
@@ -8,6 +8,7 @@ use Rattle.iso_model.specs.Marks.{marked}
 use Rattle.iso_model.specs.Premises.{block_at}
 use Rattle.store_model.specs.Stores.{look_access, store_access}
 use Rattle.tx_blocks.specs.Tx.{Device, IsFree, IsLater, IsRefused, IsTx, access_refusal, mark_refusal, with_accesses}
+use Rattle.tx_blocks.specs.Runs.{Passed}
 use Rattle.handle_pass.specs.Visits.{Seen}
 
 -- whether a fetch was refused
@@ -32,7 +33,7 @@ pub record Looked (old new : Seen) (block : ℕ) (result : Result (Unit {0}) TxE
   pub kept : OnErr result (new.tx ≡ old.tx)
   pub cause : IsRefused (access_refusal old.tx block) (IsFree old.device new.device) result
   pub later : IsLater old.device new.device
-  pub passed : OnOk result (new.device.faults ≡ old.device.faults)
+  pub passed : result ≢ Err error.Disk → Passed old.device new.device
   pub limits : IsTx new.tx
 
 -- one that is refused

@@ -26,7 +26,7 @@ use Rattle.iso_model.proofs.Bytes.{length-block_own}
 use Rattle.tx_blocks.specs.Tx.{Tx, Device, IsTx, with_accesses, room_of}
 use Rattle.tx_blocks.specs.Runs.{area_of, Ran, HasRun, HasEnded, Behaves, IsLocalCall}
 use Rattle.tx_blocks.proofs.Progress.{IsAt, at_start, at_then, at_look, at_store, at_reserve, ran_at, full_at_reserve, whole_run}
-use Rattle.tx_blocks.proofs.Refusals.{cut_then, later_same, read_none, store_cause}
+use Rattle.tx_blocks.proofs.Refusals.{cut_then, later_same, read_none}
 use Rattle.tx_blocks.proofs.Parts.{run_from, ended_from, refused_so}
 use Rattle.iso_hash.proofs.Changes.{put_is, del_is, put_local, del_local, HasBlocks, give_back_block, make_zero}
 use Rattle.iso_hash.specs.Walks.{HasWalked}
@@ -67,11 +67,6 @@ pub del_error : (a : Area) (key : List ℕ) (t u : Tx) (buffer : List ℕ) (e : 
 del_error a key t u buffer e is walked =
     subst (λ (p : Program (Result Bool StoreError)). HasRun p t u (Err e)) (sym (del_is a key is)) (walk_error a key (del_at a) t u buffer e (λ block. refl) walked)
 
--- a part with fewer writes behaves as one with more
-pub behaves_more : {R : Type 0} (t u : Tx) (few many : ℕ) (before now : Device) (result : Result R StoreError) → few ≤ many → Behaves t u few before now result → Behaves t u many before now result
-behaves_more t u few many before now (Ok x) le is = record { cause = tt; unwritten = tt; known = tt; later = is.later; passed = is.passed }
-behaves_more t u few many before now (Err e) le is = record { cause = store_cause u few many before now e le is.cause; unwritten = is.unwritten; known = is.known; later = is.later; passed = tt }
-
 -- the blocks of the array that the transaction shows
 blocks_in : (a : Area) (t : Tx) (A : Array) → IsTx t → t.size ≡ a.size → a.start + a.blocks ≤ t.blocks → t.base ≡ Some A → HasBlocks a (own A t.accesses)
 blocks_in a t A is size fits told k below = length-block_own A t.accesses (a.start + k) ∙ (is.base A told).bytes (a.start + k) (omega arith) ∙ size
@@ -98,7 +93,7 @@ pub reserve_refused : {X : Type 0} (count : ℕ) (rest : Program (Result X Store
 reserve_refused {X = X} count rest t d e small is =
     subst (λ (f : TxError). HasRun (Reserve count rest) t t (Err (store.Tx f)) × Behaves {R = X} t t count d d (Err (store.Tx f))) (sym is.0) (
       full_at_reserve (Reserve count rest) count rest t t t (at_start (Reserve count rest) t) refl is.1,
-      refused_so t t count d d (store.Tx error.TooManyAccesses) (read_none t) (omega (arith, is.1)) (λ x. cc, λ x. cc) (later_same d d refl),
+      refused_so t t count d d (store.Tx error.TooManyAccesses) (read_none t) (omega (arith, is.1), refl) (λ x. cc, λ x. cc) (later_same d d refl),
     )
 
 -- the room after a write

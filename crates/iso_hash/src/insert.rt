@@ -90,7 +90,7 @@ pub fn put<T: TxBlocks>(
     ensures bad_key { result ≡ Err StoreError.BadKey ↔ IsFalse (is_key key.now) }
     ensures bad_value { result ≡ Err StoreError.BadValue ↔ (IsTrue (is_key key.now) × IsFalse (is_value value.now)) }
     ensures cause { IfErr result (IsStoreCause (T.state tx.new) 3 (T.device tx.old) (T.device tx.new)) }
-    ensures unwritten { IfErr result (IsUnwritten (T.state tx.old) (T.state tx.new)) }
+    ensures unwritten { IfErr result (IsUnwritten (T.state tx.old) (T.state tx.new) 3) }
     ensures later { IsLater (T.device tx.old) (T.device tx.new) }
     ensures passed { OnOk result ((T.device tx.new).faults ≡ (T.device tx.old).faults) }
 {

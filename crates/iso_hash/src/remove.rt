@@ -70,7 +70,7 @@ pub fn del<T: TxBlocks>(
     ensures local { IfOk result (IsLocalCall (IsHashRegion (area_of (T.state tx.old) region)) (hash_map (area_of (T.state tx.old) region)) (del_op key.now) (T.state tx.old) (T.state tx.new)) }
     ensures bad_key { result ≡ Err StoreError.BadKey ↔ IsFalse (is_key key.now) }
     ensures cause { IfErr result (IsStoreCause (T.state tx.new) 2 (T.device tx.old) (T.device tx.new)) }
-    ensures unwritten { IfErr result (IsUnwritten (T.state tx.old) (T.state tx.new)) }
+    ensures unwritten { IfErr result (IsUnwritten (T.state tx.old) (T.state tx.new) 2) }
     ensures later { IsLater (T.device tx.old) (T.device tx.new) }
     ensures passed { OnOk result ((T.device tx.new).faults ≡ (T.device tx.old).faults) }
 {

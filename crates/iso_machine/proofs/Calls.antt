@@ -11,16 +11,16 @@ use Rattle.store_calls.specs.Calls.{Stops}
 abbrev pub device : ℕ → Device
 device faults = record { faults = faults; is_down = false }
 
--- the disk did not fail
-pub blames : (failures before now : ℕ) (r : Result Reply Stop) → Counts failures before now → failures ≡ 0 → Stops (device 0) (device failures) r → BlamesDisk before now r
-blames failures before now (Ok r) counts none stops =
-    record { later = counts.later; failed = λ e. absurd (cc e); passed = counts.none none; memory = λ e. absurd (cc e) }
-blames failures before now (Err e) counts none stops =
-    record { later = counts.later; failed = λ is. absurd (omega (arith, stops.disk is, none)); passed = tt; memory = λ is. counts.none none }
-
--- it failed
-pub blames_failed : (failures before now : ℕ) → Counts failures before now → 0 < failures → BlamesDisk before now (Err stop.Disk)
-blames_failed failures before now counts some = record { later = counts.later; failed = λ e. counts.some some; passed = tt; memory = λ e. absurd (cc e) }
+-- why it has no reply
+pub blames : (failures before now : ℕ) (r : Result Reply Stop) → Counts failures before now → Stops (device 0) (device failures) r → BlamesDisk before now r
+blames failures before now (Ok r) counts stops =
+    record { later = counts.later; failed = λ e. absurd (cc e); passed = counts.none (stops.passed (λ e. cc e)); memory = λ e. absurd (cc e) }
+blames failures before now (Err stop.Disk) counts stops =
+    record { later = counts.later; failed = λ is. counts.some (let rose = stops.disk is in omega arith); passed = tt; memory = λ e. absurd (cc e) }
+blames failures before now (Err stop.Memory) counts stops =
+    record { later = counts.later; failed = λ e. absurd (cc e); passed = tt; memory = λ is. counts.none (stops.passed (λ e. cc e)) }
+blames failures before now (Err stop.Down) counts stops =
+    record { later = counts.later; failed = λ e. absurd (cc e); passed = tt; memory = λ e. absurd (cc e) }
 
 -- a guest's core is up
 pub stays_up : (failures : ℕ) (r : Result Reply Stop) → Stops (device 0) (device failures) r → ¬ IsErrOf r stop.Down

@@ -61,13 +61,9 @@ fn call_from<'a, D: Disk, K: Origin>(
     let Lent {
         core,
         work,
-        failures,
+        failures: _,
     } = blocks.leave();
     let _ = work.count();
-    if failures > 0 {
-        *answer = Err(Stop::Disk);
-        return Called { core, work };
-    }
     *answer = result;
     Called { core, work }
 }

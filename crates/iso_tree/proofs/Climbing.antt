@@ -1,5 +1,5 @@
 -- The way up, write by write.
-use Rattle.std.proofs.Common.{◌≡◌, ◌∙◌, sym, refl, ap, subst, ℕ, zero, suc, ◌+◌, ◌-◌, ◌*◌, ◌/◌, ◌<◌, ◌≤◌, ◌==◌, Bool, true, false, cond, nat_le, List, [], ◌∷◌, ◌++◌, length, take, drop, None, Result, arith, inl, inr, eq-eqb, ne_eqb, length-append}
+use Rattle.std.proofs.Common.{◌≡◌, ◌∙◌, sym, refl, ap, subst, ℕ, zero, suc, ◌+◌, ◌-◌, ◌*◌, ◌/◌, ◌<◌, ◌≤◌, ◌==◌, Bool, true, false, cond, nat_le, List, [], ◌∷◌, ◌++◌, length, take, drop, None, Result, Ok, arith, inl, inr, eq-eqb, ne_eqb, length-append}
 use Rattle.std.proofs.lemmas.Bool.Decides.{nat_tests}
 use Rattle.std.proofs.lemmas.List.{take_at, drop_at}
 use Rattle.iso_model.specs.declared.access.Access.{Access}
@@ -7,16 +7,16 @@ use Rattle.store_model.specs.declared.stores.Area.{Area}
 use Rattle.store_model.specs.declared.stores.StoreError.{StoreError}
 use Rattle.store_model.specs.declared.stores.TxError.{TxError}
 use Rattle.store_model.specs.Cells.{cell_count, keys_end, value_mark}
-use Rattle.store_model.specs.Stores.{Program, Store, bytes_in, store_access}
+use Rattle.store_model.specs.Stores.{Program, Done, Store, bytes_in, store_access}
 use Rattle.tx_blocks.specs.Tx.{Tx, Device, with_accesses, room_of}
 use Rattle.tx_blocks.specs.Runs.{HasRun, IsCut, IsCause}
 use Rattle.tx_blocks.proofs.Progress.{IsAt, at_start, at_store}
 use Rattle.tx_blocks.proofs.Refusals.{cut_at_store}
 use Rattle.tx_blocks.proofs.Parts.{run_from}
-use Rattle.store_model.specs.TreeNodes.{Cell, child_part, count_of, used_cells}
+use Rattle.store_model.specs.TreeNodes.{Cell, child_part, count_of, node_bytes, used_cells}
 use Rattle.iso_tree.specs.Rows.{key_in_row, row_from, nodes_from, IsUsable, AreUsable, AreInside, AreBlocks}
 use Rattle.store_model.specs.Trees.{Put, first_key, emptied, half, halves, fit}
-use Rattle.store_model.specs.TreeCalls.{Answer, Climb, climb, climb_on, full_row, need_of, placed}
+use Rattle.store_model.specs.TreeCalls.{Answer, Climb, climb, climb_on, full_row, need_of, placed, root_cells, store_nodes}
 use Rattle.iso_tree.proofs.Enough.{fits_one}
 use Rattle.iso_tree.proofs.Filling.{row_split, length-row}
 use Rattle.iso_tree.proofs.Fits.{length-cells}
@@ -86,6 +86,16 @@ module _ (b1 b2 : ℕ) (L R : List ℕ) (rest : Program Answer) (t u : Tx) (firs
 
 pub first_fails : (b1 : ℕ) (L : List ℕ) (rest : Program Answer) (t v : Tx) (before now : Device) (e : TxError) → v ≡ t → IsCause v 1 before now e → IsCut (Store b1 [] L rest) t v e
 first_fails b1 L rest t v before now e same cause = cut_at_store (Store b1 [] L rest) b1 [] L rest t t v before now e (at_start (Store b1 [] L rest) t) same cause
+
+-- the new root, past the old one
+pub root_run : (a : Area) (n : ℕ) (key : List ℕ) (level : ℕ) (new : Cell) (below i r : ℕ) (path : List (ℕ × ℕ)) (nodes news more bytes : List ℕ) (t u : Tx) (result : Result (Unit {0}) StoreError)
+    → path ≡ [] → news ≡ r ∷ more → bytes ≡ node_bytes a.size level (root_cells level below new) → HasRun {X = Unit {0}} (Store (a.start + r) [] bytes (Done (Ok tt))) t u result
+    → HasRun {X = Unit {0}} (store_nodes a (climb n key level new below (nodes_from a.size nodes i path) news).writes (Done (Ok tt))) t u result
+root_run a n key level new below i r path nodes news more bytes t u result none some are run =
+    let none_left : (climb n key level new below (nodes_from a.size nodes i path) news).writes ≡ (r, level, root_cells level below new) ∷ [] =
+    (λ j. (climb n key level new below (nodes_from a.size nodes i (none j)) (some j)).writes) in
+    subst (λ (ws : List (ℕ × ℕ × List Cell)). HasRun {X = Unit {0}} (store_nodes a ws (Done (Ok tt))) t u result) (sym none_left)
+    (subst (λ (b : List ℕ). HasRun {X = Unit {0}} (Store (a.start + r) [] b (Done (Ok tt))) t u result) are run)
 
 -- the room after an access
 pub room_after : (u v : Tx) (a : Access) → v ≡ with_accesses u (a ∷ []) → length v.accesses ≤ 4096 → room_of u ≡ suc (room_of v)

@@ -1,57 +1,20 @@
 -- A descent, step by step.
-use Rattle.std.proofs.Common.{◌≡◌, ◌∙◌, sym, refl, ap, subst, ℕ, zero, suc, ◌+◌, ◌≤◌, ◌&&◌, Bool, true, false, cond, List, [], ◌∷◌, ◌++◌, length, take, Option, None, Result, Ok, Err, IfOk, IfErr, arith}
+use Rattle.std.proofs.Common.{◌≡◌, ◌∙◌, sym, refl, subst, ℕ, zero, suc, ◌+◌, ◌&&◌, Bool, true, false, cond, List, [], ◌∷◌, take, Result, Ok, Err, IfOk, IfErr}
 use Rattle.store_model.specs.declared.stores.Area.{Area}
 use Rattle.store_model.specs.declared.stores.StoreError.{StoreError}
 use Rattle.store_model.specs.declared.stores.StoreError.TheVariants as store
-use Rattle.store_model.specs.declared.stores.TxError.{TxError}
-use Rattle.store_model.specs.declared.stores.TxError.TheVariants as error
-use Rattle.iso_model.specs.Effect.{own}
-use Rattle.store_model.specs.Stores.{Program, Done, Look, further_bytes, then_do, after, outcome}
+use Rattle.store_model.specs.Stores.{Program, Done, Look, further_bytes, then_do}
 use Rattle.store_model.specs.Cells.{keys_end, keys_mark}
-use Rattle.tx_blocks.specs.Tx.{Tx, Device, IsLater, with_accesses, room_of}
-use Rattle.tx_blocks.specs.Runs.{Ends, Ran, Stopped, IsCut, HasRun, HasRead, IsStoreCause}
-use Rattle.tx_blocks.proofs.Progress.{IsAt, at_then, ran_at, same_base, with_more}
-use Rattle.tx_blocks.proofs.Refusals.{cut_then, later_than, cause_earlier}
-use Rattle.tx_blocks.proofs.Parts.{read_join}
+use Rattle.tx_blocks.specs.Tx.{Tx, Device, IsLater}
+use Rattle.tx_blocks.specs.Runs.{Ran, IsCut, HasRun, HasRead}
+use Rattle.tx_blocks.proofs.Progress.{IsAt, at_then, ran_at}
+use Rattle.tx_blocks.proofs.Refusals.{cut_then, later_than, cause_since}
+use Rattle.tx_blocks.proofs.Parts.{cut_from, read_join}
 use Rattle.iso_tree.specs.declared.descent.Leaf.{Leaf}
 use Rattle.store_model.specs.TreeNodes.{is_node, is_child, child_of, count_of}
 use Rattle.store_model.specs.TreeCalls.{Descent, AtLeaf, AtBroken, descend, inner_further, leaf_further}
 use Rattle.iso_tree.specs.Walks.{IsWalkError, OnlyReads, child_program, leaf_program, HasDescended, HasReadLeaf}
 use Rattle.iso_tree.proofs.Looking.{at_as}
-
--- A part that is cut short cuts the call short.
-ends_from : {R : Type 0} (whole rest : Program R) (t u v : Tx) (end : Option R) → IsAt whole rest t u → Ends rest u v end → Ends whole t v end
-ends_from whole rest t u v end now ended = record {
-  done = now.done ++ ended.done;
-  is = ended.is ∙ ap (λ (w : Tx). with_accesses w ended.done) now.is ∙ with_more t now.done ended.done;
-  told = λ A told. now.told A told ∙ ap (after now.done) (ended.told A (same_base whole rest t u now ∙ told));
-}
-
-take_more : {X : Type 0} (xs ys : List X) (n : ℕ) → take (length xs + n) (xs ++ ys) ≡ xs ++ take n ys
-take_more [] ys n = let e : 0 + n ≡ n = omega arith in ap (λ (m : ℕ). take m ys) e
-take_more (x ∷ xs) ys n = let e : suc (length xs) + n ≡ suc (length xs + n) = omega arith in ap (λ (m : ℕ). take m (x ∷ (xs ++ ys))) e ∙ ap (λ rest. x ∷ rest) (take_more xs ys n)
-
-stopped_from : {R : Type 0} (whole rest : Program R) (t u v : Tx) → IsAt whole rest t u → Stopped rest u v → Stopped whole t v
-stopped_from whole rest t u v now stopped = record {
-  done = now.done ++ stopped.done;
-  is = stopped.is ∙ ap (λ (w : Tx). with_accesses w stopped.done) now.is ∙ with_more t now.done stopped.done;
-  told = λ A told.
-      let part = stopped.told A (same_base whole rest t u now ∙ told) in (
-        length now.done + part.0,
-        ap (λ xs. now.done ++ xs) part.1 ∙ sym (take_more now.done (outcome (room_of u) rest (own A u.accesses)).0 part.0) ∙ sym (ap (λ x. take (length now.done + part.0) x.0) (now.told A told)),
-      );
-}
-
-pub cut_from : {R : Type 0} (whole rest : Program R) (t u v : Tx) (e : TxError) → IsAt whole rest t u → IsCut rest u v e → IsCut whole t v e
-cut_from whole rest t u v error.TooManyAccesses now cut = ends_from whole rest t u v None now cut
-cut_from whole rest t u v error.Memory now cut = stopped_from whole rest t u v now cut
-cut_from whole rest t u v error.Down now cut = stopped_from whole rest t u v now cut
-cut_from whole rest t u v error.Disk now cut = stopped_from whole rest t u v now cut
-cut_from whole rest t u v error.NotInTx now cut = stopped_from whole rest t u v now cut
-cut_from whole rest t u v error.BadBlock now cut = cut
-cut_from whole rest t u v error.BadRange now cut = cut
-cut_from whole rest t u v error.NoAccess now cut = cut
-cut_from whole rest t u v error.TooManyMarks now cut = cut
 
 module _ (a : Area) (key : List ℕ) (with_value : Bool) where
   -- what follows a step, and the read of the leaf
@@ -147,14 +110,6 @@ module _ (a : Area) (key : List ℕ) (with_value : Bool) where
     leaf_any buffer (Ok leaf) here known ran = leaf_ends buffer leaf here ran
     leaf_any buffer (Err e) here known ran = leaf_refused path buffer e known ran
 
-cause_since : (u : Tx) (before mid now : Device) (e : StoreError) → before.faults ≤ mid.faults → IsStoreCause u 1 mid now e → IsStoreCause u 1 before now e
-cause_since u before mid now store.BadKey le cause = tt
-cause_since u before mid now store.BadValue le cause = tt
-cause_since u before mid now (store.NoBlocks need free) le cause = tt
-cause_since u before mid now (store.Broken block) le cause = tt
-cause_since u before mid now (store.Tx e) le cause = cause_earlier u 1 1 before mid now e (omega arith) le cause
-cause_since u before mid now store.Memory le cause = tt
-
 -- after reads that went well
 pub reads_after : {R : Type 0} (t u v : Tx) (before mid now : Device) (result : Result R StoreError) → HasRead t u → IsLater before mid → mid.faults ≡ before.faults → OnlyReads u v mid now result → OnlyReads t v before now result
 reads_after t u v before mid now (Ok x) read later passed is = record {
@@ -167,7 +122,7 @@ reads_after t u v before mid now (Ok x) read later passed is = record {
 }
 reads_after t u v before mid now (Err e) read later passed is = record {
   reads = read_join t u v read is.reads;
-  cause = cause_since v before mid now e (omega (arith, later.faults)) is.cause;
+  cause = cause_since v 1 before mid now e passed is.cause;
   known = is.known;
   later = later_than before mid now later is.later;
   passed = tt;

@@ -10,7 +10,7 @@ use Rattle.store_model.specs.HashCalls.{at_cell, is_key}
 use Rattle.store_model.specs.HashRegion.{get_op}
 use Rattle.tx_blocks.specs.Tx.{Tx}
 use Rattle.tx_blocks.specs.Runs.{Ran, IsCut, HasRun, IsLocalCall}
-use Rattle.tx_blocks.proofs.Progress.{at_start, at_then, ran_at, whole_run}
+use Rattle.tx_blocks.proofs.Progress.{IsAt, at_start, at_then, ran_at, whole_run}
 use Rattle.tx_blocks.proofs.Refusals.{cut_then}
 use Rattle.tx_blocks.proofs.Parts.{run_from}
 use Rattle.iso_tree.specs.declared.descent.Leaf.{Leaf}
@@ -35,11 +35,14 @@ head_same next root level start false = refl
 head_as : {X : Type 0} (a : Area) (next : ℕ → ℕ → Program (Result X StoreError)) → with_head a next ≡ then_do (head_program a) (after_head next)
 head_as a next = λ i. Look a.start head_mark (λ head. None) (λ head none. head_same next (word_at 0 head) (word_at 4 head) a.start (is_head a head) i)
 
--- root and level were read, and the rest ran
+-- root and level were read
+pub head_at : {X : Type 0} (a : Area) (next : ℕ → ℕ → Program (Result X StoreError)) (t u : Tx) (x : ℕ × ℕ) → Ran (head_program a) t u (Ok x) → IsAt (with_head a next) (next x.0 x.1) t u
+head_at a next t u x ran = at_then (with_head a next) (head_program a) (after_head next) t t u (Ok x) (at_as (with_head a next) _ _ t t (head_as a next) (at_start (with_head a next) t)) ran
+
+-- and the rest ran
 pub head_then : {X : Type 0} (a : Area) (next : ℕ → ℕ → Program (Result X StoreError)) (t u v : Tx) (x : ℕ × ℕ) (result : Result X StoreError) → Ran (head_program a) t u (Ok x) → HasRun (next x.0 x.1) u v result → HasRun (with_head a next) t v result
 head_then a next t u v x result ran rest =
-    run_from (with_head a next) (next x.0 x.1) t u v result
-    (at_then (with_head a next) (head_program a) (after_head next) t t u (Ok x) (at_as (with_head a next) _ _ t t (head_as a next) (at_start (with_head a next) t)) ran) rest
+    run_from (with_head a next) (next x.0 x.1) t u v result (head_at a next t u x ran) rest
 
 broken_head : {X : Type 0} (a : Area) (next : ℕ → ℕ → Program (Result X StoreError)) (t u : Tx) (e : StoreError) → Ran (head_program a) t u (Err e) → Ran (with_head a next) t u (Err e)
 broken_head a next t u e ran =

@@ -8,10 +8,10 @@ use Rattle.store_model.specs.declared.stores.StoreError.TheVariants as store
 use Rattle.store_model.specs.HashCalls.{at_cell, is_key, is_value}
 use Rattle.store_model.specs.Cells.{block_with, cell_count, keys_end, value_mark, value_part}
 use Rattle.store_model.specs.Stores.{Program, Done, Store, then_do}
-use Rattle.tx_blocks.specs.Tx.{Tx, Device}
-use Rattle.tx_blocks.specs.Runs.{Behaves, Ran, HasRead, HasRun, IsCut}
+use Rattle.tx_blocks.specs.Tx.{Tx}
+use Rattle.tx_blocks.specs.Runs.{Ran, HasRead, HasRun, IsCut}
 use Rattle.tx_blocks.proofs.Progress.{IsAt, at_start, at_then, ran_at}
-use Rattle.tx_blocks.proofs.Refusals.{cut_then, store_cause}
+use Rattle.tx_blocks.proofs.Refusals.{cut_then}
 use Rattle.tx_blocks.proofs.Parts.{run_from}
 use Rattle.iso_tree.specs.declared.descent.Leaf.{Leaf}
 use Rattle.iso_tree.specs.Rows.{AreShownUsable}
@@ -89,11 +89,6 @@ pub full_needs : (n leaf count : ℕ) (path : List (ℕ × ℕ)) → count ≡ n
 full_needs n leaf count path full =
     let one : full_row n ((leaf, count) ∷ path) ≡ suc (full_row n path) = ap (λ (t : Bool). cond t (suc (full_row n path)) 0) (eq-eqb count n full) in
     omega arith
-
--- a part with fewer writes behaves as one with more
-pub behaves_more : {R : Type 0} (t u : Tx) (few many : ℕ) (before now : Device) (result : Result R StoreError) → few ≤ many → Behaves t u few before now result → Behaves t u many before now result
-behaves_more t u few many before now (Ok x) le is = record { cause = tt; unwritten = tt; known = tt; later = is.later; passed = is.passed }
-behaves_more t u few many before now (Err e) le is = record { cause = store_cause u few many before now e le is.cause; unwritten = is.unwritten; known = is.known; later = is.later; passed = tt }
 
 -- arguments that are well formed, or are not
 pub put_run : (a : Area) (key value : List ℕ) (t u : Tx) (result : Result (Unit {0}) StoreError) → is_key key ≡ true → is_value value ≡ true → HasRun (with_head a (put_below_root a key value)) t u result → HasRun (put_program a key value) t u result

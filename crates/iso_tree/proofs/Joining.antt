@@ -16,7 +16,7 @@ use Rattle.store_model.specs.Stores.{Program, Done, bytes_in, look_access}
 use Rattle.std.specs.Option.{ForSome}
 use Rattle.tx_blocks.specs.Tx.{Tx, Device, with_accesses}
 use Rattle.tx_blocks.specs.Runs.{Ran, HasRead, HasRun, IsCause, IsCut}
-use Rattle.tx_blocks.proofs.Progress.{IsAt, at_look, at_start, ran_at}
+use Rattle.tx_blocks.proofs.Progress.{IsAt, at_join, at_look, at_start, ran_at}
 use Rattle.tx_blocks.proofs.Refusals.{cut_at_look, read_base}
 use Rattle.tx_blocks.proofs.Parts.{run_from}
 use Rattle.store_model.specs.TreeNodes.{Cell}
@@ -25,7 +25,6 @@ use Rattle.store_model.specs.TreeCalls.{Answer, climb, free_list, full_row, look
 use Rattle.store_model.specs.TreeRegion.{IsTreeArea}
 use Rattle.iso_tree.proofs.Enlarging.{all_taken, free_same, taken_same}
 use Rattle.iso_tree.proofs.Looking.{at_as}
-use Rattle.iso_tree.proofs.Rereading.{at_join}
 use Rattle.iso_tree.proofs.Taking.{AreTaken, taken_are}
 use Rattle.iso_tree.proofs.Usable.{shown_same}
 

@@ -12,7 +12,7 @@ use Rattle.iso_model.specs.Premises.{block_at}
 use Rattle.store_model.specs.Stores.{Program, Done, Look, bytes_in, further_bytes, with_further, look_access}
 use Rattle.store_model.specs.Cells.{keys_mark, value_mark, word_at}
 use Rattle.tx_blocks.specs.Tx.{Tx, Device, IsLater, with_accesses}
-use Rattle.tx_blocks.specs.Runs.{Ran}
+use Rattle.tx_blocks.specs.Runs.{Passed, Ran}
 use Rattle.iso_model.specs.Array.{Array}
 use Rattle.tx_blocks.proofs.Programs.{own_reads}
 use Rattle.tx_blocks.proofs.Progress.{own_append, IsAt, at_start, at_look, ran_at}
@@ -55,11 +55,11 @@ ok_read t v a before now x is read is_open later passed = record {
   is_open = ap (λ (w : Tx). w.is_open) is ∙ is_open;
 }
 
-pub broken_read : {R : Type 0} (t v : Tx) (a : Access) (before now : Device) (block : ℕ) → v ≡ with_accesses t (a ∷ []) → is_write a ≡ false → IsLater before now
+pub broken_read : {R : Type 0} (t v : Tx) (a : Access) (before now : Device) (block : ℕ) → v ≡ with_accesses t (a ∷ []) → is_write a ≡ false → IsLater before now → Passed before now
     → OnlyReads {R = R} t v before now (Err (store.Broken block))
-broken_read t v a before now block is read later = record {
+broken_read t v a before now block is read later passed = record {
   reads = read_more t t v a (read_none t) is read;
-  cause = tt;
+  cause = passed;
   known = tt;
   later = later;
   passed = tt;

@@ -242,10 +242,10 @@ module _ (a : Area) (area : IsTreeArea a) (A : Array) (region : IsTreeRegion a A
       blocks : taken ≡ p.taken ++ p.left
       blocks = put_blocks n cells key value level root taken
 
-      abbrev D1 : Array
-      D1 = stored a A p.writes
+      abbrev stored_below : Array
+      stored_below = stored a A p.writes
 
-      cells1 : cells_in a D1 ≡ written cells p.writes
+      cells1 : cells_in a stored_below ≡ written cells p.writes
       cells1 = stored_cells a p.writes A sizes.sized has.fits region.shape
 
       away1 : IsIn 0 (spots p.writes) → ⊥
@@ -267,16 +267,16 @@ module _ (a : Area) (area : IsTreeArea a) (A : Array) (region : IsTreeRegion a A
         all_taken : p.taken ≡ taken
         all_taken = sym (blocks ∙ ap (λ l. p.taken ++ l) left_none ∙ append-nil p.taken)
 
-        kept_tree : IsNewTree a A D1 key text taken level root
+        kept_tree : IsNewTree a A stored_below key text taken level root
         kept_tree =
             let rooted = same_root n level cells (written cells p.writes) root t key value taken p order is none in
             record {
               nodes = has.nodes;
               ordered = subst (λ (f : ℕ → List Cell). IsOrdered level [] None (tree_at f level root)) (sym cells1) rooted.ordered;
-              pairs = subst (λ (l : List (List ℕ × List ℕ)). IsGrown ((key, text) ∷ []) l (pairs_in level (tree_at (cells_in a D1) level root))) (sym pairs_are)
+              pairs = subst (λ (l : List (List ℕ × List ℕ)). IsGrown ((key, text) ∷ []) l (pairs_in level (tree_at (cells_in a stored_below) level root))) (sym pairs_are)
                   (subst (λ (f : ℕ → List Cell). IsGrown ((key, text) ∷ []) (pairs_in level t) (pairs_in level (tree_at f level root))) (sym cells1)
                   (subst (λ (x : List ℕ). IsGrown ((key, x) ∷ []) (pairs_in level t) (pairs_in level (tree_at (written cells p.writes) level root))) pair.spells rooted.pairs));
-              blocks = subst (λ (l : List ℕ). IsGrown taken l (nodes_in level (tree_at (cells_in a D1) level root))) (sym nodes_are)
+              blocks = subst (λ (l : List ℕ). IsGrown taken l (nodes_in level (tree_at (cells_in a stored_below) level root))) (sym nodes_are)
                   (subst (λ (f : ℕ → List Cell). IsGrown taken (nodes_in level t) (nodes_in level (tree_at f level root))) (sym cells1)
                   (subst (λ (l : List ℕ). IsGrown l (nodes_in level t) (nodes_in level (tree_at (written cells p.writes) level root))) all_taken rooted.nodes));
               past = root_past;
@@ -343,33 +343,33 @@ module _ (a : Area) (area : IsTreeArea a) (A : Array) (region : IsTreeRegion a A
         abbrev access : Rattle.iso_model.specs.declared.access.Access.Access
         access = store_access (a.start + r) [] (node_bytes a.size (suc level) rc)
 
-        abbrev D2 : Array
-        D2 = put D1 access
+        abbrev stored_all : Array
+        stored_all = put stored_below access
 
-        stored_is : stored a A (p.writes ++ w ∷ []) ≡ D2
+        stored_is : stored a A (p.writes ++ w ∷ []) ≡ stored_all
         stored_is = stored_append a A p.writes (w ∷ [])
 
-        shape1 : (j : ℕ) → j < a.blocks → length (block_at D1 (a.start + j)) ≡ a.size
+        shape1 : (j : ℕ) → j < a.blocks → length (block_at stored_below (a.start + j)) ≡ a.size
         shape1 = stored_in a A p.writes region.shape
 
-        here2 : block_at D2 (a.start + r) ≡ node_bytes a.size (suc level) rc
-        here2 = block_written a D1 r (suc level) rc sizes.sized row.fit row.few (shape1 r (are.below r r_in))
+        here2 : block_at stored_all (a.start + r) ≡ node_bytes a.size (suc level) rc
+        here2 = block_written a stored_below r (suc level) rc sizes.sized row.fit row.few (shape1 r (are.below r r_in))
 
-        kept2 : (j : ℕ) → IsIn j both → block_at D2 (a.start + j) ≡ block_at D1 (a.start + j)
-        kept2 j at = other_block D1 access (a.start + j) (λ e. not_r j at (omega arith))
+        kept2 : (j : ℕ) → IsIn j both → block_at stored_all (a.start + j) ≡ block_at stored_below (a.start + j)
+        kept2 j at = other_block stored_below access (a.start + j) (λ e. not_r j at (omega arith))
 
-        root_kept : AreNodes a D2 level root
-        root_kept = nodes_same a D1 D2 level root
+        root_kept : AreNodes a stored_all level root
+        root_kept = nodes_same a stored_below stored_all level root
             (λ j at. kept2 j (in_front j (nodes_in level t1) (nodes_in level t2 ++ []) (subst (λ (f : ℕ → List Cell). IsIn j (nodes_in level (tree_at f level root))) cells1 at))) has.nodes
 
-        half_kept : AreNodes a D2 level s.1
-        half_kept = nodes_same a D1 D2 level s.1
+        half_kept : AreNodes a stored_all level s.1
+        half_kept = nodes_same a stored_below stored_all level s.1
             (λ j at. kept2 j (in_back j (nodes_in level t1) (nodes_in level t2 ++ []) (in_front j (nodes_in level t2) [] (subst (λ (f : ℕ → List Cell). IsIn j (nodes_in level (tree_at f level s.1))) cells1 at)))) (has.second s split)
 
-        nodes2 : AreNodes a D2 (suc level) r
-        nodes2 = nodes_from a D2 (suc level) r rc (ap (used_cells a.size) here2 ∙ cells_are a.size (suc level) rc row.fit row.few)
+        nodes2 : AreNodes a stored_all (suc level) r
+        nodes2 = nodes_from a stored_all (suc level) r rc (ap (used_cells a.size) here2 ∙ cells_are a.size (suc level) rc row.fit row.few)
             (subst (IsNode a (suc level)) (sym here2) (row_is_node a (suc level) rc row (let l = level_small in omega arith)))
-            (subst (AreNodes a D2 level) (sym (named root below)) root_kept, (subst (AreNodes a D2 level) (sym (named s.1 (are.below s.1 s_in))) half_kept, tt))
+            (subst (AreNodes a stored_all level) (sym (named root below)) root_kept, (subst (AreNodes a stored_all level) (sym (named s.1 (are.below s.1 s_in))) half_kept, tt))
 
         fits2 : AllByRecursion (FitWrite a) (p.writes ++ w ∷ [])
         fits2 = all_append (FitWrite a) p.writes (w ∷ []) has.fits ((row.fit, row.few, are.below r r_in), tt)

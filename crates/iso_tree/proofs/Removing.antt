@@ -31,16 +31,17 @@ pub cut_at_whole : {R : Type 0} (whole : Program R) (b : ℕ) (next : List ℕ �
     → IsAt whole (LookWhole b next) t u → v ≡ u → IsCause v 1 before now e → IsCut whole t v e
 cut_at_whole whole b next t u v before now error.TooManyAccesses at same cause =
     let long : length v.accesses ≡ length u.accesses = ap (λ (w : Tx). length w.accesses) same in
+    let many = cause.0 in
     let none : room_of u ≡ 0 = omega arith in
     record {
       done = at.done;
       is = same ∙ at.is;
       told = λ A told. at.told A told ∙ ap (λ n. after at.done (outcome n (LookWhole b next) (own A u.accesses))) none ∙ ap (λ xs. (xs, None)) (append-nil at.done);
     }
-cut_at_whole whole b next t u v before now error.Memory at same cause = stopped_at whole (LookWhole b next) t u v at same
-cut_at_whole whole b next t u v before now error.Down at same cause = stopped_at whole (LookWhole b next) t u v at same
-cut_at_whole whole b next t u v before now error.Disk at same cause = stopped_at whole (LookWhole b next) t u v at same
-cut_at_whole whole b next t u v before now error.NotInTx at same cause = stopped_at whole (LookWhole b next) t u v at same
+cut_at_whole whole b next t u v before now error.Memory at same cause = stopped_at whole (LookWhole b next) t u v at same (λ A. omega arith)
+cut_at_whole whole b next t u v before now error.Down at same cause = stopped_at whole (LookWhole b next) t u v at same (λ A. omega arith)
+cut_at_whole whole b next t u v before now error.Disk at same cause = stopped_at whole (LookWhole b next) t u v at same (λ A. omega arith)
+cut_at_whole whole b next t u v before now error.NotInTx at same cause = stopped_at whole (LookWhole b next) t u v at same (λ A. omega arith)
 cut_at_whole whole b next t u v before now error.BadBlock at same cause = cause
 cut_at_whole whole b next t u v before now error.BadRange at same cause = cause
 cut_at_whole whole b next t u v before now error.NoAccess at same cause = cause

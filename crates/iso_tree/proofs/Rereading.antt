@@ -1,5 +1,5 @@
 -- The nodes of a put are read once more.
-use Rattle.std.proofs.Common.{◌≡◌, ◌∙◌, sym, refl, ap, subst, ℕ, suc, ◌+◌, ◌*◌, ◌≤◌, List, [], ◌∷◌, ◌++◌, length, map, take, drop, Some, Result, Ok, Err, OnOk, IfErr, arith, append_assoc}
+use Rattle.std.proofs.Common.{◌≡◌, ◌∙◌, sym, refl, ap, subst, ℕ, suc, ◌+◌, ◌*◌, ◌≤◌, List, [], ◌∷◌, ◌++◌, length, map, take, drop, Some, Result, Ok, Err, OnOk, IfErr, arith}
 use Rattle.std.proofs.lemmas.List.{take_at, take-take, length-take-le}
 use Rattle.iso_model.specs.declared.access.Access.{Access}
 use Rattle.store_model.specs.declared.stores.Area.{Area}
@@ -8,12 +8,12 @@ use Rattle.store_model.specs.declared.stores.TxError.{TxError}
 use Rattle.iso_model.specs.Array.{Array}
 use Rattle.iso_model.specs.Effect.{own}
 use Rattle.store_model.specs.Cells.{laid_at}
-use Rattle.store_model.specs.Stores.{Program, bytes_in, look_access, after}
+use Rattle.store_model.specs.Stores.{Program, bytes_in, look_access}
 use Rattle.iso_alloc.proofs.Laying.{laid_here}
 use Rattle.tx_blocks.specs.Tx.{Tx, Device, with_accesses}
-use Rattle.tx_blocks.specs.Runs.{Ran, IsCut, IsCause, HasRun}
+use Rattle.tx_blocks.specs.Runs.{Stopped, IsCut, IsCause, HasRun}
 use Rattle.tx_blocks.proofs.Programs.{own_reads}
-use Rattle.tx_blocks.proofs.Progress.{IsAt, at_start, at_look_whole, own_append, same_base, with_more}
+use Rattle.tx_blocks.proofs.Progress.{IsAt, at_join, at_start, at_look_whole, own_append}
 use Rattle.tx_blocks.proofs.Parts.{run_from}
 use Rattle.store_model.specs.TreeNodes.{Cell, used_cells}
 use Rattle.iso_tree.specs.Rows.{nodes_from, AreShownUsable, AreUsable, IsUsable}
@@ -30,15 +30,9 @@ pub map_err : {X E : Type 0} {P Q : E → Type 0} (r : Result X E) → ((e : E) 
 map_err (Ok x) f h = tt
 map_err (Err e) f h = f e h
 
--- one part after another
-pub at_join : {R : Type 0} (whole rest next : Program R) (t u v : Tx) → IsAt whole rest t u → IsAt rest next u v → IsAt whole next t v
-at_join whole rest next t u v now more = record {
-  done = now.done ++ more.done;
-  is = more.is ∙ ap (λ (w : Tx). with_accesses w more.done) now.is ∙ with_more t now.done more.done;
-  told = λ A told.
-      now.told A told ∙ ap (after now.done) (more.told A (same_base whole rest t u now ∙ told))
-      ∙ ap (λ xs. (xs, (Rattle.store_model.specs.Stores.outcome (Rattle.tx_blocks.specs.Tx.room_of v) next (own A v.accesses)).1)) (sym (append_assoc now.done more.done (Rattle.store_model.specs.Stores.outcome (Rattle.tx_blocks.specs.Tx.room_of v) next (own A v.accesses)).0));
-}
+-- no node is left
+pub none_again : (a : Area) (path : List (ℕ × ℕ)) (f : List (ℕ × List Cell) → Program Answer) (nodes : List ℕ) (i : ℕ) (t : Tx) → path ≡ [] → IsAt (look_again a (map (λ p. p.0) path) f) (f (nodes_from a.size nodes i path)) t t
+none_again a path f nodes i t none = subst (λ (ps : List (ℕ × ℕ)). IsAt (look_again a (map (λ p. p.0) ps) f) (f (nodes_from a.size nodes i ps)) t t) (sym none) (at_start (f []) t)
 
 module _ (a : Area) (block count : ℕ) (rest path : List (ℕ × ℕ)) (is : path ≡ (block, count) ∷ rest) (f : List (ℕ × List Cell) → Program Answer) where
   abbrev whole : Program Answer
@@ -76,8 +70,11 @@ pub never_told : (a : Area) (block count : ℕ) (rest path : List (ℕ × ℕ)) 
 never_told a block count rest path t bytes is usable are not A told =
     not (subst (λ (b : List ℕ). IsUsable a.size b count) (sym (are A told)) (subst (λ (p : List (ℕ × ℕ)). Rattle.iso_tree.specs.Rows.ArePathUsable a (own A t.accesses) p) is (usable A told)).0)
 
-pub broken_run : {R : Type 0} (p : Program R) (t u : Tx) (r : R) (a : Access) → u ≡ with_accesses t (a ∷ []) → ((A : Array) → t.base ≡ Some A → ⊥) → Ran p t u r
-broken_run p t u r a is never = record { done = a ∷ []; is = is; told = λ A told. absurd (never A told) }
+pub again_stopped : {R : Type 0} (p : Program R) (t u : Tx) (a : Access) → u ≡ with_accesses t (a ∷ []) → ((A : Array) → t.base ≡ Some A → ⊥) → Stopped p t u
+again_stopped p t u a is never = record {
+  began = record { done = a ∷ []; is = is; told = λ A told. absurd (never A told) };
+  fewer = λ A told. absurd (never A told);
+}
 
 -- what stands on the path is usable after a read too
 pub shown_after : (a : Area) (block count : ℕ) (rest path : List (ℕ × ℕ)) (t u : Tx) (b : ℕ) → path ≡ (block, count) ∷ rest → u ≡ with_accesses t (look_access b [] ∷ []) → AreShownUsable a t path → AreShownUsable a u rest

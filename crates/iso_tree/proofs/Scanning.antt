@@ -1,5 +1,5 @@
 -- A scan, node by node.
-use Rattle.std.proofs.Common.{◌≡◌, ◌∙◌, sym, refl, ap, subst, ℕ, zero, suc, ◌+◌, ◌-◌, ◌<◌, ◌&&◌, Bool, true, false, cond, List, [], ◌∷◌, ◌++◌, length, map, take, Result, Ok, Err, IfOk, arith, append_assoc, length-append, eq-eqb, ne_eqb}
+use Rattle.std.proofs.Common.{◌≡◌, ◌⊎◌, inl, inr, ◌∙◌, sym, refl, ap, subst, ℕ, zero, suc, ◌+◌, ◌-◌, ◌<◌, ◌&&◌, Bool, true, false, cond, List, [], ◌∷◌, ◌++◌, length, map, take, Result, Ok, Err, IfOk, arith, append_assoc, length-append, eq-eqb, ne_eqb}
 use Rattle.std.specs.List.{list_all, AllByRecursion}
 use Rattle.std.proofs.lemmas.Bool.{and_parts}
 use Rattle.std.proofs.lemmas.List.{append-nil}
@@ -14,11 +14,14 @@ use Rattle.store_model.specs.TreeNodes.{child_of, is_child, is_node}
 use Rattle.store_model.specs.TreeCalls.{and_then, first_in, many_in, pairs_with, parts_of, scan_below, scan_children, scan_from, scan_further, scan_program, with_head, Scanned}
 use Rattle.store_model.specs.TreeRegion.{scan_op, tree_map, IsTreeRegion}
 use Rattle.tx_blocks.specs.Tx.{Tx}
-use Rattle.tx_blocks.specs.Runs.{Ran, HasRun, IsLocalCall}
-use Rattle.tx_blocks.proofs.Progress.{IsAt, at_start, at_then, ran_at, stopped_at}
+use Rattle.tx_blocks.specs.Runs.{Ran, HasEnded, HasRun, IsLocalCall, WantsMemory}
+use Rattle.tx_blocks.proofs.Progress.{IsAt, at_start, at_then, began_at, ran_at}
+use Rattle.tx_blocks.proofs.Parts.{began_from, ended_from, run_from, scanned_ok}
 use Rattle.tx_blocks.proofs.Refusals.{cut_then}
 use Rattle.iso_tree.specs.declared.visit.Visit.{Visit}
-use Rattle.iso_tree.specs.Visits.{keys_of, node_read, scan_nodes, values_of, visit_program, AreIn, IsVisited}
+use Rattle.iso_tree.specs.Visits.{keys_of, node_read, scan_nodes, values_of, visit_program, AreIn, HasScanned, IsVisited}
+use Rattle.iso_tree.specs.Walks.{head_program}
+use Rattle.iso_tree.proofs.Getting.{head_at}
 use Rattle.iso_tree.proofs.Looking.{at_as}
 use Rattle.iso_tree.proofs.ScanCalls.{scan_call}
 use Rattle.iso_tree.proofs.Visiting.{children_in, inner_parts, parts_are}
@@ -170,10 +173,10 @@ module _ (a : Area) (from to : List ℕ) (level block : ℕ) (nodes : List (ℕ 
   wanted = omega arith
 
   -- the read of the node was refused
-  pub step_refused : (e : StoreError) → HasRun (visit_program a from to level block) t v (Err e) → HasRun whole t v (Err e)
-  step_refused e run =
-      subst (λ (p : Program Scanned). HasRun p t v (Err e)) (sym (next_as a from to level block nodes most found wanted))
-      (refused_then (visit_program a from to level block) (on_visit a from to level nodes most found) t v e (on_refusal a from to level nodes most found e) run)
+  pub step_refused : (e : StoreError) → HasRun (visit_program a from to level block) t v (Err e) → HasScanned whole t v (Err e)
+  step_refused e run = inl
+      (subst (λ (p : Program Scanned). HasRun p t v (Err e)) (sym (next_as a from to level block nodes most found wanted))
+      (refused_then (visit_program a from to level block) (on_visit a from to level nodes most found) t v e (on_refusal a from to level nodes most found e) run))
 
   module _ (bytes : List ℕ) (ran : Ran (visit_program a from to level block) t v (Ok (node_read a from to level bytes))) where
     at_read : IsAt whole (on_visit a from to level nodes most found (Ok (node_read a from to level bytes))) t v
@@ -181,9 +184,8 @@ module _ (a : Area) (from to : List ℕ) (level block : ℕ) (nodes : List (ℕ 
         (at_as whole whole _ t t (next_as a from to level block nodes most found wanted) (at_start whole t)) ran
 
     -- memory is wanting after it
-    pub step_memory : (e : StoreError) → e ≡ store.Tx error.Memory → HasRun whole t v (Err e)
-    step_memory e is =
-        subst (λ (x : StoreError). HasRun whole t v (Err x)) (sym is) (stopped_at whole (on_visit a from to level nodes most found (Ok (node_read a from to level bytes))) t v v at_read refl)
+    pub step_memory : (e : StoreError) → e ≡ store.Tx error.Memory → HasScanned whole t v (Err e)
+    step_memory e is = inr (ap (λ x. Err x) is, began_at whole (on_visit a from to level nodes most found (Ok (node_read a from to level bytes))) t v v at_read refl)
 
     module _ (visit : Visit) (is : IsVisited a from to level bytes visit) where
       abbrev parts : List (List ℕ)
@@ -209,6 +211,15 @@ module _ (a : Area) (from to : List ℕ) (level block : ℕ) (nodes : List (ℕ 
           at_as whole (on_visit a from to level nodes most found (Ok (node_read a from to level bytes))) (scan_nodes a from to unread (max - length found) found) t v
           (inner_rest a from to level (level - 1) nodes most found (node_read a from to level bytes) below ∙ ap (λ (us : List (ℕ × ℕ)). scan_nodes a from to us most found) same) at_read
 
+-- a part of a scan that ends the scan
+pub scanned_from : (whole rest : Program Scanned) (t u v : Tx) (result : Scanned) → IsAt whole rest t u → HasScanned rest u v result → HasScanned whole t v result
+scanned_from whole rest t u v result now (inl run) = inl (run_from whole rest t u v result now run)
+scanned_from whole rest t u v result now (inr wants) = inr (wants.0, began_from whole rest t u v now wants.1)
+
+-- root and level were read, and the rest is scanned
+pub head_scanned : (a : Area) (next : ℕ → ℕ → Program Scanned) (t u v : Tx) (x : ℕ × ℕ) (result : Scanned) → Ran (head_program a) t u (Ok x) → HasScanned (next x.0 x.1) u v result → HasScanned (with_head a next) t v result
+head_scanned a next t u v x result ran rest = scanned_from (with_head a next) (next x.0 x.1) t u v result (head_at a next t u x ran) rest
+
 -- THE WALK
 module _ (a : Area) (from to : List ℕ) (whole : Program Scanned) (t u : Tx) where
   -- no node is left, or as many pairs as are wanted are found
@@ -230,21 +241,19 @@ below_as a from to most root level some wanted =
     ∙ sym (ap (λ (b : Bool). cond b (Done (Ok [])) (scan_from a from to level root most)) (ne_eqb root 0 some))
 
 pub below_run : (a : Area) (from to : List ℕ) (most root level : ℕ) (t u : Tx) (result : Scanned) (nodes : List (ℕ × ℕ)) → (root ≡ 0 → ⊥) → 0 < most → nodes ≡ (level, root) ∷ []
-    → HasRun (scan_nodes a from to nodes most []) t u result → HasRun (scan_below a from to most root level) t u result
+    → HasScanned (scan_nodes a from to nodes most []) t u result → HasScanned (scan_below a from to most root level) t u result
 below_run a from to most root level t u result nodes some wanted is run =
-    subst (λ (p : Program Scanned). HasRun p t u result) (ap (λ (ns : List (ℕ × ℕ)). scan_nodes a from to ns most []) is ∙ below_as a from to most root level some wanted) run
+    subst (λ (p : Program Scanned). HasScanned p t u result) (ap (λ (ns : List (ℕ × ℕ)). scan_nodes a from to ns most []) is ∙ below_as a from to most root level some wanted) run
 
 pub below_empty : (a : Area) (from to : List ℕ) (most root level : ℕ) (t : Tx) → root ≡ 0 → Ran (scan_below a from to most root level) t t (Ok [])
 below_empty a from to most root level t none =
     let p = scan_below a from to most root level in
     ran_at p t t (Ok []) (at_as p p _ t t (ap (λ (b : Bool). cond b (Done (Ok [])) (scan_from a from to level root most)) (eq-eqb root 0 none)) (at_start p t))
 
-pub below_memory : (a : Area) (from to : List ℕ) (most root level : ℕ) (t : Tx) (e : StoreError) → e ≡ store.Tx error.Memory → HasRun (scan_below a from to most root level) t t (Err e)
-below_memory a from to most root level t e is =
-    let p = scan_below a from to most root level in
-    subst (λ (x : StoreError). HasRun p t t (Err x)) (sym is) (stopped_at p p t t t (at_start p t) refl)
+pub below_memory : (a : Area) (from to : List ℕ) (most root level : ℕ) (t : Tx) (e : StoreError) → e ≡ store.Tx error.Memory → HasScanned (scan_below a from to most root level) t t (Err e)
+below_memory a from to most root level t e is = let p = scan_below a from to most root level in inr (ap (λ x. Err x) is, began_at p p t t t (at_start p t) refl)
 
-pub scan_run : (a : Area) (from to : List ℕ) (most : ℕ) (t u : Tx) (result : Scanned) → (is_key from && is_key to) ≡ true → HasRun (with_head a (scan_below a from to most)) t u result → HasRun (scan_program a from to most) t u result
+pub scan_run : (a : Area) (from to : List ℕ) (most : ℕ) (t u : Tx) (result : Scanned) → (is_key from && is_key to) ≡ true → HasScanned (with_head a (scan_below a from to most)) t u result → HasScanned (scan_program a from to most) t u result
 unfolding scan_program
 scan_run a from to most t u result are run = rw are run
 
@@ -252,6 +261,13 @@ pub bad_keys : (a : Area) (from to : List ℕ) (most : ℕ) (t : Tx) → (is_key
 unfolding scan_program
 bad_keys a from to most t not = rw not (ran_at (Done (Err store.BadKey)) t t (Err store.BadKey) (at_start (Done (Err store.BadKey)) t))
 
-pub scan_any : (a : Area) (from to : List ℕ) (most : ℕ) (t u : Tx) (result : Scanned) → (is_key from && is_key to) ≡ true → HasRun (scan_program a from to most) t u result
+-- what was a part of the call is the call, or its buffer was not had
+pub scan_ended : (a : Area) (from to : List ℕ) (most : ℕ) (t u : Tx) (result : Scanned) → HasScanned (scan_program a from to most) t u result
+    → HasEnded (scan_program a from to most) t u result ⊎ WantsMemory (scan_program a from to most) t u result
+scan_ended a from to most t u result (inl run) = inl (ended_from (scan_program a from to most) t u result run)
+scan_ended a from to most t u result (inr wants) = inr wants
+
+pub scan_any : (a : Area) (from to : List ℕ) (most : ℕ) (t u : Tx) (result : Scanned) → (is_key from && is_key to) ≡ true → HasScanned (scan_program a from to most) t u result
     → IfOk result (IsLocalCall (IsTreeRegion a) (tree_map a) (scan_op from to most) t u)
-scan_any a from to most t u result are run = let both = and_parts (is_key from) (is_key to) are in scan_call a from to most t u result both.0 both.1 run
+scan_any a from to most t u (Ok pairs) are run = let both = and_parts (is_key from) (is_key to) are in scan_call a from to most t u (Ok pairs) both.0 both.1 (scanned_ok (scan_program a from to most) t u pairs run)
+scan_any a from to most t u (Err e) are run = tt

@@ -1,10 +1,12 @@
 -- The nodes that a scan visits, one after the other.
-use Rattle.std.specs.Prelude.{◌≡◌, ℕ, zero, suc, ◌+◌, ◌-◌, ◌*◌, ◌<◌, ◌&&◌, true, cond, List, [], ◌∷◌, ◌++◌, Result, Ok, Err, length}
+use Rattle.std.specs.Prelude.{◌≡◌, ◌⊎◌, ℕ, zero, suc, ◌+◌, ◌-◌, ◌*◌, ◌<◌, ◌&&◌, true, cond, List, [], ◌∷◌, ◌++◌, Result, Ok, Err, length}
 use Rattle.std.specs.List.{list_all, AllByRecursion}
 use Rattle.iso_model.specs.declared.access.Span.{Span}
 use Rattle.store_model.specs.declared.stores.Area.{Area}
 use Rattle.store_model.specs.declared.stores.StoreError.{StoreError}
 use Rattle.store_model.specs.declared.stores.StoreError.TheVariants.{Broken}
+use Rattle.tx_blocks.specs.Runs.{HasRun, WantsMemory}
+use Rattle.tx_blocks.specs.Tx.{Tx}
 use Rattle.store_model.specs.Cells.{keys_end, keys_mark}
 use Rattle.store_model.specs.Stores.{Program, Done, Look, bytes_in, further_bytes, then_do}
 use Rattle.store_model.specs.TreeNodes.{is_node}
@@ -48,6 +50,10 @@ scan_nodes a from to [] most found = Done (Ok found)
 scan_nodes a from to (node ∷ nodes) zero found = Done (Ok found)
 scan_nodes a from to (node ∷ nodes) (suc most) found =
     then_do (scan_from a from to node.0 node.1 (suc most)) (λ r. and_then r (λ pairs. scan_nodes a from to nodes (suc most - length pairs) (found ++ pairs)))
+
+-- how a part of a scan ends: as its program does, or without memory for the pairs and the nodes that it has read
+abbrev pub HasScanned : {X : Type 0} → Program (Result X StoreError) → (t u : Tx) → Result X StoreError → Type 0
+HasScanned p t u result = HasRun p t u result ⊎ WantsMemory p t u result
 
 -- blocks of the region
 abbrev pub AreIn : Area → List (ℕ × ℕ) → Type 0

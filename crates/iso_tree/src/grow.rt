@@ -16,7 +16,7 @@ use crate::climb::first_node;
 use crate::keys::count_of;
 use crate::whole::look_whole;
 use iso_alloc::{are_key_parts, cell_count, lay, piece, take_lowest};
-use store_model::{Area, Region, StoreError};
+use store_model::{Area, Region, StoreError, TxError};
 use tx_blocks::TxBlocks;
 
 /// Takes so many free blocks, lowest first.
@@ -53,7 +53,9 @@ fn is_usable(size: usize, block: &[u8], count: u32) -> bool
     count_of(keys) == count as usize && 1 <= count && count as usize <= cell_count(size)
 }
 
-/// Reads the nodes of a path once more, unmarked; their bytes stand from block `i` on.
+/// Reads the nodes of a path once more, unmarked; their bytes stand from block `i` on. The descent has tested them, and no test is
+/// asked here: a disk that tells its bytes shows the same ones. Where another one shows a node that cannot be split, the put would
+/// need the bytes that the descent has read, for which there is no memory: it is never `Broken`.
 pub fn look_nodes<T: TxBlocks>(
     tx: &mut T,
     area: Area,
@@ -74,6 +76,7 @@ pub fn look_nodes<T: TxBlocks>(
     requires into { length into.old ≡ area.size }
     ensures read { OnOk result ((f : List (ℕ × List Cell) → Program Answer) → IsAt (look_again area (map (λ p. p.0) path.now) f) (f (nodes_from area.size nodes.new i path.now)) (T.state tx.old) (T.state tx.new)) }
     ensures refused { IfErr result (λ e. (f : List (ℕ × List Cell) → Program Answer) → HasRun (look_again area (map (λ p. p.0) path.now) f) (T.state tx.old) (T.state tx.new) (Err e)) }
+    ensures unbroken { IfErr result (λ e. (refusal : TxError) × (e ≡ StoreError.Tx refusal)) }
     ensures usable { OnOk result (AreUsable area.size nodes.new i path.now) }
     ensures kept { take (i * area.size) nodes.new ≡ take (i * area.size) nodes.old }
     ensures reads { OnlyReads (T.state tx.old) (T.state tx.new) (T.device tx.old) (T.device tx.new) result }
@@ -86,9 +89,7 @@ pub fn look_nodes<T: TxBlocks>(
         return Err(StoreError::Tx(e));
     }
     if !is_usable(size, into, count) {
-        return Err(StoreError::Broken {
-            block: area.start + block,
-        });
+        return Err(StoreError::Tx(TxError::Memory));
     }
     lay(nodes, i * size, into);
     look_nodes(tx, area, rest, i + 1, nodes, into)

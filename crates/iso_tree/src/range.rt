@@ -1,5 +1,5 @@
 // The pairs of a range of keys.
-ghost use Rattle.std.specs.Prelude.{◌≡◌, ◌↔◌, ◌&&◌, ◌+◌, ◌-◌, ◌*◌, ◌<◌, ◌≤◌, ◌++◌, [], ◌∷◌, Err, IsFalse, true, IfOk, IfErr, OnOk, length, map, take};
+ghost use Rattle.std.specs.Prelude.{◌≡◌, ◌⊎◌, ◌↔◌, ◌&&◌, ◌+◌, ◌-◌, ◌*◌, ◌<◌, ◌≤◌, ◌++◌, [], ◌∷◌, Err, IsFalse, true, IfOk, IfErr, OnOk, length, map, take};
 ghost use Rattle.std.specs.List.{list_all};
 ghost use Rattle.store_model.specs.Cells.{are_key_parts, cell_count, is_part, keys_end};
 ghost use Rattle.store_model.specs.HashCalls.{is_key};
@@ -9,8 +9,8 @@ ghost use Rattle.store_model.specs.TreeNodes.{child_of};
 ghost use Rattle.store_model.specs.TreeRegion.{scan_op, tree_map, IsTreeArea, IsTreeRegion};
 ghost use Rattle.tx_blocks.proofs.Progress.{IsAt};
 ghost use Rattle.tx_blocks.specs.Tx.{IsLater};
-ghost use Rattle.tx_blocks.specs.Runs.{area_of, HasEnded, HasRead, HasRun, IsLocalCall, IsStoreCause};
-ghost use Rattle.iso_tree.specs.Visits.{scan_nodes, AreIn};
+ghost use Rattle.tx_blocks.specs.Runs.{area_of, HasEnded, HasRead, IsLocalCall, IsStoreCause, WantsMemory};
+ghost use Rattle.iso_tree.specs.Visits.{scan_nodes, AreIn, HasScanned};
 ghost use Rattle.iso_tree.specs.Walks.{OnlyReads};
 
 use crate::buffer::{buffer, is_key};
@@ -125,7 +125,7 @@ fn step<T: TxBlocks>(
     requires nodes { AreIn area unread.old }
     requires few { length found.old < max }
     ensures run { OnOk result (IsAt (scan_nodes area from.now to.now ((level, block) ∷ unread.old) (max - length found.old) found.old) (scan_nodes area from.now to.now unread.new (max - length found.new) found.new) (T.state tx.old) (T.state tx.new)) }
-    ensures refused { IfErr result (λ e. HasRun (scan_nodes area from.now to.now ((level, block) ∷ unread.old) (max - length found.old) found.old) (T.state tx.old) (T.state tx.new) (Err e)) }
+    ensures refused { IfErr result (λ e. HasScanned (scan_nodes area from.now to.now ((level, block) ∷ unread.old) (max - length found.old) found.old) (T.state tx.old) (T.state tx.new) (Err e)) }
     ensures nodes { OnOk result (AreIn area unread.new) }
     ensures more { OnOk result (length (T.state tx.new).accesses ≡ length (T.state tx.old).accesses + 1) }
     ensures reads { OnlyReads (T.state tx.old) (T.state tx.new) (T.device tx.old) (T.device tx.new) result }
@@ -160,7 +160,7 @@ fn walk<T: TxBlocks>(
     requires buffer { length buffer.old ≡ area.size }
     requires nodes { AreIn area unread.old }
     requires is_open { (T.state tx.old).is_open ≡ true }
-    ensures run { HasRun (scan_nodes area from.now to.now unread.old max []) (T.state tx.old) (T.state tx.new) result }
+    ensures run { HasScanned (scan_nodes area from.now to.now unread.old max []) (T.state tx.old) (T.state tx.new) result }
     ensures reads { OnlyReads (T.state tx.old) (T.state tx.new) (T.device tx.old) (T.device tx.new) result }
 {
     let mut found = Items::empty(alloc);
@@ -196,7 +196,7 @@ fn scan_below<T: TxBlocks>(
     requires buffer { length buffer.old ≡ area.size }
     requires max { 0 < max }
     requires is_open { (T.state tx.old).is_open ≡ true }
-    ensures run { HasRun (scan_below area from.now to.now max root level) (T.state tx.old) (T.state tx.new) result }
+    ensures run { HasScanned (scan_below area from.now to.now max root level) (T.state tx.old) (T.state tx.new) result }
     ensures reads { OnlyReads (T.state tx.old) (T.state tx.new) (T.device tx.old) (T.device tx.new) result }
 {
     let mut unread = Unread::empty(alloc);
@@ -225,7 +225,7 @@ fn scan_with<T: TxBlocks>(
     requires keys { (is_key from.now && is_key to.now) ≡ true }
     requires buffer { length buffer.old ≡ area.size }
     requires max { 0 < max }
-    ensures run { HasRun (scan_program area from.now to.now max) (T.state tx.old) (T.state tx.new) result }
+    ensures run { HasScanned (scan_program area from.now to.now max) (T.state tx.old) (T.state tx.new) result }
     ensures reads { OnlyReads (T.state tx.old) (T.state tx.new) (T.device tx.old) (T.device tx.new) result }
 {
     match read_head(tx, area, buffer) {
@@ -236,7 +236,8 @@ fn scan_with<T: TxBlocks>(
 
 /// The first pairs of the region's map whose key is at least `from` and below `to`, in order, at most so many. `BadKey` comes
 /// exactly where one of the keys does not have 1 to 28 bytes, `Broken` where the head, a node or a value part that is read fails
-/// a test. Want of memory for the pairs is that of the transaction: the reads that came before it stay. It writes nothing.
+/// a test. Want of memory for the pairs is that of the transaction: the reads that came before it stay, the last one too where the
+/// pairs are its own. It writes nothing.
 pub fn scan<T: TxBlocks>(
     alloc: Global,
     tx: &mut T,
@@ -248,7 +249,8 @@ pub fn scan<T: TxBlocks>(
     requires area { IsTreeArea (area_of (T.state tx.old) region) }
     requires fits { region.start + region.size ≤ (T.state tx.old).blocks }
     requires max { 0 < max }
-    ensures ended { HasEnded (scan_program (area_of (T.state tx.old) region) from.now to.now max) (T.state tx.old) (T.state tx.new) result }
+    ensures ended { HasEnded (scan_program (area_of (T.state tx.old) region) from.now to.now max) (T.state tx.old) (T.state tx.new) result
+        ⊎ WantsMemory (scan_program (area_of (T.state tx.old) region) from.now to.now max) (T.state tx.old) (T.state tx.new) result }
     ensures local { IfOk result (IsLocalCall (IsTreeRegion (area_of (T.state tx.old) region)) (tree_map (area_of (T.state tx.old) region)) (scan_op from.now to.now max) (T.state tx.old) (T.state tx.new)) }
     ensures reads { HasRead (T.state tx.old) (T.state tx.new) }
     ensures bad_key { result ≡ Err StoreError.BadKey ↔ IsFalse (is_key from.now && is_key to.now) }

@@ -1,9 +1,9 @@
 // The removal of a key.
-ghost use Rattle.std.specs.Prelude.{◌≡◌, ◌↔◌, ◌+◌, ◌<◌, ◌≤◌, [], Err, Ok, IsFalse, true, IfOk, IfErr, OnOk, length};
+ghost use Rattle.std.specs.Prelude.{◌≡◌, ◌↔◌, ◌+◌, ◌<◌, ◌≤◌, [], Err, Ok, IsFalse, true, IfOk, IfErr, OnErr, OnOk, length};
 ghost use Rattle.store_model.specs.HashCalls.{is_key};
 ghost use Rattle.store_model.specs.HashRegion.{del_op};
 ghost use Rattle.tx_blocks.specs.Tx.{IsLater};
-ghost use Rattle.tx_blocks.specs.Runs.{area_of, Behaves, HasEnded, HasRun, IsLocalCall, IsStoreCause, IsUnwritten};
+ghost use Rattle.tx_blocks.specs.Runs.{area_of, Behaves, HasEnded, HasRun, HasRead, IsLocalCall, IsStoreCause};
 ghost use Rattle.store_model.specs.TreeCalls.{del_below, del_program, edit_leaf, without_key};
 ghost use Rattle.store_model.specs.TreeRegion.{tree_map, IsTreeArea, IsTreeRegion};
 ghost use Rattle.iso_tree.specs.Walks.{AreBytesOf, IsLeaf};
@@ -119,7 +119,7 @@ pub fn del<T: TxBlocks>(
     ensures local { IfOk result (IsLocalCall (IsTreeRegion (area_of (T.state tx.old) region)) (tree_map (area_of (T.state tx.old) region)) (del_op key.now) (T.state tx.old) (T.state tx.new)) }
     ensures bad_key { result ≡ Err StoreError.BadKey ↔ IsFalse (is_key key.now) }
     ensures cause { IfErr result (IsStoreCause (T.state tx.new) 1 (T.device tx.old) (T.device tx.new)) }
-    ensures unwritten { IfErr result (IsUnwritten (T.state tx.old) (T.state tx.new)) }
+    ensures unwritten { OnErr result (HasRead (T.state tx.old) (T.state tx.new)) }
     ensures later { IsLater (T.device tx.old) (T.device tx.new) }
     ensures passed { OnOk result ((T.device tx.new).faults ≡ (T.device tx.old).faults) }
 {

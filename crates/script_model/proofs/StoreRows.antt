@@ -3,7 +3,9 @@ use Rattle.std.specs.Prelude.{◌≡◌, [], ◌∷◌, refl, codes}
 use Rattle.std.specs.Fmt.{digits}
 use Rattle.iso_model.specs.declared.access.Geometry.{Geometry}
 use Rattle.iso_model.specs.declared.access.Mode.TheVariants.{Serial}
-use Rattle.iso_model.specs.Step.{begin_step, switch_step}
+use Rattle.iso_model.specs.Step.{begin_step, commit_step, end_step, switch_step}
+use Rattle.sha2.specs.Sha256.{compress, digest_bytes, first_words, hash_after, rounds, schedule, sha256}
+use Rattle.store_model.specs.HashRegion.{bucket_of, is_linked}
 use Rattle.script_model.specs.declared.script.Reply.TheVariants.{Pairs}
 use Rattle.iso_model.specs.Array.{put}
 use Rattle.iso_model.specs.Conflict.{clash}
@@ -55,3 +57,10 @@ scans_have_their_arguments = refl
 pub pairs_have_their_text : reply_text (Pairs (((97 ∷ []), (49 ∷ 50 ∷ [])) ∷ ((98 ∷ []), []) ∷ [])) ≡ codes "ok 61=3132 62=-"
 unfolding reply_text
 pairs_have_their_text = refl
+
+-- Two clients that put a value at one key that is there write the value alone: both commit, and the later commit's value stands.
+pub values_of_one_key_do_not_conflict :
+    answers (made stores) (codes "1 begin" ∷ codes "1 hput 61 30" ∷ codes "1 end" ∷ codes "1 begin" ∷ codes "2 begin" ∷ codes "1 hput 61 39" ∷ codes "2 hput 61 38" ∷ codes "1 end" ∷ codes "2 end" ∷ codes "1 begin" ∷ codes "1 hget 61" ∷ [])
+    ≡ text (codes "1 ok begin 0" ∷ codes "1 ok" ∷ codes "1 ok commit 1" ∷ codes "1 ok begin 1" ∷ codes "2 ok begin 1" ∷ codes "1 ok" ∷ codes "2 ok" ∷ codes "1 ok commit 2" ∷ codes "2 ok commit 3" ∷ codes "1 ok begin 3" ∷ codes "1 ok 38" ∷ [])
+unfolding put clash runs operation_of other_operation store_operation step begin_step end_step commit_step store_step hash_put_step hash_get_step get_program put_program walk bucket_of is_linked sha256 digest_bytes hash_after compress rounds schedule first_words words_of number_of hex_of reply_text digits
+values_of_one_key_do_not_conflict = refl

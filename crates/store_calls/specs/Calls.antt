@@ -1,5 +1,5 @@
 -- What a call of a store on a transaction does, and what it is answered.
-use Rattle.std.specs.Prelude.{◌≡◌, ℕ, ◌&&◌, ◌==◌, Bool, false, IsTrue, List, [], Option, Result, Ok, Err, IfOk, IsErrOf}
+use Rattle.std.specs.Prelude.{◌≡◌, ℕ, ◌&&◌, ◌==◌, Bool, false, IsTrue, List, [], Option, Result, Ok, Err, IfOk, IsErrOf, OnErr, take}
 use Rattle.std.specs.Option.{ForSome}
 use Rattle.fault_count.specs.Count.{Rose}
 use Rattle.iso_model.specs.declared.access.Access.{Access}
@@ -24,6 +24,7 @@ use Rattle.store_model.specs.TreeCalls as tree
 use Rattle.store_model.specs.TreeRegion.{IsTreeArea}
 use Rattle.tx_blocks.specs.Tx as tx
 use Rattle.tx_blocks.specs.Tx.{Tx, Device, room_of}
+use Rattle.tx_blocks.specs.Runs.{Passed}
 use Rattle.script_model.specs.declared.stop.Stop.{Stop}
 use Rattle.script_model.specs.declared.stop.Stop.TheVariants as stop
 
@@ -69,16 +70,19 @@ store_ended a (TreeDelete key) room A = replied removed_reply (outcome room (tre
 store_ended a (TreeScan from to most) room A = replied pairs_reply (outcome room (tree.scan_program a from to most) A)
 store_ended a op room A = ([], reply.NotInTx)
 
--- A call made these accesses; where the array is told, they and the reply are those that are given.
+-- A call made these accesses; where the array is told, they and the reply are those that are given, and where there is no reply they
+-- are the first of those.
 pub record HasCalled (ended : (room : ℕ) → Array → List Access × Reply) (t u : Tx) (result : Result Reply Stop) : Type 0 where
   pub done : List Access
   pub is : u ≡ tx.with_accesses t done
   pub told : IfOk result (λ r. ForSome t.base (λ A. ended (room_of t) (own A t.accesses) ≡ (done, r)))
+  pub stopped : OnErr result (ForSome t.base (λ A. (n : ℕ) × (done ≡ take n (ended (room_of t) (own A t.accesses)).0)))
 
--- why a call has no reply
+-- why a call has no reply, and that the disk did not fail but where it is blamed
 pub record Stops (before now : Device) (result : Result Reply Stop) : Type 0 where
   pub down : IsErrOf result stop.Down → IsTrue now.is_down
   pub disk : IsErrOf result stop.Disk → Rose before.faults now.faults
+  pub passed : ¬ IsErrOf result stop.Disk → Passed before now
 
 -- what a store that refuses is answered, or why there is no reply
 abbrev pub refused_access : TxError → Result Reply Stop

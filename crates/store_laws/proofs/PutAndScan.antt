@@ -1,5 +1,5 @@
 -- A scan behind a put, in one transaction.
-use Rattle.std.proofs.Common.{◌≡◌, sym, ap, subst, ℕ, List, [], ◌∷◌, Some, Ok, Err, IfOk, Result}
+use Rattle.std.proofs.Common.{◌≡◌, ◌⊎◌, sym, ap, subst, ℕ, List, [], ◌∷◌, Some, Ok, Err, IfOk, Result}
 use Rattle.std.specs.FinMap.{insert}
 use Rattle.store_model.specs.declared.stores.Area.{Area}
 use Rattle.store_model.specs.declared.stores.Region.{Region}
@@ -8,7 +8,8 @@ use Rattle.iso_model.specs.Array.{Array}
 use Rattle.store_model.specs.HashRegion.{put_op}
 use Rattle.store_model.specs.TreeCalls.{put_program, scan_program}
 use Rattle.store_model.specs.TreeRegion.{IsTreeArea, IsTreeRegion, scan_op, tree_map}
-use Rattle.tx_blocks.specs.Runs.{HasEnded, IsLocalCall, area_of}
+use Rattle.tx_blocks.specs.Runs.{HasEnded, IsLocalCall, WantsMemory, area_of}
+use Rattle.tx_blocks.proofs.Parts.{scanned_ok}
 use Rattle.tx_blocks.specs.Tx.{Tx, added}
 use Rattle.store_laws.specs.Calls.{Found, Put, WasPut}
 use Rattle.store_laws.specs.Parts.{Called}
@@ -38,12 +39,12 @@ put_then_scan a key value from to most t u v p r A area base none region put_end
 pub put_then_scan_call : (region : Region) (key value from to : List ℕ) (most : ℕ) (t u v : Tx) (p : Unit {0}) (result : Result (List (List ℕ × List ℕ)) StoreError) → IsTreeArea (area_of t region)
     → HasEnded (put_program (area_of t region) key value) t u (Ok p)
     → IsLocalCall (IsTreeRegion (area_of t region)) (tree_map (area_of t region)) (put_op key value) t u p
-    → HasEnded (scan_program (area_of u region) from to most) u v result
+    → HasEnded (scan_program (area_of u region) from to most) u v result ⊎ WantsMemory (scan_program (area_of u region) from to most) u v result
     → IfOk result (IsLocalCall (IsTreeRegion (area_of u region)) (tree_map (area_of u region)) (scan_op from to most) u v)
     → IfOk result (λ r. (A : Array) → t.base ≡ Some A → t.accesses ≡ [] → IsTreeRegion (area_of t region) A → r ≡ (scan_op from to most (insert (tree_map (area_of t region) A) key value)).0)
 put_then_scan_call region key value from to most t u v p (Err e) area put_ended put_local scan_ended scan_local = tt
 put_then_scan_call region key value from to most t u v p (Ok r) area put_ended put_local scan_ended scan_local = λ A base none well.
     let same : area_of u region ≡ area_of t region = ap (λ (w : Tx). area_of w region) put_ended.is in
     put_then_scan (area_of t region) key value from to most t u v p r A area base none well put_ended put_local
-    (subst (λ (a : Area). HasEnded (scan_program a from to most) u v (Ok r)) same scan_ended)
+    (subst (λ (a : Area). HasEnded (scan_program a from to most) u v (Ok r)) same (scanned_ok (scan_program (area_of u region) from to most) u v r scan_ended))
     (subst (λ (a : Area). IsLocalCall (IsTreeRegion a) (tree_map a) (scan_op from to most) u v r) same scan_local)

@@ -83,6 +83,16 @@ a_cell_is_used_again : shape (accesses_of (put_program area (101 ∷ []) (53 ∷
 unfolding del_program put_program walk bucket_of is_linked sha256 digest_bytes hash_after compress rounds schedule first_words put
 a_cell_is_used_again = refl
 
+-- seven keys, of which one of the bucket's block and one of the block behind it are deleted: the next new key gets the first of the
+-- two cells, once the whole chain is read
+abbrev seven : Array
+seven = puts ((101, 53) ∷ (102, 54) ∷ (103, 55) ∷ []) four
+
+a_cell_of_the_first_block : shape (accesses_of (put_program area (104 ∷ []) (56 ∷ [])) (deleted 101 (deleted 98 seven)))
+    ≡ (Read, 1, span 0 157 ∷ []) ∷ (Read, 2, span 0 157 ∷ []) ∷ (Read, 3, span 0 157 ∷ []) ∷ (Write, 1, span 95 31 ∷ span 190 33 ∷ []) ∷ []
+unfolding del_program put_program walk bucket_of is_linked sha256 digest_bytes hash_after compress rounds schedule first_words put
+a_cell_of_the_first_block = refl
+
 -- a value whose length is none: the get that reads it finds the block broken, and a put writes it anew
 abbrev too_long : Array
 too_long = own three (record { kind = Write; block = 1; spans = span 157 1 ∷ []; bytes = replicate 256 33 } ∷ [])

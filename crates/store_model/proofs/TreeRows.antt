@@ -41,6 +41,15 @@ scan_after_a_split : answer_of (scan_program (area 4) (97 ∷ []) (122 ∷ []) 1
 unfolding put_program get_program scan_program del_program Rattle.iso_model.specs.Array.put Rattle.store_model.specs.TreeNodes.is_node
 scan_after_a_split = refl
 
+-- a scan has its first key and not its last; where that is the lower one it finds none
+scan_of_one_key : answer_of (scan_program (area 4) (99 ∷ []) (100 ∷ []) 10) four ≡ Ok ((99 ∷ [], 51 ∷ []) ∷ [])
+unfolding put_program get_program scan_program del_program Rattle.iso_model.specs.Array.put Rattle.store_model.specs.TreeNodes.is_node
+scan_of_one_key = refl
+
+scan_backwards : answer_of (scan_program (area 4) (100 ∷ []) (97 ∷ []) 10) four ≡ Ok []
+unfolding put_program get_program scan_program del_program Rattle.iso_model.specs.Array.put Rattle.store_model.specs.TreeNodes.is_node
+scan_backwards = refl
+
 pairs_after_a_split : tree_pairs (area 4) four ≡ ((97 ∷ [], 49 ∷ []) ∷ (98 ∷ [], 50 ∷ []) ∷ (99 ∷ [], 51 ∷ []) ∷ (100 ∷ [], 52 ∷ []) ∷ [])
 unfolding put_program get_program scan_program del_program Rattle.iso_model.specs.Array.put Rattle.store_model.specs.TreeNodes.is_node
 pairs_after_a_split = refl

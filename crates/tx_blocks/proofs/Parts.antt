@@ -1,17 +1,17 @@
 -- A call that is made of parts.
-use Rattle.std.proofs.Common.{◌≡◌, ◌≢◌, ◌∙◌, sym, refl, ap, subst, ℕ, ◌+◌, ◌-◌, ◌≤◌, List, [], ◌∷◌, ◌++◌, length, take, Option, Some, None, Result, Ok, Err, arith}
+use Rattle.std.proofs.Common.{◌≡◌, ◌≢◌, ◌⊎◌, ◌<◌, ◌∙◌, sym, refl, ap, subst, ℕ, ◌+◌, ◌-◌, ◌≤◌, List, [], ◌∷◌, ◌++◌, length, take, Option, Some, None, Result, Ok, Err, inl, inr, arith, length-append}
 use Rattle.iso_model.specs.declared.access.Access.{Access}
 use Rattle.store_model.specs.declared.stores.StoreError.{StoreError}
 use Rattle.store_model.specs.declared.stores.StoreError.TheVariants as store
 use Rattle.store_model.specs.declared.stores.TxError.{TxError}
 use Rattle.store_model.specs.declared.stores.TxError.TheVariants as error
 use Rattle.iso_model.specs.Effect.{own}
-use Rattle.store_model.specs.Stores.{Program, after, outcome}
+use Rattle.store_model.specs.Stores.{Program, accesses_of, after, outcome}
 use Rattle.tx_blocks.specs.Tx.{Tx, Device, IsLater, with_accesses, room_of}
-use Rattle.tx_blocks.specs.Runs.{Ends, Stopped, IsCut, HasRun, HasEnded, HasRead, IsCause, IsStoreCause, Behaves}
+use Rattle.tx_blocks.specs.Runs.{Ends, Ran, Began, Stopped, IsCut, HasRun, HasEnded, HasRead, IsCause, IsStoreCause, Behaves, WantsMemory}
 use Rattle.tx_blocks.proofs.Programs.{reads_append}
 use Rattle.tx_blocks.proofs.Progress.{IsAt, same_base, with_more}
-use Rattle.tx_blocks.proofs.Refusals.{cause_earlier, later_than, later_same}
+use Rattle.tx_blocks.proofs.Refusals.{cause_earlier, cause_since, later_than, later_same}
 
 ends_from : {R : Type 0} (whole rest : Program R) (t u v : Tx) (end : Option R) → IsAt whole rest t u → Ends rest u v end → Ends whole t v end
 ends_from whole rest t u v end now ended = record {
@@ -20,22 +20,32 @@ ends_from whole rest t u v end now ended = record {
   told = λ A told. now.told A told ∙ ap (after now.done) (ended.told A (same_base whole rest t u now ∙ told));
 }
 
-take_more : {X : Type 0} (xs ys : List X) (n : ℕ) → take (length xs + n) (xs ++ ys) ≡ xs ++ take n ys
+pub take_more : {X : Type 0} (xs ys : List X) (n : ℕ) → take (length xs + n) (xs ++ ys) ≡ xs ++ take n ys
 take_more [] ys n = let e : 0 + n ≡ n = omega arith in ap (λ (m : ℕ). take m ys) e
 take_more (x ∷ xs) ys n = let e : Rattle.std.proofs.Common.suc (length xs) + n ≡ Rattle.std.proofs.Common.suc (length xs + n) = omega arith in ap (λ (m : ℕ). take m (x ∷ (xs ++ ys))) e ∙ ap (λ rest. x ∷ rest) (take_more xs ys n)
 
-stopped_from : {R : Type 0} (whole rest : Program R) (t u v : Tx) → IsAt whole rest t u → Stopped rest u v → Stopped whole t v
-stopped_from whole rest t u v now stopped = record {
-  done = now.done ++ stopped.done;
-  is = stopped.is ∙ ap (λ (w : Tx). with_accesses w stopped.done) now.is ∙ with_more t now.done stopped.done;
+abbrev pub began_from : {R : Type 0} (whole rest : Program R) (t u v : Tx) → IsAt whole rest t u → Began rest u v → Began whole t v
+began_from whole rest t u v now began = record {
+  done = now.done ++ began.done;
+  is = began.is ∙ ap (λ (w : Tx). with_accesses w began.done) now.is ∙ with_more t now.done began.done;
   told = λ A told.
-      let part = stopped.told A (same_base whole rest t u now ∙ told) in (
+      let part = began.told A (same_base whole rest t u now ∙ told) in (
         length now.done + part.0,
         ap (λ xs. now.done ++ xs) part.1 ∙ sym (take_more now.done (outcome (room_of u) rest (own A u.accesses)).0 part.0) ∙ sym (ap (λ x. take (length now.done + part.0) x.0) (now.told A told)),
       );
 }
 
-cut_from : {R : Type 0} (whole rest : Program R) (t u v : Tx) (e : TxError) → IsAt whole rest t u → IsCut rest u v e → IsCut whole t v e
+stopped_from : {R : Type 0} (whole rest : Program R) (t u v : Tx) → IsAt whole rest t u → Stopped rest u v → Stopped whole t v
+stopped_from whole rest t u v now stopped = record {
+  began = began_from whole rest t u v now stopped.began;
+  fewer = λ A told.
+      let left = accesses_of rest (own A u.accesses) in
+      let long : length (accesses_of whole (own A t.accesses)) ≡ length now.done + length left = ap (λ xs. length xs) (now.all A told) ∙ length-append now.done left in
+      let done : length (now.done ++ stopped.began.done) ≡ length now.done + length stopped.began.done = length-append now.done stopped.began.done in
+      omega (arith, long, done, stopped.fewer A (same_base whole rest t u now ∙ told));
+}
+
+pub cut_from : {R : Type 0} (whole rest : Program R) (t u v : Tx) (e : TxError) → IsAt whole rest t u → IsCut rest u v e → IsCut whole t v e
 cut_from whole rest t u v error.TooManyAccesses now cut = ends_from whole rest t u v None now cut
 cut_from whole rest t u v error.Memory now cut = stopped_from whole rest t u v now cut
 cut_from whole rest t u v error.Down now cut = stopped_from whole rest t u v now cut
@@ -76,20 +86,12 @@ read_join t u v one two = record {
   reads = reads_append one.done two.done one.reads two.reads;
 }
 
-cause_since : (u : Tx) (writes : ℕ) (before mid now : Device) (e : StoreError) → before.faults ≤ mid.faults → IsStoreCause u writes mid now e → IsStoreCause u writes before now e
-cause_since u writes before mid now store.BadKey le cause = tt
-cause_since u writes before mid now store.BadValue le cause = tt
-cause_since u writes before mid now (store.NoBlocks need free) le cause = tt
-cause_since u writes before mid now (store.Broken block) le cause = tt
-cause_since u writes before mid now (store.Tx e) le cause = cause_earlier u writes writes before mid now e (omega arith) le cause
-cause_since u writes before mid now store.Memory le cause = tt
-
 -- after reads that went well
 pub behaves_after : {R : Type 0} (t u v : Tx) (writes : ℕ) (before mid now : Device) (result : Result R StoreError) → HasRead t u → IsLater before mid → mid.faults ≡ before.faults
     → Behaves u v writes mid now result → Behaves t v writes before now result
 behaves_after t u v writes before mid now (Ok x) read later passed is = record { cause = tt; unwritten = tt; known = tt; later = later_than before mid now later is.later; passed = is.passed ∙ passed }
 behaves_after t u v writes before mid now (Err e) read later passed is = record {
-  cause = cause_since v writes before mid now e (omega (arith, later.faults)) is.cause;
+  cause = cause_since v writes before mid now e passed is.cause;
   unwritten = λ other. read_join t u v read (is.unwritten other);
   known = is.known;
   later = later_than before mid now later is.later;
@@ -98,20 +100,37 @@ behaves_after t u v writes before mid now (Err e) read later passed is = record 
 
 -- a refusal of an access after reads alone
 pub refused_reading : {R : Type 0} (t v : Tx) (writes : ℕ) (before now : Device) (e : TxError) → HasRead t v → 1 ≤ writes → IsCause v 1 before now e → IsLater before now → Behaves {R = R} t v writes before now (Err (store.Tx e))
-refused_reading t v writes before now e read le cause later = record { cause = cause_earlier v 1 writes before before now e le (omega arith) cause; unwritten = λ other. read; known = (λ x. cc, λ x. cc); later = later; passed = tt }
+refused_reading t v writes before now e read le cause later = record { cause = cause_earlier v 1 writes before before now e le refl cause; unwritten = λ other. read; known = (λ x. cc, λ x. cc); later = later; passed = tt }
 
 -- any refusal that is not of the arguments
 pub refused_so : {R : Type 0} (t v : Tx) (writes : ℕ) (before now : Device) (e : StoreError) → HasRead t v → IsStoreCause v writes before now e → (e ≢ store.BadKey) × (e ≢ store.BadValue) → IsLater before now
     → Behaves {R = R} t v writes before now (Err e)
 refused_so t v writes before now e read cause known later = record { cause = cause; unwritten = λ other. read; known = known; later = later; passed = tt }
 
--- want of memory for a write
-pub refused_memory : {R : Type 0} (t v : Tx) (writes : ℕ) (before now : Device) (e : TxError) → e ≡ error.Memory → now ≡ before → Behaves {R = R} t v writes before now (Err (store.Tx e))
-refused_memory {R = R} t v writes before now e is same = subst (λ (x : TxError). Behaves {R = R} t v writes before now (Err (store.Tx x))) (sym is)
-    (record { cause = tt; unwritten = λ other. absurd (other refl); known = (λ x. cc, λ x. cc); later = later_same before now same; passed = tt })
+-- want of memory for a write, where the call makes more than one
+pub refused_memory : {R : Type 0} (t v : Tx) (writes : ℕ) (before now : Device) (e : TxError) → 1 < writes → e ≡ error.Memory → now ≡ before → Behaves {R = R} t v writes before now (Err (store.Tx e))
+refused_memory {R = R} t v writes before now e many is same = subst (λ (x : TxError). Behaves {R = R} t v writes before now (Err (store.Tx x))) (sym is) (record {
+  cause = ap (λ (d : Device). d.faults) same;
+  unwritten = written;
+  known = (λ x. cc, λ x. cc);
+  later = later_same before now same;
+  passed = tt;
+})
+  where
+    written : (writes ≤ 1) ⊎ (store.Tx error.Memory ≢ store.Tx error.Memory) → HasRead t v
+    written (inl few) = absurd (omega (arith, many, few))
+    written (inr other) = absurd (other refl)
 
 pub done_so : {R : Type 0} (t v : Tx) (writes : ℕ) (before now : Device) (r : R) → now ≡ before → Behaves t v writes before now (Ok r)
 done_so t v writes before now r same = record { cause = tt; unwritten = tt; known = tt; later = later_same before now same; passed = ap (λ (d : Device). d.faults) same }
+
+-- a scan that was answered ran
+pub scanned_ok : {X : Type 0} (p : Program (Result X StoreError)) (t u : Tx) (x : X) → Ran p t u (Ok x) ⊎ WantsMemory p t u (Ok x) → Ran p t u (Ok x)
+scanned_ok p t u x (inl ran) = ran
+scanned_ok p t u x (inr wants) = absurd (answered x wants.0)
+  where
+    answered : {X : Type 0} (x : X) → ◌≡◌ {A = Result X StoreError} (Ok x) (Err (store.Tx error.Memory)) → ⊥
+    answered x is = cc
 
 -- a call has further accesses, and the transaction is else as before
 pub record HasGrown (t u : Tx) : Type 0 where
@@ -120,10 +139,10 @@ pub record HasGrown (t u : Tx) : Type 0 where
 
 cut_grows : {R : Type 0} (p : Program R) (t u : Tx) (e : TxError) → IsCut p t u e → HasGrown t u
 cut_grows p t u error.TooManyAccesses cut = record { done = cut.done; is = cut.is }
-cut_grows p t u error.Memory cut = record { done = cut.done; is = cut.is }
-cut_grows p t u error.Down cut = record { done = cut.done; is = cut.is }
-cut_grows p t u error.Disk cut = record { done = cut.done; is = cut.is }
-cut_grows p t u error.NotInTx cut = record { done = cut.done; is = cut.is }
+cut_grows p t u error.Memory cut = record { done = cut.began.done; is = cut.began.is }
+cut_grows p t u error.Down cut = record { done = cut.began.done; is = cut.began.is }
+cut_grows p t u error.Disk cut = record { done = cut.began.done; is = cut.began.is }
+cut_grows p t u error.NotInTx cut = record { done = cut.began.done; is = cut.began.is }
 cut_grows p t u error.BadBlock cut = absurd cut
 cut_grows p t u error.BadRange cut = absurd cut
 cut_grows p t u error.NoAccess cut = absurd cut

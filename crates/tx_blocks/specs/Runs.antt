@@ -1,5 +1,5 @@
 -- How a store's call that follows a program ends.
-use Rattle.std.specs.Prelude.{◌≡◌, ◌≢◌, ℕ, ◌+◌, ◌<◌, false, IsTrue, List, Option, Some, None, Result, Ok, Err, IfErr, OnOk, length, take}
+use Rattle.std.specs.Prelude.{◌≡◌, ◌≢◌, ◌⊎◌, ℕ, ◌+◌, ◌<◌, ◌≤◌, false, IsTrue, List, Option, Some, None, Result, Ok, Err, IfErr, OnOk, length, take}
 use Rattle.std.specs.Option.{ForSome}
 use Rattle.fault_count.specs.Count.{Rose}
 use Rattle.iso_model.specs.declared.access.Access.{Access}
@@ -11,7 +11,7 @@ use Rattle.store_model.specs.declared.stores.TxError.{TxError}
 use Rattle.store_model.specs.declared.stores.TxError.TheVariants as error
 use Rattle.iso_model.specs.Array.{Array}
 use Rattle.iso_model.specs.Effect.{own}
-use Rattle.store_model.specs.Stores.{Program, outcome, AreReads, IsLocal}
+use Rattle.store_model.specs.Stores.{Program, accesses_of, outcome, AreReads, IsLocal}
 use Rattle.tx_blocks.specs.Tx.{Tx, Device, IsLater, with_accesses, added, room_of}
 
 -- the area of a region of the transaction's blocks
@@ -28,11 +28,16 @@ pub record Ends {R : Type 0} (p : Program R) (t u : Tx) (end : Option R) : Type 
 abbrev pub Ran : {R : Type 0} → Program R → (t u : Tx) → R → Type 0
 Ran p t u r = Ends p t u (Some r)
 
--- the call made the first accesses of the program and no more
-pub record Stopped {R : Type 0} (p : Program R) (t u : Tx) : Type 0 where
+-- the call made the first accesses of the program and no more, all of them perhaps
+pub record Began {R : Type 0} (p : Program R) (t u : Tx) : Type 0 where
   pub done : List Access
   pub is : u ≡ with_accesses t done
   pub told : ForSome t.base (λ A. (n : ℕ) × (done ≡ take n (outcome (room_of t) p (own A t.accesses)).0))
+
+-- the call made the first accesses of the program, and fewer than the program has
+pub record Stopped {R : Type 0} (p : Program R) (t u : Tx) : Type 0 where
+  pub began : Began p t u
+  pub fewer : ForSome t.base (λ A. length began.done < length (accesses_of p (own A t.accesses)))
 
 -- How a program ends of which the transaction refuses an access: at the first access or reservation that does not fit, or earlier,
 -- for another cause.
@@ -67,14 +72,22 @@ HasEnded p t u (Err (store.Broken block)) = HasRun p t u (Err (store.Broken bloc
 HasEnded p t u (Err (store.Tx e)) = HasRun p t u (Err (store.Tx e))
 HasEnded p t u (Err store.Memory) = u ≡ t
 
--- Why a transaction refuses an access of a store's call that makes at most so many writes: the disk is down or failed in this
--- call, there is no transaction, or so many accesses do not fit. Want of memory is free.
+-- the call wants memory for what it has read, which its last access may have shown
+abbrev pub WantsMemory : {X : Type 0} → Program (Result X StoreError) → (t u : Tx) → Result X StoreError → Type 0
+WantsMemory p t u result = (result ≡ Err (store.Tx error.Memory)) × Began p t u
+
+-- the disk did not fail in the call
+abbrev pub Passed : (before now : Device) → Type 0
+Passed before now = now.faults ≡ before.faults
+
+-- Why a transaction refuses an access of a store's call that makes at most so many writes: the disk failed in this call; else it
+-- did not, and is down, or there is no transaction, or so many accesses do not fit. Want of memory is free.
 abbrev pub IsCause : Tx → (writes : ℕ) → (before now : Device) → TxError → Type 0
-IsCause u writes before now error.Memory = Unit {0}
-IsCause u writes before now error.Down = IsTrue now.is_down
+IsCause u writes before now error.Memory = Passed before now
+IsCause u writes before now error.Down = IsTrue now.is_down × Passed before now
 IsCause u writes before now error.Disk = Rose before.faults now.faults
-IsCause u writes before now error.TooManyAccesses = 4096 < length u.accesses + writes
-IsCause u writes before now error.NotInTx = u.is_open ≡ false
+IsCause u writes before now error.TooManyAccesses = (4096 < length u.accesses + writes) × Passed before now
+IsCause u writes before now error.NotInTx = (u.is_open ≡ false) × Passed before now
 IsCause u writes before now error.BadBlock = ⊥
 IsCause u writes before now error.BadRange = ⊥
 IsCause u writes before now error.NoAccess = ⊥
@@ -83,11 +96,11 @@ IsCause u writes before now error.TooManyMarks = ⊥
 -- the same of a store's answer
 abbrev pub IsStoreCause : Tx → (writes : ℕ) → (before now : Device) → StoreError → Type 0
 IsStoreCause u writes before now (store.Tx e) = IsCause u writes before now e
-IsStoreCause u writes before now store.BadKey = Unit {0}
-IsStoreCause u writes before now store.BadValue = Unit {0}
-IsStoreCause u writes before now (store.NoBlocks need free) = Unit {0}
-IsStoreCause u writes before now (store.Broken block) = Unit {0}
-IsStoreCause u writes before now store.Memory = Unit {0}
+IsStoreCause u writes before now store.BadKey = Passed before now
+IsStoreCause u writes before now store.BadValue = Passed before now
+IsStoreCause u writes before now (store.NoBlocks need free) = Passed before now
+IsStoreCause u writes before now (store.Broken block) = Passed before now
+IsStoreCause u writes before now store.Memory = Passed before now
 
 -- the transaction has further reads, and is else as before
 pub record HasRead (t u : Tx) : Type 0 where
@@ -95,18 +108,18 @@ pub record HasRead (t u : Tx) : Type 0 where
   pub is : u ≡ with_accesses t done
   pub reads : AreReads done
 
--- a refused call has written nothing, but where memory is wanted between two writes
-abbrev pub IsUnwritten : (t u : Tx) → StoreError → Type 0
-IsUnwritten t u e = e ≢ store.Tx error.Memory → HasRead t u
+-- a refused call that makes at most so many writes has written nothing, but where memory is wanted between two of them
+abbrev pub IsUnwritten : (t u : Tx) → (writes : ℕ) → StoreError → Type 0
+IsUnwritten t u writes e = (writes ≤ 1) ⊎ (e ≢ store.Tx error.Memory) → HasRead t u
 
 -- What a part of a call leaves, whatever the bytes: why it is refused, and that a refusal has written nothing and is not of the
 -- arguments; that the disk's faults do not fall, and stand after Ok where they stood.
 pub record Behaves {R : Type 0} (t u : Tx) (writes : ℕ) (before now : Device) (result : Result R StoreError) : Type 0 where
   pub cause : IfErr result (IsStoreCause u writes before now)
-  pub unwritten : IfErr result (IsUnwritten t u)
+  pub unwritten : IfErr result (IsUnwritten t u writes)
   pub known : IfErr result (λ e. (e ≢ store.BadKey) × (e ≢ store.BadValue))
   pub later : IsLater before now
-  pub passed : OnOk result (now.faults ≡ before.faults)
+  pub passed : OnOk result (Passed before now)
 
 -- where the array is told, the call is local for the operation on the map of its region
 abbrev pub IsLocalCall : {M R : Type 0} → (Array → Type 0) → (Array → M) → (M → R × M) → (t u : Tx) → R → Type 0

@@ -72,9 +72,10 @@ marking mark.TooManyMarks = error.TooManyMarks
 abbrev pub mark_refusal : Tx → (off len : ℕ) → Option TxError
 mark_refusal t off len = if not t.is_open then Some error.NotInTx else option_map marking (mark_fault t.size off len t.accesses)
 
--- a cause that a call's own tests do not give: want of memory, a disk that is down, or a fault that came in the call
+-- a cause that a call's own tests do not give: want of memory, and then the disk did not fail in the call, a disk that is down, or
+-- a fault that came in the call
 abbrev pub IsFree : (before now : Device) → TxError → Type 0
-IsFree before now error.Memory = Unit {0}
+IsFree before now error.Memory = now.faults ≡ before.faults
 IsFree before now error.Down = IsTrue now.is_down
 IsFree before now error.Disk = Rose before.faults now.faults
 IsFree before now error.BadBlock = ⊥

@@ -1,5 +1,5 @@
 // The trait of a transaction over blocks.
-ghost use Rattle.std.specs.Prelude.{◌≡◌, ◌≤◌, ◌-◌, OnOk, OnErr, cond, length, [], ◌∷◌};
+ghost use Rattle.std.specs.Prelude.{◌≡◌, ◌≢◌, ◌≤◌, ◌-◌, Err, OnOk, OnErr, cond, length, [], ◌∷◌};
 ghost use Rattle.std.specs.Option.{ForSome};
 ghost use Rattle.iso_model.specs.Effect.{own};
 ghost use Rattle.iso_model.specs.Marks.{marked};
@@ -26,7 +26,7 @@ pub trait TxBlocks {
         ensures { result ≡ cond (state self.now).is_open (room_of (state self.now)) 4096 };
 
     /// Reads a block as it stood at the begin, with the own writes over it. The access covers the whole block until it is marked.
-    /// `Disk` comes only where the disk failed in this call, `Down` only where it is down.
+    /// `Disk` comes exactly where the disk failed in this call, `Down` only where it is down.
     fn read_block(&mut self, block: u32, into: &mut [u8]) -> Result<(), TxError>
         requires { length into.old ≡ (state self.old).size }
         ensures bytes { OnOk result (ForSome (state self.old).base (λ A. into.new ≡ block_at (own A (state self.old).accesses) block)) }
@@ -34,7 +34,7 @@ pub trait TxBlocks {
         ensures kept { OnErr result (state self.new ≡ state self.old) }
         ensures cause { IsRefused (access_refusal (state self.old) block) (IsFree (device self.old) (device self.new)) result }
         ensures later { IsLater (device self.old) (device self.new) }
-        ensures passed { OnOk result ((device self.new).faults ≡ (device self.old).faults) };
+        ensures passed { result ≢ Err TxError.Disk → (device self.new).faults ≡ (device self.old).faults };
 
     /// Writes a block, or those bytes of it that are marked after.
     fn write_block(&mut self, block: u32, bytes: &[u8]) -> Result<(), TxError>

@@ -1,8 +1,8 @@
 use Rattle.std.proofs.Common.{false, arith}
 use Rattle.tx_blocks.proofs.Parts.{refused_so, behaves_after}
-use Rattle.tx_blocks.proofs.Refusals.{store_cause}
+use Rattle.tx_blocks.proofs.Refusals.{behaves_more, store_cause}
 use Rattle.iso_hash.proofs.Getting.{walked_cell, walked_end, walk_known}
-use Rattle.iso_hash.proofs.Storing.{put_from, put_error, behaves_more}
+use Rattle.iso_hash.proofs.Storing.{put_from, put_error}
 use Rattle.iso_hash.proofs.insert.put_with.Goals as goal
 
 pub returns-in-Ok-AtCell-clause-run : goal.returns-in-Ok-AtCell-clause-run

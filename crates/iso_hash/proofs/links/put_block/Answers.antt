@@ -53,4 +53,4 @@ pub returns-in-None-clause-behaves : goal.returns-in-None-clause-behaves
 returns-in-None-clause-behaves g c =
     let state = g.T.TxBlocks.state in
     refused_so (state c.args.tx.now) (state c.look.new.tx) 3 (g.T.TxBlocks.device c.args.tx.now) (g.T.TxBlocks.device c.look.new.tx) (store.NoBlocks 1 0)
-    (read_more (state c.args.tx.now) (state c.args.tx.now) (state c.look.new.tx) _ (read_none (state c.args.tx.now)) c.in_default.ensures.read refl) tt (λ x. cc, λ x. cc) c.in_default.ensures.later
+    (read_more (state c.args.tx.now) (state c.args.tx.now) (state c.look.new.tx) _ (read_none (state c.args.tx.now)) c.in_default.ensures.read refl) c.in_default.ensures.passed (λ x. cc, λ x. cc) c.in_default.ensures.later

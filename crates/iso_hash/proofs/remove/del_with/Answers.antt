@@ -6,9 +6,9 @@ use Rattle.store_model.specs.HashCalls.{is_spent}
 use Rattle.store_model.specs.Stores.{Program, Done}
 use Rattle.tx_blocks.proofs.Parts.{refused_so, behaves_after}
 use Rattle.tx_blocks.proofs.Progress.{ran_at, at_start}
-use Rattle.tx_blocks.proofs.Refusals.{store_cause}
+use Rattle.tx_blocks.proofs.Refusals.{behaves_more, store_cause}
 use Rattle.iso_hash.proofs.Getting.{walked_cell, walked_end, walk_known}
-use Rattle.iso_hash.proofs.Storing.{del_from, del_error, del_spent, del_kept, behaves_more}
+use Rattle.iso_hash.proofs.Storing.{del_from, del_error, del_spent, del_kept}
 use Rattle.iso_hash.proofs.remove.del_with.Goals as goal
 
 pub returns-then-is_spent-clause-run : goal.returns-then-is_spent-clause-run

@@ -32,7 +32,7 @@ returns-in-Err-clause-reads g c = let state = g.T.TxBlocks.state in read_same (s
 pub returns-in-Err-clause-cause : goal.returns-in-Err-clause-cause
 returns-in-Err-clause-cause g c =
     let device = g.T.TxBlocks.device in
-    cause_earlier (g.T.TxBlocks.state c.look.new.tx) 1 1 (device c.args.tx.now) (device c.loop-position.tx) (device c.look.new.tx) c.in-Err.e (omega arith) (omega (arith, c.loop-position.invariant.later.faults)) c.in-Err.ensures.cause
+    cause_earlier (g.T.TxBlocks.state c.look.new.tx) 1 1 (device c.args.tx.now) (device c.loop-position.tx) (device c.look.new.tx) c.in-Err.e (omega arith) c.loop-position.invariant.passed c.in-Err.ensures.cause
 
 pub returns-in-Err-clause-later : goal.returns-in-Err-clause-later
 returns-in-Err-clause-later g c = later_than (g.T.TxBlocks.device c.args.tx.now) (g.T.TxBlocks.device c.loop-position.tx) (g.T.TxBlocks.device c.look.new.tx) c.loop-position.invariant.later c.in-Err.ensures.later

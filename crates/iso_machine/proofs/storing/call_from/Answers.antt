@@ -2,7 +2,9 @@ use Rattle.std.proofs.Common.{ap, subst}
 use Rattle.core_blocks.specs.Guests.{Seen, tx_of}
 use Rattle.tx_blocks.specs.Runs.{area_of}
 use Rattle.tx_blocks.specs.Tx.{Tx}
-use Rattle.store_calls.specs.Calls.{HasCalled, store_ended}
+use Rattle.store_calls.specs.Calls.{HasCalled, Stops, store_ended}
+use Rattle.iso_core.specs.Core.{disk_of}
+use Rattle.iso_machine.proofs.Calls.{blames, device}
 use Rattle.iso_machine.proofs.storing.call_from.Goals as goal
 
 pub returns-clause-called : goal.returns-clause-called
@@ -11,3 +13,10 @@ returns-clause-called g c =
     let after = ap (λ (s : Seen). s.tx) c.leave-core.ensures.seen in
     subst (λ (u : Tx). HasCalled (store_ended (area_of (tx_of g.K.Origin.array c.args.work.now) c.args.region) c.args.op.now) (tx_of g.K.Origin.array c.args.work.now) u c.call-result.result) after
     (subst (λ (t : Tx). HasCalled (store_ended (area_of t c.args.region) c.args.op.now) t c.call-result.new.tx.guest.tx c.call-result.result) before c.call-result.ensures.called)
+
+pub returns-clause-cause : goal.returns-clause-cause
+returns-clause-cause g c =
+    let failures = c.leave-core.result.failures in
+    let stops = subst (λ (s : Seen). Stops (device 0) (device s.faults) c.call-result.result) c.leave-core.ensures.seen
+    (subst (λ (s : Seen). Stops (device s.faults) (device c.call-result.new.tx.guest.faults) c.call-result.result) c.over-blocks.ensures c.call-result.ensures.stops) in
+    blames failures g.K.Origin.disk.faults (g.D.Disk.state (disk_of c.leave-core.result.core.now)).faults c.call-result.result c.leave-core.ensures.guest.1.counts stops

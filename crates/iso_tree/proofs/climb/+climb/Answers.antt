@@ -7,8 +7,8 @@ use Rattle.tx_blocks.specs.Tx.{Tx}
 use Rattle.tx_blocks.specs.Runs.{HasRun, IsCut}
 use Rattle.store_model.specs.TreeNodes.{Cell, child_part, count_of, node_bytes, used_cells}
 use Rattle.iso_tree.specs.Rows.{key_in_row, row_from}
-use Rattle.store_model.specs.TreeCalls.{Answer, placed, store_nodes}
-use Rattle.iso_tree.proofs.Climbing.{first_usable, rest_usable, rest_inside, room_for, rest_room, last_writes, code_writes, rest_enough, more_inside, full_some, first_fails, second_fails, both_run, room_after, open_after}
+use Rattle.store_model.specs.TreeCalls.{Answer, placed, root_cells, store_nodes}
+use Rattle.iso_tree.proofs.Climbing.{first_usable, rest_usable, rest_inside, room_for, rest_room, last_writes, code_writes, rest_enough, more_inside, full_some, first_fails, second_fails, both_run, room_after, open_after, root_run}
 use Rattle.iso_tree.proofs.Filling.{key_fits}
 use Rattle.iso_tree.proofs.climb.+climb.Goals as goal
 
@@ -211,3 +211,11 @@ returns-in_default-first_new-2-clause-run g t c =
     let new : Cell = (c.args.new_key.now, c.args.part.now) in
     let full : cell_count a.size ≤ c.in-Some.count = omega (arith, c.if-count-cell_count.false, c.cell_count.ensures) in
     absurd (full_some a c.args.key.now c.args.level new c.args.below c.in-Some.block c.in-Some.count c.args.i c.in-Some.rest.now c.args.path.now c.args.nodes.now c.args.news.now c.in-Some.ensures.some c.requires.usable full c.requires.enough c.in_default-first_new-2.ensures.none)
+
+pub returns-in_default-clause-run : goal.returns-in_default-clause-run
+returns-in_default-clause-run g t c =
+    let state = g.T.TxBlocks.state in
+    let a = c.args.area in
+    root_run a (cell_count a.size) c.args.key.now c.args.level (c.args.new_key.now, c.args.part.now) c.args.below c.args.i c.in-Some-first_new.root c.args.path.now c.args.nodes.now c.args.news.now c.in-Some-first_new.field-0-1.now c.fill_root.new.into
+    (state c.args.tx.now) (state c.store_last.new.tx) c.store_last.result (search rules) c.in-Some-first_new.ensures.some
+    (c.fill_root.ensures ∙ ap (λ (n : ℕ). node_bytes n c.args.level (root_cells c.args.level c.args.below (c.args.new_key.now, c.args.part.now))) c.requires.into) c.store_last.ensures.run

@@ -3,6 +3,10 @@ use Rattle.iso_model.specs.declared.access.Span.{Span}
 use Rattle.store_model.specs.Cells.{cell_count, keys_mark, value_mark}
 use Rattle.store_model.specs.Stores.{bytes_in, look_access}
 use Rattle.tx_blocks.specs.Tx.{Device, mark_refusal, with_accesses}
+use Rattle.tx_blocks.proofs.Progress.{at_start}
+use Rattle.tx_blocks.proofs.Refusals.{cut_at_look}
+use Rattle.store_model.specs.TreeCalls.{inner_further}
+use Rattle.iso_tree.specs.Walks.{child_program}
 use Rattle.tx_blocks.proofs.Marking.{may_mark, marked_access}
 use Rattle.store_model.specs.TreeNodes.{count_of, place_of, is_child, child_of}
 use Rattle.iso_tree.proofs.Facts.{inner_many, child_below, node_parts, nothing_is}
@@ -65,6 +69,7 @@ returns-then-not-has_child-clause-reads g c =
     ∙ (λ i. with_accesses (state c.args.tx.now) (look_access (a.start + c.args.block) (c.keys_mark.ensures i ∷ c.value_mark.ensures i ∷ []) ∷ []))
     ∙ ap (λ (n : ℕ). with_accesses (state c.args.tx.now) (look_access (a.start + c.args.block) (keys_mark a.size ∷ value_mark a.size n ∷ []) ∷ [])) place in
     broken_read (state c.args.tx.now) (state c.mark.new.tx) _ (device c.args.tx.now) (device c.mark.new.tx) (a.start + c.args.block) access refl (later_as (device c.args.tx.now) (device c.look.new.tx) (device c.mark.new.tx) c.in_default.ensures.later c.mark.ensures.device)
+    (ap (λ (d : Device). d.faults) c.mark.ensures.device ∙ c.in_default.ensures.passed)
 
 pub returns-clause-run : goal.returns-clause-run
 returns-clause-run g c =
@@ -118,3 +123,11 @@ returns-clause-reads g c =
     ∙ ap (λ (n : ℕ). with_accesses (state c.args.tx.now) (look_access (a.start + c.args.block) (keys_mark a.size ∷ value_mark a.size n ∷ []) ∷ [])) place in
     ok_read (state c.args.tx.now) (state c.mark.new.tx) _ (device c.args.tx.now) (device c.mark.new.tx) (c.child.result, c.count.result) access refl c.in_default.ensures.is_open
     (later_as (device c.args.tx.now) (device c.look.new.tx) (device c.mark.new.tx) c.in_default.ensures.later c.mark.ensures.device) (ap (λ (d : Device). d.faults) c.mark.ensures.device ∙ c.in_default.ensures.passed)
+
+pub returns-in-Err-clause-run : goal.returns-in-Err-clause-run
+returns-in-Err-clause-run g c =
+    let state = g.T.TxBlocks.state in
+    let a = c.args.area in
+    let whole = child_program a c.args.key.now c.args.level c.args.block in
+    cut_at_look whole (a.start + c.args.block) (keys_mark a.size) (inner_further a c.args.key.now c.args.level) _ (state c.args.tx.now) (state c.args.tx.now) (state c.look.new.tx)
+    (g.T.TxBlocks.device c.args.tx.now) (g.T.TxBlocks.device c.look.new.tx) c.in-Err.e (at_start whole (state c.args.tx.now)) c.in-Err.ensures.kept c.in-Err.ensures.cause

@@ -1,6 +1,9 @@
-use Rattle.std.proofs.Common.{◌∙◌, sym, ap}
+use Rattle.std.proofs.Common.{◌∙◌, sym, ap, None}
 use Rattle.store_model.specs.Cells.{word_at}
-use Rattle.store_model.specs.TreeNodes.{is_head}
+use Rattle.store_model.specs.TreeNodes.{head_mark, is_head}
+use Rattle.tx_blocks.proofs.Progress.{at_start}
+use Rattle.tx_blocks.proofs.Refusals.{cut_at_look}
+use Rattle.iso_tree.specs.Walks.{head_program}
 use Rattle.iso_tree.proofs.Looking.{head_broken, head_read}
 use Rattle.iso_tree.proofs.descent.read_head.Goals as goal
 
@@ -16,3 +19,10 @@ returns-clause-run g c =
     head_read c.args.area (state c.args.tx.now) (state c.look.new.tx) c.look.new.into (g.met.T.TxBlocks.limits c.look.new.tx).count c.in_default.ensures.bytes c.in_default.ensures.read _ _
     (ap (is_head c.args.area) (sym c.piece-head.ensures.value) ∙ sym c.is_head.ensures ∙ c.if-not-is_head.false)
     (c.word_at.ensures ∙ ap (word_at 0) c.piece-head.ensures.value) (c.word_at-2.ensures ∙ ap (word_at 4) c.piece-head.ensures.value)
+
+pub returns-in-Err-clause-run : goal.returns-in-Err-clause-run
+returns-in-Err-clause-run g c =
+    let state = g.T.TxBlocks.state in
+    let whole = head_program c.args.area in
+    cut_at_look whole c.args.area.start head_mark (λ head. None) _ (state c.args.tx.now) (state c.args.tx.now) (state c.look.new.tx) (g.T.TxBlocks.device c.args.tx.now) (g.T.TxBlocks.device c.look.new.tx) c.in-Err.e
+    (at_start whole (state c.args.tx.now)) c.in-Err.ensures.kept c.in-Err.ensures.cause

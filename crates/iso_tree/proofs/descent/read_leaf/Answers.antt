@@ -5,6 +5,10 @@ use Rattle.store_model.specs.Stores.{bytes_in, look_access}
 use Rattle.tx_blocks.specs.Tx.{Device, mark_refusal, with_accesses}
 use Rattle.tx_blocks.proofs.Marking.{may_mark, marked_access}
 use Rattle.store_model.specs.TreeNodes.{cell_of}
+use Rattle.tx_blocks.proofs.Progress.{at_start}
+use Rattle.tx_blocks.proofs.Refusals.{cut_at_look}
+use Rattle.store_model.specs.TreeCalls.{leaf_further}
+use Rattle.iso_tree.specs.Walks.{leaf_program}
 use Rattle.iso_tree.proofs.Facts.{missing, cell_used, node_parts, nothing_is}
 use Rattle.iso_tree.proofs.Looking.{bytes_after, node_of, not_node, leaf_not_node, leaf_plain, leaf_missing, leaf_found, ok_read, later_as}
 use Rattle.iso_tree.proofs.descent.read_leaf.Goals as goal
@@ -84,3 +88,11 @@ returns-clause-bytes g c =
     let state = g.T.TxBlocks.state in
     bytes_after (state c.args.tx.now) (state c.mark.new.tx) _ (c.args.area.start + c.args.block) c.look.new.into c.in_default.ensures.bytes
     (marked_access (state c.args.tx.now) (state c.look.new.tx) (state c.mark.new.tx) _ _ c.in_default.ensures.read c.mark.ensures.marked) refl
+
+pub returns-in-Err-clause-run : goal.returns-in-Err-clause-run
+returns-in-Err-clause-run g c =
+    let state = g.T.TxBlocks.state in
+    let a = c.args.area in
+    let whole = leaf_program a c.args.key.now c.args.with_value c.args.block in
+    cut_at_look whole (a.start + c.args.block) (keys_mark a.size) (leaf_further a c.args.key.now c.args.with_value) _ (state c.args.tx.now) (state c.args.tx.now) (state c.look.new.tx)
+    (g.T.TxBlocks.device c.args.tx.now) (g.T.TxBlocks.device c.look.new.tx) c.in-Err.e (at_start whole (state c.args.tx.now)) c.in-Err.ensures.kept c.in-Err.ensures.cause

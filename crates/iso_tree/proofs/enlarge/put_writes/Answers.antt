@@ -4,7 +4,7 @@ use Rattle.tx_blocks.specs.Tx.{Tx}
 use Rattle.iso_tree.specs.Rows.{nodes_from}
 use Rattle.store_model.specs.TreeCalls.{climb}
 use Rattle.iso_tree.proofs.Climbing.{room_after}
-use Rattle.iso_tree.proofs.Enlarging.{way_of, writes_unfit, then_nodes}
+use Rattle.iso_tree.proofs.Enlarging.{first_unwritten, way_of, writes_unfit, then_nodes}
 use Rattle.iso_tree.proofs.enlarge.put_writes.Goals as goal
 
 pub returns-in-Err-clause-run : goal.returns-in-Err-clause-run
@@ -35,3 +35,10 @@ returns-clause-run g c = λ first used.
     then_nodes c.args.area first c.args.news.now (climb (cell_count c.args.area.size) c.args.key.now 0 (c.args.key.now, c.args.part.now) 0 (nodes_from c.args.area.size c.args.nodes.now 0 c.args.path.now) c.args.news.now) c.args.full way.count
     (state c.args.tx.now) c.new_root-root.result (state c.store_first.new.tx) (state c.climb.new.tx) c.climb.result c.in_default.ensures.ok (way.root ∙ sym c.new_root-root.ensures) (c.in_default-store_first.ensures.stored first used)
     (g.met.T.TxBlocks.limits c.store_first.new.tx).count c.climb.ensures.run
+
+pub returns-in-Err-store_first-clause-run : goal.returns-in-Err-store_first-clause-run
+returns-in-Err-store_first-clause-run g c = λ first used.
+    let state = g.T.TxBlocks.state in
+    let way = way_of c.args.area c.requires.area c.args.key.now (c.args.key.now, c.args.part.now) c.args.nodes.now c.args.path.now c.args.news.now c.args.full c.requires.block_size c.requires.usable c.requires.enough c.requires.full in
+    first_unwritten c.args.area first c.args.news.now (climb (cell_count c.args.area.size) c.args.key.now 0 (c.args.key.now, c.args.part.now) 0 (nodes_from c.args.area.size c.args.nodes.now 0 c.args.path.now) c.args.news.now) c.args.full way.count
+    (state c.args.tx.now) (state c.store_first.new.tx) (g.T.TxBlocks.device c.args.tx.now) (g.T.TxBlocks.device c.store_first.new.tx) c.in-Err-store_first.e c.in_default.ensures.ok c.in-Err-store_first.ensures.kept c.in-Err-store_first.ensures.cause

@@ -3,7 +3,7 @@ use Rattle.store_model.specs.Stores.{look_access}
 use Rattle.tx_blocks.specs.Tx.{Tx}
 use Rattle.tx_blocks.proofs.Refusals.{read_none, read_more}
 use Rattle.iso_tree.proofs.Descending.{reads_after}
-use Rattle.iso_tree.proofs.Rereading.{map_ok, map_err, first_refused, rest_refused, rest_read, shown_after, here_after, before_after, path_room, usable_more}
+use Rattle.iso_tree.proofs.Rereading.{map_ok, map_err, first_refused, rest_refused, rest_read, shown_after, here_after, before_after, none_again, path_room, usable_more}
 use Rattle.iso_tree.proofs.grow.+look_nodes.Goals as goal
 
 pub returns-in-Err-clause-refused : goal.returns-in-Err-clause-refused
@@ -101,3 +101,6 @@ returns-clause-reads g t c =
     reads_after (state c.args.tx.now) (state c.look_whole.new.tx) (state c.look_nodes.new.tx) (device c.args.tx.now) (device c.look_whole.new.tx) (device c.look_nodes.new.tx) c.look_nodes.result
     (read_more (state c.args.tx.now) (state c.args.tx.now) (state c.look_whole.new.tx) (look_access (c.args.area.start + c.in-Some.block) []) (read_none (state c.args.tx.now)) c.in_default-look_whole.ensures.read refl)
     c.in_default-look_whole.ensures.later c.in_default-look_whole.ensures.passed c.look_nodes.ensures.reads
+
+pub returns-in_default-clause-read : goal.returns-in_default-clause-read
+returns-in_default-clause-read g t c = λ f. none_again c.args.area c.args.path.now f c.args.nodes.now c.args.i (g.T.TxBlocks.state c.args.tx.now) (search rules)

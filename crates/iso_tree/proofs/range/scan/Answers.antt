@@ -1,16 +1,23 @@
-use Rattle.std.proofs.Common.{◌∙◌, sym, subst, ℕ}
+use Rattle.std.proofs.Common.{◌∙◌, sym, subst, inl, ℕ}
 use Rattle.store_model.specs.TreeCalls.{scan_program}
-use Rattle.tx_blocks.specs.Runs.{area_of, HasRun}
-use Rattle.iso_tree.proofs.Scanning.{bad_keys, scan_any}
+use Rattle.tx_blocks.specs.Runs.{area_of}
+use Rattle.iso_tree.specs.Visits.{HasScanned}
+use Rattle.iso_tree.proofs.Scanning.{bad_keys, scan_any, scan_ended}
 use Rattle.iso_tree.proofs.range.scan.Goals as goal
 
 pub returns-then-not-are_keys-clause-ended : goal.returns-then-not-are_keys-clause-ended
 returns-then-not-are_keys-clause-ended g c =
     let state = g.T.TxBlocks.state in
-    bad_keys (area_of (state c.args.tx.now) c.args.region) c.args.from.now c.args.to.now c.args.max (state c.args.tx.now) (sym c.are_keys.ensures ∙ c.if-not-are_keys.true)
+    inl (bad_keys (area_of (state c.args.tx.now) c.args.region) c.args.from.now c.args.to.now c.args.max (state c.args.tx.now) (sym c.are_keys.ensures ∙ c.if-not-are_keys.true))
 
 pub returns-clause-local : goal.returns-clause-local
 returns-clause-local g c =
     let state = g.T.TxBlocks.state in
     scan_any (area_of (state c.args.tx.now) c.args.region) c.args.from.now c.args.to.now c.args.max (state c.args.tx.now) (state c.scan_with.new.tx) c.scan_with.result (sym c.are_keys.ensures ∙ c.if-not-are_keys.false)
-    (subst (λ (n : ℕ). HasRun (scan_program (record { size = n; start = c.args.region.start; blocks = c.args.region.size }) c.args.from.now c.args.to.now c.args.max) (state c.args.tx.now) (state c.scan_with.new.tx) c.scan_with.result) c.block_size.ensures c.scan_with.ensures.run)
+    (subst (λ (n : ℕ). HasScanned (scan_program (record { size = n; start = c.args.region.start; blocks = c.args.region.size }) c.args.from.now c.args.to.now c.args.max) (state c.args.tx.now) (state c.scan_with.new.tx) c.scan_with.result) c.block_size.ensures c.scan_with.ensures.run)
+
+pub returns-clause-ended : goal.returns-clause-ended
+returns-clause-ended g c =
+    let state = g.T.TxBlocks.state in
+    scan_ended (area_of (state c.args.tx.now) c.args.region) c.args.from.now c.args.to.now c.args.max (state c.args.tx.now) (state c.scan_with.new.tx) c.scan_with.result
+    (subst (λ (n : ℕ). HasScanned (scan_program (record { size = n; start = c.args.region.start; blocks = c.args.region.size }) c.args.from.now c.args.to.now c.args.max) (state c.args.tx.now) (state c.scan_with.new.tx) c.scan_with.result) c.block_size.ensures c.scan_with.ensures.run)

@@ -1,17 +1,17 @@
-use Rattle.std.proofs.Common.{Err}
+use Rattle.std.proofs.Common.{Err, inl}
 use Rattle.store_model.specs.TreeCalls.{scan_below}
-use Rattle.iso_tree.proofs.Getting.{head_refused, head_then}
-use Rattle.iso_tree.proofs.Scanning.{scan_run}
+use Rattle.iso_tree.proofs.Getting.{head_refused}
+use Rattle.iso_tree.proofs.Scanning.{head_scanned, scan_run}
 use Rattle.iso_tree.proofs.range.scan_with.Goals as goal
 
 pub returns-in-Err-clause-run : goal.returns-in-Err-clause-run
 returns-in-Err-clause-run g c =
     let state = g.T.TxBlocks.state in
     scan_run c.args.area c.args.from.now c.args.to.now c.args.max (state c.args.tx.now) (state c.read_head.new.tx) (Err c.in-Err.e) c.requires.keys
-    (head_refused c.args.area (scan_below c.args.area c.args.from.now c.args.to.now c.args.max) (state c.args.tx.now) (state c.read_head.new.tx) c.in-Err.e c.in-Err.ensures.run)
+    (inl (head_refused c.args.area (scan_below c.args.area c.args.from.now c.args.to.now c.args.max) (state c.args.tx.now) (state c.read_head.new.tx) c.in-Err.e c.in-Err.ensures.run))
 
 pub returns-in-Ok-clause-run : goal.returns-in-Ok-clause-run
 returns-in-Ok-clause-run g c =
     let state = g.T.TxBlocks.state in
     scan_run c.args.area c.args.from.now c.args.to.now c.args.max (state c.args.tx.now) (state c.scan_below.new.tx) c.scan_below.result c.requires.keys
-    (head_then c.args.area (scan_below c.args.area c.args.from.now c.args.to.now c.args.max) (state c.args.tx.now) (state c.read_head.new.tx) (state c.scan_below.new.tx) (c.in-Ok.root, c.in-Ok.level) c.scan_below.result c.in-Ok.ensures.run c.scan_below.ensures.run)
+    (head_scanned c.args.area (scan_below c.args.area c.args.from.now c.args.to.now c.args.max) (state c.args.tx.now) (state c.read_head.new.tx) (state c.scan_below.new.tx) (c.in-Ok.root, c.in-Ok.level) c.scan_below.result c.in-Ok.ensures.run c.scan_below.ensures.run)

@@ -1,10 +1,9 @@
-use Rattle.std.proofs.Common.{◌∙◌, subst, ◌-◌, ℕ, List, [], ◌∷◌, Err, length, arith}
-use Rattle.tx_blocks.proofs.Parts.{read_join, run_from}
-use Rattle.tx_blocks.proofs.Progress.{IsAt}
-use Rattle.tx_blocks.proofs.Refusals.{later_than}
+use Rattle.std.proofs.Common.{◌≡◌, ◌∙◌, refl, sym, subst, ◌-◌, ℕ, List, [], ◌∷◌, Err, inl, length, arith}
+use Rattle.tx_blocks.proofs.Parts.{read_join}
+use Rattle.tx_blocks.proofs.Progress.{IsAt, at_join, at_start}
+use Rattle.tx_blocks.proofs.Refusals.{later_than, read_none}
 use Rattle.iso_tree.specs.Visits.{scan_nodes}
-use Rattle.iso_tree.proofs.Rereading.{at_join}
-use Rattle.iso_tree.proofs.Scanning.{walk_full}
+use Rattle.iso_tree.proofs.Scanning.{scanned_from, walk_full}
 use Rattle.iso_tree.proofs.range.walk.Goals as goal
 
 pub returns-in-Err-clause-run : goal.returns-in-Err-clause-run
@@ -17,7 +16,23 @@ returns-in-Err-clause-run g c =
     let next = scan_nodes a c.args.from.now c.args.to.now ((c.in-Some.level, c.in-Some.block) ∷ c.pop.new.self) (max - length found) found in
     let here : IsAt whole next (state c.args.tx.now) (state c.loop-alloc.tx) =
     subst (λ (nodes : List (ℕ × ℕ)). IsAt whole (scan_nodes a c.args.from.now c.args.to.now nodes (max - length found) found) (state c.args.tx.now) (state c.loop-alloc.tx)) c.in-Some.ensures.some c.loop-alloc.invariant.here in
-    run_from whole next (state c.args.tx.now) (state c.loop-alloc.tx) (state c.step.new.tx) (Err c.in-Err.e) here c.in-Err.ensures.refused
+    scanned_from whole next (state c.args.tx.now) (state c.loop-alloc.tx) (state c.step.new.tx) (Err c.in-Err.e) here c.in-Err.ensures.refused
+
+pub loop-alloc-init : goal.loop-alloc-init
+loop-alloc-init g c =
+    let t = g.T.TxBlocks.state c.args.tx.now in
+    let whole = scan_nodes c.args.area c.args.from.now c.args.to.now c.args.unread.now c.args.max [] in
+    record {
+      here = subst (λ (found : List (List ℕ × List ℕ)). IsAt whole (scan_nodes c.args.area c.args.from.now c.args.to.now c.args.unread.now (c.args.max - length found) found) t t) (sym c.empty-found.ensures)
+          (subst (λ (left : ℕ). IsAt whole (scan_nodes c.args.area c.args.from.now c.args.to.now c.args.unread.now left []) t t) (sym (none_less c.args.max)) (at_start whole t));
+      nodes = c.requires.nodes;
+      reads = read_none t;
+      later = record { faults = omega arith; down = λ d. d };
+      passed = refl;
+    }
+  where
+    none_less : (n : ℕ) → n - 0 ≡ n
+    none_less n = omega arith
 
 pub loop-alloc-preserved : goal.loop-alloc-preserved
 loop-alloc-preserved g c =
@@ -43,4 +58,4 @@ returns-clause-run g c =
     let state = g.T.TxBlocks.state in
     let a = c.args.area in
     let left = c.args.max - length c.loop-alloc.found in
-    walk_full a c.args.from.now c.args.to.now (scan_nodes a c.args.from.now c.args.to.now c.args.unread.now c.args.max []) (state c.args.tx.now) (state c.loop-alloc.tx) c.loop-alloc.unread left c.loop-alloc.found c.loop-alloc.invariant.here (omega (arith, c.loop-alloc-test.false))
+    inl (walk_full a c.args.from.now c.args.to.now (scan_nodes a c.args.from.now c.args.to.now c.args.unread.now c.args.max []) (state c.args.tx.now) (state c.loop-alloc.tx) c.loop-alloc.unread left c.loop-alloc.found c.loop-alloc.invariant.here (omega (arith, c.loop-alloc-test.false)))

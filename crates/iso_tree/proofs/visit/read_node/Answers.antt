@@ -11,7 +11,7 @@ use Rattle.tx_blocks.proofs.Marking.{may_mark}
 use Rattle.iso_tree.specs.Visits.{keys_of, values_mark}
 use Rattle.iso_tree.proofs.Facts.{inner_many, node_parts}
 use Rattle.iso_tree.proofs.Looking.{broken_read, later_as, ok_read}
-use Rattle.iso_tree.proofs.Visiting.{marked_so, one_more, visit_end}
+use Rattle.iso_tree.proofs.Visiting.{marked_so, one_more, visit_end, visit_refused}
 use Rattle.iso_tree.proofs.visit.read_node.Goals as goal
 
 pub cells_between-visit-requires-clause-parts : goal.cells_between-visit-requires-clause-parts
@@ -104,6 +104,7 @@ returns-then-not-are_parts-clause-reads g c =
     marked_so (state c.args.tx.now) (state c.look.new.tx) (state c.mark_values.new.tx) (a.start + c.args.block) (keys_mark a.size) (values_mark a.size first many) many
     (c.in_default.ensures.read ∙ ap (λ (s : Span). with_accesses (state c.args.tx.now) (look_access (a.start + c.args.block) (s ∷ []) ∷ [])) c.keys_mark.ensures) c.mark_values.ensures.none c.mark_values.ensures.some in
     broken_read (state c.args.tx.now) (state c.mark_values.new.tx) _ (device c.args.tx.now) (device c.mark_values.new.tx) (a.start + c.args.block) access refl (later_as (device c.args.tx.now) (device c.look.new.tx) (device c.mark_values.new.tx) c.in_default.ensures.later c.mark_values.ensures.device)
+    (ap (λ (d : Device). d.faults) c.mark_values.ensures.device ∙ c.in_default.ensures.passed)
 
 pub returns-clause-run : goal.returns-clause-run
 returns-clause-run g c =
@@ -157,3 +158,8 @@ returns-clause-reads g c =
     (c.in_default.ensures.read ∙ ap (λ (s : Span). with_accesses (state c.args.tx.now) (look_access (a.start + c.args.block) (s ∷ []) ∷ [])) c.keys_mark.ensures) c.mark_values.ensures.none c.mark_values.ensures.some in
     ok_read (state c.args.tx.now) (state c.mark_values.new.tx) _ (device c.args.tx.now) (device c.mark_values.new.tx) c.cells_between-visit.result access refl c.in_default.ensures.is_open
     (later_as (device c.args.tx.now) (device c.look.new.tx) (device c.mark_values.new.tx) c.in_default.ensures.later c.mark_values.ensures.device) (ap (λ (d : Device). d.faults) c.mark_values.ensures.device ∙ c.in_default.ensures.passed)
+
+pub returns-in-Err-clause-refused : goal.returns-in-Err-clause-refused
+returns-in-Err-clause-refused g c =
+    let state = g.T.TxBlocks.state in
+    visit_refused c.args.area c.args.from.now c.args.to.now c.args.level c.args.block (state c.args.tx.now) (state c.look.new.tx) (g.T.TxBlocks.device c.args.tx.now) (g.T.TxBlocks.device c.look.new.tx) c.in-Err.e c.in-Err.ensures.kept c.in-Err.ensures.cause

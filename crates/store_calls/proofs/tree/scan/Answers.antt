@@ -10,8 +10,8 @@ use Rattle.store_model.specs.Stores.{Done, Program, outcome}
 use Rattle.store_model.specs.TreeCalls.{Scanned, scan_below, scan_program, with_head}
 use Rattle.tx_blocks.specs.Runs.{area_of}
 use Rattle.script_model.specs.declared.stop.Stop.{Stop}
-use Rattle.store_calls.specs.Calls.{HasCalled, replied}
-use Rattle.store_calls.proofs.Called.{called_err, no_more}
+use Rattle.store_calls.specs.Calls.{HasCalled, Stops, replied}
+use Rattle.store_calls.proofs.Called.{no_more, scanned_err, stops_scan}
 use Rattle.store_calls.proofs.tree.scan.Goals as goal
 
 not_both : (x y z : Bool) → (x && y && z) ≡ false → z ≡ true → (x && y) ≡ false
@@ -35,6 +35,7 @@ returns-then-most-eq0-clause-called g c =
       done = [];
       is = no_more t;
       told = λ A told. no_key (area_of t c.args.region) c.args.from.now c.args.to.now c.args.most _ _ (not_both (is_key c.args.from.now) (is_key c.args.to.now) (c.args.most == 0) c.requires.some none);
+      stopped = tt;
     }
 
 pub returns-in-Err-clause-called : goal.returns-in-Err-clause-called
@@ -42,4 +43,13 @@ returns-in-Err-clause-called g c =
     let t = g.T.TxBlocks.state c.args.tx.now in
     let u = g.T.TxBlocks.state c.scan.new.tx in
     let p = scan_program (area_of t c.args.region) c.args.from.now c.args.to.now c.args.most in
-    subst (λ (r : Result Reply Stop). HasCalled (λ room A. replied pairs_reply (outcome room p A)) t u r) (sym c.refusal.ensures) (called_err p t u pairs_reply c.in-Err.error c.in-Err.ensures.ended)
+    subst (λ (r : Result Reply Stop). HasCalled (λ room A. replied pairs_reply (outcome room p A)) t u r) (sym c.refusal.ensures) (scanned_err p t u pairs_reply c.in-Err.error c.in-Err.ensures.ended)
+
+pub returns-in-Err-clause-stops : goal.returns-in-Err-clause-stops
+returns-in-Err-clause-stops g c =
+    let t = g.T.TxBlocks.state c.args.tx.now in
+    let u = g.T.TxBlocks.state c.scan.new.tx in
+    let p = scan_program (area_of t c.args.region) c.args.from.now c.args.to.now c.args.most in
+    let before = g.T.TxBlocks.device c.args.tx.now in
+    let now = g.T.TxBlocks.device c.scan.new.tx in
+    subst (λ (r : Result Reply Stop). Stops before now r) (sym c.refusal.ensures) (stops_scan p t u before now 1 c.in-Err.error c.requires.is_open c.in-Err.ensures.ended c.in-Err.ensures.cause)

@@ -1,0 +1,10 @@
+use Rattle.std.proofs.Common.{sym, subst, Option}
+use Rattle.store_model.specs.HashCalls.{put_at, AtEnd}
+use Rattle.store_model.specs.declared.stores.Spot.{Spot}
+use Rattle.tx_blocks.specs.Runs.{HasRun}
+use Rattle.iso_hash.proofs.insert.put_missing.Goals as goal
+
+pub returns-in-None-clause-run : goal.returns-in-None-clause-run
+returns-in-None-clause-run g c =
+    let state = g.T.TxBlocks.state in
+    subst (λ (o : Option Spot). HasRun (put_at c.args.area c.args.key.now c.args.value.now (AtEnd o c.args.last c.args.position)) (state c.args.tx.now) (state c.put_block.new.tx) c.put_block.result) (sym c.in-None.is) c.put_block.ensures.run
