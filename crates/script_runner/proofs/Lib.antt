@@ -3,7 +3,9 @@ pub mod Fronts
 pub mod Said
 pub mod Histories
 mod Acknowledged
+pub mod Replying
 pub mod Steps
 pub mod Answering
 pub mod Endings
 mod Rehearsals
+mod ReplyRows

@@ -15,7 +15,7 @@ use super::*;
 use fault_count::raise;
 use iso_io::{MemSink, MemSource};
 use iso_model::Mode;
-use script_model::{BadLine, Op, Reply};
+use script_model::{BadLine, Op, Reply, Stop};
 use std::alloc::{AllocError, Global};
 use std::test::Fail;
 
