@@ -5,15 +5,17 @@ use Rattle.iso_disk.specs.Disk.{DiskState}
 use Rattle.iso_io.specs.Sink.{SinkState, Wrote}
 use Rattle.iso_io.proofs.Told.{append_known-append, append_known-nil}
 use Rattle.iso_model.specs.World.{World}
+use Rattle.iso_model.specs.Worlds.{IsWorld}
 use Rattle.script_model.specs.declared.script.Line.{Line}
 use Rattle.script_model.specs.declared.script.Reply.{Reply}
+use Rattle.script_model.specs.Bench.{answers_to}
 use Rattle.script_model.specs.Script.{replies}
 use Rattle.script_model.specs.Step.{step}
 use Rattle.script_model.specs.Text.{reply_line}
 use Rattle.script_runner.specs.declared.run_end.RunEnd.{RunEnd}
 use Rattle.script_runner.specs.declared.run_end.RunEnd.TheVariants.{Done, BadLine as Bad, Disk, Input, Output, Memory}
-use Rattle.script_runner.specs.Replies.{AreRepliesTo, IfCut, IsReplyTo, PutReplies, PutRepliesBy, Replied, text_of}
-use Rattle.script_runner.specs.Told.{IsPlain, SameButShown, StandsSo}
+use Rattle.script_runner.specs.Replies.{AreRepliesTo, AreSameButShown, IfCut, IsReplyTo, PutReplies, PutRepliesBy, Replied, text_of}
+use Rattle.script_runner.specs.Told.{ArePlain, IsPlain, SameButShown, StandsSo}
 
 -- the text of one reply
 pub reply_is : (W : World) (number : ℕ) (said : Line) (answer : Reply) (given set : List ℕ) → given ≡ set → set ≡ reply_line said.client answer
@@ -95,8 +97,8 @@ put_none k W = record { given = []; are = refl; put = sym (append_known-nil _) }
 
 -- what a machine answered
 pub is_reply : {stands : World → Type 0} {d : DiskState} (W : World) (line : Line) (r : Reply) → (so : StandsSo stands d (IsPlain line.op) (step W line.client line.op).1)
-    → (IsPlain line.op → SameButShown r (step W line.client line.op).0) → IsReplyTo W line r so.world
-is_reply W line r so shown = record { plain = λ plain. (shown plain, so.known (inr plain)); history = so.history; geometry = so.geometry }
+    → IsWorld so.world → (IsPlain line.op → SameButShown r (step W line.client line.op).0) → IsReplyTo W line r so.world
+is_reply W line r so sound shown = record { plain = λ plain. (shown plain, so.known (inr plain)); history = so.history; geometry = so.geometry; sound = sound }
 
 pub put_one : (k l : SinkState) (W : World) (x : ℕ × Line) (r : Reply) (V : World) → IsReplyTo W x.1 r V → Wrote k l (text_of (x ∷ []) (r ∷ [])) → PutReplies k l W (x ∷ []) V
 put_one k l W x r V is put = record { given = r ∷ []; are = (V, is, refl); put = put }
@@ -137,3 +139,12 @@ put_quiet end k l W V xs quiet done = record {
   last_is = quiet_cut end _ quiet;
   put = quiet_replies end k l (text_of xs done.given) [] quiet done.put;
 }
+
+-- replies to lines that call no store are the model's but for the bytes shown
+pub plain_same : (W V : World) (xs : List (ℕ × Line)) (rs : List Reply) → ArePlain xs → AreRepliesTo W xs rs V → AreSameButShown rs (answers_to W xs)
+plain_same W V [] [] plain are = tt
+plain_same W V [] (r ∷ rs) plain are = absurd are
+plain_same W V (x ∷ xs) [] plain are = absurd are
+plain_same W V (x ∷ xs) (r ∷ rs) plain are =
+    let one = are.1.plain plain.0 in
+    (one.0, subst (λ (U : World). AreSameButShown rs (answers_to U xs)) one.1 (plain_same are.0 V xs rs plain.1 are.2))

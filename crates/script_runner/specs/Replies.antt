@@ -1,9 +1,11 @@
 -- What was put of the replies of a run.
-use Rattle.std.specs.Prelude.{◌≡◌, ℕ, ◌<◌, List, [], ◌∷◌, ◌++◌, length, take}
+use Rattle.std.specs.Prelude.{◌≡◌, ◌⊎◌, ℕ, ◌<◌, List, [], ◌∷◌, ◌++◌, length, take}
 use Rattle.iso_io.specs.Sink.{SinkState, Wrote}
 use Rattle.iso_model.specs.World.{World}
+use Rattle.iso_model.specs.Worlds.{IsWorld}
 use Rattle.script_model.specs.declared.script.Line.{Line}
 use Rattle.script_model.specs.declared.script.Reply.{Reply}
+use Rattle.script_model.specs.declared.script.Reply.TheVariants.{Committed}
 use Rattle.script_model.specs.Step.{step}
 use Rattle.script_model.specs.Text.{reply_line}
 use Rattle.script_runner.specs.declared.run_end.RunEnd.{RunEnd}
@@ -28,6 +30,7 @@ pub record IsReplyTo (W : World) (line : Line) (reply : Reply) (V : World) : Typ
   pub plain : IsPlain line.op → SameButShown reply (step W line.client line.op).0 × (V ≡ (step W line.client line.op).1)
   pub history : V.history ≡ (step W line.client line.op).1.history
   pub geometry : V.geometry ≡ (step W line.client line.op).1.geometry
+  pub sound : IsWorld V
 
 -- the lines were answered so, one after the other
 abbrev pub AreRepliesTo : World → List (ℕ × Line) → List Reply → World → Type 0
@@ -48,6 +51,12 @@ AreSameButShown [] [] = Unit {0}
 AreSameButShown [] (y ∷ ys) = ⊥
 AreSameButShown (x ∷ xs) [] = ⊥
 AreSameButShown (x ∷ xs) (y ∷ ys) = SameButShown x y × AreSameButShown xs ys
+
+-- a line that calls no store was answered that commit n was made
+abbrev pub TellsCommit : List (ℕ × Line) → List Reply → (n : ℕ) → Type 0
+TellsCommit [] replies n = ⊥
+TellsCommit (line ∷ lines) [] n = ⊥
+TellsCommit (line ∷ lines) (reply ∷ replies) n = (IsPlain line.1.op × (reply ≡ Committed n)) ⊎ TellsCommit lines replies n
 
 -- what holds where the sink ended the run, and so the reply to one more line was made
 abbrev pub IfCut : RunEnd → Type 0 → Type 0

@@ -60,7 +60,7 @@ returns-in-Err-put_all-clause-halted g c W number stood =
             short = subst (λ (t : List ℕ). err.count < length t) (text told) err.short;
             wrote = err.wrote ∙ ap (λ t. append_known (g.K.Sink.state c.args.output.now).written (take err.count t)) (text told);
           })
-          (put_front (g.K.Sink.state c.args.output.now) (g.K.Sink.state c.put_all.new.sink) W so.world x c.in-Ok.answer (is_reply W c.args.line.now c.in-Ok.answer so (c.in-Ok.ensures.but_shown W stood)) (record {
+          (put_front (g.K.Sink.state c.args.output.now) (g.K.Sink.state c.put_all.new.sink) W so.world x c.in-Ok.answer (is_reply W c.args.line.now c.in-Ok.answer so (law.sound c.step.new.self so.world so.is) (c.in-Ok.ensures.but_shown W stood)) (record {
             count = err.count;
             short = subst (λ (t : List ℕ). err.count < length t) made err.short;
             wrote = err.wrote ∙ ap (λ t. append_known (g.K.Sink.state c.args.output.now).written (take err.count t)) made;
@@ -79,5 +79,5 @@ returns-clause-ran g c W number stood =
     let so = c.in-Ok.ensures.world W stood in
     ran_one W x (law.sound c.args.machine.now W stood) c.requires.line.op (c.step.ensures.moments W stood) so (law.sound c.step.new.self so.world so.is) (λ d here. law.shown c.step.new.self so.world d so.is here)
     (λ told. c.in_default-put_all.ensures.ok ∙ ap (append_known (g.K.Sink.state c.args.output.now).written) (text told))
-    (put_one (g.K.Sink.state c.args.output.now) (g.K.Sink.state c.put_all.new.sink) W x c.in-Ok.answer so.world (is_reply W c.args.line.now c.in-Ok.answer so (c.in-Ok.ensures.but_shown W stood))
+    (put_one (g.K.Sink.state c.args.output.now) (g.K.Sink.state c.put_all.new.sink) W x c.in-Ok.answer so.world (is_reply W c.args.line.now c.in-Ok.answer so (law.sound c.step.new.self so.world so.is) (c.in-Ok.ensures.but_shown W stood))
     (c.in_default-put_all.ensures.ok ∙ ap (append_known (g.K.Sink.state c.args.output.now).written) made)) c.in-Ok.ensures.told c.in-Ok.ensures.cause.passed c.in_default-put_all.ensures.passed
