@@ -15,9 +15,10 @@ use Rattle.iso_model.specs.World.{World}
 use Rattle.iso_shared.specs.Standing.{start_at, whole}
 use Rattle.iso_shared.proofs.Growing.{between_grown, grows_all}
 use Rattle.iso_model.specs.Between.{ShowsBetween}
-use Rattle.iso_shared.specs.States.{Start, State, opened, state_at}
+use Rattle.iso_shared.specs.States.{Start, State, state_at}
 use Rattle.iso_refusal.specs.declared.open_error.OpenError.{OpenError}
 use Rattle.par_lines.specs.declared.par.ParEnd.{ParEnd}
+use Rattle.store_entries.proofs.Listed.{stores_answer_at}
 use Rattle.whole_script.specs.declared.lines.ScriptError.{ScriptError}
 use Rattle.whole_script.specs.declared.lines.ScriptError.TheVariants as error
 use Rattle.whole_script.specs.Read.{HasNoLines, HasRead}
@@ -99,6 +100,7 @@ module _ {D : Type 0} (state : D → DiskState) (lawful : (d : D) → IsLawful (
         entries = closed.entries;
         ran = ran;
         isolated = closed.isolated;
+        stores = stores_answer_at A closed.entries begins.stands.kept_of.world begins.idle closed.legal closed.isolated;
         exit = λ bytes here. images_shown state closed.core S closed.holds bytes (subst (λ (d : D). (state d).now bytes) closed.image_is here);
         since = since_bind begins.name begins.binds
             (joined (weakened first (λ c shown. between_grown W W (whole S) c begins.stands.kept_of.world.history.first (grows_all A closed.entries closed.legal) shown)) closed.came.moments);

@@ -12,14 +12,20 @@ use Rattle.iso_refusal.specs.declared.open_error.OpenError.{OpenError}
 use Rattle.iso_refusal.specs.declared.open_error.OpenError.TheVariants as error
 use Rattle.iso_refusal.proofs.ImageLaws.{image_opens}
 use Rattle.script_model.specs.declared.script.Line.{Line}
-use Rattle.script_model.specs.Bench.{recover_output}
+use Rattle.script_model.specs.Bench.{answers_to, recover_output}
+use Rattle.script_model.specs.Operations.{IsOp}
 use Rattle.script_model.specs.Script.{Script, after, replies, script}
 use Rattle.script_runner.specs.declared.run_end.RunEnd.{RunEnd}
 use Rattle.script_runner.specs.declared.run_end.RunEnd.TheVariants as end
+use Rattle.script_runner.specs.Replies.{AreSameButShown, TellsCommit, text_of}
 use Rattle.script_runner.specs.Run.{Acknowledges, AreLinesOf}
+use Rattle.script_runner.specs.Told.{ArePlain}
+use Rattle.script_runner.proofs.Acknowledged.{told_kept}
+use Rattle.script_runner.proofs.Replying.{plain_same}
+use Rattle.script_runner.proofs.Steps.{all_first}
 use Rattle.iso_top.specs.Clients.{HasRunClients}
 use Rattle.iso_top.specs.Outcome.{HasAnswered, HasMet, PrintedDigest}
-use Rattle.iso_top.specs.Plain.{OpensFrom, PrintsDigestOf, PrintsReplies, PrintsRepliesOf}
+use Rattle.iso_top.specs.Plain.{OpensFrom, PrintsButShown, PrintsButShownOf, PrintsDigestOf, PrintsReplies, PrintsRepliesOf}
 use Rattle.iso_top.specs.Starts.{MayBeUnmade, OpensTo, TellsNamed}
 use Rattle.iso_top.specs.Texts.{end_status, error_status}
 
@@ -101,6 +107,46 @@ module _ {D : Type 0} (state : D → DiskState) (name : List ℕ) (old new : D) 
       opens_later n (last a.run.answered.reached.history) c
       (subst (λ (W : World). n ≤ last W.history) (sym reached) (a.run.answered.acknowledged n told))
       (opens_between a.run.answered.reached a.run.answered.final c (a.run.answered.exit c here))
+
+  pub told_opens : (made : Option Geometry) (e : RunEnd) (a : HasAnswered state made name e old new input_old input_new output_old output_new)
+      → (n : ℕ) → TellsCommit a.run.done a.run.answered.on_any_disk.given n → (c : List ℕ) → (state new).now c → OpensFrom n c
+  told_opens made e a n told c here =
+      let put = a.run.answered.on_any_disk in
+      opens_later n (last a.run.answered.reached.history) c
+      (told_kept a.world a.run.answered.reached a.run.done put.given a.begun.sound (all_first (λ (line : ℕ × Line). IsOp line.1.op) a.run.done a.run.next a.run.answered.good) put.are n told)
+      (opens_between a.run.answered.reached a.run.answered.final c (a.run.answered.exit c here))
+
+  -- what was put on any disk
+  prints_any : (made : Option Geometry) (all : List ℕ) (a : HasAnswered state made name end.Done old new input_old input_new output_old output_new)
+      → input_old.rest ≡ Some all → ArePlain (script all).lines → PrintsButShown a.world all output_old output_new
+  prints_any made all a rest plain =
+      let put = a.run.answered.on_any_disk in
+      let lines : AreLinesOf end.Done (script all) a.run.done a.run.next = subst (λ (o : Option (List ℕ)). IfSome o (λ text. AreLinesOf end.Done (script text) a.run.done a.run.next)) rest a.run.told in
+      let done : (script all).lines ≡ a.run.done = ap (λ (S : Script). S.lines) lines.0 in
+      let good : ArePlain a.run.done = subst ArePlain done plain in
+      record {
+        whole = ap (λ (S : Script). S.bad) lines.0;
+        given = put.given;
+        same = subst (λ (xs : List (ℕ × Line)). AreSameButShown put.given (answers_to a.world xs)) (sym done) (plain_same a.world a.run.answered.reached a.run.done put.given good put.are);
+        put = subst (λ (xs : List (ℕ × Line)). Wrote output_old output_new (text_of xs put.given)) (sym done)
+            (subst (λ (k : SinkState). Wrote output_old k (text_of a.run.done put.given)) (sym a.last) put.put);
+      }
+
+  pub made_prints_any : (g : Geometry) (all : List ℕ) → HasMet state (New g) name 0 old new input_old input_new output_old output_new → input_old.rest ≡ Some all → ArePlain (script all).lines
+      → PrintsButShown (fresh g 1 (empty_history g)) all output_old output_new
+  made_prints_any g all (inl (e, is, not)) rest plain = absurd (zero_is_begun e is)
+  made_prints_any g all (inr (e, is, a)) rest plain =
+      let done : HasAnswered state (Some g) name end.Done old new input_old input_new output_old output_new =
+      subst (λ (f : RunEnd). HasAnswered state (Some g) name f old new input_old input_new output_old output_new) (zero_is_done e is) a in
+      subst (λ (W : World). PrintsButShown W all output_old output_new) done.begun.starts (prints_any (Some g) all done rest plain)
+
+  pub given_prints_any : (all : List ℕ) → HasMet state Run name 0 old new input_old input_new output_old output_new → input_old.rest ≡ Some all → ArePlain (script all).lines
+      → PrintsButShownOf ((state old).named name) all output_old output_new
+  given_prints_any all (inl (e, is, not)) rest plain = absurd (zero_is_begun e is)
+  given_prints_any all (inr (e, is, a)) rest plain =
+      let done : HasAnswered state None name end.Done old new input_old input_new output_old output_new =
+      subst (λ (f : RunEnd). HasAnswered state None name f old new input_old input_new output_old output_new) (zero_is_done e is) a in
+      (done.world, done.begun.starts, prints_any None all done rest plain)
 
   pub clients_open : (status : ℕ) (r : HasRunClients state name status old new input_old input_new output_old output_new) → SinceBind (state new) (OpensFrom (last r.world.history))
   clients_open status r moment is c left = opens_between r.world _ c (r.since moment is c left)

@@ -1,13 +1,16 @@
 -- What the promise of a call means to a reader who knows images and texts alone.
-use Rattle.std.specs.Prelude.{◌≡◌, ℕ, ◌≤◌, List, None, Some}
+use Rattle.std.specs.Prelude.{◌≡◌, ℕ, ◌≤◌, List, Option, None, Some}
 use Rattle.iso_io.specs.Sink.{SinkState, Wrote}
 use Rattle.iso_model.specs.declared.access.Geometry.{Geometry}
 use Rattle.iso_model.specs.History.{History, last}
 use Rattle.iso_model.specs.Image.{IsImage}
 use Rattle.iso_model.specs.World.{World, fresh}
 use Rattle.iso_refusal.specs.Refusal.{opened, refusal}
-use Rattle.script_model.specs.Bench.{recover_output}
+use Rattle.script_model.specs.declared.script.Reply.{Reply}
+use Rattle.script_model.specs.Bench.{answers_to, recover_output}
 use Rattle.script_model.specs.Script.{replies, script}
+use Rattle.script_runner.specs.Replies.{AreSameButShown, text_of}
+use Rattle.iso_top.specs.Starts.{OpensTo}
 
 -- the script has no bad line, and what was put is the replies of this world to its lines
 abbrev pub PrintsReplies : World → (script_text : List ℕ) → SinkState → SinkState → Type 0
@@ -20,6 +23,17 @@ pub record PrintsRepliesOf (image all : List ℕ) (old new : SinkState) : Type 0
   pub history : History
   pub holds : IsImage image geometry generation history
   pub prints : PrintsReplies (fresh geometry generation history) all old new
+
+-- the script has no bad line, and what was put is the replies of this world to its lines, but for the bytes that they show
+pub record PrintsButShown (W : World) (all : List ℕ) (old new : SinkState) : Type 0 where
+  pub whole : (script all).bad ≡ None
+  pub given : List Reply
+  pub same : AreSameButShown given (answers_to W (script all).lines)
+  pub put : Wrote old new (text_of (script all).lines given)
+
+-- it is so from a world that the image as given opens to, where the disk tells it
+abbrev pub PrintsButShownOf : (given : Option (List ℕ)) → (script_text : List ℕ) → SinkState → SinkState → Type 0
+PrintsButShownOf given all old new = (W : World) × OpensTo given W × PrintsButShown W all old new
 
 -- the image holds a history, and what was put is the line of its numbers and of its last array's digest
 pub record PrintsDigestOf (image : List ℕ) (old new : SinkState) : Type 0 where

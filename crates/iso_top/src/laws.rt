@@ -9,12 +9,26 @@ ghost use Rattle.iso_model.specs.History.{last};
 ghost use Rattle.iso_model.specs.World.{empty_history, fresh};
 ghost use Rattle.iso_top.specs.Clients.{HasRunClients};
 ghost use Rattle.iso_top.specs.Outcome.{HasAnswered, HasMet};
-ghost use Rattle.iso_top.specs.Plain.{OpensFrom, PrintsDigestOf, PrintsReplies, PrintsRepliesOf};
+ghost use Rattle.iso_top.specs.Plain.{OpensFrom, PrintsButShown, PrintsButShownOf, PrintsDigestOf, PrintsReplies, PrintsRepliesOf};
 ghost use Rattle.iso_top.specs.Starts.{MayBeUnmade, TellsNamed};
 ghost use Rattle.script_runner.specs.declared.run_end.RunEnd.{RunEnd};
+ghost use Rattle.script_model.specs.Script.{script};
+ghost use Rattle.script_runner.specs.Replies.{TellsCommit};
 ghost use Rattle.script_runner.specs.Run.{Acknowledges};
+ghost use Rattle.script_runner.specs.Told.{ArePlain};
 
 use iso_disk::Image;
+
+/// Status 0 of `new` and `run`, on any disk, as a real file, which tells nothing of its bytes: no line of the script is bad, and where
+/// none calls a store, the model's replies to all its lines were put, but for the bytes that reads show.
+pub fn replies_were_printed_on_any_disk<I: Image>(_image: &I)
+    ensures made { (g : Geometry) (name all : List ℕ) (old new : I) (input_old input_new : SourceState) (output_old output_new : SinkState)
+        → HasMet I.state (New g) name 0 old new input_old input_new output_old output_new → input_old.rest ≡ Some all → ArePlain (script all).lines
+        → PrintsButShown (fresh g 1 (empty_history g)) all output_old output_new }
+    ensures given { (name all : List ℕ) (old new : I) (input_old input_new : SourceState) (output_old output_new : SinkState)
+        → HasMet I.state Run name 0 old new input_old input_new output_old output_new → input_old.rest ≡ Some all → ArePlain (script all).lines
+        → PrintsButShownOf ((I.state old).named name) all output_old output_new }
+{}
 
 /// Status 0 of `new` and `run`, where the disk tells what the name names and the source its bytes: no line of the script is bad, and
 /// exactly the model's replies to all its lines were put, from a new image or from the image as given.
@@ -29,7 +43,8 @@ pub fn replies_were_printed<I: Image>(_image: &I)
 
 /// Each image that a crash might have left since the bind opens to a history that has at least the commits of the image as given; one
 /// that is being made may be refused as none of this project for a while. Each that a crash leaves when the call has ended opens to
-/// a history that has each commit that a reply told of, where the disk tells what the name names.
+/// a history that has each commit that the model's replies tell of, where the disk tells what the name names, and on any disk each commit
+/// that was told of in answer to a line that calls no store.
 pub fn images_of_a_crash_open<I: Image>(_image: &I)
     ensures since { (made : Option Geometry) (name : List ℕ) (e : RunEnd) (old new : I) (input_old input_new : SourceState) (output_old output_new : SinkState)
         → (a : HasAnswered I.state made name e old new input_old input_new output_old output_new)
@@ -37,6 +52,9 @@ pub fn images_of_a_crash_open<I: Image>(_image: &I)
     ensures exit { (made : Option Geometry) (name : List ℕ) (e : RunEnd) (old new : I) (input_old input_new : SourceState) (output_old output_new : SinkState)
         → (a : HasAnswered I.state made name e old new input_old input_new output_old output_new) → TellsNamed name (I.state old)
         → (n : ℕ) → Acknowledges a.world a.run.done n → (c : List ℕ) → (I.state new).now c → OpensFrom n c }
+    ensures told { (made : Option Geometry) (name : List ℕ) (e : RunEnd) (old new : I) (input_old input_new : SourceState) (output_old output_new : SinkState)
+        → (a : HasAnswered I.state made name e old new input_old input_new output_old output_new)
+        → (n : ℕ) → TellsCommit a.run.done a.run.answered.on_any_disk.given n → (c : List ℕ) → (I.state new).now c → OpensFrom n c }
     ensures clients { (name : List ℕ) (status : ℕ) (old new : I) (input_old input_new : SourceState) (output_old output_new : SinkState)
         → (r : HasRunClients I.state name status old new input_old input_new output_old output_new)
         → SinceBind (I.state new) (OpensFrom (last r.world.history)) }

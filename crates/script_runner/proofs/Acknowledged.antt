@@ -1,5 +1,5 @@
 -- A commit that a reply tells is one of the world after it.
-use Rattle.std.proofs.Common.{◌≡◌, ◌<◌, ◌≤◌, ◌+◌, ◌-◌, ◌&&◌, ◌==◌, not, ℕ, Bool, true, false, cond, List, [], ◌∷◌, length, nat_le, nat_lt, Option, Some, None, Result, Ok, Err, inl, inr, drop, take, length-append, arith}
+use Rattle.std.proofs.Common.{◌≡◌, ◌<◌, ◌≤◌, ◌+◌, ◌-◌, ◌&&◌, ◌==◌, not, ℕ, Bool, true, false, cond, List, [], ◌∷◌, length, nat_le, nat_lt, Option, Some, None, Result, Ok, Err, inl, inr, drop, take, length-append, subst, sym, arith}
 use Rattle.iso_model.specs.declared.access.Access.{Access}
 use Rattle.iso_model.specs.declared.access.Clash.{Clash}
 use Rattle.iso_model.specs.declared.access.MarkError.{MarkError}
@@ -20,7 +20,7 @@ use Rattle.iso_model.specs.Conflict.{clash}
 use Rattle.iso_model.specs.Effect.{has_write}
 use Rattle.iso_model.specs.Geometry.{same_mode}
 use Rattle.store_model.specs.HashCalls.{del_program, get_program, put_program}
-use Rattle.iso_model.specs.History.{last}
+use Rattle.iso_model.specs.History.{History, last}
 use Rattle.iso_model.specs.Marks.{mark_fault}
 use Rattle.script_model.specs.Script.{after}
 use Rattle.script_model.specs.Step.{access_step, after_store, array_of, fill_step, found_reply, get_step, hash_delete_step, hash_get_step, hash_put_step, in_store, in_transaction, mark_step, marked_step, numbers, out_of_transaction, put_step, read_step, release_step, removed_reply, step, store_step, takeover_step, write_step, pairs_reply, tree_put_step, tree_get_step, tree_delete_step, tree_scan_step}
@@ -34,7 +34,9 @@ use Rattle.iso_model.specs.World.{Live, Place, World, attached, client, floor, h
 use Rattle.script_model.specs.Operations.{AreLines}
 use Rattle.iso_model.specs.Worlds.{IsWorld}
 use Rattle.script_model.proofs.Steps.{after_leads, step_leads}
+use Rattle.script_runner.specs.Replies.{AreRepliesTo, TellsCommit}
 use Rattle.script_runner.specs.Run.{Acknowledges}
+use Rattle.script_runner.specs.Told.{SameButShown}
 use Rattle.iso_model.proofs.Worlds.{longer}
 
 -- a commit that the reply tells is one of the world beside it
@@ -236,3 +238,30 @@ all_kept W (x ∷ xs) is good n (inl says) =
 all_kept W (x ∷ xs) is good n (inr later) =
     let one = step_leads W x.1.client x.1.op is good.0 in
     all_kept (step W x.1.client x.1.op).1 xs one.world good.1 n later
+
+-- ON ANY DISK
+-- the history grows
+replies_longer : (U V : World) (xs : List (ℕ × Line)) (rs : List Reply) → IsWorld U → AreLines xs → AreRepliesTo U xs rs V → last U.history ≤ last V.history
+replies_longer U V [] [] is good are = subst (λ (X : World). last U.history ≤ last X.history) (sym are) (omega arith)
+replies_longer U V [] (r ∷ rs) is good are = absurd are
+replies_longer U V (x ∷ xs) [] is good are = absurd are
+replies_longer U V (x ∷ xs) (r ∷ rs) is good are =
+    let leads = step_leads U x.1.client x.1.op is good.0 in
+    let next : last U.history ≤ last are.0.history =
+    subst (λ (H : History). last U.history ≤ last H) (sym are.1.history) (longer U (step U x.1.client x.1.op).1 leads) in
+    let rest = replies_longer are.0 V xs rs are.1.sound good.1 are.2 in
+    omega arith
+
+-- a commit that was told of is one of the world that the lines led to
+pub told_kept : (W V : World) (xs : List (ℕ × Line)) (rs : List Reply) → IsWorld W → AreLines xs → AreRepliesTo W xs rs V → (n : ℕ) → TellsCommit xs rs n → n ≤ last V.history
+told_kept W V [] rs is good are n told = absurd told
+told_kept W V (x ∷ xs) [] is good are n told = absurd told
+told_kept W V (x ∷ xs) (r ∷ rs) is good are n (inl says) =
+    let U = (step W x.1.client x.1.op).1 in
+    let same : reply.Committed n ≡ (step W x.1.client x.1.op).0 =
+    subst (λ (y : Reply). SameButShown y (step W x.1.client x.1.op).0) says.1 (are.1.plain says.0).0 in
+    let here : n ≤ last U.history = (step_tells W x.1.client x.1.op is).each n (sym same) in
+    let next : n ≤ last are.0.history = subst (λ (H : History). n ≤ last H) (sym are.1.history) here in
+    let rest = replies_longer are.0 V xs rs are.1.sound good.1 are.2 in
+    omega arith
+told_kept W V (x ∷ xs) (r ∷ rs) is good are n (inr later) = told_kept are.0 V xs rs are.1.sound good.1 are.2 n later

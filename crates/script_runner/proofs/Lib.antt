@@ -2,8 +2,10 @@ pub mod Feeds
 pub mod Fronts
 pub mod Said
 pub mod Histories
-mod Acknowledged
+pub mod Acknowledged
+pub mod Replying
 pub mod Steps
 pub mod Answering
 pub mod Endings
 mod Rehearsals
+mod ReplyRows

@@ -1,5 +1,5 @@
 -- Lines that are answered one after the other.
-use Rattle.std.proofs.Common.{◌≡◌, ◌≤◌, ℕ, List, [], ◌∷◌, ◌++◌, take, ap, refl, sym, subst, ◌∙◌, inl, inr, ⊎_elim, append_assoc, append-nil}
+use Rattle.std.proofs.Common.{◌≡◌, ◌≤◌, ℕ, List, [], ◌∷◌, ◌++◌, ap, refl, sym, subst, ◌∙◌, inl, inr, ⊎_elim, append_assoc, append-nil}
 use Rattle.std.specs.Prelude.{IsSome}
 use Rattle.std.specs.List.{AllByRecursion}
 use Rattle.std.specs.Io.KnownBytes.{append_known}
@@ -7,10 +7,9 @@ use Rattle.fault_count.specs.Count.{Rose}
 use Rattle.iso_disk.specs.Disk.{DiskState, IsLawful, LeavesOnly}
 use Rattle.iso_disk.proofs.Moments.{started, weakened, at_end}
 use Rattle.iso_io.specs.Sink.{SinkState, CountsStand, Wrote}
-use Rattle.iso_io.proofs.Told.{append_known-append, append_known-nil}
+use Rattle.iso_io.proofs.Told.{append_known-nil}
 use Rattle.iso_model.specs.declared.access.Geometry.{Geometry}
 use Rattle.script_model.specs.declared.script.Line.{Line}
-use Rattle.script_model.specs.declared.script.Reply.{Reply}
 use Rattle.iso_model.specs.History.{History, last}
 use Rattle.iso_model.specs.Image.{Shows}
 use Rattle.script_model.specs.Script.{replies, after}
@@ -26,8 +25,10 @@ use Rattle.iso_model.specs.Between.{ShowsEither, ShowsBetween}
 use Rattle.script_runner.specs.Counts.{DiskCount, SinkCounts}
 use Rattle.script_runner.specs.Lines.{Ran}
 use Rattle.script_runner.specs.Told.{IfTold, IsPlain, StandsSo}
-use Rattle.script_runner.specs.Run.{Answered, IfUp, IsBehind, Replied}
+use Rattle.script_runner.specs.Replies.{PutReplies, PutRepliesBy, Replied}
+use Rattle.script_runner.specs.Run.{Answered, IfUp, IsBehind}
 use Rattle.script_runner.proofs.Acknowledged.{all_kept}
+use Rattle.script_runner.proofs.Replying.{IsQuiet, put_halted, put_more, put_none, put_quiet, quiet_replies, replied_on, wrote_on}
 use Rattle.script_runner.proofs.Histories.{between_since, runs_joined, shows_last, step_between}
 use Rattle.iso_model.proofs.Worlds.{leads_on}
 
@@ -46,12 +47,6 @@ counts_stand k = record { faults = refl; refusals = refl }
 
 counts_on : (k mid l : SinkState) → CountsStand k mid → CountsStand mid l → CountsStand k l
 counts_on k mid l first second = record { faults = second.faults ∙ first.faults; refusals = second.refusals ∙ first.refusals }
-
--- the text of one reply
-pub reply_is : (W : World) (number : ℕ) (said : Line) (answer : Reply) (given set : List ℕ) → given ≡ set → set ≡ reply_line said.client answer
-    → answer ≡ (step W said.client said.op).0 → given ≡ replies W ((number, said) ∷ [])
-reply_is W number said answer given set same line is =
-    same ∙ line ∙ ap (reply_line said.client) is ∙ sym (append-nil _)
 
 -- what holds of all lines holds of the first and of the others
 pub all_append : (P : ℕ × Line → Type 0) (xs ys : List (ℕ × Line)) → AllByRecursion P xs → AllByRecursion P ys → AllByRecursion P (xs ++ ys)
@@ -113,6 +108,7 @@ module _ {stands : World → Type 0} {d : DiskState} {k : SinkState} (W : World)
     told = λ told. told;
     reached = W;
     reached_is = behind_none d W is;
+    on_any_disk = put_none k W;
     moments = started laws (λ c here. shows_last W c (shown c here));
     exit = λ c here. shows_last W c (shown c here);
     world = stood;
@@ -141,14 +137,16 @@ module _ {stands : World → Type 0} {d e : DiskState} {k l : SinkState} (W : Wo
   -- one line was run, and the sink took its whole reply
   pub ran_one : (so : StandsSo stands d (IsPlain x.1.op) (step W x.1.client x.1.op).1) → IsWorld so.world
       → ((c : List ℕ) → e.now c → Shows c so.world.geometry so.world.history (last so.world.history))
-      → IfTold d (Wrote k l (replies W (x ∷ []))) → IfTold d (IsSome e.contents) → e.faults ≡ d.faults → CountsStand k l → Ran stands d e k l W (x ∷ [])
-  ran_one so sound shown text tells faults counts = record {
+      → IfTold d (Wrote k l (replies W (x ∷ []))) → PutReplies k l W (x ∷ []) so.world → IfTold d (IsSome e.contents) → e.faults ≡ d.faults → CountsStand k l
+      → Ran stands d e k l W (x ∷ [])
+  ran_one so sound shown text put tells faults counts = record {
     sound = is;
     good = (good, tt);
     replies = text;
     told = tells;
     reached = so.world;
     reached_is = behind_one W x is good so sound;
+    on_any_disk = put;
     moments = line_moments W x is good so.world so.history so.geometry moments;
     exit = λ c here. shows_last so.world c (shown c here);
     world = so.is;
@@ -158,9 +156,9 @@ module _ {stands : World → Type 0} {d e : DiskState} {k l : SinkState} (W : Wo
 
   -- one line may have been run, and halts
   halted_at : (end : RunEnd) (V : World) → V.history ≡ (step W x.1.client x.1.op).1.history → V.geometry ≡ (step W x.1.client x.1.op).1.geometry → IsBehind d W (x ∷ []) V
-      → IsLawful e → IfTold d (Replied end k l [] (replies W (x ∷ []))) → IfUp end (stands V)
+      → IsLawful e → IfTold d (Replied end k l [] (replies W (x ∷ []))) → PutRepliesBy end k l W [] (x ∷ []) W V → IfUp end (stands V)
       → DiskCount end d.faults e.faults → SinkCounts end k l → Answered stands d e k l W end [] (x ∷ [])
-  halted_at end V history geometry behind laws text up faults counts =
+  halted_at end V history geometry behind laws text put up faults counts =
       let shown : LeavesOnly d e (ShowsBetween W V) = line_moments W x is good V history geometry moments in
       record {
         good = (good, tt);
@@ -173,6 +171,7 @@ module _ {stands : World → Type 0} {d e : DiskState} {k l : SinkState} (W : Wo
         reached_is = behind_none d W is;
         final_is = behind;
         final_on = behind.leads;
+        on_any_disk = put;
         exit = at_end laws shown;
         moments = shown;
         world = up;
@@ -181,15 +180,16 @@ module _ {stands : World → Type 0} {d e : DiskState} {k l : SinkState} (W : Wo
       }
 
   -- the step failed
-  pub halted_step : (end : RunEnd) → IsLawful e → IfTold d (Replied end k l [] (replies W (x ∷ []))) → IfUp end (stands (step W x.1.client x.1.op).1)
+  pub halted_step : (end : RunEnd) → IsLawful e → IfTold d (Replied end k l [] (replies W (x ∷ [])))
+      → PutRepliesBy end k l W [] (x ∷ []) W (step W x.1.client x.1.op).1 → IfUp end (stands (step W x.1.client x.1.op).1)
       → DiskCount end d.faults e.faults → SinkCounts end k l → Answered stands d e k l W end [] (x ∷ [])
-  halted_step end laws text up faults counts = halted_at end (step W x.1.client x.1.op).1 refl refl (behind_step W x is good) laws text up faults counts
+  halted_step end laws text put up faults counts = halted_at end (step W x.1.client x.1.op).1 refl refl (behind_step W x is good) laws text put up faults counts
 
   -- the step was done
   pub halted_one : (end : RunEnd) → (so : StandsSo stands d (IsPlain x.1.op) (step W x.1.client x.1.op).1) → IsWorld so.world
-      → IsLawful e → IfTold d (Replied end k l [] (replies W (x ∷ []))) → IfUp end (stands so.world)
+      → IsLawful e → IfTold d (Replied end k l [] (replies W (x ∷ []))) → PutRepliesBy end k l W [] (x ∷ []) W so.world → IfUp end (stands so.world)
       → DiskCount end d.faults e.faults → SinkCounts end k l → Answered stands d e k l W end [] (x ∷ [])
-  halted_one end so sound laws text up faults counts = halted_at end so.world so.history so.geometry (behind_one W x is good so sound) laws text up faults counts
+  halted_one end so sound laws text put up faults counts = halted_at end so.world so.history so.geometry (behind_one W x is good so sound) laws text put up faults counts
 
 -- counts, after a run in which they stand
 disk_on : (end : RunEnd) (before mid now : ℕ) → mid ≡ before → DiskCount end mid now → DiskCount end before now
@@ -203,35 +203,6 @@ sink_on (Bad line) k mid l same counts = counts_on k mid l same counts
 sink_on Disk k mid l same counts = counts_on k mid l same counts
 sink_on Input k mid l same counts = counts_on k mid l same counts
 sink_on Memory k mid l same counts = counts_on k mid l same counts
-
--- what was written, behind the replies to earlier lines
-wrote_on : (k mid l : SinkState) (first second : List ℕ) → Wrote k mid first → Wrote mid l second → Wrote k l (first ++ second)
-wrote_on k mid l first second one two = two ∙ ap (λ known. append_known known second) one ∙ append_known-append k.written first second
-
-wrote_nothing : (k mid l : SinkState) (first : List ℕ) → Wrote k mid first → Wrote mid l [] → Wrote k l first
-wrote_nothing k mid l first one two = subst (λ (xs : List ℕ). Wrote k l xs) (append-nil first) (wrote_on k mid l first [] one two)
-
-replied_on : (end : RunEnd) (k mid l : SinkState) (first next : List ℕ) → Wrote k mid first → Replied end mid l [] next → Replied end k l first next
-replied_on Output k mid l first next one two = record { count = two.count; short = two.short; wrote = wrote_on k mid l first (take two.count next) one two.wrote }
-replied_on Done k mid l first next one two = wrote_nothing k mid l first one two
-replied_on (Bad line) k mid l first next one two = wrote_nothing k mid l first one two
-replied_on Disk k mid l first next one two = wrote_nothing k mid l first one two
-replied_on Input k mid l first next one two = wrote_nothing k mid l first one two
-replied_on Memory k mid l first next one two = wrote_nothing k mid l first one two
-
--- an end that no line brings: neither the disk nor the sink failed
-abbrev pub IsQuiet : RunEnd → Type 0
-IsQuiet Disk = ⊥
-IsQuiet Output = ⊥
-IsQuiet end = Unit {0}
-
-quiet_replies : (end : RunEnd) (k l : SinkState) (text next : List ℕ) → IsQuiet end → Wrote k l text → Replied end k l text next
-quiet_replies Done k l text next quiet wrote = wrote
-quiet_replies (Bad line) k l text next quiet wrote = wrote
-quiet_replies Input k l text next quiet wrote = wrote
-quiet_replies Memory k l text next quiet wrote = wrote
-quiet_replies Disk k l text next quiet wrote = absurd quiet
-quiet_replies Output k l text next quiet wrote = absurd quiet
 
 quiet_disk : (end : RunEnd) (before now : ℕ) → IsQuiet end → now ≡ before → DiskCount end before now
 quiet_disk Done before now quiet same = same
@@ -277,6 +248,7 @@ module _ {stands : World → Type 0} {d mid e : DiskState} {k mid_sink l : SinkS
         told = λ told. second.told (first.told told);
         reached = second.reached;
         reached_is = behind_on d mid W U second.reached xs ys first.told first.reached_is second.reached_is;
+        on_any_disk = put_more k mid_sink l W U second.reached xs ys first.on_any_disk second.on_any_disk;
         moments = runs_joined W U second.reached first.reached_is.leads second.reached_is.leads first.moments second.moments;
         exit = second.exit;
         world = second.world;
@@ -301,6 +273,7 @@ module _ {stands : World → Type 0} {d mid e : DiskState} {k mid_sink l : SinkS
         reached_is = first.reached_is;
         final_is = behind_on d mid W U second.final xs ys first.told first.reached_is second.final_is;
         final_on = second.final_is.leads;
+        on_any_disk = put_halted end k mid_sink l W U second.reached second.final xs ys first.on_any_disk second.on_any_disk;
         exit = λ c here. between_since U second.reached second.final second.reached_is.leads c (second.exit c here);
         moments = runs_joined W U second.final first.reached_is.leads second.final_is.leads first.moments second.moments;
         world = second.world;
@@ -324,6 +297,7 @@ ended_here {stands = stands} {d = d} {e = e} {k = k} {l = l} W xs end quiet ran 
       reached_is = ran.reached_is;
       final_is = subst (λ (ys : List (ℕ × Line)). IsBehind d W ys ran.reached) all ran.reached_is;
       final_on = after_leads ran.reached [] ran.reached_is.leads.world tt;
+      on_any_disk = put_quiet end k l W ran.reached xs quiet ran.on_any_disk;
       exit = ran.exit;
       moments = ran.moments;
       world = if_up end (stands ran.reached) ran.world;

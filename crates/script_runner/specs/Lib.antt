@@ -1,5 +1,6 @@
 pub mod Counts
 pub mod Told
+pub mod Replies
 pub mod Run
 pub mod Lines
 pub mod Rehearsal

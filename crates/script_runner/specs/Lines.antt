@@ -19,6 +19,7 @@ use Rattle.script_runner.specs.declared.run_end.RunEnd.{RunEnd}
 use Rattle.script_runner.specs.declared.run_end.RunEnd.TheVariants as end
 use Rattle.iso_model.specs.Between.{ShowsBetween}
 use Rattle.script_runner.specs.Told.{IfTold}
+use Rattle.script_runner.specs.Replies.{PutReplies}
 use Rattle.script_runner.specs.Run.{AreLinesOf, Answered, EndsInFeed, HasNoFeed, IsBehind}
 
 -- a line that a machine may be asked
@@ -62,6 +63,7 @@ pub record Ran (stands : World → Type 0) (disk_old disk_new : DiskState) (outp
   pub told : IfTold disk_old (IsSome disk_new.contents)
   pub reached : World
   pub reached_is : IsBehind disk_old W done reached
+  pub on_any_disk : PutReplies output_old output_new W done reached
   pub moments : LeavesOnly disk_old disk_new (ShowsBetween W reached)
   pub exit : (c : List ℕ) → disk_new.now c → ShowsBetween reached reached c
   pub world : stands reached

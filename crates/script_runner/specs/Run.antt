@@ -1,8 +1,8 @@
 -- What a run over the lines of a script has done.
-use Rattle.std.specs.Prelude.{◌≡◌, ◌⊎◌, ℕ, ◌≤◌, ◌<◌, List, [], ◌∷◌, ◌++◌, Some, None, Contains, IfSome, length, take}
+use Rattle.std.specs.Prelude.{◌≡◌, ◌⊎◌, ℕ, ◌≤◌, List, [], ◌∷◌, ◌++◌, Some, None, Contains, IfSome, length}
 use Rattle.iso_disk.specs.Disk.{DiskState, LeavesOnly}
 use Rattle.iso_io.specs.Source.{SourceState, MetEnd, Took}
-use Rattle.iso_io.specs.Sink.{SinkState, Wrote}
+use Rattle.iso_io.specs.Sink.{SinkState}
 use Rattle.iso_model.specs.declared.limits.TheConstants.{MAX_INPUT}
 use Rattle.script_model.specs.declared.script.Line.{Line}
 use Rattle.script_model.specs.declared.script.Reply.TheVariants.{Committed}
@@ -13,9 +13,10 @@ use Rattle.iso_model.specs.World.{World}
 use Rattle.script_model.specs.Operations.{AreLines}
 use Rattle.iso_model.specs.Worlds.{LeadsTo}
 use Rattle.script_runner.specs.declared.run_end.RunEnd.{RunEnd}
-use Rattle.script_runner.specs.declared.run_end.RunEnd.TheVariants.{Done, BadLine as Bad, Disk, Input, Output, Memory}
+use Rattle.script_runner.specs.declared.run_end.RunEnd.TheVariants.{Done, BadLine as Bad, Disk, Input, Memory}
 use Rattle.iso_model.specs.Between.{ShowsBetween}
 use Rattle.script_runner.specs.Counts.{DiskCount, SinkCounts, SourceCount}
+use Rattle.script_runner.specs.Replies.{PutRepliesBy, Replied}
 use Rattle.script_runner.specs.Told.{ArePlain, IfKnown, IfTold}
 
 -- the lines `done` and then `next`, of which there is one at most, are the first of these lines
@@ -48,18 +49,6 @@ pub record AreWholeLines (bytes : List ℕ) (lines : List (ℕ × Line)) : Type 
   pub whole : EndsInFeed front
   pub no_feed : HasNoFeed rest
   pub says : script front ≡ record { lines = lines; bad = None }
-
--- the sink took the text, and then a front of the next one that is not all of it
-pub record WroteBehind (old new : SinkState) (text next : List ℕ) : Type 0 where
-  pub count : ℕ
-  pub short : count < length next
-  pub wrote : Wrote old new (text ++ take count next)
-
--- what the sink took of the replies: the whole text of those to the lines answered; where it ended the run, a front of
--- one more reply behind it
-abbrev pub Replied : RunEnd → SinkState → SinkState → (text next : List ℕ) → Type 0
-Replied Output old new text next = WroteBehind old new text next
-Replied end old new text next = Wrote old new text
 
 -- what holds of the machine, unless its step may have stopped
 abbrev pub IfUp : RunEnd → Type 0 → Type 0
@@ -96,6 +85,8 @@ pub record Answered (stands : World → Type 0) (disk_old disk_new : DiskState) 
   pub reached_is : IsBehind disk_old W done reached
   pub final_is : IsBehind disk_old W (done ++ next) final
   pub final_on : LeadsTo reached final
+  -- the reply theorem on any disk, as a real file, which tells nothing: the sink took the replies of the model but for the bytes shown
+  pub on_any_disk : PutRepliesBy end output_old output_new W done next reached final
   -- the crash theorem: each image that a crash leaves now shows the history at a commit from the last one of the lines answered
   -- on, and so at none before one that was acknowledged; and each that a crash might have left in the run shows it at a commit
   -- from the last one before the run on

@@ -19,7 +19,7 @@ use Rattle.store_scripts.proofs.Lines.{noted_after, noted_begins}
 use Rattle.store_scripts.proofs.Noted.{IsNoted}
 use Rattle.store_scripts.proofs.Order.{commit_told, committed_last}
 
-array_extends : (H G : History) (n : ℕ) → 0 < H.first → Extends H G → n ≤ last H → array_at G n ≡ array_at H n
+pub array_extends : (H G : History) (n : ℕ) → 0 < H.first → Extends H G → n ≤ last H → array_at G n ≡ array_at H n
 array_extends H G n first more before =
     (λ i. all_own (more.base i) (take (n + 1 - more.first i) (more.commits i)))
     ∙ ap (all_own H.base) (take-append-le (n + 1 - H.first) H.commits more.more (omega arith))

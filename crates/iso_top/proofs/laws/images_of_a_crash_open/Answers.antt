@@ -1,4 +1,4 @@
-use Rattle.iso_top.proofs.Plainly.{clients_open, exit_opens, since_opens}
+use Rattle.iso_top.proofs.Plainly.{clients_open, exit_opens, since_opens, told_opens}
 use Rattle.iso_top.proofs.laws.images_of_a_crash_open.Goals as goal
 
 pub returns-clause-since : goal.returns-clause-since
@@ -6,6 +6,9 @@ returns-clause-since g c = λ made name e old new input_old input_new output_old
 
 pub returns-clause-exit : goal.returns-clause-exit
 returns-clause-exit g c = λ made name e old new input_old input_new output_old output_new. exit_opens g.I.Disk.state name old new input_old input_new output_old output_new made e
+
+pub returns-clause-told : goal.returns-clause-told
+returns-clause-told g c = λ made name e old new input_old input_new output_old output_new. told_opens g.I.Disk.state name old new input_old input_new output_old output_new made e
 
 pub returns-clause-clients : goal.returns-clause-clients
 returns-clause-clients g c = λ name status old new input_old input_new output_old output_new. clients_open g.I.Disk.state name old new input_old input_new output_old output_new status

@@ -1,0 +1,4 @@
+pub mod Since
+pub mod Numbers
+pub mod Listed
+mod Traps

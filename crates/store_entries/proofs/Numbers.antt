@@ -1,0 +1,53 @@
+-- What the answers to an end tell: the number of the commit, or that there was no write.
+use Rattle.std.proofs.Common.{◌≡◌, ℕ, ◌+◌, ◌-◌, ◌==◌, Bool, true, false, cond, Option, Some, None, nat_lt, refl, sym}
+use Rattle.iso_model.specs.declared.access.Clash.{Clash}
+use Rattle.iso_model.specs.declared.core_reply.CoreReply.{CoreReply}
+use Rattle.iso_model.specs.declared.core_reply.CoreReply.TheVariants as core
+use Rattle.iso_model.specs.declared.limits.TheConstants.{LAST}
+use Rattle.iso_model.specs.Conflict.{clash}
+use Rattle.iso_model.specs.Effect.{has_write}
+use Rattle.iso_model.specs.History.{last}
+use Rattle.iso_model.specs.Step.{after_commit, after_leaving, commit_step, end_step, need}
+use Rattle.iso_model.specs.World.{Live, World, used}
+
+module _ (V : World) (t : Live) where
+  commit_is_next : (o : Option Clash) (k : ℕ) → (commit_step V t o).0 ≡ core.Committed k → k ≡ last V.history + 1
+  unfolding commit_step
+  commit_is_next (Some d) k done = cc
+  commit_is_next None k done = go (last V.history == LAST) (nat_lt (V.geometry.log - used V) (need V t)) done
+    where
+      go : (a b : Bool)
+          → (cond {A = CoreReply × World} a (core.Worn, V) (cond b (core.LogFull (need V t) (V.geometry.log - used V), V) (core.Committed (last V.history + 1), after_commit V t))).0 ≡ core.Committed k
+          → k ≡ last V.history + 1
+      go true b done = cc
+      go false true done = cc
+      go false false done = sym (let e : last V.history + 1 ≡ k = cc in e)
+
+  -- an end that commits makes the next commit
+  pub end_is_next : (k : ℕ) → (end_step V t).0 ≡ core.Committed k → k ≡ last V.history + 1
+  unfolding end_step
+  end_is_next k done = go (has_write t.accesses) done
+    where
+      go : (b : Bool) → (cond {A = CoreReply × World} b (commit_step V t (clash V.geometry V.history t.mode t.begin t.accesses)) (core.ReadOnly, after_leaving V t)).0 ≡ core.Committed k → k ≡ last V.history + 1
+      go true done = commit_is_next (clash V.geometry V.history t.mode t.begin t.accesses) k done
+      go false done = cc
+
+  commit_writes : (o : Option Clash) → (commit_step V t o).0 ≡ core.ReadOnly → ⊥
+  unfolding commit_step
+  commit_writes (Some d) done = cc
+  commit_writes None done = go (last V.history == LAST) (nat_lt (V.geometry.log - used V) (need V t)) done
+    where
+      go : (a b : Bool)
+          → (cond {A = CoreReply × World} a (core.Worn, V) (cond b (core.LogFull (need V t) (V.geometry.log - used V), V) (core.Committed (last V.history + 1), after_commit V t))).0 ≡ core.ReadOnly → ⊥
+      go true b done = cc
+      go false true done = cc
+      go false false done = cc
+
+  -- an end that is read-only has no write
+  pub end_writes_not : (end_step V t).0 ≡ core.ReadOnly → has_write t.accesses ≡ false
+  unfolding end_step
+  end_writes_not done = go (has_write t.accesses) done
+    where
+      go : (b : Bool) → (cond {A = CoreReply × World} b (commit_step V t (clash V.geometry V.history t.mode t.begin t.accesses)) (core.ReadOnly, after_leaving V t)).0 ≡ core.ReadOnly → b ≡ false
+      go true done = absurd (commit_writes (clash V.geometry V.history t.mode t.begin t.accesses) done)
+      go false done = refl

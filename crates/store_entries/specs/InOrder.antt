@@ -1,0 +1,67 @@
+-- The store theorem of the list of a shared device, as one word.
+use Rattle.std.specs.Prelude.{◌≡◌, ℕ, ◌-◌, true, List, ◌∷◌, ◌++◌}
+use Rattle.iso_model.specs.declared.access.Access.{Access}
+use Rattle.iso_model.specs.declared.access.Commit.{Commit}
+use Rattle.iso_model.specs.declared.access.EndReply.TheVariants.{Committed, ReadOnly}
+use Rattle.iso_model.specs.declared.access.Geometry.{Geometry}
+use Rattle.iso_model.specs.Array.{Array}
+use Rattle.iso_model.specs.Effect.{own}
+use Rattle.iso_model.specs.History.{History, array_at, last}
+use Rattle.iso_model.specs.Step.{commit_from}
+use Rattle.iso_model.specs.World.{World}
+use Rattle.iso_shared.specs.declared.entry.Entry.{Entry}
+use Rattle.iso_shared.specs.declared.entry.Entry.TheVariants as entry
+use Rattle.iso_shared.specs.States.{Start, is_live, live_of, state_at, tx_of}
+use Rattle.store_laws.specs.Both.{AreMixed, BothByMap, BothInOrder, BothWellFormed, IsByBoth, IsOfBoth, firsts}
+use Rattle.store_laws.specs.BothStores.{StorePart}
+use Rattle.store_laws.specs.Parts.{accesses_in}
+use Rattle.store_scripts.specs.Stores.{image_hash, image_tree}
+
+abbrev pub world_at : Start → List Entry → World
+world_at A es = (state_at A es).world
+
+-- the commit that an end of the transaction of this number makes, with these accesses
+abbrev pub commit_at : World → (number : ℕ) → List Access → Commit
+commit_at W n accesses = commit_from (tx_of W n accesses)
+
+-- the array at the begin of the transaction
+abbrev pub begin_array : World → (number : ℕ) → Array
+begin_array W n = array_at W.history (live_of n W.live).begin
+
+-- Accesses of a transaction that began with this array: those of calls of the stores, each made on what the transaction was shown
+-- and local for its store, and others that write neither region.
+pub record AreByCalls (g : Geometry) (A : Array) (accesses : List Access) : Type 0 where
+  pub parts : List StorePart
+  pub are : accesses_in (firsts parts) ≡ accesses
+  pub made : AreMixed (image_hash g) (image_tree g) A parts
+
+-- each transaction that commits in the list writes the regions by calls of their stores alone; one in snapshot mode makes none
+abbrev pub CommitsAreByCalls : Start → List Entry → Type 0
+CommitsAreByCalls A es =
+    (before later : List Entry) (n k : ℕ) (accesses : List Access) → es ≡ before ++ entry.End n accesses (Committed k) ∷ later
+    → let W = world_at A before in IsOfBoth (image_hash A.world.geometry) (image_tree A.world.geometry) W.history (commit_at W n accesses)
+
+-- both stores are well formed in the array at the last commit
+abbrev pub StoresAreWell : Geometry → History → Type 0
+StoresAreWell g H = BothWellFormed (image_hash g) (image_tree g) (array_at H (last H))
+
+-- The calls of each commit of the list answer as one thread's calls on the maps directly before it, and end in those directly after
+-- it. Those of a transaction that is live answer so by the maps at its begin; and where it ended without a write, each of them by
+-- these maps alone. The stores are well formed at the last commit, so that a later run begins well.
+pub record AreCallsInOrderAt (A : Start) (es : List Entry) : Type 0 where
+  pub by_calls : let W = world_at A es in IsByBoth (image_hash A.world.geometry) (image_tree A.world.geometry) W.geometry W.history (last A.world.history)
+  pub commits : (before later : List Entry) (n k : ℕ) (accesses : List Access) → es ≡ before ++ entry.End n accesses (Committed k) ∷ later
+      → let W = world_at A before in let H = (world_at A es).history in
+      (of : IsOfBoth (image_hash A.world.geometry) (image_tree A.world.geometry) W.history (commit_at W n accesses))
+      → BothInOrder (image_hash A.world.geometry) (image_tree A.world.geometry) of.parts (array_at H (k - 1)) (array_at H k)
+  pub read_only : (before later : List Entry) (n : ℕ) (accesses : List Access) → es ≡ before ++ entry.End n accesses ReadOnly ∷ later
+      → let B = begin_array (world_at A before) n in
+      (by : AreByCalls A.world.geometry B accesses) → BothByMap (image_hash A.world.geometry) (image_tree A.world.geometry) by.parts B
+  pub live : (before later : List Entry) (n : ℕ) (accesses : List Access) → es ≡ before ++ later
+      → let W = world_at A before in let B = begin_array W n in is_live n W.live ≡ true
+      → (by : AreByCalls A.world.geometry B accesses) → BothInOrder (image_hash A.world.geometry) (image_tree A.world.geometry) by.parts B (own B accesses)
+  pub well : StoresAreWell A.world.geometry (world_at A es).history
+
+-- it is so where the stores begin well formed and each commit is by their calls
+abbrev pub StoresAnswerAt : Start → List Entry → Type 0
+StoresAnswerAt A es = StoresAreWell A.world.geometry A.world.history → CommitsAreByCalls A es → AreCallsInOrderAt A es
