@@ -1,0 +1,11 @@
+pub mod Adopting
+pub mod Alone
+pub mod Asked
+pub mod Calls
+pub mod Ended
+pub mod Epochs
+pub mod Left
+pub mod Meets
+pub mod Raises
+pub mod Stands
+pub mod Telling

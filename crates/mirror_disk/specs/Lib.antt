@@ -1,0 +1,9 @@
+pub mod Ended
+pub mod Header
+pub mod Laws
+pub mod Pairs
+pub mod Past
+pub mod Raised
+pub mod Slots
+pub mod Standing
+pub mod State

@@ -1,0 +1,11 @@
+//! A disk that keeps its bytes twice, on two sides. It goes on where one side fails.
+#![tactic(auto)]
+
+mod mirror;
+mod past;
+mod raise;
+mod sides;
+mod slot;
+mod used;
+
+pub use mirror::Mirror;

@@ -1,0 +1,201 @@
+// Calls on the two sides of a mirror.
+ghost use Rattle.std.specs.Prelude.{◌≡◌, ◌+◌, ◌≤◌, ℕ, List, length, true, false, Ok};
+ghost use Rattle.iso_disk.specs.Disk.{LeavesOnly};
+ghost use Rattle.mirror_disk.specs.Ended.{BothAsked, HasEnded};
+ghost use Rattle.mirror_disk.specs.Raised.{HasEpoch, IsMarked, KeepsBody, Raising};
+ghost use Rattle.mirror_disk.specs.declared.slot.Slot.{Slot};
+ghost use Rattle.mirror_disk.specs.Slots.{other};
+ghost use Rattle.mirror_disk.specs.Standing.{ArePair, AreBoth, IsPair, Stands};
+
+use crate::raise::raise_epoch;
+use crate::slot::Slot;
+use crate::used::Used;
+use iso_disk::Disk;
+
+/// How many bytes a side has before those that it mirrors.
+pub(crate) const HEADER: u64 = 64;
+
+/// The largest epoch.
+pub(crate) const LAST: u64 = 9_223_372_036_854_775_807;
+
+/// Writes to both sides, and leaves out the one that failed.
+pub(crate) fn write_both<A: Disk, B: Disk>(
+    first: &mut A,
+    second: &mut B,
+    epoch: u64,
+    one: Slot,
+    two: Slot,
+    at: u64,
+    bytes: &[u8],
+) -> Used
+    requires fits { 64 + at + length bytes.now ≤ (A.state first.old).size }
+    requires small { 64 + at + length bytes.now ≤ (B.state second.old).size }
+    requires stands { (past : List (ℕ × ℕ)) × ArePair (A.state first.old) (B.state second.old) past × AreBoth (A.state first.old) (B.state second.old) past epoch one two }
+    ensures { (past : List (ℕ × ℕ)) → ArePair (A.state first.old) (B.state second.old) past → AreBoth (A.state first.old) (B.state second.old) past epoch one two
+        → HasEnded (A.state first.old) (B.state second.old) (A.state first.new) (B.state second.new) result past epoch one two at (length bytes.now) }
+{
+    let first_done = first.write(HEADER + at, bytes).is_ok();
+    let second_done = second.write(HEADER + at, bytes).is_ok();
+    leave_out(first, second, epoch, one, two, first_done, second_done)
+}
+
+/// Leaves out the side that failed, and says which sides are in use then.
+pub(crate) fn leave_out<A: Disk, B: Disk>(
+    first: &mut A,
+    second: &mut B,
+    epoch: u64,
+    one: Slot,
+    two: Slot,
+    first_done: bool,
+    second_done: bool,
+) -> Used
+    requires asked { (x : A) × (y : B) × (past : List (ℕ × ℕ)) × (at : ℕ) × (n : ℕ)
+        × BothAsked (A.state x) (B.state y) (A.state first.old) (B.state second.old) past epoch one two at n first_done second_done }
+    ensures { (x : A) (y : B) (past : List (ℕ × ℕ)) (at n : ℕ)
+        → BothAsked (A.state x) (B.state y) (A.state first.old) (B.state second.old) past epoch one two at n first_done second_done
+        → HasEnded (A.state x) (B.state y) (A.state first.new) (B.state second.new) result past epoch one two at n }
+{
+    if first_done {
+        if second_done {
+            return Used::Both;
+        }
+        if raise_by_one(first, one, epoch) {
+            return Used::OnlyFirst;
+        }
+        return Used::Broken;
+    }
+    if second_done {
+        if raise_by_one(second, two, epoch) {
+            return Used::OnlySecond;
+        }
+        return Used::Broken;
+    }
+    Used::Broken
+}
+
+/// Raises the epoch of a side by one, if there is a larger one.
+pub(crate) fn raise_by_one<D: Disk>(disk: &mut D, slot: Slot, epoch: u64) -> bool
+    requires size { 64 ≤ (D.state disk.old).size }
+    requires marked { IsMarked slot epoch (D.state disk.old) }
+    ensures moments { LeavesOnly (D.state disk.old) (D.state disk.new) (Raising epoch (epoch + 1) (D.state disk.old)) }
+    ensures raised { result ≡ true → (x : List ℕ) → (D.state disk.new).now x → HasEpoch (other slot) (epoch + 1) x }
+    ensures body { KeepsBody (D.state disk.old) (D.state disk.new) }
+{
+    if epoch >= LAST {
+        return false;
+    }
+    match raise_epoch(disk, slot, epoch + 1) {
+        Ok(()) => true,
+        Err(_) => false,
+    }
+}
+
+/// Writes to the sides in use, and says which are in use then and whether it was done.
+pub(crate) fn write_sides<A: Disk, B: Disk>(
+    first: &mut A,
+    second: &mut B,
+    used: Used,
+    epoch: u64,
+    one: Slot,
+    two: Slot,
+    at: u64,
+    bytes: &[u8],
+) -> (Used, bool)
+    requires fits { 64 + at + length bytes.now ≤ (A.state first.old).size }
+    requires small { 64 + at + length bytes.now ≤ (B.state second.old).size }
+    requires pair { IsPair used }
+    requires stands { (past : List (ℕ × ℕ)) × Stands (A.state first.old) (B.state second.old) used past epoch one two }
+    ensures { (past : List (ℕ × ℕ)) → Stands (A.state first.old) (B.state second.old) used past epoch one two
+        → HasEnded (A.state first.old) (B.state second.old) (A.state first.new) (B.state second.new) result.0 past epoch one two at (length bytes.now) }
+{
+    match used {
+        Used::OnlyFirst => {
+            let done = first.write(HEADER + at, bytes).is_ok();
+            (Used::OnlyFirst, done)
+        }
+        Used::OnlySecond => {
+            let done = second.write(HEADER + at, bytes).is_ok();
+            (Used::OnlySecond, done)
+        }
+        Used::Both => {
+            let left = write_both(first, second, epoch, one, two, at, bytes);
+            (left, left != Used::Broken)
+        }
+        Used::Plain | Used::Broken | Used::Unbound => (used, false),
+    }
+}
+
+/// Makes both sides stable, and leaves out the one that failed.
+pub(crate) fn sync_both<A: Disk, B: Disk>(
+    first: &mut A,
+    second: &mut B,
+    epoch: u64,
+    one: Slot,
+    two: Slot,
+) -> Used
+    requires stands { (past : List (ℕ × ℕ)) × ArePair (A.state first.old) (B.state second.old) past × AreBoth (A.state first.old) (B.state second.old) past epoch one two }
+    ensures { (past : List (ℕ × ℕ)) → ArePair (A.state first.old) (B.state second.old) past → AreBoth (A.state first.old) (B.state second.old) past epoch one two
+        → HasEnded (A.state first.old) (B.state second.old) (A.state first.new) (B.state second.new) result past epoch one two 0 0 }
+{
+    let first_done = first.sync().is_ok();
+    let second_done = second.sync().is_ok();
+    leave_out(first, second, epoch, one, two, first_done, second_done)
+}
+
+/// Makes the sides in use stable, and says which are in use then and whether it was done.
+pub(crate) fn sync_sides<A: Disk, B: Disk>(
+    first: &mut A,
+    second: &mut B,
+    used: Used,
+    epoch: u64,
+    one: Slot,
+    two: Slot,
+) -> (Used, bool)
+    requires pair { IsPair used }
+    requires stands { (past : List (ℕ × ℕ)) × Stands (A.state first.old) (B.state second.old) used past epoch one two }
+    ensures { (past : List (ℕ × ℕ)) → Stands (A.state first.old) (B.state second.old) used past epoch one two
+        → HasEnded (A.state first.old) (B.state second.old) (A.state first.new) (B.state second.new) result.0 past epoch one two 0 0 }
+{
+    match used {
+        Used::OnlyFirst => {
+            let done = first.sync().is_ok();
+            (Used::OnlyFirst, done)
+        }
+        Used::OnlySecond => {
+            let done = second.sync().is_ok();
+            (Used::OnlySecond, done)
+        }
+        Used::Both => {
+            let left = sync_both(first, second, epoch, one, two);
+            (left, left != Used::Broken)
+        }
+        Used::Plain | Used::Broken | Used::Unbound => (used, false),
+    }
+}
+
+/// Reads from the first side in use and, where it fails, from the other.
+pub(crate) fn read_sides<A: Disk, B: Disk>(
+    first: &mut A,
+    second: &mut B,
+    used: Used,
+    at: u64,
+    into: &mut [u8],
+) -> bool
+    requires fits { 64 + at + length into.old ≤ (A.state first.old).size }
+    requires small { 64 + at + length into.old ≤ (B.state second.old).size }
+    requires pair { IsPair used }
+    ensures { (past : List (ℕ × ℕ)) (epoch : ℕ) (one two : Slot) → Stands (A.state first.old) (B.state second.old) used past epoch one two
+        → HasEnded (A.state first.old) (B.state second.old) (A.state first.new) (B.state second.new) used past epoch one two 0 0 }
+{
+    match used {
+        Used::OnlyFirst => first.read(HEADER + at, into).is_ok(),
+        Used::OnlySecond => second.read(HEADER + at, into).is_ok(),
+        Used::Both => {
+            if first.read(HEADER + at, into).is_ok() {
+                return true;
+            }
+            second.read(HEADER + at, into).is_ok()
+        }
+        Used::Plain | Used::Broken | Used::Unbound => false,
+    }
+}
