@@ -29,12 +29,12 @@ laid old new at bytes laws fits (Ok r) written is x told = by_cases old.contents
         (c, here, ap body (same_Some x (spliced c (64 + at) bytes) (sym told ∙ now)) ∙ body-spliced c at bytes (let len = length-contents laws c here in omega (arith, fits, len)))
     by_cases None here = absurd (cc (told, written ∙ ap (option_map (λ (l : List ℕ). spliced l (64 + at) bytes)) here))
 
-pub asked_written : {T E : Type 0} (a b new_a new_b : DiskState) (past : List (ℕ × ℕ)) (e : ℕ) (one two : Slot) (at : ℕ) (bytes : List ℕ) (r s : Result T E) → IsLawful a → IsLawful b → 64 + at + length bytes ≤ a.size
+pub asked_written : {T E : Type 0} (a b new_a new_b : DiskState) (past : List (ℕ × ℕ)) (e : ℕ) (one two : Slot) (at : ℕ) (bytes : List ℕ) (r s : Result T E) (p q : Bool) → p ≡ is_ok r → q ≡ is_ok s → IsLawful a → IsLawful b → 64 + at + length bytes ≤ a.size
     → ArePair a b past → AreBoth a b past e one two
     → Elapses a new_a (TornFrom (64 + at) (length bytes) a.now) → Elapses b new_b (TornFrom (64 + at) (length bytes) b.now)
     → OnOk r (Splices (64 + at) bytes a new_a) → OnErr r (TellsTorn (64 + at) (length bytes) a new_a) → OnOk s (Splices (64 + at) bytes b new_b) → OnErr s (TellsTorn (64 + at) (length bytes) b new_b)
-    → BothAsked a b new_a new_b past e one two at (length bytes) (is_ok r) (is_ok s)
-asked_written a b new_a new_b past e one two at bytes r s law_a law_b fits pair both run_a run_b written_a failed_a written_b failed_b =
+    → BothAsked a b new_a new_b past e one two at (length bytes) p q
+asked_written a b new_a new_b past e one two at bytes r s p q is_r is_s law_a law_b fits pair both run_a run_b written_a failed_a written_b failed_b =
     let fits_b : 64 + at + length bytes ≤ b.size = omega (arith, fits, pair.sizes) in
     record {
       pair = pair;
@@ -44,9 +44,9 @@ asked_written a b new_a new_b past e one two at bytes r s law_a law_b fits pair 
       told_a = told_of a new_a (64 + at) bytes law_a fits r written_a failed_a;
       told_b = told_of b new_b (64 + at) bytes law_b fits_b s written_b failed_b;
       agree = λ is is' x y told told'.
-          let p = laid a new_a at bytes law_a fits r written_a is x told in
-          let q = laid b new_b at bytes law_b fits_b s written_b is' y told' in
-          p.2 ∙ ap (λ (l : List ℕ). spliced l at bytes) (both.agree p.0 q.0 p.1 q.1) ∙ sym q.2;
+          let u = laid a new_a at bytes law_a fits r written_a (sym is_r ∙ is) x told in
+          let v = laid b new_b at bytes law_b fits_b s written_b (sym is_s ∙ is') y told' in
+          u.2 ∙ ap (λ (l : List ℕ). spliced l at bytes) (both.agree u.0 v.0 u.1 v.1) ∙ sym v.2;
     }
 
 -- what a call that keeps the contents tells is torn in no byte

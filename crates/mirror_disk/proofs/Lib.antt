@@ -2,10 +2,12 @@ pub mod Adopting
 pub mod Alone
 pub mod Asked
 pub mod Calls
+pub mod Done
 pub mod Ended
 pub mod Epochs
 pub mod Left
 pub mod Meets
+pub mod Mirrored
 pub mod Raises
 pub mod Stands
 pub mod Telling

@@ -1,26 +1,20 @@
 -- What a mirror tells after a call.
-use Rattle.std.proofs.Common.{◌≡◌, ℕ, ◌+◌, ◌≤◌, List, length, take, Option, Some, None, refl, sym, ◌∙◌, ap, subst}
+use Rattle.std.proofs.Common.{◌≡◌, inl, inr, ℕ, ◌+◌, ◌≤◌, List, length, take, Option, Some, None, refl, sym, ◌∙◌, ap, subst}
 use Rattle.std.specs.Option.{option_map}
+use Rattle.std.proofs.lemmas.Bool.{cases_lt}
 use Rattle.std.proofs.lemmas.List.{drop-drop}
 use Rattle.iso_disk.specs.Disk.{DiskState, Torn, TellsTorn, Splices, spliced}
 use Rattle.iso_disk.proofs.Bytes.{spliced_torn, take-drop-spliced, torn_whole}
-use Rattle.mirror_disk.specs.Header.{body, chosen}
+use Rattle.mirror_disk.specs.Becoming.{Becomes, MirrorBecomes}
+use Rattle.mirror_disk.specs.Header.{body, chosen, epoch}
 use Rattle.mirror_disk.specs.Laws.{both_tell}
 use Rattle.mirror_disk.specs.Pairs.{chosen_told}
+use Rattle.mirror_disk.proofs.Epochs.{chosen_first, chosen_second}
 use Rattle.mirror_disk.proofs.Meets.{torn_body}
 
 -- bytes laid behind the header are laid in the mirrored bytes
 pub body-spliced : (c : List ℕ) (at : ℕ) (bytes : List ℕ) → 64 + at + length bytes ≤ length c → body (spliced c (64 + at) bytes) ≡ spliced (body c) at bytes
 body-spliced c at bytes fits = torn_whole bytes (torn_body at (length bytes) (spliced_torn c (64 + at) bytes fits)) (ap (take (length bytes)) (drop-drop at 64 (spliced c (64 + at) bytes)) ∙ take-drop-spliced c (64 + at) bytes fits)
-
--- what two disks tell, before and after: bytes so related behind the header, and nothing where nothing was told
-pub record Becomes (R : List ℕ → List ℕ → Type 0) (old new : Option (List ℕ)) : Type 0 where
-  pub told : (x : List ℕ) → old ≡ Some x → (y : List ℕ) × (new ≡ Some y) × R (body x) (body y)
-  pub untold : old ≡ None → new ≡ None
-
-pub record MirrorBecomes (R : List ℕ → List ℕ → Type 0) (old new : Option (List ℕ)) : Type 0 where
-  pub told : (c : List ℕ) → old ≡ Some c → (d : List ℕ) × (new ≡ Some d) × R c d
-  pub untold : old ≡ None → new ≡ None
 
 none_told : {o p o' p' : Option (List ℕ)} {R S : List ℕ → List ℕ → Type 0} → Becomes R o o' → Becomes S p p' → chosen_told o p ≡ None → chosen_told o' p' ≡ None
 none_told {o = o} {p = p} {o' = o'} {p' = p'} one two none = by_cases o p refl refl none
@@ -57,6 +51,31 @@ told_second {o = o} {p = p} {R = R} one two before after = record {
       (body y.0, (λ i. chosen_told (x.1 i) (y.1 i)) ∙ ap Some (after x.0 y.0 x.1 y.1), subst (λ (l : List ℕ). R l (body y.0)) (sym (t.is ∙ before t.first t.second t.of_first t.of_second)) y.2);
   untold = none_told one two;
 }
+
+-- both sides told the same, and each becomes so: whichever is chosen
+pub told_alike : {o p o' p' : Option (List ℕ)} {R : List ℕ → List ℕ → Type 0} → Becomes R o o' → Becomes R p p' → ((x y : List ℕ) → o ≡ Some x → p ≡ Some y → body x ≡ body y) → MirrorBecomes R (chosen_told o p) (chosen_told o' p')
+told_alike {o = o} {p = p} {R = R} one two agree = record {
+  told = λ c is.
+      let t = both_tell o p c is in
+      let x = one.told t.first t.of_first in
+      let y = two.told t.second t.of_second in
+      let same = agree t.first t.second t.of_first t.of_second in
+      let first : c ≡ body t.first = t.is ∙ either t.first t.second same in
+      (chosen x.0 y.0, (λ i. chosen_told (x.1 i) (y.1 i)), subst (λ (l : List ℕ). R l (chosen x.0 y.0)) (sym first) (of_both (body t.first) x.0 y.0 x.2 (subst (λ (l : List ℕ). R l (body y.0)) (sym same) y.2)));
+  untold = none_told one two;
+}
+  where
+    either : (x y : List ℕ) → body x ≡ body y → chosen x y ≡ body x
+    either x y same = elim (cases_lt (epoch x) (epoch y)) [
+      | inl less ↦ chosen_second x y less ∙ sym same
+      | inr not ↦ chosen_first x y not
+    ]
+
+    of_both : (c x y : List ℕ) → R c (body x) → R c (body y) → R c (chosen x y)
+    of_both c x y one two = elim (cases_lt (epoch x) (epoch y)) [
+      | inl less ↦ subst (R c) (sym (chosen_second x y less)) two
+      | inr not ↦ subst (R c) (sym (chosen_first x y not)) one
+    ]
 
 -- a write that was done
 pub splices_of : (at : ℕ) (bytes : List ℕ) (o p : Option (List ℕ)) → MirrorBecomes (λ c d. d ≡ spliced c at bytes) o p → p ≡ option_map (λ (c : List ℕ). spliced c at bytes) o

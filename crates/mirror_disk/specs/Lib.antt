@@ -1,4 +1,6 @@
+pub mod Becoming
 pub mod Ended
+pub mod Failing
 pub mod Header
 pub mod Laws
 pub mod Pairs

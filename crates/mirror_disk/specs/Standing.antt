@@ -1,8 +1,9 @@
 -- What a mirror is, by which sides are in use.
-use Rattle.std.specs.Prelude.{◌≡◌, ◌≢◌, ℕ, ◌<◌, ◌≤◌, List, take, Some, None}
+use Rattle.std.specs.Prelude.{Bool, true, false, ◌≡◌, ◌≢◌, ℕ, ◌<◌, ◌≤◌, List, take, Some, None}
 use Rattle.iso_disk.specs.Disk.{DiskState}
 use Rattle.iso_disk.specs.Untold.{untold}
 use Rattle.mirror_disk.specs.declared.slot.Slot.{Slot}
+use Rattle.mirror_disk.specs.declared.marks.Marks.{Marks}
 use Rattle.mirror_disk.specs.declared.used.Used.{Used}
 use Rattle.mirror_disk.specs.declared.used.Used.TheVariants.{Plain, Both, OnlyFirst, OnlySecond, Broken, Unbound}
 use Rattle.mirror_disk.specs.Header.{body, epoch, slot_epoch}
@@ -17,6 +18,19 @@ state_in OnlyFirst a b past faults binds = mirrored a b past faults binds
 state_in OnlySecond a b past faults binds = mirrored a b past faults binds
 state_in Broken a b past faults binds = mirrored a b past faults binds
 state_in Unbound a b past faults binds = record (untold 0 faults binds None) { named = named_by a b }
+
+-- by what the mirror knows of its sides
+abbrev pub state_by : Marks → DiskState → DiskState → (past : List (ℕ × ℕ)) → (faults binds : ℕ) → DiskState
+state_by marks a b past faults binds = state_in marks.used a b past faults binds
+
+-- which of the two sides are in use
+abbrev pub sides_in : Used → Bool × Bool
+sides_in Plain = (true, false)
+sides_in Both = (true, true)
+sides_in OnlyFirst = (true, false)
+sides_in OnlySecond = (false, true)
+sides_in Broken = (false, false)
+sides_in Unbound = (false, false)
 
 -- the images of either side since the first moment of the mirror
 abbrev pub FromA : DiskState → DiskState → List (ℕ × ℕ) → List ℕ → Type 0
@@ -62,3 +76,6 @@ pub record Stands (a b : DiskState) (used : Used) (past : List (ℕ × ℕ)) (e 
   pub both : used ≡ Both → AreBoth a b past e one two
   pub first : used ≡ OnlyFirst → FirstLeads a b past e
   pub second : used ≡ OnlySecond → SecondLeads a b past e
+
+abbrev pub StandsBy : DiskState → DiskState → Marks → (past : List (ℕ × ℕ)) → Type 0
+StandsBy a b marks past = Stands a b marks.used past marks.epoch marks.first_slot marks.second_slot

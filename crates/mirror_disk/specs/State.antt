@@ -13,7 +13,7 @@ use Rattle.mirror_disk.specs.Pairs.{named_by}
 use Rattle.mirror_disk.specs.Standing.{Stands, state_in}
 
 abbrev pub state_of : {A B : Type 0} {g : Ghosts A} {h : Ghosts B} → Mirror A B g h → DiskState
-state_of {g = g} {h = h} m = state_in m.used (g.state m.first) (h.state m.second) m.past m.faults m.binds
+state_of {g = g} {h = h} m = state_in m.marks.used (g.state m.first) (h.state m.second) m.past m.faults m.binds
 
 size_in : (used : Used) (a b : DiskState) (past : List (ℕ × ℕ)) (faults binds : ℕ) → a.size < 2 ^ 64 → (state_in used a b past faults binds).size < 2 ^ 64
 size_in Plain a b past faults binds fits = fits
@@ -36,7 +36,7 @@ lawful_in Unbound a b past e faults binds one two stands first second = plain_la
 
 -- the laws of the trait
 pub mirror_size : {A B : Type 0} {g : Ghosts A} {h : Ghosts B} → ((a : A) → (g.state a).size < 2 ^ 64) → (m : Mirror A B g h) → (state_of m).size < 2 ^ 64
-mirror_size {g = g} {h = h} fits m = size_in m.used (g.state m.first) (h.state m.second) m.past m.faults m.binds (fits m.first)
+mirror_size {g = g} {h = h} fits m = size_in m.marks.used (g.state m.first) (h.state m.second) m.past m.faults m.binds (fits m.first)
 
 pub mirror_lawful : {A B : Type 0} {g : Ghosts A} {h : Ghosts B} → ((a : A) → IsLawful (g.state a)) → ((b : B) → IsLawful (h.state b)) → (m : Mirror A B g h) → IsLawful (state_of m)
-mirror_lawful {g = g} {h = h} one two m = lawful_in m.used (g.state m.first) (h.state m.second) m.past m.epoch m.faults m.binds m.first_slot m.second_slot m.stands (one m.first) (two m.second)
+mirror_lawful {g = g} {h = h} one two m = lawful_in m.marks.used (g.state m.first) (h.state m.second) m.past m.marks.epoch m.faults m.binds m.marks.first_slot m.marks.second_slot m.stands (one m.first) (two m.second)

@@ -1,7 +1,10 @@
 //! A disk that keeps its bytes twice, on two sides. It goes on where one side fails.
 #![tactic(auto)]
 
+mod disk;
+mod marks;
 mod mirror;
+mod parts;
 mod past;
 mod raise;
 mod sides;

@@ -1,9 +1,9 @@
 // The mirror itself.
 ghost use Rattle.std.specs.Prelude.{◌≡◌};
-ghost use Rattle.mirror_disk.specs.Standing.{Stands};
+ghost use Rattle.mirror_disk.specs.Standing.{StandsBy};
 
+use crate::marks::Marks;
 use crate::past::Past;
-use crate::slot::Slot;
 use crate::used::Used;
 use iso_disk::Image;
 
@@ -12,35 +12,39 @@ use iso_disk::Image;
 pub struct Mirror<A: Image, B: Image> {
     pub(crate) first: A,
     pub(crate) second: B,
-    pub(crate) used: Used,
-    pub(crate) epoch: u64,
-    pub(crate) first_slot: Slot,
-    pub(crate) second_slot: Slot,
+    pub(crate) marks: Marks,
     pub(crate) past: Past<A, B>,
     pub(crate) faults: u64,
     pub(crate) binds: u64,
-    ghost stands: { Stands (A.state first) (B.state second) used past epoch first_slot second_slot },
+    ghost stands: { StandsBy (A.state first) (B.state second) marks past },
 }
 
 impl<A: Image, B: Image> Mirror<A, B> {
-    /// A mirror that is not bound yet. It takes no memory.
-    pub fn of(first: A, second: B) -> Mirror<A, B> {
+    ghost use Rattle.mirror_disk.specs.declared.used.Used.TheVariants.{Plain};
+    ghost use Rattle.mirror_disk.specs.Standing.{sides_in};
+
+    /// A mirror that is not bound yet: until then it is its first side alone. It takes no memory.
+    pub fn of(first: A, second: B) -> Mirror<A, B>
+        ensures first { result.first ≡ first }
+        ensures second { result.second ≡ second }
+        ensures unbound { result.marks.used ≡ Plain }
+        ensures counts { (result.faults ≡ 0) × (result.binds ≡ 0) }
+    {
         Mirror {
             first,
             second,
-            used: Used::Plain,
-            epoch: 0,
-            first_slot: Slot::First,
-            second_slot: Slot::First,
+            marks: Marks::plain(),
             past: Past::start(),
             faults: 0,
             binds: 0,
         }
     }
 
-    /// Which of the sides are in use.
-    pub fn sides(&self) -> (bool, bool) {
-        match self.used {
+    /// Which of the sides are in use: one at least, but none of a mirror that is broken or whose bind failed.
+    pub fn sides(&self) -> (bool, bool)
+        ensures { result ≡ sides_in self.now.marks.used }
+    {
+        match self.marks.used {
             Used::Both => (true, true),
             Used::Plain | Used::OnlyFirst => (true, false),
             Used::OnlySecond => (false, true),
@@ -49,7 +53,10 @@ impl<A: Image, B: Image> Mirror<A, B> {
     }
 
     /// The two sides, which are handed back.
-    pub fn into_sides(self) -> (A, B) {
+    pub fn into_sides(self) -> (A, B)
+        ensures first { result.0 ≡ self.first }
+        ensures second { result.1 ≡ self.second }
+    {
         (self.first, self.second)
     }
 }
