@@ -2,18 +2,18 @@
 use Rattle.std.proofs.Common.{◌≡◌, ◌≢◌, inr, ⊎_elim, ℕ, ◌+◌, ◌≤◌, List, [], ◌∷◌, Some, refl, sym, ◌∙◌, ap, subst, arith}
 use Rattle.iso_disk.specs.Disk.{DiskState, IsLawful, IsSettled, TornFrom, LeavesOnly, Elapses}
 use Rattle.iso_disk.proofs.Images.{torn_from_old}
-use Rattle.iso_disk.proofs.Moments.{at_end, started}
+use Rattle.iso_disk.proofs.Moments.{at_end, started, weakened}
 use Rattle.mirror_disk.specs.declared.slot.Slot.{Slot}
 use Rattle.mirror_disk.specs.declared.used.Used.{Used}
 use Rattle.mirror_disk.specs.declared.used.Used.TheVariants.{Both, OnlyFirst, OnlySecond}
 use Rattle.mirror_disk.specs.Ended.{HasEnded}
-use Rattle.mirror_disk.specs.Header.{chosen}
+use Rattle.mirror_disk.specs.Header.{IsHeader, chosen}
 use Rattle.mirror_disk.specs.Laws.{rising_first}
 use Rattle.mirror_disk.specs.Pairs.{ChosenOf, chosen_told, mirrored}
 use Rattle.mirror_disk.specs.Standing.{ArePair, FirstLeads, SecondLeads, IsPair}
 use Rattle.mirror_disk.proofs.Calls.{elapses_pair}
 use Rattle.mirror_disk.proofs.Epochs.{chosen_first, chosen_second}
-use Rattle.mirror_disk.proofs.Stands.{GoesOnTelling, epoch_of_torn, from_a, from_b, meets_first, meets_nothing, meets_second, now_from_a, now_from_b, pair_on, some_told}
+use Rattle.mirror_disk.proofs.Stands.{header_torn, GoesOnTelling, epoch_of_torn, from_a, from_b, meets_first, meets_nothing, meets_second, now_from_a, now_from_b, pair_on, some_told}
 
 module _ {a b new_a : DiskState} (past : List (ℕ × ℕ)) (e : ℕ) (one two : Slot) (at n : ℕ) (law_a : IsLawful a) (law_b : IsLawful b) (law_a' : IsLawful new_a) (pair : ArePair a b past) (leads : FirstLeads a b past e)
     (run : LeavesOnly a new_a (TornFrom (64 + at) n a.now)) (on : GoesOnTelling a new_a) where
@@ -25,7 +25,7 @@ module _ {a b new_a : DiskState} (past : List (ℕ × ℕ)) (e : ℕ) (one two :
   ended_first_alone = record {
     is_pair = ((λ is. cc is), (λ is. cc is));
     stands = record {
-      pair = λ _. pair_on pair run idle_b (λ x t. pair.first_told t.old (now_from_a past law_a law_b pair.rising t.old t.was)) (λ y now. pair.second_told y (now_from_b past law_a law_b pair.rising y now)) on (λ told. told);
+      pair = λ _. pair_on pair run idle_b (λ x t. pair.first_told t.old (now_from_a past law_a law_b pair.rising t.old t.was)) (λ y now. pair.second_told y (now_from_b past law_a law_b pair.rising y now)) on (λ told. told) (weakened run (λ x t. header_torn at n (λ x now. pair.first_header x (now_from_a past law_a law_b pair.rising x now)) t)) (started law_b (λ y now. pair.second_header y (now_from_b past law_a law_b pair.rising y now)));
       both = λ is. absurd (cc is);
       first = λ _. record {
         first = λ x from. ⊎_elim (leads.first x) (λ (t : TornFrom (64 + at) n a.now x). let le = leads.first t.old (now_from_a past law_a law_b pair.rising t.old t.was) in omega (arith, le, epoch_of_torn at n t)) (from_a a b new_a b past pair.rising run x from);
@@ -46,7 +46,7 @@ module _ {a b new_b : DiskState} (past : List (ℕ × ℕ)) (e : ℕ) (one two :
   ended_second_alone = record {
     is_pair = ((λ is. cc is), (λ is. cc is));
     stands = record {
-      pair = λ _. pair_on pair idle_a run (λ x now. pair.first_told x (now_from_a past law_a law_b pair.rising x now)) (λ y t. pair.second_told t.old (now_from_b past law_a law_b pair.rising t.old t.was)) (λ told. told) on;
+      pair = λ _. pair_on pair idle_a run (λ x now. pair.first_told x (now_from_a past law_a law_b pair.rising x now)) (λ y t. pair.second_told t.old (now_from_b past law_a law_b pair.rising t.old t.was)) (λ told. told) on (started law_a (λ x now. pair.first_header x (now_from_a past law_a law_b pair.rising x now))) (weakened run (λ y t. header_torn at n (λ y now. pair.second_header y (now_from_b past law_a law_b pair.rising y now)) t));
       both = λ is. absurd (cc is);
       first = λ is. absurd (cc is);
       second = λ _. record {
@@ -66,8 +66,10 @@ pub none_torn : {images : List ℕ → Type 0} (c : List ℕ) → TornFrom 0 0 i
 none_torn {images = images} c t = subst images (sym t.torn.after) t.was
 
 -- What a mirror is at its first moment: two sides that are settled, with headers of the same epoch and the same bytes behind them.
-pub first_pair : (a b : DiskState) → IsLawful a → IsLawful b → b.size ≡ a.size → 64 ≤ a.size → IsSettled a → IsSettled b → ArePair a b []
-first_pair a b law_a law_b sizes room settled_a settled_b = record {
+pub first_pair : (a b : DiskState) → IsLawful a → IsLawful b → b.size ≡ a.size → 64 ≤ a.size → IsSettled a → IsSettled b → ((x : List ℕ) → a.now x → IsHeader x) → ((y : List ℕ) → b.now y → IsHeader y) → ArePair a b []
+first_pair a b law_a law_b sizes room settled_a settled_b header_a header_b = record {
+  first_header = λ x from. header_a x (law_a.only_now x from);
+  second_header = λ y from. header_b y (law_b.only_now y from);
   sizes = sizes;
   room = room;
   rising = rising_first (a.clock, b.clock);
@@ -109,7 +111,7 @@ ended_idle {a = a} {b = b} used past e one two at n law_a law_b is_pair not_both
     record {
       is_pair = is_pair;
       stands = record {
-        pair = λ _. pair_on pair idle_a idle_b (λ x now. pair.first_told x (now_from_a past law_a law_b pair.rising x now)) (λ y now. pair.second_told y (now_from_b past law_a law_b pair.rising y now)) (λ told. told) (λ told. told);
+        pair = λ _. pair_on pair idle_a idle_b (λ x now. pair.first_told x (now_from_a past law_a law_b pair.rising x now)) (λ y now. pair.second_told y (now_from_b past law_a law_b pair.rising y now)) (λ told. told) (λ told. told) (started law_a (λ x now. pair.first_header x (now_from_a past law_a law_b pair.rising x now))) (started law_b (λ y now. pair.second_header y (now_from_b past law_a law_b pair.rising y now)));
         both = λ is. absurd (not_both is);
         first = λ is. absurd (not_first is);
         second = λ is. absurd (not_second is);

@@ -8,9 +8,10 @@ use Rattle.iso_disk.proofs.Bytes.{slice-torn, get_or-torn, drop-torn}
 use Rattle.commit_gate.specs.Gate.{IsClosed, IsOpen}
 use Rattle.mirror_disk.specs.declared.slot.Slot.{Slot}
 use Rattle.mirror_disk.specs.declared.slot.Slot.TheVariants.{First, Second}
-use Rattle.mirror_disk.specs.Header.{number_at, slot_epoch, larger, epoch, body, chosen}
+use Rattle.mirror_disk.specs.Header.{IsHeader, last_epoch, number_at, slot_epoch, larger, epoch, body, chosen}
 use Rattle.mirror_disk.specs.Slots.{place, other}
-use Rattle.mirror_disk.specs.Raised.{HasEpoch}
+use Rattle.mirror_disk.specs.Raised.{HasEpoch, HoldsEpoch}
+use Rattle.mirror_disk.proofs.Headers.{header_slot, slot_closed, slot_held, slot_in, slot_shut}
 
 -- the larger of two numbers
 pub larger_left : (m n : ℕ) → n ≤ m → larger m n ≡ m
@@ -58,9 +59,13 @@ pub open_slot : (at : ℕ) (x : List ℕ) → IsOpen at x → slot_epoch at x �
 open_slot at x is = cond-true _ _ _ (eq-eqb _ _ is)
 
 -- the epoch by that of a slot
-pub by_slot : (slot : Slot) (e : ℕ) (x : List ℕ) → slot_epoch (place slot) x ≡ e → slot_epoch (place (other slot)) x ≤ e → HasEpoch slot e x
-by_slot First e x is le = record { epoch_is = larger_left _ _ (omega (arith, is, le)) ∙ is; slot_is = is }
-by_slot Second e x is le = record { epoch_is = larger_right _ _ (omega (arith, is, le)) ∙ is; slot_is = is }
+pub by_slot : (slot : Slot) (e : ℕ) (x : List ℕ) → slot_epoch (place slot) x ≡ e → slot_epoch (place (other slot)) x ≤ e → 1 ≤ e → (1 ≤ epoch x → IsHeader x) → HasEpoch slot e x
+by_slot First e x is le has header = let same : epoch x ≡ e = larger_left _ _ (omega (arith, is, le)) ∙ is in record { epoch_is = same; slot_is = is; header = header (omega (arith, has, same)) }
+by_slot Second e x is le has header = let same : epoch x ≡ e = larger_right _ _ (omega (arith, is, le)) ∙ is in record { epoch_is = same; slot_is = is; header = header (omega (arith, has, same)) }
+
+-- an epoch is 1 at least
+pub least_epoch : {slot : Slot} {e : ℕ} {x : List ℕ} → HasEpoch slot e x → 1 ≤ e
+least_epoch has = omega (arith, has.epoch_is, has.header.has_epoch)
 
 -- the other slot has no larger one
 pub other_below : (slot : Slot) (e : ℕ) (x : List ℕ) → HasEpoch slot e x → slot_epoch (place (other slot)) x ≤ e
@@ -101,35 +106,39 @@ shut_stays slot e {x = x} {y = y} has open_before torn =
           let number : number_at (at + 8) y ≡ number_at (at + 8) x = ap (from_be_bytes w64) (slice-torn torn (at + 8) 8 (inr (omega arith))) in
           omega (arith, open_slot at y is, number, open_slot at x open_before, other_below slot e x has)
       | inr closed ↦ omega (arith, closed_slot at y closed)
-    ])
+    ]) (least_epoch has) (header_slot (other slot) has.header torn (omega arith) (omega arith) (slot_shut at (slot_in (other slot) has.header) open_before torn))
 
 -- what stands behind a closed gate is written
 pub body_written : (slot : Slot) (e : ℕ) {x y : List ℕ} → HasEpoch slot e x → IsClosed (place (other slot)) y → Torn (place (other slot) + 1) 15 x y → HasEpoch slot e y
 body_written slot e {x = x} {y = y} has closed torn =
     let at = place (other slot) in
-    by_slot slot e y (slot_stays slot e torn (omega arith) (omega arith) has.slot_is) (omega (arith, closed_slot at y closed))
+    by_slot slot e y (slot_stays slot e torn (omega arith) (omega arith) has.slot_is) (omega (arith, closed_slot at y closed)) (least_epoch has) (header_slot (other slot) has.header torn (omega arith) (omega arith) (slot_closed at y closed))
 
 -- the gate is opened: the epoch is the old one or the next
-pub gate_written : (slot : Slot) (e next : ℕ) {x y : List ℕ} → HasEpoch slot e x → e ≤ next → number_at (place (other slot) + 8) x ≡ next → Torn (place (other slot)) 1 x y
+pub gate_written : (slot : Slot) (e next : ℕ) {x y : List ℕ} → HasEpoch slot e x → e ≤ next → next ≤ last_epoch → HoldsEpoch (place (other slot)) next x → Torn (place (other slot)) 1 x y
     → HasEpoch slot e y ⊎ HasEpoch (other slot) next y
-gate_written slot e next {x = x} {y = y} has le number torn =
+gate_written slot e next {x = x} {y = y} has le last holds torn =
     let at = place (other slot) in
     let stays = slot_stays slot e torn (omega arith) (omega arith) has.slot_is in
+    let least : 1 ≤ next = omega (arith, le, least_epoch has) in
+    let header : 1 ≤ epoch y → IsHeader y = header_slot (other slot) has.header torn (omega arith) (omega arith) (slot_held at next holds least last torn) in
     elim (cases_eq (slice_index y at) 1) [
       | inl is ↦
-          let here : slot_epoch at y ≡ next = open_slot at y is ∙ ap (from_be_bytes w64) (slice-torn torn (at + 8) 8 (inr (omega arith))) ∙ number in
-          inr (by_slot (other slot) next y here (omega (arith, ap (λ (s : Slot). slot_epoch (place s) y) (other_other slot), stays, le)))
-      | inr closed ↦ inl (by_slot slot e y stays (omega (arith, closed_slot at y closed)))
+          let here : slot_epoch at y ≡ next = open_slot at y is ∙ ap (from_be_bytes w64) (slice-torn torn (at + 8) 8 (inr (omega arith))) ∙ holds.number in
+          inr (by_slot (other slot) next y here (omega (arith, ap (λ (s : Slot). slot_epoch (place s) y) (other_other slot), stays, le)) least header)
+      | inr closed ↦ inl (by_slot slot e y stays (omega (arith, closed_slot at y closed)) (least_epoch has) header)
     ]
 
 -- once it stands open the epoch is the next
-pub open_raises : (slot : Slot) (e next : ℕ) {x y : List ℕ} → HasEpoch slot e x → e ≤ next → number_at (place (other slot) + 8) x ≡ next → Torn (place (other slot)) 1 x y → IsOpen (place (other slot)) y
+pub open_raises : (slot : Slot) (e next : ℕ) {x y : List ℕ} → HasEpoch slot e x → e ≤ next → next ≤ last_epoch → HoldsEpoch (place (other slot)) next x → Torn (place (other slot)) 1 x y → IsOpen (place (other slot)) y
     → HasEpoch (other slot) next y
-open_raises slot e next {x = x} {y = y} has le number torn is =
+open_raises slot e next {x = x} {y = y} has le last holds torn is =
     let at = place (other slot) in
     let stays = slot_stays slot e torn (omega arith) (omega arith) has.slot_is in
-    let here : slot_epoch at y ≡ next = open_slot at y is ∙ ap (from_be_bytes w64) (slice-torn torn (at + 8) 8 (inr (omega arith))) ∙ number in
-    by_slot (other slot) next y here (omega (arith, ap (λ (s : Slot). slot_epoch (place s) y) (other_other slot), stays, le))
+    let here : slot_epoch at y ≡ next = open_slot at y is ∙ ap (from_be_bytes w64) (slice-torn torn (at + 8) 8 (inr (omega arith))) ∙ holds.number in
+    let least : 1 ≤ next = omega (arith, le, least_epoch has) in
+    let header : 1 ≤ epoch y → IsHeader y = header_slot (other slot) has.header torn (omega arith) (omega arith) (slot_held at next holds least last torn) in
+    by_slot (other slot) next y here (omega (arith, ap (λ (s : Slot). slot_epoch (place s) y) (other_other slot), stays, le)) least header
 
 -- which of two is chosen
 pub chosen_first : (x y : List ℕ) → epoch y ≤ epoch x → chosen x y ≡ body x

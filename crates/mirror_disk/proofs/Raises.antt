@@ -2,7 +2,7 @@
 use Rattle.std.proofs.Common.{◌≡◌, inl, inr, ⊎_elim, ℕ, ◌+◌, ◌<◌, ◌≤◌, List, length, take, drop, get_or, Option, Some, None, Result, Ok, Err, OnOk, OnErr, refl, sym, ◌∙◌, ap, arith}
 use Rattle.std.specs.Option.{option_map}
 use Rattle.std.proofs.lemmas.Option.{same_Some}
-use Rattle.std.proofs.lemmas.List.{drop-drop, drop-take, get_or-take}
+use Rattle.std.proofs.lemmas.List.{drop-drop, drop-take, get_or-take, take-take}
 use Rattle.std.specs.Prelude.{slice_index, ◌^◌}
 use Rattle.std.specs.Int.{w64, from_be_bytes}
 use Rattle.std.proofs.lemmas.Nat.{from_be_bytes-to_be_bytes_8}
@@ -12,8 +12,8 @@ use Rattle.iso_disk.proofs.Images.{length-contents}
 use Rattle.iso_disk.proofs.Moments.{at_end}
 use Rattle.commit_gate.specs.Gate.{IsClosed, IsOpen}
 use Rattle.mirror_disk.specs.declared.slot.Slot.{Slot}
-use Rattle.mirror_disk.specs.Header.{body, number_at, slot_body}
-use Rattle.mirror_disk.specs.Raised.{HasEpoch, KeepsBody, Raising, Still}
+use Rattle.mirror_disk.specs.Header.{body, number_at, slot_body, last_epoch}
+use Rattle.mirror_disk.specs.Raised.{HasEpoch, KeepsBody, Raising, Still, HoldsEpoch}
 use Rattle.mirror_disk.specs.Slots.{place, other}
 use Rattle.mirror_disk.proofs.Epochs.{body-torn, body_stays, body_written, gate_written, open_raises, shut_stays}
 
@@ -63,19 +63,19 @@ pub body_image : {old : DiskState} (slot : Slot) (e : ℕ) → ((x : List ℕ) �
 body_image slot e each x closed t = record { marked = body_written slot e (each t.old t.was) closed t.torn; was = t.old; is_old = t.was; same = body_stays slot e t.torn (omega arith) (omega arith) }
 
 -- the gate is opened over a settled disk
-pub open_image : (old : DiskState) (slot : Slot) (e next : ℕ) → IsSettled old → ((x : List ℕ) → old.now x → HasEpoch slot e x) → e ≤ next → ((x : List ℕ) → old.now x → number_at (place (other slot) + 8) x ≡ next)
+pub open_image : (old : DiskState) (slot : Slot) (e next : ℕ) → IsSettled old → ((x : List ℕ) → old.now x → HasEpoch slot e x) → e ≤ next → next ≤ last_epoch → ((x : List ℕ) → old.now x → HoldsEpoch (place (other slot)) next x)
     → (x : List ℕ) → TornFrom (place (other slot)) 1 old.now x → Raising e next old x
-open_image old slot e next settled each le number x t =
+open_image old slot e next settled each le last holds x t =
     let same = body_stays slot e t.torn (omega arith) (omega arith) in
     ⊎_elim
-    (λ (stays : HasEpoch slot e x). inl (stays.epoch_is, (t.old, t.was, same)))
-    (λ (raised : HasEpoch (other slot) next x). inr (raised.epoch_is, (t.old, settled t.old t.was, same)))
-    (gate_written slot e next (each t.old t.was) le (number t.old t.was) t.torn)
+    (λ (stays : HasEpoch slot e x). (stays.header, inl (stays.epoch_is, (t.old, t.was, same))))
+    (λ (raised : HasEpoch (other slot) next x). (raised.header, inr (raised.epoch_is, (t.old, settled t.old t.was, same))))
+    (gate_written slot e next (each t.old t.was) le last (holds t.old t.was) t.torn)
 
 -- and stands open then
-pub raised_image : (old : DiskState) (slot : Slot) (e next : ℕ) → ((x : List ℕ) → old.now x → HasEpoch slot e x) → e ≤ next → ((x : List ℕ) → old.now x → number_at (place (other slot) + 8) x ≡ next)
+pub raised_image : (old : DiskState) (slot : Slot) (e next : ℕ) → ((x : List ℕ) → old.now x → HasEpoch slot e x) → e ≤ next → next ≤ last_epoch → ((x : List ℕ) → old.now x → HoldsEpoch (place (other slot)) next x)
     → (x : List ℕ) → TornFrom (place (other slot)) 1 old.now x → IsOpen (place (other slot)) x → HasEpoch (other slot) next x
-raised_image old slot e next each le number x t is_open = open_raises slot e next (each t.old t.was) le (number t.old t.was) t.torn is_open
+raised_image old slot e next each le last holds x t is_open = open_raises slot e next (each t.old t.was) le last (holds t.old t.was) t.torn is_open
 
 -- a told disk whose later contents are told was told before
 pub told_before : {old mid : DiskState} → KeepsBody old mid → (c : List ℕ) → mid.contents ≡ Some c → (d : List ℕ) × (old.contents ≡ Some d) × (body c ≡ body d)
@@ -87,14 +87,14 @@ told_before {old = old} {mid = mid} keeps c is = by_cases old.contents refl
 
 -- what is raised from a later state is raised from an earlier one
 pub raising_on : {old mid : DiskState} (slot : Slot) (e next : ℕ) → IsLawful mid → LeavesOnly old mid (Still slot e old) → KeepsBody old mid → (x : List ℕ) → Raising e next mid x → Raising e next old x
-raising_on {old = old} {mid = mid} slot e next laws run keeps x r = elim r [
-  | inl k ↦ let t = at_end laws run k.1.0 k.1.1 in inl (k.0, (t.was, t.is_old, k.1.2 ∙ t.same))
-  | inr k ↦ let d = told_before keeps k.1.0 k.1.1 in inr (k.0, (d.0, d.1, k.1.2 ∙ d.2))
+raising_on {old = old} {mid = mid} slot e next laws run keeps x r = elim r.1 [
+  | inl k ↦ let t = at_end laws run k.1.0 k.1.1 in (r.0, inl (k.0, (t.was, t.is_old, k.1.2 ∙ t.same)))
+  | inr k ↦ let d = told_before keeps k.1.0 k.1.1 in (r.0, inr (k.0, (d.0, d.1, k.1.2 ∙ d.2)))
 ]
 
 -- before the gate is opened the epoch is the old one
 pub raising_still : {old : DiskState} (slot : Slot) (e next : ℕ) → (x : List ℕ) → Still slot e old x → Raising e next old x
-raising_still slot e next x s = inl (s.marked.epoch_is, (s.was, s.is_old, s.same))
+raising_still slot e next x s = (s.marked.header, inl (s.marked.epoch_is, (s.was, s.is_old, s.same)))
 
 -- a byte of the header, by the header of what is told
 pub gate_of_front : (x c : List ℕ) (k : ℕ) → take 64 x ≡ take 64 c → k < 64 → slice_index x k ≡ slice_index c k
@@ -121,3 +121,10 @@ number_of_body gate next x fits is =
     ∙ sym (drop-take 7 8 (drop (gate + 1) x))
     ∙ ap (drop 7) is)
     ∙ from_be_bytes-to_be_bytes_8 next fits
+
+-- what stands behind a gate, by the bytes that were put there
+pub holds_body : (gate next : ℕ) (x : List ℕ) → next < 2 ^ 64 → take 15 (drop (gate + 1) x) ≡ slot_body next → HoldsEpoch gate next x
+holds_body gate next x fits is = record {
+  zeros = sym (take-take 7 15 (drop (gate + 1) x) (omega arith)) ∙ ap (take 7) is;
+  number = number_of_body gate next x fits is;
+}

@@ -2,12 +2,13 @@
 use Rattle.std.proofs.Common.{◌≡◌, ◌≢◌, ◌⊎◌, inl, inr, ⊎_elim, ℕ, ◌+◌, ◌<◌, ◌≤◌, List, ◌∷◌, Option, Some, None, refl, sym, ◌∙◌, subst, arith}
 use Rattle.iso_disk.specs.Disk.{DiskState, IsLawful, Torn, TornFrom, LeavesOnly}
 use Rattle.mirror_disk.specs.declared.slot.Slot.{Slot}
-use Rattle.mirror_disk.specs.Header.{body, epoch}
+use Rattle.mirror_disk.specs.Header.{IsHeader, body, epoch}
 use Rattle.mirror_disk.specs.Laws.{at_before, at_most, rising_more}
 use Rattle.mirror_disk.specs.Pairs.{ChosenOf, IsRising}
 use Rattle.mirror_disk.specs.Standing.{ArePair, AreBoth, FirstLeads, SecondLeads, FromA, FromB}
 use Rattle.mirror_disk.proofs.Calls.{Meet}
 use Rattle.mirror_disk.proofs.Epochs.{chosen_first, chosen_second, epoch-torn}
+use Rattle.mirror_disk.proofs.Headers.{header_behind}
 use Rattle.mirror_disk.proofs.Meets.{Some_a, Some_b, meet_first, meet_over, meet_second, torn_body}
 
 -- what is not untold is told
@@ -38,8 +39,10 @@ GoesOnTelling old new = old.contents ≢ None → new.contents ≢ None
 
 -- the pair stays one
 pub pair_on : {a b new_a new_b : DiskState} {past : List (ℕ × ℕ)} {P Q : List ℕ → Type 0} → ArePair a b past → LeavesOnly a new_a P → LeavesOnly b new_b Q
-    → ((x : List ℕ) → P x → a.contents ≢ None) → ((y : List ℕ) → Q y → b.contents ≢ None) → GoesOnTelling a new_a → GoesOnTelling b new_b → ArePair new_a new_b ((a.clock, b.clock) ∷ past)
-pair_on {a = a} {b = b} {new_a = new_a} {new_b = new_b} {past = past} pair run_a run_b told_p told_q on_a on_b = record {
+    → ((x : List ℕ) → P x → a.contents ≢ None) → ((y : List ℕ) → Q y → b.contents ≢ None) → GoesOnTelling a new_a → GoesOnTelling b new_b → LeavesOnly a new_a IsHeader → LeavesOnly b new_b IsHeader → ArePair new_a new_b ((a.clock, b.clock) ∷ past)
+pair_on {a = a} {b = b} {new_a = new_a} {new_b = new_b} {past = past} pair run_a run_b told_p told_q on_a on_b heads_a heads_b = record {
+  first_header = λ x from. ⊎_elim (pair.first_header x) (λ is. is) (from_a a b new_a new_b past pair.rising heads_a x from);
+  second_header = λ y from. ⊎_elim (pair.second_header y) (λ is. is) (from_b a b new_a new_b past pair.rising heads_b y from);
   sizes = run_b.same_size ∙ pair.sizes ∙ sym run_a.same_size;
   room = omega (arith, pair.room, run_a.same_size);
   rising = rising_more past (a.clock, b.clock) (new_a.clock, new_b.clock) pair.rising run_a.later run_b.later;
@@ -50,6 +53,10 @@ pair_on {a = a} {b = b} {new_a = new_a} {new_b = new_b} {past = past} pair run_a
 -- a torn image of a call behind the header has the epoch of one from before it
 pub epoch_of_torn : (at n : ℕ) {images : List ℕ → Type 0} {x : List ℕ} (t : TornFrom (64 + at) n images x) → epoch x ≡ epoch t.old
 epoch_of_torn at n t = epoch-torn t.torn (omega arith)
+
+-- and has a header
+pub header_torn : (at n : ℕ) {images : List ℕ → Type 0} {x : List ℕ} → ((y : List ℕ) → images y → IsHeader y) → TornFrom (64 + at) n images x → IsHeader x
+header_torn at n headers t = header_behind (headers t.old t.was) t.torn (omega arith) (epoch_of_torn at n t)
 
 module _ {a b : DiskState} {past : List (ℕ × ℕ)} (one : IsLawful a) (two : IsLawful b) (pair : ArePair a b past) (at n e : ℕ) where
   abbrev TornA : List ℕ → Type 0
@@ -117,6 +124,7 @@ module _ {a b : DiskState} {past : List (ℕ × ℕ)} (one : IsLawful a) (two : 
 
   -- an image of a side that is called and raised: its mirrored bytes are those of a torn one
   pub record Over (images : List ℕ → Type 0) (x : List ℕ) : Type 0 where
+    pub header : IsHeader x
     pub most : e ≤ epoch x
     pub was : List ℕ
     pub is_torn : TornFrom (64 + at) n images was

@@ -5,7 +5,7 @@ use Rattle.fault_count.specs.Count.{Rose}
 use Rattle.mirror_disk.specs.declared.used.Used.{Used}
 use Rattle.mirror_disk.specs.declared.used.Used.TheVariants.{Plain, Both, OnlyFirst, OnlySecond, Broken, Unbound}
 use Rattle.mirror_disk.specs.Raised.{KeepsBody}
-use Rattle.mirror_disk.specs.Slots.{last_epoch}
+use Rattle.mirror_disk.specs.Header.{last_epoch}
 
 -- each side in use has failed; these are the counts of the first side before and after the call, and those of the second one
 abbrev pub AllFailed : Used → (first first' second second' : ℕ) → Type 0

@@ -11,7 +11,3 @@ place Second = 32
 abbrev pub other : Slot → Slot
 other First = Second
 other Second = First
-
--- the largest epoch
-abbrev pub last_epoch : ℕ
-last_epoch = 9223372036854775807

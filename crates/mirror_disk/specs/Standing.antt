@@ -6,7 +6,7 @@ use Rattle.mirror_disk.specs.declared.slot.Slot.{Slot}
 use Rattle.mirror_disk.specs.declared.marks.Marks.{Marks}
 use Rattle.mirror_disk.specs.declared.used.Used.{Used}
 use Rattle.mirror_disk.specs.declared.used.Used.TheVariants.{Plain, Both, OnlyFirst, OnlySecond, Broken, Unbound}
-use Rattle.mirror_disk.specs.Header.{body, epoch, slot_epoch}
+use Rattle.mirror_disk.specs.Header.{IsHeader, body, epoch, slot_epoch}
 use Rattle.mirror_disk.specs.Pairs.{IsRising, mirrored, named_by, pair_at}
 use Rattle.mirror_disk.specs.Slots.{place}
 
@@ -39,11 +39,14 @@ FromA a b past x = a.left (pair_at past (a.clock, b.clock) 0).0 x
 abbrev pub FromB : DiskState → DiskState → List (ℕ × ℕ) → List ℕ → Type 0
 FromB a b past y = b.left (pair_at past (a.clock, b.clock) 0).1 y
 
--- Two sides that are mirrored: they have one size, their moments rise, and one that leaves an image tells its bytes.
+-- Two sides that are mirrored: they have one size, their moments rise, each image has a header, and a side that leaves one
+-- tells its bytes.
 pub record ArePair (a b : DiskState) (past : List (ℕ × ℕ)) : Type 0 where
   pub sizes : b.size ≡ a.size
   pub room : 64 ≤ a.size
   pub rising : IsRising past (a.clock, b.clock)
+  pub first_header : (x : List ℕ) → FromA a b past x → IsHeader x
+  pub second_header : (y : List ℕ) → FromB a b past y → IsHeader y
   pub first_told : (x : List ℕ) → FromA a b past x → a.contents ≢ None
   pub second_told : (y : List ℕ) → FromB a b past y → b.contents ≢ None
 

@@ -4,8 +4,8 @@ ghost use Rattle.iso_disk.specs.Disk.{IsSettled, LeavesOnly, TornFrom};
 ghost use Rattle.commit_gate.specs.Gate.{IsClosed};
 ghost use Rattle.fault_count.specs.Count.{HasCause};
 ghost use Rattle.mirror_disk.specs.Slots.{other, place};
-ghost use Rattle.mirror_disk.specs.Header.{number_at, slot_body};
-ghost use Rattle.mirror_disk.specs.Raised.{HasEpoch, IsMarked, KeepsBody, Raising, Still};
+ghost use Rattle.mirror_disk.specs.Header.{last_epoch, slot_body};
+ghost use Rattle.mirror_disk.specs.Raised.{HasEpoch, HoldsEpoch, IsMarked, KeepsBody, Raising, Still};
 
 use crate::slot::Slot;
 use commit_gate::{open_gate, put_body, shut_gate, stands_closed};
@@ -14,6 +14,7 @@ use iso_disk::{Disk, DiskFault};
 /// Puts an epoch into the slot that does not hold the one so far, and opens its gate.
 pub(crate) fn raise_epoch<D: Disk>(disk: &mut D, slot: Slot, next: u64) -> Result<(), DiskFault>
     requires size { 64 ≤ (D.state disk.old).size }
+    requires last { next ≤ last_epoch }
     requires marked { (e : ℕ) × IsMarked slot e (D.state disk.old) × (e ≤ next) }
     ensures moments { (e : ℕ) → IsMarked slot e (D.state disk.old) → e ≤ next → LeavesOnly (D.state disk.old) (D.state disk.new) (Raising e next (D.state disk.old)) }
     ensures raised { OnOk result ((x : List ℕ) → (D.state disk.new).now x → HasEpoch (other slot) next x) }
@@ -49,7 +50,7 @@ fn put_epoch<D: Disk>(disk: &mut D, slot: Slot, gate: u64, next: u64) -> Result<
     requires closed { (x : List ℕ) → (D.state disk.old).now x → IsClosed gate x }
     ensures moments { (e : ℕ) → ((x : List ℕ) → (D.state disk.old).now x → HasEpoch slot e x) → LeavesOnly (D.state disk.old) (D.state disk.new) (Still slot e (D.state disk.old)) }
     ensures closed { OnOk result ((x : List ℕ) → (D.state disk.new).now x → IsClosed gate x) }
-    ensures number { OnOk result ((x : List ℕ) → (D.state disk.new).now x → number_at (gate + 8) x ≡ next) }
+    ensures holds { OnOk result ((x : List ℕ) → (D.state disk.new).now x → HoldsEpoch gate next x) }
     ensures settled { OnOk result (IsSettled (D.state disk.new)) }
     ensures body { KeepsBody (D.state disk.old) (D.state disk.new) }
     ensures cause { HasCause (D.state disk.old).faults (D.state disk.new).faults result }
@@ -71,7 +72,8 @@ fn open_slot<D: Disk>(disk: &mut D, slot: Slot, gate: u64, next: u64) -> Result<
     requires size { 64 ≤ (D.state disk.old).size }
     requires gate { gate ≡ place (other slot) }
     requires closed { (x : List ℕ) → (D.state disk.old).now x → IsClosed gate x }
-    requires number { (x : List ℕ) → (D.state disk.old).now x → number_at (gate + 8) x ≡ next }
+    requires last { next ≤ last_epoch }
+    requires holds { (x : List ℕ) → (D.state disk.old).now x → HoldsEpoch gate next x }
     requires settled { IsSettled (D.state disk.old) }
     requires marked { (e : ℕ) × ((x : List ℕ) → (D.state disk.old).now x → HasEpoch slot e x) × (e ≤ next) }
     ensures moments { (e : ℕ) → ((x : List ℕ) → (D.state disk.old).now x → HasEpoch slot e x) → e ≤ next → LeavesOnly (D.state disk.old) (D.state disk.new) (Raising e next (D.state disk.old)) }

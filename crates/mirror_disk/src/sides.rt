@@ -8,10 +8,11 @@ ghost use Rattle.mirror_disk.specs.Ended.{BothAsked, HasEnded};
 ghost use Rattle.mirror_disk.specs.Raised.{HasEpoch, IsMarked, KeepsBody, Raising};
 ghost use Rattle.mirror_disk.specs.declared.slot.Slot.{Slot};
 ghost use Rattle.mirror_disk.specs.declared.used.Used.TheVariants.{Both, Broken};
+ghost use Rattle.mirror_disk.specs.Header.{last_epoch};
 ghost use Rattle.mirror_disk.specs.Becoming.{MirrorBecomes};
 ghost use Rattle.mirror_disk.specs.Failing.{AllFailed, CannotLeave, HasLeft};
 ghost use Rattle.mirror_disk.specs.Pairs.{chosen_told, mirrored};
-ghost use Rattle.mirror_disk.specs.Slots.{last_epoch, other};
+ghost use Rattle.mirror_disk.specs.Slots.{other};
 ghost use Rattle.mirror_disk.specs.Standing.{ArePair, AreBoth, IsPair, Stands};
 
 use crate::raise::raise_epoch;

@@ -2,7 +2,7 @@ use Rattle.std.proofs.Common.{◌≡◌, ◌≤◌, ◌+◌, ℕ, List, subst, a
 use Rattle.iso_disk.specs.Disk.{TornFrom}
 use Rattle.iso_disk.proofs.Moments.{at_end, weakened}
 use Rattle.commit_gate.specs.Gate.{IsOpen}
-use Rattle.mirror_disk.specs.Header.{number_at}
+use Rattle.mirror_disk.specs.Raised.{HoldsEpoch}
 use Rattle.mirror_disk.specs.Slots.{place, other}
 use Rattle.mirror_disk.proofs.Epochs.{inside}
 use Rattle.mirror_disk.proofs.Raises.{by_result, keeps_spliced, keeps_torn, ok_weaker, open_image, raised_image}
@@ -15,7 +15,7 @@ pub returns-clause-moments : goal.returns-clause-moments
 returns-clause-moments g c e each le =
     let old = g.D.Disk.state c.args.disk.now in
     let gate = c.requires.gate in
-    weakened c.open_gate.ensures.moments (λ x t. open_image old c.args.slot e c.args.next c.requires.settled each le (λ y now. subst (λ (m : ℕ). number_at (m + 8) y ≡ c.args.next) gate (c.requires.number y now)) x (at (place (other c.args.slot)) gate x t))
+    weakened c.open_gate.ensures.moments (λ x t. open_image old c.args.slot e c.args.next c.requires.settled each le c.requires.last (λ y now. subst (λ (m : ℕ). HoldsEpoch m c.args.next y) gate (c.requires.holds y now)) x (at (place (other c.args.slot)) gate x t))
 
 pub returns-clause-raised : goal.returns-clause-raised
 returns-clause-raised g c =
@@ -23,7 +23,7 @@ returns-clause-raised g c =
     let new = c.open_gate.new.disk in
     let gate = c.requires.gate in
     let e = c.requires.marked in
-    ok_weaker c.open_gate.result (λ is_open x now. raised_image old c.args.slot e.0 c.args.next e.1 e.2 (λ y was. subst (λ (m : ℕ). number_at (m + 8) y ≡ c.args.next) gate (c.requires.number y was)) x
+    ok_weaker c.open_gate.result (λ is_open x now. raised_image old c.args.slot e.0 c.args.next e.1 e.2 c.requires.last (λ y was. subst (λ (m : ℕ). HoldsEpoch m c.args.next y) gate (c.requires.holds y was)) x
     (at (place (other c.args.slot)) gate x (at_end (g.met.D.Disk.lawful new) c.open_gate.ensures.moments x now)) (subst (λ (m : ℕ). IsOpen m x) gate (is_open x now))) c.open_gate.ensures.open
 
 pub returns-clause-body : goal.returns-clause-body

@@ -4,7 +4,7 @@ use Rattle.iso_disk.proofs.Moments.{weakened}
 use Rattle.commit_gate.specs.Gate.{IsClosed}
 use Rattle.mirror_disk.specs.Slots.{place, other}
 use Rattle.mirror_disk.proofs.Epochs.{inside}
-use Rattle.mirror_disk.proofs.Raises.{body_image, both_hold, by_result, keeps_spliced, keeps_torn, number_of_body, ok_weaker}
+use Rattle.mirror_disk.proofs.Raises.{body_image, both_hold, by_result, keeps_spliced, keeps_torn, holds_body, ok_weaker}
 use Rattle.mirror_disk.proofs.raise.put_epoch.Goals as goal
 
 pub returns-clause-moments : goal.returns-clause-moments
@@ -15,11 +15,11 @@ returns-clause-moments g c e each =
     weakened (both_hold c.put_body.ensures.moments c.put_body.ensures.closed) (λ x p. body_image {old = old} slot e each x (subst (λ (m : ℕ). IsClosed m x) c.requires.gate p.1)
     (subst (λ (n : ℕ). TornFrom (place (other slot) + 1) n old.now x) len (subst (λ (m : ℕ). TornFrom (m + 1) (length c.spell.result) old.now x) c.requires.gate p.0)))
 
-pub returns-clause-number : goal.returns-clause-number
-returns-clause-number g c =
+pub returns-clause-holds : goal.returns-clause-holds
+returns-clause-holds g c =
     let len : length c.spell.result ≡ 15 = ap length c.spell.ensures in
     let count : c.args.gate + 1 + length c.spell.result - (c.args.gate + 1) ≡ 15 = omega (arith, len) in
-    ok_weaker c.put_body.result (λ has x now. number_of_body c.args.gate c.args.next x c.ranges.next.fits (ap (λ (n : ℕ). take n (drop (c.args.gate + 1) x)) (sym count) ∙ has x now ∙ c.spell.ensures)) c.put_body.ensures.body
+    ok_weaker c.put_body.result (λ has x now. holds_body c.args.gate c.args.next x c.ranges.next.fits (ap (λ (n : ℕ). take n (drop (c.args.gate + 1) x)) (sym count) ∙ has x now ∙ c.spell.ensures)) c.put_body.ensures.body
 
 pub returns-clause-body : goal.returns-clause-body
 returns-clause-body g c =
