@@ -5,6 +5,7 @@ pub mod Calls
 pub mod Done
 pub mod Ended
 pub mod Epochs
+pub mod Fronts
 pub mod Headers
 pub mod Left
 pub mod Meets

@@ -54,3 +54,7 @@ pub record IsHeader (image : List ℕ) : Type 0 where
   pub end : take 16 (drop 48 image) ≡ replicate 16 0
   -- a slot is open
   pub has_epoch : 1 ≤ epoch image
+
+-- the header of a blank side: epoch 1 in the first slot
+abbrev pub blank_header : List ℕ
+blank_header = word ++ replicate 8 0 ++ (1 ∷ replicate 14 0) ++ (1 ∷ replicate 32 0)

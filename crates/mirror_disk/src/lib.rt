@@ -2,6 +2,7 @@
 #![tactic(auto)]
 
 mod disk;
+mod header;
 mod marks;
 mod mirror;
 mod parts;
