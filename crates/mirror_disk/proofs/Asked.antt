@@ -18,7 +18,7 @@ told_of old new k bytes laws fits (Ok x) written failed = tells_spliced old new 
 told_of old new k bytes laws fits (Err e) written failed = failed
 
 -- what a write that was done has made of what was told
-laid : {T E : Type 0} (old new : DiskState) (at : ℕ) (bytes : List ℕ) → IsLawful old → 64 + at + length bytes ≤ old.size → (r : Result T E) → OnOk r (Splices (64 + at) bytes old new) → is_ok r ≡ true
+pub laid : {T E : Type 0} (old new : DiskState) (at : ℕ) (bytes : List ℕ) → IsLawful old → 64 + at + length bytes ≤ old.size → (r : Result T E) → OnOk r (Splices (64 + at) bytes old new) → is_ok r ≡ true
     → (x : List ℕ) → new.contents ≡ Some x → (c : List ℕ) × (old.contents ≡ Some c) × (body x ≡ spliced (body c) at bytes)
 laid old new at bytes laws fits (Err e) written is x told = absurd (cc is)
 laid old new at bytes laws fits (Ok r) written is x told = by_cases old.contents refl

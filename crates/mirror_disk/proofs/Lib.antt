@@ -1,7 +1,8 @@
-pub mod Adopting
 pub mod Alone
 pub mod Asked
 pub mod Calls
+pub mod Choosing
+pub mod Copying
 pub mod Done
 pub mod Ended
 pub mod Epochs
@@ -12,4 +13,5 @@ pub mod Meets
 pub mod Mirrored
 pub mod Raises
 pub mod Stands
+pub mod Taking
 pub mod Telling

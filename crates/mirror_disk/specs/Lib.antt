@@ -1,3 +1,4 @@
+pub mod Adopting
 pub mod Becoming
 pub mod Ended
 pub mod Failing

@@ -1,6 +1,7 @@
 //! A disk that keeps its bytes twice, on two sides. It goes on where one side fails.
 #![tactic(auto)]
 
+mod copy;
 mod disk;
 mod header;
 mod marks;
@@ -10,6 +11,7 @@ mod past;
 mod raise;
 mod sides;
 mod slot;
+mod take;
 mod used;
 
 pub use mirror::Mirror;

@@ -1,0 +1,30 @@
+-- What an adopt makes of the side that it chose, and of the other one.
+use Rattle.std.specs.Prelude.{◌≡◌, ◌≢◌, ◌⊎◌, ℕ, ◌+◌, ◌≤◌, List, Option, Some, None}
+use Rattle.iso_disk.specs.Disk.{DiskState, IsSettled, LeavesOnly}
+use Rattle.mirror_disk.specs.declared.slot.Slot.{Slot}
+use Rattle.mirror_disk.specs.Header.{IsHeader, body, chosen, epoch}
+use Rattle.mirror_disk.specs.Pairs.{ChosenOf}
+use Rattle.mirror_disk.specs.Raised.{HasEpoch}
+
+-- an image of the side that was chosen: its epoch or a larger one, and the mirrored bytes that it told at the start
+pub record OfChosen (e : ℕ) (start : DiskState) (image : List ℕ) : Type 0 where
+  pub header : IsHeader image
+  pub most : e ≤ epoch image
+  pub same : (d : List ℕ) → start.contents ≡ Some d → body image ≡ body d
+
+-- an image of the other side: no larger epoch than before, or that of the chosen one with its mirrored bytes
+pub record OfOther (e next : ℕ) (start : DiskState) (image : List ℕ) : Type 0 where
+  pub header : IsHeader image
+  pub either : (epoch image ≤ e) ⊎ ((epoch image ≡ next) × ((d : List ℕ) → start.contents ≡ Some d → body image ≡ body d))
+
+-- both sides have this epoch in these slots, and the same mirrored bytes, which are stable
+pub record AreAlike (a b : DiskState) (e : ℕ) (one two : Slot) : Type 0 where
+  pub first : (x : List ℕ) → a.now x → HasEpoch one e x
+  pub second : (y : List ℕ) → b.now y → HasEpoch two e y
+  pub settled : IsSettled b
+  pub agree : (x y : List ℕ) → a.contents ≡ Some x → b.contents ≡ Some y → body x ≡ body y
+
+-- a disk tells its bytes after a run exactly where it told them before
+pub record TellsOn (old new : DiskState) : Type 0 where
+  pub told : old.contents ≢ None → new.contents ≢ None
+  pub untold : old.contents ≡ None → new.contents ≡ None
