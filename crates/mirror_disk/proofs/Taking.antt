@@ -24,11 +24,11 @@ marked_settled slot e settled each = record {
 module _ (from to mid : DiskState) (count : ℕ) (slot : Slot) (e next : ℕ) (law_to : IsLawful to) (law_mid : IsLawful mid) (settled : IsSettled to) (behind : (y : List ℕ) → to.now y → HasEpoch slot e y)
     (run : LeavesOnly to mid (TornFrom 64 count to.now)) where
   -- while the bytes are copied
-  pub copied_moments : LeavesOnly to mid (OfOther e next from)
+  pub copied_moments : LeavesOnly to mid (OfOther e next from to)
   copied_moments = weakened run (λ y t.
       let has = behind t.old t.was in
       let same : epoch y ≡ epoch t.old = epoch-torn t.torn (omega arith) in
-      record { header = header_behind has.header t.torn (omega arith) same; either = inl (omega (arith, same, has.epoch_is)) })
+      record { header = header_behind has.header t.torn (omega arith) same; told = λ none. absurd (cc (none, settled t.old t.was)); either = inl (omega (arith, same, has.epoch_is)) })
 
   -- once they are
   pub copied_mark : TellsTorn 64 count to mid → IsMarked slot e mid
@@ -37,9 +37,13 @@ module _ (from to mid : DiskState) (count : ℕ) (slot : Slot) (e next : ℕ) (l
       marked_on slot e 0 count law_to law_mid (λ y now. (behind y now).epoch_is) (λ y now. (behind y now).slot_is) mark.fronts (λ y now none. absurd (cc (none, settled y now))) (λ y now. (behind y now).header) (tells_on torn) run
 
   -- while the epoch is raised
-  pub raised_moments : (new : DiskState) → LeavesOnly mid new (Raising e next mid) → ((x y : List ℕ) → from.contents ≡ Some x → mid.contents ≡ Some y → body y ≡ body x) → LeavesOnly to new (OfOther e next from)
-  raised_moments new raise copied = joined copied_moments (weakened raise (λ y r. record {
+  pub raised_moments : (new : DiskState) → TellsTorn 64 count to mid → LeavesOnly mid new (Raising e next mid) → ((x y : List ℕ) → from.contents ≡ Some x → mid.contents ≡ Some y → body y ≡ body x) → LeavesOnly to new (OfOther e next from to)
+  raised_moments new torn raise copied = joined copied_moments (weakened raise (λ y r. record {
     header = r.0;
+    told = ⊎_elim
+        (λ (k : (epoch y ≡ e) × ((x : List ℕ) × mid.now x × (body y ≡ body x))). (at_end law_mid copied_moments k.1.0 k.1.1).told)
+        (λ (k : (epoch y ≡ next) × ((c : List ℕ) × (mid.contents ≡ Some c) × (body y ≡ body c))). λ (none : to.contents ≡ None). absurd (cc (torn.untold none, k.1.1)))
+        r.1;
     either = ⊎_elim
         (λ (k : (epoch y ≡ e) × ((x : List ℕ) × mid.now x × (body y ≡ body x))). inl (omega (arith, k.0)))
         (λ (k : (epoch y ≡ next) × ((c : List ℕ) × (mid.contents ≡ Some c) × (body y ≡ body c))). inr (k.0, λ d told. k.1.2 ∙ copied d k.1.0 told k.1.1))
@@ -71,6 +75,7 @@ pub chosen_image : (from : DiskState) (slot : Slot) (e : ℕ) → IsSettled from
 chosen_image from slot e settled each x now = record {
   header = (each x now).header;
   most = omega (arith, (each x now).epoch_is);
+  told = λ none. absurd (cc (none, settled x now));
   same = λ d told. ap body (same_Some x d (sym (settled x now) ∙ told));
 }
 
@@ -80,6 +85,10 @@ chosen_raised from mid new slot e laws settled each still raise =
     joined (weakened still.moments (chosen_image from slot e settled each)) (weakened raise (λ x r. record {
       header = r.0;
       most = ⊎_elim (λ (k : (epoch x ≡ e) × ((y : List ℕ) × mid.now y × (body x ≡ body y))). (let le : e ≤ epoch x = omega (arith, k.0) in le)) (λ (k : (epoch x ≡ e + 1) × ((c : List ℕ) × (mid.contents ≡ Some c) × (body x ≡ body c))). (let le : e ≤ epoch x = omega (arith, k.0) in le)) r.1;
+      told = ⊎_elim
+          (λ (k : (epoch x ≡ e) × ((y : List ℕ) × mid.now y × (body x ≡ body y))). (chosen_image from slot e settled each k.1.0 (at_end laws still.moments k.1.0 k.1.1)).told)
+          (λ (k : (epoch x ≡ e + 1) × ((c : List ℕ) × (mid.contents ≡ Some c) × (body x ≡ body c))). λ (none : from.contents ≡ None). absurd (cc (none, still.same_contents, k.1.1)))
+          r.1;
       same = λ d told. ⊎_elim
           (λ (k : (epoch x ≡ e) × ((y : List ℕ) × mid.now y × (body x ≡ body y))). k.1.2 ∙ (chosen_image from slot e settled each k.1.0 (at_end laws still.moments k.1.0 k.1.1)).same d told)
           (λ (k : (epoch x ≡ e + 1) × ((c : List ℕ) × (mid.contents ≡ Some c) × (body x ≡ body c))). k.1.2 ∙ ap body (same_Some k.1.0 d (sym k.1.1 ∙ still.same_contents ∙ told)))

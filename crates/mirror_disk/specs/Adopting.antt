@@ -10,11 +10,13 @@ use Rattle.mirror_disk.specs.Raised.{HasEpoch}
 pub record OfChosen (e : ℕ) (start : DiskState) (image : List ℕ) : Type 0 where
   pub header : IsHeader image
   pub most : e ≤ epoch image
+  pub told : start.contents ≢ None
   pub same : (d : List ℕ) → start.contents ≡ Some d → body image ≡ body d
 
 -- an image of the other side: no larger epoch than before, or that of the chosen one with its mirrored bytes
-pub record OfOther (e next : ℕ) (start : DiskState) (image : List ℕ) : Type 0 where
+pub record OfOther (e next : ℕ) (start side : DiskState) (image : List ℕ) : Type 0 where
   pub header : IsHeader image
+  pub told : side.contents ≢ None
   pub either : (epoch image ≤ e) ⊎ ((epoch image ≡ next) × ((d : List ℕ) → start.contents ≡ Some d → body image ≡ body d))
 
 -- both sides have this epoch in these slots, and the same mirrored bytes, which are stable

@@ -1,6 +1,7 @@
 //! A disk that keeps its bytes twice, on two sides. It goes on where one side fails.
 #![tactic(auto)]
 
+mod adopt;
 mod copy;
 mod disk;
 mod header;

@@ -29,7 +29,7 @@ pub(crate) fn take_over<C: Disk, O: Disk>(
     requires behind { (y : List ℕ) → (O.state to.old).now y → HasEpoch behind.slot behind.epoch y }
     requires most { (behind.epoch ≤ chosen.epoch) × (chosen.epoch ≤ last_epoch) }
     ensures from_moments { LeavesOnly (C.state from.old) (C.state from.new) (OfChosen chosen.epoch (C.state from.old)) }
-    ensures to_moments { LeavesOnly (O.state to.old) (O.state to.new) (OfOther behind.epoch chosen.epoch (C.state from.old)) }
+    ensures to_moments { LeavesOnly (O.state to.old) (O.state to.new) (OfOther behind.epoch chosen.epoch (C.state from.old) (O.state to.old)) }
     ensures body { KeepsBody (C.state from.old) (C.state from.new) }
     ensures tells { TellsOn (O.state to.old) (O.state to.new) }
     ensures settled { OnOk result (IsSettled (C.state from.new)) }
@@ -62,7 +62,7 @@ fn make_alike<C: Disk, O: Disk>(
     requires behind { (y : List ℕ) → (O.state to.old).now y → HasEpoch behind.slot behind.epoch y }
     requires most { (behind.epoch ≤ chosen.epoch) × (chosen.epoch ≤ last_epoch) }
     ensures unwritten { WritesNothing (C.state from.old) (C.state from.new) }
-    ensures moments { LeavesOnly (O.state to.old) (O.state to.new) (OfOther behind.epoch chosen.epoch (C.state from.old)) }
+    ensures moments { LeavesOnly (O.state to.old) (O.state to.new) (OfOther behind.epoch chosen.epoch (C.state from.old) (O.state to.old)) }
     ensures tells { TellsOn (O.state to.old) (O.state to.new) }
     ensures alike { IfOk result (λ slot. IfSome slot (λ s. AreAlike (C.state from.new) (O.state to.new) chosen.epoch chosen.slot s)) }
     ensures cause { HasCause (C.state from.old).faults (C.state from.new).faults result }

@@ -24,12 +24,12 @@ raise_epoch-requires-clause-marked g c = (c.args.behind.epoch, copied_mark (g.C.
 pub returns-in-Ok-clause-moments : goal.returns-in-Ok-clause-moments
 returns-in-Ok-clause-moments g c =
     raised_moments (g.C.Disk.state c.args.from.now) (g.O.Disk.state c.args.to.now) (g.O.Disk.state c.copy_body.new.to) c.args.count c.args.behind.slot c.args.behind.epoch c.args.chosen.epoch (g.met.O.Disk.lawful c.args.to.now) (g.met.O.Disk.lawful c.copy_body.new.to) c.requires.settled.1 c.requires.behind c.copy_body.ensures.moments
-    (g.O.Disk.state c.raise_epoch.new.disk) (c.raise_epoch.ensures.moments c.args.behind.epoch (copied_mark (g.C.Disk.state c.args.from.now) (g.O.Disk.state c.args.to.now) (g.O.Disk.state c.copy_body.new.to) c.args.count c.args.behind.slot c.args.behind.epoch c.args.chosen.epoch (g.met.O.Disk.lawful c.args.to.now) (g.met.O.Disk.lawful c.copy_body.new.to) c.requires.settled.1 c.requires.behind c.copy_body.ensures.moments c.copy_body.ensures.torn) c.requires.most.0) (c.in_ok-copy_body.ensures.alike c.if-not-branch.false)
+    (g.O.Disk.state c.raise_epoch.new.disk) c.copy_body.ensures.torn (c.raise_epoch.ensures.moments c.args.behind.epoch (copied_mark (g.C.Disk.state c.args.from.now) (g.O.Disk.state c.args.to.now) (g.O.Disk.state c.copy_body.new.to) c.args.count c.args.behind.slot c.args.behind.epoch c.args.chosen.epoch (g.met.O.Disk.lawful c.args.to.now) (g.met.O.Disk.lawful c.copy_body.new.to) c.requires.settled.1 c.requires.behind c.copy_body.ensures.moments c.copy_body.ensures.torn) c.requires.most.0) (c.in_ok-copy_body.ensures.alike c.if-not-branch.false)
 
 pub returns-in-Err-clause-moments : goal.returns-in-Err-clause-moments
 returns-in-Err-clause-moments g c =
     raised_moments (g.C.Disk.state c.args.from.now) (g.O.Disk.state c.args.to.now) (g.O.Disk.state c.copy_body.new.to) c.args.count c.args.behind.slot c.args.behind.epoch c.args.chosen.epoch (g.met.O.Disk.lawful c.args.to.now) (g.met.O.Disk.lawful c.copy_body.new.to) c.requires.settled.1 c.requires.behind c.copy_body.ensures.moments
-    (g.O.Disk.state c.raise_epoch.new.disk) (c.raise_epoch.ensures.moments c.args.behind.epoch (copied_mark (g.C.Disk.state c.args.from.now) (g.O.Disk.state c.args.to.now) (g.O.Disk.state c.copy_body.new.to) c.args.count c.args.behind.slot c.args.behind.epoch c.args.chosen.epoch (g.met.O.Disk.lawful c.args.to.now) (g.met.O.Disk.lawful c.copy_body.new.to) c.requires.settled.1 c.requires.behind c.copy_body.ensures.moments c.copy_body.ensures.torn) c.requires.most.0) (c.in_ok-copy_body.ensures.alike c.if-not-branch.false)
+    (g.O.Disk.state c.raise_epoch.new.disk) c.copy_body.ensures.torn (c.raise_epoch.ensures.moments c.args.behind.epoch (copied_mark (g.C.Disk.state c.args.from.now) (g.O.Disk.state c.args.to.now) (g.O.Disk.state c.copy_body.new.to) c.args.count c.args.behind.slot c.args.behind.epoch c.args.chosen.epoch (g.met.O.Disk.lawful c.args.to.now) (g.met.O.Disk.lawful c.copy_body.new.to) c.requires.settled.1 c.requires.behind c.copy_body.ensures.moments c.copy_body.ensures.torn) c.requires.most.0) (c.in_ok-copy_body.ensures.alike c.if-not-branch.false)
 
 pub returns-in-Ok-clause-alike : goal.returns-in-Ok-clause-alike
 returns-in-Ok-clause-alike g c =
