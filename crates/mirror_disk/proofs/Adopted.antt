@@ -2,13 +2,14 @@
 use Rattle.std.proofs.Common.{◌≡◌, ◌≢◌, ◌⊎◌, inl, inr, ⊎_elim, ℕ, ◌+◌, ◌<◌, ◌≤◌, List, [], take, Option, Some, None, refl, sym, ◌∙◌, ap, subst, arith}
 use Rattle.std.specs.Prelude.{IfSome}
 use Rattle.std.proofs.lemmas.Option.{same_Some}
-use Rattle.iso_disk.specs.Disk.{DiskState, IsLawful, IsSettled, LeavesOnly}
+use Rattle.iso_disk.specs.Disk.{DiskState, IsLawful, IsSettled, LeavesOnly, WritesNothing}
 use Rattle.iso_disk.proofs.Moments.{at_end}
+use Rattle.mirror_disk.specs.declared.slot.Mark.{Mark}
 use Rattle.mirror_disk.specs.declared.slot.Slot.{Slot}
-use Rattle.mirror_disk.specs.declared.used.Used.TheVariants.{Plain, Both, OnlyFirst, OnlySecond, Broken, Unbound}
-use Rattle.mirror_disk.specs.Adopting.{AreAlike, OfChosen, OfOther, TellsOn}
-use Rattle.mirror_disk.specs.Header.{IsHeader, body, chosen, epoch}
-use Rattle.mirror_disk.specs.Laws.{both_tell, rising_first}
+use Rattle.mirror_disk.specs.declared.used.Used.TheVariants.{Both, OnlyFirst, OnlySecond}
+use Rattle.mirror_disk.specs.Adopting.{AdoptsFrom, AreAlike, OfChosen, OfOther, TellsOn}
+use Rattle.mirror_disk.specs.Header.{IsHeader, body, chosen, epoch, last_epoch}
+use Rattle.mirror_disk.specs.Laws.{rising_first}
 use Rattle.mirror_disk.specs.Pairs.{ChosenOf, chosen_told}
 use Rattle.mirror_disk.specs.Raised.{HasEpoch, KeepsBody}
 use Rattle.mirror_disk.specs.Slots.{other}
@@ -143,3 +144,16 @@ module _ (a b new_a new_b : DiskState) (e low : ℕ) (one two : Slot) (law_a : I
 pub alike_of : {a b : DiskState} {e : ℕ} {one : Slot} (o : Option Slot) (two : Slot) → o ≡ Some two → IfSome o (λ s. AreAlike a b e one s) → AreAlike a b e one two
 alike_of {a = a} {b = b} {e = e} {one = one} (Some y) two is alike = subst (AreAlike a b e one) (same_Some y two is) alike
 alike_of None two is alike = absurd (cc is)
+
+-- an adopt that ended before its choice
+pub ended_early : {a b mid_a mid_b : DiskState} → IsLawful mid_a → IsLawful mid_b → WritesNothing a mid_a → WritesNothing b mid_b → AdoptsFrom a b mid_a mid_b mid_a mid_b
+ended_early law_a law_b still_a still_b = record {
+  first_before = still_a;
+  second_before = still_b;
+  kept = λ x y left left'. record { first = x; second = y; of_first = law_a.only_now x left; of_second = law_b.only_now y left'; is = refl };
+}
+
+-- what a side told has a header, where that of its images was read
+pub told_header : {a mid : DiskState} → IsLawful mid → WritesNothing a mid → (o : Option Mark) (m : Mark) → o ≡ Some m → IfSome o (λ k. (k.epoch ≤ last_epoch) × ((x : List ℕ) → mid.now x → HasEpoch k.slot k.epoch x)) → (c : List ℕ) → a.contents ≡ Some c → IsHeader c
+told_header laws still (Some k) m is read c told = (read.1 c (laws.reads_as_image c (still.same_contents ∙ told))).header
+told_header laws still None m is read c told = absurd (cc is)

@@ -1,10 +1,9 @@
 -- The header of an image is in its first 64 bytes.
-use Rattle.std.proofs.Common.{◌≡◌, ◌≤◌, ◌+◌, ◌-◌, ◌<◌, ℕ, List, length, take, drop, get_or, Option, Some, None, refl, sym, ◌∙◌, ap, subst, arith, length-take-le}
+use Rattle.std.proofs.Common.{◌≡◌, ◌≤◌, ◌+◌, ◌-◌, ◌<◌, ℕ, List, length, take, drop, Option, Some, None, sym, ◌∙◌, ap, subst, arith, length-take-le}
 use Rattle.std.specs.Prelude.{cond, slice_index, ◌==◌, IfSome, IfNone}
 use Rattle.std.specs.Int.{w64, from_be_bytes}
 use Rattle.std.proofs.lemmas.List.{drop-take, get_or-take, take-take}
 use Rattle.iso_disk.specs.Disk.{DiskState, IsLawful, IsSettled}
-use Rattle.std.proofs.lemmas.Option.{same_Some}
 use Rattle.mirror_disk.specs.declared.slot.Mark.{Mark}
 use Rattle.mirror_disk.specs.declared.slot.Slot.{Slot}
 use Rattle.mirror_disk.specs.declared.slot.Slot.TheVariants.{First, Second}
@@ -84,9 +83,12 @@ has_of_front slot e x long has = record { epoch_is = sym (epoch_of_front x) ∙ 
 pub read_mark_of : (d : DiskState) (h : List ℕ) → IsLawful d → IsSettled d → 64 ≤ d.size → ((c : List ℕ) → d.contents ≡ Some c → h ≡ take 64 c)
     → (mark : Option Mark) → IfSome mark (λ m. (m.epoch ≤ last_epoch) × HasEpoch m.slot m.epoch h) → IfSome mark (λ m. (m.epoch ≤ last_epoch) × ((x : List ℕ) → d.now x → HasEpoch m.slot m.epoch x))
 read_mark_of d h laws settled long read None is = tt
-read_mark_of d h laws settled long read (Some m) is = (is.0, λ x now.
-    let size = laws.image_size d.clock x (laws.counts_now d.clock x (omega arith) now) in
-    has_of_front m.slot m.epoch x (omega (arith, long, size)) (subst (HasEpoch m.slot m.epoch) (read x (settled x now)) is.1))
+read_mark_of d h laws settled long read (Some m) is = (
+  is.0,
+  λ x now.
+      let size = laws.image_size d.clock x (laws.counts_now d.clock x (omega arith) now) in
+      has_of_front m.slot m.epoch x (omega (arith, long, size)) (subst (HasEpoch m.slot m.epoch) (read x (settled x now)) is.1),
+)
 
 pub read_none_of : (c h : List ℕ) → h ≡ take 64 c → (mark : Option Mark) → IfNone mark (IsHeader h → ⊥) → mark ≡ None → IsHeader c → ⊥
 read_none_of c h same None not is header = not (subst IsHeader (sym same) (front_of_header c header))

@@ -1,13 +1,12 @@
 -- The other side while it is made as the one that was chosen.
-use Rattle.std.proofs.Common.{◌≡◌, ◌≢◌, ◌⊎◌, inl, inr, ⊎_elim, ℕ, ◌+◌, ◌≤◌, List, take, Option, Some, None, refl, sym, ◌∙◌, ap, subst, arith}
+use Rattle.std.proofs.Common.{◌≡◌, inl, inr, ⊎_elim, ℕ, ◌+◌, ◌≤◌, List, take, Some, None, sym, ◌∙◌, ap, subst, arith}
 use Rattle.std.proofs.lemmas.Option.{same_Some}
 use Rattle.iso_disk.specs.Disk.{DiskState, IsLawful, IsSettled, LeavesOnly, TellsTorn, TornFrom, WritesNothing}
 use Rattle.iso_disk.proofs.Moments.{at_end, joined, weakened}
 use Rattle.mirror_disk.specs.declared.slot.Slot.{Slot}
 use Rattle.mirror_disk.specs.Adopting.{AreAlike, OfChosen, OfOther}
-use Rattle.mirror_disk.specs.Header.{IsHeader, body, epoch}
+use Rattle.mirror_disk.specs.Header.{body, epoch}
 use Rattle.mirror_disk.specs.Raised.{HasEpoch, IsMarked, KeepsBody, Raising}
-use Rattle.mirror_disk.specs.Slots.{other}
 use Rattle.mirror_disk.proofs.Ended.{marked_on, tells_on}
 use Rattle.mirror_disk.proofs.Epochs.{epoch-torn}
 use Rattle.mirror_disk.proofs.Headers.{header_behind}

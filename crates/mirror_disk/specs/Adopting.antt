@@ -1,6 +1,6 @@
 -- What an adopt makes of the side that it chose, and of the other one.
-use Rattle.std.specs.Prelude.{◌≡◌, ◌≢◌, ◌⊎◌, ℕ, ◌+◌, ◌≤◌, List, Option, Some, None}
-use Rattle.iso_disk.specs.Disk.{DiskState, IsSettled, LeavesOnly}
+use Rattle.std.specs.Prelude.{◌≡◌, ◌≢◌, ◌⊎◌, ℕ, ◌≤◌, List, Some, None}
+use Rattle.iso_disk.specs.Disk.{DiskState, IsSettled, WritesNothing}
 use Rattle.mirror_disk.specs.declared.slot.Slot.{Slot}
 use Rattle.mirror_disk.specs.Header.{IsHeader, body, chosen, epoch}
 use Rattle.mirror_disk.specs.Pairs.{ChosenOf}
@@ -30,3 +30,10 @@ pub record AreAlike (a b : DiskState) (e : ℕ) (one two : Slot) : Type 0 where
 pub record TellsOn (old new : DiskState) : Type 0 where
   pub told : old.contents ≢ None → new.contents ≢ None
   pub untold : old.contents ≡ None → new.contents ≡ None
+
+-- Sides that were given, that were made stable and read, and that were adopted. What is chosen at each moment is chosen of a
+-- pair of images of the stable sides, which were among those that the sides might leave as they were given.
+pub record AdoptsFrom (a b mid_a mid_b new_a new_b : DiskState) : Type 0 where
+  pub first_before : WritesNothing a mid_a
+  pub second_before : WritesNothing b mid_b
+  pub kept : (x y : List ℕ) → new_a.left mid_a.clock x → new_b.left mid_b.clock y → ChosenOf mid_a.now mid_b.now (chosen x y)

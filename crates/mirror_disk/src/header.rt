@@ -21,7 +21,8 @@ const WORD: [u8; 8] = *b"ISOMIRR1";
 const OPEN: u8 = 1;
 
 /// The header of a blank side: epoch 1 in the first slot.
-const BLANK: [u8; LENGTH] = *b"ISOMIRR1\0\0\0\0\0\0\0\0\x01\0\0\0\0\0\0\0\0\0\0\0\0\0\0\x01\0\0\0\0\0\0\0\0\0\0\0\0\0\0\0\0\0\0\0\0\0\0\0\0\0\0\0\0\0\0\0\0";
+const BLANK: [u8; LENGTH] =
+    *b"ISOMIRR1\0\0\0\0\0\0\0\0\x01\0\0\0\0\0\0\0\0\0\0\0\0\0\0\x01\0\0\0\0\0\0\0\0\0\0\0\0\0\0\0\0\0\0\0\0\0\0\0\0\0\0\0\0\0\0\0\0";
 
 /// Lays the header of a blank side, and makes it stable.
 pub(crate) fn lay_header<D: Disk>(disk: &mut D) -> Result<(), DiskFault>

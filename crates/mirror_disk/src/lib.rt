@@ -15,4 +15,5 @@ mod slot;
 mod take;
 mod used;
 
+pub use adopt::MirrorError;
 pub use mirror::Mirror;

@@ -1,6 +1,6 @@
-use Rattle.std.proofs.Common.{◌≡◌, ◌≤◌, ◌<◌, ◌+◌, ◌-◌, ℕ, List, Some, length, take, drop, sym, ◌∙◌, ap, subst, arith, length-append, length-drop, length-take-le}
-use Rattle.iso_disk.specs.Disk.{spliced, TornFrom}
-use Rattle.iso_disk.proofs.Moments.{goes_on, joined_unwritten}
+use Rattle.std.proofs.Common.{◌≡◌, ◌≤◌, ◌+◌, ℕ, length, take, drop, sym, ◌∙◌, ap, subst, arith, length-append, length-drop, length-take-le}
+use Rattle.iso_disk.specs.Disk.{spliced}
+use Rattle.iso_disk.proofs.Moments.{joined_unwritten}
 use Rattle.iso_disk.proofs.Ranges.{runs_inside}
 use Rattle.mirror_disk.specs.Header.{body}
 use Rattle.mirror_disk.proofs.Copying.{copied_all, copied_more, length-body, torn_more}

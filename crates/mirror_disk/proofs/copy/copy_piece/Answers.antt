@@ -1,4 +1,4 @@
-use Rattle.std.proofs.Common.{◌≡◌, ◌≤◌, ◌+◌, ℕ, List, length, take, drop, sym, ◌∙◌, ap, subst, arith}
+use Rattle.std.proofs.Common.{◌≡◌, ◌+◌, ℕ, List, length, sym, ◌∙◌, ap, subst, arith}
 use Rattle.iso_disk.specs.Disk.{TellsTorn, spliced}
 use Rattle.mirror_disk.specs.Header.{body}
 use Rattle.mirror_disk.proofs.Asked.{laid, told_of}

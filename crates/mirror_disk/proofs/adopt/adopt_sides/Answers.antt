@@ -1,0 +1,29 @@
+use Rattle.iso_disk.proofs.Moments.{starts_unwritten}
+use Rattle.mirror_disk.proofs.Adopted.{ended_early, told_header}
+use Rattle.mirror_disk.proofs.adopt.adopt_sides.Goals as goal
+
+pub returns-then-size-other-clause-kept : goal.returns-then-size-other-clause-kept
+returns-then-size-other-clause-kept g c =
+    let law_a = g.met.A.Disk.lawful c.args.first.now in
+    let law_b = g.met.B.Disk.lawful c.args.second.now in
+    (c.args.first.now, c.args.second.now, ended_early law_a law_b (starts_unwritten law_a) (starts_unwritten law_b))
+
+pub returns-in_default-clause-kept : goal.returns-in_default-clause-kept
+returns-in_default-clause-kept g c =
+    let call = c.read_headers in
+    (call.new.first, call.new.second, ended_early (g.met.A.Disk.lawful call.new.first) (g.met.B.Disk.lawful call.new.second) call.ensures.first_unwritten call.ensures.second_unwritten)
+
+pub returns-in_default-one-clause-kept : goal.returns-in_default-one-clause-kept
+returns-in_default-one-clause-kept g c =
+    let call = c.read_headers in
+    (call.new.first, call.new.second, ended_early (g.met.A.Disk.lawful call.new.first) (g.met.B.Disk.lawful call.new.second) call.ensures.first_unwritten call.ensures.second_unwritten)
+
+pub returns-in_default-two-clause-kept : goal.returns-in_default-two-clause-kept
+returns-in_default-two-clause-kept g c =
+    let call = c.read_headers in
+    (call.new.first, call.new.second, ended_early (g.met.A.Disk.lawful call.new.first) (g.met.B.Disk.lawful call.new.second) call.ensures.first_unwritten call.ensures.second_unwritten)
+
+pub returns-in_default-two-clause-not_second : goal.returns-in_default-two-clause-not_second
+returns-in_default-two-clause-not_second g c is =
+    let call = c.read_headers in
+    (c.in-Ok.ensures.not_second c.in_default-two.is, told_header (g.met.A.Disk.lawful call.new.first) call.ensures.first_unwritten c.in-Ok.one c.in-Some.one c.in-Some.is c.in-Ok.ensures.first_mark)
