@@ -1,6 +1,7 @@
 pub mod Adopted
 pub mod Alone
 pub mod Asked
+pub mod Blank
 pub mod Calls
 pub mod Choosing
 pub mod Copying

@@ -1,5 +1,6 @@
 -- What an adopt makes of the side that it chose, and of the other one.
 use Rattle.std.specs.Prelude.{◌≡◌, ◌≢◌, ◌⊎◌, ℕ, ◌≤◌, List, Some, None}
+use Rattle.std.specs.Option.{ForSome}
 use Rattle.iso_disk.specs.Disk.{DiskState, IsSettled, WritesNothing}
 use Rattle.mirror_disk.specs.declared.slot.Slot.{Slot}
 use Rattle.mirror_disk.specs.Header.{IsHeader, body, chosen, epoch}
@@ -37,3 +38,7 @@ pub record AdoptsFrom (a b mid_a mid_b new_a new_b : DiskState) : Type 0 where
   pub first_before : WritesNothing a mid_a
   pub second_before : WritesNothing b mid_b
   pub kept : (x y : List ℕ) → new_a.left mid_a.clock x → new_b.left mid_b.clock y → ChosenOf mid_a.now mid_b.now (chosen x y)
+
+-- two sides that are not taken for a mirror: they differ in size, or one has no header
+abbrev pub AdoptRefuses : DiskState → DiskState → Type 0
+AdoptRefuses a b = (a.size ≢ b.size) ⊎ (ForSome a.contents (λ c. IsHeader c → ⊥) ⊎ ForSome b.contents (λ c. IsHeader c → ⊥))

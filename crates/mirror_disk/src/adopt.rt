@@ -3,7 +3,7 @@ ghost use Rattle.std.specs.Prelude.{◌≡◌, ◌≢◌, ◌↔◌, ◌⊎◌, 
 ghost use Rattle.std.specs.Option.{ForSome};
 ghost use Rattle.iso_disk.specs.Disk.{IsSettled, WritesNothing};
 ghost use Rattle.fault_count.specs.Count.{HasCause, Rose};
-ghost use Rattle.mirror_disk.specs.Adopting.{AdoptsFrom};
+ghost use Rattle.mirror_disk.specs.Adopting.{AdoptRefuses, AdoptsFrom};
 ghost use Rattle.mirror_disk.specs.declared.adopt.MirrorError.TheVariants.{Disk, NotMirror, SizesDiffer};
 ghost use Rattle.mirror_disk.specs.Header.{IsHeader, body, chosen, last_epoch};
 ghost use Rattle.mirror_disk.specs.Pairs.{ChosenOf, chosen_told, mirrored};
@@ -77,10 +77,12 @@ pub(crate) fn adopt_sides<A: Disk, B: Disk>(
     ensures settled { OnOk result (IsSettled (mirrored (A.state first.new) (B.state second.new) [] 0 0)) }
     ensures contents { chosen_told (A.state first.new).contents (B.state second.new).contents ≡ chosen_told (A.state first.old).contents (B.state second.old).contents }
     ensures kept { (x : A) × (y : B) × AdoptsFrom (A.state first.old) (B.state second.old) (A.state x) (B.state y) (A.state first.new) (B.state second.new) }
+    ensures bound { (A.state first.new).bound ≡ (A.state first.old).bound }
     ensures sizes { ((A.state first.old).size ≢ (B.state second.old).size) ↔ (result ≡ Err (SizesDiffer (A.state first.old).size (B.state second.old).size)) }
     ensures differ { (m n : ℕ) → result ≡ Err (SizesDiffer m n) → (m ≡ (A.state first.old).size) × (n ≡ (B.state second.old).size) }
     ensures not_first { result ≡ Err (NotMirror 0) → ForSome (A.state first.old).contents (λ c. IsHeader c → ⊥) }
     ensures not_second { result ≡ Err (NotMirror 1) → ForSome (B.state second.old).contents (λ c. IsHeader c → ⊥) × ForSome (A.state first.old).contents (λ c. IsHeader c) }
+    ensures cause { OnErr result ((Rose (A.state first.old).faults (A.state first.new).faults ⊎ Rose (B.state second.old).faults (B.state second.new).faults) ⊎ AdoptRefuses (A.state first.old) (B.state second.old)) }
     ensures disk { result ≡ Err Disk → Rose (A.state first.old).faults (A.state first.new).faults ⊎ Rose (B.state second.old).faults (B.state second.new).faults }
     ensures later { ((A.state first.old).faults ≤ (A.state first.new).faults) × ((B.state second.old).faults ≤ (B.state second.new).faults) }
 {
@@ -149,6 +151,7 @@ fn settle_on<A: Disk, B: Disk>(
     ensures kept { (x y : List ℕ) → (A.state first.new).left (A.state first.old).clock x → (B.state second.new).left (B.state second.old).clock y → ChosenOf (A.state first.old).now (B.state second.old).now (chosen x y) }
     ensures contents { chosen_told (A.state first.new).contents (B.state second.new).contents ≡ chosen_told (A.state first.old).contents (B.state second.old).contents }
     ensures sizes { ((A.state first.new).size ≡ 64 + count) × ((B.state second.new).size ≡ 64 + count) }
+    ensures bound { (A.state first.new).bound ≡ (A.state first.old).bound }
     ensures later { ((A.state first.old).faults ≤ (A.state first.new).faults) × ((B.state second.old).faults ≤ (B.state second.new).faults) }
     ensures first_cause { OnErr result (two.epoch ≤ one.epoch → Rose (A.state first.old).faults (A.state first.new).faults ⊎ ((last_epoch ≤ one.epoch) × Rose (B.state second.old).faults (B.state second.new).faults)) }
     ensures second_cause { OnErr result (one.epoch < two.epoch → Rose (B.state second.old).faults (B.state second.new).faults ⊎ ((last_epoch ≤ two.epoch) × Rose (A.state first.old).faults (A.state first.new).faults)) }

@@ -28,6 +28,7 @@ const BLANK: [u8; LENGTH] =
 pub(crate) fn lay_header<D: Disk>(disk: &mut D) -> Result<(), DiskFault>
     requires { 64 ≤ (D.state disk.old).size }
     ensures size { (D.state disk.new).size ≡ (D.state disk.old).size }
+    ensures bound { (D.state disk.new).bound ≡ (D.state disk.old).bound }
     ensures written { OnOk result (Splices 0 blank_header (D.state disk.old) (D.state disk.new)) }
     ensures settled { OnOk result (IsSettled (D.state disk.new)) }
     ensures cause { HasCause (D.state disk.old).faults (D.state disk.new).faults result }

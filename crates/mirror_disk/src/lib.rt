@@ -2,11 +2,13 @@
 #![tactic(auto)]
 
 mod adopt;
+mod bind;
 mod copy;
 mod disk;
 mod header;
 mod marks;
 mod mirror;
+mod name;
 mod parts;
 mod past;
 mod raise;

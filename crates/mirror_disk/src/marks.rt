@@ -16,7 +16,8 @@ pub(crate) struct Marks {
 
 impl Marks {
     ghost use Rattle.std.specs.Prelude.{◌≡◌};
-    ghost use Rattle.mirror_disk.specs.declared.used.Used.TheVariants.{Plain};
+    ghost use Rattle.mirror_disk.specs.declared.used.Used.TheVariants.{Both, Plain};
+    ghost use Rattle.mirror_disk.specs.declared.slot.Slot.TheVariants.{First};
 
     /// Of a mirror that is not bound.
     pub(crate) fn plain() -> Marks
@@ -25,6 +26,18 @@ impl Marks {
         Marks {
             used: Used::Plain,
             epoch: 0,
+            first_slot: Slot::First,
+            second_slot: Slot::First,
+        }
+    }
+
+    /// Of a mirror that was just made.
+    pub(crate) fn blank() -> Marks
+        ensures { result ≡ record { used = Both; epoch = 1; first_slot = First; second_slot = First } }
+    {
+        Marks {
+            used: Used::Both,
+            epoch: 1,
             first_slot: Slot::First,
             second_slot: Slot::First,
         }

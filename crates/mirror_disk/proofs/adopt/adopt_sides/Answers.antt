@@ -1,3 +1,4 @@
+use Rattle.std.proofs.Common.{inr}
 use Rattle.iso_disk.proofs.Moments.{starts_unwritten}
 use Rattle.mirror_disk.proofs.Adopted.{ended_early, told_header}
 use Rattle.mirror_disk.proofs.adopt.adopt_sides.Goals as goal
@@ -27,3 +28,6 @@ pub returns-in_default-two-clause-not_second : goal.returns-in_default-two-claus
 returns-in_default-two-clause-not_second g c is =
     let call = c.read_headers in
     (c.in-Ok.ensures.not_second c.in_default-two.is, told_header (g.met.A.Disk.lawful call.new.first) call.ensures.first_unwritten c.in-Ok.one c.in-Some.one c.in-Some.is c.in-Ok.ensures.first_mark)
+
+pub returns-in_default-two-clause-cause : goal.returns-in_default-two-clause-cause
+returns-in_default-two-clause-cause g c = inr (inr (inr (c.in-Ok.ensures.not_second c.in_default-two.is)))
