@@ -4,10 +4,11 @@ use Rattle.std.specs.Prelude.{IfSome}
 use Rattle.std.proofs.lemmas.Option.{same_Some}
 use Rattle.iso_disk.specs.Disk.{DiskState, IsLawful, IsSettled, LeavesOnly, WritesNothing}
 use Rattle.iso_disk.proofs.Moments.{at_end}
+use Rattle.fault_count.specs.Count.{Rose}
 use Rattle.mirror_disk.specs.declared.slot.Mark.{Mark}
 use Rattle.mirror_disk.specs.declared.slot.Slot.{Slot}
 use Rattle.mirror_disk.specs.declared.used.Used.TheVariants.{Both, OnlyFirst, OnlySecond}
-use Rattle.mirror_disk.specs.Adopting.{AdoptsFrom, AreAlike, OfChosen, OfOther, TellsOn}
+use Rattle.mirror_disk.specs.Adopting.{AdoptFails, AdoptsFrom, AreAlike, OfChosen, OfOther, TellsOn}
 use Rattle.mirror_disk.specs.Header.{IsHeader, body, chosen, epoch, last_epoch}
 use Rattle.mirror_disk.specs.Laws.{rising_first}
 use Rattle.mirror_disk.specs.Pairs.{ChosenOf, chosen_told}
@@ -157,3 +158,20 @@ ended_early law_a law_b still_a still_b = record {
 pub told_header : {a mid : DiskState} → IsLawful mid → WritesNothing a mid → (o : Option Mark) (m : Mark) → o ≡ Some m → IfSome o (λ k. (k.epoch ≤ last_epoch) × ((x : List ℕ) → mid.now x → HasEpoch k.slot k.epoch x)) → (c : List ℕ) → a.contents ≡ Some c → IsHeader c
 told_header laws still (Some k) m is read c told = (read.1 c (laws.reads_as_image c (still.same_contents ∙ told))).header
 told_header laws still None m is read c told = absurd (cc is)
+
+-- a call failed behind the choice, which was made by the epochs that were read
+pub choice_fails : (a b mid_a mid_b new_a new_b : DiskState) (one two : Mark) → IsLawful mid_a → IsLawful mid_b → WritesNothing a mid_a → WritesNothing b mid_b
+    → ((x : List ℕ) → mid_a.now x → HasEpoch one.slot one.epoch x) → ((y : List ℕ) → mid_b.now y → HasEpoch two.slot two.epoch y)
+    → (two.epoch ≤ one.epoch → Rose mid_a.faults new_a.faults ⊎ ((last_epoch ≤ one.epoch) × Rose mid_b.faults new_b.faults))
+    → (one.epoch < two.epoch → Rose mid_b.faults new_b.faults ⊎ ((last_epoch ≤ two.epoch) × Rose mid_a.faults new_a.faults)) → AdoptFails a b mid_a mid_b new_a new_b
+choice_fails a b mid_a mid_b new_a new_b one two law_a law_b still_a still_b marks_a marks_b first second = inr (λ x told y told'.
+    let p : epoch x ≡ one.epoch = (marks_a x (law_a.reads_as_image x (still_a.same_contents ∙ told))).epoch_is in
+    let q : epoch y ≡ two.epoch = (marks_b y (law_b.reads_as_image y (still_b.same_contents ∙ told'))).epoch_is in (
+      λ le. subst (λ (e : ℕ). Rose mid_a.faults new_a.faults ⊎ ((last_epoch ≤ e) × Rose mid_b.faults new_b.faults)) (sym p) (first (omega (arith, le, p, q))),
+      λ less. subst (λ (e : ℕ). Rose mid_b.faults new_b.faults ⊎ ((last_epoch ≤ e) × Rose mid_a.faults new_a.faults)) (sym q) (second (omega (arith, less, p, q))),
+    ))
+
+-- what was read of a header, where it is one
+pub mark_of : (d : DiskState) (o : Option Mark) (m : Mark) → o ≡ Some m → IfSome o (λ k. (k.epoch ≤ last_epoch) × ((x : List ℕ) → d.now x → HasEpoch k.slot k.epoch x)) → (x : List ℕ) → d.now x → HasEpoch m.slot m.epoch x
+mark_of d (Some k) m is read = subst (λ (n : Mark). (x : List ℕ) → d.now x → HasEpoch n.slot n.epoch x) (same_Some k m is) read.1
+mark_of d None m is read = absurd (cc is)

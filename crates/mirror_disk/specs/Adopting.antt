@@ -1,9 +1,10 @@
 -- What an adopt makes of the side that it chose, and of the other one.
-use Rattle.std.specs.Prelude.{◌≡◌, ◌≢◌, ◌⊎◌, ℕ, ◌≤◌, List, Some, None}
+use Rattle.std.specs.Prelude.{◌≡◌, ◌≢◌, ◌⊎◌, ℕ, ◌<◌, ◌≤◌, List, Some, None}
 use Rattle.std.specs.Option.{ForSome}
+use Rattle.fault_count.specs.Count.{Rose}
 use Rattle.iso_disk.specs.Disk.{DiskState, IsSettled, WritesNothing}
 use Rattle.mirror_disk.specs.declared.slot.Slot.{Slot}
-use Rattle.mirror_disk.specs.Header.{IsHeader, body, chosen, epoch}
+use Rattle.mirror_disk.specs.Header.{IsHeader, body, chosen, epoch, last_epoch}
 use Rattle.mirror_disk.specs.Pairs.{ChosenOf}
 use Rattle.mirror_disk.specs.Raised.{HasEpoch}
 
@@ -38,6 +39,15 @@ pub record AdoptsFrom (a b mid_a mid_b new_a new_b : DiskState) : Type 0 where
   pub first_before : WritesNothing a mid_a
   pub second_before : WritesNothing b mid_b
   pub kept : (x y : List ℕ) → new_a.left mid_a.clock x → new_b.left mid_b.clock y → ChosenOf mid_a.now mid_b.now (chosen x y)
+
+-- A side failed: before the choice, or the chosen one did, or the other one while there is no larger epoch. The choice is by what
+-- the sides told.
+abbrev pub AdoptFails : (a b mid_a mid_b new_a new_b : DiskState) → Type 0
+AdoptFails a b mid_a mid_b new_a new_b =
+    (Rose a.faults mid_a.faults ⊎ Rose b.faults mid_b.faults)
+    ⊎ ForSome a.contents (λ x. ForSome b.contents (λ y.
+    (epoch y ≤ epoch x → Rose mid_a.faults new_a.faults ⊎ ((last_epoch ≤ epoch x) × Rose mid_b.faults new_b.faults))
+    × (epoch x < epoch y → Rose mid_b.faults new_b.faults ⊎ ((last_epoch ≤ epoch y) × Rose mid_a.faults new_a.faults))))
 
 -- two sides that are not taken for a mirror: they differ in size, or one has no header
 abbrev pub AdoptRefuses : DiskState → DiskState → Type 0

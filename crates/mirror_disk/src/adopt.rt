@@ -3,7 +3,7 @@ ghost use Rattle.std.specs.Prelude.{◌≡◌, ◌≢◌, ◌↔◌, ◌⊎◌, 
 ghost use Rattle.std.specs.Option.{ForSome};
 ghost use Rattle.iso_disk.specs.Disk.{IsSettled, WritesNothing};
 ghost use Rattle.fault_count.specs.Count.{HasCause, Rose};
-ghost use Rattle.mirror_disk.specs.Adopting.{AdoptRefuses, AdoptsFrom};
+ghost use Rattle.mirror_disk.specs.Adopting.{AdoptFails, AdoptRefuses, AdoptsFrom};
 ghost use Rattle.mirror_disk.specs.declared.adopt.MirrorError.TheVariants.{Disk, NotMirror, SizesDiffer};
 ghost use Rattle.mirror_disk.specs.Header.{IsHeader, body, chosen, last_epoch};
 ghost use Rattle.mirror_disk.specs.Pairs.{ChosenOf, chosen_told, mirrored};
@@ -49,6 +49,7 @@ impl<A: Image, B: Image> Mirror<A, B> {
         ensures same_size { OnOk result ((A.state first).size ≡ (B.state second).size) }
         ensures not_first { IfErr result (λ e. e.0 ≡ NotMirror 0 → ForSome (A.state first).contents (λ c. IsHeader c → ⊥)) }
         ensures not_second { IfErr result (λ e. e.0 ≡ NotMirror 1 → ForSome (B.state second).contents (λ c. IsHeader c → ⊥) × ForSome (A.state first).contents (λ c. IsHeader c)) }
+        ensures choice { IfErr result (λ e. e.0 ≡ Disk → (x : A) × (y : B) × AdoptFails (A.state first) (B.state second) (A.state x) (B.state y) (A.state e.1) (B.state e.2)) }
         ensures disk { IfErr result (λ e. e.0 ≡ Disk → Rose (A.state first).faults (A.state e.1).faults ⊎ Rose (B.state second).faults (B.state e.2).faults) }
     {
         let mut first = first;
@@ -83,6 +84,7 @@ pub(crate) fn adopt_sides<A: Disk, B: Disk>(
     ensures not_first { result ≡ Err (NotMirror 0) → ForSome (A.state first.old).contents (λ c. IsHeader c → ⊥) }
     ensures not_second { result ≡ Err (NotMirror 1) → ForSome (B.state second.old).contents (λ c. IsHeader c → ⊥) × ForSome (A.state first.old).contents (λ c. IsHeader c) }
     ensures cause { OnErr result ((Rose (A.state first.old).faults (A.state first.new).faults ⊎ Rose (B.state second.old).faults (B.state second.new).faults) ⊎ AdoptRefuses (A.state first.old) (B.state second.old)) }
+    ensures choice { result ≡ Err Disk → (x : A) × (y : B) × AdoptFails (A.state first.old) (B.state second.old) (A.state x) (B.state y) (A.state first.new) (B.state second.new) }
     ensures disk { result ≡ Err Disk → Rose (A.state first.old).faults (A.state first.new).faults ⊎ Rose (B.state second.old).faults (B.state second.new).faults }
     ensures later { ((A.state first.old).faults ≤ (A.state first.new).faults) × ((B.state second.old).faults ≤ (B.state second.new).faults) }
 {

@@ -6,8 +6,9 @@ ghost use Rattle.fault_count.specs.Count.{HasCause};
 ghost use Rattle.mirror_disk.specs.Header.{IsHeader, IsSlot, blank_header, last_epoch, slot_epoch, word};
 ghost use Rattle.mirror_disk.specs.Raised.{HasEpoch};
 
+use crate::raise::ZEROS;
 use crate::sides::{HEADER, LAST};
-use crate::slot::{Mark, Slot};
+use crate::slot::{FIRST_GATE, Mark, SECOND_GATE, Slot};
 use byteorder::{BigEndian, ByteOrder};
 use iso_disk::{Disk, DiskFault};
 
@@ -16,6 +17,12 @@ const LENGTH: usize = 64;
 
 /// What a header begins with.
 const WORD: [u8; 8] = *b"ISOMIRR1";
+
+/// Where the zeros behind that word begin.
+const GAP: usize = 8;
+
+/// Where the zeros behind the slots begin.
+const END: usize = 48;
 
 /// The byte of a gate that is open.
 const OPEN: u8 = 1;
@@ -63,8 +70,8 @@ fn read_mark(header: &[u8; 64]) -> Option<Mark>
     if !is_framed(header) {
         return None;
     }
-    let first = read_slot(header, 16)?;
-    let second = read_slot(header, 32)?;
+    let first = read_slot(header, FIRST_GATE as usize)?;
+    let second = read_slot(header, SECOND_GATE as usize)?;
     if first == 0 && second == 0 {
         return None;
     }
@@ -88,7 +95,9 @@ fn is_framed(header: &[u8; 64]) -> bool
     ensures end { result ≡ true → take 16 (drop 48 header.now) ≡ replicate 16 0 }
     ensures none { result ≡ false → IsHeader header.now → ⊥ }
 {
-    has_bytes(header, 0, &WORD) && has_bytes(header, 8, &[0; 8]) && has_bytes(header, 48, &[0; 16])
+    has_bytes(header, 0, &WORD)
+        && has_bytes(header, GAP, &[0; 8])
+        && has_bytes(header, END, &[0; LENGTH - END])
 }
 
 /// The epoch in a slot, 0 where it is closed. None where it is no slot.
@@ -100,7 +109,7 @@ fn read_slot(header: &[u8; 64], gate: usize) -> Option<u64>
     if header[gate] != OPEN {
         return Some(0);
     }
-    if !has_bytes(header, gate + 1, &[0; 7]) {
+    if !has_bytes(header, gate + 1, &[0; ZEROS]) {
         return None;
     }
     let epoch = BigEndian::read_u64(&header[gate + 8..]);

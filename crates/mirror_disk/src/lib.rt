@@ -1,4 +1,5 @@
-//! A disk that keeps its bytes twice, on two sides. It goes on where one side fails.
+//! A disk that keeps its bytes twice, on two sides, over any two disks. It goes on where one side fails, and an adopt makes two
+//! sides alike again.
 #![tactic(auto)]
 
 mod adopt;

@@ -11,6 +11,12 @@ use crate::slot::Slot;
 use commit_gate::{open_gate, put_body, shut_gate, stands_closed};
 use iso_disk::{Disk, DiskFault};
 
+/// How many zeros stand between a gate and its epoch.
+pub(crate) const ZEROS: usize = 7;
+
+/// How many bytes stand behind a gate.
+const BODY: usize = 15;
+
 /// Puts an epoch into the slot that does not hold the one so far, and opens its gate.
 pub(crate) fn raise_epoch<D: Disk>(disk: &mut D, slot: Slot, next: u64) -> Result<(), DiskFault>
     requires size { 64 ≤ (D.state disk.old).size }
@@ -62,8 +68,8 @@ fn put_epoch<D: Disk>(disk: &mut D, slot: Slot, gate: u64, next: u64) -> Result<
 fn spell(epoch: u64) -> [u8; 15]
     ensures { result ≡ slot_body epoch }
 {
-    let mut body = [0; 15];
-    body[7..].copy_from_slice(&epoch.to_be_bytes());
+    let mut body = [0; BODY];
+    body[ZEROS..].copy_from_slice(&epoch.to_be_bytes());
     body
 }
 

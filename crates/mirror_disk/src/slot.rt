@@ -1,5 +1,11 @@
 // Where a side keeps its epoch.
 
+/// Where the gate of the first slot stands.
+pub(crate) const FIRST_GATE: u64 = 16;
+
+/// Where that of the second one does.
+pub(crate) const SECOND_GATE: u64 = 32;
+
 /// One of the two slots of a header.
 #[derive(Clone, Copy, Debug, PartialEq, Eq)]
 pub enum Slot {
@@ -16,8 +22,8 @@ impl Slot {
         ensures { result ≡ place self }
     {
         match self {
-            Slot::First => 16,
-            Slot::Second => 32,
+            Slot::First => FIRST_GATE,
+            Slot::Second => SECOND_GATE,
         }
     }
 

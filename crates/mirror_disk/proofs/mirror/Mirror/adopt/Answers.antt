@@ -12,3 +12,6 @@ returns-in-Ok-clause-alike g c is = (c.in-Ok.ensures.stands.both is).agree
 
 pub returns-in-Err-clause-not_second : goal.returns-in-Err-clause-not_second
 returns-in-Err-clause-not_second g c is = c.in-Err.ensures.not_second (ap Err is)
+
+pub returns-in-Err-clause-choice : goal.returns-in-Err-clause-choice
+returns-in-Err-clause-choice g c is = c.in-Err.ensures.choice (ap Err is)
