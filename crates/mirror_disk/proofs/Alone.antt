@@ -1,6 +1,6 @@
 -- How a call ends on a mirror with one side in use.
-use Rattle.std.proofs.Common.{◌≡◌, ◌≢◌, inr, ⊎_elim, ℕ, ◌+◌, ◌≤◌, List, [], ◌∷◌, Some, refl, sym, ◌∙◌, ap, subst, arith}
-use Rattle.iso_disk.specs.Disk.{DiskState, IsLawful, IsSettled, TornFrom, LeavesOnly, Elapses}
+use Rattle.std.proofs.Common.{◌≡◌, ◌≢◌, inr, ⊎_elim, ℕ, ◌+◌, ◌≤◌, List, [], Some, refl, sym, ◌∙◌, ap, subst, arith}
+use Rattle.iso_disk.specs.Disk.{DiskState, IsLawful, IsSettled, TornFrom, LeavesOnly}
 use Rattle.iso_disk.proofs.Images.{torn_from_old}
 use Rattle.iso_disk.proofs.Moments.{at_end, started, weakened}
 use Rattle.mirror_disk.specs.declared.slot.Slot.{Slot}
@@ -9,11 +9,11 @@ use Rattle.mirror_disk.specs.declared.used.Used.TheVariants.{Both, OnlyFirst, On
 use Rattle.mirror_disk.specs.Ended.{HasEnded}
 use Rattle.mirror_disk.specs.Header.{IsHeader, chosen}
 use Rattle.mirror_disk.specs.Laws.{rising_first}
-use Rattle.mirror_disk.specs.Pairs.{ChosenOf, chosen_told, mirrored}
+use Rattle.mirror_disk.specs.Pairs.{chosen_told, mirrored}
 use Rattle.mirror_disk.specs.Standing.{ArePair, FirstLeads, SecondLeads, IsPair}
 use Rattle.mirror_disk.proofs.Calls.{elapses_pair}
 use Rattle.mirror_disk.proofs.Epochs.{chosen_first, chosen_second}
-use Rattle.mirror_disk.proofs.Stands.{header_torn, GoesOnTelling, epoch_of_torn, from_a, from_b, meets_first, meets_nothing, meets_second, now_from_a, now_from_b, pair_on, some_told}
+use Rattle.mirror_disk.proofs.Stands.{header_torn, GoesOnTelling, epoch_of_torn, from_a, from_b, meets_first, meets_second, now_from_a, now_from_b, pair_on, some_told}
 
 module _ {a b new_a : DiskState} (past : List (ℕ × ℕ)) (e : ℕ) (one two : Slot) (at n : ℕ) (law_a : IsLawful a) (law_b : IsLawful b) (law_a' : IsLawful new_a) (pair : ArePair a b past) (leads : FirstLeads a b past e)
     (run : LeavesOnly a new_a (TornFrom (64 + at) n a.now)) (on : GoesOnTelling a new_a) where
@@ -56,10 +56,6 @@ module _ {a b new_b : DiskState} (past : List (ℕ × ℕ)) (e : ℕ) (one two :
     };
     elapses = λ f g m. elapses_pair past f g m law_a law_b law_a law_b' pair.rising idle_a run (meets_second law_a law_b pair at n e leads);
   }
-
--- a mirror that is broken asks no side
-pub ended_broken : {a b : DiskState} (past : List (ℕ × ℕ)) (f g m : ℕ) → IsLawful a → IsLawful b → ArePair a b past → Elapses (mirrored a b past f m) (mirrored a b ((a.clock, b.clock) ∷ past) g m) (ChosenOf a.now b.now)
-ended_broken {a = a} {b = b} past f g m law_a law_b pair = elapses_pair past f g m law_a law_b law_a law_b pair.rising (started law_a (λ x now. now)) (started law_b (λ y now. now)) (meets_nothing a b past)
 
 -- a call in no bytes, as a read or a sync
 pub none_torn : {images : List ℕ → Type 0} (c : List ℕ) → TornFrom 0 0 images c → images c

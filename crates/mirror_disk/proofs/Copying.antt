@@ -4,7 +4,7 @@ use Rattle.std.specs.List.{slice_range}
 use Rattle.std.proofs.Math.Seq.{take-add, take-length}
 use Rattle.std.proofs.lemmas.List.{drop-drop}
 use Rattle.iso_disk.specs.Disk.{DiskState, IsLawful, TellsTorn, spliced}
-use Rattle.iso_disk.proofs.Bytes.{take-drop-spliced, take-spliced, torn_same, torn_twice, torn_wider}
+use Rattle.iso_disk.proofs.Bytes.{take-drop-spliced, take-spliced, torn_twice, torn_wider}
 use Rattle.iso_disk.proofs.Images.{length-contents}
 use Rattle.mirror_disk.specs.Header.{body}
 
@@ -13,10 +13,6 @@ pub piece_of : (x : List ℕ) (at n : ℕ) → slice_range x (64 + at) (64 + at 
 piece_of x at n =
     let count : 64 + at + n - (64 + at) ≡ n = omega arith in
     ap (λ (m : ℕ). take m (drop (64 + at) x)) count ∙ ap (take n) (sym (drop-drop at 64 x))
-
--- before the first piece
-pub torn_none : (d : DiskState) (k n : ℕ) → TellsTorn k n d d
-torn_none d k n = record { told = λ c is. (c, is, torn_same k n c); untold = λ is. is }
 
 -- one piece more, in the range
 pub torn_more : {old mid new : DiskState} (from len at n : ℕ) → from ≤ at → at + n ≤ from + len → TellsTorn from len old mid → TellsTorn at n mid new → TellsTorn from len old new

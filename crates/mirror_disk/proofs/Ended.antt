@@ -5,13 +5,12 @@ use Rattle.iso_disk.proofs.Bytes.{take-torn}
 use Rattle.iso_disk.proofs.Moments.{at_end, weakened}
 use Rattle.mirror_disk.specs.declared.slot.Slot.{Slot}
 use Rattle.mirror_disk.specs.declared.slot.Slot.TheVariants as slot
-use Rattle.mirror_disk.specs.declared.used.Used.{Used}
-use Rattle.mirror_disk.specs.declared.used.Used.TheVariants.{Plain, Both, Broken, Unbound}
+use Rattle.mirror_disk.specs.declared.used.Used.TheVariants.{Both, Broken}
 use Rattle.mirror_disk.specs.Ended.{BothAsked, HasEnded}
 use Rattle.mirror_disk.specs.Header.{IsHeader, epoch, slot_epoch}
 use Rattle.mirror_disk.specs.Raised.{IsMarked, KeepsBody}
 use Rattle.mirror_disk.specs.Slots.{place}
-use Rattle.mirror_disk.specs.Standing.{ArePair, AreBoth, IsPair, FromA, FromB}
+use Rattle.mirror_disk.specs.Standing.{ArePair, AreBoth, FromA, FromB}
 use Rattle.mirror_disk.proofs.Calls.{elapses_pair}
 use Rattle.mirror_disk.proofs.Epochs.{slot-torn}
 use Rattle.mirror_disk.proofs.Stands.{header_torn, GoesOnTelling, epoch_of_torn, from_a, from_b, meets_both, now_from_a, now_from_b, pair_on, some_told}
@@ -26,9 +25,6 @@ keeps_on {old = old} keeps told none = let c = some_told old.contents told in le
 below : (s : Slot) → place s + 16 ≤ 64
 below slot.First = omega arith
 below slot.Second = omega arith
-
-pair_is : (used : Used) → used ≢ Plain → used ≢ Unbound → IsPair used
-pair_is used one two = (one, two)
 
 -- a side that was called has its mark yet
 pub marked_on : {d new : DiskState} (s : Slot) (e at n : ℕ) → IsLawful d → IsLawful new → ((x : List ℕ) → d.now x → epoch x ≡ e) → ((x : List ℕ) → d.now x → slot_epoch (place s) x ≡ e)

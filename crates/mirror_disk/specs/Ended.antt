@@ -24,9 +24,3 @@ pub record HasEnded (a b new_a new_b : DiskState) (used : Used) (past : List (�
   pub is_pair : IsPair used
   pub stands : Stands new_a new_b used ((a.clock, b.clock) ∷ past) e one two
   pub elapses : (faults faults' binds : ℕ) → Elapses (mirrored a b past faults binds) (mirrored new_a new_b ((a.clock, b.clock) ∷ past) faults' binds) (TornFrom at n (ChosenOf a.now b.now))
-
--- A call on a mirror with one side in use, or with none.
-pub record OneAsked (a b new_a new_b : DiskState) (past : List (ℕ × ℕ)) (at n : ℕ) (P Q : List ℕ → Type 0) : Type 0 where
-  pub pair : ArePair a b past
-  pub run_a : LeavesOnly a new_a P
-  pub run_b : LeavesOnly b new_b Q
