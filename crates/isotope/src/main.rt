@@ -1,4 +1,5 @@
-// The program: the file disk, of which pages are kept, standard input and standard output, handed to the top call.
+// The program: a mirror of two file disks, of which pages are kept, standard input and standard output, handed to the top
+// call.
 #![tactic(auto)]
 
 ghost use Rattle.std.specs.Prelude.{◌≡◌};
@@ -13,6 +14,7 @@ use file_disk::FileDisk;
 use iso_io::{StdSink, StdSource, put_all};
 use iso_top::isotope;
 use kept_disk::Kept;
+use mirror_disk::Mirror;
 use par_runner::Gate;
 use std::alloc::AllocError;
 use std::process::ExitCode;
@@ -55,7 +57,12 @@ fn main(rt: HostRuntime) -> ExitCode {
         let _ = put_all(&mut output, b"! memory\n");
         return exit_of(8);
     };
-    let disk = Kept::new(alloc, FileDisk::new(files, alloc));
+    let Ok(more) = rt.clone() else {
+        let _ = put_all(&mut output, b"! memory\n");
+        return exit_of(8);
+    };
+    let sides = Mirror::of(FileDisk::new(files, alloc), FileDisk::new(more, alloc));
+    let disk = Kept::new(alloc, sides);
     let ended = isotope(&rt, alloc, &words, disk, &mut input, &mut output, &Open);
     exit_of(ended.status)
 }

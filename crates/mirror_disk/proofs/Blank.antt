@@ -1,0 +1,106 @@
+-- Two sides that were just made.
+use Rattle.std.proofs.Common.{◌≡◌, inl, inr, ℕ, ◌+◌, ◌-◌, List, [], ◌++◌, drop, replicate, Option, Some, None, IsSome, refl, sym, ◌∙◌, ap, subst, arith}
+use Rattle.std.specs.Prelude.{IfNone, IfSome}
+use Rattle.std.specs.Option.{ForSome}
+use Rattle.std.proofs.lemmas.Bool.{cases_lt}
+use Rattle.std.proofs.lemmas.List.{drop-replicate}
+use Rattle.iso_disk.specs.Disk.{DiskState, IsLawful, IsSettled, Splices}
+use Rattle.iso_disk.proofs.Images.{settled_write}
+use Rattle.mirror_disk.specs.declared.slot.Slot.TheVariants.{First}
+use Rattle.mirror_disk.specs.declared.used.Used.{Used}
+use Rattle.mirror_disk.specs.Header.{blank_header, body, chosen, epoch}
+use Rattle.mirror_disk.specs.Laws.{both_tell}
+use Rattle.mirror_disk.specs.Pairs.{ChosenOf, chosen_told, mirrored}
+use Rattle.mirror_disk.specs.Raised.{HasEpoch}
+use Rattle.mirror_disk.specs.Standing.{ArePair, AreBoth, IsPair, state_in}
+use Rattle.mirror_disk.proofs.Adopted.{both_alike}
+use Rattle.mirror_disk.proofs.Alone.{first_pair}
+use Rattle.mirror_disk.proofs.Mirrored.{state_pair}
+use Rattle.mirror_disk.proofs.Epochs.{chosen_first, chosen_second}
+
+-- a blank header has epoch 1 in the first slot
+pub blank_mark : (rest : List ℕ) → HasEpoch First 1 (blank_header ++ rest)
+blank_mark rest = record {
+  epoch_is = refl;
+  slot_is = refl;
+  header = record {
+    size = omega arith;
+    begins = refl;
+    gap = refl;
+    first = record { zeros = λ _. refl; least = λ _. omega arith; most = λ _. omega arith };
+    second = record { zeros = λ is. absurd (cc is); least = λ is. absurd (cc is); most = λ is. absurd (cc is) };
+    end = refl;
+    has_epoch = omega arith;
+  };
+}
+
+-- an image of a side that was made
+pub blank_image : (mid new : DiskState) (w : ℕ) → ForSome mid.contents (λ c. c ≡ replicate (w + 64) 0) → Splices 0 blank_header mid new → IsSettled new → (x : List ℕ) → new.now x → x ≡ blank_header ++ replicate w 0
+blank_image mid new w blank written settled x now =
+    let d = settled_write mid new 0 blank_header written settled x now in
+    d.2 ∙ ap (λ (l : List ℕ). blank_header ++ l) (ap (λ (l : List ℕ). drop 64 l) (blank d.0 d.1) ∙ rest w)
+  where
+    rest : (w : ℕ) → drop {A = ℕ} 64 (replicate (w + 64) 0) ≡ replicate w 0
+    rest w = drop-replicate 64 (w + 64) 0 ∙ (let left : w + 64 - 64 ≡ w = omega arith in ap (λ (n : ℕ). replicate n 0) left)
+
+module _ (a b : DiskState) (w : ℕ) (law_a : IsLawful a) (law_b : IsLawful b) (settled_a : IsSettled a) (settled_b : IsSettled b) (size_a : a.size ≡ w + 64) (size_b : b.size ≡ w + 64)
+    (image_a : (x : List ℕ) → a.now x → x ≡ blank_header ++ replicate w 0) (image_b : (y : List ℕ) → b.now y → y ≡ blank_header ++ replicate w 0) where
+  mark_a : (x : List ℕ) → a.now x → HasEpoch First 1 x
+  mark_a x now = subst (HasEpoch First 1) (sym (image_a x now)) (blank_mark (replicate w 0))
+
+  mark_b : (y : List ℕ) → b.now y → HasEpoch First 1 y
+  mark_b y now = subst (HasEpoch First 1) (sym (image_b y now)) (blank_mark (replicate w 0))
+
+  pub blank_pair : ArePair a b []
+  blank_pair = first_pair a b law_a law_b (size_b ∙ sym size_a) (omega (arith, size_a)) settled_a settled_b (λ x now. (mark_a x now).header) (λ y now. (mark_b y now).header)
+
+  pub blank_both : AreBoth a b [] 1 First First
+  blank_both = both_alike a b 1 First First law_a law_b settled_a (record {
+    first = mark_a;
+    second = mark_b;
+    settled = settled_b;
+    agree = λ x y told told'. ap body (image_a x (law_a.reads_as_image x told) ∙ sym (image_b y (law_b.reads_as_image y told')));
+  })
+
+  either : (x y : List ℕ) → a.now x → b.now y → chosen x y ≡ replicate w 0
+  either x y now now' = elim (cases_lt (epoch x) (epoch y)) [
+    | inl less ↦ chosen_second x y less ∙ ap body (image_b y now')
+    | inr not ↦ chosen_first x y not ∙ ap body (image_a x now)
+  ]
+
+  pub blank_now : (c : List ℕ) → ChosenOf a.now b.now c → c ≡ replicate w 0
+  blank_now c of = of.is ∙ either of.first of.second of.of_first of.of_second
+
+  pub blank_told : ForSome (chosen_told a.contents b.contents) (λ c. c ≡ replicate w 0)
+  blank_told c told = let t = both_tell a.contents b.contents c told in t.is ∙ either t.first t.second (law_a.reads_as_image t.first t.of_first) (law_b.reads_as_image t.second t.of_second)
+
+-- what is told of both is told of each, and the other way round
+pub some_first : (o p : Option (List ℕ)) → IsSome (chosen_told o p) → IsSome o
+some_first (Some x) p is = refl
+some_first None p is = absurd (cc is)
+
+pub some_second : (o p : Option (List ℕ)) → IsSome (chosen_told o p) → IsSome p
+some_second (Some x) (Some y) is = refl
+some_second (Some x) None is = absurd (cc is)
+some_second None p is = absurd (cc is)
+
+pub some_both : (o p : Option (List ℕ)) → IsSome o → IsSome p → IsSome (chosen_told o p)
+some_both (Some x) (Some y) is is' = refl
+some_both (Some x) None is is' = absurd (cc is')
+some_both None p is is' = absurd (cc is)
+
+-- what both names name is what both sides tell, once they were bound and adopted
+pub named_taken : (o p m n q r : Option (List ℕ)) → ForSome o (λ c. m ≡ Some c) → ForSome p (λ c. n ≡ Some c) → chosen_told q r ≡ chosen_told m n → ForSome (chosen_told o p) (λ c. chosen_told q r ≡ Some c)
+named_taken o p m n q r first second same c told =
+    let t = both_tell o p c told in
+    same ∙ (λ i. chosen_told (first t.first t.of_first i) (second t.second t.of_second i)) ∙ ap Some (sym t.is)
+
+module _ (used : Used) (is : IsPair used) (a b : DiskState) (past : List (ℕ × ℕ)) (f m : ℕ) where
+  -- the state of a mirror that was bound, with a size or with none
+  pub bound_blank : (want : Option ℕ) → IfSome want (λ w. (c : List ℕ) → ChosenOf a.now b.now c → c ≡ replicate w 0) → IfSome want (λ w. (c : List ℕ) → (state_in used a b past f m).now c → c ≡ replicate w 0)
+  bound_blank (Some w) blank = state_pair used is a b past f m (λ (d : DiskState). (c : List ℕ) → d.now c → c ≡ replicate w 0) blank
+  bound_blank None blank = tt
+
+  pub bound_settled : (want : Option ℕ) → IfNone want (IsSettled (mirrored a b [] 0 0)) → IfNone want (IsSettled (state_in used a b past f m))
+  bound_settled (Some w) settled = tt
+  bound_settled None settled = state_pair used is a b past f m (λ (d : DiskState). IsSettled d) settled

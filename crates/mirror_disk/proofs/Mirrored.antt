@@ -1,0 +1,78 @@
+-- What a call on both sides comes to in the state of the mirror.
+use Rattle.std.proofs.Common.{◌≡◌, ◌≢◌, ◌⊎◌, inl, inr, ⊎_elim, ℕ, List, ◌∷◌, Result, Ok, Err, OnErr, refl, sym, ◌∙◌, ap, subst}
+use Rattle.std.specs.Option.{option_map}
+use Rattle.iso_disk.specs.Disk.{DiskState, Torn, TornFrom, TellsTorn, Splices, Elapses, spliced}
+use Rattle.mirror_disk.specs.declared.slot.Slot.{Slot}
+use Rattle.mirror_disk.specs.declared.used.Used.{Used}
+use Rattle.mirror_disk.specs.declared.used.Used.TheVariants.{Plain, Both, OnlyFirst, OnlySecond, Broken, Unbound}
+use Rattle.mirror_disk.specs.Becoming.{MirrorBecomes}
+use Rattle.mirror_disk.specs.Ended.{HasEnded}
+use Rattle.mirror_disk.specs.Pairs.{chosen_told, mirrored}
+use Rattle.mirror_disk.specs.Standing.{IsPair, Stands, state_in}
+use Rattle.mirror_disk.proofs.Alone.{none_torn}
+
+-- these are the states of a pair
+pub of_pair : {used : Used} → (used ≡ Both) ⊎ ((used ≡ OnlyFirst) ⊎ ((used ≡ OnlySecond) ⊎ (used ≡ Broken))) → IsPair used
+of_pair {used = used} is = (λ plain. not Plain plain (λ e. cc e) (λ e. cc e) (λ e. cc e) (λ e. cc e), λ unbound. not Unbound unbound (λ e. cc e) (λ e. cc e) (λ e. cc e) (λ e. cc e))
+  where
+    not : (other : Used) → used ≡ other → other ≢ Both → other ≢ OnlyFirst → other ≢ OnlySecond → other ≢ Broken → ⊥
+    not other same both first second broken = ⊎_elim (λ e. both (sym same ∙ e)) (⊎_elim (λ e. first (sym same ∙ e)) (⊎_elim (λ e. second (sym same ∙ e)) (λ e. broken (sym same ∙ e)))) is
+
+-- what holds of what is chosen of both sides holds of the mirror
+pub state_pair : (used : Used) → IsPair used → (a b : DiskState) (past : List (ℕ × ℕ)) (f m : ℕ) (P : DiskState → Type 0) → P (mirrored a b past f m) → P (state_in used a b past f m)
+state_pair Both is a b past f m P p = p
+state_pair OnlyFirst is a b past f m P p = p
+state_pair OnlySecond is a b past f m P p = p
+state_pair Broken is a b past f m P p = p
+state_pair Plain is a b past f m P p = absurd (is.0 refl)
+state_pair Unbound is a b past f m P p = absurd (is.1 refl)
+
+pub told_pair : (used : Used) → IsPair used → (a b : DiskState) (past : List (ℕ × ℕ)) (f m : ℕ) → (state_in used a b past f m).contents ≡ chosen_told a.contents b.contents
+told_pair used is a b past f m = state_pair used is a b past f m (λ (d : DiskState). d.contents ≡ chosen_told a.contents b.contents) refl
+
+-- more images
+pub elapses_more : {old new : DiskState} {P Q : List ℕ → Type 0} → Elapses old new P → ((c : List ℕ) → P c → Q c) → Elapses old new Q
+elapses_more e more = record {
+  same_size = e.same_size;
+  same_bound = e.same_bound;
+  same_binds = e.same_binds;
+  later = e.later;
+  after = λ c now. more c (e.after c now);
+  during = λ t c le left. ⊎_elim inl (λ p. inr (more c p)) (e.during t c le left);
+  keeps = e.keeps;
+}
+
+module _ (used used' : Used) (a b new_a new_b : DiskState) (past past' : List (ℕ × ℕ)) (e : ℕ) (one two : Slot) (at n : ℕ) (is : IsPair used) (is' : past' ≡ (a.clock, b.clock) ∷ past) (ended : HasEnded a b new_a new_b used' past e one two at n) where
+  pub parts_stand : Stands new_a new_b used' past' e one two
+  parts_stand = subst (λ (l : List (ℕ × ℕ)). Stands new_a new_b used' l e one two) (sym is') ended.stands
+
+  pub parts_elapse : (f g m : ℕ) → Elapses (state_in used a b past f m) (state_in used' new_a new_b past' g m) (TornFrom at n (state_in used a b past f m).now)
+  parts_elapse f g m =
+      state_pair used is a b past f m (λ (d : DiskState). Elapses d (state_in used' new_a new_b past' g m) (TornFrom at n d.now))
+      (state_pair used' ended.is_pair new_a new_b past' g m (λ (d : DiskState). Elapses (mirrored a b past f m) d (TornFrom at n (mirrored a b past f m).now))
+      (subst (λ (l : List (ℕ × ℕ)). Elapses (mirrored a b past f m) (mirrored new_a new_b l g m) (TornFrom at n (mirrored a b past f m).now)) (sym is') (ended.elapses f g m)))
+
+-- a call that writes no bytes
+pub parts_pass : (used used' : Used) (a b new_a new_b : DiskState) (past past' : List (ℕ × ℕ)) (e : ℕ) (one two : Slot) → IsPair used → past' ≡ (a.clock, b.clock) ∷ past → HasEnded a b new_a new_b used' past e one two 0 0
+    → (f g m : ℕ) → Elapses (state_in used a b past f m) (state_in used' new_a new_b past' g m) (state_in used a b past f m).now
+parts_pass used used' a b new_a new_b past past' e one two is is' ended f g m = elapses_more (parts_elapse used used' a b new_a new_b past past' e one two 0 0 is is' ended f g m) none_torn
+
+module _ (used used' : Used) (a b new_a new_b : DiskState) (past past' : List (ℕ × ℕ)) (f g m : ℕ) (is : IsPair used) (is' : IsPair used') where
+  pub parts_splice : (at : ℕ) (bytes : List ℕ) → chosen_told new_a.contents new_b.contents ≡ option_map (λ c. spliced c at bytes) (chosen_told a.contents b.contents) → Splices at bytes (state_in used a b past f m) (state_in used' new_a new_b past' g m)
+  parts_splice at bytes written = told_pair used' is' new_a new_b past' g m ∙ written ∙ ap (option_map (λ (c : List ℕ). spliced c at bytes)) (sym (told_pair used is a b past f m))
+
+  pub parts_tear : (at n : ℕ) → MirrorBecomes (Torn at n) (chosen_told a.contents b.contents) (chosen_told new_a.contents new_b.contents) → TellsTorn at n (state_in used a b past f m) (state_in used' new_a new_b past' g m)
+  parts_tear at n becomes =
+      let old = told_pair used is a b past f m in
+      let new = told_pair used' is' new_a new_b past' g m in
+      record {
+        told = λ c told. let d = becomes.told c (sym old ∙ told) in (d.0, new ∙ d.1, d.2);
+        untold = λ none. new ∙ becomes.untold (sym old ∙ none);
+      }
+
+  pub parts_same : chosen_told new_a.contents new_b.contents ≡ chosen_told a.contents b.contents → (state_in used' new_a new_b past' g m).contents ≡ (state_in used a b past f m).contents
+  parts_same same = told_pair used' is' new_a new_b past' g m ∙ same ∙ sym (told_pair used is a b past f m)
+
+pub on_err : {T E P Q : Type 0} (r : Result T E) → (P → Q) → OnErr r P → OnErr r Q
+on_err (Ok x) then p = tt
+on_err (Err e) then p = then p

@@ -1,0 +1,95 @@
+-- The other side while it is made as the one that was chosen.
+use Rattle.std.proofs.Common.{◌≡◌, inl, inr, ⊎_elim, ℕ, ◌+◌, ◌≤◌, List, take, Some, None, sym, ◌∙◌, ap, subst, arith}
+use Rattle.std.proofs.lemmas.Option.{same_Some}
+use Rattle.iso_disk.specs.Disk.{DiskState, IsLawful, IsSettled, LeavesOnly, TellsTorn, TornFrom, WritesNothing}
+use Rattle.iso_disk.proofs.Moments.{at_end, joined, weakened}
+use Rattle.mirror_disk.specs.declared.slot.Slot.{Slot}
+use Rattle.mirror_disk.specs.Adopting.{AreAlike, OfChosen, OfOther}
+use Rattle.mirror_disk.specs.Header.{body, epoch}
+use Rattle.mirror_disk.specs.Raised.{HasEpoch, IsMarked, KeepsBody, Raising}
+use Rattle.mirror_disk.proofs.Ended.{marked_on, tells_on}
+use Rattle.mirror_disk.proofs.Epochs.{epoch-torn}
+use Rattle.mirror_disk.proofs.Headers.{header_behind}
+use Rattle.mirror_disk.proofs.Raises.{told_before}
+
+-- a settled side whose images have this epoch is marked
+pub marked_settled : {d : DiskState} (slot : Slot) (e : ℕ) → IsSettled d → ((x : List ℕ) → d.now x → HasEpoch slot e x) → IsMarked slot e d
+marked_settled slot e settled each = record {
+  each = each;
+  fronts = λ x c now is. ap (take 64) (same_Some x c (sym (settled x now) ∙ is));
+  told = λ x now. (x, settled x now);
+}
+
+module _ (from to mid : DiskState) (count : ℕ) (slot : Slot) (e next : ℕ) (law_to : IsLawful to) (law_mid : IsLawful mid) (settled : IsSettled to) (behind : (y : List ℕ) → to.now y → HasEpoch slot e y)
+    (run : LeavesOnly to mid (TornFrom 64 count to.now)) where
+  -- while the bytes are copied
+  pub copied_moments : LeavesOnly to mid (OfOther e next from to)
+  copied_moments = weakened run (λ y t.
+      let has = behind t.old t.was in
+      let same : epoch y ≡ epoch t.old = epoch-torn t.torn (omega arith) in
+      record { header = header_behind has.header t.torn (omega arith) same; told = λ none. absurd (cc (none, settled t.old t.was)); either = inl (omega (arith, same, has.epoch_is)) })
+
+  -- once they are
+  pub copied_mark : TellsTorn 64 count to mid → IsMarked slot e mid
+  copied_mark torn =
+      let mark = marked_settled {d = to} slot e settled behind in
+      marked_on slot e 0 count law_to law_mid (λ y now. (behind y now).epoch_is) (λ y now. (behind y now).slot_is) mark.fronts (λ y now none. absurd (cc (none, settled y now))) (λ y now. (behind y now).header) (tells_on torn) run
+
+  -- while the epoch is raised
+  pub raised_moments : (new : DiskState) → TellsTorn 64 count to mid → LeavesOnly mid new (Raising e next mid) → ((x y : List ℕ) → from.contents ≡ Some x → mid.contents ≡ Some y → body y ≡ body x) → LeavesOnly to new (OfOther e next from to)
+  raised_moments new torn raise copied = joined copied_moments (weakened raise (λ y r. record {
+    header = r.0;
+    told = ⊎_elim
+        (λ (k : (epoch y ≡ e) × ((x : List ℕ) × mid.now x × (body y ≡ body x))). (at_end law_mid copied_moments k.1.0 k.1.1).told)
+        (λ (k : (epoch y ≡ next) × ((c : List ℕ) × (mid.contents ≡ Some c) × (body y ≡ body c))). λ (none : to.contents ≡ None). absurd (cc (torn.untold none, k.1.1)))
+        r.1;
+    either = ⊎_elim
+        (λ (k : (epoch y ≡ e) × ((x : List ℕ) × mid.now x × (body y ≡ body x))). inl (omega (arith, k.0)))
+        (λ (k : (epoch y ≡ next) × ((c : List ℕ) × (mid.contents ≡ Some c) × (body y ≡ body c))). inr (k.0, λ d told. k.1.2 ∙ copied d k.1.0 told k.1.1))
+        r.1;
+  }))
+
+-- the sides are alike, where they had the same epoch
+pub alike_copied : (from new_from mid : DiskState) (one slot : Slot) (e next : ℕ) → e ≡ next → IsLawful new_from → WritesNothing from new_from → ((x : List ℕ) → from.now x → HasEpoch one next x) → IsMarked slot e mid → IsSettled mid
+    → ((x y : List ℕ) → from.contents ≡ Some x → mid.contents ≡ Some y → body y ≡ body x) → AreAlike new_from mid next one slot
+alike_copied from new_from mid one slot e next same laws still chosen mark settled copied = record {
+  first = λ x now. chosen x (at_end laws still.moments x now);
+  second = λ y now. subst (λ (n : ℕ). HasEpoch slot n y) same (mark.each y now);
+  settled = settled;
+  agree = λ x y told told'. sym (copied x y (sym still.same_contents ∙ told) told');
+}
+
+-- or where the lower one was raised
+pub alike_raised : (from new_from mid new : DiskState) (one slot : Slot) (next : ℕ) → IsLawful new_from → WritesNothing from new_from → ((x : List ℕ) → from.now x → HasEpoch one next x)
+    → ((y : List ℕ) → new.now y → HasEpoch slot next y) → IsSettled new → KeepsBody mid new → ((x y : List ℕ) → from.contents ≡ Some x → mid.contents ≡ Some y → body y ≡ body x) → AreAlike new_from new next one slot
+alike_raised from new_from mid new one slot next laws still chosen raised settled keeps copied = record {
+  first = λ x now. chosen x (at_end laws still.moments x now);
+  second = raised;
+  settled = settled;
+  agree = λ x y told told'. let c = told_before keeps y told' in sym (c.2 ∙ copied x c.0 (sym still.same_contents ∙ told) c.1);
+}
+
+-- the side that was chosen, as it was settled
+pub chosen_image : (from : DiskState) (slot : Slot) (e : ℕ) → IsSettled from → ((x : List ℕ) → from.now x → HasEpoch slot e x) → (x : List ℕ) → from.now x → OfChosen e from x
+chosen_image from slot e settled each x now = record {
+  header = (each x now).header;
+  most = omega (arith, (each x now).epoch_is);
+  told = λ none. absurd (cc (none, settled x now));
+  same = λ d told. ap body (same_Some x d (sym (settled x now) ∙ told));
+}
+
+-- and while it is raised, as the other one is left out
+pub chosen_raised : (from mid new : DiskState) (slot : Slot) (e : ℕ) → IsLawful mid → IsSettled from → ((x : List ℕ) → from.now x → HasEpoch slot e x) → WritesNothing from mid → LeavesOnly mid new (Raising e (e + 1) mid) → LeavesOnly from new (OfChosen e from)
+chosen_raised from mid new slot e laws settled each still raise =
+    joined (weakened still.moments (chosen_image from slot e settled each)) (weakened raise (λ x r. record {
+      header = r.0;
+      most = ⊎_elim (λ (k : (epoch x ≡ e) × ((y : List ℕ) × mid.now y × (body x ≡ body y))). (let le : e ≤ epoch x = omega (arith, k.0) in le)) (λ (k : (epoch x ≡ e + 1) × ((c : List ℕ) × (mid.contents ≡ Some c) × (body x ≡ body c))). (let le : e ≤ epoch x = omega (arith, k.0) in le)) r.1;
+      told = ⊎_elim
+          (λ (k : (epoch x ≡ e) × ((y : List ℕ) × mid.now y × (body x ≡ body y))). (chosen_image from slot e settled each k.1.0 (at_end laws still.moments k.1.0 k.1.1)).told)
+          (λ (k : (epoch x ≡ e + 1) × ((c : List ℕ) × (mid.contents ≡ Some c) × (body x ≡ body c))). λ (none : from.contents ≡ None). absurd (cc (none, still.same_contents, k.1.1)))
+          r.1;
+      same = λ d told. ⊎_elim
+          (λ (k : (epoch x ≡ e) × ((y : List ℕ) × mid.now y × (body x ≡ body y))). k.1.2 ∙ (chosen_image from slot e settled each k.1.0 (at_end laws still.moments k.1.0 k.1.1)).same d told)
+          (λ (k : (epoch x ≡ e + 1) × ((c : List ℕ) × (mid.contents ≡ Some c) × (body x ≡ body c))). k.1.2 ∙ ap body (same_Some k.1.0 d (sym k.1.1 ∙ still.same_contents ∙ told)))
+          r.1;
+    }))

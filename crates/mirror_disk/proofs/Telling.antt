@@ -1,0 +1,101 @@
+-- What a mirror tells after a call.
+use Rattle.std.proofs.Common.{◌≡◌, inl, inr, ℕ, ◌+◌, ◌≤◌, List, length, take, Option, Some, None, refl, sym, ◌∙◌, ap, subst}
+use Rattle.std.specs.Option.{option_map}
+use Rattle.std.proofs.lemmas.Bool.{cases_lt}
+use Rattle.std.proofs.lemmas.List.{drop-drop}
+use Rattle.iso_disk.specs.Disk.{DiskState, Torn, TellsTorn, Splices, spliced}
+use Rattle.iso_disk.proofs.Bytes.{spliced_torn, take-drop-spliced, torn_whole}
+use Rattle.mirror_disk.specs.Becoming.{Becomes, MirrorBecomes}
+use Rattle.mirror_disk.specs.Header.{body, chosen, epoch}
+use Rattle.mirror_disk.specs.Laws.{both_tell}
+use Rattle.mirror_disk.specs.Pairs.{chosen_told}
+use Rattle.mirror_disk.proofs.Epochs.{chosen_first, chosen_second}
+use Rattle.mirror_disk.proofs.Meets.{torn_body}
+
+-- bytes laid behind the header are laid in the mirrored bytes
+pub body-spliced : (c : List ℕ) (at : ℕ) (bytes : List ℕ) → 64 + at + length bytes ≤ length c → body (spliced c (64 + at) bytes) ≡ spliced (body c) at bytes
+body-spliced c at bytes fits = torn_whole bytes (torn_body at (length bytes) (spliced_torn c (64 + at) bytes fits)) (ap (take (length bytes)) (drop-drop at 64 (spliced c (64 + at) bytes)) ∙ take-drop-spliced c (64 + at) bytes fits)
+
+none_told : {o p o' p' : Option (List ℕ)} {R S : List ℕ → List ℕ → Type 0} → Becomes R o o' → Becomes S p p' → chosen_told o p ≡ None → chosen_told o' p' ≡ None
+none_told {o = o} {p = p} {o' = o'} {p' = p'} one two none = by_cases o p refl refl none
+  where
+    no_second : (r : Option (List ℕ)) → chosen_told r None ≡ None
+    no_second (Some x) = refl
+    no_second None = refl
+
+    by_cases : (q r : Option (List ℕ)) → o ≡ q → p ≡ r → chosen_told q r ≡ None → chosen_told o' p' ≡ None
+    by_cases (Some x) (Some y) is is' none = absurd (cc none)
+    by_cases (Some x) None is is' none = ap (chosen_told o') (two.untold is') ∙ no_second o'
+    by_cases None r is is' none = ap (λ (q : Option (List ℕ)). chosen_told q p') (one.untold is)
+
+-- the first side is chosen before and after
+pub told_first : {o p o' p' : Option (List ℕ)} {R S : List ℕ → List ℕ → Type 0} → Becomes R o o' → Becomes S p p'
+    → ((x y : List ℕ) → o ≡ Some x → p ≡ Some y → chosen x y ≡ body x) → ((x y : List ℕ) → o' ≡ Some x → p' ≡ Some y → chosen x y ≡ body x) → MirrorBecomes R (chosen_told o p) (chosen_told o' p')
+told_first {o = o} {p = p} {R = R} one two before after = record {
+  told = λ c is.
+      let t = both_tell o p c is in
+      let x = one.told t.first t.of_first in
+      let y = two.told t.second t.of_second in
+      (body x.0, (λ i. chosen_told (x.1 i) (y.1 i)) ∙ ap Some (after x.0 y.0 x.1 y.1), subst (λ (l : List ℕ). R l (body x.0)) (sym (t.is ∙ before t.first t.second t.of_first t.of_second)) x.2);
+  untold = none_told one two;
+}
+
+-- the second side is, or before the call the first one, which told the same
+pub told_second : {o p o' p' : Option (List ℕ)} {R S : List ℕ → List ℕ → Type 0} → Becomes S o o' → Becomes R p p'
+    → ((x y : List ℕ) → o ≡ Some x → p ≡ Some y → chosen x y ≡ body y) → ((x y : List ℕ) → o' ≡ Some x → p' ≡ Some y → chosen x y ≡ body y) → MirrorBecomes R (chosen_told o p) (chosen_told o' p')
+told_second {o = o} {p = p} {R = R} one two before after = record {
+  told = λ c is.
+      let t = both_tell o p c is in
+      let x = one.told t.first t.of_first in
+      let y = two.told t.second t.of_second in
+      (body y.0, (λ i. chosen_told (x.1 i) (y.1 i)) ∙ ap Some (after x.0 y.0 x.1 y.1), subst (λ (l : List ℕ). R l (body y.0)) (sym (t.is ∙ before t.first t.second t.of_first t.of_second)) y.2);
+  untold = none_told one two;
+}
+
+-- both sides told the same, and each becomes so: whichever is chosen
+pub told_alike : {o p o' p' : Option (List ℕ)} {R : List ℕ → List ℕ → Type 0} → Becomes R o o' → Becomes R p p' → ((x y : List ℕ) → o ≡ Some x → p ≡ Some y → body x ≡ body y) → MirrorBecomes R (chosen_told o p) (chosen_told o' p')
+told_alike {o = o} {p = p} {R = R} one two agree = record {
+  told = λ c is.
+      let t = both_tell o p c is in
+      let x = one.told t.first t.of_first in
+      let y = two.told t.second t.of_second in
+      let same = agree t.first t.second t.of_first t.of_second in
+      let first : c ≡ body t.first = t.is ∙ either t.first t.second same in
+      (chosen x.0 y.0, (λ i. chosen_told (x.1 i) (y.1 i)), subst (λ (l : List ℕ). R l (chosen x.0 y.0)) (sym first) (of_both (body t.first) x.0 y.0 x.2 (subst (λ (l : List ℕ). R l (body y.0)) (sym same) y.2)));
+  untold = none_told one two;
+}
+  where
+    either : (x y : List ℕ) → body x ≡ body y → chosen x y ≡ body x
+    either x y same = elim (cases_lt (epoch x) (epoch y)) [
+      | inl less ↦ chosen_second x y less ∙ sym same
+      | inr not ↦ chosen_first x y not
+    ]
+
+    of_both : (c x y : List ℕ) → R c (body x) → R c (body y) → R c (chosen x y)
+    of_both c x y one two = elim (cases_lt (epoch x) (epoch y)) [
+      | inl less ↦ subst (R c) (sym (chosen_second x y less)) two
+      | inr not ↦ subst (R c) (sym (chosen_first x y not)) one
+    ]
+
+-- a write that was done
+pub splices_of : (at : ℕ) (bytes : List ℕ) (o p : Option (List ℕ)) → MirrorBecomes (λ c d. d ≡ spliced c at bytes) o p → p ≡ option_map (λ (c : List ℕ). spliced c at bytes) o
+splices_of at bytes (Some c) p becomes = let d = becomes.told c refl in d.1 ∙ ap Some d.2
+splices_of at bytes None p becomes = becomes.untold refl
+
+-- a side that did a write behind its header
+pub becomes_spliced : (old new : DiskState) (at : ℕ) (bytes : List ℕ) → ((c : List ℕ) → old.contents ≡ Some c → 64 + at + length bytes ≤ length c) → Splices (64 + at) bytes old new → Becomes (λ c d. d ≡ spliced c at bytes) old.contents new.contents
+becomes_spliced old new at bytes fits written = record {
+  told = λ x is. (spliced x (64 + at) bytes, written ∙ ap (option_map (λ (c : List ℕ). spliced c (64 + at) bytes)) is, body-spliced x at bytes (fits x is));
+  untold = λ is. written ∙ ap (option_map (λ (c : List ℕ). spliced c (64 + at) bytes)) is;
+}
+
+-- one that failed in it
+pub becomes_torn : (old new : DiskState) (at n : ℕ) → TellsTorn (64 + at) n old new → Becomes (Torn at n) old.contents new.contents
+becomes_torn old new at n tells = record { told = λ x is. let d = tells.told x is in (d.0, d.1, torn_body at n d.2); untold = tells.untold }
+
+-- one that was raised, behind such a call
+pub becomes_raised : {o p q : Option (List ℕ)} {R : List ℕ → List ℕ → Type 0} → Becomes R o p → Becomes (λ c d. d ≡ c) p q → Becomes R o q
+becomes_raised {R = R} one two = record {
+  told = λ x is. let y = one.told x is in let z = two.told y.0 y.1 in (z.0, z.1, subst (R (body x)) (sym z.2) y.2);
+  untold = λ is. two.untold (one.untold is);
+}

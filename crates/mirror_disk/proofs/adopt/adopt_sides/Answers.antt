@@ -1,0 +1,46 @@
+use Rattle.std.proofs.Common.{inl, inr}
+use Rattle.iso_disk.proofs.Moments.{starts_unwritten}
+use Rattle.mirror_disk.proofs.Adopted.{choice_fails, ended_early, mark_of, told_header}
+use Rattle.mirror_disk.proofs.adopt.adopt_sides.Goals as goal
+
+pub returns-then-size-other-clause-kept : goal.returns-then-size-other-clause-kept
+returns-then-size-other-clause-kept g c =
+    let law_a = g.met.A.Disk.lawful c.args.first.now in
+    let law_b = g.met.B.Disk.lawful c.args.second.now in
+    (c.args.first.now, c.args.second.now, ended_early law_a law_b (starts_unwritten law_a) (starts_unwritten law_b))
+
+pub returns-in_default-clause-kept : goal.returns-in_default-clause-kept
+returns-in_default-clause-kept g c =
+    let call = c.read_headers in
+    (call.new.first, call.new.second, ended_early (g.met.A.Disk.lawful call.new.first) (g.met.B.Disk.lawful call.new.second) call.ensures.first_unwritten call.ensures.second_unwritten)
+
+pub returns-in_default-one-clause-kept : goal.returns-in_default-one-clause-kept
+returns-in_default-one-clause-kept g c =
+    let call = c.read_headers in
+    (call.new.first, call.new.second, ended_early (g.met.A.Disk.lawful call.new.first) (g.met.B.Disk.lawful call.new.second) call.ensures.first_unwritten call.ensures.second_unwritten)
+
+pub returns-in_default-two-clause-kept : goal.returns-in_default-two-clause-kept
+returns-in_default-two-clause-kept g c =
+    let call = c.read_headers in
+    (call.new.first, call.new.second, ended_early (g.met.A.Disk.lawful call.new.first) (g.met.B.Disk.lawful call.new.second) call.ensures.first_unwritten call.ensures.second_unwritten)
+
+pub returns-in_default-two-clause-not_second : goal.returns-in_default-two-clause-not_second
+returns-in_default-two-clause-not_second g c is =
+    let call = c.read_headers in
+    (c.in-Ok.ensures.not_second c.in_default-two.is, told_header (g.met.A.Disk.lawful call.new.first) call.ensures.first_unwritten c.in-Ok.one c.in-Some.one c.in-Some.is c.in-Ok.ensures.first_mark)
+
+pub returns-in_default-two-clause-cause : goal.returns-in_default-two-clause-cause
+returns-in_default-two-clause-cause g c = inr (inr (inr (c.in-Ok.ensures.not_second c.in_default-two.is)))
+
+pub returns-in_default-clause-choice : goal.returns-in_default-clause-choice
+returns-in_default-clause-choice g c is = (c.read_headers.new.first, c.read_headers.new.second, inl c.in_default.ensures.cause)
+
+pub returns-in-Err-clause-choice : goal.returns-in-Err-clause-choice
+returns-in-Err-clause-choice g c is =
+    let call = c.read_headers in (
+      call.new.first,
+      call.new.second,
+      choice_fails (g.A.Disk.state c.args.first.now) (g.B.Disk.state c.args.second.now) (g.A.Disk.state call.new.first) (g.B.Disk.state call.new.second) (g.A.Disk.state c.settle_on.new.first) (g.B.Disk.state c.settle_on.new.second) c.in-Some.one c.in-Some-two.two
+          (g.met.A.Disk.lawful call.new.first) (g.met.B.Disk.lawful call.new.second) call.ensures.first_unwritten call.ensures.second_unwritten
+          (mark_of (g.A.Disk.state call.new.first) c.in-Ok.one c.in-Some.one c.in-Some.is c.in-Ok.ensures.first_mark) (mark_of (g.B.Disk.state call.new.second) c.in-Ok.two c.in-Some-two.two c.in-Some-two.is c.in-Ok.ensures.second_mark) c.in-Err.ensures.first_cause c.in-Err.ensures.second_cause,
+    )

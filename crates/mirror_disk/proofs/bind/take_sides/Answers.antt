@@ -1,0 +1,11 @@
+use Rattle.mirror_disk.specs.Pairs.{first_name, second_name}
+use Rattle.mirror_disk.proofs.Blank.{named_taken}
+use Rattle.mirror_disk.proofs.bind.take_sides.Goals as goal
+
+pub returns-in-Ok-clause-existing : goal.returns-in-Ok-clause-existing
+returns-in-Ok-clause-existing g c =
+    let a = g.A.Disk.state c.args.first.now in
+    let b = g.B.Disk.state c.args.second.now in
+    let name = c.args.name.now in
+    named_taken (a.named (first_name name)) (b.named (second_name name)) (g.A.Disk.state c.bind_side.new.side).contents (g.B.Disk.state c.bind_side-2.new.side).contents (g.A.Disk.state c.adopt_sides.new.first).contents (g.B.Disk.state c.adopt_sides.new.second).contents
+    c.in_ok-bind_side.ensures.existing c.in_ok-bind_side-2.ensures.existing c.adopt_sides.ensures.contents

@@ -1,0 +1,61 @@
+use Rattle.std.proofs.Common.{◌≡◌, ◌≤◌, ◌+◌, ℕ, length, take, drop, sym, ◌∙◌, ap, subst, arith, length-append, length-drop, length-take-le}
+use Rattle.iso_disk.specs.Disk.{spliced}
+use Rattle.iso_disk.proofs.Moments.{joined_unwritten}
+use Rattle.iso_disk.proofs.Ranges.{runs_inside}
+use Rattle.mirror_disk.specs.Header.{body}
+use Rattle.mirror_disk.proofs.Copying.{copied_all, copied_more, length-body, torn_more}
+use Rattle.mirror_disk.proofs.copy.copy_body.Goals as goal
+
+pub returns-in_err-copy_piece-clause-torn : goal.returns-in_err-copy_piece-clause-torn
+returns-in_err-copy_piece-clause-torn g c =
+    let len : length (take c.min-len.result c.loop-done.piece) ≡ c.min-len.result = length-take-le c.min-len.result c.loop-done.piece (omega (arith, c.min-len.ensures, c.loop-done.invariant.size)) in
+    torn_more 64 c.args.count (64 + c.loop-done.done) _ (omega arith) (omega (arith, len, c.min-len.ensures, c.loop-done.invariant.within)) c.loop-done.invariant.torn c.copy_piece.ensures.torn
+
+pub returns-in_err-copy_piece-clause-moments : goal.returns-in_err-copy_piece-clause-moments
+returns-in_err-copy_piece-clause-moments g c =
+    let len : length (take c.min-len.result c.loop-done.piece) ≡ c.min-len.result = length-take-le c.min-len.result c.loop-done.piece (omega (arith, c.min-len.ensures, c.loop-done.invariant.size)) in
+    runs_inside 64 c.args.count (64 + c.loop-done.done) _ (omega arith) (omega (arith, len, c.min-len.ensures, c.loop-done.invariant.within)) (g.met.O.Disk.lawful c.loop-done.to) c.loop-done.invariant.moments c.copy_piece.ensures.moments
+
+pub returns-then-not-branch-clause-torn : goal.returns-then-not-branch-clause-torn
+returns-then-not-branch-clause-torn g c =
+    let len : length (take c.min-len.result c.loop-done.piece) ≡ c.min-len.result = length-take-le c.min-len.result c.loop-done.piece (omega (arith, c.min-len.ensures, c.loop-done.invariant.size)) in
+    torn_more 64 c.args.count (64 + c.loop-done.done) _ (omega arith) (omega (arith, len, c.min-len.ensures, c.loop-done.invariant.within)) c.loop-done.invariant.torn c.copy_piece.ensures.torn
+
+pub returns-then-not-branch-clause-moments : goal.returns-then-not-branch-clause-moments
+returns-then-not-branch-clause-moments g c =
+    let len : length (take c.min-len.result c.loop-done.piece) ≡ c.min-len.result = length-take-le c.min-len.result c.loop-done.piece (omega (arith, c.min-len.ensures, c.loop-done.invariant.size)) in
+    runs_inside 64 c.args.count (64 + c.loop-done.done) _ (omega arith) (omega (arith, len, c.min-len.ensures, c.loop-done.invariant.within)) (g.met.O.Disk.lawful c.loop-done.to) c.loop-done.invariant.moments c.copy_piece.ensures.moments
+
+pub loop-done-preserved : goal.loop-done-preserved
+loop-done-preserved g c =
+    let so_far = c.loop-done.invariant in
+    let done = c.loop-done.done in
+    let n = c.min-len.result in
+    let len : length (take n c.loop-done.piece) ≡ n = length-take-le n c.loop-done.piece (omega (arith, c.min-len.ensures, so_far.size)) in
+    let fits : done + n ≤ c.args.count = omega (arith, c.min-len.ensures, so_far.within) in
+    let ends : 64 + done + length (take n c.loop-done.piece) ≤ 64 + c.args.count = omega (arith, len, fits) in
+    let law_from = g.met.C.Disk.lawful c.args.from.now in
+    let law_to = g.met.O.Disk.lawful c.loop-done.to in
+    record {
+      within = fits;
+      size = omega (arith, length-append c.copy_piece.new.piece (drop n c.loop-done.piece), length-drop n c.loop-done.piece, c.copy_piece.auto.piece, len, c.min-len.ensures, so_far.size);
+      unwritten = joined_unwritten (g.met.C.Disk.lawful c.loop-done.from) so_far.unwritten c.copy_piece.ensures.unwritten;
+      moments = runs_inside 64 c.args.count (64 + done) _ (omega arith) ends law_to so_far.moments c.copy_piece.ensures.moments;
+      torn = torn_more 64 c.args.count (64 + done) _ (omega arith) ends so_far.torn c.copy_piece.ensures.torn;
+      alike = λ x y told told'.
+          let z = c.in_ok-copy_piece.ensures.copied c.if-not-branch.false x y (so_far.unwritten.same_contents ∙ told) told' in
+          let one = length-body c.args.count law_from c.requires.from x told in
+          let two = length-body c.args.count law_to (so_far.moments.same_size ∙ c.requires.to) z.0 z.1 in
+          copied_more (body x) (body z.0) (body y) done n (two ∙ sym one) (omega (arith, two, fits)) (so_far.alike x z.0 told z.1) (z.2 ∙ ap (λ (m : ℕ). spliced (body z.0) done (take m (drop done (body x)))) len);
+      faults = c.in_ok-copy_piece.ensures.cause.passed ∙ so_far.faults;
+      later = omega (arith, so_far.later, c.copy_piece.ensures.later);
+    }
+
+pub returns-clause-alike : goal.returns-clause-alike
+returns-clause-alike g c done x y told told' =
+    let so_far = c.loop-done.invariant in
+    let all : c.loop-done.done ≡ c.args.count = omega (arith, so_far.within, c.loop-done-test.false) in
+    let here = sym c.sync.ensures.contents ∙ told' in
+    let one = length-body c.args.count (g.met.C.Disk.lawful c.args.from.now) c.requires.from x told in
+    let two = length-body c.args.count (g.met.O.Disk.lawful c.loop-done.to) (so_far.moments.same_size ∙ c.requires.to) y here in
+    copied_all (body x) (body y) c.args.count one two (subst (λ (m : ℕ). take m (body y) ≡ take m (body x)) all (so_far.alike x y told here))

@@ -1,0 +1,34 @@
+use Rattle.std.proofs.Common.{◌≡◌, ◌≤◌, ◌+◌, ℕ, List, subst, arith}
+use Rattle.iso_disk.specs.Disk.{TornFrom}
+use Rattle.iso_disk.proofs.Moments.{at_end, weakened}
+use Rattle.commit_gate.specs.Gate.{IsOpen}
+use Rattle.mirror_disk.specs.Raised.{HoldsEpoch}
+use Rattle.mirror_disk.specs.Slots.{place, other}
+use Rattle.mirror_disk.proofs.Epochs.{inside}
+use Rattle.mirror_disk.proofs.Raises.{by_result, keeps_spliced, keeps_torn, ok_weaker, open_image, raised_image}
+use Rattle.mirror_disk.proofs.raise.open_slot.Goals as goal
+
+at : {g : ℕ} (k : ℕ) → g ≡ k → {n : ℕ} {images : List ℕ → Type 0} (x : List ℕ) → TornFrom g n images x → TornFrom k n images x
+at k is {n = n} {images = images} x t = subst (λ (m : ℕ). TornFrom m n images x) is t
+
+pub returns-clause-moments : goal.returns-clause-moments
+returns-clause-moments g c e each le =
+    let old = g.D.Disk.state c.args.disk.now in
+    let gate = c.requires.gate in
+    weakened c.open_gate.ensures.moments (λ x t. open_image old c.args.slot e c.args.next c.requires.settled each le c.requires.last (λ y now. subst (λ (m : ℕ). HoldsEpoch m c.args.next y) gate (c.requires.holds y now)) x (at (place (other c.args.slot)) gate x t))
+
+pub returns-clause-raised : goal.returns-clause-raised
+returns-clause-raised g c =
+    let old = g.D.Disk.state c.args.disk.now in
+    let new = c.open_gate.new.disk in
+    let gate = c.requires.gate in
+    let e = c.requires.marked in
+    ok_weaker c.open_gate.result (λ is_open x now. raised_image old c.args.slot e.0 c.args.next e.1 e.2 c.requires.last (λ y was. subst (λ (m : ℕ). HoldsEpoch m c.args.next y) gate (c.requires.holds y was)) x
+    (at (place (other c.args.slot)) gate x (at_end (g.met.D.Disk.lawful new) c.open_gate.ensures.moments x now)) (subst (λ (m : ℕ). IsOpen m x) gate (is_open x now))) c.open_gate.ensures.open
+
+pub returns-clause-body : goal.returns-clause-body
+returns-clause-body g c =
+    let within : c.args.gate + 1 ≤ 64 = omega (arith, c.requires.gate, inside c.args.slot) in
+    by_result c.open_gate.result c.open_gate.ensures.written c.open_gate.ensures.failed
+    (λ written. keeps_spliced c.args.gate _ (g.met.D.Disk.lawful c.args.disk.now) c.requires.size within written)
+    (λ failed. keeps_torn c.args.gate 1 within failed)

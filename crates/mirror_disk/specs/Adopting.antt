@@ -1,0 +1,54 @@
+-- What an adopt makes of the side that it chose, and of the other one.
+use Rattle.std.specs.Prelude.{◌≡◌, ◌≢◌, ◌⊎◌, ℕ, ◌<◌, ◌≤◌, List, Some, None}
+use Rattle.std.specs.Option.{ForSome}
+use Rattle.fault_count.specs.Count.{Rose}
+use Rattle.iso_disk.specs.Disk.{DiskState, IsSettled, WritesNothing}
+use Rattle.mirror_disk.specs.declared.slot.Slot.{Slot}
+use Rattle.mirror_disk.specs.Header.{IsHeader, body, chosen, epoch, last_epoch}
+use Rattle.mirror_disk.specs.Pairs.{ChosenOf}
+use Rattle.mirror_disk.specs.Raised.{HasEpoch}
+
+-- an image of the side that was chosen: its epoch or a larger one, and the mirrored bytes that it told at the start
+pub record OfChosen (e : ℕ) (start : DiskState) (image : List ℕ) : Type 0 where
+  pub header : IsHeader image
+  pub most : e ≤ epoch image
+  pub told : start.contents ≢ None
+  pub same : (d : List ℕ) → start.contents ≡ Some d → body image ≡ body d
+
+-- an image of the other side: no larger epoch than before, or that of the chosen one with its mirrored bytes
+pub record OfOther (e next : ℕ) (start side : DiskState) (image : List ℕ) : Type 0 where
+  pub header : IsHeader image
+  pub told : side.contents ≢ None
+  pub either : (epoch image ≤ e) ⊎ ((epoch image ≡ next) × ((d : List ℕ) → start.contents ≡ Some d → body image ≡ body d))
+
+-- both sides have this epoch in these slots, and the same mirrored bytes, which are stable
+pub record AreAlike (a b : DiskState) (e : ℕ) (one two : Slot) : Type 0 where
+  pub first : (x : List ℕ) → a.now x → HasEpoch one e x
+  pub second : (y : List ℕ) → b.now y → HasEpoch two e y
+  pub settled : IsSettled b
+  pub agree : (x y : List ℕ) → a.contents ≡ Some x → b.contents ≡ Some y → body x ≡ body y
+
+-- a disk tells its bytes after a run exactly where it told them before
+pub record TellsOn (old new : DiskState) : Type 0 where
+  pub told : old.contents ≢ None → new.contents ≢ None
+  pub untold : old.contents ≡ None → new.contents ≡ None
+
+-- Sides that were given, that were made stable and read, and that were adopted. What is chosen at each moment is chosen of a
+-- pair of images of the stable sides, which were among those that the sides might leave as they were given.
+pub record AdoptsFrom (a b mid_a mid_b new_a new_b : DiskState) : Type 0 where
+  pub first_before : WritesNothing a mid_a
+  pub second_before : WritesNothing b mid_b
+  pub kept : (x y : List ℕ) → new_a.left mid_a.clock x → new_b.left mid_b.clock y → ChosenOf mid_a.now mid_b.now (chosen x y)
+
+-- A side failed: before the choice, or the chosen one did, or the other one while there is no larger epoch. The choice is by what
+-- the sides told.
+abbrev pub AdoptFails : (a b mid_a mid_b new_a new_b : DiskState) → Type 0
+AdoptFails a b mid_a mid_b new_a new_b =
+    (Rose a.faults mid_a.faults ⊎ Rose b.faults mid_b.faults)
+    ⊎ ForSome a.contents (λ x. ForSome b.contents (λ y.
+    (epoch y ≤ epoch x → Rose mid_a.faults new_a.faults ⊎ ((last_epoch ≤ epoch x) × Rose mid_b.faults new_b.faults))
+    × (epoch x < epoch y → Rose mid_b.faults new_b.faults ⊎ ((last_epoch ≤ epoch y) × Rose mid_a.faults new_a.faults))))
+
+-- two sides that are not taken for a mirror: they differ in size, or one has no header
+abbrev pub AdoptRefuses : DiskState → DiskState → Type 0
+AdoptRefuses a b = (a.size ≢ b.size) ⊎ (ForSome a.contents (λ c. IsHeader c → ⊥) ⊎ ForSome b.contents (λ c. IsHeader c → ⊥))

@@ -1,0 +1,12 @@
+pub mod Adopting
+pub mod Becoming
+pub mod Ended
+pub mod Failing
+pub mod Header
+pub mod Laws
+pub mod Pairs
+pub mod Past
+pub mod Raised
+pub mod Slots
+pub mod Standing
+pub mod State

@@ -1,0 +1,41 @@
+-- What a crash may leave of a side while its epoch is raised.
+use Rattle.std.specs.Prelude.{◌≡◌, ◌⊎◌, ℕ, ◌+◌, List, take, drop, replicate, Some, None}
+use Rattle.iso_disk.specs.Disk.{DiskState}
+use Rattle.mirror_disk.specs.declared.slot.Slot.{Slot}
+use Rattle.mirror_disk.specs.Header.{IsHeader, slot_epoch, epoch, body, number_at}
+use Rattle.mirror_disk.specs.Slots.{place}
+
+-- the image has a header with this epoch, and this slot holds it
+pub record HasEpoch (slot : Slot) (e : ℕ) (image : List ℕ) : Type 0 where
+  pub epoch_is : epoch image ≡ e
+  pub slot_is : slot_epoch (place slot) image ≡ e
+  pub header : IsHeader image
+
+-- what stands behind this gate: seven zeros, and the epoch
+pub record HoldsEpoch (gate e : ℕ) (image : List ℕ) : Type 0 where
+  pub zeros : take 7 (drop (gate + 1) image) ≡ replicate 7 0
+  pub number : number_at (gate + 8) image ≡ e
+
+-- every image that a crash now may leave has this epoch, and the header of what is told
+pub record IsMarked (slot : Slot) (e : ℕ) (d : DiskState) : Type 0 where
+  pub each : (x : List ℕ) → d.now x → HasEpoch slot e x
+  pub fronts : (x c : List ℕ) → d.now x → d.contents ≡ Some c → take 64 x ≡ take 64 c
+  pub told : (x : List ℕ) → d.now x → (c : List ℕ) × (d.contents ≡ Some c)
+
+-- a header with the old epoch and the mirrored bytes of an image of before, or the next one with those that were told
+abbrev pub Raising : (e next : ℕ) → DiskState → List ℕ → Type 0
+Raising e next old image =
+    IsHeader image × (((epoch image ≡ e) × ((x : List ℕ) × old.now x × (body image ≡ body x)))
+    ⊎ ((epoch image ≡ next) × ((c : List ℕ) × (old.contents ≡ Some c) × (body image ≡ body c))))
+
+-- what is told of the mirrored bytes stays
+pub record KeepsBody (old new : DiskState) : Type 0 where
+  pub told : (c : List ℕ) → old.contents ≡ Some c → (d : List ℕ) × (new.contents ≡ Some d) × (body d ≡ body c)
+  pub untold : old.contents ≡ None → new.contents ≡ None
+
+-- the epoch of before in this slot, with the mirrored bytes of an image of before
+pub record Still (slot : Slot) (e : ℕ) (old : DiskState) (image : List ℕ) : Type 0 where
+  pub marked : HasEpoch slot e image
+  pub was : List ℕ
+  pub is_old : old.now was
+  pub same : body image ≡ body was

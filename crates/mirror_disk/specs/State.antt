@@ -1,0 +1,42 @@
+-- The state of a mirror by its fields.
+use Rattle.std.specs.Prelude.{ℕ, ◌<◌, ◌^◌, List, Option, None}
+use Rattle.std.proofs.Common.{arith, lit<}
+use Rattle.iso_disk.specs.Disk.{DiskState, IsLawful}
+use Rattle.iso_disk.specs.declared.disk.Disk.{Ghosts}
+use Rattle.iso_disk.specs.Untold.{untold, untold_is_lawful}
+use Rattle.mirror_disk.specs.declared.slot.Slot.{Slot}
+use Rattle.mirror_disk.specs.declared.used.Used.{Used}
+use Rattle.mirror_disk.specs.declared.used.Used.TheVariants.{Plain, Both, OnlyFirst, OnlySecond, Broken, Unbound}
+use Rattle.mirror_disk.specs.Laws.{lawful}
+use Rattle.mirror_disk.specs.declared.mirror.Mirror.{Mirror}
+use Rattle.mirror_disk.specs.Pairs.{named_by}
+use Rattle.mirror_disk.specs.Standing.{Stands, state_in}
+
+abbrev pub state_of : {A B : Type 0} {g : Ghosts A} {h : Ghosts B} → Mirror A B g h → DiskState
+state_of {g = g} {h = h} m = state_in m.marks.used (g.state m.first) (h.state m.second) m.past m.faults m.binds
+
+size_in : (used : Used) (a b : DiskState) (past : List (ℕ × ℕ)) (faults binds : ℕ) → a.size < 2 ^ 64 → (state_in used a b past faults binds).size < 2 ^ 64
+size_in Plain a b past faults binds fits = fits
+size_in Both a b past faults binds fits = omega (arith, fits)
+size_in OnlyFirst a b past faults binds fits = omega (arith, fits)
+size_in OnlySecond a b past faults binds fits = omega (arith, fits)
+size_in Broken a b past faults binds fits = omega (arith, fits)
+size_in Unbound a b past faults binds fits = lit< tt
+
+plain_lawful : (a : DiskState) (faults binds : ℕ) (named : List ℕ → Option (List ℕ)) → IsLawful a → IsLawful (record a { faults = faults; binds = binds; named = named })
+plain_lawful a faults binds named laws = record { reads_as_image = laws.reads_as_image; counts_now = laws.counts_now; only_now = laws.only_now; counts_later = laws.counts_later; image_size = laws.image_size; told_bytes = laws.told_bytes }
+
+lawful_in : (used : Used) (a b : DiskState) (past : List (ℕ × ℕ)) (e faults binds : ℕ) (one two : Slot) → Stands a b used past e one two → IsLawful a → IsLawful b → IsLawful (state_in used a b past faults binds)
+lawful_in Plain a b past e faults binds one two stands first second = plain_lawful a faults binds (named_by a b) first
+lawful_in Both a b past e faults binds one two stands first second = let pair = stands.pair ((λ is. cc is), (λ is. cc is)) in lawful past faults binds first second pair.sizes pair.rising
+lawful_in OnlyFirst a b past e faults binds one two stands first second = let pair = stands.pair ((λ is. cc is), (λ is. cc is)) in lawful past faults binds first second pair.sizes pair.rising
+lawful_in OnlySecond a b past e faults binds one two stands first second = let pair = stands.pair ((λ is. cc is), (λ is. cc is)) in lawful past faults binds first second pair.sizes pair.rising
+lawful_in Broken a b past e faults binds one two stands first second = let pair = stands.pair ((λ is. cc is), (λ is. cc is)) in lawful past faults binds first second pair.sizes pair.rising
+lawful_in Unbound a b past e faults binds one two stands first second = plain_lawful (untold 0 faults binds None) faults binds (named_by a b) (untold_is_lawful 0 faults binds None)
+
+-- the laws of the trait
+pub mirror_size : {A B : Type 0} {g : Ghosts A} {h : Ghosts B} → ((a : A) → (g.state a).size < 2 ^ 64) → (m : Mirror A B g h) → (state_of m).size < 2 ^ 64
+mirror_size {g = g} {h = h} fits m = size_in m.marks.used (g.state m.first) (h.state m.second) m.past m.faults m.binds (fits m.first)
+
+pub mirror_lawful : {A B : Type 0} {g : Ghosts A} {h : Ghosts B} → ((a : A) → IsLawful (g.state a)) → ((b : B) → IsLawful (h.state b)) → (m : Mirror A B g h) → IsLawful (state_of m)
+mirror_lawful {g = g} {h = h} one two m = lawful_in m.marks.used (g.state m.first) (h.state m.second) m.past m.marks.epoch m.faults m.binds m.marks.first_slot m.marks.second_slot m.stands (one m.first) (two m.second)

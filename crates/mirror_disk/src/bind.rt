@@ -1,0 +1,185 @@
+// Binding a mirror to a name.
+ghost use Rattle.std.specs.Prelude.{◌≡◌, ◌≢◌, ◌⊎◌, ◌+◌, ◌-◌, ◌^◌, ◌<◌, ◌≤◌, [], ℕ, List, Some, None, true, false, length, replicate, IfOk, OnOk, OnErr, IfNone, IfSome, IsSome};
+ghost use Rattle.std.specs.Option.{ForSome};
+ghost use Rattle.iso_disk.specs.Disk.{IsSettled};
+ghost use Rattle.fault_count.specs.Count.{HasCause, Rose, one_more};
+ghost use Rattle.mirror_disk.specs.Adopting.{AdoptRefuses};
+ghost use Rattle.mirror_disk.specs.Pairs.{chosen_told, first_name, mirrored, names_mirror, second_name};
+ghost use Rattle.mirror_disk.specs.Standing.{IsPair, StandsBy, state_by};
+
+use crate::adopt::adopt_sides;
+use crate::header::lay_header;
+use crate::marks::Marks;
+use crate::mirror::Mirror;
+use crate::name::{LONGEST, bind_side, is_mirror};
+use crate::parts::count;
+use crate::past::Past;
+use crate::sides::HEADER;
+use crate::used::Used;
+use fault_count::raise;
+use iso_disk::{Disk, DiskFault, Image};
+
+/// The largest size of a mirror.
+const LARGEST: u64 = u64::MAX - HEADER;
+
+/// What the name of the first side ends with.
+const FIRST: u8 = b'0';
+
+/// What that of the second one ends with.
+const SECOND: u8 = b'1';
+
+impl<A: Image, B: Image> Image for Mirror<A, B> {
+    ghost use Rattle.mirror_disk.specs.State.{state_of};
+
+    /// Under a name that does not end in `+` the mirror is its first side alone, with nothing added. Under one that does,
+    /// both sides are bound, to that name with `0` and with `1` behind it, each 64 bytes longer: with a size two headers are
+    /// laid, with none the sides are adopted. After an error the mirror is unbound: it has no byte, and each call fails.
+    fn bind(&mut self, name: &str, want: Option<u64>) -> Result<(), DiskFault>
+        ensures size { OnOk result (IfSome want (λ w. (state_of self.new).size ≡ w)) }
+        ensures blank { OnOk result (IfSome want (λ w. ForSome (state_of self.new).contents (λ c. c ≡ replicate w 0))) }
+        ensures blank_after_crash { OnOk result (IfSome want (λ w. (c : List ℕ) → (state_of self.new).now c → c ≡ replicate w 0)) }
+        ensures existing { OnOk result (IfNone want (ForSome ((state_of self.old).named name.now) (λ c. (state_of self.new).contents ≡ Some c))) }
+        ensures settled { OnOk result (IfNone want (IsSettled (state_of self.new))) }
+        ensures told { OnOk result (IsSome ((state_of self.old).named name.now) → IsSome (state_of self.new).contents) }
+        ensures bound { OnOk result ((state_of self.new).bound ≡ Some ((state_of self.new).clock, name.now)) }
+        ensures unbound { OnErr result ((state_of self.new).bound ≡ None) }
+        ensures counted { (state_of self.new).binds ≡ one_more (state_of self.old).binds }
+        ensures cause { HasCause (state_of self.old).faults (state_of self.new).faults result }
+        ensures first_fails { OnErr result (names_mirror name.now ≡ false → Rose (A.state self.old.first).faults (A.state self.new.first).faults) }
+        ensures fails { OnErr result (names_mirror name.now ≡ true → ((Rose (A.state self.old.first).faults (A.state self.new.first).faults ⊎ Rose (B.state self.old.second).faults (B.state self.new.second).faults) ⊎ (((4095 < length name.now) ⊎ IfSome want (λ w. 2 ^ 64 - 65 < w)) ⊎ ((want ≡ None) × ((x : A) × (y : B) × AdoptRefuses (A.state x) (B.state y)))))) }
+    {
+        raise(&mut self.binds);
+        bind_parts(
+            &mut self.first,
+            &mut self.second,
+            &mut self.marks,
+            &mut self.past,
+            &mut self.faults,
+            name,
+            want,
+        )
+    }
+}
+
+/// Binds both sides to new names, and lays a header on each.
+fn make_sides<A: Image, B: Image>(
+    first: &mut A,
+    second: &mut B,
+    name: &str,
+    size: u64,
+) -> Result<Marks, DiskFault>
+    requires short { length name.now ≤ 4095 }
+    requires room { size + 64 < 2 ^ 64 }
+    ensures pair { IfOk result (λ m. IsPair m.used) }
+    ensures stands { IfOk result (λ m. StandsBy (A.state first.new) (B.state second.new) m []) }
+    ensures size { OnOk result ((A.state first.new).size ≡ size + 64) }
+    ensures blank { OnOk result (ForSome (chosen_told (A.state first.new).contents (B.state second.new).contents) (λ c. c ≡ replicate size 0)) }
+    ensures blank_after_crash { OnOk result ((c : List ℕ) → (mirrored (A.state first.new) (B.state second.new) [] 0 0).now c → c ≡ replicate size 0) }
+    ensures told { OnOk result (IsSome (chosen_told ((A.state first.old).named (first_name name.now)) ((B.state second.old).named (second_name name.now))) → IsSome (chosen_told (A.state first.new).contents (B.state second.new).contents)) }
+    ensures bound { OnOk result ((t : ℕ) × ((A.state first.new).bound ≡ Some (t, first_name name.now))) }
+    ensures cause { OnErr result (Rose (A.state first.old).faults (A.state first.new).faults ⊎ Rose (B.state second.old).faults (B.state second.new).faults) }
+    ensures later { ((A.state first.old).faults ≤ (A.state first.new).faults) × ((B.state second.old).faults ≤ (B.state second.new).faults) }
+{
+    bind_side(first, name, FIRST, Some(size + HEADER))?;
+    bind_side(second, name, SECOND, Some(size + HEADER))?;
+    lay_header(first)?;
+    lay_header(second)?;
+    Ok(Marks::blank())
+}
+
+/// Binds both sides to the names that they have, and adopts them.
+fn take_sides<A: Image, B: Image>(
+    first: &mut A,
+    second: &mut B,
+    name: &str,
+) -> Result<Marks, DiskFault>
+    requires { length name.now ≤ 4095 }
+    ensures pair { IfOk result (λ m. IsPair m.used) }
+    ensures stands { IfOk result (λ m. StandsBy (A.state first.new) (B.state second.new) m []) }
+    ensures existing { OnOk result (ForSome (chosen_told ((A.state first.old).named (first_name name.now)) ((B.state second.old).named (second_name name.now))) (λ c. (chosen_told (A.state first.new).contents (B.state second.new).contents) ≡ Some c)) }
+    ensures settled { OnOk result (IsSettled (mirrored (A.state first.new) (B.state second.new) [] 0 0)) }
+    ensures bound { OnOk result ((t : ℕ) × ((A.state first.new).bound ≡ Some (t, first_name name.now))) }
+    ensures cause { OnErr result ((Rose (A.state first.old).faults (A.state first.new).faults ⊎ Rose (B.state second.old).faults (B.state second.new).faults) ⊎ ((x : A) × (y : B) × AdoptRefuses (A.state x) (B.state y))) }
+    ensures later { ((A.state first.old).faults ≤ (A.state first.new).faults) × ((B.state second.old).faults ≤ (B.state second.new).faults) }
+{
+    bind_side(first, name, FIRST, None)?;
+    bind_side(second, name, SECOND, None)?;
+    match adopt_sides(first, second) {
+        Ok(marks) => Ok(marks),
+        Err(_) => Err(DiskFault),
+    }
+}
+
+/// Binds both sides under a name of a mirror.
+fn bind_sides<A: Image, B: Image>(
+    first: &mut A,
+    second: &mut B,
+    name: &str,
+    want: Option<u64>,
+) -> Result<Marks, DiskFault>
+    ensures pair { IfOk result (λ m. IsPair m.used) }
+    ensures stands { IfOk result (λ m. StandsBy (A.state first.new) (B.state second.new) m []) }
+    ensures size { OnOk result (IfSome want (λ w. (A.state first.new).size ≡ w + 64)) }
+    ensures blank { OnOk result (IfSome want (λ w. ForSome (chosen_told (A.state first.new).contents (B.state second.new).contents) (λ c. c ≡ replicate w 0))) }
+    ensures blank_after_crash { OnOk result (IfSome want (λ w. (c : List ℕ) → (mirrored (A.state first.new) (B.state second.new) [] 0 0).now c → c ≡ replicate w 0)) }
+    ensures existing { OnOk result (IfNone want (ForSome (chosen_told ((A.state first.old).named (first_name name.now)) ((B.state second.old).named (second_name name.now))) (λ c. (chosen_told (A.state first.new).contents (B.state second.new).contents) ≡ Some c))) }
+    ensures settled { OnOk result (IfNone want (IsSettled (mirrored (A.state first.new) (B.state second.new) [] 0 0))) }
+    ensures told { OnOk result (IsSome (chosen_told ((A.state first.old).named (first_name name.now)) ((B.state second.old).named (second_name name.now))) → IsSome (chosen_told (A.state first.new).contents (B.state second.new).contents)) }
+    ensures bound { OnOk result ((t : ℕ) × ((A.state first.new).bound ≡ Some (t, first_name name.now))) }
+    ensures cause { OnErr result ((Rose (A.state first.old).faults (A.state first.new).faults ⊎ Rose (B.state second.old).faults (B.state second.new).faults) ⊎ (((4095 < length name.now) ⊎ IfSome want (λ w. 2 ^ 64 - 65 < w)) ⊎ ((want ≡ None) × ((x : A) × (y : B) × AdoptRefuses (A.state x) (B.state y))))) }
+    ensures later { ((A.state first.old).faults ≤ (A.state first.new).faults) × ((B.state second.old).faults ≤ (B.state second.new).faults) }
+{
+    if name.len() > LONGEST {
+        return Err(DiskFault);
+    }
+    match want {
+        Some(size) => {
+            if size > LARGEST {
+                return Err(DiskFault);
+            }
+            make_sides(first, second, name, size)
+        }
+        None => take_sides(first, second, name),
+    }
+}
+
+/// Binds the first side alone, or both under a name of a mirror, and says how the mirror stands then.
+fn bind_parts<A: Image, B: Image>(
+    first: &mut A,
+    second: &mut B,
+    marks: &mut Marks,
+    past: &mut Past<A, B>,
+    faults: &mut u64,
+    name: &str,
+    want: Option<u64>,
+) -> Result<(), DiskFault>
+    ensures stands { StandsBy (A.state first.new) (B.state second.new) marks.new past.new }
+    ensures size { (binds : ℕ) → OnOk result (IfSome want (λ w. (state_by marks.new (A.state first.new) (B.state second.new) past.new faults.new binds).size ≡ w)) }
+    ensures blank { (binds : ℕ) → OnOk result (IfSome want (λ w. ForSome (state_by marks.new (A.state first.new) (B.state second.new) past.new faults.new binds).contents (λ c. c ≡ replicate w 0))) }
+    ensures blank_after_crash { (binds : ℕ) → OnOk result (IfSome want (λ w. (c : List ℕ) → (state_by marks.new (A.state first.new) (B.state second.new) past.new faults.new binds).now c → c ≡ replicate w 0)) }
+    ensures existing { (was binds : ℕ) → OnOk result (IfNone want (ForSome ((state_by marks.old (A.state first.old) (B.state second.old) past.old faults.old was).named name.now) (λ c. (state_by marks.new (A.state first.new) (B.state second.new) past.new faults.new binds).contents ≡ Some c))) }
+    ensures settled { (binds : ℕ) → OnOk result (IfNone want (IsSettled (state_by marks.new (A.state first.new) (B.state second.new) past.new faults.new binds))) }
+    ensures told { (was binds : ℕ) → OnOk result (IsSome ((state_by marks.old (A.state first.old) (B.state second.old) past.old faults.old was).named name.now) → IsSome (state_by marks.new (A.state first.new) (B.state second.new) past.new faults.new binds).contents) }
+    ensures bound { (binds : ℕ) → OnOk result ((state_by marks.new (A.state first.new) (B.state second.new) past.new faults.new binds).bound ≡ Some ((state_by marks.new (A.state first.new) (B.state second.new) past.new faults.new binds).clock, name.now)) }
+    ensures unbound { (binds : ℕ) → OnErr result ((state_by marks.new (A.state first.new) (B.state second.new) past.new faults.new binds).bound ≡ None) }
+    ensures cause { HasCause faults.old faults.new result }
+    ensures first_fails { OnErr result (names_mirror name.now ≡ false → Rose (A.state first.old).faults (A.state first.new).faults) }
+    ensures fails { OnErr result (names_mirror name.now ≡ true → ((Rose (A.state first.old).faults (A.state first.new).faults ⊎ Rose (B.state second.old).faults (B.state second.new).faults) ⊎ (((4095 < length name.now) ⊎ IfSome want (λ w. 2 ^ 64 - 65 < w)) ⊎ ((want ≡ None) × ((x : A) × (y : B) × AdoptRefuses (A.state x) (B.state y)))))) }
+{
+    if !is_mirror(name.as_bytes()) {
+        marks.used = Used::Plain;
+        let done = first.bind(name, want).is_ok();
+        return count(faults, done);
+    }
+    match bind_sides(first, second, name, want) {
+        Ok(made) => {
+            *past = Past::start();
+            *marks = made;
+            Ok(())
+        }
+        Err(_) => {
+            marks.used = Used::Unbound;
+            count(faults, false)
+        }
+    }
+}

@@ -1,0 +1,63 @@
+// Copying the mirrored bytes of one side to the other.
+ghost use Rattle.std.specs.Prelude.{◌≡◌, ◌+◌, ◌≤◌, ℕ, List, Some, length, take, drop, true, false, IfOk};
+ghost use Rattle.iso_disk.specs.Disk.{IsSettled, LeavesOnly, TellsTorn, TornFrom, WritesNothing, spliced};
+ghost use Rattle.fault_count.specs.Count.{HasCause, Rose};
+ghost use Rattle.mirror_disk.specs.Header.{body};
+
+use crate::sides::HEADER;
+use iso_disk::{Disk, DiskFault};
+
+/// How many bytes are copied at a time.
+const PIECE: usize = 4_096;
+
+/// Copies the mirrored bytes, and makes them stable. An error is a fault of the side that is read; where the other one
+/// fails it answers false.
+pub(crate) fn copy_body<C: Disk, O: Disk>(
+    from: &mut C,
+    to: &mut O,
+    count: u64,
+) -> Result<bool, DiskFault>
+    requires from { (C.state from.old).size ≡ 64 + count }
+    requires to { (O.state to.old).size ≡ 64 + count }
+    ensures unwritten { WritesNothing (C.state from.old) (C.state from.new) }
+    ensures moments { LeavesOnly (O.state to.old) (O.state to.new) (TornFrom 64 count (O.state to.old).now) }
+    ensures torn { TellsTorn 64 count (O.state to.old) (O.state to.new) }
+    ensures settled { IfOk result (λ done. done ≡ true → IsSettled (O.state to.new)) }
+    ensures alike { IfOk result (λ done. done ≡ true → (x y : List ℕ) → (C.state from.old).contents ≡ Some x → (O.state to.new).contents ≡ Some y → body y ≡ body x) }
+    ensures cause { HasCause (C.state from.old).faults (C.state from.new).faults result }
+    ensures later { (O.state to.old).faults ≤ (O.state to.new).faults }
+    ensures failed { IfOk result (λ done. done ≡ false → Rose (O.state to.old).faults (O.state to.new).faults) }
+{
+    let mut piece = [0; PIECE];
+    let mut done = 0;
+    while done < count {
+        let len = (count - done).min(PIECE as u64);
+        if !copy_piece(from, to, done, &mut piece[..len as usize])? {
+            return Ok(false);
+        }
+        done += len;
+    }
+    Ok(to.sync().is_ok())
+}
+
+/// Copies as many bytes as the piece has, from a place of the mirrored bytes on.
+fn copy_piece<C: Disk, O: Disk>(
+    from: &mut C,
+    to: &mut O,
+    at: u64,
+    piece: &mut [u8],
+) -> Result<bool, DiskFault>
+    requires from { 64 + at + length piece.old ≤ (C.state from.old).size }
+    requires to { 64 + at + length piece.old ≤ (O.state to.old).size }
+    ensures unwritten { WritesNothing (C.state from.old) (C.state from.new) }
+    ensures moments { LeavesOnly (O.state to.old) (O.state to.new) (TornFrom (64 + at) (length piece.old) (O.state to.old).now) }
+    ensures torn { TellsTorn (64 + at) (length piece.old) (O.state to.old) (O.state to.new) }
+    ensures copied { IfOk result (λ done. done ≡ true → (x y : List ℕ) → (C.state from.old).contents ≡ Some x → (O.state to.new).contents ≡ Some y
+        → (z : List ℕ) × ((O.state to.old).contents ≡ Some z) × (body y ≡ spliced (body z) at (take (length piece.old) (drop at (body x))))) }
+    ensures cause { HasCause (C.state from.old).faults (C.state from.new).faults result }
+    ensures later { (O.state to.old).faults ≤ (O.state to.new).faults }
+    ensures failed { IfOk result (λ done. done ≡ false → Rose (O.state to.old).faults (O.state to.new).faults) }
+{
+    from.read(HEADER + at, piece)?;
+    Ok(to.write(HEADER + at, piece).is_ok())
+}

@@ -1,0 +1,92 @@
+// A mirror as a disk.
+ghost use Rattle.std.specs.Prelude.{◌≡◌, ◌⊎◌, ◌+◌, ◌≤◌, length, OnOk, OnErr};
+ghost use Rattle.std.specs.List.{slice_range};
+ghost use Rattle.std.specs.Option.{ForSome};
+ghost use Rattle.iso_disk.specs.Disk.{Elapses, IsSettled, Splices, TellsTorn, TornFrom};
+ghost use Rattle.fault_count.specs.Count.{HasCause};
+ghost use Rattle.mirror_disk.specs.Failing.{AllFailed, CannotLeave};
+
+use crate::mirror::Mirror;
+use crate::parts::{read_parts, sync_parts, write_parts};
+use crate::sides::HEADER;
+use crate::used::Used;
+use iso_disk::{Disk, DiskFault, Image};
+
+impl<A: Image, B: Image> Disk for Mirror<A, B> {
+    ghost use Rattle.mirror_disk.specs.State.{mirror_lawful, mirror_size, state_of};
+
+    ghost state = { state_of };
+
+    ghost size_fits = { mirror_size A.size_fits };
+
+    ghost lawful = { mirror_lawful A.lawful B.lawful };
+
+    fn size(&self) -> u64 {
+        match self.marks.used {
+            Used::Plain => self.first.size(),
+            Used::Unbound => 0,
+            Used::Both | Used::OnlyFirst | Used::OnlySecond | Used::Broken => {
+                self.first.size() - HEADER
+            }
+        }
+    }
+
+    /// Asks the first side in use and, where it fails, the other one. It fails where each side in use does, and of a
+    /// broken or unbound mirror always.
+    fn read(&mut self, at: u64, into: &mut [u8]) -> Result<(), DiskFault>
+        requires { at + length into.old ≤ (state_of self.old).size }
+        ensures bytes { OnOk result (ForSome (state_of self.old).contents (λ c. into.new ≡ slice_range c at (at + length into.old))) }
+        ensures contents { (state_of self.new).contents ≡ (state_of self.old).contents }
+        ensures crash { Elapses (state_of self.old) (state_of self.new) (state_of self.old).now }
+        ensures cause { HasCause (state_of self.old).faults (state_of self.new).faults result }
+        ensures counted { OnErr result (AllFailed self.old.marks.used (A.state self.old.first).faults (A.state self.new.first).faults (B.state self.old.second).faults (B.state self.new.second).faults) }
+    {
+        read_parts(
+            &mut self.first,
+            &mut self.second,
+            self.marks,
+            &mut self.past,
+            &mut self.faults,
+            at,
+            into,
+        )
+    }
+
+    /// Writes to each side in use, and leaves out one that fails: it raises the epoch of the other one first. It fails
+    /// where each side in use does, or one whose leaving needs an epoch above the last one, and the mirror is broken then.
+    fn write(&mut self, at: u64, bytes: &[u8]) -> Result<(), DiskFault>
+        requires { at + length bytes.now ≤ (state_of self.old).size }
+        ensures written { OnOk result (Splices at bytes.now (state_of self.old) (state_of self.new)) }
+        ensures failed { OnErr result (TellsTorn at (length bytes.now) (state_of self.old) (state_of self.new)) }
+        ensures crash { Elapses (state_of self.old) (state_of self.new) (TornFrom at (length bytes.now) (state_of self.old).now) }
+        ensures cause { HasCause (state_of self.old).faults (state_of self.new).faults result }
+        ensures counted { OnErr result (AllFailed self.old.marks.used (A.state self.old.first).faults (A.state self.new.first).faults (B.state self.old.second).faults (B.state self.new.second).faults ⊎ CannotLeave self.old.marks.used self.old.marks.epoch (A.state self.old.first).faults (A.state self.new.first).faults (B.state self.old.second).faults (B.state self.new.second).faults) }
+    {
+        write_parts(
+            &mut self.first,
+            &mut self.second,
+            &mut self.marks,
+            &mut self.past,
+            &mut self.faults,
+            at,
+            bytes,
+        )
+    }
+
+    /// Makes each side in use stable, and leaves out one that fails, as a write does.
+    fn sync(&mut self) -> Result<(), DiskFault>
+        ensures settled { OnOk result (IsSettled (state_of self.new)) }
+        ensures contents { (state_of self.new).contents ≡ (state_of self.old).contents }
+        ensures crash { Elapses (state_of self.old) (state_of self.new) (state_of self.old).now }
+        ensures cause { HasCause (state_of self.old).faults (state_of self.new).faults result }
+        ensures counted { OnErr result (AllFailed self.old.marks.used (A.state self.old.first).faults (A.state self.new.first).faults (B.state self.old.second).faults (B.state self.new.second).faults ⊎ CannotLeave self.old.marks.used self.old.marks.epoch (A.state self.old.first).faults (A.state self.new.first).faults (B.state self.old.second).faults (B.state self.new.second).faults) }
+    {
+        sync_parts(
+            &mut self.first,
+            &mut self.second,
+            &mut self.marks,
+            &mut self.past,
+            &mut self.faults,
+        )
+    }
+}

@@ -1,0 +1,61 @@
+// The names of a mirror and of its sides.
+ghost use Rattle.std.specs.Prelude.{◌≡◌, ◌+◌, ◌<◌, ◌≤◌, [], ◌∷◌, ◌++◌, ℕ, List, Some, None, length, take, replicate, OnOk, OnErr, IfNone, IfSome, IsSome};
+ghost use Rattle.std.specs.Option.{ForSome};
+ghost use Rattle.iso_disk.specs.Disk.{IsSettled};
+ghost use Rattle.fault_count.specs.Count.{HasCause};
+ghost use Rattle.mirror_disk.specs.Pairs.{names_mirror};
+
+use iso_disk::{DiskFault, Image};
+use std::str;
+
+/// The most bytes of a name of a mirror.
+pub(crate) const LONGEST: usize = 4_095;
+
+/// What the name of a mirror ends with.
+const MARK: u8 = b'+';
+
+/// Whether this names a mirror of two sides.
+pub(crate) fn is_mirror(name: &[u8]) -> bool
+    ensures { result ≡ names_mirror name.now }
+{
+    match name.last() {
+        Some(last) => *last == MARK,
+        None => false,
+    }
+}
+
+/// Binds a side to a name with one byte more. The longer name is made in a buffer, so no memory is taken.
+pub(crate) fn bind_side<I: Image>(
+    side: &mut I,
+    name: &str,
+    digit: u8,
+    want: Option<u64>,
+) -> Result<(), DiskFault>
+    requires short { length name.now ≤ 4095 }
+    requires digit { digit < 128 }
+    ensures size { OnOk result (IfSome want (λ w. (I.state side.new).size ≡ w)) }
+    ensures blank { OnOk result (IfSome want (λ w. ForSome (I.state side.new).contents (λ c. c ≡ replicate w 0))) }
+    ensures blank_after_crash { OnOk result (IfSome want (λ w. (c : List ℕ) → (I.state side.new).now c → c ≡ replicate w 0)) }
+    ensures existing { OnOk result (IfNone want (ForSome ((I.state side.old).named (name.now ++ digit ∷ [])) (λ c. (I.state side.new).contents ≡ Some c))) }
+    ensures settled { OnOk result (IfNone want (IsSettled (I.state side.new))) }
+    ensures told { OnOk result (IsSome ((I.state side.old).named (name.now ++ digit ∷ [])) → IsSome (I.state side.new).contents) }
+    ensures bound { OnOk result ((I.state side.new).bound ≡ Some ((I.state side.new).clock, name.now ++ digit ∷ [])) }
+    ensures cause { HasCause (I.state side.old).faults (I.state side.new).faults result }
+{
+    let mut buffer = [0; LONGEST + 1];
+    lay_name(&mut buffer, name.as_bytes(), digit);
+    match str::from_utf8(&buffer[..name.len() + 1]) {
+        Ok(longer) => side.bind(longer, want),
+        Err(_) => unreachable!(),
+    }
+}
+
+/// Lays a name and one byte more at the head of a buffer.
+fn lay_name(buffer: &mut [u8; 4096], name: &[u8], digit: u8)
+    requires { length name.now ≤ 4095 }
+    ensures { take (length name.now + 1) buffer.new ≡ name.now ++ digit ∷ [] }
+{
+    let len = name.len();
+    buffer[..len].copy_from_slice(name);
+    buffer[len] = digit;
+}

@@ -1,0 +1,92 @@
+// Raising the epoch of a side.
+ghost use Rattle.std.specs.Prelude.{◌≡◌, ◌≢◌, ◌+◌, ◌<◌, ◌≤◌, ℕ, List, OnOk, OnErr, Some, length, slice_index, IsTrue};
+ghost use Rattle.iso_disk.specs.Disk.{IsSettled, LeavesOnly, TornFrom};
+ghost use Rattle.commit_gate.specs.Gate.{IsClosed};
+ghost use Rattle.fault_count.specs.Count.{HasCause};
+ghost use Rattle.mirror_disk.specs.Slots.{other, place};
+ghost use Rattle.mirror_disk.specs.Header.{last_epoch, slot_body};
+ghost use Rattle.mirror_disk.specs.Raised.{HasEpoch, HoldsEpoch, IsMarked, KeepsBody, Raising, Still};
+
+use crate::slot::Slot;
+use commit_gate::{open_gate, put_body, shut_gate, stands_closed};
+use iso_disk::{Disk, DiskFault};
+
+/// How many zeros stand between a gate and its epoch.
+pub(crate) const ZEROS: usize = 7;
+
+/// How many bytes stand behind a gate.
+const BODY: usize = 15;
+
+/// Puts an epoch into the slot that does not hold the one so far, and opens its gate.
+pub(crate) fn raise_epoch<D: Disk>(disk: &mut D, slot: Slot, next: u64) -> Result<(), DiskFault>
+    requires size { 64 ≤ (D.state disk.old).size }
+    requires last { next ≤ last_epoch }
+    requires marked { (e : ℕ) × IsMarked slot e (D.state disk.old) × (e ≤ next) }
+    ensures moments { (e : ℕ) → IsMarked slot e (D.state disk.old) → e ≤ next → LeavesOnly (D.state disk.old) (D.state disk.new) (Raising e next (D.state disk.old)) }
+    ensures raised { OnOk result ((x : List ℕ) → (D.state disk.new).now x → HasEpoch (other slot) next x) }
+    ensures settled { OnOk result (IsSettled (D.state disk.new)) }
+    ensures body { KeepsBody (D.state disk.old) (D.state disk.new) }
+    ensures cause { HasCause (D.state disk.old).faults (D.state disk.new).faults result }
+{
+    let gate = slot.other().place();
+    shut_slot(disk, slot, gate)?;
+    put_epoch(disk, slot, gate, next)?;
+    open_slot(disk, slot, gate, next)
+}
+
+/// Shuts the gate of the slot that is not this one, where it stands open.
+fn shut_slot<D: Disk>(disk: &mut D, slot: Slot, gate: u64) -> Result<(), DiskFault>
+    requires size { 64 ≤ (D.state disk.old).size }
+    requires gate { gate ≡ place (other slot) }
+    ensures moments { (e : ℕ) → IsMarked slot e (D.state disk.old) → LeavesOnly (D.state disk.old) (D.state disk.new) (Still slot e (D.state disk.old)) }
+    ensures shut { (e : ℕ) → IsMarked slot e (D.state disk.old) → OnOk result ((x : List ℕ) → (D.state disk.new).now x → IsClosed gate x) }
+    ensures body { KeepsBody (D.state disk.old) (D.state disk.new) }
+    ensures cause { HasCause (D.state disk.old).faults (D.state disk.new).faults result }
+{
+    if stands_closed(disk, gate)? {
+        return Ok(());
+    }
+    shut_gate(disk, gate)
+}
+
+/// Puts an epoch behind the closed gate of the slot that is not this one.
+fn put_epoch<D: Disk>(disk: &mut D, slot: Slot, gate: u64, next: u64) -> Result<(), DiskFault>
+    requires size { 64 ≤ (D.state disk.old).size }
+    requires gate { gate ≡ place (other slot) }
+    requires closed { (x : List ℕ) → (D.state disk.old).now x → IsClosed gate x }
+    ensures moments { (e : ℕ) → ((x : List ℕ) → (D.state disk.old).now x → HasEpoch slot e x) → LeavesOnly (D.state disk.old) (D.state disk.new) (Still slot e (D.state disk.old)) }
+    ensures closed { OnOk result ((x : List ℕ) → (D.state disk.new).now x → IsClosed gate x) }
+    ensures holds { OnOk result ((x : List ℕ) → (D.state disk.new).now x → HoldsEpoch gate next x) }
+    ensures settled { OnOk result (IsSettled (D.state disk.new)) }
+    ensures body { KeepsBody (D.state disk.old) (D.state disk.new) }
+    ensures cause { HasCause (D.state disk.old).faults (D.state disk.new).faults result }
+{
+    put_body(disk, gate, &spell(next))
+}
+
+/// What stands behind the gate of a slot: seven zeros, and the epoch.
+fn spell(epoch: u64) -> [u8; 15]
+    ensures { result ≡ slot_body epoch }
+{
+    let mut body = [0; BODY];
+    body[ZEROS..].copy_from_slice(&epoch.to_be_bytes());
+    body
+}
+
+/// Opens the gate of the slot that is not this one.
+fn open_slot<D: Disk>(disk: &mut D, slot: Slot, gate: u64, next: u64) -> Result<(), DiskFault>
+    requires size { 64 ≤ (D.state disk.old).size }
+    requires gate { gate ≡ place (other slot) }
+    requires closed { (x : List ℕ) → (D.state disk.old).now x → IsClosed gate x }
+    requires last { next ≤ last_epoch }
+    requires holds { (x : List ℕ) → (D.state disk.old).now x → HoldsEpoch gate next x }
+    requires settled { IsSettled (D.state disk.old) }
+    requires marked { (e : ℕ) × ((x : List ℕ) → (D.state disk.old).now x → HasEpoch slot e x) × (e ≤ next) }
+    ensures moments { (e : ℕ) → ((x : List ℕ) → (D.state disk.old).now x → HasEpoch slot e x) → e ≤ next → LeavesOnly (D.state disk.old) (D.state disk.new) (Raising e next (D.state disk.old)) }
+    ensures raised { OnOk result ((x : List ℕ) → (D.state disk.new).now x → HasEpoch (other slot) next x) }
+    ensures settled { OnOk result (IsSettled (D.state disk.new)) }
+    ensures body { KeepsBody (D.state disk.old) (D.state disk.new) }
+    ensures cause { HasCause (D.state disk.old).faults (D.state disk.new).faults result }
+{
+    open_gate(disk, gate)
+}

@@ -1,0 +1,82 @@
+// Making the other side as the one that was chosen.
+ghost use Rattle.std.specs.Prelude.{◌≡◌, ◌⊎◌, ◌+◌, ◌≤◌, ℕ, List, None, IfOk, IfSome, OnOk, OnErr};
+ghost use Rattle.iso_disk.specs.Disk.{IsSettled, LeavesOnly, WritesNothing};
+ghost use Rattle.fault_count.specs.Count.{HasCause, Rose};
+ghost use Rattle.mirror_disk.specs.Adopting.{AreAlike, OfChosen, OfOther, TellsOn};
+ghost use Rattle.mirror_disk.specs.Header.{last_epoch};
+ghost use Rattle.mirror_disk.specs.Raised.{HasEpoch, KeepsBody};
+ghost use Rattle.mirror_disk.specs.Slots.{other};
+
+use crate::copy::copy_body;
+use crate::raise::raise_epoch;
+use crate::sides::raise_by_one;
+use crate::slot::{Mark, Slot};
+use iso_disk::{Disk, DiskFault};
+
+/// Copies the mirrored bytes of the chosen side to the other one, raises its epoch to that of the chosen one, and answers
+/// the slot that holds it then. None where the other side failed alone and was left out.
+pub(crate) fn take_over<C: Disk, O: Disk>(
+    from: &mut C,
+    to: &mut O,
+    count: u64,
+    chosen: Mark,
+    behind: Mark,
+) -> Result<Option<Slot>, DiskFault>
+    requires from { (C.state from.old).size ≡ 64 + count }
+    requires to { (O.state to.old).size ≡ 64 + count }
+    requires settled { IsSettled (C.state from.old) × IsSettled (O.state to.old) }
+    requires chosen { (x : List ℕ) → (C.state from.old).now x → HasEpoch chosen.slot chosen.epoch x }
+    requires behind { (y : List ℕ) → (O.state to.old).now y → HasEpoch behind.slot behind.epoch y }
+    requires most { (behind.epoch ≤ chosen.epoch) × (chosen.epoch ≤ last_epoch) }
+    ensures from_moments { LeavesOnly (C.state from.old) (C.state from.new) (OfChosen chosen.epoch (C.state from.old)) }
+    ensures to_moments { LeavesOnly (O.state to.old) (O.state to.new) (OfOther behind.epoch chosen.epoch (C.state from.old) (O.state to.old)) }
+    ensures body { KeepsBody (C.state from.old) (C.state from.new) }
+    ensures tells { TellsOn (O.state to.old) (O.state to.new) }
+    ensures settled { OnOk result (IsSettled (C.state from.new)) }
+    ensures alike { IfOk result (λ slot. IfSome slot (λ s. AreAlike (C.state from.new) (O.state to.new) chosen.epoch chosen.slot s)) }
+    ensures alone { IfOk result (λ slot. slot ≡ None → (x : List ℕ) → (C.state from.new).now x → HasEpoch (other chosen.slot) (chosen.epoch + 1) x) }
+    ensures cause { OnErr result (Rose (C.state from.old).faults (C.state from.new).faults ⊎ ((last_epoch ≤ chosen.epoch) × Rose (O.state to.old).faults (O.state to.new).faults)) }
+    ensures later { ((C.state from.old).faults ≤ (C.state from.new).faults) × ((O.state to.old).faults ≤ (O.state to.new).faults) }
+{
+    if let Some(slot) = make_alike(from, to, count, chosen, behind)? {
+        return Ok(Some(slot));
+    }
+    if raise_by_one(from, chosen.slot, chosen.epoch) {
+        return Ok(None);
+    }
+    Err(DiskFault)
+}
+
+/// Copies the mirrored bytes and raises the epoch, but leaves nothing out: none where the other side failed.
+fn make_alike<C: Disk, O: Disk>(
+    from: &mut C,
+    to: &mut O,
+    count: u64,
+    chosen: Mark,
+    behind: Mark,
+) -> Result<Option<Slot>, DiskFault>
+    requires from { (C.state from.old).size ≡ 64 + count }
+    requires to { (O.state to.old).size ≡ 64 + count }
+    requires settled { IsSettled (C.state from.old) × IsSettled (O.state to.old) }
+    requires chosen { (x : List ℕ) → (C.state from.old).now x → HasEpoch chosen.slot chosen.epoch x }
+    requires behind { (y : List ℕ) → (O.state to.old).now y → HasEpoch behind.slot behind.epoch y }
+    requires most { (behind.epoch ≤ chosen.epoch) × (chosen.epoch ≤ last_epoch) }
+    ensures unwritten { WritesNothing (C.state from.old) (C.state from.new) }
+    ensures moments { LeavesOnly (O.state to.old) (O.state to.new) (OfOther behind.epoch chosen.epoch (C.state from.old) (O.state to.old)) }
+    ensures tells { TellsOn (O.state to.old) (O.state to.new) }
+    ensures alike { IfOk result (λ slot. IfSome slot (λ s. AreAlike (C.state from.new) (O.state to.new) chosen.epoch chosen.slot s)) }
+    ensures cause { HasCause (C.state from.old).faults (C.state from.new).faults result }
+    ensures later { (O.state to.old).faults ≤ (O.state to.new).faults }
+    ensures failed { IfOk result (λ slot. slot ≡ None → Rose (O.state to.old).faults (O.state to.new).faults) }
+{
+    if !copy_body(from, to, count)? {
+        return Ok(None);
+    }
+    if behind.epoch == chosen.epoch {
+        return Ok(Some(behind.slot));
+    }
+    match raise_epoch(to, behind.slot, chosen.epoch) {
+        Ok(()) => Ok(Some(behind.slot.other())),
+        Err(_) => Ok(None),
+    }
+}

@@ -1,0 +1,203 @@
+// The program over a mirror of two disks in memory, of which one fails, or both.
+ghost use Rattle.std.specs.Prelude.{◌≡◌, ◌≢◌, false};
+ghost use Rattle.std.specs.Option.{ForSome};
+ghost use Rattle.command_line.specs.declared.task.Task.TheVariants.{Par};
+ghost use Rattle.command_line.specs.Grammar.{texts};
+ghost use Rattle.command_line.specs.Requests.{request_of};
+
+use crate::tests_adopt::adopted;
+use command_line::{Task, read_words};
+use iso_io::{MemSink, MemSource};
+use iso_memdisk::{CallKind, MemDisk};
+use iso_top::alone;
+use mirror_disk::{Mirror, MirrorError};
+use std::alloc::{AllocError, Global};
+use std::test::Fail;
+use top_calls::{no_disk, small_image};
+
+const SMALL: &str = "isotope new t+ --block-size 64 --blocks 4 --log 256";
+
+const RUN: &str = "isotope run t+";
+
+/// The header of a side of a new mirror: epoch 1 in the first slot.
+const HEADER: [u8; 64] =
+    *b"ISOMIRR1\0\0\0\0\0\0\0\0\x01\0\0\0\0\0\0\0\0\0\0\0\0\0\0\x01\0\0\0\0\0\0\0\0\0\0\0\0\0\0\0\0\0\0\0\0\0\0\0\0\0\0\0\0\0\0\0\0";
+
+/// What a call gave.
+#[derive(Drop)]
+struct Outcome {
+    status: u8,
+    output: Vec<u8>,
+    first: MemDisk,
+    second: MemDisk,
+}
+
+fn may_be_par(alloc: Global, words: &[String]) -> bool
+    ensures { result ≡ false → ForSome (request_of (texts words.now)) (λ r. r.1 ≢ Par) }
+{
+    match read_words(alloc, words) {
+        Ok(Some(request)) => match request.task {
+            Task::Par => true,
+            Task::New { .. } | Task::Run | Task::Recover | Task::Bench { .. } => false,
+        },
+        Ok(None) => false,
+        Err(_) => true,
+    }
+}
+
+fn call(
+    alloc: Global,
+    line: &str,
+    first: MemDisk,
+    second: MemDisk,
+    input: &[u8],
+) -> Result<Outcome, AllocError> {
+    let mut words = Vec::new(alloc);
+    for word in line.split_whitespace() {
+        words.push(String::from_str(alloc, word)?)?;
+    }
+    if may_be_par(alloc, &words) {
+        return Err(AllocError);
+    }
+    let mut source = MemSource::new(input.to_vec(alloc)?, Vec::new(alloc));
+    let mut sink = MemSink::new(alloc, Vec::new(alloc));
+    let ended = alone(
+        alloc,
+        &words,
+        Mirror::of(first, second),
+        &mut source,
+        &mut sink,
+    );
+    let output = sink.bytes().to_vec(alloc)?;
+    let (first, second) = ended.image.into_sides();
+    Ok(Outcome {
+        status: ended.status,
+        output,
+        first,
+        second,
+    })
+}
+
+#[test]
+fn both_sides_of_a_new_mirror(rt: HostRuntime) -> Result<(), Fail> {
+    let alloc = rt.alloc();
+    let outcome = call(alloc, SMALL, no_disk(alloc), no_disk(alloc), b"")?;
+    assert_eq!(rt; outcome.status, 0);
+    let one = outcome.first.crash(alloc, 1)?;
+    let two = outcome.second.crash(alloc, 0)?;
+    assert_eq!(rt; one.len(), 1216);
+    assert!(rt; one.as_slice() == two.as_slice());
+    assert!(rt; one.get(..64) == Some(HEADER.as_slice()));
+    let image = small_image(alloc)?;
+    assert!(rt; one.get(64..) == Some(image.as_slice()));
+    Ok(())
+}
+
+const PUT: &[u8] = b"1 begin\n1 put 2 5 abcd\n1 end\n";
+
+#[test]
+fn one_side_fails(rt: HostRuntime) -> Result<(), Fail> {
+    let alloc = rt.alloc();
+    // How many calls of a side come before the first write of the end: bind, write, sync, and five of formatting.
+    for before in 3..16 {
+        let mut second = no_disk(alloc);
+        second.fuse(before);
+        let outcome = call(alloc, SMALL, no_disk(alloc), second, PUT)?;
+        assert_eq!(rt; outcome.status, 0, "after {before}");
+        assert!(rt;
+            outcome
+                .output
+                .starts_with(b"1 ok begin 0\n1 ok\n1 ok commit 1\n")
+        );
+        let one = outcome.first.crash(alloc, 1)?;
+        if before < 12 {
+            assert!(rt;
+                one.get(32..48) == Some(b"\x01\0\0\0\0\0\0\0\0\0\0\0\0\0\0\x02".as_slice())
+            );
+        }
+        let two = outcome.second.crash(alloc, 1)?;
+        let (error, used, first, second) = adopted(
+            MemDisk::new(alloc, one),
+            MemDisk::new(alloc, two),
+        );
+        assert_eq!(rt; error, None);
+        assert_eq!(rt; used, (true, true));
+        let a = first.crash(alloc, 0)?;
+        let b = second.crash(alloc, 0)?;
+        assert!(rt; a.get(64..) == b.get(64..));
+        let again = call(alloc, RUN, first, second, b"1 stat\n")?;
+        assert_eq!(rt; again.status, 0);
+        assert!(rt; again.output.starts_with(b"1 ok last 1 "));
+    }
+    Ok(())
+}
+
+#[test]
+fn both_sides_fail(rt: HostRuntime) -> Result<(), Fail> {
+    let alloc = rt.alloc();
+    let mut first = no_disk(alloc);
+    first.fuse(8);
+    let mut second = no_disk(alloc);
+    second.fuse(8);
+    let outcome = call(alloc, SMALL, first, second, PUT)?;
+    assert_eq!(rt; outcome.status, 5);
+    assert!(rt;
+        outcome
+            .output
+            .starts_with(b"1 ok begin 0\n1 ok\n! disk fault\n")
+    );
+    Ok(())
+}
+
+#[test]
+fn zeros_are_no_mirror(rt: HostRuntime) -> Result<(), Fail> {
+    let alloc = rt.alloc();
+    let zeros = vec![in alloc; 0; 1216]?;
+    let more = vec![in alloc; 0; 1216]?;
+    let outcome = call(
+        alloc,
+        RUN,
+        MemDisk::new(alloc, zeros),
+        MemDisk::new(alloc, more),
+        b"",
+    )?;
+    assert_eq!(rt; outcome.status, 5);
+    assert!(rt; outcome.output.starts_with(b"! disk fault\n"));
+    let (error, _used, _first, _second) = adopted(outcome.first, outcome.second);
+    assert_eq!(rt; error, Some(MirrorError::NotMirror { side: 0 }));
+    Ok(())
+}
+
+#[test]
+fn the_second_side_fails_at_its_third_write(rt: HostRuntime) -> Result<(), Fail> {
+    let alloc = rt.alloc();
+    let made = call(alloc, SMALL, no_disk(alloc), no_disk(alloc), b"")?;
+    let mut second = made.second;
+    second.fail_kind(CallKind::Write, 3);
+    let outcome = call(
+        alloc,
+        RUN,
+        made.first,
+        second,
+        b"1 begin\n1 put 0 0 aa\n1 end\n1 begin\n1 put 0 1 bb\n1 end\n",
+    )?;
+    assert_eq!(rt; outcome.status, 0);
+    assert!(rt;
+        outcome.output.starts_with(
+            b"1 ok begin 0\n1 ok\n1 ok commit 1\n1 ok begin 1\n1 ok\n1 ok commit 2\n"
+        )
+    );
+    for pick in 0..6 {
+        let one = outcome.first.crash(alloc, pick)?;
+        let two = outcome.second.crash(alloc, pick)?;
+        let again = call(
+            alloc,
+            RUN,
+            MemDisk::new(alloc, one),
+            MemDisk::new(alloc, two),
+            b"1 stat\n",
+        )?;
+        assert!(rt; again.output.starts_with(b"1 ok last 2 "));
+    }
+    Ok(())
+}

@@ -1,0 +1,120 @@
+// What an adopt makes of two sides, and what a mirror does once a side has failed.
+use iso_disk::{Disk, Image};
+use iso_memdisk::{CallKind, MemDisk};
+use mirror_disk::{Mirror, MirrorError};
+use std::alloc::{AllocError, Global};
+use std::test::Fail;
+use top_calls::{change, no_disk};
+
+/// A slot with epoch 2.
+const SECOND_EPOCH: [u8; 16] = *b"\x01\0\0\0\0\0\0\0\0\0\0\0\0\0\0\x02";
+
+/// The bytes of one side of a new mirror of eight bytes, which are these.
+fn side_of(alloc: Global, bytes: &[u8]) -> Result<Vec<u8>, AllocError> {
+    let mut side = vec![in alloc; 0; 64]?;
+    change(&mut side, 0, b"ISOMIRR1");
+    change(&mut side, 16, &[1]);
+    change(&mut side, 31, &[1]);
+    side.extend_from_slice(bytes)?;
+    Ok(side)
+}
+
+/// Why an adopt refused two sides, if it did, which of them are in use then, and the sides.
+pub(crate) fn adopted(
+    first: MemDisk,
+    second: MemDisk,
+) -> (Option<MirrorError>, (bool, bool), MemDisk, MemDisk) {
+    match Mirror::adopt(first, second) {
+        Ok(mirror) => {
+            let used = mirror.sides();
+            let (one, two) = mirror.into_sides();
+            (None, used, one, two)
+        }
+        Err((error, one, two)) => (Some(error), (false, false), one, two),
+    }
+}
+
+#[test]
+fn the_larger_epoch_counts(rt: HostRuntime) -> Result<(), Fail> {
+    let alloc = rt.alloc();
+    let first = side_of(alloc, b"old text")?;
+    let mut second = side_of(alloc, b"new text")?;
+    change(&mut second, 32, &SECOND_EPOCH);
+    let (error, used, one, two) = adopted(MemDisk::new(alloc, first), MemDisk::new(alloc, second));
+    assert_eq!(rt; error, None);
+    assert_eq!(rt; used, (true, true));
+    let one = one.crash(alloc, 0)?;
+    let two = two.crash(alloc, 0)?;
+    assert!(rt; one.get(64..) == Some(b"new text".as_slice()));
+    assert!(rt; two.get(64..) == Some(b"new text".as_slice()));
+    assert!(rt; one.get(32..48) == Some(SECOND_EPOCH.as_slice()));
+    Ok(())
+}
+
+#[test]
+fn the_first_side_counts_where_the_epochs_are_the_same(rt: HostRuntime) -> Result<(), Fail> {
+    let alloc = rt.alloc();
+    let first = side_of(alloc, b"one text")?;
+    let second = side_of(alloc, b"two text")?;
+    let (error, used, _one, two) = adopted(MemDisk::new(alloc, first), MemDisk::new(alloc, second));
+    assert_eq!(rt; error, None);
+    assert_eq!(rt; used, (true, true));
+    let two = two.crash(alloc, 0)?;
+    assert!(rt; two.get(64..) == Some(b"one text".as_slice()));
+    Ok(())
+}
+
+#[test]
+fn a_side_that_cannot_be_written_is_left_out(rt: HostRuntime) -> Result<(), Fail> {
+    let alloc = rt.alloc();
+    let first = side_of(alloc, b"one text")?;
+    let mut second = MemDisk::new(alloc, side_of(alloc, b"two text")?);
+    second.fail_kind(CallKind::Write, 1);
+    let (error, used, one, _two) = adopted(MemDisk::new(alloc, first), second);
+    assert_eq!(rt; error, None);
+    assert_eq!(rt; used, (true, false));
+    let one = one.crash(alloc, 0)?;
+    assert!(rt; one.get(32..48) == Some(SECOND_EPOCH.as_slice()));
+    Ok(())
+}
+
+#[test]
+fn sides_of_other_lengths_are_refused(rt: HostRuntime) -> Result<(), Fail> {
+    let alloc = rt.alloc();
+    let first = side_of(alloc, b"one text")?;
+    let second = side_of(alloc, b"longer text")?;
+    let (error, _used, _one, _two) = adopted(
+        MemDisk::new(alloc, first),
+        MemDisk::new(alloc, second),
+    );
+    assert_eq!(rt;
+        error,
+        Some(MirrorError::SizesDiffer {
+            first: 72,
+            second: 75
+        })
+    );
+    Ok(())
+}
+
+#[test]
+fn a_broken_mirror_fails_without_asking(rt: HostRuntime) -> Result<(), Fail> {
+    let alloc = rt.alloc();
+    let mut first = no_disk(alloc);
+    first.fuse(3);
+    let mut second = no_disk(alloc);
+    second.fuse(3);
+    let mut mirror = Mirror::of(first, second);
+    assert_eq!(rt; mirror.bind("m+", Some(8)).is_ok(), true);
+    assert_eq!(rt; mirror.sides(), (true, true));
+    assert_eq!(rt; mirror.size(), 8);
+    assert_eq!(rt; mirror.write(0, b"text").is_ok(), false);
+    assert_eq!(rt; mirror.sides(), (false, false));
+    let mut text = [0; 4];
+    assert_eq!(rt; mirror.read(0, &mut text).is_ok(), false);
+    assert_eq!(rt; mirror.sync().is_ok(), false);
+    let (first, second) = mirror.into_sides();
+    assert_eq!(rt; first.calls(), 4);
+    assert_eq!(rt; second.calls(), 4);
+    Ok(())
+}
