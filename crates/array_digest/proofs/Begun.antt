@@ -1,24 +1,7 @@
 -- The one transaction of a core that had none.
-use Rattle.std.proofs.Common.{◌≡◌, ◌≢◌, ◌∙◌, sym, refl, ap, subst, inl, inr, ℕ, ◌+◌, ◌≤◌, Bool, true, false, ◌&&◌, ◌==◌, not, nat_le, List, [], ◌∷◌, ◌++◌, length, Some, Result, Ok, Err}
-use Rattle.std.specs.Prelude.{OnOk}
-use Rattle.std.proofs.lemmas.Bool.{cond-false, eq-eqb, le-ltb}
-use Rattle.iso_core.specs.declared.core_itself.Core.{Core}
-use Rattle.iso_core.specs.Calls.{IsAmong, IsTx, Refuses, refusal_of}
-use Rattle.iso_core.specs.Core.{StandsFor}
-use Rattle.iso_core.specs.Standing.{up}
-use Rattle.iso_disk.specs.Disk.{DiskState}
-use Rattle.iso_model.specs.declared.access.Mode.{Mode}
-use Rattle.iso_model.specs.declared.access.Mode.TheVariants.{Serial, Snapshot}
-use Rattle.iso_model.specs.declared.core_error.CoreError.{CoreError}
+use Rattle.array_digest.proofs.Words.{◌≡◌, ◌≢◌, ◌∙◌, sym, refl, ap, subst, inl, inr, ℕ, ◌+◌, ◌≤◌, Bool, true, false, ◌&&◌, ◌==◌, not, nat_le, List, [], ◌∷◌, ◌++◌, length, Some, Result, Ok, Err, OnOk, cond-false, eq-eqb, le-ltb, Core, IsAmong, IsTx, Refuses, refusal_of, StandsFor, up, DiskState, Mode, Serial, Snapshot, CoreError, LAST, MAX_LIVE, CoreReply, same_mode, last, after_begin, after_leaving, begin_step, World, Live, unattached, without}
 use Rattle.iso_model.specs.declared.core_error.CoreError.TheVariants as error
-use Rattle.iso_model.specs.declared.limits.TheConstants.{LAST, MAX_LIVE}
-use Rattle.iso_model.specs.declared.core_reply.CoreReply.{CoreReply}
 use Rattle.iso_model.specs.declared.core_reply.CoreReply.TheVariants as reply
-use Rattle.iso_model.specs.Geometry.{same_mode}
-use Rattle.iso_model.specs.History.{last}
-use Rattle.iso_model.specs.Step.{after_begin, after_leaving}
-use Rattle.iso_model.specs.Step.{begin_step}
-use Rattle.iso_model.specs.World.{World, Live, unattached, without}
 
 -- the transaction that began
 abbrev pub begun : World → Mode → Live

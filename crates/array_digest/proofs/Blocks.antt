@@ -1,19 +1,5 @@
 -- The blocks of an array, one after the other, as a core reads them.
-use Rattle.std.proofs.Common.{◌≡◌, ◌∙◌, sym, ap, ℕ, zero, suc, ◌+◌, ◌<◌, ◌≤◌, List, [], ◌∷◌, ◌++◌, length, take, append-nil, append_assoc, Option, arith}
-use Rattle.std.specs.Option.{ForSome}
-use Rattle.std.proofs.lemmas.List.{take_all}
-use Rattle.iso_core.specs.declared.core_itself.Core.{Core}
-use Rattle.iso_core.specs.Core.{StandsFor}
-use Rattle.iso_core.specs.Standing.{up}
-use Rattle.iso_disk.specs.Disk.{DiskState}
-use Rattle.iso_model.specs.Array.{Array}
-use Rattle.script_model.specs.Bench.{array_bytes}
-use Rattle.iso_model.specs.History.{array_at}
-use Rattle.iso_model.specs.Premises.{block_at}
-use Rattle.iso_model.specs.World.{World, Live}
-use Rattle.iso_model.proofs.Recorded.{array_shape}
-use Rattle.sha2.specs.declared.Sha256.{Sha256}
-use Rattle.sha2.specs.Hashers.{Holds256}
+use Rattle.array_digest.proofs.Words.{◌≡◌, ◌∙◌, sym, ap, ℕ, zero, suc, ◌+◌, ◌<◌, ◌≤◌, List, [], ◌∷◌, ◌++◌, length, take, append-nil, append_assoc, Option, arith, ForSome, take_all, Core, StandsFor, up, DiskState, Array, array_bytes, array_at, block_at, World, Live, array_shape, Sha256, Holds256}
 
 -- the first blocks and one more
 one_more : (A : Array) (n : ℕ) → n < length A → array_bytes (take n A) ++ block_at A n ≡ array_bytes (take (n + 1) A)

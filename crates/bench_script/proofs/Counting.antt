@@ -1,16 +1,5 @@
 -- A tally of the lines of replies.
-use Rattle.std.proofs.Common.{◌≡◌, ◌∙◌, sym, ap, ℕ, ◌+◌, ◌≤◌, true, List, [], ◌∷◌, ◌++◌, length, length-append, append_assoc, decimal, arith, subst}
-use Rattle.std.specs.Prelude.{Contains, filter}
-use Rattle.std.specs.List.{list_all}
-use Rattle.script_model.specs.declared.script.Line.{Line}
-use Rattle.script_model.specs.declared.script.Reply.{Reply}
-use Rattle.script_model.specs.Bench.{answers_to, is_committed, is_conflict}
-use Rattle.script_model.specs.Script.{replies}
-use Rattle.script_model.specs.Step.{step}
-use Rattle.script_model.specs.Text.{reply_line, reply_text}
-use Rattle.iso_model.specs.World.{World}
-use Rattle.bench_script.specs.declared.line_kind.LineKind.{LineKind}
-use Rattle.bench_script.specs.Kinds.{kind_of, commits_in, conflicts_in}
+use Rattle.bench_script.proofs.Words.{◌≡◌, ◌∙◌, sym, ap, ℕ, ◌+◌, ◌≤◌, true, List, [], ◌∷◌, ◌++◌, length, length-append, append_assoc, decimal, arith, subst, Contains, filter, list_all, Line, Reply, answers_to, is_committed, is_conflict, replies, step, reply_line, reply_text, World, LineKind, kind_of, commits_in, conflicts_in}
 use Rattle.bench_script.proofs.KindsOfReplies.{commits_with, conflicts_with}
 use Rattle.bench_script.proofs.ReplyTexts.{is_other, both, other_than_digits, reply_has_no_feed}
 use Rattle.bench_script.proofs.Splits.{is_there, same_split}

@@ -1,28 +1,6 @@
 -- Each line of a bench is read as a line.
-use Rattle.std.proofs.Common.{◌≡◌, ◌≢◌, ◌∙◌, sym, refl, ap, ℕ, zero, suc, ◌+◌, ◌*◌, ◌<◌, ◌≤◌, Bool, true, false, nat_le, List, [], ◌∷◌, ◌++◌, take, length, length-append, append_assoc, append-nil, subst, None, Ok, Result, codes, decimal, arith}
-use Rattle.std.specs.Prelude.{flat_map}
-use Rattle.std.specs.List.{list_all}
-use Rattle.std.proofs.lemmas.Bool.{and_parts, cond-false, leb-true, le-ltb, lt-leb, ne_eqb}
-use Rattle.std.proofs.lemmas.Fmt.{decimal_digit, length-decimal-le}
-use Rattle.std.proofs.lemmas.List.{take_all}
-use Rattle.iso_model.specs.declared.limits.TheConstants.{MAX_INPUT, MAX_LINE}
-use Rattle.script_model.specs.declared.script.Line.{Line}
-use Rattle.script_model.specs.declared.script.Op.{Op}
-use Rattle.script_model.specs.declared.script.Op.TheVariants.{Begin, End, Put, Get}
-use Rattle.script_model.specs.declared.script.Parsed.{Parsed}
+use Rattle.bench_script.proofs.Words.{◌≡◌, ◌≢◌, ◌∙◌, sym, refl, ap, ℕ, zero, suc, ◌+◌, ◌*◌, ◌<◌, ◌≤◌, Bool, true, false, nat_le, List, [], ◌∷◌, ◌++◌, take, length, length-append, append_assoc, append-nil, subst, None, Ok, Result, codes, decimal, arith, flat_map, list_all, and_parts, cond-false, leb-true, le-ltb, lt-leb, ne_eqb, decimal_digit, length-decimal-le, take_all, MAX_INPUT, MAX_LINE, Line, Op, Begin, End, Put, Get, Parsed, after_draws, bench_text, drawn_round, nth_drawn, round_text, AreBytes, Script, before_script, is_printable, parse_whole, script, script_from, without_return, hex_text, pieces, line_text, line_words, AreSome, IsLine, IsWord, decimal_word, hex_word, parse-printed, AreWords, spaced_printable, HasNoFeed, ArePlain, IsPlain, no_feed-cons, no_feed-nil, script-line}
 use Rattle.script_model.specs.declared.script.Parsed.TheVariants.{Line as Says}
-use Rattle.script_model.specs.Bench.{after_draws, bench_text, drawn_round, nth_drawn, round_text}
-use Rattle.iso_model.specs.Premises.{AreBytes}
-use Rattle.script_model.specs.Script.{Script, before_script, is_printable, parse_whole, script, script_from, without_return}
-use Rattle.script_model.specs.Text.{hex_text, pieces}
-use Rattle.script_text.specs.Spelling.{line_text, line_words, AreSome, IsLine}
-use Rattle.script_text.proofs.Numerals.{IsWord, decimal_word, hex_word}
-use Rattle.script_text.proofs.Readings.{parse-printed}
-use Rattle.script_text.proofs.Spaces.{AreWords, spaced_printable}
-use Rattle.script_runner.specs.Run.{HasNoFeed}
-use Rattle.script_runner.specs.Told.{ArePlain, IsPlain}
-use Rattle.script_runner.proofs.Feeds.{no_feed-cons, no_feed-nil}
-use Rattle.script_runner.proofs.Fronts.{script-line}
 
 not_low : (b low : ℕ) → is_printable b ≡ true → low < 32 → b ≢ low
 not_low b low test small same = omega (arith, leb-true 32 b (and_parts (nat_le 32 b) (nat_le b 126) test).0)

@@ -1,14 +1,6 @@
 -- Which replies begin as a commit and as a conflict do.
-use Rattle.std.proofs.Common.{◌≡◌, ◌∙◌, sym, refl, ap, ℕ, ◌+◌, ◌/◌, ◌%◌, Bool, true, false, cond, ◌&&◌, nat_eq, List, [], ◌∷◌, take, length, codes, arith}
-use Rattle.std.specs.Prelude.{filter}
-use Rattle.std.specs.Cmp.Lexicographic.{pointwise}
-use Rattle.script_model.specs.declared.script.Reply.{Reply}
-use Rattle.script_model.specs.declared.script.Reply.TheVariants.{Done, Began, Shown, Committed, ReadOnly, Conflict, Trimmed, Compacted, Upgraded, Numbers, Found, Pairs, Missing, InTx, NotInTx, ModeFixed, NoStore, StoreMode, BadKey, BadValue, BadBlock, BadRange, NoAccess, TooManyMarks, TooManyAccesses, Broken, NoBlocks, NoHandle, LabelTaken, TooManyTx, Worn, LogFull}
-use Rattle.script_model.specs.Bench.{is_committed, is_conflict}
-use Rattle.script_model.specs.Text.{digit_of, reply_text}
-use Rattle.bench_script.specs.declared.line_kind.LineKind.{LineKind}
+use Rattle.bench_script.proofs.Words.{◌≡◌, ◌∙◌, sym, refl, ap, ℕ, ◌+◌, ◌/◌, ◌%◌, Bool, true, false, cond, ◌&&◌, nat_eq, List, [], ◌∷◌, take, length, codes, arith, filter, pointwise, Reply, Done, Began, Shown, Committed, ReadOnly, Conflict, Trimmed, Compacted, Upgraded, Numbers, Found, Pairs, Missing, InTx, NotInTx, ModeFixed, NoStore, StoreMode, BadKey, BadValue, BadBlock, BadRange, NoAccess, TooManyMarks, TooManyAccesses, Broken, NoBlocks, NoHandle, LabelTaken, TooManyTx, Worn, LogFull, is_committed, is_conflict, digit_of, reply_text, LineKind, kind_of, commits_in, conflicts_in}
 use Rattle.bench_script.specs.declared.line_kind.LineKind.TheVariants as kind
-use Rattle.bench_script.specs.Kinds.{kind_of, commits_in, conflicts_in}
 
 -- the kind of a reply by two tests
 abbrev by_tests : (commit conflict : Bool) → LineKind

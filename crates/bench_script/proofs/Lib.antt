@@ -1,3 +1,4 @@
+pub mod Words
 mod ReplyTexts
 mod Splits
 mod KindsOfReplies

@@ -1,7 +1,5 @@
 -- The script of a bench, as it is given piece by piece.
-use Rattle.std.proofs.Common.{◌≡◌, ◌∙◌, sym, ap, ℕ, zero, suc, ◌+◌, ◌-◌, ◌<◌, ◌≤◌, min, List, [], ◌++◌, take, drop, length, length-append, length-drop, append_assoc, arith}
-use Rattle.std.proofs.lemmas.List.{drop_all, drop-drop, take-append-drop}
-use Rattle.script_model.specs.Bench.{after_draws, bench_text, drawn_round}
+use Rattle.bench_script.proofs.Words.{◌≡◌, ◌∙◌, sym, ap, ℕ, zero, suc, ◌+◌, ◌-◌, ◌<◌, ◌≤◌, min, List, [], ◌++◌, take, drop, length, length-append, length-drop, append_assoc, arith, drop_all, drop-drop, take-append-drop, after_draws, bench_text, drawn_round}
 
 -- the next round follows one that was given
 pub next_round : (rounds at x y : ℕ) (round new : List ℕ) → at ≡ length round → 0 < rounds → new ≡ drawn_round x → y ≡ after_draws 6 x

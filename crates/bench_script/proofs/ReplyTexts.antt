@@ -1,12 +1,6 @@
 -- The bytes of a number and of a reply.
-use Rattle.std.proofs.Common.{◌≡◌, ◌≢◌, ◌∙◌, refl, ℕ, zero, suc, ◌/◌, ◌%◌, ◌<◌, Bool, true, false, cond, not, ◌==◌, List, [], ◌∷◌, ◌++◌, decimal, codes, flat_map, arith}
-use Rattle.std.specs.List.{list_all}
-use Rattle.std.specs.Fmt.{digits, digits_onto, digit_glyph}
-use Rattle.std.proofs.lemmas.Bool.{ne_eqb}
-use Rattle.std.proofs.lemmas.List.Folds.{list_all-append}
-use Rattle.script_model.specs.declared.script.Reply.{Reply}
-use Rattle.script_model.specs.declared.script.Reply.TheVariants.{Done, Began, Shown, Committed, ReadOnly, Conflict, Trimmed, Compacted, Upgraded, Numbers, Found, Pairs, Missing, InTx, NotInTx, ModeFixed, NoStore, StoreMode, BadKey, BadValue, BadBlock, BadRange, NoAccess, TooManyMarks, TooManyAccesses, Broken, NoBlocks, NoHandle, LabelTaken, TooManyTx, Worn, LogFull}
-use Rattle.script_model.specs.Text.{dashed, digit_of, hex_text, pair_text, reply_text}
+use Rattle.bench_script.proofs.Words.{◌≡◌, ◌≢◌, ◌∙◌, refl, ℕ, zero, suc, ◌/◌, ◌%◌, ◌<◌, Bool, true, false, cond, not, ◌==◌, List, [], ◌∷◌, ◌++◌, decimal, codes, arith, list_all, digits, digits_onto, digit_glyph, ne_eqb, list_all-append, Reply, Done, Began, Shown, Committed, ReadOnly, Conflict, Trimmed, Compacted, Upgraded, Numbers, Found, Pairs, Missing, InTx, NotInTx, ModeFixed, NoStore, StoreMode, BadKey, BadValue, BadBlock, BadRange, NoAccess, TooManyMarks, TooManyAccesses, Broken, NoBlocks, NoHandle, LabelTaken, TooManyTx, Worn, LogFull, dashed, digit_of, hex_text, pair_text, reply_text}
+use Rattle.std.proofs.Common.{flat_map}
 
 -- the byte is another one
 abbrev pub is_other : ℕ → ℕ → Bool

@@ -1,9 +1,5 @@
 -- A text has one first byte of a kind.
-use Rattle.std.proofs.Common.{◌≡◌, refl, ℕ, true, false, List, [], ◌∷◌, ◌++◌, arith}
-use Rattle.std.specs.Prelude.{Contains}
-use Rattle.std.specs.List.{list_all}
-use Rattle.std.proofs.lemmas.Bool.{and_parts, eq-eqb}
-use Rattle.std.proofs.lemmas.List.Elements.{Contains-append_right}
+use Rattle.bench_script.proofs.Words.{◌≡◌, refl, ℕ, true, false, List, [], ◌∷◌, ◌++◌, arith, Contains, list_all, and_parts, eq-eqb, Contains-append_right}
 use Rattle.bench_script.proofs.ReplyTexts.{is_other}
 
 -- a byte of a text is in it

@@ -1,13 +1,5 @@
 -- Extents that rise and do not touch.
-use Rattle.std.proofs.Common.{◌≡◌, refl, ◌∙◌, ap, sym, ℕ, ◌+◌, ◌-◌, ◌<◌, ◌≤◌, Bool, true, false, ◌&&◌, ◌||◌, max, map, inl, inr, List, [], ◌∷◌, ◌++◌, arith, nat_le, nat_lt, Option, Some}
-use Rattle.std.proofs.Math.Bool.{and_comm, and-false, or-false}
-use Rattle.std.proofs.lemmas.Bool.Decides.{nat_tests}
-use Rattle.std.proofs.lemmas.List.Folds.{list_any-append}
-use Rattle.std.specs.List.{last_or, list_any}
-use Rattle.byte_marks.specs.declared.extent.Extent.{Extent}
-use Rattle.std.proofs.lemmas.Bool.{and_left, and_right, cases_lt}
-use Rattle.iso_model.specs.Array.{in_span}
-use Rattle.byte_marks.specs.Marks.{has, in_extent, next_free, span_of, AreApartFrom, AreRunsFrom}
+use Rattle.byte_marks.proofs.Words.{◌≡◌, refl, ◌∙◌, ap, sym, ℕ, ◌+◌, ◌-◌, ◌<◌, ◌≤◌, Bool, true, false, ◌&&◌, ◌||◌, max, map, inl, inr, List, [], ◌∷◌, ◌++◌, arith, nat_le, nat_lt, Option, Some, and_comm, and-false, or-false, nat_tests, list_any-append, last_or, list_any, Extent, and_left, and_right, cases_lt, in_span, has, in_extent, next_free, span_of, AreApartFrom, AreRunsFrom}
 
 -- they rise from any earlier byte on too
 pub earlier : (f g : ℕ) (xs : List Extent) → f ≤ g → AreApartFrom g xs → AreApartFrom f xs

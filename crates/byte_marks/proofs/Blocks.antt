@@ -1,11 +1,6 @@
 -- Entries whose blocks rise.
-use Rattle.std.proofs.Common.{◌≡◌, ◌≢◌, refl, ◌∙◌, sym, ap, subst, ℕ, zero, suc, ◌+◌, ◌<◌, ◌≤◌, Bool, true, false, ◌&&◌, ◌||◌, ◌==◌, inl, inr, List, [], ◌∷◌, ◌++◌, length, get_or, set, take, drop, arith, ne_eqb}
-use Rattle.std.proofs.Math.Bool.{and_comm}
-use Rattle.std.proofs.lemmas.Bool.{and_left, and_right, cases_eq}
-use Rattle.byte_marks.specs.declared.extent.Extent.{Extent}
-use Rattle.byte_marks.specs.Marks.{has}
+use Rattle.byte_marks.proofs.Words.{◌≡◌, ◌≢◌, refl, ◌∙◌, sym, ap, subst, ℕ, zero, suc, ◌+◌, ◌<◌, ◌≤◌, Bool, true, false, ◌&&◌, ◌||◌, ◌==◌, inl, inr, List, [], ◌∷◌, ◌++◌, length, get_or, set, take, drop, arith, ne_eqb, and_comm, and_left, and_right, cases_eq, Extent, has, entry_has, touches, RisesFrom}
 use Rattle.byte_marks.proofs.Apart.{leave_out}
-use Rattle.byte_marks.specs.Touched.{entry_has, touches, RisesFrom}
 
 -- they rise from any earlier block on too
 pub rises_earlier : (f g : ℕ) (es : List (ℕ × List Extent)) → f ≤ g → RisesFrom g es → RisesFrom f es

@@ -1,13 +1,5 @@
 -- What some words ask for.
-use Rattle.std.proofs.Common.{◌≡◌, [], ◌∷◌, Some, refl, codes}
-use Rattle.clap.proofs.OnLiterals.{clap_on_literals}
-use Rattle.iso_model.specs.declared.access.Mode.TheVariants.{Serial, Snapshot}
-use Rattle.iso_model.specs.Geometry.{is_valid}
-use Rattle.script_model.specs.Text.{number_of, words_of}
-use Rattle.command_line.specs.declared.task.Task.TheVariants.{New, Run, Par, Recover, Bench}
-use Rattle.command_line.specs.Grammar.{rows_found}
-use Rattle.command_line.specs.Requests.{geometry_of, geometry_with, request_of, task_of}
-use Rattle.command_line.specs.Values.{long_number_of}
+use Rattle.command_line.proofs.Words.{◌≡◌, [], ◌∷◌, Some, refl, codes, clap_on_literals, Serial, Snapshot, is_valid, number_of, words_of, New, Run, Par, Recover, Bench, rows_found, geometry_of, geometry_with, request_of, task_of, long_number_of}
 
 pub commands_have_their_tasks-new : request_of (words_of (codes "isotope new a")) ≡ Some (codes "a", New (geometry_with 4096 1024 4194304 Serial 0 0))
 unfolding clap_on_literals words_of request_of rows_found task_of geometry_of number_of is_valid long_number_of

@@ -1,12 +1,5 @@
 -- What clap's contracts say of the program's command.
-use Rattle.std.proofs.Common.{◌≡◌, ◌≢◌, inl, inr, ◌∙◌, true, List, [], ◌∷◌, Option, None, ap, refl, sym, subst}
-use Rattle.clap.specs.Words.{App, HasKind, HasMatchesOf, IsAmong, Kinds, Row, Text, fault_of, is_simple, is_simple_and_free, kind_of, subcommand_of, subcommand_rows_of}
-use Rattle.clap.specs.declared.error.Error.{Error}
-use Rattle.clap.specs.declared.error.kind.ErrorKind.{ErrorKind}
-use Rattle.clap.specs.declared.error.kind.ErrorKind.TheVariants.{OutOfMemory}
-use Rattle.clap.specs.declared.parser.matches.ArgMatches.{ArgMatches}
-use Rattle.clap.proofs.OnLiterals.{clap_on_literals}
-use Rattle.command_line.specs.Grammar.{isotope_app, rows_found, unless_refused}
+use Rattle.command_line.proofs.Words.{◌≡◌, ◌≢◌, inl, inr, ◌∙◌, true, List, [], ◌∷◌, Option, None, ap, refl, sym, subst, App, HasKind, HasMatchesOf, IsAmong, Kinds, Row, Text, fault_of, is_simple, is_simple_and_free, kind_of, subcommand_of, subcommand_rows_of, Error, ErrorKind, OutOfMemory, ArgMatches, clap_on_literals, isotope_app, rows_found, unless_refused}
 
 pub is_free : is_simple_and_free isotope_app ≡ true
 unfolding clap_on_literals

@@ -1,3 +1,4 @@
+pub mod Words
 pub mod Grammars
 pub mod Getters
 pub mod LongNumbers

@@ -1,14 +1,5 @@
 -- Numbers of up to 64 bits.
-use Rattle.std.proofs.Common.{◌≡◌, ℕ, ◌+◌, ◌-◌, ◌*◌, ◌^◌, ◌<◌, ◌∙◌, true, false, ◌&&◌, List, [], ◌∷◌, length, Some, None, ap, sym, arith, rules}
-use Rattle.std.specs.Prelude.{fold, nat_lt, Result, Ok, Err}
-use Rattle.std.specs.List.{list_all}
-use Rattle.std.specs.Result.{OkIff, result_ok}
-use Rattle.std.specs.Str.Parse.{ParsesUnsigned}
-use Rattle.std.proofs.lemmas.Bool.{cond-true, cond-false, lt-ltb}
-use Rattle.std.proofs.lemmas.Str.Parse.{IsNumeralModel, numerals_by_fold, parse_digits}
-use Rattle.script_model.specs.Text.{is_decimal, value_of}
-use Rattle.iso_model.specs.Labels.{is_digit}
-use Rattle.command_line.specs.Values.{long_number_of}
+use Rattle.command_line.proofs.Words.{◌≡◌, ℕ, ◌+◌, ◌-◌, ◌*◌, ◌^◌, ◌<◌, ◌∙◌, true, false, ◌&&◌, List, [], ◌∷◌, length, Some, None, ap, sym, arith, rules, fold, nat_lt, Result, Ok, Err, list_all, OkIff, result_ok, ParsesUnsigned, cond-true, cond-false, lt-ltb, IsNumeralModel, numerals_by_fold, parse_digits, is_decimal, value_of, is_digit, long_number_of}
 
 numerals : IsNumeralModel (λ ds. list_all is_digit ds ≡ true) value_of
 numerals = numerals_by_fold _ (search rules) (λ n digits. fold (λ m d. 10 * m + (d - 48)) n digits) (search (rules, arith))

@@ -1,17 +1,5 @@
 -- Words that ask for a new image.
-use Rattle.std.proofs.Common.{◌≡◌, ◌≤◌, ℕ, [], ◌∷◌, ◌++◌, Option, Some, refl, codes, true, ◌∙◌}
-use Rattle.std.specs.Prelude.{IsTrue, nat_le, option_and_then, option_map}
-use Rattle.std.proofs.lemmas.Bool.{le-leb}
-use Rattle.clap.proofs.OnLiterals.{clap_on_literals}
-use Rattle.clap.specs.Words.{Text}
-use Rattle.iso_model.specs.declared.access.Geometry.{Geometry}
-use Rattle.iso_model.specs.declared.access.Mode.{Mode}
-use Rattle.iso_model.specs.Geometry.{is_valid}
-use Rattle.script_model.specs.Text.{mode_of, number_of}
-use Rattle.command_line.specs.declared.task.Task.TheVariants.{Bench, New}
-use Rattle.command_line.specs.Grammar.{rows_found}
-use Rattle.command_line.specs.Requests.{for_image, geometry_of, geometry_with, if_valid, request_of, task_of}
-use Rattle.command_line.specs.Values.{count_of, long_number_of}
+use Rattle.command_line.proofs.Words.{◌≡◌, ◌≤◌, ℕ, [], ◌∷◌, ◌++◌, Option, Some, refl, codes, true, ◌∙◌, IsTrue, nat_le, option_and_then, option_map, le-leb, clap_on_literals, Text, Geometry, Mode, is_valid, mode_of, number_of, Bench, New, rows_found, for_image, geometry_of, geometry_with, if_valid, request_of, task_of, count_of, long_number_of}
 
 -- the words of a bench, before their values are read
 bench_words : (program image s n : Text) → request_of (program ∷ codes "bench" ∷ codes "--" ∷ image ∷ s ∷ n ∷ [])

@@ -1,12 +1,5 @@
 -- Words that ask for what is there.
-use Rattle.std.proofs.Common.{◌≡◌, [], ◌∷◌, Some, refl, codes}
-use Rattle.std.specs.Prelude.{IsFalse}
-use Rattle.clap.proofs.OnLiterals.{clap_on_literals}
-use Rattle.clap.specs.Words.{Text}
-use Rattle.command_line.specs.declared.task.Task.TheVariants.{Par, Recover, Run}
-use Rattle.command_line.specs.Grammar.{rows_found}
-use Rattle.command_line.specs.Requests.{request_of, task_of}
-use Rattle.command_line.specs.Values.{begins_with_hyphen}
+use Rattle.command_line.proofs.Words.{◌≡◌, [], ◌∷◌, Some, refl, codes, IsFalse, clap_on_literals, Text, Par, Recover, Run, rows_found, request_of, task_of, begins_with_hyphen}
 
 pub run_opens : (program image : Text) → IsFalse (begins_with_hyphen image) → request_of (program ∷ codes "run" ∷ image ∷ []) ≡ Some (image, Run)
 unfolding clap_on_literals request_of rows_found task_of

@@ -1,11 +1,5 @@
 -- Words that are outside the grammar.
-use Rattle.std.proofs.Common.{◌≡◌, [], None, refl, codes}
-use Rattle.clap.proofs.OnLiterals.{clap_on_literals}
-use Rattle.iso_model.specs.Geometry.{is_valid}
-use Rattle.script_model.specs.Text.{number_of, words_of}
-use Rattle.command_line.specs.Grammar.{rows_found}
-use Rattle.command_line.specs.Requests.{geometry_of, request_of, task_of}
-use Rattle.command_line.specs.Values.{long_number_of}
+use Rattle.command_line.proofs.Words.{◌≡◌, [], None, refl, codes, clap_on_literals, is_valid, number_of, words_of, rows_found, geometry_of, request_of, task_of, long_number_of}
 
 pub these_words_have_no_command-no_words : request_of [] ≡ None
 unfolding clap_on_literals words_of request_of rows_found task_of geometry_of number_of is_valid long_number_of

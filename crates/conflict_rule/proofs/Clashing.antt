@@ -1,25 +1,6 @@
 -- Whether there is a write, and the clash in two parts: up to a commit and after it.
-use Rattle.std.proofs.Common.{◌≡◌, ◌∙◌, refl, sym, ap, ℕ, zero, suc, ◌+◌, ◌-◌, ◌<◌, ◌≤◌, Bool, true, false, ◌&&◌, ◌||◌, nat_lt, List, [], ◌∷◌, take, drop, arith, Option, Some, None, option_map}
-use Rattle.std.specs.List.{AllByRecursion}
-use Rattle.std.proofs.lemmas.Bool.{lt-ltb, and_parts, both_ways}
-use Rattle.std.proofs.lemmas.Bool.Decides.{nat_tests}
-use Rattle.std.proofs.lemmas.List.{drop-drop}
-use Rattle.byte_marks.specs.Touched.{touches, AreTouched}
-use Rattle.iso_model.specs.declared.access.Access.{Access}
-use Rattle.iso_model.specs.declared.access.Clash.{Clash}
-use Rattle.iso_model.specs.declared.access.Commit.{Commit}
-use Rattle.iso_model.specs.declared.access.Geometry.{Geometry}
-use Rattle.iso_model.specs.declared.access.Kind.TheVariants.{Write}
-use Rattle.iso_model.specs.declared.access.Mode.{Mode}
-use Rattle.iso_model.specs.declared.access.Span.{Span}
-use Rattle.iso_model.specs.Array.{covered, in_span}
-use Rattle.iso_model.specs.Conflict.{clash, clash_from, clashes, first_after, first_byte}
-use Rattle.iso_model.specs.Effect.{covers, has_write, is_write, or_else}
+use Rattle.conflict_rule.proofs.Words.{◌≡◌, ◌∙◌, refl, sym, ap, ℕ, zero, suc, ◌+◌, ◌-◌, ◌<◌, ◌≤◌, Bool, true, false, ◌&&◌, ◌||◌, nat_lt, List, [], ◌∷◌, take, drop, arith, Option, Some, None, option_map, AllByRecursion, lt-ltb, and_parts, both_ways, nat_tests, drop-drop, touches, AreTouched, Access, Clash, Commit, Geometry, Write, Mode, Span, covered, in_span, clash, clash_from, clashes, first_after, first_byte, covers, has_write, is_write, or_else, History, AreAccesses, IsSpan, covers_where, up_to, Bytes}
 use Rattle.iso_model.specs.Effect as model
-use Rattle.iso_model.specs.History.{History}
-use Rattle.iso_model.specs.Premises.{AreAccesses, IsSpan}
-use Rattle.iso_model.proofs.Written.{covers_where}
-use Rattle.conflict_rule.specs.Decision.{up_to, Bytes}
 
 -- a byte that an access covers
 abbrev SomeByte : (size : ℕ) → List Span → Type 0

@@ -1,15 +1,5 @@
 -- Notes that follow a history, when it grows and when they are dropped.
-use Rattle.std.proofs.Common.{◌≡◌, ◌∙◌, refl, sym, ap, subst, ℕ, zero, suc, ◌+◌, ◌-◌, ◌<◌, ◌≤◌, false, nat_lt, List, [], ◌∷◌, ◌++◌, length, drop, arith, inl, inr}
-use Rattle.std.proofs.lemmas.Bool.{cases_lt, le-ltb}
-use Rattle.std.proofs.lemmas.List.{drop-drop, drop_all, length-drop, drop-append-le}
-use Rattle.iso_model.specs.declared.access.Commit.{Commit}
-use Rattle.iso_model.specs.declared.access.Geometry.{Geometry}
-use Rattle.iso_model.specs.declared.access.Kind.TheVariants.{Write}
-use Rattle.iso_model.specs.Conflict.{first_after}
-use Rattle.iso_model.specs.History.{History}
-use Rattle.conflict_rule.specs.Notes.{Note, above, RisesFrom}
-use Rattle.byte_marks.specs.Touched.{AreTouched}
-use Rattle.conflict_rule.specs.Decision.{AreNotes, AreNotesAfter, Bytes}
+use Rattle.conflict_rule.proofs.Words.{◌≡◌, ◌∙◌, refl, sym, ap, subst, ℕ, zero, suc, ◌+◌, ◌-◌, ◌<◌, ◌≤◌, false, nat_lt, List, [], ◌∷◌, ◌++◌, length, drop, arith, inl, inr, cases_lt, le-ltb, drop-drop, drop_all, length-drop, drop-append-le, Commit, Geometry, Write, first_after, History, Note, above, RisesFrom, AreTouched, AreNotes, AreNotesAfter, Bytes}
 use Rattle.conflict_rule.proofs.Numbers.{all_above}
 
 pub notes_rise : (g : Geometry) (k : ℕ) (notes : List Note) (commits : List Commit) → AreNotes g k notes commits → RisesFrom k notes

@@ -1,20 +1,6 @@
 -- The least meeting over notes is the model's least clash.
-use Rattle.std.proofs.Common.{◌≡◌, ◌∙◌, refl, sym, ap, ℕ, zero, suc, ◌+◌, ◌<◌, ◌≤◌, Bool, true, false, ◌&&◌, nat_lt, inl, inr, List, [], ◌∷◌, arith, Option, Some, None}
-use Rattle.std.proofs.lemmas.Bool.{cases_eq, lt-ltb, and_parts}
-use Rattle.std.proofs.lemmas.Grind.{common_steps}
-use Rattle.byte_marks.specs.Touched.{touches, AreTouched}
-use Rattle.iso_model.specs.declared.access.Access.{Access}
-use Rattle.iso_model.specs.declared.access.Clash.{Clash}
-use Rattle.iso_model.specs.declared.access.Commit.{Commit}
-use Rattle.iso_model.specs.declared.access.Geometry.{Geometry}
-use Rattle.iso_model.specs.declared.access.Kind.{Kind}
-use Rattle.iso_model.specs.declared.access.Kind.TheVariants.{Read, Write}
-use Rattle.iso_model.specs.declared.access.Mode.{Mode}
-use Rattle.iso_model.specs.declared.access.Mode.TheVariants.{Serial, Snapshot}
-use Rattle.iso_model.specs.Conflict.{clashes, clash_from, first_from, first_byte, guarded}
+use Rattle.conflict_rule.proofs.Words.{◌≡◌, ◌∙◌, refl, sym, ap, ℕ, zero, suc, ◌+◌, ◌<◌, ◌≤◌, Bool, true, false, ◌&&◌, nat_lt, inl, inr, List, [], ◌∷◌, arith, Option, Some, None, cases_eq, lt-ltb, and_parts, common_steps, touches, AreTouched, Access, Clash, Commit, Geometry, Kind, Read, Write, Mode, Serial, Snapshot, clashes, clash_from, first_from, first_byte, guarded, Note, guarded_bytes, AreNotes, Bytes, IsLeastMeeting}
 use Rattle.iso_model.specs.Effect as model
-use Rattle.conflict_rule.specs.Notes.{Note}
-use Rattle.conflict_rule.specs.Decision.{guarded_bytes, AreNotes, Bytes, IsLeastMeeting}
 
 -- no number passes
 first_none : (test : ℕ → Bool) (p n : ℕ) → ((q : ℕ) → p ≤ q → q < p + n → test q ≡ false) → first_from test p n ≡ None

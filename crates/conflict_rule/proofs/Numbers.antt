@@ -1,10 +1,5 @@
 -- Notes whose numbers rise.
-use Rattle.std.proofs.Common.{◌≡◌, ◌≢◌, ◌∙◌, refl, sym, ap, subst, ℕ, zero, suc, ◌+◌, ◌<◌, ◌≤◌, Bool, true, false, ◌==◌, cond, nat_lt, inl, inr, List, [], ◌∷◌, ◌++◌, length, get_or, take, drop, arith, ne_eqb, Option, Some, None, leb}
-use Rattle.std.proofs.lemmas.Bool.{cases_eq, cases_lt, lt-ltb, le-ltb}
-use Rattle.std.proofs.lemmas.Grind.{common_steps}
-use Rattle.std.proofs.lemmas.Bool.Decides.{nat_tests}
-use Rattle.byte_marks.specs.declared.extent.Extent.{Extent}
-use Rattle.conflict_rule.specs.Notes.{Note, above, note_of, RisesFrom}
+use Rattle.conflict_rule.proofs.Words.{◌≡◌, ◌≢◌, ◌∙◌, refl, sym, ap, subst, ℕ, zero, suc, ◌+◌, ◌<◌, ◌≤◌, Bool, true, false, ◌==◌, cond, nat_lt, inl, inr, List, [], ◌∷◌, ◌++◌, length, get_or, take, drop, arith, ne_eqb, Option, Some, None, leb, cases_eq, cases_lt, lt-ltb, le-ltb, common_steps, nat_tests, Extent, Note, above, note_of, RisesFrom}
 
 -- they rise from any earlier number on too
 pub rises_earlier : (f g : ℕ) (notes : List Note) → f ≤ g → RisesFrom g notes → RisesFrom f notes

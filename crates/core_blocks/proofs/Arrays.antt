@@ -1,36 +1,5 @@
 -- The array that is read from a core's disk is that of its world.
-use Rattle.std.proofs.Common.{◌≡◌, ◌∙◌, sym, refl, subst, inl, ℕ, ◌+◌, ◌*◌, ◌<◌, ◌≤◌, List, [], length, map, Option, Some, None, option_map, unwrap_or, arith}
-use Rattle.std.specs.Prelude.{IsSome, slice_index}
-use Rattle.std.specs.List.{range_with_len}
-use Rattle.std.specs.Option.{ForSome}
-use Rattle.std.proofs.lemmas.List.{ext_get_or}
-use Rattle.std.proofs.lemmas.List.FromFn.{get_or-map-range_with_len, length-map-range_with_len}
-use Rattle.iso_disk.specs.Disk.{DiskState, IsLawful}
-use Rattle.iso_disk.proofs.Moments.{starts_unwritten}
-use Rattle.iso_image.specs.Half.{IsHeld, half_of_world}
-use Rattle.iso_model.specs.declared.access.Geometry.{Geometry}
-use Rattle.iso_model.specs.Array.{Array}
-use Rattle.iso_model.specs.Geometry.{base_place}
-use Rattle.iso_model.specs.History.{array_at}
-use Rattle.iso_model.specs.Premises.{HasShape, block_at}
-use Rattle.iso_model.specs.World.{World, Live}
-use Rattle.iso_model.proofs.Bounds.{limits}
-use Rattle.iso_model.proofs.Recorded.{array_shape}
-use Rattle.mv_index.specs.declared.version.Version.{Version}
-use Rattle.mv_index.specs.Shown.{byte_in}
-use Rattle.mv_index.specs.Versions.{upto, versions_in}
-use Rattle.version_read.specs.Blocks.{IsOver}
-use Rattle.tx_table.specs.Work.{Doing}
-use Rattle.tx_blocks.specs.Tx.{IsArrayOf}
-use Rattle.iso_core.specs.declared.core_itself.Core.{Core}
-use Rattle.iso_core.specs.declared.kept.Kept.{Kept}
-use Rattle.iso_core.specs.Calls.{IsTx, IsWorkOf}
-use Rattle.iso_core.specs.Core.{StandsFor, disk_of}
-use Rattle.iso_core.specs.Kept.{IsOf}
-use Rattle.iso_core.specs.Standing.{up}
-use Rattle.iso_core.proofs.Fetches.{block_is}
-use Rattle.core_blocks.specs.Guests.{IsGuest, tx_of}
-use Rattle.core_blocks.specs.Shown.{array_in, array_told, over_bytes}
+use Rattle.core_blocks.proofs.Words.{◌≡◌, ◌∙◌, sym, refl, subst, inl, ℕ, ◌+◌, ◌*◌, ◌<◌, ◌≤◌, List, [], length, map, Option, Some, None, option_map, unwrap_or, arith, IsSome, slice_index, range_with_len, ForSome, ext_get_or, get_or-map-range_with_len, length-map-range_with_len, DiskState, IsLawful, starts_unwritten, IsHeld, half_of_world, Geometry, Array, base_place, array_at, HasShape, block_at, World, Live, limits, array_shape, Version, byte_in, upto, versions_in, IsOver, Doing, IsArrayOf, Core, Kept, IsTx, IsWorkOf, StandsFor, disk_of, IsOf, up, block_is, IsGuest, tx_of, array_in, array_told, over_bytes}
 
 length-over : (image : List ℕ) (base size : ℕ) (versions : List Version) → length (over_bytes image base size versions) ≡ size
 length-over image base size versions = length-map-range_with_len (λ p. unwrap_or (byte_in image versions p) (slice_index image (base + p))) 0 size

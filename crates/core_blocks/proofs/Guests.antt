@@ -1,23 +1,6 @@
 -- A guest after one more call on its transaction.
-use Rattle.std.proofs.Common.{◌≡◌, ◌∙◌, sym, refl, ap, subst, false, ℕ, suc, ◌+◌, ◌≤◌, List, [], ◌∷◌, ◌++◌, length, Option, Some, None, Result, Ok, Err, OnOk, arith}
-use Rattle.std.specs.Prelude.{IsSome}
-use Rattle.std.specs.Option.{ForSome}
-use Rattle.std.proofs.lemmas.List.{length_push}
-use Rattle.fault_count.specs.Count.{Rose, one_more}
-use Rattle.iso_disk.specs.Disk.{DiskState, IsLawful, WritesNothing}
-use Rattle.iso_disk.proofs.Moments.{joined_unwritten}
-use Rattle.iso_model.specs.declared.access.Access.{Access}
-use Rattle.iso_model.specs.declared.access.MarkError.{MarkError}
-use Rattle.iso_model.specs.declared.access.Span.{Span}
-use Rattle.iso_model.specs.Array.{Array}
-use Rattle.iso_model.specs.Marks.{mark_fault, marked}
-use Rattle.iso_model.specs.World.{World}
-use Rattle.tx_table.specs.Work.{Doing, span_at}
+use Rattle.core_blocks.proofs.Words.{◌≡◌, ◌∙◌, sym, refl, ap, subst, false, ℕ, suc, ◌+◌, ◌≤◌, List, [], ◌∷◌, ◌++◌, length, Option, Some, None, Result, Ok, Err, OnOk, arith, IsSome, ForSome, length_push, Rose, one_more, DiskState, IsLawful, WritesNothing, joined_unwritten, Access, MarkError, Span, Array, mark_fault, marked, World, Doing, span_at, Core, StandsFor, disk_of, up, Counts, IsGuest, IsSameWork, tx_of}
 use Rattle.tx_blocks.specs.Tx.{IsTx as AreLimits}
-use Rattle.iso_core.specs.declared.core_itself.Core.{Core}
-use Rattle.iso_core.specs.Core.{StandsFor, disk_of}
-use Rattle.iso_core.specs.Standing.{up}
-use Rattle.core_blocks.specs.Guests.{Counts, IsGuest, IsSameWork, tx_of}
 
 same_work : (a b c : Doing) → IsSameWork a b → IsSameWork b c → IsSameWork a c
 same_work a b c first second = record {

@@ -1,2 +1,3 @@
+pub mod Words
 pub mod Guests
 pub mod Arrays

@@ -1,12 +1,5 @@
 -- The headers of an image tell which half is the current one.
-use Rattle.std.proofs.Common.{◌≡◌, ◌+◌, ◌==◌, ℕ, List, take, drop, get_or, ◌∙◌, ap, arith}
-use Rattle.std.specs.Int.{from_be_bytes, w64}
-use Rattle.std.proofs.lemmas.List.{drop-drop, drop-take, get_or-drop, get_or-take, take-take}
-use Rattle.iso_model.specs.declared.access.Geometry.{Geometry}
-use Rattle.iso_model.specs.Geometry.{header_place}
-use Rattle.iso_model.specs.Image.{chosen_half, current_half, generation_at}
-use Rattle.iso_format.specs.declared.half.HalfHeader.{HalfHeader}
-use Rattle.iso_format.specs.Reading.{half_of}
+use Rattle.half_switch.proofs.Words.{◌≡◌, ◌+◌, ◌==◌, ℕ, List, take, drop, get_or, ◌∙◌, ap, arith, from_be_bytes, w64, drop-drop, drop-take, get_or-drop, get_or-take, take-take, Geometry, header_place, chosen_half, current_half, generation_at, HalfHeader, half_of}
 
 told_gate : (at : ℕ) (bytes : List ℕ) → (half_of (take 32 (drop at bytes))).gate ≡ get_or bytes at 0
 unfolding half_of

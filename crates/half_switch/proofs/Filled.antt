@@ -1,25 +1,5 @@
 -- What a half is filled with, in one image.
-use Rattle.std.proofs.Common.{◌≡◌, ◌≤◌, ◌+◌, ◌-◌, ◌*◌, inl, inr, ℕ, List, [], ◌∷◌, ◌++◌, length, take, drop, get_or, Option, IsTrue, refl, sym, ◌∙◌, ap, arith, subst, length-append, length-drop, append_assoc}
-use Rattle.std.specs.List.{AllByRecursion, slice_range}
-use Rattle.std.proofs.lemmas.List.{drop-take, length-take-le, take-take, take_at, get_or-take, get_or-drop, get_or_at}
-use Rattle.iso_model.specs.declared.access.Geometry.{Geometry}
-use Rattle.iso_model.specs.declared.limits.TheConstants.{LAST}
-use Rattle.iso_model.specs.Array.{Array}
-use Rattle.iso_model.specs.Geometry.{image_size, base_place, is_valid, log_place}
-use Rattle.iso_model.specs.History.{all_own, array_at}
-use Rattle.iso_model.specs.Image.{IsRecord, Written, blocks_of, commits_of, half_header, records}
-use Rattle.iso_disk.specs.Disk.{spliced, Torn}
-use Rattle.iso_disk.proofs.Bytes.{slice-torn, spliced_torn, take-drop-spliced}
-use Rattle.iso_image.specs.declared.places.HalfPlace.{HalfPlace}
-use Rattle.iso_image.specs.Half.{Half, HasLog, IsFilled, IsHeld, history_of, in_form, last_told, told_bytes}
-use Rattle.iso_image.proofs.Adds.{held_each, held_last, held_log}
-use Rattle.iso_image.proofs.Frames.{blocks_same, held_half, log_inside}
-use Rattle.iso_image.proofs.Histories.{records_form}
-use Rattle.iso_image.proofs.Logs.{has_log}
-use Rattle.half_switch.specs.declared.plan.FillPlan.{FillPlan}
-use Rattle.half_switch.specs.Laid.{all_laid}
-use Rattle.half_switch.specs.Plan.{AreHalves, Copies, IsReady, place_of, refilled}
-use Rattle.half_switch.specs.Put.{HasRecords, IsLaidOut, closed_log, filled_with, header_tail}
+use Rattle.half_switch.proofs.Words.{◌≡◌, ◌≤◌, ◌+◌, ◌-◌, ◌*◌, inl, inr, ℕ, List, [], ◌∷◌, ◌++◌, length, take, drop, get_or, Option, IsTrue, refl, sym, ◌∙◌, ap, arith, subst, length-append, length-drop, append_assoc, AllByRecursion, slice_range, drop-take, length-take-le, take-take, take_at, get_or-take, get_or-drop, get_or_at, Geometry, LAST, Array, image_size, base_place, is_valid, log_place, all_own, array_at, IsRecord, Written, blocks_of, commits_of, half_header, records, spliced, Torn, slice-torn, spliced_torn, take-drop-spliced, HalfPlace, Half, HasLog, IsFilled, IsHeld, history_of, in_form, last_told, told_bytes, held_each, held_last, held_log, blocks_same, held_half, log_inside, records_form, has_log, FillPlan, all_laid, AreHalves, Copies, IsReady, place_of, refilled, HasRecords, IsLaidOut, closed_log, filled_with, header_tail}
 use Rattle.half_switch.proofs.Forms.{all_take, each_form, may_switch}
 use Rattle.half_switch.proofs.Kept.{other_place}
 use Rattle.half_switch.proofs.Lays.{all_laid_blocks, length-all_laid, take_commits}

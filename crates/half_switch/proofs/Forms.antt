@@ -1,20 +1,6 @@
 -- A half that is filled from another, in whatever form.
-use Rattle.std.proofs.Common.{◌≡◌, ◌<◌, ◌≤◌, ◌+◌, ◌-◌, ℕ, zero, suc, List, [], ◌∷◌, take, drop, IsTrue, sym, arith, length-drop}
-use Rattle.std.specs.List.{AllByRecursion}
-use Rattle.iso_model.specs.declared.access.Geometry.{Geometry}
-use Rattle.iso_model.specs.declared.access.Run.{Run}
-use Rattle.iso_model.specs.declared.limits.TheConstants.{LAST}
-use Rattle.iso_model.specs.Geometry.{is_valid}
-use Rattle.iso_model.specs.History.{History}
-use Rattle.iso_model.specs.Image.{AreRuns, IsRecord, Written}
-use Rattle.iso_model.specs.Premises.{IsHistory}
-use Rattle.iso_model.proofs.Held.{held_array}
-use Rattle.iso_image.specs.Changes.{MaySwitch}
-use Rattle.iso_image.specs.Half.{Half, IsHeld, half_of, in_form, last_told}
-use Rattle.iso_image.proofs.Adds.{held_each, held_last}
-use Rattle.iso_image.proofs.Frames.{held_half}
-use Rattle.iso_image.proofs.Histories.{later_records}
-use Rattle.half_switch.specs.Plan.{refilled}
+use Rattle.half_switch.proofs.Words.{◌≡◌, ◌<◌, ◌≤◌, ◌+◌, ◌-◌, ℕ, zero, suc, List, [], ◌∷◌, take, drop, IsTrue, sym, arith, length-drop, AllByRecursion, Geometry, Run, LAST, is_valid, History, AreRuns, IsRecord, Written, IsHistory, held_array, MaySwitch, Half, IsHeld, in_form, last_told, held_each, held_last, held_half, later_records, refilled}
+use Rattle.iso_image.specs.Half.{half_of}
 
 runs_form : (g : Geometry) (form : ℕ) (parts : List Run) → AreRuns g parts → AreRuns (in_form form g) parts
 runs_form g form [] all = tt

@@ -1,16 +1,5 @@
 -- An image through writes in the half that is filled, behind its closed gate.
-use Rattle.std.proofs.Common.{◌≡◌, ◌≤◌, ◌+◌, ◌-◌, inl, ℕ, zero, suc, List, refl, sym, ◌∙◌, ap, arith, subst}
-use Rattle.iso_model.specs.declared.access.Geometry.{Geometry}
-use Rattle.iso_model.specs.Geometry.{half_size, header_place}
-use Rattle.iso_disk.specs.Disk.{Torn}
-use Rattle.iso_disk.proofs.Bytes.{get_or-torn}
-use Rattle.commit_gate.specs.Gate.{IsClosed}
-use Rattle.iso_image.specs.declared.places.HalfPlace.{HalfPlace}
-use Rattle.iso_image.specs.Half.{Half, IsHeld}
-use Rattle.iso_image.proofs.Frames.{held_half}
-use Rattle.iso_image.proofs.Others.{beside_closed}
-use Rattle.half_switch.specs.declared.plan.FillPlan.{FillPlan}
-use Rattle.half_switch.specs.Plan.{AreHalves, IsFrom, place_of}
+use Rattle.half_switch.proofs.Words.{◌≡◌, ◌≤◌, ◌+◌, ◌-◌, inl, ℕ, zero, suc, List, refl, sym, ◌∙◌, ap, arith, subst, Geometry, half_size, header_place, Torn, get_or-torn, IsClosed, HalfPlace, Half, IsHeld, held_half, beside_closed, FillPlan, AreHalves, IsFrom, place_of}
 
 pub kept_closed : (header n : ℕ) (old new : List ℕ) → IsClosed header old → Torn (header + 1) n old new → IsClosed header new
 kept_closed header n old new closed torn is = closed (sym (get_or-torn torn header 0 (inl (omega arith))) ∙ is)

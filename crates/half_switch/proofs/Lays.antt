@@ -1,21 +1,5 @@
 -- Runs laid over the bytes of a base are the writes of their commits.
-use Rattle.std.proofs.Common.{◌≡◌, ◌≢◌, ◌⊎◌, inl, inr, ◌<◌, ◌≤◌, ◌+◌, ◌-◌, ◌*◌, ◌==◌, ◌&&◌, ℕ, zero, suc, List, [], ◌∷◌, length, take, drop, get_or, Bool, true, false, cond, nat_le, nat_lt, Option, Some, None, unwrap_or, refl, sym, ◌∙◌, ap, arith, eq-eqb, ne_eqb, mul-le-mul_right, length-drop}
-use Rattle.std.specs.List.{AllByRecursion}
-use Rattle.std.proofs.lemmas.Bool.{and_parts, cases_eq, leb-true, le-leb, ltb-true, lt-ltb}
-use Rattle.std.proofs.lemmas.List.{get_or-take, get_or-drop, length-take-le}
-use Rattle.iso_model.specs.declared.access.Commit.{Commit}
-use Rattle.iso_model.specs.declared.access.Geometry.{Geometry}
-use Rattle.iso_model.specs.declared.access.Run.{Run}
-use Rattle.iso_model.specs.Array.{Array, byte_at, in_span}
-use Rattle.iso_model.specs.Effect.{or_else, own}
-use Rattle.iso_model.specs.History.{all_own}
-use Rattle.iso_model.specs.Image.{AreRuns, IsRecord, IsRun, Written, blocks_of, commit_of, commits_of, recorded}
-use Rattle.iso_model.specs.Premises.{HasBytes, block_at, value_in, value_of}
-use Rattle.iso_model.proofs.Bytes.{own_at}
-use Rattle.iso_model.proofs.Recorded.{HasSize, effect_recorded, length-recorded, own_size, same_arrays}
-use Rattle.iso_disk.specs.Disk.{spliced}
-use Rattle.iso_disk.proofs.Bytes.{get_or-spliced, get_or-torn, length-spliced, spliced_torn}
-use Rattle.half_switch.specs.Laid.{all_laid, laid, one_laid, run_place}
+use Rattle.half_switch.proofs.Words.{◌≡◌, ◌≢◌, ◌⊎◌, inl, inr, ◌<◌, ◌≤◌, ◌+◌, ◌-◌, ◌*◌, ◌==◌, ◌&&◌, ℕ, zero, suc, List, [], ◌∷◌, length, take, drop, get_or, Bool, true, false, cond, nat_le, nat_lt, Option, Some, None, unwrap_or, refl, sym, ◌∙◌, ap, arith, eq-eqb, ne_eqb, mul-le-mul_right, length-drop, AllByRecursion, and_parts, cases_eq, leb-true, le-leb, ltb-true, lt-ltb, get_or-take, get_or-drop, length-take-le, Commit, Geometry, Run, Array, byte_at, in_span, or_else, own, all_own, AreRuns, IsRecord, IsRun, Written, blocks_of, commit_of, commits_of, recorded, HasBytes, block_at, value_in, value_of, own_at, HasSize, effect_recorded, length-recorded, own_size, same_arrays, spliced, get_or-spliced, get_or-torn, length-spliced, spliced_torn, all_laid, laid, one_laid, run_place}
 
 -- the byte at p of block b, among the bytes of the blocks
 pub byte_of : (size n : ℕ) (c : List ℕ) (b p : ℕ) → b < n → p < size → byte_at (blocks_of size n c) b p ≡ get_or c (b * size + p) 0

@@ -1,3 +1,4 @@
+pub mod Words
 pub mod Chosen
 pub mod Filled
 pub mod Forms

@@ -1,23 +1,5 @@
 -- The records in the bytes of a log, one by one.
-use Rattle.std.proofs.Common.{◌≡◌, ◌≢◌, ◌<◌, ◌≤◌, ◌+◌, ◌-◌, ◌^◌, ℕ, zero, suc, List, [], ◌∷◌, ◌++◌, length, take, drop, Bool, true, false, cond, IsTrue, refl, sym, ◌∙◌, ap, arith, subst, eq-eqb, length-append, true≢false, append_assoc, Result, Ok, Err, set, take-append-drop}
-use Rattle.std.specs.List.{AllByRecursion}
-use Rattle.std.specs.Int.{from_be_bytes, to_be_bytes, w32}
-use Rattle.std.proofs.lemmas.Nat.{from_be_bytes-to_be_bytes_4}
-use Rattle.std.proofs.lemmas.List.{drop_at, drop-drop, length-take-le}
-use Rattle.iso_model.specs.declared.access.Geometry.{Geometry}
-use Rattle.iso_model.specs.declared.access.Mode.{Mode}
-use Rattle.iso_model.specs.declared.access.Mode.TheVariants.{Serial, Snapshot}
-use Rattle.iso_model.specs.declared.access.Run.{Run}
-use Rattle.iso_model.specs.declared.limits.TheConstants.{LAST}
-use Rattle.iso_model.specs.Geometry.{is_valid, same_mode}
-use Rattle.iso_model.specs.Image.{AreRuns, IsRecord, Written, body_length, half_header, kind_of, records, spell}
-use Rattle.iso_model.proofs.Bounds.{limits}
-use Rattle.iso_model.proofs.Opened.{length-spell}
-use Rattle.iso_format.specs.Reading.{number_at}
-use Rattle.iso_format.specs.Records.{BeginsWith, Recorded, is_kind, record_window}
-use Rattle.iso_format.proofs.Parts.{body_bound}
-use Rattle.iso_image.proofs.Logs.{records-append}
-use Rattle.half_switch.specs.Laid.{AreBytesOf, all_laid, laid}
+use Rattle.half_switch.proofs.Words.{◌≡◌, ◌≢◌, ◌<◌, ◌≤◌, ◌+◌, ◌-◌, ◌^◌, ℕ, zero, suc, List, [], ◌∷◌, ◌++◌, length, take, drop, Bool, true, false, cond, IsTrue, refl, sym, ◌∙◌, ap, arith, subst, eq-eqb, length-append, true≢false, append_assoc, Result, Ok, Err, set, take-append-drop, AllByRecursion, from_be_bytes, to_be_bytes, w32, from_be_bytes-to_be_bytes_4, drop_at, drop-drop, length-take-le, Geometry, Mode, Serial, Snapshot, Run, LAST, is_valid, same_mode, AreRuns, IsRecord, Written, body_length, half_header, kind_of, records, spell, limits, length-spell, number_at, BeginsWith, Recorded, is_kind, record_window, body_bound, records-append, AreBytesOf, all_laid, laid}
 
 cons_of : (xs : List ℕ) (gate : ℕ) (rest : List ℕ) → (next : ℕ) × (more : List ℕ) × (xs ++ gate ∷ rest ≡ next ∷ more)
 cons_of [] gate rest = (gate, rest, refl)

@@ -1,10 +1,5 @@
 -- What a disk tells after a run of calls that writes in one range alone.
-use Rattle.std.proofs.Common.{◌≡◌, ◌≤◌, ◌+◌, ◌-◌, ℕ, List, length, take, drop, Result, Ok, Err, OnErr, Option, Some, None, refl, ◌∙◌, arith}
-use Rattle.iso_disk.specs.Disk.{DiskState, IsLawful, IsSettled, Splices, TellsTorn}
-use Rattle.iso_disk.proofs.Bytes.{torn_same, torn_twice, torn_wider}
-use Rattle.iso_disk.proofs.Images.{length-contents, tells_spliced}
-use Rattle.iso_image.specs.declared.places.HalfPlace.{HalfPlace}
-use Rattle.half_switch.specs.Put.{IsPut}
+use Rattle.half_switch.proofs.Words.{◌≡◌, ◌≤◌, ◌+◌, ◌-◌, ℕ, List, length, take, drop, Result, Ok, Err, OnErr, Option, Some, None, refl, ◌∙◌, arith, DiskState, IsLawful, IsSettled, Splices, TellsTorn, torn_same, torn_twice, torn_wider, length-contents, tells_spliced, HalfPlace, IsPut}
 
 pub on_err : {T E P : Type 0} (r : Result T E) → P → OnErr r P
 on_err (Ok x) p = tt

@@ -1,16 +1,5 @@
 -- A visit of a session's transaction begins.
-use Rattle.std.proofs.Common.{◌≡◌, ◌≤◌, false, IsTrue, Option, Some, None, length, refl, sym, subst, arith}
-use Rattle.iso_model.specs.Array.{Array}
-use Rattle.iso_model.specs.Geometry.{is_valid}
-use Rattle.iso_model.specs.History.{array_at}
-use Rattle.iso_model.specs.Premises.{block_at}
-use Rattle.iso_model.proofs.Bounds.{limits}
-use Rattle.iso_shared.specs.States.{Start, state_at}
-use Rattle.tx_blocks.specs.Tx.{IsArrayOf, IsTx}
-use Rattle.handle_pass.specs.declared.session.Session.{Session}
-use Rattle.handle_pass.specs.Accesses.{accesses_of, tx_on}
-use Rattle.handle_pass.specs.Sessions.{Own, own, seen, IsSession}
-use Rattle.handle_pass.specs.Visits.{IsVisit, base_in, base_of, begin_array, shaped}
+use Rattle.handle_pass.proofs.Words.{◌≡◌, ◌≤◌, false, IsTrue, Option, Some, None, length, refl, sym, subst, arith, Array, is_valid, array_at, block_at, limits, Start, state_at, IsArrayOf, IsTx, Session, accesses_of, tx_on, Own, own, seen, IsSession, IsVisit, base_in, base_of, begin_array, shaped}
 use Rattle.handle_pass.proofs.Shapes.{length-block_shaped, length-shaped}
 use Rattle.handle_pass.proofs.Visiting.{begun_base, told_base, visit_none}
 

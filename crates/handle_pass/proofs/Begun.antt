@@ -1,22 +1,10 @@
 -- The array at the begin of a session's transaction is the same at each later place of the list.
-use Rattle.std.proofs.Common.{◌≡◌, ℕ, ◌<◌, ◌≤◌, List, [], ◌∷◌, Option, Some, None, IfSome, refl, ap, ◌∙◌, arith}
+use Rattle.handle_pass.proofs.Words.{◌≡◌, ℕ, ◌<◌, ◌≤◌, List, [], ◌∷◌, Option, Some, None, IfSome, refl, ap, ◌∙◌, arith, History, all_own, array_at, last, Extends, Call, Cause, Entry, Shared, Tx, tx_view, Start, State, after, after_all, after_fault, after_refusal, after_sweep, opened, state_at, follows_prefix, up_to_same, ahead_on, Session, Own, own, own_of, seen, IsSession}
 use mathlib.Core.List.{IsPrefix}
-use Rattle.iso_model.specs.History.{History, all_own, array_at, last}
-use Rattle.iso_model.specs.Worlds.{Extends}
-use Rattle.iso_shared.specs.declared.entry.Call.{Call}
 use Rattle.iso_shared.specs.declared.entry.Call.TheVariants as call
-use Rattle.iso_shared.specs.declared.entry.Cause.{Cause}
 use Rattle.iso_shared.specs.declared.entry.Cause.TheVariants as cause
-use Rattle.iso_shared.specs.declared.entry.Entry.{Entry}
 use Rattle.iso_shared.specs.declared.entry.Entry.TheVariants as entry
-use Rattle.iso_shared.specs.declared.shared.Shared.{Shared}
-use Rattle.iso_shared.specs.declared.tx.Tx.{Tx}
-use Rattle.iso_shared.specs.Ports.{IsTx, tx_view}
-use Rattle.iso_shared.specs.States.{Start, State, after, after_all, after_fault, after_refusal, after_sweep, opened, state_at}
-use Rattle.iso_shared.proofs.Follows.{follows_prefix, up_to_same}
-use Rattle.iso_shared.proofs.Mades.{ahead_on}
-use Rattle.handle_pass.specs.declared.session.Session.{Session}
-use Rattle.handle_pass.specs.Sessions.{Own, own, own_of, seen, IsSession}
+use Rattle.iso_shared.specs.Ports.{IsTx}
 
 tells_fault : (S : State) (c : Call) (now : ℕ) → (after_fault S c now).tells ≡ S.tells
 tells_fault S (call.Begin named) now = refl

@@ -1,34 +1,11 @@
 -- What an entry of a session changes, by how port and transaction stand before and after it.
-use Rattle.std.proofs.Common.{◌≡◌, ℕ, ◌+◌, ◌<◌, ◌≤◌, Bool, true, false, nat_lt, List, [], ◌∷◌, ◌++◌, Option, Some, None, IfSome, length, refl, sym, ap, ◌∙◌, subst, arith}
-use Rattle.std.specs.Prelude.{is_some}
-use Rattle.std.proofs.lemmas.Bool.Decides.{nat_tests}
+use Rattle.handle_pass.proofs.Words.{◌≡◌, ℕ, ◌+◌, ◌<◌, ◌≤◌, Bool, true, false, nat_lt, List, [], ◌∷◌, ◌++◌, Option, Some, None, IfSome, length, refl, sym, ap, ◌∙◌, subst, arith, is_some, nat_tests, Doing, View, hit, times, AllBelow, view, IsAlike, prefix_length, prefix_self, prefix_trans, times_above, times_append, CoreError, array_at, block_at, Entry, Port, Shared, Tx, IsLegal, IsSameTx, IsTxOf, MadeBoth, Start, opened, state_at, cause_of, posting_of_tx, own_on, legal_last, loose_is, Session, Own, count, count_of, own_in, own_of, seen, units, units_of, IsSession, Made, Rested, left_by}
 use mathlib.Core.List.{IsPrefix}
-use Rattle.tx_table.specs.Work.{Doing}
-use Rattle.turn_lock.specs.declared.view.View.{View}
-use Rattle.turn_lock.specs.Lists.{hit, times, AllBelow}
-use Rattle.turn_lock.specs.Pass.{view, IsAlike}
-use Rattle.turn_lock.proofs.Prefixes.{prefix_length, prefix_self, prefix_trans}
-use Rattle.turn_lock.proofs.Rising.{times_above, times_append}
-use Rattle.iso_model.specs.declared.core_error.CoreError.{CoreError}
 use Rattle.iso_model.specs.declared.core_error.CoreError.TheVariants as error
-use Rattle.iso_model.specs.History.{array_at}
-use Rattle.iso_model.specs.Premises.{block_at}
 use Rattle.iso_shared.specs.declared.entry.Call.TheVariants as call
-use Rattle.iso_shared.specs.declared.entry.Entry.{Entry}
 use Rattle.iso_shared.specs.declared.entry.Entry.TheVariants as entry
-use Rattle.iso_shared.specs.declared.shared.Port.{Port}
-use Rattle.iso_shared.specs.declared.shared.Shared.{Shared}
-use Rattle.iso_shared.specs.declared.tx.Tx.{Tx}
-use Rattle.iso_shared.specs.Legal.{IsLegal}
-use Rattle.iso_shared.specs.Ports.{IsSameTx, IsTx, IsTxOf, MadeBoth}
+use Rattle.iso_shared.specs.Ports.{IsTx}
 use Rattle.iso_shared.specs.Ports.{Made as PassMade}
-use Rattle.iso_shared.specs.States.{Start, opened, state_at}
-use Rattle.iso_shared.specs.Told.{cause_of, posting_of_tx}
-use Rattle.iso_shared.proofs.Mades.{own_on}
-use Rattle.iso_shared.proofs.Trace.{legal_last, loose_is}
-use Rattle.handle_pass.specs.declared.session.Session.{Session}
-use Rattle.handle_pass.specs.Sessions.{Own, count, count_of, own_in, own_of, seen, units, units_of, IsSession, Made, Rested}
-use Rattle.handle_pass.specs.Calls.{left_by}
 
 -- a number that stands in a list of such is below the bound
 below_of : (n p : ℕ) (xs : List ℕ) → AllBelow n xs → 0 < times p xs → p < n

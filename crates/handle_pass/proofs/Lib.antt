@@ -1,3 +1,4 @@
+pub mod Words
 pub mod Entering
 pub mod Logs
 pub mod Begun

@@ -1,18 +1,7 @@
 -- The entries of a session, as it makes more.
-use Rattle.std.proofs.Common.{◌≡◌, ℕ, ◌+◌, List, [], ◌∷◌, ◌++◌, get_or, length, refl, sym, ap, ◌∙◌, subst, append_assoc, arith, length-append}
-use Rattle.std.proofs.lemmas.List.{map-append, append-nil}
-use Rattle.std.proofs.Math.ListN.{get_or-append}
-use Rattle.std.proofs.Math.Seq.{get_or-append_seam}
+use Rattle.handle_pass.proofs.Words.{◌≡◌, ℕ, ◌+◌, List, [], ◌∷◌, ◌++◌, get_or, length, refl, sym, ap, ◌∙◌, subst, append_assoc, arith, length-append, map-append, append-nil, get_or-append, get_or-append_seam, hit, AllBelow, prefix_length, prefix_self, prefix_trans, below_more, below_snoc, rises_snoc, times_append, Entry, Start, Session, entries_at, Log, Moves, count, seen, Made, Rested}
 use mathlib.Core.List.{IsPrefix}
-use Rattle.turn_lock.specs.Lists.{hit, AllBelow}
-use Rattle.turn_lock.proofs.Prefixes.{prefix_length, prefix_self, prefix_trans}
-use Rattle.turn_lock.proofs.Rising.{below_more, below_snoc, rises_snoc, times_append}
-use Rattle.iso_shared.specs.declared.entry.Entry.{Entry}
 use Rattle.iso_shared.specs.declared.entry.Entry.TheVariants as entry
-use Rattle.iso_shared.specs.States.{Start}
-use Rattle.handle_pass.specs.declared.session.Session.{Session}
-use Rattle.handle_pass.specs.Logs.{entries_at, Log, Moves}
-use Rattle.handle_pass.specs.Sessions.{count, seen, Made, Rested}
 
 at_prefix : (xs E : List Entry) (ps : List ℕ) → IsPrefix xs E → AllBelow (length xs) ps → entries_at E ps ≡ entries_at xs ps
 at_prefix xs E [] pre below = refl

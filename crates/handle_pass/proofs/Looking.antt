@@ -1,30 +1,11 @@
 -- How one call on a session's transaction answers a store.
-use Rattle.std.proofs.Common.{◌≡◌, ◌≢◌, ℕ, ◌<◌, ◌≤◌, Bool, true, false, not, if◌then◌else◌, List, [], ◌∷◌, ◌++◌, Option, Some, None, Result, Ok, Err, length, nat_le, inl, inr, refl, sym, ap, ◌∙◌, subst, arith}
-use Rattle.std.specs.Prelude.{is_some}
-use Rattle.std.proofs.lemmas.Bool.Decides.{nat_tests}
-use Rattle.std.proofs.lemmas.List.{append-nil, length_push}
-use Rattle.fault_count.specs.Count.{Rose}
-use Rattle.iso_model.specs.declared.access.Access.{Access}
-use Rattle.store_model.specs.declared.stores.TxError.{TxError}
+use Rattle.handle_pass.proofs.Words.{◌≡◌, ◌≢◌, ℕ, ◌<◌, ◌≤◌, Bool, true, false, not, if◌then◌else◌, List, [], ◌∷◌, ◌++◌, Option, Some, None, Result, Ok, Err, length, nat_le, inl, inr, refl, sym, ap, ◌∙◌, subst, arith, is_some, nat_tests, append-nil, length_push, Rose, Access, TxError, marked, block_at, read_access, write_access, length-marked, Cause, Start, span_at, Device, IsArrayOf, IsFree, IsLater, IsRefused, IsTx, access_refusal, with_accesses, Passed, Session, HasMarked, HasRead, HasWritten, IsReadCause, IsWriteCause, access_answer, accesses_of, mark_answer, tx_on, with_access, Looked, Marked, Unlooked, Wrote, down_in, failed_in, failures_in, Own, own, IsSession, Made, Rested, Failed, IsVisit, Seen, Visited, base_of, blocks_read, seen_by}
 use Rattle.store_model.specs.declared.stores.TxError.TheVariants as error
 use Rattle.iso_model.specs.Effect as effect
-use Rattle.iso_model.specs.Marks.{marked}
-use Rattle.iso_model.specs.Premises.{block_at}
-use Rattle.iso_model.specs.Step.{read_access, write_access}
-use Rattle.iso_model.proofs.Accesses.{length-marked}
 use Rattle.iso_shared.specs.declared.entry.Call.TheVariants as call
-use Rattle.iso_shared.specs.declared.entry.Cause.{Cause}
 use Rattle.iso_shared.specs.declared.entry.Cause.TheVariants as cause
 use Rattle.iso_shared.specs.declared.entry.Entry.TheVariants as entry
-use Rattle.iso_shared.specs.States.{Start}
-use Rattle.tx_table.specs.Work.{span_at}
-use Rattle.tx_blocks.specs.Tx.{Device, IsArrayOf, IsFree, IsLater, IsRefused, IsTx, Tx, access_refusal, with_accesses}
-use Rattle.tx_blocks.specs.Runs.{Passed}
-use Rattle.handle_pass.specs.declared.session.Session.{Session}
-use Rattle.handle_pass.specs.Accesses.{HasMarked, HasRead, HasWritten, IsReadCause, IsWriteCause, access_answer, accesses_of, mark_answer, tx_on, with_access}
-use Rattle.handle_pass.specs.Looks.{Looked, Marked, Unlooked, Wrote, down_in, failed_in, failures_in}
-use Rattle.handle_pass.specs.Sessions.{Own, own, IsSession, Made, Rested}
-use Rattle.handle_pass.specs.Visits.{Failed, IsVisit, Seen, Visited, base_of, blocks_read, seen_by}
+use Rattle.tx_blocks.specs.Tx.{Tx}
 use Rattle.handle_pass.proofs.Visiting.{blocks_append, blocks_marked, none_refused, told_by, visit_fetched, visit_refused, visit_rested}
 
 no_error : {T E : Type 0} (x : T) (e : E) → ◌≡◌ {A = Result T E} (Ok x) (Err e) → ⊥

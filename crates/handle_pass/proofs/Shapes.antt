@@ -1,16 +1,6 @@
 -- An array in the shape of a geometry, and the bytes that a fetch told of one of its blocks.
-use Rattle.std.proofs.Common.{◌≡◌, ℕ, ◌<◌, List, [], ◌∷◌, ◌++◌, length, map, get_or, replicate, sym, ap, ◌∙◌, arith}
-use Rattle.std.specs.List.{AllByRecursion, range_with_len}
-use Rattle.std.proofs.lemmas.List.{ext_get_or, length-replicate}
-use Rattle.std.proofs.lemmas.List.FromFn.{get_or-map-range_with_len, length-map-range_with_len}
-use Rattle.std.proofs.Math.Seq.{get_or-append_seam}
-use Rattle.iso_model.specs.declared.access.Access.{Access}
-use Rattle.iso_model.specs.declared.access.Geometry.{Geometry}
-use Rattle.iso_model.specs.Array.{Array}
+use Rattle.handle_pass.proofs.Words.{◌≡◌, ℕ, ◌<◌, List, [], ◌∷◌, ◌++◌, length, map, get_or, replicate, sym, ap, ◌∙◌, arith, AllByRecursion, range_with_len, ext_get_or, length-replicate, get_or-map-range_with_len, length-map-range_with_len, get_or-append_seam, Access, Geometry, Array, block_at, length-block_own, shaped}
 use Rattle.iso_model.specs.Effect as effect
-use Rattle.iso_model.specs.Premises.{block_at}
-use Rattle.iso_model.proofs.Bytes.{length-block_own}
-use Rattle.handle_pass.specs.Visits.{shaped}
 
 -- so many bytes of a block
 cut : (size : ℕ) → List ℕ → List ℕ

@@ -1,29 +1,11 @@
 -- What a session's own calls make of a visit: its fetches, its transaction, and what a store sees.
-use Rattle.std.proofs.Common.{◌≡◌, ℕ, ◌<◌, Bool, true, false, cond, List, [], ◌∷◌, ◌++◌, Option, Some, None, option_map, length, map, refl, sym, ap, ◌∙◌, subst, append_assoc, arith}
-use Rattle.std.specs.Option.{ForSome}
-use Rattle.std.proofs.lemmas.List.{map-append, append-nil}
-use Rattle.iso_model.specs.declared.access.Access.{Access}
-use Rattle.iso_model.specs.declared.access.Span.{Span}
-use Rattle.iso_model.specs.Array.{Array}
-use Rattle.iso_model.specs.Effect.{is_write}
-use Rattle.iso_model.specs.History.{array_at}
-use Rattle.iso_model.specs.Marks.{marked}
-use Rattle.iso_model.specs.Premises.{block_at}
+use Rattle.handle_pass.proofs.Words.{◌≡◌, ℕ, ◌<◌, Bool, true, false, cond, List, [], ◌∷◌, ◌++◌, Option, Some, None, option_map, length, map, refl, sym, ap, ◌∙◌, subst, append_assoc, arith, ForSome, map-append, append-nil, Access, Span, Array, is_write, array_at, marked, block_at, Cause, Entry, Start, state_at, Session, accesses_of, Shows, Moves, Own, own, seen, IsSession, Made, Rested, Failed, KeepsOwn, Visited, base_in, begin_array, blocks_read, with_list, fetches, number_in, refusals, shaped, prefix_trans}
 use Rattle.iso_shared.specs.declared.entry.Call.TheVariants as call
-use Rattle.iso_shared.specs.declared.entry.Cause.{Cause}
 use Rattle.iso_shared.specs.declared.entry.Cause.TheVariants as cause
-use Rattle.iso_shared.specs.declared.entry.Entry.{Entry}
 use Rattle.iso_shared.specs.declared.entry.Entry.TheVariants as entry
-use Rattle.iso_shared.specs.States.{Start, state_at}
-use Rattle.handle_pass.specs.declared.session.Session.{Session}
-use Rattle.handle_pass.specs.Accesses.{accesses_of, Shows}
-use Rattle.handle_pass.specs.Logs.{Moves}
-use Rattle.handle_pass.specs.Sessions.{Own, own, seen, IsSession, Made, Rested}
-use Rattle.handle_pass.specs.Visits.{Failed, KeepsOwn, Visited, base_in, begin_array, blocks_read, with_list, fetches, number_in, refusals, shaped}
 use Rattle.handle_pass.proofs.Logs.{moves_made, moves_none, moves_on, moves_rested}
 use Rattle.handle_pass.proofs.Begun.{HasBegin, array_kept, has_begin, tells_at}
 use Rattle.handle_pass.proofs.Shapes.{all_snoc, block_shaped, length_laid}
-use Rattle.turn_lock.proofs.Prefixes.{prefix_trans}
 
 -- the transaction, but for its accesses
 kept_twice : (x : Option Own) (k l : List Access) → option_map (with_list l) (option_map (with_list k) x) ≡ option_map (with_list l) x

@@ -1,11 +1,5 @@
 -- The bits of a map of which one was set or cleared.
-use Rattle.std.proofs.Common.{◌≡◌, ◌≢◌, ◌∙◌, sym, ap, ℕ, ◌+◌, ◌/◌, ◌%◌, ◌^◌, ◌<◌, Bool, true, false, ◌&&◌, ◌||◌, ◌==◌, not, List, length, get_or, max, min, arith, inl, inr, eq-eqb, ne_eqb}
-use Rattle.std.specs.Prelude.{bit_and}
-use Rattle.std.specs.Int.{bit_at}
-use Rattle.std.proofs.lemmas.Bool.{cases_eq}
-use Rattle.std.proofs.lemmas.List.{get_or-set_same, get_or-set_other}
-use Rattle.std.proofs.lemmas.Nat.Bits.{bit_at_or, bit_at_xor, bit_at_and, bit_at-pow_same, bit_at-pow_other, bit_at-lt}
-use Rattle.store_model.specs.FreeMap.{bit_place, map_bit, set_bit, clear_bit, with_bit, without_bit}
+use Rattle.iso_alloc.proofs.Words.{◌≡◌, ◌≢◌, ◌∙◌, sym, ap, ℕ, ◌+◌, ◌/◌, ◌%◌, ◌^◌, ◌<◌, Bool, true, false, ◌&&◌, ◌||◌, ◌==◌, not, List, length, get_or, max, min, arith, inl, inr, eq-eqb, ne_eqb, bit_and, bit_at, cases_eq, get_or-set_same, get_or-set_other, bit_at_or, bit_at_xor, bit_at_and, bit_at-pow_same, bit_at-pow_other, bit_at-lt, bit_place, map_bit, set_bit, clear_bit, with_bit, without_bit}
 
 set_here : (byte k : ℕ) → bit_at (set_bit byte k) (k % 8) ≡ 1
 set_here byte k = let low = bit_at-lt byte (k % 8) in bit_at_or byte (2 ^ (k % 8)) (k % 8) ∙ ap (max (bit_at byte (k % 8))) (bit_at-pow_same (k % 8)) ∙ omega arith

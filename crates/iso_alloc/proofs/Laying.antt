@@ -1,8 +1,5 @@
 -- Bytes that are laid into a block.
-use Rattle.std.proofs.Common.{◌≡◌, ◌∙◌, ap, ℕ, ◌+◌, ◌≤◌, List, ◌++◌, length, take, drop, arith}
-use Rattle.std.proofs.lemmas.List.{length-take-le, take_at, drop_at}
-use Rattle.store_model.specs.Stores.{bytes_in}
-use Rattle.store_model.specs.Cells.{laid_at}
+use Rattle.iso_alloc.proofs.Words.{◌≡◌, ◌∙◌, ap, ℕ, ◌+◌, ◌≤◌, List, ◌++◌, length, take, drop, arith, length-take-le, take_at, drop_at, bytes_in, laid_at}
 
 -- the bytes that were laid
 pub laid_here : (at n : ℕ) (bytes block : List ℕ) → length bytes ≡ n → at + length bytes ≤ length block → bytes_in (record { off = at; len = n }) (laid_at at bytes block) ≡ bytes

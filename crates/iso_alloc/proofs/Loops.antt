@@ -1,11 +1,5 @@
 -- The steps of a loop that tries numbers in turn.
-use Rattle.std.proofs.Common.{◌≡◌, sym, refl, ap, ℕ, zero, suc, ◌+◌, ◌-◌, ◌<◌, ◌≤◌, Bool, true, false, ◌&&◌, cond, Option, Some, None, arith}
-use Rattle.std.proofs.Common.{◌∙◌, inl, inr}
-use Rattle.std.proofs.lemmas.Bool.{and_parts, cases_eq}
-use Rattle.store_model.specs.Cells.{all_from}
-use Rattle.iso_model.specs.Conflict.{first_from}
-use Rattle.store_model.specs.FreeMap.{free_count, map_bit}
-use Rattle.std.proofs.Common.{List}
+use Rattle.iso_alloc.proofs.Words.{◌≡◌, sym, refl, ap, ℕ, zero, suc, ◌+◌, ◌-◌, ◌<◌, ◌≤◌, Bool, true, false, ◌&&◌, cond, Option, Some, None, arith, ◌∙◌, inl, inr, and_parts, cases_eq, all_from, first_from, free_count, map_bit, List}
 
 pub all_step : (test : ℕ → Bool) (i n : ℕ) → i < n → all_from test i (n - i) ≡ (test i && all_from test (i + 1) (n - (i + 1)))
 all_step test i n below = let e : n - i ≡ suc (n - (i + 1)) = omega arith in rw e refl

@@ -1,23 +1,6 @@
 -- A core with one more live transaction.
-use Rattle.std.proofs.Common.{◌≡◌, ◌∙◌, sym, refl, ap, ℕ, ◌+◌, ◌<◌, ◌≤◌, Bool, true, false, ◌&&◌, ◌==◌, not, List, [], ◌∷◌, ◌++◌, length, map, arith}
-use Rattle.std.proofs.lemmas.Bool.{le-leb, lt-leb, le-ltb, lt-ltb}
-use Rattle.std.proofs.lemmas.List.{map-append}
-use Rattle.std.specs.List.{AllByRecursion}
-use Rattle.iso_model.specs.declared.access.Mode.{Mode}
-use Rattle.iso_model.specs.declared.limits.TheConstants.{LAST, MAX_LIVE}
-use Rattle.iso_model.specs.History.{last}
+use Rattle.iso_core.proofs.Words.{◌≡◌, ◌∙◌, sym, refl, ap, ℕ, ◌+◌, ◌<◌, ◌≤◌, Bool, true, false, ◌&&◌, ◌==◌, not, List, [], ◌∷◌, ◌++◌, length, map, arith, le-leb, lt-leb, le-ltb, lt-ltb, map-append, AllByRecursion, Mode, LAST, MAX_LIVE, last, same_mode, after_begin, begin_step, World, Live, Place, client, label, unattached, floor, AreApart, IsWorld, MayHave, floor_above, floor_below, all_push, all_weaker, begins, floor_between, at_work, Begun, Kept, bare, IsOf, NotesSince}
 use Rattle.iso_model.specs.declared.core_reply.CoreReply.TheVariants as reply
-use Rattle.iso_model.specs.Geometry.{same_mode}
-use Rattle.iso_model.specs.Step.{after_begin, begin_step}
-use Rattle.iso_model.specs.World.{World, Live, Place, client, label, unattached, floor}
-use Rattle.iso_model.specs.Worlds.{AreApart, IsWorld, MayHave}
-use Rattle.iso_model.proofs.Floors.{floor_above, floor_below}
-use Rattle.iso_model.proofs.Growth.{all_push, all_weaker}
-use Rattle.iso_model.proofs.Worlds.{begins, floor_between}
-use Rattle.tx_table.specs.Live.{at_work}
-use Rattle.tx_table.specs.declared.live.Begun.{Begun}
-use Rattle.iso_core.specs.declared.kept.Kept.{Kept}
-use Rattle.iso_core.specs.Kept.{bare, IsOf, NotesSince}
 use Rattle.iso_core.proofs.Numbers.{log_last}
 
 -- a place that is none is no other's

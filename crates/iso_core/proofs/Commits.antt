@@ -1,38 +1,6 @@
 -- A core with one more commit.
-use Rattle.std.proofs.Common.{◌≡◌, ◌∙◌, sym, ap, ℕ, zero, suc, ◌+◌, ◌-◌, ◌<◌, ◌≤◌, ◌==◌, not, List, [], ◌∷◌, ◌++◌, length, map, arith, subst, nat_eq, slice_index_or, drop, length-drop}
-use Rattle.std.proofs.Math.Path.{transport}
-use Rattle.std.proofs.lemmas.List.{drop-map, length_push}
-use Rattle.std.specs.List.{AllByRecursion}
-use Rattle.std.specs.Map.{remove_entry}
-use Rattle.byte_marks.specs.declared.extent.Extent.{Extent}
-use Rattle.conflict_rule.specs.Decision.{AreNotes, AreNotesAfter}
-use Rattle.conflict_rule.specs.Notes.{Held, Note, above}
-use Rattle.conflict_rule.proofs.Following.{added_after, dropped_after}
-use Rattle.iso_image.specs.Half.{Half, half_of_world, last_told, with_records}
-use Rattle.iso_image.proofs.Histories.{half_after}
+use Rattle.iso_core.proofs.Words.{◌≡◌, ◌∙◌, sym, ap, ℕ, zero, suc, ◌+◌, ◌-◌, ◌<◌, ◌≤◌, ◌==◌, not, List, [], ◌∷◌, ◌++◌, length, map, arith, subst, nat_eq, slice_index_or, drop, length-drop, transport, drop-map, length_push, AllByRecursion, remove_entry, Extent, AreNotes, AreNotesAfter, Held, Note, above, added_after, dropped_after, Half, half_of_world, last_told, with_records, half_after, log_place, History, last, Commit, Geometry, IsRecord, Written, written, after_commit, commit_from, World, Live, floor, floor_of, without, IsWorld, all_filter, floor_above, floor_below, floor_between, IsIndexOf, BlockVersions, at_work, Begun, PartSpan, HasTaken, MayTake, index_more, may_take, Kept, IsGrownBy, written_of, bare, IsOf}
 use Rattle.iso_log.specs.Extent.{Extent as LogExtent, extent_of}
-use Rattle.iso_model.specs.Geometry.{log_place}
-use Rattle.iso_model.specs.History.{History, last}
-use Rattle.iso_model.specs.declared.access.Commit.{Commit}
-use Rattle.iso_model.specs.declared.access.Geometry.{Geometry}
-use Rattle.iso_model.specs.Image.{IsRecord, Written, written}
-use Rattle.iso_model.specs.Step.{after_commit, commit_from}
-use Rattle.iso_model.specs.World.{World, Live, floor, floor_of, without}
-use Rattle.iso_model.specs.Worlds.{IsWorld}
-use Rattle.iso_model.proofs.Distinct.{all_filter}
-use Rattle.iso_model.proofs.Floors.{floor_above, floor_below}
-use Rattle.iso_model.proofs.Worlds.{floor_between}
-use Rattle.mv_index.specs.Placed.{IsIndexOf}
-use Rattle.mv_index.specs.Versions.{BlockVersions}
-use Rattle.tx_table.specs.Live.{at_work}
-use Rattle.tx_table.specs.declared.live.Begun.{Begun}
-use Rattle.version_read.specs.declared.part_span.PartSpan.{PartSpan}
-use Rattle.version_read.specs.Parts.{HasTaken, MayTake}
-use Rattle.version_read.proofs.Following.{index_more}
-use Rattle.version_read.proofs.Taking.{may_take}
-use Rattle.iso_core.specs.declared.kept.Kept.{Kept}
-use Rattle.iso_core.specs.Ends.{IsGrownBy, written_of}
-use Rattle.iso_core.specs.Kept.{bare, IsOf}
 use Rattle.iso_core.proofs.Numbers.{last_is}
 use Rattle.iso_core.proofs.Transactions.{kept_floor, kept_without}
 

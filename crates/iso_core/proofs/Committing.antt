@@ -1,27 +1,6 @@
 -- The steps of a commit: what is kept, and the disk, between two of them.
-use Rattle.std.proofs.Common.{◌≡◌, ◌≢◌, ◌∙◌, sym, refl, ap, ℕ, ◌+◌, ◌-◌, ◌<◌, ◌≤◌, Bool, true, List, [], ◌∷◌, ◌++◌, length, arith, subst}
-use Rattle.std.proofs.lemmas.List.{length_push}
-use Rattle.byte_marks.specs.declared.extent.Extent.{Extent}
-use Rattle.iso_disk.specs.Disk.{DiskState, IsLawful, IsSettled, LeavesOnly}
-use Rattle.iso_disk.proofs.Moments.{at_end}
-use Rattle.iso_image.specs.Half.{Half, IsHeld, MayFollow, half_of_world, next_gate, with_records}
-use Rattle.iso_log.specs.Extent.{extent_of}
-use Rattle.iso_model.specs.declared.limits.TheConstants.{LAST}
-use Rattle.iso_model.specs.declared.core_reply.CoreReply.{CoreReply}
+use Rattle.iso_core.proofs.Words.{◌≡◌, ◌≢◌, ◌∙◌, sym, refl, ap, ℕ, ◌+◌, ◌-◌, ◌<◌, ◌≤◌, Bool, true, List, [], ◌∷◌, ◌++◌, length, arith, subst, length_push, Extent, DiskState, IsLawful, IsSettled, LeavesOnly, at_end, Half, IsHeld, MayFollow, half_of_world, next_gate, with_records, extent_of, LAST, CoreReply, image_size, last, after_commit, after_leaving, need, commit_from, World, Live, unattached, used, IsWorld, commits, Doing, Kept, AreOf, IsGrownBy, IsPrepared, IsSpelled, MayCommit, written_of, IsOf, up, down, ShowsEither}
 use Rattle.iso_model.specs.declared.core_reply.CoreReply.TheVariants as reply
-use Rattle.iso_model.specs.Geometry.{image_size}
-use Rattle.iso_model.specs.History.{last}
-use Rattle.iso_model.specs.Step.{after_commit, after_leaving, need, commit_from}
-use Rattle.iso_model.specs.World.{World, Live, unattached, used}
-use Rattle.iso_model.specs.Worlds.{IsWorld}
-use Rattle.iso_model.proofs.Worlds.{commits}
-use Rattle.tx_table.specs.Work.{Doing}
-use Rattle.iso_core.specs.declared.kept.Kept.{Kept}
-use Rattle.iso_core.specs.Core.{AreOf}
-use Rattle.iso_core.specs.Ends.{IsGrownBy, IsPrepared, IsSpelled, MayCommit, written_of}
-use Rattle.iso_core.specs.Kept.{IsOf}
-use Rattle.iso_core.specs.Standing.{up, down}
-use Rattle.iso_model.specs.Between.{ShowsEither}
 use Rattle.iso_core.proofs.Commits.{next_half}
 use Rattle.iso_core.proofs.Leaves.{has_begun}
 use Rattle.iso_core.proofs.Moments.{record_needs}

@@ -1,25 +1,5 @@
 -- What a decision is asked.
-use Rattle.std.proofs.Common.{◌≡◌, ◌∙◌, sym, refl, ap, ℕ, suc, ◌+◌, ◌-◌, ◌<◌, ◌≤◌, List, [], ◌∷◌, length, drop, arith, subst, length-drop, true}
-use Rattle.std.proofs.Math.Path.{transport}
-use Rattle.byte_marks.specs.Touched.{AreTouched}
-use Rattle.conflict_rule.specs.Decision.{AreNotes, AreNotesAfter, Bytes, IsAsked}
-use Rattle.conflict_rule.specs.Notes.{Note, above}
-use Rattle.conflict_rule.specs.declared.decision.Checked.{Checked}
-use Rattle.conflict_rule.proofs.Following.{dropped_after}
-use Rattle.iso_model.specs.declared.access.Access.{Access}
-use Rattle.iso_model.specs.declared.access.Commit.{Commit}
-use Rattle.iso_model.specs.declared.limits.TheConstants.{MAX_ACCESSES}
-use Rattle.iso_model.specs.declared.access.Geometry.{Geometry}
-use Rattle.iso_model.specs.declared.access.Kind.TheVariants.{Read, Write}
-use Rattle.iso_model.specs.History.{last}
-use Rattle.iso_model.specs.Premises.{AreAccesses}
-use Rattle.iso_model.specs.World.{World, Live, floor}
-use Rattle.iso_model.proofs.Bounds.{limits}
-use Rattle.tx_table.specs.Work.{AreWithin, Doing}
-use Rattle.iso_core.specs.declared.kept.Kept.{Kept}
-use Rattle.iso_core.specs.Calls.{IsCheckedOf, IsTx, IsWorkOf}
-use Rattle.iso_core.specs.Ends.{IsSettledOf}
-use Rattle.iso_core.specs.Kept.{IsOf}
+use Rattle.iso_core.proofs.Words.{◌≡◌, ◌∙◌, sym, refl, ap, ℕ, suc, ◌+◌, ◌-◌, ◌<◌, ◌≤◌, List, [], ◌∷◌, length, drop, arith, subst, length-drop, true, transport, AreTouched, AreNotes, AreNotesAfter, Bytes, IsAsked, Note, above, Checked, dropped_after, Access, Commit, MAX_ACCESSES, Geometry, Read, Write, last, AreAccesses, World, Live, floor, limits, AreWithin, Doing, Kept, IsCheckedOf, IsTx, IsWorkOf, IsSettledOf, IsOf}
 use Rattle.iso_core.proofs.Leaves.{has_begun}
 
 notes_count : (g : Geometry) (k : ℕ) (notes : List Note) (commits : List Commit) → AreNotes g k notes commits → length notes ≡ length commits

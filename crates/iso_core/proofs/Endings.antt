@@ -1,19 +1,6 @@
 -- How an end goes, step by step.
-use Rattle.std.proofs.Common.{◌≡◌, sym, refl, ap, true, false, Option, Some, None, ℕ}
-use Rattle.iso_disk.specs.Disk.{DiskState}
-use Rattle.iso_model.specs.declared.access.Clash.{Clash}
+use Rattle.iso_core.proofs.Words.{◌≡◌, sym, refl, ap, true, false, Option, Some, None, ℕ, DiskState, Clash, clash, has_write, after_leaving, commit_step, end_step, World, Live, without, Doing, Kept, IsTx, AreOf, IsSettledOf, MayCommit, IsOf, Standing}
 use Rattle.iso_model.specs.declared.core_reply.CoreReply.TheVariants as reply
-use Rattle.iso_model.specs.Conflict.{clash}
-use Rattle.iso_model.specs.Effect.{has_write}
-use Rattle.iso_model.specs.Step.{after_leaving, commit_step, end_step}
-use Rattle.iso_model.specs.World.{World, Live, without}
-use Rattle.tx_table.specs.Work.{Doing}
-use Rattle.iso_core.specs.declared.kept.Kept.{Kept}
-use Rattle.iso_core.specs.Calls.{IsTx}
-use Rattle.iso_core.specs.Core.{AreOf}
-use Rattle.iso_core.specs.Ends.{IsSettledOf, MayCommit}
-use Rattle.iso_core.specs.Kept.{IsOf}
-use Rattle.iso_core.specs.Standing.{Standing}
 use Rattle.iso_core.proofs.Standings.{stands_on}
 
 module _ (W : World) (t : Live) where

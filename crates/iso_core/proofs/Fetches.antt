@@ -1,23 +1,5 @@
 -- A block that is read by the versions of a core is the block at the transaction's begin.
-use Rattle.std.proofs.Common.{◌≡◌, ◌∙◌, ◌⊎◌, inl, inr, ap, ℕ, ◌+◌, ◌*◌, ◌<◌, ◌≤◌, List, length, arith, subst}
-use Rattle.std.specs.List.{AllByRecursion}
-use Rattle.iso_image.specs.Half.{IsHeld, half_of_world}
-use Rattle.iso_image.proofs.Histories.{world_bytes}
-use Rattle.iso_model.specs.Array.{Array}
-use Rattle.iso_model.specs.Geometry.{base_place, image_size}
-use Rattle.iso_model.specs.History.{array_at}
-use Rattle.iso_model.specs.Image.{records}
-use Rattle.iso_model.specs.Premises.{block_at}
-use Rattle.iso_model.specs.World.{World, Live, used}
-use Rattle.mv_index.specs.declared.version.Version.{Version}
-use Rattle.mv_index.specs.Shown.{Lies, ShowTheSame}
-use Rattle.mv_index.specs.Versions.{upto, versions_in}
-use Rattle.version_read.specs.Blocks.{IsOver}
-use Rattle.version_read.proofs.Fetched.{array_of, fetched, last_of, newest}
-use Rattle.version_read.proofs.Lying.{all_lie}
-use Rattle.iso_core.specs.declared.kept.Kept.{Kept}
-use Rattle.iso_core.specs.Calls.{IsTx}
-use Rattle.iso_core.specs.Kept.{IsOf}
+use Rattle.iso_core.proofs.Words.{◌≡◌, ◌∙◌, ◌⊎◌, inl, inr, ap, ℕ, ◌+◌, ◌*◌, ◌<◌, ◌≤◌, List, length, arith, subst, AllByRecursion, IsHeld, half_of_world, world_bytes, Array, base_place, image_size, array_at, records, block_at, World, Live, used, Version, Lies, ShowTheSame, upto, versions_in, IsOver, array_of, fetched, last_of, newest, all_lie, Kept, IsTx, IsOf}
 use Rattle.iso_core.proofs.Commits.{held_records}
 use Rattle.iso_core.proofs.Leaves.{has_begun}
 use Rattle.iso_core.proofs.Numbers.{log_last}

@@ -1,37 +1,5 @@
 -- A core that ends a group.
-use Rattle.std.proofs.Common.{◌≡◌, ◌≢◌, ◌∙◌, ◌⊎◌, inl, inr, sym, refl, ap, ℕ, ◌+◌, ◌<◌, ◌≤◌, true, List, [], ◌∷◌, ◌++◌, length, map, arith, subst}
-use Rattle.std.specs.List.{AllByRecursion}
-use Rattle.std.proofs.lemmas.List.{length-append, length-map, length_push}
-use Rattle.iso_disk.specs.Disk.{DiskState, IsLawful, IsSettled, LeavesOnly}
-use Rattle.iso_disk.proofs.Moments.{at_end}
-use Rattle.iso_image.specs.Half.{Half, IsHeld, half_of_world, next_gate, with_records}
-use Rattle.iso_log.specs.Extent.{extent_of}
-use Rattle.iso_model.specs.declared.access.Commit.{Commit}
-use Rattle.iso_model.specs.declared.access.Geometry.{Geometry}
-use Rattle.iso_model.specs.declared.limits.TheConstants.{LAST}
-use Rattle.iso_model.specs.Effect.{record_length}
-use Rattle.iso_model.specs.Geometry.{image_size}
-use Rattle.iso_model.specs.History.{History, last, with_commits}
-use Rattle.iso_model.specs.Image.{IsRecord, Written, records, written}
-use Rattle.iso_model.specs.Step.{after_leaving, with_live}
-use Rattle.iso_model.specs.World.{World, Live, used}
-use Rattle.iso_model.specs.Worlds.{IsWorld}
-use Rattle.iso_model.proofs.Opened.{length-records, sum_by-map}
-use Rattle.iso_model.specs.declared.access.GroupReply.{GroupReply}
-use Rattle.conflict_rule.specs.Decision.{AreNotes}
-use Rattle.conflict_rule.specs.Notes.{Note}
-use Rattle.iso_core.specs.declared.group_end.GroupEnd.{GroupEnd}
-use Rattle.iso_core.specs.declared.kept.Kept.{Kept}
-use Rattle.iso_core.specs.declared.plan.Staged.{Staged}
-use Rattle.iso_core.specs.declared.plan.Plan.{Plan}
-use Rattle.iso_core.specs.Core.{AreOf}
-use Rattle.iso_core.specs.Ends.{AreNextRecords}
-use Rattle.iso_model.specs.Group.{ahead, decided, group, leave_all}
-use Rattle.iso_core.specs.Kept.{IsOf}
-use Rattle.iso_core.specs.Planned.{AreEach, AreStaged, HasPlanned, HasStaged, IsAhead, IsReady, IsGrownWith, IsPlannedFor, IsReserved}
-use Rattle.iso_core.specs.Standing.{ShowsWith, up, down}
-use Rattle.iso_model.specs.Between.{ShowsEither, ShowsLast}
-use Rattle.iso_model.proofs.Groups.{group_is, nothing_ahead}
+use Rattle.iso_core.proofs.Words.{◌≡◌, ◌≢◌, ◌∙◌, ◌⊎◌, inl, inr, sym, refl, ap, ℕ, ◌+◌, ◌<◌, ◌≤◌, true, List, [], ◌∷◌, ◌++◌, length, map, arith, subst, AllByRecursion, length-append, length-map, length_push, DiskState, IsLawful, IsSettled, LeavesOnly, at_end, Half, IsHeld, half_of_world, next_gate, with_records, extent_of, Commit, Geometry, LAST, record_length, image_size, History, last, with_commits, IsRecord, Written, records, written, after_leaving, with_live, World, Live, used, IsWorld, length-records, sum_by-map, GroupReply, AreNotes, Note, GroupEnd, Kept, Staged, Plan, AreOf, AreNextRecords, ahead, decided, group, leave_all, IsOf, AreEach, AreStaged, HasPlanned, HasStaged, IsAhead, IsReady, IsGrownWith, IsPlannedFor, IsReserved, ShowsWith, up, down, ShowsEither, ShowsLast, group_is, nothing_ahead}
 use Rattle.iso_core.proofs.Judging.{last_ahead, settled_ahead, staged_count, used_ahead}
 use Rattle.iso_core.proofs.Moments.{shows_world}
 use Rattle.iso_core.proofs.Nexts.{may_follow}

@@ -1,55 +1,9 @@
 -- A member of a group, after those before it.
-use Rattle.std.proofs.Common.{◌≡◌, ◌≢◌, ◌∙◌, sym, refl, ap, ℕ, zero, suc, ◌+◌, ◌-◌, ◌<◌, ◌≤◌, Bool, true, false, cond, List, [], ◌∷◌, ◌++◌, length, map, take, drop, arith, subst, None, Option, sum_by, append-nil, slice_index_or, Result, Ok, Err, OnOk}
-use Rattle.std.proofs.Math.Path.{transport}
-use Rattle.std.specs.List.{AllByRecursion}
-use Rattle.std.proofs.lemmas.List.{append_assoc, length-append, take-append-le, take_all, drop-append-le, drop_all, drop-take, map-append, length-map}
-use Rattle.std.proofs.lemmas.List.Sums.{sum_by-append, sum_by-cons}
-use Rattle.byte_marks.specs.Touched.{AreTouched}
-use Rattle.conflict_rule.specs.Decision.{AreNotes, AreNotesAfter, Bytes, IsAsked, up_to}
-use Rattle.conflict_rule.specs.Notes.{Note, above}
-use Rattle.conflict_rule.proofs.Following.{notes_appended, notes_rise}
-use Rattle.conflict_rule.proofs.Numbers.{all_above}
-use Rattle.iso_format.specs.Writing.{LieInAnImage}
-use Rattle.iso_image.proofs.Logs.{records-append}
-use Rattle.iso_model.specs.declared.access.Access.{Access}
-use Rattle.iso_model.specs.declared.access.Clash.{Clash}
-use Rattle.iso_model.specs.declared.access.Commit.{Commit}
-use Rattle.iso_model.specs.declared.access.Geometry.{Geometry}
-use Rattle.iso_model.specs.declared.access.Kind.TheVariants.{Read, Write}
-use Rattle.iso_model.specs.declared.access.Mode.{Mode}
-use Rattle.iso_model.specs.declared.access.Run.{Run}
-use Rattle.iso_model.specs.declared.limits.TheConstants.{LAST}
-use Rattle.iso_model.specs.declared.core_reply.CoreReply.{CoreReply}
+use Rattle.iso_core.proofs.Words.{◌≡◌, ◌≢◌, ◌∙◌, sym, refl, ap, ℕ, zero, suc, ◌+◌, ◌-◌, ◌<◌, ◌≤◌, Bool, true, false, cond, List, [], ◌∷◌, ◌++◌, length, map, take, drop, arith, subst, None, Option, sum_by, append-nil, slice_index_or, Result, Ok, Err, OnOk, transport, AllByRecursion, append_assoc, length-append, take-append-le, take_all, drop-append-le, drop_all, drop-take, map-append, length-map, sum_by-append, sum_by-cons, AreTouched, AreNotes, AreNotesAfter, Bytes, IsAsked, up_to, Note, above, notes_appended, notes_rise, all_above, LieInAnImage, records-append, Access, Clash, Commit, Geometry, Read, Write, Mode, Run, LAST, CoreReply, clash, clash_from, first_after, has_write, record_length, runs, History, last, Written, kind_of, records, spell, written, AreAccesses, commit_step, end_step, need, commit_from, World, Live, logged_commits, used, IsWorld, limits, are_runs, length-records, sum_by-map, commit_is_record, runs_where_write, Doing, part_of, GroupReply, GroupEnd, Kept, Plan, Staged, IsCheckedOf, IsTx, AreNextRecords, IsSettledOf, MayCommit, written_of, ahead, decided, made_by, member_reply, with_first, IsOf, AreEach, AreStaged, HasPlanned, IfCommits, IsAhead, IsNextStaged, IsReady, is_commit, stays_ahead}
 use Rattle.iso_model.specs.declared.core_reply.CoreReply.TheVariants as reply
-use Rattle.iso_model.specs.Conflict.{clash, clash_from, first_after}
-use Rattle.iso_model.specs.Effect.{has_write, record_length, runs}
-use Rattle.iso_model.specs.History.{History, last}
-use Rattle.iso_model.specs.Image.{Written, kind_of, records, spell, written}
-use Rattle.iso_model.specs.Premises.{AreAccesses}
-use Rattle.iso_model.specs.Step.{commit_step, end_step, need, commit_from}
-use Rattle.iso_model.specs.World.{World, Live, logged_commits, used}
-use Rattle.iso_model.specs.Worlds.{IsWorld}
-use Rattle.iso_model.proofs.Bounds.{limits}
-use Rattle.iso_model.proofs.Maximal.{are_runs}
-use Rattle.iso_model.proofs.Opened.{length-records, sum_by-map}
-use Rattle.iso_model.proofs.Worlds.{commit_is_record}
-use Rattle.iso_model.proofs.Written.{runs_where_write}
-use Rattle.tx_table.specs.Work.{Doing}
-use Rattle.version_read.specs.Parts.{part_of}
-use Rattle.iso_model.specs.declared.access.GroupReply.{GroupReply}
 use Rattle.iso_model.specs.declared.access.GroupReply.TheVariants as member
-use Rattle.iso_core.specs.declared.group_end.GroupEnd.{GroupEnd}
-use Rattle.iso_core.specs.declared.kept.Kept.{Kept}
-use Rattle.iso_core.specs.declared.plan.Plan.{Plan}
-use Rattle.iso_core.specs.declared.plan.Staged.{Staged}
-use Rattle.iso_core.specs.Calls.{IsCheckedOf, IsTx}
-use Rattle.iso_core.specs.Ends.{AreNextRecords, IsSettledOf, MayCommit, written_of}
-use Rattle.iso_model.specs.Group.{ahead, decided, made_by, member_reply, with_first}
-use Rattle.iso_core.specs.Kept.{IsOf}
-use Rattle.iso_core.specs.Planned.{AreEach, AreStaged, HasPlanned, IfCommits, IsAhead, IsNextStaged, IsReady, is_commit}
 use Rattle.iso_core.proofs.Decides.{asked}
 use Rattle.iso_core.proofs.Endings.{ends_by}
-use Rattle.iso_model.proofs.Groups.{stays_ahead}
 use Rattle.iso_core.proofs.Leaves.{has_begun}
 use Rattle.iso_core.proofs.Moments.{is_committed, is_full, is_worn}
 use Rattle.iso_core.proofs.Numbers.{log_last, log_used, log_room}

@@ -1,20 +1,5 @@
 -- A core without one of its transactions, and what its transactions began with.
-use Rattle.std.proofs.Common.{◌≡◌, ◌∙◌, sym, refl, ap, ℕ, ◌<◌, ◌≤◌, ◌==◌, not, List, map, Some, IsSome, arith, nat_eq}
-use Rattle.std.specs.List.{AllByRecursion}
-use Rattle.std.specs.Map.{lookup, remove_entry}
-use Rattle.iso_model.specs.History.{last}
-use Rattle.iso_model.specs.Step.{after_leaving}
-use Rattle.iso_model.specs.World.{World, Live, floor, without}
-use Rattle.iso_model.specs.Worlds.{IsLive, IsWorld, MayHave}
-use Rattle.iso_model.proofs.Distinct.{all_filter}
-use Rattle.iso_model.proofs.Floors.{floor_above, floor_below}
-use Rattle.iso_model.proofs.Growth.{all_weaker}
-use Rattle.iso_model.proofs.Worlds.{floor_between, leaves}
-use Rattle.tx_table.specs.Live.{at_work, begin_of}
-use Rattle.tx_table.specs.declared.live.Begun.{Begun}
-use Rattle.iso_core.specs.declared.kept.Kept.{Kept}
-use Rattle.iso_core.specs.Calls.{IsTx}
-use Rattle.iso_core.specs.Kept.{bare, IsOf, NotesSince}
+use Rattle.iso_core.proofs.Words.{◌≡◌, ◌∙◌, sym, refl, ap, ℕ, ◌<◌, ◌≤◌, ◌==◌, not, List, map, Some, IsSome, arith, nat_eq, AllByRecursion, lookup, remove_entry, last, after_leaving, World, Live, floor, without, IsLive, IsWorld, MayHave, all_filter, floor_above, floor_below, all_weaker, floor_between, leaves, at_work, begin_of, Begun, Kept, IsTx, bare, IsOf, NotesSince}
 use Rattle.iso_core.proofs.Transactions.{among, kept_tx, kept_without}
 
 -- what a live transaction began with

@@ -1,22 +1,6 @@
 -- What the images of a core show before a commit, in the middle of it and after it.
-use Rattle.std.proofs.Common.{◌≡◌, ◌≢◌, ◌⊎◌, inl, inr, sym, refl, ap, ℕ, ◌+◌, ◌-◌, ◌<◌, ◌≤◌, List, [], ◌∷◌, length, arith, subst, None, eq-eqb, ne_eqb}
-use Rattle.std.proofs.lemmas.Bool.{le-ltb, lt-ltb}
-use Rattle.iso_disk.specs.Disk.{DiskState, IsLawful, LeavesOnly}
-use Rattle.iso_disk.proofs.Moments.{started}
-use Rattle.iso_image.specs.Half.{Half, IsHeld, half_of_world, with_records}
-use Rattle.iso_image.proofs.Histories.{half_shows}
-use Rattle.iso_model.specs.declared.limits.TheConstants.{LAST}
+use Rattle.iso_core.proofs.Words.{◌≡◌, ◌≢◌, ◌⊎◌, inl, inr, sym, refl, ap, ℕ, ◌+◌, ◌-◌, ◌<◌, ◌≤◌, List, [], ◌∷◌, length, arith, subst, None, eq-eqb, ne_eqb, le-ltb, lt-ltb, DiskState, IsLawful, LeavesOnly, started, Half, IsHeld, half_of_world, with_records, half_shows, LAST, last, after_commit, commit_step, need, World, Live, used, IsWorld, length-records, Kept, AreOf, AreNextRecords, written_of, up, ShowsEither, ShowsLast}
 use Rattle.iso_model.specs.declared.core_reply.CoreReply.TheVariants as reply
-use Rattle.iso_model.specs.History.{last}
-use Rattle.iso_model.specs.Step.{after_commit, commit_step, need}
-use Rattle.iso_model.specs.World.{World, Live, used}
-use Rattle.iso_model.specs.Worlds.{IsWorld}
-use Rattle.iso_model.proofs.Opened.{length-records}
-use Rattle.iso_core.specs.declared.kept.Kept.{Kept}
-use Rattle.iso_core.specs.Core.{AreOf}
-use Rattle.iso_core.specs.Ends.{AreNextRecords, written_of}
-use Rattle.iso_core.specs.Standing.{up}
-use Rattle.iso_model.specs.Between.{ShowsEither, ShowsLast}
 use Rattle.iso_core.proofs.Commits.{next_half}
 
 -- an image that holds the half of a world shows its history

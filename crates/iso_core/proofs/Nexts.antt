@@ -1,17 +1,6 @@
 -- Records that follow the last one of a core.
-use Rattle.std.proofs.Common.{◌≡◌, ◌∙◌, sym, ap, ℕ, ◌+◌, ◌≤◌, List, [], ◌∷◌, ◌++◌, length, arith, length-append, subst}
-use Rattle.iso_image.specs.Half.{Half, MayFollow, half_of_world, last_told, told_bytes, with_records}
-use Rattle.iso_image.proofs.Histories.{world_bytes}
-use Rattle.iso_image.proofs.Logs.{records-append}
-use Rattle.iso_log.specs.Log.{IsNext}
-use Rattle.iso_model.specs.declared.limits.TheConstants.{LAST}
-use Rattle.iso_model.specs.History.{last}
-use Rattle.iso_model.specs.Image.{Written, records}
-use Rattle.iso_model.specs.World.{World, used}
-use Rattle.iso_model.specs.Worlds.{IsWorld}
-use Rattle.iso_core.specs.declared.kept.Kept.{Kept}
-use Rattle.iso_core.specs.Ends.{AreNextRecords}
-use Rattle.iso_core.specs.Kept.{IsOf}
+use Rattle.iso_core.proofs.Words.{◌≡◌, ◌∙◌, sym, ap, ℕ, ◌+◌, ◌≤◌, List, [], ◌∷◌, ◌++◌, length, arith, subst, Half, MayFollow, half_of_world, last_told, told_bytes, with_records, world_bytes, records-append, IsNext, LAST, last, Written, records, World, used, IsWorld, Kept, AreNextRecords, IsOf}
+use Rattle.std.proofs.Common.{length-append}
 use Rattle.iso_core.proofs.Numbers.{last_is, log_last}
 
 pub next_is : (kept : Kept) (W : World) (more : List Written) → IsOf kept W → AreNextRecords W more kept.buffer.records → (bytes : List ℕ) → bytes ≡ kept.buffer.records ++ 0 ∷ []

@@ -1,15 +1,6 @@
 -- The numbers of a core's log are those of its world.
-use Rattle.std.proofs.Common.{◌≡◌, ◌∙◌, ap, ℕ, ◌+◌, ◌-◌, ◌<◌, ◌≤◌, length, drop, arith, length-drop}
-use Rattle.std.proofs.lemmas.List.{length-map}
-use Rattle.iso_image.specs.Half.{half_of_world, last_told}
-use Rattle.iso_image.proofs.Histories.{world_bytes}
+use Rattle.iso_core.proofs.Words.{◌≡◌, ◌∙◌, ap, ℕ, ◌+◌, ◌-◌, ◌<◌, ◌≤◌, length, drop, arith, length-drop, length-map, half_of_world, last_told, world_bytes, last, written, World, used, IsWorld, Kept, Keeps}
 use Rattle.iso_log.specs.Extent.{Extent}
-use Rattle.iso_model.specs.History.{last}
-use Rattle.iso_model.specs.Image.{written}
-use Rattle.iso_model.specs.World.{World, used}
-use Rattle.iso_model.specs.Worlds.{IsWorld}
-use Rattle.iso_core.specs.declared.kept.Kept.{Kept}
-use Rattle.iso_core.specs.Kept.{Keeps}
 
 pub last_is : (W : World) (at : ℕ) → IsWorld W → last_told (half_of_world W at) ≡ last W.history
 last_is W at is =

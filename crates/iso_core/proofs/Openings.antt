@@ -1,20 +1,5 @@
 -- A core that was just opened.
-use Rattle.std.proofs.Common.{◌≡◌, ◌∙◌, sym, ap, ℕ, ◌+◌, ◌-◌, ◌<◌, List, [], map, arith, subst}
-use Rattle.conflict_rule.specs.Decision.{AreNotesAfter}
-use Rattle.conflict_rule.specs.Notes.{Note}
-use Rattle.conflict_rule.proofs.Following.{none_after}
-use Rattle.std.proofs.Math.Path.{transport}
-use Rattle.iso_log.specs.Extent.{extent_of}
-use Rattle.iso_image.specs.Half.{half_of_world}
-use Rattle.iso_model.specs.Geometry.{log_place}
-use Rattle.iso_model.specs.History.{History, last}
-use Rattle.mv_index.specs.Placed.{IsIndexOf}
-use Rattle.tx_table.specs.Live.{at_work}
-use Rattle.tx_table.specs.declared.live.Begun.{Begun}
-use Rattle.iso_core.specs.declared.kept.Kept.{Kept}
-use Rattle.iso_core.specs.declared.opening.Opened.{Opened}
-use Rattle.iso_core.specs.Kept.{IsOf}
-use Rattle.iso_core.specs.Opening.{IsOpenedTo, opened_world}
+use Rattle.iso_core.proofs.Words.{◌≡◌, ◌∙◌, sym, ap, ℕ, ◌+◌, ◌-◌, ◌<◌, List, [], map, arith, subst, AreNotesAfter, Note, none_after, transport, extent_of, half_of_world, log_place, History, last, IsIndexOf, at_work, Begun, Kept, Opened, IsOf, IsOpenedTo, opened_world}
 
 pub opens_so : (H : History) (opened : Opened) (kept : Kept) → IsOpenedTo H opened → kept.geometry ≡ opened.geometry → kept.half ≡ opened.half → kept.generation ≡ opened.generation
     → kept.base ≡ opened.base → kept.trim ≡ opened.base → kept.next ≡ 1 → kept.log ≡ opened.log → kept.index ≡ opened.index → kept.notes.notes ≡ [] → kept.live ≡ []

@@ -1,26 +1,6 @@
 -- The plan of a switch is that of the world.
-use Rattle.std.proofs.Common.{◌≡◌, ◌≢◌, ◌∙◌, ◌⊎◌, inl, inr, sym, refl, ap, ℕ, ◌+◌, ◌-◌, ◌<◌, ◌≤◌, List, IsTrue, arith, subst, eq-eqb, ne_eqb}
-use Rattle.std.proofs.Math.Path.{transport}
-use Rattle.half_switch.specs.declared.plan.FillPlan.{FillPlan}
-use Rattle.half_switch.specs.Plan.{Copies, place_of, refilled}
-use Rattle.half_switch.proofs.Forms.{refilled_history}
-use Rattle.iso_image.specs.declared.places.HalfPlace.{HalfPlace}
-use Rattle.iso_image.specs.Half.{Half, IsHeld, half_of_world, history_of, in_form}
-use Rattle.iso_image.proofs.Histories.{half_form, half_shows, world_bytes}
-use Rattle.iso_model.specs.declared.access.Geometry.{Geometry}
-use Rattle.iso_model.specs.declared.limits.TheConstants.{LAST}
-use Rattle.iso_model.specs.declared.core_reply.CoreReply.{CoreReply}
+use Rattle.iso_core.proofs.Words.{◌≡◌, ◌≢◌, ◌∙◌, ◌⊎◌, inl, inr, sym, refl, ap, ℕ, ◌+◌, ◌-◌, ◌<◌, ◌≤◌, List, IsTrue, arith, subst, eq-eqb, ne_eqb, transport, FillPlan, Copies, place_of, refilled, refilled_history, HalfPlace, Half, IsHeld, half_of_world, history_of, in_form, half_form, half_shows, world_bytes, Geometry, LAST, CoreReply, is_valid, after_switch, switch_step, World, floor, IsWorld, limits, floor_between, switch_leads, Kept, IsOf, ShowsLast, HasFormOr, IsForm}
 use Rattle.iso_model.specs.declared.core_reply.CoreReply.TheVariants as reply
-use Rattle.iso_model.specs.Geometry.{is_valid}
-use Rattle.iso_model.specs.Step.{after_switch, switch_step}
-use Rattle.iso_model.specs.World.{World, floor}
-use Rattle.iso_model.specs.Worlds.{IsWorld}
-use Rattle.iso_model.proofs.Bounds.{limits}
-use Rattle.iso_model.proofs.Worlds.{floor_between, switch_leads}
-use Rattle.iso_core.specs.declared.kept.Kept.{Kept}
-use Rattle.iso_core.specs.Kept.{IsOf}
-use Rattle.iso_model.specs.Between.{ShowsLast}
-use Rattle.iso_core.specs.Switching.{HasFormOr, IsForm}
 use Rattle.iso_core.proofs.Moments.{shows_world}
 use Rattle.iso_core.proofs.Numbers.{last_is, log_used}
 

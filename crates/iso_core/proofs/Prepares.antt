@@ -1,30 +1,5 @@
 -- A commit before the first call of the disk.
-use Rattle.std.proofs.Common.{◌≡◌, ◌∙◌, sym, ap, ℕ, ◌+◌, ◌^◌, ◌<◌, ◌≤◌, List, [], ◌∷◌, ◌++◌, length, map, arith, subst, append-nil}
-use Rattle.std.specs.List.{AllByRecursion}
-use Rattle.conflict_rule.specs.Decision.{AreNotesAfter}
-use Rattle.conflict_rule.specs.Notes.{Held, Note}
-use Rattle.iso_format.specs.Writing.{LieInAnImage}
-use Rattle.iso_image.specs.Half.{MayFollow, half_of_world}
-use Rattle.iso_model.specs.declared.access.Mode.{Mode}
-use Rattle.iso_model.specs.declared.access.Run.{Run}
-use Rattle.iso_model.specs.declared.limits.TheConstants.{LAST}
-use Rattle.iso_model.specs.Effect.{runs}
-use Rattle.iso_model.specs.History.{last}
-use Rattle.iso_model.specs.Image.{kind_of, spell}
-use Rattle.iso_model.specs.World.{World, Live}
-use Rattle.iso_model.proofs.Bounds.{limits}
-use Rattle.iso_model.proofs.Maximal.{are_runs}
-use Rattle.iso_model.proofs.Worlds.{commit_is_record}
-use Rattle.iso_model.proofs.Written.{runs_where_write}
-use Rattle.mv_index.specs.Versions.{BlockVersions, versions_in}
-use Rattle.tx_table.specs.Work.{Doing}
-use Rattle.version_read.specs.declared.part_span.PartSpan.{PartSpan}
-use Rattle.version_read.specs.Parts.{BlocksRise, part_of}
-use Rattle.version_read.proofs.Taking.{parts_below, parts_few, parts_rise}
-use Rattle.iso_core.specs.declared.kept.Kept.{Kept}
-use Rattle.iso_core.specs.Ends.{AreNextRecords, IsSpelled, MayCommit, written_of}
-use Rattle.iso_model.specs.Step.{commit_from}
-use Rattle.iso_core.specs.Kept.{IsOf}
+use Rattle.iso_core.proofs.Words.{◌≡◌, ◌∙◌, sym, ap, ℕ, ◌+◌, ◌^◌, ◌<◌, ◌≤◌, List, [], ◌∷◌, ◌++◌, length, map, arith, subst, append-nil, AllByRecursion, AreNotesAfter, Held, Note, LieInAnImage, MayFollow, half_of_world, Mode, Run, LAST, runs, last, kind_of, spell, World, Live, limits, are_runs, commit_is_record, runs_where_write, BlockVersions, versions_in, Doing, PartSpan, BlocksRise, part_of, parts_below, parts_few, parts_rise, Kept, AreNextRecords, IsSpelled, MayCommit, written_of, commit_from, IsOf}
 use Rattle.iso_core.proofs.Leaves.{has_begun}
 use Rattle.iso_core.proofs.Nexts.{may_follow}
 use Rattle.iso_core.proofs.Numbers.{log_last, log_used, log_room}

@@ -1,11 +1,5 @@
 -- The members of a group before their end and after it.
-use Rattle.std.proofs.Common.{◌≡◌, ◌∙◌, sym, refl, ap, ℕ, suc, List, [], ◌∷◌, length, map}
-use Rattle.iso_model.specs.declared.access.GroupReply.{GroupReply}
-use Rattle.iso_model.specs.Group.{after_member, group, member_reply, with_first}
-use Rattle.iso_model.specs.Step.{end_step}
-use Rattle.iso_model.specs.World.{World, Live}
-use Rattle.iso_core.specs.declared.group_end.GroupEnd.{GroupEnd}
-use Rattle.iso_core.specs.Planned.{AreEach, bare_end, unsettled, without_reply}
+use Rattle.iso_core.proofs.Words.{◌≡◌, ◌∙◌, sym, refl, ap, ℕ, suc, List, [], ◌∷◌, length, map, GroupReply, after_member, group, member_reply, with_first, end_step, World, Live, GroupEnd, AreEach, bare_end, unsettled, without_reply}
 
 -- as many as there are transactions
 pub each_one : (P : GroupEnd → Live → Type 0) (ms : List GroupEnd) (ts : List Live) → AreEach P ms ts → length ms ≡ length ts

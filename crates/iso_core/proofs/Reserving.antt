@@ -1,28 +1,6 @@
 -- Memory for the commits of a plan.
-use Rattle.std.proofs.Common.{◌≡◌, ◌∙◌, inl, inr, nat_lt, sym, refl, ap, ℕ, ◌+◌, ◌^◌, ◌<◌, ◌≤◌, ◌==◌, cond, List, [], ◌∷◌, ◌++◌, length, sum_by, arith, subst}
-use Rattle.std.specs.List.{AllByRecursion}
+use Rattle.iso_core.proofs.Words.{◌≡◌, ◌∙◌, inl, inr, nat_lt, sym, refl, ap, ℕ, ◌+◌, ◌^◌, ◌<◌, ◌≤◌, ◌==◌, cond, List, [], ◌∷◌, ◌++◌, length, sum_by, arith, subst, AllByRecursion, cases_lt, le-ltb, lt-ltb, length-append, length-map, sum_by-IsPermutation, sum_by-cons, Commit, Geometry, Run, record_length, runs, written, limits, are_runs, World, used, IsWorld, BlockVersions, PartSpan, HasRoom, part_of, parts_in, parts_below, Staged, Plan, ahead, AreStaged, IsAhead, all_parts}
 use Rattle.std.specs.List.Sorted.{IsPermutation}
-use Rattle.std.proofs.lemmas.Bool.{cases_lt, le-ltb, lt-ltb}
-use Rattle.std.proofs.lemmas.List.{length-append, length-map}
-use Rattle.std.proofs.lemmas.List.Sorted.{sum_by-IsPermutation}
-use Rattle.std.proofs.lemmas.List.Sums.{sum_by-cons}
-use Rattle.iso_model.specs.declared.access.Commit.{Commit}
-use Rattle.iso_model.specs.declared.access.Geometry.{Geometry}
-use Rattle.iso_model.specs.declared.access.Run.{Run}
-use Rattle.iso_model.specs.Effect.{record_length, runs}
-use Rattle.iso_model.specs.Image.{written}
-use Rattle.iso_model.proofs.Bounds.{limits}
-use Rattle.iso_model.proofs.Maximal.{are_runs}
-use Rattle.iso_model.specs.World.{World, used}
-use Rattle.iso_model.specs.Worlds.{IsWorld}
-use Rattle.mv_index.specs.Versions.{BlockVersions}
-use Rattle.version_read.specs.declared.part_span.PartSpan.{PartSpan}
-use Rattle.version_read.specs.Parts.{HasRoom, part_of, parts_in}
-use Rattle.version_read.proofs.Taking.{parts_below}
-use Rattle.iso_core.specs.declared.plan.Staged.{Staged}
-use Rattle.iso_core.specs.declared.plan.Plan.{Plan}
-use Rattle.iso_model.specs.Group.{ahead}
-use Rattle.iso_core.specs.Planned.{AreStaged, IsAhead, all_parts}
 use Rattle.iso_core.proofs.Judging.{used_ahead}
 
 -- room for the sorted parts is room for the parts in order

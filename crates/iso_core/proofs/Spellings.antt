@@ -1,9 +1,5 @@
 -- The pieces of a patch, as parts of a record.
-use Rattle.std.proofs.Common.{◌≡◌, refl, ℕ, List, [], ◌∷◌, length, map}
-use Rattle.std.specs.List.{AllByRecursion}
-use Rattle.iso_model.specs.declared.access.Run.{Run}
-use Rattle.iso_model.specs.declared.access.Span.{Span}
-use Rattle.merge_write.specs.Patch.{piece}
+use Rattle.iso_core.proofs.Words.{◌≡◌, refl, ℕ, List, [], ◌∷◌, length, map, AllByRecursion, Run, Span, piece}
 
 -- a piece has as many bytes as its span says
 abbrev pub IsWhole : Span × List ℕ → Type 0

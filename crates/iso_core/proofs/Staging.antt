@@ -1,51 +1,9 @@
 -- The commits of a plan are taken in, and their transactions leave.
-use Rattle.std.proofs.Common.{◌≡◌, ◌≢◌, ◌∙◌, inl, inr, sym, refl, ap, ℕ, ◌+◌, ◌-◌, ◌<◌, ◌≤◌, ◌==◌, cond, List, [], ◌∷◌, ◌++◌, length, map, drop, arith, subst, eq-eqb, ne_eqb, Result, OnOk}
-use Rattle.std.proofs.Math.Path.{transport}
-use Rattle.std.specs.List.{AllByRecursion}
-use Rattle.std.proofs.lemmas.Bool.{cases_eq}
-use Rattle.std.proofs.lemmas.List.{append_assoc, length-append, length_push, length-drop, take-append-le, drop-append-le, map-append, length-map}
-use Rattle.std.proofs.lemmas.List.Sums.{sum_by-append}
-use Rattle.conflict_rule.specs.Decision.{AreNotes, AreNotesAfter}
-use Rattle.conflict_rule.specs.Notes.{Held, Note, RisesFrom, above}
-use Rattle.conflict_rule.proofs.Following.{dropped_after, notes_rise}
-use Rattle.iso_image.specs.Half.{HasLog, Half, MayFollow, half_of_world, last_told, next_gate, told_bytes, with_records}
-use Rattle.iso_model.specs.declared.access.Commit.{Commit}
-use Rattle.iso_model.specs.declared.access.Geometry.{Geometry}
-use Rattle.iso_model.specs.Conflict.{first_after}
-use Rattle.iso_model.specs.Effect.{record_length}
-use Rattle.iso_model.specs.Geometry.{log_place}
-use Rattle.iso_model.specs.History.{all_own, array_at, last}
-use Rattle.iso_model.specs.Image.{IsRecord, Written, records, written}
-use Rattle.iso_model.specs.Step.{after_leaving}
-use Rattle.iso_model.specs.World.{World, Live, floor, without}
-use Rattle.iso_model.specs.Worlds.{IsWorld}
-use Rattle.iso_model.proofs.Floors.{floor_above, floor_below}
-use Rattle.iso_model.proofs.Opened.{length-records}
-use Rattle.iso_model.proofs.Worlds.{floor_between}
-use Rattle.mv_index.specs.Placed.{IsIndexOf}
-use Rattle.mv_index.specs.Versions.{BlockVersions}
-use Rattle.version_read.specs.declared.part_span.PartSpan.{PartSpan}
-use Rattle.version_read.specs.Parts.{HasRoom, HasTaken, MayTake, parts_in}
-use Rattle.version_read.proofs.Following.{index_more}
-use Rattle.version_read.proofs.Taking.{may_take}
-use Rattle.iso_core.specs.declared.group_end.GroupEnd.{GroupEnd}
-use Rattle.iso_core.specs.declared.kept.Kept.{Kept}
-use Rattle.iso_core.specs.declared.plan.Plan.{Plan}
-use Rattle.iso_core.specs.declared.plan.Staged.{Staged}
-use Rattle.iso_core.specs.Calls.{IsAmong}
-use Rattle.iso_core.specs.Ends.{AreNextRecords}
-use Rattle.iso_model.specs.Group.{ahead}
-use Rattle.iso_core.specs.Kept.{IsOf}
-use Rattle.iso_core.specs.Planned.{IsMember, AreEach, IsGrownWith, IsReady, MayTakeAll}
+use Rattle.iso_core.proofs.Words.{◌≡◌, ◌≢◌, ◌∙◌, inl, inr, sym, refl, ap, ℕ, ◌+◌, ◌-◌, ◌<◌, ◌≤◌, ◌==◌, cond, List, [], ◌∷◌, ◌++◌, length, map, drop, arith, subst, eq-eqb, ne_eqb, Result, OnOk, transport, AllByRecursion, cases_eq, append_assoc, length-append, length_push, take-append-le, drop-append-le, map-append, length-map, sum_by-append, AreNotes, AreNotesAfter, Held, Note, RisesFrom, above, dropped_after, notes_rise, HasLog, Half, MayFollow, half_of_world, last_told, next_gate, told_bytes, with_records, Commit, Geometry, first_after, record_length, log_place, all_own, array_at, last, IsRecord, Written, records, written, after_leaving, World, Live, floor, without, IsWorld, floor_above, floor_below, length-records, floor_between, IsIndexOf, BlockVersions, PartSpan, HasRoom, HasTaken, MayTake, parts_in, index_more, may_take, GroupEnd, Kept, Plan, Staged, IsAmong, AreNextRecords, ahead, IsOf, IsMember, AreEach, IsGrownWith, IsReady, MayTakeAll, HasTold, IsNext, DiskState, held_log, AreOf, up, LAST}
+use Rattle.std.proofs.lemmas.List.{length-drop}
 use Rattle.iso_log.specs.Extent.{Extent as LogExtent, extent_of}
 use Rattle.iso_core.proofs.Commits.{held_records}
 use Rattle.iso_core.proofs.Judging.{on_ok, staged_count}
-use Rattle.iso_log.specs.Log.{HasTold, IsNext}
-use Rattle.iso_disk.specs.Disk.{DiskState}
-use Rattle.iso_image.proofs.Adds.{held_log}
-use Rattle.iso_core.specs.Core.{AreOf}
-use Rattle.iso_core.specs.Standing.{up}
-use Rattle.iso_model.specs.declared.limits.TheConstants.{LAST}
 use Rattle.iso_core.proofs.Numbers.{last_is, log_last}
 
 -- parts of both lists

@@ -1,12 +1,5 @@
 -- A core whose images stay, while what it keeps in memory changes.
-use Rattle.std.proofs.Common.{◌≡◌, ◌∙◌, sym, ℕ, List, false, Result, Ok, Err, IfOk, IfErr, subst}
-use Rattle.iso_disk.specs.Disk.{DiskState, IsLawful, WritesNothing}
-use Rattle.iso_disk.proofs.Moments.{at_end, stays, stays_settled}
-use Rattle.iso_model.specs.World.{World, Live}
-use Rattle.iso_core.specs.declared.kept.Kept.{Kept}
-use Rattle.iso_core.specs.Core.{AreImages, AreOf}
-use Rattle.iso_core.specs.Kept.{IsOf}
-use Rattle.iso_core.specs.Standing.{Standing, up, down}
+use Rattle.iso_core.proofs.Words.{◌≡◌, ◌∙◌, sym, ℕ, List, false, Result, Ok, Err, IfOk, IfErr, subst, DiskState, IsLawful, WritesNothing, at_end, stays, stays_settled, World, Live, Kept, AreImages, AreOf, IsOf, Standing, up, down}
 
 pub if_ok : {A E : Type 0} {P Q : A → Type 0} (result : Result A E) → ((x : A) → P x → Q x) → IfOk result P → IfOk result Q
 if_ok (Ok x) more is = more x is

@@ -1,12 +1,5 @@
 -- The numbers that a core shows are those of its world.
-use Rattle.std.proofs.Common.{◌≡◌, ◌+◌, length, refl}
-use Rattle.iso_model.specs.Geometry.{log_place}
-use Rattle.iso_model.specs.Versions.{is_written, kept_from, versions}
-use Rattle.iso_model.specs.World.{World, logged_commits}
-use Rattle.mv_index.specs.Versions.{count_of}
-use Rattle.mv_index.proofs.Counts.{count_is}
-use Rattle.iso_core.specs.declared.kept.Kept.{Kept}
-use Rattle.iso_core.specs.Kept.{IsOf}
+use Rattle.iso_core.proofs.Words.{◌≡◌, ◌+◌, length, refl, log_place, is_written, kept_from, versions, World, logged_commits, count_of, count_is, Kept, IsOf}
 use Rattle.iso_core.proofs.Transactions.{kept_count}
 
 module _ (kept : Kept) (W : World) (of : IsOf kept W) where

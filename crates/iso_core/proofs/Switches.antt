@@ -1,30 +1,6 @@
 -- What is kept once the other half is the current one.
-use Rattle.std.proofs.Common.{◌≡◌, ◌∙◌, sym, ap, ℕ, ◌+◌, ◌-◌, ◌*◌, ◌^◌, ◌<◌, ◌≤◌, List, length, drop, take, arith, subst, length-append, length-take-le}
-use Rattle.std.proofs.Math.Path.{transport}
-use Rattle.std.proofs.lemmas.List.{take-append-drop}
-use Rattle.iso_image.specs.Half.{Half, half_of, half_of_world, in_form, told_bytes}
-use Rattle.iso_image.proofs.Frames.{log_inside}
-use Rattle.iso_image.proofs.Histories.{half_form, later_records, records_form, world_bytes}
-use Rattle.iso_image.proofs.Logs.{records-append}
-use Rattle.iso_log.specs.Extent.{extent_of}
-use Rattle.iso_model.specs.Geometry.{image_size, log_place}
-use Rattle.iso_model.specs.History.{last}
-use Rattle.iso_model.specs.Image.{Written, records}
-use Rattle.iso_model.specs.Step.{after_switch}
-use Rattle.iso_model.specs.World.{World, floor, used}
-use Rattle.iso_model.specs.Worlds.{IsWorld}
-use Rattle.iso_model.proofs.Bounds.{limits}
-use Rattle.iso_model.proofs.Worlds.{floor_between}
-use Rattle.mv_index.specs.Moves.{AreSplit, moved_to}
-use Rattle.mv_index.specs.Placed.{IsIndexOf}
-use Rattle.mv_index.proofs.Sublists.{all_at}
-use Rattle.mv_index.specs.Shown.{AllLie, Lies}
-use Rattle.mv_index.specs.Versions.{BlockVersions, no_version, versions_in}
-use Rattle.mv_index.specs.Weights.{bytes_above}
-use Rattle.version_read.proofs.Above.{records_above}
-use Rattle.version_read.proofs.Following.{index_moved, index_split}
-use Rattle.iso_core.specs.declared.kept.Kept.{Kept}
-use Rattle.iso_core.specs.Kept.{IsOf}
+use Rattle.iso_core.proofs.Words.{◌≡◌, ◌∙◌, sym, ap, ℕ, ◌+◌, ◌-◌, ◌*◌, ◌^◌, ◌<◌, ◌≤◌, List, length, drop, take, arith, subst, length-take-le, transport, take-append-drop, Half, half_of, half_of_world, in_form, told_bytes, log_inside, half_form, later_records, records_form, world_bytes, records-append, extent_of, image_size, log_place, last, Written, records, after_switch, World, floor, used, IsWorld, limits, floor_between, AreSplit, moved_to, IsIndexOf, all_at, AllLie, Lies, BlockVersions, no_version, versions_in, bytes_above, records_above, index_moved, index_split, Kept, IsOf}
+use Rattle.std.proofs.Common.{length-append}
 use Rattle.iso_core.proofs.Commits.{held_records}
 use Rattle.iso_core.proofs.Fetches.{versions_lie}
 use Rattle.iso_core.proofs.Numbers.{last_is, log_last, log_room}

@@ -1,14 +1,5 @@
 -- The live transactions of a core and those of its world.
-use Rattle.std.proofs.Common.{◌≡◌, ◌≢◌, ◌⊎◌, inl, inr, ◌∙◌, sym, refl, ap, ℕ, suc, ◌<◌, List, [], ◌∷◌, length, map, Some, None, arith, eq-eqb, ne_eqb, subst, nat_eq, min}
-use Rattle.std.specs.List.{AllByRecursion}
-use Rattle.std.specs.Map.{lookup, remove_entry}
-use Rattle.std.proofs.lemmas.Bool.{cases_eq}
-use Rattle.iso_model.specs.World.{Live, floor_of, least_begin, without}
-use Rattle.iso_model.specs.Worlds.{AreDistinct, AreTwo}
-use Rattle.tx_table.specs.Live.{at_work, begin_of}
-use Rattle.tx_table.specs.declared.live.Begun.{Begun}
-use Rattle.iso_core.specs.Calls.{IsAmong}
-use Rattle.iso_core.specs.Kept.{bare}
+use Rattle.iso_core.proofs.Words.{◌≡◌, ◌≢◌, ◌⊎◌, inl, inr, ◌∙◌, sym, refl, ap, ℕ, suc, ◌<◌, List, [], ◌∷◌, length, map, Some, None, arith, eq-eqb, ne_eqb, subst, nat_eq, min, AllByRecursion, lookup, remove_entry, cases_eq, Live, floor_of, least_begin, without, AreDistinct, AreTwo, at_work, begin_of, Begun, IsAmong, bare}
 
 -- what holds of all live transactions by their begins and modes holds of each of them
 pub among : (P : Live → Type 0) → ((t : Live) → P (bare t) → P t) → ((t : Live) → P t → P (bare t)) → (t : Live) (live : List Live) → AllByRecursion P live → IsAmong t live → P t

@@ -1,17 +1,5 @@
 -- A core whose versions are trimmed to the floor.
-use Rattle.std.proofs.Common.{◌≡◌, ◌∙◌, ℕ, ◌+◌, List, length, map}
-use Rattle.iso_image.specs.Half.{half_of_world}
-use Rattle.iso_model.specs.Geometry.{log_place}
-use Rattle.iso_model.specs.History.{last}
-use Rattle.iso_model.specs.Step.{after_trim}
-use Rattle.iso_model.specs.World.{World, floor, floor_of}
-use Rattle.iso_model.proofs.Worlds.{floor_between, trim_leads}
-use Rattle.mv_index.specs.Versions.{BlockVersions, shown_since, versions_in}
-use Rattle.mv_index.proofs.Again.{shown_again}
-use Rattle.mv_index.specs.Placed.{versions_of}
-use Rattle.tx_table.specs.Live.{at_work}
-use Rattle.iso_core.specs.declared.kept.Kept.{Kept}
-use Rattle.iso_core.specs.Kept.{IsOf}
+use Rattle.iso_core.proofs.Words.{◌≡◌, ◌∙◌, ℕ, ◌+◌, List, length, map, half_of_world, log_place, last, after_trim, World, floor, floor_of, floor_between, trim_leads, BlockVersions, shown_since, versions_in, shown_again, versions_of, at_work, Kept, IsOf}
 use Rattle.iso_core.proofs.Numbers.{log_last}
 use Rattle.iso_core.proofs.Transactions.{kept_floor}
 

@@ -1,14 +1,5 @@
 -- A buffer of records, as parts are pushed and the record is finished.
-use Rattle.std.proofs.Common.{◌≡◌, ℕ, ◌+◌, ◌-◌, ◌<◌, ◌≤◌, List, [], ◌∷◌, ◌++◌, length, take, drop, replicate, flat_map, sym, ap, subst, ◌∙◌, arith}
-use Rattle.std.proofs.lemmas.List.{append-nil, append_assoc, take-append-le, drop-append-le, length-append, length-take, length-drop, get_or_append_left, take_at}
-use Rattle.std.proofs.lemmas.Grind.{flat_map-append}
-use Rattle.std.specs.List.{AllByRecursion}
-use Rattle.iso_model.proofs.Growth.{all_push}
-use Rattle.iso_model.specs.declared.access.Run.{Run}
-use Rattle.iso_model.specs.Image.{part, body_length, spell}
-use Rattle.iso_format.specs.Records.{IsSmall, runs_of}
-use Rattle.iso_format.specs.Spelled.{HoldsParts, parts_behind, spelled}
-use Rattle.iso_format.specs.Writing.{head}
+use Rattle.iso_format.proofs.Words.{◌≡◌, ℕ, ◌+◌, ◌-◌, ◌<◌, ◌≤◌, List, [], ◌∷◌, ◌++◌, length, take, drop, replicate, flat_map, sym, ap, subst, ◌∙◌, arith, append-nil, append_assoc, take-append-le, drop-append-le, length-append, length-take, length-drop, get_or_append_left, take_at, flat_map-append, AllByRecursion, all_push, Run, part, body_length, spell, IsSmall, runs_of, HoldsParts, parts_behind, spelled, head}
 use Rattle.iso_format.proofs.PartLaws.{length-runs_of, small_again}
 use Rattle.iso_format.proofs.Parts.{count_bound, length-flat_map-part}
 

@@ -1,8 +1,5 @@
 -- The tests of parts, one after the other, as a loop makes them.
-use Rattle.std.proofs.Common.{◌≡◌, ℕ, suc, ◌+◌, ◌-◌, ◌<◌, List, Option, Some, None, drop, refl, sym, ◌∙◌, arith}
-use Rattle.iso_model.specs.declared.access.Geometry.{Geometry}
-use Rattle.iso_format.specs.declared.format_error.FormatError.{FormatError}
-use Rattle.iso_format.specs.Records.{part_fault, parts_fault, part_end, part_size}
+use Rattle.iso_format.proofs.Words.{◌≡◌, ℕ, suc, ◌+◌, ◌-◌, ◌<◌, List, Option, Some, None, drop, refl, sym, ◌∙◌, arith, Geometry, FormatError, part_fault, parts_fault, part_end, part_size}
 
 -- a part that fails a test ends them
 pub part_stops : (g : Geometry) (before : Option (ℕ × ℕ)) (at count i : ℕ) (rest : List ℕ) (fault : FormatError) (all : Option FormatError) → i < count →

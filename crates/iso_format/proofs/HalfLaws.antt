@@ -1,15 +1,5 @@
 -- The header of a half is read exactly as it is written.
-use Rattle.std.proofs.Common.{◌≡◌, ℕ, ◌+◌, ◌^◌, ◌<◌, ◌==◌, ◌&&◌, Bool, true, false, not, cond, List, [], ◌∷◌, ◌++◌, Option, Some, None, length, get_or, take, drop, replicate, IsTrue, refl, ◌∙◌, sym, ap, arith}
-use Rattle.std.proofs.lemmas.Bool.{and_parts}
-use Rattle.std.proofs.lemmas.Iterator.Adapters.{position_from-zero}
-use Rattle.std.specs.List.{list_all, position, position_from}
-use Rattle.std.specs.Option.{is_some}
-use Rattle.std.proofs.lemmas.List.{take_all}
-use Rattle.std.proofs.lemmas.Nat.{from_be_bytes-to_be_bytes_8}
-use Rattle.std.specs.Int.{w64, to_be_bytes}
-use Rattle.iso_model.specs.Image.{half_header}
-use Rattle.iso_format.specs.Reading.{number_at, are_zero, half_of}
-use Rattle.iso_model.specs.Premises.{AreBytes}
+use Rattle.iso_format.proofs.Words.{◌≡◌, ℕ, ◌+◌, ◌^◌, ◌<◌, ◌==◌, ◌&&◌, Bool, true, false, not, cond, List, [], ◌∷◌, ◌++◌, Option, Some, None, length, get_or, take, drop, replicate, IsTrue, refl, ◌∙◌, sym, ap, arith, and_parts, position_from-zero, list_all, position, position_from, is_some, take_all, from_be_bytes-to_be_bytes_8, w64, to_be_bytes, half_header, number_at, are_zero, half_of, AreBytes}
 use Rattle.iso_format.proofs.Pieces.{grow, spelled_64, one_at, zeros_at}
 
 pub half_again : (gate form generation base : ℕ) → generation < 2 ^ 64 → base < 2 ^ 64 →

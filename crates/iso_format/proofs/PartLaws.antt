@@ -1,23 +1,6 @@
 -- The parts of a record are read exactly as they are written.
-use Rattle.std.proofs.Common.{◌≡◌, ℕ, zero, suc, ◌+◌, ◌-◌, ◌*◌, ◌<◌, ◌≤◌, Bool, true, false, ◌&&◌, ◌||◌, ◌==◌, nat_lt, nat_le, cond, not, inl, inr, List, [], ◌∷◌, ◌++◌, Option, Some, None, length, take, drop, IsTrue, flat_map, refl, sym, ap, ◌∙◌, arith}
-use Rattle.std.proofs.lemmas.Bool.{leb-true, le-leb, ltb-true, ltb-false, lt-ltb, le-ltb, eqb-true, eq-eqb, not-false, or_cases, and_parts, and_from, or_right}
-use Rattle.std.proofs.lemmas.List.{take_at, drop_at, take-append-drop, length-append, length-take, length-drop}
-use Rattle.std.proofs.lemmas.List.Concat.{flat_map-cons}
-use Rattle.std.proofs.lemmas.List.Sums.{sum_by-cons}
-use Rattle.std.proofs.lemmas.Nat.{from_be_bytes-to_be_bytes_2, from_be_bytes-to_be_bytes_4}
-use Rattle.std.specs.Int.{w16, w32, to_be_bytes}
-use Rattle.std.specs.List.{AllByRecursion}
-use Rattle.iso_model.specs.declared.access.Geometry.{Geometry}
-use Rattle.iso_model.specs.declared.access.Run.{Run}
-use Rattle.iso_model.specs.Effect.{or_else}
-use Rattle.iso_model.specs.Image.{IsRun, AreRuns, ComesAfter, part, body_length}
-use Rattle.iso_format.specs.declared.format_error.FormatError.{FormatError}
-use Rattle.iso_format.specs.declared.format_error.FormatError.TheVariants.{Order, Range, Length}
-use Rattle.iso_format.specs.Reading.{number_at}
-use Rattle.iso_format.specs.Records.{IsSmall, run_of, runs_of, part_size, part_end, HasParts, follows, lies_in, part_fault, parts_fault}
+use Rattle.iso_format.proofs.Words.{◌≡◌, ℕ, zero, suc, ◌+◌, ◌-◌, ◌*◌, ◌<◌, ◌≤◌, Bool, true, false, ◌&&◌, ◌||◌, ◌==◌, nat_lt, nat_le, cond, not, inl, inr, List, [], ◌∷◌, ◌++◌, Option, Some, None, length, take, drop, IsTrue, flat_map, refl, sym, ap, ◌∙◌, arith, leb-true, le-leb, ltb-true, ltb-false, lt-ltb, le-ltb, eqb-true, eq-eqb, not-false, or_cases, and_parts, and_from, or_right, take_at, drop_at, take-append-drop, length-append, length-take, length-drop, flat_map-cons, sum_by-cons, from_be_bytes-to_be_bytes_2, from_be_bytes-to_be_bytes_4, w16, w32, to_be_bytes, AllByRecursion, Geometry, Run, or_else, IsRun, AreRuns, ComesAfter, part, body_length, FormatError, Order, Range, Length, number_at, IsSmall, run_of, runs_of, part_size, part_end, HasParts, follows, lies_in, part_fault, parts_fault, bytes_drop, AreBytes}
 use Rattle.iso_format.proofs.Parts.{IsBounded}
-use Rattle.iso_model.proofs.ByteLists.{bytes_drop}
-use Rattle.iso_model.specs.Premises.{AreBytes}
 use Rattle.iso_format.proofs.Pieces.{grow, spelled_16, spelled_32}
 
 -- none of two tests failed

@@ -1,16 +1,5 @@
 -- The record of parts that lie in an image is short.
-use Rattle.std.proofs.Common.{◌≡◌, ℕ, zero, suc, take, ◌+◌, ◌*◌, ◌^◌, ◌<◌, ◌≤◌, ◌==◌, inl, inr, List, [], ◌∷◌, length, get_or, flat_map, IsTrue, nat_le, arith, refl}
-use Rattle.std.proofs.Math.Nat.{mul-le-mul_right}
-use Rattle.std.proofs.lemmas.Bool.{leb-true, eqb-true, or_cases, and_parts}
-use Rattle.std.proofs.lemmas.List.{length-append}
-use Rattle.std.proofs.lemmas.List.Sums.{sum_by-cons, sum_by_more_le}
-use Rattle.std.specs.List.{list_any, list_all}
-use Rattle.iso_model.specs.declared.access.Geometry.{Geometry}
-use Rattle.iso_model.specs.declared.access.Run.{Run}
-use Rattle.iso_model.specs.Effect.{record_length}
-use Rattle.iso_model.specs.Geometry.{is_valid, is_block_size}
-use Rattle.iso_model.specs.Image.{IsRun, AreRuns, ComesAfter, body_length, part, spell}
-use Rattle.iso_format.specs.Writing.{LieInAnImage}
+use Rattle.iso_format.proofs.Words.{◌≡◌, ℕ, zero, suc, take, ◌+◌, ◌*◌, ◌^◌, ◌<◌, ◌≤◌, ◌==◌, inl, inr, List, [], ◌∷◌, length, get_or, flat_map, IsTrue, nat_le, arith, refl, mul-le-mul_right, leb-true, eqb-true, or_cases, and_parts, length-append, sum_by-cons, sum_by_more_le, list_any, list_all, Geometry, Run, record_length, is_valid, is_block_size, IsRun, AreRuns, ComesAfter, body_length, part, spell, LieInAnImage}
 
 is_le : (a b : ℕ) → IsTrue (nat_le a b) → a ≤ b
 is_le a b h = leb-true a b h

@@ -1,15 +1,5 @@
 -- Bytes are their pieces, from the front on.
-use Rattle.std.proofs.Common.{◌≡◌, ℕ, ◌+◌, ◌<◌, ◌≤◌, ◌==◌, List, [], ◌∷◌, ◌++◌, length, get_or, take, drop, replicate, IsTrue, nat_eq, refl, sym, ap, ◌∙◌, arith}
-use Rattle.std.proofs.Math.Seq.{take-add, drop-cons}
-use Rattle.std.proofs.lemmas.Bool.{eqb-true, and_parts}
-use Rattle.std.proofs.lemmas.List.{length-take, length-drop}
-use Rattle.std.proofs.lemmas.Nat.{be_bytes_2, be_bytes_4, be_bytes_8}
-use Rattle.std.specs.Int.{w16, w32, w64, to_be_bytes, from_be_bytes}
-use Rattle.std.specs.Cmp.Lexicographic.{pointwise}
-use Rattle.std.specs.List.{list_all}
-use Rattle.iso_model.specs.Premises.{AreBytes}
-use Rattle.iso_model.proofs.ByteLists.{bytes_drop, bytes_take}
-use Rattle.iso_format.specs.Reading.{number_at, are_zero}
+use Rattle.iso_format.proofs.Words.{◌≡◌, ℕ, ◌+◌, ◌<◌, ◌≤◌, ◌==◌, List, [], ◌∷◌, ◌++◌, length, get_or, take, drop, replicate, IsTrue, nat_eq, refl, sym, ap, ◌∙◌, arith, take-add, drop-cons, eqb-true, and_parts, length-take, length-drop, be_bytes_2, be_bytes_4, be_bytes_8, w16, w32, w64, to_be_bytes, from_be_bytes, pointwise, list_all, AreBytes, bytes_drop, bytes_take, number_at, are_zero}
 
 -- a piece behind a front
 pub grow : (bytes front piece : List ℕ) (n m : ℕ) → take n bytes ≡ front → take m (drop n bytes) ≡ piece → take (n + m) bytes ≡ front ++ piece

@@ -1,20 +1,6 @@
 -- A superblock is read exactly as it is written.
-use Rattle.std.proofs.Common.{◌≡◌, ℕ, zero, suc, ◌+◌, ◌^◌, ◌<◌, ◌≤◌, Bool, true, false, ◌&&◌, ◌==◌, cond, not, nat_eq, nat_le, List, [], ◌∷◌, ◌++◌, Option, Some, None, Result, Ok, Err, IfOk, length, get_or, take, drop, replicate, IsTrue, codes, refl, ap, ◌∙◌, sym, subst, arith}
-use Rattle.std.proofs.lemmas.Bool.{eqb-true, leb-true, and_parts, and_from}
-use Rattle.std.proofs.lemmas.List.{take_all}
-use Rattle.std.proofs.lemmas.Nat.{from_be_bytes-to_be_bytes_4}
-use Rattle.std.specs.Int.{w32, to_be_bytes}
-use Rattle.std.specs.List.{position_from, starts_with}
-use Rattle.iso_model.specs.declared.access.Geometry.{Geometry}
-use Rattle.iso_model.specs.declared.access.Mode.{Mode}
-use Rattle.iso_model.specs.declared.access.Mode.TheVariants.{Serial, Snapshot}
-use Rattle.iso_model.specs.Geometry.{is_valid, is_block_size, is_region}
-use Rattle.iso_model.specs.Image.{superblock, mode_byte}
-use Rattle.iso_format.specs.declared.superblock.SuperError.{SuperError}
-use Rattle.iso_format.specs.declared.superblock.SuperError.TheVariants.{NotIsotope}
-use Rattle.iso_format.specs.Reading.{number_at, are_zero, mode_of, geometry_of, has_regions, wrong_field, unless_wrong, super_of}
+use Rattle.iso_format.proofs.Words.{◌≡◌, ℕ, zero, suc, ◌+◌, ◌^◌, ◌<◌, ◌≤◌, Bool, true, false, ◌&&◌, ◌==◌, cond, not, nat_eq, nat_le, List, [], ◌∷◌, ◌++◌, Option, Some, None, Result, Ok, Err, IfOk, length, get_or, take, drop, replicate, IsTrue, codes, refl, ap, ◌∙◌, sym, subst, arith, eqb-true, leb-true, and_parts, and_from, take_all, from_be_bytes-to_be_bytes_4, w32, to_be_bytes, position_from, starts_with, Geometry, Mode, Serial, Snapshot, is_valid, is_block_size, is_region, superblock, mode_byte, SuperError, NotIsotope, number_at, are_zero, mode_of, geometry_of, has_regions, wrong_field, unless_wrong, super_of, AreBytes}
 use Rattle.iso_format.proofs.Parts.{block_fits}
-use Rattle.iso_model.specs.Premises.{AreBytes}
 use Rattle.iso_format.proofs.Pieces.{grow, spelled_32, one_at, zeros_at, same_bytes}
 
 -- the limits of a valid geometry, as a superblock is tested for them

@@ -1,14 +1,5 @@
 -- A record says the same on its own bytes and one more as on all that follow.
-use Rattle.std.proofs.Common.{◌≡◌, ◌<◌, ◌≤◌, ◌+◌, ◌-◌, ◌*◌, ◌==◌, ◌||◌, ◌&&◌, not, cond, ℕ, List, length, take, drop, get_or, Some, None, nat_lt, nat_le, refl, sym, ◌∙◌, ap, arith}
-use Rattle.std.specs.Int.{from_be_bytes, w32, w64}
-use Rattle.std.proofs.lemmas.Bool.{lt-ltb, le-ltb}
-use Rattle.std.proofs.lemmas.List.{drop-take, take-take, get_or-take, length-take-le}
-use Rattle.iso_model.specs.declared.access.Geometry.{Geometry}
-use Rattle.iso_model.specs.declared.limits.TheConstants.{LAST}
-use Rattle.iso_model.specs.Effect.{or_else}
-use Rattle.iso_format.specs.declared.format_error.FormatError.TheVariants.{Short, Kind, NotZero, Count, Number}
-use Rattle.iso_format.specs.Reading.{number_at}
-use Rattle.iso_format.specs.Records.{fault_of, parts_fault, body_of, is_kind, record_window, recorded, runs_of}
+use Rattle.iso_format.proofs.Words.{◌≡◌, ◌<◌, ◌≤◌, ◌+◌, ◌-◌, ◌*◌, ◌==◌, ◌||◌, ◌&&◌, not, cond, ℕ, List, length, take, drop, get_or, Some, None, nat_lt, nat_le, refl, sym, ◌∙◌, ap, arith, from_be_bytes, w32, w64, lt-ltb, le-ltb, drop-take, take-take, get_or-take, length-take-le, Geometry, LAST, or_else, Short, Kind, NotZero, Count, Number, number_at, fault_of, parts_fault, body_of, is_kind, record_window, recorded, runs_of}
 
 -- a slice of the front
 slice_front : (k at n : ℕ) (bytes : List ℕ) → at + n ≤ k → take n (drop at (take k bytes)) ≡ take n (drop at bytes)

@@ -1,10 +1,5 @@
 -- The blocks of chains: where they stand, and what the chain is.
-use Rattle.std.proofs.Common.{◌≡◌, ◌≢◌, ◌⊎◌, ◌∙◌, sym, refl, ap, subst, ℕ, zero, suc, ◌+◌, ◌<◌, ◌≤◌, Bool, true, false, ◌==◌, cond, nat_eq, List, [], ◌∷◌, ◌++◌, length, arith, inl, inr, eq-eqb, ne_eqb}
-use Rattle.std.specs.List.{AllByRecursion, IsDistinct}
-use Rattle.std.proofs.lemmas.Bool.{cases_eq, and_parts, or_cases, eqb-true, leb-true, ltb-true}
-use Rattle.store_model.specs.declared.stores.Area.{Area}
-use Rattle.store_model.specs.Cells.{word_at, are_key_parts}
-use Rattle.store_model.specs.HashRegion.{buckets, last_position, next_of, is_next, is_linked, chain_from, chain, IsIn, AreLinked, IsHashArea}
+use Rattle.iso_hash.proofs.Words.{◌≡◌, ◌≢◌, ◌⊎◌, ◌∙◌, sym, refl, ap, subst, ℕ, zero, suc, ◌+◌, ◌<◌, ◌≤◌, Bool, true, false, ◌==◌, cond, nat_eq, List, [], ◌∷◌, ◌++◌, length, arith, inl, inr, eq-eqb, ne_eqb, AllByRecursion, IsDistinct, cases_eq, and_parts, or_cases, eqb-true, leb-true, ltb-true, Area, word_at, are_key_parts, buckets, last_position, next_of, is_next, is_linked, chain_from, chain, IsIn, AreLinked, IsHashArea}
 
 -- what the head of a linked block says
 pub record IsHead (a : Area) (bucket position : ℕ) (x : List ℕ) : Type 0 where

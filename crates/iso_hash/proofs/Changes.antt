@@ -1,28 +1,5 @@
 -- Puts and removals are what the operations on the map of the region are.
-use Rattle.std.proofs.Common.{◌≡◌, ◌⊎◌, ◌∙◌, sym, refl, ap, subst, ℕ, zero, suc, ◌+◌, ◌*◌, ◌%◌, ◌<◌, ◌≤◌, Bool, true, false, ◌==◌, not, cond, List, [], ◌∷◌, ◌++◌, length, get_or, replicate, Option, Some, None, Result, Ok, Err, IfSome, arith, inl, inr, is_some}
-use Rattle.std.specs.Int.{w32, to_be_bytes}
-use Rattle.std.specs.Ordering.{nat_cmp, eq_by_cmp}
-use Rattle.std.specs.Cmp.Lexicographic.{slice_cmp, nat_list_cmp_total}
-use Rattle.std.specs.FinMap.{get, remove, get-remove, same_map, slice_cmp-IsAntisymmetric, nat_cmp-IsAntisymmetric}
-use Rattle.std.proofs.lemmas.Bool.{cases_Bool, and_parts, eqb-true, ltb-true, leb-true}
-use Rattle.std.proofs.lemmas.List.{get_or-take, length-replicate}
-use Rattle.std.proofs.lemmas.Slice.Eq.{bytes_eq-Decides}
-use Rattle.iso_model.specs.declared.access.Access.{Access}
-use Rattle.store_model.specs.declared.stores.Area.{Area}
-use Rattle.store_model.specs.declared.stores.Spot.{Spot}
-use Rattle.store_model.specs.declared.stores.StoreError.{StoreError}
-use Rattle.store_model.specs.declared.stores.StoreError.TheVariants.{Broken, NoBlocks}
-use Rattle.iso_model.specs.Array.{Array, put}
-use Rattle.iso_model.specs.Effect.{own}
-use Rattle.iso_model.specs.Conflict.{first_from}
-use Rattle.iso_model.specs.Premises.{block_at}
-use Rattle.store_model.specs.Stores.{Program, Done, Look, Reserve, Store, bytes_in, store_access, accesses_of, answer_of, then_do, IsLocal}
-use Rattle.store_model.specs.Cells.{cell_count, keys_end, key_mark, value_mark, next_mark, value_part, block_with}
-use Rattle.store_model.specs.FreeMap.{map_bytes, map_mark, bit_place, bit_mark, map_bit, set_bit, clear_bit, lowest_free}
-use Rattle.store_model.specs.HashRegion.{Pairs, view_of, buckets, bucket_of, last_position, next_of, chain, hash_map, AreLinked, Stands, IsHashRegion, IsHashArea, put_op, del_op}
-use Rattle.store_model.specs.HashCalls.{Walked, AtCell, AtEnd, AtBroken, walk, spot_in, spare_in, put_new, put_at, put_program, is_spent, is_alone, del_at, del_program, is_key, is_value}
-use Rattle.tx_blocks.proofs.Programs.{AreWhole, accesses_then, answer_then, own_reads, whole_reads, IsCorrect, local_from}
-use Rattle.tx_blocks.proofs.Progress.{own_append}
+use Rattle.iso_hash.proofs.Words.{◌≡◌, ◌⊎◌, ◌∙◌, sym, refl, ap, subst, ℕ, zero, suc, ◌+◌, ◌*◌, ◌%◌, ◌<◌, ◌≤◌, Bool, true, false, ◌==◌, not, cond, List, [], ◌∷◌, ◌++◌, length, get_or, replicate, Option, Some, None, Result, Ok, Err, IfSome, arith, inl, inr, is_some, w32, to_be_bytes, nat_cmp, eq_by_cmp, slice_cmp, nat_list_cmp_total, get, remove, get-remove, same_map, slice_cmp-IsAntisymmetric, nat_cmp-IsAntisymmetric, cases_Bool, and_parts, eqb-true, ltb-true, leb-true, get_or-take, length-replicate, bytes_eq-Decides, Access, Area, Spot, StoreError, Broken, NoBlocks, Array, put, own, first_from, block_at, Program, Done, Look, Reserve, Store, bytes_in, store_access, accesses_of, answer_of, then_do, IsLocal, cell_count, keys_end, key_mark, value_mark, next_mark, value_part, block_with, map_bytes, map_mark, bit_place, bit_mark, map_bit, set_bit, clear_bit, lowest_free, Pairs, view_of, buckets, bucket_of, last_position, next_of, chain, hash_map, AreLinked, Stands, IsHashRegion, IsHashArea, put_op, del_op, Walked, AtCell, AtEnd, AtBroken, walk, spot_in, spare_in, put_new, put_at, put_program, is_spent, is_alone, del_at, del_program, is_key, is_value, AreWhole, accesses_then, answer_then, own_reads, whole_reads, IsCorrect, local_from, own_append, first_below}
 use Rattle.iso_hash.proofs.Chains.{linked_split, next_in, head_of}
 use Rattle.iso_hash.proofs.Dels.{del_cell, del_block}
 use Rattle.iso_hash.proofs.Finding.{ties, cases_key}
@@ -32,7 +9,6 @@ use Rattle.iso_hash.proofs.Grown.{put_grown}
 use Rattle.iso_hash.proofs.Linking.{length-block_with}
 use Rattle.iso_hash.proofs.NewBlocks.{size_most, length-new_block}
 use Rattle.iso_hash.proofs.Puts.{HasPut, put_found, put_spare, length-with_cell, cells_fit}
-use Rattle.store_model.proofs.HashAccesses.{first_below}
 use Rattle.iso_hash.proofs.Ways.{Way, way, first_passes, cell_below, Found, IsSpare}
 
 -- what is done after a walk is done on the same array

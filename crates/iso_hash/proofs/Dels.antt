@@ -1,21 +1,5 @@
 -- A removal of a cell, and one that gives its block back: the region stays well formed, and its map loses the key.
-use Rattle.std.proofs.Common.{◌≡◌, ◌≢◌, ◌↔◌, ◌∙◌, sym, refl, ap, subst, ℕ, ◌+◌, ◌*◌, ◌<◌, ◌≤◌, true, false, ◌&&◌, ◌||◌, ◌==◌, not, IsTrue, List, [], ◌∷◌, ◌++◌, length, get_or, take, replicate, arith, inl, inr, eq-eqb, ne_eqb, length-append, append_assoc}
-use Rattle.std.specs.List.{list_all}
-use Rattle.std.specs.FinMap.{remove}
-use Rattle.std.proofs.lemmas.Bool.{cases_eq, both_ways, and_parts, and_from, or_cases, eqb-true}
-use Rattle.std.proofs.lemmas.List.{length-replicate}
-use Rattle.store_model.specs.declared.stores.Area.{Area}
-use Rattle.store_model.specs.declared.stores.Spot.{Spot}
-use Rattle.iso_model.specs.Array.{Array, merged, put}
-use Rattle.iso_model.specs.Premises.{block_at}
-use Rattle.store_model.specs.Stores.{bytes_in, store_access}
-use Rattle.store_model.specs.Cells.{cell_count, keys_mark, key_mark, value_mark, next_mark, word_at, is_zero, is_part, text_of, is_unused, key_at, block_with}
-use Rattle.store_model.specs.FreeMap.{map_bytes, bit_place, bit_mark, map_bit, clear_bit}
-use Rattle.store_model.specs.HashRegion.{view_of, buckets, bucket_of, last_position, next_of, is_linked, chain, hash_map, IsIn, AreLinked, Stands, IsOverflow, HaveValues, IsHashRegion, IsHashArea}
-use Rattle.store_model.specs.HashCalls.{is_alone}
-use Rattle.iso_model.proofs.Bytes.{length-block_put, written_block, other_block}
-use Rattle.iso_alloc.proofs.Bits.{bits_without}
-use Rattle.iso_alloc.proofs.Loops.{all_at}
+use Rattle.iso_hash.proofs.Words.{◌≡◌, ◌≢◌, ◌↔◌, ◌∙◌, sym, refl, ap, subst, ℕ, ◌+◌, ◌*◌, ◌<◌, ◌≤◌, true, false, ◌&&◌, ◌||◌, ◌==◌, not, IsTrue, List, [], ◌∷◌, ◌++◌, length, get_or, take, replicate, arith, inl, inr, eq-eqb, ne_eqb, length-append, append_assoc, list_all, remove, cases_eq, both_ways, and_parts, and_from, or_cases, eqb-true, length-replicate, Area, Spot, Array, merged, put, block_at, bytes_in, store_access, cell_count, keys_mark, key_mark, value_mark, next_mark, word_at, is_zero, is_part, text_of, is_unused, key_at, block_with, map_bytes, bit_place, bit_mark, map_bit, clear_bit, view_of, buckets, bucket_of, last_position, next_of, is_linked, chain, hash_map, IsIn, AreLinked, Stands, IsOverflow, HaveValues, IsHashRegion, IsHashArea, is_alone, length-block_put, written_block, other_block, bits_without, all_at}
 use Rattle.iso_hash.proofs.Chains.{placed, block_inside, one_bucket, linked_split, linked_join, linked_alike, LinkedAlike, length-chain_from, in_left, in_right, in_either, not_twice}
 use Rattle.iso_hash.proofs.Frames.{zero_part, zeros_are, piece_zero}
 use Rattle.iso_hash.proofs.Linking.{chain_of, byte_here, byte_far, head_far, piece_far, key_far, next_here, relinked}

@@ -1,17 +1,5 @@
 -- What the look-up of a key finds among the pairs of cells, blocks and buckets.
-use Rattle.std.proofs.Common.{◌≡◌, ◌≢◌, ◌⊎◌, ◌∙◌, sym, refl, ap, subst, ℕ, zero, suc, ◌+◌, ◌<◌, ◌≤◌, Bool, true, false, ◌==◌, cond, List, [], ◌∷◌, ◌++◌, Option, Some, None, arith, inl, inr}
-use Rattle.std.specs.List.{flat_map, range_with_len}
-use Rattle.std.specs.Ordering.{nat_cmp, eq_by_cmp}
-use Rattle.std.specs.Cmp.Lexicographic.{slice_cmp, lists_ties, nat_list_cmp_total}
-use Rattle.std.specs.FinMap.{from_entries, get, get-from_entries, find}
-use Rattle.std.specs.Str.{bytes_eq}
-use Rattle.std.proofs.lemmas.Bool.{cases_eq, cases_Bool, false_from_ne_true}
-use Rattle.std.proofs.lemmas.Bool.Decides.{nat_tests}
-use Rattle.std.proofs.lemmas.Slice.Eq.{bytes_eq-Decides}
-use Rattle.store_model.specs.declared.stores.Area.{Area}
-use Rattle.iso_model.specs.Effect.{or_else}
-use Rattle.store_model.specs.Cells.{cell_count, text_of, is_unused, key_at}
-use Rattle.store_model.specs.HashRegion.{buckets, chain, pairs_from, pairs_of, bucket_pairs, all_pairs, IsIn, Stands}
+use Rattle.iso_hash.proofs.Words.{◌≡◌, ◌≢◌, ◌⊎◌, ◌∙◌, sym, refl, ap, subst, ℕ, zero, suc, ◌+◌, ◌<◌, ◌≤◌, Bool, true, false, ◌==◌, cond, List, [], ◌∷◌, ◌++◌, Option, Some, None, arith, inl, inr, flat_map, range_with_len, nat_cmp, eq_by_cmp, slice_cmp, lists_ties, nat_list_cmp_total, from_entries, get, get-from_entries, find, bytes_eq, cases_eq, cases_Bool, false_from_ne_true, nat_tests, bytes_eq-Decides, Area, or_else, cell_count, text_of, is_unused, key_at, buckets, chain, pairs_from, pairs_of, bucket_pairs, all_pairs, IsIn, Stands}
 
 nat_ties : (x y : ℕ) → (x == y) ≡ eq_by_cmp nat_cmp x y
 nat_ties x y = grind (arith, nat_tests)

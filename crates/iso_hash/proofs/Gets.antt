@@ -1,17 +1,5 @@
 -- A get is the look-up in the map of the region.
-use Rattle.std.proofs.Common.{◌≡◌, ◌≢◌, ◌∙◌, sym, refl, ap, subst, ℕ, ◌+◌, ◌<◌, ◌≤◌, Bool, true, false, cond, List, length, Option, Some, None, Result, Ok, Err, arith, inl, inr}
-use Rattle.std.specs.FinMap.{get}
-use Rattle.std.proofs.lemmas.Bool.{cases_Bool, and_parts, leb-true}
-use Rattle.store_model.specs.declared.stores.Area.{Area}
-use Rattle.store_model.specs.declared.stores.Spot.{Spot}
-use Rattle.store_model.specs.declared.stores.StoreError.{StoreError}
-use Rattle.store_model.specs.declared.stores.StoreError.TheVariants.{BadKey, Broken}
-use Rattle.iso_model.specs.Array.{Array}
-use Rattle.store_model.specs.Stores.{Done, accesses_of, answer_of, then_do, AreReads, IsLocal}
-use Rattle.store_model.specs.Cells.{is_part, text_of, key_at}
-use Rattle.store_model.specs.HashRegion.{view_of, buckets, bucket_of, last_position, chain, hash_map, Stands, IsHashRegion, IsHashArea, get_op}
-use Rattle.store_model.specs.HashCalls.{Walked, AtCell, AtEnd, AtBroken, walk, is_key, got, get_program}
-use Rattle.tx_blocks.proofs.Programs.{answer_then, own_reads, whole_reads, reads_then, IsCorrect, local_from}
+use Rattle.iso_hash.proofs.Words.{◌≡◌, ◌≢◌, ◌∙◌, sym, refl, ap, subst, ℕ, ◌+◌, ◌<◌, ◌≤◌, Bool, true, false, cond, List, length, Option, Some, None, Result, Ok, Err, arith, inl, inr, get, cases_Bool, and_parts, leb-true, Area, Spot, StoreError, BadKey, Broken, Array, Done, accesses_of, answer_of, then_do, AreReads, IsLocal, is_part, text_of, key_at, view_of, buckets, bucket_of, last_position, chain, hash_map, Stands, IsHashRegion, IsHashArea, get_op, Walked, AtCell, AtEnd, AtBroken, walk, is_key, got, get_program, answer_then, own_reads, whole_reads, reads_then, IsCorrect, local_from}
 use Rattle.iso_hash.proofs.Finding.{finds_it, finds_none, map_gets}
 use Rattle.iso_hash.proofs.Ways.{way, way_cell, way_end, walk_reads, key_used, Found, Missed}
 

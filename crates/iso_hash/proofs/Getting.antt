@@ -1,22 +1,8 @@
 -- What a get answers where its walk ends.
-use Rattle.std.proofs.Common.{◌≡◌, ◌≢◌, ◌∙◌, refl, ap, subst, ℕ, ◌+◌, ◌*◌, Bool, true, false, cond, List, [], take, drop, Option, Some, None, Result, Ok, Err}
-use Rattle.iso_model.specs.declared.access.Access.{Access}
-use Rattle.store_model.specs.declared.stores.Area.{Area}
-use Rattle.store_model.specs.declared.stores.Spot.{Spot}
-use Rattle.store_model.specs.declared.stores.StoreError.{StoreError}
+use Rattle.iso_hash.proofs.Words.{◌≡◌, ◌≢◌, ◌∙◌, refl, ap, subst, ℕ, ◌+◌, ◌*◌, Bool, true, false, cond, List, [], take, drop, Option, Some, None, Result, Ok, Err, Access, Area, Spot, StoreError, own, value_mark, keys_end, is_part, text_of, get_program, got, walk, is_key, IsHashArea, IsHashRegion, hash_map, get_op, Done, then_do, bytes_in, IsLocal, Tx, Ran, HasEnded, IsLocalCall, ran_at, at_start, at_then, whole_run, cut_then, HasWalked}
 use Rattle.store_model.specs.declared.stores.StoreError.TheVariants as store
-use Rattle.iso_model.specs.Effect.{own}
-use Rattle.store_model.specs.Cells.{value_mark, keys_end, is_part, text_of}
 use Rattle.store_model.specs.HashCalls as hash
-use Rattle.store_model.specs.HashCalls.{get_program, got, walk, is_key}
-use Rattle.store_model.specs.HashRegion.{IsHashArea, IsHashRegion, hash_map, get_op}
-use Rattle.store_model.specs.Stores.{Done, then_do, bytes_in, IsLocal}
-use Rattle.tx_blocks.specs.Tx.{Tx}
-use Rattle.tx_blocks.specs.Runs.{Ran, HasEnded, IsLocalCall}
-use Rattle.tx_blocks.proofs.Progress.{ran_at, at_start, at_then, whole_run}
-use Rattle.tx_blocks.proofs.Refusals.{cut_then}
 use Rattle.iso_hash.proofs.Gets.{get_local}
-use Rattle.iso_hash.specs.Walks.{HasWalked}
 use Rattle.iso_hash.specs.declared.walk.Walked as code
 
 get_ran : (a : Area) (key : List ℕ) (t u : Tx) (w : hash.Walked) → is_key key ≡ true → Ran (walk a key true) t u w → Ran (get_program a key) t u (got a w)

@@ -1,21 +1,5 @@
 -- A put into a new block behind the last one of a chain: the region stays well formed, and its map gets the value.
-use Rattle.std.proofs.Common.{◌≡◌, ◌≢◌, ◌⊎◌, ◌↔◌, ◌∙◌, sym, refl, ap, subst, ℕ, ◌+◌, ◌*◌, ◌^◌, ◌<◌, ◌≤◌, true, false, ◌||◌, ◌==◌, not, nat_eq, nat_le, nat_lt, IsTrue, List, [], ◌∷◌, ◌++◌, length, get_or, take, Option, arith, inl, inr, eq-eqb, ne_eqb, length-append}
-use Rattle.std.specs.Int.{w32, to_be_bytes}
-use Rattle.std.specs.List.{list_all}
-use Rattle.std.proofs.lemmas.Bool.{cases_eq, both_ways, and_from, or_left, or_right, or_cases, eqb-true}
-use Rattle.std.proofs.lemmas.Bool.Decides.{nat_tests}
-use Rattle.std.proofs.lemmas.Nat.{from_be_bytes-to_be_bytes_4}
-use Rattle.store_model.specs.declared.stores.Area.{Area}
-use Rattle.store_model.specs.declared.stores.Spot.{Spot}
-use Rattle.iso_model.specs.Array.{Array, merged, put}
-use Rattle.iso_model.specs.Premises.{block_at}
-use Rattle.store_model.specs.Stores.{bytes_in, store_access}
-use Rattle.store_model.specs.Cells.{cell_count, keys_mark, key_mark, value_mark, next_mark, word_at, is_zero, is_part, text_of, key_part, value_part, is_unused, key_at, block_with}
-use Rattle.store_model.specs.FreeMap.{map_bytes, bit_place, bit_mark, map_bit, set_bit}
-use Rattle.store_model.specs.HashRegion.{view_of, buckets, bucket_of, last_position, next_of, is_next, is_linked, chain, hash_map, IsIn, AreLinked, Stands, IsOverflow, HaveValues, IsHashRegion, IsHashArea}
-use Rattle.store_model.specs.HashCalls.{new_block}
-use Rattle.iso_model.proofs.Bytes.{length-block_put, written_block, other_block}
-use Rattle.iso_alloc.proofs.Bits.{bits_with}
+use Rattle.iso_hash.proofs.Words.{◌≡◌, ◌≢◌, ◌⊎◌, ◌↔◌, ◌∙◌, sym, refl, ap, subst, ℕ, ◌+◌, ◌*◌, ◌^◌, ◌<◌, ◌≤◌, true, false, ◌||◌, ◌==◌, not, nat_eq, nat_le, nat_lt, IsTrue, List, [], ◌∷◌, ◌++◌, length, get_or, take, Option, arith, inl, inr, eq-eqb, ne_eqb, length-append, w32, to_be_bytes, list_all, cases_eq, both_ways, and_from, or_left, or_right, or_cases, eqb-true, nat_tests, from_be_bytes-to_be_bytes_4, Area, Spot, Array, merged, put, block_at, bytes_in, store_access, cell_count, keys_mark, key_mark, value_mark, next_mark, word_at, is_zero, is_part, text_of, key_part, value_part, is_unused, key_at, block_with, map_bytes, bit_place, bit_mark, map_bit, set_bit, view_of, buckets, bucket_of, last_position, next_of, is_next, is_linked, chain, hash_map, IsIn, AreLinked, Stands, IsOverflow, HaveValues, IsHashRegion, IsHashArea, new_block, length-block_put, written_block, other_block, bits_with}
 use Rattle.iso_hash.proofs.Chains.{placed, block_inside, one_bucket, linked_split, linked_join, linked_alike, LinkedAlike, length-chain_from, in_left, in_right, in_either, not_twice, all_in, distinct, next_in, head_of}
 use Rattle.iso_hash.proofs.Frames.{laid_whole, part_is_part, part_text, zero_part, zeros_are}
 use Rattle.iso_hash.proofs.Gets.{bucket_below}

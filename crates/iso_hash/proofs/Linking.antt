@@ -1,17 +1,5 @@
 -- A block whose next number is written, and a block 0 of which one byte of the map is.
-use Rattle.std.proofs.Common.{◌≡◌, ◌≢◌, ◌∙◌, sym, refl, ap, ℕ, ◌+◌, ◌/◌, ◌<◌, ◌≤◌, true, false, List, [], ◌∷◌, ◌++◌, length, get_or, take, drop, replicate, arith, inl, inr}
-use Rattle.std.proofs.lemmas.Bool.{cases_lt, or_left}
-use Rattle.std.proofs.lemmas.List.{get_or-take, get_or-drop, length-replicate}
-use Rattle.iso_model.specs.declared.access.Span.{Span}
-use Rattle.store_model.specs.declared.stores.Area.{Area}
-use Rattle.iso_model.specs.Array.{merged}
-use Rattle.store_model.specs.Stores.{bytes_in}
-use Rattle.store_model.specs.Cells.{cell_count, keys_end, keys_mark, key_mark, next_mark, word_at, is_part, block_with}
-use Rattle.store_model.specs.FreeMap.{bit_place, bit_mark}
-use Rattle.store_model.specs.HashRegion.{last_position, next_of, is_next, is_linked, chain_from, chain, AreLinked}
-use Rattle.iso_alloc.proofs.Laying.{laid_here}
-use Rattle.store_model.proofs.Laying.{length-laid_at}
-use Rattle.iso_alloc.proofs.Loops.{all_at}
+use Rattle.iso_hash.proofs.Words.{◌≡◌, ◌≢◌, ◌∙◌, sym, refl, ap, ℕ, ◌+◌, ◌/◌, ◌<◌, ◌≤◌, true, false, List, [], ◌∷◌, ◌++◌, length, get_or, take, drop, replicate, arith, inl, inr, cases_lt, or_left, get_or-take, get_or-drop, length-replicate, Span, Area, merged, bytes_in, cell_count, keys_end, keys_mark, key_mark, next_mark, word_at, is_part, block_with, bit_place, bit_mark, last_position, next_of, is_next, is_linked, chain_from, chain, AreLinked, laid_here, length-laid_at, all_at}
 use Rattle.iso_hash.proofs.Chains.{chain_is, head_of}
 use Rattle.iso_hash.proofs.Frames.{kept_1, laid_all, piece_of}
 use Rattle.iso_hash.proofs.Rewritten.{all_pass, linked_again}

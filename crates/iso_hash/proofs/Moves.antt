@@ -1,13 +1,5 @@
 -- A change of the cells of a region: its keys stay apart, and its map has one key changed.
-use Rattle.std.proofs.Common.{◌≡◌, ◌≢◌, ◌∙◌, sym, refl, ap, ℕ, true, false, cond, List, Some, None, inl, inr}
-use Rattle.std.specs.Ordering.{nat_cmp, eq_by_cmp}
-use Rattle.std.specs.Cmp.Lexicographic.{slice_cmp, nat_list_cmp_total}
-use Rattle.std.specs.FinMap.{from_entries, get, insert, remove, get-insert, get-remove, same_map, slice_cmp-IsAntisymmetric, nat_cmp-IsAntisymmetric}
-use Rattle.std.proofs.lemmas.Slice.Eq.{bytes_eq-Decides}
-use Rattle.store_model.specs.declared.stores.Area.{Area}
-use Rattle.store_model.specs.declared.stores.Spot.{Spot}
-use Rattle.store_model.specs.Cells.{text_of, key_at}
-use Rattle.store_model.specs.HashRegion.{Pairs, bucket_of, all_pairs, Stands}
+use Rattle.iso_hash.proofs.Words.{◌≡◌, ◌≢◌, ◌∙◌, sym, refl, ap, ℕ, true, false, cond, List, Some, None, inl, inr, nat_cmp, eq_by_cmp, slice_cmp, nat_list_cmp_total, from_entries, get, insert, remove, get-insert, get-remove, same_map, slice_cmp-IsAntisymmetric, nat_cmp-IsAntisymmetric, bytes_eq-Decides, Area, Spot, text_of, key_at, Pairs, bucket_of, all_pairs, Stands}
 use Rattle.iso_hash.proofs.Finding.{ties, bytes_other, cases_key, found_in, seek, AreApart, finds_it, finds_none, map_gets}
 
 -- the cell stands in another region too, with the same key and value

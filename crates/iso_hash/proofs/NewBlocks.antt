@@ -1,19 +1,5 @@
 -- What stands in a new block of a bucket.
-use Rattle.std.proofs.Common.{◌≡◌, ◌≢◌, ◌⊎◌, ◌∙◌, sym, refl, ap, ℕ, ◌+◌, ◌*◌, ◌^◌, ◌<◌, ◌≤◌, true, false, ◌==◌, cond, List, length, replicate, arith, inl, inr, eq-eqb}
-use Rattle.std.specs.Int.{w32, to_be_bytes, from_be_bytes}
-use Rattle.std.specs.List.{list_all}
-use Rattle.std.proofs.lemmas.Bool.{cases_eq, and_from}
-use Rattle.std.proofs.lemmas.Bool.Decides.{nat_tests}
-use Rattle.std.proofs.lemmas.List.{length-replicate}
-use Rattle.std.proofs.lemmas.Nat.{from_be_bytes-to_be_bytes_4}
-use Rattle.iso_model.specs.declared.access.Span.{Span}
-use Rattle.store_model.specs.declared.stores.Area.{Area}
-use Rattle.store_model.specs.Stores.{bytes_in}
-use Rattle.store_model.specs.Cells.{cell_count, keys_end, keys_mark, key_mark, value_mark, word_at, is_zero, is_part, key_part, value_part, laid_at, are_key_parts}
-use Rattle.store_model.specs.HashRegion.{next_of, is_next, is_linked, IsHashArea}
-use Rattle.store_model.specs.HashCalls.{with_cell, new_block}
-use Rattle.iso_alloc.proofs.Laying.{laid_here}
-use Rattle.store_model.proofs.Laying.{length-laid_at}
+use Rattle.iso_hash.proofs.Words.{◌≡◌, ◌≢◌, ◌⊎◌, ◌∙◌, sym, refl, ap, ℕ, ◌+◌, ◌*◌, ◌^◌, ◌<◌, ◌≤◌, true, false, ◌==◌, cond, List, length, replicate, arith, inl, inr, eq-eqb, w32, to_be_bytes, from_be_bytes, list_all, cases_eq, and_from, nat_tests, length-replicate, from_be_bytes-to_be_bytes_4, Span, Area, bytes_in, cell_count, keys_end, keys_mark, key_mark, value_mark, word_at, is_zero, is_part, key_part, value_part, laid_at, are_key_parts, next_of, is_next, is_linked, IsHashArea, with_cell, new_block, laid_here, length-laid_at}
 use Rattle.iso_hash.proofs.Frames.{laid_kept, piece_of, piece_zero, zeros_are, zero_part, length-part_of, part_is_part}
 use Rattle.iso_hash.proofs.Puts.{length-with_cell, cell_key_part, cell_value_part, cells_fit}
 use Rattle.iso_hash.proofs.Rewritten.{all_pass}

@@ -1,7 +1,5 @@
 -- Distinct numbers of a range are at most as many as the range has, and fewer where one of them is left out.
-use Rattle.std.proofs.Common.{◌≡◌, sym, refl, ap, subst, ℕ, zero, suc, ◌+◌, ◌<◌, ◌≤◌, true, false, ◌==◌, cond, nat_eq, List, [], ◌∷◌, length, arith, inl, inr, eq-eqb, ne_eqb}
-use Rattle.std.specs.List.{AllByRecursion, IsDistinct}
-use Rattle.std.proofs.lemmas.Bool.{cases_eq, both_ways}
+use Rattle.iso_hash.proofs.Words.{◌≡◌, sym, refl, ap, subst, ℕ, zero, suc, ◌+◌, ◌<◌, ◌≤◌, true, false, ◌==◌, cond, nat_eq, List, [], ◌∷◌, length, arith, inl, inr, eq-eqb, ne_eqb, AllByRecursion, IsDistinct, cases_eq, both_ways}
 
 without : (m : ℕ) → List ℕ → List ℕ
 without m [] = []

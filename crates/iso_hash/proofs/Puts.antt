@@ -1,21 +1,5 @@
 -- A put into a cell that has the key, and one into an unused cell: the region stays well formed, and its map gets the value.
-use Rattle.std.proofs.Common.{◌≡◌, ◌≢◌, ◌∙◌, sym, refl, ap, subst, ℕ, ◌+◌, ◌-◌, ◌*◌, ◌<◌, ◌≤◌, Bool, true, false, ◌==◌, List, [], ◌∷◌, length, get_or, replicate, arith, inl, inr, ne_eqb}
-use Rattle.std.specs.List.{list_all}
-use Rattle.std.specs.FinMap.{insert}
-use Rattle.std.proofs.lemmas.Bool.{cases_eq, both_ways, or_left}
-use Rattle.std.proofs.lemmas.List.{length-replicate}
-use Rattle.iso_model.specs.declared.access.Access.{Access}
-use Rattle.store_model.specs.declared.stores.Area.{Area}
-use Rattle.store_model.specs.declared.stores.Spot.{Spot}
-use Rattle.iso_model.specs.Array.{Array, put}
-use Rattle.iso_model.specs.Premises.{block_at}
-use Rattle.store_model.specs.Stores.{bytes_in, store_access}
-use Rattle.store_model.specs.Cells.{cell_count, keys_end, keys_mark, key_mark, value_mark, is_zero, is_part, text_of, key_part, value_part, is_unused, key_at, laid_at, block_with}
-use Rattle.store_model.specs.HashRegion.{view_of, buckets, bucket_of, chain, all_pairs, hash_map, IsIn, Stands, IsKeyed, HaveValues, IsHashRegion, IsHashArea}
-use Rattle.store_model.specs.HashCalls.{with_cell}
-use Rattle.iso_model.proofs.Bytes.{length-block_put, written_block, other_block}
-use Rattle.iso_alloc.proofs.Laying.{laid_here}
-use Rattle.store_model.proofs.Laying.{length-laid_at}
+use Rattle.iso_hash.proofs.Words.{◌≡◌, ◌≢◌, ◌∙◌, sym, refl, ap, subst, ℕ, ◌+◌, ◌-◌, ◌*◌, ◌<◌, ◌≤◌, Bool, true, false, ◌==◌, List, [], ◌∷◌, length, get_or, replicate, arith, inl, inr, ne_eqb, list_all, insert, cases_eq, both_ways, or_left, length-replicate, Access, Area, Spot, Array, put, block_at, bytes_in, store_access, cell_count, keys_end, keys_mark, key_mark, value_mark, is_zero, is_part, text_of, key_part, value_part, is_unused, key_at, laid_at, block_with, view_of, buckets, bucket_of, chain, all_pairs, hash_map, IsIn, Stands, IsKeyed, HaveValues, IsHashRegion, IsHashArea, with_cell, length-block_put, written_block, other_block, laid_here, length-laid_at}
 use Rattle.iso_hash.proofs.Chains.{one_bucket, block_inside, placed}
 use Rattle.iso_hash.proofs.Frames.{kept_1, laid_all, laid_kept, length-part_of, part_is_part, part_text}
 use Rattle.iso_hash.proofs.Gets.{bucket_below}

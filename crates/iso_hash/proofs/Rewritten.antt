@@ -1,19 +1,5 @@
 -- One cell of a linked block is rewritten, key part and value part: what stays.
-use Rattle.std.proofs.Common.{◌≡◌, ◌≢◌, ◌⊎◌, ◌↔◌, ◌∙◌, sym, refl, ap, subst, ℕ, zero, suc, ◌+◌, ◌*◌, ◌<◌, ◌≤◌, Bool, true, false, ◌==◌, cond, IsTrue, List, [], ◌∷◌, length, get_or, arith, inl, inr}
-use Rattle.std.specs.List.{list_all}
-use Rattle.std.proofs.lemmas.Bool.{cases_eq, cases_lt, and_parts, and_from, or_left, or_right}
-use Rattle.iso_model.specs.declared.access.Access.{Access}
-use Rattle.iso_model.specs.declared.access.Span.{Span}
-use Rattle.store_model.specs.declared.stores.Area.{Area}
-use Rattle.store_model.specs.declared.stores.Spot.{Spot}
-use Rattle.iso_model.specs.Array.{Array, covered, in_span, merged, put}
-use Rattle.iso_model.specs.Premises.{block_at}
-use Rattle.store_model.specs.Stores.{bytes_in, store_access}
-use Rattle.store_model.specs.Cells.{cell_count, keys_end, keys_mark, key_mark, value_mark, word_at, is_zero, is_part, text_of, is_unused, all_from, are_key_parts}
-use Rattle.store_model.specs.FreeMap.{map_bytes, map_bit}
-use Rattle.store_model.specs.HashRegion.{view_of, last_position, next_of, is_next, is_linked, chain_from, chain, IsIn, AreLinked, Stands, IsOverflow, HaveValues, IsHashArea}
-use Rattle.iso_model.proofs.Bytes.{written_block, other_block}
-use Rattle.iso_alloc.proofs.Loops.{all_at}
+use Rattle.iso_hash.proofs.Words.{◌≡◌, ◌≢◌, ◌⊎◌, ◌↔◌, ◌∙◌, sym, refl, ap, subst, ℕ, zero, suc, ◌+◌, ◌*◌, ◌<◌, ◌≤◌, Bool, true, false, ◌==◌, cond, IsTrue, List, [], ◌∷◌, length, get_or, arith, inl, inr, list_all, cases_eq, cases_lt, and_parts, and_from, or_left, or_right, Access, Span, Area, Spot, Array, covered, in_span, merged, put, block_at, bytes_in, store_access, cell_count, keys_end, keys_mark, key_mark, value_mark, word_at, is_zero, is_part, text_of, is_unused, all_from, are_key_parts, map_bytes, map_bit, view_of, last_position, next_of, is_next, is_linked, chain_from, chain, IsIn, AreLinked, Stands, IsOverflow, HaveValues, IsHashArea, written_block, other_block, all_at}
 use Rattle.iso_hash.proofs.Chains.{linked_alike, LinkedAlike, head_of}
 use Rattle.iso_hash.proofs.Frames.{AreApart, kept_2, laid_all, piece_of}
 use Rattle.iso_hash.proofs.Moves.{IsSame}

@@ -1,35 +1,9 @@
 -- What puts and removals do where their walk ends.
-use Rattle.std.proofs.Common.{◌≡◌, ◌∙◌, sym, refl, ap, subst, ℕ, zero, suc, ◌+◌, ◌-◌, ◌%◌, ◌<◌, ◌≤◌, ◌==◌, Bool, true, false, cond, not, List, [], ◌∷◌, length, get_or, Option, Some, None, Result, Ok, Err, IfOk, arith}
-use Rattle.std.proofs.lemmas.List.{get_or-take, get_or-set_same}
-use Rattle.std.specs.Option.{ForSome}
-use Rattle.iso_model.specs.declared.access.Access.{Access}
-use Rattle.store_model.specs.declared.stores.Area.{Area}
-use Rattle.store_model.specs.declared.stores.Region.{Region}
-use Rattle.store_model.specs.declared.stores.Spot.{Spot}
-use Rattle.store_model.specs.declared.stores.StoreError.{StoreError}
+use Rattle.iso_hash.proofs.Words.{◌≡◌, ◌∙◌, sym, refl, ap, subst, ℕ, zero, suc, ◌+◌, ◌-◌, ◌%◌, ◌<◌, ◌≤◌, ◌==◌, Bool, true, false, cond, not, List, [], ◌∷◌, length, get_or, Option, Some, None, Result, Ok, Err, IfOk, arith, get_or-take, get_or-set_same, ForSome, Access, Area, Region, Spot, StoreError, TxError, Array, own, first_from, block_at, Program, Done, Look, Reserve, Store, then_do, bytes_in, look_access, store_access, IsLocal, w32, to_be_bytes, replicate, next_mark, block_with, map_bytes, map_mark, bit_mark, bit_place, set_bit, clear_bit, with_bit, without_bit, lowest_free, walk, new_block, is_spent, put_new, put_at, put_program, del_at, del_program, is_key, is_value, bucket_of, buckets, last_position, IsHashArea, IsHashRegion, hash_map, put_op, del_op, length-block_own, Tx, Device, IsTx, with_accesses, room_of, area_of, Ran, HasRun, HasEnded, Behaves, IsLocalCall, IsAt, at_start, at_then, at_look, at_store, at_reserve, ran_at, full_at_reserve, whole_run, cut_then, later_same, read_none, run_from, ended_from, refused_so, HasWalked}
 use Rattle.store_model.specs.declared.stores.StoreError.TheVariants as store
-use Rattle.store_model.specs.declared.stores.TxError.{TxError}
 use Rattle.store_model.specs.declared.stores.TxError.TheVariants as error
-use Rattle.iso_model.specs.Array.{Array}
-use Rattle.iso_model.specs.Effect.{own}
-use Rattle.iso_model.specs.Conflict.{first_from}
-use Rattle.iso_model.specs.Premises.{block_at}
-use Rattle.store_model.specs.Stores.{Program, Done, Look, Reserve, Store, then_do, bytes_in, look_access, store_access, IsLocal}
-use Rattle.std.specs.Int.{w32, to_be_bytes}
-use Rattle.std.proofs.Common.{replicate}
-use Rattle.store_model.specs.Cells.{next_mark, block_with}
-use Rattle.store_model.specs.FreeMap.{map_bytes, map_mark, bit_mark, bit_place, set_bit, clear_bit, with_bit, without_bit, lowest_free}
 use Rattle.store_model.specs.HashCalls as hash
-use Rattle.store_model.specs.HashCalls.{walk, new_block, is_spent, put_new, put_at, put_program, del_at, del_program, is_key, is_value}
-use Rattle.store_model.specs.HashRegion.{bucket_of, buckets, last_position, IsHashArea, IsHashRegion, hash_map, put_op, del_op}
-use Rattle.iso_model.proofs.Bytes.{length-block_own}
-use Rattle.tx_blocks.specs.Tx.{Tx, Device, IsTx, with_accesses, room_of}
-use Rattle.tx_blocks.specs.Runs.{area_of, Ran, HasRun, HasEnded, Behaves, IsLocalCall}
-use Rattle.tx_blocks.proofs.Progress.{IsAt, at_start, at_then, at_look, at_store, at_reserve, ran_at, full_at_reserve, whole_run}
-use Rattle.tx_blocks.proofs.Refusals.{cut_then, later_same, read_none}
-use Rattle.tx_blocks.proofs.Parts.{run_from, ended_from, refused_so}
 use Rattle.iso_hash.proofs.Changes.{put_is, del_is, put_local, del_local, HasBlocks, give_back_block, make_zero}
-use Rattle.iso_hash.specs.Walks.{HasWalked}
 
 -- a put that goes on from the end of its walk
 pub put_from : (a : Area) (key value : List ℕ) (t u v : Tx) (w : hash.Walked) (result : Result (Unit {0}) StoreError) → is_key key ≡ true → is_value value ≡ true

@@ -1,21 +1,5 @@
 -- One block of a walk.
-use Rattle.std.proofs.Common.{◌≡◌, ◌∙◌, sym, refl, ap, subst, ℕ, suc, ◌+◌, ◌-◌, ◌*◌, ◌<◌, ◌≤◌, ◌&&◌, ◌==◌, Bool, true, false, cond, List, [], ◌∷◌, length, take, Option, Some, None, IfSome, option_map, arith, eq-eqb, ne_eqb}
-use Rattle.std.specs.Option.{ForSome}
-use Rattle.iso_model.specs.declared.access.Span.{Span}
-use Rattle.store_model.specs.declared.stores.Area.{Area}
-use Rattle.store_model.specs.declared.stores.Spot.{Spot}
-use Rattle.iso_model.specs.Effect.{own, or_else}
-use Rattle.iso_model.specs.Premises.{block_at}
-use Rattle.store_model.specs.Stores.{Program, Done, bytes_in, further_bytes, with_further, look_access}
-use Rattle.store_model.specs.Cells.{cell_count, keys_end, keys_mark, value_mark, cell_with, unused_cell, are_key_parts}
-use Rattle.store_model.specs.HashCalls.{Walked, AtCell, AtEnd, AtBroken, walk, walk_from, walk_further, walk_next, spare_in, spot_in}
-use Rattle.store_model.specs.HashRegion.{is_linked, next_of, last_position, bucket_of}
-use Rattle.tx_blocks.specs.Tx.{Tx, Device, with_accesses}
-use Rattle.tx_blocks.specs.Runs.{Ran, IsCut, IsCause}
-use Rattle.store_model.specs.declared.stores.TxError.{TxError}
-use Rattle.tx_blocks.proofs.Progress.{IsAt, at_start, at_look, ran_at}
-use Rattle.tx_blocks.proofs.Refusals.{cut_at_look}
-use Rattle.iso_hash.specs.Walks.{IsSpot}
+use Rattle.iso_hash.proofs.Words.{◌≡◌, ◌∙◌, sym, refl, ap, subst, ℕ, suc, ◌+◌, ◌-◌, ◌*◌, ◌<◌, ◌≤◌, ◌&&◌, ◌==◌, Bool, true, false, cond, List, [], ◌∷◌, length, take, Option, Some, None, IfSome, option_map, arith, eq-eqb, ne_eqb, ForSome, Span, Area, Spot, own, or_else, block_at, Program, Done, bytes_in, further_bytes, with_further, look_access, cell_count, keys_end, keys_mark, value_mark, cell_with, unused_cell, are_key_parts, Walked, AtCell, AtEnd, AtBroken, walk, walk_from, walk_further, walk_next, spare_in, spot_in, is_linked, next_of, last_position, bucket_of, Tx, Device, with_accesses, Ran, IsCut, IsCause, TxError, IsAt, at_start, at_look, ran_at, cut_at_look, IsSpot}
 use Rattle.iso_hash.proofs.Chains.{next_in, head_of}
 
 -- what is left may be said in another way

@@ -1,20 +1,5 @@
 -- How a walk ends.
-use Rattle.std.proofs.Common.{◌≡◌, ◌≢◌, ◌⊎◌, ◌∙◌, sym, refl, ap, subst, ℕ, zero, suc, ◌+◌, ◌<◌, ◌≤◌, Bool, true, false, ◌&&◌, ◌==◌, cond, List, [], ◌∷◌, ◌++◌, length, take, drop, Option, Some, None, IfSome, option_map, arith, inl, inr, eq-eqb, ne_eqb}
-use Rattle.std.specs.Str.{bytes_eq}
-use Rattle.std.proofs.lemmas.Bool.{cases_Bool, eqb-true, eqb-false, both_ways}
-use Rattle.std.proofs.lemmas.Slice.Eq.{bytes_eq-Decides}
-use Rattle.iso_model.specs.declared.access.Span.{Span}
-use Rattle.store_model.specs.declared.stores.Area.{Area}
-use Rattle.store_model.specs.declared.stores.Spot.{Spot}
-use Rattle.iso_model.specs.Array.{Array}
-use Rattle.iso_model.specs.Effect.{or_else}
-use Rattle.iso_model.specs.Conflict.{first_from}
-use Rattle.iso_model.specs.Premises.{block_at}
-use Rattle.store_model.specs.Stores.{Program, Done, bytes_in, further_bytes, answer_of, accesses_of, AreReads}
-use Rattle.store_model.specs.Cells.{cell_count, key_mark, value_mark, is_unused, key_at, cell_with, unused_cell}
-use Rattle.store_model.proofs.HashAccesses.{first_below}
-use Rattle.store_model.specs.HashRegion.{view_of, next_of, is_linked, chain_from, IsIn}
-use Rattle.store_model.specs.HashCalls.{Walked, AtCell, AtEnd, AtBroken, spot_in, spare_in, at_cell, walk_from}
+use Rattle.iso_hash.proofs.Words.{◌≡◌, ◌≢◌, ◌⊎◌, ◌∙◌, sym, refl, ap, subst, ℕ, zero, suc, ◌+◌, ◌<◌, ◌≤◌, Bool, true, false, ◌&&◌, ◌==◌, cond, List, [], ◌∷◌, ◌++◌, length, take, drop, Option, Some, None, IfSome, option_map, arith, inl, inr, eq-eqb, ne_eqb, bytes_eq, cases_Bool, eqb-true, eqb-false, both_ways, bytes_eq-Decides, Span, Area, Spot, Array, or_else, first_from, block_at, Program, Done, bytes_in, further_bytes, answer_of, accesses_of, AreReads, cell_count, key_mark, value_mark, is_unused, key_at, cell_with, unused_cell, first_below, view_of, next_of, is_linked, chain_from, IsIn, Walked, AtCell, AtEnd, AtBroken, spot_in, spare_in, at_cell, walk_from}
 
 -- the number that is found first passes
 pub first_passes : (test : ℕ → Bool) (i n j : ℕ) → first_from test i n ≡ Some j → test j ≡ true

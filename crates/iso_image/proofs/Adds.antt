@@ -1,16 +1,5 @@
 -- Records that are added to the log of the current half.
-use Rattle.std.proofs.Common.{◌≡◌, ◌⊎◌, inl, inr, ◌<◌, ◌≤◌, ◌+◌, ◌-◌, ℕ, List, [], ◌∷◌, ◌++◌, length, take, drop, sym, ◌∙◌, ap, arith, length-append, subst}
-use Rattle.std.specs.List.{AllByRecursion}
-use Rattle.std.proofs.lemmas.List.{length-take, take-take}
-use Rattle.iso_model.specs.declared.access.Geometry.{Geometry}
-use Rattle.iso_model.specs.declared.limits.TheConstants.{LAST}
-use Rattle.iso_model.specs.Geometry.{log_place}
-use Rattle.iso_model.specs.Image.{IsRecord, Written, records}
-use Rattle.iso_disk.specs.Disk.{spliced, Torn}
-use Rattle.iso_disk.proofs.Bytes.{get_or-torn, slice-torn, spliced_torn, torn_same}
-use Rattle.commit_gate.specs.Gate.{IsClosed, IsOpen}
-use Rattle.iso_image.specs.Half.{Half, IsHeld, HasLog, MayFollow, last_told, next_gate, told_bytes, with_records}
-use Rattle.iso_image.specs.Changes.{Appending, InLog}
+use Rattle.iso_image.proofs.Words.{◌≡◌, ◌⊎◌, inl, inr, ◌<◌, ◌≤◌, ◌+◌, ◌-◌, ℕ, List, [], ◌∷◌, ◌++◌, length, take, drop, sym, ◌∙◌, ap, arith, length-append, subst, AllByRecursion, length-take, take-take, Geometry, LAST, log_place, IsRecord, Written, records, spliced, Torn, get_or-torn, slice-torn, spliced_torn, torn_same, IsClosed, IsOpen, Half, IsHeld, HasLog, MayFollow, last_told, next_gate, told_bytes, with_records, Appending, InLog}
 use Rattle.iso_image.proofs.Appends.{appending_gate}
 use Rattle.iso_image.proofs.Frames.{frame, held_half, log_inside}
 use Rattle.iso_image.proofs.Logs.{has_log, log_front, log_gate, log_step, log_whole, records-append}

@@ -1,11 +1,5 @@
 -- One image through the body and through the gate of what is appended.
-use Rattle.std.proofs.Common.{◌≡◌, inl, inr, ◌<◌, ◌≤◌, ◌+◌, ℕ, List, ◌∷◌, length, take, drop, get_or, sym, ◌∙◌, ap, arith}
-use Rattle.std.proofs.lemmas.Bool.{cases_eq}
-use Rattle.std.proofs.lemmas.List.{drop_more}
-use Rattle.iso_disk.specs.Disk.{Torn}
-use Rattle.iso_disk.proofs.Bytes.{torn_wider, torn_twice, torn_whole, get_or-torn, drop-torn}
-use Rattle.commit_gate.specs.Gate.{IsClosed}
-use Rattle.iso_image.specs.Changes.{Appending}
+use Rattle.iso_image.proofs.Words.{◌≡◌, inl, inr, ◌<◌, ◌≤◌, ◌+◌, ℕ, List, ◌∷◌, length, take, drop, get_or, sym, ◌∙◌, ap, arith, cases_eq, drop_more, Torn, torn_wider, torn_twice, torn_whole, get_or-torn, drop-torn, IsClosed, Appending}
 
 -- while the body is written the gate is closed
 pub appending_body : (gate b : ℕ) (body old new : List ℕ) → IsClosed gate old → Torn (gate + 1) (length body) old new → Appending gate (b ∷ body) old new

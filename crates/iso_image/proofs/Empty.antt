@@ -1,12 +1,5 @@
 -- The image on which nothing was committed.
-use Rattle.std.proofs.Common.{◌≡◌, ◌≤◌, ◌+◌, ◌-◌, ◌*◌, ◌==◌, ℕ, zero, suc, List, [], ◌∷◌, ◌++◌, length, take, drop, replicate, get_or, true, false, Some, IsTrue, refl, sym, ◌∙◌, ap, arith, length-append, append_assoc, eq-eqb}
-use Rattle.std.proofs.lemmas.List.{length-replicate, drop-replicate, take-replicate, get_or-replicate, take_at, drop_at, drop-drop, get_or-drop}
-use Rattle.iso_model.specs.declared.access.Geometry.{Geometry}
-use Rattle.iso_model.specs.Geometry.{image_size, header_place, base_place, log_place, is_valid}
-use Rattle.iso_model.specs.Image.{IsLog, superblock, half_header, blocks_of, chosen_half, current_half, generation_at, is_open_at}
-use Rattle.iso_model.specs.World.{empty_history}
-use Rattle.iso_model.proofs.Bounds.{limits}
-use Rattle.iso_image.specs.Half.{IsHeld, empty_image, half_of}
+use Rattle.iso_image.proofs.Words.{◌≡◌, ◌≤◌, ◌+◌, ◌-◌, ◌*◌, ◌==◌, ℕ, zero, suc, List, [], ◌∷◌, ◌++◌, length, take, drop, replicate, get_or, true, false, Some, IsTrue, refl, sym, ◌∙◌, ap, arith, length-append, append_assoc, eq-eqb, length-replicate, drop-replicate, take-replicate, get_or-replicate, take_at, drop_at, drop-drop, get_or-drop, Geometry, image_size, header_place, base_place, log_place, is_valid, IsLog, superblock, half_header, blocks_of, chosen_half, current_half, generation_at, is_open_at, empty_history, limits, IsHeld, empty_image, half_of}
 
 length-super : (g : Geometry) → length (superblock 1 g) ≡ 64
 unfolding superblock

@@ -1,17 +1,5 @@
 -- An image whose bytes change in the log of its current half alone.
-use Rattle.std.proofs.Common.{◌≡◌, ◌⊎◌, inl, inr, ◌≤◌, ◌+◌, ◌-◌, ◌*◌, ◌==◌, ℕ, zero, suc, List, ◌∷◌, length, take, drop, get_or, Bool, true, false, cond, Some, refl, sym, ◌∙◌, ap, arith, subst, nat_lt}
-use Rattle.std.specs.List.{AllByRecursion}
-use Rattle.std.specs.Int.{from_be_bytes, w64}
-use Rattle.std.proofs.lemmas.List.{drop-drop}
-use Rattle.iso_model.specs.declared.access.Geometry.{Geometry}
-use Rattle.iso_model.specs.declared.limits.TheConstants.{LAST}
-use Rattle.iso_model.specs.Geometry.{image_size, header_place, base_place, log_place}
-use Rattle.iso_model.specs.History.{History}
-use Rattle.iso_model.specs.Image.{IsImage, IsRecord, Written, blocks_of, chosen_half, current_half, generation_at, half_header, is_open_at}
-use Rattle.iso_disk.specs.Disk.{Torn}
-use Rattle.iso_disk.proofs.Bytes.{slice-torn, get_or-torn, take-torn}
-use Rattle.iso_image.specs.Half.{Half, IsHeld, HasLog, history_of}
-use Rattle.iso_image.specs.Changes.{InLog}
+use Rattle.iso_image.proofs.Words.{◌≡◌, ◌⊎◌, inl, inr, ◌≤◌, ◌+◌, ◌-◌, ◌*◌, ◌==◌, ℕ, zero, suc, List, ◌∷◌, length, take, drop, get_or, Bool, true, false, cond, Some, refl, sym, ◌∙◌, ap, arith, subst, nat_lt, AllByRecursion, from_be_bytes, w64, drop-drop, Geometry, LAST, image_size, header_place, base_place, log_place, History, IsImage, IsRecord, Written, blocks_of, chosen_half, current_half, generation_at, half_header, is_open_at, Torn, slice-torn, get_or-torn, take-torn, Half, IsHeld, HasLog, history_of, InLog}
 
 -- a half that is chosen is the first or the second one
 chosen_one : (a : Bool) (m : ℕ) (b : Bool) (n half : ℕ) → chosen_half a m b n ≡ Some half → half ≤ 1

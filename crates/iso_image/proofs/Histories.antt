@@ -1,19 +1,5 @@
 -- What an image holds, in words of a history and of a world.
-use Rattle.std.proofs.Common.{◌≡◌, ◌<◌, ◌≤◌, ◌+◌, ◌-◌, ℕ, List, [], ◌∷◌, ◌++◌, length, take, drop, map, Some, refl, sym, ◌∙◌, ap, arith, subst}
-use Rattle.std.proofs.lemmas.List.{drop-drop, drop-map, map-append, take-append-le, drop-append-le}
-use Rattle.iso_model.specs.declared.access.Commit.{Commit}
-use Rattle.iso_model.specs.declared.access.Geometry.{Geometry}
-use Rattle.iso_model.specs.Effect.{record_length, runs}
-use Rattle.iso_model.specs.Geometry.{log_place}
-use Rattle.iso_model.specs.History.{History, all_own, array_at, last}
-use Rattle.iso_model.specs.Image.{IsImage, IsLog, Shows, Written, commits_of, current_half, half_header, held, kind_of, records, spell, written, recorded}
-use Rattle.iso_model.specs.Premises.{IsHistory}
-use Rattle.iso_model.specs.World.{World, Live, fresh, used}
-use Rattle.iso_model.specs.Step.{after_commit}
-use Rattle.iso_model.proofs.Held.{held_shows}
-use Rattle.iso_model.proofs.OneHistory.{image_tells_one}
-use Rattle.iso_model.proofs.Opened.{length-records, sum_by-map, told_again}
-use Rattle.iso_image.specs.Half.{AreOne, Half, IsHeld, half_of, half_of_world, history_of, in_form, told_bytes, with_records}
+use Rattle.iso_image.proofs.Words.{◌≡◌, ◌<◌, ◌≤◌, ◌+◌, ◌-◌, ℕ, List, [], ◌∷◌, ◌++◌, length, take, drop, map, Some, refl, sym, ◌∙◌, ap, arith, subst, drop-drop, drop-map, map-append, take-append-le, drop-append-le, Commit, Geometry, record_length, runs, log_place, History, all_own, array_at, last, IsImage, IsLog, Shows, Written, commits_of, current_half, half_header, held, kind_of, records, spell, written, recorded, IsHistory, World, Live, fresh, used, after_commit, held_shows, image_tells_one, length-records, sum_by-map, told_again, AreOne, Half, IsHeld, half_of, half_of_world, history_of, in_form, told_bytes, with_records}
 
 commits_form : (g : Geometry) (form n : ℕ) (told : List Written) → commits_of (in_form form g) n told ≡ commits_of g n told
 commits_form g form n [] = refl

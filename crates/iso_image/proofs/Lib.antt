@@ -1,3 +1,4 @@
+pub mod Words
 pub mod Adds
 pub mod Appends
 pub mod Empty

@@ -1,13 +1,5 @@
 -- The records of a log, and what becomes of them as more are appended.
-use Rattle.std.proofs.Common.{◌≡◌, ◌⊎◌, inl, inr, ◌<◌, ◌≤◌, ◌+◌, ℕ, List, [], ◌∷◌, ◌++◌, length, take, drop, get_or, refl, sym, ◌∙◌, ap, arith, length-append, length-drop, append_assoc, take-append-drop, subst}
-use Rattle.std.proofs.lemmas.List.{take_at, drop_more, take-take, length-take, length-take-le, get_or-take, get_or-drop, get_or_at, drop-drop}
-use Rattle.iso_model.specs.declared.access.Geometry.{Geometry}
-use Rattle.iso_model.specs.Image.{Written, kind_of, records, spell}
-use Rattle.iso_disk.specs.Disk.{spliced, Torn}
-use Rattle.iso_disk.proofs.Bytes.{slice-torn, take-drop-spliced, get_or-spliced, spliced_torn}
-use Rattle.commit_gate.specs.Gate.{IsClosed}
-use Rattle.iso_image.specs.Half.{HasLog}
-use Rattle.iso_image.specs.Changes.{Appending}
+use Rattle.iso_image.proofs.Words.{◌≡◌, ◌⊎◌, inl, inr, ◌<◌, ◌≤◌, ◌+◌, ℕ, List, [], ◌∷◌, ◌++◌, length, take, drop, get_or, refl, sym, ◌∙◌, ap, arith, length-append, length-drop, append_assoc, take-append-drop, subst, take_at, drop_more, take-take, length-take, length-take-le, get_or-take, get_or-drop, get_or_at, drop-drop, Geometry, Written, kind_of, records, spell, spliced, Torn, slice-torn, take-drop-spliced, get_or-spliced, spliced_torn, IsClosed, HasLog, Appending}
 
 -- the records of two lists, one behind the other
 pub records-append : (g : Geometry) (n : ℕ) (told more : List Written) → records g n (told ++ more) ≡ records g n told ++ records g (n + length told) more

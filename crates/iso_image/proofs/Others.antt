@@ -1,18 +1,5 @@
 -- An image whose bytes change in the half that is not the current one.
-use Rattle.std.proofs.Common.{◌≡◌, ◌⊎◌, inl, inr, ◌<◌, ◌≤◌, ◌+◌, ◌-◌, ◌==◌, ℕ, zero, suc, List, take, drop, get_or, Bool, true, false, Some, refl, sym, ◌∙◌, ap, arith, subst, eq-eqb, ne_eqb, lt-ltb, le-ltb, cond}
-use Rattle.std.specs.Int.{from_be_bytes, to_be_bytes, w64}
-use Rattle.std.proofs.lemmas.Bool.{cases_eq}
-use Rattle.std.proofs.lemmas.List.{drop-drop, drop-take, take-take, get_or-take, get_or-drop}
-use Rattle.std.proofs.lemmas.Nat.{from_be_bytes-to_be_bytes_8}
-use Rattle.iso_model.specs.declared.access.Geometry.{Geometry}
-use Rattle.iso_model.specs.declared.limits.TheConstants.{LAST}
-use Rattle.iso_model.specs.Geometry.{half_size, header_place, base_place, log_place}
-use Rattle.iso_model.specs.Image.{IsLog, blocks_of, chosen_half, current_half, generation_at, half_header, is_open_at}
-use Rattle.iso_disk.specs.Disk.{Torn}
-use Rattle.iso_disk.proofs.Bytes.{slice-torn, get_or-torn, take-torn}
-use Rattle.commit_gate.specs.Gate.{IsClosed, IsOpen}
-use Rattle.iso_image.specs.Half.{Half, IsHeld}
-use Rattle.iso_image.specs.Changes.{InHalf}
+use Rattle.iso_image.proofs.Words.{◌≡◌, ◌⊎◌, inl, inr, ◌<◌, ◌≤◌, ◌+◌, ◌-◌, ◌==◌, ℕ, zero, suc, List, take, drop, get_or, Bool, true, false, Some, refl, sym, ◌∙◌, ap, arith, subst, eq-eqb, ne_eqb, lt-ltb, le-ltb, cond, from_be_bytes, to_be_bytes, w64, cases_eq, drop-drop, drop-take, take-take, get_or-take, get_or-drop, from_be_bytes-to_be_bytes_8, Geometry, LAST, half_size, header_place, base_place, log_place, IsLog, blocks_of, chosen_half, current_half, generation_at, half_header, is_open_at, Torn, slice-torn, get_or-torn, take-torn, IsClosed, IsOpen, Half, IsHeld, InHalf}
 use Rattle.iso_image.proofs.Frames.{blocks_same}
 
 -- what stands in the one half stands outside the other

@@ -1,10 +1,5 @@
 -- Where a record stands in a log.
-use Rattle.std.proofs.Common.{◌≡◌, ◌≤◌, ◌+◌, ◌-◌, ℕ, suc, List, ◌∷◌, ◌++◌, length, take, drop, refl, sym, ◌∙◌, ap, arith, length-append, subst}
-use Rattle.std.proofs.lemmas.List.{take_at, drop_at, drop-take, take-take, drop-drop, length-take}
-use Rattle.iso_model.specs.declared.access.Geometry.{Geometry}
-use Rattle.iso_model.specs.Geometry.{log_place}
-use Rattle.iso_model.specs.Image.{Written, kind_of, records, spell}
-use Rattle.iso_image.specs.Half.{Half, HasLog, IsHeld}
+use Rattle.iso_image.proofs.Words.{◌≡◌, ◌≤◌, ◌+◌, ◌-◌, ℕ, suc, List, ◌∷◌, ◌++◌, length, take, drop, refl, sym, ◌∙◌, ap, arith, length-append, subst, take_at, drop_at, drop-take, take-take, drop-drop, length-take, Geometry, log_place, Written, kind_of, records, spell, Half, HasLog, IsHeld}
 use Rattle.iso_image.proofs.Adds.{held_log}
 use Rattle.iso_image.proofs.Logs.{log_front, records-append}
 

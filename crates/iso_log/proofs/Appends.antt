@@ -1,12 +1,5 @@
 -- The images of a disk through the two steps of an append: the body, and then the gate.
-use Rattle.std.proofs.Common.{◌≡◌, inl, inr, ◌≤◌, ◌+◌, ◌-◌, ℕ, List, [], ◌∷◌, length, take, drop, get_or, sym, ◌∙◌, ap, arith, subst}
-use Rattle.std.proofs.lemmas.List.{take_rest}
-use Rattle.iso_disk.specs.Disk.{TornFrom}
-use Rattle.iso_disk.proofs.Bytes.{torn_same}
-use Rattle.commit_gate.specs.Gate.{IsClosed, HasBody}
-use Rattle.iso_image.specs.Changes.{Appending}
-use Rattle.iso_image.proofs.Appends.{appending_body, appending_gate}
-use Rattle.iso_log.specs.Log.{AppendingFrom, AppendedTo}
+use Rattle.iso_log.proofs.Words.{◌≡◌, inl, inr, ◌≤◌, ◌+◌, ◌-◌, ℕ, List, [], ◌∷◌, length, take, drop, get_or, sym, ◌∙◌, ap, arith, subst, take_rest, TornFrom, torn_same, IsClosed, HasBody, Appending, appending_body, appending_gate, AppendingFrom, AppendedTo}
 
 -- an image of before
 pub appending_none : {images : List ℕ → Type 0} (gate : ℕ) (bytes : List ℕ) → ((d : List ℕ) → images d → IsClosed gate d) → (c : List ℕ) → images c → AppendingFrom gate bytes images c

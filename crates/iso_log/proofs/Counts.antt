@@ -1,13 +1,5 @@
 -- The records of a list of bytes, one by one.
-use Rattle.std.proofs.Common.{◌≡◌, ◌<◌, ◌≤◌, ◌+◌, ◌-◌, ◌^◌, ℕ, List, [], ◌∷◌, ◌++◌, length, take, drop, get_or, min, refl, sym, ◌∙◌, ap, arith, length-append, append_assoc}
-use Rattle.std.specs.Int.{from_be_bytes, to_be_bytes, w32}
-use Rattle.std.proofs.lemmas.List.{drop_at}
-use Rattle.std.proofs.lemmas.Nat.{from_be_bytes-to_be_bytes_4}
-use Rattle.iso_model.specs.declared.access.Geometry.{Geometry}
-use Rattle.iso_model.specs.declared.access.Run.{Run}
-use Rattle.iso_model.specs.Image.{Written, body_length, kind_of, records, spell}
-use Rattle.iso_format.proofs.Parts.{length-spell}
-use Rattle.iso_format.specs.Records.{record_window}
+use Rattle.iso_log.proofs.Words.{◌≡◌, ◌<◌, ◌≤◌, ◌+◌, ◌-◌, ◌^◌, ℕ, List, [], ◌∷◌, ◌++◌, length, take, drop, get_or, min, refl, sym, ◌∙◌, ap, arith, length-append, append_assoc, from_be_bytes, to_be_bytes, w32, drop_at, from_be_bytes-to_be_bytes_4, Geometry, Run, Written, body_length, kind_of, records, spell, length-spell, record_window}
 
 pub spell_gate : (gate kind n : ℕ) (parts : List Run) (rest : List ℕ) → get_or (spell gate kind n parts ++ rest) 0 0 ≡ gate
 unfolding spell

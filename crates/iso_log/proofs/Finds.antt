@@ -1,21 +1,6 @@
 -- The record at a gate, as it is found in bytes that were read.
-use Rattle.std.proofs.Common.{◌≡◌, ◌<◌, ◌≤◌, ◌+◌, ◌-◌, ◌^◌, ℕ, List, [], ◌∷◌, ◌++◌, Some, Result, Ok, Err, IsErrOf, length, take, drop, get_or, sym, ◌∙◌, ap, arith, subst, length-append, length-drop}
-use Rattle.std.proofs.lemmas.List.{get_or-take, get_or-drop, length-take-le, take-take, nil_from_length}
-use Rattle.iso_model.specs.declared.access.Geometry.{Geometry}
-use Rattle.iso_model.specs.Image.{kind_of, spell}
-use Rattle.iso_format.specs.declared.format_error.FormatError.{FormatError}
-use Rattle.iso_format.specs.declared.format_error.FormatError.TheVariants.{Short}
-use Rattle.iso_format.specs.Faults.{offset_of, test_number}
-use Rattle.iso_format.specs.Records.{BeginsWith, fault_of, record_window, recorded}
-use Rattle.iso_format.proofs.Windows.{window_front, fault_front, short_head, short_body}
-use Rattle.iso_refusal.specs.declared.open_error.OpenError.{OpenError}
+use Rattle.iso_log.proofs.Words.{◌≡◌, ◌<◌, ◌≤◌, ◌+◌, ◌-◌, ◌^◌, ℕ, List, [], ◌∷◌, ◌++◌, Some, Result, Ok, Err, IsErrOf, length, take, drop, get_or, sym, ◌∙◌, ap, arith, subst, length-append, length-drop, get_or-take, get_or-drop, length-take-le, take-take, nil_from_length, Geometry, kind_of, spell, FormatError, Short, offset_of, test_number, BeginsWith, fault_of, record_window, recorded, window_front, fault_front, short_head, short_body, OpenError, damaged, told_first, kind_again, form_1, LogError, LogFull, Disk, Memory, Damaged, Extent, next_place, IsDamaged, IsNextRecord, IsTestBefore, StandAt}
 use Rattle.iso_refusal.specs.declared.open_error.OpenError.TheVariants as refused
-use Rattle.iso_refusal.specs.Refusal.{damaged, told_first}
-use Rattle.iso_refusal.proofs.LogLaws.{kind_again, form_1}
-use Rattle.iso_log.specs.declared.log_error.LogError.{LogError}
-use Rattle.iso_log.specs.declared.log_error.LogError.TheVariants.{LogFull, Disk, Memory, Damaged}
-use Rattle.iso_log.specs.Extent.{Extent, next_place}
-use Rattle.iso_log.specs.Scan.{IsDamaged, IsNextRecord, IsTestBefore, StandAt}
 use Rattle.iso_log.proofs.Counts.{spell_gate, window_is}
 use Rattle.iso_log.proofs.Offsets.{fault_below, test_from, test_upto}
 

@@ -1,17 +1,5 @@
 -- What becomes of a log's records, and of the half that an image holds, as a group of records is appended.
-use Rattle.std.proofs.Common.{◌≡◌, ◌⊎◌, ◌<◌, ◌≤◌, ◌+◌, ◌-◌, ℕ, List, [], ◌∷◌, ◌++◌, length, get_or, sym, ◌∙◌, ap, arith, length-append, append_assoc, subst}
-use Rattle.iso_model.specs.declared.access.Geometry.{Geometry}
-use Rattle.iso_model.specs.Image.{Written, kind_of, records, spell}
-use Rattle.iso_disk.specs.Disk.{DiskState, IsLawful, LeavesOnly, spliced}
-use Rattle.iso_disk.proofs.Images.{length-image}
-use Rattle.iso_disk.proofs.Moments.{weakened}
-use Rattle.commit_gate.specs.Gate.{IsClosed}
-use Rattle.iso_image.specs.Changes.{Appending}
-use Rattle.iso_image.specs.Half.{Half, HasLog, IsHeld, MayFollow, last_told, told_bytes, with_records}
-use Rattle.iso_image.proofs.Adds.{adding, added}
-use Rattle.iso_image.proofs.Logs.{log_gate, log_step, log_whole, records-append}
-use Rattle.iso_log.specs.Extent.{Extent, extent_of, next_place}
-use Rattle.iso_log.specs.Log.{AppendedTo, AppendingFrom, HasTold, IsNext}
+use Rattle.iso_log.proofs.Words.{◌≡◌, ◌⊎◌, ◌<◌, ◌≤◌, ◌+◌, ◌-◌, ℕ, List, [], ◌∷◌, ◌++◌, length, get_or, sym, ◌∙◌, ap, arith, length-append, append_assoc, subst, Geometry, Written, kind_of, records, spell, DiskState, IsLawful, LeavesOnly, spliced, length-image, weakened, IsClosed, Appending, Half, HasLog, IsHeld, MayFollow, last_told, told_bytes, with_records, adding, added, log_gate, log_step, log_whole, records-append, Extent, extent_of, next_place, AppendedTo, AppendingFrom, HasTold, IsNext}
 use Rattle.iso_log.proofs.Counts.{spell_gate}
 
 -- ---- where a log that was opened into its fields goes on

@@ -1,3 +1,4 @@
+pub mod Words
 pub mod Appends
 pub mod Counts
 pub mod Finds

@@ -1,17 +1,5 @@
 -- A test of a record that fails names a place in the bytes that the record needs, and is one of eight.
-use Rattle.std.proofs.Common.{◌≡◌, ◌<◌, ◌≤◌, ◌+◌, ◌-◌, ◌*◌, ◌==◌, ◌||◌, ◌&&◌, not, cond, ℕ, zero, suc, Bool, true, false, List, [], ◌∷◌, length, drop, get_or, Option, Some, None, nat_lt, nat_le, refl, arith, length-drop, subst}
-use Rattle.std.specs.Option.{IfSome}
-use Rattle.std.specs.Int.{w32, w64}
-use Rattle.std.proofs.lemmas.Option.{same_Some}
-use Rattle.std.proofs.lemmas.List.{length-take}
-use Rattle.iso_model.specs.declared.access.Geometry.{Geometry}
-use Rattle.iso_model.specs.Effect.{or_else}
-use Rattle.iso_format.specs.declared.format_error.FormatError.{FormatError}
-use Rattle.iso_format.specs.declared.format_error.FormatError.TheVariants.{Short, Kind, NotZero, Count, Order, Range, Length, Number}
-use Rattle.iso_format.proofs.PartLaws.{good}
-use Rattle.iso_format.specs.Faults.{offset_of, test_number}
-use Rattle.iso_format.specs.Reading.{number_at}
-use Rattle.iso_format.specs.Records.{fault_of, head_fault, number_fault, parts_fault, part_fault, part_size, part_end, body_of, follows, lies_in, is_kind, record_window}
+use Rattle.iso_log.proofs.Words.{◌≡◌, ◌<◌, ◌≤◌, ◌+◌, ◌-◌, ◌*◌, ◌==◌, ◌||◌, ◌&&◌, not, cond, ℕ, zero, suc, Bool, true, false, List, [], ◌∷◌, length, drop, get_or, Option, Some, None, nat_lt, nat_le, refl, arith, length-drop, subst, IfSome, w32, w64, same_Some, length-take, Geometry, or_else, FormatError, Short, Kind, NotZero, Count, Order, Range, Length, Number, good, offset_of, test_number, number_at, fault_of, head_fault, number_fault, parts_fault, part_fault, part_size, part_end, body_of, follows, lies_in, is_kind, record_window}
 
 -- the place of a fault, where there is one, is not behind this one
 abbrev Below : ℕ → Option FormatError → Type 0

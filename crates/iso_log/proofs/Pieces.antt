@@ -1,9 +1,5 @@
 -- Bytes of an image that are read piece by piece.
-use Rattle.std.proofs.Common.{◌≡◌, ◌≤◌, ◌+◌, ◌-◌, ℕ, List, ◌++◌, Option, Some, Result, Ok, Err, OnOk, OnErr, length, take, drop, refl, sym, ◌∙◌, ap, arith, length-drop, subst}
-use Rattle.std.specs.List.{slice_range}
-use Rattle.std.proofs.lemmas.List.{drop-drop, drop-take, length-take-le, take-take}
-use Rattle.iso_image.proofs.Logs.{take-plus}
-use Rattle.iso_log.specs.Scan.{StandAt}
+use Rattle.iso_log.proofs.Words.{◌≡◌, ◌≤◌, ◌+◌, ◌-◌, ℕ, List, ◌++◌, Option, Some, Result, Ok, Err, OnOk, OnErr, length, take, drop, refl, sym, ◌∙◌, ap, arith, length-drop, subst, slice_range, drop-drop, drop-take, length-take-le, take-take, take-plus, StandAt}
 
 -- one piece more
 pub stand_more : (place have want : ℕ) (old new c : List ℕ) → length old ≡ have → have ≤ want → place + want ≤ length c → StandAt place old c

@@ -1,22 +1,5 @@
 -- The records and the disks of the tests.
-use Rattle.std.proofs.Common.{◌≡◌, ◌<◌, ◌≤◌, ◌+◌, ℕ, List, [], ◌∷◌, ◌++◌, Result, Ok, Err, OnOk, length, get_or, replicate, refl, sym, ◌∙◌, ap, arith, subst}
-use Rattle.std.specs.Option.{ForSome}
-use Rattle.std.proofs.lemmas.List.{get_or-replicate, length-replicate, append-nil}
-use Rattle.iso_model.specs.declared.access.Mode.TheVariants.{Serial}
-use Rattle.iso_model.specs.declared.limits.TheConstants.{LAST}
-use Rattle.iso_model.specs.Geometry.{is_valid}
-use Rattle.iso_model.specs.Image.{IsRecord, Written, spell}
-use Rattle.iso_disk.specs.Disk.{DiskState, LeavesOnly}
-use Rattle.iso_format.specs.Writing.{LieInAnImage}
-use Rattle.iso_image.proofs.Logs.{has_log}
-use Rattle.iso_memdisk.specs.declared.disk.MemDisk.{MemDisk}
-use Rattle.iso_memdisk.specs.declared.record.Call.{Call}
-use Rattle.iso_memdisk.specs.MemDisk.{Starts, state_of}
-use Rattle.iso_memdisk.specs.Record.{images_after}
-use Rattle.iso_log.specs.Extent.{Extent, next_place}
-use Rattle.iso_log.specs.Log.{HasTold, IsNext}
-use Rattle.iso_log.specs.Ready.{IsReady}
-use Rattle.iso_log.specs.Scan.{StandAt}
+use Rattle.iso_log.proofs.Words.{◌≡◌, ◌<◌, ◌≤◌, ◌+◌, ℕ, List, [], ◌∷◌, ◌++◌, Result, Ok, Err, OnOk, length, get_or, replicate, refl, sym, ◌∙◌, ap, arith, subst, ForSome, get_or-replicate, length-replicate, append-nil, Serial, LAST, is_valid, IsRecord, Written, spell, DiskState, LeavesOnly, LieInAnImage, has_log, MemDisk, Call, Starts, state_of, images_after, Extent, next_place, HasTold, IsNext, IsReady, StandAt}
 use Rattle.iso_log.specs.TestRecords.{put, small}
 
 pub put_lies : LieInAnImage put

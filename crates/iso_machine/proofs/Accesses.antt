@@ -1,23 +1,7 @@
 -- What accesses and marks of one transaction are answered, and its work after them.
-use Rattle.std.proofs.Common.{◌≡◌, ◌∙◌, sym, refl, ap, subst, ℕ, ◌+◌, ◌<◌, ◌≤◌, ◌==◌, not, IsTrue, take, drop, replicate, slice_index, Bool, true, false, List, [], ◌∷◌, ◌++◌, length, arith, Option, Some, None, nat_le}
-use Rattle.std.proofs.Math.Seq.{take-append_seam}
-use Rattle.std.proofs.lemmas.Bool.Decides.{nat_tests}
-use Rattle.iso_disk.specs.Disk.{DiskState}
-use Rattle.iso_model.specs.declared.access.Access.{Access}
-use Rattle.iso_model.specs.declared.access.MarkError.{MarkError}
+use Rattle.iso_machine.proofs.Words.{◌≡◌, ◌∙◌, sym, refl, ap, subst, ℕ, ◌+◌, ◌<◌, ◌≤◌, ◌==◌, not, IsTrue, take, drop, replicate, slice_index, Bool, true, false, List, [], ◌∷◌, ◌++◌, length, arith, Option, Some, None, nat_le, take-append_seam, nat_tests, DiskState, Access, MarkError, MAX_ACCESSES, Reply, is_block_size, is_outside, mark_fault, marked, marks_fault, access_step, fill_step, get_step, mark_refused, mark_step, marked_step, put_step, read_step, with_access, write_step, get_access, put_access, read_access, shown_to, with_accesses, with_live, write_access, World, Live, Doing, span_at, IsWorkOf, IfTold, SameButShown, IsActive, IsGiven, IsShown, IsWorkedTo}
 use Rattle.iso_model.specs.declared.access.MarkError.TheVariants as mark
-use Rattle.iso_model.specs.declared.limits.TheConstants.{MAX_ACCESSES}
-use Rattle.script_model.specs.declared.script.Reply.{Reply}
 use Rattle.script_model.specs.declared.script.Reply.TheVariants as reply
-use Rattle.iso_model.specs.Geometry.{is_block_size}
-use Rattle.iso_model.specs.Marks.{is_outside, mark_fault, marked, marks_fault}
-use Rattle.script_model.specs.Step.{access_step, fill_step, get_step, mark_refused, mark_step, marked_step, put_step, read_step, with_access, write_step}
-use Rattle.iso_model.specs.Step.{get_access, put_access, read_access, shown_to, with_accesses, with_live, write_access}
-use Rattle.iso_model.specs.World.{World, Live}
-use Rattle.tx_table.specs.Work.{Doing, span_at}
-use Rattle.iso_core.specs.Calls.{IsWorkOf}
-use Rattle.script_runner.specs.Told.{IfTold, SameButShown}
-use Rattle.iso_machine.specs.Accessing.{IsActive, IsGiven, IsShown, IsWorkedTo}
 
 -- bytes that are not outside
 pub within : (size off len : ℕ) → is_outside size off len ≡ false → (0 < len) × (off + len ≤ size)

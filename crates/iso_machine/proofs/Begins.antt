@@ -1,18 +1,7 @@
 -- A begin, by what the core answers.
-use Rattle.std.proofs.Common.{◌≡◌, ◌≢◌, ◌∙◌, sym, refl, ap, ℕ, Bool, true, false, cond, ◌==◌, ◌&&◌, not, length, nat_le, nat_lt, Option, IsTrue}
-use Rattle.std.proofs.lemmas.Bool.{and_parts}
-use Rattle.iso_model.specs.declared.access.Geometry.{Geometry}
-use Rattle.iso_model.specs.declared.access.Mode.{Mode}
-use Rattle.iso_model.specs.declared.limits.TheConstants.{LAST, MAX_LIVE}
+use Rattle.iso_machine.proofs.Words.{◌≡◌, ◌≢◌, ◌∙◌, sym, refl, ap, ℕ, Bool, true, false, cond, ◌==◌, ◌&&◌, not, length, nat_le, nat_lt, Option, IsTrue, and_parts, Geometry, Mode, LAST, MAX_LIVE, CoreReply, as_step, is_block_size, is_valid, same_mode, last, after_begin, begin_step, mode_named, out_of_transaction, step, World, Live, Place, attached, client}
 use Rattle.script_model.specs.declared.script.Op.TheVariants as op
-use Rattle.iso_model.specs.declared.core_reply.CoreReply.{CoreReply}
 use Rattle.iso_model.specs.declared.core_reply.CoreReply.TheVariants as reply
-use Rattle.script_model.specs.CoreReplies.{as_step}
-use Rattle.iso_model.specs.Geometry.{is_block_size, is_valid, same_mode}
-use Rattle.iso_model.specs.History.{last}
-use Rattle.iso_model.specs.Step.{after_begin, begin_step, mode_named}
-use Rattle.script_model.specs.Step.{out_of_transaction, step}
-use Rattle.iso_model.specs.World.{World, Live, Place, attached, client}
 use Rattle.iso_machine.proofs.Refusals.{KeepsRefused, keeps_either}
 
 -- the reply does not depend on the place

@@ -1,16 +1,5 @@
 -- A core that stands for a world stands for each that differs from it in accesses and places alone.
-use Rattle.std.proofs.Common.{◌≡◌, ◌∙◌, refl, sym, ap, subst, ℕ, ◌≤◌, List, map}
-use Rattle.iso_disk.specs.Disk.{DiskState}
-use Rattle.iso_model.specs.History.{last}
-use Rattle.iso_model.specs.Step.{with_live}
-use Rattle.iso_model.specs.World.{World, Live, floor_of}
-use Rattle.iso_model.specs.Worlds.{IsWorld}
-use Rattle.iso_core.specs.declared.core_itself.Core.{Core}
-use Rattle.iso_core.specs.Core.{StandsFor}
-use Rattle.iso_core.specs.Kept.{bare}
-use Rattle.iso_core.specs.Standing.{up}
-use Rattle.iso_core.proofs.Standings.{stands_on}
-use Rattle.iso_core.proofs.Transactions.{kept_floor}
+use Rattle.iso_machine.proofs.Words.{◌≡◌, ◌∙◌, refl, sym, ap, subst, ℕ, ◌≤◌, List, map, DiskState, last, with_live, World, Live, floor_of, IsWorld, Core, StandsFor, bare, up, stands_on, kept_floor}
 
 pub stands_besides : {D : Type 0} (state : D → DiskState) (core : Core D) (W : World) (live : List Live) → StandsFor state core W up
     → IsWorld (with_live W live) → map bare live ≡ map bare W.live → StandsFor state core (with_live W live) up

@@ -1,12 +1,6 @@
 -- What a call of a store tells of the disk.
-use Rattle.std.proofs.Common.{◌≡◌, ℕ, ◌<◌, true, false, Result, Ok, Err, IsErrOf, arith}
-use Rattle.script_model.specs.declared.script.Reply.{Reply}
-use Rattle.tx_blocks.specs.Tx.{Device}
-use Rattle.script_model.specs.declared.stop.Stop.{Stop}
+use Rattle.iso_machine.proofs.Words.{◌≡◌, ℕ, ◌<◌, true, false, Result, Ok, Err, IsErrOf, arith, Reply, Device, Stop, BlamesDisk, Counts, Stops}
 use Rattle.script_model.specs.declared.stop.Stop.TheVariants as stop
-use Rattle.script_runner.specs.Counts.{BlamesDisk}
-use Rattle.core_blocks.specs.Guests.{Counts}
-use Rattle.store_calls.specs.Calls.{Stops}
 
 abbrev pub device : ℕ → Device
 device faults = record { faults = faults; is_down = false }

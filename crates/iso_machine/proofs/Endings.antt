@@ -1,31 +1,9 @@
 -- An end, by what the core answers.
-use Rattle.std.proofs.Common.{◌≡◌, sym, refl, ap, subst, ℕ, ◌+◌, ◌-◌, ◌≤◌, ◌==◌, Bool, true, false, cond, List, [], drop, take, Option, Some, None, IsSome, Err, ◌⊎◌, inl, inr, nat_lt, arith}
-use Rattle.std.proofs.lemmas.Bool.{false≢true}
-use Rattle.std.proofs.lemmas.List.{drop-take}
-use Rattle.conflict_rule.specs.Decision.{up_to}
-use Rattle.iso_model.specs.declared.access.Access.{Access}
-use Rattle.iso_model.specs.declared.access.Clash.{Clash}
-use Rattle.iso_model.specs.declared.access.EndReply.{EndReply}
+use Rattle.iso_machine.proofs.Words.{◌≡◌, sym, refl, ap, subst, ℕ, ◌+◌, ◌-◌, ◌≤◌, ◌==◌, Bool, true, false, cond, List, [], drop, take, Option, Some, None, IsSome, Err, ◌⊎◌, inl, inr, nat_lt, arith, false≢true, drop-take, up_to, Access, Clash, EndReply, Geometry, Mode, CoreError, LAST, CoreReply, as_step, clash, clash_from, first_after, has_write, History, last, after_commit, after_leaving, commit_step, end_step, need, in_transaction, step, World, Live, attached, used, without, IsLive, IsWorld, all_weaker, IsAmong, IsCheckedOf, Writes, refusal_of, reply_of, among}
 use Rattle.iso_model.specs.declared.access.EndReply.TheVariants as ended
-use Rattle.iso_model.specs.declared.access.Geometry.{Geometry}
-use Rattle.iso_model.specs.declared.access.Mode.{Mode}
-use Rattle.iso_model.specs.declared.core_error.CoreError.{CoreError}
 use Rattle.iso_model.specs.declared.core_error.CoreError.TheVariants as error
-use Rattle.iso_model.specs.declared.limits.TheConstants.{LAST}
 use Rattle.script_model.specs.declared.script.Op.TheVariants as op
-use Rattle.iso_model.specs.declared.core_reply.CoreReply.{CoreReply}
 use Rattle.iso_model.specs.declared.core_reply.CoreReply.TheVariants as reply
-use Rattle.script_model.specs.CoreReplies.{as_step}
-use Rattle.iso_model.specs.Conflict.{clash, clash_from, first_after}
-use Rattle.iso_model.specs.Effect.{has_write}
-use Rattle.iso_model.specs.History.{History, last}
-use Rattle.iso_model.specs.Step.{after_commit, after_leaving, commit_step, end_step, need}
-use Rattle.script_model.specs.Step.{in_transaction, step}
-use Rattle.iso_model.specs.World.{World, Live, attached, used, without}
-use Rattle.iso_model.specs.Worlds.{IsLive, IsWorld}
-use Rattle.iso_model.proofs.Growth.{all_weaker}
-use Rattle.iso_core.specs.Calls.{IsAmong, IsCheckedOf, Writes, refusal_of, reply_of}
-use Rattle.iso_core.proofs.Transactions.{among}
 use Rattle.iso_machine.proofs.Refusals.{IsRefusal, KeepsRefused, keeps_either}
 
 -- no commit is above the last one

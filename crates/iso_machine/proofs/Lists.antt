@@ -1,12 +1,5 @@
 -- The list of live transactions: one changes, leaves, or begins.
-use Rattle.std.proofs.Common.{◌≡◌, ◌∙◌, inl, inr, sym, refl, ap, ℕ, zero, suc, ◌<◌, List, [], ◌∷◌, length, get_or, set, map, arith, ne_eqb, eq-eqb}
-use Rattle.std.specs.List.{AllByRecursion, remove}
-use Rattle.iso_model.specs.World.{Live, with, without}
-use Rattle.iso_model.specs.Worlds.{AreDistinct, AreTwo}
-use Rattle.iso_core.specs.Calls.{IsAmong}
-use Rattle.iso_core.specs.Kept.{bare}
-use Rattle.iso_machine.specs.declared.attached.Attached.{Attached}
-use Rattle.iso_machine.specs.Standing.{live_of}
+use Rattle.iso_machine.proofs.Words.{◌≡◌, ◌∙◌, inl, inr, sym, refl, ap, ℕ, zero, suc, ◌<◌, List, [], ◌∷◌, length, get_or, set, map, arith, ne_eqb, eq-eqb, AllByRecursion, remove, Live, with, without, AreDistinct, AreTwo, IsAmong, bare, Attached, live_of}
 
 two_at : (t : Live) (live : List Attached) (i : ℕ) (d : Attached) → AllByRecursion (AreTwo t) (map live_of live) → i < length live → AreTwo t (live_of (get_or live i d))
 two_at t [] i d all inside = absurd (omega (arith, inside))

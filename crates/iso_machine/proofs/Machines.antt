@@ -1,29 +1,6 @@
 -- A machine whose transactions change, leave and begin.
-use Rattle.std.proofs.Common.{◌≡◌, ◌∙◌, sym, refl, ap, subst, ℕ, ◌<◌, List, [], ◌∷◌, ◌++◌, length, get_or, set, map, Option, Some, None, find}
-use Rattle.std.specs.List.{AllByRecursion, remove}
-use Rattle.std.proofs.lemmas.List.{map_push, set-get_or}
-use Rattle.iso_disk.specs.Disk.{DiskState}
-use Rattle.iso_model.specs.declared.access.Geometry.{Geometry}
-use Rattle.iso_model.specs.declared.access.Mode.{Mode}
-use Rattle.script_model.specs.declared.script.Op.{Op}
+use Rattle.iso_machine.proofs.Words.{◌≡◌, ◌∙◌, sym, refl, ap, subst, ℕ, ◌<◌, List, [], ◌∷◌, ◌++◌, length, get_or, set, map, Option, Some, None, find, AllByRecursion, remove, map_push, set-get_or, DiskState, Geometry, Mode, Op, last, after_begin, with_live, in_transaction, out_of_transaction, release_step, step, takeover_step, World, Live, Place, attached, held, is_at_client, is_under_label, unattached, with, without, AreDistinct, IsWorld, IsOp, all_push, step_leads, Core, IsAmong, IsTx, IsWorkOf, StandsFor, bare, up, Doing, Attached, IsActive, IsWorkedTo, act_step, AreOf, IsSized, live_of}
 use Rattle.script_model.specs.declared.script.Op.TheVariants as op
-use Rattle.iso_model.specs.History.{last}
-use Rattle.iso_model.specs.Step.{after_begin, with_live}
-use Rattle.script_model.specs.Step.{in_transaction, out_of_transaction, release_step, step, takeover_step}
-use Rattle.iso_model.specs.World.{World, Live, Place, attached, held, is_at_client, is_under_label, unattached, with, without}
-use Rattle.iso_model.specs.Worlds.{AreDistinct, IsWorld}
-use Rattle.script_model.specs.Operations.{IsOp}
-use Rattle.iso_model.proofs.Growth.{all_push}
-use Rattle.script_model.proofs.Steps.{step_leads}
-use Rattle.iso_core.specs.declared.core_itself.Core.{Core}
-use Rattle.iso_core.specs.Calls.{IsAmong, IsTx, IsWorkOf}
-use Rattle.iso_core.specs.Core.{StandsFor}
-use Rattle.iso_core.specs.Kept.{bare}
-use Rattle.iso_core.specs.Standing.{up}
-use Rattle.tx_table.specs.Work.{Doing}
-use Rattle.iso_machine.specs.declared.attached.Attached.{Attached}
-use Rattle.iso_machine.specs.Accessing.{IsActive, IsWorkedTo, act_step}
-use Rattle.iso_machine.specs.Standing.{AreOf, IsSized, live_of}
 use Rattle.iso_machine.proofs.Besides.{stands_besides}
 use Rattle.iso_machine.proofs.Lists.{all_at, all_remove, all_set, among_at, bare_with, with_at, without_at}
 

@@ -1,19 +1,7 @@
 -- Answers that are given, and answers that write nothing.
-use Rattle.std.proofs.Common.{◌≡◌, inl, sym, refl, subst, ℕ, List, Result, Ok, Err, IfOk, IsErrOf, IsSome, Option, arith}
+use Rattle.iso_machine.proofs.Words.{◌≡◌, inl, sym, refl, subst, ℕ, List, Result, Ok, Err, IfOk, IsErrOf, IsSome, Option, arith, DiskState, IsLawful, LeavesOnly, StaysTold, WritesNothing, started, stays, Reply, last, Shows, World, Live, Doing, Stop, ShowsEither, BlamesDisk, IsShown, IsWorkedTo, Answers}
 use Rattle.iso_core.specs.Calls as core
-use Rattle.iso_disk.specs.Disk.{DiskState, IsLawful, LeavesOnly, StaysTold, WritesNothing}
-use Rattle.iso_disk.proofs.Moments.{started, stays}
-use Rattle.script_model.specs.declared.script.Reply.{Reply}
-use Rattle.iso_model.specs.History.{last}
-use Rattle.iso_model.specs.Image.{Shows}
-use Rattle.iso_model.specs.World.{World, Live}
-use Rattle.tx_table.specs.Work.{Doing}
-use Rattle.script_model.specs.declared.stop.Stop.{Stop}
 use Rattle.script_model.specs.declared.stop.Stop.TheVariants as stop
-use Rattle.iso_model.specs.Between.{ShowsEither}
-use Rattle.script_runner.specs.Counts.{BlamesDisk}
-use Rattle.iso_machine.specs.Accessing.{IsShown, IsWorkedTo}
-use Rattle.iso_machine.specs.Answering.{Answers}
 use Rattle.iso_machine.proofs.Accesses.{same_but_shown}
 
 -- a call of the core that was answered

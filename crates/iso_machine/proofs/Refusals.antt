@@ -1,19 +1,8 @@
 -- Answers where a call of the core is refused.
-use Rattle.std.proofs.Common.{◌≡◌, ◌≢◌, ◌∙◌, ◌⊎◌, inl, inr, sym, refl, ap, subst, ℕ, List, Bool, true, false, cond, Err, Ok, None, Some, IsSome, arith}
-use Rattle.iso_disk.specs.Disk.{DiskState, IsLawful, LeavesOnly, StaysTold}
-use Rattle.iso_disk.proofs.Moments.{started}
-use Rattle.iso_model.specs.declared.core_error.CoreError.{CoreError}
+use Rattle.iso_machine.proofs.Words.{◌≡◌, ◌≢◌, ◌∙◌, ◌⊎◌, inl, inr, sym, refl, ap, subst, ℕ, List, Bool, true, false, cond, Err, Ok, None, Some, IsSome, arith, DiskState, IsLawful, LeavesOnly, StaysTold, started, CoreError, CoreReply, as_reply, as_step, last, Shows, World, Refuses, ShowsEither, Answers, answer_to}
 use Rattle.iso_model.specs.declared.core_error.CoreError.TheVariants as error
-use Rattle.iso_model.specs.declared.core_reply.CoreReply.{CoreReply}
 use Rattle.iso_model.specs.declared.core_reply.CoreReply.TheVariants as reply
-use Rattle.script_model.specs.CoreReplies.{as_reply, as_step}
-use Rattle.iso_model.specs.History.{last}
-use Rattle.iso_model.specs.Image.{Shows}
-use Rattle.iso_model.specs.World.{World}
 use Rattle.iso_core.specs.Calls as core
-use Rattle.iso_core.specs.Calls.{Refuses}
-use Rattle.iso_model.specs.Between.{ShowsEither}
-use Rattle.iso_machine.specs.Answering.{Answers, answer_to}
 use Rattle.iso_machine.proofs.Accesses.{same_but_shown}
 
 -- a reply that stands for an error of a core

@@ -1,35 +1,8 @@
 -- What an operation on a store makes of the world.
-use Rattle.std.proofs.Common.{◌≡◌, ◌≢◌, ◌∙◌, sym, refl, ap, subst, ℕ, ◌+◌, ◌-◌, ◌≤◌, ◌==◌, Bool, true, false, cond, List, ◌++◌, length, Option, Some, None, Result, Ok, Err, IfOk, option_map, arith}
+use Rattle.iso_machine.proofs.Words.{◌≡◌, ◌≢◌, ◌∙◌, sym, refl, ap, subst, ℕ, ◌+◌, ◌-◌, ◌≤◌, ◌==◌, Bool, true, false, cond, List, ◌++◌, length, Option, Some, None, Result, Ok, Err, IfOk, option_map, arith, DiskState, IsLawful, Access, Serial, Snapshot, Op, Reply, Area, own, array_at, MAX_ACCESSES, array_of, in_store, with_accesses, World, Live, Core, IsTx, StandsFor, disk_of, up, IsSameWork, tx_of, array_in, array_told, array_shown, Doing, Tx, Stop, IfTold, IsActive, IsGiven, HasCalled, IsStoreArea, is_empty_scan, store_area, store_ended, store_area_fits, store_area_is, IsStored, store_act}
 use Rattle.std.specs.Prelude.{IsSome}
 use Rattle.std.proofs.lemmas.Bool.{eq-eqb, ne_eqb}
-use Rattle.iso_disk.specs.Disk.{DiskState, IsLawful}
-use Rattle.iso_model.specs.declared.access.Access.{Access}
-use Rattle.iso_model.specs.declared.access.Mode.TheVariants.{Serial, Snapshot}
-use Rattle.script_model.specs.declared.script.Op.{Op}
-use Rattle.script_model.specs.declared.script.Reply.{Reply}
 use Rattle.script_model.specs.declared.script.Reply.TheVariants as reply
-use Rattle.store_model.specs.declared.stores.Area.{Area}
-use Rattle.iso_model.specs.Effect.{own}
-use Rattle.iso_model.specs.History.{array_at}
-use Rattle.iso_model.specs.declared.limits.TheConstants.{MAX_ACCESSES}
-use Rattle.script_model.specs.Step.{array_of, in_store}
-use Rattle.iso_model.specs.Step.{with_accesses}
-use Rattle.iso_model.specs.World.{World, Live}
-use Rattle.iso_core.specs.declared.core_itself.Core.{Core}
-use Rattle.iso_core.specs.Calls.{IsTx}
-use Rattle.iso_core.specs.Core.{StandsFor, disk_of}
-use Rattle.iso_core.specs.Standing.{up}
-use Rattle.core_blocks.specs.Guests.{IsSameWork, tx_of}
-use Rattle.core_blocks.specs.Shown.{array_in, array_told}
-use Rattle.core_blocks.proofs.Arrays.{array_shown}
-use Rattle.tx_table.specs.Work.{Doing}
-use Rattle.tx_blocks.specs.Tx.{Tx}
-use Rattle.script_model.specs.declared.stop.Stop.{Stop}
-use Rattle.script_runner.specs.Told.{IfTold}
-use Rattle.iso_machine.specs.Accessing.{IsActive, IsGiven}
-use Rattle.store_calls.specs.Calls.{HasCalled, IsStoreArea, is_empty_scan, store_area, store_ended}
-use Rattle.store_calls.proofs.Areas.{store_area_fits, store_area_is}
-use Rattle.iso_machine.specs.Storing.{IsStored, store_act}
 use Rattle.iso_machine.proofs.Accesses.{refused}
 
 no_store : (W : World) (t : Live) (blocks : ℕ) (result : Reply × World) → blocks ≡ 0 → in_store W t blocks result ≡ (reply.NoStore, W)

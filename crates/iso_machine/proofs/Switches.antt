@@ -1,26 +1,9 @@
 -- A switch to the other half.
-use Rattle.std.proofs.Common.{◌≡◌, ◌≢◌, ◌⊎◌, ◌==◌, if◌then◌else◌, inl, refl, sym, subst, ℕ, List, Bool, true, false, Err, IsSome}
-use Rattle.iso_disk.specs.Disk.{DiskState, LeavesOnly}
-use Rattle.iso_disk.proofs.Moments.{weakened}
-use Rattle.iso_model.specs.declared.core_error.CoreError.{CoreError}
+use Rattle.iso_machine.proofs.Words.{◌≡◌, ◌≢◌, ◌⊎◌, ◌==◌, if◌then◌else◌, inl, refl, sym, subst, ℕ, List, Bool, true, false, Err, IsSome, DiskState, LeavesOnly, weakened, CoreError, LAST, CoreReply, as_step, after_switch, switch_step, step, World, floor, all_weaker, Core, Refuses, refusal_of, StandsFor, disk_of, up, ShowsLast, Attached, Answers, answer_to, AreOf, IsSized}
 use Rattle.iso_model.specs.declared.core_error.CoreError.TheVariants as error
-use Rattle.iso_model.specs.declared.limits.TheConstants.{LAST}
-use Rattle.iso_model.specs.declared.core_reply.CoreReply.{CoreReply}
 use Rattle.iso_model.specs.declared.core_reply.CoreReply.TheVariants as reply
-use Rattle.script_model.specs.CoreReplies.{as_step}
 use Rattle.script_model.specs.declared.script.Op.TheVariants as op
-use Rattle.iso_model.specs.Step.{after_switch, switch_step}
-use Rattle.script_model.specs.Step.{step}
-use Rattle.iso_model.specs.World.{World, floor}
-use Rattle.iso_model.proofs.Growth.{all_weaker}
-use Rattle.iso_core.specs.declared.core_itself.Core.{Core}
-use Rattle.iso_core.specs.Calls.{BlamesDisk, Refuses, refusal_of}
-use Rattle.iso_core.specs.Core.{StandsFor, disk_of}
-use Rattle.iso_core.specs.Standing.{up}
-use Rattle.iso_model.specs.Between.{ShowsLast}
-use Rattle.iso_machine.specs.declared.attached.Attached.{Attached}
-use Rattle.iso_machine.specs.Answering.{Answers, answer_to}
-use Rattle.iso_machine.specs.Standing.{AreOf, IsSized}
+use Rattle.iso_core.specs.Calls.{BlamesDisk}
 use Rattle.iso_machine.proofs.Machines.{same}
 use Rattle.iso_machine.proofs.Refusals.{IsRefusal, KeepsRefused, blames, refused}
 

@@ -1,24 +1,8 @@
 -- Answers where the disk tells its bytes, and else.
-use Rattle.std.proofs.Common.{◌≡◌, ◌∙◌, sym, refl, ap, subst, inl, inr, ⊎_elim, ◌==◌, Bool, true, false, cond, ℕ, List, Result, Ok, Err, IfOk, IsErrOf, Option}
+use Rattle.iso_machine.proofs.Words.{◌≡◌, ◌∙◌, sym, refl, ap, subst, inl, inr, ⊎_elim, ◌==◌, Bool, true, false, cond, ℕ, List, Result, Ok, Err, IfOk, IsErrOf, Option, DiskState, WritesNothing, stays, Op, Reply, is_serial, last, Shows, in_store, World, Live, Doing, Stop, BlamesDisk, IsWorkedTo, Answers, AnswersTold, is_empty_scan, store_area, IsStored, called_of, store_act}
 use Rattle.std.specs.Prelude.{IsSome}
-use Rattle.iso_disk.specs.Disk.{DiskState, WritesNothing}
-use Rattle.iso_disk.proofs.Moments.{stays}
-use Rattle.script_model.specs.declared.script.Op.{Op}
-use Rattle.script_model.specs.declared.script.Reply.{Reply}
 use Rattle.script_model.specs.declared.script.Reply.TheVariants as reply
-use Rattle.iso_model.specs.Geometry.{is_serial}
-use Rattle.iso_model.specs.History.{last}
-use Rattle.iso_model.specs.Image.{Shows}
-use Rattle.script_model.specs.Step.{in_store}
-use Rattle.iso_model.specs.World.{World, Live}
-use Rattle.tx_table.specs.Work.{Doing}
-use Rattle.script_model.specs.declared.stop.Stop.{Stop}
 use Rattle.script_model.specs.declared.stop.Stop.TheVariants as stop
-use Rattle.script_runner.specs.Counts.{BlamesDisk}
-use Rattle.iso_machine.specs.Accessing.{IsWorkedTo}
-use Rattle.iso_machine.specs.Answering.{Answers, AnswersTold}
-use Rattle.store_calls.specs.Calls.{is_empty_scan, store_area}
-use Rattle.iso_machine.specs.Storing.{IsStored, called_of, store_act}
 
 -- an answer that is known in any case
 pub told_so : (stands : World → Type 0) (old new : DiskState) (W : World) (given : Reply × World) (plain : Type 0) (result : Result Reply Stop) → Answers stands old new W given result

@@ -1,10 +1,5 @@
 -- A disk that was made of zeros, whatever its plan of failures.
-use Rattle.std.proofs.Common.{◌≡◌, ℕ, List, length, replicate, sym, ◌∙◌, ap, subst}
-use Rattle.std.proofs.lemmas.List.{length-replicate}
-use Rattle.iso_memdisk.specs.declared.disk.MemDisk.{MemDisk}
-use Rattle.iso_memdisk.specs.declared.record.Call.{Call}
-use Rattle.iso_memdisk.specs.MemDisk.{IsUntouched, Starts, state_of}
-use Rattle.iso_memdisk.specs.Record.{images_after}
+use Rattle.iso_memdisk.proofs.Words.{◌≡◌, ℕ, List, length, replicate, sym, ◌∙◌, ap, subst, length-replicate, MemDisk, Call, IsUntouched, Starts, state_of, images_after}
 
 -- each image that a crash now may leave is zeros
 pub blank_now : (n : ℕ) (d : MemDisk) (bytes : List ℕ) → Starts d bytes → bytes ≡ replicate n 0 → (c : List ℕ) → (state_of d).now c → c ≡ replicate (state_of d).size 0

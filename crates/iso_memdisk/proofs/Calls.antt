@@ -1,13 +1,6 @@
 -- What one more call comes to.
-use Rattle.std.proofs.Common.{Bool, true, false, if◌then◌else◌, ◌≡◌, ◌≤◌, ◌+◌, ℕ, zero, suc, List, [], ◌∷◌, ◌++◌, length, refl, sym, ◌∙◌, subst}
-use Rattle.std.proofs.lemmas.Option.{same_Some}
-use Rattle.std.specs.declared.alloc.Global.{Global}
+use Rattle.iso_memdisk.proofs.Words.{Bool, true, false, if◌then◌else◌, ◌≡◌, ◌≤◌, ◌+◌, ℕ, zero, suc, List, [], ◌∷◌, ◌++◌, length, refl, sym, ◌∙◌, subst, same_Some, Global, spliced, TornFrom, length-spliced, Call, Write, Sync, written, images_after, AllFit, TornBy}
 use Rattle.std.specs.Prelude.{Vec}
-use Rattle.iso_disk.specs.Disk.{spliced, TornFrom}
-use Rattle.iso_disk.proofs.Bytes.{length-spliced}
-use Rattle.iso_memdisk.specs.declared.record.Call.{Call}
-use Rattle.iso_memdisk.specs.declared.record.Call.TheVariants.{Write, Sync}
-use Rattle.iso_memdisk.specs.Record.{written, images_after, AllFit, TornBy}
 
 pub written-append : (r s : List Call) (bytes : List ℕ) → written (r ++ s) bytes ≡ written s (written r bytes)
 written-append [] s bytes = refl

@@ -1,15 +1,5 @@
 -- What a call of a memory disk does to its moments: nothing, or one more call in the record.
-use Rattle.std.proofs.Common.{◌≡◌, ◌⊎◌, inl, inr, ⊎_elim, ◌≤◌, ◌+◌, ℕ, List, [], ◌∷◌, ◌++◌, length, take, Some, Vec, refl, sym, ◌∙◌, ap, subst, arith, length-append}
-use Rattle.std.proofs.lemmas.List.{take_all, take-append-le}
-use Rattle.std.specs.Option.{option_map}
-use Rattle.std.specs.declared.alloc.Global.{Global}
-use Rattle.iso_disk.specs.Disk.{spliced, TornFrom, Elapses, IsSettled}
-use Rattle.iso_memdisk.specs.declared.record.Call.{Call}
-use Rattle.iso_memdisk.specs.declared.record.Call.TheVariants.{Write, Sync}
-use Rattle.iso_memdisk.specs.declared.disk.MemDisk.{MemDisk}
-use Rattle.iso_memdisk.specs.Record.{written, images_after}
-use Rattle.iso_memdisk.specs.MemDisk.{bytes_of, contents_of, now_of, clock_of, state_of, IsUntouched, Appends}
-use Rattle.iso_memdisk.specs.Replay.{written-image}
+use Rattle.iso_memdisk.proofs.Words.{◌≡◌, ◌⊎◌, inl, inr, ⊎_elim, ◌≤◌, ◌+◌, ℕ, List, [], ◌∷◌, ◌++◌, length, take, Some, Vec, refl, sym, ◌∙◌, ap, subst, arith, length-append, take_all, take-append-le, option_map, Global, spliced, TornFrom, Elapses, IsSettled, Call, Write, Sync, MemDisk, written, images_after, bytes_of, contents_of, now_of, clock_of, state_of, IsUntouched, Appends, written-image}
 use Rattle.iso_memdisk.proofs.Calls.{written-append, images_after-append, images_after-join}
 
 -- the images that first bytes and a record may leave, now and since a moment

@@ -1,13 +1,6 @@
 -- How the loops over the calls go on.
-use Rattle.std.proofs.Common.{◌≡◌, ◌⊎◌, ⊎_elim, ◌<◌, ◌≤◌, ◌+◌, ℕ, zero, suc, List, [], ◌∷◌, ◌++◌, length, take, drop, get_or, Some, slice_get, refl, sym, ◌∙◌, ap, subst, arith}
-use Rattle.std.proofs.lemmas.List.{drop_more, take_more}
-use Rattle.std.proofs.lemmas.Option.{same_Some, slice_get-get_or, slice_get_within}
-use Rattle.std.specs.declared.alloc.Global.{Global}
+use Rattle.iso_memdisk.proofs.Words.{◌≡◌, ◌⊎◌, ⊎_elim, ◌<◌, ◌≤◌, ◌+◌, ℕ, zero, suc, List, [], ◌∷◌, ◌++◌, length, take, drop, get_or, Some, slice_get, refl, sym, ◌∙◌, ap, subst, arith, drop_more, take_more, same_Some, slice_get-get_or, slice_get_within, Global, spliced, Torn, Call, Write, Sync, written, synced, AllFit, NoSync, TornBy}
 use Rattle.std.specs.Prelude.{Vec}
-use Rattle.iso_disk.specs.Disk.{spliced, Torn}
-use Rattle.iso_memdisk.specs.declared.record.Call.{Call}
-use Rattle.iso_memdisk.specs.declared.record.Call.TheVariants.{Write, Sync}
-use Rattle.iso_memdisk.specs.Record.{written, synced, AllFit, NoSync, TornBy}
 use Rattle.iso_memdisk.proofs.Calls.{written-append}
 
 -- of the first i calls, none after the first `stable` is a sync, and these come to what was synced

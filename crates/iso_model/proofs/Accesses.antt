@@ -1,15 +1,6 @@
 -- The accesses that operations make are accesses to the array.
-use Rattle.std.proofs.Common.{◌≡◌, refl, ap, ℕ, zero, suc, ◌+◌, ◌-◌, ◌<◌, ◌≤◌, Bool, true, false, ◌==◌, not, cond, List, [], ◌∷◌, ◌++◌, length, Some, None, nat_le, nat_lt, replicate, arith}
-use Rattle.std.proofs.lemmas.Bool.{or_parts, leb-false, ltb-false, eqb-false}
-use Rattle.std.proofs.lemmas.List.{length_push}
-use Rattle.iso_model.specs.declared.access.Access.{Access}
-use Rattle.iso_model.specs.declared.access.Geometry.{Geometry}
+use Rattle.iso_model.proofs.Words.{◌≡◌, refl, ap, ℕ, zero, suc, ◌+◌, ◌-◌, ◌<◌, ◌≤◌, Bool, true, false, ◌==◌, not, cond, List, [], ◌∷◌, ◌++◌, length, Some, None, nat_le, nat_lt, replicate, arith, or_parts, leb-false, ltb-false, eqb-false, length_push, Access, Geometry, Span, MAX_SPANS, IsAccess, IsSpan, AreAccesses, AreBytes, is_outside, marked, marks_fault, mark_fault, put_access, read_access, get_access, write_access}
 use Rattle.iso_model.specs.declared.access.MarkError.TheVariants as mark
-use Rattle.iso_model.specs.declared.access.Span.{Span}
-use Rattle.iso_model.specs.declared.limits.TheConstants.{MAX_SPANS}
-use Rattle.iso_model.specs.Premises.{IsAccess, IsSpan, AreAccesses, AreBytes}
-use Rattle.iso_model.specs.Marks.{is_outside, marked, marks_fault, mark_fault}
-use Rattle.iso_model.specs.Step.{put_access, read_access, get_access, write_access}
 use Rattle.iso_model.proofs.ByteLists.{no_bytes, bytes_append, replicate_bytes}
 use Rattle.iso_model.proofs.Growth.{all_push}
 use Rattle.iso_model.proofs.Recorded.{length-recorded}

@@ -1,10 +1,5 @@
 -- What a valid geometry keeps to.
-use Rattle.std.proofs.Common.{ℕ, ◌*◌, ◌≤◌, IsTrue, arith, mul-le-mul}
-use Rattle.std.proofs.lemmas.Bool.{and_parts, leb-true}
-use Rattle.std.proofs.lemmas.Bool.Decides.{nat_tests}
-use Rattle.iso_model.specs.declared.access.Geometry.{Geometry}
-use Rattle.iso_model.specs.Geometry.{is_valid, is_block_size}
-use Rattle.iso_model.specs.Premises.{Limits}
+use Rattle.iso_model.proofs.Words.{ℕ, ◌*◌, ◌≤◌, IsTrue, arith, mul-le-mul, and_parts, leb-true, nat_tests, Geometry, is_valid, is_block_size, Limits}
 
 block_size_bounds : (size : ℕ) → IsTrue (is_block_size size) → (64 ≤ size) × (size ≤ 4096)
 block_size_bounds size h = (grind (arith, nat_tests), grind (arith, nat_tests))

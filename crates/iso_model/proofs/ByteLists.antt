@@ -1,10 +1,5 @@
 -- Lists of bytes, and their pieces.
-use Rattle.std.proofs.Common.{inl, inr, ℕ, zero, suc, ◌+◌, ◌<◌, Bool, true, false, cond, List, [], ◌∷◌, ◌++◌, take, drop, replicate, set, arith}
-use Rattle.std.proofs.lemmas.Bool.{cases_lt}
-use Rattle.std.proofs.lemmas.List.{get_or-drop, get_or-take, get_or_past, length-take}
-use Rattle.iso_model.specs.declared.access.Span.{Span}
-use Rattle.iso_model.specs.Array.{covered, merged}
-use Rattle.iso_model.specs.Premises.{AreBytes}
+use Rattle.iso_model.proofs.Words.{inl, inr, ℕ, zero, suc, ◌+◌, ◌<◌, Bool, true, false, cond, List, [], ◌∷◌, ◌++◌, take, drop, replicate, set, arith, cases_lt, get_or-drop, get_or-take, get_or_past, length-take, Span, covered, merged, AreBytes}
 
 pub no_bytes : AreBytes []
 no_bytes i = omega arith

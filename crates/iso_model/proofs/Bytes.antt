@@ -1,16 +1,5 @@
 -- What a write and a list of writes leave at each byte.
-use Rattle.std.proofs.Common.{◌≡◌, ◌≢◌, ◌∙◌, sym, refl, ap, ℕ, zero, suc, ◌+◌, ◌<◌, Bool, true, false, ◌&&◌, ◌||◌, ◌==◌, cond, IsTrue, List, [], ◌∷◌, length, get_or, Option, Some, None, is_some, unwrap_or, arith, zero-add, inl, inr, eq-eqb, ne_eqb, subst}
-use Rattle.std.specs.List.{AllByRecursion}
-use Rattle.std.proofs.lemmas.Bool.{cases_eq, cases_lt}
-use Rattle.std.proofs.lemmas.List.{length-set, get_or-set_same, get_or-set_other, set_past, get_or_past}
-use Rattle.iso_model.specs.declared.access.Access.{Access}
-use Rattle.iso_model.specs.declared.access.Commit.{Commit}
-use Rattle.iso_model.specs.declared.access.Span.{Span}
-use Rattle.iso_model.specs.declared.access.Kind.TheVariants.{Write}
-use Rattle.iso_model.specs.Array.{Array, covered, merged, put, byte_at}
-use Rattle.iso_model.specs.Effect.{is_write, own, touches, covers, or_else, effect_at}
-use Rattle.iso_model.specs.History.{all_own}
-use Rattle.iso_model.specs.Premises.{block_at, HasBytes}
+use Rattle.iso_model.proofs.Words.{◌≡◌, ◌≢◌, ◌∙◌, sym, refl, ap, ℕ, zero, suc, ◌+◌, ◌<◌, Bool, true, false, ◌&&◌, ◌||◌, ◌==◌, cond, IsTrue, List, [], ◌∷◌, length, get_or, Option, Some, None, is_some, unwrap_or, arith, zero-add, inl, inr, eq-eqb, ne_eqb, subst, AllByRecursion, cases_eq, cases_lt, length-set, get_or-set_same, get_or-set_other, set_past, get_or_past, Access, Commit, Span, Write, Array, covered, merged, put, byte_at, is_write, own, touches, covers, or_else, effect_at, all_own, block_at, HasBytes}
 
 pub length-merged : (spans : List Span) (p : ℕ) (old new : List ℕ) → length (merged spans p old new) ≡ length old
 length-merged spans p [] new = refl

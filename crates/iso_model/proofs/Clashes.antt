@@ -1,16 +1,5 @@
 -- The least clash, and what there is where there is none.
-use Rattle.std.proofs.Common.{◌≡◌, ◌≢◌, ◌⊎◌, ◌∙◌, sym, refl, ap, ℕ, zero, suc, ◌+◌, ◌-◌, ◌<◌, ◌≤◌, Bool, true, false, cond, List, [], ◌∷◌, drop, Option, Some, None, option_map, slice_get, arith, inl, inr, zero-add}
-use Rattle.std.proofs.lemmas.Bool.{cases_eq, both_ways, and_parts, and_from}
-use Rattle.std.proofs.lemmas.Option.{same_Some}
-use Rattle.iso_model.specs.declared.access.Access.{Access}
-use Rattle.iso_model.specs.declared.access.Clash.{Clash}
-use Rattle.iso_model.specs.declared.access.Commit.{Commit}
-use Rattle.iso_model.specs.declared.access.Geometry.{Geometry}
-use Rattle.iso_model.specs.declared.access.Kind.TheVariants.{Write}
-use Rattle.iso_model.specs.declared.access.Mode.{Mode}
-use Rattle.iso_model.specs.Effect.{has_write, or_else, touches}
-use Rattle.iso_model.specs.History.{History}
-use Rattle.iso_model.specs.Conflict.{clash, clash_from, clashes, first_after, first_from, first_byte, guarded, IsClash, NotAfter}
+use Rattle.iso_model.proofs.Words.{◌≡◌, ◌≢◌, ◌⊎◌, ◌∙◌, sym, refl, ap, ℕ, zero, suc, ◌+◌, ◌-◌, ◌<◌, ◌≤◌, Bool, true, false, cond, List, [], ◌∷◌, drop, Option, Some, None, option_map, slice_get, arith, inl, inr, zero-add, cases_eq, both_ways, and_parts, and_from, same_Some, Access, Clash, Commit, Geometry, Write, Mode, has_write, or_else, touches, History, clash, clash_from, clashes, first_after, first_from, first_byte, guarded, IsClash, NotAfter}
 
 -- what the first passing number of n from p on is
 abbrev IsFirst : (ℕ → Bool) → (p n : ℕ) → Option ℕ → Type 0

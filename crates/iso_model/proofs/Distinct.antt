@@ -1,10 +1,5 @@
 -- Live transactions stay distinct.
-use Rattle.std.proofs.Common.{◌≡◌, ◌∙◌, sym, refl, ap, ℕ, suc, ◌≤◌, Bool, true, false, ◌==◌, cond, List, [], ◌∷◌, ◌++◌, length, map, filter, find, Some, None, arith, eq-eqb, subst}
-use Rattle.std.specs.List.{AllByRecursion}
-use Rattle.std.proofs.lemmas.Bool.{eqb-true, both_ways}
-use Rattle.std.proofs.lemmas.Option.{none-some, same_Some}
-use Rattle.iso_model.specs.World.{Live, Place, client, label, unattached, is_at_client, with}
-use Rattle.iso_model.specs.Worlds.{AreApart, AreTwo, AreDistinct}
+use Rattle.iso_model.proofs.Words.{◌≡◌, ◌∙◌, sym, refl, ap, ℕ, suc, ◌≤◌, Bool, true, false, ◌==◌, cond, List, [], ◌∷◌, ◌++◌, length, map, filter, find, Some, None, arith, eq-eqb, subst, AllByRecursion, eqb-true, both_ways, none-some, same_Some, Live, Place, client, label, unattached, is_at_client, with, AreApart, AreTwo, AreDistinct}
 
 pub all_filter : {X : Type 0} (P : X → Type 0) (test : X → Bool) (xs : List X) → AllByRecursion P xs → AllByRecursion P (filter test xs)
 all_filter P test [] all = tt

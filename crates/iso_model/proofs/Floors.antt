@@ -1,8 +1,5 @@
 -- The floor is the least live begin.
-use Rattle.std.proofs.Common.{◌≡◌, ◌⊎◌, ℕ, suc, ◌≤◌, ◌<◌, List, [], ◌∷◌, min, length, refl, sym, inl, inr, arith}
-use Rattle.std.specs.List.{AllByRecursion}
-use Rattle.std.proofs.lemmas.Bool.{cases_lt}
-use Rattle.iso_model.specs.World.{Live, BeganAt, least_begin, floor_of}
+use Rattle.iso_model.proofs.Words.{◌≡◌, ◌⊎◌, ℕ, suc, ◌≤◌, ◌<◌, List, [], ◌∷◌, min, length, refl, sym, inl, inr, arith, AllByRecursion, cases_lt, Live, BeganAt, least_begin, floor_of}
 
 least_below : (n : ℕ) (live : List Live) → (least_begin n live ≤ n) × AllByRecursion (λ t. least_begin n live ≤ t.begin) live
 least_below n [] = (omega arith, tt)

@@ -1,19 +1,5 @@
 -- What holds of an image holds of it in another form: the numbers of its array are the same.
-use Rattle.std.proofs.Common.{◌≡◌, refl, sym, ℕ, ◌-◌, ◌≤◌, IsTrue, List, [], ◌∷◌, Option, Some, None, IfSome, slice_get, sum_by, arith, subst}
-use Rattle.std.proofs.lemmas.Bool.{and_parts, and_from, le-leb}
-use Rattle.iso_model.specs.declared.access.Access.{Access}
-use Rattle.iso_model.specs.declared.access.Commit.{Commit}
-use Rattle.iso_model.specs.declared.access.Geometry.{Geometry}
-use Rattle.iso_model.specs.declared.access.Mode.{Mode}
-use Rattle.iso_model.specs.declared.access.Mode.TheVariants.{Serial, Snapshot}
-use Rattle.iso_model.specs.declared.access.Run.{Run}
-use Rattle.iso_model.specs.Effect.{record_length, runs}
-use Rattle.iso_model.specs.Geometry.{is_valid}
-use Rattle.iso_model.specs.History.{History}
-use Rattle.iso_model.specs.Image.{AreRuns, IsRecord, Written, written}
-use Rattle.iso_model.specs.Isolation.{HasSeen, IsIsolated, IsIsolatedAt}
-use Rattle.iso_model.specs.Premises.{AreAccesses, IsAccess, IsHistory}
-use Rattle.iso_model.specs.Worlds.{AreRecords}
+use Rattle.iso_model.proofs.Words.{◌≡◌, refl, sym, ℕ, ◌-◌, ◌≤◌, IsTrue, List, [], ◌∷◌, Option, Some, None, IfSome, slice_get, sum_by, arith, subst, and_parts, and_from, le-leb, Access, Commit, Geometry, Mode, Serial, Snapshot, Run, record_length, runs, is_valid, History, AreRuns, IsRecord, Written, written, HasSeen, IsIsolated, IsIsolatedAt, AreAccesses, IsAccess, IsHistory, AreRecords}
 use Rattle.iso_model.proofs.Growth.{all_weaker}
 
 abbrev pub in_form : Geometry → ℕ → Geometry

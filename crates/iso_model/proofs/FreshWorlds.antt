@@ -1,19 +1,5 @@
 -- A world that was just made or opened is sound, and in a serial one every commit is serial.
-use Rattle.std.proofs.Common.{◌≡◌, ◌∙◌, refl, ℕ, zero, suc, ◌+◌, ◌-◌, ◌<◌, ◌≤◌, IsTrue, List, [], ◌∷◌, Option, Some, None, slice_get, IfSome, arith, subst}
-use Rattle.std.proofs.lemmas.Option.{same_Some}
-use Rattle.iso_model.specs.declared.access.Commit.{Commit}
-use Rattle.iso_model.specs.declared.access.Geometry.{Geometry}
-use Rattle.iso_model.specs.declared.access.Mode.{Mode}
-use Rattle.iso_model.specs.declared.access.Mode.TheVariants.{Serial}
-use Rattle.iso_model.specs.declared.limits.TheConstants.{LAST}
-use Rattle.iso_model.specs.Conflict.{IsSerialAt}
-use Rattle.iso_model.specs.Geometry.{is_valid}
-use Rattle.iso_model.specs.History.{History, last}
-use Rattle.iso_model.specs.Image.{IsRecord, written}
-use Rattle.iso_model.specs.Isolation.{HasSeen, IsIsolated, IsIsolatedAt}
-use Rattle.iso_model.specs.Premises.{IsHistory}
-use Rattle.iso_model.specs.World.{World, used, fresh, empty_history}
-use Rattle.iso_model.specs.Worlds.{AreRecords, IsWorld}
+use Rattle.iso_model.proofs.Words.{◌≡◌, ◌∙◌, refl, ℕ, zero, suc, ◌+◌, ◌-◌, ◌<◌, ◌≤◌, IsTrue, List, [], ◌∷◌, Option, Some, None, slice_get, IfSome, arith, subst, same_Some, Commit, Geometry, Mode, Serial, LAST, IsSerialAt, is_valid, History, last, IsRecord, written, HasSeen, IsIsolated, IsIsolatedAt, IsHistory, World, used, fresh, empty_history, AreRecords, IsWorld}
 use Rattle.iso_model.proofs.Bounds.{limits}
 use Rattle.iso_model.proofs.Growth.{empty_is}
 

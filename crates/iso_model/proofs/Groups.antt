@@ -1,21 +1,6 @@
 -- What a group does to a world.
-use Rattle.std.proofs.Common.{◌≡◌, ◌∙◌, sym, refl, ap, ℕ, ◌+◌, ◌-◌, ◌<◌, ◌≤◌, Bool, true, false, ◌==◌, cond, List, [], ◌∷◌, ◌++◌, length, arith, subst, None, Some, Option, nat_lt, append-nil}
-use Rattle.std.proofs.lemmas.Bool.{eqb-false, ltb-false}
-use Rattle.std.proofs.lemmas.List.{length-append, length_push}
-use Rattle.std.specs.List.{AllByRecursion}
-use Rattle.iso_model.specs.declared.access.Clash.{Clash}
-use Rattle.iso_model.specs.declared.access.Commit.{Commit}
-use Rattle.iso_model.specs.declared.limits.TheConstants.{LAST}
-use Rattle.iso_model.specs.declared.access.GroupReply.{GroupReply}
-use Rattle.iso_model.specs.declared.core_reply.CoreReply.{CoreReply}
+use Rattle.iso_model.proofs.Words.{◌≡◌, ◌∙◌, sym, refl, ap, ℕ, ◌+◌, ◌-◌, ◌<◌, ◌≤◌, Bool, true, false, ◌==◌, cond, List, [], ◌∷◌, ◌++◌, length, arith, subst, None, Some, Option, nat_lt, append-nil, eqb-false, ltb-false, length-append, length_push, AllByRecursion, Clash, Commit, LAST, GroupReply, CoreReply, clash, has_write, Follow, after_look, after_member, ahead, decided, found_ones, group, group_step, leave_all, looks, made_by, member_reply, numbers_told, with_first, last, after_commit, after_leaving, commit_from, placed, commit_step, end_step, need, with_live, World, Live, Place, client, held, is_under_label, label, unattached, used, without, AreApart, IsLive, IsWorld, LeadsTo}
 use Rattle.iso_model.specs.declared.core_reply.CoreReply.TheVariants as reply
-use Rattle.iso_model.specs.Conflict.{clash}
-use Rattle.iso_model.specs.Effect.{has_write}
-use Rattle.iso_model.specs.Group.{Follow, after_look, after_member, ahead, decided, found_ones, group, group_step, leave_all, looks, made_by, member_reply, numbers_told, with_first}
-use Rattle.iso_model.specs.History.{last}
-use Rattle.iso_model.specs.Step.{after_commit, after_leaving, commit_from, placed, commit_step, end_step, need, with_live}
-use Rattle.iso_model.specs.World.{World, Live, Place, client, held, is_under_label, label, unattached, used, without}
-use Rattle.iso_model.specs.Worlds.{AreApart, IsLive, IsWorld, LeadsTo}
 use Rattle.iso_model.proofs.Distinct.{all_find}
 use Rattle.iso_model.proofs.Growth.{all_weaker}
 use Rattle.iso_model.proofs.Worlds.{commits, leads_on, leaves, live_on, places, same_geometry, stays}

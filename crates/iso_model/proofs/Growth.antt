@@ -1,13 +1,5 @@
 -- An empty history is one of its image, and so is one with a commit more.
-use Rattle.std.proofs.Common.{ap, ◌∙◌, inl, inr, ℕ, List, [], ◌∷◌, ◌++◌, length, arith, replicate}
-use Rattle.std.specs.List.{AllByRecursion}
-use Rattle.std.proofs.lemmas.Bool.{cases_lt}
-use Rattle.std.proofs.lemmas.List.{length-replicate, get_or-replicate, get_or_past}
-use Rattle.iso_model.specs.declared.access.Commit.{Commit}
-use Rattle.iso_model.specs.declared.access.Geometry.{Geometry}
-use Rattle.iso_model.specs.History.{History}
-use Rattle.iso_model.specs.World.{empty_history}
-use Rattle.iso_model.specs.Premises.{block_at, AreAccesses, AreBytes, IsHistory, appended}
+use Rattle.iso_model.proofs.Words.{ap, ◌∙◌, inl, inr, ℕ, List, [], ◌∷◌, ◌++◌, length, arith, replicate, AllByRecursion, cases_lt, length-replicate, get_or-replicate, get_or_past, Commit, Geometry, History, empty_history, block_at, AreAccesses, AreBytes, IsHistory, appended}
 use Rattle.iso_model.proofs.ByteLists.{replicate_bytes}
 
 -- a block of zeros has bytes, and so has none

@@ -1,12 +1,6 @@
 -- What an image shows whose base is a later commit, and what it shows of a longer history.
-use Rattle.std.proofs.Common.{◌≡◌, ◌∙◌, sym, ap, ℕ, zero, suc, ◌+◌, ◌-◌, ◌<◌, ◌≤◌, IfSome, List, [], ◌∷◌, ◌++◌, length, take, drop, map, slice_get, arith, subst, Option, Some, None}
-use Rattle.std.proofs.lemmas.List.{length-append, length-drop, take_all, take-append-le}
-use Rattle.iso_model.specs.declared.access.Commit.{Commit}
-use Rattle.iso_model.specs.declared.access.Geometry.{Geometry}
-use Rattle.iso_model.specs.History.{History, last, all_own, array_at}
-use Rattle.iso_model.specs.Image.{IsImage, Shows, SameCommit, written, commits_of, held}
-use Rattle.iso_model.specs.Premises.{IsHistory}
-use Rattle.iso_model.specs.Worlds.{Extends}
+use Rattle.iso_model.proofs.Words.{◌≡◌, ◌∙◌, sym, ap, ℕ, zero, suc, ◌+◌, ◌-◌, ◌<◌, ◌≤◌, IfSome, List, [], ◌∷◌, ◌++◌, length, take, drop, map, slice_get, arith, subst, Option, Some, None, length-append, length-drop, take_all, take-append-le, Commit, Geometry, History, last, all_own, array_at, IsImage, Shows, SameCommit, written, commits_of, IsHistory, Extends}
+use Rattle.iso_model.specs.Image.{held}
 use Rattle.iso_model.proofs.Clashes.{slice_get-drop}
 use Rattle.iso_model.proofs.Isolation.{commits_drop, all_own_append, slice_get_append_left}
 use Rattle.iso_model.proofs.Recorded.{array_shape, size_of, all_own_logged, length-logged, same_commits}

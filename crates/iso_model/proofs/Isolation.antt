@@ -1,23 +1,5 @@
 -- A transaction without a clash is isolated at the next commit, and each commit stays so.
-use Rattle.std.proofs.Common.{◌≡◌, ◌∙◌, sym, refl, ap, ℕ, zero, suc, ◌+◌, ◌-◌, ◌<◌, ◌≤◌, true, false, IsTrue, IfSome, List, [], ◌∷◌, ◌++◌, length, get_or, take, drop, Option, Some, None, is_some, slice_get, option_map, unwrap_or, arith, inl, inr, subst}
-use Rattle.std.specs.List.{AllByRecursion}
-use Rattle.std.proofs.lemmas.Bool.{cases_lt, or_left, or_right, false_from_ne_true}
-use Rattle.std.proofs.lemmas.Option.{none-some, same_Some, IfSome_then}
-use Rattle.std.proofs.lemmas.List.{take_all, take-append-le, take-append-drop, get_or_past, length_push}
-use Rattle.iso_model.specs.declared.access.Access.{Access}
-use Rattle.iso_model.specs.declared.access.Clash.{Clash}
-use Rattle.iso_model.specs.declared.access.Commit.{Commit}
-use Rattle.iso_model.specs.declared.access.Geometry.{Geometry}
-use Rattle.iso_model.specs.declared.access.Kind.{Kind}
-use Rattle.iso_model.specs.declared.access.Kind.TheVariants.{Read, Write}
-use Rattle.iso_model.specs.declared.access.Mode.{Mode}
-use Rattle.iso_model.specs.declared.access.Mode.TheVariants.{Serial, Snapshot}
-use Rattle.iso_model.specs.Array.{Array, byte_at}
-use Rattle.iso_model.specs.Effect.{is_write, has_write, covers, touches, effect_at, own}
-use Rattle.iso_model.specs.History.{History, last, array_at, all_own, shown, shown_block}
-use Rattle.iso_model.specs.Conflict.{clash, guarded, IsClash, IsSerialAt, IsSnapshotAt, Meets}
-use Rattle.iso_model.specs.Isolation.{IsIsolatedAt, IsIsolated, HasSeen}
-use Rattle.iso_model.specs.Premises.{block_at, IsAccess, AreAccesses, IsHistory, appended}
+use Rattle.iso_model.proofs.Words.{◌≡◌, ◌∙◌, sym, refl, ap, ℕ, zero, suc, ◌+◌, ◌-◌, ◌<◌, ◌≤◌, true, false, IsTrue, IfSome, List, [], ◌∷◌, ◌++◌, length, get_or, take, drop, Option, Some, None, is_some, slice_get, option_map, unwrap_or, arith, inl, inr, subst, AllByRecursion, cases_lt, or_left, or_right, false_from_ne_true, none-some, same_Some, IfSome_then, take_all, take-append-le, take-append-drop, get_or_past, length_push, Access, Clash, Commit, Geometry, Kind, Read, Write, Mode, Serial, Snapshot, Array, byte_at, is_write, has_write, covers, touches, effect_at, own, History, last, array_at, all_own, shown, shown_block, clash, guarded, IsClash, IsSerialAt, IsSnapshotAt, Meets, IsIsolatedAt, IsIsolated, HasSeen, block_at, IsAccess, AreAccesses, IsHistory, appended}
 use Rattle.iso_model.proofs.Bytes.{own_at, length-block_own, length-block_all_own, touches_where_effect}
 use Rattle.iso_model.proofs.Recorded.{CommitsOf, bytes_of_accesses}
 use Rattle.iso_model.proofs.Written.{covers_where}

@@ -1,18 +1,5 @@
 -- What it says that a byte is written up to a trim number.
-use Rattle.std.proofs.Common.{◌≡◌, ◌⊎◌, ℕ, suc, ◌+◌, ◌-◌, ◌<◌, ◌≤◌, Bool, true, false, not, get_or, ◌&&◌, ◌||◌, List, [], ◌∷◌, refl, inl, inr, arith, slice_get, sym, ap, ◌∙◌, nat_le, nat_lt, length, filter, sum_by}
-use Rattle.std.proofs.lemmas.Bool.{and_parts, and_from, or_cases, cases_eq, both_ways, leb-true, le-leb, lt-ltb, ltb-true}
-use Rattle.std.proofs.lemmas.List.Folds.{Any-from_list_any, list_any_at}
-use Rattle.std.proofs.lemmas.List.FromFn.{get_or-range_with_len, length-range_with_len}
-use Rattle.std.specs.List.{list_any, range_with_len}
-use Rattle.std.proofs.lemmas.List.Sums.{sum_by-cons}
-use Rattle.std.proofs.lemmas.Option.{same_Some}
-use Rattle.iso_model.specs.declared.access.Commit.{Commit}
-use Rattle.iso_model.specs.declared.access.Geometry.{Geometry}
-use Rattle.iso_model.specs.declared.access.Run.{Run}
-use Rattle.iso_model.specs.declared.access.Kind.TheVariants.{Write}
-use Rattle.iso_model.specs.Effect.{runs, touches}
-use Rattle.iso_model.specs.Versions.{is_kept, is_written, kept_from, versions, IsWritten, StillShows}
-use Rattle.iso_model.specs.World.{World, logged_commits}
+use Rattle.iso_model.proofs.Words.{◌≡◌, ◌⊎◌, ℕ, suc, ◌+◌, ◌-◌, ◌<◌, ◌≤◌, Bool, true, false, not, get_or, ◌&&◌, ◌||◌, List, [], ◌∷◌, refl, inl, inr, arith, slice_get, sym, ap, ◌∙◌, nat_le, nat_lt, length, filter, sum_by, and_parts, and_from, or_cases, cases_eq, both_ways, leb-true, le-leb, lt-ltb, ltb-true, Any-from_list_any, list_any_at, get_or-range_with_len, length-range_with_len, list_any, range_with_len, sum_by-cons, same_Some, Commit, Geometry, Run, Write, runs, touches, is_kept, is_written, kept_from, versions, IsWritten, StillShows, World, logged_commits}
 
 or_left : (x y : Bool) → x ≡ true → (x || y) ≡ true
 or_left true y e = refl

@@ -1,9 +1,6 @@
 -- A label is told by its key.
-use Rattle.std.proofs.Common.{◌≡◌, refl, ℕ, zero, suc, ◌^◌, ◌<◌, ◌≤◌, Bool, true, false, ◌&&◌, nat_le, List, [], ◌∷◌, length, drop, length-drop, arith, IsTrue}
-use Rattle.std.specs.List.{list_all}
-use Rattle.std.proofs.lemmas.Grind.{common_steps}
-use Rattle.std.proofs.Math.Nat.{pow-suc}
-use Rattle.iso_model.specs.Labels.{is_label, is_label_byte, key_of}
+use Rattle.iso_model.proofs.Words.{◌≡◌, refl, ℕ, zero, suc, ◌^◌, ◌<◌, ◌≤◌, Bool, true, false, ◌&&◌, nat_le, List, [], ◌∷◌, length, drop, arith, IsTrue, list_all, common_steps, pow-suc, is_label, is_label_byte, key_of}
+use Rattle.std.proofs.Common.{length-drop}
 
 both : (s t : Bool) → (s && t) ≡ true → (s ≡ true) × (t ≡ true)
 both true true h = (refl, refl)

@@ -1,18 +1,6 @@
 -- The steps of one transaction lead from a sound world to a sound one.
-use Rattle.std.proofs.Common.{◌≡◌, ◌-◌, Bool, true, false, ◌&&◌, ◌==◌, not, cond, length, Option, Some, None, nat_le, nat_lt, refl}
-use Rattle.std.specs.List.{AllByRecursion}
-use Rattle.std.proofs.lemmas.Bool.{leb-false, ltb-false, eqb-false}
-use Rattle.iso_model.specs.declared.access.Clash.{Clash}
-use Rattle.iso_model.specs.declared.access.Mode.{Mode}
+use Rattle.iso_model.proofs.Words.{◌≡◌, ◌-◌, Bool, true, false, ◌&&◌, ◌==◌, not, cond, length, Option, Some, None, nat_le, nat_lt, refl, AllByRecursion, leb-false, ltb-false, eqb-false, Clash, Mode, LAST, MAX_LIVE, clash, has_write, same_mode, last, after_leaving, begin_step, commit_step, end_step, need, World, Live, Place, used, AreApart, IsLive, IsPlace, IsWorld, LeadsTo}
 use Rattle.iso_model.specs.declared.core_reply.CoreReply.TheVariants as reply
-use Rattle.iso_model.specs.declared.limits.TheConstants.{LAST, MAX_LIVE}
-use Rattle.iso_model.specs.Conflict.{clash}
-use Rattle.iso_model.specs.Effect.{has_write}
-use Rattle.iso_model.specs.Geometry.{same_mode}
-use Rattle.iso_model.specs.History.{last}
-use Rattle.iso_model.specs.Step.{after_leaving, begin_step, commit_step, end_step, need}
-use Rattle.iso_model.specs.World.{World, Live, Place, used}
-use Rattle.iso_model.specs.Worlds.{AreApart, IsLive, IsPlace, IsWorld, LeadsTo}
 use Rattle.iso_model.proofs.Worlds.{begins, chosen, commits, leaves, may_have, stays}
 
 pub begin_leads : (W : World) (place : Place) (mode : Mode) → IsWorld W → IsPlace place → AllByRecursion (λ u. AreApart u.place place) W.live

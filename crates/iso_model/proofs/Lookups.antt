@@ -1,14 +1,5 @@
 -- Which value runs have at a byte.
-use Rattle.std.proofs.Common.{◌≡◌, ◌≢◌, ◌⊎◌, ◌∙◌, sym, refl, ap, ℕ, zero, suc, ◌+◌, ◌-◌, ◌<◌, ◌≤◌, Bool, true, false, ◌&&◌, ◌==◌, nat_le, nat_lt, cond, IsTrue, List, [], ◌∷◌, ◌++◌, length, get_or, Option, Some, None, arith, inl, inr, eq-eqb, ne_eqb}
-use Rattle.std.specs.List.{AllByRecursion, flat_map, range_with_len}
-use Rattle.std.proofs.lemmas.Bool.{cases_eq, cases_order, eqb-true}
-use Rattle.std.proofs.lemmas.Bool.Decides.{nat_tests}
-use Rattle.std.proofs.lemmas.Grind.{common_steps}
-use Rattle.iso_model.specs.declared.access.Access.{Access}
-use Rattle.iso_model.specs.declared.access.Geometry.{Geometry}
-use Rattle.iso_model.specs.declared.access.Run.{Run}
-use Rattle.iso_model.specs.Effect.{or_else, effect_at, effects_from, joined, runs_from, block_runs, runs}
-use Rattle.iso_model.specs.Premises.{in_run, value_of, value_in}
+use Rattle.iso_model.proofs.Words.{◌≡◌, ◌≢◌, ◌⊎◌, ◌∙◌, sym, refl, ap, ℕ, zero, suc, ◌+◌, ◌-◌, ◌<◌, ◌≤◌, Bool, true, false, ◌&&◌, ◌==◌, nat_le, nat_lt, cond, IsTrue, List, [], ◌∷◌, ◌++◌, length, get_or, Option, Some, None, arith, inl, inr, eq-eqb, ne_eqb, AllByRecursion, flat_map, range_with_len, cases_eq, cases_order, eqb-true, nat_tests, common_steps, Access, Geometry, Run, or_else, effect_at, effects_from, joined, runs_from, block_runs, runs, in_run, value_of, value_in}
 
 -- the runs stand in block b, from p on
 abbrev pub StandIn : (b p : ℕ) → List Run → Type 0

@@ -1,14 +1,5 @@
 -- A mark changes the last access alone.
-use Rattle.std.proofs.Common.{◌≡◌, ◌∙◌, refl, ap, ℕ, Bool, true, false, ◌&&◌, ◌||◌, ◌==◌, cond, List, [], ◌∷◌, ◌++◌, Option, Some, None, slice_index}
-use Rattle.std.specs.List.{list_any}
-use Rattle.std.proofs.lemmas.List.Folds.{list_any-append}
-use Rattle.iso_model.specs.declared.access.Access.{Access}
-use Rattle.iso_model.specs.declared.access.Span.{Span}
-use Rattle.iso_model.specs.Array.{covered, in_span}
-use Rattle.iso_model.specs.declared.access.Kind.TheVariants.{Write}
-use Rattle.iso_model.specs.Effect.{covers, effect_at, or_else}
-use Rattle.iso_model.specs.Marks.{marked}
-use Rattle.iso_model.specs.Step.{write_access}
+use Rattle.iso_model.proofs.Words.{◌≡◌, ◌∙◌, refl, ap, ℕ, Bool, true, false, ◌&&◌, ◌||◌, ◌==◌, cond, List, [], ◌∷◌, ◌++◌, Option, Some, None, slice_index, list_any, list_any-append, Access, Span, covered, in_span, Write, covers, effect_at, or_else, marked, write_access}
 
 pub marked_last : (span : Span) (accesses : List Access) (a : Access) → marked span (accesses ++ a ∷ []) ≡ accesses ++ record a { spans = a.spans ++ span ∷ [] } ∷ []
 marked_last span [] a = refl

@@ -1,12 +1,5 @@
 -- The runs of what a list writes are maximal, rising and in the array.
-use Rattle.std.proofs.Common.{◌≡◌, ◌∙◌, sym, ℕ, zero, suc, ◌+◌, ◌<◌, ◌≤◌, true, false, ◌==◌, List, [], ◌∷◌, ◌++◌, length, Option, Some, None, arith, inl, inr, eq-eqb, ne_eqb}
-use Rattle.std.specs.List.{AllByRecursion, flat_map, range_with_len}
-use Rattle.std.proofs.lemmas.Bool.{cases_eq}
-use Rattle.iso_model.specs.declared.access.Access.{Access}
-use Rattle.iso_model.specs.declared.access.Geometry.{Geometry}
-use Rattle.iso_model.specs.declared.access.Run.{Run}
-use Rattle.iso_model.specs.Effect.{effects_from, joined, runs_from, block_runs, runs}
-use Rattle.iso_model.specs.Image.{IsRun, AreRuns}
+use Rattle.iso_model.proofs.Words.{◌≡◌, ◌∙◌, sym, ℕ, zero, suc, ◌+◌, ◌<◌, ◌≤◌, true, false, ◌==◌, List, [], ◌∷◌, ◌++◌, length, Option, Some, None, arith, inl, inr, eq-eqb, ne_eqb, AllByRecursion, flat_map, range_with_len, cases_eq, Access, Geometry, Run, effects_from, joined, runs_from, block_runs, runs, IsRun, AreRuns}
 use Rattle.iso_model.proofs.Lookups.{StandIn, runs_stand, length-effects}
 
 -- the first run may be exchanged for one that begins earlier and ends where it does

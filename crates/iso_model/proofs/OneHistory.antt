@@ -1,19 +1,6 @@
 -- The bytes of an image tell one generation and one history.
-use Rattle.std.proofs.Common.{◌≡◌, ◌≢◌, ◌∙◌, sym, refl, ap, ℕ, ◌+◌, ◌-◌, ◌^◌, ◌<◌, ◌≤◌, cond, List, [], ◌∷◌, ◌++◌, length, get_or, take, drop, flat_map, arith, subst, append_assoc}
-use Rattle.std.specs.List.{AllByRecursion}
-use Rattle.std.specs.Int.{to_be_bytes, from_be_bytes, w16, w32, w64}
-use Rattle.std.proofs.lemmas.List.{length-append, length-take}
-use Rattle.std.proofs.lemmas.Nat.{from_be_bytes-to_be_bytes_2, from_be_bytes-to_be_bytes_4, from_be_bytes-to_be_bytes_8}
-use Rattle.std.proofs.lemmas.Option.{same_Some}
-use Rattle.iso_model.specs.declared.access.Geometry.{Geometry}
-use Rattle.iso_model.specs.declared.access.Mode.{Mode}
-use Rattle.iso_model.specs.declared.access.Mode.TheVariants.{Serial, Snapshot}
-use Rattle.iso_model.specs.declared.access.Run.{Run}
-use Rattle.iso_model.specs.declared.limits.TheConstants.{LAST}
-use Rattle.iso_model.specs.Geometry.{same_mode, log_place, base_place, header_place}
-use Rattle.iso_model.specs.History.{History}
-use Rattle.iso_model.specs.Image.{IsRun, AreRuns, IsRecord, IsImage, Written, commits_of, records, spell, part, kind_of, half_header, superblock, mode_byte, current_half, blocks_of}
-use Rattle.iso_model.specs.Premises.{Limits}
+use Rattle.iso_model.proofs.Words.{◌≡◌, ◌≢◌, ◌∙◌, sym, refl, ap, ℕ, ◌+◌, ◌-◌, ◌^◌, ◌<◌, ◌≤◌, cond, List, [], ◌∷◌, ◌++◌, length, get_or, take, drop, arith, subst, append_assoc, AllByRecursion, to_be_bytes, from_be_bytes, w16, w32, w64, length-append, length-take, from_be_bytes-to_be_bytes_2, from_be_bytes-to_be_bytes_4, from_be_bytes-to_be_bytes_8, same_Some, Geometry, Mode, Serial, Snapshot, Run, LAST, same_mode, log_place, base_place, header_place, History, IsRun, AreRuns, IsRecord, IsImage, Written, commits_of, records, spell, part, kind_of, half_header, superblock, mode_byte, current_half, blocks_of, Limits}
+use Rattle.std.proofs.Common.{flat_map}
 use Rattle.iso_model.proofs.Bounds.{limits}
 use Rattle.iso_model.proofs.Opened.{length-part}
 

@@ -1,27 +1,6 @@
 -- The history that an image holds is a sound one: the world that it opens to is sound.
-use Rattle.std.proofs.Common.{◌≡◌, ◌⊎◌, ◌∙◌, sym, refl, ap, ℕ, zero, suc, ◌+◌, ◌-◌, ◌*◌, ◌<◌, ◌≤◌, Bool, true, false, cond, List, [], ◌∷◌, ◌++◌, length, get_or, map, take, drop, slice_get, sum_by, flat_map, Some, nat_lt, arith, inl, inr, subst, true≢false}
-use Rattle.std.specs.List.{AllByRecursion}
-use Rattle.std.specs.Int.{to_be_bytes, w16, w32}
-use Rattle.std.proofs.lemmas.List.{length-append, length-take, length-drop, length-take-le}
-use Rattle.std.proofs.lemmas.List.Sums.{sum_by-cons}
-use Rattle.std.proofs.lemmas.Option.{none-some, same_Some}
-use Rattle.iso_model.specs.declared.access.Access.{Access}
-use Rattle.iso_model.specs.declared.access.Commit.{Commit}
-use Rattle.iso_model.specs.declared.access.Geometry.{Geometry}
-use Rattle.iso_model.specs.declared.access.Kind.TheVariants.{Read}
-use Rattle.iso_model.specs.declared.access.Mode.{Mode}
-use Rattle.iso_model.specs.declared.access.Mode.TheVariants.{Serial, Snapshot}
-use Rattle.iso_model.specs.declared.access.Run.{Run}
-use Rattle.iso_model.specs.declared.limits.TheConstants.{LAST}
-use Rattle.iso_model.specs.Array.{Array}
-use Rattle.iso_model.specs.Effect.{covers, runs, record_length}
-use Rattle.iso_model.specs.Geometry.{image_size, base_place, log_place}
-use Rattle.iso_model.specs.History.{History}
-use Rattle.iso_model.specs.Image.{AreRuns, IsRecord, IsImage, Written, written, commit_of, commits_of, records, spell, part, kind_of, blocks_of, chosen_half, recorded}
-use Rattle.iso_model.specs.Isolation.{IsIsolated, IsIsolatedAt}
-use Rattle.iso_model.specs.Premises.{block_at, AreAccesses, AreBytes}
-use Rattle.iso_model.specs.World.{used, fresh}
-use Rattle.iso_model.specs.Worlds.{IsWorld}
+use Rattle.iso_model.proofs.Words.{◌≡◌, ◌⊎◌, ◌∙◌, sym, refl, ap, ℕ, zero, suc, ◌+◌, ◌-◌, ◌*◌, ◌<◌, ◌≤◌, Bool, true, false, cond, List, [], ◌∷◌, ◌++◌, length, get_or, map, take, drop, slice_get, sum_by, Some, nat_lt, arith, inl, inr, subst, true≢false, AllByRecursion, to_be_bytes, w16, w32, length-append, length-take, length-drop, length-take-le, sum_by-cons, none-some, same_Some, Access, Commit, Geometry, Read, Mode, Serial, Snapshot, Run, LAST, Array, covers, runs, record_length, image_size, base_place, log_place, History, AreRuns, IsRecord, IsImage, Written, written, commit_of, commits_of, records, spell, part, kind_of, blocks_of, chosen_half, recorded, IsIsolated, IsIsolatedAt, block_at, AreAccesses, AreBytes, used, fresh, IsWorld}
+use Rattle.std.proofs.Common.{flat_map}
 use Rattle.iso_model.proofs.ByteLists.{no_bytes, bytes_back, bytes_drop, bytes_front, bytes_take}
 use Rattle.iso_model.proofs.Isolation.{if_some_from}
 use Rattle.iso_model.proofs.Unique.{runs_recorded}

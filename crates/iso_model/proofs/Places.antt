@@ -1,11 +1,5 @@
 -- Live transactions stay distinct where one of them changes its place.
-use Rattle.std.proofs.Common.{◌≡◌, ◌∙◌, sym, refl, ℕ, Bool, true, false, ◌==◌, cond, List, [], ◌∷◌, find, Some, None, bytes_eq}
-use Rattle.std.specs.List.{AllByRecursion}
-use Rattle.std.proofs.lemmas.Bool.{both_ways, eqb-true, eqb-false}
-use Rattle.std.proofs.lemmas.Option.{none-some}
-use Rattle.std.proofs.lemmas.Slice.Eq.{bytes_eq-Decides}
-use Rattle.iso_model.specs.World.{Live, Place, client, label, unattached, is_under_label, with}
-use Rattle.iso_model.specs.Worlds.{AreApart, AreTwo, AreDistinct}
+use Rattle.iso_model.proofs.Words.{◌≡◌, ◌∙◌, sym, refl, ℕ, Bool, true, false, ◌==◌, cond, List, [], ◌∷◌, find, Some, None, bytes_eq, AllByRecursion, both_ways, eqb-true, eqb-false, none-some, bytes_eq-Decides, Live, Place, client, label, unattached, is_under_label, with, AreApart, AreTwo, AreDistinct}
 
 apart_sym : (p q : Place) → AreApart p q → AreApart q p
 apart_sym (client c) (client d) apart = λ e. apart (sym e)

@@ -1,20 +1,5 @@
 -- The writes that a record stands for have the effect of those that it was made of.
-use Rattle.std.proofs.Common.{inl, inr, ◌≡◌, ◌∙◌, sym, refl, ap, ℕ, zero, suc, ◌+◌, ◌-◌, ◌<◌, ◌≤◌, Bool, true, false, ◌&&◌, ◌||◌, ◌==◌, nat_le, nat_lt, cond, IfSome, List, [], ◌∷◌, ◌++◌, length, get_or, map, take, replicate, Some, None, slice_get, unwrap_or, arith}
-use Rattle.std.specs.List.{AllByRecursion}
-use Rattle.std.proofs.lemmas.Bool.{cases_eq, and_parts, leb-true, ltb-true}
-use Rattle.std.proofs.lemmas.List.{length-replicate, length-append, get_or_append_left, get_or-append_right, ext_get_or}
-use Rattle.iso_model.specs.declared.access.Access.{Access}
-use Rattle.iso_model.specs.declared.access.Commit.{Commit}
-use Rattle.iso_model.specs.declared.access.Geometry.{Geometry}
-use Rattle.iso_model.specs.declared.access.Run.{Run}
-use Rattle.iso_model.specs.declared.access.Span.{Span}
-use Rattle.iso_model.specs.declared.access.Kind.TheVariants.{Write}
-use Rattle.iso_model.specs.Array.{Array, in_span, byte_at, put}
-use Rattle.iso_model.specs.Effect.{is_write, covers, or_else, effect_at, own, runs}
-use Rattle.iso_model.specs.History.{History, array_at, all_own}
-use Rattle.iso_model.specs.Image.{AreRuns, SameEffect, SameCommit, written, commits_of, recorded}
-use Rattle.iso_model.specs.Step.{put_access}
-use Rattle.iso_model.specs.Premises.{block_at, AreBytes, HasShape, HasBytes, AreAccesses, IsHistory, in_run, value_of, value_in}
+use Rattle.iso_model.proofs.Words.{inl, inr, ◌≡◌, ◌∙◌, sym, refl, ap, ℕ, zero, suc, ◌+◌, ◌-◌, ◌<◌, ◌≤◌, Bool, true, false, ◌&&◌, ◌||◌, ◌==◌, nat_le, nat_lt, cond, IfSome, List, [], ◌∷◌, ◌++◌, length, get_or, map, take, replicate, Some, None, slice_get, unwrap_or, arith, AllByRecursion, cases_eq, and_parts, leb-true, ltb-true, length-replicate, length-append, get_or_append_left, get_or-append_right, ext_get_or, Access, Commit, Geometry, Run, Span, Write, Array, in_span, byte_at, put, is_write, covers, or_else, effect_at, own, runs, History, array_at, all_own, AreRuns, SameEffect, SameCommit, written, commits_of, recorded, put_access, block_at, AreBytes, HasShape, HasBytes, AreAccesses, IsHistory, in_run, value_of, value_in}
 use Rattle.iso_model.proofs.ByteLists.{merged_bytes}
 use Rattle.iso_model.proofs.Bytes.{written_block, other_block, own_at, length-own, length-block_own}
 use Rattle.iso_model.proofs.Lookups.{value_runs}

@@ -1,23 +1,6 @@
 -- Worked examples of the definitions on a small image, by computation.
-use Rattle.std.specs.Prelude.{◌≡◌, ℕ, ◌-◌, ◌^◌, List, [], ◌∷◌, ◌++◌, None, Some, refl, codes, map, take, slice_index_or, replicate, Option, true, false, filter, option_map}
-use Rattle.std.specs.Fmt.{digits}
-use Rattle.iso_model.specs.declared.access.Access.{Access}
-use Rattle.iso_model.specs.declared.access.Commit.{Commit}
-use Rattle.iso_model.specs.declared.access.Geometry.{Geometry}
-use Rattle.iso_model.specs.declared.access.Mode.{Mode}
-use Rattle.iso_model.specs.declared.access.Mode.TheVariants.{Serial, Snapshot}
-use Rattle.iso_model.specs.declared.access.Kind.TheVariants.{Read}
-use Rattle.iso_model.specs.declared.access.Clash.{Clash}
-use Rattle.iso_model.specs.declared.limits.TheConstants.{LAST}
-use Rattle.iso_model.specs.Array.{put, zeros}
-use Rattle.iso_model.specs.Geometry.{image_size, log_place, is_block_size, is_valid}
-use Rattle.iso_model.specs.History.{History, array_at}
-use Rattle.iso_model.specs.Conflict.{clash}
-use Rattle.iso_model.specs.Effect.{runs}
-use Rattle.iso_model.specs.Image.{superblock, half_header, spell, chosen_half}
-use Rattle.iso_model.specs.Step.{put_access, read_access}
-use Rattle.iso_model.specs.Labels.{is_label}
-use Rattle.iso_model.specs.World.{World, Live, Place, client, label, unattached, attached, floor, fresh}
+use Rattle.iso_model.proofs.Words.{codes, slice_index_or, digits, Access, Commit, Geometry, Mode, Serial, Snapshot, Read, Clash, LAST, put, zeros, image_size, log_place, is_block_size, is_valid, History, array_at, clash, runs, superblock, half_header, spell, chosen_half, put_access, read_access, is_label, World, Live, Place, client, label, unattached, attached, floor, fresh}
+use Rattle.std.specs.Prelude.{◌≡◌, ℕ, ◌-◌, ◌^◌, List, [], ◌∷◌, ◌++◌, None, Some, refl, map, take, replicate, Option, true, false, filter, option_map}
 
 -- blocks of 64 bytes, 4 of them, and a log of 256
 abbrev pub small : Geometry

@@ -1,17 +1,5 @@
 -- What the definitions refuse: histories that are not isolated, and images that show something else.
-use Rattle.std.proofs.Common.{◌≡◌, ◌∙◌, sym, refl, ap, subst, ℕ, zero, suc, ◌-◌, ◌<◌, ◌≤◌, List, [], ◌∷◌, IfSome, slice_get, arith}
-use Rattle.iso_model.specs.declared.access.Commit.{Commit}
-use Rattle.iso_model.specs.declared.access.Geometry.{Geometry}
-use Rattle.iso_model.specs.declared.access.Mode.{Mode}
-use Rattle.iso_model.specs.declared.access.Mode.TheVariants.{Serial, Snapshot}
-use Rattle.iso_model.specs.Array.{put, zeros}
-use Rattle.iso_model.specs.Conflict.{IsSerialAt, IsSnapshotAt}
-use Rattle.iso_model.specs.History.{History, array_at, last}
-use Rattle.iso_model.specs.Image.{IsImage, SameCommit, Shows, mode_byte}
-use Rattle.iso_model.specs.Isolation.{IsIsolated}
-use Rattle.iso_model.specs.Step.{put_access, read_access}
-use Rattle.iso_model.specs.World.{Live, Place, client, label}
-use Rattle.iso_model.specs.Worlds.{AreDistinct}
+use Rattle.iso_model.proofs.Words.{◌≡◌, ◌∙◌, sym, refl, ap, subst, ℕ, zero, suc, ◌-◌, ◌<◌, ◌≤◌, List, [], ◌∷◌, IfSome, slice_get, arith, Commit, Geometry, Mode, Serial, Snapshot, put, zeros, IsSerialAt, IsSnapshotAt, History, array_at, last, IsImage, SameCommit, Shows, mode_byte, IsIsolated, put_access, read_access, Live, Place, client, label, AreDistinct}
 use Rattle.iso_model.proofs.OneHistory.{image_tells_one}
 use Rattle.iso_model.proofs.Rows.{small}
 

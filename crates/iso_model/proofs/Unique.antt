@@ -1,16 +1,5 @@
 -- Runs are told apart by the bytes that they have.
-use Rattle.std.proofs.Common.{◌≡◌, ◌⊎◌, ◌∙◌, sym, refl, ap, ℕ, ◌+◌, ◌-◌, ◌<◌, ◌≤◌, Bool, true, false, ◌&&◌, ◌==◌, nat_le, nat_lt, List, [], ◌∷◌, length, get_or, Some, None, arith, inl, inr, eq-eqb, ne_eqb, subst}
-use Rattle.std.specs.List.{AllByRecursion}
-use Rattle.std.proofs.lemmas.Bool.{cases_Bool, and_from, and_parts, cases_order, eqb-true, ltb-true}
-use Rattle.std.proofs.lemmas.Option.{none-some, same_Some}
-use Rattle.std.proofs.lemmas.Bool.Decides.{nat_tests}
-use Rattle.std.proofs.lemmas.List.{ext_get_or}
-use Rattle.iso_model.specs.declared.access.Geometry.{Geometry}
-use Rattle.iso_model.specs.declared.access.Run.{Run}
-use Rattle.iso_model.specs.Array.{in_span}
-use Rattle.iso_model.specs.Effect.{or_else, runs}
-use Rattle.iso_model.specs.Image.{IsRun, AreRuns, recorded}
-use Rattle.iso_model.specs.Premises.{in_run, value_of, value_in}
+use Rattle.iso_model.proofs.Words.{◌≡◌, ◌⊎◌, ◌∙◌, sym, refl, ap, ℕ, ◌+◌, ◌-◌, ◌<◌, ◌≤◌, Bool, true, false, ◌&&◌, ◌==◌, nat_le, nat_lt, List, [], ◌∷◌, length, get_or, Some, None, arith, inl, inr, eq-eqb, ne_eqb, subst, AllByRecursion, cases_Bool, and_from, and_parts, cases_order, eqb-true, ltb-true, none-some, same_Some, nat_tests, ext_get_or, Geometry, Run, in_span, or_else, runs, IsRun, AreRuns, recorded, in_run, value_of, value_in}
 use Rattle.iso_model.proofs.Lookups.{value_runs, or_else_none, value_of_within, value_of_outside}
 use Rattle.iso_model.proofs.Maximal.{are_runs}
 use Rattle.iso_model.proofs.Recorded.{effect_recorded}

@@ -1,25 +1,6 @@
 -- What leads from one sound world to another.
-use Rattle.std.proofs.Common.{◌≡◌, ◌≢◌, ◌∙◌, sym, refl, ap, ℕ, ◌+◌, ◌-◌, ◌<◌, ◌≤◌, Bool, true, false, ◌&&◌, ◌==◌, not, cond, List, [], ◌∷◌, ◌++◌, length, filter, drop, Some, None, sum_by, arith, eq-eqb, subst}
-use Rattle.std.specs.List.{AllByRecursion}
-use Rattle.std.proofs.lemmas.Bool.{eqb-false}
-use Rattle.std.proofs.lemmas.List.{append_assoc, append-nil, length-append, length_push, drop-append-le, drop-drop}
-use Rattle.std.proofs.lemmas.List.Sums.{sum_by-append, sum_by-take-drop}
-use Rattle.iso_model.specs.declared.access.Access.{Access}
-use Rattle.iso_model.specs.declared.access.Commit.{Commit}
-use Rattle.iso_model.specs.declared.access.Geometry.{Geometry}
-use Rattle.iso_model.specs.declared.access.Mode.{Mode}
-use Rattle.iso_model.specs.declared.access.Mode.TheVariants.{Serial, Snapshot}
-use Rattle.iso_model.specs.declared.limits.TheConstants.{LAST, MAX_ACCESSES, MAX_LIVE}
-use Rattle.iso_model.specs.declared.core_reply.CoreReply.{CoreReply}
-use Rattle.iso_model.specs.Conflict.{clash}
-use Rattle.iso_model.specs.Effect.{has_write, runs, record_length}
-use Rattle.iso_model.specs.Geometry.{same_mode}
-use Rattle.iso_model.specs.History.{History, last}
-use Rattle.iso_model.specs.Image.{IsRecord, written}
-use Rattle.iso_model.specs.Premises.{AreAccesses}
-use Rattle.iso_model.specs.Step.{switch_step, with_accesses, placed, after_leaving, after_commit, after_begin, after_trim, need, commit_from}
-use Rattle.iso_model.specs.World.{World, Live, Place, client, used, fresh, attached, floor, without, with, is_at_client}
-use Rattle.iso_model.specs.Worlds.{MayHave, IsLive, AreRecords, AreApart, AreTwo, AreDistinct, IsPlace, Extends, KeepsGeometry, IsWorld, LeadsTo}
+use Rattle.iso_model.proofs.Words.{◌≡◌, ◌≢◌, ◌∙◌, sym, refl, ap, ℕ, ◌+◌, ◌-◌, ◌<◌, ◌≤◌, Bool, true, false, ◌&&◌, ◌==◌, not, cond, List, [], ◌∷◌, ◌++◌, length, filter, drop, Some, None, sum_by, arith, eq-eqb, subst, AllByRecursion, eqb-false, length-append, length_push, drop-append-le, drop-drop, sum_by-append, sum_by-take-drop, Access, Commit, Geometry, Mode, Serial, Snapshot, LAST, MAX_ACCESSES, MAX_LIVE, CoreReply, clash, has_write, runs, record_length, same_mode, History, last, IsRecord, written, AreAccesses, switch_step, with_accesses, placed, after_leaving, after_commit, after_begin, after_trim, need, commit_from, World, Live, Place, client, used, fresh, attached, floor, without, with, is_at_client, MayHave, IsLive, AreRecords, AreApart, AreTwo, AreDistinct, IsPlace, Extends, KeepsGeometry, IsWorld, LeadsTo}
+use Rattle.std.proofs.lemmas.List.{append_assoc, append-nil}
 use Rattle.iso_model.proofs.Bounds.{limits}
 use Rattle.iso_model.proofs.Distinct.{all_filter, all_find, length-filter, distinct_filter, distinct_push, distinct_with, length-with}
 use Rattle.iso_model.proofs.Floors.{floor_above, floor_below, floor_under}

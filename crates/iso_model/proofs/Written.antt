@@ -1,17 +1,5 @@
 -- A list has a write exactly where it has runs.
-use Rattle.std.proofs.Common.{◌≡◌, ◌∙◌, sym, refl, ap, ℕ, ◌-◌, ◌<◌, true, cond, List, [], ◌∷◌, length, get_or, Option, Some, None, is_some, arith, inl, inr, eq-eqb}
-use Rattle.std.specs.List.{AllByRecursion, list_any}
-use Rattle.std.proofs.lemmas.Bool.{or_cases, or_left, or_right, and_from, and_parts}
-use Rattle.std.proofs.lemmas.Bool.Decides.{nat_tests}
-use Rattle.iso_model.specs.declared.access.Access.{Access}
-use Rattle.iso_model.specs.declared.access.Geometry.{Geometry}
-use Rattle.iso_model.specs.declared.access.Run.{Run}
-use Rattle.iso_model.specs.declared.access.Span.{Span}
-use Rattle.iso_model.specs.declared.access.Kind.TheVariants.{Write}
-use Rattle.iso_model.specs.Array.{covered, in_span}
-use Rattle.iso_model.specs.Effect.{is_write, has_write, covers, touches, or_else, runs}
-use Rattle.iso_model.specs.Image.{IsRun, AreRuns}
-use Rattle.iso_model.specs.Premises.{IsSpan, AreAccesses, in_run, value_in}
+use Rattle.iso_model.proofs.Words.{◌≡◌, ◌∙◌, sym, refl, ap, ℕ, ◌-◌, ◌<◌, true, cond, List, [], ◌∷◌, length, get_or, Option, Some, None, is_some, arith, inl, inr, eq-eqb, AllByRecursion, list_any, or_cases, or_left, or_right, and_from, and_parts, nat_tests, Access, Geometry, Run, Span, Write, covered, in_span, is_write, has_write, covers, touches, or_else, runs, IsRun, AreRuns, IsSpan, AreAccesses, in_run, value_in}
 use Rattle.iso_model.proofs.Bytes.{touches_where_effect}
 use Rattle.iso_model.proofs.Lookups.{value_runs}
 use Rattle.iso_model.proofs.Maximal.{are_runs}

@@ -1,23 +1,7 @@
 -- The front of an image: what the image is refused for up to its log, and what it says.
-use Rattle.std.proofs.Common.{◌≡◌, ◌<◌, ◌≤◌, ◌+◌, ◌==◌, ℕ, Bool, true, false, List, length, take, drop, cond, Option, Some, None, Result, Ok, Err, IfOk, IfErr, refl, sym, ◌∙◌, ap, arith, subst}
-use Rattle.std.proofs.lemmas.Bool.{le-ltb, lt-ltb, eq-eqb}
-use Rattle.std.proofs.lemmas.Option.{none-some}
-use Rattle.iso_model.specs.declared.access.Geometry.{Geometry}
-use Rattle.iso_model.specs.Effect.{or_else}
-use Rattle.iso_model.specs.Geometry.{half_size, header_place, image_size, log_place}
-use Rattle.iso_model.specs.Image.{current_half, superblock}
-use Rattle.iso_disk.specs.Disk.{DiskState, IsLawful}
-use Rattle.iso_disk.proofs.Images.{length-contents}
-use Rattle.iso_format.specs.declared.superblock.SuperError.{SuperError}
+use Rattle.iso_recover.proofs.Words.{◌≡◌, ◌<◌, ◌≤◌, ◌+◌, ◌==◌, ℕ, Bool, true, false, List, length, take, drop, cond, Option, Some, None, Result, Ok, Err, IfOk, IfErr, refl, sym, ◌∙◌, ap, arith, subst, le-ltb, lt-ltb, none-some, Geometry, or_else, half_size, header_place, image_size, log_place, current_half, superblock, DiskState, IsLawful, length-contents, SuperError, half_of, super_of, OpenError, NotIsotope, WrongSize, Disk, body_refusal, half_refusal, header_at, header_refusal, log_at, log_refusal, refusal, super_form, Front, IsTest, HasFront, IsFront, IsFrontOf, chosen_by, halves_refusal, header_of, super_refusal}
+use Rattle.std.proofs.lemmas.Bool.{eq-eqb}
 use Rattle.iso_format.specs.declared.superblock.SuperError.TheVariants as super
-use Rattle.iso_format.specs.Reading.{half_of, super_of}
-use Rattle.iso_refusal.specs.declared.open_error.OpenError.{OpenError}
-use Rattle.iso_refusal.specs.declared.open_error.OpenError.TheVariants.{NotIsotope, WrongSize, Disk}
-use Rattle.iso_refusal.specs.Refusal.{body_refusal, half_refusal, header_at, header_refusal, log_at, log_refusal, refusal}
-use Rattle.iso_refusal.proofs.HeaderLaws.{super_form}
-use Rattle.iso_recover.specs.declared.front.Front.{Front}
-use Rattle.iso_recover.specs.Cause.{IsTest}
-use Rattle.iso_recover.specs.Front.{HasFront, IsFront, IsFrontOf, chosen_by, halves_refusal, header_of, super_refusal}
 use Rattle.iso_recover.proofs.Headers.{chosen_is, current_is, header_there}
 
 -- ---- the superblock

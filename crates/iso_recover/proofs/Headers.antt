@@ -1,19 +1,5 @@
 -- The headers of both halves, as they are read and as they stand in an image.
-use Rattle.std.proofs.Common.{◌≡◌, ◌⊎◌, inl, inr, ◌<◌, ◌≤◌, ◌+◌, ◌==◌, ℕ, zero, suc, List, length, take, drop, get_or, not, nat_lt, Bool, true, false, cond, Option, Some, None, option_map, IsTrue, refl, ◌∙◌, ap, arith, subst}
-use Rattle.std.specs.Int.{from_be_bytes, w64}
-use Rattle.std.proofs.lemmas.List.{get_or-take, get_or-drop, drop-take, take-take, drop-drop, length-take}
-use Rattle.std.proofs.lemmas.Bool.{eqb-true}
-use Rattle.std.proofs.lemmas.List.Quantifiers.{position-Some}
-use Rattle.std.proofs.lemmas.Option.{same_Some, none-some}
-use Rattle.iso_model.specs.declared.access.Geometry.{Geometry}
-use Rattle.iso_model.specs.Effect.{or_else}
-use Rattle.iso_model.specs.Geometry.{header_place, is_valid}
-use Rattle.iso_model.specs.Image.{chosen_half, current_half, generation_at, is_open_at}
-use Rattle.iso_model.specs.Premises.{AreBytes}
-use Rattle.iso_format.specs.Reading.{first_not_zero, half_of, unclean_place}
-use Rattle.iso_refusal.specs.Refusal.{header_at, header_refusal}
-use Rattle.iso_refusal.proofs.HeaderLaws.{unrefused_header, valid_form}
-use Rattle.iso_recover.specs.Front.{IsSaid, chosen_by, front_said, header_of}
+use Rattle.iso_recover.proofs.Words.{◌≡◌, ◌⊎◌, inl, inr, ◌<◌, ◌≤◌, ◌+◌, ◌==◌, ℕ, zero, suc, List, length, take, drop, get_or, not, nat_lt, Bool, true, false, cond, Option, Some, None, option_map, IsTrue, refl, ◌∙◌, ap, arith, subst, from_be_bytes, w64, get_or-take, get_or-drop, drop-take, take-take, drop-drop, length-take, eqb-true, position-Some, same_Some, none-some, Geometry, or_else, header_place, is_valid, chosen_half, current_half, generation_at, is_open_at, AreBytes, first_not_zero, half_of, unclean_place, header_at, header_refusal, unrefused_header, valid_form, IsSaid, chosen_by, front_said, header_of}
 
 -- ---- one header
 

@@ -1,14 +1,6 @@
 -- What the calls that make an image leave of a blank disk.
-use Rattle.std.proofs.Common.{◌≡◌, ◌⊎◌, inl, inr, ◌≤◌, ◌+◌, ◌-◌, ℕ, suc, List, [], ◌∷◌, ◌++◌, length, take, drop, replicate, get_or, Option, Some, None, refl, sym, ◌∙◌, ap, arith, length-append, append_assoc, take-append-drop}
+use Rattle.iso_recover.proofs.Words.{◌≡◌, ◌⊎◌, inl, inr, ◌≤◌, ◌+◌, ◌-◌, ℕ, suc, List, [], ◌∷◌, ◌++◌, length, take, drop, replicate, get_or, Option, Some, None, refl, sym, ◌∙◌, ap, arith, length-append, append_assoc, take-append-drop, cases_eq, drop-replicate, get_or-replicate, take_at, drop_at, drop_more, drop-drop, drop_all, same_Some, none-some, DiskState, IsLawful, IsSettled, Elapses, LeavesOnly, Splices, Torn, TornFrom, spliced, at_end, goes_on, get_or-torn, torn_whole, IsClosed, fronted, staged}
 use Rattle.std.specs.Option.{option_map}
-use Rattle.std.proofs.lemmas.Bool.{cases_eq}
-use Rattle.std.proofs.lemmas.List.{drop-replicate, get_or-replicate, take_at, drop_at, drop_more, drop-drop, drop_all}
-use Rattle.std.proofs.lemmas.Option.{same_Some, none-some}
-use Rattle.iso_disk.specs.Disk.{DiskState, IsLawful, IsSettled, Elapses, LeavesOnly, Splices, Torn, TornFrom, spliced}
-use Rattle.iso_disk.proofs.Moments.{at_end, goes_on}
-use Rattle.iso_disk.proofs.Bytes.{get_or-torn, torn_whole}
-use Rattle.commit_gate.specs.Gate.{IsClosed}
-use Rattle.iso_recover.specs.Made.{fronted, staged}
 
 -- ---- one image
 

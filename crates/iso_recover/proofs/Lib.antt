@@ -1,3 +1,4 @@
+pub mod Words
 pub mod Laid
 pub mod Whole
 pub mod Making

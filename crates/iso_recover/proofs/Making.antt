@@ -1,20 +1,7 @@
 -- An image in the making: refused, or empty.
-use Rattle.std.proofs.Common.{◌≡◌, ◌⊎◌, inl, inr, ◌-◌, ◌&&◌, ℕ, List, [], ◌∷◌, ◌++◌, length, take, replicate, get_or, nat_lt, Bool, true, false, cond, Some, Err, IsTrue, refl, sym, ◌∙◌, ap, arith, subst, ne_eqb}
-use Rattle.std.proofs.lemmas.List.{get_or-take}
-use Rattle.iso_model.specs.declared.access.Geometry.{Geometry}
-use Rattle.iso_model.specs.Geometry.{image_size, is_valid}
-use Rattle.iso_model.specs.Image.{half_header, superblock}
-use Rattle.iso_model.specs.World.{empty_history}
-use Rattle.iso_disk.specs.Disk.{DiskState, IsLawful, LeavesOnly, Torn, TornFrom, spliced}
-use Rattle.iso_disk.proofs.Images.{length-image}
-use Rattle.iso_disk.proofs.Moments.{at_end, joined, weakened}
-use Rattle.commit_gate.specs.Gate.{IsClosed, IsOpen}
+use Rattle.iso_recover.proofs.Words.{◌≡◌, ◌⊎◌, inl, inr, ◌-◌, ◌&&◌, ℕ, List, [], ◌∷◌, ◌++◌, length, take, replicate, get_or, nat_lt, Bool, true, false, cond, Some, Err, IsTrue, refl, sym, ◌∙◌, ap, arith, subst, ne_eqb, get_or-take, Geometry, image_size, is_valid, half_header, superblock, empty_history, DiskState, IsLawful, LeavesOnly, Torn, TornFrom, spliced, length-image, at_end, joined, weakened, IsClosed, IsOpen, super_of, IsHeld, NotIsotope, body_refusal, refusal, HoldsNothing, IsUnmade, IsUnmadeOrEmpty, new_image, staged}
 use Rattle.iso_format.specs.declared.superblock.SuperError.TheVariants as super
-use Rattle.iso_format.specs.Reading.{super_of}
-use Rattle.iso_image.specs.Half.{IsHeld, half_of}
-use Rattle.iso_refusal.specs.declared.open_error.OpenError.TheVariants.{NotIsotope}
-use Rattle.iso_refusal.specs.Refusal.{body_refusal, refusal}
-use Rattle.iso_recover.specs.Made.{HoldsNothing, IsUnmade, IsUnmadeOrEmpty, new_image, staged}
+use Rattle.iso_image.specs.Half.{half_of}
 use Rattle.iso_recover.proofs.Laid.{block_is, gate_written, opened_is}
 use Rattle.iso_recover.proofs.Whole.{length-super, new_held, super_open}
 

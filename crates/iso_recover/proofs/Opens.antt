@@ -1,36 +1,7 @@
 -- What an image is opened to.
-use Rattle.std.proofs.Common.{◌≡◌, ◌⊎◌, inl, inr, ◌≤◌, ◌+◌, ◌-◌, ℕ, List, length, take, drop, map, Option, Some, None, Ok, IsErrOf, IsTrue, refl, sym, ◌∙◌, ap, arith, subst}
-use Rattle.std.specs.List.{AllByRecursion}
-use Rattle.std.specs.Option.{ForSome}
-use Rattle.iso_model.specs.declared.access.Geometry.{Geometry}
-use Rattle.iso_model.specs.declared.limits.TheConstants.{LAST}
-use Rattle.iso_model.specs.Array.{Array, zeros}
-use Rattle.iso_model.specs.Geometry.{base_place, header_place, image_size, is_valid, log_place}
-use Rattle.iso_model.specs.History.{History, all_own}
-use Rattle.iso_model.specs.Image.{IsRecord, Written, blocks_of, commits_of, half_header, written}
-use Rattle.iso_model.specs.World.{empty_history, fresh}
-use Rattle.iso_model.specs.Worlds.{IsWorld}
-use Rattle.iso_model.proofs.Bounds.{limits}
-use Rattle.iso_model.proofs.FreshWorlds.{empty_world_is}
-use Rattle.iso_model.proofs.Opened.{opened_is, told_again}
-use Rattle.iso_disk.specs.Disk.{DiskState, IsLawful, IsSettled}
-use Rattle.iso_disk.proofs.Images.{length-contents}
-use Rattle.iso_core.specs.declared.opening.Opened.{Opened}
-use Rattle.iso_format.specs.Spelled.{Spelled}
-use Rattle.iso_image.specs.Half.{Half, HasLog, IsHeld, half_of_world}
-use Rattle.iso_log.specs.Extent.{Extent, extent_of}
-use Rattle.iso_refusal.specs.declared.open_error.OpenError.{OpenError}
-use Rattle.iso_refusal.specs.declared.open_error.OpenError.TheVariants.{Disk}
-use Rattle.iso_refusal.proofs.ImageLaws.{image_opens}
-use Rattle.iso_recover.specs.declared.front.Front.{Front}
-use Rattle.iso_recover.specs.Front.{HasFront, IsFront}
-use Rattle.iso_recover.specs.Made.{HoldsNothing}
-use Rattle.iso_recover.specs.Opened.{IsNew, IsOpened, opened_of}
-use Rattle.iso_recover.specs.Scanned.{HasRead, read_bytes}
+use Rattle.iso_recover.proofs.Words.{◌≡◌, ◌⊎◌, inl, inr, ◌≤◌, ◌+◌, ◌-◌, ℕ, List, length, take, drop, map, Option, Some, None, Ok, IsErrOf, IsTrue, refl, sym, ◌∙◌, ap, arith, subst, AllByRecursion, ForSome, Geometry, LAST, Array, zeros, base_place, header_place, image_size, is_valid, log_place, History, all_own, IsRecord, Written, blocks_of, commits_of, half_header, written, empty_history, fresh, IsWorld, limits, empty_world_is, opened_is, told_again, DiskState, IsLawful, IsSettled, length-contents, Opened, Spelled, Half, HasLog, IsHeld, half_of_world, Extent, extent_of, OpenError, Disk, image_opens, Front, HasFront, IsFront, HoldsNothing, IsNew, IsOpened, opened_of, HasRead, read_bytes, IsIndexOf, BlockVersions}
 use Rattle.iso_recover.proofs.Values.{whole_bytes}
 use Rattle.iso_recover.proofs.Whole.{whole_held}
-use Rattle.mv_index.specs.Placed.{IsIndexOf}
-use Rattle.mv_index.specs.Versions.{BlockVersions}
 
 -- the history over this base whose commits these records tell
 abbrev pub told_history : Front → Array → List Written → History

@@ -1,20 +1,5 @@
 -- What an image shows is what it opens to.
-use Rattle.std.proofs.Common.{◌≡◌, ◌+◌, ◌≤◌, ℕ, List, Some, sym, ◌∙◌, arith}
-use Rattle.std.proofs.Math.Path.{transport}
-use Rattle.std.proofs.lemmas.Option.{none-some}
-use Rattle.iso_model.specs.declared.access.Geometry.{Geometry}
-use Rattle.iso_model.specs.History.{History}
-use Rattle.iso_model.specs.Image.{IsImage, Shows}
-use Rattle.iso_model.specs.World.{fresh}
-use Rattle.iso_model.proofs.OneHistory.{image_tells_one}
-use Rattle.iso_core.specs.declared.core_itself.Core.{Core}
-use Rattle.iso_core.specs.Core.{StandsFor}
-use Rattle.iso_core.specs.Standing.{up}
-use Rattle.iso_disk.specs.Disk.{DiskState}
-use Rattle.iso_refusal.specs.declared.open_error.OpenError.{OpenError}
-use Rattle.iso_refusal.specs.Refusal.{refusal}
-use Rattle.iso_refusal.proofs.ImageLaws.{image_opens}
-use Rattle.iso_recover.specs.Opened.{HasReopened}
+use Rattle.iso_recover.proofs.Words.{◌≡◌, ◌+◌, ◌≤◌, ℕ, List, Some, sym, ◌∙◌, arith, transport, none-some, Geometry, History, IsImage, Shows, fresh, image_tells_one, Core, StandsFor, up, DiskState, OpenError, refusal, image_opens, HasReopened}
 
 pub reopened : {D : Type 0} (state : D → DiskState) (core : Core D) (bytes : List ℕ) (g h : Geometry) (generation : ℕ) (H history : History) (p : ℕ) → StandsFor state core (fresh h generation history) up
     → IsImage bytes h generation history → Shows bytes g H p → HasReopened state core g H p

@@ -1,35 +1,6 @@
 -- The records of a log as they are read one by one.
-use Rattle.std.proofs.Common.{◌≡◌, ◌<◌, ◌≤◌, ◌+◌, ◌-◌, ◌^◌, ℕ, List, [], ◌∷◌, ◌++◌, length, take, drop, get_or, map, Some, Err, IsErrOf, IsTrue, refl, sym, ◌∙◌, ap, arith, length-append, length-drop, subst}
-use Rattle.std.proofs.lemmas.List.{append-nil, drop-drop, drop-take, get_or-drop, get_or-take, length-take, length_push, take-take, take_at}
-use Rattle.iso_model.specs.declared.access.Geometry.{Geometry}
-use Rattle.iso_model.specs.declared.limits.TheConstants.{LAST}
-use Rattle.iso_model.specs.Geometry.{is_valid, log_place}
-use Rattle.iso_model.specs.Image.{IsRecord, Written, kind_of, spell}
-use Rattle.iso_model.specs.Premises.{AreBytes}
-use Rattle.iso_model.proofs.Bounds.{limits}
-use Rattle.iso_model.proofs.ByteLists.{bytes_append, bytes_front, no_bytes}
-use Rattle.iso_model.proofs.Growth.{all_push}
-use Rattle.commit_gate.specs.Gate.{IsClosed}
-use Rattle.iso_format.specs.Records.{fault_of, record_window}
-use Rattle.iso_format.proofs.Parts.{length-spell}
-use Rattle.iso_format.proofs.Windows.{window_front}
-use Rattle.iso_image.specs.Half.{HasLog}
-use Rattle.iso_image.proofs.Logs.{has_log, records-append, take-plus}
-use Rattle.iso_log.specs.declared.log_error.LogError.{LogError}
+use Rattle.iso_recover.proofs.Words.{◌≡◌, ◌<◌, ◌≤◌, ◌+◌, ◌-◌, ◌^◌, ℕ, List, [], ◌∷◌, ◌++◌, length, take, drop, get_or, map, Some, Err, IsErrOf, IsTrue, refl, sym, ◌∙◌, ap, arith, length-append, length-drop, subst, append-nil, drop-drop, drop-take, get_or-drop, get_or-take, length-take, length_push, take-take, take_at, Geometry, LAST, is_valid, log_place, IsRecord, Written, kind_of, spell, AreBytes, limits, bytes_append, bytes_front, no_bytes, all_push, IsClosed, fault_of, record_window, length-spell, window_front, HasLog, has_log, records-append, take-plus, LogError, Extent, next_place, IsDamaged, IsFirst, IsTaken, StandAt, window_is, OpenError, damaged, log_at, log_refusal, record_bytes, told_first, failed, passed, Front, IsTest, opening, IsFront, BeginsLog, HasRead, IsDamagedBy, read_bytes, BlockVersions, versions_in, HasTaken, part_of, index_more}
 use Rattle.iso_log.specs.declared.log_error.LogError.TheVariants as log
-use Rattle.iso_log.specs.Extent.{Extent, next_place}
-use Rattle.iso_log.specs.Scan.{IsDamaged, IsFirst, IsTaken, StandAt}
-use Rattle.iso_log.proofs.Counts.{window_is}
-use Rattle.iso_refusal.specs.declared.open_error.OpenError.{OpenError}
-use Rattle.iso_refusal.specs.Refusal.{damaged, log_at, log_refusal, record_bytes, told_first}
-use Rattle.iso_refusal.proofs.ScanLaws.{failed, passed}
-use Rattle.iso_recover.specs.declared.front.Front.{Front}
-use Rattle.iso_recover.specs.Cause.{IsTest, opening}
-use Rattle.iso_recover.specs.Front.{IsFront}
-use Rattle.iso_recover.specs.Scanned.{BeginsLog, HasRead, IsDamagedBy, read_bytes}
-use Rattle.mv_index.specs.Versions.{BlockVersions, versions_in}
-use Rattle.version_read.specs.Parts.{HasTaken, part_of}
-use Rattle.version_read.proofs.Following.{index_more}
 
 -- ---- the errors of a scan
 

@@ -1,33 +1,6 @@
 -- A log that is read record by record: what holds before each.
-use Rattle.std.proofs.Common.{◌≡◌, ◌<◌, ◌≤◌, ◌+◌, ◌-◌, ◌^◌, ℕ, List, [], ◌∷◌, ◌++◌, length, map, Some, Result, Ok, Err, IsErrOf, refl, sym, ◌∙◌, ap, arith, subst}
-use Rattle.std.specs.Option.{ForSome}
-use Rattle.std.proofs.lemmas.List.{length-map}
-use Rattle.iso_model.specs.declared.limits.TheConstants.{LAST}
-use Rattle.iso_model.specs.Geometry.{image_size, log_place}
-use Rattle.iso_model.specs.Image.{Written}
-use Rattle.iso_model.specs.Premises.{AreBytes}
-use Rattle.iso_model.proofs.Bounds.{limits}
-use Rattle.fault_count.specs.Count.{Rose}
-use Rattle.iso_disk.specs.Disk.{DiskState, IsLawful, WritesNothing}
-use Rattle.iso_disk.proofs.Images.{length-contents}
-use Rattle.iso_disk.proofs.Moments.{joined_unwritten, starts_unwritten}
-use Rattle.commit_gate.specs.Gate.{IsClosed}
-use Rattle.iso_image.specs.Half.{HasLog, MayFollow}
-use Rattle.iso_image.proofs.Frames.{log_inside}
-use Rattle.iso_log.specs.Extent.{Extent, next_place}
-use Rattle.iso_log.specs.Scan.{IsFirst, IsTaken, StandAt}
-use Rattle.iso_refusal.specs.declared.open_error.OpenError.{OpenError}
-use Rattle.iso_refusal.specs.declared.open_error.OpenError.TheVariants.{Disk, Memory}
-use Rattle.iso_refusal.specs.Refusal.{log_at, log_refusal, told_first}
-use Rattle.iso_recover.specs.declared.front.Front.{Front}
-use Rattle.iso_recover.specs.Cause.{BlamesDisk}
-use Rattle.iso_recover.specs.Front.{IsFront}
-use Rattle.iso_recover.specs.Scanned.{BeginsLog, HasRead, IsDamagedBy, read_bytes}
+use Rattle.iso_recover.proofs.Words.{◌≡◌, ◌<◌, ◌≤◌, ◌+◌, ◌-◌, ◌^◌, ℕ, List, [], ◌∷◌, ◌++◌, length, map, Some, Result, Ok, Err, IsErrOf, refl, sym, ◌∙◌, ap, arith, subst, ForSome, length-map, LAST, image_size, log_place, Written, AreBytes, limits, Rose, DiskState, IsLawful, WritesNothing, length-contents, joined_unwritten, starts_unwritten, IsClosed, HasLog, MayFollow, log_inside, Extent, next_place, IsFirst, IsTaken, StandAt, OpenError, Disk, Memory, log_at, log_refusal, told_first, Front, BlamesDisk, IsFront, BeginsLog, HasRead, IsDamagedBy, read_bytes, IsIndexOf, BlockVersions, versions_in, HasTaken, MayTake, part_of, may_take, parts_few}
 use Rattle.iso_recover.proofs.Scans.{begins_more, begins_none, long_record, more_is, reads_all, reads_more, reads_none, refuses_log}
-use Rattle.mv_index.specs.Placed.{IsIndexOf}
-use Rattle.mv_index.specs.Versions.{BlockVersions, versions_in}
-use Rattle.version_read.specs.Parts.{HasTaken, MayTake, part_of}
-use Rattle.version_read.proofs.Taking.{may_take, parts_few}
 
 -- ---- causes
 

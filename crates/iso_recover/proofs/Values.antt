@@ -1,15 +1,5 @@
 -- The bytes of an image by its parts are bytes.
-use Rattle.std.proofs.Common.{◌<◌, ◌+◌, ◌-◌, ◌*◌, ℕ, List, [], ◌∷◌, ◌++◌, length, replicate, codes, arith}
-use Rattle.std.specs.List.{AllByRecursion}
-use Rattle.std.specs.Int.{to_be_bytes, w32, w64}
-use Rattle.iso_model.specs.declared.access.Geometry.{Geometry}
-use Rattle.iso_model.specs.declared.access.Mode.{Mode}
-use Rattle.iso_model.specs.declared.access.Mode.TheVariants.{Serial, Snapshot}
-use Rattle.iso_model.specs.Geometry.{image_size}
-use Rattle.iso_model.specs.Image.{Written, half_header, mode_byte, records, superblock}
-use Rattle.iso_model.specs.Premises.{AreBytes}
-use Rattle.iso_model.proofs.ByteLists.{bytes_append, bytes_cons, no_bytes, replicate_bytes}
-use Rattle.iso_recover.specs.Made.{whole_image}
+use Rattle.iso_recover.proofs.Words.{◌<◌, ◌+◌, ◌-◌, ◌*◌, ℕ, List, [], ◌∷◌, ◌++◌, length, replicate, codes, arith, AllByRecursion, to_be_bytes, w32, w64, Geometry, Mode, Serial, Snapshot, image_size, Written, half_header, mode_byte, records, superblock, AreBytes, bytes_append, bytes_cons, no_bytes, replicate_bytes, whole_image}
 
 all_small : (bytes : List ℕ) → AllByRecursion (λ b. b < 256) bytes → AreBytes bytes
 all_small [] all = no_bytes

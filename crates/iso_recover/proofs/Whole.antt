@@ -1,17 +1,6 @@
 -- An image by its parts: a front, a base of zeros, records and zeros behind them.
-use Rattle.std.proofs.Common.{◌≡◌, ◌<◌, ◌≤◌, ◌+◌, ◌-◌, ◌*◌, ◌==◌, ℕ, zero, suc, List, [], ◌∷◌, ◌++◌, length, take, drop, replicate, get_or, true, false, Some, IsTrue, refl, sym, ◌∙◌, ap, arith, subst, length-append, append_assoc, eq-eqb}
-use Rattle.std.specs.List.{AllByRecursion}
-use Rattle.std.proofs.lemmas.List.{length-replicate, drop-replicate, take-replicate, get_or-replicate, replicate-append-replicate, take_at, drop_at, take-append-le, drop-append-le, drop-drop, get_or-drop}
-use Rattle.iso_model.specs.declared.access.Geometry.{Geometry}
-use Rattle.iso_model.specs.declared.limits.TheConstants.{LAST}
-use Rattle.iso_model.specs.Array.{zeros}
-use Rattle.iso_model.specs.Geometry.{base_place, header_place, image_size, is_valid, log_place}
-use Rattle.iso_model.specs.Image.{IsRecord, Written, blocks_of, chosen_half, current_half, generation_at, half_header, is_open_at, records, superblock}
-use Rattle.iso_model.specs.World.{empty_history}
-use Rattle.iso_model.proofs.Bounds.{limits}
-use Rattle.iso_image.specs.Half.{HasLog, IsHeld, half_of}
-use Rattle.iso_image.proofs.Logs.{has_log}
-use Rattle.iso_recover.specs.Made.{new_image, whole_image}
+use Rattle.iso_recover.proofs.Words.{◌≡◌, ◌<◌, ◌≤◌, ◌+◌, ◌-◌, ◌*◌, ◌==◌, ℕ, zero, suc, List, [], ◌∷◌, ◌++◌, length, take, drop, replicate, get_or, true, false, Some, IsTrue, refl, sym, ◌∙◌, ap, arith, subst, length-append, append_assoc, eq-eqb, AllByRecursion, length-replicate, drop-replicate, take-replicate, get_or-replicate, replicate-append-replicate, take_at, drop_at, take-append-le, drop-append-le, drop-drop, get_or-drop, Geometry, LAST, zeros, base_place, header_place, image_size, is_valid, log_place, IsRecord, Written, blocks_of, chosen_half, current_half, generation_at, half_header, is_open_at, records, superblock, empty_history, limits, HasLog, IsHeld, has_log, new_image, whole_image}
+use Rattle.iso_image.specs.Half.{half_of}
 
 pub length-super : (g : Geometry) → length (superblock 1 g) ≡ 64
 unfolding superblock

@@ -1,22 +1,5 @@
 -- A header that passes each test is spelled, and what is spelled passes them; so for the form and the current half.
-use Rattle.std.proofs.Common.{◌≡◌, ◌∙◌, refl, ap, inl, inr, ℕ, zero, suc, ◌+◌, ◌≤◌, ◌==◌, ◌||◌, nat_lt, nat_le, Bool, true, false, cond, List, Option, Some, None, IsTrue, length, get_or, drop, option_map, subst, arith}
-use Rattle.std.proofs.lemmas.Bool.{ltb-false, le-ltb, eqb-true, or_cases, and_parts, and_from}
-use Rattle.std.proofs.lemmas.List.{get_or-drop, get_or-take}
-use Rattle.std.proofs.lemmas.Option.{same_Some}
-use Rattle.iso_model.specs.declared.access.Geometry.{Geometry}
-use Rattle.iso_model.specs.declared.limits.TheConstants.{LAST}
-use Rattle.iso_model.specs.Effect.{or_else}
-use Rattle.iso_model.specs.Geometry.{is_valid, half_size, header_place, image_size}
-use Rattle.iso_model.specs.Image.{chosen_half, current_half, generation_at, half_header, is_open_at, superblock}
-use Rattle.iso_model.specs.Premises.{AreBytes}
-use Rattle.iso_model.proofs.Bounds.{limits}
-use Rattle.iso_format.specs.declared.half.HalfHeader.{HalfHeader}
-use Rattle.iso_format.specs.Reading.{first_not_zero, half_of, unclean_place}
-use Rattle.iso_format.proofs.HalfLaws.{all_clean, half_again, half_spelled}
-use Rattle.iso_format.proofs.PartLaws.{neither, unless}
-use Rattle.iso_refusal.specs.declared.open_error.OpenError.{OpenError}
-use Rattle.iso_refusal.specs.declared.open_error.OpenError.TheVariants.{Damaged, UnknownForm}
-use Rattle.iso_refusal.specs.Refusal.{header_at, header_refusal, number_refusal}
+use Rattle.iso_refusal.proofs.Words.{◌≡◌, ◌∙◌, refl, ap, inl, inr, ℕ, zero, suc, ◌+◌, ◌≤◌, ◌==◌, ◌||◌, nat_lt, nat_le, Bool, true, false, cond, List, Option, Some, None, IsTrue, length, get_or, drop, option_map, subst, arith, ltb-false, le-ltb, eqb-true, or_cases, and_parts, and_from, get_or-drop, get_or-take, same_Some, Geometry, LAST, or_else, is_valid, half_size, header_place, image_size, chosen_half, current_half, generation_at, half_header, is_open_at, superblock, AreBytes, limits, HalfHeader, first_not_zero, half_of, unclean_place, all_clean, half_again, half_spelled, neither, unless, OpenError, Damaged, UnknownForm, header_at, header_refusal, number_refusal}
 use Rattle.iso_refusal.proofs.LogLaws.{none_mapped}
 
 -- a test that is to hold did, and the others followed

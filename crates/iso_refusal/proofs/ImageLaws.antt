@@ -1,25 +1,7 @@
 -- Bytes that pass each test are an image of what they open to, and an image passes each test and opens to what it holds.
-use Rattle.std.proofs.Common.{◌≡◌, ◌∙◌, sym, refl, ap, ℕ, ◌+◌, ◌-◌, ◌<◌, ◌≤◌, ◌==◌, nat_lt, true, cond, List, ◌∷◌, ◌++◌, Option, Some, None, Result, Ok, Err, length, take, drop, option_map, subst, arith}
-use Rattle.std.proofs.lemmas.Bool.{ltb-false, le-ltb, eqb-true, eq-eqb}
-use Rattle.std.proofs.lemmas.List.{length-drop, length-take, length-take-le}
-use Rattle.std.proofs.lemmas.Option.{same_Some}
-use Rattle.iso_model.specs.declared.access.Geometry.{Geometry}
-use Rattle.iso_model.specs.Effect.{or_else}
-use Rattle.iso_model.specs.Geometry.{image_size, header_place, base_place, log_place}
-use Rattle.iso_model.specs.History.{History}
-use Rattle.iso_model.specs.Image.{IsImage, blocks_of, commits_of, current_half, half_header, records}
-use Rattle.iso_model.specs.Premises.{AreBytes}
-use Rattle.iso_model.proofs.Bounds.{limits}
-use Rattle.iso_format.specs.declared.half.HalfHeader.{HalfHeader}
-use Rattle.iso_format.specs.declared.superblock.SuperError.{SuperError}
+use Rattle.iso_refusal.proofs.Words.{◌≡◌, ◌∙◌, sym, refl, ap, ℕ, ◌+◌, ◌-◌, ◌<◌, ◌≤◌, ◌==◌, nat_lt, true, cond, List, Option, Some, None, Result, Ok, Err, length, drop, option_map, subst, arith, ltb-false, le-ltb, eqb-true, eq-eqb, length-drop, length-take, length-take-le, same_Some, Geometry, or_else, image_size, header_place, base_place, log_place, History, IsImage, blocks_of, commits_of, current_half, half_header, records, AreBytes, limits, HalfHeader, SuperError, half_of, super_of, neither, unless, bytes_drop, bytes_take, IsSpelled, super_again, super_spelled, OpenError, NotIsotope, WrongSize, Opened, body_refusal, first_number, half_refusal, header_at, header_refusal, log_at, log_refusal, opened, opened_half, opened_super, refusal, told_by, unless_refused, with_form}
+use Rattle.std.proofs.Common.{◌∷◌, ◌++◌, take}
 use Rattle.iso_format.specs.declared.superblock.SuperError.TheVariants as super
-use Rattle.iso_format.specs.Reading.{half_of, super_of}
-use Rattle.iso_format.proofs.PartLaws.{neither, unless}
-use Rattle.iso_model.proofs.ByteLists.{bytes_drop, bytes_take}
-use Rattle.iso_format.proofs.SuperLaws.{IsSpelled, super_again, super_spelled}
-use Rattle.iso_refusal.specs.declared.open_error.OpenError.{OpenError}
-use Rattle.iso_refusal.specs.declared.open_error.OpenError.TheVariants.{NotIsotope, WrongSize}
-use Rattle.iso_refusal.specs.Refusal.{Opened, body_refusal, first_number, half_refusal, header_at, header_refusal, log_at, log_refusal, opened, opened_half, opened_super, refusal, told_by, unless_refused, with_form}
 use Rattle.iso_refusal.proofs.HeaderLaws.{form_is, gate_again, half_inside, header_again, held, is_current, said_again, super_form, unrefused_header, valid_form}
 use Rattle.iso_refusal.proofs.LogLaws.{log_again, unrefused_log}
 

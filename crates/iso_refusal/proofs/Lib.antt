@@ -1,3 +1,4 @@
+pub mod Words
 pub mod HeaderLaws
 pub mod ImageLaws
 pub mod LogLaws

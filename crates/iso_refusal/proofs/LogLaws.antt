@@ -1,27 +1,6 @@
 -- A log whose records pass each test is the spelling of what it tells, and what is spelled passes them and is told.
-use Rattle.std.proofs.Common.{◌≡◌, ◌≢◌, ◌∙◌, sym, refl, ap, inl, inr, ℕ, zero, suc, ◌+◌, ◌^◌, ◌<◌, ◌≤◌, ◌==◌, ◌||◌, ◌&&◌, Bool, true, false, cond, List, [], ◌∷◌, ◌++◌, Option, Some, None, IsTrue, length, get_or, drop, option_map, append_assoc, subst, arith}
-use Rattle.std.specs.List.{AllByRecursion}
-use Rattle.std.specs.Int.{w32}
-use Rattle.std.proofs.Math.Seq.{drop-cons}
-use Rattle.std.proofs.lemmas.Bool.{eqb-true, eqb-false, eq-eqb, ne_eqb, or_cases, and_parts}
-use Rattle.std.proofs.lemmas.List.{drop_at, length-append, length-drop}
-use Rattle.std.proofs.lemmas.Nat.{from_be_bytes-to_be_bytes_4}
-use Rattle.iso_model.specs.declared.access.Geometry.{Geometry}
-use Rattle.iso_model.specs.declared.access.Mode.{Mode}
-use Rattle.iso_model.specs.declared.access.Mode.TheVariants.{Serial, Snapshot}
-use Rattle.iso_model.specs.declared.access.Run.{Run}
-use Rattle.iso_model.specs.declared.limits.TheConstants.{LAST}
-use Rattle.iso_model.specs.Effect.{or_else}
-use Rattle.iso_model.specs.Geometry.{is_valid, same_mode}
-use Rattle.iso_model.specs.Image.{IsLog, IsRecord, Written, body_length, kind_of, records, spell}
-use Rattle.iso_model.specs.Premises.{AreBytes}
-use Rattle.iso_format.specs.Reading.{number_at}
-use Rattle.iso_format.specs.Records.{BeginsWith, Recorded, fault_of, is_kind, recorded}
-use Rattle.iso_format.proofs.PartLaws.{neither}
-use Rattle.iso_format.proofs.Parts.{body_bound, length-spell}
-use Rattle.iso_model.proofs.ByteLists.{bytes_drop}
-use Rattle.iso_format.proofs.RecordLaws.{read_is, record_again}
-use Rattle.iso_refusal.specs.Refusal.{damaged, log_refusal, mode_of_kind, record_bytes, told_by, told_first}
+use Rattle.iso_refusal.proofs.Words.{◌≡◌, ◌≢◌, ◌∙◌, sym, refl, ap, inl, inr, ℕ, zero, suc, ◌+◌, ◌^◌, ◌<◌, ◌≤◌, ◌==◌, ◌||◌, ◌&&◌, Bool, true, false, cond, List, Option, Some, None, IsTrue, length, get_or, drop, option_map, append_assoc, subst, arith, AllByRecursion, w32, drop-cons, eqb-true, eqb-false, eq-eqb, ne_eqb, or_cases, and_parts, drop_at, length-append, length-drop, from_be_bytes-to_be_bytes_4, Geometry, Mode, Serial, Snapshot, Run, LAST, or_else, is_valid, same_mode, IsLog, IsRecord, Written, body_length, kind_of, records, spell, AreBytes, number_at, BeginsWith, Recorded, fault_of, is_kind, recorded, neither, body_bound, length-spell, bytes_drop, read_is, record_again, damaged, log_refusal, mode_of_kind, record_bytes, told_by, told_first}
+use Rattle.std.proofs.Common.{[], ◌∷◌, ◌++◌}
 
 pub none_mapped : {X Y : Type 0} (f : X → Y) (o : Option X) → option_map f o ≡ None → o ≡ None
 none_mapped f None e = refl

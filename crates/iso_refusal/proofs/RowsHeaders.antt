@@ -1,8 +1,6 @@
 -- What a small image is refused for whose superblock or whose half is damaged, by computation.
-use Rattle.std.specs.Prelude.{◌≡◌, [], ◌∷◌, None, Some, take, replicate, refl}
-use Rattle.iso_format.specs.Reading.{half_of, super_of}
-use Rattle.iso_refusal.specs.Refusal.{refusal}
-use Rattle.iso_refusal.specs.declared.open_error.OpenError.TheVariants.{NotIsotope, BadGeometry, WrongSize, NoHalf, Damaged, UnknownForm}
+use Rattle.iso_refusal.proofs.Words.{[], ◌∷◌, take, replicate, half_of, super_of, refusal, NotIsotope, BadGeometry, WrongSize, NoHalf, Damaged, UnknownForm}
+use Rattle.std.specs.Prelude.{◌≡◌, None, Some, refl}
 use Rattle.iso_refusal.proofs.SmallImages.{blank, with_piece, with_byte}
 
 -- As it is made it is not refused.

@@ -1,12 +1,6 @@
 -- What small images open to, by computation.
-use Rattle.std.specs.Prelude.{◌≡◌, ℕ, List, [], ◌∷◌, ◌++◌, Option, Some, map, take, drop, replicate, slice_index_or, option_map, refl}
-use Rattle.iso_model.specs.declared.access.Mode.{Mode}
-use Rattle.iso_model.specs.declared.access.Mode.TheVariants.{Serial, Snapshot}
-use Rattle.iso_model.specs.Array.{put}
-use Rattle.iso_model.specs.History.{last}
-use Rattle.iso_format.specs.Reading.{half_of, super_of}
-use Rattle.iso_format.specs.Records.{fault_of, parts_fault}
-use Rattle.iso_refusal.specs.Refusal.{Opened, opened, recovered, refusal}
+use Rattle.iso_refusal.proofs.Words.{[], ◌∷◌, ◌++◌, map, take, replicate, slice_index_or, Mode, Serial, Snapshot, put, last, half_of, super_of, fault_of, parts_fault, Opened, opened, recovered, refusal}
+use Rattle.std.specs.Prelude.{◌≡◌, ℕ, List, Option, Some, drop, option_map, refl}
 use Rattle.iso_refusal.proofs.SmallImages.{blank, with_piece, with_byte, put_record, one_commit}
 
 -- it is opened at the first generation to the empty history

@@ -1,9 +1,6 @@
 -- What a small image is refused for whose log is damaged, by computation.
-use Rattle.std.specs.Prelude.{◌≡◌, [], ◌∷◌, ◌++◌, Some, replicate, refl}
-use Rattle.iso_format.specs.Reading.{half_of, super_of}
-use Rattle.iso_format.specs.Records.{fault_of, parts_fault}
-use Rattle.iso_refusal.specs.Refusal.{refusal}
-use Rattle.iso_refusal.specs.declared.open_error.OpenError.TheVariants.{Damaged}
+use Rattle.iso_refusal.proofs.Words.{[], ◌∷◌, ◌++◌, replicate, half_of, super_of, fault_of, parts_fault, refusal, Damaged}
+use Rattle.std.specs.Prelude.{◌≡◌, Some, refl}
 use Rattle.iso_refusal.proofs.SmallImages.{blank, with_piece, with_byte, put_record, one_commit}
 
 -- A gate is open, and zeros follow it.

@@ -1,14 +1,6 @@
 -- A log is tested and told record by record, and a bound that is not below its length cuts nothing off.
-use Rattle.std.proofs.Common.{◌≡◌, ◌≢◌, ◌∙◌, refl, ap, ℕ, zero, suc, ◌+◌, ◌≤◌, ◌==◌, cond, List, [], ◌∷◌, Option, Some, None, length, get_or, drop, option_map, arith}
-use Rattle.std.proofs.lemmas.Bool.{eq-eqb, ne_eqb}
-use Rattle.std.proofs.lemmas.List.{length-drop}
-use Rattle.iso_model.specs.declared.access.Geometry.{Geometry}
-use Rattle.iso_model.specs.Effect.{or_else}
-use Rattle.iso_model.specs.Image.{Written}
-use Rattle.iso_format.specs.declared.format_error.FormatError.{FormatError}
-use Rattle.iso_format.specs.Records.{fault_of}
-use Rattle.iso_refusal.specs.declared.open_error.OpenError.{OpenError}
-use Rattle.iso_refusal.specs.Refusal.{damaged, log_refusal, record_bytes, told_by, told_first}
+use Rattle.iso_refusal.proofs.Words.{◌≡◌, ◌≢◌, ◌∙◌, refl, ap, ℕ, zero, suc, ◌+◌, ◌≤◌, ◌==◌, cond, List, Option, Some, None, length, get_or, drop, option_map, arith, eq-eqb, ne_eqb, length-drop, Geometry, or_else, Written, FormatError, fault_of, OpenError, damaged, log_refusal, record_bytes, told_by, told_first}
+use Rattle.std.proofs.Common.{[], ◌∷◌}
 
 -- two bounds that are not below the length say the same
 same_refusal : (g : Geometry) (place n most more : ℕ) (log : List ℕ) → length log ≤ most → length log ≤ more → log_refusal g place n most log ≡ log_refusal g place n more log

@@ -1,37 +1,9 @@
 -- A transaction that has just begun.
-use Rattle.std.proofs.Common.{◌≡◌, ℕ, suc, zero, ◌+◌, ◌-◌, ◌<◌, ◌≤◌, ◌==◌, Bool, true, false, ◌&&◌, not, cond, List, [], ◌∷◌, ◌++◌, Option, Some, None, Result, Ok, Err, IfOk, IsTrue, nat_le, nat_lt, length, take, drop, eq-eqb, refl, sym, ap, ◌∙◌, subst, arith}
-use Rattle.std.proofs.lemmas.Bool.{and_parts}
-use Rattle.conflict_rule.specs.declared.decision.Checked.{Checked}
-use Rattle.conflict_rule.specs.Decision.{up_to}
-use Rattle.iso_core.specs.declared.answers.Begun.{Begun}
-use Rattle.iso_core.specs.declared.core_itself.Core.{Core}
-use Rattle.iso_core.specs.Core.{StandsFor}
-use Rattle.iso_core.specs.Standing.{up, down}
-use Rattle.iso_disk.specs.Disk.{DiskState}
-use Rattle.iso_model.specs.declared.access.Access.{Access}
-use Rattle.iso_model.specs.declared.access.Commit.{Commit}
-use Rattle.iso_model.specs.declared.access.Geometry.{Geometry}
-use Rattle.iso_model.specs.declared.access.Mode.{Mode}
-use Rattle.iso_model.specs.declared.access.Mode.TheVariants.{Serial}
-use Rattle.iso_model.specs.declared.core_error.CoreError.{CoreError}
+use Rattle.iso_shared.proofs.Words.{◌≡◌, ℕ, suc, zero, ◌+◌, ◌-◌, ◌<◌, ◌≤◌, ◌==◌, Bool, true, false, ◌&&◌, not, cond, List, [], ◌∷◌, ◌++◌, Option, Some, None, Result, Ok, Err, IfOk, IsTrue, nat_le, nat_lt, length, take, eq-eqb, refl, sym, ap, ◌∙◌, subst, arith, and_parts, Checked, up_to, Begun, Core, StandsFor, up, down, DiskState, Access, Commit, Geometry, Mode, Serial, CoreError, LAST, MAX_LIVE, CoreReply, clash, clash_from, first_after, has_write, is_block_size, is_valid, same_mode, History, last, after_begin, begin_step, mode_named, World, Live, unattached, IsWorld, Doing, Entry, IsLegal, IsAhead, IsOwn, Holds, IsOn, standing_of, Start, State, after, is_live, live_of, opened, state_at}
+use Rattle.std.proofs.Common.{drop}
 use Rattle.iso_model.specs.declared.core_error.CoreError.TheVariants as error
-use Rattle.iso_model.specs.declared.limits.TheConstants.{LAST, MAX_LIVE}
-use Rattle.iso_model.specs.declared.core_reply.CoreReply.{CoreReply}
 use Rattle.iso_model.specs.declared.core_reply.CoreReply.TheVariants as reply
-use Rattle.iso_model.specs.Conflict.{clash, clash_from, first_after}
-use Rattle.iso_model.specs.Effect.{has_write}
-use Rattle.iso_model.specs.Geometry.{is_block_size, is_valid, same_mode}
-use Rattle.iso_model.specs.History.{History, last}
-use Rattle.iso_model.specs.Step.{after_begin, begin_step, mode_named}
-use Rattle.iso_model.specs.World.{World, Live, unattached}
-use Rattle.iso_model.specs.Worlds.{IsWorld}
-use Rattle.tx_table.specs.Work.{Doing}
-use Rattle.iso_shared.specs.declared.entry.Entry.{Entry}
 use Rattle.iso_shared.specs.declared.entry.Entry.TheVariants as entry
-use Rattle.iso_shared.specs.Legal.{IsLegal}
-use Rattle.iso_shared.specs.Ports.{IsAhead, IsOwn}
-use Rattle.iso_shared.specs.Standing.{Holds, IsOn, standing_of}
-use Rattle.iso_shared.specs.States.{Start, State, after, is_live, live_of, opened, state_at}
 use Rattle.iso_shared.proofs.Trace.{after_snoc, legal_last, opened_sound, sound_all}
 
 -- a sound world has blocks of a size that a work may have

@@ -1,27 +1,8 @@
 -- The check ahead of the turn of an end.
-use Rattle.std.proofs.Common.{◌≡◌, ℕ, zero, suc, ◌+◌, ◌-◌, ◌<◌, ◌≤◌, List, [], ◌∷◌, ◌++◌, None, Result, Ok, Err, IfOk, IfErr, IsTrue, length, take, refl, sym, ap, ◌∙◌, subst, arith}
-use Rattle.std.specs.Prelude.{IsErrOf}
-use Rattle.std.proofs.Math.Seq.{take-length}
-use Rattle.conflict_rule.specs.declared.decision.Checked.{Checked}
-use Rattle.conflict_rule.specs.Decision.{AreNotesAfter, up_to}
-use Rattle.iso_core.specs.declared.answers.Recent.{Recent}
-use Rattle.iso_core.specs.declared.core_itself.Core.{Core}
-use Rattle.iso_core.specs.Core.{StandsFor}
-use Rattle.iso_core.specs.Standing.{up, down}
-use Rattle.iso_disk.specs.Disk.{DiskState}
-use Rattle.iso_model.specs.declared.access.Commit.{Commit}
-use Rattle.iso_model.specs.declared.core_error.CoreError.{CoreError}
+use Rattle.iso_shared.proofs.Words.{◌≡◌, ℕ, zero, suc, ◌+◌, ◌-◌, ◌<◌, ◌≤◌, List, [], ◌∷◌, ◌++◌, None, Result, Ok, Err, IfOk, IfErr, IsTrue, length, take, refl, sym, ap, ◌∙◌, subst, arith, IsErrOf, take-length, Checked, AreNotesAfter, up_to, Recent, Core, StandsFor, up, down, DiskState, Commit, CoreError, is_block_size, History, last, Doing, Entry, IsAhead, IsOwn, IsRecent, Holds, Start, State, opened, state_at, recent_entry}
 use Rattle.iso_model.specs.declared.core_error.CoreError.TheVariants as error
-use Rattle.iso_model.specs.Geometry.{is_block_size}
-use Rattle.iso_model.specs.History.{History, last}
-use Rattle.tx_table.specs.Work.{Doing}
 use Rattle.iso_shared.specs.declared.entry.Call.TheVariants as call
-use Rattle.iso_shared.specs.declared.entry.Entry.{Entry}
 use Rattle.iso_shared.specs.declared.entry.Entry.TheVariants as entry
-use Rattle.iso_shared.specs.Ports.{IsAhead, IsOwn, IsRecent}
-use Rattle.iso_shared.specs.Standing.{Holds}
-use Rattle.iso_shared.specs.States.{Start, State, opened, state_at}
-use Rattle.iso_shared.specs.Told.{recent_entry}
 use Rattle.iso_shared.proofs.Begins.{ahead_first}
 use Rattle.iso_shared.proofs.Cores.{Did, by_lost, refused_down}
 use Rattle.iso_shared.proofs.Trace.{after_snoc}

@@ -1,24 +1,7 @@
 -- A begin is at or above each commit that was told of before it.
-use Rattle.std.proofs.Common.{◌≡◌, ℕ, ◌+◌, ◌-◌, ◌<◌, ◌≤◌, ◌==◌, Bool, true, false, cond, List, [], ◌∷◌, ◌++◌, Option, Some, None, nat_lt, length-append, arith}
-use Rattle.std.specs.List.{AllByRecursion}
-use Rattle.iso_model.specs.declared.access.Access.{Access}
-use Rattle.iso_model.specs.declared.access.Clash.{Clash}
-use Rattle.iso_model.specs.declared.access.EndReply.{EndReply}
-use Rattle.iso_model.specs.declared.access.EndReply.TheVariants.{Committed, ReadOnly, Conflict}
-use Rattle.iso_model.specs.declared.access.Mode.{Mode}
-use Rattle.iso_model.specs.declared.core_reply.CoreReply.{CoreReply}
+use Rattle.iso_shared.proofs.Words.{◌≡◌, ℕ, ◌+◌, ◌-◌, ◌<◌, ◌≤◌, ◌==◌, Bool, true, false, cond, List, [], ◌∷◌, ◌++◌, Option, Some, None, nat_lt, length-append, arith, AllByRecursion, Access, Clash, EndReply, Committed, ReadOnly, Conflict, Mode, CoreReply, LAST, clash, has_write, last, commit_from, commit_step, end_step, need, World, Live, used, Entry, Fits, IsLegal, LegalFrom, CommitsUpTo, IsReplyUpTo, Start, State, after, after_all, opened, state_at, tx_of}
 use Rattle.iso_model.specs.declared.core_reply.CoreReply.TheVariants as reply
-use Rattle.iso_model.specs.declared.limits.TheConstants.{LAST}
-use Rattle.iso_model.specs.Conflict.{clash}
-use Rattle.iso_model.specs.Effect.{has_write}
-use Rattle.iso_model.specs.History.{last}
-use Rattle.iso_model.specs.Step.{commit_from, commit_step, end_step, need}
-use Rattle.iso_model.specs.World.{World, Live, used}
-use Rattle.iso_shared.specs.declared.entry.Entry.{Entry}
 use Rattle.iso_shared.specs.declared.entry.Entry.TheVariants as entry
-use Rattle.iso_shared.specs.Legal.{Fits, IsLegal, LegalFrom}
-use Rattle.iso_shared.specs.Plain.{CommitsUpTo, IsReplyUpTo}
-use Rattle.iso_shared.specs.States.{Start, State, after, after_all, opened, state_at, tx_of}
 use Rattle.iso_shared.proofs.Begins.{began_last}
 use Rattle.iso_shared.proofs.Follows.{follows_all, last_longer}
 use Rattle.iso_shared.proofs.Trace.{legal_last}

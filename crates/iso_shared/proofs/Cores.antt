@@ -1,35 +1,10 @@
 -- Each call of a core leaves an entry that is legal at its place, and the core then stands for the state after it.
-use Rattle.std.proofs.Common.{◌≡◌, inl, inr, ⊎_elim, ℕ, ◌<◌, ◌≤◌, Bool, true, false, cond, List, [], ◌∷◌, Option, Some, None, Result, Ok, Err, IfOk, IfErr, OnOk, OnErr, IsSome, length, refl, sym, ap, ◌∙◌, subst, arith}
-use Rattle.std.specs.Prelude.{◌==◌, is_some}
-use Rattle.std.proofs.lemmas.Bool.Decides.{nat_tests}
-use Rattle.std.specs.Option.{ForSome}
-use Rattle.iso_core.specs.declared.answers.Begun.{Begun}
-use Rattle.iso_core.specs.declared.answers.Stat.{Stat}
-use Rattle.iso_core.specs.declared.core_itself.Core.{Core}
-use Rattle.iso_core.specs.Calls.{BlamesDisk, IsAmong, IsTx, Refuses}
-use Rattle.iso_core.specs.Core.{StandsFor, disk_of}
-use Rattle.iso_core.specs.Kept.{bare}
-use Rattle.iso_core.specs.Standing.{Standing, up, down, is_down}
-use Rattle.iso_disk.specs.Disk.{DiskState, WritesNothing}
-use Rattle.iso_model.specs.declared.access.Access.{Access}
-use Rattle.iso_model.specs.declared.access.Commit.{Commit}
-use Rattle.iso_model.specs.declared.access.Mode.{Mode}
-use Rattle.iso_model.specs.declared.core_error.CoreError.{CoreError}
+use Rattle.iso_shared.proofs.Words.{◌≡◌, inl, inr, ⊎_elim, ℕ, ◌<◌, ◌≤◌, Bool, true, false, cond, List, [], ◌∷◌, Option, Some, None, Result, Ok, Err, IfOk, IfErr, OnOk, OnErr, IsSome, length, refl, sym, ap, ◌∙◌, subst, arith, is_some, nat_tests, ForSome, Begun, Stat, Core, BlamesDisk, IsAmong, IsTx, Refuses, StandsFor, disk_of, bare, Standing, up, down, is_down, DiskState, WritesNothing, Access, Commit, Mode, CoreError, array_at, last, block_at, after_begin, after_leaving, after_trim, begin_step, mode_named, versions, World, Live, floor, unattached, used, Call, Entry, Answers, IsCall, IsOfCore, MayWantMemory, answer_to, numbers_at, Holds, faults_of, standing_of, State, after, is_live, live_of, tx_of, with_world, begin_entry, cause_of, entry_of, fetch_entry, numbers_of, trim_entry}
+use Rattle.std.specs.Prelude.{◌==◌}
 use Rattle.iso_model.specs.declared.core_error.CoreError.TheVariants as error
 use Rattle.iso_model.specs.declared.core_reply.CoreReply.TheVariants as reply
-use Rattle.iso_model.specs.History.{array_at, last}
-use Rattle.iso_model.specs.Premises.{block_at}
-use Rattle.iso_model.specs.Step.{after_begin, after_leaving, after_trim, begin_step, mode_named}
-use Rattle.iso_model.specs.Versions.{versions}
-use Rattle.iso_model.specs.World.{World, Live, floor, unattached, used}
-use Rattle.iso_shared.specs.declared.entry.Call.{Call}
 use Rattle.iso_shared.specs.declared.entry.Call.TheVariants as call
-use Rattle.iso_shared.specs.declared.entry.Entry.{Entry}
 use Rattle.iso_shared.specs.declared.entry.Entry.TheVariants as entry
-use Rattle.iso_shared.specs.Legal.{Answers, IsCall, IsOfCore, MayWantMemory, answer_to, numbers_at}
-use Rattle.iso_shared.specs.Standing.{Holds, faults_of, standing_of}
-use Rattle.iso_shared.specs.States.{State, after, is_live, live_of, tx_of, with_world}
-use Rattle.iso_shared.specs.Told.{begin_entry, cause_of, entry_of, fetch_entry, numbers_of, trim_entry}
 
 -- the transaction of this number is one of those that are live, where it is
 among_by : (n : ℕ) (t u : Live) (live : List Live) (b : Bool) → (u.number == n) ≡ b → cond b true (is_live n live) ≡ true → bare t ≡ bare (record (cond b u (live_of n live)) { number = n })

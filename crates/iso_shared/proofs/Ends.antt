@@ -1,41 +1,11 @@
 -- The end of a transaction leaves an entry that is legal at its place.
-use Rattle.std.proofs.Common.{◌≡◌, ◌≢◌, ◌⊎◌, inl, inr, ⊎_elim, ℕ, ◌+◌, ◌-◌, ◌<◌, ◌≤◌, Bool, true, false, cond, List, [], ◌∷◌, ◌++◌, Option, Some, None, Result, Ok, Err, IfOk, IfErr, OnOk, IsSome, length, nat_lt, refl, sym, ap, ◌∙◌, subst, arith}
-use Rattle.std.specs.Prelude.{IsErrOf, ◌==◌}
-use Rattle.conflict_rule.specs.declared.decision.Checked.{Checked}
-use Rattle.conflict_rule.specs.Decision.{up_to}
-use Rattle.iso_core.specs.declared.core_itself.Core.{Core}
-use Rattle.iso_core.specs.Calls.{BlamesDisk, IsCheckedOf, IsWorkOf, Refuses, Writes}
+use Rattle.iso_shared.proofs.Words.{◌≡◌, ◌≢◌, ◌⊎◌, inl, inr, ⊎_elim, ℕ, ◌+◌, ◌-◌, ◌<◌, ◌≤◌, Bool, true, false, cond, List, [], ◌∷◌, ◌++◌, Option, Some, None, Result, Ok, Err, IfOk, IfErr, OnOk, IsSome, length, nat_lt, refl, sym, ap, ◌∙◌, subst, arith, IsErrOf, Checked, up_to, Core, BlamesDisk, IsCheckedOf, IsWorkOf, Refuses, Writes, StandsFor, disk_of, up, down, ShowsEither, ShowsLast, DiskState, LeavesOnly, StaysTold, weakened, Access, Clash, Commit, EndReply, Committed, ReadOnly, Conflict, Geometry, CoreError, LAST, CoreReply, clash, has_write, last, after_commit, after_leaving, commit_step, end_step, need, commit_from, World, used, AreWithin, Doing, Entry, Answers, IsLegal, MayHaveMade, end_answer, reply_of, IsAhead, IsOwn, Holds, IsOn, ShowsSince, faults_of, with_lost, Start, State, after_end, is_live, live_of, state_at, tx_of, end_entry}
+use Rattle.std.specs.Prelude.{◌==◌}
 use Rattle.iso_core.specs.Calls as calls
-use Rattle.iso_core.specs.Core.{StandsFor, disk_of}
-use Rattle.iso_core.specs.Standing.{up, down}
-use Rattle.iso_model.specs.Between.{ShowsEither, ShowsLast}
-use Rattle.iso_disk.specs.Disk.{DiskState, LeavesOnly, StaysTold}
-use Rattle.iso_disk.proofs.Moments.{weakened}
-use Rattle.iso_model.specs.declared.access.Access.{Access}
-use Rattle.iso_model.specs.declared.access.Clash.{Clash}
-use Rattle.iso_model.specs.declared.access.Commit.{Commit}
-use Rattle.iso_model.specs.declared.access.EndReply.{EndReply}
-use Rattle.iso_model.specs.declared.access.EndReply.TheVariants.{Committed, ReadOnly, Conflict}
-use Rattle.iso_model.specs.declared.access.Geometry.{Geometry}
-use Rattle.iso_model.specs.declared.core_error.CoreError.{CoreError}
 use Rattle.iso_model.specs.declared.core_error.CoreError.TheVariants as error
-use Rattle.iso_model.specs.declared.limits.TheConstants.{LAST}
-use Rattle.iso_model.specs.declared.core_reply.CoreReply.{CoreReply}
 use Rattle.iso_model.specs.declared.core_reply.CoreReply.TheVariants as reply
-use Rattle.iso_model.specs.Conflict.{clash}
-use Rattle.iso_model.specs.Effect.{has_write}
-use Rattle.iso_model.specs.History.{last}
-use Rattle.iso_model.specs.Step.{after_commit, after_leaving, commit_step, end_step, need, commit_from}
-use Rattle.iso_model.specs.World.{World, used}
-use Rattle.tx_table.specs.Work.{AreWithin, Doing}
 use Rattle.iso_shared.specs.declared.entry.Call.TheVariants as call
-use Rattle.iso_shared.specs.declared.entry.Entry.{Entry}
 use Rattle.iso_shared.specs.declared.entry.Entry.TheVariants as entry
-use Rattle.iso_shared.specs.Legal.{Answers, IsLegal, MayHaveMade, end_answer, reply_of}
-use Rattle.iso_shared.specs.Ports.{IsAhead, IsOwn}
-use Rattle.iso_shared.specs.Standing.{Holds, IsOn, ShowsSince, faults_of, with_lost}
-use Rattle.iso_shared.specs.States.{Start, State, after_end, is_live, live_of, state_at, tx_of}
-use Rattle.iso_shared.specs.Told.{end_entry}
 use Rattle.iso_shared.proofs.Growing.{since_after, since_last}
 use Rattle.iso_shared.proofs.Standings.{Moved}
 use Rattle.iso_shared.proofs.Cores.{Did, by_lost, holds_up, refused_down, refused_up}

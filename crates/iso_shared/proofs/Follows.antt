@@ -1,32 +1,10 @@
 -- What stays along a list: the history grows, and a transaction keeps its begin and its mode for as long as it is live.
-use Rattle.std.proofs.Common.{◌≡◌, ℕ, ◌+◌, ◌-◌, ◌<◌, ◌≤◌, ◌==◌, Bool, true, false, cond, List, [], ◌∷◌, ◌++◌, Option, Some, None, length, length-append, take, drop, refl, sym, ap, ◌∙◌, subst, arith}
-use Rattle.std.specs.Prelude.{option_map}
-use Rattle.std.proofs.lemmas.Bool.Decides.{nat_tests}
-use Rattle.std.proofs.lemmas.List.{take-append-le}
+use Rattle.iso_shared.proofs.Words.{◌≡◌, ℕ, ◌+◌, ◌-◌, ◌<◌, ◌≤◌, ◌==◌, Bool, true, false, cond, List, [], ◌∷◌, ◌++◌, Option, Some, None, length, length-append, take, refl, sym, ap, ◌∙◌, subst, arith, option_map, nat_tests, take-append-le, Checked, up_to, Access, Commit, EndReply, Committed, ReadOnly, Conflict, Geometry, Mode, clash, clash_from, clashes, first_after, first_byte, has_write, or_else, History, last, World, Live, without, Extends, extends_itself, extends_on, Doing, Call, Cause, Entry, IsAhead, IsOwn, Start, State, opened, is_live, live_of, after, after_all, after_fault, after_refusal, after_sweep, lost_commit, state_at}
+use Rattle.std.proofs.Common.{drop}
 use mathlib.Core.List.{IsPrefix}
-use Rattle.conflict_rule.specs.declared.decision.Checked.{Checked}
-use Rattle.conflict_rule.specs.Decision.{up_to}
-use Rattle.iso_model.specs.declared.access.Access.{Access}
-use Rattle.iso_model.specs.declared.access.Commit.{Commit}
-use Rattle.iso_model.specs.declared.access.EndReply.{EndReply}
-use Rattle.iso_model.specs.declared.access.EndReply.TheVariants.{Committed, ReadOnly, Conflict}
-use Rattle.iso_model.specs.declared.access.Geometry.{Geometry}
-use Rattle.iso_model.specs.declared.access.Mode.{Mode}
-use Rattle.iso_model.specs.Conflict.{clash, clash_from, clashes, first_after, first_byte}
-use Rattle.iso_model.specs.Effect.{has_write, or_else}
-use Rattle.iso_model.specs.History.{History, last}
-use Rattle.iso_model.specs.World.{World, Live, without}
-use Rattle.iso_model.specs.Worlds.{Extends}
-use Rattle.iso_model.proofs.Worlds.{extends_itself, extends_on}
-use Rattle.tx_table.specs.Work.{Doing}
-use Rattle.iso_shared.specs.declared.entry.Call.{Call}
 use Rattle.iso_shared.specs.declared.entry.Call.TheVariants as call
-use Rattle.iso_shared.specs.declared.entry.Cause.{Cause}
 use Rattle.iso_shared.specs.declared.entry.Cause.TheVariants as cause
-use Rattle.iso_shared.specs.declared.entry.Entry.{Entry}
 use Rattle.iso_shared.specs.declared.entry.Entry.TheVariants as entry
-use Rattle.iso_shared.specs.Ports.{IsAhead, IsOwn}
-use Rattle.iso_shared.specs.States.{Start, State, opened, is_live, live_of, after, after_all, after_fault, after_refusal, after_sweep, lost_commit, state_at}
 use Rattle.iso_shared.proofs.Lives.{live_snoc, live_without, of_snoc, of_without}
 use Rattle.iso_shared.proofs.Trace.{after_append}
 

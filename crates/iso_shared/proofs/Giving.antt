@@ -1,25 +1,9 @@
 -- What stands under the lock after a call of the core that leaves the labels.
-use Rattle.std.proofs.Common.{◌≡◌, inr, ℕ, ◌<◌, List, [], ◌∷◌, ◌++◌, Option, None, Result, Ok, Err, refl, sym, ap, ◌∙◌, subst}
-use Rattle.iso_core.specs.declared.answers.Recent.{Recent}
-use Rattle.iso_core.specs.declared.core_itself.Core.{Core}
-use Rattle.iso_core.specs.Core.{disk_of}
-use Rattle.iso_disk.specs.Disk.{DiskState, IsLawful, LeavesOnly, WritesNothing}
-use Rattle.iso_disk.proofs.Moments.{at_end, weakened}
-use Rattle.iso_model.specs.declared.access.Commit.{Commit}
-use Rattle.iso_model.specs.World.{World}
-use Rattle.iso_model.specs.Between.{ShowsBetween, ShowsLast}
-use Rattle.iso_model.specs.declared.core_error.CoreError.{CoreError}
+use Rattle.iso_shared.proofs.Words.{◌≡◌, inr, ℕ, ◌<◌, List, [], ◌∷◌, ◌++◌, Option, None, Result, Ok, Err, refl, sym, ap, ◌∙◌, subst, Recent, Core, disk_of, DiskState, IsLawful, LeavesOnly, WritesNothing, at_end, weakened, Commit, World, ShowsBetween, ShowsLast, CoreError, AreHeld, held_after, Call, Entry, Posted, Answers, IsLegal, ended, handed, returned, tx_in, Came, Holds, StandsAt, whole, with_lost, Start, State, after, after_fault, opened, state_at, cause_of, entry_of, fetch_entry, recent_entry}
 use Rattle.iso_model.specs.declared.core_error.CoreError.TheVariants as error
-use Rattle.turn_lock.specs.Numbers.{AreHeld, held_after, without}
-use Rattle.iso_shared.specs.declared.entry.Call.{Call}
+use Rattle.turn_lock.specs.Numbers.{without}
 use Rattle.iso_shared.specs.declared.entry.Call.TheVariants as call
-use Rattle.iso_shared.specs.declared.entry.Entry.{Entry}
 use Rattle.iso_shared.specs.declared.entry.Entry.TheVariants as entry
-use Rattle.iso_shared.specs.declared.guarded.Posted.{Posted}
-use Rattle.iso_shared.specs.Legal.{Answers, IsLegal, ended, handed, returned, tx_in}
-use Rattle.iso_shared.specs.Standing.{Came, Holds, StandsAt, whole, with_lost}
-use Rattle.iso_shared.specs.States.{Start, State, after, after_fault, opened, state_at}
-use Rattle.iso_shared.specs.Told.{cause_of, entry_of, fetch_entry, recent_entry}
 use Rattle.iso_shared.proofs.Cores.{Did}
 use Rattle.iso_shared.proofs.Growing.{since_last}
 use Rattle.iso_shared.proofs.Trace.{after_snoc}

@@ -1,26 +1,8 @@
 -- What images show of the history while the list grows.
-use Rattle.std.proofs.Common.{◌≡◌, ℕ, ◌<◌, ◌≤◌, List, [], ◌∷◌, ◌++◌, Option, Some, None, refl, sym, ap, ◌∙◌, subst, arith}
-use Rattle.iso_model.specs.declared.access.Access.{Access}
-use Rattle.iso_model.specs.declared.access.Commit.{Commit}
-use Rattle.iso_model.specs.declared.access.EndReply.{EndReply}
-use Rattle.iso_model.specs.declared.access.EndReply.TheVariants.{Committed, ReadOnly, Conflict}
-use Rattle.iso_model.specs.declared.access.Geometry.{Geometry}
-use Rattle.iso_model.specs.History.{History, last, with_commits}
-use Rattle.iso_model.specs.Image.{Shows}
-use Rattle.iso_model.specs.World.{World}
-use Rattle.iso_model.specs.Worlds.{Extends}
-use Rattle.iso_model.proofs.Held.{shows_any_form, shows_longer}
-use Rattle.iso_model.proofs.Worlds.{extends_itself, extends_on}
-use Rattle.iso_model.specs.Between.{ShowsBetween, ShowsLast}
-use Rattle.iso_shared.specs.declared.entry.Call.{Call}
+use Rattle.iso_shared.proofs.Words.{◌≡◌, ℕ, ◌<◌, ◌≤◌, List, [], ◌∷◌, ◌++◌, Option, Some, None, refl, sym, ap, ◌∙◌, subst, arith, Access, Commit, EndReply, Committed, ReadOnly, Conflict, Geometry, History, last, with_commits, Shows, World, Extends, shows_any_form, shows_longer, extends_itself, extends_on, ShowsBetween, ShowsLast, Call, Cause, Entry, Answers, IsLegal, LegalFrom, MayRefuse, ShowsSince, whole, with_lost, Start, State, after, after_all, after_end, after_fault, after_refusal, lost_commit, opened, state_at}
 use Rattle.iso_shared.specs.declared.entry.Call.TheVariants as call
-use Rattle.iso_shared.specs.declared.entry.Cause.{Cause}
 use Rattle.iso_shared.specs.declared.entry.Cause.TheVariants as cause
-use Rattle.iso_shared.specs.declared.entry.Entry.{Entry}
 use Rattle.iso_shared.specs.declared.entry.Entry.TheVariants as entry
-use Rattle.iso_shared.specs.Legal.{Answers, IsLegal, LegalFrom, MayRefuse}
-use Rattle.iso_shared.specs.Standing.{ShowsSince, whole, with_lost}
-use Rattle.iso_shared.specs.States.{Start, State, after, after_all, after_end, after_fault, after_refusal, lost_commit, opened, state_at}
 use Rattle.iso_shared.proofs.Follows.{last_longer, one_more_commit}
 use Rattle.iso_shared.proofs.Trace.{after_snoc}
 

@@ -1,3 +1,4 @@
+pub mod Words
 pub mod Lives
 pub mod Trace
 pub mod Follows

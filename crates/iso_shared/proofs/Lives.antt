@@ -1,12 +1,5 @@
 -- Live transactions and labelled ones, as entries change them.
-use Rattle.std.proofs.Common.{◌≡◌, ℕ, ◌+◌, ◌==◌, Bool, true, false, not, cond, List, [], ◌∷◌, ◌++◌, Option, Some, None, refl, ap, ◌∙◌, arith}
-use Rattle.std.specs.Prelude.{drop, option_map, slice_get}
-use Rattle.std.specs.Map.{lookup, remove_entry}
-use Rattle.std.proofs.lemmas.Bool.Decides.{nat_tests}
-use Rattle.iso_model.specs.World.{Live, without}
-use Rattle.turn_lock.specs.Lists.{hit, times}
-use Rattle.iso_shared.specs.declared.entry.Posting.{Posting}
-use Rattle.iso_shared.specs.States.{is_live, live_of, racked}
+use Rattle.iso_shared.proofs.Words.{◌≡◌, ℕ, ◌+◌, ◌==◌, Bool, true, false, not, cond, List, [], ◌∷◌, ◌++◌, Option, Some, None, refl, ap, ◌∙◌, arith, drop, option_map, slice_get, lookup, remove_entry, nat_tests, Live, without, hit, times, Posting, is_live, live_of, racked}
 
 first_or : (a b : Bool) (l x : Bool) → x ≡ cond b true l → cond a true x ≡ cond b true (cond a true l)
 first_or true true l x e = refl

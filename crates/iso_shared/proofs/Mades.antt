@@ -1,17 +1,6 @@
 -- What a call made, from what it took and gave.
-use Rattle.std.proofs.Common.{zero, suc, Bool, true, false, cond, nat_lt, length-append, ◌≡◌, ℕ, ◌+◌, ◌<◌, List, [], ◌∷◌, ◌++◌, length, refl, sym, ap, ◌∙◌, subst, arith}
+use Rattle.iso_shared.proofs.Words.{zero, suc, Bool, true, false, cond, nat_lt, length-append, ◌≡◌, ℕ, ◌+◌, ◌<◌, List, [], ◌∷◌, ◌++◌, length, refl, sym, ap, ◌∙◌, subst, arith, Checked, Doing, times, longer, count_up, places, View, prefix_more, prefix_trans, prefix_whole, times_append, nat_tests, Entry, IsLegal, IsAhead, IsOwn, Made, MadeBoth, Start, state_at}
 use mathlib.Core.List.{IsPrefix}
-use Rattle.conflict_rule.specs.declared.decision.Checked.{Checked}
-use Rattle.tx_table.specs.Work.{Doing}
-use Rattle.turn_lock.specs.Lists.{times, longer, count_up, places}
-use Rattle.turn_lock.specs.declared.view.View.{View}
-use Rattle.turn_lock.proofs.Prefixes.{prefix_more, prefix_trans, prefix_whole}
-use Rattle.turn_lock.proofs.Rising.{times_append}
-use Rattle.std.proofs.lemmas.Bool.Decides.{nat_tests}
-use Rattle.iso_shared.specs.declared.entry.Entry.{Entry}
-use Rattle.iso_shared.specs.Legal.{IsLegal}
-use Rattle.iso_shared.specs.Ports.{IsAhead, IsOwn, Made, MadeBoth}
-use Rattle.iso_shared.specs.States.{Start, state_at}
 use Rattle.iso_shared.proofs.Follows.{ahead_kept, follows_prefix, own_kept}
 
 -- t is the pass at its turn, w the pass after it

@@ -1,26 +1,7 @@
 -- What stands under the lock after a call on labels.
-use Rattle.std.proofs.Common.{◌≡◌, inl, ℕ, ◌<◌, Bool, true, false, cond, List, [], ◌∷◌, ◌++◌, Option, Some, None, Ok, Err, refl, sym, ap, ◌∙◌, subst, arith}
-use Rattle.std.specs.Prelude.{bytes_eq, drop, is_some, option_map, slice_get}
-use Rattle.std.specs.Map.{lookup, remove_entry}
-use Rattle.std.specs.List.{AllByRecursion}
-use Rattle.std.proofs.lemmas.Map.Made.{lookup-map_values}
-use Rattle.std.proofs.lemmas.List.{map-append}
-use Rattle.iso_core.specs.declared.core_itself.Core.{Core}
-use Rattle.iso_core.specs.Core.{disk_of}
-use Rattle.iso_disk.specs.Disk.{DiskState}
-use Rattle.turn_lock.specs.Lists.{times}
-use Rattle.turn_lock.specs.Numbers.{held_after}
-use Rattle.turn_lock.proofs.Totals.{hit_same}
-use Rattle.tx_table.specs.declared.rack.PostError.{PostError}
+use Rattle.iso_shared.proofs.Words.{◌≡◌, inl, ℕ, ◌<◌, Bool, true, false, cond, List, [], ◌∷◌, ◌++◌, Option, Some, None, Ok, Err, refl, sym, ap, ◌∙◌, subst, arith, bytes_eq, drop, is_some, option_map, slice_get, lookup, remove_entry, AllByRecursion, lookup-map_values, map-append, Core, disk_of, DiskState, times, held_after, hit_same, PostError, Entry, Posted, Answers, handed, returned, IsOwn, Holds, IsOn, StandsAt, posting_in, postings, Start, State, after, is_live, opened, posting_of, racked, state_at, post_entry}
 use Rattle.tx_table.specs.declared.rack.PostError.TheVariants as post
-use Rattle.iso_shared.specs.declared.entry.Entry.{Entry}
 use Rattle.iso_shared.specs.declared.entry.Entry.TheVariants as entry
-use Rattle.iso_shared.specs.declared.guarded.Posted.{Posted}
-use Rattle.iso_shared.specs.Legal.{Answers, handed, returned}
-use Rattle.iso_shared.specs.Ports.{IsOwn}
-use Rattle.iso_shared.specs.Standing.{Holds, IsOn, StandsAt, posting_in, postings}
-use Rattle.iso_shared.specs.States.{Start, State, after, is_live, opened, posting_of, racked, state_at}
-use Rattle.iso_shared.specs.Told.{post_entry}
 use Rattle.iso_shared.proofs.Cores.{Did}
 use Rattle.iso_shared.proofs.Follows.{follows_all}
 use Rattle.iso_shared.proofs.Standings.{HoldsOut, MayLeave, Moved, held_live, sound_at, stands_next}

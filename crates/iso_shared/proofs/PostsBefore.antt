@@ -1,22 +1,8 @@
 -- What a look finds was posted, and nothing has taken it out since.
-use Rattle.std.proofs.Common.{◌≡◌, ◌⊎◌, inl, inr, ℕ, ◌+◌, ◌≤◌, ◌==◌, Bool, true, false, cond, List, [], ◌∷◌, ◌++◌, Option, Some, None, refl, sym, ap, ◌∙◌, subst, arith}
-use Rattle.std.specs.Prelude.{bytes_eq, drop, option_map, slice_get}
-use Rattle.std.specs.List.{AllByRecursion}
-use Rattle.std.specs.Map.{lookup, remove_entry}
-use Rattle.std.proofs.lemmas.Slice.Eq.{bytes_eq-Decides}
-use Rattle.turn_lock.specs.Lists.{hit, times}
-use Rattle.turn_lock.proofs.Totals.{hit_same}
-use Rattle.iso_model.specs.declared.access.Access.{Access}
-use Rattle.iso_shared.specs.declared.entry.Call.{Call}
+use Rattle.iso_shared.proofs.Words.{◌≡◌, ◌⊎◌, inl, inr, ℕ, ◌+◌, ◌≤◌, ◌==◌, Bool, true, false, cond, List, [], ◌∷◌, ◌++◌, Option, Some, None, refl, sym, ap, ◌∙◌, subst, arith, bytes_eq, drop, option_map, slice_get, AllByRecursion, lookup, remove_entry, bytes_eq-Decides, hit, times, hit_same, Access, Call, Cause, Entry, Posting, Fits, IsLegal, LegalFrom, WasPosted, is_number, takes_out, Start, State, after, after_all, after_fault, after_refusal, opened, posting_of, racked, state_at}
 use Rattle.iso_shared.specs.declared.entry.Call.TheVariants as call
-use Rattle.iso_shared.specs.declared.entry.Cause.{Cause}
 use Rattle.iso_shared.specs.declared.entry.Cause.TheVariants as cause
-use Rattle.iso_shared.specs.declared.entry.Entry.{Entry}
 use Rattle.iso_shared.specs.declared.entry.Entry.TheVariants as entry
-use Rattle.iso_shared.specs.declared.entry.Posting.{Posting}
-use Rattle.iso_shared.specs.Legal.{Fits, IsLegal, LegalFrom}
-use Rattle.iso_shared.specs.Plain.{WasPosted, is_number, takes_out}
-use Rattle.iso_shared.specs.States.{Start, State, after, after_all, after_fault, after_refusal, opened, posting_of, racked, state_at}
 use Rattle.iso_shared.proofs.Lives.{first_parts, hits, label_parts}
 use Rattle.iso_shared.proofs.Trace.{IsSound, hits_are, legal_last, opened_sound, sound_next}
 

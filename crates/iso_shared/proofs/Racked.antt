@@ -1,28 +1,7 @@
 -- What a transaction under a label has kept.
-use Rattle.std.proofs.Common.{◌≡◌, ℕ, ◌+◌, ◌<◌, ◌≤◌, ◌==◌, Bool, true, false, cond, List, [], ◌∷◌, ◌++◌, Option, Some, None, refl, sym, ap, ◌∙◌, subst, arith}
-use Rattle.std.specs.Prelude.{bytes_eq, drop, option_map}
-use Rattle.std.specs.Map.{lookup, remove_entry}
-use Rattle.std.specs.List.{AllByRecursion}
-use Rattle.std.proofs.lemmas.Map.Made.{lookup-map_values}
-use Rattle.iso_core.specs.declared.core_itself.Core.{Core}
-use Rattle.iso_disk.specs.Disk.{DiskState}
-use Rattle.iso_model.specs.declared.access.Geometry.{Geometry}
-use Rattle.iso_model.specs.History.{last}
-use Rattle.iso_model.specs.World.{World, Live}
-use Rattle.iso_model.specs.Worlds.{IsLive}
-use Rattle.turn_lock.specs.Lists.{hit, times}
-use Rattle.turn_lock.proofs.Totals.{hit_same}
-use Rattle.iso_shared.specs.declared.entry.Entry.{Entry}
+use Rattle.iso_shared.proofs.Words.{◌≡◌, ℕ, ◌+◌, ◌<◌, ◌≤◌, ◌==◌, Bool, true, false, cond, List, [], ◌∷◌, ◌++◌, Option, Some, None, refl, sym, ap, ◌∙◌, subst, arith, bytes_eq, drop, option_map, lookup, remove_entry, AllByRecursion, lookup-map_values, Core, DiskState, Geometry, last, World, Live, IsLive, hit, times, hit_same, Entry, Posting, Posted, Call, Cause, Fits, LegalFrom, IsOwn, IsOn, StandsAt, posting_in, Start, State, after, after_all, after_refusal, is_live, live_of, opened, posting_of, racked, state_at}
 use Rattle.iso_shared.specs.declared.entry.Entry.TheVariants as entry
-use Rattle.iso_shared.specs.declared.entry.Posting.{Posting}
-use Rattle.iso_shared.specs.declared.guarded.Posted.{Posted}
-use Rattle.iso_shared.specs.declared.entry.Call.{Call}
-use Rattle.iso_shared.specs.declared.entry.Cause.{Cause}
 use Rattle.iso_shared.specs.declared.entry.Cause.TheVariants as cause
-use Rattle.iso_shared.specs.Legal.{Fits, LegalFrom}
-use Rattle.iso_shared.specs.Ports.{IsOwn}
-use Rattle.iso_shared.specs.Standing.{IsOn, StandsAt, posting_in}
-use Rattle.iso_shared.specs.States.{Start, State, after, after_all, after_refusal, is_live, live_of, opened, posting_of, racked, state_at}
 use Rattle.iso_shared.proofs.Follows.{Follows, follows_all, follows_next}
 use Rattle.iso_shared.proofs.Giving.{fault_keeps}
 use Rattle.iso_shared.proofs.Standings.{sound_at}

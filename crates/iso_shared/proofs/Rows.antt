@@ -1,24 +1,9 @@
 -- What the definitions of legal lists compute on small lists, and what no legal list holds.
-use Rattle.std.proofs.Common.{◌≡◌, true, false, List, [], ◌∷◌, ◌++◌, Some, None, ap, length, replicate, refl, arith}
-use Rattle.std.specs.Prelude.{is_some, option_map}
-use Rattle.iso_model.specs.declared.access.Access.{Access}
-use Rattle.iso_model.specs.declared.access.EndReply.TheVariants.{Committed}
-use Rattle.iso_model.specs.declared.access.Geometry.{Geometry}
-use Rattle.iso_model.specs.declared.access.Mode.TheVariants.{Serial, Snapshot}
+use Rattle.iso_shared.proofs.Words.{◌≡◌, true, false, List, [], ◌∷◌, ◌++◌, Some, None, ap, length, replicate, refl, arith, is_some, option_map, Access, Committed, Geometry, Serial, Snapshot, clash, put, runs, begin_step, commit_step, end_step, put_access, read_access, empty_history, fresh, is_out, Entry, Posting, Fits, MayRefuse, answer_to, end_answer, handed, numbers_at, returned, Start, is_loose, opened, state_at}
 use Rattle.iso_model.specs.declared.core_reply.CoreReply.TheVariants as reply
-use Rattle.iso_model.specs.Conflict.{clash}
-use Rattle.iso_model.specs.Array.{put}
-use Rattle.iso_model.specs.Effect.{runs}
-use Rattle.iso_model.specs.Step.{begin_step, commit_step, end_step, put_access, read_access}
-use Rattle.iso_model.specs.World.{empty_history, fresh}
-use Rattle.turn_lock.specs.Numbers.{is_out}
 use Rattle.iso_shared.specs.declared.entry.Call.TheVariants as call
 use Rattle.iso_shared.specs.declared.entry.Cause.TheVariants as cause
-use Rattle.iso_shared.specs.declared.entry.Entry.{Entry}
 use Rattle.iso_shared.specs.declared.entry.Entry.TheVariants as entry
-use Rattle.iso_shared.specs.declared.entry.Posting.{Posting}
-use Rattle.iso_shared.specs.Legal.{Fits, MayRefuse, answer_to, end_answer, handed, numbers_at, returned}
-use Rattle.iso_shared.specs.States.{Start, is_loose, opened, state_at}
 
 abbrev pub small : Geometry
 small = record { block = 64; blocks = 4; log = 256; mode = Serial; hash = 0; tree = 0; form = 1 }

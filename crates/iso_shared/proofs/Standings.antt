@@ -1,22 +1,5 @@
 -- What lies under the lock, with one entry more.
-use Rattle.std.proofs.Common.{◌≡◌, ◌⊎◌, inl, inr, ℕ, ◌<◌, true, List, [], ◌∷◌, ◌++◌, Option, Some, None, refl, sym, ap, ◌∙◌, subst, arith}
-use Rattle.std.specs.Prelude.{option_to_list}
-use Rattle.std.specs.List.{AllByRecursion}
-use Rattle.iso_core.specs.declared.core_itself.Core.{Core}
-use Rattle.iso_core.specs.Core.{StandsFor, disk_of}
-use Rattle.iso_core.specs.Standing.{up}
-use Rattle.iso_core.proofs.Moments.{shows_world}
-use Rattle.iso_model.specs.History.{last}
-use Rattle.iso_model.specs.World.{World}
-use Rattle.iso_disk.specs.Disk.{DiskState, IsLawful, LeavesOnly}
-use Rattle.iso_disk.proofs.Moments.{joined, started, starts_unwritten, weakened}
-use Rattle.turn_lock.specs.Lists.{times}
-use Rattle.turn_lock.specs.Numbers.{AreFree, AreHeld, IsOut}
-use Rattle.iso_shared.specs.declared.entry.Entry.{Entry}
-use Rattle.iso_shared.specs.declared.guarded.Posted.{Posted}
-use Rattle.iso_shared.specs.Legal.{AreLoose, Answers, IsLegal, handed, needed, returned}
-use Rattle.iso_shared.specs.Standing.{Came, Holds, IsOn, ShowsSince, StandsAt, postings, start_at}
-use Rattle.iso_shared.specs.States.{Start, after, is_live, opened, state_at}
+use Rattle.iso_shared.proofs.Words.{◌≡◌, ◌⊎◌, inl, inr, ℕ, ◌<◌, true, List, [], ◌∷◌, ◌++◌, Option, Some, None, refl, sym, ap, ◌∙◌, subst, arith, option_to_list, AllByRecursion, Core, StandsFor, disk_of, up, shows_world, last, World, DiskState, IsLawful, LeavesOnly, joined, started, starts_unwritten, weakened, times, AreFree, AreHeld, IsOut, Entry, Posted, AreLoose, Answers, IsLegal, handed, needed, returned, Came, Holds, IsOn, ShowsSince, StandsAt, postings, start_at, Start, after, is_live, opened, state_at}
 use Rattle.iso_shared.proofs.Growing.{since_next}
 use Rattle.iso_shared.proofs.Trace.{NotLoose, after_snoc, legal_last, legal_snoc, loose_is, not_loose, opened_sound, out_is, sound_all, IsSound}
 

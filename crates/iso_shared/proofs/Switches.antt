@@ -1,26 +1,9 @@
 -- A switch to the other half leaves an entry that is legal at its place.
-use Rattle.std.proofs.Common.{◌≡◌, ◌≢◌, ◌⊎◌, ⊎_elim, ℕ, ◌≤◌, List, [], Some, None, Result, Ok, Err, IfOk, IfErr, OnOk, refl, sym, ap, subst, arith}
-use Rattle.std.specs.Prelude.{IsErrOf}
-use Rattle.iso_core.specs.declared.core_itself.Core.{Core}
-use Rattle.iso_core.specs.Calls.{BlamesDisk, Refuses}
-use Rattle.iso_core.specs.Core.{StandsFor, disk_of}
-use Rattle.iso_core.specs.Standing.{up, down}
-use Rattle.iso_disk.specs.Disk.{DiskState, StaysTold}
-use Rattle.iso_model.specs.declared.access.Commit.{Commit}
-use Rattle.iso_model.specs.declared.core_error.CoreError.{CoreError}
+use Rattle.iso_shared.proofs.Words.{◌≡◌, ◌≢◌, ◌⊎◌, ⊎_elim, ℕ, ◌≤◌, List, [], Some, None, Result, Ok, Err, IfOk, IfErr, OnOk, refl, sym, ap, subst, arith, IsErrOf, Core, BlamesDisk, Refuses, StandsFor, disk_of, up, down, DiskState, StaysTold, Commit, CoreError, CoreReply, after_switch, switch_step, floor, Call, Entry, switch_answer, Holds, faults_of, State, with_world, cause_of, compact_entry, entry_of, upgrade_entry}
 use Rattle.iso_model.specs.declared.core_error.CoreError.TheVariants as error
-use Rattle.iso_model.specs.declared.core_reply.CoreReply.{CoreReply}
 use Rattle.iso_model.specs.declared.core_reply.CoreReply.TheVariants as reply
-use Rattle.iso_model.specs.Step.{after_switch, switch_step}
-use Rattle.iso_model.specs.World.{floor}
-use Rattle.iso_shared.specs.declared.entry.Call.{Call}
 use Rattle.iso_shared.specs.declared.entry.Call.TheVariants as call
-use Rattle.iso_shared.specs.declared.entry.Entry.{Entry}
 use Rattle.iso_shared.specs.declared.entry.Entry.TheVariants as entry
-use Rattle.iso_shared.specs.Legal.{switch_answer}
-use Rattle.iso_shared.specs.Standing.{Holds, faults_of}
-use Rattle.iso_shared.specs.States.{State, with_world}
-use Rattle.iso_shared.specs.Told.{cause_of, compact_entry, entry_of, upgrade_entry}
 use Rattle.iso_shared.proofs.Cores.{Did, by_lost, holds_up, refused_down, refused_up}
 use Rattle.iso_shared.proofs.Ends.{by_disk}
 

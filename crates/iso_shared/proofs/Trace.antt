@@ -1,24 +1,8 @@
 -- The state along a list, and which numbers are out in it.
-use Rattle.std.proofs.Common.{◌≡◌, ℕ, zero, suc, ◌+◌, ◌<◌, ◌≤◌, ◌==◌, Bool, true, false, ◌&&◌, ◌||◌, cond, List, [], ◌∷◌, ◌++◌, Option, Some, None, refl, sym, ap, ◌∙◌, subst, arith}
-use Rattle.std.specs.Prelude.{bytes_eq, drop, option_map, option_to_list, slice_get}
-use Rattle.std.specs.Map.{lookup, remove_entry}
-use Rattle.std.proofs.lemmas.Bool.Decides.{nat_tests}
-use Rattle.turn_lock.specs.Lists.{hit, times}
-use Rattle.turn_lock.specs.Numbers.{is_among, out_next, out_from, is_out}
-use Rattle.turn_lock.proofs.Totals.{hit_same}
-use Rattle.iso_model.specs.World.{Live, without}
-use Rattle.iso_model.specs.declared.access.Access.{Access}
-use Rattle.iso_model.specs.declared.access.EndReply.{EndReply}
-use Rattle.iso_model.specs.declared.access.EndReply.TheVariants.{Committed, ReadOnly, Conflict}
-use Rattle.iso_shared.specs.declared.entry.Call.{Call}
+use Rattle.iso_shared.proofs.Words.{◌≡◌, ℕ, zero, suc, ◌+◌, ◌<◌, ◌≤◌, ◌==◌, Bool, true, false, ◌&&◌, ◌||◌, cond, List, [], ◌∷◌, ◌++◌, Option, Some, None, refl, sym, ap, ◌∙◌, subst, arith, bytes_eq, drop, option_map, option_to_list, slice_get, lookup, remove_entry, nat_tests, hit, times, is_among, out_next, out_from, is_out, hit_same, Live, without, Access, EndReply, Committed, ReadOnly, Conflict, Call, Cause, Entry, Posting, Start, State, opened, is_live, is_loose, racked, after, after_all, after_fault, after_refusal, after_sweep, state_at, AreLoose, Answers, Fits, LegalFrom, IsLegal, handed, returned, ended_by}
 use Rattle.iso_shared.specs.declared.entry.Call.TheVariants as call
-use Rattle.iso_shared.specs.declared.entry.Cause.{Cause}
 use Rattle.iso_shared.specs.declared.entry.Cause.TheVariants as cause
-use Rattle.iso_shared.specs.declared.entry.Entry.{Entry}
 use Rattle.iso_shared.specs.declared.entry.Entry.TheVariants as entry
-use Rattle.iso_shared.specs.declared.entry.Posting.{Posting}
-use Rattle.iso_shared.specs.States.{Start, State, opened, is_live, is_loose, racked, after, after_all, after_fault, after_refusal, after_sweep, state_at}
-use Rattle.iso_shared.specs.Legal.{AreLoose, Answers, Fits, LegalFrom, IsLegal, handed, returned, ended_by}
 use Rattle.iso_shared.proofs.Lives.{live_snoc, live_without, racked_snoc, label_parts, first_parts, hits}
 
 -- the state after one entry more

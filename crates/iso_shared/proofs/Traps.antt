@@ -1,26 +1,9 @@
 -- What no legal list holds that a looser word would let in, and what the rows of the other file leave.
-use Rattle.std.proofs.Common.{◌≡◌, ◌≤◌, ℕ, ◌+◌, ◌-◌, zero, suc, true, false, List, [], ◌∷◌, ◌++◌, Some, None, ap, length, replicate, refl, sym, ◌∙◌, arith}
-use Rattle.std.proofs.lemmas.List.{length-replicate}
-use Rattle.iso_model.specs.declared.access.Access.{Access}
-use Rattle.iso_model.specs.declared.access.EndReply.TheVariants.{Committed, ReadOnly}
-use Rattle.iso_model.specs.declared.access.Mode.TheVariants.{Serial, Snapshot}
-use Rattle.iso_model.specs.declared.limits.TheConstants.{LAST, MAX_ACCESSES}
-use Rattle.iso_model.specs.declared.core_reply.CoreReply.{CoreReply}
+use Rattle.iso_shared.proofs.Words.{◌≡◌, ◌≤◌, ℕ, ◌+◌, ◌-◌, zero, suc, true, false, List, [], ◌∷◌, ◌++◌, Some, None, ap, length, replicate, refl, sym, ◌∙◌, arith, length-replicate, Access, Committed, ReadOnly, Serial, Snapshot, LAST, MAX_ACCESSES, CoreReply, put, clash, runs, begin_step, commit_step, end_step, read_access, switch_step, write_access, versions, empty_history, fresh, Entry, Numbers, Fits, MayRefuse, numbers_at, IsIsolatedAt, most_steps, Start, opened, state_at}
 use Rattle.iso_model.specs.declared.core_reply.CoreReply.TheVariants as reply
-use Rattle.iso_model.specs.Array.{put}
-use Rattle.iso_model.specs.Conflict.{clash}
-use Rattle.iso_model.specs.Effect.{runs}
-use Rattle.iso_model.specs.Step.{begin_step, commit_step, end_step, read_access, switch_step, write_access}
-use Rattle.iso_model.specs.Versions.{versions}
-use Rattle.iso_model.specs.World.{empty_history, fresh}
 use Rattle.iso_shared.specs.declared.entry.Call.TheVariants as call
 use Rattle.iso_shared.specs.declared.entry.Cause.TheVariants as cause
-use Rattle.iso_shared.specs.declared.entry.Entry.{Entry}
 use Rattle.iso_shared.specs.declared.entry.Entry.TheVariants as entry
-use Rattle.iso_shared.specs.declared.entry.Numbers.{Numbers}
-use Rattle.iso_shared.specs.Legal.{Fits, MayRefuse, numbers_at}
-use Rattle.iso_shared.specs.Ports.{IsIsolatedAt, most_steps}
-use Rattle.iso_shared.specs.States.{Start, opened, state_at}
 use Rattle.iso_shared.proofs.Rows.{fallen, one_ended, one_put, posted, small, start, two_begun}
 
 -- where the disk tells nothing, a fetch may have any bytes

@@ -1,16 +1,5 @@
 -- A script that was answered from the world that a call begins with.
-use Rattle.std.proofs.Common.{ℕ, List, ◌++◌, Option}
-use Rattle.iso_disk.specs.Disk.{DiskState}
-use Rattle.iso_io.specs.Sink.{SinkState}
-use Rattle.iso_io.specs.Source.{SourceState}
-use Rattle.iso_model.specs.declared.access.Geometry.{Geometry}
-use Rattle.iso_core.specs.declared.core_itself.Core.{Core}
-use Rattle.iso_core.specs.Core.{disk_of}
-use Rattle.script_runner.specs.declared.run_end.RunEnd.{RunEnd}
-use Rattle.script_runner.specs.Run.{HasRun}
-use Rattle.iso_top.specs.Begun.{HasCore}
-use Rattle.iso_top.specs.Outcome.{HasAnswered, HasBegun, PrintedEnd}
-use Rattle.store_scripts.proofs.Whole.{stores_answer}
+use Rattle.iso_top.proofs.Words.{ℕ, List, ◌++◌, Option, DiskState, SinkState, SourceState, Geometry, Core, disk_of, RunEnd, HasRun, HasCore, HasAnswered, HasBegun, PrintedEnd, stores_answer}
 use Rattle.iso_top.proofs.Beginnings.{begun}
 
 module _ {D : Type 0} (state : D → DiskState) (made : Option Geometry) (name : List ℕ) (disk new : D) (core : Core D) (has : HasCore state made name disk core)

@@ -1,30 +1,5 @@
 -- What a call begins with, once an image is bound, and made or opened.
-use Rattle.std.proofs.Common.{◌≡◌, inl, inr, ⊎_elim, ℕ, List, Option, Some, None, IsTrue, refl, sym, ◌∙◌, subst, arith, ◌⊎◌}
-use Rattle.std.proofs.lemmas.Option.{same_Some}
-use Rattle.std.specs.Option.{ForSome}
-use Rattle.iso_disk.specs.Disk.{DiskState, IsLawful, IsSettled, LeavesOnly, StaysTold, WritesNothing}
-use Rattle.iso_disk.proofs.Moments.{joined, since_bind, still_bound, weakened}
-use Rattle.iso_disk.proofs.Told.{told_same}
-use Rattle.iso_image.proofs.Histories.{half_shows}
-use Rattle.iso_model.specs.declared.access.Geometry.{Geometry}
-use Rattle.iso_model.specs.Geometry.{is_valid}
-use Rattle.iso_model.specs.World.{World, empty_history, fresh}
-use Rattle.iso_model.specs.Worlds.{IsWorld, LeadsTo}
-use Rattle.iso_model.proofs.FreshWorlds.{empty_world_is}
-use Rattle.iso_core.specs.declared.core_itself.Core.{Core}
-use Rattle.iso_core.specs.Core.{StandsFor, disk_of}
-use Rattle.iso_core.specs.Standing.{up}
-use Rattle.iso_machine.specs.Shown.{shows}
-use Rattle.iso_recover.specs.Cause.{IsBlamed, IsTest}
-use Rattle.iso_recover.specs.Made.{IsUnmadeOrEmpty}
-use Rattle.iso_recover.specs.Opened.{HasOpened}
-use Rattle.iso_refusal.specs.declared.open_error.OpenError.{OpenError}
-use Rattle.iso_refusal.specs.Refusal.{refusal}
-use Rattle.iso_model.specs.Between.{ShowsBetween}
-use Rattle.script_runner.proofs.Histories.{between_on, shows_last}
-use Rattle.iso_top.specs.Begun.{HasCore, HasNoCore}
-use Rattle.iso_top.specs.Outcome.{HasBegun}
-use Rattle.iso_top.specs.Starts.{GoesOnTelling, IsUntouched, MayBeUnmade, WasBoundOnce}
+use Rattle.iso_top.proofs.Words.{◌≡◌, inl, inr, ⊎_elim, ℕ, List, Option, Some, None, IsTrue, refl, sym, ◌∙◌, subst, arith, ◌⊎◌, same_Some, ForSome, DiskState, IsLawful, IsSettled, LeavesOnly, StaysTold, WritesNothing, joined, since_bind, still_bound, weakened, told_same, half_shows, Geometry, is_valid, World, empty_history, fresh, IsWorld, LeadsTo, empty_world_is, Core, StandsFor, disk_of, up, shows, IsBlamed, IsTest, IsUnmadeOrEmpty, HasOpened, OpenError, refusal, ShowsBetween, between_on, shows_last, HasCore, HasNoCore, HasBegun, GoesOnTelling, IsUntouched, MayBeUnmade, WasBoundOnce}
 
 -- the world of a new image
 abbrev new_world : Geometry → World

@@ -1,12 +1,5 @@
 -- A text, and a line behind it.
-use Rattle.std.proofs.Common.{inl, inr, ◌+◌, ℕ, List, ◌++◌, length, take, length-append, sym, ◌∙◌, ap, subst, arith}
-use Rattle.std.proofs.Math.Seq.{take-append-add}
-use Rattle.std.proofs.lemmas.List.{take-append-le}
-use Rattle.std.specs.Io.KnownBytes.{append_known}
-use Rattle.fault_count.specs.Count.{Rose}
-use Rattle.iso_io.specs.Sink.{SinkState, CountsStand, Wrote}
-use Rattle.iso_io.proofs.Told.{append_known-append}
-use Rattle.iso_top.specs.Prints.{Printed, SinkFailed, WasCut}
+use Rattle.iso_top.proofs.Words.{inl, inr, ◌+◌, ℕ, List, ◌++◌, length, take, length-append, sym, ◌∙◌, ap, subst, arith, take-append-add, take-append-le, append_known, Rose, SinkState, CountsStand, Wrote, append_known-append, Printed, SinkFailed, WasCut}
 
 wrote_both : (a b c : SinkState) (xs ys : List ℕ) → Wrote a b xs → Wrote b c ys → Wrote a c (xs ++ ys)
 wrote_both a b c xs ys first second = second ∙ ap (λ known. append_known known ys) first ∙ append_known-append a.written xs ys

@@ -1,17 +1,6 @@
 -- What is put of a bench.
-use Rattle.std.proofs.Common.{◌≡◌, ◌⊎◌, inl, inr, ℕ, List, [], Some, None, false, refl, sym, ◌∙◌, ap, arith, IsSome}
-use Rattle.bench_script.specs.Ends.{DrawnState, HeldState, drawn_state, held_state}
-use Rattle.iso_disk.specs.Disk.{DiskState}
-use Rattle.iso_io.specs.Sink.{SinkState}
-use Rattle.script_model.specs.declared.script.Line.{Line}
-use Rattle.script_model.specs.Bench.{bench_summary, bench_text, bench_world}
-use Rattle.script_model.specs.Script.{Script, replies, script}
-use Rattle.script_runner.specs.declared.run_end.RunEnd.{RunEnd}
+use Rattle.iso_top.proofs.Words.{◌≡◌, ◌⊎◌, inl, inr, ℕ, List, [], Some, None, false, refl, sym, ◌∙◌, ap, arith, IsSome, DrawnState, HeldState, drawn_state, held_state, DiskState, SinkState, Line, bench_summary, bench_text, bench_world, Script, replies, script, RunEnd, HasRun, PrintedBench, Printed, WasCut, WroteWhole, disk_fault_text, memory_text}
 use Rattle.script_runner.specs.declared.run_end.RunEnd.TheVariants as end
-use Rattle.script_runner.specs.Run.{HasRun}
-use Rattle.iso_top.specs.Outcome.{PrintedBench}
-use Rattle.iso_top.specs.Prints.{Printed, WasCut, WroteWhole}
-use Rattle.iso_top.specs.Texts.{disk_fault_text, memory_text}
 
 same_text : (xs ys : List ℕ) → Some xs ≡ Some ys → xs ≡ ys
 same_text xs ys e = cc

@@ -1,33 +1,8 @@
 -- What the status of a call on an image has for its cause.
-use Rattle.std.proofs.Common.{◌≡◌, ◌≢◌, ◌⊎◌, inl, inr, ⊎_elim, ℕ, List, Option, Some, None, IfSome, refl, sym, ap, subst}
-use Rattle.std.specs.Option.{ForSome}
-use Rattle.command_line.specs.declared.task.Task.{Task}
-use Rattle.command_line.specs.declared.task.Task.TheVariants.{New, Run, Par, Recover, Bench}
-use Rattle.command_line.specs.Requests.{made_geometry}
-use Rattle.fault_count.specs.Count.{Rose}
-use Rattle.iso_disk.specs.Disk.{DiskState}
-use Rattle.iso_io.specs.Sink.{SinkState}
-use Rattle.iso_io.specs.Source.{SourceState}
-use Rattle.iso_model.specs.declared.access.Geometry.{Geometry}
-use Rattle.script_model.specs.declared.script.BadLine.{BadLine}
-use Rattle.script_model.specs.declared.script.Line.{Line}
-use Rattle.script_model.specs.Bench.{bench_output, bench_world, recover_output}
-use Rattle.script_model.specs.Script.{Script, script}
-use Rattle.iso_refusal.specs.declared.open_error.OpenError.{OpenError}
+use Rattle.iso_top.proofs.Words.{◌≡◌, ◌≢◌, ◌⊎◌, inl, inr, ⊎_elim, ℕ, List, Option, Some, None, IfSome, refl, sym, ap, subst, ForSome, Task, New, Run, Par, Recover, Bench, made_geometry, Rose, DiskState, SinkState, SourceState, Geometry, BadLine, Line, bench_output, bench_world, recover_output, Script, script, OpenError, refusal, start_at, Part, RunEnd, AreLinesOf, HasRun, HasAnswered, HasBenched, HasMet, HasNotBegun, HasRecovered, IsAccepted, IsGoodInput, IsStatus, PrintedBench, PrintedDigest, PrintedResult, ScriptError, HasRunClients, HasRunNone, PrintedClients, WereRun, SinkFailed, TellsNamed, end_status, error_status, script_error_status}
 use Rattle.iso_refusal.specs.declared.open_error.OpenError.TheVariants as error
-use Rattle.iso_refusal.specs.Refusal.{refusal}
-use Rattle.iso_shared.specs.Standing.{start_at}
-use Rattle.par_text.specs.declared.part.Part.{Part}
-use Rattle.script_runner.specs.declared.run_end.RunEnd.{RunEnd}
 use Rattle.script_runner.specs.declared.run_end.RunEnd.TheVariants as end
-use Rattle.script_runner.specs.Run.{AreLinesOf, HasRun}
-use Rattle.iso_top.specs.Outcome.{HasAnswered, HasBenched, HasMet, HasNotBegun, HasRecovered, IsAccepted, IsGoodInput, IsStatus, PrintedBench, PrintedDigest, PrintedResult}
-use Rattle.whole_script.specs.declared.lines.ScriptError.{ScriptError}
 use Rattle.whole_script.specs.declared.lines.ScriptError.TheVariants as lines
-use Rattle.iso_top.specs.Clients.{HasRunClients, HasRunNone, PrintedClients, WereRun}
-use Rattle.iso_top.specs.Prints.{SinkFailed}
-use Rattle.iso_top.specs.Starts.{TellsNamed}
-use Rattle.iso_top.specs.Texts.{end_status, error_status, script_error_status}
 
 -- what a status tells of the counts
 pub record HasCauses (status : ℕ) (disk_old disk_new : DiskState) (input_old input_new : SourceState) (output_old output_new : SinkState) : Type 0 where

@@ -1,36 +1,6 @@
 -- A run of clients on an image that was opened, as the whole call has done it.
-use Rattle.std.proofs.lemmas.Option.{same_Some}
-use Rattle.std.proofs.Common.{◌≡◌, ◌⊎◌, inl, inr, ⊎_elim, ◌≤◌, ℕ, List, Option, None, refl, sym, ◌∙◌, ap, subst, arith}
-use Rattle.fault_count.specs.Count.{Rose}
-use Rattle.iso_core.specs.declared.core_itself.Core.{Core}
-use Rattle.iso_core.specs.Core.{StandsFor, disk_of}
-use Rattle.iso_core.specs.Standing.{up}
-use Rattle.iso_disk.specs.Disk.{DiskState, IsBoundTo, IsLawful, LeavesOnly}
-use Rattle.iso_disk.proofs.Moments.{joined, lasts, since_bind, still_bound, weakened}
-use Rattle.iso_io.specs.Sink.{SinkState}
-use Rattle.iso_io.specs.Source.{SourceState}
-use Rattle.iso_model.specs.declared.access.Geometry.{Geometry}
-use Rattle.script_model.specs.declared.script.Line.{Line}
-use Rattle.iso_model.specs.World.{World}
-use Rattle.iso_shared.specs.Standing.{start_at, whole}
-use Rattle.iso_shared.proofs.Growing.{between_grown, grows_all}
-use Rattle.iso_model.specs.Between.{ShowsBetween}
-use Rattle.iso_shared.specs.States.{Start, State, state_at}
-use Rattle.iso_refusal.specs.declared.open_error.OpenError.{OpenError}
-use Rattle.par_lines.specs.declared.par.ParEnd.{ParEnd}
-use Rattle.store_entries.proofs.Listed.{stores_answer_at}
-use Rattle.whole_script.specs.declared.lines.ScriptError.{ScriptError}
+use Rattle.iso_top.proofs.Words.{same_Some, ◌≡◌, ◌⊎◌, inl, inr, ⊎_elim, ◌≤◌, ℕ, List, Option, None, refl, sym, ◌∙◌, ap, subst, arith, Rose, Core, StandsFor, disk_of, up, DiskState, IsBoundTo, IsLawful, LeavesOnly, joined, lasts, since_bind, still_bound, weakened, SinkState, SourceState, Geometry, Line, World, start_at, whole, between_grown, grows_all, ShowsBetween, Start, State, state_at, OpenError, ParEnd, stores_answer_at, ScriptError, HasNoLines, HasRead, Opened, HasCore, HasNoCore, HasRunClients, HasRunNone, BeginsWith, HasNotBegun, Printed, HasClosed, HasRunLines, PutOf, OpensTo, error_text, script_error_status, script_error_text}
 use Rattle.whole_script.specs.declared.lines.ScriptError.TheVariants as error
-use Rattle.whole_script.specs.Read.{HasNoLines, HasRead}
-use Rattle.iso_top.specs.declared.opened.Opened.{Opened}
-use Rattle.iso_top.specs.Begun.{HasCore, HasNoCore}
-use Rattle.iso_top.specs.Clients.{HasRunClients, HasRunNone}
-use Rattle.iso_top.specs.Founded.{BeginsWith}
-use Rattle.iso_top.specs.Outcome.{HasNotBegun}
-use Rattle.iso_top.specs.Prints.{Printed}
-use Rattle.iso_top.specs.Ran.{HasClosed, HasRunLines, PutOf}
-use Rattle.iso_top.specs.Starts.{OpensTo}
-use Rattle.iso_top.specs.Texts.{error_text, script_error_status, script_error_text}
 use Rattle.iso_top.proofs.RunsOfClients.{failed_run, images_shown, were_run}
 
 -- nothing was begun

@@ -1,3 +1,4 @@
+pub mod Words
 mod Beginnings
 mod Runs
 mod Answered

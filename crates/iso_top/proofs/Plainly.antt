@@ -1,33 +1,7 @@
 -- The laws that say what the promise means, from its records.
-use Rattle.std.proofs.Common.{◌≡◌, ◌⊎◌, inl, inr, ⊎_elim, ℕ, ◌≤◌, List, Option, Some, None, IfSome, IsSome, refl, sym, ◌∙◌, ap, subst, arith}
-use Rattle.command_line.specs.declared.task.Task.TheVariants.{New, Run, Recover}
-use Rattle.iso_disk.specs.Disk.{DiskState, SinceBind}
-use Rattle.iso_io.specs.Sink.{SinkState, Wrote}
-use Rattle.iso_io.specs.Source.{SourceState}
-use Rattle.iso_model.specs.declared.access.Geometry.{Geometry}
-use Rattle.iso_model.specs.Between.{ShowsBetween}
-use Rattle.iso_model.specs.History.{last}
-use Rattle.iso_model.specs.World.{World, empty_history, fresh}
-use Rattle.iso_refusal.specs.declared.open_error.OpenError.{OpenError}
+use Rattle.iso_top.proofs.Words.{◌≡◌, ◌⊎◌, inl, inr, ⊎_elim, ℕ, ◌≤◌, List, Option, Some, None, IfSome, IsSome, refl, sym, ◌∙◌, ap, subst, arith, New, Run, Recover, DiskState, SinceBind, SinkState, Wrote, SourceState, Geometry, ShowsBetween, last, World, empty_history, fresh, OpenError, image_opens, Line, answers_to, recover_output, IsOp, Script, after, replies, script, RunEnd, AreSameButShown, TellsCommit, text_of, Acknowledges, AreLinesOf, ArePlain, told_kept, plain_same, all_first, HasRunClients, HasAnswered, HasMet, PrintedDigest, OpensFrom, PrintsButShown, PrintsButShownOf, PrintsDigestOf, PrintsReplies, PrintsRepliesOf, MayBeUnmade, OpensTo, TellsNamed, end_status, error_status}
 use Rattle.iso_refusal.specs.declared.open_error.OpenError.TheVariants as error
-use Rattle.iso_refusal.proofs.ImageLaws.{image_opens}
-use Rattle.script_model.specs.declared.script.Line.{Line}
-use Rattle.script_model.specs.Bench.{answers_to, recover_output}
-use Rattle.script_model.specs.Operations.{IsOp}
-use Rattle.script_model.specs.Script.{Script, after, replies, script}
-use Rattle.script_runner.specs.declared.run_end.RunEnd.{RunEnd}
 use Rattle.script_runner.specs.declared.run_end.RunEnd.TheVariants as end
-use Rattle.script_runner.specs.Replies.{AreSameButShown, TellsCommit, text_of}
-use Rattle.script_runner.specs.Run.{Acknowledges, AreLinesOf}
-use Rattle.script_runner.specs.Told.{ArePlain}
-use Rattle.script_runner.proofs.Acknowledged.{told_kept}
-use Rattle.script_runner.proofs.Replying.{plain_same}
-use Rattle.script_runner.proofs.Steps.{all_first}
-use Rattle.iso_top.specs.Clients.{HasRunClients}
-use Rattle.iso_top.specs.Outcome.{HasAnswered, HasMet, PrintedDigest}
-use Rattle.iso_top.specs.Plain.{OpensFrom, PrintsButShown, PrintsButShownOf, PrintsDigestOf, PrintsReplies, PrintsRepliesOf}
-use Rattle.iso_top.specs.Starts.{MayBeUnmade, OpensTo, TellsNamed}
-use Rattle.iso_top.specs.Texts.{end_status, error_status}
 
 zero_is_done : (e : RunEnd) → 0 ≡ end_status e → e ≡ end.Done
 zero_is_done end.Done is = refl

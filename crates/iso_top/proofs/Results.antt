@@ -1,16 +1,6 @@
 -- What is put of a digest.
-use Rattle.std.proofs.Common.{◌≡◌, ◌⊎◌, inl, inr, ℕ, ◌-◌, List, Option, Some, None, IsSome, Result, Ok, Err, IfOk, IsErrOf, refl}
-use Rattle.std.specs.Option.{ForSome}
-use Rattle.sha2.specs.Sha256.{sha256}
-use Rattle.array_digest.specs.declared.digest.DigestError.{DigestError}
+use Rattle.iso_top.proofs.Words.{◌≡◌, ◌⊎◌, inl, inr, ℕ, ◌-◌, List, Option, Some, None, IsSome, Result, Ok, Err, IfOk, IsErrOf, refl, ForSome, sha256, DigestError, DiskState, SinkState, array_bytes, History, array_at, last, PrintedDigest, Printed, WasCut, WroteWhole, disk_fault_text, memory_text, recover_text}
 use Rattle.array_digest.specs.declared.digest.DigestError.TheVariants as error
-use Rattle.iso_disk.specs.Disk.{DiskState}
-use Rattle.iso_io.specs.Sink.{SinkState}
-use Rattle.script_model.specs.Bench.{array_bytes}
-use Rattle.iso_model.specs.History.{History, array_at, last}
-use Rattle.iso_top.specs.Outcome.{PrintedDigest}
-use Rattle.iso_top.specs.Prints.{Printed, WasCut, WroteWhole}
-use Rattle.iso_top.specs.Texts.{disk_fault_text, memory_text, recover_text}
 
 pub some_of : (o : Option (List ℕ)) → IsSome o → (c : List ℕ) × (o ≡ Some c)
 some_of (Some c) is = (c, refl)

@@ -1,20 +1,9 @@
 -- The count of faults along a legal list.
-use Rattle.std.proofs.Common.{◌≡◌, ◌⊎◌, inl, inr, ℕ, ◌≤◌, Bool, true, false, cond, List, [], ◌∷◌, ◌++◌, Option, Some, None, IsSome, refl, sym, subst, arith}
-use Rattle.std.specs.List.{list_any}
-use Rattle.fault_count.specs.Count.{Rose}
-use Rattle.iso_model.specs.declared.access.Commit.{Commit}
-use Rattle.script_model.specs.declared.script.Line.{Line}
-use Rattle.iso_shared.specs.declared.entry.Call.{Call}
+use Rattle.iso_top.proofs.Words.{◌≡◌, ◌⊎◌, inl, inr, ℕ, ◌≤◌, Bool, true, false, cond, List, [], ◌∷◌, ◌++◌, Option, Some, None, IsSome, refl, sym, subst, arith, list_any, Rose, Commit, Line, Call, Cause, Entry, Fits, LegalFrom, MayRefuse, Start, State, after_all, after_fault, after_refusal, opened, state_at, status_of, stopped, wants, Told, Part}
 use Rattle.iso_shared.specs.declared.entry.Call.TheVariants as call
-use Rattle.iso_shared.specs.declared.entry.Cause.{Cause}
 use Rattle.iso_shared.specs.declared.entry.Cause.TheVariants as cause
-use Rattle.iso_shared.specs.declared.entry.Entry.{Entry}
 use Rattle.iso_shared.specs.declared.entry.Entry.TheVariants as entry
-use Rattle.iso_shared.specs.Legal.{Fits, LegalFrom, MayRefuse}
-use Rattle.iso_shared.specs.States.{Start, State, after, after_all, after_fault, after_refusal, opened, state_at}
-use Rattle.par_lines.specs.Ends.{status_of, stopped, wants}
-use Rattle.par_script.specs.Told.{Told}
-use Rattle.par_text.specs.declared.part.Part.{Part}
+use Rattle.iso_shared.specs.States.{after}
 use Rattle.iso_top.proofs.Stops.{Blames, HasBlame, blame_left, parts_blame}
 
 -- an entry leaves the count and whether the device is down, or it tells of a fault

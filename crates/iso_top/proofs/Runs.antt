@@ -1,13 +1,6 @@
 -- A run, without what its machine stands for.
-use Rattle.std.proofs.Common.{◌≡◌, ◌⊎◌, inl, inr, subst}
-use Rattle.iso_disk.specs.Disk.{DiskState}
-use Rattle.iso_io.specs.Sink.{SinkState}
-use Rattle.iso_io.specs.Source.{SourceState}
-use Rattle.script_model.specs.declared.script.BadLine.{BadLine}
-use Rattle.iso_model.specs.World.{World}
-use Rattle.script_runner.specs.declared.run_end.RunEnd.{RunEnd}
+use Rattle.iso_top.proofs.Words.{◌≡◌, ◌⊎◌, inl, inr, subst, DiskState, SinkState, SourceState, BadLine, World, RunEnd, HasRun, IfUp}
 use Rattle.script_runner.specs.declared.run_end.RunEnd.TheVariants as end
-use Rattle.script_runner.specs.Run.{HasRun, IfUp}
 
 nothing_up : (e : RunEnd) → IfUp e (Unit {0})
 nothing_up end.Done = tt

@@ -1,26 +1,5 @@
 -- What a run of clients over a core comes to, in the whole call.
-use Rattle.std.proofs.Common.{◌≡◌, ◌⊎◌, inl, inr, ℕ, Bool, true, false, List, ◌++◌, Option, Some, None, refl, subst, arith}
-use Rattle.std.specs.List.{list_any}
-use Rattle.fault_count.specs.Count.{Rose}
-use Rattle.iso_core.specs.declared.core_itself.Core.{Core}
-use Rattle.iso_core.specs.Core.{StandsFor, disk_of}
-use Rattle.iso_disk.specs.Disk.{DiskState}
-use Rattle.iso_io.specs.Sink.{SinkState}
-use Rattle.iso_machine.specs.Shown.{shows}
-use Rattle.iso_model.specs.declared.access.Commit.{Commit}
-use Rattle.script_model.specs.declared.script.Line.{Line}
-use Rattle.iso_model.specs.World.{World}
-use Rattle.iso_shared.specs.declared.entry.Entry.{Entry}
-use Rattle.iso_shared.specs.Standing.{Holds, standing_of}
-use Rattle.iso_shared.specs.States.{Start, State, state_at}
-use Rattle.par_lines.specs.declared.par.ParEnd.{ParEnd}
-use Rattle.par_lines.specs.Ends.{Ends, HasEnded, status_of, stopped, wants}
-use Rattle.par_text.specs.declared.part.Part.{Part}
-use Rattle.par_text.specs.Output.{IsFront, IsOutput}
-use Rattle.iso_top.specs.Clients.{PrintedClients, ShowsBehind, ShowsState, WereRun}
-use Rattle.iso_top.specs.Prints.{Printed, WasCut, WroteWhole}
-use Rattle.iso_top.specs.Ran.{PutOf}
-use Rattle.iso_top.specs.Texts.{memory_text}
+use Rattle.iso_top.proofs.Words.{◌≡◌, ◌⊎◌, inl, inr, ℕ, Bool, true, false, List, ◌++◌, Option, Some, None, refl, subst, arith, list_any, Rose, Core, StandsFor, disk_of, DiskState, SinkState, shows, Commit, Line, World, Entry, Holds, standing_of, Start, State, state_at, ParEnd, Ends, HasEnded, status_of, stopped, wants, Part, IsFront, IsOutput, PrintedClients, ShowsBehind, ShowsState, WereRun, Printed, WasCut, WroteWhole, PutOf, memory_text}
 use Rattle.iso_top.proofs.Rising.{fault_rose, status_by}
 
 -- ---- the images of now

@@ -1,29 +1,6 @@
 -- What `recover` and `bench` have done, from the world that a call begins with.
-use Rattle.std.proofs.Common.{◌≡◌, ◌≢◌, ◌⊎◌, inl, inr, ◌+◌, ◌++◌, ℕ, List, [], Option, Some, None, IfSome, IsSome, append-nil, refl, sym, ◌∙◌, ap, subst, arith}
-use Rattle.fault_count.specs.Count.{Rose}
-use Rattle.iso_disk.specs.Disk.{DiskState, LeavesOnly}
-use Rattle.iso_disk.proofs.Moments.{since_bind, still_bound}
-use Rattle.iso_io.specs.Sink.{SinkState}
-use Rattle.iso_io.specs.Source.{SourceState}
-use Rattle.iso_model.specs.declared.access.Geometry.{Geometry}
-use Rattle.script_model.specs.declared.script.Line.{Line}
-use Rattle.script_model.specs.Bench.{bench_geometry, bench_output, bench_text, bench_world, recover_output}
-use Rattle.iso_model.specs.History.{History}
-use Rattle.script_model.specs.Script.{Script, script}
-use Rattle.iso_model.specs.Worlds.{IsWorld}
-use Rattle.iso_model.specs.World.{World, empty_history, fresh}
-use Rattle.iso_core.specs.declared.core_itself.Core.{Core}
-use Rattle.iso_core.specs.Core.{StandsFor, disk_of}
-use Rattle.iso_core.specs.Standing.{up}
-use Rattle.script_runner.specs.declared.run_end.RunEnd.{RunEnd}
+use Rattle.iso_top.proofs.Words.{◌≡◌, ◌≢◌, ◌⊎◌, inl, inr, ◌+◌, ◌++◌, ℕ, List, [], Option, Some, None, IfSome, IsSome, append-nil, refl, sym, ◌∙◌, ap, subst, arith, Rose, DiskState, LeavesOnly, since_bind, still_bound, SinkState, SourceState, Geometry, Line, bench_geometry, bench_output, bench_text, bench_world, recover_output, History, Script, script, IsWorld, World, empty_history, fresh, Core, StandsFor, disk_of, up, RunEnd, AreFirst, AreLinesOf, HasRun, ArePlain, IsPlain, all_first, ShowsBetween, HasCore, HasBegun, HasBenched, HasRecovered, PrintedBench, PrintedDigest, PrintedResult, IsUntouched, MayBeUnmade, OpensTo, TellsNamed}
 use Rattle.script_runner.specs.declared.run_end.RunEnd.TheVariants as end
-use Rattle.script_runner.specs.Run.{AreFirst, AreLinesOf, HasRun}
-use Rattle.script_runner.specs.Told.{ArePlain, IsPlain}
-use Rattle.script_runner.proofs.Steps.{all_first}
-use Rattle.iso_model.specs.Between.{ShowsBetween}
-use Rattle.iso_top.specs.Begun.{HasCore}
-use Rattle.iso_top.specs.Outcome.{HasBegun, HasBenched, HasRecovered, PrintedBench, PrintedDigest, PrintedResult}
-use Rattle.iso_top.specs.Starts.{IsUntouched, MayBeUnmade, OpensTo, TellsNamed}
 use Rattle.iso_top.proofs.Answered.{has_begun}
 
 -- a core over a new image stands for the fresh world

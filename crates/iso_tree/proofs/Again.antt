@@ -1,18 +1,5 @@
 -- The nodes that a put reads once more are those of its descent, and the way up over them is the put below the root.
-use Rattle.std.proofs.Common.{◌≡◌, ◌∙◌, sym, refl, ap, ℕ, zero, suc, ◌+◌, ◌<◌, ◌≤◌, true, List, [], ◌∷◌, map, take, length, Option, None, arith, inl, inr}
-use Rattle.std.specs.List.{AllByRecursion, flat_map}
-use Rattle.std.proofs.lemmas.List.{append-nil}
-use Rattle.store_model.specs.declared.stores.Area.{Area}
-use Rattle.iso_model.specs.Array.{Array}
-use Rattle.iso_model.specs.Effect.{own}
-use Rattle.store_model.specs.HashRegion.{IsIn}
-use Rattle.iso_model.specs.Premises.{block_at}
-use Rattle.store_model.specs.Stores.{Program, accesses_of, answer_of}
-use Rattle.store_model.specs.Cells.{cell_count}
-use Rattle.store_model.specs.TreeNodes.{Cell, child_of, child_part, is_child}
-use Rattle.store_model.specs.Trees.{tree_at, nodes_in, IsOrdered}
-use Rattle.store_model.specs.TreeCalls.{climb, climb_on, full_row, look_again}
-use Rattle.store_model.specs.TreeRegion.{cells_in, AreNodes}
+use Rattle.iso_tree.proofs.Words.{◌≡◌, ◌∙◌, sym, refl, ap, ℕ, zero, suc, ◌+◌, ◌<◌, ◌≤◌, true, List, [], ◌∷◌, map, take, length, Option, None, arith, inl, inr, AllByRecursion, flat_map, append-nil, Area, Array, own, IsIn, block_at, Program, accesses_of, answer_of, cell_count, Cell, child_of, child_part, is_child, tree_at, nodes_in, IsOrdered, climb, climb_on, full_row, look_again, cells_in, AreNodes, AreWhole}
 use Rattle.iso_tree.proofs.Blocks.{in_cases}
 use Rattle.iso_tree.proofs.Climbs.{child_ordered}
 use Rattle.iso_tree.proofs.Facts.{child_below}
@@ -21,7 +8,6 @@ use Rattle.iso_tree.proofs.Putting.{child_all, node_children}
 use Rattle.iso_tree.proofs.Ranges.{all_append}
 use Rattle.iso_tree.proofs.Shapes.{kids, child_for, put_below}
 use Rattle.iso_tree.proofs.Ways.{path_below, counts, climb_below, climb_take}
-use Rattle.tx_blocks.proofs.Programs.{AreWhole}
 
 -- the nodes of these blocks
 abbrev pub nodes_at : (ℕ → List Cell) → List ℕ → List (ℕ × List Cell)

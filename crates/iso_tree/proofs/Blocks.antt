@@ -1,10 +1,6 @@
 -- Blocks that are reached once, and the trees that stay as they were.
-use Rattle.std.proofs.Common.{◌≡◌, ◌⊎◌, ◌∙◌, sym, refl, ap, subst, ℕ, zero, suc, true, false, cond, List, [], ◌∷◌, ◌++◌, inl, inr}
-use Rattle.std.specs.List.{flat_map}
-use Rattle.store_model.specs.TreeNodes.{before, Cell, child_of}
-use Rattle.store_model.specs.Trees.{Tree, tree_at, nodes_in, put_after, IsApart}
+use Rattle.iso_tree.proofs.Words.{◌≡◌, ◌⊎◌, ◌∙◌, sym, refl, ap, subst, ℕ, zero, suc, true, false, cond, List, [], ◌∷◌, ◌++◌, inl, inr, flat_map, before, Cell, child_of, Tree, tree_at, nodes_in, put_after, IsApart, IsIn}
 use Rattle.iso_tree.proofs.Shapes.{kids, chosen, set_chosen, IsAdded, IsGrown}
-use Rattle.store_model.specs.HashRegion.{IsIn}
 
 pub in_front : (k : ℕ) (xs ys : List ℕ) → IsIn k xs → IsIn k (xs ++ ys)
 in_front k [] ys is = absurd is

@@ -1,14 +1,6 @@
 -- A node's bytes, cell by cell.
-use Rattle.std.proofs.Common.{◌≡◌, ◌∙◌, sym, refl, ap, ℕ, zero, suc, ◌+◌, ◌-◌, ◌*◌, ◌/◌, ◌%◌, ◌<◌, ◌≤◌, Bool, true, false, not, cond, List, [], ◌∷◌, ◌++◌, take, drop, length, replicate, set, arith}
-use Rattle.std.specs.List.{AllByRecursion, flat_map, filter}
-use Rattle.std.proofs.lemmas.List.{append_assoc, append-nil, take_at, drop_at, length-append, length-replicate}
-use Rattle.std.proofs.lemmas.Grind.{flat_map-append}
-use Rattle.store_model.specs.Cells.{cell_count, keys_end, key_part, key_at, laid_at, value_mark}
-use Rattle.store_model.specs.Stores.{bytes_in}
-use Rattle.std.specs.Str.{bytes_eq}
-use Rattle.store_model.specs.TreeCalls.{without_key}
+use Rattle.iso_tree.proofs.Words.{◌≡◌, ◌∙◌, sym, refl, ap, ℕ, zero, suc, ◌+◌, ◌-◌, ◌*◌, ◌/◌, ◌%◌, ◌<◌, ◌≤◌, Bool, true, false, not, cond, List, [], ◌∷◌, ◌++◌, take, drop, length, replicate, set, arith, AllByRecursion, flat_map, filter, append_assoc, append-nil, take_at, drop_at, length-append, length-replicate, flat_map-append, cell_count, keys_end, key_part, key_at, laid_at, value_mark, bytes_in, bytes_eq, without_key, is_node, count_of, IsBlock, FitCells, Cell, node_bytes, cells_by}
 use Rattle.iso_tree.proofs.Fits.{cells_fit}
-use Rattle.store_model.specs.TreeNodes.{is_node, count_of, IsBlock, FitCells, Cell, node_bytes, cells_by}
 use Rattle.iso_tree.proofs.Bytes.{length-key_part, length-keys, length-values}
 use Rattle.iso_tree.proofs.Passes.{zeros_more}
 

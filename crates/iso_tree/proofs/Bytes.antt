@@ -1,17 +1,6 @@
 -- The bytes of a node spell its cells.
-use Rattle.std.proofs.Common.{◌≡◌, ◌∙◌, sym, refl, ap, subst, ℕ, zero, suc, ◌+◌, ◌-◌, ◌*◌, ◌/◌, ◌%◌, ◌<◌, ◌≤◌, true, List, [], ◌∷◌, ◌++◌, take, drop, length, replicate, arith, inl, inr}
-use Rattle.std.specs.List.{flat_map, list_all}
-use Rattle.std.proofs.lemmas.Bool.{cases_eq}
-use Rattle.std.proofs.lemmas.List.{append_assoc, take_at, drop_at, length-append, length-replicate, ext_get_or, drop-drop, drop-replicate}
-use Rattle.store_model.specs.declared.stores.Area.{Area}
-use Rattle.iso_model.specs.Array.{Array, merged, put}
-use Rattle.iso_model.specs.Premises.{block_at}
-use Rattle.store_model.specs.Stores.{bytes_in, store_access}
-use Rattle.store_model.specs.Cells.{cell_count, keys_end, keys_mark, value_mark, part_of, text_of, key_at, key_part, is_zero}
-use Rattle.store_model.specs.TreeNodes.{FitCells, count_of, Cell, node_bytes, cells_by, used_cells}
+use Rattle.iso_tree.proofs.Words.{◌≡◌, ◌∙◌, sym, refl, ap, subst, ℕ, zero, suc, ◌+◌, ◌-◌, ◌*◌, ◌/◌, ◌%◌, ◌<◌, ◌≤◌, true, List, [], ◌∷◌, ◌++◌, take, drop, length, replicate, arith, inl, inr, flat_map, list_all, cases_eq, append_assoc, take_at, drop_at, length-append, length-replicate, ext_get_or, drop-drop, drop-replicate, Area, Array, merged, put, block_at, bytes_in, store_access, cell_count, keys_end, keys_mark, value_mark, part_of, text_of, key_at, key_part, is_zero, FitCells, count_of, Cell, node_bytes, cells_by, used_cells, cells_in, length-merged, merged_at, written_block, other_block}
 use Rattle.iso_tree.proofs.Shapes.{write_cells}
-use Rattle.store_model.specs.TreeRegion.{cells_in}
-use Rattle.iso_model.proofs.Bytes.{length-merged, merged_at, written_block, other_block}
 use Rattle.iso_tree.proofs.Splits.{write_here, write_other}
 
 length-part_of : (n : ℕ) (text : List ℕ) → length text ≤ n → length (part_of n text) ≡ n + 1

@@ -1,27 +1,10 @@
 -- The way up, write by write.
-use Rattle.std.proofs.Common.{◌≡◌, ◌∙◌, sym, refl, ap, subst, ℕ, zero, suc, ◌+◌, ◌-◌, ◌*◌, ◌/◌, ◌<◌, ◌≤◌, ◌==◌, Bool, true, false, cond, nat_le, List, [], ◌∷◌, ◌++◌, length, take, drop, None, Result, Ok, arith, inl, inr, eq-eqb, ne_eqb, length-append}
-use Rattle.std.proofs.lemmas.Bool.Decides.{nat_tests}
-use Rattle.std.proofs.lemmas.List.{take_at, drop_at}
-use Rattle.iso_model.specs.declared.access.Access.{Access}
-use Rattle.store_model.specs.declared.stores.Area.{Area}
-use Rattle.store_model.specs.declared.stores.StoreError.{StoreError}
-use Rattle.store_model.specs.declared.stores.TxError.{TxError}
-use Rattle.store_model.specs.Cells.{cell_count, keys_end, value_mark}
-use Rattle.store_model.specs.Stores.{Program, Done, Store, bytes_in, store_access}
-use Rattle.tx_blocks.specs.Tx.{Tx, Device, with_accesses, room_of}
-use Rattle.tx_blocks.specs.Runs.{HasRun, IsCut, IsCause}
-use Rattle.tx_blocks.proofs.Progress.{IsAt, at_start, at_store}
-use Rattle.tx_blocks.proofs.Refusals.{cut_at_store}
-use Rattle.tx_blocks.proofs.Parts.{run_from}
-use Rattle.store_model.specs.TreeNodes.{Cell, child_part, count_of, node_bytes, used_cells}
-use Rattle.iso_tree.specs.Rows.{key_in_row, row_from, nodes_from, IsUsable, AreUsable, AreInside, AreBlocks}
-use Rattle.store_model.specs.Trees.{Put, first_key, emptied, half, halves, fit}
-use Rattle.store_model.specs.TreeCalls.{Answer, Climb, climb, climb_on, full_row, need_of, placed, root_cells, store_nodes}
+use Rattle.iso_tree.proofs.Words.{◌≡◌, ◌∙◌, sym, refl, ap, subst, ℕ, zero, suc, ◌+◌, ◌-◌, ◌*◌, ◌/◌, ◌<◌, ◌≤◌, ◌==◌, Bool, true, false, cond, nat_le, List, [], ◌∷◌, ◌++◌, length, take, drop, None, Result, Ok, arith, inl, inr, eq-eqb, ne_eqb, nat_tests, take_at, drop_at, Access, Area, StoreError, TxError, cell_count, keys_end, value_mark, Program, Done, Store, bytes_in, store_access, Tx, Device, with_accesses, room_of, HasRun, IsCut, IsCause, IsAt, at_start, at_store, cut_at_store, run_from, Cell, child_part, count_of, node_bytes, used_cells, key_in_row, row_from, nodes_from, IsUsable, AreUsable, AreInside, AreBlocks, Put, first_key, emptied, half, halves, fit, Answer, Climb, climb, climb_on, full_row, need_of, placed, root_cells, store_nodes, cases_eq}
+use Rattle.std.proofs.Common.{length-append}
 use Rattle.iso_tree.proofs.Enough.{fits_one}
 use Rattle.iso_tree.proofs.Filling.{row_split, length-row}
 use Rattle.iso_tree.proofs.Fits.{length-cells}
 use Rattle.iso_tree.proofs.Ways.{length-placed}
-use Rattle.std.proofs.lemmas.Bool.{cases_eq}
 
 -- one way on, with the node's writes
 abbrev on_from : (n : ℕ) → (key : List ℕ) → (level block : ℕ) → List (ℕ × List Cell) → Put → Climb

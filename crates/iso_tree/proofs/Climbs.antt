@@ -1,13 +1,6 @@
 -- A put below a node leaves one tree, or two with a separator, in the old ranges, with the new pair and the new blocks.
-use Rattle.std.proofs.Common.{◌≡◌, ◌≢◌, ◌∙◌, sym, refl, ap, subst, ℕ, zero, suc, ◌+◌, ◌<◌, ◌≤◌, true, false, cond, List, [], ◌∷◌, ◌++◌, length, map, Option, Some, None, arith, inl, inr}
-use Rattle.std.specs.List.{flat_map, AllByRecursion}
-use Rattle.std.proofs.lemmas.Bool.{and_parts}
-use Rattle.std.proofs.lemmas.List.{append_assoc, append-nil}
-use Rattle.store_model.specs.Cells.{text_of}
-use Rattle.store_model.specs.TreeNodes.{before, Cell, child_of}
-use Rattle.store_model.specs.Trees.{in_range, Tree, tree_at, pairs_in, nodes_in, put_after, IsApart, AreAfter, AreChildren, IsOrdered, Put, half, fit}
+use Rattle.iso_tree.proofs.Words.{◌≡◌, ◌≢◌, ◌∙◌, sym, refl, ap, subst, ℕ, zero, suc, ◌+◌, ◌<◌, ◌≤◌, true, false, cond, List, [], ◌∷◌, ◌++◌, length, map, Option, Some, None, arith, inl, inr, flat_map, AllByRecursion, and_parts, append_assoc, append-nil, text_of, before, Cell, child_of, in_range, Tree, tree_at, pairs_in, nodes_in, put_after, IsApart, AreAfter, AreChildren, IsOrdered, Put, half, fit, IsIn}
 use Rattle.iso_tree.proofs.Shapes.{kids, chosen, set_chosen, IsAdded, IsGrown, AreFrom, after_child, child_for, put_below, written, second_kid, IsFitCell, IsSized, AreSized}
-use Rattle.store_model.specs.HashRegion.{IsIn}
 use Rattle.iso_tree.proofs.Order.{put_rise, set_ordered, set_grown, grown_front, grown_more, head_key, head_set, not_before_empty, all_left, all_right, length-put_after, all_put_after, set_all, length-set_chosen}
 use Rattle.iso_tree.proofs.Blocks.{in_front, in_back, apart_parts, apart_join, grown_apart, chosen_kid, chosen_in, set_one, set_two}
 use Rattle.iso_tree.proofs.Splits.{written_append, fit_leaf, fit_inner}

@@ -1,25 +1,5 @@
 -- A removal is local.
-use Rattle.std.proofs.Common.{◌≡◌, ◌≢◌, ◌∙◌, sym, refl, ap, subst, ℕ, suc, ◌+◌, ◌<◌, ◌≤◌, ◌==◌, Bool, true, false, not, cond, List, [], ◌∷◌, ◌++◌, length, Option, Some, None, Result, Ok, Err, option_map, is_some, arith, inl, inr, eq-eqb, ne_eqb}
-use Rattle.std.specs.List.{AllByRecursion, filter}
-use Rattle.std.specs.Str.{bytes_eq}
-use Rattle.std.specs.FinMap.{get, remove}
-use Rattle.std.proofs.lemmas.Bool.{cases_Bool, cases_eq}
-use Rattle.iso_model.specs.declared.access.Access.{Access}
-use Rattle.store_model.specs.declared.stores.Area.{Area}
-use Rattle.store_model.specs.declared.stores.StoreError.{StoreError}
-use Rattle.store_model.specs.declared.stores.StoreError.TheVariants.{BadKey, Broken}
-use Rattle.iso_model.specs.Array.{Array, put}
-use Rattle.iso_model.specs.Effect.{own}
-use Rattle.store_model.specs.HashCalls.{at_cell, is_key}
-use Rattle.store_model.specs.HashRegion.{del_op}
-use Rattle.iso_model.specs.Premises.{block_at}
-use Rattle.store_model.specs.Stores.{Program, Done, bytes_in, then_do, accesses_of, answer_of, store_access, IsLocal}
-use Rattle.store_model.specs.Cells.{cell_count, keys_mark, value_mark, is_part, text_of}
-use Rattle.tx_blocks.proofs.Programs.{AreWhole, accesses_then, own_reads, whole_reads, IsCorrect, local_from}
-use Rattle.store_model.specs.TreeNodes.{IsBlock, FitCells, Cell, cell_of, count_of, node_bytes, is_head, head_mark}
-use Rattle.store_model.specs.Trees.{Rise, in_range, tree_at, IsOrdered}
-use Rattle.store_model.specs.TreeCalls.{Descent, AtLeaf, AtBroken, descend, with_head, without_key, edit_leaf, del_at, del_below, del_program}
-use Rattle.store_model.specs.TreeRegion.{cells_in, root_of, level_of, IsTreeArea, IsTreeRegion, tree_pairs, tree_map}
+use Rattle.iso_tree.proofs.Words.{◌≡◌, ◌≢◌, ◌∙◌, sym, refl, ap, subst, ℕ, suc, ◌+◌, ◌<◌, ◌≤◌, ◌==◌, Bool, true, false, not, cond, List, [], ◌∷◌, ◌++◌, length, Option, Some, None, Result, Ok, Err, option_map, is_some, arith, inl, inr, eq-eqb, ne_eqb, AllByRecursion, filter, bytes_eq, get, remove, cases_Bool, cases_eq, Access, Area, StoreError, BadKey, Broken, Array, put, own, at_cell, is_key, del_op, block_at, Program, Done, bytes_in, then_do, accesses_of, answer_of, store_access, IsLocal, cell_count, keys_mark, value_mark, is_part, text_of, AreWhole, accesses_then, own_reads, whole_reads, IsCorrect, local_from, IsBlock, FitCells, Cell, cell_of, count_of, node_bytes, is_head, head_mark, Rise, in_range, tree_at, IsOrdered, Descent, AtLeaf, AtBroken, descend, with_head, without_key, edit_leaf, del_at, del_below, del_program, cells_in, root_of, level_of, IsTreeArea, IsTreeRegion, tree_pairs, tree_map}
 use Rattle.iso_tree.proofs.Building.{filter_all}
 use Rattle.iso_tree.proofs.Bytes.{length-node_bytes}
 use Rattle.iso_tree.proofs.Edits.{leaf_of}

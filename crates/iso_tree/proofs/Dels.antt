@@ -1,24 +1,5 @@
 -- A removal takes the key out of the map of the region.
-use Rattle.std.proofs.Common.{◌≡◌, ◌≢◌, ◌∙◌, sym, refl, ap, subst, ℕ, suc, ◌+◌, ◌≤◌, ◌==◌, Bool, true, false, not, cond, IsTrue, List, [], ◌∷◌, ◌++◌, length, Option, Some, None, arith, inl, inr, ne_eqb}
-use Rattle.std.specs.List.{AllByRecursion}
-use Rattle.std.specs.Ordering.{nat_cmp, eq_by_cmp}
-use Rattle.std.specs.Str.{bytes_eq}
-use Rattle.std.specs.Cmp.Lexicographic.{slice_cmp, nat_list_cmp_total, nat_list_eq_equiv}
-use Rattle.std.specs.FinMap.{from_entries, get, remove, get-from_entries, get-remove, same_map, slice_cmp-IsAntisymmetric, nat_cmp-IsAntisymmetric}
-use Rattle.std.proofs.lemmas.Bool.{cases_Bool, cases_eq}
-use Rattle.std.proofs.lemmas.Slice.Eq.{bytes_eq-Decides}
-use Rattle.store_model.specs.declared.stores.Area.{Area}
-use Rattle.iso_model.specs.Effect.{or_else}
-use Rattle.iso_model.specs.Array.{Array, put}
-use Rattle.store_model.specs.HashRegion.{IsIn, Pairs}
-use Rattle.iso_model.specs.Premises.{block_at}
-use Rattle.store_model.specs.Stores.{bytes_in, store_access}
-use Rattle.store_model.specs.Cells.{cell_count, keys_mark, is_part, text_of, word_at}
-use Rattle.iso_model.proofs.Bytes.{length-block_put, written_block, other_block}
-use Rattle.store_model.specs.TreeNodes.{IsBlock, FitCells, Cell, is_node, used_cells, node_bytes, head_mark}
-use Rattle.store_model.specs.Trees.{tree_at, pairs_in, nodes_in, IsApart, in_range, Rise, IsOrdered}
-use Rattle.store_model.specs.TreeCalls.{without_key}
-use Rattle.store_model.specs.TreeRegion.{cells_in, root_of, level_of, IsNode, AreNodes, IsTreeRegion, tree_pairs, tree_nodes}
+use Rattle.iso_tree.proofs.Words.{◌≡◌, ◌≢◌, ◌∙◌, sym, refl, ap, subst, ℕ, suc, ◌+◌, ◌≤◌, ◌==◌, Bool, true, false, not, cond, IsTrue, List, [], ◌∷◌, ◌++◌, length, Option, Some, None, arith, inl, inr, ne_eqb, AllByRecursion, nat_cmp, eq_by_cmp, bytes_eq, slice_cmp, nat_list_cmp_total, nat_list_eq_equiv, from_entries, get, remove, get-from_entries, get-remove, same_map, slice_cmp-IsAntisymmetric, nat_cmp-IsAntisymmetric, cases_Bool, cases_eq, bytes_eq-Decides, Area, or_else, Array, put, IsIn, Pairs, block_at, bytes_in, store_access, cell_count, keys_mark, is_part, text_of, word_at, length-block_put, written_block, other_block, IsBlock, FitCells, Cell, is_node, used_cells, node_bytes, head_mark, tree_at, pairs_in, nodes_in, IsApart, in_range, Rise, IsOrdered, without_key, cells_in, root_of, level_of, IsNode, AreNodes, IsTreeRegion, tree_pairs, tree_nodes}
 use Rattle.iso_tree.proofs.Bytes.{length-node_bytes, merged_whole}
 use Rattle.iso_tree.proofs.Edits.{leaf_of, leaf_pairs, IsSwapped, IsEdited, edit_is}
 use Rattle.iso_tree.proofs.Finding.{found_in, find_append, ties}

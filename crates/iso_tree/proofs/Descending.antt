@@ -1,19 +1,6 @@
 -- A descent, step by step.
-use Rattle.std.proofs.Common.{◌≡◌, ◌∙◌, sym, refl, subst, ℕ, zero, suc, ◌+◌, ◌&&◌, Bool, true, false, cond, List, [], ◌∷◌, take, Result, Ok, Err, IfOk, IfErr}
-use Rattle.store_model.specs.declared.stores.Area.{Area}
-use Rattle.store_model.specs.declared.stores.StoreError.{StoreError}
+use Rattle.iso_tree.proofs.Words.{◌≡◌, ◌∙◌, sym, refl, subst, ℕ, zero, suc, ◌+◌, ◌&&◌, Bool, true, false, cond, List, [], ◌∷◌, take, Result, Ok, Err, IfOk, IfErr, Area, StoreError, Program, Done, Look, further_bytes, then_do, keys_end, keys_mark, Tx, Device, IsLater, Ran, IsCut, HasRun, HasRead, IsAt, at_then, ran_at, cut_then, later_than, cause_since, cut_from, read_join, Leaf, is_node, is_child, child_of, count_of, Descent, AtLeaf, AtBroken, descend, inner_further, leaf_further, IsWalkError, OnlyReads, child_program, leaf_program, HasDescended, HasReadLeaf}
 use Rattle.store_model.specs.declared.stores.StoreError.TheVariants as store
-use Rattle.store_model.specs.Stores.{Program, Done, Look, further_bytes, then_do}
-use Rattle.store_model.specs.Cells.{keys_end, keys_mark}
-use Rattle.tx_blocks.specs.Tx.{Tx, Device, IsLater}
-use Rattle.tx_blocks.specs.Runs.{Ran, IsCut, HasRun, HasRead}
-use Rattle.tx_blocks.proofs.Progress.{IsAt, at_then, ran_at}
-use Rattle.tx_blocks.proofs.Refusals.{cut_then, later_than, cause_since}
-use Rattle.tx_blocks.proofs.Parts.{cut_from, read_join}
-use Rattle.iso_tree.specs.declared.descent.Leaf.{Leaf}
-use Rattle.store_model.specs.TreeNodes.{is_node, is_child, child_of, count_of}
-use Rattle.store_model.specs.TreeCalls.{Descent, AtLeaf, AtBroken, descend, inner_further, leaf_further}
-use Rattle.iso_tree.specs.Walks.{IsWalkError, OnlyReads, child_program, leaf_program, HasDescended, HasReadLeaf}
 use Rattle.iso_tree.proofs.Looking.{at_as}
 
 module _ (a : Area) (key : List ℕ) (with_value : Bool) where

@@ -1,12 +1,6 @@
 -- One leaf edited, and no other block changed: what a put into a found cell and a del do to a tree.
-use Rattle.std.proofs.Common.{◌≡◌, ◌≢◌, ◌∙◌, sym, refl, ap, subst, ℕ, zero, suc, true, false, cond, List, [], ◌∷◌, ◌++◌, map, Option, inl, inr}
-use Rattle.std.specs.List.{flat_map}
-use Rattle.std.proofs.lemmas.List.{append_assoc, append-nil}
-use Rattle.store_model.specs.Cells.{text_of}
-use Rattle.store_model.specs.TreeNodes.{before, Cell, child_of}
-use Rattle.store_model.specs.Trees.{in_range, Tree, tree_at, pairs_in, nodes_in, IsApart, AreChildren, Rise, IsOrdered}
+use Rattle.iso_tree.proofs.Words.{◌≡◌, ◌≢◌, ◌∙◌, sym, refl, ap, subst, ℕ, zero, suc, true, false, cond, List, [], ◌∷◌, ◌++◌, map, Option, inl, inr, flat_map, append_assoc, append-nil, text_of, before, Cell, child_of, in_range, Tree, tree_at, pairs_in, nodes_in, IsApart, AreChildren, Rise, IsOrdered, IsIn}
 use Rattle.iso_tree.proofs.Shapes.{kids, chosen, set_chosen, IsGrown, child_for}
-use Rattle.store_model.specs.HashRegion.{IsIn}
 use Rattle.iso_tree.proofs.Order.{set_ordered, set_grown, head_set, not_before_empty}
 use Rattle.iso_tree.proofs.Blocks.{chosen_kid, chosen_in, set_one}
 use Rattle.iso_tree.proofs.Climbs.{children_from, chosen_apart, child_ordered}

@@ -1,17 +1,5 @@
 -- A call on a well-formed region whose tree is not empty: where its descent ends, and what comes after it.
-use Rattle.std.proofs.Common.{◌≡◌, ◌≢◌, ◌∙◌, ap, ℕ, ◌+◌, ◌<◌, Bool, false, cond, List, [], None, option_map, arith, inl, inr, ne_eqb}
-use Rattle.store_model.specs.declared.stores.Area.{Area}
-use Rattle.iso_model.specs.Array.{Array}
-use Rattle.iso_model.specs.Effect.{own}
-use Rattle.iso_model.specs.Premises.{block_at}
-use Rattle.store_model.specs.Stores.{Program, bytes_in, then_do, accesses_of, answer_of}
-use Rattle.store_model.specs.Cells.{keys_mark, value_mark, text_of}
-use Rattle.tx_blocks.proofs.Programs.{accesses_then, answer_then, own_reads}
-use Rattle.tx_blocks.proofs.Progress.{own_append}
-use Rattle.store_model.specs.TreeNodes.{cell_of, count_of}
-use Rattle.store_model.specs.Trees.{tree_at, pairs_in, IsOrdered}
-use Rattle.store_model.specs.TreeCalls.{Descent, AtLeaf, descend}
-use Rattle.store_model.specs.TreeRegion.{cells_in, root_of, level_of, AreNodes, IsTreeRegion, tree_pairs}
+use Rattle.iso_tree.proofs.Words.{◌≡◌, ◌≢◌, ◌∙◌, ap, ℕ, ◌+◌, ◌<◌, Bool, false, cond, List, [], None, option_map, arith, inl, inr, ne_eqb, Area, Array, own, block_at, Program, bytes_in, then_do, accesses_of, answer_of, keys_mark, value_mark, text_of, accesses_then, answer_then, own_reads, own_append, cell_of, count_of, tree_at, pairs_in, IsOrdered, Descent, AtLeaf, descend, cells_in, root_of, level_of, AreNodes, IsTreeRegion, tree_pairs}
 use Rattle.iso_tree.proofs.Edits.{leaf_of}
 use Rattle.iso_tree.proofs.Finding.{found_in}
 use Rattle.iso_tree.proofs.Gets.{descend_reads, leaf_finds}

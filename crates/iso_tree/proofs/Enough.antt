@@ -1,12 +1,5 @@
 -- How many blocks a put takes: one for each full node in a row from the leaf up.
-use Rattle.std.proofs.Common.{◌≡◌, ◌⊎◌, ◌∙◌, sym, refl, ap, subst, ℕ, zero, suc, ◌+◌, ◌<◌, ◌≤◌, ◌==◌, true, false, cond, nat_le, List, [], ◌∷◌, ◌++◌, length, Option, Some, None, arith, inl, inr, eq-eqb, ne_eqb}
-use Rattle.std.specs.List.{AllByRecursion}
-use Rattle.std.proofs.lemmas.Bool.{and_from, cases_eq}
-use Rattle.std.proofs.lemmas.Bool.Decides.{nat_tests}
-use Rattle.std.proofs.lemmas.List.{append_assoc, map-append, length-append}
-use Rattle.store_model.specs.TreeNodes.{Cell, child_of, child_part}
-use Rattle.store_model.specs.Trees.{tree_at, AreChildren, IsOrdered, Put, put_after, halves, fit}
-use Rattle.store_model.specs.TreeCalls.{full_row}
+use Rattle.iso_tree.proofs.Words.{◌≡◌, ◌⊎◌, ◌∙◌, sym, refl, ap, subst, ℕ, zero, suc, ◌+◌, ◌<◌, ◌≤◌, ◌==◌, true, false, cond, nat_le, List, [], ◌∷◌, ◌++◌, length, Option, Some, None, arith, inl, inr, eq-eqb, ne_eqb, AllByRecursion, and_from, cases_eq, nat_tests, append_assoc, map-append, length-append, Cell, child_of, child_part, tree_at, AreChildren, IsOrdered, Put, put_after, halves, fit, full_row}
 use Rattle.iso_tree.proofs.Climbs.{child_ordered}
 use Rattle.iso_tree.proofs.Order.{all_left, all_right, length-put_after}
 use Rattle.iso_tree.proofs.Shapes.{kids, after_child, child_for, put_below}

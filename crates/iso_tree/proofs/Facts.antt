@@ -1,11 +1,5 @@
 -- What the tests of nodes and heads say.
-use Rattle.std.proofs.Common.{◌≡◌, ◌∙◌, sym, refl, ap, ℕ, zero, suc, ◌+◌, ◌<◌, ◌≤◌, Bool, true, false, ◌&&◌, ◌||◌, ◌==◌, nat_le, cond, List, length, Option, Some, None, Result, Ok, Err, arith}
-use Rattle.std.specs.Str.{bytes_eq}
-use Rattle.std.proofs.lemmas.Bool.{and_parts, leb-true, ltb-true}
-use Rattle.store_model.specs.declared.stores.Area.{Area}
-use Rattle.store_model.specs.Cells.{cell_count, key_at, are_key_parts, word_at}
-use Rattle.iso_model.specs.Conflict.{first_from}
-use Rattle.store_model.specs.TreeNodes.{found_or, cell_of, count_of, has_head, has_level, are_cells, is_node, is_child, child_of, is_head}
+use Rattle.iso_tree.proofs.Words.{◌≡◌, ◌∙◌, sym, refl, ap, ℕ, zero, suc, ◌+◌, ◌<◌, ◌≤◌, Bool, true, false, ◌&&◌, ◌||◌, ◌==◌, nat_le, cond, List, length, Option, Some, None, Result, Ok, Err, arith, bytes_eq, and_parts, leb-true, ltb-true, Area, cell_count, key_at, are_key_parts, word_at, first_from, found_or, cell_of, count_of, has_head, has_level, are_cells, is_node, is_child, child_of, is_head}
 
 pub record IsParts (size level : ℕ) (keys : List ℕ) : Type 0 where
   pub head : has_head size level keys ≡ true

@@ -1,16 +1,5 @@
 -- The bytes of a node that gets a cell, cell by cell.
-use Rattle.std.proofs.Common.{◌≡◌, ◌∙◌, sym, refl, ap, ℕ, zero, suc, ◌+◌, ◌-◌, ◌*◌, ◌/◌, ◌%◌, ◌<◌, ◌≤◌, ◌==◌, true, false, cond, List, [], ◌∷◌, ◌++◌, length, map, take, drop, replicate, arith, inl, inr, eq-eqb, ne_eqb}
-use Rattle.std.specs.Prelude.{nat_lt}
-use Rattle.std.specs.List.{range_with_len, flat_map}
-use Rattle.std.proofs.lemmas.Bool.{cases_lt, cases_eq}
-use Rattle.std.proofs.lemmas.Bool.Decides.{nat_tests}
-use Rattle.std.proofs.lemmas.List.{append_assoc, length-take, length-drop}
-use Rattle.store_model.specs.Cells.{cell_count, keys_end, key_part, value_mark, key_at, are_key_parts, laid_at}
-use Rattle.store_model.specs.Stores.{bytes_in}
-use Rattle.store_model.specs.TreeNodes.{before, Cell, FitCells, IsBlock, count_of, cells_by, used_cells, node_bytes}
-use Rattle.iso_tree.specs.Rows.{upto_from, key_in_row, part_in_row, row_from}
-use Rattle.store_model.specs.Trees.{put_after}
-use Rattle.store_model.specs.TreeCalls.{placed}
+use Rattle.iso_tree.proofs.Words.{◌≡◌, ◌∙◌, sym, refl, ap, ℕ, zero, suc, ◌+◌, ◌-◌, ◌*◌, ◌/◌, ◌%◌, ◌<◌, ◌≤◌, ◌==◌, true, false, cond, List, [], ◌∷◌, ◌++◌, length, map, take, drop, replicate, arith, inl, inr, eq-eqb, ne_eqb, nat_lt, range_with_len, flat_map, cases_lt, cases_eq, nat_tests, append_assoc, length-take, length-drop, cell_count, keys_end, key_part, value_mark, key_at, are_key_parts, laid_at, bytes_in, before, Cell, FitCells, IsBlock, count_of, cells_by, used_cells, node_bytes, upto_from, key_in_row, part_in_row, row_from, put_after, placed}
 use Rattle.iso_tree.proofs.Building.{laid_mid}
 use Rattle.iso_tree.proofs.Bytes.{length-key_part}
 use Rattle.iso_tree.proofs.Fits.{key_short}

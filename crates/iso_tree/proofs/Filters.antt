@@ -1,8 +1,5 @@
 -- A leaf without some of its cells still rises.
-use Rattle.std.proofs.Common.{◌≡◌, ℕ, Bool, true, false, cond, List, [], ◌∷◌, Option}
-use Rattle.std.specs.List.{filter}
-use Rattle.store_model.specs.TreeNodes.{before, Cell}
-use Rattle.store_model.specs.Trees.{in_range, Rise, RiseAfter}
+use Rattle.iso_tree.proofs.Words.{◌≡◌, ℕ, Bool, true, false, cond, List, [], ◌∷◌, Option, filter, before, Cell, in_range, Rise, RiseAfter}
 use Rattle.iso_tree.proofs.Ranges.{low_of, range_within}
 use Rattle.iso_tree.proofs.Order.{before_trans}
 

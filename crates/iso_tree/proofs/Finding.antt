@@ -1,16 +1,5 @@
 -- What a look-up finds among pairs.
-use Rattle.std.proofs.Common.{◌≡◌, ◌≢◌, ◌∙◌, sym, refl, ap, subst, ℕ, ◌+◌, Bool, true, false, ◌==◌, cond, List, [], ◌∷◌, ◌++◌, Option, Some, None, option_map, arith}
-use Rattle.std.specs.List.{AllByRecursion}
-use Rattle.std.specs.Ordering.{nat_cmp, eq_by_cmp}
-use Rattle.std.specs.Cmp.Lexicographic.{slice_cmp, lists_ties}
-use Rattle.std.specs.FinMap.{find}
-use Rattle.std.specs.Str.{bytes_eq}
-use Rattle.std.proofs.lemmas.Bool.{false_from_ne_true}
-use Rattle.std.proofs.lemmas.Bool.Decides.{nat_tests}
-use Rattle.std.proofs.lemmas.Slice.Eq.{bytes_eq-Decides}
-use Rattle.iso_model.specs.Conflict.{first_from}
-use Rattle.iso_model.specs.Effect.{or_else}
-use Rattle.store_model.specs.Trees.{in_range}
+use Rattle.iso_tree.proofs.Words.{◌≡◌, ◌≢◌, ◌∙◌, sym, refl, ap, subst, ℕ, ◌+◌, Bool, true, false, ◌==◌, cond, List, [], ◌∷◌, ◌++◌, Option, Some, None, option_map, arith, AllByRecursion, nat_cmp, eq_by_cmp, slice_cmp, lists_ties, find, bytes_eq, false_from_ne_true, nat_tests, bytes_eq-Decides, first_from, or_else, in_range}
 
 nat_ties : (x y : ℕ) → (x == y) ≡ eq_by_cmp nat_cmp x y
 nat_ties x y = grind (arith, nat_tests)

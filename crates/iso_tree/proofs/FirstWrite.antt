@@ -1,18 +1,5 @@
 -- The bytes and marks of the first block's write, as the code makes them.
-use Rattle.std.proofs.Common.{◌≡◌, ◌∙◌, sym, refl, ap, subst, ℕ, suc, ◌+◌, ◌-◌, ◌/◌, ◌<◌, ◌≤◌, List, [], ◌∷◌, ◌++◌, length, take, drop, get_or, Some, None, arith}
-use Rattle.std.specs.Int.{w32, to_be_bytes}
-use Rattle.iso_model.specs.declared.access.Span.{Span}
-use Rattle.store_model.specs.declared.stores.Area.{Area}
-use Rattle.store_model.specs.Cells.{block_with, laid_at}
-use Rattle.store_model.specs.FreeMap.{map_bytes}
-use Rattle.iso_model.specs.Premises.{IsSpan}
-use Rattle.store_model.specs.Stores.{bytes_in, store_access}
-use Rattle.tx_blocks.specs.Tx.{Tx, with_accesses}
-use Rattle.iso_tree.specs.FirstBlock.{Up, ends, first_access}
-use Rattle.store_model.specs.TreeNodes.{head_mark}
-use Rattle.iso_tree.specs.Rows.{AreBlocks}
-use Rattle.store_model.specs.TreeCalls.{with_used, last_of, changed_mark, changed_map}
-use Rattle.store_model.specs.TreeRegion.{IsTreeArea}
+use Rattle.iso_tree.proofs.Words.{◌≡◌, ◌∙◌, sym, refl, ap, subst, ℕ, suc, ◌+◌, ◌-◌, ◌/◌, ◌<◌, ◌≤◌, List, [], ◌∷◌, ◌++◌, length, take, drop, get_or, Some, None, arith, w32, to_be_bytes, Span, Area, block_with, laid_at, map_bytes, IsSpan, bytes_in, store_access, Tx, with_accesses, Up, ends, first_access, head_mark, AreBlocks, with_used, last_of, changed_mark, changed_map, IsTreeArea}
 use Rattle.iso_tree.proofs.Frames.{piece_of}
 
 pub ends_at : (news : List ℕ) → 0 < length news → (get_or news 0 0, get_or news (length news - 1) 0) ≡ ends news

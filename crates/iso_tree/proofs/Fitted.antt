@@ -1,18 +1,5 @@
 -- A node that gets one more cell, or its two halves, as nodes of the array.
-use Rattle.std.proofs.Common.{◌≡◌, ◌≢◌, ◌⊎◌, ◌∙◌, sym, refl, ap, subst, ℕ, zero, suc, ◌+◌, ◌<◌, true, false, cond, nat_le, List, [], ◌∷◌, ◌++◌, take, drop, length, Option, Some, None, arith, inl, inr}
-use Rattle.std.specs.List.{AllByRecursion, flat_map}
-use Rattle.std.proofs.lemmas.List.{take-append-drop, map-append}
-use Rattle.std.proofs.lemmas.Grind.{flat_map-append}
-use Rattle.store_model.specs.declared.stores.Area.{Area}
-use Rattle.iso_model.specs.Array.{Array, put}
-use Rattle.store_model.specs.HashRegion.{IsIn}
-use Rattle.iso_model.specs.Premises.{block_at}
-use Rattle.store_model.specs.Stores.{store_access}
-use Rattle.store_model.specs.Cells.{cell_count}
-use Rattle.iso_model.proofs.Bytes.{length-block_put, other_block}
-use Rattle.store_model.specs.TreeNodes.{Cell, FitCells, IsBlock, child_of, used_cells, node_bytes}
-use Rattle.store_model.specs.Trees.{Tree, tree_at, nodes_in, IsApart, AreAfter, AreChildren, IsOrdered, Put, first_key, without_first, emptied, half, halves, fit}
-use Rattle.store_model.specs.TreeRegion.{cells_in, is_part_at, IsNode, AreNodes}
+use Rattle.iso_tree.proofs.Words.{◌≡◌, ◌≢◌, ◌⊎◌, ◌∙◌, sym, refl, ap, subst, ℕ, zero, suc, ◌+◌, ◌<◌, true, false, cond, nat_le, List, [], ◌∷◌, ◌++◌, take, drop, length, Option, Some, None, arith, inl, inr, AllByRecursion, flat_map, take-append-drop, map-append, flat_map-append, Area, Array, put, IsIn, block_at, store_access, cell_count, length-block_put, other_block, Cell, FitCells, IsBlock, child_of, used_cells, node_bytes, Tree, tree_at, nodes_in, IsApart, AreAfter, AreChildren, IsOrdered, Put, first_key, without_first, emptied, half, halves, fit, cells_in, is_part_at, IsNode, AreNodes}
 use Rattle.iso_tree.proofs.Blocks.{in_front, in_back, apart_parts}
 use Rattle.iso_tree.proofs.Bytes.{cells_are}
 use Rattle.iso_tree.proofs.Fits.{rise_strict}

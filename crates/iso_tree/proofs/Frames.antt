@@ -1,16 +1,5 @@
 -- What a marked write leaves of the bytes in a span.
-use Rattle.std.proofs.Common.{◌≡◌, ◌⊎◌, ◌∙◌, sym, refl, ap, ℕ, zero, suc, ◌+◌, ◌-◌, ◌≤◌, true, false, cond, List, [], ◌∷◌, ◌++◌, length, get_or, take, drop, replicate, arith, zero-add, inl, inr, nat_le}
-use Rattle.std.specs.List.{list_all}
-use Rattle.std.proofs.lemmas.Bool.{cases_lt}
-use Rattle.std.proofs.lemmas.Bool.Decides.{nat_tests}
-use Rattle.std.proofs.lemmas.List.{ext_get_or, get_or_past, get_or-take, get_or-drop, get_or_append_left, get_or-append-add, length-append, length-replicate, length-take-le, take-take, drop-take, take_at, drop_at, drop-replicate, take-replicate}
-use Rattle.iso_model.specs.declared.access.Span.{Span}
-use Rattle.iso_model.specs.Array.{covered, in_span, merged}
-use Rattle.store_model.specs.Stores.{bytes_in}
-use Rattle.store_model.specs.Cells.{is_zero, is_part, text_of, part_of, laid_at}
-use Rattle.iso_model.proofs.Bytes.{length-merged, merged_at, merged_kept}
-use Rattle.tx_blocks.proofs.Programs.{same_bytes}
-use Rattle.store_model.proofs.Laying.{length-laid_at}
+use Rattle.iso_tree.proofs.Words.{◌≡◌, ◌⊎◌, ◌∙◌, sym, refl, ap, ℕ, zero, suc, ◌+◌, ◌-◌, ◌≤◌, true, false, cond, List, [], ◌∷◌, ◌++◌, length, get_or, take, drop, replicate, arith, zero-add, inl, inr, nat_le, list_all, cases_lt, nat_tests, ext_get_or, get_or_past, get_or-take, get_or-drop, get_or_append_left, get_or-append-add, length-append, length-replicate, length-take-le, take-take, drop-take, take_at, drop_at, drop-replicate, take-replicate, Span, covered, in_span, merged, bytes_in, is_zero, is_part, text_of, part_of, laid_at, length-merged, merged_at, merged_kept, same_bytes, length-laid_at}
 
 -- spans that stand apart
 abbrev pub AreApart : Span → Span → Type 0

@@ -1,29 +1,6 @@
 -- The descent finds what the map of the region has.
-use Rattle.std.proofs.Common.{◌≡◌, ◌∙◌, sym, refl, ap, subst, ℕ, zero, suc, ◌+◌, ◌-◌, ◌<◌, ◌≤◌, Bool, true, false, ◌&&◌, ◌==◌, cond, List, [], ◌∷◌, ◌++◌, map, Option, Some, None, Result, Ok, Err, option_map, arith, inl, inr, eq-eqb, ne_eqb}
-use Rattle.std.specs.List.{AllByRecursion, flat_map}
-use Rattle.std.specs.Ordering.{nat_cmp, eq_by_cmp}
-use Rattle.std.specs.Str.{bytes_eq}
-use Rattle.std.specs.Cmp.Lexicographic.{slice_cmp, nat_list_cmp_total, nat_list_eq_equiv}
-use Rattle.std.specs.FinMap.{get, get-from_entries}
-use Rattle.std.proofs.lemmas.Bool.{and_parts, both_ways, cases_eq}
-use Rattle.std.proofs.lemmas.List.{append-nil}
-use Rattle.store_model.specs.declared.stores.Area.{Area}
-use Rattle.store_model.specs.declared.stores.StoreError.{StoreError}
-use Rattle.store_model.specs.declared.stores.StoreError.TheVariants.{Broken}
-use Rattle.iso_model.specs.Array.{Array}
-use Rattle.iso_model.specs.Effect.{or_else}
-use Rattle.iso_model.specs.Conflict.{first_from}
-use Rattle.iso_model.specs.Premises.{block_at}
-use Rattle.store_model.specs.Stores.{AreReads, Program, Done, bytes_in, further_bytes, accesses_of, answer_of, then_do, IsLocal}
-use Rattle.store_model.specs.Cells.{keys_mark, value_mark, is_part, text_of, key_at}
-use Rattle.store_model.specs.HashCalls.{at_cell, is_key}
-use Rattle.store_model.specs.HashRegion.{get_op}
-use Rattle.store_model.specs.TreeNodes.{before, count_of, place_from, place_of, is_child, is_node, Cell, child_of, head_mark, is_head, cells_by, cell_of}
-use Rattle.store_model.specs.Trees.{in_range, Tree, tree_at, pairs_in, AreAfter, AreChildren, Rise, RiseAfter, IsOrdered}
+use Rattle.iso_tree.proofs.Words.{◌≡◌, ◌∙◌, sym, refl, ap, subst, ℕ, zero, suc, ◌+◌, ◌-◌, ◌<◌, ◌≤◌, Bool, true, false, ◌&&◌, ◌==◌, cond, List, [], ◌∷◌, ◌++◌, map, Option, Some, None, Result, Ok, Err, option_map, arith, inl, inr, eq-eqb, ne_eqb, AllByRecursion, flat_map, nat_cmp, eq_by_cmp, bytes_eq, slice_cmp, nat_list_cmp_total, nat_list_eq_equiv, get, get-from_entries, and_parts, both_ways, cases_eq, append-nil, Area, StoreError, Broken, Array, or_else, first_from, block_at, AreReads, Program, Done, bytes_in, further_bytes, accesses_of, answer_of, then_do, IsLocal, keys_mark, value_mark, is_part, text_of, key_at, at_cell, is_key, get_op, before, count_of, place_from, place_of, is_child, is_node, Cell, child_of, head_mark, is_head, cells_by, cell_of, in_range, Tree, tree_at, pairs_in, AreAfter, AreChildren, Rise, RiseAfter, IsOrdered, with_head, inner_further, get_below, Descent, AtLeaf, AtBroken, descend, got, get_program, cells_in, root_of, level_of, AreNodes, tree_pairs, IsTreeRegion, tree_map, answer_then, own_reads, whole_reads, reads_then, IsCorrect, local_from}
 use Rattle.iso_tree.proofs.Shapes.{kids, chosen, child_for}
-use Rattle.store_model.specs.TreeCalls.{with_head, inner_further, get_below, Descent, AtLeaf, AtBroken, descend, got, get_program}
-use Rattle.store_model.specs.TreeRegion.{cells_in, root_of, level_of, AreNodes, tree_pairs, IsTreeRegion, tree_map}
-use Rattle.tx_blocks.proofs.Programs.{answer_then, own_reads, whole_reads, reads_then, IsCorrect, local_from}
 use Rattle.iso_tree.proofs.Finding.{found_in, find_append, find_outside, ties, at_test}
 use Rattle.iso_tree.proofs.Reading.{cond_reads, same_ok}
 use Rattle.iso_tree.proofs.Ranges.{low_of, range_within, range_cut, all_append, all_weaker}

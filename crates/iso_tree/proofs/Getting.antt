@@ -1,23 +1,6 @@
 -- A get, part by part.
-use Rattle.std.proofs.Common.{◌≡◌, ◌≢◌, ◌∙◌, sym, refl, ap, subst, ℕ, ◌+◌, Bool, true, false, cond, List, [], take, Option, Some, None, Result, Ok, Err, IfOk, option_map, ne_eqb, eq-eqb}
-use Rattle.store_model.specs.declared.stores.Area.{Area}
-use Rattle.store_model.specs.declared.stores.StoreError.{StoreError}
+use Rattle.iso_tree.proofs.Words.{◌≡◌, ◌≢◌, ◌∙◌, sym, refl, ap, subst, ℕ, ◌+◌, Bool, true, false, cond, List, [], take, Option, Some, None, Result, Ok, Err, IfOk, option_map, ne_eqb, eq-eqb, Area, StoreError, own, Program, Done, Look, bytes_in, further_bytes, then_do, IsLocal, keys_end, value_mark, word_at, is_part, text_of, at_cell, is_key, get_op, Tx, Ran, IsCut, HasRun, IsLocalCall, IsAt, at_start, at_then, ran_at, whole_run, cut_then, run_from, Leaf, is_head, head_mark, Descent, AtLeaf, AtBroken, descend, got, get_below, get_program, with_head, tree_map, IsTreeRegion, head_program, HasDescended, IsLeaf, leaf_value}
 use Rattle.store_model.specs.declared.stores.StoreError.TheVariants as store
-use Rattle.iso_model.specs.Effect.{own}
-use Rattle.store_model.specs.Stores.{Program, Done, Look, bytes_in, further_bytes, then_do, IsLocal}
-use Rattle.store_model.specs.Cells.{keys_end, value_mark, word_at, is_part, text_of}
-use Rattle.store_model.specs.HashCalls.{at_cell, is_key}
-use Rattle.store_model.specs.HashRegion.{get_op}
-use Rattle.tx_blocks.specs.Tx.{Tx}
-use Rattle.tx_blocks.specs.Runs.{Ran, IsCut, HasRun, IsLocalCall}
-use Rattle.tx_blocks.proofs.Progress.{IsAt, at_start, at_then, ran_at, whole_run}
-use Rattle.tx_blocks.proofs.Refusals.{cut_then}
-use Rattle.tx_blocks.proofs.Parts.{run_from}
-use Rattle.iso_tree.specs.declared.descent.Leaf.{Leaf}
-use Rattle.store_model.specs.TreeNodes.{is_head, head_mark}
-use Rattle.store_model.specs.TreeCalls.{Descent, AtLeaf, AtBroken, descend, got, get_below, get_program, with_head}
-use Rattle.store_model.specs.TreeRegion.{tree_map, IsTreeRegion}
-use Rattle.iso_tree.specs.Walks.{head_program, HasDescended, IsLeaf, leaf_value}
 use Rattle.iso_tree.proofs.Looking.{at_as}
 use Rattle.iso_tree.proofs.Facts.{missing}
 use Rattle.iso_tree.proofs.Gets.{get_local}

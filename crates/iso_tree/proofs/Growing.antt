@@ -1,14 +1,5 @@
 -- What is written where a put takes blocks: how many writes, which root, and the bytes of the map.
-use Rattle.std.proofs.Common.{◌≡◌, ◌≢◌, ◌∙◌, sym, refl, ap, ℕ, zero, suc, ◌+◌, ◌-◌, ◌*◌, ◌%◌, ◌<◌, ◌≤◌, ◌==◌, Bool, true, false, not, cond, nat_le, List, [], ◌∷◌, length, map, take, get_or, set, Option, Some, None, arith, inl, inr, eq-eqb, ne_eqb}
-use Rattle.std.specs.List.{AllByRecursion, filter, range_with_len}
-use Rattle.std.specs.Int.{bit_at}
-use Rattle.std.proofs.lemmas.Bool.{cases_eq}
-use Rattle.std.proofs.lemmas.List.{get_or-take}
-use Rattle.store_model.specs.FreeMap.{map_bit, free_count, with_bit, bit_place, set_bit}
-use Rattle.store_model.specs.HashRegion.{IsIn}
-use Rattle.store_model.specs.TreeNodes.{Cell, child_part}
-use Rattle.store_model.specs.Trees.{Put, halves, fit}
-use Rattle.store_model.specs.TreeCalls.{Climb, climb, climb_on, placed, full_row, need_of, with_used}
+use Rattle.iso_tree.proofs.Words.{◌≡◌, ◌≢◌, ◌∙◌, sym, refl, ap, ℕ, zero, suc, ◌+◌, ◌-◌, ◌*◌, ◌%◌, ◌<◌, ◌≤◌, ◌==◌, Bool, true, false, not, cond, nat_le, List, [], ◌∷◌, length, map, take, get_or, set, Option, Some, None, arith, inl, inr, eq-eqb, ne_eqb, AllByRecursion, filter, range_with_len, bit_at, cases_eq, get_or-take, map_bit, free_count, with_bit, bit_place, set_bit, IsIn, Cell, child_part, Put, halves, fit, Climb, climb, climb_on, placed, full_row, need_of, with_used}
 use Rattle.iso_tree.proofs.Climbing.{one_way}
 use Rattle.iso_tree.proofs.Ways.{counts, length-placed}
 use Rattle.iso_tree.proofs.Order.{length-put_after}

@@ -1,7 +1,5 @@
 -- Root and level, laid one after the other.
-use Rattle.std.proofs.Common.{◌≡◌, ◌∙◌, sym, ap, ℕ, ◌+◌, List, ◌++◌, length, drop, arith}
-use Rattle.std.proofs.lemmas.List.{append_assoc, take_at, drop_at, drop-drop}
-use Rattle.store_model.specs.Cells.{laid_at}
+use Rattle.iso_tree.proofs.Words.{◌≡◌, ◌∙◌, sym, ap, ℕ, ◌+◌, List, ◌++◌, length, drop, arith, append_assoc, take_at, drop_at, drop-drop, laid_at}
 
 pub laid_twice : (x y block : List ℕ) → length x ≡ 4 → length y ≡ 4 → laid_at 4 y (laid_at 0 x block) ≡ laid_at 0 (x ++ y) block
 laid_twice x y block four too =

@@ -1,23 +1,6 @@
 -- A put, part by part.
-use Rattle.std.proofs.Common.{◌≡◌, ◌≢◌, ◌∙◌, sym, ap, subst, ℕ, suc, ◌+◌, ◌*◌, ◌<◌, ◌≤◌, Bool, true, false, cond, List, [], ◌∷◌, take, Option, Some, None, Result, Ok, Err, arith, ne_eqb, eq-eqb}
-use Rattle.std.specs.Prelude.{nat_lt}
-use Rattle.std.proofs.lemmas.Bool.Decides.{nat_tests}
-use Rattle.store_model.specs.declared.stores.Area.{Area}
-use Rattle.store_model.specs.declared.stores.StoreError.{StoreError}
+use Rattle.iso_tree.proofs.Words.{◌≡◌, ◌≢◌, ◌∙◌, sym, ap, subst, ℕ, suc, ◌+◌, ◌*◌, ◌<◌, ◌≤◌, Bool, true, false, cond, List, [], ◌∷◌, take, Option, Some, None, Result, Ok, Err, arith, ne_eqb, eq-eqb, nat_lt, nat_tests, Area, StoreError, at_cell, is_key, is_value, block_with, cell_count, keys_end, value_mark, value_part, Program, Done, Store, then_do, Tx, Ran, HasRead, HasRun, IsCut, IsAt, at_start, at_then, ran_at, cut_then, run_from, Leaf, AreShownUsable, put_after, Answer, Descent, AtBroken, descend, edit_leaf, full_row, need_of, put_at, put_below_root, put_program, with_head, with_map, HasDescended, IsLeaf}
 use Rattle.store_model.specs.declared.stores.StoreError.TheVariants as store
-use Rattle.store_model.specs.HashCalls.{at_cell, is_key, is_value}
-use Rattle.store_model.specs.Cells.{block_with, cell_count, keys_end, value_mark, value_part}
-use Rattle.store_model.specs.Stores.{Program, Done, Store, then_do}
-use Rattle.tx_blocks.specs.Tx.{Tx}
-use Rattle.tx_blocks.specs.Runs.{Ran, HasRead, HasRun, IsCut}
-use Rattle.tx_blocks.proofs.Progress.{IsAt, at_start, at_then, ran_at}
-use Rattle.tx_blocks.proofs.Refusals.{cut_then}
-use Rattle.tx_blocks.proofs.Parts.{run_from}
-use Rattle.iso_tree.specs.declared.descent.Leaf.{Leaf}
-use Rattle.iso_tree.specs.Rows.{AreShownUsable}
-use Rattle.store_model.specs.Trees.{put_after}
-use Rattle.store_model.specs.TreeCalls.{Answer, Descent, AtBroken, descend, edit_leaf, full_row, need_of, put_at, put_below_root, put_program, with_head, with_map}
-use Rattle.iso_tree.specs.Walks.{HasDescended, IsLeaf}
 use Rattle.iso_tree.proofs.Looking.{at_as}
 use Rattle.iso_tree.proofs.Usable.{path_usable}
 

@@ -1,28 +1,5 @@
 -- A put that takes new blocks, joined from its parts.
-use Rattle.std.proofs.Common.{◌≡◌, ◌∙◌, sym, ap, subst, ℕ, suc, ◌+◌, ◌-◌, ◌<◌, ◌≤◌, ◌==◌, Bool, true, false, not, cond, List, [], ◌∷◌, length, map, take, None, Result, Err, arith}
-use Rattle.std.specs.Prelude.{nat_lt}
-use Rattle.std.specs.List.{filter, range_with_len}
-use Rattle.std.proofs.lemmas.Bool.Decides.{nat_tests}
-use Rattle.store_model.specs.declared.stores.Area.{Area}
-use Rattle.store_model.specs.declared.stores.StoreError.{StoreError}
-use Rattle.store_model.specs.declared.stores.StoreError.TheVariants.{NoBlocks}
-use Rattle.store_model.specs.declared.stores.TxError.{TxError}
-use Rattle.iso_model.specs.Array.{Array}
-use Rattle.iso_model.specs.Effect.{own}
-use Rattle.iso_model.specs.Premises.{block_at}
-use Rattle.store_model.specs.Cells.{cell_count, value_part}
-use Rattle.store_model.specs.FreeMap.{free_count, map_bit, map_mark}
-use Rattle.store_model.specs.Stores.{Program, Done, bytes_in, look_access}
-use Rattle.std.specs.Option.{ForSome}
-use Rattle.tx_blocks.specs.Tx.{Tx, Device, with_accesses}
-use Rattle.tx_blocks.specs.Runs.{Ran, HasRead, HasRun, IsCause, IsCut}
-use Rattle.tx_blocks.proofs.Progress.{IsAt, at_join, at_look, at_start, ran_at}
-use Rattle.tx_blocks.proofs.Refusals.{cut_at_look, read_base}
-use Rattle.tx_blocks.proofs.Parts.{run_from}
-use Rattle.store_model.specs.TreeNodes.{Cell}
-use Rattle.iso_tree.specs.Rows.{nodes_from, ArePathUsable, AreShownUsable, IsUsable}
-use Rattle.store_model.specs.TreeCalls.{Answer, climb, free_list, full_row, look_again, need_of, put_new, put_writes, with_map}
-use Rattle.store_model.specs.TreeRegion.{IsTreeArea}
+use Rattle.iso_tree.proofs.Words.{◌≡◌, ◌∙◌, sym, ap, subst, ℕ, suc, ◌+◌, ◌-◌, ◌<◌, ◌≤◌, ◌==◌, Bool, true, false, not, cond, List, [], ◌∷◌, length, map, take, None, Result, Err, arith, nat_lt, filter, range_with_len, nat_tests, Area, StoreError, NoBlocks, TxError, Array, own, block_at, cell_count, value_part, free_count, map_bit, map_mark, Program, Done, bytes_in, look_access, ForSome, Tx, Device, with_accesses, Ran, HasRead, HasRun, IsCause, IsCut, IsAt, at_join, at_look, at_start, ran_at, cut_at_look, read_base, run_from, Cell, nodes_from, ArePathUsable, AreShownUsable, IsUsable, Answer, climb, free_list, full_row, look_again, need_of, put_new, put_writes, with_map, IsTreeArea}
 use Rattle.iso_tree.proofs.Enlarging.{all_taken, free_same, taken_same}
 use Rattle.iso_tree.proofs.Looking.{at_as}
 use Rattle.iso_tree.proofs.Taking.{AreTaken, taken_are}

@@ -1,18 +1,5 @@
 -- The leaf of a key: what it has of the tree, and where a descent ends.
-use Rattle.std.proofs.Common.{◌≡◌, ◌≢◌, ◌∙◌, sym, refl, ap, subst, ℕ, zero, suc, ◌+◌, ◌<◌, ◌≤◌, ◌&&◌, Bool, true, false, cond, List, [], ◌∷◌, ◌++◌, length, Option, Some, None, arith}
-use Rattle.std.specs.List.{flat_map}
-use Rattle.std.proofs.lemmas.Bool.{and_parts}
-use Rattle.std.proofs.lemmas.List.{append_assoc, map-append}
-use Rattle.store_model.specs.declared.stores.Area.{Area}
-use Rattle.iso_model.specs.Array.{Array}
-use Rattle.store_model.specs.HashRegion.{IsIn}
-use Rattle.iso_model.specs.Premises.{block_at}
-use Rattle.store_model.specs.Stores.{Program, Done, bytes_in, further_bytes, answer_of}
-use Rattle.store_model.specs.Cells.{keys_mark, value_mark}
-use Rattle.store_model.specs.TreeNodes.{Cell, child_of, count_of, is_node, is_child, place_of, cells_by}
-use Rattle.store_model.specs.Trees.{Tree, tree_at, pairs_in, nodes_in, IsApart, Rise, AreChildren, IsOrdered}
-use Rattle.store_model.specs.TreeCalls.{Descent, AtLeaf, AtBroken, descend, inner_further, leaf_further}
-use Rattle.store_model.specs.TreeRegion.{cells_in, IsNode, AreNodes}
+use Rattle.iso_tree.proofs.Words.{◌≡◌, ◌≢◌, ◌∙◌, sym, refl, ap, subst, ℕ, zero, suc, ◌+◌, ◌<◌, ◌≤◌, ◌&&◌, Bool, true, false, cond, List, [], ◌∷◌, ◌++◌, length, Option, Some, None, arith, flat_map, and_parts, append_assoc, map-append, Area, Array, IsIn, block_at, Program, Done, bytes_in, further_bytes, answer_of, keys_mark, value_mark, Cell, child_of, count_of, is_node, is_child, place_of, cells_by, Tree, tree_at, pairs_in, nodes_in, IsApart, Rise, AreChildren, IsOrdered, Descent, AtLeaf, AtBroken, descend, inner_further, leaf_further, cells_in, IsNode, AreNodes}
 use Rattle.iso_tree.proofs.Shapes.{kids, child_for}
 use Rattle.iso_tree.proofs.Facts.{child_below}
 use Rattle.iso_tree.proofs.Finding.{found_in}

@@ -1,8 +1,5 @@
 -- No level of a region comes near the greatest one.
-use Rattle.std.proofs.Common.{◌≡◌, ◌≢◌, ◌∙◌, sym, refl, ap, subst, ℕ, zero, suc, ◌+◌, ◌-◌, ◌<◌, ◌≤◌, ◌==◌, true, false, cond, List, [], ◌∷◌, length, arith, inl, inr, eq-eqb, ne_eqb}
-use Rattle.std.proofs.lemmas.Bool.{cases_eq, cases_lt}
-use Rattle.store_model.specs.HashRegion.{IsIn}
-use Rattle.store_model.specs.Trees.{Tree, nodes_in, IsApart}
+use Rattle.iso_tree.proofs.Words.{◌≡◌, ◌≢◌, ◌∙◌, sym, refl, ap, subst, ℕ, zero, suc, ◌+◌, ◌-◌, ◌<◌, ◌≤◌, ◌==◌, true, false, cond, List, [], ◌∷◌, length, arith, inl, inr, eq-eqb, ne_eqb, cases_eq, cases_lt, IsIn, Tree, nodes_in, IsApart}
 use Rattle.iso_tree.proofs.Shapes.{IsSized}
 use Rattle.iso_tree.proofs.Sizes.{doubled, nodes_many}
 

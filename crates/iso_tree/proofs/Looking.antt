@@ -1,25 +1,6 @@
 -- One read of a call, and what follows from its bytes.
-use Rattle.std.proofs.Common.{◌≡◌, ◌∙◌, sym, refl, ap, subst, ℕ, ◌+◌, ◌≤◌, ◌&&◌, Bool, true, false, cond, List, [], ◌∷◌, length, Option, Some, None, Ok, Err, option_map}
-use Rattle.std.specs.Option.{ForSome}
-use Rattle.std.proofs.lemmas.Bool.{false_from_ne_true}
-use Rattle.iso_model.specs.declared.access.Access.{Access}
-use Rattle.iso_model.specs.declared.access.Span.{Span}
-use Rattle.store_model.specs.declared.stores.Area.{Area}
-use Rattle.store_model.specs.declared.stores.Region.{Region}
+use Rattle.iso_tree.proofs.Words.{◌≡◌, ◌∙◌, sym, refl, ap, subst, ℕ, ◌+◌, ◌≤◌, ◌&&◌, Bool, true, false, cond, List, [], ◌∷◌, length, Option, Some, None, Ok, Err, option_map, ForSome, false_from_ne_true, Access, Span, Area, Region, own, is_write, block_at, Program, Done, Look, bytes_in, further_bytes, with_further, look_access, keys_mark, value_mark, word_at, Tx, Device, IsLater, with_accesses, Passed, Ran, Array, own_reads, own_append, IsAt, at_start, at_look, ran_at, read_none, read_more, Node, keys_in, value_in, is_node, is_child, child_of, count_of, place_of, cell_of, head_mark, is_head, leaf_further, inner_further, AreBytesOf, OnlyReads, head_program, child_program, leaf_program}
 use Rattle.store_model.specs.declared.stores.StoreError.TheVariants as store
-use Rattle.iso_model.specs.Effect.{own, is_write}
-use Rattle.iso_model.specs.Premises.{block_at}
-use Rattle.store_model.specs.Stores.{Program, Done, Look, bytes_in, further_bytes, with_further, look_access}
-use Rattle.store_model.specs.Cells.{keys_mark, value_mark, word_at}
-use Rattle.tx_blocks.specs.Tx.{Tx, Device, IsLater, with_accesses}
-use Rattle.tx_blocks.specs.Runs.{Passed, Ran}
-use Rattle.iso_model.specs.Array.{Array}
-use Rattle.tx_blocks.proofs.Programs.{own_reads}
-use Rattle.tx_blocks.proofs.Progress.{own_append, IsAt, at_start, at_look, ran_at}
-use Rattle.tx_blocks.proofs.Refusals.{read_none, read_more}
-use Rattle.store_model.specs.TreeNodes.{Node, keys_in, value_in, is_node, is_child, child_of, count_of, place_of, cell_of, head_mark, is_head}
-use Rattle.store_model.specs.TreeCalls.{leaf_further, inner_further}
-use Rattle.iso_tree.specs.Walks.{AreBytesOf, OnlyReads, head_program, child_program, leaf_program}
 
 -- what is left may be said in another way
 pub at_as : {R : Type 0} (whole p q : Program R) (t u : Tx) → p ≡ q → IsAt whole p t u → IsAt whole q t u

@@ -1,19 +1,5 @@
 -- A put that takes blocks puts the pair into the region's map.
-use Rattle.std.proofs.Common.{◌≡◌, ◌≢◌, ◌∙◌, sym, refl, ap, subst, ℕ, suc, ◌+◌, ◌^◌, ◌<◌, ◌≤◌, ◌==◌, Bool, true, false, cond, List, [], ◌∷◌, ◌++◌, map, take, length, Option, Some, None, arith, inl, inr, eq-eqb, ne_eqb}
-use Rattle.std.specs.List.{AllByRecursion, flat_map}
-use Rattle.std.proofs.lemmas.List.{append-nil, map-append, length-append}
-use Rattle.store_model.specs.declared.stores.Area.{Area}
-use Rattle.iso_model.specs.Array.{Array, put}
-use Rattle.store_model.specs.HashRegion.{IsIn}
-use Rattle.iso_model.specs.Premises.{block_at}
-use Rattle.store_model.specs.Stores.{bytes_in, store_access}
-use Rattle.store_model.specs.Cells.{cell_count, is_part, text_of, value_part}
-use Rattle.store_model.specs.FreeMap.{map_mark}
-use Rattle.iso_model.proofs.Bytes.{other_block}
-use Rattle.store_model.specs.TreeNodes.{Cell, IsBlock, child_of, child_part, used_cells, node_bytes}
-use Rattle.store_model.specs.Trees.{Tree, tree_at, pairs_in, nodes_in, IsApart, IsOrdered, Put, half}
-use Rattle.store_model.specs.TreeCalls.{Climb, climb, climb_on, full_row, need_of, root_cells}
-use Rattle.store_model.specs.TreeRegion.{cells_in, root_of, level_of, IsNode, AreNodes, IsTreeArea, IsTreeRegion, tree_pairs, tree_nodes}
+use Rattle.iso_tree.proofs.Words.{◌≡◌, ◌≢◌, ◌∙◌, sym, refl, ap, subst, ℕ, suc, ◌+◌, ◌^◌, ◌<◌, ◌≤◌, ◌==◌, Bool, true, false, cond, List, [], ◌∷◌, ◌++◌, map, take, length, Option, Some, None, arith, inl, inr, eq-eqb, ne_eqb, AllByRecursion, flat_map, append-nil, map-append, length-append, Area, Array, put, IsIn, block_at, bytes_in, store_access, cell_count, is_part, text_of, value_part, map_mark, other_block, Cell, IsBlock, child_of, child_part, used_cells, node_bytes, Tree, tree_at, pairs_in, nodes_in, IsApart, IsOrdered, Put, half, Climb, climb, climb_on, full_row, need_of, root_cells, cells_in, root_of, level_of, IsNode, AreNodes, IsTreeArea, IsTreeRegion, tree_pairs, tree_nodes, first_access}
 use Rattle.iso_tree.proofs.Again.{nodes_at, way_is, path_few, nodes_inside}
 use Rattle.iso_tree.proofs.Blocks.{in_front, in_back, in_cases, apart_parts, grown_apart, grown_in}
 use Rattle.iso_tree.proofs.Bytes.{cells_are}
@@ -23,7 +9,6 @@ use Rattle.iso_tree.proofs.Fits.{area_block}
 use Rattle.iso_tree.proofs.Fitted.{nodes_from}
 use Rattle.iso_tree.proofs.Frames.{length-part_of, part_is_part, part_text}
 use Rattle.iso_tree.proofs.Levels.{level_low}
-use Rattle.iso_tree.specs.FirstBlock.{first_access}
 use Rattle.iso_tree.proofs.Order.{not_before_empty}
 use Rattle.iso_tree.proofs.Putting.{HasPut, put_has, nodes_sized, child_part_is}
 use Rattle.iso_tree.proofs.Ranges.{all_append}

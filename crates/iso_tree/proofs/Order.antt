@@ -1,15 +1,5 @@
 -- Keys in a node: cutting a row of children in two, and putting two in place of one.
-use Rattle.std.proofs.Common.{◌≡◌, ◌≢◌, ◌∙◌, sym, refl, ap, subst, ℕ, suc, ◌+◌, true, false, not, cond, IsTrue, List, [], ◌∷◌, ◌++◌, length, Option, Some, None, arith, inl, inr}
-use Rattle.std.specs.List.{AllByRecursion, flat_map}
-use Rattle.std.specs.Ordering.{nat_cmp, is_lt}
-use Rattle.std.specs.declared.cmp.Ordering.TheVariants.{Less, Equal, Greater}
-use Rattle.std.specs.Cmp.Lexicographic.{slice_cmp, nat_list_cmp_total}
-use Rattle.std.specs.FinMap.{slice_cmp-IsAntisymmetric, nat_cmp-IsAntisymmetric}
-use Rattle.std.proofs.lemmas.Bool.{and_from, and_parts, cases_Bool, both_ways}
-use Rattle.std.proofs.lemmas.List.{append_assoc, append-nil, length-append}
-use Rattle.std.proofs.lemmas.Grind.{flat_map-append}
-use Rattle.store_model.specs.TreeNodes.{before, Cell}
-use Rattle.store_model.specs.Trees.{in_range, AreAfter, RiseAfter, Rise, put_after}
+use Rattle.iso_tree.proofs.Words.{◌≡◌, ◌≢◌, ◌∙◌, sym, refl, ap, subst, ℕ, suc, ◌+◌, true, false, not, cond, IsTrue, List, [], ◌∷◌, ◌++◌, length, Option, Some, None, arith, inl, inr, AllByRecursion, flat_map, nat_cmp, is_lt, Less, Equal, Greater, slice_cmp, nat_list_cmp_total, slice_cmp-IsAntisymmetric, nat_cmp-IsAntisymmetric, and_from, and_parts, cases_Bool, both_ways, append_assoc, append-nil, length-append, flat_map-append, before, Cell, in_range, AreAfter, RiseAfter, Rise, put_after}
 use Rattle.iso_tree.proofs.Shapes.{AreFrom, chosen, set_chosen, IsAdded, IsGrown}
 use Rattle.iso_tree.proofs.Ranges.{before_through, after_not, low_of, range_within, range_cut}
 

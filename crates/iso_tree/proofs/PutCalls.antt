@@ -1,30 +1,9 @@
 -- A put is that of the region's map.
-use Rattle.std.proofs.Common.{◌≡◌, ◌≢◌, ◌∙◌, sym, refl, ap, subst, ℕ, suc, ◌+◌, ◌*◌, ◌-◌, ◌<◌, ◌≤◌, Bool, true, false, cond, nat_le, List, [], ◌∷◌, map, take, length, Option, Some, None, Result, Ok, Err, arith, inl, inr, eq-eqb, ne_eqb}
-use Rattle.std.specs.Prelude.{nat_lt}
-use Rattle.std.specs.List.{AllByRecursion}
-use Rattle.std.proofs.lemmas.Bool.{cases_Bool, cases_eq, leb-true, ltb-true}
-use Rattle.std.proofs.lemmas.Bool.Decides.{nat_tests}
-use Rattle.store_model.specs.declared.stores.Area.{Area}
-use Rattle.store_model.specs.declared.stores.StoreError.{StoreError}
-use Rattle.store_model.specs.declared.stores.StoreError.TheVariants.{BadKey, BadValue, Broken, NoBlocks}
-use Rattle.iso_model.specs.Array.{Array, put}
-use Rattle.iso_model.specs.Effect.{own}
-use Rattle.store_model.specs.HashCalls.{at_cell, is_key, is_value}
-use Rattle.store_model.specs.HashRegion.{put_op}
-use Rattle.iso_model.specs.Premises.{block_at}
-use Rattle.store_model.specs.Stores.{Program, Done, Store, bytes_in, then_do, accesses_of, answer_of}
-use Rattle.store_model.specs.Cells.{cell_count, keys_end, value_mark, value_part, block_with}
-use Rattle.store_model.specs.FreeMap.{map_mark, free_count}
-use Rattle.tx_blocks.proofs.Programs.{IsCorrect}
-use Rattle.store_model.specs.TreeNodes.{Cell, cell_of, count_of, head_mark}
-use Rattle.store_model.specs.Trees.{put_after}
-use Rattle.store_model.specs.TreeCalls.{AtLeaf, descend, with_head, look_again, climb, store_nodes, first_write, put_writes, with_map, edit_leaf, put_at, put_below_root, put_program, Answer, full_row, need_of, free_list}
-use Rattle.store_model.specs.TreeRegion.{cells_in, root_of, level_of, IsTreeArea, IsTreeRegion, tree_pairs, tree_map}
+use Rattle.iso_tree.proofs.Words.{◌≡◌, ◌≢◌, ◌∙◌, sym, refl, ap, subst, ℕ, suc, ◌+◌, ◌*◌, ◌-◌, ◌<◌, ◌≤◌, Bool, true, false, cond, nat_le, List, [], ◌∷◌, map, take, length, Option, Some, None, Result, Ok, Err, arith, inl, inr, eq-eqb, ne_eqb, nat_lt, AllByRecursion, cases_Bool, cases_eq, leb-true, ltb-true, nat_tests, Area, StoreError, BadKey, BadValue, Broken, NoBlocks, Array, put, own, at_cell, is_key, is_value, put_op, block_at, Program, Done, Store, bytes_in, then_do, accesses_of, answer_of, cell_count, keys_end, value_mark, value_part, block_with, map_mark, free_count, IsCorrect, Cell, cell_of, count_of, head_mark, put_after, AtLeaf, descend, with_head, look_again, climb, store_nodes, first_write, put_writes, with_map, edit_leaf, put_at, put_below_root, put_program, Answer, full_row, need_of, free_list, cells_in, root_of, level_of, IsTreeArea, IsTreeRegion, tree_pairs, tree_map, first_access}
 use Rattle.iso_tree.proofs.Again.{nodes_at, again_own}
 use Rattle.iso_tree.proofs.Ending.{at, keys, ends_of, answer_at, own_at}
 use Rattle.iso_tree.proofs.Facts.{head_parts, node_parts}
 use Rattle.iso_tree.proofs.Fits.{length-cells}
-use Rattle.iso_tree.specs.FirstBlock.{first_access}
 use Rattle.iso_tree.proofs.NewBlocks.{IsPair, pair_is, empty_does, some_does}
 use Rattle.iso_tree.proofs.PutLeaf.{lacks, room_does, found_does}
 use Rattle.iso_tree.proofs.Regions.{HasPutInto}

@@ -1,26 +1,5 @@
 -- A put into a leaf that has the key, or room for it.
-use Rattle.std.proofs.Common.{◌≡◌, ◌≢◌, ◌∙◌, sym, refl, ap, subst, ℕ, zero, suc, ◌+◌, ◌*◌, ◌<◌, ◌≤◌, Bool, true, false, cond, List, [], ◌∷◌, ◌++◌, length, replicate, Option, Some, None, option_map, arith, inl, inr}
-use Rattle.std.specs.List.{AllByRecursion, list_all}
-use Rattle.std.specs.Cmp.Lexicographic.{nat_list_cmp_total}
-use Rattle.std.specs.FinMap.{from_entries, get, insert, get-from_entries, get-insert, same_map, slice_cmp-IsAntisymmetric, nat_cmp-IsAntisymmetric}
-use Rattle.std.specs.Str.{bytes_eq}
-use Rattle.std.proofs.lemmas.Bool.{cases_Bool, cases_eq, both_ways, or_left}
-use Rattle.std.proofs.lemmas.List.{append_assoc, length-replicate}
-use Rattle.std.proofs.lemmas.Slice.Eq.{bytes_eq-Decides}
-use Rattle.iso_model.specs.declared.access.Access.{Access}
-use Rattle.store_model.specs.declared.stores.Area.{Area}
-use Rattle.iso_model.specs.Array.{Array, merged, put}
-use Rattle.iso_model.specs.Conflict.{first_from}
-use Rattle.store_model.specs.HashRegion.{Pairs}
-use Rattle.iso_model.specs.Premises.{block_at}
-use Rattle.store_model.specs.Stores.{bytes_in, store_access}
-use Rattle.store_model.specs.Cells.{cell_count, keys_end, keys_mark, value_mark, is_zero, is_part, text_of, value_part, key_at, block_with}
-use Rattle.iso_model.proofs.Bytes.{length-block_put, written_block, other_block}
-use Rattle.iso_alloc.proofs.Laying.{laid_here}
-use Rattle.store_model.proofs.Laying.{length-laid_at}
-use Rattle.store_model.specs.TreeNodes.{Cell, FitCells, IsBlock, count_of, is_node, cell_of, cells_by, node_bytes}
-use Rattle.store_model.specs.Trees.{in_range, Rise, RiseAfter, put_after}
-use Rattle.store_model.specs.TreeRegion.{cells_in, root_of, level_of, IsNode, IsTreeArea, IsTreeRegion, tree_pairs, tree_map}
+use Rattle.iso_tree.proofs.Words.{◌≡◌, ◌≢◌, ◌∙◌, sym, refl, ap, subst, ℕ, zero, suc, ◌+◌, ◌*◌, ◌<◌, ◌≤◌, Bool, true, false, cond, List, [], ◌∷◌, ◌++◌, length, replicate, Option, Some, None, option_map, arith, inl, inr, AllByRecursion, list_all, nat_list_cmp_total, from_entries, get, insert, get-from_entries, get-insert, same_map, slice_cmp-IsAntisymmetric, nat_cmp-IsAntisymmetric, bytes_eq, cases_Bool, cases_eq, both_ways, or_left, append_assoc, length-replicate, bytes_eq-Decides, Access, Area, Array, merged, put, first_from, Pairs, block_at, bytes_in, store_access, cell_count, keys_end, keys_mark, value_mark, is_zero, is_part, text_of, value_part, key_at, block_with, length-block_put, written_block, other_block, laid_here, length-laid_at, Cell, FitCells, IsBlock, count_of, is_node, cell_of, cells_by, node_bytes, in_range, Rise, RiseAfter, put_after, cells_in, root_of, level_of, IsNode, IsTreeArea, IsTreeRegion, tree_pairs, tree_map}
 use Rattle.iso_tree.proofs.Climbs.{leaf_added}
 use Rattle.iso_tree.proofs.Dels.{IsLeafEdit, leaf_written, edit_region, edit_pairs, edit_found, swapped_found}
 use Rattle.iso_tree.proofs.Edits.{leaf_pairs, IsSwapped}

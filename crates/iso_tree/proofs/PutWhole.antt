@@ -1,38 +1,11 @@
 -- A put writes whole blocks, on whatever array, and is local.
-use Rattle.std.proofs.Common.{◌≡◌, ◌∙◌, sym, refl, ap, subst, ℕ, zero, suc, ◌+◌, ◌-◌, ◌*◌, ◌<◌, ◌≤◌, ◌==◌, ◌&&◌, Bool, true, false, cond, nat_le, List, [], ◌∷◌, ◌++◌, map, take, drop, length, replicate, Option, Some, None, Result, Ok, Err, IfOk, arith, inl, inr}
-use Rattle.std.specs.Prelude.{nat_lt}
-use Rattle.std.specs.List.{AllByRecursion}
-use Rattle.std.proofs.lemmas.Bool.{cases_Bool, and_parts, leb-true, ltb-true}
-use Rattle.std.proofs.lemmas.Bool.Decides.{nat_tests}
-use Rattle.std.proofs.lemmas.List.{take-append-drop, length-take, length-drop, length-replicate}
-use Rattle.iso_model.specs.declared.access.Access.{Access}
-use Rattle.store_model.specs.declared.stores.Area.{Area}
-use Rattle.store_model.specs.declared.stores.StoreError.{StoreError}
-use Rattle.store_model.specs.declared.stores.StoreError.TheVariants.{BadKey, BadValue, Broken, NoBlocks}
-use Rattle.iso_model.specs.Array.{Array, put}
-use Rattle.iso_model.specs.Effect.{own}
-use Rattle.store_model.specs.HashCalls.{at_cell, is_key, is_value}
-use Rattle.store_model.specs.HashRegion.{IsIn, put_op}
-use Rattle.iso_model.specs.Premises.{block_at}
-use Rattle.store_model.specs.Stores.{Program, Done, Store, bytes_in, further_bytes, store_access, then_do, accesses_of, answer_of, IsLocal}
-use Rattle.store_model.specs.Cells.{cell_count, keys_end, keys_mark, value_mark, value_part, block_with}
-use Rattle.store_model.specs.FreeMap.{map_bytes, map_mark, free_count}
-use Rattle.store_model.proofs.Laying.{length-laid_at}
-use Rattle.tx_blocks.specs.Tx.{Tx, IsTx}
-use Rattle.tx_blocks.specs.Runs.{HasRun, IsLocalCall}
-use Rattle.tx_blocks.proofs.Programs.{AreWhole, accesses_then, own_reads, whole_reads, local_from}
-use Rattle.tx_blocks.proofs.Progress.{whole_run}
-use Rattle.store_model.specs.TreeNodes.{Cell, FitCells, IsBlock, cell_of, count_of, is_node, is_child, child_of, child_part, is_head, head_mark, node_bytes}
-use Rattle.store_model.specs.Trees.{Put, put_after, first_key, emptied, half, halves, fit}
-use Rattle.store_model.specs.TreeCalls.{Descent, AtLeaf, AtBroken, descend, leaf_further, inner_further, with_head, look_again, climb, climb_on, placed, store_nodes, first_write, put_writes, with_map, edit_leaf, put_at, put_below_root, put_program, Answer, full_row, need_of, free_list}
-use Rattle.store_model.specs.TreeRegion.{cells_in, root_of, level_of, IsTreeArea, IsTreeRegion, tree_map}
+use Rattle.iso_tree.proofs.Words.{◌≡◌, ◌∙◌, sym, refl, ap, subst, ℕ, zero, suc, ◌+◌, ◌-◌, ◌*◌, ◌<◌, ◌≤◌, ◌==◌, ◌&&◌, Bool, true, false, cond, nat_le, List, [], ◌∷◌, ◌++◌, map, take, drop, length, replicate, Option, Some, None, Result, Ok, Err, IfOk, arith, inl, inr, nat_lt, AllByRecursion, cases_Bool, and_parts, leb-true, ltb-true, nat_tests, take-append-drop, length-take, length-drop, length-replicate, Access, Area, StoreError, BadKey, BadValue, Broken, NoBlocks, Array, put, own, at_cell, is_key, is_value, IsIn, put_op, block_at, Program, Done, Store, bytes_in, further_bytes, store_access, then_do, accesses_of, answer_of, IsLocal, cell_count, keys_end, keys_mark, value_mark, value_part, block_with, map_bytes, map_mark, free_count, length-laid_at, Tx, IsTx, HasRun, IsLocalCall, AreWhole, accesses_then, own_reads, whole_reads, local_from, whole_run, Cell, FitCells, IsBlock, cell_of, count_of, is_node, is_child, child_of, child_part, is_head, head_mark, node_bytes, Put, put_after, first_key, emptied, half, halves, fit, Descent, AtLeaf, AtBroken, descend, leaf_further, inner_further, with_head, look_again, climb, climb_on, placed, store_nodes, first_write, put_writes, with_map, edit_leaf, put_at, put_below_root, put_program, Answer, full_row, need_of, free_list, cells_in, root_of, level_of, IsTreeArea, IsTreeRegion, tree_map, first_access}
 use Rattle.iso_tree.proofs.Again.{nodes_at, again_whole}
 use Rattle.iso_tree.proofs.Bytes.{length-node_bytes}
 use Rattle.iso_tree.proofs.DelCalls.{HasBlocks, whole_append}
 use Rattle.iso_tree.proofs.Facts.{head_parts, child_below, cell_used, node_parts}
 use Rattle.iso_tree.proofs.Fits.{cells_fit, cells_few, length-cells}
 use Rattle.iso_tree.proofs.Gets.{descend_reads}
-use Rattle.iso_tree.specs.FirstBlock.{first_access}
 use Rattle.iso_tree.proofs.MapBits.{length-first}
 use Rattle.iso_tree.proofs.NewBlocks.{IsPair, pair_is, HasSizes, sizes_of}
 use Rattle.iso_tree.proofs.Order.{all_left, all_right, length-put_after, all_put_after}

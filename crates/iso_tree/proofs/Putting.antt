@@ -1,17 +1,5 @@
 -- A put below a node leaves nodes.
-use Rattle.std.proofs.Common.{◌≡◌, ◌⊎◌, ◌∙◌, sym, refl, ap, subst, ℕ, zero, suc, ◌+◌, ◌-◌, ◌^◌, ◌<◌, ◌≤◌, Bool, true, false, cond, List, [], ◌∷◌, ◌++◌, length, replicate, Option, Some, None, arith, inl, inr}
-use Rattle.std.specs.List.{AllByRecursion, flat_map}
-use Rattle.std.proofs.lemmas.Bool.{and_parts, and_from}
-use Rattle.std.proofs.lemmas.List.{map-append}
-use Rattle.store_model.specs.declared.stores.Area.{Area}
-use Rattle.iso_model.specs.Array.{Array}
-use Rattle.store_model.specs.HashRegion.{IsIn}
-use Rattle.iso_model.specs.Premises.{block_at}
-use Rattle.store_model.specs.Stores.{bytes_in}
-use Rattle.store_model.specs.Cells.{cell_count, keys_mark, value_mark, is_part}
-use Rattle.store_model.specs.TreeNodes.{before, Cell, FitCells, IsBlock, child_of, child_part, count_of, is_child, used_cells}
-use Rattle.store_model.specs.Trees.{in_range, tree_at, nodes_in, put_after, IsApart, AreAfter, AreChildren, IsOrdered, Put, half, fit}
-use Rattle.store_model.specs.TreeRegion.{cells_in, is_part_at, IsNode, AreNodes}
+use Rattle.iso_tree.proofs.Words.{◌≡◌, ◌⊎◌, ◌∙◌, sym, refl, ap, subst, ℕ, zero, suc, ◌+◌, ◌-◌, ◌^◌, ◌<◌, ◌≤◌, Bool, true, false, cond, List, [], ◌∷◌, ◌++◌, length, replicate, Option, Some, None, arith, inl, inr, AllByRecursion, flat_map, and_parts, and_from, map-append, Area, Array, IsIn, block_at, bytes_in, cell_count, keys_mark, value_mark, is_part, before, Cell, FitCells, IsBlock, child_of, child_part, count_of, is_child, used_cells, in_range, tree_at, nodes_in, put_after, IsApart, AreAfter, AreChildren, IsOrdered, Put, half, fit, cells_in, is_part_at, IsNode, AreNodes}
 use Rattle.iso_tree.proofs.Blocks.{in_front, in_back, in_cases, apart_parts, chosen_in}
 use Rattle.iso_tree.proofs.Climbs.{Lacks, IsPut, put_is, rows_apart, child_apart, child_lacks, child_enough}
 use Rattle.iso_tree.proofs.Facts.{child_below, inner_many}

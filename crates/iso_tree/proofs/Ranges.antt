@@ -1,13 +1,5 @@
 -- Keys in the order of bytes, and ranges of keys.
-use Rattle.std.proofs.Common.{◌≡◌, ◌∙◌, sym, refl, ap, ℕ, zero, suc, ◌+◌, ◌<◌, ◌≤◌, Bool, true, false, not, List, [], ◌∷◌, ◌++◌, map, Option, Some, None, arith, inl, inr}
-use Rattle.std.specs.List.{AllByRecursion, flat_map, range_with_len}
-use Rattle.std.specs.Ordering.{nat_cmp, is_lt, ordering_reverse}
-use Rattle.std.specs.declared.cmp.Ordering.{Ordering}
-use Rattle.std.specs.declared.cmp.Ordering.TheVariants.{Less, Equal, Greater}
-use Rattle.std.specs.Cmp.Lexicographic.{slice_cmp, nat_list_cmp_total}
-use Rattle.std.proofs.lemmas.Bool.{and_from, and_parts, cases_Bool, both_ways}
-use Rattle.store_model.specs.TreeNodes.{before}
-use Rattle.store_model.specs.Trees.{in_range}
+use Rattle.iso_tree.proofs.Words.{◌≡◌, ◌∙◌, sym, refl, ap, ℕ, zero, suc, ◌+◌, ◌<◌, ◌≤◌, Bool, true, false, not, List, [], ◌∷◌, ◌++◌, map, Option, Some, None, arith, inl, inr, AllByRecursion, flat_map, range_with_len, nat_cmp, is_lt, ordering_reverse, Ordering, Less, Equal, Greater, slice_cmp, nat_list_cmp_total, and_from, and_parts, cases_Bool, both_ways, before, in_range}
 
 less_only : (o : Ordering) → is_lt o ≡ true → o ≡ Less
 less_only Less e = refl

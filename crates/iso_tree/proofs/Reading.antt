@@ -1,7 +1,5 @@
 -- Programs that read alone, and their answers.
-use Rattle.std.proofs.Common.{◌≡◌, Bool, true, false, cond, Result, Ok}
-use Rattle.iso_model.specs.Array.{Array}
-use Rattle.store_model.specs.Stores.{Program, accesses_of, AreReads}
+use Rattle.iso_tree.proofs.Words.{◌≡◌, Bool, true, false, cond, Result, Ok, Array, Program, accesses_of, AreReads}
 
 pub cond_reads : {R : Type 0} (t : Bool) (p q : Program R) (A : Array) → AreReads (accesses_of p A) → AreReads (accesses_of q A) → AreReads (accesses_of (cond t p q) A)
 cond_reads true p q A then_all else_all = then_all

@@ -1,30 +1,7 @@
 -- A region whose tree has a new pair is well formed, and its map has the pair.
-use Rattle.std.proofs.Common.{◌≡◌, ◌≢◌, ◌⊎◌, ◌∙◌, sym, refl, ap, subst, ℕ, ◌+◌, ◌*◌, ◌%◌, ◌^◌, ◌<◌, ◌≤◌, ◌||◌, ◌==◌, not, Bool, true, false, cond, nat_le, List, [], ◌∷◌, ◌++◌, take, length, Option, Some, None, arith, inl, inr, ne_eqb}
-use Rattle.std.specs.Prelude.{nat_lt}
-use Rattle.std.specs.List.{AllByRecursion, list_all}
-use Rattle.std.specs.Int.{w32, to_be_bytes, from_be_bytes, bit_at}
-use Rattle.std.specs.Ordering.{nat_cmp, eq_by_cmp}
-use Rattle.std.specs.Cmp.Lexicographic.{slice_cmp}
-use Rattle.std.specs.FinMap.{insert}
-use Rattle.std.proofs.lemmas.Bool.{and_from, or_left, both_ways, cases_eq, cases_Bool}
-use Rattle.std.proofs.lemmas.Bool.Decides.{nat_tests}
-use Rattle.std.proofs.lemmas.List.{append-nil, take_at, drop_at, get_or-take}
-use Rattle.std.proofs.lemmas.Nat.{from_be_bytes-to_be_bytes_4}
-use Rattle.std.proofs.lemmas.Slice.Eq.{bytes_eq-Decides}
-use Rattle.store_model.specs.declared.stores.Area.{Area}
-use Rattle.iso_model.specs.Array.{Array, merged, put}
-use Rattle.store_model.specs.HashRegion.{IsIn}
-use Rattle.iso_model.specs.Premises.{block_at}
-use Rattle.store_model.specs.Stores.{bytes_in, store_access}
-use Rattle.store_model.specs.Cells.{word_at, is_zero}
-use Rattle.store_model.specs.FreeMap.{map_bytes, map_bit, map_mark, bit_place}
-use Rattle.iso_model.proofs.Bytes.{length-block_put, written_block, other_block}
-use Rattle.store_model.specs.TreeNodes.{Cell, head_mark, is_head, node_bytes, used_cells}
-use Rattle.store_model.specs.Trees.{tree_at, pairs_in, nodes_in, IsApart, IsOrdered}
-use Rattle.store_model.specs.TreeRegion.{cells_in, root_of, level_of, AreNodes, IsTreeArea, IsTreeRegion, tree_pairs, tree_nodes, tree_map}
+use Rattle.iso_tree.proofs.Words.{◌≡◌, ◌≢◌, ◌⊎◌, ◌∙◌, sym, refl, ap, subst, ℕ, ◌+◌, ◌*◌, ◌%◌, ◌^◌, ◌<◌, ◌≤◌, ◌||◌, ◌==◌, not, Bool, true, false, cond, nat_le, List, [], ◌∷◌, ◌++◌, take, length, Option, Some, None, arith, inl, inr, ne_eqb, nat_lt, AllByRecursion, list_all, w32, to_be_bytes, from_be_bytes, bit_at, nat_cmp, eq_by_cmp, slice_cmp, insert, and_from, or_left, both_ways, cases_eq, cases_Bool, nat_tests, append-nil, take_at, drop_at, get_or-take, from_be_bytes-to_be_bytes_4, bytes_eq-Decides, Area, Array, merged, put, IsIn, block_at, bytes_in, store_access, word_at, is_zero, map_bytes, map_bit, map_mark, bit_place, length-block_put, written_block, other_block, Cell, head_mark, is_head, node_bytes, used_cells, tree_at, pairs_in, nodes_in, IsApart, IsOrdered, cells_in, root_of, level_of, AreNodes, IsTreeArea, IsTreeRegion, tree_pairs, tree_nodes, tree_map, first_spans, first_bytes, first_access}
 use Rattle.iso_tree.proofs.Blocks.{in_front, in_back, in_cases, grown_apart, grown_in, apart_join, tree_same}
 use Rattle.iso_tree.proofs.Finding.{found_in, ties}
-use Rattle.iso_tree.specs.FirstBlock.{first_spans, first_bytes, first_access}
 use Rattle.iso_tree.proofs.MapBits.{bits_after, zeros_after, head_kept, head_new}
 use Rattle.iso_tree.proofs.Roots.{map_put}
 use Rattle.iso_tree.proofs.Shapes.{IsAdded, IsGrown}

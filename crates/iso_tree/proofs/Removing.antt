@@ -1,28 +1,7 @@
 -- A removal, part by part.
-use Rattle.std.proofs.Common.{◌≡◌, ◌≢◌, ◌∙◌, sym, ap, subst, ℕ, ◌+◌, ◌≤◌, Bool, true, false, cond, List, [], ◌∷◌, length, Option, Some, None, Result, Ok, Err, IfOk, arith, ne_eqb, eq-eqb}
-use Rattle.std.proofs.lemmas.List.{append-nil}
-use Rattle.iso_model.specs.declared.access.Access.{Access}
-use Rattle.store_model.specs.declared.stores.Area.{Area}
-use Rattle.store_model.specs.declared.stores.StoreError.{StoreError}
+use Rattle.iso_tree.proofs.Words.{◌≡◌, ◌≢◌, ◌∙◌, sym, ap, subst, ℕ, ◌+◌, ◌≤◌, Bool, true, false, cond, List, [], ◌∷◌, length, Option, Some, None, Result, Ok, Err, IfOk, arith, ne_eqb, eq-eqb, append-nil, Access, Area, StoreError, TxError, Array, own, at_cell, is_key, del_op, Program, Done, LookWhole, Store, look_access, store_access, then_do, after, outcome, IsLocal, length-block_own, Tx, Device, IsTx, with_accesses, room_of, Ran, IsCut, IsCause, HasRun, IsLocalCall, IsAt, at_start, at_then, at_look_whole, at_store, ran_at, stopped_at, whole_run, cut_at_store, cut_then, run_from, Leaf, Cell, used_cells, node_bytes, Descent, AtBroken, descend, edit_leaf, without_key, del_at, del_below, del_program, with_head, tree_map, IsTreeArea, IsTreeRegion, HasDescended, IsLeaf, AreBytesOf}
 use Rattle.store_model.specs.declared.stores.StoreError.TheVariants as store
-use Rattle.store_model.specs.declared.stores.TxError.{TxError}
 use Rattle.store_model.specs.declared.stores.TxError.TheVariants as error
-use Rattle.iso_model.specs.Array.{Array}
-use Rattle.iso_model.specs.Effect.{own}
-use Rattle.store_model.specs.HashCalls.{at_cell, is_key}
-use Rattle.store_model.specs.HashRegion.{del_op}
-use Rattle.store_model.specs.Stores.{Program, Done, LookWhole, Store, look_access, store_access, then_do, after, outcome, IsLocal}
-use Rattle.iso_model.proofs.Bytes.{length-block_own}
-use Rattle.tx_blocks.specs.Tx.{Tx, Device, IsTx, with_accesses, room_of}
-use Rattle.tx_blocks.specs.Runs.{Ran, IsCut, IsCause, HasRun, IsLocalCall}
-use Rattle.tx_blocks.proofs.Progress.{IsAt, at_start, at_then, at_look_whole, at_store, ran_at, stopped_at, whole_run}
-use Rattle.tx_blocks.proofs.Refusals.{cut_at_store, cut_then}
-use Rattle.tx_blocks.proofs.Parts.{run_from}
-use Rattle.iso_tree.specs.declared.descent.Leaf.{Leaf}
-use Rattle.store_model.specs.TreeNodes.{Cell, used_cells, node_bytes}
-use Rattle.store_model.specs.TreeCalls.{Descent, AtBroken, descend, edit_leaf, without_key, del_at, del_below, del_program, with_head}
-use Rattle.store_model.specs.TreeRegion.{tree_map, IsTreeArea, IsTreeRegion}
-use Rattle.iso_tree.specs.Walks.{HasDescended, IsLeaf, AreBytesOf}
 use Rattle.iso_tree.proofs.Looking.{at_as}
 use Rattle.iso_tree.proofs.DelCalls.{HasBlocks, del_local}
 

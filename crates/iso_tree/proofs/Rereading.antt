@@ -1,24 +1,5 @@
 -- The nodes of a put are read once more.
-use Rattle.std.proofs.Common.{◌≡◌, ◌∙◌, sym, refl, ap, subst, ℕ, suc, ◌+◌, ◌*◌, ◌≤◌, List, [], ◌∷◌, ◌++◌, length, map, take, drop, Some, Result, Ok, Err, OnOk, IfErr, arith}
-use Rattle.std.proofs.lemmas.List.{take_at, take-take, length-take-le}
-use Rattle.iso_model.specs.declared.access.Access.{Access}
-use Rattle.store_model.specs.declared.stores.Area.{Area}
-use Rattle.store_model.specs.declared.stores.StoreError.{StoreError}
-use Rattle.store_model.specs.declared.stores.TxError.{TxError}
-use Rattle.iso_model.specs.Array.{Array}
-use Rattle.iso_model.specs.Effect.{own}
-use Rattle.store_model.specs.Cells.{laid_at}
-use Rattle.store_model.specs.Stores.{Program, bytes_in, look_access}
-use Rattle.iso_alloc.proofs.Laying.{laid_here}
-use Rattle.tx_blocks.specs.Tx.{Tx, Device, with_accesses}
-use Rattle.tx_blocks.specs.Runs.{Stopped, IsCut, IsCause, HasRun}
-use Rattle.tx_blocks.proofs.Programs.{own_reads}
-use Rattle.tx_blocks.proofs.Progress.{IsAt, at_join, at_start, at_look_whole, own_append}
-use Rattle.tx_blocks.proofs.Parts.{run_from}
-use Rattle.store_model.specs.TreeNodes.{Cell, used_cells}
-use Rattle.iso_tree.specs.Rows.{nodes_from, AreShownUsable, AreUsable, IsUsable}
-use Rattle.store_model.specs.TreeCalls.{look_again, Answer}
-use Rattle.iso_tree.specs.Walks.{AreBytesOf}
+use Rattle.iso_tree.proofs.Words.{◌≡◌, ◌∙◌, sym, refl, ap, subst, ℕ, suc, ◌+◌, ◌*◌, ◌≤◌, List, [], ◌∷◌, ◌++◌, length, map, take, drop, Some, Result, Ok, Err, OnOk, IfErr, arith, take_at, take-take, length-take-le, Access, Area, StoreError, TxError, Array, own, laid_at, Program, bytes_in, look_access, laid_here, Tx, Device, with_accesses, Stopped, IsCut, IsCause, HasRun, own_reads, IsAt, at_join, at_start, at_look_whole, own_append, run_from, Cell, used_cells, nodes_from, AreShownUsable, AreUsable, IsUsable, look_again, Answer, AreBytesOf}
 use Rattle.iso_tree.proofs.Frames.{piece_of}
 use Rattle.iso_tree.proofs.Removing.{cut_at_whole}
 

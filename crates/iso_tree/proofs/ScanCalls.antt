@@ -1,22 +1,5 @@
 -- A scan is that of the region's map.
-use Rattle.std.proofs.Common.{◌≡◌, ◌∙◌, sym, ap, subst, ℕ, Bool, true, false, ◌&&◌, ◌==◌, cond, List, [], take, None, Result, Ok, Err, IfOk, inl, inr, eq-eqb, ne_eqb}
-use Rattle.std.specs.FinMap.{entries}
-use Rattle.std.proofs.lemmas.Bool.{and_from, cases_eq}
-use Rattle.iso_model.specs.declared.access.Access.{Access}
-use Rattle.store_model.specs.declared.stores.Area.{Area}
-use Rattle.store_model.specs.declared.stores.StoreError.{StoreError}
-use Rattle.store_model.specs.declared.stores.StoreError.TheVariants.{BadKey, Broken}
-use Rattle.iso_model.specs.Array.{Array}
-use Rattle.iso_model.specs.Effect.{own}
-use Rattle.store_model.specs.HashCalls.{is_key}
-use Rattle.store_model.specs.Stores.{AreReads, Program, Done, accesses_of, answer_of, IsLocal}
-use Rattle.tx_blocks.specs.Tx.{Tx}
-use Rattle.tx_blocks.specs.Runs.{HasRun, IsLocalCall}
-use Rattle.tx_blocks.proofs.Programs.{own_reads, whole_reads, IsCorrect, local_from}
-use Rattle.tx_blocks.proofs.Progress.{whole_run}
-use Rattle.store_model.specs.Trees.{tree_at, pairs_in, IsOrdered}
-use Rattle.store_model.specs.TreeCalls.{scan_below, scan_from, scan_program, with_head, Scanned}
-use Rattle.store_model.specs.TreeRegion.{cells_in, root_of, level_of, scan_op, tree_map, tree_pairs, AreNodes, IsTreeRegion}
+use Rattle.iso_tree.proofs.Words.{◌≡◌, ◌∙◌, sym, ap, subst, ℕ, Bool, true, false, ◌&&◌, ◌==◌, cond, List, [], take, None, Result, Ok, Err, IfOk, inl, inr, eq-eqb, ne_eqb, entries, and_from, cases_eq, Access, Area, StoreError, BadKey, Broken, Array, own, is_key, AreReads, Program, Done, accesses_of, answer_of, IsLocal, Tx, HasRun, IsLocalCall, own_reads, whole_reads, IsCorrect, local_from, whole_run, tree_at, pairs_in, IsOrdered, scan_below, scan_from, scan_program, with_head, Scanned, cells_in, root_of, level_of, scan_op, tree_map, tree_pairs, AreNodes, IsTreeRegion}
 use Rattle.iso_tree.proofs.Gets.{head_reads}
 use Rattle.iso_tree.proofs.Reading.{cond_reads, same_ok}
 use Rattle.iso_tree.proofs.Scans.{within}

@@ -1,14 +1,5 @@
 -- What a scan reads of a node are the cells that it visits.
-use Rattle.std.proofs.Common.{◌≡◌, ◌∙◌, sym, refl, ap, ℕ, zero, suc, ◌+◌, ◌-◌, ◌*◌, ◌<◌, ◌≤◌, ◌==◌, Bool, true, false, not, ◌&&◌, cond, List, ◌∷◌, map, take, drop, Some, None, arith, inl, inr, ne_eqb}
-use Rattle.std.specs.List.{list_all}
-use Rattle.std.proofs.lemmas.Bool.{and_from, cases_eq}
-use Rattle.std.proofs.lemmas.List.{take-take, drop-take, drop-drop}
-use Rattle.iso_model.specs.declared.access.Span.{Span}
-use Rattle.store_model.specs.declared.stores.Area.{Area}
-use Rattle.store_model.specs.Cells.{key_at, keys_end, text_of, value_mark}
-use Rattle.store_model.specs.Stores.{bytes_in, further_bytes}
-use Rattle.store_model.specs.TreeNodes.{before, below_from, cells_by, is_node, place_from, Cell}
-use Rattle.store_model.specs.TreeCalls.{first_in, many_in, pairs_with, parts_of, scan_further}
+use Rattle.iso_tree.proofs.Words.{◌≡◌, ◌∙◌, sym, refl, ap, ℕ, zero, suc, ◌+◌, ◌-◌, ◌*◌, ◌<◌, ◌≤◌, ◌==◌, Bool, true, false, not, ◌&&◌, cond, List, ◌∷◌, map, take, drop, Some, None, arith, inl, inr, ne_eqb, list_all, and_from, cases_eq, take-take, drop-take, drop-drop, Span, Area, key_at, keys_end, text_of, value_mark, bytes_in, further_bytes, before, below_from, cells_by, is_node, place_from, Cell, first_in, many_in, pairs_with, parts_of, scan_further}
 use Rattle.iso_tree.proofs.Edits.{leaf_pairs}
 use Rattle.iso_tree.proofs.Scans.{below_list, upto_list}
 

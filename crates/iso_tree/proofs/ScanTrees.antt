@@ -1,20 +1,6 @@
 -- A scan finds the first pairs of its range.
-use Rattle.std.proofs.Common.{◌≡◌, ◌∙◌, sym, refl, ap, subst, ℕ, zero, suc, ◌+◌, ◌-◌, ◌<◌, ◌≤◌, Bool, true, ◌&&◌, cond, List, [], ◌∷◌, ◌++◌, length, map, take, drop, Option, Some, Ok, Err, arith, append_assoc}
-use Rattle.std.specs.List.{AllByRecursion, flat_map, list_all}
-use Rattle.std.proofs.lemmas.Bool.{and_from}
-use Rattle.std.proofs.lemmas.List.{append-nil}
-use Rattle.store_model.specs.declared.stores.Area.{Area}
-use Rattle.store_model.specs.declared.stores.StoreError.TheVariants.{Broken}
-use Rattle.iso_model.specs.Array.{Array}
-use Rattle.iso_model.specs.Effect.{own}
-use Rattle.iso_model.specs.Premises.{block_at}
-use Rattle.store_model.specs.Stores.{AreReads, Program, Done, bytes_in, further_bytes, accesses_of, answer_of}
-use Rattle.store_model.specs.Cells.{is_part, key_at, keys_mark, value_mark}
-use Rattle.tx_blocks.proofs.Programs.{accesses_then, answer_then, own_reads, reads_append}
-use Rattle.store_model.specs.TreeNodes.{below_from, cells_by, count_of, is_child, is_node, place_from, Cell, child_of}
-use Rattle.store_model.specs.Trees.{tree_at, pairs_in, AreAfter, AreChildren, IsOrdered}
-use Rattle.store_model.specs.TreeCalls.{and_then, first_in, many_in, parts_of, pairs_with, scan_children, scan_from, scan_further, Scanned}
-use Rattle.store_model.specs.TreeRegion.{cells_in, AreNodes}
+use Rattle.iso_tree.proofs.Words.{◌≡◌, ◌∙◌, sym, refl, ap, subst, ℕ, zero, suc, ◌+◌, ◌-◌, ◌<◌, ◌≤◌, Bool, true, ◌&&◌, cond, List, [], ◌∷◌, ◌++◌, length, map, take, drop, Option, Some, Ok, Err, arith, AllByRecursion, flat_map, list_all, and_from, append-nil, Area, Broken, Array, own, block_at, AreReads, Program, Done, bytes_in, further_bytes, accesses_of, answer_of, is_part, key_at, keys_mark, value_mark, accesses_then, answer_then, own_reads, reads_append, below_from, cells_by, count_of, is_child, is_node, place_from, Cell, child_of, tree_at, pairs_in, AreAfter, AreChildren, IsOrdered, and_then, first_in, many_in, parts_of, pairs_with, scan_children, scan_from, scan_further, Scanned, cells_in, AreNodes}
+use Rattle.std.proofs.Common.{append_assoc}
 use Rattle.iso_tree.proofs.Edits.{leaf_pairs}
 use Rattle.iso_tree.proofs.Enlarging.{all_taken}
 use Rattle.iso_tree.proofs.Gets.{ordered_in}

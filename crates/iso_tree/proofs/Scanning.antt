@@ -1,26 +1,8 @@
 -- A scan, node by node.
-use Rattle.std.proofs.Common.{◌≡◌, ◌⊎◌, inl, inr, ◌∙◌, sym, refl, ap, subst, ℕ, zero, suc, ◌+◌, ◌-◌, ◌<◌, ◌&&◌, Bool, true, false, cond, List, [], ◌∷◌, ◌++◌, length, map, take, Result, Ok, Err, IfOk, arith, append_assoc, length-append, eq-eqb, ne_eqb}
-use Rattle.std.specs.List.{list_all, AllByRecursion}
-use Rattle.std.proofs.lemmas.Bool.{and_parts}
-use Rattle.std.proofs.lemmas.List.{append-nil}
-use Rattle.store_model.specs.declared.stores.Area.{Area}
-use Rattle.store_model.specs.declared.stores.StoreError.{StoreError}
+use Rattle.iso_tree.proofs.Words.{◌≡◌, ◌⊎◌, inl, inr, ◌∙◌, sym, refl, ap, subst, ℕ, zero, suc, ◌+◌, ◌-◌, ◌<◌, ◌&&◌, Bool, true, false, cond, List, [], ◌∷◌, ◌++◌, length, map, take, Result, Ok, Err, IfOk, arith, eq-eqb, ne_eqb, list_all, AllByRecursion, and_parts, append-nil, Area, StoreError, is_key, Program, Done, Look, LookWhole, Reserve, Store, then_do, is_part, keys_mark, child_of, is_child, is_node, and_then, first_in, many_in, pairs_with, parts_of, scan_below, scan_children, scan_from, scan_further, scan_program, with_head, Scanned, scan_op, tree_map, IsTreeRegion, Tx, Ran, HasEnded, HasRun, IsLocalCall, WantsMemory, IsAt, at_start, at_then, began_at, ran_at, began_from, ended_from, run_from, scanned_ok, cut_then, Visit, keys_of, node_read, scan_nodes, values_of, visit_program, AreIn, HasScanned, IsVisited, head_program}
+use Rattle.std.proofs.Common.{append_assoc, length-append}
 use Rattle.store_model.specs.declared.stores.StoreError.TheVariants as store
 use Rattle.store_model.specs.declared.stores.TxError.TheVariants as error
-use Rattle.store_model.specs.HashCalls.{is_key}
-use Rattle.store_model.specs.Stores.{Program, Done, Look, LookWhole, Reserve, Store, then_do}
-use Rattle.store_model.specs.Cells.{is_part, keys_mark}
-use Rattle.store_model.specs.TreeNodes.{child_of, is_child, is_node}
-use Rattle.store_model.specs.TreeCalls.{and_then, first_in, many_in, pairs_with, parts_of, scan_below, scan_children, scan_from, scan_further, scan_program, with_head, Scanned}
-use Rattle.store_model.specs.TreeRegion.{scan_op, tree_map, IsTreeRegion}
-use Rattle.tx_blocks.specs.Tx.{Tx}
-use Rattle.tx_blocks.specs.Runs.{Ran, HasEnded, HasRun, IsLocalCall, WantsMemory}
-use Rattle.tx_blocks.proofs.Progress.{IsAt, at_start, at_then, began_at, ran_at}
-use Rattle.tx_blocks.proofs.Parts.{began_from, ended_from, run_from, scanned_ok}
-use Rattle.tx_blocks.proofs.Refusals.{cut_then}
-use Rattle.iso_tree.specs.declared.visit.Visit.{Visit}
-use Rattle.iso_tree.specs.Visits.{keys_of, node_read, scan_nodes, values_of, visit_program, AreIn, HasScanned, IsVisited}
-use Rattle.iso_tree.specs.Walks.{head_program}
 use Rattle.iso_tree.proofs.Getting.{head_at}
 use Rattle.iso_tree.proofs.Looking.{at_as}
 use Rattle.iso_tree.proofs.ScanCalls.{scan_call}

@@ -1,13 +1,5 @@
 -- The pairs of a range lie in the cells that a scan visits.
-use Rattle.std.proofs.Common.{◌≡◌, ◌∙◌, sym, refl, ap, ℕ, zero, suc, ◌+◌, ◌-◌, Bool, true, false, not, ◌&&◌, cond, List, [], ◌∷◌, ◌++◌, take, drop, Option, Some, arith, inl, inr}
-use Rattle.std.specs.List.{AllByRecursion, filter, flat_map}
-use Rattle.std.proofs.lemmas.Bool.{and_from, and_parts, cases_Bool}
-use Rattle.std.proofs.lemmas.List.{append-nil}
-use Rattle.std.proofs.lemmas.List.Elements.{filter-append}
-use Rattle.store_model.specs.Cells.{text_of}
-use Rattle.store_model.specs.TreeNodes.{before, Cell}
-use Rattle.store_model.specs.Trees.{in_range, Rise, RiseAfter, AreAfter}
-use Rattle.store_model.specs.TreeRegion.{is_within}
+use Rattle.iso_tree.proofs.Words.{◌≡◌, ◌∙◌, sym, refl, ap, ℕ, zero, suc, ◌+◌, ◌-◌, Bool, true, false, not, ◌&&◌, cond, List, [], ◌∷◌, ◌++◌, take, drop, Option, Some, arith, inl, inr, AllByRecursion, filter, flat_map, and_from, and_parts, cases_Bool, append-nil, filter-append, text_of, before, Cell, in_range, Rise, RiseAfter, AreAfter, is_within}
 use Rattle.iso_tree.proofs.Edits.{leaf_pairs}
 use Rattle.iso_tree.proofs.Gets.{pairs_after, rise_in}
 use Rattle.iso_tree.proofs.Order.{irreflexive, range_from}

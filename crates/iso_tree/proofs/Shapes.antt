@@ -1,8 +1,6 @@
 -- What the proofs say of trees and of what a put makes of them.
+use Rattle.iso_tree.proofs.Words.{AllByRecursion, before, Cell, child_of, Tree, tree_at, AreAfter, put_after, Put, fit}
 use Rattle.std.specs.Prelude.{◌≡◌, ℕ, zero, suc, ◌≤◌, ◌&&◌, ◌==◌, cond, List, [], ◌∷◌, ◌++◌, Option, Some, None, length, map}
-use Rattle.std.specs.List.{AllByRecursion}
-use Rattle.store_model.specs.TreeNodes.{before, Cell, child_of}
-use Rattle.store_model.specs.Trees.{Tree, tree_at, AreAfter, put_after, Put, fit}
 
 abbrev pub kids : (ℕ → List Cell) → (level : ℕ) → List Cell → List (List ℕ × Tree level)
 kids cells level cs = map (λ c. (c.0, tree_at cells level (child_of c.1))) cs

@@ -1,8 +1,5 @@
 -- A tree of a level has at least 2 to that level nodes: no level of a region comes near 31.
-use Rattle.std.proofs.Common.{ℕ, zero, suc, ◌+◌, ◌≤◌, [], ◌∷◌, ◌++◌, length, arith}
-use Rattle.std.specs.List.{flat_map}
-use Rattle.std.proofs.lemmas.List.{length-append}
-use Rattle.store_model.specs.Trees.{Tree, nodes_in}
+use Rattle.iso_tree.proofs.Words.{ℕ, zero, suc, ◌+◌, ◌≤◌, [], ◌∷◌, ◌++◌, length, arith, flat_map, length-append, Tree, nodes_in}
 use Rattle.iso_tree.proofs.Shapes.{IsSized}
 
 unfoldable pub doubled : (level : ℕ) → ℕ

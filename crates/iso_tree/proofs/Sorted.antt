@@ -1,15 +1,5 @@
 -- The pairs of an ordered tree rise: they are the entries of the region's map.
-use Rattle.std.proofs.Common.{◌≡◌, ◌∙◌, sym, refl, ap, subst, ℕ, zero, suc, Bool, true, List, [], ◌∷◌, ◌++◌, Option, Some}
-use Rattle.std.specs.List.{AllByRecursion, flat_map}
-use Rattle.std.specs.Ordering.{nat_cmp}
-use Rattle.std.specs.Cmp.Lexicographic.{slice_cmp, nat_list_cmp_total}
-use Rattle.std.specs.FinMap.{from_entries, from_sorted, entries, entries-from_sorted, get-from_entries, get-from_sorted, same_map, slice_cmp-IsAntisymmetric, nat_cmp-IsAntisymmetric}
-use Rattle.std.specs.FinMap.Entries.{is_sorted, below_all}
-use Rattle.std.proofs.Math.Dec.{T}
-use Rattle.std.proofs.lemmas.Bool.{and_from, and_parts}
-use Rattle.std.proofs.lemmas.List.{append-nil}
-use Rattle.store_model.specs.TreeNodes.{before, Cell}
-use Rattle.store_model.specs.Trees.{in_range, Tree, pairs_in, AreAfter, AreChildren, IsOrdered, Rise, RiseAfter}
+use Rattle.iso_tree.proofs.Words.{◌≡◌, ◌∙◌, sym, refl, ap, subst, ℕ, zero, suc, Bool, true, List, [], ◌∷◌, ◌++◌, Option, Some, AllByRecursion, flat_map, nat_cmp, slice_cmp, nat_list_cmp_total, from_entries, from_sorted, entries, entries-from_sorted, get-from_entries, get-from_sorted, same_map, slice_cmp-IsAntisymmetric, nat_cmp-IsAntisymmetric, is_sorted, below_all, T, and_from, and_parts, append-nil, before, Cell, in_range, Tree, pairs_in, AreAfter, AreChildren, IsOrdered, Rise, RiseAfter}
 use Rattle.iso_tree.proofs.Edits.{leaf_pairs}
 use Rattle.iso_tree.proofs.Gets.{ordered_in, pairs_after}
 use Rattle.iso_tree.proofs.Order.{before_trans}

@@ -1,14 +1,6 @@
 -- What a put makes of a tree.
-use Rattle.std.proofs.Common.{◌≡◌, ◌≢◌, ◌∙◌, sym, refl, ap, subst, ℕ, zero, suc, ◌<◌, ◌≤◌, true, false, cond, nat_le, IsTrue, List, [], ◌∷◌, ◌++◌, take, drop, length, map, Option, Some, None, arith, inl, inr, eq-eqb, ne_eqb}
-use Rattle.std.specs.List.{flat_map, AllByRecursion}
-use Rattle.std.proofs.lemmas.Bool.Decides.{nat_tests}
-use Rattle.std.proofs.lemmas.List.{append-nil, map-append, take-append-drop, length-take, length-drop}
-use Rattle.std.proofs.lemmas.Grind.{flat_map-append}
-use Rattle.store_model.specs.Cells.{text_of}
-use Rattle.store_model.specs.TreeNodes.{before, Cell, child_of}
-use Rattle.store_model.specs.Trees.{in_range, Tree, tree_at, pairs_in, nodes_in, IsApart, AreAfter, AreChildren, Rise, IsOrdered, Put, first_key, without_first, half, halves, fit}
+use Rattle.iso_tree.proofs.Words.{◌≡◌, ◌≢◌, ◌∙◌, sym, refl, ap, subst, ℕ, zero, suc, ◌<◌, ◌≤◌, true, false, cond, nat_le, IsTrue, List, [], ◌∷◌, ◌++◌, take, drop, length, map, Option, Some, None, arith, inl, inr, eq-eqb, ne_eqb, flat_map, AllByRecursion, nat_tests, append-nil, map-append, take-append-drop, length-take, length-drop, flat_map-append, text_of, before, Cell, child_of, in_range, Tree, tree_at, pairs_in, nodes_in, IsApart, AreAfter, AreChildren, Rise, IsOrdered, Put, first_key, without_first, half, halves, fit, IsIn}
 use Rattle.iso_tree.proofs.Shapes.{kids, IsGrown, write_cells, written, second_kid, IsFitCell, IsSized, IsLoose, AreSized}
-use Rattle.store_model.specs.HashRegion.{IsIn}
 use Rattle.iso_tree.proofs.Order.{cut_after, cut_above, cut_rise, all_left, all_right}
 use Rattle.iso_tree.proofs.Blocks.{in_front, in_back, apart_parts, kids_kept}
 

@@ -1,13 +1,5 @@
 -- The free blocks that a put takes.
-use Rattle.std.proofs.Common.{◌≡◌, refl, subst, ℕ, zero, suc, ◌+◌, ◌-◌, ◌<◌, ◌≤◌, Bool, true, false, not, cond, List, [], ◌∷◌, take, length, arith, inl, inr}
-use Rattle.std.specs.List.{filter, range_with_len}
-use Rattle.std.proofs.lemmas.List.{length-take-le}
-use Rattle.store_model.specs.declared.stores.Area.{Area}
-use Rattle.store_model.specs.HashRegion.{IsIn}
-use Rattle.store_model.specs.FreeMap.{map_bit, free_count}
-use Rattle.store_model.specs.Trees.{IsApart}
-use Rattle.store_model.specs.TreeCalls.{free_list}
-use Rattle.iso_tree.specs.FirstBlock.{Up}
+use Rattle.iso_tree.proofs.Words.{◌≡◌, refl, subst, ℕ, zero, suc, ◌+◌, ◌-◌, ◌<◌, ◌≤◌, Bool, true, false, not, cond, List, [], ◌∷◌, take, length, arith, inl, inr, filter, range_with_len, length-take-le, Area, IsIn, map_bit, free_count, IsApart, free_list, Up}
 use Rattle.iso_tree.proofs.MapBits.{up_in}
 
 up_less : (low mid : ℕ) (xs : List ℕ) → low ≤ mid → Up mid xs → Up low xs

@@ -1,10 +1,5 @@
 -- The loop that takes free blocks, lowest first.
-use Rattle.std.proofs.Common.{◌≡◌, ◌∙◌, sym, refl, ap, ℕ, zero, suc, ◌+◌, ◌-◌, ◌<◌, ◌≤◌, ◌==◌, ◌||◌, Bool, true, false, not, cond, List, [], ◌∷◌, ◌++◌, take, length, Option, Some, None, arith, ne_eqb, set}
-use Rattle.std.specs.List.{filter, range_with_len}
-use Rattle.std.proofs.lemmas.List.{take_at}
-use Rattle.iso_model.specs.Conflict.{first_from}
-use Rattle.store_model.specs.FreeMap.{map_bit, with_bit, lowest_free}
-use Rattle.store_model.specs.TreeCalls.{with_used}
+use Rattle.iso_tree.proofs.Words.{◌≡◌, ◌∙◌, sym, refl, ap, ℕ, zero, suc, ◌+◌, ◌-◌, ◌<◌, ◌≤◌, ◌==◌, ◌||◌, Bool, true, false, not, cond, List, [], ◌∷◌, ◌++◌, take, length, Option, Some, None, arith, ne_eqb, set, filter, range_with_len, take_at, first_from, map_bit, with_bit, lowest_free, with_used}
 
 no_some : (b : ℕ) → ◌≡◌ {A = Option ℕ} None (Some b) → ⊥
 no_some b e = cc

@@ -1,19 +1,5 @@
 -- The nodes that a descent has passed are usable, on whatever array.
-use Rattle.std.proofs.Common.{◌≡◌, ◌∙◌, sym, refl, ap, subst, ℕ, zero, suc, ◌+◌, ◌≤◌, ◌&&◌, Bool, true, false, cond, List, [], ◌∷◌, Some, arith}
-use Rattle.std.proofs.lemmas.Bool.{and_parts}
-use Rattle.store_model.specs.declared.stores.Area.{Area}
-use Rattle.iso_model.specs.Array.{Array}
-use Rattle.iso_model.specs.Effect.{own}
-use Rattle.iso_model.specs.Premises.{block_at}
-use Rattle.store_model.specs.Cells.{keys_mark}
-use Rattle.store_model.specs.Stores.{Program, Done, bytes_in, further_bytes, answer_of}
-use Rattle.tx_blocks.specs.Tx.{Tx}
-use Rattle.tx_blocks.specs.Runs.{Ran, HasRead}
-use Rattle.tx_blocks.proofs.Programs.{own_reads}
-use Rattle.tx_blocks.proofs.Progress.{own_append, whole_run}
-use Rattle.store_model.specs.TreeNodes.{child_of, count_of, is_child, is_node}
-use Rattle.iso_tree.specs.Rows.{ArePathUsable, AreShownUsable, IsUsable}
-use Rattle.store_model.specs.TreeCalls.{Descent, AtLeaf, AtBroken, descend, leaf_further, inner_further}
+use Rattle.iso_tree.proofs.Words.{◌≡◌, ◌∙◌, sym, refl, ap, subst, ℕ, zero, suc, ◌+◌, ◌≤◌, ◌&&◌, Bool, true, false, cond, List, [], ◌∷◌, Some, arith, and_parts, Area, Array, own, block_at, keys_mark, Program, Done, bytes_in, further_bytes, answer_of, Tx, Ran, HasRead, own_reads, own_append, whole_run, child_of, count_of, is_child, is_node, ArePathUsable, AreShownUsable, IsUsable, Descent, AtLeaf, AtBroken, descend, leaf_further, inner_further}
 use Rattle.iso_tree.proofs.Facts.{node_parts, inner_many}
 
 abbrev HasPassed : Area → Array → Descent → Type 0

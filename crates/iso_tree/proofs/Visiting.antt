@@ -1,28 +1,7 @@
 -- The read of a node that a scan visits, and what follows from its bytes.
-use Rattle.std.proofs.Common.{◌≡◌, ◌∙◌, sym, refl, ap, ℕ, zero, suc, ◌+◌, ◌-◌, ◌*◌, ◌<◌, ◌≤◌, ◌&&◌, ◌==◌, not, Bool, true, false, cond, List, [], ◌∷◌, ◌++◌, length, take, drop, slice_index, nat_le, Option, Some, None, Ok, Err, arith, inl, inr, eq-eqb, ne_eqb, append_assoc, length-append}
-use Rattle.std.specs.List.{list_all, AllByRecursion}
-use Rattle.std.specs.Option.{ForSome}
-use Rattle.std.proofs.lemmas.Bool.{and_parts, cases_eq, leb-true}
-use Rattle.std.proofs.lemmas.List.{append-nil, drop-drop}
-use Rattle.iso_model.specs.declared.access.Access.{Access}
-use Rattle.iso_model.specs.declared.access.Span.{Span}
-use Rattle.store_model.specs.declared.stores.Area.{Area}
+use Rattle.iso_tree.proofs.Words.{◌≡◌, ◌∙◌, sym, refl, ap, ℕ, zero, suc, ◌+◌, ◌-◌, ◌*◌, ◌<◌, ◌≤◌, ◌&&◌, ◌==◌, not, Bool, true, false, cond, List, [], ◌∷◌, ◌++◌, length, take, drop, slice_index, nat_le, Option, Some, None, Ok, Err, arith, inl, inr, eq-eqb, ne_eqb, list_all, AllByRecursion, ForSome, and_parts, cases_eq, leb-true, append-nil, drop-drop, Access, Span, Area, TxError, own, marked, block_at, Done, bytes_in, further_bytes, with_further, look_access, is_part, is_zero, key_at, keys_mark, text_of, is_child, is_node, child_of, first_in, many_in, pairs_with, parts_of, scan_further, is_part_at, Tx, Device, with_accesses, Ran, IsCause, IsCut, marked_access, at_start, cut_at_look, keys_of, node_read, values_mark, visit_program}
+use Rattle.std.proofs.Common.{append_assoc, length-append}
 use Rattle.store_model.specs.declared.stores.StoreError.TheVariants as store
-use Rattle.store_model.specs.declared.stores.TxError.{TxError}
-use Rattle.iso_model.specs.Effect.{own}
-use Rattle.iso_model.specs.Marks.{marked}
-use Rattle.iso_model.specs.Premises.{block_at}
-use Rattle.store_model.specs.Stores.{Done, bytes_in, further_bytes, with_further, look_access}
-use Rattle.store_model.specs.Cells.{is_part, is_zero, key_at, keys_mark, text_of}
-use Rattle.store_model.specs.TreeNodes.{is_child, is_node, child_of}
-use Rattle.store_model.specs.TreeCalls.{first_in, many_in, pairs_with, parts_of, scan_further}
-use Rattle.store_model.specs.TreeRegion.{is_part_at}
-use Rattle.tx_blocks.specs.Tx.{Tx, Device, with_accesses}
-use Rattle.tx_blocks.specs.Runs.{Ran, IsCause, IsCut}
-use Rattle.tx_blocks.proofs.Marking.{marked_access}
-use Rattle.tx_blocks.proofs.Progress.{at_start}
-use Rattle.tx_blocks.proofs.Refusals.{cut_at_look}
-use Rattle.iso_tree.specs.Visits.{keys_of, node_read, values_mark, visit_program}
 use Rattle.iso_tree.proofs.Facts.{child_below}
 use Rattle.iso_tree.proofs.Looking.{looked, looked_so}
 use Rattle.iso_tree.proofs.ScanTrees.{take_nil, take_zero}

@@ -1,13 +1,6 @@
 -- The way up of a put over the path of its descent is the put below the root.
-use Rattle.std.proofs.Common.{◌≡◌, ◌∙◌, sym, refl, ap, ℕ, zero, suc, ◌<◌, ◌≤◌, true, ◌&&◌, ◌==◌, cond, nat_le, List, [], ◌∷◌, ◌++◌, take, length, map, Option, Some, None, arith, inl, inr, eq-eqb}
-use Rattle.std.specs.List.{AllByRecursion}
-use Rattle.std.proofs.lemmas.Bool.{cases_eq}
-use Rattle.std.proofs.lemmas.Bool.Decides.{nat_tests}
-use Rattle.std.proofs.lemmas.List.{append_assoc}
-use Rattle.store_model.specs.TreeNodes.{Cell, child_of, child_part}
-use Rattle.store_model.specs.Trees.{tree_at, AreChildren, IsOrdered, put_after, Put, halves, fit}
+use Rattle.iso_tree.proofs.Words.{◌≡◌, ◌∙◌, sym, refl, ap, ℕ, zero, suc, ◌<◌, ◌≤◌, true, ◌&&◌, ◌==◌, cond, nat_le, List, [], ◌∷◌, ◌++◌, take, length, map, Option, Some, None, arith, inl, inr, eq-eqb, AllByRecursion, cases_eq, nat_tests, append_assoc, Cell, child_of, child_part, tree_at, AreChildren, IsOrdered, put_after, Put, halves, fit, Climb, placed, climb_on, climb, full_row}
 use Rattle.iso_tree.proofs.Shapes.{kids, after_child, child_for, put_below}
-use Rattle.store_model.specs.TreeCalls.{Climb, placed, climb_on, climb, full_row}
 use Rattle.iso_tree.proofs.Climbs.{child_ordered}
 use Rattle.iso_tree.proofs.Order.{length-put_after}
 

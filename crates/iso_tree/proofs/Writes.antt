@@ -1,20 +1,6 @@
 -- The writes of nodes on the array are the writes of cells, and a child's value part names it.
-use Rattle.std.proofs.Common.{◌≡◌, ◌∙◌, refl, ap, ℕ, ◌+◌, ◌-◌, ◌*◌, ◌^◌, ◌<◌, ◌≤◌, List, [], ◌∷◌, length, replicate}
-use Rattle.std.specs.List.{AllByRecursion}
-use Rattle.std.specs.Int.{w32, to_be_bytes, from_be_bytes}
-use Rattle.std.proofs.lemmas.List.{take_at}
-use Rattle.std.proofs.lemmas.Nat.{from_be_bytes-to_be_bytes_4}
-use Rattle.store_model.specs.declared.stores.Area.{Area}
-use Rattle.iso_model.specs.Array.{Array, put}
-use Rattle.iso_model.specs.Effect.{own}
-use Rattle.iso_model.specs.Premises.{block_at}
-use Rattle.store_model.specs.Stores.{Done, store_access, accesses_of}
-use Rattle.store_model.specs.Cells.{cell_count}
-use Rattle.store_model.specs.TreeNodes.{FitCells, Cell, child_of, child_part, node_bytes}
+use Rattle.iso_tree.proofs.Words.{◌≡◌, ◌∙◌, refl, ap, ℕ, ◌+◌, ◌-◌, ◌*◌, ◌^◌, ◌<◌, ◌≤◌, List, [], ◌∷◌, length, replicate, AllByRecursion, w32, to_be_bytes, from_be_bytes, take_at, from_be_bytes-to_be_bytes_4, Area, Array, put, own, block_at, Done, store_access, accesses_of, cell_count, FitCells, Cell, child_of, child_part, node_bytes, cells_in, store_nodes, length-block_put}
 use Rattle.iso_tree.proofs.Shapes.{written}
-use Rattle.store_model.specs.TreeRegion.{cells_in}
-use Rattle.store_model.specs.TreeCalls.{store_nodes}
-use Rattle.iso_model.proofs.Bytes.{length-block_put}
 use Rattle.iso_tree.proofs.Bytes.{cells_after}
 
 pub child_named : (b : ℕ) → b < 2 ^ 32 → child_of (child_part b) ≡ b

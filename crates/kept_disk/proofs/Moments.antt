@@ -1,6 +1,5 @@
 -- Calls that leave a disk's bytes as they were, one after the other.
-use Rattle.std.proofs.Common.{⊎_elim, inl, inr, refl, ◌∙◌, arith}
-use Rattle.iso_disk.specs.Disk.{DiskState, Elapses}
+use Rattle.kept_disk.proofs.Words.{⊎_elim, inl, inr, refl, ◌∙◌, arith, DiskState, Elapses}
 
 -- no call
 pub still : (d : DiskState) → Elapses d d d.now

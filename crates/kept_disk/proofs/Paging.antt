@@ -1,9 +1,5 @@
 -- The page of a place, and ranges that are held.
-use Rattle.std.proofs.Common.{◌≡◌, ◌⊎◌, ◌<◌, ◌≤◌, ◌+◌, ◌*◌, ◌/◌, ◌%◌, ℕ, List, inl, inr, sym, ◌∙◌, subst, arith}
-use Rattle.std.proofs.Math.Nat.{mod-add-div, mod-lt}
-use Rattle.std.specs.List.{slice_get}
-use Rattle.kept_disk.specs.declared.page.Page.{Page}
-use Rattle.kept_disk.specs.Pages.{HoldsRange, IsHeld}
+use Rattle.kept_disk.proofs.Words.{◌≡◌, ◌⊎◌, ◌<◌, ◌≤◌, ◌+◌, ◌*◌, ◌/◌, ◌%◌, ℕ, List, inl, inr, sym, ◌∙◌, subst, arith, mod-add-div, mod-lt, slice_get, Page, HoldsRange, IsHeld}
 
 -- a place, by its page
 pub at_page : (at : ℕ) → at / 4096 * 4096 + at % 4096 ≡ at

@@ -1,14 +1,6 @@
 -- Slices of lists that are written over, and places of lists that are set.
-use Rattle.std.proofs.Common.{◌≡◌, ◌<◌, ◌≤◌, ◌+◌, ◌-◌, ℕ, zero, suc, min, List, [], ◌∷◌, ◌++◌, Option, Some, None, inl, length, take, drop, set, refl, sym, ◌∙◌, ap, arith, length-drop}
-use Rattle.std.proofs.lemmas.List.{take-take, drop-drop, drop-take, length-take, length-take-le, take_at, drop_all}
-use Rattle.std.proofs.Math.Seq.{take-add, take-length}
-use Rattle.std.proofs.lemmas.Slice.{put_mid-paste}
+use Rattle.kept_disk.proofs.Words.{◌≡◌, ◌<◌, ◌≤◌, ◌+◌, ◌-◌, ℕ, zero, suc, min, List, [], ◌∷◌, ◌++◌, Option, Some, None, inl, length, take, drop, set, refl, sym, ◌∙◌, ap, arith, length-drop, take-take, drop-drop, drop-take, length-take, length-take-le, take_at, drop_all, take-add, take-length, put_mid-paste, option_map, same_Some, slice_get, Torn, spliced, drop-torn, slice-torn, spliced_torn, take-spliced, take-drop-spliced, spliced_behind, torn_whole}
 use borrow.Rule.Slice.PartMut.{put_mid}
-use Rattle.std.specs.Option.{option_map}
-use Rattle.std.proofs.lemmas.Option.{same_Some}
-use Rattle.std.specs.List.{slice_get}
-use Rattle.iso_disk.specs.Disk.{Torn, spliced}
-use Rattle.iso_disk.proofs.Bytes.{drop-torn, slice-torn, spliced_torn, take-spliced, take-drop-spliced, spliced_behind, torn_whole}
 
 -- the length of a slice
 pub length-slice : (k b : ℕ) (l : List ℕ) → length (take k (drop b l)) ≡ min k (length l - b)

@@ -1,12 +1,5 @@
 -- Pages that stand for contents: as they are filled, as bytes are written, and what a read takes of them.
-use Rattle.std.proofs.Common.{◌≡◌, ◌⊎◌, ◌≤◌, ◌<◌, ◌+◌, ◌-◌, ◌*◌, ◌%◌, ℕ, min, List, Some, None, inl, inr, length, take, drop, set, sym, ◌∙◌, ap, subst, arith, length-drop}
-use Rattle.std.proofs.lemmas.List.{take-take, drop-take, take_min}
-use Rattle.std.proofs.lemmas.Option.{same_Some}
-use Rattle.std.specs.List.{slice_get}
-use Rattle.iso_disk.specs.Disk.{spliced}
-use Rattle.iso_disk.proofs.Bytes.{length-spliced, slice-torn, spliced_torn}
-use Rattle.kept_disk.specs.declared.page.Page.{Page}
-use Rattle.kept_disk.specs.Pages.{page_of, Fronts, Stand}
+use Rattle.kept_disk.proofs.Words.{◌≡◌, ◌⊎◌, ◌≤◌, ◌<◌, ◌+◌, ◌-◌, ◌*◌, ◌%◌, ℕ, min, List, Some, None, inl, inr, length, take, drop, set, sym, ◌∙◌, ap, subst, arith, length-drop, take-take, drop-take, take_min, same_Some, slice_get, spliced, length-spliced, slice-torn, spliced_torn, Page, page_of, Fronts, Stand}
 use Rattle.kept_disk.proofs.Slices.{length-slice, part_of, spliced_inside, get-set_same, get-set_other}
 
 -- bytes that were read as a page

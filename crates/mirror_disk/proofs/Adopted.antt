@@ -1,20 +1,5 @@
 -- What is known of two sides that were adopted.
-use Rattle.std.proofs.Common.{◌≡◌, ◌≢◌, ◌⊎◌, inl, inr, ⊎_elim, ℕ, ◌+◌, ◌<◌, ◌≤◌, List, [], take, Option, Some, None, refl, sym, ◌∙◌, ap, subst, arith}
-use Rattle.std.specs.Prelude.{IfSome}
-use Rattle.std.proofs.lemmas.Option.{same_Some}
-use Rattle.iso_disk.specs.Disk.{DiskState, IsLawful, IsSettled, LeavesOnly, WritesNothing}
-use Rattle.iso_disk.proofs.Moments.{at_end}
-use Rattle.fault_count.specs.Count.{Rose}
-use Rattle.mirror_disk.specs.declared.slot.Mark.{Mark}
-use Rattle.mirror_disk.specs.declared.slot.Slot.{Slot}
-use Rattle.mirror_disk.specs.declared.used.Used.TheVariants.{Both, OnlyFirst, OnlySecond}
-use Rattle.mirror_disk.specs.Adopting.{AdoptFails, AdoptsFrom, AreAlike, OfChosen, OfOther, TellsOn}
-use Rattle.mirror_disk.specs.Header.{IsHeader, body, chosen, epoch, last_epoch}
-use Rattle.mirror_disk.specs.Laws.{rising_first}
-use Rattle.mirror_disk.specs.Pairs.{ChosenOf, chosen_told}
-use Rattle.mirror_disk.specs.Raised.{HasEpoch, KeepsBody}
-use Rattle.mirror_disk.specs.Slots.{other}
-use Rattle.mirror_disk.specs.Standing.{ArePair, AreBoth, FirstLeads, SecondLeads, Stands}
+use Rattle.mirror_disk.proofs.Words.{◌≡◌, ◌≢◌, ◌⊎◌, inl, inr, ⊎_elim, ℕ, ◌+◌, ◌<◌, ◌≤◌, List, [], take, Option, Some, None, refl, sym, ◌∙◌, ap, subst, arith, IfSome, same_Some, DiskState, IsLawful, IsSettled, LeavesOnly, WritesNothing, at_end, Rose, Mark, Slot, Both, OnlyFirst, OnlySecond, AdoptFails, AdoptsFrom, AreAlike, OfChosen, OfOther, TellsOn, IsHeader, body, chosen, epoch, last_epoch, rising_first, ChosenOf, chosen_told, HasEpoch, KeepsBody, other, ArePair, AreBoth, FirstLeads, SecondLeads, Stands}
 use Rattle.mirror_disk.proofs.Choosing.{adopts_first, adopts_second}
 use Rattle.mirror_disk.proofs.Ended.{keeps_on}
 use Rattle.mirror_disk.proofs.Epochs.{chosen_first, chosen_second}

@@ -1,16 +1,5 @@
 -- How a call ends on a mirror with one side in use.
-use Rattle.std.proofs.Common.{◌≡◌, ◌≢◌, inr, ⊎_elim, ℕ, ◌+◌, ◌≤◌, List, [], Some, refl, sym, ◌∙◌, ap, subst, arith}
-use Rattle.iso_disk.specs.Disk.{DiskState, IsLawful, IsSettled, TornFrom, LeavesOnly}
-use Rattle.iso_disk.proofs.Images.{torn_from_old}
-use Rattle.iso_disk.proofs.Moments.{at_end, started, weakened}
-use Rattle.mirror_disk.specs.declared.slot.Slot.{Slot}
-use Rattle.mirror_disk.specs.declared.used.Used.{Used}
-use Rattle.mirror_disk.specs.declared.used.Used.TheVariants.{Both, OnlyFirst, OnlySecond}
-use Rattle.mirror_disk.specs.Ended.{HasEnded}
-use Rattle.mirror_disk.specs.Header.{IsHeader, chosen}
-use Rattle.mirror_disk.specs.Laws.{rising_first}
-use Rattle.mirror_disk.specs.Pairs.{chosen_told, mirrored}
-use Rattle.mirror_disk.specs.Standing.{ArePair, FirstLeads, SecondLeads, IsPair}
+use Rattle.mirror_disk.proofs.Words.{◌≡◌, ◌≢◌, inr, ⊎_elim, ℕ, ◌+◌, ◌≤◌, List, [], Some, refl, sym, ◌∙◌, ap, subst, arith, DiskState, IsLawful, IsSettled, TornFrom, LeavesOnly, torn_from_old, at_end, started, weakened, Slot, Used, Both, OnlyFirst, OnlySecond, HasEnded, IsHeader, chosen, rising_first, chosen_told, mirrored, ArePair, FirstLeads, SecondLeads, IsPair}
 use Rattle.mirror_disk.proofs.Calls.{elapses_pair}
 use Rattle.mirror_disk.proofs.Epochs.{chosen_first, chosen_second}
 use Rattle.mirror_disk.proofs.Stands.{header_torn, GoesOnTelling, epoch_of_torn, from_a, from_b, meets_first, meets_second, now_from_a, now_from_b, pair_on, some_told}

@@ -1,15 +1,5 @@
 -- Both sides were asked to write, or to sync.
-use Rattle.std.proofs.Common.{◌≡◌, inl, ℕ, ◌+◌, ◌≤◌, Bool, true, List, length, Option, Some, None, Result, Ok, Err, OnOk, OnErr, is_ok, refl, sym, ◌∙◌, ap, arith}
-use Rattle.std.specs.Option.{option_map}
-use Rattle.std.proofs.lemmas.Option.{same_Some}
-use Rattle.iso_disk.specs.Disk.{DiskState, IsLawful, TornFrom, TellsTorn, Splices, Elapses, spliced}
-use Rattle.iso_disk.proofs.Bytes.{torn_same}
-use Rattle.iso_disk.proofs.Images.{length-contents, tells_spliced, torn_from_old}
-use Rattle.iso_disk.proofs.Moments.{called}
-use Rattle.mirror_disk.specs.declared.slot.Slot.{Slot}
-use Rattle.mirror_disk.specs.Ended.{BothAsked}
-use Rattle.mirror_disk.specs.Header.{body}
-use Rattle.mirror_disk.specs.Standing.{ArePair, AreBoth}
+use Rattle.mirror_disk.proofs.Words.{◌≡◌, inl, ℕ, ◌+◌, ◌≤◌, Bool, true, List, length, Option, Some, None, Result, Ok, Err, OnOk, OnErr, is_ok, refl, sym, ◌∙◌, ap, arith, option_map, same_Some, DiskState, IsLawful, TornFrom, TellsTorn, Splices, Elapses, spliced, torn_same, length-contents, tells_spliced, torn_from_old, called, Slot, BothAsked, body, ArePair, AreBoth}
 use Rattle.mirror_disk.proofs.Telling.{body-spliced}
 
 -- a write that was done or failed

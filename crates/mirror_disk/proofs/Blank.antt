@@ -1,18 +1,5 @@
 -- Two sides that were just made.
-use Rattle.std.proofs.Common.{◌≡◌, inl, inr, ℕ, ◌+◌, ◌-◌, List, [], ◌++◌, drop, replicate, Option, Some, None, IsSome, refl, sym, ◌∙◌, ap, subst, arith}
-use Rattle.std.specs.Prelude.{IfNone, IfSome}
-use Rattle.std.specs.Option.{ForSome}
-use Rattle.std.proofs.lemmas.Bool.{cases_lt}
-use Rattle.std.proofs.lemmas.List.{drop-replicate}
-use Rattle.iso_disk.specs.Disk.{DiskState, IsLawful, IsSettled, Splices}
-use Rattle.iso_disk.proofs.Images.{settled_write}
-use Rattle.mirror_disk.specs.declared.slot.Slot.TheVariants.{First}
-use Rattle.mirror_disk.specs.declared.used.Used.{Used}
-use Rattle.mirror_disk.specs.Header.{blank_header, body, chosen, epoch}
-use Rattle.mirror_disk.specs.Laws.{both_tell}
-use Rattle.mirror_disk.specs.Pairs.{ChosenOf, chosen_told, mirrored}
-use Rattle.mirror_disk.specs.Raised.{HasEpoch}
-use Rattle.mirror_disk.specs.Standing.{ArePair, AreBoth, IsPair, state_in}
+use Rattle.mirror_disk.proofs.Words.{◌≡◌, inl, inr, ℕ, ◌+◌, ◌-◌, List, [], ◌++◌, drop, replicate, Option, Some, None, IsSome, refl, sym, ◌∙◌, ap, subst, arith, IfNone, IfSome, ForSome, cases_lt, drop-replicate, DiskState, IsLawful, IsSettled, Splices, settled_write, First, Used, blank_header, body, chosen, epoch, both_tell, ChosenOf, chosen_told, mirrored, HasEpoch, ArePair, AreBoth, IsPair, state_in}
 use Rattle.mirror_disk.proofs.Adopted.{both_alike}
 use Rattle.mirror_disk.proofs.Alone.{first_pair}
 use Rattle.mirror_disk.proofs.Mirrored.{state_pair}

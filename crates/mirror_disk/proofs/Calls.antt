@@ -1,11 +1,5 @@
 -- A call of a mirror: what its sides do, and what comes of it.
-use Rattle.std.proofs.Common.{◌≡◌, ◌⊎◌, inl, inr, ⊎_elim, ℕ, ◌-◌, ◌≤◌, List, ◌∷◌, length, refl, sym, ◌∙◌, ap, subst, arith}
-use Rattle.std.specs.Option.{option_map}
-use Rattle.iso_disk.specs.Disk.{DiskState, IsLawful, Elapses, LeavesOnly}
-use Rattle.iso_disk.proofs.Moments.{at_end}
-use Rattle.mirror_disk.specs.Header.{chosen}
-use Rattle.mirror_disk.specs.Pairs.{ChosenOf, IsRising, mirrored, pair_at, shorter}
-use Rattle.mirror_disk.specs.Laws.{at_before, at_most, chosen_more}
+use Rattle.mirror_disk.proofs.Words.{◌≡◌, ◌⊎◌, inl, inr, ⊎_elim, ℕ, ◌-◌, ◌≤◌, List, ◌∷◌, length, refl, sym, ◌∙◌, ap, subst, arith, option_map, DiskState, IsLawful, Elapses, LeavesOnly, at_end, chosen, ChosenOf, IsRising, mirrored, pair_at, shorter, at_before, at_most, chosen_more}
 
 -- What is chosen of an image from before a call and one during it is among the images of the call, or was chosen before it.
 -- Where both images are of the call it is among them.

@@ -1,7 +1,5 @@
 -- What is chosen at each moment of an adopt.
-use Rattle.std.proofs.Common.{◌≡◌, ◌⊎◌, inl, inr, ⊎_elim, ℕ, ◌<◌, ◌≤◌, List, ◌∙◌, arith}
-use Rattle.std.proofs.lemmas.Bool.{cases_lt}
-use Rattle.mirror_disk.specs.Header.{body, chosen, epoch}
+use Rattle.mirror_disk.proofs.Words.{◌≡◌, ◌⊎◌, inl, inr, ⊎_elim, ℕ, ◌<◌, ◌≤◌, List, ◌∙◌, arith, cases_lt, body, chosen, epoch}
 use Rattle.mirror_disk.proofs.Epochs.{chosen_first, chosen_second}
 
 -- The first side was chosen: its mirrored bytes stay, and the other side has no larger epoch, or the same bytes.

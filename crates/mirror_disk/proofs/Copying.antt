@@ -1,12 +1,5 @@
 -- The mirrored bytes of one side are copied to the other, a piece at a time.
-use Rattle.std.proofs.Common.{◌≡◌, ◌≤◌, ◌+◌, ◌-◌, ℕ, List, ◌++◌, length, take, drop, Some, sym, ◌∙◌, ap, arith, length-drop, length-take-le}
-use Rattle.std.specs.List.{slice_range}
-use Rattle.std.proofs.Math.Seq.{take-add, take-length}
-use Rattle.std.proofs.lemmas.List.{drop-drop}
-use Rattle.iso_disk.specs.Disk.{DiskState, IsLawful, TellsTorn, spliced}
-use Rattle.iso_disk.proofs.Bytes.{take-drop-spliced, take-spliced, torn_twice, torn_wider}
-use Rattle.iso_disk.proofs.Images.{length-contents}
-use Rattle.mirror_disk.specs.Header.{body}
+use Rattle.mirror_disk.proofs.Words.{◌≡◌, ◌≤◌, ◌+◌, ◌-◌, ℕ, List, ◌++◌, length, take, drop, Some, sym, ◌∙◌, ap, arith, length-drop, length-take-le, slice_range, take-add, take-length, drop-drop, DiskState, IsLawful, TellsTorn, spliced, take-drop-spliced, take-spliced, torn_twice, torn_wider, length-contents, body}
 
 -- a range of a side is one of its mirrored bytes
 pub piece_of : (x : List ℕ) (at n : ℕ) → slice_range x (64 + at) (64 + at + n) ≡ take n (drop at (body x))

@@ -1,22 +1,5 @@
 -- What a mirror tells after a call on its sides in use, and why the call failed.
-use Rattle.std.proofs.Common.{◌≡◌, ◌≢◌, ◌⊎◌, inl, inr, ⊎_elim, ℕ, ◌+◌, ◌-◌, ◌≤◌, Bool, true, false, List, ◌∷◌, length, take, drop, Option, Some, None, Result, Ok, Err, OnOk, OnErr, is_ok, refl, sym, ◌∙◌, ap, arith}
-use Rattle.std.specs.List.{slice_range}
-use Rattle.std.specs.Option.{option_map}
-use Rattle.std.proofs.lemmas.List.{drop-drop}
-use Rattle.iso_disk.specs.Disk.{DiskState, IsLawful, IsSettled, Torn, Splices, spliced}
-use Rattle.iso_disk.proofs.Images.{length-contents}
-use Rattle.fault_count.specs.Count.{HasCause, Rose}
-use Rattle.mirror_disk.specs.declared.slot.Slot.{Slot}
-use Rattle.mirror_disk.specs.Becoming.{Becomes, MirrorBecomes}
-use Rattle.mirror_disk.specs.declared.used.Used.{Used}
-use Rattle.mirror_disk.specs.declared.used.Used.TheVariants.{Plain, Both, OnlyFirst, OnlySecond, Broken, Unbound}
-use Rattle.mirror_disk.specs.Ended.{BothAsked, HasEnded}
-use Rattle.mirror_disk.specs.Failing.{AllFailed, CannotLeave, HasFailed, HasLeft}
-use Rattle.mirror_disk.specs.Header.{body, chosen}
-use Rattle.mirror_disk.specs.Laws.{both_tell}
-use Rattle.mirror_disk.specs.Pairs.{chosen_told, mirrored}
-use Rattle.mirror_disk.specs.Raised.{KeepsBody}
-use Rattle.mirror_disk.specs.Standing.{ArePair, AreBoth, FirstLeads, SecondLeads}
+use Rattle.mirror_disk.proofs.Words.{◌≡◌, ◌≢◌, ◌⊎◌, inl, inr, ⊎_elim, ℕ, ◌+◌, ◌-◌, ◌≤◌, Bool, true, false, List, ◌∷◌, length, take, drop, Option, Some, None, Result, Ok, Err, OnOk, OnErr, is_ok, refl, sym, ◌∙◌, ap, arith, slice_range, option_map, drop-drop, DiskState, IsLawful, IsSettled, Torn, Splices, spliced, length-contents, HasCause, Rose, Slot, Becomes, MirrorBecomes, Used, Plain, Both, OnlyFirst, OnlySecond, Broken, Unbound, BothAsked, HasEnded, AllFailed, CannotLeave, HasFailed, HasLeft, body, chosen, both_tell, chosen_told, mirrored, KeepsBody, ArePair, AreBoth, FirstLeads, SecondLeads}
 use Rattle.mirror_disk.proofs.Alone.{settled_both, settled_first, settled_second}
 use Rattle.mirror_disk.proofs.Epochs.{chosen_first, chosen_second}
 use Rattle.mirror_disk.proofs.Stands.{now_from_a, now_from_b}

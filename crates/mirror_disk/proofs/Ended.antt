@@ -1,16 +1,6 @@
 -- How a call on both sides ends.
-use Rattle.std.proofs.Common.{◌≡◌, ◌≢◌, inl, ⊎_elim, ℕ, ◌+◌, ◌≤◌, Bool, true, List, ◌∷◌, take, Some, None, sym, ◌∙◌, arith}
-use Rattle.iso_disk.specs.Disk.{DiskState, IsLawful, TornFrom, TellsTorn, LeavesOnly}
-use Rattle.iso_disk.proofs.Bytes.{take-torn}
-use Rattle.iso_disk.proofs.Moments.{at_end, weakened}
-use Rattle.mirror_disk.specs.declared.slot.Slot.{Slot}
+use Rattle.mirror_disk.proofs.Words.{◌≡◌, ◌≢◌, inl, ⊎_elim, ℕ, ◌+◌, ◌≤◌, Bool, true, List, ◌∷◌, take, Some, None, sym, ◌∙◌, arith, DiskState, IsLawful, TornFrom, TellsTorn, LeavesOnly, take-torn, at_end, weakened, Slot, Both, Broken, BothAsked, HasEnded, IsHeader, epoch, slot_epoch, IsMarked, KeepsBody, place, ArePair, AreBoth, FromA, FromB}
 use Rattle.mirror_disk.specs.declared.slot.Slot.TheVariants as slot
-use Rattle.mirror_disk.specs.declared.used.Used.TheVariants.{Both, Broken}
-use Rattle.mirror_disk.specs.Ended.{BothAsked, HasEnded}
-use Rattle.mirror_disk.specs.Header.{IsHeader, epoch, slot_epoch}
-use Rattle.mirror_disk.specs.Raised.{IsMarked, KeepsBody}
-use Rattle.mirror_disk.specs.Slots.{place}
-use Rattle.mirror_disk.specs.Standing.{ArePair, AreBoth, FromA, FromB}
 use Rattle.mirror_disk.proofs.Calls.{elapses_pair}
 use Rattle.mirror_disk.proofs.Epochs.{slot-torn}
 use Rattle.mirror_disk.proofs.Stands.{header_torn, GoesOnTelling, epoch_of_torn, from_a, from_b, meets_both, now_from_a, now_from_b, pair_on, some_told}

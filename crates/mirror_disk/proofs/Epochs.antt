@@ -1,16 +1,5 @@
 -- One image while a slot is written.
-use Rattle.std.proofs.Common.{◌≡◌, ◌⊎◌, inl, inr, ⊎_elim, ◌≤◌, ◌<◌, ◌+◌, ℕ, List, take, drop, refl, ◌∙◌, ap, arith}
-use Rattle.std.specs.Prelude.{nat_lt, ◌==◌, cond, slice_index}
-use Rattle.std.specs.Int.{w64, from_be_bytes}
-use Rattle.std.proofs.lemmas.Bool.{cases_eq, cases_Bool, cases_lt, cond-true, cond-false, lt-ltb, le-ltb, eqb-true, eq-eqb}
-use Rattle.iso_disk.specs.Disk.{Torn}
-use Rattle.iso_disk.proofs.Bytes.{slice-torn, get_or-torn, drop-torn}
-use Rattle.commit_gate.specs.Gate.{IsClosed, IsOpen}
-use Rattle.mirror_disk.specs.declared.slot.Slot.{Slot}
-use Rattle.mirror_disk.specs.declared.slot.Slot.TheVariants.{First, Second}
-use Rattle.mirror_disk.specs.Header.{IsHeader, last_epoch, number_at, slot_epoch, larger, epoch, body, chosen}
-use Rattle.mirror_disk.specs.Slots.{place, other}
-use Rattle.mirror_disk.specs.Raised.{HasEpoch, HoldsEpoch}
+use Rattle.mirror_disk.proofs.Words.{◌≡◌, ◌⊎◌, inl, inr, ⊎_elim, ◌≤◌, ◌<◌, ◌+◌, ℕ, List, take, drop, refl, ◌∙◌, ap, arith, nat_lt, ◌==◌, cond, slice_index, w64, from_be_bytes, cases_eq, cases_Bool, cases_lt, cond-true, cond-false, lt-ltb, le-ltb, eqb-true, eq-eqb, Torn, slice-torn, get_or-torn, drop-torn, IsClosed, IsOpen, Slot, First, Second, IsHeader, last_epoch, number_at, slot_epoch, larger, epoch, body, chosen, place, other, HasEpoch, HoldsEpoch}
 use Rattle.mirror_disk.proofs.Headers.{header_slot, slot_closed, slot_held, slot_in, slot_shut}
 
 -- the larger of two numbers

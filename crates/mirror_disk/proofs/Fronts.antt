@@ -1,15 +1,5 @@
 -- The header of an image is in its first 64 bytes.
-use Rattle.std.proofs.Common.{◌≡◌, ◌≤◌, ◌+◌, ◌-◌, ◌<◌, ℕ, List, length, take, drop, Option, Some, None, sym, ◌∙◌, ap, subst, arith, length-take-le}
-use Rattle.std.specs.Prelude.{cond, slice_index, ◌==◌, IfSome, IfNone}
-use Rattle.std.specs.Int.{w64, from_be_bytes}
-use Rattle.std.proofs.lemmas.List.{drop-take, get_or-take, take-take}
-use Rattle.iso_disk.specs.Disk.{DiskState, IsLawful, IsSettled}
-use Rattle.mirror_disk.specs.declared.slot.Mark.{Mark}
-use Rattle.mirror_disk.specs.declared.slot.Slot.{Slot}
-use Rattle.mirror_disk.specs.declared.slot.Slot.TheVariants.{First, Second}
-use Rattle.mirror_disk.specs.Header.{IsHeader, IsSlot, epoch, larger, last_epoch, number_at, slot_epoch}
-use Rattle.mirror_disk.specs.Raised.{HasEpoch}
-use Rattle.mirror_disk.specs.Slots.{place}
+use Rattle.mirror_disk.proofs.Words.{◌≡◌, ◌≤◌, ◌+◌, ◌-◌, ◌<◌, ℕ, List, length, take, drop, Option, Some, None, sym, ◌∙◌, ap, subst, arith, length-take-le, cond, slice_index, ◌==◌, IfSome, IfNone, w64, from_be_bytes, drop-take, get_or-take, take-take, DiskState, IsLawful, IsSettled, Mark, Slot, First, Second, IsHeader, IsSlot, epoch, larger, last_epoch, number_at, slot_epoch, HasEpoch, place}
 
 -- a part of it
 part : (x : List ℕ) (k n : ℕ) → k + n ≤ 64 → take n (drop k (take 64 x)) ≡ take n (drop k x)

@@ -1,15 +1,5 @@
 -- The header of an image, while bytes of it are written.
-use Rattle.std.proofs.Common.{◌≡◌, ◌⊎◌, inl, inr, ⊎_elim, ◌≤◌, ◌+◌, ℕ, List, take, drop, sym, ◌∙◌, ap, arith}
-use Rattle.std.specs.Prelude.{slice_index}
-use Rattle.std.specs.Int.{w64, from_be_bytes}
-use Rattle.iso_disk.specs.Disk.{Torn}
-use Rattle.iso_disk.proofs.Bytes.{slice-torn, get_or-torn}
-use Rattle.commit_gate.specs.Gate.{IsClosed, IsOpen}
-use Rattle.mirror_disk.specs.declared.slot.Slot.{Slot}
-use Rattle.mirror_disk.specs.declared.slot.Slot.TheVariants.{First, Second}
-use Rattle.mirror_disk.specs.Header.{IsHeader, IsSlot, epoch, last_epoch, number_at}
-use Rattle.mirror_disk.specs.Raised.{HoldsEpoch}
-use Rattle.mirror_disk.specs.Slots.{place}
+use Rattle.mirror_disk.proofs.Words.{◌≡◌, ◌⊎◌, inl, inr, ⊎_elim, ◌≤◌, ◌+◌, ℕ, List, take, drop, sym, ◌∙◌, ap, arith, slice_index, w64, from_be_bytes, Torn, slice-torn, get_or-torn, IsClosed, IsOpen, Slot, First, Second, IsHeader, IsSlot, epoch, last_epoch, number_at, HoldsEpoch, place}
 
 -- a slot outside of what is torn
 pub slot_stands : {k n : ℕ} {x y : List ℕ} (at : ℕ) → IsSlot at x → Torn k n x y → (at + 16 ≤ k) ⊎ (k + n ≤ at) → IsSlot at y

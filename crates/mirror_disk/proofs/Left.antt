@@ -1,16 +1,5 @@
 -- How a call ends in which one side was left out.
-use Rattle.std.proofs.Common.{◌≡◌, ◌≢◌, ◌⊎◌, inl, inr, ⊎_elim, ℕ, ◌+◌, Bool, List, ◌∷◌, Option, Some, None, refl, sym, ◌∙◌, subst, arith}
-use Rattle.std.proofs.lemmas.Option.{same_Some}
-use Rattle.iso_disk.specs.Disk.{DiskState, IsLawful, Torn, TornFrom, TellsTorn, LeavesOnly, Elapses}
-use Rattle.iso_disk.proofs.Moments.{at_end, joined, weakened}
-use Rattle.mirror_disk.specs.declared.slot.Slot.{Slot}
-use Rattle.mirror_disk.specs.declared.used.Used.TheVariants.{OnlyFirst, OnlySecond, Broken}
-use Rattle.mirror_disk.specs.Ended.{BothAsked, HasEnded}
-use Rattle.mirror_disk.specs.Header.{body, epoch}
-use Rattle.mirror_disk.specs.Pairs.{ChosenOf, mirrored}
-use Rattle.mirror_disk.specs.Raised.{HasEpoch, KeepsBody, Raising}
-use Rattle.mirror_disk.specs.Slots.{other}
-use Rattle.mirror_disk.specs.Standing.{ArePair, FirstLeads, SecondLeads, FromA, FromB}
+use Rattle.mirror_disk.proofs.Words.{◌≡◌, ◌≢◌, ◌⊎◌, inl, inr, ⊎_elim, ℕ, ◌+◌, Bool, List, ◌∷◌, Option, Some, None, refl, sym, ◌∙◌, subst, arith, same_Some, DiskState, IsLawful, Torn, TornFrom, TellsTorn, LeavesOnly, Elapses, at_end, joined, weakened, Slot, OnlyFirst, OnlySecond, Broken, BothAsked, HasEnded, body, epoch, ChosenOf, mirrored, HasEpoch, KeepsBody, Raising, other, ArePair, FirstLeads, SecondLeads, FromA, FromB}
 use Rattle.mirror_disk.proofs.Calls.{elapses_pair}
 use Rattle.mirror_disk.proofs.Ended.{heads_a, heads_b, from_now_a, from_now_b, keeps_on, tells_on}
 use Rattle.mirror_disk.proofs.Stands.{header_torn, Over, epoch_of_torn, from_a, from_b, meets_left, meets_over, pair_on}

@@ -1,3 +1,4 @@
+pub mod Words
 pub mod Adopted
 pub mod Alone
 pub mod Asked

@@ -1,9 +1,5 @@
 -- Which images meet in a call, by the epochs of the sides.
-use Rattle.std.proofs.Common.{◌≡◌, ◌⊎◌, inl, inr, ⊎_elim, ℕ, ◌+◌, ◌<◌, ◌≤◌, List, drop, refl, sym, ◌∙◌, ap, subst, arith, length-drop}
-use Rattle.std.proofs.lemmas.List.{drop-take, drop-drop}
-use Rattle.iso_disk.specs.Disk.{DiskState, Torn}
-use Rattle.mirror_disk.specs.Header.{body, epoch}
-use Rattle.mirror_disk.specs.Pairs.{pair_at}
+use Rattle.mirror_disk.proofs.Words.{◌≡◌, ◌⊎◌, inl, inr, ⊎_elim, ℕ, ◌+◌, ◌<◌, ◌≤◌, List, drop, refl, sym, ◌∙◌, ap, subst, arith, length-drop, drop-take, drop-drop, DiskState, Torn, body, epoch, pair_at}
 use Rattle.mirror_disk.proofs.Calls.{Meet}
 use Rattle.mirror_disk.proofs.Epochs.{chosen_first, chosen_second}
 

@@ -1,14 +1,5 @@
 -- What a call on both sides comes to in the state of the mirror.
-use Rattle.std.proofs.Common.{◌≡◌, ◌≢◌, ◌⊎◌, inl, inr, ⊎_elim, ℕ, List, ◌∷◌, Result, Ok, Err, OnErr, refl, sym, ◌∙◌, ap, subst}
-use Rattle.std.specs.Option.{option_map}
-use Rattle.iso_disk.specs.Disk.{DiskState, Torn, TornFrom, TellsTorn, Splices, Elapses, spliced}
-use Rattle.mirror_disk.specs.declared.slot.Slot.{Slot}
-use Rattle.mirror_disk.specs.declared.used.Used.{Used}
-use Rattle.mirror_disk.specs.declared.used.Used.TheVariants.{Plain, Both, OnlyFirst, OnlySecond, Broken, Unbound}
-use Rattle.mirror_disk.specs.Becoming.{MirrorBecomes}
-use Rattle.mirror_disk.specs.Ended.{HasEnded}
-use Rattle.mirror_disk.specs.Pairs.{chosen_told, mirrored}
-use Rattle.mirror_disk.specs.Standing.{IsPair, Stands, state_in}
+use Rattle.mirror_disk.proofs.Words.{◌≡◌, ◌≢◌, ◌⊎◌, inl, inr, ⊎_elim, ℕ, List, ◌∷◌, Result, Ok, Err, OnErr, refl, sym, ◌∙◌, ap, subst, option_map, DiskState, Torn, TornFrom, TellsTorn, Splices, Elapses, spliced, Slot, Used, Plain, Both, OnlyFirst, OnlySecond, Broken, Unbound, MirrorBecomes, HasEnded, chosen_told, mirrored, IsPair, Stands, state_in}
 use Rattle.mirror_disk.proofs.Alone.{none_torn}
 
 -- these are the states of a pair

@@ -1,20 +1,5 @@
 -- A side while its epoch is raised.
-use Rattle.std.proofs.Common.{◌≡◌, inl, inr, ⊎_elim, ℕ, ◌+◌, ◌<◌, ◌≤◌, List, length, take, drop, get_or, Option, Some, None, Result, Ok, Err, OnOk, OnErr, refl, sym, ◌∙◌, ap, arith}
-use Rattle.std.specs.Option.{option_map}
-use Rattle.std.proofs.lemmas.Option.{same_Some}
-use Rattle.std.proofs.lemmas.List.{drop-drop, drop-take, get_or-take, take-take}
-use Rattle.std.specs.Prelude.{slice_index, ◌^◌}
-use Rattle.std.specs.Int.{w64, from_be_bytes}
-use Rattle.std.proofs.lemmas.Nat.{from_be_bytes-to_be_bytes_8}
-use Rattle.iso_disk.specs.Disk.{DiskState, IsLawful, IsSettled, LeavesOnly, Splices, TellsTorn, TornFrom, spliced}
-use Rattle.iso_disk.proofs.Bytes.{spliced_torn}
-use Rattle.iso_disk.proofs.Images.{length-contents}
-use Rattle.iso_disk.proofs.Moments.{at_end}
-use Rattle.commit_gate.specs.Gate.{IsClosed, IsOpen}
-use Rattle.mirror_disk.specs.declared.slot.Slot.{Slot}
-use Rattle.mirror_disk.specs.Header.{body, number_at, slot_body, last_epoch}
-use Rattle.mirror_disk.specs.Raised.{HasEpoch, KeepsBody, Raising, Still, HoldsEpoch}
-use Rattle.mirror_disk.specs.Slots.{place, other}
+use Rattle.mirror_disk.proofs.Words.{◌≡◌, inl, inr, ⊎_elim, ℕ, ◌+◌, ◌<◌, ◌≤◌, List, length, take, drop, get_or, Option, Some, None, Result, Ok, Err, OnOk, OnErr, refl, sym, ◌∙◌, ap, arith, option_map, same_Some, drop-drop, drop-take, get_or-take, take-take, slice_index, ◌^◌, w64, from_be_bytes, from_be_bytes-to_be_bytes_8, DiskState, IsLawful, IsSettled, LeavesOnly, Splices, TellsTorn, TornFrom, spliced, spliced_torn, length-contents, at_end, IsClosed, IsOpen, Slot, body, number_at, slot_body, last_epoch, HasEpoch, KeepsBody, Raising, Still, HoldsEpoch, place, other}
 use Rattle.mirror_disk.proofs.Epochs.{body-torn, body_stays, body_written, gate_written, open_raises, shut_stays}
 
 -- nothing is written

@@ -1,11 +1,5 @@
 -- What a call does to a mirror, by the sides that it asks.
-use Rattle.std.proofs.Common.{◌≡◌, ◌≢◌, ◌⊎◌, inl, inr, ⊎_elim, ℕ, ◌+◌, ◌<◌, ◌≤◌, List, ◌∷◌, Option, Some, None, refl, sym, ◌∙◌, subst, arith}
-use Rattle.iso_disk.specs.Disk.{DiskState, IsLawful, Torn, TornFrom, LeavesOnly}
-use Rattle.mirror_disk.specs.declared.slot.Slot.{Slot}
-use Rattle.mirror_disk.specs.Header.{IsHeader, body, epoch}
-use Rattle.mirror_disk.specs.Laws.{at_before, at_most, rising_more}
-use Rattle.mirror_disk.specs.Pairs.{ChosenOf, IsRising}
-use Rattle.mirror_disk.specs.Standing.{ArePair, AreBoth, FirstLeads, SecondLeads, FromA, FromB}
+use Rattle.mirror_disk.proofs.Words.{◌≡◌, ◌≢◌, ◌⊎◌, inl, inr, ⊎_elim, ℕ, ◌+◌, ◌<◌, ◌≤◌, List, ◌∷◌, Option, Some, None, refl, sym, ◌∙◌, subst, arith, DiskState, IsLawful, Torn, TornFrom, LeavesOnly, Slot, IsHeader, body, epoch, at_before, at_most, rising_more, ChosenOf, IsRising, ArePair, AreBoth, FirstLeads, SecondLeads, FromA, FromB}
 use Rattle.mirror_disk.proofs.Calls.{Meet}
 use Rattle.mirror_disk.proofs.Epochs.{chosen_first, chosen_second, epoch-torn}
 use Rattle.mirror_disk.proofs.Headers.{header_behind}

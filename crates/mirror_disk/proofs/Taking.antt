@@ -1,12 +1,5 @@
 -- The other side while it is made as the one that was chosen.
-use Rattle.std.proofs.Common.{◌≡◌, inl, inr, ⊎_elim, ℕ, ◌+◌, ◌≤◌, List, take, Some, None, sym, ◌∙◌, ap, subst, arith}
-use Rattle.std.proofs.lemmas.Option.{same_Some}
-use Rattle.iso_disk.specs.Disk.{DiskState, IsLawful, IsSettled, LeavesOnly, TellsTorn, TornFrom, WritesNothing}
-use Rattle.iso_disk.proofs.Moments.{at_end, joined, weakened}
-use Rattle.mirror_disk.specs.declared.slot.Slot.{Slot}
-use Rattle.mirror_disk.specs.Adopting.{AreAlike, OfChosen, OfOther}
-use Rattle.mirror_disk.specs.Header.{body, epoch}
-use Rattle.mirror_disk.specs.Raised.{HasEpoch, IsMarked, KeepsBody, Raising}
+use Rattle.mirror_disk.proofs.Words.{◌≡◌, inl, inr, ⊎_elim, ℕ, ◌+◌, ◌≤◌, List, take, Some, None, sym, ◌∙◌, ap, subst, arith, same_Some, DiskState, IsLawful, IsSettled, LeavesOnly, TellsTorn, TornFrom, WritesNothing, at_end, joined, weakened, Slot, AreAlike, OfChosen, OfOther, body, epoch, HasEpoch, IsMarked, KeepsBody, Raising}
 use Rattle.mirror_disk.proofs.Ended.{marked_on, tells_on}
 use Rattle.mirror_disk.proofs.Epochs.{epoch-torn}
 use Rattle.mirror_disk.proofs.Headers.{header_behind}

@@ -1,14 +1,5 @@
 -- What a mirror tells after a call.
-use Rattle.std.proofs.Common.{◌≡◌, inl, inr, ℕ, ◌+◌, ◌≤◌, List, length, take, Option, Some, None, refl, sym, ◌∙◌, ap, subst}
-use Rattle.std.specs.Option.{option_map}
-use Rattle.std.proofs.lemmas.Bool.{cases_lt}
-use Rattle.std.proofs.lemmas.List.{drop-drop}
-use Rattle.iso_disk.specs.Disk.{DiskState, Torn, TellsTorn, Splices, spliced}
-use Rattle.iso_disk.proofs.Bytes.{spliced_torn, take-drop-spliced, torn_whole}
-use Rattle.mirror_disk.specs.Becoming.{Becomes, MirrorBecomes}
-use Rattle.mirror_disk.specs.Header.{body, chosen, epoch}
-use Rattle.mirror_disk.specs.Laws.{both_tell}
-use Rattle.mirror_disk.specs.Pairs.{chosen_told}
+use Rattle.mirror_disk.proofs.Words.{◌≡◌, inl, inr, ℕ, ◌+◌, ◌≤◌, List, length, take, Option, Some, None, refl, sym, ◌∙◌, ap, subst, option_map, cases_lt, drop-drop, DiskState, Torn, TellsTorn, Splices, spliced, spliced_torn, take-drop-spliced, torn_whole, Becomes, MirrorBecomes, body, chosen, epoch, both_tell, chosen_told}
 use Rattle.mirror_disk.proofs.Epochs.{chosen_first, chosen_second}
 use Rattle.mirror_disk.proofs.Meets.{torn_body}
 

@@ -1,24 +1,5 @@
 -- An index has as many versions as the model counts of its history.
-use Rattle.std.proofs.Common.{◌≡◌, ◌⊎◌, inl, inr, ◌∙◌, sym, refl, ap, ℕ, zero, suc, ◌+◌, ◌-◌, ◌<◌, ◌≤◌, ◌==◌, Bool, true, false, ◌&&◌, ◌||◌, not, cond, nat_le, nat_lt, List, [], ◌∷◌, ◌++◌, Option, Some, None, length, map, get_or, sum_by, arith, subst}
-use Rattle.std.specs.List.{AllByRecursion, filter, list_any, range_with_len}
-use Rattle.std.specs.Option.{is_some}
-use Rattle.std.proofs.lemmas.Bool.{lt-leb, cases_eq, eq-eqb, ne_eqb, eqb-true}
-use Rattle.std.proofs.lemmas.List.Folds.{list_any-append}
-use Rattle.std.proofs.lemmas.List.Sums.{sum_by-cons}
-use Rattle.iso_model.specs.declared.access.Commit.{Commit}
-use Rattle.iso_model.specs.declared.access.Geometry.{Geometry}
-use Rattle.iso_model.specs.declared.access.Kind.TheVariants.{Write}
-use Rattle.iso_model.specs.declared.access.Run.{Run}
-use Rattle.iso_model.specs.Array.{in_span}
-use Rattle.iso_model.specs.Effect.{or_else, record_length, runs, touches}
-use Rattle.iso_model.specs.Image.{AreRuns, IsRun, written}
-use Rattle.iso_model.specs.Premises.{value_in}
-use Rattle.iso_model.proofs.Bytes.{touches_where_effect}
-use Rattle.iso_model.proofs.Lookups.{value_runs}
-use Rattle.iso_model.proofs.Maximal.{are_runs}
-use Rattle.mv_index.specs.declared.version.Version.{Version}
-use Rattle.mv_index.specs.Versions.{BlockVersions, count_of, has, hides, shown_since, still_shows, versions_in}
-use Rattle.mv_index.specs.Placed.{IsIndexOf, placed, version_of, versions_of}
+use Rattle.mv_index.proofs.Words.{◌≡◌, ◌⊎◌, inl, inr, ◌∙◌, sym, refl, ap, ℕ, zero, suc, ◌+◌, ◌-◌, ◌<◌, ◌≤◌, ◌==◌, Bool, true, false, ◌&&◌, ◌||◌, not, cond, nat_le, nat_lt, List, [], ◌∷◌, ◌++◌, Option, Some, None, length, map, get_or, sum_by, arith, subst, AllByRecursion, filter, list_any, range_with_len, is_some, lt-leb, cases_eq, eq-eqb, ne_eqb, eqb-true, list_any-append, sum_by-cons, Commit, Geometry, Write, Run, in_span, or_else, record_length, runs, touches, AreRuns, IsRun, written, value_in, touches_where_effect, value_runs, are_runs, Version, BlockVersions, count_of, has, hides, shown_since, still_shows, versions_in, IsIndexOf, placed, version_of, versions_of}
 use Rattle.mv_index.proofs.Gathers.{any_same}
 use Rattle.mv_index.proofs.Layers.{or_else_none}
 

@@ -1,13 +1,5 @@
 -- Pieces out of which the bytes of a later version are taken.
-use Rattle.std.proofs.Common.{◌≡◌, ◌≢◌, ◌⊎◌, inl, inr, ◌∙◌, sym, refl, ap, ℕ, suc, ◌+◌, ◌-◌, ◌<◌, ◌≤◌, Bool, true, false, ◌&&◌, cond, nat_le, nat_lt, List, [], ◌∷◌, ◌++◌, length, get_or, arith, subst}
-use Rattle.std.specs.List.{count_by, swap_remove}
-use Rattle.std.proofs.Math.ListN.{set, length-set}
-use Rattle.std.proofs.lemmas.Bool.{cases_eq, cases_lt, le-leb, lt-leb}
-use Rattle.std.proofs.lemmas.List.{get_or_default, get_or-set_other, get_or-set_same, get_or_append_left, get_or_push, length_push}
-use Rattle.std.proofs.lemmas.List.Sums.{sum_by-cons, sum_by-set, sum_by-swap_remove, sum_by_push}
-use Rattle.mv_index.specs.declared.version.Version.{Version}
-use Rattle.mv_index.specs.Pieces.{AreLeft, IsCut, IsLeft}
-use Rattle.mv_index.specs.Versions.{ArePlaced, IsPlaced, has, no_version}
+use Rattle.mv_index.proofs.Words.{◌≡◌, ◌≢◌, ◌⊎◌, inl, inr, ◌∙◌, sym, refl, ap, ℕ, suc, ◌+◌, ◌-◌, ◌<◌, ◌≤◌, Bool, true, false, ◌&&◌, cond, nat_le, nat_lt, List, [], ◌∷◌, ◌++◌, length, get_or, arith, subst, count_by, swap_remove, set, length-set, cases_eq, cases_lt, le-leb, lt-leb, get_or_default, get_or-set_other, get_or-set_same, get_or_append_left, get_or_push, length_push, sum_by-cons, sum_by-set, sum_by-swap_remove, sum_by_push, Version, AreLeft, IsCut, IsLeft, ArePlaced, IsPlaced, has, no_version}
 
 -- a version has a byte, or has it not
 pub has_it : (p : ℕ) (v : Version) → v.off ≤ p → p < v.off + v.len → has p v ≡ true

@@ -1,11 +1,6 @@
 -- There are at most two pieces a version: each begins where a version begins or ends.
-use Rattle.std.proofs.Common.{◌≡◌, ◌⊎◌, inl, inr, ◌∙◌, sym, refl, ap, ℕ, suc, ◌+◌, ◌-◌, ◌*◌, ◌<◌, ◌≤◌, Bool, true, false, ◌==◌, cond, List, [], ◌∷◌, length, get_or, arith}
-use Rattle.std.specs.List.{count_by, sum_by}
-use Rattle.std.proofs.lemmas.Bool.{eq-eqb, eqb-true}
-use Rattle.std.proofs.lemmas.List.Sums.{sum_by-cons, get_or-le-sum_by}
-use Rattle.mv_index.specs.declared.version.Version.{Version}
-use Rattle.mv_index.specs.Pieces.{ArePieces}
-use Rattle.mv_index.specs.Versions.{has, no_version}
+use Rattle.mv_index.proofs.Words.{◌≡◌, ◌⊎◌, inl, inr, ◌∙◌, sym, refl, ap, ℕ, suc, ◌+◌, ◌-◌, ◌*◌, ◌<◌, ◌≤◌, Bool, true, false, ◌==◌, cond, List, [], ◌∷◌, length, get_or, arith, count_by, eq-eqb, eqb-true, sum_by-cons, get_or-le-sum_by, Version, ArePieces, has, no_version}
+use Rattle.std.specs.List.{sum_by}
 use Rattle.mv_index.proofs.Cuts.{has_it, hits}
 use Rattle.mv_index.proofs.Showing.{member, pieces_once}
 

@@ -1,11 +1,5 @@
 -- A list that is gathered from its end: what still shows a byte is kept.
-use Rattle.std.proofs.Common.{◌≡◌, ◌≢◌, ◌∙◌, sym, refl, ap, ℕ, zero, suc, ◌+◌, ◌-◌, ◌*◌, ◌<◌, ◌≤◌, Bool, true, false, ◌&&◌, ◌||◌, not, cond, nat_le, nat_lt, List, [], ◌∷◌, length, drop, get_or, arith}
-use Rattle.std.proofs.Math.ListN.{set, length-set}
-use Rattle.std.proofs.lemmas.List.{drop_more, drop_all, drop-set, get_or-set_other}
-use Rattle.std.specs.List.{list_any, range_with_len}
-use Rattle.mv_index.specs.declared.version.Version.{Version}
-use Rattle.mv_index.specs.Masks.{is_seen}
-use Rattle.mv_index.specs.Versions.{AreWithin, has, hides, no_version, shown_since, still_shows}
+use Rattle.mv_index.proofs.Words.{◌≡◌, ◌≢◌, ◌∙◌, sym, refl, ap, ℕ, zero, suc, ◌+◌, ◌-◌, ◌*◌, ◌<◌, ◌≤◌, Bool, true, false, ◌&&◌, ◌||◌, not, cond, nat_le, nat_lt, List, [], ◌∷◌, length, drop, get_or, arith, set, length-set, drop_more, drop_all, drop-set, get_or-set_other, list_any, range_with_len, Version, is_seen, AreWithin, has, hides, no_version, shown_since, still_shows}
 
 -- The versions from left on have been looked at, those that show a byte stand from kept on, and the bytes that they hide are seen.
 pub record IsGathered (whole versions : List Version) (seen : List ℕ) (t left kept : ℕ) : Type 0 where

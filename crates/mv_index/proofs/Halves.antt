@@ -1,8 +1,5 @@
 -- A search that halves what is left.
-use Rattle.std.proofs.Common.{◌≡◌, ◌<◌, ◌≤◌, ◌+◌, ◌-◌, ◌*◌, ◌^◌, ◌/◌, ℕ, List, length, ◌∙◌, ap, arith, add-one}
-use Rattle.std.proofs.Math.Nat.{mul-le-mul_left, pow-succ'}
-use Rattle.mv_index.specs.declared.version.Version.{Version}
-use Rattle.mv_index.specs.Versions.{number_at, Rise}
+use Rattle.mv_index.proofs.Words.{◌≡◌, ◌<◌, ◌≤◌, ◌+◌, ◌-◌, ◌*◌, ◌^◌, ◌/◌, ℕ, List, length, ◌∙◌, ap, arith, add-one, mul-le-mul_left, pow-succ', Version, number_at, Rise}
 
 pub record IsSearched (versions : List Version) (at steps low high : ℕ) : Type 0 where
   pub order : low ≤ high

@@ -1,9 +1,5 @@
 -- What it means that a version is hidden.
-use Rattle.std.proofs.Common.{◌≡◌, ◌≢◌, ◌∙◌, refl, ap, ℕ, zero, suc, ◌+◌, ◌<◌, ◌≤◌, Bool, true, false, ◌&&◌, ◌||◌, not, nat_le, nat_lt, List, [], ◌∷◌, length, get_or, arith}
-use Rattle.std.specs.List.{list_any, range_with_len}
-use Rattle.std.proofs.lemmas.Bool.{and_parts, leb-true, ltb-true, ltb-false, le-leb, le-ltb}
-use Rattle.mv_index.specs.declared.version.Version.{Version}
-use Rattle.mv_index.specs.Versions.{IsHidden, has, hides, no_version, still_shows}
+use Rattle.mv_index.proofs.Words.{◌≡◌, ◌≢◌, ◌∙◌, refl, ap, ℕ, zero, suc, ◌+◌, ◌<◌, ◌≤◌, Bool, true, false, ◌&&◌, ◌||◌, not, nat_le, nat_lt, List, [], ◌∷◌, length, get_or, arith, list_any, range_with_len, and_parts, leb-true, ltb-true, ltb-false, le-leb, le-ltb, Version, IsHidden, has, hides, no_version, still_shows}
 use Rattle.mv_index.proofs.Again.{hidden_at, or_parts}
 use Rattle.mv_index.proofs.Cuts.{has_it}
 

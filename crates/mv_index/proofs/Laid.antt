@@ -1,14 +1,5 @@
 -- Pieces over which one version more is laid.
-use Rattle.std.proofs.Common.{◌≡◌, ◌⊎◌, inl, inr, ◌∙◌, sym, refl, ap, ℕ, ◌+◌, ◌-◌, ◌<◌, ◌≤◌, Bool, true, false, cond, List, [], ◌∷◌, ◌++◌, Option, Some, length, get_or, arith, subst}
-use Rattle.std.specs.Option.{option_map, is_some}
-use Rattle.std.specs.List.{count_by}
-use Rattle.std.proofs.lemmas.Bool.{cases_lt}
-use Rattle.std.proofs.lemmas.List.{get_or_append_left, get_or_push, length_push}
-use Rattle.std.proofs.lemmas.List.Sums.{sum_by_push, get_or-le-sum_by}
-use Rattle.mv_index.specs.declared.version.Version.{Version}
-use Rattle.mv_index.specs.Pieces.{ArePieces, IsCut, IsLeft, IsStart}
-use Rattle.mv_index.specs.Shown.{newest_with, place_in}
-use Rattle.mv_index.specs.Versions.{ArePlaced, IsPlaced, has, no_version}
+use Rattle.mv_index.proofs.Words.{◌≡◌, ◌⊎◌, inl, inr, ◌∙◌, sym, refl, ap, ℕ, ◌+◌, ◌-◌, ◌<◌, ◌≤◌, Bool, true, false, cond, List, [], ◌∷◌, ◌++◌, Option, Some, length, get_or, arith, subst, option_map, is_some, count_by, cases_lt, get_or_append_left, get_or_push, length_push, sum_by_push, get_or-le-sum_by, Version, ArePieces, IsCut, IsLeft, IsStart, newest_with, place_in, ArePlaced, IsPlaced, has, no_version}
 use Rattle.mv_index.proofs.Cuts.{has_cases, has_it, has_not, hits}
 use Rattle.mv_index.proofs.Layers.{newest_elsewhere, newest_here}
 

@@ -1,12 +1,5 @@
 -- What versions show that stand one behind the other, and that hidden ones show nothing.
-use Rattle.std.proofs.Common.{◌≡◌, ◌∙◌, sym, refl, ap, ℕ, ◌+◌, ◌-◌, ◌≤◌, Bool, true, false, ◌&&◌, ◌||◌, not, cond, nat_le, nat_lt, List, [], ◌∷◌, ◌++◌, Option, Some, None, get_or, arith}
-use Rattle.std.specs.Option.{option_map}
-use Rattle.std.specs.List.{list_any, range_with_len}
-use Rattle.std.proofs.lemmas.Bool.{and_parts, leb-true, ltb-false, le-leb}
-use Rattle.iso_model.specs.Effect.{or_else}
-use Rattle.mv_index.specs.declared.version.Version.{Version}
-use Rattle.mv_index.specs.Shown.{ShowTheSame, byte_in, byte_of, newest_with, place_in}
-use Rattle.mv_index.specs.Versions.{has, hides, shown_since, still_shows, upto}
+use Rattle.mv_index.proofs.Words.{◌≡◌, ◌∙◌, sym, refl, ap, ℕ, ◌+◌, ◌-◌, ◌≤◌, Bool, true, false, ◌&&◌, ◌||◌, not, cond, nat_le, nat_lt, List, [], ◌∷◌, ◌++◌, Option, Some, None, get_or, arith, option_map, list_any, range_with_len, and_parts, leb-true, ltb-false, le-leb, or_else, Version, ShowTheSame, byte_in, byte_of, newest_with, place_in, has, hides, shown_since, still_shows, upto}
 use Rattle.mv_index.proofs.Again.{hidden_at, or_parts}
 
 pub or_else_twice : {A : Type 0} (x y z : Option A) → or_else x (or_else y z) ≡ or_else (or_else x y) z

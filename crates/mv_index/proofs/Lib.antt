@@ -1,3 +1,4 @@
+pub mod Words
 pub mod Again
 pub mod Bounds
 pub mod Counts

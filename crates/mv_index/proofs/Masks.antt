@@ -1,13 +1,6 @@
 -- Bits of words.
-use Rattle.std.proofs.Common.{◌≡◌, inl, inr, ◌∙◌, sym, refl, ap, ℕ, zero, suc, ◌+◌, ◌-◌, ◌^◌, ◌<◌, ◌≤◌, Bool, true, false, ◌&&◌, ◌||◌, ◌==◌, not, nat_le, nat_lt, max, arith}
-use Rattle.std.specs.Int.{bit_at}
-use Rattle.std.specs.Int.RustNames.{bit_or}
-use Rattle.std.specs.List.{list_any, range_with_len}
+use Rattle.mv_index.proofs.Words.{◌≡◌, inl, inr, ◌∙◌, sym, refl, ap, ℕ, zero, suc, ◌+◌, ◌-◌, ◌^◌, ◌<◌, ◌≤◌, Bool, true, false, ◌&&◌, ◌||◌, ◌==◌, not, nat_le, nat_lt, max, arith, bit_at, bit_or, list_any, range_with_len, le-leb, lt-leb, cases_lt, eq-eqb, ne_eqb, bit_at-lt, bit_at_and, bit_at_mask_below, bit_at_mask_inside, bit_at_ones, bit_at_ones_above, bit_at_or, same_from_bits, has_bit, in_bytes}
 use lib.Bits.{bit_and}
-use Rattle.std.proofs.lemmas.Bool.{le-leb, lt-leb, cases_lt, eq-eqb, ne_eqb}
-use Rattle.std.proofs.lemmas.Nat.Bits.{bit_at-lt, bit_at_and, bit_at_mask_below, bit_at_mask_inside, bit_at_ones, bit_at_ones_above, bit_at_or, same_from_bits}
-use Rattle.mv_index.specs.Masks.{has_bit}
-use Rattle.mv_index.specs.Versions.{in_bytes}
 
 and_false : (b : Bool) → (b && false) ≡ false
 and_false true = refl

@@ -1,15 +1,5 @@
 -- Versions that are moved show what they showed, and their pieces are moved with them.
-use Rattle.std.proofs.Common.{◌≡◌, ◌⊎◌, inl, inr, ◌∙◌, sym, refl, ap, ℕ, suc, ◌+◌, ◌-◌, ◌^◌, ◌<◌, ◌≤◌, Bool, true, false, cond, nat_lt, List, [], ◌∷◌, Option, Some, None, length, map, get_or, arith, subst}
-use Rattle.std.specs.Option.{option_map}
-use Rattle.std.specs.List.{AllByRecursion, count_by, filter}
-use Rattle.std.proofs.lemmas.Bool.{cases_eq, cases_lt, le-leb, lt-leb, ltb-true}
-use Rattle.std.proofs.lemmas.List.Sums.{get_or-le-sum_by, sum_by-cons}
-use Rattle.iso_model.specs.Effect.{or_else}
-use Rattle.mv_index.specs.declared.version.Version.{Version}
-use Rattle.mv_index.specs.Moves.{AreSplit, moved, moved_to}
-use Rattle.mv_index.specs.Pieces.{ArePieces, IsRow, IsStart}
-use Rattle.mv_index.specs.Shown.{AllLie, Lies, newest_with, place_in}
-use Rattle.mv_index.specs.Versions.{IsPlaced, has, no_version}
+use Rattle.mv_index.proofs.Words.{◌≡◌, ◌⊎◌, inl, inr, ◌∙◌, sym, refl, ap, ℕ, suc, ◌+◌, ◌-◌, ◌^◌, ◌<◌, ◌≤◌, Bool, true, false, cond, nat_lt, List, [], ◌∷◌, Option, Some, None, length, map, get_or, arith, subst, option_map, AllByRecursion, count_by, filter, cases_eq, cases_lt, le-leb, lt-leb, ltb-true, get_or-le-sum_by, sum_by-cons, or_else, Version, AreSplit, moved, moved_to, ArePieces, IsRow, IsStart, AllLie, Lies, newest_with, place_in, IsPlaced, has, no_version}
 use Rattle.mv_index.proofs.Cuts.{has_cases, has_it, has_not, hits}
 use Rattle.mv_index.proofs.Showing.{member, none_counts, one_if, pieces_lie, placed_at}
 use Rattle.mv_index.proofs.Sublists.{Rises, all_at, all_of, rise_of, rises_of}

@@ -1,13 +1,5 @@
 -- A list whose versions behind a place are gathered at its front.
-use Rattle.std.proofs.Common.{◌≡◌, ◌≢◌, ◌∙◌, sym, ap, ℕ, suc, ◌+◌, ◌<◌, ◌≤◌, Bool, cond, nat_lt, List, [], ◌∷◌, ◌++◌, length, map, take, get_or, arith}
-use Rattle.std.proofs.Math.ListN.{set, length-set}
-use Rattle.std.specs.List.{filter}
-use Rattle.std.proofs.lemmas.Bool.{le-leb, lt-leb}
-use Rattle.std.proofs.lemmas.List.{append-nil, get_or-set_other, map-append, take_more, take_more_set}
-use Rattle.std.proofs.lemmas.List.Elements.{filter-append}
-use Rattle.mv_index.specs.declared.version.Version.{Version}
-use Rattle.mv_index.specs.Moves.{moved, moved_to}
-use Rattle.mv_index.specs.Versions.{no_version}
+use Rattle.mv_index.proofs.Words.{◌≡◌, ◌≢◌, ◌∙◌, sym, ap, ℕ, suc, ◌+◌, ◌<◌, ◌≤◌, Bool, cond, nat_lt, List, [], ◌∷◌, ◌++◌, length, map, take, get_or, arith, set, length-set, filter, le-leb, lt-leb, append-nil, get_or-set_other, map-append, take_more, take_more_set, filter-append, Version, moved, moved_to, no_version}
 
 -- The versions before `at` were looked at, and those of them that stand behind the place are at the front, moved.
 pub record AreMoved (from to : ℕ) (whole versions : List Version) (at kept : ℕ) : Type 0 where

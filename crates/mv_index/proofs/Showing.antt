@@ -1,15 +1,5 @@
 -- What the pieces of a block's versions show, and how many they are.
-use Rattle.std.proofs.Common.{◌≡◌, inl, inr, ◌∙◌, sym, refl, ap, ℕ, suc, ◌+◌, ◌-◌, ◌<◌, ◌≤◌, Bool, true, false, cond, List, [], ◌∷◌, ◌++◌, Option, Some, None, length, get_or, arith, subst}
-use Rattle.std.specs.Option.{option_map, is_some}
-use Rattle.std.specs.List.{count_by}
-use Rattle.std.proofs.lemmas.Bool.{cases_lt}
-use Rattle.std.proofs.lemmas.List.{get_or_append_left, get_or_push, length_push}
-use Rattle.std.proofs.lemmas.List.Sums.{sum_by-cons}
-use Rattle.iso_model.specs.Effect.{or_else}
-use Rattle.mv_index.specs.declared.version.Version.{Version}
-use Rattle.mv_index.specs.Pieces.{ArePieces, IsRow}
-use Rattle.mv_index.specs.Shown.{AllLie, Lies, ShowTheSame, newest_with, place_in}
-use Rattle.mv_index.specs.Versions.{AreAtMost, ArePlaced, AreWithin, Rise, has, no_version, shown_since}
+use Rattle.mv_index.proofs.Words.{◌≡◌, inl, inr, ◌∙◌, sym, refl, ap, ℕ, suc, ◌+◌, ◌-◌, ◌<◌, ◌≤◌, Bool, true, false, cond, List, [], ◌∷◌, ◌++◌, Option, Some, None, length, get_or, arith, subst, option_map, is_some, count_by, cases_lt, get_or_append_left, get_or_push, length_push, sum_by-cons, or_else, Version, ArePieces, IsRow, AllLie, Lies, ShowTheSame, newest_with, place_in, AreAtMost, ArePlaced, AreWithin, Rise, has, no_version, shown_since}
 use Rattle.mv_index.proofs.Cuts.{has_cases, has_it, has_not, hits}
 use Rattle.mv_index.proofs.Layers.{newest_kept, same_place}
 use Rattle.mv_index.proofs.Sublists.{shown_rise, shown_within}

@@ -1,11 +1,5 @@
 -- The bytes of one word more that are seen.
-use Rattle.std.proofs.Common.{◌≡◌, ◌≢◌, inl, inr, ◌∙◌, sym, refl, ap, ℕ, ◌+◌, ◌-◌, ◌*◌, ◌/◌, ◌%◌, ◌<◌, ◌≤◌, Bool, true, false, ◌||◌, not, List, length, get_or, arith}
-use Rattle.std.proofs.Math.ListN.{set, length-set}
-use Rattle.std.specs.List.{list_any, range_with_len}
-use Rattle.std.proofs.lemmas.Bool.{cases_eq, cases_lt}
-use Rattle.std.proofs.lemmas.List.{get_or-set_other, get_or-set_same}
-use Rattle.mv_index.specs.Masks.{has_bit, is_seen}
-use Rattle.mv_index.specs.Versions.{in_bytes}
+use Rattle.mv_index.proofs.Words.{◌≡◌, ◌≢◌, inl, inr, ◌∙◌, sym, refl, ap, ℕ, ◌+◌, ◌-◌, ◌*◌, ◌/◌, ◌%◌, ◌<◌, ◌≤◌, Bool, true, false, ◌||◌, not, List, length, get_or, arith, set, length-set, list_any, range_with_len, cases_eq, cases_lt, get_or-set_other, get_or-set_same, has_bit, is_seen, in_bytes}
 use Rattle.mv_index.proofs.Masks.{any_more, any_moved, in_is, in_over, in_split, in_under}
 
 pub record AreSeen (whole seen : List ℕ) (off at : ℕ) (some : Bool) : Type 0 where

@@ -1,8 +1,5 @@
 -- What holds of versions and stays where some are dropped.
-use Rattle.std.proofs.Common.{ℕ, zero, suc, ◌+◌, ◌<◌, ◌≤◌, Bool, true, false, cond, List, [], ◌∷◌, length, get_or, arith}
-use Rattle.std.specs.List.{AllByRecursion}
-use Rattle.mv_index.specs.declared.version.Version.{Version}
-use Rattle.mv_index.specs.Versions.{AreAtMost, AreWithin, Rise, no_version, shown_since, still_shows}
+use Rattle.mv_index.proofs.Words.{ℕ, zero, suc, ◌+◌, ◌<◌, ◌≤◌, Bool, true, false, cond, List, [], ◌∷◌, length, get_or, arith, AllByRecursion, Version, AreAtMost, AreWithin, Rise, no_version, shown_since, still_shows}
 
 pub all_at : {X : Type 0} (P : X → Type 0) (d : X) (xs : List X) → AllByRecursion P xs → (i : ℕ) → i < length xs → P (get_or xs i d)
 all_at P d [] all i below = absurd (omega arith)

@@ -1,11 +1,5 @@
 -- Rows that are trimmed or moved one by one: of the versions of each so many are dropped.
-use Rattle.std.proofs.Common.{◌≡◌, inl, inr, ◌∙◌, sym, ap, ℕ, ◌+◌, ◌<◌, ◌≤◌, List, length, arith, subst}
-use Rattle.std.proofs.Math.ListN.{set, length-set}
-use Rattle.std.proofs.lemmas.Bool.{cases_eq}
-use Rattle.std.proofs.lemmas.List.{get_or-set_other, get_or-set_same}
-use Rattle.std.proofs.lemmas.List.Sums.{sum_by-set}
-use Rattle.mv_index.specs.declared.version.Version.{Version}
-use Rattle.mv_index.specs.Versions.{BlockVersions, block_of, count_of, no_versions, room_of, versions_in}
+use Rattle.mv_index.proofs.Words.{◌≡◌, inl, inr, ◌∙◌, sym, ap, ℕ, ◌+◌, ◌<◌, ◌≤◌, List, length, arith, subst, set, length-set, cases_eq, get_or-set_other, get_or-set_same, sum_by-set, Version, BlockVersions, block_of, count_of, no_versions, room_of, versions_in}
 
 -- The rows before i have what f gives of their versions, and the others are as they were.
 pub record AreTrimmed (f : List Version → List Version) (whole rows : List BlockVersions) (dropped i : ℕ) : Type 0 where

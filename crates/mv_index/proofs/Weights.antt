@@ -1,14 +1,5 @@
 -- How many bytes the parts of versions take, of one block and over all blocks.
-use Rattle.std.proofs.Common.{◌≡◌, inl, inr, ◌∙◌, sym, refl, ap, ℕ, zero, suc, ◌+◌, ◌<◌, ◌≤◌, ◌==◌, Bool, true, false, not, cond, nat_lt, List, [], ◌∷◌, ◌++◌, length, sum_by, arith}
-use Rattle.std.specs.List.{AllByRecursion, filter, list_any, range_with_len}
-use Rattle.std.proofs.lemmas.Bool.{cases_eq, eq-eqb, le-leb, le-ltb, ltb-false, ne_eqb}
-use Rattle.std.proofs.lemmas.List.Elements.{filter-append}
-use Rattle.std.proofs.lemmas.List.Sums.{sum_by-append, sum_by-cons}
-use Rattle.iso_model.specs.declared.access.Run.{Run}
-use Rattle.mv_index.specs.declared.version.Version.{Version}
-use Rattle.mv_index.specs.Placed.{placed, version_of}
-use Rattle.mv_index.specs.Versions.{hides, shown_since, still_shows}
-use Rattle.mv_index.specs.Weights.{part_bytes_above}
+use Rattle.mv_index.proofs.Words.{◌≡◌, inl, inr, ◌∙◌, sym, refl, ap, ℕ, zero, suc, ◌+◌, ◌<◌, ◌≤◌, ◌==◌, Bool, true, false, not, cond, nat_lt, List, [], ◌∷◌, ◌++◌, length, sum_by, arith, AllByRecursion, filter, list_any, range_with_len, cases_eq, eq-eqb, le-leb, le-ltb, ltb-false, ne_eqb, filter-append, sum_by-append, sum_by-cons, Run, Version, placed, version_of, hides, shown_since, still_shows, part_bytes_above}
 use Rattle.mv_index.proofs.Again.{or_parts}
 use Rattle.mv_index.proofs.Counts.{total, total_add, total_same, total_zero}
 

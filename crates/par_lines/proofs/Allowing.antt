@@ -1,21 +1,8 @@
 -- Which accesses of a client are refused by its own state, and what the rules answer to them.
-use Rattle.std.proofs.Common.{◌≡◌, ℕ, Bool, true, false, cond, [], Option, Some, None, ap, length, refl, subst, ◌∙◌, nat_le}
-use Rattle.std.specs.Prelude.{is_some}
-use Rattle.handle_pass.specs.Accesses.{accesses_of, with_access}
-use Rattle.iso_model.specs.declared.access.Access.{Access}
-use Rattle.iso_model.specs.declared.access.Geometry.{Geometry}
-use Rattle.iso_model.specs.declared.limits.TheConstants.{MAX_ACCESSES}
-use Rattle.script_model.specs.declared.script.Op.{Op}
-use Rattle.script_model.specs.declared.script.Reply.{Reply}
+use Rattle.par_lines.proofs.Words.{◌≡◌, ℕ, Bool, true, false, cond, [], Option, Some, None, ap, length, refl, subst, ◌∙◌, nat_le, is_some, accesses_of, with_access, Access, Geometry, MAX_ACCESSES, Op, Reply, TxError, Array, access_step, step, World, access_refusal, Own, alone, answer, live_of, own_after, own_among}
 use Rattle.script_model.specs.declared.script.Reply.TheVariants as reply
-use Rattle.store_model.specs.declared.stores.TxError.{TxError}
 use Rattle.store_model.specs.declared.stores.TxError.TheVariants as error
-use Rattle.iso_model.specs.Array.{Array}
-use Rattle.script_model.specs.Step.{access_step, step}
 use Rattle.script_model.specs.Step as rules
-use Rattle.iso_model.specs.World.{World}
-use Rattle.tx_blocks.specs.Tx.{access_refusal}
-use Rattle.par_script.specs.Lines.{Own, alone, answer, live_of, own_after, own_among}
 use Rattle.par_lines.proofs.Writing.{after, full, outside}
 
 -- why an access to a block is refused to a client with this transaction

@@ -1,41 +1,15 @@
 -- What each call of a session makes of a client's line.
-use Rattle.std.proofs.Common.{◌≡◌, ℕ, List, [], ◌∷◌, Option, Some, None, ap, inl, inr, refl, sym, subst, ◌∙◌}
-use Rattle.std.specs.Prelude.{IsSome, Result, Ok, Err}
-use Rattle.handle_pass.specs.declared.errors.BeginError.{BeginError}
+use Rattle.par_lines.proofs.Words.{◌≡◌, ℕ, List, [], ◌∷◌, Option, Some, None, ap, inl, inr, refl, sym, subst, ◌∙◌, IsSome, Result, Ok, Err, BeginError, EndError, PostTxError, Session, left_by, HasAborted, HasBegun, HasChecked, HasEnded, IsCheckCause, HasLooked, HasPosted, own, KeepsTx, Made, moves_made, moves_none, moves_on, Stat, reply_of, EndReply, Mode, CoreError, InTx, NotInTx, as_reply, Op, Reply, step, Entry, Start, cause_of, compact_entry, numbers_of, trim_entry, upgrade_entry, Stop, Own, Did, Does, EndsThen, Answered}
 use Rattle.handle_pass.specs.declared.errors.BeginError.TheVariants as begin
-use Rattle.handle_pass.specs.declared.errors.EndError.{EndError}
 use Rattle.handle_pass.specs.declared.errors.EndError.TheVariants as end
-use Rattle.handle_pass.specs.declared.errors.PostTxError.{PostTxError}
 use Rattle.handle_pass.specs.declared.errors.PostTxError.TheVariants as post
-use Rattle.handle_pass.specs.declared.session.Session.{Session}
-use Rattle.handle_pass.specs.Calls.{left_by, HasAborted, HasBegun, HasChecked, HasEnded, IsCheckCause}
-use Rattle.handle_pass.specs.Handles.{HasLooked, HasPosted}
-use Rattle.handle_pass.specs.Sessions.{own, KeepsTx, Made}
-use Rattle.handle_pass.proofs.Logs.{moves_made, moves_none, moves_on}
-use Rattle.iso_core.specs.declared.answers.Stat.{Stat}
-use Rattle.iso_shared.specs.Legal.{reply_of}
-use Rattle.iso_model.specs.declared.access.EndReply.{EndReply}
-use Rattle.iso_model.specs.declared.access.Mode.{Mode}
-use Rattle.iso_model.specs.declared.core_error.CoreError.{CoreError}
 use Rattle.iso_model.specs.declared.core_error.CoreError.TheVariants as error
-use Rattle.iso_model.specs.declared.memory.InTx.{InTx}
-use Rattle.iso_model.specs.declared.memory.NotInTx.{NotInTx}
-use Rattle.script_model.specs.CoreReplies.{as_reply}
-use Rattle.script_model.specs.declared.script.Op.{Op}
 use Rattle.script_model.specs.declared.script.Op.TheVariants as op
-use Rattle.script_model.specs.declared.script.Reply.{Reply}
 use Rattle.script_model.specs.declared.script.Reply.TheVariants as reply
-use Rattle.script_model.specs.Step.{step}
 use Rattle.iso_shared.specs.declared.entry.Call.TheVariants as call
 use Rattle.iso_shared.specs.declared.entry.Cause.TheVariants as cause
-use Rattle.iso_shared.specs.declared.entry.Entry.{Entry}
 use Rattle.iso_shared.specs.declared.entry.Entry.TheVariants as entry
-use Rattle.iso_shared.specs.States.{Start}
-use Rattle.iso_shared.specs.Told.{cause_of, compact_entry, numbers_of, trim_entry, upgrade_entry}
-use Rattle.script_model.specs.declared.stop.Stop.{Stop}
-use Rattle.par_script.specs.Lines.{Own, Did, Does, EndsThen}
 use Rattle.par_script.specs.Lines as lines
-use Rattle.par_lines.specs.Answers.{Answered}
 use Rattle.par_lines.specs.Replies as say
 
 -- a refusal of the device, as the client is answered

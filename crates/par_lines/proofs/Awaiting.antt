@@ -1,25 +1,9 @@
 -- Looks for a label that is not held.
-use Rattle.std.proofs.Common.{◌≡◌, ℕ, zero, suc, ◌+◌, ◌-◌, ◌<◌, ◌≤◌, List, [], ◌∷◌, ◌++◌, Option, Some, None, ap, inl, refl, replicate, sym, subst, ◌∙◌, arith}
-use Rattle.std.specs.Prelude.{IsSome, Result, Ok, Err, is_some, option_map, true, false}
-use Rattle.std.proofs.lemmas.List.{append-nil}
-use Rattle.handle_pass.specs.declared.session.Session.{Session}
-use Rattle.handle_pass.specs.Handles.{HasLooked}
-use Rattle.handle_pass.specs.Logs.{Moves}
-use Rattle.handle_pass.specs.Sessions.{device, own, units}
-use Rattle.handle_pass.proofs.Logs.{moves_made, moves_none, moves_on}
-use Rattle.iso_model.specs.declared.access.Mode.{Mode}
-use Rattle.iso_model.specs.declared.memory.InTx.{InTx}
+use Rattle.par_lines.proofs.Words.{◌≡◌, ℕ, zero, suc, ◌+◌, ◌-◌, ◌<◌, ◌≤◌, List, [], ◌∷◌, ◌++◌, Option, Some, None, ap, inl, refl, replicate, sym, subst, ◌∙◌, arith, IsSome, Result, Ok, Err, is_some, option_map, append-nil, Session, HasLooked, Moves, device, own, units, moves_made, moves_none, moves_on, Mode, InTx, Reply, step, Entry, Start, Stop, MAX_LOOKS, Own, Did, Does, LooksFor, Answered}
+use Rattle.std.specs.Prelude.{true, false}
 use Rattle.script_model.specs.declared.script.Op.TheVariants as op
-use Rattle.script_model.specs.declared.script.Reply.{Reply}
 use Rattle.script_model.specs.declared.script.Reply.TheVariants as reply
-use Rattle.script_model.specs.Step.{step}
-use Rattle.iso_shared.specs.declared.entry.Entry.{Entry}
 use Rattle.iso_shared.specs.declared.entry.Entry.TheVariants as entry
-use Rattle.iso_shared.specs.States.{Start}
-use Rattle.script_model.specs.declared.stop.Stop.{Stop}
-use Rattle.par_script.specs.declared.TheConstants.{MAX_LOOKS}
-use Rattle.par_script.specs.Lines.{Own, Did, Does, LooksFor}
-use Rattle.par_lines.specs.Answers.{Answered}
 
 -- so many looks in a row that find nothing, and what comes behind them
 looks : (label : List ℕ) (most n : ℕ) → n ≤ most → (es : List Entry) (r : Result Reply Stop) (own' : Option Own) → LooksFor label (most - n) es r own'

@@ -1,14 +1,5 @@
 -- Lines that are taken off the end of a list, one by one, and the lines of each client.
-use Rattle.std.proofs.Common.{◌≡◌, ℕ, zero, suc, ◌+◌, ◌-◌, ◌<◌, ◌≤◌, ◌==◌, ◌||◌, Bool, true, false, not, cond, List, [], ◌∷◌, ◌++◌, drop, get_or, length, map, reverse, refl, sym, ap, ◌∙◌, subst, arith, append_assoc, length-append}
-use Rattle.std.proofs.lemmas.Bool.{eqb-true}
-use Rattle.std.proofs.lemmas.List.{append-nil, map-append, reverse-append}
-use Rattle.std.proofs.lemmas.List.Elements.{filter-append, All-append}
-use Rattle.std.proofs.Math.Seq.{drop-cons}
-use Rattle.std.specs.Prelude.{filter, All}
-use Rattle.std.specs.List.{list_any, range_with_len}
-use Rattle.script_model.specs.declared.script.Line.{Line}
-use Rattle.par_runner.specs.declared.job.Job.{Job}
-use Rattle.par_script.specs.Told.{has_line, lines_of}
+use Rattle.par_lines.proofs.Words.{◌≡◌, ℕ, zero, suc, ◌+◌, ◌-◌, ◌<◌, ◌≤◌, ◌==◌, ◌||◌, Bool, true, false, not, cond, List, [], ◌∷◌, ◌++◌, drop, get_or, length, map, reverse, refl, sym, ap, ◌∙◌, subst, arith, append_assoc, length-append, eqb-true, append-nil, map-append, reverse-append, filter-append, All-append, drop-cons, filter, All, list_any, range_with_len, Line, Job, has_line, lines_of}
 
 -- the list in the other order, as its last element is taken off
 pub turned_more : {X : Type 0} (whole out xs ys : List X) (x : X) → xs ≡ ys ++ x ∷ [] → whole ≡ out ++ reverse xs → whole ≡ (out ++ x ∷ []) ++ reverse ys

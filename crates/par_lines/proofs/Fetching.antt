@@ -1,44 +1,15 @@
 -- Reads of a client: what the rules answer over the bytes that were fetched, and what the session does.
-use Rattle.std.proofs.Common.{◌≡◌, ◌⊎◌, ℕ, zero, suc, ◌+◌, ◌-◌, Bool, true, false, cond, nat_le, List, [], ◌∷◌, ◌++◌, Option, Some, None, ap, drop, get_or, inl, inr, refl, replicate, sym, subst, take, ◌∙◌}
-use Rattle.std.specs.Prelude.{Result, Ok, Err}
-use Rattle.std.proofs.lemmas.List.{length-replicate}
-use Rattle.std.proofs.Math.Seq.{get_or-append_seam}
-use Rattle.handle_pass.specs.declared.session.Session.{Session}
-use Rattle.handle_pass.specs.Accesses.{access_answer, mark_answer, with_access, with_mark, HasMarked, HasRead, IsReadCause, Shows}
+use Rattle.par_lines.proofs.Words.{◌≡◌, ◌⊎◌, ℕ, zero, suc, ◌+◌, ◌-◌, Bool, true, false, cond, nat_le, List, [], ◌∷◌, ◌++◌, Option, Some, None, ap, drop, get_or, inl, inr, refl, replicate, sym, subst, take, ◌∙◌, Result, Ok, Err, length-replicate, get_or-append_seam, Session, access_answer, mark_answer, with_access, with_mark, HasMarked, HasRead, IsReadCause, Shows, Made, moves_made, moves_none, moves_on, moves_rested, Access, Commit, Geometry, Op, Reply, TxError, Array, all_own, is_outside, mark_fault, marked, block_at, access_step, get_step, read_step, step, get_access, read_access, marked_last, World, Cause, Entry, Start, Stop, IsRefused, span_at, Own, Did, Does, Fetches, Says, WhereShown, alone, answer, live_of, own_after, own_among, with_block, Answered}
 use Rattle.handle_pass.specs.Sessions as handle
-use Rattle.handle_pass.specs.Sessions.{Made}
-use Rattle.handle_pass.proofs.Logs.{moves_made, moves_none, moves_on, moves_rested}
-use Rattle.iso_model.specs.declared.access.Access.{Access}
-use Rattle.iso_model.specs.declared.access.Commit.{Commit}
-use Rattle.iso_model.specs.declared.access.Geometry.{Geometry}
-use Rattle.script_model.specs.declared.script.Op.{Op}
 use Rattle.script_model.specs.declared.script.Op.TheVariants as op
-use Rattle.script_model.specs.declared.script.Reply.{Reply}
 use Rattle.script_model.specs.declared.script.Reply.TheVariants as reply
-use Rattle.store_model.specs.declared.stores.TxError.{TxError}
 use Rattle.store_model.specs.declared.stores.TxError.TheVariants as error
-use Rattle.iso_model.specs.Array.{Array}
 use Rattle.iso_model.specs.Effect as effect
-use Rattle.iso_model.specs.History.{all_own}
-use Rattle.iso_model.specs.Marks.{is_outside, mark_fault, marked}
-use Rattle.iso_model.specs.Premises.{block_at}
-use Rattle.script_model.specs.Step.{access_step, get_step, read_step, step}
-use Rattle.iso_model.specs.Step.{get_access, read_access}
-use Rattle.iso_model.proofs.Marked.{marked_last}
-use Rattle.iso_model.specs.World.{World}
 use Rattle.iso_shared.specs.declared.entry.Call.TheVariants as call
-use Rattle.iso_shared.specs.declared.entry.Cause.{Cause}
 use Rattle.iso_shared.specs.declared.entry.Cause.TheVariants as cause
-use Rattle.iso_shared.specs.declared.entry.Entry.{Entry}
 use Rattle.iso_shared.specs.declared.entry.Entry.TheVariants as entry
-use Rattle.iso_shared.specs.States.{Start}
-use Rattle.script_model.specs.declared.stop.Stop.{Stop}
 use Rattle.script_model.specs.declared.stop.Stop.TheVariants as stop
-use Rattle.tx_blocks.specs.Tx.{IsRefused}
-use Rattle.tx_table.specs.Work.{span_at}
-use Rattle.par_script.specs.Lines.{Own, Did, Does, Fetches, Says, WhereShown, alone, answer, live_of, own_after, own_among, with_block}
 use Rattle.par_script.specs.Lines as lines
-use Rattle.par_lines.specs.Answers.{Answered}
 use Rattle.par_lines.specs.Replies as say
 use Rattle.par_lines.proofs.Allowing.{allowed, by_tests, refusal, Allows, IsAllowed, Refuses}
 use Rattle.par_lines.proofs.Answering.{by_entry, by_none, same_own}

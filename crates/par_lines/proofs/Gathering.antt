@@ -1,35 +1,7 @@
 -- What the clients of a run were told, from what their steps did.
-use Rattle.std.proofs.Common.{◌≡◌, Bool, ⊎_elim, ℕ, zero, suc, ◌+◌, ◌<◌, cond, List, [], ◌∷◌, ◌++◌, Option, Some, None, length, take, map, reverse, get_or, refl, sym, ap, ◌∙◌, subst, arith, length-append, append_assoc}
-use Rattle.std.proofs.lemmas.List.{append-nil, map-append, reverse-append, take_at}
-use Rattle.std.specs.Prelude.{slice_get, is_some, All, sum_by, Result, Ok, Err}
-use Rattle.std.proofs.Math.ListN.{get_or-append}
-use Rattle.std.proofs.Math.Seq.{get_or-append_seam}
-use Rattle.std.proofs.lemmas.List.Sums.{sum_by-append, sum_by-cons}
+use Rattle.par_lines.proofs.Words.{◌≡◌, Bool, ⊎_elim, ℕ, zero, suc, ◌+◌, ◌<◌, cond, List, [], ◌∷◌, ◌++◌, Option, Some, None, length, take, map, reverse, get_or, refl, sym, ap, ◌∙◌, subst, arith, length-append, append_assoc, append-nil, map-append, reverse-append, take_at, slice_get, is_some, All, sum_by, Result, Ok, Err, get_or-append, get_or-append_seam, sum_by-append, sum_by-cons, Geometry, Line, Reply, Entry, Shared, Start, View, times, Go, Halt, Job, Went, Halted, JobRan, Part, Stop, Session, EndsWith, Log, Moves, count, device, own, seen, log_count, log_more, log_none, log_seen, moves_none, moves_on, Own, ClientLines, Did, Ran, StopsAtLast, Walk, last_abort, lines_of, lines_run, ParClient, IsClient, Stepped, Tells, part_of, units_in, AllTold, Finished, IsNew}
 use mathlib.Core.List.{IsPrefix}
-use Rattle.iso_model.specs.declared.access.Geometry.{Geometry}
-use Rattle.script_model.specs.declared.script.Line.{Line}
-use Rattle.script_model.specs.declared.script.Reply.{Reply}
-use Rattle.iso_shared.specs.declared.entry.Entry.{Entry}
 use Rattle.iso_shared.specs.declared.entry.Entry.TheVariants as entry
-use Rattle.iso_shared.specs.declared.shared.Shared.{Shared}
-use Rattle.iso_shared.specs.States.{Start}
-use Rattle.turn_lock.specs.declared.view.View.{View}
-use Rattle.turn_lock.specs.Lists.{times}
-use Rattle.par_runner.specs.declared.job.Flow.TheVariants.{Go, Halt}
-use Rattle.par_runner.specs.declared.job.Job.{Job}
-use Rattle.par_runner.specs.Runs.{Went, Halted, JobRan}
-use Rattle.par_text.specs.declared.part.Part.{Part}
-use Rattle.script_model.specs.declared.stop.Stop.{Stop}
-use Rattle.handle_pass.specs.declared.session.Session.{Session}
-use Rattle.handle_pass.specs.Calls.{EndsWith}
-use Rattle.handle_pass.specs.Logs.{Log, Moves}
-use Rattle.handle_pass.specs.Sessions.{count, device, own, seen}
-use Rattle.handle_pass.proofs.Logs.{log_count, log_more, log_none, log_seen, moves_none, moves_on}
-use Rattle.par_script.specs.Lines.{Own, ClientLines, Did, Ran, StopsAtLast, Walk, last_abort}
-use Rattle.par_script.specs.Told.{lines_of, lines_run}
-use Rattle.par_lines.specs.declared.client.ParClient.{ParClient}
-use Rattle.par_lines.specs.Clients.{IsClient, Stepped, Tells}
-use Rattle.par_lines.specs.Jobs.{part_of, units_in, AllTold, Finished, IsNew}
 
 -- the entries of a session and its last abort
 pub finish_log : {D O : Type 0} (A : Start) (s : Session D O) (w : View Entry) (was : Option Own) → EndsWith A s was w → (F : List Entry) → Log (count s) (seen s) F → Log (λ p. times p w.mine) w.seen (F ++ last_abort was)

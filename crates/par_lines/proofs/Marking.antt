@@ -1,28 +1,10 @@
 -- Marks of a client's last access: what the rules answer, and what the session does.
-use Rattle.std.proofs.Common.{◌≡◌, Bool, ℕ, false, cond, eq-eqb, List, [], ◌∷◌, ◌++◌, Option, Some, None, ap, inl, refl, sym, subst, ◌∙◌}
-use Rattle.std.specs.Prelude.{Result, Ok, Err, is_some, option_map}
-use Rattle.handle_pass.specs.declared.session.Session.{Session}
-use Rattle.handle_pass.specs.Accesses.{accesses_of, mark_answer, with_mark, HasMarked}
-use Rattle.handle_pass.specs.Sessions.{Rested}
+use Rattle.par_lines.proofs.Words.{◌≡◌, Bool, ℕ, false, cond, eq-eqb, List, [], ◌∷◌, ◌++◌, Option, Some, None, ap, inl, refl, sym, subst, ◌∙◌, Result, Ok, Err, is_some, option_map, Session, accesses_of, mark_answer, with_mark, HasMarked, Rested, moves_rested, Access, Geometry, MarkError, Reply, TxError, is_outside, mark_fault, marked, marks_fault, mark_refused, mark_step, marked_step, step, World, Start, mark_refusal, marking, IsRefused, span_at, Own, Did, Does, alone, live_of, own_among, Answered}
 use Rattle.handle_pass.specs.Sessions as handle
-use Rattle.handle_pass.proofs.Logs.{moves_rested}
-use Rattle.iso_model.specs.declared.access.Access.{Access}
-use Rattle.iso_model.specs.declared.access.Geometry.{Geometry}
-use Rattle.iso_model.specs.declared.access.MarkError.{MarkError}
 use Rattle.iso_model.specs.declared.access.MarkError.TheVariants as mark
 use Rattle.script_model.specs.declared.script.Op.TheVariants as op
-use Rattle.script_model.specs.declared.script.Reply.{Reply}
 use Rattle.script_model.specs.declared.script.Reply.TheVariants as reply
-use Rattle.store_model.specs.declared.stores.TxError.{TxError}
 use Rattle.store_model.specs.declared.stores.TxError.TheVariants as error
-use Rattle.iso_model.specs.Marks.{is_outside, mark_fault, marked, marks_fault}
-use Rattle.script_model.specs.Step.{mark_refused, mark_step, marked_step, step}
-use Rattle.iso_model.specs.World.{World}
-use Rattle.iso_shared.specs.States.{Start}
-use Rattle.tx_blocks.specs.Tx.{mark_refusal, marking, IsRefused}
-use Rattle.tx_table.specs.Work.{span_at}
-use Rattle.par_script.specs.Lines.{Own, Did, Does, alone, live_of, own_among}
-use Rattle.par_lines.specs.Answers.{Answered}
 use Rattle.par_lines.specs.Replies as say
 use Rattle.par_lines.proofs.Answering.{by_none, same_own}
 

@@ -1,27 +1,10 @@
 -- Bytes that are put into a block: a write of the block, and a mark over them.
-use Rattle.std.proofs.Common.{◌≡◌, ℕ, ◌+◌, ◌-◌, Bool, true, false, List, [], ◌∷◌, ◌++◌, Option, Some, None, ap, inl, inr, length, refl, replicate, sym, subst, ◌∙◌}
-use Rattle.std.specs.Prelude.{Result, Ok, Err}
-use Rattle.handle_pass.specs.declared.session.Session.{Session}
-use Rattle.handle_pass.specs.Accesses.{access_answer, mark_answer, with_access, with_mark, HasMarked, HasWritten, IsWriteCause}
+use Rattle.par_lines.proofs.Words.{◌≡◌, ℕ, ◌+◌, ◌-◌, Bool, true, false, List, [], ◌∷◌, ◌++◌, Option, Some, None, ap, inl, inr, length, refl, replicate, sym, subst, ◌∙◌, Result, Ok, Err, Session, access_answer, mark_answer, with_access, with_mark, HasMarked, HasWritten, IsWriteCause, moves_none, moves_on, moves_rested, Geometry, Reply, TxError, is_outside, mark_fault, marked, access_step, put_step, step, put_access, write_access, marked_last, Start, Stop, IsRefused, span_at, Own, Did, Does, alone, answer, live_of, own_after, Answered}
 use Rattle.handle_pass.specs.Sessions as handle
-use Rattle.handle_pass.proofs.Logs.{moves_none, moves_on, moves_rested}
-use Rattle.iso_model.specs.declared.access.Geometry.{Geometry}
 use Rattle.script_model.specs.declared.script.Op.TheVariants as op
-use Rattle.script_model.specs.declared.script.Reply.{Reply}
 use Rattle.script_model.specs.declared.script.Reply.TheVariants as reply
-use Rattle.store_model.specs.declared.stores.TxError.{TxError}
 use Rattle.store_model.specs.declared.stores.TxError.TheVariants as error
-use Rattle.iso_model.specs.Marks.{is_outside, mark_fault, marked}
-use Rattle.script_model.specs.Step.{access_step, put_step, step}
-use Rattle.iso_model.specs.Step.{put_access, write_access}
-use Rattle.iso_model.proofs.Marked.{marked_last}
-use Rattle.iso_shared.specs.States.{Start}
-use Rattle.script_model.specs.declared.stop.Stop.{Stop}
 use Rattle.script_model.specs.declared.stop.Stop.TheVariants as stop
-use Rattle.tx_blocks.specs.Tx.{IsRefused}
-use Rattle.tx_table.specs.Work.{span_at}
-use Rattle.par_script.specs.Lines.{Own, Did, Does, alone, answer, live_of, own_after}
-use Rattle.par_lines.specs.Answers.{Answered}
 use Rattle.par_lines.specs.Replies as say
 use Rattle.par_lines.proofs.Allowing.{allowed, by_tests, refusal, Allows, IsAllowed, Refuses}
 use Rattle.par_lines.proofs.Answering.{by_none, same_own}

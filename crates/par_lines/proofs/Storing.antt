@@ -1,49 +1,14 @@
 -- Lines that call a store: what the session did, and what the rules answer over the bytes that were fetched.
-use Rattle.std.proofs.Common.{◌≡◌, ◌≢◌, ℕ, ◌+◌, ◌-◌, ◌<◌, ◌≤◌, ◌==◌, ◌&&◌, Bool, true, false, cond, not, nat_lt, List, [], ◌∷◌, ◌++◌, Option, Some, None, option_map, length, map, ap, eq-eqb, inl, refl, sym, subst, ◌∙◌, arith}
-use Rattle.std.specs.Prelude.{IfOk, IsTrue, Result, Ok, Err}
-use Rattle.std.specs.List.{AllByRecursion}
-use Rattle.std.proofs.lemmas.Bool.Decides.{nat_tests}
-use Rattle.std.proofs.lemmas.Bool.{ne_eqb}
-use Rattle.std.proofs.lemmas.List.{append_cancel_left, append-nil}
-use Rattle.handle_pass.specs.declared.session.Session.{Session}
-use Rattle.handle_pass.specs.Accesses.{accesses_of, tx_on}
-use Rattle.handle_pass.specs.Logs.{Moves}
-use Rattle.handle_pass.specs.Visits.{Failed, IsVisit, Seen, Visited, base_in, base_of, begin_array, seen_by}
+use Rattle.par_lines.proofs.Words.{◌≡◌, ◌≢◌, ℕ, ◌+◌, ◌-◌, ◌<◌, ◌≤◌, ◌==◌, ◌&&◌, Bool, true, false, cond, not, nat_lt, List, [], ◌∷◌, ◌++◌, Option, Some, None, length, map, ap, eq-eqb, inl, refl, sym, subst, ◌∙◌, arith, IfOk, IsTrue, Result, Ok, Err, AllByRecursion, nat_tests, ne_eqb, append_cancel_left, append-nil, Session, accesses_of, tx_on, Moves, Failed, IsVisit, Seen, Visited, base_in, base_of, begin_array, seen_by, blocks_append, Access, Geometry, Mode, Serial, Snapshot, Op, Reply, Area, Region, Array, block_at, Entry, Cause, is_serial, is_valid, store_area_fits, store_area_is, all_own, array_at, array_of, hash_delete_step, hash_get_step, hash_put_step, in_store, step, store_step, tree_delete_step, tree_get_step, tree_put_step, tree_scan_step, World, Live, Start, state_at, Stop, ForSome, Tx, room_of, with_accesses, area_of, HasCalled, IsStoreArea, Stops, is_empty_scan, store_area, store_ended, AnswersOn, CallsStore, Did, Does, InStore, Own, Says, StopsBy, Where, alone, answer, blocks_read, live_of, own_after, own_among, Answered, IsOnStore, settled}
+use Rattle.std.proofs.Common.{option_map}
 use Rattle.handle_pass.specs.Visits as visits
-use Rattle.handle_pass.proofs.Visiting.{blocks_append}
 use Rattle.handle_pass.specs.Sessions as handle
-use Rattle.iso_model.specs.declared.access.Access.{Access}
-use Rattle.iso_model.specs.declared.access.Geometry.{Geometry}
-use Rattle.iso_model.specs.declared.access.Mode.{Mode}
-use Rattle.iso_model.specs.declared.access.Mode.TheVariants.{Serial, Snapshot}
-use Rattle.script_model.specs.declared.script.Op.{Op}
 use Rattle.script_model.specs.declared.script.Op.TheVariants as op
-use Rattle.script_model.specs.declared.script.Reply.{Reply}
 use Rattle.script_model.specs.declared.script.Reply.TheVariants as reply
-use Rattle.store_model.specs.declared.stores.Area.{Area}
-use Rattle.store_model.specs.declared.stores.Region.{Region}
-use Rattle.iso_model.specs.Array.{Array}
 use Rattle.iso_model.specs.Effect.{own}
-use Rattle.iso_model.specs.Premises.{block_at}
-use Rattle.iso_shared.specs.declared.entry.Entry.{Entry}
-use Rattle.iso_shared.specs.declared.entry.Cause.{Cause}
 use Rattle.iso_shared.specs.declared.entry.Cause.TheVariants as cause
-use Rattle.iso_model.specs.Geometry.{is_serial, is_valid}
-use Rattle.store_calls.proofs.Areas.{store_area_fits, store_area_is}
-use Rattle.iso_model.specs.History.{all_own, array_at}
-use Rattle.script_model.specs.Step.{array_of, hash_delete_step, hash_get_step, hash_put_step, in_store, step, store_step, tree_delete_step, tree_get_step, tree_put_step, tree_scan_step}
 use Rattle.iso_model.specs.Step as rules
-use Rattle.iso_model.specs.World.{World, Live}
-use Rattle.iso_shared.specs.States.{Start, state_at}
-use Rattle.script_model.specs.declared.stop.Stop.{Stop}
 use Rattle.script_model.specs.declared.stop.Stop.TheVariants as stop
-use Rattle.std.specs.Option.{ForSome}
-use Rattle.tx_blocks.specs.Tx.{Tx, room_of, with_accesses}
-use Rattle.tx_blocks.specs.Runs.{area_of}
-use Rattle.store_calls.specs.Calls.{HasCalled, IsStoreArea, Stops, is_empty_scan, store_area, store_ended}
-use Rattle.par_script.specs.Lines.{AnswersOn, CallsStore, Did, Does, InStore, Own, Says, StopsBy, Where, alone, answer, blocks_read, live_of, own_after, own_among}
-use Rattle.par_lines.specs.Answers.{Answered}
-use Rattle.par_lines.specs.Stores.{IsOnStore, settled}
 use Rattle.par_lines.proofs.Answering.{by_none}
 use Rattle.par_lines.proofs.Fetching.{no_take}
 

@@ -1,23 +1,7 @@
 -- The sweeps behind all else, and what all clients were told by one legal list.
-use Rattle.std.proofs.Common.{◌≡◌, ◌⊎◌, inl, inr, ⊎_elim, ℕ, zero, suc, ◌+◌, ◌≤◌, ◌==◌, ◌||◌, Bool, true, false, cond, List, [], ◌∷◌, ◌++◌, Some, None, length, map, refl, sym, ap, ◌∙◌, subst, arith, length-append, append_assoc}
-use Rattle.std.proofs.lemmas.List.{append-nil}
-use Rattle.std.specs.Prelude.{filter}
-use Rattle.std.specs.List.{AllByRecursion, list_any, range_with_len}
-use Rattle.script_model.specs.declared.script.Line.{Line}
-use Rattle.iso_shared.specs.declared.entry.Entry.{Entry}
+use Rattle.par_lines.proofs.Words.{◌≡◌, ◌⊎◌, inl, inr, ⊎_elim, ℕ, zero, suc, ◌+◌, ◌≤◌, ◌==◌, ◌||◌, Bool, true, false, cond, List, [], ◌∷◌, ◌++◌, Some, None, length, map, refl, sym, ap, ◌∙◌, subst, arith, length-append, append_assoc, append-nil, filter, AllByRecursion, list_any, range_with_len, Line, Entry, IsLegal, Start, View, count_up, places, times, AllBelow, AreDistinct, RisesFrom, prefix_whole, rises_less, times_before, Part, ClientLines, clients_in, entries_of, has_line, lines_run, FoundSome, Told, dealt_entries, dealt_times, length-owners, owned_by, owners_of, AreRising, Dealt, ReadsAt, AllTold, Swept}
 use Rattle.iso_shared.specs.declared.entry.Entry.TheVariants as entry
-use Rattle.iso_shared.specs.Legal.{IsLegal}
 use Rattle.iso_shared.specs.Ports.{Made}
-use Rattle.iso_shared.specs.States.{Start}
-use Rattle.turn_lock.specs.declared.view.View.{View}
-use Rattle.turn_lock.specs.Lists.{count_up, places, times, AllBelow, AreDistinct, RisesFrom}
-use Rattle.turn_lock.proofs.Prefixes.{prefix_whole}
-use Rattle.turn_lock.proofs.Rising.{rises_less, times_before}
-use Rattle.par_text.specs.declared.part.Part.{Part}
-use Rattle.par_script.specs.Lines.{ClientLines}
-use Rattle.par_script.specs.Told.{clients_in, entries_of, has_line, lines_run, FoundSome, Told}
-use Rattle.par_script.proofs.Owners.{dealt_entries, dealt_times, length-owners, owned_by, owners_of, AreRising, Dealt, ReadsAt}
-use Rattle.par_lines.specs.Jobs.{AllTold, Swept}
 
 cancel : (xs ys : List ℕ) (n : ℕ) → xs ++ n ∷ [] ≡ ys ++ n ∷ [] → xs ≡ ys
 cancel [] [] n e = refl

@@ -1,30 +1,11 @@
 -- Accesses that make no entry: what the rules answer the client, and what the session does.
-use Rattle.std.proofs.Common.{◌≡◌, ℕ, ◌==◌, Bool, true, false, cond, List, [], ◌∷◌, ◌++◌, Option, Some, None, ap, inl, inr, length, refl, sym, subst, ◌∙◌, eq-eqb, nat_le}
-use Rattle.std.specs.Prelude.{Result, Ok, Err, IfErr, is_some, not, replicate, slice_index}
-use Rattle.std.proofs.lemmas.Bool.{eqb-true}
-use Rattle.handle_pass.specs.declared.session.Session.{Session}
-use Rattle.handle_pass.specs.Accesses.{access_answer, accesses_of, with_access, HasWritten, IsWriteCause}
-use Rattle.handle_pass.specs.Sessions.{own}
-use Rattle.handle_pass.proofs.Logs.{moves_none, moves_rested}
-use Rattle.iso_model.specs.declared.access.Access.{Access}
-use Rattle.iso_model.specs.declared.access.Geometry.{Geometry}
-use Rattle.iso_model.specs.declared.limits.TheConstants.{MAX_ACCESSES}
-use Rattle.script_model.specs.declared.script.Op.{Op}
+use Rattle.par_lines.proofs.Words.{◌≡◌, ℕ, ◌==◌, Bool, true, false, cond, List, [], ◌∷◌, ◌++◌, Option, Some, None, ap, inl, inr, length, refl, sym, subst, ◌∙◌, eq-eqb, nat_le, Result, Ok, Err, IfErr, is_some, slice_index, eqb-true, Session, access_answer, accesses_of, with_access, HasWritten, IsWriteCause, own, moves_none, moves_rested, Access, Geometry, MAX_ACCESSES, Op, Reply, TxError, access_step, fill_step, step, write_step, write_access, World, Start, Stop, access_refusal, IsRefused, Own, Did, Does, alone, answer, live_of, own_after, own_among, Answered}
+use Rattle.std.specs.Prelude.{not, replicate}
 use Rattle.script_model.specs.declared.script.Op.TheVariants as op
-use Rattle.script_model.specs.declared.script.Reply.{Reply}
 use Rattle.script_model.specs.declared.script.Reply.TheVariants as reply
-use Rattle.store_model.specs.declared.stores.TxError.{TxError}
 use Rattle.store_model.specs.declared.stores.TxError.TheVariants as error
-use Rattle.script_model.specs.Step.{access_step, fill_step, step, write_step}
-use Rattle.iso_model.specs.Step.{write_access}
 use Rattle.script_model.specs.Step as rules
-use Rattle.iso_model.specs.World.{World}
-use Rattle.iso_shared.specs.States.{Start}
-use Rattle.script_model.specs.declared.stop.Stop.{Stop}
 use Rattle.script_model.specs.declared.stop.Stop.TheVariants as stop
-use Rattle.tx_blocks.specs.Tx.{access_refusal, IsRefused}
-use Rattle.par_script.specs.Lines.{Own, Did, Does, alone, answer, live_of, own_after, own_among}
-use Rattle.par_lines.specs.Answers.{Answered}
 use Rattle.par_lines.specs.Replies as say
 
 -- what an access is answered by the three tests

@@ -1,16 +1,5 @@
 -- Places that are dealt among clients: each place has one owner, and a client's entries are those at its places.
-use Rattle.std.proofs.Common.{◌≡◌, ℕ, zero, suc, ◌+◌, ◌<◌, ◌≤◌, ◌==◌, ◌||◌, Bool, true, false, nat_lt, cond, List, [], ◌∷◌, ◌++◌, get_or, length, map, refl, sym, ap, ◌∙◌, subst, append_assoc, arith, length-append, eq-eqb}
-use Rattle.std.proofs.lemmas.List.{length-map}
-use Rattle.std.specs.Prelude.{filter}
-use Rattle.std.specs.List.{AllByRecursion, list_any}
-use Rattle.std.proofs.lemmas.Bool.{eqb-true}
-use Rattle.std.proofs.lemmas.Bool.Decides.{nat_tests}
-use Rattle.std.proofs.Math.Seq.{get_or-append_seam}
-use Rattle.turn_lock.specs.Lists.{hit, times, total, AreDistinct, RisesFrom, count_up, places}
-use Rattle.turn_lock.proofs.Rising.{rises_less, times_before}
-use Rattle.turn_lock.proofs.Totals.{hit_same, hit_other}
-use Rattle.iso_shared.specs.declared.entry.Entry.{Entry}
-use Rattle.par_script.specs.Told.{entries_of}
+use Rattle.par_script.proofs.Words.{◌≡◌, ℕ, zero, suc, ◌+◌, ◌<◌, ◌≤◌, ◌==◌, ◌||◌, Bool, true, false, nat_lt, cond, List, [], ◌∷◌, ◌++◌, get_or, length, map, refl, sym, ap, ◌∙◌, subst, append_assoc, arith, length-append, eq-eqb, length-map, filter, AllByRecursion, list_any, eqb-true, nat_tests, get_or-append_seam, hit, times, total, AreDistinct, RisesFrom, count_up, places, rises_less, times_before, hit_same, hit_other, Entry, entries_of}
 
 -- clients, each with its places
 abbrev pub Dealt : Type 0

@@ -1,34 +1,11 @@
 -- Two clients who hand a transaction to each other under labels: one list that they may leave, with what each is told.
-use Rattle.std.proofs.Common.{◌≡◌, ℕ, ◌<◌, zero, suc, true, List, [], ◌∷◌, ◌++◌, Some, None, ap, inl, inr, length, replicate, refl, sym, arith}
-use Rattle.std.specs.Prelude.{Ok, Err, slice_index}
-use Rattle.iso_model.specs.declared.access.Access.{Access}
-use Rattle.iso_model.specs.declared.access.EndReply.TheVariants.{Committed, ReadOnly}
-use Rattle.iso_model.specs.declared.access.Geometry.{Geometry}
-use Rattle.iso_model.specs.declared.access.Mode.TheVariants.{Serial, Snapshot}
-use Rattle.script_model.specs.declared.script.Line.{Line}
-use Rattle.script_model.specs.declared.script.Op.{Op}
+use Rattle.par_script.proofs.Words.{◌≡◌, ℕ, ◌<◌, zero, suc, true, List, [], ◌∷◌, ◌++◌, Some, None, ap, inl, inr, length, replicate, refl, sym, arith, Ok, Err, slice_index, Access, Committed, ReadOnly, Geometry, Serial, Snapshot, Line, Op, Reply, put, clash, runs, AreBytes, IsAccess, get_access, put_access, begin_step, commit_step, end_step, get_step, put_step, read_step, step, empty_history, fresh, get_is_access, put_is_access, no_bytes, Entry, Start, IsLegal, MAX_LOOKS, Own, Does, Did, Walk, last_abort, Told, clients_in, entries_of, lines_of}
 use Rattle.script_model.specs.declared.script.Op.TheVariants as op
-use Rattle.script_model.specs.declared.script.Reply.{Reply}
 use Rattle.script_model.specs.declared.script.Reply.TheVariants as reply
-use Rattle.iso_model.specs.Array.{put}
-use Rattle.iso_model.specs.Conflict.{clash}
-use Rattle.iso_model.specs.Effect.{runs}
-use Rattle.iso_model.specs.Premises.{AreBytes, IsAccess}
-use Rattle.iso_model.specs.Step.{get_access, put_access, begin_step, commit_step, end_step}
-use Rattle.script_model.specs.Step.{get_step, put_step, read_step, step}
-use Rattle.iso_model.specs.World.{empty_history, fresh}
-use Rattle.iso_model.proofs.Accesses.{get_is_access, put_is_access}
-use Rattle.iso_model.proofs.ByteLists.{no_bytes}
 use Rattle.iso_shared.specs.declared.entry.Call.TheVariants as call
 use Rattle.iso_shared.specs.declared.entry.Cause.TheVariants as cause
-use Rattle.iso_shared.specs.declared.entry.Entry.{Entry}
 use Rattle.iso_shared.specs.declared.entry.Entry.TheVariants as entry
-use Rattle.iso_shared.specs.States.{Start}
-use Rattle.iso_shared.specs.Legal.{IsLegal}
 use Rattle.script_model.specs.declared.stop.Stop.TheVariants as stop
-use Rattle.par_script.specs.declared.TheConstants.{MAX_LOOKS}
-use Rattle.par_script.specs.Lines.{Own, Does, Did, Walk, last_abort}
-use Rattle.par_script.specs.Told.{Told, clients_in, entries_of, lines_of}
 
 abbrev small : Geometry
 small = record { block = 64; blocks = 4; log = 256; mode = Serial; hash = 0; tree = 0; form = 1 }

@@ -1,28 +1,11 @@
 -- Lines that call the hash store: one that may be, and ones that are refused.
-use Rattle.std.proofs.Common.{◌≡◌, ℕ, true, List, [], ◌∷◌, ◌++◌, Option, Some, None, ap, length, length-append, map, replicate, refl, sym, ◌∙◌, arith}
-use Rattle.std.specs.List.{AllByRecursion}
-use Rattle.std.proofs.lemmas.List.{length-map}
-use Rattle.std.specs.Prelude.{Ok, Err}
-use Rattle.iso_model.specs.declared.access.Access.{Access}
-use Rattle.iso_model.specs.declared.access.Geometry.{Geometry}
-use Rattle.iso_model.specs.declared.access.Mode.TheVariants.{Serial, Snapshot}
+use Rattle.par_script.proofs.Words.{◌≡◌, ℕ, true, List, [], ◌∷◌, ◌++◌, Option, Some, None, ap, length, length-append, map, replicate, refl, sym, ◌∙◌, arith, AllByRecursion, length-map, Ok, Err, Access, Geometry, Serial, Snapshot, Reply, Array, zeros, keys_mark, get_program, got, walk, walk_of, bucket_of, is_linked, block_at, hash_area, hash_get_step, step, store_step, Done, look_access, then_do, Cause, CallsStore, Does, Fetched, Own, StopsBy, answer, blocks_read, fetches, own_after, refused_fetch}
 use Rattle.script_model.specs.declared.script.Op.TheVariants as op
-use Rattle.script_model.specs.declared.script.Reply.{Reply}
 use Rattle.script_model.specs.declared.script.Reply.TheVariants as reply
-use Rattle.iso_model.specs.Array.{Array, zeros}
-use Rattle.store_model.specs.Cells.{keys_mark}
-use Rattle.store_model.specs.HashCalls.{get_program, got, walk, walk_of}
-use Rattle.store_model.specs.HashRegion.{bucket_of, is_linked}
-use Rattle.iso_model.specs.Premises.{block_at}
-use Rattle.store_model.specs.Areas.{hash_area}
-use Rattle.script_model.specs.Step.{hash_get_step, step, store_step}
-use Rattle.store_model.specs.Stores.{Done, look_access, then_do}
 use Rattle.iso_shared.specs.declared.entry.Call.TheVariants as call
-use Rattle.iso_shared.specs.declared.entry.Cause.{Cause}
 use Rattle.iso_shared.specs.declared.entry.Cause.TheVariants as cause
 use Rattle.iso_shared.specs.declared.entry.Entry.TheVariants as entry
 use Rattle.script_model.specs.declared.stop.Stop.TheVariants as stop
-use Rattle.par_script.specs.Lines.{CallsStore, Does, Fetched, Own, StopsBy, answer, blocks_read, fetches, own_after, refused_fetch}
 
 -- eight blocks, of which the first three are a hash store with one bucket
 abbrev stores : Geometry

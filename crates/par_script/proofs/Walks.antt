@@ -1,12 +1,5 @@
 -- Lines that were answered, and one more.
-use Rattle.std.proofs.Common.{ℕ, Bool, List, [], ◌∷◌, ◌++◌, Option, ap, refl, sym, subst, ◌∙◌, append_assoc}
-use Rattle.std.specs.Prelude.{Ok}
-use Rattle.std.proofs.lemmas.List.{append-nil}
-use Rattle.iso_model.specs.declared.access.Geometry.{Geometry}
-use Rattle.script_model.specs.declared.script.Line.{Line}
-use Rattle.script_model.specs.declared.script.Reply.{Reply}
-use Rattle.iso_shared.specs.declared.entry.Entry.{Entry}
-use Rattle.par_script.specs.Lines.{Own, Did, Walk}
+use Rattle.par_script.proofs.Words.{ℕ, Bool, List, [], ◌∷◌, ◌++◌, Option, ap, refl, sym, subst, ◌∙◌, append_assoc, Ok, append-nil, Geometry, Line, Reply, Entry, Own, Did, Walk}
 
 -- a line that was answered behind others
 pub walk_snoc : (g : Geometry) (tells : Bool) (own mid own' : Option Own) (lines : List (ℕ × Line)) (F es : List Entry) (told : List (ℕ × Reply)) (l : ℕ × Line) (r : Reply)

@@ -1,15 +1,5 @@
 -- Lines that are added one after another.
-use Rattle.std.proofs.Common.{◌≡◌, ℕ, ◌+◌, ◌<◌, ◌≤◌, List, [], ◌∷◌, ◌++◌, take, drop, length, get_or, map, flat_map, sym, subst, ap, ◌∙◌, arith}
-use Rattle.std.specs.Prelude.{Result, Ok, Err, OnErr}
-use Rattle.std.specs.List.{concat}
-use Rattle.std.proofs.Math.ListN.{get_or-map}
-use Rattle.std.proofs.Math.Seq.{take-append_seam, take-append-add}
-use Rattle.std.proofs.lemmas.List.{append_assoc, append-nil, length-append, length-map, take-append-drop, take-append-le, take_more}
-use Rattle.std.proofs.lemmas.List.Concat.{flat_map-append}
-use Rattle.std.proofs.lemmas.List.Folds.{concat-append}
-use Rattle.par_text.specs.declared.commit_line.CommitLine.{CommitLine}
-use Rattle.par_text.specs.declared.part.Part.{Part}
-use Rattle.par_text.specs.Output.{commit_line, told_lines, AreCommits, AreFirst, IsFront, IsOutput}
+use Rattle.par_text.proofs.Words.{◌≡◌, ℕ, ◌+◌, ◌<◌, ◌≤◌, List, [], ◌∷◌, ◌++◌, take, drop, length, get_or, map, flat_map, sym, subst, ap, ◌∙◌, arith, Result, Ok, Err, OnErr, concat, get_or-map, take-append_seam, take-append-add, append_assoc, append-nil, length-append, length-map, take-append-drop, take-append-le, take_more, flat_map-append, concat-append, CommitLine, Part, commit_line, told_lines, AreCommits, AreFirst, IsFront, IsOutput}
 
 -- one line more
 pub snoc : (old : List ℕ) (lines : List (List ℕ)) (line : List ℕ) → (old ++ concat lines) ++ line ≡ old ++ concat (lines ++ line ∷ [])

@@ -1,17 +1,5 @@
 -- Worked examples of the generator, of a bench and of what recovery prints.
-use Rattle.std.specs.Prelude.{◌≡◌, [], ◌∷◌, ◌++◌, refl, codes}
-use Rattle.std.specs.Fmt.{digits}
-use Rattle.sha2.specs.Sha256.{sha256, digest_bytes, hash_after, compress, rounds, schedule, first_words}
-use Rattle.iso_model.specs.declared.access.Mode.TheVariants.{Serial}
-use Rattle.iso_model.specs.Array.{put, zeros}
-use Rattle.script_model.specs.Bench.{bench_output, bench_summary, bench_text, drawn, number_drawn, recover_output, round_text}
-use Rattle.iso_model.specs.Conflict.{clash}
-use Rattle.iso_model.specs.Effect.{runs}
-use Rattle.script_model.specs.Step.{step, put_step, get_step}
-use Rattle.iso_model.specs.Step.{put_access, begin_step, commit_step, end_step}
-use Rattle.script_model.specs.Text.{words_of, number_of, hex_of, reply_text}
-use Rattle.script_model.specs.Script.{script, operation_of, other_operation}
-use Rattle.iso_model.specs.World.{empty_history}
+use Rattle.script_model.proofs.Words.{◌≡◌, [], ◌∷◌, ◌++◌, refl, codes, digits, sha256, digest_bytes, hash_after, compress, rounds, schedule, first_words, Serial, put, zeros, bench_output, bench_summary, bench_text, drawn, number_drawn, recover_output, round_text, clash, runs, step, put_step, get_step, put_access, begin_step, commit_step, end_step, words_of, number_of, hex_of, reply_text, script, operation_of, other_operation, empty_history}
 use Rattle.script_model.proofs.Small.{small, text, lines_of}
 
 -- The first number that is drawn from seed 0.

@@ -1,9 +1,5 @@
 -- Steps of a script that a core makes, by the core's cases.
-use Rattle.std.proofs.Common.{Bool, true, false, cond}
-use Rattle.iso_model.specs.declared.core_reply.CoreReply.{CoreReply}
-use Rattle.iso_model.specs.World.{World}
-use Rattle.script_model.specs.declared.script.Reply.{Reply}
-use Rattle.script_model.specs.CoreReplies.{as_step}
+use Rattle.script_model.proofs.Words.{Bool, true, false, cond, CoreReply, World, Reply, as_step}
 
 -- what holds of both answers holds of the one that a test picks
 pub as_either : (P : Reply × World → Type 0) (test : Bool) (x y : CoreReply × World) → P (as_step x) → P (as_step y) → P (as_step (cond test x y))

@@ -1,16 +1,7 @@
 -- Worked examples of groups.
-use Rattle.std.specs.Prelude.{◌≡◌, [], ◌∷◌, refl, codes, length, Some, None}
-use Rattle.std.specs.Fmt.{digits}
+use Rattle.script_model.proofs.Words.{◌≡◌, [], ◌∷◌, refl, codes, Some, None, digits, Geometry, put, clash, runs, group_step, begin_step, commit_step, end_step, operation_of, other_operation, step, put_step, read_step, words_of, number_of, hex_of}
+use Rattle.std.specs.Prelude.{length}
 use Rattle.iso_model.specs.declared.access.GroupReply.TheVariants as member
-use Rattle.iso_model.specs.declared.access.Geometry.{Geometry}
-use Rattle.iso_model.specs.Array.{put}
-use Rattle.iso_model.specs.Conflict.{clash}
-use Rattle.iso_model.specs.Effect.{runs}
-use Rattle.iso_model.specs.Group.{group_step}
-use Rattle.iso_model.specs.Step.{begin_step, commit_step, end_step}
-use Rattle.script_model.specs.Script.{operation_of, other_operation}
-use Rattle.script_model.specs.Step.{step, put_step, read_step}
-use Rattle.script_model.specs.Text.{words_of, number_of, hex_of}
 use Rattle.script_model.proofs.Small.{small, made, after_lines}
 
 -- Each member is answered, and a label under which nothing is has no member.

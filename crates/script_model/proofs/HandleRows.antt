@@ -1,15 +1,5 @@
 -- Worked examples of handles under labels, of trimming, of compaction and of the two forms.
-use Rattle.std.specs.Prelude.{◌≡◌, [], ◌∷◌, ◌++◌, refl, codes}
-use Rattle.std.specs.Fmt.{digits}
-use Rattle.iso_model.specs.declared.access.Geometry.{Geometry}
-use Rattle.iso_model.specs.Array.{put}
-use Rattle.iso_model.specs.Conflict.{clash}
-use Rattle.iso_model.specs.Effect.{runs}
-use Rattle.iso_model.specs.Step.{begin_step, commit_step, end_step, switch_step}
-use Rattle.script_model.specs.Script.{operation_of, other_operation}
-use Rattle.script_model.specs.Step.{step, put_step, read_step, get_step, mark_step, numbers}
-use Rattle.script_model.specs.Text.{words_of, number_of, hex_of, reply_text}
-use Rattle.iso_model.specs.Versions.{versions}
+use Rattle.script_model.proofs.Words.{◌≡◌, [], ◌∷◌, ◌++◌, refl, codes, digits, Geometry, put, clash, runs, begin_step, commit_step, end_step, switch_step, operation_of, other_operation, step, put_step, read_step, get_step, mark_step, numbers, words_of, number_of, hex_of, reply_text, versions}
 use Rattle.script_model.proofs.Small.{small, made, text, answers, after_lines, zero_text}
 
 -- The snapshot moves with the handle.

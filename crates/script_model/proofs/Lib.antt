@@ -1,3 +1,4 @@
+pub mod Words
 pub mod ScriptRows
 pub mod Steps
 pub mod ScriptBytes

@@ -1,12 +1,6 @@
 -- Worked examples of limits that are too large to reach one by one.
-use Rattle.std.specs.Prelude.{◌≡◌, ℕ, ◌+◌, ◌-◌, [], ◌∷◌, refl, replicate}
-use Rattle.iso_model.specs.declared.access.Mode.TheVariants.{Serial}
-use Rattle.iso_model.specs.declared.limits.TheConstants.{LAST}
-use Rattle.iso_model.specs.declared.core_reply.CoreReply.TheVariants.{Began, Compacted, TooManyTx, Worn}
-use Rattle.script_model.specs.declared.script.Reply.TheVariants.{Done, TooManyAccesses}
-use Rattle.iso_model.specs.Step.{read_access, begin_step, switch_step}
-use Rattle.script_model.specs.Step.{put_step, read_step}
-use Rattle.iso_model.specs.World.{World, Live, label, unattached}
+use Rattle.script_model.proofs.Words.{◌≡◌, ◌-◌, [], ◌∷◌, refl, replicate, Serial, LAST, Began, Compacted, TooManyTx, Worn, Done, TooManyAccesses, read_access, begin_step, switch_step, put_step, read_step, World, Live, label, unattached}
+use Rattle.std.specs.Prelude.{ℕ, ◌+◌}
 use Rattle.script_model.proofs.Small.{small, made}
 
 -- a transaction under a label

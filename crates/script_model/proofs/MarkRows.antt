@@ -1,14 +1,5 @@
 -- Worked examples of marks, of the accesses that they narrow, and of the two modes.
-use Rattle.std.specs.Prelude.{◌≡◌, [], ◌∷◌, ◌++◌, refl, codes, replicate}
-use Rattle.std.specs.Fmt.{digits}
-use Rattle.iso_model.specs.declared.access.Mode.TheVariants.{Snapshot}
-use Rattle.iso_model.specs.Array.{put}
-use Rattle.iso_model.specs.Conflict.{clash}
-use Rattle.iso_model.specs.Effect.{runs}
-use Rattle.iso_model.specs.Step.{begin_step, commit_step, end_step}
-use Rattle.script_model.specs.Script.{operation_of, other_operation}
-use Rattle.script_model.specs.Step.{step, put_step, read_step, get_step, write_step, fill_step, mark_step}
-use Rattle.script_model.specs.Text.{words_of, number_of, hex_of, reply_text}
+use Rattle.script_model.proofs.Words.{◌≡◌, [], ◌∷◌, ◌++◌, refl, codes, replicate, digits, Snapshot, put, clash, runs, begin_step, commit_step, end_step, operation_of, other_operation, step, put_step, read_step, get_step, write_step, fill_step, mark_step, words_of, number_of, hex_of, reply_text}
 use Rattle.script_model.proofs.Small.{small, made, text, answers, zero_text}
 
 -- Two clients write two bytes of one block, and both commit.

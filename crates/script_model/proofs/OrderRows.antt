@@ -1,20 +1,6 @@
 -- Worked examples of the order of refusals, and of what a switch of halves keeps.
-use Rattle.std.specs.Prelude.{◌≡◌, ℕ, ◌+◌, ◌-◌, [], ◌∷◌, ◌++◌, refl, replicate, codes, List, None, Some}
-use Rattle.std.specs.Fmt.{digits}
-use Rattle.iso_model.specs.declared.access.Mode.TheVariants.{Serial, Snapshot}
-use Rattle.iso_model.specs.declared.limits.TheConstants.{LAST}
-use Rattle.script_model.specs.declared.script.Op.TheVariants.{Compact, Upgrade}
-use Rattle.iso_model.specs.declared.core_reply.CoreReply.TheVariants.{Committed, Conflict, ModeFixed, TooManyTx, Worn}
-use Rattle.script_model.specs.declared.script.Reply.TheVariants.{BadBlock, BadRange, TooManyAccesses}
-use Rattle.iso_model.specs.Array.{put}
-use Rattle.iso_model.specs.Conflict.{clash}
-use Rattle.iso_model.specs.Effect.{runs}
-use Rattle.script_model.specs.Script.{operation_of, other_operation}
-use Rattle.script_model.specs.Step.{step, put_step, get_step, write_step, numbers}
-use Rattle.iso_model.specs.Step.{put_access, read_access, begin_step, commit_step, end_step, switch_step}
-use Rattle.script_model.specs.Text.{words_of, number_of, hex_of, reply_text}
-use Rattle.iso_model.specs.Versions.{versions}
-use Rattle.iso_model.specs.World.{World, Live, label, unattached}
+use Rattle.script_model.proofs.Words.{◌≡◌, ◌-◌, [], ◌∷◌, ◌++◌, refl, replicate, codes, None, Some, digits, Serial, Snapshot, LAST, Compact, Upgrade, Committed, Conflict, ModeFixed, TooManyTx, Worn, BadBlock, BadRange, TooManyAccesses, put, clash, runs, operation_of, other_operation, step, put_step, get_step, write_step, numbers, put_access, read_access, begin_step, commit_step, end_step, switch_step, words_of, number_of, hex_of, reply_text, versions, World, Live, label, unattached}
+use Rattle.std.specs.Prelude.{ℕ, ◌+◌, List}
 use Rattle.script_model.proofs.Small.{small, made, text, answers}
 
 -- the small image after so many commits, which its base holds

@@ -1,16 +1,7 @@
 -- Worked examples of scripts: computed.
-use Rattle.std.specs.Prelude.{◌≡◌, ℕ, ◌*◌, ◌-◌, List, [], ◌∷◌, ◌++◌, Some, Ok, Err, refl, codes, map, replicate, true}
-use Rattle.std.specs.Fmt.{digits}
-use Rattle.iso_model.specs.Step.{begin_step, commit_step, end_step}
-use Rattle.script_model.specs.declared.script.Op.TheVariants.{Stat}
+use Rattle.script_model.proofs.Words.{◌≡◌, ◌*◌, ◌-◌, [], ◌∷◌, ◌++◌, Some, refl, codes, map, replicate, digits, begin_step, commit_step, end_step, Stat, put, clash, runs, script, last_piece, bad_line, parse_whole, parse, said, operation_of, other_operation, store_operation, tree_operation, replies, step, put_step, read_step, words_of, number_of, hex_of, reply_text, fresh, empty_history}
+use Rattle.std.specs.Prelude.{ℕ, List, Ok, Err, true}
 use Rattle.script_model.specs.declared.script.Parsed.TheVariants.{Skip, Line as Says}
-use Rattle.iso_model.specs.Array.{put}
-use Rattle.iso_model.specs.Conflict.{clash}
-use Rattle.iso_model.specs.Effect.{runs}
-use Rattle.script_model.specs.Script.{script, last_piece, bad_line, parse_whole, parse, said, operation_of, other_operation, store_operation, tree_operation, replies}
-use Rattle.script_model.specs.Step.{step, put_step, read_step}
-use Rattle.script_model.specs.Text.{words_of, number_of, hex_of, reply_text}
-use Rattle.iso_model.specs.World.{fresh, empty_history}
 use Rattle.script_model.proofs.Small.{small, text}
 
 -- so many bytes in hexadecimal, all 17

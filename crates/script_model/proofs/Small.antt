@@ -1,11 +1,6 @@
 -- The small image of the worked examples: four blocks of 64 bytes and a log of 256.
-use Rattle.std.specs.Prelude.{ℕ, ◌*◌, List, [], ◌∷◌, ◌++◌, Option, None, Some, Result, Ok, Err, flat_map, replicate}
-use Rattle.iso_model.specs.declared.access.Geometry.{Geometry}
-use Rattle.script_model.specs.declared.script.Line.{Line}
-use Rattle.script_model.specs.declared.script.Op.{Op}
-use Rattle.script_model.specs.Script.{operation_of, after, replies}
-use Rattle.script_model.specs.Text.{number_of, words_of}
-use Rattle.iso_model.specs.World.{World, fresh, empty_history}
+use Rattle.script_model.proofs.Words.{◌*◌, [], ◌∷◌, ◌++◌, None, Some, flat_map, replicate, Geometry, Line, Op, operation_of, after, replies, number_of, words_of, World, fresh, empty_history}
+use Rattle.std.specs.Prelude.{ℕ, List, Option, Result, Ok, Err}
 pub use Rattle.iso_model.proofs.Rows.{small}
 
 -- the world of an image of this geometry that was just made

@@ -1,21 +1,6 @@
 -- Worked examples of the stores' operations.
-use Rattle.std.specs.Prelude.{◌≡◌, [], ◌∷◌, refl, codes}
-use Rattle.std.specs.Fmt.{digits}
-use Rattle.iso_model.specs.declared.access.Geometry.{Geometry}
-use Rattle.iso_model.specs.declared.access.Mode.TheVariants.{Serial}
-use Rattle.iso_model.specs.Step.{begin_step, commit_step, end_step, switch_step}
-use Rattle.sha2.specs.Sha256.{compress, digest_bytes, first_words, hash_after, rounds, schedule, sha256}
-use Rattle.store_model.specs.HashRegion.{bucket_of, is_linked}
-use Rattle.script_model.specs.declared.script.Reply.TheVariants.{Pairs}
-use Rattle.iso_model.specs.Array.{put}
-use Rattle.iso_model.specs.Conflict.{clash}
-use Rattle.iso_model.specs.Effect.{runs}
-use Rattle.store_model.specs.HashCalls.{walk, get_program, put_program}
-use Rattle.script_model.specs.Script.{operation_of, other_operation, store_operation, tree_operation}
-use Rattle.script_model.specs.Step.{step, store_step, hash_put_step, hash_get_step, hash_delete_step, tree_put_step, tree_get_step, tree_delete_step, tree_scan_step}
+use Rattle.script_model.proofs.Words.{◌≡◌, [], ◌∷◌, refl, codes, digits, Geometry, Serial, begin_step, commit_step, end_step, switch_step, compress, digest_bytes, first_words, hash_after, rounds, schedule, sha256, bucket_of, is_linked, Pairs, put, clash, runs, walk, get_program, put_program, operation_of, other_operation, store_operation, tree_operation, step, store_step, hash_put_step, hash_get_step, hash_delete_step, tree_put_step, tree_get_step, tree_delete_step, tree_scan_step, scan_program, words_of, number_of, hex_of, reply_text}
 use Rattle.store_model.specs.TreeCalls as tree
-use Rattle.store_model.specs.TreeCalls.{scan_program}
-use Rattle.script_model.specs.Text.{words_of, number_of, hex_of, reply_text}
 use Rattle.script_model.proofs.Small.{small, made, text, answers}
 
 -- eight blocks, of which the first three are a hash store

@@ -1,15 +1,7 @@
 -- What upkeep leaves as it is.
-use Rattle.std.proofs.Common.{◌≡◌, refl, ap, ℕ, ◌==◌, true, false, cond}
-use Rattle.script_model.specs.declared.script.Op.{Op}
-use Rattle.script_model.specs.declared.script.Op.TheVariants.{Begin, End, Abort, Put, Read, Get, Write, Fill, Mark, Release, Takeover, Await, Trim, Stat, Compact, Upgrade, HashPut, HashGet, HashDelete, TreePut, TreeGet, TreeDelete, TreeScan}
-use Rattle.iso_model.specs.declared.core_reply.CoreReply.{CoreReply}
+use Rattle.script_model.proofs.Words.{ap, ℕ, ◌==◌, true, false, cond, Op, Begin, End, Abort, Put, Read, Get, Write, Fill, Mark, Release, Takeover, Await, Trim, Stat, Compact, Upgrade, HashPut, HashGet, HashDelete, TreePut, TreeGet, TreeDelete, TreeScan, CoreReply, LAST, History, shown_block, step, after_switch, shown_to, switch_step, World, Live, IsUpkeep}
+use Rattle.std.proofs.Common.{◌≡◌, refl}
 use Rattle.iso_model.specs.declared.core_reply.CoreReply.TheVariants as reply
-use Rattle.iso_model.specs.declared.limits.TheConstants.{LAST}
-use Rattle.iso_model.specs.History.{History, shown_block}
-use Rattle.script_model.specs.Step.{step}
-use Rattle.iso_model.specs.Step.{after_switch, shown_to, switch_step}
-use Rattle.iso_model.specs.World.{World, Live}
-use Rattle.script_model.specs.Operations.{IsUpkeep}
 
 -- the same commits and the same transactions
 record Keeps (W V : World) : Type 0 where

@@ -1,43 +1,11 @@
 -- A commit that a reply tells is one of the world after it.
-use Rattle.std.proofs.Common.{◌≡◌, ◌<◌, ◌≤◌, ◌+◌, ◌-◌, ◌&&◌, ◌==◌, not, ℕ, Bool, true, false, cond, List, [], ◌∷◌, length, nat_le, nat_lt, Option, Some, None, Result, Ok, Err, inl, inr, drop, take, length-append, subst, sym, arith}
-use Rattle.iso_model.specs.declared.access.Access.{Access}
-use Rattle.iso_model.specs.declared.access.Clash.{Clash}
-use Rattle.iso_model.specs.declared.access.MarkError.{MarkError}
+use Rattle.script_runner.proofs.Words.{◌≡◌, ◌<◌, ◌≤◌, ◌+◌, ◌-◌, ◌&&◌, ◌==◌, not, ℕ, Bool, true, false, cond, List, [], ◌∷◌, length, nat_le, nat_lt, Option, Some, None, Result, Ok, Err, inl, inr, drop, take, length-append, subst, sym, arith, Access, Clash, MarkError, Mode, Span, CoreReply, Line, Op, Reply, StoreError, LAST, MAX_ACCESSES, MAX_LIVE, clash, has_write, same_mode, del_program, get_program, put_program, History, last, mark_fault, after, access_step, after_store, array_of, fill_step, found_reply, get_step, hash_delete_step, hash_get_step, hash_put_step, in_store, in_transaction, mark_step, marked_step, numbers, out_of_transaction, put_step, read_step, release_step, removed_reply, step, store_step, takeover_step, write_step, pairs_reply, tree_put_step, tree_get_step, tree_delete_step, tree_scan_step, after_commit, begin_step, commit_step, end_step, switch_step, mode_named, need, read_access, shown_to, as_reply, as_step, as_either, hash_area, tree_area, Program, outcome, Live, Place, World, attached, client, floor, held, used, AreLines, IsWorld, after_leads, step_leads, AreRepliesTo, TellsCommit, Acknowledges, SameButShown, longer}
 use Rattle.iso_model.specs.declared.access.MarkError.TheVariants as mark
-use Rattle.iso_model.specs.declared.access.Mode.{Mode}
-use Rattle.iso_model.specs.declared.access.Span.{Span}
-use Rattle.iso_model.specs.declared.core_reply.CoreReply.{CoreReply}
 use Rattle.iso_model.specs.declared.core_reply.CoreReply.TheVariants as core
-use Rattle.script_model.specs.declared.script.Line.{Line}
-use Rattle.script_model.specs.declared.script.Op.{Op}
 use Rattle.script_model.specs.declared.script.Op.TheVariants.{Begin, End, Abort, Put, Read as ReadBlock, Get, Write as WriteBlock, Fill, Mark, Release, Takeover, Await, Trim, Stat, Compact, Upgrade, HashPut, HashGet, HashDelete, TreePut, TreeGet, TreeDelete, TreeScan}
-use Rattle.script_model.specs.declared.script.Reply.{Reply}
 use Rattle.script_model.specs.declared.script.Reply.TheVariants as reply
-use Rattle.store_model.specs.declared.stores.StoreError.{StoreError}
 use Rattle.store_model.specs.declared.stores.StoreError.TheVariants as store
-use Rattle.iso_model.specs.declared.limits.TheConstants.{LAST, MAX_ACCESSES, MAX_LIVE}
-use Rattle.iso_model.specs.Conflict.{clash}
-use Rattle.iso_model.specs.Effect.{has_write}
-use Rattle.iso_model.specs.Geometry.{same_mode}
-use Rattle.store_model.specs.HashCalls.{del_program, get_program, put_program}
-use Rattle.iso_model.specs.History.{History, last}
-use Rattle.iso_model.specs.Marks.{mark_fault}
-use Rattle.script_model.specs.Script.{after}
-use Rattle.script_model.specs.Step.{access_step, after_store, array_of, fill_step, found_reply, get_step, hash_delete_step, hash_get_step, hash_put_step, in_store, in_transaction, mark_step, marked_step, numbers, out_of_transaction, put_step, read_step, release_step, removed_reply, step, store_step, takeover_step, write_step, pairs_reply, tree_put_step, tree_get_step, tree_delete_step, tree_scan_step}
-use Rattle.iso_model.specs.Step.{after_commit, begin_step, commit_step, end_step, switch_step, mode_named, need, read_access, shown_to}
-use Rattle.script_model.specs.CoreReplies.{as_reply, as_step}
-use Rattle.script_model.proofs.CoreSteps.{as_either}
-use Rattle.store_model.specs.Areas.{hash_area, tree_area}
-use Rattle.store_model.specs.Stores.{Program, outcome}
 use Rattle.store_model.specs.TreeCalls as tree
-use Rattle.iso_model.specs.World.{Live, Place, World, attached, client, floor, held, used}
-use Rattle.script_model.specs.Operations.{AreLines}
-use Rattle.iso_model.specs.Worlds.{IsWorld}
-use Rattle.script_model.proofs.Steps.{after_leads, step_leads}
-use Rattle.script_runner.specs.Replies.{AreRepliesTo, TellsCommit}
-use Rattle.script_runner.specs.Run.{Acknowledges}
-use Rattle.script_runner.specs.Told.{SameButShown}
-use Rattle.iso_model.proofs.Worlds.{longer}
 
 -- a commit that the reply tells is one of the world beside it
 record Tells (result : Reply × World) : Type 0 where

@@ -1,23 +1,9 @@
 -- A line of the input, between those before it and what follows.
-use Rattle.std.proofs.Common.{◌≡◌, ◌≤◌, ℕ, ◌+◌, Bool, List, [], ◌∷◌, ◌++◌, Some, Result, Ok, Err, IfErr, OnOk, inr, length, refl, sym, ap, subst, ◌∙◌, append_assoc, append-nil, length-append, arith}
-use Rattle.iso_disk.specs.Disk.{DiskState}
-use Rattle.iso_io.specs.Sink.{SinkState}
-use Rattle.script_model.specs.declared.script.BadLine.{BadLine}
-use Rattle.script_model.specs.declared.script.Line.{Line}
-use Rattle.script_model.specs.declared.script.LineError.{LineError}
+use Rattle.script_runner.proofs.Words.{◌≡◌, ◌≤◌, ℕ, ◌+◌, Bool, List, [], ◌∷◌, ◌++◌, Some, Result, Ok, Err, IfErr, OnOk, inr, length, refl, sym, ap, subst, ◌∙◌, append_assoc, append-nil, length-append, arith, DiskState, SinkState, BadLine, Line, LineError, Parsed, Script, before_script, parse_whole, script_from, pieces, World, Gives, Halt, RunEnd, AnswersParsed, EndsAt, IsByStep, Ran, Reads, SaysFirst, behind, end_of, lines_of, AreFirst, AreLinesOf, Answered, HasNoFeed}
 use Rattle.script_model.specs.declared.script.LineError.TheVariants.{Cause, Memory as NoMemory}
-use Rattle.script_model.specs.declared.script.Parsed.{Parsed}
 use Rattle.script_model.specs.declared.script.Parsed.TheVariants.{Skip, Line as Says}
-use Rattle.script_model.specs.Script.{Script, before_script, parse_whole, script_from}
-use Rattle.script_model.specs.Text.{pieces}
-use Rattle.iso_model.specs.World.{World}
-use Rattle.script_text.specs.Parsing.{Gives}
-use Rattle.script_runner.specs.declared.run_end.Halt.{Halt}
 use Rattle.script_runner.specs.declared.run_end.Halt.TheVariants as halt
-use Rattle.script_runner.specs.declared.run_end.RunEnd.{RunEnd}
 use Rattle.script_runner.specs.declared.run_end.RunEnd.TheVariants as end
-use Rattle.script_runner.specs.Lines.{AnswersParsed, EndsAt, IsByStep, Ran, Reads, SaysFirst, behind, end_of, lines_of}
-use Rattle.script_runner.specs.Run.{AreFirst, AreLinesOf, Answered, HasNoFeed}
 use Rattle.script_runner.proofs.Feeds.{no_feed-append, no_feed-nil}
 use Rattle.script_runner.proofs.Fronts.{before-parsed, says-more, script-line}
 use Rattle.script_runner.proofs.Steps.{ended_here, halted_more, ran_more}

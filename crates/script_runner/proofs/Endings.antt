@@ -1,36 +1,10 @@
 -- How a run ends.
-use Rattle.std.proofs.Common.{◌≡◌, ◌≢◌, ◌<◌, ◌≤◌, ℕ, ◌+◌, ◌-◌, Bool, true, false, List, [], ◌∷◌, ◌++◌, Option, Some, None, Result, Ok, Err, IfSome, length, take, nat_le, inl, refl, sym, ap, subst, ◌∙◌, append_assoc, append-nil, length-append, arith}
-use Rattle.std.proofs.lemmas.Bool.{eqb-false, eqb-true, lt-ltb, lt-leb, le-leb}
+use Rattle.script_runner.proofs.Words.{◌≡◌, ◌≢◌, ◌<◌, ◌≤◌, ℕ, ◌+◌, ◌-◌, Bool, true, false, List, [], ◌∷◌, ◌++◌, Option, Some, None, Result, Ok, Err, IfSome, length, take, nat_le, inl, refl, sym, ap, subst, ◌∙◌, append_assoc, append-nil, length-append, arith, eqb-false, eqb-true, lt-ltb, lt-leb, le-leb, take_all, take-append-add, prepend_known, Rose, DiskState, IsLawful, SinkState, SourceState, MetEnd, Took, prepend_known-append, prepend_known-nil, MAX_INPUT, MAX_LINE, BadLine, Line, LineError, Parsed, last, Shows, Script, bad_line, before_script, last_piece, no_lines, parse, parse_whole, script, script_from, is_empty, pieces, World, IsWorld, Gives, Halt, RunEnd, SourceCount, AnswersParsed, EndsAt, Gave, IsByStep, Ran, Reads, behind, end_of, in_front, lines_of, AreFirst, AreLinesOf, Answered, HasRun}
 use Rattle.std.specs.Prelude.{◌==◌}
-use Rattle.std.proofs.lemmas.List.{take_all}
-use Rattle.std.proofs.Math.Seq.{take-append-add}
-use Rattle.std.specs.Io.KnownBytes.{prepend_known}
-use Rattle.fault_count.specs.Count.{Rose}
-use Rattle.iso_disk.specs.Disk.{DiskState, IsLawful}
-use Rattle.iso_io.specs.Sink.{SinkState}
-use Rattle.iso_io.specs.Source.{SourceState, MetEnd, Took}
-use Rattle.iso_io.proofs.Told.{prepend_known-append, prepend_known-nil}
-use Rattle.iso_model.specs.declared.limits.TheConstants.{MAX_INPUT, MAX_LINE}
-use Rattle.script_model.specs.declared.script.BadLine.{BadLine}
-use Rattle.script_model.specs.declared.script.Line.{Line}
-use Rattle.script_model.specs.declared.script.LineError.{LineError}
 use Rattle.script_model.specs.declared.script.LineError.TheVariants.{Cause, Memory as NoMemory}
-use Rattle.script_model.specs.declared.script.Parsed.{Parsed}
 use Rattle.script_model.specs.declared.script.Parsed.TheVariants.{Skip, Line as Says}
-use Rattle.iso_model.specs.History.{last}
-use Rattle.iso_model.specs.Image.{Shows}
-use Rattle.script_model.specs.Script.{Script, bad_line, before_script, last_piece, no_lines, parse, parse_whole, script, script_from}
-use Rattle.script_model.specs.Text.{is_empty, pieces}
-use Rattle.iso_model.specs.World.{World}
-use Rattle.iso_model.specs.Worlds.{IsWorld}
-use Rattle.script_text.specs.Parsing.{Gives}
-use Rattle.script_runner.specs.declared.run_end.Halt.{Halt}
 use Rattle.script_runner.specs.declared.run_end.Halt.TheVariants as halt
-use Rattle.script_runner.specs.declared.run_end.RunEnd.{RunEnd}
 use Rattle.script_runner.specs.declared.run_end.RunEnd.TheVariants as end
-use Rattle.script_runner.specs.Counts.{SourceCount}
-use Rattle.script_runner.specs.Lines.{AnswersParsed, EndsAt, Gave, IsByStep, Ran, Reads, behind, end_of, in_front, lines_of}
-use Rattle.script_runner.specs.Run.{AreFirst, AreLinesOf, Answered, HasRun}
 use Rattle.script_runner.proofs.Feeds.{HasFirst, no_feed-nil, one_piece, pieces-first, pieces_of}
 use Rattle.script_runner.proofs.Fronts.{before-parsed, says-nothing}
 use Rattle.script_runner.proofs.Steps.{ended_here, halted_more, ran_more, ran_none}

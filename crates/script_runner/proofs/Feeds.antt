@@ -1,11 +1,5 @@
 -- The lines of a text, from its front on.
-use Rattle.std.proofs.Common.{◌≡◌, ◌≢◌, ℕ, Bool, true, false, cond, nat_eq, List, [], ◌∷◌, ◌++◌, refl, ap, append-nil, inl, inr, ⊎_elim, sym, ◌∙◌, ◌<◌, get_or, arith, subst}
-use Rattle.std.proofs.lemmas.Bool.Decides.{eqb_tells}
-use Rattle.std.proofs.lemmas.List.Elements.{Contains-append_right, Contains-append_cases}
-use Rattle.std.specs.Prelude.{Contains}
-use Rattle.script_model.specs.Text.{pieces, before_piece}
-use Rattle.script_runner.specs.Lines.{in_front}
-use Rattle.script_runner.specs.Run.{HasNoFeed}
+use Rattle.script_runner.proofs.Words.{◌≡◌, ◌≢◌, ℕ, Bool, true, false, cond, nat_eq, List, [], ◌∷◌, ◌++◌, refl, ap, append-nil, inl, inr, ⊎_elim, sym, ◌∙◌, ◌<◌, get_or, arith, subst, eqb_tells, Contains-append_right, Contains-append_cases, Contains, pieces, before_piece, in_front, HasNoFeed}
 
 -- that some list of pieces has a first one
 pub record HasFirst (all : List (List ℕ)) : Type 0 where

@@ -1,13 +1,6 @@
 -- What whole lines say, whatever follows them.
-use Rattle.std.proofs.Common.{◌≡◌, ℕ, ◌+◌, Bool, List, [], ◌∷◌, ◌++◌, Result, Ok, refl, sym, ap, ◌∙◌, append_assoc}
-use Rattle.script_model.specs.declared.script.Line.{Line}
-use Rattle.script_model.specs.declared.script.Parsed.{Parsed}
+use Rattle.script_runner.proofs.Words.{◌≡◌, ℕ, ◌+◌, Bool, List, [], ◌∷◌, ◌++◌, Result, Ok, refl, sym, ap, ◌∙◌, append_assoc, Line, Parsed, Script, before_script, parse_whole, script_from, pieces, Gives, SaysFirst, behind, lines_of, HasNoFeed}
 use Rattle.script_model.specs.declared.script.Parsed.TheVariants.{Skip, Line as Says}
-use Rattle.script_model.specs.Script.{Script, before_script, parse_whole, script_from}
-use Rattle.script_model.specs.Text.{pieces}
-use Rattle.script_text.specs.Parsing.{Gives}
-use Rattle.script_runner.specs.Lines.{SaysFirst, behind, lines_of}
-use Rattle.script_runner.specs.Run.{HasNoFeed}
 use Rattle.script_runner.proofs.Feeds.{HasFirst, feed, pieces-first}
 
 pub behind-append : (xs ys : List (ℕ × Line)) (s : Script) → behind xs (behind ys s) ≡ behind (xs ++ ys) s

@@ -1,15 +1,5 @@
 -- What an image shows stays true while the history grows.
-use Rattle.std.proofs.Common.{inl, inr, ℕ, List, sym, arith, subst}
-use Rattle.iso_model.specs.declared.access.Geometry.{Geometry}
-use Rattle.iso_model.specs.History.{last}
-use Rattle.iso_model.specs.Image.{Shows}
-use Rattle.iso_model.specs.World.{World}
-use Rattle.iso_model.specs.Worlds.{IsWorld, LeadsTo}
-use Rattle.iso_model.proofs.Held.{shows_any_form, shows_longer}
-use Rattle.iso_model.proofs.Worlds.{longer}
-use Rattle.iso_disk.specs.Disk.{DiskState, LeavesOnly}
-use Rattle.iso_disk.proofs.Moments.{joined, weakened}
-use Rattle.iso_model.specs.Between.{ShowsEither, ShowsBetween}
+use Rattle.script_runner.proofs.Words.{inl, inr, ℕ, List, sym, arith, subst, Geometry, last, Shows, World, IsWorld, LeadsTo, shows_any_form, shows_longer, longer, DiskState, LeavesOnly, joined, weakened, ShowsEither, ShowsBetween}
 
 pub shows_on : (W V : World) (bytes : List ℕ) (p : ℕ) → IsWorld W → LeadsTo W V → Shows bytes W.geometry W.history p → Shows bytes V.geometry V.history p
 shows_on W V bytes p is leads shown =

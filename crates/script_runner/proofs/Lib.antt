@@ -1,3 +1,4 @@
+pub mod Words
 pub mod Feeds
 pub mod Fronts
 pub mod Said

@@ -1,18 +1,6 @@
 -- What the small image answers to the script of the tests.
-use Rattle.std.proofs.Common.{◌≡◌, ℕ, ◌+◌, List, [], ◌∷◌, Option, Some, None, false, length, get_or, refl, sym, subst, arith}
-use Rattle.std.specs.Prelude.{is_some}
-use Rattle.iso_model.specs.declared.access.Mode.{Mode}
-use Rattle.iso_model.specs.Step.{begin_step, commit_step, end_step}
-use Rattle.script_model.specs.declared.script.Op.{Op}
-use Rattle.script_model.specs.declared.script.Op.TheVariants.{Begin, End, Put}
-use Rattle.script_model.specs.declared.script.Reply.{Reply}
+use Rattle.script_runner.proofs.Words.{◌≡◌, ℕ, ◌+◌, List, [], ◌∷◌, Option, Some, None, false, length, get_or, refl, sym, subst, arith, is_some, Mode, begin_step, commit_step, end_step, Op, Begin, End, Put, Reply, put, clash, runs, put_step, step, World, rehearsed}
 use Rattle.script_model.specs.declared.script.Reply.TheVariants as reply
-use Rattle.iso_model.specs.Array.{put}
-use Rattle.iso_model.specs.Conflict.{clash}
-use Rattle.iso_model.specs.Effect.{runs}
-use Rattle.script_model.specs.Step.{put_step, step}
-use Rattle.iso_model.specs.World.{World}
-use Rattle.script_runner.specs.Rehearsal.{rehearsed}
 
 abbrev Answers : (n : ℕ) → (client : ℕ) → Op → Reply → Type 0
 Answers n client op r = let both : Reply × World = (r, rehearsed (n + 1)) in step (rehearsed n) client op ≡ both

@@ -1,21 +1,6 @@
 -- What no run puts of the script of the tests, whatever its disk tells.
-use Rattle.std.proofs.Common.{◌≡◌, ◌∙◌, ℕ, List, [], ◌∷◌, ◌++◌, Some, None, ap, subst, get_or, arith}
-use Rattle.std.specs.Prelude.{codes}
-use Rattle.std.specs.Fmt.{digits}
-use Rattle.std.proofs.lemmas.Option.{same_Some}
-use Rattle.iso_disk.specs.Disk.{DiskState}
-use Rattle.iso_io.specs.Sink.{SinkState}
-use Rattle.iso_model.specs.World.{World}
-use Rattle.script_model.specs.declared.script.Line.{Line}
-use Rattle.script_model.specs.declared.script.Op.TheVariants.{End}
-use Rattle.script_model.specs.declared.script.Reply.{Reply}
+use Rattle.script_runner.proofs.Words.{◌≡◌, ◌∙◌, ℕ, List, [], ◌∷◌, ◌++◌, Some, None, ap, subst, get_or, arith, codes, digits, same_Some, DiskState, SinkState, World, Line, End, Reply, reply_text, Done, rehearsed, AreRepliesTo, text_of, Answered, SameButShown}
 use Rattle.script_model.specs.declared.script.Reply.TheVariants as reply
-use Rattle.script_model.specs.Text.{reply_text}
-use Rattle.script_runner.specs.declared.run_end.RunEnd.TheVariants.{Done}
-use Rattle.script_runner.specs.Rehearsal.{rehearsed}
-use Rattle.script_runner.specs.Replies.{AreRepliesTo, text_of}
-use Rattle.script_runner.specs.Run.{Answered}
-use Rattle.script_runner.specs.Told.{SameButShown}
 use Rattle.script_runner.proofs.Rehearsals.{second_end}
 
 -- the line that makes the first commit

@@ -1,21 +1,6 @@
 -- The replies of a run, and their text.
-use Rattle.std.proofs.Common.{◌≡◌, ℕ, List, [], ◌∷◌, ◌++◌, inr, take, ap, refl, sym, subst, ◌∙◌, append_assoc, append-nil}
-use Rattle.std.specs.Io.KnownBytes.{append_known}
-use Rattle.iso_disk.specs.Disk.{DiskState}
-use Rattle.iso_io.specs.Sink.{SinkState, Wrote}
-use Rattle.iso_io.proofs.Told.{append_known-append, append_known-nil}
-use Rattle.iso_model.specs.World.{World}
-use Rattle.iso_model.specs.Worlds.{IsWorld}
-use Rattle.script_model.specs.declared.script.Line.{Line}
-use Rattle.script_model.specs.declared.script.Reply.{Reply}
-use Rattle.script_model.specs.Bench.{answers_to}
-use Rattle.script_model.specs.Script.{replies}
-use Rattle.script_model.specs.Step.{step}
-use Rattle.script_model.specs.Text.{reply_line}
-use Rattle.script_runner.specs.declared.run_end.RunEnd.{RunEnd}
+use Rattle.script_runner.proofs.Words.{◌≡◌, ℕ, List, [], ◌∷◌, ◌++◌, inr, take, ap, refl, sym, subst, ◌∙◌, append_assoc, append-nil, append_known, DiskState, SinkState, Wrote, append_known-append, append_known-nil, World, IsWorld, Line, Reply, answers_to, replies, step, reply_line, RunEnd, AreRepliesTo, AreSameButShown, IfCut, IsReplyTo, PutReplies, PutRepliesBy, Replied, text_of, ArePlain, IsPlain, SameButShown, StandsSo}
 use Rattle.script_runner.specs.declared.run_end.RunEnd.TheVariants.{Done, BadLine as Bad, Disk, Input, Output, Memory}
-use Rattle.script_runner.specs.Replies.{AreRepliesTo, AreSameButShown, IfCut, IsReplyTo, PutReplies, PutRepliesBy, Replied, text_of}
-use Rattle.script_runner.specs.Told.{ArePlain, IsPlain, SameButShown, StandsSo}
 
 -- the text of one reply
 pub reply_is : (W : World) (number : ℕ) (said : Line) (answer : Reply) (given set : List ℕ) → given ≡ set → set ≡ reply_line said.client answer

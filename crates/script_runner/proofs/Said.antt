@@ -1,20 +1,6 @@
 -- What a line says is an operation that a machine may be asked.
-use Rattle.std.proofs.Common.{◌≡◌, refl, ap, ◌∙◌, subst, ℕ, ◌≤◌, IfOk, Bool, true, false, ◌&&◌, cond, List, [], ◌∷◌, Option, Some, None, Result, Ok, Err, nat_le, nat_lt, length, take, arith}
-use Rattle.std.proofs.lemmas.Bool.{and_parts, leb-true, ltb-false, lt-leb}
-use Rattle.std.proofs.lemmas.List.{take_all}
-use Rattle.std.specs.List.{list_all}
-use Rattle.iso_model.specs.declared.limits.TheConstants.{MAX_INPUT, MAX_LINE}
-use Rattle.script_model.specs.declared.script.Line.{Line}
-use Rattle.script_model.specs.declared.script.LineError.{LineError}
-use Rattle.script_model.specs.declared.script.Parsed.{Parsed}
+use Rattle.script_runner.proofs.Words.{◌≡◌, refl, ap, ◌∙◌, subst, ℕ, ◌≤◌, IfOk, Bool, true, false, ◌&&◌, cond, List, [], ◌∷◌, Option, Some, None, Result, Ok, Err, nat_le, nat_lt, length, take, arith, and_parts, leb-true, ltb-false, lt-leb, take_all, list_all, MAX_INPUT, MAX_LINE, Line, LineError, Parsed, Script, before_script, client_in_range, is_printable, is_skipped, no_lines, operation_of, parse, parse_whole, said, script, script_from, without_return, is_empty, number_of, pieces, words_of, AreLines, IsOp, IfGiven, any_given, given_next, given_none, given_one, script_lines, Gives, IsLine, SaysLine, HasNoFeed}
 use Rattle.script_model.specs.declared.script.Parsed.TheVariants.{Skip, Line as Says}
-use Rattle.script_model.specs.Script.{Script, before_script, client_in_range, is_printable, is_skipped, no_lines, operation_of, parse, parse_whole, said, script, script_from, without_return}
-use Rattle.script_model.specs.Text.{is_empty, number_of, pieces, words_of}
-use Rattle.script_model.specs.Operations.{AreLines, IsOp}
-use Rattle.script_model.proofs.ScriptBytes.{IfGiven, any_given, given_next, given_none, given_one, script_lines}
-use Rattle.script_text.specs.Parsing.{Gives}
-use Rattle.script_runner.specs.Lines.{IsLine, SaysLine}
-use Rattle.script_runner.specs.Run.{HasNoFeed}
 use Rattle.script_runner.proofs.Feeds.{no_feed-cons, no_feed-nil, one_piece}
 
 record InRange (client : ℕ) : Type 0 where

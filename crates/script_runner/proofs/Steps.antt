@@ -1,36 +1,9 @@
 -- Lines that are answered one after the other.
-use Rattle.std.proofs.Common.{◌≡◌, ◌≤◌, ℕ, List, [], ◌∷◌, ◌++◌, ap, refl, sym, subst, ◌∙◌, inl, inr, ⊎_elim, append_assoc, append-nil}
-use Rattle.std.specs.Prelude.{IsSome}
-use Rattle.std.specs.List.{AllByRecursion}
-use Rattle.std.specs.Io.KnownBytes.{append_known}
-use Rattle.fault_count.specs.Count.{Rose}
-use Rattle.iso_disk.specs.Disk.{DiskState, IsLawful, LeavesOnly}
-use Rattle.iso_disk.proofs.Moments.{started, weakened, at_end}
-use Rattle.iso_io.specs.Sink.{SinkState, CountsStand, Wrote}
-use Rattle.iso_io.proofs.Told.{append_known-nil}
-use Rattle.iso_model.specs.declared.access.Geometry.{Geometry}
-use Rattle.script_model.specs.declared.script.Line.{Line}
-use Rattle.iso_model.specs.History.{History, last}
-use Rattle.iso_model.specs.Image.{Shows}
-use Rattle.script_model.specs.Script.{replies, after}
-use Rattle.script_model.specs.Step.{step}
-use Rattle.script_model.specs.Text.{reply_line}
-use Rattle.iso_model.specs.World.{World}
-use Rattle.script_model.specs.Operations.{AreLines, IsOp}
-use Rattle.iso_model.specs.Worlds.{Extends, IsWorld, KeepsGeometry, LeadsTo}
-use Rattle.script_model.proofs.Steps.{after_leads, step_leads}
-use Rattle.script_runner.specs.declared.run_end.RunEnd.{RunEnd}
+use Rattle.script_runner.proofs.Words.{◌≡◌, ◌≤◌, ℕ, List, [], ◌∷◌, ◌++◌, ap, refl, sym, subst, ◌∙◌, inl, inr, ⊎_elim, append_assoc, append-nil, IsSome, AllByRecursion, append_known, Rose, DiskState, IsLawful, LeavesOnly, started, weakened, at_end, SinkState, CountsStand, Wrote, append_known-nil, Geometry, Line, History, last, Shows, replies, after, step, reply_line, World, AreLines, IsOp, Extends, IsWorld, KeepsGeometry, LeadsTo, after_leads, step_leads, RunEnd, ShowsEither, ShowsBetween, DiskCount, SinkCounts, Ran, IfTold, IsPlain, StandsSo, PutReplies, PutRepliesBy, Replied, Answered, IfUp, IsBehind, leads_on}
 use Rattle.script_runner.specs.declared.run_end.RunEnd.TheVariants.{Done, BadLine as Bad, Disk, Input, Output, Memory}
-use Rattle.iso_model.specs.Between.{ShowsEither, ShowsBetween}
-use Rattle.script_runner.specs.Counts.{DiskCount, SinkCounts}
-use Rattle.script_runner.specs.Lines.{Ran}
-use Rattle.script_runner.specs.Told.{IfTold, IsPlain, StandsSo}
-use Rattle.script_runner.specs.Replies.{PutReplies, PutRepliesBy, Replied}
-use Rattle.script_runner.specs.Run.{Answered, IfUp, IsBehind}
 use Rattle.script_runner.proofs.Acknowledged.{all_kept}
 use Rattle.script_runner.proofs.Replying.{IsQuiet, put_halted, put_more, put_none, put_quiet, quiet_replies, replied_on, wrote_on}
 use Rattle.script_runner.proofs.Histories.{between_since, runs_joined, shows_last, step_between}
-use Rattle.iso_model.proofs.Worlds.{leads_on}
 
 pub after-append : (W : World) (xs ys : List (ℕ × Line)) → after W (xs ++ ys) ≡ after (after W xs) ys
 after-append W [] ys = refl

@@ -1,9 +1,6 @@
 -- A line is cut into more words than any operation has, so the words that follow these change nothing.
-use Rattle.std.proofs.Common.{◌≡◌, ℕ, List, [], ◌∷◌, take, Ok, refl, ap}
-use Rattle.script_model.specs.Script.{client_in_range, operation_of, other_operation, said, store_operation, tree_operation, ◌>>=◌}
-use Rattle.script_model.specs.Text.{number_of}
+use Rattle.script_text.proofs.Words.{◌≡◌, ℕ, List, [], ◌∷◌, take, Ok, refl, ap, client_in_range, operation_of, other_operation, said, store_operation, tree_operation, ◌>>=◌, number_of, MOST_WORDS}
 use Rattle.script_model.specs.declared.script.Parsed.TheVariants.{Line as Says}
-use Rattle.script_text.specs.declared.word.TheConstants.{MOST_WORDS}
 
 -- an operation with more than three arguments has too many, however many they are
 operation_of-many : (name a b c d : List ℕ) (more : List (List ℕ)) → operation_of name (a ∷ b ∷ c ∷ d ∷ []) ≡ operation_of name (a ∷ b ∷ c ∷ d ∷ more)

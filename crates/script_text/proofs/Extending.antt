@@ -1,6 +1,5 @@
 -- Texts that grow.
-use Rattle.std.proofs.Common.{◌≡◌, ◌∙◌, ap, ℕ, List, ◌++◌, append_assoc, Result, Ok, Err, OnErr}
-use Rattle.script_text.specs.Printing.{Extends}
+use Rattle.script_text.proofs.Words.{◌≡◌, ◌∙◌, ap, ℕ, List, ◌++◌, append_assoc, Result, Ok, Err, OnErr, Extends}
 
 -- what extends a text that extends another extends that one
 pub on_err : {T E : Type 0} (r : Result T E) (old mid new first : List ℕ) → mid ≡ old ++ first → OnErr r (Extends mid new) → OnErr r (Extends old new)

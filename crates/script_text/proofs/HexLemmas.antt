@@ -1,14 +1,6 @@
 -- The toolchain's hexadecimal texts are those of the model.
-use Rattle.std.proofs.Common.{◌≡◌, ℕ, suc, ◌+◌, ◌*◌, ◌/◌, ◌%◌, ◌<◌, ◌≢◌, inl, inr, true, nat_eq, List, [], ◌∷◌, length, get_or, Option, Some, None, Result, Ok, Err, refl, ap, sym, ◌∙◌, arith}
-use Rattle.std.specs.Prelude.{ok_or}
-use Rattle.std.specs.Result.{result_ok}
-use Rattle.std.proofs.lemmas.Bool.{cases_Bool, cond-true, cond-false, eqb-true, agree_below_at}
-use Rattle.std.proofs.lemmas.Bool.Decides.{nat_tests}
-use Rattle.hex.specs.Hex.{decode_of, decode_pairs, digit_or_error, encode_lower, encode_with, lower_digits, hex_digit_value, ◌>>=◌}
-use Rattle.hex.specs.declared.error.FromHexError.{FromHexError}
-use Rattle.hex.specs.declared.error.FromHexError.TheVariants.{OddLength}
-use Rattle.script_model.specs.Script.{hex_argument}
-use Rattle.script_model.specs.Text.{hex_digit, hex_pair, hex_pairs, hex_of, hex_text, digit_of}
+use Rattle.script_text.proofs.Words.{◌≡◌, ℕ, suc, ◌+◌, ◌*◌, ◌/◌, ◌%◌, ◌<◌, ◌≢◌, inl, inr, true, nat_eq, List, [], ◌∷◌, length, get_or, Option, Some, None, Result, Ok, Err, refl, ap, sym, ◌∙◌, arith, ok_or, result_ok, cases_Bool, cond-true, cond-false, eqb-true, agree_below_at, nat_tests, decode_of, decode_pairs, digit_or_error, encode_lower, encode_with, lower_digits, hex_digit_value, FromHexError, OddLength, hex_argument, hex_digit, hex_pair, hex_pairs, hex_of, hex_text, digit_of}
+use Rattle.hex.specs.Hex.{◌>>=◌}
 
 -- a digit has one value
 hex_digit-value : (b : ℕ) → hex_digit b ≡ hex_digit_value b

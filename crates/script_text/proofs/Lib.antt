@@ -1,3 +1,4 @@
+pub mod Words
 pub mod WordLemmas
 pub mod HexLemmas
 pub mod HexPairs

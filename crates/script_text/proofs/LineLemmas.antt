@@ -1,12 +1,5 @@
 -- Lines that say nothing, and the carriage return at a line's end.
-use Rattle.std.proofs.Common.{◌≡◌, ℕ, ◌≢◌, inl, inr, Bool, true, false, nat_eq, List, [], ◌∷◌, ◌++◌, take, length, ◌≤◌, refl, ap, sym, ◌∙◌, arith, Bor, Option, Some, None}
-use Rattle.std.specs.Prelude.{unwrap_or, MatchOption}
-use Rattle.std.specs.List.{list_all}
-use Rattle.std.specs.Cmp.Lexicographic.{pointwise}
-use Rattle.std.proofs.lemmas.Bool.{cond-true, cond-false, ne_eqb, cases_eq, le-ltb}
-use Rattle.iso_model.specs.declared.limits.TheConstants.{MAX_LINE}
-use Rattle.script_model.specs.Script.{is_printable, is_skipped, parse, said, without_return}
-use Rattle.script_model.specs.Text.{words_of}
+use Rattle.script_text.proofs.Words.{◌≡◌, ℕ, ◌≢◌, inl, inr, Bool, true, false, nat_eq, List, [], ◌∷◌, ◌++◌, take, length, ◌≤◌, refl, ap, sym, ◌∙◌, arith, Bor, Option, Some, None, unwrap_or, MatchOption, list_all, pointwise, cond-true, cond-false, ne_eqb, cases_eq, le-ltb, MAX_LINE, is_printable, is_skipped, parse, said, without_return, words_of}
 
 -- a line that begins with no `#`, or is empty, says nothing where it is all spaces
 pub is_skipped-no_comment : (text : List ℕ) (r : Bool) → false ≡ pointwise nat_eq (35 ∷ []) (take 1 text) → r ≡ list_all (nat_eq 32) text → r ≡ is_skipped text

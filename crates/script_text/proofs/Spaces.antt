@@ -1,15 +1,5 @@
 -- Words with one space between them are the words of their line.
-use Rattle.std.proofs.Common.{◌≡◌, ◌∙◌, ◌≢◌, ap, refl, ℕ, ◌≤◌, ◌<◌, Bool, true, false, ◌&&◌, not, nat_le, List, [], ◌∷◌, ◌++◌, length, arith}
-use Rattle.std.specs.List.{list_all}
-use Rattle.std.specs.Prelude.{filter}
-use Rattle.std.proofs.lemmas.Bool.{and_parts, cond-false, ne_eqb, leb-true, le-leb}
-use Rattle.std.proofs.lemmas.Bool.Decides.{nat_tests}
-use Rattle.std.proofs.lemmas.List.Folds.{list_all-append}
-use Rattle.script_model.specs.Script.{is_printable, is_skipped}
-use Rattle.script_model.specs.Text.{before_piece, is_empty, pieces, words_of}
-use Rattle.iso_model.specs.Labels.{is_digit}
-use Rattle.script_text.specs.Spelling.{spaced}
-use Rattle.script_text.specs.Words.{is_word_byte, word_before}
+use Rattle.script_text.proofs.Words.{◌≡◌, ◌∙◌, ◌≢◌, ap, refl, ℕ, ◌≤◌, ◌<◌, Bool, true, false, ◌&&◌, not, nat_le, List, [], ◌∷◌, ◌++◌, length, arith, list_all, filter, and_parts, cond-false, ne_eqb, leb-true, le-leb, nat_tests, list_all-append, is_printable, is_skipped, before_piece, is_empty, pieces, words_of, is_digit, spaced, is_word_byte, word_before}
 use Rattle.script_text.proofs.Numerals.{IsWord}
 
 abbrev pub AreWords : List (List ℕ) → Type 0

@@ -1,10 +1,5 @@
 -- Words that are cut off a line one after the other.
-use Rattle.std.proofs.Common.{◌≡◌, ◌∙◌, sym, refl, ap, ℕ, ◌<◌, true, Bor, List, [], ◌∷◌, ◌++◌, length, take, drop, arith}
-use Rattle.std.proofs.lemmas.List.{append-nil, take-append-drop, take-map}
-use Rattle.std.specs.List.{list_all}
-use Rattle.script_model.specs.Script.{is_printable}
-use Rattle.script_model.specs.Text.{words_of}
-use Rattle.script_text.specs.Words.{is_word_byte, texts, word_before}
+use Rattle.script_text.proofs.Words.{◌≡◌, ◌∙◌, sym, refl, ap, ℕ, ◌<◌, true, Bor, List, [], ◌∷◌, ◌++◌, length, take, drop, arith, append-nil, take-append-drop, take-map, list_all, is_printable, words_of, is_word_byte, texts, word_before}
 use Rattle.script_text.proofs.Spaces.{printable_cut, printable_last, words_of-cut, words_of-last}
 
 before_some : (word : List ℕ) (words : List (List ℕ)) → 0 < length word → word_before word words ≡ word ∷ words

@@ -1,12 +1,6 @@
 -- The numbers that words spell.
-use Rattle.std.proofs.Common.{◌≡◌, ℕ, zero, suc, ◌+◌, ◌-◌, ◌*◌, ◌^◌, ◌<◌, ◌≤◌, ◌≢◌, Bool, true, false, ◌&&◌, List, [], ◌∷◌, length, get_or, drop, take, Some, None, refl, ap, sym, ◌∙◌, arith}
-use Rattle.std.specs.Prelude.{fold, nat_lt, not}
-use Rattle.std.specs.List.{list_all}
-use Rattle.std.proofs.lemmas.List.{drop_more, drop_all, take_all}
-use Rattle.std.proofs.lemmas.Bool.{and_parts, ne_eqb, cond-true, cond-false, le-ltb, lt-ltb}
-use Rattle.iso_model.specs.Labels.{is_digit}
-use Rattle.script_model.specs.Text.{is_decimal, value_of, number_of}
-use Rattle.script_text.specs.Words.{may_be_decimal}
+use Rattle.script_text.proofs.Words.{◌≡◌, ℕ, zero, suc, ◌+◌, ◌-◌, ◌*◌, ◌^◌, ◌<◌, ◌≤◌, ◌≢◌, Bool, true, false, ◌&&◌, List, [], ◌∷◌, length, get_or, drop, take, Some, None, refl, ap, sym, ◌∙◌, arith, fold, nat_lt, list_all, drop_more, drop_all, take_all, and_parts, ne_eqb, cond-true, cond-false, le-ltb, lt-ltb, is_digit, is_decimal, value_of, number_of, may_be_decimal}
+use Rattle.std.specs.Prelude.{not}
 
 -- a word is decimal where it has no zero before others, and all its bytes are digits
 is_decimal-by_parts : (word : List ℕ) → is_decimal word ≡ (may_be_decimal word && list_all is_digit word)

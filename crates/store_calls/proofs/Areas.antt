@@ -1,13 +1,5 @@
 -- Where the stores of a valid image are.
-use Rattle.std.proofs.Common.{◌≢◌, ◌+◌, ◌≤◌, IsTrue, arith}
-use Rattle.iso_model.specs.declared.access.Geometry.{Geometry}
-use Rattle.script_model.specs.declared.script.Op.{Op}
-use Rattle.script_model.specs.declared.script.Op.TheVariants.{Begin, End, Abort, Put, Read, Get, Write, Fill, Mark, Release, Takeover, Await, Trim, Stat, Compact, Upgrade, HashPut, HashGet, HashDelete, TreePut, TreeGet, TreeDelete, TreeScan}
-use Rattle.iso_model.specs.Geometry.{is_valid}
-use Rattle.iso_model.proofs.Bounds.{limits}
-use Rattle.store_model.proofs.HashAccesses.{hash_area_is}
-use Rattle.store_model.proofs.TreeAccesses.{tree_area_is}
-use Rattle.store_calls.specs.Calls.{IsStoreArea, store_area}
+use Rattle.store_calls.proofs.Words.{◌≢◌, ◌+◌, ◌≤◌, IsTrue, arith, Geometry, Op, Begin, End, Abort, Put, Read, Get, Write, Fill, Mark, Release, Takeover, Await, Trim, Stat, Compact, Upgrade, HashPut, HashGet, HashDelete, TreePut, TreeGet, TreeDelete, TreeScan, is_valid, limits, hash_area_is, tree_area_is, IsStoreArea, store_area}
 
 -- a store that is there is where it may be
 pub store_area_is : (g : Geometry) (op : Op) → IsTrue (is_valid g) → (store_area g op).blocks ≢ 0 → IsStoreArea op (store_area g op)

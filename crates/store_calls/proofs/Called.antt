@@ -1,20 +1,9 @@
 -- What a call of a store on any transaction has done.
-use Rattle.std.proofs.Common.{◌≡◌, ◌⊎◌, ◌∙◌, sym, refl, ap, subst, ℕ, true, List, [], ◌∷◌, append-nil, take, Result, Ok, Err, inl, inr}
-use Rattle.std.proofs.lemmas.Bool.{false≢true}
-use Rattle.iso_model.specs.declared.access.Access.{Access}
-use Rattle.script_model.specs.declared.script.Reply.{Reply}
-use Rattle.store_model.specs.declared.stores.StoreError.{StoreError}
+use Rattle.store_calls.proofs.Words.{◌≡◌, ◌⊎◌, ◌∙◌, sym, refl, ap, subst, ℕ, true, List, [], ◌∷◌, append-nil, take, Result, Ok, Err, inl, inr, false≢true, Access, Reply, StoreError, Program, outcome, Tx, Device, room_of, with_accesses, Began, HasEnded, IsStoreCause, Passed, WantsMemory, Array, own, Stop, HasCalled, Stops, refusal_of, replied}
 use Rattle.store_model.specs.declared.stores.StoreError.TheVariants as store
 use Rattle.store_model.specs.declared.stores.TxError.TheVariants as error
-use Rattle.store_model.specs.Stores.{Program, outcome}
-use Rattle.tx_blocks.specs.Tx.{Tx, Device, room_of, with_accesses}
-use Rattle.tx_blocks.specs.Runs.{Began, HasEnded, IsStoreCause, Passed, WantsMemory}
-use Rattle.iso_model.specs.Array.{Array}
-use Rattle.iso_model.specs.Effect.{own}
 use Rattle.script_model.specs.declared.script.Reply.TheVariants as reply
-use Rattle.script_model.specs.declared.stop.Stop.{Stop}
 use Rattle.script_model.specs.declared.stop.Stop.TheVariants as stop
-use Rattle.store_calls.specs.Calls.{HasCalled, Stops, refusal_of, replied}
 
 take-zero : {X : Type 0} (xs : List X) → ◌≡◌ {A = List X} (take 0 xs) []
 take-zero [] = refl

@@ -1,3 +1,4 @@
+pub mod Words
 pub mod Since
 pub mod Numbers
 pub mod Listed

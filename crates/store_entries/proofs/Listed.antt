@@ -1,35 +1,6 @@
 -- The calls of the transactions of a legal list answer in order.
-use Rattle.std.proofs.Common.{◌≡◌, ◌∙◌, sym, refl, ap, subst, ℕ, ◌+◌, ◌-◌, ◌<◌, ◌≤◌, ◌==◌, true, false, IfSome, List, [], ◌∷◌, ◌++◌, length, length-append, Option, Some, slice_get, arith}
-use Rattle.std.proofs.lemmas.Bool.{and_parts}
-use Rattle.iso_model.specs.declared.access.Access.{Access}
-use Rattle.iso_model.specs.declared.access.Commit.{Commit}
-use Rattle.iso_model.specs.declared.access.EndReply.{EndReply}
-use Rattle.iso_model.specs.declared.access.EndReply.TheVariants.{Committed, ReadOnly}
-use Rattle.iso_model.specs.Array.{Array}
-use Rattle.iso_model.specs.Effect.{has_write, own}
-use Rattle.iso_model.specs.History.{History, array_at, last}
-use Rattle.iso_model.specs.Premises.{appended}
-use Rattle.iso_model.specs.World.{Live}
-use Rattle.iso_model.specs.Worlds.{Extends, IsWorld}
-use Rattle.iso_model.proofs.Isolation.{slice_get_append_left}
-use Rattle.iso_shared.specs.declared.entry.Entry.{Entry}
+use Rattle.store_entries.proofs.Words.{◌≡◌, ◌∙◌, sym, refl, ap, subst, ℕ, ◌+◌, ◌-◌, ◌<◌, ◌≤◌, ◌==◌, true, false, IfSome, List, [], ◌∷◌, ◌++◌, length, length-append, Option, Some, slice_get, arith, and_parts, Access, Commit, EndReply, Committed, ReadOnly, Array, has_write, own, History, array_at, last, appended, Live, Extends, IsWorld, slice_get_append_left, Entry, Fits, IsLegal, LegalFrom, IsIsolatedAt, Start, State, after, after_all, is_live, live_of, opened, racked, state_at, tx_of, follows_all, last_longer, after_append, legal_append, times, AreMixed, BothByMap, BothInOrder, BothWellFormed, IsByBoth, IsOfBoth, firsts, accesses_in, IsOfItsBlocks, MapStore, if_some, last_of, both_commits, both_live, both_read_only, both_well_formed, image_hash, image_tree, hash_blocks, tree_blocks, array_extends, AreByCalls, AreCallsInOrderAt, CommitsAreByCalls, StoresAnswerAt, StoresAreWell, begin_array, commit_at, world_at}
 use Rattle.iso_shared.specs.declared.entry.Entry.TheVariants as entry
-use Rattle.iso_shared.specs.Legal.{Fits, IsLegal, LegalFrom}
-use Rattle.iso_shared.specs.Ports.{IsIsolatedAt}
-use Rattle.iso_shared.specs.States.{Start, State, after, after_all, is_live, live_of, opened, racked, state_at, tx_of}
-use Rattle.iso_shared.proofs.Follows.{follows_all, last_longer}
-use Rattle.iso_shared.proofs.Trace.{after_append, legal_append}
-use Rattle.turn_lock.specs.Lists.{times}
-use Rattle.store_laws.specs.Both.{AreMixed, BothByMap, BothInOrder, BothWellFormed, IsByBoth, IsOfBoth, firsts}
-use Rattle.store_laws.specs.Parts.{accesses_in}
-use Rattle.store_laws.specs.Region.{IsOfItsBlocks, MapStore}
-use Rattle.store_laws.proofs.Histories.{if_some}
-use Rattle.store_laws.proofs.Longer.{last_of}
-use Rattle.store_laws.proofs.TwoStores.{both_commits, both_live, both_read_only, both_well_formed}
-use Rattle.store_scripts.specs.Stores.{image_hash, image_tree}
-use Rattle.store_scripts.proofs.Blocks.{hash_blocks, tree_blocks}
-use Rattle.store_scripts.proofs.Commits.{array_extends}
-use Rattle.store_entries.specs.InOrder.{AreByCalls, AreCallsInOrderAt, CommitsAreByCalls, StoresAnswerAt, StoresAreWell, begin_array, commit_at, world_at}
 use Rattle.store_entries.proofs.Numbers.{end_is_next, end_writes_not}
 use Rattle.store_entries.proofs.Since.{IsBy, IsByAt, IsOf, IsSince, by_first, by_next, live_is}
 

@@ -1,14 +1,6 @@
 -- What the answers to an end tell: the number of the commit, or that there was no write.
-use Rattle.std.proofs.Common.{◌≡◌, ℕ, ◌+◌, ◌-◌, ◌==◌, Bool, true, false, cond, Option, Some, None, nat_lt, refl, sym}
-use Rattle.iso_model.specs.declared.access.Clash.{Clash}
-use Rattle.iso_model.specs.declared.core_reply.CoreReply.{CoreReply}
+use Rattle.store_entries.proofs.Words.{◌≡◌, ℕ, ◌+◌, ◌-◌, ◌==◌, Bool, true, false, cond, Option, Some, None, nat_lt, refl, sym, Clash, CoreReply, LAST, clash, has_write, last, after_commit, after_leaving, commit_step, end_step, need, Live, World, used}
 use Rattle.iso_model.specs.declared.core_reply.CoreReply.TheVariants as core
-use Rattle.iso_model.specs.declared.limits.TheConstants.{LAST}
-use Rattle.iso_model.specs.Conflict.{clash}
-use Rattle.iso_model.specs.Effect.{has_write}
-use Rattle.iso_model.specs.History.{last}
-use Rattle.iso_model.specs.Step.{after_commit, after_leaving, commit_step, end_step, need}
-use Rattle.iso_model.specs.World.{Live, World, used}
 
 module _ (V : World) (t : Live) where
   commit_is_next : (o : Option Clash) (k : ℕ) → (commit_step V t o).0 ≡ core.Committed k → k ≡ last V.history + 1

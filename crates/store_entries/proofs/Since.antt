@@ -1,30 +1,8 @@
 -- A history whose commits after some number are by calls, with transactions that began at that number or later, as entries change both.
-use Rattle.std.proofs.Common.{◌≡◌, sym, refl, ap, subst, ℕ, ◌+◌, ◌-◌, ◌<◌, ◌≤◌, ◌==◌, not, Bool, true, false, cond, IfSome, List, [], ◌∷◌, ◌++◌, length, length-append, Option, Some, None, slice_get, arith, inl, inr}
-use Rattle.std.specs.List.{AllByRecursion}
-use Rattle.std.proofs.lemmas.Bool.{cases_lt}
-use Rattle.iso_model.specs.declared.access.Access.{Access}
-use Rattle.iso_model.specs.declared.access.Commit.{Commit}
-use Rattle.iso_model.specs.declared.access.EndReply.{EndReply}
-use Rattle.iso_model.specs.declared.access.EndReply.TheVariants.{Committed, ReadOnly, Conflict}
-use Rattle.iso_model.specs.Array.{Array}
-use Rattle.iso_model.specs.History.{History, array_at, last}
-use Rattle.iso_model.specs.Premises.{appended}
-use Rattle.iso_model.specs.World.{Live, without}
-use Rattle.iso_model.proofs.Distinct.{all_filter}
-use Rattle.iso_model.proofs.Growth.{all_push, all_weaker}
-use Rattle.iso_model.proofs.Isolation.{slice_get_append_left}
-use Rattle.iso_shared.specs.declared.entry.Call.{Call}
+use Rattle.store_entries.proofs.Words.{◌≡◌, sym, refl, ap, subst, ℕ, ◌+◌, ◌-◌, ◌<◌, ◌≤◌, ◌==◌, not, Bool, true, false, cond, IfSome, List, [], ◌∷◌, ◌++◌, length, length-append, Option, Some, None, slice_get, arith, inl, inr, AllByRecursion, cases_lt, Access, Commit, EndReply, Committed, ReadOnly, Conflict, Array, History, array_at, last, appended, Live, without, all_filter, all_push, all_weaker, slice_get_append_left, Call, Cause, Entry, State, after, after_fault, after_refusal, is_live, live_of, AreMixed, BothWellFormed, IsOfBoth, MapStore, if_some, array_longer, last_of, commit_at}
 use Rattle.iso_shared.specs.declared.entry.Call.TheVariants as call
-use Rattle.iso_shared.specs.declared.entry.Cause.{Cause}
 use Rattle.iso_shared.specs.declared.entry.Cause.TheVariants as cause
-use Rattle.iso_shared.specs.declared.entry.Entry.{Entry}
 use Rattle.iso_shared.specs.declared.entry.Entry.TheVariants as entry
-use Rattle.iso_shared.specs.States.{State, after, after_fault, after_refusal, is_live, live_of}
-use Rattle.store_laws.specs.Both.{AreMixed, BothWellFormed, IsOfBoth}
-use Rattle.store_laws.specs.Region.{MapStore}
-use Rattle.store_laws.proofs.Histories.{if_some}
-use Rattle.store_laws.proofs.Longer.{array_longer, last_of}
-use Rattle.store_entries.specs.InOrder.{commit_at}
 
 -- a transaction that began at n or later, and not after m
 abbrev pub IsSince : (n m : ℕ) → Live → Type 0

@@ -1,18 +1,6 @@
 -- What no commit of a list answers whose calls answer in order.
-use Rattle.std.proofs.Common.{◌≡◌, ◌∙◌, sym, ap, subst, ℕ, ◌-◌, List, [], ◌∷◌, ◌++◌, map, Option, Some, None}
-use Rattle.iso_model.specs.declared.access.Access.{Access}
-use Rattle.iso_model.specs.declared.access.EndReply.TheVariants.{Committed, ReadOnly}
-use Rattle.iso_model.specs.History.{History, array_at}
-use Rattle.iso_shared.specs.declared.entry.Entry.{Entry}
+use Rattle.store_entries.proofs.Words.{◌≡◌, ◌∙◌, sym, ap, subst, ℕ, ◌-◌, List, [], ◌∷◌, ◌++◌, map, Option, Some, None, Access, Committed, ReadOnly, History, array_at, Entry, Start, get_op, First, IsOfBoth, firsts, StorePart, Get, Got, StoreAnswer, answers_in, calls_in, run, image_hash, image_tree, AreByCalls, AreCallsInOrderAt, begin_array, commit_at, world_at}
 use Rattle.iso_shared.specs.declared.entry.Entry.TheVariants as entry
-use Rattle.iso_shared.specs.States.{Start}
-use Rattle.store_model.specs.HashRegion.{get_op}
-use Rattle.store_laws.specs.Both.{First, IsOfBoth, firsts}
-use Rattle.store_laws.specs.BothStores.{StorePart}
-use Rattle.store_laws.specs.Calls.{Get, Got, StoreAnswer}
-use Rattle.store_laws.specs.Parts.{answers_in, calls_in, run}
-use Rattle.store_scripts.specs.Stores.{image_hash, image_tree}
-use Rattle.store_entries.specs.InOrder.{AreByCalls, AreCallsInOrderAt, begin_array, commit_at, world_at}
 
 -- the value that the first answer gives
 first_got : List StoreAnswer → Option (List ℕ)

@@ -1,18 +1,5 @@
 -- A call of the hash store or of the tree store, as a part of a transaction that calls both in disjoint areas.
-use Rattle.std.proofs.Common.{◌≡◌, ℕ, true, false, List, [], ◌∷◌, ◌++◌, Result, Ok, arith, inl, inr}
-use Rattle.std.proofs.lemmas.Bool.Decides.{nat_tests}
-use Rattle.store_model.specs.declared.stores.Area.{Area}
-use Rattle.store_model.specs.declared.stores.StoreError.{StoreError}
-use Rattle.iso_model.specs.Array.{Array}
-use Rattle.store_model.specs.Stores.{Program}
-use Rattle.tx_blocks.specs.Runs.{HasEnded, IsLocalCall}
-use Rattle.tx_blocks.specs.Tx.{Tx, added}
-use Rattle.store_laws.specs.Both.{First, Second}
-use Rattle.store_laws.specs.BothStores.{IsMadeOfStores, StorePart}
-use Rattle.store_laws.specs.Calls.{AreDisjoint, KeyCall, StoreAnswer, in_area}
-use Rattle.store_laws.specs.Hash.{hash_store}
-use Rattle.store_laws.specs.Tree.{TreeCall, tree_store}
-use Rattle.store_laws.specs.Writes.{WriteWithin}
+use Rattle.store_laws.proofs.Words.{◌≡◌, ℕ, true, false, List, [], ◌∷◌, ◌++◌, Result, Ok, arith, inl, inr, nat_tests, Area, StoreError, Array, Program, HasEnded, IsLocalCall, Tx, added, First, Second, IsMadeOfStores, StorePart, AreDisjoint, KeyCall, StoreAnswer, in_area, hash_store, TreeCall, tree_store, WriteWithin}
 use Rattle.store_laws.proofs.BothGrowth.{first_called, second_called}
 use Rattle.store_laws.proofs.Programs.{spare_where_apart}
 

@@ -1,18 +1,5 @@
 -- A transaction grows by calls of two stores and by other accesses.
-use Rattle.std.proofs.Common.{◌≡◌, ◌⊎◌, ◌∙◌, sym, refl, ap, subst, List, [], ◌∷◌, ◌++◌, append_assoc, append-nil, Some}
-use Rattle.iso_model.specs.declared.access.Access.{Access}
-use Rattle.iso_model.specs.declared.access.Commit.{Commit}
-use Rattle.iso_model.specs.declared.access.Mode.TheVariants.{Serial}
-use Rattle.iso_model.specs.Array.{Array}
-use Rattle.iso_model.specs.Effect.{own}
-use Rattle.iso_model.specs.History.{History, array_at}
-use Rattle.tx_blocks.proofs.Progress.{added_is, own_append}
-use Rattle.tx_blocks.specs.Runs.{HasRead, IsLocalCall}
-use Rattle.tx_blocks.specs.Tx.{Tx, added, with_accesses}
-use Rattle.store_laws.specs.Both.{AreMixed, First, IsOfBoth, Mixed, MixedParts, Neither, Second, firsts, seconds}
-use Rattle.store_laws.specs.Growing.{IsMadeOfBoth}
-use Rattle.store_laws.specs.Parts.{accesses_in, calls_in}
-use Rattle.store_laws.specs.Region.{MapStore, SpareRegion}
+use Rattle.store_laws.proofs.Words.{◌≡◌, ◌⊎◌, ◌∙◌, sym, refl, ap, subst, List, [], ◌∷◌, ◌++◌, append_assoc, append-nil, Some, Access, Commit, Serial, Array, own, History, array_at, added_is, own_append, HasRead, IsLocalCall, Tx, added, with_accesses, AreMixed, First, IsOfBoth, Mixed, MixedParts, Neither, Second, firsts, seconds, IsMadeOfBoth, accesses_in, calls_in, MapStore, SpareRegion}
 use Rattle.store_laws.proofs.Growth.{reads_spare}
 
 module _ (s t : MapStore) where

@@ -1,22 +1,7 @@
 -- Gets behind puts into a hash store and into a tree store, in one transaction.
-use Rattle.std.proofs.Common.{◌≡◌, ◌∙◌, sym, ap, subst, ℕ, List, [], ◌∷◌, Option, Some, Ok}
-use Rattle.std.specs.FinMap.{get, insert}
-use Rattle.store_model.specs.declared.stores.Area.{Area}
-use Rattle.store_model.specs.declared.stores.Region.{Region}
-use Rattle.iso_model.specs.Array.{Array}
+use Rattle.store_laws.proofs.Words.{◌≡◌, ◌∙◌, sym, ap, subst, ℕ, List, [], ◌∷◌, Option, Some, Ok, get, insert, Area, Region, Array, IsHashArea, IsHashRegion, get_op, hash_map, put_op, IsTreeArea, IsTreeRegion, tree_map, HasEnded, IsLocalCall, area_of, Tx, added, First, Second, StorePart, AreDisjoint, Get, Got, Put, WasPut, hash_store, hash_is_of_its_blocks, OnKey, tree_store, tree_is_of_its_blocks}
 use Rattle.store_model.specs.HashCalls as hash
-use Rattle.store_model.specs.HashRegion.{IsHashArea, IsHashRegion, get_op, hash_map, put_op}
 use Rattle.store_model.specs.TreeCalls as tree
-use Rattle.store_model.specs.TreeRegion.{IsTreeArea, IsTreeRegion, tree_map}
-use Rattle.tx_blocks.specs.Runs.{HasEnded, IsLocalCall, area_of}
-use Rattle.tx_blocks.specs.Tx.{Tx, added}
-use Rattle.store_laws.specs.Both.{First, Second}
-use Rattle.store_laws.specs.BothStores.{StorePart}
-use Rattle.store_laws.specs.Calls.{AreDisjoint, Get, Got, Put, WasPut}
-use Rattle.store_laws.specs.Hash.{hash_store}
-use Rattle.store_laws.specs.HashBlocks.{hash_is_of_its_blocks}
-use Rattle.store_laws.specs.Tree.{OnKey, tree_store}
-use Rattle.store_laws.specs.TreeBlocks.{tree_is_of_its_blocks}
 use Rattle.store_laws.proofs.BothCalls.{hash_part, tree_part}
 use Rattle.store_laws.proofs.BothGrowth.{both_begun}
 use Rattle.store_laws.proofs.HashWrites as hash_writes

@@ -1,16 +1,5 @@
 -- A transaction grows by calls of a store and by other accesses.
-use Rattle.std.proofs.Common.{◌≡◌, ◌∙◌, sym, refl, ap, subst, List, [], ◌∷◌, ◌++◌, append_assoc, append-nil, Some}
-use Rattle.std.proofs.lemmas.Bool.{both_ways}
-use Rattle.iso_model.specs.declared.access.Access.{Access}
-use Rattle.iso_model.specs.Array.{Array}
-use Rattle.iso_model.specs.Effect.{is_write, own}
-use Rattle.store_model.specs.Stores.{AreReads}
-use Rattle.tx_blocks.specs.Runs.{HasRead, IsLocalCall}
-use Rattle.tx_blocks.specs.Tx.{Tx, added, with_accesses}
-use Rattle.store_laws.specs.Growing.{IsMadeOf}
-use Rattle.store_laws.specs.Parts.{AreMade, Called, Other, Part, accesses_in}
-use Rattle.store_laws.specs.Region.{SpareRegion, MapStore}
-use Rattle.tx_blocks.proofs.Progress.{added_is, own_append}
+use Rattle.store_laws.proofs.Words.{◌≡◌, ◌∙◌, sym, refl, ap, subst, List, [], ◌∷◌, ◌++◌, append_assoc, append-nil, Some, both_ways, Access, Array, is_write, own, AreReads, HasRead, IsLocalCall, Tx, added, with_accesses, IsMadeOf, AreMade, Called, Other, Part, accesses_in, SpareRegion, MapStore, added_is, own_append}
 
 -- the accesses of parts, and of parts after them
 pub accesses_append : (s : MapStore) (parts more : List (Part s.Call s.Answer)) → accesses_in (parts ++ more) ≡ accesses_in parts ++ accesses_in more

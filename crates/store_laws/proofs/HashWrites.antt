@@ -1,23 +1,5 @@
 -- The calls of the hash store write blocks of its area alone.
-use Rattle.std.proofs.Common.{◌≡◌, refl, ℕ, zero, suc, ◌+◌, ◌<◌, Bool, true, false, ◌==◌, not, List, Option, Some, None, IfSome, Ok, arith}
-use Rattle.std.proofs.lemmas.Bool.{eqb-false}
-use Rattle.store_model.specs.declared.stores.Area.{Area}
-use Rattle.store_model.specs.declared.stores.Spot.{Spot}
-use Rattle.iso_model.specs.Array.{Array}
-use Rattle.store_model.specs.Cells.{cell_with, unused_cell}
-use Rattle.store_model.specs.FreeMap.{lowest_free, map_bit}
-use Rattle.store_model.specs.HashCalls.{AtBroken, AtCell, AtEnd, Walked, at_cell, del_at, del_program, get_program, got, is_spent, put_at, put_new, put_program, spare_in, spot_in, walk, walk_from}
-use Rattle.store_model.specs.HashRegion.{IsHashArea, bucket_of, buckets, is_linked, last_position, next_of}
-use Rattle.store_model.specs.Stores.{Done, Program}
-use Rattle.tx_blocks.specs.Runs.{HasEnded}
-use Rattle.tx_blocks.specs.Tx.{Tx, added}
-use Rattle.iso_hash.proofs.Chains.{head_of, next_in}
-use Rattle.iso_hash.proofs.Gets.{bucket_below}
-use Rattle.store_model.proofs.HashAccesses.{first_below}
-use Rattle.store_laws.specs.AreaBlocks.{in_its_area, start_in}
-use Rattle.store_laws.specs.Calls.{in_area}
-use Rattle.store_laws.specs.Hash.{hash_store}
-use Rattle.store_laws.specs.Writes.{WriteWithin}
+use Rattle.store_laws.proofs.Words.{◌≡◌, refl, ℕ, zero, suc, ◌+◌, ◌<◌, Bool, true, false, ◌==◌, not, List, Option, Some, None, IfSome, Ok, arith, eqb-false, Area, Spot, Array, cell_with, unused_cell, lowest_free, map_bit, AtBroken, AtCell, AtEnd, Walked, at_cell, del_at, del_program, get_program, got, is_spent, put_at, put_new, put_program, spare_in, spot_in, walk, walk_from, IsHashArea, bucket_of, buckets, is_linked, last_position, next_of, Done, Program, HasEnded, Tx, added, head_of, next_in, bucket_below, first_below, in_its_area, start_in, in_area, hash_store, WriteWithin}
 use Rattle.store_laws.proofs.Programs.{Answers, StoresIn, answers_cond, ended_within, stores_cell, stores_cond, stores_then}
 
 -- where a walk ends lies in the area

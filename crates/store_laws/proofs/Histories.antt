@@ -1,16 +1,5 @@
 -- A history of commits that write a region by calls alone, and transactions without writes.
-use Rattle.std.proofs.Common.{◌≡◌, ◌⊎◌, ◌∙◌, sym, refl, ap, subst, ℕ, zero, suc, ◌+◌, ◌-◌, ◌<◌, ◌≤◌, Bool, true, false, ◌||◌, cond, IfSome, List, [], ◌∷◌, ◌++◌, length, map, Option, Some, None, slice_get, arith, inl, inr}
-use Rattle.iso_model.specs.declared.access.Access.{Access}
-use Rattle.iso_model.specs.declared.access.Commit.{Commit}
-use Rattle.iso_model.specs.declared.access.Geometry.{Geometry}
-use Rattle.iso_model.specs.declared.access.Mode.{Mode}
-use Rattle.iso_model.specs.Array.{Array, put}
-use Rattle.iso_model.specs.Conflict.{IsSerialAt}
-use Rattle.iso_model.specs.Effect.{has_write, is_write, own}
-use Rattle.iso_model.specs.History.{History, array_at, last}
-use Rattle.iso_model.specs.Isolation.{HasSeen, IsIsolatedAt}
-use Rattle.store_laws.specs.Region.{IsOfItsBlocks, MapStore}
-use Rattle.store_laws.specs.Parts.{AnswerInOrder, AreMade, Called, IsByCalls, IsOfCalls, Other, Part, accesses_in, answers_in, calls_in}
+use Rattle.store_laws.proofs.Words.{◌≡◌, ◌⊎◌, ◌∙◌, sym, refl, ap, subst, ℕ, zero, suc, ◌+◌, ◌-◌, ◌<◌, ◌≤◌, Bool, true, false, ◌||◌, cond, IfSome, List, [], ◌∷◌, ◌++◌, length, map, Option, Some, None, slice_get, arith, inl, inr, Access, Commit, Geometry, Mode, Array, put, IsSerialAt, has_write, is_write, own, History, array_at, last, HasSeen, IsIsolatedAt, IsOfItsBlocks, MapStore, AnswerInOrder, AreMade, Called, IsByCalls, IsOfCalls, Other, Part, accesses_in, answers_in, calls_in}
 use Rattle.store_laws.proofs.InOrder.{commit_by, live_in_order, same_shape}
 
 -- a commit that has seen what it should, and makes no calls or is serial

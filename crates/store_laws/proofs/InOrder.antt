@@ -1,18 +1,5 @@
 -- The calls of a transaction answer as one thread's calls on a map.
-use Rattle.std.proofs.Common.{◌≡◌, ◌⊎◌, ◌∙◌, sym, refl, ap, subst, ℕ, ◌-◌, ◌<◌, ◌≤◌, Bool, true, false, cond, IsTrue, List, [], ◌∷◌, ◌++◌, Some, slice_get, inl, inr}
-use Rattle.std.proofs.lemmas.Bool.{both_ways}
-use Rattle.iso_model.specs.declared.access.Access.{Access}
-use Rattle.iso_model.specs.declared.access.Commit.{Commit}
-use Rattle.iso_model.specs.Array.{Array, put}
-use Rattle.iso_model.specs.Conflict.{IsSerialAt}
-use Rattle.iso_model.specs.Effect.{is_write, own}
-use Rattle.iso_model.specs.History.{History, array_at}
-use Rattle.iso_model.specs.Premises.{block_at}
-use Rattle.store_model.specs.Stores.{SameShape}
-use Rattle.iso_model.proofs.Bytes.{other_block}
-use Rattle.tx_blocks.proofs.Progress.{own_append}
-use Rattle.store_laws.specs.Region.{IsOfItsBlocks, SameRegion, SpareRegion, MapStore}
-use Rattle.store_laws.specs.Parts.{AnswerInOrder, AreMade, Called, Other, Part, accesses_in, calls_in, run}
+use Rattle.store_laws.proofs.Words.{◌≡◌, ◌⊎◌, ◌∙◌, sym, refl, ap, subst, ℕ, ◌-◌, ◌<◌, ◌≤◌, Bool, true, false, cond, IsTrue, List, [], ◌∷◌, ◌++◌, Some, slice_get, inl, inr, both_ways, Access, Commit, Array, put, IsSerialAt, is_write, own, History, array_at, block_at, SameShape, other_block, own_append, IsOfItsBlocks, SameRegion, SpareRegion, MapStore, AnswerInOrder, AreMade, Called, Other, Part, accesses_in, calls_in, run}
 use Rattle.store_laws.proofs.SameReads.{SameReads, agree_where, array_next, next, reads_split, same_shape_at, same_shape_own, serial_reads}
 
 spare_access : (s : MapStore) (a : Access) (test : Bool) (A : Array) (b : ℕ) → (IsTrue test → s.has_block a.block ≡ false) → s.has_block b ≡ true

@@ -1,12 +1,5 @@
 -- What the calls of the stores promise, under the one type of answers.
-use Rattle.std.proofs.Common.{ap, ℕ, Bool, List, Option}
-use Rattle.iso_model.specs.Array.{Array}
-use Rattle.store_model.specs.HashRegion.{Pairs, del_op, get_op, put_op}
-use Rattle.store_model.specs.TreeRegion.{scan_op}
-use Rattle.tx_blocks.specs.Runs.{IsLocalCall}
-use Rattle.tx_blocks.specs.Tx.{Tx}
-use Rattle.store_laws.specs.Calls.{Del, Found, Get, Got, Put, StoreAnswer, WasPut, WasThere, key_act}
-use Rattle.store_laws.specs.Tree.{Scan, tree_act}
+use Rattle.store_laws.proofs.Words.{ap, ℕ, Bool, List, Option, Array, Pairs, del_op, get_op, put_op, scan_op, IsLocalCall, Tx, Del, Found, Get, Got, Put, StoreAnswer, WasPut, WasThere, key_act, Scan, tree_act}
 
 module _ (IsWellFormed : Array → Type 0) (map_of : Array → Pairs) where
   -- an operation whose answer is named

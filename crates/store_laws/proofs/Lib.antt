@@ -1,3 +1,4 @@
+pub mod Words
 pub mod SameReads
 pub mod InOrder
 pub mod Histories

@@ -1,20 +1,5 @@
 -- A history stays one whose commits write a region, or two, by calls alone, as commits come to it.
-use Rattle.std.proofs.Common.{◌≡◌, ◌⊎◌, ◌∙◌, sym, refl, ap, subst, ℕ, zero, suc, ◌+◌, ◌-◌, ◌<◌, ◌≤◌, IfSome, List, [], ◌∷◌, ◌++◌, length, Option, Some, slice_get, arith, inl, inr}
-use Rattle.std.proofs.lemmas.Bool.{cases_lt}
-use Rattle.std.proofs.lemmas.List.{length-append, take-append-le}
-use Rattle.iso_model.specs.declared.access.Commit.{Commit}
-use Rattle.iso_model.specs.declared.access.Geometry.{Geometry}
-use Rattle.iso_model.specs.declared.access.Mode.TheVariants.{Serial}
-use Rattle.iso_model.specs.Array.{Array}
-use Rattle.iso_model.specs.History.{History, all_own, array_at, last}
-use Rattle.iso_model.specs.Isolation.{HasSeen, IsIsolated}
-use Rattle.iso_model.specs.Premises.{IsHistory, appended}
-use Rattle.iso_model.proofs.Isolation.{slice_get_append_left}
-use Rattle.tx_blocks.specs.Tx.{Tx}
-use Rattle.store_laws.specs.Both.{AreMixed, BothWellFormed, IsByBoth, IsOfBoth}
-use Rattle.store_laws.specs.Growing.{IsMadeOf}
-use Rattle.store_laws.specs.Parts.{AreMade, IsByCalls, IsOfCalls, Part, calls_in}
-use Rattle.store_laws.specs.Region.{MapStore}
+use Rattle.store_laws.proofs.Words.{◌≡◌, ◌⊎◌, ◌∙◌, sym, refl, ap, subst, ℕ, zero, suc, ◌+◌, ◌-◌, ◌<◌, ◌≤◌, IfSome, List, [], ◌∷◌, ◌++◌, length, Option, Some, slice_get, arith, inl, inr, cases_lt, length-append, take-append-le, Commit, Geometry, Serial, Array, History, all_own, array_at, last, HasSeen, IsIsolated, IsHistory, appended, slice_get_append_left, Tx, AreMixed, BothWellFormed, IsByBoth, IsOfBoth, IsMadeOf, AreMade, IsByCalls, IsOfCalls, Part, calls_in, MapStore}
 use Rattle.store_laws.proofs.Histories.{two_if}
 
 pub array_longer : (H : History) (c : Commit) (n : ℕ) → 0 < H.first → n ≤ last H → array_at (appended H c) n ≡ array_at H n

@@ -1,18 +1,5 @@
 -- What a program may answer, and which blocks it may write, whatever it reads.
-use Rattle.std.proofs.Common.{◌≡◌, refl, subst, ℕ, Bool, true, false, cond, List, [], ◌∷◌, Option, Some, None, Result, Ok}
-use Rattle.std.proofs.lemmas.Bool.{both_ways}
-use Rattle.iso_model.specs.declared.access.Access.{Access}
-use Rattle.store_model.specs.declared.stores.StoreError.{StoreError}
-use Rattle.iso_model.specs.Array.{Array, put}
-use Rattle.iso_model.specs.Effect.{is_write, own}
-use Rattle.store_model.specs.HashCalls.{at_cell}
-use Rattle.iso_model.specs.Premises.{block_at}
-use Rattle.store_model.specs.Stores.{AreReads, Done, Look, LookWhole, Program, Reserve, Store, accesses_of, bytes_in, further_bytes, store_access, then_do}
-use Rattle.tx_blocks.proofs.Progress.{whole_run}
-use Rattle.tx_blocks.specs.Runs.{HasEnded}
-use Rattle.tx_blocks.specs.Tx.{Tx, added}
-use Rattle.store_laws.specs.Region.{MapStore, SpareRegion}
-use Rattle.store_laws.specs.Writes.{AreApart, WriteWithin}
+use Rattle.store_laws.proofs.Words.{◌≡◌, refl, subst, ℕ, Bool, true, false, cond, List, [], ◌∷◌, Option, Some, None, Result, Ok, both_ways, Access, StoreError, Array, put, is_write, own, at_cell, block_at, AreReads, Done, Look, LookWhole, Program, Reserve, Store, accesses_of, bytes_in, further_bytes, store_access, then_do, whole_run, HasEnded, Tx, added, MapStore, SpareRegion, AreApart, WriteWithin}
 
 -- each answer that it may give has the property
 abbrev pub Answers : {R : Type 0} → (R → Type 0) → Program R → Type 0

@@ -1,21 +1,5 @@
 -- A get behind a put of its key, in one transaction.
-use Rattle.std.proofs.Common.{◌≡◌, ◌∙◌, sym, refl, ap, subst, ℕ, cond, List, [], ◌∷◌, Option, Some, Ok, Err, IfOk, Result}
-use Rattle.std.specs.Cmp.Lexicographic.{nat_list_cmp_total}
-use Rattle.std.specs.FinMap.{get, get-insert, insert}
-use Rattle.std.proofs.lemmas.Slice.Eq.{bytes_eq-Decides}
-use Rattle.store_model.specs.declared.stores.Area.{Area}
-use Rattle.store_model.specs.declared.stores.Region.{Region}
-use Rattle.store_model.specs.declared.stores.StoreError.{StoreError}
-use Rattle.iso_model.specs.Array.{Array}
-use Rattle.store_model.specs.HashCalls.{get_program, put_program}
-use Rattle.store_model.specs.HashRegion.{IsHashArea, IsHashRegion, Pairs, get_op, hash_map, put_op}
-use Rattle.tx_blocks.specs.Runs.{HasEnded, IsLocalCall, area_of}
-use Rattle.tx_blocks.specs.Tx.{Tx, added}
-use Rattle.iso_hash.proofs.Finding.{ties}
-use Rattle.store_laws.specs.Calls.{Get, Got, Put, WasPut}
-use Rattle.store_laws.specs.Hash.{hash_store}
-use Rattle.store_laws.specs.HashBlocks.{hash_is_of_its_blocks}
-use Rattle.store_laws.specs.Parts.{Called}
+use Rattle.store_laws.proofs.Words.{◌≡◌, ◌∙◌, sym, refl, ap, subst, ℕ, cond, List, [], ◌∷◌, Option, Some, Ok, Err, IfOk, Result, nat_list_cmp_total, get, get-insert, insert, bytes_eq-Decides, Area, Region, StoreError, Array, get_program, put_program, IsHashArea, IsHashRegion, Pairs, get_op, hash_map, put_op, HasEnded, IsLocalCall, area_of, Tx, added, ties, Get, Got, Put, WasPut, hash_store, hash_is_of_its_blocks, Called}
 use Rattle.store_laws.proofs.Growth.{begun, called}
 use Rattle.store_laws.proofs.InOrder.{live_in_order}
 use Rattle.store_laws.proofs.KeyCalls.{got_local, put_local}

@@ -1,20 +1,6 @@
 -- A scan behind a put, in one transaction.
-use Rattle.std.proofs.Common.{◌≡◌, ◌⊎◌, sym, ap, subst, ℕ, List, [], ◌∷◌, Some, Ok, Err, IfOk, Result}
-use Rattle.std.specs.FinMap.{insert}
-use Rattle.store_model.specs.declared.stores.Area.{Area}
-use Rattle.store_model.specs.declared.stores.Region.{Region}
-use Rattle.store_model.specs.declared.stores.StoreError.{StoreError}
-use Rattle.iso_model.specs.Array.{Array}
-use Rattle.store_model.specs.HashRegion.{put_op}
-use Rattle.store_model.specs.TreeCalls.{put_program, scan_program}
-use Rattle.store_model.specs.TreeRegion.{IsTreeArea, IsTreeRegion, scan_op, tree_map}
-use Rattle.tx_blocks.specs.Runs.{HasEnded, IsLocalCall, WantsMemory, area_of}
-use Rattle.tx_blocks.proofs.Parts.{scanned_ok}
-use Rattle.tx_blocks.specs.Tx.{Tx, added}
-use Rattle.store_laws.specs.Calls.{Found, Put, WasPut}
-use Rattle.store_laws.specs.Parts.{Called}
-use Rattle.store_laws.specs.Tree.{OnKey, Scan, tree_store}
-use Rattle.store_laws.specs.TreeBlocks.{tree_is_of_its_blocks}
+use Rattle.store_laws.proofs.Words.{◌≡◌, ◌⊎◌, sym, ap, subst, ℕ, List, [], ◌∷◌, Some, Ok, Err, IfOk, Result, insert, Area, Region, StoreError, Array, put_op, scan_program, IsTreeArea, IsTreeRegion, scan_op, tree_map, HasEnded, IsLocalCall, WantsMemory, area_of, scanned_ok, Tx, added, Found, Put, WasPut, Called, OnKey, Scan, tree_store, tree_is_of_its_blocks}
+use Rattle.store_model.specs.TreeCalls.{put_program}
 use Rattle.store_laws.proofs.Growth.{begun, called}
 use Rattle.store_laws.proofs.InOrder.{live_in_order}
 use Rattle.store_laws.proofs.KeyCalls.{put_local, scan_local}

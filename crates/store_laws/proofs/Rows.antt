@@ -1,20 +1,5 @@
 -- Counters in the first bytes of blocks, as stores: what the laws say of additions, and what they refuse.
-use Rattle.std.proofs.Common.{◌≡◌, ◌∙◌, sym, refl, ap, ℕ, zero, suc, ◌+◌, ◌==◌, true, false, List, [], ◌∷◌, length, replicate, slice_get, arith, inr, eq-eqb, get_or}
-use Rattle.iso_model.specs.declared.access.Access.{Access}
-use Rattle.iso_model.specs.declared.access.Commit.{Commit}
-use Rattle.iso_model.specs.declared.access.Mode.TheVariants.{Serial}
-use Rattle.iso_model.specs.declared.access.Span.{Span}
-use Rattle.iso_model.specs.Array.{Array, byte_at, put, zeros}
-use Rattle.iso_model.specs.Conflict.{IsSerialAt}
-use Rattle.iso_model.specs.Effect.{own}
-use Rattle.iso_model.specs.History.{History, array_at}
-use Rattle.iso_model.specs.Premises.{block_at}
-use Rattle.store_model.specs.Stores.{IsLocal, depends, look_access, store_access}
-use Rattle.iso_model.proofs.Bytes.{length-block_put, put_here}
-use Rattle.iso_model.proofs.Isolation.{if_some_from}
-use Rattle.store_laws.specs.Parts.{AnswerInOrder, AreMade, Called, Part, accesses_in, run}
-use Rattle.store_laws.specs.Region.{IsOfItsBlocks, SpareRegion, MapStore}
-use Rattle.store_laws.specs.Both.{BothInOrder, First, MixedParts, Second, firsts}
+use Rattle.store_laws.proofs.Words.{◌≡◌, ◌∙◌, sym, refl, ap, ℕ, zero, suc, ◌+◌, ◌==◌, true, false, List, [], ◌∷◌, length, replicate, slice_get, arith, inr, eq-eqb, get_or, Access, Commit, Serial, Span, Array, byte_at, put, zeros, IsSerialAt, own, History, array_at, block_at, IsLocal, depends, look_access, store_access, length-block_put, put_here, if_some_from, AnswerInOrder, AreMade, Called, Part, accesses_in, run, IsOfItsBlocks, SpareRegion, MapStore, BothInOrder, First, MixedParts, Second, firsts}
 use Rattle.store_laws.proofs.InOrder.{commit_by}
 use Rattle.store_laws.proofs.TwoStores.{both_live}
 

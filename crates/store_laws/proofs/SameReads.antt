@@ -1,17 +1,5 @@
 -- What reads show on two arrays, and the bytes that a call depends on.
-use Rattle.std.proofs.Common.{◌≡◌, ◌∙◌, sym, refl, ap, ℕ, zero, suc, ◌+◌, ◌-◌, ◌<◌, ◌≤◌, Bool, true, false, ◌&&◌, ◌==◌, not, cond, IsTrue, IfSome, List, [], ◌∷◌, ◌++◌, get_or, take, Option, Some, slice_get, option_map, unwrap_or, arith, inl, inr, eq-eqb, subst}
-use Rattle.std.proofs.lemmas.Bool.{and_parts, cases_eq, eqb-true, or_cases}
-use Rattle.std.proofs.lemmas.Option.{none-some, same_Some}
-use Rattle.iso_model.specs.declared.access.Access.{Access}
-use Rattle.iso_model.specs.declared.access.Commit.{Commit}
-use Rattle.iso_model.specs.declared.access.Kind.TheVariants.{Read, Write}
-use Rattle.iso_model.specs.Array.{Array, byte_at, covered, put}
-use Rattle.iso_model.specs.Conflict.{IsSerialAt}
-use Rattle.iso_model.specs.Effect.{covers, is_write, own}
-use Rattle.iso_model.specs.History.{History, all_own, array_at, shown}
-use Rattle.iso_model.specs.Premises.{block_at}
-use Rattle.store_model.specs.Stores.{Agree, SameShape}
-use Rattle.iso_model.proofs.Bytes.{length-all_own, length-block_all_own, length-block_own, length-own, other_block, put_kept}
+use Rattle.store_laws.proofs.Words.{◌≡◌, ◌∙◌, sym, refl, ap, ℕ, zero, suc, ◌+◌, ◌-◌, ◌<◌, ◌≤◌, Bool, true, false, ◌&&◌, ◌==◌, not, cond, IsTrue, IfSome, List, [], ◌∷◌, ◌++◌, get_or, take, Option, Some, slice_get, option_map, unwrap_or, arith, inl, inr, eq-eqb, subst, and_parts, cases_eq, eqb-true, or_cases, none-some, same_Some, Access, Commit, Read, Write, Array, byte_at, covered, put, IsSerialAt, covers, is_write, own, History, all_own, array_at, shown, block_at, Agree, SameShape, length-all_own, length-block_all_own, length-block_own, length-own, other_block, put_kept}
 
 -- the array after one access
 abbrev pub next : Array → Access → Array

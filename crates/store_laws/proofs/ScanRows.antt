@@ -1,16 +1,6 @@
 -- One thread's calls of a tree store on a finite map, worked out.
-use Rattle.std.proofs.Common.{◌≡◌, ◌∙◌, refl, ap, true, false, List, [], ◌∷◌, ◌++◌, ℕ, take}
-use Rattle.std.specs.Cmp.Lexicographic.{nat_list_cmp_total, slice_cmp}
-use Rattle.std.specs.FinMap.{entries, entries-insert, from_entries, insert, put}
-use Rattle.std.specs.List.{filter}
-use Rattle.std.specs.Ordering.{nat_cmp}
-use Rattle.store_model.specs.declared.stores.Area.{Area}
-use Rattle.store_model.specs.HashRegion.{Pairs}
-use Rattle.store_model.specs.TreeRegion.{is_within}
-use Rattle.iso_tree.proofs.Sorted.{entries_are}
-use Rattle.store_laws.specs.Calls.{Found, Put, StoreAnswer, WasPut, in_area}
-use Rattle.store_laws.specs.Parts.{run}
-use Rattle.store_laws.specs.Tree.{OnKey, Scan, TreeCall, tree_store}
+use Rattle.store_laws.proofs.Words.{◌≡◌, ◌∙◌, refl, ap, true, false, List, [], ◌∷◌, ◌++◌, ℕ, take, nat_list_cmp_total, slice_cmp, entries, entries-insert, from_entries, insert, filter, nat_cmp, Area, Pairs, is_within, entries_are, Found, Put, StoreAnswer, WasPut, in_area, run, OnKey, Scan, TreeCall, tree_store}
+use Rattle.std.specs.FinMap.{put}
 
 -- four blocks from block 3 on
 abbrev four_blocks : Area

@@ -1,20 +1,5 @@
 -- Two snapshots that are isolated and whose calls are in no order: so snapshots make no calls.
-use Rattle.std.proofs.Common.{◌≡◌, ◌∙◌, sym, refl, ap, subst, ℕ, zero, suc, ◌-◌, ◌<◌, ◌≤◌, ◌==◌, Bool, true, false, cond, List, [], ◌∷◌, IfSome, IsTrue, length, replicate, slice_get, arith, inl, inr, get_or}
-use Rattle.std.proofs.lemmas.Bool.{and_parts, false≢true, leb-true, ltb-true, or_cases}
-use Rattle.iso_model.specs.declared.access.Access.{Access}
-use Rattle.iso_model.specs.declared.access.Commit.{Commit}
-use Rattle.iso_model.specs.declared.access.Mode.TheVariants.{Snapshot}
-use Rattle.iso_model.specs.declared.access.Span.{Span}
-use Rattle.iso_model.specs.Array.{Array, byte_at, covered, in_span, put}
-use Rattle.iso_model.specs.Conflict.{IsSnapshotAt, Meets}
-use Rattle.iso_model.specs.Effect.{is_write}
-use Rattle.iso_model.specs.History.{History, array_at}
-use Rattle.iso_model.specs.Premises.{block_at}
-use Rattle.store_model.specs.Stores.{IsLocal, look_access, store_access}
-use Rattle.iso_model.proofs.Bytes.{length-block_put, put_here, put_kept}
-use Rattle.iso_model.proofs.Rows.{small}
-use Rattle.store_laws.specs.Parts.{AnswerInOrder, AreMade, Called}
-use Rattle.store_laws.specs.Region.{MapStore}
+use Rattle.store_laws.proofs.Words.{◌≡◌, ◌∙◌, sym, refl, ap, subst, ℕ, zero, suc, ◌-◌, ◌<◌, ◌≤◌, ◌==◌, Bool, true, false, cond, List, [], ◌∷◌, IfSome, IsTrue, length, replicate, slice_get, arith, inl, inr, get_or, and_parts, false≢true, leb-true, ltb-true, or_cases, Access, Commit, Snapshot, Span, Array, byte_at, covered, in_span, put, IsSnapshotAt, Meets, is_write, History, array_at, block_at, IsLocal, look_access, store_access, length-block_put, put_here, put_kept, small, AnswerInOrder, AreMade, Called, MapStore}
 
 -- two numbers in block 0: a call copies the second over the first, or the first over the second, and answers what it copied
 abbrev two_numbers : MapStore

@@ -1,22 +1,5 @@
 -- A region of zeros is a well-formed tree region, and its map is empty.
-use Rattle.std.proofs.Common.{◌≡◌, ◌∙◌, sym, ap, subst, ℕ, ◌+◌, ◌<◌, ◌≤◌, ◌==◌, Bool, true, false, cond, List, [], length, replicate, arith, inl, eq-eqb}
-use Rattle.std.specs.List.{list_all}
-use Rattle.std.specs.Int.{from_be_bytes, w32}
-use Rattle.std.specs.FinMap.{empty, from_entries}
-use Rattle.std.proofs.lemmas.Bool.{both_ways}
-use Rattle.std.proofs.lemmas.Bool.Decides.{nat_tests}
-use Rattle.std.proofs.lemmas.List.{length-replicate}
-use Rattle.store_model.specs.declared.stores.Area.{Area}
-use Rattle.iso_model.specs.Array.{Array}
-use Rattle.store_model.specs.Cells.{is_zero, word_at}
-use Rattle.store_model.specs.FreeMap.{map_bit}
-use Rattle.store_model.specs.HashRegion.{IsIn}
-use Rattle.iso_model.specs.Premises.{block_at}
-use Rattle.store_model.specs.Stores.{bytes_in}
-use Rattle.store_model.specs.TreeNodes.{head_mark, is_head}
-use Rattle.store_model.specs.Trees.{IsApart, nodes_in, pairs_in, tree_at}
-use Rattle.store_model.specs.TreeRegion.{IsTreeArea, IsTreeRegion, cells_in, level_of, root_of, tree_map, tree_nodes}
-use Rattle.iso_tree.proofs.Frames.{piece_zero}
+use Rattle.store_laws.proofs.Words.{◌≡◌, ◌∙◌, sym, ap, subst, ℕ, ◌+◌, ◌<◌, ◌≤◌, ◌==◌, Bool, true, false, cond, List, [], length, replicate, arith, inl, eq-eqb, list_all, from_be_bytes, w32, empty, from_entries, both_ways, nat_tests, length-replicate, Area, Array, is_zero, word_at, map_bit, IsIn, block_at, bytes_in, head_mark, is_head, IsApart, nodes_in, pairs_in, tree_at, IsTreeArea, IsTreeRegion, cells_in, level_of, root_of, tree_map, tree_nodes, piece_zero}
 use Rattle.store_laws.proofs.Zeros.{no_bit_in_zeros}
 
 module _ (a : Area) (A : Array) (area : IsTreeArea a) (blank : (k : ℕ) → k < a.blocks → block_at A (a.start + k) ≡ replicate a.size 0) where

@@ -1,32 +1,7 @@
 -- The calls of the tree store write blocks of its area alone.
-use Rattle.std.proofs.Common.{◌≡◌, ℕ, zero, suc, ◌-◌, ◌<◌, ◌==◌, ◌&&◌, Bool, true, false, cond, nat_le, List, [], ◌∷◌, length, map, take, Option, Some, None, Result, Ok, refl, inl, inr, arith}
-use Rattle.std.specs.Prelude.{nat_lt}
-use Rattle.std.specs.List.{AllByRecursion}
-use Rattle.std.proofs.lemmas.Bool.{and_parts}
-use Rattle.std.proofs.lemmas.Bool.Decides.{nat_tests}
-use Rattle.store_model.specs.declared.stores.Area.{Area}
-use Rattle.store_model.specs.declared.stores.StoreError.{StoreError}
-use Rattle.iso_model.specs.Array.{Array}
-use Rattle.store_model.specs.Cells.{cell_count, value_part}
-use Rattle.store_model.specs.FreeMap.{free_count}
-use Rattle.store_model.specs.HashCalls.{is_key, is_value}
-use Rattle.store_model.specs.HashRegion.{IsIn}
-use Rattle.store_model.specs.Stores.{Done, Program, then_do}
-use Rattle.store_model.specs.TreeCalls.{AtBroken, AtLeaf, Climb, Descent, climb, climb_on, del_at, del_below, del_program, descend, first_write, free_list, full_row, get_program, look_again, placed, put_at, put_below_root, put_new, put_program, put_writes, scan_program, store_nodes, with_head, with_map}
-use Rattle.store_model.specs.TreeNodes.{Cell, cell_of, child_of, child_part, count_of, is_child, is_head, is_node, used_cells}
-use Rattle.store_model.specs.TreeRegion.{IsTreeArea}
-use Rattle.store_model.specs.Trees.{Put, fit, halves}
-use Rattle.tx_blocks.specs.Runs.{HasEnded}
-use Rattle.tx_blocks.specs.Tx.{Tx, added}
-use Rattle.iso_tree.proofs.Facts.{child_below, head_parts}
-use Rattle.iso_tree.proofs.Gets.{get_reads}
-use Rattle.iso_tree.proofs.Ranges.{all_append}
-use Rattle.iso_tree.proofs.ScanCalls.{program_reads}
-use Rattle.iso_tree.proofs.Taking.{taken_are}
-use Rattle.store_laws.specs.AreaBlocks.{in_its_area, start_in}
-use Rattle.store_laws.specs.Calls.{in_area}
-use Rattle.store_laws.specs.Tree.{tree_store}
-use Rattle.store_laws.specs.Writes.{WriteWithin}
+use Rattle.store_laws.proofs.Words.{◌≡◌, ℕ, zero, suc, ◌-◌, ◌<◌, ◌==◌, ◌&&◌, Bool, true, false, cond, nat_le, List, [], ◌∷◌, length, map, take, Option, Some, None, Result, Ok, refl, inl, inr, arith, nat_lt, AllByRecursion, and_parts, nat_tests, Area, StoreError, Array, cell_count, value_part, free_count, is_key, is_value, IsIn, Done, Program, then_do, AtLeaf, Climb, Descent, climb, climb_on, del_below, descend, first_write, free_list, full_row, look_again, placed, put_below_root, put_writes, scan_program, store_nodes, with_head, with_map, Cell, cell_of, child_of, child_part, count_of, is_child, is_head, is_node, used_cells, IsTreeArea, fit, halves, HasEnded, Tx, added, child_below, head_parts, get_reads, all_append, program_reads, taken_are, in_its_area, start_in, in_area, tree_store, WriteWithin}
+use Rattle.store_model.specs.TreeCalls.{AtBroken, del_at, del_program, get_program, put_at, put_new, put_program}
+use Rattle.store_model.specs.Trees.{Put}
 use Rattle.store_laws.proofs.Programs.{Answers, StoresIn, answers_cond, ended_within, read_within, stores_cell, stores_cond, stores_if, stores_then}
 
 -- blocks of the area: of a path, of nodes, and of writes

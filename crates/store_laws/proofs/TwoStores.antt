@@ -1,15 +1,5 @@
 -- What a transaction that calls two stores is to each of them.
-use Rattle.std.proofs.Common.{◌≡◌, ◌∙◌, refl, ap, subst, ℕ, ◌-◌, ◌<◌, ◌≤◌, IfSome, false, List, [], ◌∷◌, ◌++◌, Some, slice_get, inl, inr}
-use Rattle.iso_model.specs.declared.access.Access.{Access}
-use Rattle.iso_model.specs.declared.access.Commit.{Commit}
-use Rattle.iso_model.specs.declared.access.Geometry.{Geometry}
-use Rattle.iso_model.specs.Array.{Array}
-use Rattle.iso_model.specs.Conflict.{IsSerialAt}
-use Rattle.iso_model.specs.Effect.{has_write, own}
-use Rattle.iso_model.specs.History.{History, array_at, last}
-use Rattle.store_laws.specs.Both.{AreMixed, BothByMap, BothInOrder, BothWellFormed, First, IsByBoth, IsOfBoth, MixedParts, Neither, Second, firsts, seconds}
-use Rattle.store_laws.specs.Parts.{AnswerInOrder, AreMade, IsByCalls, IsOfCalls, accesses_in}
-use Rattle.store_laws.specs.Region.{IsOfItsBlocks, MapStore}
+use Rattle.store_laws.proofs.Words.{◌≡◌, ◌∙◌, refl, ap, subst, ℕ, ◌-◌, ◌<◌, ◌≤◌, IfSome, false, List, [], ◌∷◌, ◌++◌, Some, slice_get, inl, inr, Access, Commit, Geometry, Array, IsSerialAt, has_write, own, History, array_at, last, AreMixed, BothByMap, BothInOrder, BothWellFormed, First, IsByBoth, IsOfBoth, MixedParts, Neither, Second, firsts, seconds, AnswerInOrder, AreMade, IsByCalls, IsOfCalls, accesses_in, IsOfItsBlocks, MapStore}
 use Rattle.store_laws.proofs.Histories.{commits_in_order, if_some, read_only_at, two_if, well_formed_at}
 use Rattle.store_laws.proofs.InOrder.{commit_by, live_in_order}
 

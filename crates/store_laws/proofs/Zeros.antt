@@ -1,13 +1,5 @@
 -- Blocks of zeros.
-use Rattle.std.proofs.Common.{◌≡◌, ◌∙◌, ap, ℕ, ◌+◌, ◌%◌, ◌<◌, ◌≤◌, false, ◌==◌, [], get_or, replicate, arith, inl, inr}
-use Rattle.std.specs.Int.{bit_at}
-use Rattle.std.proofs.lemmas.Bool.{cases_lt}
-use Rattle.std.proofs.lemmas.List.{get_or-replicate, get_or_past, length-replicate}
-use Rattle.std.proofs.lemmas.Nat.Bits.{bit_at-zero}
-use Rattle.store_model.specs.declared.stores.Area.{Area}
-use Rattle.iso_model.specs.Array.{zeros}
-use Rattle.store_model.specs.FreeMap.{bit_place, map_bit}
-use Rattle.iso_model.specs.Premises.{block_at}
+use Rattle.store_laws.proofs.Words.{◌≡◌, ◌∙◌, ap, ℕ, ◌+◌, ◌%◌, ◌<◌, ◌≤◌, false, ◌==◌, [], get_or, replicate, arith, inl, inr, bit_at, cases_lt, get_or-replicate, get_or_past, length-replicate, bit_at-zero, Area, zeros, bit_place, map_bit, block_at}
 
 pub zero_at : (n p : ℕ) → ◌≡◌ {A = ℕ} (get_or (replicate n 0) p 0) 0
 zero_at n p = elim (cases_lt p n) [

@@ -1,25 +1,5 @@
 -- The accesses of the hash store's calls are accesses to the array.
-use Rattle.std.proofs.Common.{◌≡◌, ◌≢◌, ◌∙◌, sym, refl, subst, inl, inr, ℕ, zero, suc, ◌+◌, ◌-◌, ◌*◌, ◌%◌, ◌^◌, ◌<◌, ◌≤◌, Bool, true, false, ◌&&◌, ◌==◌, not, cond, IsTrue, List, [], ◌∷◌, length, Option, Some, None, IfSome, option_map, replicate, slice_index, arith}
-use Rattle.std.specs.Int.{to_be_bytes, w32}
-use Rattle.std.specs.List.{AllByRecursion}
-use Rattle.std.proofs.lemmas.Bool.{and_parts, cases_Bool, false≢true, eqb-true, leb-true, ltb-true, or_cases}
-use Rattle.std.proofs.lemmas.List.{length-replicate}
-use Rattle.std.proofs.lemmas.Nat.{and_le_r, or_lt, xor_lt}
-use Rattle.std.proofs.Math.Nat.{mod-lt, mul-div-le}
-use Rattle.iso_model.specs.declared.access.Geometry.{Geometry}
-use Rattle.iso_model.specs.declared.access.Span.{Span}
-use Rattle.store_model.specs.declared.stores.Area.{Area}
-use Rattle.store_model.specs.declared.stores.Spot.{Spot}
-use Rattle.store_model.specs.Cells.{block_with, cell_count, cell_with, key_mark, key_part, keys_end, keys_mark, laid_at, next_mark, unused_cell, value_mark, value_part}
-use Rattle.iso_model.specs.Conflict.{first_from}
-use Rattle.store_model.specs.FreeMap.{bit_mark, bit_place, clear_bit, lowest_free, map_bit, map_mark, set_bit}
-use Rattle.iso_model.specs.Geometry.{is_valid}
-use Rattle.store_model.specs.HashCalls.{AtBroken, AtCell, AtEnd, Walked, at_cell, del_at, del_program, get_program, got, is_key, is_spent, is_value, new_block, put_at, put_new, put_program, spare_in, spot_in, walk, walk_from, walk_further, with_cell}
-use Rattle.store_model.specs.HashRegion.{IsHashArea, bucket_of, buckets, is_linked, last_position, next_of}
-use Rattle.iso_model.specs.Premises.{AreBytes, IsAccess, IsSpan}
-use Rattle.store_model.specs.Areas.{hash_area}
-use Rattle.store_model.specs.Stores.{Done, Program, store_access}
-use Rattle.iso_model.proofs.ByteLists.{bytes_cons, no_bytes, replicate_bytes}
+use Rattle.store_model.proofs.Words.{◌≡◌, ◌≢◌, ◌∙◌, sym, refl, subst, inl, inr, ℕ, zero, suc, ◌+◌, ◌-◌, ◌*◌, ◌%◌, ◌^◌, ◌<◌, ◌≤◌, Bool, true, false, ◌&&◌, ◌==◌, not, cond, IsTrue, List, [], ◌∷◌, length, Option, Some, None, IfSome, option_map, replicate, slice_index, arith, to_be_bytes, w32, AllByRecursion, and_parts, cases_Bool, false≢true, eqb-true, leb-true, ltb-true, or_cases, length-replicate, and_le_r, or_lt, xor_lt, mod-lt, mul-div-le, Geometry, Span, Area, Spot, block_with, cell_count, cell_with, key_mark, key_part, keys_end, keys_mark, laid_at, next_mark, unused_cell, value_mark, value_part, first_from, bit_mark, bit_place, clear_bit, lowest_free, map_bit, map_mark, set_bit, is_valid, AtBroken, AtCell, AtEnd, Walked, at_cell, del_at, del_program, get_program, got, is_key, is_spent, is_value, new_block, put_at, put_new, put_program, spare_in, spot_in, walk, walk_from, walk_further, with_cell, IsHashArea, bucket_of, buckets, is_linked, last_position, next_of, AreBytes, IsAccess, IsSpan, hash_area, Done, Program, store_access, bytes_cons, no_bytes, replicate_bytes}
 use Rattle.store_model.proofs.Laying.{laid_bytes, length-laid_at, length-part, part_bytes, word_bytes}
 use Rattle.store_model.proofs.StoreAccesses.{AllFit, fit_cond, fit_then}
 

@@ -1,18 +1,7 @@
 -- Worked examples of the hash store, by computation: four blocks of 256 bytes, so block 0, one bucket of three cells in block 1, and
 -- two blocks behind it.
-use Rattle.std.specs.Prelude.{◌≡◌, ℕ, List, [], ◌∷◌, None, Some, Ok, Err, true, false, refl, map, replicate}
-use Rattle.iso_model.specs.declared.access.Access.{Access}
-use Rattle.iso_model.specs.declared.access.Span.{Span}
-use Rattle.iso_model.specs.declared.access.Kind.{Kind}
-use Rattle.iso_model.specs.declared.access.Kind.TheVariants.{Read, Write}
-use Rattle.store_model.specs.declared.stores.Area.{Area}
-use Rattle.store_model.specs.declared.stores.StoreError.TheVariants.{Broken}
-use Rattle.iso_model.specs.Array.{Array, put, zeros}
-use Rattle.iso_model.specs.Effect.{own}
-use Rattle.sha2.specs.Sha256.{compress, digest_bytes, first_words, hash_after, rounds, schedule, sha256}
-use Rattle.store_model.specs.HashRegion.{bucket_of, is_linked}
-use Rattle.store_model.specs.HashCalls.{walk, get_program, put_program, del_program}
-use Rattle.store_model.specs.Stores.{accesses_of, answer_of, outcome}
+use Rattle.store_model.proofs.Words.{Ok, Err, map, Access, Span, Kind, Read, Write, Area, Broken, Array, put, zeros, own, compress, digest_bytes, first_words, hash_after, rounds, schedule, sha256, bucket_of, is_linked, walk, get_program, put_program, del_program, accesses_of, answer_of, outcome}
+use Rattle.std.specs.Prelude.{◌≡◌, ℕ, List, [], ◌∷◌, None, Some, true, false, refl, replicate}
 
 abbrev area : Area
 area = record { start = 0; blocks = 4; size = 256 }

@@ -1,11 +1,5 @@
 -- Bytes that are laid into a block.
-use Rattle.std.proofs.Common.{◌≡◌, ℕ, ◌+◌, ◌-◌, ◌<◌, ◌≤◌, List, [], ◌∷◌, ◌++◌, length, take, drop, replicate, arith, length-append}
-use Rattle.std.specs.List.{AllByRecursion}
-use Rattle.std.specs.Int.{to_be_bytes, w32}
-use Rattle.std.proofs.lemmas.List.{length-take-le, length-drop, length-replicate}
-use Rattle.store_model.specs.Cells.{laid_at, part_of}
-use Rattle.iso_model.specs.Premises.{AreBytes}
-use Rattle.iso_model.proofs.ByteLists.{bytes_append, bytes_cons, bytes_drop, bytes_take, no_bytes, replicate_bytes}
+use Rattle.store_model.proofs.Words.{◌≡◌, ℕ, ◌+◌, ◌-◌, ◌<◌, ◌≤◌, List, [], ◌∷◌, ◌++◌, length, take, drop, replicate, arith, length-append, AllByRecursion, to_be_bytes, w32, length-take-le, length-drop, length-replicate, laid_at, part_of, AreBytes, bytes_append, bytes_cons, bytes_drop, bytes_take, no_bytes, replicate_bytes}
 
 pub length-laid_at : (at : ℕ) (bytes block : List ℕ) → at + length bytes ≤ length block → length (laid_at at bytes block) ≡ length block
 length-laid_at at bytes block fits =

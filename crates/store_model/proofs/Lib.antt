@@ -1,3 +1,4 @@
+pub mod Words
 pub mod Laying
 pub mod StoreAccesses
 pub mod HashAccesses

@@ -1,14 +1,5 @@
 -- The accesses of a store's call are accesses to the array.
-use Rattle.std.proofs.Common.{◌≡◌, ◌∙◌, refl, ℕ, zero, suc, ◌<◌, ◌≤◌, Bool, true, false, cond, List, [], ◌∷◌, length, Option, Some, None, IfSome, nat_le, arith}
-use Rattle.iso_model.specs.declared.access.Access.{Access}
-use Rattle.iso_model.specs.declared.access.Geometry.{Geometry}
-use Rattle.iso_model.specs.declared.access.Span.{Span}
-use Rattle.iso_model.specs.Array.{Array, put}
-use Rattle.iso_model.specs.Premises.{block_at, AreAccesses, AreBytes, HasShape, IsAccess, IsSpan}
-use Rattle.store_model.specs.Stores.{Program, Done, Look, LookWhole, Reserve, Store, after, bytes_in, further_bytes, look_access, outcome, store_access, then_do, with_further}
-use Rattle.iso_model.proofs.ByteLists.{bytes_drop, bytes_take, no_bytes}
-use Rattle.iso_model.proofs.Bytes.{length-block_put, length-put}
-use Rattle.iso_model.proofs.Recorded.{put_values}
+use Rattle.store_model.proofs.Words.{◌≡◌, ◌∙◌, refl, ℕ, zero, suc, ◌<◌, ◌≤◌, Bool, true, false, cond, List, [], ◌∷◌, length, Option, Some, None, IfSome, nat_le, arith, Access, Geometry, Span, Array, put, block_at, AreAccesses, AreBytes, HasShape, IsAccess, IsSpan, Program, Done, Look, LookWhole, Reserve, Store, after, bytes_in, further_bytes, look_access, outcome, store_access, then_do, with_further, bytes_drop, bytes_take, no_bytes, length-block_put, length-put, put_values}
 
 -- each access of the program is one to the array, whatever bytes it reads, and each answer has P
 abbrev pub AllFit : {R : Type 0} → Geometry → (R → Type 0) → Program R → Type 0

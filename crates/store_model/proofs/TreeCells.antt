@@ -1,18 +1,6 @@
 -- The cells of nodes that are read and written: they fit their places, and are bytes.
-use Rattle.std.proofs.Common.{◌≡◌, ◌≢◌, ◌∙◌, sym, refl, ap, ℕ, zero, suc, ◌+◌, ◌-◌, ◌*◌, ◌/◌, ◌%◌, ◌<◌, ◌≤◌, Bool, true, false, ◌&&◌, ◌||◌, ◌==◌, cond, List, [], ◌∷◌, ◌++◌, length, take, drop, replicate, filter, flat_map, nat_le, get_or, inl, inr, arith, ne_eqb}
-use Rattle.std.specs.List.{AllByRecursion}
-use Rattle.std.specs.Int.{to_be_bytes, w32}
-use Rattle.std.proofs.lemmas.Bool.{and_parts, cases_Bool, false≢true, leb-true}
-use Rattle.std.proofs.lemmas.Bool.Decides.{nat_tests}
-use Rattle.std.proofs.lemmas.List.{length-append, length-drop, length-replicate, length-take}
-use Rattle.std.proofs.Math.Nat.{mod-lt}
-use Rattle.store_model.specs.Cells.{all_from, are_key_parts, cell_count, is_part, key_at, key_mark, key_part, keys_end, keys_mark, value_mark, value_part}
-use Rattle.iso_model.specs.Geometry.{is_block_size}
-use Rattle.iso_model.specs.Premises.{AreBytes}
-use Rattle.store_model.specs.Stores.{bytes_in}
-use Rattle.store_model.specs.TreeNodes.{Cell, IsBlock, before, cells_by, child_part, count_of, has_head, has_level, is_node, node_bytes, used_cells}
-use Rattle.store_model.specs.Trees.{emptied, put_after, without_first}
-use Rattle.iso_model.proofs.ByteLists.{bytes_append, bytes_cons, bytes_drop, bytes_take, no_bytes, replicate_bytes}
+use Rattle.store_model.proofs.Words.{◌≡◌, ◌≢◌, ◌∙◌, sym, refl, ap, ℕ, zero, suc, ◌+◌, ◌-◌, ◌*◌, ◌/◌, ◌%◌, ◌<◌, ◌≤◌, Bool, true, false, ◌&&◌, ◌||◌, ◌==◌, cond, List, [], ◌∷◌, ◌++◌, length, take, drop, replicate, filter, flat_map, nat_le, get_or, inl, inr, arith, ne_eqb, AllByRecursion, to_be_bytes, w32, and_parts, cases_Bool, false≢true, leb-true, nat_tests, length-drop, length-replicate, length-take, mod-lt, all_from, are_key_parts, cell_count, is_part, key_at, key_mark, key_part, keys_end, keys_mark, value_mark, value_part, is_block_size, AreBytes, bytes_in, Cell, IsBlock, before, cells_by, child_part, count_of, has_head, has_level, is_node, node_bytes, used_cells, emptied, put_after, without_first, bytes_append, bytes_cons, bytes_drop, bytes_take, no_bytes, replicate_bytes}
+use Rattle.std.proofs.lemmas.List.{length-append}
 use Rattle.store_model.proofs.Laying.{length-part, part_bytes, word_bytes}
 
 -- the numbers of a block size

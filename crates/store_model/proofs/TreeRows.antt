@@ -1,16 +1,7 @@
 -- Worked examples of the tree store, by computation.
-use Rattle.std.specs.Prelude.{◌≡◌, ℕ, List, [], ◌∷◌, None, Some, Ok, Err, refl, map}
-use Rattle.iso_model.specs.declared.access.Access.{Access}
-use Rattle.iso_model.specs.declared.access.Span.{Span}
-use Rattle.iso_model.specs.declared.access.Kind.{Kind}
-use Rattle.iso_model.specs.declared.access.Kind.TheVariants.{Read, Write}
-use Rattle.store_model.specs.declared.stores.Area.{Area}
-use Rattle.store_model.specs.declared.stores.StoreError.TheVariants.{NoBlocks}
-use Rattle.iso_model.specs.Array.{Array, zeros}
-use Rattle.iso_model.specs.Effect.{own}
-use Rattle.store_model.specs.Stores.{accesses_of, answer_of}
-use Rattle.store_model.specs.TreeCalls.{get_program, put_program, del_program, scan_program}
-use Rattle.store_model.specs.TreeRegion.{tree_pairs, tree_nodes}
+use Rattle.store_model.proofs.Words.{Ok, Err, map, Access, Span, Kind, Read, Write, Area, NoBlocks, Array, zeros, own, accesses_of, answer_of, scan_program, tree_pairs, tree_nodes}
+use Rattle.std.specs.Prelude.{◌≡◌, ℕ, List, [], ◌∷◌, None, Some, refl}
+use Rattle.store_model.specs.TreeCalls.{get_program, put_program, del_program}
 
 abbrev area : ℕ → Area
 area blocks = record { start = 0; blocks = blocks; size = 256 }

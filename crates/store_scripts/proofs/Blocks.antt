@@ -1,19 +1,5 @@
 -- The stores of an image depend on their blocks alone.
-use Rattle.std.proofs.Common.{◌≢◌, refl, ℕ, zero, suc, Bool, IsTrue, arith}
-use Rattle.iso_model.specs.declared.access.Geometry.{Geometry}
-use Rattle.iso_model.specs.Array.{Array}
-use Rattle.iso_model.specs.Geometry.{is_valid}
-use Rattle.store_model.specs.HashRegion.{IsHashRegion, Pairs, hash_map}
-use Rattle.store_model.specs.Areas.{hash_area, tree_area}
-use Rattle.store_model.specs.TreeRegion.{IsTreeRegion, tree_map}
-use Rattle.store_model.proofs.HashAccesses.{hash_area_is}
-use Rattle.store_model.proofs.TreeAccesses.{tree_area_is}
-use Rattle.store_laws.specs.Calls.{KeyCall, StoreAnswer, in_area, key_act}
-use Rattle.store_laws.specs.HashBlocks.{hash_is_of_its_blocks}
-use Rattle.store_laws.specs.Region.{IsOfItsBlocks, MapStore}
-use Rattle.store_laws.specs.Tree.{TreeCall, tree_act}
-use Rattle.store_laws.specs.TreeBlocks.{tree_is_of_its_blocks}
-use Rattle.store_scripts.specs.Stores.{IfAny, image_hash, image_tree, pairs_if_any}
+use Rattle.store_scripts.proofs.Words.{◌≢◌, refl, ℕ, zero, suc, Bool, IsTrue, arith, Geometry, Array, is_valid, IsHashRegion, Pairs, hash_map, hash_area, tree_area, IsTreeRegion, tree_map, hash_area_is, tree_area_is, KeyCall, StoreAnswer, in_area, key_act, hash_is_of_its_blocks, IsOfItsBlocks, MapStore, TreeCall, tree_act, tree_is_of_its_blocks, IfAny, image_hash, image_tree, pairs_if_any}
 
 abbrev store_of : (Call : Type 0) → (Call → Pairs → StoreAnswer × Pairs) → (ℕ → Bool) → (Array → Type 0) → (Array → Pairs) → MapStore
 store_of Call act has Well map_of = record { Map = Pairs; Call = Call; Answer = StoreAnswer; has_block = has; IsWellFormed = Well; map_of = map_of; act = act }

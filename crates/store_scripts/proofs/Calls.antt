@@ -1,45 +1,7 @@
 -- Where a call of a store, a mark and an end lead, with what is told of the transactions.
-use Rattle.std.proofs.Common.{◌≡◌, ◌≢◌, ◌∙◌, sym, refl, subst, ℕ, ◌+◌, ◌-◌, ◌≤◌, ◌==◌, ◌&&◌, not, Bool, true, false, cond, IsTrue, List, [], ◌∷◌, ◌++◌, length, drop, Option, Some, None, Result, Ok, arith}
-use Rattle.std.specs.Prelude.{nat_lt}
-use Rattle.std.specs.List.{list_all}
-use Rattle.std.proofs.lemmas.Bool.{and_parts, eqb-false, ltb-false, ltb-true}
-use Rattle.std.proofs.lemmas.List.{length-append}
-use Rattle.iso_model.specs.declared.access.Access.{Access}
-use Rattle.iso_model.specs.declared.access.Clash.{Clash}
-use Rattle.iso_model.specs.declared.access.MarkError.{MarkError}
-use Rattle.iso_model.specs.declared.access.Mode.{Mode}
-use Rattle.iso_model.specs.declared.access.Mode.TheVariants.{Serial, Snapshot}
-use Rattle.iso_model.specs.declared.access.Span.{Span}
+use Rattle.store_scripts.proofs.Words.{◌≡◌, ◌≢◌, ◌∙◌, sym, refl, subst, ℕ, ◌+◌, ◌-◌, ◌≤◌, ◌==◌, ◌&&◌, not, Bool, true, false, cond, IsTrue, List, [], ◌∷◌, ◌++◌, length, drop, Option, Some, None, Result, Ok, arith, nat_lt, list_all, and_parts, eqb-false, ltb-false, ltb-true, length-append, Access, Clash, MarkError, Mode, Serial, Snapshot, Span, LAST, MAX_ACCESSES, Op, End, Mark, Reply, StoreError, Array, clash, has_write, is_serial, array_at, last, mark_fault, marked, appended, after_commit, after_leaving, need, commit_from, commit_step, end_step, as_step, array_of, in_store, mark_refused, mark_step, marked_step, store_refusal, store_step, Program, outcome, Live, World, attached, used, IsLive, all_filter, both_of, commits, live_at, BothWellFormed, KeyCall, StoreAnswer, TreeCall, both_well_formed, array_longer, stays_by_both, image_hash, image_tree, Notes, OfHash, OfTree, answered, spares_stores, told_more}
 use Rattle.iso_model.specs.declared.core_reply.CoreReply.TheVariants as core
-use Rattle.iso_model.specs.declared.limits.TheConstants.{LAST, MAX_ACCESSES}
-use Rattle.script_model.specs.declared.script.Op.{Op}
-use Rattle.script_model.specs.declared.script.Op.TheVariants.{End, Mark}
-use Rattle.script_model.specs.declared.script.Reply.{Reply}
 use Rattle.script_model.specs.declared.script.Reply.TheVariants as reply
-use Rattle.store_model.specs.declared.stores.StoreError.{StoreError}
-use Rattle.iso_model.specs.Array.{Array}
-use Rattle.iso_model.specs.Conflict.{clash}
-use Rattle.iso_model.specs.Effect.{has_write}
-use Rattle.iso_model.specs.Geometry.{is_serial}
-use Rattle.iso_model.specs.History.{array_at, last}
-use Rattle.iso_model.specs.Marks.{mark_fault, marked}
-use Rattle.iso_model.specs.Premises.{appended}
-use Rattle.iso_model.specs.Step.{after_commit, after_leaving, need, commit_from, commit_step, end_step}
-use Rattle.script_model.specs.CoreReplies.{as_step}
-use Rattle.script_model.specs.Step.{array_of, in_store, mark_refused, mark_step, marked_step, store_refusal, store_step}
-use Rattle.store_model.specs.Stores.{Program, outcome}
-use Rattle.iso_model.specs.World.{Live, World, attached, used}
-use Rattle.iso_model.specs.Worlds.{IsLive}
-use Rattle.iso_model.proofs.Distinct.{all_filter}
-use Rattle.iso_model.proofs.Growth.{both_of}
-use Rattle.iso_model.proofs.Worlds.{commits, live_at}
-use Rattle.store_laws.specs.Both.{BothWellFormed}
-use Rattle.store_laws.specs.Calls.{KeyCall, StoreAnswer}
-use Rattle.store_laws.specs.Tree.{TreeCall}
-use Rattle.store_laws.proofs.TwoStores.{both_well_formed}
-use Rattle.store_laws.proofs.Longer.{array_longer, stays_by_both}
-use Rattle.store_scripts.specs.Stores.{image_hash, image_tree}
-use Rattle.store_scripts.specs.Told.{Notes, OfHash, OfTree, answered, spares_stores, told_more}
 use Rattle.store_scripts.proofs.Growing.{hash_told, mark_told, of_both, tree_told}
 use Rattle.store_scripts.proofs.Locality.{IsHashCall, IsTreeCall}
 use Rattle.store_scripts.proofs.Noted.{Goes, Holds, IsKept, IsNoted, changes, choose, notes_by, quiet, stays}

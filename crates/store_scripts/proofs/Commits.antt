@@ -1,20 +1,6 @@
 -- The lines of a script that commit, by the history after all its lines.
-use Rattle.std.proofs.Common.{◌≡◌, ◌∙◌, sym, refl, ap, subst, ℕ, ◌+◌, ◌-◌, ◌<◌, ◌≤◌, IsTrue, List, [], ◌∷◌, ◌++◌, take, Some, arith}
-use Rattle.std.proofs.lemmas.List.{take-append-le}
-use Rattle.script_model.specs.declared.script.Line.{Line}
-use Rattle.script_model.specs.declared.script.Op.{Op}
-use Rattle.script_model.specs.declared.script.Op.TheVariants.{End}
+use Rattle.store_scripts.proofs.Words.{◌≡◌, ◌∙◌, sym, refl, ap, subst, ℕ, ◌+◌, ◌-◌, ◌<◌, ◌≤◌, IsTrue, List, [], ◌∷◌, ◌++◌, take, Some, arith, take-append-le, Line, Op, End, Array, History, all_own, array_at, last, after, step, Live, World, attached, AreLines, IsOp, Extends, after_leads, step_leads, BeginsWell, ToldInOrder, CommitKeeps, CommitsKeep, Notes, no_notes, noted, notes_after}
 use Rattle.script_model.specs.declared.script.Reply.TheVariants as reply
-use Rattle.iso_model.specs.Array.{Array}
-use Rattle.iso_model.specs.History.{History, all_own, array_at, last}
-use Rattle.script_model.specs.Script.{after}
-use Rattle.script_model.specs.Step.{step}
-use Rattle.iso_model.specs.World.{Live, World, attached}
-use Rattle.script_model.specs.Operations.{AreLines, IsOp}
-use Rattle.iso_model.specs.Worlds.{Extends}
-use Rattle.script_model.proofs.Steps.{after_leads, step_leads}
-use Rattle.store_scripts.specs.Kept.{BeginsWell, ToldInOrder}
-use Rattle.store_scripts.specs.Told.{CommitKeeps, CommitsKeep, Notes, no_notes, noted, notes_after}
 use Rattle.store_scripts.proofs.Lines.{noted_after, noted_begins}
 use Rattle.store_scripts.proofs.Noted.{IsNoted}
 use Rattle.store_scripts.proofs.Order.{commit_told, committed_last}

@@ -1,14 +1,5 @@
 -- A client finds its transaction with other accesses where it had it.
-use Rattle.std.proofs.Common.{◌≡◌, ◌∙◌, sym, ap, subst, ℕ, ◌==◌, Bool, true, cond, List, [], ◌∷◌, Some, inl, inr, eq-eqb, ne_eqb}
-use Rattle.std.specs.Prelude.{find}
-use Rattle.std.specs.List.{AllByRecursion}
-use Rattle.std.proofs.lemmas.Bool.{cases_Bool, cases_eq}
-use Rattle.std.proofs.lemmas.Option.{same_Some}
-use Rattle.iso_model.specs.declared.access.Access.{Access}
-use Rattle.iso_model.specs.Step.{with_accesses}
-use Rattle.iso_model.specs.World.{Live, World, attached, is_at_client, with}
-use Rattle.iso_model.specs.Worlds.{IsWorld}
-use Rattle.iso_model.proofs.Distinct.{same_number}
+use Rattle.store_scripts.proofs.Words.{◌≡◌, ◌∙◌, sym, ap, subst, ℕ, ◌==◌, Bool, true, cond, List, [], ◌∷◌, Some, inl, inr, eq-eqb, ne_eqb, find, AllByRecursion, cases_Bool, cases_eq, same_Some, Access, with_accesses, Live, World, attached, is_at_client, with, IsWorld, same_number}
 
 abbrev at : ℕ → Live → Bool
 at c t = is_at_client c t.place

@@ -1,27 +1,5 @@
 -- What is told of a transaction stays true as accesses come to it.
-use Rattle.std.proofs.Common.{◌≡◌, ◌⊎◌, ◌∙◌, sym, refl, ap, subst, ℕ, ◌<◌, Bool, List, [], ◌∷◌, ◌++◌, length, append_assoc, append-nil, arith, inl, inr}
-use Rattle.iso_model.specs.declared.access.Access.{Access}
-use Rattle.iso_model.specs.declared.access.Commit.{Commit}
-use Rattle.iso_model.specs.declared.access.Geometry.{Geometry}
-use Rattle.iso_model.specs.declared.access.Mode.{Mode}
-use Rattle.iso_model.specs.declared.access.Mode.TheVariants.{Serial}
-use Rattle.iso_model.specs.declared.access.Span.{Span}
-use Rattle.iso_model.specs.Array.{Array}
-use Rattle.iso_model.specs.Effect.{own}
-use Rattle.iso_model.specs.History.{History, array_at}
-use Rattle.iso_model.specs.Marks.{marked}
-use Rattle.store_model.specs.Stores.{IsLocal}
-use Rattle.tx_blocks.proofs.Progress.{own_append}
-use Rattle.store_laws.specs.Both.{AreMixed, First, IsOfBoth, Neither, Second, firsts, seconds}
-use Rattle.store_laws.specs.BothStores.{StorePart}
-use Rattle.store_laws.specs.Calls.{KeyCall, StoreAnswer, key_act}
-use Rattle.store_laws.specs.Parts.{Part, Called, Other, accesses_in, answers_in, calls_in}
-use Rattle.store_laws.specs.Region.{MapStore, SpareRegion}
-use Rattle.store_laws.specs.Tree.{TreeCall, tree_act}
-use Rattle.store_laws.proofs.BothGrowth.{made_append, mixed_append}
-use Rattle.store_scripts.specs.Kept.{IsToldOf}
-use Rattle.store_scripts.specs.Stores.{image_hash, image_tree}
-use Rattle.store_scripts.specs.Told.{OfHash, OfTree, Told, nothing_told, with_call}
+use Rattle.store_scripts.proofs.Words.{◌≡◌, ◌⊎◌, ◌∙◌, sym, refl, ap, subst, ℕ, ◌<◌, Bool, List, [], ◌∷◌, ◌++◌, length, append_assoc, append-nil, arith, inl, inr, Access, Commit, Geometry, Mode, Serial, Span, Array, own, History, array_at, marked, IsLocal, own_append, AreMixed, First, IsOfBoth, Neither, Second, firsts, seconds, StorePart, KeyCall, StoreAnswer, key_act, Part, Called, Other, accesses_in, answers_in, calls_in, MapStore, SpareRegion, TreeCall, tree_act, made_append, mixed_append, IsToldOf, image_hash, image_tree, OfHash, OfTree, Told, nothing_told, with_call}
 
 pub spare_append : (s : MapStore) (xs ys : List Access) → SpareRegion s xs → SpareRegion s ys → SpareRegion s (xs ++ ys)
 spare_append s [] ys first second = second

@@ -1,23 +1,7 @@
 -- The stores of an image, where it has them.
-use Rattle.std.proofs.Common.{◌≡◌, ◌≢◌, ◌↔◌, refl, ℕ, zero, suc, ◌≤◌, IsTrue, arith}
-use Rattle.std.specs.FinMap.{empty}
-use Rattle.iso_model.specs.declared.access.Geometry.{Geometry}
-use Rattle.iso_model.specs.declared.limits.TheConstants.{LAST}
-use Rattle.iso_model.specs.Array.{zeros}
-use Rattle.iso_model.specs.Geometry.{is_valid}
-use Rattle.store_model.specs.HashRegion.{IsHashRegion, Pairs}
-use Rattle.store_model.specs.Areas.{hash_area, tree_area}
-use Rattle.store_model.specs.TreeRegion.{IsTreeRegion}
-use Rattle.iso_model.specs.World.{empty_history, fresh}
-use Rattle.iso_model.proofs.Bounds.{limits}
-use Rattle.iso_model.proofs.FreshWorlds.{empty_world_is}
-use Rattle.store_model.proofs.HashAccesses.{hash_area_is}
-use Rattle.store_model.proofs.TreeAccesses.{tree_area_is}
+use Rattle.store_scripts.proofs.Words.{◌≡◌, ◌≢◌, ◌↔◌, refl, ℕ, zero, suc, ◌≤◌, IsTrue, arith, empty, Geometry, LAST, zeros, is_valid, IsHashRegion, Pairs, hash_area, tree_area, IsTreeRegion, empty_history, fresh, limits, empty_world_is, hash_area_is, tree_area_is, zeros_blank, BeginsWell, IfAny, pairs_if_any}
 use Rattle.store_laws.proofs.HashBlank as hash
 use Rattle.store_laws.proofs.TreeBlank as tree
-use Rattle.store_laws.proofs.Zeros.{zeros_blank}
-use Rattle.store_scripts.specs.Kept.{BeginsWell}
-use Rattle.store_scripts.specs.Stores.{IfAny, pairs_if_any}
 
 pub if_any_is : (n : ℕ) (P : Type 0) (m : Pairs) → n ≢ 0 → (IfAny n P ↔ P) × (pairs_if_any n m ≡ m)
 if_any_is zero P m some = absurd (some refl)

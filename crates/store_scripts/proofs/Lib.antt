@@ -1,3 +1,4 @@
+pub mod Words
 pub mod Growing
 pub mod Locality
 pub mod Finding

@@ -1,37 +1,10 @@
 -- What is told of transactions stays true along the lines of a script.
-use Rattle.std.specs.List.{AllByRecursion}
-use Rattle.std.proofs.Common.{◌≡◌, ◌∙◌, sym, refl, subst, ap, ℕ, ◌-◌, ◌<◌, ◌≤◌, ◌==◌, ◌&&◌, Bool, true, false, IsTrue, length, option_map, List, [], ◌∷◌, Option, Some, None, arith}
-use Rattle.script_model.specs.declared.script.Line.{Line}
-use Rattle.script_model.specs.declared.script.Op.{Op}
-use Rattle.script_model.specs.declared.script.Op.TheVariants.{Begin, End, Abort, Put, Read, Get, Write, Fill, Mark, Release, Takeover, Await, Trim, Stat, Compact, Upgrade, HashPut, HashGet, HashDelete, TreePut, TreeGet, TreeDelete, TreeScan}
-use Rattle.script_model.specs.declared.script.Reply.{Reply}
+use Rattle.store_scripts.proofs.Words.{AllByRecursion, ◌≡◌, ◌∙◌, sym, refl, subst, ap, ℕ, ◌-◌, ◌<◌, ◌≤◌, ◌==◌, ◌&&◌, Bool, true, false, IsTrue, length, option_map, List, [], ◌∷◌, Option, Some, None, arith, Line, Op, Begin, End, Abort, Put, Read, Get, Write, Fill, Mark, Release, Takeover, Await, Trim, Stat, Compact, Upgrade, HashPut, HashGet, HashDelete, TreePut, TreeGet, TreeDelete, TreeScan, Reply, Geometry, StoreError, MAX_ACCESSES, is_key, array_at, last, HasShape, after, after_leaving, end_step, mode_named, read_access, shown_to, as_step, array_of, fill_step, found_reply, get_step, hash_delete_step, hash_get_step, hash_put_step, in_transaction, mark_step, numbers, pairs_reply, put_step, read_step, release_step, removed_reply, step, store_refusal, tree_delete_step, tree_get_step, tree_put_step, tree_scan_step, write_step, hash_area, tree_area, Live, World, attached, client, held, AreLines, IsOp, IsWorld, array_shape, own_shape, live_at, step_leads, OnKey, Scan, begins_by_both, BeginsWell, image_hash, image_tree, CommitKeeps, CommitsKeep, Notes, OfHash, OfTree, answered, del_answer, get_answer, no_notes, noted, notes_after, nothing_told, put_answer, scan_answer, told_by}
 use Rattle.script_model.specs.declared.script.Reply.TheVariants as reply
-use Rattle.iso_model.specs.declared.access.Geometry.{Geometry}
-use Rattle.store_model.specs.declared.stores.StoreError.{StoreError}
 use Rattle.store_model.specs.declared.stores.StoreError.TheVariants as store
-use Rattle.iso_model.specs.declared.limits.TheConstants.{MAX_ACCESSES}
 use Rattle.store_model.specs.HashCalls as hash
-use Rattle.store_model.specs.HashCalls.{is_key}
-use Rattle.iso_model.specs.History.{array_at, last}
-use Rattle.iso_model.specs.Premises.{HasShape}
-use Rattle.script_model.specs.Script.{after}
-use Rattle.iso_model.specs.Step.{after_leaving, end_step, mode_named, read_access, shown_to}
-use Rattle.script_model.specs.CoreReplies.{as_step}
-use Rattle.script_model.specs.Step.{array_of, fill_step, found_reply, get_step, hash_delete_step, hash_get_step, hash_put_step, in_transaction, mark_step, numbers, pairs_reply, put_step, read_step, release_step, removed_reply, step, store_refusal, tree_delete_step, tree_get_step, tree_put_step, tree_scan_step, write_step}
-use Rattle.store_model.specs.Areas.{hash_area, tree_area}
 use Rattle.store_model.specs.TreeCalls as tree
-use Rattle.iso_model.specs.World.{Live, World, attached, client, held}
-use Rattle.script_model.specs.Operations.{AreLines, IsOp}
-use Rattle.iso_model.specs.Worlds.{IsWorld}
-use Rattle.iso_model.proofs.Recorded.{array_shape, own_shape}
-use Rattle.iso_model.proofs.Worlds.{live_at}
-use Rattle.script_model.proofs.Steps.{step_leads}
 use Rattle.store_laws.specs.Calls.{Del, Found as WasFound, Get as GetKey, Got, Put as PutKey, WasPut, WasThere}
-use Rattle.store_laws.specs.Tree.{OnKey, Scan}
-use Rattle.store_laws.proofs.Longer.{begins_by_both}
-use Rattle.store_scripts.specs.Kept.{BeginsWell}
-use Rattle.store_scripts.specs.Stores.{image_hash, image_tree}
-use Rattle.store_scripts.specs.Told.{CommitKeeps, CommitsKeep, Notes, OfHash, OfTree, answered, del_answer, get_answer, no_notes, noted, notes_after, nothing_told, put_answer, scan_answer, told_by}
 use Rattle.store_scripts.proofs.Calls.{AreRefusals, end_goes, hash_goes, in_store_goes, mark_goes, tree_goes}
 use Rattle.store_scripts.proofs.Locality.{hash_got, hash_was_put, hash_was_there, tree_found, tree_got, tree_was_put, tree_was_there}
 use Rattle.store_scripts.proofs.Noted.{Goes, IsKept, IsNoted, choose, other_is, stays}

@@ -1,41 +1,16 @@
 -- A program of a store's call that answered Ok is local for its store, and spares the other.
-use Rattle.std.proofs.Common.{◌≡◌, ◌≢◌, refl, ap, subst, ℕ, zero, suc, ◌+◌, ◌<◌, ◌&&◌, Bool, true, false, cond, IsTrue, List, length, Option, Some, Result, Ok, Err, arith, inl, inr}
-use Rattle.std.proofs.lemmas.Bool.{and_parts}
-use Rattle.iso_model.specs.declared.access.Access.{Access}
-use Rattle.iso_model.specs.declared.access.Geometry.{Geometry}
-use Rattle.store_model.specs.declared.stores.Area.{Area}
-use Rattle.store_model.specs.declared.stores.StoreError.{StoreError}
-use Rattle.store_model.specs.declared.stores.StoreError.TheVariants.{BadKey, BadValue}
-use Rattle.iso_model.specs.Array.{Array}
-use Rattle.iso_model.specs.Geometry.{is_valid}
+use Rattle.store_scripts.proofs.Words.{◌≡◌, ◌≢◌, refl, ap, subst, ℕ, zero, suc, ◌+◌, ◌<◌, ◌&&◌, Bool, true, false, cond, IsTrue, List, length, Option, Some, Result, Ok, Err, arith, inl, inr, and_parts, Access, Geometry, Area, StoreError, BadKey, BadValue, Array, is_valid, is_key, is_value, IsHashRegion, Pairs, del_op, get_op, hash_map, put_op, HasShape, block_at, hash_area, tree_area, Done, IsLocal, Program, accesses_of, answer_of, outcome, IsTreeRegion, scan_op, tree_map, limits, hash_area_is, tree_area_is, outcome_whole, Del, Found, Got, KeyCall, StoreAnswer, WasPut, WasThere, key_act, SpareRegion, OnKey, Scan, TreeCall, tree_act, AreApart, disjoint_blocks, reads_spare, spare_where_apart, writes_within, IfAny, image_hash, image_tree, pairs_if_any}
 use Rattle.store_model.specs.HashCalls as hash
-use Rattle.store_model.specs.HashCalls.{is_key, is_value}
-use Rattle.store_model.specs.HashRegion.{IsHashRegion, Pairs, del_op, get_op, hash_map, put_op}
-use Rattle.iso_model.specs.Premises.{HasShape, block_at}
-use Rattle.store_model.specs.Areas.{hash_area, tree_area}
-use Rattle.store_model.specs.Stores.{Done, IsLocal, Program, accesses_of, answer_of, outcome}
 use Rattle.store_model.specs.TreeCalls as tree
-use Rattle.store_model.specs.TreeRegion.{IsTreeRegion, scan_op, tree_map}
-use Rattle.iso_model.proofs.Bounds.{limits}
-use Rattle.store_model.proofs.HashAccesses.{hash_area_is}
-use Rattle.store_model.proofs.TreeAccesses.{tree_area_is}
 use Rattle.iso_hash.proofs.Changes as hash_changes
 use Rattle.iso_hash.proofs.Gets as hash_gets
 use Rattle.iso_tree.proofs.DelCalls as tree_dels
 use Rattle.iso_tree.proofs.Gets as tree_gets
 use Rattle.iso_tree.proofs.PutWhole as tree_puts
 use Rattle.iso_tree.proofs.ScanCalls as tree_scans
-use Rattle.tx_blocks.proofs.Outcomes.{outcome_whole}
-use Rattle.store_laws.specs.Calls.{Del, Found, Get, Got, KeyCall, Put, StoreAnswer, WasPut, WasThere, key_act}
-use Rattle.store_laws.specs.Region.{SpareRegion}
-use Rattle.store_laws.specs.Tree.{OnKey, Scan, TreeCall, tree_act}
-use Rattle.store_laws.specs.Writes.{AreApart}
-use Rattle.store_laws.proofs.BothCalls.{disjoint_blocks}
-use Rattle.store_laws.proofs.Growth.{reads_spare}
+use Rattle.store_laws.specs.Calls.{Get, Put}
 use Rattle.store_laws.proofs.HashWrites as hash_writes
-use Rattle.store_laws.proofs.Programs.{spare_where_apart, writes_within}
 use Rattle.store_laws.proofs.TreeWrites as tree_writes
-use Rattle.store_scripts.specs.Stores.{IfAny, image_hash, image_tree, pairs_if_any}
 
 -- what is local for a store is local for that of the image which has blocks, with the answer under its name
 if_local : {R : Type 0} (n : ℕ) (Well : Array → Type 0) (map_of : Array → Pairs) (name : R → StoreAnswer) (op : Pairs → R × Pairs) (B : Array) (accesses : List Access) (r : R) → n ≢ 0

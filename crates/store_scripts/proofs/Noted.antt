@@ -1,26 +1,5 @@
 -- What is told of the live transactions of a world is true, and how it stays so.
-use Rattle.std.proofs.Common.{◌≡◌, ◌≢◌, ◌∙◌, sym, refl, ap, subst, ℕ, ◌≤◌, ◌==◌, ◌&&◌, ◌||◌, not, Bool, true, false, cond, IsTrue, List, [], ◌∷◌, ◌++◌, length, drop, Option, Some, None, arith, inl, inr, eq-eqb, ne_eqb}
-use Rattle.std.specs.List.{AllByRecursion, list_all}
-use Rattle.std.proofs.lemmas.Bool.{and_parts, cases_eq}
-use Rattle.iso_model.specs.declared.access.Access.{Access}
-use Rattle.iso_model.specs.declared.access.Geometry.{Geometry}
-use Rattle.iso_model.specs.declared.access.Mode.{Mode}
-use Rattle.script_model.specs.declared.script.Op.{Op}
-use Rattle.script_model.specs.declared.script.Reply.{Reply}
-use Rattle.iso_model.specs.Array.{Array}
-use Rattle.iso_model.specs.Effect.{has_write, is_write}
-use Rattle.iso_model.specs.History.{History, array_at, last}
-use Rattle.store_model.specs.Areas.{hash_area, tree_area}
-use Rattle.iso_model.specs.Step.{with_accesses}
-use Rattle.iso_model.specs.World.{Live, World, attached, with}
-use Rattle.iso_model.specs.Worlds.{IsWorld}
-use Rattle.iso_model.proofs.Growth.{all_weaker}
-use Rattle.store_laws.specs.Both.{IsByBoth}
-use Rattle.store_laws.specs.Calls.{in_area}
-use Rattle.store_laws.specs.Region.{SpareRegion}
-use Rattle.store_scripts.specs.Kept.{IsToldOf, ToldByMap}
-use Rattle.store_scripts.specs.Stores.{image_hash, image_tree}
-use Rattle.store_scripts.specs.Told.{Answered, Notes, Told, accesses_or_none, answered, nothing_told, spares_calls, spares_stores, told_by, told_more}
+use Rattle.store_scripts.proofs.Words.{◌≡◌, ◌≢◌, ◌∙◌, sym, refl, ap, subst, ℕ, ◌≤◌, ◌==◌, ◌&&◌, ◌||◌, not, Bool, true, false, cond, IsTrue, List, [], ◌∷◌, ◌++◌, length, drop, Option, Some, None, arith, inl, inr, eq-eqb, ne_eqb, AllByRecursion, list_all, and_parts, cases_eq, Access, Geometry, Mode, Op, Reply, Array, has_write, is_write, History, array_at, last, hash_area, tree_area, with_accesses, Live, World, attached, with, IsWorld, all_weaker, IsByBoth, in_area, SpareRegion, IsToldOf, ToldByMap, image_hash, image_tree, Answered, Notes, Told, accesses_or_none, answered, nothing_told, spares_calls, spares_stores, told_by, told_more}
 use Rattle.store_scripts.proofs.Finding.{attached_with}
 use Rattle.store_scripts.proofs.Growing.{other_told, same_told}
 use Rattle.store_scripts.proofs.Reading.{front_reads}

@@ -1,39 +1,7 @@
 -- The calls that are told of a transaction answer in order, by what its parts are.
-use Rattle.std.proofs.Common.{◌≡◌, ◌∙◌, sym, ap, subst, ℕ, ◌+◌, ◌-◌, ◌<◌, ◌≤◌, ◌==◌, Bool, true, false, cond, IsTrue, IfSome, List, [], ◌∷◌, slice_get, Option, Some, None, arith}
-use Rattle.std.specs.Prelude.{nat_lt}
-use Rattle.std.proofs.lemmas.List.{length-append}
-use Rattle.iso_model.specs.declared.access.Access.{Access}
-use Rattle.iso_model.specs.declared.access.Clash.{Clash}
-use Rattle.iso_model.specs.declared.access.Commit.{Commit}
-use Rattle.iso_model.specs.declared.access.Geometry.{Geometry}
+use Rattle.store_scripts.proofs.Words.{◌≡◌, ◌∙◌, sym, ap, subst, ℕ, ◌+◌, ◌-◌, ◌<◌, ◌≤◌, ◌==◌, Bool, true, false, cond, IsTrue, IfSome, List, [], ◌∷◌, slice_get, Option, Some, None, arith, nat_lt, length-append, Access, Clash, Commit, Geometry, LAST, End, Reply, Array, clash, has_write, own, array_at, last, appended, after_commit, after_leaving, need, commit_from, commit_step, end_step, as_step, array_of, in_transaction, step, Live, World, attached, is_at_client, used, IsWorld, all_find, live_at, step_leads, AreMixed, BothInOrder, IsOfBoth, firsts, seconds, StorePart, KeyCall, answers_in, calls_in, run, TreeCall, array_longer, last_of, stays_by_both, both_commits, both_live, both_well_formed, IsToldOf, ToldByMap, ToldInOrder, image_hash, image_tree, Notes, Told}
 use Rattle.iso_model.specs.declared.core_reply.CoreReply.TheVariants as core
-use Rattle.iso_model.specs.declared.limits.TheConstants.{LAST}
-use Rattle.script_model.specs.declared.script.Op.TheVariants.{End}
-use Rattle.script_model.specs.declared.script.Reply.{Reply}
 use Rattle.script_model.specs.declared.script.Reply.TheVariants as reply
-use Rattle.iso_model.specs.Array.{Array}
-use Rattle.iso_model.specs.Conflict.{clash}
-use Rattle.iso_model.specs.Effect.{has_write, own}
-use Rattle.iso_model.specs.History.{array_at, last}
-use Rattle.iso_model.specs.Premises.{appended}
-use Rattle.iso_model.specs.Step.{after_commit, after_leaving, need, commit_from, commit_step, end_step}
-use Rattle.script_model.specs.CoreReplies.{as_step}
-use Rattle.script_model.specs.Step.{array_of, in_transaction, step}
-use Rattle.iso_model.specs.World.{Live, World, attached, is_at_client, used}
-use Rattle.iso_model.specs.Worlds.{IsWorld}
-use Rattle.iso_model.proofs.Distinct.{all_find}
-use Rattle.iso_model.proofs.Worlds.{live_at}
-use Rattle.script_model.proofs.Steps.{step_leads}
-use Rattle.store_laws.specs.Both.{AreMixed, BothInOrder, IsOfBoth, firsts, seconds}
-use Rattle.store_laws.specs.BothStores.{StorePart}
-use Rattle.store_laws.specs.Calls.{KeyCall}
-use Rattle.store_laws.specs.Parts.{answers_in, calls_in, run}
-use Rattle.store_laws.specs.Tree.{TreeCall}
-use Rattle.store_laws.proofs.Longer.{array_longer, last_of, stays_by_both}
-use Rattle.store_laws.proofs.TwoStores.{both_commits, both_live, both_well_formed}
-use Rattle.store_scripts.specs.Kept.{IsToldOf, ToldByMap, ToldInOrder}
-use Rattle.store_scripts.specs.Stores.{image_hash, image_tree}
-use Rattle.store_scripts.specs.Told.{Notes, Told}
 use Rattle.store_scripts.proofs.Blocks.{hash_blocks, tree_blocks}
 use Rattle.store_scripts.proofs.Growing.{AreAll, all_are, all_parts, of_both}
 use Rattle.store_scripts.proofs.Noted.{IsKept, IsNoted}

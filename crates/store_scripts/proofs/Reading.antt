@@ -1,19 +1,5 @@
 -- The calls of a transaction that writes nothing answer by the map at its begin, whatever it marks.
-use Rattle.std.proofs.Common.{◌≡◌, ◌∙◌, sym, refl, ap, subst, ℕ, Bool, true, false, ◌||◌, List, [], ◌∷◌, ◌++◌, map}
-use Rattle.iso_model.specs.declared.access.Access.{Access}
-use Rattle.iso_model.specs.declared.access.Geometry.{Geometry}
-use Rattle.iso_model.specs.declared.access.Span.{Span}
-use Rattle.iso_model.specs.Array.{Array}
-use Rattle.iso_model.specs.Effect.{has_write, is_write, own}
-use Rattle.iso_model.specs.Marks.{marked}
-use Rattle.store_model.specs.Stores.{AreReads, IsLocal}
-use Rattle.tx_blocks.proofs.Programs.{own_reads}
-use Rattle.store_laws.specs.Calls.{KeyCall, StoreAnswer, key_act}
-use Rattle.store_laws.specs.Tree.{TreeCall, tree_act}
-use Rattle.store_laws.proofs.InOrder.{same_shape}
-use Rattle.store_scripts.specs.Kept.{ToldByMap}
-use Rattle.store_scripts.specs.Stores.{image_hash, image_tree}
-use Rattle.store_scripts.specs.Told.{OfHash, OfTree, Told, with_call}
+use Rattle.store_scripts.proofs.Words.{◌≡◌, ◌∙◌, sym, refl, ap, subst, ℕ, Bool, true, false, ◌||◌, List, [], ◌∷◌, ◌++◌, map, Access, Geometry, Span, Array, has_write, is_write, own, marked, AreReads, IsLocal, own_reads, KeyCall, StoreAnswer, key_act, TreeCall, tree_act, same_shape, ToldByMap, image_hash, image_tree, OfHash, OfTree, Told, with_call}
 
 neither : (x y : Bool) → (x || y) ≡ false → (x ≡ false) × (y ≡ false)
 neither true y none = cc

@@ -1,29 +1,12 @@
 -- A refused call of a store leaves whether its transaction keeps to the stores.
-use Rattle.std.proofs.Common.{◌≡◌, ◌∙◌, sym, refl, ap, subst, ℕ, ◌-◌, ◌==◌, ◌&&◌, ◌||◌, not, Bool, true, false, cond, List, [], ◌∷◌, ◌++◌, length, drop, append-nil, Option, Some, None, Result, Ok, Err}
-use Rattle.std.specs.List.{list_all}
-use Rattle.iso_model.specs.declared.access.Access.{Access}
-use Rattle.iso_model.specs.declared.limits.TheConstants.{MAX_ACCESSES}
-use Rattle.script_model.specs.declared.script.Op.{Op}
-use Rattle.script_model.specs.declared.script.Op.TheVariants.{Begin, End, Abort, Put, Read, Get, Write, Fill, Mark, Release, Takeover, Await, Trim, Stat, Compact, Upgrade, HashPut, HashGet, HashDelete, TreePut, TreeGet, TreeDelete, TreeScan}
-use Rattle.script_model.specs.declared.script.Reply.{Reply}
+use Rattle.store_scripts.proofs.Words.{◌≡◌, ◌∙◌, sym, refl, ap, subst, ℕ, ◌-◌, ◌==◌, ◌&&◌, ◌||◌, not, Bool, true, false, cond, List, [], ◌∷◌, ◌++◌, length, drop, append-nil, Option, Some, None, Result, Ok, Err, list_all, Access, MAX_ACCESSES, Op, Begin, End, Abort, Put, Read, Get, Write, Fill, Mark, Release, Takeover, Await, Trim, Stat, Compact, Upgrade, HashPut, HashGet, HashDelete, TreePut, TreeGet, TreeDelete, TreeScan, Reply, StoreError, is_key, array_of, found_reply, hash_delete_step, hash_get_step, hash_put_step, in_store, in_transaction, pairs_reply, removed_reply, step, store_reply, store_step, tree_delete_step, tree_get_step, tree_put_step, tree_scan_step, hash_area, tree_area, with_accesses, is_serial, AreReads, Program, outcome, Live, World, attached, IsWorld, OnKey, Scan, Answered, CallsStore, Notes, OfHash, OfTree, accesses_or_none, answered, noted, spares_calls, spares_stores, told_by, told_more}
 use Rattle.script_model.specs.declared.script.Reply.TheVariants as reply
-use Rattle.store_model.specs.declared.stores.StoreError.{StoreError}
 use Rattle.store_model.specs.HashCalls as hash
-use Rattle.store_model.specs.HashCalls.{is_key}
-use Rattle.script_model.specs.Step.{array_of, found_reply, hash_delete_step, hash_get_step, hash_put_step, in_store, in_transaction, pairs_reply, removed_reply, step, store_reply, store_step, tree_delete_step, tree_get_step, tree_put_step, tree_scan_step}
-use Rattle.store_model.specs.Areas.{hash_area, tree_area}
-use Rattle.iso_model.specs.Step.{with_accesses}
-use Rattle.iso_model.specs.Geometry.{is_serial}
-use Rattle.store_model.specs.Stores.{AreReads, Program, outcome}
 use Rattle.store_model.specs.TreeCalls as tree
-use Rattle.iso_model.specs.World.{Live, World, attached}
-use Rattle.iso_model.specs.Worlds.{IsWorld}
 use Rattle.iso_hash.proofs.Gets as hash_gets
 use Rattle.iso_tree.proofs.Gets as tree_gets
 use Rattle.iso_tree.proofs.ScanCalls as tree_scans
 use Rattle.store_laws.specs.Calls.{Del, Found, Get as GetKey, Got, Put as PutKey, WasPut, WasThere, in_area}
-use Rattle.store_laws.specs.Tree.{OnKey, Scan}
-use Rattle.store_scripts.specs.Told.{Answered, CallsStore, Notes, OfHash, OfTree, accesses_or_none, answered, noted, spares_calls, spares_stores, told_by, told_more}
 use Rattle.store_scripts.proofs.Finding.{attached_with}
 use Rattle.store_scripts.proofs.Lines.{found_named, got_named, there_named, tree_got_named, tree_there_named}
 use Rattle.store_scripts.proofs.Noted.{drop_past}

@@ -1,22 +1,7 @@
 -- A call of a store that is refused has made reads alone: a program writes only once nothing can refuse it.
-use Rattle.std.proofs.Common.{◌≡◌, refl, subst, ℕ, zero, suc, ◌+◌, ◌-◌, ◌≤◌, ◌==◌, ◌&&◌, Bool, true, false, cond, nat_le, List, [], ◌∷◌, length, map, take, Option, Some, None, Result, Ok, Err, arith}
-use Rattle.std.specs.Prelude.{nat_lt}
-use Rattle.std.proofs.lemmas.Bool.{both_ways, leb-true}
-use Rattle.iso_model.specs.declared.access.Access.{Access}
-use Rattle.store_model.specs.declared.stores.Area.{Area}
-use Rattle.store_model.specs.declared.stores.Spot.{Spot}
-use Rattle.store_model.specs.declared.stores.StoreError.{StoreError}
-use Rattle.iso_model.specs.Array.{Array, put}
-use Rattle.store_model.specs.Cells.{cell_count, cell_with, value_part}
-use Rattle.store_model.specs.FreeMap.{free_count, lowest_free}
+use Rattle.store_scripts.proofs.Words.{◌≡◌, refl, subst, ℕ, zero, suc, ◌+◌, ◌-◌, ◌≤◌, ◌==◌, ◌&&◌, Bool, true, false, cond, nat_le, List, [], ◌∷◌, length, map, take, Option, Some, None, Result, Ok, Err, arith, nat_lt, both_ways, leb-true, Access, Area, Spot, StoreError, Array, put, cell_count, cell_with, value_part, free_count, lowest_free, AtBroken, AtCell, AtEnd, Walked, at_cell, is_key, is_spent, is_value, spare_in, walk, walk_from, bucket_of, buckets, is_linked, last_position, next_of, block_at, AreReads, Done, Look, LookWhole, Program, Reserve, Store, accesses_of, bytes_in, further_bytes, outcome, store_access, then_do, Climb, Descent, climb, descend, first_write, free_list, full_row, look_again, need_of, put_new, put_writes, store_nodes, with_head, with_map, Cell, cell_of, child_of, count_of, is_child, is_head, is_node}
 use Rattle.store_model.specs.HashCalls as hash
-use Rattle.store_model.specs.HashCalls.{AtBroken, AtCell, AtEnd, Walked, at_cell, is_key, is_spent, is_value, spare_in, walk, walk_from}
-use Rattle.store_model.specs.HashRegion.{bucket_of, buckets, is_linked, last_position, next_of}
-use Rattle.iso_model.specs.Premises.{block_at}
-use Rattle.store_model.specs.Stores.{AreReads, Done, Look, LookWhole, Program, Reserve, Store, accesses_of, bytes_in, further_bytes, outcome, store_access, then_do}
 use Rattle.store_model.specs.TreeCalls as tree
-use Rattle.store_model.specs.TreeCalls.{Climb, Descent, climb, descend, first_write, free_list, full_row, look_again, need_of, put_new, put_writes, store_nodes, with_head, with_map}
-use Rattle.store_model.specs.TreeNodes.{Cell, cell_of, child_of, count_of, is_child, is_head, is_node}
 
 -- a program that ended so has not answered Ok
 abbrev pub IsRefusal : {R : Type 0} → Option (Result R StoreError) → Type 0

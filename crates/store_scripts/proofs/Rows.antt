@@ -1,23 +1,8 @@
 -- Worked examples: what lines and their replies tell of the calls of a tree store.
-use Rattle.std.specs.Prelude.{◌≡◌, ℕ, true, false, List, [], ◌∷◌, Some, None, refl, codes}
-use Rattle.std.specs.Fmt.{digits}
-use Rattle.iso_model.specs.declared.access.Geometry.{Geometry}
-use Rattle.iso_model.specs.declared.access.Mode.TheVariants.{Serial}
-use Rattle.iso_model.specs.Step.{begin_step, commit_step, end_step}
-use Rattle.script_model.specs.declared.script.Op.TheVariants.{End}
-use Rattle.script_model.specs.declared.script.Reply.TheVariants.{Committed}
-use Rattle.iso_model.specs.Array.{put}
-use Rattle.iso_model.specs.Conflict.{clash}
-use Rattle.iso_model.specs.Effect.{runs}
-use Rattle.script_model.specs.Script.{after, operation_of, other_operation, store_operation, tree_operation}
-use Rattle.script_model.specs.Step.{fill_step, get_step, mark_step, step, store_step, tree_get_step, tree_put_step, tree_delete_step}
-use Rattle.script_model.specs.Text.{hex_of, number_of, words_of}
+use Rattle.store_scripts.proofs.Words.{codes, digits, Geometry, Serial, begin_step, commit_step, end_step, End, Committed, put, clash, runs, after, operation_of, other_operation, store_operation, tree_operation, fill_step, get_step, mark_step, step, store_step, tree_get_step, tree_put_step, tree_delete_step, hex_of, number_of, words_of, is_node, lines_of, made, Del, Got, WasPut, WasThere, OnKey, Told, no_notes, notes_after}
+use Rattle.std.specs.Prelude.{◌≡◌, ℕ, true, false, List, [], ◌∷◌, Some, None, refl}
 use Rattle.store_model.specs.TreeCalls as tree
-use Rattle.store_model.specs.TreeNodes.{is_node}
-use Rattle.script_model.proofs.Small.{lines_of, made}
-use Rattle.store_laws.specs.Calls.{Del, Get, Got, Put, WasPut, WasThere}
-use Rattle.store_laws.specs.Tree.{OnKey}
-use Rattle.store_scripts.specs.Told.{Told, no_notes, notes_after}
+use Rattle.store_laws.specs.Calls.{Get, Put}
 
 -- eight blocks, of which the first three are a tree store
 abbrev trees : Geometry

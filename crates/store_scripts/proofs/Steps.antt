@@ -1,28 +1,7 @@
 -- Where each operation of a client leads, with what is told of the transactions.
-use Rattle.std.proofs.Common.{◌≡◌, sym, refl, subst, ℕ, ◌-◌, ◌==◌, ◌&&◌, not, Bool, true, false, cond, List, [], ◌∷◌, ◌++◌, length, nat_le, Option, Some, None, Result, Ok, Err, arith}
-use Rattle.std.specs.Prelude.{nat_lt}
-use Rattle.std.specs.List.{AllByRecursion}
-use Rattle.iso_model.specs.declared.access.Access.{Access}
-use Rattle.iso_model.specs.declared.access.Mode.{Mode}
-use Rattle.iso_model.specs.declared.core_reply.CoreReply.{CoreReply}
+use Rattle.store_scripts.proofs.Words.{◌≡◌, sym, refl, subst, ℕ, ◌-◌, ◌==◌, ◌&&◌, not, Bool, true, false, cond, List, [], ◌∷◌, ◌++◌, length, nat_le, Option, Some, None, Result, Ok, Err, arith, nat_lt, AllByRecursion, Access, Mode, CoreReply, LAST, MAX_ACCESSES, MAX_LIVE, Op, Reply, StoreError, same_mode, array_at, last, access_step, array_of, in_transaction, out_of_transaction, release_step, store_refusal, store_reply, takeover_step, after_begin, after_leaving, after_switch, after_trim, begin_step, placed, switch_step, with_accesses, as_reply, as_step, as_either, Program, outcome, Live, Place, World, attached, client, held, is_at_client, is_under_label, label, with, IsWorld, all_filter, all_find, all_push, all_weaker, Answered, Notes, Told, answered, told_more, with_call}
 use Rattle.iso_model.specs.declared.core_reply.CoreReply.TheVariants as core
-use Rattle.iso_model.specs.declared.limits.TheConstants.{LAST, MAX_ACCESSES, MAX_LIVE}
-use Rattle.script_model.specs.declared.script.Op.{Op}
-use Rattle.script_model.specs.declared.script.Reply.{Reply}
 use Rattle.script_model.specs.declared.script.Reply.TheVariants as reply
-use Rattle.store_model.specs.declared.stores.StoreError.{StoreError}
-use Rattle.iso_model.specs.Geometry.{same_mode}
-use Rattle.iso_model.specs.History.{array_at, last}
-use Rattle.script_model.specs.Step.{access_step, array_of, in_transaction, out_of_transaction, release_step, store_refusal, store_reply, takeover_step}
-use Rattle.iso_model.specs.Step.{after_begin, after_leaving, after_switch, after_trim, begin_step, placed, switch_step, with_accesses}
-use Rattle.script_model.specs.CoreReplies.{as_reply, as_step}
-use Rattle.script_model.proofs.CoreSteps.{as_either}
-use Rattle.store_model.specs.Stores.{Program, outcome}
-use Rattle.iso_model.specs.World.{Live, Place, World, attached, client, held, is_at_client, is_under_label, label, with}
-use Rattle.iso_model.specs.Worlds.{IsWorld}
-use Rattle.iso_model.proofs.Distinct.{all_filter, all_find}
-use Rattle.iso_model.proofs.Growth.{all_push, all_weaker}
-use Rattle.store_scripts.specs.Told.{Answered, Notes, Told, answered, told_more, with_call}
 use Rattle.store_scripts.proofs.Growing.{begins_told, in_form}
 use Rattle.store_scripts.proofs.Noted.{Goes, Holds, IsKept, IsNoted, adds, changes, choose, notes_by, quiet, stays}
 

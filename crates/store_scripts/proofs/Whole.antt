@@ -1,14 +1,5 @@
 -- The store theorem of the lines of a script, as one word.
-use Rattle.std.proofs.Common.{sym, subst, ℕ, ◌-◌, List, [], ◌∷◌, ◌++◌}
-use Rattle.script_model.specs.declared.script.Line.{Line}
-use Rattle.iso_model.specs.History.{array_at, last}
-use Rattle.script_model.specs.Script.{after}
-use Rattle.script_model.specs.Step.{step}
-use Rattle.iso_model.specs.World.{World}
-use Rattle.script_model.specs.Operations.{AreLines}
-use Rattle.store_scripts.specs.InOrder.{StoresAnswer}
-use Rattle.store_scripts.specs.Kept.{ToldInOrder}
-use Rattle.store_scripts.specs.Told.{CommitsKeep, Notes, no_notes, noted, notes_after}
+use Rattle.store_scripts.proofs.Words.{sym, subst, ℕ, ◌-◌, List, [], ◌∷◌, ◌++◌, Line, array_at, last, after, step, World, AreLines, StoresAnswer, ToldInOrder, CommitsKeep, Notes, no_notes, noted, notes_after}
 use Rattle.store_scripts.proofs.Commits.{commits_told}
 use Rattle.store_scripts.proofs.Lines.{noted_after, noted_begins}
 use Rattle.store_scripts.proofs.Order.{read_only_told}

@@ -1,10 +1,5 @@
 -- Numbers that are handed out and taken back.
-use Rattle.std.proofs.Common.{◌≡◌, ℕ, zero, suc, ◌+◌, ◌<◌, ◌≤◌, ◌≢◌, Bool, true, false, not, ◌||◌, ◌==◌, cond, List, [], ◌∷◌, ◌++◌, Option, Some, None, refl, ap, ◌∙◌, subst, eq-eqb, arith}
-use Rattle.std.specs.Prelude.{option_to_list, filter}
-use Rattle.std.specs.List.{AllByRecursion}
-use Rattle.std.proofs.lemmas.Bool.Decides.{nat_tests}
-use Rattle.turn_lock.specs.Lists.{hit, times, AreDistinct}
-use Rattle.turn_lock.specs.Numbers.{is_among, out_next, out_from, is_out, IsOut, AreOut, AreFree, AreHeld, without, held_after}
+use Rattle.turn_lock.proofs.Words.{◌≡◌, ℕ, zero, suc, ◌+◌, ◌<◌, ◌≤◌, ◌≢◌, Bool, true, false, not, ◌||◌, ◌==◌, cond, List, [], ◌∷◌, ◌++◌, Option, Some, None, refl, ap, ◌∙◌, subst, eq-eqb, arith, option_to_list, filter, AllByRecursion, nat_tests, hit, times, AreDistinct, is_among, out_next, out_from, is_out, IsOut, AreOut, AreFree, AreHeld, without, held_after}
 use Rattle.turn_lock.proofs.Totals.{hit_same, hit_other}
 use Rattle.turn_lock.proofs.Rising.{times_append}
 

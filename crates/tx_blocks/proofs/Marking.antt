@@ -1,16 +1,6 @@
 -- An access that was made may be marked, and what its marks make of it.
-use Rattle.std.proofs.Common.{◌≡◌, ◌∙◌, refl, ap, subst, ℕ, zero, suc, ◌<◌, true, false, List, [], ◌∷◌, ◌++◌, length, Option, Some, None, Result, Ok, Err, arith, nat_le, inl, inr}
-use Rattle.std.specs.List.{AllByRecursion}
-use Rattle.std.proofs.Common.{get_or}
-use Rattle.std.proofs.lemmas.Bool.{cases_Bool}
-use Rattle.std.proofs.lemmas.Bool.Decides.{nat_tests}
-use Rattle.iso_model.specs.declared.access.Access.{Access}
-use Rattle.iso_model.specs.declared.access.Span.{Span}
-use Rattle.store_model.specs.declared.stores.TxError.{TxError}
+use Rattle.tx_blocks.proofs.Words.{◌≡◌, ◌∙◌, refl, ap, subst, ℕ, zero, suc, ◌<◌, true, false, List, [], ◌∷◌, ◌++◌, length, Option, Some, None, Result, Ok, Err, arith, nat_le, inl, inr, AllByRecursion, get_or, cases_Bool, nat_tests, Access, Span, TxError, is_outside, marked, marks_fault, IsSpan, Tx, access_refusal, mark_refusal, with_accesses, IsRefused}
 use Rattle.store_model.specs.declared.stores.TxError.TheVariants as error
-use Rattle.iso_model.specs.Marks.{is_outside, marked, marks_fault}
-use Rattle.iso_model.specs.Premises.{IsSpan}
-use Rattle.tx_blocks.specs.Tx.{Tx, access_refusal, mark_refusal, with_accesses, IsRefused}
 
 pub marked_last : (span : Span) (xs : List Access) (a : Access) → marked span (xs ++ a ∷ []) ≡ xs ++ record a { spans = a.spans ++ span ∷ [] } ∷ []
 marked_last span [] a = refl

@@ -1,10 +1,5 @@
 -- What a program does in a transaction that has room for so many accesses.
-use Rattle.std.proofs.Common.{◌≡◌, ◌∙◌, sym, refl, ap, ℕ, zero, suc, ◌-◌, true, false, cond, List, [], ◌∷◌, length, take, Option, Some, None, arith, nat_le}
-use Rattle.iso_model.specs.declared.access.Access.{Access}
-use Rattle.iso_model.specs.Array.{Array, put}
-use Rattle.iso_model.specs.Effect.{own}
-use Rattle.iso_model.specs.Premises.{block_at}
-use Rattle.store_model.specs.Stores.{Program, Done, Look, LookWhole, Reserve, Store, bytes_in, further_bytes, with_further, look_access, store_access, accesses_of, answer_of, after, outcome, then_do, AreReads}
+use Rattle.tx_blocks.proofs.Words.{◌≡◌, ◌∙◌, sym, refl, ap, ℕ, zero, suc, ◌-◌, true, false, cond, List, [], ◌∷◌, length, take, Option, Some, None, arith, nat_le, Access, Array, put, own, block_at, Program, Done, Look, LookWhole, Reserve, Store, bytes_in, further_bytes, with_further, look_access, store_access, accesses_of, answer_of, after, outcome, then_do, AreReads}
 
 no_answer : {R : Type 0} (r : R) → ◌≡◌ {A = Option R} None (Some r) → ⊥
 no_answer r is = cc

@@ -1,14 +1,7 @@
 -- A call that is made of parts.
-use Rattle.std.proofs.Common.{◌≡◌, ◌≢◌, ◌⊎◌, ◌<◌, ◌∙◌, sym, refl, ap, subst, ℕ, ◌+◌, ◌-◌, ◌≤◌, List, [], ◌∷◌, ◌++◌, length, take, Option, Some, None, Result, Ok, Err, inl, inr, arith, length-append}
-use Rattle.iso_model.specs.declared.access.Access.{Access}
-use Rattle.store_model.specs.declared.stores.StoreError.{StoreError}
+use Rattle.tx_blocks.proofs.Words.{◌≡◌, ◌≢◌, ◌⊎◌, ◌<◌, ◌∙◌, sym, refl, ap, subst, ℕ, ◌+◌, ◌-◌, ◌≤◌, List, [], ◌∷◌, ◌++◌, length, take, Option, Some, None, Result, Ok, Err, inl, inr, arith, length-append, Access, StoreError, TxError, own, Program, accesses_of, after, outcome, Tx, Device, IsLater, with_accesses, room_of, Ends, Ran, Began, Stopped, IsCut, HasRun, HasEnded, HasRead, IsCause, IsStoreCause, Behaves, WantsMemory}
 use Rattle.store_model.specs.declared.stores.StoreError.TheVariants as store
-use Rattle.store_model.specs.declared.stores.TxError.{TxError}
 use Rattle.store_model.specs.declared.stores.TxError.TheVariants as error
-use Rattle.iso_model.specs.Effect.{own}
-use Rattle.store_model.specs.Stores.{Program, accesses_of, after, outcome}
-use Rattle.tx_blocks.specs.Tx.{Tx, Device, IsLater, with_accesses, room_of}
-use Rattle.tx_blocks.specs.Runs.{Ends, Ran, Began, Stopped, IsCut, HasRun, HasEnded, HasRead, IsCause, IsStoreCause, Behaves, WantsMemory}
 use Rattle.tx_blocks.proofs.Programs.{reads_append}
 use Rattle.tx_blocks.proofs.Progress.{IsAt, same_base, with_more}
 use Rattle.tx_blocks.proofs.Refusals.{cause_earlier, cause_since, later_than, later_same}

@@ -1,17 +1,5 @@
 -- A program's accesses and its answer are a function of the bytes that it depends on.
-use Rattle.std.proofs.Common.{◌≡◌, ◌∙◌, sym, refl, ap, subst, ℕ, ◌+◌, ◌-◌, ◌<◌, ◌≤◌, Bool, true, false, ◌&&◌, ◌==◌, not, cond, IsTrue, List, [], ◌∷◌, ◌++◌, length, get_or, drop, Option, Some, None, arith, inl, inr, eq-eqb, ne_eqb}
-use Rattle.std.specs.List.{AllByRecursion}
-use Rattle.std.proofs.lemmas.Bool.{both_ways, cases_eq, cases_lt, or_left, or_right, and_from}
-use Rattle.std.proofs.lemmas.Bool.Decides.{nat_tests}
-use Rattle.std.proofs.lemmas.List.{ext_get_or, get_or-take, get_or-drop, get_or_past, length-take, length-drop}
-use Rattle.iso_model.specs.declared.access.Access.{Access}
-use Rattle.iso_model.specs.declared.access.Span.{Span}
-use Rattle.iso_model.specs.declared.access.Kind.TheVariants.{Read}
-use Rattle.iso_model.specs.Array.{Array, covered, in_span, put, byte_at}
-use Rattle.iso_model.specs.Effect.{own, is_write, covers}
-use Rattle.iso_model.specs.Premises.{block_at}
-use Rattle.store_model.specs.Stores.{Program, Done, Look, LookWhole, Reserve, Store, bytes_in, further_bytes, with_further, look_access, store_access, accesses_of, answer_of, then_do, depends, SameShape, Agree, AreReads, IsLocal}
-use Rattle.iso_model.proofs.Bytes.{put_at, length-put, length-block_put, other_block}
+use Rattle.tx_blocks.proofs.Words.{◌≡◌, ◌∙◌, sym, refl, ap, subst, ℕ, ◌+◌, ◌-◌, ◌<◌, ◌≤◌, Bool, true, false, ◌&&◌, ◌==◌, not, cond, IsTrue, List, [], ◌∷◌, ◌++◌, length, get_or, drop, Option, Some, None, arith, inl, inr, eq-eqb, ne_eqb, AllByRecursion, both_ways, cases_eq, cases_lt, or_left, or_right, and_from, nat_tests, ext_get_or, get_or-take, get_or-drop, get_or_past, length-take, length-drop, Access, Span, Read, Array, covered, in_span, put, byte_at, own, is_write, covers, block_at, Program, Done, Look, LookWhole, Reserve, Store, bytes_in, further_bytes, with_further, look_access, store_access, accesses_of, answer_of, then_do, depends, SameShape, Agree, AreReads, IsLocal, put_at, length-put, length-block_put, other_block}
 
 -- each write has the bytes of a whole block
 abbrev pub AreWhole : Array → List Access → Type 0

@@ -1,16 +1,5 @@
 -- How far a call that follows a program has come.
-use Rattle.std.proofs.Common.{◌≡◌, ◌∙◌, sym, refl, ap, subst, ℕ, zero, suc, ◌+◌, ◌-◌, ◌<◌, ◌≤◌, Bool, true, false, cond, List, [], ◌∷◌, ◌++◌, length, take, Option, Some, None, arith, nat_le, append_assoc, length-append}
-use Rattle.std.proofs.lemmas.List.{append-nil, take_at, drop_at}
-use Rattle.std.specs.Option.{ForSome}
-use Rattle.std.proofs.lemmas.Bool.Decides.{nat_tests}
-use Rattle.iso_model.specs.declared.access.Access.{Access}
-use Rattle.iso_model.specs.declared.access.Span.{Span}
-use Rattle.iso_model.specs.Array.{Array, put}
-use Rattle.iso_model.specs.Effect.{own, is_write}
-use Rattle.iso_model.specs.Premises.{block_at}
-use Rattle.store_model.specs.Stores.{Program, Done, Look, LookWhole, Reserve, Store, bytes_in, further_bytes, with_further, look_access, store_access, accesses_of, answer_of, after, outcome, then_do}
-use Rattle.tx_blocks.specs.Tx.{Tx, with_accesses, added, room_of}
-use Rattle.tx_blocks.specs.Runs.{Began, Ends, Ran, Stopped}
+use Rattle.tx_blocks.proofs.Words.{◌≡◌, ◌∙◌, sym, refl, ap, subst, ℕ, zero, suc, ◌+◌, ◌-◌, ◌<◌, ◌≤◌, Bool, true, false, cond, List, [], ◌∷◌, ◌++◌, length, take, Option, Some, None, arith, nat_le, append_assoc, length-append, append-nil, take_at, drop_at, ForSome, nat_tests, Access, Span, Array, put, own, is_write, block_at, Program, Done, Look, LookWhole, Reserve, Store, bytes_in, further_bytes, with_further, look_access, store_access, accesses_of, answer_of, after, outcome, then_do, Tx, with_accesses, added, room_of, Began, Ends, Ran, Stopped}
 use Rattle.tx_blocks.proofs.Programs.{accesses_then}
 use Rattle.tx_blocks.proofs.Outcomes.{IsWhole, outcome_whole, outcome_then, outcome_cut}
 

@@ -1,17 +1,7 @@
 -- Where a call that follows a program is refused an access.
-use Rattle.std.proofs.Common.{◌≡◌, ◌∙◌, sym, refl, ap, subst, ℕ, ◌+◌, ◌<◌, ◌≤◌, false, List, [], ◌∷◌, ◌++◌, length, Option, Result, Ok, Err, inl, inr, arith, append_assoc}
-use Rattle.std.proofs.lemmas.List.{append-nil}
-use Rattle.fault_count.specs.Count.{Rose}
-use Rattle.iso_model.specs.declared.access.Access.{Access}
-use Rattle.iso_model.specs.declared.access.Span.{Span}
-use Rattle.store_model.specs.declared.stores.StoreError.{StoreError}
+use Rattle.tx_blocks.proofs.Words.{◌≡◌, ◌∙◌, sym, refl, ap, subst, ℕ, ◌+◌, ◌<◌, ◌≤◌, false, List, [], ◌∷◌, ◌++◌, length, Option, Result, Ok, Err, inl, inr, arith, append_assoc, append-nil, Rose, Access, Span, StoreError, TxError, is_write, Program, Look, Store, then_do, Tx, Device, IsLater, with_accesses, IsCut, IsCause, HasRead, IsStoreCause, IsUnwritten, Behaves, Passed}
 use Rattle.store_model.specs.declared.stores.StoreError.TheVariants as store
-use Rattle.store_model.specs.declared.stores.TxError.{TxError}
 use Rattle.store_model.specs.declared.stores.TxError.TheVariants as error
-use Rattle.iso_model.specs.Effect.{is_write}
-use Rattle.store_model.specs.Stores.{Program, Look, Store, then_do}
-use Rattle.tx_blocks.specs.Tx.{Tx, Device, IsLater, with_accesses}
-use Rattle.tx_blocks.specs.Runs.{IsCut, IsCause, HasRead, IsStoreCause, IsUnwritten, Behaves, Passed}
 use Rattle.tx_blocks.proofs.Programs.{reads_append}
 use Rattle.tx_blocks.proofs.Progress.{IsAt, at_start, stopped_at, stopped_then, full_at_look, full_at_store, full_then}
 

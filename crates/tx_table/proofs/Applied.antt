@@ -1,21 +1,5 @@
 -- One row more in the patches.
-use Rattle.std.proofs.Common.{◌≡◌, ◌∙◌, refl, sym, ap, ℕ, zero, suc, ◌+◌, ◌<◌, Bool, true, false, ◌==◌, ◌&&◌, nat_lt, cond, inl, inr, List, [], ◌∷◌, ◌++◌, length, get_or, map, take, arith, ne_eqb, Option, IsTrue}
-use Rattle.std.specs.List.{AllByRecursion}
-use Rattle.std.proofs.lemmas.Bool.{cases_eq}
-use Rattle.std.proofs.lemmas.Grind.{common_steps}
-use Rattle.iso_model.specs.declared.access.Access.{Access}
-use Rattle.iso_model.specs.declared.access.Kind.{Kind}
-use Rattle.byte_marks.specs.declared.extent.Extent.{Extent}
-use Rattle.byte_marks.specs.Touched.{touches, AreTouched}
-use Rattle.iso_model.specs.Array.{Array}
-use Rattle.iso_model.specs.Effect.{effects_from, is_write, own}
-use Rattle.iso_model.specs.Premises.{block_at, HasBytes}
-use Rattle.merge_write.specs.Patch.{laid, written}
-use Rattle.merge_write.proofs.Effects.{written_effects}
-use Rattle.merge_write.proofs.Growth.{effects_kept, effects_shown}
-use Rattle.tx_table.specs.declared.rows.Row.{Row}
-use Rattle.tx_table.specs.Patches.{AreEffects, has_patch, patch_at, HavePatches}
-use Rattle.tx_table.specs.Work.{access_of, IsRow}
+use Rattle.tx_table.proofs.Words.{◌≡◌, ◌∙◌, refl, sym, ap, ℕ, zero, suc, ◌+◌, ◌<◌, Bool, true, false, ◌==◌, ◌&&◌, nat_lt, cond, inl, inr, List, [], ◌∷◌, ◌++◌, length, get_or, map, take, arith, ne_eqb, Option, IsTrue, AllByRecursion, cases_eq, common_steps, Access, Kind, Extent, touches, AreTouched, Array, effects_from, is_write, own, block_at, HasBytes, laid, written, written_effects, effects_kept, effects_shown, Row, AreEffects, has_patch, patch_at, HavePatches, access_of, IsRow}
 
 -- the accesses of one row more
 pub rows_more : (i : ℕ) (rows : List Row) (d : Row) → i < length rows → take (i + 1) (map access_of rows) ≡ take i (map access_of rows) ++ access_of (get_or rows i d) ∷ []

@@ -1,13 +1,5 @@
 -- The least begin, one begin more, and the entry of a transaction.
-use Rattle.std.proofs.Common.{◌≡◌, ◌∙◌, refl, sym, ap, ℕ, zero, suc, ◌+◌, ◌<◌, min, true, List, [], ◌∷◌, ◌++◌, length, get_or, drop, map, take, arith, Some, nat_eq, slice_get}
-use Rattle.std.specs.Map.{lookup, remove_entry}
-use Rattle.std.specs.Option.{option_map}
-use Rattle.std.proofs.lemmas.Bool.{cond-true}
-use Rattle.std.proofs.lemmas.Grind.{common_steps}
-use Rattle.std.proofs.lemmas.List.{drop_more}
-use Rattle.iso_model.specs.World.{floor_of, least_begin}
-use Rattle.tx_table.specs.declared.live.Begun.{Begun}
-use Rattle.tx_table.specs.Live.{IsPlace, at_work}
+use Rattle.tx_table.proofs.Words.{◌≡◌, ◌∙◌, refl, sym, ap, ℕ, zero, suc, ◌+◌, ◌<◌, min, true, List, [], ◌∷◌, ◌++◌, length, get_or, drop, map, take, arith, Some, nat_eq, slice_get, lookup, remove_entry, option_map, cond-true, common_steps, drop_more, floor_of, least_begin, Begun, IsPlace, at_work}
 
 least_more : (n i : ℕ) (live : List (ℕ × Begun)) (d : ℕ × Begun) → i < length live
     → least_begin n (map at_work (take (i + 1) live)) ≡ min (least_begin n (map at_work (take i live))) (get_or live i d).1.at

@@ -1,10 +1,5 @@
 -- Patches whose blocks rise.
-use Rattle.std.proofs.Common.{◌≡◌, ◌≢◌, ◌∙◌, refl, sym, ap, subst, ℕ, zero, suc, ◌+◌, ◌<◌, ◌≤◌, Bool, true, false, ◌==◌, ◌||◌, cond, inl, inr, List, [], ◌∷◌, ◌++◌, length, get_or, set, take, drop, arith, ne_eqb, Option, None, replicate}
-use Rattle.std.proofs.lemmas.Bool.{both_ways, cases_eq, cases_lt}
-use Rattle.std.proofs.lemmas.List.{get_or_default}
-use Rattle.merge_write.specs.Patch.{laid}
-use Rattle.std.proofs.lemmas.Grind.{common_steps}
-use Rattle.tx_table.specs.Patches.{has_patch, patch_at, RisesFrom}
+use Rattle.tx_table.proofs.Words.{◌≡◌, ◌≢◌, ◌∙◌, refl, sym, ap, subst, ℕ, zero, suc, ◌+◌, ◌<◌, ◌≤◌, Bool, true, false, ◌==◌, ◌||◌, cond, inl, inr, List, [], ◌∷◌, ◌++◌, length, get_or, set, take, drop, arith, ne_eqb, Option, None, replicate, both_ways, cases_eq, cases_lt, get_or_default, laid, common_steps, has_patch, patch_at, RisesFrom}
 
 at_least : {A : Type 0} (f j : ℕ) (es : List (ℕ × A)) (d : ℕ × A) → RisesFrom f es → j < length es → f ≤ (get_or es j d).0
 at_least f j [] d rises lt = absurd (omega arith)

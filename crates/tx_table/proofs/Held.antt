@@ -1,10 +1,5 @@
 -- Patches in their slots: which block has which, and what clearing leaves.
-use Rattle.std.proofs.Common.{◌≡◌, ◌≢◌, ◌∙◌, sym, ap, ℕ, ◌<◌, ◌≤◌, Bool, true, false, ◌==◌, ◌||◌, ◌&&◌, List, [], ◌∷◌, refl, inl, inr, length, get_or, arith, Option, None, replicate}
-use Rattle.std.proofs.lemmas.Bool.{cases_lt}
-use Rattle.std.proofs.lemmas.List.{length-replicate}
-use Rattle.std.specs.List.{AllByRecursion}
-use Rattle.tx_table.specs.Patches.{has_patch, patch_at, AreBlankFrom, RisesFrom}
-use Rattle.tx_table.specs.Slots.{entries_of}
+use Rattle.tx_table.proofs.Words.{◌≡◌, ◌≢◌, ◌∙◌, sym, ap, ℕ, ◌<◌, ◌≤◌, Bool, true, false, ◌==◌, ◌||◌, ◌&&◌, List, [], ◌∷◌, refl, inl, inr, length, get_or, arith, Option, None, replicate, cases_lt, length-replicate, AllByRecursion, has_patch, patch_at, AreBlankFrom, RisesFrom, entries_of}
 use Rattle.tx_table.proofs.Blocks.{found_at, found_none}
 use Rattle.tx_table.proofs.Slots.{all_from, all_there, entry_is, key_at, length-entries, rises_entries}
 

@@ -1,14 +1,5 @@
 -- What is held under a label stands under its key.
-use Rattle.std.proofs.Common.{◌≡◌, ◌≢◌, ◌∙◌, refl, sym, ap, subst, ℕ, nat_eq, bytes_eq, Bool, true, false, cond, inl, inr, List, [], ◌∷◌, ◌++◌, map, arith, ne_eqb, Option, Some, None, is_some, IsTrue}
-use Rattle.std.specs.List.{AllByRecursion}
-use Rattle.std.specs.Map.{lookup, remove_entry}
-use Rattle.std.specs.Option.{option_map}
-use Rattle.std.proofs.lemmas.Bool.{both_ways, cases_eq}
-use Rattle.std.proofs.lemmas.Slice.Eq.{bytes_eq-Decides}
-use Rattle.std.proofs.lemmas.Grind.{common_steps}
-use Rattle.iso_model.specs.Labels.{is_label, key_of}
-use Rattle.iso_model.proofs.Labels.{key_tells}
-use Rattle.tx_table.specs.Rack.{IsKeyed}
+use Rattle.tx_table.proofs.Words.{◌≡◌, ◌≢◌, ◌∙◌, refl, sym, ap, subst, ℕ, nat_eq, bytes_eq, Bool, true, false, cond, inl, inr, List, [], ◌∷◌, ◌++◌, map, arith, ne_eqb, Option, Some, None, is_some, IsTrue, AllByRecursion, lookup, remove_entry, option_map, both_ways, cases_eq, bytes_eq-Decides, common_steps, is_label, key_of, key_tells, IsKeyed}
 
 bytes_self : (xs ys : List ℕ) → xs ≡ ys → bytes_eq xs ys ≡ true
 bytes_self xs ys same = (bytes_eq-Decides xs ys).1 same

@@ -1,22 +1,5 @@
 -- A row more, and another last row.
-use Rattle.std.proofs.Common.{◌≡◌, ◌≢◌, ◌∙◌, refl, sym, ap, subst, ℕ, zero, suc, ◌+◌, ◌<◌, ◌≤◌, true, false, List, [], ◌∷◌, ◌++◌, length, get_or, set, map, take, arith, Option, Some, None, Result, Ok, Err, IsTrue, IsFalse, ◌==◌, nat_le, nat_lt, ne_eqb}
-use Rattle.std.proofs.lemmas.Grind.{common_steps}
-use Rattle.std.specs.List.{AllByRecursion}
-use Rattle.std.specs.Option.{IfSome}
-use Rattle.byte_marks.specs.declared.extent.Extent.{Extent}
-use Rattle.byte_marks.specs.Touched.{AreTouched}
-use Rattle.iso_model.specs.declared.access.Access.{Access}
-use Rattle.iso_model.specs.declared.access.Kind.{Kind}
-use Rattle.iso_model.specs.declared.access.Kind.TheVariants.{Read, Write}
-use Rattle.iso_model.specs.declared.access.MarkError.{MarkError}
-use Rattle.iso_model.specs.declared.access.Span.{Span}
-use Rattle.iso_model.specs.Effect.{is_write}
-use Rattle.iso_model.specs.declared.access.MarkError.TheVariants.{TooManyMarks}
-use Rattle.iso_model.specs.Marks.{is_outside, mark_fault, marked, marks_fault}
-use Rattle.iso_model.specs.Premises.{AreBytes, HasBytes, IsAccess, IsSpan}
-use Rattle.tx_table.specs.declared.rows.Row.{Row}
-use Rattle.tx_table.specs.Patches.{AreEffects, has_patch, HavePatches}
-use Rattle.tx_table.specs.Work.{access_of, AreWithin, IsRow}
+use Rattle.tx_table.proofs.Words.{◌≡◌, ◌≢◌, ◌∙◌, refl, sym, ap, subst, ℕ, zero, suc, ◌+◌, ◌<◌, ◌≤◌, true, false, List, [], ◌∷◌, ◌++◌, length, get_or, set, map, take, arith, Option, Some, None, Result, Ok, Err, IsTrue, IsFalse, ◌==◌, nat_le, nat_lt, ne_eqb, common_steps, AllByRecursion, IfSome, Extent, AreTouched, Access, Kind, Read, Write, MarkError, Span, is_write, TooManyMarks, is_outside, mark_fault, marked, marks_fault, AreBytes, HasBytes, IsAccess, IsSpan, Row, AreEffects, has_patch, HavePatches, access_of, AreWithin, IsRow}
 
 pub map_more : (rows : List Row) (row : Row) → map access_of (rows ++ row ∷ []) ≡ map access_of rows ++ access_of row ∷ []
 map_more [] row = refl

@@ -1,3 +1,4 @@
+pub mod Words
 pub mod Applied
 pub mod Begins
 pub mod Blocks

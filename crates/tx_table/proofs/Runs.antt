@@ -1,15 +1,5 @@
 -- The runs of the patches are those of the accesses.
-use Rattle.std.proofs.Common.{◌≡◌, ◌∙◌, refl, sym, ap, subst, ℕ, zero, suc, ◌+◌, ◌<◌, ◌≤◌, Bool, true, false, ◌==◌, ◌&&◌, cond, inl, inr, List, [], ◌∷◌, ◌++◌, map, arith, ne_eqb, Option, Some, None, replicate, flat_map, slice_index}
-use Rattle.std.specs.List.{AllByRecursion, range_with_len}
-use Rattle.std.proofs.lemmas.Bool.{cases_eq}
-use Rattle.std.proofs.lemmas.Grind.{common_steps}
-use Rattle.iso_model.specs.declared.access.Geometry.{Geometry}
-use Rattle.iso_model.specs.declared.access.Run.{Run}
-use Rattle.iso_model.specs.Array.{covered}
-use Rattle.iso_model.specs.Effect.{block_runs, effect_at, effects_from, is_write, or_else, runs, runs_from}
-use Rattle.tx_table.specs.declared.rows.Row.{Row}
-use Rattle.tx_table.specs.Patches.{AreEffects, patch_at, RisesFrom}
-use Rattle.tx_table.specs.Work.{access_of, IsRow}
+use Rattle.tx_table.proofs.Words.{◌≡◌, ◌∙◌, refl, sym, ap, subst, ℕ, zero, suc, ◌+◌, ◌<◌, ◌≤◌, Bool, true, false, ◌==◌, ◌&&◌, cond, inl, inr, List, [], ◌∷◌, ◌++◌, map, arith, ne_eqb, Option, Some, None, replicate, flat_map, slice_index, AllByRecursion, range_with_len, cases_eq, common_steps, Geometry, Run, covered, block_runs, effect_at, effects_from, is_write, or_else, runs, runs_from, Row, AreEffects, patch_at, RisesFrom, access_of, IsRow}
 
 -- no value, no run
 no_runs : (b p n : ℕ) → runs_from b p (replicate n None) ≡ []

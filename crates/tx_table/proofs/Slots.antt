@@ -1,8 +1,5 @@
 -- Items in slots under an order of keys, as a list of entries.
-use Rattle.std.proofs.Common.{◌≡◌, ◌≢◌, ◌∙◌, refl, sym, ap, ℕ, zero, suc, ◌+◌, ◌<◌, ◌≤◌, List, [], ◌∷◌, ◌++◌, length, get_or, set, take, drop, arith, get_or-set_same, get_or-set_other}
-use Rattle.std.specs.List.{AllByRecursion}
-use Rattle.tx_table.specs.Patches.{RisesFrom}
-use Rattle.tx_table.specs.Slots.{entries_of, AreSlots}
+use Rattle.tx_table.proofs.Words.{◌≡◌, ◌≢◌, ◌∙◌, refl, sym, ap, ℕ, zero, suc, ◌+◌, ◌<◌, ◌≤◌, List, [], ◌∷◌, ◌++◌, length, get_or, set, take, drop, arith, get_or-set_same, get_or-set_other, AllByRecursion, RisesFrom, entries_of, AreSlots}
 
 -- the keys are those of the order
 pub rises_entries : {A : Type 0} (d : A) (items : List A) (f : ℕ) (order : List (ℕ × ℕ)) → RisesFrom f order → RisesFrom f (entries_of d items order)

@@ -1,16 +1,5 @@
 -- How many bytes the records above a number take, by their index.
-use Rattle.std.proofs.Common.{◌≡◌, ◌∙◌, sym, ap, ℕ, zero, suc, ◌+◌, ◌-◌, ◌*◌, ◌<◌, List, [], ◌∷◌, length, drop, sum_by, arith}
-use Rattle.std.specs.List.{AllByRecursion}
-use Rattle.std.proofs.lemmas.List.Sums.{sum_by-cons}
-use Rattle.iso_model.specs.declared.access.Geometry.{Geometry}
-use Rattle.iso_model.specs.Effect.{record_length}
-use Rattle.iso_model.specs.Image.{IsRecord, Written, records}
-use Rattle.iso_model.proofs.Opened.{length-records}
-use Rattle.mv_index.specs.Placed.{IsIndexOf, placed, versions_of}
-use Rattle.mv_index.specs.Versions.{BlockVersions}
-use Rattle.mv_index.specs.Weights.{bytes_above, part_bytes_above}
-use Rattle.mv_index.proofs.Counts.{blocks_below, rows_total, total, total_add, total_same, total_zero}
-use Rattle.mv_index.proofs.Weights.{part_bytes_above-append, part_bytes_above-shown_since, placed_above, placed_below}
+use Rattle.version_read.proofs.Words.{◌≡◌, ◌∙◌, sym, ap, ℕ, zero, suc, ◌+◌, ◌-◌, ◌*◌, ◌<◌, List, [], ◌∷◌, length, drop, sum_by, arith, AllByRecursion, sum_by-cons, Geometry, record_length, IsRecord, Written, records, length-records, IsIndexOf, placed, versions_of, BlockVersions, bytes_above, part_bytes_above, blocks_below, rows_total, total, total_add, total_same, total_zero, part_bytes_above-append, part_bytes_above-shown_since, placed_above, placed_below}
 
 -- how many bytes the parts above m of these records take, over all blocks
 abbrev bytes_of : (g : Geometry) (m n at : ℕ) → List Written → ℕ

@@ -1,14 +1,5 @@
 -- Parts that are added to an index one by one.
-use Rattle.std.proofs.Common.{◌≡◌, ◌≢◌, inl, inr, ◌∙◌, sym, refl, ap, ℕ, ◌+◌, ◌<◌, ◌≤◌, ◌==◌, Bool, true, false, cond, List, [], ◌∷◌, ◌++◌, length, take, drop, get_or, arith, subst, append_assoc}
-use Rattle.std.specs.List.{AllByRecursion}
-use Rattle.std.proofs.lemmas.Bool.{cases_eq, eq-eqb, ne_eqb}
-use Rattle.std.proofs.lemmas.List.{append-nil, drop_more, take_all, take_more, take-append-drop}
-use Rattle.std.proofs.lemmas.List.Sums.{sum_by-append, sum_by-cons}
-use Rattle.mv_index.specs.declared.version.Version.{Version}
-use Rattle.mv_index.specs.Versions.{AreAtMost, BlockVersions, IsAdded, count_of, no_version, room_of, versions_in}
-use Rattle.mv_index.proofs.Sublists.{all_at, all_of}
-use Rattle.version_read.specs.declared.part_span.PartSpan.{PartSpan}
-use Rattle.version_read.specs.Parts.{HasRoom, HasTaken, no_part, part_versions, parts_in, parts_length}
+use Rattle.version_read.proofs.Words.{◌≡◌, ◌≢◌, inl, inr, ◌∙◌, sym, refl, ap, ℕ, ◌+◌, ◌<◌, ◌≤◌, ◌==◌, Bool, true, false, cond, List, [], ◌∷◌, ◌++◌, length, take, drop, get_or, arith, subst, append_assoc, AllByRecursion, cases_eq, eq-eqb, ne_eqb, append-nil, drop_more, take_all, take_more, take-append-drop, sum_by-append, sum_by-cons, Version, AreAtMost, BlockVersions, IsAdded, count_of, no_version, room_of, versions_in, all_at, all_of, PartSpan, HasRoom, HasTaken, no_part, part_versions, parts_in, parts_length}
 use Rattle.version_read.proofs.Lying.{all_append, all_cond}
 
 abbrev pub size_of : PartSpan → ℕ

@@ -1,9 +1,5 @@
 -- Bits of a word, seen from a place on.
-use Rattle.std.proofs.Common.{◌≡◌, ◌∙◌, refl, sym, ap, ℕ, zero, suc, not, w64, inl, inr, ◌+◌, ◌-◌, ◌/◌, ◌%◌, ◌^◌, ◌<◌, ◌≤◌, ◌==◌, arith}
-use Rattle.std.proofs.lemmas.Bool.{cases_lt}
-use Rattle.std.proofs.lemmas.Nat.Bits.{bit_at_not, bit_at_above, bit_at-lt, bit_at-trailing_zeros}
-use Rattle.std.proofs.lemmas.Nat.{shr-shr, shr_le}
-use Rattle.std.specs.Int.{bit_at, trailing_zeros}
+use Rattle.version_read.proofs.Words.{◌≡◌, ◌∙◌, refl, sym, ap, ℕ, zero, suc, not, w64, inl, inr, ◌+◌, ◌-◌, ◌/◌, ◌%◌, ◌^◌, ◌<◌, ◌≤◌, ◌==◌, arith, cases_lt, bit_at_not, bit_at_above, bit_at-lt, bit_at-trailing_zeros, shr-shr, shr_le, bit_at, trailing_zeros}
 
 -- the other bits of a word
 pub other_bits : (word k : ℕ) → word < 2 ^ 64 → k < 64 → (bit_at (18446744073709551615 - word) k == 1) ≡ not (bit_at word k == 1)

@@ -1,27 +1,5 @@
 -- A block that is read by the versions of a half's records is the block of the array after them.
-use Rattle.std.proofs.Common.{◌≡◌, ◌∙◌, sym, refl, ap, ℕ, zero, suc, ◌+◌, ◌-◌, ◌*◌, ◌<◌, ◌≤◌, ◌==◌, Bool, true, false, cond, nat_le, List, [], ◌∷◌, ◌++◌, length, take, drop, get_or, unwrap_or, arith, subst, length-drop}
-use Rattle.std.proofs.lemmas.Bool.{le-leb, lt-leb}
-use Rattle.std.proofs.lemmas.List.{get_or-take, get_or-drop, ext_get_or, take_all, length-map, length-take-le}
-use Rattle.std.proofs.lemmas.List.Elements.{filter-append}
-use Rattle.iso_model.specs.declared.access.Commit.{Commit}
-use Rattle.iso_model.specs.declared.access.Geometry.{Geometry}
-use Rattle.iso_model.specs.declared.access.Run.{Run}
-use Rattle.iso_model.specs.Array.{Array, byte_at}
-use Rattle.iso_model.specs.Effect.{own, record_length}
-use Rattle.iso_model.specs.Geometry.{base_place, log_place}
-use Rattle.iso_model.specs.History.{History, all_own, array_at, last}
-use Rattle.iso_model.specs.Image.{IsRecord, Written, blocks_of, commits_of, records, written, recorded}
-use Rattle.iso_model.specs.Premises.{IsHistory, block_at}
-use Rattle.iso_model.proofs.Held.{held_array}
-use Rattle.iso_model.proofs.Recorded.{HasSize, own_size}
-use Rattle.iso_image.specs.Half.{Half, IsHeld, half_of, history_of, last_told}
-use Rattle.iso_image.proofs.Adds.{held_each, held_log, log_in_image}
-use Rattle.mv_index.specs.declared.version.Version.{Version}
-use Rattle.mv_index.specs.Placed.{IsIndexOf, placed, version_of, versions_of}
-use Rattle.mv_index.specs.Shown.{ShowTheSame, byte_in}
-use Rattle.mv_index.specs.Versions.{BlockVersions, shown_since, upto, versions_in}
-use Rattle.mv_index.proofs.Layers.{newest_kept, same_newest, since_same}
-use Rattle.version_read.specs.Blocks.{IsOver}
+use Rattle.version_read.proofs.Words.{◌≡◌, ◌∙◌, sym, refl, ap, ℕ, zero, suc, ◌+◌, ◌-◌, ◌*◌, ◌<◌, ◌≤◌, ◌==◌, Bool, true, false, cond, nat_le, List, [], ◌∷◌, ◌++◌, length, take, drop, get_or, unwrap_or, arith, subst, length-drop, le-leb, lt-leb, get_or-take, get_or-drop, ext_get_or, take_all, length-map, length-take-le, filter-append, Commit, Geometry, Run, Array, byte_at, own, record_length, base_place, log_place, History, all_own, array_at, last, IsRecord, Written, blocks_of, commits_of, records, written, recorded, IsHistory, block_at, held_array, HasSize, own_size, Half, IsHeld, half_of, history_of, last_told, held_each, held_log, log_in_image, Version, IsIndexOf, placed, version_of, versions_of, ShowTheSame, byte_in, BlockVersions, shown_since, upto, versions_in, newest_kept, same_newest, since_same, IsOver}
 use Rattle.version_read.proofs.Lying.{all_first}
 use Rattle.version_read.proofs.Records.{records_show}
 use Rattle.version_read.proofs.Stands.{StandsAt, first_stand, log_stands}

@@ -1,10 +1,5 @@
 -- One stretch more of a block is filled, and what follows it was seen.
-use Rattle.std.proofs.Common.{◌≡◌, ◌∙◌, sym, refl, ap, ℕ, ◌+◌, ◌-◌, ◌<◌, ◌≤◌, Bool, true, false, ◌&&◌, ◌||◌, not, cond, nat_le, nat_lt, List, length, get_or, arith}
-use Rattle.std.proofs.lemmas.Bool.{and_parts, leb-true, ltb-true}
-use Rattle.mv_index.specs.Masks.{is_seen}
-use Rattle.mv_index.specs.Versions.{in_bytes}
-use Rattle.mv_index.proofs.Masks.{in_split}
-use Rattle.version_read.specs.Fills.{IsFilled}
+use Rattle.version_read.proofs.Words.{◌≡◌, ◌∙◌, sym, refl, ap, ℕ, ◌+◌, ◌-◌, ◌<◌, ◌≤◌, Bool, true, false, ◌&&◌, ◌||◌, not, cond, nat_le, nat_lt, List, length, get_or, arith, and_parts, leb-true, ltb-true, is_seen, in_bytes, in_split, IsFilled}
 use Rattle.version_read.proofs.Overlays.{part_at, with_part}
 use Rattle.version_read.proofs.Wanted.{unseen, unseen_all, unseen_none, unseen_split}
 

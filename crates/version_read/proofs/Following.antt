@@ -1,22 +1,5 @@
 -- What becomes of the index of the records of a log.
-use Rattle.std.proofs.Common.{◌≡◌, ◌⊎◌, inl, inr, ◌∙◌, sym, refl, ap, ℕ, zero, suc, ◌+◌, ◌-◌, ◌<◌, ◌≤◌, ◌==◌, Bool, true, false, cond, nat_lt, List, [], ◌∷◌, ◌++◌, length, take, drop, map, get_or, sum_by, arith, subst, append_assoc}
-use Rattle.std.specs.List.{AllByRecursion, filter}
-use Rattle.std.proofs.lemmas.Bool.{cases_lt, le-leb, lt-leb}
-use Rattle.std.proofs.lemmas.List.{append-nil, get_or_past, length-take-le, map-append, take-append-drop}
-use Rattle.std.proofs.lemmas.List.Elements.{filter-append}
-use Rattle.std.proofs.lemmas.List.Sums.{sum_by-cons}
-use Rattle.iso_model.specs.declared.access.Geometry.{Geometry}
-use Rattle.iso_model.specs.declared.access.Run.{Run}
-use Rattle.iso_model.specs.Effect.{record_length}
-use Rattle.iso_model.specs.Image.{IsRecord, Written, records}
-use Rattle.iso_model.proofs.Opened.{length-records}
-use Rattle.mv_index.specs.declared.version.Version.{Version}
-use Rattle.mv_index.specs.Moves.{AreSplit, moved, moved_to}
-use Rattle.mv_index.specs.Placed.{IsIndexOf, placed, version_of, versions_of}
-use Rattle.mv_index.specs.Versions.{BlockVersions, no_version, no_versions, shown_since, still_shows, versions_in}
-use Rattle.mv_index.proofs.Again.{above_stay, shown_again, shown_more}
-use Rattle.mv_index.proofs.Sublists.{all_at, all_shown}
-use Rattle.version_read.specs.Parts.{HasTaken, part_of, part_versions}
+use Rattle.version_read.proofs.Words.{◌≡◌, ◌⊎◌, inl, inr, ◌∙◌, sym, refl, ap, ℕ, zero, suc, ◌+◌, ◌-◌, ◌<◌, ◌≤◌, ◌==◌, Bool, true, false, cond, nat_lt, List, [], ◌∷◌, ◌++◌, length, take, drop, map, get_or, sum_by, arith, subst, append_assoc, AllByRecursion, filter, cases_lt, le-leb, lt-leb, append-nil, get_or_past, length-take-le, map-append, take-append-drop, filter-append, sum_by-cons, Geometry, Run, record_length, IsRecord, Written, records, length-records, Version, AreSplit, moved, moved_to, IsIndexOf, placed, version_of, versions_of, BlockVersions, no_version, no_versions, shown_since, still_shows, versions_in, above_stay, shown_again, shown_more, all_at, all_shown, HasTaken, part_of, part_versions}
 use Rattle.version_read.proofs.Lying.{all_append, all_cond, all_first, every_version}
 
 abbrev length_of : Written → ℕ

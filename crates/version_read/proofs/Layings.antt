@@ -1,14 +1,5 @@
 -- Versions laid over a block one after the other, from the oldest on.
-use Rattle.std.proofs.Common.{◌≡◌, ◌∙◌, sym, refl, ap, ℕ, ◌+◌, ◌-◌, ◌<◌, ◌≤◌, Bool, true, false, cond, nat_le, nat_lt, List, [], ◌∷◌, drop, take, Option, Some, None, length, get_or, unwrap_or, arith}
-use Rattle.std.specs.List.{slice_range}
-use Rattle.std.proofs.lemmas.List.{take_more, get_or-take, get_or-drop}
-use Rattle.iso_model.specs.Effect.{or_else}
-use Rattle.mv_index.specs.declared.version.Version.{Version}
-use Rattle.mv_index.specs.Shown.{Lies, byte_in}
-use Rattle.mv_index.specs.Versions.{has, no_version}
-use Rattle.mv_index.proofs.Layers.{byte_in-append}
-use Rattle.mv_index.proofs.Masks.{in_is}
-use Rattle.version_read.specs.Blocks.{IsLaid, IsOver}
+use Rattle.version_read.proofs.Words.{◌≡◌, ◌∙◌, sym, refl, ap, ℕ, ◌+◌, ◌-◌, ◌<◌, ◌≤◌, Bool, true, false, cond, nat_le, nat_lt, List, [], ◌∷◌, drop, take, Option, Some, None, length, get_or, unwrap_or, arith, slice_range, take_more, get_or-take, get_or-drop, or_else, Version, Lies, byte_in, has, no_version, byte_in-append, in_is, IsLaid, IsOver}
 use Rattle.version_read.proofs.Overlays.{part_at, with_part}
 
 pub laid_none : (image : List ℕ) (versions : List Version) (block : List ℕ) → IsLaid image (take 0 versions) block block

@@ -1,3 +1,4 @@
+pub mod Words
 pub mod Above
 pub mod Additions
 pub mod Bits

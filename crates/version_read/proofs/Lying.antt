@@ -1,22 +1,5 @@
 -- What holds of each version that the records of a log make.
-use Rattle.std.proofs.Common.{◌≡◌, sym, ap, inl, inr, ℕ, zero, suc, ◌+◌, ◌*◌, ◌<◌, ◌≤◌, ◌==◌, Bool, true, false, cond, nat_le, List, [], ◌∷◌, ◌++◌, length, take, sum_by, arith, subst, length-append}
-use Rattle.std.specs.List.{AllByRecursion}
-use Rattle.std.proofs.lemmas.Bool.{cases_lt}
-use Rattle.std.proofs.lemmas.List.{get_or_past}
-use Rattle.std.proofs.lemmas.List.Sums.{sum_by-cons}
-use Rattle.std.proofs.Math.Nat.{mul-le-mul_right}
-use Rattle.iso_model.specs.declared.access.Geometry.{Geometry}
-use Rattle.iso_model.specs.declared.access.Run.{Run}
-use Rattle.iso_model.specs.Effect.{record_length}
-use Rattle.iso_model.specs.Geometry.{base_place, image_size, log_place}
-use Rattle.iso_model.specs.Image.{AreRuns, IsRecord, IsRun, Written, records}
-use Rattle.iso_model.proofs.Opened.{length-records}
-use Rattle.iso_image.proofs.Frames.{log_inside}
-use Rattle.mv_index.specs.declared.version.Version.{Version}
-use Rattle.mv_index.specs.Placed.{IsIndexOf, placed, version_of, versions_of}
-use Rattle.mv_index.specs.Shown.{Lies}
-use Rattle.mv_index.specs.Versions.{BlockVersions, count_of, no_versions, shown_since, still_shows, upto, versions_in}
-use Rattle.mv_index.proofs.Sublists.{all_shown}
+use Rattle.version_read.proofs.Words.{◌≡◌, sym, ap, inl, inr, ℕ, zero, suc, ◌+◌, ◌*◌, ◌<◌, ◌≤◌, ◌==◌, Bool, true, false, cond, nat_le, List, [], ◌∷◌, ◌++◌, length, take, sum_by, arith, subst, length-append, AllByRecursion, cases_lt, get_or_past, sum_by-cons, mul-le-mul_right, Geometry, Run, record_length, base_place, image_size, log_place, AreRuns, IsRecord, IsRun, Written, records, length-records, log_inside, Version, IsIndexOf, placed, version_of, versions_of, Lies, BlockVersions, count_of, no_versions, shown_since, still_shows, upto, versions_in, all_shown}
 
 pub all_append : {X : Type 0} (P : X → Type 0) (xs ys : List X) → AllByRecursion P xs → AllByRecursion P ys → AllByRecursion P (xs ++ ys)
 all_append P [] ys first second = second

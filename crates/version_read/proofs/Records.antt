@@ -1,22 +1,6 @@
 -- The versions that the records of a log make show what the records tell.
-use Rattle.std.proofs.Common.{◌≡◌, ◌∙◌, sym, refl, ap, ℕ, ◌+◌, ◌-◌, ◌<◌, ◌≤◌, ◌==◌, Bool, true, false, ◌&&◌, cond, nat_le, nat_lt, List, [], ◌∷◌, ◌++◌, Option, Some, None, length, flat_map, get_or, unwrap_or, arith, subst}
-use Rattle.std.specs.List.{AllByRecursion}
-use Rattle.std.specs.Int.{to_be_bytes, w16, w32, w64}
-use Rattle.std.proofs.lemmas.Bool.{and_parts, leb-true, ltb-true}
-use Rattle.iso_model.specs.declared.access.Geometry.{Geometry}
-use Rattle.iso_model.specs.declared.access.Run.{Run}
-use Rattle.iso_model.specs.Array.{Array, byte_at, in_span}
-use Rattle.iso_model.specs.Effect.{effect_at, or_else, own, record_length}
-use Rattle.iso_model.specs.History.{all_own}
-use Rattle.iso_model.specs.Image.{AreRuns, IsRecord, Written, body_length, commits_of, kind_of, part, records, spell, recorded}
-use Rattle.iso_model.specs.Premises.{HasBytes, value_in}
-use Rattle.iso_model.proofs.Bytes.{own_at}
-use Rattle.iso_model.proofs.Opened.{length-part, length-spell}
-use Rattle.iso_model.proofs.Recorded.{HasSize, effect_recorded, length-recorded, own_size}
-use Rattle.mv_index.specs.Placed.{placed, version_of, versions_of}
-use Rattle.mv_index.specs.Shown.{byte_in, byte_of}
-use Rattle.mv_index.specs.Versions.{has}
-use Rattle.mv_index.proofs.Layers.{byte_in-append, or_else_none}
+use Rattle.version_read.proofs.Words.{◌≡◌, ◌∙◌, sym, refl, ap, ℕ, ◌+◌, ◌-◌, ◌<◌, ◌≤◌, ◌==◌, Bool, true, false, ◌&&◌, cond, nat_le, nat_lt, List, [], ◌∷◌, ◌++◌, Option, Some, None, length, flat_map, get_or, unwrap_or, arith, subst, AllByRecursion, to_be_bytes, w16, w32, and_parts, leb-true, ltb-true, Geometry, Run, Array, byte_at, in_span, effect_at, or_else, own, record_length, all_own, AreRuns, IsRecord, Written, body_length, commits_of, kind_of, part, records, spell, recorded, HasBytes, value_in, own_at, length-part, length-spell, HasSize, effect_recorded, length-recorded, own_size, placed, version_of, versions_of, byte_in, byte_of, has, byte_in-append, or_else_none}
+use Rattle.std.specs.Int.{w64}
 use Rattle.version_read.proofs.Stands.{StandsAt, stands_first, stands_rest}
 
 pub or_unwrap : (x y : Option ℕ) (z : ℕ) → unwrap_or (or_else x y) z ≡ unwrap_or x (unwrap_or y z)

@@ -1,10 +1,5 @@
 -- Room that is made for parts, block by block.
-use Rattle.std.proofs.Common.{◌≡◌, ◌≢◌, inl, inr, ◌∙◌, sym, refl, ap, ℕ, zero, suc, ◌+◌, ◌-◌, ◌<◌, ◌≤◌, ◌==◌, cond, List, length, take, get_or, arith, subst}
-use Rattle.std.proofs.lemmas.Bool.{cases_eq, cases_lt, eq-eqb, ne_eqb}
-use Rattle.std.proofs.lemmas.List.Sums.{count_by_more_no, count_by_more_yes, sum_by-take-le}
-use Rattle.mv_index.specs.Versions.{BlockVersions, block_of, count_of, room_of, versions_in}
-use Rattle.version_read.specs.declared.part_span.PartSpan.{PartSpan}
-use Rattle.version_read.specs.Parts.{HasRoom, no_part, parts_in}
+use Rattle.version_read.proofs.Words.{◌≡◌, ◌≢◌, inl, inr, ◌∙◌, sym, refl, ap, ℕ, zero, suc, ◌+◌, ◌-◌, ◌<◌, ◌≤◌, ◌==◌, cond, List, length, take, get_or, arith, subst, cases_eq, cases_lt, eq-eqb, ne_eqb, count_by_more_no, count_by_more_yes, sum_by-take-le, BlockVersions, block_of, count_of, room_of, versions_in, PartSpan, HasRoom, no_part, parts_in}
 
 -- the parts before a place that are of no other block
 same_block : (b i n : ℕ) (parts : List PartSpan) → i + n ≤ length parts → ((k : ℕ) → i ≤ k → k < i + n → (get_or parts k no_part).block ≡ b) → parts_in b (take (i + n) parts) ≡ parts_in b (take i parts) + n

@@ -1,10 +1,5 @@
 -- Bytes that stand at a place of an image.
-use Rattle.std.proofs.Common.{◌≡◌, ◌∙◌, sym, refl, ap, ℕ, ◌+◌, ◌-◌, ◌<◌, ◌≤◌, List, ◌++◌, length, take, drop, get_or, arith, subst, length-append, length-take}
-use Rattle.std.proofs.lemmas.List.{get_or_append_left, get_or-append_right, get_or-take, get_or-drop, take-append-drop}
-use Rattle.iso_model.specs.declared.access.Geometry.{Geometry}
-use Rattle.iso_model.specs.Image.{Written, records}
-use Rattle.iso_image.specs.Half.{HasLog}
-use Rattle.iso_image.proofs.Logs.{log_front, records-append}
+use Rattle.version_read.proofs.Words.{◌≡◌, ◌∙◌, sym, refl, ap, ℕ, ◌+◌, ◌-◌, ◌<◌, ◌≤◌, List, ◌++◌, length, take, drop, get_or, arith, subst, length-append, length-take, get_or_append_left, get_or-append_right, get_or-take, get_or-drop, take-append-drop, Geometry, Written, records, HasLog, log_front, records-append}
 
 -- the image has these bytes from the place on
 abbrev pub StandsAt : List ℕ → ℕ → List ℕ → Type 0

@@ -1,23 +1,5 @@
 -- The next record of a half may be taken in.
-use Rattle.std.proofs.Common.{◌≡◌, inl, inr, sym, ap, ℕ, zero, suc, ◌+◌, ◌*◌, ◌^◌, ◌<◌, ◌≤◌, IsTrue, List, [], ◌∷◌, ◌++◌, length, map, sum_by, arith, subst}
-use Rattle.std.specs.List.{AllByRecursion}
-use Rattle.std.proofs.lemmas.List.{length-map}
-use Rattle.std.proofs.lemmas.List.Sums.{sum_by-append, sum_by-cons}
-use Rattle.std.proofs.Math.Nat.{mul-le-mul_right}
-use Rattle.iso_model.specs.declared.access.Geometry.{Geometry}
-use Rattle.iso_model.specs.declared.access.Run.{Run}
-use Rattle.iso_model.specs.Effect.{record_length}
-use Rattle.iso_model.specs.Geometry.{is_valid, log_place}
-use Rattle.iso_model.specs.Image.{AreRuns, IsRecord, IsRun, Written, records}
-use Rattle.iso_model.proofs.Bounds.{limits}
-use Rattle.iso_model.proofs.Opened.{length-records, sum_by-map}
-use Rattle.iso_image.specs.Half.{Half, MayFollow, last_told, next_gate, told_bytes}
-use Rattle.iso_image.proofs.Frames.{log_inside}
-use Rattle.mv_index.specs.Placed.{IsIndexOf}
-use Rattle.mv_index.specs.Versions.{BlockVersions, no_version, versions_in}
-use Rattle.mv_index.proofs.Sublists.{all_at}
-use Rattle.version_read.specs.declared.part_span.PartSpan.{PartSpan}
-use Rattle.version_read.specs.Parts.{BlocksRise, IsPart, MayTake, no_part, part_of, parts_length}
+use Rattle.version_read.proofs.Words.{◌≡◌, inl, inr, sym, ap, ℕ, zero, suc, ◌+◌, ◌*◌, ◌^◌, ◌<◌, ◌≤◌, IsTrue, List, [], ◌∷◌, ◌++◌, length, map, sum_by, arith, subst, AllByRecursion, length-map, sum_by-append, sum_by-cons, mul-le-mul_right, Geometry, Run, record_length, is_valid, log_place, AreRuns, IsRecord, IsRun, Written, records, limits, length-records, sum_by-map, Half, MayFollow, last_told, next_gate, told_bytes, log_inside, IsIndexOf, BlockVersions, no_version, versions_in, all_at, PartSpan, BlocksRise, IsPart, MayTake, no_part, part_of, parts_length}
 use Rattle.version_read.proofs.Lying.{count_le, numbers_below, runs_all}
 
 pub parts_all : (g : Geometry) (parts : List Run) → g.block ≤ 4096 → AllByRecursion (IsRun g) parts → AllByRecursion (IsPart g.blocks) (map part_of parts)

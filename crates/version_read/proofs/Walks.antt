@@ -1,18 +1,5 @@
 -- A walk from the newest version back: where a byte is seen, it is the one that the versions show.
-use Rattle.std.proofs.Common.{◌≡◌, ◌∙◌, sym, refl, ap, ℕ, zero, suc, ◌==◌, ◌+◌, ◌-◌, ◌/◌, ◌%◌, ◌<◌, ◌≤◌, Bool, true, false, ◌&&◌, ◌||◌, not, cond, List, [], ◌∷◌, drop, take, replicate, Option, Some, None, length, get_or, unwrap_or, arith}
-use Rattle.std.specs.Int.{bit_at}
-use Rattle.std.specs.List.{list_any}
-use Rattle.std.proofs.lemmas.Nat.Bits.{bit_at-zero}
-use Rattle.std.proofs.lemmas.List.{drop_all, drop_more, take-append-drop}
-use Rattle.iso_model.specs.Effect.{or_else}
-use Rattle.mv_index.specs.declared.version.Version.{Version}
-use Rattle.mv_index.specs.Masks.{is_seen}
-use Rattle.mv_index.specs.Shown.{byte_in}
-use Rattle.mv_index.specs.Versions.{has, in_bytes, no_version}
-use Rattle.mv_index.proofs.Layers.{byte_in-append}
-use Rattle.mv_index.proofs.Masks.{in_is}
-use Rattle.version_read.specs.Blocks.{IsOver}
-use Rattle.version_read.specs.Fills.{IsFilled}
+use Rattle.version_read.proofs.Words.{◌≡◌, ◌∙◌, sym, refl, ap, ℕ, zero, suc, ◌==◌, ◌+◌, ◌-◌, ◌/◌, ◌%◌, ◌<◌, ◌≤◌, Bool, true, false, ◌&&◌, ◌||◌, not, cond, List, [], ◌∷◌, drop, take, replicate, Option, Some, None, length, get_or, unwrap_or, arith, bit_at, list_any, bit_at-zero, drop_all, drop_more, take-append-drop, or_else, Version, is_seen, byte_in, has, in_bytes, no_version, byte_in-append, in_is, IsOver, IsFilled}
 
 -- the bytes of the versions looked at are seen
 abbrev pub AreDone : List Version → List ℕ → Type 0

@@ -1,11 +1,5 @@
 -- How many bytes are still wanted.
-use Rattle.std.proofs.Common.{◌≡◌, inl, inr, ◌∙◌, sym, refl, ap, ℕ, zero, suc, ◌+◌, ◌-◌, ◌<◌, ◌≤◌, Bool, true, false, ◌||◌, not, cond, List, count_by, arith}
-use Rattle.std.specs.List.{range_with_len}
-use Rattle.std.proofs.lemmas.Bool.{cases_lt}
-use Rattle.std.proofs.lemmas.List.Sums.{sum_by-cons}
-use Rattle.mv_index.specs.Masks.{is_seen}
-use Rattle.mv_index.specs.Versions.{in_bytes}
-use Rattle.mv_index.proofs.Masks.{in_is, in_over, in_under}
+use Rattle.version_read.proofs.Words.{◌≡◌, inl, inr, ◌∙◌, sym, refl, ap, ℕ, zero, suc, ◌+◌, ◌-◌, ◌<◌, ◌≤◌, Bool, true, false, ◌||◌, not, cond, List, count_by, arith, range_with_len, cases_lt, sum_by-cons, is_seen, in_bytes, in_is, in_over, in_under}
 
 -- so many of the n bytes from a on were not seen
 abbrev pub unseen : List ℕ → (a n : ℕ) → ℕ

@@ -1,17 +1,6 @@
 -- What a piece of a script says, and what that leaves of the script.
-use Rattle.std.proofs.Common.{◌≡◌, ℕ, Bool, true, false, cond, List, [], ◌∷◌, Some, Result, Ok, Err, refl, sym, ap, subst, length, nat_le, nat_lt, arith}
-use Rattle.std.proofs.lemmas.Bool.Decides.{nat_tests}
-use Rattle.iso_model.specs.declared.limits.TheConstants.{MAX_LINE}
-use Rattle.script_model.specs.declared.script.Line.{Line}
-use Rattle.script_model.specs.declared.script.LineError.{LineError}
+use Rattle.whole_script.proofs.Words.{◌≡◌, ℕ, Bool, true, false, cond, List, [], ◌∷◌, Some, Result, Ok, Err, refl, sym, ap, subst, length, nat_le, nat_lt, arith, nat_tests, MAX_LINE, Line, LineError, Parsed, Script, bad_line, before_script, last_piece, no_lines, parse, is_empty, Gives, behind, ScriptError, IsWhyOf, Stops}
 use Rattle.script_model.specs.declared.script.LineError.TheVariants as line
-use Rattle.script_model.specs.declared.script.Parsed.{Parsed}
-use Rattle.script_model.specs.Script.{Script, bad_line, before_script, last_piece, no_lines, parse}
-use Rattle.script_model.specs.Text.{is_empty}
-use Rattle.script_text.specs.Parsing.{Gives}
-use Rattle.script_runner.specs.Lines.{behind}
-use Rattle.whole_script.specs.declared.lines.ScriptError.{ScriptError}
-use Rattle.whole_script.specs.Parts.{IsWhyOf, Stops}
 
 long_piece : (number : ℕ) (piece : List ℕ) → nat_le (length piece) MAX_LINE ≡ false
     → (cond (is_empty piece) no_lines (before_script number (parse piece) no_lines)).bad ≡ Some (record { line = number; cause = 7 })

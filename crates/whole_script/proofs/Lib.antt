@@ -1,3 +1,4 @@
+pub mod Words
 mod LastPieces
 mod WholeScripts
 mod Reading

@@ -1,17 +1,6 @@
 -- What was read of a source.
-use Rattle.std.proofs.Common.{◌≡◌, ◌≤◌, ◌<◌, refl, ℕ, Bool, true, false, List, ◌++◌, Option, Some, None, IfSome, length, length-append, take, nat_le, nat_lt, sym, ap, subst, ◌∙◌, arith}
-use Rattle.std.proofs.lemmas.Bool.{le-leb}
-use Rattle.std.proofs.lemmas.Bool.Decides.{nat_tests}
-use Rattle.std.proofs.lemmas.List.{take-append-le}
-use Rattle.std.specs.Io.KnownBytes.{prepend_known}
-use Rattle.iso_io.specs.Source.{MetEnd, SourceState, Took}
-use Rattle.iso_model.specs.declared.limits.TheConstants.{MAX_INPUT}
-use Rattle.script_model.specs.Script.{Script, script, script_from}
-use Rattle.script_model.specs.Text.{pieces}
-use Rattle.whole_script.specs.declared.lines.ScriptError.{ScriptError}
+use Rattle.whole_script.proofs.Words.{◌≡◌, ◌≤◌, ◌<◌, refl, ℕ, Bool, true, false, List, ◌++◌, Option, Some, None, IfSome, length, length-append, take, nat_le, nat_lt, sym, ap, subst, ◌∙◌, arith, le-leb, nat_tests, take-append-le, prepend_known, MetEnd, SourceState, Took, MAX_INPUT, Script, script, script_from, pieces, ScriptError, IsWhyOf, HasNoLines}
 use Rattle.whole_script.specs.declared.lines.ScriptError.TheVariants as error
-use Rattle.whole_script.specs.Parts.{IsWhyOf}
-use Rattle.whole_script.specs.Read.{HasNoLines}
 
 -- bytes behind as many as are read say nothing
 script_same : (bytes more : List ℕ) → length bytes ≡ MAX_INPUT → script (bytes ++ more) ≡ script bytes

@@ -1,20 +1,6 @@
 -- The lines of a whole script.
-use Rattle.std.proofs.Common.{◌≡◌, ◌≤◌, ◌+◌, ℕ, Bool, List, [], ◌∷◌, ◌++◌, None, Result, Ok, Err, refl, sym, ap, ◌∙◌, subst, length, nat_le, take, append_assoc}
-use Rattle.std.proofs.lemmas.List.{take_all}
-use Rattle.iso_model.specs.declared.limits.TheConstants.{MAX_INPUT}
-use Rattle.script_model.specs.declared.script.Line.{Line}
-use Rattle.script_model.specs.declared.script.LineError.{LineError}
-use Rattle.script_model.specs.declared.script.Parsed.{Parsed}
-use Rattle.script_model.specs.Script.{Script, before_script, last_piece, parse_whole, script, script_from}
-use Rattle.script_model.specs.Text.{pieces}
-use Rattle.script_text.specs.Parsing.{Gives}
-use Rattle.script_runner.specs.Lines.{SaysFirst, behind}
-use Rattle.script_runner.specs.Run.{HasNoFeed}
-use Rattle.script_runner.proofs.Feeds.{one_piece}
-use Rattle.script_runner.proofs.Fronts.{says-more, script-line}
-use Rattle.whole_script.specs.declared.lines.ScriptError.{ScriptError}
+use Rattle.whole_script.proofs.Words.{◌≡◌, ◌≤◌, ◌+◌, ℕ, Bool, List, [], ◌∷◌, ◌++◌, None, Result, Ok, Err, refl, sym, ap, ◌∙◌, subst, length, nat_le, take, append_assoc, take_all, MAX_INPUT, Line, LineError, Parsed, Script, before_script, last_piece, parse_whole, script, script_from, pieces, Gives, SaysFirst, behind, HasNoFeed, one_piece, says-more, script-line, ScriptError, Adds, IsWhyOf, Stops}
 use Rattle.whole_script.specs.declared.lines.ScriptError.TheVariants as error
-use Rattle.whole_script.specs.Parts.{Adds, IsWhyOf, Stops}
 use Rattle.whole_script.proofs.LastPieces.{stops}
 
 -- the script of an input that is not too long

@@ -1,11 +1,4 @@
-use Rattle.std.proofs.Common.{◌≡◌, ◌∙◌, ap, subst, ℕ, List, Option, arith}
-use Rattle.std.specs.Option.{ForSome}
-use Rattle.iso_core.specs.Core.{disk_of}
-use Rattle.iso_core.specs.Standing.{up}
-use Rattle.iso_disk.proofs.Moments.{joined_unwritten}
-use Rattle.iso_model.specs.History.{array_at}
-use Rattle.iso_model.specs.Premises.{block_at}
-use Rattle.sha2.specs.Sha256.{sha256}
+use Rattle.array_digest.proofs.Words.{◌≡◌, ◌∙◌, ap, subst, ℕ, List, Option, arith, ForSome, disk_of, up, joined_unwritten, array_at, block_at, sha256}
 use Rattle.array_digest.proofs.Blocks.{all_held, block_count, more_held}
 use Rattle.array_digest.proofs.digest.digest_in.Goals as goal
 

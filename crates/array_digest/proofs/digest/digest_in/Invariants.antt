@@ -1,9 +1,4 @@
-use Rattle.std.proofs.Common.{◌≡◌, length}
-use Rattle.iso_core.specs.Calls.{IsTx}
-use Rattle.iso_core.specs.Core.{StandsFor, disk_of}
-use Rattle.iso_core.specs.Standing.{up}
-use Rattle.iso_disk.specs.Disk.{WritesNothing}
-use Rattle.iso_model.specs.World.{World, Live}
+use Rattle.array_digest.proofs.Words.{◌≡◌, length, IsTx, StandsFor, disk_of, up, WritesNothing, World, Live}
 use Rattle.array_digest.proofs.Blocks.{HoldsFirst}
 use Rattle.array_digest.proofs.digest.digest_in.Given as goal
 

@@ -1,13 +1,4 @@
-use Rattle.std.proofs.Common.{◌≡◌, ◌∙◌, ap, subst}
-use Rattle.std.specs.Prelude.{IfOk}
-use Rattle.std.specs.Option.{ForSome}
-use Rattle.iso_core.specs.Standing.{up}
-use Rattle.iso_model.specs.declared.access.Geometry.{Geometry}
-use Rattle.script_model.specs.Bench.{array_bytes}
-use Rattle.iso_model.specs.History.{array_at, last}
-use Rattle.iso_model.specs.Step.{after_begin}
-use Rattle.iso_model.specs.World.{unattached}
-use Rattle.sha2.specs.Sha256.{sha256}
+use Rattle.array_digest.proofs.Words.{◌≡◌, ◌∙◌, ap, subst, IfOk, ForSome, up, Geometry, array_bytes, array_at, last, after_begin, unattached, sha256}
 use Rattle.array_digest.proofs.Begun.{begun, is_begun, left_again, on_ok, only_memory}
 use Rattle.array_digest.proofs.digest.digest_of.Goals.{in-Memory, in_default-matches}
 use Rattle.array_digest.proofs.digest.digest_of.Goals as goal

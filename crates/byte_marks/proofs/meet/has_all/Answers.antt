@@ -1,12 +1,5 @@
 -- A span is all there exactly where it lies in the first extent that ends behind its begin.
-use Rattle.std.proofs.Common.{◌≡◌, ℕ, ◌+◌, ◌<◌, ◌≤◌, false, IsTrue, ◌∙◌, ap, subst, arith, inl, inr, List, ◌∷◌, refl, leb}
-use Rattle.std.proofs.lemmas.Bool.{cases_lt, lt-leb, le-leb}
-use Rattle.std.proofs.lemmas.Bool.Decides.{nat_tests}
-use Rattle.std.specs.Bool.{OnFalse}
-use Rattle.iso_model.specs.Array.{in_span}
-use Rattle.iso_model.specs.declared.access.Span.{Span}
-use Rattle.byte_marks.specs.declared.extent.Extent.{Extent}
-use Rattle.byte_marks.specs.Marks.{has, in_extent, AreApartFrom}
+use Rattle.byte_marks.proofs.Words.{◌≡◌, ℕ, ◌+◌, ◌<◌, ◌≤◌, false, IsTrue, ◌∙◌, ap, subst, arith, inl, inr, List, ◌∷◌, refl, leb, cases_lt, lt-leb, le-leb, nat_tests, OnFalse, in_span, Span, Extent, has, in_extent, AreApartFrom}
 use Rattle.byte_marks.proofs.Apart.{earlier, none_before}
 use Rattle.byte_marks.proofs.meet.has_all.Goals as goal
 

@@ -1,6 +1,5 @@
 -- What was passed over lies before the span.
-use Rattle.std.proofs.Common.{◌≡◌, ℕ, ◌≤◌, length}
-use Rattle.byte_marks.specs.Marks.{has, AreApartFrom}
+use Rattle.byte_marks.proofs.Words.{◌≡◌, ℕ, ◌≤◌, length, has, AreApartFrom}
 use Rattle.byte_marks.proofs.meet.has_all.Given as goal
 
 abbrev pub invariant-loop-extent : goal.invariant-loop-extent

@@ -1,8 +1,5 @@
 -- The earlier of two extents that do not meet meets nothing of the other list.
-use Rattle.std.proofs.Common.{◌≡◌, ℕ, ◌+◌, ◌<◌, ◌≤◌, ◌&&◌, false, ◌∙◌, sym, ap, subst, arith, inl, inr, List, ◌∷◌, max}
-use Rattle.std.proofs.lemmas.Bool.{and_left, and_right, cases_lt}
-use Rattle.byte_marks.specs.declared.extent.Extent.{Extent}
-use Rattle.byte_marks.specs.Marks.{has, AreApartFrom}
+use Rattle.byte_marks.proofs.Words.{◌≡◌, ℕ, ◌+◌, ◌<◌, ◌≤◌, ◌&&◌, false, ◌∙◌, sym, ap, subst, arith, inl, inr, List, ◌∷◌, max, and_left, and_right, cases_lt, Extent, has, AreApartFrom}
 use Rattle.byte_marks.proofs.Apart.{earlier, none_before, from_head, pass_over, pass_over_right}
 use Rattle.byte_marks.proofs.meet.least_common.Goals as goal
 use Rattle.byte_marks.proofs.meet.least_common.Goals.{else-start-x-via-then-start-x+else-start-y, else-start-x-via-else-start-x}

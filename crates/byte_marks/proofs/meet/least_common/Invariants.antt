@@ -1,6 +1,5 @@
 -- What was passed over meets nothing.
-use Rattle.std.proofs.Common.{◌≡◌, ℕ, ◌+◌, ◌&&◌, length}
-use Rattle.byte_marks.specs.Marks.{has, AreApartFrom}
+use Rattle.byte_marks.proofs.Words.{◌≡◌, ℕ, ◌+◌, ◌&&◌, length, has, AreApartFrom}
 use Rattle.byte_marks.proofs.meet.least_common.Given as goal
 
 abbrev pub invariant-loop-x : goal.invariant-loop-x

@@ -1,9 +1,5 @@
 -- The last extent with more bytes stands where it stood.
-use Rattle.std.proofs.Common.{◌≡◌, ◌∙◌, ◌<◌, ◌≤◌, ◌∷◌, ◌++◌, [], List, None, Option, Some, sym, subst, ap, arith}
-use Rattle.std.specs.List.{last_or}
-use Rattle.std.specs.Option.{IfSome}
-use Rattle.byte_marks.specs.declared.extent.Extent.{Extent}
-use Rattle.byte_marks.specs.Marks.{AreApartFrom}
+use Rattle.byte_marks.proofs.Words.{◌≡◌, ◌∙◌, ◌<◌, ◌≤◌, ◌∷◌, ◌++◌, [], List, None, Option, Some, sym, subst, ap, arith, last_or, IfSome, Extent, AreApartFrom}
 use Rattle.byte_marks.proofs.Apart.{wider_last, last_inside, last_or-append}
 use Rattle.byte_marks.proofs.merge.join_last.Goals as goal
 use Rattle.byte_marks.proofs.merge.join_last.Goals.{else-last-added-via-then-last-added+else-added-last, else-last-added-via-else-last-added}

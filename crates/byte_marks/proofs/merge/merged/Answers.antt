@@ -1,9 +1,6 @@
 -- The open run takes in what touches it; an extent further on closes it and is the next open run.
-use Rattle.std.proofs.Common.{◌≡◌, ◌<◌, ◌≤◌, ◌||◌, ◌∙◌, sym, ap, subst, arith, length, length-append, Bool, List, [], ◌∷◌, ◌++◌}
-use Rattle.byte_marks.specs.declared.extent.Extent.{Extent}
-use Rattle.byte_marks.specs.Marks.{has, in_extent, AreApartFrom}
+use Rattle.byte_marks.proofs.Words.{◌≡◌, ◌<◌, ◌≤◌, ◌||◌, ◌∙◌, sym, ap, subst, arith, length, length-append, Bool, List, [], ◌∷◌, ◌++◌, Extent, has, in_extent, AreApartFrom, or_assoc}
 use Rattle.byte_marks.proofs.Apart.{earlier, AreApartFrom-append, next_free-append, joined_has, has-append, regroup}
-use Rattle.std.proofs.Math.Bool.{or_assoc}
 use Rattle.byte_marks.proofs.merge.merged.Goals as goal
 
 pub first_of-requires-in-loop-next-clause-a : goal.first_of-requires-in-loop-next-clause-a

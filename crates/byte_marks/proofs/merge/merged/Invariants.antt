@@ -1,6 +1,5 @@
 -- The runs that are done, the one that may still grow, and what is left of both lists have the bytes of both.
-use Rattle.std.proofs.Common.{◌≡◌, ℕ, ◌+◌, ◌<◌, ◌≤◌, ◌||◌, length}
-use Rattle.byte_marks.specs.Marks.{has, in_extent, next_free, AreApartFrom}
+use Rattle.byte_marks.proofs.Words.{◌≡◌, ℕ, ◌+◌, ◌<◌, ◌≤◌, ◌||◌, length, has, in_extent, next_free, AreApartFrom}
 use Rattle.byte_marks.proofs.merge.merged.Given as goal
 
 abbrev pub invariant-loop-next : goal.invariant-loop-next

@@ -1,8 +1,5 @@
 -- The entry of the earlier block, or two of one block that do not meet, meet nothing of what is left.
-use Rattle.std.proofs.Common.{◌≡◌, ℕ, ◌+◌, ◌&&◌, ◌∙◌, sym, ap, subst, arith, List, ◌∷◌}
-use Rattle.std.proofs.lemmas.Bool.{and_left}
-use Rattle.byte_marks.specs.declared.extent.Extent.{Extent}
-use Rattle.byte_marks.specs.Touched.{touches, RisesFrom}
+use Rattle.byte_marks.proofs.Words.{◌≡◌, ℕ, ◌+◌, ◌&&◌, ◌∙◌, sym, ap, subst, arith, List, ◌∷◌, and_left, Extent, touches, RisesFrom}
 use Rattle.byte_marks.proofs.Blocks.{rises_earlier, none_before_block, pass_entry, pass_entry_right, pass_both}
 use Rattle.byte_marks.proofs.touched.least_common_byte.Goals as goal
 

@@ -1,6 +1,5 @@
 -- What was passed over meets nothing.
-use Rattle.std.proofs.Common.{◌≡◌, ℕ, ◌+◌, ◌&&◌, length}
-use Rattle.byte_marks.specs.Touched.{touches, RisesFrom}
+use Rattle.byte_marks.proofs.Words.{◌≡◌, ℕ, ◌+◌, ◌&&◌, length, touches, RisesFrom}
 use Rattle.byte_marks.proofs.touched.least_common_byte.Given as goal
 
 abbrev pub invariant-loop-x : goal.invariant-loop-x

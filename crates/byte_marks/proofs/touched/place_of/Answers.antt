@@ -1,8 +1,5 @@
 -- Blocks that rise are parted by the test on the block.
-use Rattle.std.proofs.Common.{ℕ, arith, rules, List, ltb}
-use Rattle.std.proofs.lemmas.Bool.{ltb-true, ltb-false}
-use Rattle.std.proofs.lemmas.List.Sorted.{IsPartitionPoint-from_clause, IsPartitionedBy-ltb}
-use Rattle.byte_marks.specs.declared.extent.Extent.{Extent}
+use Rattle.byte_marks.proofs.Words.{ℕ, arith, rules, List, ltb, ltb-true, ltb-false, IsPartitionPoint-from_clause, IsPartitionedBy-ltb, Extent}
 use Rattle.byte_marks.proofs.Blocks.{in_order}
 use Rattle.byte_marks.proofs.touched.place_of.Goals as goal
 

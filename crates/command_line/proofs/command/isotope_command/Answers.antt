@@ -1,8 +1,4 @@
-use Rattle.std.proofs.Common.{◌≡◌, ◌∙◌, ap, ap₂, codes}
-use Rattle.std.proofs.lemmas.Result.{IfOk-weaker}
-use Rattle.clap.specs.Words.{App, app_of, with_subcommand}
-use Rattle.clap.specs.Simple.{app_of_fields}
-use Rattle.command_line.specs.Grammar.{bare_app, with_required}
+use Rattle.command_line.proofs.Words.{◌≡◌, ◌∙◌, ap, ap₂, codes, IfOk-weaker, App, app_of, with_subcommand, app_of_fields, bare_app, with_required}
 use Rattle.command_line.proofs.command.isotope_command.Goals as goal
 
 pub returns : goal.returns

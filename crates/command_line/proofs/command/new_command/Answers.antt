@@ -1,6 +1,4 @@
-use Rattle.std.proofs.Common.{◌∙◌, ◌||◌, Bool, ap₂}
-use Rattle.std.proofs.lemmas.Result.{IfOk-weaker}
-use Rattle.clap.specs.Words.{with_rule}
+use Rattle.command_line.proofs.Words.{◌∙◌, ◌||◌, Bool, ap₂, IfOk-weaker, with_rule}
 use Rattle.command_line.proofs.command.new_command.Goals as goal
 
 pub returns-clause-app : goal.returns-clause-app

@@ -1,8 +1,4 @@
-use Rattle.std.proofs.Common.{rules, tests, arith}
-use Rattle.std.proofs.lemmas.Iterator.{YieldsList-from_slice}
-use Rattle.std.proofs.lemmas.Iterator.Search.{all_from_yields_List}
-use Rattle.iso_model.specs.Labels.{is_digit}
-use Rattle.script_text.proofs.WordLemmas.{is_decimal-by_all}
+use Rattle.command_line.proofs.Words.{rules, tests, arith, YieldsList-from_slice, all_from_yields_List, is_digit, is_decimal-by_all}
 use Rattle.command_line.proofs.long_number.is_decimal.Goals as goal
 
 pub returns-then-first-ne48 : goal.returns-then-first-ne48

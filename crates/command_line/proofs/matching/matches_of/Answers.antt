@@ -1,7 +1,4 @@
-use Rattle.std.proofs.Common.{◌≡◌, ◌∙◌, sym, true, false}
-use Rattle.clap.specs.Words.{app_of, kind_of}
-use Rattle.clap.specs.declared.error.kind.ErrorKind.TheVariants.{OutOfMemory}
-use Rattle.command_line.specs.Grammar.{texts}
+use Rattle.command_line.proofs.Words.{◌≡◌, ◌∙◌, sym, true, false, app_of, kind_of, OutOfMemory, texts}
 use Rattle.command_line.proofs.Grammars.{taken, refused}
 use Rattle.command_line.proofs.matching.matches_of.Goals as goal
 

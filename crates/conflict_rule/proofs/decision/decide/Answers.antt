@@ -1,11 +1,5 @@
 -- The decision over the notes is the model's.
-use Rattle.std.proofs.Common.{◌≡◌, ◌∙◌, ◌+◌, ◌-◌, Option, Some, None, ap, sym, subst, drop, rules}
-use Rattle.iso_model.specs.declared.access.Clash.{Clash}
-use Rattle.iso_model.specs.Conflict.{clash, clash_from, first_after}
-use Rattle.iso_model.specs.Effect.{or_else}
-use Rattle.iso_model.proofs.Clashes.{no_clash}
-use Rattle.conflict_rule.specs.Notes.{above}
-use Rattle.conflict_rule.specs.Decision.{guarded_bytes, up_to, Bytes, IsLeastMeeting}
+use Rattle.conflict_rule.proofs.Words.{◌≡◌, ◌∙◌, ◌+◌, ◌-◌, Option, Some, None, ap, sym, subst, drop, rules, Clash, clash, clash_from, first_after, or_else, no_clash, above, guarded_bytes, up_to, Bytes, IsLeastMeeting}
 use Rattle.conflict_rule.proofs.Clashing.{clash_parts, has_write_where, no_write_where}
 use Rattle.conflict_rule.proofs.Meetings.{clash_of, guarded_are}
 use Rattle.conflict_rule.proofs.decision.decide.Goals as goal

@@ -1,9 +1,5 @@
 -- A commit that meets nothing is passed over, and the first that meets is the answer.
-use Rattle.std.proofs.Common.{◌≡◌, ◌∙◌, ℕ, ◌+◌, ◌==◌, true, false, List, ◌∷◌, ap, arith, length, sym, subst, Some, None, inl, inr, refl, ne_eqb}
-use Rattle.std.proofs.lemmas.Grind.{common_steps}
-use Rattle.std.proofs.lemmas.Option.{same_Some}
-use Rattle.conflict_rule.specs.Notes.{Note, note_of, RisesFrom}
-use Rattle.conflict_rule.specs.Decision.{AreApart, Bytes, IsFirstMeet, IsLeastMeeting}
+use Rattle.conflict_rule.proofs.Words.{◌≡◌, ◌∙◌, ℕ, ◌+◌, ◌==◌, true, false, List, ◌∷◌, ap, arith, length, sym, subst, Some, None, inl, inr, refl, ne_eqb, common_steps, same_Some, Note, note_of, RisesFrom, AreApart, Bytes, IsFirstMeet, IsLeastMeeting}
 use Rattle.conflict_rule.proofs.Numbers.{note_from, rises_earlier}
 use Rattle.conflict_rule.proofs.decision.least_meeting.Goals as goal
 

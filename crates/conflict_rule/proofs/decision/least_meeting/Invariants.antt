@@ -1,9 +1,5 @@
 -- What is known of what is left is known of all.
-use Rattle.std.proofs.Common.{◌≡◌, ℕ, ◌+◌, ◌≤◌, List, length, Option, Some}
-use Rattle.byte_marks.specs.declared.extent.Extent.{Extent}
-use Rattle.iso_model.specs.declared.access.Clash.{Clash}
-use Rattle.conflict_rule.specs.Notes.{above, note_of, RisesFrom}
-use Rattle.conflict_rule.specs.Decision.{IsLeastMeeting}
+use Rattle.conflict_rule.proofs.Words.{◌≡◌, ℕ, ◌+◌, ◌≤◌, List, length, Option, Some, Extent, Clash, above, note_of, RisesFrom, IsLeastMeeting}
 use Rattle.conflict_rule.proofs.decision.least_meeting.Given as goal
 
 abbrev pub invariant-loop-commit : goal.invariant-loop-commit

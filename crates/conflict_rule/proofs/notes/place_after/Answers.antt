@@ -1,7 +1,5 @@
 -- Numbers that rise are parted by the test on the number.
-use Rattle.std.proofs.Common.{arith, rules, leb}
-use Rattle.std.proofs.lemmas.List.Sorted.{IsPartitionPoint-from_clause, IsPartitionedBy-leb}
-use Rattle.conflict_rule.specs.Notes.{Note}
+use Rattle.conflict_rule.proofs.Words.{arith, rules, leb, IsPartitionPoint-from_clause, IsPartitionedBy-leb, Note}
 use Rattle.conflict_rule.proofs.Numbers.{in_order, from_leb, from_not_leb}
 use Rattle.conflict_rule.proofs.notes.place_after.Goals as goal
 

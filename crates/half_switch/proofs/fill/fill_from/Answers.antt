@@ -1,8 +1,4 @@
-use Rattle.std.proofs.Common.{◌+◌, ◌-◌, length, arith, sym, ◌∙◌}
-use Rattle.std.proofs.lemmas.Result.{on_ok_weaker, on_err_weaker}
-use Rattle.iso_model.specs.Geometry.{half_size}
-use Rattle.iso_disk.proofs.Moments.{goes_on_still}
-use Rattle.iso_disk.proofs.Ranges.{starts_inside, runs_inside}
+use Rattle.half_switch.proofs.Words.{◌+◌, ◌-◌, length, arith, sym, ◌∙◌, on_ok_weaker, on_err_weaker, half_size, goes_on_still, starts_inside, runs_inside}
 use Rattle.half_switch.proofs.Filled.{laid_filled}
 use Rattle.half_switch.proofs.Tells.{on_err, tells_same, tells_more}
 use Rattle.half_switch.proofs.fill.fill_from.Goals as goal

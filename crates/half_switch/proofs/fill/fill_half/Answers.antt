@@ -1,6 +1,4 @@
-use Rattle.std.proofs.Common.{arith}
-use Rattle.iso_model.proofs.Bounds.{limits}
-use Rattle.iso_disk.proofs.Moments.{at_end, started, weakened}
+use Rattle.half_switch.proofs.Words.{arith, limits, at_end, started, weakened}
 use Rattle.half_switch.proofs.Filled.{filled_ready}
 use Rattle.half_switch.proofs.Kept.{kept_held}
 use Rattle.half_switch.proofs.fill.fill_half.Goals as goal

@@ -1,9 +1,4 @@
-use Rattle.std.proofs.Common.{◌≡◌, ◌+◌, ◌-◌, [], ◌∷◌, ◌++◌, length, take, drop, ◌∙◌, ap, arith}
-use Rattle.std.proofs.lemmas.List.{length-set}
-use Rattle.std.proofs.lemmas.Result.{on_ok_weaker}
-use Rattle.iso_model.specs.Geometry.{half_size}
-use Rattle.iso_model.specs.Image.{records}
-use Rattle.half_switch.specs.Put.{filled_with}
+use Rattle.half_switch.proofs.Words.{◌≡◌, ◌+◌, ◌-◌, [], ◌∷◌, ◌++◌, length, take, drop, ◌∙◌, ap, arith, length-set, on_ok_weaker, half_size, records, filled_with}
 use Rattle.half_switch.proofs.Nexts.{rest_is, length-header}
 use Rattle.half_switch.proofs.fill.put_filled.Goals as goal
 

@@ -1,8 +1,4 @@
-use Rattle.std.proofs.Common.{ℕ, subst}
-use Rattle.iso_disk.specs.Disk.{Torn}
-use Rattle.iso_disk.proofs.Moments.{joined, weakened, at_end}
-use Rattle.commit_gate.specs.Gate.{IsOpen}
-use Rattle.iso_image.proofs.Others.{beside_shut}
+use Rattle.half_switch.proofs.Words.{ℕ, subst, Torn, joined, weakened, at_end, IsOpen, beside_shut}
 use Rattle.half_switch.proofs.gates.close_half.Goals as goal
 
 pub returns-in_err-stands_closed-clause-held : goal.returns-in_err-stands_closed-clause-held

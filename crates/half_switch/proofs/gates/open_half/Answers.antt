@@ -1,9 +1,4 @@
-use Rattle.std.proofs.Common.{ℕ, subst}
-use Rattle.std.proofs.lemmas.Result.{on_ok_weaker}
-use Rattle.iso_disk.specs.Disk.{Torn}
-use Rattle.iso_disk.proofs.Moments.{weakened, at_end}
-use Rattle.commit_gate.specs.Gate.{IsOpen}
-use Rattle.iso_image.proofs.Switches.{switched, switching}
+use Rattle.half_switch.proofs.Words.{ℕ, subst, on_ok_weaker, Torn, weakened, at_end, IsOpen, switched, switching}
 use Rattle.half_switch.proofs.gates.open_half.Goals as goal
 
 pub returns-clause-held : goal.returns-clause-held

@@ -1,5 +1,4 @@
-use Rattle.std.proofs.Common.{◌≡◌}
-use Rattle.half_switch.specs.Laid.{laid}
+use Rattle.half_switch.proofs.Words.{◌≡◌, laid}
 use Rattle.half_switch.proofs.lay.lay_parts.Given as goal
 
 abbrev pub invariant-loop-part : goal.invariant-loop-part

@@ -1,7 +1,4 @@
-use Rattle.std.proofs.Common.{◌≡◌, ◌+◌, ◌-◌, List, length, take, sym, ◌∙◌, ap, arith}
-use Rattle.iso_model.specs.Image.{Written}
-use Rattle.iso_model.proofs.Bounds.{limits}
-use Rattle.half_switch.specs.Laid.{all_laid, laid}
+use Rattle.half_switch.proofs.Words.{◌≡◌, ◌+◌, ◌-◌, List, length, take, sym, ◌∙◌, ap, arith, Written, limits, all_laid, laid}
 use Rattle.half_switch.proofs.Lays.{length-laid}
 use Rattle.half_switch.proofs.Nexts.{at_next, all_laid-push, length-more, same_parts, window_inside}
 use Rattle.half_switch.proofs.lay.lay_records.Goals as goal

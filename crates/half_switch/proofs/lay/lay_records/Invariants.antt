@@ -1,8 +1,4 @@
-use Rattle.std.proofs.Common.{◌≡◌, ◌≤◌, ◌+◌, List, length, take}
-use Rattle.std.specs.List.{AllByRecursion}
-use Rattle.iso_model.specs.declared.limits.TheConstants.{LAST}
-use Rattle.iso_model.specs.Image.{IsRecord, Written, records}
-use Rattle.half_switch.specs.Laid.{all_laid, AreBytesOf}
+use Rattle.half_switch.proofs.Words.{◌≡◌, ◌≤◌, ◌+◌, List, length, take, AllByRecursion, LAST, IsRecord, Written, records, all_laid, AreBytesOf}
 use Rattle.half_switch.proofs.lay.lay_records.Given as goal
 
 abbrev pub invariant-loop-i : goal.invariant-loop-i

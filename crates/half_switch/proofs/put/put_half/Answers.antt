@@ -1,7 +1,4 @@
-use Rattle.std.proofs.Common.{◌+◌, ◌-◌, length, take, drop, arith, refl}
-use Rattle.std.proofs.lemmas.Result.{on_ok_weaker}
-use Rattle.iso_disk.proofs.Moments.{goes_on_still}
-use Rattle.iso_disk.proofs.Ranges.{starts_inside, writes_inside}
+use Rattle.half_switch.proofs.Words.{◌+◌, ◌-◌, length, take, drop, arith, refl, on_ok_weaker, goes_on_still, starts_inside, writes_inside}
 use Rattle.half_switch.proofs.Tells.{on_err, put_whole, tells_same, tells_more, tells_still, tells_written}
 use Rattle.half_switch.proofs.put.put_half.Goals as goal
 

@@ -1,5 +1,4 @@
-use Rattle.std.proofs.Common.{◌≡◌, ◌∙◌, sym, ap, ◌+◌, cond, Bool, arith}
-use Rattle.store_model.specs.FreeMap.{map_bit}
+use Rattle.iso_alloc.proofs.Words.{◌≡◌, ◌∙◌, sym, ap, ◌+◌, cond, Bool, arith, map_bit}
 use Rattle.iso_alloc.proofs.Loops.{count_on}
 use Rattle.iso_alloc.proofs.free_map.free_blocks.Goals as goal
 use Rattle.iso_alloc.proofs.free_map.free_blocks.Goals.{then-not-is_taken, else-not-is_taken}

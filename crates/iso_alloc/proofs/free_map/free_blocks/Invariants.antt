@@ -1,5 +1,4 @@
-use Rattle.std.proofs.Common.{◌≡◌, ◌+◌, ◌-◌, ◌≤◌}
-use Rattle.store_model.specs.FreeMap.{free_count}
+use Rattle.iso_alloc.proofs.Words.{◌≡◌, ◌+◌, ◌-◌, ◌≤◌, free_count}
 use Rattle.iso_alloc.proofs.free_map.free_blocks.Given as goal
 
 -- those counted and those that are left

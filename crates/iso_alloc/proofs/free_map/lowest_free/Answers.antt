@@ -1,5 +1,4 @@
-use Rattle.std.proofs.Common.{◌∙◌, sym, ap, not}
-use Rattle.store_model.specs.FreeMap.{map_bit}
+use Rattle.iso_alloc.proofs.Words.{◌∙◌, sym, ap, not, map_bit}
 use Rattle.iso_alloc.proofs.Loops.{first_found, first_goes_on}
 use Rattle.iso_alloc.proofs.free_map.lowest_free.Goals as goal
 

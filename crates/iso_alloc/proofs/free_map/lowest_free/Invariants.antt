@@ -1,6 +1,4 @@
-use Rattle.std.proofs.Common.{◌≡◌, ◌-◌, not}
-use Rattle.iso_model.specs.Conflict.{first_from}
-use Rattle.store_model.specs.FreeMap.{lowest_free, map_bit}
+use Rattle.iso_alloc.proofs.Words.{◌≡◌, ◌-◌, not, first_from, lowest_free, map_bit}
 use Rattle.iso_alloc.proofs.free_map.lowest_free.Given as goal
 
 -- the blocks that are left decide

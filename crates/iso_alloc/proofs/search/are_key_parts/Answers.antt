@@ -1,7 +1,4 @@
-use Rattle.std.proofs.Common.{◌≡◌, ◌∙◌, sym, ap, true, false, arith}
-use Rattle.std.proofs.lemmas.Grind.{common_steps}
-use Rattle.store_model.specs.Cells.{is_part, key_mark, are_key_parts}
-use Rattle.store_model.specs.Stores.{bytes_in}
+use Rattle.iso_alloc.proofs.Words.{◌≡◌, ◌∙◌, sym, ap, true, false, arith, common_steps, is_part, key_mark, are_key_parts, bytes_in}
 use Rattle.iso_alloc.proofs.Loops.{all_fails, all_goes_on}
 use Rattle.iso_alloc.proofs.search.are_key_parts.Goals as goal
 

@@ -1,6 +1,4 @@
-use Rattle.std.proofs.Common.{◌≡◌, ◌-◌}
-use Rattle.store_model.specs.Cells.{all_from, are_key_parts, is_part, key_mark}
-use Rattle.store_model.specs.Stores.{bytes_in}
+use Rattle.iso_alloc.proofs.Words.{◌≡◌, ◌-◌, all_from, are_key_parts, is_part, key_mark, bytes_in}
 use Rattle.iso_alloc.proofs.search.are_key_parts.Given as goal
 
 -- the parts that are left decide

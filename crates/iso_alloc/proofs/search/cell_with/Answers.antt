@@ -1,8 +1,4 @@
-use Rattle.std.proofs.Common.{◌≡◌, ◌∙◌, sym, ap, ◌≤◌, ℕ, true, arith, List, get_or}
-use Rattle.std.proofs.lemmas.Bool.{and_parts, leb-true}
-use Rattle.std.specs.Str.{bytes_eq}
-use Rattle.store_model.specs.Cells.{is_part, key_mark, key_at, text_of, cell_with, cell_count}
-use Rattle.store_model.specs.Stores.{bytes_in}
+use Rattle.iso_alloc.proofs.Words.{◌≡◌, ◌∙◌, sym, ap, ◌≤◌, ℕ, true, arith, List, get_or, and_parts, leb-true, bytes_eq, is_part, key_mark, key_at, text_of, cell_with, cell_count, bytes_in}
 use Rattle.iso_alloc.proofs.Loops.{first_found, first_goes_on, all_at}
 use Rattle.iso_alloc.proofs.search.cell_with.Goals as goal
 

@@ -1,7 +1,4 @@
-use Rattle.std.proofs.Common.{◌≡◌, ◌-◌}
-use Rattle.std.specs.Str.{bytes_eq}
-use Rattle.store_model.specs.Cells.{cell_with, key_at}
-use Rattle.iso_model.specs.Conflict.{first_from}
+use Rattle.iso_alloc.proofs.Words.{◌≡◌, ◌-◌, bytes_eq, cell_with, key_at, first_from}
 use Rattle.iso_alloc.proofs.search.cell_with.Given as goal
 
 -- the cells that are left decide

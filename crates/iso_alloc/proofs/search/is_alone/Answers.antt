@@ -1,6 +1,4 @@
-use Rattle.std.proofs.Common.{◌∙◌, sym, ◌==◌, ◌||◌}
-use Rattle.store_model.specs.Cells.{is_unused}
-use Rattle.store_model.specs.HashCalls.{is_alone}
+use Rattle.iso_alloc.proofs.Words.{◌∙◌, sym, ◌==◌, ◌||◌, is_unused, is_alone}
 use Rattle.iso_alloc.proofs.Loops.{all_fails, all_goes_on}
 use Rattle.iso_alloc.proofs.search.is_alone.Goals as goal
 

@@ -1,6 +1,4 @@
-use Rattle.std.proofs.Common.{◌≡◌, ◌-◌, ◌==◌, ◌||◌}
-use Rattle.store_model.specs.Cells.{all_from, is_unused}
-use Rattle.store_model.specs.HashCalls.{is_alone}
+use Rattle.iso_alloc.proofs.Words.{◌≡◌, ◌-◌, ◌==◌, ◌||◌, all_from, is_unused, is_alone}
 use Rattle.iso_alloc.proofs.search.is_alone.Given as goal
 
 -- the cells that are left decide

@@ -1,6 +1,4 @@
-use Rattle.std.proofs.Common.{◌≡◌, ◌∙◌, sym, ap, ◌==◌, ℕ, List, get_or, eq-eqb, ne_eqb}
-use Rattle.store_model.specs.Cells.{key_mark, unused_cell}
-use Rattle.store_model.specs.Stores.{bytes_in}
+use Rattle.iso_alloc.proofs.Words.{◌≡◌, ◌∙◌, sym, ap, ◌==◌, ℕ, List, get_or, eq-eqb, ne_eqb, key_mark, unused_cell, bytes_in}
 use Rattle.iso_alloc.proofs.Loops.{first_found, first_goes_on}
 use Rattle.iso_alloc.proofs.search.unused_cell.Goals as goal
 

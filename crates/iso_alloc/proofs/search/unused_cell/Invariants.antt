@@ -1,7 +1,4 @@
-use Rattle.std.proofs.Common.{◌≡◌, ◌-◌, ◌==◌, get_or}
-use Rattle.store_model.specs.Cells.{unused_cell, key_mark}
-use Rattle.iso_model.specs.Conflict.{first_from}
-use Rattle.store_model.specs.Stores.{bytes_in}
+use Rattle.iso_alloc.proofs.Words.{◌≡◌, ◌-◌, ◌==◌, get_or, unused_cell, key_mark, first_from, bytes_in}
 use Rattle.iso_alloc.proofs.search.unused_cell.Given as goal
 
 -- the cells that are left decide

@@ -1,5 +1,4 @@
-use Rattle.std.proofs.Common.{◌+◌}
-use Rattle.iso_image.specs.Half.{half_of_world}
+use Rattle.iso_core.proofs.Words.{◌+◌, half_of_world}
 use Rattle.iso_core.proofs.Staging.{next_all, told_so}
 use Rattle.iso_core.proofs.append.append_all.Goals as goal
 

@@ -1,16 +1,5 @@
-use Rattle.std.proofs.Common.{◌≡◌, ◌∙◌, inr, sym, ap, ◌<◌, ◌≤◌, ◌+◌, [], ◌∷◌, ◌++◌, length, arith, Some, subst}
-use Rattle.std.specs.Prelude.{unwrap_or}
-use Rattle.iso_model.specs.declared.access.Geometry.{Geometry}
-use Rattle.iso_model.specs.declared.access.Mode.{Mode}
-use Rattle.iso_model.specs.declared.limits.TheConstants.{LAST, MAX_LIVE}
+use Rattle.iso_core.proofs.Words.{◌≡◌, ◌∙◌, inr, sym, ap, ◌<◌, ◌≤◌, ◌+◌, [], ◌∷◌, ◌++◌, length, arith, Some, subst, unwrap_or, Geometry, Mode, LAST, MAX_LIVE, last, after_begin, begin_step, mode_named, unattached, all_weaker, may_have, IsLive, IsOf}
 use Rattle.iso_model.specs.declared.core_reply.CoreReply.TheVariants as reply
-use Rattle.iso_model.specs.History.{last}
-use Rattle.iso_model.specs.Step.{after_begin, begin_step, mode_named}
-use Rattle.iso_model.specs.World.{unattached}
-use Rattle.iso_model.proofs.Growth.{all_weaker}
-use Rattle.iso_model.proofs.Worlds.{may_have}
-use Rattle.iso_model.specs.Worlds.{IsLive}
-use Rattle.iso_core.specs.Kept.{IsOf}
 use Rattle.iso_core.proofs.Begins.{begins_so, fixed, is_begun, is_fixed, is_full, is_worn}
 use Rattle.iso_core.proofs.Numbers.{log_last}
 use Rattle.iso_core.proofs.Stats.{live_is}

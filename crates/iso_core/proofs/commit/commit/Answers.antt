@@ -1,17 +1,5 @@
-use Rattle.std.proofs.Common.{◌≢◌, ◌∙◌, inr, sym, ap, ◌+◌, ◌-◌, ◌≤◌, [], ◌∷◌, length, arith, subst, Some, None, true}
-use Rattle.iso_disk.specs.Disk.{LeavesOnly}
-use Rattle.iso_disk.proofs.Moments.{weakened}
-use Rattle.iso_model.specs.declared.limits.TheConstants.{LAST}
+use Rattle.iso_core.proofs.Words.{◌≢◌, ◌∙◌, inr, sym, ap, ◌+◌, ◌-◌, ◌≤◌, [], ◌∷◌, length, arith, subst, Some, None, true, LeavesOnly, weakened, LAST, last, commit_step, need, World, used, Kept, AreOf, written_of, IsOf, up, ShowsEither}
 use Rattle.iso_model.specs.declared.core_reply.CoreReply.TheVariants as reply
-use Rattle.iso_model.specs.History.{last}
-use Rattle.iso_model.specs.Step.{commit_step, need}
-use Rattle.iso_model.specs.World.{World, used}
-use Rattle.iso_core.specs.declared.kept.Kept.{Kept}
-use Rattle.iso_core.specs.Core.{AreOf}
-use Rattle.iso_core.specs.Ends.{written_of}
-use Rattle.iso_core.specs.Kept.{IsOf}
-use Rattle.iso_core.specs.Standing.{up}
-use Rattle.iso_model.specs.Between.{ShowsEither}
 use Rattle.iso_core.proofs.Committing.{answered, committed_core, down_on, ends_in, fits_log, full_log, led, lost_core, next_world, prepared_stage, spelled_stage}
 use Rattle.iso_core.proofs.Moments.{is_committed, is_full, is_worn, shows_either, stays_shown}
 use Rattle.iso_core.proofs.Numbers.{log_last}

@@ -1,5 +1,4 @@
-use Rattle.std.proofs.Common.{◌∙◌, ap}
-use Rattle.conflict_rule.specs.Notes.{above}
+use Rattle.iso_core.proofs.Words.{◌∙◌, ap, above}
 use Rattle.iso_core.proofs.Commits.{commits_so, may_take_in, notes_below}
 use Rattle.iso_core.proofs.Leaves.{is_live}
 use Rattle.iso_core.proofs.commit.take_in.Goals as goal

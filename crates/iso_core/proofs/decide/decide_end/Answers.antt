@@ -1,7 +1,4 @@
-use Rattle.std.proofs.Common.{◌≡◌, ◌∙◌, sym, arith, subst}
-use Rattle.conflict_rule.specs.Decision.{IsAsked}
-use Rattle.iso_model.specs.declared.access.Mode.{Mode}
-use Rattle.iso_model.specs.Conflict.{clash}
+use Rattle.iso_core.proofs.Words.{◌≡◌, ◌∙◌, sym, arith, subst, IsAsked, Mode, clash}
 use Rattle.iso_core.proofs.Decides.{asked, later_count, settled_of}
 use Rattle.iso_core.proofs.decide.decide_end.Goals as goal
 

@@ -1,14 +1,4 @@
-use Rattle.std.proofs.Common.{◌≡◌, ◌∙◌, ◌⊎◌, sym, ap, subst, IfOk, IfErr, None, true, false}
-use Rattle.iso_model.specs.declared.core_reply.CoreReply.{CoreReply}
-use Rattle.iso_model.specs.Effect.{has_write}
-use Rattle.iso_model.specs.Step.{end_step}
-use Rattle.iso_model.specs.World.{World}
-use Rattle.iso_disk.specs.Disk.{LeavesOnly}
-use Rattle.iso_model.specs.declared.core_error.CoreError.TheVariants.{Disk}
-use Rattle.iso_core.specs.Calls.{Refuses, reply_of}
-use Rattle.iso_core.specs.Core.{AreOf}
-use Rattle.iso_core.specs.Standing.{up}
-use Rattle.iso_model.specs.Between.{ShowsEither}
+use Rattle.iso_core.proofs.Words.{◌≡◌, ◌∙◌, ◌⊎◌, sym, ap, subst, IfOk, IfErr, None, true, false, CoreReply, has_write, end_step, World, LeavesOnly, Disk, Refuses, reply_of, AreOf, up, ShowsEither}
 use Rattle.iso_core.proofs.Endings.{ends_by, ends_in_conflict, ends_read_only, left_core, may_commit}
 use Rattle.iso_core.proofs.Moments.{stays_shown}
 use Rattle.iso_core.proofs.ending.end_tx.Goals as goal

@@ -1,12 +1,4 @@
-use Rattle.std.proofs.Common.{◌≡◌, ◌∙◌, inl, inr, sym, ap, subst, ℕ, ◌+◌, ◌*◌, Option, arith}
-use Rattle.std.proofs.Math.Path.{transport}
-use Rattle.std.specs.Prelude.{unwrap_or}
-use Rattle.iso_image.specs.declared.places.HalfPlace.{HalfPlace}
-use Rattle.iso_model.specs.declared.access.Geometry.{Geometry}
-use Rattle.iso_model.specs.Geometry.{base_place, image_size}
-use Rattle.iso_model.proofs.Bounds.{limits}
-use Rattle.mv_index.specs.Shown.{AllLie}
-use Rattle.version_read.specs.Blocks.{IsOver}
+use Rattle.iso_core.proofs.Words.{◌≡◌, ◌∙◌, inl, inr, sym, ap, subst, ℕ, ◌+◌, ◌*◌, Option, arith, transport, unwrap_or, HalfPlace, Geometry, base_place, image_size, limits, AllLie, IsOver}
 use Rattle.iso_core.proofs.Fetches.{block_is, versions_lie}
 use Rattle.iso_core.proofs.Leaves.{begins_at}
 use Rattle.iso_core.proofs.fetch.fetch.Goals as goal

@@ -1,9 +1,4 @@
-use Rattle.std.proofs.Common.{sym, subst, List}
-use Rattle.mv_index.specs.declared.version.Version.{Version}
-use Rattle.mv_index.specs.Shown.{AllLie, Lies}
-use Rattle.mv_index.specs.Versions.{no_version, upto, versions_in}
-use Rattle.mv_index.proofs.Sublists.{all_at}
-use Rattle.version_read.proofs.Lying.{all_upto}
+use Rattle.iso_core.proofs.Words.{sym, subst, List, Version, AllLie, Lies, no_version, upto, versions_in, all_at, all_upto}
 use Rattle.iso_core.proofs.fetch.versions_at.Goals as goal
 
 pub returns-then-at-last-clause-lie : goal.returns-then-at-last-clause-lie

@@ -1,7 +1,5 @@
-use Rattle.std.proofs.Common.{◌∙◌, sym, ◌+◌, ◌-◌, ◌*◌, arith, subst}
+use Rattle.iso_core.proofs.Words.{◌∙◌, sym, ◌+◌, ◌-◌, ◌*◌, arith, subst, IsOf, after_switch}
 use Rattle.iso_log.specs.Extent.{Extent}
-use Rattle.iso_core.specs.Kept.{IsOf}
-use Rattle.iso_model.specs.Step.{after_switch}
 use Rattle.iso_core.proofs.Numbers.{log_room, log_used}
 use Rattle.iso_core.proofs.Switches.{counted_small, gate_is, places, room_there, small, splits, switches_so, weighs}
 use Rattle.iso_core.proofs.go_over.go_over.Goals as goal

@@ -1,17 +1,4 @@
-use Rattle.std.proofs.Common.{◌∙◌, sym, ap, ◌+◌, ◌<◌, List, length, map, subst, arith}
-use Rattle.iso_disk.specs.Disk.{LeavesOnly}
-use Rattle.iso_disk.proofs.Moments.{weakened}
-use Rattle.iso_model.specs.Geometry.{image_size}
-use Rattle.iso_model.specs.History.{last}
-use Rattle.iso_model.specs.Image.{records, written}
-use Rattle.iso_model.specs.World.{World}
-use Rattle.iso_model.specs.declared.access.GroupReply.{GroupReply}
-use Rattle.iso_core.specs.declared.kept.Kept.{Kept}
-use Rattle.iso_core.specs.Core.{AreOf}
-use Rattle.iso_model.specs.Group.{ahead, group, leave_all}
-use Rattle.iso_core.specs.Kept.{IsOf}
-use Rattle.iso_core.specs.Standing.{up}
-use Rattle.iso_model.specs.Between.{ShowsEither}
+use Rattle.iso_core.proofs.Words.{◌∙◌, sym, ap, ◌+◌, ◌<◌, List, length, map, subst, arith, LeavesOnly, weakened, image_size, last, records, written, World, GroupReply, Kept, AreOf, ahead, group, leave_all, IsOf, up, ShowsEither}
 use Rattle.iso_core.proofs.Committing.{down_on, keeps_stand}
 use Rattle.iso_core.proofs.Grouping.{fits_kept, group_core, group_so, grown_with, history_so, leave_all_is, left_all, lost_group, many, next_records, none_ahead, other_history, ready_ahead, shows_group, shows_lost}
 use Rattle.iso_core.proofs.Moments.{stays_shown}

@@ -1,5 +1,4 @@
-use Rattle.std.proofs.Common.{◌∙◌, refl, ap, []}
-use Rattle.iso_core.specs.declared.kept.Kept.{Kept}
+use Rattle.iso_core.proofs.Words.{◌∙◌, refl, ap, [], Kept}
 use Rattle.iso_core.proofs.Committing.{buffer_on}
 use Rattle.iso_core.proofs.Grouping.{ahead_none, planned_for}
 use Rattle.iso_core.proofs.group.prepare_group.Goals as goal

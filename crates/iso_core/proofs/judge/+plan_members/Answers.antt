@@ -1,8 +1,4 @@
-use Rattle.std.proofs.Common.{◌≡◌, ap, suc, length, arith, subst, List, ◌++◌}
-use Rattle.iso_model.specs.Step.{end_step}
-use Rattle.iso_core.specs.declared.group_end.GroupEnd.{GroupEnd}
-use Rattle.iso_model.specs.Group.{ahead, made_by, member_reply}
-use Rattle.iso_core.specs.Planned.{AreEach, IsReady}
+use Rattle.iso_core.proofs.Words.{◌≡◌, ap, suc, length, arith, subst, List, ◌++◌, end_step, GroupEnd, ahead, made_by, member_reply, AreEach, IsReady}
 use Rattle.iso_core.proofs.Committing.{buffer_on}
 use Rattle.iso_core.proofs.Judging.{none_ready, on_ok, parted, planned_more, planned_none}
 use Rattle.iso_core.proofs.judge.+plan_members.Goals as goal

@@ -1,6 +1,4 @@
-use Rattle.std.proofs.Common.{◌∙◌, sym}
-use Rattle.iso_model.specs.Conflict.{clash}
-use Rattle.iso_model.specs.Group.{ahead}
+use Rattle.iso_core.proofs.Words.{◌∙◌, sym, clash, ahead}
 use Rattle.iso_core.proofs.Judging.{asked_first, asked_second}
 use Rattle.iso_core.proofs.judge.clash_in.Goals as goal
 

@@ -1,8 +1,4 @@
-use Rattle.std.proofs.Common.{◌≡◌, ◌∙◌, sym, ap, true, false}
-use Rattle.iso_model.specs.declared.core_reply.CoreReply.{CoreReply}
-use Rattle.iso_model.specs.Effect.{has_write}
-use Rattle.iso_model.specs.World.{World}
-use Rattle.iso_model.specs.Group.{ahead, member_reply}
+use Rattle.iso_core.proofs.Words.{◌≡◌, ◌∙◌, sym, ap, true, false, CoreReply, has_write, World, ahead, member_reply}
 use Rattle.iso_core.proofs.Endings.{ends_in_conflict, ends_read_only}
 use Rattle.iso_core.proofs.Judging.{may_ahead}
 use Rattle.iso_core.proofs.judge.judge.Goals as goal

@@ -1,7 +1,4 @@
-use Rattle.std.proofs.Common.{◌∙◌, ap, subst, [], ◌∷◌, ◌++◌}
-use Rattle.iso_model.specs.declared.access.GroupReply.{GroupReply}
-use Rattle.iso_model.specs.Group.{made_by}
-use Rattle.iso_core.specs.Planned.{IsAhead}
+use Rattle.iso_core.proofs.Words.{◌∙◌, ap, subst, [], ◌∷◌, ◌++◌, GroupReply, made_by, IsAhead}
 use Rattle.iso_core.proofs.Committing.{buffer_on}
 use Rattle.iso_core.proofs.judge.plan_member.Goals as goal
 

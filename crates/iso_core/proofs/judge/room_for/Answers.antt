@@ -1,11 +1,5 @@
-use Rattle.std.proofs.Common.{◌≡◌, ◌≢◌, ◌∙◌, sym, refl, ap, ℕ, ◌+◌, ◌-◌, ◌<◌, ◌≤◌, List, length, arith}
-use Rattle.std.proofs.lemmas.List.{length_push}
-use Rattle.iso_model.specs.declared.limits.TheConstants.{LAST}
-use Rattle.iso_model.specs.History.{last}
-use Rattle.iso_model.specs.Step.{need}
-use Rattle.iso_model.specs.World.{World, used}
+use Rattle.iso_core.proofs.Words.{◌≡◌, ◌≢◌, ◌∙◌, sym, refl, ap, ℕ, ◌+◌, ◌-◌, ◌<◌, ◌≤◌, List, length, arith, length_push, LAST, last, need, World, used, ahead, member_reply}
 use Rattle.iso_model.specs.declared.access.GroupReply.TheVariants as member
-use Rattle.iso_model.specs.Group.{ahead, member_reply}
 use Rattle.iso_core.proofs.Committing.{buffer_on, next_world}
 use Rattle.iso_core.proofs.Judging.{commits_as, fits_ahead, free_ahead, full_so, number_ahead, worn_so}
 use Rattle.iso_core.proofs.Moments.{record_needs}

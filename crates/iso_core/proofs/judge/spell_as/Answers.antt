@@ -1,9 +1,5 @@
-use Rattle.std.proofs.Common.{◌∙◌, sym, ap, ◌++◌, map, arith}
-use Rattle.iso_format.specs.Spelled.{Spelled}
+use Rattle.iso_core.proofs.Words.{◌∙◌, sym, ap, ◌++◌, map, arith, Spelled, part_of, runs, spell}
 use Rattle.iso_core.proofs.Judging.{runs_lie, same_runs, some_runs, spelled_so}
-use Rattle.version_read.specs.Parts.{part_of}
-use Rattle.iso_model.specs.Effect.{runs}
-use Rattle.iso_model.specs.Image.{spell}
 use Rattle.iso_core.proofs.judge.spell_as.Goals as goal
 
 pub spell-requires-clause-settled : goal.spell-requires-clause-settled

@@ -1,12 +1,4 @@
-use Rattle.std.proofs.Common.{◌∙◌, sym, ap, ℕ, ◌+◌, ◌<◌, ◌≤◌, List, [], ◌∷◌, ◌++◌, arith, subst}
-use Rattle.std.specs.List.{All}
-use Rattle.byte_marks.specs.Touched.{AreTouched}
-use Rattle.conflict_rule.specs.Decision.{Bytes}
-use Rattle.conflict_rule.specs.Notes.{Note}
-use Rattle.iso_model.specs.declared.access.Kind.TheVariants.{Write}
-use Rattle.iso_model.specs.declared.limits.TheConstants.{LAST}
-use Rattle.iso_model.specs.History.{last}
-use Rattle.iso_model.specs.Group.{ahead}
+use Rattle.iso_core.proofs.Words.{◌∙◌, sym, ap, ℕ, ◌+◌, ◌<◌, ◌≤◌, List, [], ◌∷◌, ◌++◌, arith, subst, All, AreTouched, Bytes, Note, Write, LAST, last, ahead}
 use Rattle.iso_core.proofs.Decides.{touched_by}
 use Rattle.iso_core.proofs.Judging.{last_ahead, number_ahead, numbers_before, staged_more}
 use Rattle.iso_core.proofs.judge.stage.Goals as goal

@@ -1,6 +1,4 @@
-use Rattle.std.proofs.Common.{◌∙◌, sym, ap, List, ◌++◌, OnOk, subst, append-nil}
-use Rattle.iso_model.specs.declared.access.Commit.{Commit}
-use Rattle.iso_core.specs.Planned.{IsAhead}
+use Rattle.iso_core.proofs.Words.{◌∙◌, sym, ap, List, ◌++◌, OnOk, subst, append-nil, Commit, IsAhead}
 use Rattle.iso_core.proofs.Judging.{commits_then, makes_none, makes_one}
 use Rattle.iso_core.proofs.judge.stage_if.Goals as goal
 

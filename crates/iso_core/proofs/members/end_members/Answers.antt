@@ -1,7 +1,4 @@
-use Rattle.std.proofs.Common.{◌∙◌, sym, ap, List, length}
-use Rattle.iso_model.specs.declared.access.GroupReply.{GroupReply}
-use Rattle.iso_model.specs.Group.{group}
-use Rattle.iso_core.specs.Planned.{IsReady}
+use Rattle.iso_core.proofs.Words.{◌∙◌, sym, ap, List, length, GroupReply, group, IsReady}
 use Rattle.iso_core.proofs.Moments.{stays_shown}
 use Rattle.iso_core.proofs.Replied.{bare_replied, bare_settled, each_one, each_replied}
 use Rattle.iso_core.proofs.members.end_members.Goals as goal

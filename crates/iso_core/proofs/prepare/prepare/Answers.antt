@@ -1,9 +1,4 @@
-use Rattle.std.proofs.Common.{◌∙◌, sym, subst, List}
-use Rattle.byte_marks.specs.Touched.{AreTouched}
-use Rattle.conflict_rule.specs.Decision.{Bytes}
-use Rattle.iso_model.specs.declared.access.Kind.TheVariants.{Write}
-use Rattle.version_read.specs.declared.part_span.PartSpan.{PartSpan}
-use Rattle.version_read.specs.Parts.{HasRoom}
+use Rattle.iso_core.proofs.Words.{◌∙◌, sym, subst, List, AreTouched, Bytes, Write, PartSpan, HasRoom}
 use Rattle.iso_core.proofs.Decides.{touched_by}
 use Rattle.iso_core.proofs.Prepares.{follows, keeps_on, parts_count, parts_lie, parts_order}
 use Rattle.iso_core.proofs.Standings.{if_ok}

@@ -1,10 +1,5 @@
-use Rattle.std.proofs.Common.{◌∙◌, sym, ap, ℕ, ◌+◌, ◌++◌}
-use Rattle.iso_format.specs.Spelled.{Spelled}
+use Rattle.iso_core.proofs.Words.{◌∙◌, sym, ap, ℕ, ◌+◌, ◌++◌, Spelled, part_of, map, runs, spell}
 use Rattle.iso_core.proofs.Prepares.{runs_lie, same_runs, some_runs, spelled_next}
-use Rattle.version_read.specs.Parts.{part_of}
-use Rattle.std.proofs.Common.{map}
-use Rattle.iso_model.specs.Effect.{runs}
-use Rattle.iso_model.specs.Image.{spell}
 use Rattle.iso_core.proofs.prepare.spell_next.Goals as goal
 
 pub spell-requires-clause-runs : goal.spell-requires-clause-runs

@@ -1,8 +1,4 @@
-use Rattle.std.proofs.Common.{◌∙◌, inl, ap, arith}
-use Rattle.iso_disk.proofs.Moments.{at_end, joined, weakened}
-use Rattle.iso_image.specs.declared.places.HalfPlace.{HalfPlace}
-use Rattle.half_switch.specs.Plan.{refilled}
-use Rattle.iso_model.specs.Geometry.{header_place}
+use Rattle.iso_core.proofs.Words.{◌∙◌, inl, ap, arith, at_end, joined, weakened, HalfPlace, refilled, header_place}
 use Rattle.iso_core.proofs.Refills.{inside}
 use Rattle.iso_core.proofs.refill.refill.Goals as goal
 

@@ -1,6 +1,4 @@
-use Rattle.std.proofs.Common.{◌∙◌, ap, map, arith, subst, sym, List, ◌∷◌}
-use Rattle.iso_core.specs.declared.group_end.GroupEnd.{GroupEnd}
-use Rattle.iso_core.specs.Planned.{AreEach, IsMember, unsettled}
+use Rattle.iso_core.proofs.Words.{◌∙◌, ap, map, arith, subst, sym, List, ◌∷◌, GroupEnd, AreEach, IsMember, unsettled}
 use Rattle.iso_core.proofs.Staging.{ready_more}
 use Rattle.iso_core.proofs.settling.+settle_members.Goals as goal
 

@@ -1,12 +1,4 @@
-use Rattle.std.proofs.Common.{◌≡◌, ◌∙◌, ◌++◌, sym, refl, ap, ℕ, List, map, subst}
-use Rattle.std.specs.List.{AllByRecursion}
-use Rattle.iso_model.specs.declared.access.Run.{Run}
-use Rattle.iso_model.specs.declared.access.Span.{Span}
-use Rattle.iso_model.specs.Effect.{runs_from}
-use Rattle.merge_write.specs.Patch.{piece, run_of}
-use Rattle.merge_write.proofs.Effects.{pieces_of_any_block}
-use Rattle.merge_write.proofs.Growth.{runs_back}
-use Rattle.version_read.specs.Parts.{part_of}
+use Rattle.iso_core.proofs.Words.{◌≡◌, ◌∙◌, ◌++◌, sym, refl, ap, ℕ, List, map, subst, AllByRecursion, Run, Span, runs_from, piece, run_of, pieces_of_any_block, runs_back, part_of}
 use Rattle.iso_core.proofs.Spellings.{IsWhole, pieces_whole}
 use Rattle.iso_core.proofs.spelling.push_patch.Goals as goal
 

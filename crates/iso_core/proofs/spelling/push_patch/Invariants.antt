@@ -1,9 +1,5 @@
 -- The pieces so far are pushed, and the others follow.
-use Rattle.std.proofs.Common.{◌≡◌, ◌++◌, map}
-use Rattle.std.specs.List.{AllByRecursion}
-use Rattle.iso_model.specs.Effect.{runs_from}
-use Rattle.merge_write.specs.Patch.{run_of}
-use Rattle.version_read.specs.Parts.{part_of}
+use Rattle.iso_core.proofs.Words.{◌≡◌, ◌++◌, map, AllByRecursion, runs_from, run_of, part_of}
 use Rattle.iso_core.proofs.Spellings.{IsWhole}
 use Rattle.iso_core.proofs.spelling.push_patch.Given as goal
 

@@ -1,8 +1,5 @@
 -- The patches so far are pushed, and the others follow.
-use Rattle.std.proofs.Common.{◌≡◌, ◌++◌, map, flat_map}
-use Rattle.iso_model.specs.declared.access.Geometry.{Geometry}
-use Rattle.iso_model.specs.Effect.{runs, runs_from}
-use Rattle.version_read.specs.Parts.{part_of}
+use Rattle.iso_core.proofs.Words.{◌≡◌, ◌++◌, map, flat_map, Geometry, runs, runs_from, part_of}
 use Rattle.iso_core.proofs.spelling.push_work.Given as goal
 
 abbrev pub invariant-loop-block : goal.invariant-loop-block

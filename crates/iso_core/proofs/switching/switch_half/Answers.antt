@@ -1,16 +1,4 @@
-use Rattle.std.proofs.Common.{◌≡◌, ◌≢◌, ◌∙◌, inl, inr, sym, refl, ap, subst, ℕ, ◌+◌, ◌-◌, ◌≤◌, arith, Some, true, Err}
-use Rattle.iso_disk.proofs.Moments.{at_end, started, weakened}
-use Rattle.half_switch.specs.declared.plan.FillPlan.{FillPlan}
-use Rattle.half_switch.specs.Plan.{place_of}
-use Rattle.iso_image.specs.declared.places.HalfPlace.{HalfPlace}
-use Rattle.iso_image.specs.Half.{IsHeld, half_of_world}
-use Rattle.iso_model.specs.declared.access.Geometry.{Geometry}
-use Rattle.iso_model.specs.declared.limits.TheConstants.{LAST}
-use Rattle.iso_model.specs.declared.core_reply.CoreReply.{CoreReply}
-use Rattle.iso_model.specs.Geometry.{image_size, log_place}
-use Rattle.iso_model.specs.Step.{after_switch}
-use Rattle.iso_model.specs.World.{World}
-use Rattle.iso_model.proofs.Worlds.{floor_between}
+use Rattle.iso_core.proofs.Words.{◌≡◌, ◌≢◌, ◌∙◌, inl, inr, sym, refl, ap, subst, ℕ, ◌+◌, ◌-◌, ◌≤◌, arith, Some, true, Err, at_end, started, weakened, FillPlan, place_of, HalfPlace, IsHeld, half_of_world, Geometry, LAST, CoreReply, image_size, log_place, after_switch, World, floor_between}
 use Rattle.iso_core.proofs.Committing.{down_on}
 use Rattle.iso_core.proofs.Moments.{shows_world}
 use Rattle.iso_core.proofs.Numbers.{log_used}

@@ -1,8 +1,5 @@
-use Rattle.std.proofs.Common.{◌≡◌, ◌∙◌, sym, ap, suc, length, arith, List, ◌++◌}
-use Rattle.std.proofs.lemmas.List.{append_assoc, append-nil}
-use Rattle.version_read.specs.declared.part_span.PartSpan.{PartSpan}
-use Rattle.iso_core.specs.declared.plan.Staged.{Staged}
-use Rattle.iso_core.specs.Planned.{all_parts}
+use Rattle.iso_core.proofs.Words.{◌≡◌, ◌∙◌, sym, ap, suc, length, arith, List, ◌++◌, append_assoc, PartSpan, Staged, all_parts}
+use Rattle.std.proofs.lemmas.List.{append-nil}
 use Rattle.iso_core.proofs.Judging.{on_ok}
 use Rattle.iso_core.proofs.taking.+gather_parts.Goals as goal
 

@@ -1,10 +1,4 @@
-use Rattle.std.proofs.Common.{◌≡◌, sym, ap, suc, length, arith, subst, List}
-use Rattle.iso_model.specs.Step.{after_leaving}
-use Rattle.iso_model.specs.World.{Live}
-use Rattle.iso_core.specs.declared.group_end.GroupEnd.{GroupEnd}
-use Rattle.iso_model.specs.Group.{leave_all}
-use Rattle.iso_core.specs.Kept.{IsOf}
-use Rattle.iso_core.specs.Planned.{AreEach, IsReady}
+use Rattle.iso_core.proofs.Words.{◌≡◌, sym, ap, suc, length, arith, subst, List, after_leaving, Live, GroupEnd, leave_all, IsOf, AreEach, IsReady}
 use Rattle.iso_core.proofs.Judging.{none_ready, parted}
 use Rattle.iso_core.proofs.Staging.{ready_left}
 use Rattle.iso_core.proofs.taking.+leave_each.Goals as goal

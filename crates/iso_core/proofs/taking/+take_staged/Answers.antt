@@ -1,15 +1,5 @@
-use Rattle.std.proofs.Common.{◌≡◌, ◌∙◌, sym, ap, suc, ◌+◌, length, map, arith, subst, List, ◌∷◌, [], ◌++◌}
-use Rattle.std.proofs.lemmas.List.{append_assoc, append-nil}
-use Rattle.iso_image.specs.Half.{with_records}
-use Rattle.iso_model.specs.declared.access.Commit.{Commit}
-use Rattle.iso_model.specs.Effect.{record_length}
-use Rattle.iso_model.specs.Geometry.{log_place}
-use Rattle.iso_model.specs.Image.{Written, written}
-use Rattle.mv_index.specs.Placed.{IsIndexOf}
-use Rattle.version_read.specs.declared.part_span.PartSpan.{PartSpan}
-use Rattle.version_read.specs.Parts.{HasRoom, HasTaken, MayTake}
-use Rattle.iso_core.specs.declared.plan.Staged.{Staged}
-use Rattle.iso_core.specs.Planned.{MayTakeAll, all_parts}
+use Rattle.iso_core.proofs.Words.{◌≡◌, ◌∙◌, sym, ap, suc, ◌+◌, length, map, arith, subst, List, ◌∷◌, [], ◌++◌, append_assoc, with_records, Commit, record_length, log_place, Written, written, IsIndexOf, PartSpan, HasRoom, HasTaken, MayTake, Staged, MayTakeAll, all_parts}
+use Rattle.std.proofs.lemmas.List.{append-nil}
 use Rattle.iso_core.proofs.Staging.{none_staged, room_first, room_rest, staged_parted, takes_first, takes_rest}
 use Rattle.iso_core.proofs.taking.+take_staged.Goals as goal
 

@@ -1,9 +1,4 @@
-use Rattle.std.proofs.Common.{refl, ◌<◌, ◌^◌, ℕ, sym, subst, List, length, IsPermutation}
-use Rattle.std.specs.List.{AllByRecursion}
-use Rattle.version_read.specs.declared.part_span.PartSpan.{PartSpan}
-use Rattle.version_read.specs.Parts.{BlocksRise, HasRoom, no_part}
-use Rattle.iso_core.specs.declared.plan.Staged.{Staged}
-use Rattle.iso_core.specs.Planned.{all_parts}
+use Rattle.iso_core.proofs.Words.{refl, ◌<◌, ◌^◌, ℕ, sym, subst, List, length, IsPermutation, AllByRecursion, PartSpan, BlocksRise, HasRoom, no_part, Staged, all_parts}
 use Rattle.iso_core.proofs.Prepares.{keeps_on}
 use Rattle.iso_core.proofs.Reserving.{all_below, few_staged, room_sorted, sorted_below}
 use Rattle.iso_core.proofs.taking.reserve_plan.Goals as goal

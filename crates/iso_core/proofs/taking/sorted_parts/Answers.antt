@@ -1,5 +1,4 @@
-use Rattle.std.proofs.Common.{rules, subst, IsPermutation}
-use Rattle.std.proofs.lemmas.List.Sorted.{IsNonDecreasingBy-from_sort_by_key}
+use Rattle.iso_core.proofs.Words.{rules, subst, IsPermutation, IsNonDecreasingBy-from_sort_by_key}
 use Rattle.iso_core.proofs.taking.sorted_parts.Goals as goal
 
 pub returns-clause-same : goal.returns-clause-same

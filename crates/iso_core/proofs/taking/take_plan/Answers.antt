@@ -1,8 +1,4 @@
-use Rattle.std.proofs.Common.{◌∙◌, sym, ap, ◌+◌, ◌-◌, arith, subst, List}
-use Rattle.iso_image.specs.Half.{half_of_world}
-use Rattle.iso_core.specs.declared.plan.Staged.{Staged}
-use Rattle.iso_core.specs.Planned.{MayTakeAll, all_parts}
-use Rattle.version_read.specs.Parts.{HasRoom}
+use Rattle.iso_core.proofs.Words.{◌∙◌, sym, ap, ◌+◌, ◌-◌, arith, subst, List, half_of_world, Staged, MayTakeAll, all_parts, HasRoom}
 use Rattle.iso_core.proofs.Staging.{few_first, number_first, rising_notes, taken_in, takes_all}
 use Rattle.iso_core.proofs.taking.take_plan.Goals as goal
 

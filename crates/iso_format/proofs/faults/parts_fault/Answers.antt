@@ -1,6 +1,5 @@
-use Rattle.std.proofs.Common.{None, sym, arith}
+use Rattle.iso_format.proofs.Words.{None, sym, arith, parts_fault}
 use Rattle.iso_format.proofs.FaultSteps.{part_stops, part_passes}
-use Rattle.iso_format.specs.Records.{parts_fault}
 use Rattle.iso_format.proofs.faults.parts_fault.Goals as goal
 
 pub returns-in-Some : goal.returns-in-Some

@@ -1,5 +1,4 @@
-use Rattle.std.proofs.Common.{◌≡◌, ◌+◌, ◌-◌, None, length}
-use Rattle.iso_format.specs.Records.{parts_fault}
+use Rattle.iso_format.proofs.Words.{◌≡◌, ◌+◌, ◌-◌, None, length, parts_fault}
 use Rattle.iso_format.proofs.faults.parts_fault.Given as goal
 
 abbrev pub invariant-loop : goal.invariant-loop

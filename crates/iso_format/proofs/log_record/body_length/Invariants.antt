@@ -1,5 +1,4 @@
-use Rattle.std.proofs.Common.{◌≡◌, ◌-◌, ◌^◌, min, take}
-use Rattle.iso_model.specs.Image.{body_length}
+use Rattle.iso_format.proofs.Words.{◌≡◌, ◌-◌, ◌^◌, min, take, body_length}
 use Rattle.iso_format.proofs.log_record.body_length.Given as goal
 
 abbrev pub invariant-loop-run : goal.invariant-loop-run

@@ -1,8 +1,4 @@
-use Rattle.std.proofs.Common.{◌≡◌, length, refl, ap, arith}
-use Rattle.std.proofs.lemmas.List.{take_all}
-use Rattle.iso_model.specs.declared.access.Run.{Run}
-use Rattle.iso_model.specs.Image.{spell}
-use Rattle.iso_format.specs.Writing.{LieInAnImage}
+use Rattle.iso_format.proofs.Words.{◌≡◌, length, refl, ap, arith, take_all, Run, spell, LieInAnImage}
 use Rattle.iso_format.proofs.Parts.{part_bound, length-spell}
 use Rattle.iso_format.proofs.log_record.write_record.Goals as goal
 

@@ -1,7 +1,4 @@
-use Rattle.std.proofs.Common.{None, sym}
-use Rattle.iso_format.specs.Reading.{number_at}
-use Rattle.iso_format.specs.Records.{body_of}
-use Rattle.std.specs.Int.{w32}
+use Rattle.iso_format.proofs.Words.{None, sym, number_at, body_of, w32}
 use Rattle.iso_format.proofs.PartLaws.{has_parts}
 use Rattle.iso_format.proofs.RecordLaws.{no_fault}
 use Rattle.iso_format.proofs.record_view.record_of.Goals as goal

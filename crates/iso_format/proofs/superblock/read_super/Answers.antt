@@ -1,5 +1,4 @@
-use Rattle.std.proofs.Common.{ap, ◌∙◌, arith}
-use Rattle.iso_format.specs.Reading.{super_of}
+use Rattle.iso_format.proofs.Words.{ap, ◌∙◌, arith, super_of}
 use Rattle.iso_format.proofs.SuperLaws.{super_again, ok_spelled}
 use Rattle.iso_format.proofs.superblock.read_super.Goals as goal
 

@@ -1,5 +1,4 @@
-use Rattle.std.proofs.Common.{◌∙◌, sym}
-use Rattle.tx_blocks.specs.Runs.{area_of}
+use Rattle.iso_hash.proofs.Words.{◌∙◌, sym, area_of}
 use Rattle.iso_hash.proofs.Storing.{put_bad_key, put_bad_value, put_in_area, put_call_in}
 use Rattle.iso_hash.proofs.insert.put.Goals as goal
 

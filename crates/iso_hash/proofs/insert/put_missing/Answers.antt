@@ -1,7 +1,4 @@
-use Rattle.std.proofs.Common.{sym, subst, Option}
-use Rattle.store_model.specs.HashCalls.{put_at, AtEnd}
-use Rattle.store_model.specs.declared.stores.Spot.{Spot}
-use Rattle.tx_blocks.specs.Runs.{HasRun}
+use Rattle.iso_hash.proofs.Words.{sym, subst, Option, put_at, AtEnd, Spot, HasRun}
 use Rattle.iso_hash.proofs.insert.put_missing.Goals as goal
 
 pub returns-in-None-clause-run : goal.returns-in-None-clause-run

@@ -1,11 +1,4 @@
-use Rattle.std.proofs.Common.{◌≡◌, ◌∙◌, refl, ap, [], ◌∷◌, None, get_or, arith}
-use Rattle.iso_model.specs.declared.access.Span.{Span}
-use Rattle.store_model.specs.FreeMap.{map_mark, bit_place, clear_bit}
-use Rattle.store_model.specs.Stores.{look_access}
-use Rattle.tx_blocks.specs.Tx.{with_accesses}
-use Rattle.tx_blocks.proofs.Progress.{at_start}
-use Rattle.tx_blocks.proofs.Refusals.{cut_at_look, read_none, read_more, read_same}
-use Rattle.tx_blocks.proofs.Parts.{behaves_after, refused_reading}
+use Rattle.iso_hash.proofs.Words.{◌≡◌, ◌∙◌, refl, ap, [], ◌∷◌, None, get_or, arith, Span, map_mark, bit_place, clear_bit, look_access, with_accesses, at_start, cut_at_look, read_none, read_more, read_same, behaves_after, refused_reading}
 use Rattle.iso_hash.proofs.Changes.{give_back_block}
 use Rattle.iso_hash.proofs.Storing.{shrinking, given_back}
 use Rattle.iso_hash.proofs.links.del_block.Goals as goal

@@ -1,14 +1,4 @@
-use Rattle.std.proofs.Common.{◌∙◌, ap, ◌+◌, [], ◌∷◌, Ok, arith}
-use Rattle.std.specs.Int.{w32, to_be_bytes}
-use Rattle.store_model.specs.Cells.{next_mark, block_with}
-use Rattle.store_model.specs.FreeMap.{bit_mark, bit_place}
-use Rattle.store_model.specs.HashCalls.{new_block}
-use Rattle.store_model.specs.HashRegion.{bucket_of}
-use Rattle.store_model.specs.Stores.{Done}
-use Rattle.tx_blocks.specs.Tx.{Tx}
-use Rattle.tx_blocks.proofs.Progress.{at_store, ran_at}
-use Rattle.tx_blocks.proofs.Refusals.{cut_at_store}
-use Rattle.tx_blocks.proofs.Parts.{refused_memory, done_so}
+use Rattle.iso_hash.proofs.Words.{◌∙◌, ap, ◌+◌, [], ◌∷◌, Ok, arith, w32, to_be_bytes, next_mark, block_with, bit_mark, bit_place, new_block, bucket_of, Done, Tx, at_store, ran_at, cut_at_store, refused_memory, done_so}
 use Rattle.iso_hash.proofs.Storing.{first, second, third, growing, grow_at_first, grow_at_second, grow_at_third, reserve_refused, room_less}
 use Rattle.iso_hash.proofs.links.grow.Goals as goal
 

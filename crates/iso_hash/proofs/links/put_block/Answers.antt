@@ -1,12 +1,5 @@
-use Rattle.std.proofs.Common.{◌≡◌, ◌∙◌, refl, ap, [], ◌∷◌, None, arith}
-use Rattle.iso_model.specs.declared.access.Span.{Span}
+use Rattle.iso_hash.proofs.Words.{◌≡◌, ◌∙◌, refl, ap, [], ◌∷◌, None, arith, Span, map_mark, look_access, with_accesses, at_start, cut_at_look, read_none, read_more, read_same, behaves_after, refused_reading, refused_so}
 use Rattle.store_model.specs.declared.stores.StoreError.TheVariants as store
-use Rattle.store_model.specs.FreeMap.{map_mark}
-use Rattle.store_model.specs.Stores.{look_access}
-use Rattle.tx_blocks.specs.Tx.{with_accesses}
-use Rattle.tx_blocks.proofs.Progress.{at_start}
-use Rattle.tx_blocks.proofs.Refusals.{cut_at_look, read_none, read_more, read_same}
-use Rattle.tx_blocks.proofs.Parts.{behaves_after, refused_reading, refused_so}
 use Rattle.iso_hash.proofs.Storing.{new_program, with_new, new_none, new_some}
 use Rattle.iso_hash.proofs.links.put_block.Goals as goal
 

@@ -1,10 +1,4 @@
-use Rattle.std.proofs.Common.{◌∙◌, ap, ◌+◌, [], ◌∷◌, Ok, true, replicate, arith}
-use Rattle.store_model.specs.Cells.{next_mark, block_with}
-use Rattle.store_model.specs.FreeMap.{bit_mark, bit_place}
-use Rattle.store_model.specs.Stores.{Done}
-use Rattle.tx_blocks.specs.Tx.{Tx}
-use Rattle.tx_blocks.proofs.Refusals.{cut_at_store}
-use Rattle.tx_blocks.proofs.Parts.{refused_memory, done_so}
+use Rattle.iso_hash.proofs.Words.{◌∙◌, ap, ◌+◌, [], ◌∷◌, Ok, true, replicate, arith, next_mark, block_with, bit_mark, bit_place, Done, Tx, cut_at_store, refused_memory, done_so}
 use Rattle.iso_hash.proofs.Storing.{cleared, unlinked, shrinking, shrink_at_first, shrink_at_second, reserve_refused, room_less}
 use Rattle.iso_hash.proofs.links.shrink.Goals as goal
 

@@ -1,5 +1,4 @@
-use Rattle.std.proofs.Common.{◌∙◌, sym}
-use Rattle.tx_blocks.specs.Runs.{area_of}
+use Rattle.iso_hash.proofs.Words.{◌∙◌, sym, area_of}
 use Rattle.iso_hash.proofs.Getting.{bad_key}
 use Rattle.iso_hash.proofs.lookup.get.Goals as goal
 

@@ -1,12 +1,5 @@
-use Rattle.std.proofs.Common.{◌∙◌, sym, ap, false, ◌+◌, ◌*◌, ℕ, Bool, [], Ok, take, Result, arith}
-use Rattle.store_model.specs.declared.stores.StoreError.{StoreError}
-use Rattle.store_model.specs.Cells.{keys_end}
+use Rattle.iso_hash.proofs.Words.{◌∙◌, sym, ap, false, ◌+◌, ◌*◌, ℕ, Bool, [], Ok, take, Result, arith, StoreError, keys_end, is_spent, Program, Done, refused_so, behaves_after, ran_at, at_start, behaves_more, store_cause}
 use Rattle.store_model.specs.HashCalls as hash
-use Rattle.store_model.specs.HashCalls.{is_spent}
-use Rattle.store_model.specs.Stores.{Program, Done}
-use Rattle.tx_blocks.proofs.Parts.{refused_so, behaves_after}
-use Rattle.tx_blocks.proofs.Progress.{ran_at, at_start}
-use Rattle.tx_blocks.proofs.Refusals.{behaves_more, store_cause}
 use Rattle.iso_hash.proofs.Getting.{walked_cell, walked_end, walk_known}
 use Rattle.iso_hash.proofs.Storing.{del_from, del_error, del_spent, del_kept}
 use Rattle.iso_hash.proofs.remove.del_with.Goals as goal

@@ -1,9 +1,4 @@
-use Rattle.std.proofs.Common.{◌≡◌, ◌-◌, ◌<◌, IfSome}
-use Rattle.store_model.specs.HashCalls.{walk, walk_from}
-use Rattle.tx_blocks.specs.Tx.{IsLater}
-use Rattle.tx_blocks.specs.Runs.{HasRead}
-use Rattle.tx_blocks.proofs.Progress.{IsAt}
-use Rattle.iso_hash.specs.Walks.{IsSpot}
+use Rattle.iso_hash.proofs.Words.{◌≡◌, ◌-◌, ◌<◌, IfSome, walk, walk_from, IsLater, HasRead, IsAt, IsSpot}
 use Rattle.iso_hash.proofs.walk.walk.Given as goal
 
 -- the blocks of the chain that are left are what is left of the walk

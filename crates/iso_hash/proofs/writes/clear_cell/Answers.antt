@@ -1,9 +1,4 @@
-use Rattle.std.proofs.Common.{◌+◌, [], ◌∷◌, replicate, Ok, true, Result, Bool}
-use Rattle.store_model.specs.declared.stores.StoreError.{StoreError}
-use Rattle.store_model.specs.Cells.{key_mark, value_mark}
-use Rattle.store_model.specs.Stores.{Program, Done, Store}
-use Rattle.tx_blocks.proofs.Progress.{at_start}
-use Rattle.tx_blocks.proofs.Refusals.{cut_at_store}
+use Rattle.iso_hash.proofs.Words.{◌+◌, [], ◌∷◌, replicate, Ok, true, Result, Bool, StoreError, key_mark, value_mark, Program, Done, Store, at_start, cut_at_store}
 use Rattle.iso_hash.proofs.writes.clear_cell.Goals as goal
 
 pub returns-in-Err-clause-run : goal.returns-in-Err-clause-run

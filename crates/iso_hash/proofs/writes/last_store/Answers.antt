@@ -1,8 +1,4 @@
-use Rattle.std.proofs.Common.{Ok, Result}
-use Rattle.store_model.specs.declared.stores.StoreError.{StoreError}
-use Rattle.store_model.specs.Stores.{Program, Done, Store}
-use Rattle.tx_blocks.proofs.Progress.{at_start}
-use Rattle.tx_blocks.proofs.Refusals.{cut_at_store}
+use Rattle.iso_hash.proofs.Words.{Ok, Result, StoreError, Program, Done, Store, at_start, cut_at_store}
 use Rattle.iso_hash.proofs.writes.last_store.Goals as goal
 
 pub returns-in-Err-clause-run : goal.returns-in-Err-clause-run

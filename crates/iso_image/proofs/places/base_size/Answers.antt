@@ -1,5 +1,4 @@
-use Rattle.std.proofs.Common.{◌≡◌, ◌*◌, arith}
-use Rattle.iso_model.proofs.Bounds.{limits}
+use Rattle.iso_image.proofs.Words.{◌≡◌, ◌*◌, arith, limits}
 use Rattle.iso_image.proofs.places.base_size.Goals as goal
 
 pub returns-clause-small : goal.returns-clause-small

@@ -1,6 +1,4 @@
-use Rattle.std.proofs.Common.{◌≡◌, ◌++◌, ◌+◌, ◌≤◌, [], ◌∷◌, ℕ, List, length}
-use Rattle.iso_model.specs.declared.access.Geometry.{Geometry}
-use Rattle.iso_model.specs.Image.{Written, records}
+use Rattle.iso_log.proofs.Words.{◌≡◌, ◌++◌, ◌+◌, ◌≤◌, [], ◌∷◌, ℕ, List, length, Geometry, Written, records}
 use Rattle.iso_log.proofs.Counts.{AreLeft}
 use Rattle.iso_log.proofs.count.count_records.Given as goal
 

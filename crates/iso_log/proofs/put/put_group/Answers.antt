@@ -1,7 +1,4 @@
-use Rattle.std.proofs.Common.{◌+◌, ◌≤◌, ℕ, List, length, arith}
-use Rattle.std.proofs.lemmas.Result.{on_ok_weaker}
-use Rattle.iso_disk.proofs.Images.{length-image}
-use Rattle.iso_disk.proofs.Moments.{joined, weakened, at_end}
+use Rattle.iso_log.proofs.Words.{◌+◌, ◌≤◌, ℕ, List, length, arith, on_ok_weaker, length-image, joined, weakened, at_end}
 use Rattle.iso_log.proofs.Appends.{body_moment, gate_moment, appended}
 use Rattle.iso_log.proofs.put.put_group.Goals as goal
 

@@ -1,9 +1,4 @@
-use Rattle.std.proofs.Common.{◌≡◌, ◌+◌, ◌≤◌, ◌<◌, ◌^◌, ℕ, List, length, take, get_or, arith, ap, sym, ◌∙◌, subst}
-use Rattle.iso_disk.proofs.Images.{length-contents}
-use Rattle.iso_disk.proofs.Moments.{joined_unwritten}
-use Rattle.iso_format.specs.declared.format_error.FormatError.TheVariants.{Short}
-use Rattle.iso_format.specs.Records.{BeginsWith, Recorded, fault_of, record_window, recorded}
-use Rattle.iso_log.specs.Scan.{IsNextRecord, StandAt}
+use Rattle.iso_log.proofs.Words.{◌≡◌, ◌+◌, ◌≤◌, ◌<◌, ◌^◌, ℕ, List, length, take, get_or, arith, ap, sym, ◌∙◌, subst, length-contents, joined_unwritten, Short, BeginsWith, Recorded, fault_of, record_window, recorded, IsNextRecord, StandAt}
 use Rattle.iso_log.proofs.Finds.{fault_inside, first_is, place_is, gate_later, found_record, found_fault, no_head, no_body, test_before}
 use Rattle.iso_log.proofs.scan.find_record.Goals as goal
 

@@ -1,8 +1,5 @@
-use Rattle.std.proofs.Common.{◌∙◌, refl, ap, length, replicate, slice_index, ◌++◌, ◌∷◌, [], ℕ, List, not, ◌==◌, None, false}
+use Rattle.iso_machine.proofs.Words.{◌∙◌, refl, ap, length, replicate, slice_index, ◌++◌, ◌∷◌, [], ℕ, List, not, ◌==◌, None, false, write_access, fill_step, Doing}
 use Rattle.script_model.specs.declared.script.Reply.TheVariants as reply
-use Rattle.iso_model.specs.Step.{write_access}
-use Rattle.script_model.specs.Step.{fill_step}
-use Rattle.tx_table.specs.Work.{Doing}
 use Rattle.iso_machine.proofs.Accesses.{step_allowed, step_refused, fill_is}
 use Rattle.iso_machine.proofs.accessing.fill.Goals as goal
 

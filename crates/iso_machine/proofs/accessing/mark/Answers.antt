@@ -1,9 +1,4 @@
-use Rattle.std.proofs.Common.{◌∙◌, sym, refl, ap, subst, ℕ, false}
-use Rattle.script_model.specs.declared.script.Reply.{Reply}
-use Rattle.iso_model.specs.Marks.{is_outside}
-use Rattle.script_model.specs.Step.{mark_refused, mark_step}
-use Rattle.tx_table.specs.Work.{Doing}
-use Rattle.iso_machine.specs.Accessing.{IsGiven}
+use Rattle.iso_machine.proofs.Words.{◌∙◌, sym, refl, ap, subst, ℕ, false, Reply, is_outside, mark_refused, mark_step, Doing, IsGiven}
 use Rattle.iso_machine.proofs.Accesses.{mark_done, mark_outside, mark_refused_is}
 use Rattle.iso_machine.proofs.accessing.mark.Goals as goal
 

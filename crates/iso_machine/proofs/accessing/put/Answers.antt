@@ -1,13 +1,5 @@
-use Rattle.std.proofs.Common.{◌≡◌, ◌∙◌, sym, refl, ap, arith, length, replicate, ◌+◌, ◌-◌, ◌++◌, ◌∷◌, [], ℕ, List, None, false}
-use Rattle.iso_model.specs.declared.access.Access.{Access}
-use Rattle.iso_model.specs.declared.access.Kind.TheVariants.{Write}
-use Rattle.iso_model.specs.declared.access.Span.{Span}
+use Rattle.iso_machine.proofs.Words.{◌≡◌, ◌∙◌, sym, refl, ap, arith, length, replicate, ◌+◌, ◌-◌, ◌++◌, ◌∷◌, [], ℕ, List, None, false, Access, Write, Span, is_outside, mark_fault, marked, put_access, write_access, put_step, marked_last, Doing, span_at}
 use Rattle.script_model.specs.declared.script.Reply.TheVariants as reply
-use Rattle.iso_model.specs.Marks.{is_outside, mark_fault, marked}
-use Rattle.iso_model.specs.Step.{put_access, write_access}
-use Rattle.script_model.specs.Step.{put_step}
-use Rattle.iso_model.proofs.Marked.{marked_last}
-use Rattle.tx_table.specs.Work.{Doing, span_at}
 use Rattle.iso_machine.proofs.Accesses.{may_mark, put_is, small_block, step_allowed, step_refused, within}
 use Rattle.iso_machine.proofs.accessing.put.Goals as goal
 

@@ -1,8 +1,5 @@
-use Rattle.std.proofs.Common.{◌∙◌, sym, refl, ap, length, ◌++◌, ◌∷◌, [], ℕ, not, ◌==◌, None, false}
+use Rattle.iso_machine.proofs.Words.{◌∙◌, sym, refl, ap, length, ◌++◌, ◌∷◌, [], ℕ, not, ◌==◌, None, false, write_access, write_step, Doing}
 use Rattle.script_model.specs.declared.script.Reply.TheVariants as reply
-use Rattle.iso_model.specs.Step.{write_access}
-use Rattle.script_model.specs.Step.{write_step}
-use Rattle.tx_table.specs.Work.{Doing}
 use Rattle.iso_machine.proofs.Accesses.{step_allowed, step_refused, write_is}
 use Rattle.iso_machine.proofs.accessing.write.Goals as goal
 

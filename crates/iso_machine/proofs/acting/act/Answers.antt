@@ -1,11 +1,6 @@
-use Rattle.std.proofs.Common.{◌≡◌, ◌⊎◌, inl, inr, ℕ, List, ap, Option}
-use Rattle.iso_model.specs.declared.access.Mode.{Mode}
-use Rattle.script_model.specs.declared.script.Op.{Op}
+use Rattle.iso_machine.proofs.Words.{◌≡◌, ◌⊎◌, inl, inr, ℕ, List, ap, Option, Mode, Op, World, Live, disk_of, act_step}
 use Rattle.script_model.specs.declared.script.Op.TheVariants as op
 use Rattle.script_model.specs.declared.script.Reply.TheVariants as reply
-use Rattle.iso_model.specs.World.{World, Live}
-use Rattle.iso_core.specs.Core.{disk_of}
-use Rattle.iso_machine.specs.Accessing.{act_step}
 use Rattle.iso_machine.proofs.Accesses.{refused, shown_given}
 use Rattle.iso_machine.proofs.acting.act.Goals as goal
 

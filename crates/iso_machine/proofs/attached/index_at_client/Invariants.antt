@@ -1,6 +1,4 @@
-use Rattle.std.proofs.Common.{◌≡◌, drop, find, map}
-use Rattle.iso_model.specs.World.{is_at_client}
-use Rattle.iso_machine.specs.Standing.{live_of}
+use Rattle.iso_machine.proofs.Words.{◌≡◌, drop, find, map, is_at_client, live_of}
 use Rattle.iso_machine.proofs.attached.index_at_client.Given as goal
 
 -- what is found among those that are left is what is found among all

@@ -1,5 +1,4 @@
-use Rattle.std.proofs.Common.{◌∙◌}
-use Rattle.iso_core.specs.Standing.{up}
+use Rattle.iso_machine.proofs.Words.{◌∙◌, up}
 use Rattle.iso_machine.proofs.Endings.{nothing_ahead}
 use Rattle.iso_machine.proofs.ending.end_whole.Goals as goal
 

@@ -1,12 +1,4 @@
-use Rattle.std.proofs.Common.{◌≡◌, ◌∙◌, inl, sym, refl, subst, List, ◌∷◌, map, eq-eqb}
-use Rattle.iso_model.specs.Step.{with_live}
-use Rattle.iso_model.specs.World.{World, Live, without}
-use Rattle.iso_model.specs.Worlds.{AreDistinct}
-use Rattle.iso_core.specs.Calls.{IsTx}
-use Rattle.iso_core.specs.Core.{StandsFor}
-use Rattle.iso_core.specs.Standing.{up}
-use Rattle.iso_machine.specs.declared.attached.Attached.{Attached}
-use Rattle.iso_machine.specs.Standing.{live_of}
+use Rattle.iso_machine.proofs.Words.{◌≡◌, ◌∙◌, inl, sym, refl, subst, List, ◌∷◌, map, eq-eqb, with_live, World, Live, without, AreDistinct, IsTx, StandsFor, up, Attached, live_of}
 use Rattle.iso_machine.proofs.Lists.{without_others}
 use Rattle.iso_machine.proofs.leaving.abort_all.Goals as goal
 

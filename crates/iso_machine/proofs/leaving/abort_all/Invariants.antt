@@ -1,10 +1,5 @@
 -- Those that are left are still live, and no others.
-use Rattle.std.proofs.Common.{◌≡◌, length, map}
-use Rattle.iso_model.specs.Step.{with_live}
-use Rattle.iso_model.specs.World.{World}
-use Rattle.iso_core.specs.Core.{StandsFor, disk_of}
-use Rattle.iso_core.specs.Standing.{up}
-use Rattle.iso_machine.specs.Standing.{AreOf, live_of}
+use Rattle.iso_machine.proofs.Words.{◌≡◌, length, map, with_live, World, StandsFor, disk_of, up, AreOf, live_of}
 use Rattle.iso_machine.proofs.leaving.abort_all.Given as goal
 
 abbrev pub invariant-loop-first : goal.invariant-loop-first

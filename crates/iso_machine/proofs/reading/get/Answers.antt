@@ -1,13 +1,5 @@
-use Rattle.std.proofs.Common.{arith, ℕ, List, take, drop, length, ◌≡◌, ◌∙◌, sym, refl, ap, ◌++◌, ◌∷◌, [], None, Some, false}
-use Rattle.iso_model.specs.declared.access.Access.{Access}
-use Rattle.iso_model.specs.declared.access.Span.{Span}
+use Rattle.iso_machine.proofs.Words.{arith, ℕ, List, take, drop, length, ◌≡◌, ◌∙◌, sym, refl, ap, ◌++◌, ◌∷◌, [], None, Some, false, Access, Span, is_outside, mark_fault, marked, get_access, read_access, shown_to, get_step, with_access, marked_last, disk_of, Doing, span_at}
 use Rattle.script_model.specs.declared.script.Reply.TheVariants as reply
-use Rattle.iso_model.specs.Marks.{is_outside, mark_fault, marked}
-use Rattle.iso_model.specs.Step.{get_access, read_access, shown_to}
-use Rattle.script_model.specs.Step.{get_step, with_access}
-use Rattle.iso_model.proofs.Marked.{marked_last}
-use Rattle.iso_core.specs.Core.{disk_of}
-use Rattle.tx_table.specs.Work.{Doing, span_at}
 use Rattle.iso_machine.proofs.Accesses.{get_is, may_mark, one_more, shown_bytes, shown_given, step_is, step_refused, still_work, take_front}
 use Rattle.iso_machine.proofs.reading.get.Goals as goal
 

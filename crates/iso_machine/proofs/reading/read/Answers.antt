@@ -1,9 +1,5 @@
-use Rattle.std.proofs.Common.{arith, ℕ, List, drop, length, ◌∙◌, refl, ap, ◌++◌, ◌∷◌, [], None, Some, false}
+use Rattle.iso_machine.proofs.Words.{arith, ℕ, List, drop, length, ◌∙◌, refl, ap, ◌++◌, ◌∷◌, [], None, Some, false, read_access, shown_to, read_step, with_access, disk_of, Doing}
 use Rattle.script_model.specs.declared.script.Reply.TheVariants as reply
-use Rattle.iso_model.specs.Step.{read_access, shown_to}
-use Rattle.script_model.specs.Step.{read_step, with_access}
-use Rattle.iso_core.specs.Core.{disk_of}
-use Rattle.tx_table.specs.Work.{Doing}
 use Rattle.iso_machine.proofs.Accesses.{one_more, read_is, shown_bytes, shown_given, step_is, step_refused, still_work, take_front}
 use Rattle.iso_machine.proofs.reading.read.Goals as goal
 

@@ -1,9 +1,4 @@
-use Rattle.std.proofs.Common.{ap, subst}
-use Rattle.core_blocks.specs.Guests.{Seen, tx_of}
-use Rattle.tx_blocks.specs.Runs.{area_of}
-use Rattle.tx_blocks.specs.Tx.{Tx}
-use Rattle.store_calls.specs.Calls.{HasCalled, Stops, store_ended}
-use Rattle.iso_core.specs.Core.{disk_of}
+use Rattle.iso_machine.proofs.Words.{ap, subst, Seen, tx_of, area_of, Tx, HasCalled, Stops, store_ended, disk_of}
 use Rattle.iso_machine.proofs.Calls.{blames, device}
 use Rattle.iso_machine.proofs.storing.call_from.Goals as goal
 

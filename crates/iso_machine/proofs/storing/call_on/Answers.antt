@@ -1,5 +1,4 @@
-use Rattle.iso_core.specs.Core.{disk_of}
-use Rattle.core_blocks.proofs.Arrays.{guest_begins}
+use Rattle.iso_machine.proofs.Words.{disk_of, guest_begins}
 use Rattle.iso_machine.proofs.storing.call_on.Goals as goal
 
 pub call_from-called-requires-clause-guest : goal.call_from-called-requires-clause-guest

@@ -1,7 +1,5 @@
 -- The transaction began as it is at the call.
-use Rattle.iso_core.specs.Core.{StandsFor, disk_of}
-use Rattle.iso_core.specs.Standing.{up}
-use Rattle.core_blocks.specs.Shown.{array_told}
+use Rattle.iso_machine.proofs.Words.{StandsFor, disk_of, up, array_told}
 use Rattle.iso_machine.proofs.storing.call_on.Given as goal
 
 abbrev pub ghosts-call_from : goal.ghosts-call_from

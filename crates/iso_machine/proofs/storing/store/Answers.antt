@@ -1,10 +1,4 @@
-use Rattle.std.proofs.Common.{◌≡◌, ◌≢◌, ℕ, ◌∙◌, sym, subst, arith}
-use Rattle.iso_model.specs.declared.access.Geometry.{Geometry}
-use Rattle.script_model.specs.declared.script.Op.{Op}
-use Rattle.store_model.specs.declared.stores.Area.{Area}
-use Rattle.iso_core.specs.Core.{disk_of}
-use Rattle.iso_core.specs.Standing.{up}
-use Rattle.store_calls.specs.Calls.{store_area}
+use Rattle.iso_machine.proofs.Words.{◌≡◌, ◌≢◌, ℕ, ◌∙◌, sym, subst, arith, Geometry, Op, Area, disk_of, up, store_area}
 use Rattle.iso_machine.proofs.Stored.{may_store, store_fits, stored_if, without_mode, without_pairs, without_store}
 use Rattle.iso_machine.proofs.storing.store.Goals as goal
 

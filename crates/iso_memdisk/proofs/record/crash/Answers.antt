@@ -1,8 +1,4 @@
-use Rattle.std.proofs.Common.{List, length, ◌∙◌, ap, subst}
-use Rattle.std.proofs.lemmas.List.{take_rest}
-use Rattle.iso_memdisk.specs.declared.record.Call.{Call}
-use Rattle.iso_memdisk.specs.Record.{written, TornBy}
-use Rattle.iso_memdisk.specs.Replay.{AllFit-take}
+use Rattle.iso_memdisk.proofs.Words.{List, length, ◌∙◌, ap, subst, take_rest, Call, written, TornBy, AllFit-take}
 use Rattle.iso_memdisk.proofs.Crash.{crash_image, crash_written}
 use Rattle.iso_memdisk.proofs.record.crash.Goals as goal
 

@@ -1,5 +1,4 @@
-use Rattle.std.proofs.Common.{◌≡◌, drop}
-use Rattle.iso_memdisk.specs.Record.{written}
+use Rattle.iso_memdisk.proofs.Words.{◌≡◌, drop, written}
 use Rattle.iso_memdisk.proofs.record.replay.Given as goal
 
 -- what is left makes of the image what all make of the first one

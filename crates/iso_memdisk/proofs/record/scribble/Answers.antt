@@ -1,6 +1,4 @@
-use Rattle.std.proofs.Common.{◌≡◌, ◌+◌, ◌-◌, length, drop, arith, length-take, length-drop}
-use Rattle.std.proofs.lemmas.Slice.{take-put_mid_below, drop-put_mid}
-use Rattle.std.proofs.lemmas.Grind.{common_steps}
+use Rattle.iso_memdisk.proofs.Words.{◌≡◌, ◌+◌, ◌-◌, length, drop, arith, length-take, length-drop, take-put_mid_below, drop-put_mid, common_steps}
 use Rattle.iso_memdisk.proofs.record.scribble.Goals as goal
 
 pub returns : goal.returns

@@ -1,6 +1,4 @@
-use Rattle.std.proofs.Common.{◌≡◌, ◌+◌, ℕ, List, length, refl, sym, ◌∙◌, ap, subst, arith, rules}
-use Rattle.iso_disk.specs.Disk.{spliced, Torn}
-use Rattle.iso_disk.proofs.Bytes.{torn_same, spliced_torn}
+use Rattle.iso_memdisk.proofs.Words.{◌≡◌, ◌+◌, ℕ, List, length, refl, sym, ◌∙◌, ap, subst, arith, rules, spliced, Torn, torn_same, spliced_torn}
 use Rattle.iso_memdisk.proofs.Steps.{IsTornSoFar, torn_write, fits_at, no_sync_at}
 use Rattle.iso_memdisk.proofs.record.tear.Goals as goal
 use Rattle.iso_memdisk.proofs.record.tear.Goals.{in-Write+in-0, in-Write+in-1, in-Write+in_default-pick, in_default}

@@ -1,5 +1,4 @@
-use Rattle.std.proofs.Common.{◌∙◌, sym}
-use Rattle.iso_model.specs.Effect.{runs}
+use Rattle.iso_model.proofs.Words.{◌∙◌, sym, runs}
 use Rattle.iso_model.proofs.Unique.{same_runs}
 use Rattle.iso_model.proofs.Lookups.{value_runs}
 use Rattle.iso_model.proofs.Maximal.{are_runs}

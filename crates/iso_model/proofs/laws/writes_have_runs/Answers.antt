@@ -1,6 +1,4 @@
-use Rattle.std.proofs.Common.{◌≡◌, ◌<◌, ℕ, zero, suc, refl, arith, length}
-use Rattle.std.proofs.lemmas.Bool.{false_from_ne_true, both_ways}
-use Rattle.iso_model.specs.Effect.{has_write, runs}
+use Rattle.iso_model.proofs.Words.{◌≡◌, ◌<◌, ℕ, zero, suc, refl, arith, length, false_from_ne_true, both_ways, has_write, runs}
 use Rattle.iso_model.proofs.Written.{write_where_runs, runs_where_write}
 use Rattle.iso_model.proofs.laws.writes_have_runs.Goals as goal
 

@@ -1,6 +1,4 @@
-use Rattle.std.proofs.Common.{ap, List}
-use Rattle.iso_model.specs.History.{last}
-use Rattle.iso_model.specs.World.{Live, floor_of}
+use Rattle.iso_model.proofs.Words.{ap, List, last, Live, floor_of}
 use Rattle.iso_model.proofs.Floors.{floor_below, floor_met}
 use Rattle.iso_model.proofs.step_laws.floor_is_the_least_begin.Goals as goal
 

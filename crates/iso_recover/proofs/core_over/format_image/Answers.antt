@@ -1,7 +1,4 @@
-use Rattle.std.proofs.Common.{subst}
-use Rattle.iso_model.specs.World.{World, empty_history, fresh}
-use Rattle.iso_core.specs.Core.{StandsFor}
-use Rattle.iso_core.specs.Standing.{up}
+use Rattle.iso_recover.proofs.Words.{subst, World, empty_history, fresh, StandsFor, up}
 use Rattle.iso_recover.proofs.core_over.format_image.Goals as goal
 
 pub returns-in-Ok-clause-stands : goal.returns-in-Ok-clause-stands

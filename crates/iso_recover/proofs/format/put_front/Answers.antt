@@ -1,7 +1,4 @@
-use Rattle.std.proofs.Common.{inl}
-use Rattle.std.proofs.lemmas.Result.{on_ok_weaker}
-use Rattle.iso_disk.proofs.Moments.{weakened}
-use Rattle.iso_recover.specs.Made.{IsUnmadeOrEmpty}
+use Rattle.iso_recover.proofs.Words.{inl, on_ok_weaker, weakened, IsUnmadeOrEmpty}
 use Rattle.iso_recover.proofs.Making.{AreParts, all_moments, gate_moments, made_whole, unmade}
 use Rattle.iso_recover.proofs.format.put_front.Goals as goal
 

@@ -1,6 +1,4 @@
-use Rattle.std.proofs.Common.{inl, inr, ℕ, length, ◌∙◌, arith}
-use Rattle.std.proofs.lemmas.Result.{on_ok_weaker}
-use Rattle.iso_disk.proofs.Moments.{started, goes_on_still}
+use Rattle.iso_recover.proofs.Words.{inl, inr, ℕ, length, ◌∙◌, arith, on_ok_weaker, started, goes_on_still}
 use Rattle.iso_recover.proofs.Laid.{blank_gates, settled_parts, staged_is, writes_beside}
 use Rattle.iso_recover.proofs.format.stage.Goals as goal
 

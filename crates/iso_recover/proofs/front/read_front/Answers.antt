@@ -1,5 +1,4 @@
-use Rattle.std.proofs.Common.{ℕ, ◌∙◌, subst}
-use Rattle.iso_recover.specs.Shape.{IsShaped}
+use Rattle.iso_recover.proofs.Words.{ℕ, ◌∙◌, subst, IsShaped}
 use Rattle.iso_recover.proofs.Fronts.{err_weaker, ok_weaker}
 use Rattle.iso_recover.proofs.front.read_front.Goals as goal
 

@@ -1,9 +1,4 @@
-use Rattle.std.proofs.Common.{◌≡◌, None, arith, ap, sym, ◌∙◌, subst}
-use Rattle.iso_model.specs.Geometry.{header_place}
-use Rattle.iso_image.specs.declared.places.HalfPlace.{HalfPlace}
-use Rattle.iso_image.specs.Half.{in_form}
-use Rattle.iso_refusal.specs.Refusal.{header_refusal}
-use Rattle.iso_recover.specs.Front.{IsSaid, front_said}
+use Rattle.iso_recover.proofs.Words.{◌≡◌, None, arith, ap, sym, ◌∙◌, subst, header_place, HalfPlace, in_form, header_refusal, IsSaid, front_said}
 use Rattle.iso_recover.proofs.Headers.{said_is}
 use Rattle.iso_recover.proofs.halves.front_of.Goals as goal
 

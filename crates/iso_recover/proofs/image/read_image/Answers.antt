@@ -1,7 +1,4 @@
-use Rattle.std.proofs.Common.{ℕ, sym, ◌∙◌, subst}
-use Rattle.iso_disk.proofs.Moments.{stays_settled}
-use Rattle.iso_recover.specs.Front.{IsFront}
-use Rattle.iso_recover.specs.Shape.{IsShaped}
+use Rattle.iso_recover.proofs.Words.{ℕ, sym, ◌∙◌, subst, stays_settled, IsFront, IsShaped}
 use Rattle.iso_recover.proofs.Opens.{base_of, opens_to, settled_ok, told_history}
 use Rattle.iso_recover.proofs.image.read_image.Goals as goal
 

@@ -1,9 +1,4 @@
-use Rattle.std.proofs.Common.{◌≡◌, ◌+◌, ◌<◌, ◌^◌, ℕ, List, length, map, arith, ap, sym, ◌∙◌, subst}
-use Rattle.iso_disk.proofs.Moments.{joined_unwritten}
-use Rattle.iso_log.specs.Scan.{IsNextRecord}
-use Rattle.iso_refusal.specs.Refusal.{told_first}
-use Rattle.version_read.specs.Parts.{HasTaken, MayTake, part_of}
-use Rattle.iso_recover.specs.Shape.{IsShaped}
+use Rattle.iso_recover.proofs.Words.{◌≡◌, ◌+◌, ◌<◌, ◌^◌, ℕ, List, length, map, arith, ap, sym, ◌∙◌, subst, joined_unwritten, IsNextRecord, told_first, HasTaken, MayTake, part_of, IsShaped}
 use Rattle.iso_recover.proofs.Steps.{below, blames_call, blames_memory, blames_none, few, gate_fits, goes_on_reading, grows, lies, may, reads_end, refuses_now, some_left, stands_now, starts_reading}
 use Rattle.iso_recover.proofs.log.read_log.Goals as goal
 

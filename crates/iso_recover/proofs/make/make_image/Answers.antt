@@ -1,6 +1,4 @@
-use Rattle.std.proofs.Common.{◌≤◌, inl, ◌∙◌, arith}
-use Rattle.iso_disk.proofs.Moments.{started}
-use Rattle.iso_recover.specs.Made.{IsUnmadeOrEmpty}
+use Rattle.iso_recover.proofs.Words.{◌≤◌, inl, ◌∙◌, arith, started, IsUnmadeOrEmpty}
 use Rattle.iso_recover.proofs.Laid.{blank_gates}
 use Rattle.iso_recover.proofs.Making.{unmade}
 use Rattle.iso_recover.proofs.Opens.{new_opens}

@@ -1,9 +1,4 @@
-use Rattle.std.proofs.Common.{◌+◌, ◌-◌, sym, subst}
-use Rattle.iso_log.specs.Extent.{next_place}
-use Rattle.iso_refusal.specs.declared.open_error.OpenError.{OpenError}
-use Rattle.iso_recover.specs.Cause.{IsTest}
-use Rattle.iso_recover.specs.Scanned.{IsDamagedBy}
-use Rattle.iso_recover.specs.Shape.{IsShaped}
+use Rattle.iso_recover.proofs.Words.{◌+◌, ◌-◌, sym, subst, next_place, OpenError, IsTest, IsDamagedBy, IsShaped}
 use Rattle.iso_recover.proofs.Scans.{damaged_by}
 use Rattle.iso_recover.proofs.Shapes.{opening_shaped}
 use Rattle.iso_recover.proofs.scan.scan_on.Goals as goal

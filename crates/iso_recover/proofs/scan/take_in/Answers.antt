@@ -1,9 +1,4 @@
-use Rattle.std.proofs.Common.{◌<◌, ◌^◌, ℕ, length, map, sym, ◌∙◌, ap, subst}
-use Rattle.std.specs.List.{AllByRecursion}
-use Rattle.iso_format.specs.Records.{Recorded, recorded}
-use Rattle.version_read.specs.declared.part_span.PartSpan.{PartSpan}
-use Rattle.version_read.specs.Parts.{BlocksRise, part_of}
-use Rattle.version_read.proofs.Taking.{parts_below, parts_rise, parts_small}
+use Rattle.iso_recover.proofs.Words.{◌<◌, ◌^◌, ℕ, length, map, sym, ◌∙◌, ap, subst, AllByRecursion, Recorded, recorded, PartSpan, BlocksRise, part_of, parts_below, parts_rise, parts_small}
 use Rattle.iso_recover.proofs.scan.take_in.Goals as goal
 
 pub list_parts-requires : goal.list_parts-requires

@@ -1,8 +1,4 @@
-use Rattle.std.proofs.Common.{◌≡◌, ℕ, length, take, arith, sym, ◌∙◌, subst}
-use Rattle.iso_disk.proofs.Images.{length-contents}
-use Rattle.iso_format.specs.Reading.{super_of}
-use Rattle.iso_recover.specs.Front.{super_refusal}
-use Rattle.iso_recover.specs.Shape.{IsShaped}
+use Rattle.iso_recover.proofs.Words.{◌≡◌, ℕ, length, take, arith, sym, ◌∙◌, subst, length-contents, super_of, super_refusal, IsShaped}
 use Rattle.iso_recover.proofs.Fronts.{err_weaker, refused_short, refused_super}
 use Rattle.iso_recover.proofs.Shapes.{super_shaped}
 use Rattle.iso_recover.proofs.superblock.read_geometry.Goals as goal

@@ -1,10 +1,4 @@
-use Rattle.std.proofs.Common.{[], false, refl, sym, subst, ap}
-use Rattle.bench_script.specs.Ends.{DrawnState, HeldState, drawn_state, held_state}
-use Rattle.iso_core.specs.Core.{disk_of}
-use Rattle.iso_machine.specs.Standing.{IsMachineOf}
-use Rattle.script_model.specs.Bench.{bench_text, bench_world}
-use Rattle.iso_model.specs.World.{World}
-use Rattle.script_runner.specs.Run.{HasRun}
+use Rattle.iso_top.proofs.Words.{[], false, refl, sym, subst, ap, DrawnState, HeldState, drawn_state, held_state, disk_of, IsMachineOf, bench_text, bench_world, World, HasRun}
 use Rattle.iso_top.proofs.Benches.{printed_bench}
 use Rattle.iso_top.proofs.Runs.{run_alone, up_on}
 use Rattle.iso_top.proofs.bench.answer_drawn.Goals as goal

@@ -1,6 +1,5 @@
 -- The list begins where the core does.
-use Rattle.iso_core.specs.Core.{disk_of}
-use Rattle.iso_shared.specs.Standing.{start_at}
+use Rattle.iso_top.proofs.Words.{disk_of, start_at}
 use Rattle.iso_top.proofs.clients.run_lines.Given as goal
 
 abbrev pub ghosts-run_over : goal.ghosts-run_over

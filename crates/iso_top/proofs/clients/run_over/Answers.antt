@@ -1,6 +1,4 @@
-use Rattle.std.proofs.Common.{sym, subst}
-use Rattle.iso_shared.specs.Ports.{port_view}
-use Rattle.iso_shared.specs.Standing.{Came}
+use Rattle.iso_top.proofs.Words.{sym, subst, port_view, Came}
 use Rattle.iso_top.proofs.clients.run_over.Goals as goal
 
 pub returns-in-Ok-clause-ended : goal.returns-in-Ok-clause-ended

@@ -35,11 +35,7 @@ use denote.Triple.Entry.{on_entry, alive}
 use denote.Triple.Spec.{Meets, triple_of}
 use denote.Triple.Table.{entered}
 use denote.Triple.Walked.{says, Stays, stay_dropped, walk_of, ends_at, Goes-dropped, walk_Meets}
-use Rattle.iso_disk.specs.declared.disk.Disk.{Ghosts}
-use Rattle.iso_model.specs.World.{World}
-use Rattle.iso_top.specs.Founded.{BeginsWith}
-use Rattle.iso_top.specs.contracts.opened.Opened.{the_row}
-use Rattle.iso_top.specs.contracts.opened.world_of.{ended, clauses}
+use Rattle.iso_top.proofs.Words.{Ghosts, World, BeginsWith, the_row, ended, clauses}
 use Rattle.iso_top.specs.contracts.opened.world_of.Key.{name as #self}
 use Rattle.iso_top.proofs.opened.world_of.Statement as stated
 use Rattle.iso_top.proofs.opened.world_of.Code as code

@@ -1,7 +1,4 @@
-use Rattle.std.proofs.Common.{ap, arith}
-use Rattle.iso_core.specs.Core.{disk_of}
-use Rattle.iso_core.specs.Standing.{up}
-use Rattle.iso_core.specs.declared.answers.Stat.{Stat}
+use Rattle.iso_top.proofs.Words.{ap, arith, disk_of, up, Stat}
 use Rattle.iso_top.proofs.Results.{printed_digest}
 use Rattle.iso_top.proofs.recover.tell_last.Goals as goal
 

@@ -1,8 +1,4 @@
-use Rattle.std.proofs.Common.{sym, subst, ap}
-use Rattle.iso_core.specs.Core.{disk_of}
-use Rattle.iso_machine.specs.Standing.{IsMachineOf}
-use Rattle.iso_model.specs.World.{World}
-use Rattle.script_runner.specs.Run.{HasRun}
+use Rattle.iso_top.proofs.Words.{sym, subst, ap, disk_of, IsMachineOf, World, HasRun}
 use Rattle.iso_top.proofs.Runs.{run_alone, up_on}
 use Rattle.iso_top.proofs.script.answer_script.Goals as goal
 

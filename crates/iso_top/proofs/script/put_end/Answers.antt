@@ -1,7 +1,4 @@
-use Rattle.std.proofs.Common.{◌∙◌, sym, subst, ℕ, List}
-use Rattle.script_runner.specs.declared.run_end.RunEnd.{RunEnd}
-use Rattle.iso_top.specs.Outcome.{PrintedEnd}
-use Rattle.iso_top.specs.Prints.{Printed}
+use Rattle.iso_top.proofs.Words.{◌∙◌, sym, subst, ℕ, List, RunEnd, PrintedEnd, Printed}
 use Rattle.iso_top.proofs.script.put_end.Goals as goal
 
 pub returns-in-BadLine : goal.returns-in-BadLine

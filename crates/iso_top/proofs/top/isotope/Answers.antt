@@ -1,6 +1,4 @@
-use Rattle.std.proofs.Common.{sym, subst}
-use Rattle.command_line.specs.declared.task.Task.{Task}
-use Rattle.iso_top.specs.Outcome.{HasMet}
+use Rattle.iso_top.proofs.Words.{sym, subst, Task, HasMet}
 use Rattle.iso_top.proofs.Causes.{met_all}
 use Rattle.iso_top.proofs.top.isotope.Goals as goal
 

@@ -1,11 +1,4 @@
-use Rattle.std.proofs.Common.{◌∙◌, inr, sym, subst, ap, Option, Some, None}
-use Rattle.command_line.specs.declared.task.Task.{Task}
-use Rattle.command_line.specs.Requests.{made_geometry}
-use Rattle.iso_core.specs.Core.{disk_of}
-use Rattle.iso_disk.proofs.Moments.{lasts}
-use Rattle.iso_model.specs.declared.access.Geometry.{Geometry}
-use Rattle.iso_top.specs.Begun.{HasCore}
-use Rattle.iso_top.specs.Outcome.{HasMet}
+use Rattle.iso_top.proofs.Words.{◌∙◌, inr, sym, subst, ap, Option, Some, None, Task, made_geometry, disk_of, lasts, Geometry, HasCore, HasMet}
 use Rattle.iso_top.proofs.Answered.{answered}
 use Rattle.iso_top.proofs.Tasks.{benched, recovered}
 use Rattle.iso_top.proofs.top.meet.Goals as goal

@@ -1,6 +1,4 @@
-use Rattle.std.proofs.Common.{◌≡◌, ◌∙◌, sym, ap, ◌+◌, ◌*◌, ◌/◌, ◌%◌, ◌<◌, length, set, arith}
-use Rattle.store_model.specs.Cells.{cell_count, keys_end, key_part, laid_at}
-use Rattle.store_model.specs.TreeNodes.{node_bytes}
+use Rattle.iso_tree.proofs.Words.{◌≡◌, ◌∙◌, sym, ap, ◌+◌, ◌*◌, ◌/◌, ◌%◌, ◌<◌, length, set, arith, cell_count, keys_end, key_part, laid_at, node_bytes}
 use Rattle.iso_tree.proofs.Building.{cell_added}
 use Rattle.iso_tree.proofs.build.add_cell.Goals as goal
 

@@ -1,5 +1,4 @@
-use Rattle.std.proofs.Common.{◌∙◌, sym, ap, not, cond, Bool, [], ◌∷◌, ◌++◌}
-use Rattle.store_model.specs.TreeNodes.{node_bytes}
+use Rattle.iso_tree.proofs.Words.{◌∙◌, sym, ap, not, cond, Bool, [], ◌∷◌, ◌++◌, node_bytes}
 use Rattle.iso_tree.proofs.build.add_other.Goals as goal
 
 pub returns-clause-added : goal.returns-clause-added

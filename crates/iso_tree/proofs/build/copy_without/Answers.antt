@@ -1,8 +1,4 @@
-use Rattle.std.proofs.Common.{◌≡◌, ◌∙◌, sym, refl, ap, ◌+◌, ◌*◌, ◌<◌, ◌≤◌, ℕ, List, not, cond, [], ◌∷◌, ◌++◌, length, take, drop, arith}
-use Rattle.std.specs.Str.{bytes_eq}
-use Rattle.store_model.specs.Cells.{cell_count, keys_end, key_at, are_key_parts, value_mark}
-use Rattle.store_model.specs.Stores.{bytes_in}
-use Rattle.store_model.specs.TreeNodes.{count_of, node_bytes}
+use Rattle.iso_tree.proofs.Words.{◌≡◌, ◌∙◌, sym, refl, ap, ◌+◌, ◌*◌, ◌<◌, ◌≤◌, ℕ, List, not, cond, [], ◌∷◌, ◌++◌, length, take, drop, arith, bytes_eq, cell_count, keys_end, key_at, are_key_parts, value_mark, bytes_in, count_of, node_bytes}
 use Rattle.iso_tree.proofs.Building.{copied, copied_more, copied_long, copied_fit}
 use Rattle.iso_tree.proofs.Facts.{node_parts}
 use Rattle.iso_tree.proofs.Fits.{key_short}

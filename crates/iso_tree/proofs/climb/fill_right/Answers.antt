@@ -1,7 +1,4 @@
-use Rattle.std.proofs.Common.{◌≡◌, ◌≤◌, ◌∙◌, refl, ap, ℕ, zero, suc, List, [], ◌∷◌, length, arith}
-use Rattle.store_model.specs.TreeNodes.{Cell, FitCells, node_bytes}
-use Rattle.iso_tree.specs.Rows.{row_from}
-use Rattle.store_model.specs.Trees.{emptied}
+use Rattle.iso_tree.proofs.Words.{◌≡◌, ◌≤◌, ◌∙◌, refl, ap, ℕ, zero, suc, List, [], ◌∷◌, length, arith, Cell, FitCells, node_bytes, row_from, emptied}
 use Rattle.iso_tree.proofs.Filling.{row_fits, length-row}
 use Rattle.iso_tree.proofs.climb.fill_right.Goals as goal
 

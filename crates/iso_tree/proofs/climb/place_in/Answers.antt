@@ -1,9 +1,4 @@
-use Rattle.std.proofs.Common.{◌≡◌, ◌∙◌, refl, ap, ℕ, zero, suc, ◌+◌, ◌-◌, ◌*◌, List, take, arith}
-use Rattle.store_model.specs.Cells.{keys_end}
-use Rattle.store_model.specs.TreeNodes.{Cell, count_of, used_cells}
-use Rattle.iso_tree.specs.Rows.{row_from, upto_from}
-use Rattle.store_model.specs.Trees.{put_after}
-use Rattle.store_model.specs.TreeCalls.{placed}
+use Rattle.iso_tree.proofs.Words.{◌≡◌, ◌∙◌, refl, ap, ℕ, zero, suc, ◌+◌, ◌-◌, ◌*◌, List, take, arith, keys_end, Cell, count_of, used_cells, row_from, upto_from, put_after, placed}
 use Rattle.iso_tree.proofs.Filling.{row_is, leaf_row_is}
 use Rattle.iso_tree.proofs.climb.place_in.Goals as goal
 

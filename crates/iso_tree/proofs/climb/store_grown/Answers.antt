@@ -1,8 +1,4 @@
-use Rattle.std.proofs.Common.{◌∙◌, ap, subst, ℕ, ◌+◌, List, [], Ok}
-use Rattle.store_model.specs.Stores.{Done, Store}
-use Rattle.tx_blocks.specs.Runs.{HasRun}
-use Rattle.store_model.specs.TreeNodes.{node_bytes}
-use Rattle.iso_tree.specs.Rows.{row_from}
+use Rattle.iso_tree.proofs.Words.{◌∙◌, ap, subst, ℕ, ◌+◌, List, [], Ok, Done, Store, HasRun, node_bytes, row_from}
 use Rattle.iso_tree.proofs.climb.store_grown.Goals as goal
 
 pub returns-clause-run : goal.returns-clause-run

@@ -1,5 +1,4 @@
-use Rattle.std.proofs.Common.{Ok}
-use Rattle.store_model.specs.Stores.{Done}
+use Rattle.iso_tree.proofs.Words.{Ok, Done}
 use Rattle.iso_tree.proofs.Climbing.{first_fails}
 use Rattle.iso_tree.proofs.climb.store_last.Goals as goal
 

@@ -1,8 +1,4 @@
-use Rattle.std.proofs.Common.{◌≡◌, ◌∙◌, ap, subst, ℕ, ◌+◌, List, [], ◌∷◌, OnOk}
-use Rattle.store_model.specs.Stores.{store_access}
-use Rattle.tx_blocks.specs.Tx.{with_accesses}
-use Rattle.store_model.specs.TreeNodes.{node_bytes}
-use Rattle.iso_tree.specs.Rows.{row_from}
+use Rattle.iso_tree.proofs.Words.{◌≡◌, ◌∙◌, ap, subst, ℕ, ◌+◌, List, [], ◌∷◌, OnOk, store_access, with_accesses, node_bytes, row_from}
 use Rattle.iso_tree.proofs.climb.store_left.Goals as goal
 
 pub returns-clause-stored : goal.returns-clause-stored

@@ -1,9 +1,4 @@
-use Rattle.std.proofs.Common.{◌≡◌, ◌∙◌, sym, refl, ap, subst, suc, OnOk, ◌+◌, ◌-◌, [], length, ℕ, List, arith}
-use Rattle.tx_blocks.proofs.Refusals.{later_than, later_same, read_none}
-use Rattle.tx_blocks.proofs.Parts.{read_join}
-use Rattle.tx_blocks.proofs.Progress.{IsAt, at_start}
-use Rattle.iso_tree.specs.Rows.{AreInside}
-use Rattle.store_model.specs.TreeCalls.{descend}
+use Rattle.iso_tree.proofs.Words.{◌≡◌, ◌∙◌, sym, refl, ap, subst, suc, OnOk, ◌+◌, ◌-◌, [], length, ℕ, List, arith, later_than, later_same, read_none, read_join, IsAt, at_start, AreInside, descend}
 use Rattle.iso_tree.proofs.Descending.{step_on, step_refused, leaf_any}
 use Rattle.iso_tree.proofs.descent.descend.Goals as goal
 

@@ -1,9 +1,4 @@
-use Rattle.std.proofs.Common.{◌≡◌, ◌-◌, ◌<◌, [], length}
-use Rattle.iso_tree.specs.Rows.{AreInside}
-use Rattle.store_model.specs.TreeCalls.{descend}
-use Rattle.tx_blocks.specs.Tx.{IsLater}
-use Rattle.tx_blocks.specs.Runs.{HasRead}
-use Rattle.tx_blocks.proofs.Progress.{IsAt}
+use Rattle.iso_tree.proofs.Words.{◌≡◌, ◌-◌, ◌<◌, [], length, AreInside, descend, IsLater, HasRead, IsAt}
 use Rattle.iso_tree.proofs.descent.descend.Given as goal
 
 -- the levels that are left are what is left of the descent

@@ -1,14 +1,4 @@
-use Rattle.std.proofs.Common.{◌≡◌, ◌∙◌, sym, refl, ap, subst, ◌+◌, ◌<◌, [], ◌∷◌, ℕ, true, None, arith}
-use Rattle.iso_model.specs.declared.access.Span.{Span}
-use Rattle.store_model.specs.Cells.{cell_count, keys_mark, value_mark}
-use Rattle.store_model.specs.Stores.{bytes_in, look_access}
-use Rattle.tx_blocks.specs.Tx.{Device, mark_refusal, with_accesses}
-use Rattle.tx_blocks.proofs.Progress.{at_start}
-use Rattle.tx_blocks.proofs.Refusals.{cut_at_look}
-use Rattle.store_model.specs.TreeCalls.{inner_further}
-use Rattle.iso_tree.specs.Walks.{child_program}
-use Rattle.tx_blocks.proofs.Marking.{may_mark, marked_access}
-use Rattle.store_model.specs.TreeNodes.{count_of, place_of, is_child, child_of}
+use Rattle.iso_tree.proofs.Words.{◌≡◌, ◌∙◌, sym, refl, ap, subst, ◌+◌, ◌<◌, [], ◌∷◌, ℕ, true, None, arith, Span, cell_count, keys_mark, value_mark, bytes_in, look_access, Device, mark_refusal, with_accesses, at_start, cut_at_look, inner_further, child_program, may_mark, marked_access, count_of, place_of, is_child, child_of}
 use Rattle.iso_tree.proofs.Facts.{inner_many, child_below, node_parts, nothing_is}
 use Rattle.iso_tree.proofs.Looking.{node_of, not_node, child_not_node, child_broken, child_read, ok_read, broken_read, later_as}
 use Rattle.iso_tree.proofs.descent.enter.Goals as goal

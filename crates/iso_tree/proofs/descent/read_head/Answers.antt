@@ -1,9 +1,4 @@
-use Rattle.std.proofs.Common.{◌∙◌, sym, ap, None}
-use Rattle.store_model.specs.Cells.{word_at}
-use Rattle.store_model.specs.TreeNodes.{head_mark, is_head}
-use Rattle.tx_blocks.proofs.Progress.{at_start}
-use Rattle.tx_blocks.proofs.Refusals.{cut_at_look}
-use Rattle.iso_tree.specs.Walks.{head_program}
+use Rattle.iso_tree.proofs.Words.{◌∙◌, sym, ap, None, word_at, head_mark, is_head, at_start, cut_at_look, head_program}
 use Rattle.iso_tree.proofs.Looking.{head_broken, head_read}
 use Rattle.iso_tree.proofs.descent.read_head.Goals as goal
 

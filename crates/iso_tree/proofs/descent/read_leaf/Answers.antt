@@ -1,14 +1,4 @@
-use Rattle.std.proofs.Common.{◌≡◌, ◌∙◌, sym, refl, ap, subst, ◌+◌, [], ◌∷◌, Some, None, arith}
-use Rattle.iso_model.specs.declared.access.Span.{Span}
-use Rattle.store_model.specs.Cells.{keys_mark, value_mark}
-use Rattle.store_model.specs.Stores.{bytes_in, look_access}
-use Rattle.tx_blocks.specs.Tx.{Device, mark_refusal, with_accesses}
-use Rattle.tx_blocks.proofs.Marking.{may_mark, marked_access}
-use Rattle.store_model.specs.TreeNodes.{cell_of}
-use Rattle.tx_blocks.proofs.Progress.{at_start}
-use Rattle.tx_blocks.proofs.Refusals.{cut_at_look}
-use Rattle.store_model.specs.TreeCalls.{leaf_further}
-use Rattle.iso_tree.specs.Walks.{leaf_program}
+use Rattle.iso_tree.proofs.Words.{◌≡◌, ◌∙◌, sym, refl, ap, subst, ◌+◌, [], ◌∷◌, Some, None, arith, Span, keys_mark, value_mark, bytes_in, look_access, Device, mark_refusal, with_accesses, may_mark, marked_access, cell_of, at_start, cut_at_look, leaf_further, leaf_program}
 use Rattle.iso_tree.proofs.Facts.{missing, cell_used, node_parts, nothing_is}
 use Rattle.iso_tree.proofs.Looking.{bytes_after, node_of, not_node, leaf_not_node, leaf_plain, leaf_missing, leaf_found, ok_read, later_as}
 use Rattle.iso_tree.proofs.descent.read_leaf.Goals as goal

@@ -1,10 +1,4 @@
-use Rattle.std.proofs.Common.{◌≡◌, ◌∙◌, refl, ap, [], ◌∷◌, arith}
-use Rattle.iso_model.specs.declared.access.Span.{Span}
-use Rattle.store_model.specs.FreeMap.{map_mark}
-use Rattle.store_model.specs.Stores.{look_access}
-use Rattle.tx_blocks.specs.Tx.{Tx, with_accesses}
-use Rattle.tx_blocks.proofs.Refusals.{read_none, read_more, read_same}
-use Rattle.tx_blocks.proofs.Parts.{behaves_after, refused_reading}
+use Rattle.iso_tree.proofs.Words.{◌≡◌, ◌∙◌, refl, ap, [], ◌∷◌, arith, Span, map_mark, look_access, Tx, with_accesses, read_none, read_more, read_same, behaves_after, refused_reading}
 use Rattle.iso_tree.proofs.Joining.{map_refused, map_run, shown_still}
 use Rattle.iso_tree.proofs.enlarge.put_new.Goals as goal
 

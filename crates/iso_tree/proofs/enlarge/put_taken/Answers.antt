@@ -1,12 +1,4 @@
-use Rattle.std.proofs.Common.{◌∙◌, sym, ap, subst, ℕ, suc, ◌+◌, ◌*◌, ◌<◌, ◌≤◌, List, length, take, arith}
-use Rattle.store_model.specs.declared.stores.Region.{Region}
-use Rattle.store_model.specs.Cells.{cell_count}
-use Rattle.store_model.specs.FreeMap.{map_mark}
-use Rattle.store_model.specs.Stores.{bytes_in}
-use Rattle.tx_blocks.proofs.Parts.{behaves_after}
-use Rattle.iso_tree.specs.FirstBlock.{Up}
-use Rattle.iso_tree.specs.Rows.{AreBlocks, AreInside}
-use Rattle.store_model.specs.TreeCalls.{full_row, need_of}
+use Rattle.iso_tree.proofs.Words.{◌∙◌, sym, ap, subst, ℕ, suc, ◌+◌, ◌*◌, ◌<◌, ◌≤◌, List, length, take, arith, Region, cell_count, map_mark, bytes_in, behaves_after, Up, AreBlocks, AreInside, full_row, need_of}
 use Rattle.iso_tree.proofs.Enlarging.{all_taken, blocks_from, need_taken, room_taken, row_taken, used_same}
 use Rattle.iso_tree.proofs.Joining.{shown_taken, are, taken_is, few_run, taken_refused, taken_run}
 use Rattle.iso_tree.proofs.enlarge.put_taken.Goals as goal

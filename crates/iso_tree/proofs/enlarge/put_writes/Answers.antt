@@ -1,8 +1,4 @@
-use Rattle.std.proofs.Common.{◌∙◌, sym, ap, arith}
-use Rattle.store_model.specs.Cells.{cell_count}
-use Rattle.tx_blocks.specs.Tx.{Tx}
-use Rattle.iso_tree.specs.Rows.{nodes_from}
-use Rattle.store_model.specs.TreeCalls.{climb}
+use Rattle.iso_tree.proofs.Words.{◌∙◌, sym, ap, arith, cell_count, Tx, nodes_from, climb}
 use Rattle.iso_tree.proofs.Climbing.{room_after}
 use Rattle.iso_tree.proofs.Enlarging.{first_unwritten, way_of, writes_unfit, then_nodes}
 use Rattle.iso_tree.proofs.enlarge.put_writes.Goals as goal

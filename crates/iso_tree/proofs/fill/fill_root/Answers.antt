@@ -1,6 +1,4 @@
-use Rattle.std.proofs.Common.{◌∙◌, ◌≡◌, refl, ap, ℕ, zero, suc, List, [], ◌∷◌, length, arith}
-use Rattle.store_model.specs.TreeNodes.{Cell, child_part, node_bytes}
-use Rattle.store_model.specs.TreeCalls.{root_cells}
+use Rattle.iso_tree.proofs.Words.{◌∙◌, ◌≡◌, refl, ap, ℕ, zero, suc, List, [], ◌∷◌, length, arith, Cell, child_part, node_bytes, root_cells}
 use Rattle.iso_tree.proofs.fill.fill_root.Goals as goal
 
 zero_root : (level below : ℕ) (new : Cell) → level ≡ 0 → new ∷ [] ≡ root_cells level below new

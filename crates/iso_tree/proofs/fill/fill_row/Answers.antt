@@ -1,7 +1,4 @@
-use Rattle.std.proofs.Common.{◌≡◌, ◌∙◌, sym, refl, ap, ℕ, ◌+◌, ◌*◌, List, [], ◌∷◌, ◌++◌, length, take, arith}
-use Rattle.store_model.specs.Cells.{keys_end}
-use Rattle.store_model.specs.TreeNodes.{Cell, node_bytes}
-use Rattle.iso_tree.specs.Rows.{row_from, key_in_row, part_in_row}
+use Rattle.iso_tree.proofs.Words.{◌≡◌, ◌∙◌, sym, refl, ap, ℕ, ◌+◌, ◌*◌, List, [], ◌∷◌, ◌++◌, length, take, arith, keys_end, Cell, node_bytes, row_from, key_in_row, part_in_row}
 use Rattle.iso_tree.proofs.Filling.{key_fits, row_fits, row_more, length-row}
 use Rattle.iso_tree.proofs.fill.fill_row.Goals as goal
 

@@ -1,6 +1,4 @@
-use Rattle.std.proofs.Common.{◌≡◌, length}
-use Rattle.store_model.specs.TreeNodes.{node_bytes}
-use Rattle.iso_tree.specs.Rows.{row_from}
+use Rattle.iso_tree.proofs.Words.{◌≡◌, length, node_bytes, row_from}
 use Rattle.iso_tree.proofs.fill.fill_row.Given as goal
 
 -- the cells so far

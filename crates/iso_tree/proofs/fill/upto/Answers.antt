@@ -1,7 +1,4 @@
-use Rattle.std.proofs.Common.{◌≡◌, ◌∙◌, ◌-◌, sym, ap, ℕ, arith}
-use Rattle.store_model.specs.Cells.{key_at}
-use Rattle.store_model.specs.TreeNodes.{before}
-use Rattle.iso_tree.specs.Rows.{upto_from}
+use Rattle.iso_tree.proofs.Words.{◌≡◌, ◌∙◌, ◌-◌, sym, ap, ℕ, arith, key_at, before, upto_from}
 use Rattle.iso_tree.proofs.Filling.{upto_ends, upto_goes_on}
 use Rattle.iso_tree.proofs.fill.upto.Goals as goal
 

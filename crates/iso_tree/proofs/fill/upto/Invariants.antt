@@ -1,5 +1,4 @@
-use Rattle.std.proofs.Common.{◌≡◌, ◌+◌, ◌-◌}
-use Rattle.iso_tree.specs.Rows.{upto_from}
+use Rattle.iso_tree.proofs.Words.{◌≡◌, ◌+◌, ◌-◌, upto_from}
 use Rattle.iso_tree.proofs.fill.upto.Given as goal
 
 -- those passed and those that are left

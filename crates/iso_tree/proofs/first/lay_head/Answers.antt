@@ -1,6 +1,4 @@
-use Rattle.std.proofs.Common.{◌∙◌, refl}
-use Rattle.std.specs.Int.{w32, to_be_bytes}
-use Rattle.store_model.specs.Cells.{laid_at}
+use Rattle.iso_tree.proofs.Words.{◌∙◌, refl, w32, to_be_bytes, laid_at}
 use Rattle.iso_tree.proofs.Heads.{laid_twice}
 use Rattle.iso_tree.proofs.first.lay_head.Goals as goal
 

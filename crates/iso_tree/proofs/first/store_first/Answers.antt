@@ -1,8 +1,4 @@
-use Rattle.std.proofs.Common.{◌≡◌, ◌∙◌, sym, subst, ℕ, ◌+◌, ◌-◌, ◌/◌, [], ◌∷◌, ◌++◌, length, take, drop, Option, arith}
-use Rattle.std.specs.Int.{w32, to_be_bytes}
-use Rattle.store_model.specs.Cells.{block_with, laid_at}
-use Rattle.tx_blocks.specs.Tx.{with_accesses}
-use Rattle.iso_tree.specs.FirstBlock.{first_access}
+use Rattle.iso_tree.proofs.Words.{◌≡◌, ◌∙◌, sym, subst, ℕ, ◌+◌, ◌-◌, ◌/◌, [], ◌∷◌, ◌++◌, length, take, drop, Option, arith, w32, to_be_bytes, block_with, laid_at, with_accesses, first_access}
 use Rattle.iso_tree.proofs.Facts.{missing_pair}
 use Rattle.iso_tree.proofs.FirstWrite.{ends_of, mark_inside, stored_map, stored_root}
 use Rattle.iso_tree.proofs.Rereading.{map_ok}

@@ -1,7 +1,5 @@
-use Rattle.std.proofs.Common.{◌≡◌, ◌∙◌, sym, ap, ℕ, ◌+◌, ◌-◌, ◌<◌, List, [], ◌∷◌, ◌++◌, take, length, None, arith, append_assoc, length-append}
-use Rattle.std.proofs.lemmas.List.{length-take-le, length-set}
-use Rattle.store_model.specs.FreeMap.{with_bit, lowest_free}
-use Rattle.store_model.specs.TreeCalls.{with_used}
+use Rattle.iso_tree.proofs.Words.{◌≡◌, ◌∙◌, sym, ap, ℕ, ◌+◌, ◌-◌, ◌<◌, List, [], ◌∷◌, ◌++◌, take, length, None, arith, length-take-le, length-set, with_bit, lowest_free, with_used}
+use Rattle.std.proofs.Common.{append_assoc, length-append}
 use Rattle.iso_tree.proofs.Facts.{missing}
 use Rattle.iso_tree.proofs.Taking.{length-free}
 use Rattle.iso_tree.proofs.TakingLoop.{free_from, free_some, free_none, used_more, take_set}

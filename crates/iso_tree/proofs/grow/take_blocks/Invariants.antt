@@ -1,5 +1,4 @@
-use Rattle.std.proofs.Common.{◌≡◌, ◌≤◌, ◌++◌, take, length}
-use Rattle.store_model.specs.TreeCalls.{with_used}
+use Rattle.iso_tree.proofs.Words.{◌≡◌, ◌≤◌, ◌++◌, take, length, with_used}
 use Rattle.iso_tree.proofs.TakingLoop.{free_from}
 use Rattle.iso_tree.proofs.grow.take_blocks.Given as goal
 

@@ -1,6 +1,4 @@
-use Rattle.std.proofs.Common.{◌∙◌, sym, refl, subst, ℕ}
-use Rattle.tx_blocks.specs.Runs.{area_of, HasRun}
-use Rattle.store_model.specs.TreeCalls.{put_program}
+use Rattle.iso_tree.proofs.Words.{◌∙◌, sym, refl, subst, ℕ, area_of, HasRun, put_program}
 use Rattle.iso_tree.proofs.Inserting.{put_bad_key, put_bad_value}
 use Rattle.iso_tree.proofs.PutWhole.{put_call}
 use Rattle.iso_tree.proofs.insert.put.Goals as goal

@@ -1,10 +1,4 @@
-use Rattle.std.proofs.Common.{◌≡◌, ◌∙◌, sym, subst, ℕ, ◌≤◌, List, take, arith}
-use Rattle.store_model.specs.Cells.{cell_count, keys_end}
-use Rattle.tx_blocks.specs.Runs.{HasRun}
-use Rattle.tx_blocks.proofs.Parts.{behaves_after}
-use Rattle.tx_blocks.proofs.Refusals.{behaves_more}
-use Rattle.iso_tree.specs.Rows.{AreShownUsable}
-use Rattle.store_model.specs.TreeCalls.{need_of, with_map}
+use Rattle.iso_tree.proofs.Words.{◌≡◌, ◌∙◌, sym, subst, ℕ, ◌≤◌, List, take, arith, cell_count, keys_end, HasRun, behaves_after, behaves_more, AreShownUsable, need_of, with_map}
 use Rattle.iso_tree.proofs.Facts.{cell_used, missing, node_parts}
 use Rattle.iso_tree.proofs.Inserting.{put_refused, put_found, put_room, put_full, leaf_usable, full_needs}
 use Rattle.iso_tree.proofs.insert.put_below.Goals as goal

@@ -1,6 +1,4 @@
-use Rattle.std.proofs.Common.{Err}
-use Rattle.store_model.specs.TreeCalls.{put_below_root}
-use Rattle.tx_blocks.proofs.Parts.{behaves_after}
+use Rattle.iso_tree.proofs.Words.{Err, put_below_root, behaves_after}
 use Rattle.iso_tree.proofs.Getting.{head_then, head_refused}
 use Rattle.iso_tree.proofs.Inserting.{put_run}
 use Rattle.iso_tree.proofs.insert.put_with.Goals as goal

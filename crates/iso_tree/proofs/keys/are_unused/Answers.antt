@@ -1,7 +1,4 @@
-use Rattle.std.proofs.Common.{◌≡◌, ◌∙◌, sym, ap, ◌-◌, ℕ, List, get_or, eq-eqb, ne_eqb}
-use Rattle.store_model.specs.Cells.{key_mark, is_unused, all_from}
-use Rattle.store_model.specs.Stores.{bytes_in}
-use Rattle.iso_alloc.proofs.Loops.{all_fails, all_goes_on}
+use Rattle.iso_tree.proofs.Words.{◌≡◌, ◌∙◌, sym, ap, ◌-◌, ℕ, List, get_or, eq-eqb, ne_eqb, key_mark, is_unused, all_from, bytes_in, all_fails, all_goes_on}
 use Rattle.iso_tree.proofs.keys.are_unused.Goals as goal
 
 pub returns-then-key_part-ne0 : goal.returns-then-key_part-ne0

@@ -1,5 +1,4 @@
-use Rattle.std.proofs.Common.{◌≡◌, ◌-◌}
-use Rattle.store_model.specs.Cells.{all_from, is_unused}
+use Rattle.iso_tree.proofs.Words.{◌≡◌, ◌-◌, all_from, is_unused}
 use Rattle.iso_tree.proofs.keys.are_unused.Given as goal
 
 -- the cells that are left decide

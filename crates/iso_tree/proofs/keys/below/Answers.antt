@@ -1,6 +1,4 @@
-use Rattle.std.proofs.Common.{◌≡◌, ◌∙◌, ◌-◌, sym, ap, ℕ, List, arith}
-use Rattle.store_model.specs.Cells.{key_at}
-use Rattle.store_model.specs.TreeNodes.{before, below_from}
+use Rattle.iso_tree.proofs.Words.{◌≡◌, ◌∙◌, ◌-◌, sym, ap, ℕ, List, arith, key_at, before, below_from}
 use Rattle.iso_tree.proofs.Loops.{below_ends, below_goes_on}
 use Rattle.iso_tree.proofs.keys.below.Goals as goal
 

@@ -1,5 +1,4 @@
-use Rattle.std.proofs.Common.{◌≡◌, ◌+◌, ◌-◌}
-use Rattle.store_model.specs.TreeNodes.{below_from}
+use Rattle.iso_tree.proofs.Words.{◌≡◌, ◌+◌, ◌-◌, below_from}
 use Rattle.iso_tree.proofs.keys.below.Given as goal
 
 -- those passed and those that are left

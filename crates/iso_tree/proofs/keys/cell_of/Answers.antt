@@ -1,8 +1,4 @@
-use Rattle.std.proofs.Common.{◌≡◌, ◌∙◌, sym, ap, List, ℕ}
-use Rattle.std.specs.Str.{bytes_eq}
-use Rattle.store_model.specs.Cells.{key_at}
-use Rattle.store_model.specs.TreeNodes.{cell_of}
-use Rattle.iso_alloc.proofs.Loops.{first_found, first_goes_on}
+use Rattle.iso_tree.proofs.Words.{◌≡◌, ◌∙◌, sym, ap, List, ℕ, bytes_eq, key_at, cell_of, first_found, first_goes_on}
 use Rattle.iso_tree.proofs.keys.cell_of.Goals as goal
 
 pub returns-then-eq-clause-value : goal.returns-then-eq-clause-value

@@ -1,8 +1,4 @@
-use Rattle.std.proofs.Common.{◌≡◌, ◌-◌}
-use Rattle.std.specs.Str.{bytes_eq}
-use Rattle.store_model.specs.Cells.{key_at}
-use Rattle.iso_model.specs.Conflict.{first_from}
-use Rattle.store_model.specs.TreeNodes.{cell_of}
+use Rattle.iso_tree.proofs.Words.{◌≡◌, ◌-◌, bytes_eq, key_at, first_from, cell_of}
 use Rattle.iso_tree.proofs.keys.cell_of.Given as goal
 
 -- the cells that are left decide

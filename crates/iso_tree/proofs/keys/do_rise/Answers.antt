@@ -1,7 +1,4 @@
-use Rattle.std.proofs.Common.{◌≡◌, ◌∙◌, ◌+◌, sym}
-use Rattle.store_model.specs.Cells.{key_at, all_from}
-use Rattle.store_model.specs.TreeNodes.{before}
-use Rattle.iso_alloc.proofs.Loops.{all_fails, all_goes_on}
+use Rattle.iso_tree.proofs.Words.{◌≡◌, ◌∙◌, ◌+◌, sym, key_at, all_from, before, all_fails, all_goes_on}
 use Rattle.iso_tree.proofs.keys.do_rise.Goals as goal
 
 pub returns-then-not-is_before : goal.returns-then-not-is_before

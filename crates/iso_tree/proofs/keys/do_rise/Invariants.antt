@@ -1,6 +1,4 @@
-use Rattle.std.proofs.Common.{◌≡◌, ◌+◌, ◌-◌}
-use Rattle.store_model.specs.Cells.{all_from, key_at}
-use Rattle.store_model.specs.TreeNodes.{before}
+use Rattle.iso_tree.proofs.Words.{◌≡◌, ◌+◌, ◌-◌, all_from, key_at, before}
 use Rattle.iso_tree.proofs.keys.do_rise.Given as goal
 
 -- the keys that are left decide

@@ -1,8 +1,4 @@
-use Rattle.std.proofs.Common.{◌≡◌, ap, ◌≤◌, ℕ, true, arith, List, get_or}
-use Rattle.std.proofs.lemmas.Bool.{and_parts, leb-true}
-use Rattle.store_model.specs.Cells.{is_part, key_mark, cell_count}
-use Rattle.store_model.specs.Stores.{bytes_in}
-use Rattle.iso_alloc.proofs.Loops.{all_at}
+use Rattle.iso_tree.proofs.Words.{◌≡◌, ap, ◌≤◌, ℕ, true, arith, List, get_or, and_parts, leb-true, is_part, key_mark, cell_count, bytes_in, all_at}
 use Rattle.iso_tree.proofs.keys.key_of.Goals as goal
 
 pub text_of-requires : goal.text_of-requires

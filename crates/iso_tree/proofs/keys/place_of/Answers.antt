@@ -1,6 +1,4 @@
-use Rattle.std.proofs.Common.{◌≡◌, ◌∙◌, ◌-◌, sym, ap}
-use Rattle.store_model.specs.Cells.{key_at}
-use Rattle.store_model.specs.TreeNodes.{before, place_of}
+use Rattle.iso_tree.proofs.Words.{◌≡◌, ◌∙◌, ◌-◌, sym, ap, key_at, before, place_of}
 use Rattle.iso_tree.proofs.Loops.{place_ends, place_goes_on}
 use Rattle.iso_tree.proofs.keys.place_of.Goals as goal
 

@@ -1,5 +1,4 @@
-use Rattle.std.proofs.Common.{◌≡◌, ◌-◌}
-use Rattle.store_model.specs.TreeNodes.{place_from, place_of}
+use Rattle.iso_tree.proofs.Words.{◌≡◌, ◌-◌, place_from, place_of}
 use Rattle.iso_tree.proofs.keys.place_of.Given as goal
 
 -- the cells that are left decide

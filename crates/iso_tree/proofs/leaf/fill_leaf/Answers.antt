@@ -1,7 +1,4 @@
-use Rattle.std.proofs.Common.{◌≡◌, ◌∙◌, ap, ℕ, ◌+◌, ◌-◌, ◌*◌, List, length, take, arith}
-use Rattle.store_model.specs.Cells.{keys_end, are_key_parts}
-use Rattle.store_model.specs.TreeNodes.{Cell, count_of, node_bytes}
-use Rattle.iso_tree.specs.Rows.{row_from, upto_from}
+use Rattle.iso_tree.proofs.Words.{◌≡◌, ◌∙◌, ap, ℕ, ◌+◌, ◌-◌, ◌*◌, List, length, take, arith, keys_end, are_key_parts, Cell, count_of, node_bytes, row_from, upto_from}
 use Rattle.iso_tree.proofs.Facts.{node_parts}
 use Rattle.iso_tree.proofs.Filling.{leaf_row_is}
 use Rattle.iso_tree.proofs.leaf.fill_leaf.Goals as goal

@@ -1,9 +1,4 @@
-use Rattle.std.proofs.Common.{◌∙◌, ap, ℕ, List, Ok, arith}
-use Rattle.store_model.specs.Cells.{value_part}
-use Rattle.store_model.specs.TreeNodes.{node_bytes, used_cells}
-use Rattle.store_model.specs.Trees.{put_after}
-use Rattle.tx_blocks.proofs.Parts.{refused_reading}
-use Rattle.tx_blocks.proofs.Refusals.{read_none, read_same}
+use Rattle.iso_tree.proofs.Words.{◌∙◌, ap, ℕ, List, Ok, arith, value_part, node_bytes, used_cells, put_after, refused_reading, read_none, read_same}
 use Rattle.iso_tree.proofs.Removing.{edit_unread, edit_unwritten, edit_done}
 use Rattle.iso_tree.proofs.leaf.put_cell.Goals as goal
 

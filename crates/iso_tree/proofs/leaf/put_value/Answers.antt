@@ -1,9 +1,4 @@
-use Rattle.std.proofs.Common.{ℕ, ◌+◌, ◌*◌, List, [], ◌∷◌, Ok}
-use Rattle.store_model.specs.Cells.{block_with, keys_end, value_mark, value_part}
-use Rattle.store_model.specs.Stores.{Done, Store}
-use Rattle.tx_blocks.proofs.Progress.{at_start}
-use Rattle.tx_blocks.proofs.Refusals.{cut_at_store}
-use Rattle.store_model.specs.TreeCalls.{Answer}
+use Rattle.iso_tree.proofs.Words.{ℕ, ◌+◌, ◌*◌, List, [], ◌∷◌, Ok, block_with, keys_end, value_mark, value_part, Done, Store, at_start, cut_at_store, Answer}
 use Rattle.iso_tree.proofs.leaf.put_value.Goals as goal
 
 pub returns-in-Err-clause-run : goal.returns-in-Err-clause-run

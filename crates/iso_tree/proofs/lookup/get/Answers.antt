@@ -1,6 +1,4 @@
-use Rattle.std.proofs.Common.{◌∙◌, sym, subst, ℕ}
-use Rattle.store_model.specs.TreeCalls.{get_program}
-use Rattle.tx_blocks.specs.Runs.{area_of, HasRun}
+use Rattle.iso_tree.proofs.Words.{◌∙◌, sym, subst, ℕ, get_program, area_of, HasRun}
 use Rattle.iso_tree.proofs.Getting.{bad_key, local_any}
 use Rattle.iso_tree.proofs.lookup.get.Goals as goal
 

@@ -1,6 +1,4 @@
-use Rattle.std.proofs.Common.{◌≡◌, ◌∙◌, sym, ap, ◌+◌, ◌-◌, ◌*◌, ◌<◌, ◌++◌, List, ℕ, ◌∷◌, map, drop, arith}
-use Rattle.store_model.specs.TreeCalls.{parts_of}
-use Rattle.store_model.specs.TreeNodes.{child_of}
+use Rattle.iso_tree.proofs.Words.{◌≡◌, ◌∙◌, sym, ap, ◌+◌, ◌-◌, ◌*◌, ◌<◌, ◌++◌, List, ℕ, ◌∷◌, map, drop, arith, parts_of, child_of}
 use Rattle.iso_tree.proofs.Visiting.{parts_step}
 use Rattle.iso_tree.proofs.range.add_children.Goals as goal
 

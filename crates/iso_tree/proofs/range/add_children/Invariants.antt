@@ -1,6 +1,4 @@
-use Rattle.std.proofs.Common.{◌≡◌, ◌*◌, ◌-◌, ◌≤◌, ◌++◌, drop, map}
-use Rattle.store_model.specs.TreeCalls.{parts_of}
-use Rattle.store_model.specs.TreeNodes.{child_of}
+use Rattle.iso_tree.proofs.Words.{◌≡◌, ◌*◌, ◌-◌, ◌≤◌, ◌++◌, drop, map, parts_of, child_of}
 use Rattle.iso_tree.proofs.range.add_children.Given as goal
 
 -- the last children stand before the nodes that were unread

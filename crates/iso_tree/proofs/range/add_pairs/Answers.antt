@@ -1,6 +1,4 @@
-use Rattle.std.proofs.Common.{◌≡◌, ◌∙◌, sym, ap, ◌+◌, ◌*◌, ◌++◌, ◌<◌, [], ◌∷◌, length, take, drop, arith}
-use Rattle.std.specs.List.{list_all}
-use Rattle.store_model.specs.Cells.{is_part, key_at, text_of}
+use Rattle.iso_tree.proofs.Words.{◌≡◌, ◌∙◌, sym, ap, ◌+◌, ◌*◌, ◌++◌, ◌<◌, [], ◌∷◌, length, take, drop, arith, list_all, is_part, key_at, text_of}
 use Rattle.iso_tree.proofs.Visiting.{parts_first, parts_pass, pairs_begin, pairs_end, pairs_full, pairs_step, text_fits}
 use Rattle.iso_tree.proofs.range.add_pairs.Goals as goal
 

@@ -1,7 +1,4 @@
-use Rattle.std.proofs.Common.{◌≡◌, ◌+◌, ◌*◌, ◌-◌, ◌++◌, true, length, take, drop}
-use Rattle.std.specs.List.{list_all}
-use Rattle.store_model.specs.Cells.{is_part}
-use Rattle.store_model.specs.TreeCalls.{pairs_with, parts_of}
+use Rattle.iso_tree.proofs.Words.{◌≡◌, ◌+◌, ◌*◌, ◌-◌, ◌++◌, true, length, take, drop, list_all, is_part, pairs_with, parts_of}
 use Rattle.iso_tree.proofs.range.add_pairs.Given as goal
 
 -- the pairs that are found, and those of the cells that are left

@@ -1,7 +1,4 @@
-use Rattle.std.proofs.Common.{◌∙◌, sym, subst, inl, ℕ}
-use Rattle.store_model.specs.TreeCalls.{scan_program}
-use Rattle.tx_blocks.specs.Runs.{area_of}
-use Rattle.iso_tree.specs.Visits.{HasScanned}
+use Rattle.iso_tree.proofs.Words.{◌∙◌, sym, subst, inl, ℕ, scan_program, area_of, HasScanned}
 use Rattle.iso_tree.proofs.Scanning.{bad_keys, scan_any, scan_ended}
 use Rattle.iso_tree.proofs.range.scan.Goals as goal
 

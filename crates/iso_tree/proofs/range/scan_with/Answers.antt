@@ -1,5 +1,4 @@
-use Rattle.std.proofs.Common.{Err, inl}
-use Rattle.store_model.specs.TreeCalls.{scan_below}
+use Rattle.iso_tree.proofs.Words.{Err, inl, scan_below}
 use Rattle.iso_tree.proofs.Getting.{head_refused}
 use Rattle.iso_tree.proofs.Scanning.{head_scanned, scan_run}
 use Rattle.iso_tree.proofs.range.scan_with.Goals as goal

@@ -1,9 +1,4 @@
-use Rattle.std.proofs.Common.{◌≡◌, ◌∙◌, ap, ◌+◌, ◌-◌, ◌*◌, ◌++◌, ℕ, length, map, take, drop}
-use Rattle.store_model.specs.Cells.{are_key_parts}
-use Rattle.store_model.specs.Stores.{bytes_in}
-use Rattle.store_model.specs.TreeCalls.{pairs_with, parts_of}
-use Rattle.store_model.specs.TreeNodes.{child_of}
-use Rattle.iso_tree.specs.Visits.{keys_of, values_mark, values_of}
+use Rattle.iso_tree.proofs.Words.{◌≡◌, ◌∙◌, ap, ◌+◌, ◌-◌, ◌*◌, ◌++◌, ℕ, length, map, take, drop, are_key_parts, bytes_in, pairs_with, parts_of, child_of, keys_of, values_mark, values_of}
 use Rattle.iso_tree.proofs.Facts.{node_parts}
 use Rattle.iso_tree.proofs.Rereading.{map_err, map_ok}
 use Rattle.iso_tree.proofs.Scanning.{inner_step, leaf_step, step_memory, step_refused, unread_in}

@@ -1,8 +1,4 @@
-use Rattle.std.proofs.Common.{◌≡◌, ◌∙◌, refl, sym, subst, ◌-◌, ℕ, List, [], ◌∷◌, Err, inl, length, arith}
-use Rattle.tx_blocks.proofs.Parts.{read_join}
-use Rattle.tx_blocks.proofs.Progress.{IsAt, at_join, at_start}
-use Rattle.tx_blocks.proofs.Refusals.{later_than, read_none}
-use Rattle.iso_tree.specs.Visits.{scan_nodes}
+use Rattle.iso_tree.proofs.Words.{◌≡◌, ◌∙◌, refl, sym, subst, ◌-◌, ℕ, List, [], ◌∷◌, Err, inl, length, arith, read_join, IsAt, at_join, at_start, later_than, read_none, scan_nodes}
 use Rattle.iso_tree.proofs.Scanning.{scanned_from, walk_full}
 use Rattle.iso_tree.proofs.range.walk.Goals as goal
 

@@ -1,8 +1,4 @@
-use Rattle.std.proofs.Common.{◌≡◌, ◌-◌, [], length}
-use Rattle.tx_blocks.specs.Tx.{IsLater}
-use Rattle.tx_blocks.specs.Runs.{HasRead}
-use Rattle.tx_blocks.proofs.Progress.{IsAt}
-use Rattle.iso_tree.specs.Visits.{scan_nodes, AreIn}
+use Rattle.iso_tree.proofs.Words.{◌≡◌, ◌-◌, [], length, IsLater, HasRead, IsAt, scan_nodes, AreIn}
 use Rattle.iso_tree.proofs.range.walk.Given as goal
 
 -- the unread nodes are what is left of the walk

@@ -1,6 +1,4 @@
-use Rattle.std.proofs.Common.{◌∙◌, sym, refl, subst, ℕ}
-use Rattle.tx_blocks.specs.Runs.{area_of, HasRun}
-use Rattle.store_model.specs.TreeCalls.{del_program}
+use Rattle.iso_tree.proofs.Words.{◌∙◌, sym, refl, subst, ℕ, area_of, HasRun, del_program}
 use Rattle.iso_tree.proofs.Removing.{del_bad_key, del_call}
 use Rattle.iso_tree.proofs.remove.del.Goals as goal
 

@@ -1,8 +1,4 @@
-use Rattle.std.proofs.Common.{◌∙◌, ap, ℕ, true, Ok, arith}
-use Rattle.store_model.specs.TreeNodes.{node_bytes, used_cells}
-use Rattle.store_model.specs.TreeCalls.{without_key}
-use Rattle.tx_blocks.proofs.Parts.{refused_reading}
-use Rattle.tx_blocks.proofs.Refusals.{read_none, read_same}
+use Rattle.iso_tree.proofs.Words.{◌∙◌, ap, ℕ, true, Ok, arith, node_bytes, used_cells, without_key, refused_reading, read_none, read_same}
 use Rattle.iso_tree.proofs.Removing.{edit_unread, edit_unwritten, edit_done}
 use Rattle.iso_tree.proofs.remove.remove_cell.Goals as goal
 

@@ -1,6 +1,4 @@
-use Rattle.std.proofs.Common.{Err}
-use Rattle.store_model.specs.TreeCalls.{del_below}
-use Rattle.tx_blocks.proofs.Parts.{behaves_after}
+use Rattle.iso_tree.proofs.Words.{Err, del_below, behaves_after}
 use Rattle.iso_tree.proofs.Getting.{head_then, head_refused}
 use Rattle.iso_tree.proofs.Removing.{del_run}
 use Rattle.iso_tree.proofs.remove.remove_with.Goals as goal

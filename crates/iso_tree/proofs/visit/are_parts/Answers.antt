@@ -1,7 +1,4 @@
-use Rattle.std.proofs.Common.{◌≡◌, ◌∙◌, sym, ap, ◌+◌, ◌-◌, ◌*◌, ◌&&◌, Bool, true, false, take, drop}
-use Rattle.std.specs.List.{list_all}
-use Rattle.store_model.specs.TreeCalls.{parts_of}
-use Rattle.store_model.specs.TreeRegion.{is_part_at}
+use Rattle.iso_tree.proofs.Words.{◌≡◌, ◌∙◌, sym, ap, ◌+◌, ◌-◌, ◌*◌, ◌&&◌, Bool, true, false, take, drop, list_all, parts_of, is_part_at}
 use Rattle.iso_tree.proofs.Visiting.{parts_first, parts_last, parts_step}
 use Rattle.iso_tree.proofs.visit.are_parts.Goals as goal
 

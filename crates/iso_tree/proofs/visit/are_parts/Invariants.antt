@@ -1,7 +1,4 @@
-use Rattle.std.proofs.Common.{◌≡◌, ◌*◌, ◌-◌, drop}
-use Rattle.std.specs.List.{list_all}
-use Rattle.store_model.specs.TreeCalls.{parts_of}
-use Rattle.store_model.specs.TreeRegion.{is_part_at}
+use Rattle.iso_tree.proofs.Words.{◌≡◌, ◌*◌, ◌-◌, drop, list_all, parts_of, is_part_at}
 use Rattle.iso_tree.proofs.visit.are_parts.Given as goal
 
 -- all pass where those that are left do

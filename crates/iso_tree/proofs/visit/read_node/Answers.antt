@@ -1,14 +1,4 @@
-use Rattle.std.proofs.Common.{◌≡◌, ◌∙◌, sym, refl, ap, ◌+◌, ◌*◌, ◌≤◌, ◌==◌, not, cond, ℕ, List, [], ◌∷◌, true, false, Some, None, take, drop, arith}
-use Rattle.std.specs.List.{list_all}
-use Rattle.iso_model.specs.declared.access.Span.{Span}
-use Rattle.store_model.specs.Cells.{are_key_parts, cell_count, keys_mark}
-use Rattle.store_model.specs.Stores.{bytes_in, look_access, with_further}
-use Rattle.store_model.specs.TreeCalls.{first_in, many_in, parts_of}
-use Rattle.store_model.specs.TreeNodes.{count_of, is_node}
-use Rattle.store_model.specs.TreeRegion.{is_part_at}
-use Rattle.tx_blocks.specs.Tx.{Device, with_accesses}
-use Rattle.tx_blocks.proofs.Marking.{may_mark}
-use Rattle.iso_tree.specs.Visits.{keys_of, values_mark}
+use Rattle.iso_tree.proofs.Words.{◌≡◌, ◌∙◌, sym, refl, ap, ◌+◌, ◌*◌, ◌≤◌, ◌==◌, not, cond, ℕ, List, [], ◌∷◌, true, false, Some, None, take, drop, arith, list_all, Span, are_key_parts, cell_count, keys_mark, bytes_in, look_access, with_further, first_in, many_in, parts_of, count_of, is_node, is_part_at, Device, with_accesses, may_mark, keys_of, values_mark}
 use Rattle.iso_tree.proofs.Facts.{inner_many, node_parts}
 use Rattle.iso_tree.proofs.Looking.{broken_read, later_as, ok_read}
 use Rattle.iso_tree.proofs.Visiting.{marked_so, one_more, visit_end, visit_refused}

@@ -1,7 +1,4 @@
-use Rattle.std.proofs.Common.{ℕ, List, ◌∙◌, sym, subst, arith}
-use Rattle.iso_disk.specs.Disk.{spliced}
-use Rattle.iso_disk.proofs.Images.{length-contents}
-use Rattle.kept_disk.specs.Pages.{Stand}
+use Rattle.kept_disk.proofs.Words.{ℕ, List, ◌∙◌, sym, subst, arith, spliced, length-contents, Stand}
 use Rattle.kept_disk.proofs.Slices.{told_from}
 use Rattle.kept_disk.proofs.kept.write_through.Goals as goal
 

@@ -1,6 +1,4 @@
-use Rattle.std.proofs.Common.{◌≡◌, ◌<◌, ℕ, Some, None}
-use Rattle.std.specs.List.{slice_get}
-use Rattle.kept_disk.specs.declared.page.Page.{Page}
+use Rattle.kept_disk.proofs.Words.{◌≡◌, ◌<◌, ℕ, Some, None, slice_get, Page}
 use Rattle.kept_disk.proofs.parts.forget_all.Given as goal
 
 abbrev pub invariant-loop-page : goal.invariant-loop-page

@@ -1,9 +1,4 @@
-use Rattle.std.proofs.Common.{◌/◌, ◌%◌, ℕ, List, get_or, set, sym, ◌∙◌, ap, subst, arith}
-use Rattle.std.proofs.lemmas.Option.{slice_get_within, slice_get-get_or, same_Some}
-use Rattle.std.proofs.lemmas.List.{set-get_or}
-use Rattle.iso_disk.specs.Disk.{spliced}
-use Rattle.kept_disk.specs.declared.page.Page.{Page}
-use Rattle.kept_disk.specs.Pages.{Stand}
+use Rattle.kept_disk.proofs.Words.{◌/◌, ◌%◌, ℕ, List, get_or, set, sym, ◌∙◌, ap, subst, arith, slice_get_within, slice_get-get_or, same_Some, set-get_or, spliced, Page, Stand}
 use Rattle.kept_disk.proofs.Paging.{at_page}
 use Rattle.kept_disk.proofs.Standing.{stand_apart, stand_put}
 use Rattle.kept_disk.proofs.parts.lay_part.Goals as goal

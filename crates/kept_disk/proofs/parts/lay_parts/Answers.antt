@@ -1,8 +1,4 @@
-use Rattle.std.proofs.Common.{◌≡◌, ◌+◌, ◌-◌, ◌≤◌, ℕ, List, length, take, subst, arith}
-use Rattle.std.proofs.lemmas.List.{take_all, length-take-le}
-use Rattle.iso_disk.specs.Disk.{spliced}
-use Rattle.iso_disk.proofs.Bytes.{length-spliced}
-use Rattle.kept_disk.specs.Pages.{Stand}
+use Rattle.kept_disk.proofs.Words.{◌≡◌, ◌+◌, ◌-◌, ◌≤◌, ℕ, List, length, take, subst, arith, take_all, length-take-le, spliced, length-spliced, Stand}
 use Rattle.kept_disk.proofs.Slices.{length-slice, laid_further}
 use Rattle.kept_disk.proofs.parts.lay_parts.Goals as goal
 

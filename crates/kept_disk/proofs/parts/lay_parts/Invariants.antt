@@ -1,6 +1,4 @@
-use Rattle.std.proofs.Common.{◌+◌, ◌-◌, ◌≤◌, ℕ, List, length, take}
-use Rattle.iso_disk.specs.Disk.{spliced}
-use Rattle.kept_disk.specs.Pages.{Stand}
+use Rattle.kept_disk.proofs.Words.{◌+◌, ◌-◌, ◌≤◌, ℕ, List, length, take, spliced, Stand}
 use Rattle.kept_disk.proofs.parts.lay_parts.Given as goal
 
 abbrev pub invariant-loop-done : goal.invariant-loop-done

@@ -1,8 +1,4 @@
-use Rattle.std.proofs.Common.{◌/◌, ◌%◌, ℕ, length, take, drop, get_or, set, refl, sym, ◌∙◌, ap, arith}
-use Rattle.std.proofs.lemmas.Option.{slice_get-get_or, same_Some}
-use Rattle.std.proofs.lemmas.List.{set-get_or}
-use Rattle.iso_disk.proofs.Images.{length-contents}
-use Rattle.kept_disk.specs.declared.page.Page.{Page}
+use Rattle.kept_disk.proofs.Words.{◌/◌, ◌%◌, ℕ, length, take, drop, get_or, set, refl, sym, ◌∙◌, ap, arith, slice_get-get_or, same_Some, set-get_or, length-contents, Page}
 use Rattle.kept_disk.proofs.Paging.{at_page}
 use Rattle.kept_disk.proofs.Slices.{get-set_at, get-set_other}
 use Rattle.kept_disk.proofs.Standing.{stand_filled, taken}

@@ -1,6 +1,4 @@
-use Rattle.std.proofs.Common.{◌≡◌, ◌<◌, ◌/◌, ◌%◌, ◌+◌, ◌-◌, ◌≤◌, ℕ, length, take, drop, sym, ◌∙◌, ap, arith}
-use Rattle.std.proofs.Math.Nat.{mod-lt}
-use Rattle.iso_disk.proofs.Bytes.{length-spliced}
+use Rattle.kept_disk.proofs.Words.{◌≡◌, ◌<◌, ◌/◌, ◌%◌, ◌+◌, ◌-◌, ◌≤◌, ℕ, length, take, drop, sym, ◌∙◌, ap, arith, mod-lt, length-spliced}
 use Rattle.kept_disk.proofs.Moments.{further}
 use Rattle.kept_disk.proofs.Paging.{held_in, held_further}
 use Rattle.kept_disk.proofs.Slices.{length-slice, lent_part, read_further}

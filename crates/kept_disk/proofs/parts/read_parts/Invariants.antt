@@ -1,7 +1,4 @@
-use Rattle.std.proofs.Common.{◌≡◌, ◌-◌, ◌≤◌, length, take, drop}
-use Rattle.std.specs.Option.{ForSome}
-use Rattle.iso_disk.specs.Disk.{Elapses}
-use Rattle.kept_disk.specs.Pages.{HoldsRange, Stand}
+use Rattle.kept_disk.proofs.Words.{◌≡◌, ◌-◌, ◌≤◌, length, take, drop, ForSome, Elapses, HoldsRange, Stand}
 use Rattle.kept_disk.proofs.parts.read_parts.Given as goal
 
 abbrev pub invariant-loop-done : goal.invariant-loop-done

@@ -1,8 +1,4 @@
-use Rattle.std.proofs.Common.{◌≡◌, ◌≤◌, ◌+◌, ℕ, length, take, drop, sym, ◌∙◌, ap, subst, arith, length-append, length-drop, length-take-le}
-use Rattle.iso_disk.specs.Disk.{spliced}
-use Rattle.iso_disk.proofs.Moments.{joined_unwritten}
-use Rattle.iso_disk.proofs.Ranges.{runs_inside}
-use Rattle.mirror_disk.specs.Header.{body}
+use Rattle.mirror_disk.proofs.Words.{◌≡◌, ◌≤◌, ◌+◌, ℕ, length, take, drop, sym, ◌∙◌, ap, subst, arith, length-append, length-drop, length-take-le, spliced, joined_unwritten, runs_inside, body}
 use Rattle.mirror_disk.proofs.Copying.{copied_all, copied_more, length-body, torn_more}
 use Rattle.mirror_disk.proofs.copy.copy_body.Goals as goal
 

@@ -1,6 +1,4 @@
-use Rattle.std.proofs.Common.{◌≡◌, ◌-◌, ◌≤◌, ℕ, List, Some, length, take}
-use Rattle.iso_disk.specs.Disk.{LeavesOnly, TellsTorn, TornFrom, WritesNothing}
-use Rattle.mirror_disk.specs.Header.{body}
+use Rattle.mirror_disk.proofs.Words.{◌≡◌, ◌-◌, ◌≤◌, ℕ, List, Some, length, take, LeavesOnly, TellsTorn, TornFrom, WritesNothing, body}
 use Rattle.mirror_disk.proofs.copy.copy_body.Given as goal
 
 abbrev pub invariant-loop-done : goal.invariant-loop-done

@@ -1,6 +1,4 @@
-use Rattle.std.proofs.Common.{◌-◌, length, drop, sym, ◌∙◌, arith}
-use Rattle.std.specs.Cmp.Lexicographic.{other_text, same_text}
-use Rattle.std.proofs.lemmas.List.{take-take}
+use Rattle.mirror_disk.proofs.Words.{◌-◌, length, drop, sym, ◌∙◌, arith, other_text, same_text, take-take}
 use Rattle.mirror_disk.proofs.header.has_bytes.Goals as goal
 
 pub returns-clause-has : goal.returns-clause-has

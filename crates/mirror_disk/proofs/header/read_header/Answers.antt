@@ -1,5 +1,4 @@
-use Rattle.std.proofs.Common.{arith}
-use Rattle.iso_disk.proofs.Images.{length-contents}
+use Rattle.mirror_disk.proofs.Words.{arith, length-contents}
 use Rattle.mirror_disk.proofs.Fronts.{read_mark_of, read_none_of}
 use Rattle.mirror_disk.proofs.header.read_header.Goals as goal
 

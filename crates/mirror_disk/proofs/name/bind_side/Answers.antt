@@ -1,6 +1,4 @@
-use Rattle.std.proofs.Common.{◌≡◌, ◌<◌, ◌+◌, ℕ, zero, suc, List, ◌++◌, ◌∷◌, [], length, take, subst, sym, lit<}
-use Rattle.std.specs.Str.{IsAscii, IsUtf8}
-use Rattle.std.proofs.lemmas.Str.{IsUtf8-append, IsUtf8-from_ascii}
+use Rattle.mirror_disk.proofs.Words.{◌≡◌, ◌<◌, ◌+◌, ℕ, zero, suc, List, ◌++◌, ◌∷◌, [], length, take, subst, sym, lit<, IsAscii, IsUtf8, IsUtf8-append, IsUtf8-from_ascii}
 use Rattle.mirror_disk.proofs.name.bind_side.Goals as goal
 
 one_ascii : (digit : ℕ) → digit < 128 → IsAscii (digit ∷ [])

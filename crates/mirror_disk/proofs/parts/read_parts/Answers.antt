@@ -1,5 +1,4 @@
-use Rattle.std.proofs.Common.{sym, ◌∙◌}
-use Rattle.std.proofs.lemmas.Result.{on_ok_weaker}
+use Rattle.mirror_disk.proofs.Words.{sym, ◌∙◌, on_ok_weaker}
 use Rattle.mirror_disk.proofs.Mirrored.{of_pair, parts_pass, parts_same, parts_stand, told_pair}
 use Rattle.mirror_disk.proofs.parts.read_parts.Goals as goal
 

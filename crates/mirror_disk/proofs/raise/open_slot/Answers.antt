@@ -1,9 +1,4 @@
-use Rattle.std.proofs.Common.{◌≡◌, ◌≤◌, ◌+◌, ℕ, List, subst, arith}
-use Rattle.iso_disk.specs.Disk.{TornFrom}
-use Rattle.iso_disk.proofs.Moments.{at_end, weakened}
-use Rattle.commit_gate.specs.Gate.{IsOpen}
-use Rattle.mirror_disk.specs.Raised.{HoldsEpoch}
-use Rattle.mirror_disk.specs.Slots.{place, other}
+use Rattle.mirror_disk.proofs.Words.{◌≡◌, ◌≤◌, ◌+◌, ℕ, List, subst, arith, TornFrom, at_end, weakened, IsOpen, HoldsEpoch, place, other}
 use Rattle.mirror_disk.proofs.Epochs.{inside}
 use Rattle.mirror_disk.proofs.Raises.{by_result, keeps_spliced, keeps_torn, ok_weaker, open_image, raised_image}
 use Rattle.mirror_disk.proofs.raise.open_slot.Goals as goal

@@ -1,8 +1,4 @@
-use Rattle.std.proofs.Common.{◌≡◌, ◌≤◌, ◌+◌, ◌-◌, ℕ, length, take, drop, ap, subst, sym, ◌∙◌, arith}
-use Rattle.iso_disk.specs.Disk.{TornFrom}
-use Rattle.iso_disk.proofs.Moments.{weakened}
-use Rattle.commit_gate.specs.Gate.{IsClosed}
-use Rattle.mirror_disk.specs.Slots.{place, other}
+use Rattle.mirror_disk.proofs.Words.{◌≡◌, ◌≤◌, ◌+◌, ◌-◌, ℕ, length, take, drop, ap, subst, sym, ◌∙◌, arith, TornFrom, weakened, IsClosed, place, other}
 use Rattle.mirror_disk.proofs.Epochs.{inside}
 use Rattle.mirror_disk.proofs.Raises.{body_image, both_hold, by_result, keeps_spliced, keeps_torn, holds_body, ok_weaker}
 use Rattle.mirror_disk.proofs.raise.put_epoch.Goals as goal

@@ -1,9 +1,4 @@
-use Rattle.std.proofs.Common.{◌≡◌, ◌≤◌, ◌<◌, ◌+◌, ℕ, List, subst, sym, ◌∙◌, arith}
-use Rattle.iso_disk.specs.Disk.{TornFrom, LeavesOnly}
-use Rattle.iso_disk.proofs.Moments.{at_end, weakened, joined}
-use Rattle.commit_gate.specs.Gate.{IsOpen}
-use Rattle.mirror_disk.specs.Raised.{HasEpoch, Still}
-use Rattle.mirror_disk.specs.Slots.{place, other}
+use Rattle.mirror_disk.proofs.Words.{◌≡◌, ◌≤◌, ◌<◌, ◌+◌, ℕ, List, subst, sym, ◌∙◌, arith, TornFrom, LeavesOnly, at_end, weakened, joined, IsOpen, HasEpoch, Still, place, other}
 use Rattle.mirror_disk.proofs.Epochs.{inside}
 use Rattle.mirror_disk.proofs.Raises.{by_result, keeps_same, keeps_spliced, keeps_torn, keeps_twice, shut_image, still_here, still_on, gate_of_front}
 use Rattle.mirror_disk.proofs.raise.shut_slot.Goals as goal

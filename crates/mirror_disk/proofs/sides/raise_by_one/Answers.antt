@@ -1,5 +1,4 @@
-use Rattle.std.proofs.Common.{inl, refl}
-use Rattle.iso_disk.proofs.Moments.{started}
+use Rattle.mirror_disk.proofs.Words.{inl, refl, started}
 use Rattle.mirror_disk.proofs.sides.raise_by_one.Goals as goal
 
 pub returns-then-epoch-ge-LAST-clause-moments : goal.returns-then-epoch-ge-LAST-clause-moments

@@ -1,9 +1,4 @@
-use Rattle.std.proofs.Common.{length, ◌≡◌, ◌≢◌, ◌⊎◌, ⊎_elim, true, refl, subst, sym, ◌∙◌}
-use Rattle.iso_disk.proofs.Images.{torn_from_old}
-use Rattle.iso_disk.proofs.Moments.{called}
-use Rattle.mirror_disk.specs.declared.used.Used.{Used}
-use Rattle.mirror_disk.specs.declared.used.Used.TheVariants.{Plain, Broken, Unbound}
-use Rattle.mirror_disk.specs.Ended.{HasEnded}
+use Rattle.mirror_disk.proofs.Words.{length, ◌≡◌, ◌≢◌, ◌⊎◌, ⊎_elim, true, refl, subst, sym, ◌∙◌, torn_from_old, called, Used, Plain, Broken, Unbound, HasEnded}
 use Rattle.mirror_disk.proofs.Alone.{ended_first_alone, ended_idle, ended_second_alone}
 use Rattle.mirror_disk.proofs.Asked.{asked_synced, idle, told_same}
 use Rattle.mirror_disk.proofs.Done.{both_chosen, by_done, first_chosen, read_chosen, second_chosen}

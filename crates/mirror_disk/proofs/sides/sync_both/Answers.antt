@@ -1,5 +1,4 @@
-use Rattle.std.proofs.Common.{sym, ◌∙◌}
-use Rattle.mirror_disk.specs.Pairs.{chosen_told}
+use Rattle.mirror_disk.proofs.Words.{sym, ◌∙◌, chosen_told}
 use Rattle.mirror_disk.proofs.Asked.{asked_synced}
 use Rattle.mirror_disk.proofs.Done.{both_torn, breaks, by_done, contents_of, left_settled}
 use Rattle.mirror_disk.proofs.sides.sync_both.Goals as goal

@@ -1,11 +1,6 @@
-use Rattle.std.proofs.Common.{◌≡◌, ◌≢◌, ◌⊎◌, ⊎_elim, sym, ◌∙◌}
-use Rattle.iso_disk.proofs.Images.{torn_from_old}
-use Rattle.iso_disk.proofs.Moments.{called}
-use Rattle.mirror_disk.specs.declared.used.Used.{Used}
-use Rattle.mirror_disk.specs.declared.used.Used.TheVariants.{Plain, Broken, Unbound}
+use Rattle.mirror_disk.proofs.Words.{◌≡◌, ◌≢◌, ◌⊎◌, ⊎_elim, sym, ◌∙◌, torn_from_old, called, Used, Plain, Broken, Unbound, ◌∷◌, refl}
 use Rattle.mirror_disk.proofs.Alone.{ended_first_alone, ended_idle, ended_second_alone}
 use Rattle.mirror_disk.proofs.Asked.{told_same}
-use Rattle.std.proofs.Common.{◌∷◌, refl}
 use Rattle.mirror_disk.proofs.Alone.{settled_first, settled_second}
 use Rattle.mirror_disk.proofs.Done.{by_done}
 use Rattle.mirror_disk.proofs.Ended.{tells_on}

@@ -1,11 +1,6 @@
-use Rattle.std.proofs.Common.{◌≡◌, ◌≢◌, ◌⊎◌, ⊎_elim, ◌+◌, length, sym, ◌∙◌}
-use Rattle.iso_disk.proofs.Images.{torn_from_old}
-use Rattle.iso_disk.proofs.Moments.{called}
-use Rattle.mirror_disk.specs.declared.used.Used.{Used}
-use Rattle.mirror_disk.specs.declared.used.Used.TheVariants.{Plain, Broken, Unbound}
+use Rattle.mirror_disk.proofs.Words.{◌≡◌, ◌≢◌, ◌⊎◌, ⊎_elim, ◌+◌, length, sym, ◌∙◌, torn_from_old, called, Used, Plain, Broken, Unbound, chosen_told}
 use Rattle.mirror_disk.proofs.Alone.{ended_first_alone, ended_idle, ended_second_alone}
 use Rattle.mirror_disk.proofs.Asked.{told_of}
-use Rattle.mirror_disk.specs.Pairs.{chosen_told}
 use Rattle.mirror_disk.proofs.Done.{alone_first, alone_second, by_failed, written_of}
 use Rattle.mirror_disk.proofs.Telling.{becomes_torn, splices_of}
 use Rattle.mirror_disk.proofs.Ended.{tells_on}

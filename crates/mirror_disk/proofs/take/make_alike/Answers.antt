@@ -1,6 +1,4 @@
-use Rattle.std.proofs.Common.{subst, sym}
-use Rattle.mirror_disk.specs.declared.slot.Slot.{Slot}
-use Rattle.mirror_disk.specs.Raised.{HasEpoch}
+use Rattle.mirror_disk.proofs.Words.{subst, sym, Slot, HasEpoch}
 use Rattle.mirror_disk.proofs.Taking.{alike_copied, alike_raised, copied_mark, copied_moments, raised_moments}
 use Rattle.mirror_disk.proofs.take.make_alike.Goals as goal
 

@@ -1,8 +1,6 @@
 -- The bits of the ones.
-use Rattle.std.proofs.Common.{◌≡◌, ◌∙◌, ap, ℕ, ◌-◌, ◌*◌, ◌/◌, ◌%◌, ◌^◌, arith}
+use Rattle.mv_index.proofs.Words.{◌≡◌, ◌∙◌, ap, ℕ, ◌-◌, ◌*◌, ◌/◌, ◌%◌, ◌^◌, arith, ones_shl, ones_shr, has_bit}
 use lib.Bits.{bit_and}
-use Rattle.std.proofs.lemmas.Nat.Bits.{ones_shl, ones_shr}
-use Rattle.mv_index.specs.Masks.{has_bit}
 use Rattle.mv_index.proofs.Masks.{ones_bit}
 use Rattle.mv_index.proofs.mask.ones.Goals as goal
 

@@ -1,7 +1,5 @@
 -- The bits that are set.
-use Rattle.std.proofs.Common.{◌∙◌, ap, ◌-◌, Bool, ◌||◌}
-use Rattle.std.specs.Int.RustNames.{bit_or}
-use Rattle.mv_index.specs.Masks.{has_bit}
+use Rattle.mv_index.proofs.Words.{◌∙◌, ap, ◌-◌, Bool, ◌||◌, bit_or, has_bit}
 use Rattle.mv_index.proofs.Masks.{changed, or_bit}
 use Rattle.mv_index.proofs.mask.set_bits.Goals as goal
 

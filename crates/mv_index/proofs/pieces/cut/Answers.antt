@@ -1,9 +1,5 @@
 -- A piece is passed, shortened, split or dropped.
-use Rattle.std.proofs.Common.{◌≡◌, ◌<◌, ◌+◌, ◌-◌, ◌∙◌, sym, refl, ap, ℕ, List, length, get_or, arith, subst}
-use Rattle.mv_index.specs.declared.version.Version.{Version}
-use Rattle.std.proofs.lemmas.List.{get_or_default}
-use Rattle.mv_index.specs.Pieces.{IsCut}
-use Rattle.mv_index.specs.Versions.{no_version}
+use Rattle.mv_index.proofs.Words.{◌≡◌, ◌<◌, ◌+◌, ◌-◌, ◌∙◌, sym, refl, ap, ℕ, List, length, get_or, arith, subst, Version, get_or_default, IsCut, no_version}
 use Rattle.mv_index.proofs.Cuts.{IsCutUpto, back_left, cut_back, cut_dropped, cut_finished, cut_front, cut_split, cut_start, front_left}
 use Rattle.mv_index.proofs.pieces.cut.Goals as goal
 

@@ -1,8 +1,5 @@
 -- The version is laid over the pieces.
-use Rattle.std.proofs.Common.{sym, subst, List, [], ◌∷◌, ◌++◌, arith, ◌<◌}
-use Rattle.mv_index.specs.declared.version.Version.{Version}
-use Rattle.mv_index.specs.Pieces.{ArePieces}
-use Rattle.mv_index.specs.Versions.{ArePlaced}
+use Rattle.mv_index.proofs.Words.{sym, subst, List, [], ◌∷◌, ◌++◌, arith, ◌<◌, Version, ArePieces, ArePlaced}
 use Rattle.mv_index.proofs.Laid.{laid, laid_none, laid_placed}
 use Rattle.mv_index.proofs.pieces.lay.Goals as goal
 

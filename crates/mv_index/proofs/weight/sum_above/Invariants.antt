@@ -1,6 +1,5 @@
 -- The versions that are left count for the rest.
-use Rattle.std.proofs.Common.{◌≡◌, ◌+◌, drop}
-use Rattle.mv_index.specs.Weights.{part_bytes_above}
+use Rattle.mv_index.proofs.Words.{◌≡◌, ◌+◌, drop, part_bytes_above}
 use Rattle.mv_index.proofs.weight.sum_above.Given as goal
 
 abbrev pub invariant-loop-version : goal.invariant-loop-version

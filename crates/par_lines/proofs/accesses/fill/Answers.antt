@@ -1,7 +1,4 @@
-use Rattle.std.proofs.Common.{subst, sym, ◌∙◌}
-use Rattle.std.specs.Prelude.{Ok}
-use Rattle.script_model.specs.declared.script.Op.TheVariants.{Fill}
-use Rattle.par_lines.specs.Answers.{Answered}
+use Rattle.par_lines.proofs.Words.{subst, sym, ◌∙◌, Ok, Fill, Answered}
 use Rattle.par_lines.proofs.Writing.{right_fill, wants, wrong_fill}
 use Rattle.par_lines.proofs.accesses.fill.Goals as goal
 

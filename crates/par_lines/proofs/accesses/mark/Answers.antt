@@ -1,6 +1,4 @@
-use Rattle.std.proofs.Common.{subst, sym}
-use Rattle.script_model.specs.declared.script.Op.TheVariants.{Mark}
-use Rattle.par_lines.specs.Answers.{Answered}
+use Rattle.par_lines.proofs.Words.{subst, sym, Mark, Answered}
 use Rattle.par_lines.proofs.Marking.{mark_line}
 use Rattle.par_lines.proofs.accesses.mark.Goals as goal
 

@@ -1,8 +1,4 @@
-use Rattle.std.proofs.Common.{◌+◌, ◌-◌, ◌++◌, ap, length, replicate, subst, sym, ◌∙◌}
-use Rattle.std.specs.Prelude.{Ok}
-use Rattle.script_model.specs.declared.script.Op.TheVariants.{Put}
-use Rattle.iso_model.specs.Marks.{is_outside}
-use Rattle.par_lines.specs.Answers.{Answered}
+use Rattle.par_lines.proofs.Words.{◌+◌, ◌-◌, ◌++◌, ap, length, replicate, subst, sym, ◌∙◌, Ok, Put, is_outside, Answered}
 use Rattle.par_lines.proofs.Putting.{refused_put, right_put, wrong_put}
 use Rattle.par_lines.proofs.Writing.{wants}
 use Rattle.par_lines.proofs.accesses.put.Goals as goal

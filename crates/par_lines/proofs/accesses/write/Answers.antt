@@ -1,7 +1,4 @@
-use Rattle.std.proofs.Common.{sym, subst}
-use Rattle.std.specs.Prelude.{Ok}
-use Rattle.script_model.specs.declared.script.Op.TheVariants.{Write}
-use Rattle.par_lines.specs.Answers.{Answered}
+use Rattle.par_lines.proofs.Words.{sym, subst, Ok, Write, Answered}
 use Rattle.par_lines.proofs.Writing.{right_write, wrong_write}
 use Rattle.par_lines.proofs.accesses.write.Goals as goal
 

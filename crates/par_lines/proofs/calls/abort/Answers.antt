@@ -1,6 +1,4 @@
-use Rattle.std.proofs.Common.{sym, subst}
-use Rattle.script_model.specs.declared.script.Op.TheVariants.{Abort}
-use Rattle.par_lines.specs.Answers.{Answered}
+use Rattle.par_lines.proofs.Words.{sym, subst, Abort, Answered}
 use Rattle.par_lines.proofs.Answering.{aborted}
 use Rattle.par_lines.proofs.calls.abort.Goals as goal
 

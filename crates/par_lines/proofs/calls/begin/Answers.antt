@@ -1,6 +1,4 @@
-use Rattle.std.proofs.Common.{sym, subst}
-use Rattle.script_model.specs.declared.script.Op.TheVariants.{Begin}
-use Rattle.par_lines.specs.Answers.{Answered}
+use Rattle.par_lines.proofs.Words.{sym, subst, Begin, Answered}
 use Rattle.par_lines.proofs.Answering.{begun}
 use Rattle.par_lines.proofs.calls.begin.Goals as goal
 

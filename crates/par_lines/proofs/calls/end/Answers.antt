@@ -1,6 +1,4 @@
-use Rattle.std.proofs.Common.{sym, subst}
-use Rattle.script_model.specs.declared.script.Op.TheVariants.{End}
-use Rattle.par_lines.specs.Answers.{Answered}
+use Rattle.par_lines.proofs.Words.{sym, subst, End, Answered}
 use Rattle.par_lines.proofs.Answering.{ended, unchecked}
 use Rattle.par_lines.proofs.calls.end.Goals as goal
 

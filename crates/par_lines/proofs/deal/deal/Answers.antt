@@ -1,7 +1,4 @@
-use Rattle.std.proofs.Common.{◌≡◌, ◌-◌, ◌==◌, ap, arith, length, ◌∙◌}
-use Rattle.std.specs.Prelude.{filter}
-use Rattle.std.specs.List.{range_with_len}
-use Rattle.par_script.specs.Told.{has_line, lines_of}
+use Rattle.par_lines.proofs.Words.{◌≡◌, ◌-◌, ◌==◌, ap, arith, length, ◌∙◌, filter, range_with_len, has_line, lines_of}
 use Rattle.par_lines.proofs.Dealing.{all_more, ids_more, length_more, rest_more}
 use Rattle.par_lines.proofs.deal.deal.Goals as goal
 

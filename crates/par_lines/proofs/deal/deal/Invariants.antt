@@ -1,7 +1,4 @@
-use Rattle.std.proofs.Common.{◌≡◌, ◌-◌, ◌≤◌, ℕ, length, map, reverse}
-use Rattle.std.specs.Prelude.{All, filter}
-use Rattle.std.specs.List.{range_with_len}
-use Rattle.par_script.specs.Told.{has_line, lines_of}
+use Rattle.par_lines.proofs.Words.{◌≡◌, ◌-◌, ◌≤◌, ℕ, length, map, reverse, All, filter, range_with_len, has_line, lines_of}
 use Rattle.par_lines.proofs.deal.deal.Given as goal
 
 abbrev pub invariant-loop-client : goal.invariant-loop-client

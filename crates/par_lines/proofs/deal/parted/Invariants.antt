@@ -1,6 +1,4 @@
-use Rattle.std.proofs.Common.{◌≡◌, ◌==◌, ◌++◌, length, not, reverse}
-use Rattle.std.specs.Prelude.{filter}
-use Rattle.par_script.specs.Told.{lines_of}
+use Rattle.par_lines.proofs.Words.{◌≡◌, ◌==◌, ◌++◌, length, not, reverse, filter, lines_of}
 use Rattle.par_lines.proofs.deal.parted.Given as goal
 
 abbrev pub invariant-loop-line : goal.invariant-loop-line

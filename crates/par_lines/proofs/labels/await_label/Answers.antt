@@ -1,6 +1,4 @@
-use Rattle.std.proofs.Common.{ap, arith, subst, sym, ◌∙◌}
-use Rattle.std.specs.Prelude.{Ok}
-use Rattle.handle_pass.specs.Handles.{HasLooked}
+use Rattle.par_lines.proofs.Words.{ap, arith, subst, sym, ◌∙◌, Ok, HasLooked}
 use Rattle.par_lines.proofs.Awaiting.{answers_in_tx, found, never_found, not_now}
 use Rattle.par_lines.proofs.labels.await_label.Goals as goal
 

@@ -1,6 +1,4 @@
-use Rattle.std.proofs.Common.{sym, subst}
-use Rattle.script_model.specs.declared.script.Op.TheVariants.{Release}
-use Rattle.par_lines.specs.Answers.{Answered}
+use Rattle.par_lines.proofs.Words.{sym, subst, Release, Answered}
 use Rattle.par_lines.proofs.Answering.{posted}
 use Rattle.par_lines.proofs.labels.release.Goals as goal
 

@@ -1,6 +1,4 @@
-use Rattle.std.proofs.Common.{sym, subst}
-use Rattle.script_model.specs.declared.script.Op.TheVariants.{Takeover}
-use Rattle.par_lines.specs.Answers.{Answered}
+use Rattle.par_lines.proofs.Words.{sym, subst, Takeover, Answered}
 use Rattle.par_lines.proofs.Answering.{looked}
 use Rattle.par_lines.proofs.labels.takeover.Goals as goal
 

@@ -1,6 +1,4 @@
-use Rattle.std.proofs.Common.{◌+◌, ◌||◌, ap, arith, drop, sym, ◌∙◌}
-use Rattle.std.specs.List.{list_any}
-use Rattle.par_lines.specs.Ends.{stopped}
+use Rattle.par_lines.proofs.Words.{◌+◌, ◌||◌, ap, arith, drop, sym, ◌∙◌, list_any, stopped}
 use Rattle.par_lines.proofs.Dealing.{any_next, none_left}
 use Rattle.par_lines.proofs.par.any_stopped.Goals as goal
 

@@ -1,6 +1,4 @@
-use Rattle.std.proofs.Common.{◌≡◌, drop}
-use Rattle.std.specs.List.{list_any}
-use Rattle.par_lines.specs.Ends.{wants}
+use Rattle.par_lines.proofs.Words.{◌≡◌, drop, list_any, wants}
 use Rattle.par_lines.proofs.par.any_wanted.Given as goal
 
 abbrev pub invariant-loop-part : goal.invariant-loop-part

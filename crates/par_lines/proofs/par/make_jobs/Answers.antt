@@ -1,7 +1,4 @@
-use Rattle.std.proofs.Common.{◌≡◌, ◌+◌, ◌∷◌, [], ap, arith, false, length, length-append, map, ◌∙◌}
-use Rattle.std.specs.Prelude.{sum_by}
-use Rattle.par_script.specs.Told.{lines_of}
-use Rattle.par_lines.specs.Jobs.{units_in, IsNew}
+use Rattle.par_lines.proofs.Words.{◌≡◌, ◌+◌, ◌∷◌, [], ap, arith, false, length, length-append, map, ◌∙◌, sum_by, lines_of, units_in, IsNew}
 use Rattle.par_lines.proofs.Dealing.{all_more, ids_turn}
 use Rattle.par_lines.proofs.Gathering.{all_last, units_more}
 use Rattle.par_lines.proofs.par.make_jobs.Goals as goal

@@ -1,9 +1,4 @@
-use Rattle.std.proofs.Common.{◌≡◌, ◌+◌, ◌*◌, ◌<◌, ◌≤◌, ◌++◌, [], length, map, reverse}
-use Rattle.std.specs.Prelude.{All, sum_by, vec_capacity}
-use Rattle.iso_model.specs.declared.limits.TheConstants.{LAST}
-use Rattle.iso_shared.specs.Ports.{IsPort, port_view}
-use Rattle.par_script.specs.Told.{lines_of}
-use Rattle.par_lines.specs.Jobs.{units_in, IsNew}
+use Rattle.par_lines.proofs.Words.{◌≡◌, ◌+◌, ◌*◌, ◌<◌, ◌≤◌, ◌++◌, [], length, map, reverse, All, sum_by, vec_capacity, LAST, IsPort, port_view, lines_of, units_in, IsNew}
 use Rattle.par_lines.proofs.par.make_jobs.Given as goal
 
 abbrev pub invariant-loop-id : goal.invariant-loop-id

@@ -1,7 +1,4 @@
-use Rattle.std.proofs.Common.{◌≡◌, ap, subst, sym, ◌∙◌}
-use Rattle.std.specs.Prelude.{All}
-use Rattle.par_script.specs.Told.{clients_in, lines_of}
-use Rattle.iso_model.proofs.Bounds.{limits}
+use Rattle.par_lines.proofs.Words.{◌≡◌, ap, subst, sym, ◌∙◌, All, clients_in, lines_of, limits}
 use Rattle.par_lines.proofs.par.par_lines.Goals as goal
 
 pub run_dealt-requires-clause-clients : goal.run_dealt-requires-clause-clients

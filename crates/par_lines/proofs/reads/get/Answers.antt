@@ -1,9 +1,4 @@
-use Rattle.std.proofs.Common.{[], ap, drop, subst, sym, take, ◌∙◌}
-use Rattle.std.specs.Prelude.{Ok}
-use Rattle.script_model.specs.declared.script.Op.TheVariants.{Get}
-use Rattle.iso_model.specs.Marks.{is_outside}
-use Rattle.iso_model.specs.Step.{get_access}
-use Rattle.par_lines.specs.Answers.{Answered}
+use Rattle.par_lines.proofs.Words.{[], ap, drop, subst, sym, take, ◌∙◌, Ok, Get, is_outside, get_access, Answered}
 use Rattle.par_lines.proofs.Fetching.{get_line, get_parts, refused_read, wrong_get}
 use Rattle.par_lines.proofs.Writing.{wants}
 use Rattle.par_lines.proofs.reads.get.Goals as goal

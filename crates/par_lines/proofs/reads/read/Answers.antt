@@ -1,6 +1,4 @@
-use Rattle.std.proofs.Common.{[], subst, sym}
-use Rattle.script_model.specs.declared.script.Op.TheVariants.{Read}
-use Rattle.par_lines.specs.Answers.{Answered}
+use Rattle.par_lines.proofs.Words.{[], subst, sym, Read, Answered}
 use Rattle.par_lines.proofs.Fetching.{read_line}
 use Rattle.par_lines.proofs.Writing.{wants}
 use Rattle.par_lines.proofs.reads.read.Goals as goal

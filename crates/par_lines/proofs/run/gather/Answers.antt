@@ -1,10 +1,4 @@
-use Rattle.std.proofs.Common.{◌≡◌, ◌-◌, ◌++◌, ◌∷◌, [], ap, arith, length, length-append, map, refl, reverse, subst, sym, ◌∙◌}
-use Rattle.std.specs.Prelude.{sum_by}
-use Rattle.turn_lock.specs.Lists.{times}
-use Rattle.iso_model.specs.Reserved.{WithRoom}
-use Rattle.iso_shared.specs.Ports.{IsPort, port_view}
-use Rattle.par_text.specs.declared.part.Part.{Part}
-use Rattle.par_lines.specs.Jobs.{part_of, units_in, AllTold, Finished}
+use Rattle.par_lines.proofs.Words.{◌≡◌, ◌-◌, ◌++◌, ◌∷◌, [], ap, arith, length, length-append, map, refl, reverse, subst, sym, ◌∙◌, sum_by, times, WithRoom, IsPort, port_view, Part, part_of, units_in, AllTold, Finished}
 use Rattle.par_lines.proofs.Gathering.{all_last, clients_more, gather_more, joined_units, units_more}
 use Rattle.par_lines.proofs.run.gather.Goals as goal
 

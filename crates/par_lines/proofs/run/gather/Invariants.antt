@@ -1,8 +1,4 @@
-use Rattle.std.proofs.Common.{◌≡◌, ◌+◌, ◌≤◌, ◌++◌, length, map, reverse}
-use Rattle.std.specs.Prelude.{All, sum_by}
-use Rattle.turn_lock.specs.Lists.{times}
-use Rattle.iso_shared.specs.Ports.{IsPort, port_view}
-use Rattle.par_lines.specs.Jobs.{units_in, AllTold, Finished}
+use Rattle.par_lines.proofs.Words.{◌≡◌, ◌+◌, ◌≤◌, ◌++◌, length, map, reverse, All, sum_by, times, IsPort, port_view, units_in, AllTold, Finished}
 use Rattle.par_lines.proofs.run.gather.Given as goal
 
 abbrev pub invariant-loop-job : goal.invariant-loop-job

@@ -1,7 +1,4 @@
-use Rattle.std.proofs.Common.{◌+◌, ap, reverse, subst, sym, ◌∙◌}
-use Rattle.std.specs.Prelude.{All}
-use Rattle.iso_shared.specs.Ports.{port_view}
-use Rattle.par_lines.specs.Jobs.{IsNew}
+use Rattle.par_lines.proofs.Words.{◌+◌, ap, reverse, subst, sym, ◌∙◌, All, port_view, IsNew}
 use Rattle.par_lines.proofs.Gathering.{jobs_done}
 use Rattle.par_lines.proofs.Sweeping.{told_all}
 use Rattle.par_lines.proofs.run.run_jobs.Goals as goal

@@ -1,7 +1,4 @@
-use Rattle.std.proofs.Common.{◌≡◌}
-use Rattle.iso_model.specs.declared.limits.TheConstants.{LAST}
-use Rattle.iso_shared.specs.Ports.{IsPort, port_view}
-use Rattle.par_lines.specs.Jobs.{Swept}
+use Rattle.par_lines.proofs.Words.{◌≡◌, LAST, IsPort, port_view, Swept}
 use Rattle.par_lines.proofs.run.sweep_all.Given as goal
 
 abbrev pub invariant-loop : goal.invariant-loop

@@ -1,5 +1,4 @@
-use Rattle.handle_pass.specs.Sessions.{own}
-use Rattle.iso_model.specs.declared.access.Mode.TheVariants.{Serial}
+use Rattle.par_lines.proofs.Words.{own, Serial}
 use Rattle.par_lines.proofs.Storing.{has_own, may_call, visited}
 use Rattle.par_lines.proofs.stores.visit.Goals as goal
 

@@ -1,6 +1,4 @@
-use Rattle.std.proofs.Common.{sym, subst}
-use Rattle.script_model.specs.declared.script.Op.TheVariants.{Compact}
-use Rattle.par_lines.specs.Answers.{Answered}
+use Rattle.par_lines.proofs.Words.{sym, subst, Compact, Answered}
 use Rattle.par_lines.proofs.Answering.{compacted}
 use Rattle.par_lines.proofs.upkeep.compact.Goals as goal
 

@@ -1,7 +1,5 @@
-use Rattle.std.proofs.Common.{sym, subst}
-use Rattle.std.specs.Prelude.{Ok}
+use Rattle.par_lines.proofs.Words.{sym, subst, Ok, Answered}
 use Rattle.script_model.specs.declared.script.Op.TheVariants.{Stat}
-use Rattle.par_lines.specs.Answers.{Answered}
 use Rattle.par_lines.proofs.Answering.{told_numbers}
 use Rattle.par_lines.proofs.upkeep.stat.Goals as goal
 

@@ -1,6 +1,4 @@
-use Rattle.std.proofs.Common.{sym, subst}
-use Rattle.script_model.specs.declared.script.Op.TheVariants.{Trim}
-use Rattle.par_lines.specs.Answers.{Answered}
+use Rattle.par_lines.proofs.Words.{sym, subst, Trim, Answered}
 use Rattle.par_lines.proofs.Answering.{trimmed}
 use Rattle.par_lines.proofs.upkeep.trim.Goals as goal
 

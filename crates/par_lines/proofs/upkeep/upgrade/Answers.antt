@@ -1,6 +1,4 @@
-use Rattle.std.proofs.Common.{sym, subst}
-use Rattle.script_model.specs.declared.script.Op.TheVariants.{Upgrade}
-use Rattle.par_lines.specs.Answers.{Answered}
+use Rattle.par_lines.proofs.Words.{sym, subst, Upgrade, Answered}
 use Rattle.par_lines.proofs.Answering.{upgraded}
 use Rattle.par_lines.proofs.upkeep.upgrade.Goals as goal
 

@@ -1,5 +1,4 @@
-use Rattle.std.proofs.Common.{◌≡◌, ◌++◌, flat_map, take}
-use Rattle.par_text.specs.Output.{commit_by}
+use Rattle.par_text.proofs.Words.{◌≡◌, ◌++◌, flat_map, take, commit_by}
 use Rattle.par_text.proofs.commit_line.add_commits.Given as goal
 
 abbrev pub invariant-loop-line : goal.invariant-loop-line

@@ -1,5 +1,4 @@
-use Rattle.std.proofs.Common.{◌≡◌, ◌++◌, [], flat_map, subst}
-use Rattle.par_text.specs.Output.{commit_by, commits_of}
+use Rattle.par_text.proofs.Words.{◌≡◌, ◌++◌, [], flat_map, subst, commit_by, commits_of}
 use Rattle.par_text.proofs.Lines.{items_more}
 use Rattle.par_text.proofs.commit_line.all_commits.Goals as goal
 

@@ -1,5 +1,4 @@
-use Rattle.std.proofs.Common.{◌≡◌, flat_map, take}
-use Rattle.par_text.specs.Output.{commits_of}
+use Rattle.par_text.proofs.Words.{◌≡◌, flat_map, take, commits_of}
 use Rattle.par_text.proofs.commit_line.all_commits.Given as goal
 
 abbrev pub invariant-loop-part : goal.invariant-loop-part

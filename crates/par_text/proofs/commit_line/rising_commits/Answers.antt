@@ -1,5 +1,4 @@
-use Rattle.std.proofs.Common.{rules, subst, IsPermutation}
-use Rattle.std.proofs.lemmas.List.Sorted.{IsNonDecreasingBy-from_sort_by_key}
+use Rattle.par_text.proofs.Words.{rules, subst, IsPermutation, IsNonDecreasingBy-from_sort_by_key}
 use Rattle.par_text.proofs.commit_line.rising_commits.Goals as goal
 
 pub returns : goal.returns

@@ -1,7 +1,4 @@
-use Rattle.std.proofs.Common.{◌≡◌, ◌++◌, map, subst}
-use Rattle.std.specs.List.{concat}
-use Rattle.script_model.specs.Text.{reply_line}
-use Rattle.par_text.specs.Output.{told_lines, AreFirst}
+use Rattle.par_text.proofs.Words.{◌≡◌, ◌++◌, map, subst, concat, reply_line, told_lines, AreFirst}
 use Rattle.par_text.proofs.Lines.{any_err, first_more, some_more}
 use Rattle.par_text.proofs.text.push_all_told.Goals as goal
 

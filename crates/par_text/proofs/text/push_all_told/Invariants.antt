@@ -1,6 +1,4 @@
-use Rattle.std.proofs.Common.{◌≡◌, ◌++◌, flat_map, take}
-use Rattle.std.specs.List.{concat}
-use Rattle.par_text.specs.Output.{told_lines}
+use Rattle.par_text.proofs.Words.{◌≡◌, ◌++◌, flat_map, take, concat, told_lines}
 use Rattle.par_text.proofs.text.push_all_told.Given as goal
 
 abbrev pub invariant-loop-part : goal.invariant-loop-part

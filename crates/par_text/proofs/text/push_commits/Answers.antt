@@ -1,7 +1,4 @@
-use Rattle.std.proofs.Common.{get_or}
-use Rattle.std.proofs.lemmas.List.{get_or_default}
-use Rattle.par_text.specs.declared.commit_line.CommitLine.{CommitLine}
-use Rattle.par_text.specs.Output.{commit_line}
+use Rattle.par_text.proofs.Words.{get_or, get_or_default, CommitLine, commit_line}
 use Rattle.par_text.proofs.Lines.{any_err, first_now, one_more}
 use Rattle.par_text.proofs.text.push_commits.Goals as goal
 

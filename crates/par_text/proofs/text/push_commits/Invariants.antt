@@ -1,6 +1,4 @@
-use Rattle.std.proofs.Common.{◌≡◌, ◌++◌, map, take}
-use Rattle.std.specs.List.{concat}
-use Rattle.par_text.specs.Output.{commit_line}
+use Rattle.par_text.proofs.Words.{◌≡◌, ◌++◌, map, take, concat, commit_line}
 use Rattle.par_text.proofs.text.push_commits.Given as goal
 
 abbrev pub invariant-loop-commit : goal.invariant-loop-commit

@@ -1,7 +1,4 @@
-use Rattle.std.proofs.Common.{◌∙◌, ap, ◌++◌, map, sym, subst, ◌≤◌}
-use Rattle.std.proofs.lemmas.List.{take_all, length-map}
-use Rattle.std.specs.List.{concat}
-use Rattle.script_model.specs.Text.{reply_line}
+use Rattle.par_text.proofs.Words.{◌∙◌, ap, ◌++◌, map, sym, subst, ◌≤◌, take_all, length-map, concat, reply_line}
 use Rattle.par_text.proofs.Lines.{any_err, first_now, one_more}
 use Rattle.par_text.proofs.text.push_replies.Goals as goal
 

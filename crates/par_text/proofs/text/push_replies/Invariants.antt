@@ -1,6 +1,4 @@
-use Rattle.std.proofs.Common.{◌≡◌, ◌++◌, map, take}
-use Rattle.std.specs.List.{concat}
-use Rattle.script_model.specs.Text.{reply_line}
+use Rattle.par_text.proofs.Words.{◌≡◌, ◌++◌, map, take, concat, reply_line}
 use Rattle.par_text.proofs.text.push_replies.Given as goal
 
 abbrev pub invariant-loop-reply : goal.invariant-loop-reply

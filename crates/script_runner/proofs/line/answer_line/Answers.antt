@@ -1,14 +1,4 @@
-use Rattle.std.proofs.Common.{◌≡◌, ◌<◌, ℕ, List, [], ◌∷◌, Err, length, take, ap, inl, inr, refl, sym, subst, ◌∙◌}
-use Rattle.std.specs.Io.KnownBytes.{append_known}
-use Rattle.iso_io.proofs.Told.{append_known-nil}
-use Rattle.iso_io.specs.Sink.{WroteFront}
-use Rattle.iso_io.specs.declared.sink.PutError.TheVariants.{Failed, TookNothing}
-use Rattle.script_model.specs.declared.script.Line.{Line}
-use Rattle.script_model.specs.Script.{replies}
-use Rattle.script_runner.specs.declared.run_end.RunEnd.TheVariants.{Disk, Memory, Output}
-use Rattle.script_runner.specs.Counts.{SinkFailed}
-use Rattle.script_runner.specs.Replies.{text_of}
-use Rattle.script_runner.specs.Told.{IfTold}
+use Rattle.script_runner.proofs.Words.{◌≡◌, ◌<◌, ℕ, List, [], ◌∷◌, Err, length, take, ap, inl, inr, refl, sym, subst, ◌∙◌, append_known, append_known-nil, WroteFront, Failed, TookNothing, Line, replies, Disk, Memory, Output, SinkFailed, text_of, IfTold}
 use Rattle.script_runner.proofs.Replying.{is_reply, made_is, put_front, put_one, put_silent, reply_is}
 use Rattle.script_runner.proofs.Steps.{counts_stand, halted_one, halted_step, ran_one}
 use Rattle.script_runner.proofs.line.answer_line.Goals as goal

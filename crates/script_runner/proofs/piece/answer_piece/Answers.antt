@@ -1,6 +1,4 @@
-use Rattle.std.proofs.Common.{◌≡◌, ◌++◌, ℕ, List, [], ◌∷◌, length, ap, refl, sym, subst, ◌∙◌, append_assoc, append-nil, length-append, arith}
-use Rattle.script_runner.specs.declared.run_end.RunEnd.TheVariants.{Memory}
-use Rattle.script_runner.specs.Lines.{EndsAt, Reads, end_of}
+use Rattle.script_runner.proofs.Words.{◌≡◌, ◌++◌, ℕ, List, [], ◌∷◌, length, ap, refl, sym, subst, ◌∙◌, append_assoc, append-nil, length-append, arith, Memory, EndsAt, Reads, end_of}
 use Rattle.script_runner.proofs.Answering.{ends_before, in_piece, reads_rest, unheld_ends}
 use Rattle.script_runner.proofs.piece.answer_piece.Goals as goal
 

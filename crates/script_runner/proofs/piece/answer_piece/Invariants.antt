@@ -1,7 +1,4 @@
-use Rattle.std.proofs.Common.{◌≡◌, ◌+◌, ◌≤◌, ◌++◌, ℕ, List, length}
-use Rattle.iso_io.specs.Sink.{SinkState}
-use Rattle.iso_model.specs.World.{World}
-use Rattle.script_runner.specs.Lines.{Reads}
+use Rattle.script_runner.proofs.Words.{◌≡◌, ◌+◌, ◌≤◌, ◌++◌, ℕ, List, length, SinkState, World, Reads}
 use Rattle.script_runner.proofs.piece.answer_piece.Given as goal
 
 abbrev pub invariant-loop-line : goal.invariant-loop-line

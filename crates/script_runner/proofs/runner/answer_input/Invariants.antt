@@ -1,7 +1,4 @@
-use Rattle.std.proofs.Common.{◌≡◌, ◌+◌, ◌≤◌, ℕ, List, length, vec_len}
-use Rattle.iso_model.specs.declared.limits.TheConstants.{MAX_INPUT, MAX_LINE}
-use Rattle.iso_model.specs.World.{World}
-use Rattle.script_runner.specs.Lines.{Gave, Reads}
+use Rattle.script_runner.proofs.Words.{◌≡◌, ◌+◌, ◌≤◌, ℕ, List, length, vec_len, MAX_INPUT, MAX_LINE, World, Gave, Reads}
 use Rattle.script_runner.proofs.runner.answer_input.Given as goal
 
 abbrev pub invariant-loop-left : goal.invariant-loop-left

@@ -1,8 +1,4 @@
-use Rattle.std.proofs.Common.{◌<◌, ℕ, List, length, subst, sym, ◌∙◌}
-use Rattle.script_model.specs.Script.{parse}
-use Rattle.script_text.specs.Parsing.{Gives}
-use Rattle.script_runner.specs.declared.run_end.RunEnd.{RunEnd}
-use Rattle.script_runner.specs.Run.{HasRun}
+use Rattle.script_runner.proofs.Words.{◌<◌, ℕ, List, length, subst, sym, ◌∙◌, parse, Gives, RunEnd, HasRun}
 use Rattle.script_runner.proofs.Endings.{done_runs, last_done, last_runs, none_held, some_held}
 use Rattle.script_runner.proofs.Said.{given_line, says_line}
 use Rattle.script_runner.proofs.runner.answer_last.Goals as goal

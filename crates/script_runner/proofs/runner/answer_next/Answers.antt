@@ -1,9 +1,5 @@
-use Rattle.std.proofs.Common.{◌≡◌, ◌<◌, ◌≤◌, ◌+◌, ◌++◌, ℕ, List, length, take, length-append, length-take, refl, subst, sym, arith}
-use Rattle.iso_model.specs.declared.limits.TheConstants.{MAX_INPUT, MAX_LINE}
+use Rattle.script_runner.proofs.Words.{◌≡◌, ◌<◌, ◌≤◌, ◌+◌, ◌++◌, ℕ, List, length, take, length-append, length-take, refl, subst, sym, arith, MAX_INPUT, MAX_LINE, RunEnd, Gave, HasRun}
 use Rattle.script_runner.specs.declared.run_end.Halt.TheVariants.{BadLine}
-use Rattle.script_runner.specs.declared.run_end.RunEnd.{RunEnd}
-use Rattle.script_runner.specs.Lines.{Gave}
-use Rattle.script_runner.specs.Run.{HasRun}
 use Rattle.script_runner.proofs.Endings.{gave_more, halt_runs, input_runs, long_ends}
 use Rattle.script_runner.proofs.runner.answer_next.Goals as goal
 

@@ -1,7 +1,5 @@
-use Rattle.std.proofs.Common.{sym, ◌∙◌, ap}
-use Rattle.std.specs.Prelude.{Ok, ok_or}
-use Rattle.std.proofs.lemmas.Bool.{eqb-true, eqb-false}
-use Rattle.std.proofs.lemmas.List.{with_items_is}
+use Rattle.script_text.proofs.Words.{sym, ◌∙◌, ap, ok_or, eqb-true, eqb-false, with_items_is}
+use Rattle.std.specs.Prelude.{Ok}
 use Rattle.script_text.proofs.HexLemmas.{hex_argument-empty, hex_argument-odd}
 use Rattle.script_text.proofs.HexPairs.{argument_is}
 use Rattle.script_text.proofs.argument.hex.Goals.{then-is_empty-via-then-is_empty, then-is_empty-via-else-is_empty+then-word-eq1}

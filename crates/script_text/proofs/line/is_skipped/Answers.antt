@@ -1,6 +1,4 @@
-use Rattle.std.proofs.Common.{nat_eq, rules, tests}
-use Rattle.std.proofs.lemmas.Iterator.{YieldsList-from_slice}
-use Rattle.std.proofs.lemmas.Iterator.Search.{all_from_yields_List}
+use Rattle.script_text.proofs.Words.{nat_eq, rules, tests, YieldsList-from_slice, all_from_yields_List}
 use Rattle.script_text.proofs.LineLemmas.{is_skipped-no_comment}
 use Rattle.script_text.proofs.line.is_skipped.Goals as goal
 

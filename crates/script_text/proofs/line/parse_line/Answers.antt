@@ -1,9 +1,4 @@
-use Rattle.std.proofs.Common.{ℕ, Result, arith, subst, sym, ◌∙◌, ap}
-use Rattle.std.proofs.lemmas.List.{length-take-le}
-use Rattle.script_model.specs.Script.{said}
-use Rattle.script_model.specs.Text.{words_of}
-use Rattle.script_model.specs.declared.script.Parsed.{Parsed}
-use Rattle.script_text.specs.Parsing.{Gives}
+use Rattle.script_text.proofs.Words.{ℕ, Result, arith, subst, sym, ◌∙◌, ap, length-take-le, said, words_of, Parsed, Gives}
 use Rattle.script_text.proofs.EnoughWords.{said-first_words}
 use Rattle.script_text.proofs.LineLemmas.{parse-said}
 use Rattle.script_text.proofs.line.parse_line.Goals as goal

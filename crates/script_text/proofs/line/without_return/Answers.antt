@@ -1,6 +1,4 @@
-use Rattle.std.proofs.Common.{[], ◌∷◌, ap, ◌∙◌, refl, Bor, List, ℕ}
-use Rattle.std.proofs.lemmas.Bool.Decides.{Decides-eqb}
-use Rattle.std.proofs.lemmas.Slice.Eq.{strip_suffix_is}
+use Rattle.script_text.proofs.Words.{[], ◌∷◌, ap, ◌∙◌, refl, Bor, List, ℕ, Decides-eqb, strip_suffix_is}
 use Rattle.script_text.proofs.LineLemmas.{without_return-stripped}
 use Rattle.script_text.proofs.line.without_return.Goals as goal
 

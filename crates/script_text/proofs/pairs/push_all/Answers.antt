@@ -1,5 +1,4 @@
-use Rattle.std.proofs.Common.{Result, Ok, Err, OnErr, flat_map, take}
-use Rattle.script_model.specs.Text.{pair_text}
+use Rattle.script_text.proofs.Words.{Result, Ok, Err, OnErr, flat_map, take, pair_text}
 use Rattle.script_text.proofs.Extending.{on_err}
 use Rattle.script_text.proofs.pairs.push_all.Goals as goal
 

@@ -1,5 +1,4 @@
-use Rattle.std.proofs.Common.{◌≡◌, ◌++◌, take, flat_map}
-use Rattle.script_model.specs.Text.{pair_text}
+use Rattle.script_text.proofs.Words.{◌≡◌, ◌++◌, take, flat_map, pair_text}
 use Rattle.script_text.proofs.pairs.push_all.Given as goal
 
 abbrev pub invariant-loop-pair : goal.invariant-loop-pair

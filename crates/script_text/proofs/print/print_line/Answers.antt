@@ -1,8 +1,5 @@
-use Rattle.std.proofs.Common.{◌≡◌, ◌∙◌, ◌≤◌, [], ◌∷◌, ◌++◌, List, ℕ, Ok, ap, append_assoc, decimal, length, subst, sym}
-use Rattle.iso_model.specs.declared.limits.TheConstants.{MAX_LINE}
+use Rattle.script_text.proofs.Words.{◌≡◌, ◌∙◌, ◌≤◌, [], ◌∷◌, ◌++◌, List, ℕ, Ok, ap, append_assoc, decimal, length, subst, sym, MAX_LINE, parse, arguments_of, line_text, name_of, spaced}
 use Rattle.script_model.specs.declared.script.Parsed.TheVariants.{Line as Says}
-use Rattle.script_model.specs.Script.{parse}
-use Rattle.script_text.specs.Spelling.{arguments_of, line_text, name_of, spaced}
 use Rattle.script_text.proofs.Readings.{parse-printed}
 use Rattle.script_text.proofs.print.print_line.Goals as goal
 

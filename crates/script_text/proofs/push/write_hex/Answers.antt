@@ -1,6 +1,4 @@
-use Rattle.std.proofs.Common.{Result, Ok, Err, ◌∙◌, arith}
-use Rattle.std.specs.Prelude.{IsOk, OnOk}
-use Rattle.std.proofs.lemmas.Bool.{false≢true}
+use Rattle.script_text.proofs.Words.{Result, Ok, Err, ◌∙◌, arith, IsOk, OnOk, false≢true}
 use Rattle.script_text.proofs.HexLemmas.{encode_lower-hex_text}
 use Rattle.script_text.proofs.push.write_hex.Goals as goal
 

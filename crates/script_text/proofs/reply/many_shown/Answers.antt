@@ -1,9 +1,4 @@
-use Rattle.std.proofs.Common.{◌≡◌, ◌⊎◌, ◌<◌, inl, inr, refl, sym, subst, ℕ, List, [], ◌∷◌, length, arith}
-use Rattle.script_model.specs.declared.script.Reply.{Reply}
-use Rattle.script_model.specs.declared.script.Reply.TheVariants.{Found, Shown}
-use Rattle.script_model.specs.Text.{reply_text}
-use Rattle.script_text.specs.Printing.{IsLong}
-use Rattle.script_text.specs.declared.reply.TheConstants.{MOST_SHOWN}
+use Rattle.script_text.proofs.Words.{◌≡◌, ◌⊎◌, ◌<◌, inl, inr, refl, sym, subst, ℕ, List, [], ◌∷◌, length, arith, Reply, Found, Shown, reply_text, IsLong, MOST_SHOWN}
 use Rattle.script_text.proofs.reply.many_shown.Goals as goal
 
 -- a value that has a byte is told as bytes that are shown

@@ -1,5 +1,4 @@
-use Rattle.std.proofs.Common.{◌≡◌, ◌∙◌, ap, ℕ, List, ◌++◌, append_assoc, codes, decimal}
-use Rattle.script_model.specs.Text.{reply_text}
+use Rattle.script_text.proofs.Words.{◌≡◌, ◌∙◌, ap, ℕ, List, ◌++◌, append_assoc, codes, decimal, reply_text}
 use Rattle.script_text.proofs.reply.put_text.Goals as goal
 
 -- six texts with their numbers, put two by two from the last

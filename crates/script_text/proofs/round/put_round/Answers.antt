@@ -1,6 +1,5 @@
-use Rattle.std.proofs.Common.{◌≡◌, ◌∙◌, ◌*◌, ap, sym, ℕ, List, [], ◌∷◌, ◌++◌, append_assoc, append-nil, codes, decimal}
-use Rattle.script_model.specs.Text.{hex_text}
-use Rattle.script_text.specs.Ending.{WithFront}
+use Rattle.script_text.proofs.Words.{◌≡◌, ◌∙◌, ◌*◌, ap, sym, ℕ, List, [], ◌∷◌, ◌++◌, append_assoc, codes, decimal, hex_text, WithFront}
+use Rattle.std.proofs.Common.{append-nil}
 use Rattle.script_text.proofs.round.put_round.Goals as goal
 
 -- the lines of a round are their words, one behind the other

@@ -1,5 +1,4 @@
-use Rattle.std.proofs.Common.{arith}
-use Rattle.std.proofs.lemmas.Fmt.{length-decimal-le}
+use Rattle.script_text.proofs.Words.{arith, length-decimal-le}
 use Rattle.script_text.proofs.round.put_two.Goals as goal
 
 pub put_number-requires-2 : goal.put_number-requires-2

@@ -1,7 +1,5 @@
 -- Where none was another one so far, the bytes so far belong to the word.
-use Rattle.std.proofs.Common.{◌≡◌, true, take, drop}
-use Rattle.std.specs.List.{list_all}
-use Rattle.script_text.specs.Words.{is_word_byte}
+use Rattle.script_text.proofs.Words.{◌≡◌, true, take, drop, list_all, is_word_byte}
 use Rattle.script_text.proofs.word.are_word_bytes.Given as goal
 
 abbrev pub invariant-bytes : goal.invariant-bytes

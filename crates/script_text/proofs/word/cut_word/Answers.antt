@@ -1,7 +1,5 @@
 -- The word, and the space behind it or the end of the line.
-use Rattle.std.proofs.Common.{◌≡◌, ◌∙◌, sym, ap, subst, true, ℕ, ◌∷◌, List}
-use Rattle.std.specs.List.{list_all}
-use Rattle.script_text.specs.Words.{is_word_byte}
+use Rattle.script_text.proofs.Words.{◌≡◌, ◌∙◌, sym, ap, subst, true, ℕ, ◌∷◌, List, list_all, is_word_byte}
 use Rattle.script_text.proofs.WordCuts.{cut_off, cut_whole, length_nil, split_is}
 use Rattle.script_text.proofs.word.cut_word.Goals as goal
 

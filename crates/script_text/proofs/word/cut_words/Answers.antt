@@ -1,10 +1,5 @@
 -- A word that has bytes takes the next place, while there is one.
-use Rattle.std.proofs.Common.{◌≡◌, ◌∙◌, ◌<◌, arith, Bor, ℕ, List, [], ◌∷◌, ◌++◌, length, take}
-use Rattle.std.proofs.lemmas.Bool.Decides.{nat_tests}
-use Rattle.std.proofs.lemmas.List.{length-set}
-use Rattle.script_model.specs.Text.{words_of}
-use Rattle.script_text.specs.Words.{texts}
-use Rattle.script_text.specs.declared.word.TheConstants.{MOST_WORDS}
+use Rattle.script_text.proofs.Words.{◌≡◌, ◌∙◌, ◌<◌, arith, Bor, ℕ, List, [], ◌∷◌, ◌++◌, length, take, nat_tests, length-set, words_of, texts, MOST_WORDS}
 use Rattle.script_text.proofs.FirstItems.{first_grow, first_stay}
 use Rattle.script_text.proofs.WordCuts.{cut_all, cut_more, cut_none, length_nil}
 use Rattle.script_text.proofs.word.cut_words.Goals as goal

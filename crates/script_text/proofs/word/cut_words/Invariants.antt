@@ -1,10 +1,5 @@
 -- What was cut off so far, and what is left of the line.
-use Rattle.std.proofs.Common.{◌≡◌, ◌≤◌, ◌++◌, Bor, ℕ, List, take, length}
-use Rattle.std.specs.List.{list_all}
-use Rattle.script_model.specs.Script.{is_printable}
-use Rattle.script_model.specs.Text.{words_of}
-use Rattle.script_text.specs.declared.word.TheConstants.{MOST_WORDS}
-use Rattle.script_text.specs.Words.{texts}
+use Rattle.script_text.proofs.Words.{◌≡◌, ◌≤◌, ◌++◌, Bor, ℕ, List, take, length, list_all, is_printable, words_of, MOST_WORDS, texts}
 use Rattle.script_text.proofs.word.cut_words.Given as goal
 
 abbrev pub invariant-loop-rest : goal.invariant-loop-rest

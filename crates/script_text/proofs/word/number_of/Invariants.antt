@@ -1,9 +1,5 @@
 -- The digits so far, and the value of all.
-use Rattle.std.proofs.Common.{◌≡◌, ◌<◌, ◌^◌, true, drop, take}
-use Rattle.std.specs.List.{list_all}
-use Rattle.iso_model.specs.Labels.{is_digit}
-use Rattle.script_model.specs.Text.{value_of}
-use Rattle.script_text.specs.Words.{may_be_decimal}
+use Rattle.script_text.proofs.Words.{◌≡◌, ◌<◌, ◌^◌, true, drop, take, list_all, is_digit, value_of, may_be_decimal}
 use Rattle.script_text.proofs.WordLemmas.{value_after}
 use Rattle.script_text.proofs.word.number_of.Given as goal
 

@@ -1,8 +1,4 @@
-use Rattle.std.proofs.Common.{◌≡◌, ◌+◌, ℕ, true, List, ◌++◌, take, drop, refl, sym, ◌∙◌, ap, arith}
-use Rattle.std.specs.List.{list_all}
-use Rattle.std.proofs.lemmas.List.{drop-take, take-append-drop, take-take}
-use Rattle.std.proofs.lemmas.List.Folds.{list_all-append}
-use Rattle.script_text.specs.Words.{is_word_byte}
+use Rattle.script_text.proofs.Words.{◌≡◌, ◌+◌, ℕ, true, List, ◌++◌, take, drop, refl, sym, ◌∙◌, ap, arith, list_all, drop-take, take-append-drop, take-take, list_all-append, is_word_byte}
 use Rattle.script_text.proofs.word.word_length.Goals as goal
 
 -- the bytes up to a place and those behind it

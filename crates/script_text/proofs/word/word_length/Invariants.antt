@@ -1,7 +1,5 @@
 -- The bytes so far belong to the word.
-use Rattle.std.proofs.Common.{◌≡◌, ◌≤◌, ◌-◌, true, length, take}
-use Rattle.std.specs.List.{list_all}
-use Rattle.script_text.specs.Words.{is_word_byte}
+use Rattle.script_text.proofs.Words.{◌≡◌, ◌≤◌, ◌-◌, true, length, take, list_all, is_word_byte}
 use Rattle.script_text.proofs.word.word_length.Given as goal
 
 abbrev pub invariant-bytes : goal.invariant-bytes

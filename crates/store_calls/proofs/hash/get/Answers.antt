@@ -1,11 +1,4 @@
-use Rattle.std.proofs.Common.{sym, subst, Result}
-use Rattle.script_model.specs.declared.script.Reply.{Reply}
-use Rattle.store_model.specs.HashCalls.{get_program}
-use Rattle.script_model.specs.Step.{found_reply}
-use Rattle.store_model.specs.Stores.{outcome}
-use Rattle.tx_blocks.specs.Runs.{area_of}
-use Rattle.script_model.specs.declared.stop.Stop.{Stop}
-use Rattle.store_calls.specs.Calls.{HasCalled, Stops, replied}
+use Rattle.store_calls.proofs.Words.{sym, subst, Result, Reply, get_program, found_reply, outcome, area_of, Stop, HasCalled, Stops, replied}
 use Rattle.store_calls.proofs.Called.{called_err, stops_err}
 use Rattle.store_calls.proofs.hash.get.Goals as goal
 

@@ -1,11 +1,6 @@
-use Rattle.std.proofs.Common.{sym, subst, Result}
-use Rattle.script_model.specs.declared.script.Reply.{Reply}
+use Rattle.store_calls.proofs.Words.{sym, subst, Result, Reply, outcome, area_of, Stop, HasCalled, Stops, replied}
 use Rattle.script_model.specs.declared.script.Reply.TheVariants as reply
 use Rattle.store_model.specs.TreeCalls.{put_program}
-use Rattle.store_model.specs.Stores.{outcome}
-use Rattle.tx_blocks.specs.Runs.{area_of}
-use Rattle.script_model.specs.declared.stop.Stop.{Stop}
-use Rattle.store_calls.specs.Calls.{HasCalled, Stops, replied}
 use Rattle.store_calls.proofs.Called.{called_err, called_ok, stops_err}
 use Rattle.store_calls.proofs.tree.put.Goals as goal
 

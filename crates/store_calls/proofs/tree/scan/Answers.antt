@@ -1,16 +1,5 @@
-use Rattle.std.proofs.Common.{◌≡◌, [], sym, subst, refl, ap, ◌&&◌, ◌==◌, Bool, true, false, cond, ℕ, List, Result, Err, eq-eqb, arith}
-use Rattle.script_model.specs.declared.script.Reply.{Reply}
+use Rattle.store_calls.proofs.Words.{◌≡◌, [], sym, subst, refl, ap, ◌&&◌, ◌==◌, Bool, true, false, cond, ℕ, List, Result, Err, eq-eqb, arith, Reply, Area, BadKey, Array, is_key, pairs_reply, Done, Program, outcome, Scanned, scan_below, scan_program, with_head, area_of, Stop, HasCalled, Stops, replied}
 use Rattle.script_model.specs.declared.script.Reply.TheVariants as reply
-use Rattle.store_model.specs.declared.stores.Area.{Area}
-use Rattle.store_model.specs.declared.stores.StoreError.TheVariants.{BadKey}
-use Rattle.iso_model.specs.Array.{Array}
-use Rattle.store_model.specs.HashCalls.{is_key}
-use Rattle.script_model.specs.Step.{pairs_reply}
-use Rattle.store_model.specs.Stores.{Done, Program, outcome}
-use Rattle.store_model.specs.TreeCalls.{Scanned, scan_below, scan_program, with_head}
-use Rattle.tx_blocks.specs.Runs.{area_of}
-use Rattle.script_model.specs.declared.stop.Stop.{Stop}
-use Rattle.store_calls.specs.Calls.{HasCalled, Stops, replied}
 use Rattle.store_calls.proofs.Called.{no_more, scanned_err, stops_scan}
 use Rattle.store_calls.proofs.tree.scan.Goals as goal
 

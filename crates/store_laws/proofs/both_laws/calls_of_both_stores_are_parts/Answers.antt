@@ -1,9 +1,6 @@
 use Rattle.store_model.specs.HashCalls as hash
-use Rattle.store_model.specs.HashRegion.{IsHashRegion, hash_map}
+use Rattle.store_laws.proofs.Words.{IsHashRegion, hash_map, IsTreeRegion, tree_map, Del, Found, Get, Got, Put, WasPut, WasThere, OnKey, Scan}
 use Rattle.store_model.specs.TreeCalls as tree
-use Rattle.store_model.specs.TreeRegion.{IsTreeRegion, tree_map}
-use Rattle.store_laws.specs.Calls.{Del, Found, Get, Got, Put, WasPut, WasThere}
-use Rattle.store_laws.specs.Tree.{OnKey, Scan}
 use Rattle.store_laws.proofs.BothCalls.{hash_part, tree_part}
 use Rattle.store_laws.proofs.HashWrites as hash_writes
 use Rattle.store_laws.proofs.KeyCalls.{del_local, got_local, put_local, scan_local}

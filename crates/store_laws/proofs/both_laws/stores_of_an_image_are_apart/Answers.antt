@@ -1,9 +1,4 @@
-use Rattle.std.proofs.Common.{arith, inl}
-use Rattle.iso_model.specs.Array.{zeros}
-use Rattle.store_model.specs.Areas.{hash_area, tree_area}
-use Rattle.iso_model.proofs.Bounds.{limits}
-use Rattle.store_model.proofs.HashAccesses.{hash_area_is}
-use Rattle.store_model.proofs.TreeAccesses.{tree_area_is}
+use Rattle.store_laws.proofs.Words.{arith, inl, zeros, hash_area, tree_area, limits, hash_area_is, tree_area_is}
 use Rattle.store_laws.proofs.HashBlank as hash
 use Rattle.store_laws.proofs.TreeBlank as tree
 use Rattle.store_laws.proofs.Zeros.{zeros_blank}

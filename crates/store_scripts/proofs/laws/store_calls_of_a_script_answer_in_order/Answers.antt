@@ -1,6 +1,4 @@
-use Rattle.iso_model.specs.History.{last}
-use Rattle.script_model.specs.Script.{after}
-use Rattle.store_scripts.specs.Told.{no_notes, notes_after}
+use Rattle.store_scripts.proofs.Words.{last, after, no_notes, notes_after}
 use Rattle.store_scripts.proofs.Commits.{commits_told}
 use Rattle.store_scripts.proofs.Lines.{noted_after, noted_begins}
 use Rattle.store_scripts.proofs.Order.{live_told, read_only_told}

@@ -1,6 +1,4 @@
-use Rattle.store_model.specs.HashRegion.{IsHashRegion, hash_map}
-use Rattle.store_model.specs.Areas.{hash_area, tree_area}
-use Rattle.store_model.specs.TreeRegion.{IsTreeRegion, tree_map}
+use Rattle.store_scripts.proofs.Words.{IsHashRegion, hash_map, hash_area, tree_area, IsTreeRegion, tree_map}
 use Rattle.store_scripts.proofs.Images.{begins_well, if_any_is, none_is_empty}
 use Rattle.store_scripts.proofs.laws.stores_of_an_image_are_its_regions.Goals as goal
 

@@ -1,5 +1,4 @@
-use Rattle.script_model.specs.Script.{after}
-use Rattle.store_scripts.specs.Told.{no_notes, notes_after}
+use Rattle.store_scripts.proofs.Words.{after, no_notes, notes_after}
 use Rattle.store_scripts.proofs.Lines.{noted_after, noted_alone}
 use Rattle.store_scripts.proofs.Order.{told_is}
 use Rattle.store_scripts.proofs.laws.told_calls_are_parts.Goals as goal

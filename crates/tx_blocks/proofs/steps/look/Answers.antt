@@ -1,5 +1,4 @@
-use Rattle.std.proofs.Common.{[], arith}
-use Rattle.store_model.specs.Stores.{look_access}
+use Rattle.tx_blocks.proofs.Words.{[], arith, look_access}
 use Rattle.tx_blocks.proofs.Marking.{open_from, may_mark, marked_access}
 use Rattle.tx_blocks.proofs.steps.look.Goals as goal
 

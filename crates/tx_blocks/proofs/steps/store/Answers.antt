@@ -1,9 +1,4 @@
-use Rattle.std.proofs.Common.{◌∙◌, sym, ap, take, get_or, List, [], ◌∷◌, arith}
-use Rattle.std.proofs.lemmas.List.{length-take-le, take_more}
-use Rattle.iso_model.specs.declared.access.Span.{Span}
-use Rattle.iso_model.specs.Premises.{IsSpan}
-use Rattle.store_model.specs.Stores.{store_access}
-use Rattle.tx_blocks.specs.Tx.{with_accesses}
+use Rattle.tx_blocks.proofs.Words.{◌∙◌, sym, ap, take, get_or, List, [], ◌∷◌, arith, length-take-le, take_more, Span, IsSpan, store_access, with_accesses}
 use Rattle.tx_blocks.proofs.Marking.{open_from, may_mark, marked_access, all_at}
 use Rattle.tx_blocks.proofs.steps.store.Goals as goal
 

@@ -1,6 +1,4 @@
-use Rattle.std.proofs.Common.{◌≡◌, take, [], ◌∷◌}
-use Rattle.store_model.specs.Stores.{store_access}
-use Rattle.tx_blocks.specs.Tx.{with_accesses}
+use Rattle.tx_blocks.proofs.Words.{◌≡◌, take, [], ◌∷◌, store_access, with_accesses}
 use Rattle.tx_blocks.proofs.steps.store.Given as goal
 
 -- the write has the spans so far

@@ -1,10 +1,5 @@
 -- One row more, and a list and its permutation pass a test alike.
-use Rattle.std.proofs.Common.{◌≡◌, ◌∙◌, ℕ, zero, suc, ◌-◌, ◌<◌, ◌∷◌, ◌++◌, [], sym, ap, subst, arith, length, length-drop, get_or, drop}
-use Rattle.std.specs.List.{All, list_any}
-use Rattle.std.proofs.lemmas.List.{take_all}
-use Rattle.std.proofs.lemmas.List.Elements.{All-append}
-use Rattle.std.proofs.lemmas.List.Sorted.{All-permutation, list_any-IsPermutation}
-use Rattle.tx_table.specs.declared.rows.Row.{Row}
+use Rattle.tx_table.proofs.Words.{◌≡◌, ◌∙◌, ℕ, zero, suc, ◌-◌, ◌<◌, ◌∷◌, ◌++◌, [], sym, ap, subst, arith, length, length-drop, get_or, drop, All, list_any, take_all, All-append, All-permutation, list_any-IsPermutation, Row}
 use Rattle.tx_table.proofs.Covered.{place_more}
 use Rattle.tx_table.proofs.fold.by_block.Goals as goal
 

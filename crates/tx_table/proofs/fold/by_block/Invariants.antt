@@ -1,7 +1,5 @@
 -- The rows so far, each at its place.
-use Rattle.std.proofs.Common.{◌≡◌, ℕ, ◌-◌, ◌<◌, Bool, length, get_or, take, drop}
-use Rattle.std.specs.List.{All, list_any}
-use Rattle.tx_table.specs.declared.rows.Row.{Row}
+use Rattle.tx_table.proofs.Words.{◌≡◌, ℕ, ◌-◌, ◌<◌, Bool, length, get_or, take, drop, All, list_any, Row}
 use Rattle.tx_table.proofs.fold.by_block.Given as goal
 
 abbrev pub invariant-loop-at : goal.invariant-loop-at

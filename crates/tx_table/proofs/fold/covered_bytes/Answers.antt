@@ -1,7 +1,5 @@
 -- All marks have been added.
-use Rattle.std.proofs.Common.{◌≡◌, ◌∙◌, ℕ, ◌<◌, ap, arith, length, take}
-use Rattle.std.specs.List.{list_any}
-use Rattle.iso_model.specs.Array.{in_span}
+use Rattle.tx_table.proofs.Words.{◌≡◌, ◌∙◌, ℕ, ◌<◌, ap, arith, length, take, list_any, in_span}
 use Rattle.tx_table.proofs.Covered.{spans_cover}
 use Rattle.tx_table.proofs.fold.covered_bytes.Goals as goal
 

@@ -1,6 +1,5 @@
 -- All rows are added, in the order of their blocks.
-use Rattle.std.proofs.Common.{arith}
-use Rattle.iso_model.specs.declared.access.Kind.TheVariants.{Read, Write}
+use Rattle.tx_table.proofs.Words.{arith, Read, Write}
 use Rattle.tx_table.proofs.Covered.{touched_rest}
 use Rattle.tx_table.proofs.fold.fold.Goals as goal
 

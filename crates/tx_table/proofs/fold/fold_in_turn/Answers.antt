@@ -1,8 +1,5 @@
 -- One row more.
-use Rattle.std.proofs.Common.{◌<◌, sym, subst}
-use Rattle.iso_model.specs.declared.access.Kind.TheVariants.{Read, Write}
-use Rattle.tx_table.specs.declared.rows.Row.{Row}
-use Rattle.tx_table.specs.Work.{IsRow}
+use Rattle.tx_table.proofs.Words.{◌<◌, sym, subst, Read, Write, Row, IsRow}
 use Rattle.tx_table.proofs.Covered.{touched_more}
 use Rattle.tx_table.proofs.Last.{row_there}
 use Rattle.tx_table.proofs.fold.fold_in_turn.Goals as goal

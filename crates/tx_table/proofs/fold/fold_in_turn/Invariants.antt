@@ -1,8 +1,5 @@
 -- The rows so far are in what is read and what is written.
-use Rattle.std.proofs.Common.{take, map}
-use Rattle.byte_marks.specs.Touched.{AreTouched}
-use Rattle.iso_model.specs.declared.access.Kind.TheVariants.{Read, Write}
-use Rattle.tx_table.specs.Work.{access_of}
+use Rattle.tx_table.proofs.Words.{take, map, AreTouched, Read, Write, access_of}
 use Rattle.tx_table.proofs.fold.fold_in_turn.Given as goal
 
 abbrev pub invariant-loop-at : goal.invariant-loop-at

@@ -1,11 +1,5 @@
 -- The row at one place more.
-use Rattle.std.proofs.Common.{◌≡◌, ◌∙◌, ℕ, ◌<◌, ◌&&◌, ◌||◌, ap, arith, length, get_or, nat_lt}
-use Rattle.std.specs.List.{list_any}
-use Rattle.std.proofs.lemmas.List.{get_or_default, take_all}
-use Rattle.byte_marks.specs.Touched.{touches}
-use Rattle.iso_model.specs.declared.access.Kind.TheVariants.{Read, Write}
-use Rattle.iso_model.specs.Effect.{covers}
-use Rattle.tx_table.specs.Work.{access_of}
+use Rattle.tx_table.proofs.Words.{◌≡◌, ◌∙◌, ℕ, ◌<◌, ◌&&◌, ◌||◌, ap, arith, length, get_or, nat_lt, list_any, get_or_default, take_all, touches, Read, Write, covers, access_of}
 use Rattle.tx_table.proofs.Covered.{places_more}
 use Rattle.tx_table.proofs.fold.fold_places.Goals as goal
 

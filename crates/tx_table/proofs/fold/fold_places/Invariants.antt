@@ -1,11 +1,5 @@
 -- The rows at the places so far are in what is read and what is written.
-use Rattle.std.proofs.Common.{◌≡◌, ℕ, ◌&&◌, ◌||◌, nat_lt, get_or, take}
-use Rattle.std.specs.List.{list_any}
-use Rattle.byte_marks.specs.Touched.{touches}
-use Rattle.iso_model.specs.declared.access.Kind.TheVariants.{Read, Write}
-use Rattle.iso_model.specs.Effect.{covers}
-use Rattle.tx_table.specs.declared.rows.Row.{Row}
-use Rattle.tx_table.specs.Work.{access_of}
+use Rattle.tx_table.proofs.Words.{◌≡◌, ℕ, ◌&&◌, ◌||◌, nat_lt, get_or, take, list_any, touches, Read, Write, covers, Row, access_of}
 use Rattle.tx_table.proofs.fold.fold_places.Given as goal
 
 abbrev pub invariant-loop-entry : goal.invariant-loop-entry

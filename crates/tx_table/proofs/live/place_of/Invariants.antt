@@ -1,6 +1,5 @@
 -- No entry so far is the transaction's.
-use Rattle.std.proofs.Common.{◌≡◌, ◌++◌, drop, nat_eq, take}
-use Rattle.std.specs.Map.{lookup, remove_entry}
+use Rattle.tx_table.proofs.Words.{◌≡◌, ◌++◌, drop, nat_eq, take, lookup, remove_entry}
 use Rattle.tx_table.proofs.live.place_of.Given as goal
 
 abbrev pub invariant-loop-place : goal.invariant-loop-place

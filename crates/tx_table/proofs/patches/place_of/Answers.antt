@@ -1,7 +1,5 @@
 -- Blocks that rise are parted by the test on the block.
-use Rattle.std.proofs.Common.{ℕ, arith, rules, ltb}
-use Rattle.std.proofs.lemmas.Bool.{ltb-true, ltb-false}
-use Rattle.std.proofs.lemmas.List.Sorted.{IsPartitionPoint-from_clause, IsPartitionedBy-ltb}
+use Rattle.tx_table.proofs.Words.{ℕ, arith, rules, ltb, ltb-true, ltb-false, IsPartitionPoint-from_clause, IsPartitionedBy-ltb}
 use Rattle.tx_table.proofs.Blocks.{in_order}
 use Rattle.tx_table.proofs.patches.place_of.Goals as goal
 

@@ -1,12 +1,5 @@
 -- One row more.
-use Rattle.std.proofs.Common.{◌≡◌, ◌∙◌, ℕ, ◌+◌, true, false, List, ◌∷◌, [], ◌++◌, ap, sym, subst, length, get_or, take, map, IsTrue}
-use Rattle.iso_model.specs.declared.access.Access.{Access}
-use Rattle.iso_model.specs.Effect.{is_write, same_kind}
-use Rattle.iso_model.specs.declared.access.Kind.{Kind}
-use Rattle.iso_model.specs.declared.access.Kind.TheVariants.{Write}
-use Rattle.tx_table.specs.declared.rows.Row.{Row}
-use Rattle.tx_table.specs.Patches.{has_patch, patch_at, AreEffects, Held}
-use Rattle.tx_table.specs.Work.{access_of, IsRow}
+use Rattle.tx_table.proofs.Words.{◌≡◌, ◌∙◌, ℕ, ◌+◌, true, false, List, ◌∷◌, [], ◌++◌, ap, sym, subst, length, get_or, take, map, IsTrue, Access, is_write, same_kind, Kind, Write, Row, has_patch, patch_at, AreEffects, Held, access_of, IsRow}
 use Rattle.tx_table.proofs.Applied.{patch_of_row, read_applied, row_at, rows_more, write_applied}
 use Rattle.tx_table.proofs.rows.apply.Goals as goal
 use Rattle.tx_table.proofs.rows.apply.Goals.{in-Write, in-Read}

@@ -1,7 +1,5 @@
 -- The writes of the rows so far are in the patches.
-use Rattle.std.proofs.Common.{◌≡◌, ℕ, take, map}
-use Rattle.tx_table.specs.Patches.{has_patch, AreEffects}
-use Rattle.tx_table.specs.Work.{access_of}
+use Rattle.tx_table.proofs.Words.{◌≡◌, ℕ, take, map, has_patch, AreEffects, access_of}
 use Rattle.tx_table.proofs.rows.apply.Given as goal
 
 abbrev pub invariant-loop-at : goal.invariant-loop-at

@@ -1,6 +1,5 @@
 -- With no row there is no effect.
-use Rattle.std.proofs.Common.{◌∙◌, sym}
-use Rattle.merge_write.proofs.Effects.{no_effects}
+use Rattle.tx_table.proofs.Words.{◌∙◌, sym, no_effects}
 use Rattle.tx_table.proofs.rows.reopen_patches.Goals as goal
 
 pub returns-clause-effects : goal.returns-clause-effects

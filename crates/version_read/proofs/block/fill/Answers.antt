@@ -1,8 +1,5 @@
 -- A stretch is read, and what was seen behind it is passed.
-use Rattle.std.proofs.Common.{◌∙◌, sym, refl, ◌-◌, arith, subst}
-use Rattle.iso_disk.proofs.Images.{length-contents}
-use Rattle.iso_disk.proofs.Moments.{joined_unwritten, starts_unwritten}
-use Rattle.version_read.specs.Fills.{IsFilled}
+use Rattle.version_read.proofs.Words.{◌∙◌, sym, refl, ◌-◌, arith, subst, length-contents, joined_unwritten, starts_unwritten, IsFilled}
 use Rattle.version_read.proofs.Fills.{count_more, filled_more, filled_none, filled_passed}
 use Rattle.version_read.proofs.Wanted.{unseen_le, unseen_none}
 use Rattle.version_read.proofs.block.fill.Goals as goal

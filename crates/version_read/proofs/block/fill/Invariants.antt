@@ -1,9 +1,5 @@
 -- The bytes so far are the image's where they were wanted.
-use Rattle.std.proofs.Common.{◌≡◌, ◌≤◌, ◌<◌, ◌-◌, false}
-use Rattle.std.specs.Option.{ForSome}
-use Rattle.iso_disk.specs.Disk.{WritesNothing}
-use Rattle.mv_index.specs.Masks.{is_seen}
-use Rattle.version_read.specs.Fills.{IsFilled}
+use Rattle.version_read.proofs.Words.{◌≡◌, ◌≤◌, ◌<◌, ◌-◌, false, ForSome, WritesNothing, is_seen, IsFilled}
 use Rattle.version_read.proofs.Wanted.{unseen}
 use Rattle.version_read.proofs.block.fill.Given as goal
 

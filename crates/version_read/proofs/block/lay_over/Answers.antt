@@ -1,10 +1,5 @@
 -- The next version is laid over what is there.
-use Rattle.std.proofs.Common.{◌≡◌, ◌∙◌, sym, ◌-◌, ◌+◌, List, take, arith, subst}
-use Rattle.std.proofs.lemmas.List.{take_all}
-use Rattle.iso_disk.proofs.Images.{length-contents}
-use Rattle.iso_disk.proofs.Moments.{joined_unwritten}
-use Rattle.mv_index.specs.declared.version.Version.{Version}
-use Rattle.version_read.specs.Blocks.{IsLaid}
+use Rattle.version_read.proofs.Words.{◌≡◌, ◌∙◌, sym, ◌-◌, ◌+◌, List, take, arith, subst, take_all, length-contents, joined_unwritten, Version, IsLaid}
 use Rattle.version_read.proofs.Layings.{laid_more}
 use Rattle.version_read.proofs.block.lay_over.Goals as goal
 

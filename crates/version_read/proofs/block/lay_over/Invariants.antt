@@ -1,8 +1,5 @@
 -- So many versions are laid over the block.
-use Rattle.std.proofs.Common.{◌≡◌, take}
-use Rattle.std.specs.Option.{ForSome}
-use Rattle.iso_disk.specs.Disk.{WritesNothing}
-use Rattle.version_read.specs.Blocks.{IsLaid}
+use Rattle.version_read.proofs.Words.{◌≡◌, take, ForSome, WritesNothing, IsLaid}
 use Rattle.version_read.proofs.block.lay_over.Given as goal
 
 abbrev pub invariant-loop-version : goal.invariant-loop-version

@@ -1,8 +1,5 @@
 -- One version more, and the base.
-use Rattle.std.proofs.Common.{◌≡◌, ◌∙◌, sym, refl, ◌-◌, ℕ, length, get_or, arith, subst, replicate}
-use Rattle.iso_disk.proofs.Moments.{joined_unwritten, starts_unwritten}
-use Rattle.mv_index.specs.Versions.{no_version}
-use Rattle.version_read.specs.Fills.{IsFilled}
+use Rattle.version_read.proofs.Words.{◌≡◌, ◌∙◌, sym, refl, ◌-◌, ℕ, length, get_or, arith, subst, replicate, joined_unwritten, starts_unwritten, no_version, IsFilled}
 use Rattle.version_read.proofs.Walks.{done_more, done_none, none_seen, right_more, walked, walked_whole}
 use Rattle.version_read.proofs.Wanted.{all_seen, unseen, unseen_all, unseen_marked}
 use Rattle.version_read.proofs.block.read_block.Goals as goal

@@ -1,7 +1,5 @@
 -- Where a byte was seen, it is the one that the versions show.
-use Rattle.std.proofs.Common.{◌≡◌, ◌≤◌, drop, length}
-use Rattle.std.specs.Option.{ForSome}
-use Rattle.iso_disk.specs.Disk.{WritesNothing}
+use Rattle.version_read.proofs.Words.{◌≡◌, ◌≤◌, drop, length, ForSome, WritesNothing}
 use Rattle.version_read.proofs.Walks.{AreDone, AreRight}
 use Rattle.version_read.proofs.Wanted.{unseen}
 use Rattle.version_read.proofs.block.read_block.Given as goal

@@ -1,6 +1,5 @@
 -- One part more.
-use Rattle.std.proofs.Common.{◌+◌, refl, get_or, arith}
-use Rattle.version_read.specs.Parts.{no_part}
+use Rattle.version_read.proofs.Words.{◌+◌, refl, get_or, arith, no_part}
 use Rattle.version_read.proofs.Additions.{added_more, place_fits, room_left, still_rises}
 use Rattle.version_read.proofs.index.add_parts.Goals as goal
 

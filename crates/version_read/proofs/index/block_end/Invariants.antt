@@ -1,6 +1,5 @@
 -- The parts so far are of the same block.
-use Rattle.std.proofs.Common.{◌≡◌, ◌-◌, ◌<◌, ◌≤◌, ℕ, get_or, length}
-use Rattle.version_read.specs.Parts.{no_part}
+use Rattle.version_read.proofs.Words.{◌≡◌, ◌-◌, ◌<◌, ◌≤◌, ℕ, get_or, length, no_part}
 use Rattle.version_read.proofs.index.block_end.Given as goal
 
 abbrev pub invariant-loop-stop : goal.invariant-loop-stop

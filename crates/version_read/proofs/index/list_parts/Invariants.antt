@@ -1,7 +1,5 @@
 -- The parts so far are listed, and the others follow.
-use Rattle.std.proofs.Common.{◌≡◌, ◌^◌, ◌<◌, ◌++◌, length, map}
-use Rattle.std.specs.List.{AllByRecursion}
-use Rattle.version_read.specs.Parts.{part_of}
+use Rattle.version_read.proofs.Words.{◌≡◌, ◌^◌, ◌<◌, ◌++◌, length, map, AllByRecursion, part_of}
 use Rattle.version_read.proofs.index.list_parts.Given as goal
 
 abbrev pub invariant-loop-part : goal.invariant-loop-part

@@ -1,7 +1,4 @@
-use Rattle.std.proofs.Common.{◌∙◌, ap}
-use Rattle.iso_model.specs.Array.{Array}
-use Rattle.iso_model.specs.Premises.{block_at}
-use Rattle.iso_image.specs.Half.{half_of}
+use Rattle.version_read.proofs.Words.{◌∙◌, ap, Array, block_at, half_of}
 use Rattle.version_read.proofs.Fetched.{array_of, fetched, last_of, newest}
 use Rattle.version_read.proofs.laws.blocks_are_those_of_the_history.Goals as goal
 

@@ -1,7 +1,4 @@
-use Rattle.mv_index.specs.Shown.{Lies}
-use Rattle.iso_model.specs.Geometry.{image_size}
-use Rattle.mv_index.specs.Versions.{no_version, upto, versions_in}
-use Rattle.mv_index.proofs.Sublists.{all_at}
+use Rattle.version_read.proofs.Words.{Lies, image_size, no_version, upto, versions_in, all_at}
 use Rattle.version_read.proofs.Lying.{all_lie, all_upto, base_lies}
 use Rattle.version_read.proofs.laws.versions_lie_in_the_image.Goals as goal
 

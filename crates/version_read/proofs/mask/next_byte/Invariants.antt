@@ -1,6 +1,5 @@
 -- The places so far have the other bit.
-use Rattle.std.proofs.Common.{◌≡◌, ℕ, ◌-◌, ◌<◌, ◌≤◌, not}
-use Rattle.mv_index.specs.Masks.{is_seen}
+use Rattle.version_read.proofs.Words.{◌≡◌, ℕ, ◌-◌, ◌<◌, ◌≤◌, not, is_seen}
 use Rattle.version_read.proofs.mask.next_byte.Given as goal
 
 abbrev pub invariant-loop-place : goal.invariant-loop-place

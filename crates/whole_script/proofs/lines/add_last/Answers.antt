@@ -1,6 +1,4 @@
-use Rattle.std.proofs.Common.{ap, sym, subst, Bool, ℕ, Some, ◌≡◌, ◌∙◌}
-use Rattle.script_model.specs.declared.script.BadLine.{BadLine}
-use Rattle.script_model.specs.Script.{last_piece}
+use Rattle.whole_script.proofs.Words.{ap, sym, subst, Bool, ℕ, Some, ◌≡◌, ◌∙◌, BadLine, last_piece}
 use Rattle.whole_script.proofs.LastPieces.{cut_bad}
 use Rattle.whole_script.proofs.lines.add_last.Goals as goal
 

@@ -1,9 +1,5 @@
-use Rattle.std.proofs.Common.{◌≡◌, ℕ, false, length, nat_le, subst, sym, ◌∙◌, arith, ap}
-use Rattle.std.proofs.lemmas.Bool.Decides.{nat_tests}
+use Rattle.whole_script.proofs.Words.{◌≡◌, ℕ, false, length, nat_le, subst, sym, ◌∙◌, arith, ap, nat_tests, MAX_INPUT, Script, IsWhyOf}
 use Rattle.std.proofs.lemmas.List.{length-append}
-use Rattle.iso_model.specs.declared.limits.TheConstants.{MAX_INPUT}
-use Rattle.script_model.specs.Script.{Script}
-use Rattle.whole_script.specs.Parts.{IsWhyOf}
 use Rattle.whole_script.proofs.WholeScripts.{all_read, bad_in, bad_last, first_more, script_is}
 use Rattle.whole_script.proofs.lines.parse_lines.Goals as goal
 

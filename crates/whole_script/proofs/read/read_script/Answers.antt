@@ -1,7 +1,4 @@
-use Rattle.std.proofs.Common.{◌<◌, ℕ, List, length, ap, sym, subst, ◌∙◌, arith}
-use Rattle.iso_model.specs.declared.limits.TheConstants.{MAX_INPUT}
-use Rattle.script_model.specs.Script.{script}
-use Rattle.whole_script.specs.Parts.{IsWhyOf}
+use Rattle.whole_script.proofs.Words.{◌<◌, ℕ, List, length, ap, sym, subst, ◌∙◌, arith, MAX_INPUT, script, IsWhyOf}
 use Rattle.whole_script.proofs.Reading.{no_lines}
 use Rattle.whole_script.proofs.read.read_script.Goals as goal
 

@@ -1,6 +1,4 @@
-use Rattle.std.proofs.Common.{◌∙◌, sym, ap, min, take, drop, length, Some, List, ℕ}
-use Rattle.script_model.specs.Bench.{bench_text}
-use Rattle.bench_script.specs.Ends.{DrawnState}
+use Rattle.bench_script.proofs.Words.{◌∙◌, sym, ap, min, take, drop, length, Some, List, ℕ, bench_text, DrawnState}
 use Rattle.bench_script.proofs.Pieces.{given_front, gives_to_end}
 use Rattle.bench_script.proofs.drawn_script.DrawnScriptSource.take.Goals as goal
 

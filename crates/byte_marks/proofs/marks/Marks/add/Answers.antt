@@ -1,7 +1,5 @@
 -- A span that begins behind the last run is one run more.
-use Rattle.std.proofs.Common.{◌≡◌, ◌+◌, ◌<◌, ◌≤◌, arith, List, ◌∷◌, ◌++◌, [], sym, subst}
-use Rattle.byte_marks.specs.declared.extent.Extent.{Extent}
-use Rattle.byte_marks.specs.Marks.{next_free, AreApartFrom}
+use Rattle.byte_marks.proofs.Words.{◌≡◌, ◌+◌, ◌<◌, ◌≤◌, arith, List, ◌∷◌, ◌++◌, [], sym, subst, Extent, next_free, AreApartFrom}
 use Rattle.byte_marks.proofs.Apart.{AreApartFrom-append}
 use Rattle.byte_marks.proofs.marks.Marks.add.Goals as goal
 

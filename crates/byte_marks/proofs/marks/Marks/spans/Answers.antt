@@ -1,9 +1,5 @@
 -- The spans of extents that do not touch are the maximal runs.
-use Rattle.std.proofs.Common.{◌≡◌, ◌∙◌, ap, subst, sym, List, map}
-use Rattle.std.specs.List.{list_any}
-use Rattle.iso_model.specs.declared.access.Span.{Span}
-use Rattle.iso_model.specs.Array.{in_span}
-use Rattle.byte_marks.specs.Marks.{has, span_of, AreRuns}
+use Rattle.byte_marks.proofs.Words.{◌≡◌, ◌∙◌, ap, subst, sym, List, map, list_any, Span, in_span, has, span_of, AreRuns}
 use Rattle.byte_marks.proofs.Apart.{runs_of, has_of_spans}
 use Rattle.byte_marks.proofs.marks.Marks.spans.Goals as goal
 

@@ -1,8 +1,6 @@
 -- What is left after the first extent still rises and does not touch.
 use Rattle.byte_marks.proofs.Apart.{earlier}
-use Rattle.std.proofs.Common.{◌+◌, arith, subst, List}
-use Rattle.byte_marks.specs.declared.extent.Extent.{Extent}
-use Rattle.byte_marks.specs.Marks.{AreApartFrom}
+use Rattle.byte_marks.proofs.Words.{◌+◌, arith, subst, List, Extent, AreApartFrom}
 use Rattle.byte_marks.proofs.span_iter.SpanIterIterator.next.Goals as goal
 
 pub invariant_of-self : goal.invariant_of-self

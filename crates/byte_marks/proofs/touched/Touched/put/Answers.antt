@@ -1,9 +1,5 @@
 -- A block that has an entry keeps it with more bytes; another gets one at its place.
-use Rattle.std.proofs.Common.{◌≡◌, ◌≢◌, ℕ, ◌<◌, ◌≤◌, ◌&&◌, ◌||◌, ◌==◌, ◌∙◌, sym, ap, subst, arith, List, length, get_or}
-use Rattle.std.proofs.lemmas.List.{get_or_read}
-use Rattle.byte_marks.specs.declared.extent.Extent.{Extent}
-use Rattle.byte_marks.specs.Marks.{has}
-use Rattle.byte_marks.specs.Touched.{touches, RisesFrom}
+use Rattle.byte_marks.proofs.Words.{◌≡◌, ◌≢◌, ℕ, ◌<◌, ◌≤◌, ◌&&◌, ◌||◌, ◌==◌, ◌∙◌, sym, ap, subst, arith, List, length, get_or, get_or_read, Extent, has, touches, RisesFrom}
 use Rattle.byte_marks.proofs.Blocks.{in_order, rises_set, touches_set, rises_insert, touches_insert}
 use Rattle.byte_marks.proofs.touched.Touched.put.Goals as goal
 use Rattle.byte_marks.proofs.touched.Touched.put.Goals.{else-place-len-via-then-place-len+else-index-block, else-place-len-via-else-place-len}

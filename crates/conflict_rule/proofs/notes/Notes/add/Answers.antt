@@ -1,6 +1,5 @@
 -- A number above all of them may follow.
-use Rattle.std.proofs.Common.{◌≡◌, ◌++◌, ◌∷◌, [], arith, length, ap, is_ok}
-use Rattle.conflict_rule.specs.Notes.{Held, Note}
+use Rattle.conflict_rule.proofs.Words.{◌≡◌, ◌++◌, ◌∷◌, [], arith, length, ap, is_ok, Held, Note}
 use Rattle.conflict_rule.proofs.Numbers.{rises-append, rises_either}
 use Rattle.conflict_rule.proofs.notes.Notes.add.Goals as goal
 

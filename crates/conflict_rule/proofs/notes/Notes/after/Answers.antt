@@ -1,7 +1,6 @@
 -- The notes above a number are those from a place on.
-use Rattle.std.proofs.Common.{◌≡◌, ◌∙◌, ◌-◌, ◌≤◌, ◌<◌, List, ap, arith, length, take, drop, sym, subst, length-drop}
-use Rattle.std.proofs.lemmas.List.{take_all}
-use Rattle.conflict_rule.specs.Notes.{Held, Note, above, note_of, RisesFrom}
+use Rattle.conflict_rule.proofs.Words.{◌≡◌, ◌∙◌, ◌-◌, ◌≤◌, ◌<◌, List, ap, arith, length, take, drop, sym, subst, take_all, Held, Note, above, note_of, RisesFrom}
+use Rattle.std.proofs.Common.{length-drop}
 use Rattle.conflict_rule.proofs.Numbers.{above_from, rises_above, held_above}
 use Rattle.conflict_rule.proofs.notes.Notes.after.Goals as goal
 

@@ -1,7 +1,5 @@
 -- The copied notes rise.
-use Rattle.std.proofs.Common.{◌≡◌, ◌∙◌, List, ap, sym, subst, take, arith}
-use Rattle.std.proofs.lemmas.List.{take_all}
-use Rattle.conflict_rule.specs.Notes.{Note, above, RisesFrom}
+use Rattle.conflict_rule.proofs.Words.{◌≡◌, ◌∙◌, List, ap, sym, subst, take, arith, take_all, Note, above, RisesFrom}
 use Rattle.conflict_rule.proofs.Numbers.{rises_above}
 use Rattle.conflict_rule.proofs.notes.Notes.copy_after.Goals as goal
 

@@ -1,6 +1,5 @@
 -- Those above the number are copied.
-use Rattle.std.proofs.Common.{◌≡◌, take}
-use Rattle.conflict_rule.specs.Notes.{above}
+use Rattle.conflict_rule.proofs.Words.{◌≡◌, take, above}
 use Rattle.conflict_rule.proofs.notes.Notes.copy_after.Given as goal
 
 abbrev pub invariant-loop-note : goal.invariant-loop-note

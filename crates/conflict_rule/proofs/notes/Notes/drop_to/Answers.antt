@@ -1,7 +1,5 @@
 -- What is kept are the notes above the floor.
-use Rattle.std.proofs.Common.{◌≡◌, ◌∙◌, ◌<◌, List, ap, arith, length, sym, subst, nat_lt, rules}
-use Rattle.std.proofs.lemmas.Fn.{filter_same}
-use Rattle.conflict_rule.specs.Notes.{Held, Note, above, RisesFrom}
+use Rattle.conflict_rule.proofs.Words.{◌≡◌, ◌∙◌, ◌<◌, List, ap, arith, length, sym, subst, nat_lt, rules, filter_same, Held, Note, above, RisesFrom}
 use Rattle.conflict_rule.proofs.Numbers.{above_from, rises_above}
 use Rattle.conflict_rule.proofs.notes.Notes.drop_to.Goals as goal
 

@@ -1,8 +1,5 @@
 -- The last note that is not above the number is that of the number, or there is none.
-use Rattle.std.proofs.Common.{◌≡◌, ◌≢◌, ◌∙◌, ℕ, ◌-◌, ◌<◌, ◌≤◌, List, ap, arith, length, get_or, sym, Some, None, inl, inr}
-use Rattle.std.proofs.lemmas.Bool.{cases_lt}
-use Rattle.std.proofs.lemmas.List.{get_or_default}
-use Rattle.conflict_rule.specs.Notes.{Held, Note, note_of, RisesFrom}
+use Rattle.conflict_rule.proofs.Words.{◌≡◌, ◌≢◌, ◌∙◌, ℕ, ◌-◌, ◌<◌, ◌≤◌, List, ap, arith, length, get_or, sym, Some, None, inl, inr, cases_lt, get_or_default, Held, Note, note_of, RisesFrom}
 use Rattle.conflict_rule.proofs.Numbers.{note_at, no_note, in_order}
 use Rattle.conflict_rule.proofs.notes.Notes.look_at.Goals as goal
 use Rattle.conflict_rule.proofs.notes.Notes.look_at.Goals.{else-place-gt0-via-then-place-gt0+else-index-number, else-place-gt0-via-else-place-gt0}

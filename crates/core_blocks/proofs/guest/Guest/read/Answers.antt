@@ -1,11 +1,4 @@
-use Rattle.std.proofs.Common.{◌≡◌, ◌∙◌, sym, ap, subst, arith, Some, Err}
-use Rattle.iso_model.specs.Array.{Array}
-use Rattle.iso_model.specs.Effect.{own}
-use Rattle.iso_model.specs.Premises.{block_at}
-use Rattle.iso_model.specs.Step.{read_access}
-use Rattle.iso_core.specs.Standing.{up}
-use Rattle.tx_table.specs.Work.{Doing}
-use Rattle.core_blocks.specs.Guests.{Seen}
+use Rattle.core_blocks.proofs.Words.{◌≡◌, ◌∙◌, sym, ap, subst, arith, Some, Err, Array, own, block_at, read_access, up, Doing, Seen}
 use Rattle.core_blocks.proofs.Guests.{access_keeps, counts_failed, counts_ok, goes_on, if_told, ready_keeps, told_still}
 use Rattle.core_blocks.proofs.guest.Guest.read.Goals as goal
 

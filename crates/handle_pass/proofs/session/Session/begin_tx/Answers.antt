@@ -1,7 +1,4 @@
-use Rattle.std.proofs.Common.{ap, subst, sym, ◌∙◌, ℕ, Some}
-use Rattle.conflict_rule.specs.declared.decision.Checked.{Checked}
-use Rattle.iso_shared.specs.declared.entry.Entry.TheVariants.{Begin}
-use Rattle.handle_pass.specs.Sessions.{checked_of, own_of, Made}
+use Rattle.handle_pass.proofs.Words.{ap, subst, sym, ◌∙◌, ℕ, Some, Checked, Begin, checked_of, own_of, Made}
 use Rattle.handle_pass.proofs.Entering.{is_none, made_new, made_port, new_own}
 use Rattle.handle_pass.proofs.session.Session.begin_tx.Goals as goal
 

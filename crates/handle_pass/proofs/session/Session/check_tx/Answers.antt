@@ -1,12 +1,6 @@
-use Rattle.std.proofs.Common.{ap, inl, inr, refl, subst, sym, ◌∙◌, ◌≡◌, Some}
-use Rattle.conflict_rule.specs.declared.decision.Checked.{Checked}
-use Rattle.turn_lock.specs.Pass.{view}
+use Rattle.handle_pass.proofs.Words.{ap, inl, inr, refl, subst, sym, ◌∙◌, ◌≡◌, Some, Checked, view, Entry, Recent, Refused, cause_of, checked_of, own_in, own_of}
 use Rattle.iso_shared.specs.declared.entry.Call.TheVariants.{Recent as OfRecent}
-use Rattle.iso_shared.specs.declared.entry.Entry.{Entry}
-use Rattle.iso_shared.specs.declared.entry.Entry.TheVariants.{Recent, Refused}
 use Rattle.iso_shared.specs.Ports.{Made}
-use Rattle.iso_shared.specs.Told.{cause_of}
-use Rattle.handle_pass.specs.Sessions.{checked_of, own_in, own_of}
 use Rattle.handle_pass.proofs.Entering.{made_kept, own_by_parts, own_same}
 use Rattle.handle_pass.proofs.session.Session.check_tx.Goals as goal
 

@@ -1,10 +1,4 @@
-use Rattle.std.proofs.Common.{ap, refl, subst, sym, ◌∙◌, ◌+◌, ◌≤◌, ℕ, Some}
-use Rattle.iso_model.specs.declared.core_error.CoreError.{CoreError}
-use Rattle.turn_lock.specs.Pass.{view}
-use Rattle.turn_lock.proofs.Prefixes.{prefix_self}
-use Rattle.iso_shared.specs.Ports.{most_steps}
-use Rattle.handle_pass.specs.Calls.{left_by}
-use Rattle.handle_pass.specs.Sessions.{checked_of, own_in, own_of}
+use Rattle.handle_pass.proofs.Words.{ap, refl, subst, sym, ◌∙◌, ◌+◌, ◌≤◌, ℕ, Some, CoreError, view, prefix_self, most_steps, left_by, checked_of, own_in, own_of}
 use Rattle.handle_pass.proofs.Entering.{left_kept, made_gone, made_kept, own_same}
 use Rattle.handle_pass.proofs.session.Session.end_tx.Goals as goal
 

@@ -1,7 +1,4 @@
-use Rattle.std.proofs.Common.{ap, refl, subst, sym, None, Option}
-use Rattle.turn_lock.specs.Pass.{view}
-use Rattle.handle_pass.specs.Calls.{EndsWith}
-use Rattle.handle_pass.specs.Sessions.{own_of, Own}
+use Rattle.handle_pass.proofs.Words.{ap, refl, subst, sym, None, Option, view, EndsWith, own_of, Own}
 use Rattle.handle_pass.proofs.Entering.{made_gone}
 use Rattle.handle_pass.proofs.session.Session.finish.Goals as goal
 

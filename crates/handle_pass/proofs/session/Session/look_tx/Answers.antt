@@ -1,6 +1,4 @@
-use Rattle.std.proofs.Common.{ap, sym, ◌∙◌}
-use Rattle.conflict_rule.specs.declared.decision.Checked.{Checked}
-use Rattle.handle_pass.specs.Sessions.{checked_of, own_in, own_of}
+use Rattle.handle_pass.proofs.Words.{ap, sym, ◌∙◌, Checked, checked_of, own_in, own_of}
 use Rattle.handle_pass.proofs.Entering.{is_none, made_new, made_port}
 use Rattle.handle_pass.proofs.session.Session.look_tx.Goals as goal
 

@@ -1,13 +1,6 @@
-use Rattle.std.proofs.Common.{ap, refl, subst, sym, ◌∙◌, Some}
-use Rattle.conflict_rule.specs.declared.decision.Checked.{Checked}
-use Rattle.turn_lock.specs.Pass.{view}
-use Rattle.turn_lock.proofs.Prefixes.{prefix_self}
+use Rattle.handle_pass.proofs.Words.{ap, refl, subst, sym, ◌∙◌, Some, Checked, view, prefix_self, Cause, Refused, post_cause, checked_of, own_in, own_of}
 use Rattle.iso_shared.specs.declared.entry.Call.TheVariants.{Post as OfPost}
-use Rattle.iso_shared.specs.declared.entry.Cause.{Cause}
-use Rattle.iso_shared.specs.declared.entry.Entry.TheVariants.{Refused}
 use Rattle.iso_shared.specs.Ports.{Made}
-use Rattle.iso_shared.specs.Told.{post_cause}
-use Rattle.handle_pass.specs.Sessions.{checked_of, own_in, own_of}
 use Rattle.handle_pass.proofs.Entering.{made_gone, made_kept, own_same}
 use Rattle.handle_pass.proofs.session.Session.post_tx.Goals as goal
 

@@ -1,18 +1,8 @@
-use Rattle.std.proofs.Common.{ap, refl, rules, subst, ◌∙◌, ◌≡◌, List, Some}
+use Rattle.handle_pass.proofs.Words.{ap, refl, rules, subst, ◌∙◌, ◌≡◌, List, Some, block_at, read_access, Entry, Fetch, Refused, IsLegal, cause_of, view, prefix_trans, with_access, own_in, own_of, Own}
 use Rattle.iso_model.specs.Effect as effect
-use Rattle.iso_model.specs.Premises.{block_at}
-use Rattle.iso_model.specs.Step.{read_access}
 use Rattle.iso_shared.specs.declared.entry.Call.TheVariants as call
 use Rattle.iso_shared.specs.declared.entry.Cause.TheVariants as cause
-use Rattle.iso_shared.specs.declared.entry.Entry.{Entry}
-use Rattle.iso_shared.specs.declared.entry.Entry.TheVariants.{Fetch, Refused}
-use Rattle.iso_shared.specs.Legal.{IsLegal}
 use Rattle.iso_shared.specs.Ports.{Made}
-use Rattle.iso_shared.specs.Told.{cause_of}
-use Rattle.turn_lock.specs.Pass.{view}
-use Rattle.turn_lock.proofs.Prefixes.{prefix_trans}
-use Rattle.handle_pass.specs.Accesses.{with_access}
-use Rattle.handle_pass.specs.Sessions.{own_in, own_of, Own}
 use Rattle.handle_pass.proofs.Entering.{down_by, fetched_is, made_kept, own_by_parts, own_same}
 use Rattle.handle_pass.proofs.session.Session.read_block.Goals as goal
 

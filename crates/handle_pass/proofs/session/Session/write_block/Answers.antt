@@ -1,7 +1,4 @@
-use Rattle.std.proofs.Common.{ap, ◌∙◌, ◌≡◌, Some}
-use Rattle.iso_model.specs.Step.{write_access}
-use Rattle.handle_pass.specs.Accesses.{with_access}
-use Rattle.handle_pass.specs.Sessions.{own_in, own_of}
+use Rattle.handle_pass.proofs.Words.{ap, ◌∙◌, ◌≡◌, Some, write_access, with_access, own_in, own_of}
 use Rattle.handle_pass.proofs.Entering.{own_by_parts, rested_by}
 use Rattle.handle_pass.proofs.session.Session.write_block.Goals as goal
 

@@ -1,5 +1,4 @@
-use Rattle.std.proofs.Common.{ap, sym, ◌∙◌}
-use Rattle.handle_pass.specs.Visits.{Seen}
+use Rattle.handle_pass.proofs.Words.{ap, sym, ◌∙◌, Seen}
 use Rattle.handle_pass.proofs.Looking.{tried}
 use Rattle.handle_pass.proofs.visitor.Visitor.fetch.Goals as goal
 

@@ -1,6 +1,4 @@
-use Rattle.std.proofs.Common.{subst}
-use Rattle.handle_pass.specs.Looks.{Marked}
-use Rattle.handle_pass.specs.Visits.{Seen, seen_by}
+use Rattle.handle_pass.proofs.Words.{subst, Marked, Seen, seen_by}
 use Rattle.handle_pass.proofs.Looking.{marked_by}
 use Rattle.handle_pass.proofs.visitor.Visitor.mark.Goals as goal
 

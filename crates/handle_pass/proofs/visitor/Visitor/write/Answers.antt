@@ -1,6 +1,4 @@
-use Rattle.std.proofs.Common.{ap, subst, sym, ◌∙◌}
-use Rattle.handle_pass.specs.Looks.{Wrote}
-use Rattle.handle_pass.specs.Visits.{Seen, seen_by}
+use Rattle.handle_pass.proofs.Words.{ap, subst, sym, ◌∙◌, Wrote, Seen, seen_by}
 use Rattle.handle_pass.proofs.Looking.{wrote}
 use Rattle.handle_pass.proofs.visitor.Visitor.write.Goals as goal
 

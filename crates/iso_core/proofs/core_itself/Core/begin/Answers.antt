@@ -1,8 +1,6 @@
-use Rattle.std.proofs.Common.{◌+◌, ◌++◌, ◌∷◌, []}
-use Rattle.iso_model.specs.Step.{mode_named}
+use Rattle.iso_core.proofs.Words.{◌+◌, ◌++◌, ◌∷◌, [], mode_named, up}
 use Rattle.iso_core.proofs.Begins.{begun}
 use Rattle.iso_core.proofs.Standings.{if_ok, stands_on}
-use Rattle.iso_core.specs.Standing.{up}
 use Rattle.iso_core.proofs.core_itself.Core.begin.Goals as goal
 
 pub returns-clause-begun : goal.returns-clause-begun

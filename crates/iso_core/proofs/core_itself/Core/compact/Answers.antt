@@ -1,14 +1,4 @@
-use Rattle.std.proofs.Common.{◌≡◌, ◌⊎◌, inl, inr, ap, subst, ℕ, IfOk, IfErr}
-use Rattle.iso_disk.proofs.Moments.{weakened}
-use Rattle.iso_model.specs.declared.access.Geometry.{Geometry}
-use Rattle.iso_model.specs.declared.core_error.CoreError.TheVariants.{Disk}
-use Rattle.iso_model.specs.declared.core_reply.CoreReply.{CoreReply}
-use Rattle.iso_model.specs.Step.{after_switch, switch_step}
-use Rattle.iso_model.specs.World.{floor}
-use Rattle.iso_core.specs.Calls.{Refuses}
-use Rattle.iso_core.specs.Core.{AreOf}
-use Rattle.iso_core.specs.Standing.{up}
-use Rattle.iso_core.specs.Switching.{HasForm}
+use Rattle.iso_core.proofs.Words.{◌≡◌, ◌⊎◌, inl, inr, ap, subst, ℕ, IfOk, IfErr, weakened, Geometry, Disk, CoreReply, after_switch, switch_step, floor, Refuses, AreOf, up, HasForm}
 use Rattle.iso_core.proofs.Plans.{own_form}
 use Rattle.iso_core.proofs.Standings.{up_of}
 use Rattle.iso_core.proofs.core_itself.Core.compact.Goals as goal

@@ -1,6 +1,4 @@
-use Rattle.std.proofs.Common.{sym, subst, ℕ}
-use Rattle.iso_core.specs.Core.{AllHold}
-use Rattle.iso_core.specs.Opening.{opened_world}
+use Rattle.iso_core.proofs.Words.{sym, subst, ℕ, AllHold, opened_world}
 use Rattle.iso_core.proofs.core_itself.Core.over.Goals as goal
 
 pub returns-clause-stands : goal.returns-clause-stands

@@ -1,8 +1,4 @@
-use Rattle.std.proofs.Common.{◌∙◌, refl, sym, subst, ◌≤◌, List, arith}
-use Rattle.conflict_rule.specs.Decision.{AreNotesAfter}
-use Rattle.conflict_rule.specs.Notes.{Note}
-use Rattle.conflict_rule.proofs.Following.{dropped_after}
-use Rattle.iso_model.specs.World.{floor}
+use Rattle.iso_core.proofs.Words.{◌∙◌, refl, sym, subst, ◌≤◌, List, arith, AreNotesAfter, Note, dropped_after, floor}
 use Rattle.iso_core.proofs.Leaves.{has_begun}
 use Rattle.iso_core.proofs.Numbers.{log_last}
 use Rattle.iso_core.proofs.core_itself.Core.recent.Goals as goal

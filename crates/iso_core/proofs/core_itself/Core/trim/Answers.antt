@@ -1,6 +1,4 @@
-use Rattle.std.proofs.Common.{Ok}
-use Rattle.iso_model.specs.World.{floor}
-use Rattle.iso_core.specs.Standing.{up}
+use Rattle.iso_core.proofs.Words.{Ok, floor, up}
 use Rattle.iso_core.proofs.Standings.{stands_on}
 use Rattle.iso_core.proofs.core_itself.Core.trim.Goals as goal
 

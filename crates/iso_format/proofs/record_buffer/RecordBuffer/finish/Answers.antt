@@ -1,7 +1,4 @@
-use Rattle.std.proofs.Common.{◌≡◌, ℕ, ◌+◌, ◌-◌, ◌++◌, [], length, take, drop, ap, ◌∙◌, arith}
-use Rattle.iso_model.specs.Image.{body_length, spell}
-use Rattle.iso_format.specs.Spelled.{Spelled, spelled}
-use Rattle.iso_format.specs.Writing.{head}
+use Rattle.iso_format.proofs.Words.{◌≡◌, ℕ, ◌+◌, ◌-◌, ◌++◌, [], length, take, drop, ap, ◌∙◌, arith, body_length, spell, Spelled, spelled, head}
 use Rattle.iso_format.proofs.Parts.{body_bound, count_bound}
 use Rattle.iso_format.proofs.Buffers.{finished, finished_is, parts_length, parts_count}
 use Rattle.iso_format.proofs.record_buffer.RecordBuffer.finish.Goals as goal

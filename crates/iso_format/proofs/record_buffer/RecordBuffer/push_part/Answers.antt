@@ -1,6 +1,4 @@
-use Rattle.std.proofs.Common.{◌+◌, ◌++◌, ◌∷◌, [], subst, ap, sym, ◌∙◌, arith}
-use Rattle.iso_model.specs.declared.access.Run.{Run}
-use Rattle.iso_format.specs.Spelled.{HoldsParts, Spelled, spelled}
+use Rattle.iso_format.proofs.Words.{◌+◌, ◌++◌, ◌∷◌, [], subst, ap, sym, ◌∙◌, arith, Run, HoldsParts, Spelled, spelled}
 use Rattle.iso_format.proofs.Buffers.{IsPushed, pushed, count_less}
 use Rattle.iso_format.proofs.record_buffer.RecordBuffer.push_part.Goals as goal
 

@@ -1,5 +1,4 @@
-use Rattle.std.proofs.Common.{◌≡◌, List, ℕ, length, length-drop, arith, ap, sym, ◌∙◌}
-use Rattle.iso_disk.proofs.Images.{length-contents}
+use Rattle.iso_log.proofs.Words.{◌≡◌, List, ℕ, length, length-drop, arith, ap, sym, ◌∙◌, length-contents}
 use Rattle.iso_log.proofs.Pieces.{stand_either}
 use Rattle.iso_log.proofs.ahead.ReadAhead.ask.Goals as goal
 

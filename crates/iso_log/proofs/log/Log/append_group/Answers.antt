@@ -1,7 +1,4 @@
-use Rattle.std.proofs.Common.{◌++◌, ℕ, sym, ◌∙◌, subst}
-use Rattle.commit_gate.specs.Gate.{IsClosed}
-use Rattle.iso_log.specs.Extent.{Extent}
-use Rattle.iso_log.specs.Log.{HasTold}
+use Rattle.iso_log.proofs.Words.{◌++◌, ℕ, sym, ◌∙◌, subst, IsClosed, Extent, HasTold}
 use Rattle.iso_log.proofs.Groups.{opens, some_bytes, closed_next, gate_is, short_is, grown_is, told_run, told_end, held_run, held_end, held_extent}
 use Rattle.iso_log.proofs.log.Log.append_group.Goals as goal
 

@@ -1,7 +1,4 @@
-use Rattle.std.proofs.Common.{◌≡◌, ◌+◌, ◌-◌, ◌++◌, ℕ, List, Err, take, drop, arith, ap, sym, ◌∙◌, subst}
-use Rattle.iso_log.specs.declared.log_error.LogError.TheVariants.{Damaged}
-use Rattle.iso_log.specs.Extent.{Extent, next_place}
-use Rattle.iso_log.specs.Scan.{StandAt}
+use Rattle.iso_log.proofs.Words.{◌≡◌, ◌+◌, ◌-◌, ◌++◌, ℕ, List, Err, take, drop, arith, ap, sym, ◌∙◌, subst, Damaged, Extent, next_place, StandAt}
 use Rattle.iso_log.proofs.Finds.{error_is, damaged_here, stands_here}
 use Rattle.iso_log.proofs.Pieces.{stand_front, stand_behind}
 use Rattle.iso_log.proofs.log.Log.scan_ahead.Goals as goal

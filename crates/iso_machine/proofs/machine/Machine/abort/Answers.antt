@@ -1,17 +1,7 @@
-use Rattle.std.proofs.Common.{◌≡◌, sym, refl, ap, subst, ℕ, List, Option, Some, None, Ok, ◌<◌, length, get_or}
+use Rattle.iso_machine.proofs.Words.{◌≡◌, sym, refl, ap, subst, ℕ, List, Option, Some, None, Ok, ◌<◌, length, get_or, after_leaving, in_transaction, step, World, Live, attached, IsTx, disk_of, up, Attached, Answers, AreOf, live_of, shows}
 use Rattle.script_model.specs.declared.script.Op.TheVariants as op
 use Rattle.script_model.specs.declared.script.Reply.TheVariants as reply
-use Rattle.iso_model.specs.Step.{after_leaving}
-use Rattle.script_model.specs.Step.{in_transaction, step}
-use Rattle.iso_model.specs.World.{World, Live, attached}
-use Rattle.iso_core.specs.Calls.{IsTx}
-use Rattle.iso_core.specs.Core.{disk_of}
-use Rattle.iso_core.specs.Standing.{up}
-use Rattle.iso_machine.specs.declared.attached.Attached.{Attached}
-use Rattle.iso_machine.specs.Answering.{Answers}
-use Rattle.iso_machine.specs.Standing.{AreOf, live_of}
 use Rattle.iso_machine.proofs.Machines.{attached_none, attached_some, is_tx, left}
-use Rattle.iso_machine.specs.Shown.{shows}
 use Rattle.iso_machine.proofs.Quiet.{quiet}
 use Rattle.iso_machine.proofs.machine.Machine.abort.Goals as goal
 

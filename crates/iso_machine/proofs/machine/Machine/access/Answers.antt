@@ -1,17 +1,6 @@
-use Rattle.std.proofs.Common.{◌≡◌, sym, ap, subst, List, Option, Some, ◌<◌, length, get_or, set}
-use Rattle.script_model.specs.declared.script.Reply.{Reply}
+use Rattle.iso_machine.proofs.Words.{◌≡◌, sym, ap, subst, List, Option, Some, ◌<◌, length, get_or, set, Reply, in_transaction, World, Live, attached, IsTx, disk_of, Doing, Attached, IsActive, act_step, Answers, AreOf, live_of, shows}
 use Rattle.script_model.specs.declared.script.Reply.TheVariants as reply
-use Rattle.script_model.specs.Step.{in_transaction}
-use Rattle.iso_model.specs.World.{World, Live, attached}
-use Rattle.iso_core.specs.Calls.{IsTx}
-use Rattle.iso_core.specs.Core.{disk_of}
-use Rattle.tx_table.specs.Work.{Doing}
-use Rattle.iso_machine.specs.declared.attached.Attached.{Attached}
-use Rattle.iso_machine.specs.Accessing.{IsActive, act_step}
-use Rattle.iso_machine.specs.Answering.{Answers}
-use Rattle.iso_machine.specs.Standing.{AreOf, live_of}
 use Rattle.iso_machine.proofs.Machines.{attached_none, attached_some, act_leads, is_active, is_tx, worked_on}
-use Rattle.iso_machine.specs.Shown.{shows}
 use Rattle.iso_machine.proofs.Quiet.{acted, quiet}
 use Rattle.iso_machine.proofs.machine.Machine.access.Goals as goal
 

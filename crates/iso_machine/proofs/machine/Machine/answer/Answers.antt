@@ -1,18 +1,6 @@
-use Rattle.std.proofs.Common.{◌≡◌, ◌∙◌, ◌⊎◌, inl, inr, sym, refl, ap, subst, ℕ, List, Ok}
-use Rattle.script_model.specs.declared.script.Op.{Op}
+use Rattle.iso_machine.proofs.Words.{◌≡◌, ◌∙◌, ◌⊎◌, inl, inr, sym, refl, ap, subst, ℕ, List, Ok, Op, Reply, hash_delete_step, hash_get_step, hash_put_step, in_transaction, numbers, step, store_step, tree_put_step, tree_get_step, tree_delete_step, tree_scan_step, World, attached, IsOp, disk_of, act_step, Answers, AnswersTold, shows, AreOf, store_act, IsPlain}
 use Rattle.script_model.specs.declared.script.Op.TheVariants as op
-use Rattle.script_model.specs.declared.script.Reply.{Reply}
-use Rattle.script_model.specs.Step.{hash_delete_step, hash_get_step, hash_put_step, in_transaction, numbers, step, store_step, tree_put_step, tree_get_step, tree_delete_step, tree_scan_step}
-use Rattle.iso_model.specs.World.{World, attached}
-use Rattle.script_model.specs.Operations.{IsOp}
-use Rattle.iso_core.specs.Core.{disk_of}
-use Rattle.iso_machine.specs.Accessing.{act_step}
-use Rattle.iso_machine.specs.Answering.{Answers, AnswersTold}
-use Rattle.iso_machine.specs.Shown.{shows}
-use Rattle.iso_machine.specs.Standing.{AreOf}
-use Rattle.iso_machine.specs.Storing.{store_act}
 use Rattle.iso_machine.proofs.Quiet.{quiet}
-use Rattle.script_runner.specs.Told.{IsPlain}
 use Rattle.iso_machine.proofs.Told.{never_plain, told_so}
 use Rattle.iso_machine.proofs.machine.Machine.answer.Goals as goal
 

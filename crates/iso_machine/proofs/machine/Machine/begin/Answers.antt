@@ -1,29 +1,8 @@
-use Rattle.std.proofs.Common.{◌≡◌, ◌∙◌, sym, ap, subst, List, [], ◌∷◌, ◌++◌, Some, None, Ok, Result, get_or, IsTrue}
-use Rattle.iso_model.specs.declared.access.Geometry.{Geometry}
-use Rattle.iso_model.specs.declared.core_reply.CoreReply.{CoreReply}
+use Rattle.iso_machine.proofs.Words.{◌≡◌, ◌∙◌, sym, ap, subst, List, [], ◌∷◌, ◌++◌, Some, None, Ok, Result, get_or, IsTrue, Geometry, CoreReply, Reply, is_block_size, last, after_begin, begin_step, mode_named, as_step, step, World, client, unattached, IsWorld, step_leads, Core, Refuses, disk_of, up, Doing, Stop, Attached, Answers, answer_to, shows, AreOf, IsSized, live_of}
 use Rattle.iso_model.specs.declared.core_reply.CoreReply.TheVariants as core
 use Rattle.script_model.specs.declared.script.Op.TheVariants as op
-use Rattle.script_model.specs.declared.script.Reply.{Reply}
 use Rattle.script_model.specs.declared.script.Reply.TheVariants as reply
-use Rattle.iso_model.specs.Geometry.{is_block_size}
-use Rattle.iso_model.specs.History.{last}
-use Rattle.iso_model.specs.Step.{after_begin, begin_step, mode_named}
-use Rattle.script_model.specs.CoreReplies.{as_step}
-use Rattle.script_model.specs.Step.{step}
-use Rattle.iso_model.specs.World.{World, client, unattached}
-use Rattle.iso_model.specs.Worlds.{IsWorld}
-use Rattle.script_model.proofs.Steps.{step_leads}
-use Rattle.iso_core.specs.declared.core_itself.Core.{Core}
-use Rattle.iso_core.specs.Calls.{Refuses}
-use Rattle.iso_core.specs.Core.{disk_of}
-use Rattle.iso_core.specs.Standing.{up}
-use Rattle.tx_table.specs.Work.{Doing}
-use Rattle.script_model.specs.declared.stop.Stop.{Stop}
-use Rattle.iso_machine.specs.declared.attached.Attached.{Attached}
 use Rattle.iso_machine.specs.declared.attached.Spot.TheVariants as spot
-use Rattle.iso_machine.specs.Answering.{Answers, answer_to}
-use Rattle.iso_machine.specs.Shown.{shows}
-use Rattle.iso_machine.specs.Standing.{AreOf, IsSized, live_of}
 use Rattle.iso_machine.proofs.Begins.{began_at, begin_is, begin_keeps, begins_alike, has_begun, valid_block}
 use Rattle.iso_machine.proofs.Lists.{pick}
 use Rattle.iso_machine.proofs.Machines.{attached_none, attached_some, begun}

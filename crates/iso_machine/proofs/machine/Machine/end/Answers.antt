@@ -1,21 +1,6 @@
-use Rattle.std.proofs.Common.{◌≡◌, ◌∙◌, sym, ap, subst, ◌<◌, List, Some, None, Ok, Result, IsSome, length, get_or, set}
-use Rattle.std.specs.List.{remove}
+use Rattle.iso_machine.proofs.Words.{◌≡◌, ◌∙◌, sym, ap, subst, ◌<◌, List, Some, None, Ok, Result, IsSome, length, get_or, set, remove, Reply, as_reply, as_step, end_step, step, World, IsTx, IsWorkOf, disk_of, Doing, Stop, Attached, IsActive, Answers, answer_to, shows, AreOf, live_of}
 use Rattle.script_model.specs.declared.script.Op.TheVariants as op
-use Rattle.script_model.specs.declared.script.Reply.{Reply}
 use Rattle.script_model.specs.declared.script.Reply.TheVariants as reply
-use Rattle.script_model.specs.CoreReplies.{as_reply, as_step}
-use Rattle.iso_model.specs.Step.{end_step}
-use Rattle.script_model.specs.Step.{step}
-use Rattle.iso_model.specs.World.{World}
-use Rattle.iso_core.specs.Calls.{IsTx, IsWorkOf}
-use Rattle.iso_core.specs.Core.{disk_of}
-use Rattle.tx_table.specs.Work.{Doing}
-use Rattle.script_model.specs.declared.stop.Stop.{Stop}
-use Rattle.iso_machine.specs.declared.attached.Attached.{Attached}
-use Rattle.iso_machine.specs.Accessing.{IsActive}
-use Rattle.iso_machine.specs.Answering.{Answers, answer_to}
-use Rattle.iso_machine.specs.Shown.{shows}
-use Rattle.iso_machine.specs.Standing.{AreOf, live_of}
 use Rattle.iso_machine.proofs.Accesses.{prepared}
 use Rattle.iso_machine.proofs.Endings.{end_is, end_keeps, has_gone, unwritten}
 use Rattle.iso_machine.proofs.Lists.{remove_set}

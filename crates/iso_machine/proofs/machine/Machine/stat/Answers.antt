@@ -1,8 +1,5 @@
-use Rattle.std.proofs.Common.{ap}
+use Rattle.iso_machine.proofs.Words.{ap, numbers, Stat, up}
 use Rattle.script_model.specs.declared.script.Reply.TheVariants as reply
-use Rattle.script_model.specs.Step.{numbers}
-use Rattle.iso_core.specs.declared.answers.Stat.{Stat}
-use Rattle.iso_core.specs.Standing.{up}
 use Rattle.iso_machine.proofs.machine.Machine.stat.Goals as goal
 
 pub returns : goal.returns

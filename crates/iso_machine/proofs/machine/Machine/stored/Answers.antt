@@ -1,20 +1,6 @@
-use Rattle.std.proofs.Common.{◌≡◌, sym, ap, subst, List, Option, Some, ◌<◌, ◌≤◌, length, get_or, set, Ok}
-use Rattle.script_model.specs.declared.script.Reply.{Reply}
+use Rattle.iso_machine.proofs.Words.{◌≡◌, sym, ap, subst, List, Option, Some, ◌<◌, ◌≤◌, length, get_or, set, Ok, Reply, in_transaction, World, Live, attached, IsWorld, accesses_are, live_at, IsTx, disk_of, Doing, Attached, IsActive, IsWorkedTo, AnswersTold, AreOf, live_of, store_act, shows}
 use Rattle.script_model.specs.declared.script.Reply.TheVariants as reply
-use Rattle.script_model.specs.Step.{in_transaction}
-use Rattle.iso_model.specs.World.{World, Live, attached}
-use Rattle.iso_model.specs.Worlds.{IsWorld}
-use Rattle.iso_model.proofs.Worlds.{accesses_are, live_at}
-use Rattle.iso_core.specs.Calls.{IsTx}
-use Rattle.iso_core.specs.Core.{disk_of}
-use Rattle.tx_table.specs.Work.{Doing}
-use Rattle.iso_machine.specs.declared.attached.Attached.{Attached}
-use Rattle.iso_machine.specs.Accessing.{IsActive, IsWorkedTo}
-use Rattle.iso_machine.specs.Answering.{AnswersTold}
-use Rattle.iso_machine.specs.Standing.{AreOf, live_of}
-use Rattle.iso_machine.specs.Storing.{store_act}
 use Rattle.iso_machine.proofs.Machines.{attached_none, attached_some, is_active, is_tx, worked_on}
-use Rattle.iso_machine.specs.Shown.{shows}
 use Rattle.iso_machine.proofs.Quiet.{quiet}
 use Rattle.iso_machine.proofs.Told.{store_keeps, stored_so, told_so}
 use Rattle.iso_machine.proofs.machine.Machine.stored.Goals as goal

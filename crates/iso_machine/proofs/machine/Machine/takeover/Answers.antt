@@ -1,19 +1,7 @@
-use Rattle.std.proofs.Common.{◌≡◌, ◌∙◌, sym, refl, ap, subst, ℕ, ◌<◌, List, Some, None, Ok, length, get_or, set}
+use Rattle.iso_machine.proofs.Words.{◌≡◌, ◌∙◌, sym, refl, ap, subst, ℕ, ◌<◌, List, Some, None, Ok, length, get_or, set, Reply, placed, step, World, client, held, IsWorld, step_leads, disk_of, Doing, Attached, Answers, shows, AreOf, IsSized, live_of}
 use Rattle.script_model.specs.declared.script.Op.TheVariants as op
-use Rattle.script_model.specs.declared.script.Reply.{Reply}
 use Rattle.script_model.specs.declared.script.Reply.TheVariants as reply
-use Rattle.iso_model.specs.Step.{placed}
-use Rattle.script_model.specs.Step.{step}
-use Rattle.iso_model.specs.World.{World, client, held}
-use Rattle.iso_model.specs.Worlds.{IsWorld}
-use Rattle.script_model.proofs.Steps.{step_leads}
-use Rattle.iso_core.specs.Core.{disk_of}
-use Rattle.tx_table.specs.Work.{Doing}
-use Rattle.iso_machine.specs.declared.attached.Attached.{Attached}
 use Rattle.iso_machine.specs.declared.attached.Spot.TheVariants as spot
-use Rattle.iso_machine.specs.Answering.{Answers}
-use Rattle.iso_machine.specs.Shown.{shows}
-use Rattle.iso_machine.specs.Standing.{AreOf, IsSized, live_of}
 use Rattle.iso_machine.proofs.Lists.{all_at, pick}
 use Rattle.iso_machine.proofs.Machines.{attached_none, attached_some, changed, held_none, held_some, takeover_is}
 use Rattle.iso_machine.proofs.Quiet.{quiet}

@@ -1,13 +1,6 @@
-use Rattle.std.proofs.Common.{◌≡◌, ◌∙◌, sym, refl, ap, subst, ℕ, Ok}
+use Rattle.iso_machine.proofs.Words.{◌≡◌, ◌∙◌, sym, refl, ap, subst, ℕ, Ok, after_trim, step, World, floor, disk_of, Answers, shows, AreOf}
 use Rattle.script_model.specs.declared.script.Op.TheVariants as op
 use Rattle.script_model.specs.declared.script.Reply.TheVariants as reply
-use Rattle.iso_model.specs.Step.{after_trim}
-use Rattle.script_model.specs.Step.{step}
-use Rattle.iso_model.specs.World.{World, floor}
-use Rattle.iso_core.specs.Core.{disk_of}
-use Rattle.iso_machine.specs.Answering.{Answers}
-use Rattle.iso_machine.specs.Shown.{shows}
-use Rattle.iso_machine.specs.Standing.{AreOf}
 use Rattle.iso_machine.proofs.Quiet.{quiet}
 use Rattle.iso_machine.proofs.machine.Machine.trim.Goals as goal
 

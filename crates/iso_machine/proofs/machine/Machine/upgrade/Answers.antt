@@ -1,17 +1,7 @@
-use Rattle.std.proofs.Common.{◌≡◌, ◌∙◌, inl, sym, ap, subst, Result, Ok}
-use Rattle.iso_disk.proofs.Moments.{weakened}
+use Rattle.iso_machine.proofs.Words.{◌≡◌, ◌∙◌, inl, sym, ap, subst, Result, Ok, weakened, Reply, after_switch, as_step, step, World, floor, disk_of, Stop, Answers, answer_to, AreOf}
 use Rattle.script_model.specs.declared.script.Op.TheVariants as op
-use Rattle.script_model.specs.declared.script.Reply.{Reply}
 use Rattle.script_model.specs.declared.script.Reply.TheVariants as reply
 use Rattle.iso_model.specs.declared.core_reply.CoreReply.TheVariants as core
-use Rattle.iso_model.specs.Step.{after_switch}
-use Rattle.script_model.specs.CoreReplies.{as_step}
-use Rattle.script_model.specs.Step.{step}
-use Rattle.iso_model.specs.World.{World, floor}
-use Rattle.iso_core.specs.Core.{disk_of}
-use Rattle.script_model.specs.declared.stop.Stop.{Stop}
-use Rattle.iso_machine.specs.Answering.{Answers, answer_to}
-use Rattle.iso_machine.specs.Standing.{AreOf}
 use Rattle.iso_machine.proofs.Quiet.{answered}
 use Rattle.iso_machine.proofs.Switches.{upgrade_is, switch_refused, switched}
 use Rattle.iso_machine.proofs.machine.Machine.upgrade.Goals as goal

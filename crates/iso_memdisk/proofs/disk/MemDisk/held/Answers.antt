@@ -1,6 +1,4 @@
-use Rattle.std.proofs.Common.{Vec, ℕ, Option, length, sym, ◌∙◌, ap}
-use Rattle.std.specs.declared.alloc.Global.{Global}
-use Rattle.iso_memdisk.specs.Held.{held}
+use Rattle.iso_memdisk.proofs.Words.{Vec, ℕ, Option, length, sym, ◌∙◌, ap, Global, held}
 use Rattle.iso_memdisk.proofs.Calls.{length-written}
 use Rattle.iso_memdisk.proofs.disk.MemDisk.held.Goals as goal
 

@@ -1,8 +1,4 @@
-use Rattle.std.proofs.Common.{List, [], ◌∷◌, ◌++◌, ◌≡◌, length, is_ok, sym, ◌∙◌, ap, subst}
-use Rattle.iso_memdisk.specs.declared.record.Call.{Call}
-use Rattle.iso_memdisk.specs.declared.record.Call.TheVariants.{Sync}
-use Rattle.iso_memdisk.specs.Held.{held}
-use Rattle.iso_memdisk.specs.Record.{written, AllFit}
+use Rattle.iso_memdisk.proofs.Words.{List, [], ◌∷◌, ◌++◌, ◌≡◌, length, is_ok, sym, ◌∙◌, ap, subst, Call, Sync, held, written, AllFit}
 use Rattle.iso_memdisk.proofs.Calls.{AllFit-if, AllFit-sync, written-if, written-append}
 use Rattle.iso_memdisk.proofs.disk.MemDisk.try_sync.Goals as goal
 

@@ -1,13 +1,4 @@
-use Rattle.std.proofs.Common.{Vec, ℕ, Option, List, [], ◌∷◌, ◌++◌, ◌≡◌, ◌+◌, length, take, drop, sym, ◌∙◌, ap, subst, arith, rules}
-use Rattle.std.proofs.lemmas.List.{with_items_is}
-use Rattle.std.specs.declared.alloc.Global.{Global}
-use Rattle.iso_model.specs.Premises.{AreBytes}
-use Rattle.iso_model.proofs.ByteLists.{bytes_append, bytes_drop, bytes_take}
-use Rattle.iso_disk.specs.Disk.{spliced}
-use Rattle.iso_memdisk.specs.declared.record.Call.{Call}
-use Rattle.iso_memdisk.specs.declared.record.Call.TheVariants.{Write}
-use Rattle.iso_memdisk.specs.Held.{held}
-use Rattle.iso_memdisk.specs.Record.{written, AllFit}
+use Rattle.iso_memdisk.proofs.Words.{Vec, ℕ, Option, List, [], ◌∷◌, ◌++◌, ◌≡◌, ◌+◌, length, take, drop, sym, ◌∙◌, ap, subst, arith, rules, with_items_is, Global, AreBytes, bytes_append, bytes_drop, bytes_take, spliced, Call, Write, held, written, AllFit}
 use Rattle.iso_memdisk.proofs.Calls.{AllFit-push, written-append, length-written}
 use Rattle.iso_memdisk.proofs.disk.MemDisk.try_write.Goals as goal
 

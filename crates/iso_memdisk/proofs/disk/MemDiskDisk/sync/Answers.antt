@@ -1,7 +1,4 @@
-use Rattle.std.proofs.Common.{◌∙◌, ap, arith}
-use Rattle.iso_memdisk.specs.declared.failures.Failures.{Failures}
-use Rattle.iso_memdisk.specs.declared.record.Call.TheVariants.{Sync}
-use Rattle.iso_memdisk.specs.MemDisk.{Appends}
+use Rattle.iso_memdisk.proofs.Words.{◌∙◌, ap, arith, Failures, Sync, Appends}
 use Rattle.iso_memdisk.proofs.Moves.{elapses_sync, contents_sync, settled_sync}
 use Rattle.iso_memdisk.proofs.disk.MemDiskDisk.sync.Goals as goal
 

@@ -1,8 +1,4 @@
-use Rattle.std.proofs.Common.{◌∙◌, ap, refl, arith}
-use Rattle.iso_disk.proofs.Images.{torn_from_old}
-use Rattle.iso_memdisk.specs.declared.failures.Failures.{Failures}
-use Rattle.iso_memdisk.specs.declared.record.Call.TheVariants.{Write}
-use Rattle.iso_memdisk.specs.MemDisk.{Appends}
+use Rattle.iso_memdisk.proofs.Words.{◌∙◌, ap, refl, arith, torn_from_old, Failures, Write, Appends}
 use Rattle.iso_memdisk.proofs.Moves.{elapses_untouched, elapses_write, contents_write, torn_now}
 use Rattle.iso_memdisk.proofs.disk.MemDiskDisk.write.Goals as goal
 

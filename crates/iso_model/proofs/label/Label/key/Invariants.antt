@@ -1,6 +1,5 @@
 -- The bytes from a place on, so far.
-use Rattle.std.proofs.Common.{◌≡◌, ◌≤◌, drop, length}
-use Rattle.iso_model.specs.Labels.{key_of}
+use Rattle.iso_model.proofs.Words.{◌≡◌, ◌≤◌, drop, length, key_of}
 use Rattle.iso_model.proofs.label.Label.key.Given as goal
 
 abbrev pub invariant-loop-at : goal.invariant-loop-at

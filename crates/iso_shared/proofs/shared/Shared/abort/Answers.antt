@@ -1,8 +1,4 @@
-use Rattle.std.proofs.Common.{inl, [], ap, refl, ◌∙◌}
-use Rattle.turn_lock.proofs.Prefixes.{prefix_trans}
-use Rattle.iso_shared.specs.declared.entry.Entry.TheVariants.{Abort}
-use Rattle.iso_shared.specs.Standing.{standing_of}
-use Rattle.iso_shared.specs.States.{state_at, tx_of}
+use Rattle.iso_shared.proofs.Words.{inl, [], ap, refl, ◌∙◌, prefix_trans, Abort, standing_of, state_at, tx_of}
 use Rattle.iso_shared.proofs.Cores.{did_abort, is_tx}
 use Rattle.iso_shared.proofs.Giving.{core_at, stands_call, from_lent}
 use Rattle.iso_shared.proofs.Mades.{both_by, held_same}

@@ -1,20 +1,6 @@
-use Rattle.std.proofs.Common.{inl, ◌≡◌, [], ◌∷◌, ◌++◌, ap, refl, sym, subst, arith, ◌∙◌, rules, None, ℕ, IsTrue}
-use Rattle.std.specs.Prelude.{unwrap_or}
-use Rattle.conflict_rule.specs.declared.decision.Checked.{Checked}
-use Rattle.iso_model.specs.declared.access.Mode.{Mode}
-use Rattle.iso_model.specs.Geometry.{is_block_size}
-use Rattle.turn_lock.proofs.Outs.{held_first}
-use Rattle.turn_lock.specs.Numbers.{held_after}
-use Rattle.turn_lock.specs.declared.view.View.{View}
-use Rattle.tx_table.specs.Work.{Doing}
+use Rattle.iso_shared.proofs.Words.{inl, ◌≡◌, [], ◌∷◌, ◌++◌, ap, refl, sym, subst, arith, ◌∙◌, rules, None, ℕ, IsTrue, unwrap_or, Checked, Mode, is_block_size, held_first, held_after, View, Doing, Entry, IsLegal, handed, returned, IsAhead, IsOwn, faults_of, standing_of, opened, state_at, begin_entry}
 use Rattle.iso_shared.specs.declared.entry.Call.TheVariants as call
-use Rattle.iso_shared.specs.declared.entry.Entry.{Entry}
 use Rattle.iso_shared.specs.declared.entry.Entry.TheVariants as entry
-use Rattle.iso_shared.specs.Legal.{IsLegal, handed, returned}
-use Rattle.iso_shared.specs.Ports.{IsAhead, IsOwn}
-use Rattle.iso_shared.specs.Standing.{faults_of, standing_of}
-use Rattle.iso_shared.specs.States.{opened, state_at}
-use Rattle.iso_shared.specs.Told.{begin_entry}
 use Rattle.iso_shared.proofs.Begins.{began_ahead, began_own, begun_mode, block_size}
 use Rattle.iso_shared.proofs.Cores.{did_begin}
 use Rattle.iso_shared.proofs.Follows.{follows_all}

@@ -1,9 +1,6 @@
-use Rattle.std.proofs.Common.{Err, IfErr, ap, refl, sym, ◌≢◌, ◌∙◌, rules, subst}
+use Rattle.iso_shared.proofs.Words.{Err, IfErr, ap, refl, sym, ◌≢◌, ◌∙◌, rules, subst, Doing, Entry, Made, TookFew, end_entry}
 use Rattle.iso_model.specs.declared.core_error.CoreError.TheVariants.{Disk as OfDisk}
-use Rattle.tx_table.specs.Work.{Doing}
-use Rattle.iso_shared.specs.declared.entry.Entry.{Entry}
-use Rattle.iso_shared.specs.Ports.{IsTx, Made, TookFew}
-use Rattle.iso_shared.specs.Told.{end_entry}
+use Rattle.iso_shared.specs.Ports.{IsTx}
 use Rattle.iso_shared.proofs.Mades.{both_on, joined_seen, made_on, units_by}
 use Rattle.iso_shared.proofs.shared.Shared.end.Goals as goal
 

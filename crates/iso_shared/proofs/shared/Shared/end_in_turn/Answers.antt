@@ -1,14 +1,6 @@
-use Rattle.std.proofs.Common.{inl, [], ◌∷◌, ◌++◌, ap, refl, sym, arith, ◌∙◌, rules, ◌≤◌, ◌+◌, subst, ◌≡◌}
-use Rattle.tx_table.specs.Work.{Doing}
-use Rattle.turn_lock.specs.Numbers.{held_after}
-use Rattle.iso_core.specs.Core.{disk_of}
+use Rattle.iso_shared.proofs.Words.{inl, [], ◌∷◌, ◌++◌, ap, refl, sym, arith, ◌∙◌, rules, ◌≤◌, ◌+◌, subst, ◌≡◌, Doing, held_after, disk_of, handed, returned, most_steps, faults_of, standing_of, state_at, tx_of, end_entry}
 use Rattle.iso_shared.specs.declared.entry.Call.TheVariants as call
 use Rattle.iso_shared.specs.declared.entry.Entry.TheVariants as entry
-use Rattle.iso_shared.specs.Legal.{handed, returned}
-use Rattle.iso_shared.specs.Ports.{most_steps}
-use Rattle.iso_shared.specs.Standing.{faults_of, standing_of}
-use Rattle.iso_shared.specs.States.{state_at, tx_of}
-use Rattle.iso_shared.specs.Told.{end_entry}
 use Rattle.iso_shared.proofs.Cores.{by_lost, is_tx}
 use Rattle.iso_shared.proofs.Ends.{ahead_same, checked_of, did_end, if_err_by, init_same, moved_end, may_have, on_same, own_same, work_of}
 use Rattle.iso_shared.proofs.Giving.{core_at, entry_keeps, entry_may, refused_holds, stands_call, from_lent}

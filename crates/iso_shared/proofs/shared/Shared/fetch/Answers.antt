@@ -1,9 +1,6 @@
-use Rattle.std.proofs.Common.{[], ap, refl, sym, ◌∙◌, rules, ◌<◌, subst, ℕ}
+use Rattle.iso_shared.proofs.Words.{[], ap, refl, sym, ◌∙◌, rules, ◌<◌, subst, ℕ, faults_of, standing_of, opened, state_at, tx_of, fetch_entry}
 use Rattle.iso_shared.specs.declared.entry.Call.TheVariants as call
 use Rattle.iso_shared.specs.declared.entry.Entry.TheVariants as entry
-use Rattle.iso_shared.specs.Standing.{faults_of, standing_of}
-use Rattle.iso_shared.specs.States.{opened, state_at, tx_of}
-use Rattle.iso_shared.specs.Told.{fetch_entry}
 use Rattle.iso_shared.proofs.Cores.{did_fetch, is_tx}
 use Rattle.iso_shared.proofs.Follows.{follows_all}
 use Rattle.iso_shared.proofs.Giving.{core_at, lent_came, moved_fetch, entry_keeps, entry_may, fetch_holds, stands_call, from_lent}

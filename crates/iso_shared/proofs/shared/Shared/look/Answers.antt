@@ -1,15 +1,5 @@
-use Rattle.std.proofs.Common.{[], ◌∷◌, ◌++◌, ◌≡◌, ℕ, Option, Some, None, ap, rules, sym, ◌∙◌}
-use Rattle.std.specs.Prelude.{bytes_eq, option_map}
-use Rattle.std.specs.Map.{lookup}
-use Rattle.conflict_rule.specs.declared.decision.Checked.{Checked}
-use Rattle.turn_lock.proofs.Outs.{held_first}
-use Rattle.turn_lock.proofs.Prefixes.{prefix_self}
-use Rattle.turn_lock.specs.declared.view.View.{View}
-use Rattle.iso_shared.specs.declared.entry.Entry.{Entry}
+use Rattle.iso_shared.proofs.Words.{[], ◌∷◌, ◌++◌, ◌≡◌, ℕ, Option, Some, None, ap, rules, sym, ◌∙◌, bytes_eq, option_map, lookup, Checked, held_first, prefix_self, View, Entry, Posted, posting_in, state_at}
 use Rattle.iso_shared.specs.declared.entry.Entry.TheVariants as entry
-use Rattle.iso_shared.specs.declared.guarded.Posted.{Posted}
-use Rattle.iso_shared.specs.Standing.{posting_in}
-use Rattle.iso_shared.specs.States.{state_at}
 use Rattle.iso_shared.proofs.Begins.{ahead_first}
 use Rattle.iso_shared.proofs.Mades.{ahead_on, held_same, one_more, own_on}
 use Rattle.iso_shared.proofs.Postings.{stands_look}

@@ -1,15 +1,4 @@
-use Rattle.std.proofs.Common.{[], ◌∷◌, ◌++◌, ◌≡◌, ℕ, Ok, Err, ◌<◌, ap, refl, rules, subst, sym, ◌∙◌}
-use Rattle.std.specs.Prelude.{IsErr, bytes_eq}
-use Rattle.std.specs.Map.{lookup}
-use Rattle.turn_lock.proofs.Prefixes.{prefix_trans}
-use Rattle.tx_table.specs.Work.{Doing}
-use Rattle.iso_shared.specs.declared.entry.Entry.{Entry}
-use Rattle.iso_shared.specs.declared.guarded.Posted.{Posted}
-use Rattle.iso_shared.specs.Ports.{IsAhead, IsOwn}
-use Rattle.iso_shared.specs.States.{state_at}
-use Rattle.turn_lock.specs.Lists.{times}
-use Rattle.iso_shared.specs.Standing.{IsOn, StandsAt}
-use Rattle.iso_shared.specs.Told.{post_entry}
+use Rattle.iso_shared.proofs.Words.{[], ◌∷◌, ◌++◌, ◌≡◌, ℕ, Ok, Err, ◌<◌, ap, refl, rules, subst, sym, ◌∙◌, IsErr, bytes_eq, lookup, prefix_trans, Doing, Entry, Posted, IsAhead, IsOwn, state_at, times, IsOn, StandsAt, post_entry}
 use Rattle.iso_shared.proofs.Mades.{ahead_on, both_by, held_same, made_by, one_more, own_on, units_by}
 use Rattle.iso_shared.proofs.Postings.{free_by, none_by, post_holds, stands_post, stands_unposted, taken_by}
 use Rattle.iso_shared.proofs.shared.Shared.post.Goals as goal

@@ -1,10 +1,6 @@
-use Rattle.std.proofs.Common.{inl, [], ◌∷◌, ◌++◌, ◌≡◌, ◌≤◌, ℕ, ap, refl, rules, subst, sym, ◌∙◌}
+use Rattle.iso_shared.proofs.Words.{inl, [], ◌∷◌, ◌++◌, ◌≡◌, ◌≤◌, ℕ, ap, refl, rules, subst, sym, ◌∙◌, IsRecent, faults_of, standing_of, state_at, tx_of, recent_entry}
 use Rattle.iso_shared.specs.declared.entry.Call.TheVariants as call
 use Rattle.iso_shared.specs.declared.entry.Entry.TheVariants as entry
-use Rattle.iso_shared.specs.Ports.{IsRecent}
-use Rattle.iso_shared.specs.Standing.{faults_of, standing_of}
-use Rattle.iso_shared.specs.States.{state_at, tx_of}
-use Rattle.iso_shared.specs.Told.{recent_entry}
 use Rattle.iso_shared.proofs.Checks.{did_recent, if_ok_by, is_recent, recent_state}
 use Rattle.iso_shared.proofs.Cores.{is_tx}
 use Rattle.iso_shared.proofs.Giving.{core_at, entry_keeps, entry_may, recent_holds, stands_call, from_lent}

@@ -1,5 +1,4 @@
-use Rattle.iso_shared.specs.Standing.{faults_of}
-use Rattle.iso_shared.specs.Told.{told_entry}
+use Rattle.iso_shared.proofs.Words.{faults_of, told_entry}
 use Rattle.iso_shared.proofs.shared.Shared.recent.Given as goal
 
 abbrev pub ghosts-give : goal.ghosts-give

@@ -1,7 +1,5 @@
-use Rattle.std.proofs.Common.{inl, ap, refl}
+use Rattle.iso_shared.proofs.Words.{inl, ap, refl, state_at, numbers_of}
 use Rattle.iso_shared.specs.declared.entry.Entry.TheVariants as entry
-use Rattle.iso_shared.specs.States.{state_at}
-use Rattle.iso_shared.specs.Told.{numbers_of}
 use Rattle.iso_shared.proofs.Cores.{did_stat}
 use Rattle.iso_shared.proofs.Giving.{core_at, stands_call, from_lent}
 use Rattle.iso_shared.proofs.shared.Shared.stat.Goals as goal

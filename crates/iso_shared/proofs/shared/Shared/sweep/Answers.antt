@@ -1,7 +1,4 @@
-use Rattle.std.proofs.Common.{inl, Some, [], ap, sym, ◌∙◌}
-use Rattle.iso_shared.specs.declared.entry.Entry.TheVariants.{Sweep}
-use Rattle.iso_shared.specs.Standing.{standing_of}
-use Rattle.iso_shared.specs.States.{state_at, tx_of}
+use Rattle.iso_shared.proofs.Words.{inl, Some, [], ap, sym, ◌∙◌, Sweep, standing_of, state_at, tx_of}
 use Rattle.iso_shared.proofs.Cores.{did_abort, is_tx}
 use Rattle.iso_shared.proofs.Giving.{from_lent, core_at}
 use Rattle.iso_shared.proofs.Mades.{all_by}

@@ -1,8 +1,4 @@
-use Rattle.std.proofs.Common.{ap, rules, subst, sym}
-use Rattle.turn_lock.specs.declared.view.View.{View}
-use Rattle.iso_shared.specs.declared.entry.Entry.{Entry}
-use Rattle.iso_shared.specs.Ports.{IsAhead, IsOwn}
-use Rattle.iso_shared.specs.States.{state_at}
+use Rattle.iso_shared.proofs.Words.{ap, rules, subst, sym, View, Entry, IsAhead, IsOwn, state_at}
 use Rattle.iso_shared.proofs.Mades.{held_same}
 use Rattle.iso_shared.proofs.shared.Shared.tell_port.Goals as goal
 

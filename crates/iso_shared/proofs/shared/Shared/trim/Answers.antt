@@ -1,9 +1,6 @@
-use Rattle.std.proofs.Common.{inl, ap, refl}
+use Rattle.iso_shared.proofs.Words.{inl, ap, refl, faults_of, state_at, trim_entry}
 use Rattle.iso_shared.specs.declared.entry.Call.TheVariants as call
 use Rattle.iso_shared.specs.declared.entry.Entry.TheVariants as entry
-use Rattle.iso_shared.specs.Standing.{faults_of}
-use Rattle.iso_shared.specs.States.{state_at}
-use Rattle.iso_shared.specs.Told.{trim_entry}
 use Rattle.iso_shared.proofs.Cores.{did_trim}
 use Rattle.iso_shared.proofs.Giving.{core_at, entry_keeps, entry_may, stands_call, from_lent}
 use Rattle.iso_shared.proofs.shared.Shared.trim.Goals as goal

@@ -1,11 +1,6 @@
-use Rattle.std.proofs.Common.{inl, ap, refl}
-use Rattle.iso_model.specs.declared.core_reply.CoreReply.TheVariants.{Done}
-use Rattle.iso_core.specs.Core.{disk_of}
+use Rattle.iso_shared.proofs.Words.{inl, ap, refl, Done, disk_of, faults_of, state_at, upgrade_entry}
 use Rattle.iso_shared.specs.declared.entry.Call.TheVariants as call
 use Rattle.iso_shared.specs.declared.entry.Entry.TheVariants as entry
-use Rattle.iso_shared.specs.Standing.{faults_of}
-use Rattle.iso_shared.specs.States.{state_at}
-use Rattle.iso_shared.specs.Told.{upgrade_entry}
 use Rattle.iso_shared.proofs.Cores.{by_lost}
 use Rattle.iso_shared.proofs.Switches.{did_upgrade}
 use Rattle.iso_shared.proofs.Giving.{core_at, moved_last, entry_keeps, entry_may, stands_call, from_lent}

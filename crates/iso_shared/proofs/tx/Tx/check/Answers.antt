@@ -1,12 +1,4 @@
-use Rattle.std.proofs.Common.{◌≡◌, ◌<◌, ◌≤◌, ℕ, true, ap, arith, refl, subst, sym, ◌∙◌}
-use Rattle.conflict_rule.specs.Decision.{up_to}
-use Rattle.conflict_rule.proofs.Following.{dropped_after}
-use Rattle.byte_marks.specs.Touched.{AreTouched}
-use Rattle.iso_model.specs.declared.access.Kind.TheVariants.{Read, Write}
-use Rattle.iso_model.specs.Conflict.{clash}
-use Rattle.iso_model.specs.History.{History}
-use Rattle.tx_table.specs.Work.{Doing}
-use Rattle.iso_shared.specs.States.{state_at}
+use Rattle.iso_shared.proofs.Words.{◌≡◌, ◌<◌, ◌≤◌, ℕ, true, ap, arith, refl, subst, sym, ◌∙◌, up_to, dropped_after, AreTouched, Read, Write, clash, History, Doing, state_at}
 use Rattle.iso_shared.proofs.Checks.{some_size, up_to_twice}
 use Rattle.iso_shared.proofs.Ends.{ahead_same, on_same, own_same}
 use Rattle.iso_shared.proofs.tx.Tx.check.Goals as goal

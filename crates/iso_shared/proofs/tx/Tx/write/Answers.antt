@@ -1,7 +1,4 @@
-use Rattle.std.proofs.Common.{ap, subst, sym, ◌∙◌}
-use Rattle.tx_table.specs.Work.{Doing}
-use Rattle.iso_shared.specs.Ports.{IsTxOf}
-use Rattle.iso_shared.specs.States.{state_at}
+use Rattle.iso_shared.proofs.Words.{ap, subst, sym, ◌∙◌, Doing, IsTxOf, state_at}
 use Rattle.iso_shared.proofs.Checks.{ahead_gone_on, own_gone_on}
 use Rattle.iso_shared.proofs.tx.Tx.write.Goals as goal
 

@@ -1,5 +1,4 @@
-use Rattle.std.proofs.Common.{◌∙◌, sym, ap}
-use Rattle.store_model.specs.TreeNodes.{is_node}
+use Rattle.iso_tree.proofs.Words.{◌∙◌, sym, ap, is_node}
 use Rattle.iso_tree.proofs.Facts.{node_parts}
 use Rattle.iso_tree.proofs.node.NodeView.of.Goals as goal
 

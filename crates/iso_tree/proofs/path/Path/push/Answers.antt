@@ -1,5 +1,4 @@
-use Rattle.std.proofs.Common.{length, ap, arith}
-use Rattle.std.proofs.lemmas.List.{length-drop}
+use Rattle.iso_tree.proofs.Words.{length, ap, arith, length-drop}
 use Rattle.iso_tree.proofs.path.Path.push.Goals as goal
 
 pub overflow_sub-self : goal.overflow_sub-self

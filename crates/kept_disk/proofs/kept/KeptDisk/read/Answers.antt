@@ -1,7 +1,4 @@
-use Rattle.std.proofs.Common.{◌≡◌, ◌+◌, ◌-◌, ℕ, List, length, take, drop, sym, ◌∙◌, ap, subst, arith}
-use Rattle.std.proofs.lemmas.Result.{on_ok_weaker}
-use Rattle.kept_disk.specs.declared.page.Page.{Page}
-use Rattle.kept_disk.specs.Pages.{HoldsRange, Stand}
+use Rattle.kept_disk.proofs.Words.{◌≡◌, ◌+◌, ◌-◌, ℕ, List, length, take, drop, sym, ◌∙◌, ap, subst, arith, on_ok_weaker, Page, HoldsRange, Stand}
 use Rattle.kept_disk.proofs.Slices.{lent_whole}
 use Rattle.kept_disk.proofs.kept.KeptDisk.read.Goals as goal
 

@@ -1,6 +1,4 @@
-use Rattle.std.proofs.Common.{List, length, sym, ap, subst, arith}
-use Rattle.kept_disk.specs.declared.page.Page.{Page}
-use Rattle.kept_disk.specs.Pages.{Stand}
+use Rattle.kept_disk.proofs.Words.{List, length, sym, ap, subst, arith, Page, Stand}
 use Rattle.kept_disk.proofs.Slices.{lent_whole}
 use Rattle.kept_disk.proofs.kept.KeptDisk.write.Goals as goal
 

@@ -1,5 +1,4 @@
-use Rattle.std.proofs.Common.{arith}
-use Rattle.iso_disk.proofs.Images.{length-contents}
+use Rattle.kept_disk.proofs.Words.{arith, length-contents}
 use Rattle.kept_disk.proofs.Standing.{filled}
 use Rattle.kept_disk.proofs.page.Page.fill.Goals as goal
 

@@ -1,5 +1,4 @@
-use Rattle.std.proofs.Common.{Err, ap}
-use Rattle.iso_disk.specs.Disk.{DiskState, IsSettled}
+use Rattle.mirror_disk.proofs.Words.{Err, ap, DiskState, IsSettled}
 use Rattle.mirror_disk.proofs.Mirrored.{state_pair}
 use Rattle.mirror_disk.proofs.mirror.Mirror.adopt.Goals as goal
 

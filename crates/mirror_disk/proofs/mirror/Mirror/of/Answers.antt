@@ -1,5 +1,4 @@
-use Rattle.std.proofs.Common.{◌≡◌}
-use Rattle.mirror_disk.specs.declared.used.Used.TheVariants.{Plain}
+use Rattle.mirror_disk.proofs.Words.{◌≡◌, Plain}
 use Rattle.mirror_disk.proofs.mirror.Mirror.of.Goals as goal
 
 pub invariant_of-result : goal.invariant_of-result

@@ -1,6 +1,5 @@
 -- The rows that are left count for the rest.
-use Rattle.std.proofs.Common.{◌≡◌, ◌+◌, drop}
-use Rattle.mv_index.specs.Weights.{bytes_above}
+use Rattle.mv_index.proofs.Words.{◌≡◌, ◌+◌, drop, bytes_above}
 use Rattle.mv_index.proofs.index.MvIndex.bytes_above.Given as goal
 
 abbrev pub invariant-loop-row : goal.invariant-loop-row

@@ -1,6 +1,5 @@
 -- Rows without versions.
-use Rattle.std.proofs.Common.{◌≡◌, ℕ, [], length}
-use Rattle.mv_index.specs.Versions.{count_of, versions_in}
+use Rattle.mv_index.proofs.Words.{◌≡◌, ℕ, [], length, count_of, versions_in}
 use Rattle.mv_index.proofs.index.MvIndex.empty.Given as goal
 
 abbrev pub invariant-loop : goal.invariant-loop

@@ -1,8 +1,5 @@
 -- The pieces of a block.
-use Rattle.std.proofs.Common.{◌≡◌, ◌<◌, ◌∙◌, sym, ap, subst, List, length}
-use Rattle.std.proofs.lemmas.List.{get_or_default}
-use Rattle.mv_index.specs.Shown.{AllLie}
-use Rattle.mv_index.specs.Versions.{BlockVersions, block_of, no_versions}
+use Rattle.mv_index.proofs.Words.{◌≡◌, ◌<◌, ◌∙◌, sym, ap, subst, List, length, get_or_default, AllLie, BlockVersions, block_of, no_versions}
 use Rattle.mv_index.proofs.index.MvIndex.showing.Goals as goal
 
 pub returns-clause-within : goal.returns-clause-within

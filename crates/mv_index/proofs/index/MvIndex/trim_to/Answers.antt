@@ -1,7 +1,5 @@
 -- One row more.
-use Rattle.std.proofs.Common.{◌≡◌, ◌∙◌, ◌<◌, ap, length, get_or, arith}
-use Rattle.std.proofs.lemmas.List.{get_or_default}
-use Rattle.mv_index.specs.Versions.{BlockVersions, no_versions, shown_since}
+use Rattle.mv_index.proofs.Words.{◌≡◌, ◌∙◌, ◌<◌, ap, length, get_or, arith, get_or_default, BlockVersions, no_versions, shown_since}
 use Rattle.mv_index.proofs.Trims.{trimmed_more}
 use Rattle.mv_index.proofs.index.MvIndex.trim_to.Goals as goal
 

@@ -1,8 +1,5 @@
 -- A version more, with the pieces over which it is laid.
-use Rattle.std.proofs.Common.{sym, subst, List}
-use Rattle.mv_index.specs.declared.version.Version.{Version}
-use Rattle.mv_index.specs.Pieces.{IsRow}
-use Rattle.mv_index.specs.Versions.{AreAtMost, BlockVersions}
+use Rattle.mv_index.proofs.Words.{sym, subst, List, Version, IsRow, AreAtMost, BlockVersions}
 use Rattle.mv_index.proofs.Showing.{pieces_once, row_more}
 use Rattle.mv_index.proofs.row.Row.add.Goals as goal
 

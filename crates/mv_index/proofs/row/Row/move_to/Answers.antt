@@ -1,10 +1,5 @@
 -- The pieces are moved with their versions.
-use Rattle.std.proofs.Common.{List, sym, subst, arith}
-use Rattle.mv_index.specs.declared.version.Version.{Version}
-use Rattle.mv_index.specs.Moves.{AreSplit, moved_to}
-use Rattle.mv_index.specs.Pieces.{IsRow}
-use Rattle.mv_index.specs.Shown.{AllLie}
-use Rattle.mv_index.specs.Versions.{BlockVersions}
+use Rattle.mv_index.proofs.Words.{List, sym, subst, arith, Version, AreSplit, moved_to, IsRow, AllLie, BlockVersions}
 use Rattle.mv_index.proofs.Moves.{row_moved}
 use Rattle.mv_index.proofs.Showing.{pieces_lie}
 use Rattle.mv_index.proofs.row.Row.move_to.Goals as goal

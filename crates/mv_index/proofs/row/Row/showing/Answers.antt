@@ -1,8 +1,5 @@
 -- The pieces of a row.
-use Rattle.std.proofs.Common.{sym, ap, subst, List}
-use Rattle.mv_index.specs.declared.version.Version.{Version}
-use Rattle.mv_index.specs.Pieces.{ArePieces}
-use Rattle.mv_index.specs.Versions.{BlockVersions}
+use Rattle.mv_index.proofs.Words.{sym, ap, subst, List, Version, ArePieces, BlockVersions}
 use Rattle.mv_index.proofs.Few.{pieces_few}
 use Rattle.mv_index.proofs.Showing.{pieces_lie, pieces_once, pieces_show}
 use Rattle.mv_index.proofs.row.Row.showing.Goals as goal

@@ -1,7 +1,5 @@
 -- What is left rises, and the pieces are those of what is left.
-use Rattle.std.proofs.Common.{List, sym, subst}
-use Rattle.mv_index.specs.declared.version.Version.{Version}
-use Rattle.mv_index.specs.Pieces.{IsRow}
+use Rattle.mv_index.proofs.Words.{List, sym, subst, Version, IsRow}
 use Rattle.mv_index.proofs.Showing.{row_trimmed}
 use Rattle.mv_index.proofs.row.Row.trim_to.Goals as goal
 

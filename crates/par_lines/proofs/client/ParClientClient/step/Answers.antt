@@ -1,6 +1,4 @@
-use Rattle.std.proofs.Common.{[], inr, refl}
-use Rattle.std.specs.Prelude.{Err}
-use Rattle.handle_pass.proofs.Logs.{moves_none}
+use Rattle.par_lines.proofs.Words.{[], inr, refl, Err, moves_none}
 use Rattle.script_model.specs.declared.stop.Stop.TheVariants as stop
 use Rattle.par_lines.proofs.client.ParClientClient.step.Goals as goal
 

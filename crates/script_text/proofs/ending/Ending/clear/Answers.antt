@@ -1,6 +1,4 @@
-use Rattle.std.proofs.Common.{List, ℕ, ap, arith}
-use Rattle.std.proofs.lemmas.List.{drop_all}
-use Rattle.script_text.specs.Ending.{WithFront}
+use Rattle.script_text.proofs.Words.{List, ℕ, ap, arith, drop_all, WithFront}
 use Rattle.script_text.proofs.ending.Ending.clear.Goals as goal
 
 pub returns : goal.returns

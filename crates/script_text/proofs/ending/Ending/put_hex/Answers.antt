@@ -1,6 +1,4 @@
-use Rattle.std.proofs.Common.{◌∙◌, ◌++◌, ℕ, List, ap, arith, drop}
-use Rattle.script_model.specs.Text.{hex_text}
-use Rattle.script_text.specs.Ending.{WithFront}
+use Rattle.script_text.proofs.Words.{◌∙◌, ◌++◌, ℕ, List, ap, arith, drop, hex_text, WithFront}
 use Rattle.script_text.proofs.Fronts.{from_part}
 use Rattle.script_text.proofs.ending.Ending.put_hex.Goals as goal
 

@@ -1,6 +1,4 @@
-use Rattle.std.proofs.Common.{arith, ap}
-use Rattle.std.proofs.lemmas.Fmt.{length-decimal-le}
-use Rattle.script_text.specs.Ending.{WithFront}
+use Rattle.script_text.proofs.Words.{arith, ap, length-decimal-le, WithFront}
 use Rattle.script_text.proofs.ending.Ending.put_number.Goals as goal
 
 pub write_digits-self-inside-requires : goal.write_digits-self-inside-requires

@@ -1,7 +1,4 @@
-use Rattle.std.proofs.Common.{◌≡◌, [], ◌∷◌, subst, sym, Some, List, Option, replicate}
-use Rattle.turn_lock.specs.Views.{fresh}
-use Rattle.turn_lock.specs.Ticket.{Fair}
-use Rattle.atomic_table.specs.Table.{opening}
+use Rattle.turn_lock.proofs.Words.{◌≡◌, [], ◌∷◌, subst, sym, Some, List, Option, replicate, fresh, Fair, opening}
 use Rattle.turn_lock.proofs.Keeps.{starts}
 use Rattle.turn_lock.proofs.lock.TurnLock.new.Goals as goal
 

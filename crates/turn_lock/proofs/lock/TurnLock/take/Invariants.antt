@@ -1,5 +1,4 @@
-use Rattle.std.proofs.Common.{◌≡◌}
-use Rattle.turn_lock.specs.Pass.{IsSamePass}
+use Rattle.turn_lock.proofs.Words.{◌≡◌, IsSamePass}
 use Rattle.turn_lock.proofs.lock.TurnLock.take.Given as goal
 
 -- the own ticket is not served yet

@@ -1,9 +1,5 @@
 -- One begin more.
-use Rattle.std.proofs.Common.{◌≡◌, ◌∙◌, ℕ, ◌+◌, ◌<◌, min, List, ap, sym, subst, arith, length, get_or, map, take}
-use Rattle.iso_model.specs.World.{floor_of}
-use Rattle.iso_model.specs.declared.access.Mode.TheVariants.{Serial}
-use Rattle.tx_table.specs.declared.live.Begun.{Begun}
-use Rattle.tx_table.specs.Live.{at_work}
+use Rattle.tx_table.proofs.Words.{◌≡◌, ◌∙◌, ℕ, ◌+◌, ◌<◌, min, List, ap, sym, subst, arith, length, get_or, map, take, floor_of, Serial, Begun, at_work}
 use Rattle.tx_table.proofs.Begins.{floor_first, floor_more}
 use Rattle.tx_table.proofs.live.Live.floor.Goals as goal
 use Rattle.tx_table.proofs.live.Live.floor.Goals.{then-i-eq0, else-i-eq0}

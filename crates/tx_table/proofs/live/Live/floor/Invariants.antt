@@ -1,7 +1,5 @@
 -- The least of the first begins.
-use Rattle.std.proofs.Common.{◌≡◌, map, take}
-use Rattle.iso_model.specs.World.{floor_of}
-use Rattle.tx_table.specs.Live.{at_work}
+use Rattle.tx_table.proofs.Words.{◌≡◌, map, take, floor_of, at_work}
 use Rattle.tx_table.proofs.live.Live.floor.Given as goal
 
 abbrev pub invariant-loop-i : goal.invariant-loop-i

@@ -1,9 +1,5 @@
 -- The first of the blank slots, at the place of the block.
-use Rattle.std.proofs.Common.{◌≡◌, ◌∙◌, ℕ, ◌+◌, ◌<◌, ◌≤◌, Bool, ◌||◌, ◌==◌, true, false, List, ◌∷◌, ◌++◌, [], Option, None, ap, sym, subst, arith, length, get_or, take, drop, replicate, nat_lt, vec_capacity}
-use Rattle.std.proofs.lemmas.Bool.{ltb-true}
-use Rattle.std.proofs.lemmas.Grind.{common_steps}
-use Rattle.tx_table.specs.Patches.{has_patch, patch_at, Held, RisesFrom}
-use Rattle.tx_table.specs.Slots.{entries_of, AreSlots}
+use Rattle.tx_table.proofs.Words.{◌≡◌, ◌∙◌, ℕ, ◌+◌, ◌<◌, ◌≤◌, Bool, ◌||◌, ◌==◌, true, false, List, ◌∷◌, ◌++◌, [], Option, None, ap, sym, subst, arith, length, get_or, take, drop, replicate, nat_lt, vec_capacity, ltb-true, common_steps, has_patch, patch_at, Held, RisesFrom, entries_of, AreSlots}
 use Rattle.tx_table.proofs.Blocks.{has_insert, or_true, patch_insert, rises_insert}
 use Rattle.tx_table.proofs.Held.{both_true}
 use Rattle.tx_table.proofs.Slots.{entries_insert, key_at, length-entries, length_insert, rises_entries, rises_order, slots_insert}

@@ -1,7 +1,5 @@
 -- All slots are blank, and the order stays.
-use Rattle.std.proofs.Common.{◌≡◌, ◌∙◌, ◌<◌, ℕ, [], None, ap, arith, length, get_or, replicate}
-use Rattle.tx_table.specs.Patches.{has_patch, AreBlankFrom, Held}
-use Rattle.tx_table.specs.Slots.{entries_of}
+use Rattle.tx_table.proofs.Words.{◌≡◌, ◌∙◌, ◌<◌, ℕ, [], None, ap, arith, length, get_or, replicate, has_patch, AreBlankFrom, Held, entries_of}
 use Rattle.tx_table.proofs.Blocks.{all_blank}
 use Rattle.tx_table.proofs.Held.{blank_sizes, cleared_slots, has_entries}
 use Rattle.tx_table.proofs.Slots.{blank_at}

@@ -1,7 +1,5 @@
 -- All slots are blank, and the order is empty.
-use Rattle.std.proofs.Common.{◌≡◌, ◌∙◌, ◌≤◌, ℕ, [], List, arith, length, subst, sym}
-use Rattle.tx_table.specs.Patches.{AreBlankFrom, RisesFrom}
-use Rattle.tx_table.specs.Slots.{AreSlots}
+use Rattle.tx_table.proofs.Words.{◌≡◌, ◌∙◌, ◌≤◌, ℕ, [], List, arith, length, subst, sym, AreBlankFrom, RisesFrom, AreSlots}
 use Rattle.tx_table.proofs.Held.{blank_sizes, cleared_slots}
 use Rattle.tx_table.proofs.patches.Patches.forget.Goals as goal
 

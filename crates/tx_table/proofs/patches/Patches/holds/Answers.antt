@@ -1,6 +1,5 @@
 -- The block has a slot, or no place has it.
-use Rattle.std.proofs.Common.{◌≡◌, ◌∙◌, ap, sym}
-use Rattle.tx_table.specs.Patches.{has_patch, Held}
+use Rattle.tx_table.proofs.Words.{◌≡◌, ◌∙◌, ap, sym, has_patch, Held}
 use Rattle.tx_table.proofs.Held.{held_at, held_none}
 use Rattle.tx_table.proofs.patches.Patches.holds.Goals as goal
 

@@ -1,9 +1,5 @@
 -- The patch in the slot of the block is laid, or there is nothing to lay.
-use Rattle.std.proofs.Common.{◌≡◌, ◌∙◌, ℕ, ◌<◌, [], List, Option, None, ap, sym, arith, length, get_or, replicate}
-use Rattle.std.proofs.lemmas.List.{get_or_default}
-use Rattle.merge_write.specs.Patch.{laid}
-use Rattle.tx_table.specs.Patches.{patch_at, Held}
-use Rattle.tx_table.specs.Slots.{entries_of}
+use Rattle.tx_table.proofs.Words.{◌≡◌, ◌∙◌, ℕ, ◌<◌, [], List, Option, None, ap, sym, arith, length, get_or, replicate, get_or_default, laid, patch_at, Held, entries_of}
 use Rattle.tx_table.proofs.Blocks.{laid_none}
 use Rattle.tx_table.proofs.Held.{held_at, held_none}
 use Rattle.tx_table.proofs.Slots.{all_there, slot_below}

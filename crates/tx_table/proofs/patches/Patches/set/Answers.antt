@@ -1,10 +1,5 @@
 -- The patch in the slot of the block is that of the block.
-use Rattle.std.proofs.Common.{◌≡◌, ◌∙◌, ℕ, ◌<◌, [], List, Option, ap, sym, arith, length, get_or, set, inl, inr, length-set, get_or-set_same, get_or-set_other, refl}
-use Rattle.std.proofs.lemmas.Bool.{both_ways, cases_eq}
-use Rattle.std.proofs.lemmas.List.{get_or_default}
-use Rattle.merge_write.specs.Patch.{written}
-use Rattle.tx_table.specs.Patches.{has_patch, patch_at, Held}
-use Rattle.tx_table.specs.Slots.{entries_of}
+use Rattle.tx_table.proofs.Words.{◌≡◌, ◌∙◌, ℕ, ◌<◌, [], List, Option, ap, sym, arith, length, get_or, set, inl, inr, length-set, get_or-set_same, get_or-set_other, refl, both_ways, cases_eq, get_or_default, written, has_patch, patch_at, Held, entries_of}
 use Rattle.tx_table.proofs.Blocks.{has_set, patch_set, set_value}
 use Rattle.tx_table.proofs.Held.{held_at, held_none}
 use Rattle.tx_table.proofs.Slots.{all_from, all_there, entry_is, length-entries, rises_entries, set_entries, slot_below}

@@ -1,10 +1,5 @@
 -- Nothing is done.
-use Rattle.std.proofs.Common.{◌≡◌, ℕ, ap, sym, arith, ◌<◌, ◌≤◌, length, subst, map, List, [], Option}
-use Rattle.std.specs.List.{AllByRecursion}
-use Rattle.merge_write.proofs.Effects.{no_effects}
-use Rattle.tx_table.specs.declared.rows.Row.{Row}
-use Rattle.tx_table.specs.Patches.{AreEffects, HavePatches, Held}
-use Rattle.tx_table.specs.Work.{access_of, IsRow}
+use Rattle.tx_table.proofs.Words.{◌≡◌, ℕ, ap, sym, arith, ◌<◌, ◌≤◌, length, subst, map, List, [], Option, AllByRecursion, no_effects, Row, AreEffects, HavePatches, Held, access_of, IsRow}
 use Rattle.tx_table.proofs.Applied.{none_touched}
 use Rattle.tx_table.proofs.work.Work.begin.Goals as goal
 

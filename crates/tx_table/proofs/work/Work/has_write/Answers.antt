@@ -1,11 +1,5 @@
 -- A row that is a write, or one more that is none.
-use Rattle.std.proofs.Common.{◌≡◌, ◌∙◌, ◌+◌, ◌<◌, true, false, List, ap, sym, subst, length, get_or, map, take}
-use Rattle.iso_model.specs.declared.access.Access.{Access}
-use Rattle.iso_model.specs.declared.access.Kind.{Kind}
-use Rattle.iso_model.specs.declared.access.Kind.TheVariants.{Write}
-use Rattle.iso_model.specs.Effect.{has_write, is_write, same_kind}
-use Rattle.tx_table.specs.declared.rows.Row.{Row}
-use Rattle.tx_table.specs.Work.{access_of, Doing}
+use Rattle.tx_table.proofs.Words.{◌≡◌, ◌∙◌, ◌+◌, ◌<◌, true, false, List, ap, sym, subst, length, get_or, map, take, Access, Kind, Write, has_write, is_write, same_kind, Row, access_of, Doing}
 use Rattle.tx_table.proofs.Covered.{no_write_more, write_there}
 use Rattle.tx_table.proofs.work.Work.has_write.Goals as goal
 

@@ -1,6 +1,5 @@
 -- No write so far.
-use Rattle.std.proofs.Common.{◌≡◌, false, take}
-use Rattle.iso_model.specs.Effect.{has_write}
+use Rattle.tx_table.proofs.Words.{◌≡◌, false, take, has_write}
 use Rattle.tx_table.proofs.work.Work.has_write.Given as goal
 
 abbrev pub invariant-loop-row : goal.invariant-loop-row

@@ -1,16 +1,5 @@
 -- The last row has one mark more, and none of what is up to date has the last row.
-use Rattle.std.proofs.Common.{◌≡◌, ◌∙◌, ℕ, ◌+◌, ◌-◌, ◌<◌, ◌≤◌, false, ◌==◌, ◌&&◌, List, ◌∷◌, [], ◌++◌, Some, None, sym, ap, subst, arith, refl, inl, inr, length, get_or, set, map, take, ne_eqb, length-set, vec_capacity}
-use Rattle.std.proofs.lemmas.List.{get_or_default}
-use Rattle.byte_marks.specs.Touched.{AreTouched}
-use Rattle.iso_model.specs.declared.access.Access.{Access}
-use Rattle.iso_model.specs.declared.access.Kind.TheVariants.{Read, Write}
-use Rattle.iso_model.specs.declared.access.MarkError.TheVariants.{TooManyMarks}
-use Rattle.iso_model.specs.declared.access.Span.{Span}
-use Rattle.iso_model.specs.Marks.{mark_fault, marked}
-use Rattle.iso_model.specs.Premises.{IsSpan}
-use Rattle.tx_table.specs.declared.rows.Row.{Row}
-use Rattle.tx_table.specs.Patches.{AreEffects, HavePatches}
-use Rattle.tx_table.specs.Work.{access_of, Doing, IsRow, span_at}
+use Rattle.tx_table.proofs.Words.{◌≡◌, ◌∙◌, ℕ, ◌+◌, ◌-◌, ◌<◌, ◌≤◌, false, ◌==◌, ◌&&◌, List, ◌∷◌, [], ◌++◌, Some, None, sym, ap, subst, arith, refl, inl, inr, length, get_or, set, map, take, ne_eqb, length-set, vec_capacity, get_or_default, AreTouched, Access, Read, Write, TooManyMarks, Span, mark_fault, marked, IsSpan, Row, AreEffects, HavePatches, access_of, Doing, IsRow, span_at}
 use Rattle.tx_table.proofs.Last.{all_set, fault_of, full_fault, have_kept, have_set, if_some, marked_row, marked_set, no_fault, row_there, take_set}
 use Rattle.tx_table.proofs.work.Work.mark.Goals as goal
 

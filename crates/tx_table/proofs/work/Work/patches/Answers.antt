@@ -1,9 +1,5 @@
 -- The patches are up to date, so their runs are those of the accesses.
-use Rattle.std.proofs.Common.{◌≡◌, ◌∙◌, sym, ap, subst, List, map, take, length, flat_map}
-use Rattle.iso_model.specs.declared.access.Access.{Access}
-use Rattle.iso_model.specs.Effect.{runs, runs_from}
-use Rattle.tx_table.specs.Patches.{AreEffects, RisesFrom}
-use Rattle.tx_table.specs.Work.{access_of, Doing}
+use Rattle.tx_table.proofs.Words.{◌≡◌, ◌∙◌, sym, ap, subst, List, map, take, length, flat_map, Access, runs, runs_from, AreEffects, RisesFrom, access_of, Doing}
 use Rattle.tx_table.proofs.Covered.{settled_is}
 use Rattle.tx_table.proofs.Last.{length_rows, take_whole}
 use Rattle.tx_table.proofs.Runs.{runs_of_patches}

@@ -1,18 +1,6 @@
 -- What is laid over the block are the own writes.
-use Rattle.std.proofs.Common.{◌≡◌, ◌∙◌, ◌⊎◌, ℕ, ◌<◌, ◌≤◌, true, false, sym, ap, subst, arith, refl, List, [], map, take, length, Option, Some, vec_capacity}
-use Rattle.std.specs.Option.{IfSome}
-use Rattle.std.proofs.lemmas.Bool.{both_ways}
-use Rattle.iso_model.specs.declared.access.Kind.TheVariants.{Read}
-use Rattle.iso_model.specs.Effect.{is_write}
-use Rattle.iso_model.specs.Premises.{AreBytes}
-use Rattle.tx_table.specs.Patches.{has_patch, HavePatches}
-use Rattle.tx_table.specs.Work.{IsRow}
+use Rattle.tx_table.proofs.Words.{◌≡◌, ◌∙◌, ◌⊎◌, ℕ, ◌<◌, ◌≤◌, true, false, sym, ap, subst, arith, refl, List, [], map, take, length, Option, Some, vec_capacity, IfSome, both_ways, Read, is_write, AreBytes, has_patch, HavePatches, IsRow, Access, own, block_at, AreEffects, access_of, Doing}
 use Rattle.tx_table.proofs.Last.{appended, have_kept, length_rows, unmarked_row}
-use Rattle.iso_model.specs.declared.access.Access.{Access}
-use Rattle.iso_model.specs.Effect.{own}
-use Rattle.iso_model.specs.Premises.{block_at}
-use Rattle.tx_table.specs.Patches.{AreEffects}
-use Rattle.tx_table.specs.Work.{access_of, Doing}
 use Rattle.tx_table.proofs.Applied.{rows_have_bytes, shown_of}
 use Rattle.tx_table.proofs.work.Work.read.Goals as goal
 

@@ -1,10 +1,5 @@
 -- Nothing is done any more.
-use Rattle.std.proofs.Common.{◌≡◌, ◌∙◌, ℕ, ◌<◌, ◌≤◌, [], List, Option, sym, subst, arith, length, map}
-use Rattle.std.specs.List.{AllByRecursion}
-use Rattle.merge_write.proofs.Effects.{no_effects}
-use Rattle.tx_table.specs.declared.rows.Row.{Row}
-use Rattle.tx_table.specs.Patches.{AreEffects, HavePatches}
-use Rattle.tx_table.specs.Work.{access_of, IsRow}
+use Rattle.tx_table.proofs.Words.{◌≡◌, ◌∙◌, ℕ, ◌<◌, ◌≤◌, [], List, Option, sym, subst, arith, length, map, AllByRecursion, no_effects, Row, AreEffects, HavePatches, access_of, IsRow}
 use Rattle.tx_table.proofs.Applied.{none_touched}
 use Rattle.tx_table.proofs.work.Work.restart.Goals as goal
 

@@ -1,11 +1,5 @@
 -- All rows are applied, and so many of them are in what is touched as the count says.
-use Rattle.std.proofs.Common.{◌≡◌, ◌∙◌, ◌≤◌, sym, subst, arith, inl, inr, List, map, take, length}
-use Rattle.byte_marks.specs.Touched.{AreTouched}
-use Rattle.iso_model.specs.declared.access.Access.{Access}
-use Rattle.iso_model.specs.declared.access.Kind.TheVariants.{Read, Write}
-use Rattle.tx_table.specs.declared.rows.Row.{Row}
-use Rattle.tx_table.specs.Patches.{AreEffects, HavePatches}
-use Rattle.tx_table.specs.Work.{access_of}
+use Rattle.tx_table.proofs.Words.{◌≡◌, ◌∙◌, ◌≤◌, sym, subst, arith, inl, inr, List, map, take, length, AreTouched, Access, Read, Write, Row, AreEffects, HavePatches, access_of}
 use Rattle.tx_table.proofs.Last.{have_kept, if_some, length_rows, rows_within, take_whole}
 use Rattle.tx_table.proofs.work.Work.settle.Goals as goal
 

@@ -1,12 +1,5 @@
 -- The row with the bytes stands behind the others, and its block has a patch.
-use Rattle.std.proofs.Common.{◌≡◌, ◌∙◌, ◌⊎◌, ℕ, ◌+◌, ◌<◌, ◌≤◌, true, sym, ap, subst, arith, refl, [], map, length, Option, Some, is_ok, vec_capacity, vec_len}
-use Rattle.std.specs.Option.{IfSome}
-use Rattle.std.proofs.lemmas.Bool.{both_ways}
-use Rattle.iso_model.specs.declared.access.Access.{Access}
-use Rattle.iso_model.specs.declared.access.Kind.TheVariants.{Write}
-use Rattle.iso_model.specs.Premises.{AreBytes, HasBytes}
-use Rattle.tx_table.specs.Patches.{patch_at, AreEffects, has_patch, HavePatches}
-use Rattle.tx_table.specs.Work.{access_of, Doing, IsRow}
+use Rattle.tx_table.proofs.Words.{◌≡◌, ◌∙◌, ◌⊎◌, ℕ, ◌+◌, ◌<◌, ◌≤◌, true, sym, ap, subst, arith, refl, [], map, length, Option, Some, is_ok, vec_capacity, vec_len, IfSome, both_ways, Access, Write, AreBytes, HasBytes, patch_at, AreEffects, has_patch, HavePatches, access_of, Doing, IsRow}
 use Rattle.tx_table.proofs.Last.{appended, have_kept, length_rows, unmarked_row}
 use Rattle.tx_table.proofs.work.Work.write.Goals as goal
 

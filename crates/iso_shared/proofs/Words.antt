@@ -1,0 +1,80 @@
+-- The words that the proofs of this crate cite from elsewhere.
+pub use Rattle.std.proofs.Common.{Bool, Err, IfErr, IfOk, IsSome, IsTrue, List, None, Ok, OnErr, OnOk, Option, Result, Some, [], ap, arith, cond, eq-eqb, false, inl, inr, length, length-append, nat_le, nat_lt, not, refl, replicate, rules, subst, suc, sym, take, true, zero, ℕ, ⊎_elim, ◌&&◌, ◌++◌, ◌+◌, ◌-◌, ◌<◌, ◌==◌, ◌||◌, ◌∙◌, ◌∷◌, ◌≡◌, ◌≢◌, ◌≤◌, ◌⊎◌}
+pub use Rattle.std.proofs.Math.Seq.{take-length}
+pub use Rattle.std.proofs.lemmas.Bool.{and_parts}
+pub use Rattle.std.proofs.lemmas.Bool.Decides.{nat_tests}
+pub use Rattle.std.proofs.lemmas.List.{length-replicate, map-append, take-append-le}
+pub use Rattle.std.proofs.lemmas.Map.Made.{lookup-map_values}
+pub use Rattle.std.proofs.lemmas.Slice.Eq.{bytes_eq-Decides}
+pub use Rattle.std.specs.List.{AllByRecursion}
+pub use Rattle.std.specs.Map.{lookup, remove_entry}
+pub use Rattle.std.specs.Option.{ForSome}
+pub use Rattle.std.specs.Prelude.{IsErr, IsErrOf, bytes_eq, drop, is_some, option_map, option_to_list, slice_get, unwrap_or}
+pub use Rattle.byte_marks.specs.Touched.{AreTouched}
+pub use Rattle.conflict_rule.proofs.Following.{dropped_after}
+pub use Rattle.conflict_rule.specs.Decision.{AreNotesAfter, up_to}
+pub use Rattle.conflict_rule.specs.declared.decision.Checked.{Checked}
+pub use Rattle.iso_core.proofs.Moments.{shows_world}
+pub use Rattle.iso_core.specs.Calls.{BlamesDisk, IsAmong, IsCheckedOf, IsTx, IsWorkOf, Refuses, Writes}
+pub use Rattle.iso_core.specs.Core.{StandsFor, disk_of}
+pub use Rattle.iso_core.specs.Kept.{bare}
+pub use Rattle.iso_core.specs.Standing.{Standing, down, is_down, up}
+pub use Rattle.iso_core.specs.declared.answers.Begun.{Begun}
+pub use Rattle.iso_core.specs.declared.answers.Recent.{Recent}
+pub use Rattle.iso_core.specs.declared.answers.Stat.{Stat}
+pub use Rattle.iso_core.specs.declared.core_itself.Core.{Core}
+pub use Rattle.iso_disk.proofs.Moments.{at_end, joined, started, starts_unwritten, weakened}
+pub use Rattle.iso_disk.specs.Disk.{DiskState, IsLawful, LeavesOnly, StaysTold, WritesNothing}
+pub use Rattle.iso_model.proofs.Held.{shows_any_form, shows_longer}
+pub use Rattle.iso_model.proofs.Worlds.{extends_itself, extends_on}
+unfoldable pub use Rattle.iso_model.specs.Array.{put}
+pub use Rattle.iso_model.specs.Between.{ShowsBetween, ShowsEither, ShowsLast}
+pub use Rattle.iso_model.specs.Conflict.{clash_from, clashes, first_after, first_byte}
+unfoldable pub use Rattle.iso_model.specs.Conflict.{clash}
+pub use Rattle.iso_model.specs.Effect.{has_write, or_else}
+unfoldable pub use Rattle.iso_model.specs.Effect.{runs}
+pub use Rattle.iso_model.specs.Geometry.{is_block_size, same_mode}
+unfoldable pub use Rattle.iso_model.specs.Geometry.{is_valid}
+pub use Rattle.iso_model.specs.History.{History, array_at, last, with_commits}
+pub use Rattle.iso_model.specs.Image.{Shows}
+pub use Rattle.iso_model.specs.Premises.{block_at}
+pub use Rattle.iso_model.specs.Step.{after_begin, after_commit, after_leaving, after_switch, after_trim, commit_from, mode_named, need, put_access, read_access, write_access}
+unfoldable pub use Rattle.iso_model.specs.Step.{begin_step, commit_step, end_step, switch_step}
+unfoldable pub use Rattle.iso_model.specs.Versions.{versions}
+pub use Rattle.iso_model.specs.World.{Live, World, empty_history, floor, fresh, unattached, used, without}
+pub use Rattle.iso_model.specs.Worlds.{Extends, IsLive, IsWorld}
+pub use Rattle.iso_model.specs.declared.access.Access.{Access}
+pub use Rattle.iso_model.specs.declared.access.Clash.{Clash}
+pub use Rattle.iso_model.specs.declared.access.Commit.{Commit}
+pub use Rattle.iso_model.specs.declared.access.EndReply.{EndReply}
+pub use Rattle.iso_model.specs.declared.access.EndReply.TheVariants.{Committed, Conflict, ReadOnly}
+pub use Rattle.iso_model.specs.declared.access.Geometry.{Geometry}
+pub use Rattle.iso_model.specs.declared.access.Kind.TheVariants.{Read, Write}
+pub use Rattle.iso_model.specs.declared.access.Mode.{Mode}
+pub use Rattle.iso_model.specs.declared.access.Mode.TheVariants.{Serial, Snapshot}
+pub use Rattle.iso_model.specs.declared.core_error.CoreError.{CoreError}
+pub use Rattle.iso_model.specs.declared.core_reply.CoreReply.{CoreReply}
+pub use Rattle.iso_model.specs.declared.core_reply.CoreReply.TheVariants.{Done}
+pub use Rattle.iso_model.specs.declared.limits.TheConstants.{LAST, MAX_ACCESSES, MAX_LIVE}
+pub use Rattle.turn_lock.proofs.Outs.{held_first}
+pub use Rattle.turn_lock.proofs.Prefixes.{prefix_more, prefix_self, prefix_trans, prefix_whole}
+pub use Rattle.turn_lock.proofs.Rising.{times_append}
+pub use Rattle.turn_lock.proofs.Totals.{hit_same}
+pub use Rattle.turn_lock.specs.Lists.{count_up, hit, longer, places, times}
+pub use Rattle.turn_lock.specs.Numbers.{AreFree, AreHeld, IsOut, held_after, is_among, is_out, out_from, out_next}
+pub use Rattle.turn_lock.specs.declared.view.View.{View}
+pub use Rattle.tx_table.specs.Work.{AreWithin, Doing}
+pub use Rattle.tx_table.specs.declared.rack.PostError.{PostError}
+pub use Rattle.iso_shared.specs.Legal.{Answers, AreLoose, Fits, IsCall, IsLegal, IsOfCore, LegalFrom, MayHaveMade, MayRefuse, MayWantMemory, answer_to, end_answer, ended, ended_by, handed, needed, numbers_at, reply_of, returned, switch_answer, tx_in}
+pub use Rattle.iso_shared.specs.Plain.{CommitsUpTo, IsReplyUpTo, WasPosted, is_number, takes_out}
+pub use Rattle.iso_shared.specs.Ports.{IsAhead, IsIsolatedAt, IsOwn, IsRecent, IsTxOf, Made, MadeBoth, TookFew, most_steps}
+pub use Rattle.iso_shared.specs.Standing.{Came, Holds, IsOn, ShowsSince, StandsAt, faults_of, posting_in, postings, standing_of, start_at, whole, with_lost}
+pub use Rattle.iso_shared.specs.States.{Start, State, after, after_all, after_end, after_fault, after_refusal, after_sweep, is_live, is_loose, live_of, lost_commit, opened, posting_of, racked, state_at, tx_of, with_world}
+pub use Rattle.iso_shared.specs.Told.{begin_entry, cause_of, compact_entry, end_entry, entry_of, fetch_entry, numbers_of, post_entry, recent_entry, told_entry, trim_entry, upgrade_entry}
+pub use Rattle.iso_shared.specs.declared.entry.Call.{Call}
+pub use Rattle.iso_shared.specs.declared.entry.Cause.{Cause}
+pub use Rattle.iso_shared.specs.declared.entry.Entry.{Entry}
+pub use Rattle.iso_shared.specs.declared.entry.Entry.TheVariants.{Abort, Sweep}
+pub use Rattle.iso_shared.specs.declared.entry.Numbers.{Numbers}
+pub use Rattle.iso_shared.specs.declared.entry.Posting.{Posting}
+pub use Rattle.iso_shared.specs.declared.guarded.Posted.{Posted}

@@ -1,0 +1,89 @@
+-- The words that the proofs of this crate cite from elsewhere.
+pub use Rattle.std.proofs.Common.{Bool, Err, IfOk, IfSome, IsErrOf, IsSome, IsTrue, List, None, Ok, Option, Result, Some, [], ap, append-nil, arith, cond, false, inl, inr, length, length-append, refl, subst, sym, take, true, ℕ, ⊎_elim, ◌++◌, ◌+◌, ◌-◌, ◌==◌, ◌||◌, ◌∙◌, ◌∷◌, ◌≡◌, ◌≢◌, ◌≤◌, ◌⊎◌}
+pub use Rattle.std.proofs.Math.Seq.{take-append-add}
+pub use Rattle.std.proofs.lemmas.List.{take-append-le}
+pub use Rattle.std.proofs.lemmas.Option.{same_Some}
+pub use Rattle.std.specs.Io.KnownBytes.{append_known}
+pub use Rattle.std.specs.List.{AllByRecursion, list_any}
+pub use Rattle.std.specs.Option.{ForSome}
+pub use Rattle.array_digest.specs.declared.digest.DigestError.{DigestError}
+pub use Rattle.bench_script.specs.Ends.{DrawnState, HeldState, drawn_state, held_state}
+pub use Rattle.command_line.specs.Requests.{made_geometry}
+pub use Rattle.command_line.specs.declared.task.Task.{Task}
+pub use Rattle.command_line.specs.declared.task.Task.TheVariants.{Bench, New, Par, Recover, Run}
+pub use Rattle.fault_count.specs.Count.{Rose}
+pub use Rattle.iso_core.specs.Core.{StandsFor, disk_of}
+pub use Rattle.iso_core.specs.Standing.{up}
+pub use Rattle.iso_core.specs.declared.answers.Stat.{Stat}
+pub use Rattle.iso_core.specs.declared.core_itself.Core.{Core}
+pub use Rattle.iso_disk.proofs.Moments.{joined, lasts, since_bind, still_bound, weakened}
+pub use Rattle.iso_disk.proofs.Told.{told_same}
+pub use Rattle.iso_disk.specs.Disk.{DiskState, IsBoundTo, IsLawful, IsSettled, LeavesOnly, SinceBind, StaysTold, WritesNothing}
+pub use Rattle.iso_disk.specs.declared.disk.Disk.{Ghosts}
+pub use Rattle.iso_image.proofs.Histories.{half_shows}
+pub use Rattle.iso_io.proofs.Told.{append_known-append}
+pub use Rattle.iso_io.specs.Sink.{CountsStand, SinkState, Wrote}
+pub use Rattle.iso_io.specs.Source.{SourceState}
+pub use Rattle.iso_machine.specs.Shown.{shows}
+pub use Rattle.iso_machine.specs.Standing.{IsMachineOf}
+pub use Rattle.iso_model.proofs.FreshWorlds.{empty_world_is}
+pub use Rattle.iso_model.specs.Between.{ShowsBetween}
+pub use Rattle.iso_model.specs.Geometry.{is_valid}
+pub use Rattle.iso_model.specs.History.{History, array_at, last}
+pub use Rattle.iso_model.specs.World.{World, empty_history, fresh}
+pub use Rattle.iso_model.specs.Worlds.{IsWorld, LeadsTo}
+pub use Rattle.iso_model.specs.declared.access.Commit.{Commit}
+pub use Rattle.iso_model.specs.declared.access.Geometry.{Geometry}
+pub use Rattle.iso_model.specs.declared.access.Mode.{Mode}
+pub use Rattle.iso_recover.specs.Cause.{IsBlamed, IsTest}
+pub use Rattle.iso_recover.specs.Made.{IsUnmadeOrEmpty}
+pub use Rattle.iso_recover.specs.Opened.{HasOpened}
+pub use Rattle.iso_refusal.proofs.ImageLaws.{image_opens}
+pub use Rattle.iso_refusal.specs.Refusal.{refusal}
+pub use Rattle.iso_refusal.specs.declared.open_error.OpenError.{OpenError}
+pub use Rattle.iso_shared.proofs.Growing.{between_grown, grows_all}
+pub use Rattle.iso_shared.specs.Legal.{Fits, LegalFrom, MayRefuse}
+pub use Rattle.iso_shared.specs.Ports.{port_view}
+pub use Rattle.iso_shared.specs.Standing.{Came, Holds, standing_of, start_at, whole}
+pub use Rattle.iso_shared.specs.States.{Start, State, after_all, after_fault, after_refusal, opened, state_at}
+pub use Rattle.iso_shared.specs.declared.entry.Call.{Call}
+pub use Rattle.iso_shared.specs.declared.entry.Cause.{Cause}
+pub use Rattle.iso_shared.specs.declared.entry.Entry.{Entry}
+pub use Rattle.par_lines.specs.Ends.{Ends, HasEnded, status_of, stopped, wants}
+pub use Rattle.par_lines.specs.declared.par.ParEnd.{ParEnd}
+pub use Rattle.par_script.specs.Told.{Told, entries_of, lines_run}
+pub use Rattle.par_text.specs.Output.{IsFront, IsOutput}
+pub use Rattle.par_text.specs.declared.part.Part.{Part}
+pub use Rattle.script_model.specs.Bench.{answers_to, array_bytes, bench_geometry, bench_output, bench_summary, bench_text, bench_world, recover_output}
+pub use Rattle.script_model.specs.Operations.{IsOp}
+pub use Rattle.script_model.specs.Script.{Script, after, replies, script}
+pub use Rattle.script_model.specs.declared.script.BadLine.{BadLine}
+pub use Rattle.script_model.specs.declared.script.Line.{Line}
+pub use Rattle.script_model.specs.declared.script.Op.{Op}
+pub use Rattle.script_model.specs.declared.script.Reply.{Reply}
+pub use Rattle.script_model.specs.declared.stop.Stop.{Stop}
+pub use Rattle.script_runner.proofs.Acknowledged.{told_kept}
+pub use Rattle.script_runner.proofs.Histories.{between_on, shows_last}
+pub use Rattle.script_runner.proofs.Replying.{plain_same}
+pub use Rattle.script_runner.proofs.Steps.{all_first}
+pub use Rattle.script_runner.specs.Replies.{AreSameButShown, TellsCommit, text_of}
+pub use Rattle.script_runner.specs.Run.{Acknowledges, AreFirst, AreLinesOf, HasRun, IfUp}
+pub use Rattle.script_runner.specs.Told.{ArePlain, IsPlain}
+pub use Rattle.script_runner.specs.declared.run_end.RunEnd.{RunEnd}
+pub use Rattle.sha2.specs.Sha256.{sha256}
+pub use Rattle.store_entries.proofs.Listed.{stores_answer_at}
+pub use Rattle.store_scripts.proofs.Whole.{stores_answer}
+pub use Rattle.whole_script.specs.Read.{HasNoLines, HasRead}
+pub use Rattle.whole_script.specs.declared.lines.ScriptError.{ScriptError}
+pub use Rattle.iso_top.specs.Begun.{HasCore, HasNoCore}
+pub use Rattle.iso_top.specs.Clients.{HasRunClients, HasRunNone, PrintedClients, ShowsBehind, ShowsState, WereRun}
+pub use Rattle.iso_top.specs.Founded.{BeginsWith}
+pub use Rattle.iso_top.specs.Outcome.{HasAnswered, HasBegun, HasBenched, HasMet, HasNotBegun, HasRecovered, IsAccepted, IsGoodInput, IsStatus, PrintedBench, PrintedDigest, PrintedEnd, PrintedResult}
+pub use Rattle.iso_top.specs.Plain.{OpensFrom, PrintsButShown, PrintsButShownOf, PrintsDigestOf, PrintsReplies, PrintsRepliesOf}
+pub use Rattle.iso_top.specs.Prints.{Printed, SinkFailed, WasCut, WroteWhole}
+pub use Rattle.iso_top.specs.Ran.{HasClosed, HasRunLines, PutOf}
+pub use Rattle.iso_top.specs.Starts.{GoesOnTelling, IsUntouched, MayBeUnmade, OpensTo, TellsNamed, WasBoundOnce}
+pub use Rattle.iso_top.specs.Texts.{disk_fault_text, end_status, error_status, error_text, memory_text, recover_text, script_error_status, script_error_text}
+pub use Rattle.iso_top.specs.contracts.opened.Opened.{the_row}
+pub use Rattle.iso_top.specs.contracts.opened.world_of.{clauses, ended}
+pub use Rattle.iso_top.specs.declared.opened.Opened.{Opened}
