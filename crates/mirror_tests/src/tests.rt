@@ -1,82 +1,14 @@
 // The program over a mirror of two disks in memory, of which one fails, or both.
-ghost use Rattle.std.specs.Prelude.{◌≡◌, ◌≢◌, false};
-ghost use Rattle.std.specs.Option.{ForSome};
-ghost use Rattle.command_line.specs.declared.task.Task.TheVariants.{Par};
-ghost use Rattle.command_line.specs.Grammar.{texts};
-ghost use Rattle.command_line.specs.Requests.{request_of};
-
+use crate::calls::{RUN, SMALL, call};
 use crate::tests_adopt::adopted;
-use command_line::{Task, read_words};
-use iso_io::{MemSink, MemSource};
 use iso_memdisk::{CallKind, MemDisk};
-use iso_top::alone;
-use mirror_disk::{Mirror, MirrorError};
-use std::alloc::{AllocError, Global};
+use mirror_disk::MirrorError;
 use std::test::Fail;
 use top_calls::{no_disk, small_image};
-
-const SMALL: &str = "isotope new t+ --block-size 64 --blocks 4 --log 256";
-
-const RUN: &str = "isotope run t+";
 
 /// The header of a side of a new mirror: epoch 1 in the first slot.
 const HEADER: [u8; 64] =
     *b"ISOMIRR1\0\0\0\0\0\0\0\0\x01\0\0\0\0\0\0\0\0\0\0\0\0\0\0\x01\0\0\0\0\0\0\0\0\0\0\0\0\0\0\0\0\0\0\0\0\0\0\0\0\0\0\0\0\0\0\0\0";
-
-/// What a call gave.
-#[derive(Drop)]
-struct Outcome {
-    status: u8,
-    output: Vec<u8>,
-    first: MemDisk,
-    second: MemDisk,
-}
-
-fn may_be_par(alloc: Global, words: &[String]) -> bool
-    ensures { result ≡ false → ForSome (request_of (texts words.now)) (λ r. r.1 ≢ Par) }
-{
-    match read_words(alloc, words) {
-        Ok(Some(request)) => match request.task {
-            Task::Par => true,
-            Task::New { .. } | Task::Run | Task::Recover | Task::Bench { .. } => false,
-        },
-        Ok(None) => false,
-        Err(_) => true,
-    }
-}
-
-fn call(
-    alloc: Global,
-    line: &str,
-    first: MemDisk,
-    second: MemDisk,
-    input: &[u8],
-) -> Result<Outcome, AllocError> {
-    let mut words = Vec::new(alloc);
-    for word in line.split_whitespace() {
-        words.push(String::from_str(alloc, word)?)?;
-    }
-    if may_be_par(alloc, &words) {
-        return Err(AllocError);
-    }
-    let mut source = MemSource::new(input.to_vec(alloc)?, Vec::new(alloc));
-    let mut sink = MemSink::new(alloc, Vec::new(alloc));
-    let ended = alone(
-        alloc,
-        &words,
-        Mirror::of(first, second),
-        &mut source,
-        &mut sink,
-    );
-    let output = sink.bytes().to_vec(alloc)?;
-    let (first, second) = ended.image.into_sides();
-    Ok(Outcome {
-        status: ended.status,
-        output,
-        first,
-        second,
-    })
-}
 
 #[test]
 fn both_sides_of_a_new_mirror(rt: HostRuntime) -> Result<(), Fail> {

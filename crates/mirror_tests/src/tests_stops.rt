@@ -1,0 +1,126 @@
+// A mirror whose sides stop after calls: what the two sides are opened to that a crash then leaves.
+use crate::calls::{Outcome, RUN, SMALL, call};
+use crate::steps::{COMMITS, COMPACTION, MADE, NO_IMAGE, Steps, THREE};
+use crate::tests_adopt::adopted;
+use iso_memdisk::MemDisk;
+use mirror_disk::MirrorError;
+use std::alloc::Global;
+use std::test::Fail;
+use top_calls::no_disk;
+
+/// What a script is answered on two sides that are adopted. Sides without two headers of a mirror are no image.
+pub(crate) fn opened(
+    alloc: Global,
+    first: Vec<u8>,
+    second: Vec<u8>,
+    script: &[u8],
+) -> Result<Vec<u8>, Fail> {
+    let (error, _used, first, second) = adopted(
+        MemDisk::new(alloc, first),
+        MemDisk::new(alloc, second),
+    );
+    match error {
+        None => Ok(call(alloc, RUN, first, second, script)?.output),
+        Some(MirrorError::Disk) => Ok(Vec::new(alloc)),
+        Some(MirrorError::NotMirror { .. }) | Some(MirrorError::SizesDiffer { .. }) => {
+            Ok(NO_IMAGE.to_vec(alloc)?)
+        }
+    }
+}
+
+/// Whether each two images that a crash leaves of the sides have the steps that were told of, and none or one behind them.
+pub(crate) fn keeps(alloc: Global, outcome: &Outcome, steps: Steps) -> Result<bool, Fail> {
+    for one in 0..4 {
+        for two in 0..4 {
+            let first = outcome.first.crash(alloc, one)?;
+            let second = outcome.second.crash(alloc, two)?;
+            let found = opened(alloc, first, second, steps.show)?;
+            if !steps.are_kept(&outcome.output, &found) {
+                return Ok(false);
+            }
+        }
+    }
+    Ok(true)
+}
+
+/// A call whose sides have these bytes, and stop behind so many calls.
+pub(crate) fn stopped(
+    alloc: Global,
+    line: &str,
+    sides: &(Vec<u8>, Vec<u8>),
+    stops: (u64, u64),
+    input: &[u8],
+) -> Result<Outcome, Fail> {
+    let mut first = MemDisk::new(alloc, sides.0.to_vec(alloc)?);
+    first.fuse(stops.0);
+    let mut second = MemDisk::new(alloc, sides.1.to_vec(alloc)?);
+    second.fuse(stops.1);
+    Ok(call(alloc, line, first, second, input)?)
+}
+
+/// How many calls each side makes where none fails.
+pub(crate) fn counts(
+    alloc: Global,
+    line: &str,
+    sides: &(Vec<u8>, Vec<u8>),
+    input: &[u8],
+) -> Result<(u64, u64), Fail> {
+    let whole = stopped(alloc, line, sides, (1_000, 1_000), input)?;
+    Ok((whole.first.calls(), whole.second.calls()))
+}
+
+/// The sides that a small mirror has behind a script.
+pub(crate) fn made_sides(alloc: Global, script: &[u8]) -> Result<(Vec<u8>, Vec<u8>), Fail> {
+    let made = call(alloc, SMALL, no_disk(alloc), no_disk(alloc), script)?;
+    Ok((made.first.crash(alloc, 0)?, made.second.crash(alloc, 0)?))
+}
+
+/// Whether the steps are kept wherever both sides stop, from so many calls of each on. The first side is asked first, and
+/// alone for what is read; so it is ahead by what it reads, and by two at most in the header. Each moment is among these.
+fn are_kept(
+    alloc: Global,
+    line: &str,
+    sides: &(Vec<u8>, Vec<u8>),
+    from: (u64, u64),
+    steps: Steps,
+) -> Result<bool, Fail> {
+    let all = counts(alloc, line, sides, steps.input)?;
+    let (calls, others) = (all.0.saturating_sub(from.0), all.1.saturating_sub(from.1));
+    let ahead = calls.saturating_sub(others).saturating_add(2);
+    for one in 0..calls.saturating_add(1) {
+        for two in one.saturating_sub(ahead)..one.saturating_add(1) {
+            let stops = (one.saturating_add(from.0), two.saturating_add(from.1));
+            let outcome = stopped(alloc, line, sides, stops, steps.input)?;
+            if !keeps(alloc, &outcome, steps)? {
+                return Ok(false);
+            }
+        }
+    }
+    Ok(true)
+}
+
+#[test]
+fn a_stop_behind_each_call_of_a_formatting_and_two_commits(rt: HostRuntime) -> Result<(), Fail> {
+    let alloc = rt.alloc();
+    let none = (Vec::new(alloc), Vec::new(alloc));
+    assert!(rt; are_kept(alloc, SMALL, &none, (0, 0), MADE)?);
+    Ok(())
+}
+
+#[test]
+fn a_stop_behind_each_call_of_two_commits(rt: HostRuntime) -> Result<(), Fail> {
+    let alloc = rt.alloc();
+    let sides = made_sides(alloc, b"")?;
+    let opening = counts(alloc, RUN, &sides, b"")?;
+    assert!(rt; are_kept(alloc, RUN, &sides, opening, COMMITS)?);
+    Ok(())
+}
+
+#[test]
+fn a_stop_behind_each_call_of_a_compaction(rt: HostRuntime) -> Result<(), Fail> {
+    let alloc = rt.alloc();
+    let sides = made_sides(alloc, THREE)?;
+    let opening = counts(alloc, RUN, &sides, b"")?;
+    assert!(rt; are_kept(alloc, RUN, &sides, opening, COMPACTION)?);
+    Ok(())
+}
