@@ -1,4 +1,5 @@
-// A disk whose pages are kept, and that stops after each call: what the images are opened to that a crash then leaves.
+// A disk whose pages are kept, and that stops after each call or fails at one: what the images are opened to that a crash then
+// leaves.
 use crate::calls::call_over;
 use crate::steps::{COMPACTION, MADE, Steps, THREE};
 use iso_memdisk::MemDisk;
@@ -18,17 +19,43 @@ fn keeps(alloc: Global, disk: &MemDisk, output: &[u8], steps: Steps) -> Result<b
     Ok(true)
 }
 
-/// Whether the steps are kept wherever the disk below stops, until the script is done.
-fn are_kept(alloc: Global, line: &str, bytes: &[u8], steps: Steps) -> Result<bool, Fail> {
-    for calls in 0..100 {
-        let mut disk = MemDisk::new(alloc, bytes.to_vec(alloc)?);
-        disk.fuse(calls);
+/// How the disk below fails: from a call on for good, or at that call alone.
+#[derive(Clone, Copy)]
+enum Failing {
+    From,
+    At,
+}
+
+fn disk_that_fails(
+    alloc: Global,
+    bytes: &[u8],
+    how: Failing,
+    number: u64,
+) -> Result<MemDisk, Fail> {
+    let mut disk = MemDisk::new(alloc, bytes.to_vec(alloc)?);
+    match how {
+        Failing::From => disk.fuse(number.saturating_sub(1)),
+        Failing::At => disk.fail(number),
+    }
+    Ok(disk)
+}
+
+/// Whether the steps are kept whichever call of the disk below fails, until it makes fewer calls and the script is done.
+fn are_kept(
+    alloc: Global,
+    line: &str,
+    bytes: &[u8],
+    how: Failing,
+    steps: Steps,
+) -> Result<bool, Fail> {
+    for number in 1..100 {
+        let disk = disk_that_fails(alloc, bytes, how, number)?;
         let (status, output, kept) = call_over(alloc, line, Kept::new(alloc, disk), steps.input)?;
         if !keeps(alloc, kept.disk(), &output, steps)? {
             return Ok(false);
         }
         if status == 0 {
-            return Ok(steps.are_told(&output));
+            return Ok(kept.disk().calls() < number && steps.are_told(&output));
         }
     }
     Ok(false)
@@ -38,7 +65,7 @@ fn are_kept(alloc: Global, line: &str, bytes: &[u8], steps: Steps) -> Result<boo
 fn a_stop_behind_each_call_of_a_formatting_and_two_commits_over_kept_pages(
     rt: HostRuntime,
 ) -> Result<(), Fail> {
-    assert!(rt; are_kept(rt.alloc(), SMALL, b"", MADE)?);
+    assert!(rt; are_kept(rt.alloc(), SMALL, b"", Failing::From, MADE)?);
     Ok(())
 }
 
@@ -46,6 +73,22 @@ fn a_stop_behind_each_call_of_a_formatting_and_two_commits_over_kept_pages(
 fn a_stop_behind_each_call_of_a_compaction_over_kept_pages(rt: HostRuntime) -> Result<(), Fail> {
     let alloc = rt.alloc();
     let image = made_image(alloc, SMALL, THREE)?;
-    assert!(rt; are_kept(alloc, RUN, &image, COMPACTION)?);
+    assert!(rt; are_kept(alloc, RUN, &image, Failing::From, COMPACTION)?);
+    Ok(())
+}
+
+#[test]
+fn a_fault_at_each_call_of_a_formatting_and_two_commits_over_kept_pages(
+    rt: HostRuntime,
+) -> Result<(), Fail> {
+    assert!(rt; are_kept(rt.alloc(), SMALL, b"", Failing::At, MADE)?);
+    Ok(())
+}
+
+#[test]
+fn a_fault_at_each_call_of_a_compaction_over_kept_pages(rt: HostRuntime) -> Result<(), Fail> {
+    let alloc = rt.alloc();
+    let image = made_image(alloc, SMALL, THREE)?;
+    assert!(rt; are_kept(alloc, RUN, &image, Failing::At, COMPACTION)?);
     Ok(())
 }
