@@ -247,9 +247,9 @@ bad_keys a from to most t not = rw not (ran_at (Done (Err store.BadKey)) t t (Er
 pub scan_ended : (a : Area) (from to : List ℕ) (most : ℕ) (t u : Tx) (result : Scanned) → HasScanned (scan_program a from to most) t u result
     → HasEnded (scan_program a from to most) t u result ⊎ WantsMemory (scan_program a from to most) t u result
 scan_ended a from to most t u result (inl run) = inl (ended_from (scan_program a from to most) t u result run)
-scan_ended a from to most t u result (inr wants) = inr wants
+scan_ended a from to limit t u result (inr wants) = inr wants
 
 pub scan_any : (a : Area) (from to : List ℕ) (most : ℕ) (t u : Tx) (result : Scanned) → (is_key from && is_key to) ≡ true → HasScanned (scan_program a from to most) t u result
     → IfOk result (IsLocalCall (IsTreeRegion a) (tree_map a) (scan_op from to most) t u)
 scan_any a from to most t u (Ok pairs) are run = let both = and_parts (is_key from) (is_key to) are in scan_call a from to most t u (Ok pairs) both.0 both.1 (scanned_ok (scan_program a from to most) t u pairs run)
-scan_any a from to most t u (Err e) are run = tt
+scan_any a from to limit t u (Err e) are run = tt
