@@ -1,10 +1,11 @@
 -- What stays along a list: the history grows, and a transaction keeps its begin and its mode for as long as it is live.
-use Rattle.iso_shared.proofs.Words.{◌≡◌, ℕ, ◌+◌, ◌-◌, ◌<◌, ◌≤◌, ◌==◌, Bool, true, false, cond, List, [], ◌∷◌, ◌++◌, Option, Some, None, length, length-append, take, refl, sym, ap, ◌∙◌, subst, arith, option_map, nat_tests, take-append-le, Checked, up_to, Access, Commit, EndReply, Committed, ReadOnly, Conflict, Geometry, Mode, clash, clash_from, clashes, first_after, first_byte, has_write, or_else, History, last, World, Live, without, Extends, extends_itself, extends_on, Doing, Call, Cause, Entry, IsAhead, IsOwn, Start, State, opened, is_live, live_of, after, after_all, after_fault, after_refusal, after_sweep, lost_commit, state_at}
+use Rattle.iso_shared.proofs.Words.{◌≡◌, ℕ, ◌+◌, ◌-◌, ◌<◌, ◌≤◌, ◌==◌, Bool, true, false, cond, List, [], ◌∷◌, ◌++◌, Option, Some, None, length, length-append, take, refl, sym, ap, ◌∙◌, subst, arith, option_map, nat_tests, take-append-le, Checked, up_to, Access, Commit, EndReply, Committed, ReadOnly, Conflict, Geometry, Mode, clash, clash_from, clashes, first_after, first_byte, has_write, or_else, History, last, World, Live, without, Extends, extends_itself, extends_on, Doing, after_leaving, ahead, leave_all, Call, Cause, Entry, Member, IsAhead, IsOwn, Start, State, opened, is_live, live_of, after, after_all, after_fault, after_group, after_refusal, after_sweep, lost_commit, lost_commits, members_of, state_at, txs_of, with_world}
 use Rattle.std.proofs.Common.{drop}
 use mathlib.Core.List.{IsPrefix}
 use Rattle.iso_shared.specs.declared.entry.Call.TheVariants as call
 use Rattle.iso_shared.specs.declared.entry.Cause.TheVariants as cause
 use Rattle.iso_shared.specs.declared.entry.Entry.TheVariants as entry
+use Rattle.iso_shared.proofs.Grouped.{after_is, behind_it}
 use Rattle.iso_shared.proofs.Lives.{live_snoc, live_without, of_snoc, of_without}
 use Rattle.iso_shared.proofs.Trace.{after_append}
 
@@ -70,10 +71,30 @@ follows_end S k accesses (Committed c) = follows_left S (after S (entry.End k ac
 follows_end S k accesses ReadOnly = follows_left S (after S (entry.End k accesses ReadOnly)) k refl refl refl (extends_itself S.world.history)
 follows_end S k accesses (Conflict c) = follows_left S (after S (entry.End k accesses (Conflict c))) k refl refl refl (extends_itself S.world.history)
 
+-- several leave
+follows_all_left : (T : State) (txs : List Live) → Follows T (with_world T (leave_all txs T.world))
+follows_all_left T [] = follows_itself T
+follows_all_left T (t ∷ txs) =
+    let U : State = with_world T (after_leaving T.world t) in
+    follows_on T U (with_world U (leave_all txs U.world)) (follows_left T U t.number refl refl refl (extends_itself T.world.history)) (follows_all_left U txs)
+
+follows_group : (S : State) (members : List Member) → Follows S (with_world S (after_group S.world members))
+follows_group S members =
+    let more : List Commit = lost_commits S.world members in
+    let U : State = with_world S (ahead S.world more) in
+    let txs : List Live = txs_of S.world members in
+    let grown : Follows S U = record { next = omega arith; block = refl; blocks = refl; mode = refl; history = behind_it S.world.history more; live = λ n below is. (is, refl) } in
+    subst (λ (W : World). Follows S (with_world S W)) (sym (after_is S.world members))
+    (follows_on S U (with_world U (leave_all txs U.world)) grown (follows_all_left U txs))
+
 follows_fault : (S : State) (c : Call) (now : ℕ) → Follows S (after_fault S c now)
 follows_fault S (call.Begin named) now = same_world S _ refl
 follows_fault S (call.Fetch n block) now = same_world S _ refl
 follows_fault S (call.End n accesses) now = follows_left S (after_fault S (call.End n accesses) now) n refl refl refl (extends_itself S.world.history)
+follows_fault S (call.EndGroup members) now =
+    let T : State = with_world S (leave_all (txs_of S.world members) S.world) in
+    let U : State = after_fault S (call.EndGroup members) now in
+    follows_on S T U (follows_all_left S (txs_of S.world members)) (same_world T U refl)
 follows_fault S call.Trim now = same_world S _ refl
 follows_fault S call.Compact now = same_world S _ refl
 follows_fault S call.Upgrade now = same_world S _ refl
@@ -120,6 +141,7 @@ pub follows_next : (S : State) (e : Entry) → Follows S (after S e)
 follows_next S (entry.Begin k at mode) = follows_begin S _ (after S (entry.Begin k at mode)) refl refl refl refl refl
 follows_next S (entry.Fetch k block bytes) = follows_itself S
 follows_next S (entry.End k accesses r) = follows_end S k accesses r
+follows_next S (entry.EndGroup ends) = follows_group S (members_of ends)
 follows_next S (entry.Abort k) = follows_left S (after S (entry.Abort k)) k refl refl refl (extends_itself S.world.history)
 follows_next S (entry.Trim k) = record { next = omega arith; block = refl; blocks = refl; mode = refl; history = extends_itself S.world.history; live = λ n below is. (is, refl) }
 follows_next S (entry.Compact k) = record { next = omega arith; block = refl; blocks = refl; mode = refl; history = extends_itself S.world.history; live = λ n below is. (is, refl) }

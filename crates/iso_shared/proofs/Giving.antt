@@ -17,6 +17,7 @@ pub fault_keeps : (S : State) (c : Call) (k : ℕ) → (after_fault S c k).rack 
 fault_keeps S (call.Begin named) k = refl
 fault_keeps S (call.Fetch n block) k = refl
 fault_keeps S (call.End n accesses) k = refl
+fault_keeps S (call.EndGroup members) k = refl
 fault_keeps S call.Trim k = refl
 fault_keeps S call.Compact k = refl
 fault_keeps S call.Upgrade k = refl
@@ -37,6 +38,7 @@ ended_held : (c : Call) (holds : List ℕ) → AreHeld (tx_in c) holds → AreHe
 ended_held (call.Begin named) holds h = tt
 ended_held (call.Fetch n block) holds h = tt
 ended_held (call.End n accesses) holds h = h
+ended_held (call.EndGroup members) holds h = h
 ended_held call.Trim holds h = tt
 ended_held call.Compact holds h = tt
 ended_held call.Upgrade holds h = tt

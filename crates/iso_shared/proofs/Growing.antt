@@ -1,9 +1,10 @@
 -- What images show of the history while the list grows.
-use Rattle.iso_shared.proofs.Words.{◌≡◌, ℕ, ◌<◌, ◌≤◌, List, [], ◌∷◌, ◌++◌, Option, Some, None, refl, sym, ap, ◌∙◌, subst, arith, Access, Commit, EndReply, Committed, ReadOnly, Conflict, Geometry, History, last, with_commits, Shows, World, Extends, shows_any_form, shows_longer, extends_itself, extends_on, ShowsBetween, ShowsLast, Call, Cause, Entry, Answers, IsLegal, LegalFrom, MayRefuse, ShowsSince, whole, with_lost, Start, State, after, after_all, after_end, after_fault, after_refusal, lost_commit, opened, state_at}
+use Rattle.iso_shared.proofs.Words.{◌≡◌, ℕ, ◌<◌, ◌≤◌, List, [], ◌∷◌, ◌++◌, Option, Some, None, refl, sym, ap, ◌∙◌, subst, arith, Access, Commit, EndReply, Committed, ReadOnly, Conflict, Geometry, History, last, with_commits, Shows, World, Extends, shows_any_form, shows_longer, extends_itself, extends_on, ShowsBetween, ShowsLast, leave_all_is, Call, Cause, Entry, Member, Answers, IsLegal, LegalFrom, MayRefuse, ShowsSince, whole, with_lost, Start, State, after, after_all, after_end, after_fault, after_group, after_refusal, lost_commit, lost_commits, members_of, opened, state_at, txs_of}
 use Rattle.iso_shared.specs.declared.entry.Call.TheVariants as call
 use Rattle.iso_shared.specs.declared.entry.Cause.TheVariants as cause
 use Rattle.iso_shared.specs.declared.entry.Entry.TheVariants as entry
 use Rattle.iso_shared.proofs.Follows.{last_longer, one_more_commit}
+use Rattle.iso_shared.proofs.Grouped.{after_live, behind_it}
 use Rattle.iso_shared.proofs.Trace.{after_snoc}
 
 -- the geometry stays but for the form, and the history grows
@@ -55,8 +56,11 @@ grows_end S n accesses (Committed k) up =
 grows_end S n accesses ReadOnly up = formed S.world (after S (entry.End n accesses ReadOnly)).world S.lost refl refl
 grows_end S n accesses (Conflict c) up = formed S.world (after S (entry.End n accesses (Conflict c))).world S.lost refl refl
 
-behind_it : (H : History) (lost : List Commit) → Extends H (with_commits lost H)
-behind_it H lost = record { first = refl; base = refl; more = lost; commits = refl }
+grows_group : (S : State) (members : List Member) → S.lost ≡ None → Grows (whole S) (with_lost (after_group S.world members) S.lost)
+grows_group S members up =
+    let one : Grows S.world (after_group S.world members) =
+    subst (Grows S.world) (sym (after_live S.world members)) (record { geometry = refl; history = behind_it S.world.history (lost_commits S.world members) }) in
+    subst (λ (q : Option (List Commit)). Grows (with_lost S.world q) (with_lost (after_group S.world members) q)) (sym up) one
 
 grows_fault : (S : State) (c : Call) (before now : ℕ) → MayRefuse S c (cause.Disk before now) → Grows (whole S) (whole (after_fault S c now))
 grows_fault S (call.Begin named) before now may = absurd may.0
@@ -64,6 +68,11 @@ grows_fault S (call.Fetch n block) before now may = formed S.world S.world S.los
 grows_fault S (call.End n accesses) before now may =
     let T : State = after_fault S (call.End n accesses) now in
     added S.world T.world S.lost T.lost may.0.0 (record { geometry = refl; history = behind_it S.world.history (lost_commit S.world n accesses ∷ []) })
+grows_fault S (call.EndGroup members) before now may =
+    let T : State = after_fault S (call.EndGroup members) now in
+    added S.world T.world S.lost T.lost may.0.0
+    (subst (λ (V : World). Grows S.world (with_lost V T.lost)) (sym (leave_all_is (txs_of S.world members) S.world))
+    (record { geometry = refl; history = behind_it S.world.history (lost_commits S.world members) }))
 grows_fault S call.Trim before now may = absurd may.0
 grows_fault S call.Compact before now may = added S.world S.world S.lost (Some []) may.0.0 (record { geometry = refl; history = behind_it S.world.history [] })
 grows_fault S call.Upgrade before now may = added S.world S.world S.lost (Some []) may.0.0 (record { geometry = refl; history = behind_it S.world.history [] })
@@ -84,6 +93,7 @@ pub grows_next : (S : State) (e : Entry) → Answers S e → Grows (whole S) (wh
 grows_next S (entry.Begin n at mode) a = formed S.world (after S (entry.Begin n at mode)).world S.lost refl refl
 grows_next S (entry.Fetch n block bytes) a = grows_itself (whole S)
 grows_next S (entry.End n accesses r) a = grows_end S n accesses r a.0
+grows_next S (entry.EndGroup ends) a = grows_group S (members_of ends) a.0
 grows_next S (entry.Abort n) a = formed S.world (after S (entry.Abort n)).world S.lost refl refl
 grows_next S (entry.Trim n) a = formed S.world (after S (entry.Trim n)).world S.lost refl refl
 grows_next S (entry.Compact n) a = formed S.world (after S (entry.Compact n)).world S.lost refl refl

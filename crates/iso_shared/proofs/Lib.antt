@@ -1,5 +1,6 @@
 pub mod Words
 pub mod Lives
+pub mod Grouped
 pub mod Trace
 pub mod Follows
 pub mod Growing
@@ -16,5 +17,6 @@ pub mod Racked
 pub mod Checks
 pub mod Rows
 pub mod Traps
+mod GroupRows
 pub mod PostsBefore
 pub mod CommitsBefore

@@ -70,6 +70,7 @@ refused_rack S c (cause.Disk before now) = faulted c
     faulted (call.Begin named) = refl
     faulted (call.Fetch n block) = refl
     faulted (call.End n accesses) = refl
+    faulted (call.EndGroup members) = refl
     faulted call.Trim = refl
     faulted call.Compact = refl
     faulted call.Upgrade = refl
@@ -117,6 +118,7 @@ back : (S : State) (label : List ℕ) (p : Posting) (e : Entry) → IsSound S �
 back S label p (entry.Begin n at mode) s fits there = inl (there, refl)
 back S label p (entry.Fetch n block bytes) s fits there = inl (there, refl)
 back S label p (entry.End n accesses r) s fits there = inl (there, refl)
+back S label p (entry.EndGroup ends) s fits there = inl (there, refl)
 back S label p (entry.Abort n) s fits there = inl (there, refl)
 back S label p (entry.Trim n) s fits there = inl (there, refl)
 back S label p (entry.Compact n) s fits there = inl (there, refl)

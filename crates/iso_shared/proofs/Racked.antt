@@ -78,6 +78,7 @@ known_next : (S : State) (e : Entry) → IsSound S → Fits S e → AreKnown S S
 known_next S (entry.Begin k at mode) s fits all = kept_next S (entry.Begin k at mode) refl all
 known_next S (entry.Fetch k block bytes) s fits all = all
 known_next S (entry.End k accesses r) s fits all = kept_next S (entry.End k accesses r) refl all
+known_next S (entry.EndGroup ends) s fits all = kept_next S (entry.EndGroup ends) refl all
 known_next S (entry.Abort k) s fits all = kept_next S (entry.Abort k) refl all
 known_next S (entry.Trim k) s fits all = kept_next S (entry.Trim k) refl all
 known_next S (entry.Compact k) s fits all = kept_next S (entry.Compact k) refl all

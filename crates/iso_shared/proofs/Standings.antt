@@ -1,5 +1,8 @@
 -- What lies under the lock, with one entry more.
-use Rattle.iso_shared.proofs.Words.{◌≡◌, ◌⊎◌, inl, inr, ℕ, ◌<◌, true, List, [], ◌∷◌, ◌++◌, Option, Some, None, refl, sym, ap, ◌∙◌, subst, arith, option_to_list, AllByRecursion, Core, StandsFor, disk_of, up, shows_world, last, World, DiskState, IsLawful, LeavesOnly, joined, started, starts_unwritten, weakened, times, AreFree, AreHeld, IsOut, Entry, Posted, AreLoose, Answers, IsLegal, handed, needed, returned, Came, Holds, IsOn, ShowsSince, StandsAt, postings, start_at, Start, after, is_live, opened, state_at}
+use Rattle.iso_shared.proofs.Words.{◌≡◌, ◌⊎◌, inl, inr, ℕ, ◌<◌, true, List, [], ◌∷◌, ◌++◌, Option, Some, None, refl, sym, ap, ◌∙◌, subst, arith, option_to_list, AllByRecursion, Core, StandsFor, disk_of, up, shows_world, last, World, DiskState, IsLawful, LeavesOnly, joined, started, starts_unwritten, weakened, times, AreDistinct, AreFree, AreHeld, IsOut, Call, Cause, Entry, Posted, AreLoose, Answers, IsCall, IsLegal, ended, ended_by, handed, needed, returned, Came, Holds, IsOn, ShowsSince, StandsAt, postings, start_at, Start, State, after, is_live, opened, state_at}
+use Rattle.iso_shared.specs.declared.entry.Call.TheVariants as call
+use Rattle.iso_shared.specs.declared.entry.Cause.TheVariants as cause
+use Rattle.iso_shared.specs.declared.entry.Entry.TheVariants as entry
 use Rattle.iso_shared.proofs.Growing.{since_next}
 use Rattle.iso_shared.proofs.Trace.{NotLoose, after_snoc, legal_last, legal_snoc, loose_is, not_loose, opened_sound, out_is, sound_all, IsSound}
 
@@ -19,6 +22,45 @@ free_by : (A : Start) (es : List Entry) → A.world.live ≡ [] → IsLegal A es
 free_by A es none legal None not = tt
 free_by A es none legal (Some n) not = (out_is A es n none legal ∙ not, tt)
 
+-- a fault ends no transaction twice
+ended_distinct : (W : World) (c : Call) → IsCall W c → AreDistinct (ended c)
+ended_distinct W (call.Begin named) is = tt
+ended_distinct W (call.Fetch n block) is = tt
+ended_distinct W (call.End n accesses) is = (refl, tt)
+ended_distinct W (call.EndGroup members) is = is.distinct
+ended_distinct W call.Trim is = tt
+ended_distinct W call.Compact is = tt
+ended_distinct W call.Upgrade is = tt
+ended_distinct W (call.Post n label accesses) is = tt
+ended_distinct W (call.Recent n) is = tt
+
+refused_distinct : (W : World) (c : Call) (why : Cause) → IsCall W c → AreDistinct (ended_by c why)
+refused_distinct W c (cause.Disk before now) is = ended_distinct W c is
+refused_distinct W c cause.Down is = tt
+refused_distinct W c cause.TooManyTx is = tt
+refused_distinct W c (cause.LogFull need free) is = tt
+refused_distinct W c cause.Memory is = tt
+refused_distinct W c cause.Worn is = tt
+refused_distinct W c cause.ModeFixed is = tt
+refused_distinct W c cause.LabelTaken is = tt
+
+-- nor does an entry that is legal take one back twice
+returned_distinct : (S : State) (e : Entry) → Answers S e → AreDistinct (returned e)
+returned_distinct S (entry.Begin n at mode) a = tt
+returned_distinct S (entry.Fetch n block bytes) a = tt
+returned_distinct S (entry.End n accesses r) a = (refl, tt)
+returned_distinct S (entry.EndGroup ends) a = a.1.distinct
+returned_distinct S (entry.Abort n) a = (refl, tt)
+returned_distinct S (entry.Trim n) a = tt
+returned_distinct S (entry.Compact n) a = tt
+returned_distinct S (entry.Upgrade n) a = tt
+returned_distinct S (entry.Stat numbers) a = tt
+returned_distinct S (entry.Post n label accesses) a = (refl, tt)
+returned_distinct S (entry.Look label found) a = tt
+returned_distinct S (entry.Sweep found) a = tt
+returned_distinct S (entry.Recent n upto) a = tt
+returned_distinct S (entry.Refused c why) a = refused_distinct S.world c why a.0
+
 some_entry : (es : List Entry) (e : Entry) → es ++ e ∷ [] ≡ [] → ⊥
 some_entry [] e is = cc is
 some_entry (x ∷ es) e is = cc is
@@ -30,6 +72,10 @@ module _ {D : Type 0} (disk : D → DiskState) {first : DiskState} (A : Start) w
       let l = legal_last (opened A) es e s.legal in
       let sound = sound_all (opened A) es (opened_sound A s.start) l.0 in
       free_by A es s.start l.0 (handed e) (not_loose (state_at A es) e sound l.1.answers)
+
+  -- nor does it take a number back twice
+  pub distinct_back : (core : Core D) (items : List (List ℕ × Posted)) (es : List Entry) (e : Entry) → StandsAt disk A first core items (es ++ e ∷ []) → AreDistinct (returned e)
+  distinct_back core items es e s = returned_distinct (state_at A es) e (legal_last (opened A) es e s.legal).1.answers
 
   -- numbers that are held are loose
   pub held_loose : (core : Core D) (items : List (List ℕ × Posted)) (es : List Entry) (holds : List ℕ) → StandsAt disk A first core items es → HoldsOut holds es → (ns : List ℕ) → AreHeld ns holds → AreLoose ns (state_at A es)

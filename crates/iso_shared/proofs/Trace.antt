@@ -1,8 +1,9 @@
 -- The state along a list, and which numbers are out in it.
-use Rattle.iso_shared.proofs.Words.{◌≡◌, ℕ, zero, suc, ◌+◌, ◌<◌, ◌≤◌, ◌==◌, Bool, true, false, ◌&&◌, ◌||◌, cond, List, [], ◌∷◌, ◌++◌, Option, Some, None, refl, sym, ap, ◌∙◌, subst, arith, bytes_eq, drop, option_map, option_to_list, slice_get, lookup, remove_entry, nat_tests, hit, times, is_among, out_next, out_from, is_out, hit_same, Live, without, Access, EndReply, Committed, ReadOnly, Conflict, Call, Cause, Entry, Posting, Start, State, opened, is_live, is_loose, racked, after, after_all, after_fault, after_refusal, after_sweep, state_at, AreLoose, Answers, Fits, LegalFrom, IsLegal, handed, returned, ended_by}
+use Rattle.iso_shared.proofs.Words.{◌≡◌, ℕ, zero, suc, ◌+◌, ◌<◌, ◌≤◌, ◌==◌, Bool, true, false, ◌&&◌, ◌||◌, cond, List, [], ◌∷◌, ◌++◌, Option, Some, None, refl, sym, ap, ◌∙◌, subst, arith, bytes_eq, drop, option_map, option_to_list, slice_get, lookup, remove_entry, nat_tests, hit, times, is_among, out_next, out_from, is_out, hit_same, Live, without, Access, EndReply, Committed, ReadOnly, Conflict, AllByRecursion, World, after_leaving, ahead, leave_all, Call, Cause, Entry, Member, Posting, Start, State, opened, is_live, is_loose, racked, after, after_all, after_fault, after_group, after_refusal, after_sweep, lost_commits, member_numbers, members_of, state_at, tx_of, txs_of, with_world, AreLoose, Answers, Fits, LegalFrom, IsLegal, handed, returned, ended_by}
 use Rattle.iso_shared.specs.declared.entry.Call.TheVariants as call
 use Rattle.iso_shared.specs.declared.entry.Cause.TheVariants as cause
 use Rattle.iso_shared.specs.declared.entry.Entry.TheVariants as entry
+use Rattle.iso_shared.proofs.Grouped.{after_is}
 use Rattle.iso_shared.proofs.Lives.{live_snoc, live_without, racked_snoc, label_parts, first_parts, hits}
 
 -- the state after one entry more
@@ -134,10 +135,29 @@ end_left S k accesses (Committed c) s loose = sound_left S k s loose
 end_left S k accesses ReadOnly s loose = sound_left S k s loose
 end_left S k accesses (Conflict c) s loose = sound_left S k s loose
 
+-- several leave that are not labelled
+all_left : (T : State) (txs : List Live) → IsSound T → AllByRecursion (λ t. times t.number (racked T.rack) ≡ 0) txs → IsSound (with_world T (leave_all txs T.world))
+all_left T [] s none = s
+all_left T (t ∷ txs) s none =
+    all_left (with_world T (after_leaving T.world t)) txs
+    (sound_leave (λ n. is_live n T.world.live) (λ n. is_live n (without t.number T.world.live)) (λ n. times n (racked T.rack)) (λ n. times n (racked T.rack)) T.world.next s t.number none.0 (λ n. live_without t.number n T.world.live))
+    none.1
+
+unlabelled : (S : State) (W : World) (members : List Member) → AreLoose (member_numbers members) S → AllByRecursion (λ (t : Live). times t.number (racked S.rack) ≡ 0) (txs_of W members)
+unlabelled S W [] loose = tt
+unlabelled S W (m ∷ members) loose = ((loose_is m.number S loose.0).1, unlabelled S W members loose.1)
+
+group_left : (S : State) (members : List Member) → IsSound S → AreLoose (member_numbers members) S → IsSound (with_world S (after_group S.world members))
+group_left S members s loose =
+    let V : World = ahead S.world (lost_commits S.world members) in
+    subst (λ (W : World). IsSound (with_world S W)) (sym (after_is S.world members))
+    (all_left (with_world S V) (txs_of S.world members) s (unlabelled S S.world members loose))
+
 fault_left : (S : State) (c : Call) (before now : ℕ) → IsSound S → AreLoose (ended_by c (cause.Disk before now)) S → IsSound (after_fault S c now)
 fault_left S (call.Begin named) before now s loose = s
 fault_left S (call.Fetch n b) before now s loose = s
 fault_left S (call.End n accesses) before now s loose = sound_left S n s loose.0
+fault_left S (call.EndGroup members) before now s loose = all_left S (txs_of S.world members) s (unlabelled S S.world members loose)
 fault_left S call.Trim before now s loose = s
 fault_left S call.Compact before now s loose = s
 fault_left S call.Upgrade before now s loose = s
@@ -173,6 +193,7 @@ pub sound_next : (S : State) (e : Entry) → IsSound S → Fits S e → IsSound 
 sound_next S (entry.Begin k at mode) s fits = sound_begin (λ n. is_live n S.world.live) (λ n. is_live n (after S (entry.Begin k at mode)).world.live) (λ n. times n (racked S.rack)) (λ n. times n (racked S.rack)) S.world.next s (λ n. live_snoc n S.world.live _)
 sound_next S (entry.Fetch k block bytes) s fits = s
 sound_next S (entry.End k accesses r) s fits = end_left S k accesses r s fits.takes.0
+sound_next S (entry.EndGroup ends) s fits = group_left S (members_of ends) s fits.takes
 sound_next S (entry.Abort k) s fits = sound_left S k s fits.takes.0
 sound_next S (entry.Trim k) s fits = s
 sound_next S (entry.Compact k) s fits = s
@@ -252,10 +273,31 @@ sweep_loose S n (Some k) is =
     let e : times n (racked S.rack) ≡ hit k n + R' = first_parts n S.rack ∙ ap (λ v. v + R') (hits_are n (slice_get S.rack 0) k is) in
     sweep_loose_by (k == n) (is_live n S.world.live) (times n (racked S.rack)) R' e ∙ ap (λ v. v && (R' == 0)) (sym (live_without k n S.world.live))
 
+both_take : (a b x : Bool) → cond (a || b) false x ≡ cond b false (cond a false x)
+both_take true true x = refl
+both_take true false x = refl
+both_take false b x = refl
+
+-- members of a group are not loose after they left
+all_loose : (n : ℕ) (W : World) (T : State) (members : List Member) → cond (is_among n (member_numbers members)) false (is_loose n T) ≡ is_loose n (with_world T (leave_all (txs_of W members) T.world))
+all_loose n W T [] = refl
+all_loose n W T (m ∷ members) =
+    let U : State = with_world T (after_leaving T.world (tx_of W m.number m.accesses)) in
+    let later : Bool = is_among n (member_numbers members) in
+    both_take (m.number == n) later (is_loose n T)
+    ∙ ap (λ v. cond later false v) (sym (takes_one n m.number (is_loose n T)) ∙ left_loose n m.number T)
+    ∙ all_loose n W U members
+
+group_loose : (S : State) (n : ℕ) (members : List Member) → cond (is_among n (member_numbers members)) false (is_loose n S) ≡ is_loose n (with_world S (after_group S.world members))
+group_loose S n members =
+    let V : World = ahead S.world (lost_commits S.world members) in
+    all_loose n S.world (with_world S V) members ∙ ap (λ (W : World). is_loose n (with_world S W)) (sym (after_is S.world members))
+
 fault_loose : (S : State) (n : ℕ) (c : Call) (before now : ℕ) → cond (is_among n (ended_by c (cause.Disk before now))) false (is_loose n S) ≡ is_loose n (after_fault S c now)
 fault_loose S n (call.Begin named) before now = refl
 fault_loose S n (call.Fetch k b) before now = refl
 fault_loose S n (call.End k accesses) before now = left_loose n k S
+fault_loose S n (call.EndGroup members) before now = all_loose n S.world S members
 fault_loose S n call.Trim before now = refl
 fault_loose S n call.Compact before now = refl
 fault_loose S n call.Upgrade before now = refl
@@ -282,6 +324,7 @@ loose_next : (S : State) (e : Entry) (n : ℕ) → IsSound S → Fits S e → ou
 loose_next S (entry.Begin k at mode) n s fits = begin_loose S n k _ s fits.answers.1 refl
 loose_next S (entry.Fetch k block bytes) n s fits = refl
 loose_next S (entry.End k accesses r) n s fits = end_loose S n k accesses r
+loose_next S (entry.EndGroup ends) n s fits = group_loose S n (members_of ends)
 loose_next S (entry.Abort k) n s fits = left_loose n k S
 loose_next S (entry.Trim k) n s fits = refl
 loose_next S (entry.Compact k) n s fits = refl
@@ -340,6 +383,7 @@ pub not_loose : (S : State) (e : Entry) → IsSound S → Answers S e → NotLoo
 not_loose S (entry.Begin k at mode) s a = unless (is_live k S.world.live) (times k (racked S.rack) == 0) (λ live. let b = s.below k live in let e : k ≡ S.world.next = a.1 in absurd (omega arith))
 not_loose S (entry.Fetch k block bytes) s a = tt
 not_loose S (entry.End k accesses r) s a = tt
+not_loose S (entry.EndGroup ends) s a = tt
 not_loose S (entry.Abort k) s a = tt
 not_loose S (entry.Trim k) s a = tt
 not_loose S (entry.Compact k) s a = tt

@@ -3,7 +3,7 @@ pub use Rattle.std.proofs.Common.{Bool, Err, IfErr, IfOk, IsSome, IsTrue, List, 
 pub use Rattle.std.proofs.Math.Seq.{take-length}
 pub use Rattle.std.proofs.lemmas.Bool.{and_parts}
 pub use Rattle.std.proofs.lemmas.Bool.Decides.{nat_tests}
-pub use Rattle.std.proofs.lemmas.List.{length-replicate, map-append, take-append-le}
+pub use Rattle.std.proofs.lemmas.List.{append_assoc, append_cancel_left, length-map, length-replicate, map-append, take-append-le}
 pub use Rattle.std.proofs.lemmas.Map.Made.{lookup-map_values}
 pub use Rattle.std.proofs.lemmas.Slice.Eq.{bytes_eq-Decides}
 pub use Rattle.std.specs.List.{AllByRecursion}
@@ -14,6 +14,7 @@ pub use Rattle.byte_marks.specs.Touched.{AreTouched}
 pub use Rattle.conflict_rule.proofs.Following.{dropped_after}
 pub use Rattle.conflict_rule.specs.Decision.{AreNotesAfter, up_to}
 pub use Rattle.conflict_rule.specs.declared.decision.Checked.{Checked}
+pub use Rattle.iso_core.proofs.Grouping.{leave_all_is}
 pub use Rattle.iso_core.proofs.Moments.{shows_world}
 pub use Rattle.iso_core.specs.Calls.{BlamesDisk, IsAmong, IsCheckedOf, IsTx, IsWorkOf, Refuses, Writes}
 pub use Rattle.iso_core.specs.Core.{StandsFor, disk_of}
@@ -23,8 +24,10 @@ pub use Rattle.iso_core.specs.declared.answers.Begun.{Begun}
 pub use Rattle.iso_core.specs.declared.answers.Recent.{Recent}
 pub use Rattle.iso_core.specs.declared.answers.Stat.{Stat}
 pub use Rattle.iso_core.specs.declared.core_itself.Core.{Core}
+pub use Rattle.iso_core.specs.declared.group_end.TheConstants.{MAX_GROUP}
 pub use Rattle.iso_disk.proofs.Moments.{at_end, joined, started, starts_unwritten, weakened}
 pub use Rattle.iso_disk.specs.Disk.{DiskState, IsLawful, LeavesOnly, StaysTold, WritesNothing}
+pub use Rattle.iso_model.proofs.Groups.{group_is, nothing_ahead}
 pub use Rattle.iso_model.proofs.Held.{shows_any_form, shows_longer}
 pub use Rattle.iso_model.proofs.Worlds.{extends_itself, extends_on}
 unfoldable pub use Rattle.iso_model.specs.Array.{put}
@@ -35,10 +38,11 @@ pub use Rattle.iso_model.specs.Effect.{has_write, or_else}
 unfoldable pub use Rattle.iso_model.specs.Effect.{runs}
 pub use Rattle.iso_model.specs.Geometry.{is_block_size, same_mode}
 unfoldable pub use Rattle.iso_model.specs.Geometry.{is_valid}
+pub use Rattle.iso_model.specs.Group.{ahead, decided, group, leave_all, made_by, member_reply, numbers_told}
 pub use Rattle.iso_model.specs.History.{History, array_at, last, with_commits}
 pub use Rattle.iso_model.specs.Image.{Shows}
 pub use Rattle.iso_model.specs.Premises.{block_at}
-pub use Rattle.iso_model.specs.Step.{after_begin, after_commit, after_leaving, after_switch, after_trim, commit_from, mode_named, need, put_access, read_access, write_access}
+pub use Rattle.iso_model.specs.Step.{after_begin, after_commit, after_leaving, after_switch, after_trim, commit_from, mode_named, need, put_access, read_access, with_live, write_access}
 unfoldable pub use Rattle.iso_model.specs.Step.{begin_step, commit_step, end_step, switch_step}
 unfoldable pub use Rattle.iso_model.specs.Versions.{versions}
 pub use Rattle.iso_model.specs.World.{Live, World, empty_history, floor, fresh, unattached, used, without}
@@ -49,6 +53,7 @@ pub use Rattle.iso_model.specs.declared.access.Commit.{Commit}
 pub use Rattle.iso_model.specs.declared.access.EndReply.{EndReply}
 pub use Rattle.iso_model.specs.declared.access.EndReply.TheVariants.{Committed, Conflict, ReadOnly}
 pub use Rattle.iso_model.specs.declared.access.Geometry.{Geometry}
+pub use Rattle.iso_model.specs.declared.access.GroupReply.{GroupReply}
 pub use Rattle.iso_model.specs.declared.access.Kind.TheVariants.{Read, Write}
 pub use Rattle.iso_model.specs.declared.access.Mode.{Mode}
 pub use Rattle.iso_model.specs.declared.access.Mode.TheVariants.{Serial, Snapshot}
@@ -60,21 +65,23 @@ pub use Rattle.turn_lock.proofs.Outs.{held_first}
 pub use Rattle.turn_lock.proofs.Prefixes.{prefix_more, prefix_self, prefix_trans, prefix_whole}
 pub use Rattle.turn_lock.proofs.Rising.{times_append}
 pub use Rattle.turn_lock.proofs.Totals.{hit_same}
-pub use Rattle.turn_lock.specs.Lists.{count_up, hit, longer, places, times}
+pub use Rattle.turn_lock.specs.Lists.{AreDistinct, count_up, hit, longer, places, times}
 pub use Rattle.turn_lock.specs.Numbers.{AreFree, AreHeld, IsOut, held_after, is_among, is_out, out_from, out_next}
 pub use Rattle.turn_lock.specs.declared.view.View.{View}
 pub use Rattle.tx_table.specs.Work.{AreWithin, Doing}
 pub use Rattle.tx_table.specs.declared.rack.PostError.{PostError}
-pub use Rattle.iso_shared.specs.Legal.{Answers, AreLoose, Fits, IsCall, IsLegal, IsOfCore, LegalFrom, MayHaveMade, MayRefuse, MayWantMemory, answer_to, end_answer, ended, ended_by, handed, needed, numbers_at, reply_of, returned, switch_answer, tx_in}
-pub use Rattle.iso_shared.specs.Plain.{CommitsUpTo, IsReplyUpTo, WasPosted, is_number, takes_out}
+pub use Rattle.iso_shared.specs.Legal.{Answers, AreLoose, Fits, IsCall, IsGroup, IsLegal, IsOfCore, LegalFrom, MayHaveMade, MayRefuse, MayWantMemory, answer_to, end_answer, ended, ended_by, handed, needed, numbers_at, reply_of, returned, switch_answer, tx_in}
+pub use Rattle.iso_shared.specs.Plain.{CommitsUpTo, IsMemberUpTo, IsReplyUpTo, WasPosted, is_number, takes_out}
 pub use Rattle.iso_shared.specs.Ports.{IsAhead, IsIsolatedAt, IsOwn, IsRecent, IsTxOf, Made, MadeBoth, TookFew, most_steps}
 pub use Rattle.iso_shared.specs.Standing.{Came, Holds, IsOn, ShowsSince, StandsAt, faults_of, posting_in, postings, standing_of, start_at, whole, with_lost}
-pub use Rattle.iso_shared.specs.States.{Start, State, after, after_all, after_end, after_fault, after_refusal, after_sweep, is_live, is_loose, live_of, lost_commit, opened, posting_of, racked, state_at, tx_of, with_world}
+pub use Rattle.iso_shared.specs.States.{Start, State, after, after_all, after_end, after_fault, after_group, after_refusal, after_sweep, commits_made, group_answers, is_live, is_loose, live_of, lost_commit, lost_commits, member_numbers, member_of, members_of, opened, posting_of, racked, replies_of, state_at, tx_of, txs_of, with_world}
 pub use Rattle.iso_shared.specs.Told.{begin_entry, cause_of, compact_entry, end_entry, entry_of, fetch_entry, numbers_of, post_entry, recent_entry, told_entry, trim_entry, upgrade_entry}
 pub use Rattle.iso_shared.specs.declared.entry.Call.{Call}
 pub use Rattle.iso_shared.specs.declared.entry.Cause.{Cause}
 pub use Rattle.iso_shared.specs.declared.entry.Entry.{Entry}
 pub use Rattle.iso_shared.specs.declared.entry.Entry.TheVariants.{Abort, Sweep}
+pub use Rattle.iso_shared.specs.declared.entry.Member.{Member}
+pub use Rattle.iso_shared.specs.declared.entry.MemberEnd.{MemberEnd}
 pub use Rattle.iso_shared.specs.declared.entry.Numbers.{Numbers}
 pub use Rattle.iso_shared.specs.declared.entry.Posting.{Posting}
 pub use Rattle.iso_shared.specs.declared.guarded.Posted.{Posted}

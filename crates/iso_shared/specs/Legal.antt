@@ -4,12 +4,14 @@ use Rattle.std.specs.Map.{lookup}
 use Rattle.std.specs.List.{AllByRecursion}
 use Rattle.fault_count.specs.Count.{Rose}
 use Rattle.iso_model.specs.declared.access.Access.{Access}
+use Rattle.iso_core.specs.declared.group_end.TheConstants.{MAX_GROUP}
 use Rattle.iso_model.specs.declared.access.EndReply.{EndReply}
 use Rattle.iso_model.specs.declared.access.EndReply.TheVariants.{Committed, ReadOnly, Conflict}
 use Rattle.iso_model.specs.declared.access.Mode.{Mode}
 use Rattle.iso_model.specs.declared.limits.TheConstants.{MAX_ACCESSES}
 use Rattle.iso_model.specs.declared.core_reply.CoreReply.{CoreReply}
 use Rattle.iso_model.specs.declared.core_reply.CoreReply.TheVariants as reply
+use Rattle.iso_model.specs.Group.{numbers_told}
 use Rattle.iso_model.specs.History.{array_at, last}
 use Rattle.iso_model.specs.Premises.{AreAccesses, block_at}
 use Rattle.iso_model.specs.Step.{begin_step, end_step, mode_named, switch_step}
@@ -21,8 +23,10 @@ use Rattle.iso_shared.specs.declared.entry.Cause.{Cause}
 use Rattle.iso_shared.specs.declared.entry.Cause.TheVariants as cause
 use Rattle.iso_shared.specs.declared.entry.Entry.{Entry}
 use Rattle.iso_shared.specs.declared.entry.Entry.TheVariants as entry
+use Rattle.iso_shared.specs.declared.entry.Member.{Member}
 use Rattle.iso_shared.specs.declared.entry.Numbers.{Numbers}
-use Rattle.iso_shared.specs.States.{Start, State, opened, after, is_loose, live_of, tx_of}
+use Rattle.iso_shared.specs.States.{Start, State, opened, after, group_answers, is_loose, live_of, members_of, member_numbers, replies_of, tx_of}
+use Rattle.turn_lock.specs.Lists.{AreDistinct}
 
 abbrev pub reply_of : EndReply → CoreReply
 reply_of (Committed n) = reply.Committed n
@@ -44,6 +48,7 @@ abbrev pub answer_to : World → Call → CoreReply
 answer_to W (call.Begin named) = begin_answer W named
 answer_to W (call.Fetch n block) = reply.Done
 answer_to W (call.End n accesses) = end_answer W n accesses
+answer_to W (call.EndGroup members) = reply.Done
 answer_to W call.Trim = reply.Done
 answer_to W call.Compact = switch_answer W W.geometry.form
 answer_to W call.Upgrade = switch_answer W 2
@@ -55,11 +60,19 @@ pub record MayHaveMade (W : World) (accesses : List Access) : Type 0 where
   pub each : AreAccesses W.geometry accesses
   pub count : length accesses ≤ MAX_ACCESSES
 
+-- members of a group: some and not too many, different ones, each with accesses that it may have made
+pub record IsGroup (W : World) (members : List Member) : Type 0 where
+  pub some : 0 < length members
+  pub most : length members ≤ MAX_GROUP
+  pub distinct : AreDistinct (member_numbers members)
+  pub each : AllByRecursion (λ m. MayHaveMade W m.accesses) members
+
 -- the arguments are such
 abbrev pub IsCall : World → Call → Type 0
 IsCall W (call.Begin named) = Unit {0}
 IsCall W (call.Fetch n block) = block < W.geometry.blocks
 IsCall W (call.End n accesses) = MayHaveMade W accesses
+IsCall W (call.EndGroup members) = IsGroup W members
 IsCall W call.Trim = Unit {0}
 IsCall W call.Compact = Unit {0}
 IsCall W call.Upgrade = Unit {0}
@@ -85,17 +98,19 @@ abbrev pub MayWantMemory : State → Call → Type 0
 MayWantMemory S (call.Begin named) = IsUp S
 MayWantMemory S (call.Fetch n block) = ⊥
 MayWantMemory S (call.End n accesses) = IsUp S
+MayWantMemory S (call.EndGroup members) = IsUp S
 MayWantMemory S call.Trim = ⊥
 MayWantMemory S call.Compact = IsUp S
 MayWantMemory S call.Upgrade = IsUp S
 MayWantMemory S (call.Post n label accesses) = IsFree label S
 MayWantMemory S (call.Recent n) = IsUp S
 
--- where the disk may fail: an end calls it for a commit alone, and a switch where it is not worn
+-- where the disk may fail: an end calls it for a commit alone, a group where some member commits, and a switch where it is not worn
 abbrev pub MayFail : State → Call → Type 0
 MayFail S (call.Begin named) = ⊥
 MayFail S (call.Fetch n block) = IsUp S
 MayFail S (call.End n accesses) = IsUp S × (end_answer S.world n accesses ≡ reply.Committed (last S.world.history + 1))
+MayFail S (call.EndGroup members) = IsUp S × (0 < length (numbers_told (group_answers S.world members)))
 MayFail S call.Trim = ⊥
 MayFail S call.Compact = IsUp S × (switch_answer S.world S.world.geometry.form ≡ reply.Done)
 MayFail S call.Upgrade = IsUp S × (switch_answer S.world 2 ≡ reply.Done)
@@ -107,6 +122,7 @@ abbrev pub IsTaken : State → Call → Type 0
 IsTaken S (call.Begin named) = ⊥
 IsTaken S (call.Fetch n block) = ⊥
 IsTaken S (call.End n accesses) = ⊥
+IsTaken S (call.EndGroup members) = ⊥
 IsTaken S call.Trim = ⊥
 IsTaken S call.Compact = ⊥
 IsTaken S call.Upgrade = ⊥
@@ -141,6 +157,7 @@ abbrev pub Answers : State → Entry → Type 0
 Answers S (entry.Begin n at mode) = IsUp S × (n ≡ S.world.next) × ((begin_step S.world unattached mode).0 ≡ reply.Began at)
 Answers S (entry.Fetch n block bytes) = IsUp S × (block < S.world.geometry.blocks) × (S.tells ≡ true → bytes ≡ block_at (array_at S.world.history (live_of n S.world.live).begin) block)
 Answers S (entry.End n accesses r) = IsUp S × MayHaveMade S.world accesses × (end_answer S.world n accesses ≡ reply_of r)
+Answers S (entry.EndGroup ends) = IsUp S × IsGroup S.world (members_of ends) × (group_answers S.world (members_of ends) ≡ replies_of ends)
 Answers S (entry.Abort n) = Unit {0}
 Answers S (entry.Trim n) = IsUp S × (n ≡ floor S.world)
 Answers S (entry.Compact n) = IsUp S × (n ≡ floor S.world) × (switch_answer S.world S.world.geometry.form ≡ reply.Done)
@@ -152,11 +169,12 @@ Answers S (entry.Sweep found) = found ≡ option_map (λ e. e.1.number) (slice_g
 Answers S (entry.Recent n upto) = IsUp S × (upto ≡ last S.world.history)
 Answers S (entry.Refused c why) = IsCall S.world c × MayRefuse S c why
 
--- the transaction of a call
+-- the transactions of a call
 abbrev pub tx_in : Call → List ℕ
 tx_in (call.Begin named) = []
 tx_in (call.Fetch n block) = n ∷ []
 tx_in (call.End n accesses) = n ∷ []
+tx_in (call.EndGroup members) = member_numbers members
 tx_in call.Trim = []
 tx_in call.Compact = []
 tx_in call.Upgrade = []
@@ -179,6 +197,7 @@ needed e = []
 -- those that a fault ends
 abbrev pub ended : Call → List ℕ
 ended (call.End n accesses) = n ∷ []
+ended (call.EndGroup members) = member_numbers members
 ended c = []
 
 abbrev pub ended_by : Call → Cause → List ℕ
@@ -188,6 +207,7 @@ ended_by c why = []
 -- those that it takes back
 abbrev pub returned : Entry → List ℕ
 returned (entry.End n accesses r) = n ∷ []
+returned (entry.EndGroup ends) = member_numbers (members_of ends)
 returned (entry.Abort n) = n ∷ []
 returned (entry.Post n label accesses) = n ∷ []
 returned (entry.Refused c why) = ended_by c why

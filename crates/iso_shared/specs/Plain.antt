@@ -3,10 +3,12 @@ use Rattle.std.specs.Prelude.{◌≡◌, ℕ, ◌≤◌, ◌==◌, Bool, false, 
 use Rattle.std.specs.List.{AllByRecursion}
 use Rattle.iso_model.specs.declared.access.EndReply.{EndReply}
 use Rattle.iso_model.specs.declared.access.EndReply.TheVariants.{Committed, ReadOnly, Conflict}
+use Rattle.iso_model.specs.declared.access.GroupReply.{GroupReply}
+use Rattle.iso_model.specs.declared.access.GroupReply.TheVariants as member
 use Rattle.iso_shared.specs.declared.entry.Entry.{Entry}
 use Rattle.iso_shared.specs.declared.entry.Entry.TheVariants as entry
 use Rattle.iso_shared.specs.declared.entry.Posting.{Posting}
-use Rattle.iso_shared.specs.States.{State, after_all, posting_of}
+use Rattle.iso_shared.specs.States.{State, after_all, posting_of, replies_of}
 
 -- a commit that is told of has this number at most
 abbrev pub IsReplyUpTo : ℕ → EndReply → Type 0
@@ -14,8 +16,17 @@ IsReplyUpTo at (Committed k) = k ≤ at
 IsReplyUpTo at ReadOnly = Unit {0}
 IsReplyUpTo at (Conflict c) = Unit {0}
 
+-- the same of a member of a group
+abbrev pub IsMemberUpTo : ℕ → GroupReply → Type 0
+IsMemberUpTo at (member.Committed k) = k ≤ at
+IsMemberUpTo at member.ReadOnly = Unit {0}
+IsMemberUpTo at (member.Conflict c) = Unit {0}
+IsMemberUpTo at (member.Full need free) = Unit {0}
+IsMemberUpTo at member.Worn = Unit {0}
+
 abbrev pub CommitsUpTo : ℕ → Entry → Type 0
 CommitsUpTo at (entry.End n accesses reply) = IsReplyUpTo at reply
+CommitsUpTo at (entry.EndGroup ends) = AllByRecursion (IsMemberUpTo at) (replies_of ends)
 CommitsUpTo at e = Unit {0}
 
 -- the entry takes the transaction of this number from under its label

@@ -6,6 +6,8 @@ use Rattle.iso_model.specs.declared.access.Commit.{Commit}
 use Rattle.iso_model.specs.declared.access.EndReply.{EndReply}
 use Rattle.iso_model.specs.declared.access.EndReply.TheVariants.{Committed, ReadOnly, Conflict}
 use Rattle.iso_model.specs.declared.access.Mode.TheVariants.{Serial}
+use Rattle.iso_model.specs.declared.access.GroupReply.{GroupReply}
+use Rattle.iso_model.specs.Group.{group, leave_all, made_by}
 use Rattle.iso_model.specs.Step.{after_begin, after_commit, after_leaving, after_switch, after_trim}
 use Rattle.iso_model.specs.World.{World, Live, unattached}
 use Rattle.turn_lock.specs.Lists.{times}
@@ -15,6 +17,8 @@ use Rattle.iso_shared.specs.declared.entry.Cause.{Cause}
 use Rattle.iso_shared.specs.declared.entry.Cause.TheVariants as cause
 use Rattle.iso_shared.specs.declared.entry.Entry.{Entry}
 use Rattle.iso_shared.specs.declared.entry.Entry.TheVariants as entry
+use Rattle.iso_shared.specs.declared.entry.Member.{Member}
+use Rattle.iso_shared.specs.declared.entry.MemberEnd.{MemberEnd}
 use Rattle.iso_shared.specs.declared.entry.Posting.{Posting}
 
 -- where a list begins: the world, how often the disk has failed, and whether the disk tells its bytes
@@ -68,6 +72,41 @@ posting_of W n accesses = record { number = n; begin = (live_of n W.live).begin;
 abbrev pub lost_commit : World → (number : ℕ) → List Access → Commit
 lost_commit W n accesses = record { begin = (live_of n W.live).begin; mode = (live_of n W.live).mode; accesses = accesses }
 
+-- a member that was ended, without its answer, and its answer
+abbrev pub member_of : MemberEnd → Member
+member_of m = record { number = m.number; accesses = m.accesses }
+
+abbrev pub members_of : List MemberEnd → List Member
+members_of ends = map member_of ends
+
+abbrev pub replies_of : List MemberEnd → List GroupReply
+replies_of ends = map (λ m. m.reply) ends
+
+-- the numbers of members
+abbrev pub member_numbers : List Member → List ℕ
+member_numbers members = map (λ m. m.number) members
+
+-- the live transactions of members, each with its accesses
+abbrev pub txs_of : World → List Member → List Live
+txs_of W members = map (λ m. tx_of W m.number m.accesses) members
+
+-- what the rules answer to a group of these members, and the world after it
+abbrev pub group_answers : World → List Member → List GroupReply
+group_answers W members = (group W (txs_of W members)).0
+
+abbrev pub after_group : World → List Member → World
+after_group W members = (group W (txs_of W members)).1
+
+-- the commits that transactions make that are answered so, in order
+abbrev pub commits_made : List Live → List GroupReply → List Commit
+commits_made [] replies = []
+commits_made (t ∷ txs) [] = []
+commits_made (t ∷ txs) (reply ∷ replies) = made_by t reply ++ commits_made txs replies
+
+-- the commits that the group would have made, all of them or none
+abbrev pub lost_commits : World → List Member → List Commit
+lost_commits W members = commits_made (txs_of W members) (group_answers W members)
+
 abbrev pub after_end : World → (number : ℕ) → List Access → EndReply → World
 after_end W n accesses (Committed k) = after_commit W (tx_of W n accesses)
 after_end W n accesses ReadOnly = after_leaving W (tx_of W n accesses)
@@ -76,12 +115,13 @@ after_end W n accesses (Conflict c) = after_leaving W (tx_of W n accesses)
 abbrev pub with_world : State → World → State
 with_world S W = record S { world = W }
 
--- A fault of the disk ends the transaction of an end, and sets the device down; in a compaction and an upgrade it sets it
--- down. In a fetch it changes nothing.
+-- A fault of the disk ends the transaction of an end, and all members of a group, and sets the device down; in a compaction and
+-- an upgrade it sets it down. In a fetch it changes nothing.
 abbrev pub after_fault : State → Call → (now : ℕ) → State
 after_fault S (call.Begin named) k = record S { faults = k }
 after_fault S (call.Fetch n block) k = record S { faults = k }
 after_fault S (call.End n accesses) k = record S { world = after_leaving S.world (tx_of S.world n accesses); lost = Some (lost_commit S.world n accesses ∷ []); faults = k }
+after_fault S (call.EndGroup members) k = record S { world = leave_all (txs_of S.world members) S.world; lost = Some (lost_commits S.world members); faults = k }
 after_fault S call.Trim k = record S { faults = k }
 after_fault S call.Compact k = record S { lost = Some []; faults = k }
 after_fault S call.Upgrade k = record S { lost = Some []; faults = k }
@@ -102,6 +142,7 @@ abbrev pub after : State → Entry → State
 after S (entry.Begin n at mode) = with_world S (after_begin S.world unattached mode)
 after S (entry.Fetch n block bytes) = S
 after S (entry.End n accesses reply) = with_world S (after_end S.world n accesses reply)
+after S (entry.EndGroup ends) = with_world S (after_group S.world (members_of ends))
 after S (entry.Abort n) = with_world S (after_leaving S.world (tx_of S.world n []))
 after S (entry.Trim n) = with_world S (after_trim S.world)
 after S (entry.Compact n) = with_world S (after_switch S.world S.world.geometry.form)

@@ -1,9 +1,22 @@
 // The entries of the list that a shared device stands for. No value of them is made.
 
-use iso_model::{Access, EndReply, Label, Mode};
+use iso_model::{Access, EndReply, GroupReply, Label, Mode};
 use std::collections::LinkedList;
 use std::marker::Brand;
 use turn_lock::Names;
+
+/// A member of a group: its number and its accesses.
+pub struct Member {
+    pub number: u64,
+    pub accesses: LinkedList<Access>,
+}
+
+/// A member of a group that was ended, with its answer.
+pub struct MemberEnd {
+    pub number: u64,
+    pub accesses: LinkedList<Access>,
+    pub reply: GroupReply,
+}
 
 /// A call that may be refused, with its arguments.
 pub enum Call {
@@ -17,6 +30,9 @@ pub enum Call {
     End {
         number: u64,
         accesses: LinkedList<Access>,
+    },
+    EndGroup {
+        members: LinkedList<Member>,
     },
     Trim,
     Compact,
@@ -78,6 +94,9 @@ pub enum Entry {
         number: u64,
         accesses: LinkedList<Access>,
         reply: EndReply,
+    },
+    EndGroup {
+        members: LinkedList<MemberEnd>,
     },
     Abort {
         number: u64,

@@ -13,7 +13,7 @@ mod transactions;
 mod tx;
 mod upkeep;
 
-pub use entry::{Call, Cause, Entry, Numbers, Posting};
+pub use entry::{Call, Cause, Entry, Member, MemberEnd, Numbers, Posting};
 pub use guarded::{Guarded, Origin, Posted};
 pub use laws::numbers_out_are_loose;
 pub use shared::{Port, Shared};
