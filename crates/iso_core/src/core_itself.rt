@@ -182,7 +182,8 @@ impl<D: Disk> Core<D> {
         ensures lost { (W : World) (members : List Live) → StandsFor D.state self.old W up → AreEach (IsMember W) ends.old members → IsErrOf result CoreError.Disk
             → (more : List Commit) × ((group W members).1.history ≡ with_commits more W.history) × StandsFor D.state self.new (leave_all members W) (down more) }
 
-        // Nothing is written where no member commits, nor where memory is wanting.
+        // The disk fails for a commit alone. Nothing is written where no member commits, nor where memory is wanting.
+        ensures commits { (W : World) (members : List Live) → StandsFor D.state self.old W up → AreEach (IsMember W) ends.old members → IsErrOf result CoreError.Disk → (group W members).1.history ≢ W.history }
         ensures unwritten { (W : World) (members : List Live) → StandsFor D.state self.old W up → AreEach (IsMember W) ends.old members → (group W members).1.history ≡ W.history
             → disk_of self.new ≡ disk_of self.old }
         ensures untouched { IfErr result (λ e. e ≢ CoreError.Disk → disk_of self.new ≡ disk_of self.old) }

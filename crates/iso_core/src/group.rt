@@ -85,7 +85,8 @@ pub(crate) fn end_ready<D: Disk>(
     ensures lost { (W : World) (members : List Live) → AreOf (D.state disk.old) kept.old W up → AreEach (IsReady W) ends.now members → IsErrOf result CoreError.Disk
         → (more : List Commit) × ((group W members).1.history ≡ with_commits more W.history) × AreOf (D.state disk.new) kept.new (leave_all members W) (down more) }
 
-    // Nothing is written where no member commits, nor where memory is wanting.
+    // The disk fails for a commit alone. Nothing is written where no member commits, nor where memory is wanting.
+    ensures commits { (W : World) (members : List Live) → AreOf (D.state disk.old) kept.old W up → AreEach (IsReady W) ends.now members → IsErrOf result CoreError.Disk → (group W members).1.history ≢ W.history }
     ensures unwritten { (W : World) (members : List Live) → AreOf (D.state disk.old) kept.old W up → AreEach (IsReady W) ends.now members → (group W members).1.history ≡ W.history → disk.new ≡ disk.old }
     ensures untouched { IfErr result (λ e. e ≢ CoreError.Disk → disk.new ≡ disk.old) }
     ensures told { OnOk result (StaysTold (D.state disk.old) (D.state disk.new)) }

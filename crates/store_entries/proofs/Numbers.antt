@@ -1,5 +1,6 @@
 -- What the answers to an end tell: the number of the commit, or that there was no write.
-use Rattle.store_entries.proofs.Words.{◌≡◌, ℕ, ◌+◌, ◌-◌, ◌==◌, Bool, true, false, cond, Option, Some, None, nat_lt, refl, sym, Clash, CoreReply, LAST, clash, has_write, last, after_commit, after_leaving, commit_step, end_step, need, Live, World, used}
+use Rattle.store_entries.proofs.Words.{◌≡◌, ℕ, ◌+◌, ◌-◌, ◌==◌, Bool, true, false, cond, Option, Some, None, nat_lt, refl, sym, ap, Clash, CoreReply, LAST, clash, has_write, last, member_reply, after_commit, after_leaving, commit_step, end_step, need, Live, World, used}
+use Rattle.iso_model.specs.declared.access.GroupReply.TheVariants as member
 use Rattle.iso_model.specs.declared.core_reply.CoreReply.TheVariants as core
 
 module _ (V : World) (t : Live) where
@@ -43,3 +44,28 @@ module _ (V : World) (t : Live) where
       go : (b : Bool) → (cond {A = CoreReply × World} b (commit_step V t (clash V.geometry V.history t.mode t.begin t.accesses)) (core.ReadOnly, after_leaving V t)).0 ≡ core.ReadOnly → b ≡ false
       go true done = absurd (commit_writes (clash V.geometry V.history t.mode t.begin t.accesses) done)
       go false done = refl
+
+  member_writes : (o : Option Clash) → member_reply (commit_step V t o).0 ≡ member.ReadOnly → ⊥
+  unfolding commit_step
+  member_writes (Some d) done = cc
+  member_writes None done = go (last V.history == LAST) (nat_lt (V.geometry.log - used V) (need V t)) done
+    where
+      go : (a b : Bool)
+          → member_reply (cond {A = CoreReply × World} a (core.Worn, V) (cond b (core.LogFull (need V t) (V.geometry.log - used V), V) (core.Committed (last V.history + 1), after_commit V t))).0 ≡ member.ReadOnly → ⊥
+      go true b done = cc
+      go false true done = cc
+      go false false done = cc
+
+  -- nor has a member of a group that is read-only
+  pub member_writes_not : member_reply (end_step V t).0 ≡ member.ReadOnly → has_write t.accesses ≡ false
+  unfolding end_step
+  member_writes_not done = go (has_write t.accesses) done
+    where
+      go : (b : Bool) → member_reply (cond {A = CoreReply × World} b (commit_step V t (clash V.geometry V.history t.mode t.begin t.accesses)) (core.ReadOnly, after_leaving V t)).0 ≡ member.ReadOnly → b ≡ false
+      go true done = absurd (member_writes (clash V.geometry V.history t.mode t.begin t.accesses) done)
+      go false done = refl
+
+-- a member that is told of a commit has made it
+pub committed_is : (answer : CoreReply) (k : ℕ) → member_reply answer ≡ member.Committed k → answer ≡ core.Committed k
+committed_is (core.Committed m) k is = let same : m ≡ k = cc is in ap (λ (v : ℕ). core.Committed v) same
+committed_is answer k is = absurd (cc is)

@@ -4,6 +4,7 @@ use Rattle.iso_model.specs.declared.access.Access.{Access}
 use Rattle.iso_model.specs.declared.access.Commit.{Commit}
 use Rattle.iso_model.specs.declared.access.EndReply.TheVariants.{Committed, ReadOnly}
 use Rattle.iso_model.specs.declared.access.Geometry.{Geometry}
+use Rattle.iso_model.specs.declared.access.GroupReply.TheVariants as member
 use Rattle.iso_model.specs.Array.{Array}
 use Rattle.iso_model.specs.Effect.{own}
 use Rattle.iso_model.specs.History.{History, array_at, last}
@@ -11,6 +12,7 @@ use Rattle.iso_model.specs.Step.{commit_from}
 use Rattle.iso_model.specs.World.{World}
 use Rattle.iso_shared.specs.declared.entry.Entry.{Entry}
 use Rattle.iso_shared.specs.declared.entry.Entry.TheVariants as entry
+use Rattle.iso_shared.specs.declared.entry.MemberEnd.{MemberEnd}
 use Rattle.iso_shared.specs.States.{Start, is_live, live_of, state_at, tx_of}
 use Rattle.store_laws.specs.Both.{AreMixed, BothByMap, BothInOrder, BothWellFormed, IsByBoth, IsOfBoth, firsts}
 use Rattle.store_laws.specs.BothStores.{StorePart}
@@ -35,17 +37,35 @@ pub record AreByCalls (g : Geometry) (A : Array) (accesses : List Access) : Type
   pub are : accesses_in (firsts parts) ≡ accesses
   pub made : AreMixed (image_hash g) (image_tree g) A parts
 
--- each transaction that commits in the list writes the regions by calls of their stores alone; one in snapshot mode makes none
-abbrev pub CommitsAreByCalls : Start → List Entry → Type 0
-CommitsAreByCalls A es =
-    (before later : List Entry) (n k : ℕ) (accesses : List Access) → es ≡ before ++ entry.End n accesses (Committed k) ∷ later
-    → let W = world_at A before in IsOfBoth (image_hash A.world.geometry) (image_tree A.world.geometry) W.history (commit_at W n accesses)
+-- a member of a group that commits, and one that ends without a write
+abbrev pub commits_as : (number k : ℕ) → List Access → MemberEnd
+commits_as n k accesses = record { number = n; accesses = accesses; reply = member.Committed k }
+
+abbrev pub ends_bare : (number : ℕ) → List Access → MemberEnd
+ends_bare n accesses = record { number = n; accesses = accesses; reply = member.ReadOnly }
+
+-- each transaction that commits in the list, by its end or in a group, writes the regions by calls of their stores alone; one in
+-- snapshot mode makes none
+pub record CommitsAreByCalls (A : Start) (es : List Entry) : Type 0 where
+  pub ends : (before later : List Entry) (n k : ℕ) (accesses : List Access) → es ≡ before ++ entry.End n accesses (Committed k) ∷ later
+      → let W = world_at A before in IsOfBoth (image_hash A.world.geometry) (image_tree A.world.geometry) W.history (commit_at W n accesses)
+  pub groups : (before later : List Entry) (first others : List MemberEnd) (n k : ℕ) (accesses : List Access)
+      → es ≡ before ++ entry.EndGroup (first ++ commits_as n k accesses ∷ others) ∷ later
+      → IsOfBoth (image_hash A.world.geometry) (image_tree A.world.geometry) (world_at A before).history (commit_at (world_at A before) n accesses)
 
 -- both stores are well formed in the array at the last commit
 abbrev pub StoresAreWell : Geometry → History → Type 0
 StoresAreWell g H = BothWellFormed (image_hash g) (image_tree g) (array_at H (last H))
 
--- The calls of each commit of the list answer as one thread's calls on the maps directly before it, and end in those directly after
+-- the parts answer in order between the maps directly before commit k and those directly after it
+abbrev pub IsInPlace : Start → List Entry → (k : ℕ) → List StorePart → Type 0
+IsInPlace A es k parts = let G = (world_at A es).history in BothInOrder (image_hash A.world.geometry) (image_tree A.world.geometry) parts (array_at G (k - 1)) (array_at G k)
+
+-- each of the parts answers by the maps of one array
+abbrev pub AnswersByOne : Start → List StorePart → Array → Type 0
+AnswersByOne A parts B = BothByMap (image_hash A.world.geometry) (image_tree A.world.geometry) parts B
+
+-- The calls of each commit of the list, made by an end or in a group, answer as one thread's calls on the maps directly before it, and end in those directly after
 -- it. Those of a transaction that is live answer so by the maps at its begin; and where it ended without a write, each of them by
 -- these maps alone. The stores are well formed at the last commit, so that a later run begins well.
 pub record AreCallsInOrderAt (A : Start) (es : List Entry) : Type 0 where
@@ -54,9 +74,16 @@ pub record AreCallsInOrderAt (A : Start) (es : List Entry) : Type 0 where
       → let W = world_at A before in let H = (world_at A es).history in
       (of : IsOfBoth (image_hash A.world.geometry) (image_tree A.world.geometry) W.history (commit_at W n accesses))
       → BothInOrder (image_hash A.world.geometry) (image_tree A.world.geometry) of.parts (array_at H (k - 1)) (array_at H k)
+  pub group_commits : (before later : List Entry) (first others : List MemberEnd) (n k : ℕ) (accesses : List Access)
+      → es ≡ before ++ entry.EndGroup (first ++ commits_as n k accesses ∷ others) ∷ later
+      → (of : IsOfBoth (image_hash A.world.geometry) (image_tree A.world.geometry) (world_at A before).history (commit_at (world_at A before) n accesses))
+      → IsInPlace A es k of.parts
   pub read_only : (before later : List Entry) (n : ℕ) (accesses : List Access) → es ≡ before ++ entry.End n accesses ReadOnly ∷ later
       → let B = begin_array (world_at A before) n in
       (by : AreByCalls A.world.geometry B accesses) → BothByMap (image_hash A.world.geometry) (image_tree A.world.geometry) by.parts B
+  pub group_read_only : (before later : List Entry) (first others : List MemberEnd) (n : ℕ) (accesses : List Access)
+      → es ≡ before ++ entry.EndGroup (first ++ ends_bare n accesses ∷ others) ∷ later
+      → (by : AreByCalls A.world.geometry (begin_array (world_at A before) n) accesses) → AnswersByOne A by.parts (begin_array (world_at A before) n)
   pub live : (before later : List Entry) (n : ℕ) (accesses : List Access) → es ≡ before ++ later
       → let W = world_at A before in let B = begin_array W n in is_live n W.live ≡ true
       → (by : AreByCalls A.world.geometry B accesses) → BothInOrder (image_hash A.world.geometry) (image_tree A.world.geometry) by.parts B (own B accesses)

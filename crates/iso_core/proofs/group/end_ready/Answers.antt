@@ -210,6 +210,22 @@ returns-in-Err-append_all-clause-unwritten g c W members of each same =
     let all = records W.geometry (last W.history + 1) more in
     absurd (other_history W members p.all c.prepare_group.new.replies.items p.decides (let n = many W p.all plan is p.has in omega (arith, n, some)) same)
 
+pub returns-in-Err-append_all-clause-commits : goal.returns-in-Err-append_all-clause-commits
+returns-in-Err-append_all-clause-commits g c W members of each failed same =
+    let d = g.D.Disk.state c.args.disk.now in
+    let kept = c.prepare_group.new.kept in
+    let plan = c.prepare_group.new.plan in
+    let is = of.kept_of.world in
+    let one : IsOf kept W = c.prepare_group.ensures.same W of.kept_of in
+    let stands : AreOf d kept W up = keeps_stand d c.args.kept.now kept W of one c.prepare_group.ensures.half c.prepare_group.ensures.down in
+    let p = c.in_default.ensures.planned W members of.kept_of each in
+    let some : 0 < length plan.staged.items = c.is_bare.ensures.some c.if-is_bare.false in
+    let next = next_records W p.all plan is p.has some in
+    let bytes = c.as_slice.ensures.value ∙ p.bytes in
+    let more = map (written W.geometry) p.all in
+    let all = records W.geometry (last W.history + 1) more in
+    absurd (other_history W members p.all c.prepare_group.new.replies.items p.decides (let n = many W p.all plan is p.has in omega (arith, n, some)) same)
+
 pub returns-in-Err-append_all-clause-lost : goal.returns-in-Err-append_all-clause-lost
 returns-in-Err-append_all-clause-lost g c W members of each failed =
     let d = g.D.Disk.state c.args.disk.now in
