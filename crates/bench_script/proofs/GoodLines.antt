@@ -1,5 +1,5 @@
 -- Each line of a bench is read as a line.
-use Rattle.bench_script.proofs.Words.{◌≡◌, ◌≢◌, ◌∙◌, sym, refl, ap, ℕ, zero, suc, ◌+◌, ◌*◌, ◌<◌, ◌≤◌, Bool, true, false, nat_le, List, [], ◌∷◌, ◌++◌, take, length, length-append, append_assoc, append-nil, subst, None, Ok, Result, codes, decimal, arith, flat_map, list_all, and_parts, cond-false, leb-true, le-ltb, lt-leb, ne_eqb, decimal_digit, length-decimal-le, take_all, MAX_INPUT, MAX_LINE, Line, Op, Begin, End, Put, Get, Parsed, after_draws, bench_text, drawn_round, nth_drawn, round_text, AreBytes, Script, before_script, is_printable, parse_whole, script, script_from, without_return, hex_text, pieces, line_text, line_words, AreSome, IsLine, IsWord, decimal_word, hex_word, parse-printed, AreWords, spaced_printable, HasNoFeed, ArePlain, IsPlain, no_feed-cons, no_feed-nil, script-line}
+use Rattle.bench_script.proofs.Words.{◌≡◌, ◌≢◌, ◌∙◌, sym, refl, ap, ℕ, zero, suc, ◌+◌, ◌*◌, ◌<◌, ◌≤◌, Bool, true, false, nat_le, List, [], ◌∷◌, ◌++◌, take, length, length-append, append_assoc, append-nil, subst, None, Ok, Result, codes, decimal, arith, flat_map, list_all, and_parts, cond-false, leb-true, le-ltb, lt-leb, ne_eqb, decimal_digit, length-decimal-le, take_all, MAX_INPUT, MAX_LINE, Line, Op, Begin, End, Put, Get, Parsed, after_draws, bench_text, drawn_round, nth_drawn, round_text, AreBytes, Script, before_script, is_printable, parse_whole, script, script_from, without_return, hex_text, pieces, line_text, line_words, AreSome, IsLine, IsWord, decimal_word, hex_word, parse-printed, AreWords, spaced_printable, HasNoFeed, ArePlain, no_feed-cons, no_feed-nil, script-line}
 use Rattle.script_model.specs.declared.script.Parsed.TheVariants.{Line as Says}
 
 not_low : (b low : ℕ) → is_printable b ≡ true → low < 32 → b ≢ low
@@ -22,7 +22,6 @@ pub record IsSaid (line : Line) : Type 0 where
   pub is_line : IsLine line
   pub words : AreWords (line_words line)
   pub short : length (line_text line) ≤ MAX_LINE
-  pub plain : IsPlain line.op
 
 whole_line : (line : Line) → IsSaid line → list_all is_printable (line_text line) ≡ true → parse_whole (line_text line) ≡ Ok (Says line)
 unfolding parse_whole
@@ -43,7 +42,7 @@ good_line n line text more spelled is =
     ∙ script-line false n (line_text line) more (printable_has_no_feed (line_text line) printable)
     ∙ ap (λ (r : Result Parsed ℕ). before_script n r (script_from false (n + 1) (pieces 10 more))) (whole_line line is printable)
 
-abbrev said_by : ℕ → Op → Line
+abbrev pub said_by : ℕ → Op → Line
 said_by client op = record { client = client; op = op }
 
 module _ (client : ℕ) (first : 1 ≤ client) (last : client < 10) where
@@ -59,7 +58,6 @@ module _ (client : ℕ) (first : 1 ≤ client) (last : client < 10) where
     is_line = record { first = first; last = omega arith; op = tt };
     words = (client_word, (record { some = omega arith; bytes = refl }, tt));
     short = omega (arith, client_size, length-append (decimal client) (codes " begin"));
-    plain = tt;
   }
 
   end_said : IsSaid (said_by client End)
@@ -68,7 +66,6 @@ module _ (client : ℕ) (first : 1 ≤ client) (last : client < 10) where
     is_line = record { first = first; last = omega arith; op = tt };
     words = (client_word, (record { some = omega arith; bytes = refl }, tt));
     short = omega (arith, client_size, length-append (decimal client) (codes " end"));
-    plain = tt;
   }
 
 number_size : (n : ℕ) → n < 100 → length (decimal n) ≤ 2
@@ -84,7 +81,6 @@ get_said client block off first last inside small = record {
   is_line = record { first = first; last = omega arith; op = (omega arith, omega arith, omega arith) };
   words = (client_word client first last, (record { some = omega arith; bytes = refl }, (number_word block inside, (number_word off small, (number_word 4 (omega arith), tt)))));
   short = simp length-append (omega (arith, client_size client first last, number_size block inside, number_size off small, number_size 4 (omega arith)));
-  plain = tt;
 }
 
 byte_is : (v : ℕ) → v < 256 → AreBytes (v ∷ [])
@@ -98,7 +94,6 @@ put_said client block off v first last inside small byte =
       is_line = record { first = first; last = omega arith; op = (omega arith, omega arith, some) };
       words = (client_word client first last, (record { some = omega arith; bytes = refl }, (number_word block inside, (number_word off small, (hex_word (v ∷ []) some, tt)))));
       short = simp length-append (omega (arith, client_size client first last, number_size block inside, number_size off small));
-      plain = tt;
     }
 
 -- the words of a line of a bench are those of the line
@@ -145,24 +140,46 @@ one_by_one : (b1 b2 b3 b4 b5 b6 b7 b8 end more : List ℕ)
     ≡ b1 ++ (end ++ (b2 ++ (end ++ (b3 ++ (end ++ (b4 ++ (end ++ (b5 ++ (end ++ (b6 ++ (end ++ (b7 ++ (end ++ (b8 ++ (end ++ more)))))))))))))))
 one_by_one b1 b2 b3 b4 b5 b6 b7 b8 end more = simp append_assoc
 
--- no line of the text is bad, the first of which has this number, and none calls a store
-record IsGoodFrom (n : ℕ) (text : List ℕ) : Type 0 where
-  pub good : (script_from false n (pieces 10 text)).bad ≡ None
-  pub plain : ArePlain (script_from false n (pieces 10 text)).lines
+-- the text is read as these lines, the first of which has this number
+record IsReadAs (n : ℕ) (text : List ℕ) (lines : List (ℕ × Line)) : Type 0 where
+  pub is : script_from false n (pieces 10 text) ≡ record { lines = lines; bad = None }
 
--- a text is good where what follows its first line is
-goes_on : {n : ℕ} (line : Line) (text : List ℕ) {more : List ℕ} → text ≡ line_text line → IsSaid line → IsGoodFrom (n + 1) more → IsGoodFrom n (text ++ 10 ∷ more)
-goes_on {n} line text {more} spelled is rest =
-    let first = good_line n line text more spelled is in
-    record { good = ap (λ (s : Script). s.bad) first ∙ rest.good; plain = subst (λ (s : Script). ArePlain s.lines) (sym first) (is.plain, rest.plain) }
+-- a text is read so where what follows its first line is
+goes_on : {n : ℕ} (line : Line) (text : List ℕ) {more : List ℕ} {lines : List (ℕ × Line)} → text ≡ line_text line → IsSaid line → IsReadAs (n + 1) more lines
+    → IsReadAs n (text ++ 10 ∷ more) ((n, line) ∷ lines)
+goes_on {n} line text {more} {lines} spelled is rest =
+    record { is = good_line n line text more spelled is ∙ ap (before_script n (Ok (Says line))) rest.is }
+
+-- the lines of a round, the first of which has this number, before others
+abbrev pub round_lines : (n p q i j v w : ℕ) → List (ℕ × Line) → List (ℕ × Line)
+round_lines n p q i j v w more =
+    (n, said_by 1 (Begin None))
+    ∷ (n + 1, said_by 2 (Begin None))
+    ∷ (n + 1 + 1, said_by 1 (Get p (4 * i) 4))
+    ∷ (n + 1 + 1 + 1, said_by 1 (Put q (4 * j) (v ∷ [])))
+    ∷ (n + 1 + 1 + 1 + 1, said_by 2 (Get q (4 * i) 4))
+    ∷ (n + 1 + 1 + 1 + 1 + 1, said_by 2 (Put p (4 * i) (w ∷ [])))
+    ∷ (n + 1 + 1 + 1 + 1 + 1 + 1, said_by 1 End)
+    ∷ (n + 1 + 1 + 1 + 1 + 1 + 1 + 1, said_by 2 End)
+    ∷ more
+
+-- those of the round that is drawn from a state
+abbrev pub drawn_lines : (n x : ℕ) → List (ℕ × Line) → List (ℕ × Line)
+drawn_lines n x more = round_lines n (nth_drawn x 1 64) (nth_drawn x 2 64) (nth_drawn x 3 16) (nth_drawn x 4 16) (nth_drawn x 5 256) (nth_drawn x 6 256) more
+
+-- those of so many rounds
+abbrev pub bench_lines : (count n x : ℕ) → List (ℕ × Line)
+bench_lines zero n x = []
+bench_lines (suc count) n x = drawn_lines n x (bench_lines count (n + 1 + 1 + 1 + 1 + 1 + 1 + 1 + 1) (after_draws 6 x))
 
 -- a round, and what follows it
-round_good : (n p q i j v w : ℕ) (more : List ℕ) → p < 64 → q < 64 → i < 16 → j < 16 → v < 256 → w < 256 → ((m : ℕ) → IsGoodFrom m more)
-    → IsGoodFrom n (round_text p q i j v w ++ more)
-round_good n p q i j v w more first second place other byte last good =
+round_read : (n p q i j v w : ℕ) (more : List ℕ) (lines : List (ℕ × Line)) → p < 64 → q < 64 → i < 16 → j < 16 → v < 256 → w < 256
+    → IsReadAs (n + 1 + 1 + 1 + 1 + 1 + 1 + 1 + 1) more lines
+    → IsReadAs n (round_text p q i j v w ++ more) (round_lines n p q i j v w lines)
+round_read n p q i j v w more all first second place other byte last good =
     let lines = one_by_one (begin_line (codes "1")) (begin_line (codes "2")) (get_line (codes "1") p (4 * i)) (put_line (codes "1") q (4 * j) v)
     (get_line (codes "2") q (4 * i)) (put_line (codes "2") p (4 * i) w) (end_line (codes "1")) (end_line (codes "2")) (10 ∷ []) more in
-    subst (IsGoodFrom n) (sym lines)
+    subst (λ (text : List ℕ). IsReadAs n text (round_lines n p q i j v w all)) (sym lines)
     (goes_on (said_by 1 (Begin None)) (begin_line (codes "1")) (begin_text 1 (codes "1") one) (begin_said 1 (omega arith) (omega arith))
     (goes_on (said_by 2 (Begin None)) (begin_line (codes "2")) (begin_text 2 (codes "2") two) (begin_said 2 (omega arith) (omega arith))
     (goes_on (said_by 1 (Get p (4 * i) 4)) (get_line (codes "1") p (4 * i)) (get_text 1 p (4 * i) (codes "1") one)
@@ -174,16 +191,16 @@ round_good n p q i j v w more first second place other byte last good =
     (goes_on (said_by 2 (Put p (4 * i) (w ∷ []))) (put_line (codes "2") p (4 * i) w) (put_text 2 p (4 * i) w (codes "2") two)
     (put_said 2 p (4 * i) w (omega arith) (omega arith) (omega arith) (omega arith) last)
     (goes_on (said_by 1 End) (end_line (codes "1")) (end_text 1 (codes "1") one) (end_said 1 (omega arith) (omega arith))
-    (goes_on (said_by 2 End) (end_line (codes "2")) (end_text 2 (codes "2") two) (end_said 2 (omega arith) (omega arith))
-    (good (n + 1 + 1 + 1 + 1 + 1 + 1 + 1 + 1))))))))))
+    (goes_on (said_by 2 End) (end_line (codes "2")) (end_text 2 (codes "2") two) (end_said 2 (omega arith) (omega arith)) good))))))))
 
 -- so is the text of any number of rounds
-text_good : (count x n : ℕ) → IsGoodFrom n (bench_text count x)
+text_read : (count x n : ℕ) → IsReadAs n (bench_text count x) (bench_lines count n x)
 unfolding bench_text
-text_good zero x n = record { good = refl; plain = tt }
-text_good (suc count) x n =
-    round_good n (nth_drawn x 1 64) (nth_drawn x 2 64) (nth_drawn x 3 16) (nth_drawn x 4 16) (nth_drawn x 5 256) (nth_drawn x 6 256) (bench_text count (after_draws 6 x))
-    (omega arith) (omega arith) (omega arith) (omega arith) (omega arith) (omega arith) (text_good count (after_draws 6 x))
+text_read zero x n = record { is = refl }
+text_read (suc count) x n =
+    round_read n (nth_drawn x 1 64) (nth_drawn x 2 64) (nth_drawn x 3 16) (nth_drawn x 4 16) (nth_drawn x 5 256) (nth_drawn x 6 256) (bench_text count (after_draws 6 x))
+    (bench_lines count (n + 1 + 1 + 1 + 1 + 1 + 1 + 1 + 1) (after_draws 6 x))
+    (omega arith) (omega arith) (omega arith) (omega arith) (omega arith) (omega arith) (text_read count (after_draws 6 x) (n + 1 + 1 + 1 + 1 + 1 + 1 + 1 + 1))
 
 -- a round is short
 round_size : (p q i j v w : ℕ) → p < 64 → q < 64 → i < 16 → j < 16 → length (round_text p q i j v w) ≤ 100
@@ -211,10 +228,15 @@ script_is : (seed count : ℕ) → count ≤ 100000 → script (bench_text count
 unfolding script
 script_is seed count few = whole_text (bench_text count seed) MAX_INPUT (omega (arith, text_size count seed, few))
 
--- no line of a script of a bench is bad
-pub scripts_are_good : (seed count : ℕ) → count ≤ 100000 → (script (bench_text count seed)).bad ≡ None
-scripts_are_good seed count few = ap (λ (s : Script). s.bad) (script_is seed count few) ∙ (text_good count seed 1).good
+-- a script of a bench is these lines, and none of them is bad
+pub scripts_are : (seed count : ℕ) → count ≤ 100000 → script (bench_text count seed) ≡ record { lines = bench_lines count 1 seed; bad = None }
+scripts_are seed count few = script_is seed count few ∙ (text_read count seed 1).is
 
 -- and none calls a store
+lines_are_plain : (count n x : ℕ) → ArePlain (bench_lines count n x)
+lines_are_plain zero n x = tt
+lines_are_plain (suc count) n x =
+    (tt, (tt, (tt, (tt, (tt, (tt, (tt, (tt, lines_are_plain count (n + 1 + 1 + 1 + 1 + 1 + 1 + 1 + 1) (after_draws 6 x)))))))))
+
 pub scripts_are_plain : (seed count : ℕ) → count ≤ 100000 → ArePlain (script (bench_text count seed)).lines
-scripts_are_plain seed count few = subst (λ (s : Script). ArePlain s.lines) (sym (script_is seed count few)) (text_good count seed 1).plain
+scripts_are_plain seed count few = subst (λ (s : Script). ArePlain s.lines) (sym (scripts_are seed count few)) (lines_are_plain count 1 seed)

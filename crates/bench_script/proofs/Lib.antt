@@ -5,3 +5,7 @@ mod KindsOfReplies
 mod Counting
 mod Pieces
 mod GoodLines
+mod Meetings
+mod RoundSteps
+mod RoundReplies
+mod OneALine

@@ -1,23 +1,47 @@
 -- The words that the proofs of this crate cite from elsewhere.
-pub use Rattle.std.proofs.Common.{Bool, List, None, Ok, Result, Some, [], ap, append-nil, append_assoc, arith, codes, cond, decimal, drop, false, length, length-append, length-drop, min, nat_eq, nat_le, not, refl, subst, suc, sym, take, true, zero, ℕ, ◌%◌, ◌&&◌, ◌*◌, ◌++◌, ◌+◌, ◌-◌, ◌/◌, ◌<◌, ◌==◌, ◌∙◌, ◌∷◌, ◌≡◌, ◌≢◌, ◌≤◌}
-pub use Rattle.std.proofs.lemmas.Bool.{and_parts, cond-false, eq-eqb, le-ltb, leb-true, lt-leb, ne_eqb}
+pub use Rattle.std.proofs.Common.{Bool, List, None, Ok, Option, Result, Some, [], ap, append-nil, append_assoc, arith, codes, cond, decimal, drop, false, get_or, inr, length, length-append, length-drop, min, nat_eq, nat_le, nat_lt, not, refl, slice_index, subst, suc, sum_by, sym, take, true, zero, ℕ, ◌%◌, ◌&&◌, ◌*◌, ◌++◌, ◌+◌, ◌-◌, ◌/◌, ◌<◌, ◌==◌, ◌||◌, ◌∙◌, ◌∷◌, ◌≡◌, ◌≢◌, ◌≤◌}
+pub use Rattle.std.proofs.lemmas.Bool.{and_from, and_parts, cond-false, eq-eqb, eqb-false, eqb-true, le-leb, le-ltb, leb-true, lt-leb, lt-ltb, ltb-true, ne_eqb}
 pub use Rattle.std.proofs.lemmas.Fmt.{decimal_digit, length-decimal-le}
 pub use Rattle.std.proofs.lemmas.List.{drop-drop, drop_all, take-append-drop, take_all}
 pub use Rattle.std.proofs.lemmas.List.Elements.{Contains-append_right}
 pub use Rattle.std.proofs.lemmas.List.Folds.{list_all-append}
+pub use Rattle.std.proofs.lemmas.List.Sums.{sum_by-append}
+pub use Rattle.std.proofs.lemmas.Option.{get_or_from_slice_get, slice_get-get_or, slice_get_within}
+pub use Rattle.std.proofs.Math.Seq.{get_or-append_seam}
+pub use Rattle.std.proofs.Math.ListN.{drop_of_length-le}
 pub use Rattle.std.specs.Cmp.Lexicographic.{pointwise}
 pub use Rattle.std.specs.Fmt.{digit_glyph, digits_onto}
 unfoldable pub use Rattle.std.specs.Fmt.{digits}
 pub use Rattle.std.specs.List.{list_all}
 pub use Rattle.std.specs.Prelude.{Contains, filter, flat_map}
-pub use Rattle.iso_model.specs.Premises.{AreBytes}
-pub use Rattle.iso_model.specs.World.{World}
-pub use Rattle.iso_model.specs.declared.limits.TheConstants.{MAX_INPUT, MAX_LINE}
-pub use Rattle.script_model.specs.Bench.{after_draws, answers_to, drawn_round, is_committed, is_conflict, nth_drawn, round_text}
+pub use Rattle.iso_model.proofs.Clashes.{least_is_clash, some_clash}
+pub use Rattle.iso_model.proofs.Lookups.{value_runs}
+pub use Rattle.iso_model.proofs.Maximal.{are_runs}
+pub use Rattle.iso_model.proofs.Unique.{same_runs}
+pub use Rattle.iso_model.specs.Array.{Array}
+pub use Rattle.iso_model.specs.Conflict.{IsClash, clash_from}
+unfoldable pub use Rattle.iso_model.specs.Conflict.{clash}
+pub use Rattle.iso_model.specs.Effect.{effect_at, has_write, or_else, record_length, touches}
+unfoldable pub use Rattle.iso_model.specs.Effect.{runs}
+pub use Rattle.iso_model.specs.History.{History, last}
+pub use Rattle.iso_model.specs.Premises.{AreBytes, value_in}
+pub use Rattle.iso_model.specs.Step.{after_commit, get_access, need, put_access, shown_to}
+unfoldable pub use Rattle.iso_model.specs.Step.{begin_step, commit_step, end_step}
+pub use Rattle.iso_model.specs.World.{Live, World, client, empty_history, used, with, without}
+pub use Rattle.iso_model.specs.declared.access.Access.{Access}
+pub use Rattle.iso_model.specs.declared.access.Clash.{Clash}
+pub use Rattle.iso_model.specs.declared.access.Commit.{Commit}
+pub use Rattle.iso_model.specs.declared.access.Kind.TheVariants.{Read, Write}
+pub use Rattle.iso_model.specs.declared.access.Mode.TheVariants.{Serial}
+pub use Rattle.iso_model.specs.declared.access.Run.{Run}
+pub use Rattle.iso_model.specs.declared.limits.TheConstants.{LAST, MAX_ACCESSES, MAX_INPUT, MAX_LINE}
+pub use Rattle.script_model.specs.Bench.{after_draws, answers_to, bench_geometry, bench_world, drawn_round, is_committed, is_conflict, nth_drawn, round_text}
 unfoldable pub use Rattle.script_model.specs.Bench.{bench_text}
 pub use Rattle.script_model.specs.Script.{Script, before_script, is_printable, replies, script_from, without_return}
 unfoldable pub use Rattle.script_model.specs.Script.{parse_whole, script}
-pub use Rattle.script_model.specs.Step.{step}
+pub use Rattle.script_model.specs.CoreReplies.{as_step}
+pub use Rattle.script_model.specs.Step.{access_step, with_access}
+unfoldable pub use Rattle.script_model.specs.Step.{get_step, put_step, step}
 pub use Rattle.script_model.specs.Text.{dashed, digit_of, hex_text, pair_text, pieces, reply_line}
 unfoldable pub use Rattle.script_model.specs.Text.{reply_text}
 pub use Rattle.script_model.specs.declared.script.Line.{Line}
@@ -28,8 +52,9 @@ pub use Rattle.script_model.specs.declared.script.Reply.{Reply}
 pub use Rattle.script_model.specs.declared.script.Reply.TheVariants.{BadBlock, BadKey, BadRange, BadValue, Began, Broken, Committed, Compacted, Conflict, Done, Found, InTx, LabelTaken, LogFull, Missing, ModeFixed, NoAccess, NoBlocks, NoHandle, NoStore, NotInTx, Numbers, Pairs, ReadOnly, Shown, StoreMode, TooManyAccesses, TooManyMarks, TooManyTx, Trimmed, Upgraded, Worn}
 pub use Rattle.script_runner.proofs.Feeds.{no_feed-cons, no_feed-nil}
 pub use Rattle.script_runner.proofs.Fronts.{script-line}
+pub use Rattle.script_runner.specs.Replies.{AreSameButShown, text_of}
 pub use Rattle.script_runner.specs.Run.{HasNoFeed}
-pub use Rattle.script_runner.specs.Told.{ArePlain, IsPlain}
+pub use Rattle.script_runner.specs.Told.{ArePlain, SameButShown}
 pub use Rattle.script_text.proofs.Numerals.{IsWord, decimal_word, hex_word}
 pub use Rattle.script_text.proofs.Readings.{parse-printed}
 pub use Rattle.script_text.proofs.Spaces.{AreWords, spaced_printable}
@@ -37,4 +62,5 @@ pub use Rattle.script_text.specs.Spelling.{AreSome, IsLine, line_words}
 unfoldable pub use Rattle.script_text.specs.Spelling.{line_text}
 pub use Rattle.bench_script.specs.Ends.{DrawnState}
 pub use Rattle.bench_script.specs.Kinds.{commits_in, conflicts_in, kind_of}
+pub use Rattle.bench_script.specs.Rounds.{AreRoundReplies, is_one_place, last_after, one_places}
 pub use Rattle.bench_script.specs.declared.line_kind.LineKind.{LineKind}

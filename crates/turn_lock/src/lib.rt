@@ -16,3 +16,5 @@ pub use view::{LAST, Names, Stage, Stands, View};
 mod tests;
 #[cfg(test)]
 mod tests_crowd;
+#[cfg(test)]
+mod tests_doors;

@@ -67,7 +67,7 @@ fn give<N: Names<u64>>(lock: &TurnLock<Log>, pass: &mut Pass<Log>, turn: Turn<Lo
 }
 
 // Writes the number of entries behind them, and gives the turn back.
-fn add<R: Abort>(rt: &R, lock: &TurnLock<Log>, pass: &mut Pass<Log>, turn: Turn<Log>)
+pub(crate) fn add<R: Abort>(rt: &R, lock: &TurnLock<Log>, pass: &mut Pass<Log>, turn: Turn<Log>)
     requires lock { (pass.old.table_id ≡ lock_id lock.now) × HasTurn pass.old turn }
     requires value { (turn_value turn).entries.items ≡ (view pass.old).seen }
     ensures rests { IsSamePass pass.old pass.new × HasNoTurn pass.new × ((view pass.new).units ≡ (view pass.old).units) }

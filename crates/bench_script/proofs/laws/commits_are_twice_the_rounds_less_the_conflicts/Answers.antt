@@ -1,0 +1,6 @@
+use Rattle.bench_script.proofs.Words.{answers_to, bench_text, bench_world, script}
+use Rattle.bench_script.proofs.RoundReplies.{bench_answered, both_are}
+use Rattle.bench_script.proofs.laws.commits_are_twice_the_rounds_less_the_conflicts.Goals as goal
+
+pub returns : goal.returns
+returns c seed count few = both_are count seed 0 (answers_to bench_world (script (bench_text count seed)).lines) (bench_answered seed count few)
