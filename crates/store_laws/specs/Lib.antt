@@ -4,7 +4,6 @@ pub mod Both
 pub mod Growing
 pub mod Writes
 pub mod Calls
-pub mod AreaBlocks
 pub mod Hash
 pub mod HashBlocks
 pub mod Tree
