@@ -1,5 +1,5 @@
 -- The calls of the tree store write blocks of its area alone.
-use Rattle.store_laws.proofs.Words.{◌≡◌, ℕ, Bool, List, Option, Some, Ok, Array, HasEnded, IsTreeArea, scan_program, Tx, added, get_reads, program_reads, tree_store, WriteWithin}
+use Rattle.store_laws.proofs.Words.{◌≡◌, ℕ, Bool, List, Option, Some, Ok, Area, Array, HasEnded, IsTreeArea, scan_program, Tx, added, get_reads, program_reads, tree_store, WriteWithin}
 use Rattle.store_model.specs.TreeCalls.{del_program, get_program, put_program}
 use Rattle.store_laws.proofs.Programs.{ended_within, read_within}
 pub use Rattle.iso_tree.proofs.TreeWrites.{del_program_stores, put_program_stores}

@@ -1,5 +1,5 @@
 -- What the stores share: the calls on one key with their operations on the map, what calls answer, and the blocks of an area.
-use Rattle.std.specs.Prelude.{◌⊎◌, ◌+◌, ◌≤◌, Bool, List, Option}
+use Rattle.std.specs.Prelude.{◌⊎◌, ℕ, ◌+◌, ◌≤◌, Bool, List, Option}
 use Rattle.store_model.specs.declared.stores.Area.{Area}
 use Rattle.store_model.specs.HashRegion.{Pairs, del_op, get_op, put_op}
 pub use Rattle.store_model.specs.Areas.{in_area}
