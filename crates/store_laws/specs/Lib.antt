@@ -8,4 +8,6 @@ pub mod Hash
 pub mod HashBlocks
 pub mod Tree
 pub mod TreeBlocks
+pub mod Files
+pub mod FileBlocks
 pub mod BothStores
