@@ -1,6 +1,7 @@
-//! What the stores share: blocks of cells, and the free map of a region.
+//! What the stores share: blocks of cells, the free map of a region, and the buffers and arguments of a call.
 #![tactic(auto)]
 
+mod buffers;
 mod cells;
 mod free_map;
 mod parts;
@@ -8,6 +9,7 @@ mod search;
 #[cfg(test)]
 mod tests;
 
+pub use buffers::{buffer, is_key, is_value, spelled};
 pub use cells::Cells;
 pub use free_map::{free_blocks, give_back, take_lowest};
 pub use parts::{are_zero, cell_count, is_part, key_part, lay, piece, spell, text_of, word_at};

@@ -6,10 +6,10 @@ ghost use Rattle.tx_blocks.specs.Tx.{IsLater};
 ghost use Rattle.tx_blocks.specs.Runs.{area_of, Behaves, HasEnded, HasRun, IsLocalCall, IsStoreCause, IsUnwritten};
 ghost use Rattle.iso_hash.specs.Walks.{IsSpot};
 
-use crate::buffer::{buffer, is_key, is_value};
 use crate::links::put_block;
 use crate::walk::{Walked, walk};
 use crate::writes::{put_cell, put_value};
+use iso_alloc::{buffer, is_key, is_value};
 use std::alloc::Global;
 use store_model::{Area, Region, Spot, StoreError};
 use tx_blocks::TxBlocks;

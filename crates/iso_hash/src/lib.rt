@@ -2,7 +2,6 @@
 #![tactic(auto)]
 
 mod bucket;
-mod buffer;
 mod insert;
 mod links;
 mod lookup;

@@ -5,9 +5,8 @@ ghost use Rattle.store_model.specs.HashRegion.{get_op, hash_map, IsHashArea, IsH
 ghost use Rattle.tx_blocks.specs.Tx.{IsLater};
 ghost use Rattle.tx_blocks.specs.Runs.{area_of, HasEnded, HasRead, IsLocalCall, IsStoreCause};
 
-use crate::buffer::{buffer, is_key, spelled};
 use crate::walk::{Walked, walk};
-use iso_alloc::{cell_count, is_part, piece};
+use iso_alloc::{buffer, cell_count, is_key, is_part, piece, spelled};
 use iso_model::{Bytes, Items};
 use std::alloc::Global;
 use store_model::{Area, Region, StoreError};

@@ -7,11 +7,10 @@ ghost use Rattle.tx_blocks.specs.Tx.{IsLater};
 ghost use Rattle.tx_blocks.specs.Runs.{area_of, Behaves, HasEnded, HasRun, IsLocalCall, IsStoreCause, IsUnwritten};
 
 use crate::bucket::buckets;
-use crate::buffer::{buffer, is_key};
 use crate::links::del_block;
 use crate::walk::{Walked, walk};
 use crate::writes::clear_cell;
-use iso_alloc::{cell_count, is_alone, word_at};
+use iso_alloc::{buffer, cell_count, is_alone, is_key, word_at};
 use std::alloc::Global;
 use store_model::{Area, Region, Spot, StoreError};
 use tx_blocks::TxBlocks;

@@ -215,7 +215,7 @@ del_whole_below a key A root level sized shape below =
           (del_whole_at a key A (answer_of (descend a key false level root []) A) sized shape (lands a A key false level root [] below))))
     ]
 
-del_whole : (a : Area) (key : List ℕ) (A : Array) → IsBlock a.size → HasBlocks a A → AreWhole A (accesses_of (del_program a key) A)
+pub del_whole : (a : Area) (key : List ℕ) (A : Array) → IsBlock a.size → HasBlocks a A → AreWhole A (accesses_of (del_program a key) A)
 unfolding del_program
 del_whole a key A sized shape =
     elim (is_key key) as (λ k. AreWhole A (accesses_of (cond k (with_head a (del_below a key)) (Done (Err BadKey))) A)) [

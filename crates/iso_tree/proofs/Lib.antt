@@ -58,5 +58,7 @@ pub mod ScanNodes
 pub mod ScanTrees
 pub mod Sorted
 pub mod ScanCalls
+pub mod TreeBlocks
+pub mod TreeWrites
 pub mod Visiting
 pub mod Scanning

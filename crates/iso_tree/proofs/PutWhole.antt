@@ -248,7 +248,7 @@ module _ (a : Area) (area : IsTreeArea a) (A : Array) (shape : HasBlocks a A) (k
             (at_whole d (descend_ends a A key level root [] sizes.sized shape below tt))))
       ]
 
-put_whole : (a : Area) (area : IsTreeArea a) (A : Array) → HasBlocks a A → (key text : List ℕ) → is_key key ≡ true → is_value text ≡ true → AreWhole A (accesses_of (put_program a key text) A)
+pub put_whole : (a : Area) (area : IsTreeArea a) (A : Array) → HasBlocks a A → (key text : List ℕ) → is_key key ≡ true → is_value text ≡ true → AreWhole A (accesses_of (put_program a key text) A)
 unfolding put_program
 put_whole a area A shape key text key_is value_is =
     let call : (k v : Bool) → Program Answer = λ k v. cond k (cond v (with_head a (put_below_root a key text)) (Done (Err BadValue))) (Done (Err BadKey)) in

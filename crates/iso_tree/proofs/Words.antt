@@ -54,11 +54,11 @@ pub use Rattle.tx_blocks.proofs.Parts.{began_from, behaves_after, cut_from, done
 pub use Rattle.tx_blocks.proofs.Programs.{AreWhole, IsCorrect, accesses_then, answer_then, local_from, own_reads, reads_append, reads_then, same_bytes, whole_reads}
 pub use Rattle.tx_blocks.proofs.Progress.{IsAt, at_join, at_look, at_look_whole, at_reserve, at_start, at_store, at_then, began_at, full_at_reserve, own_append, ran_at, stopped_at, whole_run}
 pub use Rattle.tx_blocks.proofs.Refusals.{behaves_more, cause_since, cut_at_look, cut_at_store, cut_then, later_same, later_than, read_base, read_more, read_none, read_same}
-pub use Rattle.tx_blocks.specs.Runs.{Behaves, HasEnded, HasRead, HasRun, IsCause, IsCut, IsLocalCall, Passed, Ran, Stopped, WantsMemory, area_of}
+pub use Rattle.tx_blocks.specs.Runs.{AreBytesOf, Behaves, HasEnded, HasRead, HasRun, IsCause, IsCut, IsLocalCall, Passed, Ran, Stopped, WantsMemory, area_of}
 pub use Rattle.tx_blocks.specs.Tx.{Device, IsLater, IsTx, Tx, mark_refusal, room_of, with_accesses}
 pub use Rattle.iso_tree.specs.FirstBlock.{Up, ends, first_access, first_bytes, first_spans}
 pub use Rattle.iso_tree.specs.Rows.{AreBlocks, AreInside, ArePathUsable, AreShownUsable, AreUsable, IsUsable, key_in_row, nodes_from, part_in_row, row_from, upto_from}
 pub use Rattle.iso_tree.specs.Visits.{AreIn, HasScanned, IsVisited, keys_of, node_read, scan_nodes, values_mark, values_of, visit_program}
-pub use Rattle.iso_tree.specs.Walks.{AreBytesOf, HasDescended, HasReadLeaf, IsLeaf, IsWalkError, OnlyReads, child_program, head_program, leaf_program, leaf_value}
+pub use Rattle.iso_tree.specs.Walks.{HasDescended, HasReadLeaf, IsLeaf, IsWalkError, OnlyReads, child_program, head_program, leaf_program, leaf_value}
 pub use Rattle.iso_tree.specs.declared.descent.Leaf.{Leaf}
 pub use Rattle.iso_tree.specs.declared.visit.Visit.{Visit}

@@ -9,7 +9,7 @@ use Rattle.iso_model.specs.Premises.{block_at}
 use Rattle.store_model.specs.Cells.{keys_end, keys_mark}
 use Rattle.store_model.specs.Stores.{Program, Done, Look, further_bytes}
 use Rattle.tx_blocks.specs.Tx.{Tx, Device, IsLater}
-use Rattle.tx_blocks.specs.Runs.{Ran, IsCut, HasRead, IsStoreCause}
+use Rattle.tx_blocks.specs.Runs.{AreBytesOf, Ran, IsCut, HasRead, IsStoreCause}
 use Rattle.iso_tree.specs.declared.descent.Leaf.{Leaf}
 use Rattle.store_model.specs.TreeNodes.{cell_of, count_of, is_node, is_child, child_of}
 use Rattle.store_model.specs.TreeCalls.{AtLeaf, AtBroken, descend, inner_further, leaf_further, with_head}
@@ -22,6 +22,15 @@ IsWalkError store.BadKey = ⊥
 IsWalkError store.BadValue = ⊥
 IsWalkError (store.NoBlocks need free) = ⊥
 IsWalkError store.Memory = ⊥
+
+-- a refusal of a call that puts nothing: it needs no block, and has no value
+abbrev pub TakesNoBlocks : StoreError → Type 0
+TakesNoBlocks store.BadKey = Unit {0}
+TakesNoBlocks (store.Broken block) = Unit {0}
+TakesNoBlocks (store.Tx e) = Unit {0}
+TakesNoBlocks store.Memory = Unit {0}
+TakesNoBlocks store.BadValue = ⊥
+TakesNoBlocks (store.NoBlocks need free) = ⊥
 
 -- What a part of a call that reads alone leaves: further reads; why it is refused, which is as walks are; that the disk's
 -- faults do not fall, and stand after Ok where they stood.
@@ -59,10 +68,6 @@ pub record IsLeaf (a : Area) (key buffer : List ℕ) (leaf : Leaf) : Type 0 wher
   pub node : is_node a.size 0 (take (keys_end a.size) buffer) ≡ true
   pub cell : leaf.cell ≡ cell_of key (take (keys_end a.size) buffer)
   pub count : leaf.count ≡ count_of (take (keys_end a.size) buffer)
-
--- the bytes are those of the block that the transaction shows, where that is told
-abbrev pub AreBytesOf : Tx → (block : ℕ) → List ℕ → Type 0
-AreBytesOf t block bytes = ForSome t.base (λ A. bytes ≡ block_at (own A t.accesses) block)
 
 -- the leaf's value part of a key, as far as it was read
 abbrev pub leaf_value : Area → (key : List ℕ) → (with_value : Bool) → (buffer : List ℕ) → List ℕ

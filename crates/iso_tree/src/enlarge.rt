@@ -176,8 +176,8 @@ fn put_taken<T: TxBlocks>(
     )
 }
 
-// The mark over head and map.
-fn map_mark(area: Area) -> Span
+/// The mark over head and map.
+pub fn map_mark(area: Area) -> Span
     requires { IsTreeArea area }
     ensures { result ≡ map_mark area.blocks }
 {

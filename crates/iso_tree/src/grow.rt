@@ -14,10 +14,9 @@ ghost use Rattle.iso_tree.specs.Walks.{OnlyReads};
 
 use crate::climb::first_node;
 use crate::keys::count_of;
-use crate::whole::look_whole;
 use iso_alloc::{are_key_parts, cell_count, lay, piece, take_lowest};
 use store_model::{Area, Region, StoreError, TxError};
-use tx_blocks::TxBlocks;
+use tx_blocks::{TxBlocks, look_whole};
 
 /// Takes so many free blocks, lowest first.
 pub fn take_blocks(map: &mut [u8], region: Region, need: usize, news: &mut [u32])

@@ -7,12 +7,11 @@ ghost use Rattle.tx_blocks.specs.Runs.{area_of, Behaves, HasEnded, HasRun, IsLoc
 ghost use Rattle.store_model.specs.TreeCalls.{put_below_root, put_program};
 ghost use Rattle.store_model.specs.TreeRegion.{tree_map, IsTreeArea, IsTreeRegion};
 
-use crate::buffer::{buffer, is_key, is_value};
 use crate::descent::{descend, read_head};
 use crate::enlarge::put_new;
 use crate::leaf::{put_cell, put_value};
 use crate::path::Path;
-use iso_alloc::cell_count;
+use iso_alloc::{buffer, cell_count, is_key, is_value};
 use std::alloc::Global;
 use store_model::{Area, Region, StoreError};
 use tx_blocks::TxBlocks;

@@ -2,19 +2,18 @@
 ghost use Rattle.std.specs.Prelude.{◌≡◌, ◌+◌, ◌*◌, ◌<◌, ◌≤◌, length, take, true, Ok, [], ◌∷◌};
 ghost use Rattle.store_model.specs.Cells.{block_with, cell_count, keys_end, value_mark, value_part};
 ghost use Rattle.store_model.specs.Stores.{Done, Store};
-ghost use Rattle.tx_blocks.specs.Runs.{Behaves, HasRun};
+ghost use Rattle.tx_blocks.specs.Runs.{AreBytesOf, Behaves, HasRun};
 ghost use Rattle.store_model.specs.TreeNodes.{count_of, is_node, node_bytes, used_cells, IsBlock};
 ghost use Rattle.store_model.specs.Trees.{put_after};
 ghost use Rattle.store_model.specs.TreeCalls.{edit_leaf};
 ghost use Rattle.store_model.specs.TreeRegion.{IsTreeArea};
-ghost use Rattle.iso_tree.specs.Walks.{AreBytesOf, IsLeaf};
+ghost use Rattle.iso_tree.specs.Walks.{IsLeaf};
 
 use crate::descent::{Leaf, value_mark};
 use crate::fill::{fill_row, upto};
-use crate::whole::look_whole;
 use iso_alloc::{cell_count, lay, piece, spell};
 use store_model::{Area, StoreError};
-use tx_blocks::{TxBlocks, store};
+use tx_blocks::{TxBlocks, look_whole, store};
 
 /// The value part that spells a value.
 pub fn value_part(value: &[u8]) -> [u8; 33]

@@ -1,7 +1,6 @@
 //! The tree store over the blocks of a transaction.
 #![tactic(auto)]
 
-mod buffer;
 mod build;
 mod climb;
 mod descent;
@@ -19,8 +18,10 @@ mod range;
 mod remove;
 mod unread;
 mod visit;
-mod whole;
 
+pub use enlarge::map_mark;
+pub use first::store_first;
+pub use grow::take_blocks;
 pub use insert::put;
 pub use lookup::get;
 pub use node::NodeView;

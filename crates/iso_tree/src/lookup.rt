@@ -8,10 +8,9 @@ ghost use Rattle.store_model.specs.TreeCalls.{get_below, get_program};
 ghost use Rattle.store_model.specs.TreeRegion.{tree_map, IsTreeArea, IsTreeRegion};
 ghost use Rattle.iso_tree.specs.Walks.{OnlyReads};
 
-use crate::buffer::{buffer, is_key, spelled};
 use crate::descent::{descend, read_head, value_part};
 use crate::path::Path;
-use iso_alloc::is_part;
+use iso_alloc::{buffer, is_key, is_part, spelled};
 use iso_model::{Bytes, Items};
 use std::alloc::Global;
 use store_model::{Area, Region, StoreError};

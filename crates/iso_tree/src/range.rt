@@ -13,12 +13,11 @@ ghost use Rattle.tx_blocks.specs.Runs.{area_of, HasEnded, HasRead, IsLocalCall, 
 ghost use Rattle.iso_tree.specs.Visits.{scan_nodes, AreIn, HasScanned};
 ghost use Rattle.iso_tree.specs.Walks.{OnlyReads};
 
-use crate::buffer::{buffer, is_key};
 use crate::descent::read_head;
 use crate::keys::key_of;
 use crate::unread::Unread;
 use crate::visit::{Visit, read_node, values};
-use iso_alloc::{cell_count, piece, text_of, word_at};
+use iso_alloc::{buffer, cell_count, is_key, piece, text_of, word_at};
 use iso_model::{Bytes, Items};
 use std::alloc::Global;
 use store_model::{Area, PairList, Region, StoreError, TxError};

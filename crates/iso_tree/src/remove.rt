@@ -3,19 +3,18 @@ ghost use Rattle.std.specs.Prelude.{◌≡◌, ◌↔◌, ◌+◌, ◌<◌, ◌�
 ghost use Rattle.store_model.specs.HashCalls.{is_key};
 ghost use Rattle.store_model.specs.HashRegion.{del_op};
 ghost use Rattle.tx_blocks.specs.Tx.{IsLater};
-ghost use Rattle.tx_blocks.specs.Runs.{area_of, Behaves, HasEnded, HasRun, HasRead, IsLocalCall, IsStoreCause};
+ghost use Rattle.tx_blocks.specs.Runs.{AreBytesOf, area_of, Behaves, HasEnded, HasRun, HasRead, IsLocalCall, IsStoreCause};
 ghost use Rattle.store_model.specs.TreeCalls.{del_below, del_program, edit_leaf, without_key};
 ghost use Rattle.store_model.specs.TreeRegion.{tree_map, IsTreeArea, IsTreeRegion};
-ghost use Rattle.iso_tree.specs.Walks.{AreBytesOf, IsLeaf};
+ghost use Rattle.iso_tree.specs.Walks.{IsLeaf, IsWalkError, TakesNoBlocks};
 
-use crate::buffer::{buffer, is_key};
 use crate::build::copy_without;
 use crate::descent::{Leaf, descend, read_head};
 use crate::path::Path;
-use crate::whole::look_whole;
+use iso_alloc::{buffer, is_key};
 use std::alloc::Global;
 use store_model::{Area, Region, StoreError};
-use tx_blocks::{TxBlocks, store};
+use tx_blocks::{TxBlocks, look_whole, store};
 
 // Writes the leaf without the key. The leaf is read once more, unmarked, so that the removal depends on all of it: its bytes are
 // those that the descent has read.
@@ -36,6 +35,7 @@ fn remove_cell<T: TxBlocks>(
     requires into { length into.old ≡ area.size }
     ensures run { HasRun (edit_leaf area leaf.block (without_key key.now) (Ok true)) (T.state tx.old) (T.state tx.new) result }
     ensures behaves { Behaves (T.state tx.old) (T.state tx.new) 1 (T.device tx.old) (T.device tx.new) result }
+    ensures known { IfErr result IsWalkError }
 {
     let image_block = area.start + leaf.block;
     if let Err(e) = look_whole(tx, image_block, into) {
@@ -67,6 +67,7 @@ fn remove_below<T: TxBlocks>(
     requires into { length into.old ≡ area.size }
     ensures run { HasRun (del_below area key.now root level) (T.state tx.old) (T.state tx.new) result }
     ensures behaves { Behaves (T.state tx.old) (T.state tx.new) 1 (T.device tx.old) (T.device tx.new) result }
+    ensures known { IfErr result IsWalkError }
 {
     if root == 0 {
         return Ok(false);
@@ -98,6 +99,7 @@ fn remove_with<T: TxBlocks>(
     requires into { length into.old ≡ area.size }
     ensures run { HasRun (del_program area key.now) (T.state tx.old) (T.state tx.new) result }
     ensures behaves { Behaves (T.state tx.old) (T.state tx.new) 1 (T.device tx.old) (T.device tx.new) result }
+    ensures known { IfErr result IsWalkError }
 {
     match read_head(tx, area, block) {
         Ok((root, level)) => remove_below(tx, area, key, root, level, block, into),
@@ -106,7 +108,7 @@ fn remove_with<T: TxBlocks>(
 }
 
 /// Removes a key, and says whether the region's map had it. `BadKey` comes exactly where the key does not have 1 to 28 bytes,
-/// `Broken` where the head or a node of the descent fails a test. A refusal has written nothing.
+/// `Broken` where the head or a node of the descent fails a test; never `NoBlocks`. A refusal has written nothing.
 pub fn del<T: TxBlocks>(
     alloc: Global,
     tx: &mut T,
@@ -120,6 +122,7 @@ pub fn del<T: TxBlocks>(
     ensures bad_key { result ≡ Err StoreError.BadKey ↔ IsFalse (is_key key.now) }
     ensures cause { IfErr result (IsStoreCause (T.state tx.new) 1 (T.device tx.old) (T.device tx.new)) }
     ensures unwritten { OnErr result (HasRead (T.state tx.old) (T.state tx.new)) }
+    ensures takes_none { IfErr result TakesNoBlocks }
     ensures later { IsLater (T.device tx.old) (T.device tx.new) }
     ensures passed { OnOk result ((T.device tx.new).faults ≡ (T.device tx.old).faults) }
 {

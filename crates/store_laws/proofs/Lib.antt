@@ -10,6 +10,8 @@ pub mod KeyCalls
 pub mod Zeros
 pub mod HashBlank
 pub mod TreeBlank
+pub mod FileBlank
+pub mod FileCalls
 pub mod Programs
 pub mod HashWrites
 pub mod TreeWrites

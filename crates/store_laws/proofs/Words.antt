@@ -61,13 +61,15 @@ pub use Rattle.store_model.specs.declared.stores.Region.{Region}
 pub use Rattle.store_model.specs.declared.stores.Spot.{Spot}
 pub use Rattle.store_model.specs.declared.stores.StoreError.{StoreError}
 pub use Rattle.tx_blocks.proofs.Parts.{scanned_ok}
+pub use Rattle.tx_blocks.proofs.Storing.{Answers, StoresIn, answers_cond, stores_cell, stores_cond, stores_then}
 pub use Rattle.tx_blocks.proofs.Progress.{added_is, own_append, whole_run}
 pub use Rattle.tx_blocks.specs.Runs.{HasEnded, HasRead, IsLocalCall, WantsMemory, area_of}
 pub use Rattle.tx_blocks.specs.Tx.{Tx, added, with_accesses}
-pub use Rattle.store_laws.specs.AreaBlocks.{in_its_area, start_in}
+pub use Rattle.store_model.proofs.AreaBlocks.{in_its_area, start_in}
 pub use Rattle.store_laws.specs.Both.{AreMixed, BothByMap, BothInOrder, BothWellFormed, First, IsByBoth, IsOfBoth, Mixed, MixedParts, Neither, Second, firsts, seconds}
 pub use Rattle.store_laws.specs.BothStores.{IsMadeOfStores, StorePart}
-pub use Rattle.store_laws.specs.Calls.{AreDisjoint, Del, Found, Get, Got, KeyCall, Put, StoreAnswer, WasPut, WasThere, in_area, key_act}
+pub use Rattle.store_laws.specs.Calls.{AreDisjoint, Del, Found, Get, Got, KeyCall, Put, StoreAnswer, WasPut, WasThere, key_act}
+pub use Rattle.store_model.specs.Areas.{in_area}
 pub use Rattle.store_laws.specs.Growing.{IsMadeOf, IsMadeOfBoth}
 pub use Rattle.store_laws.specs.Hash.{hash_store}
 pub use Rattle.store_laws.specs.HashBlocks.{hash_is_of_its_blocks}

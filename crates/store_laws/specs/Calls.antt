@@ -1,7 +1,8 @@
 -- What the stores share: the calls on one key with their operations on the map, what calls answer, and the blocks of an area.
-use Rattle.std.specs.Prelude.{◌⊎◌, ℕ, ◌+◌, ◌≤◌, Bool, ◌&&◌, List, Option, nat_le, nat_lt}
+use Rattle.std.specs.Prelude.{◌⊎◌, ℕ, ◌+◌, ◌≤◌, Bool, List, Option}
 use Rattle.store_model.specs.declared.stores.Area.{Area}
 use Rattle.store_model.specs.HashRegion.{Pairs, del_op, get_op, put_op}
+pub use Rattle.store_model.specs.Areas.{in_area}
 
 -- a call on one key
 pub data KeyCall : Type 0 where
@@ -21,10 +22,6 @@ abbrev pub key_act : KeyCall → Pairs → StoreAnswer × Pairs
 key_act (Get key) m = (Got (get_op key m).0, (get_op key m).1)
 key_act (Put key value) m = (WasPut, (put_op key value m).1)
 key_act (Del key) m = (WasThere (del_op key m).0, (del_op key m).1)
-
--- whether the block is one of the area
-abbrev pub in_area : Area → ℕ → Bool
-in_area a b = nat_le a.start b && nat_lt b (a.start + a.blocks)
 
 -- areas that have no block in common: one ends before the other begins
 abbrev pub AreDisjoint : Area → Area → Type 0

@@ -11,8 +11,8 @@ use Rattle.iso_model.specs.Premises.{block_at}
 use Rattle.store_model.specs.Stores.{bytes_in}
 use Rattle.iso_hash.proofs.Chains.{block_inside, length-chain_from, linked_alike}
 use Rattle.iso_hash.proofs.Linking.{chain_of}
-use Rattle.store_laws.specs.AreaBlocks.{same_block, same_first}
-use Rattle.store_laws.specs.Calls.{in_area}
+use Rattle.store_model.proofs.AreaBlocks.{same_block, same_first}
+use Rattle.store_model.specs.Areas.{in_area}
 use Rattle.store_laws.specs.Hash.{hash_store}
 use Rattle.store_laws.specs.Region.{IsOfItsBlocks}
 

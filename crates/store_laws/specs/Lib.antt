@@ -4,9 +4,10 @@ pub mod Both
 pub mod Growing
 pub mod Writes
 pub mod Calls
-pub mod AreaBlocks
 pub mod Hash
 pub mod HashBlocks
 pub mod Tree
 pub mod TreeBlocks
+pub mod Files
+pub mod FileBlocks
 pub mod BothStores

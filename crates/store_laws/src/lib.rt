@@ -2,6 +2,8 @@
 #![tactic(auto)]
 
 pub mod both_laws;
+pub mod file_laws;
+mod files;
 mod hash;
 pub mod hash_laws;
 pub mod laws;
@@ -9,6 +11,7 @@ mod store;
 mod tree;
 pub mod tree_laws;
 
+pub use files::FileStore;
 pub use hash::HashStore;
 pub use store::RegionStore;
 pub use tree::TreeStore;

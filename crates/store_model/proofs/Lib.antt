@@ -4,5 +4,7 @@ pub mod StoreAccesses
 pub mod HashAccesses
 pub mod TreeCells
 pub mod TreeAccesses
+pub mod AreaBlocks
 mod HashRows
 mod TreeRows
+mod FileRows

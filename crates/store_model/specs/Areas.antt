@@ -1,5 +1,5 @@
 -- Where the stores of an image are.
-use Rattle.std.specs.Prelude.{◌-◌}
+use Rattle.std.specs.Prelude.{ℕ, ◌+◌, Bool, ◌&&◌, nat_le, nat_lt}
 use Rattle.iso_model.specs.declared.access.Geometry.{Geometry}
 use Rattle.store_model.specs.declared.stores.Area.{Area}
 
@@ -10,3 +10,7 @@ hash_area g = record { size = g.block; start = 0; blocks = g.hash }
 -- where the tree store is: behind the hash store
 abbrev pub tree_area : Geometry → Area
 tree_area g = record { size = g.block; start = g.hash; blocks = g.tree }
+
+-- whether the block is one of the area
+abbrev pub in_area : Area → ℕ → Bool
+in_area a b = nat_le a.start b && nat_lt b (a.start + a.blocks)

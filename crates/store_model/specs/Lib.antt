@@ -8,3 +8,6 @@ pub mod TreeNodes
 pub mod Trees
 pub mod TreeCalls
 pub mod TreeRegion
+pub mod FileNodes
+pub mod FileCalls
+pub mod FileRegion

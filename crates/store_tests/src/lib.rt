@@ -1,6 +1,8 @@
-//! The tests of `iso_hash` and `iso_tree`, over a transaction on an array in memory.
+//! The tests of `iso_hash`, `iso_tree` and `iso_fs`, over a transaction on an array in memory.
 #![tactic(auto)]
 
+#[cfg(test)]
+mod file_tests;
 #[cfg(test)]
 mod hash_tests;
 #[cfg(test)]

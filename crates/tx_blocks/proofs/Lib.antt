@@ -5,3 +5,4 @@ pub mod Progress
 pub mod Marking
 pub mod Refusals
 pub mod Parts
+pub mod Storing

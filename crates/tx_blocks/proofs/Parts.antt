@@ -6,7 +6,7 @@ use Rattle.tx_blocks.proofs.Programs.{reads_append}
 use Rattle.tx_blocks.proofs.Progress.{IsAt, same_base, with_more}
 use Rattle.tx_blocks.proofs.Refusals.{cause_earlier, cause_since, later_than, later_same}
 
-ends_from : {R : Type 0} (whole rest : Program R) (t u v : Tx) (end : Option R) → IsAt whole rest t u → Ends rest u v end → Ends whole t v end
+pub ends_from : {R : Type 0} (whole rest : Program R) (t u v : Tx) (end : Option R) → IsAt whole rest t u → Ends rest u v end → Ends whole t v end
 ends_from whole rest t u v end now ended = record {
   done = now.done ++ ended.done;
   is = ended.is ∙ ap (λ (w : Tx). with_accesses w ended.done) now.is ∙ with_more t now.done ended.done;
@@ -28,7 +28,7 @@ began_from whole rest t u v now began = record {
       );
 }
 
-stopped_from : {R : Type 0} (whole rest : Program R) (t u v : Tx) → IsAt whole rest t u → Stopped rest u v → Stopped whole t v
+pub stopped_from : {R : Type 0} (whole rest : Program R) (t u v : Tx) → IsAt whole rest t u → Stopped rest u v → Stopped whole t v
 stopped_from whole rest t u v now stopped = record {
   began = began_from whole rest t u v now stopped.began;
   fewer = λ A told.

@@ -11,12 +11,17 @@ use Rattle.store_model.specs.declared.stores.TxError.{TxError}
 use Rattle.store_model.specs.declared.stores.TxError.TheVariants as error
 use Rattle.iso_model.specs.Array.{Array}
 use Rattle.iso_model.specs.Effect.{own}
+use Rattle.iso_model.specs.Premises.{block_at}
 use Rattle.store_model.specs.Stores.{Program, accesses_of, outcome, AreReads, IsLocal}
 use Rattle.tx_blocks.specs.Tx.{Tx, Device, IsLater, with_accesses, added, room_of}
 
 -- the area of a region of the transaction's blocks
 abbrev pub area_of : Tx → Region → Area
 area_of t region = record { size = t.size; start = region.start; blocks = region.size }
+
+-- the bytes are those of the block that the transaction shows, where that is told
+abbrev pub AreBytesOf : Tx → (block : ℕ) → List ℕ → Type 0
+AreBytesOf t block bytes = ForSome t.base (λ A. bytes ≡ block_at (own A t.accesses) block)
 
 -- The call made these accesses; where the array is told, they are those of the program, which ends so.
 pub record Ends {R : Type 0} (p : Program R) (t u : Tx) (end : Option R) : Type 0 where

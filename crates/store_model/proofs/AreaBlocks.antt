@@ -4,7 +4,7 @@ use Rattle.std.proofs.lemmas.Bool.Decides.{nat_tests}
 use Rattle.store_model.specs.declared.stores.Area.{Area}
 use Rattle.iso_model.specs.Array.{Array}
 use Rattle.iso_model.specs.Premises.{block_at}
-use Rattle.store_laws.specs.Calls.{in_area}
+use Rattle.store_model.specs.Areas.{in_area}
 
 -- the blocks of an area are in it
 pub in_its_area : (a : Area) (k : ℕ) → k < a.blocks → in_area a (a.start + k) ≡ true

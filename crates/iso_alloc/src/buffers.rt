@@ -3,7 +3,7 @@ ghost use Rattle.std.specs.Prelude.{◌≡◌, ◌≤◌, IfOk, IfErr, length, t
 ghost use Rattle.store_model.specs.Cells.{is_part, text_of};
 ghost use Rattle.store_model.specs.HashCalls.{is_key, is_value};
 
-use iso_alloc::text_of;
+use crate::parts::text_of;
 use std::alloc::Global;
 use store_model::StoreError;
 

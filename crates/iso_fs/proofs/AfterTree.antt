@@ -1,0 +1,100 @@
+-- What a call of the file store does behind a call of the tree store, and behind the read of a file block.
+use Rattle.std.proofs.Common.{◌≡◌, ◌∙◌, sym, refl, ap, subst, ℕ, ◌+◌, ◌≤◌, Bool, true, false, cond, List, [], ◌∷◌, ◌++◌, Option, Some, None, Result, Ok, Err}
+use Rattle.std.specs.FinMap.{get}
+use Rattle.iso_model.specs.declared.access.Access.{Access}
+use Rattle.store_model.specs.declared.stores.Area.{Area}
+use Rattle.store_model.specs.declared.stores.StoreError.{StoreError}
+use Rattle.store_model.specs.declared.stores.StoreError.TheVariants.{Broken}
+use Rattle.iso_model.specs.Array.{Array}
+use Rattle.iso_model.specs.Effect.{own}
+use Rattle.store_model.specs.HashCalls.{is_key}
+use Rattle.store_model.specs.Stores.{AreReads, Done, LookWhole, Program, accesses_of, answer_of, look_access, then_do}
+use Rattle.store_model.specs.TreeCalls.{get_program}
+use Rattle.store_model.specs.TreeRegion.{IsTreeRegion, tree_map}
+use Rattle.tx_blocks.proofs.Programs.{AreWhole, accesses_then, answer_then, own_reads, reads_append, whole_reads}
+use Rattle.tx_blocks.proofs.Progress.{own_append}
+use Rattle.iso_tree.proofs.DelCalls.{whole_append}
+use Rattle.iso_tree.proofs.Gets.{get_answers, get_reads}
+use Rattle.iso_tree.proofs.Reading.{cond_reads}
+use Rattle.store_model.specs.declared.files.FsError.{FsError}
+use Rattle.store_model.specs.declared.files.FsError.TheVariants as fs
+use Rattle.store_model.specs.declared.files.FileAreas.{FileAreas}
+use Rattle.store_model.specs.FileNodes.{is_file, is_number, number_of}
+use Rattle.store_model.specs.FileCalls.{Call, at_file, broken, goes_on, in_tree, with_file}
+use Rattle.store_model.specs.FileRegion.{AreFileRegions, file_at, number_at}
+
+-- what a program leaves, and then what follows it
+pub own_then : {R S : Type 0} (p : Program R) (f : R → Program S) (A : Array)
+    → own A (accesses_of (then_do p f) A) ≡ own (own A (accesses_of p A)) (accesses_of (f (answer_of p A)) (own A (accesses_of p A)))
+own_then p f A = ap (own A) (accesses_then p f A) ∙ own_append A (accesses_of p A) (accesses_of (f (answer_of p A)) (own A (accesses_of p A)))
+
+-- behind a get of the tree store, where its region is well formed
+module _ {Y : Type 0} (a : Area) (A : Array) (region : IsTreeRegion a A) (name : List ℕ) (key : is_key name ≡ true) (next : Option (List ℕ) → Call Y) where
+  abbrev reads : List Access
+  reads = accesses_of (get_program a name) A
+
+  abbrev found : Option (List ℕ)
+  found = get (tree_map a A) name
+
+  own_same : own A reads ≡ A
+  own_same = own_reads A reads (get_reads a name A)
+
+  pub answer_got : answer_of (in_tree (get_program a name) next) A ≡ answer_of (next found) A
+  answer_got = answer_then (get_program a name) (goes_on next) A ∙ (λ i. answer_of (goes_on next (get_answers a A name region key i)) (own_same i))
+
+  accesses_got : accesses_of (in_tree (get_program a name) next) A ≡ reads ++ accesses_of (next found) A
+  accesses_got = accesses_then (get_program a name) (goes_on next) A ∙ (λ i. reads ++ accesses_of (goes_on next (get_answers a A name region key i)) (own_same i))
+
+  pub own_got : own A (accesses_of (in_tree (get_program a name) next) A) ≡ own A (accesses_of (next found) A)
+  own_got = ap (own A) accesses_got ∙ own_append A reads (accesses_of (next found) A) ∙ ap (λ (B : Array). own B (accesses_of (next found) A)) own_same
+
+-- behind a get of the tree store, on whatever array
+module _ {Y : Type 0} (a : Area) (A : Array) (name : List ℕ) (next : Option (List ℕ) → Call Y) where
+  abbrev gets : List Access
+  gets = accesses_of (get_program a name) A
+
+  abbrev result : Result (Option (List ℕ)) StoreError
+  result = answer_of (get_program a name) A
+
+  accesses_any : accesses_of (in_tree (get_program a name) next) A ≡ gets ++ accesses_of (goes_on next result) A
+  accesses_any = accesses_then (get_program a name) (goes_on next) A ∙ ap (λ (B : Array). gets ++ accesses_of (goes_on next result) B) (own_reads A gets (get_reads a name A))
+
+  pub reads_behind_get : ((o : Option (List ℕ)) → AreReads (accesses_of (next o) A)) → AreReads (accesses_of (in_tree (get_program a name) next) A)
+  reads_behind_get each =
+      subst AreReads (sym accesses_any) (reads_append gets (accesses_of (goes_on next result) A) (get_reads a name A)
+      (elim result as (λ r. AreReads (accesses_of (goes_on next r) A)) [ Ok o ↦ each o | Err e ↦ tt ]))
+
+  pub whole_behind_get : ((o : Option (List ℕ)) → AreWhole A (accesses_of (next o) A)) → AreWhole A (accesses_of (in_tree (get_program a name) next) A)
+  whole_behind_get each =
+      subst (AreWhole A) (sym accesses_any) (whole_append A gets (accesses_of (goes_on next result) A) (whole_reads A gets (get_reads a name A))
+      (elim result as (λ r. AreWhole A (accesses_of (goes_on next r) A)) [ Ok o ↦ each o | Err e ↦ tt ]))
+
+-- behind the read of a file block, where the regions are well formed
+module _ {Y : Type 0} (a : FileAreas) (A : Array) (regions : AreFileRegions a A) (name value : List ℕ) (named : get (tree_map a.tree A) name ≡ Some value) (next : ℕ → List ℕ → Call Y) where
+  abbrev number : ℕ
+  number = number_of value
+
+  abbrev file : List ℕ
+  file = file_at a A number
+
+  good_number : is_number a.files value ≡ true
+  good_number = regions.named name value named
+
+  good_file : is_file a.files file ≡ true
+  good_file = regions.files name number (ap (Rattle.std.proofs.Common.option_map number_of) named)
+
+
+  pub answer_at_file : answer_of (with_file a next value) A ≡ answer_of (next number file) A
+  answer_at_file = (λ i. answer_of (cond (good_number i) (LookWhole (a.files.start + number) (λ bytes. cond (is_file a.files bytes) (next number bytes) (broken (a.files.start + number)))) (broken a.tree.start)) A)
+      ∙ (λ i. answer_of (cond (good_file i) (next number file) (broken (a.files.start + number))) A)
+
+  pub own_at_file : own A (accesses_of (with_file a next value) A) ≡ own A (accesses_of (next number file) A)
+  own_at_file = (λ i. own A (accesses_of (cond (good_number i) (LookWhole (a.files.start + number) (λ bytes. cond (is_file a.files bytes) (next number bytes) (broken (a.files.start + number)))) (broken a.tree.start)) A))
+      ∙ (λ i. own A (accesses_of (cond (good_file i) (next number file) (broken (a.files.start + number))) A))
+
+-- the same of reads, on whatever array
+pub reads_behind_file : {Y : Type 0} (a : FileAreas) (A : Array) (none : Y) (next : ℕ → List ℕ → Call Y) → ((number : ℕ) (file : List ℕ) → AreReads (accesses_of (next number file) A))
+    → (o : Option (List ℕ)) → AreReads (accesses_of (at_file a none next o) A)
+reads_behind_file a A none next each None = tt
+reads_behind_file a A none next each (Some value) =
+    cond_reads (is_number a.files value) _ _ A (refl, cond_reads (is_file a.files (file_at a A (number_of value))) _ _ A (each (number_of value) (file_at a A (number_of value))) tt) tt

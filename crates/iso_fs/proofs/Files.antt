@@ -1,0 +1,118 @@
+-- What the test of a file block says, and the blocks that a file uses.
+use Rattle.std.proofs.Common.{◌≡◌, ◌⊎◌, ◌∙◌, sym, refl, ap, ℕ, zero, suc, ◌+◌, ◌-◌, ◌*◌, ◌/◌, ◌%◌, ◌<◌, ◌≤◌, ◌==◌, ◌&&◌, Bool, true, false, cond, List, length, Option, Some, option_map, nat_le, arith, inl, inr}
+use Rattle.std.specs.Prelude.{nat_lt, slice_index}
+use Rattle.std.specs.FinMap.{get}
+use Rattle.std.proofs.lemmas.Bool.{and_parts, cases_lt, leb-true, ltb-true}
+use Rattle.std.proofs.lemmas.Bool.Decides.{nat_tests}
+use Rattle.std.proofs.Math.Nat.{div-lt_iff_lt-mul, div-mul-le_self}
+use Rattle.std.proofs.lemmas.Nat.{le-div}
+use Rattle.store_model.specs.declared.stores.Area.{Area}
+use Rattle.iso_model.specs.Array.{Array}
+use Rattle.store_model.specs.TreeRegion.{tree_map}
+use Rattle.iso_alloc.proofs.Loops.{all_at}
+use Rattle.store_model.specs.declared.files.FileAreas.{FileAreas}
+use Rattle.store_model.specs.FileNodes.{are_entries, blocks_for, bytes_of, data_count, entry_at, has_zeros, is_file, is_handed, is_number, most_bytes, number_of}
+use Rattle.store_model.specs.FileRegion.{AreFileRegions, Uses, block_in, file_at, number_at}
+use Rattle.iso_fs.proofs.Lookups.{names_by}
+
+pub record FileParts (a : Area) (file : List ℕ) : Type 0 where
+  pub few : bytes_of file ≤ most_bytes a.size
+  pub entries : are_entries a.blocks file (data_count a.size file) ≡ true
+  pub zeros : has_zeros file (data_count a.size file) ≡ true
+
+pub file_parts : (a : Area) (file : List ℕ) → is_file a file ≡ true → FileParts a file
+unfolding is_file
+file_parts a file is =
+    let one = and_parts _ _ is in
+    let two = and_parts (are_entries a.blocks file (data_count a.size file)) (has_zeros file (data_count a.size file)) one.1 in
+    record { few = leb-true _ _ (and_parts _ _ one.0).1; entries = two.0; zeros = two.1 }
+
+-- a block that a region of so many hands out
+pub record IsHanded (blocks number : ℕ) : Type 0 where
+  pub some : 1 ≤ number
+  pub below : number < blocks
+
+pub handed_is : (blocks number : ℕ) → is_handed blocks number ≡ true → IsHanded blocks number
+handed_is blocks number is = let parts = and_parts (nat_le 1 number) (nat_lt number blocks) is in record { some = leb-true 1 number parts.0; below = ltb-true number blocks parts.1 }
+
+pub entry_handed : (a : Area) (file : List ℕ) → FileParts a file → (i : ℕ) → i < data_count a.size file → IsHanded a.blocks (entry_at file i)
+entry_handed a file parts i below = handed_is a.blocks (entry_at file i) (all_at (λ i. is_handed a.blocks (entry_at file i)) 0 (data_count a.size file) i parts.entries (omega arith) (omega arith))
+
+more_blocks : (q size : ℕ) → (q + 1) * size ≡ q * size + size
+more_blocks q size = grind arith
+
+-- byte p of a file stands in one of its blocks
+pub place_below : (size bytes p : ℕ) → 0 < size → p < bytes → p / size < blocks_for size bytes
+place_below size bytes p some below =
+    let low = div-mul-le_self p size in
+    let sum : (p / size + 1) * size ≡ p / size * size + size = more_blocks (p / size) size in
+    let next : p / size + 1 ≤ blocks_for size bytes = le-div (p / size + 1) (bytes + (size - 1)) size some (omega (arith, low, sum)) in
+    omega arith
+
+pub entry_inside : (a : Area) (file : List ℕ) → FileParts a file → 0 < a.size → (p : ℕ) → p < bytes_of file → IsHanded a.blocks (entry_at file (p / a.size))
+entry_inside a file parts some p below = entry_handed a file parts (p / a.size) (place_below a.size (bytes_of file) p some below)
+
+-- each block that a file uses is handed out
+pub uses_handed : (a : FileAreas) (A : Array) → AreFileRegions a A → (name : List ℕ) (place block : ℕ) → Uses a A name place block → IsHanded a.files.blocks block
+uses_handed a A regions name zero block uses =
+    let by = names_by (get (tree_map a.tree A) name) uses.number uses.named in
+    let is = (and_parts _ _ (regions.named name by.value by.is)).1 in
+    handed_is a.files.blocks block (ap (is_handed a.files.blocks) (sym uses.is ∙ sym by.number_is) ∙ is)
+uses_handed a A regions name (suc i) block uses =
+    let parts = file_parts a.files (file_at a A uses.number) (regions.files name uses.number uses.named) in
+    let inside = uses.inside in
+    let is = entry_handed a.files (file_at a A uses.number) parts i (omega arith) in
+    record { some = Rattle.std.proofs.Common.subst (λ (k : ℕ). 1 ≤ k) uses.is is.some; below = Rattle.std.proofs.Common.subst (λ (k : ℕ). k < a.files.blocks) uses.is is.below }
+
+-- the lesser of two numbers
+pub record IsLeast (m n k : ℕ) : Type 0 where
+  pub first : k ≤ m
+  pub second : k ≤ n
+  pub either : (k ≡ m) ⊎ (k ≡ n)
+
+pub least_is : (m n : ℕ) → IsLeast m n (Rattle.store_model.specs.FileCalls.least m n)
+least_is m n = elim (cases_lt m n) [
+  | inl less ↦ (let test : nat_lt m n ≡ true = grind (arith, nat_tests) in
+      let is : Rattle.store_model.specs.FileCalls.least m n ≡ m = ap (λ (t : Bool). cond t m n) test in record { first = omega arith; second = omega arith; either = inl is })
+  | inr more ↦ (let test : nat_lt m n ≡ false = grind (arith, nat_tests) in
+      let is : Rattle.store_model.specs.FileCalls.least m n ≡ n = ap (λ (t : Bool). cond t m n) test in record { first = omega arith; second = omega arith; either = inr is })
+]
+
+-- THE TEST, STEP BY STEP
+pub file_is : (a : Area) (file : List ℕ) → (slice_index file 0 == 3) ≡ true → nat_le (bytes_of file) (most_bytes a.size) ≡ true
+    → is_file a file ≡ (are_entries a.blocks file (data_count a.size file) && has_zeros file (data_count a.size file))
+unfolding is_file
+file_is a file kind small = λ i. (kind i && small i) && (are_entries a.blocks file (data_count a.size file) && has_zeros file (data_count a.size file))
+
+pub file_not_kind : (a : Area) (file : List ℕ) → (slice_index file 0 == 3) ≡ false → is_file a file ≡ false
+unfolding is_file
+file_not_kind a file kind = λ i. (kind i && nat_le (bytes_of file) (most_bytes a.size)) && (are_entries a.blocks file (data_count a.size file) && has_zeros file (data_count a.size file))
+
+pub file_not_small : (a : Area) (file : List ℕ) → (slice_index file 0 == 3) ≡ true → nat_le (bytes_of file) (most_bytes a.size) ≡ false → is_file a file ≡ false
+unfolding is_file
+file_not_small a file kind large = λ i. (kind i && large i) && (are_entries a.blocks file (data_count a.size file) && has_zeros file (data_count a.size file))
+
+-- the numbers of a file have room in its block
+pub count_fits : (size bytes : ℕ) → 256 ≤ size → bytes ≤ most_bytes size → 64 + 4 * ((bytes + (size - 1)) / size) ≤ size
+count_fits size bytes least few =
+    let m = (size - 64) / 4 in
+    let sum : (m + 1) * size ≡ m * size + size = more_blocks m size in
+    let less : (bytes + (size - 1)) / size < m + 1 = (div-lt_iff_lt-mul {k = size} {x = bytes + (size - 1)} {y = m + 1} (omega arith)).1 (omega (arith, sum, few)) in
+    omega arith
+
+-- so many blocks have room for the bytes
+pub count_covers : (size bytes : ℕ) → 0 < size → bytes ≤ (bytes + (size - 1)) / size * size
+count_covers size bytes some =
+    let e = Rattle.std.proofs.lemmas.Nat.div-add-mod' (bytes + (size - 1)) size in
+    let m = Rattle.std.proofs.Math.Nat.mod-lt (bytes + (size - 1)) {m = size} some in
+    omega arith
+
+pub count_mono : (size m n : ℕ) → 0 < size → m ≤ n → (m + (size - 1)) / size ≤ (n + (size - 1)) / size
+count_mono size m n some le =
+    let x = m + (size - 1) in
+    let y = n + (size - 1) in
+    let e = Rattle.std.proofs.lemmas.Nat.div-add-mod' y size in
+    let r = Rattle.std.proofs.Math.Nat.mod-lt y {m = size} some in
+    let sum = more_blocks (y / size) size in
+    let low : x / size < y / size + 1 = (div-lt_iff_lt-mul {k = size} {x = x} {y = y / size + 1} some).1 (omega arith) in
+    omega arith

@@ -1,0 +1,55 @@
+-- A file whose blocks stay has the same bytes.
+use Rattle.std.proofs.Common.{◌≡◌, ◌∙◌, sym, refl, ap, subst, ℕ, zero, suc, ◌+◌, ◌-◌, ◌/◌, ◌%◌, ◌<◌, ◌≤◌, List, [], ◌∷◌, get_or, map, Option, Some, arith}
+use Rattle.std.specs.List.{range_with_len}
+use Rattle.iso_model.specs.Array.{Array}
+use Rattle.iso_model.specs.Premises.{block_at}
+use Rattle.store_model.specs.declared.files.FileAreas.{FileAreas}
+use Rattle.store_model.specs.FileNodes.{bytes_of, data_count, entry_at}
+use Rattle.store_model.specs.FileRegion.{AreFileAreas, AreFileRegions, Uses, block_in, content, file_at, file_byte, number_at}
+use Rattle.iso_fs.proofs.Files.{file_parts, place_below}
+
+pub same_some : (m n : ℕ) → ◌≡◌ {A = Option ℕ} (Some m) (Some n) → m ≡ n
+same_some m n e = cc
+
+pub same_bytes_by : (f g : ℕ → ℕ) (from n : ℕ) → ((p : ℕ) → p < from + n → f p ≡ g p) → map f (range_with_len from n) ≡ map g (range_with_len from n)
+same_bytes_by f g from zero each = refl
+same_bytes_by f g from (suc n) each = (λ i. each from (omega arith) i ∷ same_bytes_by f g (from + 1) n (λ p below. each p (omega arith)) i)
+
+-- the name has its file on both arrays, and the blocks that the file uses on the first stay
+module _ (a : FileAreas) (A C : Array) (name : List ℕ) (number : ℕ) (was : number_at a A name ≡ Some number) (is : number_at a C name ≡ Some number)
+    (kept : (place block : ℕ) → Uses a A name place block → file_at a C block ≡ file_at a A block) where
+  pub kept_file : file_at a C number ≡ file_at a A number
+  kept_file = kept 0 number (record { number = number; named = was; inside = omega arith; is = refl })
+
+  pub kept_uses : (place block : ℕ) → Uses a C name place block → Uses a A name place block
+  kept_uses place block uses =
+      let same : uses.number ≡ number = same_some uses.number number (sym uses.named ∙ is) in
+      let file : file_at a C uses.number ≡ file_at a A uses.number = ap (file_at a C) same ∙ kept_file ∙ ap (file_at a A) (sym same) in
+      record {
+        number = uses.number;
+        named = was ∙ ap (λ (n : ℕ). Some n) (sym same);
+        inside = subst (λ (f : List ℕ). place ≤ data_count a.files.size f) file uses.inside;
+        is = ap (λ (f : List ℕ). block_in uses.number f place) (sym file) ∙ uses.is;
+      }
+
+  pub still_uses : (place block : ℕ) → Uses a A name place block → Uses a C name place block
+  still_uses place block uses =
+      let same : uses.number ≡ number = same_some uses.number number (sym uses.named ∙ was) in
+      let file : file_at a A uses.number ≡ file_at a C uses.number = ap (file_at a A) same ∙ sym kept_file ∙ ap (file_at a C) (sym same) in
+      record {
+        number = uses.number;
+        named = is ∙ ap (λ (n : ℕ). Some n) (sym same);
+        inside = subst (λ (f : List ℕ). place ≤ data_count a.files.size f) file uses.inside;
+        is = ap (λ (f : List ℕ). block_in uses.number f place) (sym file) ∙ uses.is;
+      }
+
+  pub kept_content : 0 < a.files.size → content a C number ≡ content a A number
+  kept_content some =
+      ap (λ (f : List ℕ). map (file_byte a C f) (range_with_len 0 (bytes_of f))) kept_file
+      ∙ same_bytes_by (file_byte a C (file_at a A number)) (file_byte a A (file_at a A number)) 0 (bytes_of (file_at a A number))
+      (λ p below.
+      let file = file_at a A number in
+      let place = p / a.files.size in
+      let inside = place_below a.files.size (bytes_of file) p some (omega arith) in
+      ap (λ (block : List ℕ). get_or block (p % a.files.size) 0)
+      (kept (suc place) (entry_at file place) (record { number = number; named = was; inside = omega arith; is = refl })))

@@ -1,0 +1,323 @@
+-- A write, part by part.
+use Rattle.std.proofs.Common.{◌≡◌, ◌≢◌, ◌∙◌, sym, refl, ap, subst, ℕ, zero, suc, ◌+◌, ◌-◌, ◌*◌, ◌/◌, ◌%◌, ◌<◌, ◌≤◌, ◌&&◌, Bool, true, false, not, cond, List, [], ◌∷◌, ◌++◌, length, take, drop, get_or, nat_le, Option, Some, None, Result, Ok, Err, IfOk, arith}
+use Rattle.std.specs.Prelude.{nat_lt, slice_index}
+use Rattle.std.specs.List.{AllByRecursion, filter, range_with_len}
+use Rattle.std.proofs.lemmas.Bool.Decides.{nat_tests}
+use Rattle.std.proofs.lemmas.List.{append-nil, drop-drop, get_or-append_right, get_or_append_left, take_rest}
+use Rattle.std.proofs.lemmas.List.FromFn.{get_or-map-range_with_len, length-map-range_with_len}
+use Rattle.std.proofs.Math.Nat.{add-mul-div_right, div-lt_iff_lt-mul, mul-le-mul_right}
+use Rattle.iso_model.specs.declared.access.Access.{Access}
+use Rattle.iso_model.specs.declared.access.Span.{Span}
+use Rattle.iso_model.specs.Effect.{own}
+use Rattle.store_model.specs.declared.stores.Area.{Area}
+use Rattle.store_model.specs.declared.stores.StoreError.{StoreError}
+use Rattle.store_model.specs.declared.stores.StoreError.TheVariants as store
+use Rattle.store_model.specs.declared.stores.TxError.{TxError}
+use Rattle.store_model.specs.declared.files.FsError.{FsError}
+use Rattle.store_model.specs.declared.files.FsError.TheVariants as fs
+use Rattle.store_model.specs.declared.files.FileAreas.{FileAreas}
+use Rattle.store_model.specs.declared.files.FsRegion.{FsRegion}
+use Rattle.store_model.specs.Cells.{block_with}
+use Rattle.store_model.specs.FreeMap.{free_count, map_bit, map_mark}
+use Rattle.store_model.specs.HashCalls.{is_key}
+use Rattle.store_model.specs.Stores.{Done, IsLocal, Look, Store, bytes_in, look_access, store_access}
+use Rattle.store_model.specs.TreeCalls.{changed_map, changed_mark, first_write, free_list, get_program}
+use Rattle.store_model.specs.TreeRegion.{IsTreeArea}
+use Rattle.store_model.specs.FileNodes.{blocks_for, bytes_of, data_count, entries_of, entry_at, file_block, is_file, most_bytes, piece_len, piece_mark}
+use Rattle.store_model.specs.FileCalls.{Call, at_file, goes_on, in_tree, is_many, look_map, refuse, with_new, write_op, write_pieces, write_program, write_sized, write_to}
+use Rattle.store_model.specs.FileRegion.{AreFileAreas, AreFileRegions, files}
+use Rattle.tx_blocks.specs.Tx.{Tx, Device, IsTx, with_accesses}
+use Rattle.tx_blocks.specs.Runs.{AreBytesOf, IsCause, IsLocalCall}
+use Rattle.tx_blocks.proofs.Progress.{HasAccess, IsAt, at_look, at_start, at_store, ran_at, whole_run}
+use Rattle.tx_blocks.proofs.Refusals.{cut_at_look, cut_at_store}
+use Rattle.iso_tree.proofs.Looking.{at_as}
+use Rattle.iso_tree.specs.Rows.{AreBlocks}
+use Rattle.iso_tree.specs.FirstBlock.{first_access}
+use Rattle.iso_tree.proofs.Enlarging.{free_same, taken_same}
+use Rattle.iso_tree.proofs.Taking.{AreTaken, taken_are}
+use Rattle.iso_fs.specs.Ends.{HasRun, areas_of}
+use Rattle.iso_fs.specs.Finds.{with_taken}
+use Rattle.iso_fs.proofs.CreateSteps.{have_blocks}
+use Rattle.iso_fs.proofs.Ended.{has_then, run_as, run_from}
+use Rattle.iso_fs.proofs.Files.{count_covers, count_fits, count_mono, entry_handed, file_parts}
+use Rattle.iso_fs.proofs.Finding.{get_has}
+use Rattle.iso_fs.proofs.Lefts.{HasLeft}
+use Rattle.iso_fs.proofs.WriteWhole.{write_local}
+
+-- THE NUMBERS OF THE DATA BLOCKS
+module _ (a : Area) (file news : List ℕ) (count : ℕ) (count_is : count ≡ data_count a.size file) where
+  entries_long : length (entries_of a.size file) ≡ count
+  entries_long = length-map-range_with_len (entry_at file) 0 (data_count a.size file) ∙ sym count_is
+
+  pub number_old : (place : ℕ) → place < count → slice_index (entries_of a.size file ++ news) place ≡ entry_at file place
+  number_old place below =
+      get_or_append_left (entries_of a.size file) news 0 place (omega (arith, entries_long, below)) ∙ get_or-map-range_with_len (entry_at file) 0 (data_count a.size file) place place 0 (omega (arith, count_is, below)) (omega arith)
+
+  pub number_new : (place : ℕ) → count ≤ place → slice_index (entries_of a.size file ++ news) place ≡ get_or news (place - count) 0
+  number_new place past = get_or-append_right (entries_of a.size file) news count place 0 entries_long past
+
+pub old_below : (a : Area) (file : List ℕ) (place : ℕ) → is_file a file ≡ true → place < data_count a.size file → entry_at file place < a.blocks
+old_below a file place good below = (entry_handed a file (file_parts a file good) place below).below
+
+pub news_below : (a : Area) (news : List ℕ) (i : ℕ) → AreBlocks a news → i < length news → get_or news i 0 < a.blocks
+news_below a [] i all below = absurd (omega arith)
+news_below a (k ∷ ks) zero all below = all.0
+news_below a (k ∷ ks) (suc i) all below = news_below a ks i all.1 (omega arith)
+
+pub old_fits : (a : Area) (file : List ℕ) → is_file a file ≡ true → 256 ≤ a.size → 64 + 4 * data_count a.size file ≤ a.size
+old_fits a file good least = count_fits a.size (bytes_of file) least (file_parts a file good).few
+
+-- ONE PIECE
+abbrev step_of : Area → (E : List ℕ) → (old from to : ℕ) → (bytes : List ℕ) → (most : ℕ) → Call Bool
+step_of a E old from to bytes most =
+    Store (a.start + slice_index E (from / a.size)) (cond (nat_lt (from / a.size) old) (piece_mark a.size from to ∷ []) []) (block_with a.size (from % a.size) (take (piece_len a.size from to) bytes))
+    (write_pieces a E old most (from + piece_len a.size from to) to (drop (piece_len a.size from to) bytes))
+
+module _ (a : Area) (E : List ℕ) (old from to : ℕ) (bytes : List ℕ) (less : from < to) (t : Tx) where
+  abbrev piece : ℕ → Call Bool
+  piece most = step_of a E old from to bytes most
+
+  as_piece : (most : ℕ) → write_pieces a E old (suc most) from to bytes ≡ piece most
+  as_piece most = (let test : nat_lt from to ≡ true = grind (arith, nat_tests) in ap (λ (b : Bool). cond b (piece most) (Done (Ok true))) test)
+
+  at_piece : (most : ℕ) → IsAt (write_pieces a E old (suc most) from to bytes) (piece most) t t
+  at_piece most = at_as (write_pieces a E old (suc most) from to bytes) (write_pieces a E old (suc most) from to bytes) (piece most) t t (as_piece most) (at_start (write_pieces a E old (suc most) from to bytes) t)
+
+  module _ (u : Tx) (number : ℕ) (span : Span) (laid : List ℕ) (is_old : Bool) (number_is : number ≡ slice_index E (from / a.size)) (span_is : span ≡ piece_mark a.size from to)
+      (laid_is : laid ≡ block_with a.size span.off (take span.len bytes)) (old_is : is_old ≡ nat_lt (from / a.size) old) where
+    access_is : store_access (a.start + number) (cond is_old (span ∷ []) []) laid
+        ≡ store_access (a.start + slice_index E (from / a.size)) (cond (nat_lt (from / a.size) old) (piece_mark a.size from to ∷ []) []) (block_with a.size (from % a.size) (take (piece_len a.size from to) bytes))
+    access_is =
+        (λ i. store_access (a.start + number_is i) (cond (old_is i) (span_is i ∷ []) []) laid)
+        ∙ ap (store_access (a.start + slice_index E (from / a.size)) (cond (nat_lt (from / a.size) old) (piece_mark a.size from to ∷ []) []))
+        (laid_is ∙ ap (λ (s : Span). block_with a.size s.off (take s.len bytes)) span_is)
+
+    pub piece_done : IsTx u → u ≡ with_accesses t (store_access (a.start + number) (cond is_old (span ∷ []) []) laid ∷ []) → (most : ℕ)
+        → IsAt (write_pieces a E old (suc most) from to bytes) (write_pieces a E old most (from + span.len) to (drop span.len bytes)) t u
+    piece_done tx is most =
+        let whole = write_pieces a E old (suc most) from to bytes in
+        subst (λ (n : ℕ). IsAt whole (write_pieces a E old most (from + n) to (drop n bytes)) t u) (sym (ap (λ (s : Span). s.len) span_is))
+        (at_store whole (a.start + slice_index E (from / a.size)) (cond (nat_lt (from / a.size) old) (piece_mark a.size from to ∷ []) []) (block_with a.size (from % a.size) (take (piece_len a.size from to) bytes))
+        (write_pieces a E old most (from + piece_len a.size from to) to (drop (piece_len a.size from to) bytes)) t t u (at_piece most) tx.count (is ∙ ap (λ (x : Access). with_accesses t (x ∷ [])) access_is))
+
+  pub piece_refused : (v : Tx) (before now : Device) (e : TxError) → v ≡ t → IsCause v 1 before now e → (most : ℕ) → HasRun (write_pieces a E old (suc most) from to bytes) t v (Err (fs.Store (store.Tx e)))
+  piece_refused v before now e same cause most =
+      cut_at_store (write_pieces a E old (suc most) from to bytes) (a.start + slice_index E (from / a.size)) (cond (nat_lt (from / a.size) old) (piece_mark a.size from to ∷ []) []) (block_with a.size (from % a.size) (take (piece_len a.size from to) bytes))
+      (write_pieces a E old most (from + piece_len a.size from to) to (drop (piece_len a.size from to) bytes)) t t v before now e (at_piece most) same cause
+
+-- ALL PIECES
+over : (a : Area) (E : List ℕ) (old most at to : ℕ) (bytes : List ℕ) → to ≤ at → write_pieces a E old most at to bytes ≡ Done (Ok true)
+over a E old zero at to bytes past = refl
+over a E old (suc most) at to bytes past = let test : nat_lt at to ≡ false = grind (arith, nat_tests) in ap (λ (b : Bool). cond b (step_of a E old at to bytes most) (Done (Ok true))) test
+
+pub all_written : (whole : Call Bool) (a : Area) (E : List ℕ) (old at to left : ℕ) (bytes : List ℕ) (t u : Tx) → to ≤ at → HasLeft whole (λ most. write_pieces a E old most at to bytes) left t u → HasRun whole t u (Ok true)
+all_written whole a E old at to left bytes t u past has =
+    ran_at whole t u (Ok true) (at_as whole (write_pieces a E old has.most at to bytes) (Done (Ok true)) t u (over a E old has.most at to bytes past) has.here)
+
+pub left_whole : (a : Area) (E : List ℕ) (old from to : ℕ) (bytes : List ℕ) (t : Tx) → length bytes ≡ to - from → HasLeft (write_pieces a E old (length bytes) from to bytes) (λ most. write_pieces a E old most from to (drop (from - from) bytes)) (to - from) t t
+left_whole a E old from to bytes t is =
+    let whole = write_pieces a E old (length bytes) from to bytes in
+    let none : from - from ≡ 0 = omega arith in
+    record {
+      most = length bytes;
+      fits = omega (arith, is);
+      here = subst (λ (xs : List ℕ). IsAt whole (write_pieces a E old (length bytes) from to xs) t t) (sym (ap (λ (n : ℕ). drop n bytes) none)) (at_start whole t);
+    }
+
+-- THE FILE BLOCK
+module _ (a : Area) (off number : ℕ) (bytes file news : List ℕ) where
+  abbrev end : ℕ
+  end = off + length bytes
+
+  abbrev E : List ℕ
+  E = entries_of a.size file ++ news
+
+  abbrev grown : Call Bool
+  grown = Store (a.start + number) [] (file_block a.size end E) (write_pieces a E (data_count a.size file) (length bytes) off end bytes)
+
+  abbrev kept : Call Bool
+  kept = write_pieces a (entries_of a.size file) (data_count a.size file) (length bytes) off end bytes
+
+  as_grown : bytes_of file < end → write_sized a off bytes number file news ≡ grown
+  as_grown less = (let test : nat_lt (bytes_of file) end ≡ true = grind (arith, nat_tests) in ap (λ (b : Bool). cond b grown kept) test)
+
+  pub sized_kept : (t u : Tx) (result : Result Bool FsError) → end ≤ bytes_of file → news ≡ [] → HasRun (write_pieces a E (data_count a.size file) (length bytes) off end bytes) t u result → HasRun (write_sized a off bytes number file news) t u result
+  sized_kept t u result past none run =
+      let test : nat_lt (bytes_of file) end ≡ false = grind (arith, nat_tests) in
+      let same : E ≡ entries_of a.size file = ap (λ (n : List ℕ). entries_of a.size file ++ n) none ∙ append-nil (entries_of a.size file) in
+      run_as (write_pieces a E (data_count a.size file) (length bytes) off end bytes) (write_sized a off bytes number file news) t u result
+      (ap (λ (b : Bool). cond b grown kept) test ∙ ap (λ (es : List ℕ). write_pieces a es (data_count a.size file) (length bytes) off end bytes) (sym same)) run
+
+  module _ (t : Tx) (less : bytes_of file < off + length bytes) where
+    at_grown : IsAt (write_sized a off bytes number file news) grown t t
+    at_grown = at_as (write_sized a off bytes number file news) (write_sized a off bytes number file news) grown t t (as_grown less) (at_start (write_sized a off bytes number file news) t)
+
+    pub sized_refused : (v : Tx) (before now : Device) (e : TxError) → v ≡ t → IsCause v 1 before now e → HasRun (write_sized a off bytes number file news) t v (Err (fs.Store (store.Tx e)))
+    sized_refused v before now e same cause =
+        cut_at_store (write_sized a off bytes number file news) (a.start + number) [] (file_block a.size end E) (write_pieces a E (data_count a.size file) (length bytes) off end bytes) t t v before now e at_grown same cause
+
+    pub sized_run : (u v : Tx) (laid : List ℕ) (result : Result Bool FsError) → IsTx u → laid ≡ file_block a.size (off + length bytes) (entries_of a.size file ++ news) → u ≡ with_accesses t (store_access (a.start + number) [] laid ∷ [])
+        → HasRun (write_pieces a (entries_of a.size file ++ news) (data_count a.size file) (length bytes) off (off + length bytes) bytes) u v result → HasRun (write_sized a off bytes number file news) t v result
+    sized_run u v laid result tx laid_is is run =
+        run_from (write_sized a off bytes number file news) (write_pieces a E (data_count a.size file) (length bytes) off end bytes) t u v result
+        (at_store (write_sized a off bytes number file news) (a.start + number) [] (file_block a.size end E) (write_pieces a E (data_count a.size file) (length bytes) off end bytes) t t u at_grown tx.count
+        (is ∙ ap (λ (b : List ℕ). with_accesses t (store_access (a.start + number) [] b ∷ [])) laid_is)) run
+
+-- THE WHOLE CALL
+write_as : (a : FileAreas) (name : List ℕ) (off : ℕ) (bytes : List ℕ) → is_key name ≡ true → is_many (length bytes) ≡ true → write_program a name off bytes ≡ in_tree (get_program a.tree name) (at_file a false (write_to a.files off bytes))
+unfolding write_program
+write_as a name off bytes key many =
+    (λ i. cond (key i) (cond (many i) (in_tree (get_program a.tree name) (at_file a false (write_to a.files off bytes))) (refuse fs.BadRange)) (refuse fs.BadName))
+
+pub write_run : (a : FileAreas) (name : List ℕ) (off : ℕ) (bytes : List ℕ) (t v : Tx) (result : Result Bool FsError) → is_key name ≡ true → is_many (length bytes) ≡ true
+    → HasRun (in_tree (get_program a.tree name) (at_file a false (write_to a.files off bytes))) t v result → HasRun (write_program a name off bytes) t v result
+write_run a name off bytes t v result key many run = run_as (in_tree (get_program a.tree name) (at_file a false (write_to a.files off bytes))) (write_program a name off bytes) t v result (write_as a name off bytes key many) run
+
+pub write_has : (a : FileAreas) (name : List ℕ) (off : ℕ) (bytes : List ℕ) → is_key name ≡ true → is_many (length bytes) ≡ true → HasAccess (write_program a name off bytes)
+write_has a name off bytes key many =
+    subst (λ (p : Call Bool). HasAccess p) (sym (write_as a name off bytes key many)) (has_then (get_program a.tree name) (goes_on (at_file a false (write_to a.files off bytes))) (get_has a.tree name key))
+
+pub write_bad_name : (a : FileAreas) (name : List ℕ) (off : ℕ) (bytes : List ℕ) (t : Tx) → is_key name ≡ false → HasRun (write_program a name off bytes) t t (Err fs.BadName)
+unfolding write_program
+write_bad_name a name off bytes t not_key = rw not_key (ran_at (refuse fs.BadName) t t (Err fs.BadName) (at_start (refuse fs.BadName) t))
+
+pub write_bad_range : (a : FileAreas) (name : List ℕ) (off : ℕ) (bytes : List ℕ) (t : Tx) → is_key name ≡ true → is_many (length bytes) ≡ false → HasRun (write_program a name off bytes) t t (Err fs.BadRange)
+unfolding write_program
+write_bad_range a name off bytes t key few = rw (key, few) (ran_at (refuse fs.BadRange) t t (Err fs.BadRange) (at_start (refuse fs.BadRange) t))
+
+pub write_call : (t u : Tx) (at : FsRegion) (name : List ℕ) (off : ℕ) (bytes : List ℕ) (result : Result Bool FsError) → IsTx t → AreFileAreas (areas_of t at) → at.files.start + at.files.size ≤ t.blocks → is_key name ≡ true → is_many (length bytes) ≡ true
+    → HasRun (write_program (areas_of t at) name off bytes) t u result → IfOk result (IsLocalCall (AreFileRegions (areas_of t at)) (files (areas_of t at)) (write_op name off bytes) t u)
+write_call t u at name off bytes (Err e) tx areas fits key many run = tt
+write_call t u at name off bytes (Ok x) tx areas fits key many run = λ A told.
+    let a = areas_of t at in
+    let whole = whole_run (write_program a name off bytes) t u (Ok x) run A told in
+    subst (λ (accesses : List Access). IsLocal (AreFileRegions a) (files a) (write_op name off bytes) (own A t.accesses) accesses x) whole.accesses_are
+    (write_local a name off bytes (own A t.accesses) x areas (have_blocks t at A tx areas fits told) key many whole.answer_is)
+
+-- THE BYTES THAT ARE LEFT
+pub rest_is : (bytes rest : List ℕ) (from at to : ℕ) → from ≤ at → at ≤ to → length bytes ≡ to - from → rest ≡ take (to - at) (drop (at - from) bytes) → rest ≡ drop (at - from) bytes
+rest_is bytes rest from at to low up long is =
+    let e : to - at ≡ length bytes - (at - from) = omega (arith, low, up, long) in
+    is ∙ ap (λ (n : ℕ). take n (drop (at - from) bytes)) e ∙ take_rest bytes (at - from)
+
+pub rest_more : (bytes rest : List ℕ) (from at n : ℕ) → from ≤ at → rest ≡ drop (at - from) bytes → drop n rest ≡ drop (at + n - from) bytes
+rest_more bytes rest from at n low is =
+    let e : at - from + n ≡ at + n - from = omega arith in
+    ap (drop n) is ∙ drop-drop n (at - from) bytes ∙ ap (λ (k : ℕ). drop k bytes) e
+
+-- HOW MANY BLOCKS
+pub place_covered : (size from to count : ℕ) → 0 < size → from < to → to ≤ count * size → from / size < count
+place_covered size from to count some less covered = (div-lt_iff_lt-mul {k = size} {x = from} {y = count} some).1 (omega (arith, less, covered))
+
+pub covered_by : (size end count : ℕ) → 0 < size → count ≡ blocks_for size end → end ≤ count * size
+covered_by size end count some is = subst (λ (n : ℕ). end ≤ n * size) (sym is) (count_covers size end some)
+
+pub covered_old : (size end bytes old more : ℕ) → 0 < size → old ≡ blocks_for size bytes → end ≤ bytes → end ≤ (old + more) * size
+covered_old size end bytes old more some is past =
+    let one = covered_by size bytes old some is in
+    let two : old * size ≤ (old + more) * size = mul-le-mul_right size (omega arith) in
+    omega (arith, one, two, past)
+
+-- a write of at most 4096 bytes from inside of the file needs at most 16 blocks more
+pub few_more : (size end bytes : ℕ) → 256 ≤ size → end ≤ bytes + 4096 → blocks_for size end ≤ blocks_for size bytes + 16
+few_more size end bytes least near =
+    let more : bytes + 4096 ≤ bytes + 16 * size = omega arith in
+    let one = count_mono size end (bytes + 16 * size) (omega arith) (omega (arith, near, more)) in
+    let e : bytes + 16 * size + (size - 1) ≡ bytes + (size - 1) + 16 * size = omega arith in
+    let two : blocks_for size (bytes + 16 * size) ≡ blocks_for size bytes + 16 = ap (λ (n : ℕ). n / size) e ∙ add-mul-div_right (bytes + (size - 1)) 16 (let some : 0 < size = omega arith in some) in
+    omega (arith, one, two)
+
+-- NEW BLOCKS
+module _ (a : Area) (first news : List ℕ) (next : Call Bool) (t : Tx) where
+  abbrev mapped : Call Bool
+  mapped = first_write a first news None next
+
+  pub news_run : (u v : Tx) (result : Result Bool FsError) → IsTx u → u ≡ with_accesses t (first_access a first news None ∷ []) → HasRun next u v result → HasRun (first_write a first news None next) t v result
+  news_run u v result tx is run = run_from mapped next t u v result (at_store mapped a.start (changed_mark news ∷ []) (changed_map a first news) next t t u (at_start mapped t) tx.count is) run
+
+  pub news_refused : (v : Tx) (before now : Device) (e : TxError) → v ≡ t → IsCause v 1 before now e → HasRun (first_write a first news None next) t v (Err (fs.Store (store.Tx e)))
+  news_refused v before now e same cause = cut_at_store mapped a.start (changed_mark news ∷ []) (changed_map a first news) next t t v before now e (at_start mapped t) same cause
+
+module _ (a : Area) (area : IsTreeArea a) (F : List ℕ) (need free blocks : ℕ) (blocks_are : blocks ≡ a.blocks) (free_is : free ≡ free_count F 1 (blocks - 1)) (next : List ℕ → Call Bool) where
+  abbrev first : List ℕ
+  first = bytes_in (map_mark a.blocks) F
+
+  abbrev taken : List ℕ
+  taken = take need (free_list a first)
+
+  abbrev go : Call Bool
+  go = first_write a first taken None (next taken)
+
+  abbrev stop : Call Bool
+  stop = refuse (fs.Store (store.NoBlocks need (free_count first 1 (a.blocks - 1))))
+
+  free_are : free ≡ free_count first 1 (a.blocks - 1)
+  free_are = free_is ∙ ap (λ (b : ℕ). free_count F 1 (b - 1)) blocks_are ∙ sym (free_same a area F)
+
+  pub few_run : (t : Tx) → free < need → HasRun (with_taken a need next first) t t (Err (fs.Store (store.NoBlocks need free)))
+  few_run t few =
+      let e = free_are in
+      let test : nat_lt (free_count first 1 (a.blocks - 1)) need ≡ true = grind (arith, nat_tests) in
+      run_as (refuse (fs.Store (store.NoBlocks need free))) (with_taken a need next first) t t (Err (fs.Store (store.NoBlocks need free)))
+      (ap (λ (b : Bool). cond b stop go) test ∙ (λ i. refuse (fs.Store (store.NoBlocks need (sym e i)))))
+      (ran_at (refuse (fs.Store (store.NoBlocks need free))) t t (Err (fs.Store (store.NoBlocks need free))) (at_start (refuse (fs.Store (store.NoBlocks need free))) t))
+
+  module _ (enough : need ≤ free) where
+    pub taken_so : AreTaken a first need (take need (free_list a first))
+    taken_so = let l = area.least in let e = free_are in taken_are a first need (omega arith) (omega (arith, enough, e))
+
+    pub taken_is : (news : List ℕ) → news ≡ take need (filter (λ k. not (map_bit F k)) (range_with_len 1 (blocks - 1))) → news ≡ take need (free_list a first)
+    taken_is news is = is ∙ ap (λ (b : ℕ). take need (filter (λ k. not (map_bit F k)) (range_with_len 1 (b - 1)))) blocks_are ∙ sym (taken_same a area F need)
+
+    pub taken_run : (news : List ℕ) (t v : Tx) (result : Result Bool FsError) → news ≡ take need (free_list a first) → HasRun (first_write a first news None (next news)) t v result → HasRun (with_taken a need next first) t v result
+    taken_run news t v result is run =
+        let e = free_are in
+        let test : nat_lt (free_count first 1 (a.blocks - 1)) need ≡ false = grind (arith, nat_tests) in
+        run_as go (with_taken a need next first) t v result (ap (λ (b : Bool). cond b stop go) test) (subst (λ (n : List ℕ). HasRun (first_write a first n None (next n)) t v result) is run)
+
+-- THE MAP
+new_as : (a : Area) (need : ℕ) (next : List ℕ → Call Bool) → 1 ≤ need → with_new a need next ≡ look_map a (with_taken a need next)
+new_as a zero next some = absurd (omega arith)
+new_as a (suc more) next some = refl
+
+module _ (a : Area) (need : ℕ) (next : List ℕ → Call Bool) (some : 1 ≤ need) (t u : Tx) where
+  abbrev mapping : Call Bool
+  mapping = look_map a (with_taken a need next)
+
+  pub new_refused : (before now : Device) (e : TxError) → u ≡ t → IsCause u 1 before now e → HasRun (with_new a need next) t u (Err (fs.Store (store.Tx e)))
+  new_refused before now e same cause =
+      run_as mapping (with_new a need next) t u (Err (fs.Store (store.Tx e))) (new_as a need next some)
+      (cut_at_look mapping a.start (map_mark a.blocks) (λ first. None) (λ first none. with_taken a need next first) t t u before now e (at_start mapping t) same cause)
+
+  pub new_run : (bytes : List ℕ) (v : Tx) (result : Result Bool FsError) → AreBytesOf t a.start bytes → IsTx u → u ≡ with_accesses t (look_access a.start (map_mark a.blocks ∷ []) ∷ [])
+      → HasRun (with_taken a need next (bytes_in (map_mark a.blocks) bytes)) u v result → HasRun (with_new a need next) t v result
+  new_run bytes v result told tx is run =
+      run_as mapping (with_new a need next) t v result (new_as a need next some)
+      (run_from mapping (with_taken a need next (bytes_in (map_mark a.blocks) bytes)) t u v result
+      (at_look mapping a.start (map_mark a.blocks) (λ first. None) (λ first none. with_taken a need next first) t t u bytes (at_start mapping t) told tx.count is) run)
+
+-- THE TEST OF THE RANGE
+module _ (a : Area) (off number : ℕ) (bytes file : List ℕ) (t u : Tx) where
+  abbrev passes : Call Bool
+  passes = with_new a (blocks_for a.size (off + length bytes) - data_count a.size file) (write_sized a off bytes number file)
+
+  pub range_bad : (nat_le off (bytes_of file) && nat_le (off + length bytes) (most_bytes a.size)) ≡ false → HasRun (write_to a off bytes number file) t t (Err fs.BadRange)
+  range_bad bad =
+      run_as (refuse fs.BadRange) (write_to a off bytes number file) t t (Err fs.BadRange) (ap (λ (b : Bool). cond b passes (refuse fs.BadRange)) bad) (ran_at (refuse fs.BadRange) t t (Err fs.BadRange) (at_start (refuse fs.BadRange) t))
+
+  pub range_run : (need : ℕ) (result : Result Bool FsError) → off ≤ bytes_of file → nat_le (off + length bytes) (most_bytes a.size) ≡ true → blocks_for a.size (off + length bytes) - data_count a.size file ≡ need
+      → HasRun (with_new a need (write_sized a off bytes number file)) t u result → HasRun (write_to a off bytes number file) t u result
+  range_run need result inside fits is run =
+      let low : nat_le off (bytes_of file) ≡ true = grind (arith, nat_tests) in
+      run_as (with_new a need (write_sized a off bytes number file)) (write_to a off bytes number file) t u result
+      ((λ i. cond (low i && fits i) passes (refuse fs.BadRange)) ∙ ap (λ (n : ℕ). with_new a n (write_sized a off bytes number file)) is) run
+
+pub many_is : (bytes : List ℕ) → 1 ≤ length bytes → length bytes ≤ 4096 → is_many (length bytes) ≡ true
+many_is bytes some few = grind (arith, nat_tests)
+
+pub off_bad : (off bytes : ℕ) (b : Bool) → bytes < off → (nat_le off bytes && b) ≡ false
+off_bad off bytes b past = let low : nat_le off bytes ≡ false = grind (arith, nat_tests) in ap (λ (t : Bool). t && b) low
+
+pub size_bad : (a b : Bool) → b ≡ false → (a && b) ≡ false
+size_bad true b is = is
+size_bad false b is = refl

@@ -1,0 +1,6 @@
+use Rattle.std.proofs.Common.{◌∙◌, ap, ℕ, List, set}
+use Rattle.iso_fs.proofs.NewFile.{laid_empty}
+use Rattle.iso_fs.proofs.buffers.lay_empty.Goals as goal
+
+pub returns : goal.returns
+returns c = ap (λ (l : List ℕ). set l 0 3) c.clear.ensures ∙ laid_empty _ c.requires

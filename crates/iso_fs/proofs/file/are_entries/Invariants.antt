@@ -1,0 +1,8 @@
+use Rattle.std.proofs.Common.{◌≡◌, ◌-◌}
+use Rattle.store_model.specs.Cells.{all_from}
+use Rattle.store_model.specs.FileNodes.{are_entries, entry_at, is_handed}
+use Rattle.iso_fs.proofs.file.are_entries.Given as goal
+
+-- the numbers that are left decide
+abbrev pub invariant-loop-i : goal.invariant-loop-i
+invariant-loop-i l = all_from (λ i. is_handed l.blocks (entry_at l.file i)) l.i (l.count - l.i) ≡ are_entries l.blocks l.file l.count

@@ -1,0 +1,5 @@
+use Rattle.std.proofs.Common.{◌-◌}
+use Rattle.iso_fs.proofs.left.+places.Given as goal
+
+abbrev pub decreases-places : goal.decreases-places
+decreases-places l = l.count - l.i

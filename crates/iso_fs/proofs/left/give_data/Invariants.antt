@@ -1,0 +1,12 @@
+use Rattle.std.proofs.Common.{◌≡◌, length}
+use Rattle.store_model.specs.FileCalls.{without_bits}
+use Rattle.store_model.specs.FileNodes.{entries_of}
+use Rattle.iso_fs.proofs.RemoveSteps.{entries_from}
+use Rattle.iso_fs.proofs.left.give_data.Given as goal
+
+-- the blocks that are left are given back yet
+abbrev pub invariant-loop-i : goal.invariant-loop-i
+invariant-loop-i l = record {
+  left : without_bits l.map (entries_from l.file l.i l.count) ≡ without_bits l.fn.map (entries_of l.area.size l.file);
+  long : length l.map ≡ length l.fn.map;
+}

@@ -1,0 +1,24 @@
+use Rattle.std.proofs.Common.{◌∙◌, sym, subst}
+use Rattle.store_model.specs.declared.files.FileAreas.{FileAreas}
+use Rattle.store_model.specs.FileCalls.{create_program}
+use Rattle.iso_fs.specs.Ends.{HasRun, areas_of}
+use Rattle.iso_fs.proofs.Ended.{no_memory}
+use Rattle.iso_fs.proofs.CreateSteps.{bad_name, create_call, create_has}
+use Rattle.iso_fs.proofs.making.create.Goals as goal
+
+pub returns-then-not-is_key-clause-ended : goal.returns-then-not-is_key-clause-ended
+returns-then-not-is_key-clause-ended g c =
+    let state = g.T.TxBlocks.state in
+    bad_name (areas_of (state c.args.tx.now) c.args.at) c.args.name.now (state c.args.tx.now) (sym c.is_key.ensures ∙ c.if-not-is_key.true)
+
+pub returns-in-Err-clause-ended : goal.returns-in-Err-clause-ended
+returns-in-Err-clause-ended g c =
+    let state = g.T.TxBlocks.state in
+    let a = areas_of (state c.args.tx.now) c.args.at in
+    no_memory (create_program a c.args.name.now) (state c.args.tx.now) c.in-Err.e c.in-Err.ensures.memory (create_has a c.args.name.now (sym c.is_key.ensures ∙ c.if-not-is_key.false))
+
+pub returns-clause-local : goal.returns-clause-local
+returns-clause-local g c =
+    let state = g.T.TxBlocks.state in
+    create_call (state c.args.tx.now) (state c.create_with.new.tx) c.args.at c.args.name.now c.create_with.result (g.met.T.TxBlocks.limits c.args.tx.now) c.requires.areas c.requires.fits (sym c.is_key.ensures ∙ c.if-not-is_key.false)
+    (subst (λ (a : FileAreas). HasRun (create_program a c.args.name.now) (state c.args.tx.now) (state c.create_with.new.tx) c.create_with.result) c.areas_of-a.ensures c.create_with.ensures.run)

@@ -1,0 +1,21 @@
+use Rattle.std.proofs.Common.{◌≡◌, ◌-◌, ◌≤◌, [], length}
+use Rattle.std.specs.Prelude.{take}
+use Rattle.tx_blocks.specs.Tx.{IsLater}
+use Rattle.tx_blocks.specs.Runs.{HasRead}
+use Rattle.store_model.specs.FileCalls.{read_pieces}
+use Rattle.iso_fs.proofs.Lefts.{HasLeft}
+use Rattle.iso_fs.proofs.reading.read_pieces.Given as goal
+
+-- the pieces that are left are what is left of the read
+abbrev pub invariant-loop-at : goal.invariant-loop-at
+invariant-loop-at g l = record {
+  left : HasLeft (read_pieces l.area l.file l.most l.from l.to []) (λ m. read_pieces l.area l.file m l.at l.to (take (l.at - l.from) l.room)) (l.to - l.at) (g.T.TxBlocks.state l.fn.tx) (g.T.TxBlocks.state l.tx);
+  low : l.from ≤ l.at;
+  up : l.at ≤ l.to;
+  reads : HasRead (g.T.TxBlocks.state l.fn.tx) (g.T.TxBlocks.state l.tx);
+  later : IsLater (g.T.TxBlocks.device l.fn.tx) (g.T.TxBlocks.device l.tx);
+  passed : (g.T.TxBlocks.device l.tx).faults ≡ (g.T.TxBlocks.device l.fn.tx).faults;
+}
+
+abbrev pub decreases-loop-at : goal.decreases-loop-at
+decreases-loop-at g l = l.to - l.at

@@ -1,0 +1,7 @@
+use Rattle.std.proofs.Common.{◌∙◌, ◌+◌, ◌*◌, length}
+use Rattle.store_model.specs.Cells.{laid_at}
+use Rattle.iso_fs.proofs.Sizing.{laid_entry}
+use Rattle.iso_fs.proofs.sized.add_entry.Goals as goal
+
+pub returns : goal.returns
+returns c = λ bytes es is old. c.lay.ensures ∙ (λ k. laid_at (64 + 4 * c.args.i) (c.spelled.ensures k) (old k)) ∙ laid_entry (length c.args.into.now) bytes es c.args.number c.args.i is c.requires

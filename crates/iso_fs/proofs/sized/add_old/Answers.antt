@@ -1,0 +1,25 @@
+use Rattle.std.proofs.Common.{◌≡◌, ◌∙◌, ◌++◌, ◌∷◌, [], sym, ap, arith, ℕ, length}
+use Rattle.std.specs.Prelude.{map}
+use Rattle.std.specs.List.{range_with_len}
+use Rattle.std.proofs.lemmas.List.FromFn.{length-map-range_with_len}
+use Rattle.store_model.specs.FileNodes.{entry_at, file_block}
+use Rattle.iso_fs.proofs.Sizing.{one_more}
+use Rattle.iso_fs.proofs.sized.add_old.Goals as goal
+
+pub loop-i-preserved : goal.loop-i-preserved
+loop-i-preserved c =
+    let es = map (entry_at c.args.file.now) (range_with_len 0 c.loop-i.i) in
+    let long = c.loop-i.invariant.long in
+    record {
+      laid = λ bytes old.
+          c.add_entry.ensures bytes es (length-map-range_with_len (entry_at c.args.file.now) 0 c.loop-i.i) (c.loop-i.invariant.laid bytes old ∙ ap (λ (n : ℕ). file_block n bytes es) (sym long))
+          ∙ (λ k. file_block (long k) bytes (es ++ c.entry_at.ensures k ∷ [])) ∙ ap (file_block (length c.args.into.now) bytes) (sym (one_more (entry_at c.args.file.now) c.loop-i.i));
+      long = c.add_entry.auto.into ∙ long;
+    }
+
+pub returns : goal.returns
+returns c = λ bytes old.
+    let last = c.loop-i.auto.i-end in
+    let over = c.loop-i-test.false in
+    let e : c.loop-i.i ≡ c.args.count = omega (arith, last, over) in
+    c.loop-i.invariant.laid bytes old ∙ ap (λ (n : ℕ). file_block (length c.args.into.now) bytes (map (entry_at c.args.file.now) (range_with_len 0 n))) e

@@ -1,0 +1,12 @@
+use Rattle.std.proofs.Common.{◌≡◌, ℕ, length, []}
+use Rattle.std.specs.Prelude.{map}
+use Rattle.std.specs.List.{range_with_len}
+use Rattle.store_model.specs.FileNodes.{entry_at, file_block}
+use Rattle.iso_fs.proofs.sized.add_old.Given as goal
+
+-- the first numbers are laid
+abbrev pub invariant-loop-i : goal.invariant-loop-i
+invariant-loop-i l = record {
+  laid : (bytes : ℕ) → l.fn.into ≡ file_block (length l.fn.into) bytes [] → l.into ≡ file_block (length l.fn.into) bytes (map (entry_at l.file) (range_with_len 0 l.i));
+  long : length l.into ≡ length l.fn.into;
+}

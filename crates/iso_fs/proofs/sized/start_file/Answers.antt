@@ -1,0 +1,7 @@
+use Rattle.std.proofs.Common.{◌∙◌, length}
+use Rattle.store_model.specs.Cells.{laid_at}
+use Rattle.iso_fs.proofs.Sizing.{laid_size}
+use Rattle.iso_fs.proofs.sized.start_file.Goals as goal
+
+pub returns : goal.returns
+returns c = c.lay.ensures ∙ (λ i. laid_at 4 (c.spelled.ensures i) (c.lay_empty.ensures i)) ∙ laid_size (length c.args.into.now) c.args.bytes

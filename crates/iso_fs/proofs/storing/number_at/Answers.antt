@@ -1,0 +1,22 @@
+use Rattle.std.proofs.Common.{◌∙◌, sym, subst, arith, ℕ, ◌<◌, ◌-◌}
+use Rattle.iso_fs.proofs.WriteSteps.{news_below, number_new, number_old, old_below, old_fits}
+use Rattle.iso_fs.proofs.storing.number_at.Goals as goal
+
+pub entry_at-requires : goal.entry_at-requires
+entry_at-requires c =
+    let fits = old_fits c.args.area c.args.file.now c.requires.file c.requires.least in
+    let below = c.if-place-old.true in
+    omega (arith, fits, below, c.requires.old, c.requires.long)
+
+pub returns-then-place-old-clause-number : goal.returns-then-place-old-clause-number
+returns-then-place-old-clause-number c = c.entry_at.ensures ∙ sym (number_old c.args.area c.args.file.now c.args.news.now c.args.old c.requires.old c.args.place c.if-place-old.true)
+
+pub returns-then-place-old-clause-below : goal.returns-then-place-old-clause-below
+returns-then-place-old-clause-below c =
+    subst (λ (n : ℕ). n < c.args.area.blocks) (sym c.entry_at.ensures) (old_below c.args.area c.args.file.now c.args.place c.requires.file (let below = c.if-place-old.true in omega (arith, below, c.requires.old)))
+
+pub returns-clause-number : goal.returns-clause-number
+returns-clause-number c = sym (number_new c.args.area c.args.file.now c.args.news.now c.args.old c.requires.old c.args.place (let past = c.if-place-old.false in omega arith))
+
+pub returns-clause-below : goal.returns-clause-below
+returns-clause-below c = news_below c.args.area c.args.news.now (c.args.place - c.args.old) c.requires.news (let past = c.if-place-old.false in let inside = c.requires.place in omega arith)

@@ -1,0 +1,35 @@
+use Rattle.std.proofs.Common.{◌∙◌, ◌+◌, ◌++◌, ap, refl, arith, length, take, ℕ}
+use Rattle.store_model.specs.Cells.{block_with}
+use Rattle.store_model.specs.FileNodes.{entries_of}
+use Rattle.tx_blocks.specs.Tx.{Device}
+use Rattle.tx_blocks.proofs.Refusals.{later_same}
+use Rattle.iso_fs.proofs.Ended.{done_so, refused_store}
+use Rattle.iso_fs.proofs.WriteSteps.{piece_done, piece_refused, place_covered}
+use Rattle.iso_fs.proofs.storing.write_piece.Goals as goal
+
+pub returns-in-Ok-clause-run : goal.returns-in-Ok-clause-run
+returns-in-Ok-clause-run g c =
+    let state = g.T.TxBlocks.state in
+    let E = entries_of c.args.area.size c.args.file.now ++ c.args.news.now in
+    piece_done c.args.area E c.args.old c.args.from c.args.to c.args.bytes.now c.requires.less (state c.args.tx.now) (state c.store_piece.new.tx) c.number_at-number.result c.piece_mark-span.result c.lay_alone.new.into _ c.number_at-number.ensures.number c.piece_mark-span.ensures.span
+    (c.lay_alone.ensures ∙ ap (λ (n : ℕ). block_with n c.piece_mark-span.result.off (take c.piece_mark-span.result.len c.args.bytes.now)) c.requires.into) refl (g.met.T.TxBlocks.limits c.store_piece.new.tx) c.in-Ok.ensures.stored
+
+pub returns-in-Ok-clause-behaves : goal.returns-in-Ok-clause-behaves
+returns-in-Ok-clause-behaves g c =
+    let state = g.T.TxBlocks.state in
+    let device = g.T.TxBlocks.device in
+    let same = c.in-Ok.ensures.device in
+    done_so (state c.args.tx.now) (state c.store_piece.new.tx) 1 (device c.args.tx.now) (device c.store_piece.new.tx) _ (later_same (device c.args.tx.now) (device c.store_piece.new.tx) same) (ap (λ (d : Device). d.faults) same)
+
+pub returns-in-Err-clause-refused : goal.returns-in-Err-clause-refused
+returns-in-Err-clause-refused g c =
+    let state = g.T.TxBlocks.state in
+    let device = g.T.TxBlocks.device in
+    let E = entries_of c.args.area.size c.args.file.now ++ c.args.news.now in
+    λ most. piece_refused c.args.area E c.args.old c.args.from c.args.to c.args.bytes.now c.requires.less (state c.args.tx.now) (state c.store_piece.new.tx) (device c.args.tx.now) (device c.store_piece.new.tx) c.in-Err.e c.in-Err.ensures.kept c.in-Err.ensures.cause most
+
+pub returns-in-Err-clause-behaves : goal.returns-in-Err-clause-behaves
+returns-in-Err-clause-behaves g c =
+    let state = g.T.TxBlocks.state in
+    let device = g.T.TxBlocks.device in
+    refused_store (state c.args.tx.now) (state c.store_piece.new.tx) 1 (device c.args.tx.now) (device c.store_piece.new.tx) c.in-Err.e (omega arith) c.in-Err.ensures.cause c.in-Err.ensures.device

@@ -1,0 +1,21 @@
+use Rattle.std.proofs.Common.{◌≡◌, ◌-◌, ◌≤◌, ◌++◌, drop, length}
+use Rattle.tx_blocks.specs.Tx.{IsLater}
+use Rattle.store_model.specs.FileCalls.{write_pieces}
+use Rattle.store_model.specs.FileNodes.{entries_of}
+use Rattle.iso_fs.proofs.Lefts.{HasLeft}
+use Rattle.iso_fs.proofs.storing.write_pieces.Given as goal
+
+-- the pieces that are left are what is left of the write
+abbrev pub invariant-loop-at : goal.invariant-loop-at
+invariant-loop-at g l = record {
+  left : HasLeft (write_pieces l.area (entries_of l.area.size l.file ++ l.news) l.old (length l.bytes) l.from l.to l.bytes) (λ m. write_pieces l.area (entries_of l.area.size l.file ++ l.news) l.old m l.at l.to (drop (l.at - l.from) l.bytes)) (l.to - l.at)
+      (g.T.TxBlocks.state l.fn.tx) (g.T.TxBlocks.state l.tx);
+  low : l.from ≤ l.at;
+  up : l.at ≤ l.to;
+  long : length l.into ≡ l.area.size;
+  later : IsLater (g.T.TxBlocks.device l.fn.tx) (g.T.TxBlocks.device l.tx);
+  passed : (g.T.TxBlocks.device l.tx).faults ≡ (g.T.TxBlocks.device l.fn.tx).faults;
+}
+
+abbrev pub decreases-loop-at : goal.decreases-loop-at
+decreases-loop-at g l = l.to - l.at

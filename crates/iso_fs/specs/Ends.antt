@@ -1,0 +1,71 @@
+-- How a call of the file store ends, and what it leaves.
+use Rattle.std.specs.Prelude.{◌≡◌, ◌≢◌, ℕ, Bool, true, false, IsFalse, Result, Ok, Err, IfErr, OnOk}
+use Rattle.store_model.specs.declared.stores.StoreError.{StoreError}
+use Rattle.store_model.specs.declared.stores.StoreError.TheVariants as store
+use Rattle.store_model.specs.declared.files.FsError.{FsError}
+use Rattle.store_model.specs.declared.files.FsError.TheVariants as fs
+use Rattle.store_model.specs.declared.files.FsRegion.{FsRegion}
+use Rattle.store_model.specs.declared.files.FileAreas.{FileAreas}
+use Rattle.store_model.specs.FileCalls.{Call}
+use Rattle.tx_blocks.specs.Tx.{Tx, Device, IsLater}
+use Rattle.tx_blocks.specs.Runs.{area_of, Ran, Stopped, IsCut, IsStoreCause, HasRead, Passed}
+
+-- the areas of the regions in the transaction's blocks
+abbrev pub areas_of : Tx → FsRegion → FileAreas
+areas_of t at = record { tree = area_of t at.tree; files = area_of t at.files }
+
+-- Where the store under a file call refuses it: the call ran to that refusal, or an access was refused; or memory was wanting for
+-- buffers, its own or those of a call of the tree, and then it has made fewer accesses than its program.
+abbrev pub HasRefused : {X : Type 0} → Call X → (t u : Tx) → StoreError → Type 0
+HasRefused p t u store.BadKey = Ran p t u (Err (fs.Store store.BadKey))
+HasRefused p t u store.BadValue = Ran p t u (Err (fs.Store store.BadValue))
+HasRefused p t u (store.NoBlocks need free) = Ran p t u (Err (fs.Store (store.NoBlocks need free)))
+HasRefused p t u (store.Broken block) = Ran p t u (Err (fs.Store (store.Broken block)))
+HasRefused p t u (store.Tx e) = IsCut p t u e
+HasRefused p t u store.Memory = Stopped p t u
+
+-- how a file call ends
+abbrev pub HasRun : {X : Type 0} → Call X → (t u : Tx) → Result X FsError → Type 0
+HasRun p t u (Ok x) = Ran p t u (Ok x)
+HasRun p t u (Err fs.BadName) = Ran p t u (Err fs.BadName)
+HasRun p t u (Err fs.BadRange) = Ran p t u (Err fs.BadRange)
+HasRun p t u (Err fs.Exists) = Ran p t u (Err fs.Exists)
+HasRun p t u (Err (fs.Store e)) = HasRefused p t u e
+
+-- Why a file call is refused, of which a part makes at most so many writes once it has seen that they fit: the store under it
+-- refuses for its own causes, and else the disk did not fail in the call.
+abbrev pub IsFsCause : Tx → (writes : ℕ) → (before now : Device) → FsError → Type 0
+IsFsCause u writes before now (fs.Store e) = IsStoreCause u writes before now e
+IsFsCause u writes before now fs.BadName = Passed before now
+IsFsCause u writes before now fs.BadRange = Passed before now
+IsFsCause u writes before now fs.Exists = Passed before now
+
+-- Whether a refusal may come behind a write: the transaction's own may, and where a call of the tree follows a write, want of
+-- memory and a broken block may too.
+abbrev pub may_follow : (tree_call : Bool) → FsError → Bool
+may_follow tree_call (fs.Store (store.Tx e)) = true
+may_follow tree_call (fs.Store (store.Broken block)) = tree_call
+may_follow tree_call (fs.Store store.Memory) = tree_call
+may_follow tree_call (fs.Store store.BadKey) = false
+may_follow tree_call (fs.Store store.BadValue) = false
+may_follow tree_call (fs.Store (store.NoBlocks need free)) = false
+may_follow tree_call fs.BadName = false
+may_follow tree_call fs.BadRange = false
+may_follow tree_call fs.Exists = false
+
+-- a call that was refused otherwise has written nothing
+abbrev pub IsUnwritten : (tree_call : Bool) → (t u : Tx) → FsError → Type 0
+IsUnwritten tree_call t u e = IsFalse (may_follow tree_call e) → HasRead t u
+
+-- a refusal by the transaction
+abbrev pub IsOfTx : FsError → Type 0
+IsOfTx e = may_follow false e ≡ true
+
+-- What a part of a call leaves, whatever the bytes: why it is refused, what a refusal has written, and that it is not of the
+-- arguments; that the disk's faults do not fall, and stand after Ok where they stood.
+pub record FsBehaves {R : Type 0} (tree_call : Bool) (t u : Tx) (writes : ℕ) (before now : Device) (result : Result R FsError) : Type 0 where
+  pub cause : IfErr result (IsFsCause u writes before now)
+  pub unwritten : IfErr result (IsUnwritten tree_call t u)
+  pub known : IfErr result (λ e. e ≢ fs.BadName)
+  pub later : IsLater before now
+  pub passed : OnOk result (Passed before now)

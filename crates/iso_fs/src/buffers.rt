@@ -1,0 +1,69 @@
+// Where a call works, the tests of its arguments, and bytes laid into a block.
+ghost use Rattle.std.specs.Prelude.{◌≡◌, ◌+◌, ◌≤◌, length, replicate, []};
+ghost use Rattle.std.specs.Int.{w32, to_be_bytes};
+ghost use Rattle.store_model.specs.Cells.{block_with};
+ghost use Rattle.store_model.specs.FileCalls.{is_many};
+ghost use Rattle.store_model.specs.FileNodes.{file_block};
+ghost use Rattle.iso_fs.specs.Ends.{areas_of};
+
+use iso_alloc::lay;
+use store_model::{Area, FileAreas, FsRegion};
+use tx_blocks::TxBlocks;
+
+/// The areas of the regions in the transaction's blocks.
+pub fn areas_of<T: TxBlocks>(tx: &T, at: FsRegion) -> FileAreas
+    ensures { result ≡ areas_of (T.state tx.now) at }
+{
+    let size = tx.block_size();
+    FileAreas {
+        tree: Area {
+            size,
+            start: at.tree.start,
+            blocks: at.tree.size,
+        },
+        files: Area {
+            size,
+            start: at.files.start,
+            blocks: at.files.size,
+        },
+    }
+}
+
+/// Whether a call may read or write so many bytes.
+pub fn is_many(count: usize) -> bool
+    ensures { result ≡ is_many count }
+{
+    1 <= count && count <= 4096
+}
+
+/// Zeros, but for these bytes from `at` on.
+pub fn lay_alone(into: &mut [u8], at: usize, bytes: &[u8])
+    requires { at + length bytes.now ≤ length into.old }
+    ensures { into.new ≡ block_with (length into.old) at bytes.now }
+{
+    into.fill(0);
+    lay(into, at, bytes);
+}
+
+// Zeros throughout.
+fn clear(into: &mut [u8])
+    ensures { into.new ≡ replicate (length into.old) 0 }
+{
+    into.fill(0);
+}
+
+/// The number of a block in four bytes.
+pub fn spelled(number: u32) -> [u8; 4]
+    ensures { result ≡ to_be_bytes w32 number }
+{
+    number.to_be_bytes()
+}
+
+/// The file block of an empty file.
+pub fn lay_empty(into: &mut [u8])
+    requires { 64 ≤ length into.old }
+    ensures { into.new ≡ file_block (length into.old) 0 [] }
+{
+    clear(into);
+    into[0] = 3;
+}

@@ -1,0 +1,118 @@
+// The bytes of a file block.
+ghost use Rattle.std.specs.Prelude.{◌≡◌, ◌+◌, ◌*◌, ◌<◌, ◌≤◌, ◌==◌, IfNone, IfSome, false, length, true, nat_le, slice_index};
+ghost use Rattle.store_model.specs.FileNodes.{are_entries, bytes_of, data_count, entry_at, has_zeros, is_file, is_handed, is_number, most_bytes, number_of};
+
+use iso_alloc::{are_zero, piece, word_at};
+use store_model::Area;
+
+/// How many bytes the file has.
+pub fn bytes_of(file: &[u8]) -> u32
+    requires { 8 ≤ length file.now }
+    ensures { result ≡ bytes_of file.now }
+{
+    word_at(file, 4)
+}
+
+/// The number of a data block.
+pub fn entry_at(file: &[u8], i: usize) -> u32
+    requires { 64 + 4 * i + 4 ≤ length file.now }
+    ensures { result ≡ entry_at file.now i }
+{
+    word_at(file, 64 + 4 * i)
+}
+
+// Whether a number is that of a block that a region of so many hands out.
+fn is_handed(blocks: u32, number: u32) -> bool
+    ensures { result ≡ is_handed blocks number }
+{
+    1 <= number && number < blocks
+}
+
+// Whether the numbers are those of blocks of the region.
+fn are_entries(blocks: u32, file: &[u8], count: usize) -> bool
+    requires { 64 + 4 * count ≤ length file.now }
+    ensures { result ≡ are_entries blocks file.now count }
+{
+    for i in 0..count {
+        if !is_handed(blocks, entry_at(file, i)) {
+            return false;
+        }
+    }
+    true
+}
+
+// Whether the zeros are zero.
+fn has_zeros(file: &[u8], count: usize) -> bool
+    requires { 64 + 4 * count ≤ length file.now }
+    ensures { result ≡ has_zeros file.now count }
+{
+    are_zero(piece(file, 1, 3)) && are_zero(piece(file, 8, 56)) && are_zero(&file[64 + 4 * count..])
+}
+
+// Whether the first byte is that of a file block.
+fn is_kind(file: &[u8]) -> bool
+    requires { 1 ≤ length file.now }
+    ensures { result ≡ (slice_index file.now 0 == 3) }
+{
+    file[0] == 3
+}
+
+// Whether a file may have so many bytes.
+fn is_small(area: Area, file: &[u8]) -> bool
+    requires least { 256 ≤ area.size }
+    requires most { area.size ≤ 4096 }
+    requires size { length file.now ≡ area.size }
+    ensures { result ≡ nat_le (bytes_of file.now) (most_bytes area.size) }
+{
+    let size = area.size;
+    bytes_of(file) <= (size - 64) / 4 * size
+}
+
+/// How many data blocks the file has.
+pub fn data_count(area: Area, file: &[u8]) -> usize
+    requires least { 256 ≤ area.size }
+    requires most { area.size ≤ 4096 }
+    requires size { length file.now ≡ area.size }
+    requires small { bytes_of file.now ≤ most_bytes area.size }
+    ensures count { result ≡ data_count area.size file.now }
+    ensures fits { 64 + 4 * result ≤ area.size }
+{
+    let size = area.size as usize;
+    (bytes_of(file) as usize + (size - 1)) / size
+}
+
+/// Whether a block is a file block that is well formed.
+pub fn is_file(area: Area, file: &[u8]) -> bool
+    requires least { 256 ≤ area.size }
+    requires most { area.size ≤ 4096 }
+    requires size { length file.now ≡ area.size }
+    ensures { result ≡ is_file area file.now }
+{
+    if !is_kind(file) {
+        return false;
+    }
+    if !is_small(area, file) {
+        return false;
+    }
+    let count = data_count(area, file);
+    if !are_entries(area.blocks, file, count) {
+        return false;
+    }
+    has_zeros(file, count)
+}
+
+/// The number that a value of the tree spells; none where it is not that of a block of the region.
+pub fn number_of(area: Area, value: &[u8]) -> Option<u32>
+    ensures some { IfSome result (λ number. (number ≡ number_of value.now) × (is_number area value.now ≡ true)) }
+    ensures none { IfNone result (is_number area value.now ≡ false) }
+    ensures below { IfSome result (λ number. number < area.blocks) }
+{
+    if value.len() != 4 {
+        return None;
+    }
+    let number = word_at(value, 0);
+    if !is_handed(area.blocks, number) {
+        return None;
+    }
+    Some(number)
+}

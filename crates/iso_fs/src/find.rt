@@ -1,0 +1,118 @@
+// The file block of a name.
+ghost use Rattle.std.specs.Prelude.{false, ◌≡◌, ◌+◌, ◌<◌, ◌≤◌, length, true, None};
+ghost use Rattle.store_model.specs.HashCalls.{is_key};
+ghost use Rattle.store_model.specs.FileCalls.{at_file, numbered, with_file};
+ghost use Rattle.store_model.specs.FileRegion.{AreFileAreas};
+ghost use Rattle.tx_blocks.specs.Runs.{HasRead};
+ghost use Rattle.iso_fs.specs.Ends.{FsBehaves, HasRun};
+ghost use Rattle.iso_fs.specs.Finds.{find_program, found_as, found_file, IsFound};
+
+use crate::file::{is_file, number_of};
+use crate::names::value_of;
+use iso_model::Bytes;
+use std::alloc::Global;
+use store_model::{Area, FileAreas, FsError, StoreError};
+use tx_blocks::{TxBlocks, look_whole};
+
+// Reads and tests the file block of this number.
+fn look_file<T: TxBlocks>(
+    tx: &mut T,
+    area: Area,
+    number: u32,
+    file: &mut [u8],
+) -> Result<Option<u32>, FsError>
+    requires least { 256 ≤ area.size }
+    requires most { area.size ≤ 4096 }
+    requires size { (T.state tx.old).size ≡ area.size }
+    requires fits { area.start + area.blocks ≤ (T.state tx.old).blocks }
+    requires number { number < area.blocks }
+    requires file { length file.old ≡ area.size }
+    ensures run { HasRun (numbered area found_file number) (T.state tx.old) (T.state tx.new) (found_as file.new result) }
+    ensures found { IsFound area file.new result }
+    ensures reads { HasRead (T.state tx.old) (T.state tx.new) }
+    ensures behaves { FsBehaves false (T.state tx.old) (T.state tx.new) 1 (T.device tx.old) (T.device tx.new) result }
+{
+    if let Err(e) = look_whole(tx, area.start + number, file) {
+        return Err(FsError::Store(StoreError::Tx(e)));
+    }
+    if !is_file(area, file) {
+        return Err(FsError::Store(StoreError::Broken {
+            block: area.start + number,
+        }));
+    }
+    Ok(Some(number))
+}
+
+// Reads and tests the file block that a value of the tree names.
+fn look_value<T: TxBlocks>(
+    tx: &mut T,
+    a: FileAreas,
+    value: &[u8],
+    file: &mut [u8],
+) -> Result<Option<u32>, FsError>
+    requires least { 256 ≤ a.files.size }
+    requires most { a.files.size ≤ 4096 }
+    requires size { (T.state tx.old).size ≡ a.files.size }
+    requires fits { a.files.start + a.files.blocks ≤ (T.state tx.old).blocks }
+    requires file { length file.old ≡ a.files.size }
+    ensures run { HasRun (with_file a found_file value.now) (T.state tx.old) (T.state tx.new) (found_as file.new result) }
+    ensures found { IsFound a.files file.new result }
+    ensures reads { HasRead (T.state tx.old) (T.state tx.new) }
+    ensures behaves { FsBehaves false (T.state tx.old) (T.state tx.new) 1 (T.device tx.old) (T.device tx.new) result }
+{
+    match number_of(a.files, value) {
+        Some(number) => look_file(tx, a.files, number, file),
+        None => Err(FsError::Store(StoreError::Broken {
+            block: a.tree.start,
+        })),
+    }
+}
+
+// Reads and tests the file block, once it is known what its name has.
+fn look_found<T: TxBlocks>(
+    tx: &mut T,
+    a: FileAreas,
+    found: Option<Bytes>,
+    file: &mut [u8],
+) -> Result<Option<u32>, FsError>
+    requires least { 256 ≤ a.files.size }
+    requires most { a.files.size ≤ 4096 }
+    requires size { (T.state tx.old).size ≡ a.files.size }
+    requires fits { a.files.start + a.files.blocks ≤ (T.state tx.old).blocks }
+    requires file { length file.old ≡ a.files.size }
+    ensures run { HasRun (at_file a None found_file found) (T.state tx.old) (T.state tx.new) (found_as file.new result) }
+    ensures found { IsFound a.files file.new result }
+    ensures reads { HasRead (T.state tx.old) (T.state tx.new) }
+    ensures behaves { FsBehaves false (T.state tx.old) (T.state tx.new) 1 (T.device tx.old) (T.device tx.new) result }
+{
+    match found {
+        Some(value) => look_value(tx, a, value.as_slice(), file),
+        None => Ok(None),
+    }
+}
+
+/// The number of the file block of a name, whose bytes are put into `file`; none where the name has no file.
+pub fn find<T: TxBlocks>(
+    alloc: Global,
+    tx: &mut T,
+    a: FileAreas,
+    name: &[u8],
+    file: &mut [u8],
+) -> Result<Option<u32>, FsError>
+    requires areas { AreFileAreas a }
+    requires least { 256 ≤ a.files.size }
+    requires most { a.files.size ≤ 4096 }
+    requires size { (T.state tx.old).size ≡ a.files.size }
+    requires fits { a.files.start + a.files.blocks ≤ (T.state tx.old).blocks }
+    requires name { is_key name.now ≡ true }
+    requires file { length file.old ≡ a.files.size }
+    ensures run { HasRun (find_program a name.now) (T.state tx.old) (T.state tx.new) (found_as file.new result) }
+    ensures found { IsFound a.files file.new result }
+    ensures reads { HasRead (T.state tx.old) (T.state tx.new) }
+    ensures behaves { FsBehaves false (T.state tx.old) (T.state tx.new) 1 (T.device tx.old) (T.device tx.new) result }
+{
+    match value_of(alloc, tx, a.tree, name) {
+        Ok(found) => look_found(tx, a, found, file),
+        Err(e) => Err(FsError::Store(e)),
+    }
+}

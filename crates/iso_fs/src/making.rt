@@ -1,0 +1,235 @@
+// A new file.
+ghost use Rattle.std.specs.Prelude.{false, ◌≡◌, ◌↔◌, ◌+◌, ◌-◌, ◌<◌, ◌≤◌, Err, IsFalse, true, IfOk, IfErr, OnOk, OnErr, length, [], ◌∷◌, Ok, None};
+ghost use Rattle.store_model.specs.Cells.{block_with};
+ghost use Rattle.store_model.specs.FreeMap.{bit_mark, bit_place};
+ghost use Rattle.store_model.specs.HashCalls.{is_key};
+ghost use Rattle.store_model.specs.Stores.{store_access};
+ghost use Rattle.tx_blocks.specs.Tx.{with_accesses, IsLater};
+ghost use Rattle.tx_blocks.specs.Runs.{IsCause, IsLocalCall};
+ghost use Rattle.iso_fs.specs.Ends.{areas_of, FsBehaves, HasRun, IsFsCause, IsOfTx, IsUnwritten};
+ghost use Rattle.store_model.specs.FileCalls.{create_new, create_op, create_program, empty_writes, name_file};
+ghost use Rattle.store_model.specs.FileNodes.{file_block};
+ghost use Rattle.store_model.specs.FileRegion.{files, AreFileAreas, AreFileRegions};
+
+use crate::buffers::{areas_of, lay_alone, lay_empty, spelled};
+use crate::names::{put_value, region_of, value_of};
+use iso_alloc::{buffer, is_key, take_lowest};
+use iso_model::{Bytes, Span};
+use iso_tree::map_mark;
+use std::alloc::Global;
+use store_model::{FileAreas, FsError, FsRegion, StoreError, TxError};
+use tx_blocks::{TxBlocks, look, store};
+
+// Writes the byte of the map with the bit of a block.
+fn store_bit<T: TxBlocks>(
+    tx: &mut T,
+    a: FileAreas,
+    block: u32,
+    byte: u8,
+    buffer: &mut [u8],
+) -> Result<(), TxError>
+    requires areas { AreFileAreas a }
+    requires most_size { a.files.size ≤ 4096 }
+    requires size { (T.state tx.old).size ≡ a.files.size }
+    requires fits { a.files.start + a.files.blocks ≤ (T.state tx.old).blocks }
+    requires buffer { length buffer.old ≡ a.files.size }
+    requires block { block < a.files.blocks }
+    ensures stored { OnOk result (T.state tx.new ≡ with_accesses (T.state tx.old) (store_access a.files.start (bit_mark block ∷ []) (block_with a.files.size (bit_place block) (byte ∷ [])) ∷ [])) }
+    ensures kept { OnErr result (T.state tx.new ≡ T.state tx.old) }
+    ensures cause { IfErr result (IsCause (T.state tx.new) 1 (T.device tx.old) (T.device tx.new)) }
+    ensures device { T.device tx.new ≡ T.device tx.old }
+    ensures size { length buffer.new ≡ a.files.size }
+{
+    let at = 64 + (block / 8) as usize;
+    lay_alone(buffer, at, &[byte]);
+    let span = Span {
+        off: at as u16,
+        len: 1,
+    };
+    store(tx, a.files.start, &[span], buffer)
+}
+
+// Writes an empty file into a block.
+fn store_empty<T: TxBlocks>(
+    tx: &mut T,
+    a: FileAreas,
+    block: u32,
+    buffer: &mut [u8],
+) -> Result<(), TxError>
+    requires least_size { 256 ≤ a.files.size }
+    requires size { (T.state tx.old).size ≡ a.files.size }
+    requires fits { a.files.start + a.files.blocks ≤ (T.state tx.old).blocks }
+    requires buffer { length buffer.old ≡ a.files.size }
+    requires block { block < a.files.blocks }
+    ensures stored { OnOk result (T.state tx.new ≡ with_accesses (T.state tx.old) (store_access (a.files.start + block) [] (file_block a.files.size 0 []) ∷ [])) }
+    ensures kept { OnErr result (T.state tx.new ≡ T.state tx.old) }
+    ensures cause { IfErr result (IsCause (T.state tx.new) 1 (T.device tx.old) (T.device tx.new)) }
+    ensures device { T.device tx.new ≡ T.device tx.old }
+{
+    lay_empty(buffer);
+    store(tx, a.files.start + block, &[], buffer)
+}
+
+// Writes the byte of the map with the bit of a block, and an empty file into that block.
+fn store_file<T: TxBlocks>(
+    tx: &mut T,
+    a: FileAreas,
+    block: u32,
+    byte: u8,
+    buffer: &mut [u8],
+) -> Result<(), FsError>
+    requires areas { AreFileAreas a }
+    requires least_size { 256 ≤ a.files.size }
+    requires most_size { a.files.size ≤ 4096 }
+    requires size { (T.state tx.old).size ≡ a.files.size }
+    requires fits { a.files.start + a.files.blocks ≤ (T.state tx.old).blocks }
+    requires block { block < a.files.blocks }
+    requires buffer { length buffer.old ≡ a.files.size }
+    ensures run { HasRun (empty_writes a block byte) (T.state tx.old) (T.state tx.new) result }
+    ensures behaves { FsBehaves false (T.state tx.old) (T.state tx.new) 66 (T.device tx.old) (T.device tx.new) result }
+    ensures of_tx { IfErr result IsOfTx }
+{
+    if let Err(e) = store_bit(tx, a, block, byte, buffer) {
+        return Err(FsError::Store(StoreError::Tx(e)));
+    }
+    match store_empty(tx, a, block, buffer) {
+        Ok(()) => Ok(()),
+        Err(e) => Err(FsError::Store(StoreError::Tx(e))),
+    }
+}
+
+// Names a block in the tree, and makes it an empty file.
+fn name_file<T: TxBlocks>(
+    alloc: Global,
+    tx: &mut T,
+    a: FileAreas,
+    name: &[u8],
+    block: u32,
+    byte: u8,
+    buffer: &mut [u8],
+) -> Result<(), FsError>
+    requires areas { AreFileAreas a }
+    requires least_size { 256 ≤ a.files.size }
+    requires most_size { a.files.size ≤ 4096 }
+    requires size { (T.state tx.old).size ≡ a.files.size }
+    requires fits { a.files.start + a.files.blocks ≤ (T.state tx.old).blocks }
+    requires block { block < a.files.blocks }
+    requires name { is_key name.now ≡ true }
+    requires buffer { length buffer.old ≡ a.files.size }
+    ensures run { HasRun (name_file a name.now block byte) (T.state tx.old) (T.state tx.new) result }
+    ensures behaves { FsBehaves false (T.state tx.old) (T.state tx.new) 66 (T.device tx.old) (T.device tx.new) result }
+{
+    match put_value(alloc, tx, a.tree, name, &spelled(block)) {
+        Ok(()) => store_file(tx, a, block, byte, buffer),
+        Err(e) => Err(FsError::Store(e)),
+    }
+}
+
+// A new file of a name that has none, with a buffer for a block.
+fn create_new<T: TxBlocks>(
+    alloc: Global,
+    tx: &mut T,
+    a: FileAreas,
+    name: &[u8],
+    buffer: &mut [u8],
+) -> Result<(), FsError>
+    requires areas { AreFileAreas a }
+    requires least_size { 256 ≤ a.files.size }
+    requires most_size { a.files.size ≤ 4096 }
+    requires size { (T.state tx.old).size ≡ a.files.size }
+    requires fits { a.files.start + a.files.blocks ≤ (T.state tx.old).blocks }
+    requires name { is_key name.now ≡ true }
+    requires buffer { length buffer.old ≡ a.files.size }
+    ensures run { HasRun (create_new a name.now None) (T.state tx.old) (T.state tx.new) result }
+    ensures behaves { FsBehaves false (T.state tx.old) (T.state tx.new) 66 (T.device tx.old) (T.device tx.new) result }
+{
+    if let Err(e) = look(tx, a.files.start, map_mark(a.files), buffer) {
+        return Err(FsError::Store(StoreError::Tx(e)));
+    }
+    match take_lowest(buffer, region_of(a.files), 1) {
+        Some(block) => {
+            let byte = buffer[64 + (block / 8) as usize];
+            name_file(alloc, tx, a, name, block, byte, buffer)
+        }
+        None => Err(FsError::Store(StoreError::NoBlocks { need: 1, free: 0 })),
+    }
+}
+
+// A new file, once it is known what its name has.
+fn create_found<T: TxBlocks>(
+    alloc: Global,
+    tx: &mut T,
+    a: FileAreas,
+    name: &[u8],
+    found: Option<Bytes>,
+    buffer: &mut [u8],
+) -> Result<(), FsError>
+    requires areas { AreFileAreas a }
+    requires least_size { 256 ≤ a.files.size }
+    requires most_size { a.files.size ≤ 4096 }
+    requires size { (T.state tx.old).size ≡ a.files.size }
+    requires fits { a.files.start + a.files.blocks ≤ (T.state tx.old).blocks }
+    requires name { is_key name.now ≡ true }
+    requires buffer { length buffer.old ≡ a.files.size }
+    ensures run { HasRun (create_new a name.now found) (T.state tx.old) (T.state tx.new) result }
+    ensures behaves { FsBehaves false (T.state tx.old) (T.state tx.new) 66 (T.device tx.old) (T.device tx.new) result }
+{
+    match found {
+        Some(_) => Err(FsError::Exists),
+        None => create_new(alloc, tx, a, name, buffer),
+    }
+}
+
+// A new file, with a buffer for a block.
+fn create_with<T: TxBlocks>(
+    alloc: Global,
+    tx: &mut T,
+    a: FileAreas,
+    name: &[u8],
+    buffer: &mut [u8],
+) -> Result<(), FsError>
+    requires areas { AreFileAreas a }
+    requires least_size { 256 ≤ a.files.size }
+    requires most_size { a.files.size ≤ 4096 }
+    requires size { (T.state tx.old).size ≡ a.files.size }
+    requires fits { a.files.start + a.files.blocks ≤ (T.state tx.old).blocks }
+    requires name { is_key name.now ≡ true }
+    requires buffer { length buffer.old ≡ a.files.size }
+    ensures run { HasRun (create_program a name.now) (T.state tx.old) (T.state tx.new) result }
+    ensures behaves { FsBehaves false (T.state tx.old) (T.state tx.new) 66 (T.device tx.old) (T.device tx.new) result }
+{
+    match value_of(alloc, tx, a.tree, name) {
+        Ok(found) => create_found(alloc, tx, a, name, found, buffer),
+        Err(e) => Err(FsError::Store(e)),
+    }
+}
+
+/// Makes an empty file. `BadName` comes exactly where the name does not have 1 to 28 bytes, `Exists` where it has a file, `NoBlocks`
+/// where no block is free for the file, or in the tree; `Broken` where a call of the tree answers it. But where the transaction
+/// refuses an access, a refusal has written nothing.
+pub fn create<T: TxBlocks>(
+    alloc: Global,
+    tx: &mut T,
+    at: FsRegion,
+    name: &[u8],
+) -> Result<(), FsError>
+    requires areas { AreFileAreas (areas_of (T.state tx.old) at) }
+    requires fits { at.files.start + at.files.size ≤ (T.state tx.old).blocks }
+    ensures ended { HasRun (create_program (areas_of (T.state tx.old) at) name.now) (T.state tx.old) (T.state tx.new) result }
+    ensures local { IfOk result (IsLocalCall (AreFileRegions (areas_of (T.state tx.old) at)) (files (areas_of (T.state tx.old) at)) (create_op name.now) (T.state tx.old) (T.state tx.new)) }
+    ensures bad_name { result ≡ Err FsError.BadName ↔ IsFalse (is_key name.now) }
+    ensures cause { IfErr result (IsFsCause (T.state tx.new) 66 (T.device tx.old) (T.device tx.new)) }
+    ensures unwritten { IfErr result (IsUnwritten false (T.state tx.old) (T.state tx.new)) }
+    ensures later { IsLater (T.device tx.old) (T.device tx.new) }
+    ensures passed { OnOk result ((T.device tx.new).faults ≡ (T.device tx.old).faults) }
+{
+    if !is_key(name) {
+        return Err(FsError::BadName);
+    }
+    let a = areas_of(tx, at);
+    let mut block = match buffer(alloc, a.files.size as usize) {
+        Ok(block) => block,
+        Err(e) => return Err(FsError::Store(e)),
+    };
+    create_with(alloc, tx, a, name, &mut block)
+}

@@ -1,0 +1,109 @@
+// The calls of the tree store, by its area.
+ghost use Rattle.std.specs.Prelude.{◌≡◌, ◌≢◌, ◌+◌, ◌≤◌, IsTrue, IfErr, OnErr, OnOk, true};
+ghost use Rattle.store_model.specs.HashCalls.{is_key, is_value};
+ghost use Rattle.store_model.specs.TreeCalls.{del_program, get_program, put_program};
+ghost use Rattle.store_model.specs.TreeRegion.{IsTreeArea};
+ghost use Rattle.tx_blocks.specs.Tx.{IsLater};
+ghost use Rattle.tx_blocks.specs.Runs.{HasEnded, HasRead, IsStoreCause, IsUnwritten};
+ghost use Rattle.iso_tree.specs.Walks.{TakesNoBlocks};
+
+use iso_model::Bytes;
+use iso_tree::{del, get, put};
+use std::alloc::Global;
+use store_model::{Area, Region, StoreError};
+use tx_blocks::TxBlocks;
+
+/// The region of an area.
+pub fn region_of(area: Area) -> Region
+    ensures { result ≡ record { start = area.start; size = area.blocks } }
+{
+    Region {
+        start: area.start,
+        size: area.blocks,
+    }
+}
+
+/// The value of a name.
+pub fn value_of<T: TxBlocks>(
+    alloc: Global,
+    tx: &mut T,
+    tree: Area,
+    name: &[u8],
+) -> Result<Option<Bytes>, StoreError>
+    requires area { IsTreeArea tree }
+    requires size { (T.state tx.old).size ≡ tree.size }
+    requires fits { tree.start + tree.blocks ≤ (T.state tx.old).blocks }
+    ensures ended { HasEnded (get_program tree name.now) (T.state tx.old) (T.state tx.new) result }
+    ensures reads { HasRead (T.state tx.old) (T.state tx.new) }
+    ensures cause { IfErr result (IsStoreCause (T.state tx.new) 1 (T.device tx.old) (T.device tx.new)) }
+    ensures later { IsLater (T.device tx.old) (T.device tx.new) }
+    ensures passed { OnOk result ((T.device tx.new).faults ≡ (T.device tx.old).faults) }
+{
+    get(
+        alloc,
+        tx,
+        Region {
+            start: tree.start,
+            size: tree.blocks,
+        },
+        name,
+    )
+}
+
+/// Puts a value at a name.
+pub fn put_value<T: TxBlocks>(
+    alloc: Global,
+    tx: &mut T,
+    tree: Area,
+    name: &[u8],
+    value: &[u8],
+) -> Result<(), StoreError>
+    requires area { IsTreeArea tree }
+    requires size { (T.state tx.old).size ≡ tree.size }
+    requires fits { tree.start + tree.blocks ≤ (T.state tx.old).blocks }
+    ensures ended { HasEnded (put_program tree name.now value.now) (T.state tx.old) (T.state tx.new) result }
+    ensures value { IsTrue (is_key name.now) → IfErr result (λ e. e ≢ StoreError.BadValue → IsTrue (is_value value.now)) }
+    ensures cause { IfErr result (IsStoreCause (T.state tx.new) 66 (T.device tx.old) (T.device tx.new)) }
+    ensures unwritten { IfErr result (IsUnwritten (T.state tx.old) (T.state tx.new) 66) }
+    ensures later { IsLater (T.device tx.old) (T.device tx.new) }
+    ensures passed { OnOk result ((T.device tx.new).faults ≡ (T.device tx.old).faults) }
+{
+    put(
+        alloc,
+        tx,
+        Region {
+            start: tree.start,
+            size: tree.blocks,
+        },
+        name,
+        value,
+    )
+}
+
+/// Removes a name.
+pub fn remove_name<T: TxBlocks>(
+    alloc: Global,
+    tx: &mut T,
+    tree: Area,
+    name: &[u8],
+) -> Result<bool, StoreError>
+    requires area { IsTreeArea tree }
+    requires size { (T.state tx.old).size ≡ tree.size }
+    requires fits { tree.start + tree.blocks ≤ (T.state tx.old).blocks }
+    ensures ended { HasEnded (del_program tree name.now) (T.state tx.old) (T.state tx.new) result }
+    ensures known { IsTrue (is_key name.now) → IfErr result (λ e. (e ≢ StoreError.BadKey) × TakesNoBlocks e) }
+    ensures cause { IfErr result (IsStoreCause (T.state tx.new) 1 (T.device tx.old) (T.device tx.new)) }
+    ensures unwritten { OnErr result (HasRead (T.state tx.old) (T.state tx.new)) }
+    ensures later { IsLater (T.device tx.old) (T.device tx.new) }
+    ensures passed { OnOk result ((T.device tx.new).faults ≡ (T.device tx.old).faults) }
+{
+    del(
+        alloc,
+        tx,
+        Region {
+            start: tree.start,
+            size: tree.blocks,
+        },
+        name,
+    )
+}

@@ -1,0 +1,183 @@
+// Another name for a file.
+ghost use Rattle.std.specs.Prelude.{◌≡◌, ◌↔◌, ◌+◌, ◌≤◌, ◌&&◌, Err, IsFalse, true, IfOk, IfErr, OnOk, None};
+ghost use Rattle.store_model.specs.HashCalls.{is_key};
+ghost use Rattle.store_model.specs.TreeRegion.{IsTreeArea};
+ghost use Rattle.tx_blocks.specs.Tx.{IsLater};
+ghost use Rattle.tx_blocks.specs.Runs.{IsLocalCall};
+ghost use Rattle.iso_fs.specs.Ends.{areas_of, may_follow, FsBehaves, HasRun, IsFsCause, IsUnwritten};
+ghost use Rattle.iso_fs.specs.Finds.{drop_name};
+ghost use Rattle.store_model.specs.FileCalls.{rename_found, rename_free, rename_op, rename_program, in_tree};
+ghost use Rattle.store_model.specs.TreeCalls.{get_program};
+ghost use Rattle.store_model.specs.FileRegion.{files, AreFileAreas, AreFileRegions};
+
+use crate::buffers::areas_of;
+use crate::names::{put_value, remove_name, value_of};
+use iso_alloc::is_key;
+use iso_model::Bytes;
+use std::alloc::Global;
+use store_model::{FileAreas, FsError, FsRegion};
+use tx_blocks::TxBlocks;
+
+// Removes the old name.
+fn drop_name<T: TxBlocks>(
+    alloc: Global,
+    tx: &mut T,
+    a: FileAreas,
+    old: &[u8],
+) -> Result<bool, FsError>
+    requires area { IsTreeArea a.tree }
+    requires size { (T.state tx.old).size ≡ a.tree.size }
+    requires fits { a.tree.start + a.tree.blocks ≤ (T.state tx.old).blocks }
+    requires old { is_key old.now ≡ true }
+    ensures run { HasRun (drop_name a old.now) (T.state tx.old) (T.state tx.new) result }
+    ensures follows { IfErr result (λ e. may_follow true e ≡ true) }
+    ensures behaves { FsBehaves true (T.state tx.old) (T.state tx.new) 1 (T.device tx.old) (T.device tx.new) result }
+{
+    match remove_name(alloc, tx, a.tree, old) {
+        Ok(_) => Ok(true),
+        Err(e) => Err(FsError::Store(e)),
+    }
+}
+
+// Puts the value at the new name, and removes the old one.
+fn move_value<T: TxBlocks>(
+    alloc: Global,
+    tx: &mut T,
+    a: FileAreas,
+    old: &[u8],
+    new: &[u8],
+    value: &[u8],
+) -> Result<bool, FsError>
+    requires area { IsTreeArea a.tree }
+    requires size { (T.state tx.old).size ≡ a.tree.size }
+    requires fits { a.tree.start + a.tree.blocks ≤ (T.state tx.old).blocks }
+    requires old { is_key old.now ≡ true }
+    requires new { is_key new.now ≡ true }
+    ensures run { HasRun (rename_free a old.now new.now value.now None) (T.state tx.old) (T.state tx.new) result }
+    ensures behaves { FsBehaves true (T.state tx.old) (T.state tx.new) 66 (T.device tx.old) (T.device tx.new) result }
+{
+    match put_value(alloc, tx, a.tree, new, value) {
+        Ok(()) => drop_name(alloc, tx, a, old),
+        Err(e) => Err(FsError::Store(e)),
+    }
+}
+
+// Moves the value, once it is known what the new name has.
+fn rename_free<T: TxBlocks>(
+    alloc: Global,
+    tx: &mut T,
+    a: FileAreas,
+    old: &[u8],
+    new: &[u8],
+    value: &[u8],
+    found: Option<Bytes>,
+) -> Result<bool, FsError>
+    requires area { IsTreeArea a.tree }
+    requires size { (T.state tx.old).size ≡ a.tree.size }
+    requires fits { a.tree.start + a.tree.blocks ≤ (T.state tx.old).blocks }
+    requires old { is_key old.now ≡ true }
+    requires new { is_key new.now ≡ true }
+    ensures run { HasRun (rename_free a old.now new.now value.now found) (T.state tx.old) (T.state tx.new) result }
+    ensures behaves { FsBehaves true (T.state tx.old) (T.state tx.new) 66 (T.device tx.old) (T.device tx.new) result }
+{
+    match found {
+        Some(_) => Err(FsError::Exists),
+        None => move_value(alloc, tx, a, old, new, value),
+    }
+}
+
+// Moves the value of the old name.
+fn rename_value<T: TxBlocks>(
+    alloc: Global,
+    tx: &mut T,
+    a: FileAreas,
+    old: &[u8],
+    new: &[u8],
+    value: &[u8],
+) -> Result<bool, FsError>
+    requires area { IsTreeArea a.tree }
+    requires size { (T.state tx.old).size ≡ a.tree.size }
+    requires fits { a.tree.start + a.tree.blocks ≤ (T.state tx.old).blocks }
+    requires old { is_key old.now ≡ true }
+    requires new { is_key new.now ≡ true }
+    ensures run { HasRun (in_tree (get_program a.tree new.now) (rename_free a old.now new.now value.now)) (T.state tx.old) (T.state tx.new) result }
+    ensures behaves { FsBehaves true (T.state tx.old) (T.state tx.new) 66 (T.device tx.old) (T.device tx.new) result }
+{
+    match value_of(alloc, tx, a.tree, new) {
+        Ok(found) => rename_free(alloc, tx, a, old, new, value, found),
+        Err(e) => Err(FsError::Store(e)),
+    }
+}
+
+// Renames a file, once it is known what its name has.
+fn rename_found<T: TxBlocks>(
+    alloc: Global,
+    tx: &mut T,
+    a: FileAreas,
+    old: &[u8],
+    new: &[u8],
+    found: Option<Bytes>,
+) -> Result<bool, FsError>
+    requires area { IsTreeArea a.tree }
+    requires size { (T.state tx.old).size ≡ a.tree.size }
+    requires fits { a.tree.start + a.tree.blocks ≤ (T.state tx.old).blocks }
+    requires old { is_key old.now ≡ true }
+    requires new { is_key new.now ≡ true }
+    ensures run { HasRun (rename_found a old.now new.now found) (T.state tx.old) (T.state tx.new) result }
+    ensures behaves { FsBehaves true (T.state tx.old) (T.state tx.new) 66 (T.device tx.old) (T.device tx.new) result }
+{
+    match found {
+        Some(value) => rename_value(alloc, tx, a, old, new, value.as_slice()),
+        None => Ok(false),
+    }
+}
+
+// Renames a file, in these areas.
+fn rename_in<T: TxBlocks>(
+    alloc: Global,
+    tx: &mut T,
+    a: FileAreas,
+    old: &[u8],
+    new: &[u8],
+) -> Result<bool, FsError>
+    requires area { IsTreeArea a.tree }
+    requires size { (T.state tx.old).size ≡ a.tree.size }
+    requires fits { a.tree.start + a.tree.blocks ≤ (T.state tx.old).blocks }
+    requires old { is_key old.now ≡ true }
+    requires new { is_key new.now ≡ true }
+    ensures run { HasRun (rename_program a old.now new.now) (T.state tx.old) (T.state tx.new) result }
+    ensures behaves { FsBehaves true (T.state tx.old) (T.state tx.new) 66 (T.device tx.old) (T.device tx.new) result }
+{
+    match value_of(alloc, tx, a.tree, old) {
+        Ok(found) => rename_found(alloc, tx, a, old, new, found),
+        Err(e) => Err(FsError::Store(e)),
+    }
+}
+
+/// Gives a file another name, and says whether there is one. `BadName` comes exactly where one of the names does not have 1 to 28
+/// bytes, `Exists` where the new one has a file, which may be the same; `NoBlocks` where the tree has too few free blocks, `Broken`
+/// where a call of the tree answers it. A refusal has written nothing, but where the transaction refuses an access, or the removal
+/// of the old name wants memory or finds a broken block behind the put of the new one.
+pub fn rename<T: TxBlocks>(
+    alloc: Global,
+    tx: &mut T,
+    at: FsRegion,
+    old: &[u8],
+    new: &[u8],
+) -> Result<bool, FsError>
+    requires areas { AreFileAreas (areas_of (T.state tx.old) at) }
+    requires fits { at.files.start + at.files.size ≤ (T.state tx.old).blocks }
+    ensures ended { HasRun (rename_program (areas_of (T.state tx.old) at) old.now new.now) (T.state tx.old) (T.state tx.new) result }
+    ensures local { IfOk result (IsLocalCall (AreFileRegions (areas_of (T.state tx.old) at)) (files (areas_of (T.state tx.old) at)) (rename_op old.now new.now) (T.state tx.old) (T.state tx.new)) }
+    ensures bad_name { result ≡ Err FsError.BadName ↔ IsFalse (is_key old.now && is_key new.now) }
+    ensures cause { IfErr result (IsFsCause (T.state tx.new) 66 (T.device tx.old) (T.device tx.new)) }
+    ensures unwritten { IfErr result (IsUnwritten true (T.state tx.old) (T.state tx.new)) }
+    ensures later { IsLater (T.device tx.old) (T.device tx.new) }
+    ensures passed { OnOk result ((T.device tx.new).faults ≡ (T.device tx.old).faults) }
+{
+    if !is_key(old) || !is_key(new) {
+        return Err(FsError::BadName);
+    }
+    let a = areas_of(tx, at);
+    rename_in(alloc, tx, a, old, new)
+}

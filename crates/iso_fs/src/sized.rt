@@ -1,0 +1,67 @@
+// The file block of a file that has grown.
+ghost use Rattle.std.specs.Prelude.{◌≡◌, ◌+◌, ◌-◌, ◌*◌, ◌<◌, ◌≤◌, ◌++◌, ℕ, List, length, map, take, [], ◌∷◌, true};
+ghost use Rattle.std.specs.List.{range_with_len};
+ghost use Rattle.store_model.specs.FileNodes.{data_count, entries_of, entry_at, file_block, is_file};
+
+use crate::buffers::{lay_empty, spelled};
+use crate::file::entry_at;
+use iso_alloc::lay;
+use store_model::Area;
+
+// A file block of so many bytes, with no data blocks yet.
+fn start_file(into: &mut [u8], bytes: u32)
+    requires { 64 ≤ length into.old }
+    ensures { into.new ≡ file_block (length into.old) bytes [] }
+{
+    lay_empty(into);
+    lay(into, 4, &spelled(bytes));
+}
+
+// Adds the number of a data block behind `i` others.
+fn add_entry(into: &mut [u8], i: usize, number: u32)
+    requires { 64 + 4 * i + 4 ≤ length into.old }
+    ensures { (bytes : ℕ) → (es : List ℕ) → length es ≡ i → into.old ≡ file_block (length into.old) bytes es → into.new ≡ file_block (length into.old) bytes (es ++ number ∷ []) }
+{
+    lay(into, 64 + 4 * i, &spelled(number));
+}
+
+// Adds the numbers that another file block has.
+fn add_old(into: &mut [u8], file: &[u8], count: usize)
+    requires into { 64 + 4 * count ≤ length into.old }
+    requires file { 64 + 4 * count ≤ length file.now }
+    ensures { (bytes : ℕ) → into.old ≡ file_block (length into.old) bytes [] → into.new ≡ file_block (length into.old) bytes (map (entry_at file.now) (range_with_len 0 count)) }
+{
+    for i in 0..count {
+        add_entry(into, i, entry_at(file, i));
+    }
+}
+
+// Adds numbers behind `count` others.
+fn add_news(into: &mut [u8], count: usize, news: &[u32])
+    requires { 64 + 4 * (count + length news.now) ≤ length into.old }
+    ensures { (bytes : ℕ) → (es : List ℕ) → length es ≡ count → into.old ≡ file_block (length into.old) bytes es → into.new ≡ file_block (length into.old) bytes (es ++ news.now) }
+{
+    for i in 0..news.len() {
+        add_entry(into, count + i, news[i]);
+    }
+}
+
+/// The file block of a file with so many bytes, which has the data blocks of another one and new ones.
+pub fn lay_sized(
+    area: Area,
+    file: &[u8],
+    count: usize,
+    news: &[u32],
+    bytes: u32,
+    into: &mut [u8],
+)
+    requires count { count ≡ data_count area.size file.now }
+    requires file { 64 + 4 * count ≤ length file.now }
+    requires room { 64 + 4 * (count + length news.now) ≤ area.size }
+    requires into { length into.old ≡ area.size }
+    ensures { into.new ≡ file_block area.size bytes (entries_of area.size file.now ++ news.now) }
+{
+    start_file(into, bytes);
+    add_old(into, file, count);
+    add_news(into, count, news);
+}

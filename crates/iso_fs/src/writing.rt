@@ -1,0 +1,377 @@
+// The write of a file.
+ghost use Rattle.std.specs.Prelude.{◌≡◌, ◌↔◌, ◌+◌, ◌<◌, ◌≤◌, List, ℕ, Err, IsFalse, IsTrue, None, true, false, IfOk, IfErr, IfSome, OnOk, Ok, [], length, nat_le, take};
+ghost use Rattle.store_model.specs.HashCalls.{is_key};
+ghost use Rattle.store_model.specs.FreeMap.{map_bytes, map_mark};
+ghost use Rattle.store_model.specs.Stores.{bytes_in};
+ghost use Rattle.store_model.specs.TreeCalls.{first_write, with_used};
+ghost use Rattle.store_model.specs.TreeRegion.{IsTreeArea};
+ghost use Rattle.tx_blocks.specs.Tx.{IsLater};
+ghost use Rattle.tx_blocks.specs.Runs.{IsLocalCall};
+ghost use Rattle.iso_tree.specs.FirstBlock.{Up};
+ghost use Rattle.iso_tree.specs.Rows.{AreBlocks};
+ghost use Rattle.iso_fs.specs.Ends.{areas_of, FsBehaves, HasRun, IsFsCause, IsOfTx, IsUnwritten};
+ghost use Rattle.iso_fs.specs.Finds.{found_as, on_found};
+ghost use Rattle.iso_fs.specs.Finds.{with_taken};
+ghost use Rattle.store_model.specs.FileCalls.{is_many, with_new, write_op, write_program, write_sized, write_to};
+ghost use Rattle.store_model.specs.FileNodes.{blocks_for, bytes_of, data_count, is_file, most_bytes};
+ghost use Rattle.store_model.specs.FileRegion.{files, AreFileAreas, AreFileRegions};
+
+use crate::buffers::{areas_of, is_many};
+use crate::file::{bytes_of, data_count};
+use crate::find::find;
+use crate::names::region_of;
+use crate::storing::write_pieces;
+use crate::sized::lay_sized;
+use iso_alloc::{buffer, free_blocks, is_key};
+use iso_tree::{map_mark, store_first, take_blocks};
+use std::alloc::Global;
+use store_model::{Area, FileAreas, FsError, FsRegion, StoreError};
+use tx_blocks::{TxBlocks, look, store};
+
+// Writes the file block of a file that grows, and its data.
+fn write_grown<T: TxBlocks>(
+    tx: &mut T,
+    area: Area,
+    number: u32,
+    off: u32,
+    bytes: &[u8],
+    file: &[u8],
+    news: &[u32],
+    into: &mut [u8],
+) -> Result<bool, FsError>
+    requires least { 256 ≤ area.size }
+    requires most { area.size ≤ 4096 }
+    requires size { (T.state tx.old).size ≡ area.size }
+    requires fits { area.start + area.blocks ≤ (T.state tx.old).blocks }
+    requires number { number < area.blocks }
+    requires file { is_file area file.now ≡ true }
+    requires long { length file.now ≡ area.size }
+    requires news { AreBlocks area news.now }
+    requires end { off + length bytes.now ≤ most_bytes area.size }
+    requires count { data_count area.size file.now + length news.now ≡ blocks_for area.size (off + length bytes.now) }
+    requires grows { bytes_of file.now < off + length bytes.now }
+    requires into { length into.old ≡ area.size }
+    ensures run { HasRun (write_sized area off bytes.now number file.now news.now) (T.state tx.old) (T.state tx.new) result }
+    ensures behaves { FsBehaves false (T.state tx.old) (T.state tx.new) 1 (T.device tx.old) (T.device tx.new) result }
+    ensures of_tx { IfErr result IsOfTx }
+{
+    let end = off + bytes.len() as u32;
+    let old = data_count(area, file);
+    lay_sized(area, file, old, news, end, into);
+    if let Err(e) = store(tx, area.start + number, &[], into) {
+        return Err(FsError::Store(StoreError::Tx(e)));
+    }
+    write_pieces(tx, area, file, old, news, off, end, bytes, into)
+}
+
+// Writes the file block where the size changes, and then the data.
+fn write_sized<T: TxBlocks>(
+    tx: &mut T,
+    area: Area,
+    number: u32,
+    off: u32,
+    bytes: &[u8],
+    file: &[u8],
+    news: &[u32],
+    into: &mut [u8],
+) -> Result<bool, FsError>
+    requires least { 256 ≤ area.size }
+    requires most { area.size ≤ 4096 }
+    requires size { (T.state tx.old).size ≡ area.size }
+    requires fits { area.start + area.blocks ≤ (T.state tx.old).blocks }
+    requires number { number < area.blocks }
+    requires file { is_file area file.now ≡ true }
+    requires long { length file.now ≡ area.size }
+    requires news { AreBlocks area news.now }
+    requires end { off + length bytes.now ≤ most_bytes area.size }
+    requires count { bytes_of file.now < off + length bytes.now → data_count area.size file.now + length news.now ≡ blocks_for area.size (off + length bytes.now) }
+    requires none { off + length bytes.now ≤ bytes_of file.now → news.now ≡ [] }
+    requires into { length into.old ≡ area.size }
+    ensures run { HasRun (write_sized area off bytes.now number file.now news.now) (T.state tx.old) (T.state tx.new) result }
+    ensures behaves { FsBehaves false (T.state tx.old) (T.state tx.new) 1 (T.device tx.old) (T.device tx.new) result }
+    ensures of_tx { IfErr result IsOfTx }
+{
+    let end = off + bytes.len() as u32;
+    if bytes_of(file) < end {
+        return write_grown(tx, area, number, off, bytes, file, news, into);
+    }
+    let old = data_count(area, file);
+    write_pieces(tx, area, file, old, news, off, end, bytes, into)
+}
+
+// Writes the map, in which new blocks are taken, and then the file.
+fn write_news<T: TxBlocks>(
+    tx: &mut T,
+    area: Area,
+    number: u32,
+    off: u32,
+    bytes: &[u8],
+    file: &[u8],
+    map: &[u8],
+    news: &[u32],
+    into: &mut [u8],
+) -> Result<bool, FsError>
+    requires area { IsTreeArea area }
+    requires most { area.size ≤ 4096 }
+    requires size { (T.state tx.old).size ≡ area.size }
+    requires fits { area.start + area.blocks ≤ (T.state tx.old).blocks }
+    requires number { number < area.blocks }
+    requires file { is_file area file.now ≡ true }
+    requires long { length file.now ≡ area.size }
+    requires map { length map.now ≡ area.size }
+    requires some { 0 < length news.now }
+    requires rising { Up 1 news.now }
+    requires news { AreBlocks area news.now }
+    requires end { off + length bytes.now ≤ most_bytes area.size }
+    requires grows { bytes_of file.now < off + length bytes.now }
+    requires count { data_count area.size file.now + length news.now ≡ blocks_for area.size (off + length bytes.now) }
+    requires into { length into.old ≡ area.size }
+    ensures run { (first : List ℕ) → take (64 + map_bytes area.blocks) map.now ≡ with_used first news.now → HasRun (first_write area first news.now None (write_sized area off bytes.now number file.now news.now)) (T.state tx.old) (T.state tx.new) result }
+    ensures behaves { FsBehaves false (T.state tx.old) (T.state tx.new) 1 (T.device tx.old) (T.device tx.new) result }
+    ensures of_tx { IfErr result IsOfTx }
+{
+    if let Err(e) = store_first(tx, area, map, news, None, into) {
+        return Err(FsError::Store(StoreError::Tx(e)));
+    }
+    write_sized(tx, area, number, off, bytes, file, news, into)
+}
+
+// Takes new blocks, once the map is read.
+fn write_taken<T: TxBlocks>(
+    tx: &mut T,
+    area: Area,
+    need: u32,
+    number: u32,
+    off: u32,
+    bytes: &[u8],
+    file: &[u8],
+    map: &mut [u8],
+    into: &mut [u8],
+) -> Result<bool, FsError>
+    requires area { IsTreeArea area }
+    requires most { area.size ≤ 4096 }
+    requires size { (T.state tx.old).size ≡ area.size }
+    requires fits { area.start + area.blocks ≤ (T.state tx.old).blocks }
+    requires number { number < area.blocks }
+    requires file { is_file area file.now ≡ true }
+    requires long { length file.now ≡ area.size }
+    requires map { length map.old ≡ area.size }
+    requires some { 1 ≤ need }
+    requires few { need ≤ 16 }
+    requires end { off + length bytes.now ≤ most_bytes area.size }
+    requires grows { bytes_of file.now < off + length bytes.now }
+    requires count { data_count area.size file.now + need ≡ blocks_for area.size (off + length bytes.now) }
+    requires into { length into.old ≡ area.size }
+    ensures run { HasRun (with_taken area need (write_sized area off bytes.now number file.now) (bytes_in (map_mark area.blocks) map.old)) (T.state tx.old) (T.state tx.new) result }
+    ensures behaves { FsBehaves false (T.state tx.old) (T.state tx.new) 1 (T.device tx.old) (T.device tx.new) result }
+{
+    let free = free_blocks(map, region_of(area), 1);
+    if free < need {
+        return Err(FsError::Store(StoreError::NoBlocks { need, free }));
+    }
+    let mut news = [0; 16];
+    take_blocks(map, region_of(area), need as usize, &mut news);
+    write_news(tx, area, number, off, bytes, file, map, &news[..need as usize], into)
+}
+
+// Reads the map, and takes new blocks.
+fn write_new<T: TxBlocks>(
+    tx: &mut T,
+    area: Area,
+    need: u32,
+    number: u32,
+    off: u32,
+    bytes: &[u8],
+    file: &[u8],
+    map: &mut [u8],
+    into: &mut [u8],
+) -> Result<bool, FsError>
+    requires area { IsTreeArea area }
+    requires most { area.size ≤ 4096 }
+    requires size { (T.state tx.old).size ≡ area.size }
+    requires fits { area.start + area.blocks ≤ (T.state tx.old).blocks }
+    requires number { number < area.blocks }
+    requires file { is_file area file.now ≡ true }
+    requires long { length file.now ≡ area.size }
+    requires map { length map.old ≡ area.size }
+    requires some { 1 ≤ need }
+    requires few { need ≤ 16 }
+    requires end { off + length bytes.now ≤ most_bytes area.size }
+    requires grows { bytes_of file.now < off + length bytes.now }
+    requires count { data_count area.size file.now + need ≡ blocks_for area.size (off + length bytes.now) }
+    requires into { length into.old ≡ area.size }
+    ensures run { HasRun (with_new area need (write_sized area off bytes.now number file.now)) (T.state tx.old) (T.state tx.new) result }
+    ensures behaves { FsBehaves false (T.state tx.old) (T.state tx.new) 1 (T.device tx.old) (T.device tx.new) result }
+{
+    if let Err(e) = look(tx, area.start, map_mark(area), map) {
+        return Err(FsError::Store(StoreError::Tx(e)));
+    }
+    write_taken(tx, area, need, number, off, bytes, file, map, into)
+}
+
+// How many blocks so many bytes take.
+fn blocks_for(size: u32, bytes: u32) -> u32
+    requires least { 256 ≤ size }
+    requires most { size ≤ 4096 }
+    requires small { bytes ≤ 4128768 }
+    ensures { result ≡ blocks_for size bytes }
+{
+    (bytes + (size - 1)) / size
+}
+
+// Whether a file may have so many bytes.
+fn is_fit(size: u32, bytes: u32) -> bool
+    requires least { 256 ≤ size }
+    requires most { size ≤ 4096 }
+    ensures { result ≡ nat_le bytes (most_bytes size) }
+{
+    bytes <= (size - 64) / 4 * size
+}
+
+// Writes bytes into a file whose file block is read.
+fn write_to<T: TxBlocks>(
+    tx: &mut T,
+    area: Area,
+    number: u32,
+    off: u32,
+    bytes: &[u8],
+    file: &[u8],
+    map: &mut [u8],
+    into: &mut [u8],
+) -> Result<bool, FsError>
+    requires area { IsTreeArea area }
+    requires most { area.size ≤ 4096 }
+    requires size { (T.state tx.old).size ≡ area.size }
+    requires fits { area.start + area.blocks ≤ (T.state tx.old).blocks }
+    requires number { number < area.blocks }
+    requires file { is_file area file.now ≡ true }
+    requires long { length file.now ≡ area.size }
+    requires some { 1 ≤ length bytes.now }
+    requires few { length bytes.now ≤ 4096 }
+    requires map { length map.old ≡ area.size }
+    requires into { length into.old ≡ area.size }
+    ensures run { HasRun (write_to area off bytes.now number file.now) (T.state tx.old) (T.state tx.new) result }
+    ensures behaves { FsBehaves false (T.state tx.old) (T.state tx.new) 1 (T.device tx.old) (T.device tx.new) result }
+{
+    if bytes_of(file) < off {
+        return Err(FsError::BadRange);
+    }
+    let end = off + bytes.len() as u32;
+    if !is_fit(area.size, end) {
+        return Err(FsError::BadRange);
+    }
+    let old = data_count(area, file) as u32;
+    let now = blocks_for(area.size, end);
+    if now <= old {
+        return write_sized(tx, area, number, off, bytes, file, &[], into);
+    }
+    write_new(tx, area, now - old, number, off, bytes, file, map, into)
+}
+
+// Writes bytes into a file, once its file block was looked for.
+fn write_found<T: TxBlocks>(
+    tx: &mut T,
+    area: Area,
+    found: Option<u32>,
+    off: u32,
+    bytes: &[u8],
+    file: &[u8],
+    map: &mut [u8],
+    into: &mut [u8],
+) -> Result<bool, FsError>
+    requires area { IsTreeArea area }
+    requires most { area.size ≤ 4096 }
+    requires size { (T.state tx.old).size ≡ area.size }
+    requires fits { area.start + area.blocks ≤ (T.state tx.old).blocks }
+    requires found { IfSome found (λ number. (number < area.blocks) × IsTrue (is_file area file.now)) }
+    requires long { length file.now ≡ area.size }
+    requires some { 1 ≤ length bytes.now }
+    requires few { length bytes.now ≤ 4096 }
+    requires map { length map.old ≡ area.size }
+    requires into { length into.old ≡ area.size }
+    ensures run { HasRun (on_found false (write_to area off bytes.now) (found_as file.now (Ok found))) (T.state tx.old) (T.state tx.new) result }
+    ensures behaves { FsBehaves false (T.state tx.old) (T.state tx.new) 1 (T.device tx.old) (T.device tx.new) result }
+{
+    match found {
+        Some(number) => write_to(tx, area, number, off, bytes, file, map, into),
+        None => Ok(false),
+    }
+}
+
+// Writes bytes into the file of a name, with buffers for three blocks.
+fn write_with<T: TxBlocks>(
+    alloc: Global,
+    tx: &mut T,
+    a: FileAreas,
+    name: &[u8],
+    off: u32,
+    bytes: &[u8],
+    file: &mut [u8],
+    map: &mut [u8],
+    into: &mut [u8],
+) -> Result<bool, FsError>
+    requires areas { AreFileAreas a }
+    requires most { a.files.size ≤ 4096 }
+    requires size { (T.state tx.old).size ≡ a.files.size }
+    requires fits { a.files.start + a.files.blocks ≤ (T.state tx.old).blocks }
+    requires name { is_key name.now ≡ true }
+    requires some { 1 ≤ length bytes.now }
+    requires few { length bytes.now ≤ 4096 }
+    requires file { length file.old ≡ a.files.size }
+    requires map { length map.old ≡ a.files.size }
+    requires into { length into.old ≡ a.files.size }
+    ensures run { HasRun (write_program a name.now off bytes.now) (T.state tx.old) (T.state tx.new) result }
+    ensures behaves { FsBehaves false (T.state tx.old) (T.state tx.new) 1 (T.device tx.old) (T.device tx.new) result }
+{
+    match find(alloc, tx, a, name, file) {
+        Ok(found) => write_found(tx, a.files, found, off, bytes, file, map, into),
+        Err(e) => Err(e),
+    }
+}
+
+/// Writes bytes into a file from `off` on, which grows where they pass its end, and says whether the name has a file. `BadName` comes
+/// exactly where the name does not have 1 to 28 bytes, else `BadRange` where there are not 1 to 4,096 bytes, `off` is above the
+/// file's size, or the file would have more bytes than it may; `NoBlocks` where fewer blocks are free than are needed; `Broken` where
+/// a call of the tree answers it, the value names no file block, or that is not well formed. But where the transaction refuses an
+/// access, a refusal has written nothing.
+pub fn write<T: TxBlocks>(
+    alloc: Global,
+    tx: &mut T,
+    at: FsRegion,
+    name: &[u8],
+    off: u32,
+    bytes: &[u8],
+) -> Result<bool, FsError>
+    requires areas { AreFileAreas (areas_of (T.state tx.old) at) }
+    requires fits { at.files.start + at.files.size ≤ (T.state tx.old).blocks }
+    ensures ended { HasRun (write_program (areas_of (T.state tx.old) at) name.now off bytes.now) (T.state tx.old) (T.state tx.new) result }
+    ensures local { IfOk result (IsLocalCall (AreFileRegions (areas_of (T.state tx.old) at)) (files (areas_of (T.state tx.old) at)) (write_op name.now off bytes.now) (T.state tx.old) (T.state tx.new)) }
+    ensures bad_name { result ≡ Err FsError.BadName ↔ IsFalse (is_key name.now) }
+    ensures bad_range { IsTrue (is_key name.now) → IsFalse (is_many (length bytes.now)) → (result ≡ Err FsError.BadRange) × (T.state tx.new ≡ T.state tx.old) }
+    ensures cause { IfErr result (IsFsCause (T.state tx.new) 1 (T.device tx.old) (T.device tx.new)) }
+    ensures unwritten { IfErr result (IsUnwritten false (T.state tx.old) (T.state tx.new)) }
+    ensures later { IsLater (T.device tx.old) (T.device tx.new) }
+    ensures passed { OnOk result ((T.device tx.new).faults ≡ (T.device tx.old).faults) }
+{
+    if !is_key(name) {
+        return Err(FsError::BadName);
+    }
+    if !is_many(bytes.len()) {
+        return Err(FsError::BadRange);
+    }
+    let a = areas_of(tx, at);
+    let size = a.files.size as usize;
+    let mut file = match buffer(alloc, size) {
+        Ok(file) => file,
+        Err(e) => return Err(FsError::Store(e)),
+    };
+    let mut map = match buffer(alloc, size) {
+        Ok(map) => map,
+        Err(e) => return Err(FsError::Store(e)),
+    };
+    let mut into = match buffer(alloc, size) {
+        Ok(into) => into,
+        Err(e) => return Err(FsError::Store(e)),
+    };
+    write_with(alloc, tx, a, name, off, bytes, &mut file, &mut map, &mut into)
+}

@@ -1,0 +1,10 @@
+use Rattle.store_laws.specs.Files.{file_store}
+use Rattle.store_laws.specs.FileBlocks.{files_are_of_their_blocks}
+use Rattle.store_laws.proofs.Histories.{commits_in_order, read_only_at}
+use Rattle.store_laws.proofs.file_laws.committed_file_calls_answer_in_order.Goals as goal
+
+pub returns-clause-history : goal.returns-clause-history
+returns-clause-history _ = λ a g H n areas. commits_in_order (file_store a) (files_are_of_their_blocks a areas) g H n
+
+pub returns-clause-read_only : goal.returns-clause-read_only
+returns-clause-read_only _ = λ a g H n begin parts areas. read_only_at (file_store a) (files_are_of_their_blocks a areas) g H n begin parts

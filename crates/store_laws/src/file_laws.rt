@@ -1,0 +1,75 @@
+// The laws of stores, at the file store, and at a hash store and a file store that one transaction calls.
+ghost use Rattle.std.specs.Prelude.{◌≡◌, ℕ, Bool, ◌<◌, ◌≤◌, ◌+◌, ◌-◌, IfSome, IsFalse, List, [], ◌∷◌, ◌++◌, Ok, Option, map, replicate, slice_get};
+ghost use Rattle.std.specs.FinMap.{empty};
+ghost use Rattle.iso_model.specs.declared.access.Geometry.{Geometry};
+ghost use Rattle.iso_model.specs.Array.{zeros, Array};
+ghost use Rattle.iso_model.specs.Effect.{has_write, own};
+ghost use Rattle.iso_model.specs.History.{array_at, last, History};
+ghost use Rattle.iso_model.specs.Premises.{block_at};
+ghost use Rattle.store_model.specs.declared.stores.Area.{Area};
+ghost use Rattle.store_model.specs.declared.files.FileAreas.{FileAreas};
+ghost use Rattle.store_model.specs.HashRegion.{IsHashArea};
+ghost use Rattle.store_model.specs.FileCalls.{create_op, create_program, read_op, read_program, remove_op, remove_program, rename_op, rename_program, write_op, write_program};
+ghost use Rattle.store_model.specs.FileRegion.{files, AreFileAreas, AreFileRegions};
+ghost use Rattle.tx_blocks.specs.Runs.{IsLocalCall};
+ghost use Rattle.tx_blocks.specs.Tx.{added, Tx};
+ghost use Rattle.iso_fs.specs.Ends.{HasRun};
+ghost use Rattle.store_laws.specs.Both.{firsts, AreMixed, BothByMap, BothInOrder, BothWellFormed, IsByBoth, IsOfBoth, Mixed};
+ghost use Rattle.store_laws.specs.Calls.{KeyCall, StoreAnswer};
+ghost use Rattle.store_laws.specs.Files.{file_act, file_store, FileAnswer, FileCall, FileMade, FileRead, FileThere, MakeFile, ReadFile, RemoveFile, RenameFile, WriteFile};
+ghost use Rattle.store_laws.specs.Growing.{IsMadeOf};
+ghost use Rattle.store_laws.specs.Hash.{hash_store};
+ghost use Rattle.store_laws.specs.Parts.{accesses_in, answers_in, calls_in, AnswerInOrder, AreMade, Called, IsByCalls, IsOfCalls, Part};
+
+/// Where commits write the regions of a file store by `create`, `write`, `read`, `rename` and `remove` that answered Ok alone, and they
+/// begin well formed, the calls of each commit answer as one thread's calls on a finite map from names to bytes: it begins as the map of
+/// the array directly before the commit, and ends as the map of the array directly after it. A call of the tree store writes blocks of
+/// the file store's directory: the tree region belongs to the file calls.
+pub fn committed_file_calls_answer_in_order()
+    ensures history { (a : FileAreas) (g : Geometry) (H : History) (n : ℕ) → AreFileAreas a → IsByCalls (file_store a) g H n → (k : ℕ) → n < k → k ≤ last H
+        → IfSome (slice_get H.commits (k - H.first)) (λ c. (of : IsOfCalls (file_store a) H c) → AnswerInOrder (file_store a) of.parts (array_at H (k - 1)) (array_at H k)) }
+    ensures read_only { (a : FileAreas) (g : Geometry) (H : History) (n begin : ℕ) (parts : List (Part FileCall FileAnswer)) → AreFileAreas a → IsByCalls (file_store a) g H n
+        → n ≤ begin → begin ≤ last H → AreMade (file_store a) (array_at H begin) parts → IsFalse (has_write (accesses_in parts))
+        → answers_in parts ≡ map (λ call. (file_act call (files a (array_at H begin))).0) (calls_in parts) }
+{}
+
+/// What the calls of the file store promise of an answer Ok, that they made the accesses of their program and are local, makes them
+/// parts of their transaction.
+pub fn file_calls_are_parts()
+    ensures made { (a : FileAreas) (name : List ℕ) (A : Array) (t u : Tx) (parts : List (Part FileCall FileAnswer)) (r : Unit {0}) → IsMadeOf (file_store a) A t parts
+        → HasRun (create_program a name) t u (Ok r) → IsLocalCall (AreFileRegions a) (files a) (create_op name) t u r
+        → IsMadeOf (file_store a) A u (parts ++ Called (MakeFile name) (added t u) FileMade ∷ []) }
+    ensures was_read { (a : FileAreas) (name : List ℕ) (off len : ℕ) (A : Array) (t u : Tx) (parts : List (Part FileCall FileAnswer)) (r : Option (List ℕ)) → IsMadeOf (file_store a) A t parts
+        → HasRun (read_program a name off len) t u (Ok r) → IsLocalCall (AreFileRegions a) (files a) (read_op name off len) t u r
+        → IsMadeOf (file_store a) A u (parts ++ Called (ReadFile name off len) (added t u) (FileRead r) ∷ []) }
+    ensures was_written { (a : FileAreas) (name : List ℕ) (off : ℕ) (bytes : List ℕ) (A : Array) (t u : Tx) (parts : List (Part FileCall FileAnswer)) (r : Bool) → IsMadeOf (file_store a) A t parts
+        → HasRun (write_program a name off bytes) t u (Ok r) → IsLocalCall (AreFileRegions a) (files a) (write_op name off bytes) t u r
+        → IsMadeOf (file_store a) A u (parts ++ Called (WriteFile name off bytes) (added t u) (FileThere r) ∷ []) }
+    ensures renamed { (a : FileAreas) (old new : List ℕ) (A : Array) (t u : Tx) (parts : List (Part FileCall FileAnswer)) (r : Bool) → IsMadeOf (file_store a) A t parts
+        → HasRun (rename_program a old new) t u (Ok r) → IsLocalCall (AreFileRegions a) (files a) (rename_op old new) t u r
+        → IsMadeOf (file_store a) A u (parts ++ Called (RenameFile old new) (added t u) (FileThere r) ∷ []) }
+    ensures removed { (a : FileAreas) (name : List ℕ) (A : Array) (t u : Tx) (parts : List (Part FileCall FileAnswer)) (r : Bool) → IsMadeOf (file_store a) A t parts
+        → HasRun (remove_program a name) t u (Ok r) → IsLocalCall (AreFileRegions a) (files a) (remove_op name) t u r
+        → IsMadeOf (file_store a) A u (parts ++ Called (RemoveFile name) (added t u) (FileThere r) ∷ []) }
+{}
+
+/// Regions of zeros are well formed and hold no file; so are those of a new image.
+pub fn blank_file_regions_are_empty()
+    ensures blank { (a : FileAreas) (A : Array) → AreFileAreas a → ((k : ℕ) → k < a.tree.blocks → block_at A (a.tree.start + k) ≡ replicate a.tree.size 0)
+        → ((k : ℕ) → k < a.files.blocks → block_at A (a.files.start + k) ≡ replicate a.files.size 0) → AreFileRegions a A × (files a A ≡ empty) }
+    ensures made { (a : FileAreas) (n : ℕ) → AreFileAreas a → a.files.start + a.files.blocks ≤ n → AreFileRegions a (zeros a.tree.size n) × (files a (zeros a.tree.size n) ≡ empty) }
+{}
+
+/// The same of a hash store and a file store that one transaction calls, each by its own map.
+pub fn calls_of_hash_and_files_answer_in_order()
+    ensures history { (a : Area) (b : FileAreas) (g : Geometry) (H : History) (n : ℕ) → IsHashArea a → AreFileAreas b → IsByBoth (hash_store a) (file_store b) g H n → (k : ℕ) → n < k → k ≤ last H
+        → IfSome (slice_get H.commits (k - H.first))
+        (λ c. (of : IsOfBoth (hash_store a) (file_store b) H c) → BothInOrder (hash_store a) (file_store b) of.parts (array_at H (k - 1)) (array_at H k)) }
+    ensures well_formed { (a : Area) (b : FileAreas) (g : Geometry) (H : History) (n m : ℕ) → IsHashArea a → AreFileAreas b → IsByBoth (hash_store a) (file_store b) g H n → n ≤ m → m ≤ last H
+        → BothWellFormed (hash_store a) (file_store b) (array_at H m) }
+    ensures live { (a : Area) (b : FileAreas) (A : Array) (parts : List (Mixed KeyCall StoreAnswer FileCall FileAnswer)) → IsHashArea a → AreFileAreas b → AreMixed (hash_store a) (file_store b) A parts
+        → BothWellFormed (hash_store a) (file_store b) A → BothInOrder (hash_store a) (file_store b) parts A (own A (accesses_in (firsts parts))) }
+    ensures read_only { (a : Area) (b : FileAreas) (g : Geometry) (H : History) (n begin : ℕ) (parts : List (Mixed KeyCall StoreAnswer FileCall FileAnswer)) → IsHashArea a → AreFileAreas b → IsByBoth (hash_store a) (file_store b) g H n
+        → n ≤ begin → begin ≤ last H → AreMixed (hash_store a) (file_store b) (array_at H begin) parts → IsFalse (has_write (accesses_in (firsts parts)))
+        → BothByMap (hash_store a) (file_store b) parts (array_at H begin) }
+{}
