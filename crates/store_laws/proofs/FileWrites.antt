@@ -8,7 +8,7 @@ use Rattle.store_model.specs.declared.files.FileAreas.{FileAreas}
 use Rattle.store_model.specs.declared.files.FsError.{FsError}
 use Rattle.store_model.specs.TreeCalls.{del_program, get_program, put_program}
 use Rattle.store_model.specs.FileNodes.{blocks_for, bytes_of, data_count, entries_of, entry_at, is_file, is_handed, is_number, most_bytes, number_of}
-use Rattle.store_model.specs.FileCalls.{Call, at_file, create_at, create_new, create_program, goes_on, in_tree, numbered, read_program, remove_file, remove_program, remove_writes, rename_found, rename_free, rename_program, with_file, with_new, write_pieces, write_program, write_sized, write_to}
+use Rattle.store_model.specs.FileCalls.{Call, at_file, create_at, create_new, create_program, goes_on, in_tree, is_many, numbered, read_program, remove_file, remove_program, remove_writes, rename_found, rename_free, rename_program, with_file, with_new, write_pieces, write_program, write_sized, write_to}
 use Rattle.store_model.specs.FileRegion.{AreFileAreas}
 use Rattle.tx_blocks.proofs.Programs.{accesses_then}
 use Rattle.iso_tree.proofs.TreeWrites.{del_program_stores, put_program_stores}
@@ -143,21 +143,24 @@ module _ (a : FileAreas) where
         let are = taken_are a.files first (suc more) (let l = areas.least in omega arith) (grind (arith, nat_tests)) in
         store_in a.files.start _ _ _ of_first (each (take (suc more) (free_list a.files first)) are.below)))
 
+    to_in : (off : ℕ) (bytes : List ℕ) (number : ℕ) (file : List ℕ) → number < a.files.blocks → is_file a.files file ≡ true → WritesIn a (write_to a.files off bytes number file)
+    to_in off bytes number file below good =
+        cond_in (nat_le off (bytes_of file) && nat_le (off + length bytes) (most_bytes a.files.size)) _ _
+        (λ fits. taken_in (blocks_for a.files.size (off + length bytes) - data_count a.files.size file) (write_sized a.files off bytes number file) (λ news each. sized_in off bytes number file news below good each)) (λ bad. done_in _)
+
     pub write_in : (name : List ℕ) (off : ℕ) (bytes : List ℕ) → WritesIn a (write_program a name off bytes)
     unfolding write_program
     write_in name off bytes =
         cond_in (is_key name) _ _
-        (λ key. cond_in _ _ _
-        (λ many. tree_in (get_program a.tree name) _ (get_in name) (found_in false (write_to a.files off bytes) (λ number file below good.
-        cond_in _ _ _ (λ fits. taken_in _ (write_sized a.files off bytes number file) (λ news each. sized_in off bytes number file news below good each)) (λ bad. done_in _))))
-        (λ few. done_in _)) (λ bad. done_in _)
+        (λ key. cond_in (is_many (length bytes)) _ _
+        (λ many. tree_in (get_program a.tree name) (at_file a false (write_to a.files off bytes)) (get_in name) (found_in false (write_to a.files off bytes) (to_in off bytes))) (λ few. done_in _)) (λ bad. done_in _)
 
     -- REMOVE
     pub remove_in : (name : List ℕ) → WritesIn a (remove_program a name)
     unfolding remove_program
     remove_in name =
         cond_in (is_key name) _ _
-        (λ key. tree_in (get_program a.tree name) _ (get_in name) (found_in false (remove_file a name) (λ number file below good.
+        (λ key. tree_in (get_program a.tree name) (at_file a false (remove_file a name)) (get_in name) (found_in false (remove_file a name) (λ number file below good.
         look_in a.files.start _ _ _ (λ first none. tree_in (del_program a.tree name) (remove_writes a.files number file first) (del_in name) (λ there. store_in a.files.start _ _ _ of_first (done_in _))))))
         (λ bad. done_in _)
 
