@@ -4,11 +4,10 @@ use Rattle.std.specs.FinMap.{get}
 use Rattle.iso_model.specs.declared.access.Access.{Access}
 use Rattle.store_model.specs.declared.stores.Area.{Area}
 use Rattle.store_model.specs.declared.stores.StoreError.{StoreError}
-use Rattle.store_model.specs.declared.stores.StoreError.TheVariants.{Broken}
 use Rattle.iso_model.specs.Array.{Array}
 use Rattle.iso_model.specs.Effect.{own}
 use Rattle.store_model.specs.HashCalls.{is_key}
-use Rattle.store_model.specs.Stores.{AreReads, Done, LookWhole, Program, accesses_of, answer_of, look_access, then_do}
+use Rattle.store_model.specs.Stores.{AreReads, LookWhole, Program, accesses_of, answer_of, then_do}
 use Rattle.store_model.specs.TreeCalls.{get_program}
 use Rattle.store_model.specs.TreeRegion.{IsTreeRegion, tree_map}
 use Rattle.tx_blocks.proofs.Programs.{AreWhole, accesses_then, answer_then, own_reads, reads_append, whole_reads}
@@ -16,12 +15,10 @@ use Rattle.tx_blocks.proofs.Progress.{own_append}
 use Rattle.iso_tree.proofs.DelCalls.{whole_append}
 use Rattle.iso_tree.proofs.Gets.{get_answers, get_reads}
 use Rattle.iso_tree.proofs.Reading.{cond_reads}
-use Rattle.store_model.specs.declared.files.FsError.{FsError}
-use Rattle.store_model.specs.declared.files.FsError.TheVariants as fs
 use Rattle.store_model.specs.declared.files.FileAreas.{FileAreas}
 use Rattle.store_model.specs.FileNodes.{is_file, is_number, number_of}
 use Rattle.store_model.specs.FileCalls.{Call, at_file, broken, goes_on, in_tree, with_file}
-use Rattle.store_model.specs.FileRegion.{AreFileRegions, file_at, number_at}
+use Rattle.store_model.specs.FileRegion.{AreFileRegions, file_at}
 
 -- what a program leaves, and then what follows it
 pub own_then : {R S : Type 0} (p : Program R) (f : R → Program S) (A : Array)
@@ -82,7 +79,6 @@ module _ {Y : Type 0} (a : FileAreas) (A : Array) (regions : AreFileRegions a A)
 
   good_file : is_file a.files file ≡ true
   good_file = regions.files name number (ap (Rattle.std.proofs.Common.option_map number_of) named)
-
 
   pub answer_at_file : answer_of (with_file a next value) A ≡ answer_of (next number file) A
   answer_at_file = (λ i. answer_of (cond (good_number i) (LookWhole (a.files.start + number) (λ bytes. cond (is_file a.files bytes) (next number bytes) (broken (a.files.start + number)))) (broken a.tree.start)) A)

@@ -1,30 +1,25 @@
 -- A create is local.
-use Rattle.std.proofs.Common.{◌≡◌, ◌∙◌, sym, refl, ap, subst, ℕ, zero, suc, ◌+◌, ◌-◌, ◌<◌, ◌≤◌, Bool, true, false, cond, List, [], ◌∷◌, ◌++◌, length, Option, Some, None, Result, Ok, Err, arith}
+use Rattle.std.proofs.Common.{◌≡◌, ◌∙◌, sym, refl, ap, subst, ℕ, ◌+◌, ◌-◌, ◌<◌, ◌≤◌, Bool, true, cond, List, [], ◌∷◌, length, Option, Some, None, Result, Ok, Err, arith}
 use Rattle.std.specs.FinMap.{get, insert}
 use Rattle.std.specs.Int.{w32, to_be_bytes}
-use Rattle.iso_model.specs.declared.access.Access.{Access}
 use Rattle.store_model.specs.declared.stores.StoreError.{StoreError}
 use Rattle.store_model.specs.declared.stores.StoreError.TheVariants.{NoBlocks}
 use Rattle.iso_model.specs.Array.{Array, put}
 use Rattle.iso_model.specs.Effect.{own}
-use Rattle.store_model.specs.Cells.{block_with}
-use Rattle.store_model.specs.FreeMap.{bit_mark, bit_place, lowest_free, map_mark, set_bit}
+use Rattle.store_model.specs.FreeMap.{bit_place, lowest_free, map_mark, set_bit}
 use Rattle.store_model.specs.HashCalls.{is_key}
 use Rattle.iso_model.specs.Premises.{block_at}
-use Rattle.store_model.specs.Stores.{Done, IsLocal, Program, Store, accesses_of, answer_of, bytes_in, store_access}
+use Rattle.store_model.specs.Stores.{IsLocal, accesses_of, answer_of, bytes_in}
 use Rattle.store_model.specs.TreeCalls.{get_program, put_program}
 use Rattle.store_model.specs.TreeRegion.{tree_map}
-use Rattle.iso_model.proofs.Bytes.{length-block_own}
 use Rattle.tx_blocks.proofs.Programs.{AreWhole, IsCorrect, accesses_then, answer_then, local_from}
 use Rattle.iso_tree.proofs.DelCalls.{HasBlocks, whole_append}
 use Rattle.iso_tree.proofs.Facts.{nothing_is}
-use Rattle.iso_tree.proofs.NewBlocks.{sizes_of}
 use Rattle.iso_tree.proofs.PutWhole.{put_whole}
 use Rattle.store_model.specs.declared.files.FsError.{FsError}
 use Rattle.store_model.specs.declared.files.FsError.TheVariants as fs
 use Rattle.store_model.specs.declared.files.FileAreas.{FileAreas}
-use Rattle.store_model.specs.FileNodes.{file_block}
-use Rattle.store_model.specs.FileCalls.{Call, create_at, create_new, create_op, create_program, empty_writes, goes_on, in_tree, look_map, refuse}
+use Rattle.store_model.specs.FileCalls.{Call, create_at, create_new, create_op, create_program, empty_writes, goes_on, in_tree, refuse}
 use Rattle.store_model.specs.FileRegion.{AreFileAreas, AreFileRegions, files}
 use Rattle.iso_fs.proofs.AfterTree.{answer_got, own_got, own_then, whole_behind_get}
 use Rattle.iso_fs.proofs.Creates.{HasCreated, created}

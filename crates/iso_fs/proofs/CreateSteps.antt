@@ -1,10 +1,9 @@
 -- A create, part by part.
-use Rattle.std.proofs.Common.{◌≡◌, ◌≢◌, ◌∙◌, sym, refl, ap, subst, ℕ, zero, suc, ◌+◌, ◌-◌, ◌*◌, ◌%◌, ◌<◌, ◌≤◌, ◌==◌, Bool, true, false, not, cond, List, [], ◌∷◌, length, get_or, Option, Some, None, Result, Ok, Err, IfOk, arith}
+use Rattle.std.proofs.Common.{◌≡◌, ◌∙◌, sym, refl, ap, subst, ℕ, zero, suc, ◌+◌, ◌-◌, ◌%◌, ◌<◌, ◌≤◌, ◌==◌, Bool, true, false, not, cond, List, [], ◌∷◌, length, get_or, Option, Some, None, Result, Ok, Err, IfOk, arith}
 use Rattle.std.specs.Option.{ForSome}
 use Rattle.std.specs.Int.{w32, to_be_bytes}
 use Rattle.std.proofs.lemmas.List.{get_or-take, get_or-set_same}
 use Rattle.iso_model.specs.declared.access.Access.{Access}
-use Rattle.store_model.specs.declared.stores.Area.{Area}
 use Rattle.store_model.specs.declared.stores.StoreError.{StoreError}
 use Rattle.store_model.specs.declared.stores.StoreError.TheVariants as store
 use Rattle.store_model.specs.declared.stores.TxError.{TxError}
@@ -12,14 +11,13 @@ use Rattle.iso_model.specs.Array.{Array}
 use Rattle.iso_model.specs.Conflict.{first_from}
 use Rattle.iso_model.specs.Effect.{own}
 use Rattle.store_model.specs.Cells.{block_with}
-use Rattle.store_model.specs.FreeMap.{bit_mark, bit_place, lowest_free, map_bit, map_bytes, map_mark, set_bit, with_bit}
+use Rattle.store_model.specs.FreeMap.{bit_mark, bit_place, lowest_free, map_bytes, map_mark, set_bit, with_bit}
 use Rattle.store_model.specs.HashCalls.{is_key}
 use Rattle.iso_model.specs.Premises.{block_at}
-use Rattle.store_model.specs.Stores.{Done, IsLocal, Look, Program, Store, bytes_in, look_access, store_access}
+use Rattle.store_model.specs.Stores.{Done, IsLocal, Store, bytes_in, look_access, store_access}
 use Rattle.store_model.specs.TreeCalls.{get_program, put_program}
-use Rattle.iso_model.proofs.Bytes.{length-block_own}
 use Rattle.tx_blocks.specs.Tx.{Tx, Device, IsTx, with_accesses}
-use Rattle.tx_blocks.specs.Runs.{HasEnded, IsCause, IsLocalCall, Ran}
+use Rattle.tx_blocks.specs.Runs.{HasEnded, IsCause, IsLocalCall}
 use Rattle.tx_blocks.proofs.Progress.{HasAccess, IsAt, at_look, at_start, at_store, ran_at, whole_run}
 use Rattle.tx_blocks.proofs.Refusals.{cut_at_look, cut_at_store}
 use Rattle.iso_tree.proofs.Removing.{blocks_in}

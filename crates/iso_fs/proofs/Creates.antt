@@ -1,5 +1,5 @@
 -- A new file is that of the files.
-use Rattle.std.proofs.Common.{◌≡◌, ◌≢◌, ◌⊎◌, ◌∙◌, sym, refl, ap, subst, ℕ, zero, suc, ◌+◌, ◌-◌, ◌*◌, ◌/◌, ◌^◌, ◌<◌, ◌≤◌, Bool, true, false, ◌||◌, ◌==◌, cond, IsTrue, List, [], ◌∷◌, ◌++◌, length, get_or, take, map, Option, Some, None, option_map, Result, Ok, Err, arith, inl, inr, eq-eqb, ne_eqb}
+use Rattle.std.proofs.Common.{◌≡◌, ◌≢◌, ◌⊎◌, ◌∙◌, sym, refl, ap, subst, ℕ, ◌+◌, ◌*◌, ◌<◌, ◌≤◌, Bool, true, false, ◌||◌, ◌==◌, cond, List, [], ◌∷◌, length, get_or, take, map, Option, Some, None, option_map, Ok, arith, inl, inr, eq-eqb, ne_eqb}
 use Rattle.std.specs.List.{list_all}
 use Rattle.std.specs.FinMap.{get, insert, same_map, slice_cmp-IsAntisymmetric, nat_cmp-IsAntisymmetric}
 use Rattle.std.specs.Cmp.Lexicographic.{nat_list_cmp_total}
@@ -12,7 +12,7 @@ use Rattle.iso_model.specs.Array.{Array, merged, put}
 use Rattle.iso_model.specs.Effect.{own}
 use Rattle.store_model.specs.Cells.{block_with, is_zero}
 use Rattle.store_model.specs.FreeMap.{bit_mark, bit_place, map_bit, map_bytes, map_mark, set_bit}
-use Rattle.store_model.specs.HashCalls.{is_key, is_value}
+use Rattle.store_model.specs.HashCalls.{is_key}
 use Rattle.iso_model.specs.Premises.{block_at}
 use Rattle.store_model.specs.Stores.{accesses_of, answer_of, bytes_in, store_access}
 use Rattle.store_model.specs.TreeCalls.{put_program}
@@ -28,9 +28,9 @@ use Rattle.store_model.specs.FileRegion.{AreFileAreas, AreFileRegions, IsUsed, U
 use Rattle.store_model.specs.Areas.{in_area}
 use Rattle.iso_fs.proofs.Files.{uses_handed}
 use Rattle.iso_fs.proofs.Kept.{kept_content, kept_uses, same_some, still_uses}
-use Rattle.iso_fs.proofs.Lookups.{files_get, insert_get, name_is, name_other, name_self, same_name}
+use Rattle.iso_fs.proofs.Lookups.{files_get, insert_get, name_is, name_self, same_name}
 use Rattle.iso_fs.proofs.MapByte.{IsFree, byte_far, byte_here, head_far, map_byte}
-use Rattle.iso_fs.proofs.NewFile.{empty_file, empty_is_file, length-empty_file, no_bytes_of, no_data_of}
+use Rattle.iso_fs.proofs.NewFile.{empty_file, empty_is_file, length-empty_file, no_data_of}
 use Rattle.tx_blocks.proofs.Storing.{kept_outside}
 use Rattle.iso_tree.proofs.TreeBlocks.{map_new, region_new}
 use Rattle.iso_tree.proofs.TreeWrites.{put_program_stores}

@@ -1,12 +1,10 @@
 -- A call of the file store that is made of parts.
-use Rattle.std.proofs.Common.{◌≡◌, ◌≢◌, ◌∙◌, sym, refl, ap, subst, ℕ, ◌+◌, ◌<◌, ◌≤◌, Bool, true, false, length, Some, Result, Ok, Err, inr, arith, length-append}
+use Rattle.std.proofs.Common.{◌≡◌, ◌≢◌, ◌∙◌, sym, refl, ap, subst, ℕ, ◌+◌, ◌≤◌, Bool, true, false, length, Some, Result, Ok, Err, inr, arith, length-append}
 use Rattle.std.specs.Prelude.{IfErr}
 use Rattle.std.proofs.lemmas.Bool.{false≢true}
 use Rattle.store_model.specs.declared.stores.StoreError.{StoreError}
 use Rattle.store_model.specs.declared.stores.StoreError.TheVariants as store
 use Rattle.store_model.specs.declared.stores.TxError.{TxError}
-use Rattle.store_model.specs.declared.stores.TxError.TheVariants as error
-use Rattle.iso_model.specs.Array.{Array}
 use Rattle.iso_model.specs.Effect.{own}
 use Rattle.store_model.specs.Stores.{Program, accesses_of, answer_of, then_do}
 use Rattle.tx_blocks.specs.Tx.{Tx, Device, IsLater}
@@ -19,7 +17,7 @@ use Rattle.tx_blocks.proofs.Parts.{cut_from, ends_from, read_join, stopped_from}
 use Rattle.store_model.specs.declared.files.FsError.{FsError}
 use Rattle.store_model.specs.declared.files.FsError.TheVariants as fs
 use Rattle.store_model.specs.FileCalls.{Call, goes_on, in_tree}
-use Rattle.iso_fs.specs.Ends.{FsBehaves, HasRefused, HasRun, IsFsCause, IsOfTx, IsUnwritten, may_follow}
+use Rattle.iso_fs.specs.Ends.{FsBehaves, HasRun, IsFsCause, IsOfTx, IsUnwritten, may_follow}
 
 -- a part that follows what is left of the call ends the call
 pub run_from : {X : Type 0} (whole rest : Call X) (t u v : Tx) (result : Result X FsError) → IsAt whole rest t u → HasRun rest u v result → HasRun whole t v result

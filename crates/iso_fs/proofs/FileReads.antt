@@ -1,29 +1,24 @@
 -- A read is that of the files.
-use Rattle.std.proofs.Common.{◌≡◌, ◌∙◌, sym, refl, ap, subst, ℕ, zero, suc, ◌+◌, ◌-◌, ◌*◌, ◌/◌, ◌%◌, ◌<◌, ◌≤◌, Bool, true, false, cond, List, [], ◌∷◌, ◌++◌, length, take, drop, map, nat_le, Option, Some, None, option_map, Result, Ok, Err, arith, inl, inr}
+use Rattle.std.proofs.Common.{◌≡◌, ◌∙◌, sym, refl, ap, subst, ℕ, zero, suc, ◌+◌, ◌/◌, ◌<◌, ◌≤◌, Bool, true, cond, List, [], length, take, drop, nat_le, Option, Some, None, option_map, Result, Ok, Err, arith, inl, inr}
 use Rattle.std.specs.Prelude.{nat_lt}
 use Rattle.std.specs.FinMap.{get}
-use Rattle.std.specs.List.{range_with_len}
-use Rattle.std.proofs.lemmas.Bool.{and_parts, cases_Bool, cases_lt, leb-true, ltb-true}
-use Rattle.std.proofs.lemmas.Bool.Decides.{nat_tests}
-use Rattle.std.proofs.Math.Nat.{div-lt_iff_lt-mul, div-mul-le_self}
+use Rattle.std.proofs.lemmas.Bool.{cases_Bool, leb-true}
 use Rattle.store_model.specs.declared.stores.Area.{Area}
 use Rattle.iso_model.specs.Array.{Array}
-use Rattle.iso_model.specs.Effect.{own}
 use Rattle.store_model.specs.HashCalls.{is_key}
 use Rattle.iso_model.specs.Premises.{block_at}
 use Rattle.store_model.specs.Stores.{AreReads, IsLocal, accesses_of, answer_of}
 use Rattle.store_model.specs.TreeCalls.{get_program}
 use Rattle.store_model.specs.TreeRegion.{tree_map}
 use Rattle.tx_blocks.proofs.Programs.{IsCorrect, local_from, own_reads, whole_reads}
-use Rattle.iso_alloc.proofs.Loops.{all_at}
 use Rattle.iso_tree.proofs.Reading.{cond_reads, same_ok}
 use Rattle.store_model.specs.declared.files.FsError.{FsError}
 use Rattle.store_model.specs.declared.files.FsError.TheVariants as fs
 use Rattle.store_model.specs.declared.files.FileAreas.{FileAreas}
-use Rattle.store_model.specs.FileNodes.{are_entries, blocks_for, bytes_of, data_count, entry_at, has_zeros, is_file, is_handed, most_bytes, number_of, piece_len}
+use Rattle.store_model.specs.FileNodes.{bytes_of, entry_at, number_of, piece_len}
 use Rattle.store_model.specs.FileCalls.{Call, at_file, in_tree, is_many, least, read_from, read_of, read_op, read_pieces, read_program, refuse}
-use Rattle.store_model.specs.FileRegion.{AreFileAreas, AreFileRegions, content, file_at, file_byte, files, number_at}
-use Rattle.iso_fs.proofs.AfterTree.{answer_at_file, answer_got, own_at_file, own_got, reads_behind_file, reads_behind_get}
+use Rattle.store_model.specs.FileRegion.{AreFileAreas, AreFileRegions, content, file_at, file_byte, files}
+use Rattle.iso_fs.proofs.AfterTree.{answer_at_file, answer_got, reads_behind_file, reads_behind_get}
 use Rattle.iso_fs.proofs.Files.{FileParts, file_parts, entry_inside, least_is}
 use Rattle.iso_fs.proofs.Lookups.{files_get}
 use Rattle.iso_fs.proofs.Pieces.{read_gives, slice_range}

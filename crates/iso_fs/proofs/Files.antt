@@ -11,8 +11,8 @@ use Rattle.iso_model.specs.Array.{Array}
 use Rattle.store_model.specs.TreeRegion.{tree_map}
 use Rattle.iso_alloc.proofs.Loops.{all_at}
 use Rattle.store_model.specs.declared.files.FileAreas.{FileAreas}
-use Rattle.store_model.specs.FileNodes.{are_entries, blocks_for, bytes_of, data_count, entry_at, has_zeros, is_file, is_handed, is_number, most_bytes, number_of}
-use Rattle.store_model.specs.FileRegion.{AreFileRegions, Uses, block_in, file_at, number_at}
+use Rattle.store_model.specs.FileNodes.{are_entries, blocks_for, bytes_of, data_count, entry_at, has_zeros, is_file, is_handed, most_bytes}
+use Rattle.store_model.specs.FileRegion.{AreFileRegions, Uses, file_at}
 use Rattle.iso_fs.proofs.Lookups.{names_by}
 
 pub record FileParts (a : Area) (file : List ℕ) : Type 0 where

@@ -1,6 +1,5 @@
 -- The look-up of a file block, part by part, and what follows it in a call.
-use Rattle.std.proofs.Common.{◌≡◌, ◌∙◌, sym, refl, ap, subst, ℕ, ◌+◌, ◌<◌, Bool, true, false, cond, List, [], ◌∷◌, Option, Some, None, Result, Ok, Err, arith}
-use Rattle.iso_model.specs.Array.{Array}
+use Rattle.std.proofs.Common.{◌≡◌, ◌∙◌, sym, refl, ap, subst, ℕ, ◌+◌, Bool, true, false, cond, List, [], ◌∷◌, Option, Some, None, Result, Ok, Err, arith}
 use Rattle.store_model.specs.declared.stores.Area.{Area}
 use Rattle.store_model.specs.declared.stores.StoreError.{StoreError}
 use Rattle.store_model.specs.declared.stores.StoreError.TheVariants as store
@@ -9,7 +8,7 @@ use Rattle.store_model.specs.declared.files.FsError.{FsError}
 use Rattle.store_model.specs.declared.files.FsError.TheVariants as fs
 use Rattle.store_model.specs.declared.files.FileAreas.{FileAreas}
 use Rattle.store_model.specs.HashCalls.{is_key, is_value}
-use Rattle.store_model.specs.Stores.{Done, LookWhole, Program, accesses_of, look_access, then_do}
+use Rattle.store_model.specs.Stores.{Done, LookWhole, Program, look_access, then_do}
 use Rattle.store_model.specs.TreeCalls.{del_program, get_program, put_program}
 use Rattle.store_model.specs.FileNodes.{is_file, is_number, number_of}
 use Rattle.store_model.specs.FileCalls.{Call, at_file, broken, goes_on, in_tree, numbered, with_file}
@@ -21,7 +20,7 @@ use Rattle.iso_tree.proofs.Removing.{cut_at_whole}
 use Rattle.iso_tree.proofs.Scanning.{then_assoc}
 use Rattle.iso_fs.specs.Ends.{HasRun}
 use Rattle.iso_fs.specs.Finds.{Found, find_program, found_as, found_file, on_found}
-use Rattle.iso_fs.proofs.Ended.{has_then, run_as, run_from, tree_done, tree_refused}
+use Rattle.iso_fs.proofs.Ended.{run_as, run_from, tree_done, tree_refused}
 
 -- THE CALLS OF THE TREE MAKE AN ACCESS
 pub get_has : (a : Area) (key : List ℕ) → is_key key ≡ true → HasAccess (get_program a key)

@@ -1,5 +1,5 @@
 -- The pieces of a range, of which so many at most are left.
-use Rattle.std.proofs.Common.{◌≡◌, refl, subst, ℕ, zero, suc, ◌-◌, ◌≤◌, Result, Err, arith}
+use Rattle.std.proofs.Common.{◌≡◌, refl, subst, ℕ, zero, suc, ◌-◌, ◌≤◌, Err, arith}
 use Rattle.store_model.specs.declared.files.FsError.{FsError}
 use Rattle.store_model.specs.FileCalls.{Call}
 use Rattle.tx_blocks.specs.Tx.{Tx}
@@ -18,10 +18,10 @@ pub piece_less : {X : Type 0} (whole : Call X) (p q : ℕ → Call X) (left n no
 piece_less whole p q left n now t u v some few is has goes = elim has.most as (λ m. has.most ≡ m → HasLeft whole q now t v) [
   | zero ↦ λ none. absurd (let f = has.fits in omega arith)
   | suc m ↦ λ e. (let f = has.fits in record {
-      most = m;
-      fits = omega arith;
-      here = at_join whole (p (suc m)) (q m) t u v (subst (λ (k : ℕ). IsAt whole (p k) t u) e has.here) (goes m);
-    })
+    most = m;
+    fits = omega arith;
+    here = at_join whole (p (suc m)) (q m) t u v (subst (λ (k : ℕ). IsAt whole (p k) t u) e has.here) (goes m);
+  })
 ] refl
 
 pub piece_stops : {X : Type 0} (whole : Call X) (p : ℕ → Call X) (left : ℕ) (t u v : Tx) (e : FsError) → 1 ≤ left → HasLeft whole p left t u → ((most : ℕ) → HasRun (p (suc most)) u v (Err e)) → HasRun whole t v (Err e)

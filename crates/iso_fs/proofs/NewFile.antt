@@ -1,13 +1,10 @@
 -- The block of a new file.
-use Rattle.std.proofs.Common.{◌≡◌, ◌∙◌, sym, refl, ap, set, ℕ, zero, suc, ◌+◌, ◌-◌, ◌*◌, ◌/◌, ◌<◌, ◌≤◌, Bool, true, ◌&&◌, ◌==◌, List, [], ◌∷◌, ◌++◌, length, drop, replicate, nat_le, arith}
-use Rattle.std.specs.Prelude.{slice_index}
-use Rattle.std.specs.List.{list_all}
+use Rattle.std.proofs.Common.{◌≡◌, ◌∙◌, refl, ap, set, ℕ, zero, suc, ◌+◌, ◌-◌, ◌*◌, ◌/◌, ◌<◌, ◌≤◌, true, ◌&&◌, List, [], ◌∷◌, ◌++◌, length, replicate, nat_le, arith}
 use Rattle.std.proofs.lemmas.Bool.{and_from}
 use Rattle.std.proofs.lemmas.Bool.Decides.{nat_tests}
 use Rattle.std.proofs.lemmas.List.{length-replicate}
 use Rattle.std.proofs.Math.Nat.{div-eq_of_lt}
 use Rattle.store_model.specs.declared.stores.Area.{Area}
-use Rattle.store_model.specs.Cells.{is_zero}
 use Rattle.iso_tree.proofs.Frames.{zeros_are}
 use Rattle.store_model.specs.FileNodes.{are_entries, bytes_of, data_count, file_block, has_zeros, is_file, most_bytes}
 

@@ -1,10 +1,9 @@
 -- A removal is local.
-use Rattle.std.proofs.Common.{◌≡◌, ◌∙◌, sym, refl, ap, subst, ℕ, zero, suc, ◌+◌, ◌-◌, ◌*◌, ◌<◌, ◌≤◌, ◌==◌, Bool, true, false, cond, List, [], ◌∷◌, ◌++◌, length, take, drop, Option, Some, None, option_map, Result, Ok, Err, arith, inl, inr}
+use Rattle.std.proofs.Common.{◌≡◌, ◌∙◌, sym, refl, ap, subst, ℕ, ◌+◌, ◌<◌, ◌==◌, Bool, true, false, cond, List, ◌∷◌, length, drop, Option, Some, None, option_map, Result, Ok, Err, arith, inl, inr}
 use Rattle.std.specs.Prelude.{is_some}
 use Rattle.std.specs.FinMap.{get, remove}
 use Rattle.std.proofs.lemmas.Bool.{and_parts, cases_Bool}
 use Rattle.std.proofs.lemmas.List.{length-take}
-use Rattle.iso_model.specs.declared.access.Access.{Access}
 use Rattle.store_model.specs.declared.stores.StoreError.{StoreError}
 use Rattle.iso_model.specs.Array.{Array}
 use Rattle.iso_model.specs.Effect.{own}
@@ -32,7 +31,7 @@ use Rattle.iso_fs.proofs.Files.{IsHanded, entry_handed, file_parts, handed_is}
 use Rattle.iso_fs.proofs.MapByte.{length-block_with}
 use Rattle.iso_fs.proofs.MapLaid.{high_below, high_is, low_is}
 use Rattle.iso_fs.proofs.Lookups.{files_get}
-use Rattle.iso_fs.proofs.Removes.{HasRemoved, in_range_map, removed}
+use Rattle.iso_fs.proofs.Removes.{in_range_map, removed}
 use Rattle.std.specs.FinMap.{same_map, slice_cmp-IsAntisymmetric, nat_cmp-IsAntisymmetric}
 use Rattle.std.specs.Cmp.Lexicographic.{nat_list_cmp_total}
 use Rattle.iso_fs.proofs.Lookups.{name_is, same_name}

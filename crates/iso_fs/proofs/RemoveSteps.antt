@@ -1,5 +1,5 @@
 -- A removal, part by part.
-use Rattle.std.proofs.Common.{◌≡◌, ◌≢◌, ◌∙◌, sym, refl, ap, subst, ℕ, zero, suc, ◌+◌, ◌-◌, ◌*◌, ◌<◌, ◌≤◌, ◌==◌, Bool, true, false, not, cond, List, [], ◌∷◌, length, take, drop, get_or, set, Option, Some, None, Result, Ok, Err, IfOk, arith, inl, inr}
+use Rattle.std.proofs.Common.{◌≡◌, ◌∙◌, sym, refl, ap, subst, ℕ, suc, ◌+◌, ◌-◌, ◌*◌, ◌<◌, ◌≤◌, Bool, true, false, cond, List, [], ◌∷◌, length, take, drop, get_or, set, None, Result, Ok, Err, IfOk, arith, inl, inr}
 use Rattle.std.specs.Prelude.{map, nat_lt}
 use Rattle.std.specs.List.{range_with_len}
 use Rattle.std.proofs.lemmas.List.{drop-take, get_or-take, take-take}
@@ -18,7 +18,7 @@ use Rattle.store_model.specs.Cells.{block_with}
 use Rattle.store_model.specs.FreeMap.{bit_place, clear_bit, map_bytes, map_mark, without_bit}
 use Rattle.store_model.specs.HashCalls.{is_key}
 use Rattle.store_model.specs.HashRegion.{IsIn}
-use Rattle.store_model.specs.Stores.{Done, IsLocal, Look, Store, bytes_in, look_access, store_access}
+use Rattle.store_model.specs.Stores.{Done, IsLocal, bytes_in, look_access, store_access}
 use Rattle.store_model.specs.TreeCalls.{del_program, get_program}
 use Rattle.store_model.specs.TreeRegion.{IsTreeArea}
 use Rattle.store_model.specs.FileNodes.{bytes_of, data_count, entries_of, entry_at, is_file}
@@ -26,7 +26,7 @@ use Rattle.store_model.specs.FileCalls.{Call, at_file, bits_mark, goes_on, high_
 use Rattle.store_model.specs.FileRegion.{AreFileAreas, AreFileRegions, files}
 use Rattle.tx_blocks.specs.Tx.{Tx, Device, IsTx, with_accesses}
 use Rattle.tx_blocks.specs.Runs.{AreBytesOf, HasEnded, IsCause, IsLocalCall}
-use Rattle.tx_blocks.proofs.Progress.{HasAccess, IsAt, at_look, at_start, at_store, ran_at, whole_run}
+use Rattle.tx_blocks.proofs.Progress.{HasAccess, at_look, at_start, at_store, ran_at, whole_run}
 use Rattle.tx_blocks.proofs.Refusals.{cut_at_look, cut_at_store}
 use Rattle.std.proofs.Math.Seq.{take-set-lt}
 use Rattle.iso_fs.specs.Ends.{HasRun, areas_of}

@@ -1,5 +1,5 @@
 -- A file that is removed.
-use Rattle.std.proofs.Common.{◌≡◌, ◌≢◌, ◌⊎◌, ◌∙◌, sym, refl, ap, subst, ℕ, zero, suc, ◌+◌, ◌-◌, ◌*◌, ◌/◌, ◌%◌, ◌<◌, ◌≤◌, ◌==◌, Bool, true, false, cond, IsTrue, List, [], ◌∷◌, length, get_or, take, drop, map, Option, Some, None, option_map, Result, Ok, Err, arith, inl, inr}
+use Rattle.std.proofs.Common.{◌≡◌, ◌∙◌, sym, refl, ap, subst, ℕ, zero, suc, ◌+◌, ◌*◌, ◌%◌, ◌<◌, ◌≤◌, ◌==◌, Bool, true, false, cond, List, [], ◌∷◌, length, get_or, take, map, Option, Some, None, option_map, Ok, arith, inl, inr}
 use Rattle.std.specs.List.{list_all, range_with_len}
 use Rattle.std.specs.FinMap.{get, remove, same_map, slice_cmp-IsAntisymmetric, nat_cmp-IsAntisymmetric}
 use Rattle.std.specs.Cmp.Lexicographic.{nat_list_cmp_total}
@@ -21,17 +21,16 @@ use Rattle.store_model.specs.TreeRegion.{IsTreeRegion, tree_map}
 use Rattle.iso_model.proofs.Bytes.{length-block_own, length-block_put, other_block, written_block}
 use Rattle.iso_tree.proofs.DelCalls.{del_correct}
 use Rattle.iso_tree.proofs.Frames.{kept_1}
-use Rattle.iso_tree.proofs.NewBlocks.{sizes_of}
 use Rattle.store_model.specs.declared.files.FileAreas.{FileAreas}
-use Rattle.store_model.specs.FileNodes.{bytes_of, data_count, entries_of, entry_at, is_file, is_number, number_of}
+use Rattle.store_model.specs.FileNodes.{data_count, entries_of, entry_at, is_file, number_of}
 use Rattle.store_model.specs.FileCalls as calls
 use Rattle.store_model.specs.FileCalls.{bits_mark, high_place, low_place}
-use Rattle.store_model.specs.FileRegion.{AreFileAreas, AreFileRegions, IsUsed, Uses, block_in, content, file_at, files, number_at}
+use Rattle.store_model.specs.FileRegion.{AreFileAreas, AreFileRegions, IsUsed, Uses, content, file_at, files, number_at}
 use Rattle.store_model.specs.Areas.{in_area}
 use Rattle.iso_fs.proofs.Files.{uses_handed}
 use Rattle.iso_fs.proofs.Kept.{kept_content, kept_uses, same_some, still_uses}
-use Rattle.iso_fs.proofs.Lookups.{files_get, name_is, name_other, name_self, names_by, same_name}
-use Rattle.iso_fs.proofs.MapLaid.{bits_left, high_below, high_is, laid_as, length-laid, length-without, low_is, low_least, without_other}
+use Rattle.iso_fs.proofs.Lookups.{files_get, name_is, name_self, names_by, same_name}
+use Rattle.iso_fs.proofs.MapLaid.{bits_left, high_below, high_is, laid_as, length-without, low_is, low_least, without_other}
 use Rattle.iso_fs.proofs.Renames.{remove_get}
 use Rattle.tx_blocks.proofs.Storing.{kept_outside}
 use Rattle.iso_tree.proofs.TreeBlocks.{map_new, region_new}
@@ -254,10 +253,13 @@ module _ (a : FileAreas) (areas : AreFileAreas a) (A : Array) (regions : AreFile
       let was = used_before used.name used.place k used.uses in
       let set : map_bit first k ≡ true = bit_first k low ∙ (regions.bits k low).1 (record { name = used.name; place = used.place; uses = was }) in
       bit_C k low
-      ∙ left.1 (λ is.
-      let found = to_use k is in
-      let same = (regions.apart used.name name used.place found.0 k was found.1).0 in
-      both_ways (same_name used.name name) (is_other used.name used.place k used.uses) (ap (λ (n : List ℕ). same_name n name) same ∙ name_self name), set)
+      ∙ left.1 (
+        λ is.
+            let found = to_use k is in
+            let same = (regions.apart used.name name used.place found.0 k was found.1).0 in
+            both_ways (same_name used.name name) (is_other used.name used.place k used.uses) (ap (λ (n : List ℕ). same_name n name) same ∙ name_self name),
+        set,
+      )
 
   head_C : list_all is_zero (take 64 (block_at C start)) ≡ true
   head_C =

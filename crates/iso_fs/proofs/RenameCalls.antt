@@ -1,6 +1,6 @@
 -- A rename is local.
-use Rattle.std.proofs.Common.{◌≡◌, ◌∙◌, sym, refl, ap, subst, ℕ, ◌+◌, ◌<◌, ◌≤◌, Bool, true, false, ◌&&◌, cond, List, [], ◌∷◌, length, Option, Some, None, option_map, Result, Ok, Err, arith, inl, inr}
-use Rattle.std.specs.FinMap.{get, insert, remove}
+use Rattle.std.proofs.Common.{◌≡◌, ◌∙◌, sym, refl, ap, subst, ℕ, ◌+◌, Bool, true, false, ◌&&◌, cond, List, [], ◌∷◌, Option, Some, None, option_map, Result, Ok, Err, inl, inr}
+use Rattle.std.specs.FinMap.{get}
 use Rattle.std.proofs.lemmas.Bool.{and_from, cases_Bool}
 use Rattle.iso_model.specs.declared.access.Access.{Access}
 use Rattle.store_model.specs.declared.stores.StoreError.{StoreError}
@@ -24,7 +24,7 @@ use Rattle.store_model.specs.FileCalls.{Call, goes_on, in_tree, refuse, rename_f
 use Rattle.store_model.specs.FileRegion.{AreFileAreas, AreFileRegions, content, files}
 use Rattle.iso_fs.proofs.AfterTree.{answer_got, own_got, own_then, whole_behind_get}
 use Rattle.iso_fs.proofs.Lookups.{files_get}
-use Rattle.iso_fs.proofs.Renames.{HasRenamed, renamed}
+use Rattle.iso_fs.proofs.Renames.{renamed}
 
 no_ok : (e : FsError) (r : Bool) → ◌≡◌ {A = Result Bool FsError} (Err e) (Ok r) → ⊥
 no_ok e r is = cc

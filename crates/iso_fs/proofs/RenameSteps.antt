@@ -1,6 +1,5 @@
 -- A rename, part by part.
-use Rattle.std.proofs.Common.{◌≡◌, ◌≢◌, ◌∙◌, sym, refl, ap, subst, ℕ, ◌+◌, ◌≤◌, Bool, true, false, ◌&&◌, cond, List, Option, Some, None, Result, Ok, Err, IfOk, arith}
-use Rattle.std.proofs.lemmas.Bool.{false≢true}
+use Rattle.std.proofs.Common.{◌≡◌, ◌≢◌, ◌∙◌, sym, refl, ap, subst, ℕ, ◌+◌, ◌≤◌, Bool, true, false, ◌&&◌, cond, List, Option, None, Result, Ok, Err, IfOk}
 use Rattle.iso_model.specs.declared.access.Access.{Access}
 use Rattle.iso_model.specs.Effect.{own}
 use Rattle.store_model.specs.declared.stores.StoreError.{StoreError}

@@ -4,9 +4,9 @@ use Rattle.std.specs.List.{flat_map, range_with_len}
 use Rattle.std.specs.Prelude.{map}
 use Rattle.std.specs.Int.{w32, to_be_bytes}
 use Rattle.std.proofs.lemmas.Grind.{flat_map-append}
-use Rattle.std.proofs.lemmas.List.{append-nil, drop-drop, drop-replicate, drop_at, length-replicate, take_at}
+use Rattle.std.proofs.lemmas.List.{append-nil, drop-drop, drop-replicate, drop_at, take_at}
 use Rattle.store_model.specs.Cells.{laid_at}
-use Rattle.store_model.specs.FileNodes.{entry_at, file_block}
+use Rattle.store_model.specs.FileNodes.{file_block}
 use Rattle.iso_fs.proofs.FileBlocks.{length-numbers}
 use Rattle.iso_fs.proofs.Pieces.{range_split}
 

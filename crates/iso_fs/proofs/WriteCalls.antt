@@ -3,20 +3,17 @@ use Rattle.std.proofs.Common.{◌≡◌, ◌≢◌, ◌⊎◌, ◌∙◌, sym, r
 use Rattle.std.specs.Prelude.{nat_lt}
 use Rattle.std.specs.List.{list_all}
 use Rattle.std.specs.FinMap.{get, insert}
-use Rattle.std.proofs.lemmas.Bool.{and_from, and_parts, both_ways, cases_Bool, cases_lt, leb-true}
+use Rattle.std.proofs.lemmas.Bool.{and_parts, cases_Bool, leb-true}
 use Rattle.std.proofs.lemmas.Bool.Decides.{nat_tests}
 use Rattle.std.proofs.Math.Nat.{mul-le-mul_right}
 use Rattle.std.proofs.lemmas.List.{append-nil}
 use Rattle.iso_model.specs.declared.access.Access.{Access}
-use Rattle.store_model.specs.declared.stores.Area.{Area}
-use Rattle.store_model.specs.declared.stores.StoreError.{StoreError}
 use Rattle.store_model.specs.declared.stores.StoreError.TheVariants.{NoBlocks}
 use Rattle.iso_model.specs.Array.{Array, put}
 use Rattle.iso_model.specs.Effect.{own}
 use Rattle.store_model.specs.Cells.{is_zero}
 use Rattle.store_model.specs.FreeMap.{free_count, map_bit, map_bytes, map_mark}
 use Rattle.store_model.specs.HashCalls.{is_key}
-use Rattle.store_model.specs.HashRegion.{IsIn}
 use Rattle.iso_model.specs.Premises.{block_at}
 use Rattle.store_model.specs.Stores.{Done, Store, accesses_of, answer_of, bytes_in, store_access}
 use Rattle.store_model.specs.TreeCalls.{changed_map, changed_mark, first_write, free_list, get_program}
@@ -24,7 +21,7 @@ use Rattle.store_model.specs.TreeRegion.{tree_map}
 use Rattle.iso_model.proofs.Bytes.{length-block_put, other_block, written_block}
 use Rattle.tx_blocks.proofs.Programs.{IsCorrect}
 use Rattle.iso_tree.proofs.Frames.{kept_1, laid_whole}
-use Rattle.iso_tree.proofs.MapBits.{bits_after, length-changed}
+use Rattle.iso_tree.proofs.MapBits.{bits_after}
 use Rattle.iso_tree.proofs.NewBlocks.{sizes_of}
 use Rattle.iso_tree.proofs.Reading.{same_ok}
 use Rattle.iso_tree.proofs.Taking.{AreTaken, taken_are, up_apart}
@@ -32,8 +29,8 @@ use Rattle.store_model.specs.declared.files.FsError.{FsError}
 use Rattle.store_model.specs.declared.files.FsError.TheVariants as fs
 use Rattle.store_model.specs.declared.files.FileAreas.{FileAreas}
 use Rattle.store_model.specs.FileNodes.{blocks_for, bytes_of, data_count, entries_of, entry_at, file_block, is_file, is_handed, most_bytes, number_of}
-use Rattle.store_model.specs.FileCalls.{Call, at_file, in_tree, is_many, look_map, refuse, with_new, write_in, write_op, write_pieces, write_program, write_sized, write_to, written}
-use Rattle.store_model.specs.FileRegion.{AreFileAreas, AreFileRegions, Uses, content, file_at, files, number_at}
+use Rattle.store_model.specs.FileCalls.{Call, at_file, in_tree, is_many, refuse, with_new, write_in, write_op, write_pieces, write_program, write_sized, write_to, written}
+use Rattle.store_model.specs.FileRegion.{AreFileAreas, AreFileRegions, Uses, content, file_at, files}
 use Rattle.iso_fs.proofs.AfterTree.{answer_at_file, answer_got, own_at_file, own_got}
 use Rattle.iso_fs.proofs.FileBlocks.{block_bytes, block_count, block_entry, block_is_file, length-file_block}
 use Rattle.iso_fs.proofs.Files.{IsHanded, count_fits, count_mono, uses_handed}
@@ -244,18 +241,18 @@ module _ (a : FileAreas) (areas : AreFileAreas a) (A : Array) (regions : AreFile
       (Store (a.files.start + get_or E (from / a.files.size) 0) (cond (nat_lt (from / a.files.size) old) (Rattle.store_model.specs.FileNodes.piece_mark a.files.size from to ∷ []) [])
       (Rattle.store_model.specs.Cells.block_with a.files.size (from % a.files.size) (take (Rattle.store_model.specs.FileNodes.piece_len a.files.size from to) xs))
       (write_pieces a.files E old most (from + Rattle.store_model.specs.FileNodes.piece_len a.files.size from to) to (Rattle.std.proofs.Common.drop (Rattle.store_model.specs.FileNodes.piece_len a.files.size from to) xs))) (Done (Ok true))) X ≡ Ok true) [
-    | true ↦ pieces_true E old most (from + Rattle.store_model.specs.FileNodes.piece_len a.files.size from to) to (Rattle.std.proofs.Common.drop (Rattle.store_model.specs.FileNodes.piece_len a.files.size from to) xs) (put X _)
-    | false ↦ refl
-  ]
+        | true ↦ pieces_true E old most (from + Rattle.store_model.specs.FileNodes.piece_len a.files.size from to) to (Rattle.std.proofs.Common.drop (Rattle.store_model.specs.FileNodes.piece_len a.files.size from to) xs) (put X _)
+        | false ↦ refl
+      ]
 
   sized_true : (number : ℕ) (file news : List ℕ) (X : Array) → answer_of (write_sized a.files off bytes number file news) X ≡ Ok true
   sized_true number file news X = elim (nat_lt (bytes_of file) (off + length bytes)) as (λ t. answer_of (cond t
       (Store (a.files.start + number) [] (file_block a.files.size (off + length bytes) (entries_of a.files.size file ++ news))
       (write_pieces a.files (entries_of a.files.size file ++ news) (data_count a.files.size file) (length bytes) off (off + length bytes) bytes))
       (write_pieces a.files (entries_of a.files.size file) (data_count a.files.size file) (length bytes) off (off + length bytes) bytes)) X ≡ Ok true) [
-    | true ↦ pieces_true (entries_of a.files.size file ++ news) (data_count a.files.size file) (length bytes) off (off + length bytes) bytes (put X _)
-    | false ↦ pieces_true (entries_of a.files.size file) (data_count a.files.size file) (length bytes) off (off + length bytes) bytes X
-  ]
+        | true ↦ pieces_true (entries_of a.files.size file ++ news) (data_count a.files.size file) (length bytes) off (off + length bytes) bytes (put X _)
+        | false ↦ pieces_true (entries_of a.files.size file) (data_count a.files.size file) (length bytes) off (off + length bytes) bytes X
+      ]
 
   file_does : (value : List ℕ) → get (tree_map a.tree A) name ≡ Some value → (r : Bool) → answer_of (write_to a.files off bytes (number_of value) (file_at a A (number_of value))) A ≡ Ok r
       → HasDone a name off bytes A (own A (accesses_of (write_to a.files off bytes (number_of value) (file_at a A (number_of value))) A)) r

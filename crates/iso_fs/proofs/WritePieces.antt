@@ -1,7 +1,7 @@
 -- What the writes of the pieces make of the bytes of a file's blocks.
 use Rattle.std.proofs.Common.{◌≡◌, ◌≢◌, ◌⊎◌, ◌∙◌, sym, refl, ap, subst, ℕ, zero, suc, ◌+◌, ◌-◌, ◌*◌, ◌/◌, ◌%◌, ◌<◌, ◌≤◌, Bool, true, false, cond, List, [], ◌∷◌, ◌++◌, length, get_or, take, drop, replicate, nat_le, Result, Ok, arith, inl, inr}
 use Rattle.std.specs.Prelude.{nat_lt}
-use Rattle.std.proofs.lemmas.Bool.{cases_Bool, cases_eq, cases_lt, or_left}
+use Rattle.std.proofs.lemmas.Bool.{cases_eq, cases_lt, or_left}
 use Rattle.std.proofs.lemmas.Bool.Decides.{nat_tests}
 use Rattle.std.proofs.lemmas.Nat.{div-add-mod'}
 use Rattle.std.proofs.Math.Nat.{div-lt_iff_lt-mul, mod-lt}
@@ -13,7 +13,7 @@ use Rattle.iso_model.specs.Array.{Array, byte_at, covered, put}
 use Rattle.iso_model.specs.Effect.{own}
 use Rattle.store_model.specs.Cells.{block_with}
 use Rattle.iso_model.specs.Premises.{block_at}
-use Rattle.store_model.specs.Stores.{Done, Store, accesses_of, bytes_in, store_access}
+use Rattle.store_model.specs.Stores.{Done, Store, accesses_of, store_access}
 use Rattle.iso_model.proofs.Bytes.{length-block_put, other_block, put_here}
 use Rattle.iso_alloc.proofs.Laying.{laid_here}
 use Rattle.store_model.specs.FileNodes.{piece_len, piece_mark}

@@ -1,7 +1,7 @@
 -- A write, part by part.
-use Rattle.std.proofs.Common.{◌≡◌, ◌≢◌, ◌∙◌, sym, refl, ap, subst, ℕ, zero, suc, ◌+◌, ◌-◌, ◌*◌, ◌/◌, ◌%◌, ◌<◌, ◌≤◌, ◌&&◌, Bool, true, false, not, cond, List, [], ◌∷◌, ◌++◌, length, take, drop, get_or, nat_le, Option, Some, None, Result, Ok, Err, IfOk, arith}
+use Rattle.std.proofs.Common.{◌≡◌, ◌∙◌, sym, refl, ap, subst, ℕ, zero, suc, ◌+◌, ◌-◌, ◌*◌, ◌/◌, ◌%◌, ◌<◌, ◌≤◌, ◌&&◌, Bool, true, false, not, cond, List, [], ◌∷◌, ◌++◌, length, take, drop, get_or, nat_le, None, Result, Ok, Err, IfOk, arith}
 use Rattle.std.specs.Prelude.{nat_lt, slice_index}
-use Rattle.std.specs.List.{AllByRecursion, filter, range_with_len}
+use Rattle.std.specs.List.{filter, range_with_len}
 use Rattle.std.proofs.lemmas.Bool.Decides.{nat_tests}
 use Rattle.std.proofs.lemmas.List.{append-nil, drop-drop, get_or-append_right, get_or_append_left, take_rest}
 use Rattle.std.proofs.lemmas.List.FromFn.{get_or-map-range_with_len, length-map-range_with_len}
@@ -10,7 +10,6 @@ use Rattle.iso_model.specs.declared.access.Access.{Access}
 use Rattle.iso_model.specs.declared.access.Span.{Span}
 use Rattle.iso_model.specs.Effect.{own}
 use Rattle.store_model.specs.declared.stores.Area.{Area}
-use Rattle.store_model.specs.declared.stores.StoreError.{StoreError}
 use Rattle.store_model.specs.declared.stores.StoreError.TheVariants as store
 use Rattle.store_model.specs.declared.stores.TxError.{TxError}
 use Rattle.store_model.specs.declared.files.FsError.{FsError}
@@ -20,7 +19,7 @@ use Rattle.store_model.specs.declared.files.FsRegion.{FsRegion}
 use Rattle.store_model.specs.Cells.{block_with}
 use Rattle.store_model.specs.FreeMap.{free_count, map_bit, map_mark}
 use Rattle.store_model.specs.HashCalls.{is_key}
-use Rattle.store_model.specs.Stores.{Done, IsLocal, Look, Store, bytes_in, look_access, store_access}
+use Rattle.store_model.specs.Stores.{Done, IsLocal, Store, bytes_in, look_access, store_access}
 use Rattle.store_model.specs.TreeCalls.{changed_map, changed_mark, first_write, free_list, get_program}
 use Rattle.store_model.specs.TreeRegion.{IsTreeArea}
 use Rattle.store_model.specs.FileNodes.{blocks_for, bytes_of, data_count, entries_of, entry_at, file_block, is_file, most_bytes, piece_len, piece_mark}

@@ -1,6 +1,5 @@
 -- A file that is written.
-use Rattle.std.proofs.Common.{◌≡◌, ◌≢◌, ◌⊎◌, ◌↔◌, ◌∙◌, sym, refl, ap, subst, ℕ, zero, suc, ◌+◌, ◌-◌, ◌*◌, ◌/◌, ◌%◌, ◌^◌, ◌<◌, ◌≤◌, ◌==◌, Bool, true, false, cond, IsTrue, List, [], ◌∷◌, ◌++◌, length, get_or, take, drop, map, nat_le, Option, Some, None, option_map, Result, Ok, arith, inl, inr, length-append}
-use Rattle.std.specs.Prelude.{nat_lt}
+use Rattle.std.proofs.Common.{◌≡◌, ◌≢◌, ◌⊎◌, ◌↔◌, ◌∙◌, sym, refl, ap, subst, ℕ, zero, suc, ◌+◌, ◌-◌, ◌*◌, ◌/◌, ◌%◌, ◌<◌, ◌≤◌, Bool, true, false, cond, IsTrue, List, ◌++◌, length, get_or, take, drop, map, nat_le, Option, Some, None, option_map, arith, inl, inr, length-append}
 use Rattle.std.specs.List.{list_all, range_with_len}
 use Rattle.std.specs.FinMap.{get, insert, same_map, slice_cmp-IsAntisymmetric, nat_cmp-IsAntisymmetric}
 use Rattle.std.specs.Cmp.Lexicographic.{nat_list_cmp_total}
@@ -8,8 +7,6 @@ use Rattle.std.proofs.lemmas.Bool.{both_ways, cases_Bool, cases_lt}
 use Rattle.std.proofs.lemmas.Bool.Decides.{nat_tests}
 use Rattle.std.proofs.lemmas.List.{ext_get_or, get_or-append_right, get_or-drop, get_or-take, get_or_append_left, length-drop, length-take-le}
 use Rattle.std.proofs.lemmas.List.FromFn.{get_or-map-range_with_len, length-map-range_with_len}
-use Rattle.std.proofs.Math.Nat.{div-lt_iff_lt-mul}
-use Rattle.store_model.specs.declared.stores.Area.{Area}
 use Rattle.iso_model.specs.Array.{Array, byte_at}
 use Rattle.iso_model.specs.Effect.{own}
 use Rattle.store_model.specs.Cells.{is_zero}
@@ -23,7 +20,7 @@ use Rattle.iso_model.proofs.Bytes.{length-block_own}
 use Rattle.store_model.specs.declared.files.FileAreas.{FileAreas}
 use Rattle.store_model.specs.FileNodes.{bytes_of, data_count, entries_of, entry_at, is_file, is_number, number_of}
 use Rattle.store_model.specs.FileCalls.{write_pieces, written}
-use Rattle.store_model.specs.FileRegion.{AreFileAreas, AreFileRegions, IsUsed, Uses, block_in, content, file_at, file_byte, files, number_at}
+use Rattle.store_model.specs.FileRegion.{AreFileAreas, AreFileRegions, IsUsed, Uses, content, file_at, file_byte, files, number_at}
 use Rattle.store_model.specs.Areas.{in_area}
 use Rattle.iso_fs.proofs.FileBlocks.{apart_places, at_place, place_in}
 use Rattle.iso_fs.proofs.Files.{IsHanded, count_covers, place_below, uses_handed}
@@ -288,8 +285,12 @@ module _ (a : FileAreas) (areas : AreFileAreas a) (A : Array) (regions : AreFile
       | inl new ↦
           (let at = at_place news j new in
           let e : K + at.0 - K ≡ at.0 = omega arith in
-          record { name = name; place = suc (K + at.0); uses = is_mine (suc (K + at.0)) j
-                (Data (K + at.0) refl (let l = at.1 in omega (arith, E_long)) (new_entry (K + at.0) (omega arith) ∙ ap (λ (n : ℕ). get_or news n 0) e ∙ at.2)) })
+          record {
+            name = name;
+            place = suc (K + at.0);
+            uses = is_mine (suc (K + at.0)) j
+                (Data (K + at.0) refl (let l = at.1 in omega (arith, E_long)) (new_entry (K + at.0) (omega arith) ∙ ap (λ (n : ℕ). get_or news n 0) e ∙ at.2));
+          })
       | inr old ↦
           (let used = (regions.bits j below).0 old in
           elim (cases_Bool (same_name used.name name)) [

@@ -7,7 +7,6 @@ mod find;
 mod left;
 mod making;
 mod names;
-
 mod reading;
 mod removing;
 mod renaming;

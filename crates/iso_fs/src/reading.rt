@@ -34,7 +34,11 @@ pub fn piece_mark(size: u32, from: u32, to: u32) -> Span
     let room = size - off;
     Span {
         off: off as u16,
-        len: if left < room { left as u16 } else { room as u16 },
+        len: if left < room {
+            left as u16
+        } else {
+            room as u16
+        },
     }
 }
 
@@ -279,7 +283,9 @@ pub fn read<T: TxBlocks>(
         Ok(room) => room,
         Err(e) => return Err(FsError::Store(e)),
     };
-    match read_with(alloc, tx, a, name, off, len, &mut file, &mut block, &mut room) {
+    match read_with(
+        alloc, tx, a, name, off, len, &mut file, &mut block, &mut room,
+    ) {
         Ok(found) => Ok(bytes_read(found, room)),
         Err(e) => Err(e),
     }

@@ -47,14 +47,7 @@ fn add_news(into: &mut [u8], count: usize, news: &[u32])
 }
 
 /// The file block of a file with so many bytes, which has the data blocks of another one and new ones.
-pub fn lay_sized(
-    area: Area,
-    file: &[u8],
-    count: usize,
-    news: &[u32],
-    bytes: u32,
-    into: &mut [u8],
-)
+pub fn lay_sized(area: Area, file: &[u8], count: usize, news: &[u32], bytes: u32, into: &mut [u8])
     requires count { count ≡ data_count area.size file.now }
     requires file { 64 + 4 * count ≤ length file.now }
     requires room { 64 + 4 * (count + length news.now) ≤ area.size }

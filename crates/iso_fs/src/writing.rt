@@ -20,8 +20,8 @@ use crate::buffers::{areas_of, is_many};
 use crate::file::{bytes_of, data_count};
 use crate::find::find;
 use crate::names::region_of;
-use crate::storing::write_pieces;
 use crate::sized::lay_sized;
+use crate::storing::write_pieces;
 use iso_alloc::{buffer, free_blocks, is_key};
 use iso_tree::{map_mark, store_first, take_blocks};
 use std::alloc::Global;
@@ -171,7 +171,17 @@ fn write_taken<T: TxBlocks>(
     }
     let mut news = [0; 16];
     take_blocks(map, region_of(area), need as usize, &mut news);
-    write_news(tx, area, number, off, bytes, file, map, &news[..need as usize], into)
+    write_news(
+        tx,
+        area,
+        number,
+        off,
+        bytes,
+        file,
+        map,
+        &news[..need as usize],
+        into,
+    )
 }
 
 // Reads the map, and takes new blocks.
@@ -373,5 +383,7 @@ pub fn write<T: TxBlocks>(
         Ok(into) => into,
         Err(e) => return Err(FsError::Store(e)),
     };
-    write_with(alloc, tx, a, name, off, bytes, &mut file, &mut map, &mut into)
+    write_with(
+        alloc, tx, a, name, off, bytes, &mut file, &mut map, &mut into,
+    )
 }

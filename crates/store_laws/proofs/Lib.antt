@@ -16,6 +16,8 @@ pub mod Programs
 pub mod HashWrites
 pub mod TreeWrites
 pub mod BothCalls
+pub mod FileWrites
+pub mod FileParts
 mod Rows
 mod ScanRows
 pub mod PutAndGet

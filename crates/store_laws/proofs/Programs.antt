@@ -21,7 +21,7 @@ pub ended_within : {X : Type 0} (s : MapStore) (p : Program (Result X StoreError
     → WriteWithin s (added t u)
 ended_within s p A t u r stores = ended_as s p A t u r (λ B. writes_within s p B stores)
 
-reads_within : (s : MapStore) (accesses : List Access) → AreReads accesses → WriteWithin s accesses
+pub reads_within : (s : MapStore) (accesses : List Access) → AreReads accesses → WriteWithin s accesses
 reads_within s [] reads = tt
 reads_within s (a ∷ accesses) reads = (λ write. absurd (both_ways (is_write a) reads.0 write), reads_within s accesses reads.1)
 

@@ -1,5 +1,5 @@
 // The laws of stores, at the file store, and at a hash store and a file store that one transaction calls.
-ghost use Rattle.std.specs.Prelude.{◌≡◌, ℕ, Bool, ◌<◌, ◌≤◌, ◌+◌, ◌-◌, IfSome, IsFalse, List, [], ◌∷◌, ◌++◌, Ok, Option, map, replicate, slice_get};
+ghost use Rattle.std.specs.Prelude.{◌≡◌, ℕ, Bool, ◌<◌, ◌≤◌, ◌+◌, ◌-◌, IfSome, IsFalse, List, [], ◌∷◌, ◌++◌, Ok, Option, Some, map, replicate, slice_get};
 ghost use Rattle.std.specs.FinMap.{empty};
 ghost use Rattle.iso_model.specs.declared.access.Geometry.{Geometry};
 ghost use Rattle.iso_model.specs.Array.{zeros, Array};
@@ -8,18 +8,20 @@ ghost use Rattle.iso_model.specs.History.{array_at, last, History};
 ghost use Rattle.iso_model.specs.Premises.{block_at};
 ghost use Rattle.store_model.specs.declared.stores.Area.{Area};
 ghost use Rattle.store_model.specs.declared.files.FileAreas.{FileAreas};
-ghost use Rattle.store_model.specs.HashRegion.{IsHashArea};
+ghost use Rattle.store_model.specs.HashCalls as hash;
+ghost use Rattle.store_model.specs.HashRegion.{del_op, get_op, hash_map, put_op, IsHashArea, IsHashRegion};
 ghost use Rattle.store_model.specs.FileCalls.{create_op, create_program, read_op, read_program, remove_op, remove_program, rename_op, rename_program, write_op, write_program};
 ghost use Rattle.store_model.specs.FileRegion.{files, AreFileAreas, AreFileRegions};
-ghost use Rattle.tx_blocks.specs.Runs.{IsLocalCall};
+ghost use Rattle.tx_blocks.specs.Runs.{HasEnded, IsLocalCall};
 ghost use Rattle.tx_blocks.specs.Tx.{added, Tx};
 ghost use Rattle.iso_fs.specs.Ends.{HasRun};
-ghost use Rattle.store_laws.specs.Both.{firsts, AreMixed, BothByMap, BothInOrder, BothWellFormed, IsByBoth, IsOfBoth, Mixed};
-ghost use Rattle.store_laws.specs.Calls.{KeyCall, StoreAnswer};
+ghost use Rattle.store_laws.specs.Both.{firsts, AreMixed, BothByMap, BothInOrder, BothWellFormed, First, IsByBoth, IsOfBoth, Mixed, Second};
+ghost use Rattle.store_laws.specs.Calls.{AreDisjoint, Del, Get, Got, KeyCall, Put, StoreAnswer, WasPut, WasThere};
 ghost use Rattle.store_laws.specs.Files.{file_act, file_store, FileAnswer, FileCall, FileMade, FileRead, FileThere, MakeFile, ReadFile, RemoveFile, RenameFile, WriteFile};
-ghost use Rattle.store_laws.specs.Growing.{IsMadeOf};
+ghost use Rattle.store_laws.specs.Growing.{IsMadeOf, IsMadeOfBoth};
 ghost use Rattle.store_laws.specs.Hash.{hash_store};
 ghost use Rattle.store_laws.specs.Parts.{accesses_in, answers_in, calls_in, AnswerInOrder, AreMade, Called, IsByCalls, IsOfCalls, Part};
+ghost use Rattle.store_laws.specs.Writes.{WriteWithin};
 
 /// Where commits write the regions of a file store by `create`, `write`, `read`, `rename` and `remove` that answered Ok alone, and they
 /// begin well formed, the calls of each commit answer as one thread's calls on a finite map from names to bytes: it begins as the map of
@@ -72,4 +74,47 @@ pub fn calls_of_hash_and_files_answer_in_order()
     ensures read_only { (a : Area) (b : FileAreas) (g : Geometry) (H : History) (n begin : ℕ) (parts : List (Mixed KeyCall StoreAnswer FileCall FileAnswer)) → IsHashArea a → AreFileAreas b → IsByBoth (hash_store a) (file_store b) g H n
         → n ≤ begin → begin ≤ last H → AreMixed (hash_store a) (file_store b) (array_at H begin) parts → IsFalse (has_write (accesses_in (firsts parts)))
         → BothByMap (hash_store a) (file_store b) parts (array_at H begin) }
+{}
+
+/// A call of the file store that answered Ok wrote blocks of its areas alone, whatever the array.
+pub fn file_calls_write_their_areas()
+    ensures made { (a : FileAreas) (name : List ℕ) (A : Array) (t u : Tx) (r : Unit {0}) → AreFileAreas a → t.base ≡ Some A
+        → HasRun (create_program a name) t u (Ok r) → WriteWithin (file_store a) (added t u) }
+    ensures was_read { (a : FileAreas) (name : List ℕ) (off len : ℕ) (A : Array) (t u : Tx) (r : Option (List ℕ)) → AreFileAreas a → t.base ≡ Some A
+        → HasRun (read_program a name off len) t u (Ok r) → WriteWithin (file_store a) (added t u) }
+    ensures was_written { (a : FileAreas) (name : List ℕ) (off : ℕ) (bytes : List ℕ) (A : Array) (t u : Tx) (r : Bool) → AreFileAreas a → t.base ≡ Some A
+        → HasRun (write_program a name off bytes) t u (Ok r) → WriteWithin (file_store a) (added t u) }
+    ensures renamed { (a : FileAreas) (old new : List ℕ) (A : Array) (t u : Tx) (r : Bool) → AreFileAreas a → t.base ≡ Some A
+        → HasRun (rename_program a old new) t u (Ok r) → WriteWithin (file_store a) (added t u) }
+    ensures removed { (a : FileAreas) (name : List ℕ) (A : Array) (t u : Tx) (r : Bool) → AreFileAreas a → t.base ≡ Some A
+        → HasRun (remove_program a name) t u (Ok r) → WriteWithin (file_store a) (added t u) }
+{}
+
+/// What the calls of a hash store and of a file store promise of an answer Ok makes them parts of their transaction, where the area of
+/// the one has no block in common with those of the other: a call of the one then writes no block of the other.
+pub fn calls_of_hash_and_files_are_parts()
+    ensures hash_got { (a : Area) (b : FileAreas) (key : List ℕ) (A : Array) (t u : Tx) (parts : List (Mixed KeyCall StoreAnswer FileCall FileAnswer)) (r : Option (List ℕ)) → IsHashArea a → AreDisjoint a b.tree → AreDisjoint a b.files
+        → IsMadeOfBoth (hash_store a) (file_store b) A t parts → HasEnded (hash.get_program a key) t u (Ok r) → IsLocalCall (IsHashRegion a) (hash_map a) (get_op key) t u r
+        → IsMadeOfBoth (hash_store a) (file_store b) A u (parts ++ First (Get key) (added t u) (Got r) ∷ []) }
+    ensures hash_was_put { (a : Area) (b : FileAreas) (key value : List ℕ) (A : Array) (t u : Tx) (parts : List (Mixed KeyCall StoreAnswer FileCall FileAnswer)) (r : Unit {0}) → IsHashArea a → AreDisjoint a b.tree → AreDisjoint a b.files
+        → IsMadeOfBoth (hash_store a) (file_store b) A t parts → HasEnded (hash.put_program a key value) t u (Ok r) → IsLocalCall (IsHashRegion a) (hash_map a) (put_op key value) t u r
+        → IsMadeOfBoth (hash_store a) (file_store b) A u (parts ++ First (Put key value) (added t u) WasPut ∷ []) }
+    ensures hash_was_there { (a : Area) (b : FileAreas) (key : List ℕ) (A : Array) (t u : Tx) (parts : List (Mixed KeyCall StoreAnswer FileCall FileAnswer)) (r : Bool) → IsHashArea a → AreDisjoint a b.tree → AreDisjoint a b.files
+        → IsMadeOfBoth (hash_store a) (file_store b) A t parts → HasEnded (hash.del_program a key) t u (Ok r) → IsLocalCall (IsHashRegion a) (hash_map a) (del_op key) t u r
+        → IsMadeOfBoth (hash_store a) (file_store b) A u (parts ++ First (Del key) (added t u) (WasThere r) ∷ []) }
+    ensures made { (a : Area) (b : FileAreas) (name : List ℕ) (A : Array) (t u : Tx) (parts : List (Mixed KeyCall StoreAnswer FileCall FileAnswer)) (r : Unit {0}) → AreFileAreas b → AreDisjoint a b.tree → AreDisjoint a b.files
+        → IsMadeOfBoth (hash_store a) (file_store b) A t parts → HasRun (create_program b name) t u (Ok r) → IsLocalCall (AreFileRegions b) (files b) (create_op name) t u r
+        → IsMadeOfBoth (hash_store a) (file_store b) A u (parts ++ Second (MakeFile name) (added t u) FileMade ∷ []) }
+    ensures was_read { (a : Area) (b : FileAreas) (name : List ℕ) (off len : ℕ) (A : Array) (t u : Tx) (parts : List (Mixed KeyCall StoreAnswer FileCall FileAnswer)) (r : Option (List ℕ)) → AreFileAreas b → AreDisjoint a b.tree → AreDisjoint a b.files
+        → IsMadeOfBoth (hash_store a) (file_store b) A t parts → HasRun (read_program b name off len) t u (Ok r) → IsLocalCall (AreFileRegions b) (files b) (read_op name off len) t u r
+        → IsMadeOfBoth (hash_store a) (file_store b) A u (parts ++ Second (ReadFile name off len) (added t u) (FileRead r) ∷ []) }
+    ensures was_written { (a : Area) (b : FileAreas) (name : List ℕ) (off : ℕ) (bytes : List ℕ) (A : Array) (t u : Tx) (parts : List (Mixed KeyCall StoreAnswer FileCall FileAnswer)) (r : Bool) → AreFileAreas b → AreDisjoint a b.tree → AreDisjoint a b.files
+        → IsMadeOfBoth (hash_store a) (file_store b) A t parts → HasRun (write_program b name off bytes) t u (Ok r) → IsLocalCall (AreFileRegions b) (files b) (write_op name off bytes) t u r
+        → IsMadeOfBoth (hash_store a) (file_store b) A u (parts ++ Second (WriteFile name off bytes) (added t u) (FileThere r) ∷ []) }
+    ensures renamed { (a : Area) (b : FileAreas) (old new : List ℕ) (A : Array) (t u : Tx) (parts : List (Mixed KeyCall StoreAnswer FileCall FileAnswer)) (r : Bool) → AreFileAreas b → AreDisjoint a b.tree → AreDisjoint a b.files
+        → IsMadeOfBoth (hash_store a) (file_store b) A t parts → HasRun (rename_program b old new) t u (Ok r) → IsLocalCall (AreFileRegions b) (files b) (rename_op old new) t u r
+        → IsMadeOfBoth (hash_store a) (file_store b) A u (parts ++ Second (RenameFile old new) (added t u) (FileThere r) ∷ []) }
+    ensures removed { (a : Area) (b : FileAreas) (name : List ℕ) (A : Array) (t u : Tx) (parts : List (Mixed KeyCall StoreAnswer FileCall FileAnswer)) (r : Bool) → AreFileAreas b → AreDisjoint a b.tree → AreDisjoint a b.files
+        → IsMadeOfBoth (hash_store a) (file_store b) A t parts → HasRun (remove_program b name) t u (Ok r) → IsLocalCall (AreFileRegions b) (files b) (remove_op name) t u r
+        → IsMadeOfBoth (hash_store a) (file_store b) A u (parts ++ Second (RemoveFile name) (added t u) (FileThere r) ∷ []) }
 {}

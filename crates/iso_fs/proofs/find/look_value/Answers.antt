@@ -1,4 +1,4 @@
-use Rattle.std.proofs.Common.{refl, sym, ap}
+use Rattle.std.proofs.Common.{refl}
 use Rattle.tx_blocks.proofs.Refusals.{later_same, read_none}
 use Rattle.iso_fs.specs.Finds.{found_as}
 use Rattle.iso_fs.proofs.Ended.{refused_so}

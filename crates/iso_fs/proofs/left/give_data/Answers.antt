@@ -1,7 +1,6 @@
-use Rattle.std.proofs.Common.{◌≡◌, ◌∙◌, sym, ap, refl, arith, ℕ, List, ◌+◌}
+use Rattle.std.proofs.Common.{◌≡◌, ◌∙◌, sym, ap, arith, ℕ, List, ◌+◌}
 use Rattle.store_model.specs.declared.stores.Region.{Region}
 use Rattle.store_model.specs.FileCalls.{without_bits}
-use Rattle.store_model.specs.FileNodes.{entry_at}
 use Rattle.store_model.specs.FreeMap.{without_bit}
 use Rattle.iso_fs.proofs.Files.{entry_handed, file_parts}
 use Rattle.iso_fs.proofs.RemoveSteps.{data_fits, entries_from, entries_step}

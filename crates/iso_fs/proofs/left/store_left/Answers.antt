@@ -1,4 +1,4 @@
-use Rattle.std.proofs.Common.{◌≡◌, ◌∙◌, subst, refl, arith, List, [], ◌∷◌}
+use Rattle.std.proofs.Common.{◌≡◌, ◌∙◌, subst, arith, [], ◌∷◌}
 use Rattle.std.specs.Prelude.{OnOk}
 use Rattle.iso_model.specs.declared.access.Access.{Access}
 use Rattle.tx_blocks.specs.Tx.{with_accesses}

@@ -1,4 +1,4 @@
-use Rattle.std.proofs.Common.{◌≡◌, refl, sym, subst, ℕ, List, Option, Some, Ok, None, true}
+use Rattle.std.proofs.Common.{refl, sym, subst, ℕ, Option, Ok, None}
 use Rattle.store_model.specs.FileCalls.{read_from}
 use Rattle.tx_blocks.proofs.Refusals.{later_same, read_none}
 use Rattle.iso_fs.specs.Ends.{HasRun}

@@ -1,6 +1,5 @@
-use Rattle.std.proofs.Common.{◌≡◌, ◌∙◌, refl, sym, ap, subst, arith, ℕ, ◌+◌, ◌-◌, List, [], Err, Some, Ok}
-use Rattle.std.specs.Prelude.{suc, take}
-use Rattle.tx_blocks.proofs.Progress.{IsAt}
+use Rattle.std.proofs.Common.{◌≡◌, ◌∙◌, refl, sym, subst, arith, ℕ, ◌+◌, ◌-◌, [], Err}
+use Rattle.std.specs.Prelude.{take}
 use Rattle.tx_blocks.proofs.Parts.{read_join}
 use Rattle.tx_blocks.proofs.Refusals.{later_same, later_than, read_blocks, read_none, read_size}
 use Rattle.store_model.specs.FileCalls.{read_pieces}

@@ -1,4 +1,4 @@
-use Rattle.std.proofs.Common.{◌≡◌, ◌-◌, ◌≤◌, [], length}
+use Rattle.std.proofs.Common.{◌≡◌, ◌-◌, ◌≤◌, []}
 use Rattle.std.specs.Prelude.{take}
 use Rattle.tx_blocks.specs.Tx.{IsLater}
 use Rattle.tx_blocks.specs.Runs.{HasRead}

@@ -1,4 +1,4 @@
-use Rattle.std.proofs.Common.{◌∙◌, ap, refl, arith}
+use Rattle.std.proofs.Common.{ap, arith}
 use Rattle.store_model.specs.FreeMap.{map_mark}
 use Rattle.store_model.specs.Stores.{bytes_in}
 use Rattle.tx_blocks.specs.Tx.{Device}

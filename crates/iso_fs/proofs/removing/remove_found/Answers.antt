@@ -1,4 +1,4 @@
-use Rattle.std.proofs.Common.{refl, sym, subst, ℕ, Option, Ok, None, false}
+use Rattle.std.proofs.Common.{refl, sym, subst, ℕ, Option, Ok, false}
 use Rattle.store_model.specs.FileCalls.{remove_file}
 use Rattle.tx_blocks.proofs.Refusals.{later_same}
 use Rattle.iso_fs.specs.Ends.{HasRun}

@@ -1,4 +1,3 @@
-use Rattle.std.proofs.Common.{◌∙◌, refl, arith}
 use Rattle.store_model.specs.declared.files.FsError.TheVariants as fs
 use Rattle.iso_fs.proofs.Ended.{done_so, refused_so}
 use Rattle.iso_fs.proofs.RenameSteps.{dropped, not_dropped, tree_follows}

@@ -1,4 +1,4 @@
-use Rattle.std.proofs.Common.{refl, sym, subst, ℕ, List, Option, Ok, Some, None, false, Result, Bool}
+use Rattle.std.proofs.Common.{refl, sym, subst, ℕ, List, Option, Ok, false}
 use Rattle.store_model.specs.FileCalls.{rename_found}
 use Rattle.tx_blocks.proofs.Refusals.{later_same}
 use Rattle.iso_fs.specs.Ends.{HasRun}

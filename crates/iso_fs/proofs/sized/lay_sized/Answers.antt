@@ -2,7 +2,7 @@ use Rattle.std.proofs.Common.{◌≡◌, ◌∙◌, ◌++◌, [], sym, ap, ℕ, 
 use Rattle.std.specs.Prelude.{map}
 use Rattle.std.specs.List.{range_with_len}
 use Rattle.std.proofs.lemmas.List.FromFn.{length-map-range_with_len}
-use Rattle.store_model.specs.FileNodes.{entries_of, entry_at, file_block}
+use Rattle.store_model.specs.FileNodes.{entry_at, file_block}
 use Rattle.iso_fs.proofs.sized.lay_sized.Goals as goal
 
 pub returns : goal.returns

@@ -1,10 +1,10 @@
-use Rattle.std.proofs.Common.{◌∙◌, ◌+◌, ◌++◌, ap, refl, arith, length, take, ℕ}
+use Rattle.std.proofs.Common.{◌∙◌, ◌++◌, ap, refl, arith, take, ℕ}
 use Rattle.store_model.specs.Cells.{block_with}
 use Rattle.store_model.specs.FileNodes.{entries_of}
 use Rattle.tx_blocks.specs.Tx.{Device}
 use Rattle.tx_blocks.proofs.Refusals.{later_same}
 use Rattle.iso_fs.proofs.Ended.{done_so, refused_store}
-use Rattle.iso_fs.proofs.WriteSteps.{piece_done, piece_refused, place_covered}
+use Rattle.iso_fs.proofs.WriteSteps.{piece_done, piece_refused}
 use Rattle.iso_fs.proofs.storing.write_piece.Goals as goal
 
 pub returns-in-Ok-clause-run : goal.returns-in-Ok-clause-run

@@ -1,4 +1,4 @@
-use Rattle.std.proofs.Common.{◌≡◌, ◌∙◌, ◌++◌, refl, sym, ap, subst, arith, ℕ, ◌+◌, ◌-◌, ◌≤◌, List, drop, length, Err}
+use Rattle.std.proofs.Common.{◌∙◌, ◌++◌, refl, ap, subst, arith, ℕ, ◌+◌, ◌-◌, List, drop, length, Err}
 use Rattle.std.specs.Prelude.{suc}
 use Rattle.store_model.specs.FileCalls.{write_pieces}
 use Rattle.store_model.specs.FileNodes.{entries_of}

@@ -1,4 +1,4 @@
-use Rattle.std.proofs.Common.{refl, sym, subst, ℕ, Option, Ok, None, false}
+use Rattle.std.proofs.Common.{refl, sym, subst, ℕ, Option, Ok, false}
 use Rattle.store_model.specs.FileCalls.{write_to}
 use Rattle.tx_blocks.proofs.Refusals.{later_same}
 use Rattle.iso_fs.specs.Ends.{HasRun}

@@ -1,12 +1,7 @@
-use Rattle.std.proofs.Common.{◌≡◌, ◌∙◌, ◌+◌, ◌++◌, ap, refl, sym, subst, arith, ℕ, length}
+use Rattle.std.proofs.Common.{◌∙◌, ◌+◌, ◌++◌, ap, subst, arith, ℕ, length}
 use Rattle.store_model.specs.FileCalls.{write_pieces}
 use Rattle.store_model.specs.FileNodes.{entries_of}
-use Rattle.tx_blocks.specs.Tx.{Tx, Device}
-use Rattle.tx_blocks.proofs.Refusals.{later_same}
 use Rattle.iso_fs.specs.Ends.{HasRun}
-use Rattle.iso_fs.proofs.Ended.{behaves_written, refused_store}
-use Rattle.iso_fs.proofs.Files.{count_fits, file_parts}
-use Rattle.iso_fs.proofs.WriteCalls.{most_is}
 use Rattle.iso_fs.proofs.WriteSteps.{covered_by, sized_refused, sized_run}
 use Rattle.iso_fs.proofs.writing.write_grown.Goals as goal
 

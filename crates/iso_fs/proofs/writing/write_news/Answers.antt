@@ -1,4 +1,4 @@
-use Rattle.std.proofs.Common.{◌≡◌, ◌∙◌, ap, refl, arith}
+use Rattle.std.proofs.Common.{◌∙◌, ap, arith}
 use Rattle.store_model.specs.FileCalls.{write_sized}
 use Rattle.tx_blocks.specs.Tx.{Tx, Device}
 use Rattle.tx_blocks.proofs.Refusals.{later_same}

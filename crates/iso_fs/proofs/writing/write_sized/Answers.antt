@@ -3,7 +3,6 @@ use Rattle.store_model.specs.FileCalls.{write_pieces}
 use Rattle.store_model.specs.FileNodes.{bytes_of, entries_of}
 use Rattle.iso_fs.specs.Ends.{HasRun}
 use Rattle.iso_fs.proofs.Files.{file_parts}
-use Rattle.iso_fs.proofs.WriteCalls.{most_is}
 use Rattle.iso_fs.proofs.WriteSteps.{covered_old, sized_kept}
 use Rattle.iso_fs.proofs.writing.write_sized.Goals as goal
 

@@ -1,4 +1,4 @@
-use Rattle.std.proofs.Common.{◌≡◌, ◌∙◌, ◌-◌, ◌≤◌, sym, ap, refl, subst, arith, not, ℕ, List, take}
+use Rattle.std.proofs.Common.{◌∙◌, ◌-◌, ◌≤◌, sym, ap, refl, subst, arith, not, take}
 use Rattle.std.specs.List.{filter, range_with_len}
 use Rattle.store_model.specs.declared.stores.Region.{Region}
 use Rattle.store_model.specs.FreeMap.{free_count, map_bit, map_mark}

@@ -1,9 +1,8 @@
-use Rattle.std.proofs.Common.{◌≡◌, ◌∙◌, ◌+◌, ◌-◌, ◌≤◌, ◌&&◌, ap, refl, sym, arith, Bool, true, false, ℕ, length, nat_le, []}
-use Rattle.std.proofs.lemmas.Bool.Decides.{nat_tests}
-use Rattle.store_model.specs.FileNodes.{blocks_for, bytes_of, data_count, most_bytes}
+use Rattle.std.proofs.Common.{◌∙◌, ◌+◌, sym, arith, length, nat_le}
+use Rattle.store_model.specs.FileNodes.{bytes_of, most_bytes}
 use Rattle.iso_fs.proofs.Files.{file_parts}
 use Rattle.iso_fs.proofs.WriteCalls.{most_is}
-use Rattle.iso_fs.proofs.WriteSteps.{few_more, off_bad, range_bad, range_run, size_bad}
+use Rattle.iso_fs.proofs.WriteSteps.{off_bad, range_bad, size_bad}
 use Rattle.iso_fs.proofs.writing.write_to.Goals as goal
 
 pub returns-then-bytes_of-off-clause-run : goal.returns-then-bytes_of-off-clause-run

@@ -1,0 +1,41 @@
+-- A call of the hash store or of the file store, as a part of a transaction that calls both in disjoint areas.
+use Rattle.store_laws.proofs.Words.{◌≡◌, ℕ, ◌||◌, Bool, true, false, List, [], ◌∷◌, ◌++◌, Result, Ok, inl, inr, both_ways, or_cases, Area, StoreError, Array, Program, HasEnded, IsLocalCall, Tx, added, First, Second, AreDisjoint, KeyCall, StoreAnswer, in_area, hash_store, WriteWithin}
+use Rattle.std.proofs.lemmas.Bool.{cases_Bool}
+use Rattle.store_model.specs.declared.files.FileAreas.{FileAreas}
+use Rattle.store_model.specs.FileCalls.{Call}
+use Rattle.iso_fs.specs.Ends.{HasRun}
+use Rattle.store_laws.specs.Both.{Mixed}
+use Rattle.store_laws.specs.Files.{FileAnswer, FileCall, file_store, in_areas}
+use Rattle.store_laws.specs.Growing.{IsMadeOfBoth}
+use Rattle.store_laws.proofs.BothCalls.{disjoint_blocks}
+use Rattle.store_laws.proofs.BothGrowth.{first_called, second_called}
+use Rattle.store_laws.proofs.Programs.{spare_where_apart}
+
+abbrev Parts : Type 0
+Parts = List (Mixed KeyCall StoreAnswer FileCall FileAnswer)
+
+module _ (a : Area) (b : FileAreas) (one : AreDisjoint a b.tree) (two : AreDisjoint a b.files) where
+  none_of : (k : ℕ) → in_area a k ≡ true → in_areas b k ≡ false
+  none_of k has = neither (in_area b.tree k) (in_area b.files k) (disjoint_blocks a b.tree one k has) (disjoint_blocks a b.files two k has)
+    where
+      neither : (x y : Bool) → x ≡ false → y ≡ false → (x || y) ≡ false
+      neither x y first second = rw (first, second) Rattle.std.proofs.Common.refl
+
+  not_in : (k : ℕ) → in_areas b k ≡ true → in_area a k ≡ false
+  not_in k has = elim (cases_Bool (in_area a k)) [
+    | inl is ↦ absurd (both_ways (in_areas b k) (none_of k is) has)
+    | inr other ↦ other
+  ]
+
+module _ {X : Type 0} (a : Area) (b : FileAreas) where
+  pub hash_beside : (p : Program (Result X StoreError)) (A : Array) (t u : Tx) (parts : Parts) (call : KeyCall) (answer : StoreAnswer) (r : X) → AreDisjoint a b.tree → AreDisjoint a b.files
+      → IsMadeOfBoth (hash_store a) (file_store b) A t parts → HasEnded p t u (Ok r) → WriteWithin (hash_store a) (added t u) → IsLocalCall (hash_store a).IsWellFormed (hash_store a).map_of ((hash_store a).act call) t u answer
+      → IsMadeOfBoth (hash_store a) (file_store b) A u (parts ++ First call (added t u) answer ∷ [])
+  hash_beside p A t u parts call answer r one two is ended within local =
+      first_called (hash_store a) (file_store b) A t u parts call answer ended.done is ended.is local (spare_where_apart (hash_store a) (file_store b) (added t u) (none_of a b one two) within)
+
+  pub file_part : (p : Call X) (A : Array) (t u : Tx) (parts : Parts) (call : FileCall) (answer : FileAnswer) (r : X) → AreDisjoint a b.tree → AreDisjoint a b.files
+      → IsMadeOfBoth (hash_store a) (file_store b) A t parts → HasRun p t u (Ok r) → WriteWithin (file_store b) (added t u) → IsLocalCall (file_store b).IsWellFormed (file_store b).map_of ((file_store b).act call) t u answer
+      → IsMadeOfBoth (hash_store a) (file_store b) A u (parts ++ Second call (added t u) answer ∷ [])
+  file_part p A t u parts call answer r one two is run within local =
+      second_called (hash_store a) (file_store b) A t u parts call answer run.done is run.is local (spare_where_apart (file_store b) (hash_store a) (added t u) (not_in a b one two) within)
