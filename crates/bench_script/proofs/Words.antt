@@ -35,26 +35,26 @@ pub use Rattle.iso_model.specs.declared.access.Kind.TheVariants.{Read, Write}
 pub use Rattle.iso_model.specs.declared.access.Mode.TheVariants.{Serial}
 pub use Rattle.iso_model.specs.declared.access.Run.{Run}
 pub use Rattle.iso_model.specs.declared.limits.TheConstants.{LAST, MAX_ACCESSES, MAX_INPUT, MAX_LINE}
-pub use Rattle.script_model.specs.Bench.{after_draws, answers_to, bench_geometry, bench_world, drawn_round, is_committed, is_conflict, nth_drawn, round_text}
+pub use Rattle.script_model.specs.Bench.{after_draws, answers_to, bench_geometry, bench_world, drawn_round, is_committed, is_conflict, nth_drawn, round_text, tells_first}
 unfoldable pub use Rattle.script_model.specs.Bench.{bench_text}
 pub use Rattle.script_model.specs.Script.{Script, before_script, is_printable, replies, script_from, without_return}
 unfoldable pub use Rattle.script_model.specs.Script.{parse_whole, script}
 pub use Rattle.script_model.specs.CoreReplies.{as_step}
 pub use Rattle.script_model.specs.Step.{access_step, with_access}
 unfoldable pub use Rattle.script_model.specs.Step.{get_step, put_step, step}
-pub use Rattle.script_model.specs.Text.{dashed, digit_of, hex_text, pair_text, pieces, reply_line}
-unfoldable pub use Rattle.script_model.specs.Text.{reply_text}
+pub use Rattle.script_model.specs.Text.{dashed, digit_of, hex_text, pair_text, pieces, reply_line, labels_text}
+unfoldable pub use Rattle.script_model.specs.Text.{reply_text, label_text}
 pub use Rattle.script_model.specs.declared.script.Line.{Line}
 pub use Rattle.script_model.specs.declared.script.Op.{Op}
 pub use Rattle.script_model.specs.declared.script.Op.TheVariants.{Begin, End, Get, Put}
 pub use Rattle.script_model.specs.declared.script.Parsed.{Parsed}
 pub use Rattle.script_model.specs.declared.script.Reply.{Reply}
-pub use Rattle.script_model.specs.declared.script.Reply.TheVariants.{BadBlock, BadKey, BadRange, BadValue, Began, Broken, Committed, Compacted, Conflict, Done, Found, InTx, LabelTaken, LogFull, Missing, ModeFixed, NoAccess, NoBlocks, NoHandle, NoStore, NotInTx, Numbers, Pairs, ReadOnly, Shown, StoreMode, TooManyAccesses, TooManyMarks, TooManyTx, Trimmed, Upgraded, Worn}
+pub use Rattle.script_model.specs.declared.script.Reply.TheVariants.{BadBlock, BadKey, BadRange, BadValue, Began, Broken, Committed, Compacted, Conflict, Done, Found, InTx, LabelTaken, LogFull, Missing, ModeFixed, NoAccess, NoBlocks, NoHandle, NoStore, NotInTx, Numbers, Pairs, ReadOnly, Shown, StoreMode, TooManyAccesses, TooManyMarks, TooManyTx, Trimmed, Upgraded, Worn, Grouped}
 pub use Rattle.script_runner.proofs.Feeds.{no_feed-cons, no_feed-nil}
 pub use Rattle.script_runner.proofs.Fronts.{script-line}
 pub use Rattle.script_runner.specs.Replies.{AreSameButShown, text_of}
 pub use Rattle.script_runner.specs.Run.{HasNoFeed}
-pub use Rattle.script_runner.specs.Told.{ArePlain, SameButShown}
+pub use Rattle.script_runner.specs.Told.{ArePlain, SameButShown, IsPlain}
 pub use Rattle.script_text.proofs.Numerals.{IsWord, decimal_word, hex_word}
 pub use Rattle.script_text.proofs.Readings.{parse-printed}
 pub use Rattle.script_text.proofs.Spaces.{AreWords, spaced_printable}
@@ -64,3 +64,4 @@ pub use Rattle.bench_script.specs.Ends.{DrawnState}
 pub use Rattle.bench_script.specs.Kinds.{commits_in, conflicts_in, kind_of}
 pub use Rattle.bench_script.specs.Rounds.{AreRoundReplies, is_one_place, last_after, one_places}
 pub use Rattle.bench_script.specs.declared.line_kind.LineKind.{LineKind}
+pub use Rattle.iso_model.specs.declared.access.GroupReply.{GroupReply}

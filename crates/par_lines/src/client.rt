@@ -72,6 +72,8 @@ pub(crate) fn answer<'a, D: Disk + Drop, O: Origin, R: Wait>(
         Op::Release { label } => release(rt, session, label),
         Op::Takeover { label } => takeover(rt, session, label),
         Op::Await { label } => await_label(rt, session, label),
+        // a script with a group is refused before a client runs
+        Op::Group { .. } => Err(Stop::Memory),
         Op::Trim => trim(rt, session),
         Op::Stat => Ok(stat(rt, session)),
         Op::Compact => compact(rt, session),

@@ -216,7 +216,8 @@ Where false P Q = Q
 abbrev pub InStore : (blocks : ℕ) → Own → (stored other : Type 0) → Type 0
 InStore blocks t P Q = Where (not (blocks == 0) && is_serial t.mode) P Q
 
--- these entries are the line's, and it is answered so; the client has the one transaction before it and the other after it
+-- these entries are the line's, and it is answered so; the client has the one transaction before it and the other after it. No line of
+-- clients beside each other is a group
 abbrev pub Does : Geometry → (tells : Bool) → Option Own → Op → List Entry → Result Reply Stop → Option Own → Type 0
 Does g tells None (op.Begin named) es r own' = Begins g named es r own'
 Does g tells None (op.Takeover label) es r own' = Looks label es r own'
@@ -233,6 +234,7 @@ Does g tells (Some t) (op.TreePut key value) es r own' = InStore g.tree t (Calls
 Does g tells (Some t) (op.TreeGet key) es r own' = InStore g.tree t (CallsStore g tells t (op.TreeGet key) es r own') (Says g (Some t) (op.TreeGet key) es r own')
 Does g tells (Some t) (op.TreeDelete key) es r own' = InStore g.tree t (CallsStore g tells t (op.TreeDelete key) es r own') (Says g (Some t) (op.TreeDelete key) es r own')
 Does g tells (Some t) (op.TreeScan from to most) es r own' = InStore g.tree t (CallsStore g tells t (op.TreeScan from to most) es r own') (Says g (Some t) (op.TreeScan from to most) es r own')
+Does g tells own (op.Group labels) es r own' = ⊥
 Does g tells own op.Trim es r own' = Trims own es r own'
 Does g tells own op.Stat es r own' = Stats own es r own'
 Does g tells own op.Compact es r own' = Compacts own es r own'

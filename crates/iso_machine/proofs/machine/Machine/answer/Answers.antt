@@ -161,3 +161,17 @@ returns-in-HashPut g c W of isop =
     (store_not_plain c.args.op.now c.in-HashPut.is)
     (subst (λ (given : Reply × World). AnswersTold (AreOf state n.core n.live.items) (state (disk_of m.core)) (state (disk_of n.core)) W given ⊥ c.stored.result)
     (store_is W c.args.client c.args.op.now c.in-HashPut.is) (c.stored.ensures W of))
+
+-- a group
+pub group-requires-clause-op : goal.group-requires-clause-op
+group-requires-clause-op g c =
+    subst (λ (labels : List (List ℕ)). IsOp (op.Group labels)) (sym c.as_slice.ensures) (subst (λ (o : Op). IsOp o) c.in-Group.is c.requires.op)
+
+pub returns-in-Group : goal.returns-in-Group
+returns-in-Group g c W of isop =
+    let m = c.args.self.now in
+    let n = c.group.new.self in
+    let state = g.D.Disk.state in
+    told_so (AreOf state n.core n.live.items) (state (disk_of m.core)) (state (disk_of n.core)) W (step W c.args.client c.args.op.now) (IsPlain c.args.op.now) c.group.result
+    (subst (λ (given : Reply × World). Answers (AreOf state n.core n.live.items) (state (disk_of m.core)) (state (disk_of n.core)) W given c.group.result)
+    (ap (λ (labels : List (List ℕ)). step W c.args.client (op.Group labels)) c.as_slice.ensures ∙ ap (λ (o : Op). step W c.args.client o) (sym c.in-Group.is)) (c.group.ensures W of))
