@@ -1,5 +1,6 @@
 -- Which replies begin as a commit and as a conflict do.
-use Rattle.bench_script.proofs.Words.{◌≡◌, ◌∙◌, sym, refl, ap, ℕ, ◌+◌, ◌/◌, ◌%◌, Bool, true, false, cond, ◌&&◌, nat_eq, List, [], ◌∷◌, take, length, codes, arith, filter, pointwise, Reply, Done, Began, Shown, Committed, ReadOnly, Conflict, Trimmed, Compacted, Upgraded, Numbers, Found, Pairs, Missing, InTx, NotInTx, ModeFixed, NoStore, StoreMode, BadKey, BadValue, BadBlock, BadRange, NoAccess, TooManyMarks, TooManyAccesses, Broken, NoBlocks, NoHandle, LabelTaken, TooManyTx, Worn, LogFull, is_committed, is_conflict, digit_of, reply_text, LineKind, kind_of, commits_in, conflicts_in}
+use Rattle.bench_script.proofs.Words.{◌≡◌, ◌∙◌, sym, refl, ap, ℕ, ◌+◌, ◌/◌, ◌%◌, Bool, true, false, cond, ◌&&◌, nat_eq, List, [], ◌∷◌, take, length, codes, arith, filter, pointwise, Reply, Done, Began, Shown, Committed, ReadOnly, Conflict, Grouped, Trimmed, Compacted, Upgraded, Numbers, Found, Pairs, Missing, InTx, NotInTx, ModeFixed, NoStore, StoreMode, BadKey, BadValue, BadBlock, BadRange, NoAccess, TooManyMarks, TooManyAccesses, Broken, NoBlocks, NoHandle, LabelTaken, TooManyTx, Worn, LogFull, is_committed, is_conflict, tells_first, label_text, Option, Some, None, GroupReply, digit_of, reply_text, LineKind, kind_of, commits_in, conflicts_in}
+use Rattle.iso_model.specs.declared.access.GroupReply.TheVariants as member
 use Rattle.bench_script.specs.declared.line_kind.LineKind.TheVariants as kind
 
 -- the kind of a reply by two tests
@@ -33,6 +34,16 @@ unfolding reply_text
 shown_starts [] = refl
 shown_starts (b ∷ bytes) = rw (no_letter b) (and_no (nat_eq 99 (digit_of (b / 16))))
 
+grouped_starts : (answers : List (Option GroupReply)) → starts (codes "ok comm") (reply_text (Grouped answers)) ≡ tells_first answers
+unfolding reply_text label_text
+grouped_starts [] = refl
+grouped_starts (None ∷ answers) = refl
+grouped_starts (Some (member.Committed n) ∷ answers) = refl
+grouped_starts (Some member.ReadOnly ∷ answers) = refl
+grouped_starts (Some (member.Conflict c) ∷ answers) = refl
+grouped_starts (Some (member.Full need free) ∷ answers) = refl
+grouped_starts (Some member.Worn ∷ answers) = refl
+
 -- what its text begins with is the kind of a reply
 kind_by_text : (reply : Reply) → by_tests (starts (codes "ok comm") (reply_text reply)) (starts (codes "c") (reply_text reply)) ≡ kind_of reply
 unfolding reply_text
@@ -42,6 +53,7 @@ kind_by_text (Shown bytes) = ap (λ t. by_tests t false) (shown_starts bytes)
 kind_by_text (Committed n) = refl
 kind_by_text ReadOnly = refl
 kind_by_text (Conflict c) = refl
+kind_by_text (Grouped answers) = ap (λ t. by_tests t false) (grouped_starts answers)
 kind_by_text (Trimmed n) = refl
 kind_by_text (Compacted n) = refl
 kind_by_text (Upgraded n) = refl
@@ -86,9 +98,11 @@ counted p reply more true is = rw is (omega arith)
 counted p reply more false is = rw is (omega arith)
 
 commit_kind : (reply : Reply) → cond (is_committed reply) 1 0 ≡ commits_in (kind_of reply)
+commit_kind (Grouped answers) = elim (tells_first answers) as (λ t. cond t 1 0 ≡ commits_in (cond t kind.Commit kind.Other)) [ true ↦ refl | false ↦ refl ]
 commit_kind reply = grind arith
 
 conflict_kind : (reply : Reply) → cond (is_conflict reply) 1 0 ≡ conflicts_in (kind_of reply)
+conflict_kind (Grouped answers) = elim (tells_first answers) as (λ t. 0 ≡ conflicts_in (cond t kind.Commit kind.Other)) [ true ↦ refl | false ↦ refl ]
 conflict_kind reply = grind arith
 
 -- one more reply counts as its kind says

@@ -1,6 +1,7 @@
 -- The bytes of a number and of a reply.
-use Rattle.bench_script.proofs.Words.{◌≡◌, ◌≢◌, ◌∙◌, refl, ℕ, zero, suc, ◌/◌, ◌%◌, ◌<◌, Bool, true, false, cond, not, ◌==◌, List, [], ◌∷◌, ◌++◌, decimal, codes, arith, list_all, digits, digits_onto, digit_glyph, ne_eqb, list_all-append, Reply, Done, Began, Shown, Committed, ReadOnly, Conflict, Trimmed, Compacted, Upgraded, Numbers, Found, Pairs, Missing, InTx, NotInTx, ModeFixed, NoStore, StoreMode, BadKey, BadValue, BadBlock, BadRange, NoAccess, TooManyMarks, TooManyAccesses, Broken, NoBlocks, NoHandle, LabelTaken, TooManyTx, Worn, LogFull, dashed, digit_of, hex_text, pair_text, reply_text}
+use Rattle.bench_script.proofs.Words.{◌≡◌, ◌≢◌, ◌∙◌, refl, ℕ, zero, suc, ◌/◌, ◌%◌, ◌<◌, Bool, true, false, cond, not, ◌==◌, List, [], ◌∷◌, ◌++◌, decimal, codes, arith, list_all, digits, digits_onto, digit_glyph, ne_eqb, list_all-append, Reply, Done, Began, Shown, Committed, ReadOnly, Conflict, Grouped, Trimmed, Compacted, Upgraded, Numbers, Found, Pairs, Missing, InTx, NotInTx, ModeFixed, NoStore, StoreMode, BadKey, BadValue, BadBlock, BadRange, NoAccess, TooManyMarks, TooManyAccesses, Broken, NoBlocks, NoHandle, LabelTaken, TooManyTx, Worn, LogFull, dashed, digit_of, hex_text, pair_text, reply_text, label_text, labels_text, Option, Some, None, GroupReply}
 use Rattle.std.proofs.Common.{flat_map}
+use Rattle.iso_model.specs.declared.access.GroupReply.TheVariants as member
 
 -- the byte is another one
 abbrev pub is_other : ℕ → ℕ → Bool
@@ -67,6 +68,27 @@ pair_bytes (pair ∷ pairs) =
     (both 10 (32 ∷ dashed pair.0) (61 ∷ dashed pair.1) (both 10 (32 ∷ []) (dashed pair.0) refl (dashed_bytes pair.0)) (both 10 (61 ∷ []) (dashed pair.1) refl (dashed_bytes pair.1)))
     (pair_bytes pairs)
 
+-- what a label of a group is answered
+label_bytes : (answer : Option GroupReply) → list_all (is_other 10) (label_text answer) ≡ true
+unfolding label_text
+label_bytes (Some (member.Committed n)) = (numbered (codes "commit ") n refl).all
+label_bytes (Some member.ReadOnly) = refl
+label_bytes (Some (member.Conflict c)) =
+    (numbered_on (codes " at ") c.at refl (numbered_on (codes " block ") c.block refl (numbered (codes "conflict with ") c.commit refl))).all
+label_bytes (Some (member.Full need free)) = (numbered_on (codes " free ") free refl (numbered (codes "log full need ") need refl)).all
+label_bytes (Some member.Worn) = refl
+label_bytes None = refl
+
+others_bytes : (answers : List (Option GroupReply)) → list_all (is_other 10) (flat_map (λ a. codes "; " ++ label_text a) answers) ≡ true
+others_bytes [] = refl
+others_bytes (answer ∷ answers) =
+    both 10 (codes "; " ++ label_text answer) (flat_map (λ a. codes "; " ++ label_text a) answers) (both 10 (codes "; ") (label_text answer) refl (label_bytes answer)) (others_bytes answers)
+
+labels_bytes : (answers : List (Option GroupReply)) → list_all (is_other 10) (labels_text answers) ≡ true
+labels_bytes [] = refl
+labels_bytes (answer ∷ answers) =
+    both 10 (32 ∷ label_text answer) (flat_map (λ a. codes "; " ++ label_text a) answers) (both 10 (32 ∷ []) (label_text answer) refl (label_bytes answer)) (others_bytes answers)
+
 -- no reply has a line feed
 pub reply_has_no_feed : (reply : Reply) → list_all (is_other 10) (reply_text reply) ≡ true
 unfolding reply_text
@@ -77,6 +99,7 @@ reply_has_no_feed (Committed n) = (numbered (codes "ok commit ") n refl).all
 reply_has_no_feed ReadOnly = refl
 reply_has_no_feed (Conflict c) =
     (numbered_on (codes " at ") c.at refl (numbered_on (codes " block ") c.block refl (numbered (codes "conflict with ") c.commit refl))).all
+reply_has_no_feed (Grouped answers) = both 10 (codes "ok") (labels_text answers) refl (labels_bytes answers)
 reply_has_no_feed (Trimmed n) = (numbered (codes "ok trim ") n refl).all
 reply_has_no_feed (Compacted n) = (numbered (codes "ok compact ") n refl).all
 reply_has_no_feed (Upgraded n) = (numbered (codes "ok upgrade ") n refl).all

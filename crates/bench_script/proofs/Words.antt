@@ -1,5 +1,5 @@
 -- The words that the proofs of this crate cite from elsewhere.
-pub use Rattle.std.proofs.Common.{Bool, List, None, Ok, Result, Some, [], ap, append-nil, append_assoc, arith, codes, cond, decimal, drop, false, length, length-append, length-drop, min, nat_eq, nat_le, not, refl, subst, suc, sym, take, true, zero, ℕ, ◌%◌, ◌&&◌, ◌*◌, ◌++◌, ◌+◌, ◌-◌, ◌/◌, ◌<◌, ◌==◌, ◌∙◌, ◌∷◌, ◌≡◌, ◌≢◌, ◌≤◌}
+pub use Rattle.std.proofs.Common.{Bool, List, None, Ok, Option, Result, Some, [], ap, append-nil, append_assoc, arith, codes, cond, decimal, drop, false, length, length-append, length-drop, min, nat_eq, nat_le, not, refl, subst, suc, sym, take, true, zero, ℕ, ◌%◌, ◌&&◌, ◌*◌, ◌++◌, ◌+◌, ◌-◌, ◌/◌, ◌<◌, ◌==◌, ◌∙◌, ◌∷◌, ◌≡◌, ◌≢◌, ◌≤◌}
 pub use Rattle.std.proofs.lemmas.Bool.{and_parts, cond-false, eq-eqb, le-ltb, leb-true, lt-leb, ne_eqb}
 pub use Rattle.std.proofs.lemmas.Fmt.{decimal_digit, length-decimal-le}
 pub use Rattle.std.proofs.lemmas.List.{drop-drop, drop_all, take-append-drop, take_all}
@@ -12,20 +12,21 @@ pub use Rattle.std.specs.List.{list_all}
 pub use Rattle.std.specs.Prelude.{Contains, filter, flat_map}
 pub use Rattle.iso_model.specs.Premises.{AreBytes}
 pub use Rattle.iso_model.specs.World.{World}
+pub use Rattle.iso_model.specs.declared.access.GroupReply.{GroupReply}
 pub use Rattle.iso_model.specs.declared.limits.TheConstants.{MAX_INPUT, MAX_LINE}
-pub use Rattle.script_model.specs.Bench.{after_draws, answers_to, drawn_round, is_committed, is_conflict, nth_drawn, round_text}
+pub use Rattle.script_model.specs.Bench.{after_draws, answers_to, drawn_round, is_committed, is_conflict, nth_drawn, round_text, tells_first}
 unfoldable pub use Rattle.script_model.specs.Bench.{bench_text}
 pub use Rattle.script_model.specs.Script.{Script, before_script, is_printable, replies, script_from, without_return}
 unfoldable pub use Rattle.script_model.specs.Script.{parse_whole, script}
 pub use Rattle.script_model.specs.Step.{step}
-pub use Rattle.script_model.specs.Text.{dashed, digit_of, hex_text, pair_text, pieces, reply_line}
-unfoldable pub use Rattle.script_model.specs.Text.{reply_text}
+pub use Rattle.script_model.specs.Text.{dashed, digit_of, hex_text, labels_text, pair_text, pieces, reply_line}
+unfoldable pub use Rattle.script_model.specs.Text.{label_text, reply_text}
 pub use Rattle.script_model.specs.declared.script.Line.{Line}
 pub use Rattle.script_model.specs.declared.script.Op.{Op}
 pub use Rattle.script_model.specs.declared.script.Op.TheVariants.{Begin, End, Get, Put}
 pub use Rattle.script_model.specs.declared.script.Parsed.{Parsed}
 pub use Rattle.script_model.specs.declared.script.Reply.{Reply}
-pub use Rattle.script_model.specs.declared.script.Reply.TheVariants.{BadBlock, BadKey, BadRange, BadValue, Began, Broken, Committed, Compacted, Conflict, Done, Found, InTx, LabelTaken, LogFull, Missing, ModeFixed, NoAccess, NoBlocks, NoHandle, NoStore, NotInTx, Numbers, Pairs, ReadOnly, Shown, StoreMode, TooManyAccesses, TooManyMarks, TooManyTx, Trimmed, Upgraded, Worn}
+pub use Rattle.script_model.specs.declared.script.Reply.TheVariants.{BadBlock, BadKey, BadRange, BadValue, Began, Broken, Committed, Compacted, Conflict, Done, Found, Grouped, InTx, LabelTaken, LogFull, Missing, ModeFixed, NoAccess, NoBlocks, NoHandle, NoStore, NotInTx, Numbers, Pairs, ReadOnly, Shown, StoreMode, TooManyAccesses, TooManyMarks, TooManyTx, Trimmed, Upgraded, Worn}
 pub use Rattle.script_runner.proofs.Feeds.{no_feed-cons, no_feed-nil}
 pub use Rattle.script_runner.proofs.Fronts.{script-line}
 pub use Rattle.script_runner.specs.Run.{HasNoFeed}

@@ -145,6 +145,7 @@ same_but_shown r s is = subst (λ (x : Reply). SameButShown r x) is (itself r)
     itself (reply.Shown bytes) = tt
     itself reply.Done = refl
     itself (reply.Began at) = refl
+    itself (reply.Grouped answers) = refl
     itself (reply.Committed number) = refl
     itself reply.ReadOnly = refl
     itself (reply.Conflict clash) = refl

@@ -11,3 +11,6 @@ pub mod Switches
 pub mod Stored
 pub mod Told
 pub mod Calls
+pub mod Groups
+pub mod Taking
+pub mod Ended

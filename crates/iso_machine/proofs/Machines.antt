@@ -109,6 +109,7 @@ act_leads W c t (op.Mark off len) is isop here = subst (λ (o : Option Live). Is
 act_leads W c t (op.Release text) is isop here = is
 act_leads W c t (op.Takeover text) is isop here = is
 act_leads W c t (op.Await text) is isop here = is
+act_leads W c t (op.Group texts) is isop here = is
 act_leads W c t op.Trim is isop here = is
 act_leads W c t op.Stat is isop here = is
 act_leads W c t op.Compact is isop here = is

@@ -1,9 +1,9 @@
 -- The words that the proofs of this crate cite from elsewhere.
-pub use Rattle.std.proofs.Common.{Bool, Err, IfOk, IsErrOf, IsSome, IsTrue, List, None, Ok, Option, Result, Some, [], ap, arith, cond, drop, eq-eqb, false, find, get_or, if◌then◌else◌, inl, inr, length, map, nat_le, nat_lt, ne_eqb, not, option_map, refl, replicate, set, slice_index, subst, suc, sym, take, true, zero, ℕ, ⊎_elim, ◌&&◌, ◌++◌, ◌+◌, ◌-◌, ◌<◌, ◌==◌, ◌∙◌, ◌∷◌, ◌≡◌, ◌≢◌, ◌≤◌, ◌⊎◌}
+pub use Rattle.std.proofs.Common.{Bool, Err, IfOk, OnOk, IsErrOf, IsSome, IsTrue, List, None, Ok, Option, Result, Some, [], ap, arith, cond, drop, eq-eqb, false, append-nil, append_assoc, find, filter, get_or, if◌then◌else◌, inl, inr, length, map, nat_le, nat_lt, ne_eqb, not, option_map, refl, replicate, set, slice_index, subst, suc, sym, take, true, zero, ℕ, ⊎_elim, ◌&&◌, ◌++◌, ◌+◌, ◌-◌, ◌<◌, ◌==◌, ◌∙◌, ◌∷◌, ◌≡◌, ◌≢◌, ◌≤◌, ◌⊎◌}
 pub use Rattle.std.proofs.Math.Seq.{take-append_seam}
-pub use Rattle.std.proofs.lemmas.Bool.{and_parts, false≢true}
+pub use Rattle.std.proofs.lemmas.Bool.{and_parts, cases_Bool, cases_eq, eqb-true, false≢true}
 pub use Rattle.std.proofs.lemmas.Bool.Decides.{nat_tests}
-pub use Rattle.std.proofs.lemmas.List.{drop-take, map_push, set-get_or}
+pub use Rattle.std.proofs.lemmas.List.{drop-take, map-append, map_push, set-get_or}
 pub use Rattle.std.specs.List.{AllByRecursion, remove}
 pub use Rattle.conflict_rule.specs.Decision.{up_to}
 pub use Rattle.core_blocks.proofs.Arrays.{array_shown, guest_begins}
@@ -14,11 +14,16 @@ pub use Rattle.iso_core.proofs.Transactions.{among, kept_floor}
 pub use Rattle.iso_core.specs.Calls.{IsAmong, IsCheckedOf, IsTx, IsWorkOf, Refuses, Writes, refusal_of, reply_of}
 pub use Rattle.iso_core.specs.Core.{StandsFor, disk_of}
 pub use Rattle.iso_core.specs.Kept.{bare}
+pub use Rattle.iso_core.specs.Planned.{AreEach, IsMember, reply_in}
 pub use Rattle.iso_core.specs.Standing.{up}
 pub use Rattle.iso_core.specs.declared.answers.Stat.{Stat}
 pub use Rattle.iso_core.specs.declared.core_itself.Core.{Core}
+pub use Rattle.iso_core.specs.declared.group_end.GroupEnd.{GroupEnd}
+pub use Rattle.iso_core.specs.declared.group_end.TheConstants.{MAX_GROUP}
 pub use Rattle.iso_disk.proofs.Moments.{started, stays, weakened}
 pub use Rattle.iso_disk.specs.Disk.{DiskState, IsLawful, LeavesOnly, StaysTold, WritesNothing}
+pub use Rattle.iso_model.proofs.Distinct.{all_filter, all_find, distinct_filter, same_number}
+pub use Rattle.iso_model.proofs.Groups.{decided_live, group_is}
 pub use Rattle.iso_model.proofs.Growth.{all_push, all_weaker}
 pub use Rattle.iso_model.proofs.Marked.{marked_last}
 pub use Rattle.iso_model.proofs.Worlds.{accesses_are, live_at}
@@ -28,6 +33,8 @@ unfoldable pub use Rattle.iso_model.specs.Conflict.{clash}
 pub use Rattle.iso_model.specs.Effect.{has_write, own}
 pub use Rattle.iso_model.specs.Geometry.{is_block_size, is_serial, same_mode}
 unfoldable pub use Rattle.iso_model.specs.Geometry.{is_valid}
+pub use Rattle.iso_model.specs.Group.{after_look, ahead, decided, found_ones, group, label_replies, leave_all, looks, made_by, member_reply}
+unfoldable pub use Rattle.iso_model.specs.Group.{group_step}
 pub use Rattle.iso_model.specs.History.{History, array_at, last}
 pub use Rattle.iso_model.specs.Image.{Shows}
 pub use Rattle.iso_model.specs.Marks.{is_outside, mark_fault, marked, marks_fault}
@@ -39,6 +46,7 @@ pub use Rattle.iso_model.specs.declared.access.Access.{Access}
 pub use Rattle.iso_model.specs.declared.access.Clash.{Clash}
 pub use Rattle.iso_model.specs.declared.access.EndReply.{EndReply}
 pub use Rattle.iso_model.specs.declared.access.Geometry.{Geometry}
+pub use Rattle.iso_model.specs.declared.access.GroupReply.{GroupReply}
 pub use Rattle.iso_model.specs.declared.access.Kind.TheVariants.{Write}
 pub use Rattle.iso_model.specs.declared.access.MarkError.{MarkError}
 pub use Rattle.iso_model.specs.declared.access.Mode.{Mode}
@@ -47,13 +55,15 @@ pub use Rattle.iso_model.specs.declared.access.Span.{Span}
 pub use Rattle.iso_model.specs.declared.core_error.CoreError.{CoreError}
 pub use Rattle.iso_model.specs.declared.core_reply.CoreReply.{CoreReply}
 pub use Rattle.iso_model.specs.declared.limits.TheConstants.{LAST, MAX_ACCESSES, MAX_LIVE}
+pub use Rattle.script_model.proofs.Looks.{found_are_live, held_live, look_leads, looks_geometry, looks_lead}
 pub use Rattle.script_model.proofs.Steps.{step_leads}
 pub use Rattle.script_model.specs.CoreReplies.{as_reply, as_step}
 pub use Rattle.script_model.specs.Operations.{IsOp}
-pub use Rattle.script_model.specs.Step.{access_step, array_of, in_store, in_transaction, mark_refused, marked_step, out_of_transaction, release_step, takeover_step, with_access}
+pub use Rattle.script_model.specs.Step.{access_step, array_of, grouped, in_store, in_transaction, mark_refused, marked_step, out_of_transaction, release_step, takeover_step, with_access}
 unfoldable pub use Rattle.script_model.specs.Step.{fill_step, get_step, hash_delete_step, hash_get_step, hash_put_step, mark_step, numbers, put_step, read_step, step, store_step, tree_delete_step, tree_get_step, tree_put_step, tree_scan_step, write_step}
 pub use Rattle.script_model.specs.declared.script.Op.{Op}
 pub use Rattle.script_model.specs.declared.script.Reply.{Reply}
+pub use Rattle.script_model.specs.declared.script.TheConstants.{MAX_LABELS}
 pub use Rattle.script_model.specs.declared.stop.Stop.{Stop}
 pub use Rattle.script_runner.specs.Counts.{BlamesDisk}
 pub use Rattle.script_runner.specs.Told.{IfTold, IsPlain, SameButShown}
@@ -65,6 +75,7 @@ pub use Rattle.tx_blocks.specs.Tx.{Device, Tx}
 pub use Rattle.tx_table.specs.Work.{Doing, span_at}
 pub use Rattle.iso_machine.specs.Accessing.{IsActive, IsGiven, IsShown, IsWorkedTo, act_step}
 pub use Rattle.iso_machine.specs.Answering.{Answers, AnswersTold, answer_to}
+pub use Rattle.iso_machine.specs.Grouping.{HasTaken, filled, found_in, left_in, member_of, stand_in, under, without_found}
 pub use Rattle.iso_machine.specs.Shown.{shows}
 pub use Rattle.iso_machine.specs.Standing.{AreOf, IsSized, live_of}
 pub use Rattle.iso_machine.specs.Storing.{IsStored, called_of, store_act}

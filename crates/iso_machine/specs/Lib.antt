@@ -3,3 +3,4 @@ pub mod Accessing
 pub mod Answering
 pub mod Shown
 pub mod Storing
+pub mod Grouping

@@ -59,6 +59,7 @@ pub(crate) fn act<D: Disk>(
         | Op::Release { .. }
         | Op::Takeover { .. }
         | Op::Await { .. }
+        | Op::Group { .. }
         | Op::Trim
         | Op::Stat
         | Op::Compact

@@ -89,7 +89,8 @@ impl<D: Disk> Machine<D> {
     /// Does what a client asks for, and answers it.
     #[inline(always)]
     pub(crate) fn answer(&mut self, client: u8, op: &Op) -> Result<Reply, Stop>
-        requires { (W : World) × IsMachineOf D.state self.old W }
+        requires stands { (W : World) × IsMachineOf D.state self.old W }
+        requires op { IsOp op.now }
         ensures { (W : World) → IsMachineOf D.state self.old W → IsOp op.now
             → AnswersTold (IsMachineOf D.state self.new) (D.state (disk_of (core_of self.old))) (D.state (disk_of (core_of self.new))) W (step W client op.now) (IsPlain op.now) result }
     {
@@ -103,6 +104,7 @@ impl<D: Disk> Machine<D> {
             Op::Abort => self.abort(client),
             Op::Release { label } => self.release(client, label),
             Op::Takeover { label } | Op::Await { label } => self.takeover(client, label),
+            Op::Group { labels } => self.group(client, labels.as_slice()),
             Op::Trim => self.trim(),
             Op::Stat => Ok(self.stat()),
             Op::Begin { mode } => self.begin(client, *mode),

@@ -164,6 +164,8 @@ module _ (g : Geometry) (tells : Bool) (w : Stop) (other : w ≢ stop.Memory) wh
   does (Some t) op.Stat es own' d = stats (Some t) es own' d
   does (Some t) op.Compact es own' d = compacts (Some t) es own' d
   does (Some t) op.Upgrade es own' d = upgrades (Some t) es own' d
+  does None (op.Group labels) es own' d = absurd d
+  does (Some t) (op.Group labels) es own' d = absurd d
   does own o es own' d = absurd (cc d.1)
 
   did : (own : Option Own) (o : Op) (es : List Entry) (own' : Option Own) → Did g tells own o es (Err w) own' → HasBlame es

@@ -13,3 +13,4 @@ mod OrderRows
 mod StoreRows
 mod CutInputs
 pub mod CoreSteps
+pub mod Looks

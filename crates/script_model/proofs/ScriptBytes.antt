@@ -1,5 +1,5 @@
 -- The bytes that a script's lines take are bytes.
-use Rattle.script_model.proofs.Words.{ℕ, ◌+◌, ◌<◌, ◌≤◌, Bool, true, false, ◌&&◌, cond, IsTrue, List, Option, Result, Ok, Err, ok_or, nat_le, length, take, subst, arith, and_parts, leb-true, MAX_INPUT, MAX_LINE, Op, Begin, End, Abort, Put, Read, Get, Write, Fill, Mark, Release, Takeover, Await, Trim, Stat, Compact, Upgrade, HashPut, HashGet, HashDelete, TreePut, TreeGet, TreeDelete, TreeScan, AllByRecursion, Line, Parsed, AreBytes, ◌>>=◌, without_return, bad_line, bare, begin_arguments, put_arguments, one_number, two_numbers, three_numbers, number_and_bytes, one_label, number_argument, hex_argument, label_argument, mode_argument, operation_of, other_operation, one_key, key_and_value, scan_arguments, store_argument, store_operation, tree_operation, said, parse, parse_whole, last_piece, before_script, script_from, script, client_in_range, no_lines, Script, is_empty, pieces, words_of, hex_digit, hex_pair, hex_pairs, hex_of, number_of, is_digit, is_label, label_of, IsOp, AreLines, no_bytes, bytes_cons}
+use Rattle.script_model.proofs.Words.{ℕ, ◌+◌, ◌<◌, ◌≤◌, Bool, true, false, ◌&&◌, cond, IsTrue, List, Option, Result, Ok, Err, ok_or, nat_le, length, take, subst, arith, and_parts, leb-true, MAX_INPUT, MAX_LINE, Op, Begin, End, Abort, Put, Read, Get, Write, Fill, Mark, Release, Takeover, Await, Group, Trim, Stat, Compact, Upgrade, HashPut, HashGet, HashDelete, TreePut, TreeGet, TreeDelete, TreeScan, AllByRecursion, Line, Parsed, MAX_LABELS, suc, ap, AreBytes, ◌>>=◌, without_return, bad_line, bare, begin_arguments, put_arguments, one_number, two_numbers, three_numbers, number_and_bytes, one_label, group_arguments, labels_of, number_argument, hex_argument, label_argument, mode_argument, operation_of, other_operation, one_key, key_and_value, scan_arguments, store_argument, store_operation, tree_operation, said, parse, parse_whole, last_piece, before_script, script_from, script, client_in_range, no_lines, Script, is_empty, pieces, words_of, hex_digit, hex_pair, hex_pairs, hex_of, number_of, is_digit, is_label, label_of, IsOp, AreLines, no_bytes, bytes_cons}
 use Rattle.std.proofs.Common.{◌≡◌, refl, ◌-◌, ◌*◌, [], ◌∷◌, Some, None}
 use Rattle.script_model.specs.declared.script.Parsed.TheVariants.{Skip, Line as Says}
 
@@ -122,6 +122,24 @@ label_op op is (text ∷ []) =
     given_next (λ l. IsTrue (is_label l)) IsOp (label_argument text) _ (or_cause (λ l. IsTrue (is_label l)) (label_of text) 6 (label_is text)) (λ l good. given_one IsOp (op l) (is l good))
 label_op op is (text ∷ more ∷ words) = given_none IsOp 3
 
+labels_length : (words : List (List ℕ)) → IfGiven (λ labels. length labels ≡ length words) (labels_of words)
+labels_length [] = given_one (λ labels. length labels ≡ 0) [] refl
+labels_length (text ∷ words) =
+    given_next (λ l. Unit {0}) (λ labels. length labels ≡ length (text ∷ words)) (label_argument text) _ (any_given (label_argument text)) (λ l any.
+    given_next (λ labels. length labels ≡ length words) (λ labels. length labels ≡ length (text ∷ words)) (labels_of words) _ (labels_length words) (λ more same.
+    given_one (λ labels. length labels ≡ length (text ∷ words)) (l ∷ more) (ap suc same)))
+
+group_given : (words : List (List ℕ)) (t : Bool) → (nat_le 1 (length words) && nat_le (length words) MAX_LABELS) ≡ t
+    → IfGiven IsOp (cond t (labels_of words >>= λ labels. Ok (Group labels)) (Err 3))
+group_given words false test = given_none IsOp 3
+group_given words true test =
+    let parts = and_parts (nat_le 1 (length words)) (nat_le (length words) MAX_LABELS) test in
+    given_next (λ labels. length labels ≡ length words) IsOp (labels_of words) _ (labels_length words) (λ labels same.
+    given_one IsOp (Group labels) (omega (arith, same, leb-true 1 (length words) parts.0), omega (arith, same, leb-true (length words) MAX_LABELS parts.1)))
+
+group_op : (words : List (List ℕ)) → IfGiven IsOp (group_arguments words)
+group_op words = group_given words _ refl
+
 store_given : (word : List ℕ) → IfGiven AreBytes (store_argument word)
 store_given word = given_cond AreBytes _ (Ok []) _ (given_one AreBytes [] no_bytes) (or_cause AreBytes (hex_of word) 5 (hex_bytes word))
 
@@ -169,10 +187,11 @@ other_op name words =
     given_cond IsOp _ (one_label Release words) _ (label_op Release (λ text good. good) words)
     (given_cond IsOp _ (one_label Takeover words) _ (label_op Takeover (λ text good. tt) words)
     (given_cond IsOp _ (one_label Await words) _ (label_op Await (λ text good. tt) words)
+    (given_cond IsOp _ (group_arguments words) _ (group_op words)
     (given_cond IsOp _ (bare Trim words) _ (bare_op IsOp Trim words tt)
     (given_cond IsOp _ (bare Stat words) _ (bare_op IsOp Stat words tt)
     (given_cond IsOp _ (bare Compact words) _ (bare_op IsOp Compact words tt)
-    (given_cond IsOp _ (bare Upgrade words) _ (bare_op IsOp Upgrade words tt) (store_op name words)))))))
+    (given_cond IsOp _ (bare Upgrade words) _ (bare_op IsOp Upgrade words tt) (store_op name words))))))))
 
 named_op : (name : List ℕ) (words : List (List ℕ)) → IfGiven IsOp (operation_of name words)
 unfolding operation_of

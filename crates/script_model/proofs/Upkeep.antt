@@ -1,5 +1,5 @@
 -- What upkeep leaves as it is.
-use Rattle.script_model.proofs.Words.{ap, ℕ, ◌==◌, true, false, cond, Op, Begin, End, Abort, Put, Read, Get, Write, Fill, Mark, Release, Takeover, Await, Trim, Stat, Compact, Upgrade, HashPut, HashGet, HashDelete, TreePut, TreeGet, TreeDelete, TreeScan, CoreReply, LAST, History, shown_block, step, after_switch, shown_to, switch_step, World, Live, IsUpkeep}
+use Rattle.script_model.proofs.Words.{ap, ℕ, ◌==◌, true, false, cond, Op, Begin, End, Abort, Put, Read, Get, Write, Fill, Mark, Release, Takeover, Await, Group, Trim, Stat, Compact, Upgrade, HashPut, HashGet, HashDelete, TreePut, TreeGet, TreeDelete, TreeScan, CoreReply, LAST, History, shown_block, step, after_switch, shown_to, switch_step, World, Live, IsUpkeep}
 use Rattle.std.proofs.Common.{◌≡◌, refl}
 use Rattle.iso_model.specs.declared.core_reply.CoreReply.TheVariants as reply
 
@@ -41,6 +41,7 @@ keeps W client (TreeScan from to most) is = absurd is
 keeps W client (Release text) is = absurd is
 keeps W client (Takeover text) is = absurd is
 keeps W client (Await text) is = absurd is
+keeps W client (Group texts) is = absurd is
 
 pub live_kept : (W : World) (client : ℕ) (op : Op) → IsUpkeep op → (step W client op).1.live ≡ W.live
 live_kept W client op is = (keeps W client op is).live

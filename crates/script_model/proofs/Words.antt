@@ -1,5 +1,5 @@
 -- The words that the proofs of this crate cite from elsewhere.
-pub use Rattle.std.proofs.Common.{Bool, Err, IsSome, IsTrue, List, Ok, Option, Result, ap, arith, cond, false, length, nat_le, not, ok_or, slice_index, subst, take, true, ℕ, ◌&&◌, ◌+◌, ◌<◌, ◌==◌, ◌≢◌, ◌≤◌}
+pub use Rattle.std.proofs.Common.{Bool, Err, IsSome, IsTrue, List, Ok, Option, Result, ap, arith, cond, false, length, nat_le, not, ok_or, slice_index, subst, suc, take, true, ℕ, ◌&&◌, ◌+◌, ◌<◌, ◌==◌, ◌∙◌, ◌≢◌, ◌≤◌}
 pub use Rattle.std.proofs.lemmas.Bool.{and_parts, eqb-false, eqb-true, le-leb, leb-false, leb-true, lt-ltb, not-false}
 pub use Rattle.std.proofs.lemmas.List.{length-append, length-replicate, length_push}
 unfoldable pub use Rattle.std.specs.Fmt.{digits}
@@ -9,26 +9,28 @@ pub use Rattle.iso_model.proofs.Accesses.{get_is_access, inside_block, length-ma
 pub use Rattle.iso_model.proofs.Bounds.{limits}
 pub use Rattle.iso_model.proofs.ByteLists.{bytes_cons, no_bytes, replicate_bytes}
 pub use Rattle.iso_model.proofs.Distinct.{all_apart, all_find}
+pub use Rattle.iso_model.proofs.Groups.{group_step_leads}
 pub use Rattle.iso_model.proofs.Growth.{all_push}
 pub use Rattle.iso_model.proofs.Leads.{begin_leads, end_leads}
 pub use Rattle.iso_model.proofs.Places.{all_apart_from_label}
 pub use Rattle.iso_model.proofs.Recorded.{array_shape, own_shape}
-pub use Rattle.iso_model.proofs.Worlds.{accesses_are, all_append, chosen, leads_on, leaves, live_at, places, stays, switch_leads, trim_leads}
+pub use Rattle.iso_model.proofs.Worlds.{accesses_are, all_append, chosen, leads_on, leaves, live_at, live_on, places, stays, switch_leads, trim_leads}
 pub use Rattle.iso_model.specs.Array.{zeros}
 unfoldable pub use Rattle.iso_model.specs.Array.{put}
 unfoldable pub use Rattle.iso_model.specs.Conflict.{clash}
 unfoldable pub use Rattle.iso_model.specs.Effect.{runs}
 pub use Rattle.iso_model.specs.Geometry.{is_serial}
+pub use Rattle.iso_model.specs.Group.{after_look, found_ones, looks}
 unfoldable pub use Rattle.iso_model.specs.Group.{group_step}
 pub use Rattle.iso_model.specs.History.{History, array_at, shown_block}
 pub use Rattle.iso_model.specs.Labels.{is_digit, is_label, label_of}
 pub use Rattle.iso_model.specs.Marks.{is_outside, mark_fault, marked}
 pub use Rattle.iso_model.specs.Premises.{AreBytes, HasShape, IsAccess}
-pub use Rattle.iso_model.specs.Step.{after_leaving, after_switch, get_access, mode_named, put_access, read_access, shown_to, write_access}
+pub use Rattle.iso_model.specs.Step.{after_leaving, after_switch, get_access, mode_named, placed, put_access, read_access, shown_to, write_access}
 unfoldable pub use Rattle.iso_model.specs.Step.{begin_step, commit_step, end_step, switch_step}
 unfoldable pub use Rattle.iso_model.specs.Versions.{versions}
-pub use Rattle.iso_model.specs.World.{Live, World, attached, client, empty_history, floor, fresh, held, is_under_label, label, unattached, with}
-pub use Rattle.iso_model.specs.Worlds.{IsLive, IsWorld, LeadsTo}
+pub use Rattle.iso_model.specs.World.{Live, Place, World, attached, client, empty_history, floor, fresh, held, is_under_label, label, unattached, with}
+pub use Rattle.iso_model.specs.Worlds.{AreApart, IsLive, IsPlace, IsWorld, LeadsTo}
 pub use Rattle.iso_model.specs.declared.access.Access.{Access}
 pub use Rattle.iso_model.specs.declared.access.Geometry.{Geometry}
 pub use Rattle.iso_model.specs.declared.access.MarkError.{MarkError}
@@ -52,15 +54,16 @@ pub use Rattle.script_model.specs.Bench.{bench_output, bench_summary, drawn, num
 unfoldable pub use Rattle.script_model.specs.Bench.{bench_text}
 pub use Rattle.script_model.specs.CoreReplies.{as_step}
 pub use Rattle.script_model.specs.Operations.{AreLines, IsOp, IsUpkeep}
-pub use Rattle.script_model.specs.Script.{Script, after, bad_line, bare, before_script, begin_arguments, client_in_range, hex_argument, key_and_value, label_argument, last_piece, mode_argument, no_lines, number_and_bytes, number_argument, one_key, one_label, one_number, put_arguments, replies, scan_arguments, script_from, store_argument, three_numbers, two_numbers, without_return, ◌>>=◌}
+pub use Rattle.script_model.specs.Script.{Script, after, bad_line, bare, before_script, begin_arguments, client_in_range, group_arguments, hex_argument, key_and_value, label_argument, labels_of, last_piece, mode_argument, no_lines, number_and_bytes, number_argument, one_key, one_label, one_number, put_arguments, replies, scan_arguments, script_from, store_argument, three_numbers, two_numbers, without_return, ◌>>=◌}
 unfoldable pub use Rattle.script_model.specs.Script.{operation_of, other_operation, parse, parse_whole, said, script, store_operation, tree_operation}
 pub use Rattle.script_model.specs.Step.{access_step, array_of, found_reply, in_store, in_transaction, marked_step, out_of_transaction, pairs_reply, release_step, removed_reply, takeover_step, with_access}
 unfoldable pub use Rattle.script_model.specs.Step.{fill_step, get_step, hash_delete_step, hash_get_step, hash_put_step, mark_step, numbers, put_step, read_step, step, store_step, tree_delete_step, tree_get_step, tree_put_step, tree_scan_step, write_step}
 pub use Rattle.script_model.specs.Text.{before_piece, hex_digit, hex_pair, hex_pairs, is_empty, pieces}
-unfoldable pub use Rattle.script_model.specs.Text.{hex_of, number_of, reply_text, words_of}
+unfoldable pub use Rattle.script_model.specs.Text.{hex_of, label_text, number_of, reply_text, words_of}
 pub use Rattle.script_model.specs.declared.script.Line.{Line}
 pub use Rattle.script_model.specs.declared.script.Op.{Op}
-pub use Rattle.script_model.specs.declared.script.Op.TheVariants.{Abort, Await, Begin, Compact, End, Fill, Get, HashDelete, HashGet, HashPut, Mark, Put, Read, Release, Stat, Takeover, TreeDelete, TreeGet, TreePut, TreeScan, Trim, Upgrade, Write}
+pub use Rattle.script_model.specs.declared.script.Op.TheVariants.{Abort, Await, Begin, Compact, End, Fill, Get, Group, HashDelete, HashGet, HashPut, Mark, Put, Read, Release, Stat, Takeover, TreeDelete, TreeGet, TreePut, TreeScan, Trim, Upgrade, Write}
 pub use Rattle.script_model.specs.declared.script.Parsed.{Parsed}
 pub use Rattle.script_model.specs.declared.script.Reply.{Reply}
+pub use Rattle.script_model.specs.declared.script.TheConstants.{MAX_LABELS}
 pub use Rattle.script_model.specs.declared.script.Reply.TheVariants.{BadBlock, BadRange, Done, Pairs, TooManyAccesses}

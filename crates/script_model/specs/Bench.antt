@@ -1,11 +1,13 @@
 -- What the commands `recover` and `bench` print, and the script that a bench runs.
-use Rattle.std.specs.Prelude.{ℕ, zero, suc, ◌+◌, ◌*◌, ◌/◌, ◌%◌, ◌^◌, ◌-◌, Bool, true, false, List, [], ◌∷◌, ◌++◌, length, filter, flat_map, codes, decimal}
+use Rattle.std.specs.Prelude.{ℕ, zero, suc, ◌+◌, ◌*◌, ◌/◌, ◌%◌, ◌^◌, ◌-◌, Bool, true, false, List, [], ◌∷◌, ◌++◌, Option, Some, None, length, filter, flat_map, codes, decimal}
 use Rattle.sha2.specs.Sha256.{sha256}
 use Rattle.iso_model.specs.declared.access.Geometry.{Geometry}
+use Rattle.iso_model.specs.declared.access.GroupReply.{GroupReply}
+use Rattle.iso_model.specs.declared.access.GroupReply.TheVariants as member
 use Rattle.iso_model.specs.declared.access.Mode.TheVariants.{Serial}
 use Rattle.script_model.specs.declared.script.Line.{Line}
 use Rattle.script_model.specs.declared.script.Reply.{Reply}
-use Rattle.script_model.specs.declared.script.Reply.TheVariants.{Committed, Conflict}
+use Rattle.script_model.specs.declared.script.Reply.TheVariants.{Committed, Conflict, Grouped}
 use Rattle.iso_model.specs.Array.{Array}
 use Rattle.iso_model.specs.History.{History, last, array_at}
 use Rattle.script_model.specs.Script.{replies, script}
@@ -62,8 +64,20 @@ bench_geometry = record { block = 64; blocks = 64; log = 8388608; mode = Serial;
 abbrev pub bench_world : World
 bench_world = fresh bench_geometry 1 (empty_history bench_geometry)
 
+-- whether the first label of a group is told a commit
+abbrev pub tells_first : List (Option GroupReply) → Bool
+tells_first [] = false
+tells_first (None ∷ answers) = false
+tells_first (Some (member.Committed n) ∷ answers) = true
+tells_first (Some member.ReadOnly ∷ answers) = false
+tells_first (Some (member.Conflict c) ∷ answers) = false
+tells_first (Some (member.Full need free) ∷ answers) = false
+tells_first (Some member.Worn ∷ answers) = false
+
+-- a reply that begins as that of a commit; the script of a bench asks for no group
 abbrev pub is_committed : Reply → Bool
 is_committed (Committed n) = true
+is_committed (Grouped answers) = tells_first answers
 is_committed reply = false
 
 abbrev pub is_conflict : Reply → Bool

@@ -1,14 +1,19 @@
 -- Operations whose bytes are bytes, and those that change nothing that is shown.
-use Rattle.std.specs.Prelude.{ℕ, IsTrue, List}
+use Rattle.std.specs.Prelude.{◌≡◌, ◌⊎◌, ℕ, ◌≤◌, IsTrue, List, [], ◌∷◌, Option, Some, length}
 use Rattle.std.specs.List.{AllByRecursion}
+use Rattle.iso_model.specs.declared.access.GroupReply.{GroupReply}
+use Rattle.iso_model.specs.declared.access.GroupReply.TheVariants as member
 use Rattle.script_model.specs.declared.script.Line.{Line}
 use Rattle.script_model.specs.declared.script.Op.{Op}
-use Rattle.script_model.specs.declared.script.Op.TheVariants.{Begin, End, Abort, Put, Read, Get, Write, Fill, Mark, Release, Takeover, Await, Trim, Stat, Compact, Upgrade, HashPut, HashGet, HashDelete, TreePut, TreeGet, TreeDelete, TreeScan}
+use Rattle.script_model.specs.declared.script.Op.TheVariants.{Begin, End, Abort, Put, Read, Get, Write, Fill, Mark, Release, Takeover, Await, Group, Trim, Stat, Compact, Upgrade, HashPut, HashGet, HashDelete, TreePut, TreeGet, TreeDelete, TreeScan}
+use Rattle.script_model.specs.declared.script.Reply.{Reply}
+use Rattle.script_model.specs.declared.script.Reply.TheVariants.{Committed, Grouped}
+use Rattle.script_model.specs.declared.script.TheConstants.{MAX_LABELS}
 use Rattle.iso_model.specs.Premises.{AreBytes}
 use Rattle.iso_model.specs.Labels.{is_label}
 use Rattle.iso_model.specs.World.{label}
 
--- an operation whose bytes are bytes, and whose label is one
+-- an operation whose bytes are bytes, whose label is one, and which has no more labels than a group may have
 abbrev pub IsOp : Op → Type 0
 IsOp (Begin mode) = Unit {0}
 IsOp End = Unit {0}
@@ -22,6 +27,7 @@ IsOp (Mark off len) = Unit {0}
 IsOp (Release text) = IsTrue (is_label text)
 IsOp (Takeover text) = Unit {0}
 IsOp (Await text) = Unit {0}
+IsOp (Group texts) = (1 ≤ length texts) × (length texts ≤ MAX_LABELS)
 IsOp Trim = Unit {0}
 IsOp Stat = Unit {0}
 IsOp Compact = Unit {0}
@@ -45,3 +51,12 @@ IsUpkeep Stat = Unit {0}
 IsUpkeep Compact = Unit {0}
 IsUpkeep Upgrade = Unit {0}
 IsUpkeep op = ⊥
+
+-- one of the answers to the labels of a group is that commit n was made
+abbrev pub IsAmongGrouped : (n : ℕ) → List (Option GroupReply) → Type 0
+IsAmongGrouped n [] = ⊥
+IsAmongGrouped n (answer ∷ answers) = (answer ≡ Some (member.Committed n)) ⊎ IsAmongGrouped n answers
+
+-- the reply says that commit n was made: to an end, or to a label of a group
+abbrev pub SaysCommit : Reply → (n : ℕ) → Type 0
+SaysCommit reply n = (reply ≡ Committed n) ⊎ ((answers : List (Option GroupReply)) × (reply ≡ Grouped answers) × IsAmongGrouped n answers)

@@ -2,10 +2,11 @@
 use Rattle.std.specs.Prelude.{ℕ, ◌+◌, Bool, true, ◌&&◌, ◌||◌, ◌==◌, if◌then◌else◌, List, [], ◌∷◌, ◌++◌, Option, Some, None, Result, Ok, Err, length, take, nat_eq, nat_le, nat_lt, ok_or, codes, bytes_eq}
 use Rattle.std.specs.List.{list_all}
 use Rattle.iso_model.specs.declared.limits.TheConstants.{MAX_INPUT, MAX_LINE}
+use Rattle.script_model.specs.declared.script.TheConstants.{MAX_LABELS}
 use Rattle.script_model.specs.declared.script.BadLine.{BadLine}
 use Rattle.script_model.specs.declared.script.Line.{Line}
 use Rattle.script_model.specs.declared.script.Op.{Op}
-use Rattle.script_model.specs.declared.script.Op.TheVariants.{Begin, End, Abort, Put, Read, Get, Write, Fill, Mark, Release, Takeover, Await, Trim, Stat, Compact, Upgrade, HashPut, HashGet, HashDelete, TreePut, TreeGet, TreeDelete, TreeScan}
+use Rattle.script_model.specs.declared.script.Op.TheVariants.{Begin, End, Abort, Put, Read, Get, Write, Fill, Mark, Release, Takeover, Await, Group, Trim, Stat, Compact, Upgrade, HashPut, HashGet, HashDelete, TreePut, TreeGet, TreeDelete, TreeScan}
 use Rattle.script_model.specs.declared.script.Parsed.{Parsed}
 use Rattle.script_model.specs.declared.script.Parsed.TheVariants.{Skip, Line as Says}
 use Rattle.script_model.specs.Step.{step}
@@ -108,6 +109,22 @@ one_label op (text ∷ []) = do
   Ok (op l)
 one_label op words = Err 3
 
+-- labels
+abbrev pub labels_of : List (List ℕ) → Result (List (List ℕ)) ℕ
+labels_of [] = Ok []
+labels_of (text ∷ words) = do
+  l ← label_argument text
+  more ← labels_of words
+  Ok (l ∷ more)
+
+-- at least one label, and no more than a group has
+abbrev pub group_arguments : List (List ℕ) → Result Op ℕ
+group_arguments words =
+    if nat_le 1 (length words) && nat_le (length words) MAX_LABELS then (do
+      labels ← labels_of words
+      Ok (Group labels))
+    else Err 3
+
 -- a key or a value of a store: bytes, or a dash for none
 abbrev pub store_argument : List ℕ → Result (List ℕ) ℕ
 store_argument word = if bytes_eq word (codes "-") then Ok [] else hex_argument word
@@ -159,6 +176,7 @@ other_operation name arguments =
     if bytes_eq name (codes "release") then one_label Release arguments
     else if bytes_eq name (codes "takeover") then one_label Takeover arguments
     else if bytes_eq name (codes "await") then one_label Await arguments
+    else if bytes_eq name (codes "group") then group_arguments arguments
     else if bytes_eq name (codes "trim") then bare Trim arguments
     else if bytes_eq name (codes "stat") then bare Stat arguments
     else if bytes_eq name (codes "compact") then bare Compact arguments

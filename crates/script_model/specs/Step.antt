@@ -6,13 +6,14 @@ use Rattle.iso_model.specs.declared.core_reply.CoreReply.TheVariants as core
 use Rattle.script_model.specs.declared.script.Op.{Op}
 use Rattle.iso_model.specs.declared.access.MarkError.{MarkError}
 use Rattle.iso_model.specs.declared.access.MarkError.TheVariants as mark
-use Rattle.script_model.specs.declared.script.Op.TheVariants.{Begin, End, Abort, Put, Read as ReadBlock, Get, Write as WriteBlock, Fill, Mark, Release, Takeover, Await, Trim, Stat, Compact, Upgrade, HashPut, HashGet, HashDelete, TreePut, TreeGet, TreeDelete, TreeScan}
+use Rattle.script_model.specs.declared.script.Op.TheVariants.{Begin, End, Abort, Put, Read as ReadBlock, Get, Write as WriteBlock, Fill, Mark, Release, Takeover, Await, Group, Trim, Stat, Compact, Upgrade, HashPut, HashGet, HashDelete, TreePut, TreeGet, TreeDelete, TreeScan}
 use Rattle.script_model.specs.declared.script.Reply.{Reply}
 use Rattle.script_model.specs.declared.script.Reply.TheVariants as reply
 use Rattle.iso_model.specs.declared.limits.TheConstants.{MAX_ACCESSES}
 use Rattle.store_model.specs.declared.stores.StoreError.{StoreError}
 use Rattle.store_model.specs.declared.stores.StoreError.TheVariants as store
 use Rattle.iso_model.specs.Array.{Array}
+use Rattle.iso_model.specs.declared.access.GroupReply.{GroupReply}
 use Rattle.iso_model.specs.Geometry.{is_serial}
 use Rattle.iso_model.specs.Effect.{own}
 use Rattle.store_model.specs.HashCalls.{del_program, get_program, put_program, is_key}
@@ -23,6 +24,7 @@ use Rattle.store_model.specs.TreeCalls as tree
 use Rattle.store_model.specs.TreeCalls.{scan_program}
 use Rattle.iso_model.specs.Versions.{versions}
 use Rattle.iso_model.specs.World.{World, Live, client, label, attached, held, floor, used}
+use Rattle.iso_model.specs.Group.{group_step}
 use Rattle.iso_model.specs.Step.{put_access, read_access, get_access, write_access, with_accesses, placed, after_leaving, mode_named, shown_to, after_trim, begin_step, end_step, switch_step}
 use Rattle.store_model.specs.Areas.{hash_area, tree_area}
 use Rattle.script_model.specs.CoreReplies.{as_step}
@@ -154,6 +156,10 @@ abbrev pub takeover_step : World → (c : ℕ) → Option Live → Reply × Worl
 takeover_step W c None = (reply.NoHandle, W)
 takeover_step W c (Some t) = (reply.Began t.begin, placed W t (client c))
 
+-- what a group is answered, and the world after it
+abbrev pub grouped : List (Option GroupReply) × World → Reply × World
+grouped ended = (reply.Grouped ended.0, ended.1)
+
 -- the numbers of the image
 unfoldable pub numbers : World → Reply
 numbers W = reply.Numbers (last W.history) W.base W.trim (length W.live) (used W) (versions W)
@@ -182,6 +188,7 @@ step W c Abort = in_transaction W (attached W c) (λ t. (reply.Done, after_leavi
 step W c (Release text) = in_transaction W (attached W c) (λ t. release_step W t text (held W text))
 step W c (Takeover text) = out_of_transaction W (attached W c) (takeover_step W c (held W text))
 step W c (Await text) = out_of_transaction W (attached W c) (takeover_step W c (held W text))
+step W c (Group texts) = grouped (group_step W texts)
 step W c Trim = (reply.Trimmed (floor W), after_trim W)
 step W c Stat = (numbers W, W)
 step W c Compact = as_step (switch_step W W.geometry.form (core.Compacted (floor W)))

@@ -1,10 +1,13 @@
 -- The words and numbers of a line, and the texts of the replies.
 use Rattle.std.specs.Prelude.{ℕ, ◌+◌, ◌-◌, ◌*◌, ◌/◌, ◌%◌, ◌^◌, Bool, true, false, ◌&&◌, ◌==◌, not, cond, if◌then◌else◌, List, [], ◌∷◌, ◌++◌, Option, Some, None, bytes_eq, nat_le, nat_lt, decimal, codes, filter, fold, flat_map}
 use Rattle.std.specs.List.{list_all}
+use Rattle.iso_model.specs.declared.access.Clash.{Clash}
+use Rattle.iso_model.specs.declared.access.GroupReply.{GroupReply}
+use Rattle.iso_model.specs.declared.access.GroupReply.TheVariants as member
 use Rattle.iso_model.specs.declared.access.Mode.{Mode}
 use Rattle.iso_model.specs.declared.access.Mode.TheVariants.{Serial, Snapshot}
 use Rattle.script_model.specs.declared.script.Reply.{Reply}
-use Rattle.script_model.specs.declared.script.Reply.TheVariants.{Done, Began, Shown, Committed, ReadOnly, Conflict, Trimmed, Compacted, Upgraded, Numbers, Found, Pairs, Missing, InTx, NotInTx, ModeFixed, NoStore, StoreMode, BadKey, BadValue, BadBlock, BadRange, NoAccess, TooManyMarks, TooManyAccesses, Broken, NoBlocks, NoHandle, LabelTaken, TooManyTx, Worn, LogFull}
+use Rattle.script_model.specs.declared.script.Reply.TheVariants.{Done, Began, Shown, Committed, ReadOnly, Conflict, Grouped, Trimmed, Compacted, Upgraded, Numbers, Found, Pairs, Missing, InTx, NotInTx, ModeFixed, NoStore, StoreMode, BadKey, BadValue, BadBlock, BadRange, NoAccess, TooManyMarks, TooManyAccesses, Broken, NoBlocks, NoHandle, LabelTaken, TooManyTx, Worn, LogFull}
 use Rattle.iso_model.specs.Labels.{is_digit}
 
 -- the byte before the first piece
@@ -83,6 +86,28 @@ dashed (b ∷ bytes) = hex_text (b ∷ bytes)
 abbrev pub pair_text : List ℕ × List ℕ → List ℕ
 pair_text pair = 32 ∷ dashed pair.0 ++ 61 ∷ dashed pair.1
 
+-- where a transaction conflicts
+abbrev pub clash_text : Clash → List ℕ
+clash_text c = codes "conflict with " ++ decimal c.commit ++ codes " block " ++ decimal c.block ++ codes " at " ++ decimal c.at
+
+-- what the log has no room for
+abbrev pub full_text : (need free : ℕ) → List ℕ
+full_text need free = codes "log full need " ++ decimal need ++ codes " free " ++ decimal free
+
+-- what a label of a group is answered
+unfoldable pub label_text : Option GroupReply → List ℕ
+label_text (Some (member.Committed n)) = codes "commit " ++ decimal n
+label_text (Some member.ReadOnly) = codes "read-only"
+label_text (Some (member.Conflict c)) = clash_text c
+label_text (Some (member.Full need free)) = full_text need free
+label_text (Some member.Worn) = codes "worn"
+label_text None = codes "none"
+
+-- what the labels of a group are answered: behind a space, with a semicolon and a space between two of them
+abbrev pub labels_text : List (Option GroupReply) → List ℕ
+labels_text [] = []
+labels_text (answer ∷ answers) = 32 ∷ label_text answer ++ flat_map (λ a. codes "; " ++ label_text a) answers
+
 -- what a reply says
 unfoldable pub reply_text : Reply → List ℕ
 reply_text Done = codes "ok"
@@ -90,7 +115,8 @@ reply_text (Began n) = codes "ok begin " ++ decimal n
 reply_text (Shown bytes) = codes "ok " ++ hex_text bytes
 reply_text (Committed n) = codes "ok commit " ++ decimal n
 reply_text ReadOnly = codes "ok read-only"
-reply_text (Conflict c) = codes "conflict with " ++ decimal c.commit ++ codes " block " ++ decimal c.block ++ codes " at " ++ decimal c.at
+reply_text (Conflict c) = clash_text c
+reply_text (Grouped answers) = codes "ok" ++ labels_text answers
 reply_text (Trimmed n) = codes "ok trim " ++ decimal n
 reply_text (Compacted n) = codes "ok compact " ++ decimal n
 reply_text (Upgraded n) = codes "ok upgrade " ++ decimal n
@@ -118,7 +144,7 @@ reply_text NoHandle = codes "no-handle"
 reply_text LabelTaken = codes "label-taken"
 reply_text TooManyTx = codes "too-many-tx"
 reply_text Worn = codes "worn"
-reply_text (LogFull need free) = codes "log full need " ++ decimal need ++ codes " free " ++ decimal free
+reply_text (LogFull need free) = full_text need free
 
 -- the line of a reply: the client, a space, what it is told, and a line feed
 abbrev pub reply_line : (client : ℕ) → Reply → List ℕ

@@ -6,5 +6,5 @@ mod script;
 pub mod step_laws;
 mod stop;
 
-pub use script::{BadLine, Line, LineError, Op, Parsed, Reply};
+pub use script::{BadLine, Line, LineError, MAX_LABELS, Op, Parsed, Reply};
 pub use stop::Stop;

@@ -1,7 +1,10 @@
 // The operations of a script and its lines. Operations that are added later are further variants.
 
-use iso_model::{Bytes, Clash, Label, Mode};
+use iso_model::{Bytes, Clash, Label, LabelList, LabelReplies, Mode};
 use store_model::PairList;
+
+/// How many labels a group has at most.
+pub const MAX_LABELS: usize = 16;
 
 /// What a client asks for.
 #[derive(Debug, Drop)]
@@ -28,6 +31,8 @@ pub enum Op {
     Takeover { label: Label },
     /// A takeover that waits for the label where clients run beside each other.
     Await { label: Label },
+    /// Ends the transactions under these labels, in order, with one body and one gate.
+    Group { labels: LabelList },
     /// Lets versions go that no transaction can be shown.
     Trim,
     /// The numbers of the image.
@@ -89,6 +94,8 @@ pub enum Reply {
     Committed(u64),
     ReadOnly,
     Conflict(Clash),
+    /// How a group ended, for each of its labels in order: none where nothing was under the label.
+    Grouped(LabelReplies),
     Trimmed(u64),
     Compacted(u64),
     Upgraded(u64),

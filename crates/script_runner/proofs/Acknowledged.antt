@@ -1,101 +1,129 @@
 -- A commit that a reply tells is one of the world after it.
-use Rattle.script_runner.proofs.Words.{◌≡◌, ◌<◌, ◌≤◌, ◌+◌, ◌-◌, ◌&&◌, ◌==◌, not, ℕ, Bool, true, false, cond, List, [], ◌∷◌, length, nat_le, nat_lt, Option, Some, None, Result, Ok, Err, inl, inr, drop, take, length-append, subst, sym, arith, Access, Clash, MarkError, Mode, Span, CoreReply, Line, Op, Reply, StoreError, LAST, MAX_ACCESSES, MAX_LIVE, clash, has_write, same_mode, del_program, get_program, put_program, History, last, mark_fault, after, access_step, after_store, array_of, fill_step, found_reply, get_step, hash_delete_step, hash_get_step, hash_put_step, in_store, in_transaction, mark_step, marked_step, numbers, out_of_transaction, put_step, read_step, release_step, removed_reply, step, store_step, takeover_step, write_step, pairs_reply, tree_put_step, tree_get_step, tree_delete_step, tree_scan_step, after_commit, begin_step, commit_step, end_step, switch_step, mode_named, need, read_access, shown_to, as_reply, as_step, as_either, hash_area, tree_area, Program, outcome, Live, Place, World, attached, client, floor, held, used, AreLines, IsWorld, after_leads, step_leads, AreRepliesTo, TellsCommit, Acknowledges, SameButShown, longer}
+use Rattle.script_runner.proofs.Words.{◌≡◌, ◌<◌, ◌≤◌, ◌+◌, ◌-◌, refl, ◌&&◌, ◌==◌, not, ℕ, Bool, true, false, cond, List, [], ◌∷◌, length, nat_le, nat_lt, Option, Some, None, Result, Ok, Err, inl, inr, drop, take, length-append, subst, sym, arith, Access, Clash, MarkError, Mode, Span, CoreReply, Line, Op, Reply, StoreError, LAST, MAX_ACCESSES, MAX_LIVE, clash, has_write, same_mode, del_program, get_program, put_program, History, last, mark_fault, after, access_step, after_store, array_of, fill_step, found_reply, get_step, hash_delete_step, hash_get_step, hash_put_step, in_store, in_transaction, mark_step, marked_step, numbers, out_of_transaction, put_step, read_step, release_step, removed_reply, step, store_step, takeover_step, write_step, pairs_reply, tree_put_step, tree_get_step, tree_delete_step, tree_scan_step, after_commit, begin_step, commit_step, end_step, switch_step, mode_named, need, read_access, shown_to, as_reply, as_step, as_either, hash_area, tree_area, Program, outcome, Live, Place, World, attached, client, floor, held, used, AreLines, IsWorld, after_leads, step_leads, AreRepliesTo, TellsCommit, Acknowledges, SameButShown, longer, GroupReply, IsAmongGrouped, SaysCommit, group_step, grouped}
+use Rattle.script_runner.proofs.Grouped.{group_kept}
 use Rattle.iso_model.specs.declared.access.MarkError.TheVariants as mark
 use Rattle.iso_model.specs.declared.core_reply.CoreReply.TheVariants as core
-use Rattle.script_model.specs.declared.script.Op.TheVariants.{Begin, End, Abort, Put, Read as ReadBlock, Get, Write as WriteBlock, Fill, Mark, Release, Takeover, Await, Trim, Stat, Compact, Upgrade, HashPut, HashGet, HashDelete, TreePut, TreeGet, TreeDelete, TreeScan}
+use Rattle.script_model.specs.declared.script.Op.TheVariants.{Begin, End, Abort, Put, Read as ReadBlock, Get, Write as WriteBlock, Fill, Mark, Release, Takeover, Await, Group, Trim, Stat, Compact, Upgrade, HashPut, HashGet, HashDelete, TreePut, TreeGet, TreeDelete, TreeScan}
 use Rattle.script_model.specs.declared.script.Reply.TheVariants as reply
 use Rattle.store_model.specs.declared.stores.StoreError.TheVariants as store
 use Rattle.store_model.specs.TreeCalls as tree
 
 -- a commit that the reply tells is one of the world beside it
 record Tells (result : Reply × World) : Type 0 where
-  each : (n : ℕ) → result.0 ≡ reply.Committed n → n ≤ last result.1.history
+  each : (n : ℕ) → SaysCommit result.0 n → n ≤ last result.1.history
 
 tells_either : (t : Bool) (x y : Reply × World) → Tells x → Tells y → Tells (cond t x y)
 tells_either true x y first second = first
 tells_either false x y first second = second
 
--- a refusal, and else the rest
-refuses : (t : Bool) (r : Reply) (V : World) (y : Reply × World) → ((n : ℕ) → r ≡ reply.Committed n → ⊥) → Tells y → Tells (cond t (r, V) y)
-refuses true r V y other rest = record { each = λ n e. absurd (other n e) }
-refuses false r V y other rest = rest
+-- whether a reply may tell commits
+abbrev tells_some : Reply → Bool
+tells_some (reply.Committed n) = true
+tells_some (reply.Grouped answers) = true
+tells_some r = false
+
+silent : (r : Reply) (n : ℕ) → tells_some r ≡ false → SaysCommit r n → ⊥
+silent r n none (inl is) = let no : true ≡ false = subst (λ (x : Reply). tells_some x ≡ false) is none in cc
+silent r n none (inr told) = let no : true ≡ false = subst (λ (x : Reply). tells_some x ≡ false) told.1 none in cc
 
 -- an answer that is no commit
-other : (r : Reply) (V : World) → ((n : ℕ) → r ≡ reply.Committed n → ⊥) → Tells (r, V)
-other r V none = record { each = λ n e. absurd (none n e) }
+other : (r : Reply) (V : World) → tells_some r ≡ false → Tells (r, V)
+other r V none = record { each = λ n e. absurd (silent r n none e) }
+
+-- a refusal, and else the rest
+refuses : (t : Bool) (r : Reply) (V : World) (y : Reply × World) → tells_some r ≡ false → Tells y → Tells (cond t (r, V) y)
+refuses true r V y none rest = other r V none
+refuses false r V y none rest = rest
+
+-- the answer to an end that made this commit
+one_commit : (k : ℕ) (V : World) → k ≤ last V.history → Tells (reply.Committed k, V)
+one_commit k V there = record { each = is }
+  where
+    is : (n : ℕ) → SaysCommit (reply.Committed k) n → n ≤ last V.history
+    is n (inl e) = let same : k ≡ n = cc in omega (arith, same, there)
+    is n (inr told) = let no : reply.Committed k ≡ reply.Grouped told.0 = told.1 in cc
+
+-- the answer to a group
+group_tells : (W : World) (texts : List (List ℕ)) → IsWorld W → Tells (grouped (group_step W texts))
+group_tells W texts is = record { each = told }
+  where
+    told : (n : ℕ) → SaysCommit (reply.Grouped (group_step W texts).0) n → n ≤ last (group_step W texts).1.history
+    told n (inl e) = let no : reply.Grouped (group_step W texts).0 ≡ reply.Committed n = e in cc
+    told n (inr said) =
+        let same : (group_step W texts).0 ≡ said.0 = cc in
+        group_kept W texts n is.history.first (subst (λ (answers : List (Option GroupReply)). IsAmongGrouped n answers) (sym same) said.2)
 
 begin_tells : (W : World) (place : Place) (mode : Mode) → Tells (as_step (begin_step W place mode))
 unfolding begin_step
 begin_tells W place mode =
-    as_either Tells ((W.geometry.form == 1) && not (same_mode mode W.geometry.mode)) _ _ (other reply.ModeFixed W (λ n e. cc))
-    (as_either Tells (nat_le MAX_LIVE (length W.live)) _ _ (other reply.TooManyTx W (λ n e. cc))
-    (as_either Tells (nat_lt LAST W.next) _ _ (other reply.Worn W (λ n e. cc)) (other (reply.Began (last W.history)) _ (λ n e. cc))))
+    as_either Tells ((W.geometry.form == 1) && not (same_mode mode W.geometry.mode)) _ _ (other reply.ModeFixed W refl)
+    (as_either Tells (nat_le MAX_LIVE (length W.live)) _ _ (other reply.TooManyTx W refl)
+    (as_either Tells (nat_lt LAST W.next) _ _ (other reply.Worn W refl) (other (reply.Began (last W.history)) _ refl)))
 
-access_tells : (W : World) (t : Live) (block : ℕ) (wrong : Bool) (answer : Reply) (a : Access) → ((n : ℕ) → answer ≡ reply.Committed n → ⊥) → Tells (access_step W t block wrong answer a)
-access_tells W t block wrong answer a other =
-    refuses _ reply.BadBlock W _ (λ n e. cc) (refuses _ reply.BadRange W _ (λ n e. cc) (refuses _ reply.TooManyAccesses W _ (λ n e. cc)
-    (record { each = λ n e. absurd (other n e) })))
+access_tells : (W : World) (t : Live) (block : ℕ) (wrong : Bool) (answer : Reply) (a : Access) → tells_some answer ≡ false → Tells (access_step W t block wrong answer a)
+access_tells W t block wrong answer a none =
+    refuses _ reply.BadBlock W _ refl (refuses _ reply.BadRange W _ refl (refuses _ reply.TooManyAccesses W _ refl
+    (other answer _ none)))
 
 put_tells : (W : World) (t : Live) (block off : ℕ) (bytes : List ℕ) → Tells (put_step W t block off bytes)
 unfolding put_step
-put_tells W t block off bytes = access_tells W t block _ reply.Done _ (λ n e. cc)
+put_tells W t block off bytes = access_tells W t block _ reply.Done _ refl
 
 read_tells : (W : World) (t : Live) (block : ℕ) → Tells (read_step W t block)
 unfolding read_step
-read_tells W t block = access_tells W t block false (reply.Shown (shown_to W t block)) (read_access block) (λ n e. cc)
+read_tells W t block = access_tells W t block false (reply.Shown (shown_to W t block)) (read_access block) refl
 
 get_tells : (W : World) (t : Live) (block off len : ℕ) → Tells (get_step W t block off len)
 unfolding get_step
-get_tells W t block off len = access_tells W t block _ (reply.Shown (take len (drop off (shown_to W t block)))) _ (λ n e. cc)
+get_tells W t block off len = access_tells W t block _ (reply.Shown (take len (drop off (shown_to W t block)))) _ refl
 
 write_tells : (W : World) (t : Live) (block : ℕ) (bytes : List ℕ) → Tells (write_step W t block bytes)
 unfolding write_step
-write_tells W t block bytes = access_tells W t block _ reply.Done _ (λ n e. cc)
+write_tells W t block bytes = access_tells W t block _ reply.Done _ refl
 
 fill_tells : (W : World) (t : Live) (block : ℕ) (bytes : List ℕ) → Tells (fill_step W t block bytes)
 unfolding fill_step
-fill_tells W t block bytes = access_tells W t block _ reply.Done _ (λ n e. cc)
+fill_tells W t block bytes = access_tells W t block _ reply.Done _ refl
 
 marked_tells : (W : World) (t : Live) (span : Span) (fault : Option MarkError) → Tells (marked_step W t span fault)
-marked_tells W t span (Some mark.BadRange) = record { each = λ n e. cc }
-marked_tells W t span (Some mark.NoAccess) = record { each = λ n e. cc }
-marked_tells W t span (Some mark.TooManyMarks) = record { each = λ n e. cc }
-marked_tells W t span None = record { each = λ n e. cc }
+marked_tells W t span (Some mark.BadRange) = other _ _ refl
+marked_tells W t span (Some mark.NoAccess) = other _ _ refl
+marked_tells W t span (Some mark.TooManyMarks) = other _ _ refl
+marked_tells W t span None = other _ _ refl
 
 mark_tells : (W : World) (t : Live) (off len : ℕ) → Tells (mark_step W t off len)
 unfolding mark_step
 mark_tells W t off len = marked_tells W t (record { off = off; len = len }) (mark_fault W.geometry.block off len t.accesses)
 
-committed : (n : ℕ) (W : World) (t : Live) → 0 < W.history.first → reply.Committed (last W.history + 1) ≡ reply.Committed n → n ≤ last (after_commit W t).history
-committed n W t first e =
-    let same : last W.history + 1 ≡ n = cc in
-    omega (arith, length-append W.history.commits (record { begin = t.begin; mode = t.mode; accesses = t.accesses } ∷ []))
+committed : (W : World) (t : Live) → 0 < W.history.first → last W.history + 1 ≤ last (after_commit W t).history
+committed W t first =
+    omega (arith, first, length-append W.history.commits (record { begin = t.begin; mode = t.mode; accesses = t.accesses } ∷ []))
 
 commit_tells : (W : World) (t : Live) (found : Option Clash) → IsWorld W → Tells (as_step (commit_step W t found))
 unfolding commit_step
-commit_tells W t (Some c) is = record { each = λ n e. cc }
+commit_tells W t (Some c) is = other _ _ refl
 commit_tells W t None is =
-    as_either Tells (last W.history == LAST) _ _ (other reply.Worn W (λ n e. cc))
-    (as_either Tells (nat_lt (W.geometry.log - used W) (need W t)) _ _ (other (reply.LogFull (need W t) (W.geometry.log - used W)) W (λ n e. cc))
-    (record { each = λ n e. committed n W t is.history.first e }))
+    as_either Tells (last W.history == LAST) _ _ (other reply.Worn W refl)
+    (as_either Tells (nat_lt (W.geometry.log - used W) (need W t)) _ _ (other (reply.LogFull (need W t) (W.geometry.log - used W)) W refl)
+    (one_commit (last W.history + 1) (after_commit W t) (committed W t is.history.first)))
 
 end_tells : (W : World) (t : Live) → IsWorld W → Tells (as_step (end_step W t))
 unfolding end_step
-end_tells W t is = as_either Tells (has_write t.accesses) _ _ (commit_tells W t (clash W.geometry W.history t.mode t.begin t.accesses) is) (other reply.ReadOnly _ (λ n e. cc))
+end_tells W t is = as_either Tells (has_write t.accesses) _ _ (commit_tells W t (clash W.geometry W.history t.mode t.begin t.accesses) is) (other reply.ReadOnly _ refl)
 
 -- a call of a store makes no commit
-stored_tells : {R : Type 0} (W : World) (t : Live) (answer : R → Reply) → ((r : R) (n : ℕ) → answer r ≡ reply.Committed n → ⊥)
+stored_tells : {R : Type 0} (W : World) (t : Live) (answer : R → Reply) → ((r : R) → tells_some (answer r) ≡ false)
     → (done : List Access) (end : Option (Result R StoreError)) → Tells (after_store W t answer (done, end))
-stored_tells W t answer none done None = record { each = λ n e. cc }
-stored_tells W t answer none done (Some (Ok r)) = record { each = λ n e. absurd (none r n e) }
-stored_tells W t answer none done (Some (Err store.BadKey)) = record { each = λ n e. cc }
-stored_tells W t answer none done (Some (Err store.BadValue)) = record { each = λ n e. cc }
-stored_tells W t answer none done (Some (Err (store.NoBlocks need free))) = record { each = λ n e. cc }
-stored_tells W t answer none done (Some (Err (store.Broken block))) = record { each = λ n e. cc }
-stored_tells W t answer none done (Some (Err (store.Tx error))) = record { each = λ n e. cc }
-stored_tells W t answer none done (Some (Err store.Memory)) = record { each = λ n e. cc }
+stored_tells W t answer none done None = other _ _ refl
+stored_tells W t answer none done (Some (Ok r)) = other (answer r) _ (none r)
+stored_tells W t answer none done (Some (Err store.BadKey)) = other _ _ refl
+stored_tells W t answer none done (Some (Err store.BadValue)) = other _ _ refl
+stored_tells W t answer none done (Some (Err (store.NoBlocks need free))) = other _ _ refl
+stored_tells W t answer none done (Some (Err (store.Broken block))) = other _ _ refl
+stored_tells W t answer none done (Some (Err (store.Tx error))) = other _ _ refl
+stored_tells W t answer none done (Some (Err store.Memory)) = other _ _ refl
 
-store_tells : {R : Type 0} (W : World) (t : Live) (program : Program (Result R StoreError)) (answer : R → Reply) → ((r : R) (n : ℕ) → answer r ≡ reply.Committed n → ⊥)
+store_tells : {R : Type 0} (W : World) (t : Live) (program : Program (Result R StoreError)) (answer : R → Reply) → ((r : R) → tells_some (answer r) ≡ false)
     → Tells (store_step W t program answer)
 unfolding store_step
 store_tells W t program answer none =
@@ -103,23 +131,23 @@ store_tells W t program answer none =
     stored_tells W t answer none ended.0 ended.1
 
 in_store_tells : (W : World) (t : Live) (blocks : ℕ) (result : Reply × World) → Tells result → Tells (in_store W t blocks result)
-in_store_tells W t blocks result tells = refuses _ reply.NoStore W _ (λ n e. cc) (tells_either _ _ _ tells (other reply.StoreMode _ (λ n e. cc)))
+in_store_tells W t blocks result tells = refuses _ reply.NoStore W _ refl (tells_either _ _ _ tells (other reply.StoreMode _ refl))
 
 -- what the calls answer
-done_tells : (r : Unit {0}) (n : ℕ) → reply.Done ≡ reply.Committed n → ⊥
-done_tells r n e = cc
+done_tells : (r : Unit {0}) → tells_some reply.Done ≡ false
+done_tells r = refl
 
-found_tells : (r : Option (List ℕ)) (n : ℕ) → found_reply r ≡ reply.Committed n → ⊥
-found_tells None n e = cc
-found_tells (Some value) n e = cc
+found_tells : (r : Option (List ℕ)) → tells_some (found_reply r) ≡ false
+found_tells None = refl
+found_tells (Some value) = refl
 
-removed_tells : (r : Bool) (n : ℕ) → removed_reply r ≡ reply.Committed n → ⊥
-removed_tells true n e = cc
-removed_tells false n e = cc
+removed_tells : (r : Bool) → tells_some (removed_reply r) ≡ false
+removed_tells true = refl
+removed_tells false = refl
 
-pairs_tells : (r : List (List ℕ × List ℕ)) (n : ℕ) → pairs_reply r ≡ reply.Committed n → ⊥
-pairs_tells [] n e = cc
-pairs_tells (pair ∷ pairs) n e = cc
+pairs_tells : (r : List (List ℕ × List ℕ)) → tells_some (pairs_reply r) ≡ false
+pairs_tells [] = refl
+pairs_tells (pair ∷ pairs) = refl
 
 hash_put_tells : (W : World) (t : Live) (key value : List ℕ) → Tells (hash_put_step W t key value)
 unfolding hash_put_step
@@ -148,26 +176,26 @@ tree_delete_tells W t key = in_store_tells W t W.geometry.tree _ (store_tells W 
 tree_scan_tells : (W : World) (t : Live) (from to : List ℕ) (most : ℕ) → Tells (tree_scan_step W t from to most)
 unfolding tree_scan_step
 tree_scan_tells W t from to most =
-    in_store_tells W t W.geometry.tree _ (refuses _ reply.BadRange W _ (λ n e. cc) (store_tells W t (tree.scan_program (tree_area W.geometry) from to most) pairs_reply pairs_tells))
+    in_store_tells W t W.geometry.tree _ (refuses _ reply.BadRange W _ refl (store_tells W t (tree.scan_program (tree_area W.geometry) from to most) pairs_reply pairs_tells))
 
 release_tells : (W : World) (t : Live) (text : List ℕ) (found : Option Live) → Tells (release_step W t text found)
-release_tells W t text (Some other) = record { each = λ n e. cc }
-release_tells W t text None = record { each = λ n e. cc }
+release_tells W t text (Some one) = other _ _ refl
+release_tells W t text None = other _ _ refl
 
 takeover_tells : (W : World) (c : ℕ) (found : Option Live) → Tells (takeover_step W c found)
-takeover_tells W c None = record { each = λ n e. cc }
-takeover_tells W c (Some t) = record { each = λ n e. cc }
+takeover_tells W c None = other _ _ refl
+takeover_tells W c (Some t) = other _ _ refl
 
-switch_tells : (W : World) (form : ℕ) (answer : CoreReply) → ((n : ℕ) → as_reply answer ≡ reply.Committed n → ⊥) → Tells (as_step (switch_step W form answer))
+switch_tells : (W : World) (form : ℕ) (answer : CoreReply) → tells_some (as_reply answer) ≡ false → Tells (as_step (switch_step W form answer))
 unfolding switch_step
-switch_tells W form answer none = as_either Tells (W.generation == LAST) _ _ (other reply.Worn W (λ n e. cc)) (other (as_reply answer) _ none)
+switch_tells W form answer none = as_either Tells (W.generation == LAST) _ _ (other reply.Worn W refl) (other (as_reply answer) _ none)
 
 out_tells : (W : World) (found : Option Live) (result : Reply × World) → Tells result → Tells (out_of_transaction W found result)
-out_tells W (Some t) result tells = record { each = λ n e. cc }
+out_tells W (Some t) result tells = other _ _ refl
 out_tells W None result tells = tells
 
 in_tells : (W : World) (found : Option Live) (act : Live → Reply × World) → ((t : Live) → Tells (act t)) → Tells (in_transaction W found act)
-in_tells W None act tells = record { each = λ n e. cc }
+in_tells W None act tells = other _ _ refl
 in_tells W (Some t) act tells = tells t
 
 step_tells : (W : World) (c : ℕ) (op : Op) → IsWorld W → Tells (step W c op)
@@ -180,14 +208,15 @@ step_tells W c (WriteBlock block bytes) is = in_tells W (attached W c) _ (λ t. 
 step_tells W c (Fill block bytes) is = in_tells W (attached W c) _ (λ t. fill_tells W t block bytes)
 step_tells W c (Mark off len) is = in_tells W (attached W c) _ (λ t. mark_tells W t off len)
 step_tells W c End is = in_tells W (attached W c) _ (λ t. end_tells W t is)
-step_tells W c Abort is = in_tells W (attached W c) _ (λ t. other reply.Done _ (λ n e. cc))
+step_tells W c Abort is = in_tells W (attached W c) _ (λ t. other reply.Done _ refl)
 step_tells W c (Release text) is = in_tells W (attached W c) _ (λ t. release_tells W t text (held W text))
 step_tells W c (Takeover text) is = out_tells W (attached W c) _ (takeover_tells W c (held W text))
 step_tells W c (Await text) is = out_tells W (attached W c) _ (takeover_tells W c (held W text))
-step_tells W c Trim is = record { each = λ n e. cc }
-step_tells W c Stat is = record { each = λ n e. cc }
-step_tells W c Compact is = switch_tells W W.geometry.form (core.Compacted (floor W)) (λ n e. cc)
-step_tells W c Upgrade is = switch_tells W 2 (core.Upgraded (floor W)) (λ n e. cc)
+step_tells W c (Group texts) is = group_tells W texts is
+step_tells W c Trim is = other _ _ refl
+step_tells W c Stat is = other _ _ refl
+step_tells W c Compact is = switch_tells W W.geometry.form (core.Compacted (floor W)) refl
+step_tells W c Upgrade is = switch_tells W 2 (core.Upgraded (floor W)) refl
 step_tells W c (HashPut key value) is = in_tells W (attached W c) _ (λ t. hash_put_tells W t key value)
 step_tells W c (HashGet key) is = in_tells W (attached W c) _ (λ t. hash_get_tells W t key)
 step_tells W c (HashDelete key) is = in_tells W (attached W c) _ (λ t. hash_delete_tells W t key)
@@ -220,15 +249,22 @@ replies_longer U V (x ∷ xs) (r ∷ rs) is good are =
     let rest = replies_longer are.0 V xs rs are.1.sound good.1 are.2 in
     omega arith
 
+-- a reply that says a commit shows no bytes
+says_same : (n : ℕ) (r s : Reply) → SameButShown r s → SaysCommit r n → SaysCommit s n
+says_same n r s same (inl is) =
+    let same' : reply.Committed n ≡ s = subst (λ (y : Reply). SameButShown y s) is same in
+    inl (sym same')
+says_same n r s same (inr said) =
+    let same' : reply.Grouped said.0 ≡ s = subst (λ (y : Reply). SameButShown y s) said.1 same in
+    inr (said.0, sym same', said.2)
+
 -- a commit that was told of is one of the world that the lines led to
 pub told_kept : (W V : World) (xs : List (ℕ × Line)) (rs : List Reply) → IsWorld W → AreLines xs → AreRepliesTo W xs rs V → (n : ℕ) → TellsCommit xs rs n → n ≤ last V.history
 told_kept W V [] rs is good are n told = absurd told
 told_kept W V (x ∷ xs) [] is good are n told = absurd told
 told_kept W V (x ∷ xs) (r ∷ rs) is good are n (inl says) =
     let U = (step W x.1.client x.1.op).1 in
-    let same : reply.Committed n ≡ (step W x.1.client x.1.op).0 =
-    subst (λ (y : Reply). SameButShown y (step W x.1.client x.1.op).0) says.1 (are.1.plain says.0).0 in
-    let here : n ≤ last U.history = (step_tells W x.1.client x.1.op is).each n (sym same) in
+    let here : n ≤ last U.history = (step_tells W x.1.client x.1.op is).each n (says_same n r (step W x.1.client x.1.op).0 (are.1.plain says.0).0 says.1) in
     let next : n ≤ last are.0.history = subst (λ (H : History). n ≤ last H) (sym are.1.history) here in
     let rest = replies_longer are.0 V xs rs are.1.sound good.1 are.2 in
     omega arith

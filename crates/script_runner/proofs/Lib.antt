@@ -3,6 +3,7 @@ pub mod Feeds
 pub mod Fronts
 pub mod Said
 pub mod Histories
+mod Grouped
 pub mod Acknowledged
 pub mod Replying
 pub mod Steps

@@ -1,5 +1,5 @@
 -- The words that the proofs of this crate cite from elsewhere.
-pub use Rattle.std.proofs.Common.{Bool, Err, IfErr, IfOk, IfSome, List, None, Ok, OnOk, Option, Result, Some, [], ap, append-nil, append_assoc, arith, cond, drop, eqb, false, get_or, inl, inr, length, length-append, length-take, map, nat_eq, nat_le, nat_lt, not, refl, replicate, subst, sym, take, true, vec_len, w8, ℕ, ⊎_elim, ◌%◌, ◌&&◌, ◌++◌, ◌+◌, ◌-◌, ◌<◌, ◌==◌, ◌^◌, ◌∙◌, ◌∷◌, ◌≡◌, ◌≢◌, ◌≤◌}
+pub use Rattle.std.proofs.Common.{Bool, Err, IfErr, IfOk, IfSome, List, None, Ok, OnOk, Option, Result, Some, [], ap, append-nil, append_assoc, arith, cond, drop, eqb, false, get_or, inl, inr, length, length-append, length-take, map, nat_eq, nat_le, nat_lt, not, refl, replicate, subst, sym, take, true, vec_len, w8, ℕ, ⊎_elim, ◌%◌, ◌&&◌, ◌++◌, ◌+◌, ◌-◌, ◌<◌, ◌==◌, ◌^◌, ◌∙◌, ◌∷◌, ◌≡◌, ◌≢◌, ◌≤◌, ◌⊎◌}
 pub use Rattle.std.proofs.Math.Seq.{take-append-add}
 pub use Rattle.std.proofs.lemmas.Bool.{and_parts, eqb-false, eqb-true, false≢true, le-leb, leb-true, lt-leb, lt-ltb, ltb-false}
 pub use Rattle.std.proofs.lemmas.Bool.Decides.{eqb_tells}
@@ -18,6 +18,7 @@ pub use Rattle.iso_io.proofs.Told.{append_known-append, append_known-nil, prepen
 pub use Rattle.iso_io.specs.Sink.{CountsStand, SinkState, Wrote, WroteFront}
 pub use Rattle.iso_io.specs.Source.{MetEnd, SourceState, Took}
 pub use Rattle.iso_io.specs.declared.sink.PutError.TheVariants.{Failed, TookNothing}
+pub use Rattle.iso_model.proofs.Groups.{consecutive, group_is}
 pub use Rattle.iso_model.proofs.Held.{shows_any_form, shows_longer}
 pub use Rattle.iso_model.proofs.Worlds.{leads_on, longer}
 unfoldable pub use Rattle.iso_model.specs.Array.{put}
@@ -26,30 +27,34 @@ unfoldable pub use Rattle.iso_model.specs.Conflict.{clash}
 pub use Rattle.iso_model.specs.Effect.{has_write}
 unfoldable pub use Rattle.iso_model.specs.Effect.{runs}
 pub use Rattle.iso_model.specs.Geometry.{same_mode}
+pub use Rattle.iso_model.specs.Group.{Follow, ahead, decided, found_ones, group, label_replies, leave_all, looks, made_by, member_reply, numbers_told}
+unfoldable pub use Rattle.iso_model.specs.Group.{group_step}
 pub use Rattle.iso_model.specs.History.{History, last}
 pub use Rattle.iso_model.specs.Image.{Shows}
 pub use Rattle.iso_model.specs.Marks.{mark_fault}
-pub use Rattle.iso_model.specs.Step.{after_commit, mode_named, need, read_access, shown_to}
+pub use Rattle.iso_model.specs.Step.{after_commit, after_leaving, mode_named, need, read_access, shown_to}
 unfoldable pub use Rattle.iso_model.specs.Step.{begin_step, commit_step, end_step, switch_step}
 pub use Rattle.iso_model.specs.World.{Live, Place, World, attached, client, floor, held, used}
 pub use Rattle.iso_model.specs.Worlds.{Extends, IsWorld, KeepsGeometry, LeadsTo}
 pub use Rattle.iso_model.specs.declared.access.Access.{Access}
 pub use Rattle.iso_model.specs.declared.access.Clash.{Clash}
 pub use Rattle.iso_model.specs.declared.access.Geometry.{Geometry}
+pub use Rattle.iso_model.specs.declared.access.GroupReply.{GroupReply}
 pub use Rattle.iso_model.specs.declared.access.MarkError.{MarkError}
 pub use Rattle.iso_model.specs.declared.access.Mode.{Mode}
 pub use Rattle.iso_model.specs.declared.access.Span.{Span}
 pub use Rattle.iso_model.specs.declared.core_reply.CoreReply.{CoreReply}
 pub use Rattle.iso_model.specs.declared.limits.TheConstants.{LAST, MAX_ACCESSES, MAX_INPUT, MAX_LINE, MAX_LIVE}
 pub use Rattle.script_model.proofs.CoreSteps.{as_either}
+pub use Rattle.script_model.proofs.Looks.{looks_history}
 pub use Rattle.script_model.proofs.ScriptBytes.{IfGiven, any_given, given_next, given_none, given_one, script_lines}
 pub use Rattle.script_model.proofs.Steps.{after_leads, step_leads}
 pub use Rattle.script_model.specs.Bench.{answers_to}
 pub use Rattle.script_model.specs.CoreReplies.{as_reply, as_step}
-pub use Rattle.script_model.specs.Operations.{AreLines, IsOp}
+pub use Rattle.script_model.specs.Operations.{AreLines, IsAmongGrouped, IsOp, SaysCommit}
 pub use Rattle.script_model.specs.Script.{Script, after, bad_line, before_script, client_in_range, is_printable, is_skipped, last_piece, no_lines, operation_of, replies, script_from, without_return}
 unfoldable pub use Rattle.script_model.specs.Script.{parse, parse_whole, said, script}
-pub use Rattle.script_model.specs.Step.{access_step, after_store, array_of, found_reply, in_store, in_transaction, marked_step, out_of_transaction, pairs_reply, release_step, removed_reply, takeover_step}
+pub use Rattle.script_model.specs.Step.{access_step, after_store, array_of, found_reply, grouped, in_store, in_transaction, marked_step, out_of_transaction, pairs_reply, release_step, removed_reply, takeover_step}
 unfoldable pub use Rattle.script_model.specs.Step.{fill_step, get_step, hash_delete_step, hash_get_step, hash_put_step, mark_step, numbers, put_step, read_step, step, store_step, tree_delete_step, tree_get_step, tree_put_step, tree_scan_step, write_step}
 pub use Rattle.script_model.specs.Text.{before_piece, is_empty, number_of, pieces, reply_line, words_of}
 unfoldable pub use Rattle.script_model.specs.Text.{reply_text}

@@ -5,7 +5,7 @@ use Rattle.iso_model.specs.World.{World}
 use Rattle.iso_model.specs.Worlds.{IsWorld}
 use Rattle.script_model.specs.declared.script.Line.{Line}
 use Rattle.script_model.specs.declared.script.Reply.{Reply}
-use Rattle.script_model.specs.declared.script.Reply.TheVariants.{Committed}
+use Rattle.script_model.specs.Operations.{SaysCommit}
 use Rattle.script_model.specs.Step.{step}
 use Rattle.script_model.specs.Text.{reply_line}
 use Rattle.script_runner.specs.declared.run_end.RunEnd.{RunEnd}
@@ -52,11 +52,11 @@ AreSameButShown [] (y ∷ ys) = ⊥
 AreSameButShown (x ∷ xs) [] = ⊥
 AreSameButShown (x ∷ xs) (y ∷ ys) = SameButShown x y × AreSameButShown xs ys
 
--- a line that calls no store was answered that commit n was made
+-- a line that calls no store was answered that commit n was made, to an end or to a label of a group
 abbrev pub TellsCommit : List (ℕ × Line) → List Reply → (n : ℕ) → Type 0
 TellsCommit [] replies n = ⊥
 TellsCommit (line ∷ lines) [] n = ⊥
-TellsCommit (line ∷ lines) (reply ∷ replies) n = (IsPlain line.1.op × (reply ≡ Committed n)) ⊎ TellsCommit lines replies n
+TellsCommit (line ∷ lines) (reply ∷ replies) n = (IsPlain line.1.op × SaysCommit reply n) ⊎ TellsCommit lines replies n
 
 -- what holds where the sink ended the run, and so the reply to one more line was made
 abbrev pub IfCut : RunEnd → Type 0 → Type 0

@@ -5,12 +5,11 @@ use Rattle.iso_io.specs.Source.{SourceState, MetEnd, Took}
 use Rattle.iso_io.specs.Sink.{SinkState}
 use Rattle.iso_model.specs.declared.limits.TheConstants.{MAX_INPUT}
 use Rattle.script_model.specs.declared.script.Line.{Line}
-use Rattle.script_model.specs.declared.script.Reply.TheVariants.{Committed}
 use Rattle.iso_model.specs.History.{last}
 use Rattle.script_model.specs.Script.{Script, after, replies, script}
 use Rattle.script_model.specs.Step.{step}
 use Rattle.iso_model.specs.World.{World}
-use Rattle.script_model.specs.Operations.{AreLines}
+use Rattle.script_model.specs.Operations.{AreLines, SaysCommit}
 use Rattle.iso_model.specs.Worlds.{LeadsTo}
 use Rattle.script_runner.specs.declared.run_end.RunEnd.{RunEnd}
 use Rattle.script_runner.specs.declared.run_end.RunEnd.TheVariants.{Done, BadLine as Bad, Disk, Input, Memory}
@@ -56,11 +55,11 @@ IfUp Disk P = Unit {0}
 IfUp Memory P = Unit {0}
 IfUp end P = P
 
--- a reply of the world W to one of these lines says that commit n was made
+-- a reply of the world W to one of these lines says that commit n was made, to an end or to a label of a group
 abbrev pub Acknowledges : World → List (ℕ × Line) → (n : ℕ) → Type 0
 Acknowledges W [] n = ⊥
 Acknowledges W (line ∷ lines) n =
-    ((step W line.1.client line.1.op).0 ≡ Committed n) ⊎ Acknowledges (step W line.1.client line.1.op).1 lines n
+    SaysCommit (step W line.1.client line.1.op).0 n ⊎ Acknowledges (step W line.1.client line.1.op).1 lines n
 
 -- The world that these lines led to from the world W. It is sound, and its history begins with that of W. It is the model's, where
 -- the disk tells its bytes or no line calls a store; else the accesses of such calls are not known, and it is the one that they made.

@@ -1,5 +1,5 @@
 -- A printed line is read as that line, and as no other.
-use Rattle.script_text.proofs.Words.{◌≡◌, ◌∙◌, ap, sym, refl, bytes_eq, codes, ◌==◌, ◌&&◌, ◌/◌, ◌%◌, true, false, ℕ, ◌≤◌, ◌<◌, ◌^◌, IsTrue, List, [], ◌∷◌, length, Some, None, Result, Ok, Err, decimal, arith, Serial, Snapshot, MAX_LINE, Line, Op, Begin, End, Abort, Put, Read, Get, Write, Fill, Mark, Release, Takeover, Await, Trim, Stat, Compact, Upgrade, HashPut, HashGet, HashDelete, TreePut, TreeGet, TreeDelete, TreeScan, ◌>>=◌, client_in_range, key_and_value, number_argument, number_and_bytes, one_key, one_label, one_number, operation_of, other_operation, store_argument, store_operation, tree_operation, parse, put_arguments, said, scan_arguments, three_numbers, two_numbers, dashed, digit_of, hex_text, number_of, words_of, is_label, AreBytes, arguments_of, line_text, line_words, name_of, spaced, AreSome, IsLine, IsSayable}
+use Rattle.script_text.proofs.Words.{◌≡◌, ◌∙◌, ap, sym, refl, bytes_eq, codes, ◌==◌, ◌&&◌, ◌/◌, ◌%◌, true, false, ℕ, ◌≤◌, ◌<◌, ◌^◌, IsTrue, List, [], ◌∷◌, length, Some, None, Result, Ok, Err, decimal, arith, Serial, Snapshot, MAX_LINE, Line, Op, Begin, End, Abort, Put, Read, Get, Write, Fill, Mark, Release, Takeover, Await, Group, Trim, Stat, Compact, Upgrade, HashPut, HashGet, HashDelete, TreePut, TreeGet, TreeDelete, TreeScan, ◌>>=◌, client_in_range, group_arguments, key_and_value, labels_of, AllByRecursion, MAX_LABELS, le-leb, number_argument, number_and_bytes, one_key, one_label, one_number, operation_of, other_operation, store_argument, store_operation, tree_operation, parse, put_arguments, said, scan_arguments, three_numbers, two_numbers, dashed, digit_of, hex_text, number_of, words_of, is_label, AreBytes, arguments_of, line_text, line_words, name_of, spaced, AreSome, IsLine, IsSayable}
 use Rattle.script_model.specs.declared.script.Parsed.TheVariants.{Line as Says}
 use Rattle.script_text.proofs.LineLemmas.{parse-said}
 use Rattle.script_text.proofs.Numerals.{IsWord, decimal_digits, decimal_word, hex_argument-printed, hex_word, label_argument-printed, label_word, number_of-printed}
@@ -18,6 +18,7 @@ name_word (Mark off len) = record { some = omega arith; bytes = refl }
 name_word (Release label) = record { some = omega arith; bytes = refl }
 name_word (Takeover label) = record { some = omega arith; bytes = refl }
 name_word (Await label) = record { some = omega arith; bytes = refl }
+name_word (Group labels) = record { some = omega arith; bytes = refl }
 name_word Trim = record { some = omega arith; bytes = refl }
 name_word Stat = record { some = omega arith; bytes = refl }
 name_word Compact = record { some = omega arith; bytes = refl }
@@ -34,6 +35,10 @@ dashed_word : (bytes : List ℕ) → AreBytes bytes → IsWord (dashed bytes)
 dashed_word [] are = record { some = omega arith; bytes = refl }
 dashed_word (b ∷ bytes) are = hex_word (b ∷ bytes) (record { some = omega arith; values = are })
 
+label_words : (labels : List (List ℕ)) → AllByRecursion (λ label. IsTrue (is_label label)) labels → AreWords labels
+label_words [] are = tt
+label_words (label ∷ labels) are = (label_word label are.0, label_words labels are.1)
+
 arguments_words : (op : Op) → IsSayable op → AreWords (arguments_of op)
 arguments_words (Begin None) can = tt
 arguments_words (Begin (Some Serial)) can = (record { some = omega arith; bytes = refl }, tt)
@@ -49,6 +54,7 @@ arguments_words (Mark off len) can = (decimal_word off can.0, (decimal_word len 
 arguments_words (Release label) can = (label_word label can, tt)
 arguments_words (Takeover label) can = (label_word label can, tt)
 arguments_words (Await label) can = (label_word label can, tt)
+arguments_words (Group labels) can = label_words labels can.2
 arguments_words Trim can = tt
 arguments_words Stat can = tt
 arguments_words Compact can = tt
@@ -94,6 +100,13 @@ put_printed block off bytes first second are =
 label_printed : (op : List ℕ → Op) (label : List ℕ) → IsTrue (is_label label) → one_label op (label ∷ []) ≡ Ok (op label)
 label_printed op label is = after _ _ label (label_argument-printed label is)
 
+labels_printed : (labels : List (List ℕ)) → AllByRecursion (λ label. IsTrue (is_label label)) labels → labels_of labels ≡ Ok labels
+labels_printed [] are = refl
+labels_printed (label ∷ labels) are = after _ _ label (label_argument-printed label are.0) ∙ after _ _ labels (labels_printed labels are.1)
+
+group_printed : (labels : List (List ℕ)) → 1 ≤ length labels → length labels ≤ MAX_LABELS → AllByRecursion (λ label. IsTrue (is_label label)) labels → group_arguments labels ≡ Ok (Group labels)
+group_printed labels some few are = rw (le-leb 1 (length labels) some, le-leb (length labels) MAX_LABELS few) (after _ _ labels (labels_printed labels are))
+
 -- a key or a value, which is not a dash where it has a byte
 not_dash : (x y : ℕ) (word : List ℕ) → bytes_eq (x ∷ y ∷ word) (codes "-") ≡ false
 not_dash x y word = elim (x == 45) as (λ t. (t && false) ≡ false) [ true ↦ refl | false ↦ refl ]
@@ -128,6 +141,7 @@ operation_of-printed (Mark off len) can = two_printed Mark off len can.0 can.1
 operation_of-printed (Release label) can = label_printed Release label can
 operation_of-printed (Takeover label) can = label_printed Takeover label can
 operation_of-printed (Await label) can = label_printed Await label can
+operation_of-printed (Group labels) can = group_printed labels can.0 can.1 can.2
 operation_of-printed Trim can = refl
 operation_of-printed Stat can = refl
 operation_of-printed Compact can = refl

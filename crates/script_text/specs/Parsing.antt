@@ -1,5 +1,5 @@
 -- What a step of the parser answers.
-use Rattle.std.specs.Prelude.{◌≡◌, ℕ, Result, Ok, Err}
+use Rattle.std.specs.Prelude.{◌≡◌, ℕ, List, ◌++◌, Result, Ok, Err}
 use Rattle.script_model.specs.Script.{◌>>=◌}
 use Rattle.script_model.specs.declared.script.Op.{Op}
 use Rattle.script_model.specs.declared.script.Parsed.{Parsed}
@@ -16,6 +16,11 @@ Fails Memory defined = Unit {0}
 abbrev pub Gives : {X : Type 0} → Result X LineError → Result X ℕ → Type 0
 Gives (Ok x) defined = defined ≡ Ok x
 Gives (Err error) defined = Fails error defined
+
+-- the items that are defined, behind those that were there, or the cause that is defined, unless memory ran out
+abbrev pub GivesBehind : {X : Type 0} → Result (Unit {0}) LineError → Result (List X) ℕ → (old new : List X) → Type 0
+GivesBehind {X = X} (Ok done) defined old new = (more : List X) × (defined ≡ Ok more) × (new ≡ old ++ more)
+GivesBehind (Err error) defined old new = Fails error defined
 
 -- an operation as what a line of this client says
 abbrev pub said_by : (client : ℕ) → Result Op ℕ → Result Parsed ℕ

@@ -1,7 +1,7 @@
 -- What a step of the printer asks for and leaves.
 use Rattle.std.specs.Prelude.{◌≡◌, ◌<◌, ◌≤◌, ℕ, List, ◌++◌, length}
 use Rattle.script_model.specs.declared.script.Reply.{Reply}
-use Rattle.script_model.specs.declared.script.Reply.TheVariants.{Found, Pairs, Shown}
+use Rattle.script_model.specs.declared.script.Reply.TheVariants.{Found, Grouped, Pairs, Shown}
 use Rattle.script_model.specs.Text.{reply_text}
 use Rattle.script_text.specs.declared.reply.TheConstants.{MOST_SHOWN}
 
@@ -15,11 +15,13 @@ abbrev pub IsShort : Reply → Type 0
 IsShort (Shown bytes) = length bytes ≤ MOST_SHOWN
 IsShort (Found bytes) = length bytes ≤ MOST_SHOWN
 IsShort (Pairs pairs) = ⊥
+IsShort (Grouped answers) = ⊥
 IsShort reply = Unit {0}
 
--- a reply that tells no pairs
+-- a reply that tells no pairs, and not how a group ended
 abbrev pub IsOther : Reply → Type 0
 IsOther (Pairs pairs) = ⊥
+IsOther (Grouped answers) = ⊥
 IsOther reply = Unit {0}
 
 -- a reply that tells these bytes, which are too many for that

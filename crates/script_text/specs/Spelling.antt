@@ -4,7 +4,9 @@ use Rattle.iso_model.specs.declared.access.Mode.{Mode}
 use Rattle.iso_model.specs.declared.access.Mode.TheVariants.{Serial, Snapshot}
 use Rattle.script_model.specs.declared.script.Line.{Line}
 use Rattle.script_model.specs.declared.script.Op.{Op}
-use Rattle.script_model.specs.declared.script.Op.TheVariants.{Begin, End, Abort, Put, Read, Get, Write, Fill, Mark, Release, Takeover, Await, Trim, Stat, Compact, Upgrade, HashPut, HashGet, HashDelete, TreePut, TreeGet, TreeDelete, TreeScan}
+use Rattle.script_model.specs.declared.script.Op.TheVariants.{Begin, End, Abort, Put, Read, Get, Write, Fill, Mark, Release, Takeover, Await, Group, Trim, Stat, Compact, Upgrade, HashPut, HashGet, HashDelete, TreePut, TreeGet, TreeDelete, TreeScan}
+use Rattle.std.specs.List.{AllByRecursion}
+use Rattle.script_model.specs.declared.script.TheConstants.{MAX_LABELS}
 use Rattle.iso_model.specs.Premises.{AreBytes}
 use Rattle.script_model.specs.Text.{dashed, hex_text}
 use Rattle.iso_model.specs.Labels.{is_label}
@@ -23,6 +25,7 @@ name_of (Mark off len) = codes "mark"
 name_of (Release label) = codes "release"
 name_of (Takeover label) = codes "takeover"
 name_of (Await label) = codes "await"
+name_of (Group labels) = codes "group"
 name_of Trim = codes "trim"
 name_of Stat = codes "stat"
 name_of Compact = codes "compact"
@@ -52,6 +55,7 @@ arguments_of (Mark off len) = decimal off ∷ decimal len ∷ []
 arguments_of (Release label) = label ∷ []
 arguments_of (Takeover label) = label ∷ []
 arguments_of (Await label) = label ∷ []
+arguments_of (Group labels) = labels
 arguments_of (HashPut key value) = dashed key ∷ dashed value ∷ []
 arguments_of (HashGet key) = dashed key ∷ []
 arguments_of (HashDelete key) = dashed key ∷ []
@@ -80,7 +84,8 @@ pub record AreSome (bytes : List ℕ) : Type 0 where
   pub some : 0 < length bytes
   pub values : AreBytes bytes
 
--- an operation that a line can say: its numbers are below 2 ^ 32, it has bytes where it takes any, and its label is one
+-- an operation that a line can say: its numbers are below 2 ^ 32, it has bytes where it takes any, its label is
+-- one, and it has no more labels than a group may have
 abbrev pub IsSayable : Op → Type 0
 IsSayable (Put block off bytes) = (block < 2 ^ 32) × (off < 2 ^ 32) × AreSome bytes
 IsSayable (Read block) = block < 2 ^ 32
@@ -91,6 +96,7 @@ IsSayable (Mark off len) = (off < 2 ^ 32) × (len < 2 ^ 32)
 IsSayable (Release label) = IsTrue (is_label label)
 IsSayable (Takeover label) = IsTrue (is_label label)
 IsSayable (Await label) = IsTrue (is_label label)
+IsSayable (Group labels) = (1 ≤ length labels) × (length labels ≤ MAX_LABELS) × AllByRecursion (λ label. IsTrue (is_label label)) labels
 IsSayable (HashPut key value) = AreBytes key × AreBytes value
 IsSayable (HashGet key) = AreBytes key
 IsSayable (HashDelete key) = AreBytes key

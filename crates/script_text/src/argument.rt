@@ -1,11 +1,13 @@
 // The arguments of an operation, each with the cause that it fails by.
-ghost use Rattle.script_model.specs.Script.{client_in_range, hex_argument, label_argument, mode_argument, number_argument, store_argument};
+ghost use Rattle.std.specs.Prelude.{[], ◌∷◌};
+ghost use Rattle.script_model.specs.Script.{client_in_range, hex_argument, label_argument, labels_of, mode_argument, number_argument, store_argument};
 ghost use Rattle.script_model.specs.Text.{number_of};
-ghost use Rattle.script_text.specs.Parsing.{Gives};
+ghost use Rattle.script_text.specs.Parsing.{Gives, GivesBehind};
+ghost use Rattle.script_text.specs.Words.{texts};
 
 use crate::hex_digits::decode;
 use crate::word::number_of;
-use iso_model::{Bytes, Label, Mode};
+use iso_model::{Bytes, Label, LabelList, Mode};
 use script_model::LineError;
 use std::alloc::Global;
 
@@ -54,6 +56,36 @@ pub(crate) fn label(word: &[u8]) -> Result<Label, LineError>
     ensures { Gives result (label_argument word.now) }
 {
     Label::new(word).ok_or(LineError::Cause(6))
+}
+
+/// The labels that the words spell.
+pub(crate) fn labels(alloc: Global, words: &[&[u8]]) -> Result<LabelList, LineError>
+    ensures { Gives result (labels_of (texts words.now)) }
+{
+    let mut labels = LabelList::empty(alloc);
+    push_labels(&mut labels, words)?;
+    Ok(labels)
+}
+
+/// Adds the labels that the words spell.
+fn push_labels(labels: &mut LabelList, words: &[&[u8]]) -> Result<(), LineError>
+    ensures { GivesBehind result (labels_of (texts words.now)) labels.old labels.new }
+{
+    let Some((first, others)) = words.split_first() else {
+        return Ok(());
+    };
+    push_label(labels, first)?;
+    push_labels(labels, others)
+}
+
+fn push_label(labels: &mut LabelList, word: &[u8]) -> Result<(), LineError>
+    ensures { GivesBehind result (labels_of (word.now ∷ [])) labels.old labels.new }
+{
+    let label = label(word)?;
+    match labels.push(label) {
+        Ok(()) => Ok(()),
+        Err(_) => Err(LineError::Memory),
+    }
 }
 
 pub(crate) fn mode(word: &[u8]) -> Result<Mode, LineError>

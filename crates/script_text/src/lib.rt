@@ -4,6 +4,7 @@
 mod argument;
 mod ending;
 mod generator;
+mod grouped;
 mod hex_digits;
 pub mod laws;
 mod line;

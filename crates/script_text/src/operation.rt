@@ -1,12 +1,12 @@
 // The operations, each with its arguments, which are tested from the left.
 ghost use Rattle.std.specs.Prelude.{◌≡◌};
-ghost use Rattle.script_model.specs.Script.{bare, begin_arguments, key_and_value, number_and_bytes, one_key, one_label, one_number, operation_of, other_operation, put_arguments, scan_arguments, store_operation, three_numbers, tree_operation, two_numbers};
+ghost use Rattle.script_model.specs.Script.{bare, begin_arguments, group_arguments, key_and_value, number_and_bytes, one_key, one_label, one_number, operation_of, other_operation, put_arguments, scan_arguments, store_operation, three_numbers, tree_operation, two_numbers};
 ghost use Rattle.script_model.specs.declared.script.Op.TheVariants as ops;
 ghost use Rattle.script_text.specs.Parsing.{Gives, said_by};
 ghost use Rattle.script_text.specs.Words.{texts};
 
-use crate::argument::{hex, label, mode, number, stored};
-use script_model::{Line, LineError, Op, Parsed};
+use crate::argument::{hex, label, labels, mode, number, stored};
+use script_model::{Line, LineError, MAX_LABELS, Op, Parsed};
 use std::alloc::Global;
 
 /// The line of this client with the operation of this name.
@@ -66,6 +66,9 @@ fn other_operation(
     }
     if name == b"await".as_slice() {
         return await_label(client, arguments);
+    }
+    if name == b"group".as_slice() {
+        return group(alloc, client, arguments);
     }
     if name == b"trim".as_slice() {
         return bare(client, Op::Trim, arguments);
@@ -278,6 +281,19 @@ fn await_label(client: u8, arguments: &[&[u8]]) -> Result<Parsed, LineError>
     Ok(Parsed::Line(Line {
         client,
         op: Op::Await { label },
+    }))
+}
+
+fn group(alloc: Global, client: u8, arguments: &[&[u8]]) -> Result<Parsed, LineError>
+    ensures { Gives result (said_by client (group_arguments (texts arguments.now))) }
+{
+    if arguments.is_empty() || arguments.len() > MAX_LABELS {
+        return Err(LineError::Cause(3));
+    }
+    let labels = labels(alloc, arguments)?;
+    Ok(Parsed::Line(Line {
+        client,
+        op: Op::Group { labels },
     }))
 }
 

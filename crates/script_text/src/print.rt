@@ -1,12 +1,12 @@
 // The printed spelling of a line.
-ghost use Rattle.std.specs.Prelude.{◌≡◌, ◌≤◌, ◌∷◌, ◌++◌, IfOk, Ok, OnOk, decimal, length};
+ghost use Rattle.std.specs.Prelude.{◌≡◌, ◌≤◌, ◌∷◌, ◌++◌, IfOk, Ok, OnOk, codes, decimal, flat_map, length};
 ghost use Rattle.iso_model.specs.declared.limits.TheConstants.{MAX_LINE};
 ghost use Rattle.script_model.specs.declared.script.Parsed.TheVariants.{Line as Says};
 ghost use Rattle.script_model.specs.Script.{parse};
 ghost use Rattle.script_text.specs.Spelling.{arguments_of, line_text, name_of, spaced, IsLine};
 
 use crate::push::{push_bytes, push_dashed, push_hex, push_number};
-use iso_model::{Memory, Mode};
+use iso_model::{Label, Memory, Mode};
 use script_model::{Line, Op};
 use std::alloc::Global;
 
@@ -67,6 +67,7 @@ fn push_operation(out: &mut Vec<u8>, op: &Op) -> Result<(), Memory>
         Op::Release { label } => push_both(out, b"release ", label.text()),
         Op::Takeover { label } => push_both(out, b"takeover ", label.text()),
         Op::Await { label } => push_both(out, b"await ", label.text()),
+        Op::Group { labels } => push_group(out, labels.as_slice()),
         Op::Trim => push_bytes(out, b"trim"),
         Op::Stat => push_bytes(out, b"stat"),
         Op::Compact => push_bytes(out, b"compact"),
@@ -97,6 +98,23 @@ fn push_numbered(out: &mut Vec<u8>, text: &[u8], number: u32) -> Result<(), Memo
 {
     push_bytes(out, text)?;
     push_number(out, u64::from(number))
+}
+
+fn push_group(out: &mut Vec<u8>, labels: &[Label]) -> Result<(), Memory>
+    ensures { OnOk result (out.new.items ≡ out.old.items ++ spaced (codes "group" ∷ labels.now)) }
+{
+    push_bytes(out, b"group")?;
+    push_labels(out, labels)
+}
+
+/// Adds the labels, each behind a space.
+fn push_labels(out: &mut Vec<u8>, labels: &[Label]) -> Result<(), Memory>
+    ensures { OnOk result (out.new.items ≡ out.old.items ++ flat_map (λ label. 32 ∷ label) labels.now) }
+{
+    for label in labels {
+        push_both(out, b" ", label.text())?;
+    }
+    Ok(())
 }
 
 /// Adds two texts.

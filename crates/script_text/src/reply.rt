@@ -6,6 +6,7 @@ ghost use Rattle.script_text.specs.Printing.{Extends, IsLong, IsOther, IsShort};
 ghost use Rattle.script_text.specs.declared.reply.TheConstants.{MOST_SHOWN};
 
 use crate::ending::Ending;
+use crate::grouped::push_grouped;
 use crate::pairs::push_pairs;
 use crate::push::{push_bytes, push_hex, push_number};
 use iso_model::Memory;
@@ -34,6 +35,7 @@ pub fn push_reply(out: &mut Vec<u8>, client: u8, reply: &Reply) -> Result<(), Me
 {
     match reply {
         Reply::Pairs(pairs) => push_pairs(out, client, pairs.as_slice()),
+        Reply::Grouped(answers) => push_grouped(out, client, answers.as_slice()),
         _ => push_other(out, client, reply),
     }
 }
@@ -150,7 +152,7 @@ fn put_text(line: &mut Ending, reply: &Reply)
             put_two(line, b"ok last ", *last, b" base ", *base);
         }
         Reply::Found(value) => put_found(line, value.as_slice()),
-        Reply::Pairs(_) => unreachable!(),
+        Reply::Pairs(_) | Reply::Grouped(_) => unreachable!(),
         Reply::Missing => line.put(b"ok none"),
         Reply::InTx => line.put(b"in-tx"),
         Reply::NotInTx => line.put(b"not-in-tx"),

@@ -4,6 +4,7 @@ ghost use Rattle.script_model.specs.Text.{reply_line};
 ghost use Rattle.script_text.specs.Printing.{IsOther, IsShort};
 
 use crate::ending::Ending;
+use crate::grouped::push_grouped;
 use crate::pairs::push_pairs;
 use crate::reply::{many_shown, push_shown, put_reply};
 use iso_model::Memory;
@@ -40,7 +41,7 @@ impl ReplyLine {
     }
 
     /// Makes the line that tells a client its reply. It takes memory only where the reply shows more than `MOST_SHOWN`
-    /// bytes, or pairs; without that there is no line.
+    /// bytes, or pairs, or how a group ended; without that there is no line.
     pub fn set(&mut self, client: u8, reply: &Reply) -> Result<(), Memory>
         ensures ok { OnOk result (self.new ≡ reply_line client reply.now) }
         ensures err { OnErr result (self.new ≡ []) }
@@ -51,6 +52,11 @@ impl ReplyLine {
                 self.long.clear();
                 self.is_long = true;
                 push_pairs(&mut self.long, client, pairs.as_slice())
+            }
+            Reply::Grouped(answers) => {
+                self.long.clear();
+                self.is_long = true;
+                push_grouped(&mut self.long, client, answers.as_slice())
             }
             _ => self.set_other(client, reply),
         }

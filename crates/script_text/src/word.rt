@@ -6,8 +6,9 @@ ghost use Rattle.script_model.specs.Script.{is_printable};
 ghost use Rattle.script_model.specs.Text.{number_of, words_of};
 ghost use Rattle.script_text.specs.Words.{is_word_byte, may_be_decimal, texts, word_before};
 
-/// How many words a line is cut into. No operation has so many, so what follows them changes nothing.
-pub(crate) const MOST_WORDS: usize = 6;
+/// How many words a line is cut into: a client, a name, and one argument more than any operation has. So what follows them
+/// changes nothing.
+pub(crate) const MOST_WORDS: usize = 19;
 
 // So many bytes of a long word are looked at with no way out between, and so at once. Most words are shorter.
 const LANES: usize = 16;

@@ -1,5 +1,5 @@
 -- Where the stores of a valid image are.
-use Rattle.store_calls.proofs.Words.{◌≢◌, ◌+◌, ◌≤◌, IsTrue, arith, Geometry, Op, Begin, End, Abort, Put, Read, Get, Write, Fill, Mark, Release, Takeover, Await, Trim, Stat, Compact, Upgrade, HashPut, HashGet, HashDelete, TreePut, TreeGet, TreeDelete, TreeScan, is_valid, limits, hash_area_is, tree_area_is, IsStoreArea, store_area}
+use Rattle.store_calls.proofs.Words.{◌≢◌, ◌+◌, ◌≤◌, IsTrue, arith, Geometry, Op, Begin, End, Abort, Put, Read, Get, Write, Fill, Mark, Release, Takeover, Await, Group, Trim, Stat, Compact, Upgrade, HashPut, HashGet, HashDelete, TreePut, TreeGet, TreeDelete, TreeScan, is_valid, limits, hash_area_is, tree_area_is, IsStoreArea, store_area}
 
 -- a store that is there is where it may be
 pub store_area_is : (g : Geometry) (op : Op) → IsTrue (is_valid g) → (store_area g op).blocks ≢ 0 → IsStoreArea op (store_area g op)
@@ -22,6 +22,7 @@ store_area_is g (Mark off len) valid some = tt
 store_area_is g (Release text) valid some = tt
 store_area_is g (Takeover text) valid some = tt
 store_area_is g (Await text) valid some = tt
+store_area_is g (Group texts) valid some = tt
 store_area_is g Trim valid some = tt
 store_area_is g Stat valid some = tt
 store_area_is g Compact valid some = tt
@@ -48,6 +49,7 @@ store_area_fits g (Mark off len) valid = omega arith
 store_area_fits g (Release text) valid = omega arith
 store_area_fits g (Takeover text) valid = omega arith
 store_area_fits g (Await text) valid = omega arith
+store_area_fits g (Group texts) valid = omega arith
 store_area_fits g Trim valid = omega arith
 store_area_fits g Stat valid = omega arith
 store_area_fits g Compact valid = omega arith

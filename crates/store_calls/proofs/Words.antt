@@ -9,7 +9,7 @@ pub use Rattle.iso_model.specs.declared.access.Access.{Access}
 pub use Rattle.iso_model.specs.declared.access.Geometry.{Geometry}
 pub use Rattle.script_model.specs.Step.{found_reply, pairs_reply, removed_reply}
 pub use Rattle.script_model.specs.declared.script.Op.{Op}
-pub use Rattle.script_model.specs.declared.script.Op.TheVariants.{Abort, Await, Begin, Compact, End, Fill, Get, HashDelete, HashGet, HashPut, Mark, Put, Read, Release, Stat, Takeover, TreeDelete, TreeGet, TreePut, TreeScan, Trim, Upgrade, Write}
+pub use Rattle.script_model.specs.declared.script.Op.TheVariants.{Abort, Await, Begin, Compact, End, Fill, Get, Group, HashDelete, HashGet, HashPut, Mark, Put, Read, Release, Stat, Takeover, TreeDelete, TreeGet, TreePut, TreeScan, Trim, Upgrade, Write}
 pub use Rattle.script_model.specs.declared.script.Reply.{Reply}
 pub use Rattle.script_model.specs.declared.stop.Stop.{Stop}
 pub use Rattle.store_model.proofs.HashAccesses.{hash_area_is}

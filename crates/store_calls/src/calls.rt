@@ -75,6 +75,7 @@ pub fn call<T: TxBlocks>(alloc: Global, tx: &mut T, region: Region, op: &Op) -> 
         | Op::Release { .. }
         | Op::Takeover { .. }
         | Op::Await { .. }
+        | Op::Group { .. }
         | Op::Trim
         | Op::Stat
         | Op::Compact

@@ -35,6 +35,7 @@ pub fn store_region(geometry: &Geometry, op: &Op) -> Region
         | Op::Release { .. }
         | Op::Takeover { .. }
         | Op::Await { .. }
+        | Op::Group { .. }
         | Op::Trim
         | Op::Stat
         | Op::Compact

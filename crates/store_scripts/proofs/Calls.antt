@@ -91,52 +91,54 @@ module _ (Q : Type 0) (n : ℕ) (W : World) (notes : Notes) (is : IsNoted Q n W 
             by_map = λ q reads. let was = kept.by_map q (sym (marked_writes span t.accesses) ∙ reads) in record { hash = was.hash; tree = was.tree };
           })
 
+-- an end of a transaction, whoever's it is
+module _ (Q : Type 0) (n : ℕ) (W : World) (notes : Notes) (is : IsNoted Q n W notes) (c : ℕ) (o : Option Live) (t : Live) (live_t : IsLive W t) (kept_t : IsKept Q n W.geometry W.history notes t) where
   longer : (u : Live) (notes : Notes) → IsLive W u → IsKept Q n W.geometry W.history notes u → IsKept Q n W.geometry (appended W.history (commit_from t)) notes u
   longer u notes live kept =
       subst (λ (A : Array). Holds Q n W.geometry A u.begin u.accesses u.mode (notes u.number)) (sym (array_longer W.history (commit_from t) u.begin is.world.history.first live.begin)) kept
 
   committed : (k : ℕ) → has_write t.accesses ≡ true → clash W.geometry W.history t.mode t.begin t.accesses ≡ None → last W.history ≢ LAST → need W t ≤ W.geometry.log - used W
-      → (Q → IsTrue (notes t.number).kept) → Goes Q n W notes c End (Some t) (reply.Committed k, after_commit W t)
+      → (Q → IsTrue (notes t.number).kept) → Goes Q n W notes c End o (reply.Committed k, after_commit W t)
   committed k write none unworn fits kept =
       let x : Reply × World = (reply.Committed k, after_commit W t) in
-      let leads = commits W t is.world (live_at W c t is.world found) write none unworn fits in
+      let leads = commits W t is.world live_t write none unworn fits in
       let more = length-append W.history.commits (commit_from t ∷ []) in
       let low : n ≤ last W.history = is.low in
       record {
         next = omega arith;
-        each = all_filter (IsKept Q n W.geometry (appended W.history (commit_from t)) (notes_by W notes c End (Some t) x)) (λ (u : Live). not (u.number == t.number)) W.live
-            (both_of (IsLive W) (IsKept Q n W.geometry W.history notes) (IsKept Q n W.geometry (appended W.history (commit_from t)) (notes_by W notes c End (Some t) x))
-            (λ u live was. longer u (notes_by W notes c End (Some t) x) live (quiet Q n W notes is c End W.geometry W.history (Some t) x u refl was)) W.live is.world.live is.each);
+        each = all_filter (IsKept Q n W.geometry (appended W.history (commit_from t)) (notes_by W notes c End o x)) (λ (u : Live). not (u.number == t.number)) W.live
+            (both_of (IsLive W) (IsKept Q n W.geometry W.history notes) (IsKept Q n W.geometry (appended W.history (commit_from t)) (notes_by W notes c End o x))
+            (λ u live was. longer u (notes_by W notes c End o x) live (quiet Q n W notes is c End W.geometry W.history o x u refl was)) W.live is.world.live is.each);
         low = omega arith;
         by = λ q. stays_by_both (image_hash W.geometry) (image_tree W.geometry) W.geometry W.history (commit_from t) n (is.by q) leads.world.isolated
-            (of_both W.geometry W.history (commit_from t) (notes t.number) ((kept_of Q n W notes is c End t found).made (kept q)));
+            (of_both W.geometry W.history (commit_from t) (notes t.number) (kept_t.made (kept q)));
       }
 
-  commit_goes : (o : Option Clash) → has_write t.accesses ≡ true → clash W.geometry W.history t.mode t.begin t.accesses ≡ o
-      → ((k : ℕ) → (as_step (commit_step W t o)).0 ≡ reply.Committed k → Q → IsTrue (notes t.number).kept) → Goes Q n W notes c End (Some t) (as_step (commit_step W t o))
+  commit_goes : (met : Option Clash) → has_write t.accesses ≡ true → clash W.geometry W.history t.mode t.begin t.accesses ≡ met
+      → ((k : ℕ) → (as_step (commit_step W t met)).0 ≡ reply.Committed k → Q → IsTrue (notes t.number).kept) → Goes Q n W notes c End o (as_step (commit_step W t met))
   unfolding commit_step
-  commit_goes (Some d) write met keeps = leaves Q n W notes is c End t (reply.Conflict d) refl
+  commit_goes (Some d) write found keeps = leaves Q n W notes is c End o t (reply.Conflict d) refl
   commit_goes None write none keeps = one (last W.history == LAST) refl keeps
     where
       two : (b : Bool) → nat_lt (W.geometry.log - used W) (need W t) ≡ b → last W.history ≢ LAST
           → ((k : ℕ) → (as_step (cond b (core.LogFull (need W t) (W.geometry.log - used W), W) (core.Committed (last W.history + 1), after_commit W t))).0 ≡ reply.Committed k → Q → IsTrue (notes t.number).kept)
-          → Goes Q n W notes c End (Some t) (as_step (cond b (core.LogFull (need W t) (W.geometry.log - used W), W) (core.Committed (last W.history + 1), after_commit W t)))
-      two true full unworn keeps = stays Q n W notes is c End (Some t) (reply.LogFull (need W t) (W.geometry.log - used W)) refl
+          → Goes Q n W notes c End o (as_step (cond b (core.LogFull (need W t) (W.geometry.log - used W), W) (core.Committed (last W.history + 1), after_commit W t)))
+      two true full unworn keeps = stays Q n W notes is c End o (reply.LogFull (need W t) (W.geometry.log - used W)) refl
       two false fits unworn keeps =
           committed (last W.history + 1) write none unworn (ltb-false (W.geometry.log - used W) (need W t) fits) (keeps (last W.history + 1) refl)
 
       one : (b : Bool) → (last W.history == LAST) ≡ b
           → ((k : ℕ) → (as_step (cond b (core.Worn, W) (cond (nat_lt (W.geometry.log - used W) (need W t)) (core.LogFull (need W t) (W.geometry.log - used W), W) (core.Committed (last W.history + 1), after_commit W t)))).0 ≡ reply.Committed k → Q → IsTrue (notes t.number).kept)
-          → Goes Q n W notes c End (Some t) (as_step (cond b (core.Worn, W) (cond (nat_lt (W.geometry.log - used W) (need W t)) (core.LogFull (need W t) (W.geometry.log - used W), W) (core.Committed (last W.history + 1), after_commit W t))))
-      one true worn keeps = stays Q n W notes is c End (Some t) reply.Worn refl
+          → Goes Q n W notes c End o (as_step (cond b (core.Worn, W) (cond (nat_lt (W.geometry.log - used W) (need W t)) (core.LogFull (need W t) (W.geometry.log - used W), W) (core.Committed (last W.history + 1), after_commit W t))))
+      one true worn keeps = stays Q n W notes is c End o reply.Worn refl
       one false unworn keeps = two (nat_lt (W.geometry.log - used W) (need W t)) refl (eqb-false (last W.history) LAST unworn) keeps
 
-  pub end_goes : ((k : ℕ) → (as_step (end_step W t)).0 ≡ reply.Committed k → Q → IsTrue (notes t.number).kept) → Goes Q n W notes c End (Some t) (as_step (end_step W t))
+  pub end_goes : ((k : ℕ) → (as_step (end_step W t)).0 ≡ reply.Committed k → Q → IsTrue (notes t.number).kept) → Goes Q n W notes c End o (as_step (end_step W t))
   unfolding end_step
   end_goes keeps = go (has_write t.accesses) refl keeps
     where
       go : (b : Bool) → has_write t.accesses ≡ b
           → ((k : ℕ) → (as_step (cond b (commit_step W t (clash W.geometry W.history t.mode t.begin t.accesses)) (core.ReadOnly, after_leaving W t))).0 ≡ reply.Committed k → Q → IsTrue (notes t.number).kept)
-          → Goes Q n W notes c End (Some t) (as_step (cond b (commit_step W t (clash W.geometry W.history t.mode t.begin t.accesses)) (core.ReadOnly, after_leaving W t)))
+          → Goes Q n W notes c End o (as_step (cond b (commit_step W t (clash W.geometry W.history t.mode t.begin t.accesses)) (core.ReadOnly, after_leaving W t)))
       go true write keeps = commit_goes (clash W.geometry W.history t.mode t.begin t.accesses) write refl keeps
-      go false none keeps = leaves Q n W notes is c End t reply.ReadOnly refl
+      go false none keeps = leaves Q n W notes is c End o t reply.ReadOnly refl

@@ -7,7 +7,8 @@ pub mod Blocks
 pub mod Noted
 pub mod Steps
 pub mod Calls
-pub mod Lines
+pub mod Members
+mod Lines
 pub mod Order
 pub mod Refused
 pub mod Refusals

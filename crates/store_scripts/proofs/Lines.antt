@@ -1,5 +1,5 @@
 -- What is told of transactions stays true along the lines of a script.
-use Rattle.store_scripts.proofs.Words.{AllByRecursion, ◌≡◌, ◌∙◌, sym, refl, subst, ap, ℕ, ◌-◌, ◌<◌, ◌≤◌, ◌==◌, ◌&&◌, Bool, true, false, IsTrue, length, option_map, List, [], ◌∷◌, Option, Some, None, arith, Line, Op, Begin, End, Abort, Put, Read, Get, Write, Fill, Mark, Release, Takeover, Await, Trim, Stat, Compact, Upgrade, HashPut, HashGet, HashDelete, TreePut, TreeGet, TreeDelete, TreeScan, Reply, Geometry, StoreError, MAX_ACCESSES, is_key, array_at, last, HasShape, after, after_leaving, end_step, mode_named, read_access, shown_to, as_step, array_of, fill_step, found_reply, get_step, hash_delete_step, hash_get_step, hash_put_step, in_transaction, mark_step, numbers, pairs_reply, put_step, read_step, release_step, removed_reply, step, store_refusal, tree_delete_step, tree_get_step, tree_put_step, tree_scan_step, write_step, hash_area, tree_area, Live, World, attached, client, held, AreLines, IsOp, IsWorld, array_shape, own_shape, live_at, step_leads, OnKey, Scan, begins_by_both, BeginsWell, image_hash, image_tree, CommitKeeps, CommitsKeep, Notes, OfHash, OfTree, answered, del_answer, get_answer, no_notes, noted, notes_after, nothing_told, put_answer, scan_answer, told_by}
+use Rattle.store_scripts.proofs.Words.{AllByRecursion, ◌≡◌, ◌∙◌, sym, refl, subst, ap, ℕ, ◌-◌, ◌<◌, ◌≤◌, ◌==◌, ◌&&◌, Bool, true, false, IsTrue, length, option_map, List, [], ◌∷◌, Option, Some, None, arith, Line, Op, Begin, End, Abort, Put, Read, Get, Write, Fill, Mark, Release, Takeover, Await, Group, Trim, Stat, Compact, Upgrade, HashPut, HashGet, HashDelete, TreePut, TreeGet, TreeDelete, TreeScan, Reply, Geometry, StoreError, MAX_ACCESSES, is_key, array_at, last, HasShape, after, after_leaving, end_step, mode_named, read_access, shown_to, as_step, array_of, fill_step, found_reply, get_step, hash_delete_step, hash_get_step, hash_put_step, in_transaction, mark_step, numbers, pairs_reply, put_step, read_step, release_step, removed_reply, step, store_refusal, tree_delete_step, tree_get_step, tree_put_step, tree_scan_step, write_step, hash_area, tree_area, Live, World, attached, client, held, AreLines, IsOp, IsWorld, array_shape, own_shape, live_at, step_leads, OnKey, Scan, begins_by_both, BeginsWell, image_hash, image_tree, CommitKeeps, CommitsKeep, Notes, OfHash, OfTree, answered, del_answer, get_answer, no_notes, noted, notes_after, nothing_told, put_answer, scan_answer, told_by, all_weaker, group_step, grouped}
 use Rattle.script_model.specs.declared.script.Reply.TheVariants as reply
 use Rattle.store_model.specs.declared.stores.StoreError.TheVariants as store
 use Rattle.store_model.specs.HashCalls as hash
@@ -7,8 +7,9 @@ use Rattle.store_model.specs.TreeCalls as tree
 use Rattle.store_laws.specs.Calls.{Del, Found as WasFound, Get as GetKey, Got, Put as PutKey, WasPut, WasThere}
 use Rattle.store_scripts.proofs.Calls.{AreRefusals, end_goes, hash_goes, in_store_goes, mark_goes, tree_goes}
 use Rattle.store_scripts.proofs.Locality.{hash_got, hash_was_put, hash_was_there, tree_found, tree_got, tree_was_put, tree_was_there}
-use Rattle.store_scripts.proofs.Noted.{Goes, IsKept, IsNoted, choose, other_is, stays}
-use Rattle.store_scripts.proofs.Steps.{access_goes, begin_goes, in_goes, leaves, out_goes, release_goes, switch_goes, takeover_goes, trim_goes}
+use Rattle.store_scripts.proofs.Members.{group_next, labels_noted}
+use Rattle.store_scripts.proofs.Noted.{Goes, IsKept, IsNoted, choose, notes_by, other_is, quiet, stays}
+use Rattle.store_scripts.proofs.Steps.{access_goes, begin_goes, in_goes, kept_of, leaves, out_goes, release_goes, switch_goes, takeover_goes, trim_goes}
 
 -- the refusals of each call
 put_refused : (e : StoreError) → put_answer (store_refusal e) ≡ None
@@ -162,7 +163,21 @@ module _ (Q : Type 0) (n : ℕ) (W : World) (notes : Notes) (is : IsNoted Q n W 
   end_with : (o : Option Live) → attached W c ≡ o → ((t : Live) (k : ℕ) → o ≡ Some t → (in_transaction W o (λ u. as_step (end_step W u))).0 ≡ reply.Committed k → Q → IsTrue (notes t.number).kept)
       → Goes Q n W notes c End o (in_transaction W o (λ u. as_step (end_step W u)))
   end_with None at keeps = stays Q n W notes is c End None reply.NotInTx refl
-  end_with (Some t) at keeps = end_goes Q n W notes is c t at (λ k done. keeps t k refl done)
+  end_with (Some t) at keeps = end_goes Q n W notes is c (Some t) t (live_at W c t is.world at) (kept_of Q n W notes is c End t at) (λ k done. keeps t k refl done)
+
+  -- a group, by which nothing more is told of any transaction
+  group_goes : (texts : List (List ℕ)) → (Q → CommitKeeps W notes c (Group texts)) → Goes Q n W notes c (Group texts) (attached W c) (grouped (group_step W texts))
+  group_goes texts keeps =
+      let x : Reply × World = grouped (group_step W texts) in
+      let V : World = x.1 in
+      let noted = labels_noted Q n texts W notes is (λ t k ends q. (keeps q).each t k ends) in
+      record {
+        next = omega (arith, group_next texts W);
+        each = all_weaker (IsKept Q n V.geometry V.history notes) (IsKept Q n V.geometry V.history (notes_by W notes c (Group texts) (attached W c) x))
+            (λ u. quiet Q n W notes is c (Group texts) V.geometry V.history (attached W c) x u refl) V.live noted.each;
+        low = noted.low;
+        by = noted.by;
+      }
 
   step_goes : (op : Op) → IsOp op → (Q → CommitKeeps W notes c op) → Goes Q n W notes c op (attached W c) (step W c op)
   unfolding step
@@ -176,12 +191,13 @@ module _ (Q : Type 0) (n : ℕ) (W : World) (notes : Notes) (is : IsNoted Q n W 
   step_goes (Write block bytes) good keeps = in_goes Q n W notes is c (Write block bytes) (attached W c) (λ t. write_step W t block bytes) refl refl (λ t found. write_goes t block bytes found)
   step_goes (Fill block bytes) good keeps = in_goes Q n W notes is c (Fill block bytes) (attached W c) (λ t. fill_step W t block bytes) refl refl (λ t found. fill_goes t block bytes found)
   step_goes (Mark off len) good keeps = in_goes Q n W notes is c (Mark off len) (attached W c) (λ t. mark_step W t off len) refl refl (λ t found. mark_goes Q n W notes is c t found off len)
-  step_goes End good keeps = end_with (attached W c) refl (λ t k at done q. keeps q t k at done)
-  step_goes Abort good keeps = in_goes Q n W notes is c Abort (attached W c) (λ t. (reply.Done, after_leaving W t)) refl refl (λ t found. leaves Q n W notes is c Abort t reply.Done refl)
+  step_goes End good keeps = end_with (attached W c) refl (λ t k at done q. (keeps q).one t k at done)
+  step_goes Abort good keeps = in_goes Q n W notes is c Abort (attached W c) (λ t. (reply.Done, after_leaving W t)) refl refl (λ t found. leaves Q n W notes is c Abort (Some t) t reply.Done refl)
   step_goes (Release text) good keeps =
       in_goes Q n W notes is c (Release text) (attached W c) (λ t. release_step W t text (held W text)) refl refl (λ t found. release_goes Q n W notes is c (Release text) t text (held W text) found (λ r. refl))
   step_goes (Takeover text) good keeps = out_goes Q n W notes is c (Takeover text) (attached W c) _ refl (takeover_goes Q n W notes is c (Takeover text) text (held W text) refl (λ r. refl))
   step_goes (Await text) good keeps = out_goes Q n W notes is c (Await text) (attached W c) _ refl (takeover_goes Q n W notes is c (Await text) text (held W text) refl (λ r. refl))
+  step_goes (Group texts) good keeps = group_goes texts keeps
   step_goes Trim good keeps = trim_goes Q n W notes is c Trim (attached W c) _ refl
   step_goes Stat good keeps = stays Q n W notes is c Stat (attached W c) (numbers W) refl
   step_goes Compact good keeps = switch_goes Q n W notes is c Compact W.geometry.form (attached W c) _ (λ r. refl) (step_leads W c Compact is.world good).world

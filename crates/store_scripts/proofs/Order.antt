@@ -1,5 +1,5 @@
 -- The calls that are told of a transaction answer in order, by what its parts are.
-use Rattle.store_scripts.proofs.Words.{◌≡◌, ◌∙◌, sym, ap, subst, ℕ, ◌+◌, ◌-◌, ◌<◌, ◌≤◌, ◌==◌, Bool, true, false, cond, IsTrue, IfSome, List, [], ◌∷◌, slice_get, Option, Some, None, arith, nat_lt, length-append, Access, Clash, Commit, Geometry, LAST, End, Reply, Array, clash, has_write, own, array_at, last, appended, after_commit, after_leaving, need, commit_from, commit_step, end_step, as_step, array_of, in_transaction, step, Live, World, attached, is_at_client, used, IsWorld, all_find, live_at, step_leads, AreMixed, BothInOrder, IsOfBoth, firsts, seconds, StorePart, KeyCall, answers_in, calls_in, run, TreeCall, array_longer, last_of, stays_by_both, both_commits, both_live, both_well_formed, IsToldOf, ToldByMap, ToldInOrder, image_hash, image_tree, Notes, Told}
+use Rattle.store_scripts.proofs.Words.{◌≡◌, ◌∙◌, sym, ap, subst, ℕ, ◌+◌, ◌-◌, ◌<◌, ◌≤◌, ◌==◌, Bool, true, false, cond, IsTrue, IfSome, List, [], ◌∷◌, slice_get, Option, Some, None, arith, nat_lt, length-append, Access, Clash, Commit, Geometry, LAST, End, Reply, Array, clash, has_write, own, array_at, last, appended, after_commit, after_leaving, need, commit_from, commit_step, end_step, as_step, array_of, in_transaction, step, Live, World, attached, is_at_client, used, IsLive, IsWorld, all_find, live_at, step_leads, AreMixed, BothInOrder, IsOfBoth, firsts, seconds, StorePart, KeyCall, answers_in, calls_in, run, TreeCall, array_longer, last_of, stays_by_both, both_commits, both_live, both_well_formed, IsToldOf, ToldByMap, ToldInOrder, image_hash, image_tree, Notes, Told}
 use Rattle.iso_model.specs.declared.core_reply.CoreReply.TheVariants as core
 use Rattle.script_model.specs.declared.script.Reply.TheVariants as reply
 use Rattle.store_scripts.proofs.Blocks.{hash_blocks, tree_blocks}
@@ -33,7 +33,7 @@ pub told_is : (Q : Type 0) (n : ℕ) (V : World) (notes : Notes) → IsNoted Q n
     → IsToldOf V.geometry (array_at V.history t.begin) t.accesses t.mode (notes t.number)
 told_is Q n V notes is c t found kept = (kept_is Q n V notes is c t found kept).1
 
-module _ (n : ℕ) (V : World) (notes : Notes) (is : IsNoted (Unit {0}) n V notes) (c : ℕ) (t : Live) (found : attached V c ≡ Some t) (kept : IsTrue (notes t.number).kept) where
+module _ (n : ℕ) (V : World) (notes : Notes) (is : IsNoted (Unit {0}) n V notes) (t : Live) (live : IsLive V t) (holds : IsKept (Unit {0}) n V.geometry V.history notes t) (kept : IsTrue (notes t.number).kept) where
   abbrev g : Geometry
   g = V.geometry
 
@@ -41,7 +41,7 @@ module _ (n : ℕ) (V : World) (notes : Notes) (is : IsNoted (Unit {0}) n V note
   A = array_at V.history t.begin
 
   has : (n ≤ t.begin) × IsToldOf g A t.accesses t.mode (notes t.number)
-  has = kept_is (Unit {0}) n V notes is c t found kept
+  has = (holds.since, holds.made kept)
 
   abbrev parts : List StorePart
   parts = all_parts g A t.accesses t.mode (notes t.number) has.1
@@ -49,11 +49,10 @@ module _ (n : ℕ) (V : World) (notes : Notes) (is : IsNoted (Unit {0}) n V note
   all_is : AreAll g A t.accesses t.mode (notes t.number) parts
   all_is = all_are g A t.accesses t.mode (notes t.number) has.1
 
-  pub live_told : ToldInOrder g (notes t.number) A (array_of V t)
-  live_told =
+  one_told : ToldInOrder g (notes t.number) A (array_of V t)
+  one_told =
       let one = hash_blocks g is.world.valid in
       let two = tree_blocks g is.world.valid in
-      let live = live_at V c t is.world found in
       let well = both_well_formed (image_hash g) (image_tree g) one two g V.history n t.begin (is.by tt) has.0 live.begin in
       told_in_order g (notes t.number) parts A (own A t.accesses) all_is.hash_calls all_is.hash_answers all_is.tree_calls all_is.tree_answers
       (subst (λ (accesses : List Access). BothInOrder (image_hash g) (image_tree g) parts A (own A accesses)) all_is.are
@@ -73,7 +72,7 @@ module _ (n : ℕ) (V : World) (notes : Notes) (is : IsNoted (Unit {0}) n V note
       one false true done = cc
       one false false done = (ap (λ (r : Reply). (r, after_commit V t)) done, sym (let e : last V.history + 1 ≡ k = cc in e))
 
-  end_only : (k : ℕ) → (as_step (end_step V t)).0 ≡ reply.Committed k → (as_step (end_step V t) ≡ (reply.Committed k, after_commit V t)) × (k ≡ last V.history + 1)
+  pub end_only : (k : ℕ) → (as_step (end_step V t)).0 ≡ reply.Committed k → (as_step (end_step V t) ≡ (reply.Committed k, after_commit V t)) × (k ≡ last V.history + 1)
   unfolding end_step
   end_only k done = go (has_write t.accesses) done
     where
@@ -82,22 +81,13 @@ module _ (n : ℕ) (V : World) (notes : Notes) (is : IsNoted (Unit {0}) n V note
       go true done = commit_only (clash V.geometry V.history t.mode t.begin t.accesses) k done
       go false done = cc
 
-  ends_so : (k : ℕ) → (step V c End).0 ≡ reply.Committed k → (step V c End ≡ (reply.Committed k, after_commit V t)) × (k ≡ last V.history + 1)
-  unfolding step
-  ends_so k done =
-      let act : Live → Reply × World = λ u. as_step (end_step V u) in
-      let is_end : in_transaction V (attached V c) act ≡ act t = ap (λ (o : Option Live). in_transaction V o act) found in
-      let ends = end_only k (sym (ap (λ (x : Reply × World). x.0) is_end) ∙ done) in
-      (is_end ∙ ends.0, ends.1)
-
-  committed_told : (k : ℕ) → k ≡ last V.history + 1 → IsWorld (after_commit V t) → ToldInOrder g (notes t.number) (array_at (appended V.history (commit_from t)) (k - 1)) (array_at (appended V.history (commit_from t)) k)
+  pub committed_told : (k : ℕ) → k ≡ last V.history + 1 → IsWorld (after_commit V t) → ToldInOrder g (notes t.number) (array_at (appended V.history (commit_from t)) (k - 1)) (array_at (appended V.history (commit_from t)) k)
   committed_told k at sound =
       let one = hash_blocks g is.world.valid in
       let two = tree_blocks g is.world.valid in
       let H = appended V.history (commit_from t) in
       let of = of_both g V.history (commit_from t) (notes t.number) has.1 in
       let by = stays_by_both (image_hash g) (image_tree g) g V.history (commit_from t) n (is.by tt) sound.isolated of in
-      let live = live_at V c t is.world found in
       let more = length-append V.history.commits (commit_from t ∷ []) in
       let first : 0 < V.history.first = is.world.history.first in
       let low : n ≤ last V.history = is.low in
@@ -112,12 +102,28 @@ module _ (n : ℕ) (V : World) (notes : Notes) (is : IsNoted (Unit {0}) n V note
         mode = all_is.serial;
       }))
 
-  pub commit_told : (k : ℕ) → (step V c End).0 ≡ reply.Committed k → ToldInOrder g (notes t.number) (array_at (step V c End).1.history (k - 1)) (array_at (step V c End).1.history k)
+-- the transaction of a client
+module _ (n : ℕ) (V : World) (notes : Notes) (is : IsNoted (Unit {0}) n V notes) (c : ℕ) (t : Live) (found : attached V c ≡ Some t) (kept : IsTrue (notes t.number).kept) where
+  holds_of : IsKept (Unit {0}) n V.geometry V.history notes t
+  holds_of = all_find (IsKept (Unit {0}) n V.geometry V.history notes) (λ u. is_at_client c u.place) V.live t is.each found
+
+  pub live_told : ToldInOrder V.geometry (notes t.number) (array_at V.history t.begin) (array_of V t)
+  live_told = one_told n V notes is t (live_at V c t is.world found) holds_of kept
+
+  ends_so : (k : ℕ) → (step V c End).0 ≡ reply.Committed k → (step V c End ≡ (reply.Committed k, after_commit V t)) × (k ≡ last V.history + 1)
+  unfolding step
+  ends_so k done =
+      let act : Live → Reply × World = λ u. as_step (end_step V u) in
+      let is_end : in_transaction V (attached V c) act ≡ act t = ap (λ (o : Option Live). in_transaction V o act) found in
+      let ends = end_only n V notes is t (live_at V c t is.world found) holds_of kept k (sym (ap (λ (x : Reply × World). x.0) is_end) ∙ done) in
+      (is_end ∙ ends.0, ends.1)
+
+  pub commit_told : (k : ℕ) → (step V c End).0 ≡ reply.Committed k → ToldInOrder V.geometry (notes t.number) (array_at (step V c End).1.history (k - 1)) (array_at (step V c End).1.history k)
   commit_told k done =
       let ends = ends_so k done in
       let world_is : (step V c End).1 ≡ after_commit V t = ap (λ (x : Reply × World). x.1) ends.0 in
       let sound = subst IsWorld world_is (step_leads V c End is.world tt).world in
-      subst (λ (U : World). ToldInOrder g (notes t.number) (array_at U.history (k - 1)) (array_at U.history k)) (sym world_is) (committed_told k ends.1 sound)
+      subst (λ (U : World). ToldInOrder V.geometry (notes t.number) (array_at U.history (k - 1)) (array_at U.history k)) (sym world_is) (committed_told n V notes is t (live_at V c t is.world found) holds_of kept k ends.1 sound)
 
   -- the commit is the last one then
   pub committed_last : (k : ℕ) → (step V c End).0 ≡ reply.Committed k → k ≤ last (step V c End).1.history

@@ -1,5 +1,5 @@
 -- A refused call of a store leaves whether its transaction keeps to the stores.
-use Rattle.store_scripts.proofs.Words.{◌≡◌, ◌∙◌, sym, refl, ap, subst, ℕ, ◌-◌, ◌==◌, ◌&&◌, ◌||◌, not, Bool, true, false, cond, List, [], ◌∷◌, ◌++◌, length, drop, append-nil, Option, Some, None, Result, Ok, Err, list_all, Access, MAX_ACCESSES, Op, Begin, End, Abort, Put, Read, Get, Write, Fill, Mark, Release, Takeover, Await, Trim, Stat, Compact, Upgrade, HashPut, HashGet, HashDelete, TreePut, TreeGet, TreeDelete, TreeScan, Reply, StoreError, is_key, array_of, found_reply, hash_delete_step, hash_get_step, hash_put_step, in_store, in_transaction, pairs_reply, removed_reply, step, store_reply, store_step, tree_delete_step, tree_get_step, tree_put_step, tree_scan_step, hash_area, tree_area, with_accesses, is_serial, AreReads, Program, outcome, Live, World, attached, IsWorld, OnKey, Scan, Answered, CallsStore, Notes, OfHash, OfTree, accesses_or_none, answered, noted, spares_calls, spares_stores, told_by, told_more}
+use Rattle.store_scripts.proofs.Words.{◌≡◌, ◌∙◌, sym, refl, ap, subst, ℕ, ◌-◌, ◌==◌, ◌&&◌, ◌||◌, not, Bool, true, false, cond, List, [], ◌∷◌, ◌++◌, length, drop, append-nil, Option, Some, None, Result, Ok, Err, list_all, Access, MAX_ACCESSES, Op, Begin, End, Abort, Put, Read, Get, Write, Fill, Mark, Release, Takeover, Await, Group, Trim, Stat, Compact, Upgrade, HashPut, HashGet, HashDelete, TreePut, TreeGet, TreeDelete, TreeScan, Reply, StoreError, is_key, array_of, found_reply, hash_delete_step, hash_get_step, hash_put_step, in_store, in_transaction, pairs_reply, removed_reply, step, store_reply, store_step, tree_delete_step, tree_get_step, tree_put_step, tree_scan_step, hash_area, tree_area, with_accesses, is_serial, AreReads, Program, outcome, Live, World, attached, IsWorld, OnKey, Scan, Answered, CallsStore, Notes, OfHash, OfTree, accesses_or_none, answered, noted, spares_calls, spares_stores, told_by, told_more}
 use Rattle.script_model.specs.declared.script.Reply.TheVariants as reply
 use Rattle.store_model.specs.HashCalls as hash
 use Rattle.store_model.specs.TreeCalls as tree
@@ -140,6 +140,7 @@ module _ (W : World) (is : IsWorld W) (c : ℕ) (t : Live) (found : attached W c
   step_passes (Release text) calls = absurd calls
   step_passes (Takeover text) calls = absurd calls
   step_passes (Await text) calls = absurd calls
+  step_passes (Group texts) calls = absurd calls
   step_passes Trim calls = absurd calls
   step_passes Stat calls = absurd calls
   step_passes Compact calls = absurd calls
@@ -166,6 +167,7 @@ no_mark (Mark off len) r over count calls = absurd calls
 no_mark (Release text) r over count calls = absurd calls
 no_mark (Takeover text) r over count calls = absurd calls
 no_mark (Await text) r over count calls = absurd calls
+no_mark (Group texts) r over count calls = absurd calls
 no_mark Trim r over count calls = absurd calls
 no_mark Stat r over count calls = absurd calls
 no_mark Compact r over count calls = absurd calls

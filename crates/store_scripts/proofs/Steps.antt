@@ -44,13 +44,13 @@ module _ (Q : Type 0) (n : ℕ) (W : World) (notes : Notes) (is : IsNoted Q n W 
       (as_either so (nat_lt LAST W.next) _ _ (stays Q n W notes is c op None reply.Worn (none _)) (begins place mode (reply.Began (last W.history)) (none _))))
 
   -- a transaction leaves
-  pub leaves : (t : Live) (r : Reply) → answered op r ≡ None → Goes Q n W notes c op (Some t) (r, after_leaving W t)
-  leaves t r none =
+  pub leaves : (o : Option Live) (t : Live) (r : Reply) → answered op r ≡ None → Goes Q n W notes c op o (r, after_leaving W t)
+  leaves o t r none =
       let x : Reply × World = (r, after_leaving W t) in
       record {
         next = omega arith;
-        each = all_filter (IsKept Q n W.geometry W.history (notes_by W notes c op (Some t) x)) (λ (u : Live). not (u.number == t.number)) W.live
-            (all_weaker (IsKept Q n W.geometry W.history notes) (IsKept Q n W.geometry W.history (notes_by W notes c op (Some t) x)) (λ u. quiet Q n W notes is c op W.geometry W.history (Some t) x u none) W.live is.each);
+        each = all_filter (IsKept Q n W.geometry W.history (notes_by W notes c op o x)) (λ (u : Live). not (u.number == t.number)) W.live
+            (all_weaker (IsKept Q n W.geometry W.history notes) (IsKept Q n W.geometry W.history (notes_by W notes c op o x)) (λ u. quiet Q n W notes is c op W.geometry W.history o x u none) W.live is.each);
         low = is.low;
         by = is.by;
       }
@@ -60,7 +60,7 @@ module _ (Q : Type 0) (n : ℕ) (W : World) (notes : Notes) (is : IsNoted Q n W 
   all_with P t (u ∷ live) has all = (elim (u.number == t.number) as (λ v. P (cond v t u)) [ true ↦ has | false ↦ all.0 ], all_with P t live has all.1)
 
   -- a transaction is somewhere else
-  places : (o : Option Live) (t : Live) (place : Place) (r : Reply) → answered op r ≡ None → IsKept Q n W.geometry W.history notes t → Goes Q n W notes c op o (r, placed W t place)
+  pub places : (o : Option Live) (t : Live) (place : Place) (r : Reply) → answered op r ≡ None → IsKept Q n W.geometry W.history notes t → Goes Q n W notes c op o (r, placed W t place)
   places o t place r none kept =
       let x : Reply × World = (r, placed W t place) in
       let new : Live = record t { place = place } in

@@ -1,6 +1,6 @@
 -- The store theorem of the lines of a script, as one word.
 use Rattle.store_scripts.proofs.Words.{sym, subst, ℕ, ◌-◌, List, [], ◌∷◌, ◌++◌, Line, array_at, last, after, step, World, AreLines, StoresAnswer, ToldInOrder, CommitsKeep, Notes, no_notes, noted, notes_after}
-use Rattle.store_scripts.proofs.Commits.{commits_told}
+use Rattle.store_scripts.proofs.Commits.{commits_told, groups_told}
 use Rattle.store_scripts.proofs.Lines.{noted_after, noted_begins}
 use Rattle.store_scripts.proofs.Order.{read_only_told}
 
@@ -19,6 +19,9 @@ stores_answer W lines good begins keeps = record {
   commits = λ before later line k t are is_end found done.
       subst (λ (all : List (ℕ × Line)). ToldInOrder (after W before).geometry (notes_after W no_notes before t.number) (array_at (after W all).history (k - 1)) (array_at (after W all).history k)) (sym are)
       (commits_told W before later line k t begins (subst AreLines are good) (subst (CommitsKeep W no_notes) are keeps) is_end found done);
+  grouped = λ before later line k t are ends.
+      subst (λ (all : List (ℕ × Line)). ToldInOrder (after W before).geometry (notes_after W no_notes before t.number) (array_at (after W all).history (k - 1)) (array_at (after W all).history k)) (sym are)
+      (groups_told W before later line k t begins (subst AreLines are good) (subst (CommitsKeep W no_notes) are keeps) ends);
   read_only = λ before later client t are found none.
       let good_front = front_lines before later (subst AreLines are good) in
       let keeps_front = front_keeps W no_notes before later (subst (CommitsKeep W no_notes) are keeps) in

@@ -10,26 +10,30 @@ pub use Rattle.std.specs.Prelude.{codes, find, nat_lt}
 pub use Rattle.iso_model.proofs.Bounds.{limits}
 pub use Rattle.iso_model.proofs.Distinct.{all_filter, all_find, same_number}
 pub use Rattle.iso_model.proofs.FreshWorlds.{empty_world_is}
+pub use Rattle.iso_model.proofs.Groups.{group_is, group_leads, member_leaves}
 pub use Rattle.iso_model.proofs.Growth.{all_push, all_weaker, both_of}
 pub use Rattle.iso_model.proofs.Recorded.{array_shape, own_shape}
-pub use Rattle.iso_model.proofs.Worlds.{commits, live_at}
+pub use Rattle.iso_model.proofs.Worlds.{commits, live_at, live_on}
 pub use Rattle.iso_model.specs.Array.{Array, zeros}
 unfoldable pub use Rattle.iso_model.specs.Array.{put}
 unfoldable pub use Rattle.iso_model.specs.Conflict.{clash}
 pub use Rattle.iso_model.specs.Effect.{has_write, is_write, own}
 unfoldable pub use Rattle.iso_model.specs.Effect.{runs}
 pub use Rattle.iso_model.specs.Geometry.{is_serial, is_valid, same_mode}
+pub use Rattle.iso_model.specs.Group.{after_look, after_member, ahead, decided, found_ones, group, label_replies, leave_all, looks, made_by, member_reply}
+unfoldable pub use Rattle.iso_model.specs.Group.{group_step}
 pub use Rattle.iso_model.specs.History.{History, all_own, array_at, last}
 pub use Rattle.iso_model.specs.Marks.{mark_fault, marked}
 pub use Rattle.iso_model.specs.Premises.{HasShape, appended, block_at}
 pub use Rattle.iso_model.specs.Step.{after_begin, after_commit, after_leaving, after_switch, after_trim, commit_from, mode_named, need, placed, read_access, shown_to, with_accesses}
 unfoldable pub use Rattle.iso_model.specs.Step.{begin_step, commit_step, end_step, switch_step}
-pub use Rattle.iso_model.specs.World.{Live, Place, World, attached, client, empty_history, fresh, held, is_at_client, is_under_label, label, used, with}
+pub use Rattle.iso_model.specs.World.{Live, Place, World, attached, client, empty_history, fresh, held, is_at_client, is_under_label, label, unattached, used, with}
 pub use Rattle.iso_model.specs.Worlds.{Extends, IsLive, IsWorld}
 pub use Rattle.iso_model.specs.declared.access.Access.{Access}
 pub use Rattle.iso_model.specs.declared.access.Clash.{Clash}
 pub use Rattle.iso_model.specs.declared.access.Commit.{Commit}
 pub use Rattle.iso_model.specs.declared.access.Geometry.{Geometry}
+pub use Rattle.iso_model.specs.declared.access.GroupReply.{GroupReply}
 pub use Rattle.iso_model.specs.declared.access.MarkError.{MarkError}
 pub use Rattle.iso_model.specs.declared.access.Mode.{Mode}
 pub use Rattle.iso_model.specs.declared.access.Mode.TheVariants.{Serial, Snapshot}
@@ -37,18 +41,19 @@ pub use Rattle.iso_model.specs.declared.access.Span.{Span}
 pub use Rattle.iso_model.specs.declared.core_reply.CoreReply.{CoreReply}
 pub use Rattle.iso_model.specs.declared.limits.TheConstants.{LAST, MAX_ACCESSES, MAX_LIVE}
 pub use Rattle.script_model.proofs.CoreSteps.{as_either}
+pub use Rattle.script_model.proofs.Looks.{first_found, found_are_live, held_live, look_leads, looks_geometry, looks_history}
 pub use Rattle.script_model.proofs.Small.{lines_of, made}
 pub use Rattle.script_model.proofs.Steps.{after_leads, step_leads}
 pub use Rattle.script_model.specs.CoreReplies.{as_reply, as_step}
 pub use Rattle.script_model.specs.Operations.{AreLines, IsOp}
 pub use Rattle.script_model.specs.Script.{after}
 unfoldable pub use Rattle.script_model.specs.Script.{operation_of, other_operation, store_operation, tree_operation}
-pub use Rattle.script_model.specs.Step.{access_step, array_of, found_reply, in_store, in_transaction, mark_refused, marked_step, numbers, out_of_transaction, pairs_reply, release_step, removed_reply, store_refusal, store_reply, takeover_step}
+pub use Rattle.script_model.specs.Step.{access_step, array_of, found_reply, grouped, in_store, in_transaction, mark_refused, marked_step, numbers, out_of_transaction, pairs_reply, release_step, removed_reply, store_refusal, store_reply, takeover_step}
 unfoldable pub use Rattle.script_model.specs.Step.{fill_step, get_step, hash_delete_step, hash_get_step, hash_put_step, mark_step, put_step, read_step, step, store_step, tree_delete_step, tree_get_step, tree_put_step, tree_scan_step, write_step}
 unfoldable pub use Rattle.script_model.specs.Text.{hex_of, number_of, words_of}
 pub use Rattle.script_model.specs.declared.script.Line.{Line}
 pub use Rattle.script_model.specs.declared.script.Op.{Op}
-pub use Rattle.script_model.specs.declared.script.Op.TheVariants.{Abort, Await, Begin, Compact, End, Fill, Get, HashDelete, HashGet, HashPut, Mark, Put, Read, Release, Stat, Takeover, TreeDelete, TreeGet, TreePut, TreeScan, Trim, Upgrade, Write}
+pub use Rattle.script_model.specs.declared.script.Op.TheVariants.{Abort, Await, Begin, Compact, End, Fill, Get, Group, HashDelete, HashGet, HashPut, Mark, Put, Read, Release, Stat, Takeover, TreeDelete, TreeGet, TreePut, TreeScan, Trim, Upgrade, Write}
 pub use Rattle.script_model.specs.declared.script.Reply.{Reply}
 pub use Rattle.script_model.specs.declared.script.Reply.TheVariants.{Committed}
 pub use Rattle.store_laws.proofs.BothCalls.{disjoint_blocks}
@@ -91,4 +96,4 @@ pub use Rattle.tx_blocks.proofs.Progress.{own_append}
 pub use Rattle.store_scripts.specs.InOrder.{StoresAnswer}
 pub use Rattle.store_scripts.specs.Kept.{BeginsWell, IsToldOf, ToldByMap, ToldInOrder}
 pub use Rattle.store_scripts.specs.Stores.{IfAny, image_hash, image_tree, pairs_if_any}
-pub use Rattle.store_scripts.specs.Told.{Answered, CallsStore, CommitKeeps, CommitsKeep, Notes, OfHash, OfTree, Told, accesses_or_none, answered, del_answer, get_answer, no_notes, noted, notes_after, nothing_told, put_answer, scan_answer, spares_calls, spares_stores, told_by, told_more, with_call}
+pub use Rattle.store_scripts.specs.Told.{Answered, CallsStore, CommitKeeps, CommitsKeep, EndsAs, IsEndedAs, Notes, OfHash, OfTree, Told, accesses_or_none, answered, del_answer, get_answer, no_notes, noted, notes_after, nothing_told, put_answer, scan_answer, spares_calls, spares_stores, told_by, told_more, with_call}

@@ -1,14 +1,17 @@
 -- What the lines of a script and their replies tell of the calls of the stores that each transaction made.
-use Rattle.std.specs.Prelude.{◌≡◌, ℕ, ◌==◌, Bool, true, false, ◌&&◌, ◌||◌, not, cond, IsTrue, List, [], ◌∷◌, ◌++◌, Option, Some, None, length, drop, nat_lt, option_map}
+use Rattle.std.specs.Prelude.{◌≡◌, ◌⊎◌, ℕ, ◌==◌, Bool, true, false, ◌&&◌, ◌||◌, not, cond, IsTrue, List, [], ◌∷◌, ◌++◌, Option, Some, None, length, drop, nat_lt, option_map}
 use Rattle.std.specs.List.{list_all}
 use Rattle.iso_model.specs.declared.access.Access.{Access}
 use Rattle.iso_model.specs.declared.access.Geometry.{Geometry}
+use Rattle.iso_model.specs.declared.access.GroupReply.{GroupReply}
+use Rattle.iso_model.specs.declared.access.GroupReply.TheVariants as member
 use Rattle.script_model.specs.declared.script.Line.{Line}
 use Rattle.script_model.specs.declared.script.Op.{Op}
-use Rattle.script_model.specs.declared.script.Op.TheVariants.{Mark, HashPut, HashGet, HashDelete, TreePut, TreeGet, TreeDelete, TreeScan}
+use Rattle.script_model.specs.declared.script.Op.TheVariants.{Group, Mark, HashPut, HashGet, HashDelete, TreePut, TreeGet, TreeDelete, TreeScan}
 use Rattle.script_model.specs.declared.script.Reply.{Reply}
 use Rattle.script_model.specs.declared.script.Reply.TheVariants as reply
 use Rattle.iso_model.specs.Effect.{is_write}
+use Rattle.iso_model.specs.Group.{group_step, looks}
 use Rattle.store_model.specs.Areas.{hash_area, tree_area}
 use Rattle.script_model.specs.Step.{step}
 use Rattle.iso_model.specs.World.{Live, World, attached}
@@ -133,9 +136,21 @@ abbrev pub notes_after : World → Notes → List (ℕ × Line) → Notes
 notes_after W notes [] = notes
 notes_after W notes (line ∷ lines) = notes_after (step W line.1.client line.1.op).1 (noted W notes line.1.client line.1.op) lines
 
--- a line that commits a transaction commits one that keeps to the stores
-abbrev pub CommitKeeps : World → Notes → (client : ℕ) → Op → Type 0
-CommitKeeps W notes client op = (t : Live) → (k : ℕ) → attached W client ≡ Some t → (step W client op).0 ≡ reply.Committed k → IsTrue (notes t.number).kept
+-- by what was found under the labels of a group and what these are answered, the transaction ends as commit k
+abbrev pub EndsAs : List (Option Live) → List (Option GroupReply) → (t : Live) → (k : ℕ) → Type 0
+EndsAs [] answers t k = ⊥
+EndsAs (one ∷ found) [] t k = ⊥
+EndsAs (one ∷ found) (answer ∷ answers) t k = ((one ≡ Some t) × (answer ≡ Some (member.Committed k))) ⊎ EndsAs found answers t k
+
+-- the operation is a group that ends the transaction as commit k
+abbrev pub IsEndedAs : World → Op → (t : Live) → (k : ℕ) → Type 0
+IsEndedAs W (Group texts) t k = EndsAs (looks W texts).0 (group_step W texts).0 t k
+IsEndedAs W op t k = ⊥
+
+-- a line that commits transactions, one by an end or each that a group commits, commits such as keep to the stores
+pub record CommitKeeps (W : World) (notes : Notes) (client : ℕ) (op : Op) : Type 0 where
+  pub one : (t : Live) (k : ℕ) → attached W client ≡ Some t → (step W client op).0 ≡ reply.Committed k → IsTrue (notes t.number).kept
+  pub each : (t : Live) (k : ℕ) → IsEndedAs W op t k → IsTrue (notes t.number).kept
 
 -- each transaction that commits in these lines keeps to the stores
 abbrev pub CommitsKeep : World → Notes → List (ℕ × Line) → Type 0

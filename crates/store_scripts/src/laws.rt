@@ -23,17 +23,21 @@ ghost use Rattle.store_laws.specs.Both.{IsByBoth};
 ghost use Rattle.store_scripts.specs.InOrder.{StoresAnswer};
 ghost use Rattle.store_scripts.specs.Kept.{BeginsWell, IsToldOf, ToldByMap, ToldInOrder};
 ghost use Rattle.store_scripts.specs.Stores.{image_hash, image_tree};
-ghost use Rattle.store_scripts.specs.Told.{answered, no_notes, noted, notes_after, CallsStore, CommitsKeep, Notes};
+ghost use Rattle.store_scripts.specs.Told.{answered, no_notes, noted, notes_after, CallsStore, CommitsKeep, IsEndedAs, Notes};
 
 /// Where the transactions that commit in a script keep to the stores, the history after it is one by calls of the stores (`by_calls`).
 /// The calls of a transaction that commits, as its lines and their replies tell them, answer as one thread's calls on the map directly
-/// before the commit, and end in the map directly after it (`commits`). Those of a live transaction answer so by the map at its begin
+/// before the commit, and end in the map directly after it, where an end makes the commit (`commits`) and where a group does, whose
+/// members are ended in order (`grouped`). Those of a live transaction answer so by the map at its begin
 /// (`live`), where it keeps to the stores; and where it writes nothing, each of them by that map alone, whatever it marks (`read_only`).
 pub fn store_calls_of_a_script_answer_in_order()
     ensures by_calls { (W : World) (lines : List (ℕ × Line)) → BeginsWell W → AreLines lines → CommitsKeep W no_notes lines → let V = after W lines in
         IsByBoth (image_hash V.geometry) (image_tree V.geometry) V.geometry V.history (last W.history) }
     ensures commits { (W : World) (before later : List (ℕ × Line)) (line : ℕ × Line) (k : ℕ) (t : Live) → let lines = before ++ line ∷ later in BeginsWell W → AreLines lines → CommitsKeep W no_notes lines
         → let V = after W before in let H = (after W lines).history in line.1.op ≡ End → attached V line.1.client ≡ Some t → (step V line.1.client End).0 ≡ Committed k
+        → ToldInOrder V.geometry (notes_after W no_notes before t.number) (array_at H (k - 1)) (array_at H k) }
+    ensures grouped { (W : World) (before later : List (ℕ × Line)) (line : ℕ × Line) (k : ℕ) (t : Live) → let lines = before ++ line ∷ later in BeginsWell W → AreLines lines → CommitsKeep W no_notes lines
+        → let V = after W before in let H = (after W lines).history in IsEndedAs V line.1.op t k
         → ToldInOrder V.geometry (notes_after W no_notes before t.number) (array_at H (k - 1)) (array_at H k) }
     ensures live { (W : World) (lines : List (ℕ × Line)) (client : ℕ) (t : Live) → BeginsWell W → AreLines lines → CommitsKeep W no_notes lines → let V = after W lines in
         attached V client ≡ Some t → IsTrue (notes_after W no_notes lines t.number).kept

@@ -6,7 +6,7 @@ use Rattle.iso_machine.proofs.acting.act.Goals as goal
 
 -- any other operation
 others : (W : World) (t : Live) (o : Op) → ((m : Option Mode) × (o ≡ op.Begin m)) ⊎ (o ≡ op.End) ⊎ (o ≡ op.Abort) ⊎ ((x : List ℕ) × (o ≡ op.Release x)) ⊎ ((x : List ℕ) × (o ≡ op.Takeover x))
-    ⊎ ((x : List ℕ) × (o ≡ op.Await x)) ⊎ (o ≡ op.Trim) ⊎ (o ≡ op.Stat) ⊎ (o ≡ op.Compact) ⊎ (o ≡ op.Upgrade)
+    ⊎ ((x : List ℕ) × (o ≡ op.Await x)) ⊎ ((xs : List (List ℕ)) × (o ≡ op.Group xs)) ⊎ (o ≡ op.Trim) ⊎ (o ≡ op.Stat) ⊎ (o ≡ op.Compact) ⊎ (o ≡ op.Upgrade)
     ⊎ ((k : List ℕ) × (v : List ℕ) × (o ≡ op.HashPut k v)) ⊎ ((k : List ℕ) × (o ≡ op.HashGet k)) ⊎ ((k : List ℕ) × (o ≡ op.HashDelete k))
     ⊎ ((k : List ℕ) × (v : List ℕ) × (o ≡ op.TreePut k v)) ⊎ ((k : List ℕ) × (o ≡ op.TreeGet k)) ⊎ ((k : List ℕ) × (o ≡ op.TreeDelete k))
     ⊎ ((f : List ℕ) × (t : List ℕ) × (m : ℕ) × (o ≡ op.TreeScan f t m)) → act_step W t o ≡ (reply.NotInTx, W)
@@ -16,17 +16,18 @@ others W t o (inr (inr (inl is))) = ap (act_step W t) is
 others W t o (inr (inr (inr (inl (x, is))))) = ap (act_step W t) is
 others W t o (inr (inr (inr (inr (inl (x, is)))))) = ap (act_step W t) is
 others W t o (inr (inr (inr (inr (inr (inl (x, is))))))) = ap (act_step W t) is
-others W t o (inr (inr (inr (inr (inr (inr (inl is))))))) = ap (act_step W t) is
+others W t o (inr (inr (inr (inr (inr (inr (inl (xs, is)))))))) = ap (act_step W t) is
 others W t o (inr (inr (inr (inr (inr (inr (inr (inl is)))))))) = ap (act_step W t) is
 others W t o (inr (inr (inr (inr (inr (inr (inr (inr (inl is))))))))) = ap (act_step W t) is
 others W t o (inr (inr (inr (inr (inr (inr (inr (inr (inr (inl is)))))))))) = ap (act_step W t) is
-others W t o (inr (inr (inr (inr (inr (inr (inr (inr (inr (inr (inl (k, v, is)))))))))))) = ap (act_step W t) is
-others W t o (inr (inr (inr (inr (inr (inr (inr (inr (inr (inr (inr (inl (k, is))))))))))))) = ap (act_step W t) is
+others W t o (inr (inr (inr (inr (inr (inr (inr (inr (inr (inr (inl is))))))))))) = ap (act_step W t) is
+others W t o (inr (inr (inr (inr (inr (inr (inr (inr (inr (inr (inr (inl (k, v, is))))))))))))) = ap (act_step W t) is
 others W t o (inr (inr (inr (inr (inr (inr (inr (inr (inr (inr (inr (inr (inl (k, is)))))))))))))) = ap (act_step W t) is
-others W t o (inr (inr (inr (inr (inr (inr (inr (inr (inr (inr (inr (inr (inr (inl (k, v, is))))))))))))))) = ap (act_step W t) is
-others W t o (inr (inr (inr (inr (inr (inr (inr (inr (inr (inr (inr (inr (inr (inr (inl (k, is)))))))))))))))) = ap (act_step W t) is
+others W t o (inr (inr (inr (inr (inr (inr (inr (inr (inr (inr (inr (inr (inr (inl (k, is))))))))))))))) = ap (act_step W t) is
+others W t o (inr (inr (inr (inr (inr (inr (inr (inr (inr (inr (inr (inr (inr (inr (inl (k, v, is)))))))))))))))) = ap (act_step W t) is
 others W t o (inr (inr (inr (inr (inr (inr (inr (inr (inr (inr (inr (inr (inr (inr (inr (inl (k, is))))))))))))))))) = ap (act_step W t) is
-others W t o (inr (inr (inr (inr (inr (inr (inr (inr (inr (inr (inr (inr (inr (inr (inr (inr (f, u, m, is))))))))))))))))) = ap (act_step W t) is
+others W t o (inr (inr (inr (inr (inr (inr (inr (inr (inr (inr (inr (inr (inr (inr (inr (inr (inl (k, is)))))))))))))))))) = ap (act_step W t) is
+others W t o (inr (inr (inr (inr (inr (inr (inr (inr (inr (inr (inr (inr (inr (inr (inr (inr (inr (f, u, m, is)))))))))))))))))) = ap (act_step W t) is
 
 pub returns-in-Begin-clause-given : goal.returns-in-Begin-clause-given
 returns-in-Begin-clause-given g c W t of tx active =

@@ -1,10 +1,6 @@
-use Rattle.script_text.proofs.Words.{Result, Ok, Err, OnErr, flat_map, take, pair_text}
-use Rattle.script_text.proofs.Extending.{on_err}
+use Rattle.script_text.proofs.Words.{flat_map, take, pair_text}
+use Rattle.script_text.proofs.Extending.{always, on_err}
 use Rattle.script_text.proofs.pairs.push_all.Goals as goal
-
-always : {T E P : Type 0} (r : Result T E) → P → OnErr r P
-always (Ok x) p = tt
-always (Err e) p = p
 
 pub returns-in_err-push_pair-clause-err : goal.returns-in_err-push_pair-clause-err
 returns-in_err-push_pair-clause-err c =

@@ -1,5 +1,5 @@
 use Rattle.store_scripts.proofs.Words.{last, after, no_notes, notes_after}
-use Rattle.store_scripts.proofs.Commits.{commits_told}
+use Rattle.store_scripts.proofs.Commits.{commits_told, groups_told}
 use Rattle.store_scripts.proofs.Lines.{noted_after, noted_begins}
 use Rattle.store_scripts.proofs.Order.{live_told, read_only_told}
 use Rattle.store_scripts.proofs.laws.store_calls_of_a_script_answer_in_order.Goals as goal
@@ -9,6 +9,9 @@ returns-clause-by_calls _ = λ W lines begins good keeps. (noted_after (Unit {0}
 
 pub returns-clause-commits : goal.returns-clause-commits
 returns-clause-commits _ = commits_told
+
+pub returns-clause-grouped : goal.returns-clause-grouped
+returns-clause-grouped _ = groups_told
 
 pub returns-clause-live : goal.returns-clause-live
 returns-clause-live _ = λ W lines client t begins good keeps found kept.
