@@ -10,6 +10,7 @@ tells_fault : (S : State) (c : Call) (now : ℕ) → (after_fault S c now).tells
 tells_fault S (call.Begin named) now = refl
 tells_fault S (call.Fetch n block) now = refl
 tells_fault S (call.End n accesses) now = refl
+tells_fault S (call.EndGroup members) now = refl
 tells_fault S call.Trim now = refl
 tells_fault S call.Compact now = refl
 tells_fault S call.Upgrade now = refl
@@ -34,6 +35,7 @@ tells_next : (S : State) (e : Entry) → (after S e).tells ≡ S.tells
 tells_next S (entry.Begin k at mode) = refl
 tells_next S (entry.Fetch k block bytes) = refl
 tells_next S (entry.End k accesses r) = refl
+tells_next S (entry.EndGroup ends) = refl
 tells_next S (entry.Abort k) = refl
 tells_next S (entry.Trim k) = refl
 tells_next S (entry.Compact k) = refl

@@ -1,5 +1,5 @@
 -- The entries of a session, as it makes more.
-use Rattle.handle_pass.proofs.Words.{◌≡◌, ℕ, ◌+◌, List, [], ◌∷◌, ◌++◌, get_or, length, refl, sym, ap, ◌∙◌, subst, append_assoc, arith, length-append, map-append, append-nil, get_or-append, get_or-append_seam, hit, AllBelow, prefix_length, prefix_self, prefix_trans, below_more, below_snoc, rises_snoc, times_append, Entry, Start, Session, entries_at, Log, Moves, count, seen, Made, Rested}
+use Rattle.handle_pass.proofs.Words.{◌≡◌, ℕ, ◌+◌, List, [], ◌∷◌, ◌++◌, get_or, length, refl, sym, ap, ◌∙◌, subst, append_assoc, arith, length-append, map-append, append-nil, get_or-append, get_or-append_seam, hit, AllBelow, prefix_length, prefix_self, prefix_trans, below_more, below_snoc, rises_snoc, times_append, Entry, Start, Session, Port, View, port_view, Joined, Split, entries_at, AreNext, Log, Moves, MovesThrough, count, count_with, seen, units, Made, Rested}
 use mathlib.Core.List.{IsPrefix}
 use Rattle.iso_shared.specs.declared.entry.Entry.TheVariants as entry
 
@@ -77,4 +77,59 @@ module _ {D O : Type 0} where
     known = prefix_trans (seen s) (seen t) (seen u) m.known n.known;
     log = λ F l. subst (Log (count u) (seen u)) (append_assoc F es ds) (n.log (F ++ es) (m.log F l));
     units = n.units ∙ m.units;
+  }
+
+-- what was made in two stretches
+pub next_on : (A : Start) (xs ys zs : List Entry) (mine now after : ℕ → ℕ) (es ds : List Entry) → AreNext A xs mine es ys now → AreNext A ys now ds zs after → AreNext A xs mine (es ++ ds) zs after
+next_on A xs ys zs mine now after [] [] first second = (prefix_trans xs ys zs first.0 second.0, λ p. second.1 p ∙ first.1 p)
+next_on A xs ys zs mine now after [] (d ∷ ds) first second =
+    let m = second.2 in (
+      second.0,
+      second.1,
+      record {
+        before = m.before;
+        told = prefix_trans xs ys m.before first.0 m.told;
+        known = m.known;
+        legal = m.legal;
+        places = λ p. (let a = m.places p in let b = first.1 p in omega arith);
+      },
+      second.3,
+    )
+next_on A xs ys zs mine now after (e ∷ es) ds first second = (first.0, first.1, first.2, next_on A first.0 ys zs first.1 now after es ds first.3 second)
+
+-- entries made one after the other are the next ones of a log
+pub log_all : (A : Start) (xs : List Entry) (mine : ℕ → ℕ) (es ys : List Entry) (after : ℕ → ℕ) (F : List Entry) → AreNext A xs mine es ys after → Log mine xs F → Log after ys (F ++ es)
+log_all A xs mine [] ys after F is l = subst (Log after ys) (sym (append-nil F)) (log_seen after xs ys F is.0 (log_count mine after xs F is.1 l))
+log_all A xs mine (e ∷ es) ys after F is l =
+    let m = is.2 in
+    subst (Log after ys) (append_assoc F (e ∷ []) es) (log_all A is.0 is.1 es ys after (F ++ e ∷ []) is.3 (log_more mine is.1 xs m.before is.0 F e m.told m.known m.places l))
+
+module _ {D O : Type 0} where
+  -- a port that has just been split off has no place: a log of the session is one of the two
+  pub log_split : (s t : Session D O) (q : Port D O) (F : List Entry) → Split s q t → Log (count s) (seen s) F → Log (count_with t (port_view q)) (port_view q).seen F
+  log_split s t q F cut l =
+      subst (λ E. Log (count_with t (port_view q)) E F) (sym cut.told)
+      (log_count (count s) (count_with t (port_view q)) (seen s) F (λ p. let a = cut.places p in let b = cut.none p in omega arith) l)
+
+  -- entries that were made through the port are the next ones of the two
+  pub moves_through : (A : Start) (s : Session D O) (v w : View Entry) (es : List Entry) → IsPrefix v.seen w.seen → AreNext A v.seen (count_with s v) es w.seen (count_with s w) → MovesThrough s v w es
+  moves_through A s v w es known is = record { known = known; log = λ F l. log_all A v.seen (count_with s v) es w.seen (count_with s w) F is l }
+
+  pub through_none : (s : Session D O) (v : View Entry) → MovesThrough s v v []
+  through_none s v = record { known = prefix_self v.seen; log = λ F l. subst (Log (count_with s v) v.seen) (sym (append-nil F)) l }
+
+  pub through_on : (s : Session D O) (v w u : View Entry) (es ds : List Entry) → MovesThrough s v w es → MovesThrough s w u ds → MovesThrough s v u (es ++ ds)
+  through_on s v w u es ds m n = record {
+    known = prefix_trans v.seen w.seen u.seen m.known n.known;
+    log = λ F l. subst (Log (count_with s u) u.seen) (append_assoc F es ds) (n.log (F ++ es) (m.log F l));
+  }
+
+  -- once the port is joined back, they are the next ones of the session
+  pub moves_joined : (s t u : Session D O) (q r : Port D O) (es : List Entry) → Split s q t → MovesThrough t (port_view q) (port_view r) es → Joined t r u → (port_view r).units ≡ 32 → Moves s u es
+  moves_joined s t u q r es cut m joined all = record {
+    known = subst (λ l. IsPrefix l (seen u)) cut.known joined.known;
+    log = λ F l.
+        log_seen (count u) (port_view r).seen (seen u) (F ++ es) joined.told
+        (log_count (count_with t (port_view r)) (count u) (port_view r).seen (F ++ es) joined.places (m.log F (log_split s t q F cut l)));
+    units = joined.more ∙ (ap (λ (n : ℕ). units t + n) all ∙ cut.less);
   }

@@ -29,7 +29,7 @@ pub use Rattle.iso_shared.proofs.Follows.{follows_prefix, up_to_same}
 pub use Rattle.iso_shared.proofs.Mades.{ahead_on, own_on}
 pub use Rattle.iso_shared.proofs.Trace.{legal_last, loose_is}
 pub use Rattle.iso_shared.specs.Legal.{IsLegal}
-pub use Rattle.iso_shared.specs.Ports.{IsSameTx, IsTxOf, MadeBoth, most_steps, tx_view}
+pub use Rattle.iso_shared.specs.Ports.{IsSameTx, IsTxOf, MadeBoth, most_steps, port_view, tx_view}
 pub use Rattle.iso_shared.specs.States.{Start, State, after, after_all, after_fault, after_refusal, after_sweep, opened, state_at}
 pub use Rattle.iso_shared.specs.Told.{cause_of, post_cause, posting_of_tx}
 pub use Rattle.iso_shared.specs.declared.entry.Call.{Call}
@@ -50,8 +50,9 @@ pub use Rattle.tx_blocks.specs.Tx.{Device, IsArrayOf, IsFree, IsLater, IsRefused
 pub use Rattle.tx_table.specs.Work.{Doing, span_at}
 pub use Rattle.handle_pass.specs.Accesses.{HasMarked, HasRead, HasWritten, IsReadCause, IsWriteCause, Shows, access_answer, accesses_of, mark_answer, tx_on, with_access}
 pub use Rattle.handle_pass.specs.Calls.{EndsWith, left_by}
-pub use Rattle.handle_pass.specs.Logs.{Log, Moves, entries_at}
+pub use Rattle.handle_pass.specs.Logs.{AreNext, Log, Moves, MovesThrough, count_with, entries_at}
 pub use Rattle.handle_pass.specs.Looks.{Looked, Marked, Unlooked, Wrote, down_in, failed_in, failures_in}
 pub use Rattle.handle_pass.specs.Sessions.{IsSession, Made, Own, Rested, checked_of, count, count_of, own, own_in, own_of, seen, units, units_of}
+pub use Rattle.handle_pass.specs.Splits.{Joined, Split}
 pub use Rattle.handle_pass.specs.Visits.{Failed, IsVisit, KeepsOwn, Seen, Visited, base_in, base_of, begin_array, blocks_read, fetches, number_in, refusals, seen_by, shaped, with_list}
 pub use Rattle.handle_pass.specs.declared.session.Session.{Session}

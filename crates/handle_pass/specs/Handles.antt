@@ -31,9 +31,9 @@ module _ {D O : Type 0} where
   abbrev pub places : Handle D O → ℕ → ℕ
   places h p = times p (tx_view h.tx).mine
 
-  -- the handle was released by a session over this device
+  -- the handle was released by a session over this device, with one unit
   abbrev pub IsHandle : Start → Shared D O → Handle D O → Type 0
-  IsHandle A shared h = IsTx shared A h.tx
+  IsHandle A shared h = IsTx shared A h.tx × ((tx_view h.tx).units ≡ 1)
 
   -- the transaction went from the session into the handle, with its places and its units, and it knows what the session does
   pub record Released (A : Start) (s : Session D O) (h : Handle D O) (t : Session D O) : Type 0 where

@@ -1,9 +1,12 @@
 -- The entries that a session made, by their places.
-use Rattle.std.specs.Prelude.{◌≡◌, ℕ, List, ◌++◌, length, map, slice_index_or}
+use Rattle.std.specs.Prelude.{◌≡◌, ℕ, ◌+◌, List, [], ◌∷◌, ◌++◌, length, map, slice_index_or}
 use mathlib.Core.List.{IsPrefix}
 use Rattle.iso_shared.specs.declared.entry.Entry.{Entry}
 use Rattle.iso_shared.specs.declared.entry.Entry.TheVariants as entry
-use Rattle.turn_lock.specs.Lists.{times, AllBelow, RisesFrom}
+use Rattle.iso_shared.specs.Legal.{IsLegal}
+use Rattle.iso_shared.specs.States.{Start}
+use Rattle.turn_lock.specs.declared.view.View.{View}
+use Rattle.turn_lock.specs.Lists.{hit, times, AllBelow, RisesFrom}
 use Rattle.handle_pass.specs.declared.session.Session.{Session}
 use Rattle.handle_pass.specs.Sessions.{count, seen, units}
 
@@ -24,3 +27,26 @@ pub record Moves {D O : Type 0} (s t : Session D O) (es : List Entry) : Type 0 w
   pub known : IsPrefix (seen s) (seen t)
   pub log : (F : List Entry) → Log (count s) (seen s) F → Log (count t) (seen t) (F ++ es)
   pub units : units t ≡ units s
+
+-- how often a place is the session's own, or that of a port that was split off it
+abbrev pub count_with : {D O : Type 0} → Session D O → View Entry → ℕ → ℕ
+count_with s v p = count s p + times p v.mine
+
+-- Through a port that was split off the session, which stayed as it was, these entries were made from the one view to the other,
+-- behind all others of the two.
+pub record MovesThrough {D O : Type 0} (s : Session D O) (v w : View Entry) (es : List Entry) : Type 0 where
+  pub known : IsPrefix v.seen w.seen
+  pub log : (F : List Entry) → Log (count_with s v) v.seen F → Log (count_with s w) w.seen (F ++ es)
+
+-- The entry was made behind all that had been seen, and has been seen then. It is legal there, and its place came to the own ones.
+pub record Next (A : Start) (old : List Entry) (mine : ℕ → ℕ) (e : Entry) (new : List Entry) (after : ℕ → ℕ) : Type 0 where
+  pub before : List Entry
+  pub told : IsPrefix old before
+  pub known : IsPrefix (before ++ e ∷ []) new
+  pub legal : IsLegal A (before ++ e ∷ [])
+  pub places : (p : ℕ) → after p ≡ mine p + hit (length before) p
+
+-- these entries were made one after the other
+abbrev pub AreNext : Start → (old : List Entry) → (mine : ℕ → ℕ) → (es : List Entry) → (new : List Entry) → (after : ℕ → ℕ) → Type 0
+AreNext A old mine [] new after = IsPrefix old new × ((p : ℕ) → after p ≡ mine p)
+AreNext A old mine (e ∷ es) new after = (seen : List Entry) × (now : ℕ → ℕ) × Next A old mine e seen now × AreNext A seen now es new after

@@ -77,11 +77,13 @@ pub record Entered (A : Start) (old : List Entry) (mine : ℕ → ℕ) (e : Entr
   pub places : (p : ℕ) → after p ≡ mine p + hit (length before) p
 
 module _ {D O : Type 0} where
-  -- a session between two calls: its port and its transaction are of its device, and the port knows what the transaction does
+  -- a session between two calls: its port and its transaction are of its device, and the port knows what the transaction does,
+  -- and has all units but one of the transaction
   pub record IsSession (A : Start) (s : Session D O) : Type 0 where
     pub image : first_geometry (device s) ≡ A.world.geometry
     pub port : IsPort (device s) (port_of s)
     pub tx : IfSome s.tx (λ t. IsTx (device s) A t × IsPrefix (tx_view t).seen (seen s))
+    pub one : IfSome s.tx (λ t. (tx_view t).units ≡ 1)
 
   -- the session made this entry, on its device and with its units
   pub record Made (A : Start) (s t : Session D O) (e : Entry) : Type 0 where

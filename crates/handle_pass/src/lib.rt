@@ -8,6 +8,7 @@ mod handle;
 mod labels;
 mod session;
 mod session_blocks;
+mod split;
 #[cfg(test)]
 mod tests;
 mod upkeep;

@@ -12,6 +12,12 @@ mod tests_adopt;
 #[cfg(test)]
 mod tests_faults;
 #[cfg(test)]
+mod tests_files;
+#[cfg(test)]
 mod tests_kept;
+#[cfg(test)]
+mod tests_reads;
+#[cfg(test)]
+mod tests_second;
 #[cfg(test)]
 mod tests_stops;

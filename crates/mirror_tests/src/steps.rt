@@ -34,11 +34,23 @@ impl Steps {
         false
     }
 
-    /// Whether an output tells of all steps.
+    /// Whether an output is that of all steps.
     pub(crate) fn are_told(&self, output: &[u8]) -> bool {
-        self.told_by(output) == self.told.len()
+        self.told.last() == Some(&output)
+    }
+
+    /// Whether a run ended with all replies, or with a fault of the disk behind some of them.
+    pub(crate) fn is_cut_or_whole(&self, status: u8, output: &[u8]) -> bool {
+        match (status, output.strip_suffix(FAULT), self.told.last()) {
+            (0, _, _) => self.are_told(output),
+            (5, Some(front), Some(whole)) => whole.starts_with(front),
+            _ => false,
+        }
     }
 }
+
+/// What ends the output of a run whose disk failed.
+pub(crate) const FAULT: &[u8] = b"! disk fault\n";
 
 /// What a script on an image that is none is answered.
 pub(crate) const NO_IMAGE: &[u8] = b"! not an Isotope image\n";
@@ -91,4 +103,53 @@ pub(crate) const COMPACTION: Steps = Steps {
         b"1 ok last 3 base 0 trim 0 live 0 used 213 versions 3\n1 ok begin 3\n1 ok 1111\n1 ok 3300\n",
         b"1 ok last 3 base 3 trim 3 live 0 used 0 versions 0\n1 ok begin 3\n1 ok 1111\n1 ok 3300\n",
     ],
+};
+
+/// Two commits, and a compaction behind them.
+pub(crate) const COMMITS_THEN_COMPACTION: Steps = Steps {
+    input: b"1 begin\n1 put 0 0 aa\n1 end\n1 begin\n1 put 0 1 bb\n1 end\n1 compact\n",
+    told: &[
+        FIRST,
+        BOTH,
+        b"1 ok begin 0\n1 ok\n1 ok commit 1\n1 ok begin 1\n1 ok\n1 ok commit 2\n1 ok compact 2\n",
+    ],
+    show: SHOW,
+    shown: &[
+        EMPTY,
+        ONE,
+        TWO,
+        b"1 ok last 2 base 2 trim 2 live 0 used 0 versions 0\n1 ok begin 2\n1 ok aabb\n",
+    ],
+};
+
+/// What an image shows without the commit of the scripts around a label, with it, and once it stands in the base.
+const AROUND: &[&[u8]] = &[
+    b"1 ok last 0 base 0 trim 0 live 0 used 0 versions 0\n1 ok begin 0\n1 ok 0000\n",
+    b"1 ok last 1 base 0 trim 0 live 0 used 29 versions 1\n1 ok begin 1\n1 ok cc00\n",
+    b"1 ok last 1 base 1 trim 1 live 0 used 0 versions 0\n1 ok begin 1\n1 ok cc00\n",
+];
+
+/// The replies of these scripts up to that commit.
+const BESIDE: &[u8] = b"1 ok begin 0\n1 ok 00\n1 ok\n2 ok begin 0\n2 ok\n2 ok commit 1\n";
+
+/// A commit beside a transaction under a label, a compaction below that one, and one above it behind its end.
+pub(crate) const COMPACTIONS: Steps = Steps {
+    input: b"1 begin\n1 get 0 0 1\n1 release a\n2 begin\n2 put 0 0 cc\n2 end\n2 compact\n3 takeover a\n3 get 0 0 1\n3 end\n3 compact\n",
+    told: &[
+        BESIDE,
+        b"1 ok begin 0\n1 ok 00\n1 ok\n2 ok begin 0\n2 ok\n2 ok commit 1\n2 ok compact 0\n3 ok begin 0\n3 ok 00\n3 ok read-only\n3 ok compact 1\n",
+    ],
+    show: SHOW,
+    shown: AROUND,
+};
+
+/// The same with upgrades.
+pub(crate) const UPGRADES: Steps = Steps {
+    input: b"1 begin\n1 get 0 0 1\n1 release a\n2 begin\n2 put 0 0 cc\n2 end\n2 upgrade\n3 takeover a\n3 get 0 0 1\n3 end\n3 upgrade\n",
+    told: &[
+        BESIDE,
+        b"1 ok begin 0\n1 ok 00\n1 ok\n2 ok begin 0\n2 ok\n2 ok commit 1\n2 ok upgrade 0\n3 ok begin 0\n3 ok 00\n3 ok read-only\n3 ok upgrade 1\n",
+    ],
+    show: SHOW,
+    shown: AROUND,
 };

@@ -36,11 +36,8 @@ fn one_side_fails(rt: HostRuntime) -> Result<(), Fail> {
         second.fuse(before);
         let outcome = call(alloc, SMALL, no_disk(alloc), second, PUT)?;
         assert_eq!(rt; outcome.status, 0, "after {before}");
-        assert!(rt;
-            outcome
-                .output
-                .starts_with(b"1 ok begin 0\n1 ok\n1 ok commit 1\n")
-        );
+        let replies = b"1 ok begin 0\n1 ok\n1 ok commit 1\n".as_slice();
+        assert_eq!(rt; outcome.output.as_slice(), replies);
         let one = outcome.first.crash(alloc, 1)?;
         if before < 12 {
             assert!(rt;
@@ -73,11 +70,8 @@ fn both_sides_fail(rt: HostRuntime) -> Result<(), Fail> {
     second.fuse(8);
     let outcome = call(alloc, SMALL, first, second, PUT)?;
     assert_eq!(rt; outcome.status, 5);
-    assert!(rt;
-        outcome
-            .output
-            .starts_with(b"1 ok begin 0\n1 ok\n! disk fault\n")
-    );
+    let replies = b"1 ok begin 0\n1 ok\n! disk fault\n".as_slice();
+    assert_eq!(rt; outcome.output.as_slice(), replies);
     Ok(())
 }
 
@@ -94,7 +88,7 @@ fn zeros_are_no_mirror(rt: HostRuntime) -> Result<(), Fail> {
         b"",
     )?;
     assert_eq!(rt; outcome.status, 5);
-    assert!(rt; outcome.output.starts_with(b"! disk fault\n"));
+    assert_eq!(rt; outcome.output.as_slice(), b"! disk fault\n".as_slice());
     let (error, _used, _first, _second) = adopted(outcome.first, outcome.second);
     assert_eq!(rt; error, Some(MirrorError::NotMirror { side: 0 }));
     Ok(())
@@ -114,11 +108,9 @@ fn the_second_side_fails_at_its_third_write(rt: HostRuntime) -> Result<(), Fail>
         b"1 begin\n1 put 0 0 aa\n1 end\n1 begin\n1 put 0 1 bb\n1 end\n",
     )?;
     assert_eq!(rt; outcome.status, 0);
-    assert!(rt;
-        outcome.output.starts_with(
-            b"1 ok begin 0\n1 ok\n1 ok commit 1\n1 ok begin 1\n1 ok\n1 ok commit 2\n"
-        )
-    );
+    let replies =
+        b"1 ok begin 0\n1 ok\n1 ok commit 1\n1 ok begin 1\n1 ok\n1 ok commit 2\n".as_slice();
+    assert_eq!(rt; outcome.output.as_slice(), replies);
     for pick in 0..6 {
         let one = outcome.first.crash(alloc, pick)?;
         let two = outcome.second.crash(alloc, pick)?;

@@ -34,6 +34,14 @@ pub(crate) fn adopted(
     }
 }
 
+/// Whether sides of these bytes are adopted, and both are in use then and have the same bytes behind their headers.
+pub(crate) fn become_alike(alloc: Global, one: Vec<u8>, two: Vec<u8>) -> Result<bool, Fail> {
+    let (error, used, first, second) = adopted(MemDisk::new(alloc, one), MemDisk::new(alloc, two));
+    let one = first.crash(alloc, 0)?;
+    let two = second.crash(alloc, 0)?;
+    Ok(error.is_none() && used == (true, true) && one.get(64..) == two.get(64..))
+}
+
 #[test]
 fn the_larger_epoch_counts(rt: HostRuntime) -> Result<(), Fail> {
     let alloc = rt.alloc();

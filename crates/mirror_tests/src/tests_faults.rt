@@ -1,69 +1,133 @@
-// A mirror of which a side fails at one call alone, or both fail from a call on.
-use crate::calls::{Outcome, RUN, call};
-use crate::steps::COMMITS;
+// A mirror of which a side fails at one call alone, or from a call on, or both sides do.
+use crate::calls::{Outcome, RUN, SMALL, call};
+use crate::steps::{
+    COMMITS, COMMITS_THEN_COMPACTION, COMPACTION, COMPACTIONS, FAULT, MADE, Steps, THREE, UPGRADES,
+};
+use crate::tests_adopt::become_alike;
 use crate::tests_stops::{counts, keeps, made_sides, stopped};
 use iso_memdisk::MemDisk;
 use std::alloc::Global;
 use std::test::Fail;
 
-/// Whether a run made both commits, and each image that a crash leaves has them.
-fn has_both(alloc: Global, outcome: &Outcome) -> Result<bool, Fail> {
-    if outcome.status != 0 || !COMMITS.are_told(&outcome.output) {
-        return Ok(false);
-    }
-    keeps(alloc, outcome, COMMITS)
+/// One of the sides.
+#[derive(Clone, Copy)]
+enum Side {
+    First,
+    Second,
 }
 
-/// Whether a run whose opening may have failed keeps what it told of, and its images are opened.
-fn is_kept(alloc: Global, outcome: &Outcome) -> Result<bool, Fail> {
-    if outcome.status == 0 {
-        return has_both(alloc, outcome);
+impl Side {
+    /// What belongs to this one.
+    fn of(self, both: (u64, u64)) -> u64 {
+        match self {
+            Side::First => both.0,
+            Side::Second => both.1,
+        }
     }
-    Ok(outcome.status == 5 && keeps(alloc, outcome, COMMITS)?)
 }
 
-/// The two commits over sides of which the first one fails at one call alone, or the second one; at 0 it does not.
-fn failing(alloc: Global, sides: &(Vec<u8>, Vec<u8>), one: u64, two: u64) -> Result<Outcome, Fail> {
+/// A call over sides of these bytes, of which one fails at one call alone.
+fn failing(
+    alloc: Global,
+    line: &str,
+    sides: &(Vec<u8>, Vec<u8>),
+    side: Side,
+    number: u64,
+    input: &[u8],
+) -> Result<Outcome, Fail> {
     let mut first = MemDisk::new(alloc, sides.0.to_vec(alloc)?);
-    first.fail(one);
     let mut second = MemDisk::new(alloc, sides.1.to_vec(alloc)?);
-    second.fail(two);
-    Ok(call(alloc, RUN, first, second, COMMITS.input)?)
+    match side {
+        Side::First => first.fail(number),
+        Side::Second => second.fail(number),
+    }
+    Ok(call(alloc, line, first, second, input)?)
+}
+
+/// Whether a fault at each call of one side alone keeps the steps and, behind so many calls of it, does not end them.
+fn are_kept(
+    alloc: Global,
+    line: &str,
+    sides: &(Vec<u8>, Vec<u8>),
+    side: Side,
+    bound: u64,
+    steps: Steps,
+) -> Result<bool, Fail> {
+    let all = side.of(counts(alloc, line, sides, steps.input)?);
+    for number in 1..all.saturating_add(1) {
+        let outcome = failing(alloc, line, sides, side, number, steps.input)?;
+        let ended = number > bound && outcome.status != 0;
+        if ended || !keeps(alloc, &outcome, steps)? {
+            return Ok(false);
+        }
+    }
+    Ok(true)
+}
+
+/// The same of each side, and a script on the mirror that another one leaves. An opening may end the call.
+fn each_fault_is_survived(alloc: Global, made: &[u8], steps: Steps) -> Result<bool, Fail> {
+    let sides = made_sides(alloc, made)?;
+    let opening = counts(alloc, RUN, &sides, b"")?;
+    Ok(
+        are_kept(alloc, RUN, &sides, Side::First, opening.0, steps)?
+            && are_kept(alloc, RUN, &sides, Side::Second, opening.1, steps)?,
+    )
 }
 
 #[test]
-fn a_fault_at_each_call_of_the_second_side(rt: HostRuntime) -> Result<(), Fail> {
+fn a_fault_at_each_call_of_a_side_in_a_formatting_and_two_commits(
+    rt: HostRuntime,
+) -> Result<(), Fail> {
     let alloc = rt.alloc();
-    let sides = made_sides(alloc, b"")?;
-    let opening = counts(alloc, RUN, &sides, b"")?;
-    let all = counts(alloc, RUN, &sides, COMMITS.input)?;
-    for number in 1..all.1.saturating_add(1) {
-        let outcome = failing(alloc, &sides, 0, number)?;
-        let right = if number > opening.1 {
-            has_both(alloc, &outcome)?
-        } else {
-            is_kept(alloc, &outcome)?
-        };
-        assert!(rt; right, "{number}");
-    }
+    let none = (Vec::new(alloc), Vec::new(alloc));
+    // a side is bound, its header is written and made stable: a fault of these ends the bind
+    assert!(rt; are_kept(alloc, SMALL, &none, Side::First, 3, MADE)?);
+    assert!(rt; are_kept(alloc, SMALL, &none, Side::Second, 3, MADE)?);
     Ok(())
 }
 
 #[test]
-fn a_fault_at_each_call_of_the_first_side(rt: HostRuntime) -> Result<(), Fail> {
-    let alloc = rt.alloc();
+fn a_fault_at_each_call_of_a_side_in_two_commits(rt: HostRuntime) -> Result<(), Fail> {
+    assert!(rt; each_fault_is_survived(rt.alloc(), b"", COMMITS)?);
+    Ok(())
+}
+
+#[test]
+fn a_fault_at_each_call_of_a_side_in_a_compaction(rt: HostRuntime) -> Result<(), Fail> {
+    assert!(rt; each_fault_is_survived(rt.alloc(), THREE, COMPACTION)?);
+    Ok(())
+}
+
+#[test]
+fn a_fault_at_each_call_of_a_side_around_a_label(rt: HostRuntime) -> Result<(), Fail> {
+    assert!(rt; each_fault_is_survived(rt.alloc(), b"", COMPACTIONS)?);
+    assert!(rt; each_fault_is_survived(rt.alloc(), b"", UPGRADES)?);
+    Ok(())
+}
+
+/// Whether a second side that fails from each call on behind its opening ends nothing, and an adopt makes both alike then.
+fn each_loss_is_survived(alloc: Global, steps: Steps) -> Result<bool, Fail> {
     let sides = made_sides(alloc, b"")?;
     let opening = counts(alloc, RUN, &sides, b"")?;
-    let all = counts(alloc, RUN, &sides, COMMITS.input)?;
-    for number in 1..all.0.saturating_add(1) {
-        let outcome = failing(alloc, &sides, number, 0)?;
-        let right = if number > opening.0 {
-            has_both(alloc, &outcome)?
-        } else {
-            is_kept(alloc, &outcome)?
-        };
-        assert!(rt; right, "{number}");
+    let all = counts(alloc, RUN, &sides, steps.input)?;
+    for calls in opening.1..all.1 {
+        let outcome = stopped(alloc, RUN, &sides, (1_000, calls), steps.input)?;
+        if outcome.status != 0 || !keeps(alloc, &outcome, steps)? {
+            return Ok(false);
+        }
+        let one = outcome.first.crash(alloc, 1)?;
+        let two = outcome.second.crash(alloc, 2)?;
+        if !become_alike(alloc, one, two)? {
+            return Ok(false);
+        }
     }
+    Ok(true)
+}
+
+#[test]
+fn the_second_side_fails_from_each_call_on(rt: HostRuntime) -> Result<(), Fail> {
+    assert!(rt; each_loss_is_survived(rt.alloc(), COMMITS_THEN_COMPACTION)?);
+    assert!(rt; each_loss_is_survived(rt.alloc(), UPGRADES)?);
     Ok(())
 }
 
@@ -71,12 +135,18 @@ fn a_fault_at_each_call_of_the_first_side(rt: HostRuntime) -> Result<(), Fail> {
 fn faults_of_both_sides_from_a_call_on(rt: HostRuntime) -> Result<(), Fail> {
     let alloc = rt.alloc();
     let sides = made_sides(alloc, b"")?;
-    let all = counts(alloc, RUN, &sides, COMMITS.input)?;
+    let all = counts(alloc, RUN, &sides, COMMITS_THEN_COMPACTION.input)?;
     for calls in 0..all.0.min(all.1) {
-        let outcome = stopped(alloc, RUN, &sides, (calls, calls), COMMITS.input)?;
+        let outcome = stopped(
+            alloc,
+            RUN,
+            &sides,
+            (calls, calls),
+            COMMITS_THEN_COMPACTION.input,
+        )?;
         assert_eq!(rt; outcome.status, 5, "{calls}");
-        assert!(rt; outcome.output.ends_with(b"! disk fault\n"), "{calls}");
-        assert!(rt; keeps(alloc, &outcome, COMMITS)?, "{calls}");
+        assert!(rt; outcome.output.ends_with(FAULT), "{calls}");
+        assert!(rt; keeps(alloc, &outcome, COMMITS_THEN_COMPACTION)?, "{calls}");
     }
     Ok(())
 }

@@ -1,17 +1,18 @@
 // A disk whose pages are kept, and that stops after each call or fails at one: what the images are opened to that a crash then
 // leaves.
 use crate::calls::call_over;
-use crate::steps::{COMPACTION, MADE, Steps, THREE};
+use crate::steps::{COMPACTION, COMPACTIONS, MADE, Steps, THREE, UPGRADES};
+use crate::tests_stops::left;
 use iso_memdisk::MemDisk;
 use kept_disk::Kept;
 use std::alloc::Global;
 use std::test::Fail;
-use top_calls::{RUN, SMALL, made_image, run_image};
+use top_calls::{RUN, SMALL, made_image, run_image, small_image};
 
 /// Whether each image that a crash leaves has the steps that were told of, and none or one behind them.
 fn keeps(alloc: Global, disk: &MemDisk, output: &[u8], steps: Steps) -> Result<bool, Fail> {
-    for pick in 0..4 {
-        let opened = run_image(alloc, disk.crash(alloc, pick)?, steps.show)?;
+    for image in left(alloc, disk)? {
+        let opened = run_image(alloc, image, steps.show)?;
         if !steps.are_kept(output, &opened.output) {
             return Ok(false);
         }
@@ -48,14 +49,15 @@ fn are_kept(
     how: Failing,
     steps: Steps,
 ) -> Result<bool, Fail> {
-    for number in 1..100 {
+    for number in 1..200 {
         let disk = disk_that_fails(alloc, bytes, how, number)?;
         let (status, output, kept) = call_over(alloc, line, Kept::new(alloc, disk), steps.input)?;
-        if !keeps(alloc, kept.disk(), &output, steps)? {
+        let right = steps.is_cut_or_whole(status, &output);
+        if !right || !keeps(alloc, kept.disk(), &output, steps)? {
             return Ok(false);
         }
         if status == 0 {
-            return Ok(kept.disk().calls() < number && steps.are_told(&output));
+            return Ok(kept.disk().calls() < number);
         }
     }
     Ok(false)
@@ -90,5 +92,24 @@ fn a_fault_at_each_call_of_a_compaction_over_kept_pages(rt: HostRuntime) -> Resu
     let alloc = rt.alloc();
     let image = made_image(alloc, SMALL, THREE)?;
     assert!(rt; are_kept(alloc, RUN, &image, Failing::At, COMPACTION)?);
+    Ok(())
+}
+
+/// Whether compactions and upgrades around a label are kept on a small image.
+fn are_kept_around_a_label(alloc: Global, how: Failing) -> Result<bool, Fail> {
+    let image = small_image(alloc)?;
+    let compacted = are_kept(alloc, RUN, &image, how, COMPACTIONS)?;
+    Ok(compacted && are_kept(alloc, RUN, &image, how, UPGRADES)?)
+}
+
+#[test]
+fn a_stop_behind_each_call_around_a_label_over_kept_pages(rt: HostRuntime) -> Result<(), Fail> {
+    assert!(rt; are_kept_around_a_label(rt.alloc(), Failing::From)?);
+    Ok(())
+}
+
+#[test]
+fn a_fault_at_each_call_around_a_label_over_kept_pages(rt: HostRuntime) -> Result<(), Fail> {
+    assert!(rt; are_kept_around_a_label(rt.alloc(), Failing::At)?);
     Ok(())
 }

@@ -1,6 +1,6 @@
 // A mirror whose sides stop after calls: what the two sides are opened to that a crash then leaves.
 use crate::calls::{Outcome, RUN, SMALL, call};
-use crate::steps::{COMMITS, COMPACTION, MADE, NO_IMAGE, Steps, THREE};
+use crate::steps::{COMMITS, COMPACTION, COMPACTIONS, MADE, NO_IMAGE, Steps, THREE, UPGRADES};
 use crate::tests_adopt::adopted;
 use iso_memdisk::MemDisk;
 use mirror_disk::MirrorError;
@@ -28,13 +28,39 @@ pub(crate) fn opened(
     }
 }
 
-/// Whether each two images that a crash leaves of the sides have the steps that were told of, and none or one behind them.
+/// Whether one of these images has these bytes.
+fn are_among(bytes: &[u8], images: &[Vec<u8>]) -> bool {
+    for image in images {
+        if image.as_slice() == bytes {
+            return true;
+        }
+    }
+    false
+}
+
+/// The images that a crash leaves of a disk for the first four picks, each of them once.
+pub(crate) fn left(alloc: Global, disk: &MemDisk) -> Result<Vec<Vec<u8>>, Fail> {
+    let mut images = Vec::new(alloc);
+    for pick in 0..4 {
+        let image = disk.crash(alloc, pick)?;
+        if !are_among(&image, &images) {
+            images.push(image)?;
+        }
+    }
+    Ok(images)
+}
+
+/// Whether a call ended with all replies, or with a fault behind some, and each two images that a crash leaves of the sides
+/// have the steps that were told of, and none or one behind them.
 pub(crate) fn keeps(alloc: Global, outcome: &Outcome, steps: Steps) -> Result<bool, Fail> {
-    for one in 0..4 {
-        for two in 0..4 {
-            let first = outcome.first.crash(alloc, one)?;
-            let second = outcome.second.crash(alloc, two)?;
-            let found = opened(alloc, first, second, steps.show)?;
+    if !steps.is_cut_or_whole(outcome.status, &outcome.output) {
+        return Ok(false);
+    }
+    let ones = left(alloc, &outcome.first)?;
+    let twos = left(alloc, &outcome.second)?;
+    for one in &ones {
+        for two in &twos {
+            let found = opened(alloc, one.to_vec(alloc)?, two.to_vec(alloc)?, steps.show)?;
             if !steps.are_kept(&outcome.output, &found) {
                 return Ok(false);
             }
@@ -99,6 +125,13 @@ fn are_kept(
     Ok(true)
 }
 
+/// The same of a script on a new mirror, from the end of its opening on.
+fn are_kept_when_open(alloc: Global, steps: Steps) -> Result<bool, Fail> {
+    let sides = made_sides(alloc, b"")?;
+    let opening = counts(alloc, RUN, &sides, b"")?;
+    are_kept(alloc, RUN, &sides, opening, steps)
+}
+
 #[test]
 fn a_stop_behind_each_call_of_a_formatting_and_two_commits(rt: HostRuntime) -> Result<(), Fail> {
     let alloc = rt.alloc();
@@ -109,10 +142,7 @@ fn a_stop_behind_each_call_of_a_formatting_and_two_commits(rt: HostRuntime) -> R
 
 #[test]
 fn a_stop_behind_each_call_of_two_commits(rt: HostRuntime) -> Result<(), Fail> {
-    let alloc = rt.alloc();
-    let sides = made_sides(alloc, b"")?;
-    let opening = counts(alloc, RUN, &sides, b"")?;
-    assert!(rt; are_kept(alloc, RUN, &sides, opening, COMMITS)?);
+    assert!(rt; are_kept_when_open(rt.alloc(), COMMITS)?);
     Ok(())
 }
 
@@ -122,5 +152,17 @@ fn a_stop_behind_each_call_of_a_compaction(rt: HostRuntime) -> Result<(), Fail> 
     let sides = made_sides(alloc, THREE)?;
     let opening = counts(alloc, RUN, &sides, b"")?;
     assert!(rt; are_kept(alloc, RUN, &sides, opening, COMPACTION)?);
+    Ok(())
+}
+
+#[test]
+fn a_stop_behind_each_call_of_compactions_around_a_label(rt: HostRuntime) -> Result<(), Fail> {
+    assert!(rt; are_kept_when_open(rt.alloc(), COMPACTIONS)?);
+    Ok(())
+}
+
+#[test]
+fn a_stop_behind_each_call_of_upgrades_around_a_label(rt: HostRuntime) -> Result<(), Fail> {
+    assert!(rt; are_kept_when_open(rt.alloc(), UPGRADES)?);
     Ok(())
 }
