@@ -1,7 +1,9 @@
 -- The entries of a session, as it makes more.
-use Rattle.handle_pass.proofs.Words.{◌≡◌, ℕ, ◌+◌, List, [], ◌∷◌, ◌++◌, get_or, length, refl, sym, ap, ◌∙◌, subst, append_assoc, arith, length-append, map-append, append-nil, get_or-append, get_or-append_seam, hit, AllBelow, prefix_length, prefix_self, prefix_trans, below_more, below_snoc, rises_snoc, times_append, Entry, Start, Session, Port, View, port_view, Joined, Split, entries_at, AreNext, Log, Moves, MovesThrough, count, count_with, seen, units, Made, Rested}
+use Rattle.handle_pass.proofs.Words.{IsLegal, times, ◌≡◌, ℕ, ◌+◌, List, [], ◌∷◌, ◌++◌, get_or, length, refl, sym, ap, ◌∙◌, subst, append_assoc, arith, length-append, map-append, append-nil, get_or-append, get_or-append_seam, hit, AllBelow, prefix_length, prefix_self, prefix_trans, below_more, below_snoc, rises_snoc, times_append, Entry, Start, Session, Port, View, port_view, Joined, Split, entries_at, AreNext, Log, Moves, MovesThrough, count, count_with, seen, units, Made, Rested}
 use mathlib.Core.List.{IsPrefix}
 use Rattle.iso_shared.specs.declared.entry.Entry.TheVariants as entry
+use Rattle.iso_shared.specs.Ports.{Made as PassMade}
+use Rattle.handle_pass.proofs.Entering.{known_by, one_place}
 
 at_prefix : (xs E : List Entry) (ps : List ℕ) → IsPrefix xs E → AllBelow (length xs) ps → entries_at E ps ≡ entries_at xs ps
 at_prefix xs E [] pre below = refl
@@ -97,6 +99,45 @@ next_on A xs ys zs mine now after [] (d ∷ ds) first second =
     )
 next_on A xs ys zs mine now after (e ∷ es) ds first second = (first.0, first.1, first.2, next_on A first.0 ys zs first.1 now after es ds first.3 second)
 
+-- the own places may be counted in another way
+pub next_same : (A : Start) (xs ys : List Entry) (mine other after : ℕ → ℕ) (es : List Entry) → ((p : ℕ) → other p ≡ mine p) → AreNext A xs mine es ys after → AreNext A xs other es ys after
+next_same A xs ys mine other after [] same is = (is.0, λ p. is.1 p ∙ sym (same p))
+next_same A xs ys mine other after (e ∷ es) same is = (
+  is.0,
+  is.1,
+  record {
+    before = is.2.before;
+    told = is.2.told;
+    known = is.2.known;
+    legal = is.2.legal;
+    places = λ p. is.2.places p ∙ ap (λ (n : ℕ). n + hit (length is.2.before) p) (sym (same p));
+  },
+  is.3,
+)
+
+-- other own places stay
+next_beside : (A : Start) (xs ys : List Entry) (others mine after : ℕ → ℕ) (es : List Entry) → AreNext A xs mine es ys after → AreNext A xs (λ p. others p + mine p) es ys (λ p. others p + after p)
+next_beside A xs ys others mine after [] is = (is.0, λ p. ap (λ (n : ℕ). others p + n) (is.1 p))
+next_beside A xs ys others mine after (e ∷ es) is = (
+  is.0,
+  (λ p. others p + is.1 p),
+  record {
+    before = is.2.before;
+    told = is.2.told;
+    known = is.2.known;
+    legal = is.2.legal;
+    places = λ p. (let a = is.2.places p in omega arith);
+  },
+  next_beside A is.0 ys others is.1 after es is.3,
+)
+
+-- what was seen before is seen afterwards
+pub next_prefix : (A : Start) (xs ys : List Entry) (mine after : ℕ → ℕ) (es : List Entry) → AreNext A xs mine es ys after → IsPrefix xs ys
+next_prefix A xs ys mine after [] is = is.0
+next_prefix A xs ys mine after (e ∷ es) is =
+    prefix_trans xs is.2.before ys is.2.told
+    (prefix_trans is.2.before (is.2.before ++ e ∷ []) ys (e ∷ [], refl) (prefix_trans (is.2.before ++ e ∷ []) is.0 ys is.2.known (next_prefix A is.0 ys is.1 after es is.3)))
+
 -- entries made one after the other are the next ones of a log
 pub log_all : (A : Start) (xs : List Entry) (mine : ℕ → ℕ) (es ys : List Entry) (after : ℕ → ℕ) (F : List Entry) → AreNext A xs mine es ys after → Log mine xs F → Log after ys (F ++ es)
 log_all A xs mine [] ys after F is l = subst (Log after ys) (sym (append-nil F)) (log_seen after xs ys F is.0 (log_count mine after xs F is.1 l))
@@ -112,8 +153,26 @@ module _ {D O : Type 0} where
       (log_count (count s) (count_with t (port_view q)) (seen s) F (λ p. let a = cut.places p in let b = cut.none p in omega arith) l)
 
   -- entries that were made through the port are the next ones of the two
-  pub moves_through : (A : Start) (s : Session D O) (v w : View Entry) (es : List Entry) → IsPrefix v.seen w.seen → AreNext A v.seen (count_with s v) es w.seen (count_with s w) → MovesThrough s v w es
-  moves_through A s v w es known is = record { known = known; log = λ F l. log_all A v.seen (count_with s v) es w.seen (count_with s w) F is l }
+  pub through_next : (A : Start) (s : Session D O) (v w : View Entry) (es : List Entry) → AreNext A v.seen (λ p. times p v.mine) es w.seen (λ p. times p w.mine) → MovesThrough s v w es
+  through_next A s v w es is = record {
+    known = next_prefix A v.seen w.seen (λ p. times p v.mine) (λ p. times p w.mine) es is;
+    log = λ F l. log_all A v.seen (count_with s v) es w.seen (count_with s w) F (next_beside A v.seen w.seen (count s) (λ p. times p v.mine) (λ p. times p w.mine) es is) l;
+  }
+
+  pub through_made : (A : Start) (s : Session D O) (v w : View Entry) (e : Entry) → PassMade A v v e w → MovesThrough s v w (e ∷ [])
+  through_made A s v w e m =
+      through_next A s v w (e ∷ []) (
+        w.seen,
+        (λ p. times p w.mine),
+        record {
+          before = m.before;
+          told = m.told;
+          known = known_by m.before w.seen w.seen e m.seen (prefix_self w.seen);
+          legal = subst (λ l. IsLegal A l) m.seen m.legal;
+          places = λ p. one_place A v v w e m p;
+        },
+        (prefix_self w.seen, λ p. refl),
+      )
 
   pub through_none : (s : Session D O) (v : View Entry) → MovesThrough s v v []
   through_none s v = record { known = prefix_self v.seen; log = λ F l. subst (Log (count_with s v) v.seen) (sym (append-nil F)) l }
