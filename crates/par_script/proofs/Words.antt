@@ -19,11 +19,16 @@ pub use Rattle.iso_model.specs.World.{empty_history, fresh}
 pub use Rattle.iso_model.specs.declared.access.Access.{Access}
 pub use Rattle.iso_model.specs.declared.access.EndReply.TheVariants.{Committed, ReadOnly}
 pub use Rattle.iso_model.specs.declared.access.Geometry.{Geometry}
+pub use Rattle.iso_model.specs.declared.access.GroupReply.{GroupReply}
 pub use Rattle.iso_model.specs.declared.access.Mode.TheVariants.{Serial, Snapshot}
 pub use Rattle.iso_shared.specs.Legal.{IsLegal}
 pub use Rattle.iso_shared.specs.States.{Start}
 pub use Rattle.iso_shared.specs.declared.entry.Cause.{Cause}
 pub use Rattle.iso_shared.specs.declared.entry.Entry.{Entry}
+pub use Rattle.iso_shared.specs.declared.entry.Member.{Member}
+pub use Rattle.iso_shared.specs.declared.entry.MemberEnd.{MemberEnd}
+pub use Rattle.par_text.specs.Output.{commit_by}
+pub use Rattle.par_text.specs.declared.commit_line.CommitLine.{CommitLine}
 unfoldable pub use Rattle.script_model.specs.Step.{get_step, hash_get_step, put_step, read_step, step, store_step}
 pub use Rattle.script_model.specs.declared.script.Line.{Line}
 pub use Rattle.script_model.specs.declared.script.Op.{Op}
@@ -37,6 +42,6 @@ pub use Rattle.store_model.specs.Stores.{Done, look_access, then_do}
 pub use Rattle.turn_lock.proofs.Rising.{rises_less, times_before}
 pub use Rattle.turn_lock.proofs.Totals.{hit_other, hit_same}
 pub use Rattle.turn_lock.specs.Lists.{AreDistinct, RisesFrom, count_up, hit, places, times, total}
-pub use Rattle.par_script.specs.Lines.{CallsStore, Did, Does, Fetched, Own, StopsBy, Walk, answer, blocks_read, fetches, last_abort, own_after, refused_fetch}
+pub use Rattle.par_script.specs.Lines.{CallsStore, Did, Does, Fetched, Own, StopsBy, Walk, answer, blocks_read, fetches, last_abort, members_for, own_after, refused_fetch}
 pub use Rattle.par_script.specs.Told.{Told, clients_in, entries_of, lines_of}
 pub use Rattle.par_script.specs.declared.TheConstants.{MAX_LOOKS}

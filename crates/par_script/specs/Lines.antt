@@ -1,8 +1,9 @@
 -- What the lines of one client make of its own transaction, with the answers of their entries.
-use Rattle.std.specs.Prelude.{◌≡◌, ◌⊎◌, ℕ, ◌-◌, ◌<◌, ◌==◌, ◌&&◌, Bool, true, false, cond, not, List, [], ◌∷◌, ◌++◌, Option, Some, None, Result, Ok, Err, IfOk, map, replicate, unwrap_or}
+use Rattle.std.specs.Prelude.{◌≡◌, ◌⊎◌, ℕ, ◌-◌, ◌<◌, ◌==◌, ◌&&◌, Bool, true, false, cond, not, List, [], ◌∷◌, ◌++◌, Option, Some, None, Result, Ok, Err, IfOk, length, map, option_map, replicate, unwrap_or}
 use Rattle.std.specs.List.{AllByRecursion}
 use Rattle.iso_model.specs.declared.access.Access.{Access}
 use Rattle.iso_model.specs.declared.access.Geometry.{Geometry}
+use Rattle.iso_model.specs.declared.access.GroupReply.{GroupReply}
 use Rattle.iso_model.specs.declared.access.Mode.{Mode}
 use Rattle.script_model.specs.CoreReplies.{as_reply}
 use Rattle.script_model.specs.declared.script.Line.{Line}
@@ -13,6 +14,7 @@ use Rattle.script_model.specs.declared.script.Reply.TheVariants as reply
 use Rattle.iso_model.specs.Array.{Array}
 use Rattle.iso_model.specs.Effect.{is_write}
 use Rattle.iso_model.specs.Geometry.{is_serial}
+use Rattle.iso_model.specs.Group.{label_replies}
 use Rattle.iso_model.specs.Premises.{block_at}
 use Rattle.script_model.specs.Step.{step}
 use Rattle.iso_model.specs.World.{World, Live, client, fresh}
@@ -21,9 +23,11 @@ use Rattle.iso_shared.specs.declared.entry.Cause.{Cause}
 use Rattle.iso_shared.specs.declared.entry.Cause.TheVariants as cause
 use Rattle.iso_shared.specs.declared.entry.Entry.{Entry}
 use Rattle.iso_shared.specs.declared.entry.Entry.TheVariants as entry
+use Rattle.iso_shared.specs.declared.entry.Member.{Member}
 use Rattle.iso_shared.specs.declared.entry.Numbers.{Numbers}
 use Rattle.iso_shared.specs.declared.entry.Posting.{Posting}
 use Rattle.iso_shared.specs.Legal.{reply_of}
+use Rattle.iso_shared.specs.States.{members_of, replies_of}
 use Rattle.script_model.specs.declared.stop.Stop.{Stop}
 use Rattle.script_model.specs.declared.stop.Stop.TheVariants as stop
 use Rattle.par_script.specs.declared.TheConstants.{MAX_LOOKS}
@@ -140,6 +144,51 @@ LooksFor label most (entry.Look l None ∷ es) r own' = (0 < most) × (l ≡ lab
 LooksFor label most (entry.Look l (Some t) ∷ []) r own' = (0 < most) × (l ≡ label) × (r ≡ Ok (reply.Began t.begin)) × (own' ≡ Some t)
 LooksFor label most es r own' = ⊥
 
+-- those that the looks of a group found, in their order
+abbrev pub found_ones : List (Option Own) → List Own
+found_ones [] = []
+found_ones (None ∷ found) = found_ones found
+found_ones (Some t ∷ found) = t ∷ found_ones found
+
+-- a member of a group, with the accesses of its post
+abbrev pub member_for : Own → Member
+member_for t = record { number = t.number; accesses = t.accesses }
+
+abbrev pub members_for : List Own → List Member
+members_for ones = map member_for ones
+
+-- the replies to the labels of a group whose members are answered so: none to a label under which nothing was found
+abbrev pub replies_to : List (Option Own) → List GroupReply → List (Option GroupReply)
+replies_to found replies = label_replies (map (option_map live_of) found) replies
+
+abbrev pub aborts_of : List Own → List Entry
+aborts_of ones = map (λ t. entry.Abort t.number) ones
+
+-- the members of a group that was refused are aborted, in order; a fault of the disk has ended them
+abbrev pub aborts_after : Cause → List Own → List Entry
+aborts_after (cause.Disk before now) ones = []
+aborts_after why ones = aborts_of ones
+
+-- after all looks of a group: its end, where some look found
+abbrev pub GroupEnds : List (Option Own) → List Entry → Result Reply Stop → Type 0
+GroupEnds found [] r = (found_ones found ≡ []) × (r ≡ Ok (reply.Grouped (replies_to found [])))
+GroupEnds found (entry.EndGroup ends ∷ []) r =
+    (0 < length (found_ones found)) × (members_of ends ≡ members_for (found_ones found)) × (r ≡ Ok (reply.Grouped (replies_to found (replies_of ends))))
+GroupEnds found (entry.Refused c why ∷ es) r =
+    (0 < length (found_ones found)) × (c ≡ call.EndGroup (members_for (found_ones found))) × (es ≡ aborts_after why (found_ones found)) × (r ≡ refused why)
+GroupEnds found es r = ⊥
+
+-- memory was wanting before the turn of a group: those that were found so far are aborted, in order
+abbrev pub GroupWants : List (Option Own) → List Entry → Result Reply Stop → Type 0
+GroupWants found es r = (es ≡ aborts_of (found_ones found)) × (r ≡ Err stop.Memory)
+
+-- Behind looks that found so, a look for each of the labels that are left, in order, and then the end of the group; where memory
+-- was wanting before its turn, the looks may be fewer.
+abbrev pub Groups : (labels : List (List ℕ)) → (found : List (Option Own)) → List Entry → Result Reply Stop → Type 0
+Groups [] found es r = GroupEnds found es r ⊎ GroupWants found es r
+Groups (label ∷ labels) found (entry.Look l one ∷ es) r = (l ≡ label) × Groups labels (found ++ one ∷ []) es r
+Groups (label ∷ labels) found es r = GroupWants found es r
+
 abbrev pub Trims : Option Own → List Entry → Result Reply Stop → Option Own → Type 0
 Trims own (entry.Trim n ∷ []) r own' = (r ≡ Ok (reply.Trimmed n)) × (own' ≡ own)
 Trims own (entry.Refused c why ∷ []) r own' = (c ≡ call.Trim) × (r ≡ refused why) × (own' ≡ own)
@@ -216,8 +265,7 @@ Where false P Q = Q
 abbrev pub InStore : (blocks : ℕ) → Own → (stored other : Type 0) → Type 0
 InStore blocks t P Q = Where (not (blocks == 0) && is_serial t.mode) P Q
 
--- these entries are the line's, and it is answered so; the client has the one transaction before it and the other after it. No line of
--- clients beside each other is a group
+-- these entries are the line's, and it is answered so; the client has the one transaction before it and the other after it
 abbrev pub Does : Geometry → (tells : Bool) → Option Own → Op → List Entry → Result Reply Stop → Option Own → Type 0
 Does g tells None (op.Begin named) es r own' = Begins g named es r own'
 Does g tells None (op.Takeover label) es r own' = Looks label es r own'
@@ -234,7 +282,7 @@ Does g tells (Some t) (op.TreePut key value) es r own' = InStore g.tree t (Calls
 Does g tells (Some t) (op.TreeGet key) es r own' = InStore g.tree t (CallsStore g tells t (op.TreeGet key) es r own') (Says g (Some t) (op.TreeGet key) es r own')
 Does g tells (Some t) (op.TreeDelete key) es r own' = InStore g.tree t (CallsStore g tells t (op.TreeDelete key) es r own') (Says g (Some t) (op.TreeDelete key) es r own')
 Does g tells (Some t) (op.TreeScan from to most) es r own' = InStore g.tree t (CallsStore g tells t (op.TreeScan from to most) es r own') (Says g (Some t) (op.TreeScan from to most) es r own')
-Does g tells own (op.Group labels) es r own' = ⊥
+Does g tells own (op.Group labels) es r own' = Groups labels [] es r × (own' ≡ own)
 Does g tells own op.Trim es r own' = Trims own es r own'
 Does g tells own op.Stat es r own' = Stats own es r own'
 Does g tells own op.Compact es r own' = Compacts own es r own'

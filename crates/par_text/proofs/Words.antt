@@ -10,6 +10,6 @@ pub use Rattle.std.proofs.lemmas.Result.{on_err_weaker, on_ok_weaker}
 pub use Rattle.std.specs.List.{concat}
 pub use Rattle.std.specs.Prelude.{Err, Ok, OnErr, Result}
 pub use Rattle.script_model.specs.Text.{reply_line}
-pub use Rattle.par_text.specs.Output.{AreCommits, AreFirst, IsFront, IsOutput, commit_by, commit_line, commits_of, told_lines}
+pub use Rattle.par_text.specs.Output.{AreCommits, AreFirst, IsFront, IsOutput, commit_by, commit_in, commit_line, commits_of, told_lines}
 pub use Rattle.par_text.specs.declared.commit_line.CommitLine.{CommitLine}
 pub use Rattle.par_text.specs.declared.part.Part.{Part}

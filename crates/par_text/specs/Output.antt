@@ -1,16 +1,25 @@
 -- The text of a run of clients beside each other.
-use Rattle.std.specs.Prelude.{◌≡◌, ℕ, ◌+◌, ◌<◌, ◌≤◌, List, [], ◌∷◌, ◌++◌, codes, decimal, flat_map, length, map, take}
+use Rattle.std.specs.Prelude.{◌≡◌, ℕ, ◌<◌, ◌≤◌, List, [], ◌∷◌, ◌++◌, Option, Some, None, codes, decimal, flat_map, length, map, take}
 use Rattle.std.specs.List.{concat}
 use Rattle.std.specs.List.Sorted.{IsPermutation, IsNonDecreasingBy}
+use Rattle.iso_model.specs.declared.access.GroupReply.{GroupReply}
+use Rattle.iso_model.specs.declared.access.GroupReply.TheVariants as member
 use Rattle.script_model.specs.declared.script.Reply.{Reply}
-use Rattle.script_model.specs.declared.script.Reply.TheVariants.{Committed}
+use Rattle.script_model.specs.declared.script.Reply.TheVariants.{Committed, Grouped}
 use Rattle.script_model.specs.Text.{reply_line}
 use Rattle.par_text.specs.declared.commit_line.CommitLine.{CommitLine}
 use Rattle.par_text.specs.declared.part.Part.{Part}
 
--- the commit that a line made, if it did
+-- the commit of a member of a line's group, if it made one
+abbrev pub commit_in : (client line : ℕ) → Option GroupReply → List CommitLine
+commit_in client line None = []
+commit_in client line (Some (member.Committed n)) = record { number = n; client = client; line = line } ∷ []
+commit_in client line (Some reply) = []
+
+-- the commits that a line made, in order: one of an end, and those of the members of a group
 abbrev pub commit_by : (client line : ℕ) → Reply → List CommitLine
 commit_by client line (Committed n) = record { number = n; client = client; line = line } ∷ []
+commit_by client line (Grouped answers) = flat_map (commit_in client line) answers
 commit_by client line reply = []
 
 -- the commits of a client, in the order of its lines

@@ -1,9 +1,9 @@
 // The commits of a run, with the lines that made them.
 ghost use Rattle.std.specs.Prelude.{◌≡◌, ◌++◌, IfOk, OnOk, OnErr, decimal, flat_map};
-ghost use Rattle.par_text.specs.Output.{commit_by, commit_line, commits_of, AreCommits};
+ghost use Rattle.par_text.specs.Output.{commit_by, commit_in, commit_line, commits_of, AreCommits};
 
 use crate::part::Part;
-use iso_model::Memory;
+use iso_model::{GroupReply, Memory};
 use itoa::Buffer;
 use script_model::Reply;
 use std::alloc::Global;
@@ -19,7 +19,41 @@ pub struct CommitLine {
     pub line: u64,
 }
 
-// Adds the commit that a line made, if it did.
+// Adds the commit of a member of a group, if it made one.
+fn add_member(
+    commits: &mut Vec<CommitLine>,
+    client: u8,
+    line: u64,
+    answer: &Option<GroupReply>,
+) -> Result<(), Memory>
+    ensures { OnOk result (commits.new.items ≡ commits.old.items ++ commit_in client line answer.now) }
+{
+    if let Some(GroupReply::Committed(number)) = answer {
+        commits.push(CommitLine {
+            number: *number,
+            client,
+            line,
+        })?;
+    }
+    Ok(())
+}
+
+// Adds the commits of a group.
+fn add_members(
+    commits: &mut Vec<CommitLine>,
+    client: u8,
+    line: u64,
+    answers: &[Option<GroupReply>],
+) -> Result<(), Memory>
+    ensures { OnOk result (commits.new.items ≡ commits.old.items ++ flat_map (commit_in client line) answers.now) }
+{
+    for answer in answers {
+        add_member(commits, client, line, answer)?;
+    }
+    Ok(())
+}
+
+// Adds the commits that a line made.
 fn add_commit(
     commits: &mut Vec<CommitLine>,
     client: u8,
@@ -28,12 +62,14 @@ fn add_commit(
 ) -> Result<(), Memory>
     ensures { OnOk result (commits.new.items ≡ commits.old.items ++ commit_by client line reply.now) }
 {
-    if let Reply::Committed(number) = reply {
-        commits.push(CommitLine {
+    match reply {
+        Reply::Committed(number) => commits.push(CommitLine {
             number: *number,
             client,
             line,
-        })?;
+        })?,
+        Reply::Grouped(answers) => add_members(commits, client, line, answers.as_slice())?,
+        _ => {}
     }
     Ok(())
 }

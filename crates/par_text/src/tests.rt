@@ -1,7 +1,7 @@
 //! The text of small runs: what no clause says is that it is whole with ample memory.
 
 use crate::{Part, par_text};
-use iso_model::{Bytes, Items};
+use iso_model::{Bytes, GroupReply, Items, LabelReplies};
 use script_model::Reply;
 use std::alloc::Global;
 use std::process::Abort;
@@ -78,6 +78,41 @@ fn commits_rise(rt: HostRuntime) -> Result<(), Fail> {
     assert!(rt;
         text.as_slice().ends_with(
             b"\ncommit 2 by 1 line 1\ncommit 3 by 64 line 3\ncommit 9 by 64 line 5\ncommit 10 by 1 line 3\n"
+        )
+    );
+    Ok(())
+}
+
+#[test]
+fn a_group_has_a_line_for_each_commit(rt: HostRuntime) -> Result<(), Fail> {
+    let alloc = rt.alloc();
+    let mut answers = LabelReplies::empty(alloc);
+    for answer in [
+        Some(GroupReply::Committed(2)),
+        None,
+        Some(GroupReply::ReadOnly),
+        Some(GroupReply::Committed(3)),
+    ] {
+        answers.push(answer).expect(&rt, "memory");
+    }
+    let first = part(
+        &rt,
+        alloc,
+        1,
+        1,
+        [Reply::Done, Reply::Committed(4), Reply::Committed(1)],
+    );
+    let second = part(
+        &rt,
+        alloc,
+        2,
+        7,
+        [Reply::Done, Reply::Grouped(answers), Reply::Done],
+    );
+    let text = printed(&rt, alloc, first, second);
+    assert!(rt;
+        text.as_slice().ends_with(
+            b"\n2 ok commit 2; none; read-only; commit 3\n2 ok\ncommit 1 by 1 line 3\ncommit 2 by 2 line 8\ncommit 3 by 2 line 8\ncommit 4 by 1 line 2\n"
         )
     );
     Ok(())

@@ -1,5 +1,5 @@
 -- What was read of a source.
-use Rattle.whole_script.proofs.Words.{◌≡◌, ◌≤◌, ◌<◌, refl, ℕ, Bool, true, false, List, ◌++◌, Option, Some, None, IfSome, length, length-append, take, nat_le, nat_lt, sym, ap, subst, ◌∙◌, arith, le-leb, nat_tests, take-append-le, prepend_known, MetEnd, SourceState, Took, MAX_INPUT, Script, script, script_from, pieces, ScriptError, IsWhyOf, HasNoLines, clients_script, to_clients}
+use Rattle.whole_script.proofs.Words.{◌≡◌, ◌≤◌, ◌<◌, refl, ℕ, Bool, true, false, List, ◌++◌, Option, Some, None, IfSome, length, length-append, take, nat_le, nat_lt, sym, ap, subst, ◌∙◌, arith, le-leb, nat_tests, take-append-le, prepend_known, MetEnd, SourceState, Took, MAX_INPUT, Script, script, script_from, pieces, ScriptError, IsWhyOf, HasNoLines}
 use Rattle.whole_script.specs.declared.lines.ScriptError.TheVariants as error
 
 -- bytes behind as many as are read say nothing
@@ -35,8 +35,8 @@ told_of old new bytes took most ended P here = go (nat_lt (length bytes) MAX_INP
 
 -- why no line of the input is run
 pub no_lines : (old new : SourceState) (bytes : List ℕ) → Took old new bytes → length bytes ≤ MAX_INPUT → (length bytes < MAX_INPUT → MetEnd old new bytes) → new.faults ≡ old.faults
-    → (e : ScriptError) → IsWhyOf (clients_script bytes) e → HasNoLines old new e
+    → (e : ScriptError) → IsWhyOf (script bytes) e → HasNoLines old new e
 no_lines old new bytes took most ended passed (error.BadLine bad) why =
-    record { bytes = bytes; took = took; bad_is = why; told = told_of old new bytes took most ended (λ S. (to_clients S).bad ≡ Some bad) why; passed = passed }
+    record { bytes = bytes; took = took; bad_is = why; told = told_of old new bytes took most ended (λ S. S.bad ≡ Some bad) why; passed = passed }
 no_lines old new bytes took most ended passed error.Input why = absurd why
 no_lines old new bytes took most ended passed error.Memory why = passed

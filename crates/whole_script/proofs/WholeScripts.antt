@@ -1,6 +1,5 @@
 -- The lines of a whole script.
-use Rattle.whole_script.proofs.Words.{◌≡◌, ◌≤◌, ◌+◌, ℕ, Bool, List, [], ◌∷◌, ◌++◌, None, Result, Ok, Err, refl, sym, ap, ◌∙◌, subst, length, nat_le, take, append_assoc, take_all, MAX_INPUT, Line, LineError, Parsed, Script, before_script, last_piece, parse_whole, script, script_from, pieces, Gives, SaysFirst, behind, HasNoFeed, one_piece, says-more, script-line, ScriptError, Adds, HaveNoGroup, IsNoGroup, IsWhyOf, Stops, lines_of, to_clients}
-use Rattle.script_model.specs.declared.script.Parsed.TheVariants.{Skip, Line as Says}
+use Rattle.whole_script.proofs.Words.{◌≡◌, ◌≤◌, ◌+◌, ℕ, Bool, List, [], ◌∷◌, ◌++◌, None, Result, Ok, Err, refl, sym, ap, ◌∙◌, subst, length, nat_le, take, append_assoc, take_all, MAX_INPUT, Line, LineError, Parsed, Script, before_script, last_piece, parse_whole, script, script_from, pieces, Gives, SaysFirst, behind, HasNoFeed, one_piece, says-more, script-line, ScriptError, Adds, IsWhyOf, Stops}
 use Rattle.whole_script.specs.declared.lines.ScriptError.TheVariants as error
 use Rattle.whole_script.proofs.LastPieces.{stops}
 
@@ -15,10 +14,9 @@ pub record AreFirst (bytes rest : List ℕ) (number : ℕ) (lines : List (ℕ ×
   pub taken : List ℕ
   pub split : bytes ≡ taken ++ rest
   pub says : SaysFirst taken number lines
-  pub no_group : HaveNoGroup lines
 
 pub none_first : (bytes : List ℕ) → AreFirst bytes bytes 1 []
-none_first bytes = record { taken = []; split = refl; says = λ cut more. refl; no_group = tt }
+none_first bytes = record { taken = []; split = refl; says = λ cut more. refl }
 
 -- the rest, behind them
 pub rest_script : (bytes rest : List ℕ) (number : ℕ) (lines : List (ℕ × Line)) (cut : Bool) → AreFirst bytes rest number lines
@@ -33,42 +31,24 @@ line_script bytes rest line next number lines cut first split none =
     ∙ ap (λ (xs : List ℕ). behind lines (script_from cut number (pieces 10 xs))) split
     ∙ ap (behind lines) (script-line cut number line next none)
 
--- lines of which none is a group change nothing in front
-pub alone_behind : (lines : List (ℕ × Line)) (S : Script) → HaveNoGroup lines → (to_clients (behind lines S)).bad ≡ (to_clients S).bad
-alone_behind [] S all = refl
-alone_behind (line ∷ lines) S all = rw (all.0) (alone_behind lines S all.1)
-
-why_alone : (lines : List (ℕ × Line)) (S : Script) (e : ScriptError) → HaveNoGroup lines → IsWhyOf (to_clients S) e → IsWhyOf (to_clients (behind lines S)) e
-why_alone lines S (error.BadLine bad) all is = alone_behind lines S all ∙ is
-why_alone lines S error.Input all is = is
-why_alone lines S error.Memory all is = is
-
 pub bad_in : (bytes rest line next : List ℕ) (number : ℕ) (lines : List (ℕ × Line)) (cut : Bool) → AreFirst bytes rest number lines → rest ≡ line ++ 10 ∷ next → HasNoFeed line
-    → (parsed : Result Parsed LineError) (e : ScriptError) → Gives parsed (parse_whole line) → Stops number parsed e → IsWhyOf (to_clients (script_from cut 1 (pieces 10 bytes))) e
+    → (parsed : Result Parsed LineError) (e : ScriptError) → Gives parsed (parse_whole line) → Stops number parsed e → IsWhyOf (script_from cut 1 (pieces 10 bytes)) e
 bad_in bytes rest line next number lines cut first split none parsed e given stop =
-    let after : Script = script_from cut (number + 1) (pieces 10 next) in
-    subst (λ (S : Script). IsWhyOf (to_clients S) e) (sym (line_script bytes rest line next number lines cut first split none))
-    (why_alone lines (before_script number (parse_whole line) after) e first.no_group (stops number parsed (parse_whole line) after e given stop))
-
--- one that is no group behind such lines
-more_alone : (lines : List (ℕ × Line)) (number : ℕ) (p : Parsed) → HaveNoGroup lines → IsNoGroup (Ok p) → HaveNoGroup (lines ++ lines_of number p)
-more_alone [] number Skip all alone = tt
-more_alone [] number (Says line) all alone = (alone, tt)
-more_alone (first ∷ lines) number p all alone = (all.0, more_alone lines number p all.1 alone)
+    subst (λ (S : Script). IsWhyOf S e) (sym (line_script bytes rest line next number lines cut first split none))
+    (stops number parsed (parse_whole line) lines (script_from cut (number + 1) (pieces 10 next)) e given stop)
 
 -- one line more
 pub first_more : (bytes rest line next : List ℕ) (number : ℕ) (old new : List (ℕ × Line)) → AreFirst bytes rest number old → rest ≡ line ++ 10 ∷ next → HasNoFeed line
-    → (parsed : Result Parsed LineError) → Gives parsed (parse_whole line) → Adds number parsed old new → IsNoGroup parsed → AreFirst bytes next (number + 1) new
-first_more bytes rest line next number old new first split none (Ok p) given adds alone = record {
+    → (parsed : Result Parsed LineError) → Gives parsed (parse_whole line) → Adds number parsed old new → AreFirst bytes next (number + 1) new
+first_more bytes rest line next number old new first split none (Ok p) given adds = record {
   taken = first.taken ++ (line ++ 10 ∷ []);
   split = first.split ∙ ap (λ (xs : List ℕ). first.taken ++ xs) split ∙ moved first.taken line next;
   says = subst (SaysFirst (first.taken ++ (line ++ 10 ∷ [])) (number + 1)) (sym adds) (says-more first.taken line number old p first.says none given);
-  no_group = subst (λ (l : List (ℕ × Line)). HaveNoGroup l) (sym adds) (more_alone old number p first.no_group alone);
 }
   where
     moved : (xs ys zs : List ℕ) → xs ++ (ys ++ 10 ∷ zs) ≡ (xs ++ (ys ++ 10 ∷ [])) ++ zs
     moved xs ys zs = sym (append_assoc xs (ys ++ 10 ∷ []) zs ∙ ap (λ (ws : List ℕ). xs ++ ws) (append_assoc ys (10 ∷ []) zs))
-first_more bytes rest line next number old new first split none (Err e) given adds alone = absurd adds
+first_more bytes rest line next number old new first split none (Err e) given adds = absurd adds
 
 last_is : (bytes rest : List ℕ) (number : ℕ) (lines : List (ℕ × Line)) (cut : Bool) → AreFirst bytes rest number lines → HasNoFeed rest
     → script_from cut 1 (pieces 10 bytes) ≡ behind lines (last_piece cut number rest)
@@ -80,14 +60,12 @@ pub all_read : (bytes rest : List ℕ) (number : ℕ) (old new added : List (ℕ
 all_read bytes rest number old new added cut first none more last =
     last_is bytes rest number old cut first none ∙ ap (behind old) last ∙ ap (λ (xs : List (ℕ × Line)). let s : Script = record { lines = xs; bad = None } in s) (sym more)
 
-both_alone : (lines added : List (ℕ × Line)) → HaveNoGroup lines → HaveNoGroup added → HaveNoGroup (lines ++ added)
-both_alone [] added all more = more
-both_alone (first ∷ lines) added all more = (all.0, both_alone lines added all.1 more)
-
-pub all_alone : (old new added : List (ℕ × Line)) → new ≡ old ++ added → HaveNoGroup old → HaveNoGroup added → HaveNoGroup new
-all_alone old new added more all others = subst (λ (l : List (ℕ × Line)). HaveNoGroup l) (sym more) (both_alone old added all others)
+why_behind : (lines : List (ℕ × Line)) (S : Script) (e : ScriptError) → IsWhyOf S e → IsWhyOf (behind lines S) e
+why_behind lines S (error.BadLine bad) is = is
+why_behind lines S error.Input is = is
+why_behind lines S error.Memory is = is
 
 pub bad_last : (bytes rest : List ℕ) (number : ℕ) (lines : List (ℕ × Line)) (cut : Bool) → AreFirst bytes rest number lines → HasNoFeed rest
-    → (e : ScriptError) → IsWhyOf (to_clients (last_piece cut number rest)) e → IsWhyOf (to_clients (script_from cut 1 (pieces 10 bytes))) e
+    → (e : ScriptError) → IsWhyOf (last_piece cut number rest) e → IsWhyOf (script_from cut 1 (pieces 10 bytes)) e
 bad_last bytes rest number lines cut first none e why =
-    subst (λ (S : Script). IsWhyOf (to_clients S) e) (sym (last_is bytes rest number lines cut first none)) (why_alone lines (last_piece cut number rest) e first.no_group why)
+    subst (λ (S : Script). IsWhyOf S e) (sym (last_is bytes rest number lines cut first none)) (why_behind lines (last_piece cut number rest) e why)

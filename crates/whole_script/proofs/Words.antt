@@ -1,5 +1,5 @@
 -- The words that the proofs of this crate cite from elsewhere.
-pub use Rattle.std.proofs.Common.{Bool, Err, IfSome, List, None, Ok, Option, Result, Some, [], ap, append_assoc, arith, cond, false, inl, inr, length, length-append, nat_le, nat_lt, refl, subst, sym, take, true, ℕ, ◌++◌, ◌+◌, ◌<◌, ◌∙◌, ◌∷◌, ◌≡◌, ◌≤◌}
+pub use Rattle.std.proofs.Common.{Bool, Err, IfSome, List, None, Ok, Option, Result, Some, [], ap, append_assoc, arith, cond, false, length, length-append, nat_le, nat_lt, refl, subst, sym, take, true, ℕ, ◌++◌, ◌+◌, ◌<◌, ◌∙◌, ◌∷◌, ◌≡◌, ◌≤◌}
 pub use Rattle.std.proofs.lemmas.Bool.{le-leb}
 pub use Rattle.std.proofs.lemmas.Bool.Decides.{nat_tests}
 pub use Rattle.std.proofs.lemmas.List.{take-append-le, take_all}
@@ -15,10 +15,9 @@ pub use Rattle.script_model.specs.declared.script.LineError.{LineError}
 pub use Rattle.script_model.specs.declared.script.Parsed.{Parsed}
 pub use Rattle.script_runner.proofs.Feeds.{one_piece}
 pub use Rattle.script_runner.proofs.Fronts.{says-more, script-line}
-pub use Rattle.script_runner.specs.Lines.{SaysFirst, behind, lines_of}
+pub use Rattle.script_runner.specs.Lines.{SaysFirst, behind}
 pub use Rattle.script_runner.specs.Run.{HasNoFeed}
 pub use Rattle.script_text.specs.Parsing.{Gives}
-pub use Rattle.whole_script.specs.Alone.{HaveNoGroup, clients_script, is_group, to_clients}
-pub use Rattle.whole_script.specs.Parts.{Adds, IsNoGroup, IsWhyOf, Stops}
+pub use Rattle.whole_script.specs.Parts.{Adds, IsWhyOf, Stops}
 pub use Rattle.whole_script.specs.Read.{HasNoLines}
 pub use Rattle.whole_script.specs.declared.lines.ScriptError.{ScriptError}

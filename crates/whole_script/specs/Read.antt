@@ -5,25 +5,23 @@ use Rattle.iso_io.specs.Source.{MetEnd, SourceState, Took}
 use Rattle.script_model.specs.declared.script.BadLine.{BadLine}
 use Rattle.script_model.specs.declared.script.Line.{Line}
 use Rattle.script_model.specs.Script.{script}
-use Rattle.whole_script.specs.Alone.{HaveNoGroup, clients_script}
 use Rattle.whole_script.specs.declared.lines.ScriptError.{ScriptError}
 use Rattle.whole_script.specs.declared.lines.ScriptError.TheVariants as error
 
--- The input was read to its end. It has these lines, no bad one, and no group.
+-- The input was read to its end. It has these lines, and no bad one.
 pub record HasRead (old new : SourceState) (lines : List (ℕ × Line)) : Type 0 where
   pub bytes : List ℕ
   pub took : Took old new bytes
   pub ended : MetEnd old new bytes
   pub lines_are : script bytes ≡ record { lines = lines; bad = None }
-  pub no_group : HaveNoGroup lines
   pub passed : new.faults ≡ old.faults
 
--- The input has this bad line first, where a group is one too.
+-- The input has this bad line first.
 pub record HasBadLine (old new : SourceState) (bad : BadLine) : Type 0 where
   pub bytes : List ℕ
   pub took : Took old new bytes
-  pub bad_is : (clients_script bytes).bad ≡ Some bad
-  pub told : IfSome old.rest (λ all. (clients_script all).bad ≡ Some bad)
+  pub bad_is : (script bytes).bad ≡ Some bad
+  pub told : IfSome old.rest (λ all. (script all).bad ≡ Some bad)
   pub passed : new.faults ≡ old.faults
 
 -- why no line of the input is run

@@ -1,15 +1,13 @@
 // The lines of a whole script.
-ghost use Rattle.std.specs.Prelude.{◌≡◌, ◌<◌, ◌≤◌, [], ◌∷◌, ◌++◌, if◌then◌else◌, false, nat_le, List, ℕ, None, Ok, length, IfErr, IfNone, IfOk, IfSome, OnOk};
+ghost use Rattle.std.specs.Prelude.{◌≡◌, ◌<◌, ◌≤◌, ◌∷◌, ◌++◌, if◌then◌else◌, false, nat_le, List, ℕ, None, length, IfErr, IfNone, IfOk, IfSome, OnOk};
 ghost use Rattle.script_model.specs.declared.script.Line.{Line};
 ghost use Rattle.script_model.specs.Script.{last_piece, script};
 ghost use Rattle.script_runner.specs.Run.{HasNoFeed};
-ghost use Rattle.script_model.specs.declared.script.Parsed.TheVariants.{Line as Says};
-ghost use Rattle.whole_script.specs.Alone.{clients_script, is_group, to_clients, HaveNoGroup};
-ghost use Rattle.whole_script.specs.Parts.{Adds, IsNoGroup, IsWhyOf, Stops};
+ghost use Rattle.whole_script.specs.Parts.{Adds, IsWhyOf, Stops};
 
 use iso_model::{MAX_INPUT, MAX_LINE};
 use memchr::memchr;
-use script_model::{BadLine, Line, LineError, Op, Parsed};
+use script_model::{BadLine, Line, LineError, Parsed};
 use script_text::{parse_line, parse_whole_line};
 use std::alloc::Global;
 
@@ -35,30 +33,6 @@ fn split_line(text: &[u8]) -> Option<(&[u8], &[u8])>
     Some((line, &rest[1..]))
 }
 
-fn is_group(op: &Op) -> bool
-    ensures { result ≡ is_group op.now }
-{
-    matches!(op, Op::Group { .. })
-}
-
-/// Adds a line. A group is a bad line here.
-fn add_line(number: u64, line: Line, lines: &mut Vec<(u64, Line)>) -> Result<(), ScriptError>
-    ensures added { OnOk result (lines.new.items ≡ lines.old.items ++ (number, line) ∷ []) }
-    ensures no_group { OnOk result (is_group line.op ≡ false) }
-    ensures err { IfErr result (λ e. Stops number (Ok (Says line)) e) }
-{
-    if is_group(&line.op) {
-        return Err(ScriptError::BadLine(BadLine {
-            line: number,
-            cause: 2,
-        }));
-    }
-    match lines.push((number, line)) {
-        Ok(()) => Ok(()),
-        Err(_) => Err(ScriptError::Memory),
-    }
-}
-
 /// Adds what a line says, if it says something.
 fn add(
     number: u64,
@@ -66,12 +40,14 @@ fn add(
     lines: &mut Vec<(u64, Line)>,
 ) -> Result<(), ScriptError>
     ensures ok { OnOk result (Adds number parsed lines.old.items lines.new.items) }
-    ensures no_group { OnOk result (IsNoGroup parsed) }
     ensures err { IfErr result (λ e. Stops number parsed e) }
 {
     match parsed {
         Ok(Parsed::Skip) => Ok(()),
-        Ok(Parsed::Line(line)) => add_line(number, line, lines),
+        Ok(Parsed::Line(line)) => match lines.push((number, line)) {
+            Ok(()) => Ok(()),
+            Err(_) => Err(ScriptError::Memory),
+        },
         Err(LineError::Cause(cause)) => Err(ScriptError::BadLine(BadLine {
             line: number,
             cause,
@@ -102,8 +78,8 @@ fn add_last(
     cut: bool,
     lines: &mut Vec<(u64, Line)>,
 ) -> Result<(), ScriptError>
-    ensures ok { OnOk result ((added : List (ℕ × Line)) × (lines.new.items ≡ lines.old.items ++ added) × (last_piece cut number piece.now ≡ record { lines = added; bad = None }) × HaveNoGroup added) }
-    ensures err { IfErr result (λ e. IsWhyOf (to_clients (last_piece cut number piece.now)) e) }
+    ensures ok { OnOk result ((added : List (ℕ × Line)) × (lines.new.items ≡ lines.old.items ++ added) × (last_piece cut number piece.now ≡ record { lines = added; bad = None })) }
+    ensures err { IfErr result (λ e. IsWhyOf (last_piece cut number piece.now) e) }
     ensures uncut { OnOk result (cut ≡ false) }
 {
     if cut {
@@ -118,12 +94,11 @@ fn add_last(
     add(number, parse_line(alloc, piece), lines)
 }
 
-/// The numbered lines of a script, or the first bad one, where a group is one too.
+/// The numbered lines of a script, or the first bad one.
 pub(crate) fn parse_lines(alloc: Global, bytes: &[u8]) -> Result<Vec<(u64, Line)>, ScriptError>
     requires { length bytes.now ≤ MAX_INPUT }
     ensures lines { IfOk result (λ v. script bytes.now ≡ record { lines = v.items; bad = None }) }
-    ensures no_group { IfOk result (λ v. HaveNoGroup v.items) }
-    ensures bad { IfErr result (λ e. IsWhyOf (clients_script bytes.now) e) }
+    ensures bad { IfErr result (λ e. IsWhyOf (script bytes.now) e) }
     ensures whole { OnOk result (length bytes.now < MAX_INPUT) }
 {
     let cut = is_cut(bytes.len());

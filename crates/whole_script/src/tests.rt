@@ -61,9 +61,6 @@ fn the_first_bad_line_is_named(rt: HostRuntime) -> Result<(), Fail> {
     let alloc = rt.alloc();
     assert!(rt; bad(alloc, b"1 begin\n1 jump\n0 end\n")? == Some((2, 2)));
     assert!(rt; bad(alloc, b"1 begin\n1 end\n1 end\r")? == Some((3, 8)));
-    assert!(rt; bad(alloc, b"1 begin\n1 group a b\n1 jump")? == Some((2, 2)));
-    assert!(rt; bad(alloc, b"1 jump\n1 group a")? == Some((1, 2)));
-    assert!(rt; bad(alloc, b"1 group\n1 group a")? == Some((1, 3)));
     Ok(())
 }
 

@@ -1,11 +1,11 @@
-use Rattle.whole_script.proofs.Words.{◌≡◌, ℕ, false, length, nat_le, subst, sym, ◌∙◌, arith, ap, nat_tests, MAX_INPUT, Script, IsWhyOf, to_clients}
+use Rattle.whole_script.proofs.Words.{◌≡◌, ℕ, false, length, nat_le, subst, sym, ◌∙◌, arith, ap, nat_tests, MAX_INPUT, Script, IsWhyOf}
 use Rattle.std.proofs.lemmas.List.{length-append}
-use Rattle.whole_script.proofs.WholeScripts.{all_alone, all_read, bad_in, bad_last, first_more, script_is}
+use Rattle.whole_script.proofs.WholeScripts.{all_read, bad_in, bad_last, first_more, script_is}
 use Rattle.whole_script.proofs.lines.parse_lines.Goals as goal
 
 pub returns-in-Err-clause-bad : goal.returns-in-Err-clause-bad
 returns-in-Err-clause-bad c =
-    subst (λ (S : Script). IsWhyOf (to_clients S) c.in-Err.error) (sym (script_is c.args.bytes.now c.is_cut-cut.result c.requires (sym c.is_cut-cut.ensures)))
+    subst (λ (S : Script). IsWhyOf S c.in-Err.error) (sym (script_is c.args.bytes.now c.is_cut-cut.result c.requires (sym c.is_cut-cut.ensures)))
     (bad_in c.args.bytes.now c.loop-line.rest.now c.in-Some.line.now c.in-Some.next.now c.loop-line.number c.loop-line.lines.items c.is_cut-cut.result c.loop-line.invariant.first c.in-Some.ensures.split
     c.in-Some.ensures.line c.parse_whole_line-parsed.result c.in-Err.error c.parse_whole_line-parsed.ensures c.in-Err.ensures.err)
 
@@ -16,19 +16,14 @@ loop-line-preserved c =
     record {
       count = omega (arith, count, split, length-append {A = ℕ});
       first = first_more c.args.bytes.now c.loop-line.rest.now c.in-Some.line.now c.in-Some.next.now c.loop-line.number c.loop-line.lines.items c.add.new.lines.items c.loop-line.invariant.first
-          c.in-Some.ensures.split c.in-Some.ensures.line c.parse_whole_line-parsed.result c.parse_whole_line-parsed.ensures c.in_default-add.ensures.ok c.in_default-add.ensures.no_group;
+          c.in-Some.ensures.split c.in-Some.ensures.line c.parse_whole_line-parsed.result c.parse_whole_line-parsed.ensures c.in_default-add.ensures.ok;
     }
 
 pub returns-in-Ok-clause-lines : goal.returns-in-Ok-clause-lines
 returns-in-Ok-clause-lines c =
-    let (added, more, last, alone) = c.in-Ok.ensures.ok in
+    let (added, more, last) = c.in-Ok.ensures.ok in
     script_is c.args.bytes.now c.is_cut-cut.result c.requires (sym c.is_cut-cut.ensures)
     ∙ all_read c.args.bytes.now c.loop-line.rest.now c.loop-line.number c.loop-line.lines.items c.add_last.new.lines.items added c.is_cut-cut.result c.loop-line.invariant.first c.in_default.ensures.none more last
-
-pub returns-in-Ok-clause-no_group : goal.returns-in-Ok-clause-no_group
-returns-in-Ok-clause-no_group c =
-    let (added, more, last, alone) = c.in-Ok.ensures.ok in
-    all_alone c.loop-line.lines.items c.add_last.new.lines.items added more c.loop-line.invariant.first.no_group alone
 
 pub returns-in-Ok-clause-whole : goal.returns-in-Ok-clause-whole
 returns-in-Ok-clause-whole c =
@@ -37,6 +32,6 @@ returns-in-Ok-clause-whole c =
 
 pub returns-in-Err-add_last-clause-bad : goal.returns-in-Err-add_last-clause-bad
 returns-in-Err-add_last-clause-bad c =
-    subst (λ (S : Script). IsWhyOf (to_clients S) c.in-Err-add_last.error) (sym (script_is c.args.bytes.now c.is_cut-cut.result c.requires (sym c.is_cut-cut.ensures)))
+    subst (λ (S : Script). IsWhyOf S c.in-Err-add_last.error) (sym (script_is c.args.bytes.now c.is_cut-cut.result c.requires (sym c.is_cut-cut.ensures)))
     (bad_last c.args.bytes.now c.loop-line.rest.now c.loop-line.number c.loop-line.lines.items c.is_cut-cut.result c.loop-line.invariant.first c.in_default.ensures.none c.in-Err-add_last.error
     c.in-Err-add_last.ensures.err)

@@ -1,4 +1,4 @@
-use Rattle.whole_script.proofs.Words.{◌<◌, ℕ, List, length, ap, sym, subst, ◌∙◌, arith, MAX_INPUT, script, IsWhyOf, clients_script}
+use Rattle.whole_script.proofs.Words.{◌<◌, ℕ, List, length, ap, sym, subst, ◌∙◌, arith, MAX_INPUT, script, IsWhyOf}
 use Rattle.whole_script.proofs.Reading.{no_lines}
 use Rattle.whole_script.proofs.read.read_script.Goals as goal
 
@@ -12,7 +12,6 @@ returns-in-Ok-parse_lines-clause-lines g c =
       took = c.in-Ok.ensures.bytes;
       ended = met;
       lines_are = ap script (sym same) ∙ c.in-Ok-parse_lines.ensures.lines;
-      no_group = c.in-Ok-parse_lines.ensures.no_group;
       passed = c.in-Ok.ensures.passed;
     }
 
@@ -21,4 +20,4 @@ returns-clause-why g c =
     let same = c.as_slice.ensures.value in
     no_lines (g.S.Source.state c.args.input.now) (g.S.Source.state c.take_all.new.source) c.in-Ok.bytes.items c.in-Ok.ensures.bytes (omega (arith, c.in-Ok.bytes.ok.0, c.in-Ok.ensures.limit))
     (λ few. c.in-Ok.ensures.ended (omega (arith, c.in-Ok.bytes.ok.0))) c.in-Ok.ensures.passed c.in-Err.error
-    (subst (λ (xs : List ℕ). IsWhyOf (clients_script xs) c.in-Err.error) same c.in-Err.ensures.bad)
+    (subst (λ (xs : List ℕ). IsWhyOf (script xs) c.in-Err.error) same c.in-Err.ensures.bad)
