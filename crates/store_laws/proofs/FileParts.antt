@@ -1,5 +1,5 @@
 -- A call of the hash store or of the file store, as a part of a transaction that calls both in disjoint areas.
-use Rattle.store_laws.proofs.Words.{◌≡◌, ℕ, ◌||◌, Bool, true, false, List, [], ◌∷◌, ◌++◌, Result, Ok, inl, inr, both_ways, or_cases, Area, StoreError, Array, Program, HasEnded, IsLocalCall, Tx, added, First, Second, AreDisjoint, KeyCall, StoreAnswer, in_area, hash_store, WriteWithin}
+use Rattle.store_laws.proofs.Words.{◌≡◌, ℕ, ◌||◌, Bool, true, false, List, [], ◌∷◌, ◌++◌, Result, Ok, inl, inr, both_ways, Area, StoreError, Array, Program, HasEnded, IsLocalCall, Tx, added, First, Second, AreDisjoint, KeyCall, StoreAnswer, in_area, hash_store, WriteWithin}
 use Rattle.std.proofs.lemmas.Bool.{cases_Bool}
 use Rattle.store_model.specs.declared.files.FileAreas.{FileAreas}
 use Rattle.store_model.specs.FileCalls.{Call}

@@ -1,19 +1,17 @@
 -- The calls of the file store write blocks of its areas alone.
-use Rattle.store_laws.proofs.Words.{◌≡◌, ◌∙◌, refl, sym, ap, subst, ℕ, zero, suc, ◌+◌, ◌-◌, ◌<◌, ◌≤◌, ◌&&◌, ◌||◌, Bool, true, false, cond, nat_le, nat_lt, List, [], ◌∷◌, ◌++◌, length, take, Option, Some, None, Result, Ok, Err, arith, inl, inr, and_parts, both_ways, nat_tests, or_cases, length-append, get_or, get_or_past, StoreError, Access, Span, Array, IsIn, Program, Done, Look, LookWhole, Reserve, Store, accesses_of, bytes_in, further_bytes, store_access, then_do, own, put, is_write, is_key, free_list, first_write, get_reads, taken_are, in_area, in_its_area, start_in, StoresIn, whole_run, Tx, added, WriteWithin, all_append, block_at, lowest_free, free_count}
-use Rattle.std.proofs.lemmas.Bool.{cases_Bool, cases_lt, or_left, or_right}
-use Rattle.std.specs.Prelude.{slice_index}
+use Rattle.store_laws.proofs.Words.{◌≡◌, refl, sym, ap, subst, ℕ, zero, suc, ◌+◌, ◌-◌, ◌<◌, ◌&&◌, ◌||◌, Bool, true, false, cond, nat_le, nat_lt, List, [], ◌∷◌, ◌++◌, length, take, Option, Some, None, Result, Ok, Err, arith, inl, inr, and_parts, both_ways, nat_tests, get_or, get_or_past, StoreError, Access, Span, Array, IsIn, Program, Done, Look, LookWhole, Reserve, Store, accesses_of, bytes_in, further_bytes, store_access, then_do, own, put, is_write, is_key, free_list, get_reads, taken_are, in_area, in_its_area, start_in, StoresIn, whole_run, Tx, added, WriteWithin, all_append, block_at, lowest_free, free_count}
+use Rattle.std.proofs.lemmas.Bool.{cases_lt, or_right}
 use Rattle.store_model.proofs.HashAccesses.{first_below}
 use Rattle.store_model.specs.Stores.{answer_of}
 use Rattle.store_model.specs.declared.files.FileAreas.{FileAreas}
-use Rattle.store_model.specs.declared.files.FsError.{FsError}
 use Rattle.store_model.specs.TreeCalls.{del_program, get_program, put_program}
 use Rattle.store_model.specs.FileNodes.{blocks_for, bytes_of, data_count, entries_of, entry_at, is_file, is_handed, is_number, most_bytes, number_of}
-use Rattle.store_model.specs.FileCalls.{Call, at_file, create_at, create_new, create_program, goes_on, in_tree, is_many, numbered, read_program, remove_file, remove_program, remove_writes, rename_found, rename_free, rename_program, with_file, with_new, write_pieces, write_program, write_sized, write_to}
+use Rattle.store_model.specs.FileCalls.{Call, at_file, create_at, create_new, create_program, goes_on, in_tree, is_many, read_program, remove_file, remove_program, remove_writes, rename_found, rename_free, rename_program, with_new, write_pieces, write_program, write_sized, write_to}
 use Rattle.store_model.specs.FileRegion.{AreFileAreas}
 use Rattle.tx_blocks.proofs.Programs.{accesses_then}
 use Rattle.iso_tree.proofs.TreeWrites.{del_program_stores, put_program_stores}
 use Rattle.iso_fs.specs.Ends.{HasRun}
-use Rattle.iso_fs.proofs.FileBlocks.{at_place, place_in}
+use Rattle.iso_fs.proofs.FileBlocks.{place_in}
 use Rattle.iso_fs.proofs.FileReads.{read_reads}
 use Rattle.iso_fs.proofs.Files.{entry_handed, file_parts, handed_is}
 use Rattle.iso_fs.proofs.Removes.{in_range_map}
@@ -37,10 +35,12 @@ module _ (a : FileAreas) where
   done_in r = record { within = λ B. tt }
 
   then_in : {R S : Type 0} (p : Program R) (f : R → Program S) → WritesIn a p → ((r : R) → WritesIn a (f r)) → WritesIn a (then_do p f)
-  then_in p f one each = record { within = λ B.
-      let r = answer_of p B in
-      subst (WriteWithin (file_store a)) (sym (accesses_then p f B))
-      (all_append (λ (x : Access). is_write x ≡ true → in_areas a x.block ≡ true) (accesses_of p B) (accesses_of (f r) (own B (accesses_of p B))) (one.within B) ((each r).within (own B (accesses_of p B)))) }
+  then_in p f one each = record {
+    within = λ B.
+        let r = answer_of p B in
+        subst (WriteWithin (file_store a)) (sym (accesses_then p f B))
+        (all_append (λ (x : Access). is_write x ≡ true → in_areas a x.block ≡ true) (accesses_of p B) (accesses_of (f r) (own B (accesses_of p B))) (one.within B) ((each r).within (own B (accesses_of p B))));
+  }
 
   goes_in : {X Y : Type 0} (next : X → Call Y) → ((x : X) → WritesIn a (next x)) → (r : Result X StoreError) → WritesIn a (goes_on next r)
   goes_in next each (Ok x) = each x

@@ -1,5 +1,5 @@
 -- A program writes in the blocks of a store.
-use Rattle.store_laws.proofs.Words.{◌≡◌, refl, subst, ℕ, Bool, true, false, cond, List, [], ◌∷◌, Option, Some, None, Result, Ok, both_ways, Access, StoreError, Array, put, is_write, own, block_at, AreReads, Done, Look, LookWhole, Program, Reserve, Store, accesses_of, bytes_in, further_bytes, store_access, whole_run, HasEnded, Tx, added, StoresIn, MapStore, SpareRegion, AreApart, WriteWithin}
+use Rattle.store_laws.proofs.Words.{◌≡◌, refl, subst, false, List, [], ◌∷◌, Some, Result, Ok, both_ways, Access, StoreError, Array, put, is_write, own, block_at, AreReads, Done, Look, LookWhole, Program, Reserve, Store, accesses_of, bytes_in, further_bytes, store_access, whole_run, HasEnded, Tx, added, StoresIn, MapStore, SpareRegion, AreApart, WriteWithin}
 
 pub writes_within : {R : Type 0} (s : MapStore) (p : Program R) (A : Array) → StoresIn s.has_block p → WriteWithin s (accesses_of p A)
 writes_within s (Done r) A stores = tt

@@ -1,5 +1,5 @@
 -- The regions of the file store depend on the blocks of its areas alone.
-use Rattle.std.proofs.Common.{◌≡◌, ◌∙◌, sym, ap, subst, ℕ, zero, suc, ◌+◌, ◌<◌, ◌≤◌, ◌||◌, Bool, true, List, Option, Some, None, option_map, length, take, arith, inl, inr}
+use Rattle.std.proofs.Common.{◌≡◌, ◌∙◌, sym, ap, ℕ, ◌+◌, ◌<◌, true, List, Option, Some, None, option_map, length, take, arith}
 use Rattle.std.specs.List.{list_all}
 use Rattle.std.specs.FinMap.{get, same_map, slice_cmp-IsAntisymmetric, nat_cmp-IsAntisymmetric}
 use Rattle.std.specs.Cmp.Lexicographic.{nat_list_cmp_total}
@@ -10,12 +10,12 @@ use Rattle.store_model.specs.declared.files.FileAreas.{FileAreas}
 use Rattle.store_model.specs.Areas.{in_area}
 use Rattle.store_model.specs.Cells.{is_zero}
 use Rattle.store_model.specs.FreeMap.{map_bit}
-use Rattle.store_model.specs.TreeRegion.{IsTreeRegion, tree_map}
-use Rattle.store_model.specs.FileNodes.{is_file, is_number, number_of}
-use Rattle.store_model.specs.FileRegion.{AreFileAreas, AreFileRegions, IsUsed, Uses, content, file_at, files, number_at}
+use Rattle.store_model.specs.TreeRegion.{tree_map}
+use Rattle.store_model.specs.FileNodes.{is_file, number_of}
+use Rattle.store_model.specs.FileRegion.{AreFileAreas, AreFileRegions, Uses, content, file_at, files, number_at}
 use Rattle.store_model.proofs.AreaBlocks.{in_its_area, start_in}
 use Rattle.iso_tree.proofs.TreeBlocks.{map_new, region_new}
-use Rattle.iso_fs.proofs.Files.{handed_is, uses_handed}
+use Rattle.iso_fs.proofs.Files.{uses_handed}
 use Rattle.iso_fs.proofs.Kept.{kept_content, kept_uses, still_uses}
 use Rattle.iso_fs.proofs.Lookups.{files_get}
 use Rattle.store_laws.specs.Files.{file_store, in_areas}
