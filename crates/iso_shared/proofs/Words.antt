@@ -1,5 +1,5 @@
 -- The words that the proofs of this crate cite from elsewhere.
-pub use Rattle.std.proofs.Common.{Bool, Err, IfErr, IfOk, IsSome, IsTrue, List, None, Ok, OnErr, OnOk, Option, Result, Some, [], ap, arith, cond, eq-eqb, false, inl, inr, length, length-append, nat_le, nat_lt, not, refl, replicate, rules, subst, suc, sym, take, true, zero, ℕ, ⊎_elim, ◌&&◌, ◌++◌, ◌+◌, ◌-◌, ◌<◌, ◌==◌, ◌||◌, ◌∙◌, ◌∷◌, ◌≡◌, ◌≢◌, ◌≤◌, ◌⊎◌}
+pub use Rattle.std.proofs.Common.{Bool, Err, IfErr, IfOk, append-nil, IsSome, IsTrue, List, None, Ok, OnErr, OnOk, Option, Result, Some, [], ap, arith, cond, eq-eqb, map, false, inl, inr, length, length-append, nat_le, nat_lt, not, refl, replicate, rules, subst, suc, sym, take, true, zero, ℕ, ⊎_elim, ◌&&◌, ◌++◌, ◌+◌, ◌-◌, ◌<◌, ◌==◌, ◌||◌, ◌∙◌, ◌∷◌, ◌≡◌, ◌≢◌, ◌≤◌, ◌⊎◌}
 pub use Rattle.std.proofs.Math.Seq.{take-length}
 pub use Rattle.std.proofs.lemmas.Bool.{and_parts}
 pub use Rattle.std.proofs.lemmas.Bool.Decides.{nat_tests}
@@ -19,11 +19,13 @@ pub use Rattle.iso_core.proofs.Moments.{shows_world}
 pub use Rattle.iso_core.specs.Calls.{BlamesDisk, IsAmong, IsCheckedOf, IsTx, IsWorkOf, Refuses, Writes}
 pub use Rattle.iso_core.specs.Core.{StandsFor, disk_of}
 pub use Rattle.iso_core.specs.Kept.{bare}
+pub use Rattle.iso_core.specs.Planned.{AreEach, IsMember, bare_end, reply_in}
 pub use Rattle.iso_core.specs.Standing.{Standing, down, is_down, up}
 pub use Rattle.iso_core.specs.declared.answers.Begun.{Begun}
 pub use Rattle.iso_core.specs.declared.answers.Recent.{Recent}
 pub use Rattle.iso_core.specs.declared.answers.Stat.{Stat}
 pub use Rattle.iso_core.specs.declared.core_itself.Core.{Core}
+pub use Rattle.iso_core.specs.declared.group_end.GroupEnd.{GroupEnd}
 pub use Rattle.iso_core.specs.declared.group_end.TheConstants.{MAX_GROUP}
 pub use Rattle.iso_disk.proofs.Moments.{at_end, joined, started, starts_unwritten, weakened}
 pub use Rattle.iso_disk.specs.Disk.{DiskState, IsLawful, LeavesOnly, StaysTold, WritesNothing}
@@ -70,12 +72,13 @@ pub use Rattle.turn_lock.specs.Numbers.{AreFree, AreHeld, IsOut, held_after, is_
 pub use Rattle.turn_lock.specs.declared.view.View.{View}
 pub use Rattle.tx_table.specs.Work.{AreWithin, Doing}
 pub use Rattle.tx_table.specs.declared.rack.PostError.{PostError}
+pub use Rattle.iso_shared.specs.Groups.{ArePaired, IsBack, IsEnd, IsJoined, IsNote, IsNoteOf, IsPartOf, IsTaken, IsWithin, answered, end_of, held_in, made_in, numbers_handed, numbers_in, units_of}
 pub use Rattle.iso_shared.specs.Legal.{Answers, AreLoose, Fits, IsCall, IsGroup, IsLegal, IsOfCore, LegalFrom, MayHaveMade, MayRefuse, MayWantMemory, answer_to, end_answer, ended, ended_by, handed, needed, numbers_at, reply_of, returned, switch_answer, tx_in}
 pub use Rattle.iso_shared.specs.Plain.{CommitsUpTo, IsMemberUpTo, IsReplyUpTo, WasPosted, is_number, takes_out}
-pub use Rattle.iso_shared.specs.Ports.{IsAhead, IsIsolatedAt, IsOwn, IsRecent, IsTxOf, Made, MadeBoth, TookFew, most_steps}
+pub use Rattle.iso_shared.specs.Ports.{IsAhead, IsIsolatedAt, IsOwn, IsRecent, IsSameTx, IsTxOf, Made, MadeAll, MadeBoth, TookFew, most_steps}
 pub use Rattle.iso_shared.specs.Standing.{Came, Holds, IsOn, ShowsSince, StandsAt, faults_of, posting_in, postings, standing_of, start_at, whole, with_lost}
 pub use Rattle.iso_shared.specs.States.{Start, State, after, after_all, after_end, after_fault, after_group, after_refusal, after_sweep, commits_made, group_answers, is_live, is_loose, live_of, lost_commit, lost_commits, member_numbers, member_of, members_of, opened, posting_of, racked, replies_of, state_at, tx_of, txs_of, with_world}
-pub use Rattle.iso_shared.specs.Told.{begin_entry, cause_of, compact_entry, end_entry, entry_of, fetch_entry, numbers_of, post_entry, recent_entry, told_entry, trim_entry, upgrade_entry}
+pub use Rattle.iso_shared.specs.Told.{begin_entry, cause_of, compact_entry, end_entry, ends_at, entry_of, fetch_entry, group_entry, members_at, members_in, numbers_of, wanting_entry, post_entry, recent_entry, told_entry, trim_entry, upgrade_entry}
 pub use Rattle.iso_shared.specs.declared.entry.Call.{Call}
 pub use Rattle.iso_shared.specs.declared.entry.Cause.{Cause}
 pub use Rattle.iso_shared.specs.declared.entry.Entry.{Entry}
@@ -85,3 +88,5 @@ pub use Rattle.iso_shared.specs.declared.entry.MemberEnd.{MemberEnd}
 pub use Rattle.iso_shared.specs.declared.entry.Numbers.{Numbers}
 pub use Rattle.iso_shared.specs.declared.entry.Posting.{Posting}
 pub use Rattle.iso_shared.specs.declared.guarded.Posted.{Posted}
+pub use Rattle.iso_shared.specs.declared.shared.Shared.{Shared}
+pub use Rattle.iso_shared.specs.declared.tx.Tx.{Tx}

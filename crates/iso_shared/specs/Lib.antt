@@ -3,5 +3,6 @@ pub mod Legal
 pub mod Standing
 pub mod Told
 pub mod Ports
+pub mod Groups
 pub mod TestImage
 pub mod Plain

@@ -1,5 +1,6 @@
 -- What ports and transactions are between two calls, and what a call does to their views.
 use Rattle.std.specs.Prelude.{◌≡◌, ℕ, ◌+◌, ◌-◌, ◌<◌, ◌≤◌, true, List, [], ◌∷◌, ◌++◌, length}
+use Rattle.std.specs.List.{AllByRecursion}
 use mathlib.Core.List.{IsPrefix}
 use Rattle.conflict_rule.specs.declared.decision.Checked.{Checked}
 use Rattle.conflict_rule.specs.Decision.{AreNotesAfter, up_to}
@@ -11,7 +12,7 @@ use Rattle.iso_model.specs.Isolation.{IsIsolated}
 use Rattle.tx_table.specs.Work.{Doing}
 use Rattle.turn_lock.specs.declared.lock.TurnLock.{TurnLock}
 use Rattle.turn_lock.specs.declared.view.View.{View}
-use Rattle.turn_lock.specs.Lists.{hit, times}
+use Rattle.turn_lock.specs.Lists.{hit, times, total}
 use Rattle.turn_lock.specs.Lock.{lock_id}
 use Rattle.turn_lock.specs.Pass.{PassOf, view, HasNoTurn}
 use Rattle.iso_shared.specs.declared.entry.Entry.{Entry}
@@ -123,6 +124,15 @@ pub record MadeBoth (A : Start) (v u : View Entry) (e : Entry) (w : View Entry) 
   pub begins : IsPrefix u.seen before
   pub seen : w.seen ≡ before ++ e ∷ []
   pub mine : (p : ℕ) → times p w.mine ≡ times p v.mine + times p u.mine + hit (length before) p
+  pub legal : IsLegal A w.seen
+
+-- the same, where the passes of all of these were joined into that of v before
+pub record MadeAll (A : Start) (v : View Entry) (us : List (View Entry)) (e : Entry) (w : View Entry) : Type 0 where
+  pub before : List Entry
+  pub told : IsPrefix v.seen before
+  pub begins : AllByRecursion (λ u. IsPrefix u.seen before) us
+  pub seen : w.seen ≡ before ++ e ∷ []
+  pub mine : (p : ℕ) → times p w.mine ≡ times p v.mine + total (λ u. times p u.mine) us + hit (length before) p
   pub legal : IsLegal A w.seen
 
 -- so many steps at most, where these entries stood before

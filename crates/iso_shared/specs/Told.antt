@@ -1,10 +1,12 @@
 -- Which entry a call leaves.
-use Rattle.std.specs.Prelude.{ℕ, List, Result, Ok, Err, Option, option_map}
+use Rattle.std.specs.Prelude.{ℕ, List, Result, Ok, Err, Option, map, option_map, unwrap_or}
 use Rattle.iso_core.specs.declared.answers.Begun.{Begun}
 use Rattle.iso_core.specs.declared.answers.Recent.{Recent}
 use Rattle.iso_core.specs.declared.answers.Stat.{Stat}
+use Rattle.iso_core.specs.declared.group_end.GroupEnd.{GroupEnd}
 use Rattle.iso_model.specs.declared.access.Access.{Access}
 use Rattle.iso_model.specs.declared.access.EndReply.{EndReply}
+use Rattle.iso_model.specs.declared.access.GroupReply.TheVariants as member
 use Rattle.iso_model.specs.declared.access.Mode.{Mode}
 use Rattle.iso_model.specs.declared.core_error.CoreError.{CoreError}
 use Rattle.iso_model.specs.declared.core_error.CoreError.TheVariants as error
@@ -17,9 +19,12 @@ use Rattle.iso_shared.specs.declared.entry.Cause.{Cause}
 use Rattle.iso_shared.specs.declared.entry.Cause.TheVariants as cause
 use Rattle.iso_shared.specs.declared.entry.Entry.{Entry}
 use Rattle.iso_shared.specs.declared.entry.Entry.TheVariants as entry
+use Rattle.iso_shared.specs.declared.entry.Member.{Member}
+use Rattle.iso_shared.specs.declared.entry.MemberEnd.{MemberEnd}
 use Rattle.iso_shared.specs.declared.entry.Numbers.{Numbers}
 use Rattle.iso_shared.specs.declared.entry.Posting.{Posting}
 use Rattle.iso_shared.specs.declared.guarded.Posted.{Posted}
+use Rattle.iso_shared.specs.declared.tx.Tx.{Tx}
 use Rattle.iso_shared.specs.declared.told.Told.{Told}
 use Rattle.iso_shared.specs.declared.told.Told.TheVariants as told
 use Rattle.iso_shared.specs.Standing.{posting_in}
@@ -52,6 +57,23 @@ fetch_entry before now tx block bytes r = entry_of before now (call.Fetch tx blo
 abbrev pub end_entry : (before now : ℕ) → (tx : ℕ) → List Access → Result EndReply CoreError → Entry
 end_entry before now tx accesses r = entry_of before now (call.End tx accesses) (λ reply. entry.End tx accesses reply) r
 
+-- the members that the core was handed, and how each of them ended
+abbrev pub members_at : List GroupEnd → List Member
+members_at ends = map (λ g. record { number = g.tx; accesses = g.work.accesses }) ends
+
+abbrev pub ends_at : List GroupEnd → List MemberEnd
+ends_at ends = map (λ g. record { number = g.tx; accesses = g.work.accesses; reply = unwrap_or g.reply member.ReadOnly }) ends
+
+abbrev pub group_entry : (before now : ℕ) → List GroupEnd → Result (Unit {0}) CoreError → Entry
+group_entry before now ends r = entry_of before now (call.EndGroup (members_at ends)) (λ done. entry.EndGroup (ends_at ends)) r
+
+-- transactions as members of a group, and the entry of one that is refused before the core was asked
+abbrev pub members_in : {D O : Type 0} → List (Tx D O) → List Member
+members_in group = map (λ t. record { number = t.number; accesses = t.work.accesses }) group
+
+abbrev pub wanting_entry : {D O : Type 0} → List (Tx D O) → CoreError → Entry
+wanting_entry group e = entry.Refused (call.EndGroup (members_in group)) (cause_of 0 0 e)
+
 abbrev pub trim_entry : (before now : ℕ) → Result ℕ CoreError → Entry
 trim_entry before now r = entry_of before now call.Trim (λ n. entry.Trim n) r
 
@@ -75,6 +97,7 @@ abbrev pub told_entry : (before now : ℕ) → Told → Entry
 told_entry before now (told.Begin named r) = begin_entry before now named r
 told_entry before now (told.Fetch tx block bytes r) = fetch_entry before now tx block bytes.now r
 told_entry before now (told.End tx work r) = end_entry before now tx work.now.accesses r
+told_entry before now (told.EndGroup ends r) = group_entry before now ends.now r
 told_entry before now (told.Abort tx) = entry.Abort tx
 told_entry before now (told.Trim r) = trim_entry before now r
 told_entry before now (told.Compact r) = compact_entry before now r

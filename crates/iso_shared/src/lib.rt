@@ -4,14 +4,17 @@
 mod ahead;
 mod ending;
 mod entry;
+mod grouping;
 mod guarded;
 mod labels;
 mod laws;
+mod members;
 mod shared;
 mod told;
 mod transactions;
 mod tx;
 mod upkeep;
+mod works;
 
 pub use entry::{Call, Cause, Entry, Member, MemberEnd, Numbers, Posting};
 pub use guarded::{Guarded, Origin, Posted};

@@ -1,7 +1,7 @@
 // What a call did, for contracts alone: it tells which entry the call leaves.
 
 use crate::guarded::Posted;
-use iso_core::{Begun, Recent, Stat};
+use iso_core::{Begun, GroupEnd, Recent, Stat};
 use iso_model::{CoreError, EndReply, Label, Mode};
 use std::snapshot::Snapshot;
 use tx_table::{PostError, Work};
@@ -12,6 +12,7 @@ pub(crate) enum Told<'a> {
     Begin(Option<Mode>, Result<Begun, CoreError>),
     Fetch(u64, u32, &'a [u8], Result<(), CoreError>),
     End(u64, &'a Work, Result<EndReply, CoreError>),
+    EndGroup(&'a [GroupEnd], Result<(), CoreError>),
     Abort(u64),
     Trim(Result<u64, CoreError>),
     Compact(Result<u64, CoreError>),

@@ -4,6 +4,8 @@
 #[cfg(test)]
 mod answer_tests;
 #[cfg(test)]
+mod group_tests;
+#[cfg(test)]
 mod refusal_tests;
 #[cfg(test)]
 mod tests;

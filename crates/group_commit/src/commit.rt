@@ -1,0 +1,81 @@
+// A group of those transactions that were found under labels.
+ghost use Rattle.std.specs.Prelude.{◌≡◌, ◌⊎◌, ◌<◌, ◌≤◌, is_some, length, map, IfErr, IfOk};
+ghost use Rattle.iso_model.specs.declared.core_error.CoreError.TheVariants.{Disk as OfDisk, Down as OfDown, Memory as OfMemory};
+ghost use Rattle.iso_shared.specs.Ports.{IsPort, port_view};
+ghost use Rattle.group_commit.specs.Groups.{AreMembers, AreTxs, HasEnded, HasGrouped, KnowsAll, found_in, marks_of, units_all};
+
+use crate::aborts::{abort_all, abort_found};
+use crate::answers::spread_all;
+use crate::members::{Room, gather, make_room};
+use iso_disk::Disk;
+use iso_model::{CoreError, LabelReplies, ReplyList};
+use iso_shared::{Origin, Port, Shared, Tx};
+use std::alloc::Global;
+use std::sync::Wait;
+
+/// Ends a group in one turn. Those that are handed back are aborted.
+fn end_all<D: Disk + Drop, O: Origin, R: Wait>(
+    rt: &R,
+    shared: &Shared<D, O>,
+    port: &mut Port<D, O>,
+    group: Vec<Tx<D, O>>,
+) -> Result<ReplyList, CoreError>
+    requires port { IsPort shared.now port.old }
+    requires group { AreTxs shared.now O.start group.items }
+    requires some { 0 < length group.items }
+    requires most { length group.items ≤ 16 }
+    ensures port { IsPort shared.now port.new }
+    ensures units { (port_view port.new).units ≡ units_all (port_view port.old) group.items }
+    ensures did { HasEnded O.start (port_view port.old) group.items result (port_view port.new) }
+    ensures only { IfErr result (λ e. (e ≡ OfDown) ⊎ (e ≡ OfDisk) ⊎ (e ≡ OfMemory)) }
+    ensures told { KnowsAll group.items (port_view port.new).seen }
+{
+    match shared.end_group(rt, port, group) {
+        Ok(replies) => Ok(replies),
+        Err((error, back)) => match back {
+            None => Err(error),
+            Some(txs) => {
+                abort_all(rt, shared, port, txs);
+                Err(error)
+            }
+        },
+    }
+}
+
+/// Ends the transactions that were found under labels as one group, in one turn, and answers each place: none where nothing
+/// was found. Where no transaction was found at all it makes no entry. After `Down` and `Memory` they are aborted, and after
+/// `Disk` they are gone; whatever comes, the port has their units then.
+pub fn commit_group<D: Disk + Drop, O: Origin, R: Wait>(
+    rt: &R,
+    alloc: Global,
+    shared: &Shared<D, O>,
+    port: &mut Port<D, O>,
+    members: Vec<Option<Tx<D, O>>>,
+) -> Result<LabelReplies, CoreError>
+    requires port { IsPort shared.now port.old }
+    requires members { AreMembers shared.now O.start members.items }
+    requires most { length members.items ≤ 16 }
+    ensures port { IsPort shared.now port.new }
+    ensures units { (port_view port.new).units ≡ units_all (port_view port.old) (found_in members.items) }
+    ensures did { HasGrouped O.start (port_view port.old) members.items result (port_view port.new) }
+    ensures places { IfOk result (λ told. map is_some told ≡ marks_of members.items) }
+    ensures only { IfErr result (λ e. (e ≡ OfDown) ⊎ (e ≡ OfDisk) ⊎ (e ≡ OfMemory)) }
+    ensures told { KnowsAll (found_in members.items) (port_view port.new).seen }
+{
+    let Ok(room) = make_room(alloc, members.len() as u32) else {
+        abort_found(rt, shared, port, members);
+        return Err(CoreError::Memory);
+    };
+    let Room {
+        mut group,
+        mut marks,
+        told,
+    } = room;
+    gather(members, &mut group, &mut marks);
+    if group.is_empty() {
+        group.destroy_empty();
+        return Ok(spread_all(marks.as_slice(), &[], told));
+    }
+    let replies = end_all(rt, shared, port, group)?;
+    Ok(spread_all(marks.as_slice(), replies.as_slice(), told))
+}

@@ -1,0 +1,11 @@
+//! Transactions that end as a group: those that were found under labels, with an answer for each label.
+#![tactic(auto)]
+
+mod aborts;
+mod answers;
+mod commit;
+mod members;
+#[cfg(test)]
+mod tests;
+
+pub use commit::commit_group;

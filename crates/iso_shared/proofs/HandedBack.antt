@@ -1,0 +1,223 @@
+-- What a group leaves of its members: notes, or the same transactions again.
+use Rattle.iso_shared.proofs.Words.{◌≡◌, ℕ, ◌+◌, ◌<◌, ◌≤◌, List, [], ◌∷◌, ◌++◌, length, map, refl, sym, ap, ◌∙◌, subst, suc, arith, AllByRecursion, false, View, times, times_append, hit, length-map, prefix_more, prefix_trans, Doing, Entry, GroupEnd, GroupReply, Member, MemberEnd, Shared, Tx, ArePaired, IsBack, IsJoined, IsNote, IsNoteOf, IsPartOf, IsSameTx, IsTaken, Made, MadeAll, answered, bare_end, end_of, ends_at, held_in, made_in, members_at, members_in, numbers_in, replies_of, Checked, IsAhead, IsLegal, IsOwn, Start, AreDistinct, AreHeld, hit_same, state_at, units_of, unwrap_or}
+use mathlib.Core.List.{IsPrefix}
+use Rattle.iso_model.specs.declared.access.GroupReply.TheVariants as member
+use Rattle.turn_lock.specs.Lists.{total}
+use Rattle.iso_shared.specs.Ports.{IsTx, tx_view}
+use Rattle.iso_shared.proofs.Joined.{note_on}
+use Rattle.iso_shared.proofs.Mades.{ahead_on, own_on}
+use Rattle.iso_shared.proofs.Ends.{ahead_same, on_same, own_same}
+use Rattle.iso_shared.proofs.Holding.{distinct_by, held_by, times_held}
+
+pub made_seen : (A : Start) (v w : View Entry) (e : Entry) → Made A v v e w → IsPrefix v.seen w.seen
+made_seen A v w e m = subst (λ l. IsPrefix v.seen l) (sym m.seen) (prefix_more v.seen m.before (e ∷ []) m.begins)
+
+pub same_many : (last ends : List GroupEnd) → map bare_end last ≡ map bare_end ends → length last ≡ length ends
+same_many last ends same = sym (length-map last bare_end) ∙ ap (λ (l : List GroupEnd). length l) same ∙ length-map ends bare_end
+
+-- members with the answers that they were given
+pub answered_is : (ends : List GroupEnd) → answered (members_at ends) (replies_of (ends_at ends)) ≡ ends_at ends
+answered_is [] = refl
+answered_is (g ∷ ends) =
+    let first : MemberEnd = record { number = g.tx; accesses = g.work.accesses; reply = unwrap_or g.reply member.ReadOnly } in
+    ap (λ (l : List MemberEnd). first ∷ l) (answered_is ends)
+
+pub as_many : (ends : List GroupEnd) → length (replies_of (ends_at ends)) ≡ length (members_at ends)
+as_many [] = refl
+as_many (g ∷ ends) = ap suc (as_many ends)
+
+pub members_many_in : {D O : Type 0} → (group : List (Tx D O)) → length (members_in group) ≡ length group
+members_many_in [] = refl
+members_many_in (t ∷ group) = ap suc (members_many_in group)
+
+module _ {D O : Type 0} where
+  taken_note : (s : Shared D O) (xs : List Entry) (t u : Tx D O) → IsTaken t u → IsNote s xs t → IsNote s xs u
+  taken_note s xs t u taken n = subst (λ p. IsNote s xs (record u { pass = p })) (sym taken.pass) (record { lock = n.lock; seen_is = n.seen_is; bare = n.bare })
+
+  -- notes stay where works are taken
+  pub joined_notes : (s : Shared D O) (A : Start) (xs ys : List Entry) (ts : List (Tx D O)) → IsPrefix xs ys → AllByRecursion (IsJoined s A xs) ts → AllByRecursion (IsNote s ys) ts
+  joined_notes s A xs ys [] p all = tt
+  joined_notes s A xs ys (t ∷ ts) p all = (note_on s A xs ys t p all.0.note, joined_notes s A xs ys ts p all.1)
+
+  pub taken_notes : (s : Shared D O) (xs : List Entry) (ts us : List (Tx D O)) → ArePaired IsTaken ts us → AllByRecursion (IsNote s xs) ts → AllByRecursion (IsNote s xs) us
+  taken_notes s xs [] [] pairs all = tt
+  taken_notes s xs [] (u ∷ us) pairs all = absurd pairs
+  taken_notes s xs (t ∷ ts) [] pairs all = absurd pairs
+  taken_notes s xs (t ∷ ts) (u ∷ us) pairs all = (taken_note s xs t u pairs.0 all.0, taken_notes s xs ts us pairs.1 all.1)
+
+  same_tx : (t : Tx D O) → IsSameTx t t
+  same_tx t = record { number = refl; work = refl; checked = refl }
+
+  pub all_same : (ts : List (Tx D O)) → ArePaired IsSameTx ts ts
+  all_same [] = tt
+  all_same (t ∷ ts) = (same_tx t, all_same ts)
+
+  given_back : (t u w : Tx D O) (e : GroupEnd) → IsTaken t u → IsTaken u w → w.work ≡ e.work → bare_end e ≡ bare_end (end_of t) → IsSameTx t w
+  given_back t u w e first second work same =
+      let bare : (let d : Doing = record w.work { settled = false } in d) ≡ (let d : Doing = record t.work { settled = false } in d) =
+      ap (λ (d : Doing). let x : Doing = record d { settled = false } in x) work ∙ ap (λ (m : GroupEnd). m.work) same in
+      record { number = second.number ∙ first.number; work = λ i. record (bare i) { settled = w.work.settled }; checked = second.checked ∙ first.checked }
+
+  -- works that are back are those that were taken, but for how far they are settled
+  pub back_same : (ts us ws : List (Tx D O)) (es : List GroupEnd) → ArePaired IsTaken ts us → ArePaired IsTaken us ws → ArePaired (λ (e : GroupEnd) (w : Tx D O). w.work ≡ e.work) es ws
+      → map bare_end es ≡ map bare_end (map end_of ts) → ArePaired IsSameTx ts ws
+  back_same [] [] [] es first second works same = tt
+  back_same [] [] (w ∷ ws) es first second works same = absurd second
+  back_same [] (u ∷ us) ws es first second works same = absurd first
+  back_same (t ∷ ts) [] ws es first second works same = absurd first
+  back_same (t ∷ ts) (u ∷ us) [] es first second works same = absurd second
+  back_same (t ∷ ts) (u ∷ us) (w ∷ ws) [] first second works same = absurd works
+  back_same (t ∷ ts) (u ∷ us) (w ∷ ws) (e ∷ es) first second works same =
+      let head : bare_end e ≡ bare_end (end_of t) = cc same in
+      let tail : map bare_end es ≡ map bare_end (map end_of ts) = cc same in
+      (given_back t u w e first.0 second.0 works.0 head, back_same ts us ws es first.1 second.1 works.1 tail)
+
+  pub taken_then : (ts us ws : List (Tx D O)) → ArePaired IsTaken ts us → ArePaired IsTaken us ws → ArePaired IsTaken ts ws
+  taken_then [] [] [] first second = tt
+  taken_then [] [] (w ∷ ws) first second = absurd second
+  taken_then [] (u ∷ us) ws first second = absurd first
+  taken_then (t ∷ ts) [] ws first second = absurd first
+  taken_then (t ∷ ts) (u ∷ us) [] first second = absurd second
+  taken_then (t ∷ ts) (u ∷ us) (w ∷ ws) first second =
+      (record { pass = second.0.pass ∙ first.0.pass; number = second.0.number ∙ first.0.number; checked = second.0.checked ∙ first.0.checked }, taken_then ts us ws first.1 second.1)
+
+  pub pairs_many : (P : Tx D O → Tx D O → Type 0) (ts us : List (Tx D O)) → ArePaired P ts us → length us ≡ length ts
+  pairs_many P [] [] pairs = refl
+  pairs_many P [] (u ∷ us) pairs = absurd pairs
+  pairs_many P (t ∷ ts) [] pairs = absurd pairs
+  pairs_many P (t ∷ ts) (u ∷ us) pairs = ap suc (pairs_many P ts us pairs.1)
+
+-- ---- the whole call
+
+part_of_total : {D O : Type 0} → (p : ℕ) (ts : List (Tx D O)) → total (λ (u : View Entry). times p u.mine) (map tx_view ts) ≡ made_in p ts
+part_of_total p [] = refl
+part_of_total p (t ∷ ts) = let rest = part_of_total p ts in omega (arith, rest)
+
+begins_on : (us : List (View Entry)) (xs ys : List Entry) → IsPrefix xs ys → AllByRecursion (λ (u : View Entry). IsPrefix u.seen xs) us → AllByRecursion (λ (u : View Entry). IsPrefix u.seen ys) us
+begins_on [] xs ys p all = tt
+begins_on (u ∷ us) xs ys p all = (prefix_trans u.seen xs ys all.0 p, begins_on us xs ys p all.1)
+
+-- v is the port before the call, m after the joins, w after its entry, and x after the call
+pub made_all : {D O : Type 0} → (A : Start) (v m w x : View Entry) (ts : List (Tx D O)) (e : Entry) → IsPrefix v.seen m.seen → AllByRecursion (λ (u : View Entry). IsPrefix u.seen m.seen) (map tx_view ts)
+    → ((p : ℕ) → times p m.mine ≡ times p v.mine + made_in p ts) → Made A m m e w → x.seen ≡ w.seen → ((p : ℕ) → times p x.mine ≡ times p w.mine) → MadeAll A v (map tx_view ts) e x
+made_all A v m w x ts e told begins mine made seen stays = record {
+  before = made.before;
+  told = prefix_trans v.seen m.seen made.before told made.told;
+  begins = begins_on (map tx_view ts) m.seen made.before made.told begins;
+  seen = seen ∙ made.seen;
+  mine = λ p.
+      let a = stays p in
+      let b : times p w.mine ≡ times p (m.mine ++ length made.before ∷ []) = ap (times p) made.mine in
+      let c = times_append p m.mine (length made.before ∷ []) in
+      let d = mine p in
+      let f = part_of_total p ts in
+      omega (arith, a, b, c, d, f);
+  legal = subst (λ (l : List Entry). IsLegal A l) (sym seen) made.legal;
+}
+
+module _ {D O : Type 0} (s : Shared D O) (A : Start) where
+  pub joined_all : (seen : List Entry) (ts us : List (Tx D O)) → ArePaired (IsNoteOf s A seen) ts us → AllByRecursion (IsJoined s A seen) us
+  joined_all seen [] [] pairs = tt
+  joined_all seen [] (u ∷ us) pairs = absurd pairs
+  joined_all seen (t ∷ ts) [] pairs = absurd pairs
+  joined_all seen (t ∷ ts) (u ∷ us) pairs = (pairs.0.joined, joined_all seen ts us pairs.1)
+
+  pub told_all : (seen : List Entry) (ts us : List (Tx D O)) → ArePaired (IsNoteOf s A seen) ts us → AllByRecursion (λ (u : View Entry). IsPrefix u.seen seen) (map tx_view ts)
+  told_all seen [] [] pairs = tt
+  told_all seen [] (u ∷ us) pairs = absurd pairs
+  told_all seen (t ∷ ts) [] pairs = absurd pairs
+  told_all seen (t ∷ ts) (u ∷ us) pairs = (pairs.0.told, told_all seen ts us pairs.1)
+
+  pub noted_members : (seen : List Entry) (ts us : List (Tx D O)) → ArePaired (IsNoteOf s A seen) ts us → members_in us ≡ members_in ts
+  noted_members seen [] [] pairs = refl
+  noted_members seen [] (u ∷ us) pairs = absurd pairs
+  noted_members seen (t ∷ ts) [] pairs = absurd pairs
+  noted_members seen (t ∷ ts) (u ∷ us) pairs =
+      let rest = noted_members seen ts us pairs.1 in
+      λ i. (let m : Member = record { number = pairs.0.number i; accesses = (pairs.0.work i).accesses } in m) ∷ rest i
+
+  pub noted_numbers : (seen : List Entry) (ts us : List (Tx D O)) → ArePaired (IsNoteOf s A seen) ts us → numbers_in us ≡ numbers_in ts
+  noted_numbers seen [] [] pairs = refl
+  noted_numbers seen [] (u ∷ us) pairs = absurd pairs
+  noted_numbers seen (t ∷ ts) [] pairs = absurd pairs
+  noted_numbers seen (t ∷ ts) (u ∷ us) pairs = let rest = noted_numbers seen ts us pairs.1 in λ i. pairs.0.number i ∷ rest i
+
+  pub noted_many : (seen : List Entry) (ts us : List (Tx D O)) → ArePaired (IsNoteOf s A seen) ts us → length us ≡ length ts
+  noted_many seen [] [] pairs = refl
+  noted_many seen [] (u ∷ us) pairs = absurd pairs
+  noted_many seen (t ∷ ts) [] pairs = absurd pairs
+  noted_many seen (t ∷ ts) (u ∷ us) pairs = ap suc (noted_many seen ts us pairs.1)
+
+  pub parts_many : (seen : List Entry) (ts us : List (Tx D O)) → ArePaired (IsPartOf s seen) ts us → length us ≡ length ts
+  parts_many seen [] [] pairs = refl
+  parts_many seen [] (u ∷ us) pairs = absurd pairs
+  parts_many seen (t ∷ ts) [] pairs = absurd pairs
+  parts_many seen (t ∷ ts) (u ∷ us) pairs = ap suc (parts_many seen ts us pairs.1)
+
+  pub same_numbers : (ts us : List (Tx D O)) → ArePaired IsSameTx ts us → numbers_in us ≡ numbers_in ts
+  same_numbers [] [] pairs = refl
+  same_numbers [] (u ∷ us) pairs = absurd pairs
+  same_numbers (t ∷ ts) [] pairs = absurd pairs
+  same_numbers (t ∷ ts) (u ∷ us) pairs = let rest = same_numbers ts us pairs.1 in λ i. pairs.0.number i ∷ rest i
+
+  -- each has a unit at least
+  pub many_units : (ts : List (Tx D O)) → AllByRecursion (IsTx s A) ts → length ts ≤ units_of ts
+  many_units [] all = omega arith
+  many_units (t ∷ ts) all = let rest = many_units ts all.1 in let one = all.0.0.2 in omega (arith, rest, one)
+
+  numbers_held : (ts : List (Tx D O)) → AllByRecursion (IsTx s A) ts → AllByRecursion (λ (t : Tx D O). 0 < times t.number t.pass.me.0.holds) ts
+  numbers_held [] all = tt
+  numbers_held (t ∷ ts) all = (all.0.1.held, numbers_held ts all.1)
+
+  -- the port holds the numbers of the members, which are different ones
+  pub members_held : (ts : List (Tx D O)) (old new : List ℕ) → AllByRecursion (IsTx s A) ts → 0 < length ts → ((n : ℕ) → times n new ≡ times n old + held_in n ts) → (0 < length ts → (n : ℕ) → times n new ≤ 1)
+      → AreHeld (numbers_in ts) new × AreDistinct (numbers_in ts)
+  members_held ts old new all some sum alone =
+      let each = times_held (λ (t : Tx D O). t.number) (λ (t : Tx D O). t.pass.me.0.holds) ts (numbers_held ts all) in (
+        held_by (numbers_in ts) new (λ n. let a = each n in let b = sum n in omega (arith, a, b)),
+        distinct_by (numbers_in ts) (λ n. let a = each n in let b = sum n in let one = alone some n in omega (arith, a, b, one)),
+      )
+
+  is_back : (mid seen : List Entry) (t u w x : Tx D O) → IsPrefix mid seen → IsNoteOf s A mid t u → IsSameTx u w → IsPartOf s seen w x → IsBack s A seen t x
+  is_back mid seen t u w x p noted same part =
+      let work : x.work ≡ (let d : Doing = record u.work { settled = x.work.settled } in d) = part.work ∙ same.work ∙ (λ i. record u.work { settled = (sym part.work i).settled }) in
+      let number : x.number ≡ u.number = part.number ∙ same.number in
+      let checked : x.checked ≡ u.checked = part.checked ∙ same.checked in
+      let S = state_at A seen in
+      let own = own_same S u.number u.work x.work work (own_on A mid seen u.number u.work p noted.joined.own) in
+      let ahead = ahead_same S u.work x.work u.checked work (ahead_on A mid seen u.work u.checked p noted.joined.ahead) in
+      let one : times x.number (w.number ∷ []) ≡ 1 = let h = hit_same w.number x.number (sym part.number) in omega (arith, h) in
+      let held : times x.number x.pass.me.0.holds ≡ times x.number (w.number ∷ []) = ap (times x.number) part.has.1 in record {
+        tx = (
+          part.lock,
+          record {
+            held = omega (arith, held, one);
+            on = on_same A.world.geometry u.work x.work work noted.joined.on;
+            own = subst (λ (l : List Entry). IsOwn (state_at A l) x.number x.work) (sym part.seen_is) (subst (λ (n : ℕ). IsOwn S n x.work) (sym number) own);
+            ahead = subst (λ (l : List Entry). IsAhead (state_at A l) x.work x.checked) (sym part.seen_is) (subst (λ (k : Checked). IsAhead S x.work k) (sym checked) ahead);
+          },
+        );
+        same = record { number = number ∙ noted.number; work = work ∙ (λ i. record (noted.work i) { settled = x.work.settled }); checked = checked ∙ noted.checked };
+        seen_is = part.seen_is;
+        has = (part.has.0, part.has.1 ∙ ap (λ (n : ℕ). n ∷ []) (sym part.number), part.has.2);
+      }
+
+  pub back_all : (mid seen : List Entry) (ts us ws xs : List (Tx D O)) → IsPrefix mid seen → ArePaired (IsNoteOf s A mid) ts us → ArePaired IsSameTx us ws → ArePaired (IsPartOf s seen) ws xs → ArePaired (IsBack s A seen) ts xs
+  back_all mid seen [] [] [] [] p first second third = tt
+  back_all mid seen [] [] [] (x ∷ xs) p first second third = absurd third
+  back_all mid seen [] [] (w ∷ ws) xs p first second third = absurd second
+  back_all mid seen [] (u ∷ us) ws xs p first second third = absurd first
+  back_all mid seen (t ∷ ts) [] ws xs p first second third = absurd first
+  back_all mid seen (t ∷ ts) (u ∷ us) [] xs p first second third = absurd second
+  back_all mid seen (t ∷ ts) (u ∷ us) (w ∷ ws) [] p first second third = absurd third
+  back_all mid seen (t ∷ ts) (u ∷ us) (w ∷ ws) (x ∷ xs) p first second third = (is_back mid seen t u w x p first.0 second.0 third.0, back_all mid seen ts us ws xs p first.1 second.1 third.1)
+
+  -- those that are handed back are transactions of the device again, with a unit each
+  pub back_are : (seen : List Entry) (ts xs : List (Tx D O)) → ArePaired (IsBack s A seen) ts xs → AllByRecursion (IsTx s A) xs × (units_of xs ≡ length ts)
+  back_are seen [] [] pairs = (tt, refl)
+  back_are seen [] (x ∷ xs) pairs = absurd pairs
+  back_are seen (t ∷ ts) [] pairs = absurd pairs
+  back_are seen (t ∷ ts) (x ∷ xs) pairs =
+      let rest = back_are seen ts xs pairs.1 in
+      let one = pairs.0.has.2 in
+      ((pairs.0.tx, rest.0), omega (arith, rest.1, one))

@@ -1,0 +1,37 @@
+use Rattle.iso_shared.proofs.Words.{◌≡◌, refl, sym, ap, subst, arith, ◌+◌, times, View, IsNote}
+use mathlib.Core.List.{IsPrefix}
+use Rattle.iso_shared.proofs.Joined.{holds_both}
+use Rattle.iso_shared.proofs.Mades.{ahead_on, own_on}
+use Rattle.iso_shared.proofs.shared.Shared.join_member.Goals as goal
+
+pub returns-clause-holds : goal.returns-clause-holds
+returns-clause-holds g c n =
+    let old = c.args.port.now.pass.me.0 in
+    let new = c.join.new.pass.me.0 in
+    subst (λ p. times n new.holds ≡ times n old.holds + times n p.me.0.holds) c.replace-pass.ensures.value
+    (holds_both n old c.split-note.new.pass.me.0 c.replace-pass.result.me.0 new (ap (λ (v : View _). v.holds) c.split-note.ensures.kept) c.join.ensures.both)
+
+pub returns-clause-tx : goal.returns-clause-tx
+returns-clause-tx g c =
+    let A = g.O.Origin.start in
+    let t = c.args.tx.now in
+    let seen = c.join.new.pass.me.0.seen in
+    let told : IsPrefix t.pass.me.0.seen seen = subst (λ p. IsPrefix p.me.0.seen seen) c.replace-pass.ensures.value c.join.ensures.seen.1 in
+    let begins : IsPrefix c.args.port.now.pass.me.0.seen seen = subst (λ (v : View _). IsPrefix v.seen seen) c.split-note.ensures.kept c.join.ensures.seen.0 in
+    let given = c.split-note.ensures.given in record {
+      joined = record {
+        note = subst (λ p. IsNote c.args.self.now seen (record t { pass = p })) (sym c.replace-pass.ensures.after) (record {
+          lock = c.split-note.ensures.new;
+          seen_is = subst (λ (v : View _). IsPrefix v.seen seen) (sym given) begins;
+          bare = (ap (λ (v : View _). v.mine) given, ap (λ (v : View _). v.holds) given, ap (λ (v : View _). v.units) given);
+        });
+        on = c.requires.tx.1.on;
+        own = own_on A t.pass.me.0.seen seen t.number t.work told c.requires.tx.1.own;
+        ahead = ahead_on A t.pass.me.0.seen seen t.work t.checked told c.requires.tx.1.ahead;
+        within = (c.count.ensures.within, omega (arith, c.room.ensures));
+      };
+      told = told;
+      number = refl;
+      work = refl;
+      checked = refl;
+    }

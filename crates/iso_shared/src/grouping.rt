@@ -1,0 +1,285 @@
+// The end of a group of transactions, in one turn.
+ghost use Rattle.std.specs.Prelude.{◌≡◌, ◌≢◌, ◌⊎◌, ℕ, ◌+◌, ◌<◌, ◌≤◌, List, [], ◌∷◌, ◌++◌, None, IfErr, IfOk, IfSome, IfNone, MatchResult, OnOk, length, map, true, false, vec_capacity, vec_len};
+ghost use Rattle.std.specs.List.{AllByRecursion};
+ghost use mathlib.Core.List.{IsPrefix};
+ghost use Rattle.iso_core.specs.declared.group_end.TheConstants.{MAX_GROUP};
+ghost use Rattle.iso_core.specs.Planned.{bare_end};
+ghost use Rattle.iso_model.specs.declared.core_error.CoreError.TheVariants.{Disk as OfDisk, Down as OfDown, Memory as OfMemory};
+ghost use Rattle.iso_shared.specs.declared.entry.Call.TheVariants as TheCall;
+ghost use Rattle.iso_shared.specs.declared.entry.Entry.TheVariants.{EndGroup, Refused};
+ghost use Rattle.iso_shared.specs.Groups.{ArePaired, IsBack, IsEnd, IsJoined, IsNote, IsTaken, answered, end_of, numbers_handed, numbers_in, units_of};
+ghost use Rattle.iso_shared.specs.Ports.{IsPort, IsSameTx, IsTx, Made, MadeAll, port_view, tx_view};
+ghost use Rattle.iso_shared.specs.Told.{cause_of, group_entry, members_at, members_in, wanting_entry};
+ghost use Rattle.iso_shared.specs.Legal.{IsLegal, handed, needed, returned};
+ghost use Rattle.iso_shared.specs.Standing.{StandsAt};
+ghost use Rattle.turn_lock.specs.Lists.{AreDistinct};
+ghost use Rattle.turn_lock.specs.Lock.{lock_id, turn_value};
+ghost use Rattle.turn_lock.specs.Numbers.{AreHeld, held_after};
+ghost use Rattle.turn_lock.specs.Pass.{view, HasNoTurn, HasTurn};
+
+use crate::entry::Entry;
+use crate::guarded::{Guarded, Origin};
+use crate::shared::{Port, Shared};
+use crate::told::Told;
+use crate::tx::Tx;
+use crate::works::{give_works, put_replies, take_works};
+use iso_core::GroupEnd;
+use iso_disk::Disk;
+use iso_model::{CoreError, GroupReply, ReplyList};
+use std::alloc::Global;
+use std::marker::Brand;
+use std::snapshot::Snapshot;
+use std::sync::Wait;
+use turn_lock::{Names, Pass, Turn};
+
+// Why a group is refused for whose works or replies memory is wanting.
+fn wanting(down: bool) -> CoreError
+    ensures down { down ≡ true → result ≡ OfDown }
+    ensures up { down ≡ false → result ≡ OfMemory }
+    ensures only { (result ≡ OfDown) ⊎ (result ≡ OfMemory) }
+{
+    if down {
+        CoreError::Down
+    } else {
+        CoreError::Memory
+    }
+}
+
+// Room for the works and the replies of so many members.
+fn room_for(alloc: Global, count: usize) -> Option<(Vec<GroupEnd>, Vec<GroupReply>)>
+    ensures empty { IfSome result (λ r. (r.0.items ≡ []) × (r.1.items ≡ [])) }
+    ensures none { IfSome result (λ r. (vec_len r.0 ≡ 0) × (vec_len r.1 ≡ 0)) }
+    ensures room { IfSome result (λ r. (count ≤ vec_capacity r.0) × (count ≤ vec_capacity r.1)) }
+{
+    let Ok(ends) = Vec::with_capacity(alloc, count) else {
+        return None;
+    };
+    let Ok(replies) = Vec::with_capacity(alloc, count) else {
+        return None;
+    };
+    Some((ends, replies))
+}
+
+impl<D: Disk + Drop, O: Origin> Shared<D, O> {
+    // The turn of a group.
+    fn end_at_turn<R: Wait>(
+        &self,
+        rt: &R,
+        port: &mut Port<D, O>,
+        ends: &mut [GroupEnd],
+    ) -> Result<(), CoreError>
+        requires port { IsPort self.now port.old }
+        requires ends { AllByRecursion (IsEnd O.start (port_view port.old).seen) ends.old }
+        requires some { 0 < length ends.old }
+        requires most { length ends.old ≤ MAX_GROUP }
+        requires held { AreHeld (numbers_handed ends.old) (port_view port.old).holds × AreDistinct (numbers_handed ends.old) }
+        ensures port { IsPort self.now port.new }
+        ensures units { (port_view port.new).units ≡ (port_view port.old).units }
+        ensures holds { IfErr result (λ e. e ≢ OfDisk → (port_view port.new).holds ≡ (port_view port.old).holds) }
+        ensures only { IfErr result (λ e. (e ≡ OfDown) ⊎ (e ≡ OfDisk) ⊎ (e ≡ OfMemory)) }
+        ensures members { map bare_end ends.new ≡ map bare_end ends.old }
+        ensures made { (before : ℕ) × (now : ℕ) × Made O.start (port_view port.old) (port_view port.old) (group_entry before now ends.new result) (port_view port.new) }
+    {
+        let mut turn = self.lock.take(rt, &mut port.pass);
+        let guarded = turn.value();
+        let before = Snapshot::of(&guarded.core);
+        let result = guarded.core.end_group(ends);
+        self.give::<Brand>(&mut port.pass, turn, before, Told::EndGroup(ends, result));
+        result
+    }
+
+    // Gives the turn back, with the entry of a group that is refused before the core was asked.
+    fn give_wanting<N: Names<Entry>>(
+        &self,
+        pass: &mut Pass<Guarded<D, O>>,
+        turn: Turn<Guarded<D, O>>,
+        group: &[Tx<D, O>],
+        error: CoreError,
+    )
+        requires named { N.entry ≡ wanting_entry group.now error }
+        requires lock { (pass.old.table_id ≡ lock_id self.now.lock) × HasTurn pass.old turn }
+        requires value { StandsAt D.state O.start O.disk (turn_value turn).core (turn_value turn).rack ((view pass.old).seen ++ N.entry ∷ []) }
+        requires held { AreHeld (needed N.entry) (view pass.old).holds × AreHeld (returned N.entry) (view pass.old).holds }
+        ensures lock { (pass.new.table_id ≡ lock_id self.now.lock) × HasNoTurn pass.new }
+        ensures seen { (view pass.new).seen ≡ (view pass.old).seen ++ N.entry ∷ [] }
+        ensures mine { (view pass.new).mine ≡ (view pass.old).mine ++ length (view pass.old).seen ∷ [] }
+        ensures holds { (view pass.new).holds ≡ held_after handed returned N.entry (view pass.old).holds }
+        ensures units { (view pass.new).units ≡ (view pass.old).units }
+        ensures legal { IsLegal O.start (view pass.new).seen }
+    {
+        let _ = group;
+        let _ = error;
+        self.lock.give::<N>(pass, turn);
+    }
+
+    // The turn of a group for whose replies and works memory is wanting.
+    fn refuse_at_turn<R: Wait>(
+        &self,
+        rt: &R,
+        port: &mut Port<D, O>,
+        group: &[Tx<D, O>],
+    ) -> CoreError
+        requires port { IsPort self.now port.old }
+        requires group { AllByRecursion (IsJoined self.now O.start (port_view port.old).seen) group.now }
+        requires some { 0 < length group.now }
+        requires most { length group.now ≤ MAX_GROUP }
+        requires held { AreHeld (numbers_in group.now) (port_view port.old).holds × AreDistinct (numbers_in group.now) }
+        ensures port { IsPort self.now port.new }
+        ensures units { (port_view port.new).units ≡ (port_view port.old).units }
+        ensures holds { (port_view port.new).holds ≡ (port_view port.old).holds }
+        ensures only { (result ≡ OfDown) ⊎ (result ≡ OfMemory) }
+        ensures made { Made O.start (port_view port.old) (port_view port.old) (wanting_entry group.now result) (port_view port.new) }
+    {
+        let mut turn = self.lock.take(rt, &mut port.pass);
+        let guarded = turn.value();
+        let error = wanting(guarded.core.stat().down);
+        self.give_wanting::<Brand>(&mut port.pass, turn, group, error);
+        error
+    }
+
+    // The end of members whose works were taken. Their replies are put out, or their works are given back.
+    fn end_works<R: Wait>(
+        &self,
+        rt: &R,
+        port: &mut Port<D, O>,
+        group: &mut [Tx<D, O>],
+        ends: &mut [GroupEnd],
+        replies: &mut Vec<GroupReply>,
+    ) -> Result<(), CoreError>
+        requires port { IsPort self.now port.old }
+        requires ends { AllByRecursion (IsEnd O.start (port_view port.old).seen) ends.old }
+        requires some { 0 < length ends.old }
+        requires most { length ends.old ≤ MAX_GROUP }
+        requires held { AreHeld (numbers_handed ends.old) (port_view port.old).holds × AreDistinct (numbers_handed ends.old) }
+        requires each { length group.old ≡ length ends.old }
+        requires none { replies.old.items ≡ [] }
+        requires room { vec_len replies.old + length ends.old ≤ vec_capacity replies.old }
+        ensures port { IsPort self.now port.new }
+        ensures units { (port_view port.new).units ≡ (port_view port.old).units }
+        ensures holds { IfErr result (λ e. e ≢ OfDisk → (port_view port.new).holds ≡ (port_view port.old).holds) }
+        ensures only { IfErr result (λ e. (e ≡ OfDown) ⊎ (e ≡ OfDisk) ⊎ (e ≡ OfMemory)) }
+        ensures seen { IsPrefix (port_view port.old).seen (port_view port.new).seen }
+        ensures ok { OnOk result ((length replies.new.items ≡ length ends.old) × Made O.start (port_view port.old) (port_view port.old) (EndGroup (answered (members_at ends.old) replies.new.items)) (port_view port.new)) }
+        ensures err { IfErr result (λ e. (before : ℕ) × (now : ℕ) × Made O.start (port_view port.old) (port_view port.old) (Refused (TheCall.EndGroup (members_at ends.old)) (cause_of before now e)) (port_view port.new)) }
+        ensures taken { (ts : List (Tx D O)) → ArePaired IsTaken ts group.old → ArePaired IsTaken ts group.new }
+        ensures back { IfErr result (λ _. (ts : List (Tx D O)) → ends.old ≡ map end_of ts → ArePaired IsTaken ts group.old → ArePaired IsSameTx ts group.new) }
+    {
+        match self.end_at_turn(rt, port, ends) {
+            Ok(()) => {
+                put_replies(ends, replies);
+                Ok(())
+            }
+            Err(error) => {
+                give_works(group, ends);
+                Err(error)
+            }
+        }
+    }
+
+    // The end of members whose passes were joined into the port. Where it is refused, their works are back.
+    fn end_joined<R: Wait>(
+        &self,
+        rt: &R,
+        port: &mut Port<D, O>,
+        group: &mut [Tx<D, O>],
+    ) -> Result<ReplyList, CoreError>
+        requires port { IsPort self.now port.old }
+        requires group { AllByRecursion (IsJoined self.now O.start (port_view port.old).seen) group.old }
+        requires some { 0 < length group.old }
+        requires most { length group.old ≤ MAX_GROUP }
+        requires held { AreHeld (numbers_in group.old) (port_view port.old).holds × AreDistinct (numbers_in group.old) }
+        ensures port { IsPort self.now port.new }
+        ensures units { (port_view port.new).units ≡ (port_view port.old).units }
+        ensures holds { IfErr result (λ e. e ≢ OfDisk → (port_view port.new).holds ≡ (port_view port.old).holds) }
+        ensures only { IfErr result (λ e. (e ≡ OfDown) ⊎ (e ≡ OfDisk) ⊎ (e ≡ OfMemory)) }
+        ensures ok { IfOk result (λ replies. (length replies ≡ length group.old) × Made O.start (port_view port.old) (port_view port.old) (EndGroup (answered (members_in group.old) replies)) (port_view port.new)) }
+        ensures err { IfErr result (λ e. (before : ℕ) × (now : ℕ) × Made O.start (port_view port.old) (port_view port.old) (Refused (TheCall.EndGroup (members_in group.old)) (cause_of before now e)) (port_view port.new)) }
+        ensures notes { AllByRecursion (IsNote self.now (port_view port.new).seen) group.new }
+        ensures many { length group.new ≡ length group.old }
+        ensures back { IfErr result (λ e. e ≢ OfDisk → ArePaired IsSameTx group.old group.new) }
+    {
+        let Some((mut ends, mut replies)) = room_for(self.alloc, group.len()) else {
+            return Err(self.refuse_at_turn(rt, port, group));
+        };
+        take_works(self.alloc, &self.geometry(), group, &mut ends);
+        match self.end_works(rt, port, group, ends.as_mut_slice(), &mut replies) {
+            Ok(()) => Ok(ReplyList::of(replies)),
+            Err(error) => Err(error),
+        }
+    }
+
+    // The end of members, whose passes go to the port. Where it is refused they are split off again.
+    fn end_members<R: Wait>(
+        &self,
+        rt: &R,
+        port: &mut Port<D, O>,
+        group: &mut [Tx<D, O>],
+    ) -> Result<ReplyList, CoreError>
+        requires port { IsPort self.now port.old }
+        requires group { AllByRecursion (IsTx self.now O.start) group.old }
+        requires some { 0 < length group.old }
+        requires most { length group.old ≤ MAX_GROUP }
+        ensures port { IsPort self.now port.new }
+        ensures only { IfErr result (λ e. (e ≡ OfDown) ⊎ (e ≡ OfDisk) ⊎ (e ≡ OfMemory)) }
+        ensures ok { IfOk result (λ replies. (length replies ≡ length group.old) × ((port_view port.new).units ≡ (port_view port.old).units + units_of group.old)
+            × MadeAll O.start (port_view port.old) (map tx_view group.old) (EndGroup (answered (members_in group.old) replies)) (port_view port.new)) }
+        ensures err { IfErr result (λ e. (before : ℕ) × (now : ℕ) × MadeAll O.start (port_view port.old) (map tx_view group.old) (Refused (TheCall.EndGroup (members_in group.old)) (cause_of before now e)) (port_view port.new)) }
+        ensures gone { IfErr result (λ e. e ≡ OfDisk → (port_view port.new).units ≡ (port_view port.old).units + units_of group.old) }
+        ensures many { length group.new ≡ length group.old }
+        ensures notes { MatchResult result (λ _. AllByRecursion (IsNote self.now (port_view port.new).seen) group.new) (λ e. e ≡ OfDisk → AllByRecursion (IsNote self.now (port_view port.new).seen) group.new) }
+        ensures back { IfErr result (λ e. e ≢ OfDisk → ((port_view port.new).units + length group.old ≡ (port_view port.old).units + units_of group.old)
+            × ArePaired (IsBack self.now O.start (port_view port.new).seen) group.old group.new) }
+        ensures again { IfErr result (λ e. e ≢ OfDisk → AllByRecursion (IsTx self.now O.start) group.new × (units_of group.new ≡ length group.old)) }
+    {
+        self.join_members(port, group);
+        match self.end_joined(rt, port, group) {
+            Ok(replies) => Ok(replies),
+            Err(error) => match error {
+                CoreError::Disk => Err(CoreError::Disk),
+                other => {
+                    self.split_members(port, group);
+                    Err(other)
+                }
+            },
+        }
+    }
+
+    /// Ends different transactions one after the other, as the core does at this turn, with one append for all their commits, and
+    /// answers how each ended, in order. A member that the log has no room or no number for is aborted. Their passes go to the port,
+    /// through which the call is made. Where the core is down, and where memory is wanting, each is handed back as it was, with one
+    /// unit. After a fault of the disk there is none.
+    pub fn end_group<R: Wait>(
+        &self,
+        rt: &R,
+        port: &mut Port<D, O>,
+        mut group: Vec<Tx<D, O>>,
+    ) -> Result<ReplyList, (CoreError, Option<Vec<Tx<D, O>>>)>
+        requires port { IsPort self.now port.old }
+        requires group { AllByRecursion (IsTx self.now O.start) group.items }
+        requires some { 0 < length group.items }
+        requires most { length group.items ≤ MAX_GROUP }
+        ensures port { IsPort self.now port.new }
+        ensures ok { IfOk result (λ replies. (length replies ≡ length group.items) × ((port_view port.new).units ≡ (port_view port.old).units + units_of group.items)
+            × MadeAll O.start (port_view port.old) (map tx_view group.items) (EndGroup (answered (members_in group.items) replies)) (port_view port.new)) }
+        ensures gone { IfErr result (λ e. IfNone e.1 ((e.0 ≡ OfDisk) × ((port_view port.new).units ≡ (port_view port.old).units + units_of group.items)
+            × ((before : ℕ) × (now : ℕ) × MadeAll O.start (port_view port.old) (map tx_view group.items) (Refused (TheCall.EndGroup (members_in group.items)) (cause_of before now e.0)) (port_view port.new)))) }
+        ensures kept { IfErr result (λ e. IfSome e.1 (λ back. ((e.0 ≡ OfDown) ⊎ (e.0 ≡ OfMemory)) × ((port_view port.new).units + length group.items ≡ (port_view port.old).units + units_of group.items)
+            × ArePaired (IsBack self.now O.start (port_view port.new).seen) group.items back.items
+            × ((before : ℕ) × (now : ℕ) × MadeAll O.start (port_view port.old) (map tx_view group.items) (Refused (TheCall.EndGroup (members_in group.items)) (cause_of before now e.0)) (port_view port.new)))) }
+        ensures again { IfErr result (λ e. IfSome e.1 (λ back. AllByRecursion (IsTx self.now O.start) back.items × (units_of back.items ≡ length group.items) × (length back.items ≡ length group.items))) }
+    {
+        match self.end_members(rt, port, group.as_mut_slice()) {
+            Ok(replies) => {
+                self.spend_members(port, group);
+                Ok(replies)
+            }
+            Err(error) => match error {
+                CoreError::Disk => {
+                    self.spend_members(port, group);
+                    Err((CoreError::Disk, None))
+                }
+                other => Err((other, Some(group))),
+            },
+        }
+    }
+}

@@ -1,0 +1,140 @@
+// The passes of the members of a group: they are joined into a port, and split off again.
+ghost use Rattle.std.specs.Prelude.{◌≡◌, ℕ, ◌+◌, ◌<◌, ◌≤◌, List, [], ◌∷◌, IfNone, IfSome, length, vec_len};
+ghost use Rattle.iso_shared.specs.declared.entry.Entry.{Entry};
+ghost use Rattle.std.specs.List.{AllByRecursion};
+ghost use mathlib.Core.List.{IsPrefix};
+ghost use Rattle.iso_shared.specs.Groups.{ArePaired, IsNote, IsNoteOf, IsPartOf, held_in, made_in, numbers_in, units_of};
+ghost use Rattle.iso_shared.specs.Ports.{IsPort, IsTx, number_of, port_view, tx_view};
+ghost use Rattle.turn_lock.specs.Lists.{AreDistinct, times};
+ghost use Rattle.turn_lock.specs.Numbers.{AreHeld, without};
+
+use crate::guarded::Origin;
+use crate::shared::{Port, Shared};
+use crate::tx::Tx;
+use iso_disk::Disk;
+use std::mem;
+
+impl<D: Disk + Drop, O: Origin> Shared<D, O> {
+    // Joins the pass of a member into the port. A note without a unit stands in its place.
+    fn join_member(&self, port: &mut Port<D, O>, tx: &mut Tx<D, O>)
+        requires port { IsPort self.now port.old }
+        requires tx { IsTx self.now O.start tx.old }
+        ensures port { IsPort self.now port.new }
+        ensures units { (port_view port.new).units ≡ (port_view port.old).units + (tx_view tx.old).units }
+        ensures seen { IsPrefix (port_view port.old).seen (port_view port.new).seen }
+        ensures holds { (n : ℕ) → times n (port_view port.new).holds ≡ times n (port_view port.old).holds + times n (tx_view tx.old).holds }
+        ensures places { (p : ℕ) → times p (port_view port.new).mine ≡ times p (port_view port.old).mine + times p (tx_view tx.old).mine }
+        ensures alone { (n : ℕ) → times n (port_view port.new).holds ≤ 1 }
+        ensures tx { IsNoteOf self.now O.start (port_view port.new).seen tx.old tx.new }
+    {
+        let _ = tx.work.count();
+        let _ = tx.work.room();
+        let note = self.lock.split(&mut port.pass, None, 0);
+        let pass = mem::replace(&mut tx.pass, note);
+        self.lock.join(&mut port.pass, pass);
+    }
+
+    // The same of all members.
+    pub(crate) fn join_members(&self, port: &mut Port<D, O>, group: &mut [Tx<D, O>])
+        requires port { IsPort self.now port.old }
+        requires group { AllByRecursion (IsTx self.now O.start) group.old }
+        ensures port { IsPort self.now port.new }
+        ensures units { (port_view port.new).units ≡ (port_view port.old).units + units_of group.old }
+        ensures seen { IsPrefix (port_view port.old).seen (port_view port.new).seen }
+        ensures holds { (n : ℕ) → times n (port_view port.new).holds ≡ times n (port_view port.old).holds + held_in n group.old }
+        ensures places { (p : ℕ) → times p (port_view port.new).mine ≡ times p (port_view port.old).mine + made_in p group.old }
+        ensures alone { 0 < length group.old → (n : ℕ) → times n (port_view port.new).holds ≤ 1 }
+        ensures group { ArePaired (IsNoteOf self.now O.start (port_view port.new).seen) group.old group.new }
+    {
+        let Some((tx, rest)) = group.split_first_mut() else {
+            return;
+        };
+        self.join_member(port, tx);
+        self.join_members(port, rest);
+    }
+
+    // Splits a member off again, with its number and one unit.
+    fn split_member(&self, port: &mut Port<D, O>, tx: &mut Tx<D, O>)
+        requires port { IsPort self.now port.old }
+        requires units { 1 < (port_view port.old).units }
+        requires held { 0 < times (number_of tx.old) (port_view port.old).holds }
+        requires tx { IsNote self.now (port_view port.old).seen tx.old }
+        ensures port { IsPort self.now port.new }
+        ensures units { (port_view port.new).units + 1 ≡ (port_view port.old).units }
+        ensures seen { (port_view port.new).seen ≡ (port_view port.old).seen }
+        ensures mine { (port_view port.new).mine ≡ (port_view port.old).mine }
+        ensures holds { (port_view port.new).holds ≡ without (number_of tx.old ∷ []) (port_view port.old).holds }
+        ensures others { (ns : List ℕ) → times (number_of tx.old) ns ≡ 0 → AreHeld ns (port_view port.old).holds → AreHeld ns (port_view port.new).holds }
+        ensures tx { IsPartOf self.now (port_view port.old).seen tx.old tx.new }
+    {
+        let pass = self.lock.split(&mut port.pass, Some(tx.number), 1);
+        let note = mem::replace(&mut tx.pass, pass);
+        self.lock.join(&mut port.pass, note);
+    }
+
+    // The same of all members.
+    pub(crate) fn split_members(&self, port: &mut Port<D, O>, group: &mut [Tx<D, O>])
+        requires port { IsPort self.now port.old }
+        requires units { length group.old < (port_view port.old).units }
+        requires held { AreHeld (numbers_in group.old) (port_view port.old).holds }
+        requires distinct { AreDistinct (numbers_in group.old) }
+        requires group { AllByRecursion (IsNote self.now (port_view port.old).seen) group.old }
+        ensures port { IsPort self.now port.new }
+        ensures units { (port_view port.new).units + length group.old ≡ (port_view port.old).units }
+        ensures seen { (port_view port.new).seen ≡ (port_view port.old).seen }
+        ensures mine { (port_view port.new).mine ≡ (port_view port.old).mine }
+        ensures group { ArePaired (IsPartOf self.now (port_view port.old).seen) group.old group.new }
+    {
+        let Some((tx, rest)) = group.split_first_mut() else {
+            return;
+        };
+        self.split_member(port, tx);
+        self.split_members(port, rest);
+    }
+
+    // Takes the last of several notes off.
+    fn pop_note(&self, group: &mut Vec<Tx<D, O>>) -> Option<Tx<D, O>>
+        ensures rest { (seen : List Entry) → AllByRecursion (IsNote self.now seen) group.old.items → AllByRecursion (IsNote self.now seen) group.new.items }
+        ensures note { (seen : List Entry) → AllByRecursion (IsNote self.now seen) group.old.items → IfSome result (IsNote self.now seen) }
+        ensures fewer { IfSome result (λ _. length group.new.items < length group.old.items) }
+        ensures empty { IfNone result (vec_len group.new ≡ 0) }
+    {
+        group.pop()
+    }
+
+    // Joins a note into the port.
+    fn spend_note(&self, port: &mut Port<D, O>, tx: Tx<D, O>)
+        requires port { IsPort self.now port.old }
+        requires tx { IsNote self.now (port_view port.old).seen tx }
+        ensures port { IsPort self.now port.new }
+        ensures units { (port_view port.new).units ≡ (port_view port.old).units }
+        ensures seen { (port_view port.new).seen ≡ (port_view port.old).seen }
+        ensures places { (p : ℕ) → times p (port_view port.new).mine ≡ times p (port_view port.old).mine }
+        ensures others { (group : List (Tx D O)) → AllByRecursion (IsNote self.now (port_view port.old).seen) group → AllByRecursion (IsNote self.now (port_view port.new).seen) group }
+    {
+        let Tx {
+            pass,
+            number: _,
+            work: _,
+            checked: _,
+        } = tx;
+        self.lock.join(&mut port.pass, pass);
+    }
+
+    // Joins the notes of members that have ended into the port.
+    pub(crate) fn spend_members(&self, port: &mut Port<D, O>, mut group: Vec<Tx<D, O>>)
+        requires port { IsPort self.now port.old }
+        requires group { AllByRecursion (IsNote self.now (port_view port.old).seen) group.items }
+        ensures port { IsPort self.now port.new }
+        ensures units { (port_view port.new).units ≡ (port_view port.old).units }
+        ensures seen { (port_view port.new).seen ≡ (port_view port.old).seen }
+        ensures places { (p : ℕ) → times p (port_view port.new).mine ≡ times p (port_view port.old).mine }
+    {
+        let Some(tx) = self.pop_note(&mut group) else {
+            group.destroy_empty();
+            return;
+        };
+        self.spend_note(port, tx);
+        self.spend_members(port, group);
+    }
+}
