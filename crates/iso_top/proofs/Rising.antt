@@ -17,6 +17,7 @@ fault_count : (S : State) (c : Call) (k : ℕ) → (after_fault S c k).faults �
 fault_count S (call.Begin named) k = refl
 fault_count S (call.Fetch n block) k = refl
 fault_count S (call.End n accesses) k = refl
+fault_count S (call.EndGroup members) k = refl
 fault_count S call.Trim k = refl
 fault_count S call.Compact k = refl
 fault_count S call.Upgrade k = refl
@@ -41,6 +42,7 @@ step_of : (S : State) (e : Entry) → Fits S e → Quiet S (after S e) ⊎ Faile
 step_of S (entry.Begin n at mode) fits = inl (refl, refl)
 step_of S (entry.Fetch n block bytes) fits = inl (refl, refl)
 step_of S (entry.End n accesses reply) fits = inl (refl, refl)
+step_of S (entry.EndGroup ends) fits = inl (refl, refl)
 step_of S (entry.Abort n) fits = inl (refl, refl)
 step_of S (entry.Trim n) fits = inl (refl, refl)
 step_of S (entry.Compact n) fits = inl (refl, refl)

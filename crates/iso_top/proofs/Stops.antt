@@ -4,7 +4,7 @@ use Rattle.script_model.specs.declared.script.Op.TheVariants as op
 use Rattle.script_model.specs.declared.script.Reply.TheVariants as reply
 use Rattle.iso_shared.specs.declared.entry.Cause.TheVariants as cause
 use Rattle.iso_shared.specs.declared.entry.Entry.TheVariants as entry
-use Rattle.par_script.specs.Lines.{Aborts, Begins, CallsStore, ClientLines, Compacts, Did, Does, Ends, EndsThen, Fetches, Looks, LooksFor, Own, Posts, Reads, Says, Stats, StopsAtLast, StopsBy, Trims, Upgrades, Where, WhereShown, fetches as all_fetches, refused, refused_fetch}
+use Rattle.par_script.specs.Lines.{Aborts, Begins, CallsStore, ClientLines, Compacts, Did, Does, Ends, EndsThen, Fetches, GroupEnds, Groups, Looks, LooksFor, Own, Posts, Reads, Says, Stats, StopsAtLast, StopsBy, Trims, Upgrades, Where, WhereShown, fetches as all_fetches, refused, refused_fetch}
 use Rattle.script_model.specs.declared.stop.Stop.TheVariants as stop
 
 -- the entry tells of a fault, or that the device is down
@@ -115,6 +115,18 @@ module _ (g : Geometry) (tells : Bool) (w : Stop) (other : w ≢ stop.Memory) wh
   looks_for label most (entry.Look l (Some t) ∷ []) own' d = absurd (cc d.2)
   looks_for label most es own' d = absurd d
 
+  group_ends : (found : List (Option Own)) (es : List Entry) → GroupEnds found es (Err w) → HasBlame es
+  group_ends found [] d = absurd (cc d.1)
+  group_ends found (entry.EndGroup ends ∷ []) d = absurd (cc d.2)
+  group_ends found (entry.Refused c why ∷ es) d = inl (refused_blames c why w other d.3)
+  group_ends found es d = absurd d
+
+  groups : (labels : List (List ℕ)) (found : List (Option Own)) (es : List Entry) → Groups labels found es (Err w) → HasBlame es
+  groups [] found es (inl d) = group_ends found es d
+  groups [] found es (inr d) = absurd (other (cc d.1))
+  groups (label ∷ labels) found (entry.Look l one ∷ es) d = inr (groups labels (found ++ one ∷ []) es d.1)
+  groups (label ∷ labels) found es d = absurd (other (cc d.1))
+
   trims : (own : Option Own) (es : List Entry) (own' : Option Own) → Trims own es (Err w) own' → HasBlame es
   trims own (entry.Trim n ∷ []) own' d = absurd (cc d.0)
   trims own (entry.Refused c why ∷ []) own' d = inl (refused_blames c why w other d.1)
@@ -164,8 +176,8 @@ module _ (g : Geometry) (tells : Bool) (w : Stop) (other : w ≢ stop.Memory) wh
   does (Some t) op.Stat es own' d = stats (Some t) es own' d
   does (Some t) op.Compact es own' d = compacts (Some t) es own' d
   does (Some t) op.Upgrade es own' d = upgrades (Some t) es own' d
-  does None (op.Group labels) es own' d = absurd d
-  does (Some t) (op.Group labels) es own' d = absurd d
+  does None (op.Group labels) es own' d = groups labels [] es d.0
+  does (Some t) (op.Group labels) es own' d = groups labels [] es d.0
   does own o es own' d = absurd (cc d.1)
 
   did : (own : Option Own) (o : Op) (es : List Entry) (own' : Option Own) → Did g tells own o es (Err w) own' → HasBlame es

@@ -10,3 +10,4 @@ pub mod Gathering
 pub mod Sweeping
 pub mod Dealing
 pub mod Storing
+pub mod Grouping

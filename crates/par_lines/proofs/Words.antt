@@ -4,19 +4,23 @@ pub use Rattle.std.proofs.Math.ListN.{get_or-append}
 pub use Rattle.std.proofs.Math.Seq.{drop-cons, get_or-append_seam}
 pub use Rattle.std.proofs.lemmas.Bool.{eqb-true, ne_eqb}
 pub use Rattle.std.proofs.lemmas.Bool.Decides.{nat_tests}
-pub use Rattle.std.proofs.lemmas.List.{append-nil, append_cancel_left, length-replicate, map-append, reverse-append, take_at}
+pub use Rattle.std.proofs.lemmas.List.{append-nil, append_cancel_left, length-map, length-replicate, length-take-le, map-append, reverse-append, take_all, take_at, take_more}
 pub use Rattle.std.proofs.lemmas.List.Elements.{All-append, filter-append}
 pub use Rattle.std.proofs.lemmas.List.Sums.{sum_by-append, sum_by-cons}
 pub use Rattle.std.specs.List.{AllByRecursion, list_any, range_with_len}
 pub use Rattle.std.specs.Option.{ForSome}
 pub use Rattle.std.specs.Prelude.{All, Err, IfErr, IfOk, IsSome, IsTrue, Ok, Result, filter, is_some, option_map, slice_get, slice_index, sum_by, vec_capacity}
-pub use Rattle.handle_pass.proofs.Logs.{log_count, log_more, log_none, log_seen, moves_made, moves_none, moves_on, moves_rested}
+pub use Rattle.group_commit.proofs.Grouping.{through_group}
+pub use Rattle.group_commit.specs.Groups.{AreMembers, HasGrouped, found_in, group_of, marks_of, refused_by, spread, units_all}
+pub use Rattle.group_commit.specs.Stub.{answered, members_in, units_of}
+pub use Rattle.handle_pass.proofs.Logs.{log_count, log_more, log_none, log_seen, moves_joined, moves_made, moves_none, moves_on, moves_rested, through_made, through_none, through_on}
 pub use Rattle.handle_pass.proofs.Visiting.{blocks_append}
 pub use Rattle.handle_pass.specs.Accesses.{HasMarked, HasRead, HasWritten, IsReadCause, IsWriteCause, Shows, access_answer, accesses_of, mark_answer, tx_on, with_access, with_mark}
 pub use Rattle.handle_pass.specs.Calls.{EndsWith, HasAborted, HasBegun, HasChecked, HasEnded, IsCheckCause, left_by}
 pub use Rattle.handle_pass.specs.Handles.{HasLooked, HasPosted}
-pub use Rattle.handle_pass.specs.Logs.{Log, Moves}
-pub use Rattle.handle_pass.specs.Sessions.{KeepsTx, Made, Rested, count, device, own, seen, units}
+pub use Rattle.handle_pass.specs.Logs.{Log, Moves, MovesThrough}
+pub use Rattle.handle_pass.specs.Sessions.{KeepsTx, Made, Rested, count, device, own, own_in, own_of, seen, units}
+pub use Rattle.handle_pass.specs.Splits.{Joined, Split}
 pub use Rattle.handle_pass.specs.Visits.{Failed, IsVisit, Seen, Visited, base_in, base_of, begin_array, seen_by}
 pub use Rattle.handle_pass.specs.declared.errors.BeginError.{BeginError}
 pub use Rattle.handle_pass.specs.declared.errors.EndError.{EndError}
@@ -37,6 +41,7 @@ pub use Rattle.iso_model.specs.declared.access.Access.{Access}
 pub use Rattle.iso_model.specs.declared.access.Commit.{Commit}
 pub use Rattle.iso_model.specs.declared.access.EndReply.{EndReply}
 pub use Rattle.iso_model.specs.declared.access.Geometry.{Geometry}
+pub use Rattle.iso_model.specs.declared.access.GroupReply.{GroupReply}
 pub use Rattle.iso_model.specs.declared.access.MarkError.{MarkError}
 pub use Rattle.iso_model.specs.declared.access.Mode.{Mode}
 pub use Rattle.iso_model.specs.declared.access.Mode.TheVariants.{Serial, Snapshot}
@@ -45,17 +50,19 @@ pub use Rattle.iso_model.specs.declared.limits.TheConstants.{LAST, MAX_ACCESSES}
 pub use Rattle.iso_model.specs.declared.memory.InTx.{InTx}
 pub use Rattle.iso_model.specs.declared.memory.NotInTx.{NotInTx}
 pub use Rattle.iso_shared.specs.Legal.{IsLegal, reply_of}
-pub use Rattle.iso_shared.specs.Ports.{IsPort, port_view}
-pub use Rattle.iso_shared.specs.States.{Start, state_at}
-pub use Rattle.iso_shared.specs.Told.{cause_of, compact_entry, numbers_of, trim_entry, upgrade_entry}
+pub use Rattle.iso_shared.specs.Ports.{IsPort, IsTx, doing_of, number_of, port_view, tx_view}
+pub use Rattle.iso_shared.specs.States.{Start, members_of, replies_of, state_at}
+pub use Rattle.iso_shared.specs.Told.{cause_of, compact_entry, numbers_of, posting_of_tx, trim_entry, upgrade_entry}
 pub use Rattle.iso_shared.specs.declared.entry.Cause.{Cause}
 pub use Rattle.iso_shared.specs.declared.entry.Entry.{Entry}
+pub use Rattle.iso_shared.specs.declared.entry.Member.{Member}
+pub use Rattle.iso_shared.specs.declared.shared.Port.{Port}
 pub use Rattle.iso_shared.specs.declared.shared.Shared.{Shared}
 pub use Rattle.par_runner.specs.Runs.{Halted, JobRan, Went}
 pub use Rattle.par_runner.specs.declared.job.Flow.TheVariants.{Go, Halt}
 pub use Rattle.par_runner.specs.declared.job.Job.{Job}
 pub use Rattle.par_script.proofs.Owners.{AreRising, Dealt, ReadsAt, dealt_entries, dealt_times, length-owners, owned_by, owners_of}
-pub use Rattle.par_script.specs.Lines.{AnswersOn, CallsStore, ClientLines, Did, Does, EndsThen, Fetches, InStore, LooksFor, Own, Ran, Says, StopsAtLast, StopsBy, Walk, Where, WhereShown, alone, answer, blocks_read, last_abort, live_of, own_after, own_among, with_block}
+pub use Rattle.par_script.specs.Lines.{AnswersOn, CallsStore, ClientLines, Did, Does, EndsThen, Fetches, GroupEnds, GroupWants, Groups, InStore, LooksFor, Own, Ran, Says, StopsAtLast, StopsBy, Walk, Where, WhereShown, alone, answer, blocks_read, found_ones, last_abort, live_of, members_for, own_after, own_among, replies_to, with_block}
 pub use Rattle.par_script.specs.Told.{FoundSome, Told, clients_in, entries_of, has_line, lines_of, lines_run}
 pub use Rattle.par_script.specs.declared.TheConstants.{MAX_LOOKS}
 pub use Rattle.par_text.specs.declared.part.Part.{Part}
@@ -82,6 +89,7 @@ pub use Rattle.tx_table.specs.Work.{span_at}
 pub use Rattle.par_lines.specs.Answers.{Answered}
 pub use Rattle.par_lines.specs.Clients.{IsClient, Stepped, Tells}
 pub use Rattle.par_lines.specs.Ends.{stopped, wants}
+pub use Rattle.par_lines.specs.Groups.{AreNew, HaveLooked, looks_for, told_of}
 pub use Rattle.par_lines.specs.Jobs.{AllTold, Finished, IsNew, Swept, part_of, units_in}
 pub use Rattle.par_lines.specs.Stores.{IsOnStore, settled}
 pub use Rattle.par_lines.specs.declared.client.ParClient.{ParClient}

@@ -23,7 +23,9 @@ module _ {D O : Type 0} where
   -- it may make a step
   pub record IsClient (A : Start) (c : ParClient D O) : Type 0 where
     pub session : IsSession A c.session
-    pub units : 1 < handle.units c.session
+    -- enough for a transaction of its own and for the port of a group
+    pub units : 33 < handle.units c.session
+    pub device : handle.device c.session ≡ c.shared.now
     pub geometry : c.geometry ≡ A.world.geometry
     pub small : c.geometry.block ≤ 4096
     pub valid : IsTrue (is_valid A.world.geometry)

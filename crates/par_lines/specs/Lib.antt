@@ -4,3 +4,4 @@ pub mod Clients
 pub mod Jobs
 pub mod Ends
 pub mod Stores
+pub mod Groups

@@ -8,6 +8,7 @@ use Rattle.handle_pass.specs.declared.errors.PostTxError.{PostTxError}
 use Rattle.handle_pass.specs.declared.errors.PostTxError.TheVariants as post
 use Rattle.iso_core.specs.declared.answers.Stat.{Stat}
 use Rattle.iso_model.specs.declared.access.EndReply.{EndReply}
+use Rattle.iso_model.specs.declared.access.GroupReply.{GroupReply}
 use Rattle.iso_model.specs.declared.core_error.CoreError.{CoreError}
 use Rattle.iso_model.specs.declared.core_error.CoreError.TheVariants as error
 use Rattle.iso_model.specs.declared.memory.InTx.{InTx}
@@ -60,6 +61,10 @@ abbrev pub looked : Result (Option ℕ) InTx → Result Reply Stop
 looked (Ok (Some at)) = Ok (reply.Began at)
 looked (Ok None) = Ok reply.NoHandle
 looked (Err e) = Ok reply.InTx
+
+abbrev pub grouped : Result (List (Option GroupReply)) CoreError → Result Reply Stop
+grouped (Ok answers) = Ok (reply.Grouped answers)
+grouped (Err e) = refused e
 
 -- the answer of a switch or a trim, by the reply that it is where it is not refused
 abbrev pub numbered : (ℕ → Reply) → Result ℕ CoreError → Result Reply Stop

@@ -1,12 +1,13 @@
 // A client: its session, and what it was told.
 ghost use Rattle.std.specs.Prelude.{◌≡◌, ◌<◌, ◌≤◌, IsTrue};
 ghost use Rattle.iso_model.specs.Geometry.{is_valid};
-ghost use Rattle.handle_pass.specs.Sessions.{units, IsSession};
+ghost use Rattle.handle_pass.specs.Sessions.{device, units, IsSession};
 ghost use Rattle.script_model.specs.declared.script.Op.TheVariants.{End as OfEnd};
 ghost use Rattle.par_lines.specs.Answers.{Answered};
 
 use crate::accesses::{fill, mark, put, write};
 use crate::calls::{abort, begin, end};
+use crate::groups::group;
 use crate::labels::{await_label, release, takeover};
 use crate::reads::{get, read};
 use crate::stores::store;
@@ -14,7 +15,7 @@ use crate::upkeep::{compact, stat, trim, upgrade};
 use handle_pass::Session;
 use iso_disk::Disk;
 use iso_model::{Geometry, Reserved};
-use iso_shared::Origin;
+use iso_shared::{Origin, Shared};
 use par_runner::{Client, Flow};
 use script_model::{Line, Op, Reply, Stop};
 use std::alloc::Global;
@@ -44,13 +45,15 @@ fn end_whole<'a, L: Ledger, D: Disk + Drop, O: Origin, R: Wait>(
 pub(crate) fn answer<'a, D: Disk + Drop, O: Origin, R: Wait>(
     rt: &R,
     alloc: Global,
+    shared: &Shared<D, O>,
     session: &mut Session<'a, D, O>,
     geometry: &Geometry,
     buffer: &mut Vec<u8>,
     op: &Op,
 ) -> Result<Reply, Stop>
     requires session { IsSession O.start session.old }
-    requires units { 1 < units session.old }
+    requires device { device session.old ≡ shared.now }
+    requires units { 33 < units session.old }
     requires geometry { geometry.now ≡ O.start.world.geometry }
     requires small { geometry.now.block ≤ 4096 }
     requires valid { IsTrue (is_valid O.start.world.geometry) }
@@ -72,8 +75,7 @@ pub(crate) fn answer<'a, D: Disk + Drop, O: Origin, R: Wait>(
         Op::Release { label } => release(rt, session, label),
         Op::Takeover { label } => takeover(rt, session, label),
         Op::Await { label } => await_label(rt, session, label),
-        // a script with a group is refused before a client runs
-        Op::Group { .. } => Err(Stop::Memory),
+        Op::Group { labels } => group(rt, alloc, shared, session, labels.as_slice()),
         Op::Trim => trim(rt, session),
         Op::Stat => Ok(stat(rt, session)),
         Op::Compact => compact(rt, session),
@@ -90,6 +92,7 @@ pub(crate) fn answer<'a, D: Disk + Drop, O: Origin, R: Wait>(
 
 /// A client, the replies that it was told with their numbers, and why it stopped, if it did.
 pub(crate) struct ParClient<'a, D: Disk + Drop, O: Origin> {
+    pub(crate) shared: &'a Shared<D, O>,
     pub(crate) session: Session<'a, D, O>,
     pub(crate) geometry: Geometry,
     pub(crate) alloc: Global,
@@ -114,6 +117,7 @@ impl<'a, D: Disk + Drop + Send, O: Origin + Send + Sync> Client for ParClient<'a
         match answer(
             rt,
             self.alloc,
+            self.shared,
             &mut self.session,
             &self.geometry,
             &mut self.buffer,

@@ -5,6 +5,7 @@ mod accesses;
 mod calls;
 mod client;
 mod deal;
+mod groups;
 mod labels;
 mod par;
 mod reads;

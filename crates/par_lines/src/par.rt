@@ -59,6 +59,7 @@ fn new_job<'a, D: Disk + Drop, O: Origin>(
     let from = shared.port(port, UNITS);
     Job {
         client: ParClient {
+            shared,
             session: Session::new(shared, from),
             geometry: shared.geometry(),
             alloc,

@@ -4,7 +4,7 @@ ghost use Rattle.par_lines.specs.Replies as spec;
 
 use handle_pass::{BeginError, EndError, PostTxError};
 use iso_core::Stat;
-use iso_model::{CoreError, EndReply, InTx, NotInTx};
+use iso_model::{CoreError, EndReply, InTx, LabelReplies, NotInTx};
 use script_model::{Reply, Stop};
 use store_model::TxError;
 
@@ -80,6 +80,15 @@ pub(crate) fn looked(answer: Result<Option<u64>, InTx>) -> Result<Reply, Stop>
         Ok(Some(at)) => Ok(Reply::Began(at)),
         Ok(None) => Ok(Reply::NoHandle),
         Err(_) => Ok(Reply::InTx),
+    }
+}
+
+pub(crate) fn grouped(answer: Result<LabelReplies, CoreError>) -> Result<Reply, Stop>
+    ensures { result ≡ spec.grouped answer }
+{
+    match answer {
+        Ok(answers) => Ok(Reply::Grouped(answers)),
+        Err(error) => refused(error),
     }
 }
 

@@ -70,6 +70,7 @@ fn gather<'a, D: Disk + Drop, O: Origin, R: Wait>(
             done: _,
         } = job;
         let ParClient {
+            shared: _,
             session,
             geometry: _,
             alloc: _,

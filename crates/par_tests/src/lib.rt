@@ -10,6 +10,8 @@ mod tests_drawn;
 #[cfg(test)]
 mod tests_gate;
 #[cfg(test)]
+mod tests_groups;
+#[cfg(test)]
 mod tests_operations;
 #[cfg(test)]
 mod tests_statuses;

@@ -1,0 +1,19 @@
+use Rattle.par_lines.proofs.Words.{arith, subst, sym, port_view, Answered}
+use Rattle.script_model.specs.declared.script.Op.TheVariants.{Group}
+use Rattle.par_lines.proofs.Grouping.{answers, port_units, wants_memory}
+use Rattle.par_lines.proofs.groups.group.Goals as goal
+
+pub returns-then-labels-gt-MAX_LABELS-clause-did : goal.returns-then-labels-gt-MAX_LABELS-clause-did
+returns-then-labels-gt-MAX_LABELS-clause-did g c = wants_memory g.O.Origin.start c.args.session.now c.args.labels.now
+
+pub returns-in_default-clause-did : goal.returns-in_default-clause-did
+returns-in_default-clause-did g c = wants_memory g.O.Origin.start c.args.session.now c.args.labels.now
+
+pub split_port-port-requires-clause-units : goal.split_port-port-requires-clause-units
+split_port-port-requires-clause-units g c = port_units (port_view c.args.session.now.port) c.args.session.now.tx c.requires.session.one c.requires.units
+
+pub returns-clause-did : goal.returns-clause-did
+returns-clause-did g c =
+    subst (λ r. Answered g.O.Origin.start c.args.session.now (Group c.args.labels.now) r c.join_port.new.self) (sym c.grouped.ensures)
+    (answers g.O.Origin.start c.args.session.now c.split_port-port.new.self c.join_port.new.self c.split_port-port.result c.look_all.new.port c.commit_group-answer.new.port c.args.labels.now c.look_all.new.found.items
+    c.split_port-port.ensures.did c.look_all.ensures.did c.look_all.ensures.new c.look_all.ensures.units c.commit_group-answer.ensures.units c.join_port.ensures.did c.commit_group-answer.result c.commit_group-answer.ensures.did)
