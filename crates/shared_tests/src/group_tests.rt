@@ -2,8 +2,7 @@
 ghost use Rattle.std.specs.Prelude.{◌≡◌, ◌+◌, ◌<◌, ◌≤◌, [], ◌∷◌, IfErr, IfNone, IfOk, IfSome, MatchOption, length, vec_len};
 ghost use Rattle.std.specs.List.{AllByRecursion};
 ghost use Rattle.iso_memdisk.specs.MemDisk.{state_of};
-ghost use Rattle.iso_shared.specs.Groups.{units_of};
-ghost use Rattle.iso_shared.specs.Ports.{IsPort, IsTx, port_view, tx_view};
+ghost use Rattle.iso_shared.specs.Ports.{IsPort, IsTx, port_view};
 ghost use Rattle.iso_shared.specs.TestImage.{small, MayStart};
 
 use crate::answer_tests::one_at_work;
@@ -27,7 +26,7 @@ fn writer<O: Origin, R: Wait>(
     requires port { IsPort shared.now port.old × (1 < (port_view port.old).units) }
     requires image { (O.start.world.geometry ≡ small) × (block < 4) }
     ensures port { IsPort shared.now port.new }
-    ensures units { MatchOption result ((port_view port.new).units ≡ (port_view port.old).units) (λ t. (port_view port.new).units + (tx_view t).units ≡ (port_view port.old).units) }
+    ensures units { MatchOption result ((port_view port.new).units ≡ (port_view port.old).units) (λ _. (port_view port.new).units + 1 ≡ (port_view port.old).units) }
     ensures tx { IfSome result (IsTx shared.now O.start) }
 {
     let Ok(mut tx) = shared.begin(rt, port, None) else {
