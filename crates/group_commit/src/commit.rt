@@ -1,5 +1,6 @@
 // A group of those transactions that were found under labels.
 ghost use Rattle.std.specs.Prelude.{◌≡◌, ◌⊎◌, ◌<◌, ◌≤◌, is_some, length, map, IfErr, IfOk};
+ghost use Rattle.iso_core.specs.declared.group_end.TheConstants.{MAX_GROUP};
 ghost use Rattle.iso_model.specs.declared.core_error.CoreError.TheVariants.{Disk as OfDisk, Down as OfDown, Memory as OfMemory};
 ghost use Rattle.iso_shared.specs.Ports.{IsPort, port_view};
 ghost use Rattle.group_commit.specs.Groups.{AreMembers, AreTxs, HasEnded, HasGrouped, KnowsAll, found_in, marks_of, units_all};
@@ -23,7 +24,7 @@ fn end_all<D: Disk + Drop, O: Origin, R: Wait>(
     requires port { IsPort shared.now port.old }
     requires group { AreTxs shared.now O.start group.items }
     requires some { 0 < length group.items }
-    requires most { length group.items ≤ 16 }
+    requires most { length group.items ≤ MAX_GROUP }
     ensures port { IsPort shared.now port.new }
     ensures units { (port_view port.new).units ≡ units_all (port_view port.old) group.items }
     ensures did { HasEnded O.start (port_view port.old) group.items result (port_view port.new) }
@@ -54,7 +55,7 @@ pub fn commit_group<D: Disk + Drop, O: Origin, R: Wait>(
 ) -> Result<LabelReplies, CoreError>
     requires port { IsPort shared.now port.old }
     requires members { AreMembers shared.now O.start members.items }
-    requires most { length members.items ≤ 16 }
+    requires most { length members.items ≤ MAX_GROUP }
     ensures port { IsPort shared.now port.new }
     ensures units { (port_view port.new).units ≡ units_all (port_view port.old) (found_in members.items) }
     ensures did { HasGrouped O.start (port_view port.old) members.items result (port_view port.new) }

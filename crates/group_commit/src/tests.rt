@@ -81,21 +81,6 @@ fn posted<O: Origin, R: Wait>(
     session.post_tx(rt, label).ok()
 }
 
-/// Two of them, under these labels. The second one may read what the first one writes.
-fn both_posted<O: Origin, R: Wait>(
-    rt: &R,
-    session: &mut Session<MemDisk, O>,
-    reads: bool,
-) -> Option<()>
-    requires session { IsSession O.start session.old × (1 < units session.old) }
-    requires image { O.start.world.geometry ≡ small }
-    ensures session { IsSession O.start session.new }
-    ensures device { device session.new ≡ device session.old }
-{
-    posted(rt, session, false, 0, Label::new(b"a")?)?;
-    posted(rt, session, reads, 1, Label::new(b"b")?)
-}
-
 /// What is held under the two labels and under one more, place by place. Each look takes one of the port's units.
 fn looked<O: Origin, R: Wait>(
     rt: &R,
@@ -145,40 +130,51 @@ fn grouped<O: Origin, R: Wait>(
 /// What a group was told, and the numbers of the image behind it.
 type Told = (Result<LabelReplies, CoreError>, Stat);
 
-/// Two transactions are put under labels in one thread, while the other session reads the numbers of the image in another one;
-/// then that session ends them as a group.
+/// Two transactions are put under labels in two threads; then a third session ends them as a group. The second one may read what
+/// the first one writes.
 fn across<O: Origin + Send + Sync, R: Threads + Wait + Sync>(
     rt: &R,
-    alloc: Global,
-    shared: &Shared<MemDisk, O>,
     first: &mut Session<MemDisk, O>,
     second: &mut Session<MemDisk, O>,
     reads: bool,
-) -> Option<Told>
+) -> Option<()>
     requires first { IsSession O.start first.old × (1 < units first.old) }
-    requires second { IsSession O.start second.old × (33 < units second.old) × (device second.old ≡ shared.now) }
+    requires second { IsSession O.start second.old × (1 < units second.old) }
     requires image { O.start.world.geometry ≡ small }
     ensures first { IsSession O.start first.new }
     ensures second { IsSession O.start second.new }
 {
-    let labels = [Label::new(b"a")?, Label::new(b"zz")?, Label::new(b"b")?];
-    let (put, _) = join_mut(
+    let (one, two) = join_mut(
         rt,
         &mut || -> Option<()>
             requires { IsSync R.row × IsSession O.start first.now × (1 < units first.now) × (O.start.world.geometry ≡ small) }
             ensures { IsSession O.start first.exit.now }
-        { both_posted(rt, first, reads) },
-        &mut || -> Stat
-            requires { IsSync R.row × IsSession O.start second.now }
-            ensures { IsSession O.start second.exit.now × (device second.exit.now ≡ device second.entry.now) × (units second.exit.now ≡ units second.entry.now) }
-        { second.stat(rt) },
+        { posted(rt, first, false, 0, Label::new(b"a")?) },
+        &mut || -> Option<()>
+            requires { IsSync R.row × IsSession O.start second.now × (1 < units second.now) × (O.start.world.geometry ≡ small) }
+            ensures { IsSession O.start second.exit.now }
+        { posted(rt, second, reads, 1, Label::new(b"b")?) },
     );
-    put?;
-    let told = grouped(rt, alloc, shared, second, &labels);
-    Some((told, second.stat(rt)))
+    one?;
+    two
 }
 
-/// The same of two sessions over a core.
+/// What the third session is told of the group, and the numbers of the image behind it.
+fn ended<O: Origin, R: Wait>(
+    rt: &R,
+    alloc: Global,
+    shared: &Shared<MemDisk, O>,
+    session: &mut Session<MemDisk, O>,
+) -> Option<Told>
+    requires session { IsSession O.start session.old × (33 < units session.old) × (device session.old ≡ shared.now) }
+    ensures session { IsSession O.start session.new }
+{
+    let labels = [Label::new(b"a")?, Label::new(b"zz")?, Label::new(b"b")?];
+    let told = grouped(rt, alloc, shared, session, &labels);
+    Some((told, session.stat(rt)))
+}
+
+/// Both of three sessions over a core.
 fn run_across<O: Origin + Send + Sync, R: Threads + Wait + Sync>(
     rt: &R,
     alloc: Global,
@@ -190,12 +186,18 @@ fn run_across<O: Origin + Send + Sync, R: Threads + Wait + Sync>(
     match Shared::<MemDisk, O>::new(alloc, core) {
         Err((_memory, _core)) => None,
         Ok((shared, mut port)) => {
-            let other = shared.port(&mut port, 1 << 32);
-            let mut first = Session::new(&shared, port);
-            let mut second = Session::new(&shared, other);
-            let told = across(rt, alloc, &shared, &mut first, &mut second, reads);
+            let one = shared.port(&mut port, 1 << 32);
+            let two = shared.port(&mut port, 1 << 32);
+            let mut first = Session::new(&shared, one);
+            let mut second = Session::new(&shared, two);
+            let mut third = Session::new(&shared, port);
+            let told = match across(rt, &mut first, &mut second, reads) {
+                Some(()) => ended(rt, alloc, &shared, &mut third),
+                None => None,
+            };
             let _ = first.finish(rt);
             let _ = second.finish(rt);
+            let _ = third.finish(rt);
             told
         }
     }

@@ -9,7 +9,7 @@ use Rattle.group_commit.proofs.tests.new_core.Goals as goal
 
 pub format_image-requires-clause-blank : goal.format_image-requires-clause-blank
 format_image-requires-clause-blank c =
-    blank_now 8832 c.fuse.new.self c.in_ok-bytes.bytes.items (still_starts c.new.result c.fuse.new.self c.in_ok-bytes.bytes.items c.fuse.ensures.untouched c.new.ensures.stable) c.in_ok-bytes.ensures
+    blank_now 8832 c.fuse.new.self c.in_ok-bytes.bytes.items (still_starts c.new-disk.result c.fuse.new.self c.in_ok-bytes.bytes.items c.fuse.ensures.untouched c.new-disk.ensures.stable) c.in_ok-bytes.ensures
 
 pub returns-in-Ok : goal.returns-in-Ok
 returns-in-Ok c = subst (λ (g : Geometry). StandsFor state_of c.in-Ok.core (fresh g 1 (empty_history g)) up) c.small.ensures.same c.in-Ok.ensures.stands
