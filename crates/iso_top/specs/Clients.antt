@@ -47,7 +47,8 @@ PrintedClients status parts old new =
     ⊎ ((status ≡ 5) × (status_of parts ≡ 5) × IsOutput parts text × Printed old new (text ++ disk_fault_text))
     ⊎ ((status ≡ 8) × (((status_of parts ≡ 8) × IsOutput parts text) ⊎ IsFront parts text) × Printed old new (text ++ memory_text)))
 
--- the image shows the history at its last commit; or, once a fault set the device down, that or that with the lost commits behind it
+-- The image shows the history at its last commit; or, once a fault set the device down, that or that with the lost commits behind
+-- it: the one commit of an end, or all commits of a group, and never some of them.
 abbrev pub ShowsBehind : (lost : Option (List Commit)) → World → (image : List ℕ) → Type 0
 ShowsBehind None W image = ShowsLast W image
 ShowsBehind (Some lost) W image = ShowsWith W lost image

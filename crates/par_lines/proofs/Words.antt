@@ -12,7 +12,7 @@ pub use Rattle.std.specs.Option.{ForSome}
 pub use Rattle.std.specs.Prelude.{All, Err, IfErr, IfOk, IsSome, IsTrue, Ok, Result, filter, is_some, option_map, slice_get, slice_index, sum_by, vec_capacity}
 pub use Rattle.group_commit.proofs.Grouping.{through_group}
 pub use Rattle.group_commit.specs.Groups.{AreMembers, HasGrouped, found_in, group_of, marks_of, refused_by, spread, units_all}
-pub use Rattle.group_commit.specs.Stub.{answered, members_in, units_of}
+pub use Rattle.iso_shared.specs.Groups.{answered, units_of}
 pub use Rattle.handle_pass.proofs.Logs.{log_count, log_more, log_none, log_seen, moves_joined, moves_made, moves_none, moves_on, moves_rested, through_made, through_none, through_on}
 pub use Rattle.handle_pass.proofs.Visiting.{blocks_append}
 pub use Rattle.handle_pass.specs.Accesses.{HasMarked, HasRead, HasWritten, IsReadCause, IsWriteCause, Shows, access_answer, accesses_of, mark_answer, tx_on, with_access, with_mark}
@@ -52,7 +52,7 @@ pub use Rattle.iso_model.specs.declared.memory.NotInTx.{NotInTx}
 pub use Rattle.iso_shared.specs.Legal.{IsLegal, reply_of}
 pub use Rattle.iso_shared.specs.Ports.{IsPort, IsTx, doing_of, number_of, port_view, tx_view}
 pub use Rattle.iso_shared.specs.States.{Start, members_of, replies_of, state_at}
-pub use Rattle.iso_shared.specs.Told.{cause_of, compact_entry, numbers_of, posting_of_tx, trim_entry, upgrade_entry}
+pub use Rattle.iso_shared.specs.Told.{cause_of, compact_entry, members_in, numbers_of, posting_of_tx, trim_entry, upgrade_entry}
 pub use Rattle.iso_shared.specs.declared.entry.Cause.{Cause}
 pub use Rattle.iso_shared.specs.declared.entry.Entry.{Entry}
 pub use Rattle.iso_shared.specs.declared.entry.Member.{Member}
