@@ -149,3 +149,56 @@ fn a_fault_at_each_call_of_two_commits(rt: HostRuntime) -> Result<(), Fail> {
     }
     Ok(())
 }
+
+/// Two transactions under labels with these puts, and a group of them.
+const A_GROUP: &[u8] =
+    b"1 begin\n1 put 0 0 aa\n1 release a\n2 begin\n2 put 0 1 bb\n2 release b\n3 group a b\n";
+
+/// What a run of the group gives on a small image, that stops after so many calls: opening it takes six, and the group four.
+/// Says the status and the output, and to what the images for the picks 0 and 1 are opened: none of the two commits, or both.
+fn expected_of_a_group(calls: u64) -> (u8, &'static [u8], &'static [u8], &'static [u8]) {
+    let none = b"! disk fault\n".as_slice();
+    let cut =
+        b"1 ok begin 0\n1 ok\n1 ok\n2 ok begin 0\n2 ok\n2 ok\n! disk fault\n".as_slice();
+    let whole =
+        b"1 ok begin 0\n1 ok\n1 ok\n2 ok begin 0\n2 ok\n2 ok\n3 ok commit 1; commit 2\n".as_slice();
+    match calls {
+        0..=5 => (5, none, NONE_OF_TWO, NONE_OF_TWO),
+        6..=8 => (5, cut, NONE_OF_TWO, NONE_OF_TWO),
+        9 => (5, cut, NONE_OF_TWO, BOTH),
+        _ => (0, whole, BOTH, BOTH),
+    }
+}
+
+/// Whether an outcome is the expected one of the group.
+fn is_as_a_group(alloc: Global, outcome: &Outcome, calls: u64) -> Result<bool, Fail> {
+    let (status, output, synced, written) = expected_of_a_group(calls);
+    let left = leaves(alloc, &outcome.disk, SHOW_TWO, synced, written)?;
+    Ok(outcome.status == status && outcome.output.as_slice() == output && left)
+}
+
+#[test]
+fn a_stop_after_each_call_of_a_group(rt: HostRuntime) -> Result<(), Fail> {
+    let alloc = rt.alloc();
+    for calls in 0..12 {
+        let mut disk = MemDisk::new(alloc, small_image(alloc)?);
+        disk.fuse(calls);
+        let outcome = call_on(alloc, RUN, disk, A_GROUP)?;
+        assert!(rt; is_as_a_group(alloc, &outcome, calls)?, "{calls}");
+    }
+    Ok(())
+}
+
+#[test]
+fn a_fault_at_each_call_of_a_group(rt: HostRuntime) -> Result<(), Fail> {
+    let alloc = rt.alloc();
+    for calls in 0..11u64 {
+        let number = calls.saturating_add(1);
+        let mut disk = MemDisk::new(alloc, small_image(alloc)?);
+        disk.fail(number);
+        let outcome = call_on(alloc, RUN, disk, A_GROUP)?;
+        assert!(rt; is_as_a_group(alloc, &outcome, calls)?, "{calls}");
+        assert_eq!(rt; outcome.disk.calls(), number.min(10));
+    }
+    Ok(())
+}

@@ -170,3 +170,24 @@ fn a_log_is_filled_to_its_last_byte(rt: HostRuntime) -> Result<(), Fail> {
     assert_eq!(rt; said.replies(), replies.as_slice());
     Ok(())
 }
+
+#[test]
+fn a_group_ends_what_is_under_its_labels(rt: HostRuntime) -> Result<(), Fail> {
+    let alloc = rt.alloc();
+    let first = started(alloc, Mode::Serial)?
+        .begin(1)?
+        .put(alloc, 1, 0, 0xaa, 1)?
+        .release(1, b"a")?
+        .begin(2)?
+        .get(2, 0)?
+        .put(alloc, 2, 1, 0xbb, 1)?
+        .release(2, b"b")?;
+    let said = first
+        .group(alloc, 3, [b"a".as_slice(), b"a", b"b"])?
+        .takeover(3, b"b")?
+        .ask(3, &Op::Stat)?;
+    let replies =
+        b"1 ok begin 0\n1 ok\n1 ok\n2 ok begin 0\n2 ok 00\n2 ok\n2 ok\n3 ok commit 1; none; conflict with 1 block 0 at 0\n3 no-handle\n3 ok last 1 base 0 trim 0 live 0 used 29 versions 1\n";
+    assert_eq!(rt; said.replies(), replies.as_slice());
+    Ok(())
+}

@@ -1,5 +1,5 @@
 // A machine of the tests with what it has answered.
-ghost use Rattle.std.specs.Prelude.{◌≤◌, ◌<◌, IfOk, IfSome, IsTrue};
+ghost use Rattle.std.specs.Prelude.{◌≡◌, ◌+◌, ◌≤◌, ◌<◌, IfOk, IfSome, IsTrue, OnOk, length};
 ghost use Rattle.iso_memdisk.specs.MemDisk.{state_of};
 ghost use Rattle.iso_model.specs.Premises.{AreBytes};
 ghost use Rattle.iso_model.specs.Labels.{is_label};
@@ -8,7 +8,7 @@ ghost use Rattle.machine_tests.specs.TestMachines.{IsUp};
 
 use iso_machine::Machine;
 use iso_memdisk::MemDisk;
-use iso_model::{Bytes, Label, Memory, Mode};
+use iso_model::{Bytes, Label, LabelList, Memory, Mode};
 use script_model::Op;
 use script_runner::ScriptMachine;
 use script_text::push_reply;
@@ -33,6 +33,27 @@ fn label_of(text: &[u8]) -> Option<Label>
     ensures { IfSome result (λ l. IsTrue (is_label l)) }
 {
     Label::new(text)
+}
+
+/// One more label of this text.
+fn push_label(labels: &mut LabelList, text: &[u8]) -> Result<(), Memory>
+    ensures { OnOk result (length labels.new ≡ length labels.old + 1) }
+{
+    match Label::new(text) {
+        Some(label) => labels.push(label),
+        None => Err(Memory),
+    }
+}
+
+/// The labels of these texts.
+fn three_labels(alloc: Global, texts: [&[u8]; 3]) -> Result<LabelList, Memory>
+    ensures { IfOk result (λ l. length l ≡ 3) }
+{
+    let mut labels = LabelList::empty(alloc);
+    push_label(&mut labels, texts[0])?;
+    push_label(&mut labels, texts[1])?;
+    push_label(&mut labels, texts[2])?;
+    Ok(labels)
 }
 
 impl Session {
@@ -163,5 +184,20 @@ impl Session {
             Some(label) => self.ask(client, &Op::Takeover { label }),
             None => Err(Memory),
         }
+    }
+
+    /// A group of the transactions under three labels.
+    pub(crate) fn group(
+        self,
+        alloc: Global,
+        client: u8,
+        texts: [&[u8]; 3],
+    ) -> Result<Session, Memory>
+        requires up { IsUp state_of self.machine }
+        requires client { (1 ≤ client) × (client ≤ 64) }
+        ensures { IfOk result (λ s. IsUp state_of s.machine) }
+    {
+        let labels = three_labels(alloc, texts)?;
+        self.ask(client, &Op::Group { labels })
     }
 }

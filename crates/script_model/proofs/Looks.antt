@@ -1,5 +1,5 @@
 -- The transactions that a group finds under its labels, and the world in which they have left these.
-use Rattle.script_model.proofs.Words.{◌≡◌, ◌∙◌, refl, ap, ℕ, ◌<◌, ◌≤◌, List, [], ◌∷◌, Option, Some, None, arith, subst, IsWorld, IsLive, LeadsTo, AllByRecursion, World, Live, Place, client, label, held, is_under_label, unattached, all_find, leads_on, live_on, places, stays, after_look, found_ones, looks, placed, AreApart, IsPlace}
+use Rattle.script_model.proofs.Words.{◌≡◌, ◌∙◌, refl, ℕ, List, [], ◌∷◌, Option, Some, None, arith, IsWorld, IsLive, LeadsTo, AllByRecursion, World, Live, Place, client, label, held, is_under_label, unattached, all_find, leads_on, live_on, places, stays, after_look, found_ones, looks, placed, AreApart}
 
 nowhere : (place : Place) → AreApart place unattached
 nowhere (client c) = tt

@@ -11,7 +11,6 @@ use Rattle.script_model.specs.declared.script.Reply.TheVariants.{Committed, Grou
 use Rattle.script_model.specs.declared.script.TheConstants.{MAX_LABELS}
 use Rattle.iso_model.specs.Premises.{AreBytes}
 use Rattle.iso_model.specs.Labels.{is_label}
-use Rattle.iso_model.specs.World.{label}
 
 -- an operation whose bytes are bytes, whose label is one, and which has no more labels than a group may have
 abbrev pub IsOp : Op → Type 0
