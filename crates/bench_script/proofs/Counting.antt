@@ -1,28 +1,29 @@
 -- A tally of the lines of replies.
-use Rattle.bench_script.proofs.Words.{◌≡◌, ◌∙◌, sym, ap, ℕ, ◌+◌, ◌≤◌, true, List, [], ◌∷◌, ◌++◌, length, length-append, append_assoc, decimal, arith, subst, Contains, filter, list_all, Line, Reply, answers_to, is_committed, is_conflict, replies, step, reply_line, reply_text, World, LineKind, kind_of, commits_in, conflicts_in}
+use Rattle.bench_script.proofs.Words.{◌≡◌, ◌∙◌, sym, ap, ℕ, ◌+◌, ◌≤◌, true, List, [], ◌∷◌, ◌++◌, length, length-append, append_assoc, decimal, arith, subst, Contains, filter, list_all, Line, Reply, is_committed, is_conflict, reply_line, reply_text, text_of, LineKind, kind_of, commits_in, conflicts_in}
 use Rattle.bench_script.proofs.KindsOfReplies.{commits_with, conflicts_with}
 use Rattle.bench_script.proofs.ReplyTexts.{is_other, both, other_than_digits, reply_has_no_feed}
 use Rattle.bench_script.proofs.Splits.{is_there, same_split}
 
--- of the replies to these lines, what is left of the text is those to some last ones, and the others are counted
-pub record IsLeft (W : World) (lines : List (ℕ × Line)) (rest : List ℕ) (commits conflicts : ℕ) : Type 0 where
-  pub world : World
+-- of these replies, what is left of the text is some last ones, and the others are counted
+pub record IsLeft (given : List Reply) (rest : List ℕ) (commits conflicts : ℕ) : Type 0 where
   pub left : List (ℕ × Line)
-  pub text : rest ≡ replies world left
-  pub commits_are : commits + length (filter is_committed (answers_to world left)) ≡ length (filter is_committed (answers_to W lines))
-  pub conflicts_are : conflicts + length (filter is_conflict (answers_to world left)) ≡ length (filter is_conflict (answers_to W lines))
+  pub more : List Reply
+  pub as_many : length more ≡ length left
+  pub text : rest ≡ text_of left more
+  pub commits_are : commits + length (filter is_committed more) ≡ length (filter is_committed given)
+  pub conflicts_are : conflicts + length (filter is_conflict more) ≡ length (filter is_conflict given)
 
 -- so far a tally has counted right
 pub record IsCounted (text rest : List ℕ) (commits conflicts : ℕ) : Type 0 where
   pub commits_fit : commits + length rest ≤ length text
   pub conflicts_fit : conflicts + length rest ≤ length text
-  pub since : (W : World) (lines : List (ℕ × Line)) → text ≡ replies W lines → IsLeft W lines rest commits conflicts
+  pub since : (lines : List (ℕ × Line)) (given : List Reply) → length given ≡ length lines → text ≡ text_of lines given → IsLeft given rest commits conflicts
 
 pub at_first : (text : List ℕ) → IsCounted text text 0 0
 at_first text = record {
   commits_fit = omega arith;
   conflicts_fit = omega arith;
-  since = λ W lines is. record { world = W; left = lines; text = is; commits_are = omega arith; conflicts_are = omega arith };
+  since = λ lines given many is. record { left = lines; more = given; as_many = many; text = is; commits_are = omega arith; conflicts_are = omega arith };
 }
 
 -- a line of a reply, and what follows it
@@ -36,32 +37,35 @@ no_feed client reply = both 10 (decimal client) (32 ∷ reply_text reply) (other
 abbrev Tells : List ℕ → LineKind → Type 0
 Tells line kind = (client : ℕ) (reply : Reply) → line ≡ decimal client ++ 32 ∷ reply_text reply → kind ≡ kind_of reply
 
-one_more : (W : World) (lines : List (ℕ × Line)) (rest line next : List ℕ) (commits conflicts : ℕ) (kind : LineKind) → rest ≡ line ++ 10 ∷ next → ¬ Contains line 10
-    → Tells line kind → IsLeft W lines rest commits conflicts → IsLeft W lines next (commits + commits_in kind) (conflicts + conflicts_in kind)
-one_more W lines rest line next commits conflicts kind split none tells is = go is.world is.left is.text is.commits_are is.conflicts_are
+one_more : (given : List Reply) (rest line next : List ℕ) (commits conflicts : ℕ) (kind : LineKind) → rest ≡ line ++ 10 ∷ next → ¬ Contains line 10
+    → Tells line kind → IsLeft given rest commits conflicts → IsLeft given next (commits + commits_in kind) (conflicts + conflicts_in kind)
+one_more given rest line next commits conflicts kind split none tells is = go is.left is.more is.as_many is.text is.commits_are is.conflicts_are
   where
-    go : (V : World) (left : List (ℕ × Line)) → rest ≡ replies V left
-        → commits + length (filter is_committed (answers_to V left)) ≡ length (filter is_committed (answers_to W lines))
-        → conflicts + length (filter is_conflict (answers_to V left)) ≡ length (filter is_conflict (answers_to W lines))
-        → IsLeft W lines next (commits + commits_in kind) (conflicts + conflicts_in kind)
-    go V [] text first second =
+    nothing : rest ≡ [] → ⊥
+    nothing text =
         let size : length (line ++ 10 ∷ next) ≡ 0 = ap length (sym split ∙ text) in
         absurd (omega (arith, size, length-append line (10 ∷ next)))
-    go V (l ∷ left) text first second =
+
+    go : (left : List (ℕ × Line)) (more : List Reply) → length more ≡ length left → rest ≡ text_of left more
+        → commits + length (filter is_committed more) ≡ length (filter is_committed given)
+        → conflicts + length (filter is_conflict more) ≡ length (filter is_conflict given)
+        → IsLeft given next (commits + commits_in kind) (conflicts + conflicts_in kind)
+    go [] more many text first second = absurd (nothing text)
+    go (l ∷ left) [] many text first second = absurd (nothing text)
+    go (l ∷ left) (reply ∷ more) many text first second =
         let client = l.1.client in
-        let reply = (step V client l.1.op).0 in
-        let U = (step V client l.1.op).1 in
-        let parts = same_split 10 line (decimal client ++ 32 ∷ reply_text reply) next (replies U left) none (no_feed client reply)
-        (sym split ∙ text ∙ line_first client reply (replies U left)) in
+        let parts = same_split 10 line (decimal client ++ 32 ∷ reply_text reply) next (text_of left more) none (no_feed client reply)
+        (sym split ∙ text ∙ line_first client reply (text_of left more)) in
         let same : kind ≡ kind_of reply = tells client reply parts.0 in
         let commits_same : commits_in kind ≡ commits_in (kind_of reply) = ap commits_in same in
         let conflicts_same : conflicts_in kind ≡ conflicts_in (kind_of reply) = ap conflicts_in same in
         record {
-          world = U;
           left = left;
+          more = more;
+          as_many = omega (arith, many);
           text = parts.1;
-          commits_are = omega (arith, first, commits_same, commits_with reply (answers_to U left));
-          conflicts_are = omega (arith, second, conflicts_same, conflicts_with reply (answers_to U left));
+          commits_are = omega (arith, first, commits_same, commits_with reply more);
+          conflicts_are = omega (arith, second, conflicts_same, conflicts_with reply more);
         }
 
 at_most_one : (kind : LineKind) → (commits_in kind ≤ 1) × (conflicts_in kind ≤ 1)
@@ -77,22 +81,23 @@ count_on text rest line next commits conflicts new_commits new_conflicts kind sp
     rw (more_commits, more_conflicts) (record {
       commits_fit = omega (arith, is.commits_fit, most.0);
       conflicts_fit = omega (arith, is.conflicts_fit, most.1);
-      since = λ W lines all. one_more W lines rest line next commits conflicts kind split none tells (is.since W lines all);
+      since = λ lines given many all. one_more given rest line next commits conflicts kind split none tells (is.since lines given many all);
     })
 
 -- where no line is left, all are counted
-pub all_counted : (text rest : List ℕ) (commits conflicts : ℕ) → IsCounted text rest commits conflicts → ¬ Contains rest 10 → (W : World) (lines : List (ℕ × Line)) → text ≡ replies W lines
-    → (commits ≡ length (filter is_committed (answers_to W lines))) × (conflicts ≡ length (filter is_conflict (answers_to W lines)))
-all_counted text rest commits conflicts is none W lines all =
-    let left = is.since W lines all in go left.world left.left left.text left.commits_are left.conflicts_are
+pub all_counted : (text rest : List ℕ) (commits conflicts : ℕ) → IsCounted text rest commits conflicts → ¬ Contains rest 10
+    → (lines : List (ℕ × Line)) (given : List Reply) → length given ≡ length lines → text ≡ text_of lines given
+    → (commits ≡ length (filter is_committed given)) × (conflicts ≡ length (filter is_conflict given))
+all_counted text rest commits conflicts is none lines given many all =
+    let left = is.since lines given many all in go left.left left.more left.as_many left.text left.commits_are left.conflicts_are
   where
-    go : (V : World) (left : List (ℕ × Line)) → rest ≡ replies V left
-        → commits + length (filter is_committed (answers_to V left)) ≡ length (filter is_committed (answers_to W lines))
-        → conflicts + length (filter is_conflict (answers_to V left)) ≡ length (filter is_conflict (answers_to W lines))
-        → (commits ≡ length (filter is_committed (answers_to W lines))) × (conflicts ≡ length (filter is_conflict (answers_to W lines)))
-    go V [] text first second = (omega (arith, first), omega (arith, second))
-    go V (l ∷ left) text first second =
+    go : (left : List (ℕ × Line)) (more : List Reply) → length more ≡ length left → rest ≡ text_of left more
+        → commits + length (filter is_committed more) ≡ length (filter is_committed given)
+        → conflicts + length (filter is_conflict more) ≡ length (filter is_conflict given)
+        → (commits ≡ length (filter is_committed given)) × (conflicts ≡ length (filter is_conflict given))
+    go [] [] many text first second = (omega (arith, first), omega (arith, second))
+    go [] (reply ∷ more) many text first second = absurd (omega (arith, many))
+    go (l ∷ left) [] many text first second = absurd (omega (arith, many))
+    go (l ∷ left) (reply ∷ more) many text first second =
         let client = l.1.client in
-        let reply = (step V client l.1.op).0 in
-        let more = replies (step V client l.1.op).1 left in
-        absurd (none (subst (λ (t : List ℕ). Contains t 10) (sym (text ∙ line_first client reply more)) (is_there 10 (decimal client ++ 32 ∷ reply_text reply) more)))
+        absurd (none (subst (λ (t : List ℕ). Contains t 10) (sym (text ∙ line_first client reply (text_of left more))) (is_there 10 (decimal client ++ 32 ∷ reply_text reply) (text_of left more))))

@@ -1,9 +1,9 @@
 // How many replies tell of a commit, and how many of a conflict.
 ghost use Rattle.std.specs.Prelude.{◌≡◌, ◌+◌, ◌-◌, ◌<◌, ◌^◌, ℕ, List, filter, length};
 ghost use Rattle.script_model.specs.declared.script.Line.{Line};
-ghost use Rattle.script_model.specs.Bench.{answers_to, is_committed, is_conflict};
-ghost use Rattle.script_model.specs.Script.{replies};
-ghost use Rattle.iso_model.specs.World.{World};
+ghost use Rattle.script_model.specs.declared.script.Reply.{Reply};
+ghost use Rattle.script_model.specs.Bench.{is_committed, is_conflict};
+ghost use Rattle.script_runner.specs.Replies.{text_of};
 ghost use Rattle.bench_script.specs.Kinds.{commits_in, conflicts_in};
 
 use crate::line_kind::{LineKind, kind_of_line};
@@ -16,10 +16,12 @@ pub struct Tally {
     pub conflicts: u64,
 }
 
-/// Counts the commits and the conflicts in the text of replies.
+/// Counts the commits and the conflicts in the text of replies, one to each line, whatever they are.
 pub fn tally_of(text: &[u8]) -> Tally
-    ensures commits { (W : World) (lines : List (ℕ × Line)) → text.now ≡ replies W lines → result.commits ≡ length (filter is_committed (answers_to W lines)) }
-    ensures conflicts { (W : World) (lines : List (ℕ × Line)) → text.now ≡ replies W lines → result.conflicts ≡ length (filter is_conflict (answers_to W lines)) }
+    ensures commits { (lines : List (ℕ × Line)) (given : List Reply) → length given ≡ length lines → text.now ≡ text_of lines given
+        → result.commits ≡ length (filter is_committed given) }
+    ensures conflicts { (lines : List (ℕ × Line)) (given : List Reply) → length given ≡ length lines → text.now ≡ text_of lines given
+        → result.conflicts ≡ length (filter is_conflict given) }
 {
     let mut counts = Tally {
         commits: 0,

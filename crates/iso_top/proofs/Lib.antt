@@ -12,3 +12,4 @@ mod Behind
 mod RunsOfClients
 mod ClientsMet
 mod Plainly
+mod Counted

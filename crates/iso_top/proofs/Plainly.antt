@@ -11,7 +11,7 @@ zero_is_done end.Input is = cc is
 zero_is_done end.Output is = cc is
 zero_is_done end.Memory is = cc is
 
-zero_is_begun : (e : OpenError) → 0 ≡ error_status e → ⊥
+pub zero_is_begun : (e : OpenError) → 0 ≡ error_status e → ⊥
 zero_is_begun error.NotIsotope is = cc is
 zero_is_begun (error.BadGeometry field) is = cc is
 zero_is_begun (error.WrongSize want have) is = cc is

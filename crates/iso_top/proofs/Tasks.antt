@@ -1,5 +1,5 @@
 -- What `recover` and `bench` have done, from the world that a call begins with.
-use Rattle.iso_top.proofs.Words.{◌≡◌, ◌≢◌, ◌⊎◌, inl, inr, ◌+◌, ◌++◌, ℕ, List, [], Option, Some, None, IfSome, IsSome, append-nil, refl, sym, ◌∙◌, ap, subst, arith, Rose, DiskState, LeavesOnly, since_bind, still_bound, SinkState, SourceState, Geometry, Line, bench_geometry, bench_output, bench_text, bench_world, recover_output, History, Script, script, IsWorld, World, empty_history, fresh, Core, StandsFor, disk_of, up, RunEnd, AreFirst, AreLinesOf, HasRun, ArePlain, IsPlain, all_first, ShowsBetween, HasCore, HasBegun, HasBenched, HasRecovered, PrintedBench, PrintedDigest, PrintedResult, IsUntouched, MayBeUnmade, OpensTo, TellsNamed}
+use Rattle.iso_top.proofs.Words.{◌≡◌, ◌≢◌, ◌⊎◌, inl, inr, ◌+◌, ◌++◌, ℕ, List, [], Option, Some, None, IfSome, IsSome, append-nil, refl, sym, ◌∙◌, ap, subst, arith, Rose, DiskState, LeavesOnly, since_bind, still_bound, SinkState, SourceState, Geometry, Line, bench_geometry, bench_output, bench_text, bench_world, recover_output, History, Script, script, IsWorld, World, empty_history, fresh, Core, StandsFor, disk_of, up, RunEnd, AreFirst, AreLinesOf, HasRun, ArePlain, IsPlain, all_first, ShowsBetween, HasCore, HasBegun, HasBenched, HasRecovered, PrintedBench, PrintedDigest, PrintedLine, PrintedResult, summary_of, IsUntouched, MayBeUnmade, OpensTo, TellsNamed}
 use Rattle.script_runner.specs.declared.run_end.RunEnd.TheVariants as end
 use Rattle.iso_top.proofs.Answered.{has_begun}
 
@@ -88,10 +88,11 @@ module _ {D : Type 0} (state : D → DiskState) (name : List ℕ) where
 
   pub benched : (seed count status : ℕ) (disk new : D) (core : Core D) (source : SourceState) (old put : SinkState) (has : HasCore state (Some bench_geometry) name disk core)
       (e : RunEnd) (drawn rest : SourceState) (empty held : SinkState) → drawn.rest ≡ Some (bench_text count seed) → empty.written ≡ Some [] → ArePlain (script (bench_text count seed)).lines
-      → HasRun (λ V. Unit {0}) (state (disk_of core)) (state new) drawn rest empty held bench_world e
+      → (run : HasRun (λ V. Unit {0}) (state (disk_of core)) (state new) drawn rest empty held bench_world e)
+      → PrintedLine e status (summary_of count run.done run.answered.on_any_disk.given) old put
       → PrintedBench seed count status e (IsSome (state (disk_of core)).contents) old put → HasBenched state name seed count status disk new source source old put
   unfolding made_world
-  benched seed count status disk new core source old put has e drawn rest empty held script_is nothing_held plain run printed = record {
+  benched seed count status disk new core source old put has e drawn rest empty held script_is nothing_held plain run counted printed = record {
     end = e;
     start = disk_of core;
     drawn = drawn;
@@ -105,5 +106,6 @@ module _ {D : Type 0} (state : D → DiskState) (name : List ℕ) where
         (run.answered.final_is.known (inr (plain_first e (script (bench_text count seed)) run.done run.next (lines_known e drawn.rest run.done run.next (bench_text count seed) script_is run.told) plain)))
         (has_begun state (Some bench_geometry) name disk new core (made_world state bench_geometry name disk core has) drawn rest empty held e run);
     printed = bench_told seed count status e (TellsNamed name (state disk)) (IsSome (state (disk_of core)).contents) has.told old put printed;
+    counted = counted;
     unread = refl;
   }

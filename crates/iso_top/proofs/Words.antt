@@ -1,5 +1,5 @@
 -- The words that the proofs of this crate cite from elsewhere.
-pub use Rattle.std.proofs.Common.{Bool, Err, IfOk, IfSome, IsErrOf, IsSome, IsTrue, List, None, Ok, Option, Result, Some, [], ap, append-nil, arith, cond, false, inl, inr, length, length-append, refl, subst, sym, take, true, ℕ, ⊎_elim, ◌++◌, ◌+◌, ◌-◌, ◌==◌, ◌||◌, ◌∙◌, ◌∷◌, ◌≡◌, ◌≢◌, ◌≤◌, ◌⊎◌}
+pub use Rattle.std.proofs.Common.{Bool, Err, IfOk, IfSome, IsErrOf, IsSome, IsTrue, List, None, Ok, Option, Result, Some, [], ap, append-nil, arith, cond, false, filter, inl, inr, length, length-append, refl, subst, suc, sym, take, true, ℕ, ⊎_elim, ◌++◌, ◌+◌, ◌-◌, ◌==◌, ◌||◌, ◌∙◌, ◌∷◌, ◌≡◌, ◌≢◌, ◌≤◌, ◌⊎◌}
 pub use Rattle.std.proofs.Math.Seq.{take-append-add}
 pub use Rattle.std.proofs.lemmas.List.{take-append-le}
 pub use Rattle.std.proofs.lemmas.Option.{same_Some}
@@ -8,6 +8,7 @@ pub use Rattle.std.specs.List.{AllByRecursion, list_any}
 pub use Rattle.std.specs.Option.{ForSome}
 pub use Rattle.array_digest.specs.declared.digest.DigestError.{DigestError}
 pub use Rattle.bench_script.specs.Ends.{DrawnState, HeldState, drawn_state, held_state}
+pub use Rattle.bench_script.specs.Rounds.{one_places}
 pub use Rattle.command_line.specs.Requests.{made_geometry}
 pub use Rattle.command_line.specs.declared.task.Task.{Task}
 pub use Rattle.command_line.specs.declared.task.Task.TheVariants.{Bench, New, Par, Recover, Run}
@@ -54,7 +55,7 @@ pub use Rattle.par_lines.specs.declared.par.ParEnd.{ParEnd}
 pub use Rattle.par_script.specs.Told.{Told, entries_of, lines_run}
 pub use Rattle.par_text.specs.Output.{IsFront, IsOutput}
 pub use Rattle.par_text.specs.declared.part.Part.{Part}
-pub use Rattle.script_model.specs.Bench.{answers_to, array_bytes, bench_geometry, bench_output, bench_summary, bench_text, bench_world, recover_output}
+pub use Rattle.script_model.specs.Bench.{answers_to, array_bytes, bench_geometry, bench_output, bench_summary, bench_text, bench_world, is_committed, is_conflict, recover_output}
 pub use Rattle.script_model.specs.Operations.{IsOp}
 pub use Rattle.script_model.specs.Script.{Script, after, replies, script}
 pub use Rattle.script_model.specs.declared.script.BadLine.{BadLine}
@@ -66,7 +67,7 @@ pub use Rattle.script_runner.proofs.Acknowledged.{told_kept}
 pub use Rattle.script_runner.proofs.Histories.{between_on, shows_last}
 pub use Rattle.script_runner.proofs.Replying.{plain_same}
 pub use Rattle.script_runner.proofs.Steps.{all_first}
-pub use Rattle.script_runner.specs.Replies.{AreSameButShown, TellsCommit, text_of}
+pub use Rattle.script_runner.specs.Replies.{AreRepliesTo, AreSameButShown, TellsCommit, text_of}
 pub use Rattle.script_runner.specs.Run.{Acknowledges, AreFirst, AreLinesOf, HasRun, IfUp}
 pub use Rattle.script_runner.specs.Told.{ArePlain, IsPlain}
 pub use Rattle.script_runner.specs.declared.run_end.RunEnd.{RunEnd}
@@ -79,12 +80,12 @@ pub use Rattle.whole_script.specs.declared.lines.ScriptError.{ScriptError}
 pub use Rattle.iso_top.specs.Begun.{HasCore, HasNoCore}
 pub use Rattle.iso_top.specs.Clients.{HasRunClients, HasRunNone, PrintedClients, ShowsBehind, ShowsState, WereRun}
 pub use Rattle.iso_top.specs.Founded.{BeginsWith}
-pub use Rattle.iso_top.specs.Outcome.{HasAnswered, HasBegun, HasBenched, HasMet, HasNotBegun, HasRecovered, IsAccepted, IsGoodInput, IsStatus, PrintedBench, PrintedDigest, PrintedEnd, PrintedResult}
-pub use Rattle.iso_top.specs.Plain.{OpensFrom, PrintsButShown, PrintsButShownOf, PrintsDigestOf, PrintsReplies, PrintsRepliesOf}
+pub use Rattle.iso_top.specs.Outcome.{HasAnswered, HasBegun, HasBenched, HasMet, HasNotBegun, HasRecovered, IsAccepted, IsGoodInput, IsStatus, PrintedBench, PrintedDigest, PrintedEnd, PrintedLine, PrintedResult, summary_of}
+pub use Rattle.iso_top.specs.Plain.{OpensFrom, PrintsButShown, PrintsCounts, PrintsButShownOf, PrintsDigestOf, PrintsReplies, PrintsRepliesOf}
 pub use Rattle.iso_top.specs.Prints.{Printed, SinkFailed, WasCut, WroteWhole}
 pub use Rattle.iso_top.specs.Ran.{HasClosed, HasRunLines, PutOf}
 pub use Rattle.iso_top.specs.Starts.{GoesOnTelling, IsUntouched, MayBeUnmade, OpensTo, TellsNamed, WasBoundOnce}
-pub use Rattle.iso_top.specs.Texts.{disk_fault_text, end_status, error_status, error_text, memory_text, recover_text, script_error_status, script_error_text}
+pub use Rattle.iso_top.specs.Texts.{bench_text_of, disk_fault_text, end_status, error_status, error_text, memory_text, recover_text, script_error_status, script_error_text}
 pub use Rattle.iso_top.specs.contracts.opened.Opened.{the_row}
 pub use Rattle.iso_top.specs.contracts.opened.world_of.{clauses, ended}
 pub use Rattle.iso_top.specs.declared.opened.Opened.{Opened}

@@ -1,5 +1,5 @@
 -- What a call on an image has done.
-use Rattle.std.specs.Prelude.{◌≡◌, ◌≢◌, ◌⊎◌, ℕ, List, [], ◌++◌, Option, Some, None}
+use Rattle.std.specs.Prelude.{◌≡◌, ◌≢◌, ◌⊎◌, ℕ, List, [], ◌++◌, Option, Some, None, filter, length}
 use Rattle.std.specs.Option.{ForSome}
 use Rattle.command_line.specs.declared.task.Task.{Task}
 use Rattle.command_line.specs.declared.task.Task.TheVariants.{New, Run, Par, Recover, Bench}
@@ -9,7 +9,9 @@ use Rattle.iso_disk.specs.Disk.{DiskState, IsBoundTo, SinceBind}
 use Rattle.iso_io.specs.Source.{SourceState}
 use Rattle.iso_io.specs.Sink.{SinkState}
 use Rattle.iso_model.specs.declared.access.Geometry.{Geometry}
-use Rattle.script_model.specs.Bench.{bench_geometry, bench_output, bench_text, bench_world, recover_output}
+use Rattle.script_model.specs.declared.script.Line.{Line}
+use Rattle.script_model.specs.declared.script.Reply.{Reply}
+use Rattle.script_model.specs.Bench.{bench_geometry, bench_output, bench_text, bench_world, is_committed, is_conflict, recover_output}
 use Rattle.iso_model.specs.History.{History}
 use Rattle.script_model.specs.Script.{after, script}
 use Rattle.iso_model.specs.World.{World}
@@ -20,14 +22,16 @@ use Rattle.iso_refusal.specs.Refusal.{refusal}
 use Rattle.script_runner.specs.declared.run_end.RunEnd.{RunEnd}
 use Rattle.script_runner.specs.declared.run_end.RunEnd.TheVariants as end
 use Rattle.iso_model.specs.Between.{ShowsBetween}
+use Rattle.script_runner.specs.Replies.{text_of}
 use Rattle.script_runner.specs.Run.{HasRun}
+use Rattle.sha2.specs.Sha256.{sha256}
 use Rattle.store_scripts.specs.InOrder.{StoresAnswer}
 use Rattle.whole_script.specs.Alone.{clients_script}
 use Rattle.whole_script.specs.declared.lines.ScriptError.{ScriptError}
 use Rattle.iso_top.specs.Clients.{HasRunClients, HasRunNone}
 use Rattle.iso_top.specs.Prints.{Printed, WasCut, WroteWhole}
 use Rattle.iso_top.specs.Starts.{GoesOnTelling, IsUnbegun, IsUntouched, MayBeUnmade, OpensTo, StartsFrom, TellsNamed, WasBoundOnce}
-use Rattle.iso_top.specs.Texts.{disk_fault_text, end_status, end_text, error_status, error_text, memory_text, script_error_status, usage_text}
+use Rattle.iso_top.specs.Texts.{bench_text_of, disk_fault_text, end_status, end_text, error_status, error_text, memory_text, script_error_status, usage_text}
 
 -- one of the statuses of the program
 abbrev pub IsStatus : ℕ → Type 0
@@ -106,6 +110,15 @@ PrintedBench seed count status end.Input tells old new = ⊥
 PrintedBench seed count status end.Output tells old new = (status ≡ 8) × Printed old new memory_text
 PrintedBench seed count status end.Memory tells old new = (status ≡ 8) × Printed old new memory_text
 
+-- the line of a bench of so many rounds whose lines were given these replies, one each
+abbrev pub summary_of : (count : ℕ) → List (ℕ × Line) → (given : List Reply) → List ℕ
+summary_of count lines given = bench_text_of count (length (filter is_committed given)) (length (filter is_conflict given)) (sha256 (text_of lines given))
+
+-- what was put of a run over a whole script whose line is this one
+abbrev pub PrintedLine : RunEnd → (status : ℕ) → (line : List ℕ) → SinkState → SinkState → Type 0
+PrintedLine end.Done status line old new = ((status ≡ 0) × WroteWhole old new line) ⊎ ((status ≡ 7) × WasCut old new line)
+PrintedLine e status line old new = Unit {0}
+
 -- A script was drawn and answered on a new image: `run` has the order theorem and the crash theorem of it, with the replies that
 -- were held in place of those put.
 pub record HasBenched {D : Type 0} (state : D → DiskState) (name : List ℕ) (seed count status : ℕ) (disk_old disk_new : D)
@@ -121,6 +134,8 @@ pub record HasBenched {D : Type 0} (state : D → DiskState) (name : List ℕ) (
   pub run : HasRun (λ V. Unit {0}) (state start) (state disk_new) drawn rest empty held bench_world end
   pub begun : HasBegun (Some bench_geometry) name (state disk_old) (state start) (state disk_new) bench_world (after bench_world (run.done ++ run.next))
   pub printed : PrintedBench seed count status end (TellsNamed name (state disk_old)) output_old output_new
+  -- whatever the disk tells, the line counts the replies that were given, which are the model's but for the bytes that they show
+  pub counted : PrintedLine end status (summary_of count run.done run.answered.on_any_disk.given) output_old output_new
   pub unread : input_new ≡ input_old
 
 -- a call on an image has ended so, by its task

@@ -1,5 +1,6 @@
 -- What the promise of a call means to a reader who knows images and texts alone.
-use Rattle.std.specs.Prelude.{◌≡◌, ℕ, ◌≤◌, List, Option, None, Some}
+use Rattle.std.specs.Prelude.{◌≡◌, ℕ, ◌-◌, ◌*◌, ◌≤◌, List, Option, None, Some}
+use Rattle.bench_script.specs.Rounds.{one_places}
 use Rattle.iso_io.specs.Sink.{SinkState, Wrote}
 use Rattle.iso_model.specs.declared.access.Geometry.{Geometry}
 use Rattle.iso_model.specs.History.{History, last}
@@ -11,6 +12,7 @@ use Rattle.script_model.specs.Bench.{answers_to, recover_output}
 use Rattle.script_model.specs.Script.{replies, script}
 use Rattle.script_runner.specs.Replies.{AreSameButShown, text_of}
 use Rattle.iso_top.specs.Starts.{OpensTo}
+use Rattle.iso_top.specs.Texts.{bench_text_of}
 
 -- the script has no bad line, and what was put is the replies of this world to its lines
 abbrev pub PrintsReplies : World → (script_text : List ℕ) → SinkState → SinkState → Type 0
@@ -42,6 +44,12 @@ pub record PrintsDigestOf (image : List ℕ) (old new : SinkState) : Type 0 wher
   pub history : History
   pub holds : IsImage image geometry generation history
   pub prints : Wrote old new (recover_output history)
+
+-- What was put is the line of a bench: so many rounds, the conflicts, which are as many as the rounds that draw one place twice, and the
+-- commits, which are twice the rounds less these.
+pub record PrintsCounts (seed count : ℕ) (old new : SinkState) : Type 0 where
+  pub digest : List ℕ
+  pub put : Wrote old new (bench_text_of count (2 * count - one_places count seed) (one_places count seed) digest)
 
 -- each test accepts the image, and it opens to a history whose last commit is n or a later one
 pub record OpensFrom (n : ℕ) (image : List ℕ) : Type 0 where

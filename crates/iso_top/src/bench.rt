@@ -1,15 +1,17 @@
 // A script that is drawn, answered on a new image.
-ghost use Rattle.std.specs.Prelude.{◌≡◌, ◌⊎◌, ◌≤◌, [], ℕ, List, IsSome, Some};
+ghost use Rattle.std.specs.Prelude.{◌≡◌, ◌⊎◌, ◌≤◌, [], ℕ, List, IsSome, Some, length};
 ghost use Rattle.iso_core.specs.Core.{StandsFor, disk_of};
 ghost use Rattle.iso_core.specs.Standing.{up};
 ghost use Rattle.iso_io.specs.Sink.{SinkState};
 ghost use Rattle.iso_io.specs.Source.{SourceState};
 ghost use Rattle.script_model.specs.declared.script.Line.{Line};
-ghost use Rattle.script_model.specs.Bench.{bench_summary, bench_text, bench_world};
-ghost use Rattle.script_model.specs.Script.{replies, script};
+ghost use Rattle.script_model.specs.declared.script.Reply.{Reply};
+ghost use Rattle.script_model.specs.Bench.{bench_text, bench_world};
+ghost use Rattle.script_model.specs.Script.{script};
+ghost use Rattle.script_runner.specs.Replies.{text_of};
 ghost use Rattle.script_runner.specs.Run.{HasRun};
 ghost use Rattle.script_runner.specs.Told.{ArePlain};
-ghost use Rattle.iso_top.specs.Outcome.{PrintedBench};
+ghost use Rattle.iso_top.specs.Outcome.{PrintedBench, PrintedLine, summary_of};
 ghost use Rattle.iso_top.specs.Prints.{Printed, WasCut, WroteWhole};
 ghost use Rattle.iso_top.specs.Texts.{disk_fault_text, memory_text};
 
@@ -17,7 +19,7 @@ use crate::ended::Ended;
 use crate::last_line::put_last;
 use crate::result_line::{bench_line, put_result};
 use crate::script::disk_behind;
-use bench_script::laws::drawn_scripts_are_good;
+use bench_script::laws::{drawn_scripts_are_good, replies_are_one_a_line};
 use bench_script::{DrawnScript, HeldReplies, tally_of};
 use iso_core::Core;
 use iso_disk::Image;
@@ -29,7 +31,8 @@ use std::alloc::Global;
 
 /// Puts what a bench of so many rounds comes to, or why it has ended.
 fn put_summary<K: Sink>(output: &mut K, rounds: u32, end: &RunEnd, text: &[u8]) -> u8
-    ensures done { end.now ≡ RunEnd.Done → (line : List ℕ) × ((lines : List (ℕ × Line)) → text.now ≡ replies bench_world lines → line ≡ bench_summary rounds lines)
+    ensures done { end.now ≡ RunEnd.Done → (line : List ℕ)
+        × ((lines : List (ℕ × Line)) (given : List Reply) → length given ≡ length lines → text.now ≡ text_of lines given → line ≡ summary_of rounds lines given)
         × (((result ≡ 0) × WroteWhole (K.state output.old) (K.state output.new) line) ⊎ ((result ≡ 7) × WasCut (K.state output.old) (K.state output.new) line)) }
     ensures disk { end.now ≡ RunEnd.Disk → (result ≡ 5) × Printed (K.state output.old) (K.state output.new) disk_fault_text }
     ensures memory { (end.now ≡ RunEnd.Output) ⊎ (end.now ≡ RunEnd.Memory) → (result ≡ 8) × Printed (K.state output.old) (K.state output.new) memory_text }
@@ -64,10 +67,12 @@ pub(crate) fn answer_drawn<I: Image, K: Sink>(
     requires count { count ≤ 100000 }
     ensures plain { ArePlain (script (bench_text count seed)).lines }
     ensures ran { (end : RunEnd) × (drawn : SourceState) × (rest : SourceState) × (empty : SinkState) × (held : SinkState) × (drawn.rest ≡ Some (bench_text count seed)) × (empty.written ≡ Some [])
-        × HasRun (λ V. Unit {0}) (I.state (disk_of core)) (I.state result.image) drawn rest empty held bench_world end
+        × (run : HasRun (λ V. Unit {0}) (I.state (disk_of core)) (I.state result.image) drawn rest empty held bench_world end)
+        × PrintedLine end result.status (summary_of count run.done run.answered.on_any_disk.given) (K.state output.old) (K.state output.new)
         × PrintedBench seed count result.status end (IsSome (I.state (disk_of core)).contents) (K.state output.old) (K.state output.new) }
 {
     drawn_scripts_are_good();
+    replies_are_one_a_line();
     let mut input = DrawnScript::new(seed, count);
     let mut held = HeldReplies::new(alloc);
     let mut machine = Machine::over(alloc, core);

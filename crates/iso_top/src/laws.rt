@@ -1,6 +1,6 @@
 // What `met` of the top call means in plain words: each function does nothing, and its contract is the law.
-ghost use Rattle.std.specs.Prelude.{◌≡◌, ◌⊎◌, ℕ, List, Option, Some};
-ghost use Rattle.command_line.specs.declared.task.Task.TheVariants.{New, Run, Recover};
+ghost use Rattle.std.specs.Prelude.{◌≡◌, ◌⊎◌, ◌≤◌, ℕ, List, Option, Some};
+ghost use Rattle.command_line.specs.declared.task.Task.TheVariants.{Bench, New, Run, Recover};
 ghost use Rattle.iso_disk.specs.Disk.{SinceBind};
 ghost use Rattle.iso_io.specs.Sink.{SinkState};
 ghost use Rattle.iso_io.specs.Source.{SourceState};
@@ -9,7 +9,7 @@ ghost use Rattle.iso_model.specs.History.{last};
 ghost use Rattle.iso_model.specs.World.{empty_history, fresh};
 ghost use Rattle.iso_top.specs.Clients.{HasRunClients};
 ghost use Rattle.iso_top.specs.Outcome.{HasAnswered, HasMet};
-ghost use Rattle.iso_top.specs.Plain.{OpensFrom, PrintsButShown, PrintsButShownOf, PrintsDigestOf, PrintsReplies, PrintsRepliesOf};
+ghost use Rattle.iso_top.specs.Plain.{OpensFrom, PrintsButShown, PrintsButShownOf, PrintsCounts, PrintsDigestOf, PrintsReplies, PrintsRepliesOf};
 ghost use Rattle.iso_top.specs.Starts.{MayBeUnmade, TellsNamed};
 ghost use Rattle.script_runner.specs.declared.run_end.RunEnd.{RunEnd};
 ghost use Rattle.script_model.specs.Script.{script};
@@ -17,6 +17,10 @@ ghost use Rattle.script_runner.specs.Replies.{TellsCommit};
 ghost use Rattle.script_runner.specs.Run.{Acknowledges};
 ghost use Rattle.script_runner.specs.Told.{ArePlain};
 
+use bench_script::laws::{
+    commits_are_twice_the_rounds_less_the_conflicts, drawn_scripts_are_good,
+    rounds_conflict_where_places_meet, shown_bytes_are_not_counted,
+};
 use iso_disk::Image;
 
 /// Status 0 of `new` and `run`, on any disk, as a real file, which tells nothing of its bytes: no line of the script is bad, and where
@@ -67,3 +71,16 @@ pub fn the_digest_was_printed<I: Image>(_image: &I)
         → HasMet I.state Recover name 0 old new input_old input_new output_old output_new → (I.state old).named name ≡ Some image
         → PrintsDigestOf image output_old output_new }
 {}
+
+/// Status 0 of `bench`, on any disk, as a real file, which tells nothing of its bytes: its line tells of a conflict for each round that
+/// draws one place twice, and of two commits a round less these.
+pub fn the_counts_were_printed<I: Image>(_image: &I)
+    ensures { (seed count : ℕ) (name : List ℕ) (old new : I) (input_old input_new : SourceState) (output_old output_new : SinkState)
+        → HasMet I.state (Bench seed count) name 0 old new input_old input_new output_old output_new → count ≤ 100000
+        → PrintsCounts seed count output_old output_new }
+{
+    drawn_scripts_are_good();
+    rounds_conflict_where_places_meet();
+    commits_are_twice_the_rounds_less_the_conflicts();
+    shown_bytes_are_not_counted();
+}

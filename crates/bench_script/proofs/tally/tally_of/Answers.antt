@@ -8,9 +8,9 @@ loop-line-preserved c =
     c.kind_of_line.ensures c.with_kind-counts.ensures.commits c.with_kind-counts.ensures.conflicts c.loop-line.invariant
 
 pub returns-clause-commits : goal.returns-clause-commits
-returns-clause-commits c W lines is =
-    (all_counted _ c.loop-line.rest.now c.loop-line.counts.commits c.loop-line.counts.conflicts c.loop-line.invariant c.in_default.ensures.none W lines is).0
+returns-clause-commits c lines given many is =
+    (all_counted _ c.loop-line.rest.now c.loop-line.counts.commits c.loop-line.counts.conflicts c.loop-line.invariant c.in_default.ensures.none lines given many is).0
 
 pub returns-clause-conflicts : goal.returns-clause-conflicts
-returns-clause-conflicts c W lines is =
-    (all_counted _ c.loop-line.rest.now c.loop-line.counts.commits c.loop-line.counts.conflicts c.loop-line.invariant c.in_default.ensures.none W lines is).1
+returns-clause-conflicts c lines given many is =
+    (all_counted _ c.loop-line.rest.now c.loop-line.counts.commits c.loop-line.counts.conflicts c.loop-line.invariant c.in_default.ensures.none lines given many is).1

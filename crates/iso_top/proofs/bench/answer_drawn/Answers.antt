@@ -1,5 +1,5 @@
 use Rattle.iso_top.proofs.Words.{[], false, refl, sym, subst, ap, DrawnState, HeldState, drawn_state, held_state, disk_of, IsMachineOf, bench_text, bench_world, World, HasRun}
-use Rattle.iso_top.proofs.Benches.{printed_bench}
+use Rattle.iso_top.proofs.Benches.{printed_bench, printed_line}
 use Rattle.iso_top.proofs.Runs.{run_alone, up_on}
 use Rattle.iso_top.proofs.bench.answer_drawn.Goals as goal
 
@@ -41,7 +41,10 @@ returns-clause-ran g c =
       refl,
       refl,
       whole,
+      printed_line c.args.seed c.args.count c.put_summary-status.result (c.drawn_scripts_are_good.ensures.good c.args.seed c.args.count c.requires.count) (state (disk_of c.args.core)) (state c.disk_behind-image.result) c.run-end.new.input c.run-end.new.output
+          (g.K.Sink.state c.args.output.now) (g.K.Sink.state c.put_summary-status.new.output) c.text.result.now c.text.ensures c.replies_are_one_a_line.ensures.many c.replies_are_one_a_line.ensures.text c.run-end.result whole
+          c.put_summary-status.ensures.done,
       printed_bench c.args.seed c.args.count c.put_summary-status.result (c.drawn_scripts_are_good.ensures.good c.args.seed c.args.count c.requires.count) (state (disk_of c.args.core)) (state c.disk_behind-image.result) c.run-end.new.input c.run-end.new.output
-          (g.K.Sink.state c.args.output.now) (g.K.Sink.state c.put_summary-status.new.output) c.text.result.now c.text.ensures c.run-end.result whole
+          (g.K.Sink.state c.args.output.now) (g.K.Sink.state c.put_summary-status.new.output) c.text.result.now c.text.ensures c.replies_are_one_a_line.ensures.many c.replies_are_one_a_line.ensures.text c.run-end.result whole
           c.put_summary-status.ensures.done c.put_summary-status.ensures.disk c.put_summary-status.ensures.memory,
     )

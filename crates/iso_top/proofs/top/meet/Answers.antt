@@ -51,6 +51,6 @@ returns-in-Bench g c =
     let old = g.K.Sink.state c.args.output.now in
     let new = g.K.Sink.state c.answer_drawn.new.output in
     let has = subst (λ (made : Option Geometry). HasCore state made name c.args.image c.in-Ok.core) (c.geometry.ensures.value ∙ ap made_geometry c.in-Bench.is) c.in-Ok.ensures.begun in
-    let (e, drawn, rest, empty, held, script_is, nothing_held, run, printed) = c.answer_drawn.ensures.ran in
+    let (e, drawn, rest, empty, held, script_is, nothing_held, run, counted, printed) = c.answer_drawn.ensures.ran in
     subst (λ (task : Task). HasMet state task name c.answer_drawn.result.status c.args.image c.answer_drawn.result.image source source old new) (sym c.in-Bench.is)
-    (inr (benched state name c.in-Bench.seed c.in-Bench.count c.answer_drawn.result.status c.args.image c.answer_drawn.result.image c.in-Ok.core source old new has e drawn rest empty held script_is nothing_held c.answer_drawn.ensures.plain run printed))
+    (inr (benched state name c.in-Bench.seed c.in-Bench.count c.answer_drawn.result.status c.args.image c.answer_drawn.result.image c.in-Ok.core source old new has e drawn rest empty held script_is nothing_held c.answer_drawn.ensures.plain run counted printed))
