@@ -62,6 +62,9 @@ module _ (W : World) (t : Live) (old : Doing) (active : IsActive W t old) where
   pub prepared : (new : Doing) (settled : Bool) → new ≡ record old { settled = settled } → IsWorkedTo W t W new
   prepared new settled is = worked W old.accesses new old.ready settled unchanged.world is
 
+  pub readied : (new : Doing) → new ≡ record old { ready = new.ready } → IsWorkedTo W t W new
+  readied new is = worked W old.accesses new new.ready old.settled unchanged.world is
+
   pub one_more : (a : Access) (new : Doing) (ready : Option ℕ) (settled : Bool) → new ≡ record old { accesses = old.accesses ++ a ∷ []; ready = ready; settled = settled }
       → IsWorkedTo W t (with_access W t a) new
   one_more a new ready settled is =

@@ -1,5 +1,5 @@
 -- A machine whose members are taken out, and what it answers once the core has ended them.
-use Rattle.iso_machine.proofs.Words.{◌≡◌, ◌∙◌, ◌⊎◌, inl, inr, sym, refl, ap, subst, ℕ, ◌+◌, ◌<◌, ◌≤◌, List, [], ◌∷◌, ◌++◌, length, map, Option, Some, None, Err, arith, AllByRecursion, DiskState, LeavesOnly, Geometry, GroupReply, CoreError, World, Live, with_live, found_ones, group, group_step, grouped, label_replies, looks, step, Reply, Core, GroupEnd, StandsFor, AreEach, IsMember, up, ShowsEither, Attached, IsSized, live_of, AreOf, Answers, answer_to, HasTaken, filled, found_in, left_in, member_of, stand_in, without_found, under, reply_in}
+use Rattle.iso_machine.proofs.Words.{◌≡◌, ◌∙◌, ◌⊎◌, inl, inr, sym, refl, ap, subst, ℕ, ◌+◌, ◌<◌, ◌≤◌, List, [], ◌∷◌, ◌++◌, length, map, Option, Some, None, Err, arith, AllByRecursion, DiskState, LeavesOnly, Geometry, GroupReply, CoreError, World, Live, with_live, found_ones, group, group_step, grouped, label_replies, looks, step, Reply, Core, GroupEnd, StandsFor, AreEach, IsMember, up, ShowsEither, Attached, IsSized, live_of, AreOf, Answers, Never, answer_to, HasTaken, filled, found_in, left_in, member_of, stand_in, without_found, under, reply_in}
 use Rattle.iso_core.specs.Calls as core
 use Rattle.iso_model.specs.declared.core_error.CoreError.TheVariants as error
 use Rattle.script_model.specs.declared.script.Op.TheVariants as op
@@ -98,9 +98,9 @@ module _ {D : Type 0} (state : D → DiskState) (kernel : Core D) (live left : L
 
 -- the disk failed, or memory was wanting
 pub group_fails : {T : Type 0} (stands : World → Type 0) (old new : DiskState) (W : World) (given : Reply × World) (e : CoreError) → (e ≡ error.Disk) ⊎ (e ≡ error.Memory) → LeavesOnly old new (ShowsEither W given.1)
-    → core.BlamesDisk {T = T} old.faults new.faults (Err e) → Answers stands old new W given (answer_to e)
+    → core.BlamesDisk {T = T} old.faults new.faults (Err e) → Answers Never stands old new W given (answer_to e)
 group_fails stands old new W given e (inl is) moments cause =
-    subst (λ (x : CoreError). Answers stands old new W given (answer_to x)) (sym is) (record {
+    subst (λ (x : CoreError). Answers Never stands old new W given (answer_to x)) (sym is) (record {
       reply = tt;
       but_shown = tt;
       told = tt;
@@ -108,9 +108,10 @@ group_fails stands old new W given e (inl is) moments cause =
       moments = moments;
       up = λ e. absurd (cc e);
       cause = record { later = cause.later; failed = λ x. cause.failed (ap Err is); passed = tt; memory = λ x. absurd (cc x) };
+      stopped = λ may. absurd may;
     })
 group_fails stands old new W given e (inr is) moments cause =
-    subst (λ (x : CoreError). Answers stands old new W given (answer_to x)) (sym is) (record {
+    subst (λ (x : CoreError). Answers Never stands old new W given (answer_to x)) (sym is) (record {
       reply = tt;
       but_shown = tt;
       told = tt;
@@ -118,6 +119,7 @@ group_fails stands old new W given e (inr is) moments cause =
       moments = moments;
       up = λ e. absurd (cc e);
       cause = record { later = cause.later; failed = λ x. absurd (cc x); passed = tt; memory = λ x. cause.other (λ y. cc (is, y)) };
+      stopped = λ may. absurd may;
     })
 
 pub no_ends : {X : Type 0} (xs : List X) → length xs ≡ 0 → xs ≡ []

@@ -1,5 +1,5 @@
 -- The list of live transactions: one changes, leaves, or begins.
-use Rattle.iso_machine.proofs.Words.{◌≡◌, ◌∙◌, inl, inr, sym, refl, ap, ℕ, zero, suc, ◌<◌, List, [], ◌∷◌, length, get_or, set, map, arith, ne_eqb, eq-eqb, AllByRecursion, remove, Live, with, without, AreDistinct, AreTwo, IsAmong, bare, Attached, live_of}
+use Rattle.iso_machine.proofs.Words.{◌≡◌, ◌∙◌, inl, inr, sym, refl, ap, ℕ, zero, suc, ◌<◌, List, [], ◌∷◌, length, get_or, set, map, arith, ne_eqb, eq-eqb, AllByRecursion, remove, Live, with, without, AreDistinct, AreTwo, IsAmong, bare, without_accesses, Bool, true, false, cond, ◌==◌, Attached, live_of}
 
 two_at : (t : Live) (live : List Attached) (i : ℕ) (d : Attached) → AllByRecursion (AreTwo t) (map live_of live) → i < length live → AreTwo t (live_of (get_or live i d))
 two_at t [] i d all inside = absurd (omega (arith, inside))
@@ -75,3 +75,15 @@ bare_with (a ∷ live) (suc i) d b same = ap (λ (l : List Live). bare (live_of 
 pub pick : {X : Type 0} (xs : List X) (i : ℕ) → i < length xs → X
 pick [] i inside = absurd (omega (arith, inside))
 pick (x ∷ xs) i inside = x
+
+-- other accesses of one transaction change nothing else
+pub accesses_apart : (t u : Live) (live : List Live) → without_accesses u ≡ without_accesses t → map without_accesses (with u live) ≡ map without_accesses (with t live)
+accesses_apart t u [] same = refl
+accesses_apart t u (x ∷ live) same =
+    (λ i. without_accesses (cond (x.number == (same i).number) u x) ∷ map without_accesses (with u live))
+    ∙ either (x.number == t.number)
+    ∙ ap (λ (more : List Live). without_accesses (cond (x.number == t.number) t x) ∷ more) (accesses_apart t u live same)
+  where
+    either : (b : Bool) → (without_accesses (cond b u x) ∷ map without_accesses (with u live)) ≡ (without_accesses (cond b t x) ∷ map without_accesses (with u live))
+    either true = ap (λ (v : Live). v ∷ map without_accesses (with u live)) same
+    either false = refl

@@ -1,7 +1,8 @@
 -- Answers where a call of the core is refused.
-use Rattle.iso_machine.proofs.Words.{◌≡◌, ◌≢◌, ◌∙◌, ◌⊎◌, inl, inr, sym, refl, ap, subst, ℕ, List, Bool, true, false, cond, Err, Ok, None, Some, IsSome, arith, DiskState, IsLawful, LeavesOnly, StaysTold, started, CoreError, CoreReply, as_reply, as_step, last, Shows, World, Refuses, ShowsEither, Answers, answer_to}
+use Rattle.iso_machine.proofs.Words.{◌≡◌, ◌≢◌, ◌∙◌, ◌⊎◌, inl, inr, sym, refl, ap, subst, ℕ, List, Bool, true, false, cond, Err, Ok, None, Some, IsSome, arith, DiskState, IsLawful, LeavesOnly, StaysTold, started, CoreError, CoreReply, as_reply, as_step, last, Shows, World, Refuses, ShowsEither, Stop, Answers, answer_to}
 use Rattle.iso_model.specs.declared.core_error.CoreError.TheVariants as error
 use Rattle.iso_model.specs.declared.core_reply.CoreReply.TheVariants as reply
+use Rattle.script_model.specs.declared.stop.Stop.TheVariants as stop
 use Rattle.iso_core.specs.Calls as core
 use Rattle.iso_machine.proofs.Accesses.{same_but_shown}
 
@@ -26,8 +27,8 @@ pub record Refused (stands : World → Type 0) (old new : DiskState) (W : World)
   pub moments : LeavesOnly old new (ShowsEither W given.1)
   pub cause : core.BlamesDisk {T = Unit {0}} old.faults new.faults (Err e)
 
-module _ (stands : World → Type 0) (old new : DiskState) (W : World) (given : CoreReply × World) where
-  replied : (e : CoreError) (r : CoreReply) → Refused stands old new W given e → Some r ≡ core.refusal_of e → e ≢ error.Disk → r ≡ given.0 → IsRefusal r → Answers stands old new W (as_step given) (Ok (as_reply r))
+module _ (goes_on : Stop → Type 0) (stands : World → Type 0) (old new : DiskState) (W : World) (given : CoreReply × World) (fails : goes_on stop.Disk → stands W) where
+  replied : (e : CoreError) (r : CoreReply) → Refused stands old new W given e → Some r ≡ core.refusal_of e → e ≢ error.Disk → r ≡ given.0 → IsRefusal r → Answers goes_on stands old new W (as_step given) (Ok (as_reply r))
   replied e r of some other is refusal = record {
     reply = λ told. ap as_reply is;
     but_shown = same_but_shown (as_reply r) (as_reply given.0) (ap as_reply is);
@@ -36,12 +37,13 @@ module _ (stands : World → Type 0) (old new : DiskState) (W : World) (given : 
     moments = of.moments;
     up = λ e. absurd (cc e);
     cause = record { later = of.cause.later; failed = λ e. absurd (cc e); passed = of.cause.other other; memory = λ e. absurd (cc e) };
+    stopped = tt;
   }
 
-  pub refused : (e : CoreError) → Refused stands old new W given e → Answers stands old new W (as_step given) (answer_to e)
+  pub refused : (e : CoreError) → Refused stands old new W given e → Answers goes_on stands old new W (as_step given) (answer_to e)
   refused e of = go e of of.is
     where
-      go : (e : CoreError) → Refused stands old new W given e → (e ≡ error.Disk) ⊎ Refuses given.0 e → Answers stands old new W (as_step given) (answer_to e)
+      go : (e : CoreError) → Refused stands old new W given e → (e ≡ error.Disk) ⊎ Refuses given.0 e → Answers goes_on stands old new W (as_step given) (answer_to e)
       go error.Down of (inl is) = absurd (cc is)
       go error.Down of (inr (inl is)) = absurd (cc is)
       go error.Down of (inr (inr is)) = absurd (cc is)
@@ -53,6 +55,7 @@ module _ (stands : World → Type 0) (old new : DiskState) (W : World) (given : 
         moments = of.moments;
         up = λ e. absurd (cc e);
         cause = record { later = of.cause.later; failed = λ e. of.cause.failed refl; passed = tt; memory = λ e. absurd (cc e) };
+        stopped = fails;
       }
       go error.Memory of is = record {
         reply = tt;
@@ -62,6 +65,7 @@ module _ (stands : World → Type 0) (old new : DiskState) (W : World) (given : 
         moments = of.moments;
         up = λ e. absurd (cc e);
         cause = record { later = of.cause.later; failed = λ e. absurd (cc e); passed = tt; memory = λ e. of.cause.other (λ e. cc e) };
+        stopped = λ may. of.same (λ e. cc e);
       }
       go error.TooManyTx of (inl is) = absurd (cc is)
       go error.TooManyTx of (inr (inl is)) = absurd (cc is)
@@ -85,9 +89,9 @@ not_disk r e (inr some) disk = absurd (none_is_not_some (ap core.refusal_of (sym
     none_is_not_some is = cc is
 
 -- a call that is refused, and leaves the disk as it was
-pub refused_still : (stands : World → Type 0) (d : DiskState) → IsLawful d → (W : World) → ((c : List ℕ) → d.now c → Shows c W.geometry W.history (last W.history)) → (given : CoreReply × World) (e : CoreError)
-    → Refuses given.0 e → KeepsRefused W given → stands W → Answers stands d d W (as_step given) (answer_to e)
-refused_still stands d laws W here given e is keeps same = refused stands d d W given e (record {
+pub refused_still : (goes_on : Stop → Type 0) (stands : World → Type 0) (d : DiskState) → IsLawful d → (W : World) → ((c : List ℕ) → d.now c → Shows c W.geometry W.history (last W.history)) → (given : CoreReply × World) (e : CoreError)
+    → Refuses given.0 e → KeepsRefused W given → stands W → Answers goes_on stands d d W (as_step given) (answer_to e)
+refused_still goes_on stands d laws W here given e is keeps same = refused goes_on stands d d W given (λ may. same) e (record {
   is = inr is;
   keeps = keeps;
   same = λ other. same;

@@ -1,5 +1,5 @@
 -- A switch to the other half.
-use Rattle.iso_machine.proofs.Words.{◌≡◌, ◌≢◌, ◌⊎◌, ◌==◌, if◌then◌else◌, inl, refl, sym, subst, ℕ, List, Bool, true, false, Err, IsSome, DiskState, LeavesOnly, weakened, CoreError, LAST, CoreReply, as_step, after_switch, switch_step, step, World, floor, all_weaker, Core, Refuses, refusal_of, StandsFor, disk_of, up, ShowsLast, Attached, Answers, answer_to, AreOf, IsSized}
+use Rattle.iso_machine.proofs.Words.{◌≡◌, ◌≢◌, ◌⊎◌, ◌==◌, if◌then◌else◌, inl, refl, sym, subst, ℕ, List, Bool, true, false, Err, IsSome, DiskState, LeavesOnly, weakened, CoreError, LAST, CoreReply, as_step, after_switch, switch_step, step, World, floor, all_weaker, Core, Refuses, refusal_of, StandsFor, disk_of, up, ShowsLast, Attached, Answers, Wanting, answer_to, AreOf, IsSized}
 use Rattle.iso_model.specs.declared.core_error.CoreError.TheVariants as error
 use Rattle.iso_model.specs.declared.core_reply.CoreReply.TheVariants as reply
 use Rattle.script_model.specs.declared.script.Op.TheVariants as op
@@ -47,9 +47,9 @@ pub switch_refused : {D : Type 0} (state : D → DiskState) (core new : Core D) 
     → (IsRefusal answer → ⊥) → (e ≡ error.Disk) ⊎ Refuses (switch_step W form answer).0 e → (e ≢ error.Disk → StandsFor state new W up)
     → (e ≢ error.Disk → e ≢ error.Memory → disk_of new ≡ disk_of core) → LeavesOnly (state (disk_of core)) (state (disk_of new)) (ShowsLast W)
     → BlamesDisk {T = ℕ} (state (disk_of core)).faults (state (disk_of new)).faults (Err e)
-    → Answers (AreOf state new live) (state (disk_of core)) (state (disk_of new)) W (as_step (switch_step W form answer)) (answer_to e)
+    → Answers Wanting (AreOf state new live) (state (disk_of core)) (state (disk_of new)) W (as_step (switch_step W form answer)) (answer_to e)
 switch_refused state core new live W form answer e of none is stands still moments cause =
-    refused (AreOf state new live) (state (disk_of core)) (state (disk_of new)) W (switch_step W form answer) e (record {
+    refused Wanting (AreOf state new live) (state (disk_of core)) (state (disk_of new)) W (switch_step W form answer) (λ may. absurd (cc may)) e (record {
       is = is;
       keeps = keeps_switch W form answer none;
       same = λ other. same state core new live W of (stands other);

@@ -1,13 +1,14 @@
 -- Answers where the disk tells its bytes, and else.
-use Rattle.iso_machine.proofs.Words.{◌≡◌, ◌∙◌, sym, refl, ap, subst, inl, inr, ⊎_elim, ◌==◌, Bool, true, false, cond, ℕ, List, Result, Ok, Err, IfOk, IsErrOf, Option, DiskState, WritesNothing, stays, Op, Reply, is_serial, last, Shows, in_store, World, Live, Doing, Stop, BlamesDisk, IsWorkedTo, Answers, AnswersTold, is_empty_scan, store_area, IsStored, called_of, store_act}
+use Rattle.iso_machine.proofs.Words.{◌≡◌, ◌∙◌, sym, refl, ap, subst, inl, inr, ⊎_elim, ◌==◌, Bool, true, false, cond, ℕ, List, Result, Ok, Err, IfOk, IsErrOf, Option, DiskState, WritesNothing, stays, Op, Reply, is_serial, last, Shows, in_store, World, Live, Doing, Stop, BlamesDisk, IsActive, IsWorkedTo, with_accesses, map, IsSameWork, without_accesses, Answers, AnswersTold, is_empty_scan, store_area, IsStored, called_of, store_act}
 use Rattle.std.specs.Prelude.{IsSome}
 use Rattle.script_model.specs.declared.script.Reply.TheVariants as reply
+use Rattle.iso_machine.proofs.Lists.{accesses_apart}
 use Rattle.script_model.specs.declared.stop.Stop.TheVariants as stop
 
 -- an answer that is known in any case
-pub told_so : (stands : World → Type 0) (old new : DiskState) (W : World) (given : Reply × World) (plain : Type 0) (result : Result Reply Stop) → Answers stands old new W given result
-    → AnswersTold stands old new W given plain result
-told_so stands old new W given plain (Ok r) is = record {
+pub told_so : (goes_on known : Stop → Type 0) (stands : World → Type 0) (old new : DiskState) (W : World) (given : Reply × World) (plain : Type 0) (result : Result Reply Stop) → ((why : Stop) → goes_on why → known why)
+    → Answers known stands old new W given result → AnswersTold goes_on stands old new W given plain result
+told_so goes_on known stands old new W given plain (Ok r) on is = record {
   reply = is.reply;
   but_shown = λ call. is.but_shown;
   told = is.told;
@@ -15,8 +16,9 @@ told_so stands old new W given plain (Ok r) is = record {
   moments = is.moments;
   up = is.up;
   cause = is.cause;
+  stopped = tt;
 }
-told_so stands old new W given plain (Err e) is = record {
+told_so goes_on known stands old new W given plain (Err e) on is = record {
   reply = tt;
   but_shown = λ call. tt;
   told = tt;
@@ -24,12 +26,13 @@ told_so stands old new W given plain (Err e) is = record {
   moments = is.moments;
   up = is.up;
   cause = is.cause;
+  stopped = λ may. record { world = W; is = is.stopped (on e may); same = record { live = refl; rest = refl }; whole = λ call. refl };
 }
 
 -- what holds of any call holds of one that is not plain
-pub never_plain : (stands : World → Type 0) (old new : DiskState) (W : World) (given : Reply × World) (plain : Type 0) (result : Result Reply Stop) → (plain → ⊥) → AnswersTold stands old new W given ⊥ result
-    → AnswersTold stands old new W given plain result
-never_plain stands old new W given plain (Ok r) never is = record {
+pub never_plain : (goes_on known : Stop → Type 0) (stands : World → Type 0) (old new : DiskState) (W : World) (given : Reply × World) (plain : Type 0) (result : Result Reply Stop) → (plain → ⊥) → ((why : Stop) → goes_on why → known why)
+    → AnswersTold known stands old new W given ⊥ result → AnswersTold goes_on stands old new W given plain result
+never_plain goes_on known stands old new W given plain (Ok r) never on is = record {
   reply = is.reply;
   but_shown = λ call. absurd (never call);
   told = is.told;
@@ -43,8 +46,9 @@ never_plain stands old new W given plain (Ok r) never is = record {
   moments = is.moments;
   up = is.up;
   cause = is.cause;
+  stopped = tt;
 }
-never_plain stands old new W given plain (Err e) never is = record {
+never_plain goes_on known stands old new W given plain (Err e) never on is = record {
   reply = tt;
   but_shown = λ call. tt;
   told = tt;
@@ -52,6 +56,7 @@ never_plain stands old new W given plain (Err e) never is = record {
   moments = is.moments;
   up = is.up;
   cause = is.cause;
+  stopped = λ may. let still = is.stopped (on e may) in record { world = still.world; is = still.is; same = still.same; whole = λ call. absurd (never call) };
 }
 
 -- a call of a store leaves the history as it is
@@ -76,10 +81,24 @@ store_keeps W t op = elim (is_empty_scan op) as (λ b. let x : Reply × World = 
 ]
 
 -- a call of a store on one transaction
-module _ (stands : World → Type 0) (old new : DiskState) (W : World) (t : Live) (work : Doing) (given : Reply × World) (history : given.1.history ≡ W.history) (geometry : given.1.geometry ≡ W.geometry)
-    (here : (c : List ℕ) → old.now c → Shows c W.geometry W.history (last W.history)) (still : WritesNothing old new) where
+module _ (goes_on : Stop → Type 0) (stands : World → Type 0) (old new : DiskState) (W : World) (t : Live) (old_work work : Doing) (given : Reply × World) (history : given.1.history ≡ W.history) (geometry : given.1.geometry ≡ W.geometry)
+    (here : (c : List ℕ) → old.now c → Shows c W.geometry W.history (last W.history)) (still : WritesNothing old new)
+    (active : IsActive W t old_work) (same : IsSameWork old_work work) where
+  -- the transaction has the accesses of the work
+  worked : IsWorkedTo W t (with_accesses W t work.accesses) work
+  worked = record {
+    world = refl;
+    is_work = record {
+      begin = same.begin ∙ active.is_work.begin;
+      mode = same.mode ∙ active.is_work.mode;
+      size = same.size ∙ active.is_work.size;
+      blocks = same.blocks ∙ active.is_work.blocks;
+      accesses = refl;
+    };
+  }
+
   pub stored_so : (result : Result Reply Stop) → IfOk result (IsStored old W t given work)
-      → ((V : World) → IsWorkedTo W t V work → stands V) → ¬ IsErrOf result stop.Down → BlamesDisk old.faults new.faults result → AnswersTold stands old new W given ⊥ result
+      → ((V : World) → IsWorkedTo W t V work → stands V) → ¬ IsErrOf result stop.Down → BlamesDisk old.faults new.faults result → AnswersTold goes_on stands old new W given ⊥ result
   stored_so (Ok r) is world not_down cause = record {
     reply = is.reply;
     but_shown = λ call. absurd call;
@@ -94,6 +113,7 @@ module _ (stands : World → Type 0) (old new : DiskState) (W : World) (t : Live
     moments = stays still (λ c image. inl (here c image));
     up = not_down;
     cause = cause;
+    stopped = tt;
   }
   stored_so (Err e) is world not_down cause = record {
     reply = tt;
@@ -103,4 +123,10 @@ module _ (stands : World → Type 0) (old new : DiskState) (W : World) (t : Live
     moments = stays still (λ c image. inl (here c image));
     up = not_down;
     cause = cause;
+    stopped = λ may. record {
+      world = with_accesses W t work.accesses;
+      is = world (with_accesses W t work.accesses) worked;
+      same = record { live = accesses_apart t (record t { accesses = work.accesses }) W.live refl ∙ ap (map without_accesses) active.here; rest = refl };
+      whole = λ call. absurd call;
+    };
   }

@@ -1,5 +1,5 @@
 -- The words that the proofs of this crate cite from elsewhere.
-pub use Rattle.std.proofs.Common.{Bool, Err, IfOk, OnOk, IsErrOf, IsSome, IsTrue, List, None, Ok, Option, Result, Some, [], ap, arith, cond, drop, eq-eqb, false, append-nil, append_assoc, find, filter, get_or, if◌then◌else◌, inl, inr, length, map, nat_le, nat_lt, ne_eqb, not, option_map, refl, replicate, set, slice_index, subst, suc, sym, take, true, zero, ℕ, ⊎_elim, ◌&&◌, ◌++◌, ◌+◌, ◌-◌, ◌<◌, ◌==◌, ◌∙◌, ◌∷◌, ◌≡◌, ◌≢◌, ◌≤◌, ◌⊎◌}
+pub use Rattle.std.proofs.Common.{Bool, Err, IfErr, IfOk, OnErr, OnOk, IsErrOf, IsSome, IsTrue, List, None, Ok, Option, Result, Some, [], ap, arith, cond, drop, eq-eqb, false, append-nil, append_assoc, find, filter, get_or, if◌then◌else◌, inl, inr, length, map, nat_le, nat_lt, ne_eqb, not, option_map, refl, replicate, set, slice_index, subst, suc, sym, take, true, zero, ℕ, ⊎_elim, ◌&&◌, ◌++◌, ◌+◌, ◌-◌, ◌<◌, ◌==◌, ◌∙◌, ◌∷◌, ◌≡◌, ◌≢◌, ◌≤◌, ◌⊎◌}
 pub use Rattle.std.proofs.Math.Seq.{take-append_seam}
 pub use Rattle.std.proofs.lemmas.Bool.{and_parts, cases_Bool, cases_eq, eqb-true, false≢true}
 pub use Rattle.std.proofs.lemmas.Bool.Decides.{nat_tests}
@@ -66,6 +66,7 @@ pub use Rattle.script_model.specs.declared.script.Reply.{Reply}
 pub use Rattle.script_model.specs.declared.script.TheConstants.{MAX_LABELS}
 pub use Rattle.script_model.specs.declared.stop.Stop.{Stop}
 pub use Rattle.script_runner.specs.Counts.{BlamesDisk}
+pub use Rattle.script_runner.specs.Stopped.{GoesOn, SameButAccesses, StandsStill, without_accesses}
 pub use Rattle.script_runner.specs.Told.{IfTold, IsPlain, SameButShown}
 pub use Rattle.store_calls.proofs.Areas.{store_area_fits, store_area_is}
 pub use Rattle.store_calls.specs.Calls.{HasCalled, IsStoreArea, Stops, is_empty_scan, store_area, store_ended}
@@ -74,7 +75,7 @@ pub use Rattle.tx_blocks.specs.Runs.{area_of}
 pub use Rattle.tx_blocks.specs.Tx.{Device, Tx}
 pub use Rattle.tx_table.specs.Work.{Doing, span_at}
 pub use Rattle.iso_machine.specs.Accessing.{IsActive, IsGiven, IsShown, IsWorkedTo, act_step}
-pub use Rattle.iso_machine.specs.Answering.{Answers, AnswersTold, answer_to}
+pub use Rattle.iso_machine.specs.Answering.{Always, Answers, AnswersTold, Never, Wanting, answer_to}
 pub use Rattle.iso_machine.specs.Grouping.{HasTaken, filled, found_in, left_in, member_of, stand_in, under, without_found}
 pub use Rattle.iso_machine.specs.Shown.{shows}
 pub use Rattle.iso_machine.specs.Standing.{AreOf, IsSized, live_of}

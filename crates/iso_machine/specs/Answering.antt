@@ -1,5 +1,5 @@
 -- How a machine answers an operation.
-use Rattle.std.specs.Prelude.{◌≡◌, IfOk, IsErrOf, IsSome, OnOk, Result, Ok, Err}
+use Rattle.std.specs.Prelude.{◌≡◌, IfErr, IfOk, IsErrOf, IsSome, OnOk, Result, Ok, Err}
 use Rattle.iso_disk.specs.Disk.{DiskState, LeavesOnly}
 use Rattle.iso_model.specs.declared.core_error.CoreError.{CoreError}
 use Rattle.iso_model.specs.declared.core_error.CoreError.TheVariants as error
@@ -10,11 +10,22 @@ use Rattle.script_model.specs.declared.stop.Stop.{Stop}
 use Rattle.script_model.specs.declared.stop.Stop.TheVariants as stop
 use Rattle.iso_model.specs.Between.{ShowsEither}
 use Rattle.script_runner.specs.Counts.{BlamesDisk}
+use Rattle.script_runner.specs.Stopped.{StandsStill}
 use Rattle.script_runner.specs.Told.{IfTold, SameButShown, StandsSo}
 
+-- why a call may stop such that the machine goes on: for each cause, for want of memory, for none
+abbrev pub Always : Stop → Type 0
+Always why = Unit {0}
+
+abbrev pub Wanting : Stop → Type 0
+Wanting why = why ≡ stop.Memory
+
+abbrev pub Never : Stop → Type 0
+Never why = ⊥
+
 -- From the world W, the reply and the world are those that are given, but for bytes that are shown and that the disk does
--- not tell. At each moment an image shows the world before or the world after.
-pub record Answers (stands : World → Type 0) (old new : DiskState) (W : World) (given : Reply × World) (result : Result Reply Stop) : Type 0 where
+-- not tell. At each moment an image shows the world before or the world after. Without a reply it stands for W, if it goes on then.
+pub record Answers (goes_on : Stop → Type 0) (stands : World → Type 0) (old new : DiskState) (W : World) (given : Reply × World) (result : Result Reply Stop) : Type 0 where
   pub reply : IfOk result (λ r. IfTold old (r ≡ given.0))
   pub but_shown : IfOk result (λ r. SameButShown r given.0)
   pub told : OnOk result (IfTold old (IsSome new.contents))
@@ -22,9 +33,10 @@ pub record Answers (stands : World → Type 0) (old new : DiskState) (W : World)
   pub moments : LeavesOnly old new (ShowsEither W given.1)
   pub up : ¬ IsErrOf result stop.Down
   pub cause : BlamesDisk old.faults new.faults result
+  pub stopped : IfErr result (λ why. goes_on why → stands W)
 
 -- So, but for what a store's call, which is not plain, does with bytes that the disk does not tell.
-pub record AnswersTold (stands : World → Type 0) (old new : DiskState) (W : World) (given : Reply × World) (plain : Type 0) (result : Result Reply Stop) : Type 0 where
+pub record AnswersTold (goes_on : Stop → Type 0) (stands : World → Type 0) (old new : DiskState) (W : World) (given : Reply × World) (plain : Type 0) (result : Result Reply Stop) : Type 0 where
   pub reply : IfOk result (λ r. IfTold old (r ≡ given.0))
   pub but_shown : plain → IfOk result (λ r. SameButShown r given.0)
   pub told : OnOk result (IfTold old (IsSome new.contents))
@@ -32,6 +44,7 @@ pub record AnswersTold (stands : World → Type 0) (old new : DiskState) (W : Wo
   pub moments : LeavesOnly old new (ShowsEither W given.1)
   pub up : ¬ IsErrOf result stop.Down
   pub cause : BlamesDisk old.faults new.faults result
+  pub stopped : IfErr result (λ why. goes_on why → StandsStill stands plain W)
 
 -- what an error of a core is answered: the model's reply that it stands for, or why there is none
 abbrev pub answer_to : CoreError → Result Reply Stop

@@ -1,5 +1,5 @@
 // Writes and marks of one transaction.
-ghost use Rattle.std.specs.Prelude.{◌≡◌, [], None, ◌∷◌, ◌++◌, ◌+◌, ◌-◌, ◌==◌, ◌<◌, ◌≤◌, not, IfOk, OnOk, length, replicate, slice_index, IfSome, false};
+ghost use Rattle.std.specs.Prelude.{◌≡◌, [], None, ◌∷◌, ◌++◌, ◌+◌, ◌-◌, ◌==◌, ◌<◌, ◌≤◌, not, IfOk, OnErr, OnOk, length, replicate, slice_index, IfSome, false};
 ghost use Rattle.iso_model.specs.declared.access.Access.{Access};
 ghost use Rattle.script_model.specs.declared.script.Reply.{Reply};
 ghost use Rattle.iso_model.specs.Marks.{is_outside, mark_fault, marked};
@@ -57,7 +57,8 @@ pub(crate) fn put(
     off: u32,
     bytes: &[u8],
 ) -> Result<Reply, Memory>
-    ensures { (W : World) (t : Live) → IsActive W t work.old → IfOk result (IsGiven W t (put_step W t block off bytes.now) work.new) }
+    ensures given { (W : World) (t : Live) → IsActive W t work.old → IfOk result (IsGiven W t (put_step W t block off bytes.now) work.new) }
+    ensures kept { OnErr result (work.new ≡ record work.old { ready = work.new.ready }) }
 {
     let size = work.block_size();
     if let Some(reply) = refusal(work, block, is_outside(size, off, bytes.len())) {
@@ -84,7 +85,8 @@ pub(crate) fn mark_within(work: &mut Work, off: u32, len: u32)
 
 /// A write of a whole block.
 pub(crate) fn write(work: &mut Work, block: u32, bytes: &[u8]) -> Result<Reply, Memory>
-    ensures { (W : World) (t : Live) → IsActive W t work.old → IfOk result (IsGiven W t (write_step W t block bytes.now) work.new) }
+    ensures given { (W : World) (t : Live) → IsActive W t work.old → IfOk result (IsGiven W t (write_step W t block bytes.now) work.new) }
+    ensures kept { OnErr result (work.new ≡ record work.old { ready = work.new.ready }) }
 {
     let size = work.block_size();
     if let Some(reply) = refusal(work, block, bytes.len() != size as usize) {
@@ -111,7 +113,8 @@ pub(crate) fn fill(
     block: u32,
     bytes: &[u8],
 ) -> Result<Reply, Memory>
-    ensures { (W : World) (t : Live) → IsActive W t work.old → IfOk result (IsGiven W t (fill_step W t block bytes.now) work.new) }
+    ensures given { (W : World) (t : Live) → IsActive W t work.old → IfOk result (IsGiven W t (fill_step W t block bytes.now) work.new) }
+    ensures kept { OnErr result (work.new ≡ record work.old { ready = work.new.ready }) }
 {
     let size = work.block_size();
     if let Some(reply) = refusal(work, block, bytes.len() != 1) {

@@ -1,5 +1,5 @@
 // An access or a mark of one transaction.
-ghost use Rattle.std.specs.Prelude.{◌≡◌, IfOk, IsErrOf, Result};
+ghost use Rattle.std.specs.Prelude.{◌≡◌, IfOk, IsErrOf, OnErr, Result};
 ghost use Rattle.iso_disk.specs.Disk.{WritesNothing};
 ghost use Rattle.iso_model.specs.World.{World, Live};
 ghost use Rattle.iso_core.specs.Calls.{IsTx};
@@ -39,6 +39,7 @@ pub(crate) fn act<D: Disk>(
     requires { (W : World) × (t : Live) × StandsFor D.state core.old W up × IsTx W tx t × IsActive W t work.old }
     ensures given { (W : World) (t : Live) → StandsFor D.state core.old W up → IsTx W tx t → IsActive W t work.old
         → IfOk result (IsShown (D.state (disk_of core.old)) W t (act_step W t op.now) work.new) }
+    ensures kept { OnErr result (work.new ≡ record work.old { ready = work.new.ready }) }
     ensures same { (W : World) → StandsFor D.state core.old W up → StandsFor D.state core.new W up }
     ensures unwritten { WritesNothing (D.state (disk_of core.old)) (D.state (disk_of core.new)) }
     ensures up { ¬ IsErrOf result Stop.Down }

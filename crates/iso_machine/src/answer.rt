@@ -15,16 +15,17 @@ use script_model::{Op, Reply, Stop};
 impl<D: Disk> Machine<D> {
     ghost use Rattle.iso_core.specs.Core.{disk_of};
     ghost use Rattle.iso_machine.specs.Accessing.{act_step};
-    ghost use Rattle.iso_machine.specs.Answering.{Answers, AnswersTold};
+    ghost use Rattle.iso_machine.specs.Answering.{Always, Answers, AnswersTold};
     ghost use Rattle.iso_machine.specs.Standing.{IsMachineOf, core_of};
     ghost use Rattle.iso_machine.specs.Storing.{store_act};
+    ghost use Rattle.script_runner.specs.Stopped.{GoesOn};
     ghost use Rattle.script_runner.specs.Told.{IsPlain};
 
     /// An access or a mark of a client's transaction.
     fn access(&mut self, client: u8, op: &Op) -> Result<Reply, Stop>
         requires { (W : World) × IsMachineOf D.state self.old W }
         ensures { (W : World) → IsMachineOf D.state self.old W → IsOp op.now
-            → Answers (IsMachineOf D.state self.new) (D.state (disk_of (core_of self.old))) (D.state (disk_of (core_of self.new))) W (in_transaction W (attached W client) (λ t. act_step W t op.now)) result }
+            → Answers Always (IsMachineOf D.state self.new) (D.state (disk_of (core_of self.old))) (D.state (disk_of (core_of self.new))) W (in_transaction W (attached W client) (λ t. act_step W t op.now)) result }
     {
         let Some(i) = index_at_client(&self.live, client) else {
             return Ok(Reply::NotInTx);
@@ -44,7 +45,7 @@ impl<D: Disk> Machine<D> {
     fn trim(&mut self) -> Result<Reply, Stop>
         requires { (W : World) × IsMachineOf D.state self.old W }
         ensures { (W : World) → IsMachineOf D.state self.old W
-            → Answers (IsMachineOf D.state self.new) (D.state (disk_of (core_of self.old))) (D.state (disk_of (core_of self.new))) W (step W 1 Trim) result }
+            → Answers Always (IsMachineOf D.state self.new) (D.state (disk_of (core_of self.old))) (D.state (disk_of (core_of self.new))) W (step W 1 Trim) result }
     {
         match self.core.trim() {
             Ok(at) => Ok(Reply::Trimmed(at)),
@@ -71,7 +72,7 @@ impl<D: Disk> Machine<D> {
     fn stored(&mut self, client: u8, op: &Op) -> Result<Reply, Stop>
         requires { (W : World) × IsMachineOf D.state self.old W }
         ensures { (W : World) → IsMachineOf D.state self.old W
-            → AnswersTold (IsMachineOf D.state self.new) (D.state (disk_of (core_of self.old))) (D.state (disk_of (core_of self.new))) W (in_transaction W (attached W client) (λ t. store_act W t op.now)) ⊥ result }
+            → AnswersTold Always (IsMachineOf D.state self.new) (D.state (disk_of (core_of self.old))) (D.state (disk_of (core_of self.new))) W (in_transaction W (attached W client) (λ t. store_act W t op.now)) ⊥ result }
     {
         let Some(i) = index_at_client(&self.live, client) else {
             return Ok(Reply::NotInTx);
@@ -92,7 +93,7 @@ impl<D: Disk> Machine<D> {
         requires stands { (W : World) × IsMachineOf D.state self.old W }
         requires op { IsOp op.now }
         ensures { (W : World) → IsMachineOf D.state self.old W → IsOp op.now
-            → AnswersTold (IsMachineOf D.state self.new) (D.state (disk_of (core_of self.old))) (D.state (disk_of (core_of self.new))) W (step W client op.now) (IsPlain op.now) result }
+            → AnswersTold (GoesOn op.now) (IsMachineOf D.state self.new) (D.state (disk_of (core_of self.old))) (D.state (disk_of (core_of self.new))) W (step W client op.now) (IsPlain op.now) result }
     {
         match op {
             Op::Put { .. }

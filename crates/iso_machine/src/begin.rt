@@ -35,14 +35,14 @@ fn take_work(
 
 impl<D: Disk> Machine<D> {
     ghost use Rattle.iso_core.specs.Core.{disk_of};
-    ghost use Rattle.iso_machine.specs.Answering.{Answers};
+    ghost use Rattle.iso_machine.specs.Answering.{Always, Answers};
     ghost use Rattle.iso_machine.specs.Standing.{IsMachineOf, core_of};
 
     /// A client without a transaction begins one, in the mode that is named, or else in the image's.
     pub(crate) fn begin(&mut self, client: u8, mode: Option<Mode>) -> Result<Reply, Stop>
         requires { (W : World) × IsMachineOf D.state self.old W }
         ensures { (W : World) → IsMachineOf D.state self.old W
-            → Answers (IsMachineOf D.state self.new) (D.state (disk_of (core_of self.old))) (D.state (disk_of (core_of self.new))) W (step W client (Begin mode)) result }
+            → Answers Always (IsMachineOf D.state self.new) (D.state (disk_of (core_of self.old))) (D.state (disk_of (core_of self.new))) W (step W client (Begin mode)) result }
     {
         if let Some(_) = index_at_client(&self.live, client) {
             return Ok(Reply::InTx);

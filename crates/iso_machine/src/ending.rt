@@ -79,7 +79,7 @@ pub(crate) fn keep_spare(spare: &mut Vec<Box<Work>>, work: Box<Work>) {
 
 impl<D: Disk> Machine<D> {
     ghost use Rattle.iso_core.specs.Core.{disk_of};
-    ghost use Rattle.iso_machine.specs.Answering.{Answers};
+    ghost use Rattle.iso_machine.specs.Answering.{Always, Answers, Wanting};
     ghost use Rattle.iso_machine.specs.Standing.{IsMachineOf, core_of};
 
     /// A client's transaction ends: it is gone, and a commit where it has a write and no conflict. Where its commit has no
@@ -87,7 +87,7 @@ impl<D: Disk> Machine<D> {
     pub(crate) fn end(&mut self, client: u8) -> Result<Reply, Stop>
         requires { (W : World) × IsMachineOf D.state self.old W }
         ensures { (W : World) → IsMachineOf D.state self.old W
-            → Answers (IsMachineOf D.state self.new) (D.state (disk_of (core_of self.old))) (D.state (disk_of (core_of self.new))) W (step W client End) result }
+            → Answers Wanting (IsMachineOf D.state self.new) (D.state (disk_of (core_of self.old))) (D.state (disk_of (core_of self.new))) W (step W client End) result }
     {
         let Some(i) = index_at_client(&self.live, client) else {
             return Ok(Reply::NotInTx);
@@ -111,7 +111,7 @@ impl<D: Disk> Machine<D> {
     pub(crate) fn abort(&mut self, client: u8) -> Result<Reply, Stop>
         requires { (W : World) × IsMachineOf D.state self.old W }
         ensures { (W : World) → IsMachineOf D.state self.old W
-            → Answers (IsMachineOf D.state self.new) (D.state (disk_of (core_of self.old))) (D.state (disk_of (core_of self.new))) W (step W client Abort) result }
+            → Answers Always (IsMachineOf D.state self.new) (D.state (disk_of (core_of self.old))) (D.state (disk_of (core_of self.new))) W (step W client Abort) result }
     {
         let Some(i) = index_at_client(&self.live, client) else {
             return Ok(Reply::NotInTx);

@@ -93,7 +93,12 @@ fn put_back(alloc: Global, live: &mut Vec<Attached>, taken: Taken, labels: &[Lab
     }
 }
 
-fn put_member_back(alloc: Global, live: &mut Vec<Attached>, member: Option<GroupEnd>, label: &Label) {
+fn put_member_back(
+    alloc: Global,
+    live: &mut Vec<Attached>,
+    member: Option<GroupEnd>,
+    label: &Label,
+) {
     let Some(member) = member else {
         return;
     };
@@ -109,7 +114,7 @@ fn put_member_back(alloc: Global, live: &mut Vec<Attached>, member: Option<Group
 
 impl<D: Disk> Machine<D> {
     ghost use Rattle.iso_core.specs.Core.{disk_of};
-    ghost use Rattle.iso_machine.specs.Answering.{Answers};
+    ghost use Rattle.iso_machine.specs.Answering.{Answers, Never};
     ghost use Rattle.iso_machine.specs.Standing.{IsMachineOf, core_of};
 
     /// The transactions under the labels end as a group, in the order of the labels. Without memory none of them has ended.
@@ -117,7 +122,7 @@ impl<D: Disk> Machine<D> {
         requires stands { (W : World) × IsMachineOf D.state self.old W }
         requires op { IsOp (Group labels.now) }
         ensures { (W : World) → IsMachineOf D.state self.old W
-            → Answers (IsMachineOf D.state self.new) (D.state (disk_of (core_of self.old))) (D.state (disk_of (core_of self.new))) W (step W client (Group labels.now)) result }
+            → Answers Never (IsMachineOf D.state self.new) (D.state (disk_of (core_of self.old))) (D.state (disk_of (core_of self.new))) W (step W client (Group labels.now)) result }
     {
         let _ = client;
         let mut taken = Taken {

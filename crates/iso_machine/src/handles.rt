@@ -13,14 +13,14 @@ use script_model::{Reply, Stop};
 
 impl<D: Disk> Machine<D> {
     ghost use Rattle.iso_core.specs.Core.{disk_of};
-    ghost use Rattle.iso_machine.specs.Answering.{Answers};
+    ghost use Rattle.iso_machine.specs.Answering.{Always, Answers};
     ghost use Rattle.iso_machine.specs.Standing.{IsMachineOf, core_of};
 
     /// A client's transaction goes under a label, if no other is there.
     pub(crate) fn release(&mut self, client: u8, label: &Label) -> Result<Reply, Stop>
         requires { (W : World) × IsMachineOf D.state self.old W }
         ensures { (W : World) → IsMachineOf D.state self.old W → IsTrue (is_label label.now)
-            → Answers (IsMachineOf D.state self.new) (D.state (disk_of (core_of self.old))) (D.state (disk_of (core_of self.new))) W (step W client (Release label.now)) result }
+            → Answers Always (IsMachineOf D.state self.new) (D.state (disk_of (core_of self.old))) (D.state (disk_of (core_of self.new))) W (step W client (Release label.now)) result }
     {
         let Some(i) = index_at_client(&self.live, client) else {
             return Ok(Reply::NotInTx);
@@ -36,7 +36,7 @@ impl<D: Disk> Machine<D> {
     pub(crate) fn takeover(&mut self, client: u8, label: &Label) -> Result<Reply, Stop>
         requires { (W : World) × IsMachineOf D.state self.old W }
         ensures { (W : World) → IsMachineOf D.state self.old W
-            → Answers (IsMachineOf D.state self.new) (D.state (disk_of (core_of self.old))) (D.state (disk_of (core_of self.new))) W (step W client (Takeover label.now)) result }
+            → Answers Always (IsMachineOf D.state self.new) (D.state (disk_of (core_of self.old))) (D.state (disk_of (core_of self.new))) W (step W client (Takeover label.now)) result }
     {
         if let Some(_) = index_at_client(&self.live, client) {
             return Ok(Reply::InTx);

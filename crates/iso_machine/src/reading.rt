@@ -1,5 +1,5 @@
 // Reads of one transaction.
-ghost use Rattle.std.specs.Prelude.{◌≡◌, ◌∷◌, ◌++◌, [], ◌+◌, ◌<◌, ◌≤◌, Some, None, false, IfOk, IsErrOf, OnOk, drop, length, take, vec_len};
+ghost use Rattle.std.specs.Prelude.{◌≡◌, ◌∷◌, ◌++◌, [], ◌+◌, ◌<◌, ◌≤◌, Some, None, false, IfOk, IsErrOf, OnErr, OnOk, drop, length, take, vec_len};
 ghost use Rattle.fault_count.specs.Count.{HasCause};
 ghost use Rattle.iso_disk.specs.Disk.{WritesNothing};
 ghost use Rattle.script_model.specs.Step.{get_step, read_step};
@@ -36,6 +36,7 @@ fn read_into<D: Disk>(
     ensures shown { (W : World) (t : Live) → StandsFor D.state core.old W up → IsTx W tx t → IsWorkOf W t work.old
         → OnOk result (IfTold (D.state (disk_of core.old)) (into.new ≡ shown_to W t block)) }
     ensures work { OnOk result (work.new ≡ record work.old { accesses = work.old.accesses ++ read_access block ∷ []; ready = None; settled = false }) }
+    ensures kept { OnErr result (work.new ≡ record work.old { ready = work.new.ready }) }
     ensures same { (W : World) → StandsFor D.state core.old W up → StandsFor D.state core.new W up }
     ensures length { length into.new ≡ length into.old }
     ensures unwritten { WritesNothing (D.state (disk_of core.old)) (D.state (disk_of core.new)) }
@@ -78,6 +79,7 @@ pub(crate) fn read<D: Disk>(
     requires { (W : World) × (t : Live) × StandsFor D.state core.old W up × IsTx W tx t × IsActive W t work.old }
     ensures given { (W : World) (t : Live) → StandsFor D.state core.old W up → IsTx W tx t → IsActive W t work.old
         → IfOk result (IsShown (D.state (disk_of core.old)) W t (read_step W t block) work.new) }
+    ensures kept { OnErr result (work.new ≡ record work.old { ready = work.new.ready }) }
     ensures same { (W : World) → StandsFor D.state core.old W up → StandsFor D.state core.new W up }
     ensures unwritten { WritesNothing (D.state (disk_of core.old)) (D.state (disk_of core.new)) }
     ensures up { ¬ IsErrOf result Stop.Down }
@@ -111,6 +113,7 @@ pub(crate) fn get<D: Disk>(
     requires { (W : World) × (t : Live) × StandsFor D.state core.old W up × IsTx W tx t × IsActive W t work.old }
     ensures given { (W : World) (t : Live) → StandsFor D.state core.old W up → IsTx W tx t → IsActive W t work.old
         → IfOk result (IsShown (D.state (disk_of core.old)) W t (get_step W t block off len) work.new) }
+    ensures kept { OnErr result (work.new ≡ record work.old { ready = work.new.ready }) }
     ensures same { (W : World) → StandsFor D.state core.old W up → StandsFor D.state core.new W up }
     ensures unwritten { WritesNothing (D.state (disk_of core.old)) (D.state (disk_of core.new)) }
     ensures up { ¬ IsErrOf result Stop.Down }

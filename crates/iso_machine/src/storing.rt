@@ -109,6 +109,7 @@ pub(crate) fn store<D: Disk>(
         → IfOk result (IsStored (D.state (disk_of core.old)) W t (store_act W t op.now) work.new) }
     ensures same { (W : World) → StandsFor D.state core.old W up → StandsFor D.state core.new W up }
     ensures unwritten { WritesNothing (D.state (disk_of core.old)) (D.state (disk_of core.new)) }
+    ensures work { IsSameWork work.old work.new }
     ensures few { length work.new.accesses ≤ 4096 }
     ensures within { AreWithin work.new.size work.new.blocks work.new.accesses }
     ensures up { ¬ IsErrOf result Stop.Down }

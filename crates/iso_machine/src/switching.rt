@@ -10,14 +10,14 @@ use script_model::{Reply, Stop};
 
 impl<D: Disk> Machine<D> {
     ghost use Rattle.iso_core.specs.Core.{disk_of};
-    ghost use Rattle.iso_machine.specs.Answering.{Answers};
+    ghost use Rattle.iso_machine.specs.Answering.{Answers, Wanting};
     ghost use Rattle.iso_machine.specs.Standing.{IsMachineOf, core_of};
 
     /// The base moves to the floor, in the other half.
     pub(crate) fn compact(&mut self) -> Result<Reply, Stop>
         requires { (W : World) × IsMachineOf D.state self.old W }
         ensures { (W : World) → IsMachineOf D.state self.old W
-            → Answers (IsMachineOf D.state self.new) (D.state (disk_of (core_of self.old))) (D.state (disk_of (core_of self.new))) W (step W 1 Compact) result }
+            → Answers Wanting (IsMachineOf D.state self.new) (D.state (disk_of (core_of self.old))) (D.state (disk_of (core_of self.new))) W (step W 1 Compact) result }
     {
         match self.core.compact() {
             Ok(floor) => Ok(Reply::Compacted(floor)),
@@ -29,7 +29,7 @@ impl<D: Disk> Machine<D> {
     pub(crate) fn upgrade(&mut self) -> Result<Reply, Stop>
         requires { (W : World) × IsMachineOf D.state self.old W }
         ensures { (W : World) → IsMachineOf D.state self.old W
-            → Answers (IsMachineOf D.state self.new) (D.state (disk_of (core_of self.old))) (D.state (disk_of (core_of self.new))) W (step W 1 Upgrade) result }
+            → Answers Wanting (IsMachineOf D.state self.new) (D.state (disk_of (core_of self.old))) (D.state (disk_of (core_of self.new))) W (step W 1 Upgrade) result }
     {
         match self.core.upgrade() {
             Ok(floor) => Ok(Reply::Upgraded(floor)),

@@ -4,3 +4,4 @@ pub mod Replies
 pub mod Run
 pub mod Lines
 pub mod Rehearsal
+pub mod Stopped

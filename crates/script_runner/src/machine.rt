@@ -1,5 +1,5 @@
 // What answers the lines of a script.
-ghost use Rattle.std.specs.Prelude.{◌≡◌, ◌≤◌, ℕ, List, IfOk, IsErrOf, IsSome, OnOk};
+ghost use Rattle.std.specs.Prelude.{◌≡◌, ◌≤◌, ℕ, List, IfErr, IfOk, IsErrOf, IsSome, OnOk};
 ghost use Rattle.iso_disk.specs.Disk.{DiskState, IsLawful, LeavesOnly};
 ghost use Rattle.iso_model.specs.History.{last};
 ghost use Rattle.iso_model.specs.Image.{Shows};
@@ -9,6 +9,7 @@ ghost use Rattle.script_model.specs.Operations.{IsOp};
 ghost use Rattle.iso_model.specs.Worlds.{IsWorld};
 ghost use Rattle.iso_model.specs.Between.{ShowsEither};
 ghost use Rattle.script_runner.specs.Counts.{BlamesDisk};
+ghost use Rattle.script_runner.specs.Stopped.{GoesOn, StandsStill};
 ghost use Rattle.script_runner.specs.Told.{IfTold, IsPlain, SameButShown, StandsSo};
 
 use script_model::{Op, Reply, Stop};
@@ -35,6 +36,9 @@ pub trait ScriptMachine {
         ensures told { OnOk result (IfTold (disk self.old) (IsSome (disk self.new).contents)) }
         ensures world { (W : World) → stands self.old W
             → OnOk result (StandsSo (stands self.new) (disk self.old) (IsPlain op.now) (step W client op.now).1) }
+
+        // Without a reply it stands as before, but for the accesses that a store's call has made, unless this was the end of it.
+        ensures stopped { (W : World) → stands self.old W → IfErr result (λ why. GoesOn op.now why → StandsStill (stands self.new) (IsPlain op.now) W) }
         ensures moments { (W : World) → stands self.old W
             → LeavesOnly (disk self.old) (disk self.new) (ShowsEither W (step W client op.now).1) }
         ensures up { ¬ IsErrOf result Stop.Down }

@@ -3,8 +3,8 @@ use Rattle.script_model.specs.declared.script.Reply.TheVariants as reply
 use Rattle.iso_machine.proofs.Accesses.{may_mark, put_is, small_block, step_allowed, step_refused, within}
 use Rattle.iso_machine.proofs.accessing.put.Goals as goal
 
-pub returns-in-Some : goal.returns-in-Some
-returns-in-Some c W t active =
+pub returns-in-Some-clause-given : goal.returns-in-Some-clause-given
+returns-in-Some-clause-given c W t active =
     step_refused W t c.args.work.now active (put_step W t c.args.block c.args.off c.args.bytes.now) c.args.block (is_outside W.geometry.block c.args.off (length c.args.bytes.now)) c.is_outside.result
     reply.Done (put_access W.geometry.block c.args.block c.args.off c.args.bytes.now) c.in-Some.reply (put_is W t c.args.block c.args.off c.args.bytes.now)
     (c.is_outside.ensures ∙ ap (λ (n : ℕ). is_outside n c.args.off (length c.args.bytes.now)) (c.block_size-size.ensures.size ∙ active.is_work.size))
@@ -25,8 +25,8 @@ mark_within-requires-clause-may c =
     ap (λ (w : Doing). mark_fault w.size c.args.off (length c.args.bytes.now) w.accesses) made
     ∙ may_mark c.args.work.now.size c.args.off (length c.args.bytes.now) c.args.work.now.accesses (write_access c.args.block c.deref.result.now) refl outside
 
-pub returns : goal.returns
-returns c W t active =
+pub returns-clause-given : goal.returns-clause-given
+returns-clause-given c W t active =
     let old = c.args.work.now in
     let off = c.args.off in
     let bytes = c.args.bytes.now in

@@ -1,4 +1,4 @@
-use Rattle.iso_machine.proofs.Words.{◌≡◌, sym, refl, ap, subst, ℕ, List, Option, Some, None, Ok, ◌<◌, length, get_or, after_leaving, in_transaction, step, World, Live, attached, IsTx, disk_of, up, Attached, Answers, AreOf, live_of, shows}
+use Rattle.iso_machine.proofs.Words.{◌≡◌, sym, refl, ap, subst, ℕ, List, Option, Some, None, Ok, ◌<◌, length, get_or, after_leaving, in_transaction, step, World, Live, attached, IsTx, disk_of, up, Attached, Answers, Always, AreOf, live_of, shows}
 use Rattle.script_model.specs.declared.script.Op.TheVariants as op
 use Rattle.script_model.specs.declared.script.Reply.TheVariants as reply
 use Rattle.iso_machine.proofs.Machines.{attached_none, attached_some, is_tx, left}
@@ -12,7 +12,7 @@ abort_step W c o is = ap (λ (p : Option Live). in_transaction W p (λ t. (reply
 pub returns-in_default : goal.returns-in_default
 returns-in_default g c W of =
     let m = c.args.self.now in
-    quiet (AreOf g.D.Disk.state m.core m.live.items) (g.D.Disk.state (disk_of m.core)) (g.met.D.Disk.lawful (disk_of m.core)) W (shows g.D.Disk.state m.core W of.core_of)
+    quiet Always (AreOf g.D.Disk.state m.core m.live.items) (g.D.Disk.state (disk_of m.core)) (g.met.D.Disk.lawful (disk_of m.core)) W (shows g.D.Disk.state m.core W of.core_of)
     (step W c.args.client op.Abort) reply.NotInTx W
     (abort_step W c.args.client None (attached_none g.D.Disk.state m.core m.core m.live.items W of c.args.client c.deref.result.now c.deref.ensures.value c.in_default.ensures)) of
 
@@ -44,7 +44,7 @@ returns g c W of =
     let after : AreOf state c.abort.new.self c.remove-gone.new.self.items (after_leaving W (live_of a)) =
     subst (λ (l : List Attached). AreOf state c.abort.new.self l (after_leaving W (live_of a))) (sym c.remove-gone.ensures.items)
     (left state m.core c.abort.new.self m.live.items W of i gone inside (after_leaving W (live_of a)) refl refl (c.abort.ensures.left W up (live_of a) of.core_of tx)) in
-    subst (λ (disk : g.row.D.Denot). Answers (AreOf state c.abort.new.self c.remove-gone.new.self.items) (state (disk_of m.core)) (state disk) W (step W c.args.client op.Abort) (Ok reply.Done)) (sym c.abort.ensures.disk)
-    (quiet (AreOf state c.abort.new.self c.remove-gone.new.self.items) (state (disk_of m.core)) (g.met.D.Disk.lawful (disk_of m.core)) W (shows state m.core W of.core_of)
+    subst (λ (disk : g.row.D.Denot). Answers Always (AreOf state c.abort.new.self c.remove-gone.new.self.items) (state (disk_of m.core)) (state disk) W (step W c.args.client op.Abort) (Ok reply.Done)) (sym c.abort.ensures.disk)
+    (quiet Always (AreOf state c.abort.new.self c.remove-gone.new.self.items) (state (disk_of m.core)) (g.met.D.Disk.lawful (disk_of m.core)) W (shows state m.core W of.core_of)
     (step W c.args.client op.Abort) reply.Done (after_leaving W (live_of a))
     (abort_step W c.args.client (Some (live_of a)) (attached_some state m.core m.core m.live.items W of c.args.client c.deref.result.now i gone c.deref.ensures.value (c.in-Some.ensures.1 gone))) after)

@@ -1,4 +1,4 @@
-use Rattle.iso_machine.proofs.Words.{◌≡◌, ◌∙◌, sym, ap, subst, List, [], ◌∷◌, ◌++◌, Some, None, Ok, Result, get_or, IsTrue, Geometry, CoreReply, Reply, is_block_size, last, after_begin, begin_step, mode_named, as_step, step, World, client, unattached, IsWorld, step_leads, Core, Refuses, disk_of, up, Doing, Stop, Attached, Answers, answer_to, shows, AreOf, IsSized, live_of}
+use Rattle.iso_machine.proofs.Words.{◌≡◌, ◌∙◌, sym, ap, subst, List, [], ◌∷◌, ◌++◌, Some, None, Ok, Result, get_or, IsTrue, Geometry, CoreReply, Reply, is_block_size, last, after_begin, begin_step, mode_named, as_step, step, World, client, unattached, IsWorld, step_leads, Core, Refuses, disk_of, up, Doing, Stop, Attached, Answers, Always, answer_to, shows, AreOf, IsSized, live_of}
 use Rattle.iso_model.specs.declared.core_reply.CoreReply.TheVariants as core
 use Rattle.script_model.specs.declared.script.Op.TheVariants as op
 use Rattle.script_model.specs.declared.script.Reply.TheVariants as reply
@@ -15,7 +15,7 @@ returns-in-Some g c W of =
     let m = c.args.self.now in
     let state = g.D.Disk.state in
     let d = pick c.deref.result.now c.in-Some.field-0 c.in-Some.ensures.0 in
-    quiet (AreOf state m.core m.live.items) (state (disk_of m.core)) (g.met.D.Disk.lawful (disk_of m.core)) W (shows state m.core W of.core_of)
+    quiet Always (AreOf state m.core m.live.items) (state (disk_of m.core)) (g.met.D.Disk.lawful (disk_of m.core)) W (shows state m.core W of.core_of)
     (step W c.args.client (op.Begin c.args.mode)) reply.InTx W
     (begin_is W c.args.client c.args.mode (Some (live_of (get_or m.live.items c.in-Some.field-0 d)))
     (attached_some state m.core m.core m.live.items W of c.args.client c.deref.result.now c.in-Some.field-0 d c.deref.ensures.value (c.in-Some.ensures.1 d))) of
@@ -24,15 +24,15 @@ pub returns-in-Err : goal.returns-in-Err
 returns-in-Err g c W of =
     let m = c.args.self.now in
     let state = g.D.Disk.state in
-    quiet_memory (AreOf state m.core c.reserve.new.self.items) (state (disk_of m.core)) (g.met.D.Disk.lawful (disk_of m.core)) W (shows state m.core W of.core_of)
-    (step W c.args.client (op.Begin c.args.mode))
+    quiet_memory Always (AreOf state m.core c.reserve.new.self.items) (state (disk_of m.core)) (g.met.D.Disk.lawful (disk_of m.core)) W (shows state m.core W of.core_of)
+    (step W c.args.client (op.Begin c.args.mode)) (λ may. subst (λ (l : List Attached). AreOf state m.core l W) (sym c.in-Err.ensures.items) of)
 
 pub returns-in-Err-take_work : goal.returns-in-Err-take_work
 returns-in-Err-take_work g c W of =
     let m = c.args.self.now in
     let state = g.D.Disk.state in
-    quiet_memory (AreOf state m.core c.reserve.new.self.items) (state (disk_of m.core)) (g.met.D.Disk.lawful (disk_of m.core)) W (shows state m.core W of.core_of)
-    (step W c.args.client (op.Begin c.args.mode))
+    quiet_memory Always (AreOf state m.core c.reserve.new.self.items) (state (disk_of m.core)) (g.met.D.Disk.lawful (disk_of m.core)) W (shows state m.core W of.core_of)
+    (step W c.args.client (op.Begin c.args.mode)) (λ may. subst (λ (l : List Attached). AreOf state m.core l W) (sym c.reserve.ensures.items) of)
 
 pub returns-in-Err-begin : goal.returns-in-Err-begin
 returns-in-Err-begin g c W of =
@@ -46,12 +46,12 @@ returns-in-Err-begin g c W of =
     let still : AreOf state m.core live W = subst (λ (l : List Attached). AreOf state m.core l W) (sym c.reserve.ensures.items) of in
     let refuses : Refuses (begin_step W (client c.args.client) mode).0 e =
     subst (λ (r : CoreReply). Refuses r e) (begins_alike W unattached (client c.args.client) mode) (c.in-Err-begin.ensures.refused W of.core_of) in
-    let answer : Answers (AreOf state m.core live) (state (disk_of m.core)) (state (disk_of m.core)) W (as_step (begin_step W (client c.args.client) mode)) (answer_to e) =
-    refused_still (AreOf state m.core live) (state (disk_of m.core)) (g.met.D.Disk.lawful (disk_of m.core)) W (shows state m.core W of.core_of)
+    let answer : Answers Always (AreOf state m.core live) (state (disk_of m.core)) (state (disk_of m.core)) W (as_step (begin_step W (client c.args.client) mode)) (answer_to e) =
+    refused_still Always (AreOf state m.core live) (state (disk_of m.core)) (g.met.D.Disk.lawful (disk_of m.core)) W (shows state m.core W of.core_of)
     (begin_step W (client c.args.client) mode) e refuses (begin_keeps W (client c.args.client) mode) still in
-    subst (λ (r : Result Reply Stop). Answers (AreOf state c.begin.new.self live) (state (disk_of m.core)) (state (disk_of c.begin.new.self)) W (step W c.args.client (op.Begin c.args.mode)) r) (sym c.refused.ensures)
-    (subst (λ (k : Core g.row.D.Denot). Answers (AreOf state k live) (state (disk_of m.core)) (state (disk_of k)) W (step W c.args.client (op.Begin c.args.mode)) (answer_to e)) (sym c.in-Err-begin.ensures.kept)
-    (subst (λ (given : Reply × World). Answers (AreOf state m.core live) (state (disk_of m.core)) (state (disk_of m.core)) W given (answer_to e)) (sym says) answer))
+    subst (λ (r : Result Reply Stop). Answers Always (AreOf state c.begin.new.self live) (state (disk_of m.core)) (state (disk_of c.begin.new.self)) W (step W c.args.client (op.Begin c.args.mode)) r) (sym c.refused.ensures)
+    (subst (λ (k : Core g.row.D.Denot). Answers Always (AreOf state k live) (state (disk_of m.core)) (state (disk_of k)) W (step W c.args.client (op.Begin c.args.mode)) (answer_to e)) (sym c.in-Err-begin.ensures.kept)
+    (subst (λ (given : Reply × World). Answers Always (AreOf state m.core live) (state (disk_of m.core)) (state (disk_of m.core)) W given (answer_to e)) (sym says) answer))
 
 pub take_work-requires : goal.take_work-requires
 take_work-requires g c =
@@ -88,6 +88,6 @@ returns g c W of =
     let items : c.push_reserved.new.self.items ≡ m.live.items ++ b ∷ [] = c.push_reserved.ensures.items ∙ ap (λ (l : List Attached). l ++ b ∷ []) c.reserve.ensures.items in
     let now : AreOf state c.begin.new.self c.push_reserved.new.self.items (after_begin W place mode) =
     subst (λ (l : List Attached). AreOf state c.begin.new.self l (after_begin W place mode)) (sym items) after in
-    subst (λ (disk : g.row.D.Denot). Answers (AreOf state c.begin.new.self c.push_reserved.new.self.items) (state (disk_of m.core)) (state disk) W (step W c.args.client (op.Begin c.args.mode)) (Ok (reply.Began at))) (sym c.begin.ensures.disk)
-    (quiet (AreOf state c.begin.new.self c.push_reserved.new.self.items) (state (disk_of m.core)) (g.met.D.Disk.lawful (disk_of m.core)) W (shows state m.core W of.core_of)
+    subst (λ (disk : g.row.D.Denot). Answers Always (AreOf state c.begin.new.self c.push_reserved.new.self.items) (state (disk_of m.core)) (state disk) W (step W c.args.client (op.Begin c.args.mode)) (Ok (reply.Began at))) (sym c.begin.ensures.disk)
+    (quiet Always (AreOf state c.begin.new.self c.push_reserved.new.self.items) (state (disk_of m.core)) (g.met.D.Disk.lawful (disk_of m.core)) W (shows state m.core W of.core_of)
     (step W c.args.client (op.Begin c.args.mode)) (reply.Began at) (after_begin W place mode) says now)

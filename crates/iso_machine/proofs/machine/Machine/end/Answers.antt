@@ -1,4 +1,4 @@
-use Rattle.iso_machine.proofs.Words.{◌≡◌, ◌∙◌, sym, ap, subst, ◌<◌, List, Some, None, Ok, Result, IsSome, length, get_or, set, remove, Reply, as_reply, as_step, end_step, step, World, IsTx, IsWorkOf, disk_of, Doing, Stop, Attached, IsActive, Answers, answer_to, shows, AreOf, live_of}
+use Rattle.iso_machine.proofs.Words.{◌≡◌, ◌∙◌, sym, ap, subst, ◌<◌, List, Some, None, Ok, Result, IsSome, length, get_or, set, remove, Reply, as_reply, as_step, end_step, step, World, IsTx, IsWorkOf, disk_of, Doing, Stop, Attached, IsActive, Answers, Wanting, answer_to, shows, AreOf, live_of}
 use Rattle.script_model.specs.declared.script.Op.TheVariants as op
 use Rattle.script_model.specs.declared.script.Reply.TheVariants as reply
 use Rattle.iso_machine.proofs.Accesses.{prepared}
@@ -13,7 +13,7 @@ pub returns-in_default : goal.returns-in_default
 returns-in_default g c W of =
     let m = c.args.self.now in
     let state = g.D.Disk.state in
-    quiet (AreOf state m.core m.live.items) (state (disk_of m.core)) (g.met.D.Disk.lawful (disk_of m.core)) W (shows state m.core W of.core_of)
+    quiet Wanting (AreOf state m.core m.live.items) (state (disk_of m.core)) (g.met.D.Disk.lawful (disk_of m.core)) W (shows state m.core W of.core_of)
     (step W c.args.client op.End) reply.NotInTx W
     (end_is W c.args.client None (attached_none state m.core m.core m.live.items W of c.args.client c.deref.result.now c.deref.ensures.value c.in_default.ensures)) of
 
@@ -53,8 +53,8 @@ returns-in-Err g c W of =
     let items : List Attached = set m.live.items i (record d { work = record d.work { value = work } }) in
     let says : step W c.args.client op.End ≡ as_step (end_step W (live_of a)) =
     end_is W c.args.client (Some (live_of a)) (attached_some state m.core m.core m.live.items W of c.args.client c.deref.result.now i d c.deref.ensures.value (c.in-Some.ensures.1 d)) in
-    let answer : Answers (AreOf state new items) (state (disk_of m.core)) (state (disk_of new)) W (as_step (end_step W (live_of a))) (answer_to e) =
-    refused (AreOf state new items) (state (disk_of m.core)) (state (disk_of new)) W (end_step W (live_of a)) e (record {
+    let answer : Answers Wanting (AreOf state new items) (state (disk_of m.core)) (state (disk_of new)) W (as_step (end_step W (live_of a))) (answer_to e) =
+    refused Wanting (AreOf state new items) (state (disk_of m.core)) (state (disk_of new)) W (end_step W (live_of a)) (λ may. absurd (cc may)) e (record {
       is = c.in-Err.ensures.refused W (live_of a) of.core_of tx does;
       keeps = end_keeps W (live_of a);
       same = λ other. subst (λ (b : Attached). AreOf state new (set m.live.items i (record b { work = record b.work { value = work } })) W) (sym same)
@@ -64,8 +64,8 @@ returns-in-Err g c W of =
       moments = c.in-Err.ensures.moments W (live_of a) of.core_of tx does;
       cause = blames (state (disk_of m.core)).faults (state (disk_of new)).faults e c.in-Err.ensures.cause;
     }) in
-    subst (λ (r : Result Reply Stop). Answers (AreOf state new items) (state (disk_of m.core)) (state (disk_of new)) W (step W c.args.client op.End) r) (sym c.refused.ensures)
-    (subst (λ (given : Reply × World). Answers (AreOf state new items) (state (disk_of m.core)) (state (disk_of new)) W given (answer_to e)) (sym says) answer)
+    subst (λ (r : Result Reply Stop). Answers Wanting (AreOf state new items) (state (disk_of m.core)) (state (disk_of new)) W (step W c.args.client op.End) r) (sym c.refused.ensures)
+    (subst (λ (given : Reply × World). Answers Wanting (AreOf state new items) (state (disk_of m.core)) (state (disk_of new)) W given (answer_to e)) (sym says) answer)
 
 pub returns : goal.returns
 returns g c W of =
@@ -89,6 +89,6 @@ returns g c W of =
     end_is W c.args.client (Some (live_of a)) (attached_some state m.core m.core m.live.items W of c.args.client c.deref.result.now i d c.deref.ensures.value (c.in-Some.ensures.1 d)) in
     let items_are : items ≡ remove m.live.items i = c.remove-gone.ensures.items ∙ remove_set m.live.items i (record d { work = record d.work { value = c.end_whole.new.work } }) in
     let after : AreOf state new items V = subst (λ (l : List Attached). AreOf state new l V) (sym items_are) (left state m.core new m.live.items W of i d inside V gone.live gone.geometry is.1) in
-    subst (λ (given : Reply × World). Answers (AreOf state new items) (state (disk_of m.core)) (state (disk_of new)) W given (Ok c.ended.result)) (sym says)
-    (answered (AreOf state new items) (state (disk_of m.core)) (state (disk_of new)) W (as_step (end_step W (live_of a))) c.ended.result c.in-Ok.reply (c.ended.ensures ∙ ap as_reply (sym is.0)) c.in-Ok.ensures.told after
+    subst (λ (given : Reply × World). Answers Wanting (AreOf state new items) (state (disk_of m.core)) (state (disk_of new)) W given (Ok c.ended.result)) (sym says)
+    (answered Wanting (AreOf state new items) (state (disk_of m.core)) (state (disk_of new)) W (as_step (end_step W (live_of a))) c.ended.result c.in-Ok.reply (c.ended.ensures ∙ ap as_reply (sym is.0)) c.in-Ok.ensures.told after
     (c.in-Ok.ensures.moments W (live_of a) of.core_of tx does) c.in-Ok.ensures.cause)

@@ -1,4 +1,4 @@
-use Rattle.iso_machine.proofs.Words.{◌≡◌, ◌∙◌, sym, refl, ap, subst, ℕ, List, [], Option, Ok, Err, arith, length, map, eqb-true, with_items_is, GroupReply, GroupEnd, Reply, Stop, Result, found_ones, group, looks, group_step, grouped, step, reply_in, World, Core, disk_of, up, AreEach, IsMember, Attached, Answers, answer_to, filled, shows, AreOf, MAX_LABELS}
+use Rattle.iso_machine.proofs.Words.{◌≡◌, ◌∙◌, sym, refl, ap, subst, ℕ, List, [], Option, Ok, Err, arith, length, map, eqb-true, with_items_is, GroupReply, GroupEnd, Reply, Stop, Result, found_ones, group, looks, group_step, grouped, step, reply_in, World, Core, disk_of, up, AreEach, IsMember, Attached, Answers, Never, answer_to, filled, shows, AreOf, MAX_LABELS}
 use Rattle.script_model.specs.declared.script.Op.TheVariants as op
 use Rattle.script_model.specs.declared.script.Reply.TheVariants as reply
 use Rattle.script_model.specs.declared.stop.Stop.TheVariants as stop
@@ -11,8 +11,8 @@ pub returns-in-Err : goal.returns-in-Err
 returns-in-Err g c W of =
     let m = c.args.self.now in
     let state = g.D.Disk.state in
-    quiet_memory (AreOf state m.core c.put_back.new.live.items) (state (disk_of m.core)) (g.met.D.Disk.lawful (disk_of m.core)) W (shows state m.core W of.core_of)
-    (step W c.args.client (op.Group c.args.labels.now))
+    quiet_memory Never (AreOf state m.core c.put_back.new.live.items) (state (disk_of m.core)) (g.met.D.Disk.lawful (disk_of m.core)) W (shows state m.core W of.core_of)
+    (step W c.args.client (op.Group c.args.labels.now)) (λ may. absurd may)
 
 pub returns-then-is_empty : goal.returns-then-is_empty
 returns-then-is_empty g c W of =
@@ -23,7 +23,7 @@ returns-then-is_empty g c W of =
     let left : List Attached = c.take_members.new.live.items in
     let taken = from_none c.args.labels.now m.live.items c.take_members.new.live.items c.new.result.items c.take_members.new.taken.answers.items c.new-2.result.items c.take_members.new.taken.ends.items c.new.ensures.items c.new-2.ensures.items c.in_default.ensures in
     let none : ends ≡ [] = no_ends ends (sym c.take_members.new.taken.ends.ok.0 ∙ eqb-true c.take_members.new.taken.ends.len 0 (sym c.is_empty.ensures ∙ c.if-is_empty.true)) in
-    quiet (AreOf state m.core left) (state (disk_of m.core)) (g.met.D.Disk.lawful (disk_of m.core)) W (shows state m.core W of.core_of)
+    quiet Never (AreOf state m.core left) (state (disk_of m.core)) (g.met.D.Disk.lawful (disk_of m.core)) W (shows state m.core W of.core_of)
     (step W c.args.client (op.Group c.args.labels.now)) (reply.Grouped c.of.result) (looks W c.args.labels.now).1
     (step_is W c.args.client c.args.labels.now ∙ ap grouped (nobody state m.core m.live.items left W of c.args.labels.now answers ends taken none)
     ∙ ap (λ (xs : List (Option GroupReply)). (reply.Grouped xs, (looks W c.args.labels.now).1)) (sym c.of.ensures))
@@ -62,8 +62,8 @@ returns-in-Err-Memory g c W of =
     let new = c.end_group.new.self in
     let live : List Attached = c.put_back-in-Err-Memory.new.live.items in
     let given = step W c.args.client (op.Group c.args.labels.now) in
-    subst (λ (disk : g.row.D.Denot). Answers (AreOf state new live) (state (disk_of m.core)) (state disk) W given (Err stop.Memory)) (sym (c.in-Err-Memory.ensures.untouched (λ is. cc (is, c.in-Err-Memory.field-0-is))))
-    (quiet_memory (AreOf state new live) (state (disk_of m.core)) (g.met.D.Disk.lawful (disk_of m.core)) W (shows state m.core W of.core_of) given)
+    subst (λ (disk : g.row.D.Denot). Answers Never (AreOf state new live) (state (disk_of m.core)) (state disk) W given (Err stop.Memory)) (sym (c.in-Err-Memory.ensures.untouched (λ is. cc (is, c.in-Err-Memory.field-0-is))))
+    (quiet_memory Never (AreOf state new live) (state (disk_of m.core)) (g.met.D.Disk.lawful (disk_of m.core)) W (shows state m.core W of.core_of) given (λ may. absurd may))
 
 pub returns-in-Err-end_group : goal.returns-in-Err-end_group
 returns-in-Err-end_group g c W of =
@@ -79,8 +79,8 @@ returns-in-Err-end_group g c W of =
     let here = stands state m.core m.live.items left W of labels answers ends taken in
     let each = subst (λ (es : List GroupEnd). AreEach (IsMember V) es (found_ones (looks W labels).0)) (sym c.deref_mut.ensures.value) (ready state m.core m.live.items left W of labels answers ends taken) in
     let moments = moments_of state m.core m.live.items left W of labels answers ends taken (state (disk_of m.core)) (state (disk_of new)) (c.in-Err-end_group.ensures.moments V (found_ones (looks W labels).0) here each) in
-    subst (λ (r : Result Reply Stop). Answers (AreOf state new left) (state (disk_of m.core)) (state (disk_of new)) W (step W c.args.client (op.Group labels)) r) (sym c.refused.ensures)
-    (subst (λ (given : Reply × World). Answers (AreOf state new left) (state (disk_of m.core)) (state (disk_of new)) W given (answer_to c.in-Err-end_group.error)) (sym (step_is W c.args.client labels))
+    subst (λ (r : Result Reply Stop). Answers Never (AreOf state new left) (state (disk_of m.core)) (state (disk_of new)) W (step W c.args.client (op.Group labels)) r) (sym c.refused.ensures)
+    (subst (λ (given : Reply × World). Answers Never (AreOf state new left) (state (disk_of m.core)) (state (disk_of new)) W given (answer_to c.in-Err-end_group.error)) (sym (step_is W c.args.client labels))
     (group_fails (AreOf state new left) (state (disk_of m.core)) (state (disk_of new)) W (grouped (group_step W labels)) c.in-Err-end_group.error (c.in-Err-end_group.ensures.only V here) moments
     c.in-Err-end_group.ensures.cause))
 
@@ -108,6 +108,6 @@ returns g c W of =
     let reply_is : reply.Grouped c.of-2.result ≡ (grouped (group_step W labels)).0 =
     ap (λ (xs : List (Option GroupReply)). reply.Grouped xs) (c.of-2.ensures ∙ answers_new ∙ c.fill_answers.ensures ∙ filled_are
     ∙ replies_are state m.core m.live.items left W of labels answers ends taken c.end_group.new.ends is.0) in
-    subst (λ (given : Reply × World). Answers (AreOf state new left) (state (disk_of m.core)) (state (disk_of new)) W given (Ok (reply.Grouped c.of-2.result))) (sym (step_is W c.args.client labels))
-    (answered (AreOf state new left) (state (disk_of m.core)) (state (disk_of new)) W (grouped (group_step W labels)) (reply.Grouped c.of-2.result) c.in-Ok.field-0 reply_is c.in-Ok.ensures.told
+    subst (λ (given : Reply × World). Answers Never (AreOf state new left) (state (disk_of m.core)) (state (disk_of new)) W given (Ok (reply.Grouped c.of-2.result))) (sym (step_is W c.args.client labels))
+    (answered Never (AreOf state new left) (state (disk_of m.core)) (state (disk_of new)) W (grouped (group_step W labels)) (reply.Grouped c.of-2.result) c.in-Ok.field-0 reply_is c.in-Ok.ensures.told
     (behind state m.core m.live.items left W of labels answers ends taken new is.1) moments c.in-Ok.ensures.cause)

@@ -1,4 +1,4 @@
-use Rattle.iso_machine.proofs.Words.{◌≡◌, sym, refl, subst, ◌<◌, List, Some, None, Ok, length, get_or, set, Reply, placed, step, World, held, label, IsWorld, step_leads, disk_of, Attached, Answers, shows, AreOf, IsSized, live_of}
+use Rattle.iso_machine.proofs.Words.{◌≡◌, sym, refl, subst, ◌<◌, List, Some, None, Ok, length, get_or, set, Reply, placed, step, World, held, label, IsWorld, step_leads, disk_of, Attached, Answers, Always, shows, AreOf, IsSized, live_of}
 use Rattle.script_model.specs.declared.script.Op.TheVariants as op
 use Rattle.script_model.specs.declared.script.Reply.TheVariants as reply
 use Rattle.iso_machine.specs.declared.attached.Spot.TheVariants as spot
@@ -11,7 +11,7 @@ pub returns-in_default : goal.returns-in_default
 returns-in_default g c W of is =
     let m = c.args.self.now in
     let state = g.D.Disk.state in
-    quiet (AreOf state m.core m.live.items) (state (disk_of m.core)) (g.met.D.Disk.lawful (disk_of m.core)) W (shows state m.core W of.core_of)
+    quiet Always (AreOf state m.core m.live.items) (state (disk_of m.core)) (g.met.D.Disk.lawful (disk_of m.core)) W (shows state m.core W of.core_of)
     (step W c.args.client (op.Release c.args.label.now)) reply.NotInTx W
     (release_is W c.args.client c.args.label.now None (held W c.args.label.now)
     (attached_none state m.core m.core m.live.items W of c.args.client c.deref.result.now c.deref.ensures.value c.in_default.ensures) refl) of
@@ -22,7 +22,7 @@ returns-in-Some-index_under_label g c W of is =
     let state = g.D.Disk.state in
     let text = c.args.label.now in
     let d = pick c.deref.result.now c.in-Some.i c.in-Some.ensures.0 in
-    quiet (AreOf state m.core m.live.items) (state (disk_of m.core)) (g.met.D.Disk.lawful (disk_of m.core)) W (shows state m.core W of.core_of)
+    quiet Always (AreOf state m.core m.live.items) (state (disk_of m.core)) (g.met.D.Disk.lawful (disk_of m.core)) W (shows state m.core W of.core_of)
     (step W c.args.client (op.Release text)) reply.LabelTaken W
     (release_is W c.args.client text (Some (live_of (get_or m.live.items c.in-Some.i d))) (Some (live_of (get_or m.live.items c.in-Some-index_under_label.field-0 d)))
     (attached_some state m.core m.core m.live.items W of c.args.client c.deref.result.now c.in-Some.i d c.deref.ensures.value (c.in-Some.ensures.1 d))
@@ -48,6 +48,6 @@ returns g c W of is =
     changed state m.core m.core m.live.items W of i d inside b refl refl refl (record { size = sized.size; blocks = sized.blocks }) of.core_of world in
     let same : set m.live.items i b ≡ set m.live.items i (record d { spot = spot.Label c.copy.result }) =
     λ j. set m.live.items i (record (sym c.index_mut.ensures.value j) { spot = spot.Label (sym c.copy.ensures j) }) in
-    subst (λ (l : List Attached). Answers (AreOf state m.core l) (state (disk_of m.core)) (state (disk_of m.core)) W (step W c.args.client (op.Release text)) (Ok reply.Done)) same
-    (quiet (AreOf state m.core (set m.live.items i b)) (state (disk_of m.core)) (g.met.D.Disk.lawful (disk_of m.core)) W (shows state m.core W of.core_of)
+    subst (λ (l : List Attached). Answers Always (AreOf state m.core l) (state (disk_of m.core)) (state (disk_of m.core)) W (step W c.args.client (op.Release text)) (Ok reply.Done)) same
+    (quiet Always (AreOf state m.core (set m.live.items i b)) (state (disk_of m.core)) (g.met.D.Disk.lawful (disk_of m.core)) W (shows state m.core W of.core_of)
     (step W c.args.client (op.Release text)) reply.Done (placed W (live_of a) (label text)) says after)

@@ -1,4 +1,4 @@
-use Rattle.iso_machine.proofs.Words.{◌≡◌, ◌∙◌, sym, refl, ap, subst, ℕ, ◌<◌, List, Some, None, Ok, length, get_or, set, Reply, placed, step, World, client, held, IsWorld, step_leads, disk_of, Doing, Attached, Answers, shows, AreOf, IsSized, live_of}
+use Rattle.iso_machine.proofs.Words.{◌≡◌, ◌∙◌, sym, refl, ap, subst, ℕ, ◌<◌, List, Some, None, Ok, length, get_or, set, Reply, placed, step, World, client, held, IsWorld, step_leads, disk_of, Doing, Attached, Answers, Always, shows, AreOf, IsSized, live_of}
 use Rattle.script_model.specs.declared.script.Op.TheVariants as op
 use Rattle.script_model.specs.declared.script.Reply.TheVariants as reply
 use Rattle.iso_machine.specs.declared.attached.Spot.TheVariants as spot
@@ -12,7 +12,7 @@ returns-in-Some g c W of =
     let m = c.args.self.now in
     let state = g.D.Disk.state in
     let d = pick c.deref.result.now c.in-Some.field-0 c.in-Some.ensures.0 in
-    quiet (AreOf state m.core m.live.items) (state (disk_of m.core)) (g.met.D.Disk.lawful (disk_of m.core)) W (shows state m.core W of.core_of)
+    quiet Always (AreOf state m.core m.live.items) (state (disk_of m.core)) (g.met.D.Disk.lawful (disk_of m.core)) W (shows state m.core W of.core_of)
     (step W c.args.client (op.Takeover c.args.label.now)) reply.InTx W
     (takeover_is W c.args.client c.args.label.now (Some (live_of (get_or m.live.items c.in-Some.field-0 d))) (held W c.args.label.now)
     (attached_some state m.core m.core m.live.items W of c.args.client c.deref.result.now c.in-Some.field-0 d c.deref.ensures.value (c.in-Some.ensures.1 d)) refl) of
@@ -21,7 +21,7 @@ pub returns-in_default-index_under_label : goal.returns-in_default-index_under_l
 returns-in_default-index_under_label g c W of =
     let m = c.args.self.now in
     let state = g.D.Disk.state in
-    quiet (AreOf state m.core m.live.items) (state (disk_of m.core)) (g.met.D.Disk.lawful (disk_of m.core)) W (shows state m.core W of.core_of)
+    quiet Always (AreOf state m.core m.live.items) (state (disk_of m.core)) (g.met.D.Disk.lawful (disk_of m.core)) W (shows state m.core W of.core_of)
     (step W c.args.client (op.Takeover c.args.label.now)) reply.NoHandle W
     (takeover_is W c.args.client c.args.label.now None None
     (attached_none state m.core m.core m.live.items W of c.args.client c.deref.result.now c.deref.ensures.value c.in_default.ensures)
@@ -49,7 +49,7 @@ returns g c W of =
     let same : set m.live.items i b ≡ set m.live.items i (record d { spot = spot.Client c.args.client }) =
     λ j. set m.live.items i (record (sym c.index_mut-attached.ensures.value j) { spot = spot.Client c.args.client }) in
     let at : a.work.value.begin ≡ c.begun_at.result = sym (c.begun_at.ensures ∙ ap (λ (w : Doing). w.begin) c.deref-3.ensures ∙ ap (λ (x : Attached). x.work.value.begin) c.index_mut-attached.ensures.value) in
-    subst (λ (l : List Attached). Answers (AreOf state m.core l) (state (disk_of m.core)) (state (disk_of m.core)) W (step W c.args.client (op.Takeover text)) (Ok (reply.Began c.begun_at.result))) same
-    (quiet (AreOf state m.core (set m.live.items i b)) (state (disk_of m.core)) (g.met.D.Disk.lawful (disk_of m.core)) W (shows state m.core W of.core_of)
+    subst (λ (l : List Attached). Answers Always (AreOf state m.core l) (state (disk_of m.core)) (state (disk_of m.core)) W (step W c.args.client (op.Takeover text)) (Ok (reply.Began c.begun_at.result))) same
+    (quiet Always (AreOf state m.core (set m.live.items i b)) (state (disk_of m.core)) (g.met.D.Disk.lawful (disk_of m.core)) W (shows state m.core W of.core_of)
     (step W c.args.client (op.Takeover text)) (reply.Began c.begun_at.result) (placed W (live_of a) (client c.args.client))
     (says ∙ ap (λ (n : ℕ). (reply.Began n, placed W (live_of a) (client c.args.client))) at) after)
