@@ -1,5 +1,5 @@
 -- What the status of a call on an image has for its cause.
-use Rattle.iso_top.proofs.Words.{◌≡◌, ◌≢◌, ◌⊎◌, inl, inr, ⊎_elim, ℕ, List, Option, Some, None, IfSome, refl, sym, ap, subst, ForSome, Task, New, Run, Par, Recover, Bench, made_geometry, Rose, DiskState, SinkState, SourceState, Geometry, BadLine, Line, bench_output, bench_world, recover_output, Script, clients_script, script, OpenError, refusal, start_at, Part, RunEnd, AreLinesOf, HasRun, HasAnswered, HasBenched, HasMet, HasNotBegun, HasRecovered, IsAccepted, IsGoodInput, IsStatus, PrintedBench, PrintedDigest, PrintedResult, ScriptError, HasRunClients, HasRunNone, PrintedClients, WereRun, SinkFailed, TellsNamed, end_status, error_status, script_error_status}
+use Rattle.iso_top.proofs.Words.{◌≡◌, ◌≢◌, ◌⊎◌, inl, inr, ⊎_elim, ℕ, List, Option, Some, None, IfSome, refl, sym, ap, subst, ForSome, Task, New, Run, Par, Recover, Bench, made_geometry, Rose, DiskState, SinkState, SourceState, Geometry, BadLine, Line, bench_output, bench_world, recover_output, Script, script, OpenError, refusal, start_at, Part, RunEnd, AreLinesOf, HasRun, HasAnswered, HasBenched, HasMet, HasNotBegun, HasRecovered, IsAccepted, IsGoodInput, IsStatus, PrintedBench, PrintedDigest, PrintedResult, ScriptError, HasRunClients, HasRunNone, PrintedClients, WereRun, SinkFailed, TellsNamed, end_status, error_status, script_error_status}
 use Rattle.iso_refusal.specs.declared.open_error.OpenError.TheVariants as error
 use Rattle.script_runner.specs.declared.run_end.RunEnd.TheVariants as end
 use Rattle.whole_script.specs.declared.lines.ScriptError.TheVariants as lines
@@ -214,10 +214,10 @@ module _ {D : Type 0} (state : D → DiskState) (name : List ℕ) (status : ℕ)
         go end.Output run (is, text) = inr is
         go end.Memory run (is, text) = inr is
 
-    ran_none_all : (e : ScriptError) → status ≡ script_error_status e → (all : List ℕ) × (input_old.rest ≡ Some all) × ((clients_script all).bad ≡ None)
+    ran_none_all : (e : ScriptError) → status ≡ script_error_status e → (all : List ℕ) × (input_old.rest ≡ Some all) × ((script all).bad ≡ None)
         → HasRunNone name e (state disk_old) (state disk_new) input_old input_new output_old output_new → Ends
     ran_none_all (lines.BadLine bad) is (all, rest, good) r =
-        let told : (clients_script all).bad ≡ Some bad = subst (λ (o : Option (List ℕ)). IfSome o (λ text. (clients_script text).bad ≡ Some bad)) rest r.why.told in
+        let told : (script all).bad ≡ Some bad = subst (λ (o : Option (List ℕ)). IfSome o (λ text. (script text).bad ≡ Some bad)) rest r.why.told in
         absurd (cc (good, told))
     ran_none_all lines.Input is good r = absurd (input_stands r.why)
     ran_none_all lines.Memory is good r = inr is

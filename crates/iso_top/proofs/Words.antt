@@ -74,7 +74,6 @@ pub use Rattle.script_runner.specs.declared.run_end.RunEnd.{RunEnd}
 pub use Rattle.sha2.specs.Sha256.{sha256}
 pub use Rattle.store_entries.proofs.Listed.{stores_answer_at}
 pub use Rattle.store_scripts.proofs.Whole.{stores_answer}
-pub use Rattle.whole_script.specs.Alone.{clients_script}
 pub use Rattle.whole_script.specs.Read.{HasNoLines, HasRead}
 pub use Rattle.whole_script.specs.declared.lines.ScriptError.{ScriptError}
 pub use Rattle.iso_top.specs.Begun.{HasCore, HasNoCore}

@@ -26,7 +26,6 @@ use Rattle.script_runner.specs.Replies.{text_of}
 use Rattle.script_runner.specs.Run.{HasRun}
 use Rattle.sha2.specs.Sha256.{sha256}
 use Rattle.store_scripts.specs.InOrder.{StoresAnswer}
-use Rattle.whole_script.specs.Alone.{clients_script}
 use Rattle.whole_script.specs.declared.lines.ScriptError.{ScriptError}
 use Rattle.iso_top.specs.Clients.{HasRunClients, HasRunNone}
 use Rattle.iso_top.specs.Prints.{Printed, WasCut, WroteWhole}
@@ -178,10 +177,10 @@ abbrev pub IsAccepted : (made : Option Geometry) → (given : Option (List ℕ))
 IsAccepted (Some g) given = Unit {0}
 IsAccepted None given = (c : List ℕ) × (given ≡ Some c) × (refusal c ≡ None)
 
--- where the task reads the input, this has no bad line, nor a group where clients run beside each other
+-- where the task reads the input, this has no bad line
 abbrev pub IsGoodInput : Task → (rest : Option (List ℕ)) → Type 0
 IsGoodInput (New g) rest = (all : List ℕ) × (rest ≡ Some all) × ((script all).bad ≡ None)
 IsGoodInput Run rest = (all : List ℕ) × (rest ≡ Some all) × ((script all).bad ≡ None)
-IsGoodInput Par rest = (all : List ℕ) × (rest ≡ Some all) × ((clients_script all).bad ≡ None)
+IsGoodInput Par rest = (all : List ℕ) × (rest ≡ Some all) × ((script all).bad ≡ None)
 IsGoodInput Recover rest = Unit {0}
 IsGoodInput (Bench seed count) rest = Unit {0}
