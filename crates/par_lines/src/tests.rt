@@ -129,3 +129,22 @@ fn a_client_commits_what_another_one_wrote(rt: HostRuntime) -> Result<(), Fail> 
     );
     Ok(())
 }
+
+#[test]
+fn a_client_groups_what_stands_under_labels(rt: HostRuntime) -> Result<(), Fail> {
+    let script: &[&[u8]] = &[
+        b"1 begin",
+        b"1 put 0 0 aa",
+        b"1 release a",
+        b"1 begin",
+        b"1 group q a a",
+        b"1 end",
+    ];
+    let ended = run(&rt, rt.alloc(), script).expect(&rt, "a run");
+    assert_eq!(rt; ended.status, 0);
+    assert!(rt;
+        ended.text.as_slice()
+            == b"1 ok begin 0\n1 ok\n1 ok\n1 ok begin 0\n1 ok none; commit 1; none\n1 ok read-only\ncommit 1 by 1 line 5\n".as_slice()
+    );
+    Ok(())
+}

@@ -1,4 +1,4 @@
-use Rattle.par_lines.proofs.Words.{◌+◌, ◌<◌, ◌≤◌, length, vec_capacity, port_view}
+use Rattle.par_lines.proofs.Words.{◌≤◌, length, vec_capacity, port_view}
 use Rattle.par_lines.proofs.Grouping.{Looking}
 use Rattle.par_lines.proofs.groups.look_all.Given as goal
 
