@@ -93,7 +93,12 @@ fn put_back(alloc: Global, live: &mut Vec<Attached>, taken: Taken, labels: &[Lab
     }
 }
 
-fn put_member_back(alloc: Global, live: &mut Vec<Attached>, member: Option<GroupEnd>, label: &Label) {
+fn put_member_back(
+    alloc: Global,
+    live: &mut Vec<Attached>,
+    member: Option<GroupEnd>,
+    label: &Label,
+) {
     let Some(member) = member else {
         return;
     };
