@@ -158,8 +158,7 @@ const A_GROUP: &[u8] =
 /// Says the status and the output, and to what the images for the picks 0 and 1 are opened: none of the two commits, or both.
 fn expected_of_a_group(calls: u64) -> (u8, &'static [u8], &'static [u8], &'static [u8]) {
     let none = b"! disk fault\n".as_slice();
-    let cut =
-        b"1 ok begin 0\n1 ok\n1 ok\n2 ok begin 0\n2 ok\n2 ok\n! disk fault\n".as_slice();
+    let cut = b"1 ok begin 0\n1 ok\n1 ok\n2 ok begin 0\n2 ok\n2 ok\n! disk fault\n".as_slice();
     let whole =
         b"1 ok begin 0\n1 ok\n1 ok\n2 ok begin 0\n2 ok\n2 ok\n3 ok commit 1; commit 2\n".as_slice();
     match calls {

@@ -6,6 +6,7 @@ pub on_err : {T E : Type 0} (r : Result T E) (old mid new first : List ℕ) → 
 on_err (Ok x) old mid new first is extends = tt
 on_err (Err e) old mid new first is extends =
     record { rest = first ++ extends.rest; is = extends.is ∙ ap (λ (text : List ℕ). text ++ extends.rest) is ∙ append_assoc old first extends.rest }
+
 pub always : {T E P : Type 0} (r : Result T E) → P → OnErr r P
 always (Ok x) p = tt
 always (Err e) p = p

@@ -25,11 +25,7 @@ pub(crate) fn push_grouped(
 }
 
 #[tactic(auto, unfolding(script_model::specs::Text::reply_text))]
-fn push_line(
-    out: &mut Vec<u8>,
-    client: u8,
-    answers: &[Option<GroupReply>],
-) -> Result<(), Memory>
+fn push_line(out: &mut Vec<u8>, client: u8, answers: &[Option<GroupReply>]) -> Result<(), Memory>
     ensures ok { OnOk result (out.new.items ≡ out.old.items ++ reply_line client (Grouped answers.now)) }
     ensures err { OnErr result (Extends out.old.items out.new.items) }
 {

@@ -1,5 +1,5 @@
 use super::*;
-use iso_model::{Bytes, Clash, Label, Mode};
+use iso_model::{Bytes, Clash, GroupReply, Label, LabelReplies, Mode};
 use std::alloc::Global;
 use std::test::*;
 
@@ -40,7 +40,7 @@ fn the_first_test_that_a_line_fails(rt: HostRuntime) {
 
 #[test]
 fn the_first_argument_that_is_wrong(rt: HostRuntime) {
-    let lines: [(&[u8], u8); 13] = [
+    let lines: [(&[u8], u8); 17] = [
         (b"1 begin x", 10),
         (b"1 begin serial x", 3),
         (b"1 begin Serial", 10),
@@ -52,6 +52,10 @@ fn the_first_argument_that_is_wrong(rt: HostRuntime) {
         (b"1 release A", 6),
         (b"1 takeover a b", 3),
         (b"1 await abcdefghij0123456", 6),
+        (b"1 group", 3),
+        (b"1 group a B c", 6),
+        (b"1 group a b c d e f g h i j k l m n o p q", 3),
+        (b"1 group A b c d e f g h i j k l m n o p q r", 3),
         (b"1 trim 1", 3),
         (b"1 upgrade 1", 3),
     ];
@@ -389,4 +393,54 @@ fn the_first_rounds_of_seed_0(rt: HostRuntime) {
         round.text()
             == b"1 begin\n2 begin\n1 get 48 4 4\n1 put 14 28 9e\n2 get 14 4 4\n2 put 48 4 a4\n1 end\n2 end\n".as_slice()
     );
+}
+
+#[test]
+fn a_group_is_printed_as_it_is_read(rt: HostRuntime) {
+    let alloc = rt.alloc();
+    for line in [
+        b"9 group a".as_slice(),
+        b"9 group a b1 a 0123456789abcdef z",
+    ] {
+        match op_in(alloc, line) {
+            Some(op) => assert!(rt; prints(alloc, op, line)),
+            None => assert!(rt; false),
+        }
+    }
+}
+
+// The operation of a line.
+fn op_in(alloc: Global, line: &[u8]) -> Option<Op> {
+    match parse_line(alloc, line) {
+        Ok(Parsed::Line(Line { client: _, op })) => Some(op),
+        _ => None,
+    }
+}
+
+#[test]
+fn what_a_group_is_answered(rt: HostRuntime) -> Result<(), Fail> {
+    let alloc = rt.alloc();
+    let clash = Clash {
+        commit: 7,
+        block: 3,
+        at: 63,
+    };
+    let answers = vec![in alloc;
+        Some(GroupReply::Committed(12)),
+        None,
+        Some(GroupReply::ReadOnly),
+        Some(GroupReply::Conflict(clash)),
+        Some(GroupReply::Full { need: 31, free: 2 }),
+        Some(GroupReply::Worn),
+    ]?;
+    let reply = Reply::Grouped(LabelReplies::of(answers));
+    let mut line = ReplyLine::new(alloc);
+    assert!(rt; line.set(3, &reply).is_ok());
+    assert_eq!(rt;
+        line.text(),
+        b"3 ok commit 12; none; read-only; conflict with 7 block 3 at 63; log full need 31 free 2; worn\n".as_slice()
+    );
+    let printed = print_reply(alloc, 3, &reply).ok().ok_or("there is memory")?;
+    assert_eq!(rt; printed.as_slice(), line.text());
+    Ok(())
 }

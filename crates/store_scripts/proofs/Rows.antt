@@ -1,6 +1,7 @@
 -- Worked examples: what lines and their replies tell of the calls of a tree store.
-use Rattle.store_scripts.proofs.Words.{codes, digits, Geometry, Serial, begin_step, commit_step, end_step, End, Committed, put, clash, runs, after, operation_of, other_operation, store_operation, tree_operation, fill_step, get_step, mark_step, step, store_step, tree_get_step, tree_put_step, tree_delete_step, hex_of, number_of, words_of, is_node, lines_of, made, Del, Got, WasPut, WasThere, OnKey, Told, no_notes, notes_after}
+use Rattle.store_scripts.proofs.Words.{codes, digits, Geometry, Serial, begin_step, commit_step, end_step, End, Committed, put, clash, runs, after, operation_of, other_operation, store_operation, tree_operation, fill_step, get_step, mark_step, step, store_step, tree_get_step, tree_put_step, tree_delete_step, hex_of, number_of, words_of, is_node, lines_of, made, Del, Got, WasPut, WasThere, OnKey, Told, no_notes, notes_after, group_step}
 use Rattle.std.specs.Prelude.{◌≡◌, ℕ, true, false, List, [], ◌∷◌, Some, None, refl}
+use Rattle.iso_model.specs.declared.access.GroupReply.TheVariants as member
 use Rattle.store_model.specs.TreeCalls as tree
 use Rattle.store_laws.specs.Calls.{Get, Put}
 
@@ -58,3 +59,10 @@ marks_keep_other_accesses = refl
 pub told_calls_commit : (step (after (made trees) (lines_of (codes "1 begin" ∷ codes "1 tput 61 31" ∷ codes "1 tget 61" ∷ []))) 1 End).0 ≡ Committed 1
 unfolding put clash runs operation_of other_operation store_operation tree_operation step begin_step end_step commit_step store_step tree_get_step tree_put_step tree.get_program tree.put_program is_node words_of number_of hex_of digits
 told_calls_commit = refl
+
+-- and so it does where another client's group ends it
+pub told_calls_commit_in_a_group :
+    (group_step (after (made trees) (lines_of (codes "1 begin" ∷ codes "1 tput 61 31" ∷ codes "1 tget 61" ∷ codes "1 release a" ∷ []))) (codes "a" ∷ codes "a" ∷ [])).0
+    ≡ Some (member.Committed 1) ∷ None ∷ []
+unfolding put clash runs operation_of other_operation store_operation tree_operation step begin_step end_step commit_step store_step tree_get_step tree_put_step tree.get_program tree.put_program is_node words_of number_of hex_of digits group_step
+told_calls_commit_in_a_group = refl

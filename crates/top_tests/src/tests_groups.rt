@@ -4,8 +4,7 @@ use std::test::Fail;
 use top_calls::{SMALL, answers, answers_on, call, joined, part};
 
 /// Two transactions under labels, each with a put.
-const TWO_PUTS: &[u8] =
-    b"1 begin\n1 put 0 0 aa\n1 release a\n2 begin\n2 put 0 1 bb\n2 release b\n";
+const TWO_PUTS: &[u8] = b"1 begin\n1 put 0 0 aa\n1 release a\n2 begin\n2 put 0 1 bb\n2 release b\n";
 
 const TWO_REPLIES: &[u8] = b"1 ok begin 0\n1 ok\n1 ok\n2 ok begin 0\n2 ok\n2 ok\n";
 
@@ -77,7 +76,13 @@ fn a_member_conflicts_with_an_earlier_one(rt: HostRuntime) -> Result<(), Fail> {
 #[test]
 fn a_label_that_is_named_twice(rt: HostRuntime) -> Result<(), Fail> {
     let alloc = rt.alloc();
-    assert!(rt; behind_two(alloc, b"3 group b b a b\n", b"3 ok commit 1; none; commit 2; none\n")?);
+    assert!(rt;
+        behind_two(
+            alloc,
+            b"3 group b b a b\n",
+            b"3 ok commit 1; none; commit 2; none\n"
+        )?
+    );
     Ok(())
 }
 
@@ -115,10 +120,18 @@ fn the_last_of_nine_members_has_no_room(rt: HostRuntime) -> Result<(), Fail> {
     let mut script = Vec::new(alloc);
     let mut replies = Vec::new(alloc);
     for label in b"abcdefghi" {
-        released(&mut script, &mut replies, b"1 put 0 0 aa\n", b"1 ok\n", &[*label])?;
+        released(
+            &mut script,
+            &mut replies,
+            b"1 put 0 0 aa\n",
+            b"1 ok\n",
+            &[*label],
+        )?;
     }
     script.extend_from_slice(b"2 group a b c d e f g h i\n2 stat\n2 takeover i\n")?;
-    replies.extend_from_slice(b"2 ok commit 1; commit 2; commit 3; commit 4; commit 5; commit 6; commit 7; commit 8; log full need 30 free 24\n2 ok last 8 base 0 trim 0 live 0 used 232 versions 8\n2 no-handle\n")?;
+    replies.extend_from_slice(
+        b"2 ok commit 1; commit 2; commit 3; commit 4; commit 5; commit 6; commit 7; commit 8; log full need 30 free 24\n2 ok last 8 base 0 trim 0 live 0 used 232 versions 8\n2 no-handle\n",
+    )?;
     assert!(rt; answers(alloc, &script, &replies)?);
     Ok(())
 }
@@ -128,7 +141,13 @@ fn sixteen_labels_of_every_kind(rt: HostRuntime) -> Result<(), Fail> {
     let alloc = rt.alloc();
     let mut script = Vec::new(alloc);
     let mut replies = Vec::new(alloc);
-    released(&mut script, &mut replies, b"1 put 0 0 01\n", b"1 ok\n", b"a")?;
+    released(
+        &mut script,
+        &mut replies,
+        b"1 put 0 0 01\n",
+        b"1 ok\n",
+        b"a",
+    )?;
     released(
         &mut script,
         &mut replies,
@@ -136,15 +155,35 @@ fn sixteen_labels_of_every_kind(rt: HostRuntime) -> Result<(), Fail> {
         b"1 ok Z\n1 ok\n",
         b"b",
     )?;
-    released(&mut script, &mut replies, b"1 get 2 0 1\n", b"1 ok 00\n", b"c")?;
+    released(
+        &mut script,
+        &mut replies,
+        b"1 get 2 0 1\n",
+        b"1 ok 00\n",
+        b"c",
+    )?;
     for label in b"efghijklmn" {
-        released(&mut script, &mut replies, b"1 put 2 5 77\n", b"1 ok\n", &[*label])?;
+        released(
+            &mut script,
+            &mut replies,
+            b"1 put 2 5 77\n",
+            b"1 ok\n",
+            &[*label],
+        )?;
     }
     // the record of a whole block needs 93 bytes, of which 81 are left
     released(&mut script, &mut replies, b"1 fill 3 ff\n", b"1 ok\n", b"o")?;
-    released(&mut script, &mut replies, b"1 put 3 0 99\n", b"1 ok\n", b"p")?;
+    released(
+        &mut script,
+        &mut replies,
+        b"1 put 3 0 99\n",
+        b"1 ok\n",
+        b"p",
+    )?;
     script.extend_from_slice(b"64 group a b c d e f g h i j k l m n o p\n64 stat\n")?;
-    replies.extend_from_slice(b"64 ok commit 1; conflict with 1 block 0 at 0; read-only; none; commit 2; commit 3; commit 4; commit 5; commit 6; commit 7; commit 8; commit 9; commit 10; commit 11; log full need 93 free 81; commit 12\n64 ok last 12 base 0 trim 0 live 0 used 348 versions 12\n")?;
+    replies.extend_from_slice(
+        b"64 ok commit 1; conflict with 1 block 0 at 0; read-only; none; commit 2; commit 3; commit 4; commit 5; commit 6; commit 7; commit 8; commit 9; commit 10; commit 11; log full need 93 free 81; commit 12\n64 ok last 12 base 0 trim 0 live 0 used 348 versions 12\n",
+    )?;
     let line = "isotope new t.img --block-size 64 --blocks 4 --log 400";
     assert!(rt; answers_on(alloc, line, &script, &replies)?);
     Ok(())
