@@ -49,6 +49,8 @@ fn a_bad_line_anywhere_runs_nothing(rt: HostRuntime) -> Result<(), Fail> {
             b"1 begin\n\n1 put 0 0 a\n1 jump\n",
             b"! bad line 3 cause 5\n",
         ),
+        (b"1 begin\n1 jump\n2 group a\n", b"! bad line 2 cause 2\n"),
+        (b"1 begin\n2 group A\n", b"! bad line 2 cause 6\n"),
     ] {
         let image = small_image(alloc)?;
         let outcome = par_image(&rt, alloc, image.clone()?, script)?;
