@@ -1,6 +1,5 @@
 -- A begin is at or above each commit that was told of before it.
 use Rattle.iso_shared.proofs.Words.{◌≡◌, ◌∙◌, sym, ap, subst, ℕ, ◌+◌, ◌-◌, ◌<◌, ◌≤◌, ◌==◌, Bool, true, false, cond, List, [], ◌∷◌, ◌++◌, Option, Some, None, nat_lt, length-append, arith, AllByRecursion, GroupReply, ahead, decided, group_is, made_by, member_reply, Access, Clash, EndReply, Committed, ReadOnly, Conflict, Mode, CoreReply, LAST, clash, has_write, last, commit_from, commit_step, end_step, need, World, Live, used, Entry, MemberEnd, Fits, IsLegal, LegalFrom, CommitsUpTo, IsMemberUpTo, IsReplyUpTo, Start, State, after, after_all, members_of, opened, replies_of, state_at, tx_of, txs_of}
-use Rattle.iso_model.specs.declared.access.GroupReply.TheVariants as member
 use Rattle.iso_model.specs.declared.core_reply.CoreReply.TheVariants as reply
 use Rattle.iso_shared.specs.declared.entry.Entry.TheVariants as entry
 use Rattle.iso_shared.proofs.Begins.{began_last}

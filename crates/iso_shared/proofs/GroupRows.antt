@@ -1,5 +1,5 @@
 -- What a group computes on small lists, and what no legal list holds of groups.
-use Rattle.iso_shared.proofs.Words.{◌≡◌, ◌≤◌, true, false, List, [], ◌∷◌, ◌++◌, Some, None, length, replicate, refl, sym, ◌∙◌, arith, is_some, length-map, length-replicate, Access, Serial, GroupReply, MAX_GROUP, clash, put, runs, begin_step, commit_step, end_step, put_access, read_access, write_access, is_out, Entry, Member, MemberEnd, Fits, MayRefuse, group_answers, handed, last, numbers_at, returned, is_loose, lost_commits, member_of, members_of, opened, state_at}
+use Rattle.iso_shared.proofs.Words.{◌≡◌, ◌≤◌, true, false, List, [], ◌∷◌, ◌++◌, Some, length, replicate, refl, ◌∙◌, arith, length-map, length-replicate, Access, Serial, GroupReply, MAX_GROUP, clash, put, runs, begin_step, commit_step, end_step, put_access, read_access, write_access, is_out, Entry, Member, MemberEnd, Fits, MayRefuse, group_answers, handed, last, numbers_at, returned, is_loose, lost_commits, member_of, members_of, opened, state_at}
 use Rattle.iso_model.specs.declared.access.GroupReply.TheVariants as member
 use Rattle.iso_shared.specs.declared.entry.Call.TheVariants as call
 use Rattle.iso_shared.specs.declared.entry.Cause.TheVariants as cause

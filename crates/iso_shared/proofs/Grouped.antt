@@ -1,5 +1,5 @@
 -- What a group makes of a world: its commits stand behind the others, and its members leave.
-use Rattle.iso_shared.proofs.Words.{◌≡◌, ◌∙◌, sym, refl, ap, subst, List, [], ◌∷◌, ◌++◌, append_assoc, Commit, GroupReply, Live, World, Extends, ahead, decided, group, leave_all, made_by, member_reply, with_commits, History, end_step, with_live, group_is, leave_all_is, nothing_ahead, Member, after_group, commits_made, lost_commits, txs_of}
+use Rattle.iso_shared.proofs.Words.{◌≡◌, ◌∙◌, sym, refl, ap, subst, List, [], ◌∷◌, ◌++◌, append_assoc, Commit, GroupReply, Live, World, Extends, ahead, decided, leave_all, made_by, member_reply, with_commits, History, end_step, with_live, group_is, leave_all_is, nothing_ahead, Member, after_group, commits_made, lost_commits, txs_of}
 
 pub behind_it : (H : History) (more : List Commit) → Extends H (with_commits more H)
 behind_it H more = record { first = refl; base = refl; more = more; commits = refl }

@@ -1,5 +1,5 @@
 -- What a group leaves of its members: notes, or the same transactions again.
-use Rattle.iso_shared.proofs.Words.{◌≡◌, ℕ, ◌+◌, ◌<◌, ◌≤◌, List, [], ◌∷◌, ◌++◌, length, map, refl, sym, ap, ◌∙◌, subst, suc, arith, AllByRecursion, false, View, times, times_append, hit, length-map, prefix_more, prefix_trans, Doing, Entry, GroupEnd, GroupReply, Member, MemberEnd, Shared, Tx, ArePaired, IsBack, IsJoined, IsNote, IsNoteOf, IsPartOf, IsSameTx, IsTaken, Made, MadeAll, answered, bare_end, end_of, ends_at, held_in, made_in, members_at, members_in, numbers_in, replies_of, Checked, IsAhead, IsLegal, IsOwn, Start, AreDistinct, AreHeld, hit_same, state_at, units_of, unwrap_or}
+use Rattle.iso_shared.proofs.Words.{◌≡◌, ℕ, ◌+◌, ◌<◌, ◌≤◌, List, [], ◌∷◌, ◌++◌, length, map, refl, sym, ap, ◌∙◌, subst, suc, arith, AllByRecursion, false, View, times, times_append, length-map, prefix_more, prefix_trans, Doing, Entry, GroupEnd, Member, MemberEnd, Shared, Tx, ArePaired, IsBack, IsJoined, IsNote, IsNoteOf, IsPartOf, IsSameTx, IsTaken, Made, MadeAll, answered, bare_end, end_of, ends_at, held_in, made_in, members_at, members_in, numbers_in, replies_of, Checked, IsAhead, IsLegal, IsOwn, Start, AreDistinct, AreHeld, hit_same, state_at, units_of, unwrap_or}
 use mathlib.Core.List.{IsPrefix}
 use Rattle.iso_model.specs.declared.access.GroupReply.TheVariants as member
 use Rattle.turn_lock.specs.Lists.{total}
@@ -25,10 +25,6 @@ answered_is (g ∷ ends) =
 pub as_many : (ends : List GroupEnd) → length (replies_of (ends_at ends)) ≡ length (members_at ends)
 as_many [] = refl
 as_many (g ∷ ends) = ap suc (as_many ends)
-
-pub members_many_in : {D O : Type 0} → (group : List (Tx D O)) → length (members_in group) ≡ length group
-members_many_in [] = refl
-members_many_in (t ∷ group) = ap suc (members_many_in group)
 
 module _ {D O : Type 0} where
   taken_note : (s : Shared D O) (xs : List Entry) (t u : Tx D O) → IsTaken t u → IsNote s xs t → IsNote s xs u

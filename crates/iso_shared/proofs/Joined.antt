@@ -1,5 +1,5 @@
 -- Members whose passes were joined into a port.
-use Rattle.iso_shared.proofs.Words.{◌≡◌, ℕ, ◌+◌, ◌<◌, ◌≤◌, ◌==◌, ◌||◌, Bool, true, false, cond, hit, is_among, nat_tests, List, [], ◌∷◌, ◌++◌, length, None, Some, refl, sym, ap, ◌∙◌, subst, arith, AllByRecursion, AreHeld, View, times, times_append, prefix_trans, Entry, Shared, Tx, ArePaired, IsJoined, IsNote, IsNoteOf, held_in, Start}
+use Rattle.iso_shared.proofs.Words.{◌≡◌, ℕ, ◌+◌, ◌<◌, ◌≤◌, ◌==◌, ◌||◌, Bool, true, false, cond, hit, is_among, nat_tests, List, [], ◌∷◌, ◌++◌, length, Some, refl, ap, ◌∙◌, arith, AreHeld, View, times, times_append, prefix_trans, Entry, Shared, Tx, IsJoined, IsNote, IsNoteOf, held_in, Start}
 use mathlib.Core.List.{IsPrefix}
 use Rattle.turn_lock.specs.Numbers.{without}
 use Rattle.turn_lock.proofs.Outs.{times_without}
@@ -30,19 +30,10 @@ module _ {D O : Type 0} (s : Shared D O) (A : Start) where
   pub note_of_on : (xs ys : List Entry) (t u : Tx D O) → IsPrefix xs ys → IsNoteOf s A xs t u → IsNoteOf s A ys t u
   note_of_on xs ys t u p n = record { joined = joined_on xs ys u p n.joined; told = prefix_trans _ xs ys n.told p; number = n.number; work = n.work; checked = n.checked }
 
-  pub notes_on : (xs ys : List Entry) (ts : List (Tx D O)) → IsPrefix xs ys → AllByRecursion (IsNote s xs) ts → AllByRecursion (IsNote s ys) ts
-  notes_on xs ys [] p all = tt
-  notes_on xs ys (t ∷ ts) p all = (note_on xs ys t p all.0, notes_on xs ys ts p all.1)
-
   -- no pass holds a number twice, where the last join has shown it
   pub alone_by : (rest : List (Tx D O)) (mid new : List ℕ) → ((n : ℕ) → times n mid ≤ 1) → ((n : ℕ) → times n new ≡ times n mid + held_in n rest) → (0 < length rest → (n : ℕ) → times n new ≤ 1) → (n : ℕ) → times n new ≤ 1
   alone_by [] mid new one sum more n = let a = one n in let b : times n new ≡ times n mid + 0 = sum n in omega (arith, a, b)
   alone_by (t ∷ rest) mid new one sum more n = more (omega arith) n
-
-  -- the last of several
-  pub notes_before : (seen : List Entry) (ts : List (Tx D O)) (t : Tx D O) → AllByRecursion (IsNote s seen) (ts ++ t ∷ []) → AllByRecursion (IsNote s seen) ts × IsNote s seen t
-  notes_before seen [] t all = (tt, all.0)
-  notes_before seen (u ∷ ts) t all = let rest = notes_before seen ts t all.1 in ((all.0, rest.0), rest.1)
 
 -- numbers that others hold, once one of another number is split off
 still_one : (m n : ℕ) (ns : List ℕ) → (n == m) ≡ false → 0 < times m ns → 0 < times m (without (n ∷ []) ns)

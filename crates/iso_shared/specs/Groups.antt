@@ -1,5 +1,5 @@
 -- What a port and the members of a group are in the course of a group's end.
-use Rattle.std.specs.Prelude.{◌≡◌, ℕ, ◌<◌, ◌≤◌, List, [], ◌∷◌, None, length, map}
+use Rattle.std.specs.Prelude.{◌≡◌, ℕ, ◌≤◌, List, [], ◌∷◌, None, length, map}
 use mathlib.Core.List.{IsPrefix}
 use Rattle.iso_core.specs.declared.group_end.GroupEnd.{GroupEnd}
 use Rattle.iso_model.specs.declared.access.GroupReply.{GroupReply}
@@ -12,7 +12,7 @@ use Rattle.iso_shared.specs.declared.entry.Member.{Member}
 use Rattle.iso_shared.specs.declared.entry.MemberEnd.{MemberEnd}
 use Rattle.iso_shared.specs.declared.shared.Shared.{Shared}
 use Rattle.iso_shared.specs.declared.tx.Tx.{Tx}
-use Rattle.iso_shared.specs.Ports.{IsAhead, IsOf, IsOwn, IsSameTx, IsTx, tx_view}
+use Rattle.iso_shared.specs.Ports.{IsAhead, IsOf, IsOwn, IsSameTx, IsTx}
 use Rattle.iso_shared.specs.Standing.{IsOn}
 use Rattle.iso_shared.specs.States.{Start, state_at}
 

@@ -1,5 +1,5 @@
 -- A history whose commits after some number are by calls, with transactions that began at that number or later, as entries change both.
-use Rattle.store_entries.proofs.Words.{◌≡◌, sym, refl, ap, subst, ℕ, ◌+◌, ◌-◌, ◌<◌, ◌≤◌, ◌==◌, not, Bool, true, false, cond, IfSome, List, [], ◌∷◌, ◌++◌, length, length-append, Option, Some, None, slice_get, arith, inl, inr, AllByRecursion, cases_lt, Access, Commit, EndReply, Committed, ReadOnly, Conflict, Array, History, array_at, last, appended, Live, without, all_filter, all_push, all_weaker, slice_get_append_left, Call, Cause, Entry, State, after, after_fault, after_refusal, is_live, live_of, AreMixed, BothWellFormed, IsOfBoth, MapStore, if_some, array_longer, last_of, append-nil, append_assoc, GroupReply, World, after_is, after_leaving, ahead, commit_from, commits_made, leave_all, lost_commits, made_by, members_of, replies_of, tx_of, txs_of, with_commits, Member, MemberEnd, commit_at, commits_as}
+use Rattle.store_entries.proofs.Words.{◌≡◌, sym, refl, ap, subst, ℕ, ◌+◌, ◌-◌, ◌<◌, ◌≤◌, ◌==◌, not, Bool, true, false, cond, IfSome, List, [], ◌∷◌, ◌++◌, length, length-append, Option, Some, None, slice_get, arith, inl, inr, AllByRecursion, cases_lt, Access, Commit, EndReply, Committed, ReadOnly, Conflict, Array, History, array_at, last, appended, Live, without, all_filter, all_push, all_weaker, slice_get_append_left, Call, Cause, Entry, State, after, after_fault, after_refusal, is_live, live_of, AreMixed, BothWellFormed, IsOfBoth, MapStore, if_some, array_longer, last_of, append-nil, append_assoc, GroupReply, World, after_is, after_leaving, ahead, commits_made, leave_all, lost_commits, made_by, members_of, replies_of, tx_of, txs_of, with_commits, Member, MemberEnd, commit_at, commits_as}
 use Rattle.iso_model.specs.declared.access.GroupReply.TheVariants as member
 use Rattle.iso_shared.specs.declared.entry.Call.TheVariants as call
 use Rattle.iso_shared.specs.declared.entry.Cause.TheVariants as cause

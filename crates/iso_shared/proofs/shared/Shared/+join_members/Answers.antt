@@ -1,4 +1,4 @@
-use Rattle.iso_shared.proofs.Words.{sym, subst, ◌∷◌, List, ArePaired, IsNoteOf, Tx}
+use Rattle.iso_shared.proofs.Words.{sym, subst, ◌∷◌, ArePaired, IsNoteOf}
 use Rattle.iso_shared.proofs.Joined.{alone_by, note_of_on}
 use Rattle.iso_shared.proofs.shared.Shared.+join_members.Goals as goal
 

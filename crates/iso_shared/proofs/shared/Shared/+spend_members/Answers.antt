@@ -1,4 +1,4 @@
-use Rattle.iso_shared.proofs.Words.{rules, arith, ◌+◌, ◌<◌, AllByRecursion, IsNote, length}
+use Rattle.iso_shared.proofs.Words.{rules, arith}
 use Rattle.iso_shared.proofs.shared.Shared.+spend_members.Goals as goal
 
 pub spend_members-requires : goal.spend_members-requires

@@ -1,4 +1,4 @@
-use Rattle.iso_shared.proofs.Words.{inl, [], ◌∷◌, ◌++◌, ap, refl, sym, ◌∙◌, rules, subst, CoreError, List, Result, ℕ, AreHeld, numbers_handed, disk_of, faults_of, group_entry, handed, held_after, returned, standing_of, state_at, txs_of, members_at, ends_at}
+use Rattle.iso_shared.proofs.Words.{ap, refl, sym, ◌∙◌, subst, CoreError, List, Result, ℕ, AreHeld, numbers_handed, faults_of, group_entry, handed, held_after, returned, standing_of, state_at, txs_of, members_at, ends_at}
 use Rattle.iso_shared.specs.declared.entry.Call.TheVariants as call
 use Rattle.iso_shared.specs.declared.entry.Entry.TheVariants as entry
 use Rattle.iso_shared.proofs.Ends.{if_err_by}

@@ -1,4 +1,4 @@
-use Rattle.iso_shared.proofs.Words.{◌≡◌, [], ◌∷◌, ◌++◌, length, map, ap, sym, ◌∙◌, subst, List, ℕ, AllByRecursion, AreDistinct, AreHeld, GroupEnd, GroupReply, Member, IsEnd, Made, answered, cause_of, end_of, members_at, members_in, numbers_handed, numbers_in}
+use Rattle.iso_shared.proofs.Words.{◌≡◌, ◌++◌, length, map, ap, sym, ◌∙◌, subst, List, ℕ, AllByRecursion, AreDistinct, AreHeld, GroupEnd, GroupReply, Member, IsEnd, Made, answered, cause_of, end_of, members_at, members_in, numbers_handed}
 use Rattle.iso_shared.specs.declared.entry.Call.TheVariants as call
 use Rattle.iso_shared.specs.declared.entry.Entry.TheVariants as entry
 use Rattle.iso_shared.proofs.Groupings.{ends_of_joined, many_end, members_end, numbers_end}

@@ -1,4 +1,4 @@
-use Rattle.iso_shared.proofs.Words.{◌≡◌, ◌+◌, ◌<◌, ◌≤◌, ◌∷◌, length, map, ap, sym, refl, ◌∙◌, subst, arith, List, ℕ, AllByRecursion, AreDistinct, AreHeld, CoreError, ArePaired, IsBack, times, Member, Entry, Made, MadeAll, IsNote, answered, cause_of, members_in, numbers_in, units_of}
+use Rattle.iso_shared.proofs.Words.{ap, sym, refl, ◌∙◌, subst, arith, List, ℕ, AreDistinct, AreHeld, CoreError, ArePaired, IsBack, times, Member, Entry, Made, answered, cause_of, members_in, numbers_in}
 use Rattle.iso_model.specs.declared.core_error.CoreError.TheVariants as error
 use Rattle.iso_shared.specs.declared.entry.Call.TheVariants as call
 use Rattle.iso_shared.specs.declared.entry.Entry.TheVariants as entry

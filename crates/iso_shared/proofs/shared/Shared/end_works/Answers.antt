@@ -1,4 +1,4 @@
-use Rattle.iso_shared.proofs.Words.{◌≡◌, ◌∷◌, ◌++◌, length, map, ap, sym, ◌∙◌, subst, arith, ◌+◌, List, GroupEnd, GroupReply, Member, MemberEnd, Made, answered, bare_end, cause_of, end_of, ends_at, length-map, members_at, replies_of}
+use Rattle.iso_shared.proofs.Words.{◌≡◌, ◌++◌, length, map, ap, sym, ◌∙◌, subst, arith, List, GroupReply, Member, MemberEnd, Made, answered, bare_end, cause_of, ends_at, members_at, replies_of}
 use Rattle.iso_shared.specs.declared.entry.Call.TheVariants as call
 use Rattle.iso_shared.specs.declared.entry.Entry.TheVariants as entry
 use Rattle.iso_shared.proofs.Groupings.{members_many, same_members}

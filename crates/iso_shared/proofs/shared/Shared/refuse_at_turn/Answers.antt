@@ -1,4 +1,4 @@
-use Rattle.iso_shared.proofs.Words.{inl, inr, [], ◌∷◌, ◌++◌, ap, refl, sym, ◌∙◌, rules, subst, Err, ℕ, List, AreHeld, disk_of, member_numbers, members_in, numbers_in, state_at, wanting_entry}
+use Rattle.iso_shared.proofs.Words.{inl, [], ap, refl, sym, ◌∙◌, subst, Err, ℕ, List, AreHeld, members_in, numbers_in, state_at, wanting_entry}
 use Rattle.iso_shared.specs.declared.entry.Call.TheVariants as call
 use Rattle.iso_shared.specs.declared.entry.Entry.TheVariants as entry
 use Rattle.iso_shared.proofs.Giving.{core_at, entry_keeps, entry_may, from_lent, stands_call}
