@@ -1,0 +1,11 @@
+pub mod Words
+pub mod Adding
+pub mod Sounding
+pub mod Making
+pub mod Sessions
+pub mod Stepping
+pub mod Filling
+pub mod Covering
+pub mod Whole
+pub mod Handing
+pub mod Ending

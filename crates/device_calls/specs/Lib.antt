@@ -1,0 +1,4 @@
+pub mod Beginnings
+pub mod Regions
+pub mod Visits
+pub mod Stores
