@@ -28,8 +28,7 @@ fn a_client_groups_what_two_others_released(rt: HostRuntime) -> Result<(), Fail>
 fn a_label_that_nobody_holds_has_no_member(rt: HostRuntime) -> Result<(), Fail> {
     let alloc = rt.alloc();
     // the one of a is held at its first look alone
-    let script =
-        b"1 group q\n1 begin\n1 put 0 0 aa\n1 release a\n1 group q a a\n1 group a\n";
+    let script = b"1 group q\n1 begin\n1 put 0 0 aa\n1 release a\n1 group q a a\n1 group a\n";
     let replies =
         b"1 ok none\n1 ok begin 0\n1 ok\n1 ok\n1 ok none; commit 1; none\n1 ok none\ncommit 1 by 1 line 5\n".as_slice();
     let outcome = par_image(&rt, alloc, small_image(alloc)?, script)?;

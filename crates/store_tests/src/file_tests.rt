@@ -130,7 +130,10 @@ fn a_file_from_its_creation_to_its_removal(rt: HostRuntime) -> Result<(), Fail> 
     let mut tx = blank(alloc, 0, 0)?;
     assert_eq!(rt; create_in(alloc, &mut tx, b"a"), Ok(()));
     assert_eq!(rt; write_in(alloc, &mut tx, b"a", 0, &[1, 2]), Ok(true));
-    assert_eq!(rt; write_in(alloc, &mut tx, b"a", 3, &[1]), Err(FsError::BadRange));
+    assert_eq!(rt;
+        write_in(alloc, &mut tx, b"a", 3, &[1]),
+        Err(FsError::BadRange)
+    );
     assert_eq!(rt; has(alloc, &mut tx, b"a", 1, 9, &[2]), Ok(true));
     assert_eq!(rt; create_in(alloc, &mut tx, b"a"), Err(FsError::Exists));
     assert_eq!(rt; rename_in(alloc, &mut tx, b"a", b"b"), Ok(true));
@@ -159,9 +162,18 @@ fn the_longest_name_and_one_byte_more(rt: HostRuntime) -> Result<(), Fail> {
     assert_eq!(rt; create_in(alloc, &mut tx, &[97; 28]), Ok(()));
     assert_eq!(rt; has(alloc, &mut tx, &[97; 28], 0, 1, &[]), Ok(true));
     assert_eq!(rt; create_in(alloc, &mut tx, &[97; 29]), Err(FsError::BadName));
-    assert_eq!(rt; rename_in(alloc, &mut tx, &[97; 28], &[97; 29]), Err(FsError::BadName));
-    assert_eq!(rt; rename_in(alloc, &mut tx, &[97; 28], &[]), Err(FsError::BadName));
-    assert_eq!(rt; write_in(alloc, &mut tx, &[], 0, &[]), Err(FsError::BadName));
+    assert_eq!(rt;
+        rename_in(alloc, &mut tx, &[97; 28], &[97; 29]),
+        Err(FsError::BadName)
+    );
+    assert_eq!(rt;
+        rename_in(alloc, &mut tx, &[97; 28], &[]),
+        Err(FsError::BadName)
+    );
+    assert_eq!(rt;
+        write_in(alloc, &mut tx, &[], 0, &[]),
+        Err(FsError::BadName)
+    );
     assert_eq!(rt; remove_in(alloc, &mut tx, &[97; 29]), Err(FsError::BadName));
     Ok(())
 }
@@ -171,14 +183,32 @@ fn ranges_at_their_limits(rt: HostRuntime) -> Result<(), Fail> {
     let alloc = rt.alloc();
     let mut tx = blank(alloc, 0, 0)?;
     assert_eq!(rt; create_in(alloc, &mut tx, b"a"), Ok(()));
-    assert_eq!(rt; write_in(alloc, &mut tx, b"a", 0, &[]), Err(FsError::BadRange));
-    assert_eq!(rt; write_in(alloc, &mut tx, b"a", 0, &[1; 4097]), Err(FsError::BadRange));
+    assert_eq!(rt;
+        write_in(alloc, &mut tx, b"a", 0, &[]),
+        Err(FsError::BadRange)
+    );
+    assert_eq!(rt;
+        write_in(alloc, &mut tx, b"a", 0, &[1; 4097]),
+        Err(FsError::BadRange)
+    );
     assert_eq!(rt; lacks(alloc, &mut tx, b"a"), Ok(false));
-    assert_eq!(rt; has(alloc, &mut tx, b"a", 0, 0, &[]), Err(FsError::BadRange));
-    assert_eq!(rt; has(alloc, &mut tx, b"a", 0, 4097, &[]), Err(FsError::BadRange));
+    assert_eq!(rt;
+        has(alloc, &mut tx, b"a", 0, 0, &[]),
+        Err(FsError::BadRange)
+    );
+    assert_eq!(rt;
+        has(alloc, &mut tx, b"a", 0, 4097, &[]),
+        Err(FsError::BadRange)
+    );
     assert_eq!(rt; has(alloc, &mut tx, b"a", 0, 4096, &[]), Ok(true));
-    assert_eq!(rt; has(alloc, &mut tx, b"a", 1, 1, &[]), Err(FsError::BadRange));
-    assert_eq!(rt; write_in(alloc, &mut tx, b"a", 4294967295, &[1]), Err(FsError::BadRange));
+    assert_eq!(rt;
+        has(alloc, &mut tx, b"a", 1, 1, &[]),
+        Err(FsError::BadRange)
+    );
+    assert_eq!(rt;
+        write_in(alloc, &mut tx, b"a", 4294967295, &[1]),
+        Err(FsError::BadRange)
+    );
     Ok(())
 }
 
@@ -211,20 +241,31 @@ fn a_write_across_three_blocks_with_a_new_one_last(rt: HostRuntime) -> Result<()
 }
 
 #[test]
-fn the_largest_file_a_full_region_and_blocks_that_are_given_back(rt: HostRuntime) -> Result<(), Fail> {
+fn the_largest_file_a_full_region_and_blocks_that_are_given_back(
+    rt: HostRuntime,
+) -> Result<(), Fail> {
     let alloc = rt.alloc();
     let mut tx = blank(alloc, 0, 0)?;
     assert_eq!(rt; create_in(alloc, &mut tx, b"a"), Ok(()));
     assert_eq!(rt; write_in(alloc, &mut tx, b"a", 0, &[1; 4096]), Ok(true));
     assert_eq!(rt; write_in(alloc, &mut tx, b"a", 4096, &[2; 4096]), Ok(true));
     assert_eq!(rt; write_in(alloc, &mut tx, b"a", 8192, &[3; 4096]), Ok(true));
-    assert_eq!(rt; write_in(alloc, &mut tx, b"a", 12288, &[4]), Err(FsError::BadRange));
+    assert_eq!(rt;
+        write_in(alloc, &mut tx, b"a", 12288, &[4]),
+        Err(FsError::BadRange)
+    );
     assert_eq!(rt; write_in(alloc, &mut tx, b"a", 12287, &[4]), Ok(true));
     assert_eq!(rt; has(alloc, &mut tx, b"a", 12286, 4096, &[3, 4]), Ok(true));
     assert_eq!(rt; create_in(alloc, &mut tx, b"b"), Ok(()));
-    assert_eq!(rt; write_in(alloc, &mut tx, b"b", 0, &[5; 2305]), Err(FsError::Store(StoreError::NoBlocks { need: 10, free: 9 })));
+    assert_eq!(rt;
+        write_in(alloc, &mut tx, b"b", 0, &[5; 2305]),
+        Err(FsError::Store(StoreError::NoBlocks { need: 10, free: 9 }))
+    );
     assert_eq!(rt; write_in(alloc, &mut tx, b"b", 0, &[5; 2304]), Ok(true));
-    assert_eq!(rt; create_in(alloc, &mut tx, b"c"), Err(FsError::Store(StoreError::NoBlocks { need: 1, free: 0 })));
+    assert_eq!(rt;
+        create_in(alloc, &mut tx, b"c"),
+        Err(FsError::Store(StoreError::NoBlocks { need: 1, free: 0 }))
+    );
     assert_eq!(rt; remove_in(alloc, &mut tx, b"a"), Ok(true));
     assert_eq!(rt; create_in(alloc, &mut tx, b"c"), Ok(()));
     assert_eq!(rt; write_in(alloc, &mut tx, b"c", 0, &[6; 4096]), Ok(true));
@@ -291,6 +332,9 @@ fn a_damaged_value_and_a_damaged_map(rt: HostRuntime) -> Result<(), Fail> {
     assert_eq!(rt; has(alloc, &mut tx, b"none", 0, 1, &[]), Err(value));
     assert_eq!(rt; remove_in(alloc, &mut tx, b"over"), Err(value));
     fill(&mut tx, 4, 255);
-    assert_eq!(rt; create_in(alloc, &mut tx, b"a"), Err(FsError::Store(StoreError::NoBlocks { need: 1, free: 0 })));
+    assert_eq!(rt;
+        create_in(alloc, &mut tx, b"a"),
+        Err(FsError::Store(StoreError::NoBlocks { need: 1, free: 0 }))
+    );
     Ok(())
 }
