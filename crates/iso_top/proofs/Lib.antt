@@ -13,3 +13,4 @@ mod RunsOfClients
 mod ClientsMet
 mod Plainly
 mod Counted
+mod OpenedRows

@@ -1,21 +1,20 @@
 -- The page of a place, and ranges that are held.
-use Rattle.kept_disk.proofs.Words.{◌≡◌, ◌⊎◌, ◌<◌, ◌≤◌, ◌+◌, ◌*◌, ◌/◌, ◌%◌, ℕ, List, inl, inr, sym, ◌∙◌, subst, arith, mod-add-div, mod-lt, slice_get, Page, HoldsRange, IsHeld}
+use Rattle.kept_disk.proofs.Words.{◌≡◌, ◌⊎◌, ◌<◌, ◌≤◌, ◌+◌, ◌*◌, ◌/◌, ◌%◌, ℕ, List, Option, inl, inr, sym, ◌∙◌, subst, arith, mod-add-div, mod-lt, slice_get, HoldsRange, IsHeld}
 
 -- a place, by its page
 pub at_page : (at : ℕ) → at / 4096 * 4096 + at % 4096 ≡ at
 at_page at = omega (arith, mod-add-div at 4096)
 
 -- where a whole range is held, so is the page of each place in it
-pub held_in : (pages now : List Page) (at len done : ℕ) → now ≡ pages → done < len → HoldsRange pages at len → IsHeld now ((at + done) / 4096)
-held_in pages now at len done same within range =
-    subst (λ (ps : List Page). IsHeld ps ((at + done) / 4096)) (sym same) (range (at + done) (omega arith) (omega (arith, within)))
+pub held_in : (numbers : List (Option ℕ)) (at len done : ℕ) → done < len → HoldsRange numbers at len → IsHeld numbers ((at + done) / 4096)
+held_in numbers at len done within range = range (at + done) (omega arith) (omega (arith, within))
 
 -- two pages near each other have two places
 apart : (p q : ℕ) → p < q → q ≤ p + 2000 → p % 2048 ≡ q % 2048 → ⊥
 apart p q less near same = omega (arith, mod-add-div p 2048, mod-add-div q 2048, less, near, same)
 
 -- what is held so far, and the page of one part more
-pub held_further : (old new : List Page) (at done count : ℕ) → (at + done) % 4096 + count ≤ 4096 → done + count ≤ 65536 → IsHeld new ((at + done) / 4096) → ((k : ℕ) → (k ≡ (at + done) / 4096 % 2048 → ⊥) → slice_get new k ≡ slice_get old k) → HoldsRange old at done → HoldsRange new at (done + count)
+pub held_further : (old new : List (Option ℕ)) (at done count : ℕ) → (at + done) % 4096 + count ≤ 4096 → done + count ≤ 65536 → IsHeld new ((at + done) / 4096) → ((k : ℕ) → (k ≡ (at + done) / 4096 % 2048 → ⊥) → slice_get new k ≡ slice_get old k) → HoldsRange old at done → HoldsRange new at (done + count)
 held_further old new at done count inside small here others so_far place from to =
     let p = place / 4096 in
     let q = (at + done) / 4096 in
@@ -25,9 +24,8 @@ held_further old new at done count inside small here others so_far place from to
     let cases : (p < q) ⊎ ((p ≡ q) ⊎ (q < p)) = grind arith in
     elim cases [
       | inl less ↦
-          let held = so_far place from (omega (arith, of_place, of_part, below, less)) in
           let near : q ≤ p + 2000 = omega (arith, of_place, of_part, below, from, small) in
-          record { page = held.page; stands = others (p % 2048) (apart p q less near) ∙ held.stands; number = held.number }
+          others (p % 2048) (apart p q less near) ∙ so_far place from (omega (arith, of_place, of_part, below, less))
       | inr (inl same) ↦ subst (IsHeld new) (sym same) here
       | inr (inr more) ↦ absurd (omega (arith, of_place, of_part, inside, to, more))
     ]

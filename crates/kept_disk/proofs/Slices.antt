@@ -1,5 +1,5 @@
 -- Slices of lists that are written over, and places of lists that are set.
-use Rattle.kept_disk.proofs.Words.{◌≡◌, ◌<◌, ◌≤◌, ◌+◌, ◌-◌, ℕ, zero, suc, min, List, [], ◌∷◌, ◌++◌, Option, Some, None, inl, length, take, drop, set, refl, sym, ◌∙◌, ap, arith, length-drop, take-take, drop-drop, drop-take, length-take, length-take-le, take_at, drop_all, take-add, take-length, put_mid-paste, option_map, same_Some, slice_get, Torn, spliced, drop-torn, slice-torn, spliced_torn, take-spliced, take-drop-spliced, spliced_behind, torn_whole}
+use Rattle.kept_disk.proofs.Words.{◌≡◌, ◌<◌, ◌≤◌, ◌+◌, ◌-◌, ℕ, zero, suc, min, List, [], ◌∷◌, ◌++◌, Option, Some, None, inl, length, take, drop, set, refl, sym, ◌∙◌, ap, arith, length-drop, take-take, drop-drop, drop-take, length-take, length-take-le, take_at, drop_all, drop-append-le, take-append-le, take-add, take-length, put_mid-paste, option_map, same_Some, slice_get, Torn, spliced, drop-torn, length-spliced, slice-torn, spliced_torn, take-spliced, take-drop-spliced, spliced_behind, torn_whole}
 use borrow.Rule.Slice.PartMut.{put_mid}
 
 -- the length of a slice
@@ -13,6 +13,12 @@ part_of from n k b l le =
     ∙ ap (drop from) (take-take (from + n) k (drop b l) le)
     ∙ drop-take from n (drop b l)
     ∙ ap (take n) (drop-drop from b l)
+
+-- a part of what stands in front
+pub slice_before : (k b : ℕ) (xs more : List ℕ) → b + k ≤ length xs → take k (drop b (xs ++ more)) ≡ take k (drop b xs)
+slice_before k b xs more le =
+    ap (take k) (drop-append-le b xs more (omega (arith, le)))
+    ∙ take-append-le k (drop b xs) more (omega (arith, le, length-drop b xs))
 
 -- the end of a slice
 end_of : (s m k b : ℕ) (l : List ℕ) → k ≡ s + m → drop s (take k (drop b l)) ≡ take m (drop (b + s) l)
@@ -42,6 +48,12 @@ module _ {X : Type 0} where
   get-set_same [] i y z is = absurd (cc is)
   get-set_same (x ∷ xs) zero y z is = same_Some y z is
   get-set_same (x ∷ xs) (suc i) y z is = get-set_same xs i y z is
+
+  -- a place that is set twice
+  pub set-set : (xs : List X) (i : ℕ) (y z : X) → set (set xs i y) i z ≡ set xs i z
+  set-set [] i y z = refl
+  set-set (x ∷ xs) zero y z = refl
+  set-set (x ∷ xs) (suc i) y z = ap (λ (l : List X). x ∷ l) (set-set xs i y z)
 
   pub get-set_at : (xs : List X) (i : ℕ) (y : X) → i < length xs → slice_get (set xs i y) i ≡ Some y
   get-set_at [] i y within = absurd (omega (arith, within))
@@ -89,3 +101,10 @@ lent_part a k xs ys same =
 pub told_from : {A B : Type 0} (f : A → B) (o : Option A) (y : B) → option_map f o ≡ Some y → (x : A) × (o ≡ Some x) × (f x ≡ y)
 told_from f (Some x) y is = (x, refl, same_Some (f x) y is)
 told_from f None y is = absurd (cc is)
+
+-- bytes of which a part was lent and written
+pub part_written : (from len n : ℕ) (old lent into : List ℕ) → n ≡ length old → lent ≡ old → length into ≡ len → from + len ≤ length old → take n (put_mid from (from + len - from) lent into ++ drop (length (put_mid from (from + len - from) lent into)) old) ≡ spliced old from into
+part_written from len n old lent into count same size within =
+    let part = lent_part from (from + len - from) lent into (omega (arith, size)) ∙ ap (λ (l : List ℕ). spliced l from into) same in
+    let long : length (put_mid from (from + len - from) lent into) ≡ length old = ap length part ∙ length-spliced old from into (omega (arith, size, within)) in
+    lent_whole n (put_mid from (from + len - from) lent into) old count long ∙ part

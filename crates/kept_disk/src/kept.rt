@@ -6,8 +6,8 @@ ghost use Rattle.iso_disk.specs.Disk.{TornFrom, Splices, TellsTorn, IsSettled, E
 ghost use Rattle.fault_count.specs.Count.{one_more, HasCause};
 ghost use Rattle.kept_disk.specs.Pages.{HoldsNone, HoldsRange, Stand};
 
-use crate::page::Page;
-use crate::parts::{blank_pages, forget_all, lay_parts, read_parts};
+use crate::pages::Pages;
+use crate::parts::{lay_parts, read_parts};
 use iso_disk::{Disk, DiskFault, Image};
 use std::alloc::Global;
 
@@ -22,20 +22,20 @@ const LONGEST: usize = 65_536;
 pub struct Kept<D: Disk> {
     alloc: Global,
     disk: D,
-    pages: Vec<Page>,
-    ghost stand: { ForSome (D.state disk).contents (Stand pages.items) },
+    pages: Pages,
+    ghost stand: { ForSome (D.state disk).contents (Stand pages.numbers.items pages.bytes.items) },
 }
 
 impl<D: Disk> Kept<D> {
     /// Over this disk, with no page held. It takes no memory.
     pub fn new(alloc: Global, disk: D) -> Self
         ensures disk { result.disk ≡ disk }
-        ensures none { HoldsNone result.pages.items }
+        ensures none { HoldsNone result.pages.numbers.items }
     {
         Kept {
             alloc,
             disk,
-            pages: Vec::new(alloc),
+            pages: Pages::none(alloc),
         }
     }
 
@@ -67,13 +67,13 @@ impl<D: Disk> Disk for Kept<D> {
         ensures contents { (D.state self.new.disk).contents ≡ (D.state self.old.disk).contents }
         ensures crash { Elapses (D.state self.old.disk) (D.state self.new.disk) (D.state self.old.disk).now }
         ensures cause { HasCause (D.state self.old.disk).faults (D.state self.new.disk).faults result }
-        ensures held { length into.old ≤ 65536 → HoldsRange self.old.pages.items at (length into.old) → (IsOk result) × (self.new.disk ≡ self.old.disk) }
-        ensures holds { OnOk result (2048 ≤ length self.old.pages.items → length into.old ≤ 65536 → HoldsRange self.new.pages.items at (length into.old)) }
+        ensures held { length into.old ≤ 65536 → HoldsRange self.old.pages.numbers.items at (length into.old) → (IsOk result) × (self.new.disk ≡ self.old.disk) }
+        ensures holds { OnOk result (2048 ≤ length self.old.pages.numbers.items → length into.old ≤ 65536 → HoldsRange self.new.pages.numbers.items at (length into.old)) }
     {
         if into.len() > LONGEST {
             return self.disk.read(at, into);
         }
-        read_parts(&mut self.disk, self.pages.as_mut_slice(), at, into)
+        read_parts(&mut self.disk, &mut self.pages, at, into)
     }
 
     /// Writes to the disk below, and then into the pages that are held. Where it fails, no page is held.
@@ -83,9 +83,9 @@ impl<D: Disk> Disk for Kept<D> {
         ensures failed { OnErr result (TellsTorn at (length bytes.now) (D.state self.old.disk) (D.state self.new.disk)) }
         ensures crash { Elapses (D.state self.old.disk) (D.state self.new.disk) (TornFrom at (length bytes.now) (D.state self.old.disk).now) }
         ensures cause { HasCause (D.state self.old.disk).faults (D.state self.new.disk).faults result }
-        ensures forgotten { OnErr result (HoldsNone self.new.pages.items) }
+        ensures forgotten { OnErr result (HoldsNone self.new.pages.numbers.items) }
     {
-        write_through(&mut self.disk, self.pages.as_mut_slice(), at, bytes)
+        write_through(&mut self.disk, &mut self.pages, at, bytes)
     }
 
     fn sync(&mut self) -> Result<(), DiskFault> {
@@ -106,9 +106,9 @@ impl<D: Image> Image for Kept<D> {
         ensures unbound { OnErr result ((D.state self.new.disk).bound ≡ None) }
         ensures counted { (D.state self.new.disk).binds ≡ one_more (D.state self.old.disk).binds }
         ensures cause { HasCause (D.state self.old.disk).faults (D.state self.new.disk).faults result }
-        ensures forgotten { HoldsNone self.new.pages.items }
+        ensures forgotten { HoldsNone self.new.pages.numbers.items }
     {
-        start(&mut self.pages, self.alloc);
+        self.pages.start(self.alloc);
         self.disk.bind(name, want)
     }
 }
@@ -116,35 +116,23 @@ impl<D: Image> Image for Kept<D> {
 // Writes to the disk, and then into the pages; where it fails, no page is held.
 fn write_through<D: Disk>(
     disk: &mut D,
-    pages: &mut [Page],
+    pages: &mut Pages,
     at: u64,
     bytes: &[u8],
 ) -> Result<(), DiskFault>
     requires fits { at + length bytes.now ≤ (D.state disk.old).size }
-    requires stand { ForSome (D.state disk.old).contents (Stand pages.old) }
+    requires stand { ForSome (D.state disk.old).contents (Stand pages.old.numbers.items pages.old.bytes.items) }
     ensures written { OnOk result (Splices at bytes.now (D.state disk.old) (D.state disk.new)) }
     ensures failed { OnErr result (TellsTorn at (length bytes.now) (D.state disk.old) (D.state disk.new)) }
     ensures crash { Elapses (D.state disk.old) (D.state disk.new) (TornFrom at (length bytes.now) (D.state disk.old).now) }
     ensures cause { HasCause (D.state disk.old).faults (D.state disk.new).faults result }
-    ensures stand { ForSome (D.state disk.new).contents (Stand pages.new) }
-    ensures forgotten { OnErr result (HoldsNone pages.new) }
+    ensures stand { ForSome (D.state disk.new).contents (Stand pages.new.numbers.items pages.new.bytes.items) }
+    ensures forgotten { OnErr result (HoldsNone pages.new.numbers.items) }
 {
     if let Err(fault) = disk.write(at, bytes) {
-        forget_all(pages);
+        pages.forget_all();
         return Err(fault);
     }
     lay_parts(pages, at, bytes);
     Ok(())
-}
-
-// Lets go of all that is held, and takes the memory for pages where none was taken. Without it there is none.
-fn start(pages: &mut Vec<Page>, alloc: Global)
-    ensures { HoldsNone pages.new.items }
-{
-    forget_all(pages.as_mut_slice());
-    if pages.is_empty() {
-        if let Ok(made) = blank_pages(alloc) {
-            *pages = made;
-        }
-    }
 }

@@ -2,7 +2,7 @@
 #![tactic(auto)]
 
 mod kept;
-mod page;
+mod pages;
 mod parts;
 
 pub use kept::Kept;

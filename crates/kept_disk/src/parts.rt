@@ -5,29 +5,25 @@ ghost use Rattle.iso_disk.specs.Disk.{Elapses, spliced};
 ghost use Rattle.fault_count.specs.Count.{HasCause};
 ghost use Rattle.kept_disk.specs.Pages.{HoldsNone, HoldsRange, IsHeld, Stand};
 
-use crate::page::{PAGE, Page};
+use crate::pages::{PAGE, Pages};
 use iso_disk::{Disk, DiskFault};
-use std::alloc::{AllocError, Global};
-
-/// How many pages are kept at most.
-const PAGES: usize = 2048;
 
 /// Reads bytes, from pages where these hold them, and through pages where not.
 pub(crate) fn read_parts<D: Disk>(
     disk: &mut D,
-    pages: &mut [Page],
+    pages: &mut Pages,
     at: u64,
     into: &mut [u8],
 ) -> Result<(), DiskFault>
     requires fits { at + length into.old ≤ (D.state disk.old).size }
-    requires stand { ForSome (D.state disk.old).contents (Stand pages.old) }
+    requires stand { ForSome (D.state disk.old).contents (Stand pages.old.numbers.items pages.old.bytes.items) }
     ensures bytes { OnOk result (ForSome (D.state disk.old).contents (λ c. into.new ≡ take (length into.old) (drop at c))) }
     ensures contents { (D.state disk.new).contents ≡ (D.state disk.old).contents }
     ensures crash { Elapses (D.state disk.old) (D.state disk.new) (D.state disk.old).now }
     ensures cause { HasCause (D.state disk.old).faults (D.state disk.new).faults result }
-    ensures stand { ForSome (D.state disk.old).contents (Stand pages.new) }
-    ensures held { HoldsRange pages.old at (length into.old) → (IsOk result) × (disk.new ≡ disk.old) }
-    ensures holds { OnOk result (2048 ≤ length pages.old → length into.old ≤ 65536 → HoldsRange pages.new at (length into.old)) }
+    ensures stand { ForSome (D.state disk.old).contents (Stand pages.new.numbers.items pages.new.bytes.items) }
+    ensures held { HoldsRange pages.old.numbers.items at (length into.old) → (IsOk result) × (disk.new ≡ disk.old) }
+    ensures holds { OnOk result (2048 ≤ length pages.old.numbers.items → length into.old ≤ 65536 → HoldsRange pages.new.numbers.items at (length into.old)) }
 {
     let mut done = 0;
     while done < into.len() {
@@ -52,38 +48,37 @@ fn part_len(at: u64, len: usize) -> usize
 // Reads bytes of one page, which is then held where there is a place for it.
 fn read_part<D: Disk>(
     disk: &mut D,
-    pages: &mut [Page],
+    pages: &mut Pages,
     at: u64,
     into: &mut [u8],
 ) -> Result<(), DiskFault>
     requires fits { at + length into.old ≤ (D.state disk.old).size }
     requires inside { at % 4096 + length into.old ≤ 4096 }
     requires some { 0 < length into.old }
-    requires stand { ForSome (D.state disk.old).contents (Stand pages.old) }
+    requires stand { ForSome (D.state disk.old).contents (Stand pages.old.numbers.items pages.old.bytes.items) }
     ensures bytes { OnOk result (ForSome (D.state disk.old).contents (λ c. into.new ≡ take (length into.old) (drop at c))) }
     ensures contents { (D.state disk.new).contents ≡ (D.state disk.old).contents }
     ensures crash { Elapses (D.state disk.old) (D.state disk.new) (D.state disk.old).now }
     ensures cause { HasCause (D.state disk.old).faults (D.state disk.new).faults result }
-    ensures stand { ForSome (D.state disk.old).contents (Stand pages.new) }
-    ensures held { IsHeld pages.old (at / 4096) → (IsOk result) × (disk.new ≡ disk.old) × (pages.new ≡ pages.old) }
-    ensures holds { OnOk result (at / 4096 % 2048 < length pages.old → IsHeld pages.new (at / 4096)) }
-    ensures others { (k : ℕ) → (k ≡ at / 4096 % 2048 → ⊥) → slice_get pages.new k ≡ slice_get pages.old k }
+    ensures stand { ForSome (D.state disk.old).contents (Stand pages.new.numbers.items pages.new.bytes.items) }
+    ensures held { IsHeld pages.old.numbers.items (at / 4096) → (IsOk result) × (disk.new ≡ disk.old) × (pages.new ≡ pages.old) }
+    ensures holds { OnOk result (at / 4096 % 2048 < length pages.old.numbers.items → IsHeld pages.new.numbers.items (at / 4096)) }
+    ensures places { length pages.new.numbers.items ≡ length pages.old.numbers.items }
+    ensures others { (k : ℕ) → (k ≡ at / 4096 % 2048 → ⊥) → slice_get pages.new.numbers.items k ≡ slice_get pages.old.numbers.items k }
 {
     let number = at / PAGE as u64;
-    let index = (number % PAGES as u64) as usize;
-    if index >= pages.len() {
+    if !pages.has_place(number) {
         return disk.read(at, into);
     }
-    let page = &mut pages[index];
-    page.hold(disk, number)?;
-    page.copy_out((at % PAGE as u64) as usize, into);
+    pages.hold(disk, number)?;
+    pages.copy_out(at, into);
     Ok(())
 }
 
 /// Lays bytes over the pages that hold what they were written over.
-pub(crate) fn lay_parts(pages: &mut [Page], at: u64, bytes: &[u8])
+pub(crate) fn lay_parts(pages: &mut Pages, at: u64, bytes: &[u8])
     requires { at + length bytes.now < 2 ^ 64 }
-    ensures { (c : List ℕ) → at + length bytes.now ≤ length c → Stand pages.old c → Stand pages.new (spliced c at bytes.now) }
+    ensures { (c : List ℕ) → at + length bytes.now ≤ length c → Stand pages.old.numbers.items pages.old.bytes.items c → Stand pages.new.numbers.items pages.new.bytes.items (spliced c at bytes.now) }
 {
     let mut done = 0;
     while done < bytes.len() {
@@ -95,38 +90,11 @@ pub(crate) fn lay_parts(pages: &mut [Page], at: u64, bytes: &[u8])
 }
 
 // Lays bytes over the page that they lie in, where it is held.
-fn lay_part(pages: &mut [Page], at: u64, bytes: &[u8])
+fn lay_part(pages: &mut Pages, at: u64, bytes: &[u8])
     requires { at % 4096 + length bytes.now ≤ 4096 }
-    ensures { (c : List ℕ) → at + length bytes.now ≤ length c → Stand pages.old c → Stand pages.new (spliced c at bytes.now) }
+    ensures { (c : List ℕ) → at + length bytes.now ≤ length c → Stand pages.old.numbers.items pages.old.bytes.items c → Stand pages.new.numbers.items pages.new.bytes.items (spliced c at bytes.now) }
 {
-    let number = at / PAGE as u64;
-    let index = (number % PAGES as u64) as usize;
-    if index >= pages.len() {
-        return;
+    if pages.holds(at / PAGE as u64) {
+        pages.put(at, bytes);
     }
-    let page = &mut pages[index];
-    if page.holds(number) {
-        page.put((at % PAGE as u64) as usize, bytes);
-    }
-}
-
-/// Lets go of all that is held.
-pub(crate) fn forget_all(pages: &mut [Page])
-    ensures { HoldsNone pages.new }
-{
-    for page in pages.iter_mut() {
-        page.forget();
-    }
-}
-
-/// All pages, none of them held.
-pub(crate) fn blank_pages(alloc: Global) -> Result<Vec<Page>, AllocError>
-    ensures { IfOk result (λ v. HoldsNone v.items) }
-{
-    let mut pages = Vec::new(alloc);
-    pages.reserve(PAGES)?;
-    for _ in 0..PAGES {
-        pages.push(Page::blank(alloc)?)?;
-    }
-    Ok(pages)
 }

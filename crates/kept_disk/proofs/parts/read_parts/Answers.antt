@@ -1,4 +1,4 @@
-use Rattle.kept_disk.proofs.Words.{◌≡◌, ◌<◌, ◌/◌, ◌%◌, ◌+◌, ◌-◌, ◌≤◌, ℕ, length, take, drop, sym, ◌∙◌, ap, arith, mod-lt, length-spliced}
+use Rattle.kept_disk.proofs.Words.{◌≡◌, ◌<◌, ◌/◌, ◌%◌, ◌+◌, ◌-◌, ◌≤◌, ℕ, length, take, drop, sym, ◌∙◌, ap, subst, arith, mod-lt, length-spliced, IsHeld, Pages}
 use Rattle.kept_disk.proofs.Moments.{further}
 use Rattle.kept_disk.proofs.Paging.{held_in, held_further}
 use Rattle.kept_disk.proofs.Slices.{length-slice, lent_part, read_further}
@@ -7,7 +7,7 @@ use Rattle.kept_disk.proofs.parts.read_parts.Goals as goal
 pub returns-in_err-read_part-clause-held : goal.returns-in_err-read_part-clause-held
 returns-in_err-read_part-clause-held g c range =
     let so_far = c.loop-done.invariant.held range in
-    let ended = c.in_err-read_part.ensures.held (held_in c.args.pages.now c.loop-done.pages c.args.at (length c.args.into.now) c.loop-done.done so_far.1 (omega (arith, c.loop-done-test.true, c.loop-done.auto.into)) range) in
+    let ended = c.in_err-read_part.ensures.held (subst (λ (p : Pages). IsHeld p.numbers.items ((c.args.at + c.loop-done.done) / 4096)) (sym so_far.1) (held_in c.args.pages.now.numbers.items c.args.at (length c.args.into.now) c.loop-done.done (omega (arith, c.loop-done-test.true, c.loop-done.auto.into)) range)) in
     absurd (cc (ended.0))
 
 pub loop-done-preserved : goal.loop-done-preserved
@@ -32,12 +32,13 @@ loop-done-preserved g c =
       crash = further so_far.crash c.read_part.ensures.crash;
       faults = c.in_ok-read_part.ensures.cause.passed ∙ so_far.faults;
       stand = λ l told. c.read_part.ensures.stand l (so_far.contents ∙ told);
+      places = c.read_part.ensures.places ∙ so_far.places;
       held = λ range.
           let before = so_far.held range in
-          let here = c.read_part.ensures.held (held_in c.args.pages.now c.loop-done.pages c.args.at (length c.args.into.now) done before.1 (omega (arith, c.loop-done-test.true, c.loop-done.auto.into)) range) in
+          let here = c.read_part.ensures.held (subst (λ (p : Pages). IsHeld p.numbers.items ((c.args.at + done) / 4096)) (sym before.1) (held_in c.args.pages.now.numbers.items c.args.at (length c.args.into.now) done (omega (arith, c.loop-done-test.true, c.loop-done.auto.into)) range)) in
           (here.1 ∙ before.0, here.2 ∙ before.1);
       holds = λ enough small.
           let place : (c.args.at + done) / 4096 % 2048 < 2048 = mod-lt ((c.args.at + done) / 4096) (omega arith) in
-          let here = c.in_ok-read_part.ensures.holds (omega (arith, place, enough, c.loop-done.auto.pages)) in
-          held_further c.loop-done.pages c.read_part.new.pages c.args.at done count c.part_len-count.ensures.inside (omega (arith, fits, small, c.loop-done.auto.into)) here c.in_ok-read_part.ensures.others (so_far.holds enough small);
+          let here = c.in_ok-read_part.ensures.holds (omega (arith, place, enough, so_far.places)) in
+          held_further c.loop-done.pages.numbers.items c.read_part.new.pages.numbers.items c.args.at done count c.part_len-count.ensures.inside (omega (arith, fits, small, c.loop-done.auto.into)) here c.in_ok-read_part.ensures.others (so_far.holds enough small);
     }
