@@ -14,3 +14,4 @@ mod StoreRows
 mod CutInputs
 pub mod CoreSteps
 pub mod Looks
+mod FileAccesses

@@ -50,19 +50,24 @@ unfoldable pub use Rattle.store_model.specs.HashRegion.{bucket_of, is_linked}
 pub use Rattle.store_model.specs.Stores.{Program, outcome}
 unfoldable pub use Rattle.store_model.specs.TreeCalls.{scan_program}
 pub use Rattle.store_model.specs.declared.stores.StoreError.{StoreError}
+pub use Rattle.store_model.specs.declared.files.FsError.{FsError}
+pub use Rattle.store_model.specs.declared.files.FileAreas.{FileAreas}
+pub use Rattle.store_model.specs.FileCalls.{Call}
+unfoldable pub use Rattle.store_model.specs.FileCalls.{create_program, read_program, remove_program, rename_program, write_program}
+pub use Rattle.script_model.specs.FilesArea.{blocks_behind, file_blocks, files_area}
 pub use Rattle.script_model.specs.Bench.{bench_output, bench_summary, drawn, number_drawn, recover_output, round_text}
 unfoldable pub use Rattle.script_model.specs.Bench.{bench_text}
 pub use Rattle.script_model.specs.CoreReplies.{as_step}
 pub use Rattle.script_model.specs.Operations.{AreLines, IsOp, IsUpkeep}
-pub use Rattle.script_model.specs.Script.{Script, after, bad_line, bare, before_script, begin_arguments, client_in_range, group_arguments, hex_argument, key_and_value, label_argument, labels_of, last_piece, mode_argument, no_lines, number_and_bytes, number_argument, one_key, one_label, one_number, put_arguments, replies, scan_arguments, script_from, store_argument, three_numbers, two_numbers, without_return, ◌>>=◌}
-unfoldable pub use Rattle.script_model.specs.Script.{operation_of, other_operation, parse, parse_whole, said, script, store_operation, tree_operation}
-pub use Rattle.script_model.specs.Step.{access_step, array_of, found_reply, in_store, in_transaction, marked_step, out_of_transaction, pairs_reply, release_step, removed_reply, takeover_step, with_access}
-unfoldable pub use Rattle.script_model.specs.Step.{fill_step, get_step, hash_delete_step, hash_get_step, hash_put_step, mark_step, numbers, put_step, read_step, step, store_step, tree_delete_step, tree_get_step, tree_put_step, tree_scan_step, write_step}
+pub use Rattle.script_model.specs.Script.{Script, after, bad_line, bare, before_script, begin_arguments, client_in_range, group_arguments, hex_argument, key_and_value, label_argument, labels_of, last_piece, mode_argument, no_lines, number_and_bytes, number_argument, one_key, one_label, one_number, put_arguments, replies, read_arguments, scan_arguments, script_from, write_arguments, store_argument, three_numbers, two_numbers, without_return, ◌>>=◌}
+unfoldable pub use Rattle.script_model.specs.Script.{file_operation, operation_of, other_operation, parse, parse_whole, said, script, store_operation, tree_operation}
+pub use Rattle.script_model.specs.Step.{access_step, array_of, found_reply, in_store, in_transaction, marked_step, out_of_transaction, pairs_reply, release_step, removed_reply, takeover_step, with_access, store_refusal, file_refusal, file_step}
+unfoldable pub use Rattle.script_model.specs.Step.{file_delete_step, file_move_step, file_new_step, file_read_step, file_write_step, fill_step, get_step, hash_delete_step, hash_get_step, hash_put_step, mark_step, numbers, put_step, read_step, step, store_step, tree_delete_step, tree_get_step, tree_put_step, tree_scan_step, write_step}
 pub use Rattle.script_model.specs.Text.{before_piece, hex_digit, hex_pair, hex_pairs, is_empty, pieces}
 unfoldable pub use Rattle.script_model.specs.Text.{hex_of, label_text, number_of, reply_text, words_of}
 pub use Rattle.script_model.specs.declared.script.Line.{Line}
 pub use Rattle.script_model.specs.declared.script.Op.{Op}
-pub use Rattle.script_model.specs.declared.script.Op.TheVariants.{Abort, Await, Begin, Compact, End, Fill, Get, Group, HashDelete, HashGet, HashPut, Mark, Put, Read, Release, Stat, Takeover, TreeDelete, TreeGet, TreePut, TreeScan, Trim, Upgrade, Write}
+pub use Rattle.script_model.specs.declared.script.Op.TheVariants.{Abort, Await, Begin, Compact, End, Fill, Get, Group, HashDelete, HashGet, HashPut, Mark, Put, Read, Release, Stat, Takeover, TreeDelete, TreeGet, TreePut, TreeScan, Trim, Upgrade, Write, FileNew, FileWrite, FileRead, FileMove, FileDelete}
 pub use Rattle.script_model.specs.declared.script.Parsed.{Parsed}
 pub use Rattle.script_model.specs.declared.script.Reply.{Reply}
 pub use Rattle.script_model.specs.declared.script.TheConstants.{MAX_LABELS}
