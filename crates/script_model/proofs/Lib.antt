@@ -14,3 +14,8 @@ mod StoreRows
 mod CutInputs
 pub mod CoreSteps
 pub mod Looks
+mod ProgramAnswers
+mod TakenBlocks
+mod FileParts
+mod FileAccesses
+mod FileRows

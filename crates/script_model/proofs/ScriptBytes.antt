@@ -1,5 +1,5 @@
 -- The bytes that a script's lines take are bytes.
-use Rattle.script_model.proofs.Words.{ℕ, ◌+◌, ◌<◌, ◌≤◌, Bool, true, false, ◌&&◌, cond, IsTrue, List, Option, Result, Ok, Err, ok_or, nat_le, length, take, subst, arith, and_parts, leb-true, MAX_INPUT, MAX_LINE, Op, Begin, End, Abort, Put, Read, Get, Write, Fill, Mark, Release, Takeover, Await, Group, Trim, Stat, Compact, Upgrade, HashPut, HashGet, HashDelete, TreePut, TreeGet, TreeDelete, TreeScan, AllByRecursion, Line, Parsed, MAX_LABELS, suc, ap, AreBytes, ◌>>=◌, without_return, bad_line, bare, begin_arguments, put_arguments, one_number, two_numbers, three_numbers, number_and_bytes, one_label, group_arguments, labels_of, number_argument, hex_argument, label_argument, mode_argument, operation_of, other_operation, one_key, key_and_value, scan_arguments, store_argument, store_operation, tree_operation, said, parse, parse_whole, last_piece, before_script, script_from, script, client_in_range, no_lines, Script, is_empty, pieces, words_of, hex_digit, hex_pair, hex_pairs, hex_of, number_of, is_digit, is_label, label_of, IsOp, AreLines, no_bytes, bytes_cons}
+use Rattle.script_model.proofs.Words.{ℕ, ◌+◌, ◌<◌, ◌≤◌, Bool, true, false, ◌&&◌, cond, IsTrue, List, Option, Result, Ok, Err, ok_or, nat_le, length, take, subst, arith, and_parts, leb-true, MAX_INPUT, MAX_LINE, Op, Begin, End, Abort, Put, Read, Get, Write, Fill, Mark, Release, Takeover, Await, Group, Trim, Stat, Compact, Upgrade, HashPut, HashGet, HashDelete, TreePut, TreeGet, TreeDelete, TreeScan, FileNew, FileWrite, FileRead, FileMove, FileDelete, AllByRecursion, Line, Parsed, MAX_LABELS, suc, ap, AreBytes, ◌>>=◌, without_return, bad_line, bare, begin_arguments, put_arguments, one_number, two_numbers, three_numbers, number_and_bytes, one_label, group_arguments, labels_of, number_argument, hex_argument, label_argument, mode_argument, operation_of, other_operation, one_key, key_and_value, scan_arguments, write_arguments, read_arguments, store_argument, store_operation, tree_operation, file_operation, said, parse, parse_whole, last_piece, before_script, script_from, script, client_in_range, no_lines, Script, is_empty, pieces, words_of, hex_digit, hex_pair, hex_pairs, hex_of, number_of, is_digit, is_label, label_of, IsOp, AreLines, no_bytes, bytes_cons}
 use Rattle.std.proofs.Common.{◌≡◌, refl, ◌-◌, ◌*◌, [], ◌∷◌, Some, None}
 use Rattle.script_model.specs.declared.script.Parsed.TheVariants.{Skip, Line as Says}
 
@@ -143,9 +143,9 @@ group_op words = group_given words _ refl
 store_given : (word : List ℕ) → IfGiven AreBytes (store_argument word)
 store_given word = given_cond AreBytes _ (Ok []) _ (given_one AreBytes [] no_bytes) (or_cause AreBytes (hex_of word) 5 (hex_bytes word))
 
-key_op : (op : List ℕ → Op) → ((key : List ℕ) → IsOp (op key)) → (words : List (List ℕ)) → IfGiven IsOp (one_key op words)
+key_op : (op : List ℕ → Op) → ((key : List ℕ) → AreBytes key → IsOp (op key)) → (words : List (List ℕ)) → IfGiven IsOp (one_key op words)
 key_op op is [] = given_none IsOp 3
-key_op op is (key ∷ []) = given_next AreBytes IsOp (store_argument key) _ (store_given key) (λ k are. given_one IsOp (op k) (is k))
+key_op op is (key ∷ []) = given_next AreBytes IsOp (store_argument key) _ (store_given key) (λ k are. given_one IsOp (op k) (is k are))
 key_op op is (key ∷ more ∷ words) = given_none IsOp 3
 
 value_op : (op : List ℕ → List ℕ → Op) → ((key value : List ℕ) → AreBytes key → AreBytes value → IsOp (op key value)) → (words : List (List ℕ)) → IfGiven IsOp (key_and_value op words)
@@ -166,20 +166,49 @@ scan_op (from ∷ to ∷ most ∷ []) =
     given_next (λ n. Unit {0}) IsOp (number_argument most) _ (any_given (number_argument most)) (λ n given. given_one IsOp (TreeScan f t n) tt)))
 scan_op (from ∷ to ∷ most ∷ more ∷ words) = given_none IsOp 3
 
+write_op : (words : List (List ℕ)) → IfGiven IsOp (write_arguments words)
+write_op [] = given_none IsOp 3
+write_op (name ∷ []) = given_none IsOp 3
+write_op (name ∷ off ∷ []) = given_none IsOp 3
+write_op (name ∷ off ∷ bytes ∷ []) =
+    given_next AreBytes IsOp (store_argument name) _ (store_given name) (λ n n_are.
+    given_next (λ x. Unit {0}) IsOp (number_argument off) _ (any_given (number_argument off)) (λ o given.
+    given_next AreBytes IsOp (hex_argument bytes) _ (or_cause AreBytes (hex_of bytes) 5 (hex_bytes bytes)) (λ h are. given_one IsOp (FileWrite n o h) are)))
+write_op (name ∷ off ∷ bytes ∷ more ∷ words) = given_none IsOp 3
+
+read_op : (words : List (List ℕ)) → IfGiven IsOp (read_arguments words)
+read_op [] = given_none IsOp 3
+read_op (name ∷ []) = given_none IsOp 3
+read_op (name ∷ off ∷ []) = given_none IsOp 3
+read_op (name ∷ off ∷ len ∷ []) =
+    given_next AreBytes IsOp (store_argument name) _ (store_given name) (λ n n_are.
+    given_next (λ x. Unit {0}) IsOp (number_argument off) _ (any_given (number_argument off)) (λ o given.
+    given_next (λ x. Unit {0}) IsOp (number_argument len) _ (any_given (number_argument len)) (λ l more. given_one IsOp (FileRead n o l) tt)))
+read_op (name ∷ off ∷ len ∷ more ∷ words) = given_none IsOp 3
+
+file_op : (name : List ℕ) (words : List (List ℕ)) → IfGiven IsOp (file_operation name words)
+unfolding file_operation
+file_op name words =
+    given_cond IsOp _ (one_key FileNew words) _ (key_op FileNew (λ name are. are) words)
+    (given_cond IsOp _ (write_arguments words) _ (write_op words)
+    (given_cond IsOp _ (read_arguments words) _ (read_op words)
+    (given_cond IsOp _ (key_and_value FileMove words) _ (value_op FileMove (λ from to f_are t_are. t_are) words)
+    (given_cond IsOp _ (one_key FileDelete words) _ (key_op FileDelete (λ name are. tt) words) (given_none IsOp 2)))))
+
 tree_op : (name : List ℕ) (words : List (List ℕ)) → IfGiven IsOp (tree_operation name words)
 unfolding tree_operation
 tree_op name words =
     given_cond IsOp _ (key_and_value TreePut words) _ (value_op TreePut (λ key value k_are v_are. (k_are, v_are)) words)
-    (given_cond IsOp _ (one_key TreeGet words) _ (key_op TreeGet (λ key. tt) words)
-    (given_cond IsOp _ (one_key TreeDelete words) _ (key_op TreeDelete (λ key. tt) words)
-    (given_cond IsOp _ (scan_arguments words) _ (scan_op words) (given_none IsOp 2))))
+    (given_cond IsOp _ (one_key TreeGet words) _ (key_op TreeGet (λ key are. tt) words)
+    (given_cond IsOp _ (one_key TreeDelete words) _ (key_op TreeDelete (λ key are. tt) words)
+    (given_cond IsOp _ (scan_arguments words) _ (scan_op words) (file_op name words))))
 
 store_op : (name : List ℕ) (words : List (List ℕ)) → IfGiven IsOp (store_operation name words)
 unfolding store_operation
 store_op name words =
     given_cond IsOp _ (key_and_value HashPut words) _ (value_op HashPut (λ key value k_are v_are. (k_are, v_are)) words)
-    (given_cond IsOp _ (one_key HashGet words) _ (key_op HashGet (λ key. tt) words)
-    (given_cond IsOp _ (one_key HashDelete words) _ (key_op HashDelete (λ key. tt) words) (tree_op name words)))
+    (given_cond IsOp _ (one_key HashGet words) _ (key_op HashGet (λ key are. tt) words)
+    (given_cond IsOp _ (one_key HashDelete words) _ (key_op HashDelete (λ key are. tt) words) (tree_op name words)))
 
 other_op : (name : List ℕ) (words : List (List ℕ)) → IfGiven IsOp (other_operation name words)
 unfolding other_operation

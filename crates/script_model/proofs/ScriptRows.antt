@@ -1,5 +1,5 @@
 -- Worked examples of scripts: computed.
-use Rattle.script_model.proofs.Words.{◌≡◌, ◌*◌, [], ◌∷◌, ◌++◌, Some, refl, codes, map, replicate, digits, begin_step, commit_step, end_step, Stat, put, clash, runs, script, last_piece, bad_line, parse_whole, parse, said, operation_of, other_operation, store_operation, tree_operation, replies, step, put_step, read_step, words_of, number_of, hex_of, reply_text, fresh, empty_history}
+use Rattle.script_model.proofs.Words.{◌≡◌, ◌*◌, [], ◌∷◌, ◌++◌, Some, refl, codes, map, replicate, digits, begin_step, commit_step, end_step, Stat, put, clash, runs, script, last_piece, bad_line, parse_whole, parse, said, operation_of, other_operation, store_operation, tree_operation, file_operation, replies, step, put_step, read_step, words_of, number_of, hex_of, reply_text, fresh, empty_history}
 use Rattle.std.specs.Prelude.{ℕ, List, Ok, Err, true}
 use Rattle.script_model.specs.declared.script.Parsed.TheVariants.{Skip, Line as Says}
 use Rattle.script_model.proofs.Small.{small, text}
@@ -58,7 +58,7 @@ log_one_byte_too_short = refl
 pub the_first_bad_line :
     (script (text (codes "1 begin" ∷ codes "1 jump" ∷ []))).bad
     ≡ Some (record { line = 2; cause = 2 })
-unfolding put clash runs script parse_whole parse said operation_of other_operation store_operation tree_operation step begin_step put_step read_step commit_step end_step words_of number_of hex_of reply_text digits
+unfolding put clash runs script parse_whole parse said operation_of other_operation store_operation tree_operation file_operation step begin_step put_step read_step commit_step end_step words_of number_of hex_of reply_text digits
 the_first_bad_line = refl
 
 -- A carriage return before a line feed, a comment, and a last line without a line feed.
@@ -98,7 +98,7 @@ cut_and_too_long = refl
 pub edges_of_a_line :
     map (λ line. parse (codes line)) ("0 begin" ∷ "1 put 0 4294967296 a" ∷ "1 begin~" ∷ "1 begin x y" ∷ "1 release A" ∷ [])
     ≡ map Err (1 ∷ 4 ∷ 2 ∷ 3 ∷ 6 ∷ [])
-unfolding put clash runs script parse_whole parse said operation_of other_operation store_operation tree_operation step begin_step put_step read_step commit_step end_step words_of number_of hex_of reply_text digits
+unfolding put clash runs script parse_whole parse said operation_of other_operation store_operation tree_operation file_operation step begin_step put_step read_step commit_step end_step words_of number_of hex_of reply_text digits
 edges_of_a_line = refl
 
 pub a_byte_above_the_last_printable_one : parse (codes "1 begin" ++ 127 ∷ []) ≡ Err 8

@@ -1,10 +1,11 @@
 -- Each step of a sound world leads to a sound one.
-use Rattle.script_model.proofs.Words.{◌≢◌, ℕ, ◌<◌, ◌≤◌, Bool, false, ◌&&◌, ◌==◌, not, IsTrue, List, length, Option, Result, nat_le, slice_index, arith, leb-false, eqb-false, eqb-true, not-false, length-append, length_push, length-replicate, Access, MarkError, Span, MAX_ACCESSES, Line, Op, Reply, StoreError, is_serial, del_program, get_program, put_program, is_key, array_at, IsAccess, AreBytes, HasShape, after, is_outside, marked, mark_fault, step, access_step, put_step, read_step, get_step, write_step, fill_step, mark_step, marked_step, release_step, takeover_step, with_access, out_of_transaction, in_transaction, array_of, store_step, in_store, hash_put_step, hash_get_step, hash_delete_step, found_reply, removed_reply, pairs_reply, tree_put_step, tree_get_step, tree_delete_step, tree_scan_step, put_access, read_access, get_access, write_access, shown_to, after_leaving, mode_named, begin_step, end_step, hash_area, tree_area, Program, outcome, scan_program, is_label, World, Live, client, label, attached, held, floor, is_under_label, IsLive, IsWorld, LeadsTo, as_step, IsOp, AreLines, limits, replicate_bytes, all_find, all_apart, all_apart_from_label, all_push, IsIn, del_fits, get_fits, hash_area_is, put_fits, array_shape, own_shape, AllFit, FitsOn, fits_on, outcome_fits, IsTreeIn, tree_area_is, tree_del_fits, tree_get_fits, tree_put_fits, tree_scan_fits, get_is_access, inside_block, length-marked, marked_are, put_is_access, read_is_access, write_is_access, begin_leads, end_leads, leads_on, stays, leaves, accesses_are, all_append, places, chosen, live_at, trim_leads, switch_leads, group_step_leads}
+use Rattle.script_model.proofs.Words.{◌≢◌, ℕ, ◌<◌, ◌≤◌, Bool, false, ◌&&◌, ◌==◌, not, IsTrue, List, length, Option, Result, nat_le, slice_index, arith, leb-false, eqb-false, eqb-true, not-false, length-append, length_push, length-replicate, Access, MarkError, Span, MAX_ACCESSES, Line, Op, Reply, StoreError, is_serial, del_program, get_program, put_program, is_key, array_at, IsAccess, AreBytes, HasShape, after, is_outside, marked, mark_fault, step, access_step, put_step, read_step, get_step, write_step, fill_step, mark_step, marked_step, release_step, takeover_step, with_access, out_of_transaction, in_transaction, array_of, store_step, in_store, hash_put_step, hash_get_step, hash_delete_step, found_reply, removed_reply, pairs_reply, tree_put_step, tree_get_step, tree_delete_step, tree_scan_step, store_refusal, file_refusal, file_step, file_new_step, file_write_step, file_read_step, file_move_step, file_delete_step, file_blocks, files_area, Call, create_program, write_program, read_program, rename_program, remove_program, put_access, read_access, get_access, write_access, shown_to, after_leaving, mode_named, begin_step, end_step, hash_area, tree_area, Program, outcome, scan_program, is_label, World, Live, client, label, attached, held, floor, is_under_label, IsLive, IsWorld, LeadsTo, as_step, IsOp, AreLines, limits, replicate_bytes, all_find, all_apart, all_apart_from_label, all_push, IsIn, del_fits, get_fits, hash_area_is, put_fits, array_shape, own_shape, AllFit, FitsOn, fits_on, outcome_fits, IsTreeIn, tree_area_is, tree_del_fits, tree_get_fits, tree_put_fits, tree_scan_fits, get_is_access, inside_block, length-marked, marked_are, put_is_access, read_is_access, write_is_access, begin_leads, end_leads, leads_on, stays, leaves, accesses_are, all_append, places, chosen, live_at, trim_leads, switch_leads, group_step_leads}
 use Rattle.std.proofs.Common.{◌≡◌, refl, ◌-◌, [], ◌∷◌, ◌++◌, Some, None, replicate}
 use Rattle.iso_model.specs.declared.core_reply.CoreReply.TheVariants as core
-use Rattle.script_model.specs.declared.script.Op.TheVariants.{Begin, End, Abort, Put, Read as ReadBlock, Get, Write as WriteBlock, Fill, Mark, Release, Takeover, Await, Group, Trim, Stat, Compact, Upgrade, HashPut, HashGet, HashDelete, TreePut, TreeGet, TreeDelete, TreeScan}
+use Rattle.script_model.specs.declared.script.Op.TheVariants.{Begin, End, Abort, Put, Read as ReadBlock, Get, Write as WriteBlock, Fill, Mark, Release, Takeover, Await, Group, Trim, Stat, Compact, Upgrade, HashPut, HashGet, HashDelete, TreePut, TreeGet, TreeDelete, TreeScan, FileNew, FileWrite, FileRead, FileMove, FileDelete}
 use Rattle.script_model.specs.declared.script.Reply.TheVariants as reply
 use Rattle.store_model.specs.TreeCalls as tree
+use Rattle.script_model.proofs.FileAccesses.{IsFilesIn, files_area_is, create_fits, write_fits, read_fits, rename_fits, remove_fits}
 
 -- with one access more
 accesses_more : (W : World) (c : ℕ) (t : Live) (a : Access) → IsWorld W → attached W c ≡ Some t → IsLive W t → length t.accesses < MAX_ACCESSES
@@ -14,10 +15,10 @@ accesses_more W c t a is found live few access =
     (all_push (IsAccess W.geometry) t.accesses a live.accesses access)
 
 -- a call of a store, on the array that the transaction is shown
-store_leads : {R : Type 0} (W : World) (c : ℕ) (t : Live) (program : Program (Result R StoreError)) (answer : R → Reply) → IsWorld W → attached W c ≡ Some t → IsLive W t
-    → (HasShape W.geometry (array_of W t) → FitsOn W.geometry (λ r B. Unit {0}) program (array_of W t)) → LeadsTo W (store_step W t program answer).1
+store_leads : {E R : Type 0} (W : World) (c : ℕ) (t : Live) (program : Program (Result R E)) (refusal : E → Reply) (answer : R → Reply) → IsWorld W → attached W c ≡ Some t → IsLive W t
+    → (HasShape W.geometry (array_of W t) → FitsOn W.geometry (λ r B. Unit {0}) program (array_of W t)) → LeadsTo W (store_step W t program refusal answer).1
 unfolding store_step
-store_leads W c t program answer is found live fit =
+store_leads W c t program refusal answer is found live fit =
     let ended = outcome (MAX_ACCESSES - length t.accesses) program (array_of W t) in
     let shape = own_shape W.geometry (array_at W.history t.begin) t.accesses live.accesses (array_shape W.geometry W.history t.begin is.history) in
     let fits = outcome_fits W.geometry (λ r B. Unit {0}) (MAX_ACCESSES - length t.accesses) program (array_of W t) (fit shape) in
@@ -33,11 +34,11 @@ in_store_leads W t blocks result is leads =
 
 -- a call of the hash store
 hash_leads : {R : Type 0} (W : World) (c : ℕ) (t : Live) (program : Program (Result R StoreError)) (answer : R → Reply) → IsWorld W → attached W c ≡ Some t → IsLive W t
-    → (IsIn W.geometry (hash_area W.geometry) → AllFit W.geometry (λ r. Unit {0}) program) → LeadsTo W (in_store W t W.geometry.hash (store_step W t program answer)).1
+    → (IsIn W.geometry (hash_area W.geometry) → AllFit W.geometry (λ r. Unit {0}) program) → LeadsTo W (in_store W t W.geometry.hash (store_step W t program store_refusal answer)).1
 hash_leads W c t program answer is found live fit =
     let bounds = limits W.geometry is.valid in
     in_store_leads W t W.geometry.hash _ is (λ some.
-    store_leads W c t program answer is found live (λ shape. fits_on W.geometry (λ r. Unit {0}) program (array_of W t) shape
+    store_leads W c t program store_refusal answer is found live (λ shape. fits_on W.geometry (λ r. Unit {0}) program (array_of W t) shape
     (fit (record { area = hash_area_is W.geometry is.valid some; size = refl; fits = omega (arith, bounds.regions) }))))
 
 hash_put_leads : (W : World) (c : ℕ) (t : Live) (key value : List ℕ) → IsWorld W → AreBytes key → AreBytes value → attached W c ≡ Some t → IsLive W t → LeadsTo W (hash_put_step W t key value).1
@@ -57,10 +58,10 @@ hash_delete_leads W c t key is found live =
 
 -- a call of the tree store
 tree_leads : {R : Type 0} (W : World) (c : ℕ) (t : Live) (program : Program (Result R StoreError)) (answer : R → Reply) → IsWorld W → W.geometry.tree ≢ 0 → attached W c ≡ Some t → IsLive W t
-    → (IsTreeIn W.geometry (tree_area W.geometry) (array_of W t) → FitsOn W.geometry (λ r B. Unit {0}) program (array_of W t)) → LeadsTo W (store_step W t program answer).1
+    → (IsTreeIn W.geometry (tree_area W.geometry) (array_of W t) → FitsOn W.geometry (λ r B. Unit {0}) program (array_of W t)) → LeadsTo W (store_step W t program store_refusal answer).1
 tree_leads W c t program answer is some found live fit =
     let bounds = limits W.geometry is.valid in
-    store_leads W c t program answer is found live (λ shape.
+    store_leads W c t program store_refusal answer is found live (λ shape.
     fit (record { area = tree_area_is W.geometry is.valid some; size = refl; fits = bounds.regions; shape = shape }))
 
 tree_put_leads : (W : World) (c : ℕ) (t : Live) (key value : List ℕ) → IsWorld W → AreBytes key → AreBytes value → attached W c ≡ Some t → IsLive W t → LeadsTo W (tree_put_step W t key value).1
@@ -87,6 +88,38 @@ tree_scan_leads W c t from to most is found live =
     in_store_leads W t W.geometry.tree _ is (λ some. chosen W (is_key from && is_key to && (most == 0)) _ _ (stays W is)
     (λ good. tree_leads W c t (scan_program (tree_area W.geometry) from to most) pairs_reply is some found live
     (λ there. tree_scan_fits W.geometry (tree_area W.geometry) (array_of W t) there from to most)))
+
+-- a call on files
+file_leads : {R : Type 0} (W : World) (c : ℕ) (t : Live) (program : Call R) (answer : R → Reply) → IsWorld W → attached W c ≡ Some t → IsLive W t
+    → (IsFilesIn W.geometry (files_area W.geometry) (array_of W t) → FitsOn W.geometry (λ r B. Unit {0}) program (array_of W t)) → LeadsTo W (file_step W t program answer).1
+file_leads W c t program answer is found live fit =
+    in_store_leads W t (file_blocks W.geometry) _ is (λ some.
+    store_leads W c t program file_refusal answer is found live (λ shape. fit (files_area_is W.geometry (array_of W t) is.valid shape some)))
+
+file_new_leads : (W : World) (c : ℕ) (t : Live) (name : List ℕ) → IsWorld W → AreBytes name → attached W c ≡ Some t → IsLive W t → LeadsTo W (file_new_step W t name).1
+unfolding file_new_step
+file_new_leads W c t name is values found live =
+    file_leads W c t (create_program (files_area W.geometry) name) _ is found live (λ there. create_fits W.geometry (files_area W.geometry) (array_of W t) there name values)
+
+file_write_leads : (W : World) (c : ℕ) (t : Live) (name : List ℕ) (off : ℕ) (bytes : List ℕ) → IsWorld W → AreBytes bytes → attached W c ≡ Some t → IsLive W t → LeadsTo W (file_write_step W t name off bytes).1
+unfolding file_write_step
+file_write_leads W c t name off bytes is values found live =
+    file_leads W c t (write_program (files_area W.geometry) name off bytes) removed_reply is found live (λ there. write_fits W.geometry (files_area W.geometry) (array_of W t) there name off bytes values)
+
+file_read_leads : (W : World) (c : ℕ) (t : Live) (name : List ℕ) (off len : ℕ) → IsWorld W → attached W c ≡ Some t → IsLive W t → LeadsTo W (file_read_step W t name off len).1
+unfolding file_read_step
+file_read_leads W c t name off len is found live =
+    file_leads W c t (read_program (files_area W.geometry) name off len) found_reply is found live (λ there. read_fits W.geometry (files_area W.geometry) (array_of W t) there name off len)
+
+file_move_leads : (W : World) (c : ℕ) (t : Live) (from to : List ℕ) → IsWorld W → AreBytes to → attached W c ≡ Some t → IsLive W t → LeadsTo W (file_move_step W t from to).1
+unfolding file_move_step
+file_move_leads W c t from to is values found live =
+    file_leads W c t (rename_program (files_area W.geometry) from to) removed_reply is found live (λ there. rename_fits W.geometry (files_area W.geometry) (array_of W t) there from to values)
+
+file_delete_leads : (W : World) (c : ℕ) (t : Live) (name : List ℕ) → IsWorld W → attached W c ≡ Some t → IsLive W t → LeadsTo W (file_delete_step W t name).1
+unfolding file_delete_step
+file_delete_leads W c t name is found live =
+    file_leads W c t (remove_program (files_area W.geometry) name) removed_reply is found live (λ there. remove_fits W.geometry (files_area W.geometry) (array_of W t) there name)
 
 -- an access that is there once it is not refused
 access_leads : (W : World) (c : ℕ) (t : Live) (block : ℕ) (is_wrong : Bool) (answer : Reply) (a : Access) → IsWorld W → attached W c ≡ Some t → IsLive W t
@@ -212,6 +245,16 @@ step_leads W c (TreeDelete key) is good =
     in_leads W (attached W c) (λ t. tree_delete_step W t key) is (λ t found. tree_delete_leads W c t key is found (live_at W c t is found))
 step_leads W c (TreeScan from to most) is good =
     in_leads W (attached W c) (λ t. tree_scan_step W t from to most) is (λ t found. tree_scan_leads W c t from to most is found (live_at W c t is found))
+step_leads W c (FileNew name) is good =
+    in_leads W (attached W c) (λ t. file_new_step W t name) is (λ t found. file_new_leads W c t name is good found (live_at W c t is found))
+step_leads W c (FileWrite name off bytes) is good =
+    in_leads W (attached W c) (λ t. file_write_step W t name off bytes) is (λ t found. file_write_leads W c t name off bytes is good found (live_at W c t is found))
+step_leads W c (FileRead name off len) is good =
+    in_leads W (attached W c) (λ t. file_read_step W t name off len) is (λ t found. file_read_leads W c t name off len is found (live_at W c t is found))
+step_leads W c (FileMove from to) is good =
+    in_leads W (attached W c) (λ t. file_move_step W t from to) is (λ t found. file_move_leads W c t from to is good found (live_at W c t is found))
+step_leads W c (FileDelete name) is good =
+    in_leads W (attached W c) (λ t. file_delete_step W t name) is (λ t found. file_delete_leads W c t name is found (live_at W c t is found))
 
 -- all lines
 pub after_leads : (W : World) (lines : List (ℕ × Line)) → IsWorld W → AreLines lines → LeadsTo W (after W lines)

@@ -1,5 +1,5 @@
 -- What upkeep leaves as it is.
-use Rattle.script_model.proofs.Words.{ap, ℕ, ◌==◌, true, false, cond, Op, Begin, End, Abort, Put, Read, Get, Write, Fill, Mark, Release, Takeover, Await, Group, Trim, Stat, Compact, Upgrade, HashPut, HashGet, HashDelete, TreePut, TreeGet, TreeDelete, TreeScan, CoreReply, LAST, History, shown_block, step, after_switch, shown_to, switch_step, World, Live, IsUpkeep}
+use Rattle.script_model.proofs.Words.{ap, ℕ, ◌==◌, true, false, cond, Op, Begin, End, Abort, Put, Read, Get, Write, Fill, Mark, Release, Takeover, Await, Group, Trim, Stat, Compact, Upgrade, HashPut, HashGet, HashDelete, TreePut, TreeGet, TreeDelete, TreeScan, FileNew, FileWrite, FileRead, FileMove, FileDelete, CoreReply, LAST, History, shown_block, step, after_switch, shown_to, switch_step, World, Live, IsUpkeep}
 use Rattle.std.proofs.Common.{◌≡◌, refl}
 use Rattle.iso_model.specs.declared.core_reply.CoreReply.TheVariants as reply
 
@@ -38,6 +38,11 @@ keeps W client (TreePut key value) is = absurd is
 keeps W client (TreeGet key) is = absurd is
 keeps W client (TreeDelete key) is = absurd is
 keeps W client (TreeScan from to most) is = absurd is
+keeps W client (FileNew name) is = absurd is
+keeps W client (FileWrite name off bytes) is = absurd is
+keeps W client (FileRead name off len) is = absurd is
+keeps W client (FileMove from to) is = absurd is
+keeps W client (FileDelete name) is = absurd is
 keeps W client (Release text) is = absurd is
 keeps W client (Takeover text) is = absurd is
 keeps W client (Await text) is = absurd is

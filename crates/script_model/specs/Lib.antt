@@ -4,3 +4,4 @@ pub mod Text
 pub mod Operations
 pub mod Bench
 pub mod CoreReplies
+pub mod FilesArea

@@ -5,7 +5,7 @@ use Rattle.iso_model.specs.declared.access.GroupReply.{GroupReply}
 use Rattle.iso_model.specs.declared.access.GroupReply.TheVariants as member
 use Rattle.script_model.specs.declared.script.Line.{Line}
 use Rattle.script_model.specs.declared.script.Op.{Op}
-use Rattle.script_model.specs.declared.script.Op.TheVariants.{Begin, End, Abort, Put, Read, Get, Write, Fill, Mark, Release, Takeover, Await, Group, Trim, Stat, Compact, Upgrade, HashPut, HashGet, HashDelete, TreePut, TreeGet, TreeDelete, TreeScan}
+use Rattle.script_model.specs.declared.script.Op.TheVariants.{Begin, End, Abort, Put, Read, Get, Write, Fill, Mark, Release, Takeover, Await, Group, Trim, Stat, Compact, Upgrade, HashPut, HashGet, HashDelete, TreePut, TreeGet, TreeDelete, TreeScan, FileNew, FileWrite, FileRead, FileMove, FileDelete}
 use Rattle.script_model.specs.declared.script.Reply.{Reply}
 use Rattle.script_model.specs.declared.script.Reply.TheVariants.{Committed, Grouped}
 use Rattle.script_model.specs.declared.script.TheConstants.{MAX_LABELS}
@@ -38,6 +38,11 @@ IsOp (TreePut key value) = AreBytes key × AreBytes value
 IsOp (TreeGet key) = Unit {0}
 IsOp (TreeDelete key) = Unit {0}
 IsOp (TreeScan from to most) = Unit {0}
+IsOp (FileNew name) = AreBytes name
+IsOp (FileWrite name off bytes) = AreBytes bytes
+IsOp (FileRead name off len) = Unit {0}
+IsOp (FileMove from to) = AreBytes to
+IsOp (FileDelete name) = Unit {0}
 
 -- lines of such operations
 abbrev pub AreLines : List (ℕ × Line) → Type 0

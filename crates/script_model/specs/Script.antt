@@ -6,7 +6,7 @@ use Rattle.script_model.specs.declared.script.TheConstants.{MAX_LABELS}
 use Rattle.script_model.specs.declared.script.BadLine.{BadLine}
 use Rattle.script_model.specs.declared.script.Line.{Line}
 use Rattle.script_model.specs.declared.script.Op.{Op}
-use Rattle.script_model.specs.declared.script.Op.TheVariants.{Begin, End, Abort, Put, Read, Get, Write, Fill, Mark, Release, Takeover, Await, Group, Trim, Stat, Compact, Upgrade, HashPut, HashGet, HashDelete, TreePut, TreeGet, TreeDelete, TreeScan}
+use Rattle.script_model.specs.declared.script.Op.TheVariants.{Begin, End, Abort, Put, Read, Get, Write, Fill, Mark, Release, Takeover, Await, Group, Trim, Stat, Compact, Upgrade, HashPut, HashGet, HashDelete, TreePut, TreeGet, TreeDelete, TreeScan, FileNew, FileWrite, FileRead, FileMove, FileDelete}
 use Rattle.script_model.specs.declared.script.Parsed.{Parsed}
 use Rattle.script_model.specs.declared.script.Parsed.TheVariants.{Skip, Line as Says}
 use Rattle.script_model.specs.Step.{step}
@@ -125,18 +125,18 @@ group_arguments words =
       Ok (Group labels))
     else Err 3
 
--- a key or a value of a store: bytes, or a dash for none
+-- a key or a value of a store, or the name of a file: bytes, or a dash for none
 abbrev pub store_argument : List ℕ → Result (List ℕ) ℕ
 store_argument word = if bytes_eq word (codes "-") then Ok [] else hex_argument word
 
--- a key
+-- a key, or the name of a file
 abbrev pub one_key : (List ℕ → Op) → List (List ℕ) → Result Op ℕ
 one_key op (key ∷ []) = do
   k ← store_argument key
   Ok (op k)
 one_key op words = Err 3
 
--- a key and a value
+-- a key and a value, or two names of files
 abbrev pub key_and_value : (List ℕ → List ℕ → Op) → List (List ℕ) → Result Op ℕ
 key_and_value op (key ∷ value ∷ []) = do
   k ← store_argument key
@@ -153,14 +153,42 @@ scan_arguments (from ∷ to ∷ most ∷ []) = do
   Ok (TreeScan f t n)
 scan_arguments words = Err 3
 
--- the operation on the tree store of this name
+-- the name of a file, a number and bytes, of which there is at least one
+abbrev pub write_arguments : List (List ℕ) → Result Op ℕ
+write_arguments (name ∷ off ∷ bytes ∷ []) = do
+  n ← store_argument name
+  o ← number_argument off
+  h ← hex_argument bytes
+  Ok (FileWrite n o h)
+write_arguments words = Err 3
+
+-- the name of a file and two numbers
+abbrev pub read_arguments : List (List ℕ) → Result Op ℕ
+read_arguments (name ∷ off ∷ len ∷ []) = do
+  n ← store_argument name
+  o ← number_argument off
+  l ← number_argument len
+  Ok (FileRead n o l)
+read_arguments words = Err 3
+
+-- the operation on files of this name
+unfoldable pub file_operation : (name : List ℕ) → (arguments : List (List ℕ)) → Result Op ℕ
+file_operation name arguments =
+    if bytes_eq name (codes "fnew") then one_key FileNew arguments
+    else if bytes_eq name (codes "fwrite") then write_arguments arguments
+    else if bytes_eq name (codes "fread") then read_arguments arguments
+    else if bytes_eq name (codes "fmove") then key_and_value FileMove arguments
+    else if bytes_eq name (codes "fdel") then one_key FileDelete arguments
+    else Err 2
+
+-- the operation on the tree store of this name, or on files
 unfoldable pub tree_operation : (name : List ℕ) → (arguments : List (List ℕ)) → Result Op ℕ
 tree_operation name arguments =
     if bytes_eq name (codes "tput") then key_and_value TreePut arguments
     else if bytes_eq name (codes "tget") then one_key TreeGet arguments
     else if bytes_eq name (codes "tdel") then one_key TreeDelete arguments
     else if bytes_eq name (codes "tscan") then scan_arguments arguments
-    else Err 2
+    else file_operation name arguments
 
 -- the operation on a store of this name
 unfoldable pub store_operation : (name : List ℕ) → (arguments : List (List ℕ)) → Result Op ℕ

@@ -6,12 +6,14 @@ use Rattle.iso_model.specs.declared.core_reply.CoreReply.TheVariants as core
 use Rattle.script_model.specs.declared.script.Op.{Op}
 use Rattle.iso_model.specs.declared.access.MarkError.{MarkError}
 use Rattle.iso_model.specs.declared.access.MarkError.TheVariants as mark
-use Rattle.script_model.specs.declared.script.Op.TheVariants.{Begin, End, Abort, Put, Read as ReadBlock, Get, Write as WriteBlock, Fill, Mark, Release, Takeover, Await, Group, Trim, Stat, Compact, Upgrade, HashPut, HashGet, HashDelete, TreePut, TreeGet, TreeDelete, TreeScan}
+use Rattle.script_model.specs.declared.script.Op.TheVariants.{Begin, End, Abort, Put, Read as ReadBlock, Get, Write as WriteBlock, Fill, Mark, Release, Takeover, Await, Group, Trim, Stat, Compact, Upgrade, HashPut, HashGet, HashDelete, TreePut, TreeGet, TreeDelete, TreeScan, FileNew, FileWrite, FileRead, FileMove, FileDelete}
 use Rattle.script_model.specs.declared.script.Reply.{Reply}
 use Rattle.script_model.specs.declared.script.Reply.TheVariants as reply
 use Rattle.iso_model.specs.declared.limits.TheConstants.{MAX_ACCESSES}
 use Rattle.store_model.specs.declared.stores.StoreError.{StoreError}
 use Rattle.store_model.specs.declared.stores.StoreError.TheVariants as store
+use Rattle.store_model.specs.declared.files.FsError.{FsError}
+use Rattle.store_model.specs.declared.files.FsError.TheVariants as fs
 use Rattle.iso_model.specs.Array.{Array}
 use Rattle.iso_model.specs.declared.access.GroupReply.{GroupReply}
 use Rattle.iso_model.specs.Geometry.{is_serial}
@@ -22,11 +24,13 @@ use Rattle.iso_model.specs.Marks.{is_outside, mark_fault, marked}
 use Rattle.store_model.specs.Stores.{Program, outcome}
 use Rattle.store_model.specs.TreeCalls as tree
 use Rattle.store_model.specs.TreeCalls.{scan_program}
+use Rattle.store_model.specs.FileCalls.{Call, create_program, write_program, read_program, rename_program, remove_program}
 use Rattle.iso_model.specs.Versions.{versions}
 use Rattle.iso_model.specs.World.{World, Live, client, label, attached, held, floor, used}
 use Rattle.iso_model.specs.Group.{group_step}
 use Rattle.iso_model.specs.Step.{put_access, read_access, get_access, write_access, with_accesses, placed, after_leaving, mode_named, shown_to, after_trim, begin_step, end_step, switch_step}
 use Rattle.store_model.specs.Areas.{hash_area, tree_area}
+use Rattle.script_model.specs.FilesArea.{file_blocks, files_area}
 use Rattle.script_model.specs.CoreReplies.{as_step}
 
 -- the world in which the transaction has one more access
@@ -86,19 +90,27 @@ store_refusal (store.Broken block) = reply.Broken block
 store_refusal (store.Tx e) = reply.TooManyAccesses
 store_refusal store.Memory = reply.TooManyAccesses
 
--- what a call of a store is answered whose program ended so: it has no answer where an access did not fit
-abbrev pub store_reply : {R : Type 0} → (R → Reply) → Option (Result R StoreError) → Reply
-store_reply answer None = reply.TooManyAccesses
-store_reply answer (Some (Ok r)) = answer r
-store_reply answer (Some (Err e)) = store_refusal e
+-- what a call on files that is refused is answered
+abbrev pub file_refusal : FsError → Reply
+file_refusal fs.BadName = reply.BadName
+file_refusal fs.BadRange = reply.BadRange
+file_refusal fs.Exists = reply.Exists
+file_refusal (fs.Store e) = store_refusal e
+
+-- What a call of a store is answered whose program ended so, by what a refusal is answered and what an answer: it has no answer
+-- where an access did not fit.
+abbrev pub store_reply : {E R : Type 0} → (E → Reply) → (R → Reply) → Option (Result R E) → Reply
+store_reply refusal answer None = reply.TooManyAccesses
+store_reply refusal answer (Some (Ok r)) = answer r
+store_reply refusal answer (Some (Err e)) = refusal e
 
 -- the reply and the world after accesses of a store's program and its answer
-abbrev pub after_store : {R : Type 0} → World → Live → (R → Reply) → List Access × Option (Result R StoreError) → Reply × World
-after_store W t answer ended = (store_reply answer ended.1, with_accesses W t (t.accesses ++ ended.0))
+abbrev pub after_store : {E R : Type 0} → World → Live → (E → Reply) → (R → Reply) → List Access × Option (Result R E) → Reply × World
+after_store W t refusal answer ended = (store_reply refusal answer ended.1, with_accesses W t (t.accesses ++ ended.0))
 
--- A call of a store: its program on the array that the transaction is shown. What it has read before a refusal stays.
-unfoldable pub store_step : {R : Type 0} → World → Live → Program (Result R StoreError) → (R → Reply) → Reply × World
-store_step W t program answer = after_store W t answer (outcome (MAX_ACCESSES - length t.accesses) program (array_of W t))
+-- A call of a store: its program on the array that the transaction is shown. The accesses that it made before a refusal stay.
+unfoldable pub store_step : {E R : Type 0} → World → Live → Program (Result R E) → (E → Reply) → (R → Reply) → Reply × World
+store_step W t program refusal answer = after_store W t refusal answer (outcome (MAX_ACCESSES - length t.accesses) program (array_of W t))
 
 -- a store of so many blocks that is there, in a transaction that is serial
 abbrev pub in_store : World → Live → (blocks : ℕ) → Reply × World → Reply × World
@@ -107,7 +119,7 @@ in_store W t blocks result =
     else if is_serial t.mode then result
     else (reply.StoreMode, W)
 
--- what a look-up and a removal answer
+-- what a look-up answers, and a call that answers whether the key or the file was there
 abbrev pub found_reply : Option (List ℕ) → Reply
 found_reply None = reply.Missing
 found_reply (Some value) = reply.Found value
@@ -117,22 +129,22 @@ removed_reply true = reply.Done
 removed_reply false = reply.Missing
 
 unfoldable pub hash_put_step : World → Live → (key value : List ℕ) → Reply × World
-hash_put_step W t key value = in_store W t W.geometry.hash (store_step W t (put_program (hash_area W.geometry) key value) (λ done. reply.Done))
+hash_put_step W t key value = in_store W t W.geometry.hash (store_step W t (put_program (hash_area W.geometry) key value) store_refusal (λ done. reply.Done))
 
 unfoldable pub hash_get_step : World → Live → (key : List ℕ) → Reply × World
-hash_get_step W t key = in_store W t W.geometry.hash (store_step W t (get_program (hash_area W.geometry) key) found_reply)
+hash_get_step W t key = in_store W t W.geometry.hash (store_step W t (get_program (hash_area W.geometry) key) store_refusal found_reply)
 
 unfoldable pub hash_delete_step : World → Live → (key : List ℕ) → Reply × World
-hash_delete_step W t key = in_store W t W.geometry.hash (store_step W t (del_program (hash_area W.geometry) key) removed_reply)
+hash_delete_step W t key = in_store W t W.geometry.hash (store_step W t (del_program (hash_area W.geometry) key) store_refusal removed_reply)
 
 unfoldable pub tree_put_step : World → Live → (key value : List ℕ) → Reply × World
-tree_put_step W t key value = in_store W t W.geometry.tree (store_step W t (tree.put_program (tree_area W.geometry) key value) (λ done. reply.Done))
+tree_put_step W t key value = in_store W t W.geometry.tree (store_step W t (tree.put_program (tree_area W.geometry) key value) store_refusal (λ done. reply.Done))
 
 unfoldable pub tree_get_step : World → Live → (key : List ℕ) → Reply × World
-tree_get_step W t key = in_store W t W.geometry.tree (store_step W t (tree.get_program (tree_area W.geometry) key) found_reply)
+tree_get_step W t key = in_store W t W.geometry.tree (store_step W t (tree.get_program (tree_area W.geometry) key) store_refusal found_reply)
 
 unfoldable pub tree_delete_step : World → Live → (key : List ℕ) → Reply × World
-tree_delete_step W t key = in_store W t W.geometry.tree (store_step W t (tree.del_program (tree_area W.geometry) key) removed_reply)
+tree_delete_step W t key = in_store W t W.geometry.tree (store_step W t (tree.del_program (tree_area W.geometry) key) store_refusal removed_reply)
 
 -- what a scan answers
 abbrev pub pairs_reply : List (List ℕ × List ℕ) → Reply
@@ -144,7 +156,26 @@ unfoldable pub tree_scan_step : World → Live → (from to : List ℕ) → (mos
 tree_scan_step W t from to most =
     in_store W t W.geometry.tree
     (if is_key from && is_key to && (most == 0) then (reply.BadRange, W)
-    else store_step W t (scan_program (tree_area W.geometry) from to most) pairs_reply)
+    else store_step W t (scan_program (tree_area W.geometry) from to most) store_refusal pairs_reply)
+
+-- a call on files, where the image has room for them
+abbrev pub file_step : {R : Type 0} → World → Live → Call R → (R → Reply) → Reply × World
+file_step W t program answer = in_store W t (file_blocks W.geometry) (store_step W t program file_refusal answer)
+
+unfoldable pub file_new_step : World → Live → (name : List ℕ) → Reply × World
+file_new_step W t name = file_step W t (create_program (files_area W.geometry) name) (λ done. reply.Done)
+
+unfoldable pub file_write_step : World → Live → (name : List ℕ) → (off : ℕ) → (bytes : List ℕ) → Reply × World
+file_write_step W t name off bytes = file_step W t (write_program (files_area W.geometry) name off bytes) removed_reply
+
+unfoldable pub file_read_step : World → Live → (name : List ℕ) → (off len : ℕ) → Reply × World
+file_read_step W t name off len = file_step W t (read_program (files_area W.geometry) name off len) found_reply
+
+unfoldable pub file_move_step : World → Live → (from to : List ℕ) → Reply × World
+file_move_step W t from to = file_step W t (rename_program (files_area W.geometry) from to) removed_reply
+
+unfoldable pub file_delete_step : World → Live → (name : List ℕ) → Reply × World
+file_delete_step W t name = file_step W t (remove_program (files_area W.geometry) name) removed_reply
 
 -- a release under a label, once it is known who is there
 abbrev pub release_step : World → Live → List ℕ → Option Live → Reply × World
@@ -200,3 +231,8 @@ step W c (TreePut key value) = in_transaction W (attached W c) (λ t. tree_put_s
 step W c (TreeGet key) = in_transaction W (attached W c) (λ t. tree_get_step W t key)
 step W c (TreeDelete key) = in_transaction W (attached W c) (λ t. tree_delete_step W t key)
 step W c (TreeScan from to most) = in_transaction W (attached W c) (λ t. tree_scan_step W t from to most)
+step W c (FileNew name) = in_transaction W (attached W c) (λ t. file_new_step W t name)
+step W c (FileWrite name off bytes) = in_transaction W (attached W c) (λ t. file_write_step W t name off bytes)
+step W c (FileRead name off len) = in_transaction W (attached W c) (λ t. file_read_step W t name off len)
+step W c (FileMove from to) = in_transaction W (attached W c) (λ t. file_move_step W t from to)
+step W c (FileDelete name) = in_transaction W (attached W c) (λ t. file_delete_step W t name)

@@ -7,7 +7,7 @@ use Rattle.iso_model.specs.declared.access.GroupReply.TheVariants as member
 use Rattle.iso_model.specs.declared.access.Mode.{Mode}
 use Rattle.iso_model.specs.declared.access.Mode.TheVariants.{Serial, Snapshot}
 use Rattle.script_model.specs.declared.script.Reply.{Reply}
-use Rattle.script_model.specs.declared.script.Reply.TheVariants.{Done, Began, Shown, Committed, ReadOnly, Conflict, Grouped, Trimmed, Compacted, Upgraded, Numbers, Found, Pairs, Missing, InTx, NotInTx, ModeFixed, NoStore, StoreMode, BadKey, BadValue, BadBlock, BadRange, NoAccess, TooManyMarks, TooManyAccesses, Broken, NoBlocks, NoHandle, LabelTaken, TooManyTx, Worn, LogFull}
+use Rattle.script_model.specs.declared.script.Reply.TheVariants.{Done, Began, Shown, Committed, ReadOnly, Conflict, Grouped, Trimmed, Compacted, Upgraded, Numbers, Found, Pairs, Missing, InTx, NotInTx, ModeFixed, NoStore, StoreMode, BadKey, BadValue, BadName, Exists, BadBlock, BadRange, NoAccess, TooManyMarks, TooManyAccesses, Broken, NoBlocks, NoHandle, LabelTaken, TooManyTx, Worn, LogFull}
 use Rattle.iso_model.specs.Labels.{is_digit}
 
 -- the byte before the first piece
@@ -77,7 +77,7 @@ digit_of n = cond (nat_lt n 10) (48 + n) (87 + n)
 abbrev pub hex_text : List ℕ → List ℕ
 hex_text bytes = flat_map (λ b. digit_of (b / 16) ∷ digit_of (b % 16) ∷ []) bytes
 
--- a key or a value of a store as a word, which is a dash where it is empty
+-- a key or a value of a store, or bytes of a file, as a word, which is a dash where it is empty
 abbrev pub dashed : List ℕ → List ℕ
 dashed [] = codes "-"
 dashed (b ∷ bytes) = hex_text (b ∷ bytes)
@@ -133,6 +133,8 @@ reply_text NoStore = codes "no-store"
 reply_text StoreMode = codes "store-mode"
 reply_text BadKey = codes "bad-key"
 reply_text BadValue = codes "bad-value"
+reply_text BadName = codes "bad-name"
+reply_text Exists = codes "exists"
 reply_text BadBlock = codes "bad-block"
 reply_text BadRange = codes "bad-range"
 reply_text NoAccess = codes "no-access"

@@ -55,6 +55,16 @@ pub enum Op {
     TreeDelete { key: Bytes },
     /// The first pairs of the tree store from one key on and before another, at most so many.
     TreeScan { from: Bytes, to: Bytes, most: u32 },
+    /// Makes an empty file of this name.
+    FileNew { name: Bytes },
+    /// Writes these bytes at `off` of a file, which grows where they pass its end.
+    FileWrite { name: Bytes, off: u32, bytes: Bytes },
+    /// The bytes of a file from `off` on, at most `len`.
+    FileRead { name: Bytes, off: u32, len: u32 },
+    /// Gives the file of one name another.
+    FileMove { from: Bytes, to: Bytes },
+    /// Removes a file.
+    FileDelete { name: Bytes },
 }
 
 /// A line of a script: an operation of a client, 1 to 64.
@@ -109,11 +119,11 @@ pub enum Reply {
         used: u32,
         versions: u64,
     },
-    /// The value of a key of a store.
+    /// The value of a key of a store, or the bytes of a file.
     Found(Bytes),
     /// Pairs of the tree store, at least one.
     Pairs(PairList),
-    /// A store has no such key, or no key of the range.
+    /// A store has no such key or file, or no key of the range.
     Missing,
     InTx,
     NotInTx,
@@ -126,6 +136,10 @@ pub enum Reply {
     BadKey,
     /// A value has more than 32 bytes.
     BadValue,
+    /// The name of a file does not have 1 to 28 bytes.
+    BadName,
+    /// The name has a file.
+    Exists,
     BadBlock,
     BadRange,
     NoAccess,

@@ -1,7 +1,8 @@
 -- What a call of a store on any transaction has done.
-use Rattle.store_calls.proofs.Words.{◌≡◌, ◌⊎◌, ◌∙◌, sym, refl, ap, subst, ℕ, true, List, [], ◌∷◌, append-nil, take, Result, Ok, Err, inl, inr, false≢true, Access, Reply, StoreError, Program, outcome, Tx, Device, room_of, with_accesses, Began, HasEnded, IsStoreCause, Passed, WantsMemory, Array, own, Stop, HasCalled, Stops, refusal_of, replied}
+use Rattle.store_calls.proofs.Words.{◌≡◌, ◌⊎◌, ◌∙◌, sym, refl, ap, subst, ℕ, true, List, [], ◌∷◌, append-nil, take, Option, Some, None, Result, Ok, Err, inl, inr, false≢true, Access, Reply, StoreError, FsError, Call, Program, outcome, Tx, Device, room_of, with_accesses, Began, Ends, Ran, HasEnded, HasRefused, HasRun, IsFsCause, IsStoreCause, Passed, WantsMemory, Array, own, file_refusal, store_refusal, store_reply, Stop, HasCalled, Stops, file_refusal_of, filed, refusal_of, replied, stored}
 use Rattle.store_model.specs.declared.stores.StoreError.TheVariants as store
 use Rattle.store_model.specs.declared.stores.TxError.TheVariants as error
+use Rattle.store_model.specs.declared.files.FsError.TheVariants as fs
 use Rattle.script_model.specs.declared.script.Reply.TheVariants as reply
 use Rattle.script_model.specs.declared.stop.Stop.TheVariants as stop
 
@@ -15,27 +16,36 @@ same_error e f is = cc
 pub no_more : (t : Tx) → t ≡ with_accesses t []
 no_more t = ap (λ (xs : List Access). let u : Tx = record t { accesses = xs } in u) (sym (append-nil t.accesses))
 
-module _ {R : Type 0} (p : Program (Result R StoreError)) (t u : Tx) (answer : R → Reply) where
-  abbrev call : ℕ → Array → List Access × Reply
-  call room A = replied answer (outcome room p A)
+-- a call of a program, by what it is answered where it refuses and where it answers
+module _ {E R : Type 0} (p : Program (Result R E)) (t u : Tx) (refusal : E → Reply) (answer : R → Reply) where
+  abbrev replies_of : ℕ → Array → List Access × Reply
+  replies_of room A = replied refusal answer (outcome room p A)
 
-  pub called_ok : (x : R) → HasEnded p t u (Ok x) → HasCalled call t u (Ok (answer x))
-  called_ok x ended = record { done = ended.done; is = ended.is; told = λ A told. ap (replied answer) (ended.told A told); stopped = tt }
+  -- the program ended so
+  pub ended_so : (end : Option (Result R E)) → Ends p t u end → HasCalled replies_of t u (Ok (store_reply refusal answer end))
+  ended_so end ended = record { done = ended.done; is = ended.is; told = λ A told. ap (replied refusal answer) (ended.told A told); stopped = tt }
 
   -- the call has no reply
-  stopped : (why : Stop) → Began p t u → HasCalled call t u (Err why)
+  pub stopped : (why : Stop) → Began p t u → HasCalled replies_of t u (Err why)
   stopped why began = record { done = began.done; is = began.is; told = tt; stopped = began.told }
 
+module _ {R : Type 0} (p : Program (Result R StoreError)) (t u : Tx) (answer : R → Reply) where
+  abbrev call : ℕ → Array → List Access × Reply
+  call room A = stored answer (outcome room p A)
+
+  pub called_ok : (x : R) → HasEnded p t u (Ok x) → HasCalled call t u (Ok (answer x))
+  called_ok x ended = ended_so p t u store_refusal answer (Some (Ok x)) ended
+
   pub called_err : (e : StoreError) → HasEnded p t u (Err e) → HasCalled call t u (refusal_of e)
-  called_err store.BadKey ended = record { done = ended.done; is = ended.is; told = λ A told. ap (replied answer) (ended.told A told); stopped = tt }
-  called_err store.BadValue ended = record { done = ended.done; is = ended.is; told = λ A told. ap (replied answer) (ended.told A told); stopped = tt }
-  called_err (store.NoBlocks need free) ended = record { done = ended.done; is = ended.is; told = λ A told. ap (replied answer) (ended.told A told); stopped = tt }
-  called_err (store.Broken block) ended = record { done = ended.done; is = ended.is; told = λ A told. ap (replied answer) (ended.told A told); stopped = tt }
-  called_err (store.Tx error.TooManyAccesses) ended = record { done = ended.done; is = ended.is; told = λ A told. ap (replied answer) (ended.told A told); stopped = tt }
-  called_err (store.Tx error.Memory) ended = stopped stop.Memory ended.began
-  called_err (store.Tx error.Disk) ended = stopped stop.Disk ended.began
-  called_err (store.Tx error.Down) ended = stopped stop.Down ended.began
-  called_err (store.Tx error.NotInTx) ended = stopped stop.Down ended.began
+  called_err store.BadKey ended = ended_so p t u store_refusal answer (Some (Err store.BadKey)) ended
+  called_err store.BadValue ended = ended_so p t u store_refusal answer (Some (Err store.BadValue)) ended
+  called_err (store.NoBlocks need free) ended = ended_so p t u store_refusal answer (Some (Err (store.NoBlocks need free))) ended
+  called_err (store.Broken block) ended = ended_so p t u store_refusal answer (Some (Err (store.Broken block))) ended
+  called_err (store.Tx error.TooManyAccesses) ended = ended_so p t u store_refusal answer None ended
+  called_err (store.Tx error.Memory) ended = stopped p t u store_refusal answer stop.Memory ended.began
+  called_err (store.Tx error.Disk) ended = stopped p t u store_refusal answer stop.Disk ended.began
+  called_err (store.Tx error.Down) ended = stopped p t u store_refusal answer stop.Down ended.began
+  called_err (store.Tx error.NotInTx) ended = stopped p t u store_refusal answer stop.Down ended.began
   called_err (store.Tx error.BadBlock) ended = absurd ended
   called_err (store.Tx error.BadRange) ended = absurd ended
   called_err (store.Tx error.NoAccess) ended = absurd ended
@@ -45,34 +55,65 @@ module _ {R : Type 0} (p : Program (Result R StoreError)) (t u : Tx) (answer : R
   -- a scan
   pub scanned_err : (e : StoreError) → HasEnded p t u (Err e) ⊎ WantsMemory p t u (Err e) → HasCalled call t u (refusal_of e)
   scanned_err e (inl ended) = called_err e ended
-  scanned_err e (inr wants) = subst (λ (x : StoreError). HasCalled call t u (refusal_of x)) (sym (same_error {X = R} e (store.Tx error.Memory) wants.0)) (stopped stop.Memory wants.1)
+  scanned_err e (inr wants) = subst (λ (x : StoreError). HasCalled call t u (refusal_of x)) (sym (same_error {X = R} e (store.Tx error.Memory) wants.0)) (stopped p t u store_refusal answer stop.Memory wants.1)
 
-module _ {R : Type 0} (p : Program (Result R StoreError)) (t u : Tx) (before now : Device) (writes : ℕ) where
+-- a call on files
+module _ {R : Type 0} (p : Call R) (t u : Tx) (answer : R → Reply) where
+  abbrev file_call : ℕ → Array → List Access × Reply
+  file_call room A = filed answer (outcome room p A)
+
+  pub file_ok : (x : R) → Ran p t u (Ok x) → HasCalled file_call t u (Ok (answer x))
+  file_ok x ended = ended_so p t u file_refusal answer (Some (Ok x)) ended
+
+  store_err : (e : StoreError) → HasRefused p t u e → HasCalled file_call t u (refusal_of e)
+  store_err store.BadKey ended = ended_so p t u file_refusal answer (Some (Err (fs.Store store.BadKey))) ended
+  store_err store.BadValue ended = ended_so p t u file_refusal answer (Some (Err (fs.Store store.BadValue))) ended
+  store_err (store.NoBlocks need free) ended = ended_so p t u file_refusal answer (Some (Err (fs.Store (store.NoBlocks need free)))) ended
+  store_err (store.Broken block) ended = ended_so p t u file_refusal answer (Some (Err (fs.Store (store.Broken block)))) ended
+  store_err (store.Tx error.TooManyAccesses) ended = ended_so p t u file_refusal answer None ended
+  store_err (store.Tx error.Memory) ended = stopped p t u file_refusal answer stop.Memory ended.began
+  store_err (store.Tx error.Disk) ended = stopped p t u file_refusal answer stop.Disk ended.began
+  store_err (store.Tx error.Down) ended = stopped p t u file_refusal answer stop.Down ended.began
+  store_err (store.Tx error.NotInTx) ended = stopped p t u file_refusal answer stop.Down ended.began
+  store_err (store.Tx error.BadBlock) ended = absurd ended
+  store_err (store.Tx error.BadRange) ended = absurd ended
+  store_err (store.Tx error.NoAccess) ended = absurd ended
+  store_err (store.Tx error.TooManyMarks) ended = absurd ended
+  store_err store.Memory ended = stopped p t u file_refusal answer stop.Memory ended.began
+
+  pub file_err : (e : FsError) → HasRun p t u (Err e) → HasCalled file_call t u (file_refusal_of e)
+  file_err fs.BadName ended = ended_so p t u file_refusal answer (Some (Err fs.BadName)) ended
+  file_err fs.BadRange ended = ended_so p t u file_refusal answer (Some (Err fs.BadRange)) ended
+  file_err fs.Exists ended = ended_so p t u file_refusal answer (Some (Err fs.Exists)) ended
+  file_err (fs.Store e) ended = store_err e ended
+
+-- why a call that was made so has no reply, by why the store refuses
+module _ (t u : Tx) (before now : Device) (writes : ℕ) (ended : ℕ → Array → List Access × Reply) (r : Result Reply Stop) (opened : t.is_open ≡ true) (called : HasCalled ended t u r) where
   -- an answer, or want of memory
-  replies : (r : Reply) → Passed before now → Stops before now (Ok r)
-  replies r passed = record { down = λ e. absurd (cc e); disk = λ e. absurd (cc e); passed = λ other. passed }
+  replies : (said : Reply) → Passed before now → Stops before now (Ok said)
+  replies said passed = record { down = λ e. absurd (cc e); disk = λ e. absurd (cc e); passed = λ other. passed }
 
   no_memory : Passed before now → Stops before now (Err stop.Memory)
   no_memory passed = record { down = λ e. absurd (cc e); disk = λ e. absurd (cc e); passed = λ other. passed }
 
-  pub stops_err : (e : StoreError) → t.is_open ≡ true → HasEnded p t u (Err e) → IsStoreCause u writes before now e → Stops before now (refusal_of e)
-  stops_err store.BadKey opened ended cause = replies reply.BadKey cause
-  stops_err store.BadValue opened ended cause = replies reply.BadValue cause
-  stops_err (store.NoBlocks need free) opened ended cause = replies (reply.NoBlocks need free) cause
-  stops_err (store.Broken block) opened ended cause = replies (reply.Broken block) cause
-  stops_err (store.Tx error.TooManyAccesses) opened ended cause = replies reply.TooManyAccesses cause.1
-  stops_err (store.Tx error.Memory) opened ended cause = no_memory cause
-  stops_err (store.Tx error.Disk) opened ended cause = record { down = λ e. absurd (cc e); disk = λ e. cause; passed = λ other. absurd (other refl) }
-  stops_err (store.Tx error.Down) opened ended cause = record { down = λ e. cause.0; disk = λ e. absurd (cc e); passed = λ other. cause.1 }
-  stops_err (store.Tx error.NotInTx) opened ended cause = absurd (false≢true (sym cause.0 ∙ ap (λ (v : Tx). v.is_open) ended.began.is ∙ opened))
-  stops_err (store.Tx error.BadBlock) opened ended cause = absurd ended
-  stops_err (store.Tx error.BadRange) opened ended cause = absurd ended
-  stops_err (store.Tx error.NoAccess) opened ended cause = absurd ended
-  stops_err (store.Tx error.TooManyMarks) opened ended cause = absurd ended
-  stops_err store.Memory opened ended cause = no_memory cause
+  pub stops_err : (e : StoreError) → IsStoreCause u writes before now e → Stops before now (refusal_of e)
+  stops_err store.BadKey cause = replies reply.BadKey cause
+  stops_err store.BadValue cause = replies reply.BadValue cause
+  stops_err (store.NoBlocks need free) cause = replies (reply.NoBlocks need free) cause
+  stops_err (store.Broken block) cause = replies (reply.Broken block) cause
+  stops_err (store.Tx error.TooManyAccesses) cause = replies reply.TooManyAccesses cause.1
+  stops_err (store.Tx error.Memory) cause = no_memory cause
+  stops_err (store.Tx error.Disk) cause = record { down = λ e. absurd (cc e); disk = λ e. cause; passed = λ other. absurd (other refl) }
+  stops_err (store.Tx error.Down) cause = record { down = λ e. cause.0; disk = λ e. absurd (cc e); passed = λ other. cause.1 }
+  stops_err (store.Tx error.NotInTx) cause = absurd (false≢true (sym cause.0 ∙ ap (λ (v : Tx). v.is_open) called.is ∙ opened))
+  stops_err (store.Tx error.BadBlock) cause = absurd cause
+  stops_err (store.Tx error.BadRange) cause = absurd cause
+  stops_err (store.Tx error.NoAccess) cause = absurd cause
+  stops_err (store.Tx error.TooManyMarks) cause = absurd cause
+  stops_err store.Memory cause = no_memory cause
 
-  pub stops_scan : (e : StoreError) → t.is_open ≡ true → HasEnded p t u (Err e) ⊎ WantsMemory p t u (Err e) → IsStoreCause u writes before now e → Stops before now (refusal_of e)
-  stops_scan e opened (inl ended) cause = stops_err e opened ended cause
-  stops_scan e opened (inr wants) cause =
-      let is = same_error {X = R} e (store.Tx error.Memory) wants.0 in
-      subst (λ (x : StoreError). Stops before now (refusal_of x)) (sym is) (no_memory (subst (IsStoreCause u writes before now) is cause))
+  pub file_stops : (e : FsError) → IsFsCause u writes before now e → Stops before now (file_refusal_of e)
+  file_stops fs.BadName cause = replies reply.BadName cause
+  file_stops fs.BadRange cause = replies reply.BadRange cause
+  file_stops fs.Exists cause = replies reply.Exists cause
+  file_stops (fs.Store e) cause = stops_err e cause

@@ -6,7 +6,7 @@ ghost use Rattle.script_model.specs.Step.{found_reply, removed_reply};
 ghost use Rattle.store_model.specs.Stores.{outcome};
 ghost use Rattle.script_model.specs.declared.script.Reply.TheVariants as reply;
 ghost use Rattle.tx_blocks.specs.Runs.{area_of};
-ghost use Rattle.store_calls.specs.Calls.{HasCalled, Stops, replied};
+ghost use Rattle.store_calls.specs.Calls.{HasCalled, Stops, stored};
 
 use crate::calls::refusal;
 use script_model::{Reply, Stop};
@@ -24,7 +24,7 @@ pub(crate) fn put<T: TxBlocks>(
     requires is_open { (T.state tx.old).is_open ≡ true }
     requires area { IsHashArea (area_of (T.state tx.old) region) }
     requires fits { region.start + region.size ≤ (T.state tx.old).blocks }
-    ensures called { HasCalled (λ room A. replied (λ done. reply.Done) (outcome room (put_program (area_of (T.state tx.old) region) key.now value.now) A)) (T.state tx.old) (T.state tx.new) result }
+    ensures called { HasCalled (λ room A. stored (λ done. reply.Done) (outcome room (put_program (area_of (T.state tx.old) region) key.now value.now) A)) (T.state tx.old) (T.state tx.new) result }
     ensures stops { Stops (T.device tx.old) (T.device tx.new) result }
 {
     match iso_hash::put(alloc, tx, region, key, value) {
@@ -42,7 +42,7 @@ pub(crate) fn get<T: TxBlocks>(
     requires is_open { (T.state tx.old).is_open ≡ true }
     requires area { IsHashArea (area_of (T.state tx.old) region) }
     requires fits { region.start + region.size ≤ (T.state tx.old).blocks }
-    ensures called { HasCalled (λ room A. replied found_reply (outcome room (get_program (area_of (T.state tx.old) region) key.now) A)) (T.state tx.old) (T.state tx.new) result }
+    ensures called { HasCalled (λ room A. stored found_reply (outcome room (get_program (area_of (T.state tx.old) region) key.now) A)) (T.state tx.old) (T.state tx.new) result }
     ensures stops { Stops (T.device tx.old) (T.device tx.new) result }
 {
     match iso_hash::get(alloc, tx, region, key) {
@@ -61,7 +61,7 @@ pub(crate) fn delete<T: TxBlocks>(
     requires is_open { (T.state tx.old).is_open ≡ true }
     requires area { IsHashArea (area_of (T.state tx.old) region) }
     requires fits { region.start + region.size ≤ (T.state tx.old).blocks }
-    ensures called { HasCalled (λ room A. replied removed_reply (outcome room (del_program (area_of (T.state tx.old) region) key.now) A)) (T.state tx.old) (T.state tx.new) result }
+    ensures called { HasCalled (λ room A. stored removed_reply (outcome room (del_program (area_of (T.state tx.old) region) key.now) A)) (T.state tx.old) (T.state tx.new) result }
     ensures stops { Stops (T.device tx.old) (T.device tx.new) result }
 {
     match iso_hash::del(alloc, tx, region, key) {

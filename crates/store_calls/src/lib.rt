@@ -2,6 +2,7 @@
 #![tactic(auto)]
 
 mod calls;
+mod file;
 mod hash;
 mod region;
 mod tree;

@@ -7,7 +7,7 @@ ghost use Rattle.script_model.specs.Step.{found_reply, pairs_reply, removed_repl
 ghost use Rattle.store_model.specs.Stores.{outcome};
 ghost use Rattle.script_model.specs.declared.script.Reply.TheVariants as reply;
 ghost use Rattle.tx_blocks.specs.Runs.{area_of};
-ghost use Rattle.store_calls.specs.Calls.{HasCalled, Stops, replied};
+ghost use Rattle.store_calls.specs.Calls.{HasCalled, Stops, stored};
 
 use crate::calls::refusal;
 use script_model::{Reply, Stop};
@@ -25,7 +25,7 @@ pub(crate) fn put<T: TxBlocks>(
     requires is_open { (T.state tx.old).is_open ≡ true }
     requires area { IsTreeArea (area_of (T.state tx.old) region) }
     requires fits { region.start + region.size ≤ (T.state tx.old).blocks }
-    ensures called { HasCalled (λ room A. replied (λ done. reply.Done) (outcome room (put_program (area_of (T.state tx.old) region) key.now value.now) A)) (T.state tx.old) (T.state tx.new) result }
+    ensures called { HasCalled (λ room A. stored (λ done. reply.Done) (outcome room (put_program (area_of (T.state tx.old) region) key.now value.now) A)) (T.state tx.old) (T.state tx.new) result }
     ensures stops { Stops (T.device tx.old) (T.device tx.new) result }
 {
     match iso_tree::put(alloc, tx, region, key, value) {
@@ -43,7 +43,7 @@ pub(crate) fn get<T: TxBlocks>(
     requires is_open { (T.state tx.old).is_open ≡ true }
     requires area { IsTreeArea (area_of (T.state tx.old) region) }
     requires fits { region.start + region.size ≤ (T.state tx.old).blocks }
-    ensures called { HasCalled (λ room A. replied found_reply (outcome room (get_program (area_of (T.state tx.old) region) key.now) A)) (T.state tx.old) (T.state tx.new) result }
+    ensures called { HasCalled (λ room A. stored found_reply (outcome room (get_program (area_of (T.state tx.old) region) key.now) A)) (T.state tx.old) (T.state tx.new) result }
     ensures stops { Stops (T.device tx.old) (T.device tx.new) result }
 {
     match iso_tree::get(alloc, tx, region, key) {
@@ -62,7 +62,7 @@ pub(crate) fn delete<T: TxBlocks>(
     requires is_open { (T.state tx.old).is_open ≡ true }
     requires area { IsTreeArea (area_of (T.state tx.old) region) }
     requires fits { region.start + region.size ≤ (T.state tx.old).blocks }
-    ensures called { HasCalled (λ room A. replied removed_reply (outcome room (del_program (area_of (T.state tx.old) region) key.now) A)) (T.state tx.old) (T.state tx.new) result }
+    ensures called { HasCalled (λ room A. stored removed_reply (outcome room (del_program (area_of (T.state tx.old) region) key.now) A)) (T.state tx.old) (T.state tx.new) result }
     ensures stops { Stops (T.device tx.old) (T.device tx.new) result }
 {
     match iso_tree::del(alloc, tx, region, key) {
@@ -84,7 +84,7 @@ pub(crate) fn scan<T: TxBlocks>(
     requires area { IsTreeArea (area_of (T.state tx.old) region) }
     requires fits { region.start + region.size ≤ (T.state tx.old).blocks }
     requires some { (is_key from.now && is_key to.now && (most == 0)) ≡ false }
-    ensures called { HasCalled (λ room A. replied pairs_reply (outcome room (scan_program (area_of (T.state tx.old) region) from.now to.now most) A)) (T.state tx.old) (T.state tx.new) result }
+    ensures called { HasCalled (λ room A. stored pairs_reply (outcome room (scan_program (area_of (T.state tx.old) region) from.now to.now most) A)) (T.state tx.old) (T.state tx.new) result }
     ensures stops { Stops (T.device tx.old) (T.device tx.new) result }
 {
     // Then one of the two is no key.

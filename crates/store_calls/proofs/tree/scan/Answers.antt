@@ -1,6 +1,6 @@
-use Rattle.store_calls.proofs.Words.{◌≡◌, [], sym, subst, refl, ap, ◌&&◌, ◌==◌, Bool, true, false, cond, ℕ, List, Result, Err, eq-eqb, arith, Reply, Area, BadKey, Array, is_key, pairs_reply, Done, Program, outcome, Scanned, scan_below, scan_program, with_head, area_of, Stop, HasCalled, Stops, replied}
+use Rattle.store_calls.proofs.Words.{◌≡◌, [], sym, subst, refl, ap, ◌&&◌, ◌==◌, Bool, true, false, cond, ℕ, List, Result, Err, eq-eqb, arith, Reply, Area, BadKey, Array, is_key, pairs_reply, Done, Program, outcome, Scanned, scan_below, scan_program, with_head, area_of, Stop, HasCalled, Stops, stored}
 use Rattle.script_model.specs.declared.script.Reply.TheVariants as reply
-use Rattle.store_calls.proofs.Called.{no_more, scanned_err, stops_scan}
+use Rattle.store_calls.proofs.Called.{no_more, scanned_err, stops_err}
 use Rattle.store_calls.proofs.tree.scan.Goals as goal
 
 not_both : (x y z : Bool) → (x && y && z) ≡ false → z ≡ true → (x && y) ≡ false
@@ -10,11 +10,11 @@ not_both true false z e t = refl
 not_both false y z e t = refl
 
 -- a scan of which one key is none
-no_key : (a : Area) (from to : List ℕ) (most room : ℕ) (A : Array) → (is_key from && is_key to) ≡ false → replied pairs_reply (outcome room (scan_program a from to most) A) ≡ ([], reply.BadKey)
+no_key : (a : Area) (from to : List ℕ) (most room : ℕ) (A : Array) → (is_key from && is_key to) ≡ false → stored pairs_reply (outcome room (scan_program a from to most) A) ≡ ([], reply.BadKey)
 unfolding scan_program
 no_key a from to most room A bad =
     let call : Bool → Program Scanned = λ t. cond t (with_head a (scan_below a from to most)) (Done (Err BadKey)) in
-    ap (λ t. replied pairs_reply (outcome room (call t) A)) bad
+    ap (λ t. stored pairs_reply (outcome room (call t) A)) bad
 
 pub returns-then-most-eq0-clause-called : goal.returns-then-most-eq0-clause-called
 returns-then-most-eq0-clause-called g c =
@@ -32,7 +32,7 @@ returns-in-Err-clause-called g c =
     let t = g.T.TxBlocks.state c.args.tx.now in
     let u = g.T.TxBlocks.state c.scan.new.tx in
     let p = scan_program (area_of t c.args.region) c.args.from.now c.args.to.now c.args.most in
-    subst (λ (r : Result Reply Stop). HasCalled (λ room A. replied pairs_reply (outcome room p A)) t u r) (sym c.refusal.ensures) (scanned_err p t u pairs_reply c.in-Err.error c.in-Err.ensures.ended)
+    subst (λ (r : Result Reply Stop). HasCalled (λ room A. stored pairs_reply (outcome room p A)) t u r) (sym c.refusal.ensures) (scanned_err p t u pairs_reply c.in-Err.error c.in-Err.ensures.ended)
 
 pub returns-in-Err-clause-stops : goal.returns-in-Err-clause-stops
 returns-in-Err-clause-stops g c =
@@ -41,4 +41,4 @@ returns-in-Err-clause-stops g c =
     let p = scan_program (area_of t c.args.region) c.args.from.now c.args.to.now c.args.most in
     let before = g.T.TxBlocks.device c.args.tx.now in
     let now = g.T.TxBlocks.device c.scan.new.tx in
-    subst (λ (r : Result Reply Stop). Stops before now r) (sym c.refusal.ensures) (stops_scan p t u before now 1 c.in-Err.error c.requires.is_open c.in-Err.ensures.ended c.in-Err.ensures.cause)
+    subst (λ (r : Result Reply Stop). Stops before now r) (sym c.refusal.ensures) (stops_err t u before now 1 _ _ c.requires.is_open (scanned_err p t u pairs_reply c.in-Err.error c.in-Err.ensures.ended) c.in-Err.error c.in-Err.ensures.cause)
