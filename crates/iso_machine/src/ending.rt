@@ -15,7 +15,7 @@ use crate::attached::index_at_client;
 use crate::machine::Machine;
 use crate::refusing::refused;
 use conflict_rule::Checked;
-use iso_core::Core;
+use iso_core::{Core, MAX_GROUP};
 use iso_disk::Disk;
 use iso_model::{CoreError, EndReply};
 use script_model::{Reply, Stop};
@@ -66,8 +66,8 @@ fn ended(reply: EndReply) -> Reply
     }
 }
 
-/// How many transactions may leave their memory to later ones.
-const MOST_SPARE: usize = 8;
+/// How many transactions may leave their memory to later ones: as many as end in one group.
+const MOST_SPARE: usize = MAX_GROUP;
 
 /// Keeps the memory of a transaction that has left for a later one, unless there is enough.
 pub(crate) fn keep_spare(spare: &mut Vec<Box<Work>>, work: Box<Work>) {

@@ -10,6 +10,7 @@ ghost use Rattle.iso_core.specs.Planned.{reply_in};
 ghost use Rattle.iso_machine.specs.Standing.{live_of};
 
 use crate::attached::{Attached, Spot, index_under_label};
+use crate::ending::keep_spare;
 use crate::machine::Machine;
 use crate::refusing::refused;
 use iso_core::GroupEnd;
@@ -17,6 +18,7 @@ use iso_disk::Disk;
 use iso_model::{CoreError, GroupReply, Label, LabelReplies, Memory};
 use script_model::{Reply, Stop};
 use std::alloc::Global;
+use tx_table::Work;
 
 /// What was found under the labels so far. An answer stands for each label, which the group's reply takes the place of where a
 /// transaction was found.
@@ -93,6 +95,16 @@ fn put_back(alloc: Global, live: &mut Vec<Attached>, taken: Taken, labels: &[Lab
     }
 }
 
+/// Keeps the memory of members that have ended for later transactions, as far as there is memory for that.
+fn keep_works(alloc: Global, spare: &mut Vec<Box<Work>>, ends: Vec<GroupEnd>) {
+    for end in ends {
+        let Ok(work) = Box::new(alloc, end.work) else {
+            return;
+        };
+        keep_spare(spare, work);
+    }
+}
+
 fn put_member_back(
     alloc: Global,
     live: &mut Vec<Attached>,
@@ -144,7 +156,9 @@ impl<D: Disk> Machine<D> {
             }
             Err(error) => return refused(error),
         }
-        fill_answers(&mut taken.answers, &taken.ends);
-        Ok(Reply::Grouped(LabelReplies::of(taken.answers)))
+        let Taken { mut answers, ends } = taken;
+        fill_answers(&mut answers, &ends);
+        keep_works(self.alloc, &mut self.spare, ends);
+        Ok(Reply::Grouped(LabelReplies::of(answers)))
     }
 }

@@ -16,4 +16,6 @@ mod tests_operations;
 #[cfg(test)]
 mod tests_statuses;
 #[cfg(test)]
+mod tests_stops;
+#[cfg(test)]
 mod tests_stores;
