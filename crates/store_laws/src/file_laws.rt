@@ -9,13 +9,15 @@ ghost use Rattle.iso_model.specs.Premises.{block_at};
 ghost use Rattle.store_model.specs.declared.stores.Area.{Area};
 ghost use Rattle.store_model.specs.declared.files.FileAreas.{FileAreas};
 ghost use Rattle.store_model.specs.HashCalls as hash;
+ghost use Rattle.store_model.specs.TreeCalls as tree;
 ghost use Rattle.store_model.specs.HashRegion.{del_op, get_op, hash_map, put_op, IsHashArea, IsHashRegion};
 ghost use Rattle.store_model.specs.FileCalls.{create_op, create_program, read_op, read_program, remove_op, remove_program, rename_op, rename_program, write_op, write_program};
 ghost use Rattle.store_model.specs.FileRegion.{files, AreFileAreas, AreFileRegions};
 ghost use Rattle.tx_blocks.specs.Runs.{HasEnded, IsLocalCall};
 ghost use Rattle.tx_blocks.specs.Tx.{added, Tx};
 ghost use Rattle.iso_fs.specs.Ends.{HasRun};
-ghost use Rattle.store_laws.specs.Both.{firsts, AreMixed, BothByMap, BothInOrder, BothWellFormed, First, IsByBoth, IsOfBoth, Mixed, Second};
+ghost use Rattle.store_laws.specs.Both.{firsts, AreMixed, BothByMap, BothInOrder, BothWellFormed, First, IsByBoth, IsOfBoth, Mixed, Neither, Second};
+ghost use Rattle.store_laws.specs.BothStores.{IsMadeOfStores, StorePart};
 ghost use Rattle.store_laws.specs.Calls.{AreDisjoint, Del, Get, Got, KeyCall, Put, StoreAnswer, WasPut, WasThere};
 ghost use Rattle.store_laws.specs.Files.{file_act, file_store, FileAnswer, FileCall, FileMade, FileRead, FileThere, MakeFile, ReadFile, RemoveFile, RenameFile, WriteFile};
 ghost use Rattle.store_laws.specs.Growing.{IsMadeOf, IsMadeOfBoth};
@@ -74,6 +76,18 @@ pub fn calls_of_hash_and_files_answer_in_order()
     ensures read_only { (a : Area) (b : FileAreas) (g : Geometry) (H : History) (n begin : ℕ) (parts : List (Mixed KeyCall StoreAnswer FileCall FileAnswer)) → IsHashArea a → AreFileAreas b → IsByBoth (hash_store a) (file_store b) g H n
         → n ≤ begin → begin ≤ last H → AreMixed (hash_store a) (file_store b) (array_at H begin) parts → IsFalse (has_write (accesses_in (firsts parts)))
         → BothByMap (hash_store a) (file_store b) parts (array_at H begin) }
+{}
+
+/// A look-up and a scan of the tree store that has the names of the files read alone, where they answered Ok. So they stand in a
+/// transaction that calls the hash store and the file store, as other accesses (`got`, `found`); and a read of a file stands so in one
+/// that calls the hash store and the tree store (`was_read`). A call of the one that writes stands beside no call of the other.
+pub fn tree_look_ups_stand_beside_files()
+    ensures got { (a : Area) (b : FileAreas) (key : List ℕ) (A : Array) (t u : Tx) (parts : List (Mixed KeyCall StoreAnswer FileCall FileAnswer)) (r : Option (List ℕ)) → IsMadeOfBoth (hash_store a) (file_store b) A t parts
+        → HasEnded (tree.get_program b.tree key) t u (Ok r) → IsMadeOfBoth (hash_store a) (file_store b) A u (parts ++ Neither (added t u) ∷ []) }
+    ensures found { (a : Area) (b : FileAreas) (from to : List ℕ) (most : ℕ) (A : Array) (t u : Tx) (parts : List (Mixed KeyCall StoreAnswer FileCall FileAnswer)) (r : List (List ℕ × List ℕ)) → IsMadeOfBoth (hash_store a) (file_store b) A t parts
+        → HasEnded (tree.scan_program b.tree from to most) t u (Ok r) → IsMadeOfBoth (hash_store a) (file_store b) A u (parts ++ Neither (added t u) ∷ []) }
+    ensures was_read { (a : Area) (b : FileAreas) (name : List ℕ) (off len : ℕ) (A : Array) (t u : Tx) (parts : List StorePart) (r : Option (List ℕ)) → IsMadeOfStores a b.tree A t parts
+        → HasRun (read_program b name off len) t u (Ok r) → IsMadeOfStores a b.tree A u (parts ++ Neither (added t u) ∷ []) }
 {}
 
 /// A call of the file store that answered Ok wrote blocks of its areas alone, whatever the array.
