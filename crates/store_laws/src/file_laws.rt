@@ -2,6 +2,7 @@
 ghost use Rattle.std.specs.Prelude.{◌≡◌, ℕ, Bool, ◌<◌, ◌≤◌, ◌+◌, ◌-◌, IfSome, IsFalse, List, [], ◌∷◌, ◌++◌, Ok, Option, Some, map, replicate, slice_get};
 ghost use Rattle.std.specs.FinMap.{empty};
 ghost use Rattle.iso_model.specs.declared.access.Geometry.{Geometry};
+ghost use Rattle.iso_model.specs.declared.access.Mode.TheVariants.{Serial};
 ghost use Rattle.iso_model.specs.Array.{zeros, Array};
 ghost use Rattle.iso_model.specs.Effect.{has_write, own};
 ghost use Rattle.iso_model.specs.History.{array_at, last, History};
@@ -22,7 +23,9 @@ ghost use Rattle.store_laws.specs.Calls.{AreDisjoint, Del, Get, Got, KeyCall, Pu
 ghost use Rattle.store_laws.specs.Files.{file_act, file_store, FileAnswer, FileCall, FileMade, FileRead, FileThere, MakeFile, ReadFile, RemoveFile, RenameFile, WriteFile};
 ghost use Rattle.store_laws.specs.Growing.{IsMadeOf, IsMadeOfBoth};
 ghost use Rattle.store_laws.specs.Hash.{hash_store};
+ghost use Rattle.store_laws.specs.Looks.{AreLooking, LooksAnswer};
 ghost use Rattle.store_laws.specs.Parts.{accesses_in, answers_in, calls_in, AnswerInOrder, AreMade, Called, IsByCalls, IsOfCalls, Part};
+ghost use Rattle.store_laws.specs.Tree.{tree_store, TreeCall};
 ghost use Rattle.store_laws.specs.Writes.{WriteWithin};
 
 /// Where commits write the regions of a file store by `create`, `write`, `read`, `rename` and `remove` that answered Ok alone, and they
@@ -88,6 +91,21 @@ pub fn tree_look_ups_stand_beside_files()
         → HasEnded (tree.scan_program b.tree from to most) t u (Ok r) → IsMadeOfBoth (hash_store a) (file_store b) A u (parts ++ Neither (added t u) ∷ []) }
     ensures was_read { (a : Area) (b : FileAreas) (name : List ℕ) (off len : ℕ) (A : Array) (t u : Tx) (parts : List StorePart) (r : Option (List ℕ)) → IsMadeOfStores a b.tree A t parts
         → HasRun (read_program b name off len) t u (Ok r) → IsMadeOfStores a b.tree A u (parts ++ Neither (added t u) ∷ []) }
+{}
+
+/// A transaction that calls on files may look into the tree store that has their names. Its calls on files answer as one thread's, as
+/// they do without the looks (`calls`). Each look answers by the tree's map of the array directly before the commit, with what the
+/// transaction wrote before it (`looks`); in a live transaction, of the array at its begin so (`live`). Calls of a hash store are
+/// among the other accesses here.
+pub fn looks_into_the_tree_beside_files_answer()
+    ensures calls { (b : FileAreas) (g : Geometry) (H : History) (n : ℕ) → AreFileAreas b → IsByCalls (file_store b) g H n → (k : ℕ) → n < k → k ≤ last H
+        → IfSome (slice_get H.commits (k - H.first)) (λ c. (parts : List (Mixed FileCall FileAnswer TreeCall StoreAnswer)) → accesses_in (firsts parts) ≡ c.accesses → c.mode ≡ Serial
+        → AreLooking (file_store b) (tree_store b.tree) (array_at H c.begin) parts → AnswerInOrder (file_store b) (firsts parts) (array_at H (k - 1)) (array_at H k)) }
+    ensures looks { (b : FileAreas) (g : Geometry) (H : History) (n : ℕ) → AreFileAreas b → IsByCalls (file_store b) g H n → (k : ℕ) → n < k → k ≤ last H
+        → IfSome (slice_get H.commits (k - H.first)) (λ c. (parts : List (Mixed FileCall FileAnswer TreeCall StoreAnswer)) → accesses_in (firsts parts) ≡ c.accesses → c.mode ≡ Serial
+        → AreLooking (file_store b) (tree_store b.tree) (array_at H c.begin) parts → LooksAnswer (file_store b) (tree_store b.tree) (array_at H (k - 1)) parts) }
+    ensures live { (b : FileAreas) (A : Array) (parts : List (Mixed FileCall FileAnswer TreeCall StoreAnswer)) → AreFileAreas b → AreFileRegions b A
+        → AreLooking (file_store b) (tree_store b.tree) A parts → LooksAnswer (file_store b) (tree_store b.tree) A parts }
 {}
 
 /// A call of the file store that answered Ok wrote blocks of its areas alone, whatever the array.
