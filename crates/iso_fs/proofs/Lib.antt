@@ -3,6 +3,7 @@ pub mod CreateCalls
 pub mod CreateSteps
 pub mod Creates
 pub mod Ended
+mod Existing
 pub mod FileBlocks
 pub mod FileReads
 pub mod Files

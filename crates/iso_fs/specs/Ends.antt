@@ -1,5 +1,7 @@
 -- How a call of the file store ends, and what it leaves.
-use Rattle.std.specs.Prelude.{◌≡◌, ◌≢◌, ℕ, Bool, true, false, IsFalse, Result, Ok, Err, IfErr, OnOk}
+use Rattle.std.specs.Prelude.{◌≡◌, ◌≢◌, ◌↔◌, ℕ, Bool, true, false, IsFalse, IsTrue, Some, Result, Ok, Err, IfErr, OnOk}
+use Rattle.iso_model.specs.Array.{Array}
+use Rattle.iso_model.specs.Effect.{own}
 use Rattle.store_model.specs.declared.stores.StoreError.{StoreError}
 use Rattle.store_model.specs.declared.stores.StoreError.TheVariants as store
 use Rattle.store_model.specs.declared.files.FsError.{FsError}
@@ -7,6 +9,8 @@ use Rattle.store_model.specs.declared.files.FsError.TheVariants as fs
 use Rattle.store_model.specs.declared.files.FsRegion.{FsRegion}
 use Rattle.store_model.specs.declared.files.FileAreas.{FileAreas}
 use Rattle.store_model.specs.FileCalls.{Call}
+use Rattle.store_model.specs.FileRegion.{AreFileRegions, files}
+use Rattle.store_model.specs.HashRegion.{Pairs}
 use Rattle.tx_blocks.specs.Tx.{Tx, Device, IsLater}
 use Rattle.tx_blocks.specs.Runs.{area_of, Ran, Stopped, IsCut, IsStoreCause, HasRead, Passed}
 
@@ -39,6 +43,25 @@ IsFsCause u writes before now (fs.Store e) = IsStoreCause u writes before now e
 IsFsCause u writes before now fs.BadName = Passed before now
 IsFsCause u writes before now fs.BadRange = Passed before now
 IsFsCause u writes before now fs.Exists = Passed before now
+
+-- the call came to its answer: neither its transaction nor want of memory stopped it
+abbrev pub HasAnswered : {X : Type 0} → Result X FsError → Type 0
+HasAnswered (Ok x) = Unit {0}
+HasAnswered (Err fs.BadName) = Unit {0}
+HasAnswered (Err fs.BadRange) = Unit {0}
+HasAnswered (Err fs.Exists) = Unit {0}
+HasAnswered (Err (fs.Store store.BadKey)) = Unit {0}
+HasAnswered (Err (fs.Store store.BadValue)) = Unit {0}
+HasAnswered (Err (fs.Store (store.NoBlocks need free))) = Unit {0}
+HasAnswered (Err (fs.Store (store.Broken block))) = Unit {0}
+HasAnswered (Err (fs.Store (store.Tx e))) = ⊥
+HasAnswered (Err (fs.Store store.Memory)) = ⊥
+
+-- Where the array is told and its regions are well formed, a call that came to its answer answers `Exists` exactly where its files
+-- pass this test.
+abbrev pub ExistsWhere : {X : Type 0} → FileAreas → Tx → (Pairs → Bool) → Result X FsError → Type 0
+ExistsWhere a t test result =
+    (A : Array) → t.base ≡ Some A → AreFileRegions a (own A t.accesses) → HasAnswered result → (result ≡ Err fs.Exists ↔ IsTrue (test (files a (own A t.accesses))))
 
 -- Whether a refusal may come behind a write: the transaction's own may, and where a call of the tree follows a write, want of
 -- memory and a broken block may too.

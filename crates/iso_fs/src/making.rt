@@ -1,12 +1,13 @@
 // A new file.
-ghost use Rattle.std.specs.Prelude.{false, ◌≡◌, ◌↔◌, ◌+◌, ◌-◌, ◌<◌, ◌≤◌, Err, IsFalse, true, IfOk, IfErr, OnOk, OnErr, length, [], ◌∷◌, Ok, None};
+ghost use Rattle.std.specs.Prelude.{false, ◌≡◌, ◌↔◌, ◌+◌, ◌-◌, ◌<◌, ◌≤◌, Err, IsFalse, IsTrue, is_some, true, IfOk, IfErr, OnOk, OnErr, length, [], ◌∷◌, Ok, None};
+ghost use Rattle.std.specs.FinMap.{get};
 ghost use Rattle.store_model.specs.Cells.{block_with};
 ghost use Rattle.store_model.specs.FreeMap.{bit_mark, bit_place};
 ghost use Rattle.store_model.specs.HashCalls.{is_key};
 ghost use Rattle.store_model.specs.Stores.{store_access};
 ghost use Rattle.tx_blocks.specs.Tx.{with_accesses, IsLater};
 ghost use Rattle.tx_blocks.specs.Runs.{IsCause, IsLocalCall};
-ghost use Rattle.iso_fs.specs.Ends.{areas_of, FsBehaves, HasRun, IsFsCause, IsOfTx, IsUnwritten};
+ghost use Rattle.iso_fs.specs.Ends.{areas_of, ExistsWhere, FsBehaves, HasRun, IsFsCause, IsOfTx, IsUnwritten};
 ghost use Rattle.store_model.specs.FileCalls.{create_new, create_op, create_program, empty_writes, name_file};
 ghost use Rattle.store_model.specs.FileNodes.{file_block};
 ghost use Rattle.store_model.specs.FileRegion.{files, AreFileAreas, AreFileRegions};
@@ -218,6 +219,7 @@ pub fn create<T: TxBlocks>(
     ensures ended { HasRun (create_program (areas_of (T.state tx.old) at) name.now) (T.state tx.old) (T.state tx.new) result }
     ensures local { IfOk result (IsLocalCall (AreFileRegions (areas_of (T.state tx.old) at)) (files (areas_of (T.state tx.old) at)) (create_op name.now) (T.state tx.old) (T.state tx.new)) }
     ensures bad_name { result ≡ Err FsError.BadName ↔ IsFalse (is_key name.now) }
+    ensures exists { IsTrue (is_key name.now) → ExistsWhere (areas_of (T.state tx.old) at) (T.state tx.old) (λ m. is_some (get m name.now)) result }
     ensures cause { IfErr result (IsFsCause (T.state tx.new) 66 (T.device tx.old) (T.device tx.new)) }
     ensures unwritten { IfErr result (IsUnwritten false (T.state tx.old) (T.state tx.new)) }
     ensures later { IsLater (T.device tx.old) (T.device tx.new) }

@@ -1,10 +1,11 @@
 // Another name for a file.
-ghost use Rattle.std.specs.Prelude.{◌≡◌, ◌↔◌, ◌+◌, ◌≤◌, ◌&&◌, Err, IsFalse, true, IfOk, IfErr, OnOk, None};
+ghost use Rattle.std.specs.Prelude.{◌≡◌, ◌↔◌, ◌+◌, ◌≤◌, ◌&&◌, Err, IsFalse, IsTrue, is_some, true, IfOk, IfErr, OnOk, None};
+ghost use Rattle.std.specs.FinMap.{get};
 ghost use Rattle.store_model.specs.HashCalls.{is_key};
 ghost use Rattle.store_model.specs.TreeRegion.{IsTreeArea};
 ghost use Rattle.tx_blocks.specs.Tx.{IsLater};
 ghost use Rattle.tx_blocks.specs.Runs.{IsLocalCall};
-ghost use Rattle.iso_fs.specs.Ends.{areas_of, may_follow, FsBehaves, HasRun, IsFsCause, IsUnwritten};
+ghost use Rattle.iso_fs.specs.Ends.{areas_of, may_follow, ExistsWhere, FsBehaves, HasRun, IsFsCause, IsUnwritten};
 ghost use Rattle.iso_fs.specs.Finds.{drop_name};
 ghost use Rattle.store_model.specs.FileCalls.{rename_found, rename_free, rename_op, rename_program, in_tree};
 ghost use Rattle.store_model.specs.TreeCalls.{get_program};
@@ -170,6 +171,7 @@ pub fn rename<T: TxBlocks>(
     ensures ended { HasRun (rename_program (areas_of (T.state tx.old) at) old.now new.now) (T.state tx.old) (T.state tx.new) result }
     ensures local { IfOk result (IsLocalCall (AreFileRegions (areas_of (T.state tx.old) at)) (files (areas_of (T.state tx.old) at)) (rename_op old.now new.now) (T.state tx.old) (T.state tx.new)) }
     ensures bad_name { result ≡ Err FsError.BadName ↔ IsFalse (is_key old.now && is_key new.now) }
+    ensures exists { IsTrue (is_key old.now && is_key new.now) → ExistsWhere (areas_of (T.state tx.old) at) (T.state tx.old) (λ m. is_some (get m old.now) && is_some (get m new.now)) result }
     ensures cause { IfErr result (IsFsCause (T.state tx.new) 66 (T.device tx.old) (T.device tx.new)) }
     ensures unwritten { IfErr result (IsUnwritten true (T.state tx.old) (T.state tx.new)) }
     ensures later { IsLater (T.device tx.old) (T.device tx.new) }

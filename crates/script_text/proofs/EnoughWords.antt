@@ -1,5 +1,5 @@
 -- A line is cut into more words than any operation has, so the words that follow these change nothing.
-use Rattle.script_text.proofs.Words.{◌≡◌, ◌∙◌, ℕ, ◌+◌, ◌<◌, Bool, true, false, ◌&&◌, cond, if◌then◌else◌, List, [], ◌∷◌, length, nat_le, take, bytes_eq, codes, Result, Ok, Err, Op, Group, refl, ap, sym, arith, group_arguments, labels_of, MAX_LABELS, take_all, leb-false, leb-true, lt-leb, length-take-le, client_in_range, operation_of, other_operation, said, store_operation, tree_operation, ◌>>=◌, number_of, MOST_WORDS}
+use Rattle.script_text.proofs.Words.{◌≡◌, ◌∙◌, ℕ, ◌+◌, ◌<◌, Bool, true, false, ◌&&◌, cond, if◌then◌else◌, List, [], ◌∷◌, length, nat_le, take, bytes_eq, codes, Result, Ok, Err, Op, Group, refl, ap, sym, arith, group_arguments, labels_of, MAX_LABELS, take_all, leb-false, leb-true, lt-leb, length-take-le, client_in_range, operation_of, other_operation, said, store_operation, tree_operation, file_operation, ◌>>=◌, number_of, MOST_WORDS}
 use Rattle.script_model.specs.declared.script.Parsed.TheVariants.{Line as Says}
 
 -- what an operation with more than three arguments says, by what a group of so many labels says
@@ -29,6 +29,11 @@ with_many name group =
     else if bytes_eq name (codes "tget") then Err 3
     else if bytes_eq name (codes "tdel") then Err 3
     else if bytes_eq name (codes "tscan") then Err 3
+    else if bytes_eq name (codes "fnew") then Err 3
+    else if bytes_eq name (codes "fwrite") then Err 3
+    else if bytes_eq name (codes "fread") then Err 3
+    else if bytes_eq name (codes "fmove") then Err 3
+    else if bytes_eq name (codes "fdel") then Err 3
     else Err 2
 
 -- more labels than a group may have are too many, whatever they are
@@ -43,7 +48,7 @@ too_many words many =
 -- an operation with more arguments than a group may have labels has too many, however many they are
 operation_of-many : (name a b c d : List ℕ) (more others : List (List ℕ)) → MAX_LABELS < 4 + length more → MAX_LABELS < 4 + length others
     → operation_of name (a ∷ b ∷ c ∷ d ∷ more) ≡ operation_of name (a ∷ b ∷ c ∷ d ∷ others)
-unfolding operation_of other_operation store_operation tree_operation
+unfolding operation_of other_operation store_operation tree_operation file_operation
 operation_of-many name a b c d more others first second =
     ap (with_many name) (too_many (a ∷ b ∷ c ∷ d ∷ more) (lt-leb (length (a ∷ b ∷ c ∷ d ∷ more)) MAX_LABELS (omega (arith, first)))
     ∙ sym (too_many (a ∷ b ∷ c ∷ d ∷ others) (lt-leb (length (a ∷ b ∷ c ∷ d ∷ others)) MAX_LABELS (omega (arith, second)))))

@@ -1,5 +1,5 @@
 -- A printed line is read as that line, and as no other.
-use Rattle.script_text.proofs.Words.{◌≡◌, ◌∙◌, ap, sym, refl, bytes_eq, codes, ◌==◌, ◌&&◌, ◌/◌, ◌%◌, true, false, ℕ, ◌≤◌, ◌<◌, ◌^◌, IsTrue, List, [], ◌∷◌, length, Some, None, Result, Ok, Err, decimal, arith, Serial, Snapshot, MAX_LINE, Line, Op, Begin, End, Abort, Put, Read, Get, Write, Fill, Mark, Release, Takeover, Await, Group, Trim, Stat, Compact, Upgrade, HashPut, HashGet, HashDelete, TreePut, TreeGet, TreeDelete, TreeScan, ◌>>=◌, client_in_range, group_arguments, key_and_value, labels_of, AllByRecursion, MAX_LABELS, le-leb, number_argument, number_and_bytes, one_key, one_label, one_number, operation_of, other_operation, store_argument, store_operation, tree_operation, parse, put_arguments, said, scan_arguments, three_numbers, two_numbers, dashed, digit_of, hex_text, number_of, words_of, is_label, AreBytes, arguments_of, line_text, line_words, name_of, spaced, AreSome, IsLine, IsSayable}
+use Rattle.script_text.proofs.Words.{◌≡◌, ◌∙◌, ap, sym, refl, bytes_eq, codes, ◌==◌, ◌&&◌, ◌/◌, ◌%◌, true, false, ℕ, ◌≤◌, ◌<◌, ◌^◌, IsTrue, List, [], ◌∷◌, length, Some, None, Result, Ok, Err, decimal, arith, Serial, Snapshot, MAX_LINE, Line, Op, Begin, End, Abort, Put, Read, Get, Write, Fill, Mark, Release, Takeover, Await, Group, Trim, Stat, Compact, Upgrade, HashPut, HashGet, HashDelete, TreePut, TreeGet, TreeDelete, TreeScan, FileNew, FileWrite, FileRead, FileMove, FileDelete, ◌>>=◌, client_in_range, group_arguments, key_and_value, labels_of, AllByRecursion, MAX_LABELS, le-leb, number_argument, number_and_bytes, one_key, one_label, one_number, operation_of, other_operation, store_argument, store_operation, tree_operation, file_operation, parse, put_arguments, read_arguments, write_arguments, said, scan_arguments, three_numbers, two_numbers, dashed, digit_of, hex_text, number_of, words_of, is_label, AreBytes, arguments_of, line_text, line_words, name_of, spaced, AreSome, IsLine, IsSayable}
 use Rattle.script_model.specs.declared.script.Parsed.TheVariants.{Line as Says}
 use Rattle.script_text.proofs.LineLemmas.{parse-said}
 use Rattle.script_text.proofs.Numerals.{IsWord, decimal_digits, decimal_word, hex_argument-printed, hex_word, label_argument-printed, label_word, number_of-printed}
@@ -30,6 +30,11 @@ name_word (TreePut key value) = record { some = omega arith; bytes = refl }
 name_word (TreeGet key) = record { some = omega arith; bytes = refl }
 name_word (TreeDelete key) = record { some = omega arith; bytes = refl }
 name_word (TreeScan from to most) = record { some = omega arith; bytes = refl }
+name_word (FileNew name) = record { some = omega arith; bytes = refl }
+name_word (FileWrite name off bytes) = record { some = omega arith; bytes = refl }
+name_word (FileRead name off len) = record { some = omega arith; bytes = refl }
+name_word (FileMove from to) = record { some = omega arith; bytes = refl }
+name_word (FileDelete name) = record { some = omega arith; bytes = refl }
 
 dashed_word : (bytes : List ℕ) → AreBytes bytes → IsWord (dashed bytes)
 dashed_word [] are = record { some = omega arith; bytes = refl }
@@ -66,6 +71,11 @@ arguments_words (TreePut key value) can = (dashed_word key can.0, (dashed_word v
 arguments_words (TreeGet key) can = (dashed_word key can, tt)
 arguments_words (TreeDelete key) can = (dashed_word key can, tt)
 arguments_words (TreeScan from to most) can = (dashed_word from can.0, (dashed_word to can.1, (decimal_word most can.2, tt)))
+arguments_words (FileNew name) can = (dashed_word name can, tt)
+arguments_words (FileWrite name off bytes) can = (dashed_word name can.0, (decimal_word off can.1, (hex_word bytes can.2, tt)))
+arguments_words (FileRead name off len) can = (dashed_word name can.0, (decimal_word off can.1, (decimal_word len can.2, tt)))
+arguments_words (FileMove from to) can = (dashed_word from can.0, (dashed_word to can.1, tt))
+arguments_words (FileDelete name) can = (dashed_word name can, tt)
 
 line_are_words : (line : Line) → IsLine line → AreWords (line_words line)
 line_are_words line is = (decimal_word line.client (omega (arith, is.last)), (name_word line.op, arguments_words line.op is.op))
@@ -125,8 +135,17 @@ scan_printed : (from to : List ℕ) (most : ℕ) → AreBytes from → AreBytes 
 scan_printed from to most first second small =
     after _ _ from (stored_printed from first) ∙ after _ _ to (stored_printed to second) ∙ after _ _ most (number_printed most small)
 
+file_written_printed : (name : List ℕ) (off : ℕ) (bytes : List ℕ) → AreBytes name → off < 2 ^ 32 → AreSome bytes
+    → write_arguments (dashed name ∷ decimal off ∷ hex_text bytes ∷ []) ≡ Ok (FileWrite name off bytes)
+file_written_printed name off bytes first small are =
+    after _ _ name (stored_printed name first) ∙ after _ _ off (number_printed off small) ∙ after _ _ bytes (hex_argument-printed bytes are)
+
+file_read_printed : (name : List ℕ) (off len : ℕ) → AreBytes name → off < 2 ^ 32 → len < 2 ^ 32 → read_arguments (dashed name ∷ decimal off ∷ decimal len ∷ []) ≡ Ok (FileRead name off len)
+file_read_printed name off len first small short =
+    after _ _ name (stored_printed name first) ∙ after _ _ off (number_printed off small) ∙ after _ _ len (number_printed len short)
+
 pub operation_of-printed : (op : Op) → IsSayable op → operation_of (name_of op) (arguments_of op) ≡ Ok op
-unfolding operation_of other_operation store_operation tree_operation
+unfolding operation_of other_operation store_operation tree_operation file_operation
 operation_of-printed (Begin None) can = refl
 operation_of-printed (Begin (Some Serial)) can = refl
 operation_of-printed (Begin (Some Snapshot)) can = refl
@@ -153,6 +172,11 @@ operation_of-printed (TreePut key value) can = value_printed TreePut key value c
 operation_of-printed (TreeGet key) can = key_printed TreeGet key can
 operation_of-printed (TreeDelete key) can = key_printed TreeDelete key can
 operation_of-printed (TreeScan from to most) can = scan_printed from to most can.0 can.1 can.2
+operation_of-printed (FileNew name) can = key_printed FileNew name can
+operation_of-printed (FileWrite name off bytes) can = file_written_printed name off bytes can.0 can.1 can.2
+operation_of-printed (FileRead name off len) can = file_read_printed name off len can.0 can.1 can.2
+operation_of-printed (FileMove from to) can = value_printed FileMove from to can.0 can.1
+operation_of-printed (FileDelete name) can = key_printed FileDelete name can
 
 client_fits : (c : ℕ) → 1 ≤ c → c ≤ 64 → client_in_range (Some c) ≡ Ok c
 client_fits c first last = grind arith

@@ -23,13 +23,13 @@ pub use Rattle.iso_model.specs.Labels.{is_digit, is_label, is_label_byte}
 pub use Rattle.iso_model.specs.Premises.{AreBytes}
 pub use Rattle.iso_model.specs.declared.access.Mode.TheVariants.{Serial, Snapshot}
 pub use Rattle.iso_model.specs.declared.limits.TheConstants.{MAX_LINE}
-pub use Rattle.script_model.specs.Script.{client_in_range, group_arguments, hex_argument, is_printable, is_skipped, key_and_value, label_argument, labels_of, number_and_bytes, number_argument, one_key, one_label, one_number, put_arguments, scan_arguments, store_argument, three_numbers, two_numbers, without_return, ◌>>=◌}
-unfoldable pub use Rattle.script_model.specs.Script.{operation_of, other_operation, parse, said, store_operation, tree_operation}
+pub use Rattle.script_model.specs.Script.{client_in_range, group_arguments, hex_argument, is_printable, is_skipped, key_and_value, label_argument, labels_of, number_and_bytes, number_argument, one_key, one_label, one_number, put_arguments, read_arguments, scan_arguments, store_argument, three_numbers, two_numbers, without_return, write_arguments, ◌>>=◌}
+unfoldable pub use Rattle.script_model.specs.Script.{file_operation, operation_of, other_operation, parse, said, store_operation, tree_operation}
 pub use Rattle.script_model.specs.Text.{before_piece, dashed, digit_of, hex_digit, hex_pair, hex_pairs, hex_text, is_decimal, is_empty, pair_text, pieces, value_of}
 unfoldable pub use Rattle.script_model.specs.Text.{hex_of, label_text, number_of, reply_text, words_of}
 pub use Rattle.script_model.specs.declared.script.Line.{Line}
 pub use Rattle.script_model.specs.declared.script.Op.{Op}
-pub use Rattle.script_model.specs.declared.script.Op.TheVariants.{Abort, Await, Begin, Compact, End, Fill, Get, Group, HashDelete, HashGet, HashPut, Mark, Put, Read, Release, Stat, Takeover, TreeDelete, TreeGet, TreePut, TreeScan, Trim, Upgrade, Write}
+pub use Rattle.script_model.specs.declared.script.Op.TheVariants.{Abort, Await, Begin, Compact, End, FileDelete, FileMove, FileNew, FileRead, FileWrite, Fill, Get, Group, HashDelete, HashGet, HashPut, Mark, Put, Read, Release, Stat, Takeover, TreeDelete, TreeGet, TreePut, TreeScan, Trim, Upgrade, Write}
 pub use Rattle.script_model.specs.declared.script.Parsed.{Parsed}
 pub use Rattle.script_model.specs.declared.script.Reply.{Reply}
 pub use Rattle.script_model.specs.declared.script.Reply.TheVariants.{Found, Shown}

@@ -4,7 +4,7 @@ use Rattle.iso_model.specs.declared.access.Mode.{Mode}
 use Rattle.iso_model.specs.declared.access.Mode.TheVariants.{Serial, Snapshot}
 use Rattle.script_model.specs.declared.script.Line.{Line}
 use Rattle.script_model.specs.declared.script.Op.{Op}
-use Rattle.script_model.specs.declared.script.Op.TheVariants.{Begin, End, Abort, Put, Read, Get, Write, Fill, Mark, Release, Takeover, Await, Group, Trim, Stat, Compact, Upgrade, HashPut, HashGet, HashDelete, TreePut, TreeGet, TreeDelete, TreeScan}
+use Rattle.script_model.specs.declared.script.Op.TheVariants.{Begin, End, Abort, Put, Read, Get, Write, Fill, Mark, Release, Takeover, Await, Group, Trim, Stat, Compact, Upgrade, HashPut, HashGet, HashDelete, TreePut, TreeGet, TreeDelete, TreeScan, FileNew, FileWrite, FileRead, FileMove, FileDelete}
 use Rattle.std.specs.List.{AllByRecursion}
 use Rattle.script_model.specs.declared.script.TheConstants.{MAX_LABELS}
 use Rattle.iso_model.specs.Premises.{AreBytes}
@@ -37,12 +37,17 @@ name_of (TreePut key value) = codes "tput"
 name_of (TreeGet key) = codes "tget"
 name_of (TreeDelete key) = codes "tdel"
 name_of (TreeScan from to most) = codes "tscan"
+name_of (FileNew name) = codes "fnew"
+name_of (FileWrite name off bytes) = codes "fwrite"
+name_of (FileRead name off len) = codes "fread"
+name_of (FileMove from to) = codes "fmove"
+name_of (FileDelete name) = codes "fdel"
 
 abbrev pub mode_word : Mode → List ℕ
 mode_word Serial = codes "serial"
 mode_word Snapshot = codes "snapshot"
 
--- the words behind the name: numbers in decimal, bytes in hexadecimal in lower case, a dash for no key or value
+-- the words behind the name: numbers in decimal, bytes in hexadecimal in lower case, a dash for no key, value or name
 abbrev pub arguments_of : Op → List (List ℕ)
 arguments_of (Begin None) = []
 arguments_of (Begin (Some mode)) = mode_word mode ∷ []
@@ -63,6 +68,11 @@ arguments_of (TreePut key value) = dashed key ∷ dashed value ∷ []
 arguments_of (TreeGet key) = dashed key ∷ []
 arguments_of (TreeDelete key) = dashed key ∷ []
 arguments_of (TreeScan from to most) = dashed from ∷ dashed to ∷ decimal most ∷ []
+arguments_of (FileNew name) = dashed name ∷ []
+arguments_of (FileWrite name off bytes) = dashed name ∷ decimal off ∷ hex_text bytes ∷ []
+arguments_of (FileRead name off len) = dashed name ∷ decimal off ∷ decimal len ∷ []
+arguments_of (FileMove from to) = dashed from ∷ dashed to ∷ []
+arguments_of (FileDelete name) = dashed name ∷ []
 arguments_of op = []
 
 -- words with one space between two of them
@@ -104,6 +114,11 @@ IsSayable (TreePut key value) = AreBytes key × AreBytes value
 IsSayable (TreeGet key) = AreBytes key
 IsSayable (TreeDelete key) = AreBytes key
 IsSayable (TreeScan from to most) = AreBytes from × AreBytes to × (most < 2 ^ 32)
+IsSayable (FileNew name) = AreBytes name
+IsSayable (FileWrite name off bytes) = AreBytes name × (off < 2 ^ 32) × AreSome bytes
+IsSayable (FileRead name off len) = AreBytes name × (off < 2 ^ 32) × (len < 2 ^ 32)
+IsSayable (FileMove from to) = AreBytes from × AreBytes to
+IsSayable (FileDelete name) = AreBytes name
 IsSayable op = Unit {0}
 
 -- a line that can be said

@@ -3,6 +3,7 @@
 
 mod argument;
 mod ending;
+mod files;
 mod generator;
 mod grouped;
 mod hex_digits;

@@ -6,6 +6,7 @@ ghost use Rattle.script_text.specs.Parsing.{Gives, said_by};
 ghost use Rattle.script_text.specs.Words.{texts};
 
 use crate::argument::{hex, label, labels, mode, number, stored};
+use crate::files::file_operation;
 use script_model::{Line, LineError, MAX_LABELS, Op, Parsed};
 use std::alloc::Global;
 
@@ -127,7 +128,7 @@ fn tree_operation(
     if name == b"tscan".as_slice() {
         return tree_scan(alloc, client, arguments);
     }
-    Err(LineError::Cause(2))
+    file_operation(alloc, client, name, arguments)
 }
 
 /// An operation that has no arguments.

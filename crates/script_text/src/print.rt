@@ -89,6 +89,23 @@ fn push_operation(out: &mut Vec<u8>, op: &Op) -> Result<(), Memory>
             push_dashed(out, b" ", to.as_slice())?;
             push_numbered(out, b" ", *most)
         }
+        Op::FileNew { name } => push_dashed(out, b"fnew ", name.as_slice()),
+        Op::FileWrite { name, off, bytes } => {
+            push_dashed(out, b"fwrite ", name.as_slice())?;
+            push_numbered(out, b" ", *off)?;
+            push_bytes(out, b" ")?;
+            push_hex(out, bytes.as_slice())
+        }
+        Op::FileRead { name, off, len } => {
+            push_dashed(out, b"fread ", name.as_slice())?;
+            push_numbered(out, b" ", *off)?;
+            push_numbered(out, b" ", *len)
+        }
+        Op::FileMove { from, to } => {
+            push_dashed(out, b"fmove ", from.as_slice())?;
+            push_dashed(out, b" ", to.as_slice())
+        }
+        Op::FileDelete { name } => push_dashed(out, b"fdel ", name.as_slice()),
     }
 }
 

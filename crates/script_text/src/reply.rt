@@ -161,6 +161,8 @@ fn put_text(line: &mut Ending, reply: &Reply)
         Reply::StoreMode => line.put(b"store-mode"),
         Reply::BadKey => line.put(b"bad-key"),
         Reply::BadValue => line.put(b"bad-value"),
+        Reply::BadName => line.put(b"bad-name"),
+        Reply::Exists => line.put(b"exists"),
         Reply::BadBlock => line.put(b"bad-block"),
         Reply::BadRange => line.put(b"bad-range"),
         Reply::NoAccess => line.put(b"no-access"),
@@ -186,7 +188,7 @@ fn put_text(line: &mut Ending, reply: &Reply)
     }
 }
 
-/// Puts what a look-up of a store has found before the text.
+/// Puts what a look-up of a store or a read of a file has found before the text.
 fn put_found(line: &mut Ending, value: &[u8])
     requires room { 131 ≤ line.old.room }
     requires few { length value.now ≤ MOST_SHOWN }

@@ -40,7 +40,7 @@ fn the_first_test_that_a_line_fails(rt: HostRuntime) {
 
 #[test]
 fn the_first_argument_that_is_wrong(rt: HostRuntime) {
-    let lines: [(&[u8], u8); 17] = [
+    let lines: [(&[u8], u8); 27] = [
         (b"1 begin x", 10),
         (b"1 begin serial x", 3),
         (b"1 begin Serial", 10),
@@ -58,6 +58,16 @@ fn the_first_argument_that_is_wrong(rt: HostRuntime) {
         (b"1 group A b c d e f g h i j k l m n o p q r", 3),
         (b"1 trim 1", 3),
         (b"1 upgrade 1", 3),
+        (b"1 fnew", 3),
+        (b"1 fnew 6", 5),
+        (b"1 fwrite 61 0", 3),
+        (b"1 fwrite 6 x aa", 5),
+        (b"1 fwrite 61 x a", 4),
+        (b"1 fwrite 61 0 -", 5),
+        (b"1 fread 61 0", 3),
+        (b"1 fread 61 0 4294967296", 4),
+        (b"1 fmove 61", 3),
+        (b"1 fdel 61 62", 3),
     ];
     for (line, wanted) in lines.iter() {
         assert_eq!(rt; cause(rt.alloc(), line), Some(*wanted));
@@ -246,7 +256,8 @@ fn the_line_of_each_reply(rt: HostRuntime) -> Result<(), Fail> {
         block: 16383,
         at: 4095,
     };
-    let replies: [(Reply, &[u8]); 23] = [
+    let empty = Bytes::empty(alloc);
+    let replies: [(Reply, &[u8]); 26] = [
         (Reply::Done, b"1 ok\n"),
         (Reply::Began(0), b"1 ok begin 0\n"),
         (Reply::Shown(shown), b"1 ok 00abff\n"),
@@ -262,6 +273,9 @@ fn the_line_of_each_reply(rt: HostRuntime) -> Result<(), Fail> {
         (Reply::InTx, b"1 in-tx\n"),
         (Reply::NotInTx, b"1 not-in-tx\n"),
         (Reply::ModeFixed, b"1 mode-fixed\n"),
+        (Reply::BadName, b"1 bad-name\n"),
+        (Reply::Exists, b"1 exists\n"),
+        (Reply::Found(empty), b"1 ok -\n"),
         (Reply::BadBlock, b"1 bad-block\n"),
         (Reply::BadRange, b"1 bad-range\n"),
         (Reply::NoAccess, b"1 no-access\n"),
@@ -396,11 +410,17 @@ fn the_first_rounds_of_seed_0(rt: HostRuntime) {
 }
 
 #[test]
-fn a_group_is_printed_as_it_is_read(rt: HostRuntime) {
+fn groups_and_calls_on_files_are_printed_as_they_are_read(rt: HostRuntime) {
     let alloc = rt.alloc();
     for line in [
         b"9 group a".as_slice(),
         b"9 group a b1 a 0123456789abcdef z",
+        b"9 fnew 61",
+        b"9 fnew -",
+        b"9 fwrite 6162 4294967295 00ff",
+        b"9 fread 61 0 4096",
+        b"9 fmove 61 62",
+        b"9 fdel 61",
     ] {
         match op_in(alloc, line) {
             Some(op) => assert!(rt; prints(alloc, op, line)),

@@ -3,6 +3,7 @@ use Rattle.store_model.specs.declared.files.FileAreas.{FileAreas}
 use Rattle.store_model.specs.FileCalls.{create_program}
 use Rattle.iso_fs.specs.Ends.{HasRun, areas_of}
 use Rattle.iso_fs.proofs.Ended.{no_memory}
+use Rattle.iso_fs.proofs.Existing.{create_exists}
 use Rattle.iso_fs.proofs.CreateSteps.{bad_name, create_call, create_has}
 use Rattle.iso_fs.proofs.making.create.Goals as goal
 
@@ -21,4 +22,23 @@ pub returns-clause-local : goal.returns-clause-local
 returns-clause-local g c =
     let state = g.T.TxBlocks.state in
     create_call (state c.args.tx.now) (state c.create_with.new.tx) c.args.at c.args.name.now c.create_with.result (g.met.T.TxBlocks.limits c.args.tx.now) c.requires.areas c.requires.fits (sym c.is_key.ensures ∙ c.if-not-is_key.false)
+    (subst (λ (a : FileAreas). HasRun (create_program a c.args.name.now) (state c.args.tx.now) (state c.create_with.new.tx) c.create_with.result) c.areas_of-a.ensures c.create_with.ensures.run)
+
+pub returns-then-not-is_key-clause-exists : goal.returns-then-not-is_key-clause-exists
+returns-then-not-is_key-clause-exists g c = λ key.
+    let state = g.T.TxBlocks.state in
+    let a = areas_of (state c.args.tx.now) c.args.at in
+    create_exists a c.args.name.now (state c.args.tx.now) (state c.args.tx.now) _ key (bad_name a c.args.name.now (state c.args.tx.now) (sym c.is_key.ensures ∙ c.if-not-is_key.true))
+
+pub returns-in-Err-clause-exists : goal.returns-in-Err-clause-exists
+returns-in-Err-clause-exists g c = λ key.
+    let state = g.T.TxBlocks.state in
+    let a = areas_of (state c.args.tx.now) c.args.at in
+    create_exists a c.args.name.now (state c.args.tx.now) (state c.args.tx.now) _ key
+    (no_memory (create_program a c.args.name.now) (state c.args.tx.now) c.in-Err.e c.in-Err.ensures.memory (create_has a c.args.name.now (sym c.is_key.ensures ∙ c.if-not-is_key.false)))
+
+pub returns-clause-exists : goal.returns-clause-exists
+returns-clause-exists g c = λ key.
+    let state = g.T.TxBlocks.state in
+    create_exists (areas_of (state c.args.tx.now) c.args.at) c.args.name.now (state c.args.tx.now) (state c.create_with.new.tx) c.create_with.result key
     (subst (λ (a : FileAreas). HasRun (create_program a c.args.name.now) (state c.args.tx.now) (state c.create_with.new.tx) c.create_with.result) c.areas_of-a.ensures c.create_with.ensures.run)

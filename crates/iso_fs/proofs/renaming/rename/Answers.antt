@@ -1,8 +1,9 @@
-use Rattle.std.proofs.Common.{◌≡◌, ◌∙◌, ◌&&◌, sym, subst, false}
+use Rattle.std.proofs.Common.{◌≡◌, ◌∙◌, ◌&&◌, sym, subst, true, false}
 use Rattle.store_model.specs.declared.files.FileAreas.{FileAreas}
 use Rattle.store_model.specs.HashCalls.{is_key}
 use Rattle.store_model.specs.FileCalls.{rename_program}
 use Rattle.iso_fs.specs.Ends.{HasRun, areas_of}
+use Rattle.iso_fs.proofs.Existing.{rename_exists}
 use Rattle.iso_fs.proofs.RenameSteps.{old_bad, new_bad, rename_bad, rename_call}
 use Rattle.iso_fs.proofs.renaming.rename.Goals as goal
 use Rattle.iso_fs.proofs.renaming.rename.Goals.{then-not-is_key-via-then-not-is_key, then-not-is_key-via-else-not-is_key+then-not-is_key-2}
@@ -21,4 +22,18 @@ returns-clause-local g c =
     let state = g.T.TxBlocks.state in
     rename_call (state c.args.tx.now) (state c.rename_in.new.tx) c.args.at c.args.old.now c.args.new.now c.rename_in.result (g.met.T.TxBlocks.limits c.args.tx.now) c.requires.areas c.requires.fits (sym c.is_key.ensures ∙ c.if-not-is_key.false)
     (sym c.is_key-else-not-is_key.ensures ∙ c.if-not-is_key-2.false)
+    (subst (λ (a : FileAreas). HasRun (rename_program a c.args.old.now c.args.new.now) (state c.args.tx.now) (state c.rename_in.new.tx) c.rename_in.result) c.areas_of-a.ensures c.rename_in.ensures.run)
+
+pub returns-then-not-is_key-clause-exists : goal.returns-then-not-is_key-clause-exists
+returns-then-not-is_key-clause-exists g c = λ keys.
+    let bad : (is_key c.args.old.now && is_key c.args.new.now) ≡ false = elim c.then-not-is_key.branch [
+      | then-not-is_key-via-then-not-is_key w ↦ old_bad c.args.old.now c.args.new.now (sym c.is_key.ensures ∙ w.if-not-is_key.true)
+      | then-not-is_key-via-else-not-is_key+then-not-is_key-2 w ↦ new_bad c.args.old.now c.args.new.now (sym w.is_key-else-not-is_key.ensures ∙ w.if-not-is_key-2.true)
+    ] in
+    absurd (let same : true ≡ false = sym keys ∙ bad in cc)
+
+pub returns-clause-exists : goal.returns-clause-exists
+returns-clause-exists g c = λ keys.
+    let state = g.T.TxBlocks.state in
+    rename_exists (areas_of (state c.args.tx.now) c.args.at) c.args.old.now c.args.new.now (state c.args.tx.now) (state c.rename_in.new.tx) c.rename_in.result keys
     (subst (λ (a : FileAreas). HasRun (rename_program a c.args.old.now c.args.new.now) (state c.args.tx.now) (state c.rename_in.new.tx) c.rename_in.result) c.areas_of-a.ensures c.rename_in.ensures.run)
