@@ -72,8 +72,8 @@ pub use Rattle.script_runner.specs.Run.{Acknowledges, AreFirst, AreLinesOf, HasR
 pub use Rattle.script_runner.specs.Told.{ArePlain, IsPlain}
 pub use Rattle.script_runner.specs.declared.run_end.RunEnd.{RunEnd}
 pub use Rattle.sha2.specs.Sha256.{sha256}
-pub use Rattle.store_entries.proofs.Listed.{stores_answer_at}
-pub use Rattle.store_scripts.proofs.Whole.{stores_answer}
+pub use Rattle.store_entries.proofs.Listed.{files_answer_at, stores_answer_at}
+pub use Rattle.store_scripts.proofs.Whole.{files_answer, stores_answer}
 pub use Rattle.whole_script.specs.Read.{HasNoLines, HasRead}
 pub use Rattle.whole_script.specs.declared.lines.ScriptError.{ScriptError}
 pub use Rattle.iso_top.specs.Begun.{HasCore, HasNoCore}

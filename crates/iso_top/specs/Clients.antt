@@ -17,7 +17,7 @@ use Rattle.par_lines.specs.Ends.{status_of}
 use Rattle.par_script.specs.Told.{Told}
 use Rattle.par_text.specs.declared.part.Part.{Part}
 use Rattle.par_text.specs.Output.{IsFront, IsOutput}
-use Rattle.store_entries.specs.InOrder.{StoresAnswerAt}
+use Rattle.store_entries.specs.InOrder.{FilesAnswerAt, StoresAnswerAt}
 use Rattle.whole_script.specs.declared.lines.ScriptError.{ScriptError}
 use Rattle.whole_script.specs.Read.{HasNoLines, HasRead}
 use Rattle.iso_top.specs.Prints.{Printed, WasCut, WroteWhole}
@@ -78,8 +78,10 @@ pub record HasRunClients {D : Type 0} (state : D → DiskState) (name : List ℕ
   pub ran : WereRun (start_at world (state start)) lines entries status output_old output_new
   -- the order theorem: each commit of the list's history is serial or snapshot at its number, by its mode
   pub isolated : IsIsolatedAt (start_at world (state start)) entries
-  -- the store theorem of the list: where the stores begin well formed and each commit is by their calls, these answer in order
+  -- the store theorem of the list: where the stores begin well formed and each commit is by their calls, these answer in order; of
+  -- the hash store and the tree store, and of the hash store and the files
   pub stores : StoresAnswerAt (start_at world (state start)) entries
+  pub files : FilesAnswerAt (start_at world (state start)) entries
   -- the crash theorem: each image that a crash leaves once the threads have returned shows the history that the list leads to; and
   -- each that a crash might have left since the bind, also while the threads ran, shows it at a commit from the last one of the
   -- image as given on

@@ -25,7 +25,7 @@ use Rattle.iso_model.specs.Between.{ShowsBetween}
 use Rattle.script_runner.specs.Replies.{text_of}
 use Rattle.script_runner.specs.Run.{HasRun}
 use Rattle.sha2.specs.Sha256.{sha256}
-use Rattle.store_scripts.specs.InOrder.{StoresAnswer}
+use Rattle.store_scripts.specs.InOrder.{FilesAnswer, StoresAnswer}
 use Rattle.whole_script.specs.declared.lines.ScriptError.{ScriptError}
 use Rattle.iso_top.specs.Clients.{HasRunClients, HasRunNone}
 use Rattle.iso_top.specs.Prints.{Printed, WasCut, WroteWhole}
@@ -74,8 +74,9 @@ pub record HasAnswered {D : Type 0} (state : D → DiskState) (made : Option Geo
   pub replied : SinkState
   pub run : HasRun (λ V. Unit {0}) (state start) (state disk_new) input_old input_new output_old replied world end
   pub begun : HasBegun made name (state disk_old) (state start) (state disk_new) world run.answered.final
-  -- the store theorem of all lines
+  -- the store theorem of all lines, of the hash store and the tree store, and of the hash store and the files
   pub stores : StoresAnswer world (run.done ++ run.next)
+  pub files : FilesAnswer world (run.done ++ run.next)
   pub last : PrintedEnd end replied output_new
 
 -- A result was put whole, or, only where the sink failed, a front of it: it is this text, where the disk told what the name names.
