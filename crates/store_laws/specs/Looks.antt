@@ -1,5 +1,5 @@
 -- Transactions that call a store, and look into another one whose region is in the first one's.
-use Rattle.std.specs.Prelude.{◌≡◌, List, [], ◌∷◌}
+use Rattle.std.specs.Prelude.{◌≡◌, [], ◌∷◌}
 use Rattle.iso_model.specs.Array.{Array}
 use Rattle.iso_model.specs.Effect.{own}
 use Rattle.store_model.specs.Stores.{AreReads, IsLocal}
