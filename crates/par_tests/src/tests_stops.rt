@@ -117,12 +117,28 @@ fn opens_to_a_front(
     Ok(false)
 }
 
-/// Whether each image that a crash then leaves opens to a front of what was made, with all that was told: what was written since
-/// the last sync is gone, or stands, or is torn in one of three ways.
+/// Where the gates of a small image are: those of its two halves, and those of records with one byte in each of their logs.
+const GATES: [usize; 12] = [64, 608, 352, 381, 410, 439, 468, 896, 925, 954, 983, 1012];
+
+/// Whether a gate is open that was not.
+fn opens_a_gate(before: &[u8], image: &[u8]) -> bool {
+    for place in GATES {
+        if before.get(place) != Some(&1) && image.get(place) == Some(&1) {
+            return true;
+        }
+    }
+    false
+}
+
+/// Whether each of these images opens to a front of what was made, with all that was told: what was written since the last sync is
+/// gone, or stands, or is torn in one of three ways, or is torn so that a gate among it stands open.
 fn is_survived(alloc: Global, case: &Case, outcome: &Outcome) -> Result<bool, Fail> {
     let told = case.told_by(&outcome.output);
-    for pick in 0..5 {
-        if !opens_to_a_front(alloc, case, outcome.disk.crash(alloc, pick)?, told)? {
+    let before = outcome.disk.crash(alloc, 0)?;
+    for pick in 0..400 {
+        let image = outcome.disk.crash(alloc, pick)?;
+        let counts = pick < 5 || opens_a_gate(&before, &image);
+        if counts && !opens_to_a_front(alloc, case, image, told)? {
             return Ok(false);
         }
     }
