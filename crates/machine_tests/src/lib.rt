@@ -4,6 +4,8 @@
 #[cfg(test)]
 mod digest_tests;
 #[cfg(test)]
+mod file_tests;
+#[cfg(test)]
 mod handle_tests;
 #[cfg(test)]
 mod limit_tests;

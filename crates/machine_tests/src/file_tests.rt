@@ -1,0 +1,76 @@
+// Scripts on files of a new image of eight blocks of 256 bytes, of which the first three are a tree store.
+ghost use Rattle.std.specs.Prelude.{◌≡◌, replicate, IfOk, IsTrue};
+ghost use Rattle.iso_memdisk.specs.MemDisk.{state_of};
+ghost use Rattle.iso_model.specs.Geometry.{is_valid, image_size};
+ghost use Rattle.machine_tests.specs.TestMachines.{IsUp};
+
+use crate::tests::run_on;
+use iso_machine::Machine;
+use iso_memdisk::MemDisk;
+use iso_model::{Geometry, Memory, Mode};
+use iso_recover::format_image;
+use script_runner::RunEnd;
+use std::alloc::{AllocError, Global};
+use std::test::Fail;
+
+#[tactic(auto, unfolding(iso_model::specs::Geometry::is_valid))]
+fn with_files() -> Geometry
+    ensures valid { IsTrue (is_valid result) }
+    ensures size { image_size result ≡ 12416 }
+{
+    Geometry {
+        block: 256,
+        blocks: 8,
+        log: 4096,
+        mode: Mode::Serial,
+        hash: 0,
+        tree: 3,
+        form: 1,
+    }
+}
+
+fn zeros(alloc: Global) -> Result<Vec<u8>, AllocError>
+    ensures { IfOk result (λ v. v.items ≡ replicate 12416 0) }
+{
+    Ok(vec![in alloc; 0; 12416]?)
+}
+
+/// A machine over a new image with files.
+fn made(alloc: Global) -> Result<Machine<MemDisk>, Memory>
+    ensures { IfOk result (λ m. IsUp state_of m) }
+{
+    let bytes = zeros(alloc)?;
+    match format_image(alloc, MemDisk::new(alloc, bytes), &with_files()) {
+        Ok(core) => Ok(Machine::over(alloc, core)),
+        Err((_error, _disk)) => Err(Memory),
+    }
+}
+
+#[test]
+fn a_client_goes_on_with_the_files_of_another(rt: HostRuntime) -> Result<(), Fail> {
+    let alloc = rt.alloc();
+    let script =
+        b"1 begin\n1 fnew 61\n1 fwrite 61 0 0102\n1 release a\n2 takeover a\n2 fread 61 1 9\n2 fmove 61 62\n2 end\n1 begin\n1 fdel 62\n1 abort\n1 begin\n1 fread 61 0 1\n1 fread 62 0 9\n1 end\n";
+    let replies =
+        b"1 ok begin 0\n1 ok\n1 ok\n1 ok\n2 ok begin 0\n2 ok 02\n2 ok\n2 ok commit 1\n1 ok begin 1\n1 ok\n1 ok\n1 ok begin 1\n1 ok none\n1 ok 0102\n1 ok read-only\n";
+    let machine = made(alloc)?;
+    let ran = run_on(alloc, machine, script)?;
+    assert_eq!(rt; ran.end, RunEnd::Done);
+    assert_eq!(rt; ran.replies.as_slice(), replies.as_slice());
+    Ok(())
+}
+
+#[test]
+fn a_full_region_keeps_what_it_has(rt: HostRuntime) -> Result<(), Fail> {
+    let alloc = rt.alloc();
+    // Of the five blocks of the region the map takes one; two files of one byte each take the others.
+    let script =
+        b"1 begin\n1 fnew 61\n1 fwrite 61 0 01\n1 fnew 62\n1 fwrite 62 0 02\n1 fnew 63\n1 fread 61 0 1\n1 fread 62 0 1\n1 fread 63 0 1\n1 end\n";
+    let replies =
+        b"1 ok begin 0\n1 ok\n1 ok\n1 ok\n1 ok\n1 no-blocks need 1 free 0\n1 ok 01\n1 ok 02\n1 ok none\n1 ok commit 1\n";
+    let machine = made(alloc)?;
+    let ran = run_on(alloc, machine, script)?;
+    assert_eq!(rt; ran.end, RunEnd::Done);
+    assert_eq!(rt; ran.replies.as_slice(), replies.as_slice());
+    Ok(())
+}
