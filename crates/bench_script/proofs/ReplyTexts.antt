@@ -1,5 +1,5 @@
 -- The bytes of a number and of a reply.
-use Rattle.bench_script.proofs.Words.{◌≡◌, ◌≢◌, ◌∙◌, refl, ℕ, zero, suc, ◌/◌, ◌%◌, ◌<◌, Bool, true, false, cond, not, ◌==◌, List, [], ◌∷◌, ◌++◌, decimal, codes, arith, list_all, digits, digits_onto, digit_glyph, ne_eqb, list_all-append, Reply, Done, Began, Shown, Committed, ReadOnly, Conflict, Grouped, Trimmed, Compacted, Upgraded, Numbers, Found, Pairs, Missing, InTx, NotInTx, ModeFixed, NoStore, StoreMode, BadKey, BadValue, BadBlock, BadRange, NoAccess, TooManyMarks, TooManyAccesses, Broken, NoBlocks, NoHandle, LabelTaken, TooManyTx, Worn, LogFull, dashed, digit_of, hex_text, pair_text, reply_text, label_text, labels_text, Option, Some, None, GroupReply}
+use Rattle.bench_script.proofs.Words.{◌≡◌, ◌≢◌, ◌∙◌, refl, ℕ, zero, suc, ◌/◌, ◌%◌, ◌<◌, Bool, true, false, cond, not, ◌==◌, List, [], ◌∷◌, ◌++◌, decimal, codes, arith, list_all, digits, digits_onto, digit_glyph, ne_eqb, list_all-append, Reply, Done, Began, Shown, Committed, ReadOnly, Conflict, Grouped, Trimmed, Compacted, Upgraded, Numbers, Found, Pairs, Missing, InTx, NotInTx, ModeFixed, NoStore, StoreMode, BadKey, BadValue, BadName, Exists, BadBlock, BadRange, NoAccess, TooManyMarks, TooManyAccesses, Broken, NoBlocks, NoHandle, LabelTaken, TooManyTx, Worn, LogFull, dashed, digit_of, hex_text, pair_text, reply_text, label_text, labels_text, Option, Some, None, GroupReply}
 use Rattle.std.proofs.Common.{flat_map}
 use Rattle.iso_model.specs.declared.access.GroupReply.TheVariants as member
 
@@ -113,6 +113,8 @@ reply_has_no_feed NoStore = refl
 reply_has_no_feed StoreMode = refl
 reply_has_no_feed BadKey = refl
 reply_has_no_feed BadValue = refl
+reply_has_no_feed BadName = refl
+reply_has_no_feed Exists = refl
 reply_has_no_feed (Broken block) = (numbered (codes "broken block ") block refl).all
 reply_has_no_feed (NoBlocks need free) = (numbered_on (codes " free ") free refl (numbered (codes "no-blocks need ") need refl)).all
 reply_has_no_feed InTx = refl

@@ -49,7 +49,7 @@ pub use Rattle.script_model.specs.declared.script.Op.{Op}
 pub use Rattle.script_model.specs.declared.script.Op.TheVariants.{Begin, End, Get, Put}
 pub use Rattle.script_model.specs.declared.script.Parsed.{Parsed}
 pub use Rattle.script_model.specs.declared.script.Reply.{Reply}
-pub use Rattle.script_model.specs.declared.script.Reply.TheVariants.{BadBlock, BadKey, BadRange, BadValue, Began, Broken, Committed, Compacted, Conflict, Done, Found, InTx, LabelTaken, LogFull, Missing, ModeFixed, NoAccess, NoBlocks, NoHandle, NoStore, NotInTx, Numbers, Pairs, ReadOnly, Shown, StoreMode, TooManyAccesses, TooManyMarks, TooManyTx, Trimmed, Upgraded, Worn, Grouped}
+pub use Rattle.script_model.specs.declared.script.Reply.TheVariants.{BadBlock, BadKey, BadName, BadRange, BadValue, Began, Broken, Committed, Compacted, Conflict, Done, Exists, Found, InTx, LabelTaken, LogFull, Missing, ModeFixed, NoAccess, NoBlocks, NoHandle, NoStore, NotInTx, Numbers, Pairs, ReadOnly, Shown, StoreMode, TooManyAccesses, TooManyMarks, TooManyTx, Trimmed, Upgraded, Worn, Grouped}
 pub use Rattle.script_runner.proofs.Feeds.{no_feed-cons, no_feed-nil}
 pub use Rattle.script_runner.proofs.Fronts.{script-line}
 pub use Rattle.script_runner.specs.Replies.{AreSameButShown, text_of}

@@ -1,5 +1,5 @@
 -- What a call of a store tells of the disk.
-use Rattle.iso_machine.proofs.Words.{◌≡◌, ℕ, ◌<◌, true, false, Result, Ok, Err, IsErrOf, arith, Reply, Device, Stop, BlamesDisk, Counts, Stops}
+use Rattle.iso_machine.proofs.Words.{◌≡◌, ℕ, true, false, Result, Ok, Err, IsErrOf, arith, Reply, Device, Stop, BlamesDisk, Counts, Stops}
 use Rattle.script_model.specs.declared.stop.Stop.TheVariants as stop
 
 abbrev pub device : ℕ → Device

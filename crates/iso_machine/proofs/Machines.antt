@@ -121,6 +121,11 @@ act_leads W c t (op.TreePut key value) is isop here = is
 act_leads W c t (op.TreeGet key) is isop here = is
 act_leads W c t (op.TreeDelete key) is isop here = is
 act_leads W c t (op.TreeScan from to most) is isop here = is
+act_leads W c t (op.FileNew name) is isop here = is
+act_leads W c t (op.FileWrite name off bytes) is isop here = is
+act_leads W c t (op.FileRead name off len) is isop here = is
+act_leads W c t (op.FileMove from to) is isop here = is
+act_leads W c t (op.FileDelete name) is isop here = is
 
 -- a release and a takeover, by who is where
 pub release_is : (W : World) (c : ℕ) (text : List ℕ) (o p : Option Live) → attached W c ≡ o → held W text ≡ p → step W c (op.Release text) ≡ in_transaction W o (λ t. release_step W t text p)

@@ -1,5 +1,5 @@
 -- Answers where the disk tells its bytes, and else.
-use Rattle.iso_machine.proofs.Words.{◌≡◌, ◌∙◌, sym, refl, ap, subst, inl, inr, ⊎_elim, ◌==◌, Bool, true, false, cond, ℕ, List, Result, Ok, Err, IfOk, IsErrOf, Option, DiskState, WritesNothing, stays, Op, Reply, is_serial, last, Shows, in_store, World, Live, Doing, Stop, BlamesDisk, IsActive, IsWorkedTo, with_accesses, map, IsSameWork, without_accesses, Answers, AnswersTold, is_empty_scan, store_area, IsStored, called_of, store_act}
+use Rattle.iso_machine.proofs.Words.{◌≡◌, ◌∙◌, sym, refl, ap, subst, inl, inr, ⊎_elim, ◌==◌, Bool, true, false, cond, ℕ, List, Result, Ok, Err, IfOk, IsErrOf, Option, DiskState, WritesNothing, stays, Op, Reply, is_serial, last, Shows, in_store, World, Live, Doing, Stop, BlamesDisk, IsActive, IsWorkedTo, with_accesses, map, IsSameWork, without_accesses, Answers, AnswersTold, is_empty_scan, store_blocks, IsStored, called_of, store_act}
 use Rattle.std.specs.Prelude.{IsSome}
 use Rattle.script_model.specs.declared.script.Reply.TheVariants as reply
 use Rattle.iso_machine.proofs.Lists.{accesses_apart}
@@ -75,9 +75,9 @@ in_store_keeps W t blocks result history geometry = refused (blocks == 0) reply.
     refused false r given kept = kept
 
 pub store_keeps : (W : World) (t : Live) (op : Op) → ((store_act W t op).1.history ≡ W.history) × ((store_act W t op).1.geometry ≡ W.geometry)
-store_keeps W t op = elim (is_empty_scan op) as (λ b. let x : Reply × World = in_store W t (store_area W.geometry op).blocks (cond b (reply.BadRange, W) (called_of W t op)) in (x.1.history ≡ W.history) × (x.1.geometry ≡ W.geometry)) [
-  | true ↦ in_store_keeps W t (store_area W.geometry op).blocks (reply.BadRange, W) refl refl
-  | false ↦ in_store_keeps W t (store_area W.geometry op).blocks (called_of W t op) refl refl
+store_keeps W t op = elim (is_empty_scan op) as (λ b. let x : Reply × World = in_store W t (store_blocks W.geometry op) (cond b (reply.BadRange, W) (called_of W t op)) in (x.1.history ≡ W.history) × (x.1.geometry ≡ W.geometry)) [
+  | true ↦ in_store_keeps W t (store_blocks W.geometry op) (reply.BadRange, W) refl refl
+  | false ↦ in_store_keeps W t (store_blocks W.geometry op) (called_of W t op) refl refl
 ]
 
 -- a call of a store on one transaction

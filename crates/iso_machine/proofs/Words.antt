@@ -60,7 +60,7 @@ pub use Rattle.script_model.proofs.Steps.{step_leads}
 pub use Rattle.script_model.specs.CoreReplies.{as_reply, as_step}
 pub use Rattle.script_model.specs.Operations.{IsOp}
 pub use Rattle.script_model.specs.Step.{access_step, array_of, grouped, in_store, in_transaction, mark_refused, marked_step, out_of_transaction, release_step, takeover_step, with_access}
-unfoldable pub use Rattle.script_model.specs.Step.{fill_step, get_step, hash_delete_step, hash_get_step, hash_put_step, mark_step, numbers, put_step, read_step, step, store_step, tree_delete_step, tree_get_step, tree_put_step, tree_scan_step, write_step}
+unfoldable pub use Rattle.script_model.specs.Step.{file_delete_step, file_move_step, file_new_step, file_read_step, file_write_step, fill_step, get_step, hash_delete_step, hash_get_step, hash_put_step, mark_step, numbers, put_step, read_step, step, store_step, tree_delete_step, tree_get_step, tree_put_step, tree_scan_step, write_step}
 pub use Rattle.script_model.specs.declared.script.Op.{Op}
 pub use Rattle.script_model.specs.declared.script.Reply.{Reply}
 pub use Rattle.script_model.specs.declared.script.TheConstants.{MAX_LABELS}
@@ -68,10 +68,11 @@ pub use Rattle.script_model.specs.declared.stop.Stop.{Stop}
 pub use Rattle.script_runner.specs.Counts.{BlamesDisk}
 pub use Rattle.script_runner.specs.Stopped.{GoesOn, SameButAccesses, StandsStill, without_accesses}
 pub use Rattle.script_runner.specs.Told.{IfTold, IsPlain, SameButShown}
-pub use Rattle.store_calls.proofs.Areas.{store_area_fits, store_area_is}
-pub use Rattle.store_calls.specs.Calls.{HasCalled, IsStoreArea, Stops, is_empty_scan, store_area, store_ended}
-pub use Rattle.store_model.specs.declared.stores.Area.{Area}
-pub use Rattle.tx_blocks.specs.Runs.{area_of}
+pub use Rattle.store_calls.proofs.Areas.{store_areas_are, store_areas_fit}
+pub use Rattle.store_calls.specs.Calls.{AreStoreAreas, HasCalled, Stops, is_empty_scan, store_areas, store_blocks, store_ended}
+pub use Rattle.store_model.specs.declared.files.FileAreas.{FileAreas}
+pub use Rattle.store_model.specs.declared.files.FsRegion.{FsRegion}
+pub use Rattle.iso_fs.specs.Ends.{areas_of}
 pub use Rattle.tx_blocks.specs.Tx.{Device, Tx}
 pub use Rattle.tx_table.specs.Work.{Doing, span_at}
 pub use Rattle.iso_machine.specs.Accessing.{IsActive, IsGiven, IsShown, IsWorkedTo, act_step}

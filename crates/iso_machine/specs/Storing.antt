@@ -9,20 +9,20 @@ use Rattle.script_model.specs.Step.{array_of, in_store}
 use Rattle.iso_model.specs.Step.{with_accesses}
 use Rattle.iso_model.specs.World.{World, Live}
 use Rattle.tx_table.specs.Work.{Doing}
-use Rattle.store_calls.specs.Calls.{is_empty_scan, store_area, store_ended}
+use Rattle.store_calls.specs.Calls.{is_empty_scan, store_areas, store_blocks, store_ended}
 use Rattle.script_runner.specs.Told.{IfTold}
 use Rattle.iso_machine.specs.Accessing.{IsWorkedTo}
 
 -- the reply of a store that is called, and the world after it
 abbrev pub called_of : World → Live → Op → Reply × World
 called_of W t op = (
-  (store_ended (store_area W.geometry op) op (MAX_ACCESSES - length t.accesses) (array_of W t)).1,
-  with_accesses W t (t.accesses ++ (store_ended (store_area W.geometry op) op (MAX_ACCESSES - length t.accesses) (array_of W t)).0),
+  (store_ended (store_areas W.geometry op) op (MAX_ACCESSES - length t.accesses) (array_of W t)).1,
+  with_accesses W t (t.accesses ++ (store_ended (store_areas W.geometry op) op (MAX_ACCESSES - length t.accesses) (array_of W t)).0),
 )
 
 -- what the rules of one thread answer an operation on a store
 abbrev pub store_act : World → Live → Op → Reply × World
-store_act W t op = in_store W t (store_area W.geometry op).blocks (if is_empty_scan op then (reply.BadRange, W) else called_of W t op)
+store_act W t op = in_store W t (store_blocks W.geometry op) (if is_empty_scan op then (reply.BadRange, W) else called_of W t op)
 
 -- The reply and the world are those that are given, where the disk tells its bytes; else the transaction has other accesses.
 pub record IsStored (d : DiskState) (W : World) (t : Live) (given : Reply × World) (work : Doing) (r : Reply) : Type 0 where

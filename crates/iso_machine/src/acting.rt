@@ -71,6 +71,11 @@ pub(crate) fn act<D: Disk>(
         | Op::TreePut { .. }
         | Op::TreeGet { .. }
         | Op::TreeDelete { .. }
-        | Op::TreeScan { .. } => Ok(Reply::NotInTx),
+        | Op::TreeScan { .. }
+        | Op::FileNew { .. }
+        | Op::FileWrite { .. }
+        | Op::FileRead { .. }
+        | Op::FileMove { .. }
+        | Op::FileDelete { .. } => Ok(Reply::NotInTx),
     }
 }

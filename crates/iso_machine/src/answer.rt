@@ -118,7 +118,12 @@ impl<D: Disk> Machine<D> {
             | Op::TreePut { .. }
             | Op::TreeGet { .. }
             | Op::TreeDelete { .. }
-            | Op::TreeScan { .. } => self.stored(client, op),
+            | Op::TreeScan { .. }
+            | Op::FileNew { .. }
+            | Op::FileWrite { .. }
+            | Op::FileRead { .. }
+            | Op::FileMove { .. }
+            | Op::FileDelete { .. } => self.stored(client, op),
         }
     }
 }

@@ -7,12 +7,12 @@ ghost use Rattle.iso_core.specs.Core.{StandsFor, disk_of};
 ghost use Rattle.iso_core.specs.Standing.{up};
 ghost use Rattle.core_blocks.specs.Guests.{IsGuest, IsSameWork, tx_of};
 ghost use Rattle.core_blocks.specs.Shown.{array_told};
-ghost use Rattle.tx_blocks.specs.Runs.{area_of};
+ghost use Rattle.iso_fs.specs.Ends.{areas_of};
 ghost use Rattle.tx_table.specs.Work.{AreWithin};
 ghost use Rattle.script_runner.specs.Counts.{BlamesDisk};
 ghost use Rattle.iso_machine.specs.Accessing.{IsActive};
 ghost use Rattle.iso_machine.specs.Storing.{IsStored, store_act};
-ghost use Rattle.store_calls.specs.Calls.{HasCalled, IsStoreArea, is_empty_scan, store_ended};
+ghost use Rattle.store_calls.specs.Calls.{AreStoreAreas, HasCalled, is_empty_scan, store_ended};
 
 use core_blocks::{CoreBlocks, Lent, Origin};
 use iso_core::Core;
@@ -22,7 +22,7 @@ use script_model::{Op, Reply, Stop};
 use std::alloc::Global;
 use std::marker::Brand;
 use store_calls::{call, is_empty_scan, store_region};
-use store_model::Region;
+use store_model::FsRegion;
 use tx_table::Work;
 
 /// A core and the work of one of its transactions after a call.
@@ -38,26 +38,26 @@ fn call_from<'a, D: Disk, K: Origin>(
     core: &'a mut Core<D>,
     tx: u64,
     work: &'a mut Work,
-    region: Region,
+    at: FsRegion,
     op: &Op,
     answer: &mut Result<Reply, Stop>,
 ) -> Called<'a, D>
     requires core { core.ghost_name ≡ K.core_name }
     requires work { work.ghost_name ≡ K.work_name }
     requires guest { IsGuest D.state K.stood K.disk K.doing K.array core.old tx work.old 0 }
-    requires area { IsStoreArea op.now (area_of (tx_of K.array work.old) region) }
-    requires fits { region.start + region.size ≤ work.old.blocks }
+    requires areas { AreStoreAreas op.now (areas_of (tx_of K.array work.old) at) }
+    requires fits { at.files.start + at.files.size ≤ work.old.blocks }
     requires some { is_empty_scan op.now ≡ false }
     ensures same_core { result.core.ghost_name ≡ core.entry.ghost_name }
     ensures same_work { result.work.ghost_name ≡ work.entry.ghost_name }
     ensures guest { (number : ℕ) × (failures : ℕ) × IsGuest D.state K.stood K.disk K.doing K.array result.core.now number result.work.now failures }
-    ensures called { HasCalled (store_ended (area_of (tx_of K.array work.old) region) op.now) (tx_of K.array work.old) (tx_of K.array result.work.now) answer.new }
+    ensures called { HasCalled (store_ended (areas_of (tx_of K.array work.old) at) op.now) (tx_of K.array work.old) (tx_of K.array result.work.now) answer.new }
     ensures within { AreWithin result.work.now.size result.work.now.blocks result.work.now.accesses }
     ensures up { ¬ IsErrOf answer.new Stop.Down }
     ensures cause { BlamesDisk K.disk.faults (D.state (disk_of result.core.now)).faults answer.new }
 {
     let mut blocks = CoreBlocks::<'a, D, K>::over(core, tx, work);
-    let result = call(alloc, &mut blocks, region, op);
+    let result = call(alloc, &mut blocks, at, op);
     let Lent {
         core,
         work,
@@ -74,25 +74,25 @@ fn call_on<D: Disk>(
     core: &mut Core<D>,
     tx: u64,
     work: &mut Work,
-    region: Region,
+    at: FsRegion,
     op: &Op,
 ) -> Result<Reply, Stop>
     requires live { (W : World) × (t : Live) × StandsFor D.state core.old W up × IsTx W tx t × IsWorkOf W t work.old }
     requires few { length work.old.accesses ≤ 4096 }
-    requires area { IsStoreArea op.now (area_of (tx_of (array_told D.state core.old work.old.begin) work.old) region) }
-    requires fits { region.start + region.size ≤ work.old.blocks }
+    requires areas { AreStoreAreas op.now (areas_of (tx_of (array_told D.state core.old work.old.begin) work.old) at) }
+    requires fits { at.files.start + at.files.size ≤ work.old.blocks }
     requires some { is_empty_scan op.now ≡ false }
     ensures same { (W : World) → StandsFor D.state core.old W up → StandsFor D.state core.new W up }
     ensures unwritten { WritesNothing (D.state (disk_of core.old)) (D.state (disk_of core.new)) }
     ensures work { IsSameWork work.old work.new }
     ensures few { length work.new.accesses ≤ 4096 }
-    ensures called { HasCalled (store_ended (area_of (tx_of (array_told D.state core.old work.old.begin) work.old) region) op.now)
+    ensures called { HasCalled (store_ended (areas_of (tx_of (array_told D.state core.old work.old.begin) work.old) at) op.now)
         (tx_of (array_told D.state core.old work.old.begin) work.old) (tx_of (array_told D.state core.old work.old.begin) work.new) result }
     ensures up { ¬ IsErrOf result Stop.Down }
     ensures cause { BlamesDisk (D.state (disk_of core.old)).faults (D.state (disk_of core.new)).faults result }
 {
     let mut answer = Err(Stop::Memory);
-    let _called = call_from::<D, Brand>(alloc, core, tx, work, region, op, &mut answer);
+    let _called = call_from::<D, Brand>(alloc, core, tx, work, at, op, &mut answer);
     answer
 }
 
@@ -116,9 +116,9 @@ pub(crate) fn store<D: Disk>(
     ensures cause { BlamesDisk (D.state (disk_of core.old)).faults (D.state (disk_of core.new)).faults result }
 {
     let geometry = core.geometry();
-    let region = store_region(&geometry, op);
+    let at = store_region(&geometry, op);
     let _ = work.count();
-    if region.size == 0 {
+    if at.files.size == 0 {
         return Ok(Reply::NoStore);
     }
     match work.mode() {
@@ -126,7 +126,7 @@ pub(crate) fn store<D: Disk>(
             if is_empty_scan(op) {
                 return Ok(Reply::BadRange);
             }
-            let answer = call_on(alloc, core, tx, work, region, op);
+            let answer = call_on(alloc, core, tx, work, at, op);
             let _ = work.count();
             answer
         }

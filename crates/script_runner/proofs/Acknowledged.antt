@@ -1,11 +1,12 @@
 -- A commit that a reply tells is one of the world after it.
-use Rattle.script_runner.proofs.Words.{◌≡◌, ◌<◌, ◌≤◌, ◌+◌, ◌-◌, refl, ◌&&◌, ◌==◌, not, ℕ, Bool, true, false, cond, List, [], ◌∷◌, length, nat_le, nat_lt, Option, Some, None, Result, Ok, Err, inl, inr, drop, take, length-append, subst, sym, arith, Access, Clash, MarkError, Mode, Span, CoreReply, Line, Op, Reply, StoreError, LAST, MAX_ACCESSES, MAX_LIVE, clash, has_write, same_mode, del_program, get_program, put_program, History, last, mark_fault, after, access_step, after_store, array_of, fill_step, found_reply, get_step, hash_delete_step, hash_get_step, hash_put_step, in_store, in_transaction, mark_step, marked_step, numbers, out_of_transaction, put_step, read_step, release_step, removed_reply, step, store_step, takeover_step, write_step, pairs_reply, tree_put_step, tree_get_step, tree_delete_step, tree_scan_step, after_commit, begin_step, commit_step, end_step, switch_step, mode_named, need, read_access, shown_to, as_reply, as_step, as_either, hash_area, tree_area, Program, outcome, Live, Place, World, attached, client, floor, held, used, AreLines, IsWorld, after_leads, step_leads, AreRepliesTo, TellsCommit, Acknowledges, SameButShown, longer, GroupReply, IsAmongGrouped, SaysCommit, group_step, grouped}
+use Rattle.script_runner.proofs.Words.{◌≡◌, ◌<◌, ◌≤◌, ◌+◌, ◌-◌, refl, ◌&&◌, ◌==◌, not, ℕ, Bool, true, false, cond, List, [], ◌∷◌, length, nat_le, nat_lt, Option, Some, None, Result, Ok, Err, inl, inr, drop, take, length-append, subst, sym, arith, Access, Clash, MarkError, Mode, Span, CoreReply, Line, Op, Reply, StoreError, LAST, MAX_ACCESSES, MAX_LIVE, clash, has_write, same_mode, del_program, get_program, put_program, History, last, mark_fault, after, access_step, after_store, array_of, fill_step, found_reply, get_step, hash_delete_step, hash_get_step, hash_put_step, in_store, in_transaction, mark_step, marked_step, numbers, out_of_transaction, put_step, read_step, release_step, removed_reply, step, store_step, takeover_step, write_step, pairs_reply, tree_put_step, tree_get_step, tree_delete_step, tree_scan_step, FsError, Call, store_refusal, file_refusal, file_step, file_new_step, file_write_step, file_read_step, file_move_step, file_delete_step, file_blocks, files_area, create_program, write_program, read_program, rename_program, remove_program, after_commit, begin_step, commit_step, end_step, switch_step, mode_named, need, read_access, shown_to, as_reply, as_step, as_either, hash_area, tree_area, Program, outcome, Live, Place, World, attached, client, floor, held, used, AreLines, IsWorld, after_leads, step_leads, AreRepliesTo, TellsCommit, Acknowledges, SameButShown, longer, GroupReply, IsAmongGrouped, SaysCommit, group_step, grouped}
 use Rattle.script_runner.proofs.Grouped.{group_kept}
 use Rattle.iso_model.specs.declared.access.MarkError.TheVariants as mark
 use Rattle.iso_model.specs.declared.core_reply.CoreReply.TheVariants as core
-use Rattle.script_model.specs.declared.script.Op.TheVariants.{Begin, End, Abort, Put, Read as ReadBlock, Get, Write as WriteBlock, Fill, Mark, Release, Takeover, Await, Group, Trim, Stat, Compact, Upgrade, HashPut, HashGet, HashDelete, TreePut, TreeGet, TreeDelete, TreeScan}
+use Rattle.script_model.specs.declared.script.Op.TheVariants.{Begin, End, Abort, Put, Read as ReadBlock, Get, Write as WriteBlock, Fill, Mark, Release, Takeover, Await, Group, Trim, Stat, Compact, Upgrade, HashPut, HashGet, HashDelete, TreePut, TreeGet, TreeDelete, TreeScan, FileNew, FileWrite, FileRead, FileMove, FileDelete}
 use Rattle.script_model.specs.declared.script.Reply.TheVariants as reply
 use Rattle.store_model.specs.declared.stores.StoreError.TheVariants as store
+use Rattle.store_model.specs.declared.files.FsError.TheVariants as fs
 use Rattle.store_model.specs.TreeCalls as tree
 
 -- a commit that the reply tells is one of the world beside it
@@ -112,23 +113,36 @@ unfolding end_step
 end_tells W t is = as_either Tells (has_write t.accesses) _ _ (commit_tells W t (clash W.geometry W.history t.mode t.begin t.accesses) is) (other reply.ReadOnly _ refl)
 
 -- a call of a store makes no commit
-stored_tells : {R : Type 0} (W : World) (t : Live) (answer : R → Reply) → ((r : R) → tells_some (answer r) ≡ false)
-    → (done : List Access) (end : Option (Result R StoreError)) → Tells (after_store W t answer (done, end))
-stored_tells W t answer none done None = other _ _ refl
-stored_tells W t answer none done (Some (Ok r)) = other (answer r) _ (none r)
-stored_tells W t answer none done (Some (Err store.BadKey)) = other _ _ refl
-stored_tells W t answer none done (Some (Err store.BadValue)) = other _ _ refl
-stored_tells W t answer none done (Some (Err (store.NoBlocks need free))) = other _ _ refl
-stored_tells W t answer none done (Some (Err (store.Broken block))) = other _ _ refl
-stored_tells W t answer none done (Some (Err (store.Tx error))) = other _ _ refl
-stored_tells W t answer none done (Some (Err store.Memory)) = other _ _ refl
+stored_tells : {E R : Type 0} (W : World) (t : Live) (refusal : E → Reply) (answer : R → Reply) → ((e : E) → tells_some (refusal e) ≡ false) → ((r : R) → tells_some (answer r) ≡ false)
+    → (done : List Access) (end : Option (Result R E)) → Tells (after_store W t refusal answer (done, end))
+stored_tells W t refusal answer refused none done None = other _ _ refl
+stored_tells W t refusal answer refused none done (Some (Ok r)) = other (answer r) _ (none r)
+stored_tells W t refusal answer refused none done (Some (Err e)) = other (refusal e) _ (refused e)
+
+call_tells : {E R : Type 0} (W : World) (t : Live) (program : Program (Result R E)) (refusal : E → Reply) (answer : R → Reply) → ((e : E) → tells_some (refusal e) ≡ false)
+    → ((r : R) → tells_some (answer r) ≡ false) → Tells (store_step W t program refusal answer)
+unfolding store_step
+call_tells W t program refusal answer refused none =
+    let ended = outcome (MAX_ACCESSES - length t.accesses) program (array_of W t) in
+    stored_tells W t refusal answer refused none ended.0 ended.1
+
+refused_tells : (e : StoreError) → tells_some (store_refusal e) ≡ false
+refused_tells store.BadKey = refl
+refused_tells store.BadValue = refl
+refused_tells (store.NoBlocks need free) = refl
+refused_tells (store.Broken block) = refl
+refused_tells (store.Tx error) = refl
+refused_tells store.Memory = refl
+
+file_refused_tells : (e : FsError) → tells_some (file_refusal e) ≡ false
+file_refused_tells fs.BadName = refl
+file_refused_tells fs.BadRange = refl
+file_refused_tells fs.Exists = refl
+file_refused_tells (fs.Store e) = refused_tells e
 
 store_tells : {R : Type 0} (W : World) (t : Live) (program : Program (Result R StoreError)) (answer : R → Reply) → ((r : R) → tells_some (answer r) ≡ false)
-    → Tells (store_step W t program answer)
-unfolding store_step
-store_tells W t program answer none =
-    let ended = outcome (MAX_ACCESSES - length t.accesses) program (array_of W t) in
-    stored_tells W t answer none ended.0 ended.1
+    → Tells (store_step W t program store_refusal answer)
+store_tells W t program answer none = call_tells W t program store_refusal answer refused_tells none
 
 in_store_tells : (W : World) (t : Live) (blocks : ℕ) (result : Reply × World) → Tells result → Tells (in_store W t blocks result)
 in_store_tells W t blocks result tells = refuses _ reply.NoStore W _ refl (tells_either _ _ _ tells (other reply.StoreMode _ refl))
@@ -178,6 +192,30 @@ unfolding tree_scan_step
 tree_scan_tells W t from to most =
     in_store_tells W t W.geometry.tree _ (refuses _ reply.BadRange W _ refl (store_tells W t (tree.scan_program (tree_area W.geometry) from to most) pairs_reply pairs_tells))
 
+-- calls on files
+file_tells : {R : Type 0} (W : World) (t : Live) (program : Call R) (answer : R → Reply) → ((r : R) → tells_some (answer r) ≡ false) → Tells (file_step W t program answer)
+file_tells W t program answer none = in_store_tells W t (file_blocks W.geometry) _ (call_tells W t program file_refusal answer file_refused_tells none)
+
+file_new_tells : (W : World) (t : Live) (name : List ℕ) → Tells (file_new_step W t name)
+unfolding file_new_step
+file_new_tells W t name = file_tells W t (create_program (files_area W.geometry) name) (λ done. reply.Done) done_tells
+
+file_write_tells : (W : World) (t : Live) (name : List ℕ) (off : ℕ) (bytes : List ℕ) → Tells (file_write_step W t name off bytes)
+unfolding file_write_step
+file_write_tells W t name off bytes = file_tells W t (write_program (files_area W.geometry) name off bytes) removed_reply removed_tells
+
+file_read_tells : (W : World) (t : Live) (name : List ℕ) (off len : ℕ) → Tells (file_read_step W t name off len)
+unfolding file_read_step
+file_read_tells W t name off len = file_tells W t (read_program (files_area W.geometry) name off len) found_reply found_tells
+
+file_move_tells : (W : World) (t : Live) (from to : List ℕ) → Tells (file_move_step W t from to)
+unfolding file_move_step
+file_move_tells W t from to = file_tells W t (rename_program (files_area W.geometry) from to) removed_reply removed_tells
+
+file_delete_tells : (W : World) (t : Live) (name : List ℕ) → Tells (file_delete_step W t name)
+unfolding file_delete_step
+file_delete_tells W t name = file_tells W t (remove_program (files_area W.geometry) name) removed_reply removed_tells
+
 release_tells : (W : World) (t : Live) (text : List ℕ) (found : Option Live) → Tells (release_step W t text found)
 release_tells W t text (Some one) = other _ _ refl
 release_tells W t text None = other _ _ refl
@@ -224,6 +262,11 @@ step_tells W c (TreePut key value) is = in_tells W (attached W c) _ (λ t. tree_
 step_tells W c (TreeGet key) is = in_tells W (attached W c) _ (λ t. tree_get_tells W t key)
 step_tells W c (TreeDelete key) is = in_tells W (attached W c) _ (λ t. tree_delete_tells W t key)
 step_tells W c (TreeScan from to most) is = in_tells W (attached W c) _ (λ t. tree_scan_tells W t from to most)
+step_tells W c (FileNew name) is = in_tells W (attached W c) _ (λ t. file_new_tells W t name)
+step_tells W c (FileWrite name off bytes) is = in_tells W (attached W c) _ (λ t. file_write_tells W t name off bytes)
+step_tells W c (FileRead name off len) is = in_tells W (attached W c) _ (λ t. file_read_tells W t name off len)
+step_tells W c (FileMove from to) is = in_tells W (attached W c) _ (λ t. file_move_tells W t from to)
+step_tells W c (FileDelete name) is = in_tells W (attached W c) _ (λ t. file_delete_tells W t name)
 
 -- all lines
 pub all_kept : (W : World) (xs : List (ℕ × Line)) → IsWorld W → AreLines xs → (n : ℕ) → Acknowledges W xs n → n ≤ last (after W xs).history

@@ -1,5 +1,5 @@
 -- The commits that the reply to a group tells are among those of the world after it.
-use Rattle.script_runner.proofs.Words.{◌≡◌, ◌∙◌, ◌⊎◌, sym, refl, ap, subst, ℕ, ◌+◌, ◌-◌, ◌<◌, ◌≤◌, List, [], ◌∷◌, length, Option, Some, None, inl, inr, arith, length-append, same_Some, GroupReply, Follow, ahead, decided, found_ones, group, group_is, group_step, label_replies, leave_all, looks, looks_history, made_by, member_reply, numbers_told, consecutive, History, last, after_leaving, end_step, World, Live, IsAmongGrouped}
+use Rattle.script_runner.proofs.Words.{◌≡◌, ◌∙◌, ◌⊎◌, sym, refl, ap, subst, ℕ, ◌+◌, ◌<◌, ◌≤◌, List, [], ◌∷◌, length, Option, Some, None, inl, inr, arith, length-append, same_Some, GroupReply, Follow, ahead, decided, found_ones, group, group_is, group_step, label_replies, leave_all, looks, looks_history, made_by, member_reply, numbers_told, consecutive, History, last, after_leaving, end_step, World, Live, IsAmongGrouped}
 use Rattle.iso_model.specs.declared.access.GroupReply.TheVariants as member
 
 -- one of the numbers

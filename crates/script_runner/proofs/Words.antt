@@ -54,8 +54,8 @@ pub use Rattle.script_model.specs.CoreReplies.{as_reply, as_step}
 pub use Rattle.script_model.specs.Operations.{AreLines, IsAmongGrouped, IsOp, SaysCommit}
 pub use Rattle.script_model.specs.Script.{Script, after, bad_line, before_script, client_in_range, is_printable, is_skipped, last_piece, no_lines, operation_of, replies, script_from, without_return}
 unfoldable pub use Rattle.script_model.specs.Script.{parse, parse_whole, said, script}
-pub use Rattle.script_model.specs.Step.{access_step, after_store, array_of, found_reply, grouped, in_store, in_transaction, marked_step, out_of_transaction, pairs_reply, release_step, removed_reply, takeover_step}
-unfoldable pub use Rattle.script_model.specs.Step.{fill_step, get_step, hash_delete_step, hash_get_step, hash_put_step, mark_step, numbers, put_step, read_step, step, store_step, tree_delete_step, tree_get_step, tree_put_step, tree_scan_step, write_step}
+pub use Rattle.script_model.specs.Step.{access_step, after_store, file_refusal, file_step, store_refusal, array_of, found_reply, grouped, in_store, in_transaction, marked_step, out_of_transaction, pairs_reply, release_step, removed_reply, takeover_step}
+unfoldable pub use Rattle.script_model.specs.Step.{file_delete_step, file_move_step, file_new_step, file_read_step, file_write_step, fill_step, get_step, hash_delete_step, hash_get_step, hash_put_step, mark_step, numbers, put_step, read_step, step, store_step, tree_delete_step, tree_get_step, tree_put_step, tree_scan_step, write_step}
 pub use Rattle.script_model.specs.Text.{before_piece, is_empty, number_of, pieces, reply_line, words_of}
 unfoldable pub use Rattle.script_model.specs.Text.{reply_text}
 pub use Rattle.script_model.specs.declared.script.BadLine.{BadLine}
@@ -69,6 +69,9 @@ pub use Rattle.script_text.specs.Parsing.{Gives}
 pub use Rattle.store_model.specs.Areas.{hash_area, tree_area}
 pub use Rattle.store_model.specs.HashCalls.{del_program, get_program, put_program}
 pub use Rattle.store_model.specs.Stores.{Program, outcome}
+pub use Rattle.script_model.specs.FilesArea.{file_blocks, files_area}
+pub use Rattle.store_model.specs.FileCalls.{Call, create_program, read_program, remove_program, rename_program, write_program}
+pub use Rattle.store_model.specs.declared.files.FsError.{FsError}
 pub use Rattle.store_model.specs.declared.stores.StoreError.{StoreError}
 pub use Rattle.script_runner.specs.Counts.{DiskCount, SinkCounts, SinkFailed, SourceCount}
 pub use Rattle.script_runner.specs.Lines.{AnswersParsed, EndsAt, Gave, IsByStep, IsLine, Ran, Reads, SaysFirst, SaysLine, behind, end_of, in_front, lines_of}

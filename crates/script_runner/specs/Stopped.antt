@@ -1,5 +1,5 @@
 -- What a machine stands for behind an operation that had no reply.
-use Rattle.std.specs.Prelude.{◌≡◌, List, [], map}
+use Rattle.std.specs.Prelude.{◌≡◌, [], map}
 use Rattle.iso_model.specs.Step.{with_live}
 use Rattle.iso_model.specs.World.{Live, World}
 use Rattle.script_model.specs.declared.script.Op.{Op}

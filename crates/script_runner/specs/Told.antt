@@ -4,7 +4,7 @@ use Rattle.std.specs.List.{AllByRecursion}
 use Rattle.iso_disk.specs.Disk.{DiskState}
 use Rattle.script_model.specs.declared.script.Line.{Line}
 use Rattle.script_model.specs.declared.script.Op.{Op}
-use Rattle.script_model.specs.declared.script.Op.TheVariants.{HashPut, HashGet, HashDelete, TreePut, TreeGet, TreeDelete, TreeScan}
+use Rattle.script_model.specs.declared.script.Op.TheVariants.{HashPut, HashGet, HashDelete, TreePut, TreeGet, TreeDelete, TreeScan, FileNew, FileWrite, FileRead, FileMove, FileDelete}
 use Rattle.script_model.specs.declared.script.Reply.{Reply}
 use Rattle.script_model.specs.declared.script.Reply.TheVariants.{Shown}
 use Rattle.iso_model.specs.World.{World}
@@ -27,6 +27,11 @@ IsPlain (TreePut key value) = ⊥
 IsPlain (TreeGet key) = ⊥
 IsPlain (TreeDelete key) = ⊥
 IsPlain (TreeScan from to most) = ⊥
+IsPlain (FileNew name) = ⊥
+IsPlain (FileWrite name off bytes) = ⊥
+IsPlain (FileRead name off len) = ⊥
+IsPlain (FileMove from to) = ⊥
+IsPlain (FileDelete name) = ⊥
 IsPlain op = Unit {0}
 
 -- lines that call no store

@@ -1,10 +1,12 @@
-//! Tests of the top call: rows of replies, groups, commands, runs one behind the other, limits, scripts on stores, and one long script.
+//! Tests of the top call: rows of replies, groups, commands, runs one behind the other, limits, scripts on stores and on files, and one long script.
 #![tactic(auto)]
 
 #[cfg(test)]
 mod tests_commands;
 #[cfg(test)]
 mod tests_drawn;
+#[cfg(test)]
+mod tests_files;
 #[cfg(test)]
 mod tests_groups;
 #[cfg(test)]

@@ -9,7 +9,9 @@ others : (W : World) (t : Live) (o : Op) → ((m : Option Mode) × (o ≡ op.Beg
     ⊎ ((x : List ℕ) × (o ≡ op.Await x)) ⊎ ((xs : List (List ℕ)) × (o ≡ op.Group xs)) ⊎ (o ≡ op.Trim) ⊎ (o ≡ op.Stat) ⊎ (o ≡ op.Compact) ⊎ (o ≡ op.Upgrade)
     ⊎ ((k : List ℕ) × (v : List ℕ) × (o ≡ op.HashPut k v)) ⊎ ((k : List ℕ) × (o ≡ op.HashGet k)) ⊎ ((k : List ℕ) × (o ≡ op.HashDelete k))
     ⊎ ((k : List ℕ) × (v : List ℕ) × (o ≡ op.TreePut k v)) ⊎ ((k : List ℕ) × (o ≡ op.TreeGet k)) ⊎ ((k : List ℕ) × (o ≡ op.TreeDelete k))
-    ⊎ ((f : List ℕ) × (t : List ℕ) × (m : ℕ) × (o ≡ op.TreeScan f t m)) → act_step W t o ≡ (reply.NotInTx, W)
+    ⊎ ((f : List ℕ) × (t : List ℕ) × (m : ℕ) × (o ≡ op.TreeScan f t m))
+    ⊎ ((n : List ℕ) × (o ≡ op.FileNew n)) ⊎ ((n : List ℕ) × (f : ℕ) × (x : List ℕ) × (o ≡ op.FileWrite n f x)) ⊎ ((n : List ℕ) × (f : ℕ) × (l : ℕ) × (o ≡ op.FileRead n f l))
+    ⊎ ((f : List ℕ) × (u : List ℕ) × (o ≡ op.FileMove f u)) ⊎ ((n : List ℕ) × (o ≡ op.FileDelete n)) → act_step W t o ≡ (reply.NotInTx, W)
 others W t o (inl (m, is)) = ap (act_step W t) is
 others W t o (inr (inl is)) = ap (act_step W t) is
 others W t o (inr (inr (inl is))) = ap (act_step W t) is
@@ -27,7 +29,12 @@ others W t o (inr (inr (inr (inr (inr (inr (inr (inr (inr (inr (inr (inr (inr (i
 others W t o (inr (inr (inr (inr (inr (inr (inr (inr (inr (inr (inr (inr (inr (inr (inl (k, v, is)))))))))))))))) = ap (act_step W t) is
 others W t o (inr (inr (inr (inr (inr (inr (inr (inr (inr (inr (inr (inr (inr (inr (inr (inl (k, is))))))))))))))))) = ap (act_step W t) is
 others W t o (inr (inr (inr (inr (inr (inr (inr (inr (inr (inr (inr (inr (inr (inr (inr (inr (inl (k, is)))))))))))))))))) = ap (act_step W t) is
-others W t o (inr (inr (inr (inr (inr (inr (inr (inr (inr (inr (inr (inr (inr (inr (inr (inr (inr (f, u, m, is)))))))))))))))))) = ap (act_step W t) is
+others W t o (inr (inr (inr (inr (inr (inr (inr (inr (inr (inr (inr (inr (inr (inr (inr (inr (inr (inl (f, u, m, is))))))))))))))))))) = ap (act_step W t) is
+others W t o (inr (inr (inr (inr (inr (inr (inr (inr (inr (inr (inr (inr (inr (inr (inr (inr (inr (inr (inl (n, is)))))))))))))))))))) = ap (act_step W t) is
+others W t o (inr (inr (inr (inr (inr (inr (inr (inr (inr (inr (inr (inr (inr (inr (inr (inr (inr (inr (inr (inl (n, f, x, is))))))))))))))))))))) = ap (act_step W t) is
+others W t o (inr (inr (inr (inr (inr (inr (inr (inr (inr (inr (inr (inr (inr (inr (inr (inr (inr (inr (inr (inr (inl (n, f, l, is)))))))))))))))))))))) = ap (act_step W t) is
+others W t o (inr (inr (inr (inr (inr (inr (inr (inr (inr (inr (inr (inr (inr (inr (inr (inr (inr (inr (inr (inr (inr (inl (f, u, is))))))))))))))))))))))) = ap (act_step W t) is
+others W t o (inr (inr (inr (inr (inr (inr (inr (inr (inr (inr (inr (inr (inr (inr (inr (inr (inr (inr (inr (inr (inr (inr (n, is))))))))))))))))))))))) = ap (act_step W t) is
 
 pub returns-in-Begin-clause-given : goal.returns-in-Begin-clause-given
 returns-in-Begin-clause-given g c W t of tx active =

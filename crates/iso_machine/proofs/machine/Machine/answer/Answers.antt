@@ -1,4 +1,4 @@
-use Rattle.iso_machine.proofs.Words.{◌≡◌, ◌∙◌, ◌⊎◌, inl, inr, sym, refl, ap, subst, ℕ, List, Ok, Op, Reply, hash_delete_step, hash_get_step, hash_put_step, in_transaction, numbers, step, store_step, tree_put_step, tree_get_step, tree_delete_step, tree_scan_step, World, attached, IsOp, disk_of, act_step, Always, Answers, AnswersTold, Never, Wanting, GoesOn, shows, AreOf, store_act, IsPlain}
+use Rattle.iso_machine.proofs.Words.{◌≡◌, ◌∙◌, ◌⊎◌, inl, inr, sym, refl, ap, subst, ℕ, List, Ok, Op, Reply, hash_delete_step, hash_get_step, hash_put_step, in_transaction, numbers, step, store_step, tree_put_step, tree_get_step, tree_delete_step, tree_scan_step, file_new_step, file_write_step, file_read_step, file_move_step, file_delete_step, World, attached, IsOp, disk_of, act_step, Always, Answers, AnswersTold, Never, Wanting, GoesOn, shows, AreOf, store_act, IsPlain}
 use Rattle.script_model.specs.declared.script.Op.TheVariants as op
 use Rattle.iso_machine.proofs.Quiet.{quiet}
 use Rattle.iso_machine.proofs.Told.{never_plain, told_so}
@@ -132,16 +132,23 @@ IsStoreOp o =
     ((k : List ℕ) × (v : List ℕ) × (o ≡ op.HashPut k v)) ⊎ ((k : List ℕ) × (o ≡ op.HashGet k)) ⊎ ((k : List ℕ) × (o ≡ op.HashDelete k))
     ⊎ ((k : List ℕ) × (v : List ℕ) × (o ≡ op.TreePut k v)) ⊎ ((k : List ℕ) × (o ≡ op.TreeGet k)) ⊎ ((k : List ℕ) × (o ≡ op.TreeDelete k))
     ⊎ ((f : List ℕ) × (u : List ℕ) × (m : ℕ) × (o ≡ op.TreeScan f u m))
+    ⊎ ((n : List ℕ) × (o ≡ op.FileNew n)) ⊎ ((n : List ℕ) × (f : ℕ) × (x : List ℕ) × (o ≡ op.FileWrite n f x)) ⊎ ((n : List ℕ) × (f : ℕ) × (l : ℕ) × (o ≡ op.FileRead n f l))
+    ⊎ ((f : List ℕ) × (u : List ℕ) × (o ≡ op.FileMove f u)) ⊎ ((n : List ℕ) × (o ≡ op.FileDelete n))
 
 store_is : (W : World) (c : ℕ) (o : Op) → IsStoreOp o → in_transaction W (attached W c) (λ t. store_act W t o) ≡ step W c o
-unfolding step hash_put_step hash_get_step hash_delete_step tree_put_step tree_get_step tree_delete_step tree_scan_step store_step
+unfolding step hash_put_step hash_get_step hash_delete_step tree_put_step tree_get_step tree_delete_step tree_scan_step file_new_step file_write_step file_read_step file_move_step file_delete_step store_step
 store_is W c o (inl (k, v, is)) = subst (λ (p : Op). in_transaction W (attached W c) (λ t. store_act W t p) ≡ step W c p) (sym is) refl
 store_is W c o (inr (inl (k, is))) = subst (λ (p : Op). in_transaction W (attached W c) (λ t. store_act W t p) ≡ step W c p) (sym is) refl
 store_is W c o (inr (inr (inl (k, is)))) = subst (λ (p : Op). in_transaction W (attached W c) (λ t. store_act W t p) ≡ step W c p) (sym is) refl
 store_is W c o (inr (inr (inr (inl (k, v, is))))) = subst (λ (p : Op). in_transaction W (attached W c) (λ t. store_act W t p) ≡ step W c p) (sym is) refl
 store_is W c o (inr (inr (inr (inr (inl (k, is)))))) = subst (λ (p : Op). in_transaction W (attached W c) (λ t. store_act W t p) ≡ step W c p) (sym is) refl
 store_is W c o (inr (inr (inr (inr (inr (inl (k, is))))))) = subst (λ (p : Op). in_transaction W (attached W c) (λ t. store_act W t p) ≡ step W c p) (sym is) refl
-store_is W c o (inr (inr (inr (inr (inr (inr (f, u, m, is))))))) = subst (λ (p : Op). in_transaction W (attached W c) (λ t. store_act W t p) ≡ step W c p) (sym is) refl
+store_is W c o (inr (inr (inr (inr (inr (inr (inl (f, u, m, is)))))))) = subst (λ (p : Op). in_transaction W (attached W c) (λ t. store_act W t p) ≡ step W c p) (sym is) refl
+store_is W c o (inr (inr (inr (inr (inr (inr (inr (inl (n, is))))))))) = subst (λ (p : Op). in_transaction W (attached W c) (λ t. store_act W t p) ≡ step W c p) (sym is) refl
+store_is W c o (inr (inr (inr (inr (inr (inr (inr (inr (inl (n, f, x, is)))))))))) = subst (λ (p : Op). in_transaction W (attached W c) (λ t. store_act W t p) ≡ step W c p) (sym is) refl
+store_is W c o (inr (inr (inr (inr (inr (inr (inr (inr (inr (inl (n, f, l, is))))))))))) = subst (λ (p : Op). in_transaction W (attached W c) (λ t. store_act W t p) ≡ step W c p) (sym is) refl
+store_is W c o (inr (inr (inr (inr (inr (inr (inr (inr (inr (inr (inl (f, u, is)))))))))))) = subst (λ (p : Op). in_transaction W (attached W c) (λ t. store_act W t p) ≡ step W c p) (sym is) refl
+store_is W c o (inr (inr (inr (inr (inr (inr (inr (inr (inr (inr (inr (n, is)))))))))))) = subst (λ (p : Op). in_transaction W (attached W c) (λ t. store_act W t p) ≡ step W c p) (sym is) refl
 
 store_not_plain : (o : Op) → IsStoreOp o → IsPlain o → ⊥
 store_not_plain o (inl (k, v, is)) plain = subst (λ (p : Op). IsPlain p) is plain
@@ -150,7 +157,12 @@ store_not_plain o (inr (inr (inl (k, is)))) plain = subst (λ (p : Op). IsPlain 
 store_not_plain o (inr (inr (inr (inl (k, v, is))))) plain = subst (λ (p : Op). IsPlain p) is plain
 store_not_plain o (inr (inr (inr (inr (inl (k, is)))))) plain = subst (λ (p : Op). IsPlain p) is plain
 store_not_plain o (inr (inr (inr (inr (inr (inl (k, is))))))) plain = subst (λ (p : Op). IsPlain p) is plain
-store_not_plain o (inr (inr (inr (inr (inr (inr (f, u, m, is))))))) plain = subst (λ (p : Op). IsPlain p) is plain
+store_not_plain o (inr (inr (inr (inr (inr (inr (inl (f, u, m, is)))))))) plain = subst (λ (p : Op). IsPlain p) is plain
+store_not_plain o (inr (inr (inr (inr (inr (inr (inr (inl (n, is))))))))) plain = subst (λ (p : Op). IsPlain p) is plain
+store_not_plain o (inr (inr (inr (inr (inr (inr (inr (inr (inl (n, f, x, is)))))))))) plain = subst (λ (p : Op). IsPlain p) is plain
+store_not_plain o (inr (inr (inr (inr (inr (inr (inr (inr (inr (inl (n, f, l, is))))))))))) plain = subst (λ (p : Op). IsPlain p) is plain
+store_not_plain o (inr (inr (inr (inr (inr (inr (inr (inr (inr (inr (inl (f, u, is)))))))))))) plain = subst (λ (p : Op). IsPlain p) is plain
+store_not_plain o (inr (inr (inr (inr (inr (inr (inr (inr (inr (inr (inr (n, is)))))))))))) plain = subst (λ (p : Op). IsPlain p) is plain
 
 pub returns-in-HashPut : goal.returns-in-HashPut
 returns-in-HashPut g c W of isop =
