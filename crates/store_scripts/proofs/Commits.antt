@@ -1,5 +1,5 @@
 -- The lines of a script that commit, by the history after all its lines.
-use Rattle.store_scripts.proofs.Words.{◌≡◌, ◌∙◌, sym, refl, ap, subst, ℕ, ◌+◌, ◌-◌, ◌<◌, ◌≤◌, IsTrue, List, [], ◌∷◌, ◌++◌, Some, arith, Line, Op, End, Array, History, array_at, last, after, step, Live, World, attached, AreLines, IsOp, after_leads, step_leads, BeginsWell, ToldInOrder, CommitKeeps, CommitsKeep, Notes, no_notes, noted, notes_after, IsEndedAs, group_step, Begin, Abort, Put, Read, Get, Write, Fill, Mark, Release, Takeover, Await, Group, Trim, Stat, Compact, Upgrade, HashPut, HashGet, HashDelete, TreePut, TreeGet, TreeDelete, TreeScan, SecondStore, FileNew, FileWrite, FileRead, FileMove, FileDelete}
+use Rattle.store_scripts.proofs.Words.{◌≡◌, ◌∙◌, sym, refl, ap, subst, ℕ, ◌-◌, ◌<◌, ◌≤◌, IsTrue, List, [], ◌∷◌, ◌++◌, Some, arith, Line, Op, End, Array, array_at, last, after, step, Live, World, attached, AreLines, IsOp, after_leads, step_leads, BeginsWell, ToldInOrder, CommitKeeps, CommitsKeep, Notes, no_notes, noted, notes_after, IsEndedAs, group_step, Begin, Abort, Put, Read, Get, Write, Fill, Mark, Release, Takeover, Await, Group, Trim, Stat, Compact, Upgrade, HashPut, HashGet, HashDelete, TreePut, TreeGet, TreeDelete, TreeScan, SecondStore, FileNew, FileWrite, FileRead, FileMove, FileDelete}
 use Rattle.script_model.specs.declared.script.Reply.TheVariants as reply
 use Rattle.store_scripts.proofs.Lines.{noted_after, noted_begins}
 use Rattle.store_scripts.proofs.Members.{array_extends, labels_told}

@@ -6,7 +6,7 @@ use Rattle.store_model.specs.declared.files.FsError.TheVariants as fs
 use Rattle.store_model.specs.declared.stores.StoreError.TheVariants as store
 use Rattle.store_model.specs.FileCalls.{create_program, read_program, remove_program, rename_program, write_program}
 use Rattle.store_model.specs.TreeCalls as tree
-use Rattle.store_laws.specs.Files.{FileAnswer, FileMade, FileRead as WasRead, FileThere, MakeFile, ReadFile, RemoveFile, RenameFile, WriteFile}
+use Rattle.store_laws.specs.Files.{FileMade, FileRead as WasRead, FileThere, MakeFile, ReadFile, RemoveFile, RenameFile, WriteFile}
 use Rattle.store_scripts.proofs.Acting.{SecondGoes}
 use Rattle.store_scripts.proofs.Blocks.{files_second}
 use Rattle.store_scripts.proofs.Calls.{foreign_goes, foreign_in_store, in_store_goes, second_goes}

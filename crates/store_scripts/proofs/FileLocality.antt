@@ -1,5 +1,5 @@
 -- A call on files that a program answers Ok is local for the files of the image.
-use Rattle.store_scripts.proofs.Words.{◌≡◌, ◌≢◌, refl, ap, subst, ℕ, ◌<◌, ◌+◌, ◌&&◌, Bool, true, IsTrue, cond, List, length, Option, Some, None, Result, Ok, arith, Access, Geometry, Array, is_valid, block_at, HasShape, hash_area, in_area, is_key, accesses_of, outcome, outcome_whole, answer_of, limits, spare_where_apart, SpareRegion, file_store, in_areas, AreFileRegions, files, Call, file_blocks, files_area, image_hash, the_files}
+use Rattle.store_scripts.proofs.Words.{◌≡◌, ◌≢◌, subst, ℕ, ◌+◌, ◌&&◌, Bool, true, IsTrue, List, length, Option, Some, Ok, arith, Access, Geometry, Array, is_valid, HasShape, is_key, accesses_of, outcome, outcome_whole, answer_of, limits, spare_where_apart, SpareRegion, file_store, AreFileRegions, files, Call, file_blocks, files_area, image_hash, the_files}
 use Rattle.store_model.specs.declared.files.FsError.TheVariants as fs
 use Rattle.store_model.specs.FileCalls.{create_op, create_program, is_many, read_op, read_program, remove_op, remove_program, rename_op, rename_program, write_op, write_program}
 use Rattle.iso_fs.proofs.CreateCalls.{HaveBlocks, create_local}

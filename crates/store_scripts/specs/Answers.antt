@@ -1,5 +1,5 @@
 -- The call that an operation makes of a store, and the answer that its reply tells.
-use Rattle.std.specs.Prelude.{true, false, Bool, List, [], Option, Some, None, option_map}
+use Rattle.std.specs.Prelude.{true, false, [], Option, Some, None, option_map}
 use Rattle.script_model.specs.declared.script.Op.{Op}
 use Rattle.script_model.specs.declared.script.Op.TheVariants.{HashPut, HashGet, HashDelete, TreePut, TreeGet, TreeDelete, TreeScan, FileNew, FileWrite, FileRead, FileMove, FileDelete}
 use Rattle.script_model.specs.declared.script.Reply.{Reply}
