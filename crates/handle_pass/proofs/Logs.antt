@@ -146,6 +146,19 @@ log_all A xs mine (e ∷ es) ys after F is l =
     subst (Log after ys) (append_assoc F (e ∷ []) es) (log_all A is.0 is.1 es ys after (F ++ e ∷ []) is.3 (log_more mine is.1 xs m.before is.0 F e m.told m.known m.places l))
 
 module _ {D O : Type 0} where
+  -- an entry that a session made is the next one
+  pub next_made : (A : Start) (s t : Session D O) (e : Entry) → Made A s t e → AreNext A (seen s) (count s) (e ∷ []) (seen t) (count t)
+  next_made A s t e m = (
+    seen t,
+    count t,
+    record { before = m.entered.before; told = m.entered.told; known = m.entered.known; legal = m.entered.legal; places = m.entered.places },
+    (prefix_self (seen t), λ p. refl),
+  )
+
+  -- a session that made none
+  pub next_rested : (A : Start) (s t : Session D O) → Rested s t → AreNext A (seen s) (count s) [] (seen t) (count t)
+  next_rested A s t r = (subst (λ l. IsPrefix (seen s) l) (sym r.known) (prefix_self (seen s)), r.places)
+
   -- a port that has just been split off has no place: a log of the session is one of the two
   pub log_split : (s t : Session D O) (q : Port D O) (F : List Entry) → Split s q t → Log (count s) (seen s) F → Log (count_with t (port_view q)) (port_view q).seen F
   log_split s t q F cut l =

@@ -1,9 +1,9 @@
 -- What a session's own calls make of a visit: its fetches, its transaction, and what a store sees.
-use Rattle.handle_pass.proofs.Words.{◌≡◌, ℕ, ◌<◌, Bool, true, false, cond, List, [], ◌∷◌, ◌++◌, Option, Some, None, option_map, length, map, refl, sym, ap, ◌∙◌, subst, append_assoc, arith, ForSome, map-append, append-nil, Access, Span, Array, is_write, array_at, marked, block_at, Cause, Entry, Start, state_at, Session, accesses_of, Shows, Moves, Own, own, seen, IsSession, Made, Rested, Failed, KeepsOwn, Visited, base_in, begin_array, blocks_read, with_list, fetches, number_in, refusals, shaped, prefix_trans}
+use Rattle.handle_pass.proofs.Words.{◌≡◌, ℕ, ◌<◌, Bool, true, false, cond, List, [], ◌∷◌, ◌++◌, Option, Some, None, option_map, length, map, refl, sym, ap, ◌∙◌, subst, append_assoc, arith, ForSome, map-append, append-nil, Access, Span, Array, is_write, array_at, marked, block_at, Cause, Entry, Start, state_at, Session, accesses_of, Shows, AreNext, Moves, Own, count, own, seen, IsSession, Made, Rested, Failed, KeepsOwn, Visited, base_in, begin_array, blocks_read, with_list, fetches, number_in, refusals, shaped, prefix_self, prefix_trans}
 use Rattle.iso_shared.specs.declared.entry.Call.TheVariants as call
 use Rattle.iso_shared.specs.declared.entry.Cause.TheVariants as cause
 use Rattle.iso_shared.specs.declared.entry.Entry.TheVariants as entry
-use Rattle.handle_pass.proofs.Logs.{moves_made, moves_none, moves_on, moves_rested}
+use Rattle.handle_pass.proofs.Logs.{moves_made, moves_none, moves_on, moves_rested, next_made, next_on, next_rested}
 use Rattle.handle_pass.proofs.Begun.{HasBegin, array_kept, has_begin, tells_at}
 use Rattle.handle_pass.proofs.Shapes.{all_snoc, block_shaped, length_laid}
 
@@ -83,6 +83,7 @@ module _ {D O : Type 0} (A : Start) where
   visit_none s = record {
     fetched = [];
     moves = moves_none s;
+    next = (prefix_self (seen s), λ p. refl);
     keeps = kept_itself (own s);
     reads = sym (append-nil (blocks_read (accesses_of (own s))));
     told = λ B is. tt;
@@ -97,6 +98,8 @@ module _ {D O : Type 0} (A : Start) where
       record {
         fetched = v.fetched;
         moves = subst (Moves s u) (append-nil es) (moves_on s t u es [] v.moves (moves_rested t u rested));
+        next = subst (λ (xs : List Entry). AreNext A (seen s) (count s) xs (seen u) (count u)) (append-nil es)
+            (next_on A (seen s) (seen t) (seen u) (count s) (count t) (count u) es [] v.next (next_rested A t u rested));
         keeps = kept_on (own s) (own t) (own u) v.keeps (kept_with (own t) (own u) o l was is);
         reads = ap (λ w. blocks_read (accesses_of w)) is ∙ same ∙ sym (ap (λ w. blocks_read (accesses_of w)) was) ∙ v.reads;
         told = v.told;
@@ -121,6 +124,8 @@ module _ {D O : Type 0} (A : Start) where
       record {
         fetched = v.fetched ++ (a.block, bytes) ∷ [];
         moves = subst (Moves s u) all (moves_on s t u es (e ∷ []) v.moves (moves_made A t u e made'));
+        next = subst (λ (xs : List Entry). AreNext A (seen s) (count s) xs (seen u) (count u)) all
+            (next_on A (seen s) (seen t) (seen u) (count s) (count t) (count u) es (e ∷ []) v.next (next_made A t u e made'));
         keeps = kept_on (own s) (own t) (own u) v.keeps (kept_with (own t) (own u) o (o.accesses ++ a ∷ []) was is);
         reads = ap (λ w. blocks_read (accesses_of w)) is
             ∙ last
@@ -145,6 +150,8 @@ module _ {D O : Type 0} (A : Start) where
       record {
         fetched = v.fetched;
         moves = subst (Moves s u) all (moves_on s t u es (e ∷ []) v.moves (moves_made A t u e made'));
+        next = subst (λ (xs : List Entry). AreNext A (seen s) (count s) xs (seen u) (count u)) all
+            (next_on A (seen s) (seen t) (seen u) (count s) (count t) (count u) es (e ∷ []) v.next (next_made A t u e made'));
         keeps = kept_on (own s) (own t) (own u) v.keeps (kept_with (own t) (own u) o o.accesses was is);
         reads = ap (λ w. blocks_read (accesses_of w)) (is ∙ sym was) ∙ v.reads;
         told = v.told;

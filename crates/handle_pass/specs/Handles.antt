@@ -9,6 +9,7 @@ use Rattle.iso_shared.specs.declared.entry.Cause.TheVariants as cause
 use Rattle.iso_shared.specs.declared.entry.Entry.{Entry}
 use Rattle.iso_shared.specs.declared.entry.Entry.TheVariants as entry
 use Rattle.iso_shared.specs.declared.shared.Shared.{Shared}
+use Rattle.iso_shared.specs.declared.tx.Tx.{Tx}
 use Rattle.iso_shared.specs.Ports.{IsTx, check_of, tx_view}
 use Rattle.iso_shared.specs.States.{Start}
 use Rattle.turn_lock.specs.Lists.{times}
@@ -19,7 +20,10 @@ use Rattle.handle_pass.specs.declared.session.Session.{Session}
 use Rattle.handle_pass.specs.Sessions.{Own, checked, count, device, own, own_in, seen, units, KeepsTx, Made}
 
 module _ {D O : Type 0} where
-  -- the transaction of a handle
+  -- the transaction of a handle, and what it is to its holder
+  abbrev pub tx_of : Handle D O → Tx D O
+  tx_of h = h.tx
+
   abbrev pub passed : Handle D O → Own
   passed h = own_in h.tx
 

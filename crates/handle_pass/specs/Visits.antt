@@ -17,8 +17,8 @@ use Rattle.iso_shared.specs.States.{Start, state_at}
 use Rattle.tx_blocks.specs.Tx.{Device, Tx, IsTx as AreLimits}
 use Rattle.handle_pass.specs.declared.session.Session.{Session}
 use Rattle.handle_pass.specs.Accesses.{accesses_of, tx_on}
-use Rattle.handle_pass.specs.Logs.{Moves}
-use Rattle.handle_pass.specs.Sessions.{Own, own, seen, IsSession}
+use Rattle.handle_pass.specs.Logs.{AreNext, Moves}
+use Rattle.handle_pass.specs.Sessions.{Own, count, own, seen, IsSession}
 
 -- the blocks of the geometry, each with the array's bytes: the array itself, where it has that shape
 abbrev pub shaped : Geometry → Array → Array
@@ -85,6 +85,7 @@ module _ {D O : Type 0} where
   pub record Visited (A : Start) (s t : Session D O) (refused : Option (ℕ × Cause)) : Type 0 where
     pub fetched : Fetched
     pub moves : Moves s t (fetches (number_in (own s)) fetched ++ refusals (number_in (own s)) refused)
+    pub next : AreNext A (seen s) (count s) (fetches (number_in (own s)) fetched ++ refusals (number_in (own s)) refused) (seen t) (count t)
     pub keeps : KeepsOwn (own s) (own t)
     pub reads : blocks_read (accesses_of (own t)) ≡ blocks_read (accesses_of (own s)) ++ map (λ f. f.0) fetched
     pub told : ForSome (base_in A s) (λ B. AllByRecursion (λ f. f.1 ≡ block_at B f.0) fetched)

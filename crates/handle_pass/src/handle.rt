@@ -1,6 +1,6 @@
 // A transaction that goes from one session to another, without an entry of the list.
 ghost use Rattle.std.specs.Prelude.{◌≡◌};
-ghost use Rattle.handle_pass.specs.Handles.{HasReleased, HasTakenOver, IsHandle};
+ghost use Rattle.handle_pass.specs.Handles.{HasReleased, HasTakenOver, IsHandle, tx_of};
 ghost use Rattle.handle_pass.specs.Sessions.{device, IsSession};
 
 use crate::session::{Session, attach};
@@ -8,9 +8,20 @@ use iso_disk::Disk;
 use iso_model::{InTx, NotInTx};
 use iso_shared::{Origin, Tx};
 
-/// A transaction that no session has. It has one holder, and must be spent.
+/// A transaction that no session has. It has one holder, and cannot be dropped: `takeover_tx` of a session spends it, which may then
+/// end or abort it, or `into_tx`, as a member of a group.
 pub struct Handle<D: Disk + Drop, O: Origin> {
     pub(crate) tx: Tx<D, O>,
+}
+
+impl<D: Disk + Drop, O: Origin> Handle<D, O> {
+    /// The transaction itself, as calls of the device take it that end a group.
+    pub fn into_tx(self) -> Tx<D, O>
+        ensures { result ≡ tx_of self }
+    {
+        let Handle { tx } = self;
+        tx
+    }
 }
 
 impl<'a, D: Disk + Drop, O: Origin> Session<'a, D, O> {

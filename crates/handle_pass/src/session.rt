@@ -10,7 +10,7 @@ use iso_model::Mode;
 use iso_shared::{Origin, Port, Shared, Tx};
 use std::sync::Wait;
 
-/// A port, and at most one transaction. It must be finished.
+/// A port, and at most one transaction. It cannot be dropped: `finish` spends it, which aborts the transaction and gives the port back.
 pub struct Session<'a, D: Disk + Drop, O: Origin> {
     pub(crate) shared: &'a Shared<D, O>,
     pub(crate) port: Port<D, O>,
