@@ -1,0 +1,9 @@
+use Rattle.account_laws.proofs.Images.{opens_with_sum}
+use Rattle.account_laws.proofs.Walks.{sum_kept}
+use Rattle.account_laws.proofs.laws.accounts_keep_their_sum.Goals as goal
+
+pub returns-clause-history : goal.returns-clause-history
+returns-clause-history _ = sum_kept
+
+pub returns-clause-images : goal.returns-clause-images
+returns-clause-images _ = opens_with_sum

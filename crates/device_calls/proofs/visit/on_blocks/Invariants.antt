@@ -1,0 +1,6 @@
+-- The visit begins with the session as it is at the call.
+use Rattle.std.proofs.Common.{Some}
+use Rattle.device_calls.proofs.visit.on_blocks.Given as goal
+
+abbrev pub ghosts-visit : goal.ghosts-visit
+ghosts-visit g a = record { before = Some a.session.now; name = a.session.ghost_name }

@@ -1,0 +1,5 @@
+pub mod Beginnings
+pub mod Regions
+pub mod Visits
+pub mod Stores
+pub mod Retries
