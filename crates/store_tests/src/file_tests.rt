@@ -23,7 +23,7 @@ fn place() -> FsRegion
 }
 
 // Sixty-four blocks of zeros, with one byte changed.
-fn blank(alloc: Global, at: usize, byte: u8) -> Result<PlainTx, Fail>
+pub fn blank(alloc: Global, at: usize, byte: u8) -> Result<PlainTx, Fail>
     requires { at < 16384 }
     ensures { IfOk result (λ t. IsReady 64 (state_of t)) }
 {
@@ -32,14 +32,14 @@ fn blank(alloc: Global, at: usize, byte: u8) -> Result<PlainTx, Fail>
     Ok(PlainTx::new(alloc, bytes, 256))
 }
 
-fn create_in(alloc: Global, tx: &mut PlainTx, name: &[u8]) -> Result<(), FsError>
+pub fn create_in(alloc: Global, tx: &mut PlainTx, name: &[u8]) -> Result<(), FsError>
     requires { IsReady 64 (state_of tx.old) }
     ensures { IsReady 64 (state_of tx.new) }
 {
     create(alloc, tx, place(), name)
 }
 
-fn write_in(
+pub fn write_in(
     alloc: Global,
     tx: &mut PlainTx,
     name: &[u8],
@@ -52,7 +52,7 @@ fn write_in(
     write(alloc, tx, place(), name, off, bytes)
 }
 
-fn read_in(
+pub fn read_in(
     alloc: Global,
     tx: &mut PlainTx,
     name: &[u8],
@@ -65,14 +65,14 @@ fn read_in(
     read(alloc, tx, place(), name, off, len)
 }
 
-fn rename_in(alloc: Global, tx: &mut PlainTx, old: &[u8], new: &[u8]) -> Result<bool, FsError>
+pub fn rename_in(alloc: Global, tx: &mut PlainTx, old: &[u8], new: &[u8]) -> Result<bool, FsError>
     requires { IsReady 64 (state_of tx.old) }
     ensures { IsReady 64 (state_of tx.new) }
 {
     rename(alloc, tx, place(), old, new)
 }
 
-fn remove_in(alloc: Global, tx: &mut PlainTx, name: &[u8]) -> Result<bool, FsError>
+pub fn remove_in(alloc: Global, tx: &mut PlainTx, name: &[u8]) -> Result<bool, FsError>
     requires { IsReady 64 (state_of tx.old) }
     ensures { IsReady 64 (state_of tx.new) }
 {

@@ -2,6 +2,8 @@
 #![tactic(auto)]
 
 #[cfg(test)]
+mod drawn_file_tests;
+#[cfg(test)]
 mod file_tests;
 #[cfg(test)]
 mod hash_tests;
