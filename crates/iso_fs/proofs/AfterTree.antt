@@ -1,24 +1,5 @@
 -- What a call of the file store does behind a call of the tree store, and behind the read of a file block.
-use Rattle.std.proofs.Common.{◌≡◌, ◌∙◌, sym, refl, ap, subst, ℕ, ◌+◌, ◌≤◌, Bool, true, false, cond, List, [], ◌∷◌, ◌++◌, Option, Some, None, Result, Ok, Err}
-use Rattle.std.specs.FinMap.{get}
-use Rattle.iso_model.specs.declared.access.Access.{Access}
-use Rattle.store_model.specs.declared.stores.Area.{Area}
-use Rattle.store_model.specs.declared.stores.StoreError.{StoreError}
-use Rattle.iso_model.specs.Array.{Array}
-use Rattle.iso_model.specs.Effect.{own}
-use Rattle.store_model.specs.HashCalls.{is_key}
-use Rattle.store_model.specs.Stores.{AreReads, LookWhole, Program, accesses_of, answer_of, then_do}
-use Rattle.store_model.specs.TreeCalls.{get_program}
-use Rattle.store_model.specs.TreeRegion.{IsTreeRegion, tree_map}
-use Rattle.tx_blocks.proofs.Programs.{AreWhole, accesses_then, answer_then, own_reads, reads_append, whole_reads}
-use Rattle.tx_blocks.proofs.Progress.{own_append}
-use Rattle.iso_tree.proofs.DelCalls.{whole_append}
-use Rattle.iso_tree.proofs.Gets.{get_answers, get_reads}
-use Rattle.iso_tree.proofs.Reading.{cond_reads}
-use Rattle.store_model.specs.declared.files.FileAreas.{FileAreas}
-use Rattle.store_model.specs.FileNodes.{is_file, is_number, number_of}
-use Rattle.store_model.specs.FileCalls.{Call, at_file, broken, goes_on, in_tree, with_file}
-use Rattle.store_model.specs.FileRegion.{AreFileRegions, file_at}
+use Rattle.iso_fs.proofs.Words.{◌≡◌, ◌∙◌, sym, refl, ap, subst, ℕ, ◌+◌, ◌≤◌, Bool, true, false, cond, List, [], ◌∷◌, ◌++◌, Option, Some, None, Result, Ok, Err, get, Access, Area, StoreError, Array, own, is_key, AreReads, LookWhole, Program, accesses_of, answer_of, then_do, get_program, IsTreeRegion, tree_map, AreWhole, accesses_then, answer_then, own_reads, reads_append, whole_reads, own_append, whole_append, get_answers, get_reads, cond_reads, FileAreas, is_file, is_number, number_of, Call, at_file, broken, goes_on, in_tree, with_file, AreFileRegions, file_at}
 
 -- what a program leaves, and then what follows it
 pub own_then : {R S : Type 0} (p : Program R) (f : R → Program S) (A : Array)

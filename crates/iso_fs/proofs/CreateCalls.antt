@@ -1,26 +1,6 @@
 -- A create is local.
-use Rattle.std.proofs.Common.{◌≡◌, ◌∙◌, sym, refl, ap, subst, ℕ, ◌+◌, ◌-◌, ◌<◌, ◌≤◌, Bool, true, cond, List, [], ◌∷◌, length, Option, Some, None, Result, Ok, Err, arith}
-use Rattle.std.specs.FinMap.{get, insert}
-use Rattle.std.specs.Int.{w32, to_be_bytes}
-use Rattle.store_model.specs.declared.stores.StoreError.{StoreError}
-use Rattle.store_model.specs.declared.stores.StoreError.TheVariants.{NoBlocks}
-use Rattle.iso_model.specs.Array.{Array, put}
-use Rattle.iso_model.specs.Effect.{own}
-use Rattle.store_model.specs.FreeMap.{bit_place, lowest_free, map_mark, set_bit}
-use Rattle.store_model.specs.HashCalls.{is_key}
-use Rattle.iso_model.specs.Premises.{block_at}
-use Rattle.store_model.specs.Stores.{IsLocal, accesses_of, answer_of, bytes_in}
-use Rattle.store_model.specs.TreeCalls.{get_program, put_program}
-use Rattle.store_model.specs.TreeRegion.{tree_map}
-use Rattle.tx_blocks.proofs.Programs.{AreWhole, IsCorrect, accesses_then, answer_then, local_from}
-use Rattle.iso_tree.proofs.DelCalls.{HasBlocks, whole_append}
-use Rattle.iso_tree.proofs.Facts.{nothing_is}
-use Rattle.iso_tree.proofs.PutWhole.{put_whole}
-use Rattle.store_model.specs.declared.files.FsError.{FsError}
+use Rattle.iso_fs.proofs.Words.{◌≡◌, ◌∙◌, sym, refl, ap, subst, ℕ, ◌+◌, ◌-◌, ◌<◌, ◌≤◌, Bool, true, cond, List, [], ◌∷◌, length, Option, Some, None, Result, Ok, Err, arith, get, insert, w32, to_be_bytes, StoreError, NoBlocks, Array, put, own, bit_place, lowest_free, map_mark, set_bit, is_key, block_at, IsLocal, accesses_of, answer_of, bytes_in, get_program, put_program, tree_map, AreWhole, IsCorrect, accesses_then, answer_then, local_from, HasBlocks, whole_append, nothing_is, put_whole, FsError, FileAreas, Call, create_at, create_new, create_op, create_program, empty_writes, goes_on, in_tree, refuse, AreFileAreas, AreFileRegions, files}
 use Rattle.store_model.specs.declared.files.FsError.TheVariants as fs
-use Rattle.store_model.specs.declared.files.FileAreas.{FileAreas}
-use Rattle.store_model.specs.FileCalls.{Call, create_at, create_new, create_op, create_program, empty_writes, goes_on, in_tree, refuse}
-use Rattle.store_model.specs.FileRegion.{AreFileAreas, AreFileRegions, files}
 use Rattle.iso_fs.proofs.AfterTree.{answer_got, own_got, own_then, whole_behind_get}
 use Rattle.iso_fs.proofs.Creates.{HasCreated, created}
 use Rattle.iso_fs.proofs.MapByte.{IsFree, is_free, length-block_with}

@@ -1,34 +1,7 @@
 -- A create, part by part.
-use Rattle.std.proofs.Common.{◌≡◌, ◌∙◌, sym, refl, ap, subst, ℕ, zero, suc, ◌+◌, ◌-◌, ◌%◌, ◌<◌, ◌≤◌, ◌==◌, Bool, true, false, not, cond, List, [], ◌∷◌, length, get_or, Option, Some, None, Result, Ok, Err, IfOk, arith}
-use Rattle.std.specs.Option.{ForSome}
-use Rattle.std.specs.Int.{w32, to_be_bytes}
-use Rattle.std.proofs.lemmas.List.{get_or-take, get_or-set_same}
-use Rattle.iso_model.specs.declared.access.Access.{Access}
-use Rattle.store_model.specs.declared.stores.StoreError.{StoreError}
+use Rattle.iso_fs.proofs.Words.{◌≡◌, ◌∙◌, sym, refl, ap, subst, ℕ, zero, suc, ◌+◌, ◌-◌, ◌%◌, ◌<◌, ◌≤◌, ◌==◌, Bool, true, false, not, cond, List, [], ◌∷◌, length, get_or, Option, Some, None, Result, Ok, Err, IfOk, arith, ForSome, w32, to_be_bytes, get_or-take, get_or-set_same, Access, StoreError, TxError, Array, first_from, own, block_with, bit_mark, bit_place, lowest_free, map_bytes, map_mark, set_bit, with_bit, is_key, block_at, Done, IsLocal, Store, bytes_in, look_access, store_access, get_program, put_program, Tx, Device, IsTx, with_accesses, HasEnded, IsCause, IsLocalCall, HasAccess, IsAt, at_look, at_start, at_store, ran_at, whole_run, cut_at_look, cut_at_store, blocks_in, FsError, FileAreas, FsRegion, file_block, Call, create_at, create_new, create_op, create_program, empty_writes, goes_on, in_tree, name_file, refuse, AreFileAreas, AreFileRegions, files, HasRun, areas_of}
 use Rattle.store_model.specs.declared.stores.StoreError.TheVariants as store
-use Rattle.store_model.specs.declared.stores.TxError.{TxError}
-use Rattle.iso_model.specs.Array.{Array}
-use Rattle.iso_model.specs.Conflict.{first_from}
-use Rattle.iso_model.specs.Effect.{own}
-use Rattle.store_model.specs.Cells.{block_with}
-use Rattle.store_model.specs.FreeMap.{bit_mark, bit_place, lowest_free, map_bytes, map_mark, set_bit, with_bit}
-use Rattle.store_model.specs.HashCalls.{is_key}
-use Rattle.iso_model.specs.Premises.{block_at}
-use Rattle.store_model.specs.Stores.{Done, IsLocal, Store, bytes_in, look_access, store_access}
-use Rattle.store_model.specs.TreeCalls.{get_program, put_program}
-use Rattle.tx_blocks.specs.Tx.{Tx, Device, IsTx, with_accesses}
-use Rattle.tx_blocks.specs.Runs.{HasEnded, IsCause, IsLocalCall}
-use Rattle.tx_blocks.proofs.Progress.{HasAccess, IsAt, at_look, at_start, at_store, ran_at, whole_run}
-use Rattle.tx_blocks.proofs.Refusals.{cut_at_look, cut_at_store}
-use Rattle.iso_tree.proofs.Removing.{blocks_in}
-use Rattle.store_model.specs.declared.files.FsError.{FsError}
 use Rattle.store_model.specs.declared.files.FsError.TheVariants as fs
-use Rattle.store_model.specs.declared.files.FileAreas.{FileAreas}
-use Rattle.store_model.specs.declared.files.FsRegion.{FsRegion}
-use Rattle.store_model.specs.FileNodes.{file_block}
-use Rattle.store_model.specs.FileCalls.{Call, create_at, create_new, create_op, create_program, empty_writes, goes_on, in_tree, name_file, refuse}
-use Rattle.store_model.specs.FileRegion.{AreFileAreas, AreFileRegions, files}
-use Rattle.iso_fs.specs.Ends.{HasRun, areas_of}
 use Rattle.iso_fs.proofs.CreateCalls.{HaveBlocks, create_local}
 use Rattle.iso_fs.proofs.Ended.{has_then, run_from, tree_done, tree_refused}
 use Rattle.iso_fs.proofs.Finding.{get_has, put_has}

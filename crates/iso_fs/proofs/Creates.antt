@@ -1,39 +1,10 @@
 -- A new file is that of the files.
-use Rattle.std.proofs.Common.{◌≡◌, ◌≢◌, ◌⊎◌, ◌∙◌, sym, refl, ap, subst, ℕ, ◌+◌, ◌*◌, ◌<◌, ◌≤◌, Bool, true, false, ◌||◌, ◌==◌, cond, List, [], ◌∷◌, length, get_or, take, map, Option, Some, None, option_map, Ok, arith, inl, inr, eq-eqb, ne_eqb}
-use Rattle.std.specs.List.{list_all}
-use Rattle.std.specs.FinMap.{get, insert, same_map, slice_cmp-IsAntisymmetric, nat_cmp-IsAntisymmetric}
-use Rattle.std.specs.Cmp.Lexicographic.{nat_list_cmp_total}
-use Rattle.std.specs.Int.{w32, to_be_bytes, from_be_bytes}
-use Rattle.std.proofs.lemmas.Bool.{both_ways, cases_Bool, cases_eq, or_left, or_right}
-use Rattle.std.proofs.lemmas.Bool.Decides.{nat_tests}
-use Rattle.std.proofs.lemmas.Nat.{from_be_bytes-to_be_bytes_4}
-use Rattle.iso_model.specs.declared.access.Access.{Access}
-use Rattle.iso_model.specs.Array.{Array, merged, put}
-use Rattle.iso_model.specs.Effect.{own}
-use Rattle.store_model.specs.Cells.{block_with, is_zero}
-use Rattle.store_model.specs.FreeMap.{bit_mark, bit_place, map_bit, map_bytes, map_mark, set_bit}
-use Rattle.store_model.specs.HashCalls.{is_key}
-use Rattle.iso_model.specs.Premises.{block_at}
-use Rattle.store_model.specs.Stores.{accesses_of, answer_of, bytes_in, store_access}
-use Rattle.store_model.specs.TreeCalls.{put_program}
-use Rattle.store_model.specs.TreeRegion.{IsTreeRegion, tree_map}
-use Rattle.iso_model.proofs.Bytes.{length-block_own, length-block_put, other_block, written_block}
-use Rattle.iso_alloc.proofs.Bits.{bits_with}
-use Rattle.iso_tree.proofs.Frames.{laid_whole}
-use Rattle.iso_tree.proofs.NewBlocks.{sizes_of}
-use Rattle.iso_tree.proofs.PutCalls.{put_correct}
-use Rattle.store_model.specs.declared.files.FileAreas.{FileAreas}
-use Rattle.store_model.specs.FileNodes.{bytes_of, data_count, is_file, is_number, number_of}
-use Rattle.store_model.specs.FileRegion.{AreFileAreas, AreFileRegions, IsUsed, Uses, block_in, content, file_at, files, number_at}
-use Rattle.store_model.specs.Areas.{in_area}
+use Rattle.iso_fs.proofs.Words.{◌≡◌, ◌≢◌, ◌⊎◌, ◌∙◌, sym, refl, ap, subst, ℕ, ◌+◌, ◌*◌, ◌<◌, ◌≤◌, Bool, true, false, ◌||◌, ◌==◌, cond, List, [], ◌∷◌, length, get_or, take, map, Option, Some, None, option_map, Ok, arith, inl, inr, eq-eqb, ne_eqb, list_all, get, insert, same_map, slice_cmp-IsAntisymmetric, nat_cmp-IsAntisymmetric, nat_list_cmp_total, w32, to_be_bytes, from_be_bytes, both_ways, cases_Bool, cases_eq, or_left, or_right, nat_tests, from_be_bytes-to_be_bytes_4, Access, Array, merged, put, own, block_with, is_zero, bit_mark, bit_place, map_bit, map_bytes, map_mark, set_bit, is_key, block_at, accesses_of, answer_of, bytes_in, store_access, put_program, IsTreeRegion, tree_map, length-block_own, length-block_put, other_block, written_block, bits_with, laid_whole, sizes_of, put_correct, FileAreas, bytes_of, data_count, is_file, is_number, number_of, AreFileAreas, AreFileRegions, IsUsed, Uses, block_in, content, file_at, files, number_at, in_area, kept_outside, map_new, region_new, put_program_stores}
 use Rattle.iso_fs.proofs.Files.{uses_handed}
 use Rattle.iso_fs.proofs.Kept.{kept_content, kept_uses, same_some, still_uses}
 use Rattle.iso_fs.proofs.Lookups.{files_get, insert_get, name_is, name_self, same_name}
 use Rattle.iso_fs.proofs.MapByte.{IsFree, byte_far, byte_here, head_far, map_byte}
 use Rattle.iso_fs.proofs.NewFile.{empty_file, empty_is_file, length-empty_file, no_data_of}
-use Rattle.tx_blocks.proofs.Storing.{kept_outside}
-use Rattle.iso_tree.proofs.TreeBlocks.{map_new, region_new}
-use Rattle.iso_tree.proofs.TreeWrites.{put_program_stores}
 
 -- the regions after the call, and the files in them
 pub record HasCreated (a : FileAreas) (name : List ℕ) (A C : Array) : Type 0 where

@@ -1,23 +1,8 @@
 -- A call of the file store that is made of parts.
-use Rattle.std.proofs.Common.{◌≡◌, ◌≢◌, ◌∙◌, sym, refl, ap, subst, ℕ, ◌+◌, ◌≤◌, Bool, true, false, length, Some, Result, Ok, Err, inr, arith, length-append}
-use Rattle.std.specs.Prelude.{IfErr}
-use Rattle.std.proofs.lemmas.Bool.{false≢true}
-use Rattle.store_model.specs.declared.stores.StoreError.{StoreError}
+use Rattle.iso_fs.proofs.Words.{◌≡◌, ◌≢◌, ◌∙◌, sym, refl, ap, subst, ℕ, ◌+◌, ◌≤◌, Bool, true, false, length, Some, Result, Ok, Err, inr, arith, length-append, IfErr, false≢true, StoreError, TxError, own, Program, accesses_of, answer_of, then_do, Tx, Device, IsLater, Ran, IsCause, IsStoreCause, HasEnded, HasRead, Passed, accesses_then, HasAccess, IsAt, at_start, at_then, ran_at, stopped_at, cause_earlier, cause_since, cut_then, later_than, later_same, store_cause, cut_from, ends_from, read_join, stopped_from, FsError, Call, goes_on, in_tree, FsBehaves, HasRun, IsFsCause, IsOfTx, IsUnwritten, may_follow}
 use Rattle.store_model.specs.declared.stores.StoreError.TheVariants as store
-use Rattle.store_model.specs.declared.stores.TxError.{TxError}
-use Rattle.iso_model.specs.Effect.{own}
-use Rattle.store_model.specs.Stores.{Program, accesses_of, answer_of, then_do}
-use Rattle.tx_blocks.specs.Tx.{Tx, Device, IsLater}
-use Rattle.tx_blocks.specs.Runs.{Ran, IsCause, IsStoreCause, HasEnded, HasRead, Passed}
 use Rattle.tx_blocks.specs.Runs as runs
-use Rattle.tx_blocks.proofs.Programs.{accesses_then}
-use Rattle.tx_blocks.proofs.Progress.{HasAccess, IsAt, at_start, at_then, ran_at, stopped_at}
-use Rattle.tx_blocks.proofs.Refusals.{cause_earlier, cause_since, cut_then, later_than, later_same, store_cause}
-use Rattle.tx_blocks.proofs.Parts.{cut_from, ends_from, read_join, stopped_from}
-use Rattle.store_model.specs.declared.files.FsError.{FsError}
 use Rattle.store_model.specs.declared.files.FsError.TheVariants as fs
-use Rattle.store_model.specs.FileCalls.{Call, goes_on, in_tree}
-use Rattle.iso_fs.specs.Ends.{FsBehaves, HasRun, IsFsCause, IsOfTx, IsUnwritten, may_follow}
 
 -- a part that follows what is left of the call ends the call
 pub run_from : {X : Type 0} (whole rest : Call X) (t u v : Tx) (result : Result X FsError) → IsAt whole rest t u → HasRun rest u v result → HasRun whole t v result

@@ -1,30 +1,7 @@
 -- Where a file call answers that a file exists.
-use Rattle.std.proofs.Common.{◌≡◌, ◌∙◌, ◌↔◌, sym, refl, ap, ℕ, ◌-◌, Bool, true, false, ◌&&◌, cond, IsTrue, List, Option, Some, None, option_map, Result, Ok, Err}
-use Rattle.std.specs.Prelude.{is_some}
-use Rattle.std.specs.FinMap.{get}
-use Rattle.std.specs.Int.{w32, to_be_bytes}
-use Rattle.std.proofs.lemmas.Bool.{and_parts}
-use Rattle.iso_model.specs.Array.{Array}
-use Rattle.iso_model.specs.Effect.{own}
-use Rattle.store_model.specs.declared.stores.StoreError.{StoreError}
+use Rattle.iso_fs.proofs.Words.{◌≡◌, ◌∙◌, ◌↔◌, sym, refl, ap, ℕ, ◌-◌, Bool, true, false, ◌&&◌, cond, IsTrue, List, Option, Some, None, option_map, Result, Ok, Err, is_some, get, w32, to_be_bytes, and_parts, Array, own, StoreError, FsError, FileAreas, bit_place, lowest_free, map_mark, set_bit, is_key, Pairs, block_at, Done, accesses_of, answer_of, bytes_in, del_program, get_program, put_program, tree_map, number_of, Call, create_at, create_new, create_program, empty_writes, goes_on, in_tree, refuse, rename_found, rename_free, rename_program, AreFileRegions, content, files, Tx, room_of, outcome_whole, answer_then, ExistsWhere, HasAnswered, HasRun}
 use Rattle.store_model.specs.declared.stores.StoreError.TheVariants as store
-use Rattle.store_model.specs.declared.files.FsError.{FsError}
 use Rattle.store_model.specs.declared.files.FsError.TheVariants as fs
-use Rattle.store_model.specs.declared.files.FileAreas.{FileAreas}
-use Rattle.store_model.specs.FreeMap.{bit_place, lowest_free, map_mark, set_bit}
-use Rattle.store_model.specs.HashCalls.{is_key}
-use Rattle.store_model.specs.HashRegion.{Pairs}
-use Rattle.iso_model.specs.Premises.{block_at}
-use Rattle.store_model.specs.Stores.{Done, accesses_of, answer_of, bytes_in}
-use Rattle.store_model.specs.TreeCalls.{del_program, get_program, put_program}
-use Rattle.store_model.specs.TreeRegion.{tree_map}
-use Rattle.store_model.specs.FileNodes.{number_of}
-use Rattle.store_model.specs.FileCalls.{Call, create_at, create_new, create_program, empty_writes, goes_on, in_tree, refuse, rename_found, rename_free, rename_program}
-use Rattle.store_model.specs.FileRegion.{AreFileRegions, content, files}
-use Rattle.tx_blocks.specs.Tx.{Tx, room_of}
-use Rattle.tx_blocks.proofs.Outcomes.{outcome_whole}
-use Rattle.tx_blocks.proofs.Programs.{answer_then}
-use Rattle.iso_fs.specs.Ends.{ExistsWhere, HasAnswered, HasRun}
 use Rattle.iso_fs.proofs.AfterTree.{answer_got}
 use Rattle.iso_fs.proofs.Lookups.{files_get}
 

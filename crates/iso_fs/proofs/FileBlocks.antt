@@ -1,18 +1,5 @@
 -- The bytes of a file block, and the numbers of a list by their places.
-use Rattle.std.proofs.Common.{◌≡◌, ◌∙◌, sym, refl, ap, subst, ℕ, zero, suc, ◌+◌, ◌-◌, ◌*◌, ◌^◌, ◌<◌, ◌≤◌, ◌&&◌, Bool, true, List, [], ◌∷◌, ◌++◌, length, get_or, take, drop, replicate, nat_le, arith, inl, inr}
-use Rattle.std.specs.List.{list_all, flat_map}
-use Rattle.std.specs.Int.{w32, to_be_bytes, from_be_bytes}
-use Rattle.std.proofs.lemmas.Bool.{and_from}
-use Rattle.std.proofs.lemmas.Bool.Decides.{nat_tests}
-use Rattle.std.proofs.lemmas.List.{drop-drop, drop_at, length-replicate}
-use Rattle.std.proofs.Common.{length-append}
-use Rattle.std.proofs.lemmas.Nat.{from_be_bytes-to_be_bytes_4}
-use Rattle.store_model.specs.declared.stores.Area.{Area}
-use Rattle.store_model.specs.Cells.{all_from, is_zero}
-use Rattle.store_model.specs.HashRegion.{IsIn}
-use Rattle.store_model.specs.Trees.{IsApart}
-use Rattle.iso_tree.proofs.Frames.{zeros_are}
-use Rattle.store_model.specs.FileNodes.{are_entries, blocks_for, bytes_of, data_count, entry_at, file_block, has_zeros, is_file, is_handed, most_bytes}
+use Rattle.iso_fs.proofs.Words.{◌≡◌, ◌∙◌, sym, refl, ap, subst, ℕ, zero, suc, ◌+◌, ◌-◌, ◌*◌, ◌^◌, ◌<◌, ◌≤◌, ◌&&◌, Bool, true, List, [], ◌∷◌, ◌++◌, length, get_or, take, drop, replicate, nat_le, arith, inl, inr, list_all, flat_map, w32, to_be_bytes, from_be_bytes, and_from, nat_tests, drop-drop, drop_at, length-replicate, length-append, from_be_bytes-to_be_bytes_4, Area, all_from, is_zero, IsIn, IsApart, zeros_are, are_entries, blocks_for, bytes_of, data_count, entry_at, file_block, has_zeros, is_file, is_handed, most_bytes}
 
 four : (e : ℕ) → length (to_be_bytes w32 e) ≡ 4
 four e = refl

@@ -1,23 +1,6 @@
 -- A read is that of the files.
-use Rattle.std.proofs.Common.{◌≡◌, ◌∙◌, sym, refl, ap, subst, ℕ, zero, suc, ◌+◌, ◌/◌, ◌<◌, ◌≤◌, Bool, true, cond, List, [], length, take, drop, nat_le, Option, Some, None, option_map, Result, Ok, Err, arith, inl, inr}
-use Rattle.std.specs.Prelude.{nat_lt}
-use Rattle.std.specs.FinMap.{get}
-use Rattle.std.proofs.lemmas.Bool.{cases_Bool, leb-true}
-use Rattle.store_model.specs.declared.stores.Area.{Area}
-use Rattle.iso_model.specs.Array.{Array}
-use Rattle.store_model.specs.HashCalls.{is_key}
-use Rattle.iso_model.specs.Premises.{block_at}
-use Rattle.store_model.specs.Stores.{AreReads, IsLocal, accesses_of, answer_of}
-use Rattle.store_model.specs.TreeCalls.{get_program}
-use Rattle.store_model.specs.TreeRegion.{tree_map}
-use Rattle.tx_blocks.proofs.Programs.{IsCorrect, local_from, own_reads, whole_reads}
-use Rattle.iso_tree.proofs.Reading.{cond_reads, same_ok}
-use Rattle.store_model.specs.declared.files.FsError.{FsError}
+use Rattle.iso_fs.proofs.Words.{◌≡◌, ◌∙◌, sym, refl, ap, subst, ℕ, zero, suc, ◌+◌, ◌/◌, ◌<◌, ◌≤◌, Bool, true, cond, List, [], length, take, drop, nat_le, Option, Some, None, option_map, Result, Ok, Err, arith, inl, inr, nat_lt, get, cases_Bool, leb-true, Area, Array, is_key, block_at, AreReads, IsLocal, accesses_of, answer_of, get_program, tree_map, IsCorrect, local_from, own_reads, whole_reads, cond_reads, same_ok, FsError, FileAreas, bytes_of, entry_at, number_of, piece_len, Call, at_file, in_tree, is_many, least, read_from, read_of, read_op, read_pieces, read_program, refuse, AreFileAreas, AreFileRegions, content, file_at, file_byte, files}
 use Rattle.store_model.specs.declared.files.FsError.TheVariants as fs
-use Rattle.store_model.specs.declared.files.FileAreas.{FileAreas}
-use Rattle.store_model.specs.FileNodes.{bytes_of, entry_at, number_of, piece_len}
-use Rattle.store_model.specs.FileCalls.{Call, at_file, in_tree, is_many, least, read_from, read_of, read_op, read_pieces, read_program, refuse}
-use Rattle.store_model.specs.FileRegion.{AreFileAreas, AreFileRegions, content, file_at, file_byte, files}
 use Rattle.iso_fs.proofs.AfterTree.{answer_at_file, answer_got, reads_behind_file, reads_behind_get}
 use Rattle.iso_fs.proofs.Files.{FileParts, file_parts, entry_inside, least_is}
 use Rattle.iso_fs.proofs.Lookups.{files_get}

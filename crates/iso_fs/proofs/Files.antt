@@ -1,18 +1,5 @@
 -- What the test of a file block says, and the blocks that a file uses.
-use Rattle.std.proofs.Common.{◌≡◌, ◌⊎◌, ◌∙◌, sym, refl, ap, ℕ, zero, suc, ◌+◌, ◌-◌, ◌*◌, ◌/◌, ◌%◌, ◌<◌, ◌≤◌, ◌==◌, ◌&&◌, Bool, true, false, cond, List, length, Option, Some, option_map, nat_le, arith, inl, inr}
-use Rattle.std.specs.Prelude.{nat_lt, slice_index}
-use Rattle.std.specs.FinMap.{get}
-use Rattle.std.proofs.lemmas.Bool.{and_parts, cases_lt, leb-true, ltb-true}
-use Rattle.std.proofs.lemmas.Bool.Decides.{nat_tests}
-use Rattle.std.proofs.Math.Nat.{div-lt_iff_lt-mul, div-mul-le_self}
-use Rattle.std.proofs.lemmas.Nat.{le-div}
-use Rattle.store_model.specs.declared.stores.Area.{Area}
-use Rattle.iso_model.specs.Array.{Array}
-use Rattle.store_model.specs.TreeRegion.{tree_map}
-use Rattle.iso_alloc.proofs.Loops.{all_at}
-use Rattle.store_model.specs.declared.files.FileAreas.{FileAreas}
-use Rattle.store_model.specs.FileNodes.{are_entries, blocks_for, bytes_of, data_count, entry_at, has_zeros, is_file, is_handed, most_bytes}
-use Rattle.store_model.specs.FileRegion.{AreFileRegions, Uses, file_at}
+use Rattle.iso_fs.proofs.Words.{◌≡◌, ◌⊎◌, ◌∙◌, sym, refl, ap, ℕ, zero, suc, ◌+◌, ◌-◌, ◌*◌, ◌/◌, ◌%◌, ◌<◌, ◌≤◌, ◌==◌, ◌&&◌, Bool, true, false, cond, List, length, Option, Some, option_map, nat_le, arith, inl, inr, nat_lt, slice_index, get, and_parts, cases_lt, leb-true, ltb-true, nat_tests, div-lt_iff_lt-mul, div-mul-le_self, le-div, Area, Array, tree_map, all_at, FileAreas, are_entries, blocks_for, bytes_of, data_count, entry_at, has_zeros, is_file, is_handed, most_bytes, AreFileRegions, Uses, file_at}
 use Rattle.iso_fs.proofs.Lookups.{names_by}
 
 pub record FileParts (a : Area) (file : List ℕ) : Type 0 where

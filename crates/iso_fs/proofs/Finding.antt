@@ -1,25 +1,7 @@
 -- The look-up of a file block, part by part, and what follows it in a call.
-use Rattle.std.proofs.Common.{◌≡◌, ◌∙◌, sym, refl, ap, subst, ℕ, ◌+◌, Bool, true, false, cond, List, [], ◌∷◌, Option, Some, None, Result, Ok, Err, arith}
-use Rattle.store_model.specs.declared.stores.Area.{Area}
-use Rattle.store_model.specs.declared.stores.StoreError.{StoreError}
+use Rattle.iso_fs.proofs.Words.{◌≡◌, ◌∙◌, sym, refl, ap, subst, ℕ, ◌+◌, Bool, true, false, cond, List, [], ◌∷◌, Option, Some, None, Result, Ok, Err, arith, Area, StoreError, TxError, FsError, FileAreas, is_key, is_value, Done, LookWhole, Program, look_access, then_do, del_program, get_program, put_program, is_file, is_number, number_of, Call, at_file, broken, goes_on, in_tree, numbered, with_file, Tx, Device, IsTx, with_accesses, AreBytesOf, HasEnded, IsCause, HasAccess, IsAt, at_look_whole, at_start, at_then, ran_at, stopped_then, cut_then, cut_at_whole, then_assoc, HasRun, Found, find_program, found_as, found_file, on_found}
 use Rattle.store_model.specs.declared.stores.StoreError.TheVariants as store
-use Rattle.store_model.specs.declared.stores.TxError.{TxError}
-use Rattle.store_model.specs.declared.files.FsError.{FsError}
 use Rattle.store_model.specs.declared.files.FsError.TheVariants as fs
-use Rattle.store_model.specs.declared.files.FileAreas.{FileAreas}
-use Rattle.store_model.specs.HashCalls.{is_key, is_value}
-use Rattle.store_model.specs.Stores.{Done, LookWhole, Program, look_access, then_do}
-use Rattle.store_model.specs.TreeCalls.{del_program, get_program, put_program}
-use Rattle.store_model.specs.FileNodes.{is_file, is_number, number_of}
-use Rattle.store_model.specs.FileCalls.{Call, at_file, broken, goes_on, in_tree, numbered, with_file}
-use Rattle.tx_blocks.specs.Tx.{Tx, Device, IsTx, with_accesses}
-use Rattle.tx_blocks.specs.Runs.{AreBytesOf, HasEnded, IsCause}
-use Rattle.tx_blocks.proofs.Progress.{HasAccess, IsAt, at_look_whole, at_start, at_then, ran_at, stopped_then}
-use Rattle.tx_blocks.proofs.Refusals.{cut_then}
-use Rattle.iso_tree.proofs.Removing.{cut_at_whole}
-use Rattle.iso_tree.proofs.Scanning.{then_assoc}
-use Rattle.iso_fs.specs.Ends.{HasRun}
-use Rattle.iso_fs.specs.Finds.{Found, find_program, found_as, found_file, on_found}
 use Rattle.iso_fs.proofs.Ended.{run_as, run_from, tree_done, tree_refused}
 
 -- THE CALLS OF THE TREE MAKE AN ACCESS

@@ -1,10 +1,5 @@
 -- A file whose blocks stay has the same bytes.
-use Rattle.std.proofs.Common.{◌≡◌, ◌∙◌, sym, refl, ap, subst, ℕ, zero, suc, ◌+◌, ◌/◌, ◌%◌, ◌<◌, ◌≤◌, List, ◌∷◌, get_or, map, Option, Some, arith}
-use Rattle.std.specs.List.{range_with_len}
-use Rattle.iso_model.specs.Array.{Array}
-use Rattle.store_model.specs.declared.files.FileAreas.{FileAreas}
-use Rattle.store_model.specs.FileNodes.{bytes_of, data_count, entry_at}
-use Rattle.store_model.specs.FileRegion.{Uses, block_in, content, file_at, file_byte, number_at}
+use Rattle.iso_fs.proofs.Words.{◌≡◌, ◌∙◌, sym, refl, ap, subst, ℕ, zero, suc, ◌+◌, ◌/◌, ◌%◌, ◌<◌, ◌≤◌, List, ◌∷◌, get_or, map, Option, Some, arith, range_with_len, Array, FileAreas, bytes_of, data_count, entry_at, Uses, block_in, content, file_at, file_byte, number_at}
 use Rattle.iso_fs.proofs.Files.{place_below}
 
 pub same_some : (m n : ℕ) → ◌≡◌ {A = Option ℕ} (Some m) (Some n) → m ≡ n

@@ -1,10 +1,5 @@
 -- The pieces of a range, of which so many at most are left.
-use Rattle.std.proofs.Common.{◌≡◌, refl, subst, ℕ, zero, suc, ◌-◌, ◌≤◌, Err, arith}
-use Rattle.store_model.specs.declared.files.FsError.{FsError}
-use Rattle.store_model.specs.FileCalls.{Call}
-use Rattle.tx_blocks.specs.Tx.{Tx}
-use Rattle.tx_blocks.proofs.Progress.{IsAt, at_join}
-use Rattle.iso_fs.specs.Ends.{HasRun}
+use Rattle.iso_fs.proofs.Words.{◌≡◌, refl, subst, ℕ, zero, suc, ◌-◌, ◌≤◌, Err, arith, FsError, Call, Tx, IsAt, at_join, HasRun}
 use Rattle.iso_fs.proofs.Ended.{run_from}
 
 -- what is left of the call, where so many bytes are left and each piece has one at least

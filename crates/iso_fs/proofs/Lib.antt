@@ -1,3 +1,4 @@
+pub mod Words
 pub mod AfterTree
 pub mod CreateCalls
 pub mod CreateSteps

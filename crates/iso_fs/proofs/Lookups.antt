@@ -1,16 +1,5 @@
 -- What a look-up among the files finds.
-use Rattle.std.proofs.Common.{◌≡◌, ◌≢◌, ◌∙◌, sym, refl, ap, Bool, true, false, cond, ℕ, List, [], ◌∷◌, map, Option, Some, None, option_map}
-use Rattle.std.specs.Ordering.{nat_cmp, eq_by_cmp}
-use Rattle.std.specs.Cmp.Lexicographic.{slice_cmp, nat_list_cmp_total}
-use Rattle.std.specs.FinMap.{entries, get, get-entries, get-from_entries, get-insert, insert}
-use Rattle.iso_model.specs.Array.{Array}
-use Rattle.store_model.specs.HashRegion.{Pairs}
-use Rattle.store_model.specs.TreeRegion.{tree_map}
-use Rattle.iso_tree.proofs.Finding.{found_in, ties, not_bytes_eq}
-use Rattle.std.proofs.lemmas.Slice.Eq.{bytes_eq-Decides}
-use Rattle.store_model.specs.declared.files.FileAreas.{FileAreas}
-use Rattle.store_model.specs.FileNodes.{number_of}
-use Rattle.store_model.specs.FileRegion.{content, files}
+use Rattle.iso_fs.proofs.Words.{◌≡◌, ◌≢◌, ◌∙◌, sym, refl, ap, Bool, true, false, cond, ℕ, List, [], ◌∷◌, map, Option, Some, None, option_map, nat_cmp, eq_by_cmp, slice_cmp, nat_list_cmp_total, entries, get, get-entries, get-from_entries, get-insert, insert, Array, Pairs, tree_map, found_in, ties, not_bytes_eq, bytes_eq-Decides, FileAreas, number_of, content, files}
 
 -- whether two names are one, as maps find them
 abbrev pub same_name : List ℕ → List ℕ → Bool

@@ -1,21 +1,7 @@
 -- A block of which one span was written with the bytes of another list.
-use Rattle.std.proofs.Common.{◌≡◌, ◌≢◌, ◌↔◌, ◌∙◌, sym, refl, ap, ℕ, ◌+◌, ◌-◌, ◌<◌, ◌≤◌, ◌==◌, ◌&&◌, true, false, not, cond, IsTrue, List, [], ◌∷◌, length, get_or, drop, replicate, arith, inl, inr, eq-eqb, ne_eqb}
-use Rattle.std.specs.Prelude.{nat_lt}
-use Rattle.std.proofs.lemmas.Bool.{and_from, and_parts, cases_Bool, cases_eq, cases_lt, or_left}
-use Rattle.std.proofs.lemmas.Bool.Decides.{nat_tests}
-use Rattle.std.proofs.lemmas.List.{get_or-take, get_or-drop, get_or-set_other, length-drop, length-replicate, length-set, length-take-le}
-use Rattle.iso_model.specs.declared.access.Span.{Span}
-use Rattle.iso_model.specs.Array.{covered, in_span, merged}
-use Rattle.store_model.specs.Stores.{bytes_in}
-use Rattle.store_model.specs.Cells.{block_with}
-use Rattle.store_model.specs.FreeMap.{bit_place, clear_bit, map_bit, without_bit}
-use Rattle.store_model.specs.HashRegion.{IsIn}
-use Rattle.iso_model.proofs.Bytes.{merged_kept}
+use Rattle.iso_fs.proofs.Words.{◌≡◌, ◌≢◌, ◌↔◌, ◌∙◌, sym, refl, ap, ℕ, ◌+◌, ◌-◌, ◌<◌, ◌≤◌, ◌==◌, ◌&&◌, true, false, not, cond, IsTrue, List, [], ◌∷◌, length, get_or, drop, replicate, arith, inl, inr, eq-eqb, ne_eqb, nat_lt, and_from, and_parts, cases_Bool, cases_eq, cases_lt, or_left, nat_tests, get_or-take, get_or-drop, get_or-set_other, length-drop, length-replicate, length-set, length-take-le, Span, covered, in_span, merged, bytes_in, block_with, bit_place, clear_bit, map_bit, without_bit, IsIn, merged_kept, laid_here, laid_all, bits_mark, high_place, low_place}
 use Rattle.iso_alloc.proofs.Bits.{without_bits}
-use Rattle.iso_alloc.proofs.Laying.{laid_here}
-use Rattle.iso_tree.proofs.Frames.{laid_all}
 use Rattle.store_model.specs.FileCalls as calls
-use Rattle.store_model.specs.FileCalls.{bits_mark, high_place, low_place}
 use Rattle.iso_fs.proofs.MapByte.{length-block_with}
 
 pub byte_in : (span : Span) (block : List ℕ) (p : ℕ) → in_span p span ≡ true → get_or (bytes_in span block) (p - span.off) 0 ≡ get_or block p 0

@@ -1,12 +1,5 @@
 -- The block of a new file.
-use Rattle.std.proofs.Common.{◌≡◌, ◌∙◌, refl, ap, set, ℕ, zero, suc, ◌+◌, ◌-◌, ◌*◌, ◌/◌, ◌<◌, ◌≤◌, true, ◌&&◌, List, [], ◌∷◌, ◌++◌, length, replicate, nat_le, arith}
-use Rattle.std.proofs.lemmas.Bool.{and_from}
-use Rattle.std.proofs.lemmas.Bool.Decides.{nat_tests}
-use Rattle.std.proofs.lemmas.List.{length-replicate}
-use Rattle.std.proofs.Math.Nat.{div-eq_of_lt}
-use Rattle.store_model.specs.declared.stores.Area.{Area}
-use Rattle.iso_tree.proofs.Frames.{zeros_are}
-use Rattle.store_model.specs.FileNodes.{are_entries, bytes_of, data_count, file_block, has_zeros, is_file, most_bytes}
+use Rattle.iso_fs.proofs.Words.{◌≡◌, ◌∙◌, refl, ap, set, ℕ, zero, suc, ◌+◌, ◌-◌, ◌*◌, ◌/◌, ◌<◌, ◌≤◌, true, ◌&&◌, List, [], ◌∷◌, ◌++◌, length, replicate, nat_le, arith, and_from, nat_tests, length-replicate, div-eq_of_lt, Area, zeros_are, are_entries, bytes_of, data_count, file_block, has_zeros, is_file, most_bytes}
 
 abbrev pub empty_file : (size : ℕ) → List ℕ
 empty_file size = file_block size 0 []

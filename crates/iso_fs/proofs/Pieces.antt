@@ -1,22 +1,5 @@
 -- The bytes of a file, piece by piece.
-use Rattle.std.proofs.Common.{◌≡◌, ◌∙◌, sym, refl, ap, ℕ, zero, suc, ◌+◌, ◌-◌, ◌*◌, ◌/◌, ◌%◌, ◌<◌, ◌≤◌, Bool, true, false, cond, List, ◌∷◌, ◌++◌, length, get_or, take, drop, map, Option, Some, None, Result, Ok, arith, append_assoc, inl, inr}
-use Rattle.std.specs.Prelude.{nat_lt}
-use Rattle.std.specs.List.{range_with_len}
-use Rattle.std.proofs.lemmas.Bool.{cases_lt}
-use Rattle.std.proofs.lemmas.Bool.Decides.{nat_tests}
-use Rattle.std.proofs.lemmas.Nat.{div-mul-add, mod-mul-add, div-add-mod'}
-use Rattle.std.proofs.Math.Nat.{mod-lt}
-use Rattle.std.proofs.lemmas.List.{append-nil, ext_get_or, get_or-take, get_or-drop, length-take-le, length-drop, drop_at, take_all}
-use Rattle.std.proofs.lemmas.List.FromFn.{get_or-map-range_with_len, length-map-range_with_len, take-map-range_with_len}
-use Rattle.store_model.specs.declared.stores.Area.{Area}
-use Rattle.iso_model.specs.Array.{Array}
-use Rattle.iso_model.specs.Premises.{block_at}
-use Rattle.store_model.specs.Stores.{Done, Look, answer_of, bytes_in}
-use Rattle.store_model.specs.declared.files.FsError.{FsError}
-use Rattle.store_model.specs.declared.files.FileAreas.{FileAreas}
-use Rattle.store_model.specs.FileNodes.{bytes_of, entry_at, piece_len, piece_mark}
-use Rattle.store_model.specs.FileCalls.{Call, least, read_pieces}
-use Rattle.store_model.specs.FileRegion.{file_byte}
+use Rattle.iso_fs.proofs.Words.{◌≡◌, ◌∙◌, sym, refl, ap, ℕ, zero, suc, ◌+◌, ◌-◌, ◌*◌, ◌/◌, ◌%◌, ◌<◌, ◌≤◌, Bool, true, false, cond, List, ◌∷◌, ◌++◌, length, get_or, take, drop, map, Option, Some, None, Result, Ok, arith, append_assoc, inl, inr, nat_lt, range_with_len, cases_lt, nat_tests, div-mul-add, mod-mul-add, div-add-mod', mod-lt, append-nil, ext_get_or, get_or-take, get_or-drop, length-take-le, length-drop, drop_at, take_all, get_or-map-range_with_len, length-map-range_with_len, take-map-range_with_len, Area, Array, block_at, Done, Look, answer_of, bytes_in, FsError, FileAreas, bytes_of, entry_at, piece_len, piece_mark, Call, least, read_pieces, file_byte}
 
 pub range_split : {X : Type 0} (f : ℕ → X) (a m n : ℕ) → map f (range_with_len a (m + n)) ≡ map f (range_with_len a m) ++ map f (range_with_len (a + m) n)
 range_split f a zero n = let e : a ≡ a + 0 = omega arith in let z : 0 + n ≡ n = omega arith in ap (λ (k : ℕ). map f (range_with_len a k)) z ∙ ap (λ (b : ℕ). map f (range_with_len b n)) e

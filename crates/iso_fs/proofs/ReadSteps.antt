@@ -1,34 +1,7 @@
 -- A read, part by part.
-use Rattle.std.proofs.Common.{◌≡◌, ◌∙◌, sym, refl, ap, subst, ℕ, zero, suc, ◌+◌, ◌-◌, ◌*◌, ◌/◌, ◌<◌, ◌≤◌, Bool, true, false, cond, List, [], ◌∷◌, ◌++◌, length, take, drop, append_assoc, length-append, nat_le, Option, Some, None, Result, Ok, Err, IfOk, arith}
-use Rattle.std.specs.Prelude.{nat_lt, option_map}
-use Rattle.std.specs.Option.{ForSome}
-use Rattle.std.proofs.lemmas.List.{length-take-le, take_at}
-use Rattle.std.proofs.lemmas.Bool.Decides.{nat_tests}
-use Rattle.std.proofs.Math.Nat.{div-lt_iff_lt-mul}
-use Rattle.iso_model.specs.declared.access.Access.{Access}
-use Rattle.iso_model.specs.declared.access.Span.{Span}
-use Rattle.store_model.specs.declared.stores.Area.{Area}
+use Rattle.iso_fs.proofs.Words.{◌≡◌, ◌∙◌, sym, refl, ap, subst, ℕ, zero, suc, ◌+◌, ◌-◌, ◌*◌, ◌/◌, ◌<◌, ◌≤◌, Bool, true, false, cond, List, [], ◌∷◌, ◌++◌, length, take, drop, append_assoc, length-append, nat_le, Option, Some, None, Result, Ok, Err, IfOk, arith, nat_lt, option_map, ForSome, length-take-le, take_at, nat_tests, div-lt_iff_lt-mul, Access, Span, Area, TxError, own, is_key, block_at, Done, IsLocal, bytes_in, look_access, laid_at, get_program, Tx, Device, IsTx, with_accesses, IsCause, IsLocalCall, HasAccess, IsAt, at_look, at_start, ran_at, whole_run, cut_at_look, at_as, FsError, FileAreas, FsRegion, bytes_of, entry_at, entry_count, is_file, piece_len, piece_mark, Call, at_file, goes_on, in_tree, is_many, least, read_from, read_op, read_pieces, read_program, refuse, AreFileAreas, AreFileRegions, files, HasRun, areas_of}
 use Rattle.store_model.specs.declared.stores.StoreError.TheVariants as store
-use Rattle.store_model.specs.declared.stores.TxError.{TxError}
-use Rattle.iso_model.specs.Effect.{own}
-use Rattle.store_model.specs.HashCalls.{is_key}
-use Rattle.iso_model.specs.Premises.{block_at}
-use Rattle.store_model.specs.Stores.{Done, IsLocal, bytes_in, look_access}
-use Rattle.store_model.specs.Cells.{laid_at}
-use Rattle.store_model.specs.TreeCalls.{get_program}
-use Rattle.tx_blocks.specs.Tx.{Tx, Device, IsTx, with_accesses}
-use Rattle.tx_blocks.specs.Runs.{IsCause, IsLocalCall}
-use Rattle.tx_blocks.proofs.Progress.{HasAccess, IsAt, at_look, at_start, ran_at, whole_run}
-use Rattle.tx_blocks.proofs.Refusals.{cut_at_look}
-use Rattle.iso_tree.proofs.Looking.{at_as}
-use Rattle.store_model.specs.declared.files.FsError.{FsError}
 use Rattle.store_model.specs.declared.files.FsError.TheVariants as fs
-use Rattle.store_model.specs.declared.files.FileAreas.{FileAreas}
-use Rattle.store_model.specs.declared.files.FsRegion.{FsRegion}
-use Rattle.store_model.specs.FileNodes.{bytes_of, entry_at, entry_count, is_file, piece_len, piece_mark}
-use Rattle.store_model.specs.FileCalls.{Call, at_file, goes_on, in_tree, is_many, least, read_from, read_op, read_pieces, read_program, refuse}
-use Rattle.store_model.specs.FileRegion.{AreFileAreas, AreFileRegions, files}
-use Rattle.iso_fs.specs.Ends.{HasRun, areas_of}
 use Rattle.iso_fs.proofs.Ended.{has_then, run_as}
 use Rattle.iso_fs.proofs.Finding.{get_has}
 use Rattle.iso_fs.proofs.Lefts.{HasLeft}

@@ -1,30 +1,6 @@
 -- A removal is local.
-use Rattle.std.proofs.Common.{◌≡◌, ◌∙◌, sym, refl, ap, subst, ℕ, ◌+◌, ◌<◌, ◌==◌, Bool, true, false, cond, List, ◌∷◌, length, drop, Option, Some, None, option_map, Result, Ok, Err, arith, inl, inr}
-use Rattle.std.specs.Prelude.{is_some}
-use Rattle.std.specs.FinMap.{get, remove}
-use Rattle.std.proofs.lemmas.Bool.{and_parts, cases_Bool}
-use Rattle.std.proofs.lemmas.List.{length-take}
-use Rattle.store_model.specs.declared.stores.StoreError.{StoreError}
-use Rattle.iso_model.specs.Array.{Array}
-use Rattle.iso_model.specs.Effect.{own}
-use Rattle.store_model.specs.FreeMap.{map_bytes, map_mark}
-use Rattle.store_model.specs.HashRegion.{IsIn}
-use Rattle.store_model.specs.HashCalls.{is_key}
-use Rattle.iso_model.specs.Premises.{block_at}
-use Rattle.store_model.specs.Stores.{IsLocal, LookWhole, accesses_of, answer_of, bytes_in}
-use Rattle.store_model.specs.TreeCalls.{del_program, get_program}
-use Rattle.store_model.specs.TreeRegion.{tree_map}
-use Rattle.tx_blocks.proofs.Programs.{AreWhole, IsCorrect, accesses_then, answer_then, local_from}
-use Rattle.iso_tree.proofs.DelCalls.{del_whole, whole_append}
-use Rattle.iso_tree.proofs.Facts.{nothing_is}
-use Rattle.iso_tree.proofs.Fits.{area_block}
-use Rattle.iso_tree.proofs.Reading.{same_ok}
-use Rattle.store_model.specs.declared.files.FsError.{FsError}
+use Rattle.iso_fs.proofs.Words.{◌≡◌, ◌∙◌, sym, refl, ap, subst, ℕ, ◌+◌, ◌<◌, ◌==◌, Bool, true, false, cond, List, ◌∷◌, length, drop, Option, Some, None, option_map, Result, Ok, Err, arith, inl, inr, is_some, get, remove, and_parts, cases_Bool, length-take, StoreError, Array, own, map_bytes, map_mark, IsIn, is_key, block_at, IsLocal, LookWhole, accesses_of, answer_of, bytes_in, del_program, get_program, tree_map, AreWhole, IsCorrect, accesses_then, answer_then, local_from, del_whole, whole_append, nothing_is, area_block, same_ok, FsError, FileAreas, data_count, entries_of, entry_at, is_file, is_handed, is_number, number_of, Call, at_file, bits_mark, broken, goes_on, in_tree, refuse, without_bits, remove_file, remove_op, remove_program, remove_writes, AreFileAreas, AreFileRegions, content, file_at, files, same_map, slice_cmp-IsAntisymmetric, nat_cmp-IsAntisymmetric, nat_list_cmp_total}
 use Rattle.store_model.specs.declared.files.FsError.TheVariants as fs
-use Rattle.store_model.specs.declared.files.FileAreas.{FileAreas}
-use Rattle.store_model.specs.FileNodes.{data_count, entries_of, entry_at, is_file, is_handed, is_number, number_of}
-use Rattle.store_model.specs.FileCalls.{Call, at_file, bits_mark, broken, goes_on, in_tree, refuse, without_bits, remove_file, remove_op, remove_program, remove_writes}
-use Rattle.store_model.specs.FileRegion.{AreFileAreas, AreFileRegions, content, file_at, files}
 use Rattle.iso_fs.proofs.AfterTree.{answer_at_file, answer_got, own_at_file, own_got, own_then, whole_behind_get}
 use Rattle.iso_fs.proofs.CreateCalls.{HaveBlocks}
 use Rattle.iso_fs.proofs.Files.{IsHanded, entry_handed, file_parts, handed_is}
@@ -32,8 +8,6 @@ use Rattle.iso_fs.proofs.MapByte.{length-block_with}
 use Rattle.iso_fs.proofs.MapLaid.{high_below, high_is, low_is}
 use Rattle.iso_fs.proofs.Lookups.{files_get}
 use Rattle.iso_fs.proofs.Removes.{in_range_map, removed}
-use Rattle.std.specs.FinMap.{same_map, slice_cmp-IsAntisymmetric, nat_cmp-IsAntisymmetric}
-use Rattle.std.specs.Cmp.Lexicographic.{nat_list_cmp_total}
 use Rattle.iso_fs.proofs.Lookups.{name_is, same_name}
 use Rattle.iso_fs.proofs.Renames.{remove_get}
 

@@ -1,36 +1,7 @@
 -- A removal, part by part.
-use Rattle.std.proofs.Common.{◌≡◌, ◌∙◌, sym, refl, ap, subst, ℕ, suc, ◌+◌, ◌-◌, ◌*◌, ◌<◌, ◌≤◌, Bool, true, false, cond, List, [], ◌∷◌, length, take, drop, get_or, set, None, Result, Ok, Err, IfOk, arith, inl, inr}
-use Rattle.std.specs.Prelude.{map, nat_lt}
-use Rattle.std.specs.List.{range_with_len}
-use Rattle.std.proofs.lemmas.List.{drop-take, get_or-take, take-take}
-use Rattle.iso_model.specs.declared.access.Access.{Access}
-use Rattle.iso_model.specs.Effect.{own}
-use Rattle.iso_model.specs.declared.access.Span.{Span}
-use Rattle.store_model.specs.declared.stores.Area.{Area}
-use Rattle.store_model.specs.declared.stores.StoreError.{StoreError}
+use Rattle.iso_fs.proofs.Words.{◌≡◌, ◌∙◌, sym, refl, ap, subst, ℕ, suc, ◌+◌, ◌-◌, ◌*◌, ◌<◌, ◌≤◌, Bool, true, false, cond, List, [], ◌∷◌, length, take, drop, get_or, set, None, Result, Ok, Err, IfOk, arith, inl, inr, map, nat_lt, range_with_len, drop-take, get_or-take, take-take, Access, own, Span, Area, StoreError, TxError, FsError, FileAreas, FsRegion, block_with, bit_place, clear_bit, map_bytes, map_mark, without_bit, is_key, IsIn, Done, IsLocal, bytes_in, look_access, store_access, del_program, get_program, IsTreeArea, bytes_of, data_count, entries_of, entry_at, is_file, Call, at_file, bits_mark, goes_on, high_place, in_tree, low_place, refuse, remove_file, remove_op, remove_program, remove_writes, without_bits, AreFileAreas, AreFileRegions, files, Tx, Device, IsTx, with_accesses, AreBytesOf, HasEnded, IsCause, IsLocalCall, HasAccess, at_look, at_start, at_store, ran_at, whole_run, cut_at_look, cut_at_store, take-set-lt, HasRun, areas_of, with_dropped}
 use Rattle.store_model.specs.declared.stores.StoreError.TheVariants as store
-use Rattle.store_model.specs.declared.stores.TxError.{TxError}
-use Rattle.store_model.specs.declared.files.FsError.{FsError}
 use Rattle.store_model.specs.declared.files.FsError.TheVariants as fs
-use Rattle.store_model.specs.declared.files.FileAreas.{FileAreas}
-use Rattle.store_model.specs.declared.files.FsRegion.{FsRegion}
-use Rattle.store_model.specs.Cells.{block_with}
-use Rattle.store_model.specs.FreeMap.{bit_place, clear_bit, map_bytes, map_mark, without_bit}
-use Rattle.store_model.specs.HashCalls.{is_key}
-use Rattle.store_model.specs.HashRegion.{IsIn}
-use Rattle.store_model.specs.Stores.{Done, IsLocal, bytes_in, look_access, store_access}
-use Rattle.store_model.specs.TreeCalls.{del_program, get_program}
-use Rattle.store_model.specs.TreeRegion.{IsTreeArea}
-use Rattle.store_model.specs.FileNodes.{bytes_of, data_count, entries_of, entry_at, is_file}
-use Rattle.store_model.specs.FileCalls.{Call, at_file, bits_mark, goes_on, high_place, in_tree, low_place, refuse, remove_file, remove_op, remove_program, remove_writes, without_bits}
-use Rattle.store_model.specs.FileRegion.{AreFileAreas, AreFileRegions, files}
-use Rattle.tx_blocks.specs.Tx.{Tx, Device, IsTx, with_accesses}
-use Rattle.tx_blocks.specs.Runs.{AreBytesOf, HasEnded, IsCause, IsLocalCall}
-use Rattle.tx_blocks.proofs.Progress.{HasAccess, at_look, at_start, at_store, ran_at, whole_run}
-use Rattle.tx_blocks.proofs.Refusals.{cut_at_look, cut_at_store}
-use Rattle.std.proofs.Math.Seq.{take-set-lt}
-use Rattle.iso_fs.specs.Ends.{HasRun, areas_of}
-use Rattle.iso_fs.specs.Finds.{with_dropped}
 use Rattle.iso_fs.proofs.CreateSteps.{have_blocks}
 use Rattle.iso_fs.proofs.Ended.{has_then, run_as, run_from, tree_done, tree_refused}
 use Rattle.iso_fs.proofs.Files.{count_fits, entry_handed, file_parts}

@@ -1,40 +1,11 @@
 -- A file that is removed.
-use Rattle.std.proofs.Common.{◌≡◌, ◌∙◌, sym, refl, ap, subst, ℕ, zero, suc, ◌+◌, ◌*◌, ◌%◌, ◌<◌, ◌≤◌, ◌==◌, Bool, true, false, cond, List, [], ◌∷◌, length, get_or, take, map, Option, Some, None, option_map, Ok, arith, inl, inr}
-use Rattle.std.specs.List.{list_all, range_with_len}
-use Rattle.std.specs.FinMap.{get, remove, same_map, slice_cmp-IsAntisymmetric, nat_cmp-IsAntisymmetric}
-use Rattle.std.specs.Cmp.Lexicographic.{nat_list_cmp_total}
-use Rattle.std.proofs.lemmas.Bool.{both_ways, cases_Bool}
-use Rattle.std.proofs.lemmas.Bool.Decides.{nat_tests}
-use Rattle.std.proofs.lemmas.List.{get_or-take, length-take-le}
-use Rattle.iso_model.specs.declared.access.Access.{Access}
-use Rattle.iso_model.specs.declared.access.Span.{Span}
-use Rattle.iso_model.specs.Array.{Array, in_span, merged, put}
-use Rattle.iso_model.specs.Effect.{own}
-use Rattle.store_model.specs.Cells.{block_with, is_zero}
-use Rattle.store_model.specs.FreeMap.{bit_place, map_bit, map_bytes, map_mark}
-use Rattle.store_model.specs.HashCalls.{is_key}
-use Rattle.store_model.specs.HashRegion.{IsIn}
-use Rattle.iso_model.specs.Premises.{block_at}
-use Rattle.store_model.specs.Stores.{accesses_of, answer_of, bytes_in, store_access}
-use Rattle.store_model.specs.TreeCalls.{del_program}
-use Rattle.store_model.specs.TreeRegion.{IsTreeRegion, tree_map}
-use Rattle.iso_model.proofs.Bytes.{length-block_own, length-block_put, other_block, written_block}
-use Rattle.iso_tree.proofs.DelCalls.{del_correct}
-use Rattle.iso_tree.proofs.Frames.{kept_1}
-use Rattle.store_model.specs.declared.files.FileAreas.{FileAreas}
-use Rattle.store_model.specs.FileNodes.{data_count, entries_of, entry_at, is_file, number_of}
+use Rattle.iso_fs.proofs.Words.{◌≡◌, ◌∙◌, sym, refl, ap, subst, ℕ, zero, suc, ◌+◌, ◌*◌, ◌%◌, ◌<◌, ◌≤◌, ◌==◌, Bool, true, false, cond, List, [], ◌∷◌, length, get_or, take, map, Option, Some, None, option_map, Ok, arith, inl, inr, list_all, range_with_len, get, remove, same_map, slice_cmp-IsAntisymmetric, nat_cmp-IsAntisymmetric, nat_list_cmp_total, both_ways, cases_Bool, nat_tests, get_or-take, length-take-le, Access, Span, Array, in_span, merged, put, own, block_with, is_zero, bit_place, map_bit, map_bytes, map_mark, is_key, IsIn, block_at, accesses_of, answer_of, bytes_in, store_access, del_program, IsTreeRegion, tree_map, length-block_own, length-block_put, other_block, written_block, del_correct, kept_1, FileAreas, data_count, entries_of, entry_at, is_file, number_of, bits_mark, high_place, low_place, AreFileAreas, AreFileRegions, IsUsed, Uses, content, file_at, files, number_at, in_area, kept_outside, map_new, region_new, del_program_stores}
 use Rattle.store_model.specs.FileCalls as calls
-use Rattle.store_model.specs.FileCalls.{bits_mark, high_place, low_place}
-use Rattle.store_model.specs.FileRegion.{AreFileAreas, AreFileRegions, IsUsed, Uses, content, file_at, files, number_at}
-use Rattle.store_model.specs.Areas.{in_area}
 use Rattle.iso_fs.proofs.Files.{uses_handed}
 use Rattle.iso_fs.proofs.Kept.{kept_content, kept_uses, same_some, still_uses}
 use Rattle.iso_fs.proofs.Lookups.{files_get, name_is, name_self, names_by, same_name}
 use Rattle.iso_fs.proofs.MapLaid.{bits_left, high_below, high_is, laid_as, length-without, low_is, low_least, without_other}
 use Rattle.iso_fs.proofs.Renames.{remove_get}
-use Rattle.tx_blocks.proofs.Storing.{kept_outside}
-use Rattle.iso_tree.proofs.TreeBlocks.{map_new, region_new}
-use Rattle.iso_tree.proofs.TreeWrites.{del_program_stores}
 
 -- the regions after the call, and the files in them
 pub record HasRemoved (a : FileAreas) (name : List ℕ) (A C : Array) : Type 0 where

@@ -1,27 +1,6 @@
 -- A rename is local.
-use Rattle.std.proofs.Common.{◌≡◌, ◌∙◌, sym, refl, ap, subst, ℕ, ◌+◌, Bool, true, false, ◌&&◌, cond, List, [], ◌∷◌, Option, Some, None, option_map, Result, Ok, Err, inl, inr}
-use Rattle.std.specs.FinMap.{get}
-use Rattle.std.proofs.lemmas.Bool.{and_from, cases_Bool}
-use Rattle.iso_model.specs.declared.access.Access.{Access}
-use Rattle.store_model.specs.declared.stores.StoreError.{StoreError}
-use Rattle.iso_model.specs.Array.{Array}
-use Rattle.iso_model.specs.Effect.{own}
-use Rattle.store_model.specs.HashCalls.{is_key, is_value}
-use Rattle.store_model.specs.Stores.{Done, IsLocal, accesses_of, answer_of}
-use Rattle.store_model.specs.TreeCalls.{del_program, get_program, put_program}
-use Rattle.store_model.specs.TreeRegion.{tree_map}
-use Rattle.tx_blocks.proofs.Programs.{AreWhole, IsCorrect, accesses_then, answer_then, local_from}
-use Rattle.iso_model.proofs.Bytes.{length-block_own}
-use Rattle.iso_tree.proofs.DelCalls.{HasBlocks, del_whole, whole_append}
-use Rattle.iso_tree.proofs.Fits.{area_block}
-use Rattle.iso_tree.proofs.PutWhole.{put_whole}
-use Rattle.iso_tree.proofs.Reading.{same_ok}
-use Rattle.store_model.specs.declared.files.FsError.{FsError}
+use Rattle.iso_fs.proofs.Words.{◌≡◌, ◌∙◌, sym, refl, ap, subst, ℕ, ◌+◌, Bool, true, false, ◌&&◌, cond, List, [], ◌∷◌, Option, Some, None, option_map, Result, Ok, Err, inl, inr, get, and_from, cases_Bool, Access, StoreError, Array, own, is_key, is_value, Done, IsLocal, accesses_of, answer_of, del_program, get_program, put_program, tree_map, AreWhole, IsCorrect, accesses_then, answer_then, local_from, length-block_own, HasBlocks, del_whole, whole_append, area_block, put_whole, same_ok, FsError, FileAreas, number_of, Call, goes_on, in_tree, refuse, rename_found, rename_free, rename_in, rename_op, rename_program, AreFileAreas, AreFileRegions, content, files}
 use Rattle.store_model.specs.declared.files.FsError.TheVariants as fs
-use Rattle.store_model.specs.declared.files.FileAreas.{FileAreas}
-use Rattle.store_model.specs.FileNodes.{number_of}
-use Rattle.store_model.specs.FileCalls.{Call, goes_on, in_tree, refuse, rename_found, rename_free, rename_in, rename_op, rename_program}
-use Rattle.store_model.specs.FileRegion.{AreFileAreas, AreFileRegions, content, files}
 use Rattle.iso_fs.proofs.AfterTree.{answer_got, own_got, own_then, whole_behind_get}
 use Rattle.iso_fs.proofs.Lookups.{files_get}
 use Rattle.iso_fs.proofs.Renames.{renamed}

@@ -1,24 +1,7 @@
 -- A rename, part by part.
-use Rattle.std.proofs.Common.{◌≡◌, ◌≢◌, ◌∙◌, sym, refl, ap, subst, ℕ, ◌+◌, ◌≤◌, Bool, true, false, ◌&&◌, cond, List, Option, None, Result, Ok, Err, IfOk}
-use Rattle.iso_model.specs.declared.access.Access.{Access}
-use Rattle.iso_model.specs.Effect.{own}
-use Rattle.store_model.specs.declared.stores.StoreError.{StoreError}
+use Rattle.iso_fs.proofs.Words.{◌≡◌, ◌≢◌, ◌∙◌, sym, refl, ap, subst, ℕ, ◌+◌, ◌≤◌, Bool, true, false, ◌&&◌, cond, List, Option, None, Result, Ok, Err, IfOk, Access, own, StoreError, FsError, FileAreas, FsRegion, is_key, is_value, Done, IsLocal, del_program, get_program, put_program, Call, in_tree, refuse, rename_found, rename_free, rename_op, rename_program, AreFileAreas, AreFileRegions, files, Tx, IsTx, HasEnded, IsLocalCall, at_start, ran_at, whole_run, TakesNoBlocks, HasRun, areas_of, may_follow, drop_name}
 use Rattle.store_model.specs.declared.stores.StoreError.TheVariants as store
-use Rattle.store_model.specs.declared.files.FsError.{FsError}
 use Rattle.store_model.specs.declared.files.FsError.TheVariants as fs
-use Rattle.store_model.specs.declared.files.FileAreas.{FileAreas}
-use Rattle.store_model.specs.declared.files.FsRegion.{FsRegion}
-use Rattle.store_model.specs.HashCalls.{is_key, is_value}
-use Rattle.store_model.specs.Stores.{Done, IsLocal}
-use Rattle.store_model.specs.TreeCalls.{del_program, get_program, put_program}
-use Rattle.store_model.specs.FileCalls.{Call, in_tree, refuse, rename_found, rename_free, rename_op, rename_program}
-use Rattle.store_model.specs.FileRegion.{AreFileAreas, AreFileRegions, files}
-use Rattle.tx_blocks.specs.Tx.{Tx, IsTx}
-use Rattle.tx_blocks.specs.Runs.{HasEnded, IsLocalCall}
-use Rattle.tx_blocks.proofs.Progress.{at_start, ran_at, whole_run}
-use Rattle.iso_tree.specs.Walks.{TakesNoBlocks}
-use Rattle.iso_fs.specs.Ends.{HasRun, areas_of, may_follow}
-use Rattle.iso_fs.specs.Finds.{drop_name}
 use Rattle.iso_fs.proofs.CreateSteps.{have_blocks}
 use Rattle.iso_fs.proofs.Ended.{run_as, run_from, tree_done, tree_refused}
 use Rattle.iso_fs.proofs.Finding.{del_has, get_has, put_has}

@@ -1,30 +1,7 @@
 -- A file under another name.
-use Rattle.std.proofs.Common.{◌≡◌, ◌≢◌, ◌∙◌, sym, refl, ap, subst, ℕ, ◌+◌, ◌/◌, ◌%◌, ◌≤◌, ◌==◌, Bool, true, false, cond, List, length, get_or, take, map, Option, Some, None, option_map, Ok, arith, inl, inr}
-use Rattle.std.specs.List.{list_all, range_with_len}
-use Rattle.std.specs.FinMap.{get, get-remove, insert, remove, same_map, slice_cmp-IsAntisymmetric, nat_cmp-IsAntisymmetric}
-use Rattle.std.specs.Cmp.Lexicographic.{nat_list_cmp_total}
-use Rattle.std.proofs.lemmas.Bool.{and_parts, both_ways, cases_Bool}
-use Rattle.std.proofs.lemmas.Bool.Decides.{nat_tests}
-use Rattle.iso_model.specs.Array.{Array}
-use Rattle.iso_model.specs.Effect.{own}
-use Rattle.store_model.specs.Cells.{is_zero}
-use Rattle.store_model.specs.FreeMap.{map_bit}
-use Rattle.store_model.specs.HashCalls.{is_key, is_value}
-use Rattle.store_model.specs.HashRegion.{Pairs}
-use Rattle.iso_model.specs.Premises.{block_at}
-use Rattle.store_model.specs.Stores.{accesses_of, answer_of}
-use Rattle.store_model.specs.TreeCalls.{del_program, put_program}
-use Rattle.store_model.specs.TreeRegion.{IsTreeRegion, tree_map}
-use Rattle.iso_tree.proofs.DelCalls.{del_correct}
-use Rattle.iso_tree.proofs.PutCalls.{put_correct}
-use Rattle.store_model.specs.declared.files.FileAreas.{FileAreas}
-use Rattle.store_model.specs.FileNodes.{bytes_of, entry_at, is_file, is_number, number_of}
-use Rattle.store_model.specs.FileRegion.{AreFileAreas, AreFileRegions, Uses, block_in, content, file_at, file_byte, files, number_at}
-use Rattle.store_model.specs.Areas.{in_area}
+use Rattle.iso_fs.proofs.Words.{◌≡◌, ◌≢◌, ◌∙◌, sym, refl, ap, subst, ℕ, ◌+◌, ◌/◌, ◌%◌, ◌≤◌, ◌==◌, Bool, true, false, cond, List, length, get_or, take, map, Option, Some, None, option_map, Ok, arith, inl, inr, list_all, range_with_len, get, get-remove, insert, remove, same_map, slice_cmp-IsAntisymmetric, nat_cmp-IsAntisymmetric, nat_list_cmp_total, and_parts, both_ways, cases_Bool, nat_tests, Array, own, is_zero, map_bit, is_key, is_value, Pairs, block_at, accesses_of, answer_of, del_program, put_program, IsTreeRegion, tree_map, del_correct, put_correct, FileAreas, bytes_of, entry_at, is_file, is_number, number_of, AreFileAreas, AreFileRegions, Uses, block_in, content, file_at, file_byte, files, number_at, in_area, kept_outside, del_program_stores, put_program_stores}
 use Rattle.iso_fs.proofs.Kept.{same_bytes_by}
 use Rattle.iso_fs.proofs.Lookups.{files_get, insert_get, name_is, name_other, name_self, names_by, same_name}
-use Rattle.tx_blocks.proofs.Storing.{kept_outside}
-use Rattle.iso_tree.proofs.TreeWrites.{del_program_stores, put_program_stores}
 
 pub remove_get : (m : Pairs) (name q : List ℕ) → get (remove m name) q ≡ cond (same_name q name) None (get m q)
 remove_get m name q = get-remove nat_list_cmp_total m name q

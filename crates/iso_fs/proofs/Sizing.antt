@@ -1,12 +1,5 @@
 -- A file block that is laid number by number.
-use Rattle.std.proofs.Common.{◌≡◌, ◌∙◌, sym, refl, ap, ℕ, ◌+◌, ◌-◌, ◌*◌, ◌≤◌, List, [], ◌∷◌, ◌++◌, length, replicate, take, drop, arith, append_assoc, length-append}
-use Rattle.std.specs.List.{flat_map, range_with_len}
-use Rattle.std.specs.Prelude.{map}
-use Rattle.std.specs.Int.{w32, to_be_bytes}
-use Rattle.std.proofs.lemmas.Grind.{flat_map-append}
-use Rattle.std.proofs.lemmas.List.{append-nil, drop-drop, drop-replicate, drop_at, take_at}
-use Rattle.store_model.specs.Cells.{laid_at}
-use Rattle.store_model.specs.FileNodes.{file_block}
+use Rattle.iso_fs.proofs.Words.{◌≡◌, ◌∙◌, sym, refl, ap, ℕ, ◌+◌, ◌-◌, ◌*◌, ◌≤◌, List, [], ◌∷◌, ◌++◌, length, replicate, take, drop, arith, append_assoc, length-append, flat_map, range_with_len, map, w32, to_be_bytes, flat_map-append, append-nil, drop-drop, drop-replicate, drop_at, take_at, laid_at, file_block}
 use Rattle.iso_fs.proofs.FileBlocks.{length-numbers}
 use Rattle.iso_fs.proofs.Pieces.{range_split}
 

@@ -1,36 +1,6 @@
 -- A write is that of the files.
-use Rattle.std.proofs.Common.{◌≡◌, ◌≢◌, ◌⊎◌, ◌∙◌, sym, refl, ap, subst, ℕ, zero, suc, ◌+◌, ◌-◌, ◌*◌, ◌/◌, ◌%◌, ◌^◌, ◌<◌, ◌≤◌, ◌==◌, ◌&&◌, Bool, true, false, cond, List, [], ◌∷◌, ◌++◌, length, get_or, take, nat_le, Option, Some, None, option_map, Result, Ok, Err, arith, inl, inr, length-append}
-use Rattle.std.specs.Prelude.{nat_lt}
-use Rattle.std.specs.List.{list_all}
-use Rattle.std.specs.FinMap.{get, insert}
-use Rattle.std.proofs.lemmas.Bool.{and_parts, cases_Bool, leb-true}
-use Rattle.std.proofs.lemmas.Bool.Decides.{nat_tests}
-use Rattle.std.proofs.Math.Nat.{mul-le-mul_right}
-use Rattle.std.proofs.lemmas.List.{append-nil}
-use Rattle.iso_model.specs.declared.access.Access.{Access}
-use Rattle.store_model.specs.declared.stores.StoreError.TheVariants.{NoBlocks}
-use Rattle.iso_model.specs.Array.{Array, put}
-use Rattle.iso_model.specs.Effect.{own}
-use Rattle.store_model.specs.Cells.{is_zero}
-use Rattle.store_model.specs.FreeMap.{free_count, map_bit, map_bytes, map_mark}
-use Rattle.store_model.specs.HashCalls.{is_key}
-use Rattle.iso_model.specs.Premises.{block_at}
-use Rattle.store_model.specs.Stores.{Done, Store, accesses_of, answer_of, bytes_in, store_access}
-use Rattle.store_model.specs.TreeCalls.{changed_map, changed_mark, first_write, free_list, get_program}
-use Rattle.store_model.specs.TreeRegion.{tree_map}
-use Rattle.iso_model.proofs.Bytes.{length-block_put, other_block, written_block}
-use Rattle.tx_blocks.proofs.Programs.{IsCorrect}
-use Rattle.iso_tree.proofs.Frames.{kept_1, laid_whole}
-use Rattle.iso_tree.proofs.MapBits.{bits_after}
-use Rattle.iso_tree.proofs.NewBlocks.{sizes_of}
-use Rattle.iso_tree.proofs.Reading.{same_ok}
-use Rattle.iso_tree.proofs.Taking.{AreTaken, taken_are, up_apart}
-use Rattle.store_model.specs.declared.files.FsError.{FsError}
+use Rattle.iso_fs.proofs.Words.{◌≡◌, ◌≢◌, ◌⊎◌, ◌∙◌, sym, refl, ap, subst, ℕ, zero, suc, ◌+◌, ◌-◌, ◌*◌, ◌/◌, ◌%◌, ◌^◌, ◌<◌, ◌≤◌, ◌==◌, ◌&&◌, Bool, true, false, cond, List, [], ◌∷◌, ◌++◌, length, get_or, take, nat_le, Option, Some, None, option_map, Result, Ok, Err, arith, inl, inr, length-append, nat_lt, list_all, get, insert, and_parts, cases_Bool, leb-true, nat_tests, mul-le-mul_right, append-nil, Access, NoBlocks, Array, put, own, is_zero, free_count, map_bit, map_bytes, map_mark, is_key, block_at, Done, Store, accesses_of, answer_of, bytes_in, store_access, changed_map, changed_mark, first_write, free_list, get_program, tree_map, length-block_put, other_block, written_block, IsCorrect, kept_1, laid_whole, bits_after, sizes_of, same_ok, AreTaken, taken_are, up_apart, FsError, FileAreas, blocks_for, bytes_of, data_count, entries_of, entry_at, file_block, is_file, is_handed, most_bytes, number_of, Call, at_file, in_tree, is_many, refuse, with_new, write_in, write_op, write_pieces, write_program, write_sized, write_to, written, AreFileAreas, AreFileRegions, Uses, content, file_at, files}
 use Rattle.store_model.specs.declared.files.FsError.TheVariants as fs
-use Rattle.store_model.specs.declared.files.FileAreas.{FileAreas}
-use Rattle.store_model.specs.FileNodes.{blocks_for, bytes_of, data_count, entries_of, entry_at, file_block, is_file, is_handed, most_bytes, number_of}
-use Rattle.store_model.specs.FileCalls.{Call, at_file, in_tree, is_many, refuse, with_new, write_in, write_op, write_pieces, write_program, write_sized, write_to, written}
-use Rattle.store_model.specs.FileRegion.{AreFileAreas, AreFileRegions, Uses, content, file_at, files}
 use Rattle.iso_fs.proofs.AfterTree.{answer_at_file, answer_got, own_at_file, own_got}
 use Rattle.iso_fs.proofs.FileBlocks.{block_bytes, block_count, block_entry, block_is_file, length-file_block}
 use Rattle.iso_fs.proofs.Files.{IsHanded, count_fits, count_mono, uses_handed}

@@ -1,23 +1,5 @@
 -- What the writes of the pieces make of the bytes of a file's blocks.
-use Rattle.std.proofs.Common.{◌≡◌, ◌≢◌, ◌⊎◌, ◌∙◌, sym, refl, ap, subst, ℕ, zero, suc, ◌+◌, ◌-◌, ◌*◌, ◌/◌, ◌%◌, ◌<◌, ◌≤◌, Bool, true, false, cond, List, [], ◌∷◌, ◌++◌, length, get_or, take, drop, replicate, nat_le, Result, Ok, arith, inl, inr}
-use Rattle.std.specs.Prelude.{nat_lt}
-use Rattle.std.proofs.lemmas.Bool.{cases_eq, cases_lt, or_left}
-use Rattle.std.proofs.lemmas.Bool.Decides.{nat_tests}
-use Rattle.std.proofs.lemmas.Nat.{div-add-mod'}
-use Rattle.std.proofs.Math.Nat.{div-lt_iff_lt-mul, mod-lt}
-use Rattle.std.proofs.lemmas.List.{get_or-take, get_or-drop, length-drop, length-replicate, length-take-le}
-use Rattle.iso_model.specs.declared.access.Access.{Access}
-use Rattle.iso_model.specs.declared.access.Span.{Span}
-use Rattle.store_model.specs.declared.stores.Area.{Area}
-use Rattle.iso_model.specs.Array.{Array, byte_at, covered, put}
-use Rattle.iso_model.specs.Effect.{own}
-use Rattle.store_model.specs.Cells.{block_with}
-use Rattle.iso_model.specs.Premises.{block_at}
-use Rattle.store_model.specs.Stores.{Done, Store, accesses_of, store_access}
-use Rattle.iso_model.proofs.Bytes.{length-block_put, other_block, put_here}
-use Rattle.iso_alloc.proofs.Laying.{laid_here}
-use Rattle.store_model.specs.FileNodes.{piece_len, piece_mark}
-use Rattle.store_model.specs.FileCalls.{Call, write_pieces}
+use Rattle.iso_fs.proofs.Words.{◌≡◌, ◌≢◌, ◌⊎◌, ◌∙◌, sym, refl, ap, subst, ℕ, zero, suc, ◌+◌, ◌-◌, ◌*◌, ◌/◌, ◌%◌, ◌<◌, ◌≤◌, Bool, true, false, cond, List, [], ◌∷◌, ◌++◌, length, get_or, take, drop, replicate, nat_le, Result, Ok, arith, inl, inr, nat_lt, cases_eq, cases_lt, or_left, nat_tests, div-add-mod', div-lt_iff_lt-mul, mod-lt, get_or-take, get_or-drop, length-drop, length-replicate, length-take-le, Access, Span, Area, Array, byte_at, covered, put, own, block_with, block_at, Done, Store, accesses_of, store_access, length-block_put, other_block, put_here, laid_here, piece_len, piece_mark, Call, write_pieces}
 use Rattle.iso_fs.proofs.MapByte.{length-block_with}
 use Rattle.iso_fs.proofs.MapLaid.{byte_in}
 use Rattle.iso_fs.proofs.Pieces.{IsPiece, near_div, near_mod, piece_is}

@@ -1,41 +1,7 @@
 -- A write, part by part.
-use Rattle.std.proofs.Common.{◌≡◌, ◌∙◌, sym, refl, ap, subst, ℕ, zero, suc, ◌+◌, ◌-◌, ◌*◌, ◌/◌, ◌%◌, ◌<◌, ◌≤◌, ◌&&◌, Bool, true, false, not, cond, List, [], ◌∷◌, ◌++◌, length, take, drop, get_or, nat_le, None, Result, Ok, Err, IfOk, arith}
-use Rattle.std.specs.Prelude.{nat_lt, slice_index}
-use Rattle.std.specs.List.{filter, range_with_len}
-use Rattle.std.proofs.lemmas.Bool.Decides.{nat_tests}
-use Rattle.std.proofs.lemmas.List.{append-nil, drop-drop, get_or-append_right, get_or_append_left, take_rest}
-use Rattle.std.proofs.lemmas.List.FromFn.{get_or-map-range_with_len, length-map-range_with_len}
-use Rattle.std.proofs.Math.Nat.{add-mul-div_right, div-lt_iff_lt-mul, mul-le-mul_right}
-use Rattle.iso_model.specs.declared.access.Access.{Access}
-use Rattle.iso_model.specs.declared.access.Span.{Span}
-use Rattle.iso_model.specs.Effect.{own}
-use Rattle.store_model.specs.declared.stores.Area.{Area}
+use Rattle.iso_fs.proofs.Words.{◌≡◌, ◌∙◌, sym, refl, ap, subst, ℕ, zero, suc, ◌+◌, ◌-◌, ◌*◌, ◌/◌, ◌%◌, ◌<◌, ◌≤◌, ◌&&◌, Bool, true, false, not, cond, List, [], ◌∷◌, ◌++◌, length, take, drop, get_or, nat_le, None, Result, Ok, Err, IfOk, arith, nat_lt, slice_index, filter, range_with_len, nat_tests, append-nil, drop-drop, get_or-append_right, get_or_append_left, take_rest, get_or-map-range_with_len, length-map-range_with_len, add-mul-div_right, div-lt_iff_lt-mul, mul-le-mul_right, Access, Span, own, Area, TxError, FsError, FileAreas, FsRegion, block_with, free_count, map_bit, map_mark, is_key, Done, IsLocal, Store, bytes_in, look_access, store_access, changed_map, changed_mark, first_write, free_list, get_program, IsTreeArea, blocks_for, bytes_of, data_count, entries_of, entry_at, file_block, is_file, most_bytes, piece_len, piece_mark, Call, at_file, goes_on, in_tree, is_many, look_map, refuse, with_new, write_op, write_pieces, write_program, write_sized, write_to, AreFileAreas, AreFileRegions, files, Tx, Device, IsTx, with_accesses, AreBytesOf, IsCause, IsLocalCall, HasAccess, IsAt, at_look, at_start, at_store, ran_at, whole_run, cut_at_look, cut_at_store, at_as, AreBlocks, first_access, free_same, taken_same, AreTaken, taken_are, HasRun, areas_of, with_taken}
 use Rattle.store_model.specs.declared.stores.StoreError.TheVariants as store
-use Rattle.store_model.specs.declared.stores.TxError.{TxError}
-use Rattle.store_model.specs.declared.files.FsError.{FsError}
 use Rattle.store_model.specs.declared.files.FsError.TheVariants as fs
-use Rattle.store_model.specs.declared.files.FileAreas.{FileAreas}
-use Rattle.store_model.specs.declared.files.FsRegion.{FsRegion}
-use Rattle.store_model.specs.Cells.{block_with}
-use Rattle.store_model.specs.FreeMap.{free_count, map_bit, map_mark}
-use Rattle.store_model.specs.HashCalls.{is_key}
-use Rattle.store_model.specs.Stores.{Done, IsLocal, Store, bytes_in, look_access, store_access}
-use Rattle.store_model.specs.TreeCalls.{changed_map, changed_mark, first_write, free_list, get_program}
-use Rattle.store_model.specs.TreeRegion.{IsTreeArea}
-use Rattle.store_model.specs.FileNodes.{blocks_for, bytes_of, data_count, entries_of, entry_at, file_block, is_file, most_bytes, piece_len, piece_mark}
-use Rattle.store_model.specs.FileCalls.{Call, at_file, goes_on, in_tree, is_many, look_map, refuse, with_new, write_op, write_pieces, write_program, write_sized, write_to}
-use Rattle.store_model.specs.FileRegion.{AreFileAreas, AreFileRegions, files}
-use Rattle.tx_blocks.specs.Tx.{Tx, Device, IsTx, with_accesses}
-use Rattle.tx_blocks.specs.Runs.{AreBytesOf, IsCause, IsLocalCall}
-use Rattle.tx_blocks.proofs.Progress.{HasAccess, IsAt, at_look, at_start, at_store, ran_at, whole_run}
-use Rattle.tx_blocks.proofs.Refusals.{cut_at_look, cut_at_store}
-use Rattle.iso_tree.proofs.Looking.{at_as}
-use Rattle.iso_tree.specs.Rows.{AreBlocks}
-use Rattle.iso_tree.specs.FirstBlock.{first_access}
-use Rattle.iso_tree.proofs.Enlarging.{free_same, taken_same}
-use Rattle.iso_tree.proofs.Taking.{AreTaken, taken_are}
-use Rattle.iso_fs.specs.Ends.{HasRun, areas_of}
-use Rattle.iso_fs.specs.Finds.{with_taken}
 use Rattle.iso_fs.proofs.CreateSteps.{have_blocks}
 use Rattle.iso_fs.proofs.Ended.{has_then, run_as, run_from}
 use Rattle.iso_fs.proofs.Files.{count_covers, count_fits, count_mono, entry_handed, file_parts}

@@ -1,29 +1,6 @@
 -- A write writes whole blocks, on whatever array, and is local.
-use Rattle.std.proofs.Common.{◌≡◌, ◌∙◌, sym, refl, ap, subst, ℕ, zero, suc, ◌+◌, ◌-◌, ◌*◌, ◌/◌, ◌%◌, ◌^◌, ◌<◌, ◌≤◌, ◌==◌, ◌&&◌, Bool, true, false, cond, List, [], ◌∷◌, ◌++◌, length, get_or, take, drop, nat_le, Option, Some, None, Ok, arith, inl, inr, length-append}
-use Rattle.std.specs.Prelude.{nat_lt}
-use Rattle.std.proofs.lemmas.Bool.{and_parts, cases_Bool, cases_lt, leb-true}
-use Rattle.std.proofs.lemmas.Bool.Decides.{nat_tests}
-use Rattle.std.proofs.lemmas.List.{get_or-append_right, get_or_append_left, length-drop, length-take-le}
-use Rattle.std.proofs.lemmas.List.FromFn.{get_or-map-range_with_len, length-map-range_with_len}
-use Rattle.std.proofs.Math.Nat.{div-lt_iff_lt-mul}
-use Rattle.store_model.specs.declared.stores.StoreError.TheVariants.{NoBlocks}
-use Rattle.iso_model.specs.Array.{Array, put}
-use Rattle.store_model.specs.FreeMap.{free_count, map_mark}
-use Rattle.store_model.specs.HashCalls.{is_key}
-use Rattle.store_model.specs.HashRegion.{IsIn}
-use Rattle.iso_model.specs.Premises.{block_at}
-use Rattle.store_model.specs.Stores.{Done, IsLocal, LookWhole, accesses_of, answer_of, bytes_in, store_access}
-use Rattle.store_model.specs.TreeCalls.{changed_map, first_write, free_list, get_program}
-use Rattle.tx_blocks.proofs.Programs.{AreWhole, local_from}
-use Rattle.iso_tree.proofs.Facts.{nothing_is}
-use Rattle.iso_tree.proofs.MapBits.{length-changed}
-use Rattle.iso_tree.proofs.NewBlocks.{sizes_of}
-use Rattle.iso_tree.proofs.Taking.{AreTaken, taken_are}
+use Rattle.iso_fs.proofs.Words.{◌≡◌, ◌∙◌, sym, refl, ap, subst, ℕ, zero, suc, ◌+◌, ◌-◌, ◌*◌, ◌/◌, ◌%◌, ◌^◌, ◌<◌, ◌≤◌, ◌==◌, ◌&&◌, Bool, true, false, cond, List, [], ◌∷◌, ◌++◌, length, get_or, take, drop, nat_le, Option, Some, None, Ok, arith, inl, inr, length-append, nat_lt, and_parts, cases_Bool, cases_lt, leb-true, nat_tests, get_or-append_right, get_or_append_left, length-drop, length-take-le, get_or-map-range_with_len, length-map-range_with_len, div-lt_iff_lt-mul, NoBlocks, Array, put, free_count, map_mark, is_key, IsIn, block_at, Done, IsLocal, LookWhole, accesses_of, answer_of, bytes_in, store_access, changed_map, first_write, free_list, get_program, AreWhole, local_from, nothing_is, length-changed, sizes_of, AreTaken, taken_are, FileAreas, blocks_for, bytes_of, data_count, entries_of, entry_at, file_block, is_file, is_handed, is_number, most_bytes, number_of, piece_len, Call, at_file, broken, in_tree, is_many, refuse, with_new, write_op, write_pieces, write_program, write_sized, write_to, AreFileAreas, AreFileRegions, file_at, files}
 use Rattle.store_model.specs.declared.files.FsError.TheVariants as fs
-use Rattle.store_model.specs.declared.files.FileAreas.{FileAreas}
-use Rattle.store_model.specs.FileNodes.{blocks_for, bytes_of, data_count, entries_of, entry_at, file_block, is_file, is_handed, is_number, most_bytes, number_of, piece_len}
-use Rattle.store_model.specs.FileCalls.{Call, at_file, broken, in_tree, is_many, refuse, with_new, write_op, write_pieces, write_program, write_sized, write_to}
-use Rattle.store_model.specs.FileRegion.{AreFileAreas, AreFileRegions, file_at, files}
 use Rattle.iso_fs.proofs.AfterTree.{whole_behind_get}
 use Rattle.iso_fs.proofs.CreateCalls.{HaveBlocks}
 use Rattle.iso_fs.proofs.FileBlocks.{length-file_block, place_in}

@@ -1,32 +1,9 @@
 -- A file that is written.
-use Rattle.std.proofs.Common.{◌≡◌, ◌≢◌, ◌⊎◌, ◌↔◌, ◌∙◌, sym, refl, ap, subst, ℕ, zero, suc, ◌+◌, ◌-◌, ◌*◌, ◌/◌, ◌%◌, ◌<◌, ◌≤◌, Bool, true, false, cond, IsTrue, List, ◌++◌, length, get_or, take, drop, map, nat_le, Option, Some, None, option_map, arith, inl, inr, length-append}
-use Rattle.std.specs.List.{list_all, range_with_len}
-use Rattle.std.specs.FinMap.{get, insert, same_map, slice_cmp-IsAntisymmetric, nat_cmp-IsAntisymmetric}
-use Rattle.std.specs.Cmp.Lexicographic.{nat_list_cmp_total}
-use Rattle.std.proofs.lemmas.Bool.{both_ways, cases_Bool, cases_lt}
-use Rattle.std.proofs.lemmas.Bool.Decides.{nat_tests}
-use Rattle.std.proofs.lemmas.List.{ext_get_or, get_or-append_right, get_or-drop, get_or-take, get_or_append_left, length-drop, length-take-le}
-use Rattle.std.proofs.lemmas.List.FromFn.{get_or-map-range_with_len, length-map-range_with_len}
-use Rattle.iso_model.specs.Array.{Array, byte_at}
-use Rattle.iso_model.specs.Effect.{own}
-use Rattle.store_model.specs.Cells.{is_zero}
-use Rattle.store_model.specs.FreeMap.{map_bit, map_bytes}
-use Rattle.store_model.specs.HashRegion.{IsIn}
-use Rattle.iso_model.specs.Premises.{block_at}
-use Rattle.store_model.specs.Stores.{accesses_of}
-use Rattle.store_model.specs.TreeRegion.{IsTreeRegion, tree_map}
-use Rattle.store_model.specs.Trees.{IsApart}
-use Rattle.iso_model.proofs.Bytes.{length-block_own}
-use Rattle.store_model.specs.declared.files.FileAreas.{FileAreas}
-use Rattle.store_model.specs.FileNodes.{bytes_of, data_count, entries_of, entry_at, is_file, is_number, number_of}
-use Rattle.store_model.specs.FileCalls.{write_pieces, written}
-use Rattle.store_model.specs.FileRegion.{AreFileAreas, AreFileRegions, IsUsed, Uses, content, file_at, file_byte, files, number_at}
-use Rattle.store_model.specs.Areas.{in_area}
+use Rattle.iso_fs.proofs.Words.{◌≡◌, ◌≢◌, ◌⊎◌, ◌↔◌, ◌∙◌, sym, refl, ap, subst, ℕ, zero, suc, ◌+◌, ◌-◌, ◌*◌, ◌/◌, ◌%◌, ◌<◌, ◌≤◌, Bool, true, false, cond, IsTrue, List, ◌++◌, length, get_or, take, drop, map, nat_le, Option, Some, None, option_map, arith, inl, inr, length-append, list_all, range_with_len, get, insert, same_map, slice_cmp-IsAntisymmetric, nat_cmp-IsAntisymmetric, nat_list_cmp_total, both_ways, cases_Bool, cases_lt, nat_tests, ext_get_or, get_or-append_right, get_or-drop, get_or-take, get_or_append_left, length-drop, length-take-le, get_or-map-range_with_len, length-map-range_with_len, Array, byte_at, own, is_zero, map_bit, map_bytes, IsIn, block_at, accesses_of, IsTreeRegion, tree_map, IsApart, length-block_own, FileAreas, bytes_of, data_count, entries_of, entry_at, is_file, is_number, number_of, write_pieces, written, AreFileAreas, AreFileRegions, IsUsed, Uses, content, file_at, file_byte, files, number_at, in_area, map_new, region_new}
 use Rattle.iso_fs.proofs.FileBlocks.{apart_places, at_place, place_in}
 use Rattle.iso_fs.proofs.Files.{IsHanded, count_covers, place_below, uses_handed}
 use Rattle.iso_fs.proofs.Kept.{kept_content, kept_uses, same_some, still_uses}
 use Rattle.iso_fs.proofs.Lookups.{files_get, insert_get, name_is, name_self, same_name}
-use Rattle.iso_tree.proofs.TreeBlocks.{map_new, region_new}
 use Rattle.iso_fs.proofs.WritePieces.{bytes_behind, bytes_written, others_stay}
 
 -- the regions after the call, and the files in them

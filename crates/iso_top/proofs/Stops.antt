@@ -172,6 +172,11 @@ module _ (g : Geometry) (tells : Bool) (w : Stop) (other : w ≢ stop.Memory) wh
   does (Some t) (op.TreeGet key) es own' d = in_store _ t (op.TreeGet key) es own' d
   does (Some t) (op.TreeDelete key) es own' d = in_store _ t (op.TreeDelete key) es own' d
   does (Some t) (op.TreeScan from to most) es own' d = in_store _ t (op.TreeScan from to most) es own' d
+  does (Some t) (op.FileNew name) es own' d = in_store _ t (op.FileNew name) es own' d
+  does (Some t) (op.FileWrite name off bytes) es own' d = in_store _ t (op.FileWrite name off bytes) es own' d
+  does (Some t) (op.FileRead name off len) es own' d = in_store _ t (op.FileRead name off len) es own' d
+  does (Some t) (op.FileMove from to) es own' d = in_store _ t (op.FileMove from to) es own' d
+  does (Some t) (op.FileDelete name) es own' d = in_store _ t (op.FileDelete name) es own' d
   does (Some t) op.Trim es own' d = trims (Some t) es own' d
   does (Some t) op.Stat es own' d = stats (Some t) es own' d
   does (Some t) op.Compact es own' d = compacts (Some t) es own' d

@@ -1,5 +1,5 @@
 -- Lines that call a store: what the session did, and what the rules answer over the bytes that were fetched.
-use Rattle.par_lines.proofs.Words.{◌≡◌, ◌≢◌, ℕ, ◌+◌, ◌-◌, ◌<◌, ◌≤◌, ◌==◌, ◌&&◌, Bool, true, false, cond, not, nat_lt, List, [], ◌∷◌, ◌++◌, Option, Some, None, length, map, ap, eq-eqb, inl, refl, sym, subst, ◌∙◌, arith, IfOk, IsTrue, Result, Ok, Err, AllByRecursion, nat_tests, ne_eqb, append_cancel_left, append-nil, Session, accesses_of, tx_on, Moves, Failed, IsVisit, Seen, Visited, base_in, base_of, begin_array, seen_by, blocks_append, Access, Geometry, Mode, Serial, Snapshot, Op, Reply, Area, Region, Array, block_at, Entry, Cause, is_serial, is_valid, store_area_fits, store_area_is, all_own, array_at, array_of, hash_delete_step, hash_get_step, hash_put_step, in_store, step, store_step, tree_delete_step, tree_get_step, tree_put_step, tree_scan_step, World, Live, Start, state_at, Stop, ForSome, Tx, room_of, with_accesses, area_of, HasCalled, IsStoreArea, Stops, is_empty_scan, store_area, store_ended, AnswersOn, CallsStore, Did, Does, InStore, Own, Says, StopsBy, Where, alone, answer, blocks_read, live_of, own_after, own_among, Answered, IsOnStore, settled}
+use Rattle.par_lines.proofs.Words.{◌≡◌, ◌≢◌, ℕ, ◌+◌, ◌-◌, ◌<◌, ◌≤◌, ◌==◌, ◌&&◌, Bool, true, false, cond, not, nat_lt, List, [], ◌∷◌, ◌++◌, Option, Some, None, length, map, ap, eq-eqb, inl, refl, sym, subst, ◌∙◌, arith, IfOk, IsTrue, Result, Ok, Err, AllByRecursion, nat_tests, ne_eqb, append_cancel_left, append-nil, Session, accesses_of, tx_on, Moves, Failed, IsVisit, Seen, Visited, base_in, base_of, begin_array, seen_by, blocks_append, Access, Geometry, Mode, Serial, Snapshot, Op, Reply, FileAreas, FsRegion, Array, block_at, Entry, Cause, is_serial, is_valid, store_areas_are, store_areas_fit, all_own, array_at, array_of, file_delete_step, file_move_step, file_new_step, file_read_step, file_write_step, hash_delete_step, hash_get_step, hash_put_step, in_store, step, store_step, tree_delete_step, tree_get_step, tree_put_step, tree_scan_step, World, Live, Start, state_at, Stop, ForSome, Tx, room_of, with_accesses, areas_of, HasCalled, AreStoreAreas, Stops, is_empty_scan, placed, store_areas, store_blocks, store_ended, AnswersOn, CallsStore, Did, Does, InStore, Own, Says, StopsBy, Where, alone, answer, blocks_read, live_of, own_after, own_among, Answered, IsOnStore, settled}
 use Rattle.std.proofs.Common.{option_map}
 use Rattle.handle_pass.specs.Visits as visits
 use Rattle.handle_pass.specs.Sessions as handle
@@ -127,15 +127,15 @@ no_serial W t blocks result some mode = let there : (blocks == 0) ≡ false = ne
 
 -- what a call ends with where the client is alone
 abbrev ended : Geometry → Array → Own → Op → List Access × Reply
-ended g B o x = store_ended (store_area g x) x (4096 - length o.accesses) (array_of (alone g B (Some o)) (live_of o))
+ended g B o x = store_ended (store_areas g x) x (4096 - length o.accesses) (array_of (alone g B (Some o)) (live_of o))
 
 -- the rules' step, where the store is there
 abbrev act : Geometry → Array → Own → Op → Reply × World
 act g B o x = ((ended g B o x).1, rules.with_accesses (alone g B (Some o)) (live_of o) (o.accesses ++ (ended g B o x).0))
 
 stepped : (g : Geometry) (B : Array) (o : Own) (x : Op) → IsOnStore x
-    → step (alone g B (Some o)) 1 x ≡ in_store (alone g B (Some o)) (live_of o) (store_area g x).blocks (cond (is_empty_scan x) (reply.BadRange, alone g B (Some o)) (act g B o x))
-unfolding step hash_put_step hash_get_step hash_delete_step tree_put_step tree_get_step tree_delete_step tree_scan_step store_step
+    → step (alone g B (Some o)) 1 x ≡ in_store (alone g B (Some o)) (live_of o) (store_blocks g x) (cond (is_empty_scan x) (reply.BadRange, alone g B (Some o)) (act g B o x))
+unfolding step hash_put_step hash_get_step hash_delete_step tree_put_step tree_get_step tree_delete_step tree_scan_step file_new_step file_write_step file_read_step file_move_step file_delete_step store_step
 stepped g B o (op.HashPut key value) is = refl
 stepped g B o (op.HashGet key) is = refl
 stepped g B o (op.HashDelete key) is = refl
@@ -143,6 +143,11 @@ stepped g B o (op.TreePut key value) is = refl
 stepped g B o (op.TreeGet key) is = refl
 stepped g B o (op.TreeDelete key) is = refl
 stepped g B o (op.TreeScan from to most) is = refl
+stepped g B o (op.FileNew name) is = refl
+stepped g B o (op.FileWrite name off bytes) is = refl
+stepped g B o (op.FileRead name off len) is = refl
+stepped g B o (op.FileMove from to) is = refl
+stepped g B o (op.FileDelete name) is = refl
 stepped g B o (op.Begin mode) is = absurd is
 stepped g B o op.End is = absurd is
 stepped g B o op.Abort is = absurd is
@@ -168,14 +173,14 @@ own_with : (g : Geometry) (B : Array) (o : Own) (l : List Access) → own_among 
 own_with g B o l = ap (λ b. own_among (cond b (record (live_of o) { accesses = l }) (live_of o) ∷ [])) (eq-eqb o.number o.number refl)
 
 module _ (g : Geometry) (o : Own) (x : Op) (is : IsOnStore x) where
-  served : (store_area g x).blocks ≢ 0 → o.mode ≡ Serial → is_empty_scan x ≡ false → IsServed g o x (store_ended (store_area g x) x)
+  served : (store_blocks g x) ≢ 0 → o.mode ≡ Serial → is_empty_scan x ≡ false → IsServed g o x (store_ended (store_areas g x) x)
   served some mode full =
       let whole : (B : Array) → step (alone g B (Some o)) 1 x ≡ act g B o x =
-      λ B. stepped g B o x is ∙ there_is (alone g B (Some o)) (live_of o) (store_area g x).blocks _ some mode ∙ ap (λ b. cond b (reply.BadRange, alone g B (Some o)) (act g B o x)) full in
+      λ B. stepped g B o x is ∙ there_is (alone g B (Some o)) (live_of o) (store_blocks g x) _ some mode ∙ ap (λ b. cond b (reply.BadRange, alone g B (Some o)) (act g B o x)) full in
       record {
-        answers = λ B. ap (λ (w : Reply × World). w.0) (whole B) ∙ ap (λ C. (store_ended (store_area g x) x (4096 - length o.accesses) C).1) (array_is g B o);
+        answers = λ B. ap (λ (w : Reply × World). w.0) (whole B) ∙ ap (λ C. (store_ended (store_areas g x) x (4096 - length o.accesses) C).1) (array_is g B o);
         leaves = λ B. ap (λ (w : Reply × World). own_among w.1.live) (whole B) ∙ own_with g B o (o.accesses ++ (ended g B o x).0)
-            ∙ ap (λ C. Some (record o { accesses = o.accesses ++ (store_ended (store_area g x) x (4096 - length o.accesses) C).0 })) (array_is g B o);
+            ∙ ap (λ C. Some (record o { accesses = o.accesses ++ (store_ended (store_areas g x) x (4096 - length o.accesses) C).0 })) (array_is g B o);
       }
 
 -- which of the two a line is
@@ -196,7 +201,7 @@ not_so_in_store P Q blocks o some mode q =
 
 module _ (g : Geometry) (tells : Bool) (o : Own) (es : List Entry) (r : Result Reply Stop) (own' : Option Own) where
   -- the clause of each operation on a store
-  does_in : (x : Op) → IsOnStore x → InStore (store_area g x).blocks o (CallsStore g tells o x es r own') (Says g (Some o) x es r own') → Does g tells (Some o) x es r own'
+  does_in : (x : Op) → IsOnStore x → InStore (store_blocks g x) o (CallsStore g tells o x es r own') (Says g (Some o) x es r own') → Does g tells (Some o) x es r own'
   does_in (op.HashPut key value) is does = does
   does_in (op.HashGet key) is does = does
   does_in (op.HashDelete key) is does = does
@@ -204,6 +209,11 @@ module _ (g : Geometry) (tells : Bool) (o : Own) (es : List Entry) (r : Result R
   does_in (op.TreeGet key) is does = does
   does_in (op.TreeDelete key) is does = does
   does_in (op.TreeScan from to most) is does = does
+  does_in (op.FileNew name) is does = does
+  does_in (op.FileWrite name off bytes) is does = does
+  does_in (op.FileRead name off len) is does = does
+  does_in (op.FileMove from to) is does = does
+  does_in (op.FileDelete name) is does = does
   does_in (op.Begin mode) is does = absurd is
   does_in op.End is does = absurd is
   does_in op.Abort is does = absurd is
@@ -231,6 +241,11 @@ no_tx g tells (op.TreePut key value) is = (refl, refl, refl)
 no_tx g tells (op.TreeGet key) is = (refl, refl, refl)
 no_tx g tells (op.TreeDelete key) is = (refl, refl, refl)
 no_tx g tells (op.TreeScan from to most) is = (refl, refl, refl)
+no_tx g tells (op.FileNew name) is = (refl, refl, refl)
+no_tx g tells (op.FileWrite name off bytes) is = (refl, refl, refl)
+no_tx g tells (op.FileRead name off len) is = (refl, refl, refl)
+no_tx g tells (op.FileMove from to) is = (refl, refl, refl)
+no_tx g tells (op.FileDelete name) is = (refl, refl, refl)
 no_tx g tells (op.Begin mode) is = absurd is
 no_tx g tells op.End is = absurd is
 no_tx g tells op.Abort is = absurd is
@@ -261,29 +276,29 @@ module _ {D O : Type 0} (A : Start) (s : Session D O) (x : Op) (is : IsOnStore x
   pub without_tx : handle.own s ≡ None → Answered A s x (Ok reply.NotInTx) s
   without_tx none = by_none A s s x (Ok reply.NotInTx) None none refl (no_tx A.world.geometry A.tells x is)
 
-  pub without_store : (o : Own) → handle.own s ≡ Some o → (store_area A.world.geometry x).blocks ≡ 0 → Answered A s x (Ok reply.NoStore) s
+  pub without_store : (o : Own) → handle.own s ≡ Some o → (store_blocks A.world.geometry x) ≡ 0 → Answered A s x (Ok reply.NoStore) s
   without_store o was none =
       by_none A s s x (Ok reply.NoStore) (Some o) was refl
       (does_in A.world.geometry A.tells o [] (Ok reply.NoStore) (Some o) x is
-      (not_in_store (CallsStore A.world.geometry A.tells o x [] (Ok reply.NoStore) (Some o)) (Says A.world.geometry (Some o) x [] (Ok reply.NoStore) (Some o)) (store_area A.world.geometry x).blocks o none
-      (says_by A.world.geometry o x reply.NoStore (stepped A.world.geometry [] o x is ∙ no_store (alone A.world.geometry [] (Some o)) (live_of o) (store_area A.world.geometry x).blocks _ none))))
+      (not_in_store (CallsStore A.world.geometry A.tells o x [] (Ok reply.NoStore) (Some o)) (Says A.world.geometry (Some o) x [] (Ok reply.NoStore) (Some o)) (store_blocks A.world.geometry x) o none
+      (says_by A.world.geometry o x reply.NoStore (stepped A.world.geometry [] o x is ∙ no_store (alone A.world.geometry [] (Some o)) (live_of o) (store_blocks A.world.geometry x) _ none))))
 
-  pub without_mode : (o : Own) → handle.own s ≡ Some o → (store_area A.world.geometry x).blocks ≢ 0 → o.mode ≡ Snapshot → Answered A s x (Ok reply.StoreMode) s
+  pub without_mode : (o : Own) → handle.own s ≡ Some o → (store_blocks A.world.geometry x) ≢ 0 → o.mode ≡ Snapshot → Answered A s x (Ok reply.StoreMode) s
   without_mode o was some mode =
       by_none A s s x (Ok reply.StoreMode) (Some o) was refl
       (does_in A.world.geometry A.tells o [] (Ok reply.StoreMode) (Some o) x is
-      (not_so_in_store (CallsStore A.world.geometry A.tells o x [] (Ok reply.StoreMode) (Some o)) (Says A.world.geometry (Some o) x [] (Ok reply.StoreMode) (Some o)) (store_area A.world.geometry x).blocks o some mode
-      (says_by A.world.geometry o x reply.StoreMode (stepped A.world.geometry [] o x is ∙ no_serial (alone A.world.geometry [] (Some o)) (live_of o) (store_area A.world.geometry x).blocks _ some mode))))
+      (not_so_in_store (CallsStore A.world.geometry A.tells o x [] (Ok reply.StoreMode) (Some o)) (Says A.world.geometry (Some o) x [] (Ok reply.StoreMode) (Some o)) (store_blocks A.world.geometry x) o some mode
+      (says_by A.world.geometry o x reply.StoreMode (stepped A.world.geometry [] o x is ∙ no_serial (alone A.world.geometry [] (Some o)) (live_of o) (store_blocks A.world.geometry x) _ some mode))))
 
   -- a scan that is to find no pair reads nothing
-  pub without_pairs : (o : Own) → handle.own s ≡ Some o → (store_area A.world.geometry x).blocks ≢ 0 → o.mode ≡ Serial → is_empty_scan x ≡ true → Answered A s x (Ok reply.BadRange) s
+  pub without_pairs : (o : Own) → handle.own s ≡ Some o → (store_blocks A.world.geometry x) ≢ 0 → o.mode ≡ Serial → is_empty_scan x ≡ true → Answered A s x (Ok reply.BadRange) s
   without_pairs o was some mode empty =
       let g : Geometry = A.world.geometry in
       let whole : step (alone g [] (Some o)) 1 x ≡ (reply.BadRange, alone g [] (Some o)) =
-      stepped g [] o x is ∙ there_is (alone g [] (Some o)) (live_of o) (store_area g x).blocks _ some mode ∙ ap (λ b. cond b (reply.BadRange, alone g [] (Some o)) (act g [] o x)) empty in
+      stepped g [] o x is ∙ there_is (alone g [] (Some o)) (live_of o) (store_blocks g x) _ some mode ∙ ap (λ b. cond b (reply.BadRange, alone g [] (Some o)) (act g [] o x)) empty in
       by_none A s s x (Ok reply.BadRange) (Some o) was refl
       (does_in g A.tells o [] (Ok reply.BadRange) (Some o) x is
-      (in_store_so (CallsStore g A.tells o x [] (Ok reply.BadRange) (Some o)) (Says g (Some o) x [] (Ok reply.BadRange) (Some o)) (store_area g x).blocks o some mode (record {
+      (in_store_so (CallsStore g A.tells o x [] (Ok reply.BadRange) (Some o)) (Says g (Some o) x [] (Ok reply.BadRange) (Some o)) (store_blocks g x) o some mode (record {
         fetched = [];
         refused = None;
         done = [];
@@ -300,22 +315,22 @@ module _ {D O : Type 0} (A : Start) (s : Session D O) (x : Op) (is : IsOnStore x
       })))
 
   -- the store was called
-  pub visited : (t : Session D O) (before : Option (Session D O)) (o : Own) (region : Region) (failures : ℕ) (is_down : Bool) (r q : Result Reply Stop) (v w : Seen) → before ≡ Some s → handle.own s ≡ Some o → o.mode ≡ Serial
-      → ◌≡◌ {A = Area} (record { size = A.world.geometry.block; start = region.start; blocks = region.size }) (store_area A.world.geometry x) → 0 < region.size → is_empty_scan x ≡ false
-      → v ≡ seen_by A before s 0 false → w ≡ seen_by A before t failures is_down → HasCalled (store_ended (area_of v.tx region) x) v.tx w.tx r → Stops v.device w.device r → IsVisit A before t failures is_down
+  pub visited : (t : Session D O) (before : Option (Session D O)) (o : Own) (region : FsRegion) (failures : ℕ) (is_down : Bool) (r q : Result Reply Stop) (v w : Seen) → before ≡ Some s → handle.own s ≡ Some o → o.mode ≡ Serial
+      → placed A.world.geometry.block region ≡ store_areas A.world.geometry x → 0 < region.files.size → is_empty_scan x ≡ false
+      → v ≡ seen_by A before s 0 false → w ≡ seen_by A before t failures is_down → HasCalled (store_ended (areas_of v.tx region) x) v.tx w.tx r → Stops v.device w.device r → IsVisit A before t failures is_down
       → q ≡ settled failures is_down r → Answered A s x q t
   visited t before o region failures is_down r q v w begun was mode area some full first last has stops visit ends =
       let g : Geometry = A.world.geometry in
-      let there : (store_area g x).blocks ≢ 0 = λ none. (let size : region.size ≡ (store_area g x).blocks = ap (λ (a : Area). a.blocks) area in absurd (omega (arith, none, size, some))) in
+      let there : (store_blocks g x) ≢ 0 = λ none. (let size : region.files.size ≡ (store_blocks g x) = ap (λ (a : FileAreas). a.files.blocks) area in absurd (omega (arith, none, size, some))) in
       let base : base_of A before ≡ base_in A s = ap (base_of A) begun in
       let same : visit.was ≡ s = same_session visit.was s (sym visit.is ∙ begun) in
       let made : Visited A s t visit.refused = subst (λ u. Visited A u t visit.refused) same visit.made in
       let n : visits.number_in (handle.own s) ≡ o.number = ap visits.number_in was in
-      let calls = called A s t o was x (store_ended (store_area g x) x) r failures is_down (served g o x is there mode full)
-      (subst (λ (b : Option Array). HasCalled (store_ended (store_area g x) x) (tx_on A s b) (tx_on A t b) r) base
-      (subst (λ (a : Area). HasCalled (store_ended a x) (tx_on A s (base_of A before)) (tx_on A t (base_of A before)) r) area
-      (subst (λ (y : Seen). HasCalled (store_ended (area_of (tx_on A s (base_of A before)) region) x) (tx_on A s (base_of A before)) y.tx r) last
-      (subst (λ (y : Seen). HasCalled (store_ended (area_of y.tx region) x) y.tx w.tx r) first has))))
+      let calls = called A s t o was x (store_ended (store_areas g x) x) r failures is_down (served g o x is there mode full)
+      (subst (λ (b : Option Array). HasCalled (store_ended (store_areas g x) x) (tx_on A s b) (tx_on A t b) r) base
+      (subst (λ (a : FileAreas). HasCalled (store_ended a x) (tx_on A s (base_of A before)) (tx_on A t (base_of A before)) r) area
+      (subst (λ (y : Seen). HasCalled (store_ended (areas_of (tx_on A s (base_of A before)) region) x) (tx_on A s (base_of A before)) y.tx r) last
+      (subst (λ (y : Seen). HasCalled (store_ended (areas_of y.tx region) x) y.tx w.tx r) first has))))
       (subst (λ (y : Seen). Stops (record { faults = 0; is_down = false }) y.device r) last (subst (λ (y : Seen). Stops y.device w.device r) first stops))
       visit.refused made visit.failed in
       record {
@@ -323,7 +338,7 @@ module _ {D O : Type 0} (A : Start) (s : Session D O) (x : Op) (is : IsOnStore x
         moves = subst (λ (k : ℕ). Moves s t (visits.fetches k made.fetched ++ visits.refusals k visit.refused)) n made.moves;
         did = subst (λ y. Did g A.tells y x (visits.fetches o.number made.fetched ++ visits.refusals o.number visit.refused) q (handle.own t)) (sym was)
             (inl (subst (λ y. Does g A.tells (Some o) x (visits.fetches o.number made.fetched ++ visits.refusals o.number visit.refused) y (handle.own t)) (sym ends)
-            (does_in g A.tells o (visits.fetches o.number made.fetched ++ visits.refusals o.number visit.refused) (settled failures is_down r) (handle.own t) x is (in_store_so (CallsStore g A.tells o x (visits.fetches o.number made.fetched ++ visits.refusals o.number visit.refused) (settled failures is_down r) (handle.own t)) (Says g (Some o) x (visits.fetches o.number made.fetched ++ visits.refusals o.number visit.refused) (settled failures is_down r) (handle.own t)) (store_area g x).blocks o there mode calls))));
+            (does_in g A.tells o (visits.fetches o.number made.fetched ++ visits.refusals o.number visit.refused) (settled failures is_down r) (handle.own t) x is (in_store_so (CallsStore g A.tells o x (visits.fetches o.number made.fetched ++ visits.refusals o.number visit.refused) (settled failures is_down r) (handle.own t)) (Says g (Some o) x (visits.fetches o.number made.fetched ++ visits.refusals o.number visit.refused) (settled failures is_down r) (handle.own t)) (store_blocks g x) o there mode calls))));
         of = ap (λ y. y.now) made.of;
       }
     where
@@ -334,25 +349,24 @@ pub no_own : (x : Option Own) → option_map (λ (o : Own). o.mode) x ≡ None �
 no_own None e = refl
 no_own (Some o) e = absurd (cc e)
 
--- the region of the image's store, by the numbers that the image had at the start
-pub region_at : (h g : Geometry) (region : Region) (x : Op) → h ≡ g → ◌≡◌ {A = Area} (record { size = h.block; start = region.start; blocks = region.size }) (store_area h x)
-    → ◌≡◌ {A = Area} (record { size = g.block; start = region.start; blocks = region.size }) (store_area g x)
-region_at h g region x is area = subst (λ (k : Geometry). ◌≡◌ {A = Area} (record { size = k.block; start = region.start; blocks = region.size }) (store_area k x)) is area
+-- the regions of the image's store, by the numbers that the image had at the start
+pub regions_at : (h g : Geometry) (region : FsRegion) (x : Op) → h ≡ g → placed h.block region ≡ store_areas h x → placed g.block region ≡ store_areas g x
+regions_at h g region x is area = subst (λ (k : Geometry). placed k.block region ≡ store_areas k x) is area
 
-pub blocks_at : (g : Geometry) (region : Region) (x : Op) → ◌≡◌ {A = Area} (record { size = g.block; start = region.start; blocks = region.size }) (store_area g x) → region.size ≡ (store_area g x).blocks
-blocks_at g region x area = ap (λ (a : Area). a.blocks) area
+pub blocks_at : (g : Geometry) (region : FsRegion) (x : Op) → placed g.block region ≡ store_areas g x → region.files.size ≡ store_blocks g x
+blocks_at g region x area = ap (λ (a : FileAreas). a.files.blocks) area
 
-pub some_blocks : (g : Geometry) (region : Region) (x : Op) → ◌≡◌ {A = Area} (record { size = g.block; start = region.start; blocks = region.size }) (store_area g x) → 0 < region.size → (store_area g x).blocks ≢ 0
+pub some_blocks : (g : Geometry) (region : FsRegion) (x : Op) → placed g.block region ≡ store_areas g x → 0 < region.files.size → store_blocks g x ≢ 0
 some_blocks g region x area some none = let size = blocks_at g region x area in absurd (omega (arith, none, size, some))
 
 -- a call of a store may be made there
-pub may_call : {D O : Type 0} (A : Start) (before : Option (Session D O)) (s : Session D O) (region : Region) (x : Op) (v : Seen) → v ≡ seen_by A before s 0 false
-    → ◌≡◌ {A = Area} (record { size = A.world.geometry.block; start = region.start; blocks = region.size }) (store_area A.world.geometry x) → 0 < region.size → IsTrue (is_valid A.world.geometry)
-    → IsStoreArea x (area_of v.tx region) × (region.start + region.size ≤ v.tx.blocks)
+pub may_call : {D O : Type 0} (A : Start) (before : Option (Session D O)) (s : Session D O) (region : FsRegion) (x : Op) (v : Seen) → v ≡ seen_by A before s 0 false
+    → placed A.world.geometry.block region ≡ store_areas A.world.geometry x → 0 < region.files.size → IsTrue (is_valid A.world.geometry)
+    → AreStoreAreas x (areas_of v.tx region) × (region.files.start + region.files.size ≤ v.tx.blocks)
 may_call A before s region x v is area some valid =
     let g : Geometry = A.world.geometry in
-    let at : area_of v.tx region ≡ store_area g x = ap (λ (y : Seen). area_of y.tx region) is ∙ area in
-    let start : region.start ≡ (store_area g x).start = ap (λ (a : Area). a.start) area in
-    let size : region.size ≡ (store_area g x).blocks = blocks_at g region x area in
+    let at : areas_of v.tx region ≡ store_areas g x = ap (λ (y : Seen). areas_of y.tx region) is ∙ area in
+    let start : region.files.start ≡ (store_areas g x).files.start = ap (λ (a : FileAreas). a.files.start) area in
+    let size : region.files.size ≡ store_blocks g x = blocks_at g region x area in
     let blocks : v.tx.blocks ≡ g.blocks = ap (λ (y : Seen). y.tx.blocks) is in
-    (subst (IsStoreArea x) (sym at) (store_area_is g x valid (some_blocks g region x area some)), omega (arith, start, size, blocks, store_area_fits g x valid))
+    (subst (AreStoreAreas x) (sym at) (store_areas_are g x valid (some_blocks g region x area some)), omega (arith, start, size, blocks, store_areas_fit g x valid))

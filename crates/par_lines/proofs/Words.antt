@@ -68,22 +68,22 @@ pub use Rattle.par_script.specs.declared.TheConstants.{MAX_LOOKS}
 pub use Rattle.par_text.specs.declared.part.Part.{Part}
 pub use Rattle.script_model.specs.CoreReplies.{as_reply}
 pub use Rattle.script_model.specs.Step.{access_step, array_of, in_store, mark_refused, marked_step}
-unfoldable pub use Rattle.script_model.specs.Step.{fill_step, get_step, hash_delete_step, hash_get_step, hash_put_step, mark_step, put_step, read_step, step, store_step, tree_delete_step, tree_get_step, tree_put_step, tree_scan_step, write_step}
+unfoldable pub use Rattle.script_model.specs.Step.{file_delete_step, file_move_step, file_new_step, file_read_step, file_write_step, fill_step, get_step, hash_delete_step, hash_get_step, hash_put_step, mark_step, put_step, read_step, step, store_step, tree_delete_step, tree_get_step, tree_put_step, tree_scan_step, write_step}
 pub use Rattle.script_model.specs.declared.script.Line.{Line}
 pub use Rattle.script_model.specs.declared.script.Op.{Op}
 pub use Rattle.script_model.specs.declared.script.Op.TheVariants.{Abort, Begin, Compact, End, Fill, Get, Mark, Put, Read, Release, Takeover, Trim, Upgrade, Write}
 pub use Rattle.script_model.specs.declared.script.Reply.{Reply}
 pub use Rattle.script_model.specs.declared.stop.Stop.{Stop}
-pub use Rattle.store_calls.proofs.Areas.{store_area_fits, store_area_is}
-pub use Rattle.store_calls.specs.Calls.{HasCalled, IsStoreArea, Stops, is_empty_scan, store_area, store_ended}
-pub use Rattle.store_model.specs.declared.stores.Area.{Area}
-pub use Rattle.store_model.specs.declared.stores.Region.{Region}
+pub use Rattle.store_calls.proofs.Areas.{store_areas_are, store_areas_fit}
+pub use Rattle.store_calls.specs.Calls.{AreStoreAreas, HasCalled, Stops, is_empty_scan, placed, store_areas, store_blocks, store_ended}
+pub use Rattle.store_model.specs.declared.files.FileAreas.{FileAreas}
+pub use Rattle.store_model.specs.declared.files.FsRegion.{FsRegion}
 pub use Rattle.store_model.specs.declared.stores.TxError.{TxError}
 pub use Rattle.turn_lock.proofs.Prefixes.{prefix_whole}
 pub use Rattle.turn_lock.proofs.Rising.{rises_less, times_before}
 pub use Rattle.turn_lock.specs.Lists.{AllBelow, AreDistinct, RisesFrom, count_up, places, times}
 pub use Rattle.turn_lock.specs.declared.view.View.{View}
-pub use Rattle.tx_blocks.specs.Runs.{area_of}
+pub use Rattle.iso_fs.specs.Ends.{areas_of}
 pub use Rattle.tx_blocks.specs.Tx.{IsRefused, Tx, access_refusal, mark_refusal, marking, room_of, with_accesses}
 pub use Rattle.tx_table.specs.Work.{span_at}
 pub use Rattle.par_lines.specs.Answers.{Answered}

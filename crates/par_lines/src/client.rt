@@ -86,7 +86,12 @@ pub(crate) fn answer<'a, D: Disk + Drop, O: Origin, R: Wait>(
         | Op::TreePut { .. }
         | Op::TreeGet { .. }
         | Op::TreeDelete { .. }
-        | Op::TreeScan { .. } => store(rt, alloc, session, geometry, op),
+        | Op::TreeScan { .. }
+        | Op::FileNew { .. }
+        | Op::FileWrite { .. }
+        | Op::FileRead { .. }
+        | Op::FileMove { .. }
+        | Op::FileDelete { .. } => store(rt, alloc, session, geometry, op),
     }
 }
 

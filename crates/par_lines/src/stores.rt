@@ -3,7 +3,7 @@ ghost use Rattle.std.specs.Prelude.{◌≡◌, ◌<◌, IsTrue, Some, false, opt
 ghost use Rattle.iso_model.specs.declared.access.Mode.TheVariants.{Serial as IsSerial};
 ghost use Rattle.iso_model.specs.Geometry.{is_valid};
 ghost use Rattle.handle_pass.specs.Sessions.{own, IsSession};
-ghost use Rattle.store_calls.specs.Calls.{is_empty_scan, store_area};
+ghost use Rattle.store_calls.specs.Calls.{is_empty_scan, placed, store_areas};
 ghost use Rattle.par_lines.specs.Answers.{Answered};
 ghost use Rattle.par_lines.specs.Stores.{IsOnStore, settled};
 
@@ -16,7 +16,7 @@ use std::alloc::Global;
 use std::marker::Brand;
 use std::sync::Wait;
 use store_calls::{call, is_empty_scan, store_region};
-use store_model::Region;
+use store_model::FsRegion;
 
 /// What a line ends with whose call ended so.
 fn settle(failures: u64, is_down: bool, answer: Result<Reply, Stop>) -> Result<Reply, Stop>
@@ -36,7 +36,7 @@ fn visit<'s, 'a, D: Disk + Drop, O: Origin, R: Wait, V: Visit<D, O>>(
     rt: &'s R,
     alloc: Global,
     session: &'s mut Session<'a, D, O>,
-    region: Region,
+    region: FsRegion,
     op: &Op,
     answer: &mut Result<Reply, Stop>,
 ) -> &'s mut Session<'a, D, O>
@@ -46,8 +46,8 @@ fn visit<'s, 'a, D: Disk + Drop, O: Origin, R: Wait, V: Visit<D, O>>(
     requires before { V.before ≡ Some session.old }
     requires mode { option_map (λ o. o.mode) (own session.old) ≡ Some IsSerial }
     requires op { IsOnStore op.now }
-    requires region { record { size = O.start.world.geometry.block; start = region.start; blocks = region.size } ≡ store_area O.start.world.geometry op.now }
-    requires there { 0 < region.size }
+    requires region { placed O.start.world.geometry.block region ≡ store_areas O.start.world.geometry op.now }
+    requires there { 0 < region.files.size }
     requires some { is_empty_scan op.now ≡ false }
     ensures name { result.ghost_name ≡ session.entry.ghost_name }
     ensures session { IsSession O.start result.now }
@@ -83,7 +83,7 @@ pub(crate) fn store<'a, D: Disk + Drop, O: Origin, R: Wait>(
     match session.mode() {
         None => Ok(Reply::NotInTx),
         Some(mode) => {
-            if region.size == 0 {
+            if region.files.size == 0 {
                 return Ok(Reply::NoStore);
             }
             match mode {

@@ -1,5 +1,5 @@
 -- Lines that call the hash store: one that may be, and ones that are refused.
-use Rattle.par_script.proofs.Words.{◌≡◌, ℕ, true, List, [], ◌∷◌, ◌++◌, Option, Some, None, ap, length, length-append, map, replicate, refl, sym, ◌∙◌, arith, AllByRecursion, length-map, Ok, Err, Access, Geometry, Serial, Snapshot, Reply, Array, zeros, keys_mark, get_program, got, walk, walk_of, bucket_of, is_linked, block_at, hash_area, hash_get_step, step, store_step, Done, look_access, then_do, Cause, CallsStore, Does, Fetched, Own, StopsBy, answer, blocks_read, fetches, own_after, refused_fetch}
+use Rattle.par_script.proofs.Words.{◌≡◌, ℕ, true, List, [], ◌∷◌, ◌++◌, Option, Some, None, ap, length, length-append, map, replicate, refl, sym, ◌∙◌, arith, AllByRecursion, length-map, Ok, Err, Access, Geometry, Serial, Snapshot, Reply, Array, zeros, keys_mark, get_program, got, walk, walk_of, bucket_of, is_linked, block_at, create_program, file_move_step, file_new_step, file_read_step, hash_area, hash_get_step, step, store_step, Done, look_access, then_do, Cause, CallsStore, Does, Fetched, Own, StopsBy, answer, blocks_read, fetches, own_after, refused_fetch}
 use Rattle.script_model.specs.declared.script.Op.TheVariants as op
 use Rattle.script_model.specs.declared.script.Reply.TheVariants as reply
 use Rattle.iso_shared.specs.declared.entry.Call.TheVariants as call
@@ -86,6 +86,32 @@ not_serial = (refl, refl, refl)
 no_store : Does (record stores { hash = 0 }) true (Some before) (op.HashGet key) [] (Ok reply.NoStore) (Some before)
 unfolding step hash_get_step
 no_store = (refl, refl, refl)
+
+-- the same of files, which stand behind the stores of an image that has a tree store for their names
+abbrev files : Geometry
+files = record stores { blocks = 16; hash = 0; tree = 4 }
+
+-- a name needs a byte: that is known before anything is read
+no_name : Does files true (Some before) (op.FileNew []) [] (Ok reply.BadName) (Some before)
+unfolding step file_new_step store_step create_program
+no_name = record {
+  fetched = [];
+  refused = None;
+  done = [];
+  are = refl;
+  stops = tt;
+  reads = refl;
+  left = refl;
+  told = λ tells. record { array = []; has = tt; reply = refl; leaves = refl };
+}
+
+no_files : Does (record files { tree = 0 }) true (Some before) (op.FileRead key 0 1) [] (Ok reply.NoStore) (Some before)
+unfolding step file_read_step
+no_files = (refl, refl, refl)
+
+not_serial_files : Does files true (Some (record before { mode = Snapshot })) (op.FileMove key key) [] (Ok reply.StoreMode) (Some (record before { mode = Snapshot }))
+unfolding step file_move_step
+not_serial_files = (refl, refl, refl)
 
 -- What is refused: a value where there is none, a fetch too many, and one that is missing.
 answered_by : (refused : Option (ℕ × Cause)) (said : Reply) → StopsBy refused (Ok said) → refused ≡ None

@@ -29,13 +29,14 @@ pub use Rattle.iso_shared.specs.declared.entry.Member.{Member}
 pub use Rattle.iso_shared.specs.declared.entry.MemberEnd.{MemberEnd}
 pub use Rattle.par_text.specs.Output.{commit_by}
 pub use Rattle.par_text.specs.declared.commit_line.CommitLine.{CommitLine}
-unfoldable pub use Rattle.script_model.specs.Step.{get_step, hash_get_step, put_step, read_step, step, store_step}
+unfoldable pub use Rattle.script_model.specs.Step.{file_move_step, file_new_step, file_read_step, get_step, hash_get_step, put_step, read_step, step, store_step}
 pub use Rattle.script_model.specs.declared.script.Line.{Line}
 pub use Rattle.script_model.specs.declared.script.Op.{Op}
 pub use Rattle.script_model.specs.declared.script.Reply.{Reply}
 pub use Rattle.store_model.specs.Areas.{hash_area}
 pub use Rattle.store_model.specs.Cells.{keys_mark}
 pub use Rattle.store_model.specs.HashCalls.{got, walk_of}
+unfoldable pub use Rattle.store_model.specs.FileCalls.{create_program}
 unfoldable pub use Rattle.store_model.specs.HashCalls.{get_program, walk}
 unfoldable pub use Rattle.store_model.specs.HashRegion.{bucket_of, is_linked}
 pub use Rattle.store_model.specs.Stores.{Done, look_access, then_do}

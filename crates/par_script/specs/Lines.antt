@@ -16,6 +16,7 @@ use Rattle.iso_model.specs.Effect.{is_write}
 use Rattle.iso_model.specs.Geometry.{is_serial}
 use Rattle.iso_model.specs.Group.{label_replies}
 use Rattle.iso_model.specs.Premises.{block_at}
+use Rattle.script_model.specs.FilesArea.{file_blocks}
 use Rattle.script_model.specs.Step.{step}
 use Rattle.iso_model.specs.World.{World, Live, client, fresh}
 use Rattle.iso_shared.specs.declared.entry.Call.TheVariants as call
@@ -282,6 +283,11 @@ Does g tells (Some t) (op.TreePut key value) es r own' = InStore g.tree t (Calls
 Does g tells (Some t) (op.TreeGet key) es r own' = InStore g.tree t (CallsStore g tells t (op.TreeGet key) es r own') (Says g (Some t) (op.TreeGet key) es r own')
 Does g tells (Some t) (op.TreeDelete key) es r own' = InStore g.tree t (CallsStore g tells t (op.TreeDelete key) es r own') (Says g (Some t) (op.TreeDelete key) es r own')
 Does g tells (Some t) (op.TreeScan from to most) es r own' = InStore g.tree t (CallsStore g tells t (op.TreeScan from to most) es r own') (Says g (Some t) (op.TreeScan from to most) es r own')
+Does g tells (Some t) (op.FileNew name) es r own' = InStore (file_blocks g) t (CallsStore g tells t (op.FileNew name) es r own') (Says g (Some t) (op.FileNew name) es r own')
+Does g tells (Some t) (op.FileWrite name off bytes) es r own' = InStore (file_blocks g) t (CallsStore g tells t (op.FileWrite name off bytes) es r own') (Says g (Some t) (op.FileWrite name off bytes) es r own')
+Does g tells (Some t) (op.FileRead name off len) es r own' = InStore (file_blocks g) t (CallsStore g tells t (op.FileRead name off len) es r own') (Says g (Some t) (op.FileRead name off len) es r own')
+Does g tells (Some t) (op.FileMove from to) es r own' = InStore (file_blocks g) t (CallsStore g tells t (op.FileMove from to) es r own') (Says g (Some t) (op.FileMove from to) es r own')
+Does g tells (Some t) (op.FileDelete name) es r own' = InStore (file_blocks g) t (CallsStore g tells t (op.FileDelete name) es r own') (Says g (Some t) (op.FileDelete name) es r own')
 Does g tells own (op.Group labels) es r own' = Groups labels [] es r × (own' ≡ own)
 Does g tells own op.Trim es r own' = Trims own es r own'
 Does g tells own op.Stat es r own' = Stats own es r own'

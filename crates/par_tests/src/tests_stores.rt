@@ -47,3 +47,55 @@ fn a_scan_of_one_client_meets_a_key_of_another(rt: HostRuntime) -> Result<(), Fa
     assert_eq!(rt; outcome.output.as_slice(), replies);
     Ok(())
 }
+
+const FILES: &str = "isotope new t.img --block-size 256 --blocks 16 --log 8192 --tree 4";
+
+/// Two clients write different bytes of one file. The one may begin behind the commit of the other.
+const TWO_WRITES: &[u8] =
+    b"1 begin\n2 begin\n1 fwrite 61 0 aa\n2 fwrite 61 1 bb\n1 end\n2 end\n";
+
+const WRITTEN_FIRST_BY_1: &[u8] =
+    b"1 ok begin 1\n1 ok\n1 ok commit 2\n2 ok begin 1\n2 ok\n2 ok commit 3\ncommit 2 by 1 line 5\ncommit 3 by 2 line 6\n";
+
+const WRITTEN_FIRST_BY_2: &[u8] =
+    b"1 ok begin 1\n1 ok\n1 ok commit 3\n2 ok begin 1\n2 ok\n2 ok commit 2\ncommit 2 by 2 line 6\ncommit 3 by 1 line 5\n";
+
+const WRITTEN_BEHIND_1: &[u8] =
+    b"1 ok begin 1\n1 ok\n1 ok commit 2\n2 ok begin 2\n2 ok\n2 ok commit 3\ncommit 2 by 1 line 5\ncommit 3 by 2 line 6\n";
+
+const WRITTEN_BEHIND_2: &[u8] =
+    b"1 ok begin 2\n1 ok\n1 ok commit 3\n2 ok begin 1\n2 ok\n2 ok commit 2\ncommit 2 by 2 line 6\ncommit 3 by 1 line 5\n";
+
+#[test]
+fn two_clients_write_bytes_of_one_file(rt: HostRuntime) -> Result<(), Fail> {
+    let alloc = rt.alloc();
+    let image = made_image(alloc, FILES, b"1 begin\n1 fnew 61\n1 fwrite 61 0 0102\n1 end\n")?;
+    let outcome = par_image(&rt, alloc, image, TWO_WRITES)?;
+    assert_eq!(rt; outcome.status, 0);
+    let found = outcome.output.as_slice();
+    let beside = found == WRITTEN_FIRST_BY_1 || found == WRITTEN_FIRST_BY_2;
+    let behind = found == WRITTEN_BEHIND_1 || found == WRITTEN_BEHIND_2;
+    assert!(rt; beside || behind);
+    let left = outcome.disk.crash(alloc, 0)?;
+    let shown = run_image(alloc, left, b"1 begin\n1 fread 61 0 9\n")?;
+    assert_eq!(rt;
+        shown.output.as_slice(),
+        b"1 ok begin 3\n1 ok aabb\n".as_slice()
+    );
+    Ok(())
+}
+
+#[test]
+fn a_client_goes_on_with_the_file_of_another(rt: HostRuntime) -> Result<(), Fail> {
+    let alloc = rt.alloc();
+    let image = made_image(alloc, FILES, b"")?;
+    // client 2 takes over the transaction in which client 1 made the file
+    let script =
+        b"1 begin\n1 fnew 61\n1 fread 62 0 1\n1 release a\n2 await a\n2 fwrite 61 0 0102\n2 fmove 61 62\n2 fread 62 1 9\n2 fnew 62\n2 end\n";
+    let replies =
+        b"1 ok begin 0\n1 ok\n1 ok none\n1 ok\n2 ok begin 0\n2 ok\n2 ok\n2 ok 02\n2 exists\n2 ok commit 1\ncommit 1 by 2 line 10\n".as_slice();
+    let outcome = par_image(&rt, alloc, image, script)?;
+    assert_eq!(rt; outcome.status, 0);
+    assert_eq!(rt; outcome.output.as_slice(), replies);
+    Ok(())
+}

@@ -1,5 +1,5 @@
 -- The calls of the transactions of a legal list answer in order.
-use Rattle.store_entries.proofs.Words.{◌≡◌, ◌∙◌, sym, refl, ap, subst, ℕ, ◌+◌, ◌-◌, ◌<◌, ◌≤◌, ◌==◌, true, false, IfSome, List, [], ◌∷◌, ◌++◌, length, length-append, append_assoc, Option, Some, slice_get, arith, and_parts, AllByRecursion, AnswersByOne, AreLoose, GroupReply, IsInPlace, MemberEnd, World, after_history, commits_as, commits_made, ends_bare, extends_itself, extends_on, group_is, lost_commits, member_numbers, members_of, replies_of, txs_of, Access, Commit, EndReply, Committed, ReadOnly, Array, has_write, own, History, array_at, last, appended, Live, Extends, IsWorld, slice_get_append_left, Entry, Fits, IsLegal, LegalFrom, IsIsolatedAt, Start, State, after, after_all, is_live, live_of, opened, racked, state_at, tx_of, follows_all, last_longer, after_append, legal_append, times, AreMixed, BothByMap, BothInOrder, BothWellFormed, IsByBoth, IsOfBoth, firsts, accesses_in, IsOfItsBlocks, MapStore, if_some, last_of, both_commits, both_live, both_read_only, both_well_formed, image_hash, image_tree, hash_blocks, tree_blocks, array_extends, AreByCalls, AreCallsInOrderAt, CommitsAreByCalls, StoresAnswerAt, StoresAreWell, begin_array, commit_at, world_at}
+use Rattle.store_entries.proofs.Words.{◌≡◌, ◌∙◌, sym, refl, ap, subst, ℕ, ◌+◌, ◌-◌, ◌<◌, ◌≤◌, ◌==◌, true, false, IfSome, List, [], ◌∷◌, ◌++◌, length, length-append, append_assoc, Option, Some, slice_get, arith, and_parts, AllByRecursion, AnswersByOne, AreLoose, GroupReply, IsInPlace, MemberEnd, World, after_history, commits_as, commits_made, ends_bare, extends_itself, extends_on, group_is, lost_commits, member_numbers, members_of, replies_of, txs_of, Access, Commit, EndReply, Committed, ReadOnly, Array, has_write, own, History, array_at, last, appended, Live, Extends, IsWorld, slice_get_append_left, Entry, Fits, IsLegal, LegalFrom, IsIsolatedAt, Start, State, after, after_all, is_live, live_of, opened, racked, state_at, tx_of, follows_all, last_longer, after_append, legal_append, times, AreMixed, BothByMap, BothInOrder, BothWellFormed, IsByBoth, IsOfBoth, firsts, accesses_in, IsOfItsBlocks, MapStore, if_some, last_of, both_commits, both_live, both_read_only, both_well_formed, image_hash, image_tree, hash_blocks, tree_blocks, array_extends, AreByCalls, AreCallsInOrderAt, CommitsAreByCalls, StoresAnswerAt, FilesAnswerAt, file_blocks_are, image_files, StoresAreWell, begin_array, commit_at, world_at}
 use Rattle.iso_shared.specs.declared.entry.Entry.TheVariants as entry
 use Rattle.store_entries.proofs.Members.{bare_at, decides, made_at}
 use Rattle.store_entries.proofs.Numbers.{end_is_next, end_writes_not}
@@ -59,13 +59,10 @@ at_its_number H G c k some is more =
     ∙ slice_get_append_left (H.commits ++ c ∷ []) more.more (k - G.first) (omega arith)
     ∙ last_of H.commits c (k - G.first) (omega arith)
 
-module _ (A : Start) (es : List Entry) (sound : IsWorld A.world) (idle : A.world.live ≡ []) (legal : IsLegal A es) (isolated : IsIsolatedAt A es)
-    (well : StoresAreWell A.world.geometry A.world.history) (by_calls : CommitsAreByCalls A es) where
+module _ (t : MapStore) (two : IsOfItsBlocks t) (A : Start) (es : List Entry) (sound : IsWorld A.world) (idle : A.world.live ≡ []) (legal : IsLegal A es) (isolated : IsIsolatedAt A es)
+    (well : StoresAreWell t A.world.geometry A.world.history) (by_calls : CommitsAreByCalls t A es) where
   abbrev s : MapStore
   s = image_hash A.world.geometry
-
-  abbrev t : MapStore
-  t = image_tree A.world.geometry
 
   abbrev n : ℕ
   n = last A.world.history
@@ -75,9 +72,6 @@ module _ (A : Start) (es : List Entry) (sound : IsWorld A.world) (idle : A.world
 
   one : IsOfItsBlocks s
   one = hash_blocks A.world.geometry sound.valid
-
-  two : IsOfItsBlocks t
-  two = tree_blocks A.world.geometry sound.valid
 
   begun : IsByAt s t n (opened A)
   begun = subst (λ (live : List Live). IsBy s t n A.world.history live) (sym idle) (by_first s t A.world.history sound.history.first well)
@@ -169,7 +163,7 @@ module _ (A : Start) (es : List Entry) (sound : IsWorld A.world) (idle : A.world
       sym (ap (λ (x : List GroupReply × World). x.0) (group_is V (txs_of V (members_of ends)))) ∙ (fits_here before later (entry.EndGroup ends) are).answers.2
 
   member_in_order : (before later : List Entry) (first others : List MemberEnd) (m k : ℕ) (accesses : List Access) → es ≡ before ++ entry.EndGroup (first ++ commits_as m k accesses ∷ others) ∷ later
-      → (of : IsOfBoth s t (world_at A before).history (commit_at (world_at A before) m accesses)) → IsInPlace A es k of.parts
+      → (of : IsOfBoth s t (world_at A before).history (commit_at (world_at A before) m accesses)) → IsInPlace t A es k of.parts
   member_in_order before later first others m k accesses are of =
       let ends : List MemberEnd = first ++ commits_as m k accesses ∷ others in
       let e = entry.EndGroup ends in
@@ -182,7 +176,7 @@ module _ (A : Start) (es : List Entry) (sound : IsWorld A.world) (idle : A.world
 
   -- the calls of a transaction that is live at a place and has no write
   bare_by_map : (before later : List Entry) (m : ℕ) (accesses : List Access) → es ≡ before ++ later → is_live m (world_at A before).live ≡ true → has_write accesses ≡ false
-      → (by : AreByCalls A.world.geometry (begin_array (world_at A before) m) accesses) → BothByMap s t by.parts (begin_array (world_at A before) m)
+      → (by : AreByCalls t A.world.geometry (begin_array (world_at A before) m) accesses) → BothByMap s t by.parts (begin_array (world_at A before) m)
   bare_by_map before later m accesses are live bare by =
       let V = world_at A before in
       let begin : ℕ = (live_of m V.live).begin in
@@ -195,7 +189,7 @@ module _ (A : Start) (es : List Entry) (sound : IsWorld A.world) (idle : A.world
       (both_read_only s t one two (world_at A es).geometry H n begin by.parts history_by since.0 (omega arith) (subst (λ (B : Array). AreMixed s t B by.parts) (sym same) by.made) none)
 
   read_by_map : (before later : List Entry) (m : ℕ) (accesses : List Access) → es ≡ before ++ entry.End m accesses ReadOnly ∷ later
-      → (by : AreByCalls A.world.geometry (begin_array (world_at A before) m) accesses) → BothByMap s t by.parts (begin_array (world_at A before) m)
+      → (by : AreByCalls t A.world.geometry (begin_array (world_at A before) m) accesses) → BothByMap s t by.parts (begin_array (world_at A before) m)
   read_by_map before later m accesses are by =
       let e = entry.End m accesses ReadOnly in
       let V = world_at A before in
@@ -203,7 +197,7 @@ module _ (A : Start) (es : List Entry) (sound : IsWorld A.world) (idle : A.world
       bare_by_map before (e ∷ later) m accesses are (ends_live (state_at A before) e fits m accesses ReadOnly refl) (end_writes_not V (tx_of V m accesses) fits.answers.2) by
 
   member_by_map : (before later : List Entry) (first others : List MemberEnd) (m : ℕ) (accesses : List Access) → es ≡ before ++ entry.EndGroup (first ++ ends_bare m accesses ∷ others) ∷ later
-      → (by : AreByCalls A.world.geometry (begin_array (world_at A before) m) accesses) → AnswersByOne A by.parts (begin_array (world_at A before) m)
+      → (by : AreByCalls t A.world.geometry (begin_array (world_at A before) m) accesses) → AnswersByOne t A by.parts (begin_array (world_at A before) m)
   member_by_map before later first others m accesses are by =
       let ends : List MemberEnd = first ++ ends_bare m accesses ∷ others in
       let e = entry.EndGroup ends in
@@ -212,7 +206,7 @@ module _ (A : Start) (es : List Entry) (sound : IsWorld A.world) (idle : A.world
       (bare_at V V first others m accesses (group_decides before later ends are)) by
 
   live_in_order : (before later : List Entry) (m : ℕ) (accesses : List Access) → es ≡ before ++ later → is_live m (world_at A before).live ≡ true
-      → (by : AreByCalls A.world.geometry (begin_array (world_at A before) m) accesses) → BothInOrder s t by.parts (begin_array (world_at A before) m) (own (begin_array (world_at A before) m) accesses)
+      → (by : AreByCalls t A.world.geometry (begin_array (world_at A before) m) accesses) → BothInOrder s t by.parts (begin_array (world_at A before) m) (own (begin_array (world_at A before) m) accesses)
   live_in_order before later m accesses are live by =
       let V = world_at A before in
       let B = begin_array V m in
@@ -224,7 +218,7 @@ module _ (A : Start) (es : List Entry) (sound : IsWorld A.world) (idle : A.world
       subst (BothWellFormed s t) (same_array before later are begin high) (both_well_formed s t one two (world_at A es).geometry H n begin history_by since.0 (omega arith)) in
       subst (λ (xs : List Access). BothInOrder s t by.parts B (own B xs)) by.are (both_live s t one two B by.parts by.made here)
 
-  pub listed : AreCallsInOrderAt A es
+  pub listed : AreCallsInOrderAt t A es
   listed = record {
     by_calls = history_by;
     commits = commit_in_order;
@@ -236,4 +230,9 @@ module _ (A : Start) (es : List Entry) (sound : IsWorld A.world) (idle : A.world
   }
 
 pub stores_answer_at : (A : Start) (es : List Entry) → IsWorld A.world → A.world.live ≡ [] → IsLegal A es → IsIsolatedAt A es → StoresAnswerAt A es
-stores_answer_at A es sound idle legal isolated well by_calls = listed A es sound idle legal isolated well by_calls
+stores_answer_at A es sound idle legal isolated well by_calls =
+    listed (image_tree A.world.geometry) (tree_blocks A.world.geometry sound.valid) A es sound idle legal isolated well by_calls
+
+pub files_answer_at : (A : Start) (es : List Entry) → IsWorld A.world → A.world.live ≡ [] → IsLegal A es → IsIsolatedAt A es → FilesAnswerAt A es
+files_answer_at A es sound idle legal isolated well by_calls =
+    listed (image_files A.world.geometry) (file_blocks_are A.world.geometry sound.valid) A es sound idle legal isolated well by_calls

@@ -15,7 +15,7 @@ missed key done = First (Get key) done (Got None) ∷ []
 none_is_not : (o : Option (List ℕ)) (value : List ℕ) → o ≡ None → o ≡ Some value → ⊥
 none_is_not o value none some = cc (sym none ∙ some)
 
-module _ (A : Start) (es before later : List Entry) (n : ℕ) (accesses : List Access) (key value : List ℕ) (done : List Access) (is : AreCallsInOrderAt A es) where
+module _ (A : Start) (es before later : List Entry) (n : ℕ) (accesses : List Access) (key value : List ℕ) (done : List Access) (is : AreCallsInOrderAt (image_tree A.world.geometry) A es) where
   abbrev s : MapStore
   s = image_hash A.world.geometry
 
@@ -26,7 +26,7 @@ module _ (A : Start) (es before later : List Entry) (n : ℕ) (accesses : List A
   W = world_at A before
 
   -- A look-up in the place of a commit misses no key that the map directly before the commit has: it did not read an older map.
-  misses_none : (parts : List StorePart) (k : ℕ) → IsInPlace A es k parts → parts ≡ missed key done
+  misses_none : (parts : List StorePart) (k : ℕ) → IsInPlace t A es k parts → parts ≡ missed key done
       → let H : History = (world_at A es).history in (get_op key (s.map_of (array_at H (k - 1)))).0 ≡ Some value → ⊥
   unfolding first_got
   misses_none parts k in_place parts_are has =
@@ -47,7 +47,7 @@ module _ (A : Start) (es before later : List Entry) (n : ℕ) (accesses : List A
   not_an_older_map_in_a_group first others k are of parts_are has = misses_none of.parts k (is.group_commits before later first others n k accesses are of) parts_are has
 
   -- nor does a look-up that answers by the map at a begin miss a key that this map has
-  misses_none_by : (parts : List StorePart) → AnswersByOne A parts (begin_array W n) → parts ≡ missed key done → (get_op key (s.map_of (begin_array W n))).0 ≡ Some value → ⊥
+  misses_none_by : (parts : List StorePart) → AnswersByOne t A parts (begin_array W n) → parts ≡ missed key done → (get_op key (s.map_of (begin_array W n))).0 ≡ Some value → ⊥
   unfolding first_got
   misses_none_by parts by_one parts_are has =
       let m = s.map_of (begin_array W n) in
@@ -56,10 +56,10 @@ module _ (A : Start) (es before later : List Entry) (n : ℕ) (accesses : List A
       none_is_not (get_op key m).0 value (ap first_got (sym said)) has
 
   -- so that of a transaction that ended without a write, alone or in a group
-  not_a_later_map : es ≡ before ++ entry.End n accesses ReadOnly ∷ later → (by : AreByCalls A.world.geometry (begin_array W n) accesses) → by.parts ≡ missed key done
+  not_a_later_map : es ≡ before ++ entry.End n accesses ReadOnly ∷ later → (by : AreByCalls t A.world.geometry (begin_array W n) accesses) → by.parts ≡ missed key done
       → (get_op key (s.map_of (begin_array W n))).0 ≡ Some value → ⊥
   not_a_later_map are by parts_are has = misses_none_by by.parts (is.read_only before later n accesses are by) parts_are has
 
   not_a_later_map_in_a_group : (first others : List MemberEnd) → es ≡ before ++ entry.EndGroup (first ++ ends_bare n accesses ∷ others) ∷ later
-      → (by : AreByCalls A.world.geometry (begin_array W n) accesses) → by.parts ≡ missed key done → (get_op key (s.map_of (begin_array W n))).0 ≡ Some value → ⊥
+      → (by : AreByCalls t A.world.geometry (begin_array W n) accesses) → by.parts ≡ missed key done → (get_op key (s.map_of (begin_array W n))).0 ≡ Some value → ⊥
   not_a_later_map_in_a_group first others are by parts_are has = misses_none_by by.parts (is.group_read_only before later first others n accesses are by) parts_are has

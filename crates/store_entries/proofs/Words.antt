@@ -45,8 +45,8 @@ pub use Rattle.store_laws.specs.Calls.{Get, Got, StoreAnswer}
 pub use Rattle.store_laws.specs.Parts.{accesses_in, answers_in, calls_in, run}
 pub use Rattle.store_laws.specs.Region.{IsOfItsBlocks, MapStore}
 pub use Rattle.store_model.specs.HashRegion.{get_op}
-pub use Rattle.store_scripts.proofs.Blocks.{hash_blocks, tree_blocks}
+pub use Rattle.store_scripts.proofs.Blocks.{file_blocks_are, hash_blocks, tree_blocks}
 pub use Rattle.store_scripts.proofs.Members.{array_extends}
-pub use Rattle.store_scripts.specs.Stores.{image_hash, image_tree}
+pub use Rattle.store_scripts.specs.Stores.{image_files, image_hash, image_tree}
 pub use Rattle.turn_lock.specs.Lists.{times}
-pub use Rattle.store_entries.specs.InOrder.{AnswersByOne, AreByCalls, AreCallsInOrderAt, CommitsAreByCalls, IsInPlace, StoresAnswerAt, StoresAreWell, begin_array, commit_at, commits_as, ends_bare, world_at}
+pub use Rattle.store_entries.specs.InOrder.{AnswersByOne, AreByCalls, AreCallsInOrderAt, CommitsAreByCalls, FilesAnswerAt, IsInPlace, StoresAnswerAt, StoresAreWell, begin_array, commit_at, commits_as, ends_bare, world_at}

@@ -1,15 +1,24 @@
--- A call of the hash store or of the file store, as a part of a transaction that calls both in disjoint areas.
-use Rattle.store_laws.proofs.Words.{◌≡◌, ℕ, ◌||◌, Bool, true, false, List, [], ◌∷◌, ◌++◌, Result, Ok, inl, inr, both_ways, Area, StoreError, Array, Program, HasEnded, IsLocalCall, Tx, added, First, Second, AreDisjoint, KeyCall, StoreAnswer, in_area, hash_store, WriteWithin}
+-- A call of the hash store or of the file store, as a part of a transaction that calls both in disjoint areas; calls that read alone.
+use Rattle.store_laws.proofs.Words.{◌≡◌, ◌∙◌, sym, ap, subst, ℕ, ◌||◌, Bool, true, false, List, [], ◌∷◌, ◌++◌, Result, Ok, inl, inr, both_ways, Area, StoreError, Array, Program, HasEnded, IsLocalCall, Tx, added, First, Second, AreDisjoint, KeyCall, StoreAnswer, in_area, hash_store, WriteWithin, AreReads, MapStore, MixedParts, Neither, accesses_of, added_is, own, whole_run, with_accesses}
 use Rattle.std.proofs.lemmas.Bool.{cases_Bool}
 use Rattle.store_model.specs.declared.files.FileAreas.{FileAreas}
 use Rattle.store_model.specs.FileCalls.{Call}
 use Rattle.iso_fs.specs.Ends.{HasRun}
+use Rattle.tx_blocks.specs.Runs.{Ran}
 use Rattle.store_laws.specs.Both.{Mixed}
 use Rattle.store_laws.specs.Files.{FileAnswer, FileCall, file_store, in_areas}
 use Rattle.store_laws.specs.Growing.{IsMadeOfBoth}
 use Rattle.store_laws.proofs.BothCalls.{disjoint_blocks}
-use Rattle.store_laws.proofs.BothGrowth.{first_called, second_called}
+use Rattle.store_laws.proofs.BothGrowth.{both_other, first_called, second_called}
+use Rattle.store_laws.proofs.Growth.{reads_spare}
 use Rattle.store_laws.proofs.Programs.{spare_where_apart}
+
+-- a call that read alone, as other accesses of a transaction that calls two stores
+pub reads_beside : {E X : Type 0} (s t : MapStore) (p : Program (Result X E)) (A : Array) (x y : Tx) (parts : MixedParts s t) (r : X) → ((B : Array) → AreReads (accesses_of p B))
+    → IsMadeOfBoth s t A x parts → Ran p x y (Ok r) → IsMadeOfBoth s t A y (parts ++ Neither (added x y) ∷ [])
+reads_beside s t p A x y parts r reads is run =
+    let all = subst AreReads (whole_run p x y (Ok r) run A is.base).accesses_are (reads (own A x.accesses)) in
+    both_other s t A x y parts (added x y) is (run.is ∙ ap (with_accesses x) (sym (added_is x y run.done run.is))) (reads_spare s (added x y) all) (reads_spare t (added x y) all)
 
 abbrev Parts : Type 0
 Parts = List (Mixed KeyCall StoreAnswer FileCall FileAnswer)

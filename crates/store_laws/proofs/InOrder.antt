@@ -13,7 +13,7 @@ region_stays s [] A spare b has = refl
 region_stays s (a ∷ accesses) A spare b has = region_stays s accesses (next A a) spare.1 b has ∙ spare_access s a (is_write a) A b spare.0 has
 
 -- no reads show the same on one array
-reads_same : (accesses : List Access) (A : Array) → SameReads accesses A A
+pub reads_same : (accesses : List Access) (A : Array) → SameReads accesses A A
 reads_same [] A = tt
 reads_same (a ∷ accesses) A = (λ p covered. refl, reads_same accesses (next A a))
 

@@ -18,6 +18,7 @@ pub mod TreeWrites
 pub mod BothCalls
 pub mod FileWrites
 pub mod FileParts
+pub mod Looking
 mod Rows
 mod ScanRows
 pub mod PutAndGet

@@ -2,6 +2,7 @@
 ghost use Rattle.std.specs.Prelude.{◌≡◌, ℕ, Bool, ◌<◌, ◌≤◌, ◌+◌, ◌-◌, IfSome, IsFalse, List, [], ◌∷◌, ◌++◌, Ok, Option, Some, map, replicate, slice_get};
 ghost use Rattle.std.specs.FinMap.{empty};
 ghost use Rattle.iso_model.specs.declared.access.Geometry.{Geometry};
+ghost use Rattle.iso_model.specs.declared.access.Mode.TheVariants.{Serial};
 ghost use Rattle.iso_model.specs.Array.{zeros, Array};
 ghost use Rattle.iso_model.specs.Effect.{has_write, own};
 ghost use Rattle.iso_model.specs.History.{array_at, last, History};
@@ -9,18 +10,22 @@ ghost use Rattle.iso_model.specs.Premises.{block_at};
 ghost use Rattle.store_model.specs.declared.stores.Area.{Area};
 ghost use Rattle.store_model.specs.declared.files.FileAreas.{FileAreas};
 ghost use Rattle.store_model.specs.HashCalls as hash;
+ghost use Rattle.store_model.specs.TreeCalls as tree;
 ghost use Rattle.store_model.specs.HashRegion.{del_op, get_op, hash_map, put_op, IsHashArea, IsHashRegion};
 ghost use Rattle.store_model.specs.FileCalls.{create_op, create_program, read_op, read_program, remove_op, remove_program, rename_op, rename_program, write_op, write_program};
 ghost use Rattle.store_model.specs.FileRegion.{files, AreFileAreas, AreFileRegions};
 ghost use Rattle.tx_blocks.specs.Runs.{HasEnded, IsLocalCall};
 ghost use Rattle.tx_blocks.specs.Tx.{added, Tx};
 ghost use Rattle.iso_fs.specs.Ends.{HasRun};
-ghost use Rattle.store_laws.specs.Both.{firsts, AreMixed, BothByMap, BothInOrder, BothWellFormed, First, IsByBoth, IsOfBoth, Mixed, Second};
+ghost use Rattle.store_laws.specs.Both.{firsts, AreMixed, BothByMap, BothInOrder, BothWellFormed, First, IsByBoth, IsOfBoth, Mixed, Neither, Second};
+ghost use Rattle.store_laws.specs.BothStores.{IsMadeOfStores, StorePart};
 ghost use Rattle.store_laws.specs.Calls.{AreDisjoint, Del, Get, Got, KeyCall, Put, StoreAnswer, WasPut, WasThere};
 ghost use Rattle.store_laws.specs.Files.{file_act, file_store, FileAnswer, FileCall, FileMade, FileRead, FileThere, MakeFile, ReadFile, RemoveFile, RenameFile, WriteFile};
 ghost use Rattle.store_laws.specs.Growing.{IsMadeOf, IsMadeOfBoth};
 ghost use Rattle.store_laws.specs.Hash.{hash_store};
+ghost use Rattle.store_laws.specs.Looks.{AreLooking, LooksAnswer};
 ghost use Rattle.store_laws.specs.Parts.{accesses_in, answers_in, calls_in, AnswerInOrder, AreMade, Called, IsByCalls, IsOfCalls, Part};
+ghost use Rattle.store_laws.specs.Tree.{tree_store, TreeCall};
 ghost use Rattle.store_laws.specs.Writes.{WriteWithin};
 
 /// Where commits write the regions of a file store by `create`, `write`, `read`, `rename` and `remove` that answered Ok alone, and they
@@ -74,6 +79,33 @@ pub fn calls_of_hash_and_files_answer_in_order()
     ensures read_only { (a : Area) (b : FileAreas) (g : Geometry) (H : History) (n begin : ℕ) (parts : List (Mixed KeyCall StoreAnswer FileCall FileAnswer)) → IsHashArea a → AreFileAreas b → IsByBoth (hash_store a) (file_store b) g H n
         → n ≤ begin → begin ≤ last H → AreMixed (hash_store a) (file_store b) (array_at H begin) parts → IsFalse (has_write (accesses_in (firsts parts)))
         → BothByMap (hash_store a) (file_store b) parts (array_at H begin) }
+{}
+
+/// A look-up and a scan of the tree store that has the names of the files read alone, where they answered Ok. So they stand in a
+/// transaction that calls the hash store and the file store, as other accesses (`got`, `found`); and a read of a file stands so in one
+/// that calls the hash store and the tree store (`was_read`). A call of the one that writes stands beside no call of the other.
+pub fn tree_look_ups_stand_beside_files()
+    ensures got { (a : Area) (b : FileAreas) (key : List ℕ) (A : Array) (t u : Tx) (parts : List (Mixed KeyCall StoreAnswer FileCall FileAnswer)) (r : Option (List ℕ)) → IsMadeOfBoth (hash_store a) (file_store b) A t parts
+        → HasEnded (tree.get_program b.tree key) t u (Ok r) → IsMadeOfBoth (hash_store a) (file_store b) A u (parts ++ Neither (added t u) ∷ []) }
+    ensures found { (a : Area) (b : FileAreas) (from to : List ℕ) (most : ℕ) (A : Array) (t u : Tx) (parts : List (Mixed KeyCall StoreAnswer FileCall FileAnswer)) (r : List (List ℕ × List ℕ)) → IsMadeOfBoth (hash_store a) (file_store b) A t parts
+        → HasEnded (tree.scan_program b.tree from to most) t u (Ok r) → IsMadeOfBoth (hash_store a) (file_store b) A u (parts ++ Neither (added t u) ∷ []) }
+    ensures was_read { (a : Area) (b : FileAreas) (name : List ℕ) (off len : ℕ) (A : Array) (t u : Tx) (parts : List StorePart) (r : Option (List ℕ)) → IsMadeOfStores a b.tree A t parts
+        → HasRun (read_program b name off len) t u (Ok r) → IsMadeOfStores a b.tree A u (parts ++ Neither (added t u) ∷ []) }
+{}
+
+/// A transaction that calls on files may look into the tree store that has their names. Its calls on files answer as one thread's, as
+/// they do without the looks (`calls`). Each look answers by the tree's map of the array directly before the commit, with what the
+/// transaction wrote before it (`looks`); in a live transaction, of the array at its begin so (`live`). Calls of a hash store are
+/// among the other accesses here.
+pub fn looks_into_the_tree_beside_files_answer()
+    ensures calls { (b : FileAreas) (g : Geometry) (H : History) (n : ℕ) → AreFileAreas b → IsByCalls (file_store b) g H n → (k : ℕ) → n < k → k ≤ last H
+        → IfSome (slice_get H.commits (k - H.first)) (λ c. (parts : List (Mixed FileCall FileAnswer TreeCall StoreAnswer)) → accesses_in (firsts parts) ≡ c.accesses → c.mode ≡ Serial
+        → AreLooking (file_store b) (tree_store b.tree) (array_at H c.begin) parts → AnswerInOrder (file_store b) (firsts parts) (array_at H (k - 1)) (array_at H k)) }
+    ensures looks { (b : FileAreas) (g : Geometry) (H : History) (n : ℕ) → AreFileAreas b → IsByCalls (file_store b) g H n → (k : ℕ) → n < k → k ≤ last H
+        → IfSome (slice_get H.commits (k - H.first)) (λ c. (parts : List (Mixed FileCall FileAnswer TreeCall StoreAnswer)) → accesses_in (firsts parts) ≡ c.accesses → c.mode ≡ Serial
+        → AreLooking (file_store b) (tree_store b.tree) (array_at H c.begin) parts → LooksAnswer (file_store b) (tree_store b.tree) (array_at H (k - 1)) parts) }
+    ensures live { (b : FileAreas) (A : Array) (parts : List (Mixed FileCall FileAnswer TreeCall StoreAnswer)) → AreFileAreas b → AreFileRegions b A
+        → AreLooking (file_store b) (tree_store b.tree) A parts → LooksAnswer (file_store b) (tree_store b.tree) A parts }
 {}
 
 /// A call of the file store that answered Ok wrote blocks of its areas alone, whatever the array.

@@ -1,144 +1,152 @@
 -- Where a call of a store, a mark and an end lead, with what is told of the transactions.
-use Rattle.store_scripts.proofs.Words.{◌≡◌, ◌≢◌, ◌∙◌, sym, refl, subst, ℕ, ◌+◌, ◌-◌, ◌≤◌, ◌==◌, ◌&&◌, not, Bool, true, false, cond, IsTrue, List, [], ◌∷◌, ◌++◌, length, drop, Option, Some, None, Result, Ok, arith, nat_lt, list_all, and_parts, eqb-false, ltb-false, ltb-true, length-append, Access, Clash, MarkError, Mode, Serial, Snapshot, Span, LAST, MAX_ACCESSES, Op, End, Mark, Reply, StoreError, Array, clash, has_write, is_serial, array_at, last, mark_fault, marked, appended, after_commit, after_leaving, need, commit_from, commit_step, end_step, as_step, array_of, in_store, mark_refused, mark_step, marked_step, store_refusal, store_step, Program, outcome, Live, World, attached, used, IsLive, all_filter, both_of, commits, live_at, BothWellFormed, KeyCall, StoreAnswer, TreeCall, both_well_formed, array_longer, stays_by_both, image_hash, image_tree, Notes, OfHash, OfTree, answered, spares_stores, told_more}
+use Rattle.store_scripts.proofs.Words.{◌≡◌, ◌≢◌, ◌∙◌, sym, refl, subst, ℕ, ◌+◌, ◌-◌, ◌≤◌, ◌==◌, ◌&&◌, not, Bool, true, false, cond, IsTrue, List, [], ◌∷◌, ◌++◌, length, drop, Option, Some, None, Result, Ok, arith, nat_lt, list_all, and_parts, eqb-false, ltb-false, ltb-true, length-append, Access, Clash, MarkError, Mode, Serial, Snapshot, Span, LAST, MAX_ACCESSES, Op, End, Mark, Reply, Array, clash, has_write, is_serial, array_at, last, mark_fault, marked, appended, after_commit, after_leaving, need, commit_from, commit_step, end_step, as_step, array_of, in_store, mark_refused, mark_step, marked_step, store_step, Program, outcome, Live, World, attached, used, IsLive, all_filter, both_of, commits, live_at, BothWellFormed, KeyCall, StoreAnswer, both_well_formed, array_longer, stays_by_both, image_hash, Notes, OfHash, spares_stores, told_more, SecondStore, second_store, OfSecond, Answered, store_reply}
 use Rattle.iso_model.specs.declared.core_reply.CoreReply.TheVariants as core
 use Rattle.script_model.specs.declared.script.Reply.TheVariants as reply
-use Rattle.store_scripts.proofs.Growing.{hash_told, mark_told, of_both, tree_told}
-use Rattle.store_scripts.proofs.Locality.{IsHashCall, IsTreeCall}
-use Rattle.store_scripts.proofs.Noted.{Goes, Holds, IsKept, IsNoted, changes, choose, notes_by, quiet, stays}
-use Rattle.store_scripts.proofs.Blocks.{hash_blocks, tree_blocks}
-use Rattle.store_scripts.proofs.Reading.{front_reads, hash_by_map, marked_writes, tree_by_map}
+use Rattle.store_scripts.proofs.Growing.{hash_told, mark_told, of_both, second_told}
+use Rattle.store_scripts.proofs.Seconds.{AreRefusals, IsHashCall, IsSecond, IsSecondCall}
+use Rattle.store_scripts.proofs.Noted.{Goes, Holds, IsKept, IsNoted, adds, changes, choose, notes_by, quiet, stays}
+use Rattle.store_scripts.proofs.Blocks.{hash_blocks}
+use Rattle.store_scripts.proofs.Reading.{front_reads, hash_by_map, marked_writes, second_by_map}
 use Rattle.store_scripts.proofs.Steps.{called, kept_of, leaves}
 
 serial_is : (m : Mode) → is_serial m ≡ true → m ≡ Serial
 serial_is Serial is = refl
 serial_is Snapshot is = cc
 
--- the refusals of a call of a store are told as such
-pub record AreRefusals (op : Op) : Type 0 where
-  pub store : answered op reply.NoStore ≡ None
-  pub mode : answered op reply.StoreMode ≡ None
-  pub full : answered op reply.TooManyAccesses ≡ None
-  pub error : (e : StoreError) → answered op (store_refusal e) ≡ None
+module _ (S : SecondStore) (lawful : IsSecond S) where
+  module _ (Q : Type 0) (n : ℕ) (W : World) (notes : Notes S) (is : IsNoted S Q n W notes) (c : ℕ) (op : Op) (t : Live) (found : attached W c ≡ Some t) where
+    abbrev ended : {E R : Type 0} → Program (Result R E) → List Access × Option (Result R E)
+    ended program = outcome (MAX_ACCESSES - length t.accesses) program (array_of W t)
 
-module _ (Q : Type 0) (n : ℕ) (W : World) (notes : Notes) (is : IsNoted Q n W notes) (c : ℕ) (op : Op) (t : Live) (found : attached W c ≡ Some t) (refusals : AreRefusals op) where
-  abbrev ended : {R : Type 0} → Program (Result R StoreError) → List Access × Option (Result R StoreError)
-  ended program = outcome (MAX_ACCESSES - length t.accesses) program (array_of W t)
+    -- the stores at the transaction's begin
+    begins_well : n ≤ t.begin → Q → BothWellFormed (image_hash W.geometry) (second_store S W.geometry) (array_at W.history t.begin)
+    begins_well since q =
+        both_well_formed (image_hash W.geometry) (second_store S W.geometry) (hash_blocks W.geometry is.world.valid) (lawful.blocks W.geometry is.world.valid) W.geometry W.history n t.begin (is.by q) since
+        (live_at W c t is.world found).begin
 
-  -- the stores at the transaction's begin
-  begins_well : n ≤ t.begin → Q → BothWellFormed (image_hash W.geometry) (image_tree W.geometry) (array_at W.history t.begin)
-  begins_well since q =
-      both_well_formed (image_hash W.geometry) (image_tree W.geometry) (hash_blocks W.geometry is.world.valid) (tree_blocks W.geometry is.world.valid) W.geometry W.history n t.begin (is.by q) since
-      (live_at W c t is.world found).begin
+    pub in_store_goes : {E : Type 0} (refusal : E → Reply) (refusals : AreRefusals S E op refusal) (blocks : ℕ) (x : Reply × World) → (blocks ≢ 0 → t.mode ≡ Serial → Goes S Q n W notes c op (Some t) x) → Goes S Q n W notes c op (Some t) (in_store W t blocks x)
+    in_store_goes refusal refusals blocks x goes =
+        choose S Q n W notes c op (Some t) (blocks == 0) _ _ (stays S Q n W notes is c op (Some t) reply.NoStore refusals.store) (λ some. go (is_serial t.mode) refl (eqb-false blocks 0 some))
+      where
+        go : (b : Bool) → is_serial t.mode ≡ b → blocks ≢ 0 → Goes S Q n W notes c op (Some t) (cond b x (reply.StoreMode, W))
+        go true serial some = goes some (serial_is t.mode serial)
+        go false snapshot some = stays S Q n W notes is c op (Some t) reply.StoreMode refusals.mode
 
-  pub in_store_goes : (blocks : ℕ) (x : Reply × World) → (blocks ≢ 0 → t.mode ≡ Serial → Goes Q n W notes c op (Some t) x) → Goes Q n W notes c op (Some t) (in_store W t blocks x)
-  in_store_goes blocks x goes =
-      choose Q n W notes c op (Some t) (blocks == 0) _ _ (stays Q n W notes is c op (Some t) reply.NoStore refusals.store) (λ some. go (is_serial t.mode) refl (eqb-false blocks 0 some))
-    where
-      go : (b : Bool) → is_serial t.mode ≡ b → blocks ≢ 0 → Goes Q n W notes c op (Some t) (cond b x (reply.StoreMode, W))
-      go true serial some = goes some (serial_is t.mode serial)
-      go false snapshot some = stays Q n W notes is c op (Some t) reply.StoreMode refusals.mode
+    pub hash_goes : {E R : Type 0} (refusal : E → Reply) (refusals : AreRefusals S E op refusal) (program : Program (Result R E)) (answer : R → Reply) (call : KeyCall) (name : R → StoreAnswer) → ((r : R) → S.answered op (answer r) ≡ Some (OfHash call (name r)))
+        → t.mode ≡ Serial → ((r : R) → (ended program).1 ≡ Some (Ok r) → IsHashCall S W.geometry call (array_of W t) (ended program).0 (name r)) → Goes S Q n W notes c op (Some t) (store_step W t program refusal answer)
+    unfolding store_step
+    hash_goes refusal refusals program answer call name named serial local =
+        called S Q n W notes is c op t program refusal answer (λ r. OfHash call (name r)) (ended program).1 found refusals.full refusals.error named refl
+        (λ r done ends done_is told.
+        let is_call = subst (λ (d : List Access). IsHashCall S W.geometry call (array_of W t) d (name r)) (sym done_is) (local r ends) in
+        record {
+          since = told.since;
+          made = λ more. hash_told S W.geometry (array_at W.history t.begin) t.accesses t.mode (notes t.number) (told.made more) call (name r) done serial is_call.local is_call.spare;
+          by_map = λ q reads.
+              let before = front_reads t.accesses done reads in
+              hash_by_map S W.geometry (array_at W.history t.begin) t.accesses done (notes t.number) (length (t.accesses ++ done)) before (told.by_map q before) call (name r) (begins_well told.since q).first is_call.local;
+        })
 
-  pub hash_goes : {R : Type 0} (program : Program (Result R StoreError)) (answer : R → Reply) (call : KeyCall) (name : R → StoreAnswer) → ((r : R) → answered op (answer r) ≡ Some (OfHash call (name r)))
-      → t.mode ≡ Serial → ((r : R) → (ended program).1 ≡ Some (Ok r) → IsHashCall W.geometry call (array_of W t) (ended program).0 (name r)) → Goes Q n W notes c op (Some t) (store_step W t program answer)
-  unfolding store_step
-  hash_goes program answer call name named serial local =
-      called Q n W notes is c op t program answer (λ r. OfHash call (name r)) (ended program).1 found refusals.full refusals.error named refl
-      (λ r done ends done_is told.
-      let is_call = subst (λ (d : List Access). IsHashCall W.geometry call (array_of W t) d (name r)) (sym done_is) (local r ends) in
-      record {
-        since = told.since;
-        made = λ more. hash_told W.geometry (array_at W.history t.begin) t.accesses t.mode (notes t.number) (told.made more) call (name r) done serial is_call.local is_call.spare;
-        by_map = λ q reads.
-            let before = front_reads t.accesses done reads in
-            hash_by_map W.geometry (array_at W.history t.begin) t.accesses done (notes t.number) (length (t.accesses ++ done)) before (told.by_map q before) call (name r) (begins_well told.since q).first is_call.local;
-      })
+    pub second_goes : {E R : Type 0} (refusal : E → Reply) (refusals : AreRefusals S E op refusal) (program : Program (Result R E)) (answer : R → Reply) (call : S.Call) (name : R → S.Answer) → ((r : R) → S.answered op (answer r) ≡ Some (OfSecond call (name r)))
+        → t.mode ≡ Serial → ((r : R) → (ended program).1 ≡ Some (Ok r) → IsSecondCall S W.geometry call (array_of W t) (ended program).0 (name r)) → Goes S Q n W notes c op (Some t) (store_step W t program refusal answer)
+    unfolding store_step
+    second_goes refusal refusals program answer call name named serial local =
+        called S Q n W notes is c op t program refusal answer (λ r. OfSecond call (name r)) (ended program).1 found refusals.full refusals.error named refl
+        (λ r done ends done_is told.
+        let is_call = subst (λ (d : List Access). IsSecondCall S W.geometry call (array_of W t) d (name r)) (sym done_is) (local r ends) in
+        record {
+          since = told.since;
+          made = λ more. second_told S W.geometry (array_at W.history t.begin) t.accesses t.mode (notes t.number) (told.made more) call (name r) done serial is_call.local is_call.spare;
+          by_map = λ q reads.
+              let before = front_reads t.accesses done reads in
+              second_by_map S W.geometry (array_at W.history t.begin) t.accesses done (notes t.number) (length (t.accesses ++ done)) before (told.by_map q before) call (name r) (begins_well told.since q).second is_call.local;
+        })
 
-  pub tree_goes : {R : Type 0} (program : Program (Result R StoreError)) (answer : R → Reply) (call : TreeCall) (name : R → StoreAnswer) → ((r : R) → answered op (answer r) ≡ Some (OfTree call (name r)))
-      → t.mode ≡ Serial → ((r : R) → (ended program).1 ≡ Some (Ok r) → IsTreeCall W.geometry call (array_of W t) (ended program).0 (name r)) → Goes Q n W notes c op (Some t) (store_step W t program answer)
-  unfolding store_step
-  tree_goes program answer call name named serial local =
-      called Q n W notes is c op t program answer (λ r. OfTree call (name r)) (ended program).1 found refusals.full refusals.error named refl
-      (λ r done ends done_is told.
-      let is_call = subst (λ (d : List Access). IsTreeCall W.geometry call (array_of W t) d (name r)) (sym done_is) (local r ends) in
-      record {
-        since = told.since;
-        made = λ more. tree_told W.geometry (array_at W.history t.begin) t.accesses t.mode (notes t.number) (told.made more) call (name r) done serial is_call.local is_call.spare;
-        by_map = λ q reads.
-            let before = front_reads t.accesses done reads in
-            tree_by_map W.geometry (array_at W.history t.begin) t.accesses done (notes t.number) (length (t.accesses ++ done)) before (told.by_map q before) call (name r) (begins_well told.since q).second is_call.local;
-      })
+    -- a call of a store of which nothing is told here: its accesses are others
+    pub foreign_in_store : ((r : Reply) → S.answered op r ≡ None) → (blocks : ℕ) (x : Reply × World) → Goes S Q n W notes c op (Some t) x → Goes S Q n W notes c op (Some t) (in_store W t blocks x)
+    foreign_in_store quiet blocks x goes =
+        choose S Q n W notes c op (Some t) (blocks == 0) _ _ (stays S Q n W notes is c op (Some t) reply.NoStore (quiet _)) (λ some.
+        choose S Q n W notes c op (Some t) (is_serial t.mode) _ _ goes (λ other. stays S Q n W notes is c op (Some t) reply.StoreMode (quiet _)))
 
-module _ (Q : Type 0) (n : ℕ) (W : World) (notes : Notes) (is : IsNoted Q n W notes) (c : ℕ) (t : Live) (found : attached W c ≡ Some t) where
-  -- a mark on an access since the last call
-  pub mark_goes : (off len : ℕ) → Goes Q n W notes c (Mark off len) (Some t) (mark_step W t off len)
-  unfolding mark_step
-  mark_goes off len = go (mark_fault W.geometry.block off len t.accesses)
-    where
-      span : Span
-      span = record { off = off; len = len }
+    pub foreign_goes : {E R : Type 0} (refusal : E → Reply) (program : Program (Result R E)) (answer : R → Reply) → ((r : Reply) → S.answered op r ≡ None)
+        → Goes S Q n W notes c op (Some t) (store_step W t program refusal answer)
+    unfolding store_step
+    foreign_goes refusal program answer quiet =
+        adds S Q n W notes is c op t (store_reply refusal answer (ended program).1) (ended program).0 found (kept_of S Q n W notes is c op t found) (quiet _)
 
-      go : (o : Option MarkError) → Goes Q n W notes c (Mark off len) (Some t) (marked_step W t span o)
-      go (Some fault) = stays Q n W notes is c (Mark off len) (Some t) (mark_refused fault) refl
-      go None =
-          let told = notes t.number in
-          let kept = kept_of Q n W notes is c (Mark off len) t found in
-          changes Q n W notes is c (Mark off len) t reply.Done (marked span t.accesses) found (record {
-            since = kept.since;
-            made = λ more.
-                let both = and_parts (told.kept && list_all (spares_stores W.geometry) (drop (length t.accesses) (marked span t.accesses))) (nat_lt told.over (length t.accesses)) more in
-                mark_told W.geometry (array_at W.history t.begin) t.accesses t.mode told (kept.made (and_parts told.kept _ both.0).0) span
-                (told_more W.geometry (Mark off len) reply.Done t.accesses (marked span t.accesses) told None).kept (ltb-true told.over (length t.accesses) both.1);
-            by_map = λ q reads. let was = kept.by_map q (sym (marked_writes span t.accesses) ∙ reads) in record { hash = was.hash; tree = was.tree };
-          })
+  module _ (Q : Type 0) (n : ℕ) (W : World) (notes : Notes S) (is : IsNoted S Q n W notes) (c : ℕ) (t : Live) (found : attached W c ≡ Some t) where
+    -- a mark on an access since the last call
+    pub mark_goes : (off len : ℕ) → Goes S Q n W notes c (Mark off len) (Some t) (mark_step W t off len)
+    unfolding mark_step
+    mark_goes off len = go (mark_fault W.geometry.block off len t.accesses)
+      where
+        span : Span
+        span = record { off = off; len = len }
 
--- an end of a transaction, whoever's it is
-module _ (Q : Type 0) (n : ℕ) (W : World) (notes : Notes) (is : IsNoted Q n W notes) (c : ℕ) (o : Option Live) (t : Live) (live_t : IsLive W t) (kept_t : IsKept Q n W.geometry W.history notes t) where
-  longer : (u : Live) (notes : Notes) → IsLive W u → IsKept Q n W.geometry W.history notes u → IsKept Q n W.geometry (appended W.history (commit_from t)) notes u
-  longer u notes live kept =
-      subst (λ (A : Array). Holds Q n W.geometry A u.begin u.accesses u.mode (notes u.number)) (sym (array_longer W.history (commit_from t) u.begin is.world.history.first live.begin)) kept
+        go : (o : Option MarkError) → Goes S Q n W notes c (Mark off len) (Some t) (marked_step W t span o)
+        go (Some fault) = stays S Q n W notes is c (Mark off len) (Some t) (mark_refused fault) (lawful.quiet (Mark off len) tt (mark_refused fault))
+        go None =
+            let told = notes t.number in
+            let kept = kept_of S Q n W notes is c (Mark off len) t found in
+            changes S Q n W notes is c (Mark off len) t reply.Done (marked span t.accesses) found (subst (λ (a : Option (Answered S.Call S.Answer)).
+            Holds S Q n W.geometry (array_at W.history t.begin) t.begin (marked span t.accesses) t.mode (told_more S W.geometry (Mark off len) reply.Done t.accesses (marked span t.accesses) told a))
+            (sym (lawful.quiet (Mark off len) tt reply.Done)) (record {
+              since = kept.since;
+              made = λ more.
+                  let both = and_parts (told.kept && list_all (spares_stores S W.geometry) (drop (length t.accesses) (marked span t.accesses))) (nat_lt told.over (length t.accesses)) more in
+                  mark_told S W.geometry (array_at W.history t.begin) t.accesses t.mode told (kept.made (and_parts told.kept _ both.0).0) span
+                  (told_more S W.geometry (Mark off len) reply.Done t.accesses (marked span t.accesses) told None).kept (ltb-true told.over (length t.accesses) both.1);
+              by_map = λ q reads. let was = kept.by_map q (sym (marked_writes span t.accesses) ∙ reads) in record { hash = was.hash; second = was.second };
+            }))
 
-  committed : (k : ℕ) → has_write t.accesses ≡ true → clash W.geometry W.history t.mode t.begin t.accesses ≡ None → last W.history ≢ LAST → need W t ≤ W.geometry.log - used W
-      → (Q → IsTrue (notes t.number).kept) → Goes Q n W notes c End o (reply.Committed k, after_commit W t)
-  committed k write none unworn fits kept =
-      let x : Reply × World = (reply.Committed k, after_commit W t) in
-      let leads = commits W t is.world live_t write none unworn fits in
-      let more = length-append W.history.commits (commit_from t ∷ []) in
-      let low : n ≤ last W.history = is.low in
-      record {
-        next = omega arith;
-        each = all_filter (IsKept Q n W.geometry (appended W.history (commit_from t)) (notes_by W notes c End o x)) (λ (u : Live). not (u.number == t.number)) W.live
-            (both_of (IsLive W) (IsKept Q n W.geometry W.history notes) (IsKept Q n W.geometry (appended W.history (commit_from t)) (notes_by W notes c End o x))
-            (λ u live was. longer u (notes_by W notes c End o x) live (quiet Q n W notes is c End W.geometry W.history o x u refl was)) W.live is.world.live is.each);
-        low = omega arith;
-        by = λ q. stays_by_both (image_hash W.geometry) (image_tree W.geometry) W.geometry W.history (commit_from t) n (is.by q) leads.world.isolated
-            (of_both W.geometry W.history (commit_from t) (notes t.number) (kept_t.made (kept q)));
-      }
+  -- an end of a transaction, whoever's it is
+  module _ (Q : Type 0) (n : ℕ) (W : World) (notes : Notes S) (is : IsNoted S Q n W notes) (c : ℕ) (o : Option Live) (t : Live) (live_t : IsLive W t) (kept_t : IsKept S Q n W.geometry W.history notes t) where
+    longer : (u : Live) (notes : Notes S) → IsLive W u → IsKept S Q n W.geometry W.history notes u → IsKept S Q n W.geometry (appended W.history (commit_from t)) notes u
+    longer u notes live kept =
+        subst (λ (A : Array). Holds S Q n W.geometry A u.begin u.accesses u.mode (notes u.number)) (sym (array_longer W.history (commit_from t) u.begin is.world.history.first live.begin)) kept
 
-  commit_goes : (met : Option Clash) → has_write t.accesses ≡ true → clash W.geometry W.history t.mode t.begin t.accesses ≡ met
-      → ((k : ℕ) → (as_step (commit_step W t met)).0 ≡ reply.Committed k → Q → IsTrue (notes t.number).kept) → Goes Q n W notes c End o (as_step (commit_step W t met))
-  unfolding commit_step
-  commit_goes (Some d) write found keeps = leaves Q n W notes is c End o t (reply.Conflict d) refl
-  commit_goes None write none keeps = one (last W.history == LAST) refl keeps
-    where
-      two : (b : Bool) → nat_lt (W.geometry.log - used W) (need W t) ≡ b → last W.history ≢ LAST
-          → ((k : ℕ) → (as_step (cond b (core.LogFull (need W t) (W.geometry.log - used W), W) (core.Committed (last W.history + 1), after_commit W t))).0 ≡ reply.Committed k → Q → IsTrue (notes t.number).kept)
-          → Goes Q n W notes c End o (as_step (cond b (core.LogFull (need W t) (W.geometry.log - used W), W) (core.Committed (last W.history + 1), after_commit W t)))
-      two true full unworn keeps = stays Q n W notes is c End o (reply.LogFull (need W t) (W.geometry.log - used W)) refl
-      two false fits unworn keeps =
-          committed (last W.history + 1) write none unworn (ltb-false (W.geometry.log - used W) (need W t) fits) (keeps (last W.history + 1) refl)
+    committed : (k : ℕ) → has_write t.accesses ≡ true → clash W.geometry W.history t.mode t.begin t.accesses ≡ None → last W.history ≢ LAST → need W t ≤ W.geometry.log - used W
+        → (Q → IsTrue (notes t.number).kept) → Goes S Q n W notes c End o (reply.Committed k, after_commit W t)
+    committed k write none unworn fits kept =
+        let x : Reply × World = (reply.Committed k, after_commit W t) in
+        let leads = commits W t is.world live_t write none unworn fits in
+        let more = length-append W.history.commits (commit_from t ∷ []) in
+        let low : n ≤ last W.history = is.low in
+        record {
+          next = omega arith;
+          each = all_filter (IsKept S Q n W.geometry (appended W.history (commit_from t)) (notes_by S W notes c End o x)) (λ (u : Live). not (u.number == t.number)) W.live
+              (both_of (IsLive W) (IsKept S Q n W.geometry W.history notes) (IsKept S Q n W.geometry (appended W.history (commit_from t)) (notes_by S W notes c End o x))
+              (λ u live was. longer u (notes_by S W notes c End o x) live (quiet S Q n W notes is c End W.geometry W.history o x u (lawful.quiet End tt (reply.Committed k)) was)) W.live is.world.live is.each);
+          low = omega arith;
+          by = λ q. stays_by_both (image_hash W.geometry) (second_store S W.geometry) W.geometry W.history (commit_from t) n (is.by q) leads.world.isolated
+              (of_both S W.geometry W.history (commit_from t) (notes t.number) (kept_t.made (kept q)));
+        }
 
-      one : (b : Bool) → (last W.history == LAST) ≡ b
-          → ((k : ℕ) → (as_step (cond b (core.Worn, W) (cond (nat_lt (W.geometry.log - used W) (need W t)) (core.LogFull (need W t) (W.geometry.log - used W), W) (core.Committed (last W.history + 1), after_commit W t)))).0 ≡ reply.Committed k → Q → IsTrue (notes t.number).kept)
-          → Goes Q n W notes c End o (as_step (cond b (core.Worn, W) (cond (nat_lt (W.geometry.log - used W) (need W t)) (core.LogFull (need W t) (W.geometry.log - used W), W) (core.Committed (last W.history + 1), after_commit W t))))
-      one true worn keeps = stays Q n W notes is c End o reply.Worn refl
-      one false unworn keeps = two (nat_lt (W.geometry.log - used W) (need W t)) refl (eqb-false (last W.history) LAST unworn) keeps
+    commit_goes : (met : Option Clash) → has_write t.accesses ≡ true → clash W.geometry W.history t.mode t.begin t.accesses ≡ met
+        → ((k : ℕ) → (as_step (commit_step W t met)).0 ≡ reply.Committed k → Q → IsTrue (notes t.number).kept) → Goes S Q n W notes c End o (as_step (commit_step W t met))
+    unfolding commit_step
+    commit_goes (Some d) write found keeps = leaves S Q n W notes is c End o t (reply.Conflict d) (lawful.quiet End tt (reply.Conflict d))
+    commit_goes None write none keeps = one (last W.history == LAST) refl keeps
+      where
+        two : (b : Bool) → nat_lt (W.geometry.log - used W) (need W t) ≡ b → last W.history ≢ LAST
+            → ((k : ℕ) → (as_step (cond b (core.LogFull (need W t) (W.geometry.log - used W), W) (core.Committed (last W.history + 1), after_commit W t))).0 ≡ reply.Committed k → Q → IsTrue (notes t.number).kept)
+            → Goes S Q n W notes c End o (as_step (cond b (core.LogFull (need W t) (W.geometry.log - used W), W) (core.Committed (last W.history + 1), after_commit W t)))
+        two true full unworn keeps = stays S Q n W notes is c End o (reply.LogFull (need W t) (W.geometry.log - used W)) (lawful.quiet End tt _)
+        two false fits unworn keeps =
+            committed (last W.history + 1) write none unworn (ltb-false (W.geometry.log - used W) (need W t) fits) (keeps (last W.history + 1) refl)
 
-  pub end_goes : ((k : ℕ) → (as_step (end_step W t)).0 ≡ reply.Committed k → Q → IsTrue (notes t.number).kept) → Goes Q n W notes c End o (as_step (end_step W t))
-  unfolding end_step
-  end_goes keeps = go (has_write t.accesses) refl keeps
-    where
-      go : (b : Bool) → has_write t.accesses ≡ b
-          → ((k : ℕ) → (as_step (cond b (commit_step W t (clash W.geometry W.history t.mode t.begin t.accesses)) (core.ReadOnly, after_leaving W t))).0 ≡ reply.Committed k → Q → IsTrue (notes t.number).kept)
-          → Goes Q n W notes c End o (as_step (cond b (commit_step W t (clash W.geometry W.history t.mode t.begin t.accesses)) (core.ReadOnly, after_leaving W t)))
-      go true write keeps = commit_goes (clash W.geometry W.history t.mode t.begin t.accesses) write refl keeps
-      go false none keeps = leaves Q n W notes is c End o t reply.ReadOnly refl
+        one : (b : Bool) → (last W.history == LAST) ≡ b
+            → ((k : ℕ) → (as_step (cond b (core.Worn, W) (cond (nat_lt (W.geometry.log - used W) (need W t)) (core.LogFull (need W t) (W.geometry.log - used W), W) (core.Committed (last W.history + 1), after_commit W t)))).0 ≡ reply.Committed k → Q → IsTrue (notes t.number).kept)
+            → Goes S Q n W notes c End o (as_step (cond b (core.Worn, W) (cond (nat_lt (W.geometry.log - used W) (need W t)) (core.LogFull (need W t) (W.geometry.log - used W), W) (core.Committed (last W.history + 1), after_commit W t))))
+        one true worn keeps = stays S Q n W notes is c End o reply.Worn (lawful.quiet End tt reply.Worn)
+        one false unworn keeps = two (nat_lt (W.geometry.log - used W) (need W t)) refl (eqb-false (last W.history) LAST unworn) keeps
+
+    pub end_goes : ((k : ℕ) → (as_step (end_step W t)).0 ≡ reply.Committed k → Q → IsTrue (notes t.number).kept) → Goes S Q n W notes c End o (as_step (end_step W t))
+    unfolding end_step
+    end_goes keeps = go (has_write t.accesses) refl keeps
+      where
+        go : (b : Bool) → has_write t.accesses ≡ b
+            → ((k : ℕ) → (as_step (cond b (commit_step W t (clash W.geometry W.history t.mode t.begin t.accesses)) (core.ReadOnly, after_leaving W t))).0 ≡ reply.Committed k → Q → IsTrue (notes t.number).kept)
+            → Goes S Q n W notes c End o (as_step (cond b (commit_step W t (clash W.geometry W.history t.mode t.begin t.accesses)) (core.ReadOnly, after_leaving W t)))
+        go true write keeps = commit_goes (clash W.geometry W.history t.mode t.begin t.accesses) write refl keeps
+        go false none keeps = leaves S Q n W notes is c End o t reply.ReadOnly (lawful.quiet End tt reply.ReadOnly)

@@ -1,21 +1,9 @@
 -- What is told of a transaction stays true as accesses come to it.
-use Rattle.store_scripts.proofs.Words.{◌≡◌, ◌⊎◌, ◌∙◌, sym, refl, ap, subst, ℕ, ◌<◌, Bool, List, [], ◌∷◌, ◌++◌, length, append_assoc, append-nil, arith, inl, inr, Access, Commit, Geometry, Mode, Serial, Span, Array, own, History, array_at, marked, IsLocal, own_append, AreMixed, First, IsOfBoth, Neither, Second, firsts, seconds, StorePart, KeyCall, StoreAnswer, key_act, Part, Called, Other, accesses_in, answers_in, calls_in, MapStore, SpareRegion, TreeCall, tree_act, made_append, mixed_append, IsToldOf, image_hash, image_tree, OfHash, OfTree, Told, nothing_told, with_call}
+use Rattle.store_scripts.proofs.Words.{◌≡◌, ◌⊎◌, ◌∙◌, sym, refl, ap, subst, ℕ, ◌<◌, Bool, List, [], ◌∷◌, ◌++◌, length, append_assoc, append-nil, arith, inl, inr, Access, Commit, Geometry, Mode, Serial, Span, Array, own, History, array_at, marked, IsLocal, own_append, AreMixed, First, IsOfBoth, Neither, Second, firsts, seconds, KeyCall, StoreAnswer, key_act, Part, Called, Other, accesses_in, answers_in, calls_in, MapStore, SpareRegion, made_append, mixed_append, IsToldOf, image_hash, OfHash, Told, nothing_told, with_call, OfSecond, SecondStore, second_store, Mixed}
 
 pub spare_append : (s : MapStore) (xs ys : List Access) → SpareRegion s xs → SpareRegion s ys → SpareRegion s (xs ++ ys)
 spare_append s [] ys first second = second
 spare_append s (x ∷ xs) ys first second = (first.0, spare_append s xs ys first.1 second)
-
-firsts_append : (xs ys : List StorePart) → firsts (xs ++ ys) ≡ firsts xs ++ firsts ys
-firsts_append [] ys = refl
-firsts_append (First call accesses answer ∷ xs) ys = ap (λ (rest : List (Part KeyCall StoreAnswer)). Called call accesses answer ∷ rest) (firsts_append xs ys)
-firsts_append (Second call accesses answer ∷ xs) ys = ap (λ (rest : List (Part KeyCall StoreAnswer)). Other accesses ∷ rest) (firsts_append xs ys)
-firsts_append (Neither accesses ∷ xs) ys = ap (λ (rest : List (Part KeyCall StoreAnswer)). Other accesses ∷ rest) (firsts_append xs ys)
-
-seconds_append : (xs ys : List StorePart) → seconds (xs ++ ys) ≡ seconds xs ++ seconds ys
-seconds_append [] ys = refl
-seconds_append (First call accesses answer ∷ xs) ys = ap (λ (rest : List (Part TreeCall StoreAnswer)). Other accesses ∷ rest) (seconds_append xs ys)
-seconds_append (Second call accesses answer ∷ xs) ys = ap (λ (rest : List (Part TreeCall StoreAnswer)). Called call accesses answer ∷ rest) (seconds_append xs ys)
-seconds_append (Neither accesses ∷ xs) ys = ap (λ (rest : List (Part TreeCall StoreAnswer)). Other accesses ∷ rest) (seconds_append xs ys)
 
 calls_append : {C A : Type 0} (xs ys : List (Part C A)) → calls_in (xs ++ ys) ≡ calls_in xs ++ calls_in ys
 calls_append [] ys = refl
@@ -26,35 +14,6 @@ answers_append : {C A : Type 0} (xs ys : List (Part C A)) → answers_in (xs ++ 
 answers_append [] ys = refl
 answers_append (Called call accesses answer ∷ xs) ys = ap (λ rest. answer ∷ rest) (answers_append xs ys)
 answers_append (Other accesses ∷ xs) ys = answers_append xs ys
-
--- what the parts are to each store, with further parts that make these calls of it
-pub first_calls : (parts more : List StorePart) (calls : List KeyCall) → calls_in (firsts parts) ≡ calls → calls_in (firsts (parts ++ more)) ≡ calls ++ calls_in (firsts more)
-first_calls parts more calls are = ap calls_in (firsts_append parts more) ∙ calls_append (firsts parts) (firsts more) ∙ ap (λ (xs : List KeyCall). xs ++ calls_in (firsts more)) are
-
-pub first_answers : (parts more : List StorePart) (answers : List StoreAnswer) → answers_in (firsts parts) ≡ answers → answers_in (firsts (parts ++ more)) ≡ answers ++ answers_in (firsts more)
-first_answers parts more answers are = ap answers_in (firsts_append parts more) ∙ answers_append (firsts parts) (firsts more) ∙ ap (λ (xs : List StoreAnswer). xs ++ answers_in (firsts more)) are
-
-pub second_calls : (parts more : List StorePart) (calls : List TreeCall) → calls_in (seconds parts) ≡ calls → calls_in (seconds (parts ++ more)) ≡ calls ++ calls_in (seconds more)
-second_calls parts more calls are = ap calls_in (seconds_append parts more) ∙ calls_append (seconds parts) (seconds more) ∙ ap (λ (xs : List TreeCall). xs ++ calls_in (seconds more)) are
-
-pub second_answers : (parts more : List StorePart) (answers : List StoreAnswer) → answers_in (seconds parts) ≡ answers → answers_in (seconds (parts ++ more)) ≡ answers ++ answers_in (seconds more)
-second_answers parts more answers are = ap answers_in (seconds_append parts more) ∙ answers_append (seconds parts) (seconds more) ∙ ap (λ (xs : List StoreAnswer). xs ++ answers_in (seconds more)) are
-
-pub begins_told : (g : Geometry) (A : Array) (mode : Mode) → IsToldOf g A [] mode nothing_told
-begins_told g A mode = record {
-  parts = [];
-  rest = [];
-  are = refl;
-  over = refl;
-  made = tt;
-  first = tt;
-  second = tt;
-  hash_calls = refl;
-  hash_answers = refl;
-  tree_calls = refl;
-  tree_answers = refl;
-  serial = inl (refl, refl);
-}
 
 -- the marks since the last call
 marked_append : (span : Span) (xs ys : List Access) → length xs < length (xs ++ ys) → marked span (xs ++ ys) ≡ xs ++ marked span ys
@@ -68,170 +27,216 @@ marked_spares s span [] spare = tt
 marked_spares s span (a ∷ []) spare = (spare.0, tt)
 marked_spares s span (a ∷ b ∷ accesses) spare = (spare.0, marked_spares s span (b ∷ accesses) spare.1)
 
-module _ (g : Geometry) (A : Array) (accesses : List Access) (mode : Mode) (told : Told) (is : IsToldOf g A accesses mode told) where
-  -- with accesses that write neither region
-  pub other_told : (done : List Access) (kept : Bool) → SpareRegion (image_hash g) done → SpareRegion (image_tree g) done → IsToldOf g A (accesses ++ done) mode (record told { kept = kept })
-  other_told done kept first second = record {
-    parts = is.parts;
-    rest = is.rest ++ done;
-    are = sym (append_assoc (accesses_in (firsts is.parts)) is.rest done) ∙ ap (λ (xs : List Access). xs ++ done) is.are;
-    over = is.over;
-    made = is.made;
-    first = spare_append (image_hash g) is.rest done is.first first;
-    second = spare_append (image_tree g) is.rest done is.second second;
-    hash_calls = is.hash_calls;
-    hash_answers = is.hash_answers;
-    tree_calls = is.tree_calls;
-    tree_answers = is.tree_answers;
-    serial = is.serial;
+module _ (S : SecondStore) where
+  -- a part of a transaction that calls the hash store and the second one
+  abbrev pub StorePart : Type 0
+  StorePart = Mixed KeyCall StoreAnswer S.Call S.Answer
+
+  firsts_append : (xs ys : List StorePart) → firsts (xs ++ ys) ≡ firsts xs ++ firsts ys
+  firsts_append [] ys = refl
+  firsts_append (First call accesses answer ∷ xs) ys = ap (λ (rest : List (Part KeyCall StoreAnswer)). Called call accesses answer ∷ rest) (firsts_append xs ys)
+  firsts_append (Second call accesses answer ∷ xs) ys = ap (λ (rest : List (Part KeyCall StoreAnswer)). Other accesses ∷ rest) (firsts_append xs ys)
+  firsts_append (Neither accesses ∷ xs) ys = ap (λ (rest : List (Part KeyCall StoreAnswer)). Other accesses ∷ rest) (firsts_append xs ys)
+
+  seconds_append : (xs ys : List StorePart) → seconds (xs ++ ys) ≡ seconds xs ++ seconds ys
+  seconds_append [] ys = refl
+  seconds_append (First call accesses answer ∷ xs) ys = ap (λ (rest : List (Part S.Call S.Answer)). Other accesses ∷ rest) (seconds_append xs ys)
+  seconds_append (Second call accesses answer ∷ xs) ys = ap (λ (rest : List (Part S.Call S.Answer)). Called call accesses answer ∷ rest) (seconds_append xs ys)
+  seconds_append (Neither accesses ∷ xs) ys = ap (λ (rest : List (Part S.Call S.Answer)). Other accesses ∷ rest) (seconds_append xs ys)
+
+  -- what the parts are to each store, with further parts that make these calls of it
+  pub more_first_calls : (parts more : List StorePart) (calls : List KeyCall) → calls_in (firsts parts) ≡ calls → calls_in (firsts (parts ++ more)) ≡ calls ++ calls_in (firsts more)
+  more_first_calls parts more calls are = ap calls_in (firsts_append parts more) ∙ calls_append (firsts parts) (firsts more) ∙ ap (λ (xs : List KeyCall). xs ++ calls_in (firsts more)) are
+
+  pub more_first_answers : (parts more : List StorePart) (answers : List StoreAnswer) → answers_in (firsts parts) ≡ answers → answers_in (firsts (parts ++ more)) ≡ answers ++ answers_in (firsts more)
+  more_first_answers parts more answers are = ap answers_in (firsts_append parts more) ∙ answers_append (firsts parts) (firsts more) ∙ ap (λ (xs : List StoreAnswer). xs ++ answers_in (firsts more)) are
+
+  pub more_second_calls : (parts more : List StorePart) (calls : List S.Call) → calls_in (seconds parts) ≡ calls → calls_in (seconds (parts ++ more)) ≡ calls ++ calls_in (seconds more)
+  more_second_calls parts more calls are = ap calls_in (seconds_append parts more) ∙ calls_append (seconds parts) (seconds more) ∙ ap (λ (xs : List S.Call). xs ++ calls_in (seconds more)) are
+
+  pub more_second_answers : (parts more : List StorePart) (answers : List S.Answer) → answers_in (seconds parts) ≡ answers → answers_in (seconds (parts ++ more)) ≡ answers ++ answers_in (seconds more)
+  more_second_answers parts more answers are = ap answers_in (seconds_append parts more) ∙ answers_append (seconds parts) (seconds more) ∙ ap (λ (xs : List S.Answer). xs ++ answers_in (seconds more)) are
+
+  pub begins_told : (g : Geometry) (A : Array) (mode : Mode) → IsToldOf S g A [] mode (nothing_told S)
+  begins_told g A mode = record {
+    parts = [];
+    rest = [];
+    are = refl;
+    over = refl;
+    made = tt;
+    spare_hash = tt;
+    spare_second = tt;
+    hash_calls = refl;
+    hash_answers = refl;
+    second_calls = refl;
+    second_answers = refl;
+    serial = inl (refl, refl);
   }
 
-  -- with nothing new
-  pub same_told : (kept : Bool) → IsToldOf g A accesses mode (record told { kept = kept })
-  same_told kept = record {
+  module _ (g : Geometry) (A : Array) (accesses : List Access) (mode : Mode) (told : Told S) (is : IsToldOf S g A accesses mode told) where
+    -- with accesses that write neither region
+    pub other_told : (done : List Access) (kept : Bool) → SpareRegion (image_hash g) done → SpareRegion (second_store S g) done → IsToldOf S g A (accesses ++ done) mode (record told { kept = kept })
+    other_told done kept first second = record {
+      parts = is.parts;
+      rest = is.rest ++ done;
+      are = sym (append_assoc (accesses_in (firsts is.parts)) is.rest done) ∙ ap (λ (xs : List Access). xs ++ done) is.are;
+      over = is.over;
+      made = is.made;
+      spare_hash = spare_append (image_hash g) is.rest done is.spare_hash first;
+      spare_second = spare_append (second_store S g) is.rest done is.spare_second second;
+      hash_calls = is.hash_calls;
+      hash_answers = is.hash_answers;
+      second_calls = is.second_calls;
+      second_answers = is.second_answers;
+      serial = is.serial;
+    }
+
+    -- with nothing new
+    pub same_told : (kept : Bool) → IsToldOf S g A accesses mode (record told { kept = kept })
+    same_told kept = record {
+      parts = is.parts;
+      rest = is.rest;
+      are = is.are;
+      over = is.over;
+      made = is.made;
+      spare_hash = is.spare_hash;
+      spare_second = is.spare_second;
+      hash_calls = is.hash_calls;
+      hash_answers = is.hash_answers;
+      second_calls = is.second_calls;
+      second_answers = is.second_answers;
+      serial = is.serial;
+    }
+
+    -- with a mark on an access since the last call
+    pub mark_told : (span : Span) (kept : Bool) → told.over < length accesses → IsToldOf S g A (marked span accesses) mode (record told { kept = kept })
+    mark_told span kept since =
+        let calls = accesses_in (firsts is.parts) in
+        let some : length calls < length (calls ++ is.rest) = omega (arith, is.over, ap length is.are) in
+        record {
+          parts = is.parts;
+          rest = marked span is.rest;
+          are = sym (marked_append span calls is.rest some) ∙ ap (marked span) is.are;
+          over = is.over;
+          made = is.made;
+          spare_hash = marked_spares (image_hash g) span is.rest is.spare_hash;
+          spare_second = marked_spares (second_store S g) span is.rest is.spare_second;
+          hash_calls = is.hash_calls;
+          hash_answers = is.hash_answers;
+          second_calls = is.second_calls;
+          second_answers = is.second_answers;
+          serial = is.serial;
+        }
+
+    grown_are : (part : StorePart) (done : List Access) → accesses_in (firsts (part ∷ [])) ≡ done → accesses_in (firsts (is.parts ++ Neither is.rest ∷ part ∷ [])) ≡ accesses ++ done
+    grown_are part done has =
+        mixed_append (image_hash g) (second_store S g) is.parts (Neither is.rest ∷ part ∷ [])
+        ∙ sym (append_assoc (accesses_in (firsts is.parts)) is.rest (accesses_in (firsts (part ∷ []))))
+        ∙ ap (λ (xs : List Access). xs ++ accesses_in (firsts (part ∷ []))) is.are
+        ∙ ap (λ (ys : List Access). accesses ++ ys) has
+
+    shown_is : own (own A (accesses_in (firsts is.parts))) is.rest ≡ own A accesses
+    shown_is = sym (own_append A (accesses_in (firsts is.parts)) is.rest) ∙ ap (own A) is.are
+
+    grown_made : (part : StorePart) → AreMixed (image_hash g) (second_store S g) (own A accesses) (part ∷ [])
+        → AreMixed (image_hash g) (second_store S g) A (is.parts ++ Neither is.rest ∷ part ∷ [])
+    grown_made part made =
+        made_append (image_hash g) (second_store S g) A is.parts (Neither is.rest ∷ part ∷ []) is.made
+        (is.spare_hash, is.spare_second, subst (λ (B : Array). AreMixed (image_hash g) (second_store S g) B (part ∷ [])) (sym shown_is) made)
+
+    -- with a call of the hash store
+    pub hash_told : (call : KeyCall) (answer : StoreAnswer) (done : List Access) → mode ≡ Serial
+        → IsLocal (image_hash g).IsWellFormed (image_hash g).map_of (key_act call) (own A accesses) done answer → SpareRegion (second_store S g) done
+        → IsToldOf S g A (accesses ++ done) mode (with_call S told (OfHash call answer) (length (accesses ++ done)))
+    hash_told call answer done serial local spare =
+        let more : List StorePart = Neither is.rest ∷ First call done answer ∷ [] in
+        let are = grown_are (First call done answer) done (append-nil done) in
+        record {
+          parts = is.parts ++ more;
+          rest = [];
+          are = append-nil (accesses_in (firsts (is.parts ++ more))) ∙ are;
+          over = ap length are;
+          made = grown_made (First call done answer) (local, spare, tt);
+          spare_hash = tt;
+          spare_second = tt;
+          hash_calls = more_first_calls is.parts more told.hash.calls is.hash_calls;
+          hash_answers = more_first_answers is.parts more told.hash.answers is.hash_answers;
+          second_calls = more_second_calls is.parts more told.second.calls is.second_calls ∙ append-nil told.second.calls;
+          second_answers = more_second_answers is.parts more told.second.answers is.second_answers ∙ append-nil told.second.answers;
+          serial = inr serial;
+        }
+
+    -- with a call of the tree store
+    pub second_told : (call : S.Call) (answer : S.Answer) (done : List Access) → mode ≡ Serial
+        → IsLocal (second_store S g).IsWellFormed (second_store S g).map_of (S.act call) (own A accesses) done answer → SpareRegion (image_hash g) done
+        → IsToldOf S g A (accesses ++ done) mode (with_call S told (OfSecond call answer) (length (accesses ++ done)))
+    second_told call answer done serial local spare =
+        let more : List StorePart = Neither is.rest ∷ Second call done answer ∷ [] in
+        let are = grown_are (Second call done answer) done (append-nil done) in
+        record {
+          parts = is.parts ++ more;
+          rest = [];
+          are = append-nil (accesses_in (firsts (is.parts ++ more))) ∙ are;
+          over = ap length are;
+          made = grown_made (Second call done answer) (local, spare, tt);
+          spare_hash = tt;
+          spare_second = tt;
+          hash_calls = more_first_calls is.parts more told.hash.calls is.hash_calls ∙ append-nil told.hash.calls;
+          hash_answers = more_first_answers is.parts more told.hash.answers is.hash_answers ∙ append-nil told.hash.answers;
+          second_calls = more_second_calls is.parts more told.second.calls is.second_calls;
+          second_answers = more_second_answers is.parts more told.second.answers is.second_answers;
+          serial = inr serial;
+        }
+
+  -- THE PARTS OF ALL ACCESSES, WITH WHAT CAME SINCE THE LAST CALL AS ONE MORE
+  abbrev pub all_parts : (g : Geometry) (A : Array) (accesses : List Access) (mode : Mode) (told : Told S) → IsToldOf S g A accesses mode told → List StorePart
+  all_parts g A accesses mode told is = is.parts ++ Neither is.rest ∷ []
+
+  -- the parts are those that are told, and all accesses are theirs
+  pub record AreAll (g : Geometry) (A : Array) (accesses : List Access) (mode : Mode) (told : Told S) (parts : List StorePart) : Type 0 where
+    pub are : accesses_in (firsts parts) ≡ accesses
+    pub made : AreMixed (image_hash g) (second_store S g) A parts
+    pub hash_calls : calls_in (firsts parts) ≡ told.hash.calls
+    pub hash_answers : answers_in (firsts parts) ≡ told.hash.answers
+    pub second_calls : calls_in (seconds parts) ≡ told.second.calls
+    pub second_answers : answers_in (seconds parts) ≡ told.second.answers
+    pub serial : ((calls_in (firsts parts) ≡ []) × (calls_in (seconds parts) ≡ [])) ⊎ (mode ≡ Serial)
+
+  pub all_are : (g : Geometry) (A : Array) (accesses : List Access) (mode : Mode) (told : Told S) (is : IsToldOf S g A accesses mode told)
+      → AreAll g A accesses mode told (all_parts g A accesses mode told is)
+  all_are g A accesses mode told is =
+      let more : List StorePart = Neither is.rest ∷ [] in
+      let hash_calls = more_first_calls is.parts more told.hash.calls is.hash_calls ∙ append-nil told.hash.calls in
+      let second_calls = more_second_calls is.parts more told.second.calls is.second_calls ∙ append-nil told.second.calls in
+      record {
+        are = mixed_append (image_hash g) (second_store S g) is.parts more ∙ ap (λ (xs : List Access). accesses_in (firsts is.parts) ++ xs) (append-nil is.rest) ∙ is.are;
+        made = made_append (image_hash g) (second_store S g) A is.parts more is.made (is.spare_hash, is.spare_second, tt);
+        hash_calls = hash_calls;
+        hash_answers = more_first_answers is.parts more told.hash.answers is.hash_answers ∙ append-nil told.hash.answers;
+        second_calls = second_calls;
+        second_answers = more_second_answers is.parts more told.second.answers is.second_answers ∙ append-nil told.second.answers;
+        serial = elim is.serial [ inl none ↦ inl (hash_calls ∙ none.0, second_calls ∙ none.1) | inr serial ↦ inr serial ];
+      }
+
+  -- a commit of them is by calls
+  pub of_both : (g : Geometry) (H : History) (c : Commit) (told : Told S) → IsToldOf S g (array_at H c.begin) c.accesses c.mode told → IsOfBoth (image_hash g) (second_store S g) H c
+  of_both g H c told is =
+      let all = all_are g (array_at H c.begin) c.accesses c.mode told is in
+      record { parts = all_parts g (array_at H c.begin) c.accesses c.mode told is; are = all.are; made = all.made; mode = all.serial }
+
+  -- the same in an image of another form
+  pub in_form : (g : Geometry) (form : ℕ) (A : Array) (accesses : List Access) (mode : Mode) (told : Told S) → IsToldOf S g A accesses mode told → IsToldOf S (record g { form = form }) A accesses mode told
+  in_form g form A accesses mode told is = record {
     parts = is.parts;
     rest = is.rest;
     are = is.are;
     over = is.over;
     made = is.made;
-    first = is.first;
-    second = is.second;
+    spare_hash = is.spare_hash;
+    spare_second = is.spare_second;
     hash_calls = is.hash_calls;
     hash_answers = is.hash_answers;
-    tree_calls = is.tree_calls;
-    tree_answers = is.tree_answers;
+    second_calls = is.second_calls;
+    second_answers = is.second_answers;
     serial = is.serial;
   }
-
-  -- with a mark on an access since the last call
-  pub mark_told : (span : Span) (kept : Bool) → told.over < length accesses → IsToldOf g A (marked span accesses) mode (record told { kept = kept })
-  mark_told span kept since =
-      let calls = accesses_in (firsts is.parts) in
-      let some : length calls < length (calls ++ is.rest) = omega (arith, is.over, ap length is.are) in
-      record {
-        parts = is.parts;
-        rest = marked span is.rest;
-        are = sym (marked_append span calls is.rest some) ∙ ap (marked span) is.are;
-        over = is.over;
-        made = is.made;
-        first = marked_spares (image_hash g) span is.rest is.first;
-        second = marked_spares (image_tree g) span is.rest is.second;
-        hash_calls = is.hash_calls;
-        hash_answers = is.hash_answers;
-        tree_calls = is.tree_calls;
-        tree_answers = is.tree_answers;
-        serial = is.serial;
-      }
-
-  grown_are : (part : StorePart) (done : List Access) → accesses_in (firsts (part ∷ [])) ≡ done → accesses_in (firsts (is.parts ++ Neither is.rest ∷ part ∷ [])) ≡ accesses ++ done
-  grown_are part done has =
-      mixed_append (image_hash g) (image_tree g) is.parts (Neither is.rest ∷ part ∷ [])
-      ∙ sym (append_assoc (accesses_in (firsts is.parts)) is.rest (accesses_in (firsts (part ∷ []))))
-      ∙ ap (λ (xs : List Access). xs ++ accesses_in (firsts (part ∷ []))) is.are
-      ∙ ap (λ (ys : List Access). accesses ++ ys) has
-
-  shown_is : own (own A (accesses_in (firsts is.parts))) is.rest ≡ own A accesses
-  shown_is = sym (own_append A (accesses_in (firsts is.parts)) is.rest) ∙ ap (own A) is.are
-
-  grown_made : (part : StorePart) → AreMixed (image_hash g) (image_tree g) (own A accesses) (part ∷ [])
-      → AreMixed (image_hash g) (image_tree g) A (is.parts ++ Neither is.rest ∷ part ∷ [])
-  grown_made part made =
-      made_append (image_hash g) (image_tree g) A is.parts (Neither is.rest ∷ part ∷ []) is.made
-      (is.first, is.second, subst (λ (B : Array). AreMixed (image_hash g) (image_tree g) B (part ∷ [])) (sym shown_is) made)
-
-  -- with a call of the hash store
-  pub hash_told : (call : KeyCall) (answer : StoreAnswer) (done : List Access) → mode ≡ Serial
-      → IsLocal (image_hash g).IsWellFormed (image_hash g).map_of (key_act call) (own A accesses) done answer → SpareRegion (image_tree g) done
-      → IsToldOf g A (accesses ++ done) mode (with_call told (OfHash call answer) (length (accesses ++ done)))
-  hash_told call answer done serial local spare =
-      let more : List StorePart = Neither is.rest ∷ First call done answer ∷ [] in
-      let are = grown_are (First call done answer) done (append-nil done) in
-      record {
-        parts = is.parts ++ more;
-        rest = [];
-        are = append-nil (accesses_in (firsts (is.parts ++ more))) ∙ are;
-        over = ap length are;
-        made = grown_made (First call done answer) (local, spare, tt);
-        first = tt;
-        second = tt;
-        hash_calls = first_calls is.parts more told.hash.calls is.hash_calls;
-        hash_answers = first_answers is.parts more told.hash.answers is.hash_answers;
-        tree_calls = second_calls is.parts more told.tree.calls is.tree_calls ∙ append-nil told.tree.calls;
-        tree_answers = second_answers is.parts more told.tree.answers is.tree_answers ∙ append-nil told.tree.answers;
-        serial = inr serial;
-      }
-
-  -- with a call of the tree store
-  pub tree_told : (call : TreeCall) (answer : StoreAnswer) (done : List Access) → mode ≡ Serial
-      → IsLocal (image_tree g).IsWellFormed (image_tree g).map_of (tree_act call) (own A accesses) done answer → SpareRegion (image_hash g) done
-      → IsToldOf g A (accesses ++ done) mode (with_call told (OfTree call answer) (length (accesses ++ done)))
-  tree_told call answer done serial local spare =
-      let more : List StorePart = Neither is.rest ∷ Second call done answer ∷ [] in
-      let are = grown_are (Second call done answer) done (append-nil done) in
-      record {
-        parts = is.parts ++ more;
-        rest = [];
-        are = append-nil (accesses_in (firsts (is.parts ++ more))) ∙ are;
-        over = ap length are;
-        made = grown_made (Second call done answer) (local, spare, tt);
-        first = tt;
-        second = tt;
-        hash_calls = first_calls is.parts more told.hash.calls is.hash_calls ∙ append-nil told.hash.calls;
-        hash_answers = first_answers is.parts more told.hash.answers is.hash_answers ∙ append-nil told.hash.answers;
-        tree_calls = second_calls is.parts more told.tree.calls is.tree_calls;
-        tree_answers = second_answers is.parts more told.tree.answers is.tree_answers;
-        serial = inr serial;
-      }
-
--- THE PARTS OF ALL ACCESSES, WITH WHAT CAME SINCE THE LAST CALL AS ONE MORE
-abbrev pub all_parts : (g : Geometry) (A : Array) (accesses : List Access) (mode : Mode) (told : Told) → IsToldOf g A accesses mode told → List StorePart
-all_parts g A accesses mode told is = is.parts ++ Neither is.rest ∷ []
-
--- the parts are those that are told, and all accesses are theirs
-pub record AreAll (g : Geometry) (A : Array) (accesses : List Access) (mode : Mode) (told : Told) (parts : List StorePart) : Type 0 where
-  pub are : accesses_in (firsts parts) ≡ accesses
-  pub made : AreMixed (image_hash g) (image_tree g) A parts
-  pub hash_calls : calls_in (firsts parts) ≡ told.hash.calls
-  pub hash_answers : answers_in (firsts parts) ≡ told.hash.answers
-  pub tree_calls : calls_in (seconds parts) ≡ told.tree.calls
-  pub tree_answers : answers_in (seconds parts) ≡ told.tree.answers
-  pub serial : ((calls_in (firsts parts) ≡ []) × (calls_in (seconds parts) ≡ [])) ⊎ (mode ≡ Serial)
-
-pub all_are : (g : Geometry) (A : Array) (accesses : List Access) (mode : Mode) (told : Told) (is : IsToldOf g A accesses mode told)
-    → AreAll g A accesses mode told (all_parts g A accesses mode told is)
-all_are g A accesses mode told is =
-    let more : List StorePart = Neither is.rest ∷ [] in
-    let hash_calls = first_calls is.parts more told.hash.calls is.hash_calls ∙ append-nil told.hash.calls in
-    let tree_calls = second_calls is.parts more told.tree.calls is.tree_calls ∙ append-nil told.tree.calls in
-    record {
-      are = mixed_append (image_hash g) (image_tree g) is.parts more ∙ ap (λ (xs : List Access). accesses_in (firsts is.parts) ++ xs) (append-nil is.rest) ∙ is.are;
-      made = made_append (image_hash g) (image_tree g) A is.parts more is.made (is.first, is.second, tt);
-      hash_calls = hash_calls;
-      hash_answers = first_answers is.parts more told.hash.answers is.hash_answers ∙ append-nil told.hash.answers;
-      tree_calls = tree_calls;
-      tree_answers = second_answers is.parts more told.tree.answers is.tree_answers ∙ append-nil told.tree.answers;
-      serial = elim is.serial [ inl none ↦ inl (hash_calls ∙ none.0, tree_calls ∙ none.1) | inr serial ↦ inr serial ];
-    }
-
--- a commit of them is by calls
-pub of_both : (g : Geometry) (H : History) (c : Commit) (told : Told) → IsToldOf g (array_at H c.begin) c.accesses c.mode told → IsOfBoth (image_hash g) (image_tree g) H c
-of_both g H c told is =
-    let all = all_are g (array_at H c.begin) c.accesses c.mode told is in
-    record { parts = all_parts g (array_at H c.begin) c.accesses c.mode told is; are = all.are; made = all.made; mode = all.serial }
-
--- the same in an image of another form
-pub in_form : (g : Geometry) (form : ℕ) (A : Array) (accesses : List Access) (mode : Mode) (told : Told) → IsToldOf g A accesses mode told → IsToldOf (record g { form = form }) A accesses mode told
-in_form g form A accesses mode told is = record {
-  parts = is.parts;
-  rest = is.rest;
-  are = is.are;
-  over = is.over;
-  made = is.made;
-  first = is.first;
-  second = is.second;
-  hash_calls = is.hash_calls;
-  hash_answers = is.hash_answers;
-  tree_calls = is.tree_calls;
-  tree_answers = is.tree_answers;
-  serial = is.serial;
-}

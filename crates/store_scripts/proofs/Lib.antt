@@ -1,12 +1,17 @@
 pub mod Words
+pub mod Seconds
 pub mod Growing
+pub mod Blocks
 pub mod Locality
+pub mod FileLocality
 pub mod Finding
 pub mod Reading
-pub mod Blocks
 pub mod Noted
 pub mod Steps
 pub mod Calls
+pub mod Acting
+pub mod TreeGoes
+pub mod FileGoes
 pub mod Members
 mod Lines
 pub mod Order

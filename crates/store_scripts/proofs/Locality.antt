@@ -1,5 +1,5 @@
 -- A program of a store's call that answered Ok is local for its store, and spares the other.
-use Rattle.store_scripts.proofs.Words.{◌≡◌, ◌≢◌, refl, ap, subst, ℕ, zero, suc, ◌+◌, ◌<◌, ◌&&◌, Bool, true, false, cond, IsTrue, List, length, Option, Some, Result, Ok, Err, arith, inl, inr, and_parts, Access, Geometry, Area, StoreError, BadKey, BadValue, Array, is_valid, is_key, is_value, IsHashRegion, Pairs, del_op, get_op, hash_map, put_op, HasShape, block_at, hash_area, tree_area, Done, IsLocal, Program, accesses_of, answer_of, outcome, IsTreeRegion, scan_op, tree_map, limits, hash_area_is, tree_area_is, outcome_whole, Del, Found, Got, KeyCall, StoreAnswer, WasPut, WasThere, key_act, SpareRegion, OnKey, Scan, TreeCall, tree_act, AreApart, disjoint_blocks, reads_spare, spare_where_apart, writes_within, IfAny, image_hash, image_tree, pairs_if_any}
+use Rattle.store_scripts.proofs.Words.{◌≡◌, ◌≢◌, refl, ap, subst, ℕ, zero, suc, ◌+◌, ◌<◌, ◌&&◌, Bool, true, false, cond, IsTrue, List, length, Option, Some, Result, Ok, Err, arith, and_parts, Access, Geometry, Area, BadKey, BadValue, Array, is_valid, is_key, is_value, IsHashRegion, Pairs, del_op, get_op, hash_map, put_op, HasShape, block_at, hash_area, tree_area, Done, IsLocal, Program, accesses_of, answer_of, outcome, IsTreeRegion, scan_op, tree_map, limits, hash_area_is, tree_area_is, outcome_whole, Del, Found, Got, WasPut, WasThere, OnKey, Scan, AreApart, reads_spare, spare_where_apart, writes_within, IfAny, image_hash, pairs_if_any, SecondStore, second_store, the_tree, MapStore, sym, ◌∙◌}
 use Rattle.store_model.specs.HashCalls as hash
 use Rattle.store_model.specs.TreeCalls as tree
 use Rattle.iso_hash.proofs.Changes as hash_changes
@@ -11,9 +11,11 @@ use Rattle.iso_tree.proofs.ScanCalls as tree_scans
 use Rattle.store_laws.specs.Calls.{Get, Put}
 use Rattle.store_laws.proofs.HashWrites as hash_writes
 use Rattle.store_laws.proofs.TreeWrites as tree_writes
+use Rattle.store_scripts.proofs.Blocks.{tree_second}
+use Rattle.store_scripts.proofs.Seconds.{IsHashCall, IsSecond, IsSecondCall}
 
 -- what is local for a store is local for that of the image which has blocks, with the answer under its name
-if_local : {R : Type 0} (n : ℕ) (Well : Array → Type 0) (map_of : Array → Pairs) (name : R → StoreAnswer) (op : Pairs → R × Pairs) (B : Array) (accesses : List Access) (r : R) → n ≢ 0
+pub if_local : {R X : Type 0} (n : ℕ) (Well : Array → Type 0) (map_of : Array → Pairs) (name : R → X) (op : Pairs → R × Pairs) (B : Array) (accesses : List Access) (r : R) → n ≢ 0
     → IsLocal Well map_of op B accesses r
     → IsLocal (λ (A : Array). IfAny n (Well A)) (λ (A : Array). pairs_if_any n (map_of A)) (λ m. (name (op m).0, (op m).1)) B accesses (name r)
 if_local zero Well map_of name op B accesses r some local = absurd (some refl)
@@ -24,7 +26,7 @@ if_local (suc n) Well map_of name op B accesses r some local = record {
 }
 
 -- a test of the arguments was passed where the answer is Ok
-passed : {R : Type 0} (test : Bool) (p : Program (Result R StoreError)) (e : StoreError) (B : Array) (r : R) → answer_of (cond test p (Done (Err e))) B ≡ Ok r
+pub passed : {E R : Type 0} (test : Bool) (p : Program (Result R E)) (e : E) (B : Array) (r : R) → answer_of (cond test p (Done (Err e))) B ≡ Ok r
     → (test ≡ true) × (answer_of p B ≡ Ok r)
 passed true p e B r is = (refl, is)
 passed false p e B r is = cc
@@ -58,115 +60,112 @@ tree_scan_keys : (a : Area) (from to : List ℕ) (most : ℕ) (B : Array) (r : L
 unfolding tree.scan_program
 tree_scan_keys a from to most B r is = and_parts (is_key from) (is_key to) (passed (is_key from && is_key to) _ BadKey B r is).0
 
--- A call that answered Ok: local for its store with this answer, and it writes no block of the other.
-pub record IsHashCall (g : Geometry) (call : KeyCall) (B : Array) (done : List Access) (answer : StoreAnswer) : Type 0 where
-  pub local : IsLocal (image_hash g).IsWellFormed (image_hash g).map_of (key_act call) B done answer
-  pub spare : SpareRegion (image_tree g) done
+-- apart in either order
+pub turned : (s t : MapStore) → AreApart s t → AreApart t s
+turned s t apart = λ b has. not_both (s.has_block b) (t.has_block b) (apart b) has
+  where
+    not_both : (x y : Bool) → (x ≡ true → y ≡ false) → y ≡ true → x ≡ false
+    not_both true y other is = absurd (let e : true ≡ false = sym is ∙ other refl in cc)
+    not_both false y other is = refl
 
-pub record IsTreeCall (g : Geometry) (call : TreeCall) (B : Array) (done : List Access) (answer : StoreAnswer) : Type 0 where
-  pub local : IsLocal (image_tree g).IsWellFormed (image_tree g).map_of (tree_act call) B done answer
-  pub spare : SpareRegion (image_hash g) done
-
-module _ (g : Geometry) (valid : IsTrue (is_valid g)) (B : Array) (shape : HasShape g B) (room : ℕ) where
-  apart : AreApart (image_hash g) (image_tree g)
-  apart = disjoint_blocks (hash_area g) (tree_area g) (inl (omega arith))
-
-  apart_too : AreApart (image_tree g) (image_hash g)
-  apart_too = disjoint_blocks (tree_area g) (hash_area g) (inr (omega arith))
-
+-- THE HASH STORE
+module _ (S : SecondStore) (lawful : IsSecond S) (g : Geometry) (valid : IsTrue (is_valid g)) (B : Array) (shape : HasShape g B) (room : ℕ) where
   hash_blocks : (k : ℕ) → k < g.hash → length (block_at B (0 + k)) ≡ g.block
   hash_blocks k below = shape.bytes (0 + k) (let bounds = limits g valid in let within = bounds.regions in omega arith)
 
-  tree_blocks : (k : ℕ) → k < g.tree → length (block_at B (g.hash + k)) ≡ g.block
-  tree_blocks k below = shape.bytes (g.hash + k) (let bounds = limits g valid in let within = bounds.regions in omega arith)
-
-  -- THE HASH STORE
   pub hash_got : (key : List ℕ) (r : Option (List ℕ)) → g.hash ≢ 0 → (outcome room (hash.get_program (hash_area g) key) B).1 ≡ Some (Ok r)
-      → IsHashCall g (Get key) B (outcome room (hash.get_program (hash_area g) key) B).0 (Got r)
+      → IsHashCall S g (Get key) B (outcome room (hash.get_program (hash_area g) key) B).0 (Got r)
   hash_got key r some is =
       let a = hash_area g in
       let p = hash.get_program a key in
       let whole = outcome_whole room p B (Ok r) is in
-      subst (λ (done : List Access). IsHashCall g (Get key) B done (Got r)) whole.accesses_are (record {
+      subst (λ (done : List Access). IsHashCall S g (Get key) B done (Got r)) whole.accesses_are (record {
         local = if_local g.hash (IsHashRegion a) (hash_map a) (λ value. Got value) (get_op key) B (accesses_of p B) r some
             (hash_gets.get_local a key B r (hash_area_is g valid some) (hash_get_key a key B r whole.answer_is) whole.answer_is);
-        spare = reads_spare (image_tree g) (accesses_of p B) (hash_gets.get_reads a key B);
+        spare = reads_spare (second_store S g) (accesses_of p B) (hash_gets.get_reads a key B);
       })
 
   pub hash_was_put : (key value : List ℕ) (r : Unit {0}) → g.hash ≢ 0 → (outcome room (hash.put_program (hash_area g) key value) B).1 ≡ Some (Ok r)
-      → IsHashCall g (Put key value) B (outcome room (hash.put_program (hash_area g) key value) B).0 WasPut
+      → IsHashCall S g (Put key value) B (outcome room (hash.put_program (hash_area g) key value) B).0 WasPut
   hash_was_put key value r some is =
       let a = hash_area g in
       let p = hash.put_program a key value in
       let whole = outcome_whole room p B (Ok r) is in
       let area = hash_area_is g valid some in
       let right = hash_put_key a key value B r whole.answer_is in
-      subst (λ (done : List Access). IsHashCall g (Put key value) B done WasPut) whole.accesses_are (record {
+      subst (λ (done : List Access). IsHashCall S g (Put key value) B done WasPut) whole.accesses_are (record {
         local = if_local g.hash (IsHashRegion a) (hash_map a) (λ done. WasPut) (put_op key value) B (accesses_of p B) r some
             (hash_changes.put_local a key value B r area right.0 right.1 hash_blocks whole.answer_is);
-        spare = spare_where_apart (image_hash g) (image_tree g) (accesses_of p B) apart (writes_within (image_hash g) p B (hash_writes.put_program_stores a key value area));
+        spare = spare_where_apart (image_hash g) (second_store S g) (accesses_of p B) (lawful.apart g valid) (writes_within (image_hash g) p B (hash_writes.put_program_stores a key value area));
       })
 
   pub hash_was_there : (key : List ℕ) (r : Bool) → g.hash ≢ 0 → (outcome room (hash.del_program (hash_area g) key) B).1 ≡ Some (Ok r)
-      → IsHashCall g (Del key) B (outcome room (hash.del_program (hash_area g) key) B).0 (WasThere r)
+      → IsHashCall S g (Del key) B (outcome room (hash.del_program (hash_area g) key) B).0 (WasThere r)
   hash_was_there key r some is =
       let a = hash_area g in
       let p = hash.del_program a key in
       let whole = outcome_whole room p B (Ok r) is in
       let area = hash_area_is g valid some in
-      subst (λ (done : List Access). IsHashCall g (Del key) B done (WasThere r)) whole.accesses_are (record {
+      subst (λ (done : List Access). IsHashCall S g (Del key) B done (WasThere r)) whole.accesses_are (record {
         local = if_local g.hash (IsHashRegion a) (hash_map a) (λ there. WasThere there) (del_op key) B (accesses_of p B) r some
             (hash_changes.del_local a key B r area (hash_del_key a key B r whole.answer_is) hash_blocks whole.answer_is);
-        spare = spare_where_apart (image_hash g) (image_tree g) (accesses_of p B) apart (writes_within (image_hash g) p B (hash_writes.del_program_stores a key area));
+        spare = spare_where_apart (image_hash g) (second_store S g) (accesses_of p B) (lawful.apart g valid) (writes_within (image_hash g) p B (hash_writes.del_program_stores a key area));
       })
 
-  -- THE TREE STORE
+-- THE TREE STORE
+module _ (g : Geometry) (valid : IsTrue (is_valid g)) (B : Array) (shape : HasShape g B) (room : ℕ) where
+  apart_too : AreApart (second_store the_tree g) (image_hash g)
+  apart_too = turned (image_hash g) (second_store the_tree g) (tree_second.apart g valid)
+
+  tree_blocks : (k : ℕ) → k < g.tree → length (block_at B (g.hash + k)) ≡ g.block
+  tree_blocks k below = shape.bytes (g.hash + k) (let bounds = limits g valid in let within = bounds.regions in omega arith)
+
   pub tree_got : (key : List ℕ) (r : Option (List ℕ)) → g.tree ≢ 0 → (outcome room (tree.get_program (tree_area g) key) B).1 ≡ Some (Ok r)
-      → IsTreeCall g (OnKey (Get key)) B (outcome room (tree.get_program (tree_area g) key) B).0 (Got r)
+      → IsSecondCall the_tree g (OnKey (Get key)) B (outcome room (tree.get_program (tree_area g) key) B).0 (Got r)
   tree_got key r some is =
       let a = tree_area g in
       let p = tree.get_program a key in
       let whole = outcome_whole room p B (Ok r) is in
-      subst (λ (done : List Access). IsTreeCall g (OnKey (Get key)) B done (Got r)) whole.accesses_are (record {
+      subst (λ (done : List Access). IsSecondCall the_tree g (OnKey (Get key)) B done (Got r)) whole.accesses_are (record {
         local = if_local g.tree (IsTreeRegion a) (tree_map a) (λ value. Got value) (get_op key) B (accesses_of p B) r some
             (tree_gets.get_local a key B r (tree_get_key a key B r whole.answer_is) whole.answer_is);
         spare = reads_spare (image_hash g) (accesses_of p B) (tree_gets.get_reads a key B);
       })
 
   pub tree_was_put : (key value : List ℕ) (r : Unit {0}) → g.tree ≢ 0 → (outcome room (tree.put_program (tree_area g) key value) B).1 ≡ Some (Ok r)
-      → IsTreeCall g (OnKey (Put key value)) B (outcome room (tree.put_program (tree_area g) key value) B).0 WasPut
+      → IsSecondCall the_tree g (OnKey (Put key value)) B (outcome room (tree.put_program (tree_area g) key value) B).0 WasPut
   tree_was_put key value r some is =
       let a = tree_area g in
       let p = tree.put_program a key value in
       let whole = outcome_whole room p B (Ok r) is in
       let area = tree_area_is g valid some in
       let right = tree_put_key a key value B r whole.answer_is in
-      subst (λ (done : List Access). IsTreeCall g (OnKey (Put key value)) B done WasPut) whole.accesses_are (record {
+      subst (λ (done : List Access). IsSecondCall the_tree g (OnKey (Put key value)) B done WasPut) whole.accesses_are (record {
         local = if_local g.tree (IsTreeRegion a) (tree_map a) (λ done. WasPut) (put_op key value) B (accesses_of p B) r some
             (tree_puts.put_local a key value B r area right.0 right.1 tree_blocks whole.answer_is);
-        spare = spare_where_apart (image_tree g) (image_hash g) (accesses_of p B) apart_too (writes_within (image_tree g) p B (tree_writes.put_program_stores a key value area));
+        spare = spare_where_apart (second_store the_tree g) (image_hash g) (accesses_of p B) apart_too (writes_within (second_store the_tree g) p B (tree_writes.put_program_stores a key value area));
       })
 
   pub tree_was_there : (key : List ℕ) (r : Bool) → g.tree ≢ 0 → (outcome room (tree.del_program (tree_area g) key) B).1 ≡ Some (Ok r)
-      → IsTreeCall g (OnKey (Del key)) B (outcome room (tree.del_program (tree_area g) key) B).0 (WasThere r)
+      → IsSecondCall the_tree g (OnKey (Del key)) B (outcome room (tree.del_program (tree_area g) key) B).0 (WasThere r)
   tree_was_there key r some is =
       let a = tree_area g in
       let p = tree.del_program a key in
       let whole = outcome_whole room p B (Ok r) is in
-      subst (λ (done : List Access). IsTreeCall g (OnKey (Del key)) B done (WasThere r)) whole.accesses_are (record {
+      subst (λ (done : List Access). IsSecondCall the_tree g (OnKey (Del key)) B done (WasThere r)) whole.accesses_are (record {
         local = if_local g.tree (IsTreeRegion a) (tree_map a) (λ there. WasThere there) (del_op key) B (accesses_of p B) r some
             (tree_dels.del_local a key B r (tree_area_is g valid some) (tree_del_key a key B r whole.answer_is) tree_blocks whole.answer_is);
-        spare = spare_where_apart (image_tree g) (image_hash g) (accesses_of p B) apart_too (writes_within (image_tree g) p B (tree_writes.del_program_stores a key));
+        spare = spare_where_apart (second_store the_tree g) (image_hash g) (accesses_of p B) apart_too (writes_within (second_store the_tree g) p B (tree_writes.del_program_stores a key));
       })
 
   pub tree_found : (from to : List ℕ) (most : ℕ) (r : List (List ℕ × List ℕ)) → g.tree ≢ 0 → (outcome room (tree.scan_program (tree_area g) from to most) B).1 ≡ Some (Ok r)
-      → IsTreeCall g (Scan from to most) B (outcome room (tree.scan_program (tree_area g) from to most) B).0 (Found r)
+      → IsSecondCall the_tree g (Scan from to most) B (outcome room (tree.scan_program (tree_area g) from to most) B).0 (Found r)
   tree_found from to most r some is =
       let a = tree_area g in
       let p = tree.scan_program a from to most in
       let whole = outcome_whole room p B (Ok r) is in
       let right = tree_scan_keys a from to most B r whole.answer_is in
-      subst (λ (done : List Access). IsTreeCall g (Scan from to most) B done (Found r)) whole.accesses_are (record {
+      subst (λ (done : List Access). IsSecondCall the_tree g (Scan from to most) B done (Found r)) whole.accesses_are (record {
         local = if_local g.tree (IsTreeRegion a) (tree_map a) (λ pairs. Found pairs) (scan_op from to most) B (accesses_of p B) r some
             (tree_scans.scan_local a from to most B r right.0 right.1 whole.answer_is);
         spare = reads_spare (image_hash g) (accesses_of p B) (tree_scans.program_reads a from to most B);

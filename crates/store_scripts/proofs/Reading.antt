@@ -1,5 +1,5 @@
 -- The calls of a transaction that writes nothing answer by the map at its begin, whatever it marks.
-use Rattle.store_scripts.proofs.Words.{◌≡◌, ◌∙◌, sym, refl, ap, subst, ℕ, Bool, true, false, ◌||◌, List, [], ◌∷◌, ◌++◌, map, Access, Geometry, Span, Array, has_write, is_write, own, marked, AreReads, IsLocal, own_reads, KeyCall, StoreAnswer, key_act, TreeCall, tree_act, same_shape, ToldByMap, image_hash, image_tree, OfHash, OfTree, Told, with_call}
+use Rattle.store_scripts.proofs.Words.{◌≡◌, ◌∙◌, sym, refl, ap, subst, ℕ, Bool, true, false, ◌||◌, List, [], ◌∷◌, ◌++◌, map, Access, Geometry, Span, Array, has_write, is_write, own, marked, AreReads, IsLocal, own_reads, KeyCall, StoreAnswer, key_act, same_shape, ToldByMap, image_hash, OfHash, Told, with_call, OfSecond, SecondStore, second_store}
 
 neither : (x y : Bool) → (x || y) ≡ false → (x ≡ false) × (y ≡ false)
 neither true y none = cc
@@ -24,28 +24,29 @@ map_push : {X Y : Type 0} (f : X → Y) (xs : List X) (x : X) → map f (xs ++ x
 map_push f [] x = refl
 map_push f (y ∷ xs) x = ap (λ rest. f y ∷ rest) (map_push f xs x)
 
-module _ (g : Geometry) (A : Array) (accesses done : List Access) (told : Told) (over : ℕ) (none : has_write accesses ≡ false) (was : ToldByMap g told A) where
-  shown : own A accesses ≡ A
-  shown = own_reads A accesses (reads_of accesses none)
+module _ (S : SecondStore) where
+  module _ (g : Geometry) (A : Array) (accesses done : List Access) (told : Told S) (over : ℕ) (none : has_write accesses ≡ false) (was : ToldByMap S g told A) where
+    shown : own A accesses ≡ A
+    shown = own_reads A accesses (reads_of accesses none)
 
-  pub hash_by_map : (call : KeyCall) (answer : StoreAnswer) → (image_hash g).IsWellFormed A → IsLocal (image_hash g).IsWellFormed (image_hash g).map_of (key_act call) (own A accesses) done answer
-      → ToldByMap g (with_call told (OfHash call answer) over) A
-  hash_by_map call answer well local =
-      let f = λ (c : KeyCall). (key_act c ((image_hash g).map_of A)).0 in
-      let here = subst (λ (B : Array). IsLocal (image_hash g).IsWellFormed (image_hash g).map_of (key_act call) B done answer) shown local in
-      let is : f call ≡ answer = here.answers A (same_shape A) well (λ b p depends. refl) in
-      record {
-        hash = ap (λ (xs : List StoreAnswer). xs ++ answer ∷ []) was.hash ∙ ap (λ (x : StoreAnswer). map f told.hash.calls ++ x ∷ []) (sym is) ∙ sym (map_push f told.hash.calls call);
-        tree = was.tree;
-      }
+    pub hash_by_map : (call : KeyCall) (answer : StoreAnswer) → (image_hash g).IsWellFormed A → IsLocal (image_hash g).IsWellFormed (image_hash g).map_of (key_act call) (own A accesses) done answer
+        → ToldByMap S g (with_call S told (OfHash call answer) over) A
+    hash_by_map call answer well local =
+        let f = λ (c : KeyCall). (key_act c ((image_hash g).map_of A)).0 in
+        let here = subst (λ (B : Array). IsLocal (image_hash g).IsWellFormed (image_hash g).map_of (key_act call) B done answer) shown local in
+        let is : f call ≡ answer = here.answers A (same_shape A) well (λ b p depends. refl) in
+        record {
+          hash = ap (λ (xs : List StoreAnswer). xs ++ answer ∷ []) was.hash ∙ ap (λ (x : StoreAnswer). map f told.hash.calls ++ x ∷ []) (sym is) ∙ sym (map_push f told.hash.calls call);
+          second = was.second;
+        }
 
-  pub tree_by_map : (call : TreeCall) (answer : StoreAnswer) → (image_tree g).IsWellFormed A → IsLocal (image_tree g).IsWellFormed (image_tree g).map_of (tree_act call) (own A accesses) done answer
-      → ToldByMap g (with_call told (OfTree call answer) over) A
-  tree_by_map call answer well local =
-      let f = λ (c : TreeCall). (tree_act c ((image_tree g).map_of A)).0 in
-      let here = subst (λ (B : Array). IsLocal (image_tree g).IsWellFormed (image_tree g).map_of (tree_act call) B done answer) shown local in
-      let is : f call ≡ answer = here.answers A (same_shape A) well (λ b p depends. refl) in
-      record {
-        hash = was.hash;
-        tree = ap (λ (xs : List StoreAnswer). xs ++ answer ∷ []) was.tree ∙ ap (λ (x : StoreAnswer). map f told.tree.calls ++ x ∷ []) (sym is) ∙ sym (map_push f told.tree.calls call);
-      }
+    pub second_by_map : (call : S.Call) (answer : S.Answer) → (second_store S g).IsWellFormed A → IsLocal (second_store S g).IsWellFormed (second_store S g).map_of (S.act call) (own A accesses) done answer
+        → ToldByMap S g (with_call S told (OfSecond call answer) over) A
+    second_by_map call answer well local =
+        let f = λ (c : S.Call). (S.act c ((second_store S g).map_of A)).0 in
+        let here = subst (λ (B : Array). IsLocal (second_store S g).IsWellFormed (second_store S g).map_of (S.act call) B done answer) shown local in
+        let is : f call ≡ answer = here.answers A (same_shape A) well (λ b p depends. refl) in
+        record {
+          hash = was.hash;
+          second = ap (λ (xs : List S.Answer). xs ++ answer ∷ []) was.second ∙ ap (λ (x : S.Answer). map f told.second.calls ++ x ∷ []) (sym is) ∙ sym (map_push f told.second.calls call);
+        }

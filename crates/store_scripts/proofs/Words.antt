@@ -1,6 +1,7 @@
 -- The words that the proofs of this crate cite from elsewhere.
-pub use Rattle.std.proofs.Common.{Bool, Err, IfSome, IsTrue, List, None, Ok, Option, Result, Some, [], ap, append-nil, append_assoc, arith, cond, drop, eq-eqb, false, inl, inr, length, map, nat_le, ne_eqb, not, option_map, refl, slice_get, subst, suc, sym, take, true, zero, ℕ, ◌&&◌, ◌++◌, ◌+◌, ◌-◌, ◌<◌, ◌==◌, ◌||◌, ◌↔◌, ◌∙◌, ◌∷◌, ◌≡◌, ◌≢◌, ◌≤◌, ◌⊎◌}
-pub use Rattle.std.proofs.lemmas.Bool.{and_parts, both_ways, cases_Bool, cases_eq, eqb-false, leb-true, ltb-false, ltb-true}
+pub use Rattle.std.proofs.Common.{Bool, Err, IfSome, IsTrue, List, None, Ok, Option, Result, Some, [], ap, append-nil, append_assoc, arith, cond, drop, eq-eqb, false, inl, inr, length, map, nat_le, ne_eqb, not, option_map, refl, slice_get, subst, suc, sym, take, true, zero, ℕ, ◌&&◌, ◌++◌, ◌*◌, ◌+◌, ◌-◌, ◌<◌, ◌==◌, ◌||◌, ◌↔◌, ◌∙◌, ◌∷◌, ◌≡◌, ◌≢◌, ◌≤◌, ◌⊎◌}
+pub use Rattle.std.proofs.lemmas.Bool.{and_parts, both_ways, cases_Bool, cases_eq, cases_lt, eqb-false, leb-true, ltb-false, ltb-true}
+pub use Rattle.std.proofs.lemmas.Bool.Decides.{nat_tests}
 pub use Rattle.std.proofs.lemmas.List.{length-append, take-append-le}
 pub use Rattle.std.proofs.lemmas.Option.{same_Some}
 pub use Rattle.std.specs.FinMap.{empty}
@@ -47,13 +48,13 @@ pub use Rattle.script_model.proofs.Steps.{after_leads, step_leads}
 pub use Rattle.script_model.specs.CoreReplies.{as_reply, as_step}
 pub use Rattle.script_model.specs.Operations.{AreLines, IsOp}
 pub use Rattle.script_model.specs.Script.{after}
-unfoldable pub use Rattle.script_model.specs.Script.{operation_of, other_operation, store_operation, tree_operation}
-pub use Rattle.script_model.specs.Step.{access_step, array_of, found_reply, grouped, in_store, in_transaction, mark_refused, marked_step, numbers, out_of_transaction, pairs_reply, release_step, removed_reply, store_refusal, store_reply, takeover_step}
-unfoldable pub use Rattle.script_model.specs.Step.{fill_step, get_step, hash_delete_step, hash_get_step, hash_put_step, mark_step, put_step, read_step, step, store_step, tree_delete_step, tree_get_step, tree_put_step, tree_scan_step, write_step}
+unfoldable pub use Rattle.script_model.specs.Script.{file_operation, operation_of, other_operation, store_operation, tree_operation}
+pub use Rattle.script_model.specs.Step.{access_step, array_of, file_refusal, found_reply, grouped, in_store, in_transaction, mark_refused, marked_step, numbers, out_of_transaction, pairs_reply, release_step, removed_reply, store_refusal, store_reply, takeover_step}
+unfoldable pub use Rattle.script_model.specs.Step.{file_delete_step, file_move_step, file_new_step, file_read_step, file_write_step, fill_step, get_step, hash_delete_step, hash_get_step, hash_put_step, mark_step, put_step, read_step, step, store_step, tree_delete_step, tree_get_step, tree_put_step, tree_scan_step, write_step}
 unfoldable pub use Rattle.script_model.specs.Text.{hex_of, number_of, words_of}
 pub use Rattle.script_model.specs.declared.script.Line.{Line}
 pub use Rattle.script_model.specs.declared.script.Op.{Op}
-pub use Rattle.script_model.specs.declared.script.Op.TheVariants.{Abort, Await, Begin, Compact, End, Fill, Get, Group, HashDelete, HashGet, HashPut, Mark, Put, Read, Release, Stat, Takeover, TreeDelete, TreeGet, TreePut, TreeScan, Trim, Upgrade, Write}
+pub use Rattle.script_model.specs.declared.script.Op.TheVariants.{Abort, Await, Begin, Compact, End, FileDelete, FileMove, FileNew, FileRead, FileWrite, Fill, Get, Group, HashDelete, HashGet, HashPut, Mark, Put, Read, Release, Stat, Takeover, TreeDelete, TreeGet, TreePut, TreeScan, Trim, Upgrade, Write}
 pub use Rattle.script_model.specs.declared.script.Reply.{Reply}
 pub use Rattle.script_model.specs.declared.script.Reply.TheVariants.{Committed}
 pub use Rattle.store_laws.proofs.BothCalls.{disjoint_blocks}
@@ -64,19 +65,24 @@ pub use Rattle.store_laws.proofs.Longer.{array_longer, begins_by_both, last_of, 
 pub use Rattle.store_laws.proofs.Programs.{spare_where_apart, writes_within}
 pub use Rattle.store_laws.proofs.TwoStores.{both_commits, both_live, both_well_formed}
 pub use Rattle.store_laws.proofs.Zeros.{zeros_blank}
-pub use Rattle.store_laws.specs.Both.{AreMixed, BothInOrder, BothWellFormed, First, IsByBoth, IsOfBoth, Neither, Second, firsts, seconds}
-pub use Rattle.store_laws.specs.BothStores.{StorePart}
+pub use Rattle.store_laws.specs.Both.{AreMixed, BothInOrder, BothWellFormed, First, IsByBoth, IsOfBoth, Mixed, Neither, Second, firsts, seconds}
 pub use Rattle.store_laws.specs.Calls.{Del, Found, Got, KeyCall, StoreAnswer, WasPut, WasThere, in_area, key_act}
+pub use Rattle.store_laws.specs.FileBlocks.{files_are_of_their_blocks}
+pub use Rattle.store_laws.specs.Files.{FileAnswer, FileCall, file_act, file_store, in_areas}
 pub use Rattle.store_laws.specs.HashBlocks.{hash_is_of_its_blocks}
 pub use Rattle.store_laws.specs.Parts.{Called, Other, Part, accesses_in, answers_in, calls_in, run}
-pub use Rattle.store_laws.specs.Region.{IsOfItsBlocks, MapStore, SpareRegion}
+pub use Rattle.store_laws.specs.Region.{IsOfItsBlocks, MapStore, SameRegion, SpareRegion}
 pub use Rattle.store_laws.specs.Tree.{OnKey, Scan, TreeCall, tree_act}
 pub use Rattle.store_laws.specs.TreeBlocks.{tree_is_of_its_blocks}
 pub use Rattle.store_laws.specs.Writes.{AreApart}
 pub use Rattle.store_model.proofs.HashAccesses.{hash_area_is}
 pub use Rattle.store_model.proofs.TreeAccesses.{tree_area_is}
 pub use Rattle.store_model.specs.Areas.{hash_area, tree_area}
+pub use Rattle.script_model.specs.FilesArea.{blocks_behind, file_blocks, files_area}
 pub use Rattle.store_model.specs.Cells.{cell_count, cell_with, value_part}
+pub use Rattle.store_model.specs.FileCalls.{Call, least}
+unfoldable pub use Rattle.store_model.specs.FileNodes.{is_file}
+pub use Rattle.store_model.specs.FileRegion.{AreFileAreas, AreFileRegions, files}
 pub use Rattle.store_model.specs.FreeMap.{free_count, lowest_free}
 pub use Rattle.store_model.specs.HashCalls.{AtBroken, AtCell, AtEnd, Walked, at_cell, is_key, is_spent, is_value, spare_in, walk_from}
 unfoldable pub use Rattle.store_model.specs.HashCalls.{walk}
@@ -93,7 +99,8 @@ pub use Rattle.store_model.specs.declared.stores.StoreError.TheVariants.{BadKey,
 pub use Rattle.tx_blocks.proofs.Outcomes.{outcome_whole}
 pub use Rattle.tx_blocks.proofs.Programs.{own_reads}
 pub use Rattle.tx_blocks.proofs.Progress.{own_append}
-pub use Rattle.store_scripts.specs.InOrder.{StoresAnswer}
+pub use Rattle.store_scripts.specs.InOrder.{AnswersWith, FilesAnswer, StoresAnswer}
 pub use Rattle.store_scripts.specs.Kept.{BeginsWell, IsToldOf, ToldByMap, ToldInOrder}
-pub use Rattle.store_scripts.specs.Stores.{IfAny, image_hash, image_tree, pairs_if_any}
-pub use Rattle.store_scripts.specs.Told.{Answered, CallsStore, CommitKeeps, CommitsKeep, EndsAs, IsEndedAs, Notes, OfHash, OfTree, Told, accesses_or_none, answered, del_answer, get_answer, no_notes, noted, notes_after, nothing_told, put_answer, scan_answer, spares_calls, spares_stores, told_by, told_more, with_call}
+pub use Rattle.store_scripts.specs.Answers.{Answered, CallsStore, OfHash, OfSecond, answered, del_answer, file_answered, get_answer, make_answer, put_answer, read_answer, scan_answer, there_answer}
+pub use Rattle.store_scripts.specs.Stores.{IfAny, SecondStore, image_files, image_hash, image_tree, pairs_if_any, second_store, the_files, the_tree}
+pub use Rattle.store_scripts.specs.Told.{CommitKeeps, CommitsKeep, EndsAs, IsEndedAs, Notes, Told, accesses_or_none, no_notes, noted, notes_after, nothing_told, spares_calls, spares_stores, told_by, told_more, with_call}

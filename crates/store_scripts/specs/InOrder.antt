@@ -10,24 +10,32 @@ use Rattle.script_model.specs.Step.{step}
 use Rattle.iso_model.specs.World.{Live, World, attached}
 use Rattle.store_laws.specs.Both.{IsByBoth}
 use Rattle.store_scripts.specs.Kept.{BeginsWell, ToldByMap, ToldInOrder}
-use Rattle.store_scripts.specs.Stores.{image_hash, image_tree}
-use Rattle.store_scripts.specs.Told.{CommitsKeep, IsEndedAs, no_notes, notes_after}
+use Rattle.store_scripts.specs.Stores.{SecondStore, image_hash, second_store, the_files, the_tree}
+use Rattle.store_scripts.specs.Told.{CommitsKeep, IsEndedAs, no_notes, told_after}
 
 -- From the world W on, the store calls of each commit of these lines, as their replies tell them, answer as one thread's calls on
 -- the maps directly before it and end in those directly after it, whether an end made the commit or a group; those of a transaction
 -- that wrote nothing answer by the maps at its begin.
-pub record AreCallsInOrder (W : World) (lines : List (ℕ × Line)) : Type 0 where
-  pub by_calls : let V = after W lines in IsByBoth (image_hash V.geometry) (image_tree V.geometry) V.geometry V.history (last W.history)
+pub record AreCallsInOrder (S : SecondStore) (W : World) (lines : List (ℕ × Line)) : Type 0 where
+  pub by_calls : let V = after W lines in IsByBoth (image_hash V.geometry) (second_store S V.geometry) V.geometry V.history (last W.history)
   pub commits : (before later : List (ℕ × Line)) (line : ℕ × Line) (k : ℕ) (t : Live) → lines ≡ before ++ line ∷ later
       → let V = after W before in let H = (after W lines).history in line.1.op ≡ End → attached V line.1.client ≡ Some t → (step V line.1.client End).0 ≡ Committed k
-      → ToldInOrder V.geometry (notes_after W no_notes before t.number) (array_at H (k - 1)) (array_at H k)
+      → ToldInOrder S V.geometry (told_after S W before t.number) (array_at H (k - 1)) (array_at H k)
   pub grouped : (before later : List (ℕ × Line)) (line : ℕ × Line) (k : ℕ) (t : Live) → lines ≡ before ++ line ∷ later
       → let V = after W before in let H = (after W lines).history in IsEndedAs V line.1.op t k
-      → ToldInOrder V.geometry (notes_after W no_notes before t.number) (array_at H (k - 1)) (array_at H k)
+      → ToldInOrder S V.geometry (told_after S W before t.number) (array_at H (k - 1)) (array_at H k)
   pub read_only : (before later : List (ℕ × Line)) (client : ℕ) (t : Live) → lines ≡ before ++ later
       → let V = after W before in attached V client ≡ Some t → IsFalse (has_write t.accesses)
-      → ToldByMap V.geometry (notes_after W no_notes before t.number) (array_at V.history t.begin)
+      → ToldByMap S V.geometry (told_after S W before t.number) (array_at V.history t.begin)
 
 -- it is so where the stores begin well and each commit keeps to them
+abbrev pub AnswersWith : SecondStore → World → List (ℕ × Line) → Type 0
+AnswersWith S W lines = BeginsWell S W → CommitsKeep S W (no_notes S) lines → AreCallsInOrder S W lines
+
+-- of the hash store and the tree store
 abbrev pub StoresAnswer : World → List (ℕ × Line) → Type 0
-StoresAnswer W lines = BeginsWell W → CommitsKeep W no_notes lines → AreCallsInOrder W lines
+StoresAnswer W lines = AnswersWith the_tree W lines
+
+-- of the hash store and the files, where file calls alone write the tree store
+abbrev pub FilesAnswer : World → List (ℕ × Line) → Type 0
+FilesAnswer W lines = AnswersWith the_files W lines

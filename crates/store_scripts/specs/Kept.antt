@@ -8,43 +8,42 @@ use Rattle.iso_model.specs.Array.{Array}
 use Rattle.iso_model.specs.History.{array_at, last}
 use Rattle.iso_model.specs.World.{World}
 use Rattle.iso_model.specs.Worlds.{IsWorld}
-use Rattle.store_laws.specs.Both.{AreMixed, BothWellFormed, firsts, seconds}
-use Rattle.store_laws.specs.BothStores.{StorePart}
+use Rattle.store_laws.specs.Both.{AreMixed, BothWellFormed, MixedParts, firsts, seconds}
 use Rattle.store_laws.specs.Parts.{accesses_in, answers_in, calls_in, run}
 use Rattle.store_laws.specs.Region.{SpareRegion}
-use Rattle.store_scripts.specs.Stores.{image_hash, image_tree}
+use Rattle.store_scripts.specs.Stores.{SecondStore, image_hash, second_store}
 use Rattle.store_scripts.specs.Told.{Told}
 
 -- The accesses of a transaction that began with this array are those of parts, whose calls are those that are told, and of the rest
 -- since the last of them, which writes neither region.
-pub record IsToldOf (g : Geometry) (A : Array) (accesses : List Access) (mode : Mode) (told : Told) : Type 0 where
-  pub parts : List StorePart
+pub record IsToldOf (S : SecondStore) (g : Geometry) (A : Array) (accesses : List Access) (mode : Mode) (told : Told S) : Type 0 where
+  pub parts : MixedParts (image_hash g) (second_store S g)
   pub rest : List Access
   pub are : accesses_in (firsts parts) ++ rest ≡ accesses
   pub over : length (accesses_in (firsts parts)) ≡ told.over
-  pub made : AreMixed (image_hash g) (image_tree g) A parts
-  pub first : SpareRegion (image_hash g) rest
-  pub second : SpareRegion (image_tree g) rest
+  pub made : AreMixed (image_hash g) (second_store S g) A parts
+  pub spare_hash : SpareRegion (image_hash g) rest
+  pub spare_second : SpareRegion (second_store S g) rest
   pub hash_calls : calls_in (firsts parts) ≡ told.hash.calls
   pub hash_answers : answers_in (firsts parts) ≡ told.hash.answers
-  pub tree_calls : calls_in (seconds parts) ≡ told.tree.calls
-  pub tree_answers : answers_in (seconds parts) ≡ told.tree.answers
-  pub serial : ((told.hash.calls ≡ []) × (told.tree.calls ≡ [])) ⊎ (mode ≡ Serial)
+  pub second_calls : calls_in (seconds parts) ≡ told.second.calls
+  pub second_answers : answers_in (seconds parts) ≡ told.second.answers
+  pub serial : ((told.hash.calls ≡ []) × (told.second.calls ≡ [])) ⊎ (mode ≡ Serial)
 
 -- The calls of each store answered as one thread's calls on its map in A, which end in its map in B.
-pub record ToldInOrder (g : Geometry) (told : Told) (A B : Array) : Type 0 where
+pub record ToldInOrder (S : SecondStore) (g : Geometry) (told : Told S) (A B : Array) : Type 0 where
   pub hash_answers : (run (image_hash g) ((image_hash g).map_of A) told.hash.calls).0 ≡ told.hash.answers
   pub hash_ends : (run (image_hash g) ((image_hash g).map_of A) told.hash.calls).1 ≡ (image_hash g).map_of B
-  pub tree_answers : (run (image_tree g) ((image_tree g).map_of A) told.tree.calls).0 ≡ told.tree.answers
-  pub tree_ends : (run (image_tree g) ((image_tree g).map_of A) told.tree.calls).1 ≡ (image_tree g).map_of B
+  pub second_answers : (run (second_store S g) ((second_store S g).map_of A) told.second.calls).0 ≡ told.second.answers
+  pub second_ends : (run (second_store S g) ((second_store S g).map_of A) told.second.calls).1 ≡ (second_store S g).map_of B
 
 -- each call answered by its store's map in A
-pub record ToldByMap (g : Geometry) (told : Told) (A : Array) : Type 0 where
+pub record ToldByMap (S : SecondStore) (g : Geometry) (told : Told S) (A : Array) : Type 0 where
   pub hash : told.hash.answers ≡ map (λ call. ((image_hash g).act call ((image_hash g).map_of A)).0) told.hash.calls
-  pub tree : told.tree.answers ≡ map (λ call. ((image_tree g).act call ((image_tree g).map_of A)).0) told.tree.calls
+  pub second : told.second.answers ≡ map (λ call. (S.act call ((second_store S g).map_of A)).0) told.second.calls
 
 -- a sound world without transactions, whose stores are well formed at its last commit
-pub record BeginsWell (W : World) : Type 0 where
+pub record BeginsWell (S : SecondStore) (W : World) : Type 0 where
   pub world : IsWorld W
   pub none : W.live ≡ []
-  pub stores : BothWellFormed (image_hash W.geometry) (image_tree W.geometry) (array_at W.history (last W.history))
+  pub stores : BothWellFormed (image_hash W.geometry) (second_store S W.geometry) (array_at W.history (last W.history))

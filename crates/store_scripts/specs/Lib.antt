@@ -1,3 +1,4 @@
+pub mod Answers
 pub mod Stores
 pub mod Told
 pub mod Kept

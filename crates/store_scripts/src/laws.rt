@@ -5,7 +5,7 @@ ghost use Rattle.iso_model.specs.declared.access.Geometry.{Geometry};
 ghost use Rattle.iso_model.specs.declared.limits.TheConstants.{LAST};
 ghost use Rattle.script_model.specs.declared.script.Line.{Line};
 ghost use Rattle.script_model.specs.declared.script.Op.{Op};
-ghost use Rattle.script_model.specs.declared.script.Op.TheVariants.{End};
+ghost use Rattle.script_model.specs.declared.script.Op.TheVariants.{End, FileRead};
 ghost use Rattle.script_model.specs.declared.script.Reply.TheVariants.{Committed};
 ghost use Rattle.iso_model.specs.Array.{Array};
 ghost use Rattle.iso_model.specs.Effect.{has_write};
@@ -16,14 +16,17 @@ ghost use Rattle.script_model.specs.Script.{after};
 ghost use Rattle.script_model.specs.Step.{array_of, step};
 ghost use Rattle.store_model.specs.Areas.{hash_area, tree_area};
 ghost use Rattle.store_model.specs.TreeRegion.{tree_map, IsTreeRegion};
+ghost use Rattle.store_model.specs.FileRegion.{files, AreFileRegions};
+ghost use Rattle.script_model.specs.FilesArea.{file_blocks, files_area};
 ghost use Rattle.iso_model.specs.World.{attached, empty_history, fresh, Live, World};
 ghost use Rattle.script_model.specs.Operations.{AreLines};
 ghost use Rattle.iso_model.specs.Worlds.{IsWorld};
 ghost use Rattle.store_laws.specs.Both.{IsByBoth};
-ghost use Rattle.store_scripts.specs.InOrder.{StoresAnswer};
+ghost use Rattle.store_scripts.specs.Answers.{answered, file_answered, CallsStore};
+ghost use Rattle.store_scripts.specs.InOrder.{FilesAnswer, StoresAnswer};
 ghost use Rattle.store_scripts.specs.Kept.{BeginsWell, IsToldOf, ToldByMap, ToldInOrder};
-ghost use Rattle.store_scripts.specs.Stores.{image_hash, image_tree};
-ghost use Rattle.store_scripts.specs.Told.{answered, no_notes, noted, notes_after, CallsStore, CommitsKeep, IsEndedAs, Notes};
+ghost use Rattle.store_scripts.specs.Stores.{image_files, image_hash, image_tree, the_files, the_tree};
+ghost use Rattle.store_scripts.specs.Told.{no_notes, noted, told_after, CommitsKeep, IsEndedAs, Notes};
 
 /// Where the transactions that commit in a script keep to the stores, the history after it is one by calls of the stores (`by_calls`).
 /// The calls of a transaction that commits, as its lines and their replies tell them, answer as one thread's calls on the map directly
@@ -31,47 +34,80 @@ ghost use Rattle.store_scripts.specs.Told.{answered, no_notes, noted, notes_afte
 /// members are ended in order (`grouped`). Those of a live transaction answer so by the map at its begin
 /// (`live`), where it keeps to the stores; and where it writes nothing, each of them by that map alone, whatever it marks (`read_only`).
 pub fn store_calls_of_a_script_answer_in_order()
-    ensures by_calls { (W : World) (lines : List (ℕ × Line)) → BeginsWell W → AreLines lines → CommitsKeep W no_notes lines → let V = after W lines in
+    ensures by_calls { (W : World) (lines : List (ℕ × Line)) → BeginsWell the_tree W → AreLines lines → CommitsKeep the_tree W (no_notes the_tree) lines → let V = after W lines in
         IsByBoth (image_hash V.geometry) (image_tree V.geometry) V.geometry V.history (last W.history) }
-    ensures commits { (W : World) (before later : List (ℕ × Line)) (line : ℕ × Line) (k : ℕ) (t : Live) → let lines = before ++ line ∷ later in BeginsWell W → AreLines lines → CommitsKeep W no_notes lines
+    ensures commits { (W : World) (before later : List (ℕ × Line)) (line : ℕ × Line) (k : ℕ) (t : Live) → let lines = before ++ line ∷ later in BeginsWell the_tree W → AreLines lines → CommitsKeep the_tree W (no_notes the_tree) lines
         → let V = after W before in let H = (after W lines).history in line.1.op ≡ End → attached V line.1.client ≡ Some t → (step V line.1.client End).0 ≡ Committed k
-        → ToldInOrder V.geometry (notes_after W no_notes before t.number) (array_at H (k - 1)) (array_at H k) }
-    ensures grouped { (W : World) (before later : List (ℕ × Line)) (line : ℕ × Line) (k : ℕ) (t : Live) → let lines = before ++ line ∷ later in BeginsWell W → AreLines lines → CommitsKeep W no_notes lines
+        → ToldInOrder the_tree V.geometry (told_after the_tree W before t.number) (array_at H (k - 1)) (array_at H k) }
+    ensures grouped { (W : World) (before later : List (ℕ × Line)) (line : ℕ × Line) (k : ℕ) (t : Live) → let lines = before ++ line ∷ later in BeginsWell the_tree W → AreLines lines → CommitsKeep the_tree W (no_notes the_tree) lines
         → let V = after W before in let H = (after W lines).history in IsEndedAs V line.1.op t k
-        → ToldInOrder V.geometry (notes_after W no_notes before t.number) (array_at H (k - 1)) (array_at H k) }
-    ensures live { (W : World) (lines : List (ℕ × Line)) (client : ℕ) (t : Live) → BeginsWell W → AreLines lines → CommitsKeep W no_notes lines → let V = after W lines in
-        attached V client ≡ Some t → IsTrue (notes_after W no_notes lines t.number).kept
-        → ToldInOrder V.geometry (notes_after W no_notes lines t.number) (array_at V.history t.begin) (array_of V t) }
-    ensures read_only { (W : World) (lines : List (ℕ × Line)) (client : ℕ) (t : Live) → BeginsWell W → AreLines lines → CommitsKeep W no_notes lines → let V = after W lines in
+        → ToldInOrder the_tree V.geometry (told_after the_tree W before t.number) (array_at H (k - 1)) (array_at H k) }
+    ensures live { (W : World) (lines : List (ℕ × Line)) (client : ℕ) (t : Live) → BeginsWell the_tree W → AreLines lines → CommitsKeep the_tree W (no_notes the_tree) lines → let V = after W lines in
+        attached V client ≡ Some t → IsTrue (told_after the_tree W lines t.number).kept
+        → ToldInOrder the_tree V.geometry (told_after the_tree W lines t.number) (array_at V.history t.begin) (array_of V t) }
+    ensures read_only { (W : World) (lines : List (ℕ × Line)) (client : ℕ) (t : Live) → BeginsWell the_tree W → AreLines lines → CommitsKeep the_tree W (no_notes the_tree) lines → let V = after W lines in
         attached V client ≡ Some t → IsFalse (has_write t.accesses)
-        → ToldByMap V.geometry (notes_after W no_notes lines t.number) (array_at V.history t.begin) }
+        → ToldByMap the_tree V.geometry (told_after the_tree W lines t.number) (array_at V.history t.begin) }
+{}
+
+/// The same of the files of an image, beside its hash store: where the transactions that commit write the regions of the tree store and
+/// of the files by calls on files that answered Ok alone, these calls answer as one thread's calls on a map from names to bytes. A
+/// call of the tree store that writes does not keep to the files, whose names are in the tree store; one that reads does.
+pub fn file_calls_of_a_script_answer_in_order()
+    ensures by_calls { (W : World) (lines : List (ℕ × Line)) → BeginsWell the_files W → AreLines lines → CommitsKeep the_files W (no_notes the_files) lines → let V = after W lines in
+        IsByBoth (image_hash V.geometry) (image_files V.geometry) V.geometry V.history (last W.history) }
+    ensures commits { (W : World) (before later : List (ℕ × Line)) (line : ℕ × Line) (k : ℕ) (t : Live) → let lines = before ++ line ∷ later in BeginsWell the_files W → AreLines lines → CommitsKeep the_files W (no_notes the_files) lines
+        → let V = after W before in let H = (after W lines).history in line.1.op ≡ End → attached V line.1.client ≡ Some t → (step V line.1.client End).0 ≡ Committed k
+        → ToldInOrder the_files V.geometry (told_after the_files W before t.number) (array_at H (k - 1)) (array_at H k) }
+    ensures grouped { (W : World) (before later : List (ℕ × Line)) (line : ℕ × Line) (k : ℕ) (t : Live) → let lines = before ++ line ∷ later in BeginsWell the_files W → AreLines lines → CommitsKeep the_files W (no_notes the_files) lines
+        → let V = after W before in let H = (after W lines).history in IsEndedAs V line.1.op t k
+        → ToldInOrder the_files V.geometry (told_after the_files W before t.number) (array_at H (k - 1)) (array_at H k) }
+    ensures live { (W : World) (lines : List (ℕ × Line)) (client : ℕ) (t : Live) → BeginsWell the_files W → AreLines lines → CommitsKeep the_files W (no_notes the_files) lines → let V = after W lines in
+        attached V client ≡ Some t → IsTrue (told_after the_files W lines t.number).kept
+        → ToldInOrder the_files V.geometry (told_after the_files W lines t.number) (array_at V.history t.begin) (array_of V t) }
+    ensures read_only { (W : World) (lines : List (ℕ × Line)) (client : ℕ) (t : Live) → BeginsWell the_files W → AreLines lines → CommitsKeep the_files W (no_notes the_files) lines → let V = after W lines in
+        attached V client ≡ Some t → IsFalse (has_write t.accesses)
+        → ToldByMap the_files V.geometry (told_after the_files W lines t.number) (array_at V.history t.begin) }
 {}
 
 /// All of this as one word, as the program's call says it.
 pub fn stores_of_a_script_answer()
-    ensures { (W : World) (lines : List (ℕ × Line)) → AreLines lines → StoresAnswer W lines }
+    ensures stores { (W : World) (lines : List (ℕ × Line)) → AreLines lines → StoresAnswer W lines }
+    ensures files { (W : World) (lines : List (ℕ × Line)) → AreLines lines → FilesAnswer W lines }
 {}
 
 /// The accesses of a live transaction that keeps to the stores are those of the calls that its lines tell, each made on what the
 /// transaction was shown and local for its store, and others that write neither region, whatever other transactions do.
 pub fn told_calls_are_parts()
-    ensures { (W : World) (lines : List (ℕ × Line)) (client : ℕ) (t : Live) → IsWorld W → W.live ≡ [] → AreLines lines → let V = after W lines in
-        attached V client ≡ Some t → IsTrue (notes_after W no_notes lines t.number).kept
-        → IsToldOf V.geometry (array_at V.history t.begin) t.accesses t.mode (notes_after W no_notes lines t.number) }
+    ensures stores { (W : World) (lines : List (ℕ × Line)) (client : ℕ) (t : Live) → IsWorld W → W.live ≡ [] → AreLines lines → let V = after W lines in
+        attached V client ≡ Some t → IsTrue (told_after the_tree W lines t.number).kept
+        → IsToldOf the_tree V.geometry (array_at V.history t.begin) t.accesses t.mode (told_after the_tree W lines t.number) }
+    ensures files { (W : World) (lines : List (ℕ × Line)) (client : ℕ) (t : Live) → IsWorld W → W.live ≡ [] → AreLines lines → let V = after W lines in
+        attached V client ≡ Some t → IsTrue (told_after the_files W lines t.number).kept
+        → IsToldOf the_files V.geometry (array_at V.history t.begin) t.accesses t.mode (told_after the_files W lines t.number) }
 {}
 
-/// A call of a store that is refused writes nothing: its transaction keeps to the stores where it did before.
+/// A call of the hash store or the tree store that is refused writes nothing: its transaction keeps to the stores, and to the files, where
+/// it did before. So does one whose read of a file is refused; each other refused call on files may have written, and what it wrote is
+/// tested.
 pub fn refused_store_calls_keep_to_the_stores()
-    ensures { (W : World) (notes : Notes) (client number : ℕ) (op : Op) → IsWorld W → CallsStore op → answered op (step W client op).0 ≡ None
-        → (noted W notes client op number).kept ≡ (notes number).kept }
+    ensures stores { (W : World) (notes : Notes the_tree) (client number : ℕ) (op : Op) → IsWorld W → CallsStore op → answered op (step W client op).0 ≡ None
+        → (noted the_tree W notes client op number).kept ≡ (notes number).kept }
+    ensures files { (W : World) (notes : Notes the_files) (client number : ℕ) (op : Op) → IsWorld W → CallsStore op → answered op (step W client op).0 ≡ None
+        → (noted the_files W notes client op number).kept ≡ (notes number).kept }
+    ensures reads { (W : World) (notes : Notes the_files) (client number : ℕ) (name : List ℕ) (off len : ℕ) → let op = FileRead name off len in IsWorld W
+        → file_answered op (step W client op).0 ≡ None → (noted the_files W notes client op number).kept ≡ (notes number).kept }
 {}
 
-/// The stores of an image are the hash store and the tree store of its areas, where it has them; one that it does not have is empty.
-/// The stores of a new image are well formed.
+/// The stores of an image are the hash store and the tree store of its areas, and the files that have the tree store for their names,
+/// where it has them; what it does not have is empty. The stores of a new image are well formed.
 pub fn stores_of_an_image_are_its_regions()
     ensures hash { (g : Geometry) (A : Array) → g.hash ≢ 0 → ((image_hash g).IsWellFormed A ↔ IsHashRegion (hash_area g) A) × ((image_hash g).map_of A ≡ hash_map (hash_area g) A) }
     ensures tree { (g : Geometry) (A : Array) → g.tree ≢ 0 → ((image_tree g).IsWellFormed A ↔ IsTreeRegion (tree_area g) A) × ((image_tree g).map_of A ≡ tree_map (tree_area g) A) }
+    ensures files { (g : Geometry) (A : Array) → file_blocks g ≢ 0 → ((image_files g).IsWellFormed A ↔ AreFileRegions (files_area g) A) × ((image_files g).map_of A ≡ files (files_area g) A) }
     ensures no_hash { (g : Geometry) (A : Array) → g.hash ≡ 0 → (image_hash g).map_of A ≡ empty }
     ensures no_tree { (g : Geometry) (A : Array) → g.tree ≡ 0 → (image_tree g).map_of A ≡ empty }
-    ensures made { (g : Geometry) (generation : ℕ) → IsTrue (is_valid g) → generation ≤ LAST → BeginsWell (fresh g generation (empty_history g)) }
+    ensures no_files { (g : Geometry) (A : Array) → file_blocks g ≡ 0 → (image_files g).map_of A ≡ empty }
+    ensures made { (g : Geometry) (generation : ℕ) → IsTrue (is_valid g) → generation ≤ LAST → BeginsWell the_tree (fresh g generation (empty_history g)) }
+    ensures made_files { (g : Geometry) (generation : ℕ) → IsTrue (is_valid g) → generation ≤ LAST → BeginsWell the_files (fresh g generation (empty_history g)) }
 {}

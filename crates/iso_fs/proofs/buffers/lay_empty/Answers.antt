@@ -1,4 +1,4 @@
-use Rattle.std.proofs.Common.{◌∙◌, ap, ℕ, List, set}
+use Rattle.iso_fs.proofs.Words.{◌∙◌, ap, ℕ, List, set}
 use Rattle.iso_fs.proofs.NewFile.{laid_empty}
 use Rattle.iso_fs.proofs.buffers.lay_empty.Goals as goal
 

@@ -1,7 +1,4 @@
-use Rattle.std.proofs.Common.{◌≡◌, ◌∙◌, sym, ap, true, false, arith}
-use Rattle.std.proofs.lemmas.Grind.{common_steps}
-use Rattle.iso_alloc.proofs.Loops.{all_fails, all_goes_on}
-use Rattle.store_model.specs.FileNodes.{are_entries, entry_at, is_handed}
+use Rattle.iso_fs.proofs.Words.{◌≡◌, ◌∙◌, sym, ap, true, false, arith, common_steps, all_fails, all_goes_on, are_entries, entry_at, is_handed}
 use Rattle.iso_fs.proofs.file.are_entries.Goals as goal
 
 pub returns-then-not-is_handed : goal.returns-then-not-is_handed

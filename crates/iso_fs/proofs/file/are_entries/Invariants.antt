@@ -1,6 +1,4 @@
-use Rattle.std.proofs.Common.{◌≡◌, ◌-◌}
-use Rattle.store_model.specs.Cells.{all_from}
-use Rattle.store_model.specs.FileNodes.{are_entries, entry_at, is_handed}
+use Rattle.iso_fs.proofs.Words.{◌≡◌, ◌-◌, all_from, are_entries, entry_at, is_handed}
 use Rattle.iso_fs.proofs.file.are_entries.Given as goal
 
 -- the numbers that are left decide

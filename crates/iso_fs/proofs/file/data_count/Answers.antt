@@ -1,5 +1,4 @@
-use Rattle.std.proofs.Common.{sym, subst, ◌≤◌, ℕ}
-use Rattle.store_model.specs.FileNodes.{most_bytes}
+use Rattle.iso_fs.proofs.Words.{sym, subst, ◌≤◌, ℕ, most_bytes}
 use Rattle.iso_fs.proofs.Files.{count_fits}
 use Rattle.iso_fs.proofs.file.data_count.Goals as goal
 

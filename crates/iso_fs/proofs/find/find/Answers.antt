@@ -1,8 +1,5 @@
-use Rattle.std.proofs.Common.{◌∙◌, arith}
+use Rattle.iso_fs.proofs.Words.{◌∙◌, arith, read_join, read_blocks, read_size, found_as}
 use Rattle.store_model.specs.declared.files.FsError.TheVariants as fs
-use Rattle.tx_blocks.proofs.Parts.{read_join}
-use Rattle.tx_blocks.proofs.Refusals.{read_blocks, read_size}
-use Rattle.iso_fs.specs.Finds.{found_as}
 use Rattle.iso_fs.proofs.Ended.{behaves_after, refused_so}
 use Rattle.iso_fs.proofs.Finding.{find_refused, find_run}
 use Rattle.iso_fs.proofs.find.find.Goals as goal

@@ -1,5 +1,4 @@
-use Rattle.std.proofs.Common.{◌∙◌, sym, refl, arith}
-use Rattle.tx_blocks.proofs.Refusals.{read_more, read_none, read_same}
+use Rattle.iso_fs.proofs.Words.{◌∙◌, sym, refl, arith, read_more, read_none, read_same}
 use Rattle.iso_fs.proofs.Ended.{done_so, refused_access, refused_so}
 use Rattle.iso_fs.proofs.Finding.{file_broken, file_found, file_refused}
 use Rattle.iso_fs.proofs.find.look_file.Goals as goal

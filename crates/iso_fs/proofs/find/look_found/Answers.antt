@@ -1,8 +1,4 @@
-use Rattle.std.proofs.Common.{refl, sym, subst, ℕ, List, Option, Ok, None}
-use Rattle.store_model.specs.FileCalls.{at_file}
-use Rattle.tx_blocks.proofs.Refusals.{later_same, read_none}
-use Rattle.iso_fs.specs.Ends.{HasRun}
-use Rattle.iso_fs.specs.Finds.{found_file}
+use Rattle.iso_fs.proofs.Words.{refl, sym, subst, ℕ, List, Option, Ok, None, at_file, later_same, read_none, HasRun, found_file}
 use Rattle.iso_fs.proofs.Ended.{done_so}
 use Rattle.iso_fs.proofs.Finding.{none_found}
 use Rattle.iso_fs.proofs.find.look_found.Goals as goal

@@ -1,6 +1,4 @@
-use Rattle.std.proofs.Common.{refl}
-use Rattle.tx_blocks.proofs.Refusals.{later_same, read_none}
-use Rattle.iso_fs.specs.Finds.{found_as}
+use Rattle.iso_fs.proofs.Words.{refl, later_same, read_none, found_as}
 use Rattle.iso_fs.proofs.Ended.{refused_so}
 use Rattle.iso_fs.proofs.Finding.{value_bad, value_named}
 use Rattle.iso_fs.proofs.find.look_value.Goals as goal

@@ -1,4 +1,4 @@
-use Rattle.std.proofs.Common.{◌-◌}
+use Rattle.iso_fs.proofs.Words.{◌-◌}
 use Rattle.iso_fs.proofs.left.+places.Given as goal
 
 abbrev pub decreases-places : goal.decreases-places

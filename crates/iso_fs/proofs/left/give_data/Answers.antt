@@ -1,7 +1,4 @@
-use Rattle.std.proofs.Common.{◌≡◌, ◌∙◌, sym, ap, arith, ℕ, List, ◌+◌}
-use Rattle.store_model.specs.declared.stores.Region.{Region}
-use Rattle.store_model.specs.FileCalls.{without_bits}
-use Rattle.store_model.specs.FreeMap.{without_bit}
+use Rattle.iso_fs.proofs.Words.{◌≡◌, ◌∙◌, sym, ap, arith, ℕ, List, ◌+◌, Region, without_bits, without_bit}
 use Rattle.iso_fs.proofs.Files.{entry_handed, file_parts}
 use Rattle.iso_fs.proofs.RemoveSteps.{data_fits, entries_from, entries_step}
 use Rattle.iso_fs.proofs.left.give_data.Goals as goal

@@ -1,6 +1,4 @@
-use Rattle.std.proofs.Common.{◌≡◌, length}
-use Rattle.store_model.specs.FileCalls.{without_bits}
-use Rattle.store_model.specs.FileNodes.{entries_of}
+use Rattle.iso_fs.proofs.Words.{◌≡◌, length, without_bits, entries_of}
 use Rattle.iso_fs.proofs.RemoveSteps.{entries_from}
 use Rattle.iso_fs.proofs.left.give_data.Given as goal
 

@@ -1,7 +1,4 @@
-use Rattle.std.proofs.Common.{◌≡◌, ◌∙◌, subst, arith, [], ◌∷◌}
-use Rattle.std.specs.Prelude.{OnOk}
-use Rattle.iso_model.specs.declared.access.Access.{Access}
-use Rattle.tx_blocks.specs.Tx.{with_accesses}
+use Rattle.iso_fs.proofs.Words.{◌≡◌, ◌∙◌, subst, arith, [], ◌∷◌, OnOk, Access, with_accesses}
 use Rattle.iso_fs.proofs.Files.{file_parts}
 use Rattle.iso_fs.proofs.RemoveSteps.{code_places, left_access}
 use Rattle.iso_fs.proofs.left.store_left.Goals as goal

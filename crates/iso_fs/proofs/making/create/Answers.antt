@@ -1,7 +1,4 @@
-use Rattle.std.proofs.Common.{◌∙◌, sym, subst}
-use Rattle.store_model.specs.declared.files.FileAreas.{FileAreas}
-use Rattle.store_model.specs.FileCalls.{create_program}
-use Rattle.iso_fs.specs.Ends.{HasRun, areas_of}
+use Rattle.iso_fs.proofs.Words.{◌∙◌, sym, subst, FileAreas, create_program, HasRun, areas_of}
 use Rattle.iso_fs.proofs.Ended.{no_memory}
 use Rattle.iso_fs.proofs.Existing.{create_exists}
 use Rattle.iso_fs.proofs.CreateSteps.{bad_name, create_call, create_has}

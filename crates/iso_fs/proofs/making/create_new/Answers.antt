@@ -1,11 +1,5 @@
-use Rattle.std.proofs.Common.{◌≡◌, ◌∙◌, ◌-◌, ap, refl, ℕ, [], ◌∷◌, arith}
-use Rattle.iso_model.specs.declared.access.Span.{Span}
+use Rattle.iso_fs.proofs.Words.{◌≡◌, ◌∙◌, ◌-◌, ap, refl, ℕ, [], ◌∷◌, arith, Span, Region, lowest_free, map_mark, look_access, with_accesses, read_more, read_none}
 use Rattle.store_model.specs.declared.stores.StoreError.TheVariants as store
-use Rattle.store_model.specs.declared.stores.Region.{Region}
-use Rattle.store_model.specs.FreeMap.{lowest_free, map_mark}
-use Rattle.store_model.specs.Stores.{look_access}
-use Rattle.tx_blocks.specs.Tx.{with_accesses}
-use Rattle.tx_blocks.proofs.Refusals.{read_more, read_none}
 use Rattle.store_model.specs.declared.files.FsError.TheVariants as fs
 use Rattle.iso_fs.proofs.CreateSteps.{look_refused, none_free, one_free}
 use Rattle.iso_fs.proofs.Ended.{behaves_after, refused_access, refused_so}

@@ -1,5 +1,4 @@
-use Rattle.std.proofs.Common.{◌∙◌, arith}
-use Rattle.tx_blocks.proofs.Refusals.{read_blocks, read_size, store_cause}
+use Rattle.iso_fs.proofs.Words.{◌∙◌, arith, read_blocks, read_size, store_cause}
 use Rattle.store_model.specs.declared.files.FsError.TheVariants as fs
 use Rattle.iso_fs.proofs.CreateSteps.{got_refused, got_run}
 use Rattle.iso_fs.proofs.Ended.{behaves_after, refused_so}

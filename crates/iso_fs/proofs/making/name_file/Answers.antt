@@ -1,5 +1,4 @@
-use Rattle.std.proofs.Common.{◌∙◌, ap, arith}
-use Rattle.tx_blocks.specs.Tx.{Tx}
+use Rattle.iso_fs.proofs.Words.{◌∙◌, ap, arith, Tx}
 use Rattle.iso_fs.proofs.CreateSteps.{named_refused, named_run}
 use Rattle.iso_fs.proofs.Ended.{behaves_written, refused_tree}
 use Rattle.iso_fs.proofs.making.name_file.Goals as goal

@@ -1,8 +1,4 @@
-use Rattle.std.proofs.Common.{◌≡◌, ◌∙◌, ap, subst, ◌+◌, ℕ, List, [], ◌∷◌}
-use Rattle.std.specs.Prelude.{OnOk}
-use Rattle.store_model.specs.Stores.{store_access}
-use Rattle.tx_blocks.specs.Tx.{with_accesses}
-use Rattle.store_model.specs.FileNodes.{file_block}
+use Rattle.iso_fs.proofs.Words.{◌≡◌, ◌∙◌, ap, subst, ◌+◌, ℕ, List, [], ◌∷◌, OnOk, store_access, with_accesses, file_block}
 use Rattle.iso_fs.proofs.making.store_empty.Goals as goal
 
 pub returns-clause-stored : goal.returns-clause-stored

@@ -1,6 +1,4 @@
-use Rattle.std.proofs.Common.{◌∙◌, ap, arith}
-use Rattle.tx_blocks.specs.Tx.{Device}
-use Rattle.tx_blocks.proofs.Refusals.{later_same}
+use Rattle.iso_fs.proofs.Words.{◌∙◌, ap, arith, Device, later_same}
 use Rattle.iso_fs.proofs.CreateSteps.{both_done, first_refused, second_refused}
 use Rattle.iso_fs.proofs.Ended.{done_so, refused_store}
 use Rattle.iso_fs.proofs.making.store_file.Goals as goal

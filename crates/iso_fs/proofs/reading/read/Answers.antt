@@ -1,8 +1,4 @@
-use Rattle.std.proofs.Common.{◌∙◌, sym, ap, ℕ, List, Ok}
-use Rattle.std.specs.Prelude.{option_map, take}
-use Rattle.std.proofs.lemmas.List.{with_items_is}
-use Rattle.store_model.specs.FileCalls.{read_program}
-use Rattle.iso_fs.specs.Ends.{areas_of}
+use Rattle.iso_fs.proofs.Words.{◌∙◌, sym, ap, ℕ, List, Ok, option_map, take, with_items_is, read_program, areas_of}
 use Rattle.iso_fs.proofs.Ended.{no_memory}
 use Rattle.iso_fs.proofs.ReadSteps.{read_answer, read_bad_name, read_bad_range, read_call, read_has}
 use Rattle.iso_fs.proofs.reading.read.Goals as goal

@@ -1,8 +1,4 @@
-use Rattle.std.proofs.Common.{refl, sym, subst, ℕ, Option, Ok, None}
-use Rattle.store_model.specs.FileCalls.{read_from}
-use Rattle.tx_blocks.proofs.Refusals.{later_same, read_none}
-use Rattle.iso_fs.specs.Ends.{HasRun}
-use Rattle.iso_fs.specs.Finds.{found_as, got_as, on_found}
+use Rattle.iso_fs.proofs.Words.{refl, sym, subst, ℕ, Option, Ok, None, read_from, later_same, read_none, HasRun, found_as, got_as, on_found}
 use Rattle.iso_fs.proofs.Ended.{done_so}
 use Rattle.iso_fs.proofs.Finding.{goes_none}
 use Rattle.iso_fs.proofs.reading.read_found.Goals as goal

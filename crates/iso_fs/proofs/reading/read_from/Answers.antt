@@ -1,7 +1,4 @@
-use Rattle.std.proofs.Common.{◌∙◌, ap, refl, arith, ℕ, ◌+◌, ◌-◌, cond}
-use Rattle.std.specs.Prelude.{nat_lt}
-use Rattle.tx_blocks.proofs.Refusals.{later_same, read_none}
-use Rattle.iso_fs.specs.Finds.{got_as}
+use Rattle.iso_fs.proofs.Words.{◌∙◌, ap, refl, arith, ℕ, ◌+◌, ◌-◌, cond, nat_lt, later_same, read_none, got_as}
 use Rattle.iso_fs.proofs.Ended.{refused_so}
 use Rattle.iso_fs.proofs.ReadSteps.{range_bad, range_run}
 use Rattle.iso_fs.proofs.reading.read_from.Goals as goal

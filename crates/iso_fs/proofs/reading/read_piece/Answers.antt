@@ -1,6 +1,4 @@
-use Rattle.std.proofs.Common.{◌∙◌, ◌+◌, refl, sym, arith}
-use Rattle.tx_blocks.proofs.Refusals.{read_more, read_none, read_same}
-use Rattle.std.specs.Prelude.{take}
+use Rattle.iso_fs.proofs.Words.{◌∙◌, ◌+◌, refl, sym, arith, read_more, read_none, read_same, take}
 use Rattle.iso_fs.proofs.ReadSteps.{code_piece, more_read, piece_refused}
 use Rattle.iso_fs.proofs.Ended.{done_so, refused_access}
 use Rattle.iso_fs.proofs.reading.read_piece.Goals as goal

@@ -1,8 +1,4 @@
-use Rattle.std.proofs.Common.{◌≡◌, ◌∙◌, refl, sym, subst, arith, ℕ, ◌+◌, ◌-◌, [], Err}
-use Rattle.std.specs.Prelude.{take}
-use Rattle.tx_blocks.proofs.Parts.{read_join}
-use Rattle.tx_blocks.proofs.Refusals.{later_same, later_than, read_blocks, read_none, read_size}
-use Rattle.store_model.specs.FileCalls.{read_pieces}
+use Rattle.iso_fs.proofs.Words.{◌≡◌, ◌∙◌, refl, sym, subst, arith, ℕ, ◌+◌, ◌-◌, [], Err, take, read_join, later_same, later_than, read_blocks, read_none, read_size, read_pieces}
 use Rattle.iso_fs.proofs.Lefts.{HasLeft, piece_less, piece_stops}
 use Rattle.iso_fs.proofs.ReadSteps.{all_done, left_first}
 use Rattle.iso_fs.proofs.Ended.{behaves_after, done_so}

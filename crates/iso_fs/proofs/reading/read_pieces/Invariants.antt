@@ -1,8 +1,4 @@
-use Rattle.std.proofs.Common.{◌≡◌, ◌-◌, ◌≤◌, []}
-use Rattle.std.specs.Prelude.{take}
-use Rattle.tx_blocks.specs.Tx.{IsLater}
-use Rattle.tx_blocks.specs.Runs.{HasRead}
-use Rattle.store_model.specs.FileCalls.{read_pieces}
+use Rattle.iso_fs.proofs.Words.{◌≡◌, ◌-◌, ◌≤◌, [], take, IsLater, HasRead, read_pieces}
 use Rattle.iso_fs.proofs.Lefts.{HasLeft}
 use Rattle.iso_fs.proofs.reading.read_pieces.Given as goal
 

@@ -1,8 +1,4 @@
-use Rattle.std.proofs.Common.{◌∙◌, arith, None, Err}
-use Rattle.store_model.specs.FileCalls.{read_from}
-use Rattle.tx_blocks.proofs.Parts.{read_join}
-use Rattle.tx_blocks.proofs.Refusals.{read_blocks, read_size}
-use Rattle.iso_fs.specs.Finds.{got_as}
+use Rattle.iso_fs.proofs.Words.{◌∙◌, arith, None, Err, read_from, read_join, read_blocks, read_size, got_as}
 use Rattle.iso_fs.proofs.Ended.{behaves_after}
 use Rattle.iso_fs.proofs.Finding.{goes, goes_refused}
 use Rattle.iso_fs.proofs.ReadSteps.{read_run}

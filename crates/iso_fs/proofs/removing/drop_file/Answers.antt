@@ -1,8 +1,5 @@
-use Rattle.std.proofs.Common.{◌∙◌, ap, arith}
+use Rattle.iso_fs.proofs.Words.{◌∙◌, ap, arith, map_mark, bytes_in, Tx}
 use Rattle.store_model.specs.declared.files.FsError.TheVariants as fs
-use Rattle.store_model.specs.FreeMap.{map_mark}
-use Rattle.store_model.specs.Stores.{bytes_in}
-use Rattle.tx_blocks.specs.Tx.{Tx}
 use Rattle.iso_fs.proofs.Ended.{behaves_written, refused_so}
 use Rattle.iso_fs.proofs.RemoveSteps.{drop_refused, drop_run}
 use Rattle.iso_fs.proofs.removing.drop_file.Goals as goal

@@ -1,8 +1,4 @@
-use Rattle.std.proofs.Common.{ap, arith}
-use Rattle.store_model.specs.FreeMap.{map_mark}
-use Rattle.store_model.specs.Stores.{bytes_in}
-use Rattle.tx_blocks.specs.Tx.{Device}
-use Rattle.tx_blocks.proofs.Refusals.{later_same}
+use Rattle.iso_fs.proofs.Words.{ap, arith, map_mark, bytes_in, Device, later_same}
 use Rattle.iso_fs.proofs.Ended.{done_so, refused_store}
 use Rattle.iso_fs.proofs.RemoveSteps.{given, not_given}
 use Rattle.iso_fs.proofs.removing.give_file.Goals as goal

@@ -1,7 +1,4 @@
-use Rattle.std.proofs.Common.{◌∙◌, sym, subst}
-use Rattle.store_model.specs.declared.files.FileAreas.{FileAreas}
-use Rattle.store_model.specs.FileCalls.{remove_program}
-use Rattle.iso_fs.specs.Ends.{HasRun, areas_of}
+use Rattle.iso_fs.proofs.Words.{◌∙◌, sym, subst, FileAreas, remove_program, HasRun, areas_of}
 use Rattle.iso_fs.proofs.Ended.{no_memory}
 use Rattle.iso_fs.proofs.RemoveSteps.{remove_bad, remove_call, remove_has}
 use Rattle.iso_fs.proofs.removing.remove.Goals as goal

@@ -1,5 +1,4 @@
-use Rattle.std.proofs.Common.{◌∙◌, ap, arith}
-use Rattle.tx_blocks.specs.Tx.{Tx}
+use Rattle.iso_fs.proofs.Words.{◌∙◌, ap, arith, Tx}
 use Rattle.iso_fs.proofs.Ended.{behaves_behind, refused_tree}
 use Rattle.iso_fs.proofs.RenameSteps.{put_refused, put_run}
 use Rattle.iso_fs.proofs.renaming.move_value.Goals as goal

@@ -1,8 +1,4 @@
-use Rattle.std.proofs.Common.{◌≡◌, ◌∙◌, ◌&&◌, sym, subst, true, false}
-use Rattle.store_model.specs.declared.files.FileAreas.{FileAreas}
-use Rattle.store_model.specs.HashCalls.{is_key}
-use Rattle.store_model.specs.FileCalls.{rename_program}
-use Rattle.iso_fs.specs.Ends.{HasRun, areas_of}
+use Rattle.iso_fs.proofs.Words.{◌≡◌, ◌∙◌, ◌&&◌, sym, subst, true, false, FileAreas, is_key, rename_program, HasRun, areas_of}
 use Rattle.iso_fs.proofs.Existing.{rename_exists}
 use Rattle.iso_fs.proofs.RenameSteps.{old_bad, new_bad, rename_bad, rename_call}
 use Rattle.iso_fs.proofs.renaming.rename.Goals as goal

@@ -1,7 +1,4 @@
-use Rattle.std.proofs.Common.{refl, sym, subst, ℕ, List, Option, Ok, false}
-use Rattle.store_model.specs.FileCalls.{rename_found}
-use Rattle.tx_blocks.proofs.Refusals.{later_same}
-use Rattle.iso_fs.specs.Ends.{HasRun}
+use Rattle.iso_fs.proofs.Words.{refl, sym, subst, ℕ, List, Option, Ok, false, rename_found, later_same, HasRun}
 use Rattle.iso_fs.proofs.Ended.{done_so}
 use Rattle.iso_fs.proofs.RenameSteps.{no_file}
 use Rattle.iso_fs.proofs.renaming.rename_found.Goals as goal

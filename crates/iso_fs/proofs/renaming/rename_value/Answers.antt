@@ -1,6 +1,5 @@
-use Rattle.std.proofs.Common.{◌∙◌, arith}
+use Rattle.iso_fs.proofs.Words.{◌∙◌, arith, read_blocks, read_size, store_cause}
 use Rattle.store_model.specs.declared.files.FsError.TheVariants as fs
-use Rattle.tx_blocks.proofs.Refusals.{read_blocks, read_size, store_cause}
 use Rattle.iso_fs.proofs.Ended.{behaves_after, refused_so}
 use Rattle.iso_fs.proofs.RenameSteps.{free_refused, free_run}
 use Rattle.iso_fs.proofs.renaming.rename_value.Goals as goal

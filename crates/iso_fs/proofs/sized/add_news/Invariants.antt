@@ -1,5 +1,4 @@
-use Rattle.std.proofs.Common.{◌≡◌, ◌++◌, ℕ, List, length, take}
-use Rattle.store_model.specs.FileNodes.{file_block}
+use Rattle.iso_fs.proofs.Words.{◌≡◌, ◌++◌, ℕ, List, length, take, file_block}
 use Rattle.iso_fs.proofs.sized.add_news.Given as goal
 
 -- the first numbers are laid

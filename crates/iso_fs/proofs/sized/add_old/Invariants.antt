@@ -1,7 +1,4 @@
-use Rattle.std.proofs.Common.{◌≡◌, ℕ, length, []}
-use Rattle.std.specs.Prelude.{map}
-use Rattle.std.specs.List.{range_with_len}
-use Rattle.store_model.specs.FileNodes.{entry_at, file_block}
+use Rattle.iso_fs.proofs.Words.{◌≡◌, ℕ, length, [], map, range_with_len, entry_at, file_block}
 use Rattle.iso_fs.proofs.sized.add_old.Given as goal
 
 -- the first numbers are laid

@@ -1,8 +1,4 @@
-use Rattle.std.proofs.Common.{◌≡◌, ◌∙◌, ◌++◌, [], sym, ap, ℕ, length}
-use Rattle.std.specs.Prelude.{map}
-use Rattle.std.specs.List.{range_with_len}
-use Rattle.std.proofs.lemmas.List.FromFn.{length-map-range_with_len}
-use Rattle.store_model.specs.FileNodes.{entry_at, file_block}
+use Rattle.iso_fs.proofs.Words.{◌≡◌, ◌∙◌, ◌++◌, [], sym, ap, ℕ, length, map, range_with_len, length-map-range_with_len, entry_at, file_block}
 use Rattle.iso_fs.proofs.sized.lay_sized.Goals as goal
 
 pub returns : goal.returns

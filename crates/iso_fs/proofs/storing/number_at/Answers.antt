@@ -1,4 +1,4 @@
-use Rattle.std.proofs.Common.{◌∙◌, sym, subst, arith, ℕ, ◌<◌, ◌-◌}
+use Rattle.iso_fs.proofs.Words.{◌∙◌, sym, subst, arith, ℕ, ◌<◌, ◌-◌}
 use Rattle.iso_fs.proofs.WriteSteps.{news_below, number_new, number_old, old_below, old_fits}
 use Rattle.iso_fs.proofs.storing.number_at.Goals as goal
 

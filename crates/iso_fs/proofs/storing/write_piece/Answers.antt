@@ -1,8 +1,4 @@
-use Rattle.std.proofs.Common.{◌∙◌, ◌++◌, ap, refl, arith, take, ℕ}
-use Rattle.store_model.specs.Cells.{block_with}
-use Rattle.store_model.specs.FileNodes.{entries_of}
-use Rattle.tx_blocks.specs.Tx.{Device}
-use Rattle.tx_blocks.proofs.Refusals.{later_same}
+use Rattle.iso_fs.proofs.Words.{◌∙◌, ◌++◌, ap, refl, arith, take, ℕ, block_with, entries_of, Device, later_same}
 use Rattle.iso_fs.proofs.Ended.{done_so, refused_store}
 use Rattle.iso_fs.proofs.WriteSteps.{piece_done, piece_refused}
 use Rattle.iso_fs.proofs.storing.write_piece.Goals as goal

@@ -1,11 +1,4 @@
-use Rattle.std.proofs.Common.{◌∙◌, ◌++◌, refl, ap, subst, arith, ℕ, ◌+◌, ◌-◌, List, drop, length, Err}
-use Rattle.std.specs.Prelude.{suc}
-use Rattle.store_model.specs.FileCalls.{write_pieces}
-use Rattle.store_model.specs.FileNodes.{entries_of}
-use Rattle.tx_blocks.specs.Tx.{Tx}
-use Rattle.tx_blocks.proofs.Progress.{IsAt}
-use Rattle.tx_blocks.proofs.Refusals.{later_same, later_than}
-use Rattle.iso_fs.specs.Ends.{HasRun}
+use Rattle.iso_fs.proofs.Words.{◌∙◌, ◌++◌, refl, ap, subst, arith, ℕ, ◌+◌, ◌-◌, List, drop, length, Err, suc, write_pieces, entries_of, Tx, IsAt, later_same, later_than, HasRun}
 use Rattle.iso_fs.proofs.Ended.{behaves_written, done_so}
 use Rattle.iso_fs.proofs.Lefts.{piece_less, piece_stops}
 use Rattle.iso_fs.proofs.WriteSteps.{all_written, left_whole, rest_is, rest_more}

@@ -1,7 +1,4 @@
-use Rattle.std.proofs.Common.{◌≡◌, ◌-◌, ◌≤◌, ◌++◌, drop, length}
-use Rattle.tx_blocks.specs.Tx.{IsLater}
-use Rattle.store_model.specs.FileCalls.{write_pieces}
-use Rattle.store_model.specs.FileNodes.{entries_of}
+use Rattle.iso_fs.proofs.Words.{◌≡◌, ◌-◌, ◌≤◌, ◌++◌, drop, length, IsLater, write_pieces, entries_of}
 use Rattle.iso_fs.proofs.Lefts.{HasLeft}
 use Rattle.iso_fs.proofs.storing.write_pieces.Given as goal
 

@@ -1,7 +1,4 @@
-use Rattle.std.proofs.Common.{◌∙◌, sym, subst}
-use Rattle.store_model.specs.declared.files.FileAreas.{FileAreas}
-use Rattle.store_model.specs.FileCalls.{write_program}
-use Rattle.iso_fs.specs.Ends.{HasRun, areas_of}
+use Rattle.iso_fs.proofs.Words.{◌∙◌, sym, subst, FileAreas, write_program, HasRun, areas_of}
 use Rattle.iso_fs.proofs.Ended.{no_memory}
 use Rattle.iso_fs.proofs.WriteSteps.{write_bad_name, write_bad_range, write_call, write_has}
 use Rattle.iso_fs.proofs.writing.write.Goals as goal

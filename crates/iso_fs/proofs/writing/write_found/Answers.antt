@@ -1,8 +1,4 @@
-use Rattle.std.proofs.Common.{refl, sym, subst, ℕ, Option, Ok, false}
-use Rattle.store_model.specs.FileCalls.{write_to}
-use Rattle.tx_blocks.proofs.Refusals.{later_same}
-use Rattle.iso_fs.specs.Ends.{HasRun}
-use Rattle.iso_fs.specs.Finds.{found_as, on_found}
+use Rattle.iso_fs.proofs.Words.{refl, sym, subst, ℕ, Option, Ok, false, write_to, later_same, HasRun, found_as, on_found}
 use Rattle.iso_fs.proofs.Ended.{done_so}
 use Rattle.iso_fs.proofs.Finding.{goes_none}
 use Rattle.iso_fs.proofs.writing.write_found.Goals as goal

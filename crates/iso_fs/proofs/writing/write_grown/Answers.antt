@@ -1,7 +1,4 @@
-use Rattle.std.proofs.Common.{◌∙◌, ◌+◌, ◌++◌, ap, subst, arith, ℕ, length}
-use Rattle.store_model.specs.FileCalls.{write_pieces}
-use Rattle.store_model.specs.FileNodes.{entries_of}
-use Rattle.iso_fs.specs.Ends.{HasRun}
+use Rattle.iso_fs.proofs.Words.{◌∙◌, ◌+◌, ◌++◌, ap, subst, arith, ℕ, length, write_pieces, entries_of, HasRun}
 use Rattle.iso_fs.proofs.WriteSteps.{covered_by, sized_refused, sized_run}
 use Rattle.iso_fs.proofs.writing.write_grown.Goals as goal
 

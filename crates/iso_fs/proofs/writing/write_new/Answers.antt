@@ -1,10 +1,4 @@
-use Rattle.std.proofs.Common.{◌≡◌, ◌∙◌, ap, refl, arith, [], ◌∷◌}
-use Rattle.iso_model.specs.declared.access.Span.{Span}
-use Rattle.store_model.specs.FreeMap.{map_mark}
-use Rattle.store_model.specs.FileCalls.{write_sized}
-use Rattle.store_model.specs.Stores.{look_access}
-use Rattle.tx_blocks.specs.Tx.{with_accesses}
-use Rattle.tx_blocks.proofs.Refusals.{read_more, read_none}
+use Rattle.iso_fs.proofs.Words.{◌≡◌, ◌∙◌, ap, refl, arith, [], ◌∷◌, Span, map_mark, write_sized, look_access, with_accesses, read_more, read_none}
 use Rattle.iso_fs.proofs.Ended.{behaves_after, refused_access}
 use Rattle.iso_fs.proofs.WriteSteps.{new_refused, new_run}
 use Rattle.iso_fs.proofs.writing.write_new.Goals as goal

@@ -1,7 +1,4 @@
-use Rattle.std.proofs.Common.{◌∙◌, ap, arith}
-use Rattle.store_model.specs.FileCalls.{write_sized}
-use Rattle.tx_blocks.specs.Tx.{Tx, Device}
-use Rattle.tx_blocks.proofs.Refusals.{later_same}
+use Rattle.iso_fs.proofs.Words.{◌∙◌, ap, arith, write_sized, Tx, Device, later_same}
 use Rattle.iso_fs.proofs.Ended.{behaves_written, refused_store}
 use Rattle.iso_fs.proofs.WriteSteps.{news_refused, news_run}
 use Rattle.iso_fs.proofs.writing.write_news.Goals as goal

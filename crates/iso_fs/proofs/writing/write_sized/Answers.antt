@@ -1,7 +1,4 @@
-use Rattle.std.proofs.Common.{◌+◌, ◌++◌, ◌≤◌, subst, arith, ℕ, length}
-use Rattle.store_model.specs.FileCalls.{write_pieces}
-use Rattle.store_model.specs.FileNodes.{bytes_of, entries_of}
-use Rattle.iso_fs.specs.Ends.{HasRun}
+use Rattle.iso_fs.proofs.Words.{◌+◌, ◌++◌, ◌≤◌, subst, arith, ℕ, length, write_pieces, bytes_of, entries_of, HasRun}
 use Rattle.iso_fs.proofs.Files.{file_parts}
 use Rattle.iso_fs.proofs.WriteSteps.{covered_old, sized_kept}
 use Rattle.iso_fs.proofs.writing.write_sized.Goals as goal

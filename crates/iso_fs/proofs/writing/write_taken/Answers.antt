@@ -1,12 +1,4 @@
-use Rattle.std.proofs.Common.{◌∙◌, ◌-◌, ◌≤◌, sym, ap, refl, subst, arith, not, take}
-use Rattle.std.specs.List.{filter, range_with_len}
-use Rattle.store_model.specs.declared.stores.Region.{Region}
-use Rattle.store_model.specs.FreeMap.{free_count, map_bit, map_mark}
-use Rattle.store_model.specs.Stores.{bytes_in}
-use Rattle.store_model.specs.FileCalls.{write_sized}
-use Rattle.iso_tree.specs.FirstBlock.{Up}
-use Rattle.iso_tree.specs.Rows.{AreBlocks}
-use Rattle.iso_tree.proofs.Enlarging.{blocks_from, used_same}
+use Rattle.iso_fs.proofs.Words.{◌∙◌, ◌-◌, ◌≤◌, sym, ap, refl, subst, arith, not, take, filter, range_with_len, Region, free_count, map_bit, map_mark, bytes_in, write_sized, Up, AreBlocks, blocks_from, used_same}
 use Rattle.iso_fs.proofs.WriteSteps.{few_run, taken_is, taken_run, taken_so}
 use Rattle.iso_fs.proofs.writing.write_taken.Goals as goal
 

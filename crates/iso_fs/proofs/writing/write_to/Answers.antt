@@ -1,5 +1,4 @@
-use Rattle.std.proofs.Common.{◌∙◌, ◌+◌, sym, arith, length, nat_le}
-use Rattle.store_model.specs.FileNodes.{bytes_of, most_bytes}
+use Rattle.iso_fs.proofs.Words.{◌∙◌, ◌+◌, sym, arith, length, nat_le, bytes_of, most_bytes}
 use Rattle.iso_fs.proofs.Files.{file_parts}
 use Rattle.iso_fs.proofs.WriteCalls.{most_is}
 use Rattle.iso_fs.proofs.WriteSteps.{off_bad, range_bad, size_bad}

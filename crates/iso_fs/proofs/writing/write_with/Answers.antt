@@ -1,6 +1,4 @@
-use Rattle.std.proofs.Common.{◌∙◌, arith, false, Err}
-use Rattle.store_model.specs.FileCalls.{write_to}
-use Rattle.tx_blocks.proofs.Refusals.{read_blocks, read_size}
+use Rattle.iso_fs.proofs.Words.{◌∙◌, arith, false, Err, write_to, read_blocks, read_size}
 use Rattle.iso_fs.proofs.Ended.{behaves_after}
 use Rattle.iso_fs.proofs.Finding.{goes, goes_refused}
 use Rattle.iso_fs.proofs.WriteSteps.{many_is, write_run}

@@ -1,5 +1,5 @@
 use Rattle.par_lines.proofs.Words.{◌≡◌, ◌∙◌, ◌<◌, arith, sym, own}
-use Rattle.par_lines.proofs.Storing.{blocks_at, has_own, no_own, region_at, some_blocks, without_mode, without_pairs, without_store, without_tx}
+use Rattle.par_lines.proofs.Storing.{blocks_at, has_own, no_own, regions_at, some_blocks, without_mode, without_pairs, without_store, without_tx}
 use Rattle.par_lines.proofs.stores.store.Goals as goal
 
 pub returns-in-None-clause-did : goal.returns-in-None-clause-did
@@ -12,8 +12,8 @@ returns-then-region-eq0-clause-did g c =
     let x = c.args.op.now in
     let region = c.store_region-region.result in
     let o = has_own (own c.args.session.now) c.in-Some.mode (sym c.mode.ensures ∙ c.in-Some.is) in
-    let area = region_at c.args.geometry.now A.world.geometry region x c.requires.geometry c.store_region-region.ensures in
-    let none : region.size ≡ 0 = omega (arith, c.if-region-eq0.true) in
+    let area = regions_at c.args.geometry.now A.world.geometry region x c.requires.geometry c.store_region-region.ensures in
+    let none : region.files.size ≡ 0 = omega (arith, c.if-region-eq0.true) in
     without_store A c.args.session.now x c.requires.op o.0 o.1 (sym (blocks_at A.world.geometry region x area) ∙ none)
 
 pub returns-in-Snapshot-clause-did : goal.returns-in-Snapshot-clause-did
@@ -22,8 +22,8 @@ returns-in-Snapshot-clause-did g c =
     let x = c.args.op.now in
     let region = c.store_region-region.result in
     let o = has_own (own c.args.session.now) c.in-Some.mode (sym c.mode.ensures ∙ c.in-Some.is) in
-    let area = region_at c.args.geometry.now A.world.geometry region x c.requires.geometry c.store_region-region.ensures in
-    let some : 0 < region.size = omega (arith, c.if-region-eq0.false) in
+    let area = regions_at c.args.geometry.now A.world.geometry region x c.requires.geometry c.store_region-region.ensures in
+    let some : 0 < region.files.size = omega (arith, c.if-region-eq0.false) in
     without_mode A c.args.session.now x c.requires.op o.0 o.1 (some_blocks A.world.geometry region x area some) (o.2 ∙ c.in-Snapshot.is)
 
 pub returns-then-is_empty_scan-clause-did : goal.returns-then-is_empty_scan-clause-did
@@ -32,6 +32,6 @@ returns-then-is_empty_scan-clause-did g c =
     let x = c.args.op.now in
     let region = c.store_region-region.result in
     let o = has_own (own c.args.session.now) c.in-Some.mode (sym c.mode.ensures ∙ c.in-Some.is) in
-    let area = region_at c.args.geometry.now A.world.geometry region x c.requires.geometry c.store_region-region.ensures in
-    let some : 0 < region.size = omega (arith, c.if-region-eq0.false) in
+    let area = regions_at c.args.geometry.now A.world.geometry region x c.requires.geometry c.store_region-region.ensures in
+    let some : 0 < region.files.size = omega (arith, c.if-region-eq0.false) in
     without_pairs A c.args.session.now x c.requires.op o.0 o.1 (some_blocks A.world.geometry region x area some) (o.2 ∙ c.in-Serial.is) (sym c.is_empty_scan.ensures ∙ c.if-is_empty_scan.true)

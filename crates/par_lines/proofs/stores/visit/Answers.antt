@@ -2,8 +2,8 @@ use Rattle.par_lines.proofs.Words.{own, Serial}
 use Rattle.par_lines.proofs.Storing.{has_own, may_call, visited}
 use Rattle.par_lines.proofs.stores.visit.Goals as goal
 
-pub call-called-requires-clause-area : goal.call-called-requires-clause-area
-call-called-requires-clause-area g c =
+pub call-called-requires-clause-areas : goal.call-called-requires-clause-areas
+call-called-requires-clause-areas g c =
     (may_call g.O.Origin.start g.V.Visit.before c.args.session.now c.args.region c.args.op.now c.blocks-blocks.result.visitor c.blocks-blocks.ensures c.requires.region c.requires.there c.requires.valid).0
 
 pub call-called-requires-clause-fits : goal.call-called-requires-clause-fits

@@ -1,6 +1,3 @@
-use Rattle.std.proofs.Common.{◌≡◌, ◌∙◌, ap, arith, replicate}
-use Rattle.iso_model.specs.Array.{zeros}
-use Rattle.iso_model.specs.Premises.{block_at}
 use Rattle.store_laws.proofs.FileBlank.{blank_files, blank_regions, made_files}
 use Rattle.store_laws.proofs.file_laws.blank_file_regions_are_empty.Goals as goal
 

@@ -1,8 +1,17 @@
-use Rattle.store_scripts.proofs.Words.{after, no_notes, notes_after}
+use Rattle.store_scripts.proofs.Words.{after, no_notes, notes_after, the_files, the_tree}
+use Rattle.store_scripts.proofs.Blocks.{files_second, tree_second}
+use Rattle.store_scripts.proofs.FileGoes.{file_goes}
 use Rattle.store_scripts.proofs.Lines.{noted_after, noted_alone}
 use Rattle.store_scripts.proofs.Order.{told_is}
+use Rattle.store_scripts.proofs.TreeGoes.{tree_goes}
 use Rattle.store_scripts.proofs.laws.told_calls_are_parts.Goals as goal
 
-pub returns : goal.returns
-returns _ = λ W lines client t is none good found kept.
-    told_is ⊥ 0 (after W lines) (notes_after W no_notes lines) (noted_after ⊥ 0 W no_notes lines (noted_alone W is none) good (λ q. absurd q)) client t found kept
+pub returns-clause-stores : goal.returns-clause-stores
+returns-clause-stores _ = λ W lines client t is none good found kept.
+    told_is the_tree tree_second ⊥ 0 (after W lines) (notes_after the_tree W (no_notes the_tree) lines)
+    (noted_after the_tree tree_second tree_goes ⊥ 0 W (no_notes the_tree) lines (noted_alone the_tree tree_second tree_goes W is none) good (λ q. absurd q)) client t found kept
+
+pub returns-clause-files : goal.returns-clause-files
+returns-clause-files _ = λ W lines client t is none good found kept.
+    told_is the_files files_second ⊥ 0 (after W lines) (notes_after the_files W (no_notes the_files) lines)
+    (noted_after the_files files_second file_goes ⊥ 0 W (no_notes the_files) lines (noted_alone the_files files_second file_goes W is none) good (λ q. absurd q)) client t found kept

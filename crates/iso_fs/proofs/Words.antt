@@ -1,0 +1,84 @@
+-- The words that the proofs of this crate cite from elsewhere.
+pub use Rattle.std.proofs.Common.{Bool, Err, IfOk, IsTrue, List, None, Ok, Option, Result, Some, [], ap, append_assoc, arith, cond, drop, eq-eqb, false, get_or, inl, inr, length, length-append, map, nat_le, ne_eqb, not, option_map, refl, replicate, set, subst, suc, sym, take, true, zero, ℕ, ◌%◌, ◌&&◌, ◌*◌, ◌++◌, ◌+◌, ◌-◌, ◌/◌, ◌<◌, ◌==◌, ◌^◌, ◌||◌, ◌↔◌, ◌∙◌, ◌∷◌, ◌≡◌, ◌≢◌, ◌≤◌, ◌⊎◌}
+pub use Rattle.std.proofs.Math.Nat.{add-mul-div_right, div-eq_of_lt, div-lt_iff_lt-mul, div-mul-le_self, mod-lt, mul-le-mul_right}
+pub use Rattle.std.proofs.Math.Seq.{take-set-lt}
+pub use Rattle.std.proofs.lemmas.Bool.{and_from, and_parts, both_ways, cases_Bool, cases_eq, cases_lt, false≢true, leb-true, ltb-true, or_left, or_right}
+pub use Rattle.std.proofs.lemmas.Bool.Decides.{nat_tests}
+pub use Rattle.std.proofs.lemmas.Grind.{common_steps, flat_map-append, take_at_read}
+pub use Rattle.std.proofs.lemmas.List.{append-nil, drop-drop, drop-replicate, drop-take, drop_at, ext_get_or, get_or-append_right, get_or-drop, get_or-set_other, get_or-set_same, get_or-take, get_or_append_left, length-drop, length-replicate, length-set, length-take, length-take-le, take-take, take_all, take_at, take_rest, with_items_is}
+pub use Rattle.std.proofs.lemmas.List.FromFn.{get_or-map-range_with_len, length-map-range_with_len, take-map-range_with_len}
+pub use Rattle.std.proofs.lemmas.Nat.{div-add-mod', div-mul-add, from_be_bytes-to_be_bytes_4, le-div, mod-mul-add}
+pub use Rattle.std.proofs.lemmas.Slice.Eq.{bytes_eq-Decides}
+pub use Rattle.std.specs.Cmp.Lexicographic.{nat_list_cmp_total, slice_cmp}
+pub use Rattle.std.specs.FinMap.{entries, get, get-entries, get-from_entries, get-insert, get-remove, insert, nat_cmp-IsAntisymmetric, remove, same_map, slice_cmp-IsAntisymmetric}
+pub use Rattle.std.specs.Int.{from_be_bytes, to_be_bytes, w32}
+pub use Rattle.std.specs.List.{AllByRecursion, filter, flat_map, list_all, range_with_len}
+pub use Rattle.std.specs.Option.{ForSome}
+pub use Rattle.std.specs.Ordering.{eq_by_cmp, nat_cmp}
+pub use Rattle.std.specs.Prelude.{IfErr, OnOk, is_some, nat_lt, slice_index}
+pub use Rattle.iso_alloc.proofs.Bits.{bits_with}
+pub use Rattle.iso_alloc.proofs.Laying.{laid_here}
+pub use Rattle.iso_alloc.proofs.Loops.{all_at, all_fails, all_goes_on}
+pub use Rattle.iso_model.proofs.Bytes.{length-block_own, length-block_put, merged_kept, other_block, put_here, written_block}
+pub use Rattle.iso_model.specs.Array.{Array, byte_at, covered, in_span, merged, put}
+pub use Rattle.iso_model.specs.Conflict.{first_from}
+pub use Rattle.iso_model.specs.Effect.{own}
+pub use Rattle.iso_model.specs.Premises.{block_at}
+pub use Rattle.iso_model.specs.declared.access.Access.{Access}
+pub use Rattle.iso_model.specs.declared.access.Span.{Span}
+pub use Rattle.iso_tree.proofs.DelCalls.{HasBlocks, del_correct, del_whole, whole_append}
+pub use Rattle.iso_tree.proofs.Enlarging.{blocks_from, free_same, taken_same, used_same}
+pub use Rattle.iso_tree.proofs.Facts.{nothing_is}
+pub use Rattle.iso_tree.proofs.Finding.{found_in, not_bytes_eq, ties}
+pub use Rattle.iso_tree.proofs.Fits.{area_block}
+pub use Rattle.iso_tree.proofs.Frames.{kept_1, laid_all, laid_whole, zeros_are}
+pub use Rattle.iso_tree.proofs.Gets.{get_answers, get_reads}
+pub use Rattle.iso_tree.proofs.Looking.{at_as}
+pub use Rattle.iso_tree.proofs.MapBits.{bits_after, length-changed}
+pub use Rattle.iso_tree.proofs.NewBlocks.{sizes_of}
+pub use Rattle.iso_tree.proofs.PutCalls.{put_correct}
+pub use Rattle.iso_tree.proofs.PutWhole.{put_whole}
+pub use Rattle.iso_tree.proofs.Reading.{cond_reads, same_ok}
+pub use Rattle.iso_tree.proofs.Removing.{blocks_in, cut_at_whole}
+pub use Rattle.iso_tree.proofs.Scanning.{then_assoc}
+pub use Rattle.iso_tree.proofs.Taking.{AreTaken, taken_are, up_apart}
+pub use Rattle.iso_tree.proofs.TreeBlocks.{map_new, region_new}
+pub use Rattle.iso_tree.proofs.TreeWrites.{del_program_stores, put_program_stores}
+pub use Rattle.iso_tree.specs.FirstBlock.{Up, first_access}
+pub use Rattle.iso_tree.specs.Rows.{AreBlocks}
+pub use Rattle.iso_tree.specs.Walks.{TakesNoBlocks}
+pub use Rattle.store_model.proofs.Laying.{length-laid_at}
+pub use Rattle.store_model.specs.Areas.{in_area}
+pub use Rattle.store_model.specs.Cells.{all_from, block_with, is_zero, laid_at}
+pub use Rattle.store_model.specs.FileCalls.{Call, at_file, bits_mark, broken, create_at, create_new, create_op, empty_writes, goes_on, high_place, in_tree, is_many, least, look_map, low_place, name_file, numbered, read_from, read_of, read_op, read_pieces, refuse, remove_file, remove_op, remove_writes, rename_found, rename_free, rename_in, rename_op, with_file, with_new, without_bits, write_in, write_op, write_pieces, write_sized, write_to, written}
+unfoldable pub use Rattle.store_model.specs.FileCalls.{create_program, read_program, remove_program, rename_program, write_program}
+pub use Rattle.store_model.specs.FileNodes.{are_entries, blocks_for, bytes_of, data_count, entries_of, entry_at, entry_count, file_block, has_zeros, is_handed, is_number, most_bytes, number_of, piece_len, piece_mark}
+unfoldable pub use Rattle.store_model.specs.FileNodes.{is_file}
+pub use Rattle.store_model.specs.FileRegion.{AreFileAreas, AreFileRegions, IsUsed, Uses, block_in, content, file_at, file_byte, number_at}
+unfoldable pub use Rattle.store_model.specs.FileRegion.{files}
+pub use Rattle.store_model.specs.FreeMap.{bit_mark, bit_place, clear_bit, free_count, lowest_free, map_bit, map_bytes, map_mark, set_bit, with_bit, without_bit}
+pub use Rattle.store_model.specs.HashCalls.{is_key, is_value}
+pub use Rattle.store_model.specs.HashRegion.{IsIn, Pairs}
+pub use Rattle.store_model.specs.Stores.{AreReads, Done, IsLocal, Look, LookWhole, Program, Store, accesses_of, answer_of, bytes_in, look_access, store_access, then_do}
+pub use Rattle.store_model.specs.TreeCalls.{changed_map, changed_mark, first_write, free_list}
+unfoldable pub use Rattle.store_model.specs.TreeCalls.{del_program, get_program, put_program}
+pub use Rattle.store_model.specs.TreeRegion.{IsTreeArea, IsTreeRegion, tree_map}
+pub use Rattle.store_model.specs.Trees.{IsApart}
+pub use Rattle.store_model.specs.declared.files.FileAreas.{FileAreas}
+pub use Rattle.store_model.specs.declared.files.FsError.{FsError}
+pub use Rattle.store_model.specs.declared.files.FsRegion.{FsRegion}
+pub use Rattle.store_model.specs.declared.stores.Area.{Area}
+pub use Rattle.store_model.specs.declared.stores.Region.{Region}
+pub use Rattle.store_model.specs.declared.stores.StoreError.{StoreError}
+pub use Rattle.store_model.specs.declared.stores.StoreError.TheVariants.{NoBlocks}
+pub use Rattle.store_model.specs.declared.stores.TxError.{TxError}
+pub use Rattle.tx_blocks.proofs.Outcomes.{outcome_whole}
+pub use Rattle.tx_blocks.proofs.Parts.{cut_from, ends_from, read_join, stopped_from}
+pub use Rattle.tx_blocks.proofs.Programs.{AreWhole, IsCorrect, accesses_then, answer_then, local_from, own_reads, reads_append, whole_reads}
+pub use Rattle.tx_blocks.proofs.Progress.{HasAccess, IsAt, at_join, at_look, at_look_whole, at_start, at_store, at_then, own_append, ran_at, stopped_at, stopped_then, whole_run}
+pub use Rattle.tx_blocks.proofs.Refusals.{cause_earlier, cause_since, cut_at_look, cut_at_store, cut_then, later_same, later_than, read_blocks, read_more, read_none, read_same, read_size, store_cause}
+pub use Rattle.tx_blocks.proofs.Storing.{kept_outside}
+pub use Rattle.tx_blocks.specs.Runs.{AreBytesOf, HasEnded, HasRead, IsCause, IsLocalCall, IsStoreCause, Passed, Ran}
+pub use Rattle.tx_blocks.specs.Tx.{Device, IsLater, IsTx, Tx, room_of, with_accesses}
+pub use Rattle.iso_fs.specs.Ends.{ExistsWhere, FsBehaves, HasAnswered, HasRun, IsFsCause, IsOfTx, IsUnwritten, areas_of, may_follow}
+pub use Rattle.iso_fs.specs.Finds.{Found, drop_name, find_program, found_as, found_file, got_as, on_found, with_dropped, with_taken}
