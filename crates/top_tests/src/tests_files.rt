@@ -42,7 +42,12 @@ fn two_clients_that_append_to_a_file_conflict(rt: HostRuntime) -> Result<(), Fai
 }
 
 /// Adds a write of so many bytes of one value, which two digits spell, to the file 61.
-fn push_write(script: &mut Vec<u8>, off: &[u8], digits: [u8; 2], count: usize) -> Result<(), AllocError> {
+fn push_write(
+    script: &mut Vec<u8>,
+    off: &[u8],
+    digits: [u8; 2],
+    count: usize,
+) -> Result<(), AllocError> {
     script.extend_from_slice(b"1 fwrite 61 ")?;
     script.extend_from_slice(off)?;
     script.push(b' ')?;
@@ -99,8 +104,7 @@ fn a_call_asks_for_at_most_4096_bytes(rt: HostRuntime) -> Result<(), Fail> {
         4097,
         b"1 fread 61 0 4096\n1 fread 61 0 4097\n1 fread 61 0 0\n1 fread 62 9 4096\n",
     )?;
-    let replies =
-        b"1 ok begin 0\n1 ok\n1 bad-range\n1 ok -\n1 bad-range\n1 bad-range\n1 ok none\n";
+    let replies = b"1 ok begin 0\n1 ok\n1 bad-range\n1 ok -\n1 bad-range\n1 bad-range\n1 ok none\n";
     assert!(rt; answers_on(alloc, FILES, &script, replies)?);
     Ok(())
 }
@@ -118,8 +122,7 @@ fn a_full_region_takes_no_block(rt: HostRuntime) -> Result<(), Fail> {
         b"1 ok begin 0\n1 ok\n1 ok\n1 no-blocks need 1 free 0\n1 no-blocks need 1 free 0\n1 ok\n1 ok fe0f\n1 ok commit 1\n";
     assert!(rt; answers_on(alloc, FILES, &script, replies)?);
     let script = behind_a_file(alloc, 2561, b"1 fread 61 0 1\n1 end\n")?;
-    let replies =
-        b"1 ok begin 0\n1 ok\n1 no-blocks need 11 free 10\n1 ok -\n1 ok commit 1\n";
+    let replies = b"1 ok begin 0\n1 ok\n1 no-blocks need 11 free 10\n1 ok -\n1 ok commit 1\n";
     assert!(rt; answers_on(alloc, FILES, &script, replies)?);
     Ok(())
 }
@@ -127,8 +130,11 @@ fn a_full_region_takes_no_block(rt: HostRuntime) -> Result<(), Fail> {
 #[test]
 fn a_file_that_is_removed_gives_its_blocks_back(rt: HostRuntime) -> Result<(), Fail> {
     let alloc = rt.alloc();
-    let mut script =
-        behind_a_file(alloc, 2560, b"1 fdel 61\n1 get 4 64 2\n1 fdel 61\n1 fnew 62\n1 fnew 61\n")?;
+    let mut script = behind_a_file(
+        alloc,
+        2560,
+        b"1 fdel 61\n1 get 4 64 2\n1 fdel 61\n1 fnew 62\n1 fnew 61\n",
+    )?;
     push_write(&mut script, b"0", [b'7', b'7'], 2304)?;
     script.extend_from_slice(b"1 fwrite 62 0 01\n1 get 4 64 2\n1 fdel 62\n1 get 4 64 2\n1 end\n")?;
     let replies =
@@ -243,7 +249,11 @@ fn a_call_without_room_leaves_its_writes(rt: HostRuntime) -> Result<(), Fail> {
 #[test]
 fn files_stand_in_the_next_run(rt: HostRuntime) -> Result<(), Fail> {
     let alloc = rt.alloc();
-    let script = behind_a_file(alloc, 300, b"1 hput 61 31\n1 end\n1 begin\n1 fdel 61\n1 abort\n")?;
+    let script = behind_a_file(
+        alloc,
+        300,
+        b"1 hput 61 31\n1 end\n1 begin\n1 fdel 61\n1 abort\n",
+    )?;
     let image = made_image(alloc, BEHIND_A_HASH_STORE, &script)?;
     let outcome = run_image(
         alloc,
