@@ -1,14 +1,11 @@
 -- From what clients were told a trace is made: their lines and entries in one order.
-use Rattle.par_calls.proofs.Words.{◌≡◌, ◌∙◌, sym, refl, ap, subst, ℕ, Bool, List, [], ◌∷◌, ◌++◌, append_assoc, append-nil, map, Option, Some, None, Ok, Err, AllByRecursion, Geometry, Line, Reply, Stop, IsOp, Entry, ClientLines, Own, StopsAtLast, Walk, last_abort}
+use Rattle.par_calls.proofs.Words.{◌≡◌, ◌∙◌, sym, refl, ap, subst, ℕ, Bool, List, [], ◌∷◌, ◌++◌, append_assoc, append-nil, map, Option, Some, None, Ok, Err, AllByRecursion, Geometry, Line, Reply, Stop, Entry, ClientLines, Own, StopsAtLast, Walk, last_abort}
 use Rattle.par_calls.specs.Trace.{Done, Event, Made, Runs, Step, client_of, entries_in, lines_in, told_in}
 use Rattle.par_calls.proofs.OwnEntries.{AreOfOwn, of_own}
-use Rattle.par_calls.proofs.Events.{AreOps, entries_joined, ops_joined}
+use Rattle.par_calls.proofs.Events.{entries_joined}
 
 abbrev pub AreMine : ℕ → List Event → Type 0
 AreMine c events = AllByRecursion (λ e. client_of e ≡ c) events
-
-abbrev AreGood : List (ℕ × Line) → Type 0
-AreGood lines = AllByRecursion (λ l. IsOp l.1.op) lines
 
 -- the entries of a client as events
 abbrev pub made_all : ℕ → List Entry → List Event
@@ -30,10 +27,6 @@ mine_made : (c : ℕ) (es : List Entry) (rest : List Event) → AreMine c rest �
 mine_made c [] rest all = all
 mine_made c (e ∷ es) rest all = (refl, mine_made c es rest all)
 
-ops_made : (c : ℕ) (es : List Entry) (rest : List Event) → AreOps rest → AreOps (made_all c es ++ rest)
-ops_made c [] rest all = all
-ops_made c (e ∷ es) rest all = ops_made c es rest all
-
 module _ (g : Geometry) (tells : Bool) (c : ℕ) where
   runs_made : (own : Option Own) (made es : List Entry) (rest : List Event) → AreOfOwn own made es → Runs g tells own (made ++ es) rest → Runs g tells own made (made_all c es ++ rest)
   runs_made own made [] rest of runs = subst (λ l. Runs g tells own l rest) (append-nil made) runs
@@ -47,21 +40,19 @@ module _ (g : Geometry) (tells : Bool) (c : ℕ) where
     pub lines_are : lines_in events ≡ lines
     pub told_are : told_in events ≡ told
     pub mine : AreMine c events
-    pub ops : AreOps events
     pub runs : (tail : List Event) → Runs g tells own' [] tail → Runs g tells own [] (events ++ tail)
 
-  walked : (own : Option Own) (lines : List (ℕ × Line)) (F : List Entry) (told : List (ℕ × Reply)) (own' : Option Own) → AreGood lines → Walk g tells own lines F told own' → OfWalk own lines F told own'
-  walked own [] F told own' good w = record {
+  walked : (own : Option Own) (lines : List (ℕ × Line)) (F : List Entry) (told : List (ℕ × Reply)) (own' : Option Own) → Walk g tells own lines F told own' → OfWalk own lines F told own'
+  walked own [] F told own' w = record {
     events = [];
     entries_are = sym w.0;
     lines_are = refl;
     told_are = sym w.1;
     mine = tt;
-    ops = tt;
     runs = λ tail runs. subst (λ o. Runs g tells o [] tail) w.2 runs;
   }
-  walked own (l ∷ lines) F told own' good (es, r, mid, G, rest, F_is, told_is, did, w) =
-      let next = walked mid lines G rest own' good.1 w in
+  walked own (l ∷ lines) F told own' (es, r, mid, G, rest, F_is, told_is, did, w) =
+      let next = walked mid lines G rest own' w in
       let s : Step = record { line = l; reply = r; before = own; after = mid } in
       record {
         events = made_all c es ++ Done c s ∷ next.events;
@@ -69,7 +60,6 @@ module _ (g : Geometry) (tells : Bool) (c : ℕ) where
         lines_are = lines_made c es (Done c s ∷ next.events) ∙ ap (λ v. l ∷ v) next.lines_are;
         told_are = told_made c es (Done c s ∷ next.events) ∙ ap (λ v. (l.0, r) ∷ v) next.told_are ∙ sym told_is;
         mine = mine_made c es (Done c s ∷ next.events) (refl, next.mine);
-        ops = ops_made c es (Done c s ∷ next.events) (good.0, next.ops);
         runs = λ tail runs.
             subst (Runs g tells own []) (sym (append_assoc (made_all c es) (Done c s ∷ next.events) tail))
             (runs_made own [] es (Done c s ∷ (next.events ++ tail)) (of_own g tells (Ok r) own l.1.op es mid did) (refl, did, next.runs tail runs));
@@ -83,7 +73,6 @@ module _ (g : Geometry) (tells : Bool) (c : ℕ) where
     pub unanswered : List (ℕ × Line)
     pub ran : lines_in events ++ unanswered ≡ lines
     pub mine : AreMine c events
-    pub ops : AreOps events
     pub runs : Runs g tells None [] events
 
   last_of_own : (own : Option Own) (made : List Entry) → AreOfOwn own made (last_abort own)
@@ -106,7 +95,6 @@ module _ (g : Geometry) (tells : Bool) (c : ℕ) where
         ran =
             ap (λ v. v ++ others) (lines_joined o.events tail ∙ ap (λ v. v ++ lines_in tail) o.lines_are ∙ ap (λ v. first ++ v) (lines_made c es []) ∙ append-nil first) ∙ are;
         mine = mine_joined o.events tail o.mine (mine_made c es [] tt);
-        ops = ops_joined o.events tail o.ops (ops_made c es [] tt);
         runs = o.runs tail (runs_made own [] es [] of tt);
       }
     where
@@ -124,16 +112,12 @@ module _ (g : Geometry) (tells : Bool) (c : ℕ) where
       mine_joined [] ys one two = two
       mine_joined (x ∷ xs) ys one two = (one.0, mine_joined xs ys one.1 two)
 
-  good_front : (xs ys : List (ℕ × Line)) → AreGood (xs ++ ys) → AreGood xs
-  good_front [] ys all = tt
-  good_front (x ∷ xs) ys all = (all.0, good_front xs ys all.1)
-
-  pub client_events : (lines : List (ℕ × Line)) (told : List (ℕ × Reply)) (why : Option Stop) (F : List Entry) → AreGood lines → ClientLines g tells lines told why F → OfClient lines told F
-  client_events lines told None F good is =
-      ended is.own lines lines [] told F is.made (last_abort is.own) (walked None lines is.made told is.own good is.ran) (append-nil lines) is.all (last_of_own is.own [])
-  client_events lines told (Some w) F good is =
+  pub client_events : (lines : List (ℕ × Line)) (told : List (ℕ × Reply)) (why : Option Stop) (F : List Entry) → ClientLines g tells lines told why F → OfClient lines told F
+  client_events lines told None F is =
+      ended is.own lines lines [] told F is.made (last_abort is.own) (walked None lines is.made told is.own is.ran) (append-nil lines) is.all (last_of_own is.own [])
+  client_events lines told (Some w) F is =
       let s : StopsAtLast g tells lines told w is.made is.own = is.ran in
-      let o = walked None s.first s.walked told s.mid (good_front s.first (s.last ∷ []) (subst AreGood s.are good)) s.walk in
+      let o = walked None s.first s.walked told s.mid s.walk in
       ended s.mid lines s.first (s.last ∷ []) told F s.walked (s.entries ++ last_abort is.own) o (sym s.are) (is.all ∙ ap (λ v. v ++ last_abort is.own) s.all ∙ append_assoc s.walked s.entries (last_abort is.own))
       (of_own_append s.mid [] s.entries (last_abort is.own) (of_own g tells (Err w) s.mid s.last.1.op s.entries is.own s.did) (λ made. aborted is.own made))
     where

@@ -2,7 +2,7 @@
 use Rattle.par_calls.proofs.Words.{◌≡◌, ◌∙◌, sym, refl, ap, subst, ℕ, ◌==◌, ◌||◌, Bool, true, false, cond, List, [], ◌∷◌, ◌++◌, append-nil, length, arith, eq-eqb, eqb-true, AllByRecursion, list_any, Entry, entries_of}
 use Rattle.par_calls.specs.Trace.{Done, Event, Made, client_of, entries_in, events_of}
 use Rattle.par_calls.proofs.Clients.{AreMine}
-use Rattle.par_calls.proofs.Events.{AreOps, entries_joined, ops_behind, ops_front, ops_joined, swapped}
+use Rattle.par_calls.proofs.Events.{entries_joined, swapped}
 
 -- the events of each client
 abbrev pub Dealt : Type 0
@@ -20,13 +20,16 @@ AreAmong cs V = (d : ℕ) → list_any (λ c. c == d) cs ≡ false → V d ≡ [
 pub record IsDealt (c : ℕ) (owners : List ℕ) (made : List Entry) (events : List Event) : Type 0 where
   pub entries : entries_in events ≡ entries_of c owners made
   pub mine : AreMine c events
-  pub ops : AreOps events
 
-pub record IsMerged (made : List Entry) (V : Dealt) : Type 0 where
+-- an event of one of these clients
+abbrev pub IsOf : List ℕ → Event → Type 0
+IsOf cs e = list_any (λ c. c == client_of e) cs ≡ true
+
+pub record IsMerged (cs : List ℕ) (made : List Entry) (V : Dealt) : Type 0 where
   pub events : List Event
   pub entries : entries_in events ≡ made
   pub each : (c : ℕ) → events_of c events ≡ V c
-  pub ops : AreOps events
+  pub among : AllByRecursion (IsOf cs) events
 
 mine_front : (c : ℕ) (xs ys : List Event) → AreMine c (xs ++ ys) → AreMine c xs
 mine_front c [] ys all = tt
@@ -96,13 +99,32 @@ left_entries [] V none = refl
 left_entries (c ∷ cs) V none =
     entries_joined (V c) (left_over cs (now c [] V)) ∙ ap (λ l. l ++ entries_in (left_over cs (now c [] V))) (none c) ∙ left_entries cs (now c [] V) (each_now HasNoEntry c [] V refl none)
 
-abbrev HasOps : ℕ → List Event → Type 0
-HasOps c events = AreOps events
+all_joined : (P : Event → Type 0) (xs ys : List Event) → AllByRecursion P xs → AllByRecursion P ys → AllByRecursion P (xs ++ ys)
+all_joined P [] ys one two = two
+all_joined P (x ∷ xs) ys one two = (one.0, all_joined P xs ys one.1 two)
 
-left_ops : (cs : List ℕ) (V : Dealt) → Each HasOps V → AreOps (left_over cs V)
+-- the events of a client of these are such
+mine_of : (cs : List ℕ) (c : ℕ) (events : List Event) → list_any (λ x. x == c) cs ≡ true → AreMine c events → AllByRecursion (IsOf cs) events
+mine_of cs c [] has mine = tt
+mine_of cs c (e ∷ events) has mine = (ap (λ k. list_any (λ x. x == k) cs) mine.0 ∙ has, mine_of cs c events has mine.1)
+
+left_among : (all cs : List ℕ) (V : Dealt) → AllByRecursion (λ c. list_any (λ x. x == c) all ≡ true) cs → Each AreMine V → AllByRecursion (IsOf all) (left_over cs V)
 unfolding left_over
-left_ops [] V all = tt
-left_ops (c ∷ cs) V all = ops_joined (V c) (left_over cs (now c [] V)) (all c) (left_ops cs (now c [] V) (each_now HasOps c [] V tt all))
+left_among all [] V among mine = tt
+left_among all (c ∷ cs) V among mine =
+    all_joined (IsOf all) (V c) (left_over cs (now c [] V)) (mine_of all c (V c) among.0 (mine c)) (left_among all cs (now c [] V) among.1 (each_now AreMine c [] V tt mine))
+
+or_true : (a b : Bool) → b ≡ true → (a || b) ≡ true
+or_true true b is = refl
+or_true false b is = is
+
+more_among : (c : ℕ) (all cs : List ℕ) → AllByRecursion (λ d. list_any (λ x. x == d) all ≡ true) cs → AllByRecursion (λ d. list_any (λ x. x == d) (c ∷ all) ≡ true) cs
+more_among c all [] has = tt
+more_among c all (d ∷ cs) has = (or_true (c == d) (list_any (λ x. x == d) all) has.0, more_among c all cs has.1)
+
+each_among : (cs : List ℕ) → AllByRecursion (λ c. list_any (λ x. x == c) cs ≡ true) cs
+each_among [] = tt
+each_among (c ∷ cs) = (ap (λ b. b || list_any (λ x. x == c) cs) (eq-eqb c c refl), more_among c cs cs (each_among cs))
 
 -- AN ENTRY
 -- the events of a client up to its next entry
@@ -141,12 +163,12 @@ among_now c cs later V has among d none = by (d == c) refl
     by false is = among d none
 
 pub merged : (cs owners : List ℕ) (made : List Entry) (V : Dealt) → length owners ≡ length made → AllByRecursion (λ o. list_any (λ c. c == o) cs ≡ true) owners → AreAmong cs V
-    → ((c : ℕ) → IsDealt c owners made (V c)) → IsMerged made V
+    → ((c : ℕ) → IsDealt c owners made (V c)) → IsMerged cs made V
 merged cs [] [] V size all among is = record {
   events = left_over cs V;
   entries = left_entries cs V (λ c. (is c).entries);
   each = left_each cs V among (λ c. (is c).mine);
-  ops = left_ops cs V (λ c. (is c).ops);
+  among = left_among cs cs V (each_among cs) (λ c. (is c).mine);
 }
 merged cs [] (e ∷ made) V size all among is = absurd (cc size)
 merged cs (o ∷ owners) [] V size all among is = absurd (cc size)
@@ -154,16 +176,15 @@ merged cs (o ∷ owners) (e ∷ made) V size all among is =
     let k = cut (V o) e (entries_of o owners made) ((is o).entries ∙ entries_mine o owners e made) in
     let mine = subst (AreMine o) k.is (is o).mine in
     let own : k.client ≡ o = (mine_behind o k.front (Made k.client e ∷ k.later) mine).0 in
-    let ops = subst AreOps k.is (is o).ops in
     let later : IsDealt o owners made k.later =
-    record { entries = k.rest; mine = (mine_behind o k.front (Made k.client e ∷ k.later) mine).1; ops = ops_behind k.front (Made k.client e ∷ k.later) ops } in
+    record { entries = k.rest; mine = (mine_behind o k.front (Made k.client e ∷ k.later) mine).1 } in
     let W : Dealt = now o k.later V in
     let rest = merged cs owners made W (let s = size in omega arith) all.1 (among_now o cs k.later V all.0 among) (dealt k.later later) in
     record {
       events = k.front ++ Made o e ∷ rest.events;
       entries = entries_joined k.front (Made o e ∷ rest.events) ∙ ap (λ l. l ++ e ∷ entries_in rest.events) k.none ∙ ap (λ l. e ∷ l) rest.entries;
       each = λ d. each_of k.front k.later rest.events (mine_front o k.front (Made k.client e ∷ k.later) mine) (k.is ∙ ap (λ (c : ℕ). k.front ++ Made c e ∷ k.later) own) d (rest.each d);
-      ops = ops_joined k.front (Made o e ∷ rest.events) (ops_front k.front (Made k.client e ∷ k.later) ops) rest.ops;
+      among = all_joined (IsOf cs) k.front (Made o e ∷ rest.events) (mine_of cs o k.front all.0 (mine_front o k.front (Made k.client e ∷ k.later) mine)) (all.0, rest.among);
     }
   where
     dealt : (later : List Event) → IsDealt o owners made later → (d : ℕ) → IsDealt d owners made (now o later V d)
@@ -171,7 +192,7 @@ merged cs (o ∷ owners) (e ∷ made) V size all among is =
       where
         by : (b : Bool) → (d == o) ≡ b → IsDealt d owners made (cond b later (V d))
         by true same = subst (λ k. IsDealt k owners made later) (sym (eqb-true d o same)) one
-        by false other = record { entries = (is d).entries ∙ entries_other o d owners e made other; mine = (is d).mine; ops = (is d).ops }
+        by false other = record { entries = (is d).entries ∙ entries_other o d owners e made other; mine = (is d).mine }
 
     each_of : (front later events : List Event) → AreMine o front → V o ≡ front ++ Made o e ∷ later → (d : ℕ) → events_of d events ≡ now o later V d → events_of d (front ++ Made o e ∷ events) ≡ V d
     each_of front later events mine cut_is d rest = by (d == o) refl

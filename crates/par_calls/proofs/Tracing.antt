@@ -1,12 +1,12 @@
 -- What clients were told is a trace, in which the calls that their lines tell answer in order.
-use Rattle.par_calls.proofs.Words.{◌≡◌, ◌∙◌, sym, refl, ap, subst, ℕ, zero, suc, ◌+◌, ◌≤◌, ◌==◌, ◌||◌, Bool, true, false, cond, List, [], ◌∷◌, ◌++◌, length, map, take, filter, is_some, append_assoc, None, arith, eq-eqb, eqb-true, AllByRecursion, list_any, range_with_len, Geometry, IsWorld, Line, AreLines, RisesFrom, Entry, IsIsolatedAt, Start, Part, ClientLines, FoundSome, entries_of, has_line, lines_of, lines_run, files_answer_at, stores_answer_at, files_second, tree_second, file_goes, tree_goes, the_files, the_tree}
+use Rattle.par_calls.proofs.Words.{◌≡◌, ◌∙◌, sym, refl, ap, subst, ℕ, zero, suc, ◌+◌, ◌≤◌, ◌==◌, ◌||◌, Bool, true, false, cond, List, [], ◌∷◌, ◌++◌, length, map, take, filter, is_some, append_assoc, None, arith, eq-eqb, eqb-true, AllByRecursion, list_any, range_with_len, Geometry, IsWorld, Line, AreLines, RisesFrom, Entry, IsIsolatedAt, Start, Part, ClientLines, FoundSome, entries_of, has_line, lines_of, lines_run, files_answer_at, stores_answer_at, files_second, tree_second, file_goes, tree_goes, the_files, the_tree, SecondStore, IsSecond, SecondGoes, AnswersWithAt, second_store, IsLegal}
 use Rattle.iso_shared.specs.declared.entry.Entry.TheVariants as entry
 use Rattle.par_script.specs.Told.{Told}
-use Rattle.par_calls.specs.InOrder.{LinesTellCalls}
-use Rattle.par_calls.specs.Trace.{IsOfPart, Runs, entries_in, events_of}
+use Rattle.par_calls.specs.InOrder.{CallsAnswer, LinesTellCalls}
+use Rattle.par_calls.specs.Trace.{Event, IsOfPart, IsOneOf, IsTrace, Runs, client_of, entries_in, events_of, lines_in}
 use Rattle.par_calls.proofs.Clients.{OfClient, client_events}
-use Rattle.par_calls.proofs.Events.{swapped}
-use Rattle.par_calls.proofs.Merging.{AreAmong, Dealt, IsDealt, IsMerged, merged}
+use Rattle.par_calls.proofs.Events.{AreOps, ops_each, ops_lines, swapped}
+use Rattle.par_calls.proofs.Merging.{AreAmong, Dealt, IsDealt, IsMerged, IsOf, merged}
 use Rattle.par_calls.proofs.Placed.{AreSweeps}
 use Rattle.par_calls.proofs.Whole.{calls_answer}
 
@@ -90,10 +90,9 @@ module _ (g : Geometry) (tells : Bool) (lines : List (ℕ × Line)) (owners : Li
   abbrev IsMade : Part → Type 0
   IsMade p = OfClient g tells p.client (lines_run lines p) p.told (entries_of p.client owners made)
 
-  all_made : (parts : List Part) → AreLines lines → AllByRecursion (λ p. ClientLines g tells (lines_run lines p) p.told p.stop (entries_of p.client owners made)) parts → AllByRecursion IsMade parts
-  all_made [] good all = tt
-  all_made (p ∷ parts) good all =
-      (client_events g tells p.client (lines_run lines p) p.told p.stop (entries_of p.client owners made) (good_run lines p good) all.0, all_made parts good all.1)
+  all_made : (parts : List Part) → AllByRecursion (λ p. ClientLines g tells (lines_run lines p) p.told p.stop (entries_of p.client owners made)) parts → AllByRecursion IsMade parts
+  all_made [] all = tt
+  all_made (p ∷ parts) all = (client_events g tells p.client (lines_run lines p) p.told p.stop (entries_of p.client owners made) all.0, all_made parts all.1)
 
   -- the events of each client, of the first part that is its
   abbrev events_by : (parts : List Part) → AllByRecursion IsMade parts → Dealt
@@ -101,12 +100,12 @@ module _ (g : Geometry) (tells : Bool) (lines : List (ℕ × Line)) (owners : Li
   events_by (p ∷ parts) all = λ c. cond (c == p.client) all.0.events (events_by parts all.1 c)
 
   dealt_by : (parts : List Part) (all : AllByRecursion IsMade parts) (c : ℕ) → (list_any (λ p. p.client == c) parts ≡ false → entries_of c owners made ≡ []) → IsDealt c owners made (events_by parts all c)
-  dealt_by [] all c none = record { entries = sym (none refl); mine = tt; ops = tt }
+  dealt_by [] all c none = record { entries = sym (none refl); mine = tt }
   dealt_by (p ∷ parts) all c none =
       by (c == p.client) refl (λ other. dealt_by parts all.1 c (λ no. none (ap (λ b. b || list_any (λ q. q.client == c) parts) (swapped c p.client other) ∙ no)))
     where
       by : (b : Bool) → (c == p.client) ≡ b → ((c == p.client) ≡ false → IsDealt c owners made (events_by parts all.1 c)) → IsDealt c owners made (cond b all.0.events (events_by parts all.1 c))
-      by true is rest = subst (λ k. IsDealt k owners made all.0.events) (sym (eqb-true c p.client is)) (record { entries = all.0.entries_are; mine = all.0.mine; ops = all.0.ops })
+      by true is rest = subst (λ k. IsDealt k owners made all.0.events) (sym (eqb-true c p.client is)) (record { entries = all.0.entries_are; mine = all.0.mine })
       by false is rest = rest is
 
   runs_by : (parts : List Part) (all : AllByRecursion IsMade parts) (c : ℕ) → Runs g tells None [] (events_by parts all c)
@@ -140,29 +139,70 @@ module _ (g : Geometry) (tells : Bool) (lines : List (ℕ × Line)) (owners : Li
             same c (let from = rises.0 in omega (arith, from, more)) ∙ ap (λ b. cond b all.0.events (events_by parts all.1 c)) (above p.client c more)),
       )
 
+-- THE LINES OF A TRACE ARE GOOD
+good_front : (xs ys : List (ℕ × Line)) → AreLines (xs ++ ys) → AreLines xs
+good_front [] ys all = tt
+good_front (x ∷ xs) ys all = (all.0, good_front xs ys all.1)
+
+-- a client that was told nothing has no events
+no_events : (parts : List Part) (c : ℕ) (events : List Event) → AllByRecursion (λ e. IsOneOf parts (client_of e)) events → list_any (λ p. p.client == c) parts ≡ false → events_of c events ≡ []
+no_events parts c [] owned none = refl
+no_events parts c (e ∷ events) owned none = by (client_of e == c) refl (no_events parts c events owned.1 none)
+  where
+    by : (b : Bool) → (client_of e == c) ≡ b → events_of c events ≡ [] → cond b (e ∷ events_of c events) (events_of c events) ≡ []
+    by true is rest = absurd (cc (sym none ∙ ap (λ k. list_any (λ p. p.client == k) parts) (sym (eqb-true (client_of e) c is)) ∙ owned.0))
+    by false is rest = rest
+
+module _ (g : Geometry) (tells : Bool) (lines : List (ℕ × Line)) (good : AreLines lines) (events : List Event) where
+  part_ops : (c : ℕ) (parts : List Part) → AllByRecursion (λ p. IsOfPart g tells lines p (events_of p.client events)) parts → list_any (λ p. p.client == c) parts ≡ true → AreOps (events_of c events)
+  part_ops c [] of has = absurd (cc has)
+  part_ops c (p ∷ parts) of has = by (p.client == c) refl (λ rest. part_ops c parts of.1 rest) has
+    where
+      by : (b : Bool) → (p.client == c) ≡ b → (list_any (λ q. q.client == c) parts ≡ true → AreOps (events_of c events)) → (b || list_any (λ q. q.client == c) parts) ≡ true → AreOps (events_of c events)
+      by true is on has =
+          subst (λ k. AreOps (events_of k events)) (eqb-true p.client c is)
+          (ops_lines (events_of p.client events) (good_front (lines_in (events_of p.client events)) of.0.unanswered (subst AreLines (sym of.0.ran) (good_run lines p good))))
+      by false is on has = on has
+
+  trace_ops : (parts : List Part) → AllByRecursion (λ e. IsOneOf parts (client_of e)) events → AllByRecursion (λ p. IsOfPart g tells lines p (events_of p.client events)) parts → AreOps events
+  trace_ops parts owned of = ops_each events (λ c. by c (list_any (λ p. p.client == c) parts) refl)
+    where
+      by : (c : ℕ) (b : Bool) → list_any (λ p. p.client == c) parts ≡ b → AreOps (events_of c events)
+      by c true has = part_ops c parts of has
+      by c false none = subst AreOps (sym (no_events parts c events owned none)) tt
+
+owned_parts : (parts : List Part) (events : List Event) → AllByRecursion (IsOf (map (λ p. p.client) parts)) events → AllByRecursion (λ e. IsOneOf parts (client_of e)) events
+owned_parts parts [] all = tt
+owned_parts parts (e ∷ events) all = (sym (any_client parts (client_of e)) ∙ all.0, owned_parts parts events all.1)
+
+module _ (A : Start) (lines : List (ℕ × Line)) (parts : List Part) (E : List Entry) (sound : IsWorld A.world) (none : A.world.live ≡ []) (good : AreLines lines) (legal : IsLegal A E) where
+  -- in each order the calls of a store answer so
+  each_answers : (S : SecondStore) → IsSecond S → SecondGoes S → AnswersWithAt (second_store S A.world.geometry) A E → (order : List Event) → IsTrace A lines parts E order → CallsAnswer S A E order
+  each_answers S lawful second answers order t =
+      let tail : List Entry = t.swept ++ entry.Sweep None ∷ [] in
+      calls_answer S lawful second A E order tail sound none legal (t.are ∙ append_assoc (entries_in order) t.swept (entry.Sweep None ∷ [])) (sweeps_of t.swept t.found) t.each
+      (trace_ops A.world.geometry A.tells lines good order parts t.owned t.of) answers
+
 pub lines_tell : (A : Start) (lines : List (ℕ × Line)) (parts : List Part) (E : List Entry) → IsWorld A.world → A.world.live ≡ [] → IsIsolatedAt A E → AreLines lines → Told A lines parts E → LinesTellCalls A lines parts E
 lines_tell A lines parts E sound none isolated good told =
     let g : Geometry = A.world.geometry in
-    let all = all_made g A.tells lines told.owners told.made parts good told.told in
+    let all = all_made g A.tells lines told.owners told.made parts told.told in
     let V : Dealt = events_by g A.tells lines told.owners told.made parts all in
-    let one : IsMerged told.made V =
-    merged (map (λ p. p.client) parts) told.owners told.made V told.each (all_any parts told.owners told.owned) (among_by g A.tells lines told.owners told.made parts all)
+    let cs : List ℕ = map (λ p. p.client) parts in
+    let one : IsMerged cs told.made V =
+    merged cs told.owners told.made V told.each (all_any parts told.owners told.owned) (among_by g A.tells lines told.owners told.made parts all)
     (λ c. dealt_by g A.tells lines told.owners told.made parts all c (none_of parts c told.owners told.made told.owned)) in
-    let tail : List Entry = told.swept ++ entry.Sweep None ∷ [] in
-    let listed : E ≡ entries_in one.events ++ told.swept ++ entry.Sweep None ∷ [] = told.are ∙ ap (λ es. es ++ told.swept ++ entry.Sweep None ∷ []) (sym one.entries) in
-    let are : E ≡ entries_in one.events ++ tail = listed ∙ append_assoc (entries_in one.events) told.swept (entry.Sweep None ∷ []) in
-    let runs : (c : ℕ) → Runs g A.tells None [] (events_of c one.events) =
-    λ c. subst (Runs g A.tells None []) (sym (one.each c)) (runs_by g A.tells lines told.owners told.made parts all c) in
-    let rises : RisesFrom 1 (map (λ p. p.client) parts) = subst (RisesFrom 1) (sym told.clients) (rises_filter (has_line lines) 1 (range_with_len 1 64) (rises_range 1 64)) in
+    let rises : RisesFrom 1 cs = subst (RisesFrom 1) (sym told.clients) (rises_filter (has_line lines) 1 (range_with_len 1 64) (rises_range 1 64)) in
     record {
       events = one.events;
       trace = record {
         swept = told.swept;
         found = told.found;
-        are = listed;
-        each = runs;
+        are = told.are ∙ ap (λ es. es ++ told.swept ++ entry.Sweep None ∷ []) (sym one.entries);
+        owned = owned_parts parts one.events one.among;
+        each = λ c. subst (Runs g A.tells None []) (sym (one.each c)) (runs_by g A.tells lines told.owners told.made parts all c);
         of = parts_by g A.tells lines told.owners told.made 1 parts all (λ c. events_of c one.events) rises (λ c from. one.each c);
       };
-      tree = calls_answer the_tree tree_second tree_goes A E one.events tail sound none told.legal are (sweeps_of told.swept told.found) runs one.ops (stores_answer_at A E sound none told.legal isolated);
-      files = calls_answer the_files files_second file_goes A E one.events tail sound none told.legal are (sweeps_of told.swept told.found) runs one.ops (files_answer_at A E sound none told.legal isolated);
+      tree = each_answers A lines parts E sound none good told.legal the_tree tree_second tree_goes (stores_answer_at A E sound none told.legal isolated);
+      files = each_answers A lines parts E sound none good told.legal the_files files_second file_goes (files_answer_at A E sound none told.legal isolated);
     }

@@ -84,9 +84,9 @@ CallsAnswer S A E events =
     A.tells ≡ true → BothWellFormed (image_hash g) (second_store S g) (array_at A.world.history (last A.world.history)) → CommitsKeep S g events → AreInOrder S A E events
 
 -- The lines of the clients stand with their entries in one order, so that what they tell of a transaction goes with it from client
--- to client; and the calls that they tell answer in order, of the tree store and of the files.
+-- to client; and in each such order the calls that they tell answer so, of the tree store and of the files.
 pub record LinesTellCalls (A : Start) (lines : List (ℕ × Line)) (parts : List Part) (E : List Entry) : Type 0 where
   pub events : List Event
   pub trace : IsTrace A lines parts E events
-  pub tree : CallsAnswer the_tree A E events
-  pub files : CallsAnswer the_files A E events
+  pub tree : (order : List Event) → IsTrace A lines parts E order → CallsAnswer the_tree A E order
+  pub files : (order : List Event) → IsTrace A lines parts E order → CallsAnswer the_files A E order

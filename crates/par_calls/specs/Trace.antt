@@ -1,6 +1,6 @@
 -- One order of the lines of all clients and of their entries.
-use Rattle.std.specs.Prelude.{◌≡◌, ℕ, ◌==◌, Bool, cond, List, [], ◌∷◌, ◌++◌, Option, Some, None, Ok}
-use Rattle.std.specs.List.{AllByRecursion}
+use Rattle.std.specs.Prelude.{◌≡◌, ℕ, ◌==◌, Bool, cond, List, [], ◌∷◌, ◌++◌, Option, Some, None, Ok, true}
+use Rattle.std.specs.List.{AllByRecursion, list_any}
 use Rattle.iso_model.specs.declared.access.Geometry.{Geometry}
 use Rattle.script_model.specs.declared.script.Line.{Line}
 use Rattle.script_model.specs.declared.script.Reply.{Reply}
@@ -84,11 +84,16 @@ pub record IsOfPart (g : Geometry) (tells : Bool) (lines : List (ℕ × Line)) (
   pub ran : lines_in events ++ unanswered ≡ lines_run lines p
   pub runs : Runs g tells None [] events
 
+-- the client is one of those that were told something
+abbrev pub IsOneOf : List Part → (client : ℕ) → Type 0
+IsOneOf parts c = list_any (λ p. p.client == c) parts ≡ true
+
 -- One order of all lines and entries of the clients: its entries are those of the list but for the sweeps at the end, and each
 -- client has its own lines and entries in it, in their order.
 pub record IsTrace (A : Start) (lines : List (ℕ × Line)) (parts : List Part) (E : List Entry) (events : List Event) : Type 0 where
   pub swept : List Entry
   pub found : AllByRecursion FoundSome swept
   pub are : E ≡ entries_in events ++ swept ++ entry.Sweep None ∷ []
+  pub owned : AllByRecursion (λ e. IsOneOf parts (client_of e)) events
   pub each : (c : ℕ) → Runs A.world.geometry A.tells None [] (events_of c events)
   pub of : AllByRecursion (λ p. IsOfPart A.world.geometry A.tells lines p (events_of p.client events)) parts
