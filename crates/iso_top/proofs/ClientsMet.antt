@@ -1,5 +1,5 @@
 -- A run of clients on an image that was opened, as the whole call has done it.
-use Rattle.iso_top.proofs.Words.{same_Some, ◌≡◌, ◌⊎◌, inl, inr, ⊎_elim, ◌≤◌, ℕ, List, Option, None, refl, sym, ◌∙◌, ap, subst, arith, Rose, Core, StandsFor, disk_of, up, DiskState, IsBoundTo, IsLawful, LeavesOnly, joined, lasts, since_bind, still_bound, weakened, SinkState, SourceState, Geometry, Line, World, start_at, whole, between_grown, grows_all, ShowsBetween, Start, State, state_at, OpenError, ParEnd, files_answer_at, stores_answer_at, ScriptError, HasNoLines, HasRead, Opened, HasCore, HasNoCore, HasRunClients, HasRunNone, BeginsWith, HasNotBegun, Printed, HasClosed, HasRunLines, PutOf, OpensTo, error_text, script_error_status, script_error_text}
+use Rattle.iso_top.proofs.Words.{same_Some, ◌≡◌, ◌⊎◌, inl, inr, ⊎_elim, ◌≤◌, ℕ, List, Option, None, refl, sym, ◌∙◌, ap, subst, arith, Rose, Core, StandsFor, disk_of, up, DiskState, IsBoundTo, IsLawful, LeavesOnly, joined, lasts, since_bind, still_bound, weakened, SinkState, SourceState, Geometry, Line, World, start_at, whole, between_grown, grows_all, ShowsBetween, Start, State, state_at, OpenError, ParEnd, files_answer_at, lines_tell, script_lines, AreLines, Script, stores_answer_at, ScriptError, HasNoLines, HasRead, Opened, HasCore, HasNoCore, HasRunClients, HasRunNone, BeginsWith, HasNotBegun, Printed, HasClosed, HasRunLines, PutOf, OpensTo, error_text, script_error_status, script_error_text}
 use Rattle.whole_script.specs.declared.lines.ScriptError.TheVariants as error
 use Rattle.iso_top.proofs.RunsOfClients.{failed_run, images_shown, were_run}
 
@@ -72,6 +72,8 @@ module _ {D : Type 0} (state : D → DiskState) (lawful : (d : D) → IsLawful (
         isolated = closed.isolated;
         stores = stores_answer_at A closed.entries begins.stands.kept_of.world begins.idle closed.legal closed.isolated;
         files = files_answer_at A closed.entries begins.stands.kept_of.world begins.idle closed.legal closed.isolated;
+        calls = λ parts told.
+            lines_tell A lines parts closed.entries begins.stands.kept_of.world begins.idle closed.isolated (subst (λ (s : Script). AreLines s.lines) read.lines_are (script_lines read.bytes)) told;
         exit = λ bytes here. images_shown state closed.core S closed.holds bytes (subst (λ (d : D). (state d).now bytes) closed.image_is here);
         since = since_bind begins.name begins.binds
             (joined (weakened first (λ c shown. between_grown W W (whole S) c begins.stands.kept_of.world.history.first (grows_all A closed.entries closed.legal) shown)) closed.came.moments);

@@ -57,6 +57,8 @@ pub use Rattle.par_text.specs.Output.{IsFront, IsOutput}
 pub use Rattle.par_text.specs.declared.part.Part.{Part}
 pub use Rattle.script_model.specs.Bench.{answers_to, array_bytes, bench_geometry, bench_output, bench_summary, bench_text, bench_world, is_committed, is_conflict, recover_output}
 pub use Rattle.script_model.specs.Operations.{IsOp}
+pub use Rattle.script_model.proofs.ScriptBytes.{script_lines}
+pub use Rattle.script_model.specs.Operations.{AreLines}
 pub use Rattle.script_model.specs.Script.{Script, after, replies, script}
 pub use Rattle.script_model.specs.declared.script.BadLine.{BadLine}
 pub use Rattle.script_model.specs.declared.script.Line.{Line}
@@ -72,6 +74,7 @@ pub use Rattle.script_runner.specs.Run.{Acknowledges, AreFirst, AreLinesOf, HasR
 pub use Rattle.script_runner.specs.Told.{ArePlain, IsPlain}
 pub use Rattle.script_runner.specs.declared.run_end.RunEnd.{RunEnd}
 pub use Rattle.sha2.specs.Sha256.{sha256}
+pub use Rattle.par_calls.proofs.Tracing.{lines_tell}
 pub use Rattle.store_entries.proofs.Listed.{files_answer_at, stores_answer_at}
 pub use Rattle.store_scripts.proofs.Whole.{files_answer, stores_answer}
 pub use Rattle.whole_script.specs.Read.{HasNoLines, HasRead}

@@ -17,6 +17,7 @@ use Rattle.par_lines.specs.Ends.{status_of}
 use Rattle.par_script.specs.Told.{Told}
 use Rattle.par_text.specs.declared.part.Part.{Part}
 use Rattle.par_text.specs.Output.{IsFront, IsOutput}
+use Rattle.par_calls.specs.InOrder.{LinesTellCalls}
 use Rattle.store_entries.specs.InOrder.{FilesAnswerAt, StoresAnswerAt}
 use Rattle.whole_script.specs.declared.lines.ScriptError.{ScriptError}
 use Rattle.whole_script.specs.Read.{HasNoLines, HasRead}
@@ -82,6 +83,8 @@ pub record HasRunClients {D : Type 0} (state : D → DiskState) (name : List ℕ
   -- the hash store and the tree store, and of the hash store and the files
   pub stores : StoresAnswerAt (start_at world (state start)) entries
   pub files : FilesAnswerAt (start_at world (state start)) entries
+  -- the same by what the clients were told: the calls that their lines tell of a transaction, whoever had it, answer in order
+  pub calls : (parts : List Part) → Told (start_at world (state start)) lines parts entries → LinesTellCalls (start_at world (state start)) lines parts entries
   -- the crash theorem: each image that a crash leaves once the threads have returned shows the history that the list leads to; and
   -- each that a crash might have left since the bind, also while the threads ran, shows it at a commit from the last one of the
   -- image as given on

@@ -51,8 +51,7 @@ fn a_scan_of_one_client_meets_a_key_of_another(rt: HostRuntime) -> Result<(), Fa
 const FILES: &str = "isotope new t.img --block-size 256 --blocks 16 --log 8192 --tree 4";
 
 /// Two clients write different bytes of one file. The one may begin behind the commit of the other.
-const TWO_WRITES: &[u8] =
-    b"1 begin\n2 begin\n1 fwrite 61 0 aa\n2 fwrite 61 1 bb\n1 end\n2 end\n";
+const TWO_WRITES: &[u8] = b"1 begin\n2 begin\n1 fwrite 61 0 aa\n2 fwrite 61 1 bb\n1 end\n2 end\n";
 
 const WRITTEN_FIRST_BY_1: &[u8] =
     b"1 ok begin 1\n1 ok\n1 ok commit 2\n2 ok begin 1\n2 ok\n2 ok commit 3\ncommit 2 by 1 line 5\ncommit 3 by 2 line 6\n";
@@ -69,7 +68,11 @@ const WRITTEN_BEHIND_2: &[u8] =
 #[test]
 fn two_clients_write_bytes_of_one_file(rt: HostRuntime) -> Result<(), Fail> {
     let alloc = rt.alloc();
-    let image = made_image(alloc, FILES, b"1 begin\n1 fnew 61\n1 fwrite 61 0 0102\n1 end\n")?;
+    let image = made_image(
+        alloc,
+        FILES,
+        b"1 begin\n1 fnew 61\n1 fwrite 61 0 0102\n1 end\n",
+    )?;
     let outcome = par_image(&rt, alloc, image, TWO_WRITES)?;
     assert_eq!(rt; outcome.status, 0);
     let found = outcome.output.as_slice();

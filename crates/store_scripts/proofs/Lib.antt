@@ -13,7 +13,7 @@ pub mod Acting
 pub mod TreeGoes
 pub mod FileGoes
 pub mod Members
-mod Lines
+pub mod Lines
 pub mod Order
 pub mod Refused
 pub mod Refusals
