@@ -120,8 +120,7 @@ fn on_device<D: Disk + Drop, O: Origin, R: Wait>(
             let first = put_both(rt, alloc, &mut session, &geometry);
             let _ = session.abort_tx(rt);
             let second = remove_both(rt, alloc, &mut session, &geometry);
-            let port = session.finish(rt);
-            let _core = shared.close(port);
+            let _ = session.finish(rt);
             Some((first?, second?))
         }
     }
