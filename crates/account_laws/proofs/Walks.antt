@@ -209,7 +209,7 @@ in_members P W (m ∷ first) others n k accesses all =
     in_members P W first others n k accesses (second_part P (made_by (tx_of W m.number m.accesses) m.reply) (commits_made (txs_of W (members_of rest)) (replies_of rest)) all)
 
 -- the commits of a list of accounts are by calls of the stores
-by_their_calls : (accounts : Accounts) (A : Start) (es : List Entry) → IsLegal A es → AreOfAccounts accounts A es → CommitsAreByCalls A es
+by_their_calls : (accounts : Accounts) (A : Start) (es : List Entry) → IsLegal A es → AreOfAccounts accounts A es → CommitsAreByCalls (image_tree A.world.geometry) A es
 by_their_calls accounts A es legal all = record {
   ends = λ before later n k accesses is. (all before later (entry.End n accesses (Committed k)) is).0.of;
   groups = λ before later first others n k accesses is.
@@ -226,7 +226,7 @@ behind : {X : Type 0} (b m later : List X) (x : X) → (b ++ x ∷ m) ++ later �
 behind b m later x = append_assoc b (x ∷ m) later
 
 module _ (accounts : Accounts) (A : Start) (es : List Entry) (sound : IsWorld A.world) (idle : A.world.live ≡ []) (legal : IsLegal A es)
-    (well : StoresAreWell A.world.geometry A.world.history) (all : AreOfAccounts accounts A es)
+    (well : StoresAreWell (image_tree A.world.geometry) A.world.geometry A.world.history) (all : AreOfAccounts accounts A es)
     (begins : KeepsSumIn accounts A.world.geometry (array_at A.world.history (last A.world.history))) where
   abbrev g : Geometry
   g = A.world.geometry
@@ -274,7 +274,7 @@ module _ (accounts : Accounts) (A : Start) (es : List Entry) (sound : IsWorld A.
             | inr earlier ↦ all b (earlier.0 ++ e ∷ later) x (are ∙ ap (λ (xs : List Entry). xs ++ e ∷ later) earlier.1 ∙ behind b earlier.0 (e ∷ later) x)
           ]
 
-      in_order : AreCallsInOrderAt A one
+      in_order : AreCallsInOrderAt (image_tree A.world.geometry) A one
       in_order = stores_answer_at A one sound idle legal_one (sound_at A one sound legal_one).isolated well (by_their_calls accounts A one legal_one all_one)
 
       abbrev G : History

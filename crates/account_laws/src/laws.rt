@@ -11,7 +11,7 @@ ghost use Rattle.store_entries.specs.InOrder.{StoresAreWell};
 ghost use Rattle.store_laws.specs.Calls.{KeyCall, StoreAnswer};
 ghost use Rattle.store_laws.specs.Parts.{run};
 ghost use Rattle.store_model.specs.HashRegion.{Pairs};
-ghost use Rattle.store_scripts.specs.Stores.{image_hash};
+ghost use Rattle.store_scripts.specs.Stores.{image_hash, image_tree};
 ghost use Rattle.iso_model.specs.declared.access.Geometry.{Geometry};
 ghost use Rattle.account_laws.specs.Lists.{AreOfAccounts, KeepsSumAt, KeepsSumIn, OpensWithSum};
 ghost use Rattle.account_laws.specs.Sums.{Accounts, KeepsSum, amount, amount_in, total};
@@ -32,7 +32,7 @@ pub fn transactions_of_accounts_keep_the_sum()
 /// is one of accounts, their sum is the same after every commit, once they are open, also after one that a fault of the disk has left
 /// open; and so it is in each image that shows the list's history and opens.
 pub fn accounts_keep_their_sum()
-    ensures history { (accounts : Accounts) (A : Start) (es : List Entry) → IsWorld A.world → A.world.live ≡ [] → IsLegal A es → StoresAreWell A.world.geometry A.world.history
+    ensures history { (accounts : Accounts) (A : Start) (es : List Entry) → IsWorld A.world → A.world.live ≡ [] → IsLegal A es → StoresAreWell (image_tree A.world.geometry) A.world.geometry A.world.history
         → AreOfAccounts accounts A es → KeepsSumIn accounts A.world.geometry (array_at A.world.history (last A.world.history)) → KeepsSumAt accounts A es }
     ensures images { (accounts : Accounts) (A : Start) (es : List Entry) (image : List ℕ) → IsLegal A es → KeepsSumAt accounts A es → ShowsSince A es image → OpensWithSum accounts image }
 {}
