@@ -1,10 +1,16 @@
-//! Tests of the top call: rows of replies, groups, commands, runs one behind the other, limits, scripts on stores and on files, and one long script.
+//! Tests of the top call: rows of replies, groups, commands, runs one behind the other, limits, scripts on stores and on files, drawn ones, and one long script.
 #![tactic(auto)]
 
+#[cfg(test)]
+mod drawn_lines;
+#[cfg(test)]
+mod plain_files;
 #[cfg(test)]
 mod tests_commands;
 #[cfg(test)]
 mod tests_drawn;
+#[cfg(test)]
+mod tests_drawn_files;
 #[cfg(test)]
 mod tests_files;
 #[cfg(test)]
