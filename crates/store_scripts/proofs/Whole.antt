@@ -2,7 +2,7 @@
 use Rattle.store_scripts.proofs.Words.{sym, subst, ℕ, ◌-◌, List, [], ◌∷◌, ◌++◌, Line, array_at, last, after, step, World, AreLines, ToldInOrder, CommitsKeep, Notes, no_notes, noted, notes_after, AnswersWith, SecondStore, FilesAnswer, the_tree, the_files, StoresAnswer}
 use Rattle.store_scripts.proofs.Commits.{commits_told, groups_told}
 use Rattle.store_scripts.proofs.Lines.{noted_after, noted_begins}
-use Rattle.store_scripts.proofs.Order.{read_only_told}
+use Rattle.store_scripts.proofs.Order.{live_told, read_only_told}
 use Rattle.store_scripts.proofs.Acting.{SecondGoes}
 use Rattle.store_scripts.proofs.Blocks.{files_second, tree_second}
 use Rattle.store_scripts.proofs.FileGoes.{file_goes}
@@ -28,6 +28,11 @@ module _ (S : SecondStore) (lawful : IsSecond S) (second : SecondGoes S) where
     grouped = λ before later line k t are ends.
         subst (λ (all : List (ℕ × Line)). ToldInOrder S (after W before).geometry (notes_after S W (no_notes S) before t.number) (array_at (after W all).history (k - 1)) (array_at (after W all).history k)) (sym are)
         (groups_told S lawful second W before later line k t begins (subst AreLines are good) (subst (CommitsKeep S W (no_notes S)) are keeps) ends);
+    live = λ before later client t are found kept.
+        let good_front = front_lines before later (subst AreLines are good) in
+        let keeps_front = front_keeps W (no_notes S) before later (subst (CommitsKeep S W (no_notes S)) are keeps) in
+        live_told S lawful (last W.history) (after W before) (notes_after S W (no_notes S) before)
+        (noted_after S lawful second (Unit {0}) (last W.history) W (no_notes S) before (noted_begins S lawful second W begins) good_front (λ q. keeps_front)) client t found kept;
     read_only = λ before later client t are found none.
         let good_front = front_lines before later (subst AreLines are good) in
         let keeps_front = front_keeps W (no_notes S) before later (subst (CommitsKeep S W (no_notes S)) are keeps) in

@@ -1,12 +1,12 @@
 -- The store theorem of the lines of a script, as one word.
-use Rattle.std.specs.Prelude.{◌≡◌, ℕ, ◌-◌, IsFalse, List, ◌∷◌, ◌++◌, Some}
+use Rattle.std.specs.Prelude.{◌≡◌, ℕ, ◌-◌, IsFalse, IsTrue, List, ◌∷◌, ◌++◌, Some}
 use Rattle.script_model.specs.declared.script.Line.{Line}
 use Rattle.script_model.specs.declared.script.Op.TheVariants.{End}
 use Rattle.script_model.specs.declared.script.Reply.TheVariants.{Committed}
 use Rattle.iso_model.specs.Effect.{has_write}
 use Rattle.iso_model.specs.History.{array_at, last}
 use Rattle.script_model.specs.Script.{after}
-use Rattle.script_model.specs.Step.{step}
+use Rattle.script_model.specs.Step.{array_of, step}
 use Rattle.iso_model.specs.World.{Live, World, attached}
 use Rattle.store_laws.specs.Both.{IsByBoth}
 use Rattle.store_scripts.specs.Kept.{BeginsWell, ToldByMap, ToldInOrder}
@@ -15,7 +15,8 @@ use Rattle.store_scripts.specs.Told.{CommitsKeep, IsEndedAs, no_notes, told_afte
 
 -- From the world W on, the store calls of each commit of these lines, as their replies tell them, answer as one thread's calls on
 -- the maps directly before it and end in those directly after it, whether an end made the commit or a group; those of a transaction
--- that wrote nothing answer by the maps at its begin.
+-- that is live behind a front of them, and keeps to the stores, answer so from the maps at its begin to those that it is shown; and
+-- those of one that wrote nothing answer by the maps at its begin.
 pub record AreCallsInOrder (S : SecondStore) (W : World) (lines : List (ℕ × Line)) : Type 0 where
   pub by_calls : let V = after W lines in IsByBoth (image_hash V.geometry) (second_store S V.geometry) V.geometry V.history (last W.history)
   pub commits : (before later : List (ℕ × Line)) (line : ℕ × Line) (k : ℕ) (t : Live) → lines ≡ before ++ line ∷ later
@@ -24,6 +25,9 @@ pub record AreCallsInOrder (S : SecondStore) (W : World) (lines : List (ℕ × L
   pub grouped : (before later : List (ℕ × Line)) (line : ℕ × Line) (k : ℕ) (t : Live) → lines ≡ before ++ line ∷ later
       → let V = after W before in let H = (after W lines).history in IsEndedAs V line.1.op t k
       → ToldInOrder S V.geometry (told_after S W before t.number) (array_at H (k - 1)) (array_at H k)
+  pub live : (before later : List (ℕ × Line)) (client : ℕ) (t : Live) → lines ≡ before ++ later
+      → let V = after W before in attached V client ≡ Some t → IsTrue (told_after S W before t.number).kept
+      → ToldInOrder S V.geometry (told_after S W before t.number) (array_at V.history t.begin) (array_of V t)
   pub read_only : (before later : List (ℕ × Line)) (client : ℕ) (t : Live) → lines ≡ before ++ later
       → let V = after W before in attached V client ≡ Some t → IsFalse (has_write t.accesses)
       → ToldByMap S V.geometry (told_after S W before t.number) (array_at V.history t.begin)
