@@ -1,0 +1,14 @@
+//! Accounts in the hash store of a shared device: threads move amounts between them, and their sum stays.
+#![tactic(auto)]
+
+mod account;
+mod amounts;
+mod call;
+mod gathered;
+mod moving;
+mod run;
+mod sessions;
+mod threads;
+
+pub use account::{Account, AccountError, Plan, Report, Transfer, Work};
+pub use run::run_accounts;

@@ -1,0 +1,98 @@
+// Accounts by any transaction over blocks: an amount is moved, and accounts are opened.
+ghost use Rattle.std.specs.Prelude.{◌≡◌, ◌+◌, ◌≤◌, [], ◌∷◌, OnOk};
+ghost use Rattle.account_laws.specs.Transactions.{IsOfAccounts, IsOpening, IsTransfer};
+ghost use Rattle.store_model.specs.HashRegion.{IsHashArea};
+ghost use Rattle.tx_blocks.specs.Runs.{area_of};
+ghost use Rattle.accounts.specs.Made.{Does, SameBlocks, opening_of};
+
+use crate::account::{Account, AccountError, Transfer, Work};
+use crate::amounts::{amount_at, is_free, set_amount};
+use std::alloc::Global;
+use store_model::Region;
+use tx_blocks::TxBlocks;
+
+/// Moves an amount from one account to another one. A refusal is to be followed by an abort.
+pub(crate) fn move_amount<T: TxBlocks>(
+    alloc: Global,
+    tx: &mut T,
+    region: Region,
+    transfer: &Transfer,
+) -> Result<(), AccountError>
+    requires area { IsHashArea (area_of (T.state tx.old) region) }
+    requires fits { region.start + region.size ≤ (T.state tx.old).blocks }
+    ensures same { OnOk result (SameBlocks (T.state tx.old) (T.state tx.new)) }
+    ensures moved { OnOk result (Does (area_of (T.state tx.old) region) (T.state tx.old) (T.state tx.new) (IsTransfer transfer.now.from transfer.now.to transfer.now.amount)) }
+{
+    if transfer.from == transfer.to {
+        return Err(AccountError::SameAccount);
+    }
+    let had = amount_at(alloc, tx, region, &transfer.from)?;
+    let other = amount_at(alloc, tx, region, &transfer.to)?;
+    if had < transfer.amount {
+        return Err(AccountError::TooLittle);
+    }
+    let Some(more) = other.checked_add(transfer.amount) else {
+        return Err(AccountError::TooMuch);
+    };
+    set_amount(alloc, tx, region, &transfer.from, had - transfer.amount)?;
+    set_amount(alloc, tx, region, &transfer.to, more)?;
+    Ok(())
+}
+
+// Opens one account.
+fn open_one<T: TxBlocks>(
+    alloc: Global,
+    tx: &mut T,
+    region: Region,
+    account: &Account,
+) -> Result<(), AccountError>
+    requires area { IsHashArea (area_of (T.state tx.old) region) }
+    requires fits { region.start + region.size ≤ (T.state tx.old).blocks }
+    ensures same { OnOk result (SameBlocks (T.state tx.old) (T.state tx.new)) }
+    ensures opened { OnOk result (Does (area_of (T.state tx.old) region) (T.state tx.old) (T.state tx.new) (IsOpening (opening_of (account.now ∷ [])))) }
+{
+    is_free(alloc, tx, region, &account.name)?;
+    set_amount(alloc, tx, region, &account.name, account.amount)?;
+    Ok(())
+}
+
+/// Opens accounts, none of which is there. A refusal is to be followed by an abort.
+pub(crate) fn open_all<T: TxBlocks>(
+    alloc: Global,
+    tx: &mut T,
+    region: Region,
+    accounts: &[Account],
+) -> Result<(), AccountError>
+    requires area { IsHashArea (area_of (T.state tx.old) region) }
+    requires fits { region.start + region.size ≤ (T.state tx.old).blocks }
+    ensures same { OnOk result (SameBlocks (T.state tx.old) (T.state tx.new)) }
+    ensures opened { OnOk result (Does (area_of (T.state tx.old) region) (T.state tx.old) (T.state tx.new) (IsOpening (opening_of accounts.now))) }
+{
+    match accounts.split_first() {
+        None => Ok(()),
+        Some((first, rest)) => {
+            open_one(alloc, tx, region, first)?;
+            open_all(alloc, tx, region, rest)?;
+            Ok(())
+        }
+    }
+}
+
+/// Opens all accounts, or moves an amount. A refusal is to be followed by an abort.
+pub(crate) fn do_work<T: TxBlocks>(
+    alloc: Global,
+    tx: &mut T,
+    region: Region,
+    accounts: &[Account],
+    work: &Work,
+) -> Result<(), AccountError>
+    requires area { IsHashArea (area_of (T.state tx.old) region) }
+    requires fits { region.start + region.size ≤ (T.state tx.old).blocks }
+    ensures done { OnOk result (Does (area_of (T.state tx.old) region) (T.state tx.old) (T.state tx.new) (IsOfAccounts (opening_of accounts.now))) }
+{
+    match work {
+        Work::Open => open_all(alloc, tx, region, accounts)?,
+        Work::Move(transfer) => move_amount(alloc, tx, region, transfer)?,
+    }
+    Ok(())
+}
