@@ -1,5 +1,5 @@
 -- A list that is gathered from its end: what still shows a byte is kept.
-use Rattle.mv_index.proofs.Words.{◌≡◌, ◌≢◌, ◌∙◌, sym, refl, ap, ℕ, zero, suc, ◌+◌, ◌-◌, ◌*◌, ◌<◌, ◌≤◌, Bool, true, false, ◌&&◌, ◌||◌, not, cond, nat_le, nat_lt, List, [], ◌∷◌, length, drop, get_or, arith, set, length-set, drop_more, drop_all, drop-set, get_or-set_other, list_any, range_with_len, Version, is_seen, AreWithin, has, hides, no_version, shown_since, still_shows}
+use Rattle.mv_index.proofs.Words.{◌≡◌, ◌≢◌, ◌∙◌, sym, refl, ap, ℕ, zero, suc, ◌+◌, ◌-◌, ◌*◌, ◌<◌, ◌≤◌, Bool, true, false, ◌&&◌, ◌||◌, not, cond, nat_le, nat_lt, List, ◌∷◌, length, drop, get_or, arith, set, length-set, drop_more, drop-set, get_or-set_other, list_any, range_with_len, Version, is_seen, AreWithin, has, hides, no_version, shown_since, still_shows}
 
 -- The versions from left on have been looked at, those that show a byte stand from kept on, and the bytes that they hide are seen.
 pub record IsGathered (whole versions : List Version) (seen : List ℕ) (t left kept : ℕ) : Type 0 where
@@ -17,18 +17,6 @@ any_same f h off (suc len) same =
     let first : f off ≡ h off = same off (omega arith) (omega arith) in
     let rest = any_same f h (off + 1) len (λ p from to. same p (omega arith) (omega arith)) in
     λ i. first i || rest i
-
-pub gathered_start : (whole : List Version) (seen : List ℕ) (t : ℕ) → ((p : ℕ) → p < 64 * length seen → is_seen seen p ≡ false) → IsGathered whole whole seen t (length whole) (length whole)
-gathered_start whole seen t none =
-    let end : drop (length whole) whole ≡ [] = drop_all (length whole) whole (omega arith) in
-    record {
-      order = omega arith;
-      inside = omega arith;
-      size = refl;
-      same = λ k below. refl;
-      shown = end ∙ ap (shown_since t) (sym end);
-      hidden = λ p below. none p below ∙ ap (hides t p) (sym end);
-    }
 
 module _ (whole versions : List Version) (old new : List ℕ) (t left kept next : ℕ) (was : IsGathered whole versions old t left kept) (some : 0 < left) (next_is : next ≡ left - 1)
     (within : AreWithin (64 * length old) whole) (same_length : length new ≡ length old)

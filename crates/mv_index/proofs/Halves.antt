@@ -9,18 +9,6 @@ pub record IsSearched (versions : List Version) (at steps low high : ℕ) : Type
   pub left : 2 ^ steps * (high - low) ≤ length versions
   pub cost : 2 ^ steps ≤ 2 * length versions + 1
 
-pub searched_none : (versions : List Version) (at steps : ℕ) → steps ≡ 0 → IsSearched versions at steps 0 (length versions)
-searched_none versions at steps none =
-    let one : 2 ^ steps ≡ 1 = ap (λ (k : ℕ). 2 ^ k) none in
-    record {
-      order = omega arith;
-      inside = omega arith;
-      below = λ k lt. absurd (omega arith);
-      above = λ k from to. absurd (omega arith);
-      left = rw one (omega arith);
-      cost = rw one (omega arith);
-    }
-
 twice : (steps more : ℕ) → more ≡ steps + 1 → 2 ^ more ≡ 2 * 2 ^ steps
 twice steps more is = ap (λ (k : ℕ). 2 ^ k) (is ∙ add-one steps) ∙ pow-succ' 2 steps
 

@@ -1,5 +1,5 @@
 -- What versions show that stand one behind the other, and that hidden ones show nothing.
-use Rattle.mv_index.proofs.Words.{◌≡◌, ◌∙◌, sym, refl, ap, ℕ, ◌+◌, ◌-◌, ◌≤◌, Bool, true, false, ◌&&◌, ◌||◌, not, cond, nat_le, nat_lt, List, [], ◌∷◌, ◌++◌, Option, Some, None, get_or, arith, option_map, list_any, range_with_len, and_parts, leb-true, ltb-false, le-leb, or_else, Version, ShowTheSame, byte_in, byte_of, newest_with, place_in, has, hides, shown_since, still_shows, upto}
+use Rattle.mv_index.proofs.Words.{◌≡◌, ◌∙◌, sym, refl, ap, ℕ, ◌+◌, ◌-◌, ◌≤◌, Bool, true, false, ◌&&◌, ◌||◌, not, cond, nat_le, nat_lt, List, [], ◌∷◌, ◌++◌, Option, Some, None, get_or, arith, option_map, list_any, range_with_len, and_parts, leb-true, ltb-false, le-leb, or_else, Version, ShowTheSame, byte_in, byte_of, newest_with, place_in, place_of, has, hides, shown_since, still_shows, upto}
 use Rattle.mv_index.proofs.Again.{hidden_at, or_parts}
 
 pub or_else_twice : {A : Type 0} (x y z : Option A) → or_else x (or_else y z) ≡ or_else (or_else x y) z
@@ -30,32 +30,29 @@ newest_here versions v p is = newest-append versions (v ∷ []) p ∙ ap (λ (b 
 pub newest_elsewhere : (versions : List Version) (v : Version) (p : ℕ) → has p v ≡ false → newest_with (versions ++ v ∷ []) p ≡ newest_with versions p
 newest_elsewhere versions v p is = newest-append versions (v ∷ []) p ∙ ap (λ (b : Bool). or_else (cond b (Some v) None) (newest_with versions p)) is
 
--- the byte that a version has for the byte at p
-abbrev byte_at : List ℕ → ℕ → Version → ℕ
-byte_at image p v = get_or image (v.place + (p - v.off)) 0
+-- a choice under a function
+map_or : {A B : Type 0} (f : A → B) (x : A) (o : Option A) (b : Bool) → or_else (option_map f o) (cond b (Some (f x)) None) ≡ option_map f (or_else o (cond b (Some x) None))
+map_or f x None true = refl
+map_or f x None false = refl
+map_or f x (Some y) b = refl
 
-byte_step : (image : List ℕ) (p : ℕ) (v : Version) (o : Option Version) (b : Bool) → or_else (option_map (byte_at image p) o) (cond b (Some (byte_at image p v)) None) ≡ option_map (byte_at image p) (or_else o (cond b (Some v) None))
-byte_step image p v None true = refl
-byte_step image p v None false = refl
-byte_step image p v (Some x) b = refl
+pub place_is : (versions : List Version) (p : ℕ) → place_in versions p ≡ option_map (λ v. v.place + (p - v.off)) (newest_with versions p)
+place_is [] p = refl
+place_is (v ∷ versions) p = ap (λ (o : Option ℕ). or_else o (place_of p v)) (place_is versions p) ∙ map_or (λ (w : Version). w.place + (p - w.off)) v (newest_with versions p) (has p v)
 
--- the byte that versions show is that of the newest with it
-pub byte_is : (image : List ℕ) (versions : List Version) (p : ℕ) → byte_in image versions p ≡ option_map (byte_at image p) (newest_with versions p)
-byte_is image [] p = refl
-byte_is image (v ∷ versions) p = ap (λ (o : Option ℕ). or_else o (byte_of image v p)) (byte_is image versions p) ∙ byte_step image p v (newest_with versions p) (has p v)
-
-pub same_newest : (xs ys : List Version) → ((p : ℕ) → newest_with xs p ≡ newest_with ys p) → ShowTheSame xs ys
-same_newest xs ys same image p = byte_is image xs p ∙ ap (option_map (byte_at image p)) (same p) ∙ sym (byte_is image ys p)
-
-map_twice : (image : List ℕ) (p : ℕ) (o : Option Version) → option_map (byte_at image p) o ≡ option_map (λ k. get_or image k 0) (option_map (λ v. v.place + (p - v.off)) o)
-map_twice image p None = refl
-map_twice image p (Some v) = refl
-
-pub byte_at_place : (image : List ℕ) (versions : List Version) (p : ℕ) → byte_in image versions p ≡ option_map (λ k. get_or image k 0) (place_in versions p)
-byte_at_place image versions p = byte_is image versions p ∙ map_twice image p (newest_with versions p)
+byte_there : (image : List ℕ) (versions : List Version) (p : ℕ) → byte_in image versions p ≡ option_map (λ k. get_or image k 0) (place_in versions p)
+byte_there image [] p = refl
+byte_there image (v ∷ versions) p =
+    ap (λ (o : Option ℕ). or_else o (byte_of image v p)) (byte_there image versions p) ∙ map_or (λ k. get_or image k 0) (v.place + (p - v.off)) (place_in versions p) (has p v)
 
 pub same_place : (xs ys : List Version) → ((p : ℕ) → place_in xs p ≡ place_in ys p) → ShowTheSame xs ys
-same_place xs ys same image p = byte_at_place image xs p ∙ ap (option_map (λ k. get_or image k 0)) (same p) ∙ sym (byte_at_place image ys p)
+same_place xs ys same image p = byte_there image xs p ∙ ap (option_map (λ k. get_or image k 0)) (same p) ∙ sym (byte_there image ys p)
+
+pub place_newest : (xs ys : List Version) (p : ℕ) → newest_with xs p ≡ newest_with ys p → place_in xs p ≡ place_in ys p
+place_newest xs ys p same = place_is xs p ∙ ap (option_map (λ (v : Version). v.place + (p - v.off))) same ∙ sym (place_is ys p)
+
+pub same_newest : (xs ys : List Version) → ((p : ℕ) → newest_with xs p ≡ newest_with ys p) → ShowTheSame xs ys
+same_newest xs ys same = same_place xs ys (λ p. place_newest xs ys p (same p))
 
 is_upto : (n : ℕ) (v : Version) (versions : List Version) → v.number ≤ n → upto n (v ∷ versions) ≡ v ∷ upto n versions
 is_upto n v versions le = ap (λ (t : Bool). cond t (v ∷ upto n versions) (upto n versions)) (le-leb v.number n le)

@@ -2,7 +2,7 @@ pub mod Words
 pub mod Again
 pub mod Bounds
 pub mod Counts
-pub mod Cuts
+pub mod Orders
 pub mod Few
 pub mod Gathers
 pub mod Halves

@@ -8,16 +8,6 @@ pub record AreSeen (whole seen : List ℕ) (off at : ℕ) (some : Bool) : Type 0
   pub some_is : some ≡ list_any (λ p. not (is_seen whole p)) (range_with_len off (at - off))
   pub marked : (p : ℕ) → p < 64 * length whole → is_seen seen p ≡ (in_bytes off (at - off) p || is_seen whole p)
 
-pub seen_start : (whole : List ℕ) (off : ℕ) → AreSeen whole whole off off false
-seen_start whole off =
-    let none : off - off ≡ 0 = omega arith in
-    record {
-      from = omega arith;
-      size = refl;
-      some_is = sym (ap (λ (n : ℕ). list_any (λ p. not (is_seen whole p)) (range_with_len off n)) none);
-      marked = λ p below. sym (ap (λ (b : Bool). b || is_seen whole p) (elim (cases_lt p off) [ inl lt ↦ in_under off (off - off) p lt | inr le ↦ in_over off (off - off) p (omega (arith, le)) ]));
-    }
-
 or_swap : (a b : Bool) → (a || b) ≡ (b || a)
 or_swap true true = refl
 or_swap true false = refl

@@ -1,5 +1,5 @@
 -- What holds of versions and stays where some are dropped.
-use Rattle.mv_index.proofs.Words.{ℕ, zero, suc, ◌+◌, ◌<◌, ◌≤◌, Bool, true, false, cond, List, [], ◌∷◌, length, get_or, arith, AllByRecursion, Version, AreAtMost, AreWithin, Rise, no_version, shown_since, still_shows}
+use Rattle.mv_index.proofs.Words.{◌≡◌, refl, ℕ, zero, suc, ◌<◌, ◌≤◌, Bool, true, false, cond, List, [], ◌∷◌, ◌++◌, length, map, filter, get_or, arith, AllByRecursion, Version, AreAtMost, Rise, no_version, shown_since, still_shows}
 
 pub all_at : {X : Type 0} (P : X → Type 0) (d : X) (xs : List X) → AllByRecursion P xs → (i : ℕ) → i < length xs → P (get_or xs i d)
 all_at P d [] all i below = absurd (omega arith)
@@ -13,6 +13,23 @@ all_of P d (x ∷ xs) each = (each 0 (omega arith), all_of P d xs (λ i below. e
 all_cond : {X : Type 0} (P : X → Type 0) (x : X) (xs : List X) → P x → AllByRecursion P xs → (b : Bool) → AllByRecursion P (cond b (x ∷ xs) xs)
 all_cond P x xs one rest true = (one, rest)
 all_cond P x xs one rest false = rest
+
+left_step : {X : Type 0} (Q : X → Type 0) (f : X → X) (x : X) (xs : List X) (b : Bool) → (b ≡ true → Q (f x)) → AllByRecursion Q (map f xs) → AllByRecursion Q (map f (cond b (x ∷ xs) xs))
+left_step Q f x xs true one rest = (one refl, rest)
+left_step Q f x xs false one rest = rest
+
+-- what holds of each that passes a test, once it is changed
+pub all_left : {X : Type 0} (P Q : X → Type 0) (test : X → Bool) (f : X → X) (xs : List X) → ((x : X) → test x ≡ true → P x → Q (f x)) → AllByRecursion P xs → AllByRecursion Q (map f (filter test xs))
+all_left P Q test f [] each all = tt
+all_left P Q test f (x ∷ xs) each all = left_step Q f x (filter test xs) (test x) (λ is. each x is all.0) (all_left P Q test f xs each all.1)
+
+pub all_weaker : {X : Type 0} (P Q : X → Type 0) (xs : List X) → ((x : X) → P x → Q x) → AllByRecursion P xs → AllByRecursion Q xs
+all_weaker P Q [] each all = tt
+all_weaker P Q (x ∷ xs) each all = (each x all.0, all_weaker P Q xs each all.1)
+
+pub all_append : {X : Type 0} (P : X → Type 0) (xs ys : List X) → AllByRecursion P xs → AllByRecursion P ys → AllByRecursion P (xs ++ ys)
+all_append P [] ys first second = second
+all_append P (x ∷ xs) ys first second = (first.0, all_append P xs ys first.1 second)
 
 pub all_shown : (P : Version → Type 0) (t : ℕ) (versions : List Version) → AllByRecursion P versions → AllByRecursion P (shown_since t versions)
 all_shown P t [] all = tt
@@ -43,9 +60,6 @@ rises_shown t (v ∷ versions) rises = rises_cond v (shown_since t versions) (al
 
 pub shown_rise : (t : ℕ) (versions : List Version) → Rise versions → Rise (shown_since t versions)
 shown_rise t versions rise = rise_of (shown_since t versions) (rises_shown t versions (rises_of versions rise))
-
-pub shown_within : (t size : ℕ) (versions : List Version) → AreWithin size versions → AreWithin size (shown_since t versions)
-shown_within t size versions within = all_at (λ v. v.off + v.len ≤ size) no_version (shown_since t versions) (all_shown (λ v. v.off + v.len ≤ size) t versions (all_of (λ v. v.off + v.len ≤ size) no_version versions within))
 
 pub most_shown : (t n : ℕ) (versions : List Version) → AreAtMost n versions → AreAtMost n (shown_since t versions)
 most_shown t n versions most = all_at (λ v. v.number ≤ n) no_version (shown_since t versions) (all_shown (λ v. v.number ≤ n) t versions (all_of (λ v. v.number ≤ n) no_version versions most))

@@ -1,5 +1,5 @@
 -- What the versions of a block show of their bytes in an image.
-use Rattle.std.specs.Prelude.{ℕ, ◌≡◌, ◌+◌, ◌-◌, ◌<◌, ◌≤◌, cond, List, [], ◌∷◌, Option, Some, None, length, option_map, slice_index, slice_index_or}
+use Rattle.std.specs.Prelude.{ℕ, ◌≡◌, ◌+◌, ◌-◌, ◌<◌, ◌≤◌, cond, List, [], ◌∷◌, Option, Some, None, length, slice_index, slice_index_or}
 use Rattle.iso_model.specs.Effect.{or_else}
 use Rattle.mv_index.specs.declared.version.Version.{Version}
 use Rattle.mv_index.specs.Versions.{has, no_version}
@@ -22,9 +22,14 @@ abbrev pub newest_with : List Version → ℕ → Option Version
 newest_with [] p = None
 newest_with (v ∷ versions) p = or_else (newest_with versions p) (cond (has p v) (Some v) None)
 
+-- where in an image the version has the byte at p
+abbrev pub place_of : ℕ → Version → Option ℕ
+place_of p v = cond (has p v) (Some (v.place + (p - v.off))) None
+
 -- where in an image the byte at p stands, as the last of the versions that has it says
 abbrev pub place_in : List Version → ℕ → Option ℕ
-place_in versions p = option_map (λ v. v.place + (p - v.off)) (newest_with versions p)
+place_in [] p = None
+place_in (v ∷ versions) p = or_else (place_in versions p) (place_of p v)
 
 -- the version has bytes of a block of this size, and they stand in an image of so many bytes
 pub record Lies (block size : ℕ) (v : Version) : Type 0 where

@@ -1,5 +1,5 @@
 -- The versions of blocks: those up to a number, those that still show a byte, and how many there are.
-use Rattle.std.specs.Prelude.{◌≡◌, ◌≢◌, ℕ, ◌+◌, ◌^◌, ◌<◌, ◌≤◌, Bool, ◌&&◌, ◌||◌, not, cond, List, [], ◌∷◌, ◌++◌, length, nat_le, nat_lt, slice_index_or, sum_by}
+use Rattle.std.specs.Prelude.{◌≡◌, ◌≢◌, ℕ, ◌+◌, ◌<◌, ◌≤◌, Bool, ◌&&◌, ◌||◌, not, cond, List, [], ◌∷◌, ◌++◌, length, nat_le, nat_lt, slice_index_or, sum_by}
 use Rattle.std.specs.List.{filter, list_any, range_with_len}
 use Rattle.mv_index.specs.declared.version.Version.{Version}
 
@@ -25,14 +25,6 @@ AreAtMost n versions = (i : ℕ) → i < length versions → number_at versions 
 -- each has bytes of a block of at most this size
 abbrev pub AreWithin : ℕ → List Version → Type 0
 AreWithin size versions = (i : ℕ) → i < length versions → (slice_index_or versions i no_version).off + (slice_index_or versions i no_version).len ≤ size
-
--- the version has bytes of a block of at most 4,096, and they stand at places below 2 ^ 64
-pub record IsPlaced (v : Version) : Type 0 where
-  pub within : v.off + v.len ≤ 4096
-  pub place : v.place + v.len < 2 ^ 64
-
-abbrev pub ArePlaced : List Version → Type 0
-ArePlaced versions = (i : ℕ) → i < length versions → IsPlaced (slice_index_or versions i no_version)
 
 -- those with a number at or below n
 abbrev pub upto : ℕ → List Version → List Version

@@ -1,6 +1,7 @@
 // The versions of all blocks.
 ghost use Rattle.std.specs.Prelude.{◌≡◌, ◌≢◌, ◌+◌, ◌-◌, ◌*◌, ◌^◌, ◌<◌, ◌≤◌, [], ℕ, IfOk, IsOk, OnOk, count_by, length, slice_index_or};
 ghost use Rattle.mv_index.specs.Moves.{AreSplit, moved_to};
+ghost use Rattle.mv_index.specs.Pieces.{Follow};
 ghost use Rattle.mv_index.specs.Shown.{AllLie, ShowTheSame};
 ghost use Rattle.mv_index.specs.Versions.{AreAtMost, IsAdded, Rise, block_of, count_of, has, no_version, room_of, shown_since, upto, versions_in};
 ghost use Rattle.mv_index.specs.Weights.{bytes_above};
@@ -54,10 +55,12 @@ impl MvIndex {
         self.rows[block as usize].find(at, steps)
     }
 
-    /// The pieces of the block's versions that show at the last number, in no order: laid over the base they give the same
-    /// bytes as all its versions in order, and no byte is in two of them.
+    /// The pieces of the block's versions that show at the last number, in the order of their bytes: laid over the base they
+    /// give the same bytes as all its versions in order. Each begins where the one before it ends or later, so no byte is in
+    /// two of them.
     pub fn showing(&self, block: u32) -> &[Version]
         requires { block < length self.now }
+        ensures order { Follow 0 result.now }
         ensures same { ShowTheSame result.now (versions_in self.now block) }
         ensures once { (p : ℕ) → count_by (has p) result.now ≤ 1 }
         ensures some { (i : ℕ) → i < length result.now → 0 < (slice_index_or result.now i no_version).len }

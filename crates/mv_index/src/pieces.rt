@@ -1,93 +1,201 @@
-// The parts of a block's versions that show at the last number.
-ghost use Rattle.std.specs.Prelude.{◌≡◌, ◌+◌, ◌-◌, ◌^◌, ◌<◌, ◌≤◌, ◌++◌, [], ◌∷◌, ℕ, List, length, count_by, slice_index_or, vec_capacity, vec_len};
+// The parts of a block's versions that show at the last number, in order.
+ghost use Rattle.std.specs.Prelude.{◌≡◌, ◌+◌, ◌-◌, ◌^◌, ◌<◌, ◌≤◌, ◌++◌, [], ◌∷◌, ℕ, List, length, drop, slice_index_or, take, vec_capacity, vec_len};
+ghost use Rattle.std.specs.List.{insert};
 ghost use Rattle.mv_index.specs.declared.version.Version.{Version};
-ghost use Rattle.mv_index.specs.Pieces.{ArePieces, IsCut, IsLeft};
-ghost use Rattle.mv_index.specs.Versions.{has, no_version, ArePlaced};
+ghost use Rattle.mv_index.specs.Pieces.{ArePieces, ArePlaced, Follow, back_of, backs, begun, ended, front_of, fronts};
+ghost use Rattle.mv_index.specs.Versions.{no_version};
 
 use crate::Version;
 
-/// The part of a piece before a byte of it.
+/// The part of a piece before a byte of its block. The piece begins there or before.
 fn front(piece: &Version, to: u16) -> Version
-    requires from { piece.now.off < to }
-    requires inside { to ≤ piece.now.off + piece.now.len }
-    ensures place { result.place ≡ piece.now.place }
-    ensures off { result.off ≡ piece.now.off }
-    ensures len { result.off + result.len ≡ to }
+    requires { piece.now.off ≤ to }
+    ensures { result ≡ front_of to piece.now }
 {
     Version {
-        len: to - piece.off,
+        len: piece.len.min(to - piece.off),
         ..*piece
     }
 }
 
-/// The part of a piece from a byte of it on.
+/// The part of a piece from a byte of its block on.
 fn back(piece: &Version, from: u16) -> Version
-    requires from { piece.now.off ≤ from }
+    requires within { piece.now.off + piece.now.len ≤ 4096 }
     requires inside { from < piece.now.off + piece.now.len }
     requires place { piece.now.place + piece.now.len < 2 ^ 64 }
-    ensures place { result.place ≡ piece.now.place + (from - piece.now.off) }
-    ensures off { result.off ≡ from }
-    ensures len { result.off + result.len ≡ piece.now.off + piece.now.len }
+    ensures { result ≡ back_of from piece.now }
 {
-    let skipped = from - piece.off;
+    let skipped = from.saturating_sub(piece.off);
     Version {
         place: piece.place + u64::from(skipped),
-        off: from,
+        off: piece.off + skipped,
         len: piece.len - skipped,
         ..*piece
     }
 }
 
-/// Takes the bytes of a later version out of the pieces, no two of which have a byte in common.
-fn cut(pieces: &mut Vec<Version>, version: &Version)
-    requires once { (p : ℕ) → count_by (has p) pieces.old.items ≤ 1 }
-    requires some { (i : ℕ) → i < length pieces.old.items → 0 < (slice_index_or pieces.old.items i no_version).len }
-    requires placed { ArePlaced pieces.old.items }
-    requires version { 0 < version.now.len }
-    requires within { version.now.off + version.now.len ≤ 4096 }
+/// How many pieces begin before a byte of the block.
+fn begin_before(pieces: &[Version], byte: u16) -> usize
+    requires { Follow 0 pieces.now }
+    ensures within { result ≤ length pieces.now }
+    ensures below { (k : ℕ) → k < result → (slice_index_or pieces.now k no_version).off < byte }
+    ensures above { (k : ℕ) → result ≤ k → k < length pieces.now → byte ≤ (slice_index_or pieces.now k no_version).off }
+{
+    pieces.partition_point(|piece| piece.off < byte)
+}
+
+/// How many pieces have no byte from one of the block on.
+fn end_before(pieces: &[Version], byte: u16) -> usize
+    requires { Follow 0 pieces.now }
+    ensures within { result ≤ length pieces.now }
+    ensures below { (k : ℕ) → k < result → (slice_index_or pieces.now k no_version).off + (slice_index_or pieces.now k no_version).len ≤ byte }
+    ensures above { (k : ℕ) → result ≤ k → k < length pieces.now → byte < (slice_index_or pieces.now k no_version).off + (slice_index_or pieces.now k no_version).len }
+{
+    pieces.partition_point(|piece| u32::from(piece.off) + u32::from(piece.len) <= u32::from(byte))
+}
+
+/// How many pieces begin before the bytes from one of the block up to another, and how many have none behind them. At most
+/// one does both, with bytes on both sides of them.
+fn find(pieces: &[Version], from: u16, to: u16) -> (usize, usize)
+    requires order { Follow 0 pieces.now }
+    requires rise { from ≤ to }
+    ensures first { result.0 ≤ length pieces.now }
+    ensures last { result.1 ≤ length pieces.now }
+    ensures around { result.1 < result.0 → result.1 + 1 ≡ result.0 }
+    ensures below { (k : ℕ) → k < result.0 → (slice_index_or pieces.now k no_version).off < from }
+    ensures above { (k : ℕ) → result.1 ≤ k → k < length pieces.now → to < (slice_index_or pieces.now k no_version).off + (slice_index_or pieces.now k no_version).len }
+    ensures front { fronts from pieces.now ≡ ended from (take result.0 pieces.now) }
+    ensures back { backs to pieces.now ≡ begun to (drop result.1 pieces.now) }
+{
+    (begin_before(pieces, from), end_before(pieces, to))
+}
+
+/// Cuts the last piece before a byte of the block.
+fn cut_last(pieces: &mut [Version], byte: u16)
+    requires { (k : ℕ) → k < length pieces.old → (slice_index_or pieces.old k no_version).off < byte }
+    ensures { pieces.new ≡ ended byte pieces.old }
+{
+    if let Some(last) = pieces.last_mut() {
+        *last = front(last, byte);
+    }
+}
+
+/// Cuts the first piece at a byte of the block, which is before its end.
+fn cut_first(pieces: &mut [Version], byte: u16)
+    requires inside { (k : ℕ) → k < length pieces.old → byte < (slice_index_or pieces.old k no_version).off + (slice_index_or pieces.old k no_version).len }
+    requires placed { ArePlaced pieces.old }
+    ensures { pieces.new ≡ begun byte pieces.old }
+{
+    if let Some(first) = pieces.first_mut() {
+        *first = back(first, byte);
+    }
+}
+
+/// Cuts the last of the pieces before a place of the list at one byte of the block, and the first one from another place on
+/// at another byte.
+fn cut(pieces: &mut [Version], first: usize, last: usize, from: u16, to: u16)
+    requires order { first ≤ last }
+    requires within { last ≤ length pieces.old }
+    requires below { (k : ℕ) → k < length (take first pieces.old) → (slice_index_or (take first pieces.old) k no_version).off < from }
+    requires above { (k : ℕ) → k < length (drop last pieces.old) → to < (slice_index_or (drop last pieces.old) k no_version).off + (slice_index_or (drop last pieces.old) k no_version).len }
+    requires placed { ArePlaced (drop last pieces.old) }
+    ensures length { length pieces.new ≡ length pieces.old }
+    ensures front { take first pieces.new ≡ ended from (take first pieces.old) }
+    ensures back { drop last pieces.new ≡ begun to (drop last pieces.old) }
+{
+    let (front, _) = pieces.split_at_mut(first);
+    cut_last(front, from);
+    let (_, back) = pieces.split_at_mut(last);
+    cut_first(back, to);
+}
+
+/// Puts a piece at a place of the list. There is room for it.
+fn insert_reserved(pieces: &mut Vec<Version>, at: usize, piece: Version)
+    requires within { at ≤ vec_len pieces.old }
     requires room { vec_len pieces.old < vec_capacity pieces.old }
-    ensures cut { IsCut version.now pieces.old.items pieces.new.items }
+    ensures items { pieces.new.items ≡ insert pieces.old.items at piece }
+    ensures len { vec_len pieces.new ≡ vec_len pieces.old + 1 }
     ensures capacity { vec_capacity pieces.new ≡ vec_capacity pieces.old }
 {
-    let end = version.off + version.len;
-    let mut at = 0;
-    while at < pieces.len() {
-        let piece = pieces[at];
-        let stop = piece.off + piece.len;
-        if stop <= version.off || end <= piece.off {
-            at += 1;
-        } else if piece.off < version.off {
-            pieces[at] = front(&piece, version.off);
-            if end < stop {
-                pieces.push_reserved(back(&piece, end));
-                return;
-            }
-            at += 1;
-        } else if end < stop {
-            pieces[at] = back(&piece, end);
-            at += 1;
-        } else {
-            pieces.swap_remove(at);
-        }
+    let _ = pieces.insert(at, piece);
+}
+
+/// Where one piece has bytes on both sides of a version, it is put twice, for both of them. It answers where the pieces
+/// behind the version begin.
+fn part(pieces: &mut Vec<Version>, first: usize, last: usize) -> usize
+    requires within { first ≤ vec_len pieces.old }
+    requires last { last ≤ vec_len pieces.old }
+    requires around { last < first → last + 1 ≡ first }
+    requires room { vec_len pieces.old < vec_capacity pieces.old }
+    ensures order { first ≤ result }
+    ensures inside { result ≤ vec_len pieces.new }
+    ensures front { take first pieces.new.items ≡ take first pieces.old.items }
+    ensures back { drop result pieces.new.items ≡ drop last pieces.old.items }
+    ensures few { vec_len pieces.new ≤ vec_len pieces.old + 1 }
+    ensures capacity { vec_capacity pieces.new ≡ vec_capacity pieces.old }
+{
+    if first <= last {
+        return last;
     }
+    let around = pieces[last];
+    insert_reserved(pieces, first, around);
+    first
+}
+
+/// Takes so many pieces from a place of the list on behind all others.
+fn put_last(pieces: &mut [Version], at: usize, count: usize)
+    requires { at + count ≤ length pieces.old }
+    ensures { take (length pieces.old - count) pieces.new ≡ take at pieces.old ++ drop (at + count) pieces.old }
+{
+    let (_, rest) = pieces.split_at_mut(at);
+    rest.rotate_left(count);
+}
+
+/// Takes so many pieces from a place on out of the list.
+fn take_out(pieces: &mut Vec<Version>, at: usize, count: usize)
+    requires { at + count ≤ vec_len pieces.old }
+    ensures items { pieces.new.items ≡ take at pieces.old.items ++ drop (at + count) pieces.old.items }
+    ensures len { vec_len pieces.new ≤ vec_len pieces.old }
+    ensures capacity { vec_capacity pieces.new ≡ vec_capacity pieces.old }
+{
+    let left = pieces.len() - count;
+    put_last(pieces.as_mut_slice(), at, count);
+    pieces.truncate(left);
+}
+
+/// Puts a piece in the place of those from one place of the list up to another.
+fn replace(pieces: &mut Vec<Version>, first: usize, last: usize, piece: Version)
+    requires order { first ≤ last }
+    requires within { last ≤ vec_len pieces.old }
+    requires room { vec_len pieces.old < vec_capacity pieces.old }
+    ensures items { pieces.new.items ≡ take first pieces.old.items ++ piece ∷ drop last pieces.old.items }
+    ensures len { vec_len pieces.new ≤ vec_len pieces.old + 1 }
+    ensures capacity { vec_capacity pieces.new ≡ vec_capacity pieces.old }
+{
+    if first == last {
+        insert_reserved(pieces, first, piece);
+        return;
+    }
+    pieces[first] = piece;
+    take_out(pieces, first + 1, last - first - 1);
 }
 
 /// Puts a later version over the pieces. There is room for two more.
 pub(crate) fn lay(pieces: &mut Vec<Version>, version: &Version)
+    requires order { Follow 0 pieces.old.items }
     requires placed { ArePlaced pieces.old.items }
     requires within { version.now.off + version.now.len ≤ 4096 }
-    requires place { version.now.place + version.now.len < 2 ^ 64 }
-    requires once { (p : ℕ) → count_by (has p) pieces.old.items ≤ 1 }
-    requires some { (i : ℕ) → i < length pieces.old.items → 0 < (slice_index_or pieces.old.items i no_version).len }
     requires room { vec_len pieces.old + 2 ≤ vec_capacity pieces.old }
     ensures laid { (versions : List Version) → ArePieces pieces.old.items versions → ArePieces pieces.new.items (versions ++ version.now ∷ []) }
-    ensures placed { ArePlaced pieces.new.items }
     ensures room { vec_len pieces.new ≤ vec_len pieces.old + 2 }
     ensures capacity { vec_capacity pieces.new ≡ vec_capacity pieces.old }
 {
     if version.len == 0 {
         return;
     }
-    cut(pieces, version);
-    pieces.push_reserved(*version);
+    let end = version.off + version.len;
+    let (first, last) = find(pieces, version.off, end);
+    let behind = part(pieces, first, last);
+    cut(pieces.as_mut_slice(), first, behind, version.off, end);
+    replace(pieces, first, behind, *version);
 }

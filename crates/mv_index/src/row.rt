@@ -1,6 +1,7 @@
 // The versions of one block.
 ghost use Rattle.std.specs.Prelude.{◌≡◌, ◌+◌, ◌-◌, ◌*◌, ◌^◌, ◌<◌, ◌≤◌, ◌++◌, [], ◌∷◌, ℕ, IsOk, OnOk, count_by, length, slice_index_or};
 ghost use Rattle.mv_index.specs.Moves.{AreSplit, moved_to};
+ghost use Rattle.mv_index.specs.Pieces.{Follow};
 ghost use Rattle.mv_index.specs.Shown.{AllLie, ShowTheSame};
 ghost use Rattle.mv_index.specs.Versions.{AreAtMost, Rise, has, no_version, shown_since, upto};
 ghost use Rattle.mv_index.specs.Weights.{part_bytes_above};
@@ -15,7 +16,7 @@ use iso_model::Memory;
 use std::alloc::Global;
 use std::marker::Model;
 
-/// The versions of one block, rising, and the pieces of them that show at the last number, in no order.
+/// The versions of one block, rising, and the pieces of them that show at the last number, in the order of their bytes.
 /// Contracts see the versions, and for how many more there is room: each takes room for two pieces at most.
 #[derive(Debug, Drop)]
 pub struct Row {
@@ -57,8 +58,9 @@ impl Row {
         &self.versions.as_slice()[..count]
     }
 
-    /// The pieces of the versions that show at the last number, in no order.
+    /// The pieces of the versions that show at the last number, in the order of their bytes.
     pub fn showing(&self) -> &[Version]
+        ensures order { Follow 0 result.now }
         ensures same { ShowTheSame result.now self.now.versions }
         ensures once { (p : ℕ) → count_by (has p) result.now ≤ 1 }
         ensures some { (i : ℕ) → i < length result.now → 0 < (slice_index_or result.now i no_version).len }

@@ -201,6 +201,27 @@ fn pieces_are_cut_where_later_versions_write(rt: HostRuntime) -> Result<(), Fail
 }
 
 #[test]
+fn a_version_takes_the_place_of_pieces(rt: HostRuntime) -> Result<(), Fail> {
+    let mut block = filled(
+        &rt,
+        rt.alloc(),
+        &[
+            (1, 300, 16, 4),
+            (2, 100, 0, 4),
+            (3, 200, 8, 2),
+            (4, 250, 10, 2),
+        ],
+    )?;
+    block.add(&rt, 5, 400, 2, 16)?;
+    let offs = [(0, 2, 100), (2, 16, 400), (18, 2, 302)];
+    assert_eq!(rt; block.index.showing(0).len(), 3);
+    for (piece, (off, len, place)) in block.index.showing(0).iter().zip(offs) {
+        assert_eq!(rt; (piece.off, piece.len, piece.place), (off, len, place));
+    }
+    Ok(())
+}
+
+#[test]
 fn each_block_has_its_own_versions(rt: HostRuntime) -> Result<(), Fail> {
     let mut index = MvIndex::empty(rt.alloc(), 3)?;
     index.reserve(2, 5)?;

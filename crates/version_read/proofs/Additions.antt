@@ -1,5 +1,5 @@
 -- Parts that are added to an index one by one.
-use Rattle.version_read.proofs.Words.{◌≡◌, ◌≢◌, inl, inr, ◌∙◌, sym, refl, ap, ℕ, ◌+◌, ◌<◌, ◌≤◌, ◌==◌, Bool, true, false, cond, List, [], ◌∷◌, ◌++◌, length, take, drop, get_or, arith, subst, append_assoc, AllByRecursion, cases_eq, eq-eqb, ne_eqb, append-nil, drop_more, take_all, take_more, take-append-drop, sum_by-append, sum_by-cons, Version, AreAtMost, BlockVersions, IsAdded, count_of, no_version, room_of, versions_in, all_at, all_of, PartSpan, HasRoom, HasTaken, no_part, part_versions, parts_in, parts_length}
+use Rattle.version_read.proofs.Words.{◌≡◌, ◌≢◌, inl, inr, ◌∙◌, sym, refl, ap, ℕ, ◌+◌, ◌<◌, ◌≤◌, ◌==◌, Bool, true, false, cond, List, [], ◌∷◌, ◌++◌, length, map, take, drop, get_or, get_or-drop, arith, subst, append_assoc, AllByRecursion, cases_eq, eq-eqb, ne_eqb, append-nil, drop_more, take_all, take_more, take-append-drop, length-drop, sum_by-append, sum_by-cons, Run, Version, AreAtMost, BlockVersions, IsAdded, block_of, count_of, no_version, room_of, versions_in, all_at, all_of, PartSpan, HasRoom, HasTaken, no_part, part_of, part_versions, parts_in, parts_length}
 use Rattle.version_read.proofs.Lying.{all_append, all_cond}
 
 abbrev pub size_of : PartSpan → ℕ
@@ -111,3 +111,54 @@ added_all old cur number gate at i parts was end within =
       count = omega (arith, was.count, end, within);
       room = λ b. omega (arith, was.room b, ap (parts_in b) all);
     }
+
+-- The versions of the parts before these last ones are added.
+pub record AreTaken (old cur : List BlockVersions) (number place at : ℕ) (parts rest : List PartSpan) : Type 0 where
+  pub count : ℕ
+  pub within : count ≤ length parts
+  pub rest_is : drop count parts ≡ rest
+  pub added : AreAdded old cur number place at count parts
+
+module _ {old cur : List BlockVersions} {number place at : ℕ} {parts : List PartSpan} {it left : List Run} {run : Run} (steps : it ≡ run ∷ left) (was : AreTaken old cur number place at parts (map part_of it)) where
+  rest_is : drop was.count parts ≡ part_of run ∷ map part_of left
+  rest_is = was.rest_is ∙ ap (map part_of) steps
+
+  first_inside : was.count < length parts
+  first_inside = omega (arith, length-drop was.count parts, ap (λ (l : List PartSpan). length l) rest_is)
+
+  first_is : part_of run ≡ get_or parts was.count no_part
+  first_is =
+      let here : was.count + 0 ≡ was.count = omega arith in
+      sym (ap (λ (l : List PartSpan). get_or l 0 no_part) rest_is) ∙ get_or-drop was.count parts 0 no_part ∙ ap (λ (k : ℕ). get_or parts k no_part) here
+
+  pub first_fits : at + (8 + length run.bytes) ≤ place + parts_length parts
+  first_fits = place_fits old cur number place at was.count parts (part_of run) was.added first_inside first_is
+
+  pub first_rises : ((b : ℕ) → AreAtMost number (versions_in old b)) → AreAtMost number (versions_in cur run.block)
+  first_rises = still_rises old cur number place at was.count parts (part_of run) was.added first_inside first_is
+
+  -- room is made, and the first of them is added
+  pub taken_more : (room now : List BlockVersions) (k : ℕ) → length room ≡ length cur → ((b : ℕ) → versions_in room b ≡ versions_in cur b) → count_of room ≡ count_of cur
+      → ((b : ℕ) → b ≢ run.block → block_of room b ≡ block_of cur b) → room_of cur run.block ≤ room_of room run.block
+      → IsAdded run.block (version_at number at (part_of run)) room now → k ≡ at + (8 + length run.bytes) → AreTaken old now number place k parts (map part_of left)
+  taken_more room now k size same count others no_less added k_is =
+      let made : AreAdded old room number place at was.count parts = record {
+        blocks = size ∙ was.added.blocks;
+        each = λ b. same b ∙ was.added.each b;
+        room = λ b. elim (cases_eq b run.block) [
+          | inl is ↦ subst (λ (c : ℕ). room_of old c ≤ room_of room c + parts_in c (take was.count parts)) (sym is) (omega (arith, no_less, was.added.room run.block))
+          | inr other ↦ omega (arith, was.added.room b, ap (λ (r : BlockVersions). r.room) (others b other))
+        ];
+        count = count ∙ was.added.count;
+        at_is = was.added.at_is;
+      } in
+      record {
+        count = was.count + 1;
+        within = omega (arith, first_inside);
+        rest_is = ap (drop 1) (sym (drop_more parts was.count no_part first_inside) ∙ rest_is);
+        added = added_more old room number place at was.count parts (part_of run) made first_inside first_is now k added k_is;
+      }
+
+pub taken_all : {old cur : List BlockVersions} {number gate at : ℕ} {parts : List PartSpan} {it : List Run} → it ≡ [] → AreTaken old cur number (gate + 20) at parts (map part_of it) → HasTaken number gate parts old cur
+taken_all {old = old} {cur = cur} {number = number} {gate = gate} {at = at} {parts = parts} none was =
+    added_all old cur number gate at was.count parts was.added (omega (arith, length-drop was.count parts, ap (λ (l : List PartSpan). length l) (was.rest_is ∙ ap (map part_of) none))) was.within

@@ -9,18 +9,32 @@ use iso_format::RecordView;
 use iso_model::Memory;
 use mv_index::{MvIndex, Version};
 
-/// The parts of a record, in the place of what the vector has. Without memory it may have any parts.
-pub fn list_parts(view: &RecordView<'_>, into: &mut Vec<PartSpan>) -> Result<(), Memory>
-    requires { AllByRecursion (λ run. length run.bytes < 2 ^ 16) view.now.parts }
-    ensures { OnOk result (into.new.items ≡ map part_of view.now.parts) }
+/// Takes the parts of a record into an index, and memory for each: the record has this number, and its gate stands at this
+/// place of the image. Without memory the index has the versions of the first of them.
+pub fn take_parts(
+    index: &mut MvIndex,
+    number: u64,
+    gate: u64,
+    view: &RecordView<'_>,
+) -> Result<(), Memory>
+    requires { MayTake number gate (map part_of view.now.parts) index.old }
+    ensures { OnOk result (HasTaken number gate (map part_of view.now.parts) index.old index.new) }
 {
-    into.clear();
+    let mut at = gate + 20;
     for part in view.parts() {
-        into.push(PartSpan {
-            block: part.block,
-            off: part.off,
-            len: part.bytes.len() as u16,
-        })?;
+        let place = at + 8;
+        let len = part.bytes.len() as u16;
+        index.reserve(part.block, 1)?;
+        index.add(
+            part.block,
+            Version {
+                number,
+                place,
+                off: part.off,
+                len,
+            },
+        );
+        at = place + u64::from(len);
     }
     Ok(())
 }

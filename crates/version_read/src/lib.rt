@@ -8,7 +8,7 @@ mod mask;
 mod part_span;
 
 pub use block::{read_block, read_pieces};
-pub use index::{add_parts, list_parts, reserve_parts};
+pub use index::{add_parts, reserve_parts, take_parts};
 pub use part_span::PartSpan;
 
 #[cfg(test)]

@@ -129,14 +129,15 @@ fn index_of(alloc: Global, view: &RecordView<'_>, gate: u64) -> Result<MvIndex, 
     requires gate { gate < 2 ^ 32 }
     ensures { IfOk result (λ index. length index ≡ 4) }
 {
-    let mut parts = Vec::new(alloc);
-    list_parts(view, &mut parts)?;
-    let mut index = MvIndex::empty(alloc, 4)?;
-    if parts.len() > 100 {
-        return Err(Memory);
+    let mut count: u32 = 0;
+    for _part in view.parts() {
+        if count == 100 {
+            return Err(Memory);
+        }
+        count += 1;
     }
-    reserve_parts(&mut index, &parts)?;
-    add_parts(&mut index, view.number(), gate, &parts);
+    let mut index = MvIndex::empty(alloc, 4)?;
+    take_parts(&mut index, view.number(), gate, view)?;
     Ok(index)
 }
 

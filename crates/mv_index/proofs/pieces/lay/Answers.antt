@@ -1,18 +1,20 @@
 -- The version is laid over the pieces.
-use Rattle.mv_index.proofs.Words.{sym, subst, List, [], ◌∷◌, ◌++◌, arith, ◌<◌, Version, ArePieces, ArePlaced}
-use Rattle.mv_index.proofs.Laid.{laid, laid_none, laid_placed}
+use Rattle.mv_index.proofs.Words.{◌≡◌, ◌∙◌, sym, ap, subst, arith, ℕ, ◌+◌, List, [], ◌∷◌, ◌++◌, drop, take, with_items_is, ArePieces, Version, backs, begun, ended, fronts, laid}
+use Rattle.mv_index.proofs.Laid.{laid_none, pieces_laid}
 use Rattle.mv_index.proofs.pieces.lay.Goals as goal
 
 pub returns-then-version-eq0-clause-laid : goal.returns-then-version-eq0-clause-laid
-returns-then-version-eq0-clause-laid c versions was = laid_none c.args.version.now c.args.pieces.now.items versions c.if-version-eq0.true was
+returns-then-version-eq0-clause-laid c versions = laid_none c.args.version.now c.args.pieces.now.items versions c.if-version-eq0.true
 
 pub returns-clause-laid : goal.returns-clause-laid
-returns-clause-laid c versions was =
-    let some : 0 < c.args.version.now.len = omega (arith, c.if-version-eq0.false) in
-    subst (λ (l : List Version). ArePieces l (versions ++ c.args.version.now ∷ [])) (sym c.push_reserved.ensures.items)
-    (laid c.args.version.now c.args.pieces.now.items c.cut.new.pieces.items versions some c.cut.ensures.cut was)
-
-pub returns-clause-placed : goal.returns-clause-placed
-returns-clause-placed c =
-    subst ArePlaced (sym c.push_reserved.ensures.items)
-    (laid_placed c.args.version.now c.args.pieces.now.items c.cut.new.pieces.items c.requires.placed (record { within = c.requires.within; place = c.requires.place }) c.cut.ensures.cut)
+returns-clause-laid c versions were =
+    let v : Version = c.args.version.now in
+    let end : ℕ = v.off + v.len in
+    let first : ℕ = c.find-first.result.0 in
+    let whole = with_items_is c.part-behind.new.pieces c.cut.new.pieces (c.cut.ensures.length ∙ c.as_mut_slice.ensures.len) in
+    let front = c.cut.ensures.front ∙ ap (λ (l : List Version). ended v.off (take first l)) c.as_mut_slice.ensures.value ∙ ap (ended v.off) c.part-behind.ensures.front
+    ∙ sym (subst (λ (l : List Version). fronts v.off l ≡ ended v.off (take first l)) c.deref.ensures.value c.find-first.ensures.front) in
+    let back = c.cut.ensures.back ∙ ap (λ (l : List Version). begun end (drop c.part-behind.result l)) c.as_mut_slice.ensures.value ∙ ap (begun end) c.part-behind.ensures.back
+    ∙ sym (subst (λ (l : List Version). backs end l ≡ begun end (drop c.find-first.result.1 l)) c.deref.ensures.value c.find-first.ensures.back) in
+    let is : c.replace.new.pieces.items ≡ laid v c.args.pieces.now.items = c.replace.ensures.items ∙ (λ i. take first (whole i) ++ v ∷ drop c.part-behind.result (whole i)) ∙ (λ i. front i ++ v ∷ back i) in
+    subst (λ (l : List Version). ArePieces l (versions ++ v ∷ [])) (sym is) (pieces_laid v versions (omega (arith, c.if-version-eq0.false)) c.args.pieces.now.items were)

@@ -1,5 +1,5 @@
 -- The next version is laid over what is there.
-use Rattle.version_read.proofs.Words.{◌≡◌, ◌∙◌, sym, ◌-◌, ◌+◌, List, take, arith, subst, take_all, length-contents, joined_unwritten, Version, IsLaid}
+use Rattle.version_read.proofs.Words.{◌≡◌, ◌∙◌, sym, ◌+◌, List, take, arith, subst, take_all, length-contents, joined_unwritten, Version, IsLaid}
 use Rattle.version_read.proofs.Layings.{laid_more}
 use Rattle.version_read.proofs.block.lay_over.Goals as goal
 

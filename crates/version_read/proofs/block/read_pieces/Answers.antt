@@ -1,5 +1,5 @@
 -- The versions are laid over the base, or have the whole block.
-use Rattle.version_read.proofs.Words.{◌∙◌, ◌-◌, arith, length-contents}
+use Rattle.version_read.proofs.Words.{◌∙◌, arith, length-contents}
 use Rattle.version_read.proofs.Layings.{laid_over, laid_whole}
 use Rattle.version_read.proofs.block.read_pieces.Goals as goal
 

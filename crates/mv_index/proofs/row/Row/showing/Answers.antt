@@ -1,19 +1,27 @@
 -- The pieces of a row.
-use Rattle.mv_index.proofs.Words.{sym, ap, subst, List, Version, ArePieces, BlockVersions}
+use Rattle.mv_index.proofs.Words.{sym, ap, subst, List, Version, ArePieces, BlockVersions, no_version}
 use Rattle.mv_index.proofs.Few.{pieces_few}
-use Rattle.mv_index.proofs.Showing.{pieces_lie, pieces_once, pieces_show}
+use Rattle.mv_index.proofs.Layers.{same_place}
+use Rattle.mv_index.proofs.Orders.{once, some_at}
+use Rattle.mv_index.proofs.Showing.{pieces_lie}
 use Rattle.mv_index.proofs.row.Row.showing.Goals as goal
 
 are : (c : goal.After-as_slice) → ArePieces c.as_slice.result.now c.args.self.now.versions
 are c =
     subst (λ (l : List Version). ArePieces l c.args.self.now.versions) (sym c.as_slice.ensures.value)
-    (subst (ArePieces c.self.inside.pieces.items) (ap (λ (r : BlockVersions). r.versions) c.self.view_is) c.self.invariant.pieces)
+    (subst (ArePieces c.self.inside.pieces.items) (ap (λ (r : BlockVersions). r.versions) c.self.view_is) c.self.invariant.pieces_of)
+
+pub returns-clause-order : goal.returns-clause-order
+returns-clause-order c = (are c).order
 
 pub returns-clause-same : goal.returns-clause-same
-returns-clause-same c = pieces_show c.as_slice.result.now c.args.self.now.versions (are c)
+returns-clause-same c = same_place c.as_slice.result.now c.args.self.now.versions (are c).place
 
 pub returns-clause-once : goal.returns-clause-once
-returns-clause-once c = pieces_once c.as_slice.result.now c.args.self.now.versions (are c)
+returns-clause-once c p = once 0 p c.as_slice.result.now (are c).order
+
+pub returns-clause-some : goal.returns-clause-some
+returns-clause-some c i below = (some_at 0 i no_version c.as_slice.result.now (are c).order below).1
 
 pub returns-clause-few : goal.returns-clause-few
 returns-clause-few c = pieces_few c.as_slice.result.now c.args.self.now.versions (are c)
