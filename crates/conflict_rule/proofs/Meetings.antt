@@ -1,5 +1,5 @@
 -- The least meeting over notes is the model's least clash.
-use Rattle.conflict_rule.proofs.Words.{◌≡◌, ◌∙◌, refl, sym, ap, ℕ, zero, suc, ◌+◌, ◌<◌, ◌≤◌, Bool, true, false, ◌&&◌, nat_lt, inl, inr, List, [], ◌∷◌, arith, Option, Some, None, cases_eq, lt-ltb, and_parts, common_steps, touches, AreTouched, Access, Clash, Commit, Geometry, Kind, Read, Write, Mode, Serial, Snapshot, clashes, clash_from, first_from, first_byte, guarded, Note, guarded_bytes, AreNotes, Bytes, IsLeastMeeting}
+use Rattle.conflict_rule.proofs.Words.{◌≡◌, ◌∙◌, refl, sym, ap, ℕ, zero, suc, ◌+◌, ◌<◌, ◌≤◌, Bool, true, false, ◌&&◌, nat_lt, inl, inr, List, [], ◌∷◌, arith, Option, Some, None, cases_eq, lt-ltb, and_parts, and_right, common_steps, touches, AreTouched, Access, Clash, Commit, Geometry, Kind, Read, Write, Mode, Serial, Snapshot, clashes, clash_from, first_from, first_byte, guarded, Note, guarded_bytes, AreNotes, Bytes, IsLeastMeeting}
 use Rattle.iso_model.specs.Effect as model
 
 -- no number passes
@@ -45,6 +45,11 @@ pub guarded_are : (g : Geometry) (mode : Mode) (accesses : List Access) (reads w
     → AreTouched g.block g.blocks (guarded mode) accesses (guarded_bytes mode reads writes)
 guarded_are g Serial accesses reads writes rs ws = rs
 guarded_are g Snapshot accesses reads writes rs ws = ws
+
+-- where no byte is touched, no commit is met
+pub none_met : (bytes : Bytes) (notes : List Note) → ((b p : ℕ) → touches bytes b p ≡ false) → IsLeastMeeting bytes notes None
+none_met bytes [] none = refl
+none_met bytes (note ∷ notes) none = inl ((λ b p. and_right (touches note.1 b p) (touches bytes b p) (none b p)), none_met bytes notes none)
 
 -- inside the image both sets meet where the model's test says so
 same_test : (s t u v : Bool) → s ≡ true → t ≡ true → ((s && t && u) && (s && t && v)) ≡ (u && v)

@@ -40,6 +40,23 @@ fn least_meeting<L: Ledger>(
     None
 }
 
+// So, and no commit is looked at where there is no byte that it could meet.
+fn least_met<L: Ledger>(
+    bytes: &Touched,
+    upto: u64,
+    notes: &Notes,
+    steps: &mut Steps<L>,
+) -> Option<Clash>
+    ensures least { IsLeastMeeting bytes.now (above upto notes.now.notes) result }
+    ensures steps { steps.new ≤ steps.old + length (above upto notes.now.notes) }
+    ensures none { ((b p : ℕ) → touches bytes.now b p ≡ false) → steps.new ≡ steps.old }
+{
+    if bytes.is_empty() {
+        return None;
+    }
+    least_meeting(bytes, upto, notes, steps)
+}
+
 // The bytes that later commits may not have written.
 fn guarded<'a>(mode: Mode, reads: &'a Touched, writes: &'a Touched) -> &'a Touched
     ensures { result.now ≡ guarded_bytes mode reads.now writes.now }
@@ -50,7 +67,8 @@ fn guarded<'a>(mode: Mode, reads: &'a Touched, writes: &'a Touched) -> &'a Touch
     }
 }
 
-/// How a transaction with these bytes conflicts, if it does: not at all without a write, as is known already, or with the first commit above.
+/// How a transaction with these bytes conflicts, if it does: not at all without a write, as is known already, or with the first
+/// commit above. No commit is looked at where there is nothing to guard, as in serial mode without a read.
 pub fn decide<L: Ledger>(
     mode: Mode,
     checked: &Checked,
@@ -64,6 +82,7 @@ pub fn decide<L: Ledger>(
     ensures later { (b p : ℕ) → touches writes.now b p ≡ true → checked.now.clash ≡ None
         → IsLeastMeeting (guarded_bytes mode reads.now writes.now) (above checked.now.upto notes.now.notes) result }
     ensures steps { steps.new ≤ steps.old + length (above checked.now.upto notes.now.notes) }
+    ensures unguarded { ((b p : ℕ) → touches (guarded_bytes mode reads.now writes.now) b p ≡ false) → steps.new ≡ steps.old }
     ensures exact { (g : Geometry) (H : History) (begin : ℕ) (accesses : List Access)
         → IsAsked g H mode begin accesses checked.now.upto checked.now.clash reads.now writes.now notes.now.notes
         → result ≡ clash g H mode begin accesses }
@@ -74,5 +93,5 @@ pub fn decide<L: Ledger>(
     if let Some(clash) = checked.clash {
         return Some(clash);
     }
-    least_meeting(guarded(mode, reads, writes), checked.upto, notes, steps)
+    least_met(guarded(mode, reads, writes), checked.upto, notes, steps)
 }

@@ -67,13 +67,21 @@ impl Notes {
         let _ = self.notes.push((number, writes));
     }
 
+    /// Makes room for so many more commits.
+    pub fn reserve_more(&mut self, count: usize) -> Result<(), Memory>
+        ensures same { self.new.notes ≡ self.old.notes }
+        ensures room { OnOk result (length self.new.notes + count ≤ self.new.room) }
+    {
+        self.notes.reserve(count)?;
+        Ok(())
+    }
+
     /// Makes room for as many more commits as others hold.
     pub fn reserve_for(&mut self, others: &Notes) -> Result<(), Memory>
         ensures same { self.new.notes ≡ self.old.notes }
         ensures room { OnOk result (length self.new.notes + length others.now.notes ≤ self.new.room) }
     {
-        self.notes.reserve(others.notes.len())?;
-        Ok(())
+        self.reserve_more(others.notes.len())
     }
 
     /// Adds later commits, for which there is room.

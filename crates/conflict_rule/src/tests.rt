@@ -134,6 +134,7 @@ fn no_write_is_no_conflict_and_a_known_one_stands(rt: HostRuntime) -> Result<(),
     let all = touched(alloc, &[(9, 0, 64)])?;
     let none = Touched::empty(alloc);
     assert_eq!(rt; decided(Mode::Serial, 2, &all, &none, &notes), None);
+    assert_eq!(rt; decided(Mode::Serial, 2, &none, &all, &notes), None);
     let earlier = Clash {
         commit: 2,
         block: 1,

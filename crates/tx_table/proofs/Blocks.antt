@@ -1,7 +1,7 @@
 -- Patches whose blocks rise.
 use Rattle.tx_table.proofs.Words.{◌≡◌, ◌≢◌, ◌∙◌, refl, sym, ap, subst, ℕ, zero, suc, ◌+◌, ◌<◌, ◌≤◌, Bool, true, false, ◌==◌, ◌||◌, cond, inl, inr, List, [], ◌∷◌, ◌++◌, length, get_or, set, take, drop, arith, ne_eqb, Option, None, replicate, both_ways, cases_eq, cases_lt, get_or_default, laid, common_steps, has_patch, patch_at, RisesFrom}
 
-at_least : {A : Type 0} (f j : ℕ) (es : List (ℕ × A)) (d : ℕ × A) → RisesFrom f es → j < length es → f ≤ (get_or es j d).0
+pub at_least : {A : Type 0} (f j : ℕ) (es : List (ℕ × A)) (d : ℕ × A) → RisesFrom f es → j < length es → f ≤ (get_or es j d).0
 at_least f j [] d rises lt = absurd (omega arith)
 at_least f zero (x ∷ es) d rises lt = rises.0
 at_least f (suc j) (x ∷ es) d rises lt = let later = at_least (x.0 + 1) j es d rises.1 (omega arith) in omega (arith, later, rises.0)

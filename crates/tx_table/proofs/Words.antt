@@ -1,6 +1,7 @@
 -- The words that the proofs of this crate cite from elsewhere.
 pub use Rattle.std.proofs.Common.{Bool, Err, IsFalse, IsTrue, List, None, Ok, Option, Result, Some, [], ap, arith, bytes_eq, cond, drop, false, flat_map, get_or, get_or-set_other, get_or-set_same, inl, inr, is_ok, is_some, length, length-append, length-drop, length-set, ltb, map, min, nat_eq, nat_le, nat_lt, ne_eqb, refl, replicate, rules, set, slice_get, slice_index, subst, suc, sym, take, true, vec_capacity, vec_len, zero, ℕ, ◌&&◌, ◌++◌, ◌+◌, ◌-◌, ◌<◌, ◌==◌, ◌||◌, ◌∙◌, ◌∷◌, ◌≡◌, ◌≢◌, ◌≤◌, ◌⊎◌}
 pub use Rattle.std.proofs.Math.Bool.{or-false}
+pub use Rattle.std.proofs.Math.Nat.{min-eq_left}
 pub use Rattle.std.proofs.lemmas.Bool.{both_ways, cases_eq, cases_lt, cond-true, ltb-false, ltb-true}
 pub use Rattle.std.proofs.lemmas.Grind.{common_steps}
 pub use Rattle.std.proofs.lemmas.List.{drop_more, get_or-drop, get_or_default, length-replicate, take-append-drop, take-map, take_all}
@@ -35,7 +36,7 @@ pub use Rattle.iso_model.specs.declared.access.Span.{Span}
 pub use Rattle.merge_write.proofs.Effects.{no_effects, written_effects}
 pub use Rattle.merge_write.proofs.Growth.{effects_kept, effects_shown}
 pub use Rattle.merge_write.specs.Patch.{laid, written}
-pub use Rattle.tx_table.specs.Live.{IsPlace, at_work}
+pub use Rattle.tx_table.specs.Live.{AreBefore, BeginFrom, IsPlace, at_work}
 pub use Rattle.tx_table.specs.Patches.{AreBlankFrom, AreEffects, HavePatches, Held, RisesFrom, has_patch, patch_at}
 pub use Rattle.tx_table.specs.Rack.{IsKeyed}
 pub use Rattle.tx_table.specs.Slots.{AreSlots, entries_of}

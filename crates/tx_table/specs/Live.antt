@@ -1,5 +1,6 @@
 -- What contracts see of `Live`: the numbers of the live transactions in the order of their begins, each with what it began with.
-use Rattle.std.specs.Prelude.{◌≡◌, ℕ, ◌+◌, ◌<◌, nat_eq, List, [], ◌++◌, Option, drop, length, option_map, slice_get, take}
+use Rattle.std.specs.Prelude.{◌≡◌, ℕ, ◌+◌, ◌<◌, ◌≤◌, nat_eq, List, [], ◌∷◌, ◌++◌, Option, drop, length, option_map, slice_get, take}
+use Rattle.std.specs.List.{AllByRecursion}
 use Rattle.std.specs.Map.{lookup, remove_entry}
 use Rattle.iso_model.specs.declared.access.Mode.{Mode}
 use Rattle.iso_model.specs.World as model
@@ -16,6 +17,15 @@ mode_of tx live = option_map (λ begun. begun.mode) (lookup (nat_eq tx) live)
 -- the transaction of the model that has begun so and done nothing
 abbrev pub at_work : ℕ × Begun → model.Live
 at_work entry = record { number = entry.0; begin = entry.1.at; mode = entry.1.mode; accesses = []; place = model.unattached }
+
+-- they are before a transaction of that number that begins there: their numbers are below its number, and none began later
+abbrev pub AreBefore : (tx at : ℕ) → List (ℕ × Begun) → Type 0
+AreBefore tx at live = AllByRecursion (λ e. (e.0 < tx) × (e.1.at ≤ at)) live
+
+-- no begin is below `from`, or below the one before it
+abbrev pub BeginFrom : (from : ℕ) → List (ℕ × Begun) → Type 0
+BeginFrom from [] = Unit {0}
+BeginFrom from (e ∷ live) = (from ≤ e.1.at) × BeginFrom e.1.at live
 
 -- the first entry of the transaction stands at that place
 pub record IsPlace (tx : ℕ) (live : List (ℕ × Begun)) (place : ℕ) : Type 0 where

@@ -1,9 +1,11 @@
 // The transactions that are live.
-ghost use Rattle.std.specs.Prelude.{◌≡◌, ℕ, ◌+◌, ◌<◌, ◌≤◌, [], ◌∷◌, ◌++◌, Some, None, Err, IfNone, IfSome, IsSome, OnOk, OnErr, length, nat_eq, map, option_map};
+ghost use Rattle.std.specs.Prelude.{◌≡◌, ℕ, ◌+◌, ◌<◌, ◌≤◌, [], ◌∷◌, ◌++◌, Some, None, Err, IfNone, IfSome, IsSome, OnOk, OnErr, length, nat_eq, map, option_map, slice_index_or};
+ghost use Rattle.std.specs.Bool.{OnTrue};
 ghost use Rattle.std.specs.Map.{lookup, remove_entry};
 ghost use Rattle.iso_model.specs.declared.limits.TheConstants.{MAX_LIVE};
 ghost use Rattle.iso_model.specs.World.{floor_of};
-ghost use Rattle.tx_table.specs.Live.{IsPlace, at_work, begin_of, mode_of};
+ghost use Rattle.tx_table.specs.Live.{AreBefore, IsPlace, at_work, begin_of, mode_of};
+ghost use Rattle.tx_table.specs.Patches.{RisesFrom};
 
 use iso_model::{MAX_LIVE, Mode};
 use std::alloc::Global;
@@ -23,7 +25,7 @@ pub struct Begun {
     pub mode: Mode,
 }
 
-/// The live transactions in the order of their begins. Contracts see the list of their numbers, each with what it began with.
+/// The live transactions in the order of their begins, which is that of their numbers. Contracts see the list of their numbers, each with what it began with.
 #[derive(Drop)]
 pub struct Live {
     begins: Vec<(u64, Begun)>,
@@ -33,12 +35,14 @@ impl Model for Live {
     ghost use Rattle.std.specs.Prelude.{List, ℕ, ◌≤◌, length};
     ghost use Rattle.iso_model.specs.declared.limits.TheConstants.{MAX_LIVE};
     ghost use Rattle.tx_table.specs.declared.live.Begun.{Begun};
+    ghost use Rattle.tx_table.specs.Live.{BeginFrom};
+    ghost use Rattle.tx_table.specs.Patches.{RisesFrom};
 
     ghost Value = { List (ℕ × Begun) };
 
     ghost view = { λ a. a.begins.items };
 
-    ghost invariant = { λ a. length a.begins.items ≤ MAX_LIVE };
+    ghost invariant = { λ a. (length a.begins.items ≤ MAX_LIVE) × RisesFrom 0 a.begins.items × BeginFrom 0 a.begins.items };
 }
 
 impl Live {
@@ -51,9 +55,22 @@ impl Live {
         }
     }
 
+    /// Whether a transaction of this number that begins there comes behind all others.
+    pub fn is_next(&self, tx: u64, at: u64) -> bool
+        ensures { OnTrue result (AreBefore tx at self.now) }
+    {
+        let Some((last, _)) = self.begins.split_last() else {
+            return true;
+        };
+        if tx <= last.0 || at < last.1.at {
+            return false;
+        }
+        true
+    }
+
     /// Enters a transaction, last of all.
     pub fn enter(&mut self, tx: u64, at: u64, mode: Mode) -> Result<(), EnterError>
-        requires { begin_of tx self.old ≡ None }
+        requires { AreBefore tx at self.old }
         ensures ok { OnOk result (self.new ≡ self.old ++ (tx, record { at = at; mode = mode }) ∷ []) }
         ensures err { OnErr result (self.new ≡ self.old) }
         ensures full { length self.old ≡ MAX_LIVE → result ≡ Err EnterError.TooManyTx }
@@ -98,15 +115,11 @@ impl Live {
     pub fn floor(&self, last: u64) -> u64
         ensures { result ≡ floor_of last (map at_work self.now) }
     {
-        let mut least = last;
-        for (i, entry) in self.begins.iter().enumerate() {
-            least = if i == 0 {
-                entry.1.at
-            } else {
-                least.min(entry.1.at)
-            };
-        }
-        least
+        // No later one began before the first.
+        let Some((first, _)) = self.begins.split_first() else {
+            return last;
+        };
+        first.1.at
     }
 
     /// How many are live.
@@ -117,15 +130,25 @@ impl Live {
     }
 }
 
-/// Where the entry of a transaction stands, and none exactly where it has none.
+// The place of the first entry whose number is not below this one.
+fn place_from(entries: &[(u64, Begun)], tx: u64) -> usize
+    requires { RisesFrom 0 entries.now }
+    ensures within { result ≤ length entries.now }
+    ensures before { (k : ℕ) → k < result → (d : ℕ × Begun) → (slice_index_or entries.now k d).0 < tx }
+    ensures after { (k : ℕ) → result ≤ k → k < length entries.now → (d : ℕ × Begun) → tx ≤ (slice_index_or entries.now k d).0 }
+{
+    entries.partition_point(|entry| entry.0 < tx)
+}
+
+// Where the entry of a transaction stands, and none exactly where it has none.
 fn place_of(entries: &[(u64, Begun)], tx: u64) -> Option<usize>
+    requires { RisesFrom 0 entries.now }
     ensures some { IfSome result (λ place. IsPlace tx entries.now place) }
     ensures none { IfNone result (lookup (nat_eq tx) entries.now ≡ None) }
 {
-    for (place, entry) in entries.iter().enumerate() {
-        if entry.0 == tx {
-            return Some(place);
-        }
+    let place = place_from(entries, tx);
+    if place < entries.len() && entries[place].0 == tx {
+        return Some(place);
     }
     None
 }

@@ -232,7 +232,7 @@ fn taken_over_item_is_no_longer_held(rt: HostRuntime) -> Result<(), Fail> {
 }
 
 fn enter(live: &mut Live, tx: u64, at: u64) -> Option<Result<(), EnterError>> {
-    if live.at(tx).is_some() {
+    if !live.is_next(tx, at) {
         return None;
     }
     Some(live.enter(tx, at, Mode::Snapshot))
@@ -246,7 +246,10 @@ fn at_most_1024_are_live(rt: HostRuntime) -> Result<(), Fail> {
         assert_eq!(rt; enter(&mut live, tx, 50 + tx), Some(Ok(())));
     }
     assert_eq!(rt; live.len(), 1024);
-    assert_eq!(rt; enter(&mut live, 1024, 3), Some(Err(EnterError::TooManyTx)));
+    assert_eq!(rt;
+        enter(&mut live, 1024, 1073),
+        Some(Err(EnterError::TooManyTx))
+    );
     assert_eq!(rt; live.floor(9), 50);
     if live.at(0).is_some() {
         live.leave(0);
@@ -256,7 +259,10 @@ fn at_most_1024_are_live(rt: HostRuntime) -> Result<(), Fail> {
     assert_eq!(rt; live.at(1), Some(51));
     assert_eq!(rt; live.mode(1), Some(Mode::Snapshot));
     assert_eq!(rt; live.mode(0), None);
-    assert_eq!(rt; enter(&mut live, 1024, 3), Some(Ok(())));
-    assert_eq!(rt; live.floor(9), 3);
+    assert_eq!(rt; enter(&mut live, 1023, 1073), None);
+    assert_eq!(rt; enter(&mut live, 1024, 1072), None);
+    assert_eq!(rt; enter(&mut live, 1024, 1073), Some(Ok(())));
+    assert_eq!(rt; live.at(1024), Some(1073));
+    assert_eq!(rt; live.floor(9), 51);
     Ok(())
 }

@@ -28,8 +28,8 @@ returns-clause-exact g c g' H begin accesses asked =
     let rest = clash_from g' c.args.mode accesses (first_after H upto) (drop (upto + 1 - H.first) H.commits) in
     let bytes = guarded_bytes c.args.mode c.args.reads.now c.args.writes.now in
     let notes = above upto c.args.notes.now.notes in
-    let least : IsLeastMeeting bytes notes c.least_meeting.result = subst (λ (x : Bytes). IsLeastMeeting x notes c.least_meeting.result) c.guarded.ensures c.least_meeting.ensures.least in
-    let later : c.least_meeting.result ≡ rest =
-    clash_of g' c.args.mode accesses bytes (first_after H upto) notes (drop (upto + 1 - H.first) H.commits) c.least_meeting.result
+    let least : IsLeastMeeting bytes notes c.least_met.result = subst (λ (x : Bytes). IsLeastMeeting x notes c.least_met.result) c.guarded.ensures c.least_met.ensures.least in
+    let later : c.least_met.result ≡ rest =
+    clash_of g' c.args.mode accesses bytes (first_after H upto) notes (drop (upto + 1 - H.first) H.commits) c.least_met.result
     (guarded_are g' c.args.mode accesses c.args.reads.now c.args.writes.now asked.reads asked.writes) asked.later least in
     later ∙ sym (clash_parts g' H c.args.mode begin upto accesses some asked.order ∙ ap (λ (o : Option Clash). or_else o rest) ahead)
