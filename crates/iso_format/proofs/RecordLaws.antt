@@ -92,6 +92,10 @@ pieces_spelled gate kind n parts count len m body many long number spelled =
     ∙ ap (λ (k : ℕ). pieces gate kind (length parts) (body_length parts) k body) number
     ∙ ap (λ (x : List ℕ). pieces gate kind (length parts) (body_length parts) n x) spelled
 
+-- they are as many as they ask for
+pub window_fits : (g : Geometry) (n : ℕ) (bytes : List ℕ) → fault_of g n bytes ≡ None → 21 + number_at w32 8 bytes ≤ length bytes
+window_fits g n bytes e = (head_is g bytes (no_fault g n bytes e).head).long
+
 pub read_is : (g : Geometry) (n : ℕ) (bytes : List ℕ) → AreBytes bytes → fault_of g n bytes ≡ None → BeginsWith g n (recorded bytes) bytes
 read_is g n bytes fits e =
     let free = no_fault g n bytes e in

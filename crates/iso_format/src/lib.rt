@@ -18,5 +18,5 @@ pub use half::{HalfHeader, read_half, unclean_place, write_half};
 pub use iso_model::PartList;
 pub use log_record::{record_length, write_record};
 pub use record_buffer::RecordBuffer;
-pub use record_view::{Part, PartIter, RecordView, read_record, record_window};
+pub use record_view::{Part, PartIter, RecordView, read_record, record_window, view_record};
 pub use superblock::{SuperError, is_valid, read_super, write_super};

@@ -1,6 +1,8 @@
 // A record that lies in bytes, and its parts.
-ghost use Rattle.std.specs.Prelude.{◌≡◌, ◌≤◌, length, None, Some, Ok, IfOk, IfErr, IsTrue};
+ghost use Rattle.std.specs.Prelude.{◌≡◌, ◌≤◌, ℕ, length, None, Some, Ok, IfOk, IfErr, IsTrue};
+ghost use Rattle.iso_model.specs.declared.access.Geometry.{Geometry};
 ghost use Rattle.iso_model.specs.Geometry.{is_valid};
+ghost use Rattle.iso_model.specs.Premises.{AreBytes};
 ghost use Rattle.iso_format.specs.Records.{BeginsWith, Recorded, fault_of, record_window, recorded};
 
 use crate::faults::{PART_HEAD, body_of, fault_of, part_size};
@@ -117,6 +119,20 @@ pub fn record_window(head: &[u8]) -> u64
     21 + u64::from(u32_at(head, 8))
 }
 
+/// What a record says that lies at the front of the bytes. It passes each test, and none is made again.
+pub fn view_record(input: &[u8]) -> RecordView<'_>
+    requires { (g : Geometry) × (n : ℕ) × (fault_of g n input.now ≡ None) }
+    ensures says { result ≡ recorded input.now }
+    ensures values { AreBytes input.now }
+{
+    RecordView {
+        number: u64_at(input, 12),
+        kind: input[1],
+        count: u32_at(input, 4),
+        body: body_of(input),
+    }
+}
+
 /// The body of `read_record`, apart so that the clauses on what is spelled follow from the exact ones, at one exit.
 fn record_of<'a>(
     geometry: &Geometry,
@@ -129,12 +145,7 @@ fn record_of<'a>(
     if let Some(fault) = fault_of(geometry, number, input) {
         return Err(fault);
     }
-    Ok(RecordView {
-        number: u64_at(input, 12),
-        kind: input[1],
-        count: u32_at(input, 4),
-        body: body_of(input),
-    })
+    Ok(view_record(input))
 }
 
 /// The record at the front of the bytes, which go on to the end of the log, or the first test that they fail. Its gate

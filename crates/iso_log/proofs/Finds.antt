@@ -1,5 +1,5 @@
 -- The record at a gate, as it is found in bytes that were read.
-use Rattle.iso_log.proofs.Words.{◌≡◌, ◌<◌, ◌≤◌, ◌+◌, ◌-◌, ◌^◌, ℕ, List, [], ◌∷◌, ◌++◌, Some, Result, Ok, Err, IsErrOf, length, take, drop, get_or, sym, ◌∙◌, ap, arith, subst, length-append, length-drop, get_or-take, get_or-drop, length-take-le, take-take, nil_from_length, Geometry, kind_of, spell, FormatError, Short, offset_of, test_number, BeginsWith, fault_of, record_window, recorded, window_front, fault_front, short_head, short_body, OpenError, damaged, told_first, kind_again, form_1, LogError, LogFull, Disk, Memory, Damaged, Extent, next_place, IsDamaged, IsNextRecord, IsTestBefore, StandAt}
+use Rattle.iso_log.proofs.Words.{◌≡◌, ◌<◌, ◌≤◌, ◌+◌, ◌-◌, ◌^◌, ℕ, List, [], ◌∷◌, ◌++◌, Some, Result, Ok, Err, IsErrOf, length, take, drop, get_or, sym, ◌∙◌, ap, arith, subst, length-append, length-drop, get_or-take, get_or-drop, length-take-le, take-take, nil_from_length, Geometry, kind_of, spell, FormatError, Short, offset_of, test_number, BeginsWith, fault_of, record_window, recorded, window_front, fault_front, short_head, short_body, OpenError, damaged, told_first, kind_again, form_1, LogError, LogFull, Disk, Memory, Damaged, Extent, next_place, IsDamaged, IsFound, IsNextRecord, IsTaken, IsTestBefore, StandAt}
 use Rattle.iso_refusal.specs.declared.open_error.OpenError.TheVariants as refused
 use Rattle.iso_log.proofs.Counts.{spell_gate, window_is}
 use Rattle.iso_log.proofs.Offsets.{fault_below, test_from, test_upto}
@@ -126,6 +126,23 @@ module _ (place rest : ℕ) (b c : List ℕ) (stands : StandAt place b c) (withi
   no_body g number long short =
       let window = window_same place rest b c stands within (omega (arith, long)) in
       short_body g number (take rest (drop place c)) (omega (arith, rest_long, within, long)) (omega (arith, rest_long, window, short))
+
+-- a record that was found has one byte at least
+pub found_some : (g : Geometry) (number size : ℕ) (bytes : List ℕ) → IsFound g number bytes size → 1 ≤ size
+found_some g number size bytes f =
+    let told = told_first g (take size bytes) in
+    omega (arith, ap length f.next.bytes_are, length-append (spell 1 (kind_of g told.mode) number told.parts) (f.next.gate ∷ []), length-take-le size bytes f.within)
+
+-- the log has passed it
+pub taken_is : (g : Geometry) (a log : Extent) → a ≡ log → (ahead : List ℕ) (size : ℕ) → log.used + length ahead ≤ log.room → IsFound g (log.last + 1) ahead size
+    → IsTaken g log (record a { used = a.used + (size - 1); last = a.last + 1 }) (take size ahead)
+taken_is g a log same ahead size room f =
+    let count : length (take size ahead) ≡ size = length-take-le size ahead f.within in
+    record {
+      next = f.next;
+      grown = λ i. record (same i) { used = (same i).used + (sym count i - 1); last = (same i).last + 1 };
+      inside = omega (arith, found_some g (log.last + 1) size ahead f, f.within, room, ap (λ (e : Extent). e.used) same, ap (λ (e : Extent). e.room) same);
+    }
 
 -- ---- the record of a log
 

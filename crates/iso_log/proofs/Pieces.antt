@@ -1,5 +1,5 @@
 -- Bytes of an image that are read piece by piece.
-use Rattle.iso_log.proofs.Words.{◌≡◌, ◌≤◌, ◌+◌, ◌-◌, ℕ, List, ◌++◌, Option, Some, Result, Ok, Err, OnOk, OnErr, length, take, drop, refl, sym, ◌∙◌, ap, arith, length-drop, subst, slice_range, drop-drop, drop-take, length-take-le, take-take, take-plus, StandAt}
+use Rattle.iso_log.proofs.Words.{◌≡◌, ◌≤◌, ◌+◌, ◌-◌, ℕ, List, ◌++◌, length, take, drop, sym, ◌∙◌, ap, arith, length-drop, slice_range, drop-drop, drop-take, length-take-le, take-take, take-plus, StandAt}
 
 -- one piece more
 pub stand_more : (place have want : ℕ) (old new c : List ℕ) → length old ≡ have → have ≤ want → place + want ≤ length c → StandAt place old c
@@ -15,14 +15,15 @@ stand_more place have want old new c count le fits stands is =
     let size : length new ≡ want = ap length whole ∙ length-take-le want (drop place c) (omega (arith, length-drop place c)) in
     whole ∙ ap (λ (n : ℕ). take n (drop place c)) (sym size)
 
--- what stood there and one piece more, or where it was not read, what stood there
-pub stand_either : {T E : Type 0} (read : Result T E) (contents : Option (List ℕ)) (place at want : ℕ) (first old new c : List ℕ) → contents ≡ Some c → StandAt place first c → first ≡ old → at ≡ place + length old
-    → length old ≤ want → place + want ≤ length c
-    → OnOk read ((d : List ℕ) → contents ≡ Some d → new ≡ old ++ slice_range d at (at + (want - length old))) → OnErr read (new ≡ old) → StandAt place new c
-stand_either (Ok x) contents place at want first old new c told stands same start le fits more kept =
-    stand_more place (length old) want old new c refl le fits (subst (λ (l : List ℕ). StandAt place l c) same stands)
-    (more c told ∙ (λ i. old ++ slice_range c (start i) (start i + (want - length old))))
-stand_either (Err e) contents place at want first old new c told stands same start le fits more kept = subst (λ (l : List ℕ). StandAt place l c) (same ∙ sym kept) stands
+-- how many bytes a range has
+pub range_size : (from end : ℕ) (l : List ℕ) → end ≤ length l → length (slice_range l from end) ≡ end - from
+range_size from end l within = length-take-le (end - from) (drop from l) (omega (arith, within, length-drop from l))
+
+-- the range behind the first of its bytes
+pub range_behind : (from end n : ℕ) (l : List ℕ) → from + n ≤ end → slice_range l (from + n) end ≡ drop n (slice_range l from end)
+range_behind from end n l le =
+    let far : end - from ≡ n + (end - (from + n)) = omega (arith, le) in
+    sym (ap (λ (k : ℕ). drop n (take k (drop from l))) far ∙ drop-take n (end - (from + n)) (drop from l) ∙ ap (take (end - (from + n))) (drop-drop n from l))
 
 -- the front of what stands there
 pub stand_front : (place n : ℕ) (bytes c : List ℕ) → n ≤ length bytes → StandAt place bytes c → StandAt place (take n bytes) c

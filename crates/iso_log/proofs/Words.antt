@@ -1,6 +1,8 @@
 -- The words that the proofs of this crate cite from elsewhere.
 pub use Rattle.std.proofs.Common.{Bool, Err, IsErrOf, List, None, Ok, OnErr, OnOk, Option, Result, Some, [], ap, append_assoc, arith, cond, drop, false, get_or, inl, inr, length, length-append, length-drop, min, nat_le, nat_lt, not, refl, replicate, subst, suc, sym, take, true, zero, ℕ, ◌&&◌, ◌*◌, ◌++◌, ◌+◌, ◌-◌, ◌<◌, ◌==◌, ◌^◌, ◌||◌, ◌∙◌, ◌∷◌, ◌≡◌, ◌≤◌, ◌⊎◌}
 pub use Rattle.std.proofs.lemmas.List.{append-nil, drop-drop, drop-take, drop_at, get_or-drop, get_or-replicate, get_or-take, length-replicate, length-take, length-take-le, nil_from_length, take-take, take_rest}
+pub use Rattle.std.proofs.Math.Seq.{paste}
+pub use Rattle.std.proofs.lemmas.List.Edits.{take-paste}
 pub use Rattle.std.proofs.lemmas.Nat.{from_be_bytes-to_be_bytes_4}
 pub use Rattle.std.proofs.lemmas.Option.{same_Some}
 pub use Rattle.std.proofs.lemmas.Result.{on_ok_weaker}
@@ -35,6 +37,7 @@ pub use Rattle.iso_model.specs.Effect.{or_else}
 unfoldable pub use Rattle.iso_model.specs.Geometry.{is_valid}
 pub use Rattle.iso_model.specs.Image.{IsRecord, Written, body_length, kind_of, records}
 unfoldable pub use Rattle.iso_model.specs.Image.{spell}
+pub use Rattle.iso_model.specs.Premises.{AreBytes}
 pub use Rattle.iso_model.specs.declared.access.Geometry.{Geometry}
 pub use Rattle.iso_model.specs.declared.access.Mode.TheVariants.{Serial}
 pub use Rattle.iso_model.specs.declared.access.Run.{Run}
@@ -45,6 +48,6 @@ pub use Rattle.iso_refusal.specs.declared.open_error.OpenError.{OpenError}
 pub use Rattle.iso_log.specs.Extent.{Extent, extent_of, next_place}
 pub use Rattle.iso_log.specs.Log.{AppendedTo, AppendingFrom, HasTold, IsNext}
 pub use Rattle.iso_log.specs.Ready.{IsReady}
-pub use Rattle.iso_log.specs.Scan.{IsDamaged, IsNextRecord, IsTestBefore, StandAt}
+pub use Rattle.iso_log.specs.Scan.{IsDamaged, IsFound, IsNextRecord, IsTaken, IsTestBefore, StandAt}
 pub use Rattle.iso_log.specs.declared.log_error.LogError.{LogError}
 pub use Rattle.iso_log.specs.declared.log_error.LogError.TheVariants.{Damaged, Disk, LogFull, Memory}

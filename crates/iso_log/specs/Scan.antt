@@ -17,6 +17,12 @@ pub record IsNextRecord (g : Geometry) (number : ℕ) (bytes : List ℕ) : Type 
   pub gate : ℕ
   pub bytes_are : bytes ≡ spell 1 (kind_of g (told_first g bytes).mode) number (told_first g bytes).parts ++ gate ∷ []
 
+-- So many of these bytes are the record with this number and one gate behind it, and pass each test.
+pub record IsFound (g : Geometry) (number : ℕ) (bytes : List ℕ) (size : ℕ) : Type 0 where
+  pub within : size ≤ length bytes
+  pub next : IsNextRecord g number (take size bytes)
+  pub passes : fault_of g number (take size bytes) ≡ None
+
 -- these bytes stand in the image from this place on
 abbrev pub StandAt : (place : ℕ) → (bytes image : List ℕ) → Type 0
 StandAt place bytes image = bytes ≡ take (length bytes) (drop place image)

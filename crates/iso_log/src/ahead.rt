@@ -1,5 +1,5 @@
 // Bytes of a log that are read ahead of its scan.
-ghost use Rattle.std.specs.Prelude.{◌≡◌, ◌+◌, ◌-◌, ◌≤◌, ◌++◌, ℕ, length, take, drop, OnOk, OnErr, IsErrOf};
+ghost use Rattle.std.specs.Prelude.{◌≡◌, ◌+◌, ◌-◌, ◌≤◌, ◌++◌, ℕ, List, length, take, OnOk, IsErrOf};
 ghost use Rattle.std.specs.List.{slice_range};
 ghost use Rattle.std.specs.Option.{ForSome};
 ghost use Rattle.iso_disk.specs.Disk.{WritesNothing};
@@ -7,44 +7,56 @@ ghost use Rattle.iso_log.specs.Cause.{BlamesDisk};
 
 use crate::log_error::LogError;
 use iso_disk::Disk;
-use std::alloc::Global;
+use iso_format::{RecordView, view_record};
+use std::alloc::{AllocError, Global};
 use std::marker::Model;
+
+/// How many bytes the first read asks for at most, so that a log that holds little takes little memory.
+const FIRST: u32 = 69_632;
 
 /// The bytes of a log from its next gate on, as far as they were read. Contracts see these bytes. It takes memory for one
 /// piece, or for the longest record, and each byte is read from the disk once.
 #[derive(Drop)]
 pub struct ReadAhead {
+    // What lies behind `end` was read before, or never: memory that is taken is kept, and cleared once.
     bytes: Vec<u8>,
-    // Where those begin that the scan has not passed.
+    // Where those begin that the scan has not passed, and where they end.
     from: usize,
+    end: usize,
     // How many bytes are read at once, where the log has so many.
     piece: u32,
 }
 
 impl Model for ReadAhead {
-    ghost use Rattle.std.specs.Prelude.{◌≤◌, ℕ, List, length, drop};
+    ghost use Rattle.std.specs.Prelude.{◌≤◌, ℕ, List, length};
+    ghost use Rattle.std.specs.List.{slice_range};
 
     ghost Value = { List ℕ };
 
-    ghost view = { λ a. drop a.from a.bytes.items };
+    ghost view = { λ a. slice_range a.bytes.items a.from a.end };
 
-    ghost invariant = { λ a. a.from ≤ length a.bytes.items };
+    ghost invariant = { λ a. (a.from ≤ a.end) × (a.end ≤ length a.bytes.items) };
 }
 
 impl ReadAhead {
-    ghost use Rattle.std.specs.Prelude.{◌≡◌, ◌+◌, ◌-◌, ◌≤◌, [], ℕ, length, take, drop, OnOk, IsErrOf};
+    ghost use Rattle.std.specs.Prelude.{◌≡◌, ◌+◌, ◌-◌, ◌≤◌, [], None, ℕ, length, take, drop, OnOk, IsErrOf};
     ghost use Rattle.std.specs.Option.{ForSome};
+    ghost use Rattle.iso_model.specs.declared.access.Geometry.{Geometry};
+    ghost use Rattle.iso_model.specs.Premises.{AreBytes};
     ghost use Rattle.iso_disk.specs.Disk.{WritesNothing};
+    ghost use Rattle.iso_format.specs.Records.{fault_of, recorded};
     ghost use Rattle.iso_log.specs.Cause.{BlamesDisk};
     ghost use Rattle.iso_log.specs.Scan.{StandAt};
 
-    /// Nothing is read yet. Each read of the disk will ask for so many bytes, or for all of a longer record.
+    /// Nothing is read yet. Each read of the disk will ask for so many bytes, or for all of a longer record, and the first one
+    /// for 69,632 at most.
     pub fn new(alloc: Global, piece: u32) -> Self
         ensures { result ≡ [] }
     {
         ReadAhead {
             bytes: Vec::new(alloc),
             from: 0,
+            end: 0,
             piece,
         }
     }
@@ -53,8 +65,18 @@ impl ReadAhead {
     pub(crate) fn as_slice(&self) -> &[u8]
         ensures { result.now ≡ self.now }
     {
-        let (_, rest) = self.bytes.as_slice().split_at(self.from);
-        rest
+        &self.bytes.as_slice()[self.from..self.end]
+    }
+
+    /// The record at the front of these bytes, which has so many with the gate behind it. It was tested, and is not again.
+    pub fn view_front(&self, size: u32) -> RecordView<'_>
+        requires within { size ≤ length self.now }
+        requires passes { (g : Geometry) × (number : ℕ) × (fault_of g number (take size self.now) ≡ None) }
+        ensures says { result ≡ recorded (take size self.now) }
+        ensures values { AreBytes (take size self.now) }
+    {
+        let (record, _) = self.as_slice().split_at(size as usize);
+        view_record(record)
     }
 
     /// Passes so many of them.
@@ -88,49 +110,92 @@ impl ReadAhead {
         if self.as_slice().len() >= need as usize {
             return Ok(());
         }
-        let have = self.bytes.len() - self.from;
-        move_up(&mut self.bytes, self.from);
+        self.read_on(disk, gate, need, rest)
+    }
+
+    /// Does so where there are fewer. It is apart, as it is called once a piece and `ask` twice a record.
+    fn read_on<D: Disk>(
+        &mut self,
+        disk: &mut D,
+        gate: u64,
+        need: u32,
+        rest: u32,
+    ) -> Result<(), LogError>
+        requires fits { gate + rest ≤ (D.state disk.old).size }
+        requires fewer { length self.old ≤ need }
+        requires need { need ≤ rest }
+        ensures enough { OnOk result (need ≤ length self.new) }
+        ensures within { length self.new ≤ rest }
+        ensures front { take (length self.old) self.new ≡ self.old }
+        ensures told { ForSome (D.state disk.old).contents (λ c. StandAt gate self.old c → StandAt gate self.new c) }
+        ensures unwritten { WritesNothing (D.state disk.old) (D.state disk.new) }
+        ensures cause { BlamesDisk (D.state disk.old).faults (D.state disk.new).faults result }
+        ensures not_full { (need free : ℕ) → IsErrOf result (LogError.LogFull need free) → ⊥ }
+        ensures not_damaged { (at cause : ℕ) → IsErrOf result (LogError.Damaged at cause) → ⊥ }
+    {
+        let have = self.end - self.from;
+        move_up(&mut self.bytes, self.from, self.end);
         self.from = 0;
-        let want = need.max(self.piece.min(rest));
-        read_more(disk, gate + have as u64, &mut self.bytes, want as usize)
+        self.end = have;
+        let want = need.max(next_piece(self.piece, self.bytes.len()).min(rest)) as usize;
+        read_more(disk, gate + have as u64, &mut self.bytes, have, want)?;
+        self.end = want;
+        Ok(())
     }
 }
 
-// Moves the bytes from a place on to the front, and drops those before it.
-fn move_up(bytes: &mut Vec<u8>, from: usize)
-    requires { from ≤ length bytes.old.items }
-    ensures { bytes.new.items ≡ drop from bytes.old.items }
-{
-    let count = bytes.len() - from;
-    bytes.as_mut_slice().rotate_left(from);
-    bytes.truncate(count);
+// How many bytes are to be read at once, where there is memory for so many.
+fn next_piece(piece: u32, room: usize) -> u32 {
+    if room == 0 { piece.min(FIRST) } else { piece }
 }
 
-/// Reads on behind the bytes that are there, up to so many in all. On an error they stay.
-pub fn read_more<D: Disk>(
+// Moves the bytes of a range to the front.
+fn move_up(bytes: &mut Vec<u8>, from: usize, end: usize)
+    requires order { from ≤ end }
+    requires within { end ≤ length bytes.old.items }
+    ensures front { take (end - from) bytes.new.items ≡ slice_range bytes.old.items from end }
+    ensures size { length bytes.new.items ≡ length bytes.old.items }
+{
+    bytes.as_mut_slice().copy_within(from..end, 0);
+}
+
+// Makes so many bytes stand there at least. Those that do stay.
+fn reach(bytes: &mut Vec<u8>, want: usize) -> Result<(), AllocError>
+    ensures long { OnOk result (want ≤ length bytes.new.items) }
+    ensures grown { (more : List ℕ) × (bytes.new.items ≡ bytes.old.items ++ more) }
+{
+    if bytes.len() < want {
+        bytes.resize(want, 0)?;
+    }
+    Ok(())
+}
+
+// Reads on behind the first of these bytes, up to so many in all. The first ones stay.
+fn read_more<D: Disk>(
     disk: &mut D,
     at: u64,
     bytes: &mut Vec<u8>,
+    have: usize,
     want: usize,
 ) -> Result<(), LogError>
-    requires more { length bytes.old.items ≤ want }
-    requires fits { at + (want - length bytes.old.items) ≤ (D.state disk.old).size }
-    ensures count { OnOk result (length bytes.new.items ≡ want) }
-    ensures front { OnOk result (take (length bytes.old.items) bytes.new.items ≡ bytes.old.items) }
-    ensures told { OnOk result (ForSome (D.state disk.old).contents (λ c. bytes.new.items ≡ bytes.old.items ++ slice_range c at (at + (want - length bytes.old.items)))) }
-    ensures kept { OnErr result (bytes.new.items ≡ bytes.old.items) }
+    requires more { have ≤ want }
+    requires within { have ≤ length bytes.old.items }
+    requires fits { at + (want - have) ≤ (D.state disk.old).size }
+    ensures long { OnOk result (want ≤ length bytes.new.items) }
+    ensures within { have ≤ length bytes.new.items }
+    ensures front { take have bytes.new.items ≡ take have bytes.old.items }
+    ensures told { OnOk result (ForSome (D.state disk.old).contents (λ c. take want bytes.new.items ≡ take have bytes.old.items ++ slice_range c at (at + (want - have)))) }
     ensures unwritten { WritesNothing (D.state disk.old) (D.state disk.new) }
     ensures cause { BlamesDisk (D.state disk.old).faults (D.state disk.new).faults result }
     ensures not_full { (need free : ℕ) → IsErrOf result (LogError.LogFull need free) → ⊥ }
     ensures not_damaged { (at cause : ℕ) → IsErrOf result (LogError.Damaged at cause) → ⊥ }
 {
-    let have = bytes.len();
-    if bytes.resize(want, 0).is_err() {
+    if let Err(_) = reach(bytes, want) {
         return Err(LogError::Memory);
     }
-    let (_, rest) = bytes.as_mut_slice().split_at_mut(have);
+    let (all, _) = bytes.as_mut_slice().split_at_mut(want);
+    let (_, rest) = all.split_at_mut(have);
     if let Err(_) = disk.read(at, rest) {
-        bytes.truncate(have);
         return Err(LogError::Disk);
     }
     Ok(())

@@ -30,7 +30,7 @@ impl Model for Log {
 }
 
 impl Log {
-    ghost use Rattle.std.specs.Prelude.{◌≡◌, ◌⊎◌, ◌+◌, ◌-◌, ◌<◌, ◌≤◌, ◌++◌, [], ◌∷◌, ℕ, List, Err, length, OnOk, OnErr, IfOk, IfErr, IsErrOf, IsTrue, true, false};
+    ghost use Rattle.std.specs.Prelude.{◌≡◌, ◌⊎◌, ◌+◌, ◌-◌, ◌<◌, ◌≤◌, ◌++◌, [], ◌∷◌, ℕ, List, Err, None, length, take, OnOk, OnErr, IfOk, IfErr, IfSome, IsErrOf, IsTrue, true, false};
     ghost use Rattle.std.specs.List.{slice_range};
     ghost use Rattle.std.specs.Option.{ForSome};
     ghost use Rattle.iso_model.specs.declared.access.Geometry.{Geometry};
@@ -42,7 +42,7 @@ impl Log {
     ghost use Rattle.iso_log.specs.Cause.{BlamesDisk};
     ghost use Rattle.iso_log.specs.Extent.{extent_of, next_place};
     ghost use Rattle.iso_log.specs.Log.{AppendedTo, AppendingFrom, HasTold, IsNext};
-    ghost use Rattle.iso_log.specs.Scan.{IsDamaged, IsFirst, IsTaken, IsTestBefore, StandAt};
+    ghost use Rattle.iso_log.specs.Scan.{IsDamaged, IsFirst, IsFound, IsTaken, IsTestBefore, StandAt};
 
     /// The log of `room` bytes at a place of the image, before its first record; `base` is the number before that one's.
     pub fn start(place: u64, room: u32, base: u64) -> Log
@@ -178,6 +178,51 @@ impl Log {
         self.append_group(disk, bytes)
     }
 
+    /// Finds the next record, and answers how many bytes it has with the gate behind it: the first of those that are read ahead.
+    /// It answers none where that record's gate is closed. Bytes are read a piece of the log at once, so a log costs one call
+    /// of the disk a piece; `ReadAhead::view_front` tells what the record says, and `pass` passes it.
+    pub fn find_ahead<D: Disk>(
+        &self,
+        disk: &mut D,
+        geometry: &Geometry,
+        ahead: &mut ReadAhead,
+    ) -> Result<Option<u32>, LogError>
+        requires fits { self.now.place + self.now.room ≤ (D.state disk.old).size }
+        requires left { self.now.used < self.now.room }
+        requires number { self.now.last ≤ LAST }
+        requires valid { IsTrue (is_valid geometry.now) }
+        requires within { self.now.used + length ahead.old ≤ self.now.room }
+        requires ahead { ForSome (D.state disk.old).contents (StandAt (next_place self.now) ahead.old) }
+        ensures closed { IfOk result (λ found. found ≡ None → ForSome (D.state disk.old).contents (IsClosed (next_place self.now))) }
+        ensures found { IfOk result (λ found. IfSome found (IsFound geometry.now (self.now.last + 1) ahead.new)) }
+        ensures first { IfOk result (λ found. IfSome found (λ n. ForSome (D.state disk.old).contents (IsFirst geometry.now (next_place self.now) (self.now.room - self.now.used) (self.now.last + 1)))) }
+        ensures damaged { (at cause : ℕ) → IsErrOf result (LogError.Damaged at cause)
+            → ForSome (D.state disk.old).contents (IsDamaged geometry.now (next_place self.now) (self.now.room - self.now.used) (self.now.last + 1) at cause) }
+        ensures test { (at cause : ℕ) → IsErrOf result (LogError.Damaged at cause) → IsTestBefore (self.now.place + self.now.room) at cause }
+        ensures within { self.now.used + length ahead.new ≤ self.now.room }
+        ensures ahead { ForSome (D.state disk.old).contents (StandAt (next_place self.now) ahead.new) }
+        ensures unwritten { WritesNothing (D.state disk.old) (D.state disk.new) }
+        ensures cause { BlamesDisk (D.state disk.old).faults (D.state disk.new).faults result }
+        ensures not_full { (need free : ℕ) → IsErrOf result (LogError.LogFull need free) → ⊥ }
+    {
+        let gate = self.place + u64::from(self.used);
+        let rest = self.room - self.used;
+        find_record(disk, gate, rest, geometry, self.last + 1, ahead)
+    }
+
+    /// Passes the record of so many bytes that `find_ahead` found.
+    pub fn pass(&mut self, ahead: &mut ReadAhead, size: u32)
+        requires found { (g : Geometry) × IsFound g (self.old.last + 1) ahead.old size }
+        requires within { self.old.used + length ahead.old ≤ self.old.room }
+        ensures taken { (g : Geometry) → IsFound g (self.old.last + 1) ahead.old size → IsTaken g self.old self.new (take size ahead.old) }
+        ensures within { self.new.used + length ahead.new ≤ self.new.room }
+        ensures ahead { (c : List ℕ) → StandAt (next_place self.old) ahead.old c → StandAt (next_place self.new) ahead.new c }
+    {
+        ahead.pass(size as usize - 1);
+        self.used += size - 1;
+        self.last += 1;
+    }
+
     /// Passes the next record, and replaces the contents of `into` by it and the gate behind it. It answers false where that
     /// record's gate is closed. Bytes are read ahead, a piece of the log at once, so a log costs one call of the disk a piece.
     pub fn scan_ahead<D: Disk>(
@@ -214,21 +259,17 @@ impl Log {
         ensures cause { BlamesDisk (D.state disk.old).faults (D.state disk.new).faults result }
         ensures not_full { (need free : ℕ) → IsErrOf result (LogError.LogFull need free) → ⊥ }
     {
-        let gate = self.place + u64::from(self.used);
-        let rest = self.room - self.used;
-        let window = match find_record(disk, gate, rest, geometry, self.last + 1, ahead) {
-            Ok(Some(window)) => window,
+        let size = match self.find_ahead(disk, geometry, ahead) {
+            Ok(Some(size)) => size,
             Ok(None) => return Ok(false),
             Err(error) => return Err(error),
         };
-        let (record, _) = ahead.as_slice().split_at(window as usize);
+        let (record, _) = ahead.as_slice().split_at(size as usize);
         into.clear();
         if let Err(_) = into.extend_from_slice(record) {
             return Err(LogError::Memory);
         }
-        ahead.pass(window as usize - 1);
-        self.used += window - 1;
-        self.last += 1;
+        self.pass(ahead, size);
         Ok(true)
     }
 

@@ -1,12 +1,12 @@
 // The next record of a log, found in the bytes that are read ahead.
-ghost use Rattle.std.specs.Prelude.{◌≡◌, ◌+◌, ◌^◌, ◌≤◌, ◌<◌, None, Some, ℕ, length, take, IfOk, IfSome, IsErrOf, IsTrue};
+ghost use Rattle.std.specs.Prelude.{◌≡◌, ◌+◌, ◌^◌, ◌≤◌, ◌<◌, None, Some, ℕ, length, IfOk, IfSome, IsErrOf, IsTrue};
 ghost use Rattle.std.specs.Option.{ForSome};
 ghost use Rattle.iso_model.specs.Geometry.{is_valid};
 ghost use Rattle.iso_disk.specs.Disk.{WritesNothing};
 ghost use Rattle.commit_gate.specs.Gate.{IsClosed};
 ghost use Rattle.iso_format.specs.Faults.{offset_of, test_number};
 ghost use Rattle.iso_log.specs.Cause.{BlamesDisk};
-ghost use Rattle.iso_log.specs.Scan.{IsDamaged, IsFirst, IsNextRecord, IsTestBefore, StandAt};
+ghost use Rattle.iso_log.specs.Scan.{IsDamaged, IsFirst, IsFound, IsTestBefore, StandAt};
 
 use crate::ahead::ReadAhead;
 use crate::log_error::LogError;
@@ -44,7 +44,7 @@ pub fn find_record<D: Disk>(
     requires within { length ahead.old ≤ rest }
     requires ahead { ForSome (D.state disk.old).contents (StandAt gate ahead.old) }
     ensures closed { IfOk result (λ found. found ≡ None → ForSome (D.state disk.old).contents (IsClosed gate)) }
-    ensures found { IfOk result (λ found. IfSome found (λ n. (n ≤ length ahead.new) × IsNextRecord geometry.now number (take n ahead.new))) }
+    ensures found { IfOk result (λ found. IfSome found (IsFound geometry.now number ahead.new)) }
     ensures first { IfOk result (λ found. IfSome found (λ n. ForSome (D.state disk.old).contents (IsFirst geometry.now gate rest number))) }
     ensures damaged { (at cause : ℕ) → IsErrOf result (LogError.Damaged at cause) → ForSome (D.state disk.old).contents (IsDamaged geometry.now gate rest number at cause) }
     ensures test { (at cause : ℕ) → IsErrOf result (LogError.Damaged at cause) → IsTestBefore (gate + rest) at cause }

@@ -1,5 +1,5 @@
 -- A log that is read record by record: what holds before each.
-use Rattle.iso_recover.proofs.Words.{◌≡◌, ◌<◌, ◌≤◌, ◌+◌, ◌-◌, ◌^◌, ℕ, List, [], ◌∷◌, ◌++◌, length, map, Some, Result, Ok, Err, IsErrOf, refl, sym, ◌∙◌, ap, arith, subst, ForSome, length-map, LAST, image_size, log_place, Written, AreBytes, limits, Rose, DiskState, IsLawful, WritesNothing, length-contents, joined_unwritten, starts_unwritten, IsClosed, HasLog, MayFollow, log_inside, Extent, next_place, IsFirst, IsTaken, StandAt, OpenError, Disk, Memory, log_at, log_refusal, told_first, Front, BlamesDisk, IsFront, BeginsLog, HasRead, IsDamagedBy, read_bytes, IsIndexOf, BlockVersions, versions_in, HasTaken, MayTake, part_of, may_take, parts_few}
+use Rattle.iso_recover.proofs.Words.{◌≡◌, ◌<◌, ◌≤◌, ◌+◌, ◌-◌, ◌^◌, ℕ, List, [], ◌∷◌, ◌++◌, length, map, Some, Result, Ok, Err, IsErrOf, refl, sym, ◌∙◌, ap, arith, subst, ForSome, LAST, image_size, log_place, Written, AreBytes, limits, Rose, DiskState, IsLawful, WritesNothing, length-contents, joined_unwritten, starts_unwritten, IsClosed, HasLog, MayFollow, log_inside, Extent, next_place, IsFirst, IsTaken, StandAt, OpenError, Disk, Memory, log_at, log_refusal, told_first, Front, BlamesDisk, IsFront, BeginsLog, HasRead, IsDamagedBy, read_bytes, IsIndexOf, BlockVersions, versions_in, HasTaken, MayTake, part_of, may_take}
 use Rattle.iso_recover.proofs.Scans.{begins_more, begins_none, long_record, more_is, reads_all, reads_more, reads_none, refuses_log}
 
 -- ---- causes
@@ -140,12 +140,6 @@ module _ (f : Front) (old now : DiskState) (laws : IsLawful old) (log : Extent) 
         (subst (λ (p : ℕ). MayTake (f.base + length r.told + 1) p (map part_of (told_first f.geometry into).parts) index) place
         (may_take f.geometry (record { at = f.half; generation = f.generation; base = f.base; array = []; told = r.told }) f.base (told_first f.geometry into) index is.valid is.half r.read.each may_follow
         (subst (λ (p : ℕ). IsIndexOf f.geometry (f.base + 1) p f.base r.told index) log_there r.read.index_is)))
-
-    pub few : length (told_first f.geometry into).parts < 2 ^ 32
-    few =
-        let count = length-map (told_first f.geometry into).parts part_of in
-        let less = parts_few f.geometry (record { at = f.half; generation = f.generation; base = f.base; array = []; told = r.told }) (told_first f.geometry into) is.valid may_follow in
-        omega (arith, count, less)
 
     pub goes_on_reading : (new : DiskState) → IsLawful now → (number gate : ℕ) (next : List BlockVersions) (left : List ℕ) → AreBytes into → number ≡ more.last → gate ≡ f.log + log.used
         → HasTaken number gate (map part_of (told_first f.geometry into).parts) index next

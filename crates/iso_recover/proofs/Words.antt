@@ -31,6 +31,8 @@ pub use Rattle.iso_image.proofs.Logs.{has_log, records-append, take-plus}
 pub use Rattle.iso_image.specs.Half.{Half, HasLog, IsHeld, MayFollow, half_of_world, in_form}
 pub use Rattle.iso_image.specs.declared.places.HalfPlace.{HalfPlace}
 pub use Rattle.iso_log.proofs.Counts.{window_is}
+pub use Rattle.iso_log.proofs.Finds.{taken_is}
+pub use Rattle.iso_log.proofs.Pieces.{stand_front}
 pub use Rattle.iso_log.specs.Extent.{Extent, extent_of, next_place}
 pub use Rattle.iso_log.specs.Scan.{IsDamaged, IsFirst, IsNextRecord, IsTaken, IsTestBefore, StandAt}
 pub use Rattle.iso_log.specs.declared.log_error.LogError.{LogError}

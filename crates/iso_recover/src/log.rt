@@ -11,15 +11,16 @@ ghost use Rattle.iso_recover.specs.Scanned.{HasRead};
 ghost use Rattle.iso_recover.specs.Shape.{IsShaped};
 
 use crate::front::Front;
-use crate::scan::{scan_on, take_in};
+use crate::scan::find_on;
 use iso_disk::Disk;
 use iso_log::{Log, ReadAhead};
 use iso_refusal::OpenError;
 use mv_index::MvIndex;
 use std::alloc::Global;
+use version_read::take_parts;
 
-/// How many bytes of a log are read at once.
-const PIECE: u32 = 1 << 20;
+/// How many bytes of a log are read at once, which lie in a cache of the processor.
+const PIECE: u32 = 1 << 17;
 
 /// Reads the log of an image whose front was read, up to its first closed gate, or finds the first test that it fails. It
 /// writes nothing, reads a piece of the log at once, and takes memory for a piece, the longest record and the versions.
@@ -42,26 +43,19 @@ pub fn read_log<D: Disk>(
     };
     let mut log = Log::start(front.log, front.geometry.log, front.base);
     let mut ahead = ReadAhead::new(alloc, PIECE);
-    let mut record = Vec::new(alloc);
-    let mut parts = Vec::new(alloc);
     for _i in 0..front.geometry.log {
         let gate = front.log + u64::from(log.used());
-        match scan_on(disk, &front.geometry, &mut log, &mut ahead, &mut record) {
-            Ok(true) => {}
-            Ok(false) => return Ok((log, index)),
+        let size = match find_on(disk, &front.geometry, &log, &mut ahead) {
+            Ok(Some(size)) => size,
+            Ok(None) => return Ok((log, index)),
             Err(error) => return Err(error),
-        }
-        let number = log.last();
-        if let Err(_) = take_in(
-            &mut index,
-            &front.geometry,
-            number,
-            gate,
-            &record,
-            &mut parts,
-        ) {
+        };
+        let number = log.last() + 1;
+        let view = ahead.view_front(size);
+        if let Err(_) = take_parts(&mut index, number, gate, &view) {
             return Err(OpenError::Memory);
         }
+        log.pass(&mut ahead, size);
     }
     Ok((log, index))
 }

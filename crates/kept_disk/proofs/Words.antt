@@ -1,8 +1,10 @@
 -- The words that the proofs of this crate cite from elsewhere.
-pub use Rattle.std.proofs.Common.{List, None, Option, Some, [], ap, arith, drop, get_or, inl, inr, length, length-drop, min, refl, set, subst, suc, sym, take, zero, ℕ, ⊎_elim, ◌%◌, ◌*◌, ◌++◌, ◌+◌, ◌-◌, ◌/◌, ◌<◌, ◌∙◌, ◌∷◌, ◌≡◌, ◌≤◌, ◌⊎◌}
+pub use Rattle.std.proofs.Common.{Bool, List, None, Option, Some, [], ap, arith, cond, drop, get_or, inl, inr, length, length-drop, min, refl, set, subst, suc, sym, take, zero, ℕ, ⊎_elim, ◌%◌, ◌*◌, ◌++◌, ◌+◌, ◌-◌, ◌/◌, ◌<◌, ◌==◌, ◌∙◌, ◌∷◌, ◌≡◌, ◌≤◌, ◌⊎◌}
 pub use Rattle.std.proofs.Math.Nat.{mod-add-div, mod-lt}
 pub use Rattle.std.proofs.Math.Seq.{take-add, take-length}
-pub use Rattle.std.proofs.lemmas.List.{drop-append-le, drop-drop, drop-take, drop_all, length-append, length-set, length-take, length-take-le, set-get_or, take-append-le, take-take, take_all, take_at, take_min}
+pub use Rattle.std.proofs.lemmas.Bool.{cases_eq, cases_lt, ne_eqb}
+pub use Rattle.std.proofs.lemmas.List.{drop-append-le, drop-drop, drop-take, drop_all, get_or-set_other, get_or-set_same, length-append, length-set, length-take, length-take-le, set-get_or, take-append-le, take-take, take_all, take_at, take_min}
+pub use Rattle.std.proofs.lemmas.List.Sums.{sum_by-set}
 pub use Rattle.std.proofs.lemmas.Option.{same_Some, slice_get-get_or, slice_get_within}
 pub use Rattle.std.proofs.lemmas.Result.{on_ok_weaker}
 pub use Rattle.std.proofs.lemmas.Slice.{put_mid-paste}
@@ -11,5 +13,5 @@ pub use Rattle.std.specs.Option.{ForSome, option_map}
 pub use Rattle.iso_disk.proofs.Bytes.{drop-torn, length-spliced, slice-torn, spliced_behind, spliced_torn, take-drop-spliced, take-spliced, torn_whole}
 pub use Rattle.iso_disk.proofs.Images.{length-contents}
 pub use Rattle.iso_disk.specs.Disk.{DiskState, Elapses, Torn, spliced}
-pub use Rattle.kept_disk.specs.Pages.{Covers, HasPage, HoldsNone, HoldsRange, IsHeld, Stand, page_of}
+pub use Rattle.kept_disk.specs.Pages.{AreLaid, Covers, HasPage, HoldsNone, HoldsRange, IsHeld, Stand, from_of, page_of}
 pub use Rattle.kept_disk.specs.declared.pages.Pages.{Pages}

@@ -1,5 +1,5 @@
 -- When pages stand for the bytes of a disk.
-use Rattle.std.specs.Prelude.{◌≡◌, ℕ, ◌+◌, ◌*◌, ◌/◌, ◌%◌, ◌<◌, ◌≤◌, List, Option, length, take, drop, Some, None, slice_get}
+use Rattle.std.specs.Prelude.{◌≡◌, ℕ, ◌+◌, ◌-◌, ◌*◌, ◌/◌, ◌%◌, ◌<◌, ◌≤◌, ◌==◌, List, Option, count_by, length, take, drop, Some, None, slice_get, slice_index}
 
 -- the bytes of a page; those of the last one may be fewer
 abbrev pub page_of : List ℕ → ℕ → List ℕ
@@ -13,13 +13,24 @@ HasPage c n bytes from = take (length (page_of c n)) (drop from bytes) ≡ page_
 abbrev pub IsHeld : List (Option ℕ) → ℕ → Type 0
 IsHeld numbers n = slice_get numbers (n % 2048) ≡ Some (Some n)
 
--- each page that is held has its bytes in its place
-abbrev pub Stand : List (Option ℕ) → List ℕ → List ℕ → Type 0
-Stand numbers bytes c = (n : ℕ) → IsHeld numbers n → HasPage c n bytes (n % 2048 * 4096)
+-- where the bytes of a place begin: it is told where those of each place end, and 0 for a place that has none yet
+abbrev pub from_of : List ℕ → ℕ → ℕ
+from_of ends place = slice_index ends place - 4096
 
--- the place of each page that is held stands whole
+-- each page that is held has its bytes where those of its place stand
+abbrev pub Stand : List (Option ℕ) → (ends bytes c : List ℕ) → Type 0
+Stand numbers ends bytes c = (n : ℕ) → IsHeld numbers n → HasPage c n bytes (from_of ends (n % 2048))
+
+-- the place of each page that is held has bytes
 abbrev pub Covers : List (Option ℕ) → List ℕ → Type 0
-Covers numbers bytes = (n : ℕ) → IsHeld numbers n → n % 2048 * 4096 + 4096 ≤ length bytes
+Covers numbers ends = (n : ℕ) → IsHeld numbers n → 0 < slice_index ends (n % 2048)
+
+-- The places that have bytes have a page each, apart from the others, and so much memory has room for those that have none.
+pub record AreLaid (ends bytes : List ℕ) (memory : ℕ) : Type 0 where
+  pub whole : (i : ℕ) → 0 < slice_index ends i → 4096 ≤ slice_index ends i
+  pub within : (i : ℕ) → slice_index ends i ≤ length bytes
+  pub apart : (i j : ℕ) → (i ≡ j → ⊥) → 0 < slice_index ends i → slice_index ends i ≤ slice_index ends j → slice_index ends i + 4096 ≤ slice_index ends j
+  pub room : length bytes + 4096 * count_by (λ e. e == 0) ends ≤ memory
 
 -- no page is held
 abbrev pub HoldsNone : List (Option ℕ) → Type 0

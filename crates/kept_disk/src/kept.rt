@@ -23,7 +23,7 @@ pub struct Kept<D: Disk> {
     alloc: Global,
     disk: D,
     pages: Pages,
-    ghost stand: { ForSome (D.state disk).contents (Stand pages.numbers.items pages.bytes.items) },
+    ghost stand: { ForSome (D.state disk).contents (Stand pages.numbers.items pages.ends.items pages.bytes.items) },
 }
 
 impl<D: Disk> Kept<D> {
@@ -121,12 +121,12 @@ fn write_through<D: Disk>(
     bytes: &[u8],
 ) -> Result<(), DiskFault>
     requires fits { at + length bytes.now ≤ (D.state disk.old).size }
-    requires stand { ForSome (D.state disk.old).contents (Stand pages.old.numbers.items pages.old.bytes.items) }
+    requires stand { ForSome (D.state disk.old).contents (Stand pages.old.numbers.items pages.old.ends.items pages.old.bytes.items) }
     ensures written { OnOk result (Splices at bytes.now (D.state disk.old) (D.state disk.new)) }
     ensures failed { OnErr result (TellsTorn at (length bytes.now) (D.state disk.old) (D.state disk.new)) }
     ensures crash { Elapses (D.state disk.old) (D.state disk.new) (TornFrom at (length bytes.now) (D.state disk.old).now) }
     ensures cause { HasCause (D.state disk.old).faults (D.state disk.new).faults result }
-    ensures stand { ForSome (D.state disk.new).contents (Stand pages.new.numbers.items pages.new.bytes.items) }
+    ensures stand { ForSome (D.state disk.new).contents (Stand pages.new.numbers.items pages.new.ends.items pages.new.bytes.items) }
     ensures forgotten { OnErr result (HoldsNone pages.new.numbers.items) }
 {
     if let Err(fault) = disk.write(at, bytes) {

@@ -1,9 +1,9 @@
 // Pages: bytes of a disk that are kept in memory, and which of its pages these are.
-ghost use Rattle.std.specs.Prelude.{◌≡◌, ◌+◌, ◌*◌, ◌/◌, ◌%◌, ◌<◌, ◌≤◌, ◌++◌, ◌↔◌, ℕ, List, Some, None, length, take, drop, IsTrue, IfOk, IsOk, OnOk, OnErr, slice_get, vec_capacity};
+ghost use Rattle.std.specs.Prelude.{◌≡◌, ◌+◌, ◌*◌, ◌/◌, ◌%◌, ◌<◌, ◌≤◌, ◌++◌, ◌↔◌, ℕ, List, Some, None, length, set, take, drop, IsTrue, IfOk, IsOk, OnOk, OnErr, slice_get, slice_index, vec_capacity};
 ghost use Rattle.std.specs.Option.{ForSome};
 ghost use Rattle.iso_disk.specs.Disk.{Elapses, Torn, spliced};
 ghost use Rattle.fault_count.specs.Count.{HasCause};
-ghost use Rattle.kept_disk.specs.Pages.{Covers, HoldsNone, IsHeld, Stand};
+ghost use Rattle.kept_disk.specs.Pages.{AreLaid, Covers, HoldsNone, IsHeld, Stand, from_of};
 
 use iso_disk::{Disk, DiskFault};
 use std::alloc::{AllocError, Global};
@@ -14,16 +14,19 @@ pub(crate) const PAGE: usize = 4096;
 /// How many pages are kept at most.
 const PAGES: usize = 2048;
 
-/// Pages that may be held, each in the place that its number gives, and their bytes, one place behind the other. Of the last page
-/// of a disk the first bytes alone may count.
+/// Pages that may be held, each in the place that its number gives, and their bytes, in the order in which places were first held.
+/// Of the last page of a disk the first bytes alone may count.
 ///
-/// The memory for the bytes is taken at once, but a place is first touched when a page is held in it or behind it.
+/// The memory for the bytes is taken at once, but those of a place are first touched when a page is held in it, and no others.
 #[derive(Drop)]
 pub struct Pages {
     numbers: Vec<Option<u64>>,
+    // Where the bytes of each place end, and 0 for a place that has none yet.
+    ends: Vec<usize>,
     bytes: Vec<u8>,
-    ghost room: { length numbers.items * 4096 ≤ vec_capacity bytes },
-    ghost covers: { Covers numbers.items bytes.items },
+    ghost places: { length ends.items ≡ length numbers.items },
+    ghost covers: { Covers numbers.items ends.items },
+    ghost laid: { AreLaid ends.items bytes.items (vec_capacity bytes) },
 }
 
 impl Pages {
@@ -33,6 +36,7 @@ impl Pages {
     {
         Pages {
             numbers: Vec::new(alloc),
+            ends: Vec::new(alloc),
             bytes: Vec::new(alloc),
         }
     }
@@ -44,7 +48,12 @@ impl Pages {
         let mut bytes = Vec::new(alloc);
         bytes.reserve_exact(PAGES * PAGE)?;
         let numbers = blank_numbers(alloc)?;
-        Ok(Pages { numbers, bytes })
+        let ends = blank_ends(alloc)?;
+        Ok(Pages {
+            numbers,
+            ends,
+            bytes,
+        })
     }
 
     /// Lets go of all that is held, and takes the memory for pages where none was taken. Without it there is no place.
@@ -84,7 +93,7 @@ impl Pages {
     pub(crate) fn hold<D: Disk>(&mut self, disk: &mut D, number: u64) -> Result<(), DiskFault>
         requires inside { number * 4096 < (D.state disk.old).size }
         requires place { number % 2048 < length self.old.numbers.items }
-        ensures stand { ForSome (D.state disk.old).contents (λ c. Stand self.old.numbers.items self.old.bytes.items c → Stand self.new.numbers.items self.new.bytes.items c) }
+        ensures stand { ForSome (D.state disk.old).contents (λ c. Stand self.old.numbers.items self.old.ends.items self.old.bytes.items c → Stand self.new.numbers.items self.new.ends.items self.new.bytes.items c) }
         ensures held { OnOk result (IsHeld self.new.numbers.items number) }
         ensures others { (k : ℕ) → (k ≡ number % 2048 → ⊥) → slice_get self.new.numbers.items k ≡ slice_get self.old.numbers.items k }
         ensures places { length self.new.numbers.items ≡ length self.old.numbers.items }
@@ -96,16 +105,22 @@ impl Pages {
         if self.holds(number) {
             return Ok(());
         }
-        fill(&mut self.numbers, &mut self.bytes, disk, number)
+        fill(
+            &mut self.numbers,
+            &mut self.ends,
+            &mut self.bytes,
+            disk,
+            number,
+        )
     }
 
     /// Gives bytes of a page that is held, from a place of the disk on.
     pub(crate) fn copy_out(&self, at: u64, into: &mut [u8])
         requires held { IsHeld self.now.numbers.items (at / 4096) }
         requires inside { at % 4096 + length into.old ≤ 4096 }
-        ensures { into.new ≡ take (length into.old) (drop (at / 4096 % 2048 * 4096 + at % 4096) self.now.bytes.items) }
+        ensures { into.new ≡ take (length into.old) (drop (from_of self.now.ends.items (at / 4096 % 2048) + at % 4096) self.now.bytes.items) }
     {
-        let from = byte_of(at);
+        let from = self.byte_of(at);
         into.copy_from_slice(&self.bytes[from..from + into.len()]);
     }
 
@@ -114,9 +129,20 @@ impl Pages {
         requires held { IsHeld self.old.numbers.items (at / 4096) }
         requires inside { at % 4096 + length bytes.now ≤ 4096 }
         ensures numbers { self.new.numbers ≡ self.old.numbers }
-        ensures bytes { self.new.bytes.items ≡ spliced self.old.bytes.items (at / 4096 % 2048 * 4096 + at % 4096) bytes.now }
+        ensures ends { self.new.ends ≡ self.old.ends }
+        ensures bytes { self.new.bytes.items ≡ spliced self.old.bytes.items (from_of self.old.ends.items (at / 4096 % 2048) + at % 4096) bytes.now }
     {
-        lay_over(&mut self.bytes, byte_of(at), bytes);
+        let from = self.byte_of(at);
+        lay_over(&mut self.bytes, from, bytes);
+    }
+
+    // Where the byte of a place of the disk lies among the bytes of the pages, which hold it.
+    fn byte_of(&self, at: u64) -> usize
+        requires { IsHeld self.now.numbers.items (at / 4096) }
+        ensures is { result ≡ from_of self.now.ends.items (at / 4096 % 2048) + at % 4096 }
+        ensures inside { result + 4096 ≤ length self.now.bytes.items + at % 4096 }
+    {
+        self.ends[place_of(at / PAGE as u64)] - PAGE + at as usize % PAGE
     }
 }
 
@@ -128,14 +154,6 @@ fn place_of(number: u64) -> usize
     (number % PAGES as u64) as usize
 }
 
-// Where the byte of a place of the disk lies among the bytes of the pages.
-fn byte_of(at: u64) -> usize
-    ensures is { result ≡ at / 4096 % 2048 * 4096 + at % 4096 }
-    ensures small { result < 8388608 }
-{
-    place_of(at / PAGE as u64) * PAGE + at as usize % PAGE
-}
-
 // The numbers of places in which no page is held.
 fn blank_numbers(alloc: Global) -> Result<Vec<Option<u64>>, AllocError>
     ensures none { IfOk result (λ numbers. HoldsNone numbers.items) }
@@ -144,6 +162,16 @@ fn blank_numbers(alloc: Global) -> Result<Vec<Option<u64>>, AllocError>
     let mut numbers = Vec::new(alloc);
     numbers.resize(PAGES, None)?;
     Ok(numbers)
+}
+
+// No place that has bytes.
+fn blank_ends(alloc: Global) -> Result<Vec<usize>, AllocError>
+    ensures none { IfOk result (λ ends. (i : ℕ) → slice_index ends.items i ≡ 0) }
+    ensures count { IfOk result (λ ends. length ends.items ≡ 2048) }
+{
+    let mut ends = Vec::new(alloc);
+    ends.resize(PAGES, 0)?;
+    Ok(ends)
 }
 
 // Lets go of each page.
@@ -158,17 +186,20 @@ fn clear(numbers: &mut [Option<u64>])
 // Reads the page of this number into its place.
 fn fill<D: Disk>(
     numbers: &mut Vec<Option<u64>>,
+    ends: &mut Vec<usize>,
     bytes: &mut Vec<u8>,
     disk: &mut D,
     number: u64,
 ) -> Result<(), DiskFault>
     requires inside { number * 4096 < (D.state disk.old).size }
     requires place { number % 2048 < length numbers.old.items }
-    requires room { length numbers.old.items * 4096 ≤ vec_capacity bytes.old }
-    requires covers { Covers numbers.old.items bytes.old.items }
-    ensures stand { ForSome (D.state disk.old).contents (λ c. Stand numbers.old.items bytes.old.items c → Stand numbers.new.items bytes.new.items c) }
-    ensures room { length numbers.new.items * 4096 ≤ vec_capacity bytes.new }
-    ensures covers { Covers numbers.new.items bytes.new.items }
+    requires places { length ends.old.items ≡ length numbers.old.items }
+    requires covers { Covers numbers.old.items ends.old.items }
+    requires laid { AreLaid ends.old.items bytes.old.items (vec_capacity bytes.old) }
+    ensures stand { ForSome (D.state disk.old).contents (λ c. Stand numbers.old.items ends.old.items bytes.old.items c → Stand numbers.new.items ends.new.items bytes.new.items c) }
+    ensures ends { length ends.new.items ≡ length numbers.new.items }
+    ensures covers { Covers numbers.new.items ends.new.items }
+    ensures laid { AreLaid ends.new.items bytes.new.items (vec_capacity bytes.new) }
     ensures held { OnOk result (IsHeld numbers.new.items number) }
     ensures others { (k : ℕ) → (k ≡ number % 2048 → ⊥) → slice_get numbers.new.items k ≡ slice_get numbers.old.items k }
     ensures places { length numbers.new.items ≡ length numbers.old.items }
@@ -178,26 +209,54 @@ fn fill<D: Disk>(
 {
     let place = place_of(number);
     numbers[place] = None;
-    reach(bytes, place);
+    let from = reach(ends, bytes, place);
     let at = number * PAGE as u64;
     let len = (disk.size() - at).min(PAGE as u64) as usize;
-    read_into(disk, at, bytes, place * PAGE, len)?;
+    read_into(disk, at, bytes, from, len)?;
     numbers[place] = Some(number);
     Ok(())
 }
 
-// Makes the place stand whole, in memory that was taken for it.
-fn reach(bytes: &mut Vec<u8>, place: usize)
-    requires room { place * 4096 + 4096 ≤ vec_capacity bytes.old }
-    requires small { place < 2048 }
-    ensures whole { place * 4096 + 4096 ≤ length bytes.new.items }
+// Where the bytes of a place begin. Where it had none, they stand behind the others from now on, in memory that was taken for them.
+fn reach(ends: &mut Vec<usize>, bytes: &mut Vec<u8>, place: usize) -> usize
+    requires inside { place < length ends.old.items }
+    requires laid { AreLaid ends.old.items bytes.old.items (vec_capacity bytes.old) }
+    ensures from { result ≡ from_of ends.new.items place }
+    ensures has { 0 < slice_index ends.new.items place }
+    ensures others { (i : ℕ) → (i ≡ place → ⊥) → slice_index ends.new.items i ≡ slice_index ends.old.items i }
+    ensures places { length ends.new.items ≡ length ends.old.items }
+    ensures grown { (more : List ℕ) × (bytes.new.items ≡ bytes.old.items ++ more) }
+    ensures laid { AreLaid ends.new.items bytes.new.items (vec_capacity bytes.new) }
+{
+    if ends[place] == 0 {
+        add_page(ends, bytes, place);
+    }
+    ends[place] - PAGE
+}
+
+// Lays the bytes of a place that has none behind the others.
+fn add_page(ends: &mut Vec<usize>, bytes: &mut Vec<u8>, place: usize)
+    requires inside { place < length ends.old.items }
+    requires none { slice_index ends.old.items place ≡ 0 }
+    requires laid { AreLaid ends.old.items bytes.old.items (vec_capacity bytes.old) }
+    ensures ends { ends.new.items ≡ set ends.old.items place (length bytes.old.items + 4096) }
+    ensures grown { (more : List ℕ) × (bytes.new.items ≡ bytes.old.items ++ more) }
+    ensures laid { AreLaid ends.new.items bytes.new.items (vec_capacity bytes.new) }
+{
+    let end = bytes.len() + PAGE;
+    grow(bytes, end);
+    ends[place] = end;
+}
+
+// Makes so many bytes stand, in memory that was taken for them.
+fn grow(bytes: &mut Vec<u8>, end: usize)
+    requires more { length bytes.old.items ≤ end }
+    requires room { end ≤ vec_capacity bytes.old }
+    ensures whole { length bytes.new.items ≡ end }
     ensures grown { (more : List ℕ) × (bytes.new.items ≡ bytes.old.items ++ more) }
     ensures room { vec_capacity bytes.old ≤ vec_capacity bytes.new }
 {
-    let end = place * PAGE + PAGE;
-    if bytes.len() < end {
-        let _ = bytes.resize(end, 0);
-    }
+    let _ = bytes.resize(end, 0);
 }
 
 // Reads so many bytes of the disk into these, from a place on.

@@ -16,12 +16,12 @@ pub(crate) fn read_parts<D: Disk>(
     into: &mut [u8],
 ) -> Result<(), DiskFault>
     requires fits { at + length into.old ≤ (D.state disk.old).size }
-    requires stand { ForSome (D.state disk.old).contents (Stand pages.old.numbers.items pages.old.bytes.items) }
+    requires stand { ForSome (D.state disk.old).contents (Stand pages.old.numbers.items pages.old.ends.items pages.old.bytes.items) }
     ensures bytes { OnOk result (ForSome (D.state disk.old).contents (λ c. into.new ≡ take (length into.old) (drop at c))) }
     ensures contents { (D.state disk.new).contents ≡ (D.state disk.old).contents }
     ensures crash { Elapses (D.state disk.old) (D.state disk.new) (D.state disk.old).now }
     ensures cause { HasCause (D.state disk.old).faults (D.state disk.new).faults result }
-    ensures stand { ForSome (D.state disk.old).contents (Stand pages.new.numbers.items pages.new.bytes.items) }
+    ensures stand { ForSome (D.state disk.old).contents (Stand pages.new.numbers.items pages.new.ends.items pages.new.bytes.items) }
     ensures held { HoldsRange pages.old.numbers.items at (length into.old) → (IsOk result) × (disk.new ≡ disk.old) }
     ensures holds { OnOk result (2048 ≤ length pages.old.numbers.items → length into.old ≤ 65536 → HoldsRange pages.new.numbers.items at (length into.old)) }
 {
@@ -55,12 +55,12 @@ fn read_part<D: Disk>(
     requires fits { at + length into.old ≤ (D.state disk.old).size }
     requires inside { at % 4096 + length into.old ≤ 4096 }
     requires some { 0 < length into.old }
-    requires stand { ForSome (D.state disk.old).contents (Stand pages.old.numbers.items pages.old.bytes.items) }
+    requires stand { ForSome (D.state disk.old).contents (Stand pages.old.numbers.items pages.old.ends.items pages.old.bytes.items) }
     ensures bytes { OnOk result (ForSome (D.state disk.old).contents (λ c. into.new ≡ take (length into.old) (drop at c))) }
     ensures contents { (D.state disk.new).contents ≡ (D.state disk.old).contents }
     ensures crash { Elapses (D.state disk.old) (D.state disk.new) (D.state disk.old).now }
     ensures cause { HasCause (D.state disk.old).faults (D.state disk.new).faults result }
-    ensures stand { ForSome (D.state disk.old).contents (Stand pages.new.numbers.items pages.new.bytes.items) }
+    ensures stand { ForSome (D.state disk.old).contents (Stand pages.new.numbers.items pages.new.ends.items pages.new.bytes.items) }
     ensures held { IsHeld pages.old.numbers.items (at / 4096) → (IsOk result) × (disk.new ≡ disk.old) × (pages.new ≡ pages.old) }
     ensures holds { OnOk result (at / 4096 % 2048 < length pages.old.numbers.items → IsHeld pages.new.numbers.items (at / 4096)) }
     ensures places { length pages.new.numbers.items ≡ length pages.old.numbers.items }
@@ -78,7 +78,7 @@ fn read_part<D: Disk>(
 /// Lays bytes over the pages that hold what they were written over.
 pub(crate) fn lay_parts(pages: &mut Pages, at: u64, bytes: &[u8])
     requires { at + length bytes.now < 2 ^ 64 }
-    ensures { (c : List ℕ) → at + length bytes.now ≤ length c → Stand pages.old.numbers.items pages.old.bytes.items c → Stand pages.new.numbers.items pages.new.bytes.items (spliced c at bytes.now) }
+    ensures { (c : List ℕ) → at + length bytes.now ≤ length c → Stand pages.old.numbers.items pages.old.ends.items pages.old.bytes.items c → Stand pages.new.numbers.items pages.new.ends.items pages.new.bytes.items (spliced c at bytes.now) }
 {
     let mut done = 0;
     while done < bytes.len() {
@@ -92,7 +92,7 @@ pub(crate) fn lay_parts(pages: &mut Pages, at: u64, bytes: &[u8])
 // Lays bytes over the page that they lie in, where it is held.
 fn lay_part(pages: &mut Pages, at: u64, bytes: &[u8])
     requires { at % 4096 + length bytes.now ≤ 4096 }
-    ensures { (c : List ℕ) → at + length bytes.now ≤ length c → Stand pages.old.numbers.items pages.old.bytes.items c → Stand pages.new.numbers.items pages.new.bytes.items (spliced c at bytes.now) }
+    ensures { (c : List ℕ) → at + length bytes.now ≤ length c → Stand pages.old.numbers.items pages.old.ends.items pages.old.bytes.items c → Stand pages.new.numbers.items pages.new.ends.items pages.new.bytes.items (spliced c at bytes.now) }
 {
     if pages.holds(at / PAGE as u64) {
         pages.put(at, bytes);

@@ -88,11 +88,13 @@ returns-in-Ok-clause-found g c =
     let begins : BeginsWith c.args.geometry.now c.args.number (recorded (take (record_window b) more)) (take (record_window b) more) =
     subst (λ (r : Recorded). BeginsWith c.args.geometry.now c.args.number r (take (record_window b) more)) said
     (subst (λ (l : List ℕ). BeginsWith c.args.geometry.now c.args.number c.in-Ok.field-0 l) cut c.in-Ok.ensures.spelled) in
-    let small : record_window b < 2 ^ 32 = omega (arith, enough, c.ask-2.ensures.within, c.ranges.rest) in (
-      c.in_ok-ask-2.ensures.enough,
-      subst (λ (n : ℕ). IsNextRecord c.args.geometry.now c.args.number (take n more)) (sym window)
-          (found_record b more c.ask-2.ensures.front long one c.args.geometry.now c.args.number enough small begins),
-    )
+    let small : record_window b < 2 ^ 32 = omega (arith, enough, c.ask-2.ensures.within, c.ranges.rest) in
+    record {
+      within = c.in_ok-ask-2.ensures.enough;
+      next = subst (λ (n : ℕ). IsNextRecord c.args.geometry.now c.args.number (take n more)) (sym window)
+          (found_record b more c.ask-2.ensures.front long one c.args.geometry.now c.args.number enough small begins);
+      passes = ap (fault_of c.args.geometry.now c.args.number) (sym (c.split_at.ensures.front ∙ ap (take c.record_window-window.result) c.as_slice.ensures)) ∙ c.in-Ok.ensures.exact.0;
+    }
 
 pub returns-in-Ok-clause-first : goal.returns-in-Ok-clause-first
 returns-in-Ok-clause-first g c image told =

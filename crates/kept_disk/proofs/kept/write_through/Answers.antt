@@ -7,4 +7,4 @@ returns-clause-stand g c x told =
     let state = g.D.Disk.state in
     let was = told_from (λ (l : List ℕ). spliced l c.args.at c.args.bytes.now) (state c.args.disk.now).contents x (sym c.in_default.ensures.written ∙ told) in
     let size = length-contents (g.met.D.Disk.lawful c.args.disk.now) was.0 was.1 in
-    subst (λ (l : List ℕ). Stand c.lay_parts.new.pages.numbers.items c.lay_parts.new.pages.bytes.items l) was.2 (c.lay_parts.ensures was.0 (omega (arith, size, c.requires.fits)) (c.requires.stand was.0 was.1))
+    subst (λ (l : List ℕ). Stand c.lay_parts.new.pages.numbers.items c.lay_parts.new.pages.ends.items c.lay_parts.new.pages.bytes.items l) was.2 (c.lay_parts.ensures was.0 (omega (arith, size, c.requires.fits)) (c.requires.stand was.0 was.1))

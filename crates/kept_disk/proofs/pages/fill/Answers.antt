@@ -1,21 +1,21 @@
-use Rattle.kept_disk.proofs.Words.{◌≡◌, ◌*◌, ℕ, List, Option, Some, None, set, sym, ◌∙◌, subst, arith, length-contents, length-set, slice_get, Covers, HasPage, Stand, Torn}
+use Rattle.kept_disk.proofs.Words.{◌≡◌, ℕ, List, Option, Some, None, set, sym, ◌∙◌, subst, arith, length-contents, length-set, slice_get, AreLaid, Covers, HasPage, Stand, Torn}
 use Rattle.kept_disk.proofs.Slices.{get-set_at, get-set_other, set-set}
-use Rattle.kept_disk.proofs.Standing.{covers_emptied, covers_filled, filled, stand_emptied, stand_filled}
+use Rattle.kept_disk.proofs.Standing.{covers_emptied, covers_filled, filled, laid_same, stand_emptied, stand_filled}
 use Rattle.kept_disk.proofs.pages.fill.Goals as goal
 
 pub returns-in_err-read_into-clause-stand : goal.returns-in_err-read_into-clause-stand
 returns-in_err-read_into-clause-stand g c x told stand =
-    let grown = c.reach.ensures.grown in
-    stand_emptied c.args.numbers.now.items c.args.bytes.now.items grown.0 c.read_into.new.bytes.items c.place_of-place.result c.min-len.result c.requires.covers
-    (subst (λ (l : List ℕ). Torn (c.place_of-place.result * 4096) c.min-len.result l c.read_into.new.bytes.items) grown.1 c.read_into.ensures.others)
-    (omega (arith, c.min-len.ensures)) x stand
+    stand_emptied c.args.numbers.now.items c.requires.covers c.requires.laid c.reach-from.ensures.grown c.reach-from.ensures.laid c.reach-from.ensures.others c.reach-from.ensures.has
+    (subst (λ (k : ℕ). Torn k c.min-len.result c.reach-from.new.bytes.items c.read_into.new.bytes.items) c.reach-from.ensures.from c.read_into.ensures.others) (omega (arith, c.min-len.ensures)) x stand
 
 pub returns-in_err-read_into-clause-covers : goal.returns-in_err-read_into-clause-covers
 returns-in_err-read_into-clause-covers g c =
-    let grown = c.reach.ensures.grown in
-    covers_emptied c.args.numbers.now.items c.args.bytes.now.items grown.0 c.read_into.new.bytes.items c.place_of-place.result c.min-len.result c.requires.covers
-    (subst (λ (l : List ℕ). Torn (c.place_of-place.result * 4096) c.min-len.result l c.read_into.new.bytes.items) grown.1 c.read_into.ensures.others)
-    (omega (arith, c.min-len.ensures))
+    covers_emptied c.args.numbers.now.items c.requires.covers c.requires.laid c.reach-from.ensures.grown c.reach-from.ensures.laid c.reach-from.ensures.others c.reach-from.ensures.has
+    (subst (λ (k : ℕ). Torn k c.min-len.result c.reach-from.new.bytes.items c.read_into.new.bytes.items) c.reach-from.ensures.from c.read_into.ensures.others) (omega (arith, c.min-len.ensures))
+
+pub returns-in_err-read_into-clause-laid : goal.returns-in_err-read_into-clause-laid
+returns-in_err-read_into-clause-laid g c =
+    subst (AreLaid c.reach-from.new.ends.items c.read_into.new.bytes.items) (sym c.read_into.ensures.room) (laid_same c.reach-from.ensures.laid c.read_into.new.bytes.items c.read_into.ensures.others.size)
 
 pub returns-in_err-read_into-clause-others : goal.returns-in_err-read_into-clause-others
 returns-in_err-read_into-clause-others g c k other =
@@ -23,22 +23,23 @@ returns-in_err-read_into-clause-others g c k other =
 
 pub returns-clause-stand : goal.returns-clause-stand
 returns-clause-stand g c x told stand =
-    let grown = c.reach.ensures.grown in
+    let from = c.reach-from.result in
     let size = length-contents (g.met.D.Disk.lawful c.args.disk.now) x told in
-    let has : HasPage x c.args.number c.read_into.new.bytes.items (c.place_of-place.result * 4096) =
-    filled x c.read_into.new.bytes.items c.args.number (c.place_of-place.result * 4096) c.min-len.result (omega (arith, size, c.size.ensures, c.min-len.ensures)) (c.in_ok-read_into.ensures.read x told) in
-    subst (λ (l : List (Option ℕ)). Stand l c.read_into.new.bytes.items x) (sym (set-set c.args.numbers.now.items c.place_of-place.result None (Some c.args.number)))
-    (stand_filled c.args.numbers.now.items c.args.bytes.now.items grown.0 c.read_into.new.bytes.items c.place_of-place.result c.min-len.result c.requires.covers
-    (subst (λ (l : List ℕ). Torn (c.place_of-place.result * 4096) c.min-len.result l c.read_into.new.bytes.items) grown.1 c.read_into.ensures.others)
-    (omega (arith, c.min-len.ensures)) x c.args.number has stand)
+    let has : HasPage x c.args.number c.read_into.new.bytes.items from =
+    filled x c.read_into.new.bytes.items c.args.number from c.min-len.result (omega (arith, size, c.size.ensures, c.min-len.ensures)) (c.in_ok-read_into.ensures.read x told) in
+    subst (λ (l : List (Option ℕ)). Stand l c.reach-from.new.ends.items c.read_into.new.bytes.items x) (sym (set-set c.args.numbers.now.items c.place_of-place.result None (Some c.args.number)))
+    (stand_filled c.args.numbers.now.items c.requires.covers c.requires.laid c.reach-from.ensures.grown c.reach-from.ensures.laid c.reach-from.ensures.others c.reach-from.ensures.has
+    (subst (λ (k : ℕ). Torn k c.min-len.result c.reach-from.new.bytes.items c.read_into.new.bytes.items) c.reach-from.ensures.from c.read_into.ensures.others) (omega (arith, c.min-len.ensures)) x c.args.number (subst (HasPage x c.args.number c.read_into.new.bytes.items) c.reach-from.ensures.from has) stand)
 
 pub returns-clause-covers : goal.returns-clause-covers
 returns-clause-covers g c =
-    let grown = c.reach.ensures.grown in
-    subst (λ (l : List (Option ℕ)). Covers l c.read_into.new.bytes.items) (sym (set-set c.args.numbers.now.items c.place_of-place.result None (Some c.args.number)))
-    (covers_filled c.args.numbers.now.items c.args.bytes.now.items grown.0 c.read_into.new.bytes.items c.place_of-place.result c.min-len.result c.requires.covers
-    (subst (λ (l : List ℕ). Torn (c.place_of-place.result * 4096) c.min-len.result l c.read_into.new.bytes.items) grown.1 c.read_into.ensures.others)
-    (omega (arith, c.min-len.ensures)) c.args.number (omega (arith, c.reach.ensures.whole, c.read_into.ensures.others.size)))
+    subst (λ (l : List (Option ℕ)). Covers l c.reach-from.new.ends.items) (sym (set-set c.args.numbers.now.items c.place_of-place.result None (Some c.args.number)))
+    (covers_filled c.args.numbers.now.items c.requires.covers c.requires.laid c.reach-from.ensures.grown c.reach-from.ensures.laid c.reach-from.ensures.others c.reach-from.ensures.has
+    (subst (λ (k : ℕ). Torn k c.min-len.result c.reach-from.new.bytes.items c.read_into.new.bytes.items) c.reach-from.ensures.from c.read_into.ensures.others) (omega (arith, c.min-len.ensures)) c.args.number)
+
+pub returns-clause-laid : goal.returns-clause-laid
+returns-clause-laid g c =
+    subst (AreLaid c.reach-from.new.ends.items c.read_into.new.bytes.items) (sym c.read_into.ensures.room) (laid_same c.reach-from.ensures.laid c.read_into.new.bytes.items c.read_into.ensures.others.size)
 
 pub returns-clause-held : goal.returns-clause-held
 returns-clause-held g c =

@@ -1,4 +1,4 @@
-use Rattle.kept_disk.proofs.Words.{◌+◌, ◌*◌, ◌/◌, ◌%◌, ℕ, List, sym, subst, arith, spliced, IsHeld, Stand}
+use Rattle.kept_disk.proofs.Words.{◌+◌, ◌*◌, ◌/◌, ◌%◌, ℕ, List, sym, subst, arith, spliced, IsHeld, Stand, from_of}
 use Rattle.kept_disk.proofs.Paging.{at_page}
 use Rattle.kept_disk.proofs.Standing.{stand_apart, stand_put}
 use Rattle.kept_disk.proofs.parts.lay_part.Goals as goal
@@ -8,15 +8,16 @@ returns-then-holds c l fits stand =
     let q = c.args.at / 4096 in
     let is = at_page c.args.at in
     let pages = c.args.pages.now in
-    let put = stand_put pages.numbers.items pages.bytes.items l q (c.args.at % 4096) c.args.bytes.now c.requires (omega (arith, fits, is)) stand pages.covers (c.holds.ensures.0 c.if-holds.true) in
-    let laid = subst (λ (a : ℕ). Stand pages.numbers.items (spliced pages.bytes.items (q % 2048 * 4096 + c.args.at % 4096) c.args.bytes.now) (spliced l a c.args.bytes.now)) is put in
-    subst (λ (b : List ℕ). Stand c.put.new.self.numbers.items b (spliced l c.args.at c.args.bytes.now)) (sym c.put.ensures.bytes)
-    (λ n held. laid n (subst (λ v. IsHeld v.items n) c.put.ensures.numbers held))
+    let put = stand_put pages.numbers.items pages.ends.items pages.bytes.items l q (c.args.at % 4096) c.args.bytes.now c.requires (omega (arith, fits, is)) stand pages.laid pages.covers (c.holds.ensures.0 c.if-holds.true) in
+    let laid = subst (λ (a : ℕ). Stand pages.numbers.items pages.ends.items (spliced pages.bytes.items (from_of pages.ends.items (q % 2048) + c.args.at % 4096) c.args.bytes.now) (spliced l a c.args.bytes.now)) is put in
+    subst (λ (b : List ℕ). Stand c.put.new.self.numbers.items c.put.new.self.ends.items b (spliced l c.args.at c.args.bytes.now)) (sym c.put.ensures.bytes)
+    (subst (λ v. Stand c.put.new.self.numbers.items v.items (spliced pages.bytes.items (from_of pages.ends.items (q % 2048) + c.args.at % 4096) c.args.bytes.now) (spliced l c.args.at c.args.bytes.now)) (sym c.put.ensures.ends)
+    (λ n held. laid n (subst (λ v. IsHeld v.items n) c.put.ensures.numbers held)))
 
 pub returns-else-holds : goal.returns-else-holds
 returns-else-holds c l fits stand =
     let q = c.args.at / 4096 in
     let is = at_page c.args.at in
     let pages = c.args.pages.now in
-    subst (λ (a : ℕ). Stand pages.numbers.items pages.bytes.items (spliced l a c.args.bytes.now)) is
-    (stand_apart pages.numbers.items pages.bytes.items l q (c.args.at % 4096) c.args.bytes.now c.requires (omega (arith, fits, is)) stand (λ held. let yes = c.holds.ensures.1 held in cc (yes, c.if-holds.false)))
+    subst (λ (a : ℕ). Stand pages.numbers.items pages.ends.items pages.bytes.items (spliced l a c.args.bytes.now)) is
+    (stand_apart pages.numbers.items pages.ends.items pages.bytes.items l q (c.args.at % 4096) c.args.bytes.now c.requires (omega (arith, fits, is)) stand (λ held. let yes = c.holds.ensures.1 held in cc (yes, c.if-holds.false)))

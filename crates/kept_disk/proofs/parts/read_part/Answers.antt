@@ -1,4 +1,4 @@
-use Rattle.kept_disk.proofs.Words.{◌/◌, ◌%◌, ◌*◌, ℕ, length, take, drop, ◌∙◌, ap, arith, length-contents}
+use Rattle.kept_disk.proofs.Words.{◌/◌, ◌%◌, ◌*◌, ℕ, length, take, drop, ◌∙◌, ap, arith, length-contents, from_of}
 use Rattle.kept_disk.proofs.Paging.{at_page}
 use Rattle.kept_disk.proofs.Standing.{taken}
 use Rattle.kept_disk.proofs.parts.read_part.Goals as goal
@@ -10,5 +10,5 @@ returns-clause-bytes g c l told =
     let size = length-contents (g.met.D.Disk.lawful c.args.disk.now) l told in
     let has = c.hold.ensures.stand l told (c.requires.stand l told) q c.in_ok-hold.ensures.held in
     c.copy_out.ensures
-    ∙ taken l c.hold.new.self.bytes.items q (q % 2048 * 4096) (c.args.at % 4096) (length c.args.into.now) c.requires.inside (omega (arith, size, c.requires.fits, is)) has
+    ∙ taken l c.hold.new.self.bytes.items q (from_of c.hold.new.self.ends.items (q % 2048)) (c.args.at % 4096) (length c.args.into.now) c.requires.inside (omega (arith, size, c.requires.fits, is)) has
     ∙ ap (λ (a : ℕ). take (length c.args.into.now) (drop a l)) is

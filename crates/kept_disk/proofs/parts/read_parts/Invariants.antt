@@ -8,7 +8,7 @@ invariant-loop-done g l = record {
   contents : (g.D.Disk.state l.disk).contents ≡ (g.D.Disk.state l.fn.disk).contents;
   crash : Elapses (g.D.Disk.state l.fn.disk) (g.D.Disk.state l.disk) (g.D.Disk.state l.fn.disk).now;
   faults : (g.D.Disk.state l.disk).faults ≡ (g.D.Disk.state l.fn.disk).faults;
-  stand : ForSome (g.D.Disk.state l.fn.disk).contents (Stand l.pages.numbers.items l.pages.bytes.items);
+  stand : ForSome (g.D.Disk.state l.fn.disk).contents (Stand l.pages.numbers.items l.pages.ends.items l.pages.bytes.items);
   places : length l.pages.numbers.items ≡ length l.fn.pages.numbers.items;
   held : HoldsRange l.fn.pages.numbers.items l.at (length l.fn.into) → (l.disk ≡ l.fn.disk) × (l.pages ≡ l.fn.pages);
   holds : 2048 ≤ length l.fn.pages.numbers.items → length l.fn.into ≤ 65536 → HoldsRange l.pages.numbers.items l.at l.done;

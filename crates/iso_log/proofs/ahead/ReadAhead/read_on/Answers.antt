@@ -1,0 +1,17 @@
+use Rattle.iso_log.proofs.Words.{◌≡◌, ◌+◌, ◌-◌, ◌++◌, ℕ, List, length, take, sym, ap, arith, ◌∙◌, subst, length-contents, slice_range, StandAt}
+use Rattle.iso_log.proofs.Pieces.{range_size, stand_more}
+use Rattle.iso_log.proofs.ahead.ReadAhead.read_on.Goals as goal
+
+pub returns-clause-told : goal.returns-clause-told
+returns-clause-told g c image told stands =
+    let have = c.self.inside.end - c.self.inside.from in
+    let want = c.max-want.result in
+    let count = sym (ap length c.self.view_is) ∙ range_size c.self.inside.from c.self.inside.end c.self.inside.bytes.items c.self.invariant.1 in
+    let size = length-contents (g.met.D.Disk.lawful c.args.disk.now) image told in
+    let whole : want - 0 ≡ want = omega arith in
+    subst (λ (k : ℕ). StandAt c.args.gate (take k c.read_more.new.bytes.items) image) (sym whole)
+    (stand_more c.args.gate have want c.args.self.now (take want c.read_more.new.bytes.items) image count
+    (omega (arith, c.requires.fewer, count, c.max-want.ensures))
+    (omega (arith, size, c.requires.fits, c.requires.need, c.max-want.ensures, c.min.ensures)) stands
+    (c.in_ok-read_more.ensures.told image told
+    ∙ ap (λ (l : List ℕ). l ++ slice_range image (c.args.gate + have) (c.args.gate + have + (want - have))) (c.move_up.ensures.front ∙ c.self.view_is)))
