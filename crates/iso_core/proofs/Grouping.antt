@@ -147,17 +147,18 @@ other_history W members all replies decides some same =
     absurd (omega (arith, e, count, some))
 
 -- before the first member nothing is planned
-pub ahead_none : (W : World) (plan : Plan) → IsWorld W → plan.bytes.items ≡ [] → plan.staged.items ≡ [] → plan.notes.notes ≡ [] → IsAhead W [] plan
-ahead_none W plan is bytes staged notes = record {
+pub ahead_none : (W : World) (plan : Plan) → IsWorld W → plan.bytes.items ≡ [] → plan.staged.items ≡ [] → plan.parts.items ≡ [] → plan.notes.notes ≡ [] → IsAhead W [] plan
+ahead_none W plan is bytes staged parts notes = record {
   world = subst IsWorld (nothing_ahead W) is;
   bytes = bytes;
   notes = subst (λ (l : List Note). AreNotes W.geometry (last W.history + 1) l []) (sym notes) tt;
   staged = subst (λ (l : List Staged). AreStaged W.geometry 0 l []) (sym staged) tt;
+  parts = parts;
 }
 
 pub planned_for : (W : World) (members : List Live) (mid plan : Plan) (kept : Kept) (old new : List GroupReply) (h : HasPlanned W [] members mid old new) → old ≡ []
-    → plan.notes.notes ≡ mid.notes.notes → plan.staged.items ≡ mid.staged.items → plan.bytes.items ≡ mid.bytes.items ++ 0 ∷ [] → IsReserved plan kept → IsPlannedFor W members plan kept new
-planned_for W members mid plan kept old new h none notes staged bytes reserved =
+    → plan.notes.notes ≡ mid.notes.notes → plan.staged.items ≡ mid.staged.items → plan.parts.items ≡ mid.parts.items → plan.bytes.items ≡ mid.bytes.items ++ 0 ∷ [] → IsReserved plan kept → IsPlannedFor W members plan kept new
+planned_for W members mid plan kept old new h none notes staged parts bytes reserved =
     let told : new ≡ h.told = h.replies ∙ ap (λ (l : List GroupReply). l ++ h.told) none in
     record {
       all = h.all;
@@ -165,6 +166,7 @@ planned_for W members mid plan kept old new h none notes staged bytes reserved =
         world = h.is.world;
         notes = subst (λ (l : List Note). AreNotes W.geometry (last W.history + 1) l h.all) (sym notes) h.is.notes;
         staged = subst (λ (l : List Staged). AreStaged W.geometry 0 l h.all) (sym staged) h.is.staged;
+        parts = parts ∙ h.is.parts;
       };
       bytes = bytes ∙ ap (λ (l : List ℕ). l ++ 0 ∷ []) h.is.bytes;
       reserved = reserved;

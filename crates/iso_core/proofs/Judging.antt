@@ -1,5 +1,5 @@
 -- A member of a group, after those before it.
-use Rattle.iso_core.proofs.Words.{◌≡◌, ◌≢◌, ◌∙◌, sym, refl, ap, ℕ, zero, suc, ◌+◌, ◌-◌, ◌<◌, ◌≤◌, Bool, true, false, cond, List, [], ◌∷◌, ◌++◌, length, map, take, drop, arith, subst, None, Option, sum_by, append-nil, slice_index_or, Result, Ok, Err, OnOk, transport, AllByRecursion, append_assoc, length-append, take-append-le, take_all, drop-append-le, drop_all, drop-take, map-append, length-map, sum_by-append, sum_by-cons, AreTouched, AreNotes, AreNotesAfter, Bytes, IsAsked, up_to, Note, above, notes_appended, notes_rise, all_above, LieInAnImage, records-append, Access, Clash, Commit, Geometry, Read, Write, Mode, Run, LAST, CoreReply, clash, clash_from, first_after, has_write, record_length, runs, History, last, Written, kind_of, records, spell, written, AreAccesses, commit_step, end_step, need, commit_from, World, Live, logged_commits, used, IsWorld, limits, are_runs, length-records, sum_by-map, commit_is_record, runs_where_write, Doing, part_of, GroupReply, GroupEnd, Kept, Plan, Staged, IsCheckedOf, IsTx, AreNextRecords, IsSettledOf, MayCommit, written_of, ahead, decided, made_by, member_reply, with_first, IsOf, AreEach, AreStaged, HasPlanned, IfCommits, IsAhead, IsNextStaged, IsReady, is_commit, stays_ahead}
+use Rattle.iso_core.proofs.Words.{◌≡◌, ◌≢◌, ◌∙◌, sym, refl, ap, ℕ, zero, suc, ◌+◌, ◌-◌, ◌<◌, ◌≤◌, Bool, true, false, cond, List, [], ◌∷◌, ◌++◌, length, map, take, drop, arith, subst, None, Option, sum_by, append-nil, slice_index_or, Result, Ok, Err, OnOk, transport, AllByRecursion, append_assoc, length-append, take-append-le, take_all, drop-append-le, drop_all, drop-take, map-append, length-map, sum_by-append, sum_by-cons, AreTouched, AreNotes, AreNotesAfter, Bytes, IsAsked, up_to, Note, above, notes_appended, notes_rise, all_above, LieInAnImage, records-append, Access, Clash, Commit, Geometry, Read, Write, Mode, Run, LAST, CoreReply, clash, clash_from, first_after, has_write, record_length, runs, History, last, Written, kind_of, records, spell, written, AreAccesses, commit_step, end_step, need, commit_from, World, Live, logged_commits, used, IsWorld, limits, are_runs, length-records, sum_by-map, commit_is_record, runs_where_write, Doing, PartSpan, GroupReply, GroupEnd, Kept, Plan, Staged, IsCheckedOf, IsTx, AreNextRecords, IsSettledOf, MayCommit, written_of, ahead, decided, made_by, member_reply, with_first, IsOf, AreEach, AreStaged, HasPlanned, IfCommits, IsAhead, IsNextStaged, IsReady, all_parts, is_commit, parts_of, stays_ahead}
 use Rattle.iso_model.specs.declared.core_reply.CoreReply.TheVariants as reply
 use Rattle.iso_model.specs.declared.access.GroupReply.TheVariants as member
 use Rattle.iso_core.proofs.Decides.{asked}
@@ -29,15 +29,19 @@ staged_count g at (s ∷ staged) [] are = absurd are
 staged_count g at (s ∷ staged) (c ∷ commits) are = ap suc (staged_count g (at + record_length (written g c).parts) staged commits are.2)
 
 pub staged_push : (g : Geometry) (at : ℕ) (staged : List Staged) (commits : List Commit) (s : Staged) (c : Commit) → AreStaged g at staged commits
-    → s.at ≡ at + sum_by (λ (d : Commit). record_length (written g d).parts) commits → s.parts.items ≡ map part_of (written g c).parts
+    → s.at ≡ at + sum_by (λ (d : Commit). record_length (written g d).parts) commits → s.count ≡ length (parts_of g c)
     → AreStaged g at (staged ++ s ∷ []) (commits ++ c ∷ [])
-staged_push g at [] [] s c are here parts = (omega (arith, here), parts, tt)
-staged_push g at [] (d ∷ commits) s c are here parts = absurd are
-staged_push g at (r ∷ staged) [] s c are here parts = absurd are
-staged_push g at (r ∷ staged) (d ∷ commits) s c are here parts =
+staged_push g at [] [] s c are here count = (omega (arith, here), count, tt)
+staged_push g at [] (d ∷ commits) s c are here count = absurd are
+staged_push g at (r ∷ staged) [] s c are here count = absurd are
+staged_push g at (r ∷ staged) (d ∷ commits) s c are here count =
     let f = λ (e : Commit). record_length (written g e).parts in
     let split = sum_by-cons f d commits in
-    (are.0, are.1, staged_push g (at + record_length (written g d).parts) staged commits s c are.2 (omega (arith, here, split)) parts)
+    (are.0, are.1, staged_push g (at + record_length (written g d).parts) staged commits s c are.2 (omega (arith, here, split)) count)
+
+parts_push : (g : Geometry) (commits : List Commit) (c : Commit) → all_parts g (commits ++ c ∷ []) ≡ all_parts g commits ++ parts_of g c
+parts_push g [] c = append-nil (parts_of g c)
+parts_push g (d ∷ commits) c = ap (λ (l : List PartSpan). parts_of g d ++ l) (parts_push g commits c) ∙ sym (append_assoc (parts_of g d) (all_parts g commits) (parts_of g c))
 
 module _ (W : World) (more : List Commit) (base : IsWorld W) where
   pub last_ahead : last (ahead W more).history ≡ last W.history + length more
@@ -198,9 +202,9 @@ records_more g n more c =
 -- one commit more is staged
 module _ (kept : Kept) (W : World) (more : List Commit) (plan : Plan) (of : IsOf kept W) (is : IsAhead W more plan) (tx : ℕ) (t : Live) (next : IsNextStaged (ahead W more) tx t kept) where
   pub staged_more : (new : Plan) (s : Staged) (number : ℕ) (writes : Bytes) → new.bytes.items ≡ plan.bytes.items ++ kept.buffer.records → new.staged.items ≡ plan.staged.items ++ s ∷ []
-      → new.notes.notes ≡ plan.notes.notes ++ (number, writes) ∷ [] → number ≡ last (ahead W more).history + 1 → s.at ≡ length plan.bytes.items → s.parts.items ≡ kept.parts.items
+      → new.notes.notes ≡ plan.notes.notes ++ (number, writes) ∷ [] → number ≡ last (ahead W more).history + 1 → s.at ≡ length plan.bytes.items → s.count ≡ length kept.parts.items → new.parts.items ≡ plan.parts.items ++ kept.parts.items
       → AreTouched W.geometry.block W.geometry.blocks Write t.accesses writes → IsAhead W (more ++ commit_from t ∷ []) new
-  staged_more new s number writes bytes staged notes number_is at parts touched =
+  staged_more new s number writes bytes staged notes number_is at count parts touched =
       let from : last (ahead W more).history + 1 ≡ last W.history + 1 + length more = (let all = last_ahead W more of.world in omega (arith, all)) in
       record {
         world = subst IsWorld (ahead_twice W more (commit_from t ∷ [])) (stays_ahead (ahead W more) t is.world next.world).world;
@@ -209,7 +213,8 @@ module _ (kept : Kept) (W : World) (more : List Commit) (plan : Plan) (of : IsOf
         notes = subst (λ (l : List Note). AreNotes W.geometry (last W.history + 1) l (more ++ commit_from t ∷ [])) (sym notes)
             (notes_appended W.geometry (last W.history + 1) number plan.notes.notes more (commit_from t) writes is.notes (number_is ∙ from) touched);
         staged = subst (λ (l : List Staged). AreStaged W.geometry 0 l (more ++ commit_from t ∷ [])) (sym staged)
-            (staged_push W.geometry 0 plan.staged.items more s (commit_from t) is.staged (let b = bytes_ahead kept W more plan of is in omega (arith, at, b)) (parts ∙ next.parts));
+            (staged_push W.geometry 0 plan.staged.items more s (commit_from t) is.staged (let b = bytes_ahead kept W more plan of is in omega (arith, at, b)) (count ∙ ap (λ (l : List PartSpan). length l) next.parts));
+        parts = parts ∙ (λ i. is.parts i ++ next.parts i) ∙ sym (parts_push W.geometry more (commit_from t));
       }
 
 -- the notes so far have lower numbers

@@ -1,5 +1,5 @@
 -- Memory for the commits of a plan.
-use Rattle.iso_core.proofs.Words.{◌≡◌, ◌∙◌, inl, inr, nat_lt, sym, refl, ap, ℕ, ◌+◌, ◌^◌, ◌<◌, ◌≤◌, ◌==◌, cond, List, [], ◌∷◌, ◌++◌, length, sum_by, arith, subst, AllByRecursion, cases_lt, le-ltb, lt-ltb, length-append, length-map, sum_by-IsPermutation, sum_by-cons, Commit, Geometry, Run, record_length, runs, written, limits, are_runs, World, used, IsWorld, BlockVersions, PartSpan, HasRoom, part_of, parts_in, parts_below, Staged, Plan, ahead, AreStaged, IsAhead, all_parts}
+use Rattle.iso_core.proofs.Words.{◌≡◌, ◌∙◌, inl, inr, nat_lt, sym, refl, ap, ℕ, ◌+◌, ◌^◌, ◌<◌, ◌≤◌, ◌==◌, cond, List, [], ◌∷◌, ◌++◌, length, sum_by, arith, AllByRecursion, cases_lt, le-ltb, lt-ltb, length-append, length-map, sum_by-IsPermutation, sum_by-cons, Commit, Geometry, Run, record_length, runs, written, limits, are_runs, World, used, IsWorld, BlockVersions, PartSpan, HasRoom, part_of, parts_in, parts_below, Plan, ahead, IsAhead, all_parts, parts_of}
 use Rattle.std.specs.List.Sorted.{IsPermutation}
 use Rattle.iso_core.proofs.Judging.{used_ahead}
 
@@ -13,14 +13,10 @@ all_both : {X : Type 0} (P : X → Type 0) (xs ys : List X) → AllByRecursion P
 all_both P [] ys first second = second
 all_both P (x ∷ xs) ys first second = (first.0, all_both P xs ys first.1 second)
 
--- the parts of all staged records lie in the array
-pub all_below : (g : Geometry) (at : ℕ) (staged : List Staged) (commits : List Commit) → AreStaged g at staged commits → AllByRecursion (λ (part : PartSpan). part.block < g.blocks) (all_parts staged)
-all_below g at [] commits are = tt
-all_below g at (s ∷ staged) [] are = absurd are
-all_below g at (s ∷ staged) (c ∷ commits) are =
-    all_both (λ (part : PartSpan). part.block < g.blocks) s.parts.items (all_parts staged)
-    (subst (AllByRecursion (λ (part : PartSpan). part.block < g.blocks)) (sym are.1) (parts_below g (runs g c.accesses) (are_runs g c.accesses)))
-    (all_below g (at + record_length (written g c).parts) staged commits are.2)
+-- the parts of all records lie in the array
+pub all_below : (g : Geometry) (commits : List Commit) → AllByRecursion (λ (part : PartSpan). part.block < g.blocks) (all_parts g commits)
+all_below g [] = tt
+all_below g (c ∷ commits) = all_both (λ (part : PartSpan). part.block < g.blocks) (parts_of g c) (all_parts g commits) (parts_below g (runs g c.accesses) (are_runs g c.accesses)) (all_below g commits)
 
 few_runs : (rs : List Run) → length rs ≤ sum_by (λ (run : Run). 8 + length run.bytes) rs
 few_runs [] = omega arith
@@ -29,16 +25,13 @@ few_runs (r ∷ rs) =
     omega (arith, all, few_runs rs)
 
 -- there are not more of them than bytes in their records
-pub all_few : (g : Geometry) (at : ℕ) (staged : List Staged) (commits : List Commit) → AreStaged g at staged commits
-    → length (all_parts staged) ≤ sum_by (λ (c : Commit). record_length (written g c).parts) commits
-all_few g at [] [] are = omega arith
-all_few g at [] (c ∷ commits) are = absurd are
-all_few g at (s ∷ staged) [] are = absurd are
-all_few g at (s ∷ staged) (c ∷ commits) are =
-    let both = length-append s.parts.items (all_parts staged) in
-    let one : length s.parts.items ≡ length (runs g c.accesses) = ap (λ (l : List PartSpan). length l) are.1 ∙ length-map (runs g c.accesses) part_of in
+pub all_few : (g : Geometry) (commits : List Commit) → length (all_parts g commits) ≤ sum_by (λ (c : Commit). record_length (written g c).parts) commits
+all_few g [] = omega arith
+all_few g (c ∷ commits) =
+    let both = length-append (parts_of g c) (all_parts g commits) in
+    let one : length (parts_of g c) ≡ length (runs g c.accesses) = length-map (runs g c.accesses) part_of in
     let few = few_runs (runs g c.accesses) in
-    let rest = all_few g (at + record_length (written g c).parts) staged commits are.2 in
+    let rest = all_few g commits in
     let sum = sum_by-cons (λ (d : Commit). record_length (written g d).parts) c commits in
     omega (arith, both, one, few, rest, sum)
 
@@ -72,11 +65,12 @@ ones (p ∷ ps) = let e = sum_by-cons (λ (part : PartSpan). 1) p ps in omega (a
 pub sorted_many : (xs ys : List PartSpan) → IsPermutation xs ys → length ys ≡ length xs
 sorted_many xs ys same = sym (ones ys) ∙ sum_by-IsPermutation (λ (part : PartSpan). 1) xs ys same ∙ ones xs
 
-pub few_staged : (W : World) (more : List Commit) (plan : Plan) (ys : List PartSpan) → IsWorld W → IsAhead W more plan → IsPermutation (all_parts plan.staged.items) ys → length ys < 2 ^ 32
+pub few_staged : (W : World) (more : List Commit) (plan : Plan) (ys : List PartSpan) → IsWorld W → IsAhead W more plan → IsPermutation plan.parts.items ys → length ys < 2 ^ 32
 few_staged W more plan ys base is same =
-    let count = sorted_many (all_parts plan.staged.items) ys same in
-    let few = all_few W.geometry 0 plan.staged.items more is.staged in
+    let count = sorted_many plan.parts.items ys same in
+    let parts = ap (λ (l : List PartSpan). length l) is.parts in
+    let few = all_few W.geometry more in
     let all = used_ahead W more base in
     let room : used (ahead W more) + 1 ≤ W.geometry.log = is.world.room in
     let most = (limits W.geometry base.valid).largest_log in
-    omega (arith, count, few, all, room, most)
+    omega (arith, count, parts, few, all, room, most)

@@ -1,5 +1,5 @@
 -- The commits of a plan are taken in, and their transactions leave.
-use Rattle.iso_core.proofs.Words.{◌≡◌, ◌≢◌, ◌∙◌, inl, inr, sym, refl, ap, ℕ, ◌+◌, ◌-◌, ◌<◌, ◌≤◌, ◌==◌, cond, List, [], ◌∷◌, ◌++◌, length, map, drop, arith, subst, eq-eqb, ne_eqb, Result, OnOk, transport, AllByRecursion, cases_eq, append_assoc, length-append, length_push, take-append-le, drop-append-le, map-append, length-map, sum_by-append, AreNotes, AreNotesAfter, Held, Note, RisesFrom, above, dropped_after, notes_rise, HasLog, Half, MayFollow, half_of_world, last_told, next_gate, told_bytes, with_records, Commit, Geometry, first_after, record_length, log_place, all_own, array_at, last, IsRecord, Written, records, written, after_leaving, World, Live, floor, without, IsWorld, floor_above, floor_below, length-records, floor_between, IsIndexOf, BlockVersions, PartSpan, HasRoom, HasTaken, MayTake, parts_in, index_more, may_take, GroupEnd, Kept, Plan, Staged, IsAmong, AreNextRecords, ahead, IsOf, IsMember, AreEach, IsGrownWith, IsReady, MayTakeAll, HasTold, IsNext, DiskState, held_log, AreOf, up, LAST}
+use Rattle.iso_core.proofs.Words.{◌≡◌, ◌≢◌, ◌∙◌, inl, inr, sym, refl, ap, ℕ, ◌+◌, ◌-◌, ◌<◌, ◌≤◌, ◌==◌, cond, List, [], ◌∷◌, ◌++◌, length, map, take, drop, arith, subst, eq-eqb, ne_eqb, Result, OnOk, transport, AllByRecursion, cases_eq, append_assoc, length-append, length_push, take-append-le, take_all, drop-append-le, drop_all, map-append, length-map, sum_by-append, AreNotes, AreNotesAfter, Held, Note, RisesFrom, above, dropped_after, notes_rise, HasLog, Half, MayFollow, half_of_world, last_told, next_gate, told_bytes, with_records, Commit, Geometry, first_after, record_length, log_place, all_own, array_at, last, IsRecord, Written, records, written, after_leaving, World, Live, floor, without, IsWorld, floor_above, floor_below, length-records, floor_between, IsIndexOf, BlockVersions, PartSpan, HasRoom, HasTaken, MayTake, parts_in, index_more, may_take, GroupEnd, Kept, Plan, Staged, IsAmong, AreNextRecords, ahead, IsOf, IsMember, AreEach, IsGrownWith, IsReady, MayTakeAll, all_parts, parts_of, HasTold, IsNext, DiskState, held_log, AreOf, up, LAST}
 use Rattle.std.proofs.lemmas.List.{length-drop}
 use Rattle.iso_log.specs.Extent.{Extent as LogExtent, extent_of}
 use Rattle.iso_core.proofs.Commits.{held_records}
@@ -55,29 +55,44 @@ all_push : (g : Geometry) (told : List Written) (w : Written) → AllByRecursion
 all_push g [] w all is = (is, tt)
 all_push g (v ∷ told) w all is = (all.0, all_push g told w all.1 is)
 
-module _ (g : Geometry) (x : Half) (t at : ℕ) (c : Commit) (commits : List Commit) (number gate : ℕ) (s : Staged) (staged : List Staged) (index : List BlockVersions)
-    (may : MayTakeAll g x t at (c ∷ commits) number gate (s ∷ staged) index) where
+parted_at : (n : ℕ) (all xs ys : List PartSpan) → all ≡ xs ++ ys → n ≡ length xs → (take n all ≡ xs) × (drop n all ≡ ys)
+parted_at n all xs ys is count = (
+  ap (take n) is ∙ take-append-le n xs ys (omega (arith, count)) ∙ take_all n xs (omega (arith, count)),
+  ap (drop n) is ∙ drop-append-le n xs ys (omega (arith, count)) ∙ ap (λ (l : List PartSpan). l ++ ys) (drop_all n xs (omega (arith, count))),
+)
+
+module _ (g : Geometry) (x : Half) (t at : ℕ) (c : Commit) (commits : List Commit) (number gate : ℕ) (s : Staged) (staged : List Staged) (parts : List PartSpan) (index : List BlockVersions)
+    (may : MayTakeAll g x t at (c ∷ commits) number gate (s ∷ staged) parts index) where
   here : gate + s.at ≡ next_gate g x
   here = omega (arith, may.gate_is, may.are.0)
 
-  pub takes_first : MayTake number (gate + s.at) s.parts.items index
-  takes_first =
+  both : (take s.count parts ≡ parts_of g c) × (drop s.count parts ≡ all_parts g commits)
+  both = parted_at s.count parts (parts_of g c) (all_parts g commits) may.parts_are may.are.1
+
+  pub enough : s.count ≤ length parts
+  enough =
+      let all = ap (λ (l : List PartSpan). length l) may.parts_are in
+      let two = length-append (parts_of g c) (all_parts g commits) in
+      omega (arith, all, two, may.are.1)
+
+  pub takes_first : (own : List PartSpan) → own ≡ take s.count parts → MayTake number (gate + s.at) own index
+  takes_first own own_is =
       let number_is = sym may.number_is in
       let gate_is = sym here in
-      let parts = sym may.are.1 in
-      transport (λ i. MayTake (number_is i) (gate_is i) (parts i) index)
+      let is = sym (own_is ∙ both.0) in
+      transport (λ i. MayTake (number_is i) (gate_is i) (is i) index)
       (may_take g x t (written g c) index may.valid may.half may.each (follow_first g x (written g c) (map (written g) commits) may.follow) may.is)
 
-  pub takes_rest : (new : List BlockVersions) → HasTaken number (gate + s.at) s.parts.items index new
-      → MayTakeAll g (with_records (written g c ∷ []) x) t (at + record_length (written g c).parts) commits (number + 1) gate staged new
-  takes_rest new taken =
+  pub takes_rest : (own others : List PartSpan) (new : List BlockVersions) → own ≡ take s.count parts → others ≡ drop s.count parts → HasTaken number (gate + s.at) own index new
+      → MayTakeAll g (with_records (written g c ∷ []) x) t (at + record_length (written g c).parts) commits (number + 1) gate staged others new
+  takes_rest own others new own_is others_are taken =
       let number_is = may.number_is in
       let count = length_push x.told (written g c) in
       let trim : t ≤ last_told x = may.trim in
       let gate_next = gate_one g x (written g c) in
       let first : number ≡ x.base + 1 + length x.told = omega (arith, number_is) in
       let place = here in
-      let parts = may.are.1 in
+      let is = own_is ∙ both.0 in
       record {
         valid = may.valid;
         half = may.half;
@@ -85,8 +100,9 @@ module _ (g : Geometry) (x : Half) (t at : ℕ) (c : Commit) (commits : List Com
         follow = follow_rest g x (written g c) (map (written g) commits) may.follow;
         trim = omega (arith, trim, count);
         is = index_more g (x.base + 1) (log_place g x.at) t x.told (written g c) index new may.is (omega (arith, trim))
-            (transport (λ i. HasTaken (first i) (place i) (parts i) index new) taken);
+            (transport (λ i. HasTaken (first i) (place i) (is i) index new) taken);
         are = may.are.2;
+        parts_are = others_are ∙ both.1;
         number_is = omega (arith, number_is, count);
         gate_is = omega (arith, may.gate_is, gate_next);
       }
@@ -180,7 +196,7 @@ module _ (W : World) (more : List Commit) (plan : Plan) (kept : Kept) (gate : �
       omega (arith, all, told, count_more, staged, count_is)
 
   pub takes_all : (first : ℕ) → first ≡ last_told (half_of_world W kept.half) + 1
-      → MayTakeAll W.geometry (half_of_world W kept.half) W.trim 0 more first gate plan.staged.items kept.index
+      → MayTakeAll W.geometry (half_of_world W kept.half) W.trim 0 more first gate plan.staged.items plan.parts.items kept.index
   takes_all first first_is =
       let of = grown.was.keeps in
       let trim : W.trim ≤ last W.history = grown.was.world.trim in
@@ -193,6 +209,7 @@ module _ (W : World) (more : List Commit) (plan : Plan) (kept : Kept) (gate : �
         trim = omega (arith, trim, number);
         is = of.index;
         are = grown.ahead_of.staged;
+        parts_are = grown.ahead_of.parts;
         number_is = first_is;
         gate_is = omega (arith, grown.gate_is);
       }
@@ -233,20 +250,23 @@ module _ (W : World) (more : List Commit) (plan : Plan) (kept : Kept) (gate : �
       }
 
 -- the first of what is staged, and the others
-pub record FirstStaged (g : Geometry) (x : Half) (t at : ℕ) (commits : List Commit) (number gate : ℕ) (s : Staged) (staged : List Staged) (index : List BlockVersions) : Type 0 where
+pub record FirstStaged (g : Geometry) (x : Half) (t at : ℕ) (commits : List Commit) (number gate : ℕ) (s : Staged) (staged : List Staged) (parts : List PartSpan) (index : List BlockVersions) : Type 0 where
   pub first : Commit
   pub others : List Commit
   pub are : commits ≡ first ∷ others
-  pub may : MayTakeAll g x t at (first ∷ others) number gate (s ∷ staged) index
+  pub may : MayTakeAll g x t at (first ∷ others) number gate (s ∷ staged) parts index
 
-pub staged_parted : (g : Geometry) (x : Half) (t at : ℕ) (commits : List Commit) (number gate : ℕ) (s : Staged) (staged : List Staged) (index : List BlockVersions)
-    → MayTakeAll g x t at commits number gate (s ∷ staged) index → FirstStaged g x t at commits number gate s staged index
-staged_parted g x t at [] number gate s staged index may = absurd may.are
-staged_parted g x t at (c ∷ commits) number gate s staged index may = record { first = c; others = commits; are = refl; may = may }
+pub staged_parted : (g : Geometry) (x : Half) (t at : ℕ) (commits : List Commit) (number gate : ℕ) (s : Staged) (all staged : List Staged) (parts : List PartSpan) (index : List BlockVersions)
+    → all ≡ s ∷ staged → MayTakeAll g x t at commits number gate all parts index → FirstStaged g x t at commits number gate s staged parts index
+staged_parted g x t at commits number gate s all staged parts index are may = go commits (subst (λ (l : List Staged). MayTakeAll g x t at commits number gate l parts index) are may)
+  where
+    go : (commits : List Commit) → MayTakeAll g x t at commits number gate (s ∷ staged) parts index → FirstStaged g x t at commits number gate s staged parts index
+    go [] may = absurd may.are
+    go (c ∷ commits) may = record { first = c; others = commits; are = refl; may = may }
 
-pub none_staged : (g : Geometry) (x : Half) (t at : ℕ) (commits : List Commit) (number gate : ℕ) (index : List BlockVersions) → MayTakeAll g x t at commits number gate [] index → commits ≡ []
-none_staged g x t at [] number gate index may = refl
-none_staged g x t at (c ∷ commits) number gate index may = absurd may.are
+pub none_staged : (g : Geometry) (x : Half) (t at : ℕ) (commits : List Commit) (number gate : ℕ) (parts : List PartSpan) (index : List BlockVersions) → MayTakeAll g x t at commits number gate [] parts index → commits ≡ []
+none_staged g x t at [] number gate parts index may = refl
+none_staged g x t at (c ∷ commits) number gate parts index may = absurd may.are
 
 -- records that follow what is kept, with a closed gate behind them
 pub next_all : (kept : Kept) (W : World) (more : List Written) (all : List ℕ) → IsOf kept W → AreNextRecords W more all → (bytes : List ℕ) → bytes ≡ all ++ 0 ∷ [] → IsNext kept.log W.geometry more bytes

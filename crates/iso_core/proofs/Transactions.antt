@@ -1,5 +1,5 @@
 -- The live transactions of a core and those of its world.
-use Rattle.iso_core.proofs.Words.{◌≡◌, ◌≢◌, ◌⊎◌, inl, inr, ◌∙◌, sym, refl, ap, ℕ, suc, ◌<◌, List, [], ◌∷◌, length, map, Some, None, arith, eq-eqb, ne_eqb, subst, nat_eq, min, AllByRecursion, lookup, remove_entry, cases_eq, Live, floor_of, least_begin, without, AreDistinct, AreTwo, at_work, begin_of, Begun, IsAmong, bare}
+use Rattle.iso_core.proofs.Words.{◌≡◌, ◌≢◌, ◌⊎◌, inl, inr, ◌∙◌, sym, refl, ap, ℕ, suc, ◌<◌, List, [], ◌∷◌, length, map, Some, ◌≤◌, arith, eq-eqb, ne_eqb, subst, nat_eq, min, AllByRecursion, lookup, remove_entry, cases_eq, Live, floor_of, least_begin, without, AreDistinct, AreTwo, at_work, AreBefore, Begun, IsAmong, bare}
 
 -- what holds of all live transactions by their begins and modes holds of each of them
 pub among : (P : Live → Type 0) → ((t : Live) → P (bare t) → P t) → ((t : Live) → P t → P (bare t)) → (t : Live) (live : List Live) → AllByRecursion P live → IsAmong t live → P t
@@ -91,13 +91,13 @@ kept_floor n (t ∷ all) = least t.begin all
     least m [] = refl
     least m (u ∷ us) = least (min m u.begin) us
 
--- a number that was not given out is no transaction's
-pub kept_new : (tx : ℕ) (live : List (ℕ × Begun)) (all : List Live) → map at_work live ≡ map bare all → AllByRecursion (λ t. t.number < tx) all → begin_of tx live ≡ None
-kept_new tx [] all same below = refl
-kept_new tx (e ∷ live) [] same below = cc same
-kept_new tx (e ∷ live) (u ∷ all) same below =
+-- all that are kept are before a transaction that begins now
+pub kept_before : (tx at : ℕ) (live : List (ℕ × Begun)) (all : List Live) → map at_work live ≡ map bare all → AllByRecursion (λ t. (t.number < tx) × (t.begin ≤ at)) all → AreBefore tx at live
+kept_before tx at [] all same below = tt
+kept_before tx at (e ∷ live) [] same below = cc same
+kept_before tx at (e ∷ live) (u ∷ all) same below =
     let head : at_work e ≡ bare u = cc same in
     let rest : map at_work live ≡ map bare all = cc same in
-    let key : e.0 ≡ u.number = ap (λ (v : Live). v.number) head in
-    let less : u.number < tx = below.0 in
-    rw (ne_eqb tx e.0 (λ is. absurd (omega (arith, key, less, is)))) (kept_new tx live all rest below.1)
+    let number : e.0 ≡ u.number = ap (λ (v : Live). v.number) head in
+    let begin : e.1.at ≡ u.begin = ap (λ (v : Live). v.begin) head in
+    ((omega (arith, number, below.0.0), omega (arith, begin, below.0.1)), kept_before tx at live all rest below.1)

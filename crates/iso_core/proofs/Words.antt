@@ -80,7 +80,7 @@ pub use Rattle.mv_index.specs.Shown.{AllLie, Lies, ShowTheSame}
 pub use Rattle.mv_index.specs.Versions.{BlockVersions, count_of, no_version, shown_since, upto, versions_in}
 pub use Rattle.mv_index.specs.Weights.{bytes_above}
 pub use Rattle.mv_index.specs.declared.version.Version.{Version}
-pub use Rattle.tx_table.specs.Live.{at_work, begin_of}
+pub use Rattle.tx_table.specs.Live.{AreBefore, at_work, begin_of}
 pub use Rattle.tx_table.specs.Work.{AreWithin, Doing}
 pub use Rattle.tx_table.specs.declared.live.Begun.{Begun}
 pub use Rattle.version_read.proofs.Above.{records_above}
@@ -96,7 +96,7 @@ pub use Rattle.iso_core.specs.Core.{AllHold, AreImages, AreOf}
 pub use Rattle.iso_core.specs.Ends.{AreNextRecords, IsGrownBy, IsPrepared, IsSettledOf, IsSpelled, MayCommit, written_of}
 pub use Rattle.iso_core.specs.Kept.{IsOf, Keeps, NotesSince, bare}
 pub use Rattle.iso_core.specs.Opening.{IsOpenedTo, opened_world}
-pub use Rattle.iso_core.specs.Planned.{AreEach, AreStaged, HasPlanned, HasStaged, IfCommits, IsAhead, IsGrownWith, IsMember, IsNextStaged, IsPlannedFor, IsReady, IsReserved, MayTakeAll, all_parts, bare_end, is_commit, unsettled, without_reply}
+pub use Rattle.iso_core.specs.Planned.{AreEach, AreStaged, HasPlanned, HasStaged, IfCommits, IsAhead, IsGrownWith, IsMember, IsNextStaged, IsPlannedFor, IsReady, IsReserved, MayTakeAll, all_parts, bare_end, parts_of, is_commit, unsettled, without_reply}
 pub use Rattle.iso_core.specs.Standing.{ShowsWith, Standing, down, up}
 pub use Rattle.iso_core.specs.Switching.{HasForm, HasFormOr, IsForm}
 pub use Rattle.iso_core.specs.declared.group_end.GroupEnd.{GroupEnd}

@@ -52,13 +52,21 @@ AreEach P (m ∷ ms) (t ∷ ts) = P m t × AllByRecursion (λ (u : Live). u.numb
 abbrev pub unsettled : GroupEnd → GroupEnd
 unsettled m = record m { work = record m.work { settled = false } }
 
+-- the parts of the record of a commit
+abbrev pub parts_of : Geometry → Commit → List PartSpan
+parts_of g c = map part_of (written g c).parts
+
+-- those of the records of commits, one record after the other
+abbrev pub all_parts : Geometry → List Commit → List PartSpan
+all_parts g commits = flat_map (parts_of g) commits
+
 -- the staged records are those of these commits, the first of which has its gate at this place behind the first one of all
 abbrev pub AreStaged : Geometry → (at : ℕ) → List Staged → List Commit → Type 0
 AreStaged g at [] [] = Unit {0}
 AreStaged g at [] (c ∷ commits) = ⊥
 AreStaged g at (s ∷ staged) [] = ⊥
 AreStaged g at (s ∷ staged) (c ∷ commits) =
-    (s.at ≡ at) × (s.parts.items ≡ map part_of (written g c).parts) × AreStaged g (at + record_length (written g c).parts) staged commits
+    (s.at ≡ at) × (s.count ≡ length (parts_of g c)) × AreStaged g (at + record_length (written g c).parts) staged commits
 
 -- the plan has these commits, which may follow what is kept
 pub record IsAhead (W : World) (more : List Commit) (plan : Plan) : Type 0 where
@@ -66,6 +74,7 @@ pub record IsAhead (W : World) (more : List Commit) (plan : Plan) : Type 0 where
   pub bytes : plan.bytes.items ≡ records W.geometry (last W.history + 1) (map (written W.geometry) more)
   pub notes : AreNotes W.geometry (last W.history + 1) plan.notes.notes more
   pub staged : AreStaged W.geometry 0 plan.staged.items more
+  pub parts : plan.parts.items ≡ all_parts W.geometry more
 
 -- the transaction is the next commit of the world, and its record is spelled
 pub record IsNextStaged (U : World) (tx : ℕ) (t : Live) (kept : Kept) : Type 0 where
@@ -90,13 +99,9 @@ is_commit (member.Conflict clash) = false
 is_commit (member.Full need free) = false
 is_commit member.Worn = false
 
--- the parts of all staged records, one record after the other
-abbrev pub all_parts : List Staged → List PartSpan
-all_parts staged = flat_map (λ s. s.parts.items) staged
-
 -- all memory is at hand that the commits of the plan take
 pub record IsReserved (plan : Plan) (kept : Kept) : Type 0 where
-  pub room : HasRoom (all_parts plan.staged.items) kept.index
+  pub room : HasRoom plan.parts.items kept.index
   pub note_room : length kept.notes.notes + length plan.notes.notes ≤ kept.notes.room
 
 -- a member without its reply
@@ -120,7 +125,7 @@ pub record HasPlanned (W : World) (more : List Commit) (members : List Live) (pl
   pub decides : decided (ahead W more) members ≡ (told, ahead W all)
 
 -- What is staged may be taken in, one record after the other.
-pub record MayTakeAll (g : Geometry) (x : Half) (t at : ℕ) (commits : List Commit) (number gate : ℕ) (staged : List Staged) (index : List BlockVersions) : Type 0 where
+pub record MayTakeAll (g : Geometry) (x : Half) (t at : ℕ) (commits : List Commit) (number gate : ℕ) (staged : List Staged) (parts : List PartSpan) (index : List BlockVersions) : Type 0 where
   pub valid : IsTrue (is_valid g)
   pub half : x.at ≤ 1
   pub each : AllByRecursion (IsRecord g) x.told
@@ -128,6 +133,7 @@ pub record MayTakeAll (g : Geometry) (x : Half) (t at : ℕ) (commits : List Com
   pub trim : t ≤ last_told x
   pub is : IsIndexOf g (x.base + 1) (log_place g x.at) t x.told index
   pub are : AreStaged g at staged commits
+  pub parts_are : parts ≡ all_parts g commits
   pub number_is : number ≡ last_told x + 1
   pub gate_is : gate + at ≡ next_gate g x
 
@@ -136,6 +142,7 @@ pub record HasStaged (W : World) (more : List Commit) (plan : Plan) : Type 0 whe
   pub world : IsWorld (ahead W more)
   pub notes : AreNotes W.geometry (last W.history + 1) plan.notes.notes more
   pub staged : AreStaged W.geometry 0 plan.staged.items more
+  pub parts : plan.parts.items ≡ all_parts W.geometry more
 
 -- All members are decided, and all is at hand that their commits take: their records with a closed gate behind them, and memory.
 pub record IsPlannedFor (W : World) (members : List Live) (plan : Plan) (kept : Kept) (replies : List GroupReply) : Type 0 where

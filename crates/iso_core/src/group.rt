@@ -39,6 +39,24 @@ fn is_bare(plan: &Plan) -> bool
     plan.staged.is_empty()
 }
 
+// How many bytes there is room for at first, which the records of most groups do not pass.
+const RECORDS: usize = 1024;
+
+// Makes room for what so many members make.
+fn make_room(plan: &mut Plan, replies: &mut Vec<GroupReply>, members: usize) -> Result<(), Memory>
+    ensures bytes { plan.new.bytes.items ≡ plan.old.bytes.items }
+    ensures staged { plan.new.staged.items ≡ plan.old.staged.items }
+    ensures parts { plan.new.parts.items ≡ plan.old.parts.items }
+    ensures notes { plan.new.notes.notes ≡ plan.old.notes.notes }
+    ensures replies { replies.new.items ≡ replies.old.items }
+{
+    replies.reserve(members)?;
+    plan.bytes.reserve(RECORDS)?;
+    plan.staged.reserve(members)?;
+    plan.parts.reserve(members)?;
+    plan.notes.reserve_more(members)
+}
+
 /// Decides all members, and takes all memory that their commits take.
 fn prepare_group(
     kept: &mut Kept,
@@ -47,7 +65,7 @@ fn prepare_group(
     ends: &[GroupEnd],
 ) -> Result<(), Memory>
     requires ready { (W : World) × (members : List Live) × IsOf kept.old W × AreEach (IsReady W) ends.now members }
-    requires empty { (plan.old.bytes.items ≡ []) × (plan.old.staged.items ≡ []) × (plan.old.notes.notes ≡ []) }
+    requires empty { (plan.old.bytes.items ≡ []) × (plan.old.staged.items ≡ []) × (plan.old.parts.items ≡ []) × (plan.old.notes.notes ≡ []) }
     requires none { replies.old.items ≡ [] }
     ensures planned { (W : World) (members : List Live) → IsOf kept.old W → AreEach (IsReady W) ends.now members
         → OnOk result (IsPlannedFor W members plan.new kept.new replies.new.items) }
@@ -56,6 +74,7 @@ fn prepare_group(
     ensures down { kept.new.down ≡ kept.old.down }
     ensures log { kept.new.log ≡ kept.old.log }
 {
+    make_room(plan, replies, ends.len())?;
     plan_members(kept, plan, replies, ends)?;
     reserve_plan(kept, plan)?;
     close(&mut plan.bytes)?;
@@ -95,6 +114,7 @@ pub(crate) fn end_ready<D: Disk>(
     let mut plan = Plan {
         bytes: Vec::new(kept.alloc),
         staged: Vec::new(kept.alloc),
+        parts: Vec::new(kept.alloc),
         notes: Notes::empty(kept.alloc),
     };
     if let Err(_) = prepare_group(kept, &mut plan, replies, ends) {

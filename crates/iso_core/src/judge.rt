@@ -27,7 +27,6 @@ use conflict_rule::{Checked, Notes, decide};
 use iso_format::RecordBuffer;
 use iso_image::kind_of;
 use iso_model::{Clash, GroupReply, LAST, Memory};
-use std::alloc::Global;
 use std::marker::Brand;
 use std::sync::ledger::{Blank, Ledger};
 use step_count::Steps;
@@ -142,12 +141,11 @@ fn records_in(buffer: &RecordBuffer) -> &[u8]
     &bytes[..bytes.len() - 1]
 }
 
-fn copy_parts(alloc: Global, parts: &[PartSpan]) -> Result<Vec<PartSpan>, Memory>
-    ensures { IfOk result (λ copy. copy.items ≡ parts.now) }
+fn push_parts(parts: &mut Vec<PartSpan>, more: &[PartSpan]) -> Result<(), Memory>
+    ensures { OnOk result (parts.new.items ≡ parts.old.items ++ more.now) }
 {
-    let mut copy = Vec::new(alloc);
-    copy.extend_from_slice(parts)?;
-    Ok(copy)
+    parts.extend_from_slice(more)?;
+    Ok(())
 }
 
 fn push_bytes(bytes: &mut Vec<u8>, more: &[u8]) -> Result<(), Memory>
@@ -157,10 +155,10 @@ fn push_bytes(bytes: &mut Vec<u8>, more: &[u8]) -> Result<(), Memory>
     Ok(())
 }
 
-fn push_staged(staged: &mut Vec<Staged>, at: u64, parts: Vec<PartSpan>) -> Result<(), Memory>
-    ensures { OnOk result (staged.new.items ≡ staged.old.items ++ record { at = at; parts = parts } ∷ []) }
+fn push_staged(staged: &mut Vec<Staged>, at: u64, count: usize) -> Result<(), Memory>
+    ensures { OnOk result (staged.new.items ≡ staged.old.items ++ record { at = at; count = count } ∷ []) }
 {
-    staged.push(Staged { at, parts })?;
+    staged.push(Staged { at, count })?;
     Ok(())
 }
 
@@ -172,9 +170,9 @@ fn stage(kept: &Kept, plan: &mut Plan, work: &Work) -> Result<(), Memory>
 {
     let number = kept.log.last() + plan.staged.len() as u64 + 1;
     let at = plan.bytes.len() as u64;
-    let parts = copy_parts(kept.alloc, kept.parts.as_slice())?;
     let writes = work.writes().copy()?;
-    push_staged(&mut plan.staged, at, parts)?;
+    push_staged(&mut plan.staged, at, kept.parts.len())?;
+    push_parts(&mut plan.parts, kept.parts.as_slice())?;
     push_bytes(&mut plan.bytes, records_in(&kept.buffer))?;
     plan.notes.reserve()?;
     plan.notes.add(number, writes);

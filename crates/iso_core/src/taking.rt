@@ -1,5 +1,5 @@
 // The commits of a group are taken in, once their records stand.
-ghost use Rattle.std.specs.Prelude.{◌≡◌, ℕ, ◌+◌, ◌<◌, ◌++◌, [], ◌∷◌, List, IfNone, IfOk, IfSome, OnOk, map};
+ghost use Rattle.std.specs.Prelude.{◌≡◌, ℕ, ◌+◌, ◌++◌, [], ◌∷◌, List, IfNone, IfOk, IfSome, OnOk, map};
 ghost use Rattle.std.specs.List.Sorted.{IsNonDecreasingBy, IsPermutation};
 ghost use Rattle.iso_image.specs.Half.{Half};
 ghost use Rattle.iso_model.specs.declared.access.Commit.{Commit};
@@ -11,7 +11,7 @@ ghost use Rattle.mv_index.specs.Placed.{IsIndexOf};
 ghost use Rattle.version_read.specs.Parts.{HasRoom};
 ghost use Rattle.iso_model.specs.Group.{ahead, leave_all};
 ghost use Rattle.iso_core.specs.Kept.{IsOf};
-ghost use Rattle.iso_core.specs.Planned.{AreEach, IsAhead, IsGrownWith, IsReady, IsReserved, MayTakeAll, all_parts};
+ghost use Rattle.iso_core.specs.Planned.{AreEach, IsAhead, IsGrownWith, IsReady, IsReserved, MayTakeAll};
 
 use crate::group_end::GroupEnd;
 use crate::judge::first_member;
@@ -31,39 +31,20 @@ fn first_staged(staged: &[Staged]) -> Option<(&Staged, &[Staged])>
     staged.split_first()
 }
 
-fn push_parts(all: &mut Vec<PartSpan>, parts: &[PartSpan]) -> Result<(), Memory>
-    ensures { OnOk result (all.new.items ≡ all.old.items ++ parts.now) }
+fn copy_parts(alloc: Global, parts: &[PartSpan]) -> Result<Vec<PartSpan>, Memory>
+    ensures { IfOk result (λ copy. copy.items ≡ parts.now) }
 {
-    all.extend_from_slice(parts)?;
-    Ok(())
+    let mut copy = Vec::new(alloc);
+    copy.extend_from_slice(parts)?;
+    Ok(copy)
 }
 
-// Puts the parts of staged records behind the others.
-fn gather_parts(all: &mut Vec<PartSpan>, staged: &[Staged]) -> Result<(), Memory>
-    ensures { OnOk result (all.new.items ≡ all.old.items ++ all_parts staged.now) }
-{
-    let Some((record, rest)) = first_staged(staged) else {
-        return Ok(());
-    };
-    push_parts(all, record.parts.as_slice())?;
-    gather_parts(all, rest)
-}
-
-// The parts of staged records, in their order.
-fn parts_of(alloc: Global, staged: &[Staged]) -> Result<Vec<PartSpan>, Memory>
-    ensures { IfOk result (λ all. all.items ≡ all_parts staged.now) }
-{
-    let mut all = Vec::new(alloc);
-    gather_parts(&mut all, staged)?;
-    Ok(all)
-}
-
-// The parts of staged records, by their blocks.
-fn sorted_parts(alloc: Global, staged: &[Staged]) -> Result<Vec<PartSpan>, Memory>
-    ensures same { IfOk result (λ all. IsPermutation (all_parts staged.now) all.items) }
+// These parts, by their blocks.
+fn sorted_parts(alloc: Global, parts: &[PartSpan]) -> Result<Vec<PartSpan>, Memory>
+    ensures same { IfOk result (λ all. IsPermutation parts.now all.items) }
     ensures order { IfOk result (λ all. IsNonDecreasingBy (λ part. part.block) all.items) }
 {
-    let mut all = parts_of(alloc, staged)?;
+    let mut all = copy_parts(alloc, parts)?;
     all.sort_by_key(|part| part.block)?;
     Ok(all)
 }
@@ -75,25 +56,26 @@ pub(crate) fn reserve_plan(kept: &mut Kept, plan: &Plan) -> Result<(), Memory>
     ensures same { (W : World) → IsOf kept.old W → IsOf kept.new W }
     ensures rest { kept.new ≡ record kept.old { index = kept.new.index; notes = kept.new.notes } }
 {
-    let all = sorted_parts(kept.alloc, plan.staged.as_slice())?;
+    let all = sorted_parts(kept.alloc, plan.parts.as_slice())?;
     reserve_parts(&mut kept.index, all.as_slice())?;
     kept.notes.reserve_for(&plan.notes)?;
     Ok(())
 }
 
-/// Adds the versions of staged records to the index of a half behind which they stand, the first of which has this number;
-/// the gate is that of the first one of all.
-fn take_staged(index: &mut MvIndex, number: u64, gate: u64, staged: &[Staged])
-    requires follow { (g : Geometry) × (x : Half) × (t : ℕ) × (at : ℕ) × (commits : List Commit) × MayTakeAll g x t at commits number gate staged.now index.old }
-    requires room { HasRoom (all_parts staged.now) index.old }
-    ensures { (g : Geometry) (x : Half) (t at : ℕ) (commits : List Commit) → MayTakeAll g x t at commits number gate staged.now index.old
+/// Adds the versions of staged records with these parts to the index of a half behind which they stand, the first of which has
+/// this number; the gate is that of the first one of all.
+fn take_staged(index: &mut MvIndex, number: u64, gate: u64, staged: &[Staged], parts: &[PartSpan])
+    requires follow { (g : Geometry) × (x : Half) × (t : ℕ) × (at : ℕ) × (commits : List Commit) × MayTakeAll g x t at commits number gate staged.now parts.now index.old }
+    requires room { HasRoom parts.now index.old }
+    ensures { (g : Geometry) (x : Half) (t at : ℕ) (commits : List Commit) → MayTakeAll g x t at commits number gate staged.now parts.now index.old
         → IsIndexOf g (x.base + 1) (log_place g x.at) t (x.told ++ map (written g) commits) index.new }
 {
     let Some((record, rest)) = first_staged(staged) else {
         return;
     };
-    add_parts(index, number, gate + record.at, record.parts.as_slice());
-    take_staged(index, number + 1, gate, rest);
+    let (own, others) = parts.split_at(record.count);
+    add_parts(index, number, gate + record.at, own);
+    take_staged(index, number + 1, gate, rest, others);
 }
 
 /// Takes in the commits of a plan, whose records were appended at a gate. All members are live still.
@@ -104,7 +86,13 @@ pub(crate) fn take_plan(kept: &mut Kept, gate: u64, plan: Plan)
     ensures down { kept.new.down ≡ kept.old.down }
 {
     let first = kept.log.last() - plan.staged.len() as u64 + 1;
-    take_staged(&mut kept.index, first, gate, plan.staged.as_slice());
+    take_staged(
+        &mut kept.index,
+        first,
+        gate,
+        plan.staged.as_slice(),
+        plan.parts.as_slice(),
+    );
     kept.notes.take_all(plan.notes);
 }
 

@@ -3,7 +3,7 @@ use Rattle.iso_model.specs.declared.core_reply.CoreReply.TheVariants as reply
 use Rattle.iso_core.proofs.Begins.{begins_so, fixed, is_begun, is_fixed, is_full, is_worn}
 use Rattle.iso_core.proofs.Numbers.{log_last}
 use Rattle.iso_core.proofs.Stats.{live_is}
-use Rattle.iso_core.proofs.Transactions.{kept_new}
+use Rattle.iso_core.proofs.Transactions.{kept_before}
 use Rattle.iso_core.proofs.begin.begin.Goals as goal
 
 pub returns-then-is_refused-clause-refused : goal.returns-then-is_refused-clause-refused
@@ -16,8 +16,10 @@ pub enter-requires : goal.enter-requires
 enter-requires c =
     let (W, of) = c.requires in
     let next : c.args.kept.now.next ≡ W.next = of.keeps.next in
-    kept_new c.args.kept.now.next c.args.kept.now.live W.live of.keeps.live
-    (all_weaker (IsLive W) (λ t. t.number < c.args.kept.now.next) (λ t is. let below : t.number < W.next = is.number in omega (arith, next, below)) W.live of.world.live)
+    let at : c.last-at.result ≡ last W.history = c.last-at.ensures ∙ log_last c.args.kept.now W of.world of.keeps in
+    kept_before c.args.kept.now.next c.last-at.result c.args.kept.now.live W.live of.keeps.live
+    (all_weaker (IsLive W) (λ t. (t.number < c.args.kept.now.next) × (t.begin ≤ c.last-at.result))
+    (λ t is. let low : t.number < W.next = is.number in let old : t.begin ≤ last W.history = is.begin in (omega (arith, next, low), omega (arith, at, old))) W.live of.world.live)
 
 pub returns-then-len-ge-MAX_LIVE-clause-refused : goal.returns-then-len-ge-MAX_LIVE-clause-refused
 returns-then-len-ge-MAX_LIVE-clause-refused c W of =

@@ -6,12 +6,12 @@ use Rattle.iso_core.proofs.group.prepare_group.Goals as goal
 pub plan_members-requires : goal.plan_members-requires
 plan_members-requires c =
     let (W, members, of, each) = c.requires.ready in
-    (W, [], members, of, ahead_none W c.args.plan.now of.world c.requires.empty.0 c.requires.empty.1 c.requires.empty.2, each)
+    (W, [], members, of, ahead_none W c.make_room.new.plan of.world (c.make_room.ensures.bytes ∙ c.requires.empty.0) (c.make_room.ensures.staged ∙ c.requires.empty.1) (c.make_room.ensures.parts ∙ c.requires.empty.2) (c.make_room.ensures.notes ∙ c.requires.empty.3), each)
 
 pub reserve_plan-requires : goal.reserve_plan-requires
 reserve_plan-requires c =
     let (W, members, of, each) = c.requires.ready in
-    let h = c.in_ok-plan_members.ensures.planned W [] members of (ahead_none W c.args.plan.now of.world c.requires.empty.0 c.requires.empty.1 c.requires.empty.2) each in
+    let h = c.in_ok-plan_members.ensures.planned W [] members of (ahead_none W c.make_room.new.plan of.world (c.make_room.ensures.bytes ∙ c.requires.empty.0) (c.make_room.ensures.staged ∙ c.requires.empty.1) (c.make_room.ensures.parts ∙ c.requires.empty.2) (c.make_room.ensures.notes ∙ c.requires.empty.3)) each in
     (W, h.all, buffer_on c.args.kept.now W c.plan_members.new.kept of c.plan_members.ensures.same, h.is)
 
 pub returns-in_err-plan_members-clause-same : goal.returns-in_err-plan_members-clause-same
@@ -37,7 +37,7 @@ returns-clause-log c = ap (λ (k : Kept). k.log) c.reserve_plan.ensures.rest ∙
 
 pub returns-clause-planned : goal.returns-clause-planned
 returns-clause-planned c W members of each =
-    let first = ahead_none W c.args.plan.now of.world c.requires.empty.0 c.requires.empty.1 c.requires.empty.2 in
+    let first = ahead_none W c.make_room.new.plan of.world (c.make_room.ensures.bytes ∙ c.requires.empty.0) (c.make_room.ensures.staged ∙ c.requires.empty.1) (c.make_room.ensures.parts ∙ c.requires.empty.2) (c.make_room.ensures.notes ∙ c.requires.empty.3) in
     let h = c.in_ok-plan_members.ensures.planned W [] members of first each in
     let r = c.in_ok-reserve_plan.ensures.reserved W h.all (buffer_on c.args.kept.now W c.plan_members.new.kept of c.plan_members.ensures.same) h.is in
-    planned_for W members c.plan_members.new.plan _ c.reserve_plan.new.kept c.args.replies.now.items c.plan_members.new.replies.items h c.requires.none refl refl c.in_ok-close.ensures (record { room = r.room; note_room = r.note_room })
+    planned_for W members c.plan_members.new.plan _ c.reserve_plan.new.kept c.make_room.new.replies.items c.plan_members.new.replies.items h (c.make_room.ensures.replies ∙ c.requires.none) refl refl refl c.in_ok-close.ensures (record { room = r.room; note_room = r.note_room })

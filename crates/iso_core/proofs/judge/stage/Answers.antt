@@ -1,4 +1,4 @@
-use Rattle.iso_core.proofs.Words.{◌∙◌, sym, ap, ℕ, ◌+◌, ◌<◌, ◌≤◌, List, [], ◌∷◌, ◌++◌, arith, subst, All, AreTouched, Bytes, Note, Write, LAST, last, ahead}
+use Rattle.iso_core.proofs.Words.{◌∙◌, sym, ap, ℕ, ◌+◌, ◌<◌, ◌≤◌, List, [], ◌∷◌, ◌++◌, arith, subst, All, AreTouched, Bytes, Note, PartSpan, Write, LAST, last, ahead}
 use Rattle.iso_core.proofs.Decides.{touched_by}
 use Rattle.iso_core.proofs.Judging.{last_ahead, number_ahead, numbers_before, staged_more}
 use Rattle.iso_core.proofs.judge.stage.Goals as goal
@@ -39,5 +39,6 @@ returns c W more tx t of is settled next =
     (c.add.ensures ∙ ap (λ (l : List Note). l ++ (c.last.result + c.len.result + 1, c.in_ok-writes.writes) ∷ []) c.reserve.ensures.same)
     (ap (λ (n : ℕ). n + 1) all)
     (c.len-at.ensures ∙ c.args.plan.now.bytes.ok.0)
-    (c.in_ok-parts.ensures ∙ c.as_slice.ensures.value)
+    (c.len-2.ensures ∙ c.args.kept.now.parts.ok.0)
+    (c.in_ok-push_parts.ensures ∙ ap (λ (l : List PartSpan). c.args.plan.now.parts.items ++ l) c.as_slice.ensures.value)
     (touched_by W t c.args.work.now settled.is_work c.in_ok-writes.writes (subst (λ (l : Bytes). AreTouched c.args.work.now.size c.args.work.now.blocks Write c.args.work.now.accesses l) (sym c.in_ok-writes.ensures) c.writes.ensures))

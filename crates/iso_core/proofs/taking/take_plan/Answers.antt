@@ -1,4 +1,4 @@
-use Rattle.iso_core.proofs.Words.{◌∙◌, sym, ap, ◌+◌, ◌-◌, arith, subst, List, half_of_world, Staged, MayTakeAll, all_parts, HasRoom}
+use Rattle.iso_core.proofs.Words.{◌∙◌, sym, ap, ◌+◌, ◌-◌, arith, subst, transport, List, half_of_world, MayTakeAll, PartSpan, HasRoom}
 use Rattle.iso_core.proofs.Staging.{few_first, number_first, rising_notes, taken_in, takes_all}
 use Rattle.iso_core.proofs.taking.take_plan.Goals as goal
 
@@ -17,14 +17,14 @@ take_staged-requires-clause-follow c =
       W.trim,
       0,
       more,
-      subst (λ (l : List Staged). MayTakeAll W.geometry (half_of_world W c.args.kept.now.half) W.trim 0 more (c.last.result - c.len.result + 1) c.args.gate l c.args.kept.now.index) (sym c.as_slice.ensures.value)
+      transport (λ i. MayTakeAll W.geometry (half_of_world W c.args.kept.now.half) W.trim 0 more (c.last.result - c.len.result + 1) c.args.gate (sym c.as_slice.ensures.value i) (sym c.as_slice-2.ensures.value i) c.args.kept.now.index)
           (takes_all W more c.args.plan c.args.kept.now c.args.gate grown (c.last.result - c.len.result + 1) number),
     )
 
 pub take_staged-requires-clause-room : goal.take_staged-requires-clause-room
 take_staged-requires-clause-room c =
     let (W, more, grown) = c.requires in
-    subst (λ (l : List Staged). HasRoom (all_parts l) c.args.kept.now.index) (sym c.as_slice.ensures.value) grown.reserved.room
+    subst (λ (l : List PartSpan). HasRoom l c.args.kept.now.index) (sym c.as_slice-2.ensures.value) grown.reserved.room
 
 pub take_all-requires-clause-room : goal.take_all-requires-clause-room
 take_all-requires-clause-room c =
@@ -41,6 +41,6 @@ returns-clause-taken c W more grown =
     let number = number_first W more c.args.plan c.args.kept.now c.args.gate grown (c.last.result - c.len.result + 1) c.len.result (c.len.ensures ∙ c.args.plan.staged.ok.0) (ap (λ n. n - c.len.result + 1) c.last.ensures) in
     taken_in W more c.args.plan c.args.kept.now c.args.gate grown c.take_staged.new.index c.take_all.new.self
     (c.take_staged.ensures W.geometry (half_of_world W c.args.kept.now.half) W.trim 0 more
-    (subst (λ (l : List Staged). MayTakeAll W.geometry (half_of_world W c.args.kept.now.half) W.trim 0 more (c.last.result - c.len.result + 1) c.args.gate l c.args.kept.now.index) (sym c.as_slice.ensures.value)
+    (transport (λ i. MayTakeAll W.geometry (half_of_world W c.args.kept.now.half) W.trim 0 more (c.last.result - c.len.result + 1) c.args.gate (sym c.as_slice.ensures.value i) (sym c.as_slice-2.ensures.value i) c.args.kept.now.index)
     (takes_all W more c.args.plan c.args.kept.now c.args.gate grown (c.last.result - c.len.result + 1) number)))
     c.take_all.ensures
