@@ -1,4 +1,5 @@
 pub mod Words
 pub mod Loops
+mod Zeros
 pub mod Bits
 pub mod Laying

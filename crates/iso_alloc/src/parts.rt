@@ -31,11 +31,18 @@ pub fn word_at(bytes: &[u8], at: usize) -> u32
     BigEndian::read_u32(&bytes[at..])
 }
 
-/// Whether all bytes are zero.
+// More zeros than any head or part has.
+const ZEROS: [u8; 64] = [0; 64];
+
+/// Whether all bytes are zero. So many as a head or a part has are compared as a whole.
 pub fn are_zero(bytes: &[u8]) -> bool
     ensures { result ≡ list_all is_zero bytes.now }
 {
-    bytes.iter().all(|b| *b == 0)
+    if bytes.len() > ZEROS.len() {
+        return bytes.iter().all(|b| *b == 0);
+    }
+    let zeros = &ZEROS[..bytes.len()];
+    bytes == zeros
 }
 
 /// Whether a part is a length of at most `most`, so many bytes, and zeros.

@@ -168,10 +168,10 @@ few_taken (suc n) [] = omega arith
 few_taken (suc n) (x ∷ xs) = (let rest = few_taken n xs in omega arith)
 
 -- what they need of the buffer
-pub room_taken : (size n many : ℕ) (path : List (ℕ × ℕ)) → length path ≤ 32 → many ≡ 32 * size → (0 + length (take n path)) * size ≤ many
-room_taken size n many path short is =
+pub room_taken : (size n many : ℕ) (path : List (ℕ × ℕ)) → length path * size ≤ many → (0 + length (take n path)) * size ≤ many
+room_taken size n many path room =
     let few = few_taken n path in
-    let le : (0 + length (take n path)) * size ≤ 32 * size = Rattle.std.proofs.Math.Nat.mul-le-mul_right size (omega arith) in
+    let le : (0 + length (take n path)) * size ≤ length path * size = Rattle.std.proofs.Math.Nat.mul-le-mul_right size (omega arith) in
     omega arith
 
 -- THE BLOCKS THAT ARE TAKEN

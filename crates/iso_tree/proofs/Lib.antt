@@ -18,6 +18,7 @@ pub mod Edits
 pub mod Filters
 pub mod Bytes
 pub mod Passes
+mod Passing
 pub mod Writes
 pub mod Leaves
 pub mod Fits

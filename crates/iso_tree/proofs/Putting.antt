@@ -1,5 +1,5 @@
 -- A put below a node leaves nodes.
-use Rattle.iso_tree.proofs.Words.{◌≡◌, ◌⊎◌, ◌∙◌, sym, refl, ap, subst, ℕ, zero, suc, ◌+◌, ◌-◌, ◌^◌, ◌<◌, ◌≤◌, Bool, true, false, cond, List, [], ◌∷◌, ◌++◌, length, replicate, Option, Some, None, arith, inl, inr, AllByRecursion, flat_map, and_parts, and_from, map-append, Area, Array, IsIn, block_at, bytes_in, cell_count, keys_mark, value_mark, is_part, before, Cell, FitCells, IsBlock, child_of, child_part, count_of, is_child, used_cells, in_range, tree_at, nodes_in, put_after, IsApart, AreAfter, AreChildren, IsOrdered, Put, half, fit, cells_in, is_part_at, IsNode, AreNodes}
+use Rattle.iso_tree.proofs.Words.{◌≡◌, ◌⊎◌, ◌∙◌, sym, refl, ap, subst, ℕ, zero, suc, ◌+◌, ◌^◌, ◌<◌, ◌≤◌, true, false, cond, List, [], ◌∷◌, ◌++◌, length, replicate, Option, Some, None, arith, inl, inr, AllByRecursion, flat_map, and_parts, and_from, map-append, Area, Array, IsIn, block_at, bytes_in, cell_count, keys_mark, value_mark, is_part, before, Cell, FitCells, IsBlock, child_of, child_part, count_of, is_child, used_cells, in_range, tree_at, nodes_in, put_after, IsApart, AreAfter, AreChildren, IsOrdered, Put, half, fit, cells_in, is_part_at, IsNode, AreNodes}
 use Rattle.iso_tree.proofs.Blocks.{in_front, in_back, in_cases, apart_parts, chosen_in}
 use Rattle.iso_tree.proofs.Climbs.{Lacks, IsPut, put_is, rows_apart, child_apart, child_lacks, child_enough}
 use Rattle.iso_tree.proofs.Facts.{child_below, inner_many}

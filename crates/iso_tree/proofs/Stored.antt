@@ -1,5 +1,5 @@
 -- The array after unmarked writes of nodes, and the nodes that stay as they were.
-use Rattle.iso_tree.proofs.Words.{◌≡◌, ◌⊎◌, ◌∙◌, sym, refl, ap, subst, ℕ, zero, suc, ◌+◌, ◌-◌, ◌<◌, ◌≤◌, true, false, List, [], ◌∷◌, ◌++◌, map, length, arith, inl, inr, AllByRecursion, flat_map, Area, Array, put, own, IsIn, block_at, Done, bytes_in, store_access, accesses_of, cell_count, keys_mark, value_mark, length-block_put, written_block, other_block, Cell, FitCells, IsBlock, child_of, count_of, is_node, used_cells, node_bytes, tree_at, nodes_in, IsApart, first_key, store_nodes, cells_in, is_part_at, IsNode, AreNodes}
+use Rattle.iso_tree.proofs.Words.{◌≡◌, ◌⊎◌, ◌∙◌, sym, refl, ap, subst, ℕ, zero, suc, ◌+◌, ◌<◌, ◌≤◌, true, false, List, [], ◌∷◌, ◌++◌, map, length, arith, inl, inr, AllByRecursion, flat_map, Area, Array, put, own, IsIn, block_at, Done, bytes_in, store_access, accesses_of, cell_count, keys_mark, value_mark, length-block_put, written_block, other_block, Cell, FitCells, IsBlock, child_of, count_of, is_node, used_cells, node_bytes, tree_at, nodes_in, IsApart, first_key, store_nodes, cells_in, is_part_at, IsNode, AreNodes}
 use Rattle.iso_tree.proofs.Blocks.{in_front, in_back, apart_parts, chosen_in}
 use Rattle.iso_tree.proofs.Bytes.{keys_are, cells_are, unused_values, count_is, length-node_bytes, merged_whole}
 use Rattle.iso_tree.proofs.Fits.{cells_at}

@@ -21,7 +21,7 @@ pub use Rattle.std.specs.declared.cmp.Ordering.{Ordering}
 pub use Rattle.std.specs.declared.cmp.Ordering.TheVariants.{Equal, Greater, Less}
 pub use Rattle.iso_alloc.proofs.Bits.{with_bits}
 pub use Rattle.iso_alloc.proofs.Laying.{laid_here}
-pub use Rattle.iso_alloc.proofs.Loops.{all_at, all_fails, all_goes_on, first_found, first_goes_on}
+pub use Rattle.iso_alloc.proofs.Loops.{all_at, all_end, all_fails, all_goes_on, first_found, first_goes_on}
 pub use Rattle.iso_model.proofs.Bytes.{length-block_own, length-block_put, length-merged, merged_at, merged_kept, other_block, written_block}
 pub use Rattle.iso_model.specs.Array.{Array, covered, in_span, merged, put}
 pub use Rattle.iso_model.specs.Conflict.{first_from}

@@ -1,15 +1,12 @@
 -- What the parts of a call leave, and how a descent ends.
 use Rattle.std.specs.Prelude.{◌≡◌, ℕ, ◌+◌, ◌<◌, ◌≤◌, Bool, ◌&&◌, cond, true, List, [], Result, Ok, Err, IfErr, OnOk, take}
-use Rattle.std.specs.Option.{ForSome}
 use Rattle.store_model.specs.declared.stores.Area.{Area}
 use Rattle.store_model.specs.declared.stores.StoreError.{StoreError}
 use Rattle.store_model.specs.declared.stores.StoreError.TheVariants as store
-use Rattle.iso_model.specs.Effect.{own}
-use Rattle.iso_model.specs.Premises.{block_at}
 use Rattle.store_model.specs.Cells.{keys_end, keys_mark}
 use Rattle.store_model.specs.Stores.{Program, Done, Look, further_bytes}
 use Rattle.tx_blocks.specs.Tx.{Tx, Device, IsLater}
-use Rattle.tx_blocks.specs.Runs.{AreBytesOf, Ran, IsCut, HasRead, IsStoreCause}
+use Rattle.tx_blocks.specs.Runs.{Ran, IsCut, HasRead, IsStoreCause}
 use Rattle.iso_tree.specs.declared.descent.Leaf.{Leaf}
 use Rattle.store_model.specs.TreeNodes.{cell_of, count_of, is_node, is_child, child_of}
 use Rattle.store_model.specs.TreeCalls.{AtLeaf, AtBroken, descend, inner_further, leaf_further, with_head}

@@ -15,9 +15,10 @@ use crate::descent::region_of;
 use crate::first::store_first;
 use crate::grow::{look_nodes, take_blocks};
 use crate::leaf::value_part;
-use iso_alloc::{cell_count, free_blocks};
+use iso_alloc::{buffer, cell_count, free_blocks};
 use iso_model::Span;
-use store_model::{Area, StoreError};
+use std::alloc::Global;
+use store_model::{Area, StoreError, TxError};
 use tx_blocks::{TxBlocks, look, reserve};
 
 // How many nodes in a row from the leaf up are full.
@@ -140,7 +141,8 @@ fn put_taken<T: TxBlocks>(
     requires usable { AreShownUsable area (T.state tx.old) path.now }
     requires some { 1 ≤ need_of (cell_count area.size) path.now }
     requires map { length map.old ≡ area.size }
-    requires nodes { length nodes.old ≡ 32 * area.size }
+    requires nodes { length path.now * area.size ≤ length nodes.old }
+    requires short { length nodes.old ≤ 1048576 }
     requires into { length into.old ≡ area.size }
     ensures run { HasRun (put_new area key.now value.now path.now (bytes_in (map_mark area.blocks) map.old) (need_of (cell_count area.size) path.now)) (T.state tx.old) (T.state tx.new) result }
     ensures behaves { Behaves (T.state tx.old) (T.state tx.new) 66 (T.device tx.old) (T.device tx.new) result }
@@ -187,15 +189,16 @@ pub fn map_mark(area: Area) -> Span
     }
 }
 
-/// Puts a key that is in no leaf, once its leaf is full, or where the tree is empty; the path has the leaf first.
+/// Puts a key that is in no leaf, once its leaf is full, or where the tree is empty; the path has the leaf first. It takes a buffer for
+/// the nodes of the path.
 pub fn put_new<T: TxBlocks>(
+    alloc: Global,
     tx: &mut T,
     area: Area,
     key: &[u8],
     value: &[u8],
     path: &[(u32, u32)],
     map: &mut [u8],
-    nodes: &mut [u8],
     into: &mut [u8],
 ) -> Result<(), StoreError>
     requires area { IsTreeArea area }
@@ -209,13 +212,15 @@ pub fn put_new<T: TxBlocks>(
     requires usable { AreShownUsable area (T.state tx.old) path.now }
     requires some { 1 ≤ need_of (cell_count area.size) path.now }
     requires map { length map.old ≡ area.size }
-    requires nodes { length nodes.old ≡ 32 * area.size }
     requires into { length into.old ≡ area.size }
     ensures run { HasRun (with_map area key.now value.now path.now) (T.state tx.old) (T.state tx.new) result }
     ensures behaves { Behaves (T.state tx.old) (T.state tx.new) 66 (T.device tx.old) (T.device tx.new) result }
 {
+    let Ok(mut nodes) = buffer(alloc, path.len() * area.size as usize) else {
+        return Err(StoreError::Tx(TxError::Memory));
+    };
     if let Err(e) = look(tx, area.start, map_mark(area), map) {
         return Err(StoreError::Tx(e));
     }
-    put_taken(tx, area, key, value, path, map, nodes, into)
+    put_taken(tx, area, key, value, path, map, &mut nodes, into)
 }

@@ -16,8 +16,9 @@ use std::alloc::Global;
 use store_model::{Area, Region, StoreError};
 use tx_blocks::TxBlocks;
 
-// Puts a value at a key below a root. `nodes` has room for a path.
+// Puts a value at a key below a root.
 fn put_below<T: TxBlocks>(
+    alloc: Global,
     tx: &mut T,
     area: Area,
     key: &[u8],
@@ -25,7 +26,6 @@ fn put_below<T: TxBlocks>(
     root: u32,
     level: u8,
     block: &mut [u8],
-    nodes: &mut [u8],
     into: &mut [u8],
 ) -> Result<(), StoreError>
     requires area { IsTreeArea area }
@@ -36,13 +36,12 @@ fn put_below<T: TxBlocks>(
     requires root { root < area.blocks }
     requires level { level ≤ 31 }
     requires block { length block.old ≡ area.size }
-    requires nodes { length nodes.old ≡ 32 * area.size }
     requires into { length into.old ≡ area.size }
     ensures run { HasRun (put_below_root area key.now value.now root level) (T.state tx.old) (T.state tx.new) result }
     ensures behaves { Behaves (T.state tx.old) (T.state tx.new) 66 (T.device tx.old) (T.device tx.new) result }
 {
     if root == 0 {
-        return put_new(tx, area, key, value, &[], block, nodes, into);
+        return put_new(alloc, tx, area, key, value, &[], block, into);
     }
     let mut path = Path::empty();
     let leaf = match descend(tx, area, key, false, root, level, &mut path, block) {
@@ -56,17 +55,17 @@ fn put_below<T: TxBlocks>(
         return put_cell(tx, area, key, value, leaf, block, into);
     }
     path.push(leaf.block, leaf.count);
-    put_new(tx, area, key, value, path.nodes(), block, nodes, into)
+    put_new(alloc, tx, area, key, value, path.nodes(), block, into)
 }
 
-// Puts a value at a key, with buffers for two blocks and a path.
+// Puts a value at a key, with buffers for two blocks.
 fn put_with<T: TxBlocks>(
+    alloc: Global,
     tx: &mut T,
     area: Area,
     key: &[u8],
     value: &[u8],
     block: &mut [u8],
-    nodes: &mut [u8],
     into: &mut [u8],
 ) -> Result<(), StoreError>
     requires area { IsTreeArea area }
@@ -75,13 +74,12 @@ fn put_with<T: TxBlocks>(
     requires key { is_key key.now ≡ true }
     requires value { is_value value.now ≡ true }
     requires block { length block.old ≡ area.size }
-    requires nodes { length nodes.old ≡ 32 * area.size }
     requires into { length into.old ≡ area.size }
     ensures run { HasRun (put_program area key.now value.now) (T.state tx.old) (T.state tx.new) result }
     ensures behaves { Behaves (T.state tx.old) (T.state tx.new) 66 (T.device tx.old) (T.device tx.new) result }
 {
     match read_head(tx, area, block) {
-        Ok((root, level)) => { put_below(tx, area, key, value, root, level, block, nodes, into) }
+        Ok((root, level)) => { put_below(alloc, tx, area, key, value, root, level, block, into) }
         Err(e) => Err(e),
     }
 }
@@ -121,7 +119,6 @@ pub fn put<T: TxBlocks>(
     };
     let size = area.size as usize;
     let mut block = buffer(alloc, size)?;
-    let mut nodes = buffer(alloc, 32 * size)?;
     let mut into = buffer(alloc, size)?;
-    put_with(tx, area, key, value, &mut block, &mut nodes, &mut into)
+    put_with(alloc, tx, area, key, value, &mut block, &mut into)
 }

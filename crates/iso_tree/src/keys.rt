@@ -1,9 +1,9 @@
 // Head and key parts of a node: tests, and the places of keys.
-ghost use Rattle.std.specs.Prelude.{◌≡◌, ◌+◌, ◌-◌, ◌<◌, ◌≤◌, true, length, IfSome};
-ghost use Rattle.store_model.specs.Cells.{cell_count, keys_end, are_key_parts, is_unused, key_at, all_from};
+ghost use Rattle.std.specs.Prelude.{◌≡◌, ◌+◌, ◌-◌, ◌<◌, ◌≤◌, ◌==◌, ◌||◌, ◌&&◌, if◌then◌else◌, nat_lt, slice_index, true, length, IfSome};
+ghost use Rattle.store_model.specs.Cells.{cell_count, keys_end, are_key_parts, is_part, key_at, text_of};
 ghost use Rattle.store_model.specs.TreeNodes.{are_cells, before, has_head, has_level, below_from, cell_of, count_of, is_node, place_of};
 
-use iso_alloc::{are_key_parts, are_zero, cell_count, key_part, piece, text_of};
+use iso_alloc::{are_zero, cell_count, is_part, key_part, piece, text_of};
 
 /// Whether a key is before another in byte order.
 pub fn is_before(x: &[u8], y: &[u8]) -> bool
@@ -31,37 +31,6 @@ pub fn key_of(size: usize, keys: &[u8], cell: usize) -> &[u8]
     text_of(key_part(keys, cell))
 }
 
-// Whether the cells from one on are not used.
-fn are_unused(size: usize, keys: &[u8], from: usize) -> bool
-    requires size { 64 ≤ size }
-    requires keys { length keys.now ≡ keys_end size }
-    requires from { from ≤ cell_count size }
-    ensures { result ≡ all_from (λ i. is_unused keys.now i) from (cell_count size - from) }
-{
-    for cell in from..cell_count(size) {
-        if key_part(keys, cell)[0] != 0 {
-            return false;
-        }
-    }
-    true
-}
-
-// Whether the keys of so many cells and one rise strictly.
-fn do_rise(size: usize, keys: &[u8], steps: usize) -> bool
-    requires size { 64 ≤ size }
-    requires keys { length keys.now ≡ keys_end size }
-    requires parts { are_key_parts size keys.now ≡ true }
-    requires steps { steps < cell_count size }
-    ensures { result ≡ all_from (λ i. before (key_at keys.now i) (key_at keys.now (i + 1))) 0 steps }
-{
-    for cell in 0..steps {
-        if !is_before(key_of(size, keys, cell), key_of(size, keys, cell + 1)) {
-            return false;
-        }
-    }
-    true
-}
-
 // Whether a node that is well formed else may have this level.
 fn has_level(size: usize, level: u8, keys: &[u8], count: usize) -> bool
     requires size { 256 ≤ size }
@@ -85,15 +54,39 @@ fn has_head(size: usize, level: u8, keys: &[u8]) -> bool
         && count_of(keys) <= cell_count(size)
 }
 
-// Whether so many cells are used, under keys that rise.
+// Whether the part of a cell may follow a key: one of the first `count` cells has a key above it, and each other one is not used.
+fn may_follow(part: &[u8], last: &[u8], cell: usize, count: usize) -> bool
+    requires part { is_part 28 part.now ≡ true }
+    requires length { length part.now ≡ 31 }
+    ensures { result ≡ if nat_lt cell count then ((cell == 0) || before last.now (text_of part.now)) else slice_index part.now 0 == 0 }
+{
+    if cell < count {
+        cell == 0 || is_before(last, text_of(part))
+    } else {
+        part[0] == 0
+    }
+}
+
+// Whether all key parts are well formed, those of the first `count` cells with keys that rise, and the others are not used. All of it
+// is seen in one walk.
 fn are_cells(size: usize, keys: &[u8], count: usize) -> bool
     requires size { 256 ≤ size }
     requires keys { length keys.now ≡ keys_end size }
-    requires parts { are_key_parts size keys.now ≡ true }
     requires count { count ≤ cell_count size }
-    ensures { result ≡ are_cells size keys.now count }
+    ensures { result ≡ (are_key_parts size keys.now && are_cells size keys.now count) }
 {
-    are_unused(size, keys, count) && do_rise(size, keys, count.saturating_sub(1))
+    let mut last: &[u8] = b"";
+    for cell in 0..cell_count(size) {
+        let part = key_part(keys, cell);
+        if !is_part(part, 28) {
+            return false;
+        }
+        if !may_follow(part, last, cell, count) {
+            return false;
+        }
+        last = text_of(part);
+    }
+    true
 }
 
 /// Whether head and key parts are those of a node of this level.
@@ -104,9 +97,6 @@ pub fn is_node(size: usize, level: u8, keys: &[u8]) -> bool
     ensures { result ≡ is_node size level keys.now }
 {
     if !has_head(size, level, keys) {
-        return false;
-    }
-    if !are_key_parts(size, keys) {
         return false;
     }
     let count = count_of(keys);

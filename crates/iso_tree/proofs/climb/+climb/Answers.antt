@@ -1,4 +1,4 @@
-use Rattle.iso_tree.proofs.Words.{◌≡◌, ◌∙◌, sym, refl, ap, subst, ℕ, suc, ◌+◌, ◌-◌, ◌*◌, ◌/◌, ◌≤◌, List, [], length, take, Ok, rules, arith, TxError, cell_count, keys_end, Done, Store, bytes_in, Tx, HasRun, IsCut, Cell, child_part, count_of, node_bytes, used_cells, key_in_row, row_from, Answer, placed, root_cells, store_nodes}
+use Rattle.iso_tree.proofs.Words.{◌≡◌, ◌∙◌, sym, refl, ap, subst, ℕ, suc, ◌+◌, ◌*◌, ◌/◌, ◌≤◌, List, [], length, take, Ok, rules, arith, TxError, cell_count, keys_end, Done, Store, bytes_in, Tx, HasRun, IsCut, Cell, child_part, count_of, node_bytes, used_cells, key_in_row, row_from, Answer, placed, root_cells, store_nodes}
 use Rattle.store_model.specs.declared.stores.StoreError.TheVariants as store
 use Rattle.iso_tree.proofs.Climbing.{first_usable, rest_usable, rest_inside, room_for, rest_room, last_writes, code_writes, rest_enough, more_inside, full_some, first_fails, second_fails, both_run, room_after, open_after, root_run}
 use Rattle.iso_tree.proofs.Filling.{key_fits}

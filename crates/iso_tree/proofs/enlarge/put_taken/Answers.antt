@@ -35,7 +35,7 @@ put_writes-requires-clause-full g c =
 pub put_writes-requires-clause-nodes : goal.put_writes-requires-clause-nodes
 put_writes-requires-clause-nodes g c =
     subst (λ (p : List (ℕ × ℕ)). (0 + length p) * c.args.area.size ≤ length c.look_nodes.new.nodes) (sym c.written-rows.ensures)
-    (room_taken c.args.area.size (suc c.full_row-full.result) (length c.look_nodes.new.nodes) c.args.path.now c.requires.long (c.look_nodes.auto.nodes ∙ c.requires.nodes))
+    (room_taken c.args.area.size (suc c.full_row-full.result) (length c.look_nodes.new.nodes) c.args.path.now (omega (arith, c.look_nodes.auto.nodes, c.requires.nodes)))
 
 pub put_writes-requires-clause-rising : goal.put_writes-requires-clause-rising
 put_writes-requires-clause-rising g c =
