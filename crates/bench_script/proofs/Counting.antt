@@ -1,29 +1,24 @@
 -- A tally of the lines of replies.
-use Rattle.bench_script.proofs.Words.{◌≡◌, ◌∙◌, sym, ap, ℕ, ◌+◌, ◌≤◌, true, List, [], ◌∷◌, ◌++◌, length, length-append, append_assoc, decimal, arith, subst, Contains, filter, list_all, Line, Reply, is_committed, is_conflict, reply_line, reply_text, text_of, LineKind, kind_of, commits_in, conflicts_in}
+use Rattle.bench_script.proofs.Words.{◌≡◌, ◌∙◌, sym, ap, ℕ, ◌+◌, ◌≤◌, true, List, [], ◌∷◌, ◌++◌, length, length-append, append_assoc, decimal, arith, subst, Contains, filter, list_all, Line, Reply, is_committed, is_conflict, reply_line, reply_text, text_of, append-nil, IsLeft, IsTallied, LineKind, kind_of, commits_in, conflicts_in}
 use Rattle.bench_script.proofs.KindsOfReplies.{commits_with, conflicts_with}
 use Rattle.bench_script.proofs.ReplyTexts.{is_other, both, other_than_digits, reply_has_no_feed}
 use Rattle.bench_script.proofs.Splits.{is_there, same_split}
 
--- of these replies, what is left of the text is some last ones, and the others are counted
-pub record IsLeft (given : List Reply) (rest : List ℕ) (commits conflicts : ℕ) : Type 0 where
-  pub left : List (ℕ × Line)
-  pub more : List Reply
-  pub as_many : length more ≡ length left
-  pub text : rest ≡ text_of left more
-  pub commits_are : commits + length (filter is_committed more) ≡ length (filter is_committed given)
-  pub conflicts_are : conflicts + length (filter is_conflict more) ≡ length (filter is_conflict given)
-
--- so far a tally has counted right
-pub record IsCounted (text rest : List ℕ) (commits conflicts : ℕ) : Type 0 where
-  pub commits_fit : commits + length rest ≤ length text
-  pub conflicts_fit : conflicts + length rest ≤ length text
-  pub since : (lines : List (ℕ × Line)) (given : List Reply) → length given ≡ length lines → text ≡ text_of lines given → IsLeft given rest commits conflicts
-
-pub at_first : (text : List ℕ) → IsCounted text text 0 0
-at_first text = record {
+-- nothing is taken yet
+pub none_taken : IsTallied [] [] 0 0
+none_taken = record {
   commits_fit = omega arith;
   conflicts_fit = omega arith;
-  since = λ lines given many is. record { left = lines; more = given; as_many = many; text = is; commits_are = omega arith; conflicts_are = omega arith };
+  since = λ more lines given many is. record { left = lines; more = given; as_many = many; text = is; commits_are = omega arith; conflicts_are = omega arith };
+}
+
+-- more bytes behind the others
+pub more_taken : (text rest bytes : List ℕ) (commits conflicts : ℕ) → IsTallied text rest commits conflicts → IsTallied (text ++ bytes) (rest ++ bytes) commits conflicts
+more_taken text rest bytes commits conflicts is = record {
+  commits_fit = omega (arith, is.commits_fit, length-append text bytes, length-append rest bytes);
+  conflicts_fit = omega (arith, is.conflicts_fit, length-append text bytes, length-append rest bytes);
+  since = λ more lines given many all. subst (λ (l : List ℕ). IsLeft given l commits conflicts) (sym (append_assoc rest bytes more))
+      (is.since (bytes ++ more) lines given many (sym (append_assoc text bytes more) ∙ all));
 }
 
 -- a line of a reply, and what follows it
@@ -72,24 +67,25 @@ at_most_one : (kind : LineKind) → (commits_in kind ≤ 1) × (conflicts_in kin
 at_most_one kind = (grind arith, grind arith)
 
 -- one more line is counted
-pub count_on : (text rest line next : List ℕ) (commits conflicts new_commits new_conflicts : ℕ) (kind : LineKind) → rest ≡ line ++ 10 ∷ next → ¬ Contains line 10
+pub count_on : (all rest line next : List ℕ) (commits conflicts new_commits new_conflicts : ℕ) (kind : LineKind) → rest ≡ line ++ 10 ∷ next → ¬ Contains line 10
     → Tells line kind → new_commits ≡ commits + commits_in kind → new_conflicts ≡ conflicts + conflicts_in kind
-    → IsCounted text rest commits conflicts → IsCounted text next new_commits new_conflicts
-count_on text rest line next commits conflicts new_commits new_conflicts kind split none tells more_commits more_conflicts is =
+    → IsTallied all rest commits conflicts → IsTallied all next new_commits new_conflicts
+count_on all rest line next commits conflicts new_commits new_conflicts kind split none tells more_commits more_conflicts is =
     let size : length rest ≡ length line + (length next + 1) = ap length split ∙ length-append line (10 ∷ next) ∙ omega arith in
     let most = at_most_one kind in
     rw (more_commits, more_conflicts) (record {
       commits_fit = omega (arith, is.commits_fit, most.0);
       conflicts_fit = omega (arith, is.conflicts_fit, most.1);
-      since = λ lines given many all. one_more given rest line next commits conflicts kind split none tells (is.since lines given many all);
+      since = λ more lines given many text. one_more given (rest ++ more) line (next ++ more) commits conflicts kind
+          (ap (λ (l : List ℕ). l ++ more) split ∙ append_assoc line (10 ∷ next) more) none tells (is.since more lines given many text);
     })
 
 -- where no line is left, all are counted
-pub all_counted : (text rest : List ℕ) (commits conflicts : ℕ) → IsCounted text rest commits conflicts → ¬ Contains rest 10
+pub all_counted : (text rest : List ℕ) (commits conflicts : ℕ) → IsTallied text rest commits conflicts → ¬ Contains rest 10
     → (lines : List (ℕ × Line)) (given : List Reply) → length given ≡ length lines → text ≡ text_of lines given
     → (commits ≡ length (filter is_committed given)) × (conflicts ≡ length (filter is_conflict given))
 all_counted text rest commits conflicts is none lines given many all =
-    let left = is.since lines given many all in go left.left left.more left.as_many left.text left.commits_are left.conflicts_are
+    let left = is.since [] lines given many (append-nil text ∙ all) in go left.left left.more left.as_many (sym (append-nil rest) ∙ left.text) left.commits_are left.conflicts_are
   where
     go : (left : List (ℕ × Line)) (more : List Reply) → length more ≡ length left → rest ≡ text_of left more
         → commits + length (filter is_committed more) ≡ length (filter is_committed given)

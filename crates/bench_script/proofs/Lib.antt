@@ -3,9 +3,11 @@ mod ReplyTexts
 mod Splits
 mod KindsOfReplies
 mod Counting
+mod Digesting
 mod Pieces
 mod GoodLines
 mod Meetings
 mod RoundSteps
 mod RoundReplies
 mod OneALine
+mod Walks

@@ -7,7 +7,7 @@ pub use Rattle.std.proofs.lemmas.List.Elements.{Contains-append_right}
 pub use Rattle.std.proofs.lemmas.List.Folds.{list_all-append}
 pub use Rattle.std.proofs.lemmas.List.Sums.{sum_by-append}
 pub use Rattle.std.proofs.lemmas.Option.{get_or_from_slice_get, slice_get-get_or, slice_get_within}
-pub use Rattle.std.proofs.Math.Seq.{get_or-append_seam}
+pub use Rattle.std.proofs.Math.Seq.{drop-append-add, get_or-append_seam}
 pub use Rattle.std.proofs.Math.ListN.{drop_of_length-le}
 pub use Rattle.std.specs.Cmp.Lexicographic.{pointwise}
 pub use Rattle.std.specs.Fmt.{digit_glyph, digits_onto}
@@ -60,7 +60,10 @@ pub use Rattle.script_text.proofs.Readings.{parse-printed}
 pub use Rattle.script_text.proofs.Spaces.{AreWords, spaced_printable}
 pub use Rattle.script_text.specs.Spelling.{AreSome, IsLine, line_words}
 unfoldable pub use Rattle.script_text.specs.Spelling.{line_text}
-pub use Rattle.bench_script.specs.Ends.{DrawnState}
+pub use Rattle.sha2.specs.Hashers.{Holds256}
+pub use Rattle.sha2.specs.declared.Sha256.{Sha256}
+pub use Rattle.bench_script.specs.Counts.{IsFed, IsLeft, IsTallied}
+pub use Rattle.bench_script.specs.Ends.{DigestedState, DrawnState}
 pub use Rattle.bench_script.specs.Kinds.{commits_in, conflicts_in, kind_of}
 pub use Rattle.bench_script.specs.Rounds.{AreRoundReplies, is_one_place, last_after, one_places}
 pub use Rattle.bench_script.specs.declared.line_kind.LineKind.{LineKind}

@@ -1,4 +1,4 @@
--- What contracts see of the script of a bench and of the replies that are held.
+-- What contracts see of the script of a bench and of the digest of its replies.
 use Rattle.std.specs.Prelude.{ℕ, Bool, List, Some}
 use Rattle.iso_io.specs.Source.{SourceState}
 use Rattle.iso_io.specs.Sink.{SinkState}
@@ -11,10 +11,10 @@ pub record DrawnState : Type 0 where
 abbrev pub drawn_state : DrawnState → SourceState
 drawn_state s = record { rest = Some s.left; is_ended = s.is_ended; faults = 0 }
 
-pub record HeldState : Type 0 where
+pub record DigestedState : Type 0 where
   pub text : List ℕ  -- the bytes taken so far
-  pub faults : ℕ  -- how many calls found no memory, up to the last value of a u64
+  pub faults : ℕ  -- how many calls failed, up to the last value of a u64
 
 -- as a sink it takes all of each piece
-abbrev pub held_state : HeldState → SinkState
-held_state s = record { written = Some s.text; faults = s.faults; refusals = 0 }
+abbrev pub digested_state : DigestedState → SinkState
+digested_state s = record { written = Some s.text; faults = s.faults; refusals = 0 }

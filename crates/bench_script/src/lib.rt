@@ -1,16 +1,17 @@
-//! The script of a bench, its replies, and how many of them tell of a commit or of a conflict.
+//! The script of a bench, the digest of its replies, and how many of them tell of a commit or of a conflict.
 #![tactic(auto)]
 
 mod drawn_script;
-mod held_replies;
 pub mod laws;
 mod line_kind;
+mod reply_digest;
 mod split;
+mod taken;
 mod tally;
 
 pub use drawn_script::DrawnScript;
-pub use held_replies::HeldReplies;
-pub use tally::{Tally, tally_of};
+pub use reply_digest::ReplyDigest;
+pub use tally::Tally;
 
 #[cfg(test)]
 mod tests;

@@ -1,9 +1,6 @@
 // How many replies tell of a commit, and how many of a conflict.
-ghost use Rattle.std.specs.Prelude.{◌≡◌, ◌+◌, ◌-◌, ◌<◌, ◌^◌, ℕ, List, filter, length};
-ghost use Rattle.script_model.specs.declared.script.Line.{Line};
-ghost use Rattle.script_model.specs.declared.script.Reply.{Reply};
-ghost use Rattle.script_model.specs.Bench.{is_committed, is_conflict};
-ghost use Rattle.script_runner.specs.Replies.{text_of};
+ghost use Rattle.std.specs.Prelude.{◌≡◌, ◌+◌, ◌-◌, ◌<◌, ◌≤◌, ◌^◌, ℕ, List, Contains, drop, length};
+ghost use Rattle.bench_script.specs.Counts.{IsTallied};
 ghost use Rattle.bench_script.specs.Kinds.{commits_in, conflicts_in};
 
 use crate::line_kind::{LineKind, kind_of_line};
@@ -16,23 +13,20 @@ pub struct Tally {
     pub conflicts: u64,
 }
 
-/// Counts the commits and the conflicts in the text of replies, one to each line, whatever they are.
-pub fn tally_of(text: &[u8]) -> Tally
-    ensures commits { (lines : List (ℕ × Line)) (given : List Reply) → length given ≡ length lines → text.now ≡ text_of lines given
-        → result.commits ≡ length (filter is_committed given) }
-    ensures conflicts { (lines : List (ℕ × Line)) (given : List Reply) → length given ≡ length lines → text.now ≡ text_of lines given
-        → result.conflicts ≡ length (filter is_conflict given) }
+/// Counts the replies in the lines of a text whose bytes before were counted, and says where the line begins that has not ended.
+pub(crate) fn count_lines(counts: Tally, text: &[u8]) -> (Tally, usize)
+    requires { (all : List ℕ) × IsTallied all text.now counts.commits counts.conflicts × (length all < 2 ^ 64) }
+    ensures counted { (all : List ℕ) → IsTallied all text.now counts.commits counts.conflicts → IsTallied all (drop result.1 text.now) result.0.commits result.0.conflicts }
+    ensures ended { ¬ Contains (drop result.1 text.now) 10 }
+    ensures within { result.1 ≤ length text.now }
 {
-    let mut counts = Tally {
-        commits: 0,
-        conflicts: 0,
-    };
+    let mut counts = counts;
     let mut rest = text;
     while let Some((line, next)) = split_at_byte(b'\n', rest) {
         counts = with_kind(counts, kind_of_line(line));
         rest = next;
     }
-    counts
+    (counts, text.len() - rest.len())
 }
 
 /// The counts with one more reply.

@@ -1,5 +1,5 @@
 -- A machine whose members are taken out, and what it answers once the core has ended them.
-use Rattle.iso_machine.proofs.Words.{◌≡◌, ◌∙◌, ◌⊎◌, inl, inr, sym, refl, ap, subst, ℕ, ◌≤◌, List, [], ◌∷◌, length, map, Option, Some, None, Err, arith, AllByRecursion, DiskState, LeavesOnly, Geometry, GroupReply, CoreError, World, Live, found_ones, group, group_step, grouped, label_replies, looks, step, Reply, Core, GroupEnd, StandsFor, AreEach, IsMember, up, ShowsEither, Attached, IsSized, live_of, AreOf, Answers, Never, answer_to, HasTaken, filled, found_in, left_in, member_of, stand_in, without_found, under, reply_in}
+use Rattle.iso_machine.proofs.Words.{◌≡◌, ◌∙◌, ◌⊎◌, inl, inr, sym, refl, ap, subst, ℕ, ◌≤◌, List, [], ◌∷◌, length, map, Option, Some, None, Err, arith, AllByRecursion, DiskState, LeavesOnly, Geometry, GroupReply, CoreError, World, Live, found_ones, group, group_step, grouped, label_replies, looks, step, Reply, Core, GroupEnd, StandsFor, AreEach, IsMember, up, ShowsEither, Attached, IsSized, live_of, AreOf, Answers, Never, answer_to, HasTaken, filled, found_in, left_in, member_of, stand_in, without_found, under, reply_in, AreListed, Finder}
 use Rattle.iso_core.specs.Calls as core
 use Rattle.iso_model.specs.declared.core_error.CoreError.TheVariants as error
 use Rattle.script_model.specs.declared.script.Op.TheVariants as op
@@ -23,7 +23,7 @@ member_count : (gone : List Attached) → length (map member_of gone) ≡ length
 member_count [] = refl
 member_count (a ∷ gone) = let rest = member_count gone in omega arith
 
-module _ {D : Type 0} (state : D → DiskState) (kernel : Core D) (live left : List Attached) (W : World) (of : AreOf state kernel live W) (texts : List (List ℕ)) (answers : List (Option GroupReply)) (ends : List GroupEnd)
+module _ {D : Type 0} (state : D → DiskState) (kernel : Core D) {table : Finder} (live left : List Attached) (W : World) (of : AreOf state kernel table live W) (texts : List (List ℕ)) (answers : List (Option GroupReply)) (ends : List GroupEnd)
     (taken : HasTaken texts live left [] answers [] ends) where
   abbrev V : World
   V = (looks W texts).1
@@ -54,12 +54,13 @@ module _ {D : Type 0} (state : D → DiskState) (kernel : Core D) (live left : L
       omega (arith, ap length taken.ends, ap length members_are)
 
   -- AFTERWARDS
-  pub behind : (new : Core D) → StandsFor state new (group V members).1 up → AreOf state new left (group_step W texts).1
+  pub behind : (new : Core D) (now : Finder) → AreListed now left → StandsFor state new (group V members).1 up → AreOf state new now left (group_step W texts).1
   unfolding group_step
-  behind new after = record {
+  behind new now listed after = record {
     core_of = after;
     live_are = taken.live ∙ ap (left_in texts) of.live_are ∙ sym (live_behind texts W);
     sized = subst (λ (g : Geometry). AllByRecursion (IsSized g) left) (sym (geometry_behind texts W)) (taken.stay_sized W.geometry of.sized);
+    listed = listed;
   }
 
   answers_are : answers ≡ map stand_in found
@@ -84,10 +85,10 @@ module _ {D : Type 0} (state : D → DiskState) (kernel : Core D) (live left : L
       let nobody_is = no_members none in
       ap (λ (ms : List Live). (label_replies found (group V ms).0, (group V ms).1)) nobody_is ∙ ap (λ (xs : List (Option GroupReply)). (xs, V)) (sym (answers_are ∙ none_found found nobody_is))
 
-  pub nobody_stands : ends ≡ [] → AreOf state kernel left V
-  nobody_stands none =
-      subst (λ (U : World). AreOf state kernel left U) (ap (λ (x : List (Option GroupReply) × World). x.1) (nobody none))
-      (behind kernel (subst (λ (ms : List Live). StandsFor state kernel (group V ms).1 up) (sym (no_members none)) stands))
+  pub nobody_stands : (now : Finder) → AreListed now left → ends ≡ [] → AreOf state kernel now left V
+  nobody_stands now listed none =
+      subst (λ (U : World). AreOf state kernel now left U) (ap (λ (x : List (Option GroupReply) × World). x.1) (nobody none))
+      (behind kernel now listed (subst (λ (ms : List Live). StandsFor state kernel (group V ms).1 up) (sym (no_members none)) stands))
 
   -- THE REPLIES
   pub replies_are : (new : List GroupEnd) → map reply_in new ≡ map Some (group V members).0 → filled answers (map reply_in new) ≡ (group_step W texts).0

@@ -14,3 +14,4 @@ pub mod Calls
 pub mod Groups
 pub mod Taking
 pub mod Ended
+pub mod Whereabouts

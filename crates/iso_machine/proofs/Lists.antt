@@ -1,7 +1,7 @@
 -- The list of live transactions: one changes, leaves, or begins.
 use Rattle.iso_machine.proofs.Words.{◌≡◌, ◌∙◌, inl, inr, sym, refl, ap, ℕ, zero, suc, ◌<◌, List, [], ◌∷◌, length, get_or, set, map, arith, ne_eqb, eq-eqb, AllByRecursion, remove, Live, with, without, AreDistinct, AreTwo, IsAmong, bare, without_accesses, Bool, true, false, cond, ◌==◌, Attached, live_of}
 
-two_at : (t : Live) (live : List Attached) (i : ℕ) (d : Attached) → AllByRecursion (AreTwo t) (map live_of live) → i < length live → AreTwo t (live_of (get_or live i d))
+pub two_at : (t : Live) (live : List Attached) (i : ℕ) (d : Attached) → AllByRecursion (AreTwo t) (map live_of live) → i < length live → AreTwo t (live_of (get_or live i d))
 two_at t [] i d all inside = absurd (omega (arith, inside))
 two_at t (a ∷ live) zero d all inside = all.0
 two_at t (a ∷ live) (suc i) d all inside = two_at t live i d all.1 (omega (arith, inside))

@@ -1,12 +1,24 @@
 -- A machine whose transactions change, leave and begin.
-use Rattle.iso_machine.proofs.Words.{◌≡◌, ◌∙◌, sym, refl, ap, subst, ℕ, ◌<◌, List, [], ◌∷◌, ◌++◌, length, get_or, set, map, Option, Some, None, find, AllByRecursion, remove, map_push, set-get_or, DiskState, Geometry, Mode, Op, last, after_begin, with_live, in_transaction, out_of_transaction, release_step, step, takeover_step, World, Live, Place, attached, held, is_at_client, is_under_label, unattached, with, without, AreDistinct, IsWorld, IsOp, all_push, step_leads, Core, IsAmong, IsTx, IsWorkOf, StandsFor, bare, up, Doing, Attached, IsActive, IsWorkedTo, act_step, AreOf, IsSized, live_of}
+use Rattle.iso_machine.proofs.Words.{◌≡◌, ◌∙◌, sym, refl, ap, subst, ℕ, ◌<◌, Bool, List, [], ◌∷◌, ◌++◌, length, get_or, set, map, Option, Some, None, find, AllByRecursion, remove, map_push, set-get_or, DiskState, Geometry, Mode, Op, last, after_begin, with_live, in_transaction, out_of_transaction, release_step, step, takeover_step, World, Live, Place, attached, held, is_at_client, is_under_label, unattached, with, without, AreDistinct, IsWorld, IsOp, all_push, step_leads, Core, IsAmong, IsTx, IsWorkOf, StandsFor, bare, up, Doing, Attached, IsActive, IsWorkedTo, act_step, AreKnown, AreListed, AreOf, Finder, IsOff, IsSized, IsTrue, is_label, live_of, number_at, number_under}
 use Rattle.script_model.specs.declared.script.Op.TheVariants as op
 use Rattle.iso_machine.proofs.Besides.{stands_besides}
 use Rattle.iso_machine.proofs.Lists.{all_at, all_remove, all_set, among_at, bare_with, with_at, without_at}
 
-module _ {D : Type 0} (state : D → DiskState) (core new : Core D) (live : List Attached) (W : World) (of : AreOf state core live W) where
-  distinct : AreDistinct (map live_of live)
+module _ {D : Type 0} (state : D → DiskState) (core new : Core D) {table : Finder} (live : List Attached) (W : World) (of : AreOf state core table live W) where
+  pub distinct : AreDistinct (map live_of live)
   distinct = subst (λ (l : List Live). AreDistinct l) (sym of.live_are) of.core_of.kept_of.world.distinct
+
+  pub known : (list : List Attached) → list ≡ live → AreKnown table list
+  known list same = subst (AreKnown table) (sym same) (record { listed = of.listed; distinct = distinct })
+
+  pub nobody_at : (list : List Attached) (client : ℕ) (number : Option ℕ) → list ≡ live → client < 256 → number ≡ number_at client table → number ≡ None → AllByRecursion (IsOff (is_at_client client)) list
+  nobody_at list client number same fits is none = (known list same).listed.clients client fits (sym is ∙ none)
+
+  pub nobody_under : (list : List Attached) (text : List ℕ) (number : Option ℕ) → list ≡ live → IsTrue (is_label text) → number ≡ number_under text table → number ≡ None → AllByRecursion (IsOff (is_under_label text)) list
+  nobody_under list text number same label is none = (known list same).listed.labels text label (sym is ∙ none)
+
+  pub relisted : (now : Finder) → AreListed now live → AreOf state core now live W
+  relisted now listed = record { core_of = of.core_of; live_are = of.live_are; sized = of.sized; listed = listed }
 
   -- the one at a place of the list
   module _ (i : ℕ) (d : Attached) (inside : i < length live) where
@@ -26,49 +38,59 @@ module _ {D : Type 0} (state : D → DiskState) (core new : Core D) (live : List
     }
 
     -- another work of the same transaction, or another place
-    pub changed : (b : Attached) → b.tx ≡ (get_or live i d).tx → b.work.value.begin ≡ (get_or live i d).work.value.begin → b.work.value.mode ≡ (get_or live i d).work.value.mode → IsSized W.geometry b
-        → StandsFor state new W up → IsWorld (with_live W (with (live_of b) W.live)) → AreOf state new (set live i b) (with_live W (with (live_of b) W.live))
-    changed b tx begin mode sized stands is =
-        let now : map live_of (set live i b) ≡ with (live_of b) W.live =
+    pub changed : (now : Finder) (b : Attached) → AreListed now (set live i b) → b.tx ≡ (get_or live i d).tx → b.work.value.begin ≡ (get_or live i d).work.value.begin → b.work.value.mode ≡ (get_or live i d).work.value.mode → IsSized W.geometry b
+        → StandsFor state new W up → IsWorld (with_live W (with (live_of b) W.live)) → AreOf state new now (set live i b) (with_live W (with (live_of b) W.live))
+    changed now b listed tx begin mode sized stands is =
+        let live_is : map live_of (set live i b) ≡ with (live_of b) W.live =
         sym (with_at live i d b distinct inside tx) ∙ ap (λ (l : List Live). with (live_of b) l) of.live_are in
         record {
           core_of = stands_besides state new W (with (live_of b) W.live) stands is
-              (ap (λ (l : List Live). map bare l) (sym now)
+              (ap (λ (l : List Live). map bare l) (sym live_is)
               ∙ bare_with live i d b (λ j. record { number = tx j; begin = begin j; mode = mode j; accesses = []; place = unattached })
               ∙ ap (λ (l : List Live). map bare l) of.live_are);
-          live_are = now;
+          live_are = live_is;
           sized = all_set (IsSized W.geometry) live i b of.sized sized;
+          listed = listed;
         }
 
+    still : (test : Place → Bool) (work : Doing) → AllByRecursion (IsOff test) live → AllByRecursion (IsOff test) (set live i (record (get_or live i d) { work = record (get_or live i d).work { value = work } }))
+    still test work all = all_set (IsOff test) live i (record (get_or live i d) { work = record (get_or live i d).work { value = work } }) all (all_at (IsOff test) live i d all inside)
+
     pub worked_on : (work : Doing) (given : World) → IsWorkedTo W (live_of (get_or live i d)) given work → StandsFor state new W up → IsWorld given
-        → AreOf state new (set live i (record (get_or live i d) { work = record (get_or live i d).work { value = work } })) given
+        → AreOf state new table (set live i (record (get_or live i d) { work = record (get_or live i d).work { value = work } })) given
     worked_on work given to stands is =
         let a : Attached = get_or live i d in
         let same : live_of (record a { work = record a.work { value = work } }) ≡ record (live_of a) { accesses = work.accesses } =
         λ j. record { number = a.tx; begin = to.is_work.begin j; mode = to.is_work.mode j; accesses = work.accesses; place = (live_of a).place } in
         let world : given ≡ with_live W (with (live_of (record a { work = record a.work { value = work } })) W.live) = to.world ∙ ap (λ (t : Live). with_live W (with t W.live)) (sym same) in
-        subst (λ (V : World). AreOf state new (set live i (record a { work = record a.work { value = work } })) V) (sym world)
-        (changed (record a { work = record a.work { value = work } }) refl to.is_work.begin to.is_work.mode (record { size = to.is_work.size; blocks = to.is_work.blocks }) stands (subst (λ (V : World). IsWorld V) world is))
+        subst (λ (V : World). AreOf state new table (set live i (record a { work = record a.work { value = work } })) V) (sym world)
+        (changed table (record a { work = record a.work { value = work } })
+        (record {
+          clients = λ c fits none. still (is_at_client c) work (of.listed.clients c fits none);
+          labels = λ text is none. still (is_under_label text) work (of.listed.labels text is none);
+        }) refl to.is_work.begin to.is_work.mode (record { size = to.is_work.size; blocks = to.is_work.blocks }) stands (subst (λ (V : World). IsWorld V) world is))
 
-    pub left : (V : World) → V.live ≡ without (get_or live i d).tx W.live → V.geometry ≡ W.geometry → StandsFor state new V up → AreOf state new (remove live i) V
-    left V live_is geometry stands = record {
+    pub left : (now : Finder) (V : World) → AreListed now (remove live i) → V.live ≡ without (get_or live i d).tx W.live → V.geometry ≡ W.geometry → StandsFor state new V up → AreOf state new now (remove live i) V
+    left now V listed live_is geometry stands = record {
       core_of = stands;
       live_are = sym (without_at live i d distinct inside) ∙ ap (λ (l : List Live). without (get_or live i d).tx l) of.live_are ∙ sym live_is;
       sized = subst (λ (g : Geometry). AllByRecursion (IsSized g) (remove live i)) (sym geometry) (all_remove (IsSized W.geometry) live i of.sized);
+      listed = listed;
     }
 
-  pub begun : (b : Attached) (place : Place) (mode : Mode) → live_of b ≡ record { number = W.next; begin = last W.history; mode = mode; accesses = []; place = place } → IsSized W.geometry b
-      → StandsFor state new (after_begin W unattached mode) up → IsWorld (after_begin W place mode) → AreOf state new (live ++ b ∷ []) (after_begin W place mode)
-  begun b place mode is sized stands world = record {
+  pub begun : (now : Finder) (b : Attached) (place : Place) (mode : Mode) → AreListed now (live ++ b ∷ []) → live_of b ≡ record { number = W.next; begin = last W.history; mode = mode; accesses = []; place = place } → IsSized W.geometry b
+      → StandsFor state new (after_begin W unattached mode) up → IsWorld (after_begin W place mode) → AreOf state new now (live ++ b ∷ []) (after_begin W place mode)
+  begun now b place mode listed is sized stands world = record {
     core_of = stands_besides state new (after_begin W unattached mode) (after_begin W place mode).live stands world
         (map_push bare W.live (record { number = W.next; begin = last W.history; mode = mode; accesses = []; place = place })
         ∙ sym (map_push bare W.live (record { number = W.next; begin = last W.history; mode = mode; accesses = []; place = unattached })));
     live_are = map_push live_of live b ∙ (λ j. of.live_are j ++ is j ∷ []);
     sized = all_push (IsSized W.geometry) live b of.sized sized;
+    listed = listed;
   }
 
-  pub same : StandsFor state new W up → AreOf state new live W
-  same stands = record { core_of = stands; live_are = of.live_are; sized = of.sized }
+  pub same : StandsFor state new W up → AreOf state new table live W
+  same stands = record { core_of = stands; live_are = of.live_are; sized = of.sized; listed = of.listed }
 
   -- who is attached to a client
   pub attached_none : (client : ℕ) (list : List Attached) → list ≡ live → find (λ t. is_at_client client t.place) (map live_of list) ≡ None → attached W client ≡ None

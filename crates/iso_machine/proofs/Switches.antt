@@ -1,5 +1,5 @@
 -- A switch to the other half.
-use Rattle.iso_machine.proofs.Words.{◌≡◌, ◌≢◌, ◌⊎◌, ◌==◌, if◌then◌else◌, inl, refl, sym, subst, ℕ, List, Bool, true, false, Err, IsSome, DiskState, LeavesOnly, weakened, CoreError, LAST, CoreReply, as_step, after_switch, switch_step, step, World, floor, all_weaker, Core, Refuses, refusal_of, StandsFor, disk_of, up, ShowsLast, Attached, Answers, Wanting, answer_to, AreOf, IsSized}
+use Rattle.iso_machine.proofs.Words.{◌≡◌, ◌≢◌, ◌⊎◌, ◌==◌, if◌then◌else◌, inl, refl, sym, subst, ℕ, List, Bool, true, false, Err, IsSome, DiskState, LeavesOnly, weakened, CoreError, LAST, CoreReply, as_step, after_switch, switch_step, step, World, floor, all_weaker, Core, Refuses, refusal_of, StandsFor, disk_of, up, ShowsLast, Attached, Answers, Wanting, answer_to, AreOf, Finder, IsSized}
 use Rattle.iso_model.specs.declared.core_error.CoreError.TheVariants as error
 use Rattle.iso_model.specs.declared.core_reply.CoreReply.TheVariants as reply
 use Rattle.script_model.specs.declared.script.Op.TheVariants as op
@@ -8,12 +8,13 @@ use Rattle.iso_machine.proofs.Machines.{same}
 use Rattle.iso_machine.proofs.Refusals.{IsRefusal, KeepsRefused, blames, refused}
 
 -- the transactions stay
-pub switched : {D : Type 0} (state : D → DiskState) (core new : Core D) (live : List Attached) (W : World) (form : ℕ) → AreOf state core live W → StandsFor state new (after_switch W form) up
-    → AreOf state new live (after_switch W form)
+pub switched : {D : Type 0} (state : D → DiskState) (core new : Core D) {table : Finder} (live : List Attached) (W : World) (form : ℕ) → AreOf state core table live W → StandsFor state new (after_switch W form) up
+    → AreOf state new table live (after_switch W form)
 switched state core new live W form of stands = record {
   core_of = stands;
   live_are = of.live_are;
   sized = all_weaker (IsSized W.geometry) (IsSized (after_switch W form).geometry) (λ a is. record { size = is.size; blocks = is.blocks }) live of.sized;
+  listed = of.listed;
 }
 
 pub compact_is : (W : World) (c : ℕ) → step W c op.Compact ≡ as_step (switch_step W W.geometry.form (reply.Compacted (floor W)))
@@ -43,13 +44,13 @@ worn_still old new (error.Worn at) still some = still (λ e. cc e) (λ e. cc e)
 worn_still old new error.ModeFixed still some = still (λ e. cc e) (λ e. cc e)
 
 -- a switch that is refused
-pub switch_refused : {D : Type 0} (state : D → DiskState) (core new : Core D) (live : List Attached) (W : World) (form : ℕ) (answer : CoreReply) (e : CoreError) → AreOf state core live W
+pub switch_refused : {D : Type 0} (state : D → DiskState) (core new : Core D) {table : Finder} (live : List Attached) (W : World) (form : ℕ) (answer : CoreReply) (e : CoreError) → AreOf state core table live W
     → (IsRefusal answer → ⊥) → (e ≡ error.Disk) ⊎ Refuses (switch_step W form answer).0 e → (e ≢ error.Disk → StandsFor state new W up)
     → (e ≢ error.Disk → e ≢ error.Memory → disk_of new ≡ disk_of core) → LeavesOnly (state (disk_of core)) (state (disk_of new)) (ShowsLast W)
     → BlamesDisk {T = ℕ} (state (disk_of core)).faults (state (disk_of new)).faults (Err e)
-    → Answers Wanting (AreOf state new live) (state (disk_of core)) (state (disk_of new)) W (as_step (switch_step W form answer)) (answer_to e)
-switch_refused state core new live W form answer e of none is stands still moments cause =
-    refused Wanting (AreOf state new live) (state (disk_of core)) (state (disk_of new)) W (switch_step W form answer) (λ may. absurd (cc may)) e (record {
+    → Answers Wanting (AreOf state new table live) (state (disk_of core)) (state (disk_of new)) W (as_step (switch_step W form answer)) (answer_to e)
+switch_refused state core new {table = table} live W form answer e of none is stands still moments cause =
+    refused Wanting (AreOf state new table live) (state (disk_of core)) (state (disk_of new)) W (switch_step W form answer) (λ may. absurd (cc may)) e (record {
       is = is;
       keeps = keeps_switch W form answer none;
       same = λ other. same state core new live W of (stands other);

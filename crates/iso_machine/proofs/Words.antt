@@ -1,10 +1,12 @@
 -- The words that the proofs of this crate cite from elsewhere.
-pub use Rattle.std.proofs.Common.{Bool, Err, IfErr, IfOk, OnErr, OnOk, IsErrOf, IsSome, IsTrue, List, None, Ok, Option, Result, Some, [], ap, arith, cond, drop, eq-eqb, false, append-nil, append_assoc, find, filter, get_or, if◌then◌else◌, inl, inr, length, map, nat_le, nat_lt, ne_eqb, not, option_map, refl, replicate, set, slice_index, subst, suc, sym, take, true, zero, ℕ, ⊎_elim, ◌&&◌, ◌++◌, ◌+◌, ◌-◌, ◌<◌, ◌==◌, ◌∙◌, ◌∷◌, ◌≡◌, ◌≢◌, ◌≤◌, ◌⊎◌}
+pub use Rattle.std.proofs.Common.{Bool, Err, IfErr, IfOk, OnErr, OnOk, IsErrOf, IsSome, IsTrue, List, None, Ok, Option, Result, Some, [], ap, arith, bytes_eq, cond, drop, eq-eqb, false, append-nil, append_assoc, find, filter, get_or, if◌then◌else◌, inl, inr, length, map, nat_eq, nat_le, nat_lt, ne_eqb, not, option_map, refl, replicate, set, slice_index, slice_index_or, subst, suc, sym, take, true, zero, ℕ, ⊎_elim, ◌&&◌, ◌++◌, ◌+◌, ◌-◌, ◌<◌, ◌==◌, ◌∙◌, ◌∷◌, ◌≡◌, ◌≢◌, ◌≤◌, ◌⊎◌}
 pub use Rattle.std.proofs.Math.Seq.{take-append_seam}
-pub use Rattle.std.proofs.lemmas.Bool.{and_parts, cases_Bool, cases_eq, eqb-true, false≢true}
+pub use Rattle.std.proofs.lemmas.Bool.{and_parts, both_ways, cases_Bool, cases_eq, eqb-true, false≢true}
 pub use Rattle.std.proofs.lemmas.Bool.Decides.{nat_tests}
-pub use Rattle.std.proofs.lemmas.List.{drop-take, map-append, map_push, set-get_or, with_items_is}
+pub use Rattle.std.proofs.lemmas.List.{drop-take, get_or_default, map-append, map_push, set-get_or, with_items_is}
+pub use Rattle.std.proofs.lemmas.Slice.Eq.{bytes_eq-Decides}
 pub use Rattle.std.specs.List.{AllByRecursion, remove}
+pub use Rattle.std.specs.Option.{MatchOption}
 pub use Rattle.conflict_rule.specs.Decision.{up_to}
 pub use Rattle.core_blocks.proofs.Arrays.{array_shown, guest_begins}
 pub use Rattle.core_blocks.specs.Guests.{Counts, IsSameWork, Seen, tx_of}
@@ -37,6 +39,7 @@ pub use Rattle.iso_model.specs.Group.{after_look, ahead, decided, found_ones, gr
 unfoldable pub use Rattle.iso_model.specs.Group.{group_step}
 pub use Rattle.iso_model.specs.History.{History, array_at, last}
 pub use Rattle.iso_model.specs.Image.{Shows}
+pub use Rattle.iso_model.specs.Labels.{is_label, key_of}
 pub use Rattle.iso_model.specs.Marks.{is_outside, mark_fault, marked, marks_fault}
 pub use Rattle.iso_model.specs.Step.{after_begin, after_commit, after_leaving, after_switch, after_trim, get_access, mode_named, need, placed, put_access, read_access, shown_to, with_accesses, with_live, write_access}
 unfoldable pub use Rattle.iso_model.specs.Step.{begin_step, commit_step, end_step, switch_step}
@@ -79,6 +82,7 @@ pub use Rattle.iso_machine.specs.Accessing.{IsActive, IsGiven, IsShown, IsWorked
 pub use Rattle.iso_machine.specs.Answering.{Always, Answers, AnswersTold, Never, Wanting, answer_to}
 pub use Rattle.iso_machine.specs.Grouping.{HasTaken, filled, found_in, left_in, member_of, stand_in, under, without_found}
 pub use Rattle.iso_machine.specs.Shown.{shows}
-pub use Rattle.iso_machine.specs.Standing.{AreOf, IsSized, live_of}
+pub use Rattle.iso_machine.specs.Standing.{AreKnown, AreListed, AreOf, IsOff, IsSized, live_of, number_at, number_under, place_of}
+pub use Rattle.iso_machine.specs.declared.finder.Finder.{Finder}
 pub use Rattle.iso_machine.specs.Storing.{IsStored, called_of, store_act}
 pub use Rattle.iso_machine.specs.declared.attached.Attached.{Attached}

@@ -1,14 +1,18 @@
 -- What a machine stands for.
-use Rattle.std.specs.Prelude.{◌≡◌, List, map}
+use Rattle.std.specs.Prelude.{◌≡◌, ◌<◌, ℕ, Bool, false, IsTrue, List, Option, None, map, nat_eq, slice_index_or}
 use Rattle.std.specs.List.{AllByRecursion}
 use Rattle.iso_disk.specs.Disk.{DiskState}
 use Rattle.iso_model.specs.declared.access.Geometry.{Geometry}
-use Rattle.iso_model.specs.World.{World, Live, Place, client, label}
+use Rattle.iso_model.specs.World.{World, Live, Place, client, is_at_client, is_under_label, label}
+use Rattle.indexmap.specs.IndexMap.{get}
+use Rattle.iso_model.specs.Labels.{is_label, key_of}
+use Rattle.iso_model.specs.Worlds.{AreDistinct}
 use Rattle.iso_core.specs.declared.core_itself.Core.{Core}
 use Rattle.iso_core.specs.Core.{StandsFor}
 use Rattle.iso_core.specs.Standing.{up}
 use Rattle.iso_machine.specs.declared.attached.Attached.{Attached}
 use Rattle.iso_machine.specs.declared.attached.Spot.{Spot}
+use Rattle.iso_machine.specs.declared.finder.Finder.{Finder}
 use Rattle.iso_machine.specs.declared.attached.Spot.TheVariants as spot
 use Rattle.iso_machine.specs.declared.machine.Machine.{Machine}
 
@@ -26,14 +30,36 @@ pub record IsSized (g : Geometry) (a : Attached) : Type 0 where
   pub size : a.work.value.size ≡ g.block
   pub blocks : a.work.value.blocks ≡ g.blocks
 
+-- the number that is noted of a client's transaction, and of the one under a label
+abbrev pub number_at : ℕ → Finder → Option ℕ
+number_at c finder = slice_index_or finder.clients c None
+
+abbrev pub number_under : List ℕ → Finder → Option ℕ
+number_under text finder = get nat_eq finder.labels (key_of text)
+
+-- the transaction is not at such a place
+abbrev pub IsOff : (Place → Bool) → Attached → Type 0
+IsOff test a = test (place_of a.spot) ≡ false
+
+-- no transaction is at a client or under a label of which no number is noted
+pub record AreListed (finder : Finder) (live : List Attached) : Type 0 where
+  pub clients : (c : ℕ) → c < 256 → number_at c finder ≡ None → AllByRecursion (IsOff (is_at_client c)) live
+  pub labels : (text : List ℕ) → IsTrue (is_label text) → number_under text finder ≡ None → AllByRecursion (IsOff (is_under_label text)) live
+
+-- and no two are at one client, or under one label
+pub record AreKnown (finder : Finder) (live : List Attached) : Type 0 where
+  pub listed : AreListed finder live
+  pub distinct : AreDistinct (map live_of live)
+
 -- A core that is up and these transactions stand for the world, whose live transactions they are.
-pub record AreOf {D : Type 0} (state : D → DiskState) (core : Core D) (live : List Attached) (W : World) : Type 0 where
+pub record AreOf {D : Type 0} (state : D → DiskState) (core : Core D) (finder : Finder) (live : List Attached) (W : World) : Type 0 where
   pub core_of : StandsFor state core W up
   pub live_are : map live_of live ≡ W.live
   pub sized : AllByRecursion (IsSized W.geometry) live
+  pub listed : AreListed finder live
 
 abbrev pub IsMachineOf : {D : Type 0} → (state : D → DiskState) → Machine D → World → Type 0
-IsMachineOf state m W = AreOf state m.core m.live.items W
+IsMachineOf state m W = AreOf state m.core m.finder m.live.items W
 
 abbrev pub core_of : {D : Type 0} → Machine D → Core D
 core_of m = m.core

@@ -50,7 +50,7 @@ pub(crate) fn act<D: Disk>(
             or_stop(put(work, buffer, *block, *off, bytes.as_slice()))
         }
         Op::Read { block } => read(alloc, core, tx, work, *block),
-        Op::Get { block, off, len } => get(alloc, core, tx, work, *block, *off, *len),
+        Op::Get { block, off, len } => { get(alloc, core, tx, work, buffer, *block, *off, *len) }
         Op::Write { block, bytes } => or_stop(write(work, *block, bytes.as_slice())),
         Op::Fill { block, bytes } => or_stop(fill(work, buffer, *block, bytes.as_slice())),
         Op::Mark { off, len } => Ok(mark(work, *off, *len)),

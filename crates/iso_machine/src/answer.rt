@@ -27,7 +27,7 @@ impl<D: Disk> Machine<D> {
         ensures { (W : World) → IsMachineOf D.state self.old W → IsOp op.now
             → Answers Always (IsMachineOf D.state self.new) (D.state (disk_of (core_of self.old))) (D.state (disk_of (core_of self.new))) W (in_transaction W (attached W client) (λ t. act_step W t op.now)) result }
     {
-        let Some(i) = index_at_client(&self.live, client) else {
+        let Some(i) = index_at_client(self.finder.at_client(client), &self.live, client) else {
             return Ok(Reply::NotInTx);
         };
         let attached = &mut self.live[i];
@@ -74,7 +74,7 @@ impl<D: Disk> Machine<D> {
         ensures { (W : World) → IsMachineOf D.state self.old W
             → AnswersTold Always (IsMachineOf D.state self.new) (D.state (disk_of (core_of self.old))) (D.state (disk_of (core_of self.new))) W (in_transaction W (attached W client) (λ t. store_act W t op.now)) ⊥ result }
     {
-        let Some(i) = index_at_client(&self.live, client) else {
+        let Some(i) = index_at_client(self.finder.at_client(client), &self.live, client) else {
             return Ok(Reply::NotInTx);
         };
         let attached = &mut self.live[i];

@@ -1,10 +1,12 @@
 // A live transaction and where it is.
-ghost use Rattle.std.specs.Prelude.{◌≡◌, ◌==◌, ◌<◌, Some, None, MatchOption, bytes_eq, find, length, map};
-ghost use Rattle.std.specs.List.{HoldsAt};
+ghost use Rattle.std.specs.Prelude.{◌≡◌, ◌==◌, ◌<◌, Some, None, IfOk, MatchOption, bytes_eq, find, length, map};
+ghost use Rattle.std.specs.List.{AllByRecursion, HoldsAt};
 ghost use Rattle.iso_model.specs.World.{is_at_client, is_under_label};
-ghost use Rattle.iso_machine.specs.Standing.{live_of, place_of};
+ghost use Rattle.iso_model.specs.Worlds.{AreDistinct};
+ghost use Rattle.iso_machine.specs.Standing.{AreKnown, AreListed, IsOff, live_of, number_under, place_of};
 
-use iso_model::Label;
+use crate::finder::Finder;
+use iso_model::{Label, Memory};
 use tx_table::Work;
 
 /// Where a live transaction is: attached to a client, or under a label.
@@ -42,8 +44,8 @@ fn is_under_label(label: &Label, spot: &Spot) -> bool
     }
 }
 
-/// Where in the list the transaction of a client is.
-pub(crate) fn index_at_client(live: &[Attached], client: u8) -> Option<usize>
+/// Where in the list the transaction of a client is. The list is gone over from its front.
+fn walk_to_client(live: &[Attached], client: u8) -> Option<usize>
     ensures { MatchOption result (find (λ t. is_at_client client t.place) (map live_of live.now) ≡ None)
         (λ i. (i < length live.now) × HoldsAt (λ a. find (λ t. is_at_client client t.place) (map live_of live.now) ≡ Some (live_of a)) live.now i) }
 {
@@ -55,8 +57,8 @@ pub(crate) fn index_at_client(live: &[Attached], client: u8) -> Option<usize>
     None
 }
 
-/// Where in the list the transaction under a label is.
-pub(crate) fn index_under_label(live: &[Attached], label: &Label) -> Option<usize>
+/// Where in the list the transaction under a label is. The list is gone over from its front.
+fn walk_to_label(live: &[Attached], label: &Label) -> Option<usize>
     ensures { MatchOption result (find (λ t. is_under_label label.now t.place) (map live_of live.now) ≡ None)
         (λ i. (i < length live.now) × HoldsAt (λ a. find (λ t. is_under_label label.now t.place) (map live_of live.now) ≡ Some (live_of a)) live.now i) }
 {
@@ -66,4 +68,72 @@ pub(crate) fn index_under_label(live: &[Attached], label: &Label) -> Option<usiz
         }
     }
     None
+}
+
+// Where in the list the transaction of that number is, where the numbers rise, as those of transactions that begin do.
+fn place_of_number(live: &[Attached], number: u64) -> usize {
+    live.partition_point(|attached| attached.tx < number)
+}
+
+/// Where in the list the transaction of a client is, which may have this number.
+pub(crate) fn index_at_client(number: Option<u64>, live: &[Attached], client: u8) -> Option<usize>
+    requires distinct { AreDistinct (map live_of live.now) }
+    requires nobody { number ≡ None → AllByRecursion (IsOff (is_at_client client)) live.now }
+    ensures { MatchOption result (find (λ t. is_at_client client t.place) (map live_of live.now) ≡ None)
+        (λ i. (i < length live.now) × HoldsAt (λ a. find (λ t. is_at_client client t.place) (map live_of live.now) ≡ Some (live_of a)) live.now i) }
+{
+    let Some(tx) = number else {
+        return None;
+    };
+    let place = place_of_number(live, tx);
+    if place < live.len() && is_at_client(client, &live[place].spot) {
+        return Some(place);
+    }
+    walk_to_client(live, client)
+}
+
+/// Where in the list the transaction under a label is, which may have this number.
+pub(crate) fn index_under_label(
+    number: Option<u64>,
+    live: &[Attached],
+    label: &Label,
+) -> Option<usize>
+    requires distinct { AreDistinct (map live_of live.now) }
+    requires nobody { number ≡ None → AllByRecursion (IsOff (is_under_label label.now)) live.now }
+    ensures { MatchOption result (find (λ t. is_under_label label.now t.place) (map live_of live.now) ≡ None)
+        (λ i. (i < length live.now) × HoldsAt (λ a. find (λ t. is_under_label label.now t.place) (map live_of live.now) ≡ Some (live_of a)) live.now i) }
+{
+    let Some(tx) = number else {
+        return None;
+    };
+    let place = place_of_number(live, tx);
+    if place < live.len() && is_under_label(label, &live[place].spot) {
+        return Some(place);
+    }
+    walk_to_label(live, label)
+}
+
+/// Notes that the transaction of this number is under a label, unless one is there: then it is where in the list that is.
+/// Without memory nothing is noted.
+pub(crate) fn claim(
+    finder: &mut Finder,
+    live: &[Attached],
+    label: &Label,
+    tx: u64,
+) -> Result<Option<usize>, Memory>
+    requires { AreKnown finder.old live.now }
+    ensures found { IfOk result (λ found. MatchOption found (find (λ t. is_under_label label.now t.place) (map live_of live.now) ≡ None)
+        (λ i. (i < length live.now) × HoldsAt (λ a. find (λ t. is_under_label label.now t.place) (map live_of live.now) ≡ Some (live_of a)) live.now i)) }
+    ensures own { IfOk result (λ found. found ≡ None → number_under label.now finder.new ≡ Some tx) }
+    ensures listed { AreListed finder.new live.now }
+{
+    let earlier = finder.put_label(label, tx)?;
+    let Some(number) = earlier else {
+        return Ok(None);
+    };
+    let Some(i) = index_under_label(earlier, live, label) else {
+        return Ok(None);
+    };
+    let _ = finder.put_label(label, number);
+    Ok(Some(i))
 }

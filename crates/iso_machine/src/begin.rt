@@ -44,7 +44,7 @@ impl<D: Disk> Machine<D> {
         ensures { (W : World) → IsMachineOf D.state self.old W
             → Answers Always (IsMachineOf D.state self.new) (D.state (disk_of (core_of self.old))) (D.state (disk_of (core_of self.new))) W (step W client (Begin mode)) result }
     {
-        if let Some(_) = index_at_client(&self.live, client) {
+        if let Some(_) = index_at_client(self.finder.at_client(client), &self.live, client) {
             return Ok(Reply::InTx);
         }
         if let Err(_) = self.live.reserve(1) {
@@ -69,6 +69,7 @@ impl<D: Disk> Machine<D> {
             spot: Spot::Client(client),
             work,
         });
+        self.finder.set_client(client, Some(begun.tx));
         Ok(Reply::Began(begun.at))
     }
 }

@@ -89,7 +89,7 @@ impl<D: Disk> Machine<D> {
         ensures { (W : World) → IsMachineOf D.state self.old W
             → Answers Wanting (IsMachineOf D.state self.new) (D.state (disk_of (core_of self.old))) (D.state (disk_of (core_of self.new))) W (step W client End) result }
     {
-        let Some(i) = index_at_client(&self.live, client) else {
+        let Some(i) = index_at_client(self.finder.at_client(client), &self.live, client) else {
             return Ok(Reply::NotInTx);
         };
         let attached = &mut self.live[i];
@@ -103,6 +103,7 @@ impl<D: Disk> Machine<D> {
             Err(error) => return refused(error),
         };
         let gone = self.live.remove(i);
+        self.finder.set_client(client, None);
         keep_spare(&mut self.spare, gone.work);
         Ok(ended(reply))
     }
@@ -113,10 +114,11 @@ impl<D: Disk> Machine<D> {
         ensures { (W : World) → IsMachineOf D.state self.old W
             → Answers Always (IsMachineOf D.state self.new) (D.state (disk_of (core_of self.old))) (D.state (disk_of (core_of self.new))) W (step W client Abort) result }
     {
-        let Some(i) = index_at_client(&self.live, client) else {
+        let Some(i) = index_at_client(self.finder.at_client(client), &self.live, client) else {
             return Ok(Reply::NotInTx);
         };
         let gone = self.live.remove(i);
+        self.finder.set_client(client, None);
         self.core.abort(gone.tx);
         keep_spare(&mut self.spare, gone.work);
         Ok(Reply::Done)

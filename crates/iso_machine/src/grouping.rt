@@ -4,13 +4,13 @@ ghost use Rattle.script_model.specs.declared.script.Op.TheVariants.{Group};
 ghost use Rattle.script_model.specs.Operations.{IsOp};
 ghost use Rattle.script_model.specs.Step.{step};
 ghost use Rattle.iso_model.specs.World.{World};
-ghost use Rattle.iso_model.specs.Worlds.{AreDistinct};
 ghost use Rattle.iso_machine.specs.Grouping.{HasTaken, filled};
 ghost use Rattle.iso_core.specs.Planned.{reply_in};
-ghost use Rattle.iso_machine.specs.Standing.{live_of};
+ghost use Rattle.iso_machine.specs.Standing.{AreKnown, AreListed};
 
 use crate::attached::{Attached, Spot, index_under_label};
 use crate::ending::keep_spare;
+use crate::finder::Finder;
 use crate::machine::Machine;
 use crate::refusing::refused;
 use iso_core::GroupEnd;
@@ -28,17 +28,37 @@ struct Taken {
     ends: Vec<GroupEnd>,
 }
 
+/// Nothing was looked for yet.
+fn nothing_taken(alloc: Global, labels: usize) -> Taken
+    ensures answers { result.answers.items ≡ [] }
+    ensures ends { result.ends.items ≡ [] }
+{
+    let mut answers = Vec::new(alloc);
+    let mut ends = Vec::new(alloc);
+    // Without memory for all of them the lists grow step by step.
+    let _ = answers.reserve(labels);
+    let _ = ends.reserve(labels);
+    Taken { answers, ends }
+}
+
 /// Takes the transaction under a label out of the live ones, if there is one. Without memory nothing is taken.
-fn take_member(live: &mut Vec<Attached>, taken: &mut Taken, label: &Label) -> Result<(), Memory>
-    requires { AreDistinct (map live_of live.old.items) }
-    ensures { OnOk result (HasTaken (label.now ∷ []) live.old.items live.new.items taken.old.answers.items taken.new.answers.items taken.old.ends.items taken.new.ends.items) }
+fn take_member(
+    finder: &mut Finder,
+    live: &mut Vec<Attached>,
+    taken: &mut Taken,
+    label: &Label,
+) -> Result<(), Memory>
+    requires { AreKnown finder.old live.old.items }
+    ensures taken { OnOk result (HasTaken (label.now ∷ []) live.old.items live.new.items taken.old.answers.items taken.new.answers.items taken.old.ends.items taken.new.ends.items) }
+    ensures listed { OnOk result (AreListed finder.new live.new.items) }
 {
     taken.answers.reserve(1)?;
-    let Some(i) = index_under_label(live, label) else {
+    taken.ends.reserve(1)?;
+    let number = finder.take_label(label);
+    let Some(i) = index_under_label(number, live, label) else {
         taken.answers.push_reserved(None);
         return Ok(());
     };
-    taken.ends.reserve(1)?;
     let gone = live.remove(i);
     taken.answers.push_reserved(Some(GroupReply::Worn));
     taken.ends.push_reserved(GroupEnd {
@@ -50,15 +70,21 @@ fn take_member(live: &mut Vec<Attached>, taken: &mut Taken, label: &Label) -> Re
 }
 
 /// Takes the transactions under the labels, in their order. One that is named twice is there no more at the second look.
-fn take_members(live: &mut Vec<Attached>, taken: &mut Taken, labels: &[Label]) -> Result<(), Memory>
-    requires { AreDistinct (map live_of live.old.items) }
-    ensures { OnOk result (HasTaken labels.now live.old.items live.new.items taken.old.answers.items taken.new.answers.items taken.old.ends.items taken.new.ends.items) }
+fn take_members(
+    finder: &mut Finder,
+    live: &mut Vec<Attached>,
+    taken: &mut Taken,
+    labels: &[Label],
+) -> Result<(), Memory>
+    requires { AreKnown finder.old live.old.items }
+    ensures taken { OnOk result (HasTaken labels.now live.old.items live.new.items taken.old.answers.items taken.new.answers.items taken.old.ends.items taken.new.ends.items) }
+    ensures listed { OnOk result (AreListed finder.new live.new.items) }
 {
     let Some((first, others)) = labels.split_first() else {
         return Ok(());
     };
-    take_member(live, taken, first)?;
-    take_members(live, taken, others)
+    take_member(finder, live, taken, first)?;
+    take_members(finder, live, taken, others)
 }
 
 /// Puts the members' replies in the place of the answers that stand for them.
@@ -80,7 +106,13 @@ fn fill_answers(answers: &mut [Option<GroupReply>], ends: &[GroupEnd])
 }
 
 /// Puts members that were not ended under their labels again, as far as there is memory.
-fn put_back(alloc: Global, live: &mut Vec<Attached>, taken: Taken, labels: &[Label]) {
+fn put_back(
+    alloc: Global,
+    finder: &mut Finder,
+    live: &mut Vec<Attached>,
+    taken: Taken,
+    labels: &[Label],
+) {
     let Taken { answers, ends } = taken;
     let mut members = ends.into_iter();
     let mut rest = labels;
@@ -90,7 +122,7 @@ fn put_back(alloc: Global, live: &mut Vec<Attached>, taken: Taken, labels: &[Lab
         };
         rest = others;
         if answer.is_some() {
-            put_member_back(alloc, live, members.next(), label);
+            put_member_back(alloc, finder, live, members.next(), label);
         }
     }
 }
@@ -107,6 +139,7 @@ fn keep_works(alloc: Global, spare: &mut Vec<Box<Work>>, ends: Vec<GroupEnd>) {
 
 fn put_member_back(
     alloc: Global,
+    finder: &mut Finder,
     live: &mut Vec<Attached>,
     member: Option<GroupEnd>,
     label: &Label,
@@ -117,6 +150,7 @@ fn put_member_back(
     let Ok(work) = Box::new(alloc, member.work) else {
         return;
     };
+    let _ = finder.put_label(label, member.tx);
     let _ = live.push(Attached {
         tx: member.tx,
         spot: Spot::Label(label.copy()),
@@ -137,12 +171,9 @@ impl<D: Disk> Machine<D> {
             → Answers Never (IsMachineOf D.state self.new) (D.state (disk_of (core_of self.old))) (D.state (disk_of (core_of self.new))) W (step W client (Group labels.now)) result }
     {
         let _ = client;
-        let mut taken = Taken {
-            answers: Vec::new(self.alloc),
-            ends: Vec::new(self.alloc),
-        };
-        if let Err(_) = take_members(&mut self.live, &mut taken, labels) {
-            put_back(self.alloc, &mut self.live, taken, labels);
+        let mut taken = nothing_taken(self.alloc, labels.len());
+        if let Err(_) = take_members(&mut self.finder, &mut self.live, &mut taken, labels) {
+            put_back(self.alloc, &mut self.finder, &mut self.live, taken, labels);
             return Err(Stop::Memory);
         }
         if taken.ends.is_empty() {
@@ -151,7 +182,7 @@ impl<D: Disk> Machine<D> {
         match self.core.end_group(&mut taken.ends) {
             Ok(()) => {}
             Err(CoreError::Memory) => {
-                put_back(self.alloc, &mut self.live, taken, labels);
+                put_back(self.alloc, &mut self.finder, &mut self.live, taken, labels);
                 return Err(Stop::Memory);
             }
             Err(error) => return refused(error),

@@ -5,7 +5,7 @@ ghost use Rattle.script_model.specs.Step.{step};
 ghost use Rattle.iso_model.specs.Labels.{is_label};
 ghost use Rattle.iso_model.specs.World.{World};
 
-use crate::attached::{Spot, index_at_client, index_under_label};
+use crate::attached::{Spot, claim, index_at_client, index_under_label};
 use crate::machine::Machine;
 use iso_disk::Disk;
 use iso_model::Label;
@@ -16,19 +16,24 @@ impl<D: Disk> Machine<D> {
     ghost use Rattle.iso_machine.specs.Answering.{Always, Answers};
     ghost use Rattle.iso_machine.specs.Standing.{IsMachineOf, core_of};
 
-    /// A client's transaction goes under a label, if no other is there.
+    /// A client's transaction goes under a label, if no other is there. Without memory it stays where it is.
     pub(crate) fn release(&mut self, client: u8, label: &Label) -> Result<Reply, Stop>
         requires { (W : World) × IsMachineOf D.state self.old W }
         ensures { (W : World) → IsMachineOf D.state self.old W → IsTrue (is_label label.now)
             → Answers Always (IsMachineOf D.state self.new) (D.state (disk_of (core_of self.old))) (D.state (disk_of (core_of self.new))) W (step W client (Release label.now)) result }
     {
-        let Some(i) = index_at_client(&self.live, client) else {
+        let Some(i) = index_at_client(self.finder.at_client(client), &self.live, client) else {
             return Ok(Reply::NotInTx);
         };
-        if let Some(_) = index_under_label(&self.live, label) {
+        let tx = self.live[i].tx;
+        let Ok(found) = claim(&mut self.finder, &self.live, label, tx) else {
+            return Err(Stop::Memory);
+        };
+        if let Some(_) = found {
             return Ok(Reply::LabelTaken);
         }
         self.live[i].spot = Spot::Label(label.copy());
+        self.finder.set_client(client, None);
         Ok(Reply::Done)
     }
 
@@ -38,14 +43,16 @@ impl<D: Disk> Machine<D> {
         ensures { (W : World) → IsMachineOf D.state self.old W
             → Answers Always (IsMachineOf D.state self.new) (D.state (disk_of (core_of self.old))) (D.state (disk_of (core_of self.new))) W (step W client (Takeover label.now)) result }
     {
-        if let Some(_) = index_at_client(&self.live, client) {
+        if let Some(_) = index_at_client(self.finder.at_client(client), &self.live, client) {
             return Ok(Reply::InTx);
         }
-        let Some(i) = index_under_label(&self.live, label) else {
+        let number = self.finder.take_label(label);
+        let Some(i) = index_under_label(number, &self.live, label) else {
             return Ok(Reply::NoHandle);
         };
         let attached = &mut self.live[i];
         attached.spot = Spot::Client(client);
+        self.finder.set_client(client, Some(attached.tx));
         Ok(Reply::Began(attached.work.begun_at()))
     }
 }

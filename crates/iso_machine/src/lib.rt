@@ -7,6 +7,7 @@ mod answer;
 mod attached;
 mod begin;
 mod ending;
+mod finder;
 mod grouping;
 mod handles;
 mod leaving;

@@ -4,6 +4,7 @@ ghost use Rattle.iso_model.specs.Step.{with_live};
 ghost use Rattle.iso_model.specs.World.{World};
 
 use crate::attached::Attached;
+use crate::finder::Finder;
 use crate::leaving::abort_all;
 use iso_core::Core;
 use iso_disk::Disk;
@@ -18,6 +19,7 @@ pub struct Machine<D: Disk> {
     pub(crate) alloc: Global,
     pub(crate) core: Core<D>,
     pub(crate) live: Vec<Attached>,
+    pub(crate) finder: Finder,
     // the memory of transactions that have left
     pub(crate) spare: Vec<Box<Work>>,
     // for the bytes of one block
@@ -38,6 +40,7 @@ impl<D: Disk> Machine<D> {
             alloc,
             core,
             live: Vec::new(alloc),
+            finder: Finder::empty(alloc),
             spare: Vec::new(alloc),
             buffer: Vec::new(alloc),
         }
@@ -50,7 +53,7 @@ impl<D: Disk> Machine<D> {
         ensures disk { disk_of result ≡ disk_of (core_of self) }
     {
         let mut core = self.core;
-        abort_all(&mut core, &self.live);
+        abort_all(&mut core, &self.finder, &self.live);
         core
     }
 

@@ -51,7 +51,7 @@ fn read_into<D: Disk>(
     }
 }
 
-/// Zeros, as many as a block has bytes.
+/// So many zeros.
 fn zeros(alloc: Global, size: u32) -> Result<Vec<u8>, Memory>
     ensures { IfOk result (λ bytes. length bytes.items ≡ size) }
 {
@@ -59,13 +59,21 @@ fn zeros(alloc: Global, size: u32) -> Result<Vec<u8>, Memory>
     Ok(bytes)
 }
 
-/// Keeps so many bytes from `off` on.
-fn cut(bytes: &mut Vec<u8>, off: u32, len: u32)
-    requires { off + len ≤ vec_len bytes.old }
-    ensures { bytes.new.items ≡ take len (drop off bytes.old.items) }
+/// Makes the buffer as long as a block.
+fn fit(buffer: &mut Vec<u8>, size: u32) -> Result<(), Memory>
+    ensures { OnOk result (length buffer.new.items ≡ size) }
 {
-    bytes.copy_within(off as usize..off as usize + len as usize, 0);
-    bytes.truncate(len as usize);
+    buffer.resize(size as usize, 0)?;
+    Ok(())
+}
+
+/// Copies the bytes from `off` on, as many as there are places for.
+fn copy_from(bytes: &mut Vec<u8>, block: &[u8], off: u32)
+    requires { off + length bytes.old.items ≤ length block.now }
+    ensures { bytes.new.items ≡ take (length bytes.old.items) (drop off block.now) }
+{
+    let len = bytes.len();
+    bytes.copy_from_slice(&block[off as usize..off as usize + len]);
 }
 
 /// A read of a whole block.
@@ -100,12 +108,13 @@ pub(crate) fn read<D: Disk>(
     }
 }
 
-/// A read of `len` bytes at `off`, with one mark over them.
+/// A read of `len` bytes at `off`, with one mark over them. The block is read into the buffer.
 pub(crate) fn get<D: Disk>(
     alloc: Global,
     core: &mut Core<D>,
     tx: u64,
     work: &mut Work,
+    buffer: &mut Vec<u8>,
     block: u32,
     off: u32,
     len: u32,
@@ -123,16 +132,19 @@ pub(crate) fn get<D: Disk>(
     if let Some(reply) = refusal(work, block, is_outside(size, off, len as usize)) {
         return Ok(reply);
     }
-    let Ok(mut bytes) = zeros(alloc, size) else {
+    let Ok(mut bytes) = zeros(alloc, len) else {
         return Err(Stop::Memory);
     };
+    if let Err(_) = fit(buffer, size) {
+        return Err(Stop::Memory);
+    }
     if let Err(_) = work.reserve(block) {
         return Err(Stop::Memory);
     }
-    if let Err(_) = read_into(core, tx, work, block, &mut bytes) {
+    if let Err(_) = read_into(core, tx, work, block, buffer) {
         return Err(Stop::Disk);
     }
     mark_within(work, off, len);
-    cut(&mut bytes, off, len);
+    copy_from(&mut bytes, buffer, off);
     Ok(Reply::Shown(Bytes::of(bytes)))
 }

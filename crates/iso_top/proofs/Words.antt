@@ -7,7 +7,7 @@ pub use Rattle.std.specs.Io.KnownBytes.{append_known}
 pub use Rattle.std.specs.List.{AllByRecursion, list_any}
 pub use Rattle.std.specs.Option.{ForSome}
 pub use Rattle.array_digest.specs.declared.digest.DigestError.{DigestError}
-pub use Rattle.bench_script.specs.Ends.{DrawnState, HeldState, drawn_state, held_state}
+pub use Rattle.bench_script.specs.Ends.{DrawnState, DigestedState, drawn_state, digested_state}
 pub use Rattle.bench_script.specs.Rounds.{one_places}
 pub use Rattle.command_line.specs.Requests.{made_geometry}
 pub use Rattle.command_line.specs.declared.task.Task.{Task}

@@ -20,27 +20,25 @@ use crate::last_line::put_last;
 use crate::result_line::{bench_line, put_result};
 use crate::script::disk_behind;
 use bench_script::laws::{drawn_scripts_are_good, replies_are_one_a_line};
-use bench_script::{DrawnScript, HeldReplies, tally_of};
+use bench_script::{DrawnScript, ReplyDigest};
 use iso_core::Core;
 use iso_disk::Image;
 use iso_io::Sink;
 use iso_machine::Machine;
 use script_runner::{RunEnd, run};
-use sha2::{Digest, Sha256};
 use std::alloc::Global;
 
 /// Puts what a bench of so many rounds comes to, or why it has ended.
-fn put_summary<K: Sink>(output: &mut K, rounds: u32, end: &RunEnd, text: &[u8]) -> u8
+fn put_summary<K: Sink>(output: &mut K, rounds: u32, end: &RunEnd, replies: ReplyDigest) -> u8
     ensures done { end.now ≡ RunEnd.Done → (line : List ℕ)
-        × ((lines : List (ℕ × Line)) (given : List Reply) → length given ≡ length lines → text.now ≡ text_of lines given → line ≡ summary_of rounds lines given)
+        × ((lines : List (ℕ × Line)) (given : List Reply) → length given ≡ length lines → replies.text ≡ text_of lines given → line ≡ summary_of rounds lines given)
         × (((result ≡ 0) × WroteWhole (K.state output.old) (K.state output.new) line) ⊎ ((result ≡ 7) × WasCut (K.state output.old) (K.state output.new) line)) }
     ensures disk { end.now ≡ RunEnd.Disk → (result ≡ 5) × Printed (K.state output.old) (K.state output.new) disk_fault_text }
     ensures memory { (end.now ≡ RunEnd.Output) ⊎ (end.now ≡ RunEnd.Memory) → (result ≡ 8) × Printed (K.state output.old) (K.state output.new) memory_text }
 {
     match end {
         RunEnd::Done => {
-            let tally = tally_of(text);
-            let digest = Sha256::digest(text);
+            let (tally, digest) = replies.finish();
             let line = bench_line(rounds, tally.commits, tally.conflicts, &digest);
             put_result(output, line.as_slice())
         }
@@ -55,7 +53,7 @@ fn put_summary<K: Sink>(output: &mut K, rounds: u32, end: &RunEnd, text: &[u8]) 
     }
 }
 
-/// Answers the script of so many rounds that is drawn from a seed, and puts what it comes to. The replies are held in memory.
+/// Answers the script of so many rounds that is drawn from a seed, and puts what it comes to. The replies are digested as they come.
 pub(crate) fn answer_drawn<I: Image, K: Sink>(
     alloc: Global,
     core: Core<I>,
@@ -74,10 +72,10 @@ pub(crate) fn answer_drawn<I: Image, K: Sink>(
     drawn_scripts_are_good();
     replies_are_one_a_line();
     let mut input = DrawnScript::new(seed, count);
-    let mut held = HeldReplies::new(alloc);
+    let mut replies = ReplyDigest::new(alloc);
     let mut machine = Machine::over(alloc, core);
-    let end = run(alloc, &mut machine, &mut input, &mut held);
-    let status = put_summary(output, count, &end, held.text());
+    let end = run(alloc, &mut machine, &mut input, &mut replies);
+    let status = put_summary(output, count, &end, replies);
     let image = disk_behind(machine, &end);
     Ended { status, image }
 }

@@ -2,19 +2,25 @@ use Rattle.iso_machine.proofs.Words.{arith}
 use Rattle.iso_machine.proofs.Taking.{nothing_taken, on_both, still_distinct}
 use Rattle.iso_machine.proofs.grouping.+take_members.Goals as goal
 
-pub returns-in_default : goal.returns-in_default
-returns-in_default t c =
+pub returns-in_default-clause-taken : goal.returns-in_default-clause-taken
+returns-in_default-clause-taken t c =
     nothing_taken c.args.labels.now c.args.live.now.items c.args.taken.now.answers.items c.args.taken.now.ends.items c.in_default.ensures.cases
+
+pub returns-in_default-clause-listed : goal.returns-in_default-clause-listed
+returns-in_default-clause-listed t c = c.requires.listed
 
 pub take_members-requires : goal.take_members-requires
 take_members-requires t c = (
   (let shorter = c.in-Some.ensures.cases.1 in omega (arith, shorter, c.decreases)),
-  still_distinct c.in-Some.first.now c.args.live.now.items c.take_member.new.live.items c.args.taken.now.answers.items c.take_member.new.taken.answers.items c.args.taken.now.ends.items
-      c.take_member.new.taken.ends.items c.requires c.in_ok-take_member.ensures,
+  record {
+    listed = c.in_ok-take_member.ensures.listed;
+    distinct = still_distinct c.in-Some.first.now c.args.live.now.items c.take_member.new.live.items c.args.taken.now.answers.items c.take_member.new.taken.answers.items c.args.taken.now.ends.items
+        c.take_member.new.taken.ends.items c.requires.distinct c.in_ok-take_member.ensures.taken;
+  },
 )
 
-pub returns : goal.returns
-returns t c =
+pub returns-clause-taken : goal.returns-clause-taken
+returns-clause-taken t c =
     on_both c.take_members.result c.in-Some.first.now c.in-Some.others.now c.args.labels.now c.args.live.now.items c.take_member.new.live.items c.take_members.new.live.items c.args.taken.now.answers.items
     c.take_member.new.taken.answers.items c.take_members.new.taken.answers.items c.args.taken.now.ends.items c.take_member.new.taken.ends.items c.take_members.new.taken.ends.items c.in-Some.ensures.cases.0
-    c.in_ok-take_member.ensures c.take_members.ensures
+    c.in_ok-take_member.ensures.taken c.take_members.ensures.taken

@@ -4,7 +4,7 @@ use Rattle.iso_machine.proofs.leaving.abort_all.Given as goal
 
 abbrev pub invariant-loop-first : goal.invariant-loop-first
 invariant-loop-first g l = record {
-  stands : (W : World) → AreOf g.D.Disk.state l.fn.core l.fn.live W → StandsFor g.D.Disk.state l.core (with_live W (map live_of l.rest)) up;
+  stands : (W : World) → AreOf g.D.Disk.state l.fn.core l.fn.finder l.fn.live W → StandsFor g.D.Disk.state l.core (with_live W (map live_of l.rest)) up;
   disk : disk_of l.core ≡ disk_of l.fn.core;
 }
 

@@ -29,8 +29,8 @@ returns-in-Put g c W of isop =
     let m = c.args.self.now in
     let n = c.access.new.self in
     let state = g.D.Disk.state in
-    told_so (GoesOn c.args.op.now) Always (AreOf state n.core n.live.items) (state (disk_of m.core)) (state (disk_of n.core)) W (step W c.args.client c.args.op.now) (IsPlain c.args.op.now) c.access.result (λ why may. tt)
-    (subst (λ (given : Reply × World). Answers Always (AreOf state n.core n.live.items) (state (disk_of m.core)) (state (disk_of n.core)) W given c.access.result)
+    told_so (GoesOn c.args.op.now) Always (AreOf state n.core n.finder n.live.items) (state (disk_of m.core)) (state (disk_of n.core)) W (step W c.args.client c.args.op.now) (IsPlain c.args.op.now) c.access.result (λ why may. tt)
+    (subst (λ (given : Reply × World). Answers Always (AreOf state n.core n.finder n.live.items) (state (disk_of m.core)) (state (disk_of n.core)) W given c.access.result)
     (access_is W c.args.client c.args.op.now c.in-Put.is) (c.access.ensures W of isop))
 
 pub returns-in-Trim : goal.returns-in-Trim
@@ -38,16 +38,16 @@ returns-in-Trim g c W of isop =
     let m = c.args.self.now in
     let n = c.trim.new.self in
     let state = g.D.Disk.state in
-    told_so (GoesOn c.args.op.now) Always (AreOf state n.core n.live.items) (state (disk_of m.core)) (state (disk_of n.core)) W (step W c.args.client c.args.op.now) (IsPlain c.args.op.now) c.trim.result (λ why may. tt)
-    (subst (λ (given : Reply × World). Answers Always (AreOf state n.core n.live.items) (state (disk_of m.core)) (state (disk_of n.core)) W given c.trim.result)
+    told_so (GoesOn c.args.op.now) Always (AreOf state n.core n.finder n.live.items) (state (disk_of m.core)) (state (disk_of n.core)) W (step W c.args.client c.args.op.now) (IsPlain c.args.op.now) c.trim.result (λ why may. tt)
+    (subst (λ (given : Reply × World). Answers Always (AreOf state n.core n.finder n.live.items) (state (disk_of m.core)) (state (disk_of n.core)) W given c.trim.result)
     (trim_is W c.args.client ∙ ap (λ (o : Op). step W c.args.client o) (sym c.in-Trim.is)) (c.trim.ensures W of))
 
 pub returns-in-Stat : goal.returns-in-Stat
 returns-in-Stat g c W of isop =
     let m = c.args.self.now in
     let state = g.D.Disk.state in
-    told_so (GoesOn c.args.op.now) Always (AreOf state m.core m.live.items) (state (disk_of m.core)) (state (disk_of m.core)) W (step W c.args.client c.args.op.now) (IsPlain c.args.op.now) (Ok c.stat.result) (λ why may. tt)
-    (quiet Always (AreOf state m.core m.live.items) (state (disk_of m.core)) (g.met.D.Disk.lawful (disk_of m.core)) W (shows state m.core W of.core_of)
+    told_so (GoesOn c.args.op.now) Always (AreOf state m.core m.finder m.live.items) (state (disk_of m.core)) (state (disk_of m.core)) W (step W c.args.client c.args.op.now) (IsPlain c.args.op.now) (Ok c.stat.result) (λ why may. tt)
+    (quiet Always (AreOf state m.core m.finder m.live.items) (state (disk_of m.core)) (g.met.D.Disk.lawful (disk_of m.core)) W (shows state m.core W of.core_of)
     (step W c.args.client c.args.op.now) c.stat.result W
     (ap (λ (o : Op). step W c.args.client o) c.in-Stat.is ∙ stat_is W c.args.client ∙ ap (λ (r : Reply). (r, W)) (sym (c.stat.ensures W of))) of)
 
@@ -64,8 +64,8 @@ returns-in-Compact g c W of isop =
     let m = c.args.self.now in
     let n = c.compact.new.self in
     let state = g.D.Disk.state in
-    told_so (GoesOn c.args.op.now) Wanting (AreOf state n.core n.live.items) (state (disk_of m.core)) (state (disk_of n.core)) W (step W c.args.client c.args.op.now) (IsPlain c.args.op.now) c.compact.result (λ why may. subst (λ (o : Op). GoesOn o why) c.in-Compact.is may)
-    (subst (λ (given : Reply × World). Answers Wanting (AreOf state n.core n.live.items) (state (disk_of m.core)) (state (disk_of n.core)) W given c.compact.result)
+    told_so (GoesOn c.args.op.now) Wanting (AreOf state n.core n.finder n.live.items) (state (disk_of m.core)) (state (disk_of n.core)) W (step W c.args.client c.args.op.now) (IsPlain c.args.op.now) c.compact.result (λ why may. subst (λ (o : Op). GoesOn o why) c.in-Compact.is may)
+    (subst (λ (given : Reply × World). Answers Wanting (AreOf state n.core n.finder n.live.items) (state (disk_of m.core)) (state (disk_of n.core)) W given c.compact.result)
     (compact_is W c.args.client ∙ ap (λ (o : Op). step W c.args.client o) (sym c.in-Compact.is)) (c.compact.ensures W of))
 
 pub returns-in-Upgrade : goal.returns-in-Upgrade
@@ -73,8 +73,8 @@ returns-in-Upgrade g c W of isop =
     let m = c.args.self.now in
     let n = c.upgrade.new.self in
     let state = g.D.Disk.state in
-    told_so (GoesOn c.args.op.now) Wanting (AreOf state n.core n.live.items) (state (disk_of m.core)) (state (disk_of n.core)) W (step W c.args.client c.args.op.now) (IsPlain c.args.op.now) c.upgrade.result (λ why may. subst (λ (o : Op). GoesOn o why) c.in-Upgrade.is may)
-    (subst (λ (given : Reply × World). Answers Wanting (AreOf state n.core n.live.items) (state (disk_of m.core)) (state (disk_of n.core)) W given c.upgrade.result)
+    told_so (GoesOn c.args.op.now) Wanting (AreOf state n.core n.finder n.live.items) (state (disk_of m.core)) (state (disk_of n.core)) W (step W c.args.client c.args.op.now) (IsPlain c.args.op.now) c.upgrade.result (λ why may. subst (λ (o : Op). GoesOn o why) c.in-Upgrade.is may)
+    (subst (λ (given : Reply × World). Answers Wanting (AreOf state n.core n.finder n.live.items) (state (disk_of m.core)) (state (disk_of n.core)) W given c.upgrade.result)
     (upgrade_is W c.args.client ∙ ap (λ (o : Op). step W c.args.client o) (sym c.in-Upgrade.is)) (c.upgrade.ensures W of))
 
 await_is : (W : World) (c : ℕ) (text : List ℕ) → step W c (op.Takeover text) ≡ step W c (op.Await text)
@@ -90,8 +90,8 @@ returns-in-Takeover g c W of isop =
     let m = c.args.self.now in
     let n = c.takeover.new.self in
     let state = g.D.Disk.state in
-    told_so (GoesOn c.args.op.now) Always (AreOf state n.core n.live.items) (state (disk_of m.core)) (state (disk_of n.core)) W (step W c.args.client c.args.op.now) (IsPlain c.args.op.now) c.takeover.result (λ why may. tt)
-    (subst (λ (given : Reply × World). Answers Always (AreOf state n.core n.live.items) (state (disk_of m.core)) (state (disk_of n.core)) W given c.takeover.result)
+    told_so (GoesOn c.args.op.now) Always (AreOf state n.core n.finder n.live.items) (state (disk_of m.core)) (state (disk_of n.core)) W (step W c.args.client c.args.op.now) (IsPlain c.args.op.now) c.takeover.result (λ why may. tt)
+    (subst (λ (given : Reply × World). Answers Always (AreOf state n.core n.finder n.live.items) (state (disk_of m.core)) (state (disk_of n.core)) W given c.takeover.result)
     (takeover_or_await W c.args.client c.in-Takeover.label c.args.op.now c.in-Takeover.is) (c.takeover.ensures W of))
 
 pub returns-in-Abort : goal.returns-in-Abort
@@ -99,32 +99,32 @@ returns-in-Abort g c W of isop =
     let m = c.args.self.now in
     let n = c.abort.new.self in
     let state = g.D.Disk.state in
-    told_so (GoesOn c.args.op.now) Always (AreOf state n.core n.live.items) (state (disk_of m.core)) (state (disk_of n.core)) W (step W c.args.client c.args.op.now) (IsPlain c.args.op.now) c.abort.result (λ why may. tt)
-    (subst (λ (o : Op). Answers Always (AreOf state n.core n.live.items) (state (disk_of m.core)) (state (disk_of n.core)) W (step W c.args.client o) c.abort.result) (sym c.in-Abort.is) (c.abort.ensures W of))
+    told_so (GoesOn c.args.op.now) Always (AreOf state n.core n.finder n.live.items) (state (disk_of m.core)) (state (disk_of n.core)) W (step W c.args.client c.args.op.now) (IsPlain c.args.op.now) c.abort.result (λ why may. tt)
+    (subst (λ (o : Op). Answers Always (AreOf state n.core n.finder n.live.items) (state (disk_of m.core)) (state (disk_of n.core)) W (step W c.args.client o) c.abort.result) (sym c.in-Abort.is) (c.abort.ensures W of))
 
 pub returns-in-End : goal.returns-in-End
 returns-in-End g c W of isop =
     let m = c.args.self.now in
     let n = c.end.new.self in
     let state = g.D.Disk.state in
-    told_so (GoesOn c.args.op.now) Wanting (AreOf state n.core n.live.items) (state (disk_of m.core)) (state (disk_of n.core)) W (step W c.args.client c.args.op.now) (IsPlain c.args.op.now) c.end.result (λ why may. subst (λ (o : Op). GoesOn o why) c.in-End.is may)
-    (subst (λ (o : Op). Answers Wanting (AreOf state n.core n.live.items) (state (disk_of m.core)) (state (disk_of n.core)) W (step W c.args.client o) c.end.result) (sym c.in-End.is) (c.end.ensures W of))
+    told_so (GoesOn c.args.op.now) Wanting (AreOf state n.core n.finder n.live.items) (state (disk_of m.core)) (state (disk_of n.core)) W (step W c.args.client c.args.op.now) (IsPlain c.args.op.now) c.end.result (λ why may. subst (λ (o : Op). GoesOn o why) c.in-End.is may)
+    (subst (λ (o : Op). Answers Wanting (AreOf state n.core n.finder n.live.items) (state (disk_of m.core)) (state (disk_of n.core)) W (step W c.args.client o) c.end.result) (sym c.in-End.is) (c.end.ensures W of))
 
 pub returns-in-Begin : goal.returns-in-Begin
 returns-in-Begin g c W of isop =
     let m = c.args.self.now in
     let n = c.begin.new.self in
     let state = g.D.Disk.state in
-    told_so (GoesOn c.args.op.now) Always (AreOf state n.core n.live.items) (state (disk_of m.core)) (state (disk_of n.core)) W (step W c.args.client c.args.op.now) (IsPlain c.args.op.now) c.begin.result (λ why may. tt)
-    (subst (λ (o : Op). Answers Always (AreOf state n.core n.live.items) (state (disk_of m.core)) (state (disk_of n.core)) W (step W c.args.client o) c.begin.result) (sym c.in-Begin.is) (c.begin.ensures W of))
+    told_so (GoesOn c.args.op.now) Always (AreOf state n.core n.finder n.live.items) (state (disk_of m.core)) (state (disk_of n.core)) W (step W c.args.client c.args.op.now) (IsPlain c.args.op.now) c.begin.result (λ why may. tt)
+    (subst (λ (o : Op). Answers Always (AreOf state n.core n.finder n.live.items) (state (disk_of m.core)) (state (disk_of n.core)) W (step W c.args.client o) c.begin.result) (sym c.in-Begin.is) (c.begin.ensures W of))
 
 pub returns-in-Release : goal.returns-in-Release
 returns-in-Release g c W of isop =
     let m = c.args.self.now in
     let n = c.release.new.self in
     let state = g.D.Disk.state in
-    told_so (GoesOn c.args.op.now) Always (AreOf state n.core n.live.items) (state (disk_of m.core)) (state (disk_of n.core)) W (step W c.args.client c.args.op.now) (IsPlain c.args.op.now) c.release.result (λ why may. tt)
-    (subst (λ (o : Op). Answers Always (AreOf state n.core n.live.items) (state (disk_of m.core)) (state (disk_of n.core)) W (step W c.args.client o) c.release.result) (sym c.in-Release.is) (c.release.ensures W of (subst (λ (o : Op). IsOp o) c.in-Release.is isop)))
+    told_so (GoesOn c.args.op.now) Always (AreOf state n.core n.finder n.live.items) (state (disk_of m.core)) (state (disk_of n.core)) W (step W c.args.client c.args.op.now) (IsPlain c.args.op.now) c.release.result (λ why may. tt)
+    (subst (λ (o : Op). Answers Always (AreOf state n.core n.finder n.live.items) (state (disk_of m.core)) (state (disk_of n.core)) W (step W c.args.client o) c.release.result) (sym c.in-Release.is) (c.release.ensures W of (subst (λ (o : Op). IsOp o) c.in-Release.is isop)))
 
 -- an operation on a store
 abbrev IsStoreOp : Op → Type 0
@@ -169,9 +169,9 @@ returns-in-HashPut g c W of isop =
     let m = c.args.self.now in
     let n = c.stored.new.self in
     let state = g.D.Disk.state in
-    never_plain (GoesOn c.args.op.now) Always (AreOf state n.core n.live.items) (state (disk_of m.core)) (state (disk_of n.core)) W (step W c.args.client c.args.op.now) (IsPlain c.args.op.now) c.stored.result
+    never_plain (GoesOn c.args.op.now) Always (AreOf state n.core n.finder n.live.items) (state (disk_of m.core)) (state (disk_of n.core)) W (step W c.args.client c.args.op.now) (IsPlain c.args.op.now) c.stored.result
     (store_not_plain c.args.op.now c.in-HashPut.is) (λ why may. tt)
-    (subst (λ (given : Reply × World). AnswersTold Always (AreOf state n.core n.live.items) (state (disk_of m.core)) (state (disk_of n.core)) W given ⊥ c.stored.result)
+    (subst (λ (given : Reply × World). AnswersTold Always (AreOf state n.core n.finder n.live.items) (state (disk_of m.core)) (state (disk_of n.core)) W given ⊥ c.stored.result)
     (store_is W c.args.client c.args.op.now c.in-HashPut.is) (c.stored.ensures W of))
 
 -- a group
@@ -184,6 +184,6 @@ returns-in-Group g c W of isop =
     let m = c.args.self.now in
     let n = c.group.new.self in
     let state = g.D.Disk.state in
-    told_so (GoesOn c.args.op.now) Never (AreOf state n.core n.live.items) (state (disk_of m.core)) (state (disk_of n.core)) W (step W c.args.client c.args.op.now) (IsPlain c.args.op.now) c.group.result (λ why may. subst (λ (o : Op). GoesOn o why) c.in-Group.is may)
-    (subst (λ (given : Reply × World). Answers Never (AreOf state n.core n.live.items) (state (disk_of m.core)) (state (disk_of n.core)) W given c.group.result)
+    told_so (GoesOn c.args.op.now) Never (AreOf state n.core n.finder n.live.items) (state (disk_of m.core)) (state (disk_of n.core)) W (step W c.args.client c.args.op.now) (IsPlain c.args.op.now) c.group.result (λ why may. subst (λ (o : Op). GoesOn o why) c.in-Group.is may)
+    (subst (λ (given : Reply × World). Answers Never (AreOf state n.core n.finder n.live.items) (state (disk_of m.core)) (state (disk_of n.core)) W given c.group.result)
     (ap (λ (labels : List (List ℕ)). step W c.args.client (op.Group labels)) c.as_slice.ensures ∙ ap (λ (o : Op). step W c.args.client o) (sym c.in-Group.is)) (c.group.ensures W of))

@@ -13,8 +13,8 @@ returns-in-Ok g c W of =
     let new = c.compact.new.self in
     let is = c.in-Ok.ensures.switched W of.core_of in
     let says : step W 1 op.Compact ≡ (reply.Compacted (floor W), after_switch W (W.geometry.form)) = compact_is W 1 ∙ ap as_step (is.1 (core.Compacted (floor W))) in
-    subst (λ (given : Reply × World). Answers Wanting (AreOf state new m.live.items) (state (disk_of m.core)) (state (disk_of new)) W given (Ok (reply.Compacted c.in-Ok.floor))) (sym says)
-    (answered Wanting (AreOf state new m.live.items) (state (disk_of m.core)) (state (disk_of new)) W (reply.Compacted (floor W), after_switch W (W.geometry.form)) (reply.Compacted c.in-Ok.floor) c.in-Ok.floor
+    subst (λ (given : Reply × World). Answers Wanting (AreOf state new m.finder m.live.items) (state (disk_of m.core)) (state (disk_of new)) W given (Ok (reply.Compacted c.in-Ok.floor))) (sym says)
+    (answered Wanting (AreOf state new m.finder m.live.items) (state (disk_of m.core)) (state (disk_of new)) W (reply.Compacted (floor W), after_switch W (W.geometry.form)) (reply.Compacted c.in-Ok.floor) c.in-Ok.floor
     (ap reply.Compacted is.0) c.in-Ok.ensures.told (switched state m.core new m.live.items W (W.geometry.form) of is.2)
     (weakened (c.in-Ok.ensures.moments W of.core_of) (λ image shown. inl shown)) c.in-Ok.ensures.cause)
 
@@ -26,5 +26,5 @@ returns-in-Err g c W of =
     let f = c.in-Err.ensures in
     let answer = switch_refused state m.core new m.live.items W (W.geometry.form) (core.Compacted (floor W)) c.in-Err.error of (λ none. none) (f.refused W (core.Compacted (floor W)) of.core_of) (f.same W of.core_of)
     f.worn (f.moments W of.core_of) f.cause in
-    subst (λ (r : Result Reply Stop). Answers Wanting (AreOf state new m.live.items) (state (disk_of m.core)) (state (disk_of new)) W (step W 1 op.Compact) r) (sym c.refused.ensures)
-    (subst (λ (given : Reply × World). Answers Wanting (AreOf state new m.live.items) (state (disk_of m.core)) (state (disk_of new)) W given (answer_to c.in-Err.error)) (sym (compact_is W 1)) answer)
+    subst (λ (r : Result Reply Stop). Answers Wanting (AreOf state new m.finder m.live.items) (state (disk_of m.core)) (state (disk_of new)) W (step W 1 op.Compact) r) (sym c.refused.ensures)
+    (subst (λ (given : Reply × World). Answers Wanting (AreOf state new m.finder m.live.items) (state (disk_of m.core)) (state (disk_of new)) W given (answer_to c.in-Err.error)) (sym (compact_is W 1)) answer)

@@ -1,17 +1,23 @@
-use Rattle.iso_machine.proofs.Words.{◌≡◌, ◌∙◌, sym, ap, subst, List, [], Option, Ok, Err, arith, length, map, eqb-true, with_items_is, GroupReply, GroupEnd, Reply, Stop, Result, found_ones, looks, group_step, grouped, step, reply_in, World, disk_of, up, AreEach, IsMember, Attached, Answers, Never, answer_to, filled, shows, AreOf}
+use Rattle.iso_machine.proofs.Words.{◌≡◌, ◌∙◌, refl, sym, ap, subst, List, [], Option, Ok, Err, arith, length, map, eqb-true, with_items_is, GroupReply, GroupEnd, Reply, Stop, Result, found_ones, looks, group_step, grouped, step, reply_in, World, disk_of, up, AreEach, IsMember, Attached, Answers, Never, answer_to, filled, shows, AreOf}
 use Rattle.script_model.specs.declared.script.Op.TheVariants as op
 use Rattle.script_model.specs.declared.script.Reply.TheVariants as reply
 use Rattle.script_model.specs.declared.stop.Stop.TheVariants as stop
 use Rattle.iso_machine.proofs.Ended.{behind, few, group_fails, moments_of, nobody, no_ends, nobody_stands, ready, replies_are, stands, step_is}
+use Rattle.iso_machine.proofs.Machines.{known}
 use Rattle.iso_machine.proofs.Quiet.{answered, quiet, quiet_memory}
 use Rattle.iso_machine.proofs.Taking.{from_none}
 use Rattle.iso_machine.proofs.machine.Machine.group.Goals as goal
+
+pub take_members-requires : goal.take_members-requires
+take_members-requires g c =
+    let (W, of) = c.requires.stands in
+    known g.D.Disk.state c.args.self.now.core c.args.self.now.core c.args.self.now.live.items W of c.args.self.now.live.items refl
 
 pub returns-in-Err : goal.returns-in-Err
 returns-in-Err g c W of =
     let m = c.args.self.now in
     let state = g.D.Disk.state in
-    quiet_memory Never (AreOf state m.core c.put_back.new.live.items) (state (disk_of m.core)) (g.met.D.Disk.lawful (disk_of m.core)) W (shows state m.core W of.core_of)
+    quiet_memory Never (AreOf state m.core c.put_back.new.finder c.put_back.new.live.items) (state (disk_of m.core)) (g.met.D.Disk.lawful (disk_of m.core)) W (shows state m.core W of.core_of)
     (step W c.args.client (op.Group c.args.labels.now)) (λ may. absurd may)
 
 pub returns-then-is_empty : goal.returns-then-is_empty
@@ -21,13 +27,13 @@ returns-then-is_empty g c W of =
     let answers : List (Option GroupReply) = c.take_members.new.taken.answers.items in
     let ends : List GroupEnd = c.take_members.new.taken.ends.items in
     let left : List Attached = c.take_members.new.live.items in
-    let taken = from_none c.args.labels.now m.live.items c.take_members.new.live.items c.new.result.items c.take_members.new.taken.answers.items c.new-2.result.items c.take_members.new.taken.ends.items c.new.ensures.items c.new-2.ensures.items c.in_default.ensures in
+    let taken = from_none c.args.labels.now m.live.items c.take_members.new.live.items c.nothing_taken-taken.result.answers.items c.take_members.new.taken.answers.items c.nothing_taken-taken.result.ends.items c.take_members.new.taken.ends.items c.nothing_taken-taken.ensures.answers c.nothing_taken-taken.ensures.ends c.in_default.ensures.taken in
     let none : ends ≡ [] = no_ends ends (sym c.take_members.new.taken.ends.ok.0 ∙ eqb-true c.take_members.new.taken.ends.len 0 (sym c.is_empty.ensures ∙ c.if-is_empty.true)) in
-    quiet Never (AreOf state m.core left) (state (disk_of m.core)) (g.met.D.Disk.lawful (disk_of m.core)) W (shows state m.core W of.core_of)
+    quiet Never (AreOf state m.core c.take_members.new.finder left) (state (disk_of m.core)) (g.met.D.Disk.lawful (disk_of m.core)) W (shows state m.core W of.core_of)
     (step W c.args.client (op.Group c.args.labels.now)) (reply.Grouped c.of.result) (looks W c.args.labels.now).1
     (step_is W c.args.client c.args.labels.now ∙ ap grouped (nobody state m.core m.live.items left W of c.args.labels.now answers ends taken none)
     ∙ ap (λ (xs : List (Option GroupReply)). (reply.Grouped xs, (looks W c.args.labels.now).1)) (sym c.of.ensures))
-    (nobody_stands state m.core m.live.items left W of c.args.labels.now answers ends taken none)
+    (nobody_stands state m.core m.live.items left W of c.args.labels.now answers ends taken c.take_members.new.finder c.in_default.ensures.listed none)
 
 pub end_group-requires-clause-ready : goal.end_group-requires-clause-ready
 end_group-requires-clause-ready g c =
@@ -37,7 +43,7 @@ end_group-requires-clause-ready g c =
     let labels = c.args.labels.now in
     let answers : List (Option GroupReply) = c.take_members.new.taken.answers.items in
     let ends : List GroupEnd = c.take_members.new.taken.ends.items in
-    let taken = from_none c.args.labels.now m.live.items c.take_members.new.live.items c.new.result.items c.take_members.new.taken.answers.items c.new-2.result.items c.take_members.new.taken.ends.items c.new.ensures.items c.new-2.ensures.items c.in_default.ensures in (
+    let taken = from_none c.args.labels.now m.live.items c.take_members.new.live.items c.nothing_taken-taken.result.answers.items c.take_members.new.taken.answers.items c.nothing_taken-taken.result.ends.items c.take_members.new.taken.ends.items c.nothing_taken-taken.ensures.answers c.nothing_taken-taken.ensures.ends c.in_default.ensures.taken in (
       (looks W labels).1,
       up,
       found_ones (looks W labels).0,
@@ -51,7 +57,7 @@ end_group-requires-clause-most g c =
     let (W, of) = c.requires.stands in
     let m = c.args.self.now in
     let most = few g.D.Disk.state m.core m.live.items c.take_members.new.live.items W of c.args.labels.now c.take_members.new.taken.answers.items c.take_members.new.taken.ends.items
-    (from_none c.args.labels.now m.live.items c.take_members.new.live.items c.new.result.items c.take_members.new.taken.answers.items c.new-2.result.items c.take_members.new.taken.ends.items c.new.ensures.items c.new-2.ensures.items c.in_default.ensures) in
+    (from_none c.args.labels.now m.live.items c.take_members.new.live.items c.nothing_taken-taken.result.answers.items c.take_members.new.taken.answers.items c.nothing_taken-taken.result.ends.items c.take_members.new.taken.ends.items c.nothing_taken-taken.ensures.answers c.nothing_taken-taken.ensures.ends c.in_default.ensures.taken) in
     let allowed = c.requires.op.1 in
     omega (arith, most, allowed, ap length c.deref_mut.ensures.value)
 
@@ -62,8 +68,8 @@ returns-in-Err-Memory g c W of =
     let new = c.end_group.new.self in
     let live : List Attached = c.put_back-in-Err-Memory.new.live.items in
     let given = step W c.args.client (op.Group c.args.labels.now) in
-    subst (λ (disk : g.row.D.Denot). Answers Never (AreOf state new live) (state (disk_of m.core)) (state disk) W given (Err stop.Memory)) (sym (c.in-Err-Memory.ensures.untouched (λ is. cc (is, c.in-Err-Memory.field-0-is))))
-    (quiet_memory Never (AreOf state new live) (state (disk_of m.core)) (g.met.D.Disk.lawful (disk_of m.core)) W (shows state m.core W of.core_of) given (λ may. absurd may))
+    subst (λ (disk : g.row.D.Denot). Answers Never (AreOf state new c.put_back-in-Err-Memory.new.finder live) (state (disk_of m.core)) (state disk) W given (Err stop.Memory)) (sym (c.in-Err-Memory.ensures.untouched (λ is. cc (is, c.in-Err-Memory.field-0-is))))
+    (quiet_memory Never (AreOf state new c.put_back-in-Err-Memory.new.finder live) (state (disk_of m.core)) (g.met.D.Disk.lawful (disk_of m.core)) W (shows state m.core W of.core_of) given (λ may. absurd may))
 
 pub returns-in-Err-end_group : goal.returns-in-Err-end_group
 returns-in-Err-end_group g c W of =
@@ -74,14 +80,14 @@ returns-in-Err-end_group g c W of =
     let left : List Attached = c.take_members.new.live.items in
     let answers : List (Option GroupReply) = c.take_members.new.taken.answers.items in
     let ends : List GroupEnd = c.take_members.new.taken.ends.items in
-    let taken = from_none c.args.labels.now m.live.items c.take_members.new.live.items c.new.result.items c.take_members.new.taken.answers.items c.new-2.result.items c.take_members.new.taken.ends.items c.new.ensures.items c.new-2.ensures.items c.in_default.ensures in
+    let taken = from_none c.args.labels.now m.live.items c.take_members.new.live.items c.nothing_taken-taken.result.answers.items c.take_members.new.taken.answers.items c.nothing_taken-taken.result.ends.items c.take_members.new.taken.ends.items c.nothing_taken-taken.ensures.answers c.nothing_taken-taken.ensures.ends c.in_default.ensures.taken in
     let V : World = (looks W labels).1 in
     let here = stands state m.core m.live.items left W of labels answers ends taken in
     let each = subst (λ (es : List GroupEnd). AreEach (IsMember V) es (found_ones (looks W labels).0)) (sym c.deref_mut.ensures.value) (ready state m.core m.live.items left W of labels answers ends taken) in
     let moments = moments_of state m.core m.live.items left W of labels answers ends taken (state (disk_of m.core)) (state (disk_of new)) (c.in-Err-end_group.ensures.moments V (found_ones (looks W labels).0) here each) in
-    subst (λ (r : Result Reply Stop). Answers Never (AreOf state new left) (state (disk_of m.core)) (state (disk_of new)) W (step W c.args.client (op.Group labels)) r) (sym c.refused.ensures)
-    (subst (λ (given : Reply × World). Answers Never (AreOf state new left) (state (disk_of m.core)) (state (disk_of new)) W given (answer_to c.in-Err-end_group.error)) (sym (step_is W c.args.client labels))
-    (group_fails (AreOf state new left) (state (disk_of m.core)) (state (disk_of new)) W (grouped (group_step W labels)) c.in-Err-end_group.error (c.in-Err-end_group.ensures.only V here) moments
+    subst (λ (r : Result Reply Stop). Answers Never (AreOf state new c.take_members.new.finder left) (state (disk_of m.core)) (state (disk_of new)) W (step W c.args.client (op.Group labels)) r) (sym c.refused.ensures)
+    (subst (λ (given : Reply × World). Answers Never (AreOf state new c.take_members.new.finder left) (state (disk_of m.core)) (state (disk_of new)) W given (answer_to c.in-Err-end_group.error)) (sym (step_is W c.args.client labels))
+    (group_fails (AreOf state new c.take_members.new.finder left) (state (disk_of m.core)) (state (disk_of new)) W (grouped (group_step W labels)) c.in-Err-end_group.error (c.in-Err-end_group.ensures.only V here) moments
     c.in-Err-end_group.ensures.cause))
 
 pub returns : goal.returns
@@ -93,7 +99,7 @@ returns g c W of =
     let left : List Attached = c.take_members.new.live.items in
     let answers : List (Option GroupReply) = c.take_members.new.taken.answers.items in
     let ends : List GroupEnd = c.take_members.new.taken.ends.items in
-    let taken = from_none c.args.labels.now m.live.items c.take_members.new.live.items c.new.result.items c.take_members.new.taken.answers.items c.new-2.result.items c.take_members.new.taken.ends.items c.new.ensures.items c.new-2.ensures.items c.in_default.ensures in
+    let taken = from_none c.args.labels.now m.live.items c.take_members.new.live.items c.nothing_taken-taken.result.answers.items c.take_members.new.taken.answers.items c.nothing_taken-taken.result.ends.items c.take_members.new.taken.ends.items c.nothing_taken-taken.ensures.answers c.nothing_taken-taken.ensures.ends c.in_default.ensures.taken in
     let V : World = (looks W labels).1 in
     let members = found_ones (looks W labels).0 in
     let here = stands state m.core m.live.items left W of labels answers ends taken in
@@ -108,6 +114,6 @@ returns g c W of =
     let reply_is : reply.Grouped c.of-2.result ≡ (grouped (group_step W labels)).0 =
     ap (λ (xs : List (Option GroupReply)). reply.Grouped xs) (c.of-2.ensures ∙ answers_new ∙ c.fill_answers.ensures ∙ filled_are
     ∙ replies_are state m.core m.live.items left W of labels answers ends taken c.end_group.new.ends is.0) in
-    subst (λ (given : Reply × World). Answers Never (AreOf state new left) (state (disk_of m.core)) (state (disk_of new)) W given (Ok (reply.Grouped c.of-2.result))) (sym (step_is W c.args.client labels))
-    (answered Never (AreOf state new left) (state (disk_of m.core)) (state (disk_of new)) W (grouped (group_step W labels)) (reply.Grouped c.of-2.result) c.in-Ok.field-0 reply_is c.in-Ok.ensures.told
-    (behind state m.core m.live.items left W of labels answers ends taken new is.1) moments c.in-Ok.ensures.cause)
+    subst (λ (given : Reply × World). Answers Never (AreOf state new c.take_members.new.finder left) (state (disk_of m.core)) (state (disk_of new)) W given (Ok (reply.Grouped c.of-2.result))) (sym (step_is W c.args.client labels))
+    (answered Never (AreOf state new c.take_members.new.finder left) (state (disk_of m.core)) (state (disk_of new)) W (grouped (group_step W labels)) (reply.Grouped c.of-2.result) c.in-Ok.field-0 reply_is c.in-Ok.ensures.told
+    (behind state m.core m.live.items left W of labels answers ends taken new c.take_members.new.finder c.in_default.ensures.listed is.1) moments c.in-Ok.ensures.cause)

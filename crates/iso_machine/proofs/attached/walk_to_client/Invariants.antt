@@ -1,5 +1,5 @@
 use Rattle.iso_machine.proofs.Words.{◌≡◌, drop, find, map, is_at_client, live_of}
-use Rattle.iso_machine.proofs.attached.index_at_client.Given as goal
+use Rattle.iso_machine.proofs.attached.walk_to_client.Given as goal
 
 -- what is found among those that are left is what is found among all
 abbrev pub invariant-loop-i : goal.invariant-loop-i

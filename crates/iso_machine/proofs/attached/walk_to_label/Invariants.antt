@@ -1,5 +1,5 @@
 use Rattle.iso_machine.proofs.Words.{◌≡◌, drop, find, map, is_under_label, live_of}
-use Rattle.iso_machine.proofs.attached.index_under_label.Given as goal
+use Rattle.iso_machine.proofs.attached.walk_to_label.Given as goal
 
 -- what is found among those that are left is what is found among all
 abbrev pub invariant-loop-i : goal.invariant-loop-i
