@@ -1,0 +1,30 @@
+-- Transactions that were given away, one after the other.
+use Rattle.accounts.proofs.Words.{◌≡◌, refl, ℕ, ◌+◌, ◌≤◌, List, [], ◌∷◌, ◌++◌, arith, length, IfSome, Option, Some, None, Accounts}
+use Rattle.group_commit.specs.Groups.{found_in}
+use Rattle.iso_shared.specs.declared.shared.Shared.{Shared}
+use Rattle.iso_shared.specs.declared.tx.Tx.{Tx}
+use Rattle.iso_shared.specs.Groups.{units_of}
+use Rattle.iso_shared.specs.Ports.{tx_view}
+use Rattle.iso_shared.specs.States.{Start}
+use Rattle.accounts.specs.Kept.{AreGiven, IsWhole, given_units}
+
+module _ {D O : Type 0} where
+  pub given_more : (accounts : Accounts) (A : Start) (l : Shared D O) (xs : List (Option (Tx D O))) (m : Option (Tx D O)) → AreGiven accounts A l xs → IfSome m (IsWhole accounts A l) → AreGiven accounts A l (xs ++ m ∷ [])
+  given_more accounts A l [] m all one = (one, tt)
+  given_more accounts A l (x ∷ xs) m all one = (all.0, given_more accounts A l xs m all.1 one)
+
+  pub units_more : (xs : List (Option (Tx D O))) (m : Option (Tx D O)) → units_of (found_in (xs ++ m ∷ [])) ≡ units_of (found_in xs) + given_units m
+  units_more [] None = refl
+  units_more [] (Some t) = let u : ℕ = (tx_view t).units in let e : u + 0 ≡ 0 + u = omega arith in e
+  units_more (None ∷ xs) m = units_more xs m
+  units_more (Some t ∷ xs) m =
+      let rest = units_more xs m in
+      let u : ℕ = (tx_view t).units in
+      let more : u + units_of (found_in (xs ++ m ∷ [])) ≡ u + units_of (found_in xs) + given_units m = omega (arith, rest) in more
+
+  pub units_few : (accounts : Accounts) (A : Start) (l : Shared D O) (xs : List (Option (Tx D O))) → AreGiven accounts A l xs → units_of (found_in xs) ≤ length xs
+  units_few accounts A l [] all = omega arith
+  units_few accounts A l (None ∷ xs) all = let rest = units_few accounts A l xs all.1 in omega (arith, rest)
+  units_few accounts A l (Some t ∷ xs) all =
+      let rest = units_few accounts A l xs all.1 in
+      let one = all.0.one in omega (arith, rest, one)

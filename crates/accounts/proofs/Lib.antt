@@ -1,0 +1,9 @@
+pub mod Words
+pub mod Adding
+pub mod Committing
+pub mod Covering
+pub mod Filling
+pub mod Keeping
+pub mod Giving
+pub mod Grouping
+pub mod Whole

@@ -1,0 +1,14 @@
+use Rattle.accounts.proofs.Words.{◌≡◌, [], ◌∷◌, List, Option, subst, ℕ, Get, Got, amount, area_of, Adds}
+use Rattle.accounts.proofs.Adding.{got_adds}
+use Rattle.accounts.proofs.amounts.amount_at.Goals as goal
+
+pub returns-in-Some-clause-got : goal.returns-in-Some-clause-got
+returns-in-Some-clause-got g c =
+    let t = g.T.TxBlocks.state c.args.tx.now in
+    let u = g.T.TxBlocks.state c.get.new.tx in
+    let a = area_of t c.args.region in (
+      c.in-Ok-Some.value,
+      subst (λ (v : List ℕ). amount v ≡ c.in-Some.n) c.as_slice.ensures c.in-Some.ensures.is,
+      subst (λ (r : Option (List ℕ)). Adds a t u (Get c.args.name.now ∷ []) (Got r ∷ [])) c.in-Ok-Some.field-0-is
+          (got_adds a c.args.name.now t u c.in-Ok-Some.field-0 c.requires.area c.in-Ok-Some.ensures.ended c.in-Ok-Some.ensures.local),
+    )

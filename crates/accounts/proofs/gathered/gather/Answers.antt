@@ -1,0 +1,18 @@
+use Rattle.handle_pass.specs.Sessions.{own}
+use Rattle.iso_shared.specs.Ports.{port_view}
+use Rattle.turn_lock.specs.Lists.{times}
+use Rattle.accounts.specs.Made.{opening_of}
+use Rattle.accounts.proofs.Covering.{covers_both, covers_on}
+use Rattle.accounts.proofs.Keeping.{finished}
+use Rattle.accounts.proofs.gathered.gather.Goals as goal
+
+pub returns-clause-kept : goal.returns-clause-kept
+returns-clause-kept g c =
+    let A = g.O.Origin.start in
+    let accounts = opening_of c.args.accounts.now in
+    let v = port_view c.args.port.now in
+    let u = port_view c.finish-from.result in
+    let w = port_view c.join.new.into in
+    covers_both accounts A w.seen (λ p. times p v.mine) (λ p. times p u.mine) (λ p. times p w.mine) c.join.ensures.places
+    (covers_on accounts A v.seen w.seen (λ p. times p v.mine) c.join.ensures.seen.0 c.requires.kept)
+    (covers_on accounts A u.seen w.seen (λ p. times p u.mine) c.join.ensures.seen.1 (finished accounts A c.args.session (own c.args.session) u c.finish-from.ensures.did c.requires.session.covers))

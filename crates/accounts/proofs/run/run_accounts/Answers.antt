@@ -1,0 +1,20 @@
+use Rattle.accounts.proofs.Words.{refl, ◌∙◌, ap}
+use Rattle.iso_model.specs.declared.access.Geometry.{Geometry}
+use Rattle.iso_shared.specs.Ports.{port_view}
+use Rattle.accounts.specs.Jobs.{planned}
+use Rattle.accounts.proofs.Whole.{has_run, ready_of}
+use Rattle.accounts.proofs.run.run_accounts.Goals as goal
+
+pub run_on-report-requires-clause-store : goal.run_on-report-requires-clause-store
+run_on-report-requires-clause-store g c κs within = record {
+  ready = ready_of g.D.Disk.state g.O.Origin.start c.args.core c.requires.start.0 c.requires.start.1;
+  some = c.requires.store;
+  start = refl;
+  size = ap (λ (k : Geometry). k.hash) (c.geometry.ensures ∙ c.in-Ok.ensures.ok.2);
+}
+
+pub returns-in-Ok-clause-run : goal.returns-in-Ok-clause-run
+returns-in-Ok-clause-run g c =
+    let view = port_view c.run_on-report.result.1 in
+    has_run g.D.Disk.state g.O.Origin.start g.O.Origin.disk (planned c.args.plan.now) c.close-core.result view.seen view.mine (ready_of g.D.Disk.state g.O.Origin.start c.args.core c.requires.start.0 c.requires.start.1)
+    c.close-core.ensures.legal c.close-core.ensures.core c.close-core.ensures.came c.close-core.ensures.all c.run_on-report.ensures.kept

@@ -1,0 +1,47 @@
+use Rattle.accounts.proofs.Words.{List, Ok, subst, ℕ, area_of, IsTakenFor}
+use Rattle.std.specs.Int.{to_be_bytes, w64}
+use Rattle.device_calls.specs.Stores.{HashPuts}
+use Rattle.device_calls.specs.Visits.{HasCalled}
+use Rattle.handle_pass.specs.Handles.{passed}
+use Rattle.accounts.specs.Made.{opening_of}
+use Rattle.accounts.proofs.Filling.{completes, may_put}
+use Rattle.accounts.proofs.Keeping.{aborted, took_over, visited}
+use Rattle.accounts.proofs.sessions.end_half.Goals as goal
+
+pub takeover_tx-requires-clause-handle : goal.takeover_tx-requires-clause-handle
+takeover_tx-requires-clause-handle g c = (c.requires.half.tx, c.requires.half.one)
+
+pub hash_put-requires-clause-area : goal.hash_put-requires-clause-area
+hash_put-requires-clause-area g c = (may_put g.O.Origin.start c.args.region c.requires.store).0
+
+pub hash_put-requires-clause-fits : goal.hash_put-requires-clause-fits
+hash_put-requires-clause-fits g c = (may_put g.O.Origin.start c.args.region c.requires.store).1
+
+pub end-requires-clause-session : goal.end-requires-clause-session
+end-requires-clause-session g c =
+    let A = g.O.Origin.start in
+    let accounts = opening_of c.args.accounts.now in
+    let to = c.args.half.to in
+    let more = c.args.half.more in
+    let s = c.args.session.now in
+    let t = c.takeover_tx.new.self in
+    let u = c.hash_put.new.session in
+    let took = c.in_default.ensures.did in
+    let held = took_over accounts A (IsTakenFor to more) s t c.args.half.handle c.in_default.field-0 took c.takeover_tx.ensures.session c.requires.session c.requires.half in
+    let did : HasCalled A t u (λ x y before now. HashPuts (area_of x c.args.region) to (to_be_bytes w64 more) (Ok tt) x y before now) =
+    subst (λ (v : List ℕ). HasCalled A t u (λ x y before now. HashPuts (area_of x c.args.region) to v (Ok tt) x y before now)) c.to_be_bytes.ensures c.in-Ok.ensures.did in
+    record {
+      session = c.hash_put.ensures.session;
+      covers = (visited accounts A t u did.refused did.visited held.covers).0;
+      filled = completes accounts A c.args.region c.requires.store t u to more (passed c.args.half.handle) took.is did held;
+    }
+
+pub returns-in-Err-hash_put-clause-session : goal.returns-in-Err-hash_put-clause-session
+returns-in-Err-hash_put-clause-session g c =
+    let A = g.O.Origin.start in
+    let accounts = opening_of c.args.accounts.now in
+    let t = c.takeover_tx.new.self in
+    let u = c.hash_put.new.session in
+    let did = c.hash_put.ensures.did in
+    let held = took_over accounts A (IsTakenFor c.args.half.to c.args.half.more) c.args.session.now t c.args.half.handle c.in_default.field-0 c.in_default.ensures.did c.takeover_tx.ensures.session c.requires.session c.requires.half in
+    (aborted accounts A u c.abort_tx.new.self c.abort_tx.result c.abort_tx.ensures.did c.abort_tx.ensures.session (visited accounts A t u did.refused did.visited held.covers).0).0

@@ -1,0 +1,38 @@
+use Rattle.std.proofs.Common.{Some}
+use Rattle.iso_model.specs.declared.access.Mode.TheVariants.{Serial}
+use Rattle.accounts.specs.Made.{calls_of, opening_of}
+use Rattle.accounts.proofs.Filling.{fills, may_call}
+use Rattle.accounts.proofs.Keeping.{aborted, begun, unbegun, visited}
+use Rattle.accounts.proofs.sessions.fill.Goals as goal
+
+pub returns-in-Err-clause-kept : goal.returns-in-Err-clause-kept
+returns-in-Err-clause-kept g c =
+    (unbegun (opening_of c.args.accounts.now) g.O.Origin.start c.args.session.now c.begin_tx.new.self (Some Serial) c.in-Err.error c.in-Err.ensures.did c.begin_tx.ensures.session c.requires.session).0
+
+pub on_blocks-requires-clause-fits : goal.on_blocks-requires-clause-fits
+on_blocks-requires-clause-fits g c = may_call (opening_of c.args.accounts.now) g.O.Origin.start c.args.region c.requires.store c.begin_tx.new.self
+
+pub returns-in-Ok-clause-filled : goal.returns-in-Ok-clause-filled
+returns-in-Ok-clause-filled g c =
+    let A = g.O.Origin.start in
+    let accounts = opening_of c.args.accounts.now in
+    let r = c.args.session.now in
+    let s = c.begin_tx.new.self in
+    let t = c.on_blocks.new.session in
+    let did = c.in-Ok.ensures.did in
+    let first = begun accounts A r s (Some Serial) c.in_default.field-0 c.in_default.ensures.did c.requires.session.covers in
+    record {
+      session = c.on_blocks.ensures.session;
+      covers = (visited accounts A s t did.refused did.visited first.0).0;
+      filled = fills accounts A c.args.region c.requires.store r s t c.in_default.field-0 (calls_of accounts c.args.step c.in-Ok.answer) c.in_default.ensures.did did;
+    }
+
+pub returns-in-Err-on_blocks-clause-kept : goal.returns-in-Err-on_blocks-clause-kept
+returns-in-Err-on_blocks-clause-kept g c =
+    let A = g.O.Origin.start in
+    let accounts = opening_of c.args.accounts.now in
+    let s = c.begin_tx.new.self in
+    let t = c.on_blocks.new.session in
+    let did = c.on_blocks.ensures.did in
+    let first = begun accounts A c.args.session.now s (Some Serial) c.in_default.field-0 c.in_default.ensures.did c.requires.session.covers in
+    (aborted accounts A t c.abort_tx.new.self c.abort_tx.result c.abort_tx.ensures.did c.abort_tx.ensures.session (visited accounts A s t did.refused did.visited first.0).0).0

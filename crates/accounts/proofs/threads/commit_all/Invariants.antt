@@ -1,0 +1,12 @@
+use Rattle.std.proofs.Common.{◌<◌}
+use Rattle.handle_pass.specs.Sessions.{units}
+use Rattle.accounts.specs.Kept.{IsKept, Stays}
+use Rattle.accounts.specs.Made.{opening_of}
+use Rattle.accounts.proofs.threads.commit_all.Given as goal
+
+abbrev pub invariant-loop-transfer : goal.invariant-loop-transfer
+invariant-loop-transfer g l = record {
+  kept : IsKept (opening_of l.accounts) g.O.Origin.start l.session;
+  stays : Stays l.fn.session l.session;
+  units : 1 < units l.session;
+}

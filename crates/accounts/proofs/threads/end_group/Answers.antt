@@ -1,0 +1,14 @@
+use Rattle.iso_shared.specs.Ports.{port_view}
+use Rattle.accounts.specs.Made.{opening_of}
+use Rattle.accounts.proofs.Grouping.{grouped, knows_on}
+use Rattle.accounts.proofs.threads.end_group.Goals as goal
+
+pub returns-clause-kept : goal.returns-clause-kept
+returns-clause-kept g c =
+    let A = g.O.Origin.start in
+    let accounts = opening_of c.args.accounts.now in
+    let v = port_view c.args.port.now in
+    let w = port_view c.commit_group.new.port in
+    let did = c.commit_group.ensures.did in
+    grouped accounts A c.args.shared.now c.requires.ready v w c.args.members.items c.commit_group.result did c.requires.given c.commit_group.ensures.told
+    (knows_on accounts A c.args.shared.now c.requires.ready v w c.args.members.items c.commit_group.result did) c.requires.kept

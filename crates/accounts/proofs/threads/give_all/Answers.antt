@@ -1,0 +1,54 @@
+use Rattle.accounts.proofs.Words.{◌≡◌, ◌∙◌, ◌+◌, ◌≤◌, ◌++◌, ◌∷◌, [], ap, arith, length, List, Option, subst, sym, ℕ}
+use Rattle.std.proofs.Common.{length-append}
+use Rattle.group_commit.specs.Groups.{found_in}
+use Rattle.handle_pass.specs.Sessions.{device, units}
+use Rattle.iso_shared.specs.declared.shared.Shared.{Shared}
+use Rattle.iso_shared.specs.declared.tx.Tx.{Tx}
+use Rattle.iso_shared.specs.Groups.{units_of}
+use Rattle.accounts.specs.Kept.{AreGiven, IsWhole}
+use Rattle.accounts.specs.Made.{opening_of}
+use Rattle.accounts.proofs.Giving.{given_more, units_few, units_more}
+use Rattle.accounts.proofs.threads.give_all.Goals as goal
+
+pub give-member-requires-clause-units : goal.give-member-requires-clause-units
+give-member-requires-clause-units g c =
+    let few = units_few (opening_of c.args.accounts.now) g.O.Origin.start (device c.args.session.now) c.loop-transfer.members.items c.loop-transfer.invariant.given in
+    let sum = c.loop-transfer.invariant.sum in
+    let count = c.loop-transfer.invariant.count in
+    let most = c.requires.few in
+    let some = c.requires.units in
+    let at = c.loop-transfer-test.true in
+    omega (arith, few, sum, count, most, some, at)
+
+pub loop-transfer-preserved : goal.loop-transfer-preserved
+loop-transfer-preserved g c =
+    let A = g.O.Origin.start in
+    let accounts = opening_of c.args.accounts.now in
+    let xs : List (Option (Tx g.row.D.Denot g.row.O.Denot)) = c.loop-transfer.members.items in
+    let m = c.give-member.result in
+    let all : AreGiven accounts A (device c.args.session.now) (xs ++ m ∷ []) =
+    given_more accounts A (device c.args.session.now) xs m c.loop-transfer.invariant.given
+    (subst (λ (l : Shared g.row.D.Denot g.row.O.Denot). Rattle.std.specs.Prelude.IfSome m (IsWhole accounts A l)) c.loop-transfer.invariant.same c.give-member.ensures.given) in
+    let more = units_more xs m in
+    let sum = c.loop-transfer.invariant.sum in
+    let one = c.give-member.ensures.units in
+    let longer : length (xs ++ m ∷ []) ≡ length xs + 1 = length-append xs (m ∷ []) in
+    let count = c.loop-transfer.invariant.count in
+    let items = c.push_reserved.ensures.items in
+    record {
+      kept = c.give-member.ensures.session;
+      same = c.give-member.ensures.device ∙ c.loop-transfer.invariant.same;
+      sum = subst (λ (ys : List (Option (Tx g.row.D.Denot g.row.O.Denot))). units c.give-member.new.session + units_of (found_in ys) ≡ units c.args.session.now) (sym items) (omega (arith, more, sum, one));
+      count = ap length items ∙ longer ∙ ap (λ (n : ℕ). n + 1) count;
+      room = subst (λ (n : ℕ). length c.args.transfers.now ≤ n) (sym c.push_reserved.ensures.capacity) c.loop-transfer.invariant.room;
+      given = subst (λ (ys : List (Option (Tx g.row.D.Denot g.row.O.Denot))). AreGiven accounts A (device c.args.session.now) ys) (sym items) all;
+    }
+
+pub returns-clause-left : goal.returns-clause-left
+returns-clause-left g c =
+    let few = units_few (opening_of c.args.accounts.now) g.O.Origin.start (device c.args.session.now) c.loop-transfer.members.items c.loop-transfer.invariant.given in
+    let sum = c.loop-transfer.invariant.sum in
+    let count = c.loop-transfer.invariant.count in
+    let most = c.requires.few in
+    let end = c.loop-transfer.auto.transfer-index-end in
+    omega (arith, few, sum, count, most, end)

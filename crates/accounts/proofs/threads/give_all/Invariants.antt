@@ -1,0 +1,18 @@
+use Rattle.std.proofs.Common.{◌≡◌, ◌+◌, ◌≤◌, length}
+use Rattle.std.specs.Prelude.{vec_capacity}
+use Rattle.group_commit.specs.Groups.{found_in}
+use Rattle.handle_pass.specs.Sessions.{device, units}
+use Rattle.iso_shared.specs.Groups.{units_of}
+use Rattle.accounts.specs.Kept.{AreGiven, IsKept}
+use Rattle.accounts.specs.Made.{opening_of}
+use Rattle.accounts.proofs.threads.give_all.Given as goal
+
+abbrev pub invariant-loop-transfer : goal.invariant-loop-transfer
+invariant-loop-transfer g l = record {
+  kept : IsKept (opening_of l.accounts) g.O.Origin.start l.session;
+  same : device l.session ≡ device l.fn.session;
+  sum : units l.session + units_of (found_in l.members.items) ≡ units l.fn.session;
+  count : length l.members.items ≡ l.transfer-index;
+  room : length l.transfers ≤ vec_capacity l.members;
+  given : AreGiven (opening_of l.accounts) g.O.Origin.start (device l.fn.session) l.members.items;
+}

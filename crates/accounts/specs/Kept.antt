@@ -1,0 +1,122 @@
+-- What is known of a session, of a transaction that was given away and of a port whose transactions are those of accounts.
+use Rattle.std.specs.Prelude.{◌≡◌, ◌≢◌, ℕ, ◌<◌, true, List, [], ◌∷◌, ◌++◌, Option, Some, None, IfSome, length}
+use Rattle.std.specs.List.{AllByRecursion}
+use mathlib.Core.List.{IsPrefix}
+use Rattle.iso_model.specs.declared.access.Mode.TheVariants.{Serial}
+use Rattle.iso_model.specs.History.{array_at}
+use Rattle.iso_model.specs.Worlds.{IsWorld}
+use Rattle.iso_shared.specs.declared.entry.Entry.{Entry}
+use Rattle.iso_shared.specs.declared.entry.Entry.TheVariants as entry
+use Rattle.iso_shared.specs.declared.shared.Port.{Port}
+use Rattle.iso_shared.specs.declared.shared.Shared.{Shared}
+use Rattle.iso_shared.specs.declared.tx.Tx.{Tx}
+use Rattle.iso_shared.specs.Legal.{IsLegal}
+use Rattle.iso_shared.specs.Ports.{IsTx, port_view, tx_view}
+use Rattle.iso_shared.specs.States.{Start}
+use Rattle.store_entries.specs.InOrder.{world_at}
+use Rattle.store_laws.specs.Both.{AreMixed, firsts}
+use Rattle.store_laws.specs.BothStores.{StorePart}
+use Rattle.store_laws.specs.Calls.{KeyCall, StoreAnswer}
+use Rattle.store_laws.specs.Parts.{accesses_in, answers_in, calls_in}
+use Rattle.store_model.specs.declared.stores.Region.{Region}
+use Rattle.store_scripts.specs.Stores.{image_hash, image_tree}
+use Rattle.turn_lock.specs.Lists.{times}
+use Rattle.handle_pass.specs.declared.session.Session.{Session}
+use Rattle.handle_pass.specs.Handles.{tx_of}
+use Rattle.handle_pass.specs.Sessions.{IsSession, Own, count, device, own, own_in, seen, units}
+use Rattle.account_laws.specs.Lists.{IsOfAccountsAt}
+use Rattle.account_laws.specs.Sums.{Accounts}
+use Rattle.account_laws.specs.Transactions.{IsOfAccounts}
+use Rattle.accounts.specs.declared.half.Half.{Half}
+use Rattle.accounts.specs.Made.{IsTakenFor}
+
+-- a list that begins on a sound world without a transaction
+pub record IsReady (A : Start) : Type 0 where
+  pub sound : IsWorld A.world
+  pub idle : A.world.live ≡ []
+
+-- so it begins, on an image with a hash store in this region
+pub record HasStore (A : Start) (region : Region) : Type 0 where
+  pub ready : IsReady A
+  pub some : A.world.geometry.hash ≢ 0
+  pub start : region.start ≡ 0
+  pub size : region.size ≡ A.world.geometry.hash
+
+-- The entry at this place of the list makes commits of accounts alone, where the disk tells its bytes.
+pub record StandsWell (accounts : Accounts) (A : Start) (E : List Entry) (p : ℕ) : Type 0 where
+  pub before : List Entry
+  pub e : Entry
+  pub known : IsPrefix (before ++ e ∷ []) E
+  pub place : length before ≡ p
+  pub well : A.tells ≡ true → IsOfAccountsAt accounts A before e
+
+-- so do the entries at all places that are counted
+abbrev pub Covers : Accounts → Start → List Entry → (ℕ → ℕ) → Type 0
+Covers accounts A E count = (p : ℕ) → 0 < count p → StandsWell accounts A E p
+
+-- what is said of the calls that were made of a hash store, and of their answers
+abbrev pub OfCalls : Type 1
+OfCalls = List KeyCall → List StoreAnswer → Type 0
+
+-- A transaction as its holder knows it, who has seen this list: it has begun there in serial mode, and its accesses are those of such
+-- calls of the hash store.
+pub record IsFilled (Is : OfCalls) (A : Start) (E : List Entry) (o : Own) : Type 0 where
+  pub before : List Entry
+  pub known : IsPrefix (before ++ entry.Begin o.number o.begin o.mode ∷ []) E
+  pub legal : IsLegal A (before ++ entry.Begin o.number o.begin o.mode ∷ [])
+  pub serial : o.mode ≡ Serial
+  pub parts : List StorePart
+  pub are : accesses_in (firsts parts) ≡ o.accesses
+  pub made : AreMixed (image_hash A.world.geometry) (image_tree A.world.geometry) (array_at (world_at A before).history o.begin) parts
+  pub is : Is (calls_in (firsts parts)) (answers_in (firsts parts))
+
+-- the transaction, if there is one, is of such calls, where the disk tells its bytes
+abbrev pub OwnFilled : OfCalls → Start → List Entry → Option Own → Type 0
+OwnFilled Is A E own = A.tells ≡ true → (o : Own) → own ≡ Some o → IsFilled Is A E o
+
+module _ {D O : Type 0} where
+  -- a session all of whose entries are of accounts, and whose transaction is of such calls
+  pub record IsHeld (accounts : Accounts) (Is : OfCalls) (A : Start) (s : Session D O) : Type 0 where
+    pub session : IsSession A s
+    pub covers : Covers accounts A (seen s) (count s)
+    pub filled : OwnFilled Is A (seen s) (own s)
+
+  -- the same of a session without a transaction
+  pub record IsKept (accounts : Accounts) (A : Start) (s : Session D O) : Type 0 where
+    pub session : IsSession A s
+    pub covers : Covers accounts A (seen s) (count s)
+    pub none : own s ≡ None
+
+  -- it is on the same device with the same units
+  pub record Stays (s t : Session D O) : Type 0 where
+    pub of : device t ≡ device s
+    pub units : units t ≡ units s
+
+  -- a transaction of this device that was given away, with one unit
+  pub record IsGiven (accounts : Accounts) (Is : OfCalls) (A : Start) (l : Shared D O) (t : Tx D O) : Type 0 where
+    pub tx : IsTx l A t
+    pub one : (tx_view t).units ≡ 1
+    pub covers : Covers accounts A (tx_view t).seen (λ p. times p (tx_view t).mine)
+    pub filled : OwnFilled Is A (tx_view t).seen (Some (own_in t))
+
+  -- one that may end as a transaction of accounts, and one of which a put is still wanting
+  abbrev pub IsWhole : Accounts → Start → Shared D O → Tx D O → Type 0
+  IsWhole accounts A l t = IsGiven accounts (IsOfAccounts accounts) A l t
+
+  abbrev pub IsHalf : Accounts → Start → Shared D O → Half D O → Type 0
+  IsHalf accounts A l h = IsGiven accounts (IsTakenFor h.to h.more) A l (tx_of h.handle)
+
+  abbrev pub given_units : Option (Tx D O) → ℕ
+  given_units None = 0
+  given_units (Some t) = (tx_view t).units
+
+  abbrev pub half_units : Option (Half D O) → ℕ
+  half_units None = 0
+  half_units (Some h) = (tx_view (tx_of h.handle)).units
+
+  abbrev pub AreGiven : Accounts → Start → Shared D O → List (Option (Tx D O)) → Type 0
+  AreGiven accounts A l members = AllByRecursion (λ m. IfSome m (IsWhole accounts A l)) members
+
+  -- the entries at a port's places are of accounts
+  abbrev pub Hold : Accounts → Start → Port D O → Type 0
+  Hold accounts A p = Covers accounts A (port_view p).seen (λ k. times k (port_view p).mine)

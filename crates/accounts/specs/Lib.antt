@@ -1,0 +1,4 @@
+pub mod Made
+pub mod Kept
+pub mod Jobs
+pub mod Ends

@@ -1,0 +1,86 @@
+// One account in the hash store, by any transaction over blocks.
+ghost use Rattle.std.specs.Prelude.{◌≡◌, ◌+◌, ◌<◌, ◌≤◌, [], ◌∷◌, List, ℕ, IfOk, IfSome, None, OnOk, Some};
+ghost use Rattle.std.specs.Int.{to_be_bytes, w64};
+ghost use Rattle.account_laws.specs.Sums.{amount};
+ghost use Rattle.store_laws.specs.Calls.{Get, Got, Put, WasPut};
+ghost use Rattle.store_model.specs.HashRegion.{IsHashArea};
+ghost use Rattle.tx_blocks.specs.Runs.{area_of};
+ghost use Rattle.accounts.specs.Made.{Adds, SameBlocks};
+
+use crate::account::AccountError;
+use iso_hash::{get, put};
+use std::alloc::Global;
+use store_model::Region;
+use tx_blocks::TxBlocks;
+
+// The number that a value of eight bytes is.
+fn number_of(value: &[u8]) -> Option<u64>
+    ensures is { IfSome result (λ n. amount value.now ≡ n) }
+    ensures small { IfSome result (λ n. n < 18446744073709551616) }
+{
+    match value {
+        [a, b, c, d, e, f, g, h] => Some(u64::from_be_bytes([*a, *b, *c, *d, *e, *f, *g, *h])),
+        _ => None,
+    }
+}
+
+/// The amount of an account.
+pub(crate) fn amount_at<T: TxBlocks>(
+    alloc: Global,
+    tx: &mut T,
+    region: Region,
+    name: &[u8],
+) -> Result<u64, AccountError>
+    requires area { IsHashArea (area_of (T.state tx.old) region) }
+    requires fits { region.start + region.size ≤ (T.state tx.old).blocks }
+    ensures same { OnOk result (SameBlocks (T.state tx.old) (T.state tx.new)) }
+    ensures small { IfOk result (λ n. n < 18446744073709551616) }
+    ensures got { IfOk result (λ n. (value : List ℕ) × (amount value ≡ n) × Adds (area_of (T.state tx.old) region) (T.state tx.old) (T.state tx.new) (Get name.now ∷ []) (Got (Some value) ∷ [])) }
+{
+    match get(alloc, tx, region, name) {
+        Ok(Some(value)) => match number_of(value.as_slice()) {
+            Some(n) => Ok(n),
+            None => Err(AccountError::NoAmount),
+        },
+        Ok(None) => Err(AccountError::NoAccount),
+        Err(error) => Err(AccountError::Store(error)),
+    }
+}
+
+/// That there is no such account.
+pub(crate) fn is_free<T: TxBlocks>(
+    alloc: Global,
+    tx: &mut T,
+    region: Region,
+    name: &[u8],
+) -> Result<(), AccountError>
+    requires area { IsHashArea (area_of (T.state tx.old) region) }
+    requires fits { region.start + region.size ≤ (T.state tx.old).blocks }
+    ensures same { OnOk result (SameBlocks (T.state tx.old) (T.state tx.new)) }
+    ensures got { OnOk result (Adds (area_of (T.state tx.old) region) (T.state tx.old) (T.state tx.new) (Get name.now ∷ []) (Got None ∷ [])) }
+{
+    match get(alloc, tx, region, name) {
+        Ok(Some(_)) => Err(AccountError::IsOpen),
+        Ok(None) => Ok(()),
+        Err(error) => Err(AccountError::Store(error)),
+    }
+}
+
+/// Gives an account this amount.
+pub(crate) fn set_amount<T: TxBlocks>(
+    alloc: Global,
+    tx: &mut T,
+    region: Region,
+    name: &[u8],
+    amount: u64,
+) -> Result<(), AccountError>
+    requires area { IsHashArea (area_of (T.state tx.old) region) }
+    requires fits { region.start + region.size ≤ (T.state tx.old).blocks }
+    ensures same { OnOk result (SameBlocks (T.state tx.old) (T.state tx.new)) }
+    ensures put { OnOk result (Adds (area_of (T.state tx.old) region) (T.state tx.old) (T.state tx.new) (Put name.now (to_be_bytes w64 amount) ∷ []) (WasPut ∷ [])) }
+{
+    match put(alloc, tx, region, name, &amount.to_be_bytes()) {
+        Ok(()) => Ok(()),
+        Err(error) => Err(AccountError::Store(error)),
+    }
+}

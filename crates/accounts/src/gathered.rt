@@ -1,0 +1,55 @@
+// Sessions of a device, from its first port and back into it.
+ghost use Rattle.std.specs.Prelude.{◌≡◌, ◌+◌, ◌<◌};
+ghost use Rattle.handle_pass.specs.Sessions.{device, units};
+ghost use Rattle.iso_shared.specs.Ports.{IsPort, first_geometry, port_view};
+ghost use Rattle.account_laws.specs.Sums.{Accounts};
+ghost use Rattle.accounts.specs.Kept.{Hold, IsKept};
+ghost use Rattle.accounts.specs.Made.{opening_of};
+
+use crate::account::Account;
+use handle_pass::Session;
+use iso_disk::Disk;
+use iso_shared::{Origin, Port, Shared};
+use std::sync::Wait;
+
+/// The units of a session's port.
+const UNITS: u64 = 4_294_967_296;
+
+/// A new session, with units of the port.
+pub(crate) fn session_on<'a, D: Disk + Drop, O: Origin>(
+    shared: &'a Shared<D, O>,
+    port: &mut Port<D, O>,
+    accounts: &[Account],
+) -> Session<'a, D, O>
+    requires port { IsPort shared.now port.old }
+    requires units { 4294967296 < (port_view port.old).units }
+    requires image { first_geometry shared.now ≡ O.start.world.geometry }
+    requires kept { Hold (opening_of accounts.now) O.start port.old }
+    ensures port { IsPort shared.now port.new }
+    ensures units { (port_view port.new).units + 4294967296 ≡ (port_view port.old).units }
+    ensures kept { Hold (opening_of accounts.now) O.start port.new }
+    ensures session { IsKept (opening_of accounts.now) O.start result }
+    ensures new { (device result ≡ shared.now) × (units result ≡ 4294967296) }
+{
+    Session::new(shared, shared.port(port, UNITS))
+}
+
+/// Finishes a session, and takes its port back.
+pub(crate) fn gather<'a, D: Disk + Drop, O: Origin, R: Wait>(
+    rt: &R,
+    shared: &Shared<D, O>,
+    port: &mut Port<D, O>,
+    session: Session<'a, D, O>,
+    accounts: &[Account],
+)
+    requires port { IsPort shared.now port.old }
+    requires session { IsKept (opening_of accounts.now) O.start session }
+    requires of { device session ≡ shared.now }
+    requires kept { Hold (opening_of accounts.now) O.start port.old }
+    ensures port { IsPort shared.now port.new }
+    ensures units { (port_view port.new).units ≡ (port_view port.old).units + units session.entry }
+    ensures kept { Hold (opening_of accounts.now) O.start port.new }
+{
+    let from = session.finish(rt);
+    shared.join(port, from);
+}
