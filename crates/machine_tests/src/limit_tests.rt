@@ -1,11 +1,11 @@
 // Faults of the disk, and the limits of an image.
 
-use crate::tests::{Ran, made, opened, run_on, started};
+use crate::tests::{Ran, made, opened, run_on};
 use iso_memdisk::{CallKind, MemDisk};
 use iso_model::{Memory, Mode};
 use script_model::{Op, Reply, Stop};
 use script_runner::{RunEnd, ScriptMachine};
-use std::alloc::Global;
+use std::alloc::{AllocError, Global};
 use std::test::Fail;
 
 /// A disk with a new image.
@@ -95,33 +95,60 @@ fn the_last_number_wears_an_image_out(rt: HostRuntime) -> Result<(), Fail> {
     Ok(())
 }
 
+/// A line on which each client begins, 1 to 64.
+fn begins(alloc: Global) -> Result<Vec<u8>, AllocError> {
+    let mut script = Vec::new(alloc);
+    for client in 1..65 {
+        if client >= 10 {
+            script.push(b'0' + client / 10)?;
+        }
+        script.extend_from_slice(&[b'0' + client % 10])?;
+        script.extend_from_slice(b" begin\n")?;
+    }
+    Ok(script)
+}
+
+/// Lines on which client 1 begins 1,024 transactions and puts each under a label of its own.
+fn releases(alloc: Global) -> Result<Vec<u8>, AllocError> {
+    let mut script = Vec::new(alloc);
+    for first in b'a'..b'q' {
+        for second in b'a'..b'q' {
+            for third in b'a'..b'e' {
+                script.extend_from_slice(b"1 begin\n1 release ")?;
+                script.extend_from_slice(&[first, second, third, b'\n'])?;
+            }
+        }
+    }
+    Ok(script)
+}
+
+/// What a new image answers last, of a script with two lines more.
+fn answers_last(
+    alloc: Global,
+    script: &mut Vec<u8>,
+    lines: &[u8],
+    replies: &[u8],
+) -> Result<bool, Memory> {
+    script.extend_from_slice(lines)?;
+    let ran = run_on(alloc, made(alloc, Mode::Serial)?, script)?;
+    Ok(ran.end == RunEnd::Done && ran.replies.ends_with(replies))
+}
+
 #[test]
 fn each_of_64_clients_has_a_transaction(rt: HostRuntime) -> Result<(), Fail> {
     let alloc = rt.alloc();
-    let mut said = started(alloc, Mode::Serial)?;
-    for client in 1..65 {
-        said = said.begin(client)?;
-    }
-    let said = said.begin(1)?.ask(64, &Op::Stat)?;
+    let mut script = begins(alloc)?;
     let replies =
         b"\n64 ok begin 0\n1 in-tx\n64 ok last 0 base 0 trim 0 live 64 used 0 versions 0\n";
-    assert!(rt; said.replies().ends_with(replies));
+    assert!(rt; answers_last(alloc, &mut script, b"1 begin\n64 stat\n", replies)?);
     Ok(())
 }
 
 #[test]
 fn no_more_than_1024_transactions_are_live(rt: HostRuntime) -> Result<(), Fail> {
     let alloc = rt.alloc();
-    let mut said = started(alloc, Mode::Serial)?;
-    for first in b'a'..b'q' {
-        for second in b'a'..b'q' {
-            for third in b'a'..b'e' {
-                said = said.begin(1)?.release(1, &[first, second, third])?;
-            }
-        }
-    }
-    let said = said.begin(1)?.ask(1, &Op::Stat)?;
+    let mut script = releases(alloc)?;
     let replies = b"\n1 ok\n1 too-many-tx\n1 ok last 0 base 0 trim 0 live 1024 used 0 versions 0\n";
-    assert!(rt; said.replies().ends_with(replies));
+    assert!(rt; answers_last(alloc, &mut script, b"1 begin\n1 stat\n", replies)?);
     Ok(())
 }

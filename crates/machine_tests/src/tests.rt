@@ -4,7 +4,6 @@ ghost use Rattle.iso_memdisk.specs.MemDisk.{state_of};
 ghost use Rattle.iso_model.specs.Geometry.{is_valid, image_size};
 ghost use Rattle.machine_tests.specs.TestMachines.{IsUp};
 
-use crate::session::Session;
 use iso_core::Stat;
 use iso_io::{MemSink, MemSource};
 use iso_machine::Machine;
@@ -93,15 +92,13 @@ pub(crate) fn run_on(
     })
 }
 
-/// A session on a new image.
-pub(crate) fn started(alloc: Global, mode: Mode) -> Result<Session, Memory>
-    ensures { IfOk result (λ s. IsUp state_of s.machine) }
-{
-    Ok(Session::over(alloc, made(alloc, mode)?))
-}
-
 /// Whether a new image answers a script so, all of it.
-fn answers(alloc: Global, mode: Mode, script: &[u8], replies: &[u8]) -> Result<bool, Memory> {
+pub(crate) fn answers(
+    alloc: Global,
+    mode: Mode,
+    script: &[u8],
+    replies: &[u8],
+) -> Result<bool, Memory> {
     let machine = made(alloc, mode)?;
     let ran = run_on(alloc, machine, script)?;
     Ok(ran.end == RunEnd::Done && ran.replies.as_slice() == replies)
