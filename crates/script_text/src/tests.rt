@@ -1,13 +1,27 @@
 use super::*;
-use iso_model::{Bytes, Clash, GroupReply, Label, LabelReplies, Mode};
+use iso_model::{Bytes, Clash, GroupReply, LabelReplies, Memory, Mode};
 use std::alloc::Global;
 use std::test::*;
 
-fn cause(alloc: Global, line: &[u8]) -> Option<u8> {
-    match parse_line(alloc, line) {
+fn cause_of(parsed: Result<Parsed, LineError>) -> Option<u8> {
+    match parsed {
         Err(LineError::Cause(cause)) => Some(cause),
         _ => None,
     }
+}
+
+fn is_end(parsed: Result<Parsed, LineError>) -> bool {
+    matches!(
+        parsed,
+        Ok(Parsed::Line(Line {
+            client: 1,
+            op: Op::End
+        }))
+    )
+}
+
+fn cause(alloc: Global, line: &[u8]) -> Option<u8> {
+    cause_of(parse_line(alloc, line))
 }
 
 #[test]
@@ -82,44 +96,73 @@ fn op_of(alloc: Global, line: &[u8]) -> Option<Op> {
     }
 }
 
+// What the lines of client 1 are read as, each in a function of its own, so that it is dropped there.
+fn begins_in_snapshot_mode(alloc: Global, line: &[u8]) -> bool {
+    let op = op_of(alloc, line);
+    matches!(
+        &op,
+        Some(Op::Begin {
+            mode: Some(Mode::Snapshot)
+        })
+    )
+}
+
+fn begins(alloc: Global, line: &[u8]) -> bool {
+    let op = op_of(alloc, line);
+    matches!(&op, Some(Op::Begin { mode: None }))
+}
+
+fn read_block(alloc: Global, line: &[u8]) -> Option<u32> {
+    match &op_of(alloc, line) {
+        Some(Op::Read { block }) => Some(*block),
+        _ => None,
+    }
+}
+
+fn got(alloc: Global, line: &[u8]) -> Option<(u32, u32, u32)> {
+    match &op_of(alloc, line) {
+        Some(Op::Get { block, off, len }) => Some((*block, *off, *len)),
+        _ => None,
+    }
+}
+
+fn marked(alloc: Global, line: &[u8]) -> Option<(u32, u32)> {
+    match &op_of(alloc, line) {
+        Some(Op::Mark { off, len }) => Some((*off, *len)),
+        _ => None,
+    }
+}
+
+fn releases(alloc: Global, line: &[u8], text: &[u8]) -> bool {
+    match &op_of(alloc, line) {
+        Some(Op::Release { label }) => label.text() == text,
+        _ => false,
+    }
+}
+
+fn writes(alloc: Global, line: &[u8], at: u32, wanted: &[u8]) -> bool {
+    match &op_of(alloc, line) {
+        Some(Op::Write { block, bytes }) => *block == at && bytes.as_slice() == wanted,
+        _ => false,
+    }
+}
+
+fn puts(alloc: Global, line: &[u8], place: (u32, u32), wanted: &[u8]) -> bool {
+    match &op_of(alloc, line) {
+        Some(Op::Put { block, off, bytes }) => (*block, *off) == place
+            && bytes.as_slice() == wanted,
+        _ => false,
+    }
+}
+
 #[test]
 fn operations_with_arguments(rt: HostRuntime) {
     let alloc = rt.alloc();
-    let begun = op_of(alloc, b"1 begin snapshot");
-    assert!(rt;
-        matches!(
-            &begun,
-            Some(Op::Begin {
-                mode: Some(Mode::Snapshot)
-            })
-        )
-    );
-    let got = op_of(alloc, b"1 get 3 2 1");
-    assert!(rt;
-        matches!(
-            &got,
-            Some(Op::Get {
-                block: 3,
-                off: 2,
-                len: 1
-            })
-        )
-    );
-    let marked = op_of(alloc, b"1 mark 5 6");
-    assert!(rt; matches!(&marked, Some(Op::Mark { off: 5, len: 6 })));
-    let released = op_of(alloc, b"1 release z0");
-    match &released {
-        Some(Op::Release { label }) => assert_eq!(rt; label.text(), b"z0".as_slice()),
-        _ => assert!(rt; false),
-    }
-    let written = op_of(alloc, b"1 write 2 aB");
-    match &written {
-        Some(Op::Write { block, bytes }) => {
-            assert_eq!(rt; *block, 2);
-            assert_eq!(rt; bytes.as_slice(), [171].as_slice());
-        }
-        _ => assert!(rt; false),
-    }
+    assert!(rt; begins_in_snapshot_mode(alloc, b"1 begin snapshot"));
+    assert_eq!(rt; got(alloc, b"1 get 3 2 1"), Some((3, 2, 1)));
+    assert_eq!(rt; marked(alloc, b"1 mark 5 6"), Some((5, 6)));
+    assert!(rt; releases(alloc, b"1 release z0", b"z0"));
+    assert!(rt; writes(alloc, b"1 write 2 aB", 2, &[171]));
 }
 
 #[test]
@@ -135,147 +178,93 @@ fn lines_that_say_nothing(rt: HostRuntime) -> Result<(), Fail> {
     Ok(())
 }
 
-#[test]
-fn operations(rt: HostRuntime) {
-    let alloc = rt.alloc();
-    assert!(rt;
-        matches!(
-            parse_line(alloc, b"1 begin"),
-            Ok(Parsed::Line(Line {
-                client: 1,
-                op: Op::Begin { mode: None }
-            }))
-        )
-    );
-    assert!(rt;
-        matches!(
-            parse_line(alloc, b"  64   end "),
-            Ok(Parsed::Line(Line {
-                client: 64,
-                op: Op::End
-            }))
-        )
-    );
-    assert!(rt;
-        matches!(
-            parse_line(alloc, b"2 abort"),
-            Ok(Parsed::Line(Line {
-                client: 2,
-                op: Op::Abort
-            }))
-        )
-    );
-    assert!(rt;
-        matches!(
-            parse_line(alloc, b"10 read 4294967295"),
-            Ok(Parsed::Line(Line {
-                client: 10,
-                op: Op::Read {
-                    block: 4_294_967_295
-                }
-            }))
-        )
-    );
-    match parse_line(alloc, b"1 put 2 5 abCD") {
+// The client of a line that is an end, and that of an abort.
+fn ends(alloc: Global, line: &[u8]) -> Option<u8> {
+    match parse_line(alloc, line) {
         Ok(
             Parsed::Line(
                 Line {
-                    client: 1,
-                    op: Op::Put {
-                        block: 2,
-                        off: 5,
-                        bytes,
-                    },
+                    client,
+                    op: Op::End,
                 },
             ),
-        ) => {
-            assert_eq!(rt; bytes.as_slice(), [0xab, 0xcd].as_slice());
-        }
-        _ => assert!(rt; false, "the line is a put"),
+        ) => Some(client),
+        _ => None,
     }
+}
+
+fn aborts(alloc: Global, line: &[u8]) -> Option<u8> {
+    match parse_line(alloc, line) {
+        Ok(
+            Parsed::Line(
+                Line {
+                    client,
+                    op: Op::Abort,
+                },
+            ),
+        ) => Some(client),
+        _ => None,
+    }
+}
+
+#[test]
+fn operations(rt: HostRuntime) {
+    let alloc = rt.alloc();
+    assert!(rt; begins(alloc, b"1 begin"));
+    assert_eq!(rt; ends(alloc, b"  64   end "), Some(64));
+    assert_eq!(rt; aborts(alloc, b"2 abort"), Some(2));
+    assert_eq!(rt;
+        read_block(alloc, b"1 read 4294967295"),
+        Some(4_294_967_295)
+    );
+    assert!(rt; puts(alloc, b"1 put 2 5 abCD", (2, 5), &[0xab, 0xcd]));
 }
 
 #[test]
 fn a_put_of_many_bytes(rt: HostRuntime) -> Result<(), Fail> {
     let mut line = Vec::new(rt.alloc());
-    line.extend_from_slice(b"3 put 1 0 ")?;
+    line.extend_from_slice(b"1 put 1 0 ")?;
     for _ in 0..2048 {
         line.extend_from_slice(b"a5")?;
     }
-    match parse_line(rt.alloc(), &line) {
-        Ok(
-            Parsed::Line(
-                Line {
-                    client: 3,
-                    op: Op::Put {
-                        block: 1,
-                        off: 0,
-                        bytes,
-                    },
-                },
-            ),
-        ) => {
-            assert_eq!(rt; bytes.as_slice().len(), 2048);
-            assert!(rt; bytes.as_slice().iter().all(|byte| *byte == 0xa5));
-        }
-        _ => assert!(rt; false, "the line is a put"),
-    }
+    let wanted = vec![in rt.alloc(); 0xa5; 2048]?;
+    assert!(rt; puts(rt.alloc(), &line, (1, 0), &wanted));
     Ok(())
 }
 
 #[test]
 fn a_carriage_return_before_the_line_feed(rt: HostRuntime) -> Result<(), Fail> {
     let alloc = rt.alloc();
-    assert!(rt;
-        matches!(
-            parse_whole_line(alloc, b"1 end\r"),
-            Ok(Parsed::Line(Line {
-                client: 1,
-                op: Op::End
-            }))
-        )
-    );
-    assert!(rt;
-        matches!(
-            parse_whole_line(alloc, b"1 end\r\r"),
-            Err(LineError::Cause(8))
-        )
-    );
+    assert!(rt; is_end(parse_whole_line(alloc, b"1 end\r")));
+    assert_eq!(rt; cause_of(parse_whole_line(alloc, b"1 end\r\r")), Some(8));
     let mut piece = vec![in alloc; b' '; 16384]?;
     piece.push(b'\r')?;
-    assert!(rt; matches!(parse_whole_line(alloc, &piece), Err(LineError::Cause(7))));
+    assert_eq!(rt; cause_of(parse_whole_line(alloc, &piece)), Some(7));
     Ok(())
 }
 
+// The first reply of client 1 that is not printed so.
+fn printed_otherwise(alloc: Global, replies: &[(Reply, &[u8])]) -> Result<Option<usize>, Memory> {
+    for (at, (reply, wanted)) in replies.iter().enumerate() {
+        let line = print_reply(alloc, 1, reply)?;
+        if line.as_slice() != *wanted {
+            return Ok(Some(at));
+        }
+    }
+    Ok(None)
+}
+
 #[test]
-fn the_line_of_each_reply(rt: HostRuntime) -> Result<(), Fail> {
+fn replies_without_numbers(rt: HostRuntime) -> Result<(), Fail> {
     let alloc = rt.alloc();
-    let shown = Bytes::of(vec![in alloc; 0, 0xab, 0xff]?);
-    let clash = Clash {
-        commit: 7,
-        block: 16383,
-        at: 4095,
-    };
-    let empty = Bytes::empty(alloc);
-    let replies: [(Reply, &[u8]); 26] = [
+    let replies: [(Reply, &[u8]); 14] = [
         (Reply::Done, b"1 ok\n"),
-        (Reply::Began(0), b"1 ok begin 0\n"),
-        (Reply::Shown(shown), b"1 ok 00abff\n"),
-        (
-            Reply::Committed(9_223_372_036_854_775_807),
-            b"1 ok commit 9223372036854775807\n",
-        ),
         (Reply::ReadOnly, b"1 ok read-only\n"),
-        (
-            Reply::Conflict(clash),
-            b"1 conflict with 7 block 16383 at 4095\n",
-        ),
         (Reply::InTx, b"1 in-tx\n"),
         (Reply::NotInTx, b"1 not-in-tx\n"),
         (Reply::ModeFixed, b"1 mode-fixed\n"),
         (Reply::BadName, b"1 bad-name\n"),
         (Reply::Exists, b"1 exists\n"),
-        (Reply::Found(empty), b"1 ok -\n"),
         (Reply::BadBlock, b"1 bad-block\n"),
         (Reply::BadRange, b"1 bad-range\n"),
         (Reply::NoAccess, b"1 no-access\n"),
@@ -283,31 +272,66 @@ fn the_line_of_each_reply(rt: HostRuntime) -> Result<(), Fail> {
         (Reply::TooManyAccesses, b"1 too-many-accesses\n"),
         (Reply::NoHandle, b"1 no-handle\n"),
         (Reply::LabelTaken, b"1 label-taken\n"),
+    ];
+    assert_eq!(rt; printed_otherwise(alloc, &replies)?, None);
+    let others: [(Reply, &[u8]); 2] = [
+        (Reply::TooManyTx, b"1 too-many-tx\n"),
+        (Reply::Worn, b"1 worn\n"),
+    ];
+    assert_eq!(rt; printed_otherwise(alloc, &others)?, None);
+    Ok(())
+}
+
+#[test]
+fn replies_with_numbers(rt: HostRuntime) -> Result<(), Fail> {
+    let clash = Clash {
+        commit: 7,
+        block: 16383,
+        at: 4095,
+    };
+    let numbers = Reply::Numbers {
+        last: 4,
+        base: 3,
+        trim: 3,
+        live: 0,
+        used: 29,
+        versions: 1,
+    };
+    let replies: [(Reply, &[u8]); 8] = [
+        (Reply::Began(0), b"1 ok begin 0\n"),
+        (
+            Reply::Committed(9_223_372_036_854_775_807),
+            b"1 ok commit 9223372036854775807\n",
+        ),
+        (
+            Reply::Conflict(clash),
+            b"1 conflict with 7 block 16383 at 4095\n",
+        ),
         (Reply::Trimmed(0), b"1 ok trim 0\n"),
         (Reply::Compacted(3), b"1 ok compact 3\n"),
         (Reply::Upgraded(1), b"1 ok upgrade 1\n"),
         (
-            Reply::Numbers {
-                last: 4,
-                base: 3,
-                trim: 3,
-                live: 0,
-                used: 29,
-                versions: 1,
-            },
+            numbers,
             b"1 ok last 4 base 3 trim 3 live 0 used 29 versions 1\n",
         ),
-        (Reply::TooManyTx, b"1 too-many-tx\n"),
-        (Reply::Worn, b"1 worn\n"),
         (
             Reply::LogFull { need: 30, free: 1 },
             b"1 log full need 30 free 1\n",
         ),
     ];
-    for (reply, wanted) in replies.iter() {
-        let line = print_reply(alloc, 1, reply).ok().ok_or("there is memory")?;
-        assert_eq!(rt; line.as_slice(), *wanted);
-    }
+    assert_eq!(rt; printed_otherwise(rt.alloc(), &replies)?, None);
+    Ok(())
+}
+
+#[test]
+fn replies_with_bytes(rt: HostRuntime) -> Result<(), Fail> {
+    let alloc = rt.alloc();
+    let shown = Bytes::of(vec![in alloc; 0, 0xab, 0xff]?);
+    let replies: [(Reply, &[u8]); 2] = [
+        (Reply::Shown(shown), b"1 ok 00abff\n"),
+        (Reply::Found(Bytes::empty(alloc)), b"1 ok -\n"),
+    ];
+    assert_eq!(rt; printed_otherwise(alloc, &replies)?, None);
     Ok(())
 }
 
@@ -362,31 +386,6 @@ fn prints(alloc: Global, op: Op, wanted: &[u8]) -> bool {
 }
 
 #[test]
-fn lines_that_are_printed(rt: HostRuntime) -> Result<(), Fail> {
-    let alloc = rt.alloc();
-    let bytes = Bytes::of(vec![in alloc; 0xab, 0x01]?);
-    let put = Op::Put {
-        block: 4_294_967_295,
-        off: 0,
-        bytes,
-    };
-    let label = Label::new(b"z0").ok_or("it is a label")?;
-    let mode = Some(Mode::Snapshot);
-    let get = Op::Get {
-        block: 3,
-        off: 20,
-        len: 100,
-    };
-    assert!(rt; prints(alloc, put, b"9 put 4294967295 0 ab01"));
-    assert!(rt; prints(alloc, get, b"9 get 3 20 100"));
-    assert!(rt; prints(alloc, Op::Mark { off: 5, len: 6 }, b"9 mark 5 6"));
-    assert!(rt; prints(alloc, Op::Release { label }, b"9 release z0"));
-    assert!(rt; prints(alloc, Op::Begin { mode }, b"9 begin snapshot"));
-    assert!(rt; prints(alloc, Op::Compact, b"9 compact"));
-    Ok(())
-}
-
-#[test]
 fn the_first_draw_of_seed_0(rt: HostRuntime) {
     let mut generator = Generator::new(0);
     assert_eq!(rt; generator.next(), 335_903_614);
@@ -410,10 +409,16 @@ fn the_first_rounds_of_seed_0(rt: HostRuntime) {
 }
 
 #[test]
-fn groups_and_calls_on_files_are_printed_as_they_are_read(rt: HostRuntime) {
+fn lines_are_printed_as_they_are_read(rt: HostRuntime) {
     let alloc = rt.alloc();
     for line in [
-        b"9 group a".as_slice(),
+        b"9 begin snapshot".as_slice(),
+        b"9 compact",
+        b"9 put 4294967295 0 ab01",
+        b"9 get 3 20 100",
+        b"9 mark 5 6",
+        b"9 release z0",
+        b"9 group a",
         b"9 group a b1 a 0123456789abcdef z",
         b"9 fnew 61",
         b"9 fnew -",
