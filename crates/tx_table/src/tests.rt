@@ -85,125 +85,163 @@ fn blocks(alloc: Global, work: &mut Work) -> Result<Vec<u32>, Fail> {
     Ok(blocks)
 }
 
-#[test]
-fn marked_write_writes_its_marks_alone(rt: HostRuntime) -> Result<(), Fail> {
-    let mut work = begin(rt.alloc());
-    write(&rt, &mut work, 2, &[0x61; 64])?;
-    assert_eq!(rt; mark(&mut work, 5, 2), Ok(()));
-    assert_eq!(rt; mark(&mut work, 0, 1), Ok(()));
+// The steps of a test stand in a function that borrows its work: one that owns it drops it at each of its exits, and each of
+// these drops is proved.
+fn marked_write_writes_its_marks_alone_in(rt: &impl Abort, work: &mut Work) -> Result<(), Fail> {
+    write(rt, work, 2, &[0x61; 64])?;
+    assert_eq!(rt; mark(work, 5, 2), Ok(()));
+    assert_eq!(rt; mark(work, 0, 1), Ok(()));
     let mut wanted = [0x2e; 64];
     wanted[0] = 0x61;
     wanted[5] = 0x61;
     wanted[6] = 0x61;
-    assert_eq!(rt; shown(&rt, &mut work, 2)?, wanted);
-    assert_eq!(rt; shown(&rt, &mut work, 3)?, [0x2e; 64]);
+    assert_eq!(rt; shown(rt, work, 2)?, wanted);
+    assert_eq!(rt; shown(rt, work, 3)?, [0x2e; 64]);
+    Ok(())
+}
+
+#[test]
+fn marked_write_writes_its_marks_alone(rt: HostRuntime) -> Result<(), Fail> {
+    let mut work = begin(rt.alloc());
+    marked_write_writes_its_marks_alone_in(&rt, &mut work)
+}
+
+fn later_write_lies_over_an_earlier_one_in(rt: &impl Abort, work: &mut Work) -> Result<(), Fail> {
+    write(rt, work, 2, &[0x61; 64])?;
+    write(rt, work, 2, &[0x62; 64])?;
+    assert_eq!(rt; mark(work, 6, 1), Ok(()));
+    let mut wanted = [0x61; 64];
+    wanted[6] = 0x62;
+    assert_eq!(rt; shown(rt, work, 2)?, wanted);
     Ok(())
 }
 
 #[test]
 fn later_write_lies_over_an_earlier_one(rt: HostRuntime) -> Result<(), Fail> {
     let mut work = begin(rt.alloc());
-    write(&rt, &mut work, 2, &[0x61; 64])?;
-    write(&rt, &mut work, 2, &[0x62; 64])?;
-    assert_eq!(rt; mark(&mut work, 6, 1), Ok(()));
-    let mut wanted = [0x61; 64];
-    wanted[6] = 0x62;
-    assert_eq!(rt; shown(&rt, &mut work, 2)?, wanted);
+    later_write_lies_over_an_earlier_one_in(&rt, &mut work)
+}
+
+fn ninth_mark_is_refused_in(rt: &impl Abort, work: &mut Work) -> Result<(), Fail> {
+    assert_eq!(rt; mark(work, 0, 0), Err(MarkError::BadRange));
+    assert_eq!(rt; mark(work, 63, 2), Err(MarkError::BadRange));
+    assert_eq!(rt; mark(work, 63, 1), Err(MarkError::NoAccess));
+    write(rt, work, 1, &[1; 64])?;
+    for at in 0..8 {
+        assert_eq!(rt; mark(work, at * 4, 1), Ok(()));
+    }
+    assert_eq!(rt; mark(work, 1, 1), Err(MarkError::TooManyMarks));
+    assert_eq!(rt; mark(work, 64, 1), Err(MarkError::BadRange));
+    write(rt, work, 1, &[2; 64])?;
+    assert_eq!(rt; mark(work, 1, 1), Ok(()));
     Ok(())
 }
 
 #[test]
 fn ninth_mark_is_refused(rt: HostRuntime) -> Result<(), Fail> {
     let mut work = begin(rt.alloc());
-    assert_eq!(rt; mark(&mut work, 0, 0), Err(MarkError::BadRange));
-    assert_eq!(rt; mark(&mut work, 63, 2), Err(MarkError::BadRange));
-    assert_eq!(rt; mark(&mut work, 63, 1), Err(MarkError::NoAccess));
-    write(&rt, &mut work, 1, &[1; 64])?;
-    for at in 0..8 {
-        assert_eq!(rt; mark(&mut work, at * 4, 1), Ok(()));
-    }
-    assert_eq!(rt; mark(&mut work, 1, 1), Err(MarkError::TooManyMarks));
-    assert_eq!(rt; mark(&mut work, 64, 1), Err(MarkError::BadRange));
-    write(&rt, &mut work, 1, &[2; 64])?;
-    assert_eq!(rt; mark(&mut work, 1, 1), Ok(()));
+    ninth_mark_is_refused_in(&rt, &mut work)
+}
+
+fn marks_say_what_is_touched_in(
+    rt: &impl Abort,
+    alloc: Global,
+    work: &mut Work,
+) -> Result<(), Fail> {
+    assert_eq!(rt; work.begun_at(), 7);
+    assert_eq!(rt; work.mode(), Mode::Serial);
+    let _ = shown(rt, work, 2)?;
+    assert!(rt; !work.has_write());
+    assert_eq!(rt; mark(work, 9, 1), Ok(()));
+    assert_eq!(rt; touches(alloc, work, 9)?, (true, false));
+    assert_eq!(rt; touches(alloc, work, 8)?, (false, false));
     Ok(())
 }
 
 #[test]
 fn marks_say_what_is_touched(rt: HostRuntime) -> Result<(), Fail> {
-    let alloc = rt.alloc();
-    let mut work = begin(alloc);
-    assert_eq!(rt; work.begun_at(), 7);
-    assert_eq!(rt; work.mode(), Mode::Serial);
-    let _ = shown(&rt, &mut work, 2)?;
-    assert!(rt; !work.has_write());
-    assert_eq!(rt; mark(&mut work, 9, 1), Ok(()));
-    assert_eq!(rt; touches(alloc, &mut work, 9)?, (true, false));
-    assert_eq!(rt; touches(alloc, &mut work, 8)?, (false, false));
+    let mut work = begin(rt.alloc());
+    marks_say_what_is_touched_in(&rt, rt.alloc(), &mut work)
+}
+
+fn mark_after_settling_counts_in(
+    rt: &impl Abort,
+    alloc: Global,
+    work: &mut Work,
+) -> Result<(), Fail> {
+    write(rt, work, 2, &[3; 64])?;
+    assert!(rt; work.has_write());
+    assert_eq!(rt; touches(alloc, work, 9)?, (false, true));
+    assert_eq!(rt; mark(work, 3, 1), Ok(()));
+    assert_eq!(rt; touches(alloc, work, 9)?, (false, false));
+    assert_eq!(rt; touches(alloc, work, 3)?, (false, true));
+    let mut wanted = [0x2e; 64];
+    wanted[3] = 3;
+    assert_eq!(rt; shown(rt, work, 2)?, wanted);
     Ok(())
 }
 
 #[test]
 fn mark_after_settling_counts(rt: HostRuntime) -> Result<(), Fail> {
-    let alloc = rt.alloc();
-    let mut work = begin(alloc);
-    write(&rt, &mut work, 2, &[3; 64])?;
-    assert!(rt; work.has_write());
-    assert_eq!(rt; touches(alloc, &mut work, 9)?, (false, true));
-    assert_eq!(rt; mark(&mut work, 3, 1), Ok(()));
-    assert_eq!(rt; touches(alloc, &mut work, 9)?, (false, false));
-    assert_eq!(rt; touches(alloc, &mut work, 3)?, (false, true));
-    let mut wanted = [0x2e; 64];
-    wanted[3] = 3;
-    assert_eq!(rt; shown(&rt, &mut work, 2)?, wanted);
+    let mut work = begin(rt.alloc());
+    mark_after_settling_counts_in(&rt, rt.alloc(), &mut work)
+}
+
+fn patches_rise_by_block_in(rt: &impl Abort, alloc: Global, work: &mut Work) -> Result<(), Fail> {
+    write(rt, work, 3, &[5; 64])?;
+    write(rt, work, 0, &[6; 64])?;
+    write(rt, work, 2, &[7; 64])?;
+    write(rt, work, 0, &[8; 64])?;
+    assert_eq!(rt; blocks(alloc, work)?.as_slice(), [0, 2, 3].as_slice());
     Ok(())
 }
 
 #[test]
 fn patches_rise_by_block(rt: HostRuntime) -> Result<(), Fail> {
-    let alloc = rt.alloc();
-    let mut work = begin(alloc);
-    write(&rt, &mut work, 3, &[5; 64])?;
-    write(&rt, &mut work, 0, &[6; 64])?;
-    write(&rt, &mut work, 2, &[7; 64])?;
-    write(&rt, &mut work, 0, &[8; 64])?;
-    assert_eq!(rt; blocks(alloc, &mut work)?.as_slice(), [0, 2, 3].as_slice());
+    let mut work = begin(rt.alloc());
+    patches_rise_by_block_in(&rt, rt.alloc(), &mut work)
+}
+
+fn restarted_work_has_done_nothing_in(
+    rt: &impl Abort,
+    alloc: Global,
+    work: &mut Work,
+) -> Result<(), Fail> {
+    write(rt, work, 2, &[0x61; 64])?;
+    assert_eq!(rt; touches(alloc, work, 9)?, (false, true));
+    assert!(rt; work.block_size() == 64);
+    work.restart(8, &small());
+    assert!(rt; work.begun_at() == 8 && work.room() == 4096 && !work.has_write());
+    assert_eq!(rt; blocks(alloc, work)?.as_slice(), [].as_slice());
+    assert_eq!(rt; touches(alloc, work, 9)?, (false, false));
+    write(rt, work, 1, &[0x62; 64])?;
+    assert_eq!(rt; shown(rt, work, 2)?, [0x2e; 64]);
+    assert_eq!(rt; shown(rt, work, 1)?, [0x62; 64]);
     Ok(())
 }
 
 #[test]
 fn restarted_work_has_done_nothing(rt: HostRuntime) -> Result<(), Fail> {
-    let alloc = rt.alloc();
-    let mut work = begin(alloc);
-    write(&rt, &mut work, 2, &[0x61; 64])?;
-    assert_eq!(rt; touches(alloc, &mut work, 9)?, (false, true));
-    assert!(rt; work.block_size() == 64);
-    work.restart(8, &small());
-    assert!(rt; work.begun_at() == 8 && work.room() == 4096 && !work.has_write());
-    assert_eq!(rt; blocks(alloc, &mut work)?.as_slice(), [].as_slice());
-    assert_eq!(rt; touches(alloc, &mut work, 9)?, (false, false));
-    write(&rt, &mut work, 1, &[0x62; 64])?;
-    assert_eq!(rt; shown(&rt, &mut work, 2)?, [0x2e; 64]);
-    assert_eq!(rt; shown(&rt, &mut work, 1)?, [0x62; 64]);
+    let mut work = begin(rt.alloc());
+    restarted_work_has_done_nothing_in(&rt, rt.alloc(), &mut work)
+}
+
+fn holds_4096_accesses_in(rt: &impl Abort, alloc: Global, work: &mut Work) -> Result<(), Fail> {
+    let bytes = [9; 64];
+    for at in 0..4096 {
+        assert_eq!(rt; work.room(), 4096 - at);
+        write(rt, work, at % 4, &bytes)?;
+    }
+    assert_eq!(rt; work.room(), 0);
+    assert_eq!(rt; touches(alloc, work, 63)?, (false, true));
+    assert_eq!(rt; blocks(alloc, work)?.as_slice(), [0, 1, 2, 3].as_slice());
     Ok(())
 }
 
 #[test]
 fn holds_4096_accesses(rt: HostRuntime) -> Result<(), Fail> {
-    let alloc = rt.alloc();
-    let mut work = begin(alloc);
-    let bytes = [9; 64];
-    for at in 0..4096 {
-        assert_eq!(rt; work.room(), 4096 - at);
-        write(&rt, &mut work, at % 4, &bytes)?;
-    }
-    assert_eq!(rt; work.room(), 0);
-    assert_eq!(rt; touches(alloc, &mut work, 63)?, (false, true));
-    assert_eq!(rt;
-        blocks(alloc, &mut work)?.as_slice(),
-        [0, 1, 2, 3].as_slice()
-    );
-    Ok(())
+    let mut work = begin(rt.alloc());
+    holds_4096_accesses_in(&rt, rt.alloc(), &mut work)
 }
 
 #[test]
