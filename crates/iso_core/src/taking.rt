@@ -45,7 +45,7 @@ fn sorted_parts(alloc: Global, parts: &[PartSpan]) -> Result<Vec<PartSpan>, Memo
     ensures order { IfOk result (λ all. IsNonDecreasingBy (λ part. part.block) all.items) }
 {
     let mut all = copy_parts(alloc, parts)?;
-    all.sort_by_key(|part| part.block)?;
+    all.sort_unstable_by_key(|part| part.block);
     Ok(all)
 }
 
