@@ -189,12 +189,7 @@ fn commits(reply: &GroupReply) -> bool
 }
 
 /// Puts the record that is spelled behind those of the plan, where the reply is a commit.
-fn stage_if(
-    kept: &mut Kept,
-    plan: &mut Plan,
-    work: &Work,
-    reply: &GroupReply,
-) -> Result<(), Memory>
+fn stage_if(kept: &mut Kept, plan: &mut Plan, work: &Work, reply: &GroupReply) -> Result<(), Memory>
     requires { (W : World) × (more : List Commit) × (tx : ℕ) × (t : Live) × IsOf kept.old W × IsAhead W more plan.old × IsSettledOf W t work.now × IfCommits reply.now (IsNextStaged (ahead W more) tx t kept.old) }
     ensures same { kept.new ≡ kept.old }
     ensures ahead { (W : World) (more : List Commit) (tx : ℕ) (t : Live) → IsOf kept.old W → IsAhead W more plan.old → IsSettledOf W t work.now → IfCommits reply.now (IsNextStaged (ahead W more) tx t kept.old)

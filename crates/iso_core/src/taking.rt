@@ -18,9 +18,11 @@ use crate::judge::first_member;
 use crate::kept::Kept;
 use crate::leave::leave;
 use crate::plan::{Plan, Staged};
+use conflict_rule::Notes;
 use iso_model::Memory;
 use mv_index::MvIndex;
 use std::alloc::Global;
+use std::mem;
 use version_read::{PartSpan, add_parts, reserve_parts};
 
 // The first staged record, and the others.
@@ -79,9 +81,9 @@ fn take_staged(index: &mut MvIndex, number: u64, gate: u64, staged: &[Staged], p
 }
 
 /// Takes in the commits of a plan, whose records were appended at a gate. All members are live still.
-pub(crate) fn take_plan(kept: &mut Kept, gate: u64, plan: Plan)
-    requires { (W : World) × (more : List Commit) × IsGrownWith W more plan kept.old gate }
-    ensures taken { (W : World) (more : List Commit) → IsGrownWith W more plan kept.old gate → IsOf kept.new (ahead W more) }
+pub(crate) fn take_plan(kept: &mut Kept, gate: u64, plan: &mut Plan)
+    requires { (W : World) × (more : List Commit) × IsGrownWith W more plan.old kept.old gate }
+    ensures taken { (W : World) (more : List Commit) → IsGrownWith W more plan.old kept.old gate → IsOf kept.new (ahead W more) }
     ensures half { kept.new.half ≡ kept.old.half }
     ensures down { kept.new.down ≡ kept.old.down }
 {
@@ -93,7 +95,8 @@ pub(crate) fn take_plan(kept: &mut Kept, gate: u64, plan: Plan)
         plan.staged.as_slice(),
         plan.parts.as_slice(),
     );
-    kept.notes.take_all(plan.notes);
+    let notes = mem::replace(&mut plan.notes, Notes::empty(kept.alloc));
+    kept.notes.take_all(notes);
 }
 
 // Takes all members out, one after the other.
