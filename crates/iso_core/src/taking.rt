@@ -113,6 +113,20 @@ fn leave_each(kept: &mut Kept, group: &[GroupEnd])
     leave_each(kept, rest);
 }
 
+// Takes all members out. Where no other is live, none is left.
+fn leave_all(kept: &mut Kept, group: &[GroupEnd])
+    requires { (W : World) × (members : List Live) × IsOf kept.old W × AreEach (IsReady W) group.now members }
+    ensures left { (W : World) (members : List Live) → IsOf kept.old W → AreEach (IsReady W) group.now members → IsOf kept.new (leave_all members W) }
+    ensures half { kept.new.half ≡ kept.old.half }
+    ensures down { kept.new.down ≡ kept.old.down }
+{
+    if group.len() == kept.live.len() as usize {
+        kept.live.clear();
+        return;
+    }
+    leave_each(kept, group);
+}
+
 // Drops the notes that no live transaction needs any more.
 fn drop_notes(kept: &mut Kept)
     requires { (W : World) × IsOf kept.old W }
@@ -131,6 +145,6 @@ pub(crate) fn leave_members(kept: &mut Kept, group: &[GroupEnd])
     ensures half { kept.new.half ≡ kept.old.half }
     ensures down { kept.new.down ≡ kept.old.down }
 {
-    leave_each(kept, group);
+    leave_all(kept, group);
     drop_notes(kept);
 }

@@ -95,6 +95,13 @@ impl Live {
         }
     }
 
+    /// Takes all out. The memory stays for those that come.
+    pub fn clear(&mut self)
+        ensures { self.new ≡ [] }
+    {
+        self.begins.clear();
+    }
+
     /// The begin of a transaction, and none exactly where it is not live. It takes no memory.
     pub fn at(&self, tx: u64) -> Option<u64>
         ensures { result ≡ begin_of tx self.now }
