@@ -1,4 +1,4 @@
-use Rattle.iso_machine.proofs.Words.{◌≡◌, ◌∙◌, sym, refl, take, ◌+◌, subst, ◌<◌, List, [], ◌∷◌, ◌++◌, ap, get_or, length, map, true, set, remove, find, is_under_label, AllByRecursion, Option, Some, None, GroupReply, GroupEnd, Attached, HasTaken, AreKnown, AreListed, IsOff, live_of, place_of}
+use Rattle.iso_machine.proofs.Words.{◌≡◌, ◌∙◌, sym, refl, take, ◌+◌, subst, ◌<◌, List, [], ◌∷◌, ◌++◌, ap, get_or, length, map, true, set, remove, find, is_under_label, AllByRecursion, Option, Some, None, GroupReply, Attached, AreKnown, AreListed, IsOff, live_of, place_of}
 use Rattle.iso_model.specs.declared.access.GroupReply.TheVariants as member
 use Rattle.iso_machine.specs.declared.attached.Spot.TheVariants as spot
 use Rattle.iso_machine.proofs.Lists.{all_remove, remove_set}

@@ -1,4 +1,4 @@
-use Rattle.iso_machine.proofs.Words.{◌≡◌, ◌∙◌, take, Geometry, IsTrue, is_block_size, refl, sym, ap, subst, List, [], Option, Ok, Err, arith, length, map, eqb-true, with_items_is, GroupReply, GroupEnd, Reply, Stop, Result, found_ones, looks, group_step, grouped, step, reply_in, World, disk_of, up, AreEach, IsMember, Attached, Answers, Never, answer_to, filled, shows, AreOf}
+use Rattle.iso_machine.proofs.Words.{◌≡◌, ◌∙◌, take, Geometry, IsTrue, is_block_size, refl, sym, ap, subst, List, [], Option, Ok, Err, arith, map, with_items_is, GroupReply, GroupEnd, Reply, Stop, Result, found_ones, looks, group_step, grouped, step, reply_in, World, disk_of, up, Attached, Answers, Never, answer_to, filled, shows, AreOf}
 use Rattle.script_model.specs.declared.script.Op.TheVariants as op
 use Rattle.script_model.specs.declared.script.Reply.TheVariants as reply
 use Rattle.script_model.specs.declared.stop.Stop.TheVariants as stop
