@@ -47,6 +47,15 @@ pub has_write_where : (g : Geometry) (accesses : List Access) (writes : Bytes) (
 has_write_where g accesses writes b p are is =
     touch_writes accesses b p (and_parts (nat_lt b g.blocks && nat_lt p g.block) (model.touches Write accesses b p) (sym (are.is b p) ∙ is)).1
 
+-- where there is a write, a byte is written
+pub wrote_where : (g : Geometry) (accesses : List Access) (writes : Bytes) → 0 < g.block → AreAccesses g accesses → AreTouched g.block g.blocks Write accesses writes → has_write accesses ≡ true
+    → (b : ℕ) × (p : ℕ) × (touches writes b p ≡ true)
+wrote_where g accesses writes size all are is =
+    let byte = some_write g accesses size all is in
+    let all_true : (nat_lt byte.0 g.blocks && nat_lt byte.1 g.block && model.touches Write accesses byte.0 byte.1) ≡ true =
+    rw (lt-ltb byte.0 g.blocks byte.2, lt-ltb byte.1 g.block byte.3, byte.4) refl in
+    (byte.0, byte.1, are.is byte.0 byte.1 ∙ all_true)
+
 pub no_write_where : (g : Geometry) (accesses : List Access) (writes : Bytes) → 0 < g.block → AreAccesses g accesses → AreTouched g.block g.blocks Write accesses writes
     → ((b p : ℕ) → touches writes b p ≡ false) → has_write accesses ≡ false
 no_write_where g accesses writes size all are none = by (has_write accesses) refl
@@ -54,10 +63,16 @@ no_write_where g accesses writes size all are none = by (has_write accesses) ref
     by : (t : Bool) → has_write accesses ≡ t → has_write accesses ≡ false
     by false is = is
     by true is =
-        let byte = some_write g accesses size all is in
-        let all_true : (nat_lt byte.0 g.blocks && nat_lt byte.1 g.block && model.touches Write accesses byte.0 byte.1) ≡ true =
-        rw (lt-ltb byte.0 g.blocks byte.2, lt-ltb byte.1 g.block byte.3, byte.4) refl in
-        absurd (both_ways (touches writes byte.0 byte.1) (none byte.0 byte.1) (are.is byte.0 byte.1 ∙ all_true))
+        let (b, p, touched) = wrote_where g accesses writes size all are is in
+        absurd (both_ways (touches writes b p) (none b p) touched)
+
+-- and where there is none, no byte is
+pub untouched_where : (g : Geometry) (accesses : List Access) (writes : Bytes) → AreTouched g.block g.blocks Write accesses writes → has_write accesses ≡ false → (b p : ℕ) → touches writes b p ≡ false
+untouched_where g accesses writes are none b p = by (touches writes b p) refl
+  where
+    by : (t : Bool) → touches writes b p ≡ t → touches writes b p ≡ false
+    by false is = is
+    by true is = absurd (both_ways (has_write accesses) none (has_write_where g accesses writes b p are is))
 
 or_assoc : (u v w : Option Clash) → or_else (or_else u v) w ≡ or_else u (or_else v w)
 or_assoc None v w = refl

@@ -40,18 +40,25 @@ fn least_meeting<L: Ledger>(
     None
 }
 
-// So, and no commit is looked at where there is no byte that it could meet.
+// So, for a transaction that wrote these bytes, and none where it wrote none. No commit is looked at where there is no byte that
+// it could meet.
 fn least_met<L: Ledger>(
     bytes: &Touched,
+    written: &Touched,
     upto: u64,
     notes: &Notes,
     steps: &mut Steps<L>,
 ) -> Option<Clash>
-    ensures least { IsLeastMeeting bytes.now (above upto notes.now.notes) result }
+    ensures read_only { ((b p : ℕ) → touches written.now b p ≡ false) → (result ≡ None) × (steps.new ≡ steps.old) }
+    ensures least { (b p : ℕ) → touches written.now b p ≡ true → IsLeastMeeting bytes.now (above upto notes.now.notes) result }
     ensures steps { steps.new ≤ steps.old + length (above upto notes.now.notes) }
     ensures none { ((b p : ℕ) → touches bytes.now b p ≡ false) → steps.new ≡ steps.old }
 {
+    // That there is nothing to meet is seen at once where nothing was read.
     if bytes.is_empty() {
+        return None;
+    }
+    if written.is_empty() {
         return None;
     }
     least_meeting(bytes, upto, notes, steps)
@@ -87,11 +94,12 @@ pub fn decide<L: Ledger>(
         → IsAsked g H mode begin accesses checked.now.upto checked.now.clash reads.now writes.now notes.now.notes
         → result ≡ clash g H mode begin accesses }
 {
-    if writes.is_empty() {
-        return None;
-    }
     if let Some(clash) = checked.clash {
+        if writes.is_empty() {
+            return None;
+        }
         return Some(clash);
     }
-    least_met(guarded(mode, reads, writes), checked.upto, notes, steps)
+    let bytes = guarded(mode, reads, writes);
+    least_met(bytes, writes, checked.upto, notes, steps)
 }

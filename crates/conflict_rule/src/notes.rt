@@ -15,6 +15,8 @@ use step_count::{Ledger, Steps};
 #[derive(Drop)]
 pub struct Notes {
     notes: Vec<(u64, Touched)>,
+    // the memory of commits that were dropped, for later ones
+    spare: Vec<Touched>,
 }
 
 impl Model for Notes {
@@ -38,6 +40,21 @@ fn place_after(notes: &[(u64, Touched)], number: u64) -> usize
     notes.partition_point(|note| note.0 <= number)
 }
 
+// So many sets are kept when their commits are dropped: as many as end in one group.
+const MOST_SPARE: usize = 16;
+
+// Takes all notes out. What they had is spare then.
+fn take_notes(notes: &mut Vec<(u64, Touched)>, spare: &mut Vec<Touched>)
+    ensures { notes.new.items ≡ [] }
+{
+    while let Some((_, writes)) = notes.pop() {
+        if spare.len() < MOST_SPARE {
+            // Without memory for the list it is let go.
+            let _ = spare.push(writes);
+        }
+    }
+}
+
 impl Notes {
     /// No commit. It takes no memory.
     pub fn empty(alloc: Global) -> Notes
@@ -45,6 +62,7 @@ impl Notes {
     {
         Notes {
             notes: Vec::new(alloc),
+            spare: Vec::new(alloc),
         }
     }
 
@@ -99,8 +117,21 @@ impl Notes {
         ensures notes { self.new.notes ≡ above floor self.old.notes }
     {
         // Where the first note is above the floor, all are.
-        if place_after(self.notes.as_slice(), floor) > 0 {
+        let place = place_after(self.notes.as_slice(), floor);
+        if place == self.notes.len() {
+            take_notes(&mut self.notes, &mut self.spare);
+        } else if place > 0 {
             self.notes.retain(|note| floor < note.0);
+        }
+    }
+
+    /// A set for the bytes of one more commit, whatever is in it. It takes no memory, and may have that of a commit that was dropped.
+    pub fn spare_set(&mut self) -> Touched
+        ensures { self.new ≡ self.old }
+    {
+        match self.spare.pop() {
+            Some(writes) => writes,
+            None => Touched::empty(*self.notes.allocator()),
         }
     }
 
@@ -114,7 +145,10 @@ impl Notes {
                 notes.push((note.0, note.1.copy()?))?;
             }
         }
-        Ok(Notes { notes })
+        Ok(Notes {
+            notes,
+            spare: Vec::new(*self.notes.allocator()),
+        })
     }
 
     /// The bytes that the commit of this number wrote, and none exactly where no such commit is held. One step.

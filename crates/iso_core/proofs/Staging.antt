@@ -1,8 +1,9 @@
 -- The commits of a plan are taken in, and their transactions leave.
-use Rattle.iso_core.proofs.Words.{◌≡◌, ◌≢◌, ◌∙◌, inl, inr, sym, refl, ap, ℕ, ◌+◌, ◌-◌, ◌<◌, ◌≤◌, ◌==◌, cond, List, [], ◌∷◌, ◌++◌, length, map, take, drop, arith, subst, eq-eqb, ne_eqb, Result, OnOk, transport, AllByRecursion, cases_eq, append_assoc, length-append, length_push, take-append-le, take_all, drop-append-le, drop_all, map-append, length-map, sum_by-append, AreNotes, AreNotesAfter, Held, Note, RisesFrom, above, dropped_after, notes_rise, HasLog, Half, MayFollow, half_of_world, last_told, next_gate, told_bytes, with_records, Commit, Geometry, first_after, record_length, log_place, all_own, array_at, last, IsRecord, Written, records, written, after_leaving, World, Live, floor, without, IsWorld, floor_above, floor_below, length-records, floor_between, IsIndexOf, BlockVersions, PartSpan, HasRoom, HasTaken, MayTake, parts_in, index_more, may_take, GroupEnd, Kept, Plan, Staged, IsAmong, AreNextRecords, ahead, IsOf, IsMember, AreEach, IsGrownWith, IsReady, MayTakeAll, all_parts, parts_of, HasTold, IsNext, DiskState, held_log, AreOf, up, LAST}
+use Rattle.iso_core.proofs.Words.{Bool, true, false, IsSome, nat_eq, remove_entry, begin_of, Begun, leave_all, ◌≡◌, ◌≢◌, ◌∙◌, inl, inr, sym, refl, ap, ℕ, ◌+◌, ◌-◌, ◌<◌, ◌≤◌, ◌==◌, cond, List, [], ◌∷◌, ◌++◌, length, map, take, drop, arith, subst, eq-eqb, ne_eqb, Result, OnOk, transport, AllByRecursion, cases_eq, append_assoc, length-append, length_push, take-append-le, take_all, drop-append-le, drop_all, map-append, length-map, sum_by-append, AreNotes, AreNotesAfter, Held, Note, RisesFrom, above, dropped_after, notes_rise, HasLog, Half, MayFollow, half_of_world, last_told, next_gate, told_bytes, with_records, Commit, Geometry, first_after, record_length, log_place, all_own, array_at, last, IsRecord, Written, records, written, after_leaving, World, Live, floor, without, IsWorld, floor_above, floor_below, length-records, floor_between, IsIndexOf, BlockVersions, PartSpan, HasRoom, HasTaken, MayTake, parts_in, index_more, may_take, GroupEnd, Kept, Plan, Staged, IsAmong, AreNextRecords, ahead, IsOf, IsMember, AreEach, IsGrownWith, IsReady, MayTakeAll, all_parts, parts_of, HasTold, IsNext, DiskState, held_log, AreOf, up, LAST}
 use Rattle.std.proofs.lemmas.List.{length-drop}
 use Rattle.iso_log.specs.Extent.{Extent as LogExtent, extent_of}
 use Rattle.iso_core.proofs.Commits.{held_records}
+use Rattle.iso_core.proofs.Leaves.{is_live, leaves_so}
 use Rattle.iso_core.proofs.Judging.{on_ok, staged_count}
 use Rattle.iso_core.proofs.Numbers.{last_is, log_last}
 
@@ -172,6 +173,30 @@ ready_left W t (m ∷ members) (u ∷ ts) other each = (
   each.1,
   ready_left W t members ts other.1 each.2,
 )
+
+shorter : (tx : ℕ) (live : List (ℕ × Begun)) → IsSome (begin_of tx live) → length (remove_entry (nat_eq tx) live) + 1 ≡ length live
+shorter tx [] some = absurd (cc)
+shorter tx (e ∷ live) some = by (nat_eq tx e.0) refl (λ there. shorter tx live there)
+  where
+    by : (b : Bool) → nat_eq tx e.0 ≡ b → (IsSome (begin_of tx live) → length (remove_entry (nat_eq tx) live) + 1 ≡ length live)
+        → length (remove_entry (nat_eq tx) (e ∷ live)) + 1 ≡ length (e ∷ live)
+    by true is later = rw is (omega arith)
+    by false is later = let rest = later (rw is at some) in rw is (omega (arith, rest))
+
+-- where as many leave as are live, none is left
+pub none_left : (kept : Kept) (W : World) (group : List GroupEnd) (members : List Live) → IsOf kept W → AreEach (IsReady W) group members → length group ≡ length kept.live
+    → IsOf (record kept { live = [] }) (leave_all members W)
+none_left kept W [] [] of each as_many = subst (λ (l : List (ℕ × Begun)). IsOf (record kept { live = l }) W) (no_entry kept.live (sym as_many)) of
+  where
+    no_entry : (live : List (ℕ × Begun)) → length live ≡ 0 → live ≡ []
+    no_entry [] none = refl
+    no_entry (e ∷ live) none = absurd (omega (arith, none))
+none_left kept W [] (t ∷ ts) of each as_many = absurd each
+none_left kept W (m ∷ group) [] of each as_many = absurd each
+none_left kept W (m ∷ group) (t ∷ ts) of each as_many =
+    let rest = remove_entry (nat_eq m.tx) kept.live in
+    let fewer = shorter m.tx kept.live (is_live kept W m.tx t of each.0.here) in
+    none_left (record kept { live = rest }) (after_leaving W t) group ts (leaves_so kept W m.tx t of each.0.here rest refl) (ready_left W t group ts each.1 each.2) (omega (arith, as_many, fewer))
 
 rises_low : (a b : ℕ) (notes : List Note) → a ≤ b → RisesFrom b notes → RisesFrom a notes
 rises_low a b [] le rises = tt

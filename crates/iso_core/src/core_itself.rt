@@ -18,11 +18,12 @@ use crate::kept::Kept;
 use crate::leave::leave;
 use crate::members::end_members;
 use crate::opening::{Opened, keep};
+use crate::plan::Plan;
 use crate::switching::switch_half;
 use crate::trim::trim;
 use conflict_rule::Checked;
 use iso_disk::Disk;
-use iso_model::{CoreError, EndReply, Geometry, Mode};
+use iso_model::{CoreError, EndReply, Geometry, GroupReply, Mode};
 use std::alloc::Global;
 use step_count::{Ledger, Steps};
 use tx_table::Work;
@@ -32,6 +33,9 @@ use tx_table::Work;
 pub struct Core<D: Disk> {
     disk: D,
     kept: Kept,
+    // memory for what a group is to append, and for its replies
+    plan: Plan,
+    replies: Vec<GroupReply>,
 }
 
 impl<D: Disk> Core<D> {
@@ -62,6 +66,8 @@ impl<D: Disk> Core<D> {
         Core {
             disk,
             kept: keep(alloc, opened),
+            plan: Plan::empty(alloc),
+            replies: Vec::new(alloc),
         }
     }
 
@@ -193,7 +199,13 @@ impl<D: Disk> Core<D> {
         if self.kept.down {
             return Err(CoreError::Down);
         }
-        end_members(&mut self.kept, &mut self.disk, ends)
+        end_members(
+            &mut self.kept,
+            &mut self.disk,
+            &mut self.plan,
+            &mut self.replies,
+            ends,
+        )
     }
 
     /// Takes a live transaction out, with all that it did. It takes no memory.

@@ -19,7 +19,6 @@ use crate::judge::plan_members;
 use crate::kept::Kept;
 use crate::plan::Plan;
 use crate::taking::{leave_members, reserve_plan, take_plan};
-use conflict_rule::Notes;
 use iso_disk::Disk;
 use iso_model::{CoreError, GroupReply, Memory};
 
@@ -82,10 +81,11 @@ fn prepare_group(
 }
 
 /// Ends members whose works are settled, while the core is up: all their commits stand in one append, or none. The replies
-/// are handed out in order.
+/// are handed out in order. Of the plan the memory alone is used.
 pub(crate) fn end_ready<D: Disk>(
     kept: &mut Kept,
     disk: &mut D,
+    plan: &mut Plan,
     replies: &mut Vec<GroupReply>,
     ends: &[GroupEnd],
 ) -> Result<(), CoreError>
@@ -111,16 +111,11 @@ pub(crate) fn end_ready<D: Disk>(
     ensures told { OnOk result (StaysTold (D.state disk.old) (D.state disk.new)) }
     ensures cause { BlamesDisk (D.state disk.old).faults (D.state disk.new).faults result }
 {
-    let mut plan = Plan {
-        bytes: Vec::new(kept.alloc),
-        staged: Vec::new(kept.alloc),
-        parts: Vec::new(kept.alloc),
-        notes: Notes::empty(kept.alloc),
-    };
-    if let Err(_) = prepare_group(kept, &mut plan, replies, ends) {
+    plan.clear(kept.alloc);
+    if let Err(_) = prepare_group(kept, plan, replies, ends) {
         return Err(CoreError::Memory);
     }
-    if is_bare(&plan) {
+    if is_bare(plan) {
         leave_members(kept, ends);
         return Ok(());
     }

@@ -163,14 +163,16 @@ fn push_staged(staged: &mut Vec<Staged>, at: u64, count: usize) -> Result<(), Me
 }
 
 /// Puts the record that is spelled behind those of the plan, as that of a commit with this work.
-fn stage(kept: &Kept, plan: &mut Plan, work: &Work) -> Result<(), Memory>
-    requires { (W : World) × (more : List Commit) × (tx : ℕ) × (t : Live) × IsOf kept.now W × IsAhead W more plan.old × IsSettledOf W t work.now × IsNextStaged (ahead W more) tx t kept.now }
-    ensures { (W : World) (more : List Commit) (tx : ℕ) (t : Live) → IsOf kept.now W → IsAhead W more plan.old → IsSettledOf W t work.now → IsNextStaged (ahead W more) tx t kept.now
+fn stage(kept: &mut Kept, plan: &mut Plan, work: &Work) -> Result<(), Memory>
+    requires { (W : World) × (more : List Commit) × (tx : ℕ) × (t : Live) × IsOf kept.old W × IsAhead W more plan.old × IsSettledOf W t work.now × IsNextStaged (ahead W more) tx t kept.old }
+    ensures same { kept.new ≡ kept.old }
+    ensures ahead { (W : World) (more : List Commit) (tx : ℕ) (t : Live) → IsOf kept.old W → IsAhead W more plan.old → IsSettledOf W t work.now → IsNextStaged (ahead W more) tx t kept.old
         → OnOk result (IsAhead W (more ++ commit_from t ∷ []) plan.new) }
 {
     let number = kept.log.last() + plan.staged.len() as u64 + 1;
     let at = plan.bytes.len() as u64;
-    let writes = work.writes().copy()?;
+    let mut writes = kept.notes.spare_set();
+    writes.copy_from(work.writes())?;
     push_staged(&mut plan.staged, at, kept.parts.len())?;
     push_parts(&mut plan.parts, kept.parts.as_slice())?;
     push_bytes(&mut plan.bytes, records_in(&kept.buffer))?;
@@ -187,9 +189,10 @@ fn commits(reply: &GroupReply) -> bool
 }
 
 /// Puts the record that is spelled behind those of the plan, where the reply is a commit.
-fn stage_if(kept: &Kept, plan: &mut Plan, work: &Work, reply: &GroupReply) -> Result<(), Memory>
-    requires { (W : World) × (more : List Commit) × (tx : ℕ) × (t : Live) × IsOf kept.now W × IsAhead W more plan.old × IsSettledOf W t work.now × IfCommits reply.now (IsNextStaged (ahead W more) tx t kept.now) }
-    ensures { (W : World) (more : List Commit) (tx : ℕ) (t : Live) → IsOf kept.now W → IsAhead W more plan.old → IsSettledOf W t work.now → IfCommits reply.now (IsNextStaged (ahead W more) tx t kept.now)
+fn stage_if(kept: &mut Kept, plan: &mut Plan, work: &Work, reply: &GroupReply) -> Result<(), Memory>
+    requires { (W : World) × (more : List Commit) × (tx : ℕ) × (t : Live) × IsOf kept.old W × IsAhead W more plan.old × IsSettledOf W t work.now × IfCommits reply.now (IsNextStaged (ahead W more) tx t kept.old) }
+    ensures same { kept.new ≡ kept.old }
+    ensures ahead { (W : World) (more : List Commit) (tx : ℕ) (t : Live) → IsOf kept.old W → IsAhead W more plan.old → IsSettledOf W t work.now → IfCommits reply.now (IsNextStaged (ahead W more) tx t kept.old)
         → OnOk result (IsAhead W (more ++ made_by t reply.now) plan.new) }
 {
     if !commits(reply) {

@@ -14,14 +14,17 @@ ghost use Rattle.iso_core.specs.Standing.{down, up};
 use crate::group::end_ready;
 use crate::group_end::GroupEnd;
 use crate::kept::Kept;
+use crate::plan::Plan;
 use crate::settling::{put_replies, settle_members};
 use iso_disk::Disk;
-use iso_model::CoreError;
+use iso_model::{CoreError, GroupReply};
 
-/// Ends members, while the core is up.
+/// Ends members, while the core is up. Of the plan and the replies the memory alone is used.
 pub(crate) fn end_members<D: Disk>(
     kept: &mut Kept,
     disk: &mut D,
+    plan: &mut Plan,
+    replies: &mut Vec<GroupReply>,
     ends: &mut [GroupEnd],
 ) -> Result<(), CoreError>
     requires { (W : World) × (members : List Live) × AreOf (D.state disk.old) kept.old W up × AreEach (IsMember W) ends.old members }
@@ -50,8 +53,8 @@ pub(crate) fn end_members<D: Disk>(
     if let Err(_) = settle_members(ends) {
         return Err(CoreError::Memory);
     }
-    let mut replies = Vec::new(kept.alloc);
-    match end_ready(kept, disk, &mut replies, ends) {
+    replies.clear();
+    match end_ready(kept, disk, plan, replies, ends) {
         Ok(()) => {
             put_replies(ends, replies.as_slice());
             Ok(())

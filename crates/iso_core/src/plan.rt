@@ -1,6 +1,8 @@
 // What a group is to append, and to take in once that is done.
+ghost use Rattle.std.specs.Prelude.{◌≡◌, []};
 
 use conflict_rule::Notes;
+use std::alloc::Global;
 use version_read::PartSpan;
 
 /// A record that is to be appended: where its gate stands behind the first one, and how many parts it has.
@@ -17,4 +19,26 @@ pub(crate) struct Plan {
     pub(crate) staged: Vec<Staged>,
     pub(crate) parts: Vec<PartSpan>,
     pub(crate) notes: Notes,
+}
+
+impl Plan {
+    /// No record. It takes no memory.
+    pub(crate) fn empty(alloc: Global) -> Plan {
+        Plan {
+            bytes: Vec::new(alloc),
+            staged: Vec::new(alloc),
+            parts: Vec::new(alloc),
+            notes: Notes::empty(alloc),
+        }
+    }
+
+    /// Has no record any more. The memory stays for those that come.
+    pub(crate) fn clear(&mut self, alloc: Global)
+        ensures { (self.new.bytes.items ≡ []) × (self.new.staged.items ≡ []) × (self.new.parts.items ≡ []) × (self.new.notes.notes ≡ []) }
+    {
+        self.bytes.clear();
+        self.staged.clear();
+        self.parts.clear();
+        self.notes = Notes::empty(alloc);
+    }
 }

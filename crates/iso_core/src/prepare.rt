@@ -40,5 +40,7 @@ pub(crate) fn prepare(kept: &mut Kept, tx: u64, work: &Work) -> Result<Touched, 
     let _ = tx;
     reserve_parts(&mut kept.index, kept.parts.as_slice())?;
     kept.notes.reserve()?;
-    work.writes().copy()
+    let mut writes = kept.notes.spare_set();
+    writes.copy_from(work.writes())?;
+    Ok(writes)
 }

@@ -18,9 +18,11 @@ use crate::judge::first_member;
 use crate::kept::Kept;
 use crate::leave::leave;
 use crate::plan::{Plan, Staged};
+use conflict_rule::Notes;
 use iso_model::Memory;
 use mv_index::MvIndex;
 use std::alloc::Global;
+use std::mem;
 use version_read::{PartSpan, add_parts, reserve_parts};
 
 // The first staged record, and the others.
@@ -45,7 +47,7 @@ fn sorted_parts(alloc: Global, parts: &[PartSpan]) -> Result<Vec<PartSpan>, Memo
     ensures order { IfOk result (λ all. IsNonDecreasingBy (λ part. part.block) all.items) }
 {
     let mut all = copy_parts(alloc, parts)?;
-    all.sort_by_key(|part| part.block)?;
+    all.sort_unstable_by_key(|part| part.block);
     Ok(all)
 }
 
@@ -79,9 +81,9 @@ fn take_staged(index: &mut MvIndex, number: u64, gate: u64, staged: &[Staged], p
 }
 
 /// Takes in the commits of a plan, whose records were appended at a gate. All members are live still.
-pub(crate) fn take_plan(kept: &mut Kept, gate: u64, plan: Plan)
-    requires { (W : World) × (more : List Commit) × IsGrownWith W more plan kept.old gate }
-    ensures taken { (W : World) (more : List Commit) → IsGrownWith W more plan kept.old gate → IsOf kept.new (ahead W more) }
+pub(crate) fn take_plan(kept: &mut Kept, gate: u64, plan: &mut Plan)
+    requires { (W : World) × (more : List Commit) × IsGrownWith W more plan.old kept.old gate }
+    ensures taken { (W : World) (more : List Commit) → IsGrownWith W more plan.old kept.old gate → IsOf kept.new (ahead W more) }
     ensures half { kept.new.half ≡ kept.old.half }
     ensures down { kept.new.down ≡ kept.old.down }
 {
@@ -93,7 +95,8 @@ pub(crate) fn take_plan(kept: &mut Kept, gate: u64, plan: Plan)
         plan.staged.as_slice(),
         plan.parts.as_slice(),
     );
-    kept.notes.take_all(plan.notes);
+    let notes = mem::replace(&mut plan.notes, Notes::empty(kept.alloc));
+    kept.notes.take_all(notes);
 }
 
 // Takes all members out, one after the other.
@@ -108,6 +111,20 @@ fn leave_each(kept: &mut Kept, group: &[GroupEnd])
     };
     leave(kept, member.tx);
     leave_each(kept, rest);
+}
+
+// Takes all members out. Where no other is live, none is left.
+fn leave_all(kept: &mut Kept, group: &[GroupEnd])
+    requires { (W : World) × (members : List Live) × IsOf kept.old W × AreEach (IsReady W) group.now members }
+    ensures left { (W : World) (members : List Live) → IsOf kept.old W → AreEach (IsReady W) group.now members → IsOf kept.new (leave_all members W) }
+    ensures half { kept.new.half ≡ kept.old.half }
+    ensures down { kept.new.down ≡ kept.old.down }
+{
+    if group.len() == kept.live.len() as usize {
+        kept.live.clear();
+        return;
+    }
+    leave_each(kept, group);
 }
 
 // Drops the notes that no live transaction needs any more.
@@ -128,6 +145,6 @@ pub(crate) fn leave_members(kept: &mut Kept, group: &[GroupEnd])
     ensures half { kept.new.half ≡ kept.old.half }
     ensures down { kept.new.down ≡ kept.old.down }
 {
-    leave_each(kept, group);
+    leave_all(kept, group);
     drop_notes(kept);
 }

@@ -121,7 +121,3 @@ group_fails stands old new W given e (inr is) moments cause =
       cause = record { later = cause.later; failed = λ x. absurd (cc x); passed = tt; memory = λ x. cause.other (λ y. cc (is, y)) };
       stopped = λ may. absurd may;
     })
-
-pub no_ends : {X : Type 0} (xs : List X) → length xs ≡ 0 → xs ≡ []
-no_ends [] none = refl
-no_ends (x ∷ xs) none = absurd (omega (arith, none))

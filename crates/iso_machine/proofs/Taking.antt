@@ -1,5 +1,5 @@
 -- Transactions that are taken out of the list of live ones for a group.
-use Rattle.iso_machine.proofs.Words.{◌≡◌, ◌∙◌, sym, refl, ap, subst, ℕ, ◌<◌, List, [], ◌∷◌, ◌++◌, length, get_or, map, arith, Option, Some, None, Result, Ok, Err, OnOk, append-nil, append_assoc, map-append, not, ◌==◌, AllByRecursion, remove, distinct_filter, Geometry, GroupReply, found_ones, Live, AreDistinct, GroupEnd, Doing, Attached, IsSized, live_of, HasTaken, found_in, left_in, member_of, stand_in, under, without_found}
+use Rattle.iso_machine.proofs.Words.{◌≡◌, ◌∙◌, sym, refl, ap, subst, ℕ, ◌<◌, List, [], ◌∷◌, ◌++◌, length, get_or, map, arith, Option, Some, None, Result, Ok, Err, OnOk, append-nil, append_assoc, map-append, not, ◌==◌, AllByRecursion, remove, distinct_filter, Geometry, GroupReply, found_ones, Live, AreDistinct, GroupEnd, Attached, IsSized, live_of, HasTaken, found_in, left_in, member_of, stand_in, under, without_found}
 use Rattle.iso_model.specs.declared.access.GroupReply.TheVariants as member
 use Rattle.iso_machine.proofs.Lists.{all_at, all_remove, without_at}
 
@@ -19,10 +19,10 @@ none_taken text list live answers new ends same none pushed =
     }
 
 -- one is
-pub one_taken : (text : List ℕ) (list live left : List Attached) (i : ℕ) (a : Attached) (answers new : List (Option GroupReply)) (ends new_ends : List GroupEnd) (work : Doing) → list ≡ live → AreDistinct (map live_of live)
-    → i < length list → under text (map live_of list) ≡ Some (live_of (get_or list i a)) → a ≡ get_or live i a → left ≡ remove live i → work ≡ a.work.value
-    → new ≡ answers ++ Some member.Worn ∷ [] → new_ends ≡ ends ++ record { tx = a.tx; work = work; reply = None } ∷ [] → HasTaken (text ∷ []) live left answers new ends new_ends
-one_taken text list live left i a answers new ends new_ends work same distinct within is picked removed same_work pushed ended =
+pub one_taken : (text : List ℕ) (list live left : List Attached) (i : ℕ) (a : Attached) (answers new : List (Option GroupReply)) (ends new_ends : List GroupEnd) → list ≡ live → AreDistinct (map live_of live)
+    → i < length list → under text (map live_of list) ≡ Some (live_of (get_or list i a)) → a ≡ get_or live i a → left ≡ remove live i
+    → new ≡ answers ++ Some member.Worn ∷ [] → new_ends ≡ ends ++ member_of a ∷ [] → HasTaken (text ∷ []) live left answers new ends new_ends
+one_taken text list live left i a answers new ends new_ends same distinct within is picked removed pushed ended =
     let inside : i < length live = subst (λ (l : List Attached). i < length l) same within in
     let found : under text (map live_of live) ≡ Some (live_of a) =
     subst (λ (l : List Attached). under text (map live_of l) ≡ Some (live_of (get_or l i a))) same is ∙ ap (λ (b : Attached). Some (live_of b)) (sym picked) in
@@ -31,7 +31,7 @@ one_taken text list live left i a answers new ends new_ends work same distinct w
       live = ap (λ (l : List Attached). map live_of l) removed ∙ sym (without_at live i a distinct inside) ∙ ap (λ (b : Attached). without_found (map live_of live) (Some (live_of b))) (sym picked)
           ∙ ap (without_found (map live_of live)) (sym found);
       answers = pushed ∙ ap (λ (o : Option Live). answers ++ stand_in o ∷ []) (sym found);
-      ends = ended ∙ ap (λ (w : Doing). let m : GroupEnd = record { tx = a.tx; work = w; reply = None } in ends ++ m ∷ []) same_work;
+      ends = ended;
       members = ap (λ (o : Option Live). found_ones (o ∷ [])) (sym found);
       stay_sized = λ g all. subst (λ (l : List Attached). AllByRecursion (IsSized g) l) (sym removed) (all_remove (IsSized g) live i all);
       gone_sized = λ g all. (subst (λ (b : Attached). IsSized g b) (sym picked) (all_at (IsSized g) live i a all inside), tt);

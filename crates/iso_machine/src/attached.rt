@@ -72,6 +72,14 @@ fn walk_to_label(live: &[Attached], label: &Label) -> Option<usize>
 
 // Where in the list the transaction of that number is, where the numbers rise, as those of transactions that begin do.
 fn place_of_number(live: &[Attached], number: u64) -> usize {
+    let count = live.len();
+    // Mostly it began last of all, and of a group first.
+    if count > 0 && live[count - 1].tx == number {
+        return count - 1;
+    }
+    if count > 0 && number <= live[0].tx {
+        return 0;
+    }
     live.partition_point(|attached| attached.tx < number)
 }
 

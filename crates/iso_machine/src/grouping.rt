@@ -1,10 +1,11 @@
 // Transactions that end as a group.
-ghost use Rattle.std.specs.Prelude.{◌≡◌, ◌∷◌, [], OnOk, map};
+ghost use Rattle.std.specs.Prelude.{◌≡◌, ◌+◌, ◌<◌, ◌≤◌, ◌∷◌, ◌++◌, [], IsTrue, OnOk, length, map, take};
+ghost use Rattle.iso_model.specs.Geometry.{is_block_size};
 ghost use Rattle.script_model.specs.declared.script.Op.TheVariants.{Group};
 ghost use Rattle.script_model.specs.Operations.{IsOp};
 ghost use Rattle.script_model.specs.Step.{step};
 ghost use Rattle.iso_model.specs.World.{World};
-ghost use Rattle.iso_machine.specs.Grouping.{HasTaken, filled};
+ghost use Rattle.iso_machine.specs.Grouping.{HasTaken, filled, member_of};
 ghost use Rattle.iso_core.specs.Planned.{reply_in};
 ghost use Rattle.iso_machine.specs.Standing.{AreKnown, AreListed};
 
@@ -15,45 +16,86 @@ use crate::machine::Machine;
 use crate::refusing::refused;
 use iso_core::GroupEnd;
 use iso_disk::Disk;
-use iso_model::{CoreError, GroupReply, Label, LabelReplies, Memory};
+use iso_model::{CoreError, Geometry, GroupReply, Label, LabelReplies, Memory};
 use script_model::{Reply, Stop};
 use std::alloc::Global;
+use std::mem;
 use tx_table::Work;
 
 /// What was found under the labels so far. An answer stands for each label, which the group's reply takes the place of where a
-/// transaction was found.
+/// transaction was found; so many were found, and they are the first members.
 #[derive(Drop)]
 struct Taken {
     answers: Vec<Option<GroupReply>>,
-    ends: Vec<GroupEnd>,
+    count: usize,
 }
 
 /// Nothing was looked for yet.
 fn nothing_taken(alloc: Global, labels: usize) -> Taken
     ensures answers { result.answers.items ≡ [] }
-    ensures ends { result.ends.items ≡ [] }
+    ensures count { result.count ≡ 0 }
 {
     let mut answers = Vec::new(alloc);
-    let mut ends = Vec::new(alloc);
-    // Without memory for all of them the lists grow step by step.
+    // Without memory for all of them the list grows step by step.
     let _ = answers.reserve(labels);
-    let _ = ends.reserve(labels);
-    Taken { answers, ends }
+    Taken { answers, count: 0 }
+}
+
+/// Makes places for so many members.
+fn make_places(
+    alloc: Global,
+    ends: &mut Vec<GroupEnd>,
+    count: usize,
+    geometry: &Geometry,
+) -> Result<(), Memory>
+    requires { IsTrue (is_block_size geometry.now.block) }
+    ensures { OnOk result (count ≤ length ends.new.items) }
+{
+    while ends.len() < count {
+        ends.push(GroupEnd {
+            tx: 0,
+            work: Work::begin(alloc, 0, geometry),
+            reply: None,
+        })?;
+    }
+    Ok(())
+}
+
+/// Puts a transaction into the place of a member. Its work changes places with the one there, whose memory is spare.
+fn fill_place(place: &mut GroupEnd, spare: &mut Vec<Box<Work>>, gone: Attached)
+    ensures { place.new ≡ member_of gone }
+{
+    let mut work = gone.work;
+    place.tx = gone.tx;
+    place.reply = None;
+    mem::swap(&mut place.work, &mut *work);
+    keep_spare(spare, work);
+}
+
+/// Makes a transaction the member behind the first ones.
+fn add_member(ends: &mut [GroupEnd], count: usize, spare: &mut Vec<Box<Work>>, gone: Attached)
+    requires { count < length ends.old }
+    ensures { take (count + 1) ends.new ≡ take count ends.old ++ member_of gone ∷ [] }
+{
+    fill_place(&mut ends[count], spare, gone);
 }
 
 /// Takes the transaction under a label out of the live ones, if there is one. Without memory nothing is taken.
 fn take_member(
     finder: &mut Finder,
     live: &mut Vec<Attached>,
+    spare: &mut Vec<Box<Work>>,
     taken: &mut Taken,
+    ends: &mut [GroupEnd],
     label: &Label,
 ) -> Result<(), Memory>
-    requires { AreKnown finder.old live.old.items }
-    ensures taken { OnOk result (HasTaken (label.now ∷ []) live.old.items live.new.items taken.old.answers.items taken.new.answers.items taken.old.ends.items taken.new.ends.items) }
+    requires known { AreKnown finder.old live.old.items }
+    requires place { taken.old.count < length ends.old }
+    ensures taken { OnOk result (HasTaken (label.now ∷ []) live.old.items live.new.items taken.old.answers.items taken.new.answers.items (take taken.old.count ends.old) (take taken.new.count ends.new)) }
     ensures listed { OnOk result (AreListed finder.new live.new.items) }
+    ensures count { taken.new.count ≤ taken.old.count + 1 }
 {
     taken.answers.reserve(1)?;
-    taken.ends.reserve(1)?;
     let number = finder.take_label(label);
     let Some(i) = index_under_label(number, live, label) else {
         taken.answers.push_reserved(None);
@@ -61,11 +103,8 @@ fn take_member(
     };
     let gone = live.remove(i);
     taken.answers.push_reserved(Some(GroupReply::Worn));
-    taken.ends.push_reserved(GroupEnd {
-        tx: gone.tx,
-        work: Box::into_inner(gone.work),
-        reply: None,
-    });
+    add_member(ends, taken.count, spare, gone);
+    taken.count += 1;
     Ok(())
 }
 
@@ -73,18 +112,22 @@ fn take_member(
 fn take_members(
     finder: &mut Finder,
     live: &mut Vec<Attached>,
+    spare: &mut Vec<Box<Work>>,
     taken: &mut Taken,
+    ends: &mut [GroupEnd],
     labels: &[Label],
 ) -> Result<(), Memory>
-    requires { AreKnown finder.old live.old.items }
-    ensures taken { OnOk result (HasTaken labels.now live.old.items live.new.items taken.old.answers.items taken.new.answers.items taken.old.ends.items taken.new.ends.items) }
+    requires known { AreKnown finder.old live.old.items }
+    requires places { taken.old.count + length labels.now ≤ length ends.old }
+    ensures taken { OnOk result (HasTaken labels.now live.old.items live.new.items taken.old.answers.items taken.new.answers.items (take taken.old.count ends.old) (take taken.new.count ends.new)) }
     ensures listed { OnOk result (AreListed finder.new live.new.items) }
+    ensures count { taken.new.count ≤ taken.old.count + length labels.now }
 {
     let Some((first, others)) = labels.split_first() else {
         return Ok(());
     };
-    take_member(finder, live, taken, first)?;
-    take_members(finder, live, taken, others)
+    take_member(finder, live, spare, taken, ends, first)?;
+    take_members(finder, live, spare, taken, ends, others)
 }
 
 /// Puts the members' replies in the place of the answers that stand for them.
@@ -105,57 +148,47 @@ fn fill_answers(answers: &mut [Option<GroupReply>], ends: &[GroupEnd])
     fill_answers(others, rest)
 }
 
-/// Puts members that were not ended under their labels again, as far as there is memory.
-fn put_back(
-    alloc: Global,
-    finder: &mut Finder,
-    live: &mut Vec<Attached>,
-    taken: Taken,
-    labels: &[Label],
-) {
-    let Taken { answers, ends } = taken;
-    let mut members = ends.into_iter();
-    let mut rest = labels;
-    for answer in answers {
-        let Some((label, others)) = rest.split_first() else {
-            return;
-        };
-        rest = others;
-        if answer.is_some() {
-            put_member_back(alloc, finder, live, members.next(), label);
-        }
-    }
-}
-
-/// Keeps the memory of members that have ended for later transactions, as far as there is memory for that.
-fn keep_works(alloc: Global, spare: &mut Vec<Box<Work>>, ends: Vec<GroupEnd>) {
-    for end in ends {
-        let Ok(work) = Box::new(alloc, end.work) else {
-            return;
-        };
-        keep_spare(spare, work);
-    }
-}
-
+/// Puts a member that was not ended under its label again, as far as there is memory.
 fn put_member_back(
-    alloc: Global,
     finder: &mut Finder,
     live: &mut Vec<Attached>,
-    member: Option<GroupEnd>,
+    spare: &mut Vec<Box<Work>>,
+    member: &mut GroupEnd,
     label: &Label,
 ) {
-    let Some(member) = member else {
+    let Some(mut work) = spare.pop() else {
         return;
     };
-    let Ok(work) = Box::new(alloc, member.work) else {
-        return;
-    };
+    mem::swap(&mut member.work, &mut *work);
     let _ = finder.put_label(label, member.tx);
     let _ = live.push(Attached {
         tx: member.tx,
         spot: Spot::Label(label.copy()),
         work,
     });
+}
+
+/// Puts members that were not ended under their labels again, as far as there is memory.
+fn put_back(
+    finder: &mut Finder,
+    live: &mut Vec<Attached>,
+    spare: &mut Vec<Box<Work>>,
+    taken: Taken,
+    ends: &mut [GroupEnd],
+    labels: &[Label],
+) {
+    let mut at = 0;
+    let mut rest = labels;
+    for answer in taken.answers {
+        let Some((label, others)) = rest.split_first() else {
+            return;
+        };
+        rest = others;
+        if answer.is_some() && at < ends.len() {
+            put_member_back(finder, live, spare, &mut ends[at], label);
+            at += 1;
+        }
+    }
 }
 
 impl<D: Disk> Machine<D> {
@@ -171,25 +204,31 @@ impl<D: Disk> Machine<D> {
             → Answers Never (IsMachineOf D.state self.new) (D.state (disk_of (core_of self.old))) (D.state (disk_of (core_of self.new))) W (step W client (Group labels.now)) result }
     {
         let _ = client;
-        let mut taken = nothing_taken(self.alloc, labels.len());
-        if let Err(_) = take_members(&mut self.finder, &mut self.live, &mut taken, labels) {
-            put_back(self.alloc, &mut self.finder, &mut self.live, taken, labels);
+        let geometry = self.core.geometry();
+        if let Err(_) = make_places(self.alloc, &mut self.ends, labels.len(), &geometry) {
             return Err(Stop::Memory);
         }
-        if taken.ends.is_empty() {
+        let (finder, live, spare) = (&mut self.finder, &mut self.live, &mut self.spare);
+        let ends = self.ends.as_mut_slice();
+        let mut taken = nothing_taken(self.alloc, labels.len());
+        if let Err(_) = take_members(finder, live, spare, &mut taken, ends, labels) {
+            put_back(finder, live, spare, taken, ends, labels);
+            return Err(Stop::Memory);
+        }
+        if taken.count == 0 {
             return Ok(Reply::Grouped(LabelReplies::of(taken.answers)));
         }
-        match self.core.end_group(&mut taken.ends) {
+        let members = &mut ends[..taken.count];
+        match self.core.end_group(members) {
             Ok(()) => {}
             Err(CoreError::Memory) => {
-                put_back(self.alloc, &mut self.finder, &mut self.live, taken, labels);
+                put_back(finder, live, spare, taken, members, labels);
                 return Err(Stop::Memory);
             }
             Err(error) => return refused(error),
         }
-        let Taken { mut answers, ends } = taken;
-        fill_answers(&mut answers, &ends);
-        keep_works(self.alloc, &mut self.spare, ends);
+        let mut answers = taken.answers;
+        fill_answers(&mut answers, members);
         Ok(Reply::Grouped(LabelReplies::of(answers)))
     }
 }

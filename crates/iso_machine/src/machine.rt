@@ -6,7 +6,7 @@ ghost use Rattle.iso_model.specs.World.{World};
 use crate::attached::Attached;
 use crate::finder::Finder;
 use crate::leaving::abort_all;
-use iso_core::Core;
+use iso_core::{Core, GroupEnd};
 use iso_disk::Disk;
 use script_model::{Op, Reply, Stop};
 use script_runner::ScriptMachine;
@@ -22,6 +22,8 @@ pub struct Machine<D: Disk> {
     pub(crate) finder: Finder,
     // the memory of transactions that have left
     pub(crate) spare: Vec<Box<Work>>,
+    // places for the members of a group, which keep the memory of those that ended last
+    pub(crate) ends: Vec<GroupEnd>,
     // for the bytes of one block
     pub(crate) buffer: Vec<u8>,
 }
@@ -42,6 +44,7 @@ impl<D: Disk> Machine<D> {
             live: Vec::new(alloc),
             finder: Finder::empty(alloc),
             spare: Vec::new(alloc),
+            ends: Vec::new(alloc),
             buffer: Vec::new(alloc),
         }
     }

@@ -2,9 +2,9 @@
 pub use Rattle.std.proofs.Common.{Bool, Err, IsFalse, IsTrue, List, None, Ok, Option, Result, Some, [], ap, arith, bytes_eq, cond, drop, false, flat_map, get_or, get_or-set_other, get_or-set_same, inl, inr, is_ok, is_some, length, length-append, length-drop, length-set, ltb, map, min, nat_eq, nat_le, nat_lt, ne_eqb, refl, replicate, rules, set, slice_get, slice_index, subst, suc, sym, take, true, vec_capacity, vec_len, zero, ℕ, ◌&&◌, ◌++◌, ◌+◌, ◌-◌, ◌<◌, ◌==◌, ◌||◌, ◌∙◌, ◌∷◌, ◌≡◌, ◌≢◌, ◌≤◌, ◌⊎◌}
 pub use Rattle.std.proofs.Math.Bool.{or-false}
 pub use Rattle.std.proofs.Math.Nat.{min-eq_left}
-pub use Rattle.std.proofs.lemmas.Bool.{both_ways, cases_eq, cases_lt, cond-true, ltb-false, ltb-true}
+pub use Rattle.std.proofs.lemmas.Bool.{both_ways, cases_eq, cases_lt, ltb-false, ltb-true}
 pub use Rattle.std.proofs.lemmas.Grind.{common_steps}
-pub use Rattle.std.proofs.lemmas.List.{drop_more, get_or-drop, get_or_default, length-replicate, take-append-drop, take-map, take_all}
+pub use Rattle.std.proofs.lemmas.List.{get_or-drop, get_or_default, length-replicate, take-append-drop, take-map, take_all}
 pub use Rattle.std.proofs.lemmas.List.Elements.{All-append}
 pub use Rattle.std.proofs.lemmas.List.Folds.{list_any-append, list_any_more}
 pub use Rattle.std.proofs.lemmas.List.Sorted.{All-permutation, IsPartitionPoint-from_clause, IsPartitionedBy-ltb, list_any-IsPermutation}

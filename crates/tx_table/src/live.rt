@@ -95,6 +95,13 @@ impl Live {
         }
     }
 
+    /// Takes all out. The memory stays for those that come.
+    pub fn clear(&mut self)
+        ensures { self.new ≡ [] }
+    {
+        self.begins.clear();
+    }
+
     /// The begin of a transaction, and none exactly where it is not live. It takes no memory.
     pub fn at(&self, tx: u64) -> Option<u64>
         ensures { result ≡ begin_of tx self.now }
@@ -130,6 +137,20 @@ impl Live {
     }
 }
 
+// Whether no entry has a number below this one.
+fn is_first(entries: &[(u64, Begun)], tx: u64) -> bool
+    requires { RisesFrom 0 entries.now }
+    ensures { OnTrue result ((k : ℕ) → k < length entries.now → (d : ℕ × Begun) → tx ≤ (slice_index_or entries.now k d).0) }
+{
+    let Some((first, _)) = entries.split_first() else {
+        return true;
+    };
+    if first.0 < tx {
+        return false;
+    }
+    true
+}
+
 // The place of the first entry whose number is not below this one.
 fn place_from(entries: &[(u64, Begun)], tx: u64) -> usize
     requires { RisesFrom 0 entries.now }
@@ -137,6 +158,10 @@ fn place_from(entries: &[(u64, Begun)], tx: u64) -> usize
     ensures before { (k : ℕ) → k < result → (d : ℕ × Begun) → (slice_index_or entries.now k d).0 < tx }
     ensures after { (k : ℕ) → result ≤ k → k < length entries.now → (d : ℕ × Begun) → tx ≤ (slice_index_or entries.now k d).0 }
 {
+    // The one that began first is the one that most often leaves.
+    if is_first(entries, tx) {
+        return 0;
+    }
     entries.partition_point(|entry| entry.0 < tx)
 }
 

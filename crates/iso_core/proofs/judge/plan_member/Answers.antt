@@ -13,7 +13,7 @@ stage_if-requires c =
 pub returns-clause-ahead : goal.returns-clause-ahead
 returns-clause-ahead c W more t of is ready =
     subst (λ (r : GroupReply). IsAhead W (more ++ made_by t r) c.stage_if.new.plan) (c.in_ok-reply.ensures.answer W more t of is ready)
-    (c.in_ok-stage_if.ensures W more c.args.member.now.tx t (buffer_on c.args.kept.now W c.judge.new.kept of c.judge.ensures.same) is ready.settled (c.in_ok-reply.ensures.next W more t of is ready))
+    (c.in_ok-stage_if.ensures.ahead W more c.args.member.now.tx t (buffer_on c.args.kept.now W c.judge.new.kept of c.judge.ensures.same) is ready.settled (c.in_ok-reply.ensures.next W more t of is ready))
 
 pub returns-clause-replies : goal.returns-clause-replies
 returns-clause-replies c W more t of is ready =

@@ -30,15 +30,15 @@ add-requires-clause-number c =
     subst (λ (l : List Note). All (λ note. note.0 < c.last.result + c.len.result + 1) l) (sym c.reserve.ensures.same)
     (λ k d below. let low = numbers_before W.geometry (last W.history + 1) c.args.plan.now.notes.notes more is.notes k d below in omega (arith, low, all, later))
 
-pub returns : goal.returns
-returns c W more tx t of is settled next =
+pub returns-clause-ahead : goal.returns-clause-ahead
+returns-clause-ahead c W more tx t of is settled next =
     let all = number_ahead c.args.kept.now W more c.args.plan.now of is c.last.result c.len.result c.last.ensures (c.len.ensures ∙ c.args.plan.now.staged.ok.0) in
     staged_more c.args.kept.now W more c.args.plan.now of is tx t next _ _ _ _
     (c.in_ok-push_bytes.ensures ∙ ap (λ (l : List ℕ). c.args.plan.now.bytes.items ++ l) c.records_in.ensures)
     c.in_ok-push_staged.ensures
-    (c.add.ensures ∙ ap (λ (l : List Note). l ++ (c.last.result + c.len.result + 1, c.in_ok-writes.writes) ∷ []) c.reserve.ensures.same)
+    (c.add.ensures ∙ ap (λ (l : List Note). l ++ (c.last.result + c.len.result + 1, c.copy_from.new.self) ∷ []) c.reserve.ensures.same)
     (ap (λ (n : ℕ). n + 1) all)
     (c.len-at.ensures ∙ c.args.plan.now.bytes.ok.0)
     (c.len-2.ensures ∙ c.args.kept.now.parts.ok.0)
     (c.in_ok-push_parts.ensures ∙ ap (λ (l : List PartSpan). c.args.plan.now.parts.items ++ l) c.as_slice.ensures.value)
-    (touched_by W t c.args.work.now settled.is_work c.in_ok-writes.writes (subst (λ (l : Bytes). AreTouched c.args.work.now.size c.args.work.now.blocks Write c.args.work.now.accesses l) (sym c.in_ok-writes.ensures) c.writes.ensures))
+    (touched_by W t c.args.work.now settled.is_work c.copy_from.new.self (subst (λ (l : Bytes). AreTouched c.args.work.now.size c.args.work.now.blocks Write c.args.work.now.accesses l) (sym c.in_ok-copy_from.ensures) c.writes.ensures))

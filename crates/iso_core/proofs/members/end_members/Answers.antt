@@ -21,5 +21,5 @@ pub returns-in-Ok-clause-members : goal.returns-in-Ok-clause-members
 returns-in-Ok-clause-members g c =
     bare_replied c.put_replies.new.ends c.settle_members.new.ends c.put_replies.ensures.rest ∙ bare_settled c.settle_members.new.ends c.args.ends.now c.settle_members.ensures.same
 
-pub returns-clause-members : goal.returns-clause-members
-returns-clause-members g c = bare_settled c.settle_members.new.ends c.args.ends.now c.settle_members.ensures.same
+pub returns-in-Err-end_ready-clause-members : goal.returns-in-Err-end_ready-clause-members
+returns-in-Err-end_ready-clause-members g c = bare_settled c.settle_members.new.ends c.args.ends.now c.settle_members.ensures.same

@@ -1,24 +1,25 @@
-use Rattle.iso_core.proofs.Words.{◌∙◌, sym, ap, ◌+◌, ◌-◌, arith, subst, transport, List, half_of_world, MayTakeAll, PartSpan, HasRoom}
+use Rattle.iso_core.proofs.Words.{◌∙◌, ◌≤◌, ◌++◌, length, RisesFrom, sym, ap, ◌+◌, ◌-◌, arith, subst, transport, List, half_of_world, MayTakeAll, PartSpan, HasRoom}
+use Rattle.conflict_rule.specs.Notes.{Held}
 use Rattle.iso_core.proofs.Staging.{few_first, number_first, rising_notes, taken_in, takes_all}
 use Rattle.iso_core.proofs.taking.take_plan.Goals as goal
 
 pub overflow_sub-first : goal.overflow_sub-first
 overflow_sub-first c =
     let (W, more, grown) = c.requires in
-    let few = few_first W more c.args.plan c.args.kept.now c.args.gate grown c.len.result (c.len.ensures ∙ c.args.plan.staged.ok.0) in
+    let few = few_first W more c.args.plan.now c.args.kept.now c.args.gate grown c.len.result (c.len.ensures ∙ c.args.plan.now.staged.ok.0) in
     omega (arith, few, c.last.ensures)
 
 pub take_staged-requires-clause-follow : goal.take_staged-requires-clause-follow
 take_staged-requires-clause-follow c =
     let (W, more, grown) = c.requires in
-    let number = number_first W more c.args.plan c.args.kept.now c.args.gate grown (c.last.result - c.len.result + 1) c.len.result (c.len.ensures ∙ c.args.plan.staged.ok.0) (ap (λ n. n - c.len.result + 1) c.last.ensures) in (
+    let number = number_first W more c.args.plan.now c.args.kept.now c.args.gate grown (c.last.result - c.len.result + 1) c.len.result (c.len.ensures ∙ c.args.plan.now.staged.ok.0) (ap (λ n. n - c.len.result + 1) c.last.ensures) in (
       W.geometry,
       half_of_world W c.args.kept.now.half,
       W.trim,
       0,
       more,
       transport (λ i. MayTakeAll W.geometry (half_of_world W c.args.kept.now.half) W.trim 0 more (c.last.result - c.len.result + 1) c.args.gate (sym c.as_slice.ensures.value i) (sym c.as_slice-2.ensures.value i) c.args.kept.now.index)
-          (takes_all W more c.args.plan c.args.kept.now c.args.gate grown (c.last.result - c.len.result + 1) number),
+          (takes_all W more c.args.plan.now c.args.kept.now c.args.gate grown (c.last.result - c.len.result + 1) number),
     )
 
 pub take_staged-requires-clause-room : goal.take_staged-requires-clause-room
@@ -29,18 +30,18 @@ take_staged-requires-clause-room c =
 pub take_all-requires-clause-room : goal.take_all-requires-clause-room
 take_all-requires-clause-room c =
     let (W, more, grown) = c.requires in
-    grown.reserved.note_room
+    subst (λ (h : Held). length c.args.kept.now.notes.notes + length h.notes ≤ c.args.kept.now.notes.room) (sym c.replace-notes.ensures.value) grown.reserved.note_room
 
 pub take_all-requires-clause-rising : goal.take_all-requires-clause-rising
 take_all-requires-clause-rising c =
     let (W, more, grown) = c.requires in
-    rising_notes W more c.args.plan c.args.kept.now c.args.gate grown
+    subst (λ (h : Held). RisesFrom 0 (c.args.kept.now.notes.notes ++ h.notes)) (sym c.replace-notes.ensures.value) (rising_notes W more c.args.plan.now c.args.kept.now c.args.gate grown)
 
 pub returns-clause-taken : goal.returns-clause-taken
 returns-clause-taken c W more grown =
-    let number = number_first W more c.args.plan c.args.kept.now c.args.gate grown (c.last.result - c.len.result + 1) c.len.result (c.len.ensures ∙ c.args.plan.staged.ok.0) (ap (λ n. n - c.len.result + 1) c.last.ensures) in
-    taken_in W more c.args.plan c.args.kept.now c.args.gate grown c.take_staged.new.index c.take_all.new.self
+    let number = number_first W more c.args.plan.now c.args.kept.now c.args.gate grown (c.last.result - c.len.result + 1) c.len.result (c.len.ensures ∙ c.args.plan.now.staged.ok.0) (ap (λ n. n - c.len.result + 1) c.last.ensures) in
+    taken_in W more c.args.plan.now c.args.kept.now c.args.gate grown c.take_staged.new.index c.take_all.new.self
     (c.take_staged.ensures W.geometry (half_of_world W c.args.kept.now.half) W.trim 0 more
     (transport (λ i. MayTakeAll W.geometry (half_of_world W c.args.kept.now.half) W.trim 0 more (c.last.result - c.len.result + 1) c.args.gate (sym c.as_slice.ensures.value i) (sym c.as_slice-2.ensures.value i) c.args.kept.now.index)
-    (takes_all W more c.args.plan c.args.kept.now c.args.gate grown (c.last.result - c.len.result + 1) number)))
-    c.take_all.ensures
+    (takes_all W more c.args.plan.now c.args.kept.now c.args.gate grown (c.last.result - c.len.result + 1) number)))
+    (c.take_all.ensures ∙ ap (λ (h : Held). c.args.kept.now.notes.notes ++ h.notes) c.replace-notes.ensures.value)

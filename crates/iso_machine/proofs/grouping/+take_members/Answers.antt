@@ -1,26 +1,30 @@
-use Rattle.iso_machine.proofs.Words.{arith}
+use Rattle.iso_machine.proofs.Words.{arith, take}
 use Rattle.iso_machine.proofs.Taking.{nothing_taken, on_both, still_distinct}
 use Rattle.iso_machine.proofs.grouping.+take_members.Goals as goal
 
 pub returns-in_default-clause-taken : goal.returns-in_default-clause-taken
 returns-in_default-clause-taken t c =
-    nothing_taken c.args.labels.now c.args.live.now.items c.args.taken.now.answers.items c.args.taken.now.ends.items c.in_default.ensures.cases
+    nothing_taken c.args.labels.now c.args.live.now.items c.args.taken.now.answers.items (take c.args.taken.now.count c.args.ends.now) c.in_default.ensures.cases
 
 pub returns-in_default-clause-listed : goal.returns-in_default-clause-listed
-returns-in_default-clause-listed t c = c.requires.listed
+returns-in_default-clause-listed t c = c.requires.known.listed
 
 pub take_members-requires : goal.take_members-requires
-take_members-requires t c = (
-  (let shorter = c.in-Some.ensures.cases.1 in omega (arith, shorter, c.decreases)),
-  record {
-    listed = c.in_ok-take_member.ensures.listed;
-    distinct = still_distinct c.in-Some.first.now c.args.live.now.items c.take_member.new.live.items c.args.taken.now.answers.items c.take_member.new.taken.answers.items c.args.taken.now.ends.items
-        c.take_member.new.taken.ends.items c.requires.distinct c.in_ok-take_member.ensures.taken;
-  },
-)
+take_members-requires t c =
+    let shorter = c.in-Some.ensures.cases.1 in (
+      omega (arith, shorter, c.decreases),
+      (
+        record {
+          listed = c.in_ok-take_member.ensures.listed;
+          distinct = still_distinct c.in-Some.first.now c.args.live.now.items c.take_member.new.live.items c.args.taken.now.answers.items c.take_member.new.taken.answers.items
+              (take c.args.taken.now.count c.args.ends.now) (take c.take_member.new.taken.count c.take_member.new.ends) c.requires.known.distinct c.in_ok-take_member.ensures.taken;
+        },
+        omega (arith, shorter, c.requires.places, c.take_member.ensures.count, c.take_member.auto.ends),
+      ),
+    )
 
 pub returns-clause-taken : goal.returns-clause-taken
 returns-clause-taken t c =
     on_both c.take_members.result c.in-Some.first.now c.in-Some.others.now c.args.labels.now c.args.live.now.items c.take_member.new.live.items c.take_members.new.live.items c.args.taken.now.answers.items
-    c.take_member.new.taken.answers.items c.take_members.new.taken.answers.items c.args.taken.now.ends.items c.take_member.new.taken.ends.items c.take_members.new.taken.ends.items c.in-Some.ensures.cases.0
-    c.in_ok-take_member.ensures.taken c.take_members.ensures.taken
+    c.take_member.new.taken.answers.items c.take_members.new.taken.answers.items (take c.args.taken.now.count c.args.ends.now) (take c.take_member.new.taken.count c.take_member.new.ends)
+    (take c.take_members.new.taken.count c.take_members.new.ends) c.in-Some.ensures.cases.0 c.in_ok-take_member.ensures.taken c.take_members.ensures.taken

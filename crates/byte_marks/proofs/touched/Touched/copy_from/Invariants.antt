@@ -1,0 +1,6 @@
+-- The first entries are copied.
+use Rattle.std.proofs.Common.{◌≡◌, take}
+use Rattle.byte_marks.proofs.touched.Touched.copy_from.Given as goal
+
+abbrev pub invariant-loop-entry : goal.invariant-loop-entry
+invariant-loop-entry l = l.entries.items ≡ take l.entry-index l.entry-items
