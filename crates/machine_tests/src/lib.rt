@@ -10,6 +10,8 @@ mod handle_tests;
 #[cfg(test)]
 mod limit_tests;
 #[cfg(test)]
+mod range_tests;
+#[cfg(test)]
 mod session;
 #[cfg(test)]
 mod tests;

@@ -101,7 +101,12 @@ pub(crate) fn started(alloc: Global, mode: Mode) -> Result<Session, Memory>
 }
 
 /// Whether a new image answers a script so, all of it.
-fn answers(alloc: Global, mode: Mode, script: &[u8], replies: &[u8]) -> Result<bool, Memory> {
+pub(crate) fn answers(
+    alloc: Global,
+    mode: Mode,
+    script: &[u8],
+    replies: &[u8],
+) -> Result<bool, Memory> {
     let machine = made(alloc, mode)?;
     let ran = run_on(alloc, machine, script)?;
     Ok(ran.end == RunEnd::Done && ran.replies.as_slice() == replies)
