@@ -1,5 +1,5 @@
 -- A block that is read by the versions of a core is the block at the transaction's begin.
-use Rattle.iso_core.proofs.Words.{◌≡◌, ◌∙◌, ◌⊎◌, inl, inr, ap, ℕ, ◌+◌, ◌*◌, ◌<◌, ◌≤◌, List, length, arith, subst, AllByRecursion, IsHeld, half_of_world, world_bytes, Array, base_place, image_size, array_at, records, block_at, World, Live, used, Version, Lies, ShowTheSame, upto, versions_in, IsOver, array_of, fetched, last_of, newest, all_lie, Kept, IsTx, IsOf}
+use Rattle.iso_core.proofs.Words.{◌≡◌, ◌∙◌, ◌⊎◌, inl, inr, ap, ℕ, ◌+◌, ◌*◌, ◌<◌, ◌≤◌, List, length, arith, subst, AllByRecursion, IsHeld, half_of_world, world_bytes, Array, base_place, image_size, array_at, records, block_at, World, Live, used, Version, Lies, ShowTheSame, ShowTheSameIn, upto, versions_in, IsOver, IsOverIn, Option, get_or, take, drop, refl, unwrap_or, length-whole_block, range_is_over, whole_block, whole_is_over, array_of, fetched, last_of, newest, all_lie, Kept, IsTx, IsOf}
 use Rattle.iso_core.proofs.Commits.{held_records}
 use Rattle.iso_core.proofs.Leaves.{has_begun}
 use Rattle.iso_core.proofs.Numbers.{log_last}
@@ -34,3 +34,22 @@ module _ (kept : Kept) (W : World) (of : IsOf kept W) where
             ∙ ap (λ (A : Array). block_at A b) (array_of W.geometry kept.half W.generation W.base n W.history of.world.history of.world.since from)
             ∙ ap (λ (k : ℕ). block_at (array_at W.history k) b) begin
       ]
+
+  -- bytes of it that are read so
+  module _ (t : Live) (tx b n off len : ℕ) (versions : List Version) (image block : List ℕ) (here : IsTx W tx t) (begin : n ≡ t.begin) (held : IsHeld W.geometry (half_of_world W kept.half) image) (below : b < W.geometry.blocks)
+      (fits : off + len ≤ W.geometry.block) (inside : off + len ≤ length block) (over : IsOverIn off (off + len) image (base_place W.geometry kept.half + b * W.geometry.block) versions block) where
+    range_by : (shown : List Version) → (shown ≡ upto n (versions_in kept.index b)) ⊎ ((n ≡ kept.log.last) × ShowTheSame shown (versions_in kept.index b)) → ShowTheSameIn off (off + len) versions shown
+        → take len (drop off block) ≡ take len (drop off (block_at (array_at W.history t.begin) b))
+    range_by shown chosen same =
+        let base : ℕ = base_place W.geometry kept.half + b * W.geometry.block in
+        let size : ℕ = W.geometry.block in
+        range_is_over image base size shown off len block fits inside (λ p from to. over p from to ∙ ap (λ (o : Option ℕ). unwrap_or o (get_or image (base + p) 0)) (same image p from to))
+        ∙ ap (λ (l : List ℕ). take len (drop off l))
+        (block_is t tx b n shown image (whole_block image base size shown) here begin held below (length-whole_block image base size shown) chosen (whole_is_over image base size shown))
+
+    pub range_is : (versions ≡ upto n (versions_in kept.index b)) ⊎ ((n ≡ kept.log.last) × ShowTheSameIn off (off + len) versions (versions_in kept.index b))
+        → take len (drop off block) ≡ take len (drop off (block_at (array_at W.history t.begin) b))
+    range_is chosen = elim chosen [
+      | inl same ↦ range_by versions (inl same) (λ c p from to. refl)
+      | inr shows ↦ range_by (versions_in kept.index b) (inr (shows.0, λ c p. refl)) shows.1
+    ]

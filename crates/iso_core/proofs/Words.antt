@@ -1,10 +1,11 @@
 -- The words that the proofs of this crate cite from elsewhere.
-pub use Rattle.std.proofs.Common.{Bool, Err, IfErr, IfOk, IsPermutation, IsSome, IsTrue, List, None, Ok, OnOk, Option, Result, Some, [], ap, append-nil, arith, cond, drop, eq-eqb, false, flat_map, inl, inr, length, length-drop, length-take-le, map, min, nat_eq, nat_lt, ne_eqb, not, refl, rules, slice_index_or, subst, suc, sum_by, sym, take, true, zero, ℕ, ◌&&◌, ◌*◌, ◌++◌, ◌+◌, ◌-◌, ◌<◌, ◌==◌, ◌^◌, ◌∙◌, ◌∷◌, ◌≡◌, ◌≢◌, ◌≤◌, ◌⊎◌}
+pub use Rattle.std.proofs.Common.{Bool, Err, IfErr, IfOk, IsPermutation, IsSome, IsTrue, List, None, Ok, OnOk, Option, Result, Some, [], ap, append-nil, arith, cond, drop, eq-eqb, false, flat_map, get_or, inl, inr, length, length-drop, length-take-le, map, min, nat_eq, nat_lt, ne_eqb, not, refl, rules, slice_index_or, subst, suc, sum_by, sym, take, true, zero, ℕ, ◌&&◌, ◌*◌, ◌++◌, ◌+◌, ◌-◌, ◌<◌, ◌==◌, ◌^◌, ◌∙◌, ◌∷◌, ◌≡◌, ◌≢◌, ◌≤◌, ◌⊎◌}
 pub use Rattle.std.proofs.Math.Path.{transport}
 pub use Rattle.std.proofs.lemmas.Bool.{cases_eq, cases_lt, le-leb, le-ltb, lt-leb, lt-ltb}
 pub use Rattle.std.proofs.lemmas.List.{append_assoc, drop-append-le, drop-map, drop-take, drop_all, length-append, length-map, length_push, map-append, take-append-drop, take-append-le, take_all}
 pub use Rattle.std.proofs.lemmas.List.Sorted.{IsNonDecreasingBy-from_sort_by_key, sum_by-IsPermutation}
 pub use Rattle.std.proofs.lemmas.List.Sums.{sum_by-append, sum_by-cons}
+pub use Rattle.std.proofs.lemmas.Result.{on_ok_weaker}
 pub use Rattle.std.specs.List.{All, AllByRecursion}
 pub use Rattle.std.specs.Map.{lookup, remove_entry}
 pub use Rattle.std.specs.Prelude.{unwrap_or}
@@ -38,6 +39,7 @@ pub use Rattle.iso_model.proofs.Groups.{group_is, nothing_ahead, stays_ahead}
 pub use Rattle.iso_model.proofs.Growth.{all_push, all_weaker}
 pub use Rattle.iso_model.proofs.Maximal.{are_runs}
 pub use Rattle.iso_model.proofs.Opened.{length-records, sum_by-map}
+pub use Rattle.iso_model.proofs.Recorded.{array_shape}
 pub use Rattle.iso_model.proofs.Worlds.{begins, commit_is_record, commits, floor_between, leaves, may_have, switch_leads, trim_leads}
 pub use Rattle.iso_model.proofs.Written.{runs_where_write}
 pub use Rattle.iso_model.specs.Array.{Array}
@@ -76,7 +78,7 @@ pub use Rattle.mv_index.proofs.Counts.{count_is}
 pub use Rattle.mv_index.proofs.Sublists.{all_at}
 pub use Rattle.mv_index.specs.Moves.{AreSplit, moved_to}
 pub use Rattle.mv_index.specs.Placed.{IsIndexOf, versions_of}
-pub use Rattle.mv_index.specs.Shown.{AllLie, Lies, ShowTheSame}
+pub use Rattle.mv_index.specs.Shown.{AllLie, Lies, ShowTheSame, ShowTheSameIn}
 pub use Rattle.mv_index.specs.Versions.{BlockVersions, count_of, no_version, shown_since, upto, versions_in}
 pub use Rattle.mv_index.specs.Weights.{bytes_above}
 pub use Rattle.mv_index.specs.declared.version.Version.{Version}
@@ -87,8 +89,9 @@ pub use Rattle.version_read.proofs.Above.{records_above}
 pub use Rattle.version_read.proofs.Fetched.{array_of, fetched, last_of, newest}
 pub use Rattle.version_read.proofs.Following.{index_more, index_moved, index_split}
 pub use Rattle.version_read.proofs.Lying.{all_lie, all_upto}
+pub use Rattle.version_read.proofs.Ranges.{at_range, length-whole_block, range_is_over, same_range, whole_block, whole_is_over, whole_range}
 pub use Rattle.version_read.proofs.Taking.{may_take, parts_below, parts_few, parts_rise}
-pub use Rattle.version_read.specs.Blocks.{IsOver}
+pub use Rattle.version_read.specs.Blocks.{IsOver, IsOverIn}
 pub use Rattle.version_read.specs.Parts.{BlocksRise, HasRoom, HasTaken, MayTake, no_part, part_of, parts_in}
 pub use Rattle.version_read.specs.declared.part_span.PartSpan.{PartSpan}
 pub use Rattle.iso_core.specs.Calls.{IsAmong, IsCheckedOf, IsTx, IsWorkOf, Refuses, reply_of}

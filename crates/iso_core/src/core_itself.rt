@@ -1,5 +1,5 @@
 // The core itself.
-ghost use Rattle.std.specs.Prelude.{◌≡◌, ◌≢◌, ◌⊎◌, ℕ, ◌+◌, ◌-◌, ◌<◌, ◌≤◌, List, [], ◌∷◌, Some, Ok, Err, OnOk, OnErr, IfOk, IfErr, IsErrOf, length, map};
+ghost use Rattle.std.specs.Prelude.{◌≡◌, ◌≢◌, ◌⊎◌, ℕ, ◌+◌, ◌-◌, ◌<◌, ◌≤◌, List, [], ◌∷◌, Some, Ok, Err, OnOk, OnErr, IfOk, IfErr, IsErrOf, drop, length, map, take};
 ghost use Rattle.iso_model.specs.declared.access.Commit.{Commit};
 ghost use Rattle.iso_model.specs.declared.limits.TheConstants.{LAST};
 ghost use Rattle.iso_model.specs.History.{last};
@@ -114,10 +114,35 @@ impl<D: Disk> Core<D> {
         ensures unwritten { WritesNothing (D.state (disk_of self.old)) (D.state (disk_of self.new)) }
         ensures cause { BlamesDisk (D.state (disk_of self.old)).faults (D.state (disk_of self.new)).faults result }
     {
+        let len = into.len();
+        self.fetch_range(tx, block, 0, len, into)
+    }
+
+    /// Reads `len` bytes of a block from `off` on, as they stood when the transaction began, into their place in a slice as
+    /// long as the block, whose other bytes are any. It takes no memory. On a fault any bytes may be in the slice, and all
+    /// else stays.
+    pub fn fetch_range(
+        &mut self,
+        tx: u64,
+        block: u32,
+        off: usize,
+        len: usize,
+        into: &mut [u8],
+    ) -> Result<(), CoreError>
+        requires stands { (W : World) × (standing : Standing) × (t : Live) × StandsFor D.state self.old W standing × IsTx W tx t × (block < W.geometry.blocks) × (length into.old ≡ W.geometry.block) }
+        requires fits { off + len ≤ length into.old }
+        ensures range { (W : World) (t : Live) → StandsFor D.state self.old W up → IsTx W tx t → OnOk result (ForSome (D.state (disk_of self.old)).contents
+            (λ _. take len (drop off into.new) ≡ take len (drop off (block_at (array_at W.history t.begin) block)))) }
+        ensures same { (W : World) (standing : Standing) → StandsFor D.state self.old W standing → StandsFor D.state self.new W standing }
+        ensures down { (W : World) (lost : List Commit) → StandsFor D.state self.old W (down lost) → (result ≡ Err CoreError.Down) × (self.new ≡ self.old) }
+        ensures disk { (W : World) → StandsFor D.state self.old W up → IfErr result (λ e. e ≡ CoreError.Disk) }
+        ensures unwritten { WritesNothing (D.state (disk_of self.old)) (D.state (disk_of self.new)) }
+        ensures cause { BlamesDisk (D.state (disk_of self.old)).faults (D.state (disk_of self.new)).faults result }
+    {
         if self.kept.down {
             return Err(CoreError::Down);
         }
-        match fetch(&self.kept, &mut self.disk, tx, block, into) {
+        match fetch(&self.kept, &mut self.disk, tx, block, off, len, into) {
             Ok(()) => Ok(()),
             Err(_) => Err(CoreError::Disk),
         }

@@ -1,5 +1,5 @@
-// A block as a transaction is shown it.
-ghost use Rattle.std.specs.Prelude.{◌≡◌, ◌⊎◌, ◌+◌, ◌*◌, ◌<◌, ◌≤◌, ℕ, List, OnOk, length};
+// Bytes of a block as a transaction is shown them.
+ghost use Rattle.std.specs.Prelude.{◌≡◌, ◌⊎◌, ◌+◌, ◌*◌, ◌<◌, ◌≤◌, ℕ, List, OnOk, drop, length, take};
 ghost use Rattle.std.specs.List.{AllByRecursion};
 ghost use Rattle.std.specs.Option.{ForSome};
 ghost use Rattle.fault_count.specs.Count.{HasCause};
@@ -8,9 +8,9 @@ ghost use Rattle.iso_model.specs.Geometry.{image_size};
 ghost use Rattle.iso_model.specs.History.{array_at, last};
 ghost use Rattle.iso_model.specs.Premises.{block_at};
 ghost use Rattle.iso_model.specs.World.{World, Live};
-ghost use Rattle.mv_index.specs.Shown.{AllLie, Lies, ShowTheSame};
+ghost use Rattle.mv_index.specs.Shown.{AllLie, Lies, ShowTheSameIn};
 ghost use Rattle.mv_index.specs.Versions.{upto, versions_in};
-ghost use Rattle.version_read.specs.Blocks.{IsOver};
+ghost use Rattle.version_read.specs.Blocks.{IsOverIn};
 ghost use Rattle.iso_core.specs.Calls.{IsTx};
 ghost use Rattle.iso_core.specs.Core.{AreOf};
 ghost use Rattle.iso_core.specs.Kept.{IsOf};
@@ -37,53 +37,72 @@ fn versions_upto<L: Ledger>(blank: Blank, index: &MvIndex, block: u32, at: u64) 
     index.find(block, at, &mut steps)
 }
 
-/// The versions that a block is read by at a number: those that show at the last commit, or all up to an earlier one.
-fn versions_at(index: &MvIndex, block: u32, at: u64, last: u64) -> &[Version]
-    requires { block < length index.now }
-    ensures chosen { (result.now ≡ upto at (versions_in index.now block)) ⊎ ((at ≡ last) × ShowTheSame result.now (versions_in index.now block)) }
+/// The versions that the bytes of a block from one up to another are read by at a number: those that show there at the last
+/// commit, or all up to an earlier one.
+fn versions_at(
+    index: &MvIndex,
+    block: u32,
+    at: u64,
+    last: u64,
+    from: usize,
+    to: usize,
+) -> &[Version]
+    requires block { block < length index.now }
+    requires rise { from ≤ to }
+    requires within { to ≤ 4096 }
+    ensures chosen { (result.now ≡ upto at (versions_in index.now block)) ⊎ ((at ≡ last) × ShowTheSameIn from to result.now (versions_in index.now block)) }
     ensures lie { (size area : ℕ) → AllByRecursion (Lies size area) (versions_in index.now block) → AllLie size area result.now }
 {
     if at == last {
-        index.showing(block)
+        index.showing_in(block, from as u16, to as u16)
     } else {
         versions_upto::<Brand>(Blank::new(1), index, block, at)
     }
 }
 
-/// Reads a block by these versions. Those that show at the last commit hide nothing of each other.
+/// Reads the bytes of a block from one up to another by these versions. Those that show at the last commit hide nothing of
+/// each other; by others the whole block is read.
 fn read_by<D: Disk>(
     disk: &mut D,
     base: u64,
     versions: &[Version],
     show_at_last: bool,
+    from: usize,
+    to: usize,
     into: &mut [u8],
 ) -> Result<(), DiskFault>
+    requires rise { from ≤ to }
+    requires range { to ≤ length into.old }
     requires size { length into.old ≤ 4096 }
     requires base { base + length into.old ≤ (D.state disk.old).size }
     requires versions { AllLie (length into.old) (D.state disk.old).size versions.now }
-    ensures bytes { OnOk result (ForSome (D.state disk.old).contents (λ c. IsOver c base versions.now into.new)) }
+    ensures bytes { OnOk result (ForSome (D.state disk.old).contents (λ c. IsOverIn from to c base versions.now into.new)) }
     ensures unwritten { WritesNothing (D.state disk.old) (D.state disk.new) }
     ensures cause { HasCause (D.state disk.old).faults (D.state disk.new).faults result }
 {
     if show_at_last {
-        read_pieces(disk, base, versions, into)?;
+        read_pieces(disk, base, versions, from, to, into)?;
     } else {
         read_block(disk, base, versions, into)?;
     }
     Ok(())
 }
 
-/// Reads a block as it stood when a transaction began. It takes no memory, and on a fault any bytes may be in the slice.
+/// Reads `len` bytes of a block from `off` on, as they stood when a transaction began, into their place in a slice as long as
+/// the block. It takes no memory, and on a fault any bytes may be in the slice.
 pub(crate) fn fetch<D: Disk>(
     kept: &Kept,
     disk: &mut D,
     tx: u64,
     block: u32,
+    off: usize,
+    len: usize,
     into: &mut [u8],
 ) -> Result<(), DiskFault>
-    requires { (W : World) × (t : Live) × AreOf (D.state disk.old) kept.now W up × IsTx W tx t × (block < W.geometry.blocks) × (length into.old ≡ W.geometry.block) }
-    ensures block { (W : World) (t : Live) → AreOf (D.state disk.old) kept.now W up → IsTx W tx t → block < W.geometry.blocks → length into.old ≡ W.geometry.block
-        → OnOk result (ForSome (D.state disk.old).contents (λ _. into.new ≡ block_at (array_at W.history t.begin) block)) }
+    requires stands { (W : World) × (t : Live) × AreOf (D.state disk.old) kept.now W up × IsTx W tx t × (block < W.geometry.blocks) × (length into.old ≡ W.geometry.block) }
+    requires fits { off + len ≤ length into.old }
+    ensures range { (W : World) (t : Live) → AreOf (D.state disk.old) kept.now W up → IsTx W tx t → block < W.geometry.blocks → length into.old ≡ W.geometry.block
+        → OnOk result (ForSome (D.state disk.old).contents (λ _. take len (drop off into.new) ≡ take len (drop off (block_at (array_at W.history t.begin) block)))) }
     ensures unwritten { WritesNothing (D.state disk.old) (D.state disk.new) }
     ensures cause { HasCause (D.state disk.old).faults (D.state disk.new).faults result }
 {
@@ -91,7 +110,8 @@ pub(crate) fn fetch<D: Disk>(
     let at = kept.live.at(tx).unwrap_or(last);
     let place = half_place(&kept.geometry, kept.half);
     let base = place.base + u64::from(block) * u64::from(kept.geometry.block);
-    let versions = versions_at(&kept.index, block, at, last);
-    read_by(disk, base, versions, at == last, into)?;
+    let to = off + len;
+    let versions = versions_at(&kept.index, block, at, last, off, to);
+    read_by(disk, base, versions, at == last, off, to, into)?;
     Ok(())
 }

@@ -15,3 +15,4 @@ pub mod Groups
 pub mod Taking
 pub mod Ended
 pub mod Whereabouts
+pub mod Ranges

@@ -3,14 +3,15 @@ pub use Rattle.std.proofs.Common.{Bool, Err, IfErr, IfOk, OnErr, OnOk, IsErrOf, 
 pub use Rattle.std.proofs.Math.Seq.{take-append_seam}
 pub use Rattle.std.proofs.lemmas.Bool.{and_parts, both_ways, cases_Bool, cases_eq, eqb-true, false≢true}
 pub use Rattle.std.proofs.lemmas.Bool.Decides.{nat_tests}
-pub use Rattle.std.proofs.lemmas.List.{drop-take, get_or_default, map-append, map_push, set-get_or, with_items_is}
+pub use Rattle.std.proofs.lemmas.List.{drop-take, get_or-replicate, get_or_default, map-append, map_push, set-get_or, with_items_is}
 pub use Rattle.std.proofs.lemmas.Slice.Eq.{bytes_eq-Decides}
 pub use Rattle.std.specs.List.{AllByRecursion, remove}
-pub use Rattle.std.specs.Option.{MatchOption}
+pub use Rattle.std.specs.Option.{ForSome, MatchOption}
 pub use Rattle.conflict_rule.specs.Decision.{up_to}
 pub use Rattle.core_blocks.proofs.Arrays.{array_shown, guest_begins}
 pub use Rattle.core_blocks.specs.Guests.{Counts, IsSameWork, Seen, tx_of}
 pub use Rattle.core_blocks.specs.Shown.{array_in, array_told}
+pub use Rattle.iso_core.proofs.Words.{at_range, same_range, whole_range}
 pub use Rattle.iso_core.proofs.Standings.{stands_on}
 pub use Rattle.iso_core.proofs.Transactions.{among, kept_floor}
 pub use Rattle.iso_core.specs.Calls.{IsAmong, IsCheckedOf, IsTx, IsWorkOf, Refuses, Writes, refusal_of, reply_of}
@@ -24,15 +25,19 @@ pub use Rattle.iso_core.specs.declared.group_end.GroupEnd.{GroupEnd}
 pub use Rattle.iso_core.specs.declared.group_end.TheConstants.{MAX_GROUP}
 pub use Rattle.iso_disk.proofs.Moments.{started, stays, weakened}
 pub use Rattle.iso_disk.specs.Disk.{DiskState, IsLawful, LeavesOnly, StaysTold, WritesNothing}
+pub use Rattle.iso_model.proofs.Bytes.{length-block_access, length-block_own, other_block, written_block}
 pub use Rattle.iso_model.proofs.Distinct.{all_filter, all_find, distinct_filter, same_number}
 pub use Rattle.iso_model.proofs.Groups.{decided_live, group_is}
 pub use Rattle.iso_model.proofs.Growth.{all_push, all_weaker}
 pub use Rattle.iso_model.proofs.Marked.{marked_last}
+pub use Rattle.iso_model.proofs.Recorded.{array_shape}
 pub use Rattle.iso_model.proofs.Worlds.{accesses_are, live_at}
+pub use Rattle.iso_model.specs.Array.{Array, byte_at, covered, merged}
+unfoldable pub use Rattle.iso_model.specs.Array.{put}
 pub use Rattle.iso_model.specs.Between.{ShowsEither, ShowsLast}
 pub use Rattle.iso_model.specs.Conflict.{clash_from, first_after}
 unfoldable pub use Rattle.iso_model.specs.Conflict.{clash}
-pub use Rattle.iso_model.specs.Effect.{has_write, own}
+pub use Rattle.iso_model.specs.Effect.{has_write, is_write, own}
 pub use Rattle.iso_model.specs.Geometry.{is_block_size, is_serial, same_mode}
 unfoldable pub use Rattle.iso_model.specs.Geometry.{is_valid}
 pub use Rattle.iso_model.specs.Group.{after_look, ahead, decided, found_ones, group, label_replies, leave_all, looks, made_by, member_reply}
@@ -41,6 +46,7 @@ pub use Rattle.iso_model.specs.History.{History, array_at, last}
 pub use Rattle.iso_model.specs.Image.{Shows}
 pub use Rattle.iso_model.specs.Labels.{is_label, key_of}
 pub use Rattle.iso_model.specs.Marks.{is_outside, mark_fault, marked, marks_fault}
+pub use Rattle.iso_model.specs.Premises.{block_at}
 pub use Rattle.iso_model.specs.Step.{after_begin, after_commit, after_leaving, after_switch, after_trim, get_access, mode_named, need, placed, put_access, read_access, shown_to, with_accesses, with_live, write_access}
 unfoldable pub use Rattle.iso_model.specs.Step.{begin_step, commit_step, end_step, switch_step}
 pub use Rattle.iso_model.specs.World.{Live, Place, World, attached, client, floor, floor_of, held, is_at_client, is_under_label, label, unattached, used, with, without}

@@ -20,12 +20,15 @@ use script_model::{Reply, Stop};
 use std::alloc::Global;
 use tx_table::Work;
 
-/// Reads a block as the transaction is shown it. On a fault any bytes may be in the slice, and all else stays.
+/// Reads `len` bytes of a block from `off` on, as the transaction is shown them, into their place in a slice as long as the
+/// block. On a fault any bytes may be in the slice, and all else stays.
 fn read_into<D: Disk>(
     core: &mut Core<D>,
     tx: u64,
     work: &mut Work,
     block: u32,
+    off: usize,
+    len: usize,
     into: &mut [u8],
 ) -> Result<(), DiskFault>
     requires stands { (W : World) × (t : Live) × StandsFor D.state core.old W up × IsTx W tx t × IsWorkOf W t work.old }
@@ -33,8 +36,9 @@ fn read_into<D: Disk>(
     requires block { block < work.old.blocks }
     requires room { length work.old.accesses < 4096 }
     requires bytes { length into.old ≡ work.old.size }
+    requires fits { off + len ≤ length into.old }
     ensures shown { (W : World) (t : Live) → StandsFor D.state core.old W up → IsTx W tx t → IsWorkOf W t work.old
-        → OnOk result (IfTold (D.state (disk_of core.old)) (into.new ≡ shown_to W t block)) }
+        → OnOk result (IfTold (D.state (disk_of core.old)) (take len (drop off into.new) ≡ take len (drop off (shown_to W t block)))) }
     ensures work { OnOk result (work.new ≡ record work.old { accesses = work.old.accesses ++ read_access block ∷ []; ready = None; settled = false }) }
     ensures kept { OnErr result (work.new ≡ record work.old { ready = work.new.ready }) }
     ensures same { (W : World) → StandsFor D.state core.old W up → StandsFor D.state core.new W up }
@@ -42,7 +46,7 @@ fn read_into<D: Disk>(
     ensures unwritten { WritesNothing (D.state (disk_of core.old)) (D.state (disk_of core.new)) }
     ensures cause { HasCause (D.state (disk_of core.old)).faults (D.state (disk_of core.new)).faults result }
 {
-    match core.fetch(tx, block, into) {
+    match core.fetch_range(tx, block, off, len, into) {
         Ok(()) => {
             work.read(block, into);
             Ok(())
@@ -102,13 +106,14 @@ pub(crate) fn read<D: Disk>(
     if let Err(_) = work.reserve(block) {
         return Err(Stop::Memory);
     }
-    match read_into(core, tx, work, block, &mut bytes) {
+    let size = bytes.len();
+    match read_into(core, tx, work, block, 0, size, &mut bytes) {
         Ok(()) => Ok(Reply::Shown(Bytes::of(bytes))),
         Err(_) => Err(Stop::Disk),
     }
 }
 
-/// A read of `len` bytes at `off`, with one mark over them. The block is read into the buffer.
+/// A read of `len` bytes at `off`, with one mark over them. They are read into their place in the buffer.
 pub(crate) fn get<D: Disk>(
     alloc: Global,
     core: &mut Core<D>,
@@ -141,7 +146,7 @@ pub(crate) fn get<D: Disk>(
     if let Err(_) = work.reserve(block) {
         return Err(Stop::Memory);
     }
-    if let Err(_) = read_into(core, tx, work, block, buffer) {
+    if let Err(_) = read_into(core, tx, work, block, off as usize, len as usize, buffer) {
         return Err(Stop::Disk);
     }
     mark_within(work, off, len);

@@ -9,6 +9,13 @@ at_page at = omega (arith, mod-add-div at 4096)
 pub held_in : (numbers : List (Option ℕ)) (at len done : ℕ) → done < len → HoldsRange numbers at len → IsHeld numbers ((at + done) / 4096)
 held_in numbers at len done within range = range (at + done) (omega arith) (omega (arith, within))
 
+-- where a range lies in one page, it is held with that page
+pub held_page : (numbers : List (Option ℕ)) (at len : ℕ) → at % 4096 + len ≤ 4096 → IsHeld numbers (at / 4096) → HoldsRange numbers at len
+held_page numbers at len inside here place from to =
+    let below : place % 4096 < 4096 = mod-lt place (omega arith) in
+    let same : at / 4096 ≡ place / 4096 = omega (arith, at_page at, at_page place, below, inside, from, to) in
+    subst (IsHeld numbers) same here
+
 -- two pages near each other have two places
 apart : (p q : ℕ) → p < q → q ≤ p + 2000 → p % 2048 ≡ q % 2048 → ⊥
 apart p q less near same = omega (arith, mod-add-div p 2048, mod-add-div q 2048, less, near, same)

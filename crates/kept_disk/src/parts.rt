@@ -1,5 +1,5 @@
 // Reads and writes, one page at a time.
-ghost use Rattle.std.specs.Prelude.{◌≡◌, ◌+◌, ◌*◌, ◌/◌, ◌%◌, ◌^◌, ◌<◌, ◌≤◌, ℕ, List, length, take, drop, OnOk, IfOk, IsOk, slice_get};
+ghost use Rattle.std.specs.Prelude.{◌≡◌, ◌+◌, ◌*◌, ◌/◌, ◌%◌, ◌^◌, ◌<◌, ◌≤◌, ℕ, List, length, take, drop, OnOk, IfOk, IsOk, slice_get, true};
 ghost use Rattle.std.specs.Option.{ForSome};
 ghost use Rattle.iso_disk.specs.Disk.{Elapses, spliced};
 ghost use Rattle.fault_count.specs.Count.{HasCause};
@@ -25,6 +25,9 @@ pub(crate) fn read_parts<D: Disk>(
     ensures held { HoldsRange pages.old.numbers.items at (length into.old) → (IsOk result) × (disk.new ≡ disk.old) }
     ensures holds { OnOk result (2048 ≤ length pages.old.numbers.items → length into.old ≤ 65536 → HoldsRange pages.new.numbers.items at (length into.old)) }
 {
+    if is_in_one_page(at, into.len()) {
+        return read_part(disk, pages, at, into);
+    }
     let mut done = 0;
     while done < into.len() {
         let place = at + done as u64;
@@ -33,6 +36,13 @@ pub(crate) fn read_parts<D: Disk>(
         done += count;
     }
     Ok(())
+}
+
+// Whether so many bytes from a place on, at least one, lie in one page.
+fn is_in_one_page(at: u64, len: usize) -> bool
+    ensures { result ≡ true → (0 < len) × (at % 4096 + len ≤ 4096) }
+{
+    len != 0 && len <= PAGE - at as usize % PAGE
 }
 
 // How many of so many bytes from a place on lie in the page of that place.

@@ -10,4 +10,6 @@ mod handle_tests;
 #[cfg(test)]
 mod limit_tests;
 #[cfg(test)]
+mod range_tests;
+#[cfg(test)]
 mod tests;

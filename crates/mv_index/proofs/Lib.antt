@@ -10,6 +10,7 @@ pub mod Hiding
 pub mod Laid
 pub mod Layers
 pub mod Masks
+pub mod Meetings
 pub mod Movings
 pub mod Moves
 pub mod Showing

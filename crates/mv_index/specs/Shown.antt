@@ -17,6 +17,15 @@ byte_in image (v ∷ versions) p = or_else (byte_in image versions p) (byte_of i
 abbrev pub ShowTheSame : List Version → List Version → Type 0
 ShowTheSame xs ys = (image : List ℕ) (p : ℕ) → byte_in image xs p ≡ byte_in image ys p
 
+-- so of the bytes from one of the block up to another
+abbrev pub ShowTheSameIn : (from to : ℕ) → List Version → List Version → Type 0
+ShowTheSameIn from to xs ys = (image : List ℕ) (p : ℕ) → from ≤ p → p < to → byte_in image xs p ≡ byte_in image ys p
+
+-- each has a byte from one of the block up to another
+abbrev pub AllMeet : (from to : ℕ) → List Version → Type 0
+AllMeet from to versions =
+    (i : ℕ) → i < length versions → ((slice_index_or versions i no_version).off < to) × (from < (slice_index_or versions i no_version).off + (slice_index_or versions i no_version).len)
+
 -- the last of the versions that has the byte at p
 abbrev pub newest_with : List Version → ℕ → Option Version
 newest_with [] p = None

@@ -2,10 +2,11 @@
 ghost use Rattle.std.specs.Prelude.{◌≡◌, ◌≢◌, ◌+◌, ◌-◌, ◌*◌, ◌^◌, ◌<◌, ◌≤◌, [], ℕ, IfOk, IsOk, OnOk, count_by, length, slice_index_or};
 ghost use Rattle.mv_index.specs.Moves.{AreSplit, moved_to};
 ghost use Rattle.mv_index.specs.Pieces.{Follow};
-ghost use Rattle.mv_index.specs.Shown.{AllLie, ShowTheSame};
+ghost use Rattle.mv_index.specs.Shown.{AllLie, AllMeet, ShowTheSame, ShowTheSameIn};
 ghost use Rattle.mv_index.specs.Versions.{AreAtMost, IsAdded, Rise, block_of, count_of, has, no_version, room_of, shown_since, upto, versions_in};
 ghost use Rattle.mv_index.specs.Weights.{bytes_above};
 
+use crate::pieces::meeting;
 use crate::row::Row;
 use crate::{Ledger, Steps, Version};
 use iso_model::Memory;
@@ -68,6 +69,17 @@ impl MvIndex {
         ensures within { (size area : ℕ) → AllLie size area (versions_in self.now block) → AllLie size area result.now }
     {
         self.rows[block as usize].showing()
+    }
+
+    /// Those of the pieces that have a byte of the block from `from` up to `to`, in order, found by two searches by halves.
+    pub fn showing_in(&self, block: u32, from: u16, to: u16) -> &[Version]
+        requires block { block < length self.now }
+        requires rise { from ≤ to }
+        ensures same { ShowTheSameIn from to result.now (versions_in self.now block) }
+        ensures meet { AllMeet from to result.now }
+        ensures within { (size area : ℕ) → AllLie size area (versions_in self.now block) → AllLie size area result.now }
+    {
+        meeting(self.showing(block), from, to)
     }
 
     /// Makes room for so many more versions of the block.

@@ -3,6 +3,7 @@ ghost use Rattle.std.specs.Prelude.{◌≡◌, ◌+◌, ◌-◌, ◌^◌, ◌<�
 ghost use Rattle.std.specs.List.{insert};
 ghost use Rattle.mv_index.specs.declared.version.Version.{Version};
 ghost use Rattle.mv_index.specs.Pieces.{ArePieces, ArePlaced, Follow, back_of, backs, begun, ended, front_of, fronts};
+ghost use Rattle.mv_index.specs.Shown.{AllLie, AllMeet, ShowTheSameIn};
 ghost use Rattle.mv_index.specs.Versions.{no_version};
 
 use crate::Version;
@@ -52,6 +53,20 @@ fn end_before(pieces: &[Version], byte: u16) -> usize
     ensures above { (k : ℕ) → result ≤ k → k < length pieces.now → byte < (slice_index_or pieces.now k no_version).off + (slice_index_or pieces.now k no_version).len }
 {
     pieces.partition_point(|piece| u32::from(piece.off) + u32::from(piece.len) <= u32::from(byte))
+}
+
+/// Those of the pieces that have a byte from one of the block up to another.
+pub(crate) fn meeting(pieces: &[Version], from: u16, to: u16) -> &[Version]
+    requires order { Follow 0 pieces.now }
+    requires rise { from ≤ to }
+    ensures same { ShowTheSameIn from to result.now pieces.now }
+    ensures meet { AllMeet from to result.now }
+    ensures within { (size area : ℕ) → AllLie size area pieces.now → AllLie size area result.now }
+{
+    let first = end_before(pieces, from);
+    let last = begin_before(pieces, to);
+    prove!(first <= last);
+    &pieces[first..last]
 }
 
 /// How many pieces begin before the bytes from one of the block up to another, and how many have none behind them. At most

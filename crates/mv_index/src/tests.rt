@@ -74,6 +74,16 @@ impl OneBlock {
         self.found_by::<Brand>(Blank::new(1), at)
     }
 
+    // How many pieces have a byte of the block from one up to another, and the first bytes of the first and the last of them.
+    fn met(&self, rt: &impl Abort, from: u16, to: u16) -> (usize, u16, u16) {
+        assert!(rt; from <= to);
+        match self.index.showing_in(0, from, to) {
+            [] => (0, 0, 0),
+            [one] => (1, one.off, one.off),
+            [first, between @ .., last] => (between.len() + 2, first.off, last.off),
+        }
+    }
+
     // Where the byte stands by the pieces. It is in one of them at most.
     fn shown(&self, rt: &impl Abort, at: u16) -> Option<u64> {
         let mut place = None;
@@ -218,6 +228,28 @@ fn a_version_takes_the_place_of_pieces(rt: HostRuntime) -> Result<(), Fail> {
     for (piece, (off, len, place)) in block.index.showing(0).iter().zip(offs) {
         assert_eq!(rt; (piece.off, piece.len, piece.place), (off, len, place));
     }
+    Ok(())
+}
+
+#[test]
+fn a_range_is_met_by_the_pieces_with_a_byte_in_it(rt: HostRuntime) -> Result<(), Fail> {
+    let block = filled(
+        &rt,
+        rt.alloc(),
+        &[
+            (1, 100, 4, 2),
+            (2, 110, 8, 2),
+            (3, 120, 12, 2),
+            (4, 130, 16, 2),
+        ],
+    )?;
+    assert_eq!(rt; block.met(&rt, 0, 64), (4, 4, 16));
+    assert_eq!(rt; block.met(&rt, 5, 17), (4, 4, 16));
+    assert_eq!(rt; block.met(&rt, 6, 16), (2, 8, 12));
+    assert_eq!(rt; block.met(&rt, 9, 10), (1, 8, 8));
+    assert_eq!(rt; block.met(&rt, 10, 12), (0, 0, 0));
+    assert_eq!(rt; block.met(&rt, 0, 4), (0, 0, 0));
+    assert_eq!(rt; block.met(&rt, 18, 64), (0, 0, 0));
     Ok(())
 }
 

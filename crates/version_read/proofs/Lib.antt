@@ -8,6 +8,7 @@ pub mod Following
 pub mod Layings
 pub mod Lying
 pub mod Overlays
+pub mod Ranges
 pub mod Records
 pub mod Rooms
 pub mod Stands

@@ -12,17 +12,17 @@ module _ (image old : List ℕ) (place off len : ℕ) (fits : off + len ≤ leng
   middle : length (slice_range image place (place + len)) ≡ len
   middle = omega (arith, length-take (place + len - place) (drop place image), length-drop place image)
 
-  before : (p : ℕ) → p < off → get_or (with_part image place off len old) p 0 ≡ get_or old p 0
+  pub before : (p : ℕ) → p < off → get_or (with_part image place off len old) p 0 ≡ get_or old p 0
   before p lt = get_or_append_left (take off old) (slice_range image place (place + len) ++ drop len (drop off old)) 0 p (omega (arith, front)) ∙ get_or-take off old p 0 lt
 
-  within : (p : ℕ) → off ≤ p → p < off + len → get_or (with_part image place off len old) p 0 ≡ get_or image (place + (p - off)) 0
+  pub within : (p : ℕ) → off ≤ p → p < off + len → get_or (with_part image place off len old) p 0 ≡ get_or image (place + (p - off)) 0
   within p from to =
       get_or-append_right (take off old) (slice_range image place (place + len) ++ drop len (drop off old)) off p 0 front from
       ∙ get_or_append_left (slice_range image place (place + len)) (drop len (drop off old)) 0 (p - off) (omega (arith, middle))
       ∙ get_or-take (place + len - place) (drop place image) (p - off) 0 (omega arith)
       ∙ get_or-drop place image (p - off) 0
 
-  behind : (p : ℕ) → off + len ≤ p → get_or (with_part image place off len old) p 0 ≡ get_or old p 0
+  pub behind : (p : ℕ) → off + len ≤ p → get_or (with_part image place off len old) p 0 ≡ get_or old p 0
   behind p from =
       let e : off + (len + (p - off - len)) ≡ p = omega arith in
       get_or-append_right (take off old) (slice_range image place (place + len) ++ drop len (drop off old)) off p 0 front (omega arith)

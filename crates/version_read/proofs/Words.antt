@@ -1,9 +1,10 @@
 -- The words that the proofs of this crate cite from elsewhere.
-pub use Rattle.std.proofs.Common.{Bool, IsTrue, List, None, Option, Some, [], ap, append_assoc, arith, cond, count_by, drop, false, flat_map, get_or, inl, inr, length, length-append, length-drop, length-take, map, nat_le, nat_lt, not, refl, replicate, subst, suc, sum_by, sym, take, true, unwrap_or, w64, zero, ℕ, ◌%◌, ◌&&◌, ◌*◌, ◌++◌, ◌+◌, ◌-◌, ◌/◌, ◌<◌, ◌==◌, ◌^◌, ◌||◌, ◌∙◌, ◌∷◌, ◌≡◌, ◌≢◌, ◌≤◌, ◌⊎◌}
+pub use Rattle.std.proofs.Common.{Bool, IsTrue, List, None, Option, Some, [], ap, append_assoc, arith, cond, count_by, drop, false, flat_map, get_or, inl, inr, length, length-append, length-drop, length-take, map, max, min, nat_le, nat_lt, not, refl, replicate, subst, suc, sum_by, sym, take, true, unwrap_or, w64, zero, ℕ, ◌%◌, ◌&&◌, ◌*◌, ◌++◌, ◌+◌, ◌-◌, ◌/◌, ◌<◌, ◌==◌, ◌^◌, ◌||◌, ◌∙◌, ◌∷◌, ◌≡◌, ◌≢◌, ◌≤◌, ◌⊎◌}
 pub use Rattle.std.proofs.Math.Nat.{mul-le-mul_right}
 pub use Rattle.std.proofs.lemmas.Bool.{and_parts, cases_eq, cases_lt, eq-eqb, le-leb, leb-false, leb-true, lt-leb, ltb-false, ltb-true, ne_eqb}
 pub use Rattle.std.proofs.lemmas.List.{append-nil, drop_all, drop_more, ext_get_or, get_or-append_right, get_or-drop, get_or-take, get_or_append_left, get_or_past, length-map, length-take-le, map-append, take-append-drop, take_all, take_more}
 pub use Rattle.std.proofs.lemmas.List.Elements.{filter-append}
+pub use Rattle.std.proofs.lemmas.List.FromFn.{get_or-map-range_with_len, length-map-range_with_len}
 pub use Rattle.std.proofs.lemmas.List.Sums.{count_by_more_no, count_by_more_yes, sum_by-append, sum_by-cons, sum_by-take-le}
 pub use Rattle.std.proofs.lemmas.Nat.{shr-shr, shr_le}
 pub use Rattle.std.proofs.lemmas.Nat.Bits.{bit_at-lt, bit_at-trailing_zeros, bit_at-zero, bit_at_above, bit_at_not}
@@ -45,7 +46,7 @@ pub use Rattle.mv_index.specs.Shown.{Lies, ShowTheSame, byte_in, byte_of}
 pub use Rattle.mv_index.specs.Versions.{AreAtMost, BlockVersions, IsAdded, block_of, count_of, has, in_bytes, no_version, no_versions, room_of, shown_since, still_shows, upto, versions_in}
 pub use Rattle.mv_index.specs.Weights.{bytes_above, part_bytes_above}
 pub use Rattle.mv_index.specs.declared.version.Version.{Version}
-pub use Rattle.version_read.specs.Blocks.{IsLaid, IsOver}
+pub use Rattle.version_read.specs.Blocks.{IsLaidIn, IsOver, IsOverIn}
 pub use Rattle.version_read.specs.Fills.{IsFilled}
 pub use Rattle.version_read.specs.Parts.{BlocksRise, HasRoom, HasTaken, IsPart, MayTake, no_part, part_of, part_versions, parts_in, parts_length}
 pub use Rattle.version_read.specs.declared.part_span.PartSpan.{PartSpan}

@@ -1,13 +1,13 @@
 // A block, read by its versions.
-ghost use Rattle.std.specs.Prelude.{◌≡◌, ◌+◌, ◌-◌, ◌*◌, ◌<◌, ◌≤◌, ◌++◌, ◌||◌, ℕ, IfOk, OnOk, count_by, drop, length, not, slice_index_or, take, true};
+ghost use Rattle.std.specs.Prelude.{◌≡◌, ◌+◌, ◌-◌, ◌*◌, ◌<◌, ◌≤◌, ◌++◌, ◌||◌, ℕ, IfOk, OnOk, [], ◌∷◌, count_by, drop, length, not, slice_index_or, take, true};
 ghost use Rattle.std.specs.List.{range_with_len, slice_range};
 ghost use Rattle.std.specs.Option.{ForSome};
 ghost use Rattle.iso_disk.specs.Disk.{WritesNothing};
 ghost use Rattle.fault_count.specs.Count.{HasCause};
 ghost use Rattle.mv_index.specs.Masks.{is_seen};
-ghost use Rattle.mv_index.specs.Shown.{AllLie};
+ghost use Rattle.mv_index.specs.Shown.{AllLie, Lies};
 ghost use Rattle.mv_index.specs.Versions.{in_bytes, no_version};
-ghost use Rattle.version_read.specs.Blocks.{IsLaid, IsOver};
+ghost use Rattle.version_read.specs.Blocks.{IsLaidIn, IsOver, IsOverIn};
 ghost use Rattle.version_read.specs.Fills.{IsFilled};
 
 use crate::mask::next_byte;
@@ -81,57 +81,90 @@ fn fill<D: Disk>(
     Ok(count)
 }
 
-/// Reads the bytes of each version into their place in a block, from the oldest version on, one read each.
-fn lay_over<D: Disk>(disk: &mut D, versions: &[Version], into: &mut [u8]) -> Result<(), DiskFault>
-    requires { AllLie (length into.old) (D.state disk.old).size versions.now }
-    ensures bytes { OnOk result (ForSome (D.state disk.old).contents (λ c. IsLaid c versions.now into.old into.new)) }
+/// Reads those bytes of a version that are from one of the block up to another, into their place in it.
+fn lay_one<D: Disk>(
+    disk: &mut D,
+    version: &Version,
+    from: usize,
+    to: usize,
+    into: &mut [u8],
+) -> Result<(), DiskFault>
+    requires range { to ≤ length into.old }
+    requires version { Lies (length into.old) (D.state disk.old).size version.now }
+    ensures bytes { OnOk result (ForSome (D.state disk.old).contents (λ c. IsLaidIn from to c (version.now ∷ []) into.old into.new)) }
+    ensures unwritten { WritesNothing (D.state disk.old) (D.state disk.new) }
+    ensures cause { HasCause (D.state disk.old).faults (D.state disk.new).faults result }
+{
+    let off = version.off as usize;
+    let first = from.max(off);
+    let last = to.min(off + version.len as usize);
+    if first >= last {
+        return Ok(());
+    }
+    let place = version.place + (first - off) as u64;
+    read_part(disk, place, first, last - first, into)?;
+    Ok(())
+}
+
+/// Does so with each version, from the oldest on, one read each.
+fn lay_over<D: Disk>(
+    disk: &mut D,
+    versions: &[Version],
+    from: usize,
+    to: usize,
+    into: &mut [u8],
+) -> Result<(), DiskFault>
+    requires range { to ≤ length into.old }
+    requires versions { AllLie (length into.old) (D.state disk.old).size versions.now }
+    ensures bytes { OnOk result (ForSome (D.state disk.old).contents (λ c. IsLaidIn from to c versions.now into.old into.new)) }
     ensures unwritten { WritesNothing (D.state disk.old) (D.state disk.new) }
     ensures cause { HasCause (D.state disk.old).faults (D.state disk.new).faults result }
 {
     for version in versions {
-        read_part(
-            disk,
-            version.place,
-            version.off as usize,
-            version.len as usize,
-            into,
-        )?;
+        lay_one(disk, version, from, to, into)?;
     }
     Ok(())
 }
 
-/// Whether the first of the versions has all bytes of a block of this size.
-fn is_whole(versions: &[Version], size: usize) -> bool
-    ensures { result ≡ true → (0 < length versions.now) × (size ≤ (slice_index_or versions.now 0 no_version).len) }
+/// Whether the first of the versions has all bytes of a block from one up to another.
+fn is_whole(versions: &[Version], from: usize, to: usize) -> bool
+    ensures { result ≡ true → (0 < length versions.now) × ((slice_index_or versions.now 0 no_version).off ≤ from) × (to ≤ (slice_index_or versions.now 0 no_version).off + (slice_index_or versions.now 0 no_version).len) }
 {
     match versions.first() {
-        Some(version) => version.len as usize >= size,
+        Some(version) => {
+            let off = version.off as usize;
+            off <= from && to <= off + version.len as usize
+        }
         None => false,
     }
 }
 
-/// Reads a block, whose base bytes stand at a place, with its versions over them: the base bytes, and then each version
-/// from the oldest on, one read each. So it is meant for few versions that hide nothing of each other; where the first one
-/// has the whole block, the base bytes are not read. It takes no memory and writes nothing. On an error any bytes may be in
-/// the slice.
+/// Reads the bytes of a block from one up to another, whose base bytes stand at a place, with its versions over them: the base
+/// bytes, and then what each version has of the range, from the oldest on, one read each. So it is meant for few versions that
+/// hide nothing of each other; where the first one has the whole range, the base bytes are not read. The slice is as long as
+/// the block, and its other bytes stay. It takes no memory and writes nothing. On an error any bytes may be in the slice.
 pub fn read_pieces<D: Disk>(
     disk: &mut D,
     base: u64,
     versions: &[Version],
+    from: usize,
+    to: usize,
     into: &mut [u8],
 ) -> Result<(), DiskFault>
+    requires order { from ≤ to }
+    requires range { to ≤ length into.old }
     requires base { base + length into.old ≤ (D.state disk.old).size }
     requires versions { AllLie (length into.old) (D.state disk.old).size versions.now }
-    ensures bytes { OnOk result (ForSome (D.state disk.old).contents (λ c. IsOver c base versions.now into.new)) }
+    ensures bytes { OnOk result (ForSome (D.state disk.old).contents (λ c. IsOverIn from to c base versions.now into.new)) }
     ensures unwritten { WritesNothing (D.state disk.old) (D.state disk.new) }
     ensures cause { HasCause (D.state disk.old).faults (D.state disk.new).faults result }
 {
-    if is_whole(versions, into.len()) {
-        lay_over(disk, versions, into)?;
+    if is_whole(versions, from, to) {
+        lay_over(disk, versions, from, to, into)?;
         return Ok(());
     }
-    disk.read(base, into)?;
-    lay_over(disk, versions, into)?;
+    read_part(disk, base + from as u64, from, to - from, into)?;
+    lay_over(disk, versions, from, to, into)?;
     Ok(())
 }
 

@@ -60,6 +60,24 @@ fn read(disk: &mut MemDisk, versions: &[Version]) -> Result<[u8; 64], DiskFault>
     Ok(block)
 }
 
+// Bytes from one of that block up to another, among bytes 255.
+fn read_range(
+    disk: &mut MemDisk,
+    versions: &[Version],
+    from: usize,
+    to: usize,
+) -> Result<[u8; 64], DiskFault>
+    requires { (state_of disk.old).size ≡ 512 }
+    ensures { (state_of disk.new).size ≡ (state_of disk.old).size }
+{
+    let mut block = [255; 64];
+    if !lie(versions) || from > to || to > 64 {
+        return Err(DiskFault);
+    }
+    read_pieces(disk, 64, versions, from, to, &mut block)?;
+    Ok(block)
+}
+
 fn version(place: u64, off: u16, len: u16) -> Version {
     Version {
         number: 1,
@@ -93,6 +111,32 @@ fn a_whole_version_is_one_read(rt: HostRuntime) -> Result<(), Fail> {
     let base = read(&mut disk, &[])?;
     assert_eq!(rt; (base[0], base[63]), (64, 127));
     assert_eq!(rt; disk.calls(), 2);
+    Ok(())
+}
+
+#[test]
+fn a_range_is_its_base_and_what_pieces_have_of_it(rt: HostRuntime) -> Result<(), Fail> {
+    let mut disk = disk(rt.alloc())?;
+    let pieces = [
+        version(100, 0, 10),
+        version(200, 12, 4),
+        version(300, 20, 10),
+    ];
+    let block = read_range(&mut disk, &pieces, 5, 22)?;
+    let range = [
+        255, 105, 106, 107, 108, 109, 74, 75, 200, 201, 202, 203, 80, 81, 82, 83, 49, 50, 255,
+    ];
+    for (at, byte) in range.iter().enumerate() {
+        assert_eq!(rt; block.get(4 + at), Some(byte), "{at}");
+    }
+    assert_eq!(rt; disk.calls(), 4);
+    // one piece has all of it
+    let part = read_range(&mut disk, &pieces[2..], 21, 25)?;
+    assert_eq!(rt;
+        (part[20], part[21], part[24], part[25]),
+        (255, 50, 53, 255)
+    );
+    assert_eq!(rt; disk.calls(), 5);
     Ok(())
 }
 

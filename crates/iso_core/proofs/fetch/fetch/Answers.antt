@@ -1,29 +1,35 @@
-use Rattle.iso_core.proofs.Words.{◌≡◌, ◌∙◌, inl, inr, sym, ap, subst, ℕ, ◌+◌, ◌*◌, Option, arith, transport, unwrap_or, HalfPlace, Geometry, base_place, image_size, limits, AllLie, IsOver}
-use Rattle.iso_core.proofs.Fetches.{block_is, versions_lie}
+use Rattle.iso_core.proofs.Words.{◌≡◌, ◌∙◌, inl, inr, sym, ap, subst, ℕ, ◌+◌, ◌*◌, Option, arith, transport, unwrap_or, HalfPlace, Geometry, base_place, image_size, limits, AllLie, IsOverIn}
+use Rattle.iso_core.proofs.Fetches.{range_is, versions_lie}
 use Rattle.iso_core.proofs.Leaves.{begins_at}
 use Rattle.iso_core.proofs.fetch.fetch.Goals as goal
 
+pub versions_at-versions-requires-clause-within : goal.versions_at-versions-requires-clause-within
+versions_at-versions-requires-clause-within g c =
+    let (W, t, of, here, below, long) = c.requires.stands in
+    let most = (limits W.geometry of.kept_of.world.valid).largest_block in
+    omega (arith, long, most, c.requires.fits)
+
 pub read_by-requires-clause-size : goal.read_by-requires-clause-size
 read_by-requires-clause-size g c =
-    let (W, t, of, here, below, long) = c.requires in
+    let (W, t, of, here, below, long) = c.requires.stands in
     let most = (limits W.geometry of.kept_of.world.valid).largest_block in
     omega (arith, long, most)
 
 pub read_by-requires-clause-versions : goal.read_by-requires-clause-versions
 read_by-requires-clause-versions g c =
-    let (W, t, of, here, below, long) = c.requires in
+    let (W, t, of, here, below, long) = c.requires.stands in
     transport (λ i. AllLie (sym long i) (sym of.size i) c.versions_at-versions.result.now)
     (c.versions_at-versions.ensures.lie W.geometry.block (image_size W.geometry) (versions_lie c.args.kept.now W of.kept_of c.args.block))
 
-pub returns-clause-block : goal.returns-clause-block
-returns-clause-block g c W t of here below long = λ image told.
+pub returns-clause-range : goal.returns-clause-range
+returns-clause-range g c W t of here below long = λ image told.
     let kept = c.args.kept.now in
     let begin = c.unwrap_or-at.ensures ∙ ap (λ (o : Option ℕ). unwrap_or o c.last-last.result) (c.at.ensures ∙ begins_at kept W c.args.tx t of.kept_of here) in
     let place : c.half_place-place.result.base ≡ base_place W.geometry kept.half = ap (λ (p : HalfPlace). p.base) c.half_place-place.ensures ∙ ap (λ (h : Geometry). base_place h kept.half) of.kept_of.keeps.geometry in
     let size = ap (λ (h : Geometry). h.block) of.kept_of.keeps.geometry in
     let base : c.half_place-place.result.base + c.from.result * c.from-2.result ≡ base_place W.geometry kept.half + c.args.block * W.geometry.block =
     λ i. place i + c.from.ensures i * (c.from-2.ensures ∙ size) i in
-    block_is kept W of.kept_of t c.args.tx c.args.block c.unwrap_or-at.result c.versions_at-versions.result.now image c.read_by.new.into here begin
-    (of.images.each image ((g.met.D.Disk.lawful c.args.disk.now).reads_as_image image told)) below (c.read_by.auto.into ∙ long)
+    range_is kept W of.kept_of t c.args.tx c.args.block c.unwrap_or-at.result c.args.off c.args.len c.versions_at-versions.result.now image c.read_by.new.into here begin
+    (of.images.each image ((g.met.D.Disk.lawful c.args.disk.now).reads_as_image image told)) below (omega (arith, c.requires.fits, long)) (omega (arith, c.requires.fits, c.read_by.auto.into))
+    (subst (λ (n : ℕ). IsOverIn c.args.off (c.args.off + c.args.len) image n c.versions_at-versions.result.now c.read_by.new.into) base (c.in_ok-read_by.ensures.bytes image told))
     (elim c.versions_at-versions.ensures.chosen [ inl same ↦ inl same | inr shows ↦ inr (shows.0 ∙ c.last-last.ensures, shows.1) ])
-    (subst (λ (n : ℕ). IsOver image n c.versions_at-versions.result.now c.read_by.new.into) base (c.in_ok-read_by.ensures.bytes image told))

@@ -3,7 +3,7 @@ use Rattle.iso_core.proofs.fetch.versions_at.Goals as goal
 
 pub returns-then-at-last-clause-lie : goal.returns-then-at-last-clause-lie
 returns-then-at-last-clause-lie c size area all =
-    c.showing.ensures.within size area (all_at (Lies size area) no_version (versions_in c.args.index.now c.args.block) all)
+    c.showing_in.ensures.within size area (all_at (Lies size area) no_version (versions_in c.args.index.now c.args.block) all)
 
 pub returns-else-at-last-clause-lie : goal.returns-else-at-last-clause-lie
 returns-else-at-last-clause-lie c size area all =

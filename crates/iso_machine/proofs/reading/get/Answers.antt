@@ -37,11 +37,11 @@ returns-clause-given g c W t of tx active =
     shown_bytes (g.D.Disk.state (disk_of c.args.core.now)) W t (get_step W t c.args.block c.args.off c.args.len) c.of.result shown (with_access W t access) c.mark_within.new.work
     (get_is W t c.args.block c.args.off c.args.len ∙ step_is W t old active c.args.block (is_outside W.geometry.block c.args.off c.args.len) (reply.Shown shown) access right may.0 may.2)
     (λ told.
-    let whole : c.deref.result.now ≡ shown_to W t c.args.block =
+    let front : c.deref.result.now ≡ c.read_into.new.into =
     c.deref.ensures.value ∙ take_front c.fit.new.buffer.len c.read_into.new.into (drop (length c.read_into.new.into) c.fit.new.buffer.items)
-    (omega (arith, c.read_into.ensures.length, ap (λ (l : List ℕ). length l) c.deref_mut.ensures.value, c.fit.new.buffer.ok.0))
-    ∙ c.in_default-read_into.ensures.shown W t of tx (still_work W t old c.reserve.new.self (Some c.args.block) c.in_default-reserve.ensures.ok active.is_work) told in
-    c.of.ensures ∙ c.copy_from.ensures ∙ (λ i. take (c.in-Ok.ensures i) (drop c.args.off (whole i))))
+    (omega (arith, c.read_into.ensures.length, ap (λ (l : List ℕ). length l) c.deref_mut.ensures.value, c.fit.new.buffer.ok.0)) in
+    c.of.ensures ∙ c.copy_from.ensures ∙ (λ i. take (c.in-Ok.ensures i) (drop c.args.off (front i)))
+    ∙ c.in_default-read_into.ensures.shown W t of tx (still_work W t old c.reserve.new.self (Some c.args.block) c.in_default-reserve.ensures.ok active.is_work) told)
     (one_more W t old active access c.mark_within.new.work None false
     (c.mark_within.ensures ∙ ap marks made
     ∙ ap (λ (l : List Access). record old { accesses = l; ready = None; settled = false }) (marked_last span old.accesses (read_access c.args.block))))

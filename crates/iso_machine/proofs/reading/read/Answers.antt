@@ -1,6 +1,7 @@
-use Rattle.iso_machine.proofs.Words.{arith, ℕ, List, drop, length, ◌∙◌, refl, ap, ◌++◌, ◌∷◌, [], None, Some, false, read_access, shown_to, read_step, with_access, disk_of, Doing}
+use Rattle.iso_machine.proofs.Words.{arith, ℕ, List, drop, length, ◌∙◌, ◌≡◌, sym, whole_range, refl, ap, ◌++◌, ◌∷◌, [], None, Some, false, read_access, shown_to, read_step, with_access, disk_of, Doing}
 use Rattle.script_model.specs.declared.script.Reply.TheVariants as reply
 use Rattle.iso_machine.proofs.Accesses.{one_more, read_is, shown_bytes, shown_given, step_is, step_refused, still_work, take_front}
+use Rattle.iso_machine.proofs.Ranges.{length-shown}
 use Rattle.iso_machine.proofs.reading.read.Goals as goal
 
 pub returns-in-Some-clause-given : goal.returns-in-Some-clause-given
@@ -14,7 +15,13 @@ returns-in-Ok-read_into-clause-given g c W t of tx active =
     let may = c.in_default.ensures.allowed refl in
     shown_bytes (g.D.Disk.state (disk_of c.args.core.now)) W t (read_step W t c.args.block) c.of.result (shown_to W t c.args.block) (with_access W t (read_access c.args.block)) c.read_into.new.work
     (read_is W t c.args.block ∙ step_is W t c.args.work.now active c.args.block false (reply.Shown (shown_to W t c.args.block)) (read_access c.args.block) refl may.0 may.2)
-    (λ told. c.of.ensures ∙ take_front c.in-Ok.bytes.len c.read_into.new.into (drop (length c.read_into.new.into) c.in-Ok.bytes.items)
-    (omega (arith, c.read_into.ensures.length, ap (λ (l : List ℕ). length l) c.deref_mut.ensures.value, c.in-Ok.bytes.ok.0)) ∙ c.in-Ok-read_into.ensures.shown W t of tx (still_work W t c.args.work.now c.reserve.new.self (Some c.args.block) c.in_default-reserve.ensures.ok active.is_work) told)
+    (λ told.
+    let n : ℕ = c.len-size.result in
+    let size : n ≡ W.geometry.block = omega (arith, c.len-size.ensures, c.in-Ok.bytes.ok.0, c.in-Ok.ensures, c.block_size.ensures.size, active.is_work.size) in
+    c.of.ensures ∙ take_front c.in-Ok.bytes.len c.read_into.new.into (drop (length c.read_into.new.into) c.in-Ok.bytes.items)
+    (omega (arith, c.read_into.ensures.length, ap (λ (l : List ℕ). length l) c.deref_mut.ensures.value, c.in-Ok.bytes.ok.0))
+    ∙ whole_range n c.read_into.new.into (shown_to W t c.args.block) (omega (arith, c.len-size.ensures, c.read_into.ensures.length, ap (λ (l : List ℕ). length l) c.deref_mut.ensures.value, c.in-Ok.bytes.ok.0))
+    (length-shown W of.kept_of.world t c.args.block (omega (arith, may.0, active.is_work.blocks)) ∙ sym size)
+    (c.in-Ok-read_into.ensures.shown W t of tx (still_work W t c.args.work.now c.reserve.new.self (Some c.args.block) c.in_default-reserve.ensures.ok active.is_work) told))
     (one_more W t c.args.work.now active (read_access c.args.block) c.read_into.new.work None false
     (c.in-Ok-read_into.ensures.work ∙ ap (λ (w : Doing). record w { accesses = w.accesses ++ read_access c.args.block ∷ []; ready = None; settled = false }) c.in_default-reserve.ensures.ok))
