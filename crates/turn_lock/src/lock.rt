@@ -38,7 +38,8 @@ const AHEAD: u64 = 3;
 // So often one looks whether its turn has come, once it is woken ahead, before it sleeps again.
 const LOOKS: u64 = 100;
 
-// A turn that comes after so many looks shows spare processors. Where threads share one, each look leaves it to who is before.
+// A turn that comes after so many looks shows spare processors. Where threads share one, each look leaves it to who is before. A
+// turn that does not come while one looks shows that turns are long, and then nothing is gained.
 const MANY: u64 = 8;
 
 // So many waits that show none are to follow, until none counts as spare.
@@ -142,10 +143,10 @@ impl<V: Stands + Drop> TurnLock<V> {
             return;
         }
         let spare = self.table.shared.peek(SPARE);
-        let next = if looks < MANY {
-            spare.saturating_sub(1)
-        } else {
+        let next = if looks >= MANY && looks < LOOKS {
             WAITS
+        } else {
+            spare.saturating_sub(1)
         };
         if next != spare {
             self.table.shared.store::<Ring>(pass, SPARE, next);
@@ -153,7 +154,7 @@ impl<V: Stands + Drop> TurnLock<V> {
     }
 
     // Looks whether the turn of this ticket comes while it is near, and leaves the processor to others after each look. It
-    // answers how many looks were in vain before it came, and 0 where it did not come.
+    // answers how many looks were in vain: none where the turn is not near, and all of them where it did not come.
     fn looks(&self, number: u64) -> u64 {
         for looks in 0..LOOKS {
             let before = number.saturating_sub(self.table.shared.peek(SERVED));
@@ -165,7 +166,7 @@ impl<V: Stands + Drop> TurnLock<V> {
             }
             thread::yield_now();
         }
-        0
+        LOOKS
     }
 
     // Where all tickets are drawn, it waits for ever.
