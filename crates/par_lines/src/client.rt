@@ -68,7 +68,9 @@ pub(crate) fn answer<'a, D: Disk + Drop, O: Origin, R: Wait>(
             put(session, geometry, buffer, *block, *off, bytes.as_slice())
         }
         Op::Read { block } => read(rt, alloc, session, geometry, *block),
-        Op::Get { block, off, len } => get(rt, alloc, session, geometry, *block, *off, *len),
+        Op::Get { block, off, len } => get(
+            rt, alloc, session, geometry, buffer, *block, *off, *len,
+        ),
         Op::Write { block, bytes } => write(session, geometry, *block, bytes.as_slice()),
         Op::Fill { block, bytes } => fill(session, geometry, buffer, *block, bytes.as_slice()),
         Op::Mark { off, len } => mark(session, geometry, *off, *len),

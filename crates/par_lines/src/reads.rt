@@ -1,5 +1,5 @@
 // The lines that read.
-ghost use Rattle.std.specs.Prelude.{◌≡◌, ◌+◌, ◌≤◌, IfOk, drop, length, take, vec_len};
+ghost use Rattle.std.specs.Prelude.{◌≡◌, ◌+◌, ◌≤◌, IfOk, OnOk, drop, length, take, vec_len};
 ghost use Rattle.script_model.specs.declared.script.Op.TheVariants.{Get, Read};
 ghost use Rattle.handle_pass.specs.Accesses.{access_answer, HasRead, IsReadCause};
 ghost use Rattle.handle_pass.specs.Sessions.{IsSession};
@@ -18,7 +18,7 @@ use std::alloc::Global;
 use std::sync::Wait;
 use store_model::TxError;
 
-/// Zeros, as many as a block has bytes.
+/// So many zeros.
 fn zeros(alloc: Global, size: u32) -> Result<Vec<u8>, Memory>
     ensures { IfOk result (λ bytes. length bytes.items ≡ size) }
 {
@@ -26,13 +26,21 @@ fn zeros(alloc: Global, size: u32) -> Result<Vec<u8>, Memory>
     Ok(bytes)
 }
 
-/// Keeps so many bytes from `off` on.
-fn cut(bytes: &mut Vec<u8>, off: u32, len: u32)
-    requires { off + len ≤ vec_len bytes.old }
-    ensures { bytes.new.items ≡ take len (drop off bytes.old.items) }
+/// Makes the buffer as long as a block.
+fn fit(buffer: &mut Vec<u8>, size: u32) -> Result<(), Memory>
+    ensures { OnOk result (length buffer.new.items ≡ size) }
 {
-    bytes.copy_within(off as usize..off as usize + len as usize, 0);
-    bytes.truncate(len as usize);
+    buffer.resize(size as usize, 0)?;
+    Ok(())
+}
+
+/// Copies the bytes from `off` on, as many as there are places for.
+fn copy_from(bytes: &mut Vec<u8>, block: &[u8], off: u32)
+    requires { off + length bytes.old.items ≤ length block.now }
+    ensures { bytes.new.items ≡ take (length bytes.old.items) (drop off block.now) }
+{
+    let len = bytes.len();
+    bytes.copy_from_slice(&block[off as usize..off as usize + len]);
 }
 
 /// Reads a block into a vector that has as many bytes.
@@ -84,12 +92,13 @@ pub(crate) fn read<'a, D: Disk + Drop, O: Origin, R: Wait>(
     }
 }
 
-/// Reads `len` bytes at `off`, and claims no others.
+/// Reads `len` bytes at `off`, and claims no others. The block is read into the buffer.
 pub(crate) fn get<'a, D: Disk + Drop, O: Origin, R: Wait>(
     rt: &R,
     alloc: Global,
     session: &mut Session<'a, D, O>,
     geometry: &Geometry,
+    buffer: &mut Vec<u8>,
     block: u32,
     off: u32,
     len: u32,
@@ -103,13 +112,16 @@ pub(crate) fn get<'a, D: Disk + Drop, O: Origin, R: Wait>(
     if is_outside(geometry.block, off, len as usize) {
         return Ok(wrong_bytes(session, geometry, block));
     }
-    let Ok(mut bytes) = zeros(alloc, geometry.block) else {
+    let Ok(mut bytes) = zeros(alloc, len) else {
         return Err(Stop::Memory);
     };
-    match read_into(rt, session, &mut bytes, block) {
+    if let Err(_) = fit(buffer, geometry.block) {
+        return Err(Stop::Memory);
+    }
+    match read_into(rt, session, buffer, block) {
         Ok(()) => {
             let answer = mark_range(session, geometry, off, len);
-            cut(&mut bytes, off, len);
+            copy_from(&mut bytes, buffer, off);
             shown(answer, bytes)
         }
         Err(error) => accessed(Err(error)),

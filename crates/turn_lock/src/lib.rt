@@ -15,6 +15,8 @@ pub use view::{LAST, Names, Stage, Stands, View};
 #[cfg(test)]
 mod tests;
 #[cfg(test)]
+mod tests_ahead;
+#[cfg(test)]
 mod tests_crowd;
 #[cfg(test)]
 mod tests_doors;

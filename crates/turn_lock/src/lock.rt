@@ -15,8 +15,10 @@ use std::alloc::Global;
 use std::marker::Brand;
 use std::snapshot::Snapshot;
 use std::sync::Wait;
+use std::thread;
 
-// The words of the table, and its slot. Behind the first two stand the doors at which those wait who have a ticket.
+// The words of the table, and its slot. Behind the first two stand the doors at which those wait who have a ticket, and then for
+// how many waits more processors count as spare.
 const TICKETS: usize = 0;
 
 const SERVED: usize = 1;
@@ -25,7 +27,26 @@ const FIRST_DOOR: usize = 2;
 
 const DOORS: u64 = 64;
 
+const SPARE: usize = 66;
+
 const VALUE: usize = 0;
+
+// Where processors are spare, the holder of a ticket is woken so many turns ahead, since to wake takes longer than a short turn.
+// On four processors one has the turn then, and three are with who comes next.
+const AHEAD: u64 = 3;
+
+// So often one looks whether its turn has come, once it is woken ahead, before it sleeps again.
+const LOOKS: u64 = 100;
+
+// A turn that comes after so many looks shows spare processors. Where threads share one, each look leaves it to who is before. A
+// turn that does not come while one looks shows that turns are long, and then nothing is gained.
+const MANY: u64 = 8;
+
+// So many waits that show none are to follow, until none counts as spare.
+const WAITS: u64 = 16;
+
+// Of so many tickets one is woken ahead in any case, so that spare processors show.
+const TRIED: u64 = 16;
 
 /// The rule of the table.
 pub struct Ticketed;
@@ -45,7 +66,7 @@ pub type Pass<V> = Seat<Option<V>, View<<V as Stands>::Entry>>;
 #[derive(Drop)]
 pub struct TurnLock<V: Stands + Drop> {
     table: Table<Option<V>, View<V::Entry>, (), Ticketed, Global>,
-    ghost sized: { (table.shared.table_id.words ≡ 66) × (table.shared.table_id.slots ≡ 1) },
+    ghost sized: { (table.shared.table_id.words ≡ 67) × (table.shared.table_id.slots ≡ 1) },
 }
 
 impl<V: Stands + Drop> TurnLock<V> {
@@ -63,7 +84,7 @@ impl<V: Stands + Drop> TurnLock<V> {
             slots.destroy_empty();
             return Err((Memory, failed.value.unwrap()));
         }
-        match Table::new(alloc, &[0; 66], slots, &()) {
+        match Table::new(alloc, &[0; 67], slots, &()) {
             Ok((table, pass)) => Ok((TurnLock { table }, pass)),
             Err(Refused { mut slots }) => {
                 let value = slots.pop().unwrap();
@@ -95,6 +116,7 @@ impl<V: Stands + Drop> TurnLock<V> {
         for _ in rt.forever() {
             // A ring after this look is not missed: it changes the door.
             let rung = self.table.shared.peek(door);
+            self.look_out(pass, number);
             let served = self.table.shared.load::<Look>(pass, SERVED);
             if served == number {
                 let value = self.table.shared.exchange(pass, VALUE, None).unwrap();
@@ -108,6 +130,43 @@ impl<V: Stands + Drop> TurnLock<V> {
             self.table.shared.park(rt, door, low_half(rung));
         }
         unreachable!()
+    }
+
+    // Looks for a while whether the turn of this ticket comes, and notes whether processors are spare.
+    fn look_out(&self, pass: &mut Pass<V>, number: u64)
+        requires { pass.old.table_id ≡ lock_id self.now }
+        ensures lock { IsSamePass pass.old pass.new }
+        ensures same { pass.new.me ≡ pass.old.me }
+    {
+        let looks = self.looks(number);
+        if looks == 0 {
+            return;
+        }
+        let spare = self.table.shared.peek(SPARE);
+        let next = if looks >= MANY && looks < LOOKS {
+            WAITS
+        } else {
+            spare.saturating_sub(1)
+        };
+        if next != spare {
+            self.table.shared.store::<Ring>(pass, SPARE, next);
+        }
+    }
+
+    // Looks whether the turn of this ticket comes while it is near, and leaves the processor to others after each look. It
+    // answers how many looks were in vain: none where the turn is not near, and all of them where it did not come.
+    fn looks(&self, number: u64) -> u64 {
+        for looks in 0..LOOKS {
+            let before = number.saturating_sub(self.table.shared.peek(SERVED));
+            if before == 0 {
+                return looks;
+            }
+            if before > AHEAD {
+                return 0;
+            }
+            thread::yield_now();
+        }
+        LOOKS
     }
 
     // Where all tickets are drawn, it waits for ever.
@@ -168,7 +227,7 @@ impl<V: Stands + Drop> TurnLock<V> {
     }
 
     // Rings at the door of the ticket that is served, unless nobody waits. It wakes as many as may wait at that door, so that
-    // the holder of the ticket is among those woken.
+    // the holder of the ticket is among those woken. Whom it wakes ahead is no matter to those who wait: they look, and sleep.
     fn ring(&self, pass: &mut Pass<V>, served: u64)
         requires { pass.old.table_id ≡ lock_id self.now }
         ensures lock { IsSamePass pass.old pass.new }
@@ -183,6 +242,14 @@ impl<V: Stands + Drop> TurnLock<V> {
         for _ in 0..waiting.div_ceil(DOORS) {
             self.table.shared.wake_one(door);
         }
+        if waiting > AHEAD && self.wakes_ahead(served) {
+            self.table.shared.wake_one(door_of(served + AHEAD));
+        }
+    }
+
+    // Whether the holder of a later ticket is to be woken as this one is served.
+    fn wakes_ahead(&self, served: u64) -> bool {
+        served % TRIED == 0 || self.table.shared.peek(SPARE) > 0
     }
 
     /// A new pass, which has seen the same and gets the number and the units. It waits for nobody.

@@ -108,6 +108,15 @@ impl<'a> Caller<'a, Log> {
         be_busy(rt, time);
         add(rt, self.lock, &mut self.pass, turn);
     }
+
+    // The same, asleep.
+    pub(crate) fn sleep<R: Wait + Abort + Clock>(&mut self, rt: &R, time: Duration)
+        ensures same { (self.new.lock.now ≡ self.old.lock.now) × ((view self.new.pass).units ≡ (view self.old.pass).units) }
+    {
+        let turn = self.lock.take(rt, &mut self.pass);
+        thread::sleep(rt, time);
+        add(rt, self.lock, &mut self.pass, turn);
+    }
 }
 
 // So many turns.

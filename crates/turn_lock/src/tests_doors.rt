@@ -18,18 +18,19 @@ const CALLERS: usize = 150;
 
 const TURNS: u64 = 40;
 
-// Callers who have one unit of the pass each.
-fn callers<'a, R: Abort>(
+// So many callers who have one unit of the pass each.
+pub(crate) fn callers<'a, R: Abort>(
     rt: &R,
     alloc: Global,
     lock: &'a TurnLock<Log>,
     pass: &mut Pass<Log>,
+    many: usize,
 ) -> Vec<Caller<'a, Log>>
-    requires { (pass.old.table_id ≡ lock_id lock.now) × HasNoTurn pass.old × (150 < (view pass.old).units) }
+    requires { (pass.old.table_id ≡ lock_id lock.now) × HasNoTurn pass.old × (many < (view pass.old).units) }
     ensures { IsSamePass pass.old pass.new × HasNoTurn pass.new × (0 < (view pass.new).units) }
 {
     let mut all = Vec::new(alloc);
-    for number in 0..CALLERS {
+    for number in 0..many {
         let own = lock.split(pass, None, 1);
         all.push(Caller { lock, pass: own }).expect(rt, "memory");
     }
@@ -57,7 +58,7 @@ fn visit_all<R: Threads + Wait + Abort + Sync + Clock>(rt: &R, crowd: &mut [Call
 }
 
 // Whether so many turns were taken, one after the other.
-fn were_taken<R: Wait + Abort>(
+pub(crate) fn were_taken<R: Wait + Abort>(
     rt: &R,
     lock: &TurnLock<Log>,
     pass: &mut Pass<Log>,
@@ -75,7 +76,7 @@ fn were_taken<R: Wait + Abort>(
 #[test]
 fn all_who_share_a_door_are_woken(rt: HostRuntime) -> Result<(), Fail> {
     let (lock, mut pass) = made(&rt, rt.alloc());
-    let mut crowd = callers(&rt, rt.alloc(), &lock, &mut pass);
+    let mut crowd = callers(&rt, rt.alloc(), &lock, &mut pass, CALLERS);
     visit_all(&rt, crowd.as_mut_slice());
     assert!(rt; were_taken(&rt, &lock, &mut pass, CALLERS * TURNS as usize + 1));
     Ok(())

@@ -1,0 +1,6 @@
+use Rattle.std.proofs.Common.{rules, arith}
+use Rattle.turn_lock.proofs.Keeps.{rings}
+use Rattle.turn_lock.proofs.lock.TurnLock.look_out.Goals as goal
+
+pub store-requires : goal.store-requires
+store-requires g c = (search rules, search rules, rings g.V.Stands.stands g.V.Stands.hands g.V.Stands.takes _ _ _ _ _ (omega arith))
