@@ -42,7 +42,7 @@ error_of : {T : Type 0} → LogError → Result T LogError → LogError
 error_of other (Ok x) = other
 error_of other (Err e) = e
 
-pub error_is : {T : Type 0} (e x : LogError) → IsErrOf {T = T} {E = LogError} (Err e) x → e ≡ x
+error_is : {T : Type 0} (e x : LogError) → IsErrOf {T = T} {E = LogError} (Err e) x → e ≡ x
 unfolding error_of
 error_is e x same = ap (error_of e) same
 

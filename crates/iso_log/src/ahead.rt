@@ -88,6 +88,7 @@ impl ReadAhead {
     }
 
     /// Reads on until there are so many bytes, where so many of the log are left from its next gate on.
+    #[inline(always)]
     pub(crate) fn ask<D: Disk>(
         &mut self,
         disk: &mut D,
@@ -113,7 +114,8 @@ impl ReadAhead {
         self.read_on(disk, gate, need, rest)
     }
 
-    /// Does so where there are fewer. It is apart, as it is called once a piece and `ask` twice a record.
+    /// Does so where there are fewer. It is kept apart, as it is called once a piece, and `ask` twice a record.
+    #[inline(never)]
     fn read_on<D: Disk>(
         &mut self,
         disk: &mut D,

@@ -30,7 +30,7 @@ impl Model for Log {
 }
 
 impl Log {
-    ghost use Rattle.std.specs.Prelude.{◌≡◌, ◌⊎◌, ◌+◌, ◌-◌, ◌<◌, ◌≤◌, ◌++◌, [], ◌∷◌, ℕ, List, Err, None, length, take, OnOk, OnErr, IfOk, IfErr, IfSome, IsErrOf, IsTrue, true, false};
+    ghost use Rattle.std.specs.Prelude.{◌≡◌, ◌⊎◌, ◌+◌, ◌-◌, ◌<◌, ◌≤◌, ◌++◌, [], ◌∷◌, ℕ, List, Err, None, length, take, OnOk, OnErr, IfOk, IfErr, IfSome, IsErrOf, IsTrue};
     ghost use Rattle.std.specs.List.{slice_range};
     ghost use Rattle.std.specs.Option.{ForSome};
     ghost use Rattle.iso_model.specs.declared.access.Geometry.{Geometry};
@@ -221,83 +221,6 @@ impl Log {
         ahead.pass(size as usize - 1);
         self.used += size - 1;
         self.last += 1;
-    }
-
-    /// Passes the next record, and replaces the contents of `into` by it and the gate behind it. It answers false where that
-    /// record's gate is closed. Bytes are read ahead, a piece of the log at once, so a log costs one call of the disk a piece.
-    pub fn scan_ahead<D: Disk>(
-        &mut self,
-        disk: &mut D,
-        geometry: &Geometry,
-        ahead: &mut ReadAhead,
-        into: &mut Vec<u8>,
-    ) -> Result<bool, LogError>
-        requires fits { self.old.place + self.old.room ≤ (D.state disk.old).size }
-        requires left { self.old.used < self.old.room }
-        requires number { self.old.last ≤ LAST }
-        requires valid { IsTrue (is_valid geometry.now) }
-        requires within { self.old.used + length ahead.old ≤ self.old.room }
-        requires ahead { ForSome (D.state disk.old).contents (StandAt (next_place self.old) ahead.old) }
-
-        // On false the gate is closed, where the disk tells it.
-        ensures closed { IfOk result (λ more. more ≡ false → (self.new ≡ self.old) × ForSome (D.state disk.old).contents (IsClosed (next_place self.old))) }
-
-        // On true `into` has the next record, and where the disk tells its bytes, these stand there and pass each test.
-        ensures taken { IfOk result (λ more. more ≡ true → IsTaken geometry.now self.old self.new into.new.items) }
-        ensures told { IfOk result (λ more. more ≡ true → ForSome (D.state disk.old).contents (StandAt (next_place self.old) into.new.items)) }
-        ensures first { IfOk result (λ more. more ≡ true → ForSome (D.state disk.old).contents (IsFirst geometry.now (next_place self.old) (self.old.room - self.old.used) (self.old.last + 1))) }
-
-        // Damaged comes only where they fail one, and names a place of the log, also where the disk tells nothing.
-        ensures damaged { (at cause : ℕ) → IsErrOf result (LogError.Damaged at cause)
-            → ForSome (D.state disk.old).contents (IsDamaged geometry.now (next_place self.old) (self.old.room - self.old.used) (self.old.last + 1) at cause) }
-        ensures test { (at cause : ℕ) → IsErrOf result (LogError.Damaged at cause) → IsTestBefore (self.old.place + self.old.room) at cause }
-
-        ensures within { self.new.used + length ahead.new ≤ self.new.room }
-        ensures ahead { ForSome (D.state disk.old).contents (StandAt (next_place self.new) ahead.new) }
-        ensures kept { OnErr result (self.new ≡ self.old) }
-        ensures unwritten { WritesNothing (D.state disk.old) (D.state disk.new) }
-        ensures cause { BlamesDisk (D.state disk.old).faults (D.state disk.new).faults result }
-        ensures not_full { (need free : ℕ) → IsErrOf result (LogError.LogFull need free) → ⊥ }
-    {
-        let size = match self.find_ahead(disk, geometry, ahead) {
-            Ok(Some(size)) => size,
-            Ok(None) => return Ok(false),
-            Err(error) => return Err(error),
-        };
-        let (record, _) = ahead.as_slice().split_at(size as usize);
-        into.clear();
-        if let Err(_) = into.extend_from_slice(record) {
-            return Err(LogError::Memory);
-        }
-        self.pass(ahead, size);
-        Ok(true)
-    }
-
-    /// Passes the next record in the same way, with nothing read ahead: two calls of the disk a record.
-    pub fn scan_next<D: Disk>(
-        &mut self,
-        disk: &mut D,
-        geometry: &Geometry,
-        into: &mut Vec<u8>,
-    ) -> Result<bool, LogError>
-        requires fits { self.old.place + self.old.room ≤ (D.state disk.old).size }
-        requires left { self.old.used < self.old.room }
-        requires number { self.old.last ≤ LAST }
-        requires valid { IsTrue (is_valid geometry.now) }
-        ensures closed { IfOk result (λ more. more ≡ false → (self.new ≡ self.old) × ForSome (D.state disk.old).contents (IsClosed (next_place self.old))) }
-        ensures taken { IfOk result (λ more. more ≡ true → IsTaken geometry.now self.old self.new into.new.items) }
-        ensures told { IfOk result (λ more. more ≡ true → ForSome (D.state disk.old).contents (StandAt (next_place self.old) into.new.items)) }
-        ensures first { IfOk result (λ more. more ≡ true → ForSome (D.state disk.old).contents (IsFirst geometry.now (next_place self.old) (self.old.room - self.old.used) (self.old.last + 1))) }
-        ensures damaged { (at cause : ℕ) → IsErrOf result (LogError.Damaged at cause)
-            → ForSome (D.state disk.old).contents (IsDamaged geometry.now (next_place self.old) (self.old.room - self.old.used) (self.old.last + 1) at cause) }
-        ensures test { (at cause : ℕ) → IsErrOf result (LogError.Damaged at cause) → IsTestBefore (self.old.place + self.old.room) at cause }
-        ensures kept { OnErr result (self.new ≡ self.old) }
-        ensures unwritten { WritesNothing (D.state disk.old) (D.state disk.new) }
-        ensures cause { BlamesDisk (D.state disk.old).faults (D.state disk.new).faults result }
-        ensures not_full { (need free : ℕ) → IsErrOf result (LogError.LogFull need free) → ⊥ }
-    {
-        let mut ahead = ReadAhead::new(*into.allocator(), 0);
-        self.scan_ahead(disk, geometry, &mut ahead, into)
     }
 
     /// Reads bytes of the image from a place on.

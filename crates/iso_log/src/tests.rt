@@ -116,12 +116,13 @@ fn count_told(
 {
     let mut log = Log::start(PLACE, room, 0);
     let mut ahead = ReadAhead::new(alloc, 1 << 20);
-    let mut into = Vec::new(alloc);
     for _ in 0..room {
-        let more = log.scan_ahead(disk, geometry, &mut ahead, &mut into)?;
-        if !more {
-            return Ok(log.last());
-        }
+        let size = match log.find_ahead(disk, geometry, &mut ahead) {
+            Ok(Some(size)) => size,
+            Ok(None) => return Ok(log.last()),
+            Err(error) => return Err(error),
+        };
+        log.pass(&mut ahead, size);
     }
     Ok(log.last())
 }
@@ -282,20 +283,15 @@ fn form_two_has_records_of_either_kind(rt: HostRuntime) -> Result<(), Fail> {
 }
 
 #[test]
-fn a_record_is_scanned_with_the_gate_behind_it(rt: HostRuntime) -> Result<(), Fail> {
+fn a_record_is_two_reads_where_no_piece_is_read_ahead(rt: HostRuntime) -> Result<(), Fail> {
     let alloc = rt.alloc();
     let mut disk = blank(alloc, 100)?;
     let mut log = Log::start(PLACE, 100, 0);
     append_two(alloc, &mut log, &mut disk)?;
-    let mut scan = Log::start(PLACE, 100, 0);
-    let mut into = Vec::new(alloc);
-    let record = [
-        1, 1, 0, 0, 0, 0, 0, 1, 0, 0, 0, 0x0a, 0, 0, 0, 0, 0, 0, 0, 1, 0, 0, 0, 2, 0, 5, 0, 2,
-        0xab, 0xcd, 1,
-    ];
-    assert_eq!(rt; scan.scan_next(&mut disk, &small(), &mut into), Ok(true));
-    assert_eq!(rt; into.as_slice(), record.as_slice());
-    assert_eq!(rt; (scan.used(), scan.last()), (30, 1));
+    let scan = Log::start(PLACE, 100, 0);
+    let mut ahead = ReadAhead::new(alloc, 0);
+    let found = scan.find_ahead(&mut disk, &small(), &mut ahead);
+    assert_eq!(rt; found, Ok(Some(31)));
     assert_eq!(rt; disk.calls(), 6);
     let mut put = [0; 2];
     scan.read_at(&mut disk, 44, &mut put)?;

@@ -100,3 +100,11 @@ number_of-one b digit =
 
 pub number_of-not_one : (b : ℕ) → is_digit b ≡ false → None ≡ number_of (b ∷ [])
 number_of-not_one b other = number_of-no_decimal (b ∷ []) other
+
+-- a word of two bytes is a number where these are digits, and the first is no zero
+pub number_of-two : (tens ones : ℕ) → 49 ≤ tens → tens ≤ 57 → is_digit ones ≡ true → Some (10 * (tens - 48) + (ones - 48)) ≡ number_of (tens ∷ ones ∷ [])
+number_of-two tens ones from to digit =
+    let decimal : is_decimal (tens ∷ ones ∷ []) ≡ true = grind arith in
+    let under : ones ≤ 57 = grind arith in
+    let same : 10 * (tens - 48) + (ones - 48) ≡ 10 * (10 * 0 + (tens - 48)) + (ones - 48) = omega arith in
+    ap Some same ∙ number_of-decimal (tens ∷ ones ∷ []) decimal (omega (arith, to, under))

@@ -1,5 +1,5 @@
 // The words of a line, and the numbers that they spell.
-ghost use Rattle.std.specs.Prelude.{◌≡◌, ◌+◌, ◌<◌, ◌≤◌, [], ◌∷◌, IfNone, IfSome, drop, false, length, slice_index, take, true};
+ghost use Rattle.std.specs.Prelude.{◌≡◌, ◌+◌, ◌<◌, ◌≤◌, [], ◌∷◌, IfNone, IfSome, drop, false, length, take, true};
 ghost use Rattle.std.specs.List.{list_all};
 ghost use Rattle.std.specs.Option.{is_some};
 ghost use Rattle.script_model.specs.Script.{is_printable};
@@ -34,24 +34,19 @@ fn are_word_bytes(rest: &[u8], at: usize) -> bool
     good
 }
 
-/// How many bytes at the front of a line belong to one word: they are printable, and no spaces.
-fn word_length(rest: &[u8]) -> usize
+/// How many bytes at the front of a line are found to belong to one word where many are looked at at once: none of a short line.
+fn begun_length(rest: &[u8]) -> usize
     ensures within { result ≤ length rest.now }
     ensures word { list_all is_word_byte (take result rest.now) ≡ true }
-    ensures stops { result < length rest.now → is_word_byte (slice_index rest.now result) ≡ false }
 {
     let mut at = 0;
-    'bytes: while at < rest.len() {
-        if at >= LANES && rest.len() - at >= LANES && are_word_bytes(rest, at) {
-            at += LANES;
-            continue;
-        }
-        if !is_word_byte(rest[at]) {
+    'bytes: while rest.len() - at >= LANES {
+        if !are_word_bytes(rest, at) {
             return at;
         }
-        at += 1;
+        at += LANES;
     }
-    rest.len()
+    at
 }
 
 /// The bytes before the first space, and what follows it. None where a byte before it is not printable.
@@ -63,14 +58,20 @@ fn cut_word(rest: &[u8]) -> Option<(&[u8], &[u8])>
     ensures words { IfSome result (λ cut. words_of rest.now ≡ word_before cut.0.now (words_of cut.1.now)) }
     ensures none { IfNone result (list_all is_printable rest.now ≡ false) }
 {
-    let (word, behind) = rest.split_at(word_length(rest));
-    let Some((first, more)) = behind.split_first() else {
-        return Some((word, behind));
-    };
-    if *first != b' ' {
-        return None;
+    let mut at = begun_length(rest);
+    'bytes: while at < rest.len() {
+        if is_word_byte(rest[at]) {
+            at += 1;
+            continue;
+        }
+        if rest[at] != b' ' {
+            return None;
+        }
+        let (word, behind) = rest.split_at(at);
+        let (_, more) = behind.split_at(1);
+        return Some((word, more));
     }
-    Some((word, more))
+    Some(rest.split_at(at))
 }
 
 /// Puts the first words between spaces into the places, and tells how many these are. None where the line has a byte that is
@@ -115,13 +116,27 @@ fn one_digit(digit: u8) -> Option<u32>
     Some(u32::from(digit - b'0'))
 }
 
+/// The number that a word of two bytes spells.
+#[inline(always)]
+fn two_digits(tens: u8, ones: u8) -> Option<u32>
+    ensures { result ≡ number_of (tens ∷ ones ∷ []) }
+{
+    if !(b'1'..=b'9').contains(&tens) || !ones.is_ascii_digit() {
+        return None;
+    }
+    Some(10 * u32::from(tens - b'0') + u32::from(ones - b'0'))
+}
+
 /// The number that a word spells, if it is below 2^32.
 pub fn number_of(word: &[u8]) -> Option<u32>
     ensures { result ≡ number_of word.now }
 {
-    // most numbers of a script have one digit
+    // most numbers of a script have one digit or two
     if let [digit] = word {
         return one_digit(*digit);
+    }
+    if let [tens, ones] = word {
+        return two_digits(*tens, *ones);
     }
     if !may_be_decimal(word) {
         return None;

@@ -1,6 +1,6 @@
 -- The bytes so far belong to the word.
 use Rattle.script_text.proofs.Words.{◌≡◌, ◌≤◌, ◌-◌, true, length, take, list_all, is_word_byte}
-use Rattle.script_text.proofs.word.word_length.Given as goal
+use Rattle.script_text.proofs.word.cut_word.Given as goal
 
 abbrev pub invariant-bytes : goal.invariant-bytes
 invariant-bytes l = (l.at ≤ length l.rest) × (list_all is_word_byte (take l.at l.rest) ≡ true)
