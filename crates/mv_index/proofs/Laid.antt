@@ -1,5 +1,5 @@
 -- Pieces over which a later version is laid.
-use Rattle.mv_index.proofs.Words.{◌≡◌, inl, inr, ◌∙◌, sym, refl, ap, ℕ, zero, suc, ◌+◌, ◌-◌, ◌<◌, ◌≤◌, Bool, true, false, cond, nat_lt, List, [], ◌∷◌, ◌++◌, filter, map, None, Option, Some, length, get_or, set, take, drop, arith, subst, cases_eq, cases_lt, le-leb, lt-leb, ltb-true, ltb-false, min, or_else, ArePieces, Follow, IsStart, Version, back_of, backs, begun, ended, front_of, fronts, laid, newest_with, no_version, place_in, place_of}
+use Rattle.mv_index.proofs.Words.{◌≡◌, get_or-drop, get_or-take, length-take-le, length-drop, take-append-drop, take-set, drop-set, inl, inr, ◌∙◌, sym, refl, ap, ℕ, zero, suc, ◌+◌, ◌-◌, ◌<◌, ◌≤◌, Bool, true, false, cond, nat_lt, List, [], ◌∷◌, ◌++◌, filter, map, None, Option, Some, length, get_or, set, take, drop, arith, subst, cases_eq, cases_lt, le-leb, lt-leb, ltb-true, ltb-false, min, or_else, ArePieces, Follow, IsStart, Version, back_of, backs, begun, ended, front_of, fronts, laid, newest_with, no_version, place_in, place_of}
 use Rattle.mv_index.proofs.Layers.{newest_elsewhere, newest_here, or_else_none, or_else_twice, place_newest}
 use Rattle.mv_index.proofs.Orders.{apart_at, has_cases, has_it, has_not, place_none, place_own, sooner}
 use Rattle.mv_index.proofs.Sublists.{all_append, all_left, all_weaker}
@@ -200,3 +200,38 @@ one_around from to first last pieces order le within below above lt = elim (case
       let here = above last (omega arith) (omega (arith, lt, within)) in
       absurd (omega (arith, apart, next, here, le))
 ]
+
+-- where a version has the bytes of one piece, it stands in its place
+
+ended_same : (x : ℕ) (pieces : List Version) → ((k : ℕ) → k < length pieces → (get_or pieces k no_version).off + (get_or pieces k no_version).len ≤ x) → ended x pieces ≡ pieces
+ended_same x [] le = refl
+ended_same x (q ∷ []) le = let same : min q.len (x - q.off) ≡ q.len = omega (arith, le 0 (omega arith)) in λ i. record q { len = same i } ∷ []
+ended_same x (q ∷ r ∷ pieces) le = ap (λ (l : List Version). q ∷ l) (ended_same x (r ∷ pieces) (λ k lt. le (suc k) (omega (arith, lt))))
+
+begun_same : (x : ℕ) (pieces : List Version) → (0 < length pieces → x ≤ (get_or pieces 0 no_version).off) → begun x pieces ≡ pieces
+begun_same x [] le = refl
+begun_same x (q ∷ pieces) le =
+    let none : x - q.off ≡ 0 = omega (arith, le (omega arith)) in
+    let place : q.place + (x - q.off) ≡ q.place = omega (arith, none) in
+    let off : q.off + (x - q.off) ≡ q.off = omega (arith, none) in
+    let len : q.len - (x - q.off) ≡ q.len = omega (arith, none) in
+    λ i. record q { place = place i; off = off i; len = len i } ∷ pieces
+
+pub laid_over : (v : Version) (first last : ℕ) (pieces : List Version) → Follow 0 pieces → last ≤ length pieces → last ≡ first + 1
+    → (get_or pieces first no_version).off ≡ v.off → (get_or pieces first no_version).len ≡ v.len
+    → fronts v.off pieces ≡ ended v.off (take first pieces) → backs (v.off + v.len) pieces ≡ begun (v.off + v.len) (drop last pieces)
+    → set pieces first v ≡ laid v pieces
+laid_over v first last pieces order within one off len front back =
+    let before : ended v.off (take first pieces) ≡ take first pieces =
+    ended_same v.off (take first pieces) (λ k lt.
+    let below : k < first = omega (arith, lt, length-take-le first pieces (omega (arith, within, one))) in
+    let there = ap (λ (q : Version). q.off + q.len) (get_or-take first pieces k no_version below) in
+    omega (arith, there, off, apart_at 0 k first no_version pieces order below (omega (arith, within, one)))) in
+    let behind : begun (v.off + v.len) (drop last pieces) ≡ drop last pieces =
+    begun_same (v.off + v.len) (drop last pieces) (λ some.
+    let below : last < length pieces = omega (arith, some, length-drop last pieces) in
+    let same : last + 0 ≡ last = omega arith in
+    let there = ap (λ (q : Version). q.off) (get_or-drop last pieces 0 no_version) ∙ ap (λ (n : ℕ). (get_or pieces n no_version).off) same in
+    omega (arith, there, off, len, apart_at 0 first last no_version pieces order (omega (arith, one)) below)) in
+    sym (take-append-drop first (set pieces first v)) ∙ (λ i. take-set pieces first v i ++ drop-set pieces first v (omega (arith, within, one)) i)
+    ∙ ap (λ (n : ℕ). take first pieces ++ v ∷ drop n pieces) (sym one) ∙ (λ i. sym (front ∙ before) i ++ v ∷ sym (back ∙ behind) i)

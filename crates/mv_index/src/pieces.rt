@@ -1,5 +1,5 @@
 // The parts of a block's versions that show at the last number, in order.
-ghost use Rattle.std.specs.Prelude.{◌≡◌, ◌+◌, ◌-◌, ◌^◌, ◌<◌, ◌≤◌, ◌++◌, [], ◌∷◌, ℕ, List, length, drop, slice_index_or, take, vec_capacity, vec_len};
+ghost use Rattle.std.specs.Prelude.{◌≡◌, ◌+◌, ◌-◌, ◌^◌, ◌<◌, ◌≤◌, ◌++◌, [], ◌∷◌, ℕ, List, length, drop, slice_index_or, take, true, vec_capacity, vec_len};
 ghost use Rattle.std.specs.List.{insert};
 ghost use Rattle.mv_index.specs.declared.version.Version.{Version};
 ghost use Rattle.mv_index.specs.Pieces.{ArePieces, ArePlaced, Follow, back_of, backs, begun, ended, front_of, fronts};
@@ -55,6 +55,26 @@ fn end_before(pieces: &[Version], byte: u16) -> usize
     pieces.partition_point(|piece| u32::from(piece.off) + u32::from(piece.len) <= u32::from(byte))
 }
 
+/// The same, without a search where the piece at a place of the list ends there: most versions have the bytes of an earlier one.
+fn end_near(pieces: &[Version], near: usize, byte: u16) -> usize
+    requires { Follow 0 pieces.now }
+    ensures within { result ≤ length pieces.now }
+    ensures below { (k : ℕ) → k < result → (slice_index_or pieces.now k no_version).off + (slice_index_or pieces.now k no_version).len ≤ byte }
+    ensures above { (k : ℕ) → result ≤ k → k < length pieces.now → byte < (slice_index_or pieces.now k no_version).off + (slice_index_or pieces.now k no_version).len }
+{
+    if near < pieces.len() && end(pieces[near]) == u32::from(byte) {
+        return near + 1;
+    }
+    end_before(pieces, byte)
+}
+
+/// The byte behind a piece.
+fn end(piece: Version) -> u32
+    ensures { result ≡ piece.off + piece.len }
+{
+    u32::from(piece.off) + u32::from(piece.len)
+}
+
 /// Those of the pieces that have a byte from one of the block up to another.
 pub(crate) fn meeting(pieces: &[Version], from: u16, to: u16) -> &[Version]
     requires order { Follow 0 pieces.now }
@@ -82,7 +102,8 @@ fn find(pieces: &[Version], from: u16, to: u16) -> (usize, usize)
     ensures front { fronts from pieces.now ≡ ended from (take result.0 pieces.now) }
     ensures back { backs to pieces.now ≡ begun to (drop result.1 pieces.now) }
 {
-    (begin_before(pieces, from), end_before(pieces, to))
+    let first = begin_before(pieces, from);
+    (first, end_near(pieces, first, to))
 }
 
 /// Cuts the last piece before a byte of the block.
@@ -195,6 +216,19 @@ fn replace(pieces: &mut Vec<Version>, first: usize, last: usize, piece: Version)
     take_out(pieces, first + 1, last - first - 1);
 }
 
+/// Whether a version has the bytes of one piece, the only one from a place of the list up to another.
+fn is_over(pieces: &[Version], first: usize, last: usize, version: &Version) -> bool
+    requires { last ≤ length pieces.now }
+    ensures one { result ≡ true → last ≡ first + 1 }
+    ensures off { result ≡ true → (slice_index_or pieces.now first no_version).off ≡ version.now.off }
+    ensures len { result ≡ true → (slice_index_or pieces.now first no_version).len ≡ version.now.len }
+{
+    if first >= last || last - first != 1 {
+        return false;
+    }
+    pieces[first].off == version.off && pieces[first].len == version.len
+}
+
 /// Puts a later version over the pieces. There is room for two more.
 pub(crate) fn lay(pieces: &mut Vec<Version>, version: &Version)
     requires order { Follow 0 pieces.old.items }
@@ -210,6 +244,10 @@ pub(crate) fn lay(pieces: &mut Vec<Version>, version: &Version)
     }
     let end = version.off + version.len;
     let (first, last) = find(pieces, version.off, end);
+    if is_over(pieces, first, last, version) {
+        pieces[first] = *version;
+        return;
+    }
     let behind = part(pieces, first, last);
     cut(pieces.as_mut_slice(), first, behind, version.off, end);
     replace(pieces, first, behind, *version);

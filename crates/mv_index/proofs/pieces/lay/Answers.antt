@@ -1,10 +1,22 @@
 -- The version is laid over the pieces.
-use Rattle.mv_index.proofs.Words.{◌≡◌, ◌∙◌, sym, ap, subst, arith, ℕ, ◌+◌, List, [], ◌∷◌, ◌++◌, drop, take, with_items_is, ArePieces, Version, backs, begun, ended, fronts, laid}
-use Rattle.mv_index.proofs.Laid.{laid_none, pieces_laid}
+use Rattle.mv_index.proofs.Words.{◌≡◌, ◌≤◌, get_or, length, no_version, ◌∙◌, sym, ap, subst, arith, ℕ, ◌+◌, List, [], ◌∷◌, ◌++◌, drop, take, with_items_is, ArePieces, Version, backs, begun, ended, fronts, laid}
+use Rattle.mv_index.proofs.Laid.{laid_none, laid_over, pieces_laid}
 use Rattle.mv_index.proofs.pieces.lay.Goals as goal
 
 pub returns-then-version-eq0-clause-laid : goal.returns-then-version-eq0-clause-laid
 returns-then-version-eq0-clause-laid c versions = laid_none c.args.version.now c.args.pieces.now.items versions c.if-version-eq0.true
+
+pub returns-then-is_over-clause-laid : goal.returns-then-is_over-clause-laid
+returns-then-is_over-clause-laid c versions were =
+    let v : Version = c.args.version.now in
+    let first : ℕ = c.find-first.result.0 in
+    let off = subst (λ (l : List Version). (get_or l first no_version).off ≡ v.off) c.deref-2.ensures.value (c.is_over.ensures.off c.if-is_over.true) in
+    let len = subst (λ (l : List Version). (get_or l first no_version).len ≡ v.len) c.deref-2.ensures.value (c.is_over.ensures.len c.if-is_over.true) in
+    let within = subst (λ (l : List Version). c.find-first.result.1 ≤ length l) c.deref.ensures.value c.find-first.ensures.last in
+    let front = subst (λ (l : List Version). fronts v.off l ≡ ended v.off (take first l)) c.deref.ensures.value c.find-first.ensures.front in
+    let back = subst (λ (l : List Version). backs (v.off + v.len) l ≡ begun (v.off + v.len) (drop c.find-first.result.1 l)) c.deref.ensures.value c.find-first.ensures.back in
+    let is = laid_over v first c.find-first.result.1 c.args.pieces.now.items were.order within (c.is_over.ensures.one c.if-is_over.true) off len front back in
+    subst (λ (l : List Version). ArePieces l (versions ++ v ∷ [])) (sym is) (pieces_laid v versions (omega (arith, c.if-version-eq0.false)) c.args.pieces.now.items were)
 
 pub returns-clause-laid : goal.returns-clause-laid
 returns-clause-laid c versions were =
