@@ -3,8 +3,14 @@ ghost use Rattle.std.specs.Prelude.{◌≡◌, ◌≤◌};
 use crate::{Marks, Touched};
 use iso_model::Span;
 use std::alloc::Global;
+use std::fmt::Debug;
 use std::process::Abort;
 use std::test::Fail;
+
+// Two values that are to be the same. Each test that compared them itself would prove what is printed where they differ.
+fn same<T: PartialEq + Debug + Drop>(rt: &impl Abort, found: T, wanted: T) {
+    assert_eq!(rt; found, wanted);
+}
 
 fn span(off: u16, len: u16) -> Span
     ensures { result ≡ record { off = off; len = len } }
@@ -38,7 +44,7 @@ fn expect_runs(
     for run in marks.spans() {
         found.push((run.off, run.len))?;
     }
-    assert_eq!(rt; found.as_slice(), runs);
+    same(rt, found.as_slice(), runs);
     for at in 0..4096u16 {
         let mut wanted = false;
         for (off, len) in spans {
@@ -46,7 +52,7 @@ fn expect_runs(
                 wanted = true;
             }
         }
-        assert_eq!(rt; marks.covers(Span { off: at, len: 1 }), wanted);
+        same(rt, marks.covers(Span { off: at, len: 1 }), wanted);
     }
     Ok(())
 }
@@ -137,9 +143,9 @@ fn set_of_one_span_is_handed_over(rt: HostRuntime) -> Result<(), Fail> {
     touched.put(3, Marks::of(alloc, span(0, 1)))?;
     let mut other = Touched::empty(alloc);
     other.put(9, Marks::of(alloc, span(5, 1)))?;
-    assert_eq!(rt; touched.first_meet(&other), Some((9, 5)));
+    same(&rt, touched.first_meet(&other), Some((9, 5)));
     other.put(3, Marks::of(alloc, span(15, 9)))?;
-    assert_eq!(rt; touched.first_meet(&other), Some((3, 15)));
+    same(&rt, touched.first_meet(&other), Some((3, 15)));
     touched.clear();
     assert!(rt; touched.is_empty());
     Ok(())
@@ -150,12 +156,12 @@ fn least_common_byte_of_two_sets(rt: HostRuntime) -> Result<(), Fail> {
     let alloc = rt.alloc();
     let left = set_of(alloc, &[(0, 10), (64, 10), (200, 100)])?;
     let right = set_of(alloc, &[(10, 54), (73, 5), (250, 1)])?;
-    assert_eq!(rt; left.first_meet(&right), Some(73));
-    assert_eq!(rt; right.first_meet(&left), Some(73));
+    same(&rt, left.first_meet(&right), Some(73));
+    same(&rt, right.first_meet(&left), Some(73));
     let mut apart = set_of(alloc, &[(10, 54), (74, 126), (300, 3796)])?;
     assert!(rt; !left.meets(&apart));
     apart.union(&right)?;
-    assert_eq!(rt; left.first_meet(&apart), Some(73));
+    same(&rt, left.first_meet(&apart), Some(73));
     assert!(rt; apart.covers(span(10, 54)));
     assert!(rt; apart.covers(span(73, 127)));
     assert!(rt; !apart.covers(span(72, 2)));
@@ -175,11 +181,11 @@ fn least_common_byte_of_the_least_common_block(rt: HostRuntime) -> Result<(), Fa
     let mut writes = Touched::empty(alloc);
     writes.add(9, &high)?;
     writes.add(4, &low)?;
-    assert_eq!(rt; reads.first_meet(&writes), Some((9, 4)));
+    same(&rt, reads.first_meet(&writes), Some((9, 4)));
     let copy = reads.copy()?;
     reads.add(4, &high)?;
-    assert_eq!(rt; reads.first_meet(&writes), Some((4, 4)));
-    assert_eq!(rt; copy.first_meet(&writes), Some((9, 4)));
-    assert_eq!(rt; copy.first_meet(&Touched::empty(alloc)), None);
+    same(&rt, reads.first_meet(&writes), Some((4, 4)));
+    same(&rt, copy.first_meet(&writes), Some((9, 4)));
+    same(&rt, copy.first_meet(&Touched::empty(alloc)), None);
     Ok(())
 }

@@ -7,7 +7,14 @@ ghost use Rattle.iso_disk.specs.Untold.{untold, untold_is_lawful};
 use super::*;
 use fault_count::raise;
 use iso_disk::{Disk, DiskFault};
+use std::fmt::Debug;
+use std::process::Abort;
 use std::test::Fail;
+
+// Two values that are to be the same. Each test that compared them itself would prove what is printed where they differ.
+fn same<T: PartialEq + Debug + Drop>(rt: &impl Abort, found: T, wanted: T) {
+    assert_eq!(rt; found, wanted);
+}
 
 // The letters of the calls made so far: read, write, sync. The call with the number `failing` fails, from 1.
 #[derive(Drop)]
@@ -79,8 +86,8 @@ impl Disk for Counting {
 fn a_body_is_one_write_and_one_sync(rt: HostRuntime) -> Result<(), Fail> {
     let mut disk = Counting::new(0);
     put_body(&mut disk, 2, &[4, 5])?;
-    assert_eq!(rt; disk.made, *b"ws--");
-    assert_eq!(rt; disk.bytes, [7, 7, 7, 4, 5, 7, 7, 7]);
+    same(&rt, disk.made, *b"ws--");
+    same(&rt, disk.bytes, [7, 7, 7, 4, 5, 7, 7, 7]);
     Ok(())
 }
 
@@ -88,11 +95,11 @@ fn a_body_is_one_write_and_one_sync(rt: HostRuntime) -> Result<(), Fail> {
 fn a_gate_is_opened_and_shut_by_one_byte_and_one_sync(rt: HostRuntime) -> Result<(), Fail> {
     let mut disk = Counting::new(0);
     open_gate(&mut disk, 7)?;
-    assert_eq!(rt; disk.made, *b"ws--");
-    assert_eq!(rt; disk.bytes, [7, 7, 7, 7, 7, 7, 7, 1]);
+    same(&rt, disk.made, *b"ws--");
+    same(&rt, disk.bytes, [7, 7, 7, 7, 7, 7, 7, 1]);
     shut_gate(&mut disk, 7)?;
-    assert_eq!(rt; disk.made, *b"wsws");
-    assert_eq!(rt; disk.bytes, [7, 7, 7, 7, 7, 7, 7, 0]);
+    same(&rt, disk.made, *b"wsws");
+    same(&rt, disk.bytes, [7, 7, 7, 7, 7, 7, 7, 0]);
     Ok(())
 }
 
@@ -102,7 +109,7 @@ fn one_alone_is_open(rt: HostRuntime) -> Result<(), Fail> {
         let mut disk = Counting::new(0);
         disk.bytes[3] = byte;
         assert_eq!(rt; stands_closed(&mut disk, 3)?, closed, "at {byte}");
-        assert_eq!(rt; disk.made, *b"r---");
+        same(&rt, disk.made, *b"r---");
     }
     Ok(())
 }
@@ -111,16 +118,16 @@ fn one_alone_is_open(rt: HostRuntime) -> Result<(), Fail> {
 fn after_a_failed_call_no_other_is_made(rt: HostRuntime) -> Result<(), Fail> {
     for failing in 1..3 {
         let mut disk = Counting::new(failing);
-        assert_eq!(rt; put_body(&mut disk, 2, &[4, 5]), Err(DiskFault));
-        assert_eq!(rt; disk.count, failing);
+        same(&rt, put_body(&mut disk, 2, &[4, 5]), Err(DiskFault));
+        same(&rt, disk.count, failing);
         let mut disk = Counting::new(failing);
-        assert_eq!(rt; open_gate(&mut disk, 2), Err(DiskFault));
-        assert_eq!(rt; disk.count, failing);
+        same(&rt, open_gate(&mut disk, 2), Err(DiskFault));
+        same(&rt, disk.count, failing);
         let mut disk = Counting::new(failing);
-        assert_eq!(rt; shut_gate(&mut disk, 2), Err(DiskFault));
-        assert_eq!(rt; disk.count, failing);
+        same(&rt, shut_gate(&mut disk, 2), Err(DiskFault));
+        same(&rt, disk.count, failing);
     }
     let mut disk = Counting::new(1);
-    assert_eq!(rt; stands_closed(&mut disk, 2), Err(DiskFault));
+    same(&rt, stands_closed(&mut disk, 2), Err(DiskFault));
     Ok(())
 }

@@ -4,11 +4,17 @@ use crate::{Checked, Notes, decide};
 use byte_marks::{Marks, Touched};
 use iso_model::{Clash, Mode, Span};
 use std::alloc::Global;
+use std::fmt::Debug;
 use std::marker::Brand;
 use std::process::Abort;
 use std::sync::ledger::Blank;
 use std::test::Fail;
 use step_count::{Ledger, Steps};
+
+// Two values that are to be the same. Each test that compared them itself would prove what is printed where they differ.
+fn same<T: PartialEq + Debug + Drop>(rt: &impl Abort, found: T, wanted: T) {
+    assert_eq!(rt; found, wanted);
+}
 
 // These bytes of blocks: the block, the first byte, how many.
 fn touched(alloc: Global, parts: &[(u32, u16, u16)]) -> Result<Touched, Fail> {
@@ -96,23 +102,31 @@ fn first_commit_then_least_block_and_byte(rt: HostRuntime) -> Result<(), Fail> {
     let notes = three_commits(alloc)?;
     let reads = touched(alloc, &[(5, 5, 4), (2, 12, 2), (9, 63, 1)])?;
     let writes = touched(alloc, &[(7, 0, 1)])?;
-    assert_eq!(rt;
+    same(
+        &rt,
         decided(Mode::Serial, 2, &reads, &writes, &notes),
-        clash(3, 5, 5)
+        clash(3, 5, 5),
     );
-    assert_eq!(rt;
+    same(
+        &rt,
         decided(Mode::Serial, 3, &reads, &writes, &notes),
-        clash(4, 2, 12)
+        clash(4, 2, 12),
     );
-    assert_eq!(rt;
+    same(
+        &rt,
         decided(Mode::Serial, 4, &reads, &writes, &notes),
-        clash(5, 9, 63)
+        clash(5, 9, 63),
     );
-    assert_eq!(rt; decided(Mode::Serial, 5, &reads, &writes, &notes), None);
-    assert_eq!(rt; decided(Mode::Snapshot, 2, &reads, &writes, &notes), None);
-    assert_eq!(rt;
+    same(&rt, decided(Mode::Serial, 5, &reads, &writes, &notes), None);
+    same(
+        &rt,
+        decided(Mode::Snapshot, 2, &reads, &writes, &notes),
+        None,
+    );
+    same(
+        &rt,
         decided(Mode::Snapshot, 2, &writes, &reads, &notes),
-        clash(3, 5, 5)
+        clash(3, 5, 5),
     );
     Ok(())
 }
@@ -122,8 +136,16 @@ fn other_bytes_of_a_block_are_no_conflict(rt: HostRuntime) -> Result<(), Fail> {
     let alloc = rt.alloc();
     let notes = three_commits(alloc)?;
     let beside = touched(alloc, &[(5, 8, 56), (2, 0, 10), (2, 20, 44)])?;
-    assert_eq!(rt; decided(Mode::Serial, 2, &beside, &beside, &notes), None);
-    assert_eq!(rt; decided(Mode::Snapshot, 2, &beside, &beside, &notes), None);
+    same(
+        &rt,
+        decided(Mode::Serial, 2, &beside, &beside, &notes),
+        None,
+    );
+    same(
+        &rt,
+        decided(Mode::Snapshot, 2, &beside, &beside, &notes),
+        None,
+    );
     Ok(())
 }
 
@@ -133,15 +155,15 @@ fn no_write_is_no_conflict_and_a_known_one_stands(rt: HostRuntime) -> Result<(),
     let notes = three_commits(alloc)?;
     let all = touched(alloc, &[(9, 0, 64)])?;
     let none = Touched::empty(alloc);
-    assert_eq!(rt; decided(Mode::Serial, 2, &all, &none, &notes), None);
-    assert_eq!(rt; decided(Mode::Serial, 2, &none, &all, &notes), None);
+    same(&rt, decided(Mode::Serial, 2, &all, &none, &notes), None);
+    same(&rt, decided(Mode::Serial, 2, &none, &all, &notes), None);
     let earlier = Clash {
         commit: 2,
         block: 1,
         at: 6,
     };
-    assert_eq!(rt; known(earlier, &none, &notes), None);
-    assert_eq!(rt; known(earlier, &all, &notes), clash(2, 1, 6));
+    same(&rt, known(earlier, &none, &notes), None);
+    same(&rt, known(earlier, &all, &notes), clash(2, 1, 6));
     Ok(())
 }
 
@@ -155,18 +177,20 @@ fn notes_above_a_number_are_kept_or_copied(rt: HostRuntime) -> Result<(), Fail> 
     assert!(rt; !holds(&copy, 3));
     assert!(rt; holds(&copy, 4));
     assert!(rt; !holds(&notes, 6));
-    assert_eq!(rt;
+    same(
+        &rt,
         decided(Mode::Serial, 2, &reads, &reads, &copy),
-        clash(4, 5, 5)
+        clash(4, 5, 5),
     );
     notes.drop_to(3);
     assert!(rt; !holds(&notes, 3));
     assert!(rt; holds(&notes, 4));
-    assert_eq!(rt;
+    same(
+        &rt,
         decided(Mode::Serial, 2, &reads, &reads, &notes),
-        clash(4, 5, 5)
+        clash(4, 5, 5),
     );
     notes.drop_to(5);
-    assert_eq!(rt; decided(Mode::Serial, 2, &reads, &reads, &notes), None);
+    same(&rt, decided(Mode::Serial, 2, &reads, &reads, &notes), None);
     Ok(())
 }

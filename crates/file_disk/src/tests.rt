@@ -2,10 +2,17 @@
 use super::*;
 use iso_disk::{Disk, DiskFault, Image};
 use std::alloc::Allocator;
+use std::fmt::Debug;
 use std::fs::{self, File, Metadata, OpenOptions};
 use std::io;
+use std::process::Abort;
 use std::rt::Files;
 use std::test::Fail;
+
+// Two values that are to be the same. Each test that compared them itself would prove what is printed where they differ.
+fn same<T: PartialEq + Debug + Drop>(rt: &impl Abort, found: T, wanted: T) {
+    assert_eq!(rt; found, wanted);
+}
 
 /// The files of the system, but for the folder here, which cannot be opened.
 #[derive(Drop)]
@@ -68,27 +75,27 @@ fn a_file_keeps_what_was_written(rt: HostRuntime) -> Result<(), Fail> {
     let _ = fs::remove_file(&rt, name);
     let mut disk = FileDisk::new(rt.clone()?, rt.alloc());
     disk.bind(name, Some(5000))?;
-    assert_eq!(rt; disk.size(), 5000);
-    assert_eq!(rt; fs::metadata(&rt, name)?.len(), 5000);
+    same(&rt, disk.size(), 5000);
+    same(&rt, fs::metadata(&rt, name)?.len(), 5000);
     disk.write(4990, &[1, 2, 3, 4, 5, 6, 7, 8, 9, 10])?;
     disk.sync()?;
     let mut bytes = [9; 12];
     disk.read(4988, &mut bytes)?;
-    assert_eq!(rt; bytes, [0, 0, 1, 2, 3, 4, 5, 6, 7, 8, 9, 10]);
-    assert_eq!(rt; fs::metadata(&rt, name)?.len(), 5000);
-    assert_eq!(rt; disk.faults(), 0);
+    same(&rt, bytes, [0, 0, 1, 2, 3, 4, 5, 6, 7, 8, 9, 10]);
+    same(&rt, fs::metadata(&rt, name)?.len(), 5000);
+    same(&rt, disk.faults(), 0);
 
     // While it is bound no other disk has it; then what it holds can be bound again.
     let mut other = FileDisk::new(rt.clone()?, rt.alloc());
-    assert_eq!(rt; other.bind(name, None), Err(DiskFault));
-    assert_eq!(rt; other.faults(), 1);
+    same(&rt, other.bind(name, None), Err(DiskFault));
+    same(&rt, other.faults(), 1);
     drop(disk);
     other.bind(name, None)?;
-    assert_eq!(rt; other.size(), 5000);
+    same(&rt, other.size(), 5000);
     let mut bytes = [9; 3];
     other.read(4989, &mut bytes)?;
-    assert_eq!(rt; bytes, [0, 1, 2]);
-    assert_eq!(rt; other.faults(), 1);
+    same(&rt, bytes, [0, 1, 2]);
+    same(&rt, other.faults(), 1);
     fs::remove_file(&rt, name)?;
     Ok(())
 }
@@ -98,9 +105,9 @@ fn a_name_that_exists_is_not_made_again(rt: HostRuntime) -> Result<(), Fail> {
     let name = "a_name_that_exists_is_not_made_again.img";
     fs::write(&rt, name, &[1, 2, 3])?;
     let mut disk = FileDisk::new(rt.clone()?, rt.alloc());
-    assert_eq!(rt; disk.bind(name, Some(8)), Err(DiskFault));
-    assert_eq!(rt; disk.faults(), 1);
-    assert_eq!(rt; fs::metadata(&rt, name)?.len(), 3);
+    same(&rt, disk.bind(name, Some(8)), Err(DiskFault));
+    same(&rt, disk.faults(), 1);
+    same(&rt, fs::metadata(&rt, name)?.len(), 3);
     fs::remove_file(&rt, name)?;
     Ok(())
 }
@@ -111,11 +118,11 @@ fn zeros_go_on_behind_the_first_piece(rt: HostRuntime) -> Result<(), Fail> {
     let _ = fs::remove_file(&rt, name);
     let mut disk = FileDisk::new(rt.clone()?, rt.alloc());
     disk.bind(name, Some(70_000))?;
-    assert_eq!(rt; fs::metadata(&rt, name)?.len(), 70_000);
+    same(&rt, fs::metadata(&rt, name)?.len(), 70_000);
     let mut bytes = [9; 2];
     disk.read(69_998, &mut bytes)?;
-    assert_eq!(rt; bytes, [0, 0]);
-    assert_eq!(rt; disk.faults(), 0);
+    same(&rt, bytes, [0, 0]);
+    same(&rt, disk.faults(), 0);
     fs::remove_file(&rt, name)?;
     Ok(())
 }
@@ -126,10 +133,10 @@ fn a_bind_that_fails_half_way_leaves_no_file(rt: HostRuntime) -> Result<(), Fail
     let _ = fs::remove_file(&rt, name);
     let files = WithoutFolder { rt: rt.clone()? };
     let mut disk = FileDisk::new(files, rt.alloc());
-    assert_eq!(rt; disk.bind(name, Some(8)), Err(DiskFault));
-    assert_eq!(rt; disk.faults(), 1);
-    assert_eq!(rt; fs::metadata(&rt, name).is_err(), true);
-    assert_eq!(rt; disk.sync(), Err(DiskFault));
-    assert_eq!(rt; disk.faults(), 2);
+    same(&rt, disk.bind(name, Some(8)), Err(DiskFault));
+    same(&rt, disk.faults(), 1);
+    same(&rt, fs::metadata(&rt, name).is_err(), true);
+    same(&rt, disk.sync(), Err(DiskFault));
+    same(&rt, disk.faults(), 2);
     Ok(())
 }

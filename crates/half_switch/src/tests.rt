@@ -13,7 +13,14 @@ use iso_format::HalfHeader;
 use iso_memdisk::MemDisk;
 use iso_model::{Geometry, Memory, Mode};
 use std::alloc::{AllocError, Global};
+use std::fmt::Debug;
+use std::process::Abort;
 use std::test::Fail;
+
+// Two values that are to be the same. Each test that compared them itself would prove what is printed where they differ.
+fn same<T: PartialEq + Debug + Drop>(rt: &impl Abort, found: T, wanted: T) {
+    assert_eq!(rt; found, wanted);
+}
 
 /// Two bytes at byte 5 of block 2.
 const FIRST: [u8; 30] = [
@@ -108,31 +115,34 @@ fn bytes_at(alloc: Global, disk: &MemDisk, at: usize) -> Result<[u8; 32], Memory
 fn the_second_half_is_filled_and_opened(rt: HostRuntime) -> Result<(), Fail> {
     let mut disk = image(rt.alloc(), 0, 0)?;
     compact(rt.alloc(), &mut disk, 1)?;
-    assert_eq!(rt; disk.calls(), 7);
-    assert_eq!(rt;
+    same(&rt, disk.calls(), 7);
+    same(
+        &rt,
         bytes_at(rt.alloc(), &disk, 608)?,
         [
             0, 1, 0, 0, 0, 0, 0, 0, 0, 0, 0, 0, 0, 0, 0, 2, 0, 0, 0, 0, 0, 0, 0, 1, 0, 0, 0, 0, 0,
             0, 0, 0,
-        ]
+        ],
     );
-    assert_eq!(rt;
+    same(
+        &rt,
         bytes_at(rt.alloc(), &disk, 768)?,
         [
             0, 0, 0, 0, 0, 171, 205, 0, 0, 0, 0, 0, 0, 0, 0, 0, 0, 0, 0, 0, 0, 0, 0, 0, 0, 0, 0, 0,
             0, 0, 0, 0,
-        ]
+        ],
     );
-    assert_eq!(rt;
+    same(
+        &rt,
         bytes_at(rt.alloc(), &disk, 896)?,
         [
             1, 1, 0, 0, 0, 0, 0, 1, 0, 0, 0, 10, 0, 0, 0, 0, 0, 0, 0, 2, 0, 0, 0, 0, 0, 0, 0, 2,
             17, 18, 0, 0,
-        ]
+        ],
     );
     open(&mut disk)?;
-    assert_eq!(rt; disk.calls(), 9);
-    assert_eq!(rt; bytes_at(rt.alloc(), &disk, 608)?[0], 1);
+    same(&rt, disk.calls(), 9);
+    same(&rt, bytes_at(rt.alloc(), &disk, 608)?[0], 1);
     Ok(())
 }
 
@@ -141,7 +151,7 @@ fn an_upgrade_writes_the_new_form(rt: HostRuntime) -> Result<(), Fail> {
     let mut disk = image(rt.alloc(), 0, 0)?;
     compact(rt.alloc(), &mut disk, 2)?;
     let header = bytes_at(rt.alloc(), &disk, 608)?;
-    assert_eq!(rt; (header[0], header[1]), (0, 2));
+    same(&rt, (header[0], header[1]), (0, 2));
     Ok(())
 }
 
@@ -149,8 +159,8 @@ fn an_upgrade_writes_the_new_form(rt: HostRuntime) -> Result<(), Fail> {
 fn an_open_gate_is_shut_first(rt: HostRuntime) -> Result<(), Fail> {
     let mut disk = image(rt.alloc(), 1, 0)?;
     compact(rt.alloc(), &mut disk, 1)?;
-    assert_eq!(rt; bytes_at(rt.alloc(), &disk, 608)?[0], 0);
-    assert_eq!(rt; disk.calls(), 9);
+    same(&rt, bytes_at(rt.alloc(), &disk, 608)?[0], 0);
+    same(&rt, disk.calls(), 9);
     Ok(())
 }
 
@@ -158,12 +168,16 @@ fn an_open_gate_is_shut_first(rt: HostRuntime) -> Result<(), Fail> {
 fn each_call_that_fails_is_told(rt: HostRuntime) -> Result<(), Fail> {
     for failing in 1..8 {
         let mut disk = image(rt.alloc(), 0, failing)?;
-        assert_eq!(rt; compact(rt.alloc(), &mut disk, 1), Err(SwitchError::Disk));
-        assert_eq!(rt; disk.calls(), failing);
-        assert_eq!(rt; bytes_at(rt.alloc(), &disk, 608)?[0], 0);
+        same(
+            &rt,
+            compact(rt.alloc(), &mut disk, 1),
+            Err(SwitchError::Disk),
+        );
+        same(&rt, disk.calls(), failing);
+        same(&rt, bytes_at(rt.alloc(), &disk, 608)?[0], 0);
     }
     let mut disk = image(rt.alloc(), 0, 2)?;
-    assert_eq!(rt; open(&mut disk), Err(DiskFault));
+    same(&rt, open(&mut disk), Err(DiskFault));
     Ok(())
 }
 
@@ -179,10 +193,10 @@ fn header(gate: u8, generation: u64) -> HalfHeader {
 
 #[test]
 fn the_later_of_the_open_halves_is_chosen(rt: HostRuntime) {
-    assert_eq!(rt; choose_half(&header(1, 3), &header(1, 4)), Some(1));
-    assert_eq!(rt; choose_half(&header(1, 4), &header(1, 3)), Some(0));
-    assert_eq!(rt; choose_half(&header(1, 3), &header(1, 3)), Some(0));
-    assert_eq!(rt; choose_half(&header(1, 3), &header(0, 4)), Some(0));
-    assert_eq!(rt; choose_half(&header(2, 3), &header(1, 2)), Some(1));
-    assert_eq!(rt; choose_half(&header(2, 3), &header(0, 4)), None);
+    same(&rt, choose_half(&header(1, 3), &header(1, 4)), Some(1));
+    same(&rt, choose_half(&header(1, 4), &header(1, 3)), Some(0));
+    same(&rt, choose_half(&header(1, 3), &header(1, 3)), Some(0));
+    same(&rt, choose_half(&header(1, 3), &header(0, 4)), Some(0));
+    same(&rt, choose_half(&header(2, 3), &header(1, 2)), Some(1));
+    same(&rt, choose_half(&header(2, 3), &header(0, 4)), None);
 }

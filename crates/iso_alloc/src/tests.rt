@@ -1,14 +1,21 @@
 use super::*;
+use std::fmt::Debug;
+use std::process::Abort;
 use std::test::Fail;
+
+// Two values that are to be the same. Each test that compared them itself would prove what is printed where they differ.
+fn same<T: PartialEq + Debug + Drop>(rt: &impl Abort, found: T, wanted: T) {
+    assert_eq!(rt; found, wanted);
+}
 
 #[test]
 fn blocks_are_taken_lowest_first(rt: HostRuntime) -> Result<(), Fail> {
     let region = Region { start: 0, size: 12 };
     let mut map = [0u8; 256];
     map[64] = 0b1011_0000;
-    assert_eq!(rt; free_blocks(&map, region, 5), 5);
-    assert_eq!(rt; take_lowest(&mut map, region, 5), Some(6));
-    assert_eq!(rt; map[64], 0b1111_0000);
+    same(&rt, free_blocks(&map, region, 5), 5);
+    same(&rt, take_lowest(&mut map, region, 5), Some(6));
+    same(&rt, map[64], 0b1111_0000);
     Ok(())
 }
 
@@ -16,7 +23,7 @@ fn blocks_are_taken_lowest_first(rt: HostRuntime) -> Result<(), Fail> {
 fn no_block_is_free(rt: HostRuntime) -> Result<(), Fail> {
     let region = Region { start: 0, size: 8 };
     let mut map = [0xffu8; 256];
-    assert_eq!(rt; take_lowest(&mut map, region, 1), None);
+    same(&rt, take_lowest(&mut map, region, 1), None);
     Ok(())
 }
 
@@ -26,7 +33,7 @@ fn a_block_given_back_is_free(rt: HostRuntime) -> Result<(), Fail> {
     let mut map = [0u8; 256];
     map[65] = 0b0000_0110;
     give_back(&mut map, region, 9);
-    assert_eq!(rt; map[65], 0b0000_0100);
+    same(&rt, map[65], 0b0000_0100);
     Ok(())
 }
 
@@ -36,6 +43,6 @@ fn cells_are_the_bytes_of_the_block(rt: HostRuntime) -> Result<(), Fail> {
     lay(&mut block, 64 + 31, &[2, 7, 8]);
     lay(&mut block, 157 + 33, &[1, 9]);
     let cells = Cells::of(&block);
-    assert_eq!(rt; cells.count(), 3);
+    same(&rt, cells.count(), 3);
     Ok(())
 }

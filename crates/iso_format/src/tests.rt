@@ -9,7 +9,14 @@ use crate::{
 };
 use iso_model::{Geometry, Memory, Mode};
 use std::alloc::Global;
+use std::fmt::Debug;
+use std::process::Abort;
 use std::test::Fail;
+
+// Two values that are to be the same. Each test that compared them itself would prove what is printed where they differ.
+fn same<T: PartialEq + Debug + Drop>(rt: &impl Abort, found: T, wanted: T) {
+    assert_eq!(rt; found, wanted);
+}
 
 /// The parts of the commit of a transaction that put two bytes at byte 5 of block 2.
 fn one_put(alloc: Global) -> Result<PartList, Memory>
@@ -57,8 +64,8 @@ const RECORD: [u8; 31] = [
 fn superblock_of_a_small_image(rt: HostRuntime) {
     let mut bytes = [9; 64];
     write_super(&small(), &mut bytes);
-    assert_eq!(rt; bytes, small_superblock());
-    assert_eq!(rt; read_super(&bytes), Ok(small()));
+    same(&rt, bytes, small_superblock());
+    same(&rt, read_super(&bytes), Ok(small()));
 }
 
 #[test]
@@ -79,7 +86,7 @@ fn superblocks_that_are_refused(rt: HostRuntime) {
         if let Some(byte) = bytes.get_mut(place) {
             *byte = value;
         }
-        assert_eq!(rt; read_super(&bytes), Err(error));
+        same(&rt, read_super(&bytes), Err(error));
     }
 }
 
@@ -98,20 +105,21 @@ fn first_half_of_a_new_image(rt: HostRuntime) {
     expected[0] = 1;
     expected[1] = 1;
     expected[15] = 1;
-    assert_eq!(rt; bytes, expected);
-    assert_eq!(rt; read_half(&bytes), first);
-    assert_eq!(rt; unclean_place(&bytes), None);
+    same(&rt, bytes, expected);
+    same(&rt, read_half(&bytes), first);
+    same(&rt, unclean_place(&bytes), None);
     bytes[31] = 1;
-    assert_eq!(rt;
+    same(
+        &rt,
         read_half(&bytes),
         HalfHeader {
             clean: false,
             ..first
-        }
+        },
     );
-    assert_eq!(rt; unclean_place(&bytes), Some(31));
+    same(&rt, unclean_place(&bytes), Some(31));
     bytes[7] = 9;
-    assert_eq!(rt; unclean_place(&bytes), Some(7));
+    same(&rt, unclean_place(&bytes), Some(7));
 }
 
 /// Adds the record of `one_put` as commit 1.
@@ -126,9 +134,9 @@ fn push_put(buffer: &mut RecordBuffer) -> Result<(), Memory>
 #[test]
 fn record_of_one_put(rt: HostRuntime) -> Result<(), Fail> {
     let parts = one_put(rt.alloc())?;
-    assert_eq!(rt; record_length(&parts), 30);
+    same(&rt, record_length(&parts), 30);
     let record = write_record(rt.alloc(), 1, 1, &parts)?;
-    assert_eq!(rt; record.as_slice(), &RECORD[..30]);
+    same(&rt, record.as_slice(), &RECORD[..30]);
     Ok(())
 }
 
@@ -149,12 +157,12 @@ fn five_parts(alloc: Global) -> Result<PartList, Memory>
 #[test]
 fn record_of_five_parts(rt: HostRuntime) -> Result<(), Fail> {
     let parts = five_parts(rt.alloc())?;
-    assert_eq!(rt; record_length(&parts), 69);
+    same(&rt, record_length(&parts), 69);
     let mut record = write_record(rt.alloc(), 9, 1, &parts)?;
-    assert_eq!(rt; record.len(), 69);
+    same(&rt, record.len(), 69);
     record.push(0)?;
     let view = read_record(&record, &small(), 9)?;
-    assert_eq!(rt; view.number(), 9);
+    same(&rt, view.number(), 9);
     let expected: [(u32, u16, &[u8]); 5] = [
         (0, 0, &[1]),
         (0, 2, &[2, 3]),
@@ -165,9 +173,9 @@ fn record_of_five_parts(rt: HostRuntime) -> Result<(), Fail> {
     let mut read = view.parts();
     for (block, off, bytes) in expected.iter() {
         let part = read.next().ok_or("a part is missing")?;
-        assert_eq!(rt; part.block, *block);
-        assert_eq!(rt; part.off, *off);
-        assert_eq!(rt; part.bytes, *bytes);
+        same(&rt, part.block, *block);
+        same(&rt, part.off, *off);
+        same(&rt, part.bytes, *bytes);
     }
     assert!(rt; read.next().is_none());
     Ok(())
@@ -176,18 +184,18 @@ fn record_of_five_parts(rt: HostRuntime) -> Result<(), Fail> {
 #[test]
 fn two_records_behind_one_closed_gate(rt: HostRuntime) -> Result<(), Fail> {
     let mut buffer = RecordBuffer::new(rt.alloc())?;
-    assert_eq!(rt; buffer.with_closed_gate(), [0].as_slice());
+    same(&rt, buffer.with_closed_gate(), [0].as_slice());
     push_put(&mut buffer)?;
-    assert_eq!(rt; buffer.with_closed_gate(), RECORD.as_slice());
+    same(&rt, buffer.with_closed_gate(), RECORD.as_slice());
     push_put(&mut buffer)?;
     let both = buffer.with_closed_gate();
-    assert_eq!(rt; both.len(), 61);
+    same(&rt, both.len(), 61);
     assert!(rt; both.starts_with(&RECORD[..30]));
     assert!(rt; both.ends_with(&RECORD));
     buffer.clear();
-    assert_eq!(rt; buffer.with_closed_gate(), [0].as_slice());
+    same(&rt, buffer.with_closed_gate(), [0].as_slice());
     push_put(&mut buffer)?;
-    assert_eq!(rt; buffer.with_closed_gate(), RECORD.as_slice());
+    same(&rt, buffer.with_closed_gate(), RECORD.as_slice());
     Ok(())
 }
 
@@ -221,23 +229,23 @@ fn geometries_within_the_limits(rt: HostRuntime) {
 
 #[test]
 fn what_a_refusal_tells(rt: HostRuntime) {
-    assert_eq!(rt; FormatError::Short(0).number(), 1);
-    assert_eq!(rt; FormatError::Length(29).number(), 7);
-    assert_eq!(rt; FormatError::Length(29).offset(), 29);
-    assert_eq!(rt; FormatError::Number(12).number(), 8);
+    same(&rt, FormatError::Short(0).number(), 1);
+    same(&rt, FormatError::Length(29).number(), 7);
+    same(&rt, FormatError::Length(29).offset(), 29);
+    same(&rt, FormatError::Number(12).number(), 8);
 }
 
 #[test]
 fn parts_of_a_record(rt: HostRuntime) -> Result<(), Fail> {
-    assert_eq!(rt; record_window(&RECORD), 31);
+    same(&rt, record_window(&RECORD), 31);
     let record = read_record(&RECORD, &small(), 1)?;
-    assert_eq!(rt; record.number(), 1);
-    assert_eq!(rt; record.kind(), 1);
+    same(&rt, record.number(), 1);
+    same(&rt, record.kind(), 1);
     let mut parts = record.parts();
     let first = parts.next().ok_or("no part")?;
-    assert_eq!(rt; first.block, 2);
-    assert_eq!(rt; first.off, 5);
-    assert_eq!(rt; first.bytes, [0xab, 0xcd].as_slice());
+    same(&rt, first.block, 2);
+    same(&rt, first.off, 5);
+    same(&rt, first.bytes, [0xab, 0xcd].as_slice());
     assert!(rt; parts.next().is_none());
     Ok(())
 }
@@ -262,11 +270,12 @@ fn records_that_are_refused(rt: HostRuntime) {
         if let Some(byte) = bytes.get_mut(place) {
             *byte = value;
         }
-        assert_eq!(rt; read_record(&bytes, &small(), 1).err(), Some(error));
+        same(&rt, read_record(&bytes, &small(), 1).err(), Some(error));
     }
-    assert_eq!(rt;
+    same(
+        &rt,
         read_record(&RECORD[..19], &small(), 1).err(),
-        Some(FormatError::Short(0))
+        Some(FormatError::Short(0)),
     );
 }
 
@@ -276,8 +285,9 @@ fn parts_that_go_back(rt: HostRuntime) {
         1, 1, 0, 0, 0, 0, 0, 2, 0, 0, 0, 0x12, 0, 0, 0, 0, 0, 0, 0, 1, 0, 0, 0, 2, 0, 0, 0, 1,
         0xaa, 0, 0, 0, 1, 0, 0, 0, 1, 0xbb, 0,
     ];
-    assert_eq!(rt;
+    same(
+        &rt,
         read_record(&bytes, &small(), 1).err(),
-        Some(FormatError::Order(29))
+        Some(FormatError::Order(29)),
     );
 }

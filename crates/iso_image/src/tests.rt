@@ -4,6 +4,13 @@ ghost use Rattle.iso_model.specs.Geometry.{is_valid};
 
 use crate::{HalfPlace, half_place, image_size, kind_of};
 use iso_model::{Geometry, Mode};
+use std::fmt::Debug;
+use std::process::Abort;
+
+// Two values that are to be the same. Each test that compared them itself would prove what is printed where they differ.
+fn same<T: PartialEq + Debug + Drop>(rt: &impl Abort, found: T, wanted: T) {
+    assert_eq!(rt; found, wanted);
+}
 
 /// Four blocks of 64 bytes, and a log of 256.
 #[tactic(auto, unfolding(iso_model::specs::Geometry::is_valid))]
@@ -38,32 +45,34 @@ fn default_geometry() -> Geometry
 
 #[test]
 fn places_in_a_small_image(rt: HostRuntime) {
-    assert_eq!(rt; image_size(&small()), 1152);
-    assert_eq!(rt;
+    same(&rt, image_size(&small()), 1152);
+    same(
+        &rt,
         half_place(&small(), 0),
         HalfPlace {
             header: 64,
             base: 96,
             log: 352,
-        }
+        },
     );
-    assert_eq!(rt;
+    same(
+        &rt,
         half_place(&small(), 1),
         HalfPlace {
             header: 608,
             base: 640,
             log: 896,
-        }
+        },
     );
 }
 
 #[test]
 fn size_of_the_default_image(rt: HostRuntime) {
-    assert_eq!(rt; image_size(&default_geometry()), 16_777_344);
+    same(&rt, image_size(&default_geometry()), 16_777_344);
 }
 
 #[test]
 fn kinds_of_records(rt: HostRuntime) {
-    assert_eq!(rt; kind_of(&small(), Mode::Serial), 1);
-    assert_eq!(rt; kind_of(&small(), Mode::Snapshot), 2);
+    same(&rt, kind_of(&small(), Mode::Serial), 1);
+    same(&rt, kind_of(&small(), Mode::Snapshot), 2);
 }

@@ -1,8 +1,15 @@
 // Each form once: calls that fail, pieces, refusals, and the real streams' forms over fakes.
 use super::*;
+use std::fmt::Debug;
 use std::io;
 use std::io::{Read, Write};
+use std::process::Abort;
 use std::test::Fail;
+
+// Two values that are to be the same. Each test that compared them itself would prove what is printed where they differ.
+fn same<T: PartialEq + Debug + Drop>(rt: &impl Abort, found: T, wanted: T) {
+    assert_eq!(rt; found, wanted);
+}
 
 // A stream whose every call fails.
 #[derive(Drop)]
@@ -52,12 +59,12 @@ fn a_call_that_fails_leaves_the_bytes(rt: HostRuntime) -> Result<(), Fail> {
     let alloc = rt.alloc();
     let mut source = MemSource::new(b"abcde".to_vec(alloc)?, [2].to_vec(alloc)?);
     let mut piece = [0u8; 3];
-    assert_eq!(rt; source.take(&mut piece), Ok(3));
-    assert_eq!(rt; piece.as_slice(), b"abc".as_slice());
-    assert_eq!(rt; source.take(&mut piece), Err(SourceFault));
-    assert_eq!(rt; source.take(&mut piece), Ok(2));
+    same(&rt, source.take(&mut piece), Ok(3));
+    same(&rt, piece.as_slice(), b"abc".as_slice());
+    same(&rt, source.take(&mut piece), Err(SourceFault));
+    same(&rt, source.take(&mut piece), Ok(2));
     assert_eq!(rt; piece[..2], b"de"[..]);
-    assert_eq!(rt; source.take(&mut piece), Ok(0));
+    same(&rt, source.take(&mut piece), Ok(0));
     Ok(())
 }
 
@@ -82,9 +89,9 @@ fn taking_stops_at_the_limit(rt: HostRuntime) -> Result<(), Fail> {
     let alloc = rt.alloc();
     let mut source = MemSource::new([7u8; 70_000].to_vec(alloc)?, Vec::new(alloc));
     let taken = take_all(alloc, &mut source, 69_999).ok().ok_or("a fault")?;
-    assert_eq!(rt; taken.len(), 69_999);
+    same(&rt, taken.len(), 69_999);
     let rest = take_all(alloc, &mut source, 69_999).ok().ok_or("a fault")?;
-    assert_eq!(rt; rest.as_slice(), [7u8].as_slice());
+    same(&rt, rest.as_slice(), [7u8].as_slice());
     Ok(())
 }
 
@@ -93,9 +100,10 @@ fn taking_reports_a_fault(rt: HostRuntime) -> Result<(), Fail> {
     let alloc = rt.alloc();
     let bytes = b"abcde".to_vec(alloc)?;
     let mut source = MemSource::in_pieces(bytes, [3].to_vec(alloc)?, 2);
-    assert_eq!(rt;
+    same(
+        &rt,
         take_all(alloc, &mut source, 100).err(),
-        Some(TakeError::Failed)
+        Some(TakeError::Failed),
     );
     Ok(())
 }
@@ -104,11 +112,11 @@ fn taking_reports_a_fault(rt: HostRuntime) -> Result<(), Fail> {
 fn a_whole_piece_is_put_one_byte_at_a_time(rt: HostRuntime) -> Result<(), Fail> {
     let alloc = rt.alloc();
     let mut sink = MemSink::in_pieces(alloc, Vec::new(alloc), 1);
-    assert_eq!(rt; put_all(&mut sink, b"abc"), Ok(()));
-    assert_eq!(rt; put_all(&mut sink, b""), Ok(()));
-    assert_eq!(rt; put_all(&mut sink, b"de"), Ok(()));
-    assert_eq!(rt; sink.bytes(), b"abcde".as_slice());
-    assert_eq!(rt; sink.starved(), 0);
+    same(&rt, put_all(&mut sink, b"abc"), Ok(()));
+    same(&rt, put_all(&mut sink, b""), Ok(()));
+    same(&rt, put_all(&mut sink, b"de"), Ok(()));
+    same(&rt, sink.bytes(), b"abcde".as_slice());
+    same(&rt, sink.starved(), 0);
     Ok(())
 }
 
@@ -116,9 +124,9 @@ fn a_whole_piece_is_put_one_byte_at_a_time(rt: HostRuntime) -> Result<(), Fail> 
 fn a_put_that_fails_keeps_the_front(rt: HostRuntime) -> Result<(), Fail> {
     let alloc = rt.alloc();
     let mut sink = MemSink::in_pieces(alloc, [3].to_vec(alloc)?, 2);
-    assert_eq!(rt; put_all(&mut sink, b"abcdef"), Err(PutError::Failed));
-    assert_eq!(rt; sink.bytes(), b"abcd".as_slice());
-    assert_eq!(rt; sink.starved(), 0);
+    same(&rt, put_all(&mut sink, b"abcdef"), Err(PutError::Failed));
+    same(&rt, sink.bytes(), b"abcd".as_slice());
+    same(&rt, sink.starved(), 0);
     Ok(())
 }
 
@@ -126,10 +134,10 @@ fn a_put_that_fails_keeps_the_front(rt: HostRuntime) -> Result<(), Fail> {
 fn a_sink_may_take_nothing(rt: HostRuntime) {
     let alloc = rt.alloc();
     let mut sink = MemSink::in_pieces(alloc, Vec::new(alloc), 0);
-    assert_eq!(rt; sink.put(b"a"), Ok(0));
-    assert_eq!(rt; put_all(&mut sink, b"a"), Err(PutError::TookNothing));
-    assert_eq!(rt; put_all(&mut sink, b""), Ok(()));
-    assert_eq!(rt; sink.bytes().len(), 0);
+    same(&rt, sink.put(b"a"), Ok(0));
+    same(&rt, put_all(&mut sink, b"a"), Err(PutError::TookNothing));
+    same(&rt, put_all(&mut sink, b""), Ok(()));
+    same(&rt, sink.bytes().len(), 0);
 }
 
 #[test]
@@ -137,9 +145,9 @@ fn a_reader_is_a_source(rt: HostRuntime) -> Result<(), Fail> {
     let alloc = rt.alloc();
     let mut source = StdSource::new(b"abc".as_slice());
     let taken = take_all(alloc, &mut source, 100).ok().ok_or("a fault")?;
-    assert_eq!(rt; taken.as_slice(), b"abc".as_slice());
+    same(&rt, taken.as_slice(), b"abc".as_slice());
     let mut broken = StdSource::new(Broken);
-    assert_eq!(rt; broken.take(&mut [0]), Err(SourceFault));
+    same(&rt, broken.take(&mut [0]), Err(SourceFault));
     Ok(())
 }
 
@@ -149,11 +157,11 @@ fn a_writer_is_a_sink(rt: HostRuntime) {
     let mut bytes = Vec::new(alloc);
     {
         let mut sink = StdSink::new(&mut bytes);
-        assert_eq!(rt; put_all(&mut sink, b"abc"), Ok(()));
+        same(&rt, put_all(&mut sink, b"abc"), Ok(()));
     }
-    assert_eq!(rt; bytes.as_slice(), b"abc".as_slice());
+    same(&rt, bytes.as_slice(), b"abc".as_slice());
     let mut broken = StdSink::new(Broken);
-    assert_eq!(rt; broken.put(b"a"), Err(SinkFault));
+    same(&rt, broken.put(b"a"), Err(SinkFault));
 }
 
 #[test]
@@ -163,8 +171,8 @@ fn a_writer_that_takes_little_gets_all_in_order(rt: HostRuntime) {
     let mut narrow = Narrow { bytes, calls: 0 };
     {
         let mut sink = StdSink::new(&mut narrow);
-        assert_eq!(rt; put_all(&mut sink, b"abc"), Err(PutError::Failed));
-        assert_eq!(rt; put_all(&mut sink, b"cdefg"), Ok(()));
+        same(&rt, put_all(&mut sink, b"abc"), Err(PutError::Failed));
+        same(&rt, put_all(&mut sink, b"cdefg"), Ok(()));
     }
-    assert_eq!(rt; narrow.bytes.as_slice(), b"abcdefg".as_slice());
+    same(&rt, narrow.bytes.as_slice(), b"abcdefg".as_slice());
 }

@@ -12,7 +12,14 @@ use iso_format::RecordBuffer;
 use iso_memdisk::MemDisk;
 use iso_model::{Geometry, LAST, Memory, Mode};
 use std::alloc::{AllocError, Global};
+use std::fmt::Debug;
+use std::process::Abort;
 use std::test::Fail;
+
+// Two values that are to be the same. Each test that compared them itself would prove what is printed where they differ.
+fn same<T: PartialEq + Debug + Drop>(rt: &impl Abort, found: T, wanted: T) {
+    assert_eq!(rt; found, wanted);
+}
 
 const PLACE: u64 = 16;
 
@@ -145,13 +152,13 @@ fn a_record_is_one_write_and_a_gate(rt: HostRuntime) -> Result<(), Fail> {
     let mut disk = blank(alloc, 100)?;
     let mut log = Log::start(PLACE, 100, 0);
     let place = append_one(alloc, &mut log, &mut disk)?;
-    assert_eq!(rt; place, 16);
-    assert_eq!(rt; disk.calls(), 4);
-    assert_eq!(rt; (log.used(), log.free(), log.last()), (30, 70, 1));
+    same(&rt, place, 16);
+    same(&rt, disk.calls(), 4);
+    same(&rt, (log.used(), log.free(), log.last()), (30, 70, 1));
     let place = append_one(alloc, &mut log, &mut disk)?;
-    assert_eq!(rt; place, 46);
-    assert_eq!(rt; disk.calls(), 8);
-    assert_eq!(rt; count_told(alloc, &mut disk, &small(), 100), Ok(2));
+    same(&rt, place, 46);
+    same(&rt, disk.calls(), 8);
+    same(&rt, count_told(alloc, &mut disk, &small(), 100), Ok(2));
     Ok(())
 }
 
@@ -161,10 +168,10 @@ fn a_group_costs_what_a_record_costs(rt: HostRuntime) -> Result<(), Fail> {
     let mut disk = blank(alloc, 100)?;
     let mut log = Log::start(PLACE, 100, 0);
     let place = append_two(alloc, &mut log, &mut disk)?;
-    assert_eq!(rt; place, 16);
-    assert_eq!(rt; disk.calls(), 4);
-    assert_eq!(rt; (log.used(), log.last()), (60, 2));
-    assert_eq!(rt; count_told(alloc, &mut disk, &small(), 100), Ok(2));
+    same(&rt, place, 16);
+    same(&rt, disk.calls(), 4);
+    same(&rt, (log.used(), log.last()), (60, 2));
+    same(&rt, count_told(alloc, &mut disk, &small(), 100), Ok(2));
     Ok(())
 }
 
@@ -174,17 +181,17 @@ fn a_log_is_filled_exactly(rt: HostRuntime) -> Result<(), Fail> {
     let mut disk = blank(alloc, 61)?;
     let mut log = Log::start(PLACE, 61, 0);
     let place = append_two(alloc, &mut log, &mut disk)?;
-    assert_eq!(rt; place, 16);
+    same(&rt, place, 16);
     let full = LogError::LogFull { need: 31, free: 1 };
-    assert_eq!(rt; append_one(alloc, &mut log, &mut disk), Err(full));
-    assert_eq!(rt; disk.calls(), 4);
-    assert_eq!(rt; count_told(alloc, &mut disk, &small(), 61), Ok(2));
+    same(&rt, append_one(alloc, &mut log, &mut disk), Err(full));
+    same(&rt, disk.calls(), 4);
+    same(&rt, count_told(alloc, &mut disk, &small(), 61), Ok(2));
 
     let mut short = blank(alloc, 60)?;
     let mut log = Log::start(PLACE, 60, 0);
     let full = LogError::LogFull { need: 61, free: 60 };
-    assert_eq!(rt; append_two(alloc, &mut log, &mut short), Err(full));
-    assert_eq!(rt; short.calls(), 0);
+    same(&rt, append_two(alloc, &mut log, &mut short), Err(full));
+    same(&rt, short.calls(), 0);
     Ok(())
 }
 
@@ -195,8 +202,12 @@ fn a_fault_leaves_all_records_or_none(rt: HostRuntime) -> Result<(), Fail> {
         let mut disk = blank(alloc, 100)?;
         let mut log = Log::start(PLACE, 100, 0);
         disk.fuse(calls);
-        assert_eq!(rt; append_two(alloc, &mut log, &mut disk), Err(LogError::Disk));
-        assert_eq!(rt; (log.used(), log.last()), (0, 0));
+        same(
+            &rt,
+            append_two(alloc, &mut log, &mut disk),
+            Err(LogError::Disk),
+        );
+        same(&rt, (log.used(), log.last()), (0, 0));
         for pick in 0..6 {
             let told = count_in(alloc, disk.crash(alloc, pick)?, &small(), 100);
             assert!(rt;
@@ -215,12 +226,16 @@ fn a_thousand_records_are_one_read(rt: HostRuntime) -> Result<(), Fail> {
     let mut log = Log::start(PLACE, 30_001, 0);
     for number in 0..1000 {
         let place = append_one(alloc, &mut log, &mut disk)?;
-        assert_eq!(rt; place, 16 + 30 * number);
+        same(&rt, place, 16 + 30 * number);
     }
-    assert_eq!(rt; log.free(), 1);
-    assert_eq!(rt; disk.calls(), 4000);
-    assert_eq!(rt; count_told(alloc, &mut disk, &small(), 30_001), Ok(1000));
-    assert_eq!(rt; disk.calls(), 4001);
+    same(&rt, log.free(), 1);
+    same(&rt, disk.calls(), 4000);
+    same(
+        &rt,
+        count_told(alloc, &mut disk, &small(), 30_001),
+        Ok(1000),
+    );
+    same(&rt, disk.calls(), 4001);
     Ok(())
 }
 
@@ -247,7 +262,7 @@ fn a_damaged_record_is_named(rt: HostRuntime) -> Result<(), Fail> {
             *byte = value;
         }
         let told = count_in(alloc, image, &small(), 75);
-        assert_eq!(rt; told, Err(LogError::Damaged { at, cause }));
+        same(&rt, told, Err(LogError::Damaged { at, cause }));
     }
     Ok(())
 }
@@ -263,7 +278,7 @@ fn a_closed_gate_ends_the_log(rt: HostRuntime) -> Result<(), Fail> {
         if let Some(byte) = image.get_mut(gate) {
             *byte = 255;
         }
-        assert_eq!(rt; count_in(alloc, image, &small(), 100), Ok(count));
+        same(&rt, count_in(alloc, image, &small(), 100), Ok(count));
     }
     Ok(())
 }
@@ -278,7 +293,7 @@ fn form_two_has_records_of_either_kind(rt: HostRuntime) -> Result<(), Fail> {
     if let Some(kind) = image.get_mut(17) {
         *kind = 2;
     }
-    assert_eq!(rt; count_in(alloc, image, &second_form(), 100), Ok(2));
+    same(&rt, count_in(alloc, image, &second_form(), 100), Ok(2));
     Ok(())
 }
 
@@ -291,10 +306,10 @@ fn a_record_is_two_reads_where_no_piece_is_read_ahead(rt: HostRuntime) -> Result
     let scan = Log::start(PLACE, 100, 0);
     let mut ahead = ReadAhead::new(alloc, 0);
     let found = scan.find_ahead(&mut disk, &small(), &mut ahead);
-    assert_eq!(rt; found, Ok(Some(31)));
-    assert_eq!(rt; disk.calls(), 6);
+    same(&rt, found, Ok(Some(31)));
+    same(&rt, disk.calls(), 6);
     let mut put = [0; 2];
     scan.read_at(&mut disk, 44, &mut put)?;
-    assert_eq!(rt; put, [0xab, 0xcd]);
+    same(&rt, put, [0xab, 0xcd]);
     Ok(())
 }

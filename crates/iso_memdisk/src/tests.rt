@@ -2,13 +2,20 @@
 use super::*;
 use crate::draws::Draws;
 use iso_disk::{Disk, DiskFault, Image};
+use std::fmt::Debug;
+use std::process::Abort;
 use std::test::Fail;
+
+// Two values that are to be the same. Each test that compared them itself would prove what is printed where they differ.
+pub(crate) fn same<T: PartialEq + Debug + Drop>(rt: &impl Abort, found: T, wanted: T) {
+    assert_eq!(rt; found, wanted);
+}
 
 #[test]
 fn first_draw_of_seed_zero(rt: HostRuntime) {
     let mut draws = Draws::new(0);
     // 335903614 modulo 256
-    assert_eq!(rt; draws.next(), 126);
+    same(&rt, draws.next(), 126);
 }
 
 #[test]
@@ -18,23 +25,33 @@ fn a_torn_write(rt: HostRuntime) -> Result<(), Fail> {
     disk.write(1, &[8, 9])?;
     let mut now = [0; 4];
     disk.read(0, &mut now)?;
-    assert_eq!(rt; now, [1, 8, 9, 4]);
-    assert_eq!(rt; disk.crash(alloc, 0)?.as_slice(), [1, 2, 3, 4].as_slice());
-    assert_eq!(rt; disk.crash(alloc, 1)?.as_slice(), [1, 8, 9, 4].as_slice());
+    same(&rt, now, [1, 8, 9, 4]);
+    same(
+        &rt,
+        disk.crash(alloc, 0)?.as_slice(),
+        [1, 2, 3, 4].as_slice(),
+    );
+    same(
+        &rt,
+        disk.crash(alloc, 1)?.as_slice(),
+        [1, 8, 9, 4].as_slice(),
+    );
     // the draws of seed 2
-    assert_eq!(rt;
+    same(
+        &rt,
         disk.crash(alloc, 2)?.as_slice(),
-        [1, 217, 85, 4].as_slice()
+        [1, 217, 85, 4].as_slice(),
     );
     disk.sync()?;
     for pick in 0..6 {
-        assert_eq!(rt;
+        same(
+            &rt,
             disk.crash(alloc, pick)?.as_slice(),
-            [1, 8, 9, 4].as_slice()
+            [1, 8, 9, 4].as_slice(),
         );
     }
-    assert_eq!(rt; disk.calls(), 3);
-    assert_eq!(rt; disk.starved(), 0);
+    same(&rt, disk.calls(), 3);
+    same(&rt, disk.starved(), 0);
     Ok(())
 }
 
@@ -45,20 +62,23 @@ fn drawn_bytes_of_writes_that_overlap(rt: HostRuntime) -> Result<(), Fail> {
     disk.write(1, &[8, 9])?;
     disk.write(2, &[6, 7])?;
     // Seed 2 draws 217, 85, 16, 176, and seed 3 draws 6, 247, 135, 148; the later write lies over the earlier one.
-    assert_eq!(rt;
+    same(
+        &rt,
         disk.crash(alloc, 2)?.as_slice(),
-        [1, 217, 16, 176, 5].as_slice()
+        [1, 217, 16, 176, 5].as_slice(),
     );
-    assert_eq!(rt;
+    same(
+        &rt,
         disk.crash(alloc, 3)?.as_slice(),
-        [1, 6, 135, 148, 5].as_slice()
+        [1, 6, 135, 148, 5].as_slice(),
     );
     // A write that is stable takes no draw.
     disk.sync()?;
     disk.write(4, &[0])?;
-    assert_eq!(rt;
+    same(
+        &rt,
         disk.crash(alloc, 2)?.as_slice(),
-        [1, 8, 6, 7, 217].as_slice()
+        [1, 8, 6, 7, 217].as_slice(),
     );
     Ok(())
 }
@@ -68,21 +88,34 @@ fn a_failed_write_and_a_failed_sync(rt: HostRuntime) -> Result<(), Fail> {
     let alloc = rt.alloc();
     let mut disk = MemDisk::new(alloc, [1, 2, 3, 4].to_vec(alloc)?);
     disk.fail(1);
-    assert_eq!(rt; disk.write(0, &[7]), Err(DiskFault));
+    same(&rt, disk.write(0, &[7]), Err(DiskFault));
     for pick in 0..6 {
-        assert_eq!(rt;
+        same(
+            &rt,
             disk.crash(alloc, pick)?.as_slice(),
-            [1, 2, 3, 4].as_slice()
+            [1, 2, 3, 4].as_slice(),
         );
     }
     disk.write(0, &[7])?;
     disk.fail(1);
-    assert_eq!(rt; disk.sync(), Err(DiskFault));
-    assert_eq!(rt; disk.crash(alloc, 0)?.as_slice(), [1, 2, 3, 4].as_slice());
-    assert_eq!(rt; disk.crash(alloc, 1)?.as_slice(), [7, 2, 3, 4].as_slice());
+    same(&rt, disk.sync(), Err(DiskFault));
+    same(
+        &rt,
+        disk.crash(alloc, 0)?.as_slice(),
+        [1, 2, 3, 4].as_slice(),
+    );
+    same(
+        &rt,
+        disk.crash(alloc, 1)?.as_slice(),
+        [7, 2, 3, 4].as_slice(),
+    );
     disk.sync()?;
-    assert_eq!(rt; disk.crash(alloc, 0)?.as_slice(), [7, 2, 3, 4].as_slice());
-    assert_eq!(rt; disk.calls(), 4);
+    same(
+        &rt,
+        disk.crash(alloc, 0)?.as_slice(),
+        [7, 2, 3, 4].as_slice(),
+    );
+    same(&rt, disk.calls(), 4);
     Ok(())
 }
 
@@ -93,7 +126,7 @@ fn the_nth_call_fails_alone(rt: HostRuntime) -> Result<(), Fail> {
     disk.fail(3);
     disk.write(0, &[1])?;
     disk.sync()?;
-    assert_eq!(rt; disk.read(0, &mut [0; 2]), Err(DiskFault));
+    same(&rt, disk.read(0, &mut [0; 2]), Err(DiskFault));
     disk.read(0, &mut [0; 2])?;
     disk.fail(0);
     disk.sync()?;
@@ -109,18 +142,18 @@ fn the_nth_call_of_a_kind_fails_alone(rt: HostRuntime) -> Result<(), Fail> {
     disk.fail_kind(CallKind::Read, 1);
     disk.sync()?;
     disk.write(0, &[1])?;
-    assert_eq!(rt; disk.read(0, &mut [0; 2]), Err(DiskFault));
+    same(&rt, disk.read(0, &mut [0; 2]), Err(DiskFault));
     disk.read(0, &mut [0; 2])?;
-    assert_eq!(rt; disk.sync(), Err(DiskFault));
+    same(&rt, disk.sync(), Err(DiskFault));
     disk.sync()?;
     disk.fail_kind(CallKind::Bind, 2);
     disk.fail_kind(CallKind::Write, 1);
-    assert_eq!(rt; disk.write(0, &[2]), Err(DiskFault));
+    same(&rt, disk.write(0, &[2]), Err(DiskFault));
     disk.bind("t.img", None)?;
-    assert_eq!(rt; disk.bind("t.img", None), Err(DiskFault));
+    same(&rt, disk.bind("t.img", None), Err(DiskFault));
     disk.bind("t.img", None)?;
-    assert_eq!(rt; disk.crash(alloc, 1)?.as_slice(), [1, 0].as_slice());
-    assert_eq!(rt; disk.calls(), 10);
+    same(&rt, disk.crash(alloc, 1)?.as_slice(), [1, 0].as_slice());
+    same(&rt, disk.calls(), 10);
     Ok(())
 }
 
@@ -130,8 +163,8 @@ fn a_fuse_counts_a_bind(rt: HostRuntime) -> Result<(), Fail> {
     let mut disk = MemDisk::new(alloc, [0; 2].to_vec(alloc)?);
     disk.fuse(1);
     disk.bind("t.img", None)?;
-    assert_eq!(rt; disk.sync(), Err(DiskFault));
-    assert_eq!(rt; disk.bind("t.img", None), Err(DiskFault));
+    same(&rt, disk.sync(), Err(DiskFault));
+    same(&rt, disk.bind("t.img", None), Err(DiskFault));
     Ok(())
 }
 
@@ -141,15 +174,15 @@ fn a_fuse_at_each_call_of_a_sequence(rt: HostRuntime) -> Result<(), Fail> {
     for calls in 0..4 {
         let mut disk = MemDisk::new(alloc, [0; 2].to_vec(alloc)?);
         disk.fuse(calls);
-        assert_eq!(rt; disk.write(0, &[5]).is_ok(), calls > 0);
-        assert_eq!(rt; disk.sync().is_ok(), calls > 1);
-        assert_eq!(rt; disk.write(1, &[6]).is_ok(), calls > 2);
-        assert_eq!(rt; disk.sync(), Err(DiskFault));
+        same(&rt, disk.write(0, &[5]).is_ok(), calls > 0);
+        same(&rt, disk.sync().is_ok(), calls > 1);
+        same(&rt, disk.write(1, &[6]).is_ok(), calls > 2);
+        same(&rt, disk.sync(), Err(DiskFault));
         let written: [u8; 2] = [if calls > 0 { 5 } else { 0 }, if calls > 2 { 6 } else { 0 }];
         let stable: [u8; 2] = [if calls > 1 { 5 } else { 0 }, 0];
-        assert_eq!(rt; disk.crash(alloc, 1)?.as_slice(), written.as_slice());
-        assert_eq!(rt; disk.crash(alloc, 0)?.as_slice(), stable.as_slice());
-        assert_eq!(rt; disk.calls(), 4);
+        same(&rt, disk.crash(alloc, 1)?.as_slice(), written.as_slice());
+        same(&rt, disk.crash(alloc, 0)?.as_slice(), stable.as_slice());
+        same(&rt, disk.calls(), 4);
     }
     Ok(())
 }
@@ -160,16 +193,20 @@ fn bound_to_a_blank_and_to_an_existing_device(rt: HostRuntime) -> Result<(), Fai
     let mut disk = MemDisk::new(alloc, [3, 4].to_vec(alloc)?);
     disk.write(0, &[9])?;
     disk.bind("t.img", None)?;
-    assert_eq!(rt; disk.size(), 2);
-    assert_eq!(rt; disk.crash(alloc, 0)?.as_slice(), [9, 4].as_slice());
+    same(&rt, disk.size(), 2);
+    same(&rt, disk.crash(alloc, 0)?.as_slice(), [9, 4].as_slice());
     disk.bind("t.img", Some(3))?;
-    assert_eq!(rt; disk.size(), 3);
+    same(&rt, disk.size(), 3);
     for pick in 0..6 {
-        assert_eq!(rt; disk.crash(alloc, pick)?.as_slice(), [0, 0, 0].as_slice());
+        same(
+            &rt,
+            disk.crash(alloc, pick)?.as_slice(),
+            [0, 0, 0].as_slice(),
+        );
     }
     disk.fail(1);
-    assert_eq!(rt; disk.bind("t.img", Some(1)), Err(DiskFault));
-    assert_eq!(rt; disk.size(), 3);
-    assert_eq!(rt; disk.calls(), 4);
+    same(&rt, disk.bind("t.img", Some(1)), Err(DiskFault));
+    same(&rt, disk.size(), 3);
+    same(&rt, disk.calls(), 4);
     Ok(())
 }

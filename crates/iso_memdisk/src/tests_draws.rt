@@ -1,6 +1,7 @@
 // The bytes that picks from 2 on draw. The numbers were made by another program, from the rule of the draws: the next number is the
 // last one times 6364136223846793005 plus 1442695040888963407, modulo 2^64, and its byte is the lowest of its upper 32 bits.
 use crate::MemDisk;
+use crate::tests::same;
 use iso_disk::Disk;
 use std::alloc::Global;
 use std::test::Fail;
@@ -28,7 +29,7 @@ fn each_pick_from_two_on_has_its_own_draws(rt: HostRuntime) -> Result<(), Fail> 
         (u64::MAX, [81, 111, 171, 5, 0, 134, 171, 47]),
     ] {
         let image = left(alloc, [1; 8], [9; 8], pick)?;
-        assert_eq!(rt; image.as_slice(), drawn.as_slice());
+        same(&rt, image.as_slice(), drawn.as_slice());
     }
     Ok(())
 }
@@ -40,9 +41,9 @@ fn a_second_write_goes_on_with_the_draws(rt: HostRuntime) -> Result<(), Fail> {
     disk.write(0, &[9; 2])?;
     disk.write(2, &[9])?;
     disk.write(3, &[9; 5])?;
-    assert_eq!(rt; disk.crash(alloc, 2)?.as_slice(), OF_TWO.as_slice());
+    same(&rt, disk.crash(alloc, 2)?.as_slice(), OF_TWO.as_slice());
     // and a second crash begins with them anew
-    assert_eq!(rt; disk.crash(alloc, 2)?.as_slice(), OF_TWO.as_slice());
+    same(&rt, disk.crash(alloc, 2)?.as_slice(), OF_TWO.as_slice());
     Ok(())
 }
 
@@ -52,7 +53,7 @@ fn draws_do_not_look_at_what_was_written(rt: HostRuntime) -> Result<(), Fail> {
     // the drawn bytes among them: a byte that is drawn may be the one that was written
     for written in [[0; 8], [255; 8], [1, 2, 3, 4, 5, 6, 7, 8], OF_TWO] {
         let image = left(alloc, [1; 8], written, 2)?;
-        assert_eq!(rt; image.as_slice(), OF_TWO.as_slice());
+        same(&rt, image.as_slice(), OF_TWO.as_slice());
     }
     Ok(())
 }
@@ -62,7 +63,7 @@ fn draws_do_not_look_at_what_was_there(rt: HostRuntime) -> Result<(), Fail> {
     let alloc = rt.alloc();
     for first in [[0; 8], [255; 8], OF_TWO] {
         let image = left(alloc, first, [9; 8], 2)?;
-        assert_eq!(rt; image.as_slice(), OF_TWO.as_slice());
+        same(&rt, image.as_slice(), OF_TWO.as_slice());
     }
     Ok(())
 }

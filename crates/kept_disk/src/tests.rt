@@ -3,7 +3,14 @@ use super::*;
 use iso_disk::{Disk, DiskFault, Image};
 use iso_memdisk::{CallKind, MemDisk};
 use std::alloc::Global;
+use std::fmt::Debug;
+use std::process::Abort;
 use std::test::Fail;
+
+// Two values that are to be the same. Each test that compared them itself would prove what is printed where they differ.
+fn same<T: PartialEq + Debug + Drop>(rt: &impl Abort, found: T, wanted: T) {
+    assert_eq!(rt; found, wanted);
+}
 
 /// A disk of this size whose pages are kept, and whose write of this number fails alone, from 1.
 fn kept_over(alloc: Global, size: u64, failing: u64) -> Result<Kept<MemDisk>, DiskFault> {
@@ -67,7 +74,7 @@ fn reads_and_writes_as_without_pages_also_where_a_write_fails(rt: HostRuntime) -
         let mut x = failing;
         for _ in 0..60 {
             let alike = agree(&mut kept, &mut plain, &mut x);
-            assert_eq!(rt; alike, true);
+            same(&rt, alike, true);
         }
     }
     Ok(())
@@ -79,11 +86,11 @@ fn a_second_read_makes_no_call(rt: HostRuntime) -> Result<(), Fail> {
     let mut bytes = [9; 200];
     read_at(&mut kept, 4_000, &mut bytes)?;
     // the bind, and one read for each of the two pages
-    assert_eq!(rt; kept.disk().calls(), 3);
+    same(&rt, kept.disk().calls(), 3);
     read_at(&mut kept, 4_000, &mut bytes)?;
     read_at(&mut kept, 100, &mut bytes)?;
-    assert_eq!(rt; kept.disk().calls(), 3);
-    assert_eq!(rt; bytes, [0; 200]);
+    same(&rt, kept.disk().calls(), 3);
+    same(&rt, bytes, [0; 200]);
     Ok(())
 }
 
@@ -93,9 +100,9 @@ fn a_page_written_in_part_while_not_held(rt: HostRuntime) -> Result<(), Fail> {
     write_at(&mut kept, 4_098, &[7; 2])?;
     let mut bytes = [9; 6];
     read_at(&mut kept, 4_096, &mut bytes)?;
-    assert_eq!(rt; bytes, [0, 0, 7, 7, 0, 0]);
+    same(&rt, bytes, [0, 0, 7, 7, 0, 0]);
     // the bind, the write and the read of the page
-    assert_eq!(rt; kept.disk().calls(), 3);
+    same(&rt, kept.disk().calls(), 3);
     Ok(())
 }
 
@@ -106,9 +113,9 @@ fn the_last_page_is_shorter(rt: HostRuntime) -> Result<(), Fail> {
     read_at(&mut kept, 8_996, &mut bytes)?;
     write_at(&mut kept, 8_998, &[5, 6])?;
     read_at(&mut kept, 8_996, &mut bytes)?;
-    assert_eq!(rt; bytes, [0, 0, 5, 6]);
+    same(&rt, bytes, [0, 0, 5, 6]);
     // the bind, one read and one write
-    assert_eq!(rt; kept.disk().calls(), 3);
+    same(&rt, kept.disk().calls(), 3);
     Ok(())
 }
 
@@ -117,10 +124,10 @@ fn a_failed_write_leaves_no_page(rt: HostRuntime) -> Result<(), Fail> {
     let mut kept = kept_over(rt.alloc(), 9_000, 1)?;
     let mut bytes = [9; 4];
     read_at(&mut kept, 0, &mut bytes)?;
-    assert_eq!(rt; write_at(&mut kept, 2, &[5, 6]), Err(DiskFault));
+    same(&rt, write_at(&mut kept, 2, &[5, 6]), Err(DiskFault));
     read_at(&mut kept, 0, &mut bytes)?;
-    assert_eq!(rt; bytes, [0; 4]);
+    same(&rt, bytes, [0; 4]);
     // the bind, the write, and a read before it and behind it
-    assert_eq!(rt; kept.disk().calls(), 4);
+    same(&rt, kept.disk().calls(), 4);
     Ok(())
 }

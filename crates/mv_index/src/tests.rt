@@ -6,9 +6,15 @@ ghost use Rattle.mv_index.specs.Versions.{AreAtMost, versions_in};
 use super::*;
 use iso_model::Memory;
 use std::alloc::Global;
+use std::fmt::Debug;
 use std::marker::Brand;
 use std::process::Abort;
 use std::test::Fail;
+
+// Two values that are to be the same. Each test that compared them itself would prove what is printed where they differ.
+fn same<T: PartialEq + Debug + Drop>(rt: &impl Abort, found: T, wanted: T) {
+    assert_eq!(rt; found, wanted);
+}
 
 /// An index of one block of 64 bytes, and the last number in it.
 #[derive(Drop)]
@@ -117,12 +123,12 @@ fn finds_the_versions_at_or_below_a_number(rt: HostRuntime) -> Result<(), Fail> 
         for number in 1..=count {
             block.add(&rt, number, 8 * number, 3, 5)?;
         }
-        assert_eq!(rt; block.index.count(), count);
-        assert_eq!(rt; block.found(0), (0, 0, 0));
+        same(&rt, block.index.count(), count);
+        same(&rt, block.found(0), (0, 0, 0));
         for number in 1..=count {
-            assert_eq!(rt; block.found(number), (number as usize, 1, number));
+            same(&rt, block.found(number), (number as usize, 1, number));
         }
-        assert_eq!(rt; block.found(u64::MAX).0, count as usize);
+        same(&rt, block.found(u64::MAX).0, count as usize);
     }
     Ok(())
 }
@@ -140,10 +146,10 @@ fn finds_all_versions_of_one_number(rt: HostRuntime) -> Result<(), Fail> {
             (5, 209, 63, 1),
         ],
     )?;
-    assert_eq!(rt; block.found(1), (0, 0, 0));
-    assert_eq!(rt; block.found(2), (3, 2, 2));
-    assert_eq!(rt; block.found(4), (3, 2, 2));
-    assert_eq!(rt; block.found(5), (5, 2, 5));
+    same(&rt, block.found(1), (0, 0, 0));
+    same(&rt, block.found(2), (3, 2, 2));
+    same(&rt, block.found(4), (3, 2, 2));
+    same(&rt, block.found(5), (5, 2, 5));
     Ok(())
 }
 
@@ -154,14 +160,14 @@ fn a_trim_keeps_what_still_shows_one_byte(rt: HostRuntime) -> Result<(), Fail> {
         rt.alloc(),
         &[(1, 100, 0, 10), (2, 200, 0, 9), (3, 300, 9, 1)],
     )?;
-    assert_eq!(rt; block.trim(2), 0);
-    assert_eq!(rt; block.found(9), (3, 1, 3));
-    assert_eq!(rt; block.trim(3), 1);
-    assert_eq!(rt; block.index.count(), 2);
-    assert_eq!(rt; block.found(1), (0, 0, 0));
-    assert_eq!(rt; block.found(9), (2, 2, 3));
-    assert_eq!(rt; block.shown(&rt, 8), Some(208));
-    assert_eq!(rt; block.shown(&rt, 9), Some(300));
+    same(&rt, block.trim(2), 0);
+    same(&rt, block.found(9), (3, 1, 3));
+    same(&rt, block.trim(3), 1);
+    same(&rt, block.index.count(), 2);
+    same(&rt, block.found(1), (0, 0, 0));
+    same(&rt, block.found(9), (2, 2, 3));
+    same(&rt, block.shown(&rt, 8), Some(208));
+    same(&rt, block.shown(&rt, 9), Some(300));
     Ok(())
 }
 
@@ -175,12 +181,12 @@ fn a_trim_drops_up_to_its_number_alone(rt: HostRuntime) -> Result<(), Fail> {
         (5, 500, 0, 64),
     ];
     let mut block = filled(&rt, rt.alloc(), &all)?;
-    assert_eq!(rt; block.trim(0), 0);
-    assert_eq!(rt; block.trim(3), 2);
-    assert_eq!(rt; block.found(9), (3, 3, 5));
-    assert_eq!(rt; block.trim(3), 0);
-    assert_eq!(rt; block.trim(u64::MAX), 2);
-    assert_eq!(rt; block.found(9), (1, 5, 5));
+    same(&rt, block.trim(0), 0);
+    same(&rt, block.trim(3), 2);
+    same(&rt, block.found(9), (3, 3, 5));
+    same(&rt, block.trim(3), 0);
+    same(&rt, block.trim(u64::MAX), 2);
+    same(&rt, block.found(9), (1, 5, 5));
     Ok(())
 }
 
@@ -191,7 +197,7 @@ fn pieces_are_cut_where_later_versions_write(rt: HostRuntime) -> Result<(), Fail
         rt.alloc(),
         &[(1, 100, 0, 10), (2, 200, 3, 2), (3, 300, 4, 4)],
     )?;
-    assert_eq!(rt; block.index.showing(0).len(), 4);
+    same(&rt, block.index.showing(0).len(), 4);
     for (at, place) in [
         (0, Some(100)),
         (2, Some(102)),
@@ -205,8 +211,8 @@ fn pieces_are_cut_where_later_versions_write(rt: HostRuntime) -> Result<(), Fail
         assert_eq!(rt; block.shown(&rt, at), place, "at {at}");
     }
     block.add(&rt, 4, 400, 0, 10)?;
-    assert_eq!(rt; block.index.showing(0).len(), 1);
-    assert_eq!(rt; block.shown(&rt, 9), Some(409));
+    same(&rt, block.index.showing(0).len(), 1);
+    same(&rt, block.shown(&rt, 9), Some(409));
     Ok(())
 }
 
@@ -224,9 +230,9 @@ fn a_version_takes_the_place_of_pieces(rt: HostRuntime) -> Result<(), Fail> {
     )?;
     block.add(&rt, 5, 400, 2, 16)?;
     let offs = [(0, 2, 100), (2, 16, 400), (18, 2, 302)];
-    assert_eq!(rt; block.index.showing(0).len(), 3);
+    same(&rt, block.index.showing(0).len(), 3);
     for (piece, (off, len, place)) in block.index.showing(0).iter().zip(offs) {
-        assert_eq!(rt; (piece.off, piece.len, piece.place), (off, len, place));
+        same(&rt, (piece.off, piece.len, piece.place), (off, len, place));
     }
     Ok(())
 }
@@ -243,13 +249,13 @@ fn a_range_is_met_by_the_pieces_with_a_byte_in_it(rt: HostRuntime) -> Result<(),
             (4, 130, 16, 2),
         ],
     )?;
-    assert_eq!(rt; block.met(&rt, 0, 64), (4, 4, 16));
-    assert_eq!(rt; block.met(&rt, 5, 17), (4, 4, 16));
-    assert_eq!(rt; block.met(&rt, 6, 16), (2, 8, 12));
-    assert_eq!(rt; block.met(&rt, 9, 10), (1, 8, 8));
-    assert_eq!(rt; block.met(&rt, 10, 12), (0, 0, 0));
-    assert_eq!(rt; block.met(&rt, 0, 4), (0, 0, 0));
-    assert_eq!(rt; block.met(&rt, 18, 64), (0, 0, 0));
+    same(&rt, block.met(&rt, 0, 64), (4, 4, 16));
+    same(&rt, block.met(&rt, 5, 17), (4, 4, 16));
+    same(&rt, block.met(&rt, 6, 16), (2, 8, 12));
+    same(&rt, block.met(&rt, 9, 10), (1, 8, 8));
+    same(&rt, block.met(&rt, 10, 12), (0, 0, 0));
+    same(&rt, block.met(&rt, 0, 4), (0, 0, 0));
+    same(&rt, block.met(&rt, 18, 64), (0, 0, 0));
     Ok(())
 }
 
@@ -266,9 +272,9 @@ fn each_block_has_its_own_versions(rt: HostRuntime) -> Result<(), Fail> {
     index.add(2, version);
     assert!(rt; index.showing(0).is_empty());
     assert!(rt; index.showing(1).is_empty());
-    assert_eq!(rt; index.showing(2), [version].as_slice());
-    assert_eq!(rt; index.count(), 1);
-    assert_eq!(rt; index.trim_to(7), 0);
+    same(&rt, index.showing(2), [version].as_slice());
+    same(&rt, index.count(), 1);
+    same(&rt, index.trim_to(7), 0);
     Ok(())
 }
 
@@ -305,24 +311,24 @@ fn two(alloc: Global) -> Result<MvIndex, Memory>
 #[test]
 fn later_versions_move_alone(rt: HostRuntime) -> Result<(), Fail> {
     let mut index = two(rt.alloc())?;
-    assert_eq!(rt; index.showing(0).len(), 3);
-    assert_eq!(rt; index.move_to(150, 1000), 1);
-    assert_eq!(rt; index.count(), 1);
+    same(&rt, index.showing(0).len(), 3);
+    same(&rt, index.move_to(150, 1000), 1);
+    same(&rt, index.count(), 1);
     let moved = Version {
         number: 2,
         place: 1050,
         off: 4,
         len: 4,
     };
-    assert_eq!(rt; index.showing(0), [moved].as_slice());
+    same(&rt, index.showing(0), [moved].as_slice());
     Ok(())
 }
 
 #[test]
 fn parts_take_their_bytes_and_eight(rt: HostRuntime) -> Result<(), Fail> {
     let index = two(rt.alloc())?;
-    assert_eq!(rt; index.bytes_above(0), 30);
-    assert_eq!(rt; index.bytes_above(1), 12);
-    assert_eq!(rt; index.bytes_above(2), 0);
+    same(&rt, index.bytes_above(0), 30);
+    same(&rt, index.bytes_above(1), 12);
+    same(&rt, index.bytes_above(2), 0);
     Ok(())
 }

@@ -3,9 +3,16 @@ ghost use Rattle.plain_tx.specs.Plain.{state_of};
 
 use super::*;
 use std::alloc::Global;
+use std::fmt::Debug;
+use std::process::Abort;
 use std::test::Fail;
 use store_model::TxError;
 use tx_blocks::TxBlocks;
+
+// Two values that are to be the same. Each test that compared them itself would prove what is printed where they differ.
+fn same<T: PartialEq + Debug + Drop>(rt: &impl Abort, found: T, wanted: T) {
+    assert_eq!(rt; found, wanted);
+}
 
 // Two blocks of 64 bytes.
 fn small(alloc: Global) -> Result<PlainTx, Fail>
@@ -18,11 +25,11 @@ fn small(alloc: Global) -> Result<PlainTx, Fail>
 fn a_marked_write_is_shown(rt: HostRuntime) -> Result<(), Fail> {
     let mut tx = small(rt.alloc())?;
     let mut block = [7u8; 64];
-    assert_eq!(rt; tx.write_block(1, &block), Ok(()));
-    assert_eq!(rt; tx.mark_accessed(3, 2), Ok(()));
-    assert_eq!(rt; tx.read_block(1, &mut block), Ok(()));
-    assert_eq!(rt; (block[2], block[3], block[4], block[5]), (0, 7, 7, 0));
-    assert_eq!(rt; tx.room(), 4094);
+    same(&rt, tx.write_block(1, &block), Ok(()));
+    same(&rt, tx.mark_accessed(3, 2), Ok(()));
+    same(&rt, tx.read_block(1, &mut block), Ok(()));
+    same(&rt, (block[2], block[3], block[4], block[5]), (0, 7, 7, 0));
+    same(&rt, tx.room(), 4094);
     Ok(())
 }
 
@@ -30,9 +37,9 @@ fn a_marked_write_is_shown(rt: HostRuntime) -> Result<(), Fail> {
 fn calls_are_refused(rt: HostRuntime) -> Result<(), Fail> {
     let mut tx = small(rt.alloc())?;
     let mut block = [0u8; 64];
-    assert_eq!(rt; tx.mark_accessed(0, 65), Err(TxError::BadRange));
-    assert_eq!(rt; tx.mark_accessed(0, 1), Err(TxError::NoAccess));
-    assert_eq!(rt; tx.read_block(2, &mut block), Err(TxError::BadBlock));
-    assert_eq!(rt; tx.write_block(2, &block), Err(TxError::BadBlock));
+    same(&rt, tx.mark_accessed(0, 65), Err(TxError::BadRange));
+    same(&rt, tx.mark_accessed(0, 1), Err(TxError::NoAccess));
+    same(&rt, tx.read_block(2, &mut block), Err(TxError::BadBlock));
+    same(&rt, tx.write_block(2, &block), Err(TxError::BadBlock));
     Ok(())
 }

@@ -17,7 +17,14 @@ use iso_io::{MemSink, MemSource};
 use iso_model::Mode;
 use script_model::{BadLine, Op, Reply, Stop};
 use std::alloc::{AllocError, Global};
+use std::fmt::Debug;
+use std::process::Abort;
 use std::test::Fail;
+
+// Two values that are to be the same. Each test that compared them itself would prove what is printed where they differ.
+fn same<T: PartialEq + Debug + Drop>(rt: &impl Abort, found: T, wanted: T) {
+    assert_eq!(rt; found, wanted);
+}
 
 // How many lines of its script the machine has answered, and how many more it answers before its disk fails.
 #[derive(Drop)]
@@ -140,26 +147,27 @@ const REPLIES: &[u8] = b"1 ok begin 0\n1 ok read-only\n1 ok begin 0\n1 ok\n1 ok 
 #[test]
 fn a_script_is_answered(rt: HostRuntime) -> Result<(), Fail> {
     let ran = run_in_pieces(rt.alloc(), SCRIPT, 4096)?;
-    assert_eq!(rt; ran.end, RunEnd::Done);
-    assert_eq!(rt; ran.output.as_slice(), REPLIES);
+    same(&rt, ran.end, RunEnd::Done);
+    same(&rt, ran.output.as_slice(), REPLIES);
     Ok(())
 }
 
 #[test]
 fn lines_cross_the_pieces(rt: HostRuntime) -> Result<(), Fail> {
     let ran = run_in_pieces(rt.alloc(), SCRIPT, 3)?;
-    assert_eq!(rt; ran.end, RunEnd::Done);
-    assert_eq!(rt; ran.output.as_slice(), REPLIES);
+    same(&rt, ran.end, RunEnd::Done);
+    same(&rt, ran.output.as_slice(), REPLIES);
     Ok(())
 }
 
 #[test]
 fn a_carriage_return_a_comment_and_a_last_line(rt: HostRuntime) -> Result<(), Fail> {
     let ran = run_in_pieces(rt.alloc(), b"1 begin\r\n# x\n1 end", 4096)?;
-    assert_eq!(rt; ran.end, RunEnd::Done);
-    assert_eq!(rt;
+    same(&rt, ran.end, RunEnd::Done);
+    same(
+        &rt,
         ran.output.as_slice(),
-        b"1 ok begin 0\n1 ok read-only\n".as_slice()
+        b"1 ok begin 0\n1 ok read-only\n".as_slice(),
     );
     Ok(())
 }
@@ -167,8 +175,8 @@ fn a_carriage_return_a_comment_and_a_last_line(rt: HostRuntime) -> Result<(), Fa
 #[test]
 fn a_bad_line_is_named(rt: HostRuntime) -> Result<(), Fail> {
     let ran = run_in_pieces(rt.alloc(), b"1 begin\n1 jump\n", 4096)?;
-    assert_eq!(rt; ran.end, RunEnd::BadLine(BadLine { line: 2, cause: 2 }));
-    assert_eq!(rt; ran.output.as_slice(), b"1 ok begin 0\n".as_slice());
+    same(&rt, ran.end, RunEnd::BadLine(BadLine { line: 2, cause: 2 }));
+    same(&rt, ran.output.as_slice(), b"1 ok begin 0\n".as_slice());
     Ok(())
 }
 
@@ -178,8 +186,8 @@ fn a_line_that_is_too_long_is_named_before_it_ends(rt: HostRuntime) -> Result<()
     let mut input = b"# x\n".to_vec(alloc)?;
     input.resize(16_389, b'1')?;
     let ran = run_in_pieces(alloc, &input, 4096)?;
-    assert_eq!(rt; ran.end, RunEnd::BadLine(BadLine { line: 2, cause: 7 }));
-    assert_eq!(rt; ran.output.len(), 0);
+    same(&rt, ran.end, RunEnd::BadLine(BadLine { line: 2, cause: 7 }));
+    same(&rt, ran.output.len(), 0);
     Ok(())
 }
 
@@ -189,8 +197,8 @@ fn the_source_fails_at_its_second_call(rt: HostRuntime) -> Result<(), Fail> {
     let source = MemSource::new(b"1 begin\n".to_vec(alloc)?, Vec::from_array(alloc, [2])?);
     let sink = MemSink::new(alloc, Vec::new(alloc));
     let ran = run_over(alloc, source, sink, u64::MAX)?;
-    assert_eq!(rt; ran.end, RunEnd::Input);
-    assert_eq!(rt; ran.output.as_slice(), b"1 ok begin 0\n".as_slice());
+    same(&rt, ran.end, RunEnd::Input);
+    same(&rt, ran.output.as_slice(), b"1 ok begin 0\n".as_slice());
     Ok(())
 }
 
@@ -200,8 +208,8 @@ fn the_sink_fails_at_its_first_call(rt: HostRuntime) -> Result<(), Fail> {
     let source = MemSource::new(b"1 begin\n".to_vec(alloc)?, Vec::new(alloc));
     let sink = MemSink::new(alloc, Vec::from_array(alloc, [1])?);
     let ran = run_over(alloc, source, sink, u64::MAX)?;
-    assert_eq!(rt; ran.end, RunEnd::Output);
-    assert_eq!(rt; ran.output.len(), 0);
+    same(&rt, ran.end, RunEnd::Output);
+    same(&rt, ran.output.len(), 0);
     Ok(())
 }
 
@@ -211,7 +219,7 @@ fn the_disk_fails_at_the_second_step(rt: HostRuntime) -> Result<(), Fail> {
     let source = MemSource::new(SCRIPT.to_vec(alloc)?, Vec::new(alloc));
     let sink = MemSink::new(alloc, Vec::new(alloc));
     let ran = run_over(alloc, source, sink, 1)?;
-    assert_eq!(rt; ran.end, RunEnd::Disk);
-    assert_eq!(rt; ran.output.as_slice(), b"1 ok begin 0\n".as_slice());
+    same(&rt, ran.end, RunEnd::Disk);
+    same(&rt, ran.output.as_slice(), b"1 ok begin 0\n".as_slice());
     Ok(())
 }

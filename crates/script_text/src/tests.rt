@@ -1,7 +1,14 @@
 use super::*;
 use iso_model::{Bytes, Clash, GroupReply, LabelReplies, Memory, Mode};
 use std::alloc::Global;
+use std::fmt::Debug;
+use std::process::Abort;
 use std::test::*;
+
+// Two values that are to be the same. Each test that compared them itself would prove what is printed where they differ.
+fn same<T: PartialEq + Debug + Drop>(rt: &impl Abort, found: T, wanted: T) {
+    assert_eq!(rt; found, wanted);
+}
 
 fn cause_of(parsed: Result<Parsed, LineError>) -> Option<u8> {
     match parsed {
@@ -48,7 +55,7 @@ fn the_first_test_that_a_line_fails(rt: HostRuntime) {
         (b"1 begin\r", 8),
     ];
     for (line, wanted) in lines.iter() {
-        assert_eq!(rt; cause(rt.alloc(), line), Some(*wanted));
+        same(&rt, cause(rt.alloc(), line), Some(*wanted));
     }
 }
 
@@ -84,7 +91,7 @@ fn the_first_argument_that_is_wrong(rt: HostRuntime) {
         (b"1 fdel 61 62", 3),
     ];
     for (line, wanted) in lines.iter() {
-        assert_eq!(rt; cause(rt.alloc(), line), Some(*wanted));
+        same(&rt, cause(rt.alloc(), line), Some(*wanted));
     }
 }
 
@@ -159,8 +166,8 @@ fn puts(alloc: Global, line: &[u8], place: (u32, u32), wanted: &[u8]) -> bool {
 fn operations_with_arguments(rt: HostRuntime) {
     let alloc = rt.alloc();
     assert!(rt; begins_in_snapshot_mode(alloc, b"1 begin snapshot"));
-    assert_eq!(rt; got(alloc, b"1 get 3 2 1"), Some((3, 2, 1)));
-    assert_eq!(rt; marked(alloc, b"1 mark 5 6"), Some((5, 6)));
+    same(&rt, got(alloc, b"1 get 3 2 1"), Some((3, 2, 1)));
+    same(&rt, marked(alloc, b"1 mark 5 6"), Some((5, 6)));
     assert!(rt; releases(alloc, b"1 release z0", b"z0"));
     assert!(rt; writes(alloc, b"1 write 2 aB", 2, &[171]));
 }
@@ -174,7 +181,7 @@ fn lines_that_say_nothing(rt: HostRuntime) -> Result<(), Fail> {
     let mut spaces = vec![in rt.alloc(); b' '; 16384]?;
     assert!(rt; matches!(parse_line(rt.alloc(), &spaces), Ok(Parsed::Skip)));
     spaces.push(b' ')?;
-    assert_eq!(rt; cause(rt.alloc(), &spaces), Some(7));
+    same(&rt, cause(rt.alloc(), &spaces), Some(7));
     Ok(())
 }
 
@@ -211,11 +218,12 @@ fn aborts(alloc: Global, line: &[u8]) -> Option<u8> {
 fn operations(rt: HostRuntime) {
     let alloc = rt.alloc();
     assert!(rt; begins(alloc, b"1 begin"));
-    assert_eq!(rt; ends(alloc, b"  64   end "), Some(64));
-    assert_eq!(rt; aborts(alloc, b"2 abort"), Some(2));
-    assert_eq!(rt;
+    same(&rt, ends(alloc, b"  64   end "), Some(64));
+    same(&rt, aborts(alloc, b"2 abort"), Some(2));
+    same(
+        &rt,
         read_block(alloc, b"1 read 4294967295"),
-        Some(4_294_967_295)
+        Some(4_294_967_295),
     );
     assert!(rt; puts(alloc, b"1 put 2 5 abCD", (2, 5), &[0xab, 0xcd]));
 }
@@ -236,10 +244,14 @@ fn a_put_of_many_bytes(rt: HostRuntime) -> Result<(), Fail> {
 fn a_carriage_return_before_the_line_feed(rt: HostRuntime) -> Result<(), Fail> {
     let alloc = rt.alloc();
     assert!(rt; is_end(parse_whole_line(alloc, b"1 end\r")));
-    assert_eq!(rt; cause_of(parse_whole_line(alloc, b"1 end\r\r")), Some(8));
+    same(
+        &rt,
+        cause_of(parse_whole_line(alloc, b"1 end\r\r")),
+        Some(8),
+    );
     let mut piece = vec![in alloc; b' '; 16384]?;
     piece.push(b'\r')?;
-    assert_eq!(rt; cause_of(parse_whole_line(alloc, &piece)), Some(7));
+    same(&rt, cause_of(parse_whole_line(alloc, &piece)), Some(7));
     Ok(())
 }
 
@@ -273,12 +285,12 @@ fn replies_without_numbers(rt: HostRuntime) -> Result<(), Fail> {
         (Reply::NoHandle, b"1 no-handle\n"),
         (Reply::LabelTaken, b"1 label-taken\n"),
     ];
-    assert_eq!(rt; printed_otherwise(alloc, &replies)?, None);
+    same(&rt, printed_otherwise(alloc, &replies)?, None);
     let others: [(Reply, &[u8]); 2] = [
         (Reply::TooManyTx, b"1 too-many-tx\n"),
         (Reply::Worn, b"1 worn\n"),
     ];
-    assert_eq!(rt; printed_otherwise(alloc, &others)?, None);
+    same(&rt, printed_otherwise(alloc, &others)?, None);
     Ok(())
 }
 
@@ -319,7 +331,7 @@ fn replies_with_numbers(rt: HostRuntime) -> Result<(), Fail> {
             b"1 log full need 30 free 1\n",
         ),
     ];
-    assert_eq!(rt; printed_otherwise(rt.alloc(), &replies)?, None);
+    same(&rt, printed_otherwise(rt.alloc(), &replies)?, None);
     Ok(())
 }
 
@@ -331,7 +343,7 @@ fn replies_with_bytes(rt: HostRuntime) -> Result<(), Fail> {
         (Reply::Shown(shown), b"1 ok 00abff\n"),
         (Reply::Found(Bytes::empty(alloc)), b"1 ok -\n"),
     ];
-    assert_eq!(rt; printed_otherwise(alloc, &replies)?, None);
+    same(&rt, printed_otherwise(alloc, &replies)?, None);
     Ok(())
 }
 
@@ -344,7 +356,7 @@ fn lines_one_after_another(rt: HostRuntime) -> Result<(), Fail> {
     push_reply(&mut out, 2, &Reply::Worn)
         .ok()
         .ok_or("there is memory")?;
-    assert_eq!(rt; out.as_slice(), b"64 ok\n2 worn\n".as_slice());
+    same(&rt, out.as_slice(), b"64 ok\n2 worn\n".as_slice());
     Ok(())
 }
 
@@ -355,7 +367,7 @@ fn a_reply_that_shows_many_bytes(rt: HostRuntime) -> Result<(), Fail> {
     let line = print_reply(alloc, 64, &shown)
         .ok()
         .ok_or("there is memory")?;
-    assert_eq!(rt; line.len(), 137);
+    same(&rt, line.len(), 137);
     assert!(rt; line.starts_with(b"64 ok a5a5"));
     assert!(rt; line.ends_with(b"a5a5\n"));
     Ok(())
@@ -368,12 +380,12 @@ fn a_line_that_is_kept_for_the_next_reply(rt: HostRuntime) -> Result<(), Fail> {
     let mut line = ReplyLine::new(alloc);
     assert!(rt; line.text().is_empty());
     assert!(rt; line.set(3, &Reply::InTx).is_ok());
-    assert_eq!(rt; line.text(), b"3 in-tx\n".as_slice());
+    same(&rt, line.text(), b"3 in-tx\n".as_slice());
     assert!(rt; line.set(10, &shown).is_ok());
-    assert_eq!(rt; line.text().len(), 137);
+    same(&rt, line.text().len(), 137);
     assert!(rt; line.text().ends_with(b"5a5a\n"));
     assert!(rt; line.set(64, &Reply::Began(4096)).is_ok());
-    assert_eq!(rt; line.text(), b"64 ok begin 4096\n".as_slice());
+    same(&rt, line.text(), b"64 ok begin 4096\n".as_slice());
     Ok(())
 }
 
@@ -388,7 +400,7 @@ fn prints(alloc: Global, op: Op, wanted: &[u8]) -> bool {
 #[test]
 fn the_first_draw_of_seed_0(rt: HostRuntime) {
     let mut generator = Generator::new(0);
-    assert_eq!(rt; generator.next(), 335_903_614);
+    same(&rt, generator.next(), 335_903_614);
 }
 
 #[test]
@@ -461,11 +473,12 @@ fn what_a_group_is_answered(rt: HostRuntime) -> Result<(), Fail> {
     let reply = Reply::Grouped(LabelReplies::of(answers));
     let mut line = ReplyLine::new(alloc);
     assert!(rt; line.set(3, &reply).is_ok());
-    assert_eq!(rt;
+    same(
+        &rt,
         line.text(),
-        b"3 ok commit 12; none; read-only; conflict with 7 block 3 at 63; log full need 31 free 2; worn\n".as_slice()
+        b"3 ok commit 12; none; read-only; conflict with 7 block 3 at 63; log full need 31 free 2; worn\n".as_slice(),
     );
     let printed = print_reply(alloc, 3, &reply).ok().ok_or("there is memory")?;
-    assert_eq!(rt; printed.as_slice(), line.text());
+    same(&rt, printed.as_slice(), line.text());
     Ok(())
 }

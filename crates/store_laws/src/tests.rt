@@ -11,9 +11,16 @@ use iso_model::Bytes;
 use iso_tree::scan;
 use plain_tx::PlainTx;
 use std::alloc::Global;
+use std::fmt::Debug;
+use std::process::Abort;
 use std::test::Fail;
 use store_model::{PairList, Region, StoreError};
 use tx_blocks::TxBlocks;
+
+// Two values that are to be the same. Each test that compared them itself would prove what is printed where they differ.
+fn same<T: PartialEq + Debug + Drop>(rt: &impl Abort, found: T, wanted: T) {
+    assert_eq!(rt; found, wanted);
+}
 
 // What a transaction puts, it gets, over any well-formed region.
 fn put_and_get<T: TxBlocks>(
@@ -39,7 +46,7 @@ fn a_transaction_gets_what_it_puts(rt: HostRuntime) -> Result<(), Fail> {
     let mut tx = PlainTx::new(rt.alloc(), bytes, 256);
     let region = Region { start: 1, size: 3 };
     match put_and_get(rt.alloc(), &mut tx, region, b"key", b"value") {
-        Ok(Some(found)) => assert_eq!(rt; found.as_slice(), b"value".as_slice()),
+        Ok(Some(found)) => same(&rt, found.as_slice(), b"value".as_slice()),
         _ => return Err(Fail::new("no value")),
     }
     Ok(())
@@ -75,11 +82,11 @@ fn a_transaction_scans_what_it_puts(rt: HostRuntime) -> Result<(), Fail> {
     let region = Region { start: 1, size: 4 };
     match put_and_scan(rt.alloc(), &mut tx, region, b"key", b"value", b"a", b"z", 9) {
         Ok(found) => {
-            assert_eq!(rt; found.len(), 1);
+            same(&rt, found.len(), 1);
             match found.get(0) {
                 Some((key, value)) => {
-                    assert_eq!(rt; key.as_slice(), b"key".as_slice());
-                    assert_eq!(rt; value.as_slice(), b"value".as_slice());
+                    same(&rt, key.as_slice(), b"key".as_slice());
+                    same(&rt, value.as_slice(), b"value".as_slice());
                 }
                 None => return Err(Fail::new("no pair")),
             }

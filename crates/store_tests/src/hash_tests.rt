@@ -2,6 +2,7 @@ ghost use Rattle.std.specs.Prelude.{◌≡◌, ◌<◌, IfOk};
 ghost use Rattle.plain_tx.specs.Plain.{state_of};
 ghost use Rattle.store_tests.specs.Ready.{IsReady};
 
+use crate::file_tests::same;
 use iso_hash::{del, get, put};
 use iso_model::Bytes;
 use plain_tx::PlainTx;
@@ -77,26 +78,26 @@ fn fill(alloc: Global, tx: &mut PlainTx) -> Result<(), StoreError>
 #[test]
 fn six_keys_fill_the_region(rt: HostRuntime) -> Result<(), Fail> {
     let mut tx = blocks(rt.alloc(), 0, 0)?;
-    assert_eq!(rt; fill(rt.alloc(), &mut tx), Ok(()));
+    same(&rt, fill(rt.alloc(), &mut tx), Ok(()));
     let full = put_in(rt.alloc(), &mut tx, b"g", &[7]);
-    assert_eq!(rt; full, Err(StoreError::NoBlocks { need: 1, free: 0 }));
-    assert_eq!(rt; put_in(rt.alloc(), &mut tx, b"f", &[8]), Ok(()));
-    assert_eq!(rt; has(rt.alloc(), &mut tx, b"f", Some(8)), Ok(true));
-    assert_eq!(rt; has(rt.alloc(), &mut tx, b"a", Some(1)), Ok(true));
-    assert_eq!(rt; has(rt.alloc(), &mut tx, b"g", None), Ok(true));
+    same(&rt, full, Err(StoreError::NoBlocks { need: 1, free: 0 }));
+    same(&rt, put_in(rt.alloc(), &mut tx, b"f", &[8]), Ok(()));
+    same(&rt, has(rt.alloc(), &mut tx, b"f", Some(8)), Ok(true));
+    same(&rt, has(rt.alloc(), &mut tx, b"a", Some(1)), Ok(true));
+    same(&rt, has(rt.alloc(), &mut tx, b"g", None), Ok(true));
     Ok(())
 }
 
 #[test]
 fn an_empty_overflow_block_is_given_back(rt: HostRuntime) -> Result<(), Fail> {
     let mut tx = blocks(rt.alloc(), 0, 0)?;
-    assert_eq!(rt; fill(rt.alloc(), &mut tx), Ok(()));
-    assert_eq!(rt; del_in(rt.alloc(), &mut tx, b"d"), Ok(true));
-    assert_eq!(rt; del_in(rt.alloc(), &mut tx, b"e"), Ok(true));
-    assert_eq!(rt; del_in(rt.alloc(), &mut tx, b"f"), Ok(true));
-    assert_eq!(rt; del_in(rt.alloc(), &mut tx, b"f"), Ok(false));
-    assert_eq!(rt; put_in(rt.alloc(), &mut tx, b"g", &[7]), Ok(()));
-    assert_eq!(rt; has(rt.alloc(), &mut tx, b"g", Some(7)), Ok(true));
+    same(&rt, fill(rt.alloc(), &mut tx), Ok(()));
+    same(&rt, del_in(rt.alloc(), &mut tx, b"d"), Ok(true));
+    same(&rt, del_in(rt.alloc(), &mut tx, b"e"), Ok(true));
+    same(&rt, del_in(rt.alloc(), &mut tx, b"f"), Ok(true));
+    same(&rt, del_in(rt.alloc(), &mut tx, b"f"), Ok(false));
+    same(&rt, put_in(rt.alloc(), &mut tx, b"g", &[7]), Ok(()));
+    same(&rt, has(rt.alloc(), &mut tx, b"g", Some(7)), Ok(true));
     Ok(())
 }
 
@@ -105,10 +106,11 @@ fn a_damaged_block_is_named(rt: HostRuntime) -> Result<(), Fail> {
     // Byte 12 of the first bucket's block, which is block 2 of the image.
     let mut tx = blocks(rt.alloc(), 2 * 256 + 12, 1)?;
     let broken = Err(StoreError::Broken { block: 2 });
-    assert_eq!(rt; put_in(rt.alloc(), &mut tx, b"a", &[1]), broken);
-    assert_eq!(rt;
+    same(&rt, put_in(rt.alloc(), &mut tx, b"a", &[1]), broken);
+    same(
+        &rt,
         has(rt.alloc(), &mut tx, b"a", None),
-        Err(StoreError::Broken { block: 2 })
+        Err(StoreError::Broken { block: 2 }),
     );
     Ok(())
 }
@@ -116,17 +118,20 @@ fn a_damaged_block_is_named(rt: HostRuntime) -> Result<(), Fail> {
 #[test]
 fn keys_and_values_have_their_lengths(rt: HostRuntime) -> Result<(), Fail> {
     let mut tx = blocks(rt.alloc(), 0, 0)?;
-    assert_eq!(rt;
+    same(
+        &rt,
         put_in(rt.alloc(), &mut tx, b"", &[1]),
-        Err(StoreError::BadKey)
+        Err(StoreError::BadKey),
     );
-    assert_eq!(rt;
+    same(
+        &rt,
         put_in(rt.alloc(), &mut tx, b"a", &[0; 33]),
-        Err(StoreError::BadValue)
+        Err(StoreError::BadValue),
     );
-    assert_eq!(rt;
+    same(
+        &rt,
         del_in(rt.alloc(), &mut tx, &[0; 29]),
-        Err(StoreError::BadKey)
+        Err(StoreError::BadKey),
     );
     Ok(())
 }

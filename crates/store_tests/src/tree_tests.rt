@@ -2,6 +2,7 @@ ghost use Rattle.std.specs.Prelude.{◌≡◌, ◌<◌, ◌≤◌, IfOk, length}
 ghost use Rattle.plain_tx.specs.Plain.{state_of};
 ghost use Rattle.store_tests.specs.Ready.{IsReady};
 
+use crate::file_tests::same;
 use iso_alloc::{lay, word_at};
 use iso_model::Bytes;
 use iso_tree::{del, get, put, scan};
@@ -174,33 +175,54 @@ fn scans(
 #[test]
 fn keys_are_found_on_both_sides_of_a_separator(rt: HostRuntime) -> Result<(), Fail> {
     let mut tx = tree(rt.alloc(), 0, 0)?;
-    assert_eq!(rt; has(rt.alloc(), &mut tx, b"b", Some(2)), Ok(true));
-    assert_eq!(rt; has(rt.alloc(), &mut tx, b"c", Some(3)), Ok(true));
-    assert_eq!(rt; has(rt.alloc(), &mut tx, b"d", Some(4)), Ok(true));
-    assert_eq!(rt; has(rt.alloc(), &mut tx, b"bb", None), Ok(true));
-    assert_eq!(rt; has(rt.alloc(), &mut tx, b"e", None), Ok(true));
+    same(&rt, has(rt.alloc(), &mut tx, b"b", Some(2)), Ok(true));
+    same(&rt, has(rt.alloc(), &mut tx, b"c", Some(3)), Ok(true));
+    same(&rt, has(rt.alloc(), &mut tx, b"d", Some(4)), Ok(true));
+    same(&rt, has(rt.alloc(), &mut tx, b"bb", None), Ok(true));
+    same(&rt, has(rt.alloc(), &mut tx, b"e", None), Ok(true));
     Ok(())
 }
 
 #[test]
 fn a_scan_crosses_nodes_and_stops_at_its_most(rt: HostRuntime) -> Result<(), Fail> {
     let mut tx = tree(rt.alloc(), 0, 0)?;
-    assert_eq!(rt;
+    same(
+        &rt,
         scans(rt.alloc(), &mut tx, b"a", b"e", 9, b"abcd"),
-        Ok(true)
+        Ok(true),
     );
-    assert_eq!(rt; scans(rt.alloc(), &mut tx, b"a", b"e", 3, b"abc"), Ok(true));
-    assert_eq!(rt; scans(rt.alloc(), &mut tx, b"b", b"d", 9, b"bc"), Ok(true));
+    same(
+        &rt,
+        scans(rt.alloc(), &mut tx, b"a", b"e", 3, b"abc"),
+        Ok(true),
+    );
+    same(
+        &rt,
+        scans(rt.alloc(), &mut tx, b"b", b"d", 9, b"bc"),
+        Ok(true),
+    );
     Ok(())
 }
 
 #[test]
 fn a_scan_of_an_empty_range_finds_nothing(rt: HostRuntime) -> Result<(), Fail> {
     let mut tx = tree(rt.alloc(), 0, 0)?;
-    assert_eq!(rt; scans(rt.alloc(), &mut tx, b"bb", b"c", 9, b""), Ok(true));
-    assert_eq!(rt; scans(rt.alloc(), &mut tx, b"d", b"a", 9, b""), Ok(true));
+    same(
+        &rt,
+        scans(rt.alloc(), &mut tx, b"bb", b"c", 9, b""),
+        Ok(true),
+    );
+    same(
+        &rt,
+        scans(rt.alloc(), &mut tx, b"d", b"a", 9, b""),
+        Ok(true),
+    );
     let mut empty = blank(rt.alloc())?;
-    assert_eq!(rt; scans(rt.alloc(), &mut empty, b"a", b"z", 9, b""), Ok(true));
+    same(
+        &rt,
+        scans(rt.alloc(), &mut empty, b"a", b"z", 9, b""),
+        Ok(true),
+    );
     Ok(())
 }
 
@@ -208,13 +230,22 @@ fn a_scan_of_an_empty_range_finds_nothing(rt: HostRuntime) -> Result<(), Fail> {
 fn a_scan_names_a_damaged_node_that_it_reads(rt: HostRuntime) -> Result<(), Fail> {
     // A byte of the head of the second leaf, which is block 3 of the image.
     let mut tx = tree(rt.alloc(), 256 * 3 + 5, 1)?;
-    assert_eq!(rt;
+    same(
+        &rt,
         scans(rt.alloc(), &mut tx, b"a", b"e", 9, b""),
-        Err(StoreError::Broken { block: 3 })
+        Err(StoreError::Broken { block: 3 }),
     );
     // Neither of these reads that leaf.
-    assert_eq!(rt; scans(rt.alloc(), &mut tx, b"a", b"c", 9, b"ab"), Ok(true));
-    assert_eq!(rt; scans(rt.alloc(), &mut tx, b"a", b"e", 2, b"ab"), Ok(true));
+    same(
+        &rt,
+        scans(rt.alloc(), &mut tx, b"a", b"c", 9, b"ab"),
+        Ok(true),
+    );
+    same(
+        &rt,
+        scans(rt.alloc(), &mut tx, b"a", b"e", 2, b"ab"),
+        Ok(true),
+    );
     Ok(())
 }
 
@@ -222,18 +253,25 @@ fn a_scan_names_a_damaged_node_that_it_reads(rt: HostRuntime) -> Result<(), Fail
 fn a_scan_tests_the_value_parts_of_its_range(rt: HostRuntime) -> Result<(), Fail> {
     // The length of the value of `c`.
     let mut tx = tree(rt.alloc(), 256 * 3 + 157, 64)?;
-    assert_eq!(rt;
+    same(
+        &rt,
         scans(rt.alloc(), &mut tx, b"c", b"e", 9, b""),
-        Err(StoreError::Broken { block: 3 })
+        Err(StoreError::Broken { block: 3 }),
     );
-    assert_eq!(rt; scans(rt.alloc(), &mut tx, b"d", b"e", 9, b"d"), Ok(true));
-    assert_eq!(rt;
+    same(
+        &rt,
+        scans(rt.alloc(), &mut tx, b"d", b"e", 9, b"d"),
+        Ok(true),
+    );
+    same(
+        &rt,
         scans(rt.alloc(), &mut tx, b"", b"e", 9, b""),
-        Err(StoreError::BadKey)
+        Err(StoreError::BadKey),
     );
-    assert_eq!(rt;
+    same(
+        &rt,
         scans(rt.alloc(), &mut tx, b"a", &[0; 29], 9, b""),
-        Err(StoreError::BadKey)
+        Err(StoreError::BadKey),
     );
     Ok(())
 }
@@ -241,13 +279,13 @@ fn a_scan_tests_the_value_parts_of_its_range(rt: HostRuntime) -> Result<(), Fail
 #[test]
 fn a_removed_key_is_gone_and_the_others_stay(rt: HostRuntime) -> Result<(), Fail> {
     let mut tx = tree(rt.alloc(), 0, 0)?;
-    assert_eq!(rt; del_in(rt.alloc(), &mut tx, b"c"), Ok(true));
-    assert_eq!(rt; del_in(rt.alloc(), &mut tx, b"c"), Ok(false));
-    assert_eq!(rt; has(rt.alloc(), &mut tx, b"c", None), Ok(true));
-    assert_eq!(rt; has(rt.alloc(), &mut tx, b"d", Some(4)), Ok(true));
-    assert_eq!(rt; del_in(rt.alloc(), &mut tx, b"d"), Ok(true));
-    assert_eq!(rt; has(rt.alloc(), &mut tx, b"d", None), Ok(true));
-    assert_eq!(rt; has(rt.alloc(), &mut tx, b"a", Some(1)), Ok(true));
+    same(&rt, del_in(rt.alloc(), &mut tx, b"c"), Ok(true));
+    same(&rt, del_in(rt.alloc(), &mut tx, b"c"), Ok(false));
+    same(&rt, has(rt.alloc(), &mut tx, b"c", None), Ok(true));
+    same(&rt, has(rt.alloc(), &mut tx, b"d", Some(4)), Ok(true));
+    same(&rt, del_in(rt.alloc(), &mut tx, b"d"), Ok(true));
+    same(&rt, has(rt.alloc(), &mut tx, b"d", None), Ok(true));
+    same(&rt, has(rt.alloc(), &mut tx, b"a", Some(1)), Ok(true));
     Ok(())
 }
 
@@ -255,11 +293,12 @@ fn a_removed_key_is_gone_and_the_others_stay(rt: HostRuntime) -> Result<(), Fail
 fn a_damaged_leaf_is_named_by_its_block_of_the_image(rt: HostRuntime) -> Result<(), Fail> {
     // A byte of the head of the second leaf, which is block 3 of the image.
     let mut tx = tree(rt.alloc(), 256 * 3 + 5, 1)?;
-    assert_eq!(rt;
+    same(
+        &rt,
         del_in(rt.alloc(), &mut tx, b"c"),
-        Err(StoreError::Broken { block: 3 })
+        Err(StoreError::Broken { block: 3 }),
     );
-    assert_eq!(rt; has(rt.alloc(), &mut tx, b"a", Some(1)), Ok(true));
+    same(&rt, has(rt.alloc(), &mut tx, b"a", Some(1)), Ok(true));
     Ok(())
 }
 
@@ -267,44 +306,49 @@ fn a_damaged_leaf_is_named_by_its_block_of_the_image(rt: HostRuntime) -> Result<
 fn a_damaged_value_part_breaks_only_its_own_key(rt: HostRuntime) -> Result<(), Fail> {
     // The length of the value of `c`.
     let mut tx = tree(rt.alloc(), 256 * 3 + 157, 64)?;
-    assert_eq!(rt;
+    same(
+        &rt,
         has(rt.alloc(), &mut tx, b"c", None),
-        Err(StoreError::Broken { block: 3 })
+        Err(StoreError::Broken { block: 3 }),
     );
-    assert_eq!(rt; has(rt.alloc(), &mut tx, b"d", Some(4)), Ok(true));
-    assert_eq!(rt; del_in(rt.alloc(), &mut tx, b"c"), Ok(true));
+    same(&rt, has(rt.alloc(), &mut tx, b"d", Some(4)), Ok(true));
+    same(&rt, del_in(rt.alloc(), &mut tx, b"c"), Ok(true));
     Ok(())
 }
 
 #[test]
 fn a_damaged_head_and_a_damaged_root_are_named(rt: HostRuntime) -> Result<(), Fail> {
     let mut tx = tree(rt.alloc(), 256 + 3, 64)?;
-    assert_eq!(rt;
+    same(
+        &rt,
         has(rt.alloc(), &mut tx, b"a", None),
-        Err(StoreError::Broken { block: 1 })
+        Err(StoreError::Broken { block: 1 }),
     );
     let mut other = tree(rt.alloc(), 256 * 4 + 157, 1)?;
-    assert_eq!(rt;
+    same(
+        &rt,
         has(rt.alloc(), &mut other, b"a", None),
-        Err(StoreError::Broken { block: 4 })
+        Err(StoreError::Broken { block: 4 }),
     );
-    assert_eq!(rt; has(rt.alloc(), &mut other, b"c", Some(3)), Ok(true));
+    same(&rt, has(rt.alloc(), &mut other, b"c", Some(3)), Ok(true));
     Ok(())
 }
 
 #[test]
 fn keys_and_values_have_their_lengths(rt: HostRuntime) -> Result<(), Fail> {
     let mut tx = tree(rt.alloc(), 0, 0)?;
-    assert_eq!(rt;
+    same(
+        &rt,
         has(rt.alloc(), &mut tx, b"", None),
-        Err(StoreError::BadKey)
+        Err(StoreError::BadKey),
     );
-    assert_eq!(rt;
+    same(
+        &rt,
         del_in(rt.alloc(), &mut tx, &[0; 29]),
-        Err(StoreError::BadKey)
+        Err(StoreError::BadKey),
     );
     let long = put_in(rt.alloc(), &mut tx, 39, b"a", &[0; 33]);
-    assert_eq!(rt; long, Err(StoreError::BadValue));
+    same(&rt, long, Err(StoreError::BadValue));
     Ok(())
 }
 
@@ -312,16 +356,16 @@ fn keys_and_values_have_their_lengths(rt: HostRuntime) -> Result<(), Fail> {
 fn a_put_tells_how_many_blocks_it_needs(rt: HostRuntime) -> Result<(), Fail> {
     // Two blocks for nodes: a fourth key needs a second leaf and a root over both.
     let mut tx = blank(rt.alloc())?;
-    assert_eq!(rt; put_in(rt.alloc(), &mut tx, 3, b"b", &[2]), Ok(()));
-    assert_eq!(rt; put_in(rt.alloc(), &mut tx, 3, b"d", &[4]), Ok(()));
-    assert_eq!(rt; put_in(rt.alloc(), &mut tx, 3, b"a", &[1]), Ok(()));
+    same(&rt, put_in(rt.alloc(), &mut tx, 3, b"b", &[2]), Ok(()));
+    same(&rt, put_in(rt.alloc(), &mut tx, 3, b"d", &[4]), Ok(()));
+    same(&rt, put_in(rt.alloc(), &mut tx, 3, b"a", &[1]), Ok(()));
     let full = put_in(rt.alloc(), &mut tx, 3, b"c", &[3]);
-    assert_eq!(rt; full, Err(StoreError::NoBlocks { need: 2, free: 1 }));
-    assert_eq!(rt; put_in(rt.alloc(), &mut tx, 3, b"d", &[5]), Ok(()));
-    assert_eq!(rt; put_in(rt.alloc(), &mut tx, 4, b"c", &[3]), Ok(()));
-    assert_eq!(rt; has(rt.alloc(), &mut tx, b"c", Some(3)), Ok(true));
-    assert_eq!(rt; has(rt.alloc(), &mut tx, b"d", Some(5)), Ok(true));
-    assert_eq!(rt; has(rt.alloc(), &mut tx, b"a", Some(1)), Ok(true));
+    same(&rt, full, Err(StoreError::NoBlocks { need: 2, free: 1 }));
+    same(&rt, put_in(rt.alloc(), &mut tx, 3, b"d", &[5]), Ok(()));
+    same(&rt, put_in(rt.alloc(), &mut tx, 4, b"c", &[3]), Ok(()));
+    same(&rt, has(rt.alloc(), &mut tx, b"c", Some(3)), Ok(true));
+    same(&rt, has(rt.alloc(), &mut tx, b"d", Some(5)), Ok(true));
+    same(&rt, has(rt.alloc(), &mut tx, b"a", Some(1)), Ok(true));
     Ok(())
 }
 
@@ -445,11 +489,12 @@ fn root_level(tx: &mut PlainTx) -> u32
 fn drawn_calls_agree_with_a_plain_map(rt: HostRuntime) -> Result<(), Fail> {
     let mut tx = blank(rt.alloc())?;
     let mut plain = [0; 32];
-    assert_eq!(rt; run(rt.alloc(), &mut tx, &mut plain, 200), Ok(true));
-    assert_eq!(rt; agrees(rt.alloc(), &mut tx, &plain), Ok(true));
-    assert_eq!(rt;
+    same(&rt, run(rt.alloc(), &mut tx, &mut plain, 200), Ok(true));
+    same(&rt, agrees(rt.alloc(), &mut tx, &plain), Ok(true));
+    same(
+        &rt,
         scan_agrees(rt.alloc(), &mut tx, &plain, 0, 32, 40),
-        Ok(true)
+        Ok(true),
     );
     // Three levels and more.
     let level = root_level(&mut tx);

@@ -4,8 +4,14 @@ use crate::{EnterError, Live, PostError, Rack, Work};
 use byte_marks::{Marks, Touched};
 use iso_model::{Geometry, Label, MAX_LIVE, MarkError, Mode, Span};
 use std::alloc::Global;
+use std::fmt::Debug;
 use std::process::Abort;
 use std::test::Fail;
+
+// Two values that are to be the same. Each test that compared them itself would prove what is printed where they differ.
+fn same<T: PartialEq + Debug + Drop>(rt: &impl Abort, found: T, wanted: T) {
+    assert_eq!(rt; found, wanted);
+}
 
 // Four blocks of 64 bytes.
 fn small() -> Geometry
@@ -89,14 +95,14 @@ fn blocks(alloc: Global, work: &mut Work) -> Result<Vec<u32>, Fail> {
 // these drops is proved.
 fn marked_write_writes_its_marks_alone_in(rt: &impl Abort, work: &mut Work) -> Result<(), Fail> {
     write(rt, work, 2, &[0x61; 64])?;
-    assert_eq!(rt; mark(work, 5, 2), Ok(()));
-    assert_eq!(rt; mark(work, 0, 1), Ok(()));
+    same(rt, mark(work, 5, 2), Ok(()));
+    same(rt, mark(work, 0, 1), Ok(()));
     let mut wanted = [0x2e; 64];
     wanted[0] = 0x61;
     wanted[5] = 0x61;
     wanted[6] = 0x61;
-    assert_eq!(rt; shown(rt, work, 2)?, wanted);
-    assert_eq!(rt; shown(rt, work, 3)?, [0x2e; 64]);
+    same(rt, shown(rt, work, 2)?, wanted);
+    same(rt, shown(rt, work, 3)?, [0x2e; 64]);
     Ok(())
 }
 
@@ -109,10 +115,10 @@ fn marked_write_writes_its_marks_alone(rt: HostRuntime) -> Result<(), Fail> {
 fn later_write_lies_over_an_earlier_one_in(rt: &impl Abort, work: &mut Work) -> Result<(), Fail> {
     write(rt, work, 2, &[0x61; 64])?;
     write(rt, work, 2, &[0x62; 64])?;
-    assert_eq!(rt; mark(work, 6, 1), Ok(()));
+    same(rt, mark(work, 6, 1), Ok(()));
     let mut wanted = [0x61; 64];
     wanted[6] = 0x62;
-    assert_eq!(rt; shown(rt, work, 2)?, wanted);
+    same(rt, shown(rt, work, 2)?, wanted);
     Ok(())
 }
 
@@ -123,17 +129,17 @@ fn later_write_lies_over_an_earlier_one(rt: HostRuntime) -> Result<(), Fail> {
 }
 
 fn ninth_mark_is_refused_in(rt: &impl Abort, work: &mut Work) -> Result<(), Fail> {
-    assert_eq!(rt; mark(work, 0, 0), Err(MarkError::BadRange));
-    assert_eq!(rt; mark(work, 63, 2), Err(MarkError::BadRange));
-    assert_eq!(rt; mark(work, 63, 1), Err(MarkError::NoAccess));
+    same(rt, mark(work, 0, 0), Err(MarkError::BadRange));
+    same(rt, mark(work, 63, 2), Err(MarkError::BadRange));
+    same(rt, mark(work, 63, 1), Err(MarkError::NoAccess));
     write(rt, work, 1, &[1; 64])?;
     for at in 0..8 {
-        assert_eq!(rt; mark(work, at * 4, 1), Ok(()));
+        same(rt, mark(work, at * 4, 1), Ok(()));
     }
-    assert_eq!(rt; mark(work, 1, 1), Err(MarkError::TooManyMarks));
-    assert_eq!(rt; mark(work, 64, 1), Err(MarkError::BadRange));
+    same(rt, mark(work, 1, 1), Err(MarkError::TooManyMarks));
+    same(rt, mark(work, 64, 1), Err(MarkError::BadRange));
     write(rt, work, 1, &[2; 64])?;
-    assert_eq!(rt; mark(work, 1, 1), Ok(()));
+    same(rt, mark(work, 1, 1), Ok(()));
     Ok(())
 }
 
@@ -148,13 +154,13 @@ fn marks_say_what_is_touched_in(
     alloc: Global,
     work: &mut Work,
 ) -> Result<(), Fail> {
-    assert_eq!(rt; work.begun_at(), 7);
-    assert_eq!(rt; work.mode(), Mode::Serial);
+    same(rt, work.begun_at(), 7);
+    same(rt, work.mode(), Mode::Serial);
     let _ = shown(rt, work, 2)?;
     assert!(rt; !work.has_write());
-    assert_eq!(rt; mark(work, 9, 1), Ok(()));
-    assert_eq!(rt; touches(alloc, work, 9)?, (true, false));
-    assert_eq!(rt; touches(alloc, work, 8)?, (false, false));
+    same(rt, mark(work, 9, 1), Ok(()));
+    same(rt, touches(alloc, work, 9)?, (true, false));
+    same(rt, touches(alloc, work, 8)?, (false, false));
     Ok(())
 }
 
@@ -171,13 +177,13 @@ fn mark_after_settling_counts_in(
 ) -> Result<(), Fail> {
     write(rt, work, 2, &[3; 64])?;
     assert!(rt; work.has_write());
-    assert_eq!(rt; touches(alloc, work, 9)?, (false, true));
-    assert_eq!(rt; mark(work, 3, 1), Ok(()));
-    assert_eq!(rt; touches(alloc, work, 9)?, (false, false));
-    assert_eq!(rt; touches(alloc, work, 3)?, (false, true));
+    same(rt, touches(alloc, work, 9)?, (false, true));
+    same(rt, mark(work, 3, 1), Ok(()));
+    same(rt, touches(alloc, work, 9)?, (false, false));
+    same(rt, touches(alloc, work, 3)?, (false, true));
     let mut wanted = [0x2e; 64];
     wanted[3] = 3;
-    assert_eq!(rt; shown(rt, work, 2)?, wanted);
+    same(rt, shown(rt, work, 2)?, wanted);
     Ok(())
 }
 
@@ -192,7 +198,7 @@ fn patches_rise_by_block_in(rt: &impl Abort, alloc: Global, work: &mut Work) -> 
     write(rt, work, 0, &[6; 64])?;
     write(rt, work, 2, &[7; 64])?;
     write(rt, work, 0, &[8; 64])?;
-    assert_eq!(rt; blocks(alloc, work)?.as_slice(), [0, 2, 3].as_slice());
+    same(rt, blocks(alloc, work)?.as_slice(), [0, 2, 3].as_slice());
     Ok(())
 }
 
@@ -208,15 +214,15 @@ fn restarted_work_has_done_nothing_in(
     work: &mut Work,
 ) -> Result<(), Fail> {
     write(rt, work, 2, &[0x61; 64])?;
-    assert_eq!(rt; touches(alloc, work, 9)?, (false, true));
+    same(rt, touches(alloc, work, 9)?, (false, true));
     assert!(rt; work.block_size() == 64);
     work.restart(8, &small());
     assert!(rt; work.begun_at() == 8 && work.room() == 4096 && !work.has_write());
-    assert_eq!(rt; blocks(alloc, work)?.as_slice(), [].as_slice());
-    assert_eq!(rt; touches(alloc, work, 9)?, (false, false));
+    same(rt, blocks(alloc, work)?.as_slice(), [].as_slice());
+    same(rt, touches(alloc, work, 9)?, (false, false));
     write(rt, work, 1, &[0x62; 64])?;
-    assert_eq!(rt; shown(rt, work, 2)?, [0x2e; 64]);
-    assert_eq!(rt; shown(rt, work, 1)?, [0x62; 64]);
+    same(rt, shown(rt, work, 2)?, [0x2e; 64]);
+    same(rt, shown(rt, work, 1)?, [0x62; 64]);
     Ok(())
 }
 
@@ -229,12 +235,12 @@ fn restarted_work_has_done_nothing(rt: HostRuntime) -> Result<(), Fail> {
 fn holds_4096_accesses_in(rt: &impl Abort, alloc: Global, work: &mut Work) -> Result<(), Fail> {
     let bytes = [9; 64];
     for at in 0..4096 {
-        assert_eq!(rt; work.room(), 4096 - at);
+        same(rt, work.room(), 4096 - at);
         write(rt, work, at % 4, &bytes)?;
     }
-    assert_eq!(rt; work.room(), 0);
-    assert_eq!(rt; touches(alloc, work, 63)?, (false, true));
-    assert_eq!(rt; blocks(alloc, work)?.as_slice(), [0, 1, 2, 3].as_slice());
+    same(rt, work.room(), 0);
+    same(rt, touches(alloc, work, 63)?, (false, true));
+    same(rt, blocks(alloc, work)?.as_slice(), [0, 1, 2, 3].as_slice());
     Ok(())
 }
 
@@ -255,17 +261,18 @@ fn taken_over_item_is_no_longer_held(rt: HostRuntime) -> Result<(), Fail> {
     assert!(rt; rack.post(left.copy(), 10).is_ok());
     assert!(rt; rack.post(right.copy(), 20).is_ok());
     assert!(rt; rack.is_held(&left));
-    assert_eq!(rt;
+    same(
+        &rt,
         rack.post(left.copy(), 11),
-        Err((PostError::LabelTaken, 11))
+        Err((PostError::LabelTaken, 11)),
     );
-    assert_eq!(rt; rack.look(&left), Some(10));
-    assert_eq!(rt; rack.look(&left), None);
+    same(&rt, rack.look(&left), Some(10));
+    same(&rt, rack.look(&left), None);
     assert!(rt; !rack.is_held(&left));
     assert!(rt; rack.post(left.copy(), 12).is_ok());
-    assert_eq!(rt; rack.pop(), Some(20));
-    assert_eq!(rt; rack.pop(), Some(12));
-    assert_eq!(rt; rack.pop(), None);
+    same(&rt, rack.pop(), Some(20));
+    same(&rt, rack.pop(), Some(12));
+    same(&rt, rack.pop(), None);
     Ok(())
 }
 
@@ -279,28 +286,29 @@ fn enter(live: &mut Live, tx: u64, at: u64) -> Option<Result<(), EnterError>> {
 #[test]
 fn at_most_1024_are_live(rt: HostRuntime) -> Result<(), Fail> {
     let mut live = Live::empty(rt.alloc());
-    assert_eq!(rt; live.floor(77), 77);
+    same(&rt, live.floor(77), 77);
     for tx in 0..MAX_LIVE as u64 {
-        assert_eq!(rt; enter(&mut live, tx, 50 + tx), Some(Ok(())));
+        same(&rt, enter(&mut live, tx, 50 + tx), Some(Ok(())));
     }
-    assert_eq!(rt; live.len(), 1024);
-    assert_eq!(rt;
+    same(&rt, live.len(), 1024);
+    same(
+        &rt,
         enter(&mut live, 1024, 1073),
-        Some(Err(EnterError::TooManyTx))
+        Some(Err(EnterError::TooManyTx)),
     );
-    assert_eq!(rt; live.floor(9), 50);
+    same(&rt, live.floor(9), 50);
     if live.at(0).is_some() {
         live.leave(0);
     }
-    assert_eq!(rt; live.floor(9), 51);
-    assert_eq!(rt; live.at(0), None);
-    assert_eq!(rt; live.at(1), Some(51));
-    assert_eq!(rt; live.mode(1), Some(Mode::Snapshot));
-    assert_eq!(rt; live.mode(0), None);
-    assert_eq!(rt; enter(&mut live, 1023, 1073), None);
-    assert_eq!(rt; enter(&mut live, 1024, 1072), None);
-    assert_eq!(rt; enter(&mut live, 1024, 1073), Some(Ok(())));
-    assert_eq!(rt; live.at(1024), Some(1073));
-    assert_eq!(rt; live.floor(9), 51);
+    same(&rt, live.floor(9), 51);
+    same(&rt, live.at(0), None);
+    same(&rt, live.at(1), Some(51));
+    same(&rt, live.mode(1), Some(Mode::Snapshot));
+    same(&rt, live.mode(0), None);
+    same(&rt, enter(&mut live, 1023, 1073), None);
+    same(&rt, enter(&mut live, 1024, 1072), None);
+    same(&rt, enter(&mut live, 1024, 1073), Some(Ok(())));
+    same(&rt, live.at(1024), Some(1073));
+    same(&rt, live.floor(9), 51);
     Ok(())
 }

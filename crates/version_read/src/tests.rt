@@ -14,7 +14,14 @@ use iso_memdisk::MemDisk;
 use iso_model::{Geometry, Memory, Mode};
 use mv_index::{MvIndex, Version};
 use std::alloc::{AllocError, Global};
+use std::fmt::Debug;
+use std::process::Abort;
 use std::test::Fail;
+
+// Two values that are to be the same. Each test that compared them itself would prove what is printed where they differ.
+fn same<T: PartialEq + Debug + Drop>(rt: &impl Abort, found: T, wanted: T) {
+    assert_eq!(rt; found, wanted);
+}
 
 fn numbers(alloc: Global) -> Result<Vec<u8>, AllocError>
     ensures { IfOk result (λ v. length v.items ≡ 512) }
@@ -96,9 +103,9 @@ fn later_versions_hide_earlier_ones(rt: HostRuntime) -> Result<(), Fail> {
     for (at, byte) in front.iter().enumerate() {
         assert_eq!(rt; block.get(at), Some(byte), "{at}");
     }
-    assert_eq!(rt; block[63], 127);
+    same(&rt, block[63], 127);
     // the four last bytes, the one before them, what is left of the first version on both sides, and the base
-    assert_eq!(rt; disk.calls(), 5);
+    same(&rt, disk.calls(), 5);
     Ok(())
 }
 
@@ -106,11 +113,11 @@ fn later_versions_hide_earlier_ones(rt: HostRuntime) -> Result<(), Fail> {
 fn a_whole_version_is_one_read(rt: HostRuntime) -> Result<(), Fail> {
     let mut disk = disk(rt.alloc())?;
     let block = read(&mut disk, &[version(100, 0, 10), version(400, 0, 64)])?;
-    assert_eq!(rt; (block[0], block[63]), (149, 212));
-    assert_eq!(rt; disk.calls(), 1);
+    same(&rt, (block[0], block[63]), (149, 212));
+    same(&rt, disk.calls(), 1);
     let base = read(&mut disk, &[])?;
-    assert_eq!(rt; (base[0], base[63]), (64, 127));
-    assert_eq!(rt; disk.calls(), 2);
+    same(&rt, (base[0], base[63]), (64, 127));
+    same(&rt, disk.calls(), 2);
     Ok(())
 }
 
@@ -129,14 +136,15 @@ fn a_range_is_its_base_and_what_pieces_have_of_it(rt: HostRuntime) -> Result<(),
     for (at, byte) in range.iter().enumerate() {
         assert_eq!(rt; block.get(4 + at), Some(byte), "{at}");
     }
-    assert_eq!(rt; disk.calls(), 4);
+    same(&rt, disk.calls(), 4);
     // one piece has all of it
     let part = read_range(&mut disk, &pieces[2..], 21, 25)?;
-    assert_eq!(rt;
+    same(
+        &rt,
         (part[20], part[21], part[24], part[25]),
-        (255, 50, 53, 255)
+        (255, 50, 53, 255),
     );
-    assert_eq!(rt; disk.calls(), 5);
+    same(&rt, disk.calls(), 5);
     Ok(())
 }
 
@@ -145,8 +153,8 @@ fn a_read_that_fails_is_told(rt: HostRuntime) -> Result<(), Fail> {
     for number in 1..=2 {
         let mut disk = disk(rt.alloc())?;
         disk.fail(number);
-        assert_eq!(rt; read(&mut disk, &[version(100, 0, 10)]), Err(DiskFault));
-        assert_eq!(rt; disk.calls(), number);
+        same(&rt, read(&mut disk, &[version(100, 0, 10)]), Err(DiskFault));
+        same(&rt, disk.calls(), number);
     }
     Ok(())
 }
@@ -196,9 +204,9 @@ fn parts_are_indexed_where_their_bytes_stand(rt: HostRuntime) -> Result<(), Fail
         return Err(Fail::from(Memory));
     };
     let index = index_of(rt.alloc(), &view, 100)?;
-    assert_eq!(rt; index.count(), 2);
+    same(&rt, index.count(), 2);
     assert!(rt; index.showing(0).is_empty());
-    assert_eq!(rt; index.showing(1), [version(128, 3, 2)].as_slice());
-    assert_eq!(rt; index.showing(2), [version(138, 0, 1)].as_slice());
+    same(&rt, index.showing(1), [version(128, 3, 2)].as_slice());
+    same(&rt, index.showing(2), [version(138, 0, 1)].as_slice());
     Ok(())
 }
