@@ -5,7 +5,7 @@ ghost use Rattle.iso_memdisk.specs.MemDisk.{state_of};
 ghost use Rattle.iso_recover.specs.TestCores.{IsDown, IsIdle, IsUp};
 
 use crate::open_image;
-use crate::tests::{change, formatted};
+use crate::tests::{change, formatted, same};
 use conflict_rule::Checked;
 use iso_core::Core;
 use iso_memdisk::{CallKind, MemDisk};
@@ -162,11 +162,12 @@ fn an_end_makes_four_calls(rt: HostRuntime) -> Result<(), Fail> {
     let alloc = rt.alloc();
     let disk = MemDisk::new(alloc, with_a_commit(alloc)?);
     let (reply, disk) = ended_on(alloc, disk, 1, 9)?;
-    assert_eq!(rt; reply, Ok(EndReply::Committed(2)));
-    assert_eq!(rt; disk.calls(), 9);
-    assert_eq!(rt;
+    same(&rt, reply, Ok(EndReply::Committed(2)));
+    same(&rt, disk.calls(), 9);
+    same(
+        &rt,
         seen(alloc, disk.crash(alloc, 1)?, 1),
-        Some((2, 0, 1, [9; 64]))
+        Some((2, 0, 1, [9; 64])),
     );
     Ok(())
 }
@@ -199,11 +200,12 @@ fn a_switch_makes_nine_calls(rt: HostRuntime) -> Result<(), Fail> {
     let alloc = rt.alloc();
     let disk = MemDisk::new(alloc, with_two_commits(alloc)?);
     let (answer, disk) = switched_on(alloc, disk, true);
-    assert_eq!(rt; answer, Ok(2));
-    assert_eq!(rt; disk.calls(), 14);
-    assert_eq!(rt;
+    same(&rt, answer, Ok(2));
+    same(&rt, disk.calls(), 14);
+    same(
+        &rt,
         seen(alloc, disk.crash(alloc, 1)?, 1),
-        Some((2, 2, 2, [9; 64]))
+        Some((2, 2, 2, [9; 64])),
     );
     Ok(())
 }
@@ -266,10 +268,10 @@ fn missed(alloc: Global, kind: CallKind) -> Result<u64, Fail> {
 #[test]
 fn each_call_of_an_opening_and_an_end_is_missed(rt: HostRuntime) -> Result<(), Fail> {
     let alloc = rt.alloc();
-    assert_eq!(rt; missed(alloc, CallKind::Read)?, 4);
-    assert_eq!(rt; missed(alloc, CallKind::Write)?, 2);
-    assert_eq!(rt; missed(alloc, CallKind::Sync)?, 3);
-    assert_eq!(rt; missed(alloc, CallKind::Bind)?, 0);
+    same(&rt, missed(alloc, CallKind::Read)?, 4);
+    same(&rt, missed(alloc, CallKind::Write)?, 2);
+    same(&rt, missed(alloc, CallKind::Sync)?, 3);
+    same(&rt, missed(alloc, CallKind::Bind)?, 0);
     Ok(())
 }
 
@@ -279,11 +281,12 @@ fn an_image_at_the_last_number_is_worn(rt: HostRuntime) -> Result<(), Fail> {
     let mut image = formatted(alloc)?.crash(alloc, 0)?;
     change(&mut image, 80, &9_223_372_036_854_775_807u64.to_be_bytes());
     let (reply, _disk) = ended_on(alloc, MemDisk::new(alloc, image), 1, 9)?;
-    assert_eq!(rt;
+    same(
+        &rt,
         reply,
         Err(CoreError::Worn {
-            at: 9_223_372_036_854_775_807
-        })
+            at: 9_223_372_036_854_775_807,
+        }),
     );
     Ok(())
 }
@@ -293,9 +296,13 @@ fn a_full_log_has_room_after_a_compaction(rt: HostRuntime) -> Result<(), Fail> {
     let alloc = rt.alloc();
     let disk = MemDisk::new(alloc, with_two_commits(alloc)?);
     let (reply, disk) = ended_on(alloc, disk, 1, 3)?;
-    assert_eq!(rt; reply, Err(CoreError::LogFull { need: 93, free: 72 }));
+    same(&rt, reply, Err(CoreError::LogFull { need: 93, free: 72 }));
     let (_, disk) = switched_on(alloc, disk, false);
-    assert_eq!(rt; ended_on(alloc, disk, 1, 3)?.0, Ok(EndReply::Committed(3)));
+    same(
+        &rt,
+        ended_on(alloc, disk, 1, 3)?.0,
+        Ok(EndReply::Committed(3)),
+    );
     Ok(())
 }
 
@@ -320,6 +327,6 @@ fn as_many_transactions_begin_as_may_be_live(rt: HostRuntime) -> Result<(), Fail
         Ok(mut core) => begun_of(&mut core, 1025),
         Err(_disk) => (0, None),
     };
-    assert_eq!(rt; begun, (1024, Some(CoreError::TooManyTx)));
+    same(&rt, begun, (1024, Some(CoreError::TooManyTx)));
     Ok(())
 }

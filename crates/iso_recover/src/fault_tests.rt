@@ -3,6 +3,7 @@ ghost use Rattle.iso_memdisk.specs.MemDisk.{state_of};
 ghost use Rattle.iso_recover.specs.TestCores.{IsDown};
 
 use crate::core_tests::{opened, seen_on, switch, switched_on, with_two_commits};
+use crate::tests::same;
 use iso_core::Core;
 use iso_memdisk::{CallKind, MemDisk};
 use iso_model::{CoreError, Memory};
@@ -142,8 +143,8 @@ fn a_switch_to_an_open_half_makes_eleven_calls(rt: HostRuntime) -> Result<(), Fa
     let alloc = rt.alloc();
     let disk = MemDisk::new(alloc, compacted(alloc)?);
     let (answer, disk) = switched_on(alloc, disk, false);
-    assert_eq!(rt; answer, Ok(2));
-    assert_eq!(rt; disk.calls(), 16);
+    same(&rt, answer, Ok(2));
+    same(&rt, disk.calls(), 16);
     Ok(())
 }
 
@@ -151,7 +152,7 @@ fn a_switch_to_an_open_half_makes_eleven_calls(rt: HostRuntime) -> Result<(), Fa
 fn each_fault_in_a_compaction_loses_nothing(rt: HostRuntime) -> Result<(), Fail> {
     let alloc = rt.alloc();
     let image = with_two_commits(alloc)?;
-    assert_eq!(rt; harmless(alloc, &CALLS, &image, 0, false)?, 9);
+    same(&rt, harmless(alloc, &CALLS, &image, 0, false)?, 9);
     Ok(())
 }
 
@@ -159,7 +160,7 @@ fn each_fault_in_a_compaction_loses_nothing(rt: HostRuntime) -> Result<(), Fail>
 fn each_fault_in_an_upgrade_loses_nothing(rt: HostRuntime) -> Result<(), Fail> {
     let alloc = rt.alloc();
     let image = with_two_commits(alloc)?;
-    assert_eq!(rt; harmless(alloc, &CALLS, &image, 0, true)?, 9);
+    same(&rt, harmless(alloc, &CALLS, &image, 0, true)?, 9);
     Ok(())
 }
 
@@ -167,7 +168,11 @@ fn each_fault_in_an_upgrade_loses_nothing(rt: HostRuntime) -> Result<(), Fail> {
 fn each_fault_in_a_compaction_to_an_open_half_loses_nothing(rt: HostRuntime) -> Result<(), Fail> {
     let alloc = rt.alloc();
     let image = compacted(alloc)?;
-    assert_eq!(rt; harmless(alloc, &CALLS_WITH_A_CLOSE, &image, 2, false)?, 11);
+    same(
+        &rt,
+        harmless(alloc, &CALLS_WITH_A_CLOSE, &image, 2, false)?,
+        11,
+    );
     Ok(())
 }
 
@@ -175,6 +180,10 @@ fn each_fault_in_a_compaction_to_an_open_half_loses_nothing(rt: HostRuntime) -> 
 fn each_fault_in_an_upgrade_to_an_open_half_loses_nothing(rt: HostRuntime) -> Result<(), Fail> {
     let alloc = rt.alloc();
     let image = compacted(alloc)?;
-    assert_eq!(rt; harmless(alloc, &CALLS_WITH_A_CLOSE, &image, 2, true)?, 11);
+    same(
+        &rt,
+        harmless(alloc, &CALLS_WITH_A_CLOSE, &image, 2, true)?,
+        11,
+    );
     Ok(())
 }

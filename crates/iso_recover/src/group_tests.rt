@@ -5,7 +5,7 @@ ghost use Rattle.iso_memdisk.specs.MemDisk.{state_of};
 ghost use Rattle.iso_recover.specs.TestCores.{HasDone, IsIdle};
 
 use crate::core_tests::{opened, seen_on};
-use crate::tests::formatted;
+use crate::tests::{formatted, same};
 use iso_core::{Core, GroupEnd};
 use iso_memdisk::MemDisk;
 use iso_model::{Clash, CoreError, Geometry, GroupReply, Memory};
@@ -154,12 +154,12 @@ fn a_group_makes_four_calls(rt: HostRuntime) -> Result<(), Fail> {
         Some(GroupReply::Committed(1)),
         Some(GroupReply::Committed(2)),
     );
-    assert_eq!(rt; answer, both);
-    assert_eq!(rt; disk.calls(), 9);
+    same(&rt, answer, both);
+    same(&rt, disk.calls(), 9);
     let image = disk.crash(alloc, 0)?;
-    assert_eq!(rt; image.get(352), Some(&1));
-    assert_eq!(rt; image.get(444), Some(&1));
-    assert_eq!(rt; image.get(536), Some(&0));
+    same(&rt, image.get(352), Some(&1));
+    same(&rt, image.get(444), Some(&1));
+    same(&rt, image.get(536), Some(&0));
     Ok(())
 }
 
@@ -196,7 +196,7 @@ fn a_member_conflicts_with_one_before_it(rt: HostRuntime) -> Result<(), Fail> {
         Some(GroupReply::Committed(1)),
         Some(GroupReply::Conflict(clash)),
     );
-    assert_eq!(rt; answer, one);
-    assert_eq!(rt; found_in(alloc, disk), (Some(1), true, false));
+    same(&rt, answer, one);
+    same(&rt, found_in(alloc, disk), (Some(1), true, false));
     Ok(())
 }

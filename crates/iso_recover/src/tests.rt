@@ -12,7 +12,14 @@ use iso_core::Opened;
 use iso_memdisk::MemDisk;
 use iso_model::{Geometry, Memory, Mode};
 use std::alloc::{AllocError, Global};
+use std::fmt::Debug;
+use std::process::Abort;
 use std::test::Fail;
+
+// Two values that are to be the same. Each test that compared them itself would prove what is printed where they differ.
+pub(crate) fn same<T: PartialEq + Debug + Drop>(rt: &impl Abort, found: T, wanted: T) {
+    assert_eq!(rt; found, wanted);
+}
 
 #[tactic(auto, unfolding(iso_model::specs::Geometry::is_valid))]
 fn small() -> Geometry
@@ -109,8 +116,8 @@ fn calls_to_open(alloc: Global, disk: MemDisk) -> (Option<OpenError>, u64) {
 fn an_image_is_made_by_five_calls_and_opened_by_five(rt: HostRuntime) -> Result<(), Fail> {
     let alloc = rt.alloc();
     let disk = formatted(alloc)?;
-    assert_eq!(rt; disk.calls(), 5);
-    assert_eq!(rt; calls_to_open(alloc, disk), (None, 10));
+    same(&rt, disk.calls(), 5);
+    same(&rt, calls_to_open(alloc, disk), (None, 10));
     Ok(())
 }
 
@@ -119,7 +126,7 @@ fn a_refusal_hands_the_disk_back(rt: HostRuntime) -> Result<(), Fail> {
     let alloc = rt.alloc();
     let disk = MemDisk::new(alloc, zeros(alloc)?);
     let refused = (Some(OpenError::NotIsotope), 2);
-    assert_eq!(rt; calls_to_open(alloc, disk), refused);
+    same(&rt, calls_to_open(alloc, disk), refused);
     Ok(())
 }
 
@@ -128,7 +135,7 @@ fn an_image_in_the_making_is_none_or_empty(rt: HostRuntime) -> Result<(), Fail> 
     let alloc = rt.alloc();
     for calls in 0..6 {
         let (disk, made) = make_on(alloc, calls)?;
-        assert_eq!(rt; made, calls == 5);
+        same(&rt, made, calls == 5);
         for pick in 0..6 {
             let refusal = refusal_of(alloc, disk.crash(alloc, pick)?);
             let refused = refusal == Some(OpenError::NotIsotope);
@@ -170,7 +177,7 @@ fn damaged_images_are_refused_by_the_first_test(rt: HostRuntime) -> Result<(), F
         let mut image = new.clone()?;
         change(&mut image, at, &[byte]);
         change(&mut image, also, &[other]);
-        assert_eq!(rt; refusal_of(alloc, image), Some(error));
+        same(&rt, refusal_of(alloc, image), Some(error));
     }
     // the same of an image with one commit
     for (at, byte, place, cause) in [
@@ -186,7 +193,7 @@ fn damaged_images_are_refused_by_the_first_test(rt: HostRuntime) -> Result<(), F
         change(&mut image, 352, &RECORD);
         change(&mut image, at, &[byte]);
         let damaged = OpenError::Damaged { at: place, cause };
-        assert_eq!(rt; refusal_of(alloc, image), Some(damaged));
+        same(&rt, refusal_of(alloc, image), Some(damaged));
     }
     for (size, error) in [
         (
@@ -200,7 +207,7 @@ fn damaged_images_are_refused_by_the_first_test(rt: HostRuntime) -> Result<(), F
     ] {
         let mut image = new.clone()?;
         image.truncate(size);
-        assert_eq!(rt; refusal_of(alloc, image), Some(error));
+        same(&rt, refusal_of(alloc, image), Some(error));
     }
     Ok(())
 }
@@ -218,13 +225,13 @@ fn opened(alloc: Global, image: &[u8]) -> Result<Option<(u8, u64, u32, u64, u64)
 fn images_are_opened_to_their_current_half(rt: HostRuntime) -> Result<(), Fail> {
     let alloc = rt.alloc();
     let mut image = blank(alloc)?;
-    assert_eq!(rt; opened(alloc, &image)?, Some((0, 0, 0, 0, 0)));
+    same(&rt, opened(alloc, &image)?, Some((0, 0, 0, 0, 0)));
     change(&mut image, 352, &RECORD);
-    assert_eq!(rt; opened(alloc, &image)?, Some((0, 0, 30, 1, 1)));
+    same(&rt, opened(alloc, &image)?, Some((0, 0, 30, 1, 1)));
     // a commit of the other mode in form 2
     change(&mut image, 65, &[2]);
     change(&mut image, 353, &[2]);
-    assert_eq!(rt; opened(alloc, &image)?, Some((0, 0, 30, 1, 1)));
+    same(&rt, opened(alloc, &image)?, Some((0, 0, 30, 1, 1)));
     // the other half holds commit 5 as its base, and has the same generation, then a larger one
     change(
         &mut image,
@@ -232,13 +239,13 @@ fn images_are_opened_to_their_current_half(rt: HostRuntime) -> Result<(), Fail> 
         &[1, 1, 0, 0, 0, 0, 0, 0, 0, 0, 0, 0, 0, 0, 0, 1],
     );
     change(&mut image, 631, &[5]);
-    assert_eq!(rt; opened(alloc, &image)?, Some((0, 0, 30, 1, 1)));
+    same(&rt, opened(alloc, &image)?, Some((0, 0, 30, 1, 1)));
     change(&mut image, 623, &[2]);
-    assert_eq!(rt; opened(alloc, &image)?, Some((1, 5, 0, 5, 0)));
+    same(&rt, opened(alloc, &image)?, Some((1, 5, 0, 5, 0)));
     // a record behind a closed gate is not told
     change(&mut image, 608, &[0]);
     change(&mut image, 352, &[7]);
-    assert_eq!(rt; opened(alloc, &image)?, Some((0, 0, 0, 0, 0)));
+    same(&rt, opened(alloc, &image)?, Some((0, 0, 0, 0, 0)));
     Ok(())
 }
 
@@ -251,12 +258,12 @@ fn an_image_is_opened_by_a_sync_and_four_reads(rt: HostRuntime) -> Result<(), Fa
         let mut disk = MemDisk::new(alloc, image);
         disk.fail(failing);
         let opened = read_image(alloc, &mut disk);
-        assert_eq!(rt; opened.is_ok(), failing == 0);
+        same(&rt, opened.is_ok(), failing == 0);
         match &opened {
-            Ok(_) => assert_eq!(rt; disk.calls(), 5),
+            Ok(_) => same(&rt, disk.calls(), 5),
             Err(error) => {
-                assert_eq!(rt; *error, OpenError::Disk);
-                assert_eq!(rt; disk.calls(), failing);
+                same(&rt, *error, OpenError::Disk);
+                same(&rt, disk.calls(), failing);
             }
         }
     }

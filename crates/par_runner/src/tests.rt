@@ -4,10 +4,16 @@ ghost use Rattle.std.specs.Prelude.{ℕ};
 use crate::{Client, Flow, Gate, Job, run_all};
 use script_model::{Line, Op};
 use std::alloc::Global;
+use std::fmt::Debug;
 use std::process::Abort;
 use std::sync::Wait;
 use std::sync::atomic::{AtomicBool, AtomicU64, Ordering};
 use std::test::Fail;
+
+// Two values that are to be the same. Each test that compared them itself would prove what is printed where they differ.
+pub(crate) fn same<T: PartialEq + Debug + Drop>(rt: &impl Abort, found: T, wanted: T) {
+    assert_eq!(rt; found, wanted);
+}
 
 // It keeps the digits of the lines that it was given, and halts at an `abort`.
 #[derive(Drop)]
@@ -106,7 +112,7 @@ fn held_until_second(rt: HostRuntime) -> Result<(), Fail> {
     };
     let mut jobs = two_jobs(&rt, rt.alloc(), 0);
     run_all(&rt, jobs.as_mut_slice(), &gate);
-    assert_eq!(rt; gate.met.load(Ordering::SeqCst), 2);
+    same(&rt, gate.met.load(Ordering::SeqCst), 2);
     Ok(())
 }
 
@@ -120,8 +126,16 @@ fn a_halt_ends_its_job_alone(rt: HostRuntime) -> Result<(), Fail> {
     let [first, second] = jobs.as_slice() else {
         panic!(rt; "two jobs")
     };
-    assert_eq!(rt; (first.id, first.done, first.client.digits), (1, 3, 123));
-    assert_eq!(rt; (second.id, second.done, second.client.digits), (2, 2, 12));
-    assert_eq!(rt; gate.calls.load(Ordering::SeqCst), 5);
+    same(
+        &rt,
+        (first.id, first.done, first.client.digits),
+        (1, 3, 123),
+    );
+    same(
+        &rt,
+        (second.id, second.done, second.client.digits),
+        (2, 2, 12),
+    );
+    same(&rt, gate.calls.load(Ordering::SeqCst), 5);
     Ok(())
 }

@@ -1,5 +1,5 @@
 //! When a gate is called, and what it is told.
-use crate::tests::Digits;
+use crate::tests::{Digits, same};
 use crate::{Client, Flow, Gate, Job, run_all};
 use script_model::{Line, Op};
 use std::alloc::Global;
@@ -110,10 +110,10 @@ fn a_gate_is_told_each_line_that_runs_and_its_client(rt: HostRuntime) -> Result<
     jobs.push(first).expect(&rt, "memory");
     jobs.push(second).expect(&rt, "memory");
     run_all(&rt, jobs.as_mut_slice(), &gate);
-    assert_eq!(rt; gate.calls.load(Ordering::SeqCst), 5);
-    assert_eq!(rt; gate.clients.load(Ordering::SeqCst), 20);
-    assert_eq!(rt; gate.numbers.load(Ordering::SeqCst), 19);
-    assert_eq!(rt; gate.products.load(Ordering::SeqCst), 63);
+    same(&rt, gate.calls.load(Ordering::SeqCst), 5);
+    same(&rt, gate.clients.load(Ordering::SeqCst), 20);
+    same(&rt, gate.numbers.load(Ordering::SeqCst), 19);
+    same(&rt, gate.products.load(Ordering::SeqCst), 63);
     Ok(())
 }
 
@@ -141,7 +141,7 @@ fn a_step_has_one_call_of_the_gate_before_it(rt: HostRuntime) -> Result<(), Fail
     let [first, second] = jobs.as_slice() else {
         panic!(rt; "two jobs")
     };
-    assert_eq!(rt; first.client.seen, 123);
-    assert_eq!(rt; second.client.seen, 123);
+    same(&rt, first.client.seen, 123);
+    same(&rt, second.client.seen, 123);
     Ok(())
 }

@@ -4,7 +4,7 @@ ghost use Rattle.iso_memdisk.specs.MemDisk.{state_of};
 ghost use Rattle.iso_shared.specs.Ports.{IsPort, IsTx, port_view, tx_view};
 ghost use Rattle.iso_shared.specs.TestImage.{small, MayStart};
 
-use crate::tests::{commits, ended, new_core, put};
+use crate::tests::{commits, ended, new_core, put, same};
 use iso_core::Core;
 use iso_memdisk::MemDisk;
 use iso_model::{CoreError, EndReply, Label, Mode};
@@ -104,9 +104,9 @@ fn checked_ahead<R: Wait>(
 #[test]
 fn a_check_ahead_leaves_three_commits(rt: HostRuntime) -> Result<(), Fail> {
     let (upto, checked, reply) = checked_ahead(&rt, rt.alloc()).expect(&rt, "a device");
-    assert_eq!(rt; upto, Some(10));
-    assert_eq!(rt; checked, 10);
-    assert_eq!(rt; reply, Ok(EndReply::Committed(14)));
+    same(&rt, upto, Some(10));
+    same(&rt, checked, 10);
+    same(&rt, reply, Ok(EndReply::Committed(14)));
     Ok(())
 }
 
@@ -212,11 +212,11 @@ fn labels_answer_through_the_lock(rt: HostRuntime) -> Result<(), Fail> {
     let (first, second, found, none, swept) = label_answers(&rt, rt.alloc()).expect(
         &rt, "a device",
     );
-    assert_eq!(rt; first, Some((Ok(()), 1)));
-    assert_eq!(rt; second, Some((Err(PostError::LabelTaken), 1)));
-    assert_eq!(rt; found, Some((0, 4094, Ok(EndReply::Committed(1)))));
-    assert_eq!(rt; none, None);
-    assert_eq!(rt; swept, (Some(3), Some(4), None));
+    same(&rt, first, Some((Ok(()), 1)));
+    same(&rt, second, Some((Err(PostError::LabelTaken), 1)));
+    same(&rt, found, Some((0, 4094, Ok(EndReply::Committed(1)))));
+    same(&rt, none, None);
+    same(&rt, swept, (Some(3), Some(4), None));
     Ok(())
 }
 
@@ -294,8 +294,8 @@ fn upkeep_answers<R: Wait>(rt: &R, alloc: Global) -> Option<UpkeepAnswers> {
 #[test]
 fn upkeep_answers_through_the_lock(rt: HostRuntime) -> Result<(), Fail> {
     let (fixed, kept, free) = upkeep_answers(&rt, rt.alloc()).expect(&rt, "a device");
-    assert_eq!(rt; fixed, Err(CoreError::ModeFixed));
-    assert_eq!(rt; kept, (Ok(1), Ok(1), Ok(1)));
-    assert_eq!(rt; free, Ok(Mode::Snapshot));
+    same(&rt, fixed, Err(CoreError::ModeFixed));
+    same(&rt, kept, (Ok(1), Ok(1), Ok(1)));
+    same(&rt, free, Ok(Mode::Snapshot));
     Ok(())
 }

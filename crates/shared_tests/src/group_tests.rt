@@ -6,7 +6,7 @@ ghost use Rattle.iso_shared.specs.Ports.{IsPort, IsTx, port_view};
 ghost use Rattle.iso_shared.specs.TestImage.{small, MayStart};
 
 use crate::answer_tests::one_at_work;
-use crate::tests::{core_failing, put};
+use crate::tests::{core_failing, put, same};
 use iso_core::Core;
 use iso_memdisk::{CallKind, MemDisk};
 use iso_model::{Clash, CoreError, GroupReply};
@@ -180,15 +180,16 @@ fn grouped<R: Wait>(
 #[test]
 fn two_members_of_a_group_commit(rt: HostRuntime) -> Result<(), Fail> {
     let told = grouped(&rt, rt.alloc(), 0, 1);
-    assert_eq!(rt;
+    same(
+        &rt,
         told,
         Some((
             Ok((
                 Some(GroupReply::Committed(1)),
-                Some(GroupReply::Committed(2))
+                Some(GroupReply::Committed(2)),
             )),
-            (2, 0, false)
-        ))
+            (2, 0, false),
+        )),
     );
     Ok(())
 }
@@ -201,15 +202,16 @@ fn a_member_conflicts_with_an_earlier_one(rt: HostRuntime) -> Result<(), Fail> {
         block: 0,
         at: 0,
     };
-    assert_eq!(rt;
+    same(
+        &rt,
         told,
         Some((
             Ok((
                 Some(GroupReply::Committed(1)),
-                Some(GroupReply::Conflict(clash))
+                Some(GroupReply::Conflict(clash)),
             )),
-            (1, 0, false)
-        ))
+            (1, 0, false),
+        )),
     );
     Ok(())
 }
@@ -217,7 +219,7 @@ fn a_member_conflicts_with_an_earlier_one(rt: HostRuntime) -> Result<(), Fail> {
 #[test]
 fn a_fault_of_a_group_leaves_no_member(rt: HostRuntime) -> Result<(), Fail> {
     let told = grouped(&rt, rt.alloc(), 3, 1);
-    assert_eq!(rt; told, Some((Err((CoreError::Disk, 0)), (0, 0, true))));
+    same(&rt, told, Some((Err((CoreError::Disk, 0)), (0, 0, true))));
     Ok(())
 }
 
@@ -251,6 +253,6 @@ fn down<R: Wait>(rt: &R, alloc: Global) -> Option<(Told, (u64, u32, bool))> {
 #[test]
 fn a_device_that_is_down_hands_the_members_back(rt: HostRuntime) -> Result<(), Fail> {
     let told = down(&rt, rt.alloc());
-    assert_eq!(rt; told, Some((Err((CoreError::Down, 2)), (0, 0, true))));
+    same(&rt, told, Some((Err((CoreError::Down, 2)), (0, 0, true))));
     Ok(())
 }

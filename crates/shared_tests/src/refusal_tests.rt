@@ -5,7 +5,7 @@ ghost use Rattle.iso_shared.specs.Ports.{IsPort, IsTx, port_view, tx_view};
 ghost use Rattle.iso_shared.specs.TestImage.{small, MayStart};
 
 use crate::answer_tests::{Upkeep, one_at_work, upkeep};
-use crate::tests::{commits, core_failing, ended, new_core, put};
+use crate::tests::{commits, core_failing, ended, new_core, put, same};
 use iso_core::Core;
 use iso_memdisk::{CallKind, MemDisk};
 use iso_model::{Clash, CoreError, EndReply, Label};
@@ -63,16 +63,17 @@ fn full<R: Wait>(
 #[test]
 fn a_conflict_and_a_full_log_come_through_the_lock(rt: HostRuntime) -> Result<(), Fail> {
     let (clash, in_order, full) = full(&rt, rt.alloc()).expect(&rt, "a device");
-    assert_eq!(rt;
+    same(
+        &rt,
         clash,
         Ok(EndReply::Conflict(Clash {
             commit: 1,
             block: 0,
-            at: 0
-        }))
+            at: 0,
+        })),
     );
     assert!(rt; in_order);
-    assert_eq!(rt; full, Err(CoreError::LogFull { need: 30, free: 7 }));
+    same(&rt, full, Err(CoreError::LogFull { need: 30, free: 7 }));
     Ok(())
 }
 
@@ -143,9 +144,10 @@ fn crowded<R: Wait>(
 #[test]
 fn as_many_transactions_as_may_be_live_are_under_labels(rt: HostRuntime) -> Result<(), Fail> {
     let crowded = crowded(&rt, rt.alloc());
-    assert_eq!(rt;
+    same(
+        &rt,
         crowded,
-        Some(((1024, Some(CoreError::TooManyTx)), 1024, Some(1), 1023))
+        Some(((1024, Some(CoreError::TooManyTx)), 1024, Some(1), 1023)),
     );
     Ok(())
 }
@@ -204,7 +206,8 @@ fn fault_answers<R: Wait>(
 fn a_fault_of_an_end_sets_the_device_down(rt: HostRuntime) -> Result<(), Fail> {
     let answers = fault_answers(&rt, rt.alloc(), CallKind::Sync, 3);
     let down = CoreError::Down;
-    assert_eq!(rt;
+    same(
+        &rt,
         answers,
         Some((
             Ok(()),
@@ -212,8 +215,8 @@ fn a_fault_of_an_end_sets_the_device_down(rt: HostRuntime) -> Result<(), Fail> {
             Err(CoreError::Disk),
             (Err(down), Err(down), Err(down)),
             Err(down),
-            (true, 0)
-        ))
+            (true, 0),
+        )),
     );
     Ok(())
 }
@@ -221,7 +224,8 @@ fn a_fault_of_an_end_sets_the_device_down(rt: HostRuntime) -> Result<(), Fail> {
 #[test]
 fn a_fault_of_a_fetch_leaves_the_device_up(rt: HostRuntime) -> Result<(), Fail> {
     let answers = fault_answers(&rt, rt.alloc(), CallKind::Read, 2);
-    assert_eq!(rt;
+    same(
+        &rt,
         answers,
         Some((
             Err(CoreError::Disk),
@@ -229,8 +233,8 @@ fn a_fault_of_a_fetch_leaves_the_device_up(rt: HostRuntime) -> Result<(), Fail> 
             Ok(EndReply::Committed(1)),
             (Ok(0), Ok(0), Ok(0)),
             Ok(EndReply::ReadOnly),
-            (false, 0)
-        ))
+            (false, 0),
+        )),
     );
     Ok(())
 }
@@ -239,7 +243,8 @@ fn a_fault_of_a_fetch_leaves_the_device_up(rt: HostRuntime) -> Result<(), Fail> 
 fn a_fault_of_a_compaction_sets_the_device_down(rt: HostRuntime) -> Result<(), Fail> {
     let answers = fault_answers(&rt, rt.alloc(), CallKind::Sync, 5);
     let down = CoreError::Down;
-    assert_eq!(rt;
+    same(
+        &rt,
         answers,
         Some((
             Ok(()),
@@ -247,8 +252,8 @@ fn a_fault_of_a_compaction_sets_the_device_down(rt: HostRuntime) -> Result<(), F
             Ok(EndReply::Committed(1)),
             (Ok(0), Err(CoreError::Disk), Err(down)),
             Err(down),
-            (true, 0)
-        ))
+            (true, 0),
+        )),
     );
     Ok(())
 }

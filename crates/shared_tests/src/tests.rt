@@ -16,12 +16,19 @@ use iso_model::{CoreError, EndReply, Geometry, Memory, Mode};
 use iso_recover::format_image;
 use iso_shared::{Origin, Port, Shared, Tx};
 use std::alloc::{AllocError, Global};
+use std::fmt::Debug;
 use std::marker::Brand;
+use std::process::Abort;
 use std::sync::Wait;
 use std::sync::ledger::{Blank, Ledger};
 use std::test::Fail;
 use std::thread::{Threads, join};
 use step_count::Steps;
+
+// Two values that are to be the same. Each test that compared them itself would prove what is printed where they differ.
+pub(crate) fn same<T: PartialEq + Debug + Drop>(rt: &impl Abort, found: T, wanted: T) {
+    assert_eq!(rt; found, wanted);
+}
 
 #[tactic(auto, unfolding(iso_model::specs::Geometry::is_valid))]
 fn small() -> Geometry
@@ -216,9 +223,9 @@ fn two_threads_make_fifty_commits_each(rt: HostRuntime) -> Result<(), Fail> {
     let made = two_threads(&rt, rt.alloc(), 50);
     let (stat, in_order) = made.expect(&rt, "a device");
     assert!(rt; in_order);
-    assert_eq!(rt; stat.last, 100);
-    assert_eq!(rt; stat.live, 0);
-    assert_eq!(rt; stat.used, 2900);
+    same(&rt, stat.last, 100);
+    same(&rt, stat.live, 0);
+    same(&rt, stat.used, 2900);
     assert!(rt; !stat.down);
     Ok(())
 }
