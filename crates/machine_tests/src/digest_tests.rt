@@ -5,6 +5,7 @@ ghost use Rattle.machine_tests.specs.TestCores.{small, IsReady};
 ghost use Rattle.iso_memdisk.specs.MemDisk.{state_of};
 ghost use Rattle.iso_model.specs.Geometry.{is_valid};
 
+use crate::tests::same;
 use array_digest::{DigestError, digest_of};
 use conflict_rule::Checked;
 use iso_core::Core;
@@ -106,7 +107,7 @@ fn filled<L: Ledger>(blank: Blank, alloc: Global, core: Core<MemDisk>) -> Result
 fn a_new_image_holds_zeros(rt: HostRuntime) -> Result<(), Fail> {
     let alloc = rt.alloc();
     let mut core = formatted(alloc)?;
-    assert_eq!(rt; digest_of(alloc, &mut core), Ok(OF_ZEROS));
+    same(&rt, digest_of(alloc, &mut core), Ok(OF_ZEROS));
     Ok(())
 }
 
@@ -115,7 +116,7 @@ fn a_commit_changes_the_digest(rt: HostRuntime) -> Result<(), Fail> {
     let alloc = rt.alloc();
     let disk = filled::<Brand>(Blank::new(1), alloc, formatted(alloc)?)?;
     let mut core = opened(alloc, disk)?;
-    assert_eq!(rt; digest_of(alloc, &mut core), Ok(OF_SEVENS));
+    same(&rt, digest_of(alloc, &mut core), Ok(OF_SEVENS));
     Ok(())
 }
 
@@ -125,6 +126,6 @@ fn a_fault_of_the_disk_is_told(rt: HostRuntime) -> Result<(), Fail> {
     let mut disk = formatted(alloc)?.into_disk();
     disk.fail_kind(CallKind::Read, 5);
     let mut core = opened(alloc, disk)?;
-    assert_eq!(rt; digest_of(alloc, &mut core), Err(DigestError::Disk));
+    same(&rt, digest_of(alloc, &mut core), Err(DigestError::Disk));
     Ok(())
 }

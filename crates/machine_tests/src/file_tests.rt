@@ -4,7 +4,7 @@ ghost use Rattle.iso_memdisk.specs.MemDisk.{state_of};
 ghost use Rattle.iso_model.specs.Geometry.{is_valid, image_size};
 ghost use Rattle.machine_tests.specs.TestMachines.{IsUp};
 
-use crate::tests::run_on;
+use crate::tests::{run_on, same};
 use iso_machine::Machine;
 use iso_memdisk::MemDisk;
 use iso_model::{Geometry, Memory, Mode};
@@ -55,8 +55,8 @@ fn a_client_goes_on_with_the_files_of_another(rt: HostRuntime) -> Result<(), Fai
         b"1 ok begin 0\n1 ok\n1 ok\n1 ok\n2 ok begin 0\n2 ok 02\n2 ok\n2 ok commit 1\n1 ok begin 1\n1 ok\n1 ok\n1 ok begin 1\n1 ok none\n1 ok 0102\n1 ok read-only\n";
     let machine = made(alloc)?;
     let ran = run_on(alloc, machine, script)?;
-    assert_eq!(rt; ran.end, RunEnd::Done);
-    assert_eq!(rt; ran.replies.as_slice(), replies.as_slice());
+    same(&rt, ran.end, RunEnd::Done);
+    same(&rt, ran.replies.as_slice(), replies.as_slice());
     Ok(())
 }
 
@@ -70,7 +70,7 @@ fn a_full_region_keeps_what_it_has(rt: HostRuntime) -> Result<(), Fail> {
         b"1 ok begin 0\n1 ok\n1 ok\n1 ok\n1 ok\n1 no-blocks need 1 free 0\n1 ok 01\n1 ok 02\n1 ok none\n1 ok commit 1\n";
     let machine = made(alloc)?;
     let ran = run_on(alloc, machine, script)?;
-    assert_eq!(rt; ran.end, RunEnd::Done);
-    assert_eq!(rt; ran.replies.as_slice(), replies.as_slice());
+    same(&rt, ran.end, RunEnd::Done);
+    same(&rt, ran.replies.as_slice(), replies.as_slice());
     Ok(())
 }

@@ -1,6 +1,6 @@
 // Faults of the disk, and the limits of an image.
 
-use crate::tests::{Ran, made, opened, run_on};
+use crate::tests::{Ran, made, opened, run_on, same};
 use iso_memdisk::{CallKind, MemDisk};
 use iso_model::{Memory, Mode};
 use script_model::{Op, Reply, Stop};
@@ -56,11 +56,11 @@ fn a_fault_in_an_end_stops_the_run(rt: HostRuntime) -> Result<(), Fail> {
     let script = b"1 begin\n1 put 0 0 aa\n1 end\n1 begin\n1 put 0 1 bb\n1 end\n1 begin\n";
     let ran = run_opened(alloc, disk, script)?;
     let replies = b"1 ok begin 0\n1 ok\n1 ok commit 1\n1 ok begin 1\n1 ok\n";
-    assert_eq!(rt; ran.end, RunEnd::Disk);
-    assert_eq!(rt; ran.replies.as_slice(), replies.as_slice());
+    same(&rt, ran.end, RunEnd::Disk);
+    same(&rt, ran.replies.as_slice(), replies.as_slice());
     assert!(rt; ran.stat.down);
     for pick in 0..6 {
-        assert_eq!(rt; last_of(alloc, ran.disk.crash(alloc, pick)?), Some(1));
+        same(&rt, last_of(alloc, ran.disk.crash(alloc, pick)?), Some(1));
     }
     Ok(())
 }
@@ -69,9 +69,9 @@ fn a_fault_in_an_end_stops_the_run(rt: HostRuntime) -> Result<(), Fail> {
 fn a_fault_at_any_call_of_a_compaction_stops_it(rt: HostRuntime) -> Result<(), Fail> {
     let alloc = rt.alloc();
     for calls in 5..14 {
-        assert_eq!(rt; compacted(alloc, calls)?, (Some(Stop::Disk), true));
+        same(&rt, compacted(alloc, calls)?, (Some(Stop::Disk), true));
     }
-    assert_eq!(rt; compacted(alloc, 14)?, (None, false));
+    same(&rt, compacted(alloc, 14)?, (None, false));
     Ok(())
 }
 
@@ -91,7 +91,7 @@ fn the_last_number_wears_an_image_out(rt: HostRuntime) -> Result<(), Fail> {
     let ran = run_opened(alloc, MemDisk::new(alloc, image), script)?;
     let replies =
         b"1 ok begin 9223372036854775807\n1 ok\n1 worn\n1 in-tx\n1 ok\n1 ok begin 9223372036854775807\n1 ok read-only\n";
-    assert_eq!(rt; ran.replies.as_slice(), replies.as_slice());
+    same(&rt, ran.replies.as_slice(), replies.as_slice());
     Ok(())
 }
 

@@ -12,7 +12,14 @@ use iso_model::{Geometry, Memory, Mode};
 use iso_recover::{format_image, open_image};
 use script_runner::{RunEnd, run};
 use std::alloc::{AllocError, Global};
+use std::fmt::Debug;
+use std::process::Abort;
 use std::test::Fail;
+
+// Two values that are to be the same. Each test that compared them itself would prove what is printed where they differ.
+pub(crate) fn same<T: PartialEq + Debug + Drop>(rt: &impl Abort, found: T, wanted: T) {
+    assert_eq!(rt; found, wanted);
+}
 
 #[tactic(auto, unfolding(iso_model::specs::Geometry::is_valid))]
 fn small(mode: Mode) -> Geometry
@@ -191,7 +198,7 @@ fn all_transactions_are_aborted_behind_a_run(rt: HostRuntime) -> Result<(), Fail
         machine,
         b"1 begin\n2 begin\n2 put 0 0 aa\n64 begin\n",
     )?;
-    assert_eq!(rt; ran.end, RunEnd::Done);
-    assert_eq!(rt; (ran.stat.last, ran.stat.live), (0, 0));
+    same(&rt, ran.end, RunEnd::Done);
+    same(&rt, (ran.stat.last, ran.stat.live), (0, 0));
     Ok(())
 }

@@ -1,4 +1,5 @@
 // What an adopt makes of two sides, and what a mirror does once a side has failed.
+use crate::tests::same;
 use iso_disk::{Disk, Image};
 use iso_memdisk::{CallKind, MemDisk};
 use mirror_disk::{Mirror, MirrorError};
@@ -49,8 +50,8 @@ fn the_larger_epoch_counts(rt: HostRuntime) -> Result<(), Fail> {
     let mut second = side_of(alloc, b"new text")?;
     change(&mut second, 32, &SECOND_EPOCH);
     let (error, used, one, two) = adopted(MemDisk::new(alloc, first), MemDisk::new(alloc, second));
-    assert_eq!(rt; error, None);
-    assert_eq!(rt; used, (true, true));
+    same(&rt, error, None);
+    same(&rt, used, (true, true));
     let one = one.crash(alloc, 0)?;
     let two = two.crash(alloc, 0)?;
     assert!(rt; one.get(64..) == Some(b"new text".as_slice()));
@@ -65,8 +66,8 @@ fn the_first_side_counts_where_the_epochs_are_the_same(rt: HostRuntime) -> Resul
     let first = side_of(alloc, b"one text")?;
     let second = side_of(alloc, b"two text")?;
     let (error, used, _one, two) = adopted(MemDisk::new(alloc, first), MemDisk::new(alloc, second));
-    assert_eq!(rt; error, None);
-    assert_eq!(rt; used, (true, true));
+    same(&rt, error, None);
+    same(&rt, used, (true, true));
     let two = two.crash(alloc, 0)?;
     assert!(rt; two.get(64..) == Some(b"one text".as_slice()));
     Ok(())
@@ -79,8 +80,8 @@ fn a_side_that_cannot_be_written_is_left_out(rt: HostRuntime) -> Result<(), Fail
     let mut second = MemDisk::new(alloc, side_of(alloc, b"two text")?);
     second.fail_kind(CallKind::Write, 1);
     let (error, used, one, _two) = adopted(MemDisk::new(alloc, first), second);
-    assert_eq!(rt; error, None);
-    assert_eq!(rt; used, (true, false));
+    same(&rt, error, None);
+    same(&rt, used, (true, false));
     let one = one.crash(alloc, 0)?;
     assert!(rt; one.get(32..48) == Some(SECOND_EPOCH.as_slice()));
     Ok(())
@@ -95,12 +96,13 @@ fn sides_of_other_lengths_are_refused(rt: HostRuntime) -> Result<(), Fail> {
         MemDisk::new(alloc, first),
         MemDisk::new(alloc, second),
     );
-    assert_eq!(rt;
+    same(
+        &rt,
         error,
         Some(MirrorError::SizesDiffer {
             first: 72,
-            second: 75
-        })
+            second: 75,
+        }),
     );
     Ok(())
 }
@@ -113,16 +115,16 @@ fn a_broken_mirror_fails_without_asking(rt: HostRuntime) -> Result<(), Fail> {
     let mut second = no_disk(alloc);
     second.fuse(3);
     let mut mirror = Mirror::of(first, second);
-    assert_eq!(rt; mirror.bind("m+", Some(8)).is_ok(), true);
-    assert_eq!(rt; mirror.sides(), (true, true));
-    assert_eq!(rt; mirror.size(), 8);
-    assert_eq!(rt; mirror.write(0, b"text").is_ok(), false);
-    assert_eq!(rt; mirror.sides(), (false, false));
+    same(&rt, mirror.bind("m+", Some(8)).is_ok(), true);
+    same(&rt, mirror.sides(), (true, true));
+    same(&rt, mirror.size(), 8);
+    same(&rt, mirror.write(0, b"text").is_ok(), false);
+    same(&rt, mirror.sides(), (false, false));
     let mut text = [0; 4];
-    assert_eq!(rt; mirror.read(0, &mut text).is_ok(), false);
-    assert_eq!(rt; mirror.sync().is_ok(), false);
+    same(&rt, mirror.read(0, &mut text).is_ok(), false);
+    same(&rt, mirror.sync().is_ok(), false);
     let (first, second) = mirror.into_sides();
-    assert_eq!(rt; first.calls(), 4);
-    assert_eq!(rt; second.calls(), 4);
+    same(&rt, first.calls(), 4);
+    same(&rt, second.calls(), 4);
     Ok(())
 }

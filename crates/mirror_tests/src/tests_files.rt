@@ -1,5 +1,6 @@
 // The disk of the program: pages that are kept of a mirror of two files.
 use crate::calls::call_over;
+use crate::tests::same;
 use file_disk::FileDisk;
 use kept_disk::Kept;
 use mirror_disk::Mirror;
@@ -50,9 +51,9 @@ fn two_files_of_which_one_is_damaged_removed_and_replaced(rt: HostRuntime) -> Re
     let _ = fs::remove_file(&rt, FIRST);
     let _ = fs::remove_file(&rt, SECOND);
     let (status, _output) = over_files(&rt, NEW, COMMIT)?;
-    assert_eq!(rt; status, 0);
+    same(&rt, status, 0);
     let good = fs::read(&rt, FIRST)?;
-    assert_eq!(rt; good.len(), 1216);
+    same(&rt, good.len(), 1216);
     assert!(rt; is_whole(&rt)?);
     // bytes of the image in the second file are damaged
     let mut damaged = fs::read(&rt, SECOND)?;
@@ -82,8 +83,8 @@ fn two_files_of_zeros_are_no_mirror(rt: HostRuntime) -> Result<(), Fail> {
     fs::write(&rt, "zeros.img+0", zeros.as_slice())?;
     fs::write(&rt, "zeros.img+1", zeros.as_slice())?;
     let (status, output) = over_files(&rt, "isotope run zeros.img+", STAT)?;
-    assert_eq!(rt; status, 5);
-    assert_eq!(rt; output.as_slice(), b"! disk fault\n".as_slice());
+    same(&rt, status, 5);
+    same(&rt, output.as_slice(), b"! disk fault\n".as_slice());
     assert!(rt; fs::read(&rt, "zeros.img+0")?.as_slice() == zeros.as_slice());
     fs::remove_file(&rt, "zeros.img+0")?;
     fs::remove_file(&rt, "zeros.img+1")?;

@@ -1,5 +1,6 @@
 // How often a disk is read whose pages are kept, and a mirror of which a side cannot be read.
 use crate::calls::{Outcome, RUN, call, call_over};
+use crate::tests::same;
 use crate::tests_stops::{counts, made_sides};
 use iso_disk::Image;
 use iso_memdisk::{CallKind, MemDisk};
@@ -62,14 +63,14 @@ fn a_side_that_cannot_be_read_is_no_fault(rt: HostRuntime) -> Result<(), Fail> {
     let next = opening.0.saturating_add(1);
     let told = b"1 ok begin 1\n1 ok aabb\n".as_slice();
     let whole = failing(alloc, &sides, 0, 0, READS)?;
-    assert_eq!(rt; whole.output.as_slice(), told);
+    same(&rt, whole.output.as_slice(), told);
     // the read of the first side is its next call, and the second one is asked only where it fails
     assert!(rt; whole.first.calls() > opening.0);
-    assert_eq!(rt; whole.second.calls(), opening.1);
+    same(&rt, whole.second.calls(), opening.1);
     let one = failing(alloc, &sides, next, 0, READS)?;
-    assert_eq!(rt; one.status, 0);
-    assert_eq!(rt; one.output.as_slice(), told);
-    assert_eq!(rt; one.second.calls(), opening.1.saturating_add(1));
+    same(&rt, one.status, 0);
+    same(&rt, one.output.as_slice(), told);
+    same(&rt, one.second.calls(), opening.1.saturating_add(1));
     Ok(())
 }
 
@@ -80,10 +81,11 @@ fn a_read_that_fails_on_both_sides_writes_nothing(rt: HostRuntime) -> Result<(),
     let opening = counts(alloc, RUN, &sides, b"")?;
     let (one, two) = (opening.0.saturating_add(1), opening.1.saturating_add(1));
     let both = failing(alloc, &sides, one, two, READS)?;
-    assert_eq!(rt; both.status, 5);
-    assert_eq!(rt;
+    same(&rt, both.status, 5);
+    same(
+        &rt,
         both.output.as_slice(),
-        b"1 ok begin 1\n! disk fault\n".as_slice()
+        b"1 ok begin 1\n! disk fault\n".as_slice(),
     );
     for pick in 0..6 {
         assert!(rt; both.first.crash(alloc, pick)?.as_slice() == sides.0.as_slice());
