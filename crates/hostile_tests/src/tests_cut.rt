@@ -2,8 +2,15 @@
 ghost use Rattle.std.specs.Prelude.{None, false};
 
 use iso_io::{MemSink, Source, SourceFault};
+use std::fmt::Debug;
+use std::process::Abort;
 use std::test::Fail;
 use top_calls::{SMALL, call_from, no_disk};
+
+// Two values that are to be the same. Each test that compared them itself would prove what is printed where they differ.
+pub(crate) fn same<T: PartialEq + Debug + Drop>(rt: &impl Abort, found: T, wanted: T) {
+    assert_eq!(rt; found, wanted);
+}
 
 /// How long a line is with its line feed: as many of these as are read are whole lines.
 const LINE: usize = 16_384;
@@ -40,10 +47,11 @@ fn a_script_is_cut_where_it_is_too_long(rt: HostRuntime) -> Result<(), Fail> {
     let mut comments = Comments { left: LINE - 1 };
     let sink = MemSink::new(alloc, Vec::new(alloc));
     let outcome = call_from(alloc, SMALL, no_disk(alloc), &mut comments, sink)?;
-    assert_eq!(rt; outcome.status, 3);
-    assert_eq!(rt;
+    same(&rt, outcome.status, 3);
+    same(
+        &rt,
         outcome.output.as_slice(),
-        b"! bad line 262145 cause 9\n".as_slice()
+        b"! bad line 262145 cause 9\n".as_slice(),
     );
     Ok(())
 }

@@ -1,4 +1,5 @@
 // Images that are damaged in one place, one test each: what they are refused for, by both calls that open an image.
+use crate::tests_cut::same;
 use iso_memdisk::MemDisk;
 use std::alloc::{AllocError, Global};
 use std::test::Fail;
@@ -227,8 +228,8 @@ fn nothing_is_asked_behind_a_closed_gate(rt: HostRuntime) -> Result<(), Fail> {
         let outcome = run_image(alloc, image, b"1 stat\n1 begin\n1 get 2 5 2\n")?;
         let empty =
             b"1 ok last 0 base 0 trim 0 live 0 used 0 versions 0\n1 ok begin 0\n1 ok 0000\n".as_slice();
-        assert_eq!(rt; outcome.status, 0);
-        assert_eq!(rt; outcome.output.as_slice(), empty);
+        same(&rt, outcome.status, 0);
+        same(&rt, outcome.output.as_slice(), empty);
     }
     Ok(())
 }

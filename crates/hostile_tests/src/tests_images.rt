@@ -1,4 +1,5 @@
 // What images are opened to.
+use crate::tests_cut::same;
 use std::alloc::{AllocError, Global};
 use std::test::Fail;
 use top_calls::{Outcome, RECORD, change, one_put_image, part, run_image, small_image};
@@ -14,8 +15,8 @@ fn a_record_is_told_again(rt: HostRuntime) -> Result<(), Fail> {
     let outcome = opened(alloc, one_put_image(alloc)?)?;
     let replies =
         b"1 ok last 1 base 0 trim 0 live 0 used 30 versions 1\n1 ok begin 1\n1 ok abcd\n".as_slice();
-    assert_eq!(rt; outcome.status, 0);
-    assert_eq!(rt; outcome.output.as_slice(), replies);
+    same(&rt, outcome.status, 0);
+    same(&rt, outcome.output.as_slice(), replies);
     Ok(())
 }
 
@@ -33,13 +34,13 @@ fn the_half_of_the_larger_generation_is_opened(rt: HostRuntime) -> Result<(), Fa
     let other =
         b"1 ok last 5 base 5 trim 5 live 0 used 0 versions 0\n1 ok begin 5\n1 ok ef00\n".as_slice();
     let tie = opened(alloc, image.clone()?)?;
-    assert_eq!(rt; tie.output.as_slice(), first);
+    same(&rt, tie.output.as_slice(), first);
     change(&mut image, 623, &[2]);
     let later = opened(alloc, image.clone()?)?;
-    assert_eq!(rt; later.output.as_slice(), other);
+    same(&rt, later.output.as_slice(), other);
     change(&mut image, 608, &[2]);
     let closed = opened(alloc, image)?;
-    assert_eq!(rt; closed.output.as_slice(), first);
+    same(&rt, closed.output.as_slice(), first);
     Ok(())
 }
 
@@ -62,10 +63,14 @@ fn an_image_of_form_2_has_commits_of_both_modes(rt: HostRuntime) -> Result<(), F
         let mut image = small_image(alloc)?;
         change(&mut image, 65, &[2]);
         let outcome = run_image(alloc, image, script)?;
-        assert_eq!(rt; outcome.status, 0);
+        same(&rt, outcome.status, 0);
         assert!(rt; outcome.output.starts_with(front));
         assert!(rt; outcome.output.ends_with(end));
-        assert_eq!(rt; outcome.output.len(), front.len().saturating_add(end.len()));
+        same(
+            &rt,
+            outcome.output.len(),
+            front.len().saturating_add(end.len()),
+        );
     }
     Ok(())
 }
@@ -80,11 +85,11 @@ fn a_commit_of_the_other_mode_has_its_kind(rt: HostRuntime) -> Result<(), Fail> 
         1, 2, 0, 0, 0, 0, 0, 1, 0, 0, 0, 9, 0, 0, 0, 0, 0, 0, 0, 2, 0, 0, 0, 1, 0, 0, 0, 1, 0xbb, 0,
     ];
     let left = outcome.disk.crash(alloc, 0)?;
-    assert_eq!(rt; part(&left, 381, 30), record.as_slice());
+    same(&rt, part(&left, 381, 30), record.as_slice());
     // and is told again
     let again = run_image(alloc, left, b"1 stat\n")?;
     let stat = b"1 ok last 2 base 0 trim 0 live 0 used 58 versions 2\n".as_slice();
-    assert_eq!(rt; again.output.as_slice(), stat);
+    same(&rt, again.output.as_slice(), stat);
     Ok(())
 }
 
@@ -97,8 +102,8 @@ fn an_image_of_form_1_has_one_mode(rt: HostRuntime) -> Result<(), Fail> {
         b"1 begin snapshot\n1 begin serial\n1 begin snapshot\n",
     )?;
     let replies = b"1 mode-fixed\n1 ok begin 0\n1 in-tx\n".as_slice();
-    assert_eq!(rt; outcome.status, 0);
-    assert_eq!(rt; outcome.output.as_slice(), replies);
+    same(&rt, outcome.status, 0);
+    same(&rt, outcome.output.as_slice(), replies);
     Ok(())
 }
 
@@ -116,7 +121,7 @@ fn a_commit_is_laid_behind_those_that_stand(rt: HostRuntime) -> Result<(), Fail>
     let mut expected = one_put_image(alloc)?;
     change(&mut expected, 382, &record);
     let left = outcome.disk.crash(alloc, 0)?;
-    assert_eq!(rt; part(&expected, 352, 30), &RECORD[..30]);
+    same(&rt, part(&expected, 352, 30), &RECORD[..30]);
     assert!(rt; left.as_slice() == expected.as_slice());
     Ok(())
 }

@@ -1,4 +1,5 @@
 // Scripts with a bad line: the line and the cause that are named, and what stands before it.
+use crate::tests_cut::same;
 use std::alloc::{AllocError, Global};
 use std::test::Fail;
 use top_calls::{SMALL, call, joined, one_put_image};
@@ -136,7 +137,7 @@ fn a_line_may_have_16384_bytes(rt: HostRuntime) -> Result<(), Fail> {
         let longer = joined(alloc, &script, b"\n1 jump\n")?;
         assert!(rt; is_bad(alloc, &script, b"! bad line 1 cause 7\n")?);
         assert!(rt; is_bad(alloc, &longer, b"! bad line 1 cause 7\n")?);
-        assert_eq!(rt; call(alloc, SMALL, &whole)?.status, 0);
+        same(&rt, call(alloc, SMALL, &whole)?.status, 0);
     }
     Ok(())
 }
@@ -164,8 +165,8 @@ fn commits_stand_that_were_made_before_a_bad_line(rt: HostRuntime) -> Result<(),
         ONE_PUT_REPLIES,
         b"1 ok begin 1\n1 ok\n! bad line 6 cause 2\n",
     )?;
-    assert_eq!(rt; outcome.status, 3);
-    assert_eq!(rt; outcome.output.as_slice(), replies.as_slice());
+    same(&rt, outcome.status, 3);
+    same(&rt, outcome.output.as_slice(), replies.as_slice());
     let expected = one_put_image(alloc)?;
     for pick in 0..3 {
         let left = outcome.disk.crash(alloc, pick)?;

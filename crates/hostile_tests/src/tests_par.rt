@@ -1,5 +1,6 @@
 // Clients in threads on a disk that stops after each call, or fails at one call alone: what they are told, and what the images
 // are opened to that a crash then leaves.
+use crate::tests_cut::same;
 use crate::tests_stops::{BOTH, NONE_OF_TWO, ONE_OF_TWO, SHOW_TWO, TWO_PUTS, leaves};
 use crate::tests_switches::opens_at_the_commit;
 use iso_io::{MemSink, MemSource};
@@ -69,7 +70,7 @@ fn a_fault_at_each_call_of_two_commits_of_a_client(rt: HostRuntime) -> Result<()
         disk.fail(number);
         let outcome = par_over(&rt, alloc, disk, TWO_PUTS)?;
         assert!(rt; is_as_expected(alloc, &outcome, calls)?, "{calls}");
-        assert_eq!(rt; outcome.disk.calls(), number.min(14));
+        same(&rt, outcome.disk.calls(), number.min(14));
     }
     Ok(())
 }

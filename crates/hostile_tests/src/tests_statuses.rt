@@ -1,4 +1,5 @@
 // Each status with its causes, and what stands behind it.
+use crate::tests_cut::same;
 use iso_memdisk::{CallKind, MemDisk};
 use std::alloc::{AllocError, Global};
 use std::test::Fail;
@@ -45,9 +46,9 @@ fn words_outside_the_grammar(rt: HostRuntime) -> Result<(), Fail> {
     ] {
         let outcome = call(alloc, line, ONE_PUT)?;
         assert_eq!(rt; outcome.status, 2, "{line}");
-        assert_eq!(rt; outcome.output.as_slice(), USAGE);
+        same(&rt, outcome.output.as_slice(), USAGE);
         // it was not bound
-        assert_eq!(rt; outcome.disk.calls(), 0);
+        same(&rt, outcome.disk.calls(), 0);
     }
     Ok(())
 }
@@ -62,7 +63,7 @@ fn options_stand_anywhere_and_in_two_spellings(rt: HostRuntime) -> Result<(), Fa
         "isotope new --blocks=4 --log=256 --mode serial --block-size 64 -- t.img",
     ] {
         let outcome = call(alloc, line, b"")?;
-        assert_eq!(rt; outcome.status, 0);
+        same(&rt, outcome.status, 0);
         let left = outcome.disk.crash(alloc, 0)?;
         assert!(rt; left.as_slice() == expected.as_slice());
     }
@@ -76,9 +77,9 @@ fn a_bind_that_fails_ends_the_call(rt: HostRuntime) -> Result<(), Fail> {
         let mut disk = MemDisk::new(alloc, small_image(alloc)?);
         disk.fail_kind(CallKind::Bind, 1);
         let outcome = call_on(alloc, line, disk, ONE_PUT)?;
-        assert_eq!(rt; outcome.status, 5);
-        assert_eq!(rt; outcome.output.as_slice(), b"! disk fault\n".as_slice());
-        assert_eq!(rt; outcome.disk.calls(), 1);
+        same(&rt, outcome.status, 5);
+        same(&rt, outcome.output.as_slice(), b"! disk fault\n".as_slice());
+        same(&rt, outcome.disk.calls(), 1);
     }
     Ok(())
 }
@@ -90,9 +91,9 @@ fn a_formatting_that_fails_ends_the_call(rt: HostRuntime) -> Result<(), Fail> {
         let mut disk = no_disk(alloc);
         disk.fail(number);
         let outcome = call_on(alloc, SMALL, disk, ONE_PUT)?;
-        assert_eq!(rt; outcome.status, 5);
-        assert_eq!(rt; outcome.output.as_slice(), b"! disk fault\n".as_slice());
-        assert_eq!(rt; outcome.disk.calls(), number);
+        same(&rt, outcome.status, 5);
+        same(&rt, outcome.output.as_slice(), b"! disk fault\n".as_slice());
+        same(&rt, outcome.disk.calls(), number);
     }
     Ok(())
 }
@@ -108,8 +109,8 @@ fn an_opening_that_fails_ends_the_call(rt: HostRuntime) -> Result<(), Fail> {
             let mut disk = MemDisk::new(alloc, image.clone()?);
             disk.fail(number);
             let outcome = call_on(alloc, line, disk, ONE_PUT)?;
-            assert_eq!(rt; outcome.status, 5);
-            assert_eq!(rt; outcome.output.as_slice(), b"! disk fault\n".as_slice());
+            same(&rt, outcome.status, 5);
+            same(&rt, outcome.output.as_slice(), b"! disk fault\n".as_slice());
             let left = outcome.disk.crash(alloc, 1)?;
             assert!(rt; left.as_slice() == image.as_slice());
         }
@@ -138,9 +139,9 @@ fn a_read_that_fails_ends_the_run(rt: HostRuntime) -> Result<(), Fail> {
     let mut disk = MemDisk::new(alloc, image.clone()?);
     disk.fail_kind(CallKind::Read, of_the_opening.saturating_add(1));
     let outcome = call_on(alloc, RUN, disk, b"1 begin\n1 read 2\n")?;
-    assert_eq!(rt; outcome.status, 5);
+    same(&rt, outcome.status, 5);
     let replies = b"1 ok begin 1\n! disk fault\n".as_slice();
-    assert_eq!(rt; outcome.output.as_slice(), replies);
+    same(&rt, outcome.output.as_slice(), replies);
     for pick in 0..6 {
         let left = outcome.disk.crash(alloc, pick)?;
         assert!(rt; left.as_slice() == image.as_slice());
@@ -157,8 +158,8 @@ fn no_read_is_tried_again(rt: HostRuntime) -> Result<(), Fail> {
     let mut disk = MemDisk::new(alloc, image);
     disk.fail(number);
     let outcome = call_on(alloc, RUN, disk, b"1 begin\n1 read 2\n1 read 2\n")?;
-    assert_eq!(rt; outcome.status, 5);
-    assert_eq!(rt; outcome.disk.calls(), number);
+    same(&rt, outcome.status, 5);
+    same(&rt, outcome.disk.calls(), number);
     Ok(())
 }
 
@@ -171,13 +172,13 @@ fn a_commit_that_fails_ends_the_run(rt: HostRuntime) -> Result<(), Fail> {
     let outcome = call_on(alloc, RUN, disk, script)?;
     let replies =
         b"1 ok begin 0\n1 ok\n1 ok commit 1\n1 ok begin 1\n1 ok\n! disk fault\n".as_slice();
-    assert_eq!(rt; outcome.status, 5);
-    assert_eq!(rt; outcome.output.as_slice(), replies);
+    same(&rt, outcome.status, 5);
+    same(&rt, outcome.output.as_slice(), replies);
     let stat = b"1 ok last 1 base 0 trim 0 live 0 used 29 versions 1\n".as_slice();
     for pick in 0..6 {
         let left = outcome.disk.crash(alloc, pick)?;
         let again = call_on(alloc, RUN, MemDisk::new(alloc, left), b"1 stat\n")?;
-        assert_eq!(rt; again.output.as_slice(), stat);
+        same(&rt, again.output.as_slice(), stat);
     }
     Ok(())
 }

@@ -1,5 +1,6 @@
 // Disks that stop after each call of a formatting and of commits, or fail at one call alone: what the images are opened to
 // that a crash then leaves.
+use crate::tests_cut::same;
 use iso_memdisk::MemDisk;
 use std::alloc::Global;
 use std::test::Fail;
@@ -78,8 +79,8 @@ fn a_disk_that_makes_no_call(rt: HostRuntime) -> Result<(), Fail> {
         let mut disk = no_disk(alloc);
         disk.fuse(0);
         let outcome = call_on(alloc, line, disk, ONE_PUT)?;
-        assert_eq!(rt; outcome.status, 5);
-        assert_eq!(rt; outcome.output.as_slice(), b"! disk fault\n".as_slice());
+        same(&rt, outcome.status, 5);
+        same(&rt, outcome.output.as_slice(), b"! disk fault\n".as_slice());
     }
     Ok(())
 }
@@ -145,7 +146,7 @@ fn a_fault_at_each_call_of_two_commits(rt: HostRuntime) -> Result<(), Fail> {
         disk.fail(number);
         let outcome = call_on(alloc, RUN, disk, TWO_PUTS)?;
         assert!(rt; is_as_expected(alloc, &outcome, calls)?, "{calls}");
-        assert_eq!(rt; outcome.disk.calls(), number.min(14));
+        same(&rt, outcome.disk.calls(), number.min(14));
     }
     Ok(())
 }
@@ -197,7 +198,7 @@ fn a_fault_at_each_call_of_a_group(rt: HostRuntime) -> Result<(), Fail> {
         disk.fail(number);
         let outcome = call_on(alloc, RUN, disk, A_GROUP)?;
         assert!(rt; is_as_a_group(alloc, &outcome, calls)?, "{calls}");
-        assert_eq!(rt; outcome.disk.calls(), number.min(10));
+        same(&rt, outcome.disk.calls(), number.min(10));
     }
     Ok(())
 }

@@ -1,6 +1,7 @@
 // Sources and sinks that fail, and what stands behind them.
 ghost use Rattle.std.specs.Prelude.{◌<◌};
 
+use crate::tests_cut::same;
 use iso_io::{MemSink, MemSource};
 use iso_memdisk::{CallKind, MemDisk};
 use std::alloc::{AllocError, Global};
@@ -46,9 +47,9 @@ fn a_source_that_fails_at_its_second_call(rt: HostRuntime) -> Result<(), Fail> {
     let source = failing_source(alloc, b"1 begin\n", 2, 100)?;
     let sink = MemSink::new(alloc, Vec::new(alloc));
     let outcome = call_over(alloc, SMALL, no_disk(alloc), source, sink)?;
-    assert_eq!(rt; outcome.status, 6);
+    same(&rt, outcome.status, 6);
     let replies = b"1 ok begin 0\n! input fault\n".as_slice();
-    assert_eq!(rt; outcome.output.as_slice(), replies);
+    same(&rt, outcome.output.as_slice(), replies);
     Ok(())
 }
 
@@ -78,8 +79,8 @@ fn a_source_that_gives_all_at_once_fails_at_a_call(rt: HostRuntime) -> Result<()
 fn a_sink_that_fails_at_its_first_call(rt: HostRuntime) -> Result<(), Fail> {
     let alloc = rt.alloc();
     let outcome = run_into(alloc, b"1 begin", failing_sink(alloc, 1)?)?;
-    assert_eq!(rt; outcome.status, 7);
-    assert_eq!(rt; outcome.output.len(), 0);
+    same(&rt, outcome.status, 7);
+    same(&rt, outcome.output.len(), 0);
     Ok(())
 }
 
@@ -104,16 +105,16 @@ fn a_source_that_fails_leaves_the_replies_to_whole_lines(rt: HostRuntime) -> Res
         let source = failing_source(alloc, SCRIPT, number, 16)?;
         let sink = MemSink::new(alloc, Vec::new(alloc));
         let outcome = call_over(alloc, SMALL, no_disk(alloc), source, sink)?;
-        assert_eq!(rt; outcome.status, 6);
+        same(&rt, outcome.status, 6);
         assert!(rt; outcome.output.starts_with(replies));
         assert!(rt; outcome.output.ends_with(b"! input fault\n"));
-        assert_eq!(rt; outcome.output.len(), replies.len().saturating_add(14));
+        same(&rt, outcome.output.len(), replies.len().saturating_add(14));
     }
     let source = failing_source(alloc, SCRIPT, 7, 16)?;
     let sink = MemSink::new(alloc, Vec::new(alloc));
     let outcome = call_over(alloc, SMALL, no_disk(alloc), source, sink)?;
-    assert_eq!(rt; outcome.status, 0);
-    assert_eq!(rt; outcome.output.as_slice(), REPLIES);
+    same(&rt, outcome.status, 0);
+    same(&rt, outcome.output.as_slice(), REPLIES);
     Ok(())
 }
 
@@ -126,7 +127,7 @@ fn commits_stand_that_were_made_before_a_source_failed(rt: HostRuntime) -> Resul
     let stat = b"1 ok last 1 base 0 trim 0 live 0 used 29 versions 1\n".as_slice();
     for pick in 0..3 {
         let again = stat_of(alloc, outcome.disk.crash(alloc, pick)?)?;
-        assert_eq!(rt; again.as_slice(), stat);
+        same(&rt, again.as_slice(), stat);
     }
     Ok(())
 }
@@ -138,8 +139,8 @@ fn the_pieces_of_an_input_do_not_matter(rt: HostRuntime) -> Result<(), Fail> {
         let source = failing_source(alloc, SCRIPT, 1000, piece)?;
         let sink = MemSink::new(alloc, Vec::new(alloc));
         let outcome = call_over(alloc, SMALL, no_disk(alloc), source, sink)?;
-        assert_eq!(rt; outcome.status, 0);
-        assert_eq!(rt; outcome.output.as_slice(), REPLIES);
+        same(&rt, outcome.status, 0);
+        same(&rt, outcome.output.as_slice(), REPLIES);
     }
     Ok(())
 }
@@ -160,13 +161,13 @@ fn each_reply_is_one_put(rt: HostRuntime) -> Result<(), Fail> {
         (9, 87),
     ] {
         let outcome = run_into(alloc, SCRIPT, failing_sink(alloc, number)?)?;
-        assert_eq!(rt; outcome.status, 7);
-        assert_eq!(rt; outcome.output.len(), length);
+        same(&rt, outcome.status, 7);
+        same(&rt, outcome.output.len(), length);
         assert!(rt; REPLIES.starts_with(&outcome.output));
     }
     let outcome = run_into(alloc, SCRIPT, failing_sink(alloc, 10)?)?;
-    assert_eq!(rt; outcome.status, 0);
-    assert_eq!(rt; outcome.output.as_slice(), REPLIES);
+    same(&rt, outcome.status, 0);
+    same(&rt, outcome.output.as_slice(), REPLIES);
     Ok(())
 }
 
@@ -174,11 +175,11 @@ fn each_reply_is_one_put(rt: HostRuntime) -> Result<(), Fail> {
 fn a_commit_stands_whose_reply_was_not_put(rt: HostRuntime) -> Result<(), Fail> {
     let alloc = rt.alloc();
     let outcome = run_into(alloc, SCRIPT, failing_sink(alloc, 6)?)?;
-    assert_eq!(rt; outcome.status, 7);
+    same(&rt, outcome.status, 7);
     let stat = b"1 ok last 2 base 0 trim 0 live 0 used 58 versions 2\n".as_slice();
     for pick in 0..3 {
         let again = stat_of(alloc, outcome.disk.crash(alloc, pick)?)?;
-        assert_eq!(rt; again.as_slice(), stat);
+        same(&rt, again.as_slice(), stat);
     }
     Ok(())
 }
@@ -189,8 +190,8 @@ fn a_sink_that_takes_little_gets_all(rt: HostRuntime) -> Result<(), Fail> {
     for piece in [1, 3, 64] {
         let sink = MemSink::in_pieces(alloc, Vec::new(alloc), piece);
         let outcome = run_into(alloc, SCRIPT, sink)?;
-        assert_eq!(rt; outcome.status, 0);
-        assert_eq!(rt; outcome.output.as_slice(), REPLIES);
+        same(&rt, outcome.status, 0);
+        same(&rt, outcome.output.as_slice(), REPLIES);
     }
     Ok(())
 }
@@ -206,8 +207,8 @@ fn a_sink_that_fails_within_a_reply_has_its_front(rt: HostRuntime) -> Result<(),
     ] {
         let failing = [number].to_vec(alloc)?;
         let outcome = run_into(alloc, SCRIPT, MemSink::in_pieces(alloc, failing, 5))?;
-        assert_eq!(rt; outcome.status, 7);
-        assert_eq!(rt; outcome.output.as_slice(), front);
+        same(&rt, outcome.status, 7);
+        same(&rt, outcome.output.as_slice(), front);
     }
     Ok(())
 }
@@ -218,8 +219,8 @@ fn a_sink_that_takes_nothing_ends_the_run(rt: HostRuntime) -> Result<(), Fail> {
     for (input, status) in [(SCRIPT, 7), (b"", 0), (b"1 jump", 3), (b"# x\n", 0)] {
         let sink = MemSink::in_pieces(alloc, Vec::new(alloc), 0);
         let outcome = run_into(alloc, input, sink)?;
-        assert_eq!(rt; outcome.status, status);
-        assert_eq!(rt; outcome.output.len(), 0);
+        same(&rt, outcome.status, status);
+        same(&rt, outcome.output.len(), 0);
     }
     Ok(())
 }
@@ -245,13 +246,13 @@ fn a_status_stays_where_its_line_is_not_put(rt: HostRuntime) -> Result<(), Fail>
     ] {
         let outcome = call_with_all_failing(alloc, line, number)?;
         assert_eq!(rt; outcome.status, status, "{line}");
-        assert_eq!(rt; outcome.output.len(), 0);
+        same(&rt, outcome.output.len(), 0);
     }
     let source = MemSource::new(Vec::new(alloc), Vec::new(alloc));
     let disk = MemDisk::new(alloc, Vec::new(alloc));
     let outcome = call_over(alloc, RUN, disk, source, failing_sink(alloc, 1)?)?;
-    assert_eq!(rt; outcome.status, 4);
-    assert_eq!(rt; outcome.output.len(), 0);
+    same(&rt, outcome.status, 4);
+    same(&rt, outcome.output.len(), 0);
     Ok(())
 }
 

@@ -1,5 +1,6 @@
 // Compactions and upgrades whose disk stops after each call, or fails at one call alone: what the images are opened to that a
 // crash then leaves, and a second switch of halves of each of these images, which is stopped in the same way.
+use crate::tests_cut::same;
 use crate::tests_stops::leaves;
 use iso_memdisk::MemDisk;
 use std::alloc::{AllocError, Global};
@@ -144,10 +145,10 @@ fn a_fault_at_each_call_of_upgrades_around_a_label(rt: HostRuntime) -> Result<()
 fn an_upgrade_below_a_label_leaves_its_snapshot(rt: HostRuntime) -> Result<(), Fail> {
     let alloc = rt.alloc();
     let outcome = call(alloc, SMALL, UPGRADES)?;
-    assert_eq!(rt; outcome.status, 0);
+    same(&rt, outcome.status, 0);
     let replies =
         b"1 ok begin 0\n1 ok 00\n1 ok\n2 ok begin 0\n2 ok\n2 ok commit 1\n2 ok trim 0\n2 ok upgrade 0\n2 ok last 1 base 0 trim 0 live 1 used 29 versions 1\n3 ok begin 0\n3 ok 00\n3 ok read-only\n3 ok upgrade 1\n3 ok last 1 base 1 trim 1 live 0 used 0 versions 0\n".as_slice();
-    assert_eq!(rt; outcome.output.as_slice(), replies);
+    same(&rt, outcome.output.as_slice(), replies);
     Ok(())
 }
 

@@ -1,9 +1,16 @@
 // What clients beside each other are told. Where the order of two clients matters, one waits for a label of the other.
 use std::alloc::{AllocError, Global};
+use std::fmt::Debug;
+use std::process::Abort;
 use std::sync::Wait;
 use std::test::Fail;
 use std::thread::Threads;
 use top_calls::{SMALL, call, par_image, part, run_image, small_image, stat_of, text};
+
+// Two values that are to be the same. Each test that compared them itself would prove what is printed where they differ.
+pub(crate) fn same<T: PartialEq + Debug + Drop>(rt: &impl Abort, found: T, wanted: T) {
+    assert_eq!(rt; found, wanted);
+}
 
 /// Whether a script of clients on an image of these bytes is answered so, all of it, with status 0.
 fn answers<R: Threads + Wait + Sync>(
@@ -56,14 +63,14 @@ fn lines_are_numbered_with_those_that_say_nothing(rt: HostRuntime) -> Result<(),
     let script = b"# a comment\n1 begin\r\n\n1 put 2 5 abcd\n   \n1 end";
     let replies = b"1 ok begin 0\n1 ok\n1 ok commit 1\ncommit 1 by 1 line 6\n";
     let outcome = par_image(&rt, alloc, image, script)?;
-    assert_eq!(rt; outcome.status, 0);
-    assert_eq!(rt; outcome.output.as_slice(), replies.as_slice());
+    same(&rt, outcome.status, 0);
+    same(&rt, outcome.output.as_slice(), replies.as_slice());
     let left = outcome.disk.crash(alloc, 0)?;
     let record = [
         1, 1, 0, 0, 0, 0, 0, 1, 0, 0, 0, 10, 0, 0, 0, 0, 0, 0, 0, 1, 0, 0, 0, 2, 0, 5, 0, 2, 0xab,
         0xcd, 0,
     ];
-    assert_eq!(rt; part(&left, 352, 31), record.as_slice());
+    same(&rt, part(&left, 352, 31), record.as_slice());
     Ok(())
 }
 
@@ -100,11 +107,11 @@ fn what_is_left_is_aborted(rt: HostRuntime) -> Result<(), Fail> {
     let script = b"1 begin\n1 put 0 0 aa\n2 begin\n2 put 1 0 bb\n2 release a\n";
     let replies = b"1 ok begin 0\n1 ok\n2 ok begin 0\n2 ok\n2 ok\n";
     let outcome = par_image(&rt, alloc, small_image(alloc)?, script)?;
-    assert_eq!(rt; outcome.status, 0);
-    assert_eq!(rt; outcome.output.as_slice(), replies.as_slice());
+    same(&rt, outcome.status, 0);
+    same(&rt, outcome.output.as_slice(), replies.as_slice());
     let stat = stat_of(alloc, outcome.disk.crash(alloc, 0)?)?;
     let expected = b"1 ok last 0 base 0 trim 0 live 0 used 0 versions 0\n".as_slice();
-    assert_eq!(rt; stat.as_slice(), expected);
+    same(&rt, stat.as_slice(), expected);
     Ok(())
 }
 
@@ -119,16 +126,17 @@ fn an_upgraded_image_has_both_modes(rt: HostRuntime) -> Result<(), Fail> {
     let script = b"1 begin snapshot\n1 put 0 1 bb\n1 end\n";
     let replies = b"1 ok begin 1\n1 ok\n1 ok commit 2\ncommit 2 by 1 line 3\n";
     let outcome = par_image(&rt, alloc, made.disk.crash(alloc, 0)?, script)?;
-    assert_eq!(rt; outcome.status, 0);
-    assert_eq!(rt; outcome.output.as_slice(), replies.as_slice());
+    same(&rt, outcome.status, 0);
+    same(&rt, outcome.output.as_slice(), replies.as_slice());
     let again = run_image(
         alloc,
         outcome.disk.crash(alloc, 0)?,
         b"1 begin\n1 get 0 0 2\n",
     )?;
-    assert_eq!(rt;
+    same(
+        &rt,
         again.output.as_slice(),
-        b"1 ok begin 2\n1 ok aabb\n".as_slice()
+        b"1 ok begin 2\n1 ok aabb\n".as_slice(),
     );
     Ok(())
 }

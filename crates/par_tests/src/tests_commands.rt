@@ -1,5 +1,6 @@
 // Each command through `isotope`, the call that the program makes, with its status and all of its output. That it succeeds is what no
 // clause can say, since want of memory is free. The texts are those of examples/, and the digests were made by another program.
+use crate::tests_clients::same;
 use iso_memdisk::MemDisk;
 use std::test::Fail;
 use top_calls::{
@@ -17,8 +18,8 @@ const REPLIES: &[u8] =
 fn new_makes_an_image_and_answers_its_script(rt: HostRuntime) -> Result<(), Fail> {
     let alloc = rt.alloc();
     let outcome = isotope_on(&rt, alloc, SMALL, no_disk(alloc), SCRIPT)?;
-    assert_eq!(rt; outcome.status, 0);
-    assert_eq!(rt; outcome.output.as_slice(), REPLIES);
+    same(&rt, outcome.status, 0);
+    same(&rt, outcome.output.as_slice(), REPLIES);
     let left = outcome.disk.crash(alloc, 0)?;
     assert!(rt; left.as_slice() == one_put_image(alloc)?.as_slice());
     Ok(())
@@ -29,11 +30,12 @@ fn run_opens_an_image_and_answers_its_script(rt: HostRuntime) -> Result<(), Fail
     let alloc = rt.alloc();
     let disk = MemDisk::new(alloc, small_image(alloc)?);
     let first = isotope_on(&rt, alloc, RUN, disk, SCRIPT)?;
-    assert_eq!(rt; first.status, 0);
-    assert_eq!(rt; first.output.as_slice(), REPLIES);
-    assert_eq!(rt;
+    same(&rt, first.status, 0);
+    same(&rt, first.output.as_slice(), REPLIES);
+    same(
+        &rt,
         part(&first.disk.crash(alloc, 0)?, 352, 31),
-        RECORD.as_slice()
+        RECORD.as_slice(),
     );
     let again = isotope_on(
         &rt,
@@ -43,8 +45,8 @@ fn run_opens_an_image_and_answers_its_script(rt: HostRuntime) -> Result<(), Fail
         b"1 begin\n1 get 2 5 2\n1 end\n",
     )?;
     let replies = b"1 ok begin 1\n1 ok abcd\n1 ok read-only\n".as_slice();
-    assert_eq!(rt; again.status, 0);
-    assert_eq!(rt; again.output.as_slice(), replies);
+    same(&rt, again.status, 0);
+    same(&rt, again.output.as_slice(), replies);
     Ok(())
 }
 
@@ -57,8 +59,8 @@ fn recover_tells_the_last_commit_and_the_digest(rt: HostRuntime) -> Result<(), F
     // the digest of 256 bytes that are zero, but for ab cd at byte 5 of block 2
     let expected =
         b"last 1 base 0 sha256 f370e2888af0e189545aa7b782add4dbf5f49125a6f5cf94f25c0fde4605d5dd\n".as_slice();
-    assert_eq!(rt; outcome.status, 0);
-    assert_eq!(rt; outcome.output.as_slice(), expected);
+    same(&rt, outcome.status, 0);
+    same(&rt, outcome.output.as_slice(), expected);
     assert!(rt; outcome.disk.crash(alloc, 0)?.as_slice() == image.as_slice());
     Ok(())
 }
@@ -70,9 +72,9 @@ fn bench_without_rounds_makes_an_image(rt: HostRuntime) -> Result<(), Fail> {
     // the digest of no bytes
     let expected =
         b"rounds 0 commits 0 conflicts 0 sha256 e3b0c44298fc1c149afbf4c8996fb92427ae41e4649b934ca495991b7852b855\n".as_slice();
-    assert_eq!(rt; outcome.status, 0);
-    assert_eq!(rt; outcome.output.as_slice(), expected);
-    assert_eq!(rt; outcome.disk.crash(alloc, 0)?.len(), 16_785_536);
+    same(&rt, outcome.status, 0);
+    same(&rt, outcome.output.as_slice(), expected);
+    same(&rt, outcome.disk.crash(alloc, 0)?.len(), 16_785_536);
     Ok(())
 }
 
@@ -88,7 +90,7 @@ fn par_runs_the_clients_of_its_script(rt: HostRuntime) -> Result<(), Fail> {
     let alloc = rt.alloc();
     let disk = MemDisk::new(alloc, small_image(alloc)?);
     let outcome = isotope_on(&rt, alloc, PAR, disk, CLIENTS)?;
-    assert_eq!(rt; outcome.status, 0);
-    assert_eq!(rt; outcome.output.as_slice(), CLIENTS_REPLIES);
+    same(&rt, outcome.status, 0);
+    same(&rt, outcome.output.as_slice(), CLIENTS_REPLIES);
     Ok(())
 }

@@ -1,5 +1,6 @@
 // Drawn scripts of clients that share no block: beside each other they are told what they are told one line after another, but for
 // the numbers of begins and commits, which tell how the clients were interleaved.
+use crate::tests_clients::same;
 use std::alloc::{AllocError, Global};
 use std::test::Fail;
 use top_calls::{made_image, par_image, run_image};
@@ -107,8 +108,8 @@ fn clients_without_shared_blocks_are_told_what_a_run_tells(rt: HostRuntime) -> R
         let script = drawn(alloc, seed, 20)?;
         let beside = par_image(&rt, alloc, made_image(alloc, ROOMY, b"")?, &script)?;
         let behind = run_image(alloc, made_image(alloc, ROOMY, b"")?, &script)?;
-        assert_eq!(rt; beside.status, 0);
-        assert_eq!(rt; behind.status, 0);
+        same(&rt, beside.status, 0);
+        same(&rt, behind.status, 0);
         for client in 0..CLIENTS {
             let one = told(alloc, &beside.output, client)?;
             let other = told(alloc, &behind.output, client)?;

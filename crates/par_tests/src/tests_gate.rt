@@ -1,5 +1,6 @@
 // The gate that `isotope` is handed: it is called once before each line of a client that runs, with the client and the number of the
 // line, and for nothing else.
+use crate::tests_clients::same;
 use iso_io::{MemSink, MemSource};
 use iso_memdisk::{CallKind, MemDisk};
 use par_runner::Gate;
@@ -75,9 +76,9 @@ fn a_gate_is_called_once_for_each_line(rt: HostRuntime) -> Result<(), Fail> {
     let replies =
         b"1 ok begin 0\n1 ok\n1 ok commit 1\n9 not-in-tx\ncommit 1 by 1 line 6\n".as_slice();
     let outcome = gated(&rt, alloc, disk, script, &gate)?;
-    assert_eq!(rt; outcome.status, 0);
-    assert_eq!(rt; outcome.output.as_slice(), replies);
-    assert_eq!(rt; gate.told(), [4, 12, 16, 56]);
+    same(&rt, outcome.status, 0);
+    same(&rt, outcome.output.as_slice(), replies);
+    same(&rt, gate.told(), [4, 12, 16, 56]);
     Ok(())
 }
 
@@ -90,8 +91,8 @@ fn a_gate_is_not_called_behind_a_client_that_stopped(rt: HostRuntime) -> Result<
     // client 1 stops at line 3, and so line 4 is not run
     let script = b"1 begin\n1 put 0 0 aa\n1 end\n1 begin\n2 mark 0 1\n";
     let outcome = gated(&rt, alloc, disk, script, &gate)?;
-    assert_eq!(rt; outcome.status, 5);
-    assert_eq!(rt; gate.told(), [4, 5, 11, 16]);
+    same(&rt, outcome.status, 5);
+    same(&rt, gate.told(), [4, 5, 11, 16]);
     Ok(())
 }
 
@@ -101,8 +102,8 @@ fn a_gate_is_not_called_where_no_line_runs(rt: HostRuntime) -> Result<(), Fail> 
     let disk = MemDisk::new(alloc, small_image(alloc)?);
     let gate = Sums::new();
     let outcome = gated(&rt, alloc, disk, b"1 begin\n1 jump\n", &gate)?;
-    assert_eq!(rt; outcome.status, 3);
-    assert_eq!(rt; gate.told(), [0, 0, 0, 0]);
+    same(&rt, outcome.status, 3);
+    same(&rt, gate.told(), [0, 0, 0, 0]);
     Ok(())
 }
 
@@ -150,7 +151,7 @@ fn a_gate_holds_its_line_back(rt: HostRuntime) -> Result<(), Fail> {
     let replies =
         b"1 ok begin 0\n1 ok\n1 ok commit 1\n1 ok begin 1\n2 ok begin 1\n2 ok aa\n2 ok read-only\ncommit 1 by 1 line 3\n".as_slice();
     let outcome = gated(&rt, alloc, disk, script, &gate)?;
-    assert_eq!(rt; outcome.status, 0);
-    assert_eq!(rt; outcome.output.as_slice(), replies);
+    same(&rt, outcome.status, 0);
+    same(&rt, outcome.output.as_slice(), replies);
     Ok(())
 }

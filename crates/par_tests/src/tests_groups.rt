@@ -1,4 +1,5 @@
 // Transactions under labels that a client ends as a group.
+use crate::tests_clients::same;
 use std::test::Fail;
 use top_calls::{par_image, run_image, small_image};
 
@@ -13,13 +14,14 @@ const BOTH_REPLIES: &[u8] =
 fn a_client_groups_what_two_others_released(rt: HostRuntime) -> Result<(), Fail> {
     let alloc = rt.alloc();
     let outcome = par_image(&rt, alloc, small_image(alloc)?, BOTH)?;
-    assert_eq!(rt; outcome.status, 0);
-    assert_eq!(rt; outcome.output.as_slice(), BOTH_REPLIES);
+    same(&rt, outcome.status, 0);
+    same(&rt, outcome.output.as_slice(), BOTH_REPLIES);
     let left = outcome.disk.crash(alloc, 0)?;
     let shown = run_image(alloc, left, b"1 begin\n1 get 0 0 1\n1 get 1 0 1\n")?;
-    assert_eq!(rt;
+    same(
+        &rt,
         shown.output.as_slice(),
-        b"1 ok begin 2\n1 ok aa\n1 ok bb\n".as_slice()
+        b"1 ok begin 2\n1 ok aa\n1 ok bb\n".as_slice(),
     );
     Ok(())
 }
@@ -32,8 +34,8 @@ fn a_label_that_nobody_holds_has_no_member(rt: HostRuntime) -> Result<(), Fail> 
     let replies =
         b"1 ok none\n1 ok begin 0\n1 ok\n1 ok\n1 ok none; commit 1; none\n1 ok none\ncommit 1 by 1 line 5\n".as_slice();
     let outcome = par_image(&rt, alloc, small_image(alloc)?, script)?;
-    assert_eq!(rt; outcome.status, 0);
-    assert_eq!(rt; outcome.output.as_slice(), replies);
+    same(&rt, outcome.status, 0);
+    same(&rt, outcome.output.as_slice(), replies);
     Ok(())
 }
 
@@ -46,7 +48,7 @@ fn a_group_in_a_transaction_leaves_it_as_it_is(rt: HostRuntime) -> Result<(), Fa
     let replies =
         b"1 ok begin 0\n1 ok\n1 ok\n1 ok begin 0\n1 ok\n1 ok begin 0\n1 ok 00\n1 ok\n1 ok read-only; commit 1\n1 ok 00\n1 conflict with 1 block 0 at 0\ncommit 1 by 1 line 9\n".as_slice();
     let outcome = par_image(&rt, alloc, small_image(alloc)?, script)?;
-    assert_eq!(rt; outcome.status, 0);
-    assert_eq!(rt; outcome.output.as_slice(), replies);
+    same(&rt, outcome.status, 0);
+    same(&rt, outcome.output.as_slice(), replies);
     Ok(())
 }

@@ -1,4 +1,5 @@
 // Operations of a script in threads: `write`, `hdel`, `tget`, `tdel`, and a `begin` that names the mode serial.
+use crate::tests_clients::same;
 use std::alloc::{AllocError, Global};
 use std::test::Fail;
 use top_calls::{made_image, par_image};
@@ -38,7 +39,7 @@ fn clients_write_blocks_and_delete_keys(rt: HostRuntime) -> Result<(), Fail> {
     let script = with_block(alloc, FIRST_LINES, OTHER_LINES)?;
     let replies = with_block(alloc, FIRST_REPLIES, OTHER_REPLIES)?;
     let outcome = par_image(&rt, alloc, made_image(alloc, BOTH, FILLED)?, &script)?;
-    assert_eq!(rt; outcome.status, 0);
+    same(&rt, outcome.status, 0);
     assert!(rt; outcome.output.as_slice() == replies.as_slice());
     Ok(())
 }
@@ -60,7 +61,7 @@ fn a_client_begins_in_the_mode_that_it_names(rt: HostRuntime) -> Result<(), Fail
         made_image(alloc, SNAPSHOT, b"1 upgrade\n")?,
         script,
     )?;
-    assert_eq!(rt; outcome.status, 0);
-    assert_eq!(rt; outcome.output.as_slice(), replies);
+    same(&rt, outcome.status, 0);
+    same(&rt, outcome.output.as_slice(), replies);
     Ok(())
 }

@@ -1,4 +1,5 @@
 // Each status of a run of clients, with what was put and what stands in the image.
+use crate::tests_clients::same;
 use iso_io::{MemSink, MemSource};
 use iso_memdisk::{CallKind, MemDisk};
 use std::alloc::{AllocError, Global};
@@ -54,8 +55,8 @@ fn a_bad_line_anywhere_runs_nothing(rt: HostRuntime) -> Result<(), Fail> {
     ] {
         let image = small_image(alloc)?;
         let outcome = par_image(&rt, alloc, image.clone()?, script)?;
-        assert_eq!(rt; outcome.status, 3);
-        assert_eq!(rt; outcome.output.as_slice(), said);
+        same(&rt, outcome.status, 3);
+        same(&rt, outcome.output.as_slice(), said);
         assert!(rt; is_left(alloc, &outcome.disk, &image)?);
     }
     Ok(())
@@ -68,10 +69,11 @@ fn a_line_that_is_too_long_runs_nothing(rt: HostRuntime) -> Result<(), Fail> {
     let long = vec![in alloc; b'#'; 16385]?;
     script.extend_from_slice(&long)?;
     let outcome = par_image(&rt, alloc, small_image(alloc)?, &script)?;
-    assert_eq!(rt; outcome.status, 3);
-    assert_eq!(rt;
+    same(&rt, outcome.status, 3);
+    same(
+        &rt,
         outcome.output.as_slice(),
-        b"! bad line 4 cause 7\n".as_slice()
+        b"! bad line 4 cause 7\n".as_slice(),
     );
     Ok(())
 }
@@ -81,18 +83,20 @@ fn an_image_is_refused_before_its_script_is_read(rt: HostRuntime) -> Result<(), 
     let alloc = rt.alloc();
     let zeros = vec![in alloc; 0; 1152]?;
     let refused = par_image(&rt, alloc, zeros, b"1 jump\n")?;
-    assert_eq!(rt; refused.status, 4);
-    assert_eq!(rt;
+    same(&rt, refused.status, 4);
+    same(
+        &rt,
         refused.output.as_slice(),
-        b"! not an Isotope image\n".as_slice()
+        b"! not an Isotope image\n".as_slice(),
     );
     let mut image = small_image(alloc)?;
     let _ = image.pop();
     let short = par_image(&rt, alloc, image, b"1 jump\n")?;
-    assert_eq!(rt; short.status, 4);
-    assert_eq!(rt;
+    same(&rt, short.status, 4);
+    same(
+        &rt,
         short.output.as_slice(),
-        b"! wrong size want 1152 have 1151\n".as_slice()
+        b"! wrong size want 1152 have 1151\n".as_slice(),
     );
     Ok(())
 }
@@ -107,11 +111,11 @@ fn a_fault_in_an_end_stops_its_client(rt: HostRuntime) -> Result<(), Fail> {
     let sink = MemSink::new(alloc, Vec::new(alloc));
     let outcome = par_on(&rt, alloc, disk, script, sink)?;
     let said = b"1 ok begin 0\n1 ok\n2 not-in-tx\n! disk fault\n".as_slice();
-    assert_eq!(rt; outcome.status, 5);
-    assert_eq!(rt; outcome.output.as_slice(), said);
+    same(&rt, outcome.status, 5);
+    same(&rt, outcome.output.as_slice(), said);
     let stat = stat_of(alloc, outcome.disk.crash(alloc, 1)?)?;
     let expected = b"1 ok last 0 base 0 trim 0 live 0 used 0 versions 0\n".as_slice();
-    assert_eq!(rt; stat.as_slice(), expected);
+    same(&rt, stat.as_slice(), expected);
     Ok(())
 }
 
@@ -125,8 +129,8 @@ fn a_fault_stops_the_client_that_took_the_transaction(rt: HostRuntime) -> Result
     let sink = MemSink::new(alloc, Vec::new(alloc));
     let outcome = par_on(&rt, alloc, disk, script, sink)?;
     let said = b"1 ok begin 0\n1 ok\n1 ok\n2 ok begin 0\n! disk fault\n".as_slice();
-    assert_eq!(rt; outcome.status, 5);
-    assert_eq!(rt; outcome.output.as_slice(), said);
+    same(&rt, outcome.status, 5);
+    same(&rt, outcome.output.as_slice(), said);
     Ok(())
 }
 
@@ -141,8 +145,8 @@ fn a_fault_at_each_call_of_an_opening_runs_nothing(rt: HostRuntime) -> Result<()
         disk.fail(number);
         let sink = MemSink::new(alloc, Vec::new(alloc));
         let outcome = par_on(&rt, alloc, disk, ONE_COMMIT, sink)?;
-        assert_eq!(rt; outcome.status, 5);
-        assert_eq!(rt; outcome.output.as_slice(), b"! disk fault\n".as_slice());
+        same(&rt, outcome.status, 5);
+        same(&rt, outcome.output.as_slice(), b"! disk fault\n".as_slice());
         assert!(rt; is_left(alloc, &outcome.disk, &image)?);
     }
     Ok(())
@@ -156,8 +160,12 @@ fn a_source_that_fails_runs_nothing(rt: HostRuntime) -> Result<(), Fail> {
     let sink = MemSink::new(alloc, Vec::new(alloc));
     let disk = MemDisk::new(alloc, image.clone()?);
     let outcome = threads_over(&rt, alloc, PAR, disk, source, sink)?;
-    assert_eq!(rt; outcome.status, 6);
-    assert_eq!(rt; outcome.output.as_slice(), b"! input fault\n".as_slice());
+    same(&rt, outcome.status, 6);
+    same(
+        &rt,
+        outcome.output.as_slice(),
+        b"! input fault\n".as_slice(),
+    );
     assert!(rt; is_left(alloc, &outcome.disk, &image)?);
     Ok(())
 }
@@ -170,12 +178,12 @@ fn a_sink_that_fails_has_a_front_and_the_commits_stand(rt: HostRuntime) -> Resul
         let disk = MemDisk::new(alloc, small_image(alloc)?);
         let sink = MemSink::in_pieces(alloc, [failing].to_vec(alloc)?, piece);
         let outcome = par_on(&rt, alloc, disk, ONE_COMMIT, sink)?;
-        assert_eq!(rt; outcome.status, 7);
-        assert_eq!(rt; outcome.output.len(), length);
+        same(&rt, outcome.status, 7);
+        same(&rt, outcome.output.len(), length);
         assert!(rt; whole.starts_with(&outcome.output));
         let stat = stat_of(alloc, outcome.disk.crash(alloc, 0)?)?;
         let expected = b"1 ok last 1 base 0 trim 0 live 0 used 29 versions 1\n".as_slice();
-        assert_eq!(rt; stat.as_slice(), expected);
+        same(&rt, stat.as_slice(), expected);
     }
     Ok(())
 }
@@ -186,14 +194,14 @@ fn a_status_stays_where_the_sink_fails(rt: HostRuntime) -> Result<(), Fail> {
     let disk = MemDisk::new(alloc, small_image(alloc)?);
     let sink = MemSink::new(alloc, [1].to_vec(alloc)?);
     let outcome = par_on(&rt, alloc, disk, b"1 jump\n", sink)?;
-    assert_eq!(rt; outcome.status, 3);
-    assert_eq!(rt; outcome.output.len(), 0);
+    same(&rt, outcome.status, 3);
+    same(&rt, outcome.output.len(), 0);
     let mut broken = MemDisk::new(alloc, small_image(alloc)?);
     broken.fail_kind(CallKind::Write, 1);
     let cut = MemSink::in_pieces(alloc, [2].to_vec(alloc)?, 13);
     let stopped = par_on(&rt, alloc, broken, ONE_COMMIT, cut)?;
-    assert_eq!(rt; stopped.status, 5);
-    assert_eq!(rt; stopped.output.as_slice(), b"1 ok begin 0\n".as_slice());
+    same(&rt, stopped.status, 5);
+    same(&rt, stopped.output.as_slice(), b"1 ok begin 0\n".as_slice());
     Ok(())
 }
 
@@ -204,7 +212,7 @@ fn words_without_an_image_are_no_command(rt: HostRuntime) -> Result<(), Fail> {
     let sink = MemSink::new(alloc, Vec::new(alloc));
     let disk = MemDisk::new(alloc, small_image(alloc)?);
     let outcome = threads_over(&rt, alloc, "isotope par", disk, source, sink)?;
-    assert_eq!(rt; outcome.status, 2);
+    same(&rt, outcome.status, 2);
     assert!(rt; outcome.output.starts_with(b"! usage\n"));
     Ok(())
 }

@@ -1,4 +1,5 @@
 // Stores that several clients call beside each other.
+use crate::tests_clients::same;
 use std::test::Fail;
 use top_calls::{made_image, par_image, run_image};
 
@@ -21,14 +22,15 @@ fn two_clients_change_keys_of_one_block(rt: HostRuntime) -> Result<(), Fail> {
     let alloc = rt.alloc();
     let image = made_image(alloc, HASH, b"1 begin\n1 hput 61 31\n1 hput 62 32\n1 end\n")?;
     let outcome = par_image(&rt, alloc, image, TWO_KEYS)?;
-    assert_eq!(rt; outcome.status, 0);
+    same(&rt, outcome.status, 0);
     let found = outcome.output.as_slice();
     assert!(rt; found == SECOND_CLIENT_FIRST || found == THIRD_CLIENT_FIRST);
     let left = outcome.disk.crash(alloc, 0)?;
     let shown = run_image(alloc, left, b"1 begin\n1 hget 61\n1 hget 62\n")?;
-    assert_eq!(rt;
+    same(
+        &rt,
         shown.output.as_slice(),
-        b"1 ok begin 3\n1 ok 39\n1 ok 38\n".as_slice()
+        b"1 ok begin 3\n1 ok 39\n1 ok 38\n".as_slice(),
     );
     Ok(())
 }
@@ -43,8 +45,8 @@ fn a_scan_of_one_client_meets_a_key_of_another(rt: HostRuntime) -> Result<(), Fa
     let replies =
         b"1 ok begin 1\n1 ok 61=31 62=32\n1 ok\n1 ok begin 1\n1 ok\n1 conflict with 2 block 1 at 0\n2 ok begin 1\n2 ok\n2 ok begin 1\n2 ok\n2 ok commit 2\n2 ok begin 1\n2 ok\ncommit 2 by 2 line 11\n".as_slice();
     let outcome = par_image(&rt, alloc, image, script)?;
-    assert_eq!(rt; outcome.status, 0);
-    assert_eq!(rt; outcome.output.as_slice(), replies);
+    same(&rt, outcome.status, 0);
+    same(&rt, outcome.output.as_slice(), replies);
     Ok(())
 }
 
@@ -74,16 +76,17 @@ fn two_clients_write_bytes_of_one_file(rt: HostRuntime) -> Result<(), Fail> {
         b"1 begin\n1 fnew 61\n1 fwrite 61 0 0102\n1 end\n",
     )?;
     let outcome = par_image(&rt, alloc, image, TWO_WRITES)?;
-    assert_eq!(rt; outcome.status, 0);
+    same(&rt, outcome.status, 0);
     let found = outcome.output.as_slice();
     let beside = found == WRITTEN_FIRST_BY_1 || found == WRITTEN_FIRST_BY_2;
     let behind = found == WRITTEN_BEHIND_1 || found == WRITTEN_BEHIND_2;
     assert!(rt; beside || behind);
     let left = outcome.disk.crash(alloc, 0)?;
     let shown = run_image(alloc, left, b"1 begin\n1 fread 61 0 9\n")?;
-    assert_eq!(rt;
+    same(
+        &rt,
         shown.output.as_slice(),
-        b"1 ok begin 3\n1 ok aabb\n".as_slice()
+        b"1 ok begin 3\n1 ok aabb\n".as_slice(),
     );
     Ok(())
 }
@@ -98,7 +101,7 @@ fn a_client_goes_on_with_the_file_of_another(rt: HostRuntime) -> Result<(), Fail
     let replies =
         b"1 ok begin 0\n1 ok\n1 ok none\n1 ok\n2 ok begin 0\n2 ok\n2 ok\n2 ok 02\n2 exists\n2 ok commit 1\ncommit 1 by 2 line 10\n".as_slice();
     let outcome = par_image(&rt, alloc, image, script)?;
-    assert_eq!(rt; outcome.status, 0);
-    assert_eq!(rt; outcome.output.as_slice(), replies);
+    same(&rt, outcome.status, 0);
+    same(&rt, outcome.output.as_slice(), replies);
     Ok(())
 }

@@ -2,8 +2,15 @@
 use iso_io::{MemSink, MemSource};
 use iso_memdisk::{CallKind, MemDisk};
 use std::alloc::{AllocError, Global};
+use std::fmt::Debug;
+use std::process::Abort;
 use std::test::Fail;
 use top_calls::{Outcome, RECOVER, RUN, call, call_on, call_over, no_disk, one_put_image, part};
+
+// Two values that are to be the same. Each test that compared them itself would prove what is printed where they differ.
+pub(crate) fn same<T: PartialEq + Debug + Drop>(rt: &impl Abort, found: T, wanted: T) {
+    assert_eq!(rt; found, wanted);
+}
 
 const ONE_PUT_LINE: &[u8] =
     b"last 1 base 0 sha256 f370e2888af0e189545aa7b782add4dbf5f49125a6f5cf94f25c0fde4605d5dd\n";
@@ -30,13 +37,13 @@ fn an_empty_image_is_recovered(rt: HostRuntime) -> Result<(), Fail> {
     let alloc = rt.alloc();
     let line = "isotope new t.img --block-size 64 --blocks 1 --log 64";
     let made = call(alloc, line, b"")?;
-    assert_eq!(rt; made.status, 0);
-    assert_eq!(rt; made.disk.crash(alloc, 0)?.len(), 384);
+    same(&rt, made.status, 0);
+    same(&rt, made.disk.crash(alloc, 0)?.len(), 384);
     let outcome = call_alone(alloc, RECOVER, made.disk)?;
     let expected =
         b"last 0 base 0 sha256 f5a5fd42d16a20302798ef6ed309979b43003d2320d9f0e8ea9831a92759fb4b\n".as_slice();
-    assert_eq!(rt; outcome.status, 0);
-    assert_eq!(rt; outcome.output.as_slice(), expected);
+    same(&rt, outcome.status, 0);
+    same(&rt, outcome.output.as_slice(), expected);
     Ok(())
 }
 
@@ -47,8 +54,8 @@ fn a_commit_is_recovered_and_nothing_is_written(rt: HostRuntime) -> Result<(), F
     let mut disk = MemDisk::new(alloc, image.clone()?);
     disk.fail_kind(CallKind::Write, 1);
     let outcome = call_alone(alloc, RECOVER, disk)?;
-    assert_eq!(rt; outcome.status, 0);
-    assert_eq!(rt; outcome.output.as_slice(), ONE_PUT_LINE);
+    same(&rt, outcome.status, 0);
+    same(&rt, outcome.output.as_slice(), ONE_PUT_LINE);
     for pick in 0..3 {
         let left = outcome.disk.crash(alloc, pick)?;
         assert!(rt; left.as_slice() == image.as_slice());
@@ -61,11 +68,15 @@ fn a_compaction_keeps_the_digest(rt: HostRuntime) -> Result<(), Fail> {
     let alloc = rt.alloc();
     let disk = MemDisk::new(alloc, one_put_image(alloc)?);
     let compacted = call_on(alloc, RUN, disk, b"1 compact\n")?;
-    assert_eq!(rt; compacted.output.as_slice(), b"1 ok compact 1\n".as_slice());
+    same(
+        &rt,
+        compacted.output.as_slice(),
+        b"1 ok compact 1\n".as_slice(),
+    );
     let outcome = call_alone(alloc, RECOVER, compacted.disk)?;
     let expected =
         b"last 1 base 1 sha256 f370e2888af0e189545aa7b782add4dbf5f49125a6f5cf94f25c0fde4605d5dd\n".as_slice();
-    assert_eq!(rt; outcome.output.as_slice(), expected);
+    same(&rt, outcome.output.as_slice(), expected);
     Ok(())
 }
 
@@ -77,7 +88,7 @@ fn a_commit_above_the_base_changes_the_digest(rt: HostRuntime) -> Result<(), Fai
     let outcome = call_alone(alloc, RECOVER, call_on(alloc, RUN, disk, script)?.disk)?;
     let expected =
         b"last 2 base 1 sha256 8becf5631d3c42f312dae53b10d53a3d703d4754a0f5478f1eb1bbd7c7591c5b\n".as_slice();
-    assert_eq!(rt; outcome.output.as_slice(), expected);
+    same(&rt, outcome.output.as_slice(), expected);
     Ok(())
 }
 
@@ -91,8 +102,8 @@ fn a_fault_at_each_call_of_a_recovery(rt: HostRuntime) -> Result<(), Fail> {
         let mut disk = MemDisk::new(alloc, image.clone()?);
         disk.fail(number);
         let outcome = call_alone(alloc, RECOVER, disk)?;
-        assert_eq!(rt; outcome.status, 5);
-        assert_eq!(rt; outcome.output.as_slice(), b"! disk fault\n".as_slice());
+        same(&rt, outcome.status, 5);
+        same(&rt, outcome.output.as_slice(), b"! disk fault\n".as_slice());
     }
     Ok(())
 }
@@ -109,8 +120,8 @@ fn a_line_of_a_result_is_put_once(rt: HostRuntime) -> Result<(), Fail> {
         let disk = MemDisk::new(alloc, one_put_image(alloc)?);
         let sink = MemSink::in_pieces(alloc, [failing].to_vec(alloc)?, piece);
         let outcome = call_without_input(alloc, RECOVER, disk, sink)?;
-        assert_eq!(rt; outcome.status, status);
-        assert_eq!(rt; outcome.output.len(), length);
+        same(&rt, outcome.status, status);
+        same(&rt, outcome.output.len(), length);
         assert!(rt; ONE_PUT_LINE.starts_with(&outcome.output));
     }
     Ok(())
@@ -122,15 +133,15 @@ fn a_bench_without_rounds_makes_an_image(rt: HostRuntime) -> Result<(), Fail> {
     let outcome = call_alone(alloc, "isotope bench t.img 0 0", no_disk(alloc))?;
     let expected =
         b"rounds 0 commits 0 conflicts 0 sha256 e3b0c44298fc1c149afbf4c8996fb92427ae41e4649b934ca495991b7852b855\n".as_slice();
-    assert_eq!(rt; outcome.status, 0);
-    assert_eq!(rt; outcome.output.as_slice(), expected);
+    same(&rt, outcome.status, 0);
+    same(&rt, outcome.output.as_slice(), expected);
     let image = outcome.disk.crash(alloc, 0)?;
-    assert_eq!(rt; image.len(), 16_785_536);
+    same(&rt, image.len(), 16_785_536);
     let front = [
         0x49, 0x53, 0x4f, 0x54, 0x4f, 0x50, 0x45, 0x31, 0, 0, 0, 1, 0, 0, 0, 64, 0, 0, 0, 64, 0,
         128, 0, 0, 0, 0,
     ];
-    assert_eq!(rt; part(&image, 0, 26), front.as_slice());
+    same(&rt, part(&image, 0, 26), front.as_slice());
     Ok(())
 }
 
@@ -152,8 +163,8 @@ fn a_bench_answers_the_drawn_script(rt: HostRuntime) -> Result<(), Fail> {
         ),
     ] {
         let outcome = call_alone(alloc, line, no_disk(alloc))?;
-        assert_eq!(rt; outcome.status, 0);
-        assert_eq!(rt; outcome.output.as_slice(), expected);
+        same(&rt, outcome.status, 0);
+        same(&rt, outcome.output.as_slice(), expected);
     }
     Ok(())
 }
@@ -166,8 +177,8 @@ const THOUSAND: &[u8] =
 fn a_bench_of_a_thousand_rounds(rt: HostRuntime) -> Result<(), Fail> {
     let alloc = rt.alloc();
     let outcome = call_alone(alloc, "isotope bench t.img 7 1000", no_disk(alloc))?;
-    assert_eq!(rt; outcome.status, 0);
-    assert_eq!(rt; outcome.output.as_slice(), THOUSAND);
+    same(&rt, outcome.status, 0);
+    same(&rt, outcome.output.as_slice(), THOUSAND);
     Ok(())
 }
 
@@ -175,13 +186,13 @@ fn a_bench_of_a_thousand_rounds(rt: HostRuntime) -> Result<(), Fail> {
 fn a_bench_is_the_same_again_and_is_recovered(rt: HostRuntime) -> Result<(), Fail> {
     let alloc = rt.alloc();
     let again = call_alone(alloc, "isotope bench t.img 7 1000", no_disk(alloc))?;
-    assert_eq!(rt; again.status, 0);
-    assert_eq!(rt; again.output.as_slice(), THOUSAND);
+    same(&rt, again.status, 0);
+    same(&rt, again.output.as_slice(), THOUSAND);
     let recovered = call_alone(alloc, RECOVER, again.disk)?;
     let line =
         b"last 1923 base 0 sha256 3fa3f2ea1f82072a56c7861afc4be23b6b4cf6b2c5fad650f32c311c51a114b4\n".as_slice();
-    assert_eq!(rt; recovered.status, 0);
-    assert_eq!(rt; recovered.output.as_slice(), line);
+    same(&rt, recovered.status, 0);
+    same(&rt, recovered.output.as_slice(), line);
     Ok(())
 }
 
@@ -193,16 +204,16 @@ fn a_bench_whose_disk_or_sink_fails(rt: HostRuntime) -> Result<(), Fail> {
         let mut disk = no_disk(alloc);
         disk.fuse(calls);
         let outcome = call_alone(alloc, "isotope bench t.img 0 1", disk)?;
-        assert_eq!(rt; outcome.status, 5);
-        assert_eq!(rt; outcome.output.as_slice(), b"! disk fault\n".as_slice());
+        same(&rt, outcome.status, 5);
+        same(&rt, outcome.output.as_slice(), b"! disk fault\n".as_slice());
     }
     let sink = MemSink::new(alloc, [1].to_vec(alloc)?);
     let outcome = call_without_input(alloc, "isotope bench t.img 0 1", no_disk(alloc), sink)?;
-    assert_eq!(rt; outcome.status, 7);
-    assert_eq!(rt; outcome.output.len(), 0);
+    same(&rt, outcome.status, 7);
+    same(&rt, outcome.output.len(), 0);
     // all commits stand all the same
     let again = call_on(alloc, RUN, outcome.disk, b"1 stat\n")?;
     let stat = b"1 ok last 2 base 0 trim 0 live 0 used 58 versions 2\n".as_slice();
-    assert_eq!(rt; again.output.as_slice(), stat);
+    same(&rt, again.output.as_slice(), stat);
     Ok(())
 }

@@ -1,6 +1,7 @@
 // Drawn scripts of three clients whose transactions make calls on files and meet each other, against a plain map.
 use crate::drawn_lines::{Act, CLIENTS, Call, Line, closing, drawn, spelled};
 use crate::plain_files::Files;
+use crate::tests_commands::same;
 use std::alloc::{AllocError, Global};
 use std::fmt::Write;
 use std::test::Fail;
@@ -234,7 +235,7 @@ fn drawn_transactions_on_files_agree_with_a_plain_map(rt: HostRuntime) -> Result
         let lines = drawn(alloc, seed, 300)?;
         let script = spelled(alloc, &lines)?;
         let outcome = call(alloc, FILES, script.as_bytes())?;
-        assert_eq!(rt; outcome.status, 0);
+        same(&rt, outcome.status, 0);
         let replies = replies_of(alloc, &outcome.output, &lines)?;
         let mut known = Known::new();
         known.ends = ends;
@@ -246,7 +247,7 @@ fn drawn_transactions_on_files_agree_with_a_plain_map(rt: HostRuntime) -> Result
         // The files stand in the next run.
         let image = outcome.disk.crash(alloc, 0).or(Err(AllocError))?;
         let outcome = run_image(alloc, image, spelled(alloc, &closing)?.as_bytes())?;
-        assert_eq!(rt; outcome.status, 0);
+        same(&rt, outcome.status, 0);
         let replies = replies_of(alloc, &outcome.output, &closing)?;
         assert_eq!(rt;
             known.agreed(alloc, &closing, &replies)?,

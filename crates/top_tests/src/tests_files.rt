@@ -1,4 +1,5 @@
 // Scripts on images with files, alone and beside a hash store.
+use crate::tests_commands::same;
 use std::alloc::{AllocError, Global};
 use std::test::Fail;
 use top_calls::{SMALL, answers_on, call, made_image, run_image};
@@ -239,7 +240,7 @@ fn a_call_without_room_leaves_its_writes(rt: HostRuntime) -> Result<(), Fail> {
     }
     script.extend_from_slice(b"1 fnew 61\n1 fdel 61\n1 end\n1 begin\n1 tget 61\n1 fread 61 0 1\n")?;
     let outcome = call(alloc, FILES, &script)?;
-    assert_eq!(rt; outcome.status, 0);
+    same(&rt, outcome.status, 0);
     let last =
         b"1 ok 00\n1 too-many-accesses\n1 too-many-accesses\n1 ok commit 1\n1 ok begin 1\n1 ok 00000001\n1 broken block 5\n";
     assert!(rt; outcome.output.ends_with(last));
@@ -260,7 +261,7 @@ fn files_stand_in_the_next_run(rt: HostRuntime) -> Result<(), Fail> {
         image,
         b"2 begin\n2 fread 61 255 2\n2 fmove 61 62\n2 hget 61\n2 release a\n1 takeover a\n1 fread 62 299 9\n1 end\n",
     )?;
-    assert_eq!(rt; outcome.status, 0);
+    same(&rt, outcome.status, 0);
     let replies =
         b"2 ok begin 1\n2 ok 1111\n2 ok\n2 ok 31\n2 ok\n1 ok begin 1\n1 ok 11\n1 ok commit 2\n";
     assert!(rt; outcome.output.as_slice() == replies.as_slice());

@@ -1,4 +1,5 @@
 // Groups of released transactions: what each label is answered, and the device calls that a group makes.
+use crate::tests_commands::same;
 use std::alloc::{AllocError, Global};
 use std::test::Fail;
 use top_calls::{SMALL, answers, answers_on, call, joined, part};
@@ -39,13 +40,17 @@ fn a_group_makes_four_device_calls(rt: HostRuntime) -> Result<(), Fail> {
     let before = call(alloc, SMALL, TWO_PUTS)?;
     let script = joined(alloc, TWO_PUTS, b"3 group a b zz\n")?;
     let after = call(alloc, SMALL, &script)?;
-    assert_eq!(rt; after.status, 0);
-    assert_eq!(rt; after.disk.calls(), before.disk.calls().saturating_add(4));
+    same(&rt, after.status, 0);
+    same(
+        &rt,
+        after.disk.calls(),
+        before.disk.calls().saturating_add(4),
+    );
     // two open gates, and a closed one behind them
     let image = after.disk.crash(alloc, 0)?;
-    assert_eq!(rt; part(&image, 352, 1), [1].as_slice());
-    assert_eq!(rt; part(&image, 381, 1), [1].as_slice());
-    assert_eq!(rt; part(&image, 410, 1), [0].as_slice());
+    same(&rt, part(&image, 352, 1), [1].as_slice());
+    same(&rt, part(&image, 381, 1), [1].as_slice());
+    same(&rt, part(&image, 410, 1), [0].as_slice());
     Ok(())
 }
 
@@ -57,8 +62,8 @@ fn a_group_without_a_commit_makes_none(rt: HostRuntime) -> Result<(), Fail> {
     let script = joined(alloc, front, b"2 group a\n2 group b c\n")?;
     let after = call(alloc, SMALL, &script)?;
     let replies = b"1 ok begin 0\n1 ok\n2 ok begin 0\n2 ok\n2 ok read-only\n2 ok none; none\n";
-    assert_eq!(rt; after.output.as_slice(), replies.as_slice());
-    assert_eq!(rt; after.disk.calls(), before.disk.calls());
+    same(&rt, after.output.as_slice(), replies.as_slice());
+    same(&rt, after.disk.calls(), before.disk.calls());
     Ok(())
 }
 

@@ -1,4 +1,5 @@
 // The limits of an image: transactions, accesses, numbers, clients, and the largest geometries of a new image.
+use crate::tests_commands::same;
 use std::alloc::{AllocError, Global};
 use std::test::Fail;
 use top_calls::{SMALL, answers, call, change, run_image, small_image};
@@ -39,7 +40,7 @@ fn an_abort_makes_place_for_a_transaction(rt: HostRuntime) -> Result<(), Fail> {
     let mut script = all_released(alloc)?;
     script.extend_from_slice(b"2 takeover ppd\n2 abort\n1 begin\n2 begin\n")?;
     let outcome = call(alloc, SMALL, &script)?;
-    assert_eq!(rt; outcome.status, 0);
+    same(&rt, outcome.status, 0);
     let end = b"\n1 ok\n2 ok begin 0\n2 ok\n1 ok begin 0\n2 too-many-tx\n";
     assert!(rt; outcome.output.ends_with(end));
     Ok(())
@@ -78,7 +79,7 @@ fn a_refused_access_leaves_a_transaction_without_writes(rt: HostRuntime) -> Resu
     script.extend_from_slice(&repeated(alloc, b"1 get 0 0 1\n", 4096)?)?;
     script.extend_from_slice(b"1 put 1 1 aa\n1 end\n")?;
     let outcome = call(alloc, SMALL, &script)?;
-    assert_eq!(rt; outcome.status, 0);
+    same(&rt, outcome.status, 0);
     let end = b"\n1 ok 00\n1 too-many-accesses\n1 ok read-only\n";
     assert!(rt; outcome.output.ends_with(end));
     Ok(())
@@ -99,8 +100,8 @@ fn the_last_commit_number_is_not_passed(rt: HostRuntime) -> Result<(), Fail> {
     let replies =
         b"1 ok begin 9223372036854775807\n1 ok\n1 worn\n1 in-tx\n1 ok\n1 ok begin 9223372036854775807\n1 ok read-only\n1 ok compact 9223372036854775807\n1 ok last 9223372036854775807 base 9223372036854775807 trim 9223372036854775807 live 0 used 0 versions 0\n".as_slice();
     let outcome = run_image(alloc, worn_at(alloc, 80)?, script)?;
-    assert_eq!(rt; outcome.status, 0);
-    assert_eq!(rt; outcome.output.as_slice(), replies);
+    same(&rt, outcome.status, 0);
+    same(&rt, outcome.output.as_slice(), replies);
     Ok(())
 }
 
@@ -111,8 +112,8 @@ fn the_last_generation_is_not_passed(rt: HostRuntime) -> Result<(), Fail> {
     let replies =
         b"1 worn\n1 worn\n1 ok begin 0\n1 worn\n1 ok\n1 ok commit 1\n1 ok trim 1\n".as_slice();
     let outcome = run_image(alloc, worn_at(alloc, 72)?, script)?;
-    assert_eq!(rt; outcome.status, 0);
-    assert_eq!(rt; outcome.output.as_slice(), replies);
+    same(&rt, outcome.status, 0);
+    same(&rt, outcome.output.as_slice(), replies);
     Ok(())
 }
 
@@ -148,8 +149,8 @@ fn each_of_64_clients_has_a_transaction(rt: HostRuntime) -> Result<(), Fail> {
         b"64 in-tx\n1 ok last 0 base 0 trim 0 live 64 used 0 versions 0\n! bad line 67 cause 1\n",
     )?;
     let outcome = call(alloc, SMALL, &script)?;
-    assert_eq!(rt; outcome.status, 3);
-    assert_eq!(rt; outcome.output.as_slice(), replies.as_slice());
+    same(&rt, outcome.status, 3);
+    same(&rt, outcome.output.as_slice(), replies.as_slice());
     Ok(())
 }
 
@@ -164,8 +165,8 @@ fn the_smallest_image_and_the_largest_block(rt: HostRuntime) -> Result<(), Fail>
     )?;
     let replies =
         b"1 ok begin 0\n1 ok\n1 log full need 65 free 64\n1 in-tx\n1 ok\n1 ok\n1 ok begin 0\n1 ok\n1 ok commit 1\n".as_slice();
-    assert_eq!(rt; least.status, 0);
-    assert_eq!(rt; least.output.as_slice(), replies);
+    same(&rt, least.status, 0);
+    same(&rt, least.output.as_slice(), replies);
     // the last bytes of the last block
     let largest = call(
         alloc,
@@ -174,7 +175,7 @@ fn the_smallest_image_and_the_largest_block(rt: HostRuntime) -> Result<(), Fail>
     )?;
     let replies =
         b"1 ok begin 0\n1 ok\n1 ok ab\n1 ok\n1 ok cdcd\n1 ok\n1 bad-range\n1 ok commit 1\n".as_slice();
-    assert_eq!(rt; largest.status, 0);
-    assert_eq!(rt; largest.output.as_slice(), replies);
+    same(&rt, largest.status, 0);
+    same(&rt, largest.output.as_slice(), replies);
     Ok(())
 }

@@ -1,5 +1,6 @@
 // One long script with every operation and nearly every refusal, in two runs on a small image: each line stands beside its
 // reply, as the rules have it. Behind each group it is said what stands then.
+use crate::tests_commands::same;
 use std::alloc::{AllocError, Global};
 use std::test::Fail;
 use top_calls::{RUN, SMALL, call, call_on, text};
@@ -306,13 +307,13 @@ fn a_long_script_in_two_runs(rt: HostRuntime) -> Result<(), Fail> {
     let lines = text(alloc, &first.lines)?;
     let made = call(alloc, SMALL, &lines)?;
     let replies = text(alloc, &first.replies)?;
-    assert_eq!(rt; made.status, 0);
-    assert_eq!(rt; made.output.as_slice(), replies.as_slice());
+    same(&rt, made.status, 0);
+    same(&rt, made.output.as_slice(), replies.as_slice());
     let second = second_talk(alloc)?;
     let lines = text(alloc, &second.lines)?;
     let again = call_on(alloc, RUN, made.disk, &lines)?;
     let replies = text(alloc, &second.replies)?;
-    assert_eq!(rt; again.status, 0);
-    assert_eq!(rt; again.output.as_slice(), replies.as_slice());
+    same(&rt, again.status, 0);
+    same(&rt, again.output.as_slice(), replies.as_slice());
     Ok(())
 }

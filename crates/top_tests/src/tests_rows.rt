@@ -1,4 +1,5 @@
 // Scripts on new images, reply by reply, and the bytes of images.
+use crate::tests_commands::same;
 use std::test::Fail;
 use top_calls::{
     RECORD, RUN, SMALL, answers, answers_on, call, call_on, joined, part, small_image,
@@ -10,9 +11,9 @@ const SNAPSHOT: &str = "isotope new t.img --block-size 64 --blocks 4 --log 256 -
 fn an_empty_script_makes_the_default_image(rt: HostRuntime) -> Result<(), Fail> {
     let alloc = rt.alloc();
     let outcome = call(alloc, "isotope new t.img", b"")?;
-    assert_eq!(rt; outcome.status, 0);
-    assert_eq!(rt; outcome.output.len(), 0);
-    assert_eq!(rt; outcome.disk.crash(alloc, 0)?.len(), 16_777_344);
+    same(&rt, outcome.status, 0);
+    same(&rt, outcome.output.len(), 0);
+    same(&rt, outcome.disk.crash(alloc, 0)?.len(), 16_777_344);
     Ok(())
 }
 
@@ -20,12 +21,12 @@ fn an_empty_script_makes_the_default_image(rt: HostRuntime) -> Result<(), Fail> 
 fn a_small_image_has_these_bytes(rt: HostRuntime) -> Result<(), Fail> {
     let alloc = rt.alloc();
     let outcome = call(alloc, SMALL, b"")?;
-    assert_eq!(rt; outcome.status, 0);
-    assert_eq!(rt; outcome.output.len(), 0);
+    same(&rt, outcome.status, 0);
+    same(&rt, outcome.output.len(), 0);
     let expected = small_image(alloc)?;
     for pick in 0..2 {
         let image = outcome.disk.crash(alloc, pick)?;
-        assert_eq!(rt; image.len(), 1152);
+        same(&rt, image.len(), 1152);
         assert!(rt; image.as_slice() == expected.as_slice());
     }
     Ok(())
@@ -37,11 +38,11 @@ fn a_put_is_a_record_behind_an_open_gate(rt: HostRuntime) -> Result<(), Fail> {
     let script = b"1 begin\n1 put 2 5 abcd\n1 end\n";
     for (line, log) in [("isotope new t.img", 4_194_400), (SMALL, 352)] {
         let outcome = call(alloc, line, script)?;
-        assert_eq!(rt; outcome.status, 0);
+        same(&rt, outcome.status, 0);
         let replies = b"1 ok begin 0\n1 ok\n1 ok commit 1\n".as_slice();
-        assert_eq!(rt; outcome.output.as_slice(), replies);
+        same(&rt, outcome.output.as_slice(), replies);
         let image = outcome.disk.crash(alloc, 0)?;
-        assert_eq!(rt; part(&image, log, 31), RECORD.as_slice());
+        same(&rt, part(&image, log, 31), RECORD.as_slice());
     }
     Ok(())
 }
@@ -239,12 +240,12 @@ fn a_trim_drops_what_no_snapshot_shows(rt: HostRuntime) -> Result<(), Fail> {
     let replies =
         b"1 ok begin 0\n1 ok\n1 ok commit 1\n1 ok begin 1\n1 ok\n1 ok commit 2\n1 ok begin 2\n1 ok\n1 ok commit 3\n1 ok last 3 base 0 trim 0 live 0 used 87 versions 3\n1 ok trim 3\n1 ok last 3 base 0 trim 3 live 0 used 87 versions 2\n".as_slice();
     let outcome = call(alloc, SMALL, script)?;
-    assert_eq!(rt; outcome.status, 0);
-    assert_eq!(rt; outcome.output.as_slice(), replies);
+    same(&rt, outcome.status, 0);
+    same(&rt, outcome.output.as_slice(), replies);
     // what is trimmed is told again when the image is opened
     let again = call_on(alloc, RUN, outcome.disk, b"1 stat\n")?;
     let stat = b"1 ok last 3 base 0 trim 0 live 0 used 87 versions 3\n".as_slice();
-    assert_eq!(rt; again.output.as_slice(), stat);
+    same(&rt, again.output.as_slice(), stat);
     Ok(())
 }
 

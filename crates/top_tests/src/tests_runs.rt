@@ -1,4 +1,5 @@
 // One command after the other on the same image.
+use crate::tests_commands::same;
 use std::alloc::{AllocError, Global};
 use std::test::Fail;
 use top_calls::{Outcome, RUN, SMALL, call, call_on, part};
@@ -28,7 +29,7 @@ fn runs_go_on_where_the_last_one_ended(rt: HostRuntime) -> Result<(), Fail> {
     )?;
     let replies =
         b"1 ok begin 0\n1 ok\n1 ok commit 1\n1 ok begin 1\n1 ok\n2 ok begin 1\n2 ok\n2 ok\n".as_slice();
-    assert_eq!(rt; made.output.as_slice(), replies);
+    same(&rt, made.output.as_slice(), replies);
     let first = then(
         alloc,
         made,
@@ -43,7 +44,7 @@ fn runs_go_on_where_the_last_one_ended(rt: HostRuntime) -> Result<(), Fail> {
         b"1 ok begin 2\n1 ok aadd00\n1 ok read-only\n1 ok last 2 base 0 trim 0 live 0 used 58 versions 2\n",
     )?
     .ok_or("the second run")?;
-    assert_eq!(rt; second.status, 0);
+    same(&rt, second.status, 0);
     Ok(())
 }
 
@@ -57,7 +58,7 @@ fn a_compaction_in_the_middle_of_a_run(rt: HostRuntime) -> Result<(), Fail> {
     )?;
     let replies =
         b"1 ok begin 0\n1 ok\n1 ok commit 1\n1 ok begin 1\n1 ok\n1 ok commit 2\n1 ok compact 2\n1 ok begin 2\n1 ok\n1 ok commit 3\n".as_slice();
-    assert_eq!(rt; made.output.as_slice(), replies);
+    same(&rt, made.output.as_slice(), replies);
     // now back into the first half
     let first = then(
         alloc,
@@ -73,7 +74,7 @@ fn a_compaction_in_the_middle_of_a_run(rt: HostRuntime) -> Result<(), Fail> {
         b"1 ok last 4 base 3 trim 3 live 0 used 29 versions 1\n1 ok begin 4\n1 ok 223311\n1 ok 4400\n",
     )?
     .ok_or("the second run")?;
-    assert_eq!(rt; second.status, 0);
+    same(&rt, second.status, 0);
     Ok(())
 }
 
@@ -87,10 +88,10 @@ fn an_image_opens_with_its_base_as_the_trim_number(rt: HostRuntime) -> Result<()
     )?;
     let replies =
         b"1 ok begin 0\n1 ok\n1 ok commit 1\n1 ok compact 1\n1 ok begin 1\n1 ok\n1 ok commit 2\n1 ok trim 2\n1 ok last 2 base 1 trim 2 live 0 used 29 versions 1\n".as_slice();
-    assert_eq!(rt; made.output.as_slice(), replies);
+    same(&rt, made.output.as_slice(), replies);
     let stat = b"1 ok last 2 base 1 trim 1 live 0 used 29 versions 1\n";
     let opened = then(alloc, made, b"1 stat\n", stat)?.ok_or("the run")?;
-    assert_eq!(rt; opened.status, 0);
+    same(&rt, opened.status, 0);
     Ok(())
 }
 
@@ -104,14 +105,14 @@ fn an_upgrade_lets_both_modes_in(rt: HostRuntime) -> Result<(), Fail> {
     )?;
     let replies =
         b"1 ok begin 0\n1 ok\n1 ok commit 1\n1 mode-fixed\n1 ok upgrade 1\n1 ok begin 1\n1 ok read-only\n".as_slice();
-    assert_eq!(rt; made.status, 0);
-    assert_eq!(rt; made.output.as_slice(), replies);
+    same(&rt, made.status, 0);
+    same(&rt, made.output.as_slice(), replies);
     let image = made.disk.crash(alloc, 0)?;
     let half = [
         1, 2, 0, 0, 0, 0, 0, 0, 0, 0, 0, 0, 0, 0, 0, 2, 0, 0, 0, 0, 0, 0, 0, 1, 0, 0, 0, 0, 0, 0,
         0, 0, 0xaa,
     ];
-    assert_eq!(rt; part(&image, 608, 33), half.as_slice());
+    same(&rt, part(&image, 608, 33), half.as_slice());
     // a snapshot transaction and one in serial mode that have both read what the other writes
     let first = then(
         alloc,
@@ -127,7 +128,7 @@ fn an_upgrade_lets_both_modes_in(rt: HostRuntime) -> Result<(), Fail> {
         b"1 ok begin 2\n1 ok bb\n1 ok\n1 ok compact 2\n1 ok commit 3\n1 ok begin 3\n1 ok last 3 base 2 trim 2 live 1 used 29 versions 1\n",
     )?
     .ok_or("the second run")?;
-    assert_eq!(rt; second.status, 0);
+    same(&rt, second.status, 0);
     Ok(())
 }
 
@@ -136,16 +137,21 @@ fn an_image_of_snapshot_mode_keeps_it(rt: HostRuntime) -> Result<(), Fail> {
     let alloc = rt.alloc();
     let line = "isotope new t.img --block-size 64 --blocks 4 --log 256 --mode snapshot";
     let made = call(alloc, line, b"1 begin snapshot\n1 end\n")?;
-    assert_eq!(rt;
+    same(
+        &rt,
         made.output.as_slice(),
-        b"1 ok begin 0\n1 ok read-only\n".as_slice()
+        b"1 ok begin 0\n1 ok read-only\n".as_slice(),
     );
-    assert_eq!(rt; part(&made.disk.crash(alloc, 0)?, 24, 1), [1].as_slice());
+    same(
+        &rt,
+        part(&made.disk.crash(alloc, 0)?, 24, 1),
+        [1].as_slice(),
+    );
     let script =
         b"1 begin serial\n1 begin\n2 begin snapshot\n1 get 0 0 1\n2 put 0 0 aa\n2 end\n1 put 1 0 bb\n1 end\n";
     let replies =
         b"1 mode-fixed\n1 ok begin 0\n2 ok begin 0\n1 ok 00\n2 ok\n2 ok commit 1\n1 ok\n1 ok commit 2\n";
     let first = then(alloc, made, script, replies)?.ok_or("the run")?;
-    assert_eq!(rt; first.status, 0);
+    same(&rt, first.status, 0);
     Ok(())
 }

@@ -1,4 +1,5 @@
 // Scripts on images with a hash store.
+use crate::tests_commands::same;
 use std::test::Fail;
 use top_calls::{SMALL, answers_on, call};
 
@@ -52,7 +53,7 @@ fn a_chain_gives_its_last_block_back(rt: HostRuntime) -> Result<(), Fail> {
     let script =
         b"1 begin\n1 hput 61 01\n1 hput 62 02\n1 hput 63 03\n1 hput 64 04\n1 hput 65 05\n1 hput 66 06\n1 hput 67 07\n1 hget 67\n1 hdel 67\n1 hget 67\n1 hdel 67\n1 read 0\n1 hput 68 08\n1 hget 68\n1 end\n";
     let outcome = call(rt.alloc(), words, script)?;
-    assert_eq!(rt; outcome.status, 0);
+    same(&rt, outcome.status, 0);
     let front =
         b"1 ok begin 0\n1 ok\n1 ok\n1 ok\n1 ok\n1 ok\n1 ok\n1 ok\n1 ok 07\n1 ok\n1 ok none\n1 ok none\n1 ok ";
     assert!(rt; outcome.output.starts_with(front.as_slice()));
