@@ -1,9 +1,5 @@
 -- An image that shows the list's history opens to accounts that have their sum.
-use Rattle.account_laws.proofs.Words.{◌≡◌, ◌∙◌, sym, ap, subst, ℕ, List, Some, arith, Array, Geometry, array_at, last, World, Entry, IsLegal, Start, state_at, Accounts, KeepsSumAt, KeepsSumIn, OpensWithSum}
-use Rattle.iso_refusal.proofs.ImageLaws.{image_opens}
-use Rattle.iso_refusal.specs.Refusal.{Opened, recovered}
-use Rattle.iso_shared.proofs.Growing.{grows_all}
-use Rattle.iso_shared.specs.Standing.{ShowsSince, whole}
+use Rattle.account_laws.proofs.Words.{◌≡◌, ◌∙◌, sym, ap, subst, ℕ, List, Some, arith, Array, Geometry, array_at, last, World, Entry, IsLegal, Start, state_at, Accounts, KeepsSumAt, KeepsSumIn, OpensWithSum, image_opens, Opened, recovered, grows_all, ShowsSince, whole}
 
 same_opened : (x y : Opened) → Some x ≡ Some y → x ≡ y
 same_opened x y e = cc e

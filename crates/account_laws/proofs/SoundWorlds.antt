@@ -1,29 +1,9 @@
 -- Each place of a legal list has a sound world.
-use Rattle.account_laws.proofs.Words.{◌≡◌, refl, subst, ℕ, ◌==◌, ◌&&◌, Bool, true, false, not, cond, List, [], ◌∷◌, length, Some, None, nat_le, nat_lt, arith, AllByRecursion, Access, last, Live, World, IsWorld, Entry, IsLegal, Start, State, state_at}
-use Rattle.iso_model.proofs.Bounds.{limits}
-use Rattle.iso_model.proofs.Leads.{begin_leads, end_leads}
-use Rattle.iso_model.proofs.Groups.{group_leads}
-use Rattle.iso_model.proofs.Worlds.{leads_on, leaves, stays, switch_leads, trim_leads}
-use Rattle.iso_model.specs.declared.access.Mode.{Mode}
-use Rattle.iso_model.specs.declared.core_reply.CoreReply.{CoreReply}
+use Rattle.account_laws.proofs.Words.{◌≡◌, refl, subst, ℕ, ◌==◌, ◌&&◌, Bool, true, false, not, cond, List, [], ◌∷◌, length, Some, None, nat_le, nat_lt, arith, AllByRecursion, Access, last, Live, World, IsWorld, Entry, IsLegal, Start, State, state_at, limits, begin_leads, end_leads, group_leads, leads_on, leaves, stays, switch_leads, trim_leads, Mode, CoreReply, LAST, MAX_LIVE, same_mode, leave_all, after_begin, after_leaving, after_switch, begin_step, switch_step, Place, client, label, unattached, AreApart, IsLive, LeadsTo, ends_so, loose_is, Call, Cause, Member, AreLoose, Fits, LegalFrom, MayHaveMade, after, after_all, after_fault, after_refusal, is_live, live_of, member_numbers, members_of, opened, tx_of, txs_of, live_is}
 use Rattle.iso_model.specs.declared.core_reply.CoreReply.TheVariants as reply
-use Rattle.iso_model.specs.declared.limits.TheConstants.{LAST, MAX_LIVE}
-use Rattle.iso_model.specs.Geometry.{same_mode}
-use Rattle.iso_model.specs.Group.{leave_all}
-use Rattle.iso_model.specs.Step.{after_begin, after_leaving, after_switch, begin_step, switch_step}
-use Rattle.iso_model.specs.World.{Place, client, label, unattached}
-use Rattle.iso_model.specs.Worlds.{AreApart, IsLive, LeadsTo}
-use Rattle.iso_shared.proofs.Ends.{ends_so}
-use Rattle.iso_shared.proofs.Trace.{loose_is}
-use Rattle.iso_shared.specs.declared.entry.Call.{Call}
 use Rattle.iso_shared.specs.declared.entry.Call.TheVariants as call
-use Rattle.iso_shared.specs.declared.entry.Cause.{Cause}
 use Rattle.iso_shared.specs.declared.entry.Cause.TheVariants as cause
 use Rattle.iso_shared.specs.declared.entry.Entry.TheVariants as entry
-use Rattle.iso_shared.specs.declared.entry.Member.{Member}
-use Rattle.iso_shared.specs.Legal.{AreLoose, Fits, LegalFrom, MayHaveMade}
-use Rattle.iso_shared.specs.States.{after, after_all, after_fault, after_refusal, is_live, live_of, member_numbers, members_of, opened, tx_of, txs_of}
-use Rattle.store_entries.proofs.Since.{live_is}
 
 apart_place : (p : Place) → AreApart p unattached
 apart_place (client c) = tt

@@ -1,7 +1,5 @@
 -- The sum of all accounts, as a put changes it.
-use Rattle.account_laws.proofs.Words.{◌≡◌, ◌∙◌, sym, refl, ap, ℕ, ◌+◌, Bool, true, false, ◌&&◌, cond, List, [], ◌∷◌, Some, None, arith, length, nat_list_cmp_total, sum_by, sum_by-cons, empty, entries, entries-insert, entries_sorted, get, get-entries, insert, len-empty, len-entries, below_all, find, is_sorted, put, slice_cmp, nat_cmp, Pairs, amount, amount_in, total}
-use Rattle.std.proofs.Common.{T, Ordering, Less, Equal, Greater, is_eq, is_lt}
-use Rattle.std.specs.FinMap.Entries.{by_order}
+use Rattle.account_laws.proofs.Words.{◌≡◌, ◌∙◌, sym, refl, ap, ℕ, ◌+◌, Bool, true, false, ◌&&◌, cond, List, [], ◌∷◌, Some, None, arith, length, nat_list_cmp_total, sum_by, sum_by-cons, empty, entries, entries-insert, entries_sorted, get, get-entries, insert, len-empty, len-entries, below_all, find, is_sorted, put, slice_cmp, nat_cmp, Pairs, amount, amount_in, total, T, Ordering, Less, Equal, Greater, is_eq, is_lt, by_order}
 
 abbrev Pair : Type 0
 Pair = List ℕ × List ℕ

@@ -1,35 +1,9 @@
 -- Along a list whose transactions are those of accounts, each commit has their sum.
-use Rattle.account_laws.proofs.Words.{◌≡◌, ◌⊎◌, ◌∙◌, inl, inr, sym, refl, ap, subst, ℕ, zero, suc, ◌+◌, ◌-◌, ◌<◌, ◌≤◌, true, IfSome, List, [], ◌∷◌, ◌++◌, append_assoc, append-nil, length, length-append, slice_get, Option, Some, None, arith, AllByRecursion, Access, Array, Commit, Geometry, History, array_at, last, Live, World, IsWorld, Entry, IsLegal, Start, State, state_at, IsOfBoth, firsts, answers_in, calls_in, image_hash, image_tree, Accounts, KeepsSum, AreOfAccounts, CommitsAccounts, IsOfAccountsAt, KeepsSumAt, KeepsSumIn, KeepsSumSince, commits_by}
-use Rattle.std.proofs.lemmas.Bool.{cases_lt}
-use Rattle.iso_model.proofs.Groups.{group_is}
-use Rattle.iso_model.specs.Group.{ahead, decided, leave_all, made_by, member_reply}
-use Rattle.iso_model.specs.History.{with_commits}
-use Rattle.iso_model.specs.Step.{after_leaving, end_step}
-use Rattle.iso_model.specs.Worlds.{IsLive}
-use Rattle.iso_model.specs.declared.access.EndReply.{EndReply}
-use Rattle.iso_model.specs.declared.access.EndReply.TheVariants.{Committed, Conflict, ReadOnly}
-use Rattle.iso_model.specs.declared.access.GroupReply.{GroupReply}
+use Rattle.account_laws.proofs.Words.{◌≡◌, ◌⊎◌, ◌∙◌, inl, inr, sym, refl, ap, subst, ℕ, zero, suc, ◌+◌, ◌-◌, ◌<◌, ◌≤◌, true, IfSome, List, [], ◌∷◌, ◌++◌, append_assoc, append-nil, length, length-append, slice_get, Option, Some, None, arith, AllByRecursion, Access, Array, Commit, Geometry, History, array_at, last, Live, World, IsWorld, Entry, IsLegal, Start, State, state_at, IsOfBoth, firsts, answers_in, calls_in, image_hash, image_tree, Accounts, KeepsSum, AreOfAccounts, CommitsAccounts, IsOfAccountsAt, KeepsSumAt, KeepsSumIn, KeepsSumSince, commits_by, cases_lt, group_is, ahead, decided, leave_all, made_by, member_reply, with_commits, after_leaving, end_step, IsLive, EndReply, Committed, Conflict, ReadOnly, GroupReply, follows_all, last_longer, group_history, after_snoc, legal_append, legal_snoc, loose_is, Call, Cause, Member, MemberEnd, answered, AreLoose, Fits, IsGroup, LegalFrom, MayHaveMade, MayRefuse, whole, with_lost, after, commits_made, group_answers, is_live, lost_commits, member_numbers, members_of, opened, replies_of, tx_of, txs_of, stores_answer_at, AreCallsInOrderAt, CommitsAreByCalls, StoresAreWell, commit_at, commits_as, world_at, both_commits, AreMixed, BothInOrder, IsByBoth, hash_blocks, tree_blocks, array_extends}
 use Rattle.iso_model.specs.declared.access.GroupReply.TheVariants as member
-use Rattle.iso_shared.proofs.Follows.{follows_all, last_longer}
-use Rattle.iso_shared.proofs.Groupings.{group_history}
-use Rattle.iso_shared.proofs.Trace.{after_snoc, legal_append, legal_snoc, loose_is}
-use Rattle.iso_shared.specs.declared.entry.Call.{Call}
 use Rattle.iso_shared.specs.declared.entry.Call.TheVariants as call
-use Rattle.iso_shared.specs.declared.entry.Cause.{Cause}
 use Rattle.iso_shared.specs.declared.entry.Cause.TheVariants as cause
 use Rattle.iso_shared.specs.declared.entry.Entry.TheVariants as entry
-use Rattle.iso_shared.specs.declared.entry.Member.{Member}
-use Rattle.iso_shared.specs.declared.entry.MemberEnd.{MemberEnd}
-use Rattle.iso_shared.specs.Groups.{answered}
-use Rattle.iso_shared.specs.Legal.{AreLoose, Fits, IsGroup, LegalFrom, MayHaveMade, MayRefuse}
-use Rattle.iso_shared.specs.Standing.{whole, with_lost}
-use Rattle.iso_shared.specs.States.{after, commits_made, group_answers, is_live, lost_commits, member_numbers, members_of, opened, replies_of, tx_of, txs_of}
-use Rattle.store_entries.proofs.Listed.{stores_answer_at}
-use Rattle.store_entries.specs.InOrder.{AreCallsInOrderAt, CommitsAreByCalls, StoresAreWell, commit_at, commits_as, world_at}
-use Rattle.store_laws.proofs.TwoStores.{both_commits}
-use Rattle.store_laws.specs.Both.{AreMixed, BothInOrder, IsByBoth}
-use Rattle.store_scripts.proofs.Blocks.{hash_blocks, tree_blocks}
-use Rattle.store_scripts.proofs.Members.{array_extends}
 use Rattle.account_laws.proofs.Keeping.{keep_sum}
 use Rattle.account_laws.proofs.SoundWorlds.{may_end, may_end_all, sound_at}
 use Rattle.account_laws.proofs.Splits.{nth_of, slice_get_behind, snoc_split}

@@ -1,13 +1,6 @@
 -- What calls of the hash store add to a transaction that calls the stores of an image.
-use Rattle.accounts.proofs.Words.{Bool, false, ◌≡◌, ◌≢◌, ◌∙◌, inl, sym, refl, ap, subst, ℕ, zero, suc, ◌+◌, ◌-◌, ◌<◌, ◌≤◌, List, [], ◌∷◌, ◌++◌, append_assoc, append-nil, arith, Option, Some, None, Result, Ok, Array, amount, disjoint_blocks, first_called, spare_where_apart, First, Get, Got, KeyCall, Put, StoreAnswer, WasPut, key_act, IsMadeOfBoth, hash_store, tree_store, WriteWithin, hash_area, tree_area, IsHashArea, IsHashRegion, get_op, hash_map, put_op, Program, Area, Region, StoreError, Accounts, IsOpening, more_first_answers, more_first_calls, IfAny, image_hash, image_tree, pairs_if_any, the_tree, HasEnded, IsLocalCall, area_of, Tx, added, Adds, Does, IsPut, IsTaken, SameBlocks}
-use Rattle.std.proofs.Common.{lt_of_le_of_lt}
-use Rattle.std.specs.Prelude.{bytes_eq}
-use Rattle.std.proofs.lemmas.Nat.{from_be_bytes-to_be_bytes_8}
-use Rattle.std.specs.Int.{to_be_bytes, w64}
-use Rattle.std.specs.Prelude.{◌^◌}
-use Rattle.account_laws.specs.Transactions.{IsOfAccounts, IsTransfer}
+use Rattle.accounts.proofs.Words.{Bool, false, ◌≡◌, ◌≢◌, ◌∙◌, inl, sym, refl, ap, subst, ℕ, zero, suc, ◌+◌, ◌-◌, ◌<◌, ◌≤◌, List, [], ◌∷◌, ◌++◌, append_assoc, append-nil, arith, Option, Some, None, Result, Ok, Array, amount, disjoint_blocks, first_called, spare_where_apart, First, Get, Got, KeyCall, Put, StoreAnswer, WasPut, key_act, IsMadeOfBoth, hash_store, tree_store, WriteWithin, hash_area, tree_area, IsHashArea, IsHashRegion, get_op, hash_map, put_op, Program, Area, Region, StoreError, Accounts, IsOpening, more_first_answers, more_first_calls, IfAny, image_hash, image_tree, pairs_if_any, the_tree, HasEnded, IsLocalCall, area_of, Tx, added, Adds, Does, IsPut, IsTaken, SameBlocks, lt_of_le_of_lt, bytes_eq, from_be_bytes-to_be_bytes_8, to_be_bytes, w64, ◌^◌, IsOfAccounts, IsTransfer, got_local, put_local}
 use Rattle.store_laws.proofs.HashWrites as hash_writes
-use Rattle.store_laws.proofs.KeyCalls.{got_local, put_local}
 use Rattle.store_model.specs.HashCalls as hash
 
 -- a store that an image has is the one in its area

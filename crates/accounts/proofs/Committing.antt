@@ -1,28 +1,6 @@
 -- A transaction that is filled commits as one of accounts, wherever it ends.
-use Rattle.accounts.proofs.Words.{◌≡◌, ◌∙◌, inl, inr, sym, refl, ap, subst, ℕ, ◌+◌, ◌<◌, ◌≤◌, true, List, [], ◌∷◌, ◌++◌, arith, length, Accounts, Array, image_hash, image_tree}
-use mathlib.Core.List.{IsPrefix}
-use Rattle.std.proofs.Common.{length-append}
-use Rattle.std.proofs.lemmas.Bool.{cases_lt}
-use Rattle.turn_lock.proofs.Prefixes.{prefix_shorter}
-use Rattle.handle_pass.specs.Sessions.{Own}
-use Rattle.iso_model.specs.History.{array_at, last}
-use Rattle.iso_model.specs.World.{Live}
-use Rattle.iso_model.specs.Worlds.{IsWorld}
-use Rattle.iso_shared.proofs.Begins.{began_last, began_own}
-use Rattle.iso_shared.proofs.Follows.{Follows, follows_prefix}
-use Rattle.iso_shared.proofs.Trace.{legal_last, opened_sound, sound_all}
-use Rattle.iso_shared.specs.declared.entry.Entry.{Entry}
+use Rattle.accounts.proofs.Words.{◌≡◌, ◌∙◌, inl, inr, sym, refl, ap, subst, ℕ, ◌+◌, ◌<◌, ◌≤◌, true, List, [], ◌∷◌, ◌++◌, arith, length, Accounts, Array, image_hash, image_tree, IsPrefix, length-append, cases_lt, prefix_shorter, Own, array_at, last, Live, IsWorld, began_last, began_own, Follows, follows_prefix, legal_last, opened_sound, sound_all, Entry, IsLegal, IsOwn, Start, is_live, live_of, opened, state_at, commit_at, world_at, AreMixed, array_extends, Doing, sound_at, CommitsAccounts, IsOfAccounts, IsFilled}
 use Rattle.iso_shared.specs.declared.entry.Entry.TheVariants as entry
-use Rattle.iso_shared.specs.Legal.{IsLegal}
-use Rattle.iso_shared.specs.Ports.{IsOwn}
-use Rattle.iso_shared.specs.States.{Start, is_live, live_of, opened, state_at}
-use Rattle.store_entries.specs.InOrder.{commit_at, world_at}
-use Rattle.store_laws.specs.Both.{AreMixed}
-use Rattle.store_scripts.proofs.Members.{array_extends}
-use Rattle.tx_table.specs.Work.{Doing}
-use Rattle.account_laws.proofs.SoundWorlds.{sound_at}
-use Rattle.account_laws.specs.Transactions.{CommitsAccounts, IsOfAccounts}
-use Rattle.accounts.specs.Kept.{IsFilled}
 
 module _ (accounts : Accounts) (A : Start) (E W before : List Entry) (o : Own) (sound : IsWorld A.world) (idle : A.world.live ≡ []) (filled : IsFilled (IsOfAccounts accounts) A E o) (within : IsPrefix E W)
     (legal : IsLegal A before) (at : IsPrefix before W) (live : is_live o.number (world_at A before).live ≡ true) where

@@ -1,19 +1,5 @@
 -- The places that a session, a transaction or a port has, and the entries that stand there.
-use Rattle.accounts.proofs.Words.{◌≡◌, ◌⊎◌, inl, inr, sym, refl, subst, ℕ, ◌+◌, ◌<◌, ◌≤◌, ◌==◌, Bool, true, false, cond, List, [], ◌∷◌, ◌++◌, arith, length, Accounts}
-use mathlib.Core.List.{IsPrefix}
-use Rattle.std.proofs.Common.{eqb-true}
-use Rattle.std.proofs.lemmas.Bool.{cases_lt}
-use Rattle.std.specs.List.{AllByRecursion}
-use Rattle.turn_lock.proofs.Prefixes.{prefix_trans}
-use Rattle.handle_pass.proofs.Logs.{next_prefix}
-use Rattle.handle_pass.specs.Logs.{AreNext, Next}
-use Rattle.iso_model.specs.World.{World}
-use Rattle.iso_shared.specs.declared.entry.Entry.{Entry}
-use Rattle.iso_shared.specs.States.{Start}
-use Rattle.store_entries.specs.InOrder.{world_at}
-use Rattle.account_laws.specs.Lists.{IsOfAccountsAt, commits_by}
-use Rattle.account_laws.specs.Transactions.{CommitsAccounts}
-use Rattle.accounts.specs.Kept.{Covers}
+use Rattle.accounts.proofs.Words.{◌≡◌, ◌⊎◌, inl, inr, sym, refl, subst, ℕ, ◌+◌, ◌<◌, ◌≤◌, ◌==◌, Bool, true, false, cond, List, [], ◌∷◌, ◌++◌, arith, length, Accounts, IsPrefix, eqb-true, cases_lt, AllByRecursion, prefix_trans, next_prefix, AreNext, Next, World, Entry, Start, world_at, IsOfAccountsAt, commits_by, CommitsAccounts, Covers}
 
 -- the entry makes no commit, wherever it stands
 abbrev pub IsQuiet : Entry → Type 0

@@ -1,38 +1,6 @@
 -- Calls on accounts fill the transaction that a session has begun.
-use Rattle.accounts.proofs.Words.{◌≡◌, ◌∙◌, sym, refl, ap, subst, ℕ, ◌+◌, ◌<◌, ◌≤◌, true, cond, List, [], ◌∷◌, ◌++◌, Option, Some, None, Ok, arith, length, Accounts, Array, Geometry, firsts, KeyCall, StoreAnswer, IsOfAccounts, IsMadeOfBoth, answers_in, calls_in, hash_area, image_hash, image_tree, IsHashArea, Area, Region, area_of, Tx, Does, IsPut, IsTakenFor, more_first_answers, more_first_calls, the_tree}
-use mathlib.Core.List.{IsPrefix}
-use Rattle.std.proofs.Common.{option_map}
-use Rattle.std.proofs.lemmas.List.{ext_get_or}
-use Rattle.handle_pass.proofs.Shapes.{block_shaped, length-shaped}
-use Rattle.handle_pass.specs.declared.session.Session.{Session}
-use Rattle.handle_pass.specs.Accesses.{accesses_of, tx_on}
-use Rattle.handle_pass.specs.Calls.{HasBegun}
-use Rattle.handle_pass.specs.Sessions.{Own, own, seen}
-use Rattle.handle_pass.specs.Visits.{Visited, base_in, begin_array, shaped, with_list}
-use Rattle.iso_model.proofs.Recorded.{array_shape}
-use Rattle.iso_model.specs.declared.access.Mode.{Mode}
-use Rattle.iso_model.specs.declared.access.Mode.TheVariants.{Serial}
-use Rattle.iso_model.specs.History.{array_at, last}
-use Rattle.iso_model.specs.Premises.{block_at}
-use Rattle.iso_model.specs.Worlds.{IsWorld}
-use Rattle.iso_shared.proofs.Begins.{began_last}
-use Rattle.iso_shared.proofs.Follows.{follows_all, follows_prefix}
-use Rattle.iso_shared.proofs.Trace.{legal_last}
-use Rattle.iso_shared.specs.declared.entry.Entry.{Entry}
+use Rattle.accounts.proofs.Words.{◌≡◌, ◌∙◌, sym, refl, ap, subst, ℕ, ◌+◌, ◌<◌, ◌≤◌, true, cond, List, [], ◌∷◌, ◌++◌, Option, Some, None, Ok, arith, length, Accounts, Array, Geometry, firsts, KeyCall, StoreAnswer, IsOfAccounts, IsMadeOfBoth, answers_in, calls_in, hash_area, image_hash, image_tree, IsHashArea, Area, Region, area_of, Tx, Does, IsPut, IsTakenFor, more_first_answers, more_first_calls, the_tree, IsPrefix, option_map, ext_get_or, block_shaped, length-shaped, Session, accesses_of, tx_on, HasBegun, Own, own, seen, Visited, base_in, begin_array, shaped, with_list, array_shape, Mode, Serial, array_at, last, block_at, IsWorld, began_last, follows_all, follows_prefix, legal_last, Entry, IsLegal, Start, opened, world_at, hash_area_is, array_extends, prefix_trans, sound_at, to_be_bytes, w64, Cause, area_in, HashPuts, HasCalled, HasStore, IsFilled, IsHeld, OfCalls, OwnFilled}
 use Rattle.iso_shared.specs.declared.entry.Entry.TheVariants as entry
-use Rattle.iso_shared.specs.Legal.{IsLegal}
-use Rattle.iso_shared.specs.States.{Start, opened}
-use Rattle.store_entries.specs.InOrder.{world_at}
-use Rattle.store_model.proofs.HashAccesses.{hash_area_is}
-use Rattle.store_scripts.proofs.Members.{array_extends}
-use Rattle.turn_lock.proofs.Prefixes.{prefix_trans}
-use Rattle.account_laws.proofs.SoundWorlds.{sound_at}
-use Rattle.std.specs.Int.{to_be_bytes, w64}
-use Rattle.iso_shared.specs.declared.entry.Cause.{Cause}
-use Rattle.device_calls.specs.Regions.{area_in}
-use Rattle.device_calls.specs.Stores.{HashPuts}
-use Rattle.device_calls.specs.Visits.{HasCalled}
-use Rattle.accounts.specs.Kept.{HasStore, IsFilled, IsHeld, OfCalls, OwnFilled}
 use Rattle.accounts.proofs.Adding.{completed, does_put, put_adds, transfers}
 
 -- an array that has the image's shape is not cut

@@ -1,12 +1,6 @@
 -- Transactions that were given away, one after the other.
-use Rattle.accounts.proofs.Words.{◌≡◌, refl, ℕ, ◌+◌, ◌≤◌, List, [], ◌∷◌, ◌++◌, arith, length, IfSome, Option, Some, None, Accounts}
-use Rattle.group_commit.specs.Groups.{found_in}
-use Rattle.iso_shared.specs.declared.shared.Shared.{Shared}
+use Rattle.accounts.proofs.Words.{◌≡◌, refl, ℕ, ◌+◌, ◌≤◌, List, [], ◌∷◌, ◌++◌, arith, length, IfSome, Option, Some, None, Accounts, found_in, Shared, units_of, tx_view, Start, AreGiven, IsWhole, given_units}
 use Rattle.iso_shared.specs.declared.tx.Tx.{Tx}
-use Rattle.iso_shared.specs.Groups.{units_of}
-use Rattle.iso_shared.specs.Ports.{tx_view}
-use Rattle.iso_shared.specs.States.{Start}
-use Rattle.accounts.specs.Kept.{AreGiven, IsWhole, given_units}
 
 module _ {D O : Type 0} where
   pub given_more : (accounts : Accounts) (A : Start) (l : Shared D O) (xs : List (Option (Tx D O))) (m : Option (Tx D O)) → AreGiven accounts A l xs → IfSome m (IsWhole accounts A l) → AreGiven accounts A l (xs ++ m ∷ [])

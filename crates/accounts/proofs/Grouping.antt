@@ -1,36 +1,12 @@
 -- A group of transactions that were given away commits as accounts do.
-use Rattle.accounts.proofs.Words.{◌≡◌, ◌∙◌, inl, inr, sym, refl, ap, subst, suc, ℕ, true, List, [], ◌∷◌, ◌++◌, arith, length, Option, Some, None, Result, Ok, Err, Accounts}
-use mathlib.Core.List.{IsPrefix}
-use Rattle.std.specs.List.{AllByRecursion}
-use Rattle.turn_lock.proofs.Prefixes.{prefix_self, prefix_trans}
-use Rattle.turn_lock.specs.declared.view.View.{View}
-use Rattle.turn_lock.specs.Lists.{times}
-use Rattle.group_commit.specs.Groups.{HasEnded, HasGrouped, HasMade, KnowsAll, aborts_after, aborts_of, count_all, found_in, group_of, refused_by}
-use Rattle.handle_pass.proofs.Logs.{next_prefix}
-use Rattle.handle_pass.specs.Sessions.{own_in}
-use Rattle.iso_model.specs.declared.access.Commit.{Commit}
-use Rattle.iso_model.specs.declared.access.GroupReply.{GroupReply}
+use Rattle.accounts.proofs.Words.{◌≡◌, ◌∙◌, inl, inr, sym, refl, ap, subst, suc, ℕ, true, List, [], ◌∷◌, ◌++◌, arith, length, Option, Some, None, Result, Ok, Err, Accounts, IsPrefix, AllByRecursion, prefix_self, prefix_trans, View, times, HasGrouped, HasMade, KnowsAll, aborts_after, aborts_of, count_all, found_in, group_of, refused_by, next_prefix, own_in, Commit, GroupReply, CoreError, made_by, Live, World, legal_last, loose_is, Entry, Member, Shared, answered, made_in, AreLoose, IsLegal, number_of, tx_view, Start, commits_made, group_answers, lost_commits, member_numbers, members_of, opened, state_at, txs_of, cause_of, members_in, commit_at, world_at, IsOfAccountsAt, CommitsAccounts, AreGiven, Covers, IsReady, IsWhole}
+use Rattle.group_commit.specs.Groups.{HasEnded}
 use Rattle.iso_model.specs.declared.access.GroupReply.TheVariants as member
-use Rattle.iso_model.specs.declared.core_error.CoreError.{CoreError}
 use Rattle.iso_model.specs.declared.core_error.CoreError.TheVariants as error
-use Rattle.iso_model.specs.Group.{made_by}
-use Rattle.iso_model.specs.World.{Live, World}
-use Rattle.iso_shared.proofs.Trace.{legal_last, loose_is}
 use Rattle.iso_shared.specs.declared.entry.Call.TheVariants as call
-use Rattle.iso_shared.specs.declared.entry.Entry.{Entry}
 use Rattle.iso_shared.specs.declared.entry.Entry.TheVariants as entry
-use Rattle.iso_shared.specs.declared.entry.Member.{Member}
-use Rattle.iso_shared.specs.declared.shared.Shared.{Shared}
 use Rattle.iso_shared.specs.declared.tx.Tx.{Tx}
-use Rattle.iso_shared.specs.Groups.{answered, made_in}
-use Rattle.iso_shared.specs.Legal.{AreLoose, IsLegal}
-use Rattle.iso_shared.specs.Ports.{number_of, tx_view}
-use Rattle.iso_shared.specs.States.{Start, commits_made, group_answers, lost_commits, member_numbers, members_of, opened, state_at, tx_of, txs_of}
-use Rattle.iso_shared.specs.Told.{cause_of, members_in}
-use Rattle.store_entries.specs.InOrder.{commit_at, world_at}
-use Rattle.account_laws.specs.Lists.{IsOfAccountsAt}
-use Rattle.account_laws.specs.Transactions.{CommitsAccounts}
-use Rattle.accounts.specs.Kept.{AreGiven, Covers, IsReady, IsWhole}
+use Rattle.iso_shared.specs.States.{tx_of}
 use Rattle.accounts.proofs.Committing.{commits_well}
 use Rattle.accounts.proofs.Covering.{IsQuiet, covers_both, covers_none, covers_on, covers_one, covers_quiet}
 

@@ -1,39 +1,11 @@
 -- What calls leave of a session whose transactions are those of accounts.
-use Rattle.accounts.proofs.Words.{◌≡◌, ◌∙◌, sym, refl, ap, subst, ℕ, true, List, [], ◌∷◌, ◌++◌, arith, Option, Some, None, Result, Ok, Err, Accounts, Access}
-use mathlib.Core.List.{IsPrefix}
-use Rattle.std.specs.List.{AllByRecursion}
-use Rattle.turn_lock.proofs.Prefixes.{prefix_self, prefix_trans}
-use Rattle.turn_lock.specs.declared.view.View.{View}
-use Rattle.turn_lock.specs.Lists.{times}
-use Rattle.handle_pass.specs.declared.errors.BeginError.{BeginError}
+use Rattle.accounts.proofs.Words.{◌≡◌, ◌∙◌, sym, refl, ap, subst, ℕ, true, List, [], ◌∷◌, ◌++◌, arith, Option, Some, None, Result, Ok, Err, Accounts, Access, IsPrefix, AllByRecursion, prefix_self, prefix_trans, View, times, BeginError, EndError, Handle, Session, EndsWith, HasAborted, HasBegun, Next, Released, known, places, tx_of, IsSession, Made, Own, count, device, own, seen, Visited, fetches, number_in, refusals, EndReply, Committed, Conflict, ReadOnly, Mode, CoreError, NotInTx, legal_last, loose_is, Cause, Entry, Start, opened, state_at, cause_of, commit_at, world_at, IsOfAccountsAt, CommitsAccounts, IsOfAccounts, TookOver, Covers, IsFilled, IsGiven, IsHeld, IsKept, IsReady, OfCalls, Stays}
 use Rattle.handle_pass.specs.declared.errors.BeginError.TheVariants as begin
-use Rattle.handle_pass.specs.declared.errors.EndError.{EndError}
 use Rattle.handle_pass.specs.declared.errors.EndError.TheVariants as end
-use Rattle.handle_pass.specs.declared.handle.Handle.{Handle}
-use Rattle.handle_pass.specs.declared.session.Session.{Session}
-use Rattle.handle_pass.specs.Calls.{EndsWith, HasAborted, HasBegun, HasEnded}
-use Rattle.handle_pass.specs.Logs.{Next}
-use Rattle.handle_pass.specs.Handles.{Released, known, places, tx_of}
-use Rattle.handle_pass.specs.Sessions.{IsSession, Made, Own, count, device, own, seen}
-use Rattle.handle_pass.specs.Visits.{Visited, fetches, number_in, refusals}
-use Rattle.iso_model.specs.declared.access.EndReply.{EndReply}
-use Rattle.iso_model.specs.declared.access.EndReply.TheVariants.{Committed, Conflict, ReadOnly}
-use Rattle.iso_model.specs.declared.access.Mode.{Mode}
-use Rattle.iso_model.specs.declared.core_error.CoreError.{CoreError}
+use Rattle.handle_pass.specs.Calls.{HasEnded}
 use Rattle.iso_model.specs.declared.core_error.CoreError.TheVariants as error
-use Rattle.iso_model.specs.declared.memory.NotInTx.{NotInTx}
-use Rattle.iso_shared.proofs.Trace.{legal_last, loose_is}
 use Rattle.iso_shared.specs.declared.entry.Call.TheVariants as call
-use Rattle.iso_shared.specs.declared.entry.Cause.{Cause}
-use Rattle.iso_shared.specs.declared.entry.Entry.{Entry}
 use Rattle.iso_shared.specs.declared.entry.Entry.TheVariants as entry
-use Rattle.iso_shared.specs.States.{Start, opened, state_at}
-use Rattle.iso_shared.specs.Told.{cause_of}
-use Rattle.store_entries.specs.InOrder.{commit_at, world_at}
-use Rattle.account_laws.specs.Lists.{IsOfAccountsAt}
-use Rattle.account_laws.specs.Transactions.{CommitsAccounts, IsOfAccounts}
-use Rattle.handle_pass.specs.Handles.{TookOver}
-use Rattle.accounts.specs.Kept.{Covers, IsFilled, IsGiven, IsHeld, IsKept, IsReady, OfCalls, Stays}
 use Rattle.accounts.proofs.Committing.{commits_well}
 use Rattle.accounts.proofs.Covering.{IsQuiet, covers_both, covers_less, covers_on, covers_one, covers_quiet, quiet_well}
 

@@ -1,21 +1,6 @@
 -- What a run of accounts has come to, once its device is closed.
-use Rattle.accounts.proofs.Words.{◌≡◌, ◌∙◌, inl, inr, sym, refl, ap, subst, zero, suc, ℕ, ◌+◌, ◌<◌, ◌≤◌, true, cond, List, [], ◌∷◌, ◌++◌, append_assoc, arith, length, Accounts}
-use Rattle.std.proofs.Common.{eq-eqb, length-append}
-use Rattle.std.proofs.lemmas.Bool.{cases_lt}
-use Rattle.iso_core.specs.declared.core_itself.Core.{Core}
-use Rattle.iso_core.specs.Core.{disk_of}
-use Rattle.iso_disk.proofs.Moments.{weakened}
-use Rattle.iso_disk.specs.Disk.{DiskState}
-use Rattle.iso_shared.specs.declared.entry.Entry.{Entry}
-use Rattle.iso_shared.specs.Legal.{IsLegal}
-use Rattle.iso_shared.specs.Standing.{Came, Holds}
-use Rattle.iso_shared.specs.States.{Start, opened, state_at}
-use Rattle.turn_lock.specs.Lists.{count_up, hit, places, times}
-use Rattle.account_laws.proofs.Images.{opens_with_sum}
-use Rattle.account_laws.proofs.Walks.{sum_kept}
-use Rattle.account_laws.specs.Lists.{AreOfAccounts, IsOfAccountsAt, KeepsSumAt}
-use Rattle.accounts.specs.Ends.{BeginsWithSum, SumStays}
-use Rattle.accounts.specs.Kept.{Covers, IsReady}
+use Rattle.accounts.proofs.Words.{◌≡◌, ◌∙◌, inl, inr, sym, refl, ap, subst, zero, suc, ℕ, ◌+◌, ◌<◌, ◌≤◌, true, cond, List, [], ◌∷◌, ◌++◌, append_assoc, arith, length, Accounts, eq-eqb, length-append, cases_lt, Core, disk_of, weakened, DiskState, Entry, IsLegal, Came, Holds, Start, opened, state_at, count_up, hit, times, opens_with_sum, sum_kept, AreOfAccounts, IsOfAccountsAt, KeepsSumAt, BeginsWithSum, SumStays, Covers, IsReady}
+use Rattle.turn_lock.specs.Lists.{places}
 
 -- each place is one of the places
 hit_itself : (p : ℕ) → hit p p ≡ 1

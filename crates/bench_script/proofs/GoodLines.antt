@@ -1,6 +1,5 @@
 -- Each line of a bench is read as a line.
-use Rattle.bench_script.proofs.Words.{◌≡◌, ◌≢◌, ◌∙◌, sym, refl, ap, ℕ, zero, suc, ◌+◌, ◌*◌, ◌<◌, ◌≤◌, Bool, true, false, nat_le, List, [], ◌∷◌, ◌++◌, take, length, length-append, append_assoc, append-nil, subst, None, Ok, Result, codes, decimal, arith, flat_map, list_all, and_parts, cond-false, leb-true, le-ltb, lt-leb, ne_eqb, decimal_digit, length-decimal-le, take_all, MAX_INPUT, MAX_LINE, Line, Op, Begin, End, Put, Get, Parsed, after_draws, bench_text, drawn_round, nth_drawn, round_text, AreBytes, Script, before_script, is_printable, parse_whole, script, script_from, without_return, hex_text, pieces, line_text, line_words, AreSome, IsLine, IsWord, decimal_word, hex_word, parse-printed, AreWords, spaced_printable, HasNoFeed, ArePlain, no_feed-cons, no_feed-nil, script-line}
-use Rattle.script_model.specs.declared.script.Parsed.TheVariants.{Line as Says}
+use Rattle.bench_script.proofs.Words.{◌≡◌, ◌≢◌, ◌∙◌, sym, refl, ap, ℕ, zero, suc, ◌+◌, ◌*◌, ◌<◌, ◌≤◌, Bool, true, false, nat_le, List, [], ◌∷◌, ◌++◌, take, length, length-append, append_assoc, append-nil, subst, None, Ok, Result, codes, decimal, arith, flat_map, list_all, and_parts, cond-false, leb-true, le-ltb, lt-leb, ne_eqb, decimal_digit, length-decimal-le, take_all, MAX_INPUT, MAX_LINE, Line, Op, Begin, End, Put, Get, Parsed, after_draws, bench_text, drawn_round, nth_drawn, round_text, AreBytes, Script, before_script, is_printable, parse_whole, script, script_from, without_return, hex_text, pieces, line_text, line_words, AreSome, IsLine, IsWord, decimal_word, hex_word, parse-printed, AreWords, spaced_printable, HasNoFeed, ArePlain, no_feed-cons, no_feed-nil, script-line, Says}
 
 not_low : (b low : ℕ) → is_printable b ≡ true → low < 32 → b ≢ low
 not_low b low test small same = omega (arith, leb-true 32 b (and_parts (nat_le 32 b) (nat_le b 126) test).0)

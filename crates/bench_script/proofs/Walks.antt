@@ -1,12 +1,6 @@
 -- A step that the walks of `src/taken.rt` share.
-use Rattle.bench_script.proofs.Words.{List, [], ◌∷◌, refl}
-use seplogic.Ra.Ura.{Ura}
-use mir.Val.{Val, vstruct, vnil}
-use types.Logic.{Logic}
-use types.Kit.{Goal, Step, step, Item, ‵, ◌$◌, fjoin, fpack, feq_i}
-use denote.RattleType.{RattleType, Valss}
-use denote.Steps.{nothing}
-use denote.Struct.Struct.{Struct, within}
+use Rattle.bench_script.proofs.Words.{List, [], ◌∷◌, refl, Ura, Val, vstruct, vnil, Logic, Goal, Step, Item, ‵, ◌$◌, fjoin, fpack, feq_i, RattleType, Valss, nothing, Struct, within}
+use types.Kit.{step}
 
 abbrev pub none : Val
 none = vstruct vnil

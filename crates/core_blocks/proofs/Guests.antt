@@ -1,6 +1,5 @@
 -- A guest after one more call on its transaction.
-use Rattle.core_blocks.proofs.Words.{◌≡◌, ◌∙◌, sym, refl, ap, subst, false, ℕ, suc, ◌+◌, ◌≤◌, List, [], ◌∷◌, ◌++◌, length, Option, Some, None, Result, Ok, Err, OnOk, arith, IsSome, ForSome, length_push, Rose, one_more, DiskState, IsLawful, WritesNothing, joined_unwritten, Access, MarkError, Span, Array, mark_fault, marked, World, Doing, span_at, Core, StandsFor, disk_of, up, Counts, IsGuest, IsSameWork, tx_of}
-use Rattle.tx_blocks.specs.Tx.{IsTx as AreLimits}
+use Rattle.core_blocks.proofs.Words.{◌≡◌, ◌∙◌, sym, refl, ap, subst, false, ℕ, suc, ◌+◌, ◌≤◌, List, [], ◌∷◌, ◌++◌, length, Option, Some, None, Result, Ok, Err, OnOk, arith, IsSome, ForSome, length_push, Rose, one_more, DiskState, IsLawful, WritesNothing, joined_unwritten, Access, MarkError, Span, Array, mark_fault, marked, World, Doing, span_at, Core, StandsFor, disk_of, up, Counts, IsGuest, IsSameWork, tx_of, AreLimits}
 
 same_work : (a b c : Doing) → IsSameWork a b → IsSameWork b c → IsSameWork a c
 same_work a b c first second = record {

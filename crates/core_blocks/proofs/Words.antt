@@ -1,5 +1,5 @@
 -- The words that the proofs of this crate cite from elsewhere.
-pub use Rattle.std.proofs.Common.{Err, List, None, Ok, OnOk, Option, Result, Some, [], ap, arith, false, inl, length, map, option_map, refl, subst, suc, sym, unwrap_or, ℕ, ◌*◌, ◌++◌, ◌+◌, ◌<◌, ◌∙◌, ◌∷◌, ◌≡◌, ◌≤◌}
+pub use Rattle.std.proofs.Common.{Err, List, None, Ok, OnOk, Option, Result, Some, ap, arith, false, inl, length, map, option_map, refl, subst, suc, sym, unwrap_or, ℕ, [], ◌*◌, ◌++◌, ◌+◌, ◌<◌, ◌∙◌, ◌∷◌, ◌≡◌, ◌≤◌}
 pub use Rattle.std.proofs.lemmas.List.{ext_get_or, length_push}
 pub use Rattle.std.proofs.lemmas.List.FromFn.{get_or-map-range_with_len, length-map-range_with_len}
 pub use Rattle.std.specs.List.{range_with_len}
@@ -33,7 +33,7 @@ pub use Rattle.iso_model.specs.declared.access.Span.{Span}
 pub use Rattle.mv_index.specs.Shown.{byte_in}
 pub use Rattle.mv_index.specs.Versions.{upto, versions_in}
 pub use Rattle.mv_index.specs.declared.version.Version.{Version}
-pub use Rattle.tx_blocks.specs.Tx.{IsArrayOf}
+pub use Rattle.tx_blocks.specs.Tx.{IsTx as AreLimits, IsArrayOf}
 pub use Rattle.tx_table.specs.Work.{Doing, span_at}
 pub use Rattle.version_read.specs.Blocks.{IsOver}
 pub use Rattle.core_blocks.specs.Guests.{Counts, IsGuest, IsSameWork, Seen, tx_of}

@@ -1,6 +1,5 @@
 -- What is left to do of a group, one transaction after the other.
-use Rattle.group_commit.proofs.Words.{◌≡◌, ◌⊎◌, false, true, is_some, spread, marks_of, inl, inr, CoreError, aborts_after, cause_of, refused_by, ℕ, ◌+◌, ◌<◌, ◌≤◌, List, [], ◌∷◌, ◌++◌, Option, Some, None, length, map, refl, sym, ap, ◌∙◌, subst, arith, AllByRecursion, GroupReply, IsLegal, MadeBoth, number_of, tx_view, Start, Entry, Shared, Tx, prefix_self, prefix_trans, hit, times, total, View, AreNext, Next, next_on, next_prefix, next_same, through_next, MovesThrough, Session, ArePaired, IsBack, MadeAll, answered, made_in, members_in, units_of, AreMembers, AreTxs, HasMade, KnowsAll, aborts_of, count_all, found_in, group_of}
-use mathlib.Core.List.{IsPrefix}
+use Rattle.group_commit.proofs.Words.{◌≡◌, ◌⊎◌, false, true, is_some, spread, marks_of, inl, inr, CoreError, aborts_after, cause_of, refused_by, ℕ, ◌+◌, ◌<◌, ◌≤◌, List, [], ◌∷◌, ◌++◌, Option, Some, None, length, map, refl, sym, ap, ◌∙◌, subst, arith, AllByRecursion, GroupReply, IsLegal, MadeBoth, number_of, tx_view, Start, Entry, Shared, Tx, prefix_self, prefix_trans, hit, times, total, View, AreNext, Next, next_on, next_prefix, next_same, through_next, MovesThrough, Session, ArePaired, IsBack, MadeAll, answered, made_in, members_in, units_of, AreMembers, AreTxs, HasMade, KnowsAll, aborts_of, count_all, found_in, group_of, IsPrefix}
 use Rattle.iso_model.specs.declared.core_error.CoreError.TheVariants as error
 use Rattle.iso_shared.specs.declared.entry.Call.TheVariants as call
 use Rattle.iso_shared.specs.declared.entry.Entry.TheVariants as entry

@@ -1,10 +1,5 @@
 -- The disk of the tests.
-use Rattle.std.proofs.Common.{◌≡◌, ℕ, List, Some, sym, ◌∙◌, ap, subst}
-use Rattle.iso_disk.specs.Disk.{IsSettled}
-use Rattle.iso_memdisk.specs.declared.disk.MemDisk.{MemDisk}
-use Rattle.iso_memdisk.specs.declared.record.Call.{Call}
-use Rattle.iso_memdisk.specs.MemDisk.{IsUntouched, Starts, state_of}
-use Rattle.iso_memdisk.specs.Record.{images_after, written}
+use Rattle.half_switch.proofs.Words.{◌≡◌, ℕ, List, Some, sym, ◌∙◌, ap, subst, IsSettled, MemDisk, Call, IsUntouched, Starts, state_of, images_after, written}
 
 -- a disk that was just made is settled
 starts_settled : (d : MemDisk) (bytes : List ℕ) → Starts d bytes → IsSettled (state_of d)

@@ -1,5 +1,5 @@
 -- The words that the proofs of this crate cite from elsewhere.
-pub use Rattle.std.proofs.Common.{Bool, Err, IsTrue, List, None, Ok, OnErr, Option, Result, Some, [], ap, append_assoc, arith, cond, drop, eq-eqb, false, get_or, inl, inr, length, length-append, length-drop, mul-le-mul_right, nat_le, nat_lt, ne_eqb, refl, set, subst, suc, sym, take, take-append-drop, true, true≢false, unwrap_or, zero, ℕ, ◌&&◌, ◌*◌, ◌++◌, ◌+◌, ◌-◌, ◌<◌, ◌==◌, ◌^◌, ◌∙◌, ◌∷◌, ◌≡◌, ◌≢◌, ◌≤◌, ◌⊎◌}
+pub use Rattle.std.proofs.Common.{Bool, Err, IsTrue, List, None, Ok, OnErr, Option, Result, Some, ap, append_assoc, arith, cond, drop, eq-eqb, false, get_or, inl, inr, le-ltb, length, length-append, length-drop, mul-le-mul_right, nat_le, nat_lt, ne_eqb, refl, set, subst, suc, sym, take, take-append-drop, true, true≢false, unwrap_or, zero, ℕ, [], ◌&&◌, ◌*◌, ◌++◌, ◌+◌, ◌-◌, ◌<◌, ◌==◌, ◌^◌, ◌∙◌, ◌∷◌, ◌≡◌, ◌≢◌, ◌≤◌, ◌⊎◌}
 pub use Rattle.std.proofs.lemmas.Bool.{and_parts, cases_eq, le-leb, leb-true, lt-ltb, ltb-true}
 pub use Rattle.std.proofs.lemmas.List.{drop-drop, drop-take, drop_at, get_or-drop, get_or-take, get_or_at, length-set, length-take-le, take-take, take_at}
 pub use Rattle.std.proofs.lemmas.Nat.{from_be_bytes-to_be_bytes_4}
@@ -44,6 +44,10 @@ pub use Rattle.iso_model.specs.declared.access.Mode.{Mode}
 pub use Rattle.iso_model.specs.declared.access.Mode.TheVariants.{Serial, Snapshot}
 pub use Rattle.iso_model.specs.declared.access.Run.{Run}
 pub use Rattle.iso_model.specs.declared.limits.TheConstants.{LAST}
+pub use Rattle.iso_memdisk.specs.MemDisk.{IsUntouched, Starts, state_of}
+pub use Rattle.iso_memdisk.specs.Record.{images_after, written}
+pub use Rattle.iso_memdisk.specs.declared.disk.MemDisk.{MemDisk}
+pub use Rattle.iso_memdisk.specs.declared.record.Call.{Call}
 pub use Rattle.half_switch.specs.Laid.{AreBytesOf, all_laid, laid, one_laid, run_place}
 pub use Rattle.half_switch.specs.Plan.{AreHalves, Copies, IsFrom, IsReady, place_of, refilled}
 pub use Rattle.half_switch.specs.Put.{HasRecords, IsLaidOut, IsPut, closed_log, filled_with, header_tail}

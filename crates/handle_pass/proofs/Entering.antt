@@ -1,11 +1,9 @@
 -- What an entry of a session changes, by how port and transaction stand before and after it.
-use Rattle.handle_pass.proofs.Words.{port_view, tx_view, ◌≡◌, ℕ, ◌+◌, ◌<◌, ◌≤◌, Bool, true, false, nat_lt, List, [], ◌∷◌, ◌++◌, Option, Some, None, IfSome, length, refl, sym, ap, ◌∙◌, subst, arith, is_some, nat_tests, Doing, View, hit, times, AllBelow, view, IsAlike, prefix_length, prefix_self, prefix_trans, times_above, times_append, CoreError, array_at, block_at, Entry, Port, Shared, Tx, IsLegal, IsSameTx, IsTxOf, MadeBoth, Start, opened, state_at, cause_of, posting_of_tx, own_on, legal_last, loose_is, Session, Own, count, count_of, own_in, own_of, seen, units, units_of, IsSession, Made, Rested, left_by}
-use mathlib.Core.List.{IsPrefix}
+use Rattle.handle_pass.proofs.Words.{port_view, tx_view, ◌≡◌, ℕ, ◌+◌, ◌<◌, ◌≤◌, Bool, true, false, nat_lt, List, [], ◌∷◌, ◌++◌, Option, Some, None, IfSome, length, refl, sym, ap, ◌∙◌, subst, arith, is_some, nat_tests, Doing, View, hit, times, AllBelow, view, IsAlike, prefix_length, prefix_self, prefix_trans, times_above, times_append, CoreError, array_at, block_at, Entry, Port, Shared, Tx, IsLegal, IsSameTx, IsTxOf, MadeBoth, Start, opened, state_at, cause_of, posting_of_tx, own_on, legal_last, loose_is, Session, Own, count, count_of, own_in, own_of, seen, units, units_of, IsSession, Made, Rested, left_by, IsPrefix, PassMade}
 use Rattle.iso_model.specs.declared.core_error.CoreError.TheVariants as error
 use Rattle.iso_shared.specs.declared.entry.Call.TheVariants as call
 use Rattle.iso_shared.specs.declared.entry.Entry.TheVariants as entry
 use Rattle.iso_shared.specs.Ports.{IsTx}
-use Rattle.iso_shared.specs.Ports.{Made as PassMade}
 
 -- a number that stands in a list of such is below the bound
 below_of : (n p : ℕ) (xs : List ℕ) → AllBelow n xs → 0 < times p xs → p < n

@@ -1,5 +1,5 @@
 -- The words that the proofs of this crate cite from elsewhere.
-pub use Rattle.std.proofs.Common.{Bool, Err, IfSome, IsTrue, List, None, Ok, Option, Result, Some, [], ap, append_assoc, arith, cond, false, get_or, if◌then◌else◌, inl, inr, length, length-append, map, nat_le, nat_lt, not, option_map, refl, replicate, rules, subst, sym, true, ℕ, ◌++◌, ◌+◌, ◌<◌, ◌∙◌, ◌∷◌, ◌≡◌, ◌≢◌, ◌≤◌}
+pub use Rattle.std.proofs.Common.{Bool, Err, IfSome, IsTrue, List, None, Ok, Option, Result, Some, ap, append_assoc, arith, cond, false, get_or, if◌then◌else◌, inl, inr, length, length-append, map, nat_le, nat_lt, not, option_map, refl, replicate, rules, subst, sym, true, ℕ, [], ◌++◌, ◌+◌, ◌<◌, ◌∙◌, ◌∷◌, ◌≡◌, ◌≢◌, ◌≤◌}
 pub use Rattle.std.proofs.Math.ListN.{get_or-append}
 pub use Rattle.std.proofs.Math.Seq.{get_or-append_seam}
 pub use Rattle.std.proofs.lemmas.Bool.Decides.{nat_tests}
@@ -29,10 +29,11 @@ pub use Rattle.iso_shared.proofs.Follows.{follows_prefix, up_to_same}
 pub use Rattle.iso_shared.proofs.Mades.{ahead_on, own_on}
 pub use Rattle.iso_shared.proofs.Trace.{legal_last, loose_is}
 pub use Rattle.iso_shared.specs.Legal.{IsLegal}
-pub use Rattle.iso_shared.specs.Ports.{IsSameTx, IsTxOf, MadeBoth, most_steps, port_view, tx_view}
+pub use Rattle.iso_shared.specs.Ports.{IsSameTx, IsTxOf, MadeBoth, Made as PassMade, most_steps, port_view, tx_view}
 pub use Rattle.iso_shared.specs.States.{Start, State, after, after_all, after_fault, after_refusal, after_sweep, opened, state_at}
 pub use Rattle.iso_shared.specs.Told.{cause_of, post_cause, posting_of_tx}
 pub use Rattle.iso_shared.specs.declared.entry.Call.{Call}
+pub use Rattle.iso_shared.specs.declared.entry.Call.TheVariants.{Post as OfPost, Recent as OfRecent}
 pub use Rattle.iso_shared.specs.declared.entry.Cause.{Cause}
 pub use Rattle.iso_shared.specs.declared.entry.Entry.{Entry}
 pub use Rattle.iso_shared.specs.declared.entry.Entry.TheVariants.{Begin, Fetch, Recent, Refused}
@@ -48,6 +49,7 @@ pub use Rattle.turn_lock.specs.declared.view.View.{View}
 pub use Rattle.tx_blocks.specs.Runs.{Passed}
 pub use Rattle.tx_blocks.specs.Tx.{Device, IsArrayOf, IsFree, IsLater, IsRefused, IsTx, access_refusal, with_accesses}
 pub use Rattle.tx_table.specs.Work.{Doing, span_at}
+pub use mathlib.Core.List.{IsPrefix}
 pub use Rattle.handle_pass.specs.Accesses.{HasMarked, HasRead, HasWritten, IsReadCause, IsWriteCause, Shows, access_answer, accesses_of, mark_answer, tx_on, with_access}
 pub use Rattle.handle_pass.specs.Calls.{EndsWith, left_by}
 pub use Rattle.handle_pass.specs.Logs.{AreNext, Log, Moves, MovesThrough, count_with, entries_at}

@@ -1,8 +1,5 @@
 -- Bytes that are compared with zeros.
-use Rattle.iso_alloc.proofs.Words.{◌≡◌, ◌≤◌, ◌&&◌, ℕ, List, [], ◌∷◌, zero, suc, length, take, refl, ap, bytes_eq, arith}
-use Rattle.std.proofs.Math.ListN.{replicate}
-use Rattle.std.specs.List.{list_all}
-use Rattle.store_model.specs.Cells.{is_zero}
+use Rattle.iso_alloc.proofs.Words.{◌≡◌, ◌≤◌, ◌&&◌, ℕ, List, [], ◌∷◌, zero, suc, length, take, refl, ap, bytes_eq, arith, replicate, list_all, is_zero}
 
 pub zeros_are_equal : (xs : List ℕ) (n : ℕ) → length xs ≤ n → bytes_eq xs (take (length xs) (replicate n 0)) ≡ list_all is_zero xs
 zeros_are_equal [] n less = refl

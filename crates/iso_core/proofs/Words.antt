@@ -1,5 +1,5 @@
 -- The words that the proofs of this crate cite from elsewhere.
-pub use Rattle.std.proofs.Common.{Bool, Err, IfErr, IfOk, IsPermutation, IsSome, IsTrue, List, None, Ok, OnOk, Option, Result, Some, [], ap, append-nil, arith, cond, drop, eq-eqb, false, flat_map, get_or, inl, inr, length, length-drop, length-take-le, map, min, nat_eq, nat_lt, ne_eqb, not, refl, rules, slice_index_or, subst, suc, sum_by, sym, take, true, zero, ℕ, ◌&&◌, ◌*◌, ◌++◌, ◌+◌, ◌-◌, ◌<◌, ◌==◌, ◌^◌, ◌∙◌, ◌∷◌, ◌≡◌, ◌≢◌, ◌≤◌, ◌⊎◌}
+pub use Rattle.std.proofs.Common.{Bool, Err, IfErr, IfOk, IsPermutation, IsSome, IsTrue, List, None, Ok, OnOk, Option, Result, Some, ap, append-nil, arith, cond, drop, eq-eqb, false, flat_map, get_or, inl, inr, length, length-drop, length-take-le, map, min, nat_eq, nat_lt, ne_eqb, not, refl, rules, slice_index_or, subst, suc, sum_by, sym, take, true, zero, ℕ, [], ◌&&◌, ◌*◌, ◌++◌, ◌+◌, ◌-◌, ◌<◌, ◌==◌, ◌^◌, ◌∙◌, ◌∷◌, ◌≡◌, ◌≢◌, ◌≤◌, ◌⊎◌}
 pub use Rattle.std.proofs.Math.Path.{transport}
 pub use Rattle.std.proofs.lemmas.Bool.{cases_eq, cases_lt, le-leb, le-ltb, lt-leb, lt-ltb}
 pub use Rattle.std.proofs.lemmas.List.{append_assoc, drop-append-le, drop-map, drop-take, drop_all, length-append, length-map, length_push, map-append, take-append-drop, take-append-le, take_all}
@@ -30,7 +30,7 @@ pub use Rattle.iso_image.proofs.Logs.{records-append}
 pub use Rattle.iso_image.proofs.Switches.{end_inside}
 pub use Rattle.iso_image.specs.Half.{Half, HasLog, IsHeld, MayFollow, half_of, half_of_world, history_of, in_form, last_told, next_gate, told_bytes, with_records}
 pub use Rattle.iso_image.specs.declared.places.HalfPlace.{HalfPlace}
-pub use Rattle.iso_log.specs.Extent.{extent_of}
+pub use Rattle.iso_log.specs.Extent.{Extent as LogExtent, extent_of}
 pub use Rattle.iso_log.specs.Log.{HasTold, IsNext}
 pub use Rattle.iso_model.proofs.Bounds.{limits}
 pub use Rattle.iso_model.proofs.Distinct.{all_filter}
@@ -99,7 +99,7 @@ pub use Rattle.iso_core.specs.Core.{AllHold, AreImages, AreOf}
 pub use Rattle.iso_core.specs.Ends.{AreNextRecords, IsGrownBy, IsPrepared, IsSettledOf, IsSpelled, MayCommit, written_of}
 pub use Rattle.iso_core.specs.Kept.{IsOf, Keeps, NotesSince, bare}
 pub use Rattle.iso_core.specs.Opening.{IsOpenedTo, opened_world}
-pub use Rattle.iso_core.specs.Planned.{AreEach, AreStaged, HasPlanned, HasStaged, IfCommits, IsAhead, IsGrownWith, IsMember, IsNextStaged, IsPlannedFor, IsReady, IsReserved, MayTakeAll, all_parts, bare_end, parts_of, is_commit, unsettled, without_reply}
+pub use Rattle.iso_core.specs.Planned.{AreEach, AreStaged, HasPlanned, HasStaged, IfCommits, IsAhead, IsGrownWith, IsMember, IsNextStaged, IsPlannedFor, IsReady, IsReserved, MayTakeAll, all_parts, bare_end, is_commit, parts_of, unsettled, without_reply}
 pub use Rattle.iso_core.specs.Standing.{ShowsWith, Standing, down, up}
 pub use Rattle.iso_core.specs.Switching.{HasForm, HasFormOr, IsForm}
 pub use Rattle.iso_core.specs.declared.group_end.GroupEnd.{GroupEnd}

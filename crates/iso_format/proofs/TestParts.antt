@@ -1,10 +1,5 @@
 -- The parts that the tests write lie in their small image.
-use Rattle.std.proofs.Common.{List, [], ◌∷◌, inl, inr, refl, arith}
-use Rattle.iso_model.specs.declared.access.Geometry.{Geometry}
-use Rattle.iso_model.specs.declared.access.Mode.TheVariants.{Serial}
-use Rattle.iso_model.specs.declared.access.Run.{Run}
-use Rattle.iso_model.specs.Geometry.{is_valid}
-use Rattle.iso_format.specs.Writing.{LieInAnImage}
+use Rattle.iso_format.proofs.Words.{List, [], ◌∷◌, inl, inr, refl, arith, Geometry, Serial, Run, is_valid, LieInAnImage}
 
 abbrev small : Geometry
 small = record { block = 64; blocks = 4; log = 256; mode = Serial; hash = 0; tree = 0; form = 1 }

@@ -1,5 +1,5 @@
 -- The words that the proofs of this crate cite from elsewhere.
-pub use Rattle.std.proofs.Common.{Bool, IsTrue, List, Some, [], ap, append_assoc, arith, cond, drop, eq-eqb, false, get_or, inl, inr, le-ltb, length, length-append, length-drop, lt-ltb, map, nat_lt, ne_eqb, refl, replicate, subst, suc, sym, take, take-append-drop, true, zero, ℕ, ◌*◌, ◌++◌, ◌+◌, ◌-◌, ◌<◌, ◌==◌, ◌∙◌, ◌∷◌, ◌≡◌, ◌≤◌, ◌⊎◌}
+pub use Rattle.std.proofs.Common.{Bool, IsTrue, List, Some, ap, append_assoc, arith, cond, drop, eq-eqb, false, get_or, inl, inr, le-ltb, length, length-append, length-drop, lt-ltb, map, nat_lt, ne_eqb, refl, replicate, subst, suc, sym, take, take-append-drop, true, zero, ℕ, [], ◌*◌, ◌++◌, ◌+◌, ◌-◌, ◌<◌, ◌==◌, ◌∙◌, ◌∷◌, ◌≡◌, ◌≤◌, ◌⊎◌}
 pub use Rattle.std.proofs.lemmas.Bool.{cases_eq}
 pub use Rattle.std.proofs.lemmas.List.{drop-append-le, drop-drop, drop-map, drop-replicate, drop-take, drop_at, drop_more, get_or-drop, get_or-replicate, get_or-take, get_or_at, length-replicate, length-take, length-take-le, map-append, take-append-le, take-replicate, take-take, take_at}
 pub use Rattle.std.proofs.lemmas.Nat.{from_be_bytes-to_be_bytes_8}

@@ -1,6 +1,5 @@
 -- The records and the disks of the tests.
-use Rattle.iso_log.proofs.Words.{◌≡◌, ◌<◌, ◌≤◌, ◌+◌, ℕ, List, [], ◌∷◌, ◌++◌, Result, Ok, Err, OnOk, length, get_or, replicate, refl, sym, ◌∙◌, ap, arith, subst, ForSome, get_or-replicate, length-replicate, append-nil, Serial, LAST, is_valid, IsRecord, Written, spell, DiskState, LeavesOnly, LieInAnImage, has_log, MemDisk, Call, Starts, state_of, images_after, Extent, next_place, HasTold, IsNext, IsReady, StandAt}
-use Rattle.iso_log.specs.TestRecords.{put, small}
+use Rattle.iso_log.proofs.Words.{◌≡◌, ◌<◌, ◌≤◌, ◌+◌, ℕ, List, [], ◌∷◌, ◌++◌, Result, Ok, Err, OnOk, length, get_or, replicate, refl, sym, ◌∙◌, ap, arith, subst, ForSome, get_or-replicate, length-replicate, append-nil, Serial, LAST, is_valid, IsRecord, Written, spell, DiskState, LeavesOnly, LieInAnImage, has_log, MemDisk, Call, Starts, state_of, images_after, Extent, next_place, HasTold, IsNext, IsReady, StandAt, put, small}
 
 pub put_lies : LieInAnImage put
 unfolding is_valid

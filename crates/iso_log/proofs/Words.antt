@@ -1,7 +1,7 @@
 -- The words that the proofs of this crate cite from elsewhere.
-pub use Rattle.std.proofs.Common.{Bool, Err, IsErrOf, List, None, Ok, OnErr, OnOk, Option, Result, Some, [], ap, append_assoc, arith, cond, drop, false, get_or, inl, inr, length, length-append, length-drop, min, nat_le, nat_lt, not, refl, replicate, subst, suc, sym, take, true, zero, ℕ, ◌&&◌, ◌*◌, ◌++◌, ◌+◌, ◌-◌, ◌<◌, ◌==◌, ◌^◌, ◌||◌, ◌∙◌, ◌∷◌, ◌≡◌, ◌≤◌, ◌⊎◌}
-pub use Rattle.std.proofs.lemmas.List.{append-nil, drop-drop, drop-take, drop_at, get_or-drop, get_or-replicate, get_or-take, length-replicate, length-take, length-take-le, nil_from_length, take-take, take_rest}
+pub use Rattle.std.proofs.Common.{Bool, Err, IsErrOf, List, None, Ok, OnErr, OnOk, Option, Result, Some, ap, append_assoc, arith, cond, drop, false, get_or, inl, inr, length, length-append, length-drop, min, nat_le, nat_lt, not, refl, replicate, rules, subst, suc, sym, take, true, zero, ℕ, [], ◌&&◌, ◌*◌, ◌++◌, ◌+◌, ◌-◌, ◌<◌, ◌==◌, ◌^◌, ◌||◌, ◌∙◌, ◌∷◌, ◌≡◌, ◌≤◌, ◌⊎◌}
 pub use Rattle.std.proofs.Math.Seq.{paste}
+pub use Rattle.std.proofs.lemmas.List.{append-nil, drop-drop, drop-take, drop_at, get_or-drop, get_or-replicate, get_or-take, length-replicate, length-take, length-take-le, nil_from_length, places, take-take, take_rest, with_items_is}
 pub use Rattle.std.proofs.lemmas.List.Edits.{take-paste}
 pub use Rattle.std.proofs.lemmas.Nat.{from_be_bytes-to_be_bytes_4}
 pub use Rattle.std.proofs.lemmas.Option.{same_Some}
@@ -49,5 +49,6 @@ pub use Rattle.iso_log.specs.Extent.{Extent, extent_of, next_place}
 pub use Rattle.iso_log.specs.Log.{AppendedTo, AppendingFrom, HasTold, IsNext}
 pub use Rattle.iso_log.specs.Ready.{IsReady}
 pub use Rattle.iso_log.specs.Scan.{IsDamaged, IsFound, IsNextRecord, IsTaken, IsTestBefore, StandAt}
+pub use Rattle.iso_log.specs.TestRecords.{put, small}
 pub use Rattle.iso_log.specs.declared.log_error.LogError.{LogError}
 pub use Rattle.iso_log.specs.declared.log_error.LogError.TheVariants.{Damaged, Disk, LogFull, Memory}

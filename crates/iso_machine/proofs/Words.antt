@@ -1,9 +1,10 @@
 -- The words that the proofs of this crate cite from elsewhere.
-pub use Rattle.std.proofs.Common.{Bool, Err, IfErr, IfOk, OnErr, OnOk, IsErrOf, IsSome, IsTrue, List, None, Ok, Option, Result, Some, [], ap, arith, bytes_eq, cond, drop, eq-eqb, false, append-nil, append_assoc, find, filter, get_or, if◌then◌else◌, inl, inr, length, map, nat_eq, nat_le, nat_lt, ne_eqb, not, option_map, refl, replicate, set, slice_index, slice_index_or, subst, suc, sym, take, true, zero, ℕ, ⊎_elim, ◌&&◌, ◌++◌, ◌+◌, ◌-◌, ◌<◌, ◌==◌, ◌∙◌, ◌∷◌, ◌≡◌, ◌≢◌, ◌≤◌, ◌⊎◌}
+pub use Rattle.std.proofs.Common.{Bool, Err, IfErr, IfOk, IsErrOf, IsSome, IsTrue, List, None, Ok, OnErr, OnOk, Option, Result, Some, ap, append-nil, append_assoc, arith, bytes_eq, cond, drop, eq-eqb, false, filter, find, get_or, if◌then◌else◌, inl, inr, length, map, nat_eq, nat_le, nat_lt, ne_eqb, not, option_map, refl, replicate, set, slice_index, slice_index_or, subst, suc, sym, take, true, zero, ℕ, [], ⊎_elim, ◌&&◌, ◌++◌, ◌+◌, ◌-◌, ◌<◌, ◌==◌, ◌∙◌, ◌∷◌, ◌≡◌, ◌≢◌, ◌≤◌, ◌⊎◌}
 pub use Rattle.std.proofs.Math.Seq.{take-append_seam}
 pub use Rattle.std.proofs.lemmas.Bool.{and_parts, both_ways, cases_Bool, cases_eq, eqb-true, false≢true}
 pub use Rattle.std.proofs.lemmas.Bool.Decides.{nat_tests}
 pub use Rattle.std.proofs.lemmas.List.{drop-take, get_or-replicate, get_or_default, map-append, map_push, set-get_or, with_items_is}
+pub use Rattle.std.proofs.lemmas.Option.{same_Some}
 pub use Rattle.std.proofs.lemmas.Slice.Eq.{bytes_eq-Decides}
 pub use Rattle.std.specs.List.{AllByRecursion, remove}
 pub use Rattle.std.specs.Option.{ForSome, MatchOption}
@@ -11,9 +12,9 @@ pub use Rattle.conflict_rule.specs.Decision.{up_to}
 pub use Rattle.core_blocks.proofs.Arrays.{array_shown, guest_begins}
 pub use Rattle.core_blocks.specs.Guests.{Counts, IsSameWork, Seen, tx_of}
 pub use Rattle.core_blocks.specs.Shown.{array_in, array_told}
-pub use Rattle.iso_core.proofs.Words.{at_range, same_range, whole_range}
 pub use Rattle.iso_core.proofs.Standings.{stands_on}
 pub use Rattle.iso_core.proofs.Transactions.{among, kept_floor}
+pub use Rattle.iso_core.proofs.Words.{at_range, same_range, whole_range}
 pub use Rattle.iso_core.specs.Calls.{IsAmong, IsCheckedOf, IsTx, IsWorkOf, Refuses, Writes, refusal_of, reply_of}
 pub use Rattle.iso_core.specs.Core.{StandsFor, disk_of}
 pub use Rattle.iso_core.specs.Kept.{bare}
@@ -50,7 +51,7 @@ pub use Rattle.iso_model.specs.Premises.{block_at}
 pub use Rattle.iso_model.specs.Step.{after_begin, after_commit, after_leaving, after_switch, after_trim, get_access, mode_named, need, placed, put_access, read_access, shown_to, with_accesses, with_live, write_access}
 unfoldable pub use Rattle.iso_model.specs.Step.{begin_step, commit_step, end_step, switch_step}
 pub use Rattle.iso_model.specs.World.{Live, Place, World, attached, client, floor, floor_of, held, is_at_client, is_under_label, label, unattached, used, with, without}
-pub use Rattle.iso_model.specs.Worlds.{AreDistinct, AreTwo, IsLive, IsWorld}
+pub use Rattle.iso_model.specs.Worlds.{AreApart, AreDistinct, AreTwo, IsLive, IsWorld}
 pub use Rattle.iso_model.specs.declared.access.Access.{Access}
 pub use Rattle.iso_model.specs.declared.access.Clash.{Clash}
 pub use Rattle.iso_model.specs.declared.access.EndReply.{EndReply}
@@ -84,11 +85,12 @@ pub use Rattle.store_model.specs.declared.files.FsRegion.{FsRegion}
 pub use Rattle.iso_fs.specs.Ends.{areas_of}
 pub use Rattle.tx_blocks.specs.Tx.{Device, Tx}
 pub use Rattle.tx_table.specs.Work.{Doing, span_at}
+pub use Rattle.indexmap.specs.IndexMap.{get}
 pub use Rattle.iso_machine.specs.Accessing.{IsActive, IsGiven, IsShown, IsWorkedTo, act_step}
 pub use Rattle.iso_machine.specs.Answering.{Always, Answers, AnswersTold, Never, Wanting, answer_to}
 pub use Rattle.iso_machine.specs.Grouping.{HasTaken, filled, found_in, left_in, member_of, stand_in, under, without_found}
 pub use Rattle.iso_machine.specs.Shown.{shows}
 pub use Rattle.iso_machine.specs.Standing.{AreKnown, AreListed, AreOf, IsOff, IsSized, live_of, number_at, number_under, place_of}
-pub use Rattle.iso_machine.specs.declared.finder.Finder.{Finder}
 pub use Rattle.iso_machine.specs.Storing.{IsStored, called_of, store_act}
 pub use Rattle.iso_machine.specs.declared.attached.Attached.{Attached}
+pub use Rattle.iso_machine.specs.declared.finder.Finder.{Finder}

@@ -1,5 +1,5 @@
 -- The words that the proofs of this crate cite from elsewhere.
-pub use Rattle.std.proofs.Common.{Bool, List, Option, Some, Vec, [], ap, arith, drop, false, get_or, if◌then◌else◌, inl, inr, is_ok, length, length-append, length-drop, length-take, refl, replicate, rules, slice_get, subst, suc, sym, take, take-append-drop, true, zero, ℕ, ⊎_elim, ◌++◌, ◌+◌, ◌-◌, ◌<◌, ◌∙◌, ◌∷◌, ◌≡◌, ◌≤◌, ◌⊎◌}
+pub use Rattle.std.proofs.Common.{Bool, List, Option, Some, Vec, ap, arith, drop, false, get_or, if◌then◌else◌, inl, inr, is_ok, length, length-append, length-drop, length-take, refl, replicate, rules, slice_get, subst, suc, sym, take, take-append-drop, true, zero, ℕ, [], ⊎_elim, ◌++◌, ◌+◌, ◌-◌, ◌<◌, ◌∙◌, ◌∷◌, ◌≡◌, ◌≤◌, ◌⊎◌}
 pub use Rattle.std.proofs.lemmas.Grind.{common_steps}
 pub use Rattle.std.proofs.lemmas.List.{drop_more, length-replicate, take-append-le, take_all, take_more, take_rest, with_items_is}
 pub use Rattle.std.proofs.lemmas.Option.{same_Some, slice_get-get_or, slice_get_within}

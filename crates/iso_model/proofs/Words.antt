@@ -1,5 +1,5 @@
 -- The words that the proofs of this crate cite from elsewhere.
-pub use Rattle.std.proofs.Common.{Bool, IfSome, IsTrue, List, None, Option, Some, [], ap, append-nil, append_assoc, arith, bytes_eq, cond, drop, eq-eqb, false, filter, find, get_or, inl, inr, is_some, length, map, min, mul-le-mul, nat_le, nat_lt, ne_eqb, not, option_map, refl, replicate, set, slice_get, slice_index, subst, suc, sum_by, sym, take, true, true≢false, unwrap_or, zero, zero-add, ℕ, ◌&&◌, ◌*◌, ◌++◌, ◌+◌, ◌-◌, ◌<◌, ◌==◌, ◌^◌, ◌||◌, ◌∙◌, ◌∷◌, ◌≡◌, ◌≢◌, ◌≤◌, ◌⊎◌}
+pub use Rattle.std.proofs.Common.{Bool, IfSome, IsTrue, List, None, Option, Some, ap, append-nil, append_assoc, arith, bytes_eq, cond, drop, eq-eqb, false, filter, find, get_or, inl, inr, is_some, length, map, min, mul-le-mul, nat_le, nat_lt, ne_eqb, not, option_map, refl, replicate, set, slice_get, slice_index, subst, suc, sum_by, sym, take, true, true≢false, unwrap_or, zero, zero-add, ℕ, [], ◌&&◌, ◌*◌, ◌++◌, ◌+◌, ◌-◌, ◌<◌, ◌==◌, ◌^◌, ◌||◌, ◌∙◌, ◌∷◌, ◌≡◌, ◌≢◌, ◌≤◌, ◌⊎◌}
 pub use Rattle.std.proofs.Math.Nat.{pow-suc}
 pub use Rattle.std.proofs.lemmas.Bool.{and_from, and_parts, both_ways, cases_Bool, cases_eq, cases_lt, cases_order, eqb-false, eqb-true, false_from_ne_true, le-leb, leb-false, leb-true, lt-ltb, ltb-false, ltb-true, or_cases, or_left, or_parts, or_right}
 pub use Rattle.std.proofs.lemmas.Bool.Decides.{nat_tests}

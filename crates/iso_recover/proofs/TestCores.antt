@@ -1,32 +1,6 @@
 -- A core of the tests in which one transaction began and did something.
-use Rattle.std.proofs.Common.{◌≡◌, ◌≢◌, ◌∙◌, sym, refl, ap, subst, inl, ℕ, ◌+◌, ◌-◌, ◌<◌, ◌≤◌, Bool, true, false, cond, ◌==◌, ◌&&◌, not, List, [], ◌∷◌, ◌++◌, length, map, take, drop, Option, None, arith, nat_lt, nat_le}
-use Rattle.std.proofs.lemmas.List.{drop-take}
-use Rattle.std.specs.List.{AllByRecursion}
-use Rattle.conflict_rule.specs.Decision.{up_to}
-use Rattle.iso_core.specs.declared.core_itself.Core.{Core}
-use Rattle.iso_core.specs.Calls.{IsAmong, IsCheckedOf, IsTx, IsWorkOf}
-use Rattle.iso_core.specs.Core.{StandsFor}
-use Rattle.iso_core.specs.Kept.{bare}
-use Rattle.iso_core.specs.Standing.{Standing, up}
-use Rattle.iso_core.proofs.Standings.{stands_on}
-use Rattle.iso_disk.specs.Disk.{DiskState}
-use Rattle.iso_model.specs.declared.access.Access.{Access}
-use Rattle.iso_model.specs.declared.access.Clash.{Clash}
-use Rattle.iso_model.specs.declared.access.Geometry.{Geometry}
-use Rattle.iso_model.specs.declared.access.Mode.{Mode}
-use Rattle.iso_model.specs.declared.limits.TheConstants.{LAST, MAX_ACCESSES, MAX_LIVE}
-use Rattle.iso_model.specs.declared.core_reply.CoreReply.{CoreReply}
+use Rattle.iso_recover.proofs.Words.{◌≡◌, ◌≢◌, ◌∙◌, sym, refl, ap, subst, inl, ℕ, ◌+◌, ◌-◌, ◌<◌, ◌≤◌, Bool, true, false, cond, ◌==◌, ◌&&◌, not, List, [], ◌∷◌, ◌++◌, length, map, take, drop, Option, None, arith, nat_lt, nat_le, drop-take, AllByRecursion, up_to, Core, IsAmong, IsCheckedOf, IsTx, IsWorkOf, StandsFor, bare, Standing, up, stands_on, DiskState, Access, Clash, Geometry, Mode, LAST, MAX_ACCESSES, MAX_LIVE, CoreReply, same_mode, clash, clash_from, first_after, has_write, History, last, AreAccesses, AreBytes, after_begin, begin_step, with_live, write_access, World, Live, floor_of, unattached, IsLive, IsWorld, Doing, IsDown}
 use Rattle.iso_model.specs.declared.core_reply.CoreReply.TheVariants as reply
-use Rattle.iso_model.specs.Geometry.{same_mode}
-use Rattle.iso_model.specs.Conflict.{clash, clash_from, first_after}
-use Rattle.iso_model.specs.Effect.{has_write}
-use Rattle.iso_model.specs.History.{History, last}
-use Rattle.iso_model.specs.Premises.{AreAccesses, AreBytes}
-use Rattle.iso_model.specs.Step.{after_begin, begin_step, with_live, write_access}
-use Rattle.iso_model.specs.World.{World, Live, floor_of, unattached}
-use Rattle.iso_model.specs.Worlds.{IsLive, IsWorld}
-use Rattle.tx_table.specs.Work.{Doing}
-use Rattle.iso_recover.specs.TestCores.{IsDown}
 
 -- the transaction that began, with what it did
 abbrev pub working : World → Mode → List Access → Live

@@ -1,27 +1,6 @@
 -- A core of the tests in which two transactions began and did something.
-use Rattle.std.proofs.Common.{◌≡◌, ◌∙◌, sym, refl, ap, subst, inl, inr, ℕ, ◌+◌, ◌<◌, ◌≤◌, false, List, [], ◌∷◌, ◌++◌, length, map, None, arith}
-use Rattle.std.specs.List.{AllByRecursion}
-use Rattle.iso_core.specs.declared.core_itself.Core.{Core}
-use Rattle.iso_core.specs.declared.group_end.GroupEnd.{GroupEnd}
-use Rattle.iso_core.specs.Calls.{IsWorkOf}
-use Rattle.iso_core.specs.Core.{StandsFor}
-use Rattle.iso_core.specs.Kept.{bare}
-use Rattle.iso_core.specs.Planned.{AreEach, IsMember}
-use Rattle.iso_core.specs.Standing.{Standing, up}
-use Rattle.iso_core.proofs.Standings.{stands_on}
-use Rattle.iso_disk.specs.Disk.{DiskState}
-use Rattle.iso_model.specs.declared.access.Access.{Access}
-use Rattle.iso_model.specs.declared.access.Geometry.{Geometry}
-use Rattle.iso_model.specs.declared.access.Mode.{Mode}
-use Rattle.iso_model.specs.declared.limits.TheConstants.{MAX_ACCESSES}
+use Rattle.iso_recover.proofs.Words.{◌≡◌, ◌∙◌, sym, refl, ap, subst, inl, inr, ℕ, ◌+◌, ◌<◌, ◌≤◌, false, List, [], ◌∷◌, ◌++◌, length, map, None, arith, AllByRecursion, Core, GroupEnd, IsWorkOf, StandsFor, bare, AreEach, IsMember, Standing, up, stands_on, DiskState, Access, Geometry, Mode, MAX_ACCESSES, last, AreAccesses, AreBytes, IsAccess, after_begin, begin_step, read_access, with_live, write_access, World, Live, floor_of, unattached, IsLive, IsWorld, Doing, HasDone}
 use Rattle.iso_model.specs.declared.core_reply.CoreReply.TheVariants as reply
-use Rattle.iso_model.specs.History.{last}
-use Rattle.iso_model.specs.Premises.{AreAccesses, AreBytes, IsAccess}
-use Rattle.iso_model.specs.Step.{after_begin, begin_step, read_access, with_live, write_access}
-use Rattle.iso_model.specs.World.{World, Live, floor_of, unattached}
-use Rattle.iso_model.specs.Worlds.{IsLive, IsWorld}
-use Rattle.tx_table.specs.Work.{Doing}
-use Rattle.iso_recover.specs.TestCores.{HasDone}
 use Rattle.iso_recover.proofs.TestCores.{began_at, working}
 
 -- the world in which the two began

@@ -1,5 +1,5 @@
 -- The words that the proofs of this crate cite from elsewhere.
-pub use Rattle.std.proofs.Common.{Bool, Err, IfErr, IfOk, IsErrOf, IsTrue, List, None, Ok, Option, Result, Some, [], ap, append_assoc, arith, codes, cond, drop, eq-eqb, false, get_or, inl, inr, length, length-append, length-drop, map, nat_lt, ne_eqb, not, option_map, refl, replicate, subst, suc, sym, take, take-append-drop, true, zero, ℕ, ◌&&◌, ◌*◌, ◌++◌, ◌+◌, ◌-◌, ◌<◌, ◌==◌, ◌^◌, ◌||◌, ◌∙◌, ◌∷◌, ◌≡◌, ◌≤◌, ◌⊎◌}
+pub use Rattle.std.proofs.Common.{Bool, Err, IfErr, IfOk, IsErrOf, IsTrue, List, None, Ok, OnErr, Option, Result, Some, ap, append_assoc, arith, codes, cond, drop, eq-eqb, false, get_or, inl, inr, length, length-append, length-drop, map, nat_le, nat_lt, ne_eqb, not, option_map, refl, replicate, subst, suc, sym, take, take-append-drop, true, zero, ℕ, [], ◌&&◌, ◌*◌, ◌++◌, ◌+◌, ◌-◌, ◌<◌, ◌==◌, ◌^◌, ◌||◌, ◌∙◌, ◌∷◌, ◌≡◌, ◌≢◌, ◌≤◌, ◌⊎◌}
 pub use Rattle.std.proofs.Math.Path.{transport}
 pub use Rattle.std.proofs.lemmas.Bool.{cases_eq, eqb-true, le-ltb, lt-ltb}
 pub use Rattle.std.proofs.lemmas.List.{append-nil, drop-append-le, drop-drop, drop-replicate, drop-take, drop_all, drop_at, drop_more, get_or-drop, get_or-replicate, get_or-take, length-map, length-replicate, length-take, length_push, replicate-append-replicate, take-append-le, take-replicate, take-take, take_at}
@@ -11,9 +11,14 @@ pub use Rattle.std.specs.List.{AllByRecursion, position_from}
 pub use Rattle.std.specs.Option.{ForSome}
 pub use Rattle.commit_gate.specs.Gate.{IsClosed, IsOpen}
 pub use Rattle.fault_count.specs.Count.{Rose}
+pub use Rattle.iso_core.proofs.Standings.{stands_on}
+pub use Rattle.iso_core.specs.Calls.{IsAmong, IsCheckedOf, IsTx, IsWorkOf}
 pub use Rattle.iso_core.specs.Core.{StandsFor}
-pub use Rattle.iso_core.specs.Standing.{up}
+pub use Rattle.iso_core.specs.Kept.{bare}
+pub use Rattle.iso_core.specs.Planned.{AreEach, IsMember}
+pub use Rattle.iso_core.specs.Standing.{Standing, down, up}
 pub use Rattle.iso_core.specs.declared.core_itself.Core.{Core}
+pub use Rattle.iso_core.specs.declared.group_end.GroupEnd.{GroupEnd}
 pub use Rattle.iso_core.specs.declared.opening.Opened.{Opened}
 pub use Rattle.iso_disk.proofs.Bytes.{get_or-torn, torn_whole}
 pub use Rattle.iso_disk.proofs.Images.{length-contents, length-image}
@@ -43,18 +48,25 @@ pub use Rattle.iso_model.proofs.Growth.{all_push}
 pub use Rattle.iso_model.proofs.OneHistory.{image_tells_one}
 pub use Rattle.iso_model.proofs.Opened.{opened_is, told_again}
 pub use Rattle.iso_model.specs.Array.{Array, zeros}
-pub use Rattle.iso_model.specs.Effect.{or_else}
-pub use Rattle.iso_model.specs.Geometry.{base_place, half_size, header_place, image_size, is_valid, log_place}
-pub use Rattle.iso_model.specs.History.{History, all_own}
+pub use Rattle.iso_model.specs.Conflict.{clash_from, first_after}
+unfoldable pub use Rattle.iso_model.specs.Conflict.{clash}
+pub use Rattle.iso_model.specs.Effect.{has_write, or_else}
+pub use Rattle.iso_model.specs.Geometry.{base_place, half_size, header_place, image_size, is_valid, log_place, same_mode}
+pub use Rattle.iso_model.specs.History.{History, all_own, last}
 pub use Rattle.iso_model.specs.Image.{IsImage, IsRecord, Shows, Written, blocks_of, chosen_half, commits_of, current_half, generation_at, is_open_at, kind_of, mode_byte, records, spell, written}
 unfoldable pub use Rattle.iso_model.specs.Image.{half_header, superblock}
-pub use Rattle.iso_model.specs.Premises.{AreBytes}
-pub use Rattle.iso_model.specs.World.{World, empty_history, fresh}
-pub use Rattle.iso_model.specs.Worlds.{IsWorld}
+pub use Rattle.iso_model.specs.Premises.{AreAccesses, AreBytes, IsAccess}
+pub use Rattle.iso_model.specs.Step.{after_begin, read_access, with_live, write_access}
+unfoldable pub use Rattle.iso_model.specs.Step.{begin_step}
+pub use Rattle.iso_model.specs.World.{Live, World, empty_history, floor_of, fresh, unattached}
+pub use Rattle.iso_model.specs.Worlds.{IsLive, IsWorld}
+pub use Rattle.iso_model.specs.declared.access.Access.{Access}
+pub use Rattle.iso_model.specs.declared.access.Clash.{Clash}
 pub use Rattle.iso_model.specs.declared.access.Geometry.{Geometry}
 pub use Rattle.iso_model.specs.declared.access.Mode.{Mode}
 pub use Rattle.iso_model.specs.declared.access.Mode.TheVariants.{Serial, Snapshot}
-pub use Rattle.iso_model.specs.declared.limits.TheConstants.{LAST}
+pub use Rattle.iso_model.specs.declared.core_reply.CoreReply.{CoreReply}
+pub use Rattle.iso_model.specs.declared.limits.TheConstants.{LAST, MAX_ACCESSES, MAX_LIVE}
 pub use Rattle.iso_refusal.proofs.HeaderLaws.{super_form, unrefused_header, valid_form}
 pub use Rattle.iso_refusal.proofs.ImageLaws.{image_opens}
 pub use Rattle.iso_refusal.proofs.ScanLaws.{failed, passed}
@@ -68,10 +80,14 @@ pub use Rattle.version_read.proofs.Following.{index_more}
 pub use Rattle.version_read.proofs.Taking.{may_take, parts_below, parts_few, parts_rise, parts_small}
 pub use Rattle.version_read.specs.Parts.{BlocksRise, HasTaken, MayTake, part_of}
 pub use Rattle.version_read.specs.declared.part_span.PartSpan.{PartSpan}
+pub use Rattle.conflict_rule.specs.Decision.{up_to}
+pub use Rattle.tx_table.specs.Work.{Doing}
+pub use Rattle.iso_memdisk.specs.MemDisk.{state_of}
 pub use Rattle.iso_recover.specs.Cause.{BlamesDisk, IsTest, opening}
 pub use Rattle.iso_recover.specs.Front.{HasFront, IsFront, IsFrontOf, IsSaid, chosen_by, front_said, halves_refusal, header_of, super_refusal}
 pub use Rattle.iso_recover.specs.Made.{HoldsNothing, IsUnmade, IsUnmadeOrEmpty, fronted, new_image, staged, whole_image}
 pub use Rattle.iso_recover.specs.Opened.{HasReopened, IsNew, IsOpened, opened_of}
 pub use Rattle.iso_recover.specs.Scanned.{BeginsLog, HasRead, IsDamagedBy, read_bytes}
 pub use Rattle.iso_recover.specs.Shape.{IsShaped}
+pub use Rattle.iso_recover.specs.TestCores.{HasDone, IsDown, IsUp}
 pub use Rattle.iso_recover.specs.declared.front.Front.{Front}

@@ -1,5 +1,6 @@
 -- A small image and its changes: blocks of 64 bytes, 4 of them, a log of 256 bytes, serial.
-use Rattle.std.specs.Prelude.{ℕ, ◌+◌, List, [], ◌∷◌, ◌++◌, length, take, drop, replicate, codes}
+use Rattle.iso_refusal.proofs.Words.{[], ◌∷◌, ◌++◌, take, replicate, codes}
+use Rattle.std.specs.Prelude.{ℕ, ◌+◌, List, length, drop}
 
 -- as it is made
 unfoldable pub blank : List ℕ

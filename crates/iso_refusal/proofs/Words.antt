@@ -7,7 +7,7 @@ pub use Rattle.std.proofs.lemmas.Nat.{from_be_bytes-to_be_bytes_4}
 pub use Rattle.std.proofs.lemmas.Option.{same_Some}
 pub use Rattle.std.specs.Int.{w32}
 pub use Rattle.std.specs.List.{AllByRecursion}
-pub use Rattle.std.specs.Prelude.{[], map, replicate, slice_index_or, take, ◌++◌, ◌∷◌}
+pub use Rattle.std.specs.Prelude.{codes, map, replicate, slice_index_or, take, [], ◌++◌, ◌∷◌}
 pub use Rattle.iso_format.proofs.HalfLaws.{all_clean, half_again, half_spelled}
 pub use Rattle.iso_format.proofs.PartLaws.{neither, unless}
 pub use Rattle.iso_format.proofs.Parts.{body_bound, length-spell}

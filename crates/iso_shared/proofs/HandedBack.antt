@@ -1,9 +1,7 @@
 -- What a group leaves of its members: notes, or the same transactions again.
-use Rattle.iso_shared.proofs.Words.{◌≡◌, ℕ, ◌+◌, ◌<◌, ◌≤◌, List, [], ◌∷◌, ◌++◌, length, map, refl, sym, ap, ◌∙◌, subst, suc, arith, AllByRecursion, false, View, times, times_append, length-map, prefix_more, prefix_trans, Doing, Entry, GroupEnd, Member, MemberEnd, Shared, Tx, ArePaired, IsBack, IsJoined, IsNote, IsNoteOf, IsPartOf, IsSameTx, IsTaken, Made, MadeAll, answered, bare_end, end_of, ends_at, held_in, made_in, members_at, members_in, numbers_in, replies_of, Checked, IsAhead, IsLegal, IsOwn, Start, AreDistinct, AreHeld, hit_same, state_at, units_of, unwrap_or}
-use mathlib.Core.List.{IsPrefix}
+use Rattle.iso_shared.proofs.Words.{◌≡◌, ℕ, ◌+◌, ◌<◌, ◌≤◌, List, [], ◌∷◌, ◌++◌, length, map, refl, sym, ap, ◌∙◌, subst, suc, arith, AllByRecursion, false, View, times, times_append, length-map, prefix_more, prefix_trans, Doing, Entry, GroupEnd, Member, MemberEnd, Shared, Tx, ArePaired, IsBack, IsJoined, IsNote, IsNoteOf, IsPartOf, IsSameTx, IsTaken, Made, MadeAll, answered, bare_end, end_of, ends_at, held_in, made_in, members_at, members_in, numbers_in, replies_of, Checked, IsAhead, IsLegal, IsOwn, Start, AreDistinct, AreHeld, hit_same, state_at, units_of, unwrap_or, IsPrefix, total, tx_view}
 use Rattle.iso_model.specs.declared.access.GroupReply.TheVariants as member
-use Rattle.turn_lock.specs.Lists.{total}
-use Rattle.iso_shared.specs.Ports.{IsTx, tx_view}
+use Rattle.iso_shared.specs.Ports.{IsTx}
 use Rattle.iso_shared.proofs.Joined.{note_on}
 use Rattle.iso_shared.proofs.Mades.{ahead_on, own_on}
 use Rattle.iso_shared.proofs.Ends.{ahead_same, on_same, own_same}

@@ -1,6 +1,5 @@
 -- Numbers of members that a port holds, of which no pass holds one twice.
-use Rattle.iso_shared.proofs.Words.{◌≡◌, ℕ, ◌<◌, ◌≤◌, ◌==◌, Bool, true, false, cond, nat_tests, List, [], ◌∷◌, map, refl, subst, arith, AllByRecursion, AreDistinct, AreHeld, hit, hit_same, times}
-use Rattle.turn_lock.specs.Lists.{total}
+use Rattle.iso_shared.proofs.Words.{◌≡◌, ℕ, ◌<◌, ◌≤◌, ◌==◌, Bool, true, false, cond, nat_tests, List, [], ◌∷◌, map, refl, subst, arith, AllByRecursion, AreDistinct, AreHeld, hit, hit_same, times, total}
 
 pub distinct_by : (ns : List ℕ) → ((n : ℕ) → times n ns ≤ 1) → AreDistinct ns
 distinct_by [] alone = tt

@@ -1,9 +1,6 @@
 -- Members whose passes were joined into a port.
-use Rattle.iso_shared.proofs.Words.{◌≡◌, ℕ, ◌+◌, ◌<◌, ◌≤◌, ◌==◌, ◌||◌, Bool, true, false, cond, hit, is_among, nat_tests, List, [], ◌∷◌, ◌++◌, length, Some, refl, ap, ◌∙◌, arith, AreHeld, View, times, times_append, prefix_trans, Entry, Shared, Tx, IsJoined, IsNote, IsNoteOf, held_in, Start}
-use mathlib.Core.List.{IsPrefix}
+use Rattle.iso_shared.proofs.Words.{◌≡◌, ℕ, ◌+◌, ◌<◌, ◌≤◌, ◌==◌, ◌||◌, Bool, true, false, cond, hit, is_among, nat_tests, List, [], ◌∷◌, ◌++◌, length, Some, refl, ap, ◌∙◌, arith, AreHeld, View, times, times_append, prefix_trans, Entry, Shared, Tx, IsJoined, IsNote, IsNoteOf, held_in, Start, IsPrefix, times_without, both, kept_part}
 use Rattle.turn_lock.specs.Numbers.{without}
-use Rattle.turn_lock.proofs.Outs.{times_without}
-use Rattle.turn_lock.specs.Views.{both, kept_part}
 use Rattle.iso_shared.proofs.Mades.{ahead_on, own_on}
 
 -- a pass that holds what both held

@@ -1,14 +1,5 @@
 -- A list over the image of the tests may begin where a core stands for it.
-use Rattle.std.proofs.Common.{◌≡◌, Some, Result, Ok, Err, IfOk, refl, sym, subst}
-use Rattle.std.proofs.lemmas.Option.{same_Some}
-use Rattle.std.specs.Result.{result_ok}
-use Rattle.iso_core.specs.declared.core_itself.Core.{Core}
-use Rattle.iso_core.specs.Core.{StandsFor, disk_of}
-use Rattle.iso_core.specs.Standing.{up}
-use Rattle.iso_disk.specs.Disk.{DiskState, IsLawful}
-use Rattle.iso_model.specs.World.{empty_history, fresh}
-use Rattle.iso_shared.specs.Standing.{start_at}
-use Rattle.iso_shared.specs.TestImage.{MayStart, small}
+use Rattle.iso_shared.proofs.Words.{◌≡◌, Some, Result, Ok, Err, IfOk, refl, sym, subst, same_Some, result_ok, Core, StandsFor, disk_of, up, DiskState, IsLawful, empty_history, fresh, start_at, MayStart, small}
 use Rattle.iso_shared.proofs.Standings.{came_first, holds_first}
 
 -- what holds of an answer, once it was taken out of its result

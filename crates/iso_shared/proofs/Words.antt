@@ -1,15 +1,17 @@
 -- The words that the proofs of this crate cite from elsewhere.
-pub use Rattle.std.proofs.Common.{Bool, Err, IfErr, IfOk, append-nil, IsSome, IsTrue, List, None, Ok, OnErr, OnOk, Option, Result, Some, [], ap, arith, cond, eq-eqb, map, false, inl, inr, length, length-append, nat_le, nat_lt, not, refl, replicate, rules, subst, suc, sym, take, true, zero, ℕ, ⊎_elim, ◌&&◌, ◌++◌, ◌+◌, ◌-◌, ◌<◌, ◌==◌, ◌||◌, ◌∙◌, ◌∷◌, ◌≡◌, ◌≢◌, ◌≤◌, ◌⊎◌}
+pub use Rattle.std.proofs.Common.{Bool, Err, IfErr, IfOk, IsSome, IsTrue, List, None, Ok, OnErr, OnOk, Option, Result, Some, ap, append-nil, arith, cond, eq-eqb, false, inl, inr, length, length-append, map, nat_le, nat_lt, not, refl, replicate, rules, subst, suc, sym, take, true, zero, ℕ, [], ⊎_elim, ◌&&◌, ◌++◌, ◌+◌, ◌-◌, ◌<◌, ◌==◌, ◌||◌, ◌∙◌, ◌∷◌, ◌≡◌, ◌≢◌, ◌≤◌, ◌⊎◌}
 pub use Rattle.std.proofs.Math.Seq.{take-length}
 pub use Rattle.std.proofs.lemmas.Bool.{and_parts}
 pub use Rattle.std.proofs.lemmas.Bool.Decides.{nat_tests}
 pub use Rattle.std.proofs.lemmas.List.{append_assoc, append_cancel_left, length-map, length-replicate, map-append, take-append-le}
 pub use Rattle.std.proofs.lemmas.Map.Made.{lookup-map_values}
+pub use Rattle.std.proofs.lemmas.Option.{same_Some}
 pub use Rattle.std.proofs.lemmas.Slice.Eq.{bytes_eq-Decides}
 pub use Rattle.std.specs.List.{AllByRecursion}
 pub use Rattle.std.specs.Map.{lookup, remove_entry}
 pub use Rattle.std.specs.Option.{ForSome}
 pub use Rattle.std.specs.Prelude.{IsErr, IsErrOf, bytes_eq, drop, is_some, option_map, option_to_list, slice_get, unwrap_or}
+pub use Rattle.std.specs.Result.{result_ok}
 pub use Rattle.byte_marks.specs.Touched.{AreTouched}
 pub use Rattle.conflict_rule.proofs.Following.{dropped_after}
 pub use Rattle.conflict_rule.specs.Decision.{AreNotesAfter, up_to}
@@ -60,25 +62,29 @@ pub use Rattle.iso_model.specs.declared.access.Kind.TheVariants.{Read, Write}
 pub use Rattle.iso_model.specs.declared.access.Mode.{Mode}
 pub use Rattle.iso_model.specs.declared.access.Mode.TheVariants.{Serial, Snapshot}
 pub use Rattle.iso_model.specs.declared.core_error.CoreError.{CoreError}
+pub use Rattle.iso_model.specs.declared.core_error.CoreError.TheVariants.{Disk as OfDisk}
 pub use Rattle.iso_model.specs.declared.core_reply.CoreReply.{CoreReply}
 pub use Rattle.iso_model.specs.declared.core_reply.CoreReply.TheVariants.{Done}
 pub use Rattle.iso_model.specs.declared.limits.TheConstants.{LAST, MAX_ACCESSES, MAX_LIVE}
-pub use Rattle.turn_lock.proofs.Outs.{held_first}
+pub use Rattle.turn_lock.proofs.Outs.{held_first, times_without}
 pub use Rattle.turn_lock.proofs.Prefixes.{prefix_more, prefix_self, prefix_trans, prefix_whole}
 pub use Rattle.turn_lock.proofs.Rising.{times_append}
 pub use Rattle.turn_lock.proofs.Totals.{hit_same}
-pub use Rattle.turn_lock.specs.Lists.{AreDistinct, count_up, hit, longer, places, times}
+pub use Rattle.turn_lock.specs.Lists.{AreDistinct, count_up, hit, longer, places, times, total}
 pub use Rattle.turn_lock.specs.Numbers.{AreFree, AreHeld, IsOut, held_after, is_among, is_out, out_from, out_next}
+pub use Rattle.turn_lock.specs.Views.{both, kept_part}
 pub use Rattle.turn_lock.specs.declared.view.View.{View}
 pub use Rattle.tx_table.specs.Work.{AreWithin, Doing}
 pub use Rattle.tx_table.specs.declared.rack.PostError.{PostError}
+pub use mathlib.Core.List.{IsPrefix}
 pub use Rattle.iso_shared.specs.Groups.{ArePaired, IsBack, IsEnd, IsJoined, IsNote, IsNoteOf, IsPartOf, IsTaken, IsWithin, answered, end_of, held_in, made_in, numbers_handed, numbers_in, units_of}
 pub use Rattle.iso_shared.specs.Legal.{Answers, AreLoose, Fits, IsCall, IsGroup, IsLegal, IsOfCore, LegalFrom, MayHaveMade, MayRefuse, MayWantMemory, answer_to, end_answer, ended, ended_by, handed, needed, numbers_at, reply_of, returned, switch_answer, tx_in}
 pub use Rattle.iso_shared.specs.Plain.{CommitsUpTo, IsMemberUpTo, IsReplyUpTo, WasPosted, is_number, takes_out}
-pub use Rattle.iso_shared.specs.Ports.{IsAhead, IsIsolatedAt, IsOwn, IsRecent, IsSameTx, IsTxOf, Made, MadeAll, MadeBoth, TookFew, most_steps}
+pub use Rattle.iso_shared.specs.Ports.{IsAhead, IsIsolatedAt, IsOwn, IsRecent, IsSameTx, IsTxOf, Made, MadeAll, MadeBoth, TookFew, most_steps, tx_view}
 pub use Rattle.iso_shared.specs.Standing.{Came, Holds, IsOn, ShowsSince, StandsAt, faults_of, posting_in, postings, standing_of, start_at, whole, with_lost}
 pub use Rattle.iso_shared.specs.States.{Start, State, after, after_all, after_end, after_fault, after_group, after_refusal, after_sweep, commits_made, group_answers, is_live, is_loose, live_of, lost_commit, lost_commits, member_numbers, member_of, members_of, opened, posting_of, racked, replies_of, state_at, tx_of, txs_of, with_world}
-pub use Rattle.iso_shared.specs.Told.{begin_entry, cause_of, compact_entry, end_entry, ends_at, entry_of, fetch_entry, group_entry, members_at, members_in, numbers_of, wanting_entry, post_entry, recent_entry, told_entry, trim_entry, upgrade_entry}
+pub use Rattle.iso_shared.specs.TestImage.{MayStart, small}
+pub use Rattle.iso_shared.specs.Told.{begin_entry, cause_of, compact_entry, end_entry, ends_at, entry_of, fetch_entry, group_entry, members_at, members_in, numbers_of, post_entry, recent_entry, told_entry, trim_entry, upgrade_entry, wanting_entry}
 pub use Rattle.iso_shared.specs.declared.entry.Call.{Call}
 pub use Rattle.iso_shared.specs.declared.entry.Cause.{Cause}
 pub use Rattle.iso_shared.specs.declared.entry.Entry.{Entry}

@@ -1,10 +1,7 @@
 -- What scripts begin with on images that were opened: computed from the bytes.
-use Rattle.std.specs.Prelude.{◌≡◌, [], ◌∷◌, ◌++◌, ℕ, List, Option, Some, replicate, option_map, codes, refl}
-use Rattle.iso_model.specs.World.{fresh}
-use Rattle.iso_refusal.proofs.Words.{Opened, opened, refusal, super_of, half_of, fault_of, parts_fault, put}
-use Rattle.iso_refusal.proofs.SmallImages.{blank, one_commit, with_piece}
-use Rattle.script_model.proofs.Small.{answers, text}
-use Rattle.script_model.proofs.Words.{operation_of, other_operation, step, begin_step, words_of, number_of, reply_text, digits, numbers, versions, get_step, runs}
+use Rattle.iso_top.proofs.Words.{replicate, option_map, codes, fresh, super_of, half_of, fault_of, parts_fault, put, blank, one_commit, with_piece, answers, text, operation_of, other_operation, step, begin_step, words_of, number_of, reply_text, digits, numbers, versions, get_step, runs}
+use Rattle.std.specs.Prelude.{◌≡◌, [], ◌∷◌, ◌++◌, ℕ, List, Option, Some, refl}
+use Rattle.iso_refusal.proofs.Words.{Opened, opened, refusal}
 
 -- a half with commit 5 as its base and commit 6 behind it, which writes 01 at byte 6 of block 2
 abbrev later_half : List ℕ

@@ -1,10 +1,10 @@
 -- A client that the disk stopped: its own entries tell of a fault, or that the device is down.
-use Rattle.iso_top.proofs.Words.{◌≡◌, ◌≢◌, ◌⊎◌, inl, inr, ◌==◌, ℕ, ◌-◌, Bool, true, false, cond, ◌||◌, List, [], ◌∷◌, ◌++◌, Option, Some, None, Err, refl, sym, subst, AllByRecursion, list_any, Geometry, Mode, Line, Op, Reply, Call, Cause, Entry, stopped, wants, entries_of, lines_run, Part, Stop}
+use Rattle.iso_top.proofs.Words.{◌≡◌, ◌≢◌, ◌⊎◌, inl, inr, ◌==◌, ℕ, ◌-◌, Bool, true, false, cond, ◌||◌, List, [], ◌∷◌, ◌++◌, Option, Some, None, Err, refl, sym, subst, AllByRecursion, list_any, Geometry, Mode, Line, Op, Reply, Call, Cause, Entry, stopped, wants, entries_of, lines_run, Part, Stop, Aborts, Begins, CallsStore, ClientLines, Compacts, Did, Does, EndsThen, Fetches, GroupEnds, Groups, Looks, LooksFor, Own, Posts, Reads, Says, Stats, StopsAtLast, StopsBy, Trims, Upgrades, Where, WhereShown, all_fetches, refused, refused_fetch}
 use Rattle.script_model.specs.declared.script.Op.TheVariants as op
 use Rattle.script_model.specs.declared.script.Reply.TheVariants as reply
 use Rattle.iso_shared.specs.declared.entry.Cause.TheVariants as cause
 use Rattle.iso_shared.specs.declared.entry.Entry.TheVariants as entry
-use Rattle.par_script.specs.Lines.{Aborts, Begins, CallsStore, ClientLines, Compacts, Did, Does, Ends, EndsThen, Fetches, GroupEnds, Groups, Looks, LooksFor, Own, Posts, Reads, Says, Stats, StopsAtLast, StopsBy, Trims, Upgrades, Where, WhereShown, fetches as all_fetches, refused, refused_fetch}
+use Rattle.par_script.specs.Lines.{Ends}
 use Rattle.script_model.specs.declared.stop.Stop.TheVariants as stop
 
 -- the entry tells of a fault, or that the device is down

@@ -1,24 +1,9 @@
 -- A tree region depends on the blocks of its area alone.
-use Rattle.std.proofs.Common.{◌≡◌, ◌≢◌, ◌⊎◌, ◌∙◌, sym, ap, subst, ℕ, ◌+◌, ◌==◌, Bool, true, cond, List, [], length, None, arith, inl, inr, eq-eqb}
-use Rattle.std.specs.List.{list_all}
-use Rattle.std.specs.FinMap.{from_entries}
-use Rattle.std.proofs.lemmas.Bool.{cases_eq}
-use Rattle.store_model.specs.declared.stores.Area.{Area}
-use Rattle.iso_model.specs.Array.{Array}
-use Rattle.store_model.specs.Cells.{is_zero, word_at}
-use Rattle.store_model.specs.FreeMap.{map_bit}
-use Rattle.store_model.specs.HashRegion.{IsIn}
-use Rattle.iso_model.specs.Premises.{block_at}
-use Rattle.store_model.specs.Stores.{bytes_in}
-use Rattle.store_model.specs.TreeNodes.{head_mark, is_head, used_cells}
-use Rattle.store_model.specs.Trees.{IsApart, IsOrdered, nodes_in, pairs_in, tree_at}
-use Rattle.store_model.specs.TreeRegion.{AreNodes, IsTreeArea, IsTreeRegion, cells_in, level_of, root_of, tree_map, tree_nodes, tree_pairs}
+use Rattle.iso_tree.proofs.Words.{◌≡◌, ◌≢◌, ◌⊎◌, ◌∙◌, sym, ap, subst, ℕ, ◌+◌, ◌==◌, Bool, true, cond, List, [], length, None, arith, inl, inr, eq-eqb, list_all, from_entries, cases_eq, Area, Array, is_zero, word_at, map_bit, IsIn, block_at, bytes_in, head_mark, is_head, used_cells, IsApart, IsOrdered, nodes_in, pairs_in, tree_at, AreNodes, IsTreeArea, IsTreeRegion, cells_in, level_of, root_of, tree_map, tree_nodes, tree_pairs, in_area, same_block, same_first}
 use Rattle.iso_tree.proofs.Again.{nodes_inside}
 use Rattle.iso_tree.proofs.Blocks.{tree_same}
 use Rattle.iso_tree.proofs.Facts.{head_parts}
 use Rattle.iso_tree.proofs.Stored.{nodes_same}
-use Rattle.store_model.specs.Areas.{in_area}
-use Rattle.store_model.proofs.AreaBlocks.{same_block, same_first}
 
 -- a choice by a number that is 0, where the other case is the same
 same_choice : {X : Type 0} (n : ℕ) (z x y : X) → (n ≢ 0 → x ≡ y) → cond (n == 0) z x ≡ cond (n == 0) z y

@@ -1,26 +1,8 @@
 -- The calls of the tree store write blocks of its area alone.
-use Rattle.std.proofs.Common.{ℕ, zero, suc, ◌-◌, ◌<◌, ◌==◌, ◌&&◌, Bool, true, false, cond, nat_le, List, [], ◌∷◌, length, map, take, Option, Some, None, Result, Ok, refl, inl, inr, arith}
-use Rattle.std.specs.Prelude.{nat_lt}
-use Rattle.std.specs.List.{AllByRecursion}
-use Rattle.std.proofs.lemmas.Bool.{and_parts}
-use Rattle.std.proofs.lemmas.Bool.Decides.{nat_tests}
-use Rattle.store_model.specs.declared.stores.Area.{Area}
-use Rattle.store_model.specs.declared.stores.StoreError.{StoreError}
-use Rattle.store_model.specs.Cells.{cell_count, value_part}
-use Rattle.store_model.specs.FreeMap.{free_count}
-use Rattle.store_model.specs.HashCalls.{is_key, is_value}
-use Rattle.store_model.specs.HashRegion.{IsIn}
-use Rattle.store_model.specs.Stores.{Done, Program, then_do}
-use Rattle.store_model.specs.TreeCalls.{AtBroken, AtLeaf, Climb, Descent, climb, climb_on, del_at, del_below, del_program, descend, first_write, free_list, full_row, look_again, placed, put_at, put_below_root, put_new, put_program, put_writes, store_nodes, with_head, with_map}
-use Rattle.store_model.specs.TreeNodes.{Cell, cell_of, child_of, child_part, count_of, is_child, is_head, is_node, used_cells}
-use Rattle.store_model.specs.TreeRegion.{IsTreeArea}
-use Rattle.store_model.specs.Trees.{Put, fit, halves}
+use Rattle.iso_tree.proofs.Words.{ℕ, zero, suc, ◌-◌, ◌<◌, ◌==◌, ◌&&◌, Bool, true, false, cond, nat_le, List, [], ◌∷◌, length, map, take, Option, Some, None, Result, Ok, refl, inl, inr, arith, nat_lt, AllByRecursion, and_parts, nat_tests, Area, StoreError, cell_count, value_part, free_count, is_key, is_value, IsIn, Done, Program, then_do, AtBroken, AtLeaf, Climb, Descent, climb, climb_on, del_at, del_below, del_program, descend, first_write, free_list, full_row, look_again, placed, put_at, put_below_root, put_new, put_program, put_writes, store_nodes, with_head, with_map, Cell, cell_of, child_of, child_part, count_of, is_child, is_head, is_node, used_cells, IsTreeArea, Put, fit, halves, in_area, in_its_area, start_in, Answers, StoresIn, answers_cond, stores_cell, stores_cond, stores_if, stores_then}
 use Rattle.iso_tree.proofs.Facts.{child_below, head_parts}
 use Rattle.iso_tree.proofs.Ranges.{all_append}
 use Rattle.iso_tree.proofs.Taking.{taken_are}
-use Rattle.store_model.specs.Areas.{in_area}
-use Rattle.store_model.proofs.AreaBlocks.{in_its_area, start_in}
-use Rattle.tx_blocks.proofs.Storing.{Answers, StoresIn, answers_cond, stores_cell, stores_cond, stores_if, stores_then}
 
 -- blocks of the area: of a path, of nodes, and of writes
 abbrev PathIn : Area → List (ℕ × ℕ) → Type 0

@@ -1,5 +1,5 @@
 -- The words that the proofs of this crate cite from elsewhere.
-pub use Rattle.std.proofs.Common.{Bool, Err, IfErr, IfOk, IsTrue, List, None, Ok, OnOk, Option, Result, Some, [], ap, arith, cond, drop, eq-eqb, false, get_or, inl, inr, is_some, length, map, nat_le, ne_eqb, not, option_map, refl, replicate, rules, set, slice_index, subst, suc, sym, take, true, zero, zero-add, ℕ, ◌%◌, ◌&&◌, ◌*◌, ◌++◌, ◌+◌, ◌-◌, ◌/◌, ◌<◌, ◌==◌, ◌^◌, ◌||◌, ◌↔◌, ◌∙◌, ◌∷◌, ◌≡◌, ◌≢◌, ◌≤◌, ◌⊎◌}
+pub use Rattle.std.proofs.Common.{Bool, Err, IfErr, IfOk, IsTrue, List, None, Ok, OnOk, Option, Result, Some, ap, arith, cond, drop, eq-eqb, false, get_or, inl, inr, is_some, length, map, nat_le, ne_eqb, not, option_map, refl, replicate, rules, set, slice_index, subst, suc, sym, take, true, zero, zero-add, ℕ, [], ◌%◌, ◌&&◌, ◌*◌, ◌++◌, ◌+◌, ◌-◌, ◌/◌, ◌<◌, ◌==◌, ◌^◌, ◌||◌, ◌↔◌, ◌∙◌, ◌∷◌, ◌≡◌, ◌≢◌, ◌≤◌, ◌⊎◌}
 pub use Rattle.std.proofs.Math.Dec.{T}
 pub use Rattle.std.proofs.lemmas.Bool.{and_from, and_parts, both_ways, cases_Bool, cases_eq, cases_lt, false_from_ne_true, leb-true, ltb-true, or_left, or_right}
 pub use Rattle.std.proofs.lemmas.Bool.Decides.{nat_tests}
@@ -31,7 +31,9 @@ pub use Rattle.iso_model.specs.Marks.{marked}
 pub use Rattle.iso_model.specs.Premises.{IsSpan, block_at}
 pub use Rattle.iso_model.specs.declared.access.Access.{Access}
 pub use Rattle.iso_model.specs.declared.access.Span.{Span}
+pub use Rattle.store_model.proofs.AreaBlocks.{in_its_area, same_block, same_first, start_in}
 pub use Rattle.store_model.proofs.Laying.{length-laid_at}
+pub use Rattle.store_model.specs.Areas.{in_area}
 pub use Rattle.store_model.specs.Cells.{all_from, are_key_parts, block_with, cell_count, is_part, is_unused, is_zero, key_at, key_mark, key_part, keys_end, keys_mark, laid_at, part_of, text_of, value_mark, value_part, word_at}
 pub use Rattle.store_model.specs.FreeMap.{bit_place, free_count, lowest_free, map_bit, map_bytes, map_mark, set_bit, with_bit}
 pub use Rattle.store_model.specs.HashCalls.{at_cell, is_key, is_value}
@@ -54,6 +56,7 @@ pub use Rattle.tx_blocks.proofs.Parts.{began_from, behaves_after, cut_from, done
 pub use Rattle.tx_blocks.proofs.Programs.{AreWhole, IsCorrect, accesses_then, answer_then, local_from, own_reads, reads_append, reads_then, same_bytes, whole_reads}
 pub use Rattle.tx_blocks.proofs.Progress.{IsAt, at_join, at_look, at_look_whole, at_reserve, at_start, at_store, at_then, began_at, full_at_reserve, own_append, ran_at, stopped_at, whole_run}
 pub use Rattle.tx_blocks.proofs.Refusals.{behaves_more, cause_since, cut_at_look, cut_at_store, cut_then, later_same, later_than, read_base, read_more, read_none, read_same}
+pub use Rattle.tx_blocks.proofs.Storing.{Answers, StoresIn, answers_cond, stores_cell, stores_cond, stores_if, stores_then}
 pub use Rattle.tx_blocks.specs.Runs.{AreBytesOf, Behaves, HasEnded, HasRead, HasRun, IsCause, IsCut, IsLocalCall, Passed, Ran, Stopped, WantsMemory, area_of}
 pub use Rattle.tx_blocks.specs.Tx.{Device, IsLater, IsTx, Tx, mark_refusal, room_of, with_accesses}
 pub use Rattle.iso_tree.specs.FirstBlock.{Up, ends, first_access, first_bytes, first_spans}

@@ -1,6 +1,5 @@
 -- Slices of lists that are written over, and places of lists that are set.
-use Rattle.kept_disk.proofs.Words.{◌≡◌, ◌<◌, ◌≤◌, ◌+◌, ◌-◌, ℕ, zero, suc, min, List, [], ◌∷◌, ◌++◌, Option, Some, None, inl, length, take, drop, set, refl, sym, ◌∙◌, ap, arith, length-drop, take-take, drop-drop, drop-take, length-take, length-take-le, take_at, drop_all, drop-append-le, take-append-le, take-add, take-length, put_mid-paste, option_map, same_Some, slice_get, Torn, spliced, drop-torn, length-spliced, slice-torn, spliced_torn, take-spliced, take-drop-spliced, spliced_behind, torn_whole}
-use borrow.Rule.Slice.PartMut.{put_mid}
+use Rattle.kept_disk.proofs.Words.{◌≡◌, ◌<◌, ◌≤◌, ◌+◌, ◌-◌, ℕ, zero, suc, min, List, [], ◌∷◌, ◌++◌, Option, Some, None, inl, length, take, drop, set, refl, sym, ◌∙◌, ap, arith, length-drop, take-take, drop-drop, drop-take, length-take, length-take-le, take_at, drop_all, drop-append-le, take-append-le, take-add, take-length, put_mid-paste, option_map, same_Some, slice_get, Torn, spliced, drop-torn, length-spliced, slice-torn, spliced_torn, take-spliced, take-drop-spliced, spliced_behind, torn_whole, put_mid}
 
 -- the length of a slice
 pub length-slice : (k b : ℕ) (l : List ℕ) → length (take k (drop b l)) ≡ min k (length l - b)

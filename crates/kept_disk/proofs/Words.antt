@@ -1,5 +1,5 @@
 -- The words that the proofs of this crate cite from elsewhere.
-pub use Rattle.std.proofs.Common.{Bool, List, None, Option, Some, [], ap, arith, cond, drop, get_or, inl, inr, length, length-drop, min, refl, set, subst, suc, sym, take, zero, ℕ, ⊎_elim, ◌%◌, ◌*◌, ◌++◌, ◌+◌, ◌-◌, ◌/◌, ◌<◌, ◌==◌, ◌∙◌, ◌∷◌, ◌≡◌, ◌≤◌, ◌⊎◌}
+pub use Rattle.std.proofs.Common.{Bool, List, None, Option, Some, ap, arith, cond, drop, get_or, inl, inr, length, length-drop, min, refl, set, subst, suc, sym, take, zero, ℕ, [], ⊎_elim, ◌%◌, ◌*◌, ◌++◌, ◌+◌, ◌-◌, ◌/◌, ◌<◌, ◌==◌, ◌∙◌, ◌∷◌, ◌≡◌, ◌≤◌, ◌⊎◌}
 pub use Rattle.std.proofs.Math.Nat.{mod-add-div, mod-lt}
 pub use Rattle.std.proofs.Math.Seq.{take-add, take-length}
 pub use Rattle.std.proofs.lemmas.Bool.{cases_eq, cases_lt, ne_eqb}
@@ -13,5 +13,6 @@ pub use Rattle.std.specs.Option.{ForSome, option_map}
 pub use Rattle.iso_disk.proofs.Bytes.{drop-torn, length-spliced, slice-torn, spliced_behind, spliced_torn, take-drop-spliced, take-spliced, torn_whole}
 pub use Rattle.iso_disk.proofs.Images.{length-contents}
 pub use Rattle.iso_disk.specs.Disk.{DiskState, Elapses, Torn, spliced}
+pub use borrow.Rule.Slice.PartMut.{put_mid}
 pub use Rattle.kept_disk.specs.Pages.{AreLaid, Covers, HasPage, HoldsNone, HoldsRange, IsHeld, Stand, from_of, page_of}
 pub use Rattle.kept_disk.specs.declared.pages.Pages.{Pages}

@@ -1,14 +1,5 @@
 -- Which lanes a mask of bits chooses, and what they lay over a block.
-use Rattle.std.proofs.Common.{◌≡◌, ◌∙◌, sym, refl, ap, ℕ, zero, suc, ◌+◌, ◌*◌, ◌/◌, ◌%◌, ◌^◌, ◌<◌, ◌≤◌, Bool, false, cond, List, ◌++◌, length, get_or, map, subst, arith, eqb, bit_and, w64}
-use lib.Lanes.{zip2, sel_l, chunk, put_chunk}
-use Rattle.std.specs.Int.{bit_at, to_le_bytes}
-use Rattle.std.specs.List.{range_with_len}
-use Rattle.std.proofs.Math.Nat.{div-one}
-use Rattle.std.proofs.lemmas.Nat.{pow_pos, shr-shr, div-add-mod'}
-use Rattle.std.proofs.lemmas.Nat.Bits.{and_pow, bit_at-lt, bit_at_cat_low}
-use Rattle.std.proofs.lemmas.Grind.{common_steps}
-use Rattle.std.proofs.lemmas.List.FromFn.{get_or-map-range_with_len}
-use Rattle.std.proofs.lemmas.Simd.{length-zip2, get_or-zip2, length-sel_l, get_or-sel_l, length-chunk, get_or-chunk, get_or-put_chunk_at}
+use Rattle.merge_write.proofs.Words.{◌≡◌, ◌∙◌, sym, refl, ap, ℕ, zero, suc, ◌+◌, ◌*◌, ◌/◌, ◌%◌, ◌^◌, ◌<◌, ◌≤◌, Bool, false, cond, List, ◌++◌, length, get_or, map, subst, arith, eqb, bit_and, w64, zip2, sel_l, chunk, put_chunk, bit_at, to_le_bytes, range_with_len, div-one, pow_pos, shr-shr, div-add-mod', and_pow, bit_at-lt, bit_at_cat_low, common_steps, get_or-map-range_with_len, length-zip2, get_or-zip2, length-sel_l, get_or-sel_l, length-chunk, get_or-chunk, get_or-put_chunk_at}
 
 -- the bit of each lane
 abbrev pub lane_bits : List ℕ

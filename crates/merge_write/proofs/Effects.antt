@@ -1,13 +1,5 @@
 -- Setting the writes of a block in order gives what they write there, and its runs.
-use Rattle.std.proofs.Common.{◌≡◌, ◌∙◌, sym, refl, ap, ℕ, zero, suc, ◌+◌, ◌<◌, Bool, true, false, ◌==◌, cond, List, [], ◌∷◌, ◌++◌, length, get_or, drop, map, replicate, Option, Some, None, arith}
-use Rattle.std.proofs.lemmas.List.{drop_more}
-use Rattle.iso_model.specs.declared.access.Access.{Access}
-use Rattle.iso_model.specs.declared.access.Kind.TheVariants.{Write}
-use Rattle.iso_model.specs.declared.access.Run.{Run}
-use Rattle.iso_model.specs.declared.access.Span.{Span}
-use Rattle.iso_model.specs.Array.{covered}
-use Rattle.iso_model.specs.Effect.{same_kind, covers, or_else, effect_at, effects_from, joined, runs_from}
-use Rattle.merge_write.specs.Patch.{written, piece}
+use Rattle.merge_write.proofs.Words.{◌≡◌, ◌∙◌, sym, refl, ap, ℕ, zero, suc, ◌+◌, ◌<◌, Bool, true, false, ◌==◌, cond, List, [], ◌∷◌, ◌++◌, length, get_or, drop, map, replicate, Option, Some, None, arith, drop_more, Access, Write, Run, Span, covered, same_kind, covers, or_else, effect_at, effects_from, joined, runs_from, written, piece}
 
 or_none : (v : Option ℕ) → or_else v None ≡ v
 or_none None = refl

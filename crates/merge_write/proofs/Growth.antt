@@ -1,16 +1,5 @@
 -- What one access more, or a list more, makes of the effect; and pieces as runs.
-use Rattle.std.proofs.Common.{◌≡◌, ◌≢◌, ◌∙◌, sym, refl, ap, ℕ, zero, suc, ◌+◌, ◌<◌, Bool, true, false, ◌==◌, cond, List, [], ◌∷◌, ◌++◌, length, get_or, map, Option, Some, None, unwrap_or, arith, IsTrue, ne_eqb}
-use Rattle.std.specs.List.{AllByRecursion}
-use Rattle.iso_model.specs.declared.access.Access.{Access}
-use Rattle.iso_model.specs.declared.access.Kind.TheVariants.{Write}
-use Rattle.iso_model.specs.declared.access.Run.{Run}
-use Rattle.iso_model.specs.Array.{Array}
-use Rattle.iso_model.specs.Effect.{is_write, covers, or_else, effect_at, effects_from, joined, runs_from, own}
-use Rattle.iso_model.specs.Premises.{block_at, HasBytes}
-use Rattle.iso_model.proofs.Bytes.{own_at, length-block_own}
-use Rattle.iso_model.proofs.Lookups.{length-effects, effects_at, or_else_none, or_else_assoc}
-use Rattle.merge_write.specs.Patch.{laid, followed, piece, run_of}
-use Rattle.merge_write.proofs.Words.{laid_is}
+use Rattle.merge_write.proofs.Words.{laid_is, ◌≡◌, ◌≢◌, ◌∙◌, sym, refl, ap, ℕ, zero, suc, ◌+◌, ◌<◌, Bool, true, false, ◌==◌, cond, List, [], ◌∷◌, ◌++◌, length, get_or, map, Option, Some, None, unwrap_or, arith, IsTrue, ne_eqb, AllByRecursion, Access, Write, Run, Array, is_write, covers, or_else, effect_at, effects_from, joined, runs_from, own, block_at, HasBytes, own_at, length-block_own, length-effects, effects_at, or_else_none, or_else_assoc, laid, followed, piece, run_of}
 
 -- an access that is no write of the block
 misses : (b p : ℕ) (a : Access) (t : Bool) → is_write a ≡ t → (IsTrue t → a.block ≢ b) → covers Write b p a ≡ false

@@ -1,10 +1,5 @@
 -- What the runs of bytes and masks begin with.
-use Rattle.std.proofs.Common.{◌≡◌, ◌∙◌, refl, ap, ℕ, zero, suc, ◌+◌, ◌-◌, ◌<◌, ◌≤◌, true, false, ◌==◌, cond, List, [], ◌∷◌, length, take, drop, Option, Some, None, arith, map}
-use Rattle.iso_model.specs.declared.access.Run.{Run}
-use Rattle.iso_model.specs.Effect.{joined, runs_from}
-use Rattle.std.proofs.lemmas.Grind.{common_steps}
-use Rattle.std.proofs.lemmas.List.{drop-drop, drop_all, length-drop, length-take-le}
-use Rattle.merge_write.specs.Patch.{is_set, values_from, piece}
+use Rattle.merge_write.proofs.Words.{◌≡◌, ◌∙◌, refl, ap, ℕ, zero, suc, ◌+◌, ◌-◌, ◌<◌, ◌≤◌, true, false, ◌==◌, cond, List, [], ◌∷◌, length, take, drop, Option, Some, None, arith, map, Run, joined, runs_from, common_steps, drop-drop, drop_all, length-drop, length-take-le, is_set, values_from, piece}
 
 -- the first run begins at p or later
 abbrev BeginsFrom : (p : ℕ) → List Run → Type 0

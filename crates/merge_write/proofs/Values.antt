@@ -1,8 +1,5 @@
 -- What bytes and masks stand for, place by place, and what setting one byte makes of it.
-use Rattle.std.proofs.Common.{◌≡◌, ◌∙◌, sym, refl, ap, ℕ, zero, suc, ◌+◌, ◌/◌, ◌%◌, ◌<◌, true, false, cond, List, [], ◌∷◌, length, get_or, replicate, Option, Some, None, unwrap_or, Bool, ◌||◌, arith, slice_index}
-use Rattle.std.proofs.lemmas.Nat.Bits.{bit_at-zero}
-use Rattle.iso_model.specs.Effect.{or_else}
-use Rattle.merge_write.specs.Patch.{is_set, values_from}
+use Rattle.merge_write.proofs.Words.{◌≡◌, ◌∙◌, sym, refl, ap, ℕ, zero, suc, ◌+◌, ◌/◌, ◌%◌, ◌<◌, true, false, cond, List, [], ◌∷◌, length, get_or, replicate, Option, Some, None, unwrap_or, Bool, ◌||◌, arith, slice_index, bit_at-zero, or_else, is_set, values_from}
 
 pub length-values_from : (masks : List ℕ) (p : ℕ) (bytes : List ℕ) → length (values_from masks p bytes) ≡ length bytes
 length-values_from masks p [] = refl

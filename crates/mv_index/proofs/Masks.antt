@@ -1,6 +1,5 @@
 -- Bits of words.
-use Rattle.mv_index.proofs.Words.{◌≡◌, inl, inr, ◌∙◌, sym, refl, ap, ℕ, zero, suc, ◌+◌, ◌-◌, ◌^◌, ◌<◌, ◌≤◌, Bool, true, false, ◌&&◌, ◌||◌, ◌==◌, not, nat_le, nat_lt, max, arith, bit_at, bit_or, list_any, range_with_len, le-leb, lt-leb, cases_lt, eq-eqb, ne_eqb, bit_at-lt, bit_at_and, bit_at_mask_below, bit_at_mask_inside, bit_at_ones, bit_at_ones_above, bit_at_or, same_from_bits, has_bit, in_bytes}
-use lib.Bits.{bit_and}
+use Rattle.mv_index.proofs.Words.{◌≡◌, inl, inr, ◌∙◌, sym, refl, ap, ℕ, zero, suc, ◌+◌, ◌-◌, ◌^◌, ◌<◌, ◌≤◌, Bool, true, false, ◌&&◌, ◌||◌, ◌==◌, not, nat_le, nat_lt, max, arith, bit_at, bit_or, list_any, range_with_len, le-leb, lt-leb, cases_lt, eq-eqb, ne_eqb, bit_at-lt, bit_at_and, bit_at_mask_below, bit_at_mask_inside, bit_at_ones, bit_at_ones_above, bit_at_or, same_from_bits, has_bit, in_bytes, bit_and}
 
 and_false : (b : Bool) → (b && false) ≡ false
 and_false true = refl

@@ -1,10 +1,5 @@
 -- Two versions of 64 bytes at most take few bytes.
-use Rattle.std.proofs.Common.{◌≡◌, ◌∙◌, ℕ, suc, ◌+◌, ◌*◌, ◌^◌, ◌<◌, ◌≤◌, Bool, true, false, cond, nat_lt, List, [], ◌∷◌, length, arith}
-use Rattle.std.proofs.lemmas.List.Sums.{sum_by-cons}
-use Rattle.mv_index.specs.declared.version.Version.{Version}
-use Rattle.mv_index.specs.Shown.{AllLie}
-use Rattle.mv_index.specs.Versions.{BlockVersions, versions_in}
-use Rattle.mv_index.specs.Weights.{bytes_above, part_bytes_above}
+use Rattle.mv_index.proofs.Words.{◌≡◌, ◌∙◌, ℕ, suc, ◌+◌, ◌*◌, ◌^◌, ◌<◌, ◌≤◌, Bool, true, false, cond, nat_lt, List, [], ◌∷◌, length, arith, sum_by-cons, Version, AllLie, BlockVersions, versions_in, bytes_above, part_bytes_above}
 use Rattle.mv_index.proofs.Weights.{weight_first}
 
 one_row : (n : ℕ) (index : List BlockVersions) → length index ≡ 1 → bytes_above n index ≡ part_bytes_above n (versions_in index 0)

@@ -1,5 +1,5 @@
 -- The words that the proofs of this crate cite from elsewhere.
-pub use Rattle.std.proofs.Common.{Bool, List, None, Option, Some, [], add-one, ap, arith, cond, drop, false, get_or, inl, inr, length, map, max, min, nat_le, nat_lt, not, refl, rules, subst, suc, sum_by, sym, take, true, zero, ℕ, ◌%◌, ◌&&◌, ◌*◌, ◌++◌, ◌+◌, ◌-◌, ◌/◌, ◌<◌, ◌==◌, ◌^◌, ◌||◌, ◌∙◌, ◌∷◌, ◌≡◌, ◌≢◌, ◌≤◌, ◌⊎◌}
+pub use Rattle.std.proofs.Common.{Bool, List, None, Option, Some, add-one, ap, arith, cond, drop, false, get_or, inl, inr, length, map, max, min, nat_le, nat_lt, not, refl, rules, subst, suc, sum_by, sym, take, true, zero, ℕ, [], ◌%◌, ◌&&◌, ◌*◌, ◌++◌, ◌+◌, ◌-◌, ◌/◌, ◌<◌, ◌==◌, ◌^◌, ◌||◌, ◌∙◌, ◌∷◌, ◌≡◌, ◌≢◌, ◌≤◌, ◌⊎◌}
 pub use Rattle.std.proofs.Math.ListN.{length-set, set}
 pub use Rattle.std.proofs.Math.Nat.{mul-le-mul_left, pow-succ'}
 pub use Rattle.std.proofs.Math.Seq.{drop-append_seam, take-append_seam}
@@ -32,6 +32,7 @@ pub use Rattle.iso_model.specs.declared.access.Commit.{Commit}
 pub use Rattle.iso_model.specs.declared.access.Geometry.{Geometry}
 pub use Rattle.iso_model.specs.declared.access.Kind.TheVariants.{Write}
 pub use Rattle.iso_model.specs.declared.access.Run.{Run}
+pub use lib.Bits.{bit_and}
 pub use Rattle.mv_index.specs.Masks.{has_bit, is_seen}
 pub use Rattle.mv_index.specs.Moves.{AreSplit, moved, moved_to}
 pub use Rattle.mv_index.specs.Pieces.{ArePieces, ArePlaced, Follow, IsRow, IsStart, back_of, backs, begun, ended, front_of, fronts, laid}

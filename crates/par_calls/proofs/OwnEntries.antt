@@ -1,10 +1,9 @@
 -- Each entry of a line is of its client's own transaction, or of those that its looks found.
-use Rattle.par_calls.proofs.Words.{◌≡◌, ◌∙◌, inl, inr, sym, refl, ap, subst, ℕ, ◌-◌, Bool, true, false, List, [], ◌∷◌, ◌++◌, Option, Some, None, Result, Geometry, Mode, Op, Reply, Stop, Cause, Entry, Aborts, Begins, CallsStore, Compacts, Did, Does, Ends, EndsThen, Fetched, Fetches, GroupEnds, GroupWants, Groups, Looks, LooksFor, Own, Posts, Says, Stats, Trims, Upgrades, Where, WhereShown, aborts_after, aborts_of, answer, fetches, found_ones, members_for, refused_fetch}
+use Rattle.par_calls.proofs.Words.{◌≡◌, ◌∙◌, inl, inr, sym, refl, ap, subst, ℕ, ◌-◌, Bool, true, false, List, [], ◌∷◌, ◌++◌, Option, Some, None, Result, Geometry, Mode, Op, Reply, Stop, Cause, Entry, Aborts, Begins, CallsStore, Compacts, Did, Does, Ends, EndsThen, Fetched, Fetches, GroupEnds, GroupWants, Groups, Looks, LooksFor, Own, Posts, Says, Stats, Trims, Upgrades, Where, WhereShown, aborts_after, aborts_of, answer, fetches, found_ones, members_for, refused_fetch, IsOfOwn, found_in}
 use Rattle.script_model.specs.declared.script.Op.TheVariants as op
 use Rattle.script_model.specs.declared.script.Reply.TheVariants as reply
 use Rattle.iso_shared.specs.declared.entry.Cause.TheVariants as cause
 use Rattle.iso_shared.specs.declared.entry.Entry.TheVariants as entry
-use Rattle.par_calls.specs.Trace.{IsOfOwn, found_in}
 
 -- each of these entries, behind those that were made before
 abbrev pub AreOfOwn : Option Own → (made : List Entry) → List Entry → Type 0

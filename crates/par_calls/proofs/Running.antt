@@ -1,11 +1,11 @@
 -- What is known of clients stays true along a trace.
-use Rattle.par_calls.proofs.Words.{◌≡◌, ◌∙◌, ◌⊎◌, inl, inr, sym, refl, ap, subst, ℕ, ◌<◌, ◌==◌, Bool, true, false, cond, IsTrue, List, [], ◌∷◌, ◌++◌, append-nil, bytes_eq, Option, Some, None, Ok, arith, eq-eqb, eqb-true, AllByRecursion, lookup, remove_entry, Access, Geometry, is_valid, History, array_at, last, HasShape, Live, unattached, Extends, IsOp, Call, Cause, Entry, Posting, Fits, State, after, after_fault, after_refusal, is_live, posting_of, began_last, follows_next, IsSound, sound_next, Did, Own, SecondStore, Told, nothing_told, told_more, SecondGoes, begins_told, IsSecond}
+use Rattle.par_calls.proofs.Words.{◌≡◌, ◌∙◌, ◌⊎◌, inl, inr, sym, refl, ap, subst, ℕ, ◌<◌, ◌==◌, Bool, true, false, cond, IsTrue, List, [], ◌∷◌, ◌++◌, append-nil, bytes_eq, Option, Some, None, Ok, arith, eq-eqb, eqb-true, AllByRecursion, lookup, remove_entry, Access, Geometry, is_valid, History, array_at, last, HasShape, Live, unattached, Extends, IsOp, Call, Cause, Entry, Posting, Fits, State, after, after_fault, after_refusal, is_live, posting_of, began_last, follows_next, IsSound, sound_next, Did, Own, SecondStore, Told, nothing_told, told_more, SecondGoes, begins_told, IsSecond, accesses_in, after_entry, after_line, first_or_nothing, if_some, put_at, Event, IsOfOwn, Made, OfOwn, Runs, Step, events_of, found_in}
 use Rattle.iso_shared.specs.declared.entry.Call.TheVariants as call
 use Rattle.iso_shared.specs.declared.entry.Cause.TheVariants as cause
 use Rattle.iso_shared.specs.declared.entry.Entry.TheVariants as entry
 use Rattle.iso_shared.specs.States.{live_of}
-use Rattle.par_calls.specs.Notes.{Notes, accesses_in, after_entry, after_line, first_or_nothing, if_some, put_at, told_by}
-use Rattle.par_calls.specs.Trace.{Done, Event, IsOfOwn, Made, OfOwn, Runs, Step, events_of, found_in}
+use Rattle.par_calls.specs.Notes.{Notes, told_by}
+use Rattle.par_calls.specs.Trace.{Done}
 use Rattle.par_calls.proofs.Events.{swapped}
 use Rattle.par_calls.proofs.Leaving.{HasBegun, Starts, with_tx, without_tx}
 use Rattle.par_calls.proofs.Lines.{IsNext}

@@ -1,6 +1,5 @@
 -- What is told of a client's transaction stays true by a line that calls a store.
-use Rattle.par_calls.proofs.Words.{◌≡◌, ◌∙◌, sym, refl, ap, subst, ℕ, ◌-◌, ◌==◌, ◌&&◌, not, Bool, true, false, cond, eq-eqb, IsTrue, List, [], ◌∷◌, ◌++◌, length, map, Option, Some, None, Ok, append_cancel_left, AllByRecursion, Access, Geometry, MAX_ACCESSES, Array, is_serial, is_valid, HasShape, block_at, with_accesses, Live, World, Op, Reply, IsOp, in_store, step, FileAreas, is_empty_scan, store_areas, store_blocks, store_ended, Entry, CallsStore, Fetched, InStore, Own, Says, Where, alone, blocks_read, fetches, live_of, own_after, own_among, refused_fetch, SecondStore, Told, SecondGoes, IsSecond}
-use Rattle.iso_model.specs.Effect.{own as written}
+use Rattle.par_calls.proofs.Words.{◌≡◌, ◌∙◌, sym, refl, ap, subst, ℕ, ◌-◌, ◌==◌, ◌&&◌, not, Bool, true, false, cond, eq-eqb, IsTrue, List, [], ◌∷◌, ◌++◌, length, map, Option, Some, None, Ok, append_cancel_left, AllByRecursion, Access, Geometry, MAX_ACCESSES, Array, is_serial, is_valid, HasShape, block_at, with_accesses, Live, World, Op, Reply, IsOp, in_store, step, FileAreas, is_empty_scan, store_areas, store_blocks, store_ended, Entry, CallsStore, Fetched, InStore, Own, Says, Where, alone, blocks_read, fetches, live_of, own_after, own_among, refused_fetch, SecondStore, Told, SecondGoes, IsSecond, written}
 use Rattle.script_model.specs.declared.script.Op.TheVariants as op
 use Rattle.script_model.specs.declared.script.Reply.TheVariants as reply
 use Rattle.iso_shared.specs.declared.entry.Entry.TheVariants as entry

@@ -1,9 +1,7 @@
 -- The store theorem of clients beside each other, by what their lines tell.
-use Rattle.par_calls.proofs.Words.{◌≡◌, ◌∙◌, sym, refl, ap, subst, ℕ, ◌-◌, true, List, [], ◌∷◌, ◌++◌, append_assoc, None, Access, Committed, ReadOnly, Conflict, Geometry, History, array_at, HasShape, Extends, IsWorld, array_shape, Entry, MemberEnd, Fits, IsLegal, LegalFrom, Start, State, after_all, opened, state_at, follows_all, after_append, legal_append, opened_sound, AnswersWithAt, AreCallsInOrderAt, CommitsAreByCalls, commit_at, commits_as, world_at, IsOfBoth, ToldInOrder, SecondStore, image_hash, second_store, SecondGoes, IsSecond, begin_array, ToldByMap, IsTrue}
+use Rattle.par_calls.proofs.Words.{◌≡◌, ◌∙◌, sym, refl, ap, subst, ℕ, ◌-◌, true, List, [], ◌∷◌, ◌++◌, append_assoc, None, Access, Committed, ReadOnly, Conflict, Geometry, History, array_at, HasShape, Extends, IsWorld, array_shape, Entry, MemberEnd, Fits, IsLegal, LegalFrom, Start, State, after_all, opened, state_at, follows_all, after_append, legal_append, opened_sound, AnswersWithAt, AreCallsInOrderAt, CommitsAreByCalls, commit_at, commits_as, world_at, IsOfBoth, ToldInOrder, SecondStore, image_hash, second_store, SecondGoes, IsSecond, begin_array, ToldByMap, IsTrue, OfReads, ReadsByMap, CallsAnswer, CommitsInOrder, CommitsKeep, OfCommits, no_notes, notes_after, Event, Made, Runs, entries_in, events_of, found_in}
 use Rattle.iso_shared.specs.declared.entry.Entry.TheVariants as entry
-use Rattle.par_calls.specs.InOrder.{OfReads, ReadsByMap, CallsAnswer, CommitsInOrder, CommitsKeep, OfCommits}
-use Rattle.par_calls.specs.Notes.{Notes, no_notes, notes_after}
-use Rattle.par_calls.specs.Trace.{Event, Made, Runs, entries_in, events_of, found_in}
+use Rattle.par_calls.specs.Notes.{Notes}
 use Rattle.par_calls.proofs.Events.{AreOps, entries_joined, ops_front}
 use Rattle.par_calls.proofs.Histories.{history_all}
 use Rattle.par_calls.proofs.Placed.{members_read, read_told, AreSweeps, IsTold, at_place, end_told, located, member_told, members_told}

@@ -6,7 +6,7 @@ pub use Rattle.iso_model.proofs.Growth.{all_weaker, appended_is}
 pub use Rattle.iso_model.proofs.Recorded.{array_shape}
 pub use Rattle.iso_model.specs.Array.{Array, merged}
 unfoldable pub use Rattle.iso_model.specs.Array.{put}
-pub use Rattle.iso_model.specs.Effect.{is_write, own}
+pub use Rattle.iso_model.specs.Effect.{is_write, own, own as written}
 pub use Rattle.iso_model.specs.Geometry.{is_serial}
 unfoldable pub use Rattle.iso_model.specs.Geometry.{is_valid}
 pub use Rattle.iso_model.specs.Group.{leave_all}
@@ -51,7 +51,7 @@ pub use Rattle.script_model.specs.declared.script.Line.{Line}
 pub use Rattle.script_model.specs.declared.script.Op.{Op}
 pub use Rattle.script_model.specs.declared.script.Reply.{Reply}
 pub use Rattle.script_model.specs.declared.stop.Stop.{Stop}
-pub use Rattle.std.proofs.Common.{Bool, Err, IsTrue, List, None, Ok, Option, Result, Some, [], ap, append-nil, append_assoc, arith, bytes_eq, cond, drop, eq-eqb, false, filter, inl, inr, is_some, length, map, nat_le, not, refl, replicate, slice_index, subst, suc, sym, take, true, zero, ℕ, ◌&&◌, ◌++◌, ◌+◌, ◌-◌, ◌<◌, ◌==◌, ◌||◌, ◌∙◌, ◌∷◌, ◌≡◌, ◌≤◌, ◌⊎◌}
+pub use Rattle.std.proofs.Common.{Bool, Err, IsTrue, List, None, Ok, Option, Result, Some, ap, append-nil, append_assoc, arith, bytes_eq, cond, drop, eq-eqb, false, filter, inl, inr, is_some, length, map, nat_le, not, refl, replicate, slice_index, subst, suc, sym, take, true, zero, ℕ, [], ◌&&◌, ◌++◌, ◌+◌, ◌-◌, ◌<◌, ◌==◌, ◌||◌, ◌∙◌, ◌∷◌, ◌≡◌, ◌≤◌, ◌⊎◌}
 pub use Rattle.std.proofs.lemmas.Bool.{and_from, and_parts, cases_eq, eqb-true, le-leb}
 pub use Rattle.std.proofs.lemmas.List.{append_cancel_left}
 pub use Rattle.std.specs.List.{AllByRecursion, list_all, list_any, range_with_len}
@@ -75,9 +75,12 @@ pub use Rattle.store_scripts.proofs.Members.{array_extends}
 pub use Rattle.store_scripts.proofs.Noted.{IsNoted}
 pub use Rattle.store_scripts.proofs.Seconds.{IsSecond}
 pub use Rattle.store_scripts.proofs.TreeGoes.{tree_goes}
+pub use Rattle.store_scripts.specs.Answers.{Answered}
 pub use Rattle.store_scripts.specs.Kept.{IsToldOf, ToldByMap, ToldInOrder}
 pub use Rattle.store_scripts.specs.Stores.{SecondStore, image_hash, second_store, the_files, the_tree}
 pub use Rattle.store_scripts.specs.Told.{Notes, Told, noted, nothing_told, spares_calls, spares_stores, told_by, told_more}
 pub use Rattle.turn_lock.specs.Lists.{RisesFrom}
 pub use Rattle.tx_blocks.proofs.Progress.{own_append}
-pub use Rattle.store_scripts.specs.Answers.{Answered}
+pub use Rattle.par_calls.specs.InOrder.{CallsAnswer, CommitsInOrder, CommitsKeep, EachBare, EachCommit, LinesTellCalls, OfCommits, OfReads, ReadsByMap, WhereBare, WhereCommitted}
+pub use Rattle.par_calls.specs.Notes.{accesses_in, after_entry, after_line, first_or_nothing, if_some, no_notes, notes_after, put_at}
+pub use Rattle.par_calls.specs.Trace.{Event, IsOfOwn, IsOfPart, IsOneOf, IsTrace, Made, OfOwn, Runs, Step, client_of, entries_in, events_of, found_in, lines_in, told_in}

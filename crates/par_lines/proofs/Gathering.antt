@@ -1,6 +1,5 @@
 -- What the clients of a run were told, from what their steps did.
-use Rattle.par_lines.proofs.Words.{◌≡◌, Bool, ⊎_elim, ℕ, zero, suc, ◌+◌, ◌<◌, cond, List, [], ◌∷◌, ◌++◌, Option, Some, None, length, take, map, reverse, get_or, refl, sym, ap, ◌∙◌, subst, arith, length-append, append_assoc, append-nil, map-append, reverse-append, take_at, slice_get, is_some, All, sum_by, Result, Ok, Err, get_or-append, get_or-append_seam, sum_by-append, sum_by-cons, Geometry, Line, Reply, Entry, Shared, Start, View, times, Go, Halt, Job, Went, Halted, JobRan, Part, Stop, Session, EndsWith, Log, Moves, count, device, own, seen, log_count, log_more, log_none, log_seen, moves_none, moves_on, Own, ClientLines, Did, Ran, StopsAtLast, Walk, last_abort, lines_of, lines_run, ParClient, IsClient, Stepped, Tells, part_of, units_in, AllTold, Finished, IsNew}
-use mathlib.Core.List.{IsPrefix}
+use Rattle.par_lines.proofs.Words.{◌≡◌, Bool, ⊎_elim, ℕ, zero, suc, ◌+◌, ◌<◌, cond, List, [], ◌∷◌, ◌++◌, Option, Some, None, length, take, map, reverse, get_or, refl, sym, ap, ◌∙◌, subst, arith, length-append, append_assoc, append-nil, map-append, reverse-append, take_at, slice_get, is_some, All, sum_by, Result, Ok, Err, get_or-append, get_or-append_seam, sum_by-append, sum_by-cons, Geometry, Line, Reply, Entry, Shared, Start, View, times, Go, Halt, Job, Went, Halted, JobRan, Part, Stop, Session, EndsWith, Log, Moves, count, device, own, seen, log_count, log_more, log_none, log_seen, moves_none, moves_on, Own, ClientLines, Did, Ran, StopsAtLast, Walk, last_abort, lines_of, lines_run, ParClient, IsClient, Stepped, Tells, part_of, units_in, AllTold, Finished, IsNew, IsPrefix}
 use Rattle.iso_shared.specs.declared.entry.Entry.TheVariants as entry
 
 -- the entries of a session and its last abort

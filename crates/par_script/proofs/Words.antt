@@ -1,5 +1,5 @@
 -- The words that the proofs of this crate cite from elsewhere.
-pub use Rattle.std.proofs.Common.{Bool, List, None, Option, Some, [], ap, append_assoc, arith, cond, eq-eqb, false, get_or, inl, inr, length, length-append, map, nat_lt, refl, replicate, subst, suc, sym, true, zero, ℕ, ◌++◌, ◌+◌, ◌<◌, ◌==◌, ◌||◌, ◌∙◌, ◌∷◌, ◌≡◌, ◌≤◌}
+pub use Rattle.std.proofs.Common.{Bool, List, None, Option, Some, ap, append_assoc, arith, cond, eq-eqb, false, get_or, inl, inr, length, length-append, map, nat_lt, refl, replicate, subst, suc, sym, true, zero, ℕ, [], ◌++◌, ◌+◌, ◌<◌, ◌==◌, ◌||◌, ◌∙◌, ◌∷◌, ◌≡◌, ◌≤◌}
 pub use Rattle.std.proofs.Math.Seq.{get_or-append_seam}
 pub use Rattle.std.proofs.lemmas.Bool.{eqb-true}
 pub use Rattle.std.proofs.lemmas.Bool.Decides.{nat_tests}
@@ -35,8 +35,8 @@ pub use Rattle.script_model.specs.declared.script.Op.{Op}
 pub use Rattle.script_model.specs.declared.script.Reply.{Reply}
 pub use Rattle.store_model.specs.Areas.{hash_area}
 pub use Rattle.store_model.specs.Cells.{keys_mark}
-pub use Rattle.store_model.specs.HashCalls.{got, walk_of}
 unfoldable pub use Rattle.store_model.specs.FileCalls.{create_program}
+pub use Rattle.store_model.specs.HashCalls.{got, walk_of}
 unfoldable pub use Rattle.store_model.specs.HashCalls.{get_program, walk}
 unfoldable pub use Rattle.store_model.specs.HashRegion.{bucket_of, is_linked}
 pub use Rattle.store_model.specs.Stores.{Done, look_access, then_do}

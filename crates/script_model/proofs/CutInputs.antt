@@ -1,7 +1,6 @@
 -- An input that is cut has a bad line.
-use Rattle.script_model.proofs.Words.{ℕ, ◌+◌, ◌<◌, ◌≤◌, ◌==◌, Bool, true, false, cond, List, Result, Ok, Err, IsSome, length, take, nat_le, arith, leb-false, le-leb, lt-ltb, MAX_INPUT, MAX_LINE, Parsed, Script, bad_line, before_script, last_piece, no_lines, parse, parse_whole, script, script_from, before_piece, is_empty, pieces}
+use Rattle.script_model.proofs.Words.{ℕ, ◌+◌, ◌<◌, ◌≤◌, ◌==◌, Bool, true, false, cond, List, Result, Ok, Err, IsSome, length, take, nat_le, arith, leb-false, le-leb, lt-ltb, MAX_INPUT, MAX_LINE, Parsed, Script, bad_line, before_script, last_piece, no_lines, parse, parse_whole, script, script_from, before_piece, is_empty, pieces, Skip, Says}
 use Rattle.std.proofs.Common.{◌≡◌, refl, [], ◌∷◌}
-use Rattle.script_model.specs.declared.script.Parsed.TheVariants.{Skip, Line as Says}
 
 -- a line that is too long is bad
 long_bad : (number : ℕ) (xs : List ℕ) → nat_le (length xs) MAX_LINE ≡ false → IsSome (cond (is_empty xs) no_lines (before_script number (parse xs) no_lines)).bad

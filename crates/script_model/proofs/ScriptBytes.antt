@@ -1,7 +1,6 @@
 -- The bytes that a script's lines take are bytes.
-use Rattle.script_model.proofs.Words.{ℕ, ◌+◌, ◌<◌, ◌≤◌, Bool, true, false, ◌&&◌, cond, IsTrue, List, Option, Result, Ok, Err, ok_or, nat_le, length, take, subst, arith, and_parts, leb-true, MAX_INPUT, MAX_LINE, Op, Begin, End, Abort, Put, Read, Get, Write, Fill, Mark, Release, Takeover, Await, Group, Trim, Stat, Compact, Upgrade, HashPut, HashGet, HashDelete, TreePut, TreeGet, TreeDelete, TreeScan, FileNew, FileWrite, FileRead, FileMove, FileDelete, AllByRecursion, Line, Parsed, MAX_LABELS, suc, ap, AreBytes, ◌>>=◌, without_return, bad_line, bare, begin_arguments, put_arguments, one_number, two_numbers, three_numbers, number_and_bytes, one_label, group_arguments, labels_of, number_argument, hex_argument, label_argument, mode_argument, operation_of, other_operation, one_key, key_and_value, scan_arguments, write_arguments, read_arguments, store_argument, store_operation, tree_operation, file_operation, said, parse, parse_whole, last_piece, before_script, script_from, script, client_in_range, no_lines, Script, is_empty, pieces, words_of, hex_digit, hex_pair, hex_pairs, hex_of, number_of, is_digit, is_label, label_of, IsOp, AreLines, no_bytes, bytes_cons}
+use Rattle.script_model.proofs.Words.{ℕ, ◌+◌, ◌<◌, ◌≤◌, Bool, true, false, ◌&&◌, cond, IsTrue, List, Option, Result, Ok, Err, ok_or, nat_le, length, take, subst, arith, and_parts, leb-true, MAX_INPUT, MAX_LINE, Op, Begin, End, Abort, Put, Read, Get, Write, Fill, Mark, Release, Takeover, Await, Group, Trim, Stat, Compact, Upgrade, HashPut, HashGet, HashDelete, TreePut, TreeGet, TreeDelete, TreeScan, FileNew, FileWrite, FileRead, FileMove, FileDelete, AllByRecursion, Line, Parsed, MAX_LABELS, suc, ap, AreBytes, ◌>>=◌, without_return, bad_line, bare, begin_arguments, put_arguments, one_number, two_numbers, three_numbers, number_and_bytes, one_label, group_arguments, labels_of, number_argument, hex_argument, label_argument, mode_argument, operation_of, other_operation, one_key, key_and_value, scan_arguments, write_arguments, read_arguments, store_argument, store_operation, tree_operation, file_operation, said, parse, parse_whole, last_piece, before_script, script_from, script, client_in_range, no_lines, Script, is_empty, pieces, words_of, hex_digit, hex_pair, hex_pairs, hex_of, number_of, is_digit, is_label, label_of, IsOp, AreLines, no_bytes, bytes_cons, Skip, Says}
 use Rattle.std.proofs.Common.{◌≡◌, refl, ◌-◌, ◌*◌, [], ◌∷◌, Some, None}
-use Rattle.script_model.specs.declared.script.Parsed.TheVariants.{Skip, Line as Says}
 
 -- what holds of a value, if there is one
 abbrev IfThere : {A : Type 0} → (A → Type 0) → Option A → Type 0

@@ -1,7 +1,5 @@
 -- A line of the input, between those before it and what follows.
-use Rattle.script_runner.proofs.Words.{◌≡◌, ◌≤◌, ℕ, ◌+◌, Bool, List, [], ◌∷◌, ◌++◌, Some, Result, Ok, Err, IfErr, OnOk, inr, length, refl, sym, ap, subst, ◌∙◌, append_assoc, append-nil, length-append, arith, DiskState, SinkState, BadLine, Line, LineError, Parsed, Script, before_script, parse_whole, script_from, pieces, World, Gives, Halt, RunEnd, AnswersParsed, EndsAt, IsByStep, Ran, Reads, SaysFirst, behind, end_of, lines_of, AreFirst, AreLinesOf, Answered, HasNoFeed}
-use Rattle.script_model.specs.declared.script.LineError.TheVariants.{Cause, Memory as NoMemory}
-use Rattle.script_model.specs.declared.script.Parsed.TheVariants.{Skip, Line as Says}
+use Rattle.script_runner.proofs.Words.{◌≡◌, ◌≤◌, ℕ, ◌+◌, Bool, List, [], ◌∷◌, ◌++◌, Some, Result, Ok, Err, IfErr, OnOk, inr, length, refl, sym, ap, subst, ◌∙◌, append_assoc, append-nil, length-append, arith, DiskState, SinkState, BadLine, Line, LineError, Parsed, Script, before_script, parse_whole, script_from, pieces, World, Gives, Halt, RunEnd, AnswersParsed, EndsAt, IsByStep, Ran, Reads, SaysFirst, behind, end_of, lines_of, AreFirst, AreLinesOf, Answered, HasNoFeed, Cause, NoMemory, Skip, Says}
 use Rattle.script_runner.specs.declared.run_end.Halt.TheVariants as halt
 use Rattle.script_runner.specs.declared.run_end.RunEnd.TheVariants as end
 use Rattle.script_runner.proofs.Feeds.{no_feed-append, no_feed-nil}

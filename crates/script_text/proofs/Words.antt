@@ -1,5 +1,5 @@
 -- The words that the proofs of this crate cite from elsewhere.
-pub use Rattle.std.proofs.Common.{length-drop, Bool, Bor, Err, IsTrue, List, None, Ok, OnErr, Option, Result, Some, [], ap, append_assoc, arith, bytes_eq, codes, decimal, drop, false, flat_map, get_or, inl, inr, length, min, nat_eq, nat_le, not, refl, rules, slice_index, slice_set, subst, suc, sym, take, tests, true, zero, ℕ, ◌%◌, ◌&&◌, ◌*◌, ◌++◌, ◌+◌, ◌-◌, ◌/◌, ◌<◌, ◌==◌, ◌^◌, ◌∙◌, ◌∷◌, ◌≡◌, ◌≢◌, ◌≤◌, ◌⊎◌}
+pub use Rattle.std.proofs.Common.{Bool, Bor, Err, IsTrue, List, None, Ok, OnErr, Option, Result, Some, ap, append_assoc, arith, bytes_eq, codes, decimal, drop, false, flat_map, get_or, inl, inr, length, length-drop, min, nat_eq, nat_le, not, refl, rules, slice_index, slice_set, subst, suc, sym, take, tests, true, zero, ℕ, [], ◌%◌, ◌&&◌, ◌*◌, ◌++◌, ◌+◌, ◌-◌, ◌/◌, ◌<◌, ◌==◌, ◌^◌, ◌∙◌, ◌∷◌, ◌≡◌, ◌≢◌, ◌≤◌, ◌⊎◌}
 pub use Rattle.std.proofs.lemmas.Bool.{agree_below_at, and_parts, cases_Bool, cases_eq, cond-false, cond-true, eqb-false, eqb-true, false≢true, le-leb, le-ltb, leb-false, leb-true, lt-leb, lt-ltb, ne_eqb}
 pub use Rattle.std.proofs.lemmas.Bool.Decides.{Decides-eqb, nat_tests}
 pub use Rattle.std.proofs.lemmas.Fmt.{decimal_by_steps, decimal_digit, decimal_nonempty, first_decimal, length-decimal-le}
@@ -31,9 +31,11 @@ pub use Rattle.script_model.specs.declared.script.Line.{Line}
 pub use Rattle.script_model.specs.declared.script.Op.{Op}
 pub use Rattle.script_model.specs.declared.script.Op.TheVariants.{Abort, Await, Begin, Compact, End, FileDelete, FileMove, FileNew, FileRead, FileWrite, Fill, Get, Group, HashDelete, HashGet, HashPut, Mark, Put, Read, Release, Stat, Takeover, TreeDelete, TreeGet, TreePut, TreeScan, Trim, Upgrade, Write}
 pub use Rattle.script_model.specs.declared.script.Parsed.{Parsed}
+pub use Rattle.script_model.specs.declared.script.Parsed.TheVariants.{Line as Says}
 pub use Rattle.script_model.specs.declared.script.Reply.{Reply}
 pub use Rattle.script_model.specs.declared.script.Reply.TheVariants.{Found, Shown}
 pub use Rattle.script_model.specs.declared.script.TheConstants.{MAX_LABELS}
+pub use borrow.Rule.Slice.PartMut.{put_mid}
 pub use Rattle.script_text.specs.Ending.{WithFront}
 pub use Rattle.script_text.specs.Parsing.{Gives}
 pub use Rattle.script_text.specs.Printing.{Extends, IsLong}

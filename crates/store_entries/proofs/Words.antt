@@ -1,10 +1,10 @@
 -- The words that the proofs of this crate cite from elsewhere.
-pub use Rattle.std.proofs.Common.{Bool, IfSome, List, None, Option, Some, [], ap, append-nil, append_assoc, arith, cond, false, inl, inr, length, length-append, map, nat_lt, not, refl, slice_get, subst, sym, true, ℕ, ◌++◌, ◌+◌, ◌-◌, ◌<◌, ◌==◌, ◌∙◌, ◌∷◌, ◌≡◌, ◌≤◌}
+pub use Rattle.std.proofs.Common.{Bool, IfSome, List, None, Option, Some, ap, append-nil, append_assoc, arith, cond, false, inl, inr, length, length-append, map, nat_lt, not, refl, slice_get, subst, sym, true, ℕ, [], ◌++◌, ◌+◌, ◌-◌, ◌<◌, ◌==◌, ◌∙◌, ◌∷◌, ◌≡◌, ◌≤◌}
 pub use Rattle.std.proofs.lemmas.Bool.{and_parts, cases_lt}
 pub use Rattle.std.specs.List.{AllByRecursion}
 pub use Rattle.iso_model.proofs.Distinct.{all_filter}
-pub use Rattle.iso_model.proofs.Growth.{all_push, all_weaker}
 pub use Rattle.iso_model.proofs.Groups.{group_is}
+pub use Rattle.iso_model.proofs.Growth.{all_push, all_weaker}
 pub use Rattle.iso_model.proofs.Isolation.{slice_get_append_left}
 pub use Rattle.iso_model.proofs.Worlds.{extends_itself, extends_on}
 pub use Rattle.iso_model.specs.Array.{Array}

@@ -1,7 +1,5 @@
 -- What the calls of the file store promise, under the one type of answers.
-use Rattle.store_laws.proofs.Words.{ap, ℕ, Bool, List, Option, Array, Pairs, IsLocalCall, Tx}
-use Rattle.store_model.specs.FileCalls.{create_op, read_op, remove_op, rename_op, write_op}
-use Rattle.store_laws.specs.Files.{FileAnswer, FileMade, FileRead, FileThere, MakeFile, ReadFile, RemoveFile, RenameFile, WriteFile, file_act}
+use Rattle.store_laws.proofs.Words.{ap, ℕ, Bool, List, Option, Array, Pairs, IsLocalCall, Tx, create_op, read_op, remove_op, rename_op, write_op, FileAnswer, FileMade, FileRead, FileThere, MakeFile, ReadFile, RemoveFile, RenameFile, WriteFile, file_act}
 
 module _ (IsWellFormed : Array → Type 0) (map_of : Array → Pairs) where
   -- an operation whose answer is named

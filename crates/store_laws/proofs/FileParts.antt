@@ -1,13 +1,5 @@
 -- A call of the hash store or of the file store, as a part of a transaction that calls both in disjoint areas; calls that read alone.
-use Rattle.store_laws.proofs.Words.{◌≡◌, ◌∙◌, sym, ap, subst, ℕ, ◌||◌, Bool, true, false, List, [], ◌∷◌, ◌++◌, Result, Ok, inl, inr, both_ways, Area, StoreError, Array, Program, HasEnded, IsLocalCall, Tx, added, First, Second, AreDisjoint, KeyCall, StoreAnswer, in_area, hash_store, WriteWithin, AreReads, MapStore, MixedParts, Neither, accesses_of, added_is, own, whole_run, with_accesses}
-use Rattle.std.proofs.lemmas.Bool.{cases_Bool}
-use Rattle.store_model.specs.declared.files.FileAreas.{FileAreas}
-use Rattle.store_model.specs.FileCalls.{Call}
-use Rattle.iso_fs.specs.Ends.{HasRun}
-use Rattle.tx_blocks.specs.Runs.{Ran}
-use Rattle.store_laws.specs.Both.{Mixed}
-use Rattle.store_laws.specs.Files.{FileAnswer, FileCall, file_store, in_areas}
-use Rattle.store_laws.specs.Growing.{IsMadeOfBoth}
+use Rattle.store_laws.proofs.Words.{◌≡◌, ◌∙◌, sym, ap, subst, ℕ, ◌||◌, Bool, true, false, List, [], ◌∷◌, ◌++◌, Result, Ok, inl, inr, both_ways, Area, StoreError, Array, Program, HasEnded, IsLocalCall, Tx, added, First, Second, AreDisjoint, KeyCall, StoreAnswer, in_area, hash_store, WriteWithin, AreReads, MapStore, MixedParts, Neither, accesses_of, added_is, own, whole_run, with_accesses, cases_Bool, FileAreas, Call, HasRun, Ran, Mixed, FileAnswer, FileCall, file_store, in_areas, IsMadeOfBoth}
 use Rattle.store_laws.proofs.BothCalls.{disjoint_blocks}
 use Rattle.store_laws.proofs.BothGrowth.{both_other, first_called, second_called}
 use Rattle.store_laws.proofs.Growth.{reads_spare}

@@ -1,6 +1,5 @@
 -- A transaction that calls a store and looks into another one: its calls answer in order, and each look by what it came to.
-use Rattle.store_laws.proofs.Words.{◌≡◌, sym, subst, ℕ, ◌-◌, ◌<◌, ◌≤◌, IfSome, List, [], ◌∷◌, inr, arith, slice_get, Access, Commit, Geometry, Mode, Serial, Array, own, History, array_at, last, HasSeen, IsIsolatedAt, IsSerialAt, SameShape, First, MixedParts, Neither, Second, firsts, AnswerInOrder, AreMade, IsByCalls, accesses_in, IsOfItsBlocks, MapStore, SameRegion}
-use Rattle.store_laws.specs.Looks.{AreLooking, LooksAnswer}
+use Rattle.store_laws.proofs.Words.{◌≡◌, sym, subst, ℕ, ◌-◌, ◌<◌, ◌≤◌, IfSome, List, [], ◌∷◌, inr, arith, slice_get, Access, Commit, Geometry, Mode, Serial, Array, own, History, array_at, last, HasSeen, IsIsolatedAt, IsSerialAt, SameShape, First, MixedParts, Neither, Second, firsts, AnswerInOrder, AreMade, IsByCalls, accesses_in, IsOfItsBlocks, MapStore, SameRegion, AreLooking, LooksAnswer}
 use Rattle.store_laws.proofs.Growth.{reads_spare}
 use Rattle.store_laws.proofs.Histories.{commit_follows, if_some, well_formed_at}
 use Rattle.store_laws.proofs.InOrder.{reads_same, region_stays, same_shape}

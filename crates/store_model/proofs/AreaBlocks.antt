@@ -1,10 +1,5 @@
 -- The blocks of an area, on two arrays that have the same there.
-use Rattle.std.proofs.Common.{◌≡◌, subst, ℕ, ◌+◌, ◌<◌, true, arith}
-use Rattle.std.proofs.lemmas.Bool.Decides.{nat_tests}
-use Rattle.store_model.specs.declared.stores.Area.{Area}
-use Rattle.iso_model.specs.Array.{Array}
-use Rattle.iso_model.specs.Premises.{block_at}
-use Rattle.store_model.specs.Areas.{in_area}
+use Rattle.store_model.proofs.Words.{◌≡◌, subst, ℕ, ◌+◌, ◌<◌, true, arith, nat_tests, Area, Array, block_at, in_area}
 
 -- the blocks of an area are in it
 pub in_its_area : (a : Area) (k : ℕ) → k < a.blocks → in_area a (a.start + k) ≡ true

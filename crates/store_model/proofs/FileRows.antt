@@ -1,18 +1,7 @@
 -- Worked examples of the file store, by computation.
-use Rattle.std.specs.Prelude.{◌≡◌, ℕ, ◌+◌, List, [], ◌∷◌, ◌++◌, None, Some, Ok, Err, true, false, refl, map}
-use Rattle.iso_model.specs.declared.access.Access.{Access}
-use Rattle.iso_model.specs.declared.access.Span.{Span}
-use Rattle.iso_model.specs.declared.access.Kind.{Kind}
-use Rattle.iso_model.specs.declared.access.Kind.TheVariants.{Read, Write}
-use Rattle.iso_model.specs.Array.{Array, zeros, put}
-use Rattle.iso_model.specs.Effect.{own}
-use Rattle.store_model.specs.TreeNodes.{is_node}
+use Rattle.store_model.proofs.Words.{Ok, Err, map, Access, Span, Kind, Read, Write, Array, zeros, put, own, is_node, accesses_of, answer_of, BadRange, Exists, FileAreas, is_file, Call, create_program, read_program, write_program, rename_program, remove_program}
+use Rattle.std.specs.Prelude.{◌≡◌, ℕ, ◌+◌, List, [], ◌∷◌, ◌++◌, None, Some, true, false, refl}
 use Rattle.store_model.specs.TreeCalls.{get_program, put_program, del_program}
-use Rattle.store_model.specs.Stores.{accesses_of, answer_of}
-use Rattle.store_model.specs.declared.files.FsError.TheVariants.{BadRange, Exists}
-use Rattle.store_model.specs.declared.files.FileAreas.{FileAreas}
-use Rattle.store_model.specs.FileNodes.{is_file}
-use Rattle.store_model.specs.FileCalls.{Call, create_program, read_program, write_program, rename_program, remove_program}
 
 abbrev place : FileAreas
 place = record { tree = record { size = 256; start = 0; blocks = 4 }; files = record { size = 256; start = 4; blocks = 12 } }

@@ -1,5 +1,5 @@
 -- The words that the proofs of this crate cite from elsewhere.
-pub use Rattle.std.proofs.Common.{Bool, IfSome, IsTrue, List, None, Option, Result, Some, [], ap, arith, cond, drop, eq-eqb, false, filter, flat_map, get_or, inl, inr, length, length-append, nat_le, nat_lt, ne_eqb, not, option_map, refl, replicate, slice_index, subst, suc, sym, take, true, zero, ℕ, ◌%◌, ◌&&◌, ◌*◌, ◌++◌, ◌+◌, ◌-◌, ◌/◌, ◌<◌, ◌==◌, ◌^◌, ◌||◌, ◌∙◌, ◌∷◌, ◌≡◌, ◌≢◌, ◌≤◌, ◌⊎◌}
+pub use Rattle.std.proofs.Common.{Bool, IfSome, IsTrue, List, None, Option, Result, Some, ap, arith, cond, drop, eq-eqb, false, filter, flat_map, get_or, inl, inr, length, length-append, nat_le, nat_lt, ne_eqb, not, option_map, refl, replicate, slice_index, subst, suc, sym, take, true, zero, ℕ, [], ◌%◌, ◌&&◌, ◌*◌, ◌++◌, ◌+◌, ◌-◌, ◌/◌, ◌<◌, ◌==◌, ◌^◌, ◌||◌, ◌∙◌, ◌∷◌, ◌≡◌, ◌≢◌, ◌≤◌, ◌⊎◌}
 pub use Rattle.std.proofs.Math.Nat.{mod-lt, mul-div-le}
 pub use Rattle.std.proofs.lemmas.Bool.{and_parts, cases_Bool, eqb-false, eqb-true, false≢true, leb-false, leb-true, ltb-false, ltb-true, not-true, or_cases}
 pub use Rattle.std.proofs.lemmas.Bool.Decides.{nat_tests}
@@ -25,8 +25,11 @@ pub use Rattle.iso_model.specs.declared.access.Kind.{Kind}
 pub use Rattle.iso_model.specs.declared.access.Kind.TheVariants.{Read, Write}
 pub use Rattle.iso_model.specs.declared.access.Span.{Span}
 unfoldable pub use Rattle.sha2.specs.Sha256.{compress, digest_bytes, first_words, hash_after, rounds, schedule, sha256}
-pub use Rattle.store_model.specs.Areas.{hash_area, tree_area}
+pub use Rattle.store_model.specs.Areas.{hash_area, in_area, tree_area}
 pub use Rattle.store_model.specs.Cells.{all_from, are_key_parts, block_with, cell_count, cell_with, is_part, key_at, key_mark, key_part, keys_end, keys_mark, laid_at, next_mark, part_of, unused_cell, value_mark, value_part}
+pub use Rattle.store_model.specs.FileCalls.{Call}
+unfoldable pub use Rattle.store_model.specs.FileCalls.{create_program, read_program, remove_program, rename_program, write_program}
+unfoldable pub use Rattle.store_model.specs.FileNodes.{is_file}
 pub use Rattle.store_model.specs.FreeMap.{bit_mark, bit_place, clear_bit, free_count, lowest_free, map_bit, map_mark, set_bit, with_bit}
 pub use Rattle.store_model.specs.HashCalls.{AtBroken, AtCell, AtEnd, Walked, at_cell, del_at, got, is_key, is_spent, is_value, new_block, put_at, put_new, spare_in, spot_in, walk_from, walk_further, with_cell}
 unfoldable pub use Rattle.store_model.specs.HashCalls.{del_program, get_program, put_program, walk}
@@ -39,6 +42,8 @@ pub use Rattle.store_model.specs.TreeNodes.{Cell, IsBlock, before, below_from, c
 unfoldable pub use Rattle.store_model.specs.TreeNodes.{is_node}
 pub use Rattle.store_model.specs.TreeRegion.{IsTreeArea, tree_nodes, tree_pairs}
 pub use Rattle.store_model.specs.Trees.{Put, emptied, first_key, fit, half, halves, put_after, without_first}
+pub use Rattle.store_model.specs.declared.files.FileAreas.{FileAreas}
+pub use Rattle.store_model.specs.declared.files.FsError.TheVariants.{BadRange, Exists}
 pub use Rattle.store_model.specs.declared.stores.Area.{Area}
 pub use Rattle.store_model.specs.declared.stores.Spot.{Spot}
 pub use Rattle.store_model.specs.declared.stores.StoreError.{StoreError}

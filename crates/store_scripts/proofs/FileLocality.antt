@@ -1,15 +1,6 @@
 -- A call on files that a program answers Ok is local for the files of the image.
-use Rattle.store_scripts.proofs.Words.{◌≡◌, ◌≢◌, subst, ℕ, ◌+◌, ◌&&◌, Bool, true, IsTrue, List, length, Option, Some, Ok, arith, Access, Geometry, Array, is_valid, HasShape, is_key, accesses_of, outcome, outcome_whole, answer_of, limits, spare_where_apart, SpareRegion, file_store, AreFileRegions, files, Call, file_blocks, files_area, image_hash, the_files}
+use Rattle.store_scripts.proofs.Words.{◌≡◌, ◌≢◌, subst, ℕ, ◌+◌, ◌&&◌, Bool, true, IsTrue, List, length, Option, Some, Ok, arith, Access, Geometry, Array, is_valid, HasShape, is_key, accesses_of, outcome, outcome_whole, answer_of, limits, spare_where_apart, SpareRegion, file_store, AreFileRegions, files, Call, file_blocks, files_area, image_hash, the_files, create_op, create_program, is_many, read_op, read_program, remove_op, remove_program, rename_op, rename_program, write_op, write_program, HaveBlocks, create_local, read_local, remove_local, rename_local, write_local, and_parts, FileMade, WasRead, FileThere, MakeFile, ReadFile, RemoveFile, RenameFile, WriteFile, WritesIn, create_in, read_in, remove_in, rename_in, write_in}
 use Rattle.store_model.specs.declared.files.FsError.TheVariants as fs
-use Rattle.store_model.specs.FileCalls.{create_op, create_program, is_many, read_op, read_program, remove_op, remove_program, rename_op, rename_program, write_op, write_program}
-use Rattle.iso_fs.proofs.CreateCalls.{HaveBlocks, create_local}
-use Rattle.iso_fs.proofs.FileReads.{read_local}
-use Rattle.iso_fs.proofs.RemoveCalls.{remove_local}
-use Rattle.iso_fs.proofs.RenameCalls.{rename_local}
-use Rattle.iso_fs.proofs.WriteWhole.{write_local}
-use Rattle.std.proofs.lemmas.Bool.{and_parts}
-use Rattle.store_laws.specs.Files.{FileMade, FileRead as WasRead, FileThere, MakeFile, ReadFile, RemoveFile, RenameFile, WriteFile}
-use Rattle.store_laws.proofs.FileWrites.{WritesIn, create_in, read_in, remove_in, rename_in, write_in}
 use Rattle.store_scripts.proofs.Blocks.{HasFiles, files_apart, has_files}
 use Rattle.store_scripts.proofs.Locality.{if_local, passed}
 use Rattle.store_scripts.proofs.Seconds.{IsSecondCall}

@@ -1,11 +1,9 @@
 -- Worked examples: what lines and their replies tell of the calls of a tree store, and of those on files.
-use Rattle.store_scripts.proofs.Words.{codes, digits, Geometry, Serial, begin_step, commit_step, end_step, End, Committed, put, clash, runs, after, operation_of, other_operation, store_operation, tree_operation, fill_step, get_step, mark_step, step, store_step, tree_get_step, tree_put_step, tree_delete_step, hex_of, number_of, words_of, is_node, lines_of, made, Del, Got, WasPut, WasThere, OnKey, Told, no_notes, notes_after, group_step, the_files, the_tree, is_file, file_operation, file_move_step, file_new_step, file_read_step}
+use Rattle.store_scripts.proofs.Words.{codes, digits, Geometry, Serial, begin_step, commit_step, end_step, End, Committed, put, clash, runs, after, operation_of, other_operation, store_operation, tree_operation, fill_step, get_step, mark_step, step, store_step, tree_get_step, tree_put_step, tree_delete_step, hex_of, number_of, words_of, is_node, lines_of, made, Del, Got, WasPut, WasThere, OnKey, Told, no_notes, notes_after, group_step, the_files, the_tree, is_file, file_operation, file_move_step, file_new_step, file_read_step, create_program, read_program, rename_program, FileMade, WasRead, FileThere, MakeFile, ReadFile, RenameFile}
 use Rattle.std.specs.Prelude.{◌≡◌, ℕ, true, false, List, [], ◌∷◌, Some, None, refl}
 use Rattle.iso_model.specs.declared.access.GroupReply.TheVariants as member
 use Rattle.store_model.specs.TreeCalls as tree
-use Rattle.store_model.specs.FileCalls.{create_program, read_program, rename_program}
 use Rattle.store_laws.specs.Calls.{Get, Put}
-use Rattle.store_laws.specs.Files.{FileMade, FileRead as WasRead, FileThere, MakeFile, ReadFile, RenameFile}
 
 -- eight blocks, of which the first three are a tree store, and the others the files that are named in it
 abbrev trees : Geometry

@@ -1,6 +1,5 @@
 -- What is asked of a store beside the hash store, so that the lines of a script tell its calls.
-use Rattle.store_scripts.proofs.Words.{◌≡◌, ℕ, IsTrue, None, option_map, List, Access, Geometry, Op, HashPut, HashGet, HashDelete, TreePut, TreeGet, TreeDelete, TreeScan, FileNew, FileWrite, FileRead, FileMove, FileDelete, Reply, Array, is_valid, IsLocal, Del, KeyCall, StoreAnswer, key_act, SpareRegion, IsOfItsBlocks, AreApart, CallsStore, OfHash, answered, SecondStore, del_answer, get_answer, image_hash, put_answer, second_store}
-use Rattle.store_laws.specs.Calls.{Get as GetKey, Put as PutKey}
+use Rattle.store_scripts.proofs.Words.{◌≡◌, ℕ, IsTrue, None, option_map, List, Access, Geometry, Op, HashPut, HashGet, HashDelete, TreePut, TreeGet, TreeDelete, TreeScan, FileNew, FileWrite, FileRead, FileMove, FileDelete, Reply, Array, is_valid, IsLocal, Del, KeyCall, StoreAnswer, key_act, SpareRegion, IsOfItsBlocks, AreApart, CallsStore, OfHash, answered, SecondStore, del_answer, get_answer, image_hash, put_answer, second_store, GetKey, PutKey}
 use Rattle.script_model.specs.declared.script.Reply.TheVariants as reply
 
 -- an operation that calls no store

@@ -1,9 +1,7 @@
 -- Where the operations on the tree store and on files lead, with what is told of calls of the hash store and the tree store.
-use Rattle.store_scripts.proofs.Words.{◌≡◌, refl, ap, ℕ, ◌-◌, ◌==◌, ◌&&◌, length, option_map, List, [], ◌∷◌, Option, Some, Bool, Op, TreePut, TreeGet, TreeDelete, TreeScan, FileNew, FileWrite, FileRead, FileMove, FileDelete, Geometry, MAX_ACCESSES, StoreError, array_at, array_shape, own_shape, live_at, HasShape, array_of, file_refusal, found_reply, pairs_reply, removed_reply, store_refusal, tree_delete_step, tree_get_step, tree_put_step, tree_scan_step, file_new_step, file_write_step, file_read_step, file_move_step, file_delete_step, file_blocks, files_area, tree_area, is_key, Live, World, attached, OnKey, Scan, Notes, OfSecond, answered, the_tree}
+use Rattle.store_scripts.proofs.Words.{◌≡◌, refl, ap, ℕ, ◌-◌, ◌==◌, ◌&&◌, length, option_map, List, [], ◌∷◌, Option, Some, Bool, Op, TreePut, TreeGet, TreeDelete, TreeScan, FileNew, FileWrite, FileRead, FileMove, FileDelete, Geometry, MAX_ACCESSES, StoreError, array_at, array_shape, own_shape, live_at, HasShape, array_of, file_refusal, found_reply, pairs_reply, removed_reply, store_refusal, tree_delete_step, tree_get_step, tree_put_step, tree_scan_step, file_new_step, file_write_step, file_read_step, file_move_step, file_delete_step, file_blocks, files_area, tree_area, is_key, Live, World, attached, OnKey, Scan, Notes, OfSecond, answered, the_tree, create_program, read_program, remove_program, rename_program, write_program, Del, WasFound, GetKey, Got, PutKey, WasPut, WasThere}
 use Rattle.script_model.specs.declared.script.Reply.TheVariants as reply
-use Rattle.store_model.specs.FileCalls.{create_program, read_program, remove_program, rename_program, write_program}
 use Rattle.store_model.specs.TreeCalls as tree
-use Rattle.store_laws.specs.Calls.{Del, Found as WasFound, Get as GetKey, Got, Put as PutKey, WasPut, WasThere}
 use Rattle.store_scripts.proofs.Acting.{SecondGoes, del_refused, get_refused, got_told, put_refused, scan_refused, there_told}
 use Rattle.store_scripts.proofs.Blocks.{tree_second}
 use Rattle.store_scripts.proofs.Calls.{foreign_goes, foreign_in_store, in_store_goes, second_goes}

@@ -1,5 +1,5 @@
 -- The words that the proofs of this crate cite from elsewhere.
-pub use Rattle.std.proofs.Common.{Bool, Err, IfSome, IsTrue, List, None, Ok, Option, Result, Some, [], ap, append-nil, append_assoc, arith, cond, drop, eq-eqb, false, inl, inr, length, map, nat_le, ne_eqb, not, option_map, refl, slice_get, subst, suc, sym, take, true, zero, ℕ, ◌&&◌, ◌++◌, ◌*◌, ◌+◌, ◌-◌, ◌<◌, ◌==◌, ◌||◌, ◌↔◌, ◌∙◌, ◌∷◌, ◌≡◌, ◌≢◌, ◌≤◌, ◌⊎◌}
+pub use Rattle.std.proofs.Common.{Bool, Err, IfSome, IsTrue, List, None, Ok, Option, Result, Some, ap, append-nil, append_assoc, arith, cond, drop, eq-eqb, false, inl, inr, length, map, nat_le, ne_eqb, not, option_map, refl, slice_get, subst, suc, sym, take, true, zero, ℕ, [], ◌&&◌, ◌*◌, ◌++◌, ◌+◌, ◌-◌, ◌<◌, ◌==◌, ◌||◌, ◌↔◌, ◌∙◌, ◌∷◌, ◌≡◌, ◌≢◌, ◌≤◌, ◌⊎◌}
 pub use Rattle.std.proofs.lemmas.Bool.{and_parts, both_ways, cases_Bool, cases_eq, cases_lt, eqb-false, leb-true, ltb-false, ltb-true}
 pub use Rattle.std.proofs.lemmas.Bool.Decides.{nat_tests}
 pub use Rattle.std.proofs.lemmas.List.{length-append, take-append-le}
@@ -46,6 +46,7 @@ pub use Rattle.script_model.proofs.Looks.{first_found, found_are_live, held_live
 pub use Rattle.script_model.proofs.Small.{lines_of, made}
 pub use Rattle.script_model.proofs.Steps.{after_leads, step_leads}
 pub use Rattle.script_model.specs.CoreReplies.{as_reply, as_step}
+pub use Rattle.script_model.specs.FilesArea.{blocks_behind, file_blocks, files_area}
 pub use Rattle.script_model.specs.Operations.{AreLines, IsOp}
 pub use Rattle.script_model.specs.Script.{after}
 unfoldable pub use Rattle.script_model.specs.Script.{file_operation, operation_of, other_operation, store_operation, tree_operation}
@@ -59,6 +60,8 @@ pub use Rattle.script_model.specs.declared.script.Reply.{Reply}
 pub use Rattle.script_model.specs.declared.script.Reply.TheVariants.{Committed}
 pub use Rattle.store_laws.proofs.BothCalls.{disjoint_blocks}
 pub use Rattle.store_laws.proofs.BothGrowth.{made_append, mixed_append}
+pub use Rattle.store_laws.proofs.FileBlank.{made_files}
+pub use Rattle.store_laws.proofs.FileWrites.{WritesIn, create_in, read_in, remove_in, rename_in, write_in}
 pub use Rattle.store_laws.proofs.Growth.{reads_spare}
 pub use Rattle.store_laws.proofs.InOrder.{same_shape}
 pub use Rattle.store_laws.proofs.Longer.{array_longer, begins_by_both, last_of, stays_by_both}
@@ -66,9 +69,9 @@ pub use Rattle.store_laws.proofs.Programs.{spare_where_apart, writes_within}
 pub use Rattle.store_laws.proofs.TwoStores.{both_commits, both_live, both_well_formed}
 pub use Rattle.store_laws.proofs.Zeros.{zeros_blank}
 pub use Rattle.store_laws.specs.Both.{AreMixed, BothInOrder, BothWellFormed, First, IsByBoth, IsOfBoth, Mixed, Neither, Second, firsts, seconds}
-pub use Rattle.store_laws.specs.Calls.{Del, Found, Got, KeyCall, StoreAnswer, WasPut, WasThere, in_area, key_act}
+pub use Rattle.store_laws.specs.Calls.{Del, Found, Get as GetKey, Got, KeyCall, Put as PutKey, StoreAnswer, Found as WasFound, WasPut, WasThere, in_area, key_act}
 pub use Rattle.store_laws.specs.FileBlocks.{files_are_of_their_blocks}
-pub use Rattle.store_laws.specs.Files.{FileAnswer, FileCall, file_act, file_store, in_areas}
+pub use Rattle.store_laws.specs.Files.{FileAnswer, FileCall, FileMade, FileThere, MakeFile, ReadFile, RemoveFile, RenameFile, FileRead as WasRead, WriteFile, file_act, file_store, in_areas}
 pub use Rattle.store_laws.specs.HashBlocks.{hash_is_of_its_blocks}
 pub use Rattle.store_laws.specs.Parts.{Called, Other, Part, accesses_in, answers_in, calls_in, run}
 pub use Rattle.store_laws.specs.Region.{IsOfItsBlocks, MapStore, SameRegion, SpareRegion}
@@ -78,9 +81,9 @@ pub use Rattle.store_laws.specs.Writes.{AreApart}
 pub use Rattle.store_model.proofs.HashAccesses.{hash_area_is}
 pub use Rattle.store_model.proofs.TreeAccesses.{tree_area_is}
 pub use Rattle.store_model.specs.Areas.{hash_area, tree_area}
-pub use Rattle.script_model.specs.FilesArea.{blocks_behind, file_blocks, files_area}
 pub use Rattle.store_model.specs.Cells.{cell_count, cell_with, value_part}
-pub use Rattle.store_model.specs.FileCalls.{Call, least}
+pub use Rattle.store_model.specs.FileCalls.{Call, create_op, is_many, least, read_op, remove_op, rename_op, write_op}
+unfoldable pub use Rattle.store_model.specs.FileCalls.{create_program, read_program, remove_program, rename_program, write_program}
 unfoldable pub use Rattle.store_model.specs.FileNodes.{is_file}
 pub use Rattle.store_model.specs.FileRegion.{AreFileAreas, AreFileRegions, files}
 pub use Rattle.store_model.specs.FreeMap.{free_count, lowest_free}
@@ -92,6 +95,7 @@ pub use Rattle.store_model.specs.TreeCalls.{Climb, Descent, climb, descend, firs
 pub use Rattle.store_model.specs.TreeNodes.{Cell, cell_of, child_of, count_of, is_child, is_head}
 unfoldable pub use Rattle.store_model.specs.TreeNodes.{is_node}
 pub use Rattle.store_model.specs.TreeRegion.{IsTreeRegion, scan_op, tree_map}
+pub use Rattle.store_model.specs.declared.files.FsError.{FsError}
 pub use Rattle.store_model.specs.declared.stores.Area.{Area}
 pub use Rattle.store_model.specs.declared.stores.Spot.{Spot}
 pub use Rattle.store_model.specs.declared.stores.StoreError.{StoreError}
@@ -99,8 +103,13 @@ pub use Rattle.store_model.specs.declared.stores.StoreError.TheVariants.{BadKey,
 pub use Rattle.tx_blocks.proofs.Outcomes.{outcome_whole}
 pub use Rattle.tx_blocks.proofs.Programs.{own_reads}
 pub use Rattle.tx_blocks.proofs.Progress.{own_append}
+pub use Rattle.iso_fs.proofs.CreateCalls.{HaveBlocks, create_local}
+pub use Rattle.iso_fs.proofs.FileReads.{read_local, read_reads}
+pub use Rattle.iso_fs.proofs.RemoveCalls.{remove_local}
+pub use Rattle.iso_fs.proofs.RenameCalls.{rename_local}
+pub use Rattle.iso_fs.proofs.WriteWhole.{write_local}
+pub use Rattle.store_scripts.specs.Answers.{Answered, CallsStore, OfHash, OfSecond, answered, del_answer, file_answered, get_answer, make_answer, put_answer, read_answer, scan_answer, there_answer}
 pub use Rattle.store_scripts.specs.InOrder.{AnswersWith, FilesAnswer, StoresAnswer}
 pub use Rattle.store_scripts.specs.Kept.{BeginsWell, IsToldOf, ToldByMap, ToldInOrder}
-pub use Rattle.store_scripts.specs.Answers.{Answered, CallsStore, OfHash, OfSecond, answered, del_answer, file_answered, get_answer, make_answer, put_answer, read_answer, scan_answer, there_answer}
 pub use Rattle.store_scripts.specs.Stores.{IfAny, SecondStore, image_files, image_hash, image_tree, pairs_if_any, second_store, the_files, the_tree}
 pub use Rattle.store_scripts.specs.Told.{CommitKeeps, CommitsKeep, EndsAs, IsEndedAs, Notes, Told, accesses_or_none, no_notes, noted, notes_after, nothing_told, spares_calls, spares_stores, told_by, told_more, with_call}

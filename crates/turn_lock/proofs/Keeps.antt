@@ -1,12 +1,6 @@
 -- Each step keeps the rule of the table, and tells what it is to tell.
-use Rattle.turn_lock.proofs.Words.{◌≡◌, ℕ, ◌+◌, ◌-◌, ◌%◌, ◌^◌, ◌<◌, ◌≤◌, ◌==◌, List, [], ◌∷◌, ◌++◌, length, set, get_or, Option, Some, None, IsSome, is_some, sym, refl, ap, ◌∙◌, subst, inl, inr, ⊎_elim, arith, rules, length-append, State, step, Act, keeps, takes, gives, stepped, Valid, Allows, Splits, Joins, Final, Seen, opening, put_back, rest, carried_after, set_again, exchanged, LAST, View, Idle, Waits, Turns, times, AllBelow, places, longer, option_to_list, IsOut, AreOut, AreFree, AreHeld, fresh, spent, waits, turns, gave, kept_part, given_part, both, turns_at, turning, Dealt, Rests, Fair, ticket_of, Sat, drew, Turned, looked, advanced, settled, stayed, IsPlaced, IsAtRest, IsAtTurn, Settled}
-use mathlib.Core.Logic.{dite}
-use mathlib.Core.Option.{none, some, some-injective}
+use Rattle.turn_lock.proofs.Words.{◌≡◌, ℕ, ◌+◌, ◌-◌, ◌%◌, ◌^◌, ◌<◌, ◌≤◌, ◌==◌, List, [], ◌∷◌, ◌++◌, length, set, get_or, Option, Some, None, IsSome, is_some, sym, refl, ap, ◌∙◌, subst, inl, inr, ⊎_elim, arith, rules, length-append, State, step, Act, keeps, takes, gives, stepped, Valid, Allows, Splits, Joins, Final, Seen, opening, put_back, rest, carried_after, set_again, exchanged, LAST, View, Idle, Waits, Turns, times, AllBelow, places, longer, option_to_list, IsOut, AreOut, AreFree, AreHeld, fresh, spent, waits, turns, gave, kept_part, given_part, both, turns_at, turning, Dealt, Rests, Fair, ticket_of, Sat, drew, Turned, looked, advanced, settled, stayed, IsPlaced, IsAtRest, IsAtTurn, Settled, dite, none, some, some-injective, ℕ_discrete, get_elem?, set-get_or, either}
 use mathlib.Core.Option as maybe
-use native.Mathlib.Decide.{ℕ_discrete}
-use lib.ListN.{get_elem?}
-use lib.Seq.{set-get_or}
-use prog.Atomic.{either}
 use Rattle.turn_lock.proofs.Prefixes.{prefix_length, prefix_whole, prefix_shorter, longer_left, longer_right}
 use Rattle.turn_lock.proofs.Totals.{total_set, total_at}
 use Rattle.turn_lock.proofs.Rising.{below_more, below_snoc, rises_snoc}

@@ -1,6 +1,5 @@
 -- Beginnings of one list.
-use Rattle.turn_lock.proofs.Words.{◌≡◌, ◌≤◌, ◌⊎◌, inl, inr, ⊎_elim, Bool, true, false, nat_lt, List, [], ◌∷◌, ◌++◌, length, refl, ap, sym, ◌∙◌, subst, arith, append_assoc, length-append, append-nil, nat_tests, longer}
-use mathlib.Core.List.{IsPrefix}
+use Rattle.turn_lock.proofs.Words.{◌≡◌, ◌≤◌, ◌⊎◌, inl, inr, ⊎_elim, Bool, true, false, nat_lt, List, [], ◌∷◌, ◌++◌, length, refl, ap, sym, ◌∙◌, subst, arith, append_assoc, length-append, append-nil, nat_tests, longer, IsPrefix}
 
 module _ {A : Type 0} where
   -- each list begins with itself

@@ -1,13 +1,5 @@
 -- What a program may answer, and which blocks it may write, whatever it reads.
-use Rattle.std.proofs.Common.{◌≡◌, ◌∙◌, sym, refl, ap, subst, ℕ, Bool, true, false, cond, List, [], ◌∷◌, Option, Some, None}
-use Rattle.std.proofs.lemmas.Bool.{both_ways}
-use Rattle.iso_model.specs.declared.access.Access.{Access}
-use Rattle.iso_model.specs.Array.{Array, put}
-use Rattle.iso_model.specs.Effect.{own}
-use Rattle.store_model.specs.HashCalls.{at_cell}
-use Rattle.iso_model.specs.Premises.{block_at}
-use Rattle.store_model.specs.Stores.{Done, Look, LookWhole, Program, Reserve, Store, accesses_of, bytes_in, further_bytes, store_access, then_do}
-use Rattle.iso_model.proofs.Bytes.{other_block}
+use Rattle.tx_blocks.proofs.Words.{◌≡◌, ◌∙◌, sym, refl, ap, subst, ℕ, Bool, true, false, cond, List, [], ◌∷◌, Option, Some, None, both_ways, Access, Array, put, own, at_cell, block_at, Done, Look, LookWhole, Program, Reserve, Store, accesses_of, bytes_in, further_bytes, store_access, then_do, other_block}
 
 -- each answer that it may give has the property
 abbrev pub Answers : {R : Type 0} → (R → Type 0) → Program R → Type 0

@@ -1,5 +1,5 @@
 -- The words that the proofs of this crate cite from elsewhere.
-pub use Rattle.std.proofs.Common.{Bool, Err, IsTrue, List, None, Ok, Option, Result, Some, [], ap, append_assoc, arith, cond, drop, eq-eqb, false, get_or, inl, inr, length, length-append, nat_le, ne_eqb, not, refl, subst, suc, sym, take, true, zero, ℕ, ◌&&◌, ◌++◌, ◌+◌, ◌-◌, ◌<◌, ◌==◌, ◌∙◌, ◌∷◌, ◌≡◌, ◌≢◌, ◌≤◌, ◌⊎◌}
+pub use Rattle.std.proofs.Common.{Bool, Err, IsTrue, List, None, Ok, Option, Result, Some, ap, append_assoc, arith, cond, drop, eq-eqb, false, get_or, inl, inr, length, length-append, nat_le, ne_eqb, not, refl, subst, suc, sym, take, true, zero, ℕ, [], ◌&&◌, ◌++◌, ◌+◌, ◌-◌, ◌<◌, ◌==◌, ◌∙◌, ◌∷◌, ◌≡◌, ◌≢◌, ◌≤◌, ◌⊎◌}
 pub use Rattle.std.proofs.lemmas.Bool.{and_from, both_ways, cases_Bool, cases_eq, cases_lt, or_left, or_right}
 pub use Rattle.std.proofs.lemmas.Bool.Decides.{nat_tests}
 pub use Rattle.std.proofs.lemmas.List.{append-nil, drop_at, ext_get_or, get_or-drop, get_or-take, get_or_past, length-drop, length-take, length-take-le, take_at, take_more}
@@ -14,6 +14,7 @@ pub use Rattle.iso_model.specs.Premises.{IsSpan, block_at}
 pub use Rattle.iso_model.specs.declared.access.Access.{Access}
 pub use Rattle.iso_model.specs.declared.access.Kind.TheVariants.{Read}
 pub use Rattle.iso_model.specs.declared.access.Span.{Span}
+pub use Rattle.store_model.specs.HashCalls.{at_cell}
 pub use Rattle.store_model.specs.Stores.{Agree, AreReads, Done, IsLocal, Look, LookWhole, Program, Reserve, SameShape, Store, accesses_of, after, answer_of, bytes_in, depends, further_bytes, look_access, outcome, store_access, then_do, with_further}
 pub use Rattle.store_model.specs.declared.stores.StoreError.{StoreError}
 pub use Rattle.store_model.specs.declared.stores.TxError.{TxError}

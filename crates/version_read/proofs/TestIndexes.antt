@@ -1,13 +1,5 @@
 -- An index without versions may take in a few parts.
-use Rattle.std.proofs.Common.{◌≡◌, sym, ℕ, ◌+◌, ◌*◌, ◌^◌, ◌<◌, ◌≤◌, List, [], ◌∷◌, length, map, arith, subst}
-use Rattle.std.specs.List.{AllByRecursion}
-use Rattle.std.proofs.lemmas.List.Sums.{sum_by-cons}
-use Rattle.iso_model.specs.declared.access.Run.{Run}
-use Rattle.iso_model.specs.Image.{AreRuns}
-use Rattle.mv_index.specs.Versions.{AreAtMost, BlockVersions, count_of, versions_in}
-use Rattle.version_read.specs.declared.part_span.PartSpan.{PartSpan}
-use Rattle.version_read.specs.Parts.{IsPart, MayTake, part_of, parts_length}
-use Rattle.version_read.specs.TestParts.{small}
+use Rattle.version_read.proofs.Words.{◌≡◌, sym, ℕ, ◌+◌, ◌*◌, ◌^◌, ◌<◌, ◌≤◌, List, [], ◌∷◌, length, map, arith, subst, AllByRecursion, sum_by-cons, Run, AreRuns, AreAtMost, BlockVersions, count_of, versions_in, PartSpan, IsPart, MayTake, part_of, parts_length, small}
 use Rattle.version_read.proofs.Lying.{runs_all}
 use Rattle.version_read.proofs.Taking.{parts_all}
 

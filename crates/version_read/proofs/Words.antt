@@ -1,5 +1,5 @@
 -- The words that the proofs of this crate cite from elsewhere.
-pub use Rattle.std.proofs.Common.{Bool, IsTrue, List, None, Option, Some, [], ap, append_assoc, arith, cond, count_by, drop, false, flat_map, get_or, inl, inr, length, length-append, length-drop, length-take, map, max, min, nat_le, nat_lt, not, refl, replicate, subst, suc, sum_by, sym, take, true, unwrap_or, w64, zero, ℕ, ◌%◌, ◌&&◌, ◌*◌, ◌++◌, ◌+◌, ◌-◌, ◌/◌, ◌<◌, ◌==◌, ◌^◌, ◌||◌, ◌∙◌, ◌∷◌, ◌≡◌, ◌≢◌, ◌≤◌, ◌⊎◌}
+pub use Rattle.std.proofs.Common.{Bool, IsTrue, List, None, Option, Some, ap, append_assoc, arith, cond, count_by, drop, false, flat_map, get_or, inl, inr, length, length-append, length-drop, length-take, map, max, min, nat_le, nat_lt, not, refl, replicate, subst, suc, sum_by, sym, take, true, unwrap_or, w64, zero, ℕ, [], ◌%◌, ◌&&◌, ◌*◌, ◌++◌, ◌+◌, ◌-◌, ◌/◌, ◌<◌, ◌==◌, ◌^◌, ◌||◌, ◌∙◌, ◌∷◌, ◌≡◌, ◌≢◌, ◌≤◌, ◌⊎◌}
 pub use Rattle.std.proofs.Math.Nat.{mul-le-mul_right}
 pub use Rattle.std.proofs.lemmas.Bool.{and_parts, cases_eq, cases_lt, eq-eqb, le-leb, leb-false, leb-true, lt-leb, ltb-false, ltb-true, ne_eqb}
 pub use Rattle.std.proofs.lemmas.List.{append-nil, drop_all, drop_more, ext_get_or, get_or-append_right, get_or-drop, get_or-take, get_or_append_left, get_or_past, length-map, length-take-le, map-append, take-append-drop, take_all, take_more}
@@ -49,4 +49,5 @@ pub use Rattle.mv_index.specs.declared.version.Version.{Version}
 pub use Rattle.version_read.specs.Blocks.{IsLaidIn, IsOver, IsOverIn}
 pub use Rattle.version_read.specs.Fills.{IsFilled}
 pub use Rattle.version_read.specs.Parts.{BlocksRise, HasRoom, HasTaken, IsPart, MayTake, no_part, part_of, part_versions, parts_in, parts_length}
+pub use Rattle.version_read.specs.TestParts.{small}
 pub use Rattle.version_read.specs.declared.part_span.PartSpan.{PartSpan}

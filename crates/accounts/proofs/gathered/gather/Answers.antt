@@ -1,7 +1,4 @@
-use Rattle.handle_pass.specs.Sessions.{own}
-use Rattle.iso_shared.specs.Ports.{port_view}
-use Rattle.turn_lock.specs.Lists.{times}
-use Rattle.accounts.specs.Made.{opening_of}
+use Rattle.accounts.proofs.Words.{own, port_view, times, opening_of}
 use Rattle.accounts.proofs.Covering.{covers_both, covers_on}
 use Rattle.accounts.proofs.Keeping.{finished}
 use Rattle.accounts.proofs.gathered.gather.Goals as goal

@@ -1,6 +1,4 @@
-use Rattle.accounts.proofs.Words.{List, subst, sym, Area, area_of, Does, IsOpening, opening_of}
-use Rattle.std.specs.Int.{to_be_bytes, w64}
-use Rattle.accounts.specs.declared.account.Account.{Account}
+use Rattle.accounts.proofs.Words.{List, subst, sym, Area, area_of, Does, IsOpening, opening_of, to_be_bytes, w64, Account}
 use Rattle.accounts.proofs.Adding.{area_same, opened_more}
 use Rattle.accounts.proofs.moving.+open_all.Goals as goal
 

@@ -1,4 +1,4 @@
-use Rattle.std.proofs.Common.{length}
+use Rattle.accounts.proofs.Words.{length}
 use Rattle.accounts.proofs.moving.+open_all.Given as goal
 
 abbrev pub decreases-open_all : goal.decreases-open_all

@@ -1,7 +1,4 @@
-use Rattle.accounts.proofs.Words.{refl, ◌∙◌, ap}
-use Rattle.iso_model.specs.declared.access.Geometry.{Geometry}
-use Rattle.iso_shared.specs.Ports.{port_view}
-use Rattle.accounts.specs.Jobs.{planned}
+use Rattle.accounts.proofs.Words.{refl, ◌∙◌, ap, Geometry, port_view, planned}
 use Rattle.accounts.proofs.Whole.{has_run, ready_of}
 use Rattle.accounts.proofs.run.run_accounts.Goals as goal
 

@@ -1,5 +1,4 @@
-use Rattle.std.proofs.Common.{Err}
-use Rattle.accounts.specs.Made.{opening_of}
+use Rattle.accounts.proofs.Words.{Err, opening_of}
 use Rattle.accounts.proofs.Keeping.{aborted, ended, over}
 use Rattle.accounts.proofs.sessions.end.Goals as goal
 

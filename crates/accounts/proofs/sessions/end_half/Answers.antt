@@ -1,9 +1,4 @@
-use Rattle.accounts.proofs.Words.{List, Ok, subst, ℕ, area_of, IsTakenFor}
-use Rattle.std.specs.Int.{to_be_bytes, w64}
-use Rattle.device_calls.specs.Stores.{HashPuts}
-use Rattle.device_calls.specs.Visits.{HasCalled}
-use Rattle.handle_pass.specs.Handles.{passed}
-use Rattle.accounts.specs.Made.{opening_of}
+use Rattle.accounts.proofs.Words.{List, Ok, subst, ℕ, area_of, IsTakenFor, to_be_bytes, w64, HashPuts, HasCalled, passed, opening_of}
 use Rattle.accounts.proofs.Filling.{completes, may_put}
 use Rattle.accounts.proofs.Keeping.{aborted, took_over, visited}
 use Rattle.accounts.proofs.sessions.end_half.Goals as goal

@@ -1,6 +1,4 @@
-use Rattle.std.proofs.Common.{Some}
-use Rattle.iso_model.specs.declared.access.Mode.TheVariants.{Serial}
-use Rattle.accounts.specs.Made.{calls_of, opening_of}
+use Rattle.accounts.proofs.Words.{Some, Serial, calls_of, opening_of}
 use Rattle.accounts.proofs.Filling.{fills, may_call}
 use Rattle.accounts.proofs.Keeping.{aborted, begun, unbegun, visited}
 use Rattle.accounts.proofs.sessions.fill.Goals as goal

@@ -1,10 +1,5 @@
-use Rattle.accounts.proofs.Words.{subst, sym, IsOfAccounts}
-use Rattle.handle_pass.specs.Handles.{tx_of}
-use Rattle.handle_pass.specs.Sessions.{device}
-use Rattle.iso_shared.specs.declared.shared.Shared.{Shared}
+use Rattle.accounts.proofs.Words.{subst, sym, IsOfAccounts, tx_of, device, Shared, IsWhole, opening_of}
 use Rattle.iso_shared.specs.declared.tx.Tx.{Tx}
-use Rattle.accounts.specs.Kept.{IsWhole}
-use Rattle.accounts.specs.Made.{opening_of}
 use Rattle.accounts.proofs.Keeping.{given, let_go}
 use Rattle.accounts.proofs.sessions.give.Goals as goal
 

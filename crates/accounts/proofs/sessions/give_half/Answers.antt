@@ -1,8 +1,4 @@
-use Rattle.accounts.proofs.Words.{arith, subst, IsTakenFor}
-use Rattle.handle_pass.specs.Handles.{tx_of}
-use Rattle.iso_shared.specs.declared.shared.Shared.{Shared}
-use Rattle.accounts.specs.Kept.{IsGiven}
-use Rattle.accounts.specs.Made.{opening_of}
+use Rattle.accounts.proofs.Words.{arith, subst, IsTakenFor, tx_of, Shared, IsGiven, opening_of}
 use Rattle.accounts.proofs.Keeping.{given, let_go}
 use Rattle.accounts.proofs.sessions.give_half.Goals as goal
 

@@ -1,7 +1,4 @@
-use Rattle.std.proofs.Common.{◌<◌}
-use Rattle.handle_pass.specs.Sessions.{units}
-use Rattle.accounts.specs.Kept.{IsKept, Stays}
-use Rattle.accounts.specs.Made.{opening_of}
+use Rattle.accounts.proofs.Words.{◌<◌, units, IsKept, Stays, opening_of}
 use Rattle.accounts.proofs.threads.commit_all.Given as goal
 
 abbrev pub invariant-loop-transfer : goal.invariant-loop-transfer

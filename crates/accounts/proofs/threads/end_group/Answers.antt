@@ -1,5 +1,4 @@
-use Rattle.iso_shared.specs.Ports.{port_view}
-use Rattle.accounts.specs.Made.{opening_of}
+use Rattle.accounts.proofs.Words.{port_view, opening_of}
 use Rattle.accounts.proofs.Grouping.{grouped, knows_on}
 use Rattle.accounts.proofs.threads.end_group.Goals as goal
 

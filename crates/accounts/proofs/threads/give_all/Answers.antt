@@ -1,12 +1,5 @@
-use Rattle.accounts.proofs.Words.{◌≡◌, ◌∙◌, ◌+◌, ◌≤◌, ◌++◌, ◌∷◌, [], ap, arith, length, List, Option, subst, sym, ℕ}
-use Rattle.std.proofs.Common.{length-append}
-use Rattle.group_commit.specs.Groups.{found_in}
-use Rattle.handle_pass.specs.Sessions.{device, units}
-use Rattle.iso_shared.specs.declared.shared.Shared.{Shared}
+use Rattle.accounts.proofs.Words.{◌≡◌, ◌∙◌, ◌+◌, ◌≤◌, ◌++◌, ◌∷◌, [], ap, arith, length, List, Option, subst, sym, ℕ, length-append, found_in, device, units, Shared, units_of, AreGiven, IsWhole, opening_of}
 use Rattle.iso_shared.specs.declared.tx.Tx.{Tx}
-use Rattle.iso_shared.specs.Groups.{units_of}
-use Rattle.accounts.specs.Kept.{AreGiven, IsWhole}
-use Rattle.accounts.specs.Made.{opening_of}
 use Rattle.accounts.proofs.Giving.{given_more, units_few, units_more}
 use Rattle.accounts.proofs.threads.give_all.Goals as goal
 

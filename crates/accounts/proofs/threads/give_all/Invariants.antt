@@ -1,10 +1,4 @@
-use Rattle.std.proofs.Common.{◌≡◌, ◌+◌, ◌≤◌, length}
-use Rattle.std.specs.Prelude.{vec_capacity}
-use Rattle.group_commit.specs.Groups.{found_in}
-use Rattle.handle_pass.specs.Sessions.{device, units}
-use Rattle.iso_shared.specs.Groups.{units_of}
-use Rattle.accounts.specs.Kept.{AreGiven, IsKept}
-use Rattle.accounts.specs.Made.{opening_of}
+use Rattle.accounts.proofs.Words.{◌≡◌, ◌+◌, ◌≤◌, length, vec_capacity, found_in, device, units, units_of, AreGiven, IsKept, opening_of}
 use Rattle.accounts.proofs.threads.give_all.Given as goal
 
 abbrev pub invariant-loop-transfer : goal.invariant-loop-transfer

@@ -1,5 +1,5 @@
 -- The byte is none of those that were looked at.
-use Rattle.std.proofs.Common.{◌≡◌, ℕ, ◌<◌, get_or}
+use Rattle.bench_script.proofs.Words.{◌≡◌, ℕ, ◌<◌, get_or}
 use Rattle.bench_script.proofs.split.split_near.Given as goal
 
 abbrev pub invariant-loop-at : goal.invariant-loop-at

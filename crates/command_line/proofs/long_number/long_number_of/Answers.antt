@@ -1,4 +1,4 @@
-use Rattle.std.proofs.Common.{◌∙◌, arith}
+use Rattle.command_line.proofs.Words.{◌∙◌, arith}
 use Rattle.command_line.proofs.LongNumbers.{no_decimal, parsed}
 use Rattle.command_line.proofs.long_number.long_number_of.Goals as goal
 

@@ -1,42 +1,7 @@
 -- A value of no bytes, whose ghost field is a world that the core stands for: one that the caller has shown to be there.
 use mathlib.Core.Path.{refl, sym, subst}
 use Prim.Native.Nat.{ℕ}
-use mathlib.Core.List.{List, [], ◌∷◌, ◌++◌}
-use seplogic.Ra.Ura.{Ura}
-use mir.Syntax.{Fn, Dict, dcons, dnil, a_type}
-use mir.Val.{Val, vptr, vstruct, vnil}
-use mir.MapTy.{inst_fn}
-use base.Logic.{SProp, ent, via, fst∗, snd∗}
-use base.Fml.{Fml}
-use prog.Memory.{Memory}
-use prog.Routine.{Routine}
-use prog.Wp.{Calls, Loops, WpFn, Tables}
-use types.Logic.{Logic, sem}
-use contract.BorrowLft.{◌⊑◌}
-use contract.Lifetimes.{lft_at}
-use contract.Monad.{Fun, fact, fact_use}
-use contract.Running.{tables, tables_of}
-use sound.WpLaws.{WpFn-mono}
-use types.Kit.{‵, raw, ◌⊛◌, ◌$◌, ◌∵◌, !, qed, move, keep, split, join, fjoin, use0, suffices, done}
-use types.Run.{no_more, returns, enter}
-use types.Part.{agg}
-use types.ByLocal.{alloc_all, pass_all, free_all, look_at, sets}
-use denote.RattleType.{RattleType, owns}
-use denote.Exit.{yes}
-use denote.Laws.{Are, Ises, owns_show, showss}
-use denote.Param.{param, bounded}
-use denote.Param.Laws.{Laws}
-use denote.Shadow.{makes_shadow}
-use denote.Builtin.{RefOf}
-use denote.Signature.{types_at, type_at, plain}
-use denote.Steps.{nothing, heard}
-use denote.Triple.Clauses.{Clauses, closing}
-use denote.Triple.Entry.{on_entry, alive}
-use denote.Triple.Spec.{Meets, triple_of}
-use denote.Triple.Table.{entered}
-use denote.Triple.Walked.{says, Stays, stay_dropped, walk_of, ends_at, Goes-dropped, walk_Meets}
-use Rattle.device_calls.proofs.Words.{Ghosts, World, BeginsAt, the_row, ended, clauses}
-use Rattle.device_calls.specs.contracts.beginning.beginning_of.Key.{name as #self}
+use Rattle.device_calls.proofs.Words.{Ghosts, World, BeginsAt, the_row, ended, clauses, List, [], ◌∷◌, ◌++◌, Ura, Fn, Dict, dcons, dnil, a_type, Val, vptr, vstruct, vnil, inst_fn, SProp, ent, via, fst∗, snd∗, Fml, Memory, Routine, Calls, Loops, WpFn, Tables, Logic, sem, ◌⊑◌, lft_at, Fun, fact, fact_use, tables, tables_of, WpFn-mono, ‵, raw, ◌⊛◌, ◌$◌, ◌∵◌, !, qed, move, keep, split, join, fjoin, use0, suffices, done, no_more, returns, enter, agg, alloc_all, pass_all, free_all, look_at, sets, RattleType, owns, yes, Are, Ises, owns_show, showss, param, bounded, Laws, makes_shadow, RefOf, types_at, type_at, plain, nothing, heard, Clauses, closing, on_entry, alive, Meets, triple_of, entered, says, Stays, stay_dropped, walk_of, ends_at, Goes-dropped, walk_Meets, #self}
 use Rattle.device_calls.proofs.beginning.beginning_of.Statement as stated
 use Rattle.device_calls.proofs.beginning.beginning_of.Code as code
 

@@ -1,6 +1,4 @@
-use Rattle.device_calls.proofs.Words.{Ok, subst, ℕ}
-use Rattle.handle_pass.specs.Calls.{HasEnded}
-use Rattle.iso_model.specs.declared.access.EndReply.{EndReply}
+use Rattle.device_calls.proofs.Words.{Ok, subst, ℕ, HasEnded, EndReply}
 use Rattle.device_calls.proofs.retry.end_or_again.Goals as goal
 
 pub returns-in-Ok-begin_tx-clause-did : goal.returns-in-Ok-begin_tx-clause-did

@@ -1,5 +1,5 @@
 -- The visit begins with the session as it is at the call.
-use Rattle.std.proofs.Common.{Some}
+use Rattle.device_calls.proofs.Words.{Some}
 use Rattle.device_calls.proofs.visit.on_blocks.Given as goal
 
 abbrev pub ghosts-visit : goal.ghosts-visit

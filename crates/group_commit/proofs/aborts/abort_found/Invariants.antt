@@ -1,6 +1,5 @@
-use Rattle.group_commit.proofs.Words.{◌≡◌, length, into_iter_items, into_iter_len, port_view, AreMembers, aborts_of, found_in, units_all}
+use Rattle.group_commit.proofs.Words.{◌≡◌, length, into_iter_items, into_iter_len, port_view, AreMembers, aborts_of, found_in, units_all, IsPort}
 use Rattle.group_commit.proofs.Grouping.{GoesOn, KnowsMore}
-use Rattle.iso_shared.specs.Ports.{IsPort}
 use Rattle.group_commit.proofs.aborts.abort_found.Given as goal
 
 abbrev pub invariant-loop-member : goal.invariant-loop-member

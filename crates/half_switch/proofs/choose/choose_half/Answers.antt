@@ -1,5 +1,5 @@
-use Rattle.std.proofs.Common.{Bool, Some, cond, sym, ◌∙◌, ap, lt-ltb, le-ltb, eq-eqb, ne_eqb}
-use Rattle.iso_model.specs.Image.{chosen_half}
+use Rattle.half_switch.proofs.Words.{Bool, Some, cond, sym, ◌∙◌, ap, le-ltb, eq-eqb, ne_eqb, chosen_half}
+use Rattle.std.proofs.Common.{lt-ltb}
 use Rattle.half_switch.proofs.Chosen.{current_is}
 use Rattle.half_switch.proofs.choose.choose_half.Goals as goal
 

@@ -1,4 +1,4 @@
-use Rattle.iso_image.specs.Half.{half_of_world}
+use Rattle.iso_core.proofs.Words.{half_of_world}
 use Rattle.iso_core.proofs.Nexts.{next_is}
 use Rattle.iso_core.proofs.append.append.Goals as goal
 

@@ -1,4 +1,4 @@
-use Rattle.std.proofs.Common.{length}
+use Rattle.iso_core.proofs.Words.{length}
 use Rattle.iso_core.proofs.judge.+plan_members.Given as goal
 
 abbrev pub decreases-plan_members : goal.decreases-plan_members

@@ -1,4 +1,4 @@
-use Rattle.std.proofs.Common.{refl}
+use Rattle.iso_core.proofs.Words.{refl}
 use Rattle.iso_core.proofs.Openings.{opens_so}
 use Rattle.iso_core.proofs.opening.keep.Goals as goal
 

@@ -1,4 +1,4 @@
-use Rattle.std.proofs.Common.{arith}
+use Rattle.iso_core.proofs.Words.{arith}
 use Rattle.iso_core.proofs.Decides.{settled_of}
 use Rattle.iso_core.proofs.settling.settle_member.Goals as goal
 

@@ -1,4 +1,4 @@
-use Rattle.std.proofs.Common.{length}
+use Rattle.iso_core.proofs.Words.{length}
 use Rattle.iso_core.proofs.taking.+leave_each.Given as goal
 
 abbrev pub decreases-leave_each : goal.decreases-leave_each

@@ -1,4 +1,4 @@
-use Rattle.std.proofs.Common.{length}
+use Rattle.iso_core.proofs.Words.{length}
 use Rattle.iso_core.proofs.taking.+take_staged.Given as goal
 
 abbrev pub decreases-take_staged : goal.decreases-take_staged

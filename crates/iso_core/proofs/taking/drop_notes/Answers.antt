@@ -1,4 +1,4 @@
-use Rattle.std.proofs.Common.{◌∙◌}
+use Rattle.iso_core.proofs.Words.{◌∙◌}
 use Rattle.iso_core.proofs.Staging.{notes_dropped}
 use Rattle.iso_core.proofs.Trims.{floor_is}
 use Rattle.iso_core.proofs.taking.drop_notes.Goals as goal

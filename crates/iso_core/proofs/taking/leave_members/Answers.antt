@@ -1,4 +1,4 @@
-use Rattle.iso_model.specs.Group.{leave_all}
+use Rattle.iso_core.proofs.Words.{leave_all}
 use Rattle.iso_core.proofs.taking.leave_members.Goals as goal
 
 pub leave_all-requires : goal.leave_all-requires

@@ -1,4 +1,4 @@
-use Rattle.std.proofs.Common.{◌∙◌}
+use Rattle.iso_core.proofs.Words.{◌∙◌}
 use Rattle.iso_core.proofs.Trims.{floor_is, trims_so}
 use Rattle.iso_core.proofs.trim.trim.Goals as goal
 

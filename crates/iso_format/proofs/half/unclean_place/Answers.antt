@@ -1,4 +1,4 @@
-use Rattle.std.proofs.Common.{sym, refl, ◌∙◌}
+use Rattle.iso_format.proofs.Words.{sym, refl, ◌∙◌}
 use Rattle.iso_format.proofs.HalfLaws.{unclean_front, unclean_back, all_clean}
 use Rattle.iso_format.proofs.half.unclean_place.Goals as goal
 

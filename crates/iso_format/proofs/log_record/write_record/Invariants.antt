@@ -1,4 +1,4 @@
-use Rattle.std.proofs.Common.{◌≡◌, [], take}
+use Rattle.iso_format.proofs.Words.{◌≡◌, [], take}
 use Rattle.iso_format.proofs.log_record.write_record.Given as goal
 
 abbrev pub invariant-loop-run : goal.invariant-loop-run

@@ -1,6 +1,4 @@
-use Rattle.std.proofs.Common.{rules}
-use Rattle.std.proofs.lemmas.List.{with_items_is, places}
-use Rattle.iso_log.proofs.Words.{◌≡◌, ◌+◌, ◌-◌, ℕ, List, length, take, drop, ap, ◌∙◌, arith, length-drop, paste, take-paste}
+use Rattle.iso_log.proofs.Words.{◌≡◌, ◌+◌, ◌-◌, ℕ, List, length, take, drop, ap, ◌∙◌, arith, length-drop, paste, take-paste, rules, with_items_is, places}
 use Rattle.iso_log.proofs.ahead.move_up.Goals as goal
 
 pub returns-clause-front : goal.returns-clause-front

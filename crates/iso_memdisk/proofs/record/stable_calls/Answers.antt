@@ -1,4 +1,4 @@
-use Rattle.std.proofs.Common.{◌+◌, ℕ, sym, subst, arith}
+use Rattle.iso_memdisk.proofs.Words.{◌+◌, ℕ, sym, subst, arith}
 use Rattle.iso_memdisk.proofs.Steps.{IsStable, stable_sync, stable_write, no_sync_left}
 use Rattle.iso_memdisk.proofs.record.stable_calls.Goals as goal
 use Rattle.iso_memdisk.proofs.record.stable_calls.Goals.{in-Sync, in_default}

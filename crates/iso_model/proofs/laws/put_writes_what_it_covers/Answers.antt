@@ -1,4 +1,4 @@
-use Rattle.std.proofs.Common.{◌∙◌, refl}
+use Rattle.iso_model.proofs.Words.{◌∙◌, refl}
 use Rattle.iso_model.proofs.Bytes.{put_here, put_kept, other_block, length-put, length-block_put}
 use Rattle.iso_model.proofs.laws.put_writes_what_it_covers.Goals as goal
 

@@ -1,5 +1,5 @@
 -- What was opened is what the image shows.
-use Rattle.std.proofs.Common.{◌∙◌}
+use Rattle.iso_recover.proofs.Words.{◌∙◌}
 use Rattle.iso_recover.proofs.Reopens.{fails_nothing, reopened}
 use Rattle.iso_recover.proofs.core_over.open_image.Goals as goal
 

@@ -1,6 +1,4 @@
-use Rattle.std.proofs.Common.{◌-◌}
-use Rattle.iso_memdisk.specs.MemDisk.{state_of}
-use Rattle.iso_recover.specs.TestCores.{IsUp}
+use Rattle.iso_recover.proofs.Words.{◌-◌, state_of, IsUp}
 use Rattle.iso_recover.proofs.core_tests.begun_of.Given as goal
 
 abbrev pub decreases-loop-count : goal.decreases-loop-count

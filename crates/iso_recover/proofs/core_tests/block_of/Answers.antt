@@ -1,5 +1,4 @@
-use Rattle.std.proofs.Common.{replicate, arith}
-use Rattle.iso_memdisk.specs.MemDisk.{state_of}
+use Rattle.iso_recover.proofs.Words.{replicate, arith, state_of}
 use Rattle.iso_recover.proofs.TestCores.{may_fetch}
 use Rattle.iso_recover.proofs.core_tests.block_of.Goals as goal
 

@@ -1,9 +1,4 @@
-use Rattle.std.proofs.Common.{◌∙◌, ap, ℕ, [], ◌∷◌, ◌++◌, replicate, None, Some, false, arith}
-use Rattle.std.proofs.lemmas.List.{length-replicate}
-use Rattle.iso_memdisk.specs.MemDisk.{state_of}
-use Rattle.iso_model.proofs.ByteLists.{replicate_bytes}
-use Rattle.iso_model.specs.Step.{write_access}
-use Rattle.tx_table.specs.Work.{Doing}
+use Rattle.iso_recover.proofs.Words.{◌∙◌, ap, ℕ, [], ◌∷◌, ◌++◌, replicate, None, Some, false, arith, length-replicate, state_of, replicate_bytes, write_access, Doing}
 use Rattle.iso_recover.proofs.TestCores.{may_end}
 use Rattle.iso_recover.proofs.core_tests.end_of.Goals as goal
 

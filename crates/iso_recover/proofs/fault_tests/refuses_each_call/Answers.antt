@@ -1,6 +1,4 @@
-use Rattle.std.proofs.Common.{◌≡◌, subst, [], OnErr}
-use Rattle.iso_core.specs.Standing.{down}
-use Rattle.iso_memdisk.specs.MemDisk.{state_of}
+use Rattle.iso_recover.proofs.Words.{◌≡◌, subst, [], OnErr, down, state_of}
 use Rattle.iso_recover.proofs.TestCores.{stays_down}
 use Rattle.iso_recover.proofs.fault_tests.refuses_each_call.Goals as goal
 

@@ -1,8 +1,4 @@
-use Rattle.std.proofs.Common.{◌∙◌, sym, ap, ℕ, [], ◌∷◌, ◌++◌, replicate, None, Some, false}
-use Rattle.std.proofs.lemmas.List.{length-replicate}
-use Rattle.iso_model.proofs.ByteLists.{replicate_bytes}
-use Rattle.iso_model.specs.Step.{write_access}
-use Rattle.tx_table.specs.Work.{Doing}
+use Rattle.iso_recover.proofs.Words.{◌∙◌, sym, ap, ℕ, [], ◌∷◌, ◌++◌, replicate, None, Some, false, length-replicate, replicate_bytes, write_access, Doing}
 use Rattle.iso_recover.proofs.TestGroups.{filled}
 use Rattle.iso_recover.proofs.group_tests.filling.Goals as goal
 

@@ -1,7 +1,4 @@
-use Rattle.std.proofs.Common.{refl, None}
-use Rattle.iso_memdisk.specs.MemDisk.{state_of}
-use Rattle.iso_model.specs.Step.{after_begin}
-use Rattle.iso_model.specs.World.{World, unattached}
+use Rattle.iso_recover.proofs.Words.{refl, None, state_of, after_begin, World, unattached}
 use Rattle.iso_recover.proofs.TestGroups.{may_group}
 use Rattle.iso_recover.proofs.group_tests.group_of.Goals as goal
 

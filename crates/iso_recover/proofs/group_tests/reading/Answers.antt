@@ -1,8 +1,4 @@
-use Rattle.std.proofs.Common.{◌∙◌, sym, ap, ℕ, [], ◌∷◌, ◌++◌, replicate, None, Some, false, arith}
-use Rattle.std.proofs.lemmas.List.{length-replicate}
-use Rattle.iso_model.proofs.ByteLists.{replicate_bytes}
-use Rattle.iso_model.specs.Step.{read_access, write_access}
-use Rattle.tx_table.specs.Work.{Doing}
+use Rattle.iso_recover.proofs.Words.{◌∙◌, sym, ap, ℕ, [], ◌∷◌, ◌++◌, replicate, None, Some, false, arith, length-replicate, replicate_bytes, read_access, write_access, Doing}
 use Rattle.iso_recover.proofs.TestGroups.{read_and_filled}
 use Rattle.iso_recover.proofs.group_tests.reading.Goals as goal
 

@@ -1,4 +1,4 @@
-use Rattle.std.proofs.Common.{arith, sym}
+use Rattle.iso_recover.proofs.Words.{arith, sym}
 use Rattle.iso_recover.proofs.Headers.{unclean_below}
 use Rattle.iso_recover.proofs.halves.header_refusal.Goals as goal
 

@@ -1,4 +1,4 @@
-use Rattle.std.proofs.Common.{◌≤◌}
+use Rattle.iso_recover.proofs.Words.{◌≤◌}
 use Rattle.iso_recover.proofs.Steps.{IsReading}
 use Rattle.iso_recover.proofs.log.read_log.Given as goal
 

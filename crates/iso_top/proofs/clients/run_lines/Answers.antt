@@ -1,5 +1,4 @@
-use Rattle.iso_top.proofs.Words.{inl}
-use Rattle.iso_shared.proofs.Standings.{came_first}
+use Rattle.iso_top.proofs.Words.{inl, came_first}
 use Rattle.iso_top.proofs.clients.run_lines.Goals as goal
 
 pub run_over-requires-clause-valid : goal.run_over-requires-clause-valid

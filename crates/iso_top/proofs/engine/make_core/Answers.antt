@@ -1,4 +1,4 @@
-use Rattle.std.proofs.Common.{refl}
+use Rattle.iso_top.proofs.Words.{refl}
 use Rattle.iso_refusal.specs.declared.open_error.OpenError.TheVariants as error
 use Rattle.iso_top.proofs.Beginnings.{made_core, made_not}
 use Rattle.iso_top.proofs.engine.make_core.Goals as goal

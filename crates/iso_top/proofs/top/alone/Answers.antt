@@ -1,4 +1,4 @@
-use Rattle.std.proofs.Common.{sym}
+use Rattle.iso_top.proofs.Words.{sym}
 use Rattle.iso_top.proofs.Causes.{met_all}
 use Rattle.iso_top.proofs.top.alone.Goals as goal
 

@@ -1,4 +1,4 @@
-use Rattle.std.proofs.Common.{◌∙◌, ap, ℕ, List, set}
+use Rattle.iso_tree.proofs.Words.{◌∙◌, ap, ℕ, List, set}
 use Rattle.iso_tree.proofs.Building.{empty_is}
 use Rattle.iso_tree.proofs.build.empty_node.Goals as goal
 

@@ -1,4 +1,4 @@
-use Rattle.std.proofs.Common.{length}
+use Rattle.iso_tree.proofs.Words.{length}
 use Rattle.iso_tree.proofs.climb.+climb.Given as goal
 
 abbrev pub decreases-climb : goal.decreases-climb

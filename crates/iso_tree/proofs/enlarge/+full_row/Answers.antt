@@ -1,4 +1,4 @@
-use Rattle.std.proofs.Common.{◌≡◌, ap, suc, length, arith}
+use Rattle.iso_tree.proofs.Words.{◌≡◌, ap, suc, length, arith}
 use Rattle.iso_tree.proofs.enlarge.+full_row.Goals as goal
 
 pub full_row-requires : goal.full_row-requires

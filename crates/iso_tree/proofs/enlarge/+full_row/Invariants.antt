@@ -1,4 +1,4 @@
-use Rattle.std.proofs.Common.{length}
+use Rattle.iso_tree.proofs.Words.{length}
 use Rattle.iso_tree.proofs.enlarge.+full_row.Given as goal
 
 abbrev pub decreases-full_row : goal.decreases-full_row

@@ -1,4 +1,4 @@
-use Rattle.std.proofs.Common.{length}
+use Rattle.iso_tree.proofs.Words.{length}
 use Rattle.iso_tree.proofs.grow.+look_nodes.Given as goal
 
 abbrev pub decreases-look_nodes : goal.decreases-look_nodes

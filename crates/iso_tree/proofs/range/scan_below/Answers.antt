@@ -1,4 +1,4 @@
-use Rattle.std.proofs.Common.{◌∙◌, ap, ℕ, List, ◌∷◌}
+use Rattle.iso_tree.proofs.Words.{◌∙◌, ap, ℕ, List, ◌∷◌}
 use Rattle.iso_tree.proofs.Scanning.{below_memory, below_run}
 use Rattle.iso_tree.proofs.range.scan_below.Goals as goal
 

@@ -1,4 +1,4 @@
-use Rattle.tx_blocks.proofs.Parts.{behaves_after}
+use Rattle.iso_tree.proofs.Words.{behaves_after}
 use Rattle.iso_tree.proofs.Facts.{missing}
 use Rattle.iso_tree.proofs.Removing.{del_refused, del_missing, del_found}
 use Rattle.iso_tree.proofs.remove.remove_below.Goals as goal

@@ -1,7 +1,5 @@
 -- Each byte is in the first part or in the second.
-use Rattle.std.proofs.Common.{◌≡◌, ◌∙◌, ◌+◌, ◌-◌, true, false, nat_le, nat_lt, inl, inr, arith}
-use Rattle.std.proofs.lemmas.Bool.{cases_lt}
-use Rattle.std.proofs.lemmas.Bool.Decides.{nat_tests}
+use Rattle.merge_write.proofs.Words.{◌≡◌, ◌∙◌, ◌+◌, ◌-◌, true, false, nat_le, nat_lt, inl, inr, arith, cases_lt, nat_tests}
 use Rattle.merge_write.proofs.copy.copy_range.Goals as goal
 
 pub returns-then-count-le8 : goal.returns-then-count-le8

@@ -1,5 +1,4 @@
-use Rattle.std.proofs.Common.{◌≡◌, ℕ, ◌*◌, ◌<◌, ◌≤◌, cond, get_or}
-use Rattle.merge_write.specs.Patch.{is_set}
+use Rattle.merge_write.proofs.Words.{◌≡◌, ℕ, ◌*◌, ◌<◌, ◌≤◌, cond, get_or, is_set}
 use Rattle.merge_write.proofs.lanes.lay.Given as goal
 
 -- the words so far are laid, and the bytes behind them are as before

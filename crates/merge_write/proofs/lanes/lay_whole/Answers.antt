@@ -1,7 +1,5 @@
 -- The part holds the 64 bytes, and nothing else changes.
-use Rattle.std.proofs.Common.{◌≡◌, ◌∙◌, length, arith}
-use lib.Lanes.{chunk}
-use Rattle.std.proofs.lemmas.Simd.{length-chunk, get_or-chunk, get_or-put_chunk_at, get_or-put_chunk_below, get_or-put_chunk_above}
+use Rattle.merge_write.proofs.Words.{◌≡◌, ◌∙◌, length, arith, chunk, length-chunk, get_or-chunk, get_or-put_chunk_at, get_or-put_chunk_below, get_or-put_chunk_above}
 use Rattle.merge_write.proofs.lanes.lay_whole.Goals as goal
 
 pub returns-clause-lanes : goal.returns-clause-lanes

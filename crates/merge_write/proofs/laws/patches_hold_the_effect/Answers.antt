@@ -1,6 +1,4 @@
-use Rattle.std.proofs.Common.{◌≡◌, ◌==◌, true, arith}
-use Rattle.std.proofs.lemmas.Grind.{common_steps}
-use Rattle.iso_model.specs.Effect.{effects_from}
+use Rattle.merge_write.proofs.Words.{◌≡◌, ◌==◌, true, arith, common_steps, effects_from}
 use Rattle.merge_write.proofs.Effects.{no_effects, written_effects, pieces_of_any_block}
 use Rattle.merge_write.proofs.laws.patches_hold_the_effect.Goals as goal
 

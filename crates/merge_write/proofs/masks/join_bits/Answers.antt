@@ -1,8 +1,5 @@
 -- A word more has the bits of both.
-use Rattle.std.proofs.Common.{◌≡◌, ◌≢◌, ◌∙◌, ap, ◌*◌, ◌/◌, ◌%◌, ◌<◌, ◌||◌, Bool, length, get_or, inl, inr, arith, refl, ◌==◌}
-use Rattle.std.specs.Int.{bit_at}
-use Rattle.std.proofs.lemmas.Bool.{cases_lt}
-use Rattle.merge_write.specs.Patch.{is_set}
+use Rattle.merge_write.proofs.Words.{◌≡◌, ◌≢◌, ◌∙◌, ap, ◌*◌, ◌/◌, ◌%◌, ◌<◌, ◌||◌, Bool, length, get_or, inl, inr, arith, refl, ◌==◌, bit_at, cases_lt, is_set}
 use Rattle.merge_write.proofs.Bits.{with_word_here, with_word_apart}
 use Rattle.merge_write.proofs.masks.join_bits.Goals as goal
 

@@ -1,6 +1,5 @@
 -- The words so far have the bits of both, and the others are as before.
-use Rattle.std.proofs.Common.{◌≡◌, ℕ, ◌*◌, ◌<◌, ◌≤◌, ◌||◌}
-use Rattle.merge_write.specs.Patch.{is_set}
+use Rattle.merge_write.proofs.Words.{◌≡◌, ℕ, ◌*◌, ◌<◌, ◌≤◌, ◌||◌, is_set}
 use Rattle.merge_write.proofs.masks.join_bits.Given as goal
 
 abbrev pub invariant-loop-word : goal.invariant-loop-word

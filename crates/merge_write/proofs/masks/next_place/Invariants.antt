@@ -1,6 +1,5 @@
 -- The places so far have the other bit.
-use Rattle.std.proofs.Common.{◌≡◌, ℕ, ◌-◌, ◌<◌, ◌≤◌, not}
-use Rattle.merge_write.specs.Patch.{is_set}
+use Rattle.merge_write.proofs.Words.{◌≡◌, ℕ, ◌-◌, ◌<◌, ◌≤◌, not, is_set}
 use Rattle.merge_write.proofs.masks.next_place.Given as goal
 
 abbrev pub invariant-loop-place : goal.invariant-loop-place

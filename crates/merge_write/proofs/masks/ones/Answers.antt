@@ -1,8 +1,5 @@
 -- Powers of two in order.
-use Rattle.std.proofs.Common.{◌≡◌, ◌∙◌, ℕ, suc, ◌-◌, ◌*◌, ◌^◌, ◌<◌, ◌≤◌, arith, ap, sym}
-use Rattle.std.proofs.Math.Nat.{pow-suc}
-use Rattle.std.proofs.Math.Pow.{pow_mono}
-use Rattle.std.proofs.lemmas.Nat.{pow_below}
+use Rattle.merge_write.proofs.Words.{◌≡◌, ◌∙◌, ℕ, suc, ◌-◌, ◌*◌, ◌^◌, ◌<◌, ◌≤◌, arith, ap, sym, pow-suc, pow_mono, pow_below}
 use Rattle.merge_write.proofs.masks.ones.Goals as goal
 
 -- the highest bit is a power that two times still fits

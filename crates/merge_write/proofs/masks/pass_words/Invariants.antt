@@ -1,6 +1,5 @@
 -- The words so far have the other bits.
-use Rattle.std.proofs.Common.{◌≡◌, ℕ, ◌*◌, ◌/◌, ◌-◌, ◌<◌, ◌≤◌, not}
-use Rattle.merge_write.specs.Patch.{is_set}
+use Rattle.merge_write.proofs.Words.{◌≡◌, ℕ, ◌*◌, ◌/◌, ◌-◌, ◌<◌, ◌≤◌, not, is_set}
 use Rattle.merge_write.proofs.masks.pass_words.Given as goal
 
 abbrev pub invariant-loop-word : goal.invariant-loop-word

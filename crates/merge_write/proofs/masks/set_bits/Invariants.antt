@@ -1,5 +1,4 @@
-use Rattle.std.proofs.Common.{◌≡◌, ℕ, ◌*◌, ◌&&◌, ◌||◌, nat_le, nat_lt}
-use Rattle.merge_write.specs.Patch.{is_set}
+use Rattle.merge_write.proofs.Words.{◌≡◌, ℕ, ◌*◌, ◌&&◌, ◌||◌, nat_le, nat_lt, is_set}
 use Rattle.merge_write.proofs.masks.set_bits.Given as goal
 
 -- the bits from `from` up to the word are set, and the others are as before

@@ -1,7 +1,5 @@
 -- The first bit from a place on is where the word, shifted by so many bits, ends in zeros.
-use Rattle.std.proofs.Common.{◌∙◌, sym, ap, ◌-◌, ◌/◌, ◌^◌, ◌<◌, arith}
-use Rattle.std.proofs.lemmas.Nat.Bits.{bit_at-zero}
-use Rattle.std.specs.Int.{bit_at}
+use Rattle.merge_write.proofs.Words.{◌∙◌, sym, ap, ◌-◌, ◌/◌, ◌^◌, ◌<◌, arith, bit_at-zero, bit_at}
 use Rattle.merge_write.proofs.Bits.{bit_from, zeros_are}
 use Rattle.merge_write.proofs.masks.zeros_from.Goals as goal
 

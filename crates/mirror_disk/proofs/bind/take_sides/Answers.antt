@@ -1,4 +1,4 @@
-use Rattle.mirror_disk.specs.Pairs.{first_name, second_name}
+use Rattle.mirror_disk.proofs.Words.{first_name, second_name}
 use Rattle.mirror_disk.proofs.Blank.{named_taken}
 use Rattle.mirror_disk.proofs.bind.take_sides.Goals as goal
 

@@ -1,4 +1,4 @@
-use Rattle.iso_disk.proofs.Moments.{stays_settled}
+use Rattle.mirror_disk.proofs.Words.{stays_settled}
 use Rattle.mirror_disk.proofs.Taking.{chosen_raised}
 use Rattle.mirror_disk.proofs.take.take_over.Goals as goal
 

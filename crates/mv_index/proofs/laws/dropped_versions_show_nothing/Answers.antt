@@ -1,4 +1,4 @@
-use Rattle.mv_index.specs.Versions.{shown_since}
+use Rattle.mv_index.proofs.Words.{shown_since}
 use Rattle.mv_index.proofs.Layers.{newest_kept, same_newest, since_same}
 use Rattle.mv_index.proofs.laws.dropped_versions_show_nothing.Goals as goal
 

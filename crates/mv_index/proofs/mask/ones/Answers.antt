@@ -1,6 +1,5 @@
 -- The bits of the ones.
-use Rattle.mv_index.proofs.Words.{◌≡◌, ◌∙◌, ap, ℕ, ◌-◌, ◌*◌, ◌/◌, ◌%◌, ◌^◌, arith, ones_shl, ones_shr, has_bit}
-use lib.Bits.{bit_and}
+use Rattle.mv_index.proofs.Words.{◌≡◌, ◌∙◌, ap, ℕ, ◌-◌, ◌*◌, ◌/◌, ◌%◌, ◌^◌, arith, ones_shl, ones_shr, has_bit, bit_and}
 use Rattle.mv_index.proofs.Masks.{ones_bit}
 use Rattle.mv_index.proofs.mask.ones.Goals as goal
 

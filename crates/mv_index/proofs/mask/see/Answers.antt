@@ -1,5 +1,5 @@
 -- The bytes of one word more.
-use Rattle.std.proofs.Common.{◌∙◌, sym, refl, ap, ◌+◌, ◌-◌, ◌*◌, ◌/◌, ◌%◌, ◌<◌, ◌≤◌, Bool, true, ◌||◌, length, arith}
+use Rattle.mv_index.proofs.Words.{◌∙◌, sym, refl, ap, ◌+◌, ◌-◌, ◌*◌, ◌/◌, ◌%◌, ◌<◌, ◌≤◌, Bool, true, ◌||◌, length, arith}
 use Rattle.mv_index.proofs.Masks.{or_false, or_true}
 use Rattle.mv_index.proofs.Sights.{seen_more}
 use Rattle.mv_index.proofs.mask.see.Goals as goal

@@ -1,5 +1,5 @@
 -- The bytes so far are seen.
-use Rattle.std.proofs.Common.{◌-◌, ◌≤◌}
+use Rattle.mv_index.proofs.Words.{◌-◌, ◌≤◌}
 use Rattle.mv_index.proofs.Sights.{AreSeen}
 use Rattle.mv_index.proofs.mask.see.Given as goal
 

@@ -1,5 +1,5 @@
 -- The first ones are at or below the number, the last ones above it; what is left is halved with each step.
-use Rattle.std.proofs.Common.{◌-◌, ◌≤◌}
+use Rattle.mv_index.proofs.Words.{◌-◌, ◌≤◌}
 use Rattle.mv_index.proofs.Halves.{IsSearched}
 use Rattle.mv_index.proofs.search.count_upto.Given as goal
 

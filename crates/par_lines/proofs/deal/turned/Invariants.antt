@@ -1,4 +1,4 @@
-use Rattle.std.proofs.Common.{◌≡◌, ◌++◌, length, reverse}
+use Rattle.par_lines.proofs.Words.{◌≡◌, ◌++◌, length, reverse}
 use Rattle.par_lines.proofs.deal.turned.Given as goal
 
 abbrev pub invariant-loop-line : goal.invariant-loop-line

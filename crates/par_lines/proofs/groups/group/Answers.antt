@@ -1,5 +1,4 @@
-use Rattle.par_lines.proofs.Words.{subst, sym, port_view, Answered}
-use Rattle.script_model.specs.declared.script.Op.TheVariants.{Group}
+use Rattle.par_lines.proofs.Words.{subst, sym, port_view, Answered, Group}
 use Rattle.par_lines.proofs.Grouping.{answers, port_units, wants_memory}
 use Rattle.par_lines.proofs.groups.group.Goals as goal
 

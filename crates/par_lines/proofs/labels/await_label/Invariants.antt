@@ -1,4 +1,4 @@
-use Rattle.handle_pass.specs.Sessions.{IsSession}
+use Rattle.par_lines.proofs.Words.{IsSession}
 use Rattle.par_lines.proofs.Awaiting.{Looking}
 use Rattle.par_lines.proofs.labels.await_label.Given as goal
 

@@ -1,4 +1,4 @@
-use Rattle.std.proofs.Common.{◌∙◌}
+use Rattle.par_lines.proofs.Words.{◌∙◌}
 use Rattle.par_lines.proofs.Sweeping.{swept_last, swept_more}
 use Rattle.par_lines.proofs.run.sweep_all.Goals as goal
 

@@ -1,4 +1,4 @@
-use Rattle.par_text.specs.Output.{commit_by}
+use Rattle.par_text.proofs.Words.{commit_by}
 use Rattle.par_text.proofs.Lines.{items_more}
 use Rattle.par_text.proofs.commit_line.add_commits.Goals as goal
 

@@ -1,5 +1,5 @@
 use Rattle.script_model.proofs.ScriptBytes.{script_lines}
-use Rattle.iso_model.proofs.FreshWorlds.{empty_world_is, world_is_serial}
+use Rattle.script_model.proofs.Words.{empty_world_is, world_is_serial}
 use Rattle.script_model.proofs.Steps.{step_leads, after_leads}
 use Rattle.script_model.proofs.laws.worlds_stay_sound.Goals as goal
 

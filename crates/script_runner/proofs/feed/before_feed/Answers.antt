@@ -1,6 +1,4 @@
-use Rattle.script_runner.proofs.Words.{inl, inr, ◌≡◌, ◌≢◌, ℕ, eqb, Bool, true, false, w8, sym, ap, ◌∙◌, arith, List, length, ◌+◌, ◌≤◌, not, map, replicate, cond, ◌%◌, ◌^◌, false≢true, eqb_tells, length-chunk, bitmask_splat, trailing_mask_l, run_in_chunk_fails, run_in_chunk_le, run_in_chunk_stops, none_from_empty_mask, prefix_len}
-use lib.Count.{count_trailing_zeros}
-use lib.Lanes.{chunk, mask_l, top, zip2}
+use Rattle.script_runner.proofs.Words.{inl, inr, ◌≡◌, ◌≢◌, ℕ, eqb, Bool, true, false, w8, sym, ap, ◌∙◌, arith, List, length, ◌+◌, ◌≤◌, not, map, replicate, cond, ◌%◌, ◌^◌, false≢true, eqb_tells, length-chunk, bitmask_splat, trailing_mask_l, run_in_chunk_fails, run_in_chunk_le, run_in_chunk_stops, none_from_empty_mask, prefix_len, count_trailing_zeros, chunk, mask_l, top, zip2}
 use Rattle.script_runner.proofs.feed.before_feed.Goals as goal
 
 abbrev is_feed : ℕ → Bool

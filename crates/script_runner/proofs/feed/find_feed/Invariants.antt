@@ -1,5 +1,5 @@
 -- None of the bytes that were looked at is a line feed.
-use Rattle.std.proofs.Common.{◌≢◌, ℕ, ◌<◌, ◌≤◌, ◌-◌, length, slice_index}
+use Rattle.script_runner.proofs.Words.{◌≢◌, ℕ, ◌<◌, ◌≤◌, ◌-◌, length, slice_index}
 use Rattle.script_runner.proofs.feed.find_feed.Given as goal
 
 abbrev pub invariant-loop-at : goal.invariant-loop-at

@@ -1,5 +1,4 @@
-use Rattle.script_text.proofs.Words.{◌≡◌, ◌∙◌, ◌≤◌, [], ◌∷◌, ◌++◌, List, ℕ, Ok, ap, append_assoc, decimal, length, subst, sym, MAX_LINE, parse, arguments_of, line_text, name_of, spaced}
-use Rattle.script_model.specs.declared.script.Parsed.TheVariants.{Line as Says}
+use Rattle.script_text.proofs.Words.{◌≡◌, ◌∙◌, ◌≤◌, [], ◌∷◌, ◌++◌, List, ℕ, Ok, ap, append_assoc, decimal, length, subst, sym, MAX_LINE, parse, arguments_of, line_text, name_of, spaced, Says}
 use Rattle.script_text.proofs.Readings.{parse-printed}
 use Rattle.script_text.proofs.print.print_line.Goals as goal
 

@@ -1,4 +1,4 @@
-use Rattle.std.proofs.Common.{◌≡◌, ◌-◌, ◌∙◌, ap, Some, arith}
+use Rattle.script_text.proofs.Words.{◌≡◌, ◌-◌, ◌∙◌, ap, Some, arith}
 use Rattle.script_text.proofs.WordLemmas.{number_of-one, number_of-not_one}
 use Rattle.script_text.proofs.word.one_digit.Goals as goal
 

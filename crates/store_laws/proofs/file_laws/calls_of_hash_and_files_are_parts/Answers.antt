@@ -1,8 +1,5 @@
-use Rattle.store_laws.proofs.Words.{IsHashRegion, hash_map, Del, Get, Got, Put, WasPut, WasThere}
+use Rattle.store_laws.proofs.Words.{IsHashRegion, hash_map, Del, Get, Got, Put, WasPut, WasThere, create_program, read_program, remove_program, rename_program, write_program, AreFileRegions, files, FileMade, FileRead, FileThere, MakeFile, ReadFile, RemoveFile, RenameFile, WriteFile}
 use Rattle.store_model.specs.HashCalls as hash
-use Rattle.store_model.specs.FileCalls.{create_program, read_program, remove_program, rename_program, write_program}
-use Rattle.store_model.specs.FileRegion.{AreFileRegions, files}
-use Rattle.store_laws.specs.Files.{FileMade, FileRead, FileThere, MakeFile, ReadFile, RemoveFile, RenameFile, WriteFile}
 use Rattle.store_laws.proofs.FileCalls.{made_local, read_local, remove_local, rename_local, write_local}
 use Rattle.store_laws.proofs.FileParts.{file_part, hash_beside}
 use Rattle.store_laws.proofs.FileWrites.{create_in, ran_within, read_in, remove_in, rename_in, write_in}

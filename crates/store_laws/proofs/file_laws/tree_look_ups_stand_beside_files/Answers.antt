@@ -1,10 +1,5 @@
-use Rattle.store_laws.proofs.Words.{hash_store, tree_store}
-use Rattle.store_model.specs.FileCalls.{read_program}
+use Rattle.store_laws.proofs.Words.{hash_store, tree_store, read_program, read_reads, get_reads, program_reads, file_store}
 use Rattle.store_model.specs.TreeCalls as tree
-use Rattle.iso_fs.proofs.FileReads.{read_reads}
-use Rattle.iso_tree.proofs.Gets.{get_reads}
-use Rattle.iso_tree.proofs.ScanCalls.{program_reads}
-use Rattle.store_laws.specs.Files.{file_store}
 use Rattle.store_laws.proofs.FileParts.{reads_beside}
 use Rattle.store_laws.proofs.file_laws.tree_look_ups_stand_beside_files.Goals as goal
 

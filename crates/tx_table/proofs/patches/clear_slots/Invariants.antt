@@ -1,5 +1,5 @@
 -- The first slots are cleared.
-use Rattle.std.proofs.Common.{◌≡◌, ℕ, ◌<◌, ◌≤◌, [], None, length, get_or, replicate}
+use Rattle.tx_table.proofs.Words.{◌≡◌, ℕ, ◌<◌, ◌≤◌, [], None, length, get_or, replicate}
 use Rattle.tx_table.proofs.patches.clear_slots.Given as goal
 
 abbrev pub invariant-loop-slot : goal.invariant-loop-slot

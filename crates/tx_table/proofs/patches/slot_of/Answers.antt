@@ -1,5 +1,5 @@
 -- Where the place of the block has another one, no place has it.
-use Rattle.std.proofs.Common.{arith}
+use Rattle.tx_table.proofs.Words.{arith}
 use Rattle.tx_table.proofs.Blocks.{other_places}
 use Rattle.tx_table.proofs.patches.slot_of.Goals as goal
 

@@ -1,5 +1,5 @@
 -- Each turn takes one row.
-use Rattle.std.proofs.Common.{length}
+use Rattle.tx_table.proofs.Words.{length}
 use Rattle.tx_table.proofs.rows.take_rows.Given as goal
 
 abbrev pub decreases-loop-row : goal.decreases-loop-row

@@ -1,5 +1,5 @@
 -- The parts so far are added.
-use Rattle.std.proofs.Common.{◌+◌}
+use Rattle.version_read.proofs.Words.{◌+◌}
 use Rattle.version_read.proofs.Additions.{AreAdded}
 use Rattle.version_read.proofs.index.add_parts.Given as goal
 

@@ -1,5 +1,5 @@
 -- Room is made for the parts so far.
-use Rattle.std.proofs.Common.{length, ◌-◌}
+use Rattle.version_read.proofs.Words.{length, ◌-◌}
 use Rattle.version_read.proofs.Rooms.{AreReserved}
 use Rattle.version_read.proofs.index.reserve_parts.Given as goal
 

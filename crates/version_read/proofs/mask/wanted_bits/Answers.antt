@@ -1,5 +1,5 @@
 use Rattle.version_read.proofs.Bits.{other_bits}
-use Rattle.std.proofs.Common.{◌<◌, ◌^◌, arith}
+use Rattle.version_read.proofs.Words.{◌<◌, ◌^◌, arith}
 use Rattle.version_read.proofs.mask.wanted_bits.Goals as goal
 
 pub returns-else-wanted : goal.returns-else-wanted

@@ -1,4 +1,4 @@
-use Rattle.std.proofs.Common.{◌+◌, ◌≤◌, length}
+use Rattle.whole_script.proofs.Words.{◌+◌, ◌≤◌, length}
 use Rattle.whole_script.proofs.WholeScripts.{AreFirst}
 use Rattle.whole_script.proofs.lines.parse_lines.Given as goal
 

@@ -1,32 +1,9 @@
 -- A value of no bytes, whose ghost field is the empty text.
-use Rattle.bench_script.proofs.Words.{[], ◌∷◌, refl}
-use seplogic.Ra.Ura.{Ura}
-use mir.Syntax.{Fn}
-use mir.Val.{Val}
-use base.Logic.{SProp, ent}
-use prog.Memory.{Memory}
-use prog.Routine.{Routine}
-use prog.Wp.{Calls, Loops, WpFn, Tables}
-use contract.Monad.{Fun}
-use contract.Running.{tables, tables_of}
-use sound.WpLaws.{WpFn-mono}
-use types.Logic.{Logic}
-use types.Kit.{‵, raw, ◌⊛◌, ◌$◌, ◌∵◌, !, qed, move, keep, drop, split, fjoin, suffices, done}
-use types.Part.{agg}
-use types.Run.{enter, returns, no_more}
-use types.ByLocal.{alloc_all, pass_all, free_all, look_at, sets}
-use denote.RattleType.{owns}
-use denote.Signature.{types_at}
-use denote.Steps.{nothing}
-use denote.Triple.Clauses.{Clauses, Ended, closing}
-use denote.Triple.Entry.{alive}
-use denote.Triple.Spec.{Meets, triple_of}
-use denote.Triple.Table.{entered}
-use denote.Triple.Walked.{says, Stays, walk_of, ends_at, walk_Meets}
+use Rattle.bench_script.proofs.Words.{[], ◌∷◌, refl, Ura, Fn, Val, SProp, ent, Memory, Routine, Calls, Loops, WpFn, Tables, Fun, tables, tables_of, WpFn-mono, Logic, ‵, raw, ◌⊛◌, ◌$◌, ◌∵◌, !, qed, move, keep, split, fjoin, suffices, done, agg, enter, returns, no_more, alloc_all, pass_all, free_all, look_at, sets, owns, types_at, nothing, Clauses, Ended, closing, alive, Meets, triple_of, entered, says, Stays, walk_of, ends_at, walk_Meets, #self}
+use types.Kit.{drop}
 use Rattle.bench_script.proofs.Walks.{none, none_made}
 use Rattle.bench_script.specs.contracts.taken.Taken as Taken
 use Rattle.bench_script.specs.contracts.taken.Taken.nothing as F
-use Rattle.bench_script.specs.contracts.taken.Taken.nothing.Key.{name as #self}
 use Rattle.bench_script.proofs.taken.Taken.nothing.Statement as stated
 use Rattle.bench_script.proofs.taken.Taken.nothing.Code as code
 

@@ -1,5 +1,5 @@
 -- The first entries are copied.
-use Rattle.std.proofs.Common.{◌≡◌, take}
+use Rattle.byte_marks.proofs.Words.{◌≡◌, take}
 use Rattle.byte_marks.proofs.touched.Touched.copy.Given as goal
 
 abbrev pub invariant-loop-entry : goal.invariant-loop-entry

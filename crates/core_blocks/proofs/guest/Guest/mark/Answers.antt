@@ -1,4 +1,4 @@
-use Rattle.std.proofs.Common.{arith}
+use Rattle.core_blocks.proofs.Words.{arith}
 use Rattle.core_blocks.proofs.Guests.{mark_keeps, works_on}
 use Rattle.core_blocks.proofs.guest.Guest.mark.Goals as goal
 

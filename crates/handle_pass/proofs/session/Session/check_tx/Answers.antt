@@ -1,5 +1,4 @@
-use Rattle.handle_pass.proofs.Words.{ap, inl, inr, refl, subst, sym, ◌∙◌, ◌≡◌, Some, Checked, view, Entry, Recent, Refused, cause_of, checked_of, own_in, own_of}
-use Rattle.iso_shared.specs.declared.entry.Call.TheVariants.{Recent as OfRecent}
+use Rattle.handle_pass.proofs.Words.{ap, inl, inr, refl, subst, sym, ◌∙◌, ◌≡◌, Some, Checked, view, Entry, Recent, Refused, cause_of, checked_of, own_in, own_of, OfRecent}
 use Rattle.iso_shared.specs.Ports.{Made}
 use Rattle.handle_pass.proofs.Entering.{made_kept, own_by_parts, own_same}
 use Rattle.handle_pass.proofs.session.Session.check_tx.Goals as goal

@@ -1,5 +1,4 @@
-use Rattle.handle_pass.proofs.Words.{ap, refl, subst, sym, ◌∙◌, Some, Checked, view, prefix_self, Cause, Refused, post_cause, checked_of, own_in, own_of}
-use Rattle.iso_shared.specs.declared.entry.Call.TheVariants.{Post as OfPost}
+use Rattle.handle_pass.proofs.Words.{ap, refl, subst, sym, ◌∙◌, Some, Checked, view, prefix_self, Cause, Refused, post_cause, checked_of, own_in, own_of, OfPost}
 use Rattle.iso_shared.specs.Ports.{Made}
 use Rattle.handle_pass.proofs.Entering.{made_gone, made_kept, own_same}
 use Rattle.handle_pass.proofs.session.Session.post_tx.Goals as goal

@@ -1,4 +1,4 @@
-use Rattle.std.proofs.Common.{◌∙◌}
+use Rattle.iso_core.proofs.Words.{◌∙◌}
 use Rattle.iso_core.proofs.Numbers.{log_last, log_used}
 use Rattle.iso_core.proofs.Stats.{live_is, versions_are}
 use Rattle.iso_core.proofs.core_itself.Core.stat.Goals as goal

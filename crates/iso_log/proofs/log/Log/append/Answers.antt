@@ -1,4 +1,4 @@
-use Rattle.std.proofs.Common.{[], ◌∷◌}
+use Rattle.iso_log.proofs.Words.{[], ◌∷◌}
 use Rattle.iso_log.proofs.log.Log.append.Goals as goal
 
 pub returns-clause-all_or_none : goal.returns-clause-all_or_none

@@ -1,5 +1,4 @@
-use Rattle.iso_machine.proofs.Words.{◌≡◌, ◌∙◌, sym, refl, ap, subst, ℕ, List, Option, Some, None, Ok, ◌<◌, [], length, get_or, set, remove, AllByRecursion, AreListed, IsOff, is_at_client, is_under_label, key_of, nat_eq, arith, after_leaving, in_transaction, step, World, Live, attached, IsTx, disk_of, up, Attached, Answers, Always, AreOf, live_of, shows}
-use Rattle.indexmap.specs.IndexMap.{get}
+use Rattle.iso_machine.proofs.Words.{◌≡◌, ◌∙◌, sym, refl, ap, subst, ℕ, List, Option, Some, None, Ok, ◌<◌, [], length, get_or, set, remove, AllByRecursion, AreListed, IsOff, is_at_client, is_under_label, key_of, nat_eq, arith, after_leaving, in_transaction, step, World, Live, attached, IsTx, disk_of, up, Attached, Answers, Always, AreOf, live_of, shows, get}
 use Rattle.script_model.specs.declared.script.Op.TheVariants as op
 use Rattle.script_model.specs.declared.script.Reply.TheVariants as reply
 use Rattle.iso_machine.proofs.Machines.{attached_none, distinct, attached_some, is_tx, left, known, nobody_at}

@@ -1,9 +1,8 @@
-use Rattle.iso_machine.proofs.Words.{◌≡◌, ◌∙◌, sym, refl, ap, subst, all_push, AreListed, IsOff, is_under_label, key_of, nat_eq, arith, List, [], ◌∷◌, ◌++◌, Some, None, Ok, Result, get_or, IsTrue, Geometry, CoreReply, Reply, is_block_size, last, after_begin, begin_step, mode_named, as_step, step, World, client, unattached, IsWorld, step_leads, Core, Refuses, disk_of, up, Doing, Stop, Attached, Answers, Always, answer_to, shows, AreOf, IsSized, live_of}
+use Rattle.iso_machine.proofs.Words.{◌≡◌, ◌∙◌, sym, refl, ap, subst, all_push, AreListed, IsOff, is_under_label, key_of, nat_eq, arith, List, [], ◌∷◌, ◌++◌, Some, None, Ok, Result, get_or, IsTrue, Geometry, CoreReply, Reply, is_block_size, last, after_begin, begin_step, mode_named, as_step, step, World, client, unattached, IsWorld, step_leads, Core, Refuses, disk_of, up, Doing, Stop, Attached, Answers, Always, answer_to, shows, AreOf, IsSized, live_of, get}
 use Rattle.iso_model.specs.declared.core_reply.CoreReply.TheVariants as core
 use Rattle.script_model.specs.declared.script.Op.TheVariants as op
 use Rattle.script_model.specs.declared.script.Reply.TheVariants as reply
 use Rattle.iso_machine.specs.declared.attached.Spot.TheVariants as spot
-use Rattle.indexmap.specs.IndexMap.{get}
 use Rattle.iso_machine.proofs.Begins.{began_at, begin_is, begin_keeps, begins_alike, has_begun, valid_block}
 use Rattle.iso_machine.proofs.Lists.{pick}
 use Rattle.iso_machine.proofs.Machines.{attached_none, attached_some, begun, known, nobody_at}

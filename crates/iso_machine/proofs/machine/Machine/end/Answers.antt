@@ -1,5 +1,4 @@
-use Rattle.iso_machine.proofs.Words.{◌≡◌, ◌∙◌, sym, refl, ap, subst, [], AllByRecursion, AreListed, IsOff, is_at_client, is_under_label, key_of, nat_eq, arith, ◌<◌, List, Some, None, Ok, Result, IsSome, length, get_or, set, remove, Reply, as_reply, as_step, end_step, step, World, IsTx, IsWorkOf, disk_of, Doing, Stop, Attached, IsActive, Answers, Wanting, answer_to, shows, AreOf, live_of}
-use Rattle.indexmap.specs.IndexMap.{get}
+use Rattle.iso_machine.proofs.Words.{◌≡◌, ◌∙◌, sym, refl, ap, subst, [], AllByRecursion, AreListed, IsOff, is_at_client, is_under_label, key_of, nat_eq, arith, ◌<◌, List, Some, None, Ok, Result, IsSome, length, get_or, set, remove, Reply, as_reply, as_step, end_step, step, World, IsTx, IsWorkOf, disk_of, Doing, Stop, Attached, IsActive, Answers, Wanting, answer_to, shows, AreOf, live_of, get}
 use Rattle.script_model.specs.declared.script.Op.TheVariants as op
 use Rattle.script_model.specs.declared.script.Reply.TheVariants as reply
 use Rattle.iso_machine.proofs.Accesses.{prepared}

@@ -1,5 +1,4 @@
-use Rattle.iso_machine.proofs.Words.{MatchOption, ℕ, arith, ◌≡◌, sym, subst, ◌<◌, List, Some, None, Ok, length, get_or, set, AreListed, IsOff, is_at_client, is_under_label, key_of, nat_eq, find, map, Option, ◌∙◌, ap, refl, Reply, placed, step, World, held, label, IsWorld, step_leads, disk_of, Attached, Answers, Always, shows, AreOf, IsSized, live_of}
-use Rattle.indexmap.specs.IndexMap.{get}
+use Rattle.iso_machine.proofs.Words.{MatchOption, ℕ, arith, ◌≡◌, sym, subst, ◌<◌, List, Some, None, Ok, length, get_or, set, AreListed, IsOff, is_at_client, is_under_label, key_of, nat_eq, find, map, Option, ◌∙◌, ap, refl, Reply, placed, step, World, held, label, IsWorld, step_leads, disk_of, Attached, Answers, Always, shows, AreOf, IsSized, live_of, get}
 use Rattle.script_model.specs.declared.script.Op.TheVariants as op
 use Rattle.script_model.specs.declared.script.Reply.TheVariants as reply
 use Rattle.iso_machine.specs.declared.attached.Spot.TheVariants as spot

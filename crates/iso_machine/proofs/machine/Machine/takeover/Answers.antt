@@ -1,5 +1,4 @@
-use Rattle.iso_machine.proofs.Words.{◌≡◌, ◌∙◌, sym, refl, ap, subst, ℕ, ◌<◌, List, Some, None, Ok, length, get_or, set, AreListed, IsOff, find, is_under_label, key_of, map, nat_eq, slice_index_or, Option, arith, Reply, placed, step, World, client, held, IsWorld, step_leads, disk_of, Doing, Attached, Answers, Always, shows, AreOf, IsSized, live_of}
-use Rattle.indexmap.specs.IndexMap.{get}
+use Rattle.iso_machine.proofs.Words.{◌≡◌, ◌∙◌, sym, refl, ap, subst, ℕ, ◌<◌, List, Some, None, Ok, length, get_or, set, AreListed, IsOff, find, is_under_label, key_of, map, nat_eq, slice_index_or, Option, arith, Reply, placed, step, World, client, held, IsWorld, step_leads, disk_of, Doing, Attached, Answers, Always, shows, AreOf, IsSized, live_of, get}
 use Rattle.script_model.specs.declared.script.Op.TheVariants as op
 use Rattle.script_model.specs.declared.script.Reply.TheVariants as reply
 use Rattle.iso_machine.specs.declared.attached.Spot.TheVariants as spot

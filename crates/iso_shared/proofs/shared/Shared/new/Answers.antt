@@ -1,4 +1,4 @@
-use Rattle.std.proofs.Common.{rules}
+use Rattle.iso_shared.proofs.Words.{rules}
 use Rattle.iso_shared.proofs.shared.Shared.new.Goals as goal
 
 pub returns-in-Ok-clause-ok : goal.returns-in-Ok-clause-ok

@@ -1,4 +1,4 @@
-use Rattle.std.proofs.Common.{rules}
+use Rattle.iso_shared.proofs.Words.{rules}
 use Rattle.iso_shared.proofs.Mades.{ahead_on, held_same, own_on}
 use Rattle.iso_shared.proofs.shared.Shared.tell_tx.Goals as goal
 

@@ -1,5 +1,5 @@
 -- A patch with no mask bit has no value.
-use Rattle.std.proofs.Common.{◌≡◌, ◌/◌, rules, replicate}
+use Rattle.merge_write.proofs.Words.{◌≡◌, ◌/◌, rules, replicate}
 use Rattle.merge_write.proofs.Values.{blank_values}
 use Rattle.merge_write.proofs.patch.Patch.blank.Goals as goal
 

@@ -1,5 +1,5 @@
 -- The first masks are zero, and the bytes stay.
-use Rattle.std.proofs.Common.{◌≡◌, ℕ, ◌<◌, length, get_or}
+use Rattle.merge_write.proofs.Words.{◌≡◌, ℕ, ◌<◌, length, get_or}
 use Rattle.merge_write.proofs.patch.Patch.clear.Given as goal
 
 abbrev pub invariant-loop-at : goal.invariant-loop-at

@@ -1,5 +1,5 @@
 -- There are as many bytes as values.
-use Rattle.std.proofs.Common.{◌∙◌, sym, ap, length}
+use Rattle.merge_write.proofs.Words.{◌∙◌, sym, ap, length}
 use Rattle.merge_write.proofs.Values.{length-values_from}
 use Rattle.merge_write.proofs.patch.Patch.over.Goals as goal
 

@@ -1,9 +1,5 @@
 -- The values are the write's where its spans cover the place.
-use Rattle.std.proofs.Common.{◌≡◌, ◌∙◌, sym, ◌<◌, Some, None, get_or, length, take, arith, nat_le, nat_lt, true, refl}
-use Rattle.std.proofs.lemmas.List.{take_all}
-use Rattle.std.proofs.lemmas.Grind.{common_steps}
-use Rattle.iso_model.specs.Array.{covered}
-use Rattle.merge_write.proofs.Words.{span_more, written_is, covered_some, covered_none}
+use Rattle.merge_write.proofs.Words.{span_more, written_is, covered_some, covered_none, ◌≡◌, ◌∙◌, sym, ◌<◌, Some, None, get_or, length, take, arith, nat_le, nat_lt, true, refl, take_all, common_steps, covered}
 use Rattle.merge_write.proofs.patch.Patch.set_spans.Goals as goal
 
 pub set_range-requires-in-loop-span-clause-bytes : goal.set_range-requires-in-loop-span-clause-bytes

@@ -1,6 +1,4 @@
-use Rattle.std.proofs.Common.{◌≡◌, ℕ, ◌<◌, cond, take, Some, None, get_or, length}
-use Rattle.std.specs.List.{list_any}
-use Rattle.iso_model.specs.Array.{in_span}
+use Rattle.merge_write.proofs.Words.{◌≡◌, ℕ, ◌<◌, cond, take, Some, None, get_or, length, list_any, in_span}
 use Rattle.merge_write.proofs.patch.Patch.set_spans.Given as goal
 
 -- the values are the new bytes where the spans so far cover the place

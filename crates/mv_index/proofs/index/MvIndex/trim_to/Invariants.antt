@@ -1,5 +1,5 @@
 -- The rows so far are trimmed.
-use Rattle.mv_index.specs.Versions.{shown_since}
+use Rattle.mv_index.proofs.Words.{shown_since}
 use Rattle.mv_index.proofs.Trims.{AreTrimmed}
 use Rattle.mv_index.proofs.index.MvIndex.trim_to.Given as goal
 

@@ -1,4 +1,4 @@
-use Rattle.std.proofs.Common.{rules, refl, ◌∙◌}
+use Rattle.turn_lock.proofs.Words.{rules, refl, ◌∙◌}
 use Rattle.turn_lock.proofs.Keeps.{gives_back, rests_after, handed_after}
 use Rattle.turn_lock.proofs.lock.TurnLock.give.Goals as goal
 

@@ -1,4 +1,4 @@
-use Rattle.std.proofs.Common.{rules, arith}
+use Rattle.turn_lock.proofs.Words.{rules, arith}
 use Rattle.turn_lock.proofs.Keeps.{rings}
 use Rattle.turn_lock.proofs.lock.TurnLock.look_out.Goals as goal
 

@@ -1,4 +1,4 @@
-use Rattle.std.proofs.Common.{rules, ◌∙◌}
+use Rattle.turn_lock.proofs.Words.{rules, ◌∙◌}
 use Rattle.turn_lock.proofs.Keeps.{looks_from, comes_to_turn, has_slot, has_turn}
 use Rattle.turn_lock.proofs.lock.TurnLock.take.Goals as goal
 
