@@ -1,5 +1,5 @@
 -- Worked examples of the definitions on a small image, by computation.
-use Rattle.iso_model.proofs.Words.{codes, slice_index_or, digits, Access, Commit, Geometry, Mode, Serial, Snapshot, Read, Clash, LAST, put, zeros, image_size, log_place, is_block_size, is_valid, History, array_at, clash, runs, superblock, half_header, spell, chosen_half, put_access, read_access, is_label, World, Live, Place, client, label, unattached, attached, floor, fresh}
+use Rattle.iso_model.proofs.Words.{codes, slice_index_or, Access, Commit, Geometry, Mode, Serial, Snapshot, Read, Clash, LAST, put, zeros, image_size, log_place, is_block_size, is_valid, History, array_at, clash, runs, superblock, half_header, spell, chosen_half, put_access, read_access, is_label, World, Live, Place, client, label, unattached, attached, floor, fresh}
 use Rattle.std.specs.Prelude.{◌≡◌, ℕ, ◌-◌, ◌^◌, List, [], ◌∷◌, ◌++◌, None, Some, refl, map, take, replicate, Option, true, false, filter, option_map}
 
 -- blocks of 64 bytes, 4 of them, and a log of 256

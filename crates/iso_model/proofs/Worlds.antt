@@ -1,5 +1,5 @@
 -- What leads from one sound world to another.
-use Rattle.iso_model.proofs.Words.{◌≡◌, ◌≢◌, ◌∙◌, sym, refl, ap, ℕ, ◌+◌, ◌-◌, ◌<◌, ◌≤◌, Bool, true, false, ◌&&◌, ◌==◌, not, cond, List, [], ◌∷◌, ◌++◌, length, filter, drop, Some, None, sum_by, arith, eq-eqb, subst, AllByRecursion, eqb-false, length-append, length_push, drop-append-le, drop-drop, sum_by-append, sum_by-take-drop, Access, Commit, Geometry, Mode, Serial, Snapshot, LAST, MAX_ACCESSES, MAX_LIVE, CoreReply, clash, has_write, runs, record_length, same_mode, History, last, IsRecord, written, AreAccesses, switch_step, with_accesses, placed, after_leaving, after_commit, after_begin, after_trim, need, commit_from, World, Live, Place, client, used, fresh, attached, floor, without, with, is_at_client, MayHave, IsLive, AreRecords, AreApart, AreTwo, AreDistinct, IsPlace, Extends, KeepsGeometry, IsWorld, LeadsTo}
+use Rattle.iso_model.proofs.Words.{◌≡◌, ◌≢◌, ◌∙◌, sym, refl, ap, ℕ, ◌+◌, ◌-◌, ◌<◌, ◌≤◌, Bool, true, false, ◌&&◌, ◌==◌, not, cond, List, [], ◌∷◌, ◌++◌, length, filter, drop, Some, None, sum_by, arith, eq-eqb, subst, AllByRecursion, eqb-false, length-append, length_push, drop-append-le, drop-drop, sum_by-append, sum_by-take-drop, Access, Commit, Geometry, Mode, Serial, Snapshot, LAST, MAX_ACCESSES, MAX_LIVE, CoreReply, clash, has_write, runs, record_length, same_mode, History, last, IsRecord, written, AreAccesses, switch_step, with_accesses, placed, after_leaving, after_commit, after_begin, after_trim, need, commit_from, World, Live, Place, used, fresh, attached, floor, without, with, is_at_client, MayHave, IsLive, AreRecords, AreApart, AreTwo, AreDistinct, IsPlace, Extends, KeepsGeometry, IsWorld, LeadsTo}
 use Rattle.std.proofs.lemmas.List.{append_assoc, append-nil}
 use Rattle.iso_model.proofs.Bounds.{limits}
 use Rattle.iso_model.proofs.Distinct.{all_filter, all_find, length-filter, distinct_filter, distinct_push, distinct_with, length-with}

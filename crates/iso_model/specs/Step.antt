@@ -10,7 +10,7 @@ use Rattle.iso_model.specs.declared.core_reply.CoreReply.TheVariants as reply
 use Rattle.iso_model.specs.declared.limits.TheConstants.{LAST, MAX_LIVE}
 use Rattle.iso_model.specs.Conflict.{clash}
 use Rattle.iso_model.specs.Geometry.{same_mode}
-use Rattle.iso_model.specs.Effect.{has_write, own, record_length, runs}
+use Rattle.iso_model.specs.Effect.{has_write, record_length, runs}
 use Rattle.iso_model.specs.History.{last, shown_block, with_commits}
 use Rattle.iso_model.specs.World.{World, Live, Place, floor, without, with, used}
 
