@@ -14,6 +14,7 @@ source_state s = record { rest = None; is_ended = s.is_ended; faults = s.faults 
 
 pub record StdSinkState (T : Type 0) : Type 0 where
   pub writer : T
+  pub is_broken : Bool  -- a flush failed
   pub faults : ℕ  -- how many writes failed
   pub refusals : ℕ  -- how many writes took nothing of a piece that is not empty
 

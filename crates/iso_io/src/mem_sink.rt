@@ -131,4 +131,8 @@ impl Sink for MemSink {
         }
         Ok(front)
     }
+
+    fn hand_on(&mut self)
+        ensures { self.new ≡ self.old }
+    {}
 }

@@ -22,6 +22,11 @@ pub trait Sink {
         // A put that fails takes nothing.
         ensures err { OnErr result ((state self.new).written ≡ (state self.old).written) }
         ensures cause { HasCause (state self.old).faults (state self.new).faults result };
+
+    /// Hands on what the sink holds back of the bytes that it took. It stands as before: where handing on fails, the next
+    /// put fails.
+    fn hand_on(&mut self)
+        ensures { state self.new ≡ state self.old };
 }
 
 /// Why a sink did not take all of a piece.

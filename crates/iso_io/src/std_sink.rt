@@ -1,5 +1,5 @@
 // A sink over a writer of std.
-ghost use Rattle.std.specs.Prelude.{◌≡◌, ◌≤◌, length, IfOk};
+ghost use Rattle.std.specs.Prelude.{◌≡◌, ◌≤◌, false, true, length, IfOk, IsErr};
 ghost use Rattle.std.specs.Io.KnownBytes.{WriteAppends};
 ghost use Rattle.fault_count.specs.Count.{HasCause, faults_after};
 ghost use Rattle.iso_io.specs.Sink.{refusals_after};
@@ -10,11 +10,12 @@ use fault_count::raise;
 use std::io::Write;
 use std::marker::Model;
 
-/// A sink over a writer, such as standard output. As a sink it tells no bytes, and each error is a fault.
-/// A writer that holds bytes back is its owner's to flush.
+/// A sink over a writer, such as standard output. As a sink it tells no bytes, and each error is a fault. What a writer
+/// holds back is flushed where the sink hands on; once that has failed, each put fails.
 #[derive(Drop)]
 pub struct StdSink<T> {
     writer: T,
+    broken: bool,
     faults: u64,
     refused: u64,
 }
@@ -24,19 +25,27 @@ impl<T> Model for StdSink<T> {
 
     ghost Value = { StdSinkState T };
 
-    ghost view = { λ s. record { writer = s.writer; faults = s.faults; refusals = s.refused } };
+    ghost view = { λ s. record { writer = s.writer; is_broken = s.broken; faults = s.faults; refusals = s.refused } };
 }
 
 impl<T> StdSink<T> {
     /// A sink over this writer.
     pub fn new(writer: T) -> Self
-        ensures { result ≡ record { writer = writer; faults = 0; refusals = 0 } }
+        ensures { result ≡ record { writer = writer; is_broken = false; faults = 0; refusals = 0 } }
     {
         StdSink {
             writer,
+            broken: false,
             faults: 0,
             refused: 0,
         }
+    }
+
+    /// Whether handing on has failed, so that bytes which the sink took may not have come out.
+    pub fn is_broken(&self) -> bool
+        ensures { result ≡ self.now.is_broken }
+    {
+        self.broken
     }
 }
 
@@ -52,7 +61,15 @@ impl<T: Write> Sink for StdSink<T> {
 
         // The writer took as many bytes as were said, where it tells them.
         ensures writer { WriteAppends (T.contents self.old.writer) (T.contents self.new.writer) result bytes.now }
+
+        // Behind a failure to hand on nothing is taken.
+        ensures broken { self.old.is_broken ≡ true → IsErr result }
+        ensures stays { self.new.is_broken ≡ self.old.is_broken }
     {
+        if self.broken {
+            raise(&mut self.faults);
+            return Err(SinkFault);
+        }
         match self.writer.write(bytes) {
             Ok(taken) => {
                 if taken == 0 && !bytes.is_empty() {
@@ -64,6 +81,14 @@ impl<T: Write> Sink for StdSink<T> {
                 raise(&mut self.faults);
                 Err(SinkFault)
             }
+        }
+    }
+
+    fn hand_on(&mut self)
+        ensures { sink_state self.new ≡ sink_state self.old }
+    {
+        if self.writer.flush().is_err() {
+            self.broken = true;
         }
     }
 }

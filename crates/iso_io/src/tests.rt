@@ -2,7 +2,7 @@
 use super::*;
 use std::fmt::Debug;
 use std::io;
-use std::io::{Read, Write};
+use std::io::{BufWriter, Read, Write};
 use std::process::Abort;
 use std::test::Fail;
 
@@ -175,4 +175,31 @@ fn a_writer_that_takes_little_gets_all_in_order(rt: HostRuntime) {
         same(&rt, put_all(&mut sink, b"cdefg"), Ok(()));
     }
     same(&rt, narrow.bytes.as_slice(), b"abcdefg".as_slice());
+}
+
+#[test]
+fn what_a_writer_holds_back_comes_out_where_the_sink_hands_on(rt: HostRuntime) -> Result<(), Fail> {
+    let alloc = rt.alloc();
+    let mut bytes = Vec::new(alloc);
+    {
+        let mut sink = StdSink::new(BufWriter::new(alloc, &mut bytes)?);
+        same(&rt, put_all(&mut sink, b"abc"), Ok(()));
+        sink.hand_on();
+        same(&rt, sink.is_broken(), false);
+        same(&rt, put_all(&mut sink, b"de"), Ok(()));
+        sink.hand_on();
+    }
+    same(&rt, bytes.as_slice(), b"abcde".as_slice());
+    Ok(())
+}
+
+#[test]
+fn nothing_is_taken_behind_a_failure_to_hand_on(rt: HostRuntime) -> Result<(), Fail> {
+    let mut sink = StdSink::new(BufWriter::new(rt.alloc(), Broken)?);
+    same(&rt, sink.put(b"abc"), Ok(3));
+    same(&rt, sink.is_broken(), false);
+    sink.hand_on();
+    same(&rt, sink.is_broken(), true);
+    same(&rt, sink.put(b"de"), Err(SinkFault));
+    Ok(())
 }

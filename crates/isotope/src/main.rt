@@ -1,8 +1,8 @@
 // The program: a mirror of two file disks, of which pages are kept, standard input and standard output, handed to the top
-// call.
+// call. Replies are held back until more input is waited for, and come out at the end.
 #![tactic(auto)]
 
-ghost use Rattle.std.specs.Prelude.{◌≡◌};
+ghost use Rattle.std.specs.Prelude.{◌≡◌, ◌≢◌, false, true};
 ghost use Rattle.std.specs.Process.{exit_status};
 
 #[cfg(test)]
@@ -11,12 +11,13 @@ mod tests;
 mod tests_lock;
 
 use file_disk::FileDisk;
-use iso_io::{StdSink, StdSource, put_all};
+use iso_io::{Sink, StdSink, StdSource, put_all};
 use iso_top::isotope;
 use kept_disk::Kept;
 use mirror_disk::Mirror;
 use par_runner::Gate;
 use std::alloc::AllocError;
+use std::io::BufWriter;
 use std::process::ExitCode;
 use std::rt::Env;
 use std::{env, io};
@@ -45,24 +46,41 @@ fn exit_of(status: u8) -> ExitCode
     ExitCode::from(status)
 }
 
+/// The status where the call ended with this one: 7 where all was done, and not all of its text came out.
+fn status_of(status: u8, is_cut: bool) -> u8
+    ensures kept { status ≢ 0 → result ≡ status }
+    ensures whole { is_cut ≡ false → result ≡ status }
+    ensures cut { status ≡ 0 → is_cut ≡ true → result ≡ 7 }
+{
+    if is_cut && status == 0 { 7 } else { status }
+}
+
+/// The end for want of memory, before anything was done.
+fn without_memory<K: Sink>(output: &mut K) -> ExitCode {
+    let _ = put_all(output, b"! memory\n");
+    output.hand_on();
+    exit_of(8)
+}
+
 fn main(rt: HostRuntime) -> ExitCode {
     let alloc = rt.alloc();
     let mut input = StdSource::new(rt.stdin());
-    let mut output = StdSink::new(rt.stdout());
+    let Ok(held) = BufWriter::new(alloc, rt.stdout()) else {
+        return without_memory(&mut StdSink::new(rt.stdout()));
+    };
+    let mut output = StdSink::new(held);
     let Ok(words) = words_of(&rt) else {
-        let _ = put_all(&mut output, b"! memory\n");
-        return exit_of(8);
+        return without_memory(&mut output);
     };
     let Ok(files) = rt.clone() else {
-        let _ = put_all(&mut output, b"! memory\n");
-        return exit_of(8);
+        return without_memory(&mut output);
     };
     let Ok(more) = rt.clone() else {
-        let _ = put_all(&mut output, b"! memory\n");
-        return exit_of(8);
+        return without_memory(&mut output);
     };
     let sides = Mirror::of(FileDisk::new(files, alloc), FileDisk::new(more, alloc));
     let disk = Kept::new(alloc, sides);
     let ended = isotope(&rt, alloc, &words, disk, &mut input, &mut output, &Open);
-    exit_of(ended.status)
+    output.hand_on();
+    exit_of(status_of(ended.status, output.is_broken()))
 }

@@ -13,7 +13,7 @@ ghost use Rattle.script_runner.specs.Rehearsal.{rehearsed, rehearsed_is_world};
 
 use super::*;
 use fault_count::raise;
-use iso_io::{MemSink, MemSource};
+use iso_io::{MemSink, MemSource, Sink, SinkFault};
 use iso_model::Mode;
 use script_model::{BadLine, Op, Reply, Stop};
 use std::alloc::{AllocError, Global};
@@ -140,6 +140,44 @@ fn run_in_pieces(alloc: Global, input: &[u8], piece: usize) -> Result<Ran, Alloc
     run_over(alloc, source, sink, u64::MAX)
 }
 
+// A sink that counts how often it was to hand on what it holds back.
+#[derive(Drop)]
+struct Counted {
+    kept: MemSink,
+    times: u64,
+}
+
+impl Sink for Counted {
+    ghost use Rattle.iso_io.specs.Memory.{sink_state};
+
+    ghost state = { λ s. sink_state s.kept };
+
+    fn put(&mut self, bytes: &[u8]) -> Result<usize, SinkFault> {
+        self.kept.put(bytes)
+    }
+
+    fn hand_on(&mut self) {
+        self.times = self.times.saturating_add(1);
+        self.kept.hand_on();
+    }
+}
+
+// How often the sink hands on in a run over these pieces.
+fn handed_on(alloc: Global, input: &[u8], piece: usize) -> Result<u64, AllocError>
+    requires { 0 < piece }
+{
+    let mut source = MemSource::in_pieces(input.to_vec(alloc)?, Vec::new(alloc), piece);
+    let kept = MemSink::new(alloc, Vec::new(alloc));
+    let mut sink = Counted { kept, times: 0 };
+    let mut machine = Rehearsed {
+        done: 0,
+        working: u64::MAX,
+        faults: 0,
+    };
+    run(alloc, &mut machine, &mut source, &mut sink);
+    Ok(sink.times)
+}
+
 const SCRIPT: &[u8] = b"1 begin\n1 end\n1 begin\n1 put 2 5 abcd\n1 end\n";
 
 const REPLIES: &[u8] = b"1 ok begin 0\n1 ok read-only\n1 ok begin 0\n1 ok\n1 ok commit 1\n";
@@ -221,5 +259,15 @@ fn the_disk_fails_at_the_second_step(rt: HostRuntime) -> Result<(), Fail> {
     let ran = run_over(alloc, source, sink, 1)?;
     same(&rt, ran.end, RunEnd::Disk);
     same(&rt, ran.output.as_slice(), b"1 ok begin 0\n".as_slice());
+    Ok(())
+}
+
+#[test]
+fn replies_come_out_before_more_input_is_taken(rt: HostRuntime) -> Result<(), Fail> {
+    same(&rt, SCRIPT.len(), 43);
+    same(&rt, handed_on(rt.alloc(), SCRIPT, 4096)?, 2);
+    same(&rt, handed_on(rt.alloc(), SCRIPT, 43)?, 2);
+    same(&rt, handed_on(rt.alloc(), SCRIPT, 10)?, 6);
+    same(&rt, handed_on(rt.alloc(), b"1 jump\n1 begin\n", 7)?, 1);
     Ok(())
 }

@@ -8,7 +8,7 @@ fits bytes piece into count same few = omega (arith, same, few, length-append by
 
 pub returns-in-Err-clause-ends : goal.returns-in-Err-clause-ends
 returns-in-Err-clause-ends g c W m i k bytes gave few r =
-    input_runs W bytes c.args.progress.now.number c.args.progress.now.held.items r i (g.S.Source.state c.args.input.now) (g.S.Source.state c.take.new.self) gave
+    input_runs W bytes c.args.progress.now.number c.args.progress.now.held.items (rw (← c.hand_on.ensures) at r) i (g.S.Source.state c.args.input.now) (g.S.Source.state c.take.new.self) gave
     (omega (arith, few, c.requires.room)) c.in-Err.ensures.err (c.in-Err.ensures.cause.failed refl)
 
 pub returns-in-Err-answer_piece-clause-ends : goal.returns-in-Err-answer_piece-clause-ends
@@ -18,7 +18,7 @@ returns-in-Err-answer_piece-clause-ends g c W m i k bytes gave few r =
     subst (λ (how : RunEnd). HasRun (g.M.ScriptMachine.stands c.answer_piece.new.machine) (g.M.ScriptMachine.disk m) (g.M.ScriptMachine.disk c.answer_piece.new.machine) i (g.S.Source.state c.take.new.self) k (g.K.Sink.state c.answer_piece.new.output) W how)
     (sym c.end_of.ensures)
     (halt_runs i (g.S.Source.state c.take.new.self) W (bytes ++ piece) (gave_more i (g.S.Source.state c.args.input.now) (g.S.Source.state c.take.new.self) bytes piece gave given)
-    (fits bytes c.args.piece.now c.take.new.into c.in-Ok.count c.take.auto.into few) c.in-Err-answer_piece.halt (c.in-Err-answer_piece.ensures.ends W m k bytes r))
+    (fits bytes c.args.piece.now c.take.new.into c.in-Ok.count c.take.auto.into few) c.in-Err-answer_piece.halt (c.in-Err-answer_piece.ensures.ends W m k bytes (rw (← c.hand_on.ensures) at r)))
 
 pub returns-then-len-gt-MAX_LINE-clause-ends : goal.returns-then-len-gt-MAX_LINE-clause-ends
 returns-then-len-gt-MAX_LINE-clause-ends g c W m i k bytes gave few r =
@@ -28,7 +28,7 @@ returns-then-len-gt-MAX_LINE-clause-ends g c W m i k bytes gave few r =
     let long : MAX_LINE < length held.items = omega (arith, c.if-len-gt-MAX_LINE.true, c.len.ensures, held.ok.0) in
     halt_runs i (g.S.Source.state c.take.new.self) W (bytes ++ piece) (gave_more i (g.S.Source.state c.args.input.now) (g.S.Source.state c.take.new.self) bytes piece gave given)
     (fits bytes c.args.piece.now c.take.new.into c.in-Ok.count c.take.auto.into few) (BadLine (record { line = c.answer_piece.new.progress.number; cause = 7 }))
-    (long_ends W (bytes ++ piece) c.answer_piece.new.progress.number held.items (c.in_default.ensures.reads W m k bytes r) long)
+    (long_ends W (bytes ++ piece) c.answer_piece.new.progress.number held.items (c.in_default.ensures.reads W m k bytes (rw (← c.hand_on.ensures) at r)) long)
 
 pub returns-clause-reads : goal.returns-clause-reads
-returns-clause-reads g c W m k bytes r = c.in_default.ensures.reads W m k bytes r
+returns-clause-reads g c W m k bytes r = c.in_default.ensures.reads W m k bytes (rw (← c.hand_on.ensures) at r)
