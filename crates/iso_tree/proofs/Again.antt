@@ -13,10 +13,6 @@ use Rattle.iso_tree.proofs.Ways.{path_below, counts, climb_below, climb_take}
 abbrev pub nodes_at : (ℕ → List Cell) → List ℕ → List (ℕ × List Cell)
 nodes_at cells blocks = map (λ b. (b, cells b)) blocks
 
-pub again_answer : {R : Type 0} (a : Area) (A : Array) (blocks : List ℕ) (f : List (ℕ × List Cell) → Program R) → answer_of (look_again a blocks f) A ≡ answer_of (f (nodes_at (cells_in a A) blocks)) A
-again_answer a A [] f = refl
-again_answer a A (b ∷ blocks) f = again_answer a A blocks (λ nodes. f ((b, cells_in a A b) ∷ nodes))
-
 pub again_own : {R : Type 0} (a : Area) (A : Array) (blocks : List ℕ) (f : List (ℕ × List Cell) → Program R)
     → own A (accesses_of (look_again a blocks f) A) ≡ own A (accesses_of (f (nodes_at (cells_in a A) blocks)) A)
 again_own a A [] f = refl

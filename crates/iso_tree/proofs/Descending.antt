@@ -1,7 +1,6 @@
 -- A descent, step by step.
-use Rattle.iso_tree.proofs.Words.{◌≡◌, ◌∙◌, sym, refl, subst, ℕ, zero, suc, ◌+◌, ◌&&◌, Bool, true, false, cond, List, [], ◌∷◌, take, Result, Ok, Err, IfOk, IfErr, Area, StoreError, Program, Done, Look, further_bytes, then_do, keys_end, keys_mark, Tx, Device, IsLater, Ran, IsCut, HasRun, HasRead, IsAt, at_then, ran_at, cut_then, later_than, cause_since, cut_from, read_join, Leaf, is_node, is_child, child_of, count_of, Descent, AtLeaf, AtBroken, descend, inner_further, leaf_further, IsWalkError, OnlyReads, child_program, leaf_program, HasDescended, HasReadLeaf}
+use Rattle.iso_tree.proofs.Words.{◌≡◌, ◌∙◌, sym, refl, subst, ℕ, zero, suc, ◌+◌, ◌&&◌, Bool, true, false, cond, List, [], ◌∷◌, take, Result, Ok, Err, IfOk, IfErr, Area, StoreError, Program, Done, Look, further_bytes, then_do, keys_end, keys_mark, Tx, Device, IsLater, Ran, IsCut, HasRun, HasRead, IsAt, at_then, ran_at, cut_then, later_than, cause_since, cut_from, read_join, Leaf, is_node, is_child, child_of, count_of, Descent, AtLeaf, AtBroken, descend, inner_further, leaf_further, IsWalkError, OnlyReads, child_program, leaf_program, HasDescended, HasReadLeaf, at_as}
 use Rattle.store_model.specs.declared.stores.StoreError.TheVariants as store
-use Rattle.iso_tree.proofs.Looking.{at_as}
 
 module _ (a : Area) (key : List ℕ) (with_value : Bool) where
   -- what follows a step, and the read of the leaf
@@ -116,9 +115,3 @@ reads_after t u v before mid now (Err e) read later passed is = record {
   is_open = tt;
 }
 
--- the answer of another part of a call
-pub reads_as : {R S : Type 0} (t v : Tx) (before now : Device) (e : StoreError) → OnlyReads {R = R} t v before now (Err e) → OnlyReads {R = S} t v before now (Err e)
-reads_as t v before now e is = record { reads = is.reads; cause = is.cause; known = is.known; later = is.later; passed = tt; is_open = tt }
-
-pub reads_ok : {R S : Type 0} (t v : Tx) (before now : Device) (r : R) (s : S) → OnlyReads t v before now (Ok r) → OnlyReads t v before now (Ok s)
-reads_ok t v before now r s is = record { reads = is.reads; cause = tt; known = tt; later = is.later; passed = is.passed; is_open = is.is_open }

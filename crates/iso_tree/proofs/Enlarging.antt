@@ -77,17 +77,6 @@ module _ (a : Area) (first taken : List ℕ) (way : Climb) (full : ℕ) (count :
       (at_store whole a.start (first_spans taken way.root) (first_bytes a first taken way.root) nodes_next t t u (at_writes room) fits
       (is ∙ ap (λ (o : Option (ℕ × ℕ)). with_accesses t (first_access a first taken o ∷ [])) (sym root_is))) run
 
--- what a part leaves that makes all of its writes, more than one, or wants memory
-pub behaves_memory : (t v : Tx) (writes : ℕ) (before now : Device) (result : Result (Unit {0}) StoreError) → 1 < writes → IfErr result (λ e. e ≡ store.Tx error.Memory) → now ≡ before → Behaves t v writes before now result
-behaves_memory t v writes before now (Ok x) many memory same = done_so t v writes before now x same
-behaves_memory t v writes before now (Err e) many memory same =
-    subst (λ (x : StoreError). Behaves {R = Unit {0}} t v writes before now (Err x)) (sym memory) (refused_memory t v writes before now error.Memory many refl same)
-
--- a reservation that does not fit
-pub unfit_so : (full : ℕ) (t : Tx) (before : Device) (e : TxError) → full ≤ 32 → (e ≡ error.TooManyAccesses) × (room_of t < 2 + 2 * full) → Behaves {R = Unit {0}} t t 66 before before (Err (store.Tx e))
-unfit_so full t before e few is = subst (λ (x : TxError). Behaves {R = Unit {0}} t t 66 before before (Err (store.Tx x))) (sym is.0)
-    (record { cause = (let r = is.1 in omega arith, refl); unwritten = λ other. read_none t; known = (λ x. cc, λ x. cc); later = later_same before before refl; passed = tt })
-
 -- the same by the count that the code has
 pub record IsWayOf (path : List (ℕ × ℕ)) (news : List ℕ) (full : ℕ) (way : Climb) : Type 0 where
   pub count : length way.writes ≡ 2 * full + 1

@@ -1,7 +1,6 @@
 -- A get, part by part.
-use Rattle.iso_tree.proofs.Words.{◌≡◌, ◌≢◌, ◌∙◌, sym, refl, ap, subst, ℕ, ◌+◌, Bool, true, false, cond, List, [], take, Option, Some, None, Result, Ok, Err, IfOk, option_map, ne_eqb, eq-eqb, Area, StoreError, own, Program, Done, Look, bytes_in, further_bytes, then_do, IsLocal, keys_end, value_mark, word_at, is_part, text_of, at_cell, is_key, get_op, Tx, Ran, IsCut, HasRun, IsLocalCall, IsAt, at_start, at_then, ran_at, whole_run, cut_then, run_from, Leaf, is_head, head_mark, Descent, AtLeaf, AtBroken, descend, got, get_below, get_program, with_head, tree_map, IsTreeRegion, head_program, HasDescended, IsLeaf, leaf_value}
+use Rattle.iso_tree.proofs.Words.{◌≡◌, ◌≢◌, ◌∙◌, sym, refl, ap, subst, ℕ, ◌+◌, Bool, true, false, cond, List, [], take, Option, Some, None, Result, Ok, Err, IfOk, option_map, ne_eqb, eq-eqb, Area, StoreError, own, Program, Done, Look, bytes_in, further_bytes, then_do, IsLocal, keys_end, value_mark, word_at, is_part, text_of, at_cell, is_key, get_op, Tx, Ran, IsCut, HasRun, IsLocalCall, IsAt, at_start, at_then, ran_at, whole_run, cut_then, run_from, Leaf, is_head, head_mark, Descent, AtLeaf, AtBroken, descend, got, get_below, get_program, with_head, tree_map, IsTreeRegion, head_program, HasDescended, IsLeaf, leaf_value, at_as}
 use Rattle.store_model.specs.declared.stores.StoreError.TheVariants as store
-use Rattle.iso_tree.proofs.Looking.{at_as}
 use Rattle.iso_tree.proofs.Facts.{missing}
 use Rattle.iso_tree.proofs.Gets.{get_local}
 

@@ -1,7 +1,6 @@
 -- A put, part by part.
-use Rattle.iso_tree.proofs.Words.{◌≡◌, ◌≢◌, ◌∙◌, sym, ap, subst, ℕ, suc, ◌+◌, ◌*◌, ◌<◌, ◌≤◌, Bool, true, false, cond, List, [], ◌∷◌, take, Option, Some, None, Result, Ok, Err, arith, ne_eqb, eq-eqb, nat_lt, nat_tests, Area, StoreError, at_cell, is_key, is_value, block_with, cell_count, keys_end, value_mark, value_part, Program, Done, Store, then_do, Tx, Ran, HasRead, HasRun, IsCut, IsAt, at_start, at_then, ran_at, cut_then, run_from, Leaf, AreShownUsable, put_after, Answer, Descent, AtBroken, descend, edit_leaf, full_row, need_of, put_at, put_below_root, put_program, with_head, with_map, HasDescended, IsLeaf}
+use Rattle.iso_tree.proofs.Words.{◌≡◌, ◌≢◌, ◌∙◌, sym, ap, subst, ℕ, suc, ◌+◌, ◌*◌, ◌<◌, ◌≤◌, Bool, true, false, cond, List, [], ◌∷◌, take, Option, Some, None, Result, Ok, Err, arith, ne_eqb, eq-eqb, nat_lt, nat_tests, Area, StoreError, at_cell, is_key, is_value, block_with, cell_count, keys_end, value_mark, value_part, Program, Done, Store, then_do, Tx, Ran, HasRead, HasRun, IsCut, IsAt, at_start, at_then, ran_at, cut_then, run_from, Leaf, AreShownUsable, put_after, Answer, Descent, AtBroken, descend, edit_leaf, full_row, need_of, put_at, put_below_root, put_program, with_head, with_map, HasDescended, IsLeaf, at_as}
 use Rattle.store_model.specs.declared.stores.StoreError.TheVariants as store
-use Rattle.iso_tree.proofs.Looking.{at_as}
 use Rattle.iso_tree.proofs.Usable.{path_usable}
 
 -- the put below a root
@@ -60,12 +59,6 @@ module _ (a : Area) (key value : List ℕ) (root level : ℕ) (some : root ≢ 0
     leaf_usable read one =
         subst (λ (count : ℕ). AreShownUsable a u ((leaf.block, count) ∷ path)) (sym is.count)
         (path_usable a key root level t u path leaf.block (take (keys_end a.size) buffer) _ read ended (omega (arith, one, is.count)))
-
--- an empty tree
-pub put_empty : (a : Area) (key value : List ℕ) (root level : ℕ) (t v : Tx) (result : Result (Unit {0}) StoreError) → root ≡ 0 → HasRun (with_map a key value []) t v result → HasRun (put_below_root a key value root level) t v result
-put_empty a key value root level t v result none run =
-    let e : put_below_root a key value root level ≡ with_map a key value [] = ap (λ (b : Bool). cond b (with_map a key value []) (then_do (descend a key false level root []) (put_at a key value))) (eq-eqb root 0 none) in
-    subst (λ (p : Program Answer). HasRun p t v result) (sym e) run
 
 -- a full leaf needs a new block
 pub full_needs : (n leaf count : ℕ) (path : List (ℕ × ℕ)) → count ≡ n → 1 ≤ need_of n ((leaf, count) ∷ path)

@@ -62,15 +62,6 @@ pub all_append : {X : Type 0} (P : X → Type 0) (xs ys : List X) → AllByRecur
 all_append P [] ys all more = more
 all_append P (x ∷ xs) ys all more = (all.0, all_append P xs ys all.1 more)
 
-all_flat : {X : Type 0} (P : X → Type 0) (f : ℕ → List X) (from n : ℕ) → ((i : ℕ) → from ≤ i → i < from + n → AllByRecursion P (f i)) → AllByRecursion P (flat_map f (range_with_len from n))
-all_flat P f from zero each = tt
-all_flat P f from (suc n) each = all_append P (f from) (flat_map f (range_with_len (from + 1) n)) (each from (omega arith) (omega arith))
-    (all_flat P f (from + 1) n (λ i low high. each i (omega arith) (omega arith)))
-
-all_map : {X : Type 0} (P : X → Type 0) (f : ℕ → X) (from n : ℕ) → ((i : ℕ) → from ≤ i → i < from + n → P (f i)) → AllByRecursion P (map f (range_with_len from n))
-all_map P f from zero each = tt
-all_map P f from (suc n) each = (each from (omega arith) (omega arith), all_map P f (from + 1) n (λ i low high. each i (omega arith) (omega arith)))
-
 pub all_weaker : {X : Type 0} (P Q : X → Type 0) (xs : List X) → ((x : X) → P x → Q x) → AllByRecursion P xs → AllByRecursion Q xs
 all_weaker P Q [] h all = tt
 all_weaker P Q (x ∷ xs) h all = (h x all.0, all_weaker P Q xs h all.1)

@@ -1,9 +1,9 @@
 -- A removal, part by part.
-use Rattle.iso_tree.proofs.Words.{◌≡◌, ◌≢◌, ◌∙◌, sym, ap, subst, ℕ, ◌+◌, ◌≤◌, Bool, true, false, cond, List, [], ◌∷◌, length, Option, Some, None, Result, Ok, Err, IfOk, arith, ne_eqb, eq-eqb, append-nil, Access, Area, StoreError, TxError, Array, own, at_cell, is_key, del_op, Program, Done, LookWhole, Store, look_access, store_access, then_do, after, outcome, IsLocal, length-block_own, Tx, Device, IsTx, with_accesses, room_of, Ran, IsCut, IsCause, HasRun, IsLocalCall, IsAt, at_start, at_then, at_look_whole, at_store, ran_at, stopped_at, whole_run, cut_at_store, cut_then, run_from, Leaf, Cell, used_cells, node_bytes, Descent, AtBroken, descend, edit_leaf, without_key, del_at, del_below, del_program, with_head, tree_map, IsTreeArea, IsTreeRegion, HasDescended, IsLeaf, AreBytesOf}
+use Rattle.iso_tree.proofs.Words.{◌≡◌, ◌≢◌, ◌∙◌, sym, ap, subst, ℕ, ◌+◌, ◌≤◌, Bool, true, false, cond, List, [], ◌∷◌, length, Option, Some, None, Result, Ok, Err, IfOk, arith, ne_eqb, eq-eqb, append-nil, Access, Area, StoreError, TxError, Array, own, at_cell, is_key, del_op, Program, Done, LookWhole, Store, look_access, store_access, then_do, after, outcome, IsLocal, length-block_own, Tx, Device, IsTx, with_accesses, room_of, Ran, IsCut, IsCause, HasRun, IsLocalCall, IsAt, at_start, at_then, at_look_whole, at_store, ran_at, stopped_at, whole_run, cut_at_store, cut_then, run_from, Leaf, Cell, used_cells, node_bytes, Descent, AtBroken, descend, edit_leaf, without_key, del_at, del_below, del_program, with_head, tree_map, IsTreeArea, IsTreeRegion, HasDescended, IsLeaf, AreBytesOf, at_as, HasBlocks}
 use Rattle.store_model.specs.declared.stores.StoreError.TheVariants as store
 use Rattle.store_model.specs.declared.stores.TxError.TheVariants as error
-use Rattle.iso_tree.proofs.Looking.{at_as}
-use Rattle.iso_tree.proofs.DelCalls.{HasBlocks, del_local}
+use Rattle.iso_tree.proofs.DelCalls.{del_local}
+pub use Rattle.tx_blocks.proofs.Programs.{blocks_of as blocks_in}
 
 -- an unmarked read that does not fit
 pub cut_at_whole : {R : Type 0} (whole : Program R) (b : ℕ) (next : List ℕ → Program R) (t u v : Tx) (before now : Device) (e : TxError)
@@ -70,11 +70,6 @@ module _ (a : Area) (key : List ℕ) (root level : ℕ) (some : root ≢ 0) (t u
     pub del_found : (i : ℕ) (v : Tx) (result : Result Bool StoreError) → leaf.cell ≡ Some i → HasRun (edit_leaf a leaf.block (without_key key) (Ok true)) u v result → HasRun (del_below a key root level) t v result
     del_found i v result cell run = run_from (del_below a key root level) (edit_leaf a leaf.block (without_key key) (Ok true)) t u v result (at_leaf (Some i) cell) run
 
-pub del_empty : (a : Area) (key : List ℕ) (root level : ℕ) (t : Tx) → root ≡ 0 → Ran (del_below a key root level) t t (Ok false)
-del_empty a key root level t none =
-    let e : del_below a key root level ≡ Done (Ok false) = ap (λ (b : Bool). cond b (Done (Ok false)) (then_do (descend a key false level root []) (del_at a key))) (eq-eqb root 0 none) in
-    ran_at (del_below a key root level) t t (Ok false) (at_as (del_below a key root level) _ _ t t e (at_start (del_below a key root level) t))
-
 pub del_run : (a : Area) (key : List ℕ) (t u : Tx) (result : Result Bool StoreError) → is_key key ≡ true → HasRun (with_head a (del_below a key)) t u result → HasRun (del_program a key) t u result
 unfolding del_program
 del_run a key t u result is run = rw is run
@@ -82,10 +77,6 @@ del_run a key t u result is run = rw is run
 pub del_bad_key : (a : Area) (key : List ℕ) (t : Tx) → is_key key ≡ false → Ran (del_program a key) t t (Err store.BadKey)
 unfolding del_program
 del_bad_key a key t not = rw not (ran_at (Done (Err store.BadKey)) t t (Err store.BadKey) (at_start (Done (Err store.BadKey)) t))
-
--- the blocks of the array that the transaction shows
-pub blocks_in : (a : Area) (t : Tx) (A : Array) → IsTx t → t.size ≡ a.size → a.start + a.blocks ≤ t.blocks → t.base ≡ Some A → HasBlocks a (own A t.accesses)
-blocks_in a t A is size fits told k below = length-block_own A t.accesses (a.start + k) ∙ (is.base A told).bytes (a.start + k) (omega arith) ∙ size
 
 pub del_call : (a : Area) (key : List ℕ) (t u : Tx) (result : Result Bool StoreError) → IsTreeArea a → is_key key ≡ true → IsTx t → t.size ≡ a.size → a.start + a.blocks ≤ t.blocks
     → HasRun (del_program a key) t u result → IfOk result (IsLocalCall (IsTreeRegion a) (tree_map a) (del_op key) t u)

@@ -23,6 +23,10 @@ with_more t xs ys = ap (λ accesses. record t { accesses = accesses }) (append_a
 pub at_start : {R : Type 0} (p : Program R) (t : Tx) → IsAt p p t t
 at_start p t = record { done = []; is = sym (with_none t); told = λ A is. refl; all = λ A is. refl }
 
+-- what is left may be said in another way
+pub at_as : {R : Type 0} (whole p q : Program R) (t u : Tx) → p ≡ q → IsAt whole p t u → IsAt whole q t u
+at_as whole p q t u e now = subst (λ (r : Program _). IsAt whole r t u) e now
+
 pub same_base : {R : Type 0} (whole rest : Program R) (t u : Tx) → IsAt whole rest t u → u.base ≡ t.base
 same_base whole rest t u now = ap (λ (w : Tx). w.base) now.is
 
@@ -44,7 +48,7 @@ pub at_join : {R : Type 0} (whole rest next : Program R) (t u v : Tx) → IsAt w
 at_join whole rest next t u v now more =
     at_more whole rest next t u v more.done now more.is (λ A told. more.told A (same_base whole rest t u now ∙ told)) (λ A told. more.all A (same_base whole rest t u now ∙ told))
 
-room_after : (u v : Tx) (a : Access) → v ≡ with_accesses u (a ∷ []) → length v.accesses ≤ 4096 → room_of u ≡ suc (room_of v)
+pub room_after : (u v : Tx) (a : Access) → v ≡ with_accesses u (a ∷ []) → length v.accesses ≤ 4096 → room_of u ≡ suc (room_of v)
 room_after u v a is fits =
     let long : length v.accesses ≡ length u.accesses + 1 = ap (λ (w : Tx). length w.accesses) is ∙ length-append u.accesses (a ∷ []) in
     omega arith
