@@ -1,5 +1,5 @@
 -- The nodes that a put reads once more are those of its descent, and the way up over them is the put below the root.
-use Rattle.iso_tree.proofs.Words.{◌≡◌, ◌∙◌, sym, refl, ap, ℕ, zero, suc, ◌+◌, ◌<◌, ◌≤◌, true, List, [], ◌∷◌, map, take, length, Option, None, arith, inl, inr, AllByRecursion, flat_map, append-nil, Area, Array, own, IsIn, block_at, Program, accesses_of, answer_of, cell_count, Cell, child_of, child_part, is_child, tree_at, nodes_in, IsOrdered, climb, climb_on, full_row, look_again, cells_in, AreNodes, AreWhole}
+use Rattle.iso_tree.proofs.Words.{◌≡◌, ◌∙◌, sym, refl, ap, ℕ, zero, suc, ◌+◌, ◌<◌, ◌≤◌, true, List, [], ◌∷◌, map, take, length, Option, None, arith, inl, inr, AllByRecursion, flat_map, append-nil, Area, Array, own, IsIn, block_at, Program, accesses_of, cell_count, Cell, child_of, child_part, is_child, tree_at, nodes_in, IsOrdered, climb, climb_on, full_row, look_again, cells_in, AreNodes, AreWhole}
 use Rattle.iso_tree.proofs.Blocks.{in_cases}
 use Rattle.iso_tree.proofs.Climbs.{child_ordered}
 use Rattle.iso_tree.proofs.Facts.{child_below}

@@ -1,6 +1,5 @@
 -- The way up, write by write.
-use Rattle.iso_tree.proofs.Words.{◌≡◌, ◌∙◌, sym, refl, ap, subst, ℕ, zero, suc, ◌+◌, ◌-◌, ◌*◌, ◌/◌, ◌<◌, ◌≤◌, ◌==◌, Bool, true, false, cond, nat_le, List, [], ◌∷◌, ◌++◌, length, take, drop, None, Result, Ok, arith, inl, inr, eq-eqb, ne_eqb, nat_tests, take_at, drop_at, Access, Area, StoreError, TxError, cell_count, keys_end, value_mark, Program, Done, Store, bytes_in, store_access, Tx, Device, with_accesses, room_of, HasRun, IsCut, IsCause, IsAt, at_start, at_store, cut_at_store, run_from, Cell, child_part, count_of, node_bytes, used_cells, key_in_row, row_from, nodes_from, IsUsable, AreUsable, AreInside, AreBlocks, Put, first_key, emptied, half, halves, fit, Answer, Climb, climb, climb_on, full_row, need_of, placed, root_cells, store_nodes, cases_eq, room_after, Err, OnOk, IsFollowed, HasWritten, ran_at}
-use Rattle.std.proofs.Common.{length-append}
+use Rattle.iso_tree.proofs.Words.{◌≡◌, ◌∙◌, sym, refl, ap, subst, ℕ, zero, suc, ◌+◌, ◌-◌, ◌*◌, ◌/◌, ◌<◌, ◌≤◌, ◌==◌, Bool, true, false, cond, nat_le, List, [], ◌∷◌, ◌++◌, length, take, drop, None, Result, Ok, arith, inl, inr, eq-eqb, ne_eqb, nat_tests, take_at, drop_at, Access, Area, StoreError, TxError, cell_count, keys_end, value_mark, Program, Done, Store, bytes_in, store_access, Tx, Device, with_accesses, HasRun, IsCut, IsCause, at_start, at_store, cut_at_store, run_from, Cell, child_part, count_of, node_bytes, used_cells, key_in_row, row_from, nodes_from, IsUsable, AreUsable, AreInside, AreBlocks, Put, first_key, emptied, half, halves, fit, Answer, Climb, climb, climb_on, full_row, need_of, placed, root_cells, store_nodes, cases_eq, room_after, Err, OnOk, IsFollowed, HasWritten, ran_at}
 use Rattle.iso_tree.proofs.Enough.{fits_one}
 use Rattle.iso_tree.proofs.Filling.{row_split, length-row}
 use Rattle.iso_tree.proofs.Fits.{length-cells}
@@ -110,12 +109,6 @@ module _ (a : Area) (key : List ℕ) (level : ℕ) (new : Cell) (below block cou
 
   pub rest_inside : AreInside a path → AreInside a rest
   rest_inside all = (subst (AreInside a) is all).1
-
-  pub room_for : (size : ℕ) → (i + length path) * a.size ≤ size → i * a.size + a.size + length rest * a.size ≤ size
-  room_for size fits = let h : (i + suc (length rest)) * a.size ≤ size = subst (λ (p : List (ℕ × ℕ)). (i + length p) * a.size ≤ size) is fits in omega arith
-
-  pub rest_room : (size : ℕ) → (i + length path) * a.size ≤ size → (i + 1 + length rest) * a.size ≤ size
-  rest_room size fits = let h : (i + suc (length rest)) * a.size ≤ size = subst (λ (p : List (ℕ × ℕ)). (i + length p) * a.size ≤ size) is fits in let e : i + suc (length rest) ≡ i + 1 + length rest = omega arith in subst (λ (k : ℕ). k * a.size ≤ size) e h
 
   used : length (used_cells a.size node) ≡ count
   used = length-cells (take (keys_end a.size) node) (λ j. bytes_in (value_mark a.size j) node) 0 (count_of (take (keys_end a.size) node)) ∙ first_usable.count_is

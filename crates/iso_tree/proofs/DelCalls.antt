@@ -1,5 +1,5 @@
 -- A removal is local.
-use Rattle.iso_tree.proofs.Words.{◌≡◌, ◌≢◌, ◌∙◌, sym, refl, ap, subst, ℕ, suc, ◌+◌, ◌<◌, ◌≤◌, ◌==◌, Bool, true, false, not, cond, List, [], ◌∷◌, ◌++◌, length, Option, Some, None, Result, Ok, Err, option_map, is_some, arith, inl, inr, eq-eqb, ne_eqb, AllByRecursion, filter, bytes_eq, get, remove, cases_Bool, cases_eq, Access, Area, StoreError, BadKey, Broken, Array, put, own, at_cell, is_key, del_op, block_at, Program, Done, bytes_in, then_do, accesses_of, answer_of, store_access, IsLocal, cell_count, keys_mark, value_mark, is_part, text_of, AreWhole, accesses_then, own_reads, whole_reads, IsCorrect, local_from, IsBlock, FitCells, Cell, cell_of, count_of, node_bytes, is_head, head_mark, Rise, in_range, tree_at, IsOrdered, Descent, AtLeaf, AtBroken, descend, with_head, without_key, edit_leaf, del_at, del_below, del_program, cells_in, root_of, level_of, IsTreeArea, IsTreeRegion, tree_pairs, tree_map, same_ok, found_in}
+use Rattle.iso_tree.proofs.Words.{◌≡◌, ◌≢◌, ◌∙◌, sym, refl, ap, subst, ℕ, suc, ◌+◌, ◌<◌, ◌≤◌, ◌==◌, Bool, true, false, not, cond, List, [], ◌∷◌, ◌++◌, length, Option, Some, None, Result, Ok, Err, option_map, is_some, arith, inl, inr, eq-eqb, ne_eqb, AllByRecursion, filter, bytes_eq, get, remove, cases_Bool, cases_eq, Area, StoreError, BadKey, Broken, Array, put, own, at_cell, is_key, del_op, block_at, Program, Done, bytes_in, then_do, accesses_of, answer_of, store_access, IsLocal, cell_count, keys_mark, value_mark, is_part, text_of, AreWhole, accesses_then, own_reads, whole_reads, IsCorrect, local_from, IsBlock, FitCells, Cell, cell_of, count_of, node_bytes, is_head, head_mark, Rise, in_range, tree_at, IsOrdered, Descent, AtLeaf, AtBroken, descend, with_head, without_key, edit_leaf, del_at, del_below, del_program, cells_in, root_of, level_of, IsTreeArea, IsTreeRegion, tree_pairs, tree_map, same_ok, found_in}
 use Rattle.iso_tree.proofs.Building.{filter_all}
 use Rattle.iso_tree.proofs.Bytes.{length-node_bytes}
 use Rattle.iso_tree.proofs.Edits.{leaf_of}

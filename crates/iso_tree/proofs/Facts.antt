@@ -1,5 +1,5 @@
 -- What the tests of nodes and heads say.
-use Rattle.iso_tree.proofs.Words.{◌≡◌, ◌∙◌, sym, refl, ap, ℕ, zero, suc, ◌+◌, ◌<◌, ◌≤◌, Bool, true, false, ◌&&◌, ◌||◌, ◌==◌, nat_le, cond, List, length, Option, Some, None, Result, Ok, Err, arith, bytes_eq, and_parts, leb-true, ltb-true, Area, cell_count, key_at, are_key_parts, word_at, first_from, found_or, cell_of, count_of, has_head, has_level, are_cells, is_node, is_child, child_of, is_head, first_below}
+use Rattle.iso_tree.proofs.Words.{◌≡◌, ◌∙◌, sym, refl, ap, ℕ, ◌<◌, ◌≤◌, Bool, true, false, ◌&&◌, ◌||◌, ◌==◌, nat_le, List, length, Option, Some, None, Result, Ok, arith, bytes_eq, and_parts, leb-true, ltb-true, Area, cell_count, key_at, are_key_parts, word_at, found_or, cell_of, count_of, has_head, has_level, are_cells, is_node, is_child, child_of, is_head, first_below}
 
 pub record IsParts (size level : ℕ) (keys : List ℕ) : Type 0 where
   pub head : has_head size level keys ≡ true

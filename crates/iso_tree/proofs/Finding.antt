@@ -1,5 +1,5 @@
 -- What a look-up finds among pairs.
-use Rattle.iso_tree.proofs.Words.{◌≡◌, ◌≢◌, ◌∙◌, sym, refl, ap, subst, ℕ, ◌+◌, Bool, true, false, ◌==◌, cond, List, [], ◌∷◌, ◌++◌, Option, Some, None, option_map, arith, AllByRecursion, nat_cmp, eq_by_cmp, slice_cmp, lists_ties, find, bytes_eq, false_from_ne_true, nat_tests, bytes_eq-Decides, first_from, or_else, in_range}
+use Rattle.iso_tree.proofs.Words.{◌≡◌, ◌≢◌, ◌∙◌, sym, refl, ap, subst, ℕ, ◌+◌, Bool, true, false, cond, List, [], ◌∷◌, Option, Some, None, option_map, AllByRecursion, nat_cmp, eq_by_cmp, slice_cmp, first_from, in_range}
 pub use Rattle.iso_alloc.proofs.Finding.{ties, not_bytes_eq, found_in, find_append}
 
 -- the first number that passes, and what stands there

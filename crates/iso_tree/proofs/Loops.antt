@@ -1,5 +1,5 @@
 -- Steps of the loops over keys.
-use Rattle.iso_tree.proofs.Words.{◌≡◌, ◌∙◌, sym, refl, ap, ℕ, suc, ◌+◌, ◌-◌, ◌<◌, ◌≤◌, true, false, cond, List, arith, key_at, before, below_from, place_from}
+use Rattle.iso_tree.proofs.Words.{◌≡◌, ◌∙◌, sym, refl, ap, ℕ, suc, ◌+◌, ◌-◌, ◌<◌, true, false, cond, List, arith, key_at, before, below_from, place_from}
 
 below_step : (key keys : List ℕ) (i n : ℕ) → i < n → below_from key keys i (n - i) ≡ cond (before (key_at keys i) key) (suc (below_from key keys (i + 1) (n - (i + 1)))) 0
 below_step key keys i n below = let e : n - i ≡ suc (n - (i + 1)) = omega arith in rw e refl

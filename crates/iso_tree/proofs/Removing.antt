@@ -1,5 +1,5 @@
 -- A removal, part by part.
-use Rattle.iso_tree.proofs.Words.{◌≡◌, ◌≢◌, ◌∙◌, sym, ap, subst, ℕ, ◌+◌, ◌≤◌, Bool, true, false, cond, List, [], ◌∷◌, length, Option, Some, None, Result, Ok, Err, IfOk, arith, ne_eqb, eq-eqb, append-nil, Access, Area, StoreError, TxError, Array, own, at_cell, is_key, del_op, Program, Done, LookWhole, Store, look_access, store_access, then_do, after, outcome, IsLocal, length-block_own, Tx, Device, IsTx, with_accesses, room_of, Ran, IsCut, IsCause, HasRun, IsLocalCall, IsAt, at_start, at_then, at_look_whole, at_store, ran_at, stopped_at, whole_run, cut_at_store, cut_then, run_from, Leaf, Cell, used_cells, node_bytes, Descent, AtBroken, descend, edit_leaf, without_key, del_at, del_below, del_program, with_head, tree_map, IsTreeArea, IsTreeRegion, HasDescended, IsLeaf, AreBytesOf, at_as, HasBlocks}
+use Rattle.iso_tree.proofs.Words.{◌≡◌, ◌≢◌, ◌∙◌, sym, ap, subst, ℕ, ◌+◌, ◌≤◌, Bool, true, false, cond, List, [], ◌∷◌, length, Option, Some, None, Result, Ok, Err, IfOk, arith, ne_eqb, append-nil, Access, Area, StoreError, TxError, own, at_cell, is_key, del_op, Program, Done, LookWhole, Store, look_access, store_access, then_do, after, outcome, IsLocal, Tx, Device, IsTx, with_accesses, room_of, Ran, IsCut, IsCause, HasRun, IsLocalCall, IsAt, at_start, at_then, at_look_whole, at_store, ran_at, stopped_at, whole_run, cut_at_store, cut_then, run_from, Leaf, Cell, used_cells, node_bytes, Descent, AtBroken, descend, edit_leaf, without_key, del_at, del_below, del_program, with_head, tree_map, IsTreeArea, IsTreeRegion, HasDescended, IsLeaf, AreBytesOf, at_as}
 use Rattle.store_model.specs.declared.stores.StoreError.TheVariants as store
 use Rattle.store_model.specs.declared.stores.TxError.TheVariants as error
 use Rattle.iso_tree.proofs.DelCalls.{del_local}

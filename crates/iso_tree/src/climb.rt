@@ -142,7 +142,9 @@ fn store_halves<T: TxBlocks>(
     ensures device { T.device tx.new ≡ T.device tx.old }
 {
     fill_row(into, level, node, place, key, part, 0, half);
-    store_next(tx, area.start + block, into)?;
+    if let Err(e) = store_next(tx, area.start + block, into) {
+        return Err(e);
+    }
     fill_right(into, level, node, place, key, part, half, others);
     store_next(tx, area.start + new, into)
 }
@@ -239,9 +241,11 @@ pub fn climb<T: TxBlocks>(
     };
     let half = (count as usize + 1) / 2;
     let others = count as usize + 1 - half;
-    store_halves(
+    if let Err(e) = store_halves(
         tx, area, level, block, new, bytes, place, new_key, part, half, others, into,
-    )?;
+    ) {
+        return Err(e);
+    }
     let keys = piece(bytes, 0, 64 + 31 * cell_count(size));
     let separator = row_key(size, keys, place, new_key, half);
     let new_part = child_part(new);

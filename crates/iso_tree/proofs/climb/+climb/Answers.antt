@@ -1,11 +1,18 @@
-use Rattle.iso_tree.proofs.Words.{◌≡◌, ◌∙◌, sym, refl, ap, subst, ℕ, suc, ◌+◌, ◌*◌, ◌/◌, ◌≤◌, List, [], length, take, Ok, rules, arith, TxError, cell_count, keys_end, Done, Store, bytes_in, Tx, HasRun, IsCut, Cell, child_part, count_of, node_bytes, used_cells, key_in_row, row_from, Answer, placed, root_cells, store_nodes, room_after, are_key_parts, true}
-use Rattle.iso_tree.proofs.Climbing.{first_usable, rest_usable, rest_inside, room_for, rest_room, last_writes, code_writes, rest_enough, more_inside, full_some, followed_end, root_run}
+use Rattle.iso_tree.proofs.Words.{◌≡◌, ◌∙◌, sym, refl, ap, subst, ℕ, suc, ◌+◌, ◌*◌, ◌/◌, ◌≤◌, List, [], length, take, Ok, rules, arith, cell_count, keys_end, Done, Store, bytes_in, HasRun, Cell, count_of, node_bytes, used_cells, key_in_row, row_from, placed, root_cells, store_nodes, are_key_parts, true, Err}
+use Rattle.iso_tree.proofs.Climbing.{first_usable, rest_usable, rest_inside, last_writes, code_writes, rest_enough, more_inside, full_some, followed_end, root_run}
 use Rattle.iso_tree.proofs.Filling.{key_fits}
+use Rattle.iso_tree.proofs.Rereading.{path_room}
 use Rattle.iso_tree.proofs.climb.+climb.Goals as goal
 
 pub piece-bytes-requires : goal.piece-bytes-requires
-piece-bytes-requires g t c =
-    omega (arith, room_for c.args.area c.args.key.now c.args.level (c.args.new_key.now, c.args.part.now) c.args.below c.in-Some.block c.in-Some.count c.args.i c.in-Some.rest.now c.args.path.now c.args.nodes.now c.args.news.now c.in-Some.ensures.some c.requires.usable (length c.args.nodes.now) c.requires.nodes)
+piece-bytes-requires g t c = omega (arith, (path_room c.args.area.size c.args.i (length c.args.nodes.now) c.in-Some.block c.in-Some.count c.in-Some.rest.now c.args.path.now c.in-Some.ensures.some c.requires.nodes).0)
+
+pub overflow_add-next : goal.overflow_add-next
+overflow_add-next g t c =
+    let least = c.requires.area.least_size in
+    let room = (path_room c.args.area.size c.args.i (length c.args.nodes.now) c.in-Some.block c.in-Some.count c.in-Some.rest.now c.args.path.now c.in-Some.ensures.some c.requires.nodes).0 in
+    let le : c.args.i * 1 ≤ c.args.i * c.args.area.size = Rattle.std.proofs.Math.Nat.mul-le-mul_left c.args.i (omega arith) in
+    omega (arith, c.requires.short)
 
 pub store_grown-requires-clause-room : goal.store_grown-requires-clause-room
 store_grown-requires-clause-room g t c =
@@ -43,8 +50,8 @@ store_halves-requires-clause-room g t c =
     full r c.in-Some-first_new-2.more.now c.in-Some-first_new-2.ensures.some c.place_in-place.result b c.piece-bytes.ensures.value (c.place_in-place.ensures.row new) two _ _ refl refl in
     omega (arith, ap length writes, c.requires.room)
 
-pub returns-in_err-store_halves-clause-run : goal.returns-in_err-store_halves-clause-run
-returns-in_err-store_halves-clause-run g t c =
+pub returns-in-Err-clause-run : goal.returns-in-Err-clause-run
+returns-in-Err-clause-run g t c =
     let state = g.T.TxBlocks.state in
     let a = c.args.area in
     let new : Cell = (c.args.new_key.now, c.args.part.now) in
@@ -54,7 +61,7 @@ returns-in_err-store_halves-clause-run g t c =
     let two : 2 ≤ cell_count a.size = let w = c.requires.block_size.whole in let l = c.requires.area.least_size in omega arith in
     let writes = code_writes a c.args.key.now c.args.level new c.args.below c.in-Some.block c.in-Some.count c.args.i c.in-Some.rest.now c.args.path.now c.args.nodes.now c.args.news.now c.in-Some.ensures.some c.requires.usable
     full r c.in-Some-first_new-2.more.now c.in-Some-first_new-2.ensures.some c.place_in-place.result b c.piece-bytes.ensures.value (c.place_in-place.ensures.row new) two _ _ refl refl in
-    subst (λ (ws : List (ℕ × ℕ × List Cell)). HasRun {X = Unit {0}} (store_nodes a ws (Done (Ok tt))) (state c.args.tx.now) (state c.store_halves.new.tx) _) (sym writes) (c.in_err-store_halves.ensures.run _)
+    subst (λ (ws : List (ℕ × ℕ × List Cell)). HasRun {X = Unit {0}} (store_nodes a ws (Done (Ok tt))) (state c.args.tx.now) (state c.store_halves.new.tx) (Err c.in-Err.e)) (sym writes) (c.in-Err.ensures.run _)
 
 pub climb-requires : goal.climb-requires
 climb-requires g t c κs within =
@@ -69,7 +76,7 @@ climb-requires g t c κs within =
     let k_is : c.row_key-separator.result.now ≡ key_in_row (take (keys_end a.size) b) c.place_in-place.result c.args.new_key.now ((c.in-Some.count + 1) / 2) = c.row_key-separator.ensures ∙ ap (λ (x : List ℕ). key_in_row x c.place_in-place.result c.args.new_key.now ((c.in-Some.count + 1) / 2)) keys_is in
     let writes = code_writes a c.args.key.now c.args.level new c.args.below c.in-Some.block c.in-Some.count c.args.i c.in-Some.rest.now c.args.path.now c.args.nodes.now c.args.news.now c.in-Some.ensures.some c.requires.usable
     full r c.in-Some-first_new-2.more.now c.in-Some-first_new-2.ensures.some c.place_in-place.result b c.piece-bytes.ensures.value (c.place_in-place.ensures.row new) two c.row_key-separator.result.now c.child_part-new_part.result k_is c.child_part-new_part.ensures in
-    let after = c.in_ok-store_halves.ensures.after in
+    let after = c.in_default-store_halves.ensures.after in
     let usable = first_usable a c.args.key.now c.args.level new c.args.below c.in-Some.block c.in-Some.count c.args.i c.in-Some.rest.now c.args.path.now c.args.nodes.now c.args.news.now c.in-Some.ensures.some c.requires.usable in
     let row2 = subst (λ (x : List ℕ). row_from a.size x c.place_in-place.result new 0 (count_of (take (keys_end a.size) x) + 1) ≡ placed c.args.level c.args.key.now new (used_cells a.size x)) c.piece-bytes.ensures.value (c.place_in-place.ensures.row new) in
     let shorter : length c.args.path.now ≡ suc (length c.in-Some.rest.now) = ap length c.in-Some.ensures.some in
@@ -78,7 +85,7 @@ climb-requires g t c κs within =
     (omega (arith, shorter, c.decreases), (search rules, (c.requires.area, (c.requires.block_size, (after.size ∙ c.requires.size, (omega (arith, c.requires.fits, after.blocks), (after.is_open ∙ c.requires.is_open,
     (short, (ap length c.child_part-new_part.ensures, (omega (arith, shorter, c.requires.level),
     (rest_inside a c.args.key.now c.args.level new c.args.below c.in-Some.block c.in-Some.count c.args.i c.in-Some.rest.now c.args.path.now c.args.nodes.now c.args.news.now c.in-Some.ensures.some c.requires.usable c.requires.path,
-    (rest_room a c.args.key.now c.args.level new c.args.below c.in-Some.block c.in-Some.count c.args.i c.in-Some.rest.now c.args.path.now c.args.nodes.now c.args.news.now c.in-Some.ensures.some c.requires.usable (length c.args.nodes.now) c.requires.nodes,
+    ((path_room c.args.area.size c.args.i (length c.args.nodes.now) c.in-Some.block c.in-Some.count c.in-Some.rest.now c.args.path.now c.in-Some.ensures.some c.requires.nodes).1,
     (c.requires.short, (rest_usable a c.args.key.now c.args.level new c.args.below c.in-Some.block c.in-Some.count c.args.i c.in-Some.rest.now c.args.path.now c.args.nodes.now c.args.news.now c.in-Some.ensures.some c.requires.usable,
     (more_inside a c.args.key.now c.args.level new c.args.below c.in-Some.block c.in-Some.count c.args.i c.in-Some.rest.now c.args.path.now c.args.nodes.now c.args.news.now c.in-Some.ensures.some c.requires.usable full r c.in-Some-first_new-2.more.now c.in-Some-first_new-2.ensures.some c.place_in-place.result row2 two c.requires.news,
     (rest_enough a c.args.key.now c.args.level new c.args.below c.in-Some.block c.in-Some.count c.args.i c.in-Some.rest.now c.args.path.now c.args.nodes.now c.args.news.now c.in-Some.ensures.some c.requires.usable full r c.in-Some-first_new-2.more.now c.in-Some-first_new-2.ensures.some c.place_in-place.result row2 two c.requires.enough,
@@ -97,7 +104,7 @@ returns-clause-run g t c =
     let k_is : c.row_key-separator.result.now ≡ key_in_row (take (keys_end a.size) b) c.place_in-place.result c.args.new_key.now ((c.in-Some.count + 1) / 2) = c.row_key-separator.ensures ∙ ap (λ (x : List ℕ). key_in_row x c.place_in-place.result c.args.new_key.now ((c.in-Some.count + 1) / 2)) keys_is in
     let writes = code_writes a c.args.key.now c.args.level new c.args.below c.in-Some.block c.in-Some.count c.args.i c.in-Some.rest.now c.args.path.now c.args.nodes.now c.args.news.now c.in-Some.ensures.some c.requires.usable
     full r c.in-Some-first_new-2.more.now c.in-Some-first_new-2.ensures.some c.place_in-place.result b c.piece-bytes.ensures.value (c.place_in-place.ensures.row new) two c.row_key-separator.result.now c.child_part-new_part.result k_is c.child_part-new_part.ensures in
-    subst (λ (ws : List (ℕ × ℕ × List Cell)). HasRun (store_nodes a ws (Done (Ok tt))) (state c.args.tx.now) (state c.climb.new.tx) c.climb.result) (sym writes) (c.in_ok-store_halves.ensures.run _ (state c.climb.new.tx) c.climb.result c.climb.ensures.run)
+    subst (λ (ws : List (ℕ × ℕ × List Cell)). HasRun (store_nodes a ws (Done (Ok tt))) (state c.args.tx.now) (state c.climb.new.tx) c.climb.result) (sym writes) (c.in_default-store_halves.ensures.run _ (state c.climb.new.tx) c.climb.result c.climb.ensures.run)
 
 pub returns-in_default-first_new-2-clause-run : goal.returns-in_default-first_new-2-clause-run
 returns-in_default-first_new-2-clause-run g t c =

@@ -1,4 +1,4 @@
-use Rattle.iso_tree.proofs.Words.{◌≡◌, ◌∙◌, sym, refl, ap, subst, ◌+◌, ◌<◌, [], ◌∷◌, ℕ, true, None, arith, Span, cell_count, keys_mark, value_mark, bytes_in, look_access, Device, mark_refusal, with_accesses, at_start, cut_at_look, inner_further, child_program, may_mark, marked_access, count_of, place_of, is_child, child_of}
+use Rattle.iso_tree.proofs.Words.{◌≡◌, ◌∙◌, sym, refl, ap, subst, ◌+◌, ◌<◌, [], ◌∷◌, None, arith, Span, cell_count, keys_mark, value_mark, bytes_in, look_access, mark_refusal, with_accesses, at_start, cut_at_look, inner_further, child_program, may_mark, count_of, place_of, child_of}
 use Rattle.iso_tree.proofs.Facts.{inner_many, child_below, node_parts, nothing_is}
 use Rattle.iso_tree.proofs.Looking.{node_of, not_node, child_not_node, child_broken, child_read, child_marked, child_shown, part_shown, ok_marked, broken_marked}
 use Rattle.iso_tree.proofs.descent.enter.Goals as goal
@@ -61,7 +61,7 @@ pub returns-clause-inside : goal.returns-clause-inside
 returns-clause-inside g c =
     let a = c.args.area in
     let node = node_of a c.args.level c.look.new.into c.in-Some.node c.region_of.result (c.look.auto.into ∙ c.requires.buffer) c.in-Some.ensures.value c.region_of.ensures (c.in-Some.ensures.some.0 refl) in
-    let below = child_below a.blocks _ (child_shown a c.args.key.now c.args.level c.look.new.into c.in-Some.node c.place-place.result node c.place-place.ensures.value c.has_child.result c.has_child.ensures ∙ c.if-not-has_child.false) in
+    let below = child_below a.blocks (bytes_in (value_mark a.size (place_of c.args.key.now (bytes_in (keys_mark a.size) c.look.new.into))) c.look.new.into) (child_shown a c.args.key.now c.args.level c.look.new.into c.in-Some.node c.place-place.result node c.place-place.ensures.value c.has_child.result c.has_child.ensures ∙ c.if-not-has_child.false) in
     let same = c.child.ensures ∙ ap child_of (part_shown a c.args.key.now c.args.level c.look.new.into c.in-Some.node c.place-place.result node c.place-place.ensures.value) in
     record { some = omega (arith, below.some, same); below = omega (arith, below.below, same) }
 

@@ -1,4 +1,4 @@
-use Rattle.iso_tree.proofs.Words.{◌≡◌, ◌∙◌, sym, refl, ap, ◌+◌, ◌*◌, ◌≤◌, ◌==◌, not, cond, ℕ, List, [], ◌∷◌, true, false, Some, None, take, drop, arith, list_all, Span, are_key_parts, cell_count, keys_mark, bytes_in, look_access, with_further, first_in, many_in, parts_of, count_of, is_node, is_part_at, Device, with_accesses, may_mark, keys_of, values_mark}
+use Rattle.iso_tree.proofs.Words.{◌≡◌, ◌∙◌, sym, refl, ap, ◌+◌, ℕ, List, [], ◌∷◌, true, false, arith, list_all, Span, cell_count, keys_mark, bytes_in, look_access, first_in, many_in, parts_of, is_part_at, Device, with_accesses, may_mark, values_mark}
 use Rattle.iso_tree.proofs.Looking.{broken_read, later_as, ok_read}
 use Rattle.iso_tree.proofs.Visiting.{keys_read, marked_so, one_more, visit_end, visit_refused}
 use Rattle.iso_tree.proofs.visit.read_node.Goals as goal
