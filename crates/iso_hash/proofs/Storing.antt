@@ -1,9 +1,10 @@
 -- What puts and removals do where their walk ends.
-use Rattle.iso_hash.proofs.Words.{◌≡◌, ◌∙◌, sym, refl, ap, subst, ℕ, suc, ◌+◌, ◌-◌, ◌<◌, ◌≤◌, Bool, true, false, cond, List, [], ◌∷◌, length, get_or, Option, Some, None, Result, Ok, Err, IfOk, arith, get_or-take, get_or-set_same, ForSome, Access, Area, Region, Spot, StoreError, TxError, own, block_at, Program, Done, Look, Reserve, Store, then_do, bytes_in, look_access, store_access, IsLocal, w32, to_be_bytes, replicate, next_mark, block_with, map_bytes, map_mark, bit_mark, bit_place, set_bit, clear_bit, with_bit, without_bit, lowest_free, walk, new_block, is_spent, put_new, put_at, put_program, del_at, del_program, is_key, is_value, bucket_of, buckets, last_position, IsHashArea, IsHashRegion, hash_map, put_op, del_op, Tx, Device, IsTx, with_accesses, room_of, area_of, Ran, HasRun, HasEnded, Behaves, IsLocalCall, IsAt, at_start, at_then, at_look, at_store, at_reserve, ran_at, full_at_reserve, whole_run, cut_then, later_same, read_none, run_from, ended_from, refused_so, HasWalked, blocks_of, lowest_alike}
+use Rattle.iso_hash.proofs.Words.{◌≡◌, ◌∙◌, sym, refl, ap, subst, ℕ, suc, ◌+◌, ◌-◌, ◌<◌, ◌≤◌, Bool, true, false, cond, List, [], ◌∷◌, length, get_or, Option, Some, None, Result, Ok, Err, IfOk, arith, get_or-take, get_or-set_same, ForSome, Access, Area, Region, Spot, StoreError, TxError, own, block_at, Program, Done, Look, Reserve, Store, then_do, bytes_in, look_access, store_access, IsLocal, w32, to_be_bytes, replicate, next_mark, block_with, map_bytes, map_mark, bit_mark, bit_place, set_bit, clear_bit, with_bit, without_bit, lowest_free, walk, new_block, is_spent, put_new, put_at, put_program, del_at, del_program, is_key, is_value, bucket_of, buckets, last_position, IsHashArea, IsHashRegion, hash_map, put_op, del_op, Tx, Device, IsTx, with_accesses, room_of, area_of, Ran, HasRun, HasEnded, Behaves, IsLocalCall, IsAt, at_start, at_then, at_look, at_store, at_reserve, ran_at, full_at_reserve, whole_run, later_same, read_none, run_from, ended_from, refused_so, HasWalked, blocks_of, lowest_alike}
 use Rattle.store_model.specs.declared.stores.StoreError.TheVariants as store
 use Rattle.store_model.specs.declared.stores.TxError.TheVariants as error
 use Rattle.store_model.specs.HashCalls as hash
 use Rattle.iso_hash.proofs.Changes.{put_is, del_is, put_local, del_local, give_back_block, make_zero}
+use Rattle.iso_hash.proofs.Getting.{walk_error}
 
 -- a put that goes on from the end of its walk
 pub put_from : (a : Area) (key value : List ℕ) (t u v : Tx) (w : hash.Walked) (result : Result (Unit {0}) StoreError) → is_key key ≡ true → is_value value ≡ true
@@ -20,26 +21,13 @@ del_from a key t u v w result is ran run =
     subst (λ (p : Program (Result Bool StoreError)). HasRun p t v result) (sym (del_is a key is))
     (run_from whole (del_at a w) t u v result (at_then whole (walk a key false) (del_at a) t t u w (at_start whole t) ran) run)
 
--- a walk that is refused or finds a block that is not well formed ends the call
-walk_error : {X : Type 0} (a : Area) (key : List ℕ) (f : hash.Walked → Program (Result X StoreError)) (t u : Tx) (buffer : List ℕ) (e : StoreError)
-    → ((block : ℕ) → f (hash.AtBroken block) ≡ Done (Err (store.Broken block))) → HasWalked a key false t u buffer (Err e) → HasRun (then_do (walk a key false) f) t u (Err e)
-walk_error a key f t u buffer store.BadKey broken walked = absurd walked
-walk_error a key f t u buffer store.BadValue broken walked = absurd walked
-walk_error a key f t u buffer (store.NoBlocks need free) broken walked = absurd walked
-walk_error a key f t u buffer (store.Broken block) broken walked =
-    let whole = then_do (walk a key false) f in
-    let now = at_then whole (walk a key false) f t t u (hash.AtBroken block) (at_start whole t) walked in
-    ran_at whole t u (Err (store.Broken block)) (subst (λ (p : Program (Result _ StoreError)). IsAt whole p t u) (broken block) now)
-walk_error a key f t u buffer (store.Tx e) broken walked = cut_then (walk a key false) f t u e walked
-walk_error a key f t u buffer store.Memory broken walked = absurd walked
-
 pub put_error : (a : Area) (key value : List ℕ) (t u : Tx) (buffer : List ℕ) (e : StoreError) → is_key key ≡ true → is_value value ≡ true → HasWalked a key false t u buffer (Err e) → HasRun (put_program a key value) t u (Err e)
 put_error a key value t u buffer e is short walked =
-    subst (λ (p : Program (Result (Unit {0}) StoreError)). HasRun p t u (Err e)) (sym (put_is a key value is short)) (walk_error a key (put_at a key value) t u buffer e (λ block. refl) walked)
+    subst (λ (p : Program (Result (Unit {0}) StoreError)). HasRun p t u (Err e)) (sym (put_is a key value is short)) (walk_error a key false (put_at a key value) t u buffer e (λ block. refl) walked)
 
 pub del_error : (a : Area) (key : List ℕ) (t u : Tx) (buffer : List ℕ) (e : StoreError) → is_key key ≡ true → HasWalked a key false t u buffer (Err e) → HasRun (del_program a key) t u (Err e)
 del_error a key t u buffer e is walked =
-    subst (λ (p : Program (Result Bool StoreError)). HasRun p t u (Err e)) (sym (del_is a key is)) (walk_error a key (del_at a) t u buffer e (λ block. refl) walked)
+    subst (λ (p : Program (Result Bool StoreError)). HasRun p t u (Err e)) (sym (del_is a key is)) (walk_error a key false (del_at a) t u buffer e (λ block. refl) walked)
 
 pub put_call : (a : Area) (key value : List ℕ) (t u : Tx) (result : Result (Unit {0}) StoreError) → IsHashArea a → is_key key ≡ true → is_value value ≡ true → IsTx t → t.size ≡ a.size → a.start + a.blocks ≤ t.blocks
     → HasRun (put_program a key value) t u result → IfOk result (IsLocalCall (IsHashRegion a) (hash_map a) (put_op key value) t u)

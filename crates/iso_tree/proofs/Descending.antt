@@ -1,5 +1,5 @@
 -- A descent, step by step.
-use Rattle.iso_tree.proofs.Words.{◌≡◌, ◌∙◌, sym, refl, subst, ℕ, zero, suc, ◌+◌, ◌&&◌, Bool, true, false, cond, List, [], ◌∷◌, take, Result, Ok, Err, IfOk, IfErr, Area, StoreError, Program, Done, Look, further_bytes, then_do, keys_end, keys_mark, Tx, Device, IsLater, Ran, IsCut, HasRun, HasRead, IsAt, at_then, ran_at, cut_then, later_than, cause_since, cut_from, read_join, Leaf, is_node, is_child, child_of, count_of, Descent, AtLeaf, AtBroken, descend, inner_further, leaf_further, IsWalkError, OnlyReads, child_program, leaf_program, HasDescended, HasReadLeaf, at_as}
+use Rattle.iso_tree.proofs.Words.{◌≡◌, ◌∙◌, sym, refl, subst, ℕ, zero, suc, ◌+◌, ◌&&◌, Bool, true, false, cond, List, [], ◌∷◌, take, Result, Ok, Err, IfOk, IfErr, Area, StoreError, Program, Done, Look, further_bytes, then_do, keys_end, keys_mark, Tx, Device, IsLater, Ran, IsCut, HasRun, HasRead, IsAt, at_then, ran_at, cut_then, later_than, cause_since, cut_from, read_join, Leaf, is_node, is_child, child_of, count_of, Descent, AtLeaf, AtBroken, descend, inner_further, leaf_further, IsWalkError, OnlyReads, child_program, leaf_program, HasDescended, HasReadLeaf, at_as, at_start}
 use Rattle.store_model.specs.declared.stores.StoreError.TheVariants as store
 
 module _ (a : Area) (key : List ℕ) (with_value : Bool) where
@@ -95,6 +95,18 @@ module _ (a : Area) (key : List ℕ) (with_value : Bool) where
         → HasDescended a key with_value root top t v path buffer result
     leaf_any buffer (Ok leaf) here known ran = leaf_ends buffer leaf here ran
     leaf_any buffer (Err e) here known ran = leaf_refused path buffer e known ran
+
+-- a call that begins with a descent is refused as the descent is
+pub descent_refused : {X : Type 0} (whole : Program (Result X StoreError)) (a : Area) (key : List ℕ) (with_value : Bool) (root level : ℕ) (f : Descent → Program (Result X StoreError)) (t u : Tx)
+    → whole ≡ then_do (descend a key with_value level root []) f → ((block : ℕ) → f (AtBroken block) ≡ Done (Err (store.Broken block))) → (path : List (ℕ × ℕ)) (buffer : List ℕ) (e : StoreError)
+    → HasDescended a key with_value root level t u path buffer (Err e) → HasRun whole t u (Err e)
+descent_refused whole a key with_value root level f t u is broken path buffer store.BadKey ended = absurd ended
+descent_refused whole a key with_value root level f t u is broken path buffer store.BadValue ended = absurd ended
+descent_refused whole a key with_value root level f t u is broken path buffer (store.NoBlocks need free) ended = absurd ended
+descent_refused whole a key with_value root level f t u is broken path buffer (store.Broken block) ended =
+    ran_at whole t u (Err (store.Broken block)) (at_as whole _ _ t u (broken block) (at_then whole (descend a key with_value level root []) f t t u (AtBroken block) (at_as whole _ _ t t is (at_start whole t)) ended))
+descent_refused whole a key with_value root level f t u is broken path buffer (store.Tx e) ended = subst (λ (p : Program (Result _ StoreError)). IsCut p t u e) (sym is) (cut_then (descend a key with_value level root []) f t u e ended)
+descent_refused whole a key with_value root level f t u is broken path buffer store.Memory ended = absurd ended
 
 -- after reads that went well
 pub reads_after : {R : Type 0} (t u v : Tx) (before mid now : Device) (result : Result R StoreError) → HasRead t u → IsLater before mid → mid.faults ≡ before.faults → OnlyReads u v mid now result → OnlyReads t v before now result

@@ -55,10 +55,10 @@ pub use Rattle.store_model.specs.declared.stores.StoreError.TheVariants.{BadKey,
 pub use Rattle.store_model.specs.declared.stores.TxError.{TxError}
 pub use Rattle.tx_blocks.proofs.Frames.{kept_1, kept_2, laid_all, laid_whole, piece_of, zeros_are, piece_zero, part_is_part, part_text, zero_part}
 pub use Rattle.tx_blocks.proofs.Marking.{marked_access, may_mark}
-pub use Rattle.tx_blocks.proofs.Parts.{began_from, behaves_after, cut_from, done_so, ended_from, read_join, refused_memory, refused_reading, run_from, scanned_ok}
+pub use Rattle.tx_blocks.proofs.Parts.{began_from, behaves_after, cut_from, done_so, ended_from, read_join, refused_memory, refused_reading, refused_then, run_from, scanned_ok}
 pub use Rattle.tx_blocks.proofs.Programs.{AreWhole, HasBlocks, IsCorrect, accesses_then, answer_then, blocks_of, cond_reads, local_from, no_ok, own_reads, reads_append, reads_then, same_bytes, same_ok, whole_append, whole_reads}
 pub use Rattle.tx_blocks.proofs.Progress.{IsAt, at_as, at_join, at_look, at_look_whole, at_reserve, at_start, at_store, at_then, began_at, full_at_reserve, own_append, ran_at, room_after, stopped_at, whole_run}
-pub use Rattle.tx_blocks.proofs.Refusals.{behaves_more, cause_since, cut_at_look, cut_at_store, cut_then, later_same, later_than, read_base, read_more, read_none, read_same}
+pub use Rattle.tx_blocks.proofs.Refusals.{behaves_more, cause_since, cut_at_look, cut_at_store, cut_at_whole, cut_then, later_same, later_than, read_base, read_more, read_none, read_same}
 pub use Rattle.tx_blocks.proofs.Storing.{Answers, StoresIn, answers_cond, stores_cell, stores_cond, stores_if, stores_then}
 pub use Rattle.tx_blocks.specs.Runs.{AreBytesOf, Behaves, HasEnded, HasRead, HasRun, IsCause, IsCut, IsLocalCall, Passed, Ran, Stopped, WantsMemory, area_of}
 pub use Rattle.tx_blocks.specs.Tx.{Device, IsLater, IsTx, Tx, mark_refusal, room_of, with_accesses}

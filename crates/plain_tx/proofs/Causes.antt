@@ -1,17 +1,15 @@
 -- Why the calls of a transaction are refused.
-use Rattle.std.proofs.Common.{◌≡◌, ◌∙◌, sym, refl, ap, ℕ, ◌+◌, ◌-◌, ◌*◌, ◌<◌, ◌≤◌, true, false, List, [], length, Some, None, Result, Ok, Err, IfErr, nat_le, take, drop, arith}
-use Rattle.std.proofs.lemmas.Bool.Decides.{nat_tests}
+use Rattle.std.proofs.Common.{◌≡◌, ◌∙◌, sym, refl, ap, ℕ, ◌+◌, ◌-◌, ◌*◌, ◌<◌, true, false, List, [], length, Some, None, Result, Ok, Err, take, drop, arith}
 use Rattle.std.proofs.lemmas.List.FromFn.{get_or-map-range_with_len}
 use Rattle.iso_model.specs.declared.access.MarkError.{MarkError}
 use Rattle.store_model.specs.declared.stores.TxError.{TxError}
-use Rattle.store_model.specs.declared.stores.TxError.TheVariants as error
 use Rattle.iso_model.specs.Marks.{mark_fault, marked}
 use Rattle.iso_model.specs.declared.access.Access.{Access}
 use Rattle.iso_model.specs.declared.access.Span.{Span}
 use Rattle.std.proofs.Common.{suc, ◌∷◌, OnOk}
 use Rattle.tx_table.specs.Work.{Doing, span_at}
 use Rattle.iso_model.specs.Premises.{block_at}
-use Rattle.tx_blocks.specs.Tx.{Tx, access_refusal, mark_refusal, marking, IsRefused}
+use Rattle.tx_blocks.specs.Tx.{Tx, mark_refusal, marking, IsRefused}
 use Rattle.plain_tx.specs.Plain.{blocks_of}
 
 pub mark_refused : (t : Tx) (off len : ℕ) (fault : MarkError) (e : TxError) → t.is_open ≡ true → mark_fault t.size off len t.accesses ≡ Some fault → marking fault ≡ e → IsRefused {T = Unit {0}} (mark_refusal t off len) (λ x. ⊥) (Err e)

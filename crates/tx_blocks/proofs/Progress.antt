@@ -156,6 +156,11 @@ full_at_store whole b spans bytes next t u v now same full =
     let none : room_of u ≡ 0 = omega arith in
     cut_at whole (Store b spans bytes next) t u v now same (λ A told. ap (λ n. outcome n (Store b spans bytes next) (own A u.accesses)) none)
 
+pub full_at_whole : {R : Type 0} (whole : Program R) (b : ℕ) (next : List ℕ → Program R) (t u v : Tx) → IsAt whole (LookWhole b next) t u → v ≡ u → 4096 ≤ length u.accesses → Ends whole t v None
+full_at_whole whole b next t u v now same full =
+    let none : room_of u ≡ 0 = omega arith in
+    cut_at whole (LookWhole b next) t u v now same (λ A told. ap (λ n. outcome n (LookWhole b next) (own A u.accesses)) none)
+
 -- where a reservation does not fit
 pub full_at_reserve : {R : Type 0} (whole : Program R) (count : ℕ) (next : Program R) (t u v : Tx) → IsAt whole (Reserve count next) t u → v ≡ u → room_of u < count → Ends whole t v None
 full_at_reserve whole count next t u v now same few =
