@@ -3,3 +3,4 @@ pub mod Loops
 mod Zeros
 pub mod Bits
 pub mod Laying
+pub mod Finding

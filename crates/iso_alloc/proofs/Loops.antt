@@ -1,5 +1,5 @@
 -- The steps of a loop that tries numbers in turn.
-use Rattle.iso_alloc.proofs.Words.{◌≡◌, sym, refl, ap, ℕ, zero, suc, ◌+◌, ◌-◌, ◌<◌, ◌≤◌, Bool, true, false, ◌&&◌, cond, Option, Some, None, arith, ◌∙◌, inl, inr, and_parts, cases_eq, all_from, first_from, free_count, map_bit, List}
+use Rattle.iso_alloc.proofs.Words.{◌≡◌, sym, refl, ap, ℕ, zero, suc, ◌+◌, ◌-◌, ◌<◌, ◌≤◌, Bool, true, false, ◌&&◌, cond, Option, Some, None, arith, ◌∙◌, inl, inr, and_parts, cases_eq, all_from, first_from, free_count, map_bit, List, cases_Bool, and_from, lowest_free, map_mark, map_bytes, bit_place, bit_at, bytes_in, get_or-take, not, ◌%◌, ◌==◌}
 
 pub all_step : (test : ℕ → Bool) (i n : ℕ) → i < n → all_from test i (n - i) ≡ (test i && all_from test (i + 1) (n - (i + 1)))
 all_step test i n below = let e : n - i ≡ suc (n - (i + 1)) = omega arith in rw e refl
@@ -41,3 +41,41 @@ count_on map i n c d total below so here =
     let e : n - i ≡ suc (n - (i + 1)) = omega arith in
     let step : free_count map i (n - i) ≡ cond (map_bit map i) 0 1 + free_count map (i + 1) (n - (i + 1)) = rw e refl in
     omega arith
+
+-- what is found passes the test, and is not below the first number that was tried
+pub first_passes : (test : ℕ → Bool) (i n j : ℕ) → first_from test i n ≡ Some j → test j ≡ true
+first_passes test i zero j e = cc
+first_passes test i (suc n) j e = elim (cases_Bool (test i)) [
+  | inl pass ↦
+      (let here : Some i ≡ Some j = sym (rw pass refl) ∙ e in
+      let same : i ≡ j = cc in
+      ap test (sym same) ∙ pass)
+  | inr fail ↦ first_passes test (i + 1) n j (sym (rw fail refl) ∙ e)
+]
+
+pub first_low : (test : ℕ → Bool) (i n j : ℕ) → first_from test i n ≡ Some j → i ≤ j
+first_low test i zero j e = cc
+first_low test i (suc n) j e = elim (cases_Bool (test i)) [
+  | inl pass ↦
+      (let here : Some i ≡ Some j = sym (rw pass refl) ∙ e in
+      let equal : i ≡ j = cc in
+      omega arith)
+  | inr fail ↦ (let ih = first_low test (i + 1) n j (sym (rw fail refl) ∙ e) in omega arith)
+]
+
+-- tests that agree on the numbers find the same
+first_alike : (test other : ℕ → Bool) (i n : ℕ) → ((j : ℕ) → i ≤ j → j < i + n → test j ≡ other j) → first_from test i n ≡ first_from other i n
+first_alike test other i zero same = refl
+first_alike test other i (suc n) same =
+    ap (λ t. cond t (Some i) (first_from test (i + 1) n)) (same i (omega arith) (omega arith))
+    ∙ ap (λ rest. cond (other i) (Some i) rest) (first_alike test other (i + 1) n (λ j low high. same j (omega arith) (omega arith)))
+
+-- the lowest free block of the bytes of the map is that of the block
+pub lowest_alike : (blocks : ℕ) (block : List ℕ) (from n : ℕ) → from + n ≤ blocks → lowest_free (bytes_in (map_mark blocks) block) from n ≡ lowest_free block from n
+lowest_alike blocks block from n inside = first_alike _ _ from n (λ j low high.
+    ap (λ (x : ℕ). not (bit_at x (j % 8) == 1)) (get_or-take (64 + map_bytes blocks) block (bit_place j) 0 (omega arith)))
+
+-- what passes at each number
+pub all_pass : (test : ℕ → Bool) (i n : ℕ) → ((j : ℕ) → i ≤ j → j < i + n → test j ≡ true) → all_from test i n ≡ true
+all_pass test i zero each = refl
+all_pass test i (suc n) each = and_from (test i) (all_from test (i + 1) n) (each i (omega arith) (omega arith)) (all_pass test (i + 1) n (λ j low high. each j (omega arith) (omega arith)))

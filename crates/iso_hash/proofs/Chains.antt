@@ -81,12 +81,6 @@ module _ (a : Area) (keys : ℕ → List ℕ) (b k : ℕ) (area : IsHashArea a) 
     | inr later ↦ (stand.past (omega arith)).1
   ]
 
-  pub block_first : k ≤ buckets a → stand.place ≡ 0
-  block_first low = elim (cases_eq stand.place 0) [
-    | inl first ↦ first
-    | inr later ↦ absurd (omega (arith, (stand.past (omega arith)).0))
-  ]
-
 -- no block stands in two chains
 pub one_bucket : (a : Area) (keys : ℕ → List ℕ) (b c k : ℕ) → AreLinked a keys b 0 (chain a keys b) (1 + b) 0 → AreLinked a keys c 0 (chain a keys c) (1 + c) 0
     → IsIn k (chain a keys b) → IsIn k (chain a keys c) → b ≡ c

@@ -1,15 +1,13 @@
 -- Puts and removals are what the operations on the map of the region are.
-use Rattle.iso_hash.proofs.Words.{◌≡◌, ◌⊎◌, ◌∙◌, sym, refl, ap, subst, ℕ, zero, suc, ◌+◌, ◌*◌, ◌%◌, ◌<◌, ◌≤◌, Bool, true, false, ◌==◌, not, cond, List, [], ◌∷◌, ◌++◌, length, get_or, replicate, Option, Some, None, Result, Ok, Err, IfSome, arith, inl, inr, is_some, w32, to_be_bytes, nat_cmp, eq_by_cmp, slice_cmp, nat_list_cmp_total, get, remove, get-remove, same_map, slice_cmp-IsAntisymmetric, nat_cmp-IsAntisymmetric, cases_Bool, and_parts, eqb-true, ltb-true, leb-true, get_or-take, length-replicate, bytes_eq-Decides, Access, Area, Spot, StoreError, Broken, NoBlocks, Array, put, own, first_from, block_at, Program, Done, Look, Reserve, Store, bytes_in, store_access, accesses_of, answer_of, then_do, IsLocal, cell_count, keys_end, key_mark, value_mark, next_mark, value_part, block_with, map_bytes, map_mark, bit_place, bit_mark, map_bit, set_bit, clear_bit, lowest_free, Pairs, view_of, buckets, bucket_of, last_position, next_of, chain, hash_map, AreLinked, Stands, IsHashRegion, IsHashArea, put_op, del_op, Walked, AtCell, AtEnd, AtBroken, walk, spot_in, spare_in, put_new, put_at, put_program, is_spent, is_alone, del_at, del_program, is_key, is_value, AreWhole, accesses_then, answer_then, own_reads, whole_reads, IsCorrect, local_from, own_append, first_below}
+use Rattle.iso_hash.proofs.Words.{◌≡◌, ◌⊎◌, ◌∙◌, sym, refl, ap, subst, ℕ, zero, suc, ◌+◌, ◌*◌, ◌%◌, ◌<◌, Bool, true, false, ◌==◌, not, cond, List, [], ◌∷◌, ◌++◌, length, get_or, replicate, Option, Some, None, Result, Ok, IfSome, arith, inl, inr, is_some, w32, to_be_bytes, nat_cmp, eq_by_cmp, slice_cmp, nat_list_cmp_total, get, remove, get-remove, same_map, slice_cmp-IsAntisymmetric, nat_cmp-IsAntisymmetric, and_parts, eqb-true, ltb-true, leb-true, length-replicate, bytes_eq-Decides, Access, Area, Spot, StoreError, Broken, NoBlocks, Array, put, own, block_at, Program, Done, Look, Reserve, Store, bytes_in, store_access, accesses_of, answer_of, then_do, IsLocal, cell_count, keys_end, key_mark, value_mark, next_mark, value_part, block_with, map_mark, bit_place, bit_mark, map_bit, set_bit, clear_bit, lowest_free, Pairs, view_of, buckets, bucket_of, last_position, next_of, chain, hash_map, AreLinked, Stands, IsHashRegion, IsHashArea, put_op, del_op, Walked, AtCell, AtEnd, AtBroken, walk, spot_in, spare_in, put_new, put_at, put_program, is_spent, is_alone, del_at, del_program, is_key, is_value, AreWhole, accesses_then, answer_then, own_reads, whole_reads, IsCorrect, local_from, own_append, first_below, length-part, length-block_with, no_ok, same_ok, first_low, map_byte, HasBlocks, first_passes, whole_append}
 use Rattle.iso_hash.proofs.Chains.{linked_split, next_in, head_of}
 use Rattle.iso_hash.proofs.Dels.{del_cell, del_block}
 use Rattle.iso_hash.proofs.Finding.{ties, cases_key}
-use Rattle.iso_hash.proofs.Frames.{length-part_of}
 use Rattle.iso_hash.proofs.Gets.{bucket_below, key_some, key_short, walk_is_reads, walk_found, walk_missed, found_stands, missed_nowhere, get_found, get_none}
 use Rattle.iso_hash.proofs.Grown.{put_grown}
-use Rattle.iso_hash.proofs.Linking.{length-block_with}
 use Rattle.iso_hash.proofs.NewBlocks.{size_most, length-new_block}
 use Rattle.iso_hash.proofs.Puts.{HasPut, put_found, put_spare, length-with_cell, cells_fit}
-use Rattle.iso_hash.proofs.Ways.{Way, way, first_passes, cell_below, Found, IsSpare}
+use Rattle.iso_hash.proofs.Ways.{Way, way, cell_below, Found, IsSpare}
 
 -- what is done after a walk is done on the same array
 module _ {X : Type 0} (a : Area) (key : List ℕ) (f : Walked → Program X) (A : Array) where
@@ -31,34 +29,10 @@ module _ {X : Type 0} (a : Area) (key : List ℕ) (f : Walked → Program X) (A 
   unfolding reads
   answer_after = answer_then (walk a key false) f A ∙ ap (λ (B : Array). answer_of (f (answer_of (walk a key false) A)) B) same
 
-  whole_append : (xs ys : List Access) → AreWhole A xs → AreWhole A ys → AreWhole A (xs ++ ys)
-  whole_append [] ys all more = more
-  whole_append (y ∷ xs) ys all more = (all.0, whole_append xs ys all.1 more)
-
   whole_after : AreWhole A (accesses_of (f (answer_of (walk a key false) A)) A) → AreWhole A (accesses_of (then_do (walk a key false) f) A)
   unfolding reads
   whole_after all = subst (AreWhole A) (sym (accesses_then (walk a key false) f A ∙ ap (λ (B : Array). reads ++ accesses_of (f (answer_of (walk a key false) A)) B) same))
-      (whole_append reads (accesses_of (f (answer_of (walk a key false) A)) A) (whole_reads A (accesses_of (walk a key false) A) (walk_is_reads a key false A)) all)
-
-no_ok : {X : Type 0} (e : StoreError) (x : X) → ◌≡◌ {A = Result X StoreError} (Err e) (Ok x) → ⊥
-no_ok e x is = cc
-
-same_ok : {X : Type 0} (x y : X) → ◌≡◌ {A = Result X StoreError} (Ok x) (Ok y) → x ≡ y
-same_ok x y is = cc
-
-first_low : (test : ℕ → Bool) (i n j : ℕ) → first_from test i n ≡ Some j → i ≤ j
-first_low test i zero j e = cc
-first_low test i (suc n) j e = elim (cases_Bool (test i)) [
-  | inl pass ↦
-      (let here : Some i ≡ Some j = sym (rw pass refl) ∙ e in
-      let equal : i ≡ j = cc in
-      omega arith)
-  | inr fail ↦ (let ih = first_low test (i + 1) n j (sym (rw fail refl) ∙ e) in omega arith)
-]
-
--- the byte of the map that a call reads
-map_byte : (a : Area) (first : List ℕ) (k : ℕ) → k < a.blocks → get_or (bytes_in (map_mark a.blocks) first) (bit_place k) 0 ≡ get_or first (bit_place k) 0
-map_byte a first k below = get_or-take (64 + map_bytes a.blocks) first (bit_place k) 0 (omega arith)
+      (whole_append A reads (accesses_of (f (answer_of (walk a key false) A)) A) (whole_reads A (accesses_of (walk a key false) A) (walk_is_reads a key false A)) all)
 
 -- the block that is taken is an overflow block, and free
 record IsFree (a : Area) (first : List ℕ) (k : ℕ) : Type 0 where
@@ -165,10 +139,6 @@ walk_within a key A w area end =
     subst (λ (n : ℕ). IsWithin a n w) e (way_within a key (bucket_of a key) false A (last_position a + 1) 0 0 (1 + bucket_of a key) None w (omega (arith, area.least)) (omega (arith, area.least)) tt
     (subst (Way a key (bucket_of a key) false A (last_position a + 1) 0 0 (1 + bucket_of a key) None) end (way a key (bucket_of a key) false A (last_position a + 1) 0 0 (1 + bucket_of a key) None)))
 
--- the blocks of the region have so many bytes
-abbrev pub HasBlocks : Area → Array → Type 0
-HasBlocks a A = (k : ℕ) → k < a.blocks → length (block_at A (a.start + k)) ≡ a.size
-
 first_size : (a : Area) (A : Array) → IsHashArea a → HasBlocks a A → length (block_at A a.start) ≡ a.size
 first_size a A area shape = let e : a.start + 0 ≡ a.start = omega arith in ap (λ (n : ℕ). length (block_at A n)) (sym e) ∙ shape 0 (omega (arith, area.least))
 
@@ -192,7 +162,7 @@ put_whole_new a key value A last place (Some k) area is short shape last_in plac
 
 put_whole_at : (a : Area) (key value : List ℕ) (A : Array) (w : Walked) → IsHashArea a → is_key key ≡ true → is_value value ≡ true → HasBlocks a A → IsWithin a (last_position a + 1) w → AreWhole A (accesses_of (put_at a key value w) A)
 put_whole_at a key value A (AtCell s before ks v) area is short shape within =
-    (λ w. length-block_with a.size (keys_end a.size + 33 * s.cell) (value_part value) (let fits = cells_fit a s.cell area within.1 in omega (arith, length-part_of 32 value (leb-true _ _ short))) ∙ sym (shape s.block within.0), tt)
+    (λ w. length-block_with a.size (keys_end a.size + 33 * s.cell) (value_part value) (let fits = cells_fit a s.cell area within.1 in omega (arith, length-part 32 value (leb-true _ _ short))) ∙ sym (shape s.block within.0), tt)
 put_whole_at a key value A (AtEnd (Some s) last place) area is short shape within =
     (λ w. length-with_cell a.size s.cell key value (replicate a.size 0) (zeros_long a) (let few = key_short key is in omega arith) (leb-true _ _ short) (cells_fit a s.cell area within.0.1) within.0.1 ∙ sym (shape s.block within.0.0), tt)
 put_whole_at a key value A (AtEnd None last place) area is short shape within =
@@ -286,12 +256,12 @@ del_done : (a : Area) (key : List ℕ) (A : Array) (w : Walked) (r : Bool) → I
 del_done a key A (AtCell s before ks v) r area region is end answer =
     let found = walk_found a key false A s before ks v end in
     elim (is_spent a s ks) as (λ t. is_spent a s ks ≡ t → answer_of (cond t (give_back_block a s before) (make_zero a s)) A ≡ Ok r → HasDeleted a key A (own A (accesses_of (cond t (give_back_block a s before) (make_zero a s)) A)) r) [
-      | true ↦ λ spent_is e. subst (HasDeleted a key A _) (same_ok true r e) (del_done_block a key A s before ks v area region (key_some key is) found spent_is)
-      | false ↦ λ not_spent e. subst (HasDeleted a key A _) (same_ok true r e) (del_done_cell a key A s before ks v area region (key_some key is) found)
+      | true ↦ λ spent_is e. subst (HasDeleted a key A _) (same_ok true r StoreError e) (del_done_block a key A s before ks v area region (key_some key is) found spent_is)
+      | false ↦ λ not_spent e. subst (HasDeleted a key A _) (same_ok true r StoreError e) (del_done_cell a key A s before ks v area region (key_some key is) found)
     ] refl answer
 del_done a key A (AtEnd spare last place) r area region is end answer =
     let none = get_none a A key (missed_nowhere a key A spare last place region (walk_missed a key false A spare last place end)) in
-    subst (HasDeleted a key A A) (same_ok false r answer) (record { answer = ap is_some none; region = region; map_is = remove_missing (hash_map a A) key none })
+    subst (HasDeleted a key A A) (same_ok false r StoreError answer) (record { answer = ap is_some none; region = region; map_is = remove_missing (hash_map a A) key none })
 del_done a key A (AtBroken block) r area region is end answer = absurd (no_ok (Broken block) r answer)
 
 pub del_is : (a : Area) (key : List ℕ) → is_key key ≡ true → del_program a key ≡ then_do (walk a key false) (del_at a)

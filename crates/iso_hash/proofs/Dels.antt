@@ -1,9 +1,9 @@
 -- A removal of a cell, and one that gives its block back: the region stays well formed, and its map loses the key.
-use Rattle.iso_hash.proofs.Words.{◌≡◌, ◌≢◌, ◌↔◌, ◌∙◌, sym, refl, ap, subst, ℕ, ◌+◌, ◌*◌, ◌<◌, ◌≤◌, true, false, ◌&&◌, ◌||◌, ◌==◌, not, IsTrue, List, [], ◌∷◌, ◌++◌, length, get_or, take, replicate, arith, inl, inr, eq-eqb, ne_eqb, length-append, append_assoc, list_all, remove, cases_eq, both_ways, and_parts, and_from, or_cases, eqb-true, length-replicate, Area, Spot, Array, merged, put, block_at, bytes_in, store_access, cell_count, keys_mark, key_mark, value_mark, next_mark, word_at, is_zero, is_part, text_of, is_unused, key_at, block_with, map_bytes, bit_place, bit_mark, map_bit, clear_bit, view_of, buckets, bucket_of, last_position, next_of, is_linked, chain, hash_map, IsIn, AreLinked, Stands, IsOverflow, HaveValues, IsHashRegion, IsHashArea, is_alone, length-block_put, written_block, other_block, bits_without, all_at}
-use Rattle.iso_hash.proofs.Chains.{placed, block_inside, one_bucket, linked_split, linked_join, linked_alike, LinkedAlike, length-chain_from, in_left, in_right, in_either, not_twice}
-use Rattle.iso_hash.proofs.Frames.{zero_part, zeros_are, piece_zero}
-use Rattle.iso_hash.proofs.Linking.{chain_of, byte_here, byte_far, head_far, piece_far, key_far, next_here, relinked}
+use Rattle.iso_hash.proofs.Words.{◌≡◌, ◌≢◌, ◌↔◌, ◌∙◌, sym, refl, ap, subst, ℕ, ◌+◌, ◌*◌, ◌<◌, ◌≤◌, true, false, ◌&&◌, ◌||◌, ◌==◌, not, IsTrue, List, [], ◌∷◌, ◌++◌, length, get_or, take, replicate, arith, inl, inr, eq-eqb, ne_eqb, length-append, append_assoc, list_all, remove, cases_eq, both_ways, and_parts, and_from, or_cases, eqb-true, length-replicate, Area, Spot, Array, merged, put, block_at, bytes_in, store_access, cell_count, key_mark, value_mark, next_mark, word_at, is_zero, is_part, is_unused, key_at, block_with, map_bytes, bit_place, bit_mark, map_bit, clear_bit, view_of, buckets, bucket_of, last_position, chain, hash_map, IsIn, AreLinked, Stands, IsOverflow, HaveValues, IsHashRegion, IsHashArea, is_alone, length-block_put, written_block, other_block, bits_without, all_at, zero_part, zeros_are, piece_zero, byte_here, byte_far, head_far}
+use Rattle.iso_hash.proofs.Chains.{placed, block_inside, one_bucket, length-chain_from, in_left, in_right, in_either, not_twice}
+use Rattle.iso_hash.proofs.Linking.{chain_of}
 use Rattle.iso_hash.proofs.Moves.{IsSame, Moves, StandsNowhere, map_removed, buckets_nowhere, apart_nowhere}
+use Rattle.iso_hash.proofs.Relinked.{IsRelinked, some_in, first_long, chain_other, linked_anew, linked_all, stays_same, was_same, values_old}
 use Rattle.iso_hash.proofs.Rewritten.{IsRewritten, rewrites, linked_kept, bits_kept, same_there, same_before, values_kept}
 
 -- what a removal leaves
@@ -116,14 +116,8 @@ module _ (a : Area) (key : List ℕ) (A : Array) (s : Spot) (before x : ℕ) (fr
   block_in : s.block < a.blocks
   block_in = block_inside a (view_of a A).keys b0 s.block area b0_below linked_in stands.block_is
 
-  some_in : (b k : ℕ) → b < buckets a → IsIn k (chain a (view_of a A).keys b) → 0 < k
-  some_in b k below has = (placed a (view_of a A).keys b 0 (chain a (view_of a A).keys b) (1 + b) 0 k (region.keyed.linked b below) has).some
-
-  first_long : length (block_at A a.start) ≡ a.size
-  first_long = let e : a.start + 0 ≡ a.start = omega arith in ap (λ (n : ℕ). length (block_at A n)) (sym e) ∙ region.shape 0 (omega (arith, area.least))
-
   bit_fits : bit_place s.block + 1 ≤ length (block_at A a.start)
-  bit_fits = omega (arith, first_long, area.most, area.least_size, block_in)
+  bit_fits = omega (arith, first_long a A area region, area.most, area.least_size, block_in)
 
   -- the blocks after the writes
   far : (k : ℕ) → 0 < k → k ≢ before → block_at B (a.start + k) ≡ block_at A (a.start + k)
@@ -135,7 +129,7 @@ module _ (a : Area) (key : List ℕ) (A : Array) (s : Spot) (before x : ℕ) (fr
   at_first =
       other_block A1 (store_access (a.start + before) (next_mark ∷ []) blank) a.start (λ e. absurd (omega (arith, before_some)))
       ∙ written_block A (store_access a.start (bit_mark s.block ∷ []) bytes1)
-      ∙ ap (λ (n : ℕ). merged (bit_mark s.block ∷ []) 0 (block_at A a.start) (block_with n (bit_place s.block) (x ∷ []))) (sym first_long)
+      ∙ ap (λ (n : ℕ). merged (bit_mark s.block ∷ []) 0 (block_at A a.start) (block_with n (bit_place s.block) (x ∷ []))) (sym (first_long a A area region))
 
   at_before : block_at B (a.start + before) ≡ merged (next_mark ∷ []) 0 (block_at A (a.start + before)) blank
   at_before =
@@ -148,38 +142,18 @@ module _ (a : Area) (key : List ℕ) (A : Array) (s : Spot) (before x : ℕ) (fr
   word : word_at 0 blank ≡ 0
   word = ap (Rattle.std.specs.Int.from_be_bytes Rattle.std.specs.Int.w32) (piece_zero next_mark a.size (omega (arith, area.least_size)))
 
-  keys_far : (k : ℕ) → 0 < k → k ≢ before → (view_of a B).keys k ≡ (view_of a A).keys k
-  keys_far k low other = ap (bytes_in (keys_mark a.size)) (far k low other)
-
-  keys_before : (view_of a B).keys before ≡ bytes_in (keys_mark a.size) (merged (next_mark ∷ []) 0 (block_at A (a.start + before)) blank)
-  keys_before = ap (bytes_in (keys_mark a.size)) at_before
+  relinks : IsRelinked a A B b0 before blank
+  relinks = record {
+    below = b0_below;
+    has_link = has_before;
+    far = λ b k below has other. far k (some_in a A region b k below has) other;
+    at_link = at_before;
+    long = long;
+  }
 
   -- the chains after the writes
-  linked_other : (c : ℕ) → c < buckets a → c ≢ b0 → AreLinked a (view_of a B).keys c 0 (chain a (view_of a A).keys c) (1 + c) 0
-  linked_other c below other = linked_alike a (view_of a A).keys (view_of a B).keys c 0 (chain a (view_of a A).keys c) (1 + c) 0 (λ k p has linked.
-      let same = keys_far k (some_in c k below has) (λ e. other (one_bucket a (view_of a A).keys c b0 before (region.keyed.linked c below) linked_in (subst (λ (m : ℕ). IsIn m (chain a (view_of a A).keys c)) e has) has_before)) in
-      (ap (is_linked a c p) same ∙ linked, ap next_of same)) (region.keyed.linked c below)
-
-  chain_other : (c : ℕ) → c < buckets a → c ≢ b0 → chain a (view_of a B).keys c ≡ chain a (view_of a A).keys c
-  chain_other c below other = chain_of a (view_of a B).keys c (chain a (view_of a A).keys c) (linked_other c below other) (length-chain_from (view_of a A).keys (last_position a + 1) (1 + c))
-
-  in_front : (k : ℕ) → IsIn k front → IsIn k (chain a (view_of a A).keys b0)
-  in_front k has = subst (IsIn k) (sym blocks_are) (in_left k front (before ∷ s.block ∷ []) has)
-
-  front_alike : LinkedAlike a (view_of a A).keys (view_of a B).keys b0 front
-  front_alike k p has linked =
-      let same = keys_far k (some_in b0 k b0_below (in_front k has)) (λ e. not_twice a (view_of a A).keys b0 0 front (before ∷ s.block ∷ []) (1 + b0) 0 before whole_old (subst (λ (m : ℕ). IsIn m front) e has) (inl refl)) in
-      (ap (is_linked a b0 p) same ∙ linked, ap next_of same)
-
   linked_b0 : AreLinked a (view_of a B).keys b0 0 (front ++ (before ∷ [])) (1 + b0) 0
-  linked_b0 =
-      let split = linked_split a (view_of a A).keys b0 0 front (before ∷ s.block ∷ []) (1 + b0) 0 whole_old in
-      let mid = split.0 in
-      let tail = split.1.1 in
-      let now : is_linked a b0 (0 + length front) ((view_of a B).keys before) ≡ true = ap (is_linked a b0 (0 + length front)) keys_before ∙ relinked a (block_at A (a.start + before)) blank long b0 (0 + length front) 0 tail.2 word refl in
-      let next : next_of ((view_of a B).keys before) ≡ 0 = ap next_of keys_before ∙ next_here a (block_at A (a.start + before)) blank long ∙ word in
-      linked_join a (view_of a B).keys b0 0 front (before ∷ []) (1 + b0) mid 0 (linked_alike a (view_of a A).keys (view_of a B).keys b0 0 front (1 + b0) mid front_alike split.1.0)
-      (tail.0, before_some, now, next)
+  linked_b0 = linked_anew a A B b0 before blank region relinks front (s.block ∷ []) blocks_are [] 0 word refl refl
 
   chain_b0 : chain a (view_of a B).keys b0 ≡ front ++ (before ∷ [])
   chain_b0 =
@@ -190,7 +164,7 @@ module _ (a : Area) (key : List ℕ) (A : Array) (s : Spot) (before x : ℕ) (fr
   in_old : (b k : ℕ) → b < buckets a → IsIn k (chain a (view_of a B).keys b) → IsIn k (chain a (view_of a A).keys b) × (k ≢ s.block)
   in_old b k below has = elim (cases_eq b b0) [
     | inr other ↦
-        (let old = subst (IsIn k) (chain_other b below other) has in
+        (let old = subst (IsIn k) (chain_other a A B b0 before blank region relinks b below other) has in
         (old, λ e. other (one_bucket a (view_of a A).keys b b0 s.block (region.keyed.linked b below) linked_in (subst (λ (m : ℕ). IsIn m (chain a (view_of a A).keys b)) e old) stands.block_is)))
     | inl same ↦
         (let short : IsIn k (front ++ (before ∷ [])) = subst (IsIn k) (ap (chain a (view_of a B).keys) same ∙ chain_b0) has in
@@ -203,28 +177,13 @@ module _ (a : Area) (key : List ℕ) (A : Array) (s : Spot) (before x : ℕ) (fr
 
   still_in : (b k : ℕ) → b < buckets a → IsIn k (chain a (view_of a A).keys b) → k ≢ s.block → IsIn k (chain a (view_of a B).keys b)
   still_in b k below has other = elim (cases_eq b b0) [
-    | inr far_bucket ↦ subst (IsIn k) (sym (chain_other b below far_bucket)) has
+    | inr far_bucket ↦ subst (IsIn k) (sym (chain_other a A B b0 before blank region relinks b below far_bucket)) has
     | inl same ↦
         (let list : IsIn k ((front ++ (before ∷ [])) ++ (s.block ∷ [])) = subst (IsIn k) (ap (chain a (view_of a A).keys) same ∙ blocks_are ∙ sym (append_assoc front (before ∷ []) (s.block ∷ []))) has in
         subst (IsIn k) (sym (ap (chain a (view_of a B).keys) same ∙ chain_b0)) (elim (in_either k (front ++ (before ∷ [])) (s.block ∷ []) list) [
           | inl kept ↦ kept
           | inr gone ↦ absurd (elim gone [ inl e ↦ other (sym e) | inr none ↦ none ])
         ]))
-  ]
-
-  -- the cells of a block that was linked before
-  key_kept : (b k i : ℕ) → b < buckets a → IsIn k (chain a (view_of a A).keys b) → i < cell_count a.size → bytes_in (key_mark i) ((view_of a B).keys k) ≡ bytes_in (key_mark i) ((view_of a A).keys k)
-  key_kept b k i below has cell = elim (cases_eq k before) [
-    | inr other ↦ ap (bytes_in (key_mark i)) (keys_far k (some_in b k below has) other)
-    | inl same ↦ subst (λ (m : ℕ). bytes_in (key_mark i) ((view_of a B).keys m) ≡ bytes_in (key_mark i) ((view_of a A).keys m)) (sym same)
-        (ap (bytes_in (key_mark i)) keys_before ∙ key_far a (block_at A (a.start + before)) blank long i cell)
-  ]
-
-  value_kept : (b k i : ℕ) → b < buckets a → IsIn k (chain a (view_of a A).keys b) → (view_of a B).value k i ≡ (view_of a A).value k i
-  value_kept b k i below has = elim (cases_eq k before) [
-    | inr other ↦ ap (bytes_in (value_mark a.size i)) (far k (some_in b k below has) other)
-    | inl same ↦ subst (λ (m : ℕ). (view_of a B).value m i ≡ (view_of a A).value m i) (sym same)
-        (ap (bytes_in (value_mark a.size i)) at_before ∙ piece_far a (block_at A (a.start + before)) blank long (value_mark a.size i) (omega arith))
   ]
 
   -- a used cell of the block that is given back is the one with the key
@@ -235,28 +194,14 @@ module _ (a : Area) (key : List ℕ) (A : Array) (s : Spot) (before x : ℕ) (fr
   ]
 
   stood : (b k i : ℕ) → Stands a (view_of a B).keys b k i → IsSame a (view_of a B).keys (view_of a A).keys (view_of a B).value (view_of a A).value b k i × (k ≢ s.block)
-  stood b k i there =
-      let old = in_old b k there.bucket_is there.block_is in
-      let part = key_kept b k i there.bucket_is old.0 there.cell_is in (
-        record {
-          stands = record { bucket_is = there.bucket_is; block_is = old.0; cell_is = there.cell_is; used = ap (λ (p : List ℕ). get_or p 0 0 == 0) (sym part) ∙ there.used };
-          key_is = ap text_of (sym part);
-          value_is = sym (value_kept b k i there.bucket_is old.0);
-        },
-        old.1,
-      )
+  stood b k i there = let old = in_old b k there.bucket_is there.block_is in (was_same a A B b0 before blank region relinks b k i there old.0, old.1)
 
   stays : (b k i : ℕ) → Stands a (view_of a A).keys b k i → key_at ((view_of a A).keys k) i ≢ key → IsSame a (view_of a A).keys (view_of a B).keys (view_of a A).value (view_of a B).value b k i
   stays b k i there other =
-      let part = key_kept b k i there.bucket_is there.block_is there.cell_is in
       let apart : k ≢ s.block = λ e.
       let cell : i ≡ s.cell = only_cell i there.cell_is (ap (λ (m : ℕ). is_unused ((view_of a A).keys m) i) (sym e) ∙ there.used) in
       other (ap (λ (m : ℕ). key_at ((view_of a A).keys m) i) e ∙ ap (λ (j : ℕ). key_at ((view_of a A).keys s.block) j) cell ∙ key_is) in
-      record {
-        stands = record { bucket_is = there.bucket_is; block_is = still_in b k there.bucket_is there.block_is apart; cell_is = there.cell_is; used = ap (λ (p : List ℕ). get_or p 0 0 == 0) part ∙ there.used };
-        key_is = ap text_of part;
-        value_is = value_kept b k i there.bucket_is there.block_is;
-      }
+      stays_same a A B b0 before blank region relinks b k i there (still_in b k there.bucket_is there.block_is apart)
 
   given_moves : Moves a (view_of a A).keys (view_of a B).keys (view_of a A).value (view_of a B).value key
   given_moves = record { kept = stays; old = λ b k i there other. (stood b k i there).0 }
@@ -287,19 +232,8 @@ module _ (a : Area) (key : List ℕ) (A : Array) (s : Spot) (before x : ℕ) (fr
             new_bits k ∙ and_from _ _ (ap not (ne_eqb k s.block was.1)) (old.1 (record { bucket = over.bucket; below = over.below; linked = was.0; past = over.past })),
       )
 
-  linked : (b : ℕ) → b < buckets a → AreLinked a (view_of a B).keys b 0 (chain a (view_of a B).keys b) (1 + b) 0
-  linked b below = elim (cases_eq b b0) [
-    | inr other ↦ subst (λ (blocks : List ℕ). AreLinked a (view_of a B).keys b 0 blocks (1 + b) 0) (sym (chain_other b below other)) (linked_other b below other)
-    | inl same ↦ subst (λ (c : ℕ). AreLinked a (view_of a B).keys c 0 (chain a (view_of a B).keys c) (1 + c) 0) (sym same)
-        (subst (λ (blocks : List ℕ). AreLinked a (view_of a B).keys b0 0 blocks (1 + b0) 0) (sym chain_b0) linked_b0)
-  ]
-
   values : HaveValues a (view_of a B).keys (view_of a B).value
-  values b k i below has cell =
-      let old = in_old b k below has in
-      let was = region.values b k i below old.0 cell in
-      let v = value_kept b k i below old.0 in
-      (ap (is_part 32) v ∙ was.0, λ idle. ap (list_all is_zero) v ∙ was.1 (ap (λ (p : List ℕ). get_or p 0 0 == 0) (sym (key_kept b k i below old.0 cell)) ∙ idle))
+  values b k i below has cell = values_old a A B b0 before blank region relinks b k i below (in_old b k below has).0 cell
 
   pub del_block : HasRemoved a key A (put (put A (store_access a.start (bit_mark s.block ∷ []) (block_with a.size (bit_place s.block) (x ∷ [])))) (store_access (a.start + before) (next_mark ∷ []) (replicate a.size 0)))
   unfolding hash_map
@@ -308,7 +242,7 @@ module _ (a : Area) (key : List ℕ) (A : Array) (s : Spot) (before x : ℕ) (fr
       shape = λ k low.
           length-block_put A1 (store_access (a.start + before) (next_mark ∷ []) blank) (a.start + k) ∙ length-block_put A (store_access a.start (bit_mark s.block ∷ []) bytes1) (a.start + k) ∙ region.shape k low;
       keyed = record {
-        linked = linked;
+        linked = linked_all a A B b0 before blank region relinks (front ++ (before ∷ [])) linked_b0 chain_b0;
         bits = bits;
         head = ap (list_all is_zero) (ap (take 64) at_first ∙ head_far (block_at A a.start) s.block x bit_fits) ∙ region.keyed.head;
         in_bucket = buckets_nowhere a (view_of a A).keys (view_of a B).keys (view_of a A).value (view_of a B).value key given_moves region.keyed.in_bucket region.keyed.apart given_nowhere;

@@ -1,18 +1,9 @@
 -- What the look-up of a key finds among the pairs of cells, blocks and buckets.
-use Rattle.iso_hash.proofs.Words.{◌≡◌, ◌≢◌, ◌⊎◌, ◌∙◌, sym, refl, ap, subst, ℕ, zero, suc, ◌+◌, ◌<◌, ◌≤◌, Bool, true, false, ◌==◌, cond, List, [], ◌∷◌, ◌++◌, Option, Some, None, arith, inl, inr, flat_map, range_with_len, nat_cmp, eq_by_cmp, slice_cmp, lists_ties, nat_list_cmp_total, from_entries, get, get-from_entries, find, bytes_eq, cases_eq, cases_Bool, false_from_ne_true, nat_tests, bytes_eq-Decides, Area, or_else, cell_count, text_of, is_unused, key_at, buckets, chain, pairs_from, pairs_of, bucket_pairs, all_pairs, IsIn, Stands}
-
-nat_ties : (x y : ℕ) → (x == y) ≡ eq_by_cmp nat_cmp x y
-nat_ties x y = grind (arith, nat_tests)
-
--- a map finds a key by the equality of its bytes
-pub ties : (q k : List ℕ) → eq_by_cmp (slice_cmp nat_cmp) q k ≡ bytes_eq q k
-ties q k = sym (lists_ties nat_cmp nat_ties q k)
+use Rattle.iso_hash.proofs.Words.{◌≡◌, ◌≢◌, ◌⊎◌, ◌∙◌, sym, refl, ap, subst, ℕ, zero, suc, ◌+◌, ◌<◌, ◌≤◌, Bool, true, false, cond, List, [], ◌∷◌, ◌++◌, Some, None, arith, inl, inr, flat_map, range_with_len, nat_cmp, eq_by_cmp, slice_cmp, nat_list_cmp_total, from_entries, get, get-from_entries, bytes_eq, cases_eq, cases_Bool, bytes_eq-Decides, Area, or_else, cell_count, text_of, is_unused, key_at, buckets, chain, pairs_from, pairs_of, bucket_pairs, all_pairs, IsIn, Stands}
+pub use Rattle.iso_alloc.proofs.Finding.{ties, found_in, find_append, not_bytes_eq as bytes_other}
 
 pub bytes_same : (x y : List ℕ) → bytes_eq x y ≡ true → x ≡ y
 bytes_same x y is = (bytes_eq-Decides x y).0 is
-
-pub bytes_other : (x y : List ℕ) → x ≢ y → bytes_eq x y ≡ false
-bytes_other x y other = false_from_ne_true (bytes_eq x y) (λ e. other (bytes_same x y e))
 
 -- keys are one or not
 pub cases_key : (x y : List ℕ) → (x ≡ y) ⊎ (x ≢ y)
@@ -20,17 +11,6 @@ cases_key x y = elim (cases_Bool (bytes_eq x y)) [
   | inl is ↦ inl (bytes_same x y is)
   | inr not ↦ inr (λ e. Rattle.std.proofs.lemmas.Bool.both_ways (bytes_eq x y) not ((bytes_eq-Decides x y).1 e))
 ]
-
-abbrev pub found_in : (q : List ℕ) → List (List ℕ × List ℕ) → Option (List ℕ)
-found_in q pairs = find (slice_cmp nat_cmp) q pairs
-
-find_append : (q : List ℕ) (xs ys : List (List ℕ × List ℕ)) → found_in q (xs ++ ys) ≡ or_else (found_in q xs) (found_in q ys)
-find_append q [] ys = refl
-find_append q (x ∷ xs) ys =
-    elim (eq_by_cmp (slice_cmp nat_cmp) q x.0) as (λ t. cond t (Some x.1) (found_in q (xs ++ ys)) ≡ or_else (cond t (Some x.1) (found_in q xs)) (found_in q ys)) [
-      | true ↦ refl
-      | false ↦ find_append q xs ys
-    ]
 
 -- The look-up decides whether something has the key: it finds nothing, and nothing has it; or it finds a value that something has.
 abbrev pub Seeks : (q : List ℕ) → List (List ℕ × List ℕ) → (List ℕ → Type 0) → Type 0

@@ -1,5 +1,5 @@
 -- A get is the look-up in the map of the region.
-use Rattle.iso_hash.proofs.Words.{◌≡◌, ◌≢◌, ◌∙◌, sym, refl, ap, subst, ℕ, ◌+◌, ◌<◌, ◌≤◌, Bool, true, false, cond, List, length, Option, Some, None, Result, Ok, Err, arith, inl, inr, get, cases_Bool, and_parts, leb-true, Area, Spot, StoreError, BadKey, Broken, Array, Done, accesses_of, answer_of, then_do, AreReads, IsLocal, is_part, text_of, key_at, view_of, buckets, bucket_of, last_position, chain, hash_map, Stands, IsHashRegion, IsHashArea, get_op, Walked, AtCell, AtEnd, AtBroken, walk, is_key, got, get_program, answer_then, own_reads, whole_reads, reads_then, IsCorrect, local_from}
+use Rattle.iso_hash.proofs.Words.{◌≡◌, ◌≢◌, ◌∙◌, sym, refl, ap, subst, ℕ, ◌+◌, ◌<◌, ◌≤◌, Bool, true, false, cond, List, length, Option, Some, None, Ok, Err, arith, inl, inr, get, cases_Bool, and_parts, leb-true, Area, Spot, StoreError, BadKey, Broken, Array, Done, accesses_of, answer_of, then_do, AreReads, IsLocal, is_part, text_of, key_at, view_of, buckets, bucket_of, last_position, chain, hash_map, Stands, IsHashRegion, IsHashArea, get_op, Walked, AtCell, AtEnd, AtBroken, walk, is_key, got, get_program, answer_then, own_reads, whole_reads, reads_then, IsCorrect, local_from, same_ok, no_ok}
 use Rattle.iso_hash.proofs.Finding.{finds_it, finds_none, map_gets}
 use Rattle.iso_hash.proofs.Ways.{way, way_cell, way_end, walk_reads, key_used, Found, Missed}
 
@@ -58,12 +58,6 @@ get_found a A key b k i region stands is = map_gets a (view_of a A).keys (view_o
 pub get_none : (a : Area) (A : Array) (key : List ℕ) → ((b k i : ℕ) → Stands a (view_of a A).keys b k i → key_at ((view_of a A).keys k) i ≢ key) → get (hash_map a A) key ≡ None
 unfolding hash_map
 get_none a A key nowhere = map_gets a (view_of a A).keys (view_of a A).value key ∙ finds_none a (view_of a A).keys (view_of a A).value key nowhere
-
-same_ok : {X : Type 0} (x y : X) (E : Type 0) → ◌≡◌ {A = Result X E} (Ok x) (Ok y) → x ≡ y
-same_ok x y E e = cc
-
-no_ok : {X : Type 0} (e : StoreError) (x : X) → ◌≡◌ {A = Result X StoreError} (Err e) (Ok x) → ⊥
-no_ok e x is = cc
 
 got_is : (a : Area) (A : Array) (key : List ℕ) (w : Walked) (r : Option (List ℕ)) → IsHashArea a → IsHashRegion a A → 0 < length key → answer_of (walk a key true) A ≡ w → got a w ≡ Ok r → get (hash_map a A) key ≡ r
 got_is a A key (AtCell s before ks v) r area region some end is =

@@ -1,5 +1,5 @@
 -- What a get answers where its walk ends.
-use Rattle.iso_hash.proofs.Words.{◌≡◌, ◌≢◌, ◌∙◌, refl, ap, subst, ℕ, ◌+◌, ◌*◌, Bool, true, false, cond, List, [], take, drop, Option, Some, None, Result, Ok, Err, Access, Area, Spot, StoreError, own, value_mark, keys_end, is_part, text_of, get_program, got, walk, is_key, IsHashArea, IsHashRegion, hash_map, get_op, Done, then_do, bytes_in, IsLocal, Tx, Ran, HasEnded, IsLocalCall, ran_at, at_start, at_then, whole_run, cut_then, HasWalked}
+use Rattle.iso_hash.proofs.Words.{◌≡◌, ◌≢◌, ◌∙◌, refl, ap, subst, ℕ, ◌+◌, ◌*◌, Bool, true, false, cond, List, [], take, drop, Option, Some, None, Result, Ok, Err, Access, Area, Spot, StoreError, own, value_mark, keys_end, is_part, text_of, get_program, got, walk, is_key, IsHashArea, IsHashRegion, hash_map, get_op, Done, then_do, bytes_in, IsLocal, Tx, Ran, HasEnded, IsLocalCall, ran_at, at_start, at_then, whole_run, cut_then, HasWalked, HasRun, Program, IsAt, ended_from, sym}
 use Rattle.store_model.specs.declared.stores.StoreError.TheVariants as store
 use Rattle.store_model.specs.HashCalls as hash
 use Rattle.iso_hash.proofs.Gets.{get_local}
@@ -30,15 +30,25 @@ walked_end a key with_value t u buffer w spare last position walked is = walked_
 pub get_at_end : (a : Area) (key : List ℕ) (t u : Tx) (spare : Option Spot) (last position : ℕ) → is_key key ≡ true → Ran (walk a key true) t u (hash.AtEnd spare last position) → Ran (get_program a key) t u (Ok None)
 get_at_end a key t u spare last position is ran = get_ran a key t u (hash.AtEnd spare last position) is ran
 
+-- a walk that is refused or finds a block that is not well formed ends the call
+pub walk_error : {X : Type 0} (a : Area) (key : List ℕ) (with_value : Bool) (f : hash.Walked → Program (Result X StoreError)) (t u : Tx) (buffer : List ℕ) (e : StoreError)
+    → ((block : ℕ) → f (hash.AtBroken block) ≡ Done (Err (store.Broken block))) → HasWalked a key with_value t u buffer (Err e) → HasRun (then_do (walk a key with_value) f) t u (Err e)
+walk_error a key with_value f t u buffer store.BadKey broken walked = absurd walked
+walk_error a key with_value f t u buffer store.BadValue broken walked = absurd walked
+walk_error a key with_value f t u buffer (store.NoBlocks need free) broken walked = absurd walked
+walk_error a key with_value f t u buffer (store.Broken block) broken walked =
+    let whole = then_do (walk a key with_value) f in
+    let now = at_then whole (walk a key with_value) f t t u (hash.AtBroken block) (at_start whole t) walked in
+    ran_at whole t u (Err (store.Broken block)) (subst (λ (p : Program (Result _ StoreError)). IsAt whole p t u) (broken block) now)
+walk_error a key with_value f t u buffer (store.Tx e) broken walked = cut_then (walk a key with_value) f t u e walked
+walk_error a key with_value f t u buffer store.Memory broken walked = absurd walked
+
 -- a refusal of the walk is one of the call
 pub get_error : (a : Area) (key : List ℕ) (t u : Tx) (buffer : List ℕ) (e : StoreError) → is_key key ≡ true → HasWalked a key true t u buffer (Err e) → HasEnded (get_program a key) t u (Err e)
 unfolding get_program
-get_error a key t u buffer store.BadKey is walked = absurd walked
-get_error a key t u buffer store.BadValue is walked = absurd walked
-get_error a key t u buffer (store.NoBlocks need free) is walked = absurd walked
-get_error a key t u buffer (store.Broken block) is walked = get_ran a key t u (hash.AtBroken block) is walked
-get_error a key t u buffer (store.Tx e) is walked = rw is (cut_then (walk a key true) (λ w. Done (got a w)) t u e walked)
-get_error a key t u buffer store.Memory is walked = absurd walked
+get_error a key t u buffer e is walked =
+    let next = λ (w : hash.Walked). Done (got a w) in
+    subst (λ (b : Bool). HasEnded (cond b (then_do (walk a key true) next) (Done (Err store.BadKey))) t u (Err e)) (sym is) (ended_from (then_do (walk a key true) next) t u (Err e) (walk_error a key true next t u buffer e (λ block. refl) walked))
 
 -- the walk does not answer that the key is wrong
 pub walk_known : (a : Area) (key : List ℕ) (with_value : Bool) (t u : Tx) (buffer : List ℕ) (e : StoreError) → HasWalked a key with_value t u buffer (Err e) → (e ≢ store.BadKey) × (e ≢ store.BadValue)

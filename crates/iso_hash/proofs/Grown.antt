@@ -1,11 +1,11 @@
 -- A put into a new block behind the last one of a chain: the region stays well formed, and its map gets the value.
-use Rattle.iso_hash.proofs.Words.{◌≡◌, ◌≢◌, ◌⊎◌, ◌↔◌, ◌∙◌, sym, refl, ap, subst, ℕ, ◌+◌, ◌*◌, ◌^◌, ◌<◌, ◌≤◌, true, false, ◌||◌, ◌==◌, not, nat_eq, nat_le, nat_lt, IsTrue, List, [], ◌∷◌, ◌++◌, length, get_or, take, Option, arith, inl, inr, eq-eqb, ne_eqb, length-append, w32, to_be_bytes, list_all, cases_eq, both_ways, and_from, or_left, or_right, or_cases, eqb-true, nat_tests, from_be_bytes-to_be_bytes_4, Area, Spot, Array, merged, put, block_at, bytes_in, store_access, cell_count, keys_mark, key_mark, value_mark, next_mark, word_at, is_zero, is_part, text_of, key_part, value_part, is_unused, key_at, block_with, map_bytes, bit_place, bit_mark, map_bit, set_bit, view_of, buckets, bucket_of, last_position, next_of, is_next, is_linked, chain, hash_map, IsIn, AreLinked, Stands, IsOverflow, HaveValues, IsHashRegion, IsHashArea, new_block, length-block_put, written_block, other_block, bits_with}
-use Rattle.iso_hash.proofs.Chains.{placed, block_inside, one_bucket, linked_split, linked_join, linked_alike, LinkedAlike, length-chain_from, in_left, in_right, in_either, not_twice, all_in, distinct, next_in, head_of}
-use Rattle.iso_hash.proofs.Frames.{laid_whole, part_is_part, part_text, zero_part, zeros_are}
+use Rattle.iso_hash.proofs.Words.{◌≡◌, ◌≢◌, ◌⊎◌, ◌↔◌, ◌∙◌, sym, refl, ap, subst, ℕ, ◌+◌, ◌*◌, ◌^◌, ◌<◌, ◌≤◌, true, false, ◌||◌, ◌==◌, not, nat_eq, nat_le, nat_lt, IsTrue, List, [], ◌∷◌, ◌++◌, length, get_or, take, Option, arith, inl, inr, eq-eqb, ne_eqb, length-append, w32, to_be_bytes, list_all, cases_eq, both_ways, and_from, or_left, or_right, or_cases, eqb-true, nat_tests, from_be_bytes-to_be_bytes_4, Area, Spot, Array, merged, put, block_at, bytes_in, store_access, cell_count, keys_mark, key_mark, value_mark, next_mark, word_at, is_zero, is_part, text_of, key_part, value_part, is_unused, key_at, block_with, map_bytes, bit_place, bit_mark, map_bit, set_bit, view_of, buckets, bucket_of, last_position, next_of, is_next, is_linked, chain, hash_map, IsIn, AreLinked, Stands, IsOverflow, HaveValues, IsHashRegion, IsHashArea, new_block, length-block_put, written_block, other_block, bits_with, laid_whole, part_is_part, part_text, zero_part, zeros_are, byte_here, byte_far, head_far, length-block_with, in_block_with}
+use Rattle.iso_hash.proofs.Chains.{placed, block_inside, in_left, in_right, in_either, all_in, distinct, next_in, head_of}
 use Rattle.iso_hash.proofs.Gets.{bucket_below}
-use Rattle.iso_hash.proofs.Linking.{chain_of, byte_here, byte_far, head_far, piece_far, key_far, next_here, relinked, length-block_with, in_block_with}
+use Rattle.iso_hash.proofs.Linking.{chain_of}
 use Rattle.iso_hash.proofs.Moves.{IsSame, Moves, StandsAt, map_put, buckets_at, apart_at}
 use Rattle.iso_hash.proofs.NewBlocks.{size_most, length-new_block, new_next, new_key_here, new_unused, new_value_here, new_value_blank, new_linked}
+use Rattle.iso_hash.proofs.Relinked.{IsRelinked, some_in, first_long, chain_other, linked_anew, linked_all, stays_same, was_same, values_old}
 use Rattle.iso_hash.proofs.Pigeons.{fewer}
 use Rattle.iso_hash.proofs.Puts.{HasPut, new_used, new_key}
 use Rattle.iso_hash.proofs.Ways.{Missed}
@@ -75,14 +75,8 @@ module _ (a : Area) (key value : List ℕ) (A : Array) (last place new x : ℕ) 
   last_new : last ≢ new
   last_new = not_new b0 last b0_below has_last
 
-  some_in : (b k : ℕ) → b < buckets a → IsIn k (chain a (view_of a A).keys b) → 0 < k
-  some_in b k below has = (placed a (view_of a A).keys b 0 (chain a (view_of a A).keys b) (1 + b) 0 k (region.keyed.linked b below) has).some
-
-  first_long : length (block_at A a.start) ≡ a.size
-  first_long = let e : a.start + 0 ≡ a.start = omega arith in ap (λ (n : ℕ). length (block_at A n)) (sym e) ∙ region.shape 0 (omega (arith, area.least))
-
   bit_fits : bit_place new + 1 ≤ length (block_at A a.start)
-  bit_fits = omega (arith, first_long, area.most, area.least_size)
+  bit_fits = omega (arith, first_long a A area region, area.most, area.least_size)
 
   new_fits : new < 2 ^ 32
   new_fits = let most = size_most a area in omega (arith, area.most)
@@ -99,7 +93,7 @@ module _ (a : Area) (key value : List ℕ) (A : Array) (last place new x : ℕ) 
       other_block A2 (store_access (a.start + last) (next_mark ∷ []) bytes3) a.start (λ e. absurd (omega (arith, last_some)))
       ∙ other_block A1 (store_access (a.start + new) [] bytes2) a.start (λ e. absurd (omega (arith, low)))
       ∙ written_block A (store_access a.start (bit_mark new ∷ []) bytes1)
-      ∙ ap (λ (n : ℕ). merged (bit_mark new ∷ []) 0 (block_at A a.start) (block_with n (bit_place new) (x ∷ []))) (sym first_long)
+      ∙ ap (λ (n : ℕ). merged (bit_mark new ∷ []) 0 (block_at A a.start) (block_with n (bit_place new) (x ∷ []))) (sym (first_long a A area region))
 
   place_is : place ≡ length missed.front
   place_is = missed.place_is ∙ omega arith
@@ -136,37 +130,21 @@ module _ (a : Area) (key value : List ℕ) (A : Array) (last place new x : ℕ) 
   word3 : word_at 0 bytes3 ≡ new
   word3 = ap (Rattle.std.specs.Int.from_be_bytes w32) (in_block_with a.size 0 4 (to_be_bytes w32 new) refl (omega (arith, area.least_size))) ∙ from_be_bytes-to_be_bytes_4 new new_fits
 
-  keys_far : (k : ℕ) → 0 < k → k ≢ new → k ≢ last → (view_of a B).keys k ≡ (view_of a A).keys k
-  keys_far k some other past = ap (bytes_in (keys_mark a.size)) (far k some other past)
-
-  keys_last : (view_of a B).keys last ≡ bytes_in (keys_mark a.size) (merged (next_mark ∷ []) 0 (block_at A (a.start + last)) bytes3)
-  keys_last = ap (bytes_in (keys_mark a.size)) at_last
-
   keys_new : (view_of a B).keys new ≡ bytes_in (keys_mark a.size) bytes2
   keys_new = ap (bytes_in (keys_mark a.size)) at_new
 
+  relinks : IsRelinked a A B b0 last bytes3
+  relinks = record {
+    below = b0_below;
+    has_link = has_last;
+    far = λ b k below has other. far k (some_in a A region b k below has) (not_new b k below has) other;
+    at_link = at_last;
+    long = long3;
+  }
+
   -- the chains after the writes
-  alike_other : (c : ℕ) → c < buckets a → c ≢ b0 → LinkedAlike a (view_of a A).keys (view_of a B).keys c (chain a (view_of a A).keys c)
-  alike_other c below other k p has linked =
-      let same = keys_far k (some_in c k below has) (not_new c k below has) (λ e. other (one_bucket a (view_of a A).keys c b0 last (region.keyed.linked c below) (region.keyed.linked b0 b0_below) (subst (λ (m : ℕ). IsIn m (chain a (view_of a A).keys c)) e has) has_last)) in
-      (ap (is_linked a c p) same ∙ linked, ap next_of same)
-
-  linked_other : (c : ℕ) → c < buckets a → c ≢ b0 → AreLinked a (view_of a B).keys c 0 (chain a (view_of a A).keys c) (1 + c) 0
-  linked_other c below other = linked_alike a (view_of a A).keys (view_of a B).keys c 0 (chain a (view_of a A).keys c) (1 + c) 0 (alike_other c below other) (region.keyed.linked c below)
-
-  chain_other : (c : ℕ) → c < buckets a → c ≢ b0 → chain a (view_of a B).keys c ≡ chain a (view_of a A).keys c
-  chain_other c below other = chain_of a (view_of a B).keys c (chain a (view_of a A).keys c) (linked_other c below other) (length-chain_from (view_of a A).keys (last_position a + 1) (1 + c))
-
-  whole_old : AreLinked a (view_of a A).keys b0 0 (missed.front ++ last ∷ []) (1 + b0) 0
-  whole_old = subst (λ (blocks : List ℕ). AreLinked a (view_of a A).keys b0 0 blocks (1 + b0) 0) missed.blocks_are (region.keyed.linked b0 b0_below)
-
   in_front : (k : ℕ) → IsIn k missed.front → IsIn k (chain a (view_of a A).keys b0)
   in_front k has = subst (IsIn k) (sym missed.blocks_are) (in_left k missed.front (last ∷ []) has)
-
-  front_alike : LinkedAlike a (view_of a A).keys (view_of a B).keys b0 missed.front
-  front_alike k p has linked =
-      let same = keys_far k (some_in b0 k b0_below (in_front k has)) (not_new b0 k b0_below (in_front k has)) (λ e. not_twice a (view_of a A).keys b0 0 missed.front (last ∷ []) (1 + b0) 0 last whole_old (subst (λ (m : ℕ). IsIn m missed.front) e has) (inl refl)) in
-      (ap (is_linked a b0 p) same ∙ linked, ap next_of same)
 
   may_follow : is_next a place new ≡ true
   may_follow =
@@ -177,18 +155,12 @@ module _ (a : Area) (key value : List ℕ) (A : Array) (last place new x : ℕ) 
 
   linked_b0 : AreLinked a (view_of a B).keys b0 0 (missed.front ++ (last ∷ new ∷ [])) (1 + b0) 0
   linked_b0 =
-      let split = linked_split a (view_of a A).keys b0 0 missed.front (last ∷ []) (1 + b0) 0 whole_old in
-      let mid = split.0 in
-      let tail = split.1.1 in
-      let at : 0 + length missed.front ≡ place = omega (arith, place_is) in
-      let last_linked : is_linked a b0 place ((view_of a A).keys last) ≡ true = subst (λ (n : ℕ). is_linked a b0 n ((view_of a A).keys last) ≡ true) at tail.2 in
-      let now : is_linked a b0 place ((view_of a B).keys last) ≡ true = ap (is_linked a b0 place) keys_last ∙ relinked a (block_at A (a.start + last)) bytes3 long3 b0 place new last_linked word3 may_follow in
-      let next : next_of ((view_of a B).keys last) ≡ new = ap next_of keys_last ∙ next_here a (block_at A (a.start + last)) bytes3 long3 ∙ word3 in
+      let at : place ≡ 0 + length missed.front = omega (arith, place_is) in
       let later : (place + 1 == 0) ≡ false = ne_eqb (place + 1) 0 (λ e. absurd (omega arith)) in
       let fresh : is_linked a b0 (place + 1) ((view_of a B).keys new) ≡ true = ap (is_linked a b0 (place + 1)) keys_new ∙ new_linked a b0 (place + 1) key value area b0_fits place_fits key_short short later in
       let ends : next_of ((view_of a B).keys new) ≡ 0 = ap next_of keys_new ∙ new_next a b0 (place + 1) key value area b0_fits place_fits key_short short in
-      linked_join a (view_of a B).keys b0 0 missed.front (last ∷ new ∷ []) (1 + b0) mid 0 (linked_alike a (view_of a A).keys (view_of a B).keys b0 0 missed.front (1 + b0) mid front_alike split.1.0)
-      (subst (λ (n : ℕ). AreLinked a (view_of a B).keys b0 n (last ∷ new ∷ []) mid 0) (sym at) (tail.0, last_some, now, (next, omega arith, fresh, ends)))
+      linked_anew a A B b0 last bytes3 region relinks missed.front [] missed.blocks_are (new ∷ []) new word3 (subst (λ (n : ℕ). is_next a n new ≡ true) at may_follow)
+      (subst (λ (n : ℕ). AreLinked a (view_of a B).keys b0 (n + 1) (new ∷ []) new 0) at (refl, omega arith, fresh, ends))
 
   chain_b0 : chain a (view_of a B).keys b0 ≡ missed.front ++ (last ∷ new ∷ [])
   chain_b0 = chain_of a (view_of a B).keys b0 (missed.front ++ (last ∷ new ∷ [])) linked_b0 (omega (arith, length-append missed.front (last ∷ new ∷ []), few, place_is))
@@ -205,7 +177,7 @@ module _ (a : Area) (key value : List ℕ) (A : Array) (last place new x : ℕ) 
   -- where a block stands after the writes
   in_new : (b k : ℕ) → b < buckets a → IsIn k (chain a (view_of a B).keys b) → IsIn k (chain a (view_of a A).keys b) ⊎ ((b ≡ b0) × (k ≡ new))
   in_new b k below has = elim (cases_eq b b0) [
-    | inr other ↦ inl (subst (IsIn k) (chain_other b below other) has)
+    | inr other ↦ inl (subst (IsIn k) (chain_other a A B b0 last bytes3 region relinks b below other) has)
     | inl same ↦ elim (in_list k (subst (IsIn k) (ap (chain a (view_of a B).keys) same ∙ chain_b0) has)) [
       | inl old ↦ inl (subst (λ (c : ℕ). IsIn k (chain a (view_of a A).keys c)) (sym same) old)
       | inr fresh ↦ inr (same, fresh)
@@ -220,29 +192,14 @@ module _ (a : Area) (key value : List ℕ) (A : Array) (last place new x : ℕ) 
 
   in_old : (b k : ℕ) → b < buckets a → IsIn k (chain a (view_of a A).keys b) → IsIn k (chain a (view_of a B).keys b)
   in_old b k below has = elim (cases_eq b b0) [
-    | inr other ↦ subst (IsIn k) (sym (chain_other b below other)) has
+    | inr other ↦ subst (IsIn k) (sym (chain_other a A B b0 last bytes3 region relinks b below other)) has
     | inl same ↦ subst (IsIn k) (sym (ap (chain a (view_of a B).keys) same ∙ chain_b0)) (to_list k (subst (IsIn k) (ap (chain a (view_of a A).keys) same ∙ missed.blocks_are) has))
   ]
 
   new_in : IsIn new (chain a (view_of a B).keys b0)
   new_in = subst (IsIn new) (sym chain_b0) (in_right new missed.front (last ∷ new ∷ []) (inr (inl refl)))
 
-  -- the cells of a block that was linked before
-  key_kept : (b k i : ℕ) → b < buckets a → IsIn k (chain a (view_of a A).keys b) → i < cell_count a.size → bytes_in (key_mark i) ((view_of a B).keys k) ≡ bytes_in (key_mark i) ((view_of a A).keys k)
-  key_kept b k i below has cell = elim (cases_eq k last) [
-    | inr other ↦ ap (bytes_in (key_mark i)) (keys_far k (some_in b k below has) (not_new b k below has) other)
-    | inl same ↦ subst (λ (m : ℕ). bytes_in (key_mark i) ((view_of a B).keys m) ≡ bytes_in (key_mark i) ((view_of a A).keys m)) (sym same)
-        (ap (bytes_in (key_mark i)) keys_last ∙ key_far a (block_at A (a.start + last)) bytes3 long3 i cell)
-  ]
-
-  value_kept : (b k i : ℕ) → b < buckets a → IsIn k (chain a (view_of a A).keys b) → (view_of a B).value k i ≡ (view_of a A).value k i
-  value_kept b k i below has = elim (cases_eq k last) [
-    | inr other ↦ ap (bytes_in (value_mark a.size i)) (far k (some_in b k below has) (not_new b k below has) other)
-    | inl same ↦ subst (λ (m : ℕ). (view_of a B).value m i ≡ (view_of a A).value m i) (sym same)
-        (ap (bytes_in (value_mark a.size i)) at_last ∙ piece_far a (block_at A (a.start + last)) bytes3 long3 (value_mark a.size i) (omega arith))
-  ]
-
-  -- and those of the new one
+  -- the cells of the new block
   key_here : bytes_in (key_mark 0) ((view_of a B).keys new) ≡ key_part key
   key_here = ap (bytes_in (key_mark 0)) keys_new ∙ new_key_here a b0 (place + 1) key value area b0_fits place_fits key_short short
 
@@ -252,25 +209,10 @@ module _ (a : Area) (key value : List ℕ) (A : Array) (last place new x : ℕ) 
   cells_some : 0 < cell_count a.size
   cells_some = let least = area.least_size in omega arith
 
-  same_after : (b k i : ℕ) → Stands a (view_of a A).keys b k i → IsSame a (view_of a A).keys (view_of a B).keys (view_of a A).value (view_of a B).value b k i
-  same_after b k i stands =
-      let part = key_kept b k i stands.bucket_is stands.block_is stands.cell_is in
-      record {
-        stands = record { bucket_is = stands.bucket_is; block_is = in_old b k stands.bucket_is stands.block_is; cell_is = stands.cell_is; used = ap (λ (p : List ℕ). get_or p 0 0 == 0) part ∙ stands.used };
-        key_is = ap text_of part;
-        value_is = value_kept b k i stands.bucket_is stands.block_is;
-      }
-
   -- a cell that stands after the writes stood before, or is the new one
   stood : (b k i : ℕ) → Stands a (view_of a B).keys b k i → IsSame a (view_of a B).keys (view_of a A).keys (view_of a B).value (view_of a A).value b k i ⊎ ((b ≡ b0) × ((k ≡ new) × (i ≡ 0)))
   stood b k i stands = elim (in_new b k stands.bucket_is stands.block_is) [
-    | inl old ↦
-        (let part = key_kept b k i stands.bucket_is old stands.cell_is in
-        inl (record {
-          stands = record { bucket_is = stands.bucket_is; block_is = old; cell_is = stands.cell_is; used = ap (λ (p : List ℕ). get_or p 0 0 == 0) (sym part) ∙ stands.used };
-          key_is = ap text_of (sym part);
-          value_is = sym (value_kept b k i stands.bucket_is old);
-        }))
+    | inl old ↦ inl (was_same a A B b0 last bytes3 region relinks b k i stands old)
     | inr fresh ↦ elim (cases_eq i 0) [
       | inl first ↦ inr (fresh.0, (fresh.1, first))
       | inr other ↦ absurd (both_ways (is_unused ((view_of a B).keys new) i) (sym (ap (λ (m : ℕ). is_unused ((view_of a B).keys m) i) fresh.1) ∙ stands.used) (unused_here i stands.cell_is other))
@@ -285,7 +227,7 @@ module _ (a : Area) (key value : List ℕ) (A : Array) (last place new x : ℕ) 
 
   moves : Moves a (view_of a A).keys (view_of a B).keys (view_of a A).value (view_of a B).value key
   moves = record {
-    kept = λ b k i stands other. same_after b k i stands;
+    kept = λ b k i stands other. stays_same a A B b0 last bytes3 region relinks b k i stands (in_old b k stands.bucket_is stands.block_is);
     old = λ b k i stands other. elim (stood b k i stands) [ inl was ↦ was | inr fresh ↦ absurd (other (is_key_at k i fresh.1.0 fresh.1.1)) ];
   }
 
@@ -318,13 +260,6 @@ module _ (a : Area) (key value : List ℕ) (A : Array) (last place new x : ℕ) 
         ],
       )
 
-  linked : (b : ℕ) → b < buckets a → AreLinked a (view_of a B).keys b 0 (chain a (view_of a B).keys b) (1 + b) 0
-  linked b below = elim (cases_eq b b0) [
-    | inr other ↦ subst (λ (blocks : List ℕ). AreLinked a (view_of a B).keys b 0 blocks (1 + b) 0) (sym (chain_other b below other)) (linked_other b below other)
-    | inl same ↦ subst (λ (c : ℕ). AreLinked a (view_of a B).keys c 0 (chain a (view_of a B).keys c) (1 + c) 0) (sym same)
-        (subst (λ (blocks : List ℕ). AreLinked a (view_of a B).keys b0 0 blocks (1 + b0) 0) (sym chain_b0) linked_b0)
-  ]
-
   value_new : (i : ℕ) → (view_of a B).value new i ≡ bytes_in (value_mark a.size i) bytes2
   value_new i = ap (bytes_in (value_mark a.size i)) at_new
 
@@ -333,10 +268,7 @@ module _ (a : Area) (key value : List ℕ) (A : Array) (last place new x : ℕ) 
 
   values : HaveValues a (view_of a B).keys (view_of a B).value
   values b k i below has cell = elim (in_new b k below has) [
-    | inl old ↦
-        (let was = region.values b k i below old cell in
-        let v = value_kept b k i below old in
-        (ap (is_part 32) v ∙ was.0, λ unused. ap (list_all is_zero) v ∙ was.1 (ap (λ (p : List ℕ). get_or p 0 0 == 0) (sym (key_kept b k i below old cell)) ∙ unused)))
+    | inl old ↦ values_old a A B b0 last bytes3 region relinks b k i below old cell
     | inr fresh ↦ subst (λ (m : ℕ). IsTrue (is_part 32 ((view_of a B).value m i)) × (IsTrue (is_unused ((view_of a B).keys m) i) → IsTrue (list_all is_zero ((view_of a B).value m i)))) (sym fresh.1)
         (elim (cases_eq i 0) [
           | inl first ↦ subst (λ (j : ℕ). IsTrue (is_part 32 ((view_of a B).value new j)) × (IsTrue (is_unused ((view_of a B).keys new) j) → IsTrue (list_all is_zero ((view_of a B).value new j)))) (sym first)
@@ -356,7 +288,7 @@ module _ (a : Area) (key value : List ℕ) (A : Array) (last place new x : ℕ) 
           length-block_put A2 (store_access (a.start + last) (next_mark ∷ []) bytes3) (a.start + k) ∙ length-block_put A1 (store_access (a.start + new) [] bytes2) (a.start + k)
           ∙ length-block_put A (store_access a.start (bit_mark new ∷ []) bytes1) (a.start + k) ∙ region.shape k under;
       keyed = record {
-        linked = linked;
+        linked = linked_all a A B b0 last bytes3 region relinks (missed.front ++ (last ∷ new ∷ [])) linked_b0 chain_b0;
         bits = bits;
         head = ap (list_all is_zero) (ap (take 64) at_first ∙ head_far (block_at A a.start) new x bit_fits) ∙ region.keyed.head;
         in_bucket = buckets_at a (view_of a A).keys (view_of a B).keys (view_of a A).value (view_of a B).value key moves region.keyed.in_bucket region.keyed.apart at stands_at;

@@ -6,10 +6,10 @@ pub mod Moves
 pub mod Gets
 pub mod Walking
 pub mod Getting
-pub mod Frames
 pub mod Rewritten
 pub mod Puts
 pub mod Linking
+pub mod Relinked
 pub mod Pigeons
 pub mod NewBlocks
 pub mod Grown

@@ -1,8 +1,6 @@
 -- What stands in a new block of a bucket.
-use Rattle.iso_hash.proofs.Words.{◌≡◌, ◌≢◌, ◌⊎◌, ◌∙◌, sym, refl, ap, ℕ, ◌+◌, ◌*◌, ◌^◌, ◌<◌, ◌≤◌, true, false, ◌==◌, cond, List, length, replicate, arith, inl, inr, eq-eqb, w32, to_be_bytes, from_be_bytes, list_all, cases_eq, and_from, nat_tests, length-replicate, from_be_bytes-to_be_bytes_4, Span, Area, bytes_in, cell_count, keys_end, keys_mark, key_mark, value_mark, word_at, is_zero, is_part, key_part, value_part, laid_at, are_key_parts, next_of, is_next, is_linked, IsHashArea, with_cell, new_block, laid_here, length-laid_at}
-use Rattle.iso_hash.proofs.Frames.{laid_kept, piece_of, piece_zero, zeros_are, zero_part, length-part_of, part_is_part}
+use Rattle.iso_hash.proofs.Words.{◌≡◌, ◌≢◌, ◌⊎◌, ◌∙◌, sym, refl, ap, ℕ, ◌+◌, ◌*◌, ◌^◌, ◌<◌, ◌≤◌, true, false, ◌==◌, cond, List, length, replicate, arith, inl, inr, eq-eqb, w32, to_be_bytes, from_be_bytes, list_all, cases_eq, and_from, nat_tests, length-replicate, from_be_bytes-to_be_bytes_4, Span, Area, bytes_in, cell_count, keys_end, keys_mark, key_mark, value_mark, word_at, is_zero, is_part, key_part, value_part, laid_at, are_key_parts, next_of, is_next, is_linked, IsHashArea, with_cell, new_block, laid_here, length-laid_at, laid_kept, piece_of, piece_zero, zeros_are, zero_part, length-part, part_is_part, all_pass}
 use Rattle.iso_hash.proofs.Puts.{length-with_cell, cell_key_part, cell_value_part, cells_fit}
-use Rattle.iso_hash.proofs.Rewritten.{all_pass}
 
 pub size_most : (a : Area) → IsHashArea a → a.size ≤ 4096
 size_most a area = let valid = area.block_size in grind (arith, nat_tests)
@@ -44,13 +42,13 @@ module _ (a : Area) (bucket position : ℕ) (key value : List ℕ) (area : IsHas
   length-new_block = length-with_cell a.size 0 key value head length_head (omega arith) short (cells_fit a 0 area first_cell) first_cell
 
   key_end : 64 + 31 * 0 + length (key_part key) ≡ 95
-  key_end = let long = length-part_of 30 key (omega arith) in omega arith
+  key_end = let long = length-part 30 key (omega arith) in omega arith
 
   -- the bytes of a span that neither part of the first cell meets
   past_cell : (span : Span) → (span.off + span.len ≤ 64) ⊎ (95 ≤ span.off) → (span.off + span.len ≤ keys_end a.size) ⊎ (keys_end a.size + 33 ≤ span.off) → bytes_in span block ≡ bytes_in span head
   past_cell span key_far value_far =
       let one = length-laid_at (64 + 31 * 0) (key_part key) head (omega (arith, length_head, key_end, area.least_size)) in
-      let value_long = length-part_of 32 value short in
+      let value_long = length-part 32 value short in
       let fits = cells_fit a 0 area first_cell in
       ap (bytes_in span) block_is
       ∙ laid_kept span (keys_end a.size + 33 * 0) (value_part value) (laid_at (64 + 31 * 0) (key_part key) head) (omega (arith, one, length_head, value_long, fits))

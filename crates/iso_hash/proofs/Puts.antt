@@ -1,7 +1,6 @@
 -- A put into a cell that has the key, and one into an unused cell: the region stays well formed, and its map gets the value.
-use Rattle.iso_hash.proofs.Words.{◌≡◌, ◌≢◌, ◌∙◌, sym, refl, ap, subst, ℕ, ◌+◌, ◌-◌, ◌*◌, ◌<◌, ◌≤◌, Bool, true, false, ◌==◌, List, [], ◌∷◌, length, get_or, replicate, arith, inl, inr, ne_eqb, list_all, insert, cases_eq, both_ways, or_left, length-replicate, Access, Area, Spot, Array, put, block_at, bytes_in, store_access, cell_count, keys_end, keys_mark, key_mark, value_mark, is_zero, is_part, text_of, key_part, value_part, is_unused, key_at, laid_at, block_with, view_of, buckets, bucket_of, chain, all_pairs, hash_map, IsIn, Stands, IsKeyed, HaveValues, IsHashRegion, IsHashArea, with_cell, length-block_put, written_block, other_block, laid_here, length-laid_at}
+use Rattle.iso_hash.proofs.Words.{◌≡◌, ◌≢◌, ◌∙◌, sym, refl, ap, subst, ℕ, ◌+◌, ◌*◌, ◌<◌, ◌≤◌, true, false, ◌==◌, List, [], ◌∷◌, length, get_or, replicate, arith, inl, inr, ne_eqb, list_all, insert, cases_eq, both_ways, or_left, length-replicate, Access, Area, Spot, Array, put, block_at, bytes_in, store_access, cell_count, keys_end, keys_mark, key_mark, value_mark, is_zero, is_part, text_of, key_part, value_part, is_unused, key_at, laid_at, block_with, view_of, buckets, bucket_of, chain, all_pairs, hash_map, IsIn, Stands, IsKeyed, HaveValues, IsHashRegion, IsHashArea, with_cell, length-block_put, written_block, other_block, laid_here, length-laid_at, kept_1, laid_all, laid_kept, length-part, part_is_part, part_text}
 use Rattle.iso_hash.proofs.Chains.{one_bucket, block_inside, placed}
-use Rattle.iso_hash.proofs.Frames.{kept_1, laid_all, laid_kept, length-part_of, part_is_part, part_text}
 use Rattle.iso_hash.proofs.Gets.{bucket_below}
 use Rattle.iso_hash.proofs.Moves.{Moves, StandsAt, map_put, buckets_at, apart_at}
 use Rattle.iso_hash.proofs.Rewritten.{IsRewritten, rewrites, is_spot, chain_same, linked_kept, bits_kept, same_there, same_before, values_kept}
@@ -38,7 +37,7 @@ module _ (a : Area) (key value : List ℕ) (A : Array) (s : Spot) (area : IsHash
 
   length_X : length X ≡ a.size
   unfolding X
-  length_X = length-laid_at (keys_end a.size + 33 * s.cell) (value_part value) (replicate a.size 0) (omega (arith, fits, length-part_of 32 value short, length-replicate {A = ℕ} a.size 0)) ∙ length-replicate {A = ℕ} a.size 0
+  length_X = length-laid_at (keys_end a.size + 33 * s.cell) (value_part value) (replicate a.size 0) (omega (arith, fits, length-part 32 value short, length-replicate {A = ℕ} a.size 0)) ∙ length-replicate {A = ℕ} a.size 0
 
   here_is : block_at B (a.start + s.block) ≡ Rattle.iso_model.specs.Array.merged (value_mark a.size s.cell ∷ []) 0 (block_at A (a.start + s.block)) X
   unfolding B w
@@ -67,7 +66,7 @@ module _ (a : Area) (key value : List ℕ) (A : Array) (s : Spot) (area : IsHash
   value_here =
       ap (bytes_in (value_mark a.size s.cell)) here_is
       ∙ laid_all (value_mark a.size s.cell) (value_mark a.size s.cell ∷ []) (block_at A (a.start + s.block)) X (length_X ∙ sym (region.shape s.block inside)) (λ p has. or_left _ false has)
-      ∙ laid_here (keys_end a.size + 33 * s.cell) 33 (value_part value) (replicate a.size 0) (length-part_of 32 value short) (omega (arith, fits, length-part_of 32 value short, length-replicate {A = ℕ} a.size 0))
+      ∙ laid_here (keys_end a.size + 33 * s.cell) 33 (value_part value) (replicate a.size 0) (length-part 32 value short) (omega (arith, fits, length-part 32 value short, length-replicate {A = ℕ} a.size 0))
 
   value_far : (k i : ℕ) → ((k ≡ s.block) × (i ≡ s.cell) → ⊥) → (view_of a B).value k i ≡ (view_of a A).value k i
   value_far k i other = elim (cases_eq k s.block) [
@@ -121,21 +120,21 @@ module _ (a : Area) (key value : List ℕ) (A : Array) (s : Spot) (area : IsHash
 -- a block with one cell, in others
 pub length-with_cell : (size cell : ℕ) (key value block : List ℕ) → length block ≡ size → length key ≤ 30 → length value ≤ 32 → keys_end size + 33 * cell + 33 ≤ size → cell < cell_count size → length (with_cell size cell key value block) ≡ size
 length-with_cell size cell key value block long short low fits below =
-    let one = length-laid_at (64 + 31 * cell) (key_part key) block (omega (arith, length-part_of 30 key short)) in
-    length-laid_at (keys_end size + 33 * cell) (value_part value) (laid_at (64 + 31 * cell) (key_part key) block) (omega (arith, one, length-part_of 32 value low)) ∙ one ∙ long
+    let one = length-laid_at (64 + 31 * cell) (key_part key) block (omega (arith, length-part 30 key short)) in
+    length-laid_at (keys_end size + 33 * cell) (value_part value) (laid_at (64 + 31 * cell) (key_part key) block) (omega (arith, one, length-part 32 value low)) ∙ one ∙ long
 
 pub cell_key_part : (size cell : ℕ) (key value block : List ℕ) → length block ≡ size → length key ≤ 30 → length value ≤ 32 → keys_end size + 33 * cell + 33 ≤ size → cell < cell_count size
     → bytes_in (key_mark cell) (with_cell size cell key value block) ≡ key_part key
 cell_key_part size cell key value block long short low fits below =
-    let one = length-laid_at (64 + 31 * cell) (key_part key) block (omega (arith, length-part_of 30 key short)) in
-    laid_kept (key_mark cell) (keys_end size + 33 * cell) (value_part value) (laid_at (64 + 31 * cell) (key_part key) block) (omega (arith, one, length-part_of 32 value low)) (inl (omega arith))
-    ∙ laid_here (64 + 31 * cell) 31 (key_part key) block (length-part_of 30 key short) (omega (arith, length-part_of 30 key short))
+    let one = length-laid_at (64 + 31 * cell) (key_part key) block (omega (arith, length-part 30 key short)) in
+    laid_kept (key_mark cell) (keys_end size + 33 * cell) (value_part value) (laid_at (64 + 31 * cell) (key_part key) block) (omega (arith, one, length-part 32 value low)) (inl (omega arith))
+    ∙ laid_here (64 + 31 * cell) 31 (key_part key) block (length-part 30 key short) (omega (arith, length-part 30 key short))
 
 pub cell_value_part : (size cell : ℕ) (key value block : List ℕ) → length block ≡ size → length key ≤ 30 → length value ≤ 32 → keys_end size + 33 * cell + 33 ≤ size → cell < cell_count size
     → bytes_in (value_mark size cell) (with_cell size cell key value block) ≡ value_part value
 cell_value_part size cell key value block long short low fits below =
-    let one = length-laid_at (64 + 31 * cell) (key_part key) block (omega (arith, length-part_of 30 key short)) in
-    laid_here (keys_end size + 33 * cell) 33 (value_part value) (laid_at (64 + 31 * cell) (key_part key) block) (length-part_of 32 value low) (omega (arith, one, length-part_of 32 value low))
+    let one = length-laid_at (64 + 31 * cell) (key_part key) block (omega (arith, length-part 30 key short)) in
+    laid_here (keys_end size + 33 * cell) 33 (value_part value) (laid_at (64 + 31 * cell) (key_part key) block) (length-part 32 value low) (omega (arith, one, length-part 32 value low))
 
 -- a key part that was written is used, and has the key
 pub new_used : (keys key : List ℕ) (i : ℕ) → 0 < length key → bytes_in (key_mark i) keys ≡ key_part key → is_unused keys i ≡ false

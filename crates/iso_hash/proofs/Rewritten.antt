@@ -1,8 +1,9 @@
 -- One cell of a linked block is rewritten, key part and value part: what stays.
-use Rattle.iso_hash.proofs.Words.{◌≡◌, ◌≢◌, ◌⊎◌, ◌↔◌, ◌∙◌, sym, refl, ap, subst, ℕ, zero, suc, ◌+◌, ◌*◌, ◌<◌, ◌≤◌, Bool, true, false, ◌==◌, cond, IsTrue, List, [], ◌∷◌, length, get_or, arith, inl, inr, list_all, cases_eq, cases_lt, and_parts, and_from, or_left, or_right, Access, Span, Area, Spot, Array, covered, in_span, merged, put, block_at, bytes_in, store_access, cell_count, keys_end, keys_mark, key_mark, value_mark, word_at, is_zero, is_part, text_of, is_unused, all_from, are_key_parts, map_bytes, map_bit, view_of, last_position, next_of, is_next, is_linked, chain_from, chain, IsIn, AreLinked, Stands, IsOverflow, HaveValues, IsHashArea, written_block, other_block, all_at}
+use Rattle.iso_hash.proofs.Words.{◌≡◌, ◌≢◌, ◌⊎◌, ◌↔◌, ◌∙◌, sym, refl, ap, subst, ℕ, zero, suc, ◌+◌, ◌*◌, ◌<◌, ◌≤◌, true, false, ◌==◌, cond, IsTrue, List, [], ◌∷◌, length, get_or, arith, inl, inr, list_all, cases_eq, cases_lt, and_parts, and_from, or_left, or_right, Access, Span, Area, Spot, Array, covered, in_span, merged, put, block_at, bytes_in, store_access, cell_count, keys_end, keys_mark, key_mark, value_mark, word_at, is_zero, is_part, text_of, is_unused, are_key_parts, map_bytes, map_bit, view_of, last_position, next_of, is_next, is_linked, chain_from, chain, IsIn, AreLinked, Stands, IsOverflow, HaveValues, IsHashArea, written_block, other_block, all_at, kept_2, laid_all, piece_of}
 use Rattle.iso_hash.proofs.Chains.{linked_alike, LinkedAlike, head_of}
-use Rattle.iso_hash.proofs.Frames.{AreApart, kept_2, laid_all, piece_of}
 use Rattle.iso_hash.proofs.Moves.{IsSame}
+use Rattle.tx_blocks.proofs.Frames.{AreApart}
+pub use Rattle.iso_alloc.proofs.Loops.{all_pass}
 
 -- the blocks of a chain are the same where the next numbers are
 pub same_chain : (keys new : ℕ → List ℕ) (left block : ℕ) → ((k : ℕ) → next_of (new k) ≡ next_of (keys k)) → chain_from new left block ≡ chain_from keys left block
@@ -10,11 +11,6 @@ same_chain keys new zero block next = refl
 same_chain keys new (suc left) block next =
     ap (λ (m : ℕ). block ∷ cond (m == 0) [] (chain_from new left m)) (next block)
     ∙ ap (λ (rest : List ℕ). block ∷ cond (next_of (keys block) == 0) [] rest) (same_chain keys new left (next_of (keys block)) next)
-
--- where each passes, all pass
-pub all_pass : (test : ℕ → Bool) (i n : ℕ) → ((j : ℕ) → i ≤ j → j < i + n → test j ≡ true) → all_from test i n ≡ true
-all_pass test i zero each = refl
-all_pass test i (suc n) each = and_from (test i) (all_from test (i + 1) n) (each i (omega arith) (omega arith)) (all_pass test (i + 1) n (λ j low high. each j (omega arith) (omega arith)))
 
 -- heads whose tested pieces are the same but for the next number
 pub linked_again : (a : Area) (bucket position : ℕ) (x y : List ℕ) → is_linked a bucket position x ≡ true

@@ -1,9 +1,10 @@
 -- What puts and removals do where their walk ends.
-use Rattle.iso_hash.proofs.Words.{◌≡◌, ◌∙◌, sym, refl, ap, subst, ℕ, zero, suc, ◌+◌, ◌-◌, ◌%◌, ◌<◌, ◌≤◌, ◌==◌, Bool, true, false, cond, not, List, [], ◌∷◌, length, get_or, Option, Some, None, Result, Ok, Err, IfOk, arith, get_or-take, get_or-set_same, ForSome, Access, Area, Region, Spot, StoreError, TxError, Array, own, first_from, block_at, Program, Done, Look, Reserve, Store, then_do, bytes_in, look_access, store_access, IsLocal, w32, to_be_bytes, replicate, next_mark, block_with, map_bytes, map_mark, bit_mark, bit_place, set_bit, clear_bit, with_bit, without_bit, lowest_free, walk, new_block, is_spent, put_new, put_at, put_program, del_at, del_program, is_key, is_value, bucket_of, buckets, last_position, IsHashArea, IsHashRegion, hash_map, put_op, del_op, length-block_own, Tx, Device, IsTx, with_accesses, room_of, area_of, Ran, HasRun, HasEnded, Behaves, IsLocalCall, IsAt, at_start, at_then, at_look, at_store, at_reserve, ran_at, full_at_reserve, whole_run, cut_then, later_same, read_none, run_from, ended_from, refused_so, HasWalked}
+use Rattle.iso_hash.proofs.Words.{◌≡◌, ◌∙◌, sym, refl, ap, subst, ℕ, suc, ◌+◌, ◌-◌, ◌<◌, ◌≤◌, Bool, true, false, cond, List, [], ◌∷◌, length, get_or, Option, Some, None, Result, Ok, Err, IfOk, arith, get_or-take, get_or-set_same, ForSome, Access, Area, Region, Spot, StoreError, TxError, own, block_at, Program, Done, Look, Reserve, Store, then_do, bytes_in, look_access, store_access, IsLocal, w32, to_be_bytes, replicate, next_mark, block_with, map_bytes, map_mark, bit_mark, bit_place, set_bit, clear_bit, with_bit, without_bit, lowest_free, walk, new_block, is_spent, put_new, put_at, put_program, del_at, del_program, is_key, is_value, bucket_of, buckets, last_position, IsHashArea, IsHashRegion, hash_map, put_op, del_op, Tx, Device, IsTx, with_accesses, room_of, area_of, Ran, HasRun, HasEnded, Behaves, IsLocalCall, IsAt, at_start, at_then, at_look, at_store, at_reserve, ran_at, full_at_reserve, whole_run, later_same, read_none, run_from, ended_from, refused_so, HasWalked, blocks_of, lowest_alike}
 use Rattle.store_model.specs.declared.stores.StoreError.TheVariants as store
 use Rattle.store_model.specs.declared.stores.TxError.TheVariants as error
 use Rattle.store_model.specs.HashCalls as hash
-use Rattle.iso_hash.proofs.Changes.{put_is, del_is, put_local, del_local, HasBlocks, give_back_block, make_zero}
+use Rattle.iso_hash.proofs.Changes.{put_is, del_is, put_local, del_local, give_back_block, make_zero}
+use Rattle.iso_hash.proofs.Getting.{walk_error}
 
 -- a put that goes on from the end of its walk
 pub put_from : (a : Area) (key value : List ℕ) (t u v : Tx) (w : hash.Walked) (result : Result (Unit {0}) StoreError) → is_key key ≡ true → is_value value ≡ true
@@ -20,30 +21,13 @@ del_from a key t u v w result is ran run =
     subst (λ (p : Program (Result Bool StoreError)). HasRun p t v result) (sym (del_is a key is))
     (run_from whole (del_at a w) t u v result (at_then whole (walk a key false) (del_at a) t t u w (at_start whole t) ran) run)
 
--- a walk that is refused or finds a block that is not well formed ends the call
-walk_error : {X : Type 0} (a : Area) (key : List ℕ) (f : hash.Walked → Program (Result X StoreError)) (t u : Tx) (buffer : List ℕ) (e : StoreError)
-    → ((block : ℕ) → f (hash.AtBroken block) ≡ Done (Err (store.Broken block))) → HasWalked a key false t u buffer (Err e) → HasRun (then_do (walk a key false) f) t u (Err e)
-walk_error a key f t u buffer store.BadKey broken walked = absurd walked
-walk_error a key f t u buffer store.BadValue broken walked = absurd walked
-walk_error a key f t u buffer (store.NoBlocks need free) broken walked = absurd walked
-walk_error a key f t u buffer (store.Broken block) broken walked =
-    let whole = then_do (walk a key false) f in
-    let now = at_then whole (walk a key false) f t t u (hash.AtBroken block) (at_start whole t) walked in
-    ran_at whole t u (Err (store.Broken block)) (subst (λ (p : Program (Result _ StoreError)). IsAt whole p t u) (broken block) now)
-walk_error a key f t u buffer (store.Tx e) broken walked = cut_then (walk a key false) f t u e walked
-walk_error a key f t u buffer store.Memory broken walked = absurd walked
-
 pub put_error : (a : Area) (key value : List ℕ) (t u : Tx) (buffer : List ℕ) (e : StoreError) → is_key key ≡ true → is_value value ≡ true → HasWalked a key false t u buffer (Err e) → HasRun (put_program a key value) t u (Err e)
 put_error a key value t u buffer e is short walked =
-    subst (λ (p : Program (Result (Unit {0}) StoreError)). HasRun p t u (Err e)) (sym (put_is a key value is short)) (walk_error a key (put_at a key value) t u buffer e (λ block. refl) walked)
+    subst (λ (p : Program (Result (Unit {0}) StoreError)). HasRun p t u (Err e)) (sym (put_is a key value is short)) (walk_error a key false (put_at a key value) t u buffer e (λ block. refl) walked)
 
 pub del_error : (a : Area) (key : List ℕ) (t u : Tx) (buffer : List ℕ) (e : StoreError) → is_key key ≡ true → HasWalked a key false t u buffer (Err e) → HasRun (del_program a key) t u (Err e)
 del_error a key t u buffer e is walked =
-    subst (λ (p : Program (Result Bool StoreError)). HasRun p t u (Err e)) (sym (del_is a key is)) (walk_error a key (del_at a) t u buffer e (λ block. refl) walked)
-
--- the blocks of the array that the transaction shows
-blocks_in : (a : Area) (t : Tx) (A : Array) → IsTx t → t.size ≡ a.size → a.start + a.blocks ≤ t.blocks → t.base ≡ Some A → HasBlocks a (own A t.accesses)
-blocks_in a t A is size fits told k below = length-block_own A t.accesses (a.start + k) ∙ (is.base A told).bytes (a.start + k) (omega arith) ∙ size
+    subst (λ (p : Program (Result Bool StoreError)). HasRun p t u (Err e)) (sym (del_is a key is)) (walk_error a key false (del_at a) t u buffer e (λ block. refl) walked)
 
 pub put_call : (a : Area) (key value : List ℕ) (t u : Tx) (result : Result (Unit {0}) StoreError) → IsHashArea a → is_key key ≡ true → is_value value ≡ true → IsTx t → t.size ≡ a.size → a.start + a.blocks ≤ t.blocks
     → HasRun (put_program a key value) t u result → IfOk result (IsLocalCall (IsHashRegion a) (hash_map a) (put_op key value) t u)
@@ -51,7 +35,7 @@ put_call a key value t u (Err e) area is short tx size fits run = tt
 put_call a key value t u (Ok x) area is short tx size fits run = λ A told.
     let whole = whole_run (put_program a key value) t u (Ok x) run A told in
     subst (λ (accesses : List Access). IsLocal (IsHashRegion a) (hash_map a) (put_op key value) (own A t.accesses) accesses x) whole.accesses_are
-    (put_local a key value (own A t.accesses) x area is short (blocks_in a t A tx size fits told) whole.answer_is)
+    (put_local a key value (own A t.accesses) x area is short (blocks_of a t A tx size fits told) whole.answer_is)
 
 pub del_call : (a : Area) (key : List ℕ) (t u : Tx) (result : Result Bool StoreError) → IsHashArea a → is_key key ≡ true → IsTx t → t.size ≡ a.size → a.start + a.blocks ≤ t.blocks
     → HasRun (del_program a key) t u result → IfOk result (IsLocalCall (IsHashRegion a) (hash_map a) (del_op key) t u)
@@ -59,7 +43,7 @@ del_call a key t u (Err e) area is tx size fits run = tt
 del_call a key t u (Ok x) area is tx size fits run = λ A told.
     let whole = whole_run (del_program a key) t u (Ok x) run A told in
     subst (λ (accesses : List Access). IsLocal (IsHashRegion a) (hash_map a) (del_op key) (own A t.accesses) accesses x) whole.accesses_are
-    (del_local a key (own A t.accesses) x area is (blocks_in a t A tx size fits told) whole.answer_is)
+    (del_local a key (own A t.accesses) x area is (blocks_of a t A tx size fits told) whole.answer_is)
 
 -- a reservation that does not fit
 pub reserve_refused : {X : Type 0} (count : ℕ) (rest : Program (Result X StoreError)) (t : Tx) (d : Device) (e : TxError) → count ≤ 3 → (e ≡ error.TooManyAccesses) × (room_of t < count)
@@ -75,17 +59,6 @@ pub room_less : (n : ℕ) (t v : Tx) (a : Access) → suc n ≤ room_of t → v 
 room_less n t v a room is =
     let long : length v.accesses ≡ length t.accesses + 1 = ap (λ (w : Tx). length w.accesses) is ∙ Rattle.std.proofs.Common.length-append t.accesses (a ∷ []) in
     omega arith
-
--- the lowest free block of the bytes of the map is that of the block
-first_alike : (test other : ℕ → Bool) (i n : ℕ) → ((j : ℕ) → i ≤ j → j < i + n → test j ≡ other j) → first_from test i n ≡ first_from other i n
-first_alike test other i zero same = refl
-first_alike test other i (suc n) same =
-    ap (λ t. cond t (Some i) (first_from test (i + 1) n)) (same i (omega arith) (omega arith))
-    ∙ ap (λ rest. cond (other i) (Some i) rest) (first_alike test other (i + 1) n (λ j low high. same j (omega arith) (omega arith)))
-
-pub lowest_alike : (blocks : ℕ) (block : List ℕ) (from n : ℕ) → from + n ≤ blocks → lowest_free (bytes_in (map_mark blocks) block) from n ≡ lowest_free block from n
-lowest_alike blocks block from n inside = first_alike _ _ from n (λ j low high.
-    ap (λ (x : ℕ). not (Rattle.std.specs.Int.bit_at x (j % 8) == 1)) (get_or-take (64 + map_bytes blocks) block (bit_place j) 0 (omega arith)))
 
 -- the writes of a put into a new block
 abbrev pub third : Area → (block last : ℕ) → Program (Result (Unit {0}) StoreError)

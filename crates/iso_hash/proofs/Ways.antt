@@ -1,16 +1,5 @@
 -- How a walk ends.
-use Rattle.iso_hash.proofs.Words.{◌≡◌, ◌≢◌, ◌⊎◌, ◌∙◌, sym, refl, ap, subst, ℕ, zero, suc, ◌+◌, ◌<◌, ◌≤◌, Bool, true, false, ◌&&◌, ◌==◌, cond, List, [], ◌∷◌, ◌++◌, length, take, drop, Option, Some, None, IfSome, option_map, arith, inl, inr, eq-eqb, ne_eqb, bytes_eq, cases_Bool, eqb-true, eqb-false, both_ways, bytes_eq-Decides, Span, Area, Spot, Array, or_else, first_from, block_at, Program, Done, bytes_in, further_bytes, answer_of, accesses_of, AreReads, cell_count, key_mark, value_mark, is_unused, key_at, cell_with, unused_cell, first_below, view_of, next_of, is_linked, chain_from, IsIn, Walked, AtCell, AtEnd, AtBroken, spot_in, spare_in, at_cell, walk_from}
-
--- the number that is found first passes
-pub first_passes : (test : ℕ → Bool) (i n j : ℕ) → first_from test i n ≡ Some j → test j ≡ true
-first_passes test i zero j e = cc
-first_passes test i (suc n) j e = elim (cases_Bool (test i)) [
-  | inl pass ↦
-      (let here : Some i ≡ Some j = sym (rw pass refl) ∙ e in
-      let same : i ≡ j = cc in
-      ap test (sym same) ∙ pass)
-  | inr fail ↦ first_passes test (i + 1) n j (sym (rw fail refl) ∙ e)
-]
+use Rattle.iso_hash.proofs.Words.{◌≡◌, ◌≢◌, ◌⊎◌, ◌∙◌, sym, refl, ap, subst, ℕ, zero, suc, ◌+◌, ◌<◌, ◌≤◌, Bool, true, false, ◌&&◌, ◌==◌, cond, List, [], ◌∷◌, ◌++◌, length, take, drop, Option, Some, None, IfSome, option_map, arith, inl, inr, eq-eqb, ne_eqb, bytes_eq, cases_Bool, eqb-true, eqb-false, both_ways, bytes_eq-Decides, Span, Area, Spot, Array, or_else, first_from, block_at, Program, Done, bytes_in, further_bytes, answer_of, accesses_of, AreReads, cell_count, key_mark, value_mark, is_unused, key_at, cell_with, unused_cell, first_below, view_of, next_of, is_linked, chain_from, IsIn, Walked, AtCell, AtEnd, AtBroken, spot_in, spare_in, at_cell, walk_from, first_passes, cond_reads}
 
 -- where none is found, none passes
 pub first_none : (test : ℕ → Bool) (i n j : ℕ) → first_from test i n ≡ None → i ≤ j → j < i + n → test j ≡ false
@@ -103,11 +92,6 @@ not_end_broken o m p n e = cc
 
 not_end_cell : (s : Spot) (b : ℕ) (k v : List ℕ) (o : Option Spot) (m p : ℕ) → AtEnd o m p ≡ AtCell s b k v → ⊥
 not_end_cell s b k v o m p e = cc
-
--- where in the list the block stands, and which one stands before it
-abbrev pub IsAfter : List ℕ → (start before block : ℕ) → (ℕ → Type 0) → Type 0
-IsAfter blocks start before block First =
-    ((ys : List ℕ) × ((blocks ≡ block ∷ ys) × (before ≡ start))) ⊎ ((xs : List ℕ) × ((ys : List ℕ) × (blocks ≡ xs ++ (before ∷ block ∷ ys))))
 
 -- a walk that ends at a cell has found the key there
 pub record Found (a : Area) (key : List ℕ) (A : Array) (with_value : Bool) (blocks : List ℕ) (start : ℕ) (s : Spot) (before : ℕ) (ks v : List ℕ) : Type 0 where
@@ -224,10 +208,6 @@ way_end a key bucket with_value A (suc left) position before block free spare la
       end = ih.end;
       spare_is = spare_later a keys free mid spare block (chain_from keys left next) (spare_here a keys free block (chain_from keys left next) (unused_cell a.size (keys block)) refl) ih.spare_is;
     })
-
-cond_reads : {R : Type 0} (t : Bool) (p q : Program R) (A : Array) → AreReads (accesses_of p A) → AreReads (accesses_of q A) → AreReads (accesses_of (cond t p q) A)
-cond_reads true p q A then_all else_all = then_all
-cond_reads false p q A then_all else_all = else_all
 
 cell_reads : {R : Type 0} (c : Option ℕ) (f : ℕ → Program R) (q : Program R) (A : Array) → ((i : ℕ) → AreReads (accesses_of (f i) A)) → AreReads (accesses_of q A) → AreReads (accesses_of (at_cell c f q) A)
 cell_reads None f q A found other = other

@@ -14,8 +14,9 @@ pub use Rattle.std.specs.Option.{ForSome}
 pub use Rattle.std.specs.Ordering.{eq_by_cmp, nat_cmp}
 pub use Rattle.std.specs.Str.{bytes_eq}
 pub use Rattle.iso_alloc.proofs.Bits.{bits_with, bits_without}
+pub use Rattle.iso_alloc.proofs.Finding.{ties, not_bytes_eq, found_in, find_append}
 pub use Rattle.iso_alloc.proofs.Laying.{laid_here}
-pub use Rattle.iso_alloc.proofs.Loops.{all_at}
+pub use Rattle.iso_alloc.proofs.Loops.{all_at, all_pass, first_low, first_passes, lowest_alike}
 pub use Rattle.iso_model.proofs.Bytes.{length-block_own, length-block_put, length-merged, merged_at, merged_kept, other_block, written_block}
 pub use Rattle.iso_model.specs.Array.{Array, covered, in_span, merged, put}
 pub use Rattle.iso_model.specs.Conflict.{first_from}
@@ -24,7 +25,7 @@ pub use Rattle.iso_model.specs.Premises.{block_at}
 pub use Rattle.iso_model.specs.declared.access.Access.{Access}
 pub use Rattle.iso_model.specs.declared.access.Span.{Span}
 pub use Rattle.store_model.proofs.HashAccesses.{first_below}
-pub use Rattle.store_model.proofs.Laying.{length-laid_at}
+pub use Rattle.store_model.proofs.Laying.{length-laid_at, length-part}
 pub use Rattle.store_model.specs.Cells.{all_from, are_key_parts, block_with, cell_count, cell_with, is_part, is_unused, is_zero, key_at, key_mark, key_part, keys_end, keys_mark, laid_at, next_mark, part_of, text_of, unused_cell, value_mark, value_part, word_at}
 pub use Rattle.store_model.specs.FreeMap.{bit_mark, bit_place, clear_bit, lowest_free, map_bit, map_bytes, map_mark, set_bit, with_bit, without_bit}
 pub use Rattle.store_model.specs.HashCalls.{AtBroken, AtCell, AtEnd, Walked, at_cell, del_at, got, is_alone, is_key, is_spent, is_value, new_block, put_at, put_new, spare_in, spot_in, walk_from, walk_further, walk_next, with_cell}
@@ -38,10 +39,12 @@ pub use Rattle.store_model.specs.declared.stores.Spot.{Spot}
 pub use Rattle.store_model.specs.declared.stores.StoreError.{StoreError}
 pub use Rattle.store_model.specs.declared.stores.StoreError.TheVariants.{BadKey, Broken, NoBlocks}
 pub use Rattle.store_model.specs.declared.stores.TxError.{TxError}
+pub use Rattle.tx_blocks.proofs.Frames.{kept_1, kept_2, laid_all, laid_whole, laid_kept, piece_of, zeros_are, piece_zero, part_is_part, part_text, zero_part}
+pub use Rattle.tx_blocks.proofs.MapByte.{map_byte, length-block_with, in_block_with, byte_here, byte_far, head_far}
 pub use Rattle.tx_blocks.proofs.Marking.{marked_access, may_mark}
 pub use Rattle.tx_blocks.proofs.Parts.{behaves_after, done_so, ended_from, refused_memory, refused_reading, refused_so, run_from}
-pub use Rattle.tx_blocks.proofs.Programs.{AreWhole, IsCorrect, accesses_then, answer_then, local_from, own_reads, reads_then, same_bytes, whole_reads}
-pub use Rattle.tx_blocks.proofs.Progress.{IsAt, at_look, at_reserve, at_start, at_store, at_then, full_at_reserve, own_append, ran_at, whole_run}
+pub use Rattle.tx_blocks.proofs.Programs.{AreWhole, HasBlocks, IsCorrect, accesses_then, answer_then, blocks_of, cond_reads, local_from, no_ok, own_reads, reads_then, same_bytes, same_ok, whole_append, whole_reads}
+pub use Rattle.tx_blocks.proofs.Progress.{IsAt, at_as, at_look, at_reserve, at_start, at_store, at_then, full_at_reserve, own_append, ran_at, whole_run}
 pub use Rattle.tx_blocks.proofs.Refusals.{behaves_more, cause_earlier, cut_at_look, cut_at_store, cut_then, later_same, later_than, read_more, read_none, read_same, read_size, store_cause}
 pub use Rattle.tx_blocks.specs.Runs.{Behaves, HasEnded, HasRead, HasRun, IsCause, IsCut, IsLocalCall, Ran, area_of}
 pub use Rattle.tx_blocks.specs.Tx.{Device, IsLater, IsTx, Tx, room_of, with_accesses}

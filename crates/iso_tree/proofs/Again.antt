@@ -1,5 +1,5 @@
 -- The nodes that a put reads once more are those of its descent, and the way up over them is the put below the root.
-use Rattle.iso_tree.proofs.Words.{◌≡◌, ◌∙◌, sym, refl, ap, ℕ, zero, suc, ◌+◌, ◌<◌, ◌≤◌, true, List, [], ◌∷◌, map, take, length, Option, None, arith, inl, inr, AllByRecursion, flat_map, append-nil, Area, Array, own, IsIn, block_at, Program, accesses_of, answer_of, cell_count, Cell, child_of, child_part, is_child, tree_at, nodes_in, IsOrdered, climb, climb_on, full_row, look_again, cells_in, AreNodes, AreWhole}
+use Rattle.iso_tree.proofs.Words.{◌≡◌, ◌∙◌, sym, refl, ap, ℕ, zero, suc, ◌+◌, ◌<◌, ◌≤◌, true, List, [], ◌∷◌, map, take, length, Option, None, arith, inl, inr, AllByRecursion, flat_map, append-nil, Area, Array, own, IsIn, block_at, Program, accesses_of, cell_count, Cell, child_of, child_part, is_child, tree_at, nodes_in, IsOrdered, climb, climb_on, full_row, look_again, cells_in, AreNodes, AreWhole}
 use Rattle.iso_tree.proofs.Blocks.{in_cases}
 use Rattle.iso_tree.proofs.Climbs.{child_ordered}
 use Rattle.iso_tree.proofs.Facts.{child_below}
@@ -12,10 +12,6 @@ use Rattle.iso_tree.proofs.Ways.{path_below, counts, climb_below, climb_take}
 -- the nodes of these blocks
 abbrev pub nodes_at : (ℕ → List Cell) → List ℕ → List (ℕ × List Cell)
 nodes_at cells blocks = map (λ b. (b, cells b)) blocks
-
-pub again_answer : {R : Type 0} (a : Area) (A : Array) (blocks : List ℕ) (f : List (ℕ × List Cell) → Program R) → answer_of (look_again a blocks f) A ≡ answer_of (f (nodes_at (cells_in a A) blocks)) A
-again_answer a A [] f = refl
-again_answer a A (b ∷ blocks) f = again_answer a A blocks (λ nodes. f ((b, cells_in a A b) ∷ nodes))
 
 pub again_own : {R : Type 0} (a : Area) (A : Array) (blocks : List ℕ) (f : List (ℕ × List Cell) → Program R)
     → own A (accesses_of (look_again a blocks f) A) ≡ own A (accesses_of (f (nodes_at (cells_in a A) blocks)) A)

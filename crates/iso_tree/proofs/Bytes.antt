@@ -1,13 +1,10 @@
 -- The bytes of a node spell its cells.
-use Rattle.iso_tree.proofs.Words.{◌≡◌, ◌∙◌, sym, refl, ap, subst, ℕ, zero, suc, ◌+◌, ◌-◌, ◌*◌, ◌/◌, ◌%◌, ◌<◌, ◌≤◌, true, List, [], ◌∷◌, ◌++◌, take, drop, length, replicate, arith, inl, inr, flat_map, list_all, cases_eq, append_assoc, take_at, drop_at, length-append, length-replicate, ext_get_or, drop-drop, drop-replicate, Area, Array, merged, put, block_at, bytes_in, store_access, cell_count, keys_end, keys_mark, value_mark, part_of, text_of, key_at, key_part, is_zero, FitCells, count_of, Cell, node_bytes, cells_by, used_cells, cells_in, length-merged, merged_at, written_block, other_block}
+use Rattle.iso_tree.proofs.Words.{◌≡◌, ◌∙◌, sym, refl, ap, subst, ℕ, zero, suc, ◌+◌, ◌-◌, ◌*◌, ◌/◌, ◌%◌, ◌<◌, ◌≤◌, true, List, [], ◌∷◌, ◌++◌, take, drop, length, replicate, arith, inl, inr, flat_map, list_all, cases_eq, append_assoc, take_at, drop_at, length-append, length-replicate, ext_get_or, drop-drop, drop-replicate, Area, Array, merged, put, block_at, bytes_in, store_access, cell_count, keys_end, keys_mark, value_mark, text_of, key_at, key_part, is_zero, FitCells, count_of, Cell, node_bytes, cells_by, used_cells, cells_in, length-merged, merged_at, written_block, other_block, length-part}
 use Rattle.iso_tree.proofs.Shapes.{write_cells}
 use Rattle.iso_tree.proofs.Splits.{write_here, write_other}
 
-length-part_of : (n : ℕ) (text : List ℕ) → length text ≤ n → length (part_of n text) ≡ n + 1
-length-part_of n text short = omega (arith, length-append text (replicate (n - length text) 0), length-replicate {A = ℕ} (n - length text) 0)
-
 pub length-key_part : (key : List ℕ) → length key ≤ 28 → length (key_part key) ≡ 31
-length-key_part key short = length-part_of 30 key (omega arith)
+length-key_part key short = length-part 30 key (omega arith)
 
 pub key_text : (key : List ℕ) → text_of (key_part key) ≡ key
 key_text key = take_at key (replicate (30 - length key) 0) (length key) refl

@@ -1,6 +1,5 @@
 -- The way up, write by write.
-use Rattle.iso_tree.proofs.Words.{◌≡◌, ◌∙◌, sym, refl, ap, subst, ℕ, zero, suc, ◌+◌, ◌-◌, ◌*◌, ◌/◌, ◌<◌, ◌≤◌, ◌==◌, Bool, true, false, cond, nat_le, List, [], ◌∷◌, ◌++◌, length, take, drop, None, Result, Ok, arith, inl, inr, eq-eqb, ne_eqb, nat_tests, take_at, drop_at, Access, Area, StoreError, TxError, cell_count, keys_end, value_mark, Program, Done, Store, bytes_in, store_access, Tx, Device, with_accesses, room_of, HasRun, IsCut, IsCause, IsAt, at_start, at_store, cut_at_store, run_from, Cell, child_part, count_of, node_bytes, used_cells, key_in_row, row_from, nodes_from, IsUsable, AreUsable, AreInside, AreBlocks, Put, first_key, emptied, half, halves, fit, Answer, Climb, climb, climb_on, full_row, need_of, placed, root_cells, store_nodes, cases_eq}
-use Rattle.std.proofs.Common.{length-append}
+use Rattle.iso_tree.proofs.Words.{◌≡◌, ◌∙◌, sym, refl, ap, subst, ℕ, zero, suc, ◌+◌, ◌-◌, ◌*◌, ◌/◌, ◌<◌, ◌≤◌, ◌==◌, Bool, true, false, cond, nat_le, List, [], ◌∷◌, ◌++◌, length, take, drop, None, Result, Ok, arith, inl, inr, eq-eqb, ne_eqb, nat_tests, take_at, drop_at, Access, Area, StoreError, TxError, cell_count, keys_end, value_mark, Program, Done, Store, bytes_in, store_access, Tx, Device, with_accesses, HasRun, IsCut, IsCause, at_start, at_store, cut_at_store, run_from, Cell, child_part, count_of, node_bytes, used_cells, key_in_row, row_from, nodes_from, IsUsable, AreUsable, AreInside, AreBlocks, Put, first_key, emptied, half, halves, fit, Answer, Climb, climb, climb_on, full_row, need_of, placed, root_cells, store_nodes, cases_eq, room_after, Err, OnOk, IsFollowed, HasWritten, ran_at}
 use Rattle.iso_tree.proofs.Enough.{fits_one}
 use Rattle.iso_tree.proofs.Filling.{row_split, length-row}
 use Rattle.iso_tree.proofs.Fits.{length-cells}
@@ -54,21 +53,35 @@ row_way size n key level new below block node place nodes r more row less =
     ∙ ap (λ (k : List ℕ). split_writes n key level block L R k nodes r more) (first_row size node place new m (n + 1 - m) (omega arith))
 
 -- RUNS
-module _ (b1 b2 : ℕ) (L R : List ℕ) (rest : Program Answer) (t u : Tx) (first : u ≡ with_accesses t (store_access b1 [] L ∷ [])) (fits : length u.accesses ≤ 4096) where
-  abbrev whole : Program Answer
-  whole = Store b1 [] L (Store b2 [] R rest)
+-- a write that a program goes on from, or at which it is refused
+pub write_done : (b : ℕ) (bytes : List ℕ) (rest : Program Answer) (t u : Tx) → u ≡ with_accesses t (store_access b [] bytes ∷ []) → length u.accesses ≤ 4096 → IsFollowed (Store b [] bytes rest) rest t u (Ok tt)
+write_done b bytes rest t u is fits = λ v result run.
+    let whole = Store b [] bytes rest in
+    run_from whole rest t u v result (at_store whole b [] bytes rest t t u (at_start whole t) fits is) run
 
-  at_second : IsAt whole (Store b2 [] R rest) t u
-  at_second = at_store whole b1 [] L (Store b2 [] R rest) t t u (at_start whole t) fits first
+pub write_fails : (b : ℕ) (bytes : List ℕ) (rest : Program Answer) (t v : Tx) (before now : Device) (e : TxError) → v ≡ t → IsCause v 1 before now e → IsCut (Store b [] bytes rest) t v e
+write_fails b bytes rest t v before now e same cause = cut_at_store (Store b [] bytes rest) b [] bytes rest t t v before now e (at_start (Store b [] bytes rest) t) same cause
 
-  pub second_fails : (v : Tx) (before now : Device) (e : TxError) → v ≡ u → IsCause v 1 before now e → IsCut whole t v e
-  second_fails v before now e same cause = cut_at_store whole b2 [] R rest t u v before now e at_second same cause
+-- one part after another, and the last part
+pub follows : (whole mid rest : Program Answer) (t u v : Tx) (result : Answer) → IsFollowed whole mid t u (Ok tt) → IsFollowed mid rest u v result → IsFollowed whole rest t v result
+follows whole mid rest t u v (Ok done) first second = λ w r run. first w r (second w r run)
+follows whole mid rest t u v (Err e) first second = first v (Err e) second
 
-  pub both_run : (v w : Tx) (result : Result (Unit {0}) StoreError) → v ≡ with_accesses u (store_access b2 [] R ∷ []) → length v.accesses ≤ 4096 → HasRun rest v w result → HasRun whole t w result
-  both_run v w result second fits2 run = run_from whole rest t v w result (at_store whole b2 [] R rest t u v at_second fits2 second) run
+pub followed_end : (whole : Program Answer) (t u : Tx) (result : Answer) → IsFollowed whole (Done (Ok tt)) t u result → HasRun whole t u result
+followed_end whole t u (Ok done) made = made u (Ok tt) (ran_at (Done (Ok tt)) u u (Ok tt) (at_start (Done (Ok tt)) u))
+followed_end whole t u (Err e) made = made
 
-pub first_fails : (b1 : ℕ) (L : List ℕ) (rest : Program Answer) (t v : Tx) (before now : Device) (e : TxError) → v ≡ t → IsCause v 1 before now e → IsCut (Store b1 [] L rest) t v e
-first_fails b1 L rest t v before now e same cause = cut_at_store (Store b1 [] L rest) b1 [] L rest t t v before now e (at_start (Store b1 [] L rest) t) same cause
+pub written_one : (t u : Tx) (a : Access) → u ≡ with_accesses t (a ∷ []) → length u.accesses ≤ 4096 → HasWritten 1 t u
+written_one t u a is fits = record {
+  size = ap (λ (w : Tx). w.size) is;
+  blocks = ap (λ (w : Tx). w.blocks) is;
+  is_open = ap (λ (w : Tx). w.is_open) is;
+  room = let e = room_after t u a is fits in omega arith;
+}
+
+pub written_two : (t u v : Tx) (result : Answer) → HasWritten 1 t u → OnOk result (HasWritten 1 u v) → OnOk result (HasWritten 2 t v)
+written_two t u v (Ok done) one two = record { size = two.size ∙ one.size; blocks = two.blocks ∙ one.blocks; is_open = two.is_open ∙ one.is_open; room = omega (arith, one.room, two.room) }
+written_two t u v (Err e) one two = tt
 
 -- the new root, past the old one
 pub root_run : (a : Area) (n : ℕ) (key : List ℕ) (level : ℕ) (new : Cell) (below i r : ℕ) (path : List (ℕ × ℕ)) (nodes news more bytes : List ℕ) (t u : Tx) (result : Result (Unit {0}) StoreError)
@@ -79,15 +92,6 @@ root_run a n key level new below i r path nodes news more bytes t u result none 
     (λ j. (climb n key level new below (nodes_from a.size nodes i (none j)) (some j)).writes) in
     subst (λ (ws : List (ℕ × ℕ × List Cell)). HasRun {X = Unit {0}} (store_nodes a ws (Done (Ok tt))) t u result) (sym none_left)
     (subst (λ (b : List ℕ). HasRun {X = Unit {0}} (Store (a.start + r) [] b (Done (Ok tt))) t u result) are run)
-
--- the room after an access
-pub room_after : (u v : Tx) (a : Access) → v ≡ with_accesses u (a ∷ []) → length v.accesses ≤ 4096 → room_of u ≡ suc (room_of v)
-room_after u v a is fits =
-    let long : length v.accesses ≡ length u.accesses + 1 = ap (λ (w : Tx). length w.accesses) is ∙ length-append u.accesses (a ∷ []) in
-    omega arith
-
-pub open_after : (u v : Tx) (a : Access) → v ≡ with_accesses u (a ∷ []) → u.is_open ≡ true → v.is_open ≡ true
-open_after u v a is open_is = ap (λ (w : Tx). w.is_open) is ∙ open_is
 
 -- A PATH'S FIRST NODE
 module _ (a : Area) (key : List ℕ) (level : ℕ) (new : Cell) (below block count i : ℕ) (rest path : List (ℕ × ℕ)) (nodes news : List ℕ) (is : path ≡ (block, count) ∷ rest) (usable : AreUsable a.size nodes i path) where
@@ -105,12 +109,6 @@ module _ (a : Area) (key : List ℕ) (level : ℕ) (new : Cell) (below block cou
 
   pub rest_inside : AreInside a path → AreInside a rest
   rest_inside all = (subst (AreInside a) is all).1
-
-  pub room_for : (size : ℕ) → (i + length path) * a.size ≤ size → i * a.size + a.size + length rest * a.size ≤ size
-  room_for size fits = let h : (i + suc (length rest)) * a.size ≤ size = subst (λ (p : List (ℕ × ℕ)). (i + length p) * a.size ≤ size) is fits in omega arith
-
-  pub rest_room : (size : ℕ) → (i + length path) * a.size ≤ size → (i + 1 + length rest) * a.size ≤ size
-  rest_room size fits = let h : (i + suc (length rest)) * a.size ≤ size = subst (λ (p : List (ℕ × ℕ)). (i + length p) * a.size ≤ size) is fits in let e : i + suc (length rest) ≡ i + 1 + length rest = omega arith in subst (λ (k : ℕ). k * a.size ≤ size) e h
 
   used : length (used_cells a.size node) ≡ count
   used = length-cells (take (keys_end a.size) node) (λ j. bytes_in (value_mark a.size j) node) 0 (count_of (take (keys_end a.size) node)) ∙ first_usable.count_is

@@ -1,17 +1,16 @@
 -- A removal is local.
-use Rattle.iso_tree.proofs.Words.{◌≡◌, ◌≢◌, ◌∙◌, sym, refl, ap, subst, ℕ, suc, ◌+◌, ◌<◌, ◌≤◌, ◌==◌, Bool, true, false, not, cond, List, [], ◌∷◌, ◌++◌, length, Option, Some, None, Result, Ok, Err, option_map, is_some, arith, inl, inr, eq-eqb, ne_eqb, AllByRecursion, filter, bytes_eq, get, remove, cases_Bool, cases_eq, Access, Area, StoreError, BadKey, Broken, Array, put, own, at_cell, is_key, del_op, block_at, Program, Done, bytes_in, then_do, accesses_of, answer_of, store_access, IsLocal, cell_count, keys_mark, value_mark, is_part, text_of, AreWhole, accesses_then, own_reads, whole_reads, IsCorrect, local_from, IsBlock, FitCells, Cell, cell_of, count_of, node_bytes, is_head, head_mark, Rise, in_range, tree_at, IsOrdered, Descent, AtLeaf, AtBroken, descend, with_head, without_key, edit_leaf, del_at, del_below, del_program, cells_in, root_of, level_of, IsTreeArea, IsTreeRegion, tree_pairs, tree_map}
+use Rattle.iso_tree.proofs.Words.{◌≡◌, ◌≢◌, ◌∙◌, sym, refl, ap, subst, ℕ, suc, ◌+◌, ◌<◌, ◌≤◌, ◌==◌, Bool, true, false, not, cond, List, [], ◌∷◌, ◌++◌, length, Option, Some, None, Result, Ok, Err, option_map, is_some, arith, inl, inr, eq-eqb, ne_eqb, AllByRecursion, filter, bytes_eq, get, remove, cases_Bool, cases_eq, Area, StoreError, BadKey, Broken, Array, put, own, at_cell, is_key, del_op, block_at, Program, Done, bytes_in, then_do, accesses_of, answer_of, store_access, IsLocal, cell_count, keys_mark, value_mark, is_part, text_of, AreWhole, accesses_then, own_reads, whole_reads, IsCorrect, local_from, IsBlock, FitCells, Cell, cell_of, count_of, node_bytes, is_head, head_mark, Rise, in_range, tree_at, IsOrdered, Descent, AtLeaf, AtBroken, descend, with_head, without_key, edit_leaf, del_at, del_below, del_program, cells_in, root_of, level_of, IsTreeArea, IsTreeRegion, tree_pairs, tree_map, same_ok, found_in}
 use Rattle.iso_tree.proofs.Building.{filter_all}
 use Rattle.iso_tree.proofs.Bytes.{length-node_bytes}
 use Rattle.iso_tree.proofs.Edits.{leaf_of}
 use Rattle.iso_tree.proofs.Filters.{filter_rises}
 use Rattle.iso_tree.proofs.Ending.{order_of, ends_of, answer_at, own_at, found_of}
 use Rattle.iso_tree.proofs.Facts.{head_parts}
-use Rattle.iso_tree.proofs.Finding.{found_in}
 use Rattle.iso_tree.proofs.Fits.{area_block, cells_fit, cells_few, rise_strict}
 use Rattle.iso_tree.proofs.Gets.{descend_reads, map_gets, parts_all}
 use Rattle.iso_tree.proofs.Leaves.{EndsAtLeaf, leaf_rises, HasLanded, lands}
-use Rattle.iso_tree.proofs.Reading.{same_ok}
 use Rattle.iso_tree.proofs.Dels.{IsLeafEdit, leaf_written, edit_region, edit_pairs, edit_found, map_without, map_missing}
+pub use Rattle.tx_blocks.proofs.Programs.{HasBlocks, whole_append}
 
 filter_few : (p : Cell → Bool) (cs : List Cell) → length (filter p cs) ≤ length cs
 filter_few p [] = omega arith
@@ -177,10 +176,6 @@ del_correct a key area is = record {
   maps = λ B r region e. (call_does a key B area is region r e).map_is;
 }
 
--- each block of the region has the size of one
-abbrev pub HasBlocks : Area → Array → Type 0
-HasBlocks a A = (k : ℕ) → k < a.blocks → length (block_at A (a.start + k)) ≡ a.size
-
 -- The call writes whole blocks, on whatever array.
 del_whole_at : (a : Area) (key : List ℕ) (A : Array) (d : Descent) → IsBlock a.size → HasBlocks a A → HasLanded a A d → AreWhole A (accesses_of (del_at a key d) A)
 del_whole_at a key A (AtBroken block) sized shape landed = tt
@@ -198,10 +193,6 @@ del_whole_at a key A (AtLeaf path leaf keys x) sized shape landed =
             (λ write. length-node_bytes a.size 0 (without_key key (cells_in a A leaf)) (filter_all (λ (c : Cell). (length c.0 ≤ 28) × (length c.1 ≡ 33)) p (cells_in a A leaf) fit) (omega (arith, filter_few p (cells_in a A leaf), few)) sized.whole ∙ sym long, tt),
           ))
     ]
-
-pub whole_append : (A : Array) (xs ys : List Access) → AreWhole A xs → AreWhole A ys → AreWhole A (xs ++ ys)
-whole_append A [] ys all more = more
-whole_append A (y ∷ xs) ys all more = (all.0, whole_append A xs ys all.1 more)
 
 del_whole_below : (a : Area) (key : List ℕ) (A : Array) (root level : ℕ) → IsBlock a.size → HasBlocks a A → root < a.blocks → AreWhole A (accesses_of (del_below a key root level) A)
 del_whole_below a key A root level sized shape below =

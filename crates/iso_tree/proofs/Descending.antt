@@ -1,7 +1,6 @@
 -- A descent, step by step.
-use Rattle.iso_tree.proofs.Words.{◌≡◌, ◌∙◌, sym, refl, subst, ℕ, zero, suc, ◌+◌, ◌&&◌, Bool, true, false, cond, List, [], ◌∷◌, take, Result, Ok, Err, IfOk, IfErr, Area, StoreError, Program, Done, Look, further_bytes, then_do, keys_end, keys_mark, Tx, Device, IsLater, Ran, IsCut, HasRun, HasRead, IsAt, at_then, ran_at, cut_then, later_than, cause_since, cut_from, read_join, Leaf, is_node, is_child, child_of, count_of, Descent, AtLeaf, AtBroken, descend, inner_further, leaf_further, IsWalkError, OnlyReads, child_program, leaf_program, HasDescended, HasReadLeaf}
+use Rattle.iso_tree.proofs.Words.{◌≡◌, ◌∙◌, sym, refl, subst, ℕ, zero, suc, ◌+◌, ◌&&◌, Bool, true, false, cond, List, [], ◌∷◌, take, Result, Ok, Err, IfOk, IfErr, Area, StoreError, Program, Done, Look, further_bytes, then_do, keys_end, keys_mark, Tx, Device, IsLater, Ran, IsCut, HasRun, HasRead, IsAt, at_then, ran_at, cut_then, later_than, cause_since, cut_from, read_join, Leaf, is_node, is_child, child_of, count_of, Descent, AtLeaf, AtBroken, descend, inner_further, leaf_further, IsWalkError, OnlyReads, child_program, leaf_program, HasDescended, HasReadLeaf, at_as, at_start}
 use Rattle.store_model.specs.declared.stores.StoreError.TheVariants as store
-use Rattle.iso_tree.proofs.Looking.{at_as}
 
 module _ (a : Area) (key : List ℕ) (with_value : Bool) where
   -- what follows a step, and the read of the leaf
@@ -97,6 +96,18 @@ module _ (a : Area) (key : List ℕ) (with_value : Bool) where
     leaf_any buffer (Ok leaf) here known ran = leaf_ends buffer leaf here ran
     leaf_any buffer (Err e) here known ran = leaf_refused path buffer e known ran
 
+-- a call that begins with a descent is refused as the descent is
+pub descent_refused : {X : Type 0} (whole : Program (Result X StoreError)) (a : Area) (key : List ℕ) (with_value : Bool) (root level : ℕ) (f : Descent → Program (Result X StoreError)) (t u : Tx)
+    → whole ≡ then_do (descend a key with_value level root []) f → ((block : ℕ) → f (AtBroken block) ≡ Done (Err (store.Broken block))) → (path : List (ℕ × ℕ)) (buffer : List ℕ) (e : StoreError)
+    → HasDescended a key with_value root level t u path buffer (Err e) → HasRun whole t u (Err e)
+descent_refused whole a key with_value root level f t u is broken path buffer store.BadKey ended = absurd ended
+descent_refused whole a key with_value root level f t u is broken path buffer store.BadValue ended = absurd ended
+descent_refused whole a key with_value root level f t u is broken path buffer (store.NoBlocks need free) ended = absurd ended
+descent_refused whole a key with_value root level f t u is broken path buffer (store.Broken block) ended =
+    ran_at whole t u (Err (store.Broken block)) (at_as whole _ _ t u (broken block) (at_then whole (descend a key with_value level root []) f t t u (AtBroken block) (at_as whole _ _ t t is (at_start whole t)) ended))
+descent_refused whole a key with_value root level f t u is broken path buffer (store.Tx e) ended = subst (λ (p : Program (Result _ StoreError)). IsCut p t u e) (sym is) (cut_then (descend a key with_value level root []) f t u e ended)
+descent_refused whole a key with_value root level f t u is broken path buffer store.Memory ended = absurd ended
+
 -- after reads that went well
 pub reads_after : {R : Type 0} (t u v : Tx) (before mid now : Device) (result : Result R StoreError) → HasRead t u → IsLater before mid → mid.faults ≡ before.faults → OnlyReads u v mid now result → OnlyReads t v before now result
 reads_after t u v before mid now (Ok x) read later passed is = record {
@@ -116,9 +127,3 @@ reads_after t u v before mid now (Err e) read later passed is = record {
   is_open = tt;
 }
 
--- the answer of another part of a call
-pub reads_as : {R S : Type 0} (t v : Tx) (before now : Device) (e : StoreError) → OnlyReads {R = R} t v before now (Err e) → OnlyReads {R = S} t v before now (Err e)
-reads_as t v before now e is = record { reads = is.reads; cause = is.cause; known = is.known; later = is.later; passed = tt; is_open = tt }
-
-pub reads_ok : {R S : Type 0} (t v : Tx) (before now : Device) (r : R) (s : S) → OnlyReads t v before now (Ok r) → OnlyReads t v before now (Ok s)
-reads_ok t v before now r s is = record { reads = is.reads; cause = tt; known = tt; later = is.later; passed = is.passed; is_open = is.is_open }

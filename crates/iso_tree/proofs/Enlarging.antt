@@ -1,6 +1,5 @@
 -- A put that takes new blocks: what the code counts, and its writes in turn.
-use Rattle.iso_tree.proofs.Words.{◌≡◌, ◌≢◌, ◌∙◌, sym, refl, ap, subst, ℕ, zero, suc, ◌+◌, ◌-◌, ◌*◌, ◌<◌, ◌≤◌, ◌==◌, Bool, true, false, not, cond, List, [], ◌∷◌, length, map, take, get_or, Option, Some, None, Result, Ok, Err, IfErr, arith, inl, inr, eq-eqb, ne_eqb, AllByRecursion, filter, range_with_len, cases_eq, length-take-le, Area, StoreError, TxError, cell_count, keys_end, value_mark, bit_place, free_count, map_bit, map_bytes, map_mark, IsIn, Program, Done, Store, bytes_in, Tx, Device, with_accesses, room_of, Behaves, HasRun, IsCut, IsCause, IsAt, at_start, at_store, at_reserve, full_at_reserve, cut_at_store, later_same, read_none, run_from, refused_memory, done_so, first_spans, first_bytes, first_access, Cell, count_of, used_cells, IsBlock, nodes_from, AreBlocks, AreUsable, IsUsable, Answer, Climb, climb, first_write, free_list, full_row, need_of, put_writes, store_nodes, with_used, IsTreeArea}
-use Rattle.store_model.specs.declared.stores.StoreError.TheVariants as store
+use Rattle.iso_tree.proofs.Words.{◌≡◌, ◌≢◌, ◌∙◌, sym, refl, ap, subst, ℕ, zero, suc, ◌+◌, ◌-◌, ◌*◌, ◌<◌, ◌≤◌, ◌==◌, Bool, true, false, not, cond, List, [], ◌∷◌, length, map, take, get_or, Option, Some, None, Result, Ok, arith, inl, inr, eq-eqb, ne_eqb, AllByRecursion, filter, range_with_len, cases_eq, length-take-le, Area, StoreError, TxError, cell_count, keys_end, value_mark, bit_place, free_count, map_bit, map_bytes, map_mark, IsIn, Program, Done, Store, bytes_in, Tx, Device, with_accesses, room_of, HasRun, IsCut, IsCause, IsAt, at_start, at_store, at_reserve, full_at_reserve, cut_at_store, run_from, first_spans, first_bytes, first_access, Cell, count_of, used_cells, IsBlock, nodes_from, AreBlocks, AreUsable, IsUsable, Answer, Climb, climb, first_write, free_list, full_row, need_of, put_writes, store_nodes, with_used, IsTreeArea}
 use Rattle.store_model.specs.declared.stores.TxError.TheVariants as error
 use Rattle.iso_tree.proofs.Fits.{length-cells}
 use Rattle.iso_tree.proofs.Growing.{climb_shape, count_same, list_same, take_used}
@@ -76,17 +75,6 @@ module _ (a : Area) (first taken : List ℕ) (way : Climb) (full : ℕ) (count :
       run_from whole nodes_next t u v result
       (at_store whole a.start (first_spans taken way.root) (first_bytes a first taken way.root) nodes_next t t u (at_writes room) fits
       (is ∙ ap (λ (o : Option (ℕ × ℕ)). with_accesses t (first_access a first taken o ∷ [])) (sym root_is))) run
-
--- what a part leaves that makes all of its writes, more than one, or wants memory
-pub behaves_memory : (t v : Tx) (writes : ℕ) (before now : Device) (result : Result (Unit {0}) StoreError) → 1 < writes → IfErr result (λ e. e ≡ store.Tx error.Memory) → now ≡ before → Behaves t v writes before now result
-behaves_memory t v writes before now (Ok x) many memory same = done_so t v writes before now x same
-behaves_memory t v writes before now (Err e) many memory same =
-    subst (λ (x : StoreError). Behaves {R = Unit {0}} t v writes before now (Err x)) (sym memory) (refused_memory t v writes before now error.Memory many refl same)
-
--- a reservation that does not fit
-pub unfit_so : (full : ℕ) (t : Tx) (before : Device) (e : TxError) → full ≤ 32 → (e ≡ error.TooManyAccesses) × (room_of t < 2 + 2 * full) → Behaves {R = Unit {0}} t t 66 before before (Err (store.Tx e))
-unfit_so full t before e few is = subst (λ (x : TxError). Behaves {R = Unit {0}} t t 66 before before (Err (store.Tx x))) (sym is.0)
-    (record { cause = (let r = is.1 in omega arith, refl); unwritten = λ other. read_none t; known = (λ x. cc, λ x. cc); later = later_same before before refl; passed = tt })
 
 -- the same by the count that the code has
 pub record IsWayOf (path : List (ℕ × ℕ)) (news : List ℕ) (full : ℕ) (way : Climb) : Type 0 where

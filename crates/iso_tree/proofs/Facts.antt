@@ -1,5 +1,5 @@
 -- What the tests of nodes and heads say.
-use Rattle.iso_tree.proofs.Words.{◌≡◌, ◌∙◌, sym, refl, ap, ℕ, zero, suc, ◌+◌, ◌<◌, ◌≤◌, Bool, true, false, ◌&&◌, ◌||◌, ◌==◌, nat_le, cond, List, length, Option, Some, None, Result, Ok, Err, arith, bytes_eq, and_parts, leb-true, ltb-true, Area, cell_count, key_at, are_key_parts, word_at, first_from, found_or, cell_of, count_of, has_head, has_level, are_cells, is_node, is_child, child_of, is_head}
+use Rattle.iso_tree.proofs.Words.{◌≡◌, ◌∙◌, sym, refl, ap, ℕ, ◌<◌, ◌≤◌, Bool, true, false, ◌&&◌, ◌||◌, ◌==◌, nat_le, List, length, Option, Some, None, Result, Ok, arith, bytes_eq, and_parts, leb-true, ltb-true, Area, cell_count, key_at, are_key_parts, word_at, found_or, cell_of, count_of, has_head, has_level, are_cells, is_node, is_child, child_of, is_head, first_below}
 
 pub record IsParts (size level : ℕ) (keys : List ℕ) : Type 0 where
   pub head : has_head size level keys ≡ true
@@ -44,35 +44,10 @@ pub record IsRoot (a : Area) (head : List ℕ) : Type 0 where
 pub head_parts : (a : Area) (head : List ℕ) → is_head a head ≡ true → IsRoot a head
 head_parts a head is = let front = (and_parts _ _ is).0 in record { root = ltb-true _ _ (and_parts _ _ front).0; level = leb-true _ _ (and_parts _ _ front).1 }
 
-no_ok : (place cell : ℕ) → ◌≡◌ {A = Result ℕ ℕ} (Err place) (Ok cell) → ⊥
-no_ok place cell e = cc
-
-same_cell : (i j : ℕ) → ◌≡◌ {A = Result ℕ ℕ} (Ok i) (Ok j) → i ≡ j
-same_cell i j e = cc
-
-no_some : (j : ℕ) → ◌≡◌ {A = Option ℕ} None (Some j) → ⊥
-no_some j e = cc
-
-some_is : (i j : ℕ) → ◌≡◌ {A = Option ℕ} (Some i) (Some j) → i ≡ j
-some_is i j e = cc
-
--- where a look-up in a node ends
-pub found_cell : (o : Option ℕ) (place : ℕ) (r : Result ℕ ℕ) (cell : ℕ) → r ≡ found_or o place → r ≡ Ok cell → o ≡ Some cell
-found_cell None place r cell is ok = absurd (no_ok place cell (sym is ∙ ok))
-found_cell (Some i) place r cell is ok = ap (λ (j : ℕ). Some j) (same_cell i cell (sym is ∙ ok))
-
+-- where a look-up in a node finds no cell
 pub found_none : (o : Option ℕ) (place : ℕ) (r : Result ℕ ℕ) → r ≡ found_or o place → ((cell : ℕ) → r ≡ Ok cell → ⊥) → o ≡ None
 found_none None place r is other = refl
 found_none (Some i) place r is other = absurd (other i is)
-
--- the cell that has a key is used
-first_below : (test : ℕ → Bool) (i n j : ℕ) → first_from test i n ≡ Some j → j < i + n
-first_below test i zero j e = absurd (no_some j e)
-first_below test i (suc n) j e =
-    elim (test i) as (λ b. cond b (Some i) (first_from test (i + 1) n) ≡ Some j → j < i + suc n) [
-      | true ↦ λ h. (let same : i ≡ j = some_is i j h in omega arith)
-      | false ↦ λ h. (let ih = first_below test (i + 1) n j h in omega arith)
-    ] e
 
 pub cell_used : (key keys : List ℕ) (i : ℕ) → cell_of key keys ≡ Some i → i < count_of keys
 cell_used key keys i e = let below = first_below (λ j. bytes_eq (key_at keys j) key) 0 (count_of keys) i e in omega arith

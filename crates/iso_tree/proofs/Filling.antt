@@ -18,12 +18,6 @@ upto_ends key keys i n c total below so less =
     let e : upto_from key keys i (n - i) ≡ 0 = upto_step key keys i n below ∙ ap (λ t. cond t 0 (suc (upto_from key keys (i + 1) (n - (i + 1))))) less in
     omega arith
 
-pub upto_past : (key keys : List ℕ) (i n c total : ℕ) → n ≤ i → c + upto_from key keys i (n - i) ≡ total → c ≡ total
-upto_past key keys i n c total past so =
-    let e : n - i ≡ 0 = omega arith in
-    let f : upto_from key keys i (n - i) ≡ 0 = rw e refl in
-    omega arith
-
 -- ROWS
 more_map : (f : ℕ → Cell) (from n : ℕ) → map f (range_with_len from (n + 1)) ≡ map f (range_with_len from n) ++ f (from + n) ∷ []
 more_map f from zero = let e : from + 0 ≡ from = omega arith in ap (λ (k : ℕ). f k ∷ []) (sym e)

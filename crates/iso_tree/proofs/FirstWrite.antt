@@ -1,6 +1,5 @@
 -- The bytes and marks of the first block's write, as the code makes them.
-use Rattle.iso_tree.proofs.Words.{◌≡◌, ◌∙◌, sym, refl, ap, subst, ℕ, suc, ◌+◌, ◌-◌, ◌/◌, ◌<◌, ◌≤◌, List, [], ◌∷◌, ◌++◌, length, take, drop, get_or, Some, None, arith, w32, to_be_bytes, Span, Area, block_with, laid_at, map_bytes, IsSpan, bytes_in, store_access, Tx, with_accesses, Up, ends, first_access, head_mark, AreBlocks, with_used, last_of, changed_mark, changed_map, IsTreeArea}
-use Rattle.iso_tree.proofs.Frames.{piece_of}
+use Rattle.iso_tree.proofs.Words.{◌≡◌, ◌∙◌, sym, refl, ap, subst, ℕ, suc, ◌+◌, ◌-◌, ◌/◌, ◌<◌, ◌≤◌, List, [], ◌∷◌, ◌++◌, length, take, drop, get_or, Some, None, arith, w32, to_be_bytes, Span, Area, block_with, laid_at, map_bytes, IsSpan, bytes_in, store_access, Tx, with_accesses, Up, ends, first_access, head_mark, AreBlocks, with_used, last_of, changed_mark, changed_map, IsTreeArea, piece_of}
 
 pub ends_at : (news : List ℕ) → 0 < length news → (get_or news 0 0, get_or news (length news - 1) 0) ≡ ends news
 ends_at [] some = absurd (omega arith)

@@ -5,7 +5,7 @@ use Rattle.iso_tree.proofs.Bytes.{cells_are}
 use Rattle.iso_tree.proofs.Fits.{rise_strict}
 use Rattle.iso_tree.proofs.Order.{all_left, all_right}
 use Rattle.iso_tree.proofs.Passes.{Strict, StrictFrom}
-use Rattle.iso_tree.proofs.Shapes.{kids, written, second_kid, IsSized, AreSized}
+use Rattle.iso_tree.proofs.Shapes.{kids, written, second_kid, IsSized, AreSized, length-kids, same_some}
 use Rattle.iso_tree.proofs.Splits.{write_here, write_other}
 use Rattle.iso_tree.proofs.Stored.{stored, spots, block_written, row_same, IsRow, row_is_node}
 use Rattle.iso_tree.proofs.Writes.{FitWrite}
@@ -45,10 +45,6 @@ inner_strict cells level low high (c ∷ cs) is =
 fit_kids : (n : ℕ) (cells : ℕ → List Cell) (level : ℕ) (cs : List Cell) → AreSized n level (kids cells level cs) → AllByRecursion (λ (c : Cell). length c.1 ≡ 33) cs → FitCells cs
 fit_kids n cells level [] all long = tt
 fit_kids n cells level (c ∷ cs) all long = ((all.0.0, long.0), fit_kids n cells level cs all.1 long.1)
-
-length-kids : (cells : ℕ → List Cell) (level : ℕ) (cs : List Cell) → length (kids cells level cs) ≡ length cs
-length-kids cells level [] = refl
-length-kids cells level (c ∷ cs) = ap suc (length-kids cells level cs)
 
 parts_only : (a : Area) (level : ℕ) (cs : List Cell) → ArePartsAt a level cs → AllByRecursion (λ (c : Cell). is_part_at a level c.1 ≡ true) cs
 parts_only a level [] all = tt
@@ -125,12 +121,6 @@ pub record HasFit (a : Area) (level : ℕ) (A : Array) (block : ℕ) (q : Put) :
   pub places : (k : ℕ) → IsIn k (spots q.writes) → (block ≡ k) ⊎ IsIn k q.taken
   pub fits : AllByRecursion (FitWrite a) q.writes
 
-no_pair : (s : List ℕ × ℕ) → ◌≡◌ {A = Option (List ℕ × ℕ)} None (Some s) → ⊥
-no_pair s e = cc
-
-same_pair : (r s : List ℕ × ℕ) → ◌≡◌ {A = Option (List ℕ × ℕ)} (Some r) (Some s) → r ≡ s
-same_pair r s e = cc
-
 no_true : false ≡ true → ⊥
 no_true e = cc
 
@@ -156,7 +146,7 @@ module _ (a : Area) (sized : IsBlock a.size) (A : Array) (shape : (k : ℕ) → 
       record {
         nodes = nodes_from a B level block cs (ap (used_cells a.size) here ∙ cells_are a.size level cs row.fit row.few) (subst (IsNode a level) (sym here) (row_is_node a level cs row low_level))
             (below_same a A B level cs kept kids_are);
-        second = λ s e. absurd (no_pair s e);
+        second = λ s e. absurd (cc e);
         places = λ k is. elim is [ inl e ↦ inl e | inr never ↦ absurd never ];
         fits = ((row.fit, row.few, below), tt);
       }
@@ -196,7 +186,7 @@ module _ (a : Area) (sized : IsBlock a.size) (A : Array) (shape : (k : ℕ) → 
       record {
         nodes = nodes_from a C level block L (ap (used_cells a.size) hereL ∙ cells_are a.size level L rowL.fit rowL.few) (subst (IsNode a level) (sym hereL) (row_is_node a level L rowL low_level))
             (below_same a A C level L (λ k has. kept k (subst (λ (l : List Cell). IsIn k (below_cells (cells_in a A) level l)) whole (in_left (cells_in a A) level L D k has))) (below_left a A level L D kids2));
-        second = λ s e. subst (λ (j : ℕ). AreNodes a C level j) (ap (λ p. p.1) (same_pair _ s e))
+        second = λ s e. subst (λ (j : ℕ). AreNodes a C level j) (ap (λ p. p.1) (same_some _ s e))
             (nodes_from a C level new R (ap (used_cells a.size) hereR ∙ cells_are a.size level R rowR.fit rowR.few) (subst (IsNode a level) (sym hereR) (row_is_node a level R rowR low_level))
             (below_same a A C level R (λ k has. kept k (subst (λ (l : List Cell). IsIn k (below_cells (cells_in a A) level l)) whole (in_right (cells_in a A) level L D k has))) (below_right a A level L D kids2)));
         places = λ k is. elim is [ inl e ↦ inl e | inr more ↦ elim more [ inl e ↦ inr (inl e) | inr never ↦ absurd never ] ];

@@ -1,7 +1,7 @@
 -- A get, part by part.
-use Rattle.iso_tree.proofs.Words.{◌≡◌, ◌≢◌, ◌∙◌, sym, refl, ap, subst, ℕ, ◌+◌, Bool, true, false, cond, List, [], take, Option, Some, None, Result, Ok, Err, IfOk, option_map, ne_eqb, eq-eqb, Area, StoreError, own, Program, Done, Look, bytes_in, further_bytes, then_do, IsLocal, keys_end, value_mark, word_at, is_part, text_of, at_cell, is_key, get_op, Tx, Ran, IsCut, HasRun, IsLocalCall, IsAt, at_start, at_then, ran_at, whole_run, cut_then, run_from, Leaf, is_head, head_mark, Descent, AtLeaf, AtBroken, descend, got, get_below, get_program, with_head, tree_map, IsTreeRegion, head_program, HasDescended, IsLeaf, leaf_value}
+use Rattle.iso_tree.proofs.Words.{◌≡◌, ◌≢◌, ◌∙◌, sym, refl, ap, subst, ℕ, ◌+◌, Bool, true, false, cond, List, [], take, Option, Some, None, Result, Ok, Err, IfOk, option_map, ne_eqb, eq-eqb, Area, StoreError, own, Program, Done, Look, bytes_in, further_bytes, then_do, IsLocal, keys_end, value_mark, word_at, is_part, text_of, at_cell, is_key, get_op, Tx, Ran, HasRun, IsLocalCall, IsAt, at_start, at_then, ran_at, whole_run, run_from, Leaf, is_head, head_mark, Descent, AtLeaf, descend, got, get_below, get_program, with_head, tree_map, IsTreeRegion, head_program, HasDescended, IsLeaf, leaf_value, at_as, refused_then}
 use Rattle.store_model.specs.declared.stores.StoreError.TheVariants as store
-use Rattle.iso_tree.proofs.Looking.{at_as}
+use Rattle.iso_tree.proofs.Descending.{descent_refused}
 use Rattle.iso_tree.proofs.Facts.{missing}
 use Rattle.iso_tree.proofs.Gets.{get_local}
 
@@ -27,19 +27,9 @@ pub head_then : {X : Type 0} (a : Area) (next : ℕ → ℕ → Program (Result 
 head_then a next t u v x result ran rest =
     run_from (with_head a next) (next x.0 x.1) t u v result (head_at a next t u x ran) rest
 
-broken_head : {X : Type 0} (a : Area) (next : ℕ → ℕ → Program (Result X StoreError)) (t u : Tx) (e : StoreError) → Ran (head_program a) t u (Err e) → Ran (with_head a next) t u (Err e)
-broken_head a next t u e ran =
-    ran_at (with_head a next) t u (Err e) (at_then (with_head a next) (head_program a) (after_head next) t t u (Err e) (at_as (with_head a next) _ _ t t (head_as a next) (at_start (with_head a next) t)) ran)
-
 -- they were refused
 pub head_refused : {X : Type 0} (a : Area) (next : ℕ → ℕ → Program (Result X StoreError)) (t u : Tx) (e : StoreError) → HasRun (head_program a) t u (Err e) → HasRun (with_head a next) t u (Err e)
-head_refused a next t u store.BadKey run = broken_head a next t u store.BadKey run
-head_refused a next t u store.BadValue run = broken_head a next t u store.BadValue run
-head_refused a next t u (store.NoBlocks need free) run = broken_head a next t u (store.NoBlocks need free) run
-head_refused a next t u (store.Broken block) run = broken_head a next t u (store.Broken block) run
-head_refused a next t u (store.Tx e) run =
-    subst (λ (p : Program (Result _ StoreError)). IsCut p t u e) (sym (head_as a next)) (cut_then (head_program a) (after_head next) t u e run)
-head_refused a next t u store.Memory run = absurd run
+head_refused {X = X} a next t u e run = subst (λ (p : Program (Result X StoreError)). HasRun p t u (Err e)) (sym (head_as a next)) (refused_then (head_program a) (after_head next) t u e refl run)
 
 module _ (a : Area) (key : List ℕ) (root level : ℕ) (some : root ≢ 0) (t u : Tx) where
   below_is : get_below a key root level ≡ then_do (descend a key true level root []) (λ d. Done (got a key d))
@@ -52,13 +42,7 @@ module _ (a : Area) (key : List ℕ) (root level : ℕ) (some : root ≢ 0) (t u
 
   -- the descent was refused
   pub below_refused : (path : List (ℕ × ℕ)) (buffer : List ℕ) (e : StoreError) → HasDescended a key true root level t u path buffer (Err e) → HasRun (get_below a key root level) t u (Err e)
-  below_refused path buffer store.BadKey ended = absurd ended
-  below_refused path buffer store.BadValue ended = absurd ended
-  below_refused path buffer (store.NoBlocks need free) ended = absurd ended
-  below_refused path buffer (store.Broken block) ended = below_ran (AtBroken block) ended
-  below_refused path buffer (store.Tx e) ended =
-      subst (λ (p : Program (Result (Option (List ℕ)) StoreError)). IsCut p t u e) (sym below_is) (cut_then (descend a key true level root []) (λ d. Done (got a key d)) t u e ended)
-  below_refused path buffer store.Memory ended = absurd ended
+  below_refused path buffer e ended = descent_refused (get_below a key root level) a key true root level (λ d. Done (got a key d)) t u below_is (λ block. refl) path buffer e ended
 
   module _ (path : List (ℕ × ℕ)) (buffer : List ℕ) (leaf : Leaf) (is : IsLeaf a key buffer leaf) (ended : HasDescended a key true root level t u path buffer (Ok leaf)) where
     keys : List ℕ

@@ -1,7 +1,7 @@
 -- A put, part by part.
-use Rattle.iso_tree.proofs.Words.{◌≡◌, ◌≢◌, ◌∙◌, sym, ap, subst, ℕ, suc, ◌+◌, ◌*◌, ◌<◌, ◌≤◌, Bool, true, false, cond, List, [], ◌∷◌, take, Option, Some, None, Result, Ok, Err, arith, ne_eqb, eq-eqb, nat_lt, nat_tests, Area, StoreError, at_cell, is_key, is_value, block_with, cell_count, keys_end, value_mark, value_part, Program, Done, Store, then_do, Tx, Ran, HasRead, HasRun, IsCut, IsAt, at_start, at_then, ran_at, cut_then, run_from, Leaf, AreShownUsable, put_after, Answer, Descent, AtBroken, descend, edit_leaf, full_row, need_of, put_at, put_below_root, put_program, with_head, with_map, HasDescended, IsLeaf}
+use Rattle.iso_tree.proofs.Words.{◌≡◌, ◌≢◌, ◌∙◌, sym, ap, subst, ℕ, suc, ◌+◌, ◌*◌, ◌<◌, ◌≤◌, Bool, true, false, cond, List, [], ◌∷◌, take, Option, Some, None, Result, Ok, Err, arith, ne_eqb, eq-eqb, nat_lt, nat_tests, Area, StoreError, at_cell, is_key, is_value, block_with, cell_count, keys_end, value_mark, value_part, Program, Done, Store, then_do, Tx, Ran, HasRead, HasRun, IsAt, at_start, at_then, ran_at, run_from, Leaf, AreShownUsable, put_after, Answer, Descent, descend, edit_leaf, full_row, need_of, put_at, put_below_root, put_program, with_head, with_map, HasDescended, IsLeaf, at_as, refl}
 use Rattle.store_model.specs.declared.stores.StoreError.TheVariants as store
-use Rattle.iso_tree.proofs.Looking.{at_as}
+use Rattle.iso_tree.proofs.Descending.{descent_refused}
 use Rattle.iso_tree.proofs.Usable.{path_usable}
 
 -- the put below a root
@@ -16,12 +16,7 @@ module _ (a : Area) (key value : List ℕ) (root level : ℕ) (some : root ≢ 0
   below_at d ran = at_then whole (descend a key false level root []) (put_at a key value) t t u d (at_as whole _ _ t t below_is (at_start whole t)) ran
 
   pub put_refused : (path : List (ℕ × ℕ)) (buffer : List ℕ) (e : StoreError) → HasDescended a key false root level t u path buffer (Err e) → HasRun whole t u (Err e)
-  put_refused path buffer store.BadKey ended = absurd ended
-  put_refused path buffer store.BadValue ended = absurd ended
-  put_refused path buffer (store.NoBlocks need free) ended = absurd ended
-  put_refused path buffer (store.Broken block) ended = ran_at whole t u (Err (store.Broken block)) (below_at (AtBroken block) ended)
-  put_refused path buffer (store.Tx e) ended = subst (λ (p : Program Answer). IsCut p t u e) (sym below_is) (cut_then (descend a key false level root []) (put_at a key value) t u e ended)
-  put_refused path buffer store.Memory ended = absurd ended
+  put_refused path buffer e ended = descent_refused whole a key false root level (put_at a key value) t u below_is (λ block. refl) path buffer e ended
 
   module _ (path : List (ℕ × ℕ)) (buffer : List ℕ) (leaf : Leaf) (is : IsLeaf a key buffer leaf) (ended : HasDescended a key false root level t u path buffer (Ok leaf)) where
     abbrev n : ℕ
@@ -60,12 +55,6 @@ module _ (a : Area) (key value : List ℕ) (root level : ℕ) (some : root ≢ 0
     leaf_usable read one =
         subst (λ (count : ℕ). AreShownUsable a u ((leaf.block, count) ∷ path)) (sym is.count)
         (path_usable a key root level t u path leaf.block (take (keys_end a.size) buffer) _ read ended (omega (arith, one, is.count)))
-
--- an empty tree
-pub put_empty : (a : Area) (key value : List ℕ) (root level : ℕ) (t v : Tx) (result : Result (Unit {0}) StoreError) → root ≡ 0 → HasRun (with_map a key value []) t v result → HasRun (put_below_root a key value root level) t v result
-put_empty a key value root level t v result none run =
-    let e : put_below_root a key value root level ≡ with_map a key value [] = ap (λ (b : Bool). cond b (with_map a key value []) (then_do (descend a key false level root []) (put_at a key value))) (eq-eqb root 0 none) in
-    subst (λ (p : Program Answer). HasRun p t v result) (sym e) run
 
 -- a full leaf needs a new block
 pub full_needs : (n leaf count : ℕ) (path : List (ℕ × ℕ)) → count ≡ n → 1 ≤ need_of n ((leaf, count) ∷ path)

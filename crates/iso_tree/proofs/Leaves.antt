@@ -1,8 +1,7 @@
 -- The leaf of a key: what it has of the tree, and where a descent ends.
-use Rattle.iso_tree.proofs.Words.{◌≡◌, ◌≢◌, ◌∙◌, sym, refl, ap, subst, ℕ, zero, suc, ◌+◌, ◌<◌, ◌≤◌, ◌&&◌, Bool, true, false, cond, List, [], ◌∷◌, ◌++◌, length, Option, Some, None, arith, flat_map, and_parts, append_assoc, map-append, Area, Array, IsIn, block_at, Program, Done, bytes_in, further_bytes, answer_of, keys_mark, value_mark, Cell, child_of, count_of, is_node, is_child, place_of, cells_by, Tree, tree_at, pairs_in, nodes_in, IsApart, Rise, AreChildren, IsOrdered, Descent, AtLeaf, AtBroken, descend, inner_further, leaf_further, cells_in, IsNode, AreNodes}
+use Rattle.iso_tree.proofs.Words.{◌≡◌, ◌≢◌, ◌∙◌, sym, refl, ap, subst, ℕ, zero, suc, ◌+◌, ◌<◌, ◌≤◌, ◌&&◌, Bool, true, false, cond, List, [], ◌∷◌, ◌++◌, length, Option, Some, None, arith, flat_map, and_parts, append_assoc, map-append, Area, Array, IsIn, block_at, Program, Done, bytes_in, further_bytes, answer_of, keys_mark, value_mark, Cell, child_of, count_of, is_node, is_child, place_of, cells_by, Tree, tree_at, pairs_in, nodes_in, IsApart, Rise, AreChildren, IsOrdered, Descent, AtLeaf, AtBroken, descend, inner_further, leaf_further, cells_in, IsNode, AreNodes, found_in}
 use Rattle.iso_tree.proofs.Shapes.{kids, child_for}
 use Rattle.iso_tree.proofs.Facts.{child_below}
-use Rattle.iso_tree.proofs.Finding.{found_in}
 use Rattle.iso_tree.proofs.Blocks.{chosen_kid}
 use Rattle.iso_tree.proofs.Climbs.{child_ordered}
 use Rattle.iso_tree.proofs.Edits.{leaf_of, leaf_pairs, leaf_in, child_once, child_reached}

@@ -1,10 +1,7 @@
 -- One read of a call, and what follows from its bytes.
-use Rattle.iso_tree.proofs.Words.{◌≡◌, ◌∙◌, sym, refl, ap, subst, ℕ, ◌+◌, ◌≤◌, ◌&&◌, Bool, true, false, cond, List, [], ◌∷◌, length, Option, Some, None, Ok, Err, option_map, ForSome, false_from_ne_true, Access, Span, Area, Region, own, is_write, block_at, Program, Done, Look, bytes_in, further_bytes, with_further, look_access, keys_mark, value_mark, word_at, Tx, Device, IsLater, with_accesses, Passed, Ran, Array, own_reads, own_append, IsAt, at_start, at_look, ran_at, read_none, read_more, Node, keys_in, value_in, is_node, is_child, child_of, count_of, place_of, cell_of, head_mark, is_head, leaf_further, inner_further, AreBytesOf, OnlyReads, head_program, child_program, leaf_program}
+use Rattle.iso_tree.proofs.Words.{◌≡◌, ◌∙◌, sym, refl, ap, subst, ℕ, ◌+◌, ◌≤◌, ◌&&◌, Bool, true, false, cond, List, [], ◌∷◌, length, Option, Some, None, Ok, Err, option_map, ForSome, false_from_ne_true, Access, Span, Area, Region, own, is_write, block_at, Program, Done, Look, bytes_in, further_bytes, with_further, look_access, keys_mark, value_mark, word_at, Tx, Device, IsLater, with_accesses, Passed, Ran, Array, own_reads, own_append, at_start, at_look, ran_at, read_none, read_more, Node, keys_in, value_in, is_node, is_child, child_of, count_of, place_of, cell_of, head_mark, is_head, leaf_further, inner_further, AreBytesOf, OnlyReads, head_program, child_program, leaf_program, marked, marked_access}
 use Rattle.store_model.specs.declared.stores.StoreError.TheVariants as store
-
--- what is left may be said in another way
-pub at_as : {R : Type 0} (whole p q : Program R) (t u : Tx) → p ≡ q → IsAt whole p t u → IsAt whole q t u
-at_as whole p q t u e now = subst (λ (r : Program _). IsAt whole r t u) e now
+pub use Rattle.tx_blocks.proofs.Progress.{at_as}
 
 -- a call that is one read
 pub looked : {R : Type 0} (b : ℕ) (mark : Span) (further : List ℕ → Option Span) (next : List ℕ → List ℕ → Program R) (t v : Tx) (bytes : List ℕ) (r : R)
@@ -79,6 +76,34 @@ node_of a level bytes node r long is same passes = record {
 pub not_node : (a : Area) (level : ℕ) (bytes : List ℕ) → length bytes ≡ a.size → (is_node (length bytes) level (bytes_in (keys_mark (length bytes)) bytes) ≡ true → ⊥)
     → is_node a.size level (bytes_in (keys_mark a.size) bytes) ≡ false
 not_node a level bytes long fails = subst (λ (n : ℕ). is_node n level (bytes_in (keys_mark n) bytes) ≡ false) long (false_from_ne_true _ fails)
+
+-- what a read and a mark in its block leave
+module _ {R : Type 0} (t u v : Tx) (a : Access) (s : Span) (before mid now : Device) (is : u ≡ with_accesses t (a ∷ [])) (more : v ≡ record u { accesses = marked s u.accesses })
+    (read : is_write a ≡ false) (later : IsLater before mid) (passed : Passed before mid) (same : now ≡ mid) where
+  pub ok_marked : (x : R) → t.is_open ≡ true → OnlyReads t v before now (Ok x)
+  ok_marked x is_open = ok_read t v _ before now x (marked_access t u v a s is more) read is_open (later_as before mid now later same) (ap (λ (d : Device). d.faults) same ∙ passed)
+
+  pub broken_marked : (block : ℕ) → OnlyReads {R = R} t v before now (Err (store.Broken block))
+  broken_marked block = broken_read t v _ before now block (marked_access t u v a s is more) read (later_as before mid now later same) (ap (λ (d : Device). d.faults) same ∙ passed)
+
+-- the child for a key, as the view of an inner node shows it
+module _ (a : Area) (key : List ℕ) (level : ℕ) (bytes : List ℕ) (node : Node) (cell : ℕ) (is : IsNodeOf a level bytes node) (at : cell ≡ place_of key (keys_in node)) where
+  abbrev mark : Span
+  mark = value_mark a.size (place_of key (bytes_in (keys_mark a.size) bytes))
+
+  at_place : cell ≡ place_of key (bytes_in (keys_mark a.size) bytes)
+  at_place = at ∙ ap (place_of key) is.keys_are
+
+  pub part_shown : value_in node cell ≡ bytes_in mark bytes
+  part_shown = is.values_are cell ∙ ap (λ (n : ℕ). bytes_in (value_mark a.size n) bytes) at_place
+
+  pub child_shown : (good : Bool) → good ≡ is_child node.blocks (value_in node cell) → is_child a.blocks (bytes_in mark bytes) ≡ good
+  child_shown good shown = sym (shown ∙ (λ i. is_child (is.blocks_are i) (part_shown i)))
+
+  pub child_marked : (block : ℕ) (t u v : Tx) (s m : Span) → s ≡ keys_mark a.size → m ≡ value_mark a.size cell → u ≡ with_accesses t (look_access (a.start + block) (s ∷ []) ∷ [])
+      → v ≡ record u { accesses = marked m u.accesses } → v ≡ with_accesses t (look_access (a.start + block) (keys_mark a.size ∷ mark ∷ []) ∷ [])
+  child_marked block t u v s m s_is m_is first more = marked_access t u v _ m first more
+      ∙ (λ i. with_accesses t (look_access (a.start + block) (s_is i ∷ (m_is ∙ ap (value_mark a.size) at_place) i ∷ []) ∷ []))
 
 no_more : (with_value : Bool) (o : Option Span) → cond (with_value && false) o None ≡ None
 no_more true o = refl

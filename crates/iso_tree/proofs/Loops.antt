@@ -1,5 +1,5 @@
 -- Steps of the loops over keys.
-use Rattle.iso_tree.proofs.Words.{◌≡◌, ◌∙◌, sym, refl, ap, ℕ, suc, ◌+◌, ◌-◌, ◌<◌, ◌≤◌, true, false, cond, List, arith, key_at, before, below_from, place_from}
+use Rattle.iso_tree.proofs.Words.{◌≡◌, ◌∙◌, sym, refl, ap, ℕ, suc, ◌+◌, ◌-◌, ◌<◌, true, false, cond, List, arith, key_at, before, below_from, place_from}
 
 below_step : (key keys : List ℕ) (i n : ℕ) → i < n → below_from key keys i (n - i) ≡ cond (before (key_at keys i) key) (suc (below_from key keys (i + 1) (n - (i + 1)))) 0
 below_step key keys i n below = let e : n - i ≡ suc (n - (i + 1)) = omega arith in rw e refl
@@ -14,12 +14,6 @@ below_ends key keys i n c total below so not =
     let e : below_from key keys i (n - i) ≡ 0 = below_step key keys i n below ∙ ap (λ t. cond t (suc (below_from key keys (i + 1) (n - (i + 1)))) 0) not in
     omega arith
 
-pub below_past : (key keys : List ℕ) (i n c total : ℕ) → n ≤ i → c + below_from key keys i (n - i) ≡ total → c ≡ total
-below_past key keys i n c total past so =
-    let e : n - i ≡ 0 = omega arith in
-    let f : below_from key keys i (n - i) ≡ 0 = rw e refl in
-    omega arith
-
 place_step : (key keys : List ℕ) (j i n : ℕ) → i < n → place_from key keys j i (n - i) ≡ cond (before key (key_at keys i)) j (place_from key keys i (i + 1) (n - (i + 1)))
 place_step key keys j i n below = let e : n - i ≡ suc (n - (i + 1)) = omega arith in rw e refl
 
@@ -32,8 +26,3 @@ place_goes_on key keys j i n p below so not =
     ap (λ (m : ℕ). place_from key keys m (i + 1) (n - (i + 1))) same
     ∙ sym (place_step key keys j i n below ∙ ap (λ t. cond t j (place_from key keys i (i + 1) (n - (i + 1)))) not) ∙ so
 
-pub place_past : (key keys : List ℕ) (j i n p : ℕ) → n ≤ i → place_from key keys j i (n - i) ≡ p → j ≡ p
-place_past key keys j i n p past so =
-    let e : n - i ≡ 0 = omega arith in
-    let f : place_from key keys j i (n - i) ≡ j = rw e refl in
-    sym f ∙ so

@@ -1,6 +1,5 @@
 -- The first block of a region after blocks were taken, and perhaps a new root.
-use Rattle.iso_tree.proofs.Words.{◌≡◌, ◌≢◌, ◌⊎◌, ◌↔◌, ◌∙◌, sym, refl, ap, ℕ, suc, ◌+◌, ◌-◌, ◌*◌, ◌%◌, ◌<◌, ◌≤◌, ◌||◌, ◌==◌, Bool, true, false, cond, IsTrue, List, [], ◌∷◌, ◌++◌, take, drop, length, get_or, replicate, Option, Some, None, arith, inl, inr, eq-eqb, ne_eqb, zero-add, w32, to_be_bytes, bit_at, cases_Bool, cases_eq, or_left, or_right, nat_tests, get_or-take, get_or-drop, get_or_append_left, get_or-append_right, get_or-set_other, length-set, length-take-le, length-drop, length-replicate, Span, Area, covered, in_span, merged, IsIn, bytes_in, laid_at, map_bytes, map_mark, bit_place, map_bit, set_bit, with_bit, merged_at, with_bits, laid_here, length-laid_at, Up, first_spans, first_bytes, head_mark, with_used, last_of, changed_mark, changed_map}
-use Rattle.iso_tree.proofs.Frames.{kept_1, kept_2, laid_all}
+use Rattle.iso_tree.proofs.Words.{◌≡◌, ◌≢◌, ◌⊎◌, ◌↔◌, ◌∙◌, sym, refl, ap, ℕ, suc, ◌+◌, ◌-◌, ◌*◌, ◌%◌, ◌<◌, ◌≤◌, ◌||◌, ◌==◌, Bool, true, false, cond, IsTrue, List, [], ◌∷◌, ◌++◌, take, drop, length, get_or, replicate, Option, Some, None, arith, inl, inr, eq-eqb, ne_eqb, zero-add, w32, to_be_bytes, bit_at, cases_Bool, cases_eq, or_left, or_right, nat_tests, get_or-take, get_or-drop, get_or_append_left, get_or-append_right, get_or-set_other, length-set, length-take-le, length-drop, length-replicate, Span, Area, covered, in_span, merged, IsIn, bytes_in, laid_at, map_bytes, map_mark, bit_place, map_bit, set_bit, with_bit, merged_at, with_bits, laid_here, length-laid_at, Up, first_spans, first_bytes, head_mark, with_used, last_of, changed_mark, changed_map, kept_1, kept_2, laid_all}
 
 pub up_in : (low : ℕ) (xs : List ℕ) (j : ℕ) → Up low xs → IsIn j xs → low ≤ j
 up_in low [] j up is = absurd is

@@ -1,5 +1,5 @@
 -- A put that takes blocks puts the pair into the region's map.
-use Rattle.iso_tree.proofs.Words.{◌≡◌, ◌≢◌, ◌∙◌, sym, refl, ap, subst, ℕ, suc, ◌+◌, ◌^◌, ◌<◌, ◌≤◌, ◌==◌, Bool, true, false, cond, List, [], ◌∷◌, ◌++◌, map, take, length, Option, Some, None, arith, inl, inr, eq-eqb, ne_eqb, AllByRecursion, flat_map, append-nil, map-append, length-append, Area, Array, put, IsIn, block_at, bytes_in, store_access, cell_count, is_part, text_of, value_part, map_mark, other_block, Cell, IsBlock, child_of, child_part, used_cells, node_bytes, Tree, tree_at, pairs_in, nodes_in, IsApart, IsOrdered, Put, half, Climb, climb, climb_on, full_row, need_of, root_cells, cells_in, root_of, level_of, IsNode, AreNodes, IsTreeArea, IsTreeRegion, tree_pairs, tree_nodes, first_access}
+use Rattle.iso_tree.proofs.Words.{◌≡◌, ◌≢◌, ◌∙◌, sym, refl, ap, subst, ℕ, suc, ◌+◌, ◌^◌, ◌<◌, ◌≤◌, ◌==◌, Bool, true, false, cond, List, [], ◌∷◌, ◌++◌, map, take, length, Option, Some, None, arith, inl, inr, eq-eqb, ne_eqb, AllByRecursion, flat_map, append-nil, map-append, length-append, Area, Array, put, IsIn, block_at, bytes_in, store_access, cell_count, is_part, text_of, value_part, map_mark, other_block, Cell, IsBlock, child_of, child_part, used_cells, node_bytes, Tree, tree_at, pairs_in, nodes_in, IsApart, IsOrdered, Put, half, Climb, climb, climb_on, full_row, need_of, root_cells, cells_in, root_of, level_of, IsNode, AreNodes, IsTreeArea, IsTreeRegion, tree_pairs, tree_nodes, first_access, length-part, part_is_part, part_text}
 use Rattle.iso_tree.proofs.Again.{nodes_at, way_is, path_few, nodes_inside}
 use Rattle.iso_tree.proofs.Blocks.{in_front, in_back, in_cases, apart_parts, grown_apart, grown_in}
 use Rattle.iso_tree.proofs.Bytes.{cells_are}
@@ -7,7 +7,6 @@ use Rattle.iso_tree.proofs.Climbs.{Lacks, IsPut, put_is}
 use Rattle.iso_tree.proofs.Enough.{IsServed, put_served, put_blocks}
 use Rattle.iso_tree.proofs.Fits.{area_block}
 use Rattle.iso_tree.proofs.Fitted.{nodes_from}
-use Rattle.iso_tree.proofs.Frames.{length-part_of, part_is_part, part_text}
 use Rattle.iso_tree.proofs.Levels.{level_low}
 use Rattle.iso_tree.proofs.Order.{not_before_empty}
 use Rattle.iso_tree.proofs.Putting.{HasPut, put_has, nodes_sized, child_part_is}
@@ -29,7 +28,7 @@ pub record IsPair (key text : List ℕ) : Type 0 where
   pub spells : text_of (value_part text) ≡ text
 
 pub pair_is : (key text : List ℕ) → length key ≤ 28 → length text ≤ 32 → IsPair key text
-pair_is key text short few = record { short = short; whole = length-part_of 32 text few; good = part_is_part 32 32 text few; spells = part_text 32 text }
+pair_is key text short few = record { short = short; whole = length-part 32 text few; good = part_is_part 32 32 text few; spells = part_text 32 text }
 
 -- the numbers of an area
 pub record HasSizes (a : Area) : Type 0 where
@@ -49,10 +48,6 @@ sizes_of a area =
     let l = area.least_size in
     let b = area.most in
     record { sized = sized; least = l; most = omega arith; few = omega arith; some = omega arith; less = omega arith; two = omega arith }
-
-some_list : (taken : List ℕ) → 1 ≤ length taken → (k : ℕ) × (ks : List ℕ) × (taken ≡ k ∷ ks)
-some_list [] some = absurd (omega arith)
-some_list (k ∷ ks) some = (k, ks, refl)
 
 no_list : (left : List ℕ) → length left ≡ 0 → left ≡ []
 no_list [] none = refl

@@ -1,5 +1,5 @@
 -- The bytes of a node pass the tests of a descent.
-use Rattle.iso_tree.proofs.Words.{◌≡◌, ◌⊎◌, ◌∙◌, sym, refl, ap, ℕ, zero, suc, ◌+◌, ◌-◌, ◌*◌, ◌<◌, ◌≤◌, Bool, true, false, ◌&&◌, ◌||◌, ◌==◌, not, nat_le, List, [], ◌∷◌, ◌++◌, drop, length, get_or, replicate, arith, inl, inr, eq-eqb, ne_eqb, flat_map, list_all, and_from, or_left, or_right, nat_tests, append-nil, drop_at, bytes_in, cell_count, key_mark, is_part, is_zero, text_of, key_at, all_from, is_unused, are_key_parts, key_part, FitCells, before, count_of, has_head, is_node, Cell, first_key}
+use Rattle.iso_tree.proofs.Words.{◌≡◌, ◌⊎◌, ◌∙◌, sym, refl, ap, ℕ, zero, suc, ◌+◌, ◌-◌, ◌*◌, ◌<◌, ◌≤◌, Bool, true, false, ◌&&◌, ◌||◌, ◌==◌, not, nat_le, List, [], ◌∷◌, ◌++◌, drop, length, get_or, replicate, arith, inl, inr, eq-eqb, ne_eqb, flat_map, list_all, and_from, or_left, or_right, nat_tests, append-nil, drop_at, bytes_in, cell_count, key_mark, is_part, is_zero, text_of, key_at, all_from, is_unused, are_key_parts, key_part, FitCells, before, count_of, has_head, is_node, Cell, first_key, zeros_are}
 use Rattle.iso_tree.proofs.Bytes.{head_of, keys_of, count_is, key_text, length-key_part, after_part, first_part}
 
 -- keys that rise strictly
@@ -34,10 +34,6 @@ rise_back K i c (d ∷ ds) rest fit k rises =
     let here = key_here K i c (d ∷ ds) rest fit k in
     let there = key_here K (i + 1) d ds rest fit.1 next in
     and_from _ _ ((λ j. before (here j) (there j)) ∙ rises.0) (rise_back K (i + 1) d ds rest fit.1 next rises.1)
-
-zeros_are : (n : ℕ) → list_all is_zero (replicate n 0) ≡ true
-zeros_are zero = refl
-zeros_are (suc n) = zeros_are n
 
 pub zeros_more : (x y : ℕ) → replicate {A = ℕ} (x + y) 0 ≡ replicate x 0 ++ replicate y 0
 zeros_more zero y = ap (λ n. replicate n 0) (Rattle.std.proofs.Common.zero-add y)

@@ -1,12 +1,10 @@
 -- A put into a leaf that has the key, or room for it.
-use Rattle.iso_tree.proofs.Words.{◌≡◌, ◌≢◌, ◌∙◌, sym, refl, ap, subst, ℕ, zero, suc, ◌+◌, ◌*◌, ◌<◌, ◌≤◌, Bool, true, false, cond, List, [], ◌∷◌, ◌++◌, length, replicate, Option, Some, None, option_map, arith, inl, inr, AllByRecursion, list_all, nat_list_cmp_total, from_entries, get, insert, get-from_entries, get-insert, same_map, slice_cmp-IsAntisymmetric, nat_cmp-IsAntisymmetric, bytes_eq, cases_Bool, cases_eq, both_ways, or_left, append_assoc, length-replicate, bytes_eq-Decides, Access, Area, Array, merged, put, first_from, Pairs, block_at, bytes_in, store_access, cell_count, keys_end, keys_mark, value_mark, is_zero, is_part, text_of, value_part, key_at, block_with, length-block_put, written_block, other_block, laid_here, length-laid_at, Cell, FitCells, IsBlock, count_of, is_node, cell_of, cells_by, node_bytes, in_range, Rise, RiseAfter, put_after, cells_in, root_of, level_of, IsNode, IsTreeArea, IsTreeRegion, tree_pairs, tree_map}
+use Rattle.iso_tree.proofs.Words.{◌≡◌, ◌≢◌, ◌∙◌, sym, refl, ap, subst, ℕ, zero, suc, ◌+◌, ◌*◌, ◌<◌, ◌≤◌, Bool, true, false, cond, List, [], ◌∷◌, ◌++◌, length, replicate, Option, Some, None, option_map, arith, inl, inr, AllByRecursion, list_all, nat_list_cmp_total, from_entries, get, insert, get-from_entries, get-insert, same_map, slice_cmp-IsAntisymmetric, nat_cmp-IsAntisymmetric, bytes_eq, cases_Bool, cases_eq, both_ways, or_left, append_assoc, length-replicate, bytes_eq-Decides, Access, Area, Array, merged, put, first_from, Pairs, block_at, bytes_in, store_access, cell_count, keys_end, keys_mark, value_mark, is_zero, is_part, text_of, value_part, key_at, block_with, length-block_put, written_block, other_block, laid_here, length-laid_at, Cell, FitCells, IsBlock, count_of, is_node, cell_of, cells_by, node_bytes, in_range, Rise, RiseAfter, put_after, cells_in, root_of, level_of, IsNode, IsTreeArea, IsTreeRegion, tree_pairs, tree_map, kept_1, laid_all, found_in, ties, first_passes}
 use Rattle.iso_tree.proofs.Climbs.{leaf_added}
 use Rattle.iso_tree.proofs.Dels.{IsLeafEdit, leaf_written, edit_region, edit_pairs, edit_found, swapped_found}
 use Rattle.iso_tree.proofs.Edits.{leaf_pairs, IsSwapped}
 use Rattle.iso_tree.proofs.Ending.{at, order_of, ends_of, found_of}
-use Rattle.iso_tree.proofs.Finding.{found_in, ties}
 use Rattle.iso_tree.proofs.Fits.{area_block, cells_fit, rise_strict}
-use Rattle.iso_tree.proofs.Frames.{kept_1, laid_all}
 use Rattle.iso_tree.proofs.Gets.{leaf_finds, parts_all}
 use Rattle.iso_tree.proofs.Leaves.{leaf_rises}
 use Rattle.iso_tree.proofs.NewBlocks.{IsPair}
@@ -28,21 +26,6 @@ swapped_added y ms ms' old new added is = (
 cells_lack : (key : List ℕ) (cs : List Cell) → AllByRecursion (λ (pair : List ℕ × List ℕ). key ≢ pair.0) (leaf_pairs cs) → AllByRecursion (λ (c : Cell). key ≢ c.0) cs
 cells_lack key [] all = tt
 cells_lack key (c ∷ cs) all = (all.0, cells_lack key cs all.1)
-
-no_some : (i : ℕ) → ◌≡◌ {A = Option ℕ} None (Some i) → ⊥
-no_some i e = cc
-
-same_some : (i j : ℕ) → ◌≡◌ {A = Option ℕ} (Some i) (Some j) → i ≡ j
-same_some i j e = cc
-
--- what is found passes the test
-first_passes : (test : ℕ → Bool) (i m j : ℕ) → first_from test i m ≡ Some j → test j ≡ true
-first_passes test i zero j e = absurd (no_some j e)
-first_passes test i (suc m) j e =
-    elim (test i) as (λ b. test i ≡ b → cond b (Some i) (first_from test (i + 1) m) ≡ Some j → test j ≡ true) [
-      | true ↦ λ t h. ap test (sym (same_some i j h)) ∙ t
-      | false ↦ λ t h. first_passes test (i + 1) m j h
-    ] refl e
 
 -- cells with other values under the same keys rise as before
 rise_values_after : (keys : List ℕ) (v w : ℕ → List ℕ) (last : List ℕ) (high : Option (List ℕ)) (i m : ℕ) → RiseAfter last high (cells_by keys v i m) → RiseAfter last high (cells_by keys w i m)

@@ -1,8 +1,7 @@
 -- A put writes whole blocks, on whatever array, and is local.
-use Rattle.iso_tree.proofs.Words.{◌≡◌, ◌∙◌, sym, refl, ap, subst, ℕ, zero, suc, ◌+◌, ◌-◌, ◌*◌, ◌<◌, ◌≤◌, ◌==◌, ◌&&◌, Bool, true, false, cond, nat_le, List, [], ◌∷◌, ◌++◌, map, take, drop, length, replicate, Option, Some, None, Result, Ok, Err, IfOk, arith, inl, inr, nat_lt, AllByRecursion, cases_Bool, and_parts, leb-true, ltb-true, nat_tests, take-append-drop, length-take, length-drop, length-replicate, Access, Area, StoreError, BadKey, BadValue, Broken, NoBlocks, Array, put, own, at_cell, is_key, is_value, IsIn, put_op, block_at, Program, Done, Store, bytes_in, further_bytes, store_access, then_do, accesses_of, answer_of, IsLocal, cell_count, keys_end, keys_mark, value_mark, value_part, block_with, map_bytes, map_mark, free_count, length-laid_at, Tx, IsTx, HasRun, IsLocalCall, AreWhole, accesses_then, own_reads, whole_reads, local_from, whole_run, Cell, FitCells, IsBlock, cell_of, count_of, is_node, is_child, child_of, child_part, is_head, head_mark, node_bytes, Put, put_after, first_key, emptied, half, halves, fit, Descent, AtLeaf, AtBroken, descend, leaf_further, inner_further, with_head, look_again, climb, climb_on, placed, store_nodes, first_write, put_writes, with_map, edit_leaf, put_at, put_below_root, put_program, Answer, full_row, need_of, free_list, cells_in, root_of, level_of, IsTreeArea, IsTreeRegion, tree_map, first_access}
+use Rattle.iso_tree.proofs.Words.{◌≡◌, ◌∙◌, sym, refl, ap, subst, ℕ, zero, suc, ◌+◌, ◌-◌, ◌*◌, ◌<◌, ◌≤◌, ◌==◌, ◌&&◌, Bool, true, false, cond, nat_le, List, [], ◌∷◌, ◌++◌, map, take, drop, length, replicate, Option, Some, None, Result, Ok, Err, IfOk, arith, inl, inr, nat_lt, AllByRecursion, cases_Bool, and_parts, leb-true, ltb-true, nat_tests, take-append-drop, length-take, length-drop, length-replicate, Access, Area, StoreError, BadKey, BadValue, Broken, NoBlocks, Array, put, own, at_cell, is_key, is_value, IsIn, put_op, block_at, Program, Done, Store, bytes_in, further_bytes, store_access, then_do, accesses_of, answer_of, IsLocal, cell_count, keys_end, keys_mark, value_mark, value_part, block_with, map_bytes, map_mark, free_count, length-laid_at, Tx, IsTx, HasRun, IsLocalCall, AreWhole, accesses_then, own_reads, whole_reads, local_from, whole_run, Cell, FitCells, IsBlock, cell_of, count_of, is_node, is_child, child_of, child_part, is_head, head_mark, node_bytes, Put, put_after, first_key, emptied, half, halves, fit, Descent, AtLeaf, AtBroken, descend, leaf_further, inner_further, with_head, look_again, climb, climb_on, placed, store_nodes, first_write, put_writes, with_map, edit_leaf, put_at, put_below_root, put_program, Answer, full_row, need_of, free_list, cells_in, root_of, level_of, IsTreeArea, IsTreeRegion, tree_map, first_access, HasBlocks, whole_append, blocks_of}
 use Rattle.iso_tree.proofs.Again.{nodes_at, again_whole}
 use Rattle.iso_tree.proofs.Bytes.{length-node_bytes}
-use Rattle.iso_tree.proofs.DelCalls.{HasBlocks, whole_append}
 use Rattle.iso_tree.proofs.Facts.{head_parts, child_below, cell_used, node_parts}
 use Rattle.iso_tree.proofs.Fits.{cells_fit, cells_few, length-cells}
 use Rattle.iso_tree.proofs.Gets.{descend_reads}
@@ -11,10 +10,10 @@ use Rattle.iso_tree.proofs.NewBlocks.{IsPair, pair_is, HasSizes, sizes_of}
 use Rattle.iso_tree.proofs.Order.{all_left, all_right, length-put_after, all_put_after}
 use Rattle.iso_tree.proofs.PutCalls.{put_correct}
 use Rattle.iso_tree.proofs.Ranges.{all_append}
-use Rattle.iso_tree.proofs.Removing.{blocks_in}
 use Rattle.iso_tree.proofs.Taking.{AreTaken, taken_are}
 use Rattle.iso_tree.proofs.Ways.{length-placed}
 use Rattle.iso_tree.proofs.Writes.{FitWrite}
+use Rattle.iso_tree.proofs.Shapes.{same_some}
 
 -- NODES OF A WAY UP
 pub record IsFitNode (a : Area) (w : ℕ × List Cell) : Type 0 where
@@ -45,15 +44,9 @@ record FitPut (a : Area) (q : Put) : Type 0 where
   second : (s : List ℕ × ℕ) → q.second ≡ Some s → length s.0 ≤ 28
   left : AllByRecursion (λ (b : ℕ). b < a.blocks) q.left
 
-no_pair : (s : List ℕ × ℕ) → ◌≡◌ {A = Option (List ℕ × ℕ)} None (Some s) → ⊥
-no_pair s e = cc
-
-same_pair : (r s : List ℕ × ℕ) → ◌≡◌ {A = Option (List ℕ × ℕ)} (Some r) (Some s) → r ≡ s
-same_pair r s e = cc
-
 halves_fit : (a : Area) (level block : ℕ) (cs : List Cell) (news : List ℕ) → 1 < half (cell_count a.size) → half (cell_count a.size) ≤ cell_count a.size → block < a.blocks → FitCells cs → length cs ≤ suc (cell_count a.size) → AllByRecursion (λ (b : ℕ). b < a.blocks) news
     → FitPut a (halves (cell_count a.size) level block cs news)
-halves_fit a level block cs [] some less below fit few all = record { writes = tt; second = λ s e. absurd (no_pair s e); left = tt }
+halves_fit a level block cs [] some less below fit few all = record { writes = tt; second = λ s e. absurd (cc e); left = tt }
 halves_fit a level block cs (new ∷ news) some less below fit few all =
     let n = cell_count a.size in
     let L = take (half n) cs in
@@ -63,7 +56,7 @@ halves_fit a level block cs (new ∷ news) some less below fit few all =
     let right = all_right Fits L D both in
     record {
       writes = ((left, omega (arith, length-take (half n) cs), below), ((emptied_fit level D right, omega (arith, length-drop (half n) cs, length-emptied level D), all.0), tt));
-      second = λ s e. subst (λ (r : List ℕ × ℕ). length r.0 ≤ 28) (same_pair _ s e) (first_fit D right);
+      second = λ s e. subst (λ (r : List ℕ × ℕ). length r.0 ≤ 28) (same_some _ s e) (first_fit D right);
       left = all.1;
     }
 
@@ -72,7 +65,7 @@ fit_fit : (a : Area) (level block : ℕ) (cs : List Cell) (news : List ℕ) → 
 fit_fit a level block cs news some less below all_fit few all =
     let n = cell_count a.size in
     elim (nat_le (length cs) n) as (λ b. nat_le (length cs) n ≡ b → FitPut a (cond b (record { writes = (block, level, cs) ∷ []; second = None; taken = []; left = news; enough = true }) (halves n level block cs news))) [
-      | true ↦ λ b. record { writes = ((all_fit, leb-true (length cs) n b, below), tt); second = λ s e. absurd (no_pair s e); left = all }
+      | true ↦ λ b. record { writes = ((all_fit, leb-true (length cs) n b, below), tt); second = λ s e. absurd (cc e); left = all }
       | false ↦ λ b. halves_fit a level block cs news some less below all_fit few all
     ] refl
 
@@ -275,4 +268,4 @@ put_call a key text t u (Err e) area key_is value_is tx size fits run = tt
 put_call a key text t u (Ok x) area key_is value_is tx size fits run = λ A told.
     let whole = whole_run (put_program a key text) t u (Ok x) run A told in
     subst (λ (accesses : List Access). IsLocal (IsTreeRegion a) (tree_map a) (put_op key text) (own A t.accesses) accesses x) whole.accesses_are
-    (put_local a key text (own A t.accesses) x area key_is value_is (blocks_in a t A tx size fits told) whole.answer_is)
+    (put_local a key text (own A t.accesses) x area key_is value_is (blocks_of a t A tx size fits told) whole.answer_is)

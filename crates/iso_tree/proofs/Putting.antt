@@ -8,7 +8,7 @@ use Rattle.iso_tree.proofs.Fitted.{ArePartsAt, fit_has}
 use Rattle.iso_tree.proofs.Gets.{parts_all, child_holds}
 use Rattle.iso_tree.proofs.Order.{all_put_after, range_from, range_to}
 use Rattle.iso_tree.proofs.Ranges.{all_append}
-use Rattle.iso_tree.proofs.Shapes.{kids, chosen, child_for, after_child, put_below, written, second_kid, IsSized, AreSized}
+use Rattle.iso_tree.proofs.Shapes.{kids, chosen, child_for, after_child, put_below, written, second_kid, IsSized, AreSized, length-kids}
 use Rattle.iso_tree.proofs.Splits.{written_append}
 use Rattle.iso_tree.proofs.Stored.{stored, spots, stored_append, stored_kept, stored_cells, stored_in, row_kept}
 use Rattle.iso_tree.proofs.Writes.{FitWrite, child_named}
@@ -43,10 +43,6 @@ rows_sized : (a : Area) (A : Array) (level : ℕ) (cs : List Cell)
 rows_sized a A level [] each parts fit all = tt
 rows_sized a A level (c ∷ cs) each parts fit all =
     ((fit.0.0, each (child_of c.1) (child_below a.blocks c.1 parts.0).below all.0), rows_sized a A level cs each parts.1 fit.1 all.1)
-
-length-kids : (cells : ℕ → List Cell) (level : ℕ) (cs : List Cell) → length (kids cells level cs) ≡ length cs
-length-kids cells level [] = refl
-length-kids cells level (c ∷ cs) = ap suc (length-kids cells level cs)
 
 abbrev pub HasShape : Area → Array → Type 0
 HasShape a A = (k : ℕ) → k < a.blocks → length (block_at A (a.start + k)) ≡ a.size
@@ -97,9 +93,6 @@ child_part_is blocks b some below low =
     let one : Rattle.std.proofs.Common.nat_le 1 (child_of (child_part b)) ≡ true = ap (Rattle.std.proofs.Common.nat_le 1) named ∙ grind (arith, Rattle.std.proofs.lemmas.Bool.Decides.nat_tests) in
     let two : Rattle.std.specs.Prelude.nat_lt (child_of (child_part b)) blocks ≡ true = ap (λ (k : ℕ). Rattle.std.specs.Prelude.nat_lt k blocks) named ∙ grind (arith, Rattle.std.proofs.lemmas.Bool.Decides.nat_tests) in
     and_from _ _ (and_from _ _ (and_from _ _ refl one) two) (zeros_all 28)
-
-no_some : (s : List ℕ × ℕ) → ◌≡◌ {A = Option (List ℕ × ℕ)} None (Some s) → ⊥
-no_some s e = cc
 
 -- what a put below a node leaves
 pub record HasPut (a : Area) (level : ℕ) (A : Array) (block : ℕ) (p : Put) : Type 0 where
@@ -152,7 +145,7 @@ module _ (a : Area) (sized : IsBlock a.size) (least : 256 ≤ a.size) (most : a.
         subst (IsNode a (suc level)) (sym block_same) node,
         subst (AllByRecursion (λ (c : Cell). AreNodes a A1 level (child_of c.1))) (sym (ap (used_cells a.size) block_same ∙ here)) rows1,
       );
-      second = λ s e. absurd (no_some s (sym none ∙ e));
+      second = λ s e. absurd (cc (none, e));
       places = λ k at. subst (λ (l : List Cell). IsIn k (block ∷ flat_map (λ c. nodes_in level c.1) (kids cells level l)) ⊎ IsIn k p.taken) (sym here) (place k at);
       fits = has.fits;
     }

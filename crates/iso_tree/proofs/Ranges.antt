@@ -1,5 +1,5 @@
 -- Keys in the order of bytes, and ranges of keys.
-use Rattle.iso_tree.proofs.Words.{◌≡◌, ◌∙◌, sym, refl, ap, ℕ, zero, suc, ◌+◌, ◌<◌, ◌≤◌, Bool, true, false, not, List, [], ◌∷◌, ◌++◌, map, Option, Some, None, arith, inl, inr, AllByRecursion, flat_map, range_with_len, nat_cmp, is_lt, ordering_reverse, Ordering, Less, Equal, Greater, slice_cmp, nat_list_cmp_total, and_from, and_parts, cases_Bool, both_ways, before, in_range}
+use Rattle.iso_tree.proofs.Words.{◌≡◌, ◌∙◌, sym, refl, ap, ℕ, Bool, true, false, not, List, [], ◌∷◌, ◌++◌, Option, Some, None, inl, inr, AllByRecursion, nat_cmp, is_lt, ordering_reverse, Ordering, Less, Equal, Greater, slice_cmp, nat_list_cmp_total, and_from, and_parts, cases_Bool, both_ways, before, in_range}
 
 less_only : (o : Ordering) → is_lt o ≡ true → o ≡ Less
 less_only Less e = refl
@@ -61,15 +61,6 @@ range_cut low end (Some high) key inside is =
 pub all_append : {X : Type 0} (P : X → Type 0) (xs ys : List X) → AllByRecursion P xs → AllByRecursion P ys → AllByRecursion P (xs ++ ys)
 all_append P [] ys all more = more
 all_append P (x ∷ xs) ys all more = (all.0, all_append P xs ys all.1 more)
-
-all_flat : {X : Type 0} (P : X → Type 0) (f : ℕ → List X) (from n : ℕ) → ((i : ℕ) → from ≤ i → i < from + n → AllByRecursion P (f i)) → AllByRecursion P (flat_map f (range_with_len from n))
-all_flat P f from zero each = tt
-all_flat P f from (suc n) each = all_append P (f from) (flat_map f (range_with_len (from + 1) n)) (each from (omega arith) (omega arith))
-    (all_flat P f (from + 1) n (λ i low high. each i (omega arith) (omega arith)))
-
-all_map : {X : Type 0} (P : X → Type 0) (f : ℕ → X) (from n : ℕ) → ((i : ℕ) → from ≤ i → i < from + n → P (f i)) → AllByRecursion P (map f (range_with_len from n))
-all_map P f from zero each = tt
-all_map P f from (suc n) each = (each from (omega arith) (omega arith), all_map P f (from + 1) n (λ i low high. each i (omega arith) (omega arith)))
 
 pub all_weaker : {X : Type 0} (P Q : X → Type 0) (xs : List X) → ((x : X) → P x → Q x) → AllByRecursion P xs → AllByRecursion Q xs
 all_weaker P Q [] h all = tt

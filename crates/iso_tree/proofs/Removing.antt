@@ -1,30 +1,10 @@
 -- A removal, part by part.
-use Rattle.iso_tree.proofs.Words.{◌≡◌, ◌≢◌, ◌∙◌, sym, ap, subst, ℕ, ◌+◌, ◌≤◌, Bool, true, false, cond, List, [], ◌∷◌, length, Option, Some, None, Result, Ok, Err, IfOk, arith, ne_eqb, eq-eqb, append-nil, Access, Area, StoreError, TxError, Array, own, at_cell, is_key, del_op, Program, Done, LookWhole, Store, look_access, store_access, then_do, after, outcome, IsLocal, length-block_own, Tx, Device, IsTx, with_accesses, room_of, Ran, IsCut, IsCause, HasRun, IsLocalCall, IsAt, at_start, at_then, at_look_whole, at_store, ran_at, stopped_at, whole_run, cut_at_store, cut_then, run_from, Leaf, Cell, used_cells, node_bytes, Descent, AtBroken, descend, edit_leaf, without_key, del_at, del_below, del_program, with_head, tree_map, IsTreeArea, IsTreeRegion, HasDescended, IsLeaf, AreBytesOf}
+use Rattle.iso_tree.proofs.Words.{◌≡◌, ◌≢◌, ◌∙◌, sym, ap, subst, ℕ, ◌+◌, ◌≤◌, Bool, true, false, cond, List, [], ◌∷◌, length, Option, Some, None, Result, Ok, Err, IfOk, ne_eqb, Access, Area, StoreError, TxError, own, at_cell, is_key, del_op, Done, Store, look_access, store_access, then_do, IsLocal, Tx, Device, IsTx, with_accesses, Ran, IsCut, IsCause, HasRun, IsLocalCall, IsAt, at_start, at_then, at_look_whole, at_store, ran_at, whole_run, cut_at_store, run_from, Leaf, Cell, used_cells, node_bytes, Descent, descend, edit_leaf, without_key, del_at, del_below, del_program, with_head, tree_map, IsTreeArea, IsTreeRegion, HasDescended, IsLeaf, AreBytesOf, at_as, refl}
 use Rattle.store_model.specs.declared.stores.StoreError.TheVariants as store
-use Rattle.store_model.specs.declared.stores.TxError.TheVariants as error
-use Rattle.iso_tree.proofs.Looking.{at_as}
-use Rattle.iso_tree.proofs.DelCalls.{HasBlocks, del_local}
-
--- an unmarked read that does not fit
-pub cut_at_whole : {R : Type 0} (whole : Program R) (b : ℕ) (next : List ℕ → Program R) (t u v : Tx) (before now : Device) (e : TxError)
-    → IsAt whole (LookWhole b next) t u → v ≡ u → IsCause v 1 before now e → IsCut whole t v e
-cut_at_whole whole b next t u v before now error.TooManyAccesses at same cause =
-    let long : length v.accesses ≡ length u.accesses = ap (λ (w : Tx). length w.accesses) same in
-    let many = cause.0 in
-    let none : room_of u ≡ 0 = omega arith in
-    record {
-      done = at.done;
-      is = same ∙ at.is;
-      told = λ A told. at.told A told ∙ ap (λ n. after at.done (outcome n (LookWhole b next) (own A u.accesses))) none ∙ ap (λ xs. (xs, None)) (append-nil at.done);
-    }
-cut_at_whole whole b next t u v before now error.Memory at same cause = stopped_at whole (LookWhole b next) t u v at same (λ A. omega arith)
-cut_at_whole whole b next t u v before now error.Down at same cause = stopped_at whole (LookWhole b next) t u v at same (λ A. omega arith)
-cut_at_whole whole b next t u v before now error.Disk at same cause = stopped_at whole (LookWhole b next) t u v at same (λ A. omega arith)
-cut_at_whole whole b next t u v before now error.NotInTx at same cause = stopped_at whole (LookWhole b next) t u v at same (λ A. omega arith)
-cut_at_whole whole b next t u v before now error.BadBlock at same cause = cause
-cut_at_whole whole b next t u v before now error.BadRange at same cause = cause
-cut_at_whole whole b next t u v before now error.NoAccess at same cause = cause
-cut_at_whole whole b next t u v before now error.TooManyMarks at same cause = cause
+use Rattle.iso_tree.proofs.Descending.{descent_refused}
+use Rattle.iso_tree.proofs.DelCalls.{del_local}
+pub use Rattle.tx_blocks.proofs.Programs.{blocks_of as blocks_in}
+pub use Rattle.tx_blocks.proofs.Refusals.{cut_at_whole}
 
 -- an edit of a leaf
 module _ {X : Type 0} (a : Area) (leaf : ℕ) (change : List Cell → List Cell) (r : Result X StoreError) (t u : Tx) where
@@ -52,13 +32,7 @@ module _ (a : Area) (key : List ℕ) (root level : ℕ) (some : root ≢ 0) (t u
   below_at d ran = at_then (del_below a key root level) (descend a key false level root []) (del_at a key) t t u d (at_as (del_below a key root level) _ _ t t below_is (at_start (del_below a key root level) t)) ran
 
   pub del_refused : (path : List (ℕ × ℕ)) (buffer : List ℕ) (e : StoreError) → HasDescended a key false root level t u path buffer (Err e) → HasRun (del_below a key root level) t u (Err e)
-  del_refused path buffer store.BadKey ended = absurd ended
-  del_refused path buffer store.BadValue ended = absurd ended
-  del_refused path buffer (store.NoBlocks need free) ended = absurd ended
-  del_refused path buffer (store.Broken block) ended = ran_at (del_below a key root level) t u (Err (store.Broken block)) (below_at (AtBroken block) ended)
-  del_refused path buffer (store.Tx e) ended =
-      subst (λ (p : Program (Result Bool StoreError)). IsCut p t u e) (sym below_is) (cut_then (descend a key false level root []) (del_at a key) t u e ended)
-  del_refused path buffer store.Memory ended = absurd ended
+  del_refused path buffer e ended = descent_refused (del_below a key root level) a key false root level (del_at a key) t u below_is (λ block. refl) path buffer e ended
 
   module _ (path : List (ℕ × ℕ)) (buffer : List ℕ) (leaf : Leaf) (is : IsLeaf a key buffer leaf) (ended : HasDescended a key false root level t u path buffer (Ok leaf)) where
     at_leaf : (o : Option ℕ) → leaf.cell ≡ o → IsAt (del_below a key root level) (at_cell o (λ i. edit_leaf a leaf.block (without_key key) (Ok true)) (Done (Ok false))) t u
@@ -70,11 +44,6 @@ module _ (a : Area) (key : List ℕ) (root level : ℕ) (some : root ≢ 0) (t u
     pub del_found : (i : ℕ) (v : Tx) (result : Result Bool StoreError) → leaf.cell ≡ Some i → HasRun (edit_leaf a leaf.block (without_key key) (Ok true)) u v result → HasRun (del_below a key root level) t v result
     del_found i v result cell run = run_from (del_below a key root level) (edit_leaf a leaf.block (without_key key) (Ok true)) t u v result (at_leaf (Some i) cell) run
 
-pub del_empty : (a : Area) (key : List ℕ) (root level : ℕ) (t : Tx) → root ≡ 0 → Ran (del_below a key root level) t t (Ok false)
-del_empty a key root level t none =
-    let e : del_below a key root level ≡ Done (Ok false) = ap (λ (b : Bool). cond b (Done (Ok false)) (then_do (descend a key false level root []) (del_at a key))) (eq-eqb root 0 none) in
-    ran_at (del_below a key root level) t t (Ok false) (at_as (del_below a key root level) _ _ t t e (at_start (del_below a key root level) t))
-
 pub del_run : (a : Area) (key : List ℕ) (t u : Tx) (result : Result Bool StoreError) → is_key key ≡ true → HasRun (with_head a (del_below a key)) t u result → HasRun (del_program a key) t u result
 unfolding del_program
 del_run a key t u result is run = rw is run
@@ -82,10 +51,6 @@ del_run a key t u result is run = rw is run
 pub del_bad_key : (a : Area) (key : List ℕ) (t : Tx) → is_key key ≡ false → Ran (del_program a key) t t (Err store.BadKey)
 unfolding del_program
 del_bad_key a key t not = rw not (ran_at (Done (Err store.BadKey)) t t (Err store.BadKey) (at_start (Done (Err store.BadKey)) t))
-
--- the blocks of the array that the transaction shows
-pub blocks_in : (a : Area) (t : Tx) (A : Array) → IsTx t → t.size ≡ a.size → a.start + a.blocks ≤ t.blocks → t.base ≡ Some A → HasBlocks a (own A t.accesses)
-blocks_in a t A is size fits told k below = length-block_own A t.accesses (a.start + k) ∙ (is.base A told).bytes (a.start + k) (omega arith) ∙ size
 
 pub del_call : (a : Area) (key : List ℕ) (t u : Tx) (result : Result Bool StoreError) → IsTreeArea a → is_key key ≡ true → IsTx t → t.size ≡ a.size → a.start + a.blocks ≤ t.blocks
     → HasRun (del_program a key) t u result → IfOk result (IsLocalCall (IsTreeRegion a) (tree_map a) (del_op key) t u)

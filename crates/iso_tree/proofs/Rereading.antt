@@ -1,6 +1,5 @@
 -- The nodes of a put are read once more.
-use Rattle.iso_tree.proofs.Words.{◌≡◌, ◌∙◌, sym, refl, ap, subst, ℕ, suc, ◌+◌, ◌*◌, ◌≤◌, List, [], ◌∷◌, ◌++◌, length, map, take, drop, Some, Result, Ok, Err, OnOk, IfErr, arith, take_at, take-take, length-take-le, Access, Area, StoreError, TxError, Array, own, laid_at, Program, bytes_in, look_access, laid_here, Tx, Device, with_accesses, Stopped, IsCut, IsCause, HasRun, own_reads, IsAt, at_join, at_start, at_look_whole, own_append, run_from, Cell, used_cells, nodes_from, AreShownUsable, AreUsable, IsUsable, look_again, Answer, AreBytesOf}
-use Rattle.iso_tree.proofs.Frames.{piece_of}
+use Rattle.iso_tree.proofs.Words.{◌≡◌, ◌∙◌, sym, refl, ap, subst, ℕ, suc, ◌+◌, ◌*◌, ◌≤◌, List, [], ◌∷◌, ◌++◌, length, map, take, drop, Result, Ok, Err, OnOk, IfErr, arith, take_at, take-take, length-take-le, Area, StoreError, TxError, Array, own, laid_at, Program, bytes_in, look_access, laid_here, Tx, Device, with_accesses, IsCut, IsCause, HasRun, own_reads, IsAt, at_join, at_start, at_look_whole, own_append, run_from, Cell, used_cells, nodes_from, AreShownUsable, AreUsable, IsUsable, look_again, Answer, AreBytesOf, piece_of}
 use Rattle.iso_tree.proofs.Removing.{cut_at_whole}
 
 pub map_ok : {X E P Q : Type 0} (r : Result X E) → (P → Q) → OnOk r P → OnOk r Q
@@ -44,18 +43,6 @@ module _ (a : Area) (block count : ℕ) (rest path : List (ℕ × ℕ)) (is : pa
         subst (λ (p : List (ℕ × ℕ)). IsAt whole (f (nodes_from a.size nodes i p)) t v) (sym is)
         (subst (λ (b : List ℕ). IsAt whole (f ((block, used_cells a.size b) ∷ nodes_from a.size nodes (i + 1) rest)) t v) (sym here)
         (at_join whole next (f ((block, used_cells a.size bytes) ∷ nodes_from a.size nodes (i + 1) rest)) t u v at_next now))
-
--- a block that was not usable was not told
-pub never_told : (a : Area) (block count : ℕ) (rest path : List (ℕ × ℕ)) (t : Tx) (bytes : List ℕ) → path ≡ (block, count) ∷ rest → AreShownUsable a t path → AreBytesOf t (a.start + block) bytes → (IsUsable a.size bytes count → ⊥)
-    → (A : Array) → t.base ≡ Some A → ⊥
-never_told a block count rest path t bytes is usable are not A told =
-    not (subst (λ (b : List ℕ). IsUsable a.size b count) (sym (are A told)) (subst (λ (p : List (ℕ × ℕ)). Rattle.iso_tree.specs.Rows.ArePathUsable a (own A t.accesses) p) is (usable A told)).0)
-
-pub again_stopped : {R : Type 0} (p : Program R) (t u : Tx) (a : Access) → u ≡ with_accesses t (a ∷ []) → ((A : Array) → t.base ≡ Some A → ⊥) → Stopped p t u
-again_stopped p t u a is never = record {
-  began = record { done = a ∷ []; is = is; told = λ A told. absurd (never A told) };
-  fewer = λ A told. absurd (never A told);
-}
 
 -- what stands on the path is usable after a read too
 pub shown_after : (a : Area) (block count : ℕ) (rest path : List (ℕ × ℕ)) (t u : Tx) (b : ℕ) → path ≡ (block, count) ∷ rest → u ≡ with_accesses t (look_access b [] ∷ []) → AreShownUsable a t path → AreShownUsable a u rest

@@ -1,10 +1,9 @@
 -- A scan, node by node.
-use Rattle.iso_tree.proofs.Words.{◌≡◌, ◌⊎◌, inl, inr, ◌∙◌, sym, refl, ap, subst, ℕ, zero, suc, ◌+◌, ◌-◌, ◌<◌, ◌&&◌, Bool, true, false, cond, List, [], ◌∷◌, ◌++◌, length, map, take, Result, Ok, Err, IfOk, arith, eq-eqb, ne_eqb, list_all, AllByRecursion, and_parts, append-nil, Area, StoreError, is_key, Program, Done, Look, LookWhole, Reserve, Store, then_do, is_part, keys_mark, child_of, is_child, is_node, and_then, first_in, many_in, pairs_with, parts_of, scan_below, scan_children, scan_from, scan_further, scan_program, with_head, Scanned, scan_op, tree_map, IsTreeRegion, Tx, Ran, HasEnded, HasRun, IsLocalCall, WantsMemory, IsAt, at_start, at_then, began_at, ran_at, began_from, ended_from, run_from, scanned_ok, cut_then, Visit, keys_of, node_read, scan_nodes, values_of, visit_program, AreIn, HasScanned, IsVisited, head_program}
+use Rattle.iso_tree.proofs.Words.{◌≡◌, ◌⊎◌, inl, inr, ◌∙◌, sym, refl, ap, subst, ℕ, zero, suc, ◌+◌, ◌-◌, ◌<◌, ◌&&◌, Bool, true, false, cond, List, [], ◌∷◌, ◌++◌, length, map, take, Result, Ok, Err, IfOk, arith, eq-eqb, ne_eqb, list_all, AllByRecursion, and_parts, append-nil, Area, StoreError, is_key, Program, Done, Look, LookWhole, Reserve, Store, then_do, is_part, keys_mark, child_of, is_child, is_node, and_then, first_in, many_in, pairs_with, parts_of, scan_below, scan_children, scan_from, scan_further, scan_program, with_head, Scanned, scan_op, tree_map, IsTreeRegion, Tx, Ran, HasEnded, HasRun, IsLocalCall, WantsMemory, IsAt, at_start, at_then, began_at, ran_at, began_from, ended_from, run_from, scanned_ok, Visit, keys_of, node_read, scan_nodes, values_of, visit_program, AreIn, HasScanned, IsVisited, head_program, at_as, refused_then}
 use Rattle.std.proofs.Common.{append_assoc, length-append}
 use Rattle.store_model.specs.declared.stores.StoreError.TheVariants as store
 use Rattle.store_model.specs.declared.stores.TxError.TheVariants as error
 use Rattle.iso_tree.proofs.Getting.{head_at}
-use Rattle.iso_tree.proofs.Looking.{at_as}
 use Rattle.iso_tree.proofs.ScanCalls.{scan_call}
 use Rattle.iso_tree.proofs.Visiting.{children_in, inner_parts, parts_are}
 
@@ -22,21 +21,6 @@ then_done (Look block mark further next) = λ i. Look block mark further (λ xs 
 then_done (LookWhole block next) = λ i. LookWhole block (λ xs. then_done (next xs) i)
 then_done (Reserve count next) = λ i. Reserve count (then_done next i)
 then_done (Store block spans bytes next) = λ i. Store block spans bytes (then_done next i)
-
--- a refusal of the first part is one of the whole
-pub refused_then : {X Y : Type 0} (p : Program (Result X StoreError)) (f : Result X StoreError → Program (Result Y StoreError)) (t u : Tx) (e : StoreError) → f (Err e) ≡ Done (Err e)
-    → HasRun p t u (Err e) → HasRun (then_do p f) t u (Err e)
-refused_then {X = X} {Y = Y} p f t u e ends run =
-    let so : (x : StoreError) → f (Err x) ≡ Done (Err x) → Ran p t u (Err x) → Ran (then_do p f) t u (Err x) =
-    λ x end ran. ran_at (then_do p f) t u (Err x) (at_as (then_do p f) _ _ t u end (at_then (then_do p f) p f t t u (Err x) (at_start (then_do p f) t) ran)) in
-    elim e as (λ (x : StoreError). f (Err x) ≡ Done (Err x) → HasRun p t u (Err x) → HasRun (then_do p f) t u (Err x)) [
-      | store.BadKey ↦ so store.BadKey
-      | store.BadValue ↦ so store.BadValue
-      | store.NoBlocks need free ↦ so (store.NoBlocks need free)
-      | store.Broken block ↦ so (store.Broken block)
-      | store.Tx x ↦ λ end cut. cut_then p f t u x cut
-      | store.Memory ↦ λ end none. none
-    ] ends run
 
 -- WHAT FOLLOWS THE READ OF A NODE
 module _ (a : Area) (from to : List ℕ) where

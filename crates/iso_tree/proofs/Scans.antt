@@ -27,10 +27,6 @@ take_none zero [] none = refl
 take_none zero (x ∷ xs) none = refl
 take_none (suc n) xs none = absurd (omega arith)
 
-drop_none : {X : Type 0} (xs : List X) → drop 0 xs ≡ xs
-drop_none [] = refl
-drop_none (x ∷ xs) = refl
-
 module _ (from to : List ℕ) where
   inside : (key : List ℕ) → before key from ≡ false → before key to ≡ true → is_within from to key ≡ true
   inside key past early = and_from _ _ (ap not past) early

@@ -1,5 +1,5 @@
 -- What the proofs say of trees and of what a put makes of them.
-use Rattle.iso_tree.proofs.Words.{AllByRecursion, before, Cell, child_of, Tree, tree_at, AreAfter, put_after, Put, fit}
+use Rattle.iso_tree.proofs.Words.{AllByRecursion, before, Cell, child_of, Tree, tree_at, AreAfter, put_after, Put, fit, length, ◌≡◌, refl, ap, suc, Option, Some, List, [], ◌∷◌}
 use Rattle.std.specs.Prelude.{◌≡◌, ℕ, zero, suc, ◌≤◌, ◌&&◌, ◌==◌, cond, List, [], ◌∷◌, ◌++◌, Option, Some, None, length, map}
 
 abbrev pub kids : (ℕ → List Cell) → (level : ℕ) → List Cell → List (List ℕ × Tree level)
@@ -82,3 +82,10 @@ IsLoose n (suc level) t = (2 ≤ length t.1) × (length t.1 ≤ suc n) × AllByR
 
 abbrev pub AreSized : (n level : ℕ) → List (List ℕ × Tree level) → Type 0
 AreSized n level cs = AllByRecursion (λ (c : List ℕ × Tree level). (length c.0 ≤ 28) × IsSized n level c.1) cs
+
+pub length-kids : (cells : ℕ → List Cell) (level : ℕ) (cs : List Cell) → length (kids cells level cs) ≡ length cs
+length-kids cells level [] = refl
+length-kids cells level (c ∷ cs) = ap suc (length-kids cells level cs)
+
+pub same_some : {X : Type 0} (x y : X) → ◌≡◌ {A = Option X} (Some x) (Some y) → x ≡ y
+same_some x y e = cc

@@ -1,6 +1,6 @@
 -- What a put makes of a tree.
 use Rattle.iso_tree.proofs.Words.{◌≡◌, ◌≢◌, ◌∙◌, sym, refl, ap, subst, ℕ, zero, suc, ◌<◌, ◌≤◌, true, false, cond, nat_le, IsTrue, List, [], ◌∷◌, ◌++◌, take, drop, length, map, Option, Some, None, arith, inl, inr, eq-eqb, ne_eqb, flat_map, AllByRecursion, nat_tests, append-nil, map-append, take-append-drop, length-take, length-drop, flat_map-append, text_of, before, Cell, child_of, in_range, Tree, tree_at, pairs_in, nodes_in, IsApart, AreAfter, AreChildren, Rise, IsOrdered, Put, first_key, without_first, half, halves, fit, IsIn}
-use Rattle.iso_tree.proofs.Shapes.{kids, IsGrown, write_cells, written, second_kid, IsFitCell, IsSized, IsLoose, AreSized}
+use Rattle.iso_tree.proofs.Shapes.{kids, IsGrown, write_cells, written, second_kid, IsFitCell, IsSized, IsLoose, AreSized, length-kids, same_some}
 use Rattle.iso_tree.proofs.Order.{cut_after, cut_above, cut_rise, all_left, all_right}
 use Rattle.iso_tree.proofs.Blocks.{in_front, in_back, apart_parts, kids_kept}
 
@@ -44,9 +44,6 @@ false_true e = cc
 none_some : (s : List ℕ × ℕ) → ◌≡◌ {A = Option (List ℕ × ℕ)} None (Some s) → ⊥
 none_some s e = cc
 
-some_is : (r s : List ℕ × ℕ) → ◌≡◌ {A = Option (List ℕ × ℕ)} (Some r) (Some s) → r ≡ s
-some_is r s e = cc
-
 -- the two writes of a split
 module _ (cells : ℕ → List Cell) (level block new : ℕ) (L R : List Cell) (other : block ≢ new) where
   two_here : written cells ((block, level, L) ∷ (new, level, R) ∷ []) block ≡ L
@@ -82,7 +79,7 @@ leaf_halves n cells block cs (new ∷ news) some less apart long e =
       nodes = (block ∷ new ∷ [], (block ∷ [], [], refl, refl), refl);
       kept = λ k not none. two_other cells zero block new L R other k not none;
       blocks = refl;
-      new = λ s is. inl (ap (λ p. p.1) (some_is _ s is));
+      new = λ s is. inl (ap (λ p. p.1) (same_some _ s is));
       sized = λ is.
           let all : AllByRecursion IsFitCell (L ++ R) = subst (AllByRecursion IsFitCell) (sym whole) is.1 in
           let left = all_left IsFitCell L R all in
@@ -109,10 +106,6 @@ fit_leaf n cells block cs news some less apart enough =
       }
       | false ↦ λ b e. leaf_halves n cells block cs news some less apart (le_false (length cs) n b) e
     ] refl enough
-
-length-kids : (cells : ℕ → List Cell) (level : ℕ) (cs : List Cell) → length (kids cells level cs) ≡ length cs
-length-kids cells level [] = refl
-length-kids cells level (c ∷ cs) = ap suc (length-kids cells level cs)
 
 length-without : (R : List Cell) → length (without_first R) ≡ length R
 length-without [] = refl
@@ -200,7 +193,7 @@ inner_split n level cells block cs (new ∷ news) some less apart long e =
       );
       kept = λ k not none. two_other cells (suc level) block new L W other k not none;
       blocks = refl;
-      new = λ s is. inl (ap (λ p. p.1) (some_is _ s is));
+      new = λ s is. inl (ap (λ p. p.1) (same_some _ s is));
       sized = λ is.
           let all : AreSized n level (kids cells level L ++ kids cells level R) =
           subst (AreSized n level) (ap (kids cells level) (sym whole) ∙ map-append (λ c. (c.0, tree_at cells level (child_of c.1))) L R) is.2 in

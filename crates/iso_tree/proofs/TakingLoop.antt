@@ -1,9 +1,6 @@
 -- The loop that takes free blocks, lowest first.
 use Rattle.iso_tree.proofs.Words.{◌≡◌, ◌∙◌, sym, refl, ap, ℕ, zero, suc, ◌+◌, ◌-◌, ◌<◌, ◌≤◌, ◌==◌, ◌||◌, Bool, true, false, not, cond, List, [], ◌∷◌, ◌++◌, take, length, Option, Some, None, arith, ne_eqb, set, filter, range_with_len, take_at, first_from, map_bit, with_bit, lowest_free, with_used}
 
-no_some : (b : ℕ) → ◌≡◌ {A = Option ℕ} None (Some b) → ⊥
-no_some b e = cc
-
 same_some : (i j : ℕ) → ◌≡◌ {A = Option ℕ} (Some i) (Some j) → i ≡ j
 same_some i j e = cc
 
@@ -11,7 +8,7 @@ some_none : (i : ℕ) → ◌≡◌ {A = Option ℕ} (Some i) None → ⊥
 some_none i e = cc
 
 first_of_filter : (p : ℕ → Bool) (from n b : ℕ) → first_from p from n ≡ Some b → filter p (range_with_len from n) ≡ b ∷ filter p (range_with_len (b + 1) (from + n - (b + 1)))
-first_of_filter p from zero b e = absurd (no_some b e)
+first_of_filter p from zero b e = absurd (cc e)
 first_of_filter p from (suc n) b e =
     elim (p from) as (λ t. cond t (Some from) (first_from p (from + 1) n) ≡ Some b
     → cond t (from ∷ filter p (range_with_len (from + 1) n)) (filter p (range_with_len (from + 1) n)) ≡ b ∷ filter p (range_with_len (b + 1) (from + suc n - (b + 1)))) [

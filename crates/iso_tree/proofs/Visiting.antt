@@ -1,24 +1,15 @@
 -- The read of a node that a scan visits, and what follows from its bytes.
-use Rattle.iso_tree.proofs.Words.{◌≡◌, ◌∙◌, sym, refl, ap, ℕ, zero, suc, ◌+◌, ◌-◌, ◌*◌, ◌<◌, ◌≤◌, ◌&&◌, ◌==◌, not, Bool, true, false, cond, List, [], ◌∷◌, ◌++◌, length, take, drop, slice_index, nat_le, Option, Some, None, Ok, Err, arith, inl, inr, eq-eqb, ne_eqb, list_all, AllByRecursion, ForSome, and_parts, cases_eq, leb-true, append-nil, drop-drop, Access, Span, Area, TxError, own, marked, block_at, Done, bytes_in, further_bytes, with_further, look_access, is_part, is_zero, key_at, keys_mark, text_of, is_child, is_node, child_of, first_in, many_in, pairs_with, parts_of, scan_further, is_part_at, Tx, Device, with_accesses, Ran, IsCause, IsCut, marked_access, at_start, cut_at_look, keys_of, node_read, values_mark, visit_program}
+use Rattle.iso_tree.proofs.Words.{◌≡◌, ◌∙◌, sym, refl, ap, ℕ, zero, suc, ◌+◌, ◌-◌, ◌*◌, ◌<◌, ◌≤◌, ◌&&◌, ◌==◌, not, Bool, true, false, cond, List, [], ◌∷◌, ◌++◌, length, take, drop, slice_index, nat_le, Option, Some, None, Ok, Err, arith, inl, inr, eq-eqb, ne_eqb, list_all, AllByRecursion, ForSome, and_parts, cases_eq, leb-true, append-nil, drop-drop, Access, Span, Area, TxError, own, marked, block_at, Done, bytes_in, further_bytes, with_further, look_access, is_part, is_zero, key_at, keys_mark, text_of, is_child, is_node, child_of, first_in, many_in, pairs_with, parts_of, scan_further, is_part_at, Tx, Device, with_accesses, Ran, IsCause, IsCut, marked_access, at_start, cut_at_look, keys_of, node_read, values_mark, visit_program, are_key_parts, cell_count, count_of}
 use Rattle.std.proofs.Common.{append_assoc, length-append}
 use Rattle.store_model.specs.declared.stores.StoreError.TheVariants as store
-use Rattle.iso_tree.proofs.Facts.{child_below}
+use Rattle.iso_tree.proofs.Facts.{child_below, inner_many, node_parts}
 use Rattle.iso_tree.proofs.Looking.{looked, looked_so}
 use Rattle.iso_tree.proofs.ScanTrees.{take_nil, take_zero}
 
--- VALUE PARTS
--- whether a value part is that of a cell, in a leaf and in an inner node
-pub leaf_part : (a : Area) (level : ℕ) (part : List ℕ) → level ≡ 0 → is_part_at a level part ≡ is_part 32 part
-leaf_part a zero part is = refl
-leaf_part a (suc level) part is = absurd (omega arith)
-
+-- whether a value part is that of a cell of an inner node
 pub inner_part : (a : Area) (level : ℕ) (part : List ℕ) → (level ≡ 0 → ⊥) → is_part_at a level part ≡ is_child a.blocks part
 inner_part a zero part is = absurd (is refl)
 inner_part a (suc level) part is = refl
-
-pub leaf_parts : (a : Area) (level : ℕ) (parts : List (List ℕ)) → level ≡ 0 → list_all (is_part_at a level) parts ≡ list_all (is_part 32) parts
-leaf_parts a level [] is = refl
-leaf_parts a level (part ∷ parts) is = (λ i. leaf_part a level part is i && leaf_parts a level parts is i)
 
 pub inner_parts : (a : Area) (level : ℕ) (parts : List (List ℕ)) → (level ≡ 0 → ⊥) → list_all (is_part_at a level) parts ≡ list_all (is_child a.blocks) parts
 inner_parts a level [] is = refl
@@ -59,6 +50,21 @@ marked_so t u w b keys values many is none some =
       | inl empty ↦ none empty ∙ is ∙ ap access (sym (eq-eqb many 0 empty))
       | inr other ↦ marked_access t u w (look_access b (keys ∷ [])) values is (some (omega arith)) ∙ ap access (sym (ne_eqb many 0 other))
     ]
+
+-- the head and key parts of a node that is well formed, as a piece of its bytes
+pub record AreKeysOf (a : Area) (level : ℕ) (bytes keys : List ℕ) : Type 0 where
+  pub same : keys ≡ keys_of a bytes
+  pub node : is_node a.size level (keys_of a bytes) ≡ true
+  pub parts : are_key_parts a.size keys ≡ true
+  pub few : count_of keys ≤ cell_count a.size
+  pub some : 0 < level → 0 < count_of keys
+
+pub keys_read : (a : Area) (level : ℕ) (bytes keys : List ℕ) (n : ℕ) (passes : Bool) → keys ≡ take (64 + 31 * n) (drop 0 bytes) → n ≡ cell_count a.size → passes ≡ is_node a.size level keys → passes ≡ true → AreKeysOf a level bytes keys
+keys_read a level bytes keys n passes is cells test good =
+    let same : keys ≡ keys_of a bytes = is ∙ ap (λ (m : ℕ). take (64 + 31 * m) (drop 0 bytes)) cells in
+    let node : is_node a.size level keys ≡ true = sym test ∙ good in
+    let shape = node_parts a.size level keys node in
+    record { same = same; node = ap (is_node a.size level) (sym same) ∙ node; parts = shape.parts; few = shape.few; some = λ high. omega (arith, inner_many a.size level keys node high) }
 
 module _ (a : Area) (from to : List ℕ) (level : ℕ) (bytes : List ℕ) (first many : ℕ) (node : is_node a.size level (keys_of a bytes) ≡ true)
     (first_is : first ≡ first_in level from (keys_of a bytes)) (many_is : many ≡ many_in level from to (keys_of a bytes)) where

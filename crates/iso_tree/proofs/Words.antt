@@ -20,8 +20,9 @@ pub use Rattle.std.specs.Str.{bytes_eq}
 pub use Rattle.std.specs.declared.cmp.Ordering.{Ordering}
 pub use Rattle.std.specs.declared.cmp.Ordering.TheVariants.{Equal, Greater, Less}
 pub use Rattle.iso_alloc.proofs.Bits.{with_bits}
+pub use Rattle.iso_alloc.proofs.Finding.{ties, not_bytes_eq, found_in, find_append}
 pub use Rattle.iso_alloc.proofs.Laying.{laid_here}
-pub use Rattle.iso_alloc.proofs.Loops.{all_at, all_end, all_fails, all_goes_on, first_found, first_goes_on}
+pub use Rattle.iso_alloc.proofs.Loops.{all_at, all_end, all_fails, all_goes_on, first_found, first_goes_on, first_passes}
 pub use Rattle.iso_model.proofs.Bytes.{length-block_own, length-block_put, length-merged, merged_at, merged_kept, other_block, written_block}
 pub use Rattle.iso_model.specs.Array.{Array, covered, in_span, merged, put}
 pub use Rattle.iso_model.specs.Conflict.{first_from}
@@ -32,7 +33,8 @@ pub use Rattle.iso_model.specs.Premises.{IsSpan, block_at}
 pub use Rattle.iso_model.specs.declared.access.Access.{Access}
 pub use Rattle.iso_model.specs.declared.access.Span.{Span}
 pub use Rattle.store_model.proofs.AreaBlocks.{in_its_area, same_block, same_first, start_in}
-pub use Rattle.store_model.proofs.Laying.{length-laid_at}
+pub use Rattle.store_model.proofs.HashAccesses.{first_below}
+pub use Rattle.store_model.proofs.Laying.{length-laid_at, length-part}
 pub use Rattle.store_model.specs.Areas.{in_area}
 pub use Rattle.store_model.specs.Cells.{all_from, are_key_parts, block_with, cell_count, is_part, is_unused, is_zero, key_at, key_mark, key_part, keys_end, keys_mark, laid_at, part_of, text_of, value_mark, value_part, word_at}
 pub use Rattle.store_model.specs.FreeMap.{bit_place, free_count, lowest_free, map_bit, map_bytes, map_mark, set_bit, with_bit}
@@ -51,17 +53,18 @@ pub use Rattle.store_model.specs.declared.stores.Region.{Region}
 pub use Rattle.store_model.specs.declared.stores.StoreError.{StoreError}
 pub use Rattle.store_model.specs.declared.stores.StoreError.TheVariants.{BadKey, BadValue, Broken, NoBlocks}
 pub use Rattle.store_model.specs.declared.stores.TxError.{TxError}
+pub use Rattle.tx_blocks.proofs.Frames.{kept_1, kept_2, laid_all, laid_whole, piece_of, zeros_are, piece_zero, part_is_part, part_text, zero_part}
 pub use Rattle.tx_blocks.proofs.Marking.{marked_access, may_mark}
-pub use Rattle.tx_blocks.proofs.Parts.{began_from, behaves_after, cut_from, done_so, ended_from, read_join, refused_memory, refused_reading, run_from, scanned_ok}
-pub use Rattle.tx_blocks.proofs.Programs.{AreWhole, IsCorrect, accesses_then, answer_then, local_from, own_reads, reads_append, reads_then, same_bytes, whole_reads}
-pub use Rattle.tx_blocks.proofs.Progress.{IsAt, at_join, at_look, at_look_whole, at_reserve, at_start, at_store, at_then, began_at, full_at_reserve, own_append, ran_at, stopped_at, whole_run}
-pub use Rattle.tx_blocks.proofs.Refusals.{behaves_more, cause_since, cut_at_look, cut_at_store, cut_then, later_same, later_than, read_base, read_more, read_none, read_same}
+pub use Rattle.tx_blocks.proofs.Parts.{began_from, behaves_after, cut_from, done_so, ended_from, read_join, refused_memory, refused_reading, refused_then, run_from, scanned_ok}
+pub use Rattle.tx_blocks.proofs.Programs.{AreWhole, HasBlocks, IsCorrect, accesses_then, answer_then, blocks_of, cond_reads, local_from, no_ok, own_reads, reads_append, reads_then, same_bytes, same_ok, whole_append, whole_reads}
+pub use Rattle.tx_blocks.proofs.Progress.{IsAt, at_as, at_join, at_look, at_look_whole, at_reserve, at_start, at_store, at_then, began_at, full_at_reserve, own_append, ran_at, room_after, stopped_at, whole_run}
+pub use Rattle.tx_blocks.proofs.Refusals.{behaves_more, cause_since, cut_at_look, cut_at_store, cut_at_whole, cut_then, later_same, later_than, read_base, read_more, read_none, read_same}
 pub use Rattle.tx_blocks.proofs.Storing.{Answers, StoresIn, answers_cond, stores_cell, stores_cond, stores_if, stores_then}
 pub use Rattle.tx_blocks.specs.Runs.{AreBytesOf, Behaves, HasEnded, HasRead, HasRun, IsCause, IsCut, IsLocalCall, Passed, Ran, Stopped, WantsMemory, area_of}
 pub use Rattle.tx_blocks.specs.Tx.{Device, IsLater, IsTx, Tx, mark_refusal, room_of, with_accesses}
 pub use Rattle.iso_tree.specs.FirstBlock.{Up, ends, first_access, first_bytes, first_spans}
 pub use Rattle.iso_tree.specs.Rows.{AreBlocks, AreInside, ArePathUsable, AreShownUsable, AreUsable, IsUsable, key_in_row, nodes_from, part_in_row, row_from, upto_from}
 pub use Rattle.iso_tree.specs.Visits.{AreIn, HasScanned, IsVisited, keys_of, node_read, scan_nodes, values_mark, values_of, visit_program}
-pub use Rattle.iso_tree.specs.Walks.{HasDescended, HasReadLeaf, IsLeaf, IsWalkError, OnlyReads, child_program, head_program, leaf_program, leaf_value}
+pub use Rattle.iso_tree.specs.Walks.{HasDescended, HasReadLeaf, HasWritten, IsFollowed, IsLeaf, IsWalkError, OnlyReads, child_program, head_program, leaf_program, leaf_value}
 pub use Rattle.iso_tree.specs.declared.descent.Leaf.{Leaf}
 pub use Rattle.iso_tree.specs.declared.visit.Visit.{Visit}

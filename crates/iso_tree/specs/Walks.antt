@@ -5,11 +5,11 @@ use Rattle.store_model.specs.declared.stores.StoreError.{StoreError}
 use Rattle.store_model.specs.declared.stores.StoreError.TheVariants as store
 use Rattle.store_model.specs.Cells.{keys_end, keys_mark}
 use Rattle.store_model.specs.Stores.{Program, Done, Look, further_bytes}
-use Rattle.tx_blocks.specs.Tx.{Tx, Device, IsLater}
-use Rattle.tx_blocks.specs.Runs.{Ran, IsCut, HasRead, IsStoreCause}
+use Rattle.tx_blocks.specs.Tx.{Tx, Device, IsLater, room_of}
+use Rattle.tx_blocks.specs.Runs.{Ran, IsCut, HasRead, HasRun, IsStoreCause}
 use Rattle.iso_tree.specs.declared.descent.Leaf.{Leaf}
 use Rattle.store_model.specs.TreeNodes.{cell_of, count_of, is_node, is_child, child_of}
-use Rattle.store_model.specs.TreeCalls.{AtLeaf, AtBroken, descend, inner_further, leaf_further, with_head}
+use Rattle.store_model.specs.TreeCalls.{Answer, AtLeaf, AtBroken, descend, inner_further, leaf_further, with_head}
 
 -- a refusal of a walk: a block is not well formed, or the transaction refuses an access
 abbrev pub IsWalkError : StoreError → Type 0
@@ -97,3 +97,15 @@ HasReadLeaf a key with_value block t u buffer (Err store.BadKey) = ⊥
 HasReadLeaf a key with_value block t u buffer (Err store.BadValue) = ⊥
 HasReadLeaf a key with_value block t u buffer (Err (store.NoBlocks need free)) = ⊥
 HasReadLeaf a key with_value block t u buffer (Err store.Memory) = ⊥
+
+-- A part of a call's program was made, and what follows it makes the whole; or the part is refused, and so is the whole.
+abbrev pub IsFollowed : (whole rest : Program Answer) → (t u : Tx) → Result (Unit {0}) StoreError → Type 0
+IsFollowed whole rest t u (Ok done) = (v : Tx) (result : Result (Unit {0}) StoreError) → HasRun rest u v result → HasRun whole t v result
+IsFollowed whole rest t u (Err e) = HasRun {X = Unit {0}} whole t u (Err e)
+
+-- the transaction after so many writes
+pub record HasWritten (n : ℕ) (t u : Tx) : Type 0 where
+  pub size : u.size ≡ t.size
+  pub blocks : u.blocks ≡ t.blocks
+  pub is_open : u.is_open ≡ t.is_open
+  pub room : room_of t ≡ n + room_of u

@@ -1,13 +1,14 @@
 // The way up of a put: the writes of nodes, from the leaf to the first one that is not full, or to a new root.
-ghost use Rattle.std.specs.Prelude.{◌≡◌, ◌+◌, ◌-◌, ◌*◌, ◌<◌, ◌≤◌, OnOk, OnErr, IfErr, IfSome, IfNone, Ok, length, take, [], ◌∷◌, true};
+ghost use Rattle.std.specs.Prelude.{◌≡◌, ◌+◌, ◌-◌, ◌*◌, ◌<◌, ◌≤◌, OnOk, IfErr, IfSome, IfNone, Ok, length, take, [], ◌∷◌, true};
 ghost use Rattle.store_model.specs.Cells.{are_key_parts, cell_count, keys_end};
-ghost use Rattle.store_model.specs.Stores.{store_access, Done, Store};
-ghost use Rattle.tx_blocks.specs.Tx.{room_of, with_accesses};
-ghost use Rattle.tx_blocks.specs.Runs.{HasRun, IsCause};
+ghost use Rattle.store_model.specs.Stores.{Done, Program, Store};
+ghost use Rattle.tx_blocks.specs.Tx.{room_of};
+ghost use Rattle.tx_blocks.specs.Runs.{HasRun};
 ghost use Rattle.store_model.specs.TreeNodes.{count_of, node_bytes, used_cells, Cell, IsBlock};
 ghost use Rattle.iso_tree.specs.Rows.{nodes_from, row_from, upto_from, AreBlocks, AreInside, AreUsable, IsUsable};
+ghost use Rattle.iso_tree.specs.Walks.{HasWritten, IsFollowed};
 ghost use Rattle.store_model.specs.Trees.{emptied};
-ghost use Rattle.store_model.specs.TreeCalls.{climb, need_of, placed, store_nodes};
+ghost use Rattle.store_model.specs.TreeCalls.{Answer, climb, need_of, placed, store_nodes};
 ghost use Rattle.store_model.specs.TreeRegion.{IsTreeArea};
 
 use crate::fill::{child_part, empty_first, fill_root, fill_row, row_key, upto};
@@ -31,79 +32,6 @@ fn place_in(size: usize, level: u8, key: &[u8], node: &[u8]) -> usize
         return upto(size, key, keys, 0);
     }
     1 + upto(size, key, keys, 1)
-}
-
-// Writes a node of the first cells of a row.
-fn store_left<T: TxBlocks>(
-    tx: &mut T,
-    area: Area,
-    level: u8,
-    block: u32,
-    node: &[u8],
-    place: usize,
-    key: &[u8],
-    part: &[u8],
-    count: usize,
-    into: &mut [u8],
-) -> Result<(), TxError>
-    requires area { IsTreeArea area }
-    requires block_size { IsBlock area.size }
-    requires size { (T.state tx.old).size ≡ area.size }
-    requires fits { area.start + area.blocks ≤ (T.state tx.old).blocks }
-    requires block { block < area.blocks }
-    requires node { length node.now ≡ area.size }
-    requires into { length into.old ≡ area.size }
-    requires parts { are_key_parts area.size (take (keys_end area.size) node.now) ≡ true }
-    requires place { place ≤ cell_count area.size }
-    requires key { length key.now ≤ 28 }
-    requires part { length part.now ≡ 33 }
-    requires count { count ≤ cell_count area.size }
-    ensures stored { OnOk result (T.state tx.new ≡ with_accesses (T.state tx.old) (store_access (area.start + block) [] (node_bytes area.size level (row_from area.size node.now place (key.now, part.now) 0 count)) ∷ [])) }
-    ensures kept { OnErr result (T.state tx.new ≡ T.state tx.old) }
-    ensures cause { IfErr result (IsCause (T.state tx.new) 1 (T.device tx.old) (T.device tx.new)) }
-    ensures room { 0 < room_of (T.state tx.old) → (T.state tx.old).is_open ≡ true → IfErr result (λ e. e ≡ TxError.Memory) }
-    ensures device { T.device tx.new ≡ T.device tx.old }
-{
-    fill_row(into, level, node, place, key, part, 0, count);
-    store(tx, area.start + block, &[], into)
-}
-
-// Writes a node of the last cells of a row; in an inner node the first key becomes empty.
-fn store_right<T: TxBlocks>(
-    tx: &mut T,
-    area: Area,
-    level: u8,
-    block: u32,
-    node: &[u8],
-    place: usize,
-    key: &[u8],
-    part: &[u8],
-    from: usize,
-    count: usize,
-    into: &mut [u8],
-) -> Result<(), TxError>
-    requires area { IsTreeArea area }
-    requires block_size { IsBlock area.size }
-    requires size { (T.state tx.old).size ≡ area.size }
-    requires fits { area.start + area.blocks ≤ (T.state tx.old).blocks }
-    requires block { block < area.blocks }
-    requires node { length node.now ≡ area.size }
-    requires into { length into.old ≡ area.size }
-    requires parts { are_key_parts area.size (take (keys_end area.size) node.now) ≡ true }
-    requires place { place ≤ cell_count area.size }
-    requires key { length key.now ≤ 28 }
-    requires part { length part.now ≡ 33 }
-    requires inside { from + count ≤ cell_count area.size + 1 }
-    requires some { 1 ≤ count }
-    requires count { count ≤ cell_count area.size }
-    ensures stored { OnOk result (T.state tx.new ≡ with_accesses (T.state tx.old) (store_access (area.start + block) [] (node_bytes area.size level (emptied level (row_from area.size node.now place (key.now, part.now) from count))) ∷ [])) }
-    ensures kept { OnErr result (T.state tx.new ≡ T.state tx.old) }
-    ensures cause { IfErr result (IsCause (T.state tx.new) 1 (T.device tx.old) (T.device tx.new)) }
-    ensures room { 0 < room_of (T.state tx.old) → (T.state tx.old).is_open ≡ true → IfErr result (λ e. e ≡ TxError.Memory) }
-    ensures device { T.device tx.new ≡ T.device tx.old }
-{
-    fill_right(into, level, node, place, key, part, from, count);
-    store(tx, area.start + block, &[], into)
 }
 
 // A node of the last cells of a row; in an inner node the first key becomes empty.
@@ -158,13 +86,14 @@ fn first_new(news: &[u32]) -> Option<(u32, &[u32])>
     }
 }
 
-// Writes the last node of a way up.
-fn store_last<T: TxBlocks>(tx: &mut T, block: u32, bytes: &[u8]) -> Result<(), StoreError>
+// Writes a node of a way up.
+fn store_next<T: TxBlocks>(tx: &mut T, block: u32, bytes: &[u8]) -> Result<(), StoreError>
     requires bytes { length bytes.now ≡ (T.state tx.old).size }
     requires block { block < (T.state tx.old).blocks }
     requires room { 0 < room_of (T.state tx.old) }
     requires is_open { (T.state tx.old).is_open ≡ true }
-    ensures run { HasRun (Store block [] bytes.now (Done (Ok tt))) (T.state tx.old) (T.state tx.new) result }
+    ensures run { (rest : Program Answer) → IsFollowed (Store block [] bytes.now rest) rest (T.state tx.old) (T.state tx.new) result }
+    ensures after { OnOk result (HasWritten 1 (T.state tx.old) (T.state tx.new)) }
     ensures memory { IfErr result (λ e. e ≡ StoreError.Tx TxError.Memory) }
     ensures device { T.device tx.new ≡ T.device tx.old }
 {
@@ -172,6 +101,52 @@ fn store_last<T: TxBlocks>(tx: &mut T, block: u32, bytes: &[u8]) -> Result<(), S
         Ok(()) => Ok(()),
         Err(e) => Err(StoreError::Tx(e)),
     }
+}
+
+// Writes a full node with its new cell as two: the first cells in its place, the others in a new block.
+fn store_halves<T: TxBlocks>(
+    tx: &mut T,
+    area: Area,
+    level: u8,
+    block: u32,
+    new: u32,
+    node: &[u8],
+    place: usize,
+    key: &[u8],
+    part: &[u8],
+    half: usize,
+    others: usize,
+    into: &mut [u8],
+) -> Result<(), StoreError>
+    requires area { IsTreeArea area }
+    requires block_size { IsBlock area.size }
+    requires size { (T.state tx.old).size ≡ area.size }
+    requires fits { area.start + area.blocks ≤ (T.state tx.old).blocks }
+    requires is_open { (T.state tx.old).is_open ≡ true }
+    requires room { 1 < room_of (T.state tx.old) }
+    requires block { block < area.blocks }
+    requires new { new < area.blocks }
+    requires node { length node.now ≡ area.size }
+    requires into { length into.old ≡ area.size }
+    requires parts { are_key_parts area.size (take (keys_end area.size) node.now) ≡ true }
+    requires place { place ≤ cell_count area.size }
+    requires key { length key.now ≤ 28 }
+    requires part { length part.now ≡ 33 }
+    requires inside { half + others ≤ cell_count area.size + 1 }
+    requires half { half ≤ cell_count area.size }
+    requires some { 1 ≤ others }
+    requires others { others ≤ cell_count area.size }
+    ensures run { (rest : Program Answer) → IsFollowed (Store (area.start + block) [] (node_bytes area.size level (row_from area.size node.now place (key.now, part.now) 0 half)) (Store (area.start + new) [] (node_bytes area.size level (emptied level (row_from area.size node.now place (key.now, part.now) half others))) rest)) rest (T.state tx.old) (T.state tx.new) result }
+    ensures after { OnOk result (HasWritten 2 (T.state tx.old) (T.state tx.new)) }
+    ensures memory { IfErr result (λ e. e ≡ StoreError.Tx TxError.Memory) }
+    ensures device { T.device tx.new ≡ T.device tx.old }
+{
+    fill_row(into, level, node, place, key, part, 0, half);
+    if let Err(e) = store_next(tx, area.start + block, into) {
+        return Err(e);
+    }
+    fill_right(into, level, node, place, key, part, half, others);
+    store_next(tx, area.start + new, into)
 }
 
 // Writes a node with its new cell, the last one of a way up.
@@ -206,7 +181,7 @@ fn store_grown<T: TxBlocks>(
     ensures device { T.device tx.new ≡ T.device tx.old }
 {
     fill_row(into, level, node, place, key, part, 0, count);
-    store_last(tx, area.start + block, into)
+    store_next(tx, area.start + block, into)
 }
 
 /// The writes from a node of a level up, which gets a new cell; the path begins with that node, and the nodes' bytes stand from
@@ -251,7 +226,7 @@ pub fn climb<T: TxBlocks>(
             return Ok(());
         };
         fill_root(into, level, below, new_key, part);
-        return store_last(tx, area.start + root, into);
+        return store_next(tx, area.start + root, into);
     };
     let bytes = piece(nodes, i * size, size);
     let place = place_in(size, level, key, bytes);
@@ -266,15 +241,10 @@ pub fn climb<T: TxBlocks>(
     };
     let half = (count as usize + 1) / 2;
     let others = count as usize + 1 - half;
-    if let Err(e) = store_left(
-        tx, area, level, block, bytes, place, new_key, part, half, into,
+    if let Err(e) = store_halves(
+        tx, area, level, block, new, bytes, place, new_key, part, half, others, into,
     ) {
-        return Err(StoreError::Tx(e));
-    }
-    if let Err(e) = store_right(
-        tx, area, level, new, bytes, place, new_key, part, half, others, into,
-    ) {
-        return Err(StoreError::Tx(e));
+        return Err(e);
     }
     let keys = piece(bytes, 0, 64 + 31 * cell_count(size));
     let separator = row_key(size, keys, place, new_key, half);

@@ -1,41 +1,19 @@
 -- Why the calls of a transaction are refused.
-use Rattle.std.proofs.Common.{◌≡◌, ◌∙◌, sym, refl, ap, ℕ, ◌+◌, ◌-◌, ◌*◌, ◌<◌, ◌≤◌, true, false, List, [], length, Some, None, Result, Ok, Err, IfErr, nat_le, take, drop, arith}
-use Rattle.std.proofs.lemmas.Bool.Decides.{nat_tests}
+use Rattle.std.proofs.Common.{◌≡◌, ◌∙◌, sym, refl, ap, ℕ, ◌+◌, ◌-◌, ◌*◌, ◌<◌, true, false, List, [], length, Some, None, Result, Ok, Err, take, drop, arith}
 use Rattle.std.proofs.lemmas.List.FromFn.{get_or-map-range_with_len}
 use Rattle.iso_model.specs.declared.access.MarkError.{MarkError}
 use Rattle.store_model.specs.declared.stores.TxError.{TxError}
-use Rattle.store_model.specs.declared.stores.TxError.TheVariants as error
 use Rattle.iso_model.specs.Marks.{mark_fault, marked}
 use Rattle.iso_model.specs.declared.access.Access.{Access}
 use Rattle.iso_model.specs.declared.access.Span.{Span}
 use Rattle.std.proofs.Common.{suc, ◌∷◌, OnOk}
 use Rattle.tx_table.specs.Work.{Doing, span_at}
 use Rattle.iso_model.specs.Premises.{block_at}
-use Rattle.tx_blocks.specs.Tx.{Tx, access_refusal, mark_refusal, marking, IsRefused}
+use Rattle.tx_blocks.specs.Tx.{Tx, mark_refusal, marking, IsRefused}
 use Rattle.plain_tx.specs.Plain.{blocks_of}
-
-pub refused_block : (t : Tx) (block : ℕ) (free : TxError → Type 0) → t.is_open ≡ true → t.blocks ≤ block → IsRefused {T = Unit {0}} (access_refusal t block) free (Err error.BadBlock)
-refused_block t block free is_open past =
-    let test : nat_le t.blocks block ≡ true = grind (arith, nat_tests) in
-    rw (is_open, test) refl
-
-pub refused_count : (t : Tx) (block : ℕ) (free : TxError → Type 0) → t.is_open ≡ true → block < t.blocks → 4096 ≤ length t.accesses → IsRefused {T = Unit {0}} (access_refusal t block) free (Err error.TooManyAccesses)
-refused_count t block free is_open inside many =
-    let test : nat_le t.blocks block ≡ false = grind (arith, nat_tests) in
-    let full : nat_le 4096 (length t.accesses) ≡ true = grind (arith, nat_tests) in
-    rw (is_open, test, full) refl
-
-pub refused_freely : (t : Tx) (block : ℕ) (free : TxError → Type 0) (r : Result (Unit {0}) TxError) → t.is_open ≡ true → block < t.blocks → length t.accesses < 4096 → IfErr r free → IsRefused (access_refusal t block) free r
-refused_freely t block free r is_open inside few cause =
-    let test : nat_le t.blocks block ≡ false = grind (arith, nat_tests) in
-    let room : nat_le 4096 (length t.accesses) ≡ false = grind (arith, nat_tests) in
-    rw (is_open, test, room) cause
 
 pub mark_refused : (t : Tx) (off len : ℕ) (fault : MarkError) (e : TxError) → t.is_open ≡ true → mark_fault t.size off len t.accesses ≡ Some fault → marking fault ≡ e → IsRefused {T = Unit {0}} (mark_refusal t off len) (λ x. ⊥) (Err e)
 mark_refused t off len fault e is_open is same = rw (is_open, is, same) refl
-
-pub mark_taken : (t : Tx) (off len : ℕ) (x : Unit {0}) → t.is_open ≡ true → mark_fault t.size off len t.accesses ≡ None → IsRefused (mark_refusal t off len) (λ e. ⊥) (Ok x)
-mark_taken t off len x is_open none = rw (is_open, none) tt
 
 -- a block of the array
 pub block_of : (size count : ℕ) (bytes : List ℕ) (b : ℕ) → b < count → block_at (blocks_of size count bytes) b ≡ take size (drop (b * size) bytes)

@@ -117,3 +117,24 @@ module _ (t u : Tx) (before now : Device) (writes : ℕ) (ended : ℕ → Array 
   file_stops fs.BadRange cause = replies reply.BadRange cause
   file_stops fs.Exists cause = replies reply.Exists cause
   file_stops (fs.Store e) cause = stops_err e cause
+
+-- A store's call that is refused, as its refusal is told: what it has done, and why it has no reply.
+module _ {R : Type 0} (t u : Tx) (answer : R → Reply) (before now : Device) (writes : ℕ) (opened : t.is_open ≡ true) (r : Result Reply Stop) where
+  abbrev Both : (ℕ → Array → List Access × Reply) → Result Reply Stop → Type 0
+  Both call told = HasCalled call t u told × Stops before now told
+
+  pub refused : (p : Program (Result R StoreError)) (e : StoreError) → r ≡ refusal_of e → HasEnded p t u (Err e) → IsStoreCause u writes before now e → Both (λ room A. stored answer (outcome room p A)) r
+  refused p e is ended cause =
+      let called = called_err p t u answer e ended in
+      subst (Both (λ room A. stored answer (outcome room p A))) (sym is) (called, stops_err t u before now writes _ _ opened called e cause)
+
+  pub scan_refused : (p : Program (Result R StoreError)) (e : StoreError) → r ≡ refusal_of e → HasRun p t u (Err e) ⊎ WantsMemory p t u (Err e) → IsStoreCause u writes before now e
+      → Both (λ room A. stored answer (outcome room p A)) r
+  scan_refused p e is ended cause =
+      let called = scanned_err p t u answer e ended in
+      subst (Both (λ room A. stored answer (outcome room p A))) (sym is) (called, stops_err t u before now writes _ _ opened called e cause)
+
+  pub file_refused : (p : Call R) (e : FsError) → r ≡ file_refusal_of e → HasRun p t u (Err e) → IsFsCause u writes before now e → Both (λ room A. filed answer (outcome room p A)) r
+  file_refused p e is ended cause =
+      let called = file_err p t u answer e ended in
+      subst (Both (λ room A. filed answer (outcome room p A))) (sym is) (called, file_stops t u before now writes _ _ opened called e cause)

@@ -1,7 +1,7 @@
 -- The accesses of the hash store's calls are accesses to the array.
-use Rattle.store_model.proofs.Words.{◌≡◌, ◌≢◌, ◌∙◌, sym, refl, subst, inl, inr, ℕ, zero, suc, ◌+◌, ◌-◌, ◌*◌, ◌%◌, ◌^◌, ◌<◌, ◌≤◌, Bool, true, false, ◌&&◌, ◌==◌, not, cond, IsTrue, List, [], ◌∷◌, length, Option, Some, None, IfSome, option_map, replicate, slice_index, arith, to_be_bytes, w32, AllByRecursion, and_parts, cases_Bool, false≢true, eqb-true, leb-true, ltb-true, or_cases, length-replicate, and_le_r, or_lt, xor_lt, mod-lt, mul-div-le, Geometry, Span, Area, Spot, block_with, cell_count, cell_with, key_mark, key_part, keys_end, keys_mark, laid_at, next_mark, unused_cell, value_mark, value_part, first_from, bit_mark, bit_place, clear_bit, lowest_free, map_bit, map_mark, set_bit, is_valid, AtBroken, AtCell, AtEnd, Walked, at_cell, del_at, del_program, get_program, got, is_key, is_spent, is_value, new_block, put_at, put_new, put_program, spare_in, spot_in, walk, walk_from, walk_further, with_cell, IsHashArea, bucket_of, buckets, is_linked, last_position, next_of, AreBytes, IsAccess, IsSpan, hash_area, Done, Program, store_access, bytes_cons, no_bytes, replicate_bytes}
-use Rattle.store_model.proofs.Laying.{laid_bytes, length-laid_at, length-part, part_bytes, word_bytes}
-use Rattle.store_model.proofs.StoreAccesses.{AllFit, fit_cond, fit_then}
+use Rattle.store_model.proofs.Words.{◌≡◌, ◌≢◌, ◌∙◌, sym, refl, subst, inl, inr, ℕ, zero, suc, ◌+◌, ◌*◌, ◌%◌, ◌^◌, ◌<◌, ◌≤◌, Bool, true, false, ◌&&◌, ◌==◌, not, cond, IsTrue, List, [], ◌∷◌, length, Option, Some, None, IfSome, option_map, replicate, slice_index, arith, to_be_bytes, w32, and_parts, cases_Bool, false≢true, eqb-true, leb-true, ltb-true, or_cases, length-replicate, and_le_r, or_lt, xor_lt, mod-lt, mul-div-le, Geometry, Area, Spot, block_with, cell_count, cell_with, key_mark, key_part, keys_end, keys_mark, laid_at, next_mark, unused_cell, value_mark, value_part, first_from, bit_mark, bit_place, clear_bit, lowest_free, map_bit, map_mark, set_bit, is_valid, AtBroken, AtCell, AtEnd, Walked, at_cell, del_at, del_program, get_program, got, is_key, is_spent, is_value, new_block, put_at, put_new, put_program, spare_in, spot_in, walk, walk_from, walk_further, with_cell, IsHashArea, bucket_of, buckets, is_linked, last_position, next_of, AreBytes, IsAccess, IsSpan, hash_area, Done, Program, store_access, bytes_cons, no_bytes, replicate_bytes}
+use Rattle.store_model.proofs.Laying.{block_with_bytes, laid_bytes, length-block_with, length-laid_at, length-part, part_bytes, word_bytes}
+use Rattle.store_model.proofs.StoreAccesses.{AllFit, fit_cond, fit_then, stored_in}
 
 -- the hash store of a valid image that has one
 pub hash_area_is : (g : Geometry) → IsTrue (is_valid g) → g.hash ≢ 0 → IsHashArea (hash_area g)
@@ -117,26 +117,6 @@ module _ (g : Geometry) (a : Area) (is : IsIn g a) where
   next_span : IsSpan g.block next_mark
   next_span = record { some = omega arith; fits = omega (arith, room) }
 
-  -- a write of a block of the area
-  stored : (block : ℕ) (spans : List Span) (bytes : List ℕ) → block < a.blocks → AllByRecursion (IsSpan g.block) spans → length spans ≤ 8 → length bytes ≡ a.size → AreBytes bytes
-      → IsAccess g (store_access (a.start + block) spans bytes)
-  stored block spans bytes below all few long values = record {
-    block = omega (arith, is.fits, below);
-    spans = all;
-    few = few;
-    bytes = λ write. long ∙ is.size;
-    none = λ read. cc;
-    values = values;
-  }
-
-  -- bytes laid into zeros
-  length-zeros : (at : ℕ) (bytes : List ℕ) → at + length bytes ≤ a.size → length (block_with a.size at bytes) ≡ a.size
-  length-zeros at bytes fits =
-      length-laid_at at bytes (replicate a.size 0) (omega (arith, fits, length-replicate {A = ℕ} a.size 0)) ∙ length-replicate a.size 0
-
-  zeros_bytes : (at : ℕ) (bytes : List ℕ) → AreBytes bytes → AreBytes (block_with a.size at bytes)
-  zeros_bytes at bytes values = laid_bytes at bytes (replicate a.size 0) values (replicate_bytes a.size 0 (omega arith))
-
   module _ (key value : List ℕ) (short : length key ≤ 28) (small : length value ≤ 32) (key_values : AreBytes key) (value_values : AreBytes value) where
     -- a cell laid into a block
     length-cell : (cell : ℕ) (block : List ℕ) → cell < cell_count a.size → length block ≡ a.size → length (with_cell a.size cell key value block) ≡ a.size
@@ -160,21 +140,21 @@ module _ (g : Geometry) (a : Area) (is : IsIn g a) where
         let four = length_word (bucket_of a key) in
         let five = length_word (position + 1) in
         let empty = length-replicate {A = ℕ} a.size 0 in
-        let named : length (laid_at 4 (to_be_bytes w32 (bucket_of a key)) (replicate a.size 0)) ≡ a.size = length-zeros 4 (to_be_bytes w32 (bucket_of a key)) (omega (arith, four, is.area.least_size)) in
+        let named : length (laid_at 4 (to_be_bytes w32 (bucket_of a key)) (replicate a.size 0)) ≡ a.size = length-block_with a.size 4 (to_be_bytes w32 (bucket_of a key)) (omega (arith, four, is.area.least_size)) in
         let placed : length (laid_at 8 (to_be_bytes w32 (position + 1)) (laid_at 4 (to_be_bytes w32 (bucket_of a key)) (replicate a.size 0))) ≡ a.size =
         length-laid_at 8 (to_be_bytes w32 (position + 1)) (laid_at 4 (to_be_bytes w32 (bucket_of a key)) (replicate a.size 0)) (omega (arith, five, named, is.area.least_size)) ∙ named in
         let placed_values : AreBytes (laid_at 8 (to_be_bytes w32 (position + 1)) (laid_at 4 (to_be_bytes w32 (bucket_of a key)) (replicate a.size 0))) =
-        laid_bytes 8 (to_be_bytes w32 (position + 1)) (laid_at 4 (to_be_bytes w32 (bucket_of a key)) (replicate a.size 0)) (word_bytes (position + 1)) (zeros_bytes 4 (to_be_bytes w32 (bucket_of a key)) (word_bytes (bucket_of a key))) in (
+        laid_bytes 8 (to_be_bytes w32 (position + 1)) (laid_at 4 (to_be_bytes w32 (bucket_of a key)) (replicate a.size 0)) (word_bytes (position + 1)) (block_with_bytes a.size 4 (to_be_bytes w32 (bucket_of a key)) (word_bytes (bucket_of a key))) in (
           subst (λ (n : ℕ). IsAccess g (store_access n (bit_mark block ∷ []) (block_with a.size (bit_place block) (set_bit (slice_index map (bit_place block)) block ∷ [])))) (omega arith)
-              (stored 0 (bit_mark block ∷ []) (block_with a.size (bit_place block) (set_bit (slice_index map (bit_place block)) block ∷ [])) (omega (arith, below)) (bit_span block below, tt) (omega arith)
-              (length-zeros (bit_place block) (set_bit (slice_index map (bit_place block)) block ∷ []) fits)
-              (zeros_bytes (bit_place block) (set_bit (slice_index map (bit_place block)) block ∷ []) (bytes_cons _ [] (or_lt 8 _ _ (values (bit_place block)) (bit_small block)) no_bytes))),
+              (stored_in g a is.size is.fits 0 (bit_mark block ∷ []) (block_with a.size (bit_place block) (set_bit (slice_index map (bit_place block)) block ∷ [])) (omega (arith, below)) (bit_span block below, tt) (omega arith)
+              (length-block_with a.size (bit_place block) (set_bit (slice_index map (bit_place block)) block ∷ []) fits)
+              (block_with_bytes a.size (bit_place block) (set_bit (slice_index map (bit_place block)) block ∷ []) (bytes_cons _ [] (or_lt 8 _ _ (values (bit_place block)) (bit_small block)) no_bytes))),
           (
-            stored block [] (new_block a.size (bucket_of a key) (position + 1) key value) below tt (omega arith)
+            stored_in g a is.size is.fits block [] (new_block a.size (bucket_of a key) (position + 1) key value) below tt (omega arith)
                 (length-cell 0 _ (omega (arith, some_cells)) placed) (cell_bytes 0 _ placed_values),
             (
-              stored last (next_mark ∷ []) (block_with a.size 0 (to_be_bytes w32 block)) inside (next_span, tt) (omega arith)
-                  (length-zeros 0 (to_be_bytes w32 block) (omega (arith, length_word block, is.area.least_size))) (zeros_bytes 0 (to_be_bytes w32 block) (word_bytes block)),
+              stored_in g a is.size is.fits last (next_mark ∷ []) (block_with a.size 0 (to_be_bytes w32 block)) inside (next_span, tt) (omega arith)
+                  (length-block_with a.size 0 (to_be_bytes w32 block) (omega (arith, length_word block, is.area.least_size))) (block_with_bytes a.size 0 (to_be_bytes w32 block) (word_bytes block)),
               tt,
             ),
           ),
@@ -182,13 +162,13 @@ module _ (g : Geometry) (a : Area) (is : IsIn g a) where
 
     put_fits_at : (w : Walked) → EndsIn a w → AllFit g (λ r. Unit {0}) (put_at a key value w)
     put_fits_at (AtCell spot before keys old) (here, front) = (
-      stored spot.block (value_mark a.size spot.cell ∷ []) (block_with a.size (keys_end a.size + 33 * spot.cell) (value_part value)) here.block (value_span spot.cell here.cell, tt) (omega arith)
-          (length-zeros (keys_end a.size + 33 * spot.cell) (value_part value) (omega (arith, room, is.size, here.cell, length-part 32 value small)))
-          (zeros_bytes (keys_end a.size + 33 * spot.cell) (value_part value) (part_bytes 32 value (omega (arith, small)) value_values)),
+      stored_in g a is.size is.fits spot.block (value_mark a.size spot.cell ∷ []) (block_with a.size (keys_end a.size + 33 * spot.cell) (value_part value)) here.block (value_span spot.cell here.cell, tt) (omega arith)
+          (length-block_with a.size (keys_end a.size + 33 * spot.cell) (value_part value) (omega (arith, room, is.size, here.cell, length-part 32 value small)))
+          (block_with_bytes a.size (keys_end a.size + 33 * spot.cell) (value_part value) (part_bytes 32 value (omega (arith, small)) value_values)),
       tt,
     )
     put_fits_at (AtEnd (Some spot) last position) (here, inside) = (
-      stored spot.block (key_mark spot.cell ∷ value_mark a.size spot.cell ∷ []) (with_cell a.size spot.cell key value (replicate a.size 0)) here.block (key_span spot.cell here.cell, (value_span spot.cell here.cell, tt)) (omega arith)
+      stored_in g a is.size is.fits spot.block (key_mark spot.cell ∷ value_mark a.size spot.cell ∷ []) (with_cell a.size spot.cell key value (replicate a.size 0)) here.block (key_span spot.cell here.cell, (value_span spot.cell here.cell, tt)) (omega arith)
           (length-cell spot.cell (replicate a.size 0) here.cell (length-replicate a.size 0)) (cell_bytes spot.cell (replicate a.size 0) (replicate_bytes a.size 0 (omega arith))),
       tt,
     )
@@ -209,14 +189,14 @@ module _ (g : Geometry) (a : Area) (is : IsIn g a) where
         λ xs. tt,
         λ xs ys values more. (
           subst (λ (n : ℕ). IsAccess g (store_access n (bit_mark spot.block ∷ []) (block_with a.size (bit_place spot.block) (clear_bit (slice_index xs (bit_place spot.block)) spot.block ∷ [])))) (omega arith)
-              (stored 0 (bit_mark spot.block ∷ []) (block_with a.size (bit_place spot.block) (clear_bit (slice_index xs (bit_place spot.block)) spot.block ∷ [])) (omega (arith, here.block)) (bit_span spot.block here.block, tt) (omega arith)
-              (length-zeros (bit_place spot.block) (clear_bit (slice_index xs (bit_place spot.block)) spot.block ∷ []) fits)
-              (zeros_bytes (bit_place spot.block) (clear_bit (slice_index xs (bit_place spot.block)) spot.block ∷ [])
+              (stored_in g a is.size is.fits 0 (bit_mark spot.block ∷ []) (block_with a.size (bit_place spot.block) (clear_bit (slice_index xs (bit_place spot.block)) spot.block ∷ [])) (omega (arith, here.block)) (bit_span spot.block here.block, tt) (omega arith)
+              (length-block_with a.size (bit_place spot.block) (clear_bit (slice_index xs (bit_place spot.block)) spot.block ∷ []) fits)
+              (block_with_bytes a.size (bit_place spot.block) (clear_bit (slice_index xs (bit_place spot.block)) spot.block ∷ [])
               (bytes_cons _ [] (xor_lt 8 _ _ (values (bit_place spot.block)) (omega (arith, and_le_r (slice_index xs (bit_place spot.block)) (2 ^ (spot.block % 8)), bit_small spot.block))) no_bytes))),
-          (stored before (next_mark ∷ []) (replicate a.size 0) front (next_span, tt) (omega arith) zero_long zero_values, tt),
+          (stored_in g a is.size is.fits before (next_mark ∷ []) (replicate a.size 0) front (next_span, tt) (omega arith) zero_long zero_values, tt),
         ),
       ))
-      (λ not_spent. (stored spot.block (key_mark spot.cell ∷ value_mark a.size spot.cell ∷ []) (replicate a.size 0) here.block (key_span spot.cell here.cell, (value_span spot.cell here.cell, tt)) (omega arith) zero_long zero_values, tt))
+      (λ not_spent. (stored_in g a is.size is.fits spot.block (key_mark spot.cell ∷ value_mark a.size spot.cell ∷ []) (replicate a.size 0) here.block (key_span spot.cell here.cell, (value_span spot.cell here.cell, tt)) (omega arith) zero_long zero_values, tt))
   del_fits_at (AtEnd spare last position) ends = tt
   del_fits_at (AtBroken block) ends = tt
 

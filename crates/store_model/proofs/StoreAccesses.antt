@@ -1,5 +1,5 @@
 -- The accesses of a store's call are accesses to the array.
-use Rattle.store_model.proofs.Words.{◌≡◌, ◌∙◌, refl, ℕ, zero, suc, ◌<◌, ◌≤◌, Bool, true, false, cond, List, [], ◌∷◌, length, Option, Some, None, IfSome, nat_le, arith, Access, Geometry, Span, Array, put, block_at, AreAccesses, AreBytes, HasShape, IsAccess, IsSpan, Program, Done, Look, LookWhole, Reserve, Store, after, bytes_in, further_bytes, look_access, outcome, store_access, then_do, with_further, bytes_drop, bytes_take, no_bytes, length-block_put, length-put, put_values}
+use Rattle.store_model.proofs.Words.{◌≡◌, ◌∙◌, refl, ℕ, zero, suc, ◌<◌, ◌≤◌, Bool, true, false, cond, List, [], ◌∷◌, length, Option, Some, None, IfSome, nat_le, arith, Access, Geometry, Span, Array, put, block_at, AreAccesses, AreBytes, HasShape, IsAccess, IsSpan, Program, Done, Look, LookWhole, Reserve, Store, after, bytes_in, further_bytes, look_access, outcome, store_access, then_do, with_further, bytes_drop, bytes_take, no_bytes, length-block_put, length-put, put_values, ◌+◌, Area, AllByRecursion}
 
 -- each access of the program is one to the array, whatever bytes it reads, and each answer has P
 abbrev pub AllFit : {R : Type 0} → Geometry → (R → Type 0) → Program R → Type 0
@@ -126,3 +126,15 @@ outcome_fits g P zero (Store block spans bytes next) A fit = nothing_fits g zero
 outcome_fits g P (suc room) (Store block spans bytes next) A (access, rest) =
     one_fits g room (store_access block spans bytes) (outcome room next (put A (store_access block spans bytes))) access
     (outcome_fits g P room next (put A (store_access block spans bytes)) rest)
+
+-- a write of a block of an area
+pub stored_in : (g : Geometry) (a : Area) → a.size ≡ g.block → a.start + a.blocks ≤ g.blocks → (block : ℕ) (spans : List Span) (bytes : List ℕ) → block < a.blocks → AllByRecursion (IsSpan g.block) spans
+    → length spans ≤ 8 → length bytes ≡ a.size → AreBytes bytes → IsAccess g (store_access (a.start + block) spans bytes)
+stored_in g a size fits block spans bytes below all few long values = record {
+  block = omega (arith, fits, below);
+  spans = all;
+  few = few;
+  bytes = λ write. long ∙ size;
+  none = λ read. cc;
+  values = values;
+}

@@ -1,10 +1,11 @@
 -- The accesses of the tree store's calls are accesses to the array, whatever its blocks hold.
-use Rattle.store_model.proofs.Words.{◌≡◌, ◌≢◌, ◌⊎◌, ◌∙◌, sym, refl, ap, subst, inl, inr, ℕ, zero, suc, ◌+◌, ◌-◌, ◌*◌, ◌<◌, ◌≤◌, Bool, true, false, ◌&&◌, ◌==◌, not, cond, IsTrue, List, [], ◌∷◌, ◌++◌, length, take, drop, filter, Option, Some, None, IfSome, Result, nat_le, nat_lt, option_map, replicate, slice_index, arith, eq-eqb, to_be_bytes, w32, AllByRecursion, list_all, range_with_len, bytes_eq, and_parts, eqb-false, eqb-true, leb-false, leb-true, ltb-false, ltb-true, not-true, or_cases, length-drop, length-replicate, length-take, or_lt, Geometry, Span, Area, StoreError, Broken, Array, block_with, cell_count, is_part, key_at, keys_end, keys_mark, laid_at, value_mark, value_part, bit_place, free_count, map_bit, map_mark, set_bit, with_bit, is_valid, at_cell, is_key, is_value, AreBytes, HasShape, IsAccess, IsSpan, block_at, tree_area, Done, Program, bytes_in, further_bytes, store_access, Answer, AtLeaf, Climb, Descent, Scanned, and_then, changed_map, changed_mark, climb, climb_on, del_below, descend, edit_leaf, first_in, first_write, free_list, full_row, get_below, inner_further, last_of, leaf_further, look_again, many_in, need_of, pairs_with, parts_of, placed, put_below_root, put_writes, root_cells, scan_below, scan_children, scan_from, scan_further, scan_program, store_nodes, with_head, with_map, with_used, without_key, Cell, IsBlock, before, below_from, cell_of, child_of, child_part, count_of, head_mark, is_child, is_head, is_node, node_bytes, place_from, place_of, used_cells, IsTreeArea, Put, first_key, fit, half, halves, put_after, bytes_append, bytes_drop, bytes_take, no_bytes, replicate_bytes, set_bytes}
+use Rattle.store_model.proofs.Words.{◌≡◌, ◌≢◌, ◌⊎◌, ◌∙◌, sym, refl, ap, subst, inl, inr, ℕ, zero, suc, ◌+◌, ◌-◌, ◌*◌, ◌<◌, ◌≤◌, Bool, true, false, ◌&&◌, ◌==◌, not, cond, IsTrue, List, [], ◌∷◌, ◌++◌, length, take, drop, Option, Some, None, IfSome, Result, nat_le, nat_lt, option_map, slice_index, arith, eq-eqb, to_be_bytes, w32, AllByRecursion, list_all, range_with_len, bytes_eq, and_parts, eqb-false, eqb-true, leb-false, leb-true, ltb-false, ltb-true, not-true, or_cases, length-drop, length-take, or_lt, Geometry, Span, Area, StoreError, Broken, Array, block_with, cell_count, is_part, key_at, keys_end, keys_mark, laid_at, value_mark, value_part, bit_place, free_count, map_mark, set_bit, with_bit, is_valid, at_cell, is_key, is_value, AreBytes, HasShape, IsAccess, IsSpan, block_at, tree_area, Done, Program, bytes_in, further_bytes, store_access, Answer, AtLeaf, Climb, Descent, Scanned, and_then, changed_map, changed_mark, climb, climb_on, del_below, descend, edit_leaf, first_in, first_write, free_list, full_row, get_below, inner_further, last_of, leaf_further, look_again, many_in, need_of, pairs_with, parts_of, placed, put_below_root, put_writes, root_cells, scan_below, scan_children, scan_from, scan_further, scan_program, store_nodes, with_head, with_map, with_used, without_key, Cell, IsBlock, before, below_from, cell_of, child_of, child_part, count_of, head_mark, is_child, is_head, is_node, node_bytes, place_from, place_of, used_cells, IsTreeArea, Put, fit, half, halves, put_after, bytes_append, bytes_drop, bytes_take, no_bytes, set_bytes}
 use Rattle.std.proofs.Common.{map, Ok, Err}
 use Rattle.store_model.specs.TreeCalls.{AtBroken, del_at, del_program, get_program, got, put_at, put_new, put_program}
 use Rattle.store_model.proofs.HashAccesses.{bit_small, first_below}
-use Rattle.store_model.proofs.Laying.{laid_bytes, length-laid_at, length-part, part_bytes, word_bytes}
-use Rattle.store_model.proofs.StoreAccesses.{FitsOn, fits_cond, fits_more, fits_then}
+use Rattle.store_model.proofs.Laying.{block_with_bytes, laid_bytes, length-block_with, length-laid_at, length-part, part_bytes, word_bytes}
+use Rattle.store_model.proofs.StoreAccesses.{FitsOn, fits_cond, fits_more, fits_then, stored_in}
+use Rattle.store_model.proofs.TreeWays.{RiseIn, rise_range, rise_filter, rise_take, last_rises, AreInside, rise_inside, free_are, Wrote, OnWay, half_less, half_rest, first_key_are, Fitting}
 use Rattle.store_model.proofs.TreeCells.{AreCells, IsCell, block_size_is, child_cell, drop_are, emptied_are, filter_are, length-emptied, length-filter_le, length-node, length-put, length-used, node_read, node_values, put_are, take_are, used_are, value_cell}
 
 -- the tree store of a valid image that has one
@@ -35,75 +36,6 @@ pub record IsTreeIn (g : Geometry) (a : Area) (A : Array) : Type 0 where
   pub size : a.size ≡ g.block
   pub fits : a.start + a.blocks ≤ g.blocks
   pub shape : HasShape g A
-
--- numbers that rise in a range
-abbrev RiseIn : (low high : ℕ) → List ℕ → Type 0
-RiseIn low high [] = Unit {0}
-RiseIn low high (x ∷ xs) = (low ≤ x) × (x < high) × RiseIn (suc x) high xs
-
-rise_above : (low below high : ℕ) (xs : List ℕ) → below ≤ low → RiseIn low high xs → RiseIn below high xs
-rise_above low below high [] less rise = tt
-rise_above low below high (x ∷ xs) less rise = (omega (arith, rise.0), rise.1, rise.2)
-
-rise_range : (i n : ℕ) → RiseIn i (i + n) (range_with_len i n)
-rise_range i zero = tt
-rise_range i (suc n) = (omega arith, omega arith, subst (λ (h : ℕ). RiseIn (suc i) h (range_with_len (i + 1) n)) (omega arith) (subst (λ (l : ℕ). RiseIn l (i + 1 + n) (range_with_len (i + 1) n)) (omega arith) (rise_range (i + 1) n)))
-
-rise_filter : (test : ℕ → Bool) (low high : ℕ) (xs : List ℕ) → RiseIn low high xs → RiseIn low high (filter test xs)
-rise_filter test low high [] rise = tt
-rise_filter test low high (x ∷ xs) rise = elim (test x) as (λ t. RiseIn low high (cond t (x ∷ filter test xs) (filter test xs))) [
-  | true ↦ (rise.0, rise.1, rise_filter test (suc x) high xs rise.2)
-  | false ↦ rise_above (suc x) low high (filter test xs) (omega (arith, rise.0)) (rise_filter test (suc x) high xs rise.2)
-]
-
-rise_take : (n low high : ℕ) (xs : List ℕ) → RiseIn low high xs → RiseIn low high (take n xs)
-rise_take zero low high xs rise = tt
-rise_take (suc n) low high [] rise = tt
-rise_take (suc n) low high (x ∷ xs) rise = (rise.0, rise.1, rise_take n (suc x) high xs rise.2)
-
-last_rises : (low high x : ℕ) (xs : List ℕ) → RiseIn low high (x ∷ xs) → (x ≤ last_of x xs) × (last_of x xs < high)
-last_rises low high x [] rise = (omega arith, rise.1)
-last_rises low high x (y ∷ ys) rise = let rest = last_rises (suc x) high y ys rise.2 in (omega (arith, rise.2.0, rest.0), rest.1)
-
--- blocks of the area
-abbrev AreInside : Area → List ℕ → Type 0
-AreInside a blocks = AllByRecursion (λ (k : ℕ). k < a.blocks) blocks
-
-rise_inside : (a : Area) (low : ℕ) (xs : List ℕ) → RiseIn low a.blocks xs → AreInside a xs
-rise_inside a low [] rise = tt
-rise_inside a low (x ∷ xs) rise = (rise.1, rise_inside a (suc x) xs rise.2)
-
--- as many free blocks as are counted
-free_are : (first : List ℕ) (i n : ℕ) → length (filter (λ k. not (map_bit first k)) (range_with_len i n)) ≡ free_count first i n
-free_are first i zero = refl
-free_are first i (suc n) = elim (map_bit first i) as (λ t. length (cond (not t) (i ∷ filter (λ k. not (map_bit first k)) (range_with_len (i + 1) n)) (filter (λ k. not (map_bit first k)) (range_with_len (i + 1) n))) ≡ cond t 0 1 + free_count first (i + 1) n) [
-  | true ↦ (let rest = free_are first (i + 1) n in omega arith)
-  | false ↦ (let rest = free_are first (i + 1) n in omega arith)
-]
-
-abbrev Wrote : Area → ℕ × ℕ × List Cell → Type 0
-Wrote a w = (w.0 < a.blocks) × (w.1 < 256) × AreCells w.2 × (length w.2 ≤ cell_count a.size)
-
--- a node of a way: its block and its cells
-abbrev OnWay : Area → ℕ × List Cell → Type 0
-OnWay a node = (node.0 < a.blocks) × AreCells node.1 × (length node.1 ≤ cell_count a.size)
-
--- how many cells two halves have
-half_less : (n : ℕ) → 0 < n → half n ≤ n
-half_less n some = omega arith
-
-half_rest : (n : ℕ) → 0 < n → n + 1 - half n ≤ n
-half_rest n some = omega arith
-
-first_key_are : (cs : List Cell) → AreCells cs → (length (first_key cs) ≤ 28) × AreBytes (first_key cs)
-first_key_are [] all = (omega arith, no_bytes)
-first_key_are (c ∷ cs) all = (all.0.short, all.0.key)
-
--- what a node of a way, or the two that it becomes, are
-record Fitting (a : Area) (q : Put) : Type 0 where
-  writes : AllByRecursion (Wrote a) q.writes
-  left : AreInside a q.left
-  second : IfSome q.second (λ s. (s.1 < a.blocks) × (length s.0 ≤ 28) × AreBytes s.0)
 
 module _ (g : Geometry) (a : Area) (A : Array) (is : IsTreeIn g a A) where
   sized : IsBlock a.size
@@ -138,25 +70,6 @@ module _ (g : Geometry) (a : Area) (A : Array) (is : IsTreeIn g a A) where
 
   block_long : (block : ℕ) → block < a.blocks → length (block_at A (a.start + block)) ≡ a.size
   block_long block below = is.shape.bytes (a.start + block) (inside block below) ∙ sym is.size
-
-  -- a write of a block of the area
-  stored : (block : ℕ) (spans : List Span) (bytes : List ℕ) → block < a.blocks → AllByRecursion (IsSpan g.block) spans → length spans ≤ 8 → length bytes ≡ a.size → AreBytes bytes
-      → IsAccess g (store_access (a.start + block) spans bytes)
-  stored block spans bytes below all few long values = record {
-    block = inside block below;
-    spans = all;
-    few = few;
-    bytes = λ write. long ∙ is.size;
-    none = λ read. cc;
-    values = values;
-  }
-
-  length-zeros : (at : ℕ) (bytes : List ℕ) → at + length bytes ≤ a.size → length (block_with a.size at bytes) ≡ a.size
-  length-zeros at bytes fits =
-      length-laid_at at bytes (replicate a.size 0) (omega (arith, fits, length-replicate {A = ℕ} a.size 0)) ∙ length-replicate a.size 0
-
-  zeros_bytes : (at : ℕ) (bytes : List ℕ) → AreBytes bytes → AreBytes (block_with a.size at bytes)
-  zeros_bytes at bytes values = laid_bytes at bytes (replicate a.size 0) values (replicate_bytes a.size 0 (omega arith))
 
   -- a node that was read
   abbrev IsRead : (block level : ℕ) → Type 0
@@ -286,7 +199,7 @@ module _ (g : Geometry) (a : Area) (A : Array) (is : IsTreeIn g a A) where
   edit_fits : {R : Type 0} (leaf : ℕ) (change : List Cell → List Cell) (r : R) → IsRead leaf 0 → AreCells (change (cells_in leaf)) → length (change (cells_in leaf)) ≤ cell_count a.size
       → FitsOn g Whole (edit_leaf a leaf change r) A
   edit_fits leaf change r read all few =
-      (inside leaf read.0, (stored leaf [] (node_bytes a.size 0 (change (cells_in leaf))) read.0 tt (omega arith) (length-node a.size 0 (change (cells_in leaf)) sized all few) (node_values a.size 0 (change (cells_in leaf)) sized all few (omega arith)), tt))
+      (inside leaf read.0, (stored_in g a is.size is.fits leaf [] (node_bytes a.size 0 (change (cells_in leaf))) read.0 tt (omega arith) (length-node a.size 0 (change (cells_in leaf)) sized all few) (node_values a.size 0 (change (cells_in leaf)) sized all few (omega arith)), tt))
 
   at_cell_fits : {R : Type 0} (o : Option ℕ) (found : ℕ → Program R) (other : Program R) → ((i : ℕ) → o ≡ Some i → FitsOn g Whole (found i) A) → FitsOn g Whole other A → FitsOn g Whole (at_cell o found other) A
   at_cell_fits None found other here there = there
@@ -398,7 +311,7 @@ module _ (g : Geometry) (a : Area) (A : Array) (is : IsTreeIn g a A) where
   nodes_fit : (writes : List (ℕ × ℕ × List Cell)) (B : Array) → AllByRecursion (Wrote a) writes → FitsOn g Whole (store_nodes {R = Answer} a writes (Done (Ok tt))) B
   nodes_fit [] B all = tt
   nodes_fit (w ∷ writes) B all = (
-    stored w.0 [] (node_bytes a.size w.1 w.2) all.0.0 tt (omega arith) (length-node a.size w.1 w.2 sized all.0.2 all.0.3) (node_values a.size w.1 w.2 sized all.0.2 all.0.3 all.0.1),
+    stored_in g a is.size is.fits w.0 [] (node_bytes a.size w.1 w.2) all.0.0 tt (omega arith) (length-node a.size w.1 w.2 sized all.0.2 all.0.3) (node_values a.size w.1 w.2 sized all.0.2 all.0.3 all.0.1),
     nodes_fit writes _ all.1,
   )
 
@@ -424,10 +337,10 @@ module _ (g : Geometry) (a : Area) (A : Array) (is : IsTreeIn g a A) where
     fits = omega (arith, length-take mark.len (drop mark.off (with_used first (k ∷ ks))), span.fits, is.size)
 
     whole : length (changed_map a first (k ∷ ks)) ≡ a.size
-    whole = length-zeros mark.off bytes fits
+    whole = length-block_with a.size mark.off bytes fits
 
     map_values : AreBytes (changed_map a first (k ∷ ks))
-    map_values = zeros_bytes mark.off bytes (bytes_take mark.len _ (bytes_drop mark.off _ (used_bytes first (k ∷ ks) values)))
+    map_values = block_with_bytes a.size mark.off bytes (bytes_take mark.len _ (bytes_drop mark.off _ (used_bytes first (k ∷ ks) values)))
 
     zero_block : 0 < a.blocks
     zero_block = omega (arith, is.area.least)
@@ -436,12 +349,12 @@ module _ (g : Geometry) (a : Area) (A : Array) (is : IsTreeIn g a A) where
     at_start spans block access = subst (λ (n : ℕ). IsAccess g (store_access n spans block)) (omega arith) access
 
     first_fits : (root : Option (ℕ × ℕ)) (next : Program Answer) → ((B : Array) → FitsOn g Whole next B) → FitsOn g Whole (first_write a first (k ∷ ks) root next) A
-    first_fits None next fit = (at_start _ _ (stored 0 (mark ∷ []) (changed_map a first (k ∷ ks)) zero_block (span, tt) (omega arith) whole map_values), fit _)
+    first_fits None next fit = (at_start _ _ (stored_in g a is.size is.fits 0 (mark ∷ []) (changed_map a first (k ∷ ks)) zero_block (span, tt) (omega arith) whole map_values), fit _)
     first_fits (Some r) next fit =
         let eight = to_be_bytes w32 r.0 ++ to_be_bytes w32 r.1 in
         let long : length eight ≡ 8 = refl in (
           at_start _ _
-              (stored 0 (mark ∷ head_mark ∷ []) (laid_at 0 eight (changed_map a first (k ∷ ks))) zero_block (span, (head_span, tt)) (omega arith)
+              (stored_in g a is.size is.fits 0 (mark ∷ head_mark ∷ []) (laid_at 0 eight (changed_map a first (k ∷ ks))) zero_block (span, (head_span, tt)) (omega arith)
               (length-laid_at 0 eight (changed_map a first (k ∷ ks)) (omega (arith, long, whole, is.area.least_size)) ∙ whole)
               (laid_bytes 0 eight (changed_map a first (k ∷ ks)) (bytes_append (to_be_bytes w32 r.0) (to_be_bytes w32 r.1) (word_bytes r.0) (word_bytes r.1)) map_values)),
           fit _,
@@ -490,9 +403,9 @@ module _ (g : Geometry) (a : Area) (A : Array) (is : IsTreeIn g a A) where
         at_cell_fits (cell_of key keys) _ _
         (λ i e.
         let below = cell_below key leaf 0 i read (ap (cell_of key) (sym keys_are) ∙ e) in (
-          stored leaf (value_mark a.size i ∷ []) (block_with a.size (keys_end a.size + 33 * i) (value_part value)) read.0 (value_span i below, tt) (omega arith)
-              (length-zeros (keys_end a.size + 33 * i) (value_part value) (omega (arith, room, is.size, length-part 32 value small)))
-              (zeros_bytes (keys_end a.size + 33 * i) (value_part value) (part_bytes 32 value (omega arith) value_values)),
+          stored_in g a is.size is.fits leaf (value_mark a.size i ∷ []) (block_with a.size (keys_end a.size + 33 * i) (value_part value)) read.0 (value_span i below, tt) (omega arith)
+              (length-block_with a.size (keys_end a.size + 33 * i) (value_part value) (omega (arith, room, is.size, length-part 32 value small)))
+              (block_with_bytes a.size (keys_end a.size + 33 * i) (value_part value) (part_bytes 32 value (omega arith) value_values)),
           tt,
         ))
         (fits_cond g Whole (nat_lt (count_of keys) (cell_count a.size)) _ _ A

@@ -6,3 +6,5 @@ pub mod Marking
 pub mod Refusals
 pub mod Parts
 pub mod Storing
+pub mod Frames
+pub mod MapByte

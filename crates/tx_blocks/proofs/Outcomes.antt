@@ -1,5 +1,5 @@
 -- What a program does in a transaction that has room for so many accesses.
-use Rattle.tx_blocks.proofs.Words.{◌≡◌, ◌∙◌, sym, refl, ap, ℕ, zero, suc, ◌-◌, true, false, cond, List, [], ◌∷◌, length, take, Option, Some, None, arith, nat_le, Access, Array, put, own, block_at, Program, Done, Look, LookWhole, Reserve, Store, bytes_in, further_bytes, with_further, look_access, store_access, accesses_of, answer_of, after, outcome, then_do, AreReads}
+use Rattle.tx_blocks.proofs.Words.{◌≡◌, ◌∙◌, sym, refl, ap, ℕ, zero, suc, ◌-◌, true, false, cond, List, [], ◌∷◌, length, Option, Some, None, arith, nat_le, Access, Array, put, own, block_at, Program, Done, Look, LookWhole, Reserve, Store, bytes_in, further_bytes, with_further, look_access, store_access, accesses_of, answer_of, after, outcome, then_do}
 
 no_answer : {R : Type 0} (r : R) → ◌≡◌ {A = Option R} None (Some r) → ⊥
 no_answer r is = cc
@@ -81,25 +81,3 @@ outcome_cut room (Reserve count next) f A is =
     ] is
 outcome_cut zero (Store block spans bytes next) f A is = refl
 outcome_cut (suc room) (Store block spans bytes next) f A is = ap (after (store_access block spans bytes ∷ [])) (outcome_cut room next f (put A (store_access block spans bytes)) is)
-
--- a program that reads alone does so too where it does not come to its end
-pub outcome_reads : {R : Type 0} (room : ℕ) (p : Program R) (A : Array) → AreReads (accesses_of p A) → AreReads (outcome room p A).0
-outcome_reads room (Done r) A all = tt
-outcome_reads zero (Look block mark further next) A all = tt
-outcome_reads (suc room) (Look block mark further next) A all =
-    (refl, outcome_reads room (next (bytes_in mark (block_at A block)) (further_bytes (further (bytes_in mark (block_at A block))) (block_at A block))) A all.1)
-outcome_reads zero (LookWhole block next) A all = tt
-outcome_reads (suc room) (LookWhole block next) A all = (refl, outcome_reads room (next (block_at A block)) A all.1)
-outcome_reads room (Reserve count next) A all =
-    elim (nat_le count room) as (λ t. AreReads (cond t (outcome room next A) ([], None)).0) [
-      | true ↦ outcome_reads room next A all
-      | false ↦ tt
-    ]
-outcome_reads zero (Store block spans bytes next) A all = tt
-outcome_reads (suc room) (Store block spans bytes next) A all = (all.0, outcome_reads room next (put A (store_access block spans bytes)) all.1)
-
-pub reads_take : (n : ℕ) (xs : List Access) → AreReads xs → AreReads (take n xs)
-reads_take zero [] all = tt
-reads_take (suc n) [] all = tt
-reads_take zero (x ∷ xs) all = tt
-reads_take (suc n) (x ∷ xs) all = (all.0, reads_take n xs all.1)

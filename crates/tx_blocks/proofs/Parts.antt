@@ -1,10 +1,10 @@
 -- A call that is made of parts.
-use Rattle.tx_blocks.proofs.Words.{◌≡◌, ◌≢◌, ◌⊎◌, ◌<◌, ◌∙◌, sym, refl, ap, subst, ℕ, ◌+◌, ◌-◌, ◌≤◌, List, [], ◌∷◌, ◌++◌, length, take, Option, Some, None, Result, Ok, Err, inl, inr, arith, length-append, Access, StoreError, TxError, own, Program, accesses_of, after, outcome, Tx, Device, IsLater, with_accesses, room_of, Ends, Ran, Began, Stopped, IsCut, HasRun, HasEnded, HasRead, IsCause, IsStoreCause, Behaves, WantsMemory}
+use Rattle.tx_blocks.proofs.Words.{◌≡◌, ◌≢◌, ◌⊎◌, ◌<◌, ◌∙◌, sym, refl, ap, subst, ℕ, ◌+◌, ◌≤◌, List, [], ◌∷◌, ◌++◌, length, take, Option, Some, None, Result, Ok, Err, inl, inr, arith, length-append, Access, StoreError, TxError, own, Program, accesses_of, after, outcome, Tx, Device, IsLater, with_accesses, room_of, Ends, Ran, Began, Stopped, IsCut, HasRun, HasEnded, HasRead, IsCause, IsStoreCause, Behaves, WantsMemory, Done, then_do}
 use Rattle.store_model.specs.declared.stores.StoreError.TheVariants as store
 use Rattle.store_model.specs.declared.stores.TxError.TheVariants as error
 use Rattle.tx_blocks.proofs.Programs.{reads_append}
-use Rattle.tx_blocks.proofs.Progress.{IsAt, same_base, with_more}
-use Rattle.tx_blocks.proofs.Refusals.{cause_earlier, cause_since, later_than, later_same}
+use Rattle.tx_blocks.proofs.Progress.{IsAt, at_as, at_start, at_then, ran_at, same_base, with_more}
+use Rattle.tx_blocks.proofs.Refusals.{cut_as, cut_then, cause_earlier, cause_since, later_than, later_same}
 
 pub ends_from : {R : Type 0} (whole rest : Program R) (t u v : Tx) (end : Option R) → IsAt whole rest t u → Ends rest u v end → Ends whole t v end
 ends_from whole rest t u v end now ended = record {
@@ -39,15 +39,7 @@ stopped_from whole rest t u v now stopped = record {
 }
 
 pub cut_from : {R : Type 0} (whole rest : Program R) (t u v : Tx) (e : TxError) → IsAt whole rest t u → IsCut rest u v e → IsCut whole t v e
-cut_from whole rest t u v error.TooManyAccesses now cut = ends_from whole rest t u v None now cut
-cut_from whole rest t u v error.Memory now cut = stopped_from whole rest t u v now cut
-cut_from whole rest t u v error.Down now cut = stopped_from whole rest t u v now cut
-cut_from whole rest t u v error.Disk now cut = stopped_from whole rest t u v now cut
-cut_from whole rest t u v error.NotInTx now cut = stopped_from whole rest t u v now cut
-cut_from whole rest t u v error.BadBlock now cut = cut
-cut_from whole rest t u v error.BadRange now cut = cut
-cut_from whole rest t u v error.NoAccess now cut = cut
-cut_from whole rest t u v error.TooManyMarks now cut = cut
+cut_from whole rest t u v e now = cut_as rest whole u v t e (ends_from whole rest t u v None now) (stopped_from whole rest t u v now)
 
 -- a part that follows what is left of the call ends the call
 pub run_from : {X : Type 0} (whole rest : Program (Result X StoreError)) (t u v : Tx) (result : Result X StoreError) → IsAt whole rest t u → HasRun rest u v result → HasRun whole t v result
@@ -149,3 +141,18 @@ ended_grows p t u (Err (store.NoBlocks need free)) ended = record { done = ended
 ended_grows p t u (Err (store.Broken block)) ended = record { done = ended.done; is = ended.is }
 ended_grows p t u (Err (store.Tx e)) ended = cut_grows p t u e ended
 ended_grows p t u (Err store.Memory) ended = record { done = []; is = ended ∙ sym (ap (λ accesses. record t { accesses = accesses }) (Rattle.std.proofs.lemmas.List.append-nil t.accesses)) }
+
+-- a refusal of the first part is one of the whole
+pub refused_then : {X Y : Type 0} (p : Program (Result X StoreError)) (f : Result X StoreError → Program (Result Y StoreError)) (t u : Tx) (e : StoreError) → f (Err e) ≡ Done (Err e)
+    → HasRun p t u (Err e) → HasRun (then_do p f) t u (Err e)
+refused_then {X = X} {Y = Y} p f t u e ends run =
+    let so : (x : StoreError) → f (Err x) ≡ Done (Err x) → Ran p t u (Err x) → Ran (then_do p f) t u (Err x) =
+    λ x end ran. ran_at (then_do p f) t u (Err x) (at_as (then_do p f) _ _ t u end (at_then (then_do p f) p f t t u (Err x) (at_start (then_do p f) t) ran)) in
+    elim e as (λ (x : StoreError). f (Err x) ≡ Done (Err x) → HasRun p t u (Err x) → HasRun (then_do p f) t u (Err x)) [
+      | store.BadKey ↦ so store.BadKey
+      | store.BadValue ↦ so store.BadValue
+      | store.NoBlocks need free ↦ so (store.NoBlocks need free)
+      | store.Broken block ↦ so (store.Broken block)
+      | store.Tx x ↦ λ end cut. cut_then p f t u x cut
+      | store.Memory ↦ λ end none. none
+    ] ends run

@@ -1,9 +1,33 @@
 -- A program's accesses and its answer are a function of the bytes that it depends on.
-use Rattle.tx_blocks.proofs.Words.{◌≡◌, ◌∙◌, sym, refl, ap, subst, ℕ, ◌+◌, ◌-◌, ◌<◌, ◌≤◌, Bool, true, false, ◌&&◌, ◌==◌, not, cond, IsTrue, List, [], ◌∷◌, ◌++◌, length, get_or, drop, Option, Some, None, arith, inl, inr, eq-eqb, ne_eqb, AllByRecursion, both_ways, cases_eq, cases_lt, or_left, or_right, and_from, nat_tests, ext_get_or, get_or-take, get_or-drop, get_or_past, length-take, length-drop, Access, Span, Read, Array, covered, in_span, put, byte_at, own, is_write, covers, block_at, Program, Done, Look, LookWhole, Reserve, Store, bytes_in, further_bytes, with_further, look_access, store_access, accesses_of, answer_of, then_do, depends, SameShape, Agree, AreReads, IsLocal, put_at, length-put, length-block_put, other_block}
+use Rattle.tx_blocks.proofs.Words.{◌≡◌, ◌∙◌, sym, refl, ap, subst, ℕ, ◌+◌, ◌-◌, ◌<◌, ◌≤◌, Bool, true, false, ◌&&◌, ◌==◌, not, cond, IsTrue, List, [], ◌∷◌, ◌++◌, length, get_or, drop, Option, Some, None, arith, inl, inr, eq-eqb, ne_eqb, AllByRecursion, both_ways, cases_eq, cases_lt, or_left, or_right, and_from, nat_tests, ext_get_or, get_or-take, get_or-drop, get_or_past, length-take, length-drop, Access, Span, Read, Array, covered, in_span, put, byte_at, own, is_write, covers, block_at, Program, Done, Look, LookWhole, Reserve, Store, bytes_in, further_bytes, with_further, look_access, store_access, accesses_of, answer_of, then_do, depends, SameShape, Agree, AreReads, IsLocal, put_at, length-put, length-block_put, other_block, Area, IsTx, Tx, Result, Ok, Err, StoreError, length-block_own}
 
 -- each write has the bytes of a whole block
 abbrev pub AreWhole : Array → List Access → Type 0
 AreWhole A accesses = AllByRecursion (λ a. IsTrue (is_write a) → length a.bytes ≡ length (block_at A a.block)) accesses
+
+-- each block of an area has the bytes of a block
+abbrev pub HasBlocks : Area → Array → Type 0
+HasBlocks a A = (k : ℕ) → k < a.blocks → length (block_at A (a.start + k)) ≡ a.size
+
+pub blocks_of : (a : Area) (t : Tx) (A : Array) → IsTx t → t.size ≡ a.size → a.start + a.blocks ≤ t.blocks → t.base ≡ Some A → HasBlocks a (own A t.accesses)
+blocks_of a t A is size fits told k below = length-block_own A t.accesses (a.start + k) ∙ (is.base A told).bytes (a.start + k) (omega arith) ∙ size
+
+-- writes of whole blocks, and those of more
+pub whole_append : (A : Array) (xs ys : List Access) → AreWhole A xs → AreWhole A ys → AreWhole A (xs ++ ys)
+whole_append A [] ys all more = more
+whole_append A (x ∷ xs) ys all more = (all.0, whole_append A xs ys all.1 more)
+
+-- a program that reads alone, whichever way it goes
+pub cond_reads : {R : Type 0} (t : Bool) (p q : Program R) (A : Array) → AreReads (accesses_of p A) → AreReads (accesses_of q A) → AreReads (accesses_of (cond t p q) A)
+cond_reads true p q A then_all else_all = then_all
+cond_reads false p q A then_all else_all = else_all
+
+-- what answers tell
+pub same_ok : {X : Type 0} (x y : X) (E : Type 0) → ◌≡◌ {A = Result X E} (Ok x) (Ok y) → x ≡ y
+same_ok x y E e = cc
+
+pub no_ok : {X : Type 0} (e : StoreError) (x : X) → ◌≡◌ {A = Result X StoreError} (Err e) (Ok x) → ⊥
+no_ok e x is = cc
 
 -- what is done after a program is done on the array that it leaves
 pub accesses_then : {R S : Type 0} (p : Program R) (f : R → Program S) (A : Array)

@@ -23,6 +23,10 @@ with_more t xs ys = ap (λ accesses. record t { accesses = accesses }) (append_a
 pub at_start : {R : Type 0} (p : Program R) (t : Tx) → IsAt p p t t
 at_start p t = record { done = []; is = sym (with_none t); told = λ A is. refl; all = λ A is. refl }
 
+-- what is left may be said in another way
+pub at_as : {R : Type 0} (whole p q : Program R) (t u : Tx) → p ≡ q → IsAt whole p t u → IsAt whole q t u
+at_as whole p q t u e now = subst (λ (r : Program _). IsAt whole r t u) e now
+
 pub same_base : {R : Type 0} (whole rest : Program R) (t u : Tx) → IsAt whole rest t u → u.base ≡ t.base
 same_base whole rest t u now = ap (λ (w : Tx). w.base) now.is
 
@@ -44,7 +48,7 @@ pub at_join : {R : Type 0} (whole rest next : Program R) (t u v : Tx) → IsAt w
 at_join whole rest next t u v now more =
     at_more whole rest next t u v more.done now more.is (λ A told. more.told A (same_base whole rest t u now ∙ told)) (λ A told. more.all A (same_base whole rest t u now ∙ told))
 
-room_after : (u v : Tx) (a : Access) → v ≡ with_accesses u (a ∷ []) → length v.accesses ≤ 4096 → room_of u ≡ suc (room_of v)
+pub room_after : (u v : Tx) (a : Access) → v ≡ with_accesses u (a ∷ []) → length v.accesses ≤ 4096 → room_of u ≡ suc (room_of v)
 room_after u v a is fits =
     let long : length v.accesses ≡ length u.accesses + 1 = ap (λ (w : Tx). length w.accesses) is ∙ length-append u.accesses (a ∷ []) in
     omega arith
@@ -151,6 +155,11 @@ pub full_at_store : {R : Type 0} (whole : Program R) (b : ℕ) (spans : List Spa
 full_at_store whole b spans bytes next t u v now same full =
     let none : room_of u ≡ 0 = omega arith in
     cut_at whole (Store b spans bytes next) t u v now same (λ A told. ap (λ n. outcome n (Store b spans bytes next) (own A u.accesses)) none)
+
+pub full_at_whole : {R : Type 0} (whole : Program R) (b : ℕ) (next : List ℕ → Program R) (t u v : Tx) → IsAt whole (LookWhole b next) t u → v ≡ u → 4096 ≤ length u.accesses → Ends whole t v None
+full_at_whole whole b next t u v now same full =
+    let none : room_of u ≡ 0 = omega arith in
+    cut_at whole (LookWhole b next) t u v now same (λ A told. ap (λ n. outcome n (LookWhole b next) (own A u.accesses)) none)
 
 -- where a reservation does not fit
 pub full_at_reserve : {R : Type 0} (whole : Program R) (count : ℕ) (next : Program R) (t u v : Tx) → IsAt whole (Reserve count next) t u → v ≡ u → room_of u < count → Ends whole t v None

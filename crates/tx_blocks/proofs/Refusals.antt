@@ -1,50 +1,53 @@
 -- Where a call that follows a program is refused an access.
-use Rattle.tx_blocks.proofs.Words.{◌≡◌, ◌∙◌, sym, refl, ap, subst, ℕ, ◌+◌, ◌<◌, ◌≤◌, false, List, [], ◌∷◌, ◌++◌, length, Option, Result, Ok, Err, inl, inr, arith, append_assoc, append-nil, Rose, Access, Span, StoreError, TxError, is_write, Program, Look, Store, then_do, Tx, Device, IsLater, with_accesses, IsCut, IsCause, HasRead, IsStoreCause, IsUnwritten, Behaves, Passed}
+use Rattle.tx_blocks.proofs.Words.{◌≡◌, ◌∙◌, sym, refl, ap, subst, ℕ, ◌≤◌, false, List, [], ◌∷◌, ◌++◌, length, Option, Result, Ok, Err, inl, inr, arith, append_assoc, append-nil, Rose, Access, Span, StoreError, TxError, is_write, Program, Look, Store, then_do, Tx, Device, IsLater, with_accesses, IsCut, IsCause, HasRead, IsStoreCause, IsUnwritten, Behaves, Passed, LookWhole, None, Ends, Stopped}
 use Rattle.store_model.specs.declared.stores.StoreError.TheVariants as store
 use Rattle.store_model.specs.declared.stores.TxError.TheVariants as error
 use Rattle.tx_blocks.proofs.Programs.{reads_append}
-use Rattle.tx_blocks.proofs.Progress.{IsAt, at_start, stopped_at, stopped_then, full_at_look, full_at_store, full_then}
+use Rattle.tx_blocks.proofs.Progress.{IsAt, at_start, stopped_at, stopped_then, full_at_look, full_at_store, full_at_whole, full_then}
 
-full : (u v : Tx) → v ≡ u → 4096 < length v.accesses + 1 → 4096 ≤ length u.accesses
-full u v same many = let e : length v.accesses ≡ length u.accesses = ap (λ (w : Tx). length w.accesses) same in omega arith
+-- a refused access cuts the call short: it does not fit, or the call is stopped before it
+cut_so : {R : Type 0} (whole : Program R) (t u v : Tx) (before now : Device) (e : TxError) → (4096 ≤ length u.accesses → Ends whole t v None) → Stopped whole t v → v ≡ u → IsCause v 1 before now e → IsCut whole t v e
+cut_so whole t u v before now error.TooManyAccesses full stop same cause = let e : length v.accesses ≡ length u.accesses = ap (λ (w : Tx). length w.accesses) same in full (let many = cause.0 in omega arith)
+cut_so whole t u v before now error.Memory full stop same cause = stop
+cut_so whole t u v before now error.Down full stop same cause = stop
+cut_so whole t u v before now error.Disk full stop same cause = stop
+cut_so whole t u v before now error.NotInTx full stop same cause = stop
+cut_so whole t u v before now error.BadBlock full stop same cause = cause
+cut_so whole t u v before now error.BadRange full stop same cause = cause
+cut_so whole t u v before now error.NoAccess full stop same cause = cause
+cut_so whole t u v before now error.TooManyMarks full stop same cause = cause
 
--- a read that is refused cuts the call short
+-- a read, one of a whole block, and a write
 pub cut_at_look : {R : Type 0} (whole : Program R) (b : ℕ) (mark : Span) (further : List ℕ → Option Span) (next : List ℕ → List ℕ → Program R) (t u v : Tx) (before now : Device) (e : TxError)
     → IsAt whole (Look b mark further next) t u → v ≡ u → IsCause v 1 before now e → IsCut whole t v e
-cut_at_look whole b mark further next t u v before now error.TooManyAccesses at same cause = full_at_look whole b mark further next t u v at same (full u v same cause.0)
-cut_at_look whole b mark further next t u v before now error.Memory at same cause = stopped_at whole (Look b mark further next) t u v at same (λ A. omega arith)
-cut_at_look whole b mark further next t u v before now error.Down at same cause = stopped_at whole (Look b mark further next) t u v at same (λ A. omega arith)
-cut_at_look whole b mark further next t u v before now error.Disk at same cause = stopped_at whole (Look b mark further next) t u v at same (λ A. omega arith)
-cut_at_look whole b mark further next t u v before now error.NotInTx at same cause = stopped_at whole (Look b mark further next) t u v at same (λ A. omega arith)
-cut_at_look whole b mark further next t u v before now error.BadBlock at same cause = cause
-cut_at_look whole b mark further next t u v before now error.BadRange at same cause = cause
-cut_at_look whole b mark further next t u v before now error.NoAccess at same cause = cause
-cut_at_look whole b mark further next t u v before now error.TooManyMarks at same cause = cause
+cut_at_look whole b mark further next t u v before now e at same =
+    cut_so whole t u v before now e (full_at_look whole b mark further next t u v at same) (stopped_at whole (Look b mark further next) t u v at same (λ A. omega arith)) same
 
--- and so does a write
+pub cut_at_whole : {R : Type 0} (whole : Program R) (b : ℕ) (next : List ℕ → Program R) (t u v : Tx) (before now : Device) (e : TxError)
+    → IsAt whole (LookWhole b next) t u → v ≡ u → IsCause v 1 before now e → IsCut whole t v e
+cut_at_whole whole b next t u v before now e at same =
+    cut_so whole t u v before now e (full_at_whole whole b next t u v at same) (stopped_at whole (LookWhole b next) t u v at same (λ A. omega arith)) same
+
 pub cut_at_store : {R : Type 0} (whole : Program R) (b : ℕ) (spans : List Span) (bytes : List ℕ) (next : Program R) (t u v : Tx) (before now : Device) (e : TxError)
     → IsAt whole (Store b spans bytes next) t u → v ≡ u → IsCause v 1 before now e → IsCut whole t v e
-cut_at_store whole b spans bytes next t u v before now error.TooManyAccesses at same cause = full_at_store whole b spans bytes next t u v at same (full u v same cause.0)
-cut_at_store whole b spans bytes next t u v before now error.Memory at same cause = stopped_at whole (Store b spans bytes next) t u v at same (λ A. omega arith)
-cut_at_store whole b spans bytes next t u v before now error.Down at same cause = stopped_at whole (Store b spans bytes next) t u v at same (λ A. omega arith)
-cut_at_store whole b spans bytes next t u v before now error.Disk at same cause = stopped_at whole (Store b spans bytes next) t u v at same (λ A. omega arith)
-cut_at_store whole b spans bytes next t u v before now error.NotInTx at same cause = stopped_at whole (Store b spans bytes next) t u v at same (λ A. omega arith)
-cut_at_store whole b spans bytes next t u v before now error.BadBlock at same cause = cause
-cut_at_store whole b spans bytes next t u v before now error.BadRange at same cause = cause
-cut_at_store whole b spans bytes next t u v before now error.NoAccess at same cause = cause
-cut_at_store whole b spans bytes next t u v before now error.TooManyMarks at same cause = cause
+cut_at_store whole b spans bytes next t u v before now e at same =
+    cut_so whole t u v before now e (full_at_store whole b spans bytes next t u v at same) (stopped_at whole (Store b spans bytes next) t u v at same (λ A. omega arith)) same
+
+-- a program that is cut short as another one is
+pub cut_as : {R S : Type 0} (p : Program R) (q : Program S) (t u v : Tx) (e : TxError) → (Ends p t u None → Ends q v u None) → (Stopped p t u → Stopped q v u) → IsCut p t u e → IsCut q v u e
+cut_as p q t u v error.TooManyAccesses ends stops = ends
+cut_as p q t u v error.Memory ends stops = stops
+cut_as p q t u v error.Down ends stops = stops
+cut_as p q t u v error.Disk ends stops = stops
+cut_as p q t u v error.NotInTx ends stops = stops
+cut_as p q t u v error.BadBlock ends stops = λ never. never
+cut_as p q t u v error.BadRange ends stops = λ never. never
+cut_as p q t u v error.NoAccess ends stops = λ never. never
+cut_as p q t u v error.TooManyMarks ends stops = λ never. never
 
 -- a call whose first part is cut short
 pub cut_then : {R S : Type 0} (p : Program R) (f : R → Program S) (t u : Tx) (e : TxError) → IsCut p t u e → IsCut (then_do p f) t u e
-cut_then p f t u error.TooManyAccesses cut = full_then (then_do p f) p f t t u (at_start (then_do p f) t) cut
-cut_then p f t u error.Memory cut = stopped_then p f t u cut
-cut_then p f t u error.Down cut = stopped_then p f t u cut
-cut_then p f t u error.Disk cut = stopped_then p f t u cut
-cut_then p f t u error.NotInTx cut = stopped_then p f t u cut
-cut_then p f t u error.BadBlock cut = cut
-cut_then p f t u error.BadRange cut = cut
-cut_then p f t u error.NoAccess cut = cut
-cut_then p f t u error.TooManyMarks cut = cut
+cut_then p f t u e = cut_as p (then_do p f) t u t e (full_then (then_do p f) p f t t u (at_start (then_do p f) t)) (stopped_then p f t u)
 
 rose_earlier : (k m n : ℕ) → k ≤ m → Rose m n → Rose k n
 rose_earlier k m n le rose = omega arith

@@ -1,5 +1,5 @@
 -- What a program may answer, and which blocks it may write, whatever it reads.
-use Rattle.tx_blocks.proofs.Words.{◌≡◌, ◌∙◌, sym, refl, ap, subst, ℕ, Bool, true, false, cond, List, [], ◌∷◌, Option, Some, None, both_ways, Access, Array, put, own, at_cell, block_at, Done, Look, LookWhole, Program, Reserve, Store, accesses_of, bytes_in, further_bytes, store_access, then_do, other_block}
+use Rattle.tx_blocks.proofs.Words.{◌≡◌, ◌∙◌, refl, ap, ℕ, Bool, true, false, cond, List, Option, Some, None, both_ways, Array, put, own, at_cell, block_at, Done, Look, LookWhole, Program, Reserve, Store, accesses_of, bytes_in, further_bytes, store_access, then_do, other_block}
 
 -- each answer that it may give has the property
 abbrev pub Answers : {R : Type 0} → (R → Type 0) → Program R → Type 0

@@ -1,12 +1,18 @@
-use Rattle.iso_tree.proofs.Words.{◌≡◌, ◌∙◌, sym, refl, ap, subst, ℕ, suc, ◌+◌, ◌*◌, ◌/◌, ◌≤◌, List, [], length, take, Ok, rules, arith, TxError, cell_count, keys_end, Done, Store, bytes_in, Tx, HasRun, IsCut, Cell, child_part, count_of, node_bytes, used_cells, key_in_row, row_from, Answer, placed, root_cells, store_nodes}
-use Rattle.store_model.specs.declared.stores.StoreError.TheVariants as store
-use Rattle.iso_tree.proofs.Climbing.{first_usable, rest_usable, rest_inside, room_for, rest_room, last_writes, code_writes, rest_enough, more_inside, full_some, first_fails, second_fails, both_run, room_after, open_after, root_run}
+use Rattle.iso_tree.proofs.Words.{◌≡◌, ◌∙◌, sym, refl, ap, subst, ℕ, suc, ◌+◌, ◌*◌, ◌/◌, ◌≤◌, List, [], length, take, Ok, rules, arith, cell_count, keys_end, Done, Store, bytes_in, HasRun, Cell, count_of, node_bytes, used_cells, key_in_row, row_from, placed, root_cells, store_nodes, are_key_parts, true, Err}
+use Rattle.iso_tree.proofs.Climbing.{first_usable, rest_usable, rest_inside, last_writes, code_writes, rest_enough, more_inside, full_some, followed_end, root_run}
 use Rattle.iso_tree.proofs.Filling.{key_fits}
+use Rattle.iso_tree.proofs.Rereading.{path_room}
 use Rattle.iso_tree.proofs.climb.+climb.Goals as goal
 
 pub piece-bytes-requires : goal.piece-bytes-requires
-piece-bytes-requires g t c =
-    omega (arith, room_for c.args.area c.args.key.now c.args.level (c.args.new_key.now, c.args.part.now) c.args.below c.in-Some.block c.in-Some.count c.args.i c.in-Some.rest.now c.args.path.now c.args.nodes.now c.args.news.now c.in-Some.ensures.some c.requires.usable (length c.args.nodes.now) c.requires.nodes)
+piece-bytes-requires g t c = omega (arith, (path_room c.args.area.size c.args.i (length c.args.nodes.now) c.in-Some.block c.in-Some.count c.in-Some.rest.now c.args.path.now c.in-Some.ensures.some c.requires.nodes).0)
+
+pub overflow_add-next : goal.overflow_add-next
+overflow_add-next g t c =
+    let least = c.requires.area.least_size in
+    let room = (path_room c.args.area.size c.args.i (length c.args.nodes.now) c.in-Some.block c.in-Some.count c.in-Some.rest.now c.args.path.now c.in-Some.ensures.some c.requires.nodes).0 in
+    let le : c.args.i * 1 ≤ c.args.i * c.args.area.size = Rattle.std.proofs.Math.Nat.mul-le-mul_left c.args.i (omega arith) in
+    omega (arith, c.requires.short)
 
 pub store_grown-requires-clause-room : goal.store_grown-requires-clause-room
 store_grown-requires-clause-room g t c =
@@ -31,171 +37,74 @@ returns-then-count-cell_count-clause-run g t c =
     subst (λ (ws : List (ℕ × ℕ × List Cell)). HasRun (store_nodes a ws (Done (Ok tt))) (state c.args.tx.now) (state c.store_grown.new.tx) c.store_grown.result) (sym writes)
     (subst (λ (b : List ℕ). HasRun (Store (a.start + c.in-Some.block) [] b (Done (Ok tt))) (state c.args.tx.now) (state c.store_grown.new.tx) c.store_grown.result) into c.store_grown.ensures.run)
 
+pub store_halves-requires-clause-room : goal.store_halves-requires-clause-room
+store_halves-requires-clause-room g t c =
+    let state = g.T.TxBlocks.state in
+    let a = c.args.area in
+    let new : Cell = (c.args.new_key.now, c.args.part.now) in
+    let r = c.in-Some-first_new-2.new in
+    let b = c.piece-bytes.result.now in
+    let full : cell_count a.size ≤ c.in-Some.count = omega (arith, c.if-count-cell_count.false, c.cell_count.ensures) in
+    let two : 2 ≤ cell_count a.size = let w = c.requires.block_size.whole in let l = c.requires.area.least_size in omega arith in
+    let writes = code_writes a c.args.key.now c.args.level new c.args.below c.in-Some.block c.in-Some.count c.args.i c.in-Some.rest.now c.args.path.now c.args.nodes.now c.args.news.now c.in-Some.ensures.some c.requires.usable
+    full r c.in-Some-first_new-2.more.now c.in-Some-first_new-2.ensures.some c.place_in-place.result b c.piece-bytes.ensures.value (c.place_in-place.ensures.row new) two _ _ refl refl in
+    omega (arith, ap length writes, c.requires.room)
+
 pub returns-in-Err-clause-run : goal.returns-in-Err-clause-run
 returns-in-Err-clause-run g t c =
     let state = g.T.TxBlocks.state in
-    let device = g.T.TxBlocks.device in
     let a = c.args.area in
     let new : Cell = (c.args.new_key.now, c.args.part.now) in
     let r = c.in-Some-first_new-2.new in
     let b = c.piece-bytes.result.now in
     let full : cell_count a.size ≤ c.in-Some.count = omega (arith, c.if-count-cell_count.false, c.cell_count.ensures) in
     let two : 2 ≤ cell_count a.size = let w = c.requires.block_size.whole in let l = c.requires.area.least_size in omega arith in
-    let row : row_from a.size b c.place_in-place.result new 0 (count_of (take (keys_end a.size) b) + 1) ≡ placed c.args.level c.args.key.now new (used_cells a.size b) = c.place_in-place.ensures.row new in
     let writes = code_writes a c.args.key.now c.args.level new c.args.below c.in-Some.block c.in-Some.count c.args.i c.in-Some.rest.now c.args.path.now c.args.nodes.now c.args.news.now c.in-Some.ensures.some c.requires.usable
-    full r c.in-Some-first_new-2.more.now c.in-Some-first_new-2.ensures.some c.place_in-place.result b c.piece-bytes.ensures.value row two (key_in_row (take (keys_end a.size) b) c.place_in-place.result c.args.new_key.now ((c.in-Some.count + 1) / 2)) (child_part r) refl refl in
-    subst (λ (ws : List (ℕ × ℕ × List Cell)). IsCut {R = Answer} (store_nodes a ws (Done (Ok tt))) (state c.args.tx.now) (state c.store_left.new.tx) c.in-Err.e) (sym writes)
-    (first_fails (a.start + c.in-Some.block) _ _ (state c.args.tx.now) (state c.store_left.new.tx) (device c.args.tx.now) (device c.store_left.new.tx) c.in-Err.e c.in-Err.ensures.kept c.in-Err.ensures.cause)
-
-pub returns-in-Err-clause-memory : goal.returns-in-Err-clause-memory
-returns-in-Err-clause-memory g t c =
-    let state = g.T.TxBlocks.state in
-    let device = g.T.TxBlocks.device in
-    let a = c.args.area in
-    let new : Cell = (c.args.new_key.now, c.args.part.now) in
-    let r = c.in-Some-first_new-2.new in
-    let b = c.piece-bytes.result.now in
-    let full : cell_count a.size ≤ c.in-Some.count = omega (arith, c.if-count-cell_count.false, c.cell_count.ensures) in
-    let two : 2 ≤ cell_count a.size = let w = c.requires.block_size.whole in let l = c.requires.area.least_size in omega arith in
-    let row : row_from a.size b c.place_in-place.result new 0 (count_of (take (keys_end a.size) b) + 1) ≡ placed c.args.level c.args.key.now new (used_cells a.size b) = c.place_in-place.ensures.row new in
-    let writes = code_writes a c.args.key.now c.args.level new c.args.below c.in-Some.block c.in-Some.count c.args.i c.in-Some.rest.now c.args.path.now c.args.nodes.now c.args.news.now c.in-Some.ensures.some c.requires.usable
-    full r c.in-Some-first_new-2.more.now c.in-Some-first_new-2.ensures.some c.place_in-place.result b c.piece-bytes.ensures.value row two (key_in_row (take (keys_end a.size) b) c.place_in-place.result c.args.new_key.now ((c.in-Some.count + 1) / 2)) (child_part r) refl refl in
-    ap (λ (e : TxError). store.Tx e) (c.in-Err.ensures.room (omega (arith, ap length writes, c.requires.room)) c.requires.is_open)
-
-pub returns-in-Err-store_right-clause-run : goal.returns-in-Err-store_right-clause-run
-returns-in-Err-store_right-clause-run g t c =
-    let state = g.T.TxBlocks.state in
-    let device = g.T.TxBlocks.device in
-    let a = c.args.area in
-    let new : Cell = (c.args.new_key.now, c.args.part.now) in
-    let r = c.in-Some-first_new-2.new in
-    let b = c.piece-bytes.result.now in
-    let full : cell_count a.size ≤ c.in-Some.count = omega (arith, c.if-count-cell_count.false, c.cell_count.ensures) in
-    let two : 2 ≤ cell_count a.size = let w = c.requires.block_size.whole in let l = c.requires.area.least_size in omega arith in
-    let row : row_from a.size b c.place_in-place.result new 0 (count_of (take (keys_end a.size) b) + 1) ≡ placed c.args.level c.args.key.now new (used_cells a.size b) = c.place_in-place.ensures.row new in
-    let writes = code_writes a c.args.key.now c.args.level new c.args.below c.in-Some.block c.in-Some.count c.args.i c.in-Some.rest.now c.args.path.now c.args.nodes.now c.args.news.now c.in-Some.ensures.some c.requires.usable
-    full r c.in-Some-first_new-2.more.now c.in-Some-first_new-2.ensures.some c.place_in-place.result b c.piece-bytes.ensures.value row two (key_in_row (take (keys_end a.size) b) c.place_in-place.result c.args.new_key.now ((c.in-Some.count + 1) / 2)) (child_part r) refl refl in
-    let u = state c.store_left.new.tx in
-    let limits = (g.met.T.TxBlocks.limits c.store_left.new.tx).count in
-    subst (λ (ws : List (ℕ × ℕ × List Cell)). IsCut {R = Answer} (store_nodes a ws (Done (Ok tt))) (state c.args.tx.now) (state c.store_right.new.tx) c.in-Err-store_right.e) (sym writes)
-    (second_fails (a.start + c.in-Some.block) (a.start + r) _ _ _ (state c.args.tx.now) u c.in_default-store_left.ensures.stored limits (state c.store_right.new.tx) (device c.store_left.new.tx) (device c.store_right.new.tx) c.in-Err-store_right.e
-    c.in-Err-store_right.ensures.kept c.in-Err-store_right.ensures.cause)
-
-pub returns-in-Err-store_right-clause-memory : goal.returns-in-Err-store_right-clause-memory
-returns-in-Err-store_right-clause-memory g t c =
-    let state = g.T.TxBlocks.state in
-    let device = g.T.TxBlocks.device in
-    let a = c.args.area in
-    let new : Cell = (c.args.new_key.now, c.args.part.now) in
-    let r = c.in-Some-first_new-2.new in
-    let b = c.piece-bytes.result.now in
-    let full : cell_count a.size ≤ c.in-Some.count = omega (arith, c.if-count-cell_count.false, c.cell_count.ensures) in
-    let two : 2 ≤ cell_count a.size = let w = c.requires.block_size.whole in let l = c.requires.area.least_size in omega arith in
-    let row : row_from a.size b c.place_in-place.result new 0 (count_of (take (keys_end a.size) b) + 1) ≡ placed c.args.level c.args.key.now new (used_cells a.size b) = c.place_in-place.ensures.row new in
-    let writes = code_writes a c.args.key.now c.args.level new c.args.below c.in-Some.block c.in-Some.count c.args.i c.in-Some.rest.now c.args.path.now c.args.nodes.now c.args.news.now c.in-Some.ensures.some c.requires.usable
-    full r c.in-Some-first_new-2.more.now c.in-Some-first_new-2.ensures.some c.place_in-place.result b c.piece-bytes.ensures.value row two (key_in_row (take (keys_end a.size) b) c.place_in-place.result c.args.new_key.now ((c.in-Some.count + 1) / 2)) (child_part r) refl refl in
-    let u = state c.store_left.new.tx in
-    let limits = (g.met.T.TxBlocks.limits c.store_left.new.tx).count in
-    let after = room_after (state c.args.tx.now) u _ c.in_default-store_left.ensures.stored limits in
-    ap (λ (e : TxError). store.Tx e) (c.in-Err-store_right.ensures.room (omega (arith, ap length writes, c.requires.room, after)) (open_after (state c.args.tx.now) u _ c.in_default-store_left.ensures.stored c.requires.is_open))
+    full r c.in-Some-first_new-2.more.now c.in-Some-first_new-2.ensures.some c.place_in-place.result b c.piece-bytes.ensures.value (c.place_in-place.ensures.row new) two _ _ refl refl in
+    subst (λ (ws : List (ℕ × ℕ × List Cell)). HasRun {X = Unit {0}} (store_nodes a ws (Done (Ok tt))) (state c.args.tx.now) (state c.store_halves.new.tx) (Err c.in-Err.e)) (sym writes) (c.in-Err.ensures.run _)
 
 pub climb-requires : goal.climb-requires
 climb-requires g t c κs within =
     let state = g.T.TxBlocks.state in
-    let device = g.T.TxBlocks.device in
     let a = c.args.area in
     let new : Cell = (c.args.new_key.now, c.args.part.now) in
     let r = c.in-Some-first_new-2.new in
     let b = c.piece-bytes.result.now in
     let full : cell_count a.size ≤ c.in-Some.count = omega (arith, c.if-count-cell_count.false, c.cell_count.ensures) in
     let two : 2 ≤ cell_count a.size = let w = c.requires.block_size.whole in let l = c.requires.area.least_size in omega arith in
-    let row : row_from a.size b c.place_in-place.result new 0 (count_of (take (keys_end a.size) b) + 1) ≡ placed c.args.level c.args.key.now new (used_cells a.size b) = c.place_in-place.ensures.row new in
-    let u = state c.store_left.new.tx in
-    let limits = (g.met.T.TxBlocks.limits c.store_left.new.tx).count in
     let keys_is : c.piece-keys.result.now ≡ take (keys_end a.size) b = c.piece-keys.ensures.value ∙ ap (λ (n : ℕ). take (64 + 31 * n) b) c.cell_count-2.ensures in
     let k_is : c.row_key-separator.result.now ≡ key_in_row (take (keys_end a.size) b) c.place_in-place.result c.args.new_key.now ((c.in-Some.count + 1) / 2) = c.row_key-separator.ensures ∙ ap (λ (x : List ℕ). key_in_row x c.place_in-place.result c.args.new_key.now ((c.in-Some.count + 1) / 2)) keys_is in
     let writes = code_writes a c.args.key.now c.args.level new c.args.below c.in-Some.block c.in-Some.count c.args.i c.in-Some.rest.now c.args.path.now c.args.nodes.now c.args.news.now c.in-Some.ensures.some c.requires.usable
-    full r c.in-Some-first_new-2.more.now c.in-Some-first_new-2.ensures.some c.place_in-place.result b c.piece-bytes.ensures.value row two (c.row_key-separator.result.now) (c.child_part-new_part.result) k_is c.child_part-new_part.ensures in
-    let v = state c.store_right.new.tx in
-    let limits2 = (g.met.T.TxBlocks.limits c.store_right.new.tx).count in
-    let after = room_after (state c.args.tx.now) u _ c.in_default-store_left.ensures.stored limits in
-    let after2 = room_after u v _ c.in_default-store_right.ensures.stored limits2 in
+    full r c.in-Some-first_new-2.more.now c.in-Some-first_new-2.ensures.some c.place_in-place.result b c.piece-bytes.ensures.value (c.place_in-place.ensures.row new) two c.row_key-separator.result.now c.child_part-new_part.result k_is c.child_part-new_part.ensures in
+    let after = c.in_default-store_halves.ensures.after in
     let usable = first_usable a c.args.key.now c.args.level new c.args.below c.in-Some.block c.in-Some.count c.args.i c.in-Some.rest.now c.args.path.now c.args.nodes.now c.args.news.now c.in-Some.ensures.some c.requires.usable in
+    let row2 = subst (λ (x : List ℕ). row_from a.size x c.place_in-place.result new 0 (count_of (take (keys_end a.size) x) + 1) ≡ placed c.args.level c.args.key.now new (used_cells a.size x)) c.piece-bytes.ensures.value (c.place_in-place.ensures.row new) in
     let shorter : length c.args.path.now ≡ suc (length c.in-Some.rest.now) = ap length c.in-Some.ensures.some in
-    let least : length c.args.path.now ≤ 255 = let l = c.requires.level in omega arith in (
-      omega (arith, shorter, c.decreases),
-      (
-        search rules,
-        (
-          c.requires.area,
-          (
-            c.requires.block_size,
-            (
-              ap (λ (w : Tx). w.size) c.in_default-store_right.ensures.stored ∙ ap (λ (w : Tx). w.size) c.in_default-store_left.ensures.stored ∙ c.requires.size,
-              (
-                omega (arith, c.requires.fits, ap (λ (w : Tx). w.blocks) c.in_default-store_right.ensures.stored, ap (λ (w : Tx). w.blocks) c.in_default-store_left.ensures.stored),
-                (
-                  open_after u v _ c.in_default-store_right.ensures.stored (open_after (state c.args.tx.now) u _ c.in_default-store_left.ensures.stored c.requires.is_open),
-                  (
-                    omega (arith, ap length k_is, key_fits a.size b c.place_in-place.result new (subst (λ (x : List ℕ). Rattle.store_model.specs.Cells.are_key_parts a.size (take (keys_end a.size) x) ≡ Rattle.std.proofs.Common.true) (sym c.piece-bytes.ensures.value) usable.parts) c.requires.new_key c.place_in-place.ensures.most ((c.in-Some.count + 1) / 2) (let few = usable.few in omega arith)),
-                    (
-                      ap length c.child_part-new_part.ensures,
-                      (
-                        omega (arith, shorter, c.requires.level),
-                        (
-                          rest_inside a c.args.key.now c.args.level new c.args.below c.in-Some.block c.in-Some.count c.args.i c.in-Some.rest.now c.args.path.now c.args.nodes.now c.args.news.now c.in-Some.ensures.some c.requires.usable c.requires.path,
-                          (
-                            rest_room a c.args.key.now c.args.level new c.args.below c.in-Some.block c.in-Some.count c.args.i c.in-Some.rest.now c.args.path.now c.args.nodes.now c.args.news.now c.in-Some.ensures.some c.requires.usable (length c.args.nodes.now) c.requires.nodes,
-                            (
-                              c.requires.short,
-                              (
-                                rest_usable a c.args.key.now c.args.level new c.args.below c.in-Some.block c.in-Some.count c.args.i c.in-Some.rest.now c.args.path.now c.args.nodes.now c.args.news.now c.in-Some.ensures.some c.requires.usable,
-                                (
-                                  more_inside a c.args.key.now c.args.level new c.args.below c.in-Some.block c.in-Some.count c.args.i c.in-Some.rest.now c.args.path.now c.args.nodes.now c.args.news.now c.in-Some.ensures.some c.requires.usable full r c.in-Some-first_new-2.more.now c.in-Some-first_new-2.ensures.some c.place_in-place.result (subst (λ (x : List ℕ). row_from a.size x c.place_in-place.result new 0 (count_of (take (keys_end a.size) x) + 1) ≡ placed c.args.level c.args.key.now new (used_cells a.size x)) c.piece-bytes.ensures.value row) two c.requires.news,
-                                  (
-                                    rest_enough a c.args.key.now c.args.level new c.args.below c.in-Some.block c.in-Some.count c.args.i c.in-Some.rest.now c.args.path.now c.args.nodes.now c.args.news.now c.in-Some.ensures.some c.requires.usable full r c.in-Some-first_new-2.more.now c.in-Some-first_new-2.ensures.some c.place_in-place.result (subst (λ (x : List ℕ). row_from a.size x c.place_in-place.result new 0 (count_of (take (keys_end a.size) x) + 1) ≡ placed c.args.level c.args.key.now new (used_cells a.size x)) c.piece-bytes.ensures.value row) two c.requires.enough,
-                                    (
-                                      omega (arith, ap length writes, c.requires.room, after, after2),
-                                      c.store_right.auto.into ∙ c.store_left.auto.into ∙ c.requires.into,
-                                    ),
-                                  ),
-                                ),
-                              ),
-                            ),
-                          ),
-                        ),
-                      ),
-                    ),
-                  ),
-                ),
-              ),
-            ),
-          ),
-        ),
-      ),
-    )
+    let least : length c.args.path.now ≤ 255 = let l = c.requires.level in omega arith in
+    let short : length c.row_key-separator.result.now ≤ 28 = omega (arith, ap length k_is, key_fits a.size b c.place_in-place.result new (subst (λ (x : List ℕ). are_key_parts a.size (take (keys_end a.size) x) ≡ true) (sym c.piece-bytes.ensures.value) usable.parts) c.requires.new_key c.place_in-place.ensures.most ((c.in-Some.count + 1) / 2) (let few = usable.few in omega arith)) in
+    (omega (arith, shorter, c.decreases), (search rules, (c.requires.area, (c.requires.block_size, (after.size ∙ c.requires.size, (omega (arith, c.requires.fits, after.blocks), (after.is_open ∙ c.requires.is_open,
+    (short, (ap length c.child_part-new_part.ensures, (omega (arith, shorter, c.requires.level),
+    (rest_inside a c.args.key.now c.args.level new c.args.below c.in-Some.block c.in-Some.count c.args.i c.in-Some.rest.now c.args.path.now c.args.nodes.now c.args.news.now c.in-Some.ensures.some c.requires.usable c.requires.path,
+    ((path_room c.args.area.size c.args.i (length c.args.nodes.now) c.in-Some.block c.in-Some.count c.in-Some.rest.now c.args.path.now c.in-Some.ensures.some c.requires.nodes).1,
+    (c.requires.short, (rest_usable a c.args.key.now c.args.level new c.args.below c.in-Some.block c.in-Some.count c.args.i c.in-Some.rest.now c.args.path.now c.args.nodes.now c.args.news.now c.in-Some.ensures.some c.requires.usable,
+    (more_inside a c.args.key.now c.args.level new c.args.below c.in-Some.block c.in-Some.count c.args.i c.in-Some.rest.now c.args.path.now c.args.nodes.now c.args.news.now c.in-Some.ensures.some c.requires.usable full r c.in-Some-first_new-2.more.now c.in-Some-first_new-2.ensures.some c.place_in-place.result row2 two c.requires.news,
+    (rest_enough a c.args.key.now c.args.level new c.args.below c.in-Some.block c.in-Some.count c.args.i c.in-Some.rest.now c.args.path.now c.args.nodes.now c.args.news.now c.in-Some.ensures.some c.requires.usable full r c.in-Some-first_new-2.more.now c.in-Some-first_new-2.ensures.some c.place_in-place.result row2 two c.requires.enough,
+    (omega (arith, ap length writes, c.requires.room, after.room), c.store_halves.auto.into ∙ c.requires.into)))))))))))))))))
 
 pub returns-clause-run : goal.returns-clause-run
 returns-clause-run g t c =
     let state = g.T.TxBlocks.state in
-    let device = g.T.TxBlocks.device in
     let a = c.args.area in
     let new : Cell = (c.args.new_key.now, c.args.part.now) in
     let r = c.in-Some-first_new-2.new in
     let b = c.piece-bytes.result.now in
     let full : cell_count a.size ≤ c.in-Some.count = omega (arith, c.if-count-cell_count.false, c.cell_count.ensures) in
     let two : 2 ≤ cell_count a.size = let w = c.requires.block_size.whole in let l = c.requires.area.least_size in omega arith in
-    let row : row_from a.size b c.place_in-place.result new 0 (count_of (take (keys_end a.size) b) + 1) ≡ placed c.args.level c.args.key.now new (used_cells a.size b) = c.place_in-place.ensures.row new in
-    let u = state c.store_left.new.tx in
-    let limits = (g.met.T.TxBlocks.limits c.store_left.new.tx).count in
     let keys_is : c.piece-keys.result.now ≡ take (keys_end a.size) b = c.piece-keys.ensures.value ∙ ap (λ (n : ℕ). take (64 + 31 * n) b) c.cell_count-2.ensures in
     let k_is : c.row_key-separator.result.now ≡ key_in_row (take (keys_end a.size) b) c.place_in-place.result c.args.new_key.now ((c.in-Some.count + 1) / 2) = c.row_key-separator.ensures ∙ ap (λ (x : List ℕ). key_in_row x c.place_in-place.result c.args.new_key.now ((c.in-Some.count + 1) / 2)) keys_is in
     let writes = code_writes a c.args.key.now c.args.level new c.args.below c.in-Some.block c.in-Some.count c.args.i c.in-Some.rest.now c.args.path.now c.args.nodes.now c.args.news.now c.in-Some.ensures.some c.requires.usable
-    full r c.in-Some-first_new-2.more.now c.in-Some-first_new-2.ensures.some c.place_in-place.result b c.piece-bytes.ensures.value row two (c.row_key-separator.result.now) (c.child_part-new_part.result) k_is c.child_part-new_part.ensures in
-    let v = state c.store_right.new.tx in
-    let limits2 = (g.met.T.TxBlocks.limits c.store_right.new.tx).count in
-    subst (λ (ws : List (ℕ × ℕ × List Cell)). HasRun (store_nodes a ws (Done (Ok tt))) (state c.args.tx.now) (state c.climb.new.tx) c.climb.result) (sym writes)
-    (both_run (a.start + c.in-Some.block) (a.start + r) _ _ _ (state c.args.tx.now) u c.in_default-store_left.ensures.stored limits v (state c.climb.new.tx) c.climb.result c.in_default-store_right.ensures.stored limits2 c.climb.ensures.run)
+    full r c.in-Some-first_new-2.more.now c.in-Some-first_new-2.ensures.some c.place_in-place.result b c.piece-bytes.ensures.value (c.place_in-place.ensures.row new) two c.row_key-separator.result.now c.child_part-new_part.result k_is c.child_part-new_part.ensures in
+    subst (λ (ws : List (ℕ × ℕ × List Cell)). HasRun (store_nodes a ws (Done (Ok tt))) (state c.args.tx.now) (state c.climb.new.tx) c.climb.result) (sym writes) (c.in_default-store_halves.ensures.run _ (state c.climb.new.tx) c.climb.result c.climb.ensures.run)
 
 pub returns-in_default-first_new-2-clause-run : goal.returns-in_default-first_new-2-clause-run
 returns-in_default-first_new-2-clause-run g t c =
@@ -209,5 +118,5 @@ returns-in_default-clause-run g t c =
     let state = g.T.TxBlocks.state in
     let a = c.args.area in
     root_run a (cell_count a.size) c.args.key.now c.args.level (c.args.new_key.now, c.args.part.now) c.args.below c.args.i c.in-Some-first_new.root c.args.path.now c.args.nodes.now c.args.news.now c.in-Some-first_new.field-0-1.now c.fill_root.new.into
-    (state c.args.tx.now) (state c.store_last.new.tx) c.store_last.result (search rules) c.in-Some-first_new.ensures.some
-    (c.fill_root.ensures ∙ ap (λ (n : ℕ). node_bytes n c.args.level (root_cells c.args.level c.args.below (c.args.new_key.now, c.args.part.now))) c.requires.into) c.store_last.ensures.run
+    (state c.args.tx.now) (state c.store_next.new.tx) c.store_next.result (search rules) c.in-Some-first_new.ensures.some
+    (c.fill_root.ensures ∙ ap (λ (n : ℕ). node_bytes n c.args.level (root_cells c.args.level c.args.below (c.args.new_key.now, c.args.part.now))) c.requires.into) (followed_end _ (state c.args.tx.now) (state c.store_next.new.tx) c.store_next.result (c.store_next.ensures.run (Done (Ok tt))))

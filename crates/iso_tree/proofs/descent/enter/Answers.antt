@@ -1,6 +1,6 @@
-use Rattle.iso_tree.proofs.Words.{◌≡◌, ◌∙◌, sym, refl, ap, subst, ◌+◌, ◌<◌, [], ◌∷◌, ℕ, true, None, arith, Span, cell_count, keys_mark, value_mark, bytes_in, look_access, Device, mark_refusal, with_accesses, at_start, cut_at_look, inner_further, child_program, may_mark, marked_access, count_of, place_of, is_child, child_of}
+use Rattle.iso_tree.proofs.Words.{◌≡◌, ◌∙◌, sym, refl, ap, subst, ◌+◌, ◌<◌, [], ◌∷◌, None, arith, Span, cell_count, keys_mark, value_mark, bytes_in, look_access, mark_refusal, with_accesses, at_start, cut_at_look, inner_further, child_program, may_mark, count_of, place_of, child_of}
 use Rattle.iso_tree.proofs.Facts.{inner_many, child_below, node_parts, nothing_is}
-use Rattle.iso_tree.proofs.Looking.{node_of, not_node, child_not_node, child_broken, child_read, ok_read, broken_read, later_as}
+use Rattle.iso_tree.proofs.Looking.{node_of, not_node, child_not_node, child_broken, child_read, child_marked, child_shown, part_shown, ok_marked, broken_marked}
 use Rattle.iso_tree.proofs.descent.enter.Goals as goal
 
 pub place-place-requires : goal.place-place-requires
@@ -32,87 +32,45 @@ returns-in_default-of-clause-run g c =
 pub returns-then-not-has_child-clause-run : goal.returns-then-not-has_child-clause-run
 returns-then-not-has_child-clause-run g c =
     let state = g.T.TxBlocks.state in
-    let device = g.T.TxBlocks.device in
     let a = c.args.area in
     let node = node_of a c.args.level c.look.new.into c.in-Some.node c.region_of.result (c.look.auto.into ∙ c.requires.buffer) c.in-Some.ensures.value c.region_of.ensures (c.in-Some.ensures.some.0 refl) in
-    let place : c.place-place.result ≡ place_of c.args.key.now (bytes_in (keys_mark a.size) c.look.new.into) = c.place-place.ensures.value ∙ ap (place_of c.args.key.now) node.keys_are in
-    let part : is_child c.in-Some.node.blocks (Rattle.store_model.specs.TreeNodes.value_in c.in-Some.node c.place-place.result) ≡ is_child a.blocks (bytes_in (value_mark a.size (place_of c.args.key.now (bytes_in (keys_mark a.size) c.look.new.into))) c.look.new.into) =
-    (λ i. is_child (node.blocks_are i) (node.values_are c.place-place.result i)) ∙ ap (λ (n : ℕ). is_child a.blocks (bytes_in (value_mark a.size n) c.look.new.into)) place in
-    let access : state c.mark.new.tx ≡ with_accesses (state c.args.tx.now) (look_access (a.start + c.args.block) (keys_mark a.size ∷ value_mark a.size (place_of c.args.key.now (bytes_in (keys_mark a.size) c.look.new.into)) ∷ []) ∷ []) =
-    marked_access (state c.args.tx.now) (state c.look.new.tx) (state c.mark.new.tx) _ _ c.in_default.ensures.read c.mark.ensures.marked
-    ∙ (λ i. with_accesses (state c.args.tx.now) (look_access (a.start + c.args.block) (c.keys_mark.ensures i ∷ c.value_mark.ensures i ∷ []) ∷ []))
-    ∙ ap (λ (n : ℕ). with_accesses (state c.args.tx.now) (look_access (a.start + c.args.block) (keys_mark a.size ∷ value_mark a.size n ∷ []) ∷ [])) place in
+    let access = child_marked a c.args.key.now c.args.level c.look.new.into c.in-Some.node c.place-place.result node c.place-place.ensures.value c.args.block (state c.args.tx.now) (state c.look.new.tx) (state c.mark.new.tx)
+    c.keys_mark.result c.value_mark.result c.keys_mark.ensures c.value_mark.ensures c.in_default.ensures.read c.mark.ensures.marked in
     child_broken a (state c.args.tx.now) (state c.mark.new.tx) c.look.new.into (g.met.T.TxBlocks.limits c.mark.new.tx).count c.args.block c.in_default.ensures.bytes c.args.key.now c.args.level access node.passes
-    (sym (c.has_child.ensures ∙ part) ∙ c.if-not-has_child.true)
+    (child_shown a c.args.key.now c.args.level c.look.new.into c.in-Some.node c.place-place.result node c.place-place.ensures.value c.has_child.result c.has_child.ensures ∙ c.if-not-has_child.true)
 
 pub returns-then-not-has_child-clause-reads : goal.returns-then-not-has_child-clause-reads
 returns-then-not-has_child-clause-reads g c =
     let state = g.T.TxBlocks.state in
     let device = g.T.TxBlocks.device in
-    let a = c.args.area in
-    let node = node_of a c.args.level c.look.new.into c.in-Some.node c.region_of.result (c.look.auto.into ∙ c.requires.buffer) c.in-Some.ensures.value c.region_of.ensures (c.in-Some.ensures.some.0 refl) in
-    let place : c.place-place.result ≡ place_of c.args.key.now (bytes_in (keys_mark a.size) c.look.new.into) = c.place-place.ensures.value ∙ ap (place_of c.args.key.now) node.keys_are in
-    let part : is_child c.in-Some.node.blocks (Rattle.store_model.specs.TreeNodes.value_in c.in-Some.node c.place-place.result) ≡ is_child a.blocks (bytes_in (value_mark a.size (place_of c.args.key.now (bytes_in (keys_mark a.size) c.look.new.into))) c.look.new.into) =
-    (λ i. is_child (node.blocks_are i) (node.values_are c.place-place.result i)) ∙ ap (λ (n : ℕ). is_child a.blocks (bytes_in (value_mark a.size n) c.look.new.into)) place in
-    let access : state c.mark.new.tx ≡ with_accesses (state c.args.tx.now) (look_access (a.start + c.args.block) (keys_mark a.size ∷ value_mark a.size (place_of c.args.key.now (bytes_in (keys_mark a.size) c.look.new.into)) ∷ []) ∷ []) =
-    marked_access (state c.args.tx.now) (state c.look.new.tx) (state c.mark.new.tx) _ _ c.in_default.ensures.read c.mark.ensures.marked
-    ∙ (λ i. with_accesses (state c.args.tx.now) (look_access (a.start + c.args.block) (c.keys_mark.ensures i ∷ c.value_mark.ensures i ∷ []) ∷ []))
-    ∙ ap (λ (n : ℕ). with_accesses (state c.args.tx.now) (look_access (a.start + c.args.block) (keys_mark a.size ∷ value_mark a.size n ∷ []) ∷ [])) place in
-    broken_read (state c.args.tx.now) (state c.mark.new.tx) _ (device c.args.tx.now) (device c.mark.new.tx) (a.start + c.args.block) access refl (later_as (device c.args.tx.now) (device c.look.new.tx) (device c.mark.new.tx) c.in_default.ensures.later c.mark.ensures.device)
-    (ap (λ (d : Device). d.faults) c.mark.ensures.device ∙ c.in_default.ensures.passed)
+    broken_marked (state c.args.tx.now) (state c.look.new.tx) (state c.mark.new.tx) _ _ (device c.args.tx.now) (device c.look.new.tx) (device c.mark.new.tx)
+    c.in_default.ensures.read c.mark.ensures.marked refl c.in_default.ensures.later c.in_default.ensures.passed c.mark.ensures.device (c.args.area.start + c.args.block)
 
 pub returns-clause-run : goal.returns-clause-run
 returns-clause-run g c =
     let state = g.T.TxBlocks.state in
-    let device = g.T.TxBlocks.device in
     let a = c.args.area in
     let node = node_of a c.args.level c.look.new.into c.in-Some.node c.region_of.result (c.look.auto.into ∙ c.requires.buffer) c.in-Some.ensures.value c.region_of.ensures (c.in-Some.ensures.some.0 refl) in
-    let place : c.place-place.result ≡ place_of c.args.key.now (bytes_in (keys_mark a.size) c.look.new.into) = c.place-place.ensures.value ∙ ap (place_of c.args.key.now) node.keys_are in
-    let part : is_child c.in-Some.node.blocks (Rattle.store_model.specs.TreeNodes.value_in c.in-Some.node c.place-place.result) ≡ is_child a.blocks (bytes_in (value_mark a.size (place_of c.args.key.now (bytes_in (keys_mark a.size) c.look.new.into))) c.look.new.into) =
-    (λ i. is_child (node.blocks_are i) (node.values_are c.place-place.result i)) ∙ ap (λ (n : ℕ). is_child a.blocks (bytes_in (value_mark a.size n) c.look.new.into)) place in
-    let access : state c.mark.new.tx ≡ with_accesses (state c.args.tx.now) (look_access (a.start + c.args.block) (keys_mark a.size ∷ value_mark a.size (place_of c.args.key.now (bytes_in (keys_mark a.size) c.look.new.into)) ∷ []) ∷ []) =
-    marked_access (state c.args.tx.now) (state c.look.new.tx) (state c.mark.new.tx) _ _ c.in_default.ensures.read c.mark.ensures.marked
-    ∙ (λ i. with_accesses (state c.args.tx.now) (look_access (a.start + c.args.block) (c.keys_mark.ensures i ∷ c.value_mark.ensures i ∷ []) ∷ []))
-    ∙ ap (λ (n : ℕ). with_accesses (state c.args.tx.now) (look_access (a.start + c.args.block) (keys_mark a.size ∷ value_mark a.size n ∷ []) ∷ [])) place in
+    let access = child_marked a c.args.key.now c.args.level c.look.new.into c.in-Some.node c.place-place.result node c.place-place.ensures.value c.args.block (state c.args.tx.now) (state c.look.new.tx) (state c.mark.new.tx)
+    c.keys_mark.result c.value_mark.result c.keys_mark.ensures c.value_mark.ensures c.in_default.ensures.read c.mark.ensures.marked in
     child_read a (state c.args.tx.now) (state c.mark.new.tx) c.look.new.into (g.met.T.TxBlocks.limits c.mark.new.tx).count c.args.block c.in_default.ensures.bytes c.args.key.now c.args.level access node.passes c.child.result c.count.result
-    (sym (c.has_child.ensures ∙ part) ∙ c.if-not-has_child.false)
-    (c.child.ensures ∙ ap child_of (node.values_are c.place-place.result ∙ ap (λ (i : ℕ). bytes_in (value_mark a.size i) c.look.new.into) place))
-    (c.count.ensures.value ∙ ap count_of node.keys_are)
+    (child_shown a c.args.key.now c.args.level c.look.new.into c.in-Some.node c.place-place.result node c.place-place.ensures.value c.has_child.result c.has_child.ensures ∙ c.if-not-has_child.false)
+    (c.child.ensures ∙ ap child_of (part_shown a c.args.key.now c.args.level c.look.new.into c.in-Some.node c.place-place.result node c.place-place.ensures.value)) (c.count.ensures.value ∙ ap count_of node.keys_are)
 
 pub returns-clause-inside : goal.returns-clause-inside
 returns-clause-inside g c =
-    let state = g.T.TxBlocks.state in
-    let device = g.T.TxBlocks.device in
     let a = c.args.area in
     let node = node_of a c.args.level c.look.new.into c.in-Some.node c.region_of.result (c.look.auto.into ∙ c.requires.buffer) c.in-Some.ensures.value c.region_of.ensures (c.in-Some.ensures.some.0 refl) in
-    let place : c.place-place.result ≡ place_of c.args.key.now (bytes_in (keys_mark a.size) c.look.new.into) = c.place-place.ensures.value ∙ ap (place_of c.args.key.now) node.keys_are in
-    let part : is_child c.in-Some.node.blocks (Rattle.store_model.specs.TreeNodes.value_in c.in-Some.node c.place-place.result) ≡ is_child a.blocks (bytes_in (value_mark a.size (place_of c.args.key.now (bytes_in (keys_mark a.size) c.look.new.into))) c.look.new.into) =
-    (λ i. is_child (node.blocks_are i) (node.values_are c.place-place.result i)) ∙ ap (λ (n : ℕ). is_child a.blocks (bytes_in (value_mark a.size n) c.look.new.into)) place in
-    let access : state c.mark.new.tx ≡ with_accesses (state c.args.tx.now) (look_access (a.start + c.args.block) (keys_mark a.size ∷ value_mark a.size (place_of c.args.key.now (bytes_in (keys_mark a.size) c.look.new.into)) ∷ []) ∷ []) =
-    marked_access (state c.args.tx.now) (state c.look.new.tx) (state c.mark.new.tx) _ _ c.in_default.ensures.read c.mark.ensures.marked
-    ∙ (λ i. with_accesses (state c.args.tx.now) (look_access (a.start + c.args.block) (c.keys_mark.ensures i ∷ c.value_mark.ensures i ∷ []) ∷ []))
-    ∙ ap (λ (n : ℕ). with_accesses (state c.args.tx.now) (look_access (a.start + c.args.block) (keys_mark a.size ∷ value_mark a.size n ∷ []) ∷ [])) place in
-    let good : is_child a.blocks (bytes_in (value_mark a.size (place_of c.args.key.now (bytes_in (keys_mark a.size) c.look.new.into))) c.look.new.into) ≡ true = sym (c.has_child.ensures ∙ part) ∙ c.if-not-has_child.false in
-    let below = child_below a.blocks (bytes_in (value_mark a.size (place_of c.args.key.now (bytes_in (keys_mark a.size) c.look.new.into))) c.look.new.into) good in
-    let same : c.child.result ≡ child_of (bytes_in (value_mark a.size (place_of c.args.key.now (bytes_in (keys_mark a.size) c.look.new.into))) c.look.new.into) =
-    c.child.ensures ∙ ap child_of (node.values_are c.place-place.result ∙ ap (λ (i : ℕ). bytes_in (value_mark a.size i) c.look.new.into) place) in
+    let below = child_below a.blocks (bytes_in (value_mark a.size (place_of c.args.key.now (bytes_in (keys_mark a.size) c.look.new.into))) c.look.new.into) (child_shown a c.args.key.now c.args.level c.look.new.into c.in-Some.node c.place-place.result node c.place-place.ensures.value c.has_child.result c.has_child.ensures ∙ c.if-not-has_child.false) in
+    let same = c.child.ensures ∙ ap child_of (part_shown a c.args.key.now c.args.level c.look.new.into c.in-Some.node c.place-place.result node c.place-place.ensures.value) in
     record { some = omega (arith, below.some, same); below = omega (arith, below.below, same) }
 
 pub returns-clause-reads : goal.returns-clause-reads
 returns-clause-reads g c =
     let state = g.T.TxBlocks.state in
     let device = g.T.TxBlocks.device in
-    let a = c.args.area in
-    let node = node_of a c.args.level c.look.new.into c.in-Some.node c.region_of.result (c.look.auto.into ∙ c.requires.buffer) c.in-Some.ensures.value c.region_of.ensures (c.in-Some.ensures.some.0 refl) in
-    let place : c.place-place.result ≡ place_of c.args.key.now (bytes_in (keys_mark a.size) c.look.new.into) = c.place-place.ensures.value ∙ ap (place_of c.args.key.now) node.keys_are in
-    let part : is_child c.in-Some.node.blocks (Rattle.store_model.specs.TreeNodes.value_in c.in-Some.node c.place-place.result) ≡ is_child a.blocks (bytes_in (value_mark a.size (place_of c.args.key.now (bytes_in (keys_mark a.size) c.look.new.into))) c.look.new.into) =
-    (λ i. is_child (node.blocks_are i) (node.values_are c.place-place.result i)) ∙ ap (λ (n : ℕ). is_child a.blocks (bytes_in (value_mark a.size n) c.look.new.into)) place in
-    let access : state c.mark.new.tx ≡ with_accesses (state c.args.tx.now) (look_access (a.start + c.args.block) (keys_mark a.size ∷ value_mark a.size (place_of c.args.key.now (bytes_in (keys_mark a.size) c.look.new.into)) ∷ []) ∷ []) =
-    marked_access (state c.args.tx.now) (state c.look.new.tx) (state c.mark.new.tx) _ _ c.in_default.ensures.read c.mark.ensures.marked
-    ∙ (λ i. with_accesses (state c.args.tx.now) (look_access (a.start + c.args.block) (c.keys_mark.ensures i ∷ c.value_mark.ensures i ∷ []) ∷ []))
-    ∙ ap (λ (n : ℕ). with_accesses (state c.args.tx.now) (look_access (a.start + c.args.block) (keys_mark a.size ∷ value_mark a.size n ∷ []) ∷ [])) place in
-    ok_read (state c.args.tx.now) (state c.mark.new.tx) _ (device c.args.tx.now) (device c.mark.new.tx) (c.child.result, c.count.result) access refl c.in_default.ensures.is_open
-    (later_as (device c.args.tx.now) (device c.look.new.tx) (device c.mark.new.tx) c.in_default.ensures.later c.mark.ensures.device) (ap (λ (d : Device). d.faults) c.mark.ensures.device ∙ c.in_default.ensures.passed)
+    ok_marked (state c.args.tx.now) (state c.look.new.tx) (state c.mark.new.tx) _ _ (device c.args.tx.now) (device c.look.new.tx) (device c.mark.new.tx)
+    c.in_default.ensures.read c.mark.ensures.marked refl c.in_default.ensures.later c.in_default.ensures.passed c.mark.ensures.device (c.child.result, c.count.result) c.in_default.ensures.is_open
 
 pub returns-in-Err-clause-run : goal.returns-in-Err-clause-run
 returns-in-Err-clause-run g c =

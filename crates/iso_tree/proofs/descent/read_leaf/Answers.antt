@@ -1,6 +1,6 @@
-use Rattle.iso_tree.proofs.Words.{◌≡◌, ◌∙◌, sym, refl, ap, subst, ◌+◌, [], ◌∷◌, Some, None, arith, Span, keys_mark, value_mark, bytes_in, look_access, Device, mark_refusal, with_accesses, may_mark, marked_access, cell_of, at_start, cut_at_look, leaf_further, leaf_program}
+use Rattle.iso_tree.proofs.Words.{◌≡◌, ◌∙◌, sym, refl, ap, subst, ◌+◌, [], ◌∷◌, Some, None, arith, Span, keys_mark, value_mark, bytes_in, look_access, mark_refusal, with_accesses, may_mark, marked_access, cell_of, at_start, cut_at_look, leaf_further, leaf_program}
 use Rattle.iso_tree.proofs.Facts.{missing, cell_used, node_parts, nothing_is}
-use Rattle.iso_tree.proofs.Looking.{bytes_after, node_of, not_node, leaf_not_node, leaf_plain, leaf_missing, leaf_found, ok_read, later_as}
+use Rattle.iso_tree.proofs.Looking.{bytes_after, node_of, not_node, leaf_not_node, leaf_plain, leaf_missing, leaf_found, ok_marked}
 use Rattle.iso_tree.proofs.descent.read_leaf.Goals as goal
 
 pub returns-in_default-of-clause-run : goal.returns-in_default-of-clause-run
@@ -59,9 +59,8 @@ pub returns-clause-reads : goal.returns-clause-reads
 returns-clause-reads g c =
     let state = g.T.TxBlocks.state in
     let device = g.T.TxBlocks.device in
-    ok_read (state c.args.tx.now) (state c.mark.new.tx) _ (device c.args.tx.now) (device c.mark.new.tx) (record { block = c.args.block; cell = c.cell.result; count = c.count.result })
-    (marked_access (state c.args.tx.now) (state c.look.new.tx) (state c.mark.new.tx) _ _ c.in_default.ensures.read c.mark.ensures.marked) refl c.in_default.ensures.is_open
-    (later_as (device c.args.tx.now) (device c.look.new.tx) (device c.mark.new.tx) c.in_default.ensures.later c.mark.ensures.device) (ap (λ (d : Device). d.faults) c.mark.ensures.device ∙ c.in_default.ensures.passed)
+    ok_marked (state c.args.tx.now) (state c.look.new.tx) (state c.mark.new.tx) _ _ (device c.args.tx.now) (device c.look.new.tx) (device c.mark.new.tx)
+    c.in_default.ensures.read c.mark.ensures.marked refl c.in_default.ensures.later c.in_default.ensures.passed c.mark.ensures.device (record { block = c.args.block; cell = c.cell.result; count = c.count.result }) c.in_default.ensures.is_open
 
 pub returns-then-not-with_value-clause-bytes : goal.returns-then-not-with_value-clause-bytes
 returns-then-not-with_value-clause-bytes g c =

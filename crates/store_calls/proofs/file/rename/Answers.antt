@@ -1,19 +1,10 @@
 use Rattle.store_calls.proofs.Words.{sym, subst, Result, Reply, rename_program, removed_reply, outcome, areas_of, Stop, HasCalled, Stops, filed}
-use Rattle.store_calls.proofs.Called.{file_err, file_stops}
+use Rattle.store_calls.proofs.Called.{file_refused}
 use Rattle.store_calls.proofs.file.rename.Goals as goal
 
-pub returns-in-Err-clause-called : goal.returns-in-Err-clause-called
-returns-in-Err-clause-called g c =
+pub returns-in-Err : goal.returns-in-Err
+returns-in-Err g c =
     let t = g.T.TxBlocks.state c.args.tx.now in
-    let u = g.T.TxBlocks.state c.rename.new.tx in
-    let p = rename_program (areas_of t c.args.at) c.args.from.now c.args.to.now in
-    subst (λ (r : Result Reply Stop). HasCalled (λ room A. filed removed_reply (outcome room p A)) t u r) (sym c.file_refusal.ensures) (file_err p t u removed_reply c.in-Err.error c.in-Err.ensures.ended)
-
-pub returns-in-Err-clause-stops : goal.returns-in-Err-clause-stops
-returns-in-Err-clause-stops g c =
-    let t = g.T.TxBlocks.state c.args.tx.now in
-    let u = g.T.TxBlocks.state c.rename.new.tx in
-    let p = rename_program (areas_of t c.args.at) c.args.from.now c.args.to.now in
-    let before = g.T.TxBlocks.device c.args.tx.now in
-    let now = g.T.TxBlocks.device c.rename.new.tx in
-    subst (λ (r : Result Reply Stop). Stops before now r) (sym c.file_refusal.ensures) (file_stops t u before now 66 _ _ c.requires.is_open (file_err p t u removed_reply c.in-Err.error c.in-Err.ensures.ended) c.in-Err.error c.in-Err.ensures.cause)
+    let both = file_refused t (g.T.TxBlocks.state c.rename.new.tx) removed_reply (g.T.TxBlocks.device c.args.tx.now) (g.T.TxBlocks.device c.rename.new.tx) 66 c.requires.is_open c.file_refusal.result
+    (rename_program (areas_of t c.args.at) c.args.from.now c.args.to.now) c.in-Err.error c.file_refusal.ensures c.in-Err.ensures.ended c.in-Err.ensures.cause in
+    record { called = both.0; stops = both.1 }

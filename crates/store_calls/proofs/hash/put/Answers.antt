@@ -1,23 +1,14 @@
 use Rattle.store_calls.proofs.Words.{sym, subst, Result, Reply, put_program, outcome, area_of, Stop, HasCalled, Stops, stored}
 use Rattle.script_model.specs.declared.script.Reply.TheVariants as reply
-use Rattle.store_calls.proofs.Called.{called_err, called_ok, stops_err}
+use Rattle.store_calls.proofs.Called.{called_ok, refused}
 use Rattle.store_calls.proofs.hash.put.Goals as goal
 
-pub returns-in-Err-clause-called : goal.returns-in-Err-clause-called
-returns-in-Err-clause-called g c =
+pub returns-in-Err : goal.returns-in-Err
+returns-in-Err g c =
     let t = g.T.TxBlocks.state c.args.tx.now in
-    let u = g.T.TxBlocks.state c.put.new.tx in
-    let p = put_program (area_of t c.args.region) c.args.key.now c.args.value.now in
-    subst (λ (r : Result Reply Stop). HasCalled (λ room A. stored (λ done. reply.Done) (outcome room p A)) t u r) (sym c.refusal.ensures) (called_err p t u (λ done. reply.Done) c.in-Err.error c.in-Err.ensures.ended)
-
-pub returns-in-Err-clause-stops : goal.returns-in-Err-clause-stops
-returns-in-Err-clause-stops g c =
-    let t = g.T.TxBlocks.state c.args.tx.now in
-    let u = g.T.TxBlocks.state c.put.new.tx in
-    let p = put_program (area_of t c.args.region) c.args.key.now c.args.value.now in
-    let before = g.T.TxBlocks.device c.args.tx.now in
-    let now = g.T.TxBlocks.device c.put.new.tx in
-    subst (λ (r : Result Reply Stop). Stops before now r) (sym c.refusal.ensures) (stops_err t u before now 3 _ _ c.requires.is_open (called_err p t u (λ done. reply.Done) c.in-Err.error c.in-Err.ensures.ended) c.in-Err.error c.in-Err.ensures.cause)
+    let both = refused t (g.T.TxBlocks.state c.put.new.tx) (λ done. reply.Done) (g.T.TxBlocks.device c.args.tx.now) (g.T.TxBlocks.device c.put.new.tx) 3 c.requires.is_open c.refusal.result
+    (put_program (area_of t c.args.region) c.args.key.now c.args.value.now) c.in-Err.error c.refusal.ensures c.in-Err.ensures.ended c.in-Err.ensures.cause in
+    record { called = both.0; stops = both.1 }
 
 pub returns-in-Ok-clause-called : goal.returns-in-Ok-clause-called
 returns-in-Ok-clause-called g c =

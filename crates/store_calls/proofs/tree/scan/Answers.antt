@@ -1,6 +1,6 @@
 use Rattle.store_calls.proofs.Words.{◌≡◌, [], sym, subst, refl, ap, ◌&&◌, ◌==◌, Bool, true, false, cond, ℕ, List, Result, Err, eq-eqb, arith, Reply, Area, BadKey, Array, is_key, pairs_reply, Done, Program, outcome, Scanned, scan_below, scan_program, with_head, area_of, Stop, HasCalled, Stops, stored}
 use Rattle.script_model.specs.declared.script.Reply.TheVariants as reply
-use Rattle.store_calls.proofs.Called.{no_more, scanned_err, stops_err}
+use Rattle.store_calls.proofs.Called.{no_more, scan_refused}
 use Rattle.store_calls.proofs.tree.scan.Goals as goal
 
 not_both : (x y z : Bool) → (x && y && z) ≡ false → z ≡ true → (x && y) ≡ false
@@ -27,18 +27,9 @@ returns-then-most-eq0-clause-called g c =
       stopped = tt;
     }
 
-pub returns-in-Err-clause-called : goal.returns-in-Err-clause-called
-returns-in-Err-clause-called g c =
+pub returns-in-Err : goal.returns-in-Err
+returns-in-Err g c =
     let t = g.T.TxBlocks.state c.args.tx.now in
-    let u = g.T.TxBlocks.state c.scan.new.tx in
-    let p = scan_program (area_of t c.args.region) c.args.from.now c.args.to.now c.args.most in
-    subst (λ (r : Result Reply Stop). HasCalled (λ room A. stored pairs_reply (outcome room p A)) t u r) (sym c.refusal.ensures) (scanned_err p t u pairs_reply c.in-Err.error c.in-Err.ensures.ended)
-
-pub returns-in-Err-clause-stops : goal.returns-in-Err-clause-stops
-returns-in-Err-clause-stops g c =
-    let t = g.T.TxBlocks.state c.args.tx.now in
-    let u = g.T.TxBlocks.state c.scan.new.tx in
-    let p = scan_program (area_of t c.args.region) c.args.from.now c.args.to.now c.args.most in
-    let before = g.T.TxBlocks.device c.args.tx.now in
-    let now = g.T.TxBlocks.device c.scan.new.tx in
-    subst (λ (r : Result Reply Stop). Stops before now r) (sym c.refusal.ensures) (stops_err t u before now 1 _ _ c.requires.is_open (scanned_err p t u pairs_reply c.in-Err.error c.in-Err.ensures.ended) c.in-Err.error c.in-Err.ensures.cause)
+    let both = scan_refused t (g.T.TxBlocks.state c.scan.new.tx) pairs_reply (g.T.TxBlocks.device c.args.tx.now) (g.T.TxBlocks.device c.scan.new.tx) 1 c.requires.is_open c.refusal.result
+    (scan_program (area_of t c.args.region) c.args.from.now c.args.to.now c.args.most) c.in-Err.error c.refusal.ensures c.in-Err.ensures.ended c.in-Err.ensures.cause in
+    record { called = both.0; stops = both.1 }

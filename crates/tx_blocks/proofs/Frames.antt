@@ -1,6 +1,6 @@
 -- What a marked write leaves of the bytes in a span.
-use Rattle.iso_hash.proofs.Words.{◌≡◌, ◌⊎◌, ◌∙◌, sym, refl, ap, ℕ, zero, suc, ◌+◌, ◌-◌, ◌≤◌, true, false, cond, List, [], ◌∷◌, ◌++◌, length, get_or, take, drop, replicate, arith, zero-add, inl, inr, nat_le, list_all, cases_lt, nat_tests, ext_get_or, get_or_past, get_or-take, get_or-drop, get_or_append_left, get_or-append-add, length-replicate, length-take-le, take-take, drop-take, take_at, drop_at, drop-replicate, take-replicate, Span, covered, in_span, merged, bytes_in, is_zero, is_part, text_of, part_of, laid_at, length-merged, merged_at, merged_kept, same_bytes, length-laid_at}
-use Rattle.std.proofs.lemmas.List.{length-append}
+use Rattle.tx_blocks.proofs.Words.{◌≡◌, ◌⊎◌, ◌∙◌, sym, refl, ap, ℕ, zero, suc, ◌+◌, ◌-◌, ◌≤◌, true, false, cond, List, [], ◌∷◌, ◌++◌, length, get_or, take, drop, replicate, arith, zero-add, inl, inr, nat_le, list_all, cases_lt, nat_tests, ext_get_or, get_or_past, get_or-take, get_or-drop, get_or_append_left, get_or-append-add, length-take-le, take-take, drop-take, take_at, drop_at, drop-replicate, take-replicate, Span, covered, in_span, merged, bytes_in, is_zero, is_part, text_of, part_of, laid_at, length-merged, merged_at, merged_kept, length-laid_at}
+use Rattle.tx_blocks.proofs.Programs.{same_bytes}
 
 -- spans that stand apart
 abbrev pub AreApart : Span → Span → Type 0
@@ -69,9 +69,6 @@ zeros_are (suc n) = zeros_are n
 
 pub piece_zero : (span : Span) (n : ℕ) → span.off + span.len ≤ n → bytes_in span (replicate n 0) ≡ replicate span.len 0
 piece_zero span n fits = ap (take span.len) (drop-replicate span.off n 0) ∙ take-replicate span.len (n - span.off) 0 (omega arith)
-
-pub length-part_of : (n : ℕ) (text : List ℕ) → length text ≤ n → length (part_of n text) ≡ n + 1
-length-part_of n text short = omega (arith, length-append text (replicate (n - length text) 0), length-replicate {A = ℕ} (n - length text) 0)
 
 -- a part that was written spells its bytes
 pub part_is_part : (n m : ℕ) (text : List ℕ) → length text ≤ m → is_part m (part_of n text) ≡ true

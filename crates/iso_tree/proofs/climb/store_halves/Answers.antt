@@ -1,0 +1,40 @@
+use Rattle.iso_tree.proofs.Words.{◌∙◌, ap, subst, ℕ, ◌+◌, List, [], Store, Program, Answer, node_bytes, row_from, emptied, IsFollowed, arith, Err, Cell}
+use Rattle.iso_tree.proofs.Climbing.{follows, written_two}
+use Rattle.iso_tree.proofs.climb.store_halves.Goals as goal
+
+pub store_next-requires-2-clause-room : goal.store_next-requires-2-clause-room
+store_next-requires-2-clause-room g c = omega (arith, c.requires.room, c.in_default.ensures.after.room)
+
+pub store_next-requires-2-clause-bytes : goal.store_next-requires-2-clause-bytes
+store_next-requires-2-clause-bytes g c = omega (arith, c.fill_right.auto.into, c.fill_row.auto.into, c.requires.into, c.requires.size, c.in_default.ensures.after.size)
+
+pub store_next-requires-2-clause-block : goal.store_next-requires-2-clause-block
+store_next-requires-2-clause-block g c = omega (arith, c.requires.new, c.requires.fits, c.in_default.ensures.after.blocks)
+
+pub store_next-requires-2-clause-is_open : goal.store_next-requires-2-clause-is_open
+store_next-requires-2-clause-is_open g c = c.in_default.ensures.after.is_open ∙ c.requires.is_open
+
+pub returns-in-Err-clause-run : goal.returns-in-Err-clause-run
+returns-in-Err-clause-run g c = λ rest.
+    let state = g.T.TxBlocks.state in
+    let a = c.args.area in
+    let new : Cell = (c.args.key.now, c.args.part.now) in
+    let left = c.fill_row.ensures ∙ ap (λ (n : ℕ). node_bytes n c.args.level (row_from n c.args.node.now c.args.place new 0 c.args.half)) c.requires.node in
+    let next = Store (a.start + c.args.new) [] (node_bytes a.size c.args.level (emptied c.args.level (row_from a.size c.args.node.now c.args.place new c.args.half c.args.others))) rest in
+    subst (λ (b : List ℕ). IsFollowed (Store (a.start + c.args.block) [] b next) next (state c.args.tx.now) (state c.store_next.new.tx) (Err c.in-Err.e)) left (c.in-Err.ensures.run next)
+
+pub returns-clause-run : goal.returns-clause-run
+returns-clause-run g c = λ rest.
+    let state = g.T.TxBlocks.state in
+    let a = c.args.area in
+    let new : Cell = (c.args.key.now, c.args.part.now) in
+    let left = c.fill_row.ensures ∙ ap (λ (n : ℕ). node_bytes n c.args.level (row_from n c.args.node.now c.args.place new 0 c.args.half)) c.requires.node in
+    let right = c.fill_right.ensures ∙ ap (λ (n : ℕ). node_bytes n c.args.level (emptied c.args.level (row_from n c.args.node.now c.args.place new c.args.half c.args.others))) c.requires.node in
+    let whole : List ℕ → List ℕ → Program Answer = λ b d. Store (a.start + c.args.block) [] b (Store (a.start + c.args.new) [] d rest) in
+    subst (λ (d : List ℕ). IsFollowed (whole (node_bytes a.size c.args.level (row_from a.size c.args.node.now c.args.place new 0 c.args.half)) d) rest (state c.args.tx.now) (state c.store_next-2.new.tx) c.store_next-2.result) right
+    (subst (λ (b : List ℕ). IsFollowed (whole b c.fill_right.new.into) rest (state c.args.tx.now) (state c.store_next-2.new.tx) c.store_next-2.result) left
+    (follows (whole c.fill_row.new.into c.fill_right.new.into) (Store (a.start + c.args.new) [] c.fill_right.new.into rest) rest (state c.args.tx.now) (state c.store_next.new.tx) (state c.store_next-2.new.tx) c.store_next-2.result
+    (c.in_default.ensures.run (Store (a.start + c.args.new) [] c.fill_right.new.into rest)) (c.store_next-2.ensures.run rest)))
+
+pub returns-clause-after : goal.returns-clause-after
+returns-clause-after g c = written_two (g.T.TxBlocks.state c.args.tx.now) (g.T.TxBlocks.state c.store_next.new.tx) (g.T.TxBlocks.state c.store_next-2.new.tx) c.store_next-2.result c.in_default.ensures.after c.store_next-2.ensures.after
