@@ -1,5 +1,5 @@
 -- A free block of the map, and the map with a byte of it written.
-use Rattle.iso_fs.proofs.Words.{◌≡◌, ◌≢◌, ◌∙◌, sym, refl, ap, ℕ, zero, suc, ◌+◌, ◌-◌, ◌/◌, ◌%◌, ◌<◌, ◌≤◌, Bool, true, false, not, ◌==◌, List, [], ◌∷◌, ◌++◌, length, get_or, take, drop, replicate, Some, arith, inl, inr, AllByRecursion, cases_Bool, cases_lt, or_left, get_or-take, get_or-drop, length-replicate, Area, merged, first_from, bytes_in, block_with, map_bytes, map_mark, map_bit, bit_place, bit_mark, lowest_free, laid_here, length-laid_at, kept_1, laid_all}
+use Rattle.iso_fs.proofs.Words.{◌≡◌, ◌≢◌, ◌∙◌, sym, refl, ap, ℕ, zero, suc, ◌+◌, ◌-◌, ◌/◌, ◌%◌, ◌<◌, ◌≤◌, Bool, true, false, not, ◌==◌, List, [], ◌∷◌, ◌++◌, length, get_or, take, drop, replicate, Some, arith, inl, inr, cases_Bool, cases_lt, or_left, get_or-take, get_or-drop, length-replicate, Area, merged, first_from, bytes_in, block_with, map_bytes, map_mark, map_bit, bit_place, bit_mark, lowest_free, laid_here, length-laid_at, kept_1, laid_all}
 
 first_passes : (test : ℕ → Bool) (i n j : ℕ) → first_from test i n ≡ Some j → test j ≡ true
 first_passes test i zero j e = cc
