@@ -1,9 +1,9 @@
 -- A create, part by part.
-use Rattle.iso_fs.proofs.Words.{◌≡◌, ◌∙◌, sym, refl, ap, subst, ℕ, zero, suc, ◌+◌, ◌-◌, ◌%◌, ◌<◌, ◌≤◌, ◌==◌, Bool, true, false, not, cond, List, length, get_or, Option, Some, None, Result, Ok, Err, IfOk, arith, get_or-take, get_or-set_same, Access, Array, first_from, own, bit_place, lowest_free, map_bytes, map_mark, set_bit, with_bit, is_key, IsLocal, bytes_in, get_program, put_program, Tx, IsTx, IsLocalCall, HasAccess, at_start, ran_at, whole_run, blocks_in, FsError, FileAreas, FsRegion, Call, create_at, create_new, create_op, create_program, empty_writes, goes_on, in_tree, name_file, refuse, AreFileAreas, AreFileRegions, files, HasRun, areas_of}
+use Rattle.iso_fs.proofs.Words.{◌≡◌, ◌∙◌, sym, refl, ap, subst, ℕ, zero, suc, ◌+◌, ◌-◌, ◌%◌, ◌<◌, ◌≤◌, ◌==◌, Bool, true, false, not, cond, List, length, get_or, Option, Some, None, Result, Err, IfOk, arith, get_or-take, get_or-set_same, Array, first_from, own, bit_place, lowest_free, map_bytes, map_mark, set_bit, with_bit, is_key, bytes_in, get_program, put_program, Tx, IsTx, IsLocalCall, HasAccess, at_start, ran_at, blocks_in, FsError, FileAreas, FsRegion, Call, create_at, create_new, create_op, create_program, empty_writes, goes_on, in_tree, name_file, refuse, AreFileAreas, AreFileRegions, files, HasRun, areas_of}
 use Rattle.store_model.specs.declared.stores.StoreError.TheVariants as store
 use Rattle.store_model.specs.declared.files.FsError.TheVariants as fs
 use Rattle.iso_fs.proofs.CreateCalls.{HaveBlocks, create_local}
-use Rattle.iso_fs.proofs.Ended.{has_then}
+use Rattle.iso_fs.proofs.Ended.{has_then, call_local}
 use Rattle.iso_fs.proofs.Finding.{get_has}
 
 -- THE NAME
@@ -64,9 +64,6 @@ have_blocks t at A tx areas fits told =
 
 pub create_call : (t u : Tx) (at : FsRegion) (name : List ℕ) (result : Result (Unit {0}) FsError) → IsTx t → AreFileAreas (areas_of t at) → at.files.start + at.files.size ≤ t.blocks → is_key name ≡ true
     → HasRun (create_program (areas_of t at) name) t u result → IfOk result (IsLocalCall (AreFileRegions (areas_of t at)) (files (areas_of t at)) (create_op name) t u)
-create_call t u at name (Err e) tx areas fits key run = tt
-create_call t u at name (Ok x) tx areas fits key run = λ A told.
+create_call t u at name result tx areas fits key run =
     let a = areas_of t at in
-    let whole = whole_run (create_program a name) t u (Ok x) run A told in
-    subst (λ (accesses : List Access). IsLocal (AreFileRegions a) (files a) (create_op name) (own A t.accesses) accesses x) whole.accesses_are
-    (create_local a name (own A t.accesses) x areas (have_blocks t at A tx areas fits told) key whole.answer_is)
+    call_local (AreFileRegions a) (files a) (create_op name) (create_program a name) t u result run (λ A x told is. create_local a name (own A t.accesses) x areas (have_blocks t at A tx areas fits told) key is)

@@ -1,5 +1,5 @@
 -- A call of the file store that is made of parts.
-use Rattle.iso_fs.proofs.Words.{◌≡◌, ◌≢◌, ◌∙◌, sym, refl, ap, subst, ℕ, ◌+◌, ◌≤◌, Bool, true, length, Some, Result, Ok, Err, inr, arith, length-append, IfErr, false≢true, StoreError, TxError, own, Program, accesses_of, answer_of, then_do, Tx, Device, IsLater, Ran, IsCause, IsStoreCause, HasEnded, HasRead, Passed, accesses_then, HasAccess, IsAt, at_start, at_then, ran_at, stopped_at, cause_earlier, cause_since, cut_then, later_than, later_same, store_cause, cut_from, ends_from, read_join, stopped_from, FsError, Call, goes_on, in_tree, FsBehaves, HasRun, IsFsCause, IsUnwritten, may_follow}
+use Rattle.iso_fs.proofs.Words.{◌≡◌, ◌≢◌, ◌∙◌, sym, refl, ap, subst, ℕ, ◌+◌, ◌≤◌, Bool, true, length, Some, Result, Ok, Err, inr, arith, length-append, IfErr, false≢true, StoreError, TxError, own, Program, accesses_of, answer_of, then_do, Tx, Device, IsLater, Ran, IsCause, IsStoreCause, HasEnded, HasRead, Passed, accesses_then, HasAccess, IsAt, at_start, at_then, ran_at, stopped_at, cause_earlier, cause_since, cut_then, later_than, later_same, store_cause, cut_from, ends_from, read_join, stopped_from, FsError, Call, goes_on, in_tree, FsBehaves, HasRun, IsFsCause, IsUnwritten, may_follow, Access, Array, List, IfOk, IsLocal, IsLocalCall, whole_run}
 use Rattle.store_model.specs.declared.stores.StoreError.TheVariants as store
 use Rattle.tx_blocks.specs.Runs as runs
 use Rattle.store_model.specs.declared.files.FsError.TheVariants as fs
@@ -105,3 +105,11 @@ unwritten_tree late t v (store.NoBlocks need free) is = λ other. is (inr (λ x.
 unwritten_tree late t v (store.Broken block) is = λ other. is (inr (λ x. cc))
 unwritten_tree late t v (store.Tx e) is = λ other. absurd (false≢true (sym other))
 unwritten_tree late t v store.Memory is = λ other. is (inr (λ x. cc))
+
+-- a call that ran to Ok is local where its program is
+pub call_local : {X M : Type 0} (Well : Array → Type 0) (map_of : Array → M) (op : M → X × M) (p : Call X) (t u : Tx) (result : Result X FsError) → HasRun p t u result
+    → ((A : Array) (x : X) → t.base ≡ Some A → answer_of p (own A t.accesses) ≡ Ok x → IsLocal Well map_of op (own A t.accesses) (accesses_of p (own A t.accesses)) x) → IfOk result (IsLocalCall Well map_of op t u)
+call_local Well map_of op p t u (Err e) run local = tt
+call_local Well map_of op p t u (Ok x) run local = λ A told.
+    let whole = whole_run p t u (Ok x) run A told in
+    subst (λ (accesses : List Access). IsLocal Well map_of op (own A t.accesses) accesses x) whole.accesses_are (local A x told whole.answer_is)

@@ -103,3 +103,6 @@ count_mono size m n some le =
     let sum = more_blocks (y / size) size in
     let low : x / size < y / size + 1 = (div-lt_iff_lt-mul {k = size} {x = x} {y = y / size + 1} some).1 (omega arith) in
     omega arith
+
+pub data_fits : (a : Area) (file : List ℕ) → is_file a file ≡ true → 256 ≤ a.size → 64 + 4 * data_count a.size file ≤ a.size
+data_fits a file good least = count_fits a.size (bytes_of file) least (file_parts a file good).few

@@ -1,8 +1,8 @@
 -- A read, part by part.
-use Rattle.iso_fs.proofs.Words.{◌≡◌, ◌∙◌, sym, refl, ap, subst, ℕ, zero, suc, ◌+◌, ◌-◌, ◌*◌, ◌/◌, ◌<◌, ◌≤◌, Bool, true, false, cond, List, [], ◌∷◌, ◌++◌, length, take, drop, append_assoc, length-append, nat_le, Option, Some, None, Result, Ok, Err, IfOk, arith, nat_lt, option_map, ForSome, length-take-le, take_at, nat_tests, div-lt_iff_lt-mul, Access, Span, Area, TxError, own, is_key, block_at, Done, IsLocal, bytes_in, look_access, laid_at, get_program, Tx, Device, IsTx, with_accesses, IsCause, IsLocalCall, HasAccess, IsAt, at_look, at_start, ran_at, whole_run, cut_at_look, at_as, FsError, FileAreas, FsRegion, bytes_of, entry_at, entry_count, is_file, piece_len, piece_mark, Call, at_file, goes_on, in_tree, is_many, least, read_from, read_op, read_pieces, read_program, refuse, AreFileAreas, AreFileRegions, files, HasRun, areas_of}
+use Rattle.iso_fs.proofs.Words.{◌≡◌, ◌∙◌, sym, refl, ap, subst, ℕ, zero, suc, ◌+◌, ◌-◌, ◌*◌, ◌/◌, ◌<◌, ◌≤◌, Bool, true, false, cond, List, [], ◌∷◌, ◌++◌, length, take, drop, append_assoc, length-append, nat_le, Option, Some, None, Result, Ok, Err, IfOk, arith, nat_lt, option_map, ForSome, length-take-le, take_at, nat_tests, div-lt_iff_lt-mul, Span, Area, TxError, own, is_key, block_at, Done, bytes_in, look_access, laid_at, get_program, Tx, Device, IsTx, with_accesses, IsCause, IsLocalCall, HasAccess, IsAt, at_look, at_start, ran_at, cut_at_look, at_as, FsError, FileAreas, FsRegion, bytes_of, entry_at, entry_count, is_file, piece_len, piece_mark, Call, at_file, goes_on, in_tree, is_many, least, read_from, read_op, read_pieces, read_program, refuse, AreFileAreas, AreFileRegions, files, HasRun, areas_of}
 use Rattle.store_model.specs.declared.stores.StoreError.TheVariants as store
 use Rattle.store_model.specs.declared.files.FsError.TheVariants as fs
-use Rattle.iso_fs.proofs.Ended.{has_then}
+use Rattle.iso_fs.proofs.Ended.{has_then, call_local}
 use Rattle.iso_fs.proofs.Finding.{get_has}
 use Rattle.iso_fs.proofs.Lefts.{HasLeft}
 use Rattle.iso_fs.proofs.FileReads.{read_local}
@@ -97,12 +97,9 @@ read_bad_range a name off len t key few = rw (key, few) (ran_at (refuse fs.BadRa
 
 pub read_call : (t u : Tx) (at : FsRegion) (name : List ℕ) (off len : ℕ) (result : Result (Option (List ℕ)) FsError) → AreFileAreas (areas_of t at) → is_key name ≡ true → is_many len ≡ true
     → HasRun (read_program (areas_of t at) name off len) t u result → IfOk result (IsLocalCall (AreFileRegions (areas_of t at)) (files (areas_of t at)) (read_op name off len) t u)
-read_call t u at name off len (Err e) areas key many run = tt
-read_call t u at name off len (Ok x) areas key many run = λ A told.
+read_call t u at name off len result areas key many run =
     let a = areas_of t at in
-    let whole = whole_run (read_program a name off len) t u (Ok x) run A told in
-    subst (λ (accesses : List Access). IsLocal (AreFileRegions a) (files a) (read_op name off len) (own A t.accesses) accesses x) whole.accesses_are
-    (read_local a name off len (own A t.accesses) x areas key many whole.answer_is)
+    call_local (AreFileRegions a) (files a) (read_op name off len) (read_program a name off len) t u result run (λ A x told is. read_local a name off len (own A t.accesses) x areas key many is)
 
 -- THE ANSWERS OF THE CODE
 module _ (a : Area) (file : List ℕ) (from to : ℕ) (found : List ℕ) (less : from < to) (t u : Tx) (bytes : List ℕ) (number : ℕ) (span : Span) (number_is : number ≡ entry_at file (from / a.size)) (span_is : span ≡ piece_mark a.size from to)

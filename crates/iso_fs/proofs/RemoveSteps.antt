@@ -1,9 +1,9 @@
 -- A removal, part by part.
-use Rattle.iso_fs.proofs.Words.{◌≡◌, ◌∙◌, sym, refl, ap, subst, ℕ, suc, ◌+◌, ◌-◌, ◌*◌, ◌<◌, ◌≤◌, Bool, true, false, cond, List, [], ◌∷◌, length, take, drop, get_or, set, Result, Ok, Err, IfOk, arith, inl, inr, map, range_with_len, drop-take, get_or-take, take-take, Access, own, Span, Area, FsError, FileAreas, FsRegion, block_with, bit_place, clear_bit, map_bytes, map_mark, without_bit, is_key, IsIn, IsLocal, bytes_in, store_access, get_program, IsTreeArea, bytes_of, data_count, entries_of, entry_at, is_file, Call, at_file, bits_mark, goes_on, high_place, in_tree, low_place, refuse, remove_file, remove_op, remove_program, without_bits, AreFileAreas, AreFileRegions, files, Tx, IsTx, IsLocalCall, HasAccess, at_start, ran_at, whole_run, take-set-lt, HasRun, areas_of, ArePlaces}
+use Rattle.iso_fs.proofs.Words.{◌≡◌, ◌∙◌, sym, refl, ap, subst, ℕ, suc, ◌+◌, ◌-◌, ◌*◌, ◌<◌, ◌≤◌, Bool, true, false, cond, List, [], ◌∷◌, length, take, drop, get_or, set, Result, Err, IfOk, arith, inl, inr, map, range_with_len, drop-take, get_or-take, take-take, own, Span, Area, FsError, FileAreas, FsRegion, block_with, bit_place, clear_bit, map_bytes, map_mark, without_bit, is_key, IsIn, bytes_in, store_access, get_program, IsTreeArea, data_count, entries_of, entry_at, is_file, Call, at_file, bits_mark, goes_on, high_place, in_tree, low_place, refuse, remove_file, remove_op, remove_program, without_bits, AreFileAreas, AreFileRegions, files, Tx, IsTx, IsLocalCall, HasAccess, at_start, ran_at, take-set-lt, HasRun, areas_of, ArePlaces}
 use Rattle.store_model.specs.declared.files.FsError.TheVariants as fs
 use Rattle.iso_fs.proofs.CreateSteps.{have_blocks}
-use Rattle.iso_fs.proofs.Ended.{has_then}
-use Rattle.iso_fs.proofs.Files.{count_fits, entry_handed, file_parts}
+use Rattle.iso_fs.proofs.Ended.{has_then, call_local}
+use Rattle.iso_fs.proofs.Files.{entry_handed, file_parts}
 use Rattle.iso_fs.proofs.Finding.{get_has}
 use Rattle.iso_fs.proofs.MapLaid.{high_below, high_is, low_is}
 use Rattle.iso_fs.proofs.RemoveCalls.{remove_local}
@@ -78,15 +78,9 @@ remove_bad a name t not_key = rw not_key (ran_at (refuse fs.BadName) t t (Err fs
 
 pub remove_call : (t u : Tx) (at : FsRegion) (name : List ℕ) (result : Result Bool FsError) → IsTx t → AreFileAreas (areas_of t at) → at.files.start + at.files.size ≤ t.blocks → is_key name ≡ true
     → HasRun (remove_program (areas_of t at) name) t u result → IfOk result (IsLocalCall (AreFileRegions (areas_of t at)) (files (areas_of t at)) (remove_op name) t u)
-remove_call t u at name (Err e) tx areas fits key run = tt
-remove_call t u at name (Ok x) tx areas fits key run = λ A told.
+remove_call t u at name result tx areas fits key run =
     let a = areas_of t at in
-    let whole = whole_run (remove_program a name) t u (Ok x) run A told in
-    subst (λ (accesses : List Access). IsLocal (AreFileRegions a) (files a) (remove_op name) (own A t.accesses) accesses x) whole.accesses_are
-    (remove_local a name (own A t.accesses) x areas (have_blocks t at A tx areas fits told) key whole.answer_is)
-
-pub data_fits : (a : Area) (file : List ℕ) → is_file a file ≡ true → 256 ≤ a.size → 64 + 4 * data_count a.size file ≤ a.size
-data_fits a file good least = count_fits a.size (bytes_of file) least (file_parts a file good).few
+    call_local (AreFileRegions a) (files a) (remove_op name) (remove_program a name) t u result run (λ A x told is. remove_local a name (own A t.accesses) x areas (have_blocks t at A tx areas fits told) key is)
 
 -- WHAT THE CODE WRITES
 pub entries_all : (a : Area) (file : List ℕ) (count : ℕ) → count ≡ data_count a.size file → entries_from file 0 count ≡ entries_of a.size file

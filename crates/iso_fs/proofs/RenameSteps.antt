@@ -1,9 +1,9 @@
 -- A rename, part by part.
-use Rattle.iso_fs.proofs.Words.{◌≡◌, ◌≢◌, refl, ap, subst, ℕ, ◌+◌, ◌≤◌, Bool, true, false, ◌&&◌, cond, List, Result, Ok, Err, IfOk, Access, own, StoreError, FsError, FileAreas, FsRegion, is_key, IsLocal, get_program, in_tree, refuse, rename_found, rename_op, rename_program, AreFileAreas, AreFileRegions, files, Tx, IsTx, IsLocalCall, at_start, ran_at, whole_run, TakesNoBlocks, HasRun, areas_of, may_follow}
+use Rattle.iso_fs.proofs.Words.{◌≡◌, ◌≢◌, refl, ap, ℕ, ◌+◌, ◌≤◌, Bool, true, false, ◌&&◌, cond, List, Result, Err, IfOk, own, StoreError, FsError, FileAreas, FsRegion, is_key, get_program, in_tree, refuse, rename_found, rename_op, rename_program, AreFileAreas, AreFileRegions, files, Tx, IsTx, IsLocalCall, at_start, ran_at, TakesNoBlocks, HasRun, areas_of, may_follow}
 use Rattle.store_model.specs.declared.stores.StoreError.TheVariants as store
 use Rattle.store_model.specs.declared.files.FsError.TheVariants as fs
 use Rattle.iso_fs.proofs.CreateSteps.{have_blocks}
-use Rattle.iso_fs.proofs.Ended.{run_as}
+use Rattle.iso_fs.proofs.Ended.{run_as, call_local}
 use Rattle.iso_fs.proofs.RenameCalls.{rename_local}
 
 -- THE OLD NAME IS REMOVED
@@ -37,9 +37,6 @@ rename_bad a old new t bad =
 
 pub rename_call : (t u : Tx) (at : FsRegion) (old new : List ℕ) (result : Result Bool FsError) → IsTx t → AreFileAreas (areas_of t at) → at.files.start + at.files.size ≤ t.blocks → is_key old ≡ true → is_key new ≡ true
     → HasRun (rename_program (areas_of t at) old new) t u result → IfOk result (IsLocalCall (AreFileRegions (areas_of t at)) (files (areas_of t at)) (rename_op old new) t u)
-rename_call t u at old new (Err e) tx areas fits old_key new_key run = tt
-rename_call t u at old new (Ok x) tx areas fits old_key new_key run = λ A told.
+rename_call t u at old new result tx areas fits old_key new_key run =
     let a = areas_of t at in
-    let whole = whole_run (rename_program a old new) t u (Ok x) run A told in
-    subst (λ (accesses : List Access). IsLocal (AreFileRegions a) (files a) (rename_op old new) (own A t.accesses) accesses x) whole.accesses_are
-    (rename_local a old new (own A t.accesses) x areas (have_blocks t at A tx areas fits told).tree old_key new_key whole.answer_is)
+    call_local (AreFileRegions a) (files a) (rename_op old new) (rename_program a old new) t u result run (λ A x told is. rename_local a old new (own A t.accesses) x areas (have_blocks t at A tx areas fits told).tree old_key new_key is)

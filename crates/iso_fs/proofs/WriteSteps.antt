@@ -1,10 +1,10 @@
 -- A write, part by part.
-use Rattle.iso_fs.proofs.Words.{◌≡◌, ◌∙◌, sym, refl, ap, subst, ℕ, zero, suc, ◌+◌, ◌-◌, ◌*◌, ◌/◌, ◌%◌, ◌<◌, ◌≤◌, ◌&&◌, Bool, true, false, not, cond, List, [], ◌∷◌, ◌++◌, length, take, drop, get_or, nat_le, None, Result, Ok, Err, IfOk, arith, nat_lt, slice_index, filter, range_with_len, nat_tests, append-nil, drop-drop, get_or-append_right, get_or_append_left, take_rest, get_or-map-range_with_len, length-map-range_with_len, mul-le-mul_right, Access, Span, own, Area, TxError, FsError, FileAreas, FsRegion, block_with, free_count, map_bit, map_mark, is_key, Done, IsLocal, Store, bytes_in, store_access, first_write, free_list, get_program, IsTreeArea, blocks_for, bytes_of, data_count, entries_of, entry_at, file_block, is_file, most_bytes, piece_len, piece_mark, Call, at_file, goes_on, in_tree, is_many, look_map, refuse, with_new, write_op, write_pieces, write_program, write_sized, write_to, AreFileAreas, AreFileRegions, files, Tx, Device, IsTx, with_accesses, IsCause, IsLocalCall, HasAccess, IsAt, at_start, at_store, ran_at, whole_run, cut_at_store, at_as, AreBlocks, free_same, taken_same, taken_are, HasRun, areas_of, with_taken, Up, blocks_from, Region}
+use Rattle.iso_fs.proofs.Words.{◌≡◌, ◌∙◌, sym, refl, ap, subst, ℕ, zero, suc, ◌+◌, ◌-◌, ◌*◌, ◌/◌, ◌%◌, ◌<◌, ◌≤◌, ◌&&◌, Bool, true, false, not, cond, List, [], ◌∷◌, ◌++◌, length, take, drop, get_or, nat_le, None, Result, Ok, Err, IfOk, arith, nat_lt, slice_index, filter, range_with_len, nat_tests, append-nil, drop-drop, get_or-append_right, get_or_append_left, take_rest, get_or-map-range_with_len, length-map-range_with_len, mul-le-mul_right, Access, Span, own, Area, TxError, FsError, FileAreas, FsRegion, block_with, free_count, map_bit, map_mark, is_key, Done, Store, bytes_in, store_access, first_write, free_list, get_program, IsTreeArea, blocks_for, bytes_of, data_count, entries_of, entry_at, file_block, is_file, most_bytes, piece_len, piece_mark, Call, at_file, goes_on, in_tree, is_many, look_map, refuse, with_new, write_op, write_pieces, write_program, write_sized, write_to, AreFileAreas, AreFileRegions, files, Tx, Device, IsTx, with_accesses, IsCause, IsLocalCall, HasAccess, IsAt, at_start, at_store, ran_at, cut_at_store, at_as, AreBlocks, free_same, taken_same, taken_are, HasRun, areas_of, with_taken, Up, blocks_from, Region}
 use Rattle.store_model.specs.declared.stores.StoreError.TheVariants as store
 use Rattle.store_model.specs.declared.files.FsError.TheVariants as fs
 use Rattle.iso_fs.proofs.CreateSteps.{have_blocks}
-use Rattle.iso_fs.proofs.Ended.{has_then}
-use Rattle.iso_fs.proofs.Files.{count_covers, count_fits, entry_handed, file_parts}
+use Rattle.iso_fs.proofs.Ended.{has_then, call_local}
+use Rattle.iso_fs.proofs.Files.{count_covers, entry_handed, file_parts}
 use Rattle.iso_fs.proofs.Finding.{get_has}
 use Rattle.iso_fs.proofs.Lefts.{HasLeft}
 use Rattle.iso_fs.proofs.WriteWhole.{write_local}
@@ -28,9 +28,6 @@ pub news_below : (a : Area) (news : List ℕ) (i : ℕ) → AreBlocks a news →
 news_below a [] i all below = absurd (omega arith)
 news_below a (k ∷ ks) zero all below = all.0
 news_below a (k ∷ ks) (suc i) all below = news_below a ks i all.1 (omega arith)
-
-pub old_fits : (a : Area) (file : List ℕ) → is_file a file ≡ true → 256 ≤ a.size → 64 + 4 * data_count a.size file ≤ a.size
-old_fits a file good least = count_fits a.size (bytes_of file) least (file_parts a file good).few
 
 -- ONE PIECE
 abbrev step_of : Area → (E : List ℕ) → (old from to : ℕ) → (bytes : List ℕ) → (most : ℕ) → Call Bool
@@ -136,12 +133,9 @@ write_bad_range a name off bytes t key few = rw (key, few) (ran_at (refuse fs.Ba
 
 pub write_call : (t u : Tx) (at : FsRegion) (name : List ℕ) (off : ℕ) (bytes : List ℕ) (result : Result Bool FsError) → IsTx t → AreFileAreas (areas_of t at) → at.files.start + at.files.size ≤ t.blocks → is_key name ≡ true → is_many (length bytes) ≡ true
     → HasRun (write_program (areas_of t at) name off bytes) t u result → IfOk result (IsLocalCall (AreFileRegions (areas_of t at)) (files (areas_of t at)) (write_op name off bytes) t u)
-write_call t u at name off bytes (Err e) tx areas fits key many run = tt
-write_call t u at name off bytes (Ok x) tx areas fits key many run = λ A told.
+write_call t u at name off bytes result tx areas fits key many run =
     let a = areas_of t at in
-    let whole = whole_run (write_program a name off bytes) t u (Ok x) run A told in
-    subst (λ (accesses : List Access). IsLocal (AreFileRegions a) (files a) (write_op name off bytes) (own A t.accesses) accesses x) whole.accesses_are
-    (write_local a name off bytes (own A t.accesses) x areas (have_blocks t at A tx areas fits told) key many whole.answer_is)
+    call_local (AreFileRegions a) (files a) (write_op name off bytes) (write_program a name off bytes) t u result run (λ A x told is. write_local a name off bytes (own A t.accesses) x areas (have_blocks t at A tx areas fits told) key many is)
 
 -- THE BYTES THAT ARE LEFT
 pub rest_is : (bytes rest : List ℕ) (from at to : ℕ) → from ≤ at → at ≤ to → length bytes ≡ to - from → rest ≡ take (to - at) (drop (at - from) bytes) → rest ≡ drop (at - from) bytes

@@ -1,4 +1,4 @@
-use Rattle.iso_fs.proofs.Words.{◌∙◌, sym, subst, FileAreas, remove_program, HasRun, areas_of}
+use Rattle.iso_fs.proofs.Words.{◌∙◌, sym, remove_program, areas_of}
 use Rattle.iso_fs.proofs.Ended.{no_memory}
 use Rattle.iso_fs.proofs.RemoveSteps.{remove_bad, remove_call, remove_has}
 use Rattle.iso_fs.proofs.Parts.{first_area}
@@ -22,4 +22,4 @@ pub returns-clause-local : goal.returns-clause-local
 returns-clause-local g c =
     let state = g.T.TxBlocks.state in
     remove_call (state c.args.tx.now) (state c.remove_with.new.tx) c.args.at c.args.name.now c.remove_with.result (g.met.T.TxBlocks.limits c.args.tx.now) c.requires.areas c.requires.fits (sym c.is_key.ensures ∙ c.if-not-is_key.false)
-    (subst (λ (a : FileAreas). HasRun (remove_program a c.args.name.now) (state c.args.tx.now) (state c.remove_with.new.tx) c.remove_with.result) c.areas_of-a.ensures c.remove_with.ensures.run)
+    (rw c.areas_of-a.ensures at c.remove_with.ensures.run)

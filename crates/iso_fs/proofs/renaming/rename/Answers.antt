@@ -1,4 +1,4 @@
-use Rattle.iso_fs.proofs.Words.{◌≡◌, ◌∙◌, ◌&&◌, refl, sym, subst, true, false, FileAreas, is_key, rename_program, HasRun, areas_of}
+use Rattle.iso_fs.proofs.Words.{◌≡◌, ◌∙◌, ◌&&◌, refl, sym, true, false, is_key, areas_of}
 use Rattle.iso_fs.proofs.Existing.{rename_exists}
 use Rattle.iso_fs.proofs.Parts.{first_area, tree_area}
 use Rattle.iso_fs.proofs.RenameSteps.{old_bad, new_bad, rename_bad, rename_call}
@@ -22,7 +22,7 @@ returns-clause-local g c =
     let state = g.T.TxBlocks.state in
     rename_call (state c.args.tx.now) (state c.rename_in.new.tx) c.args.at c.args.old.now c.args.new.now c.rename_in.result (g.met.T.TxBlocks.limits c.args.tx.now) c.requires.areas c.requires.fits (sym c.is_key.ensures ∙ c.if-not-is_key.false)
     (sym c.is_key-else-not-is_key.ensures ∙ c.if-not-is_key-2.false)
-    (subst (λ (a : FileAreas). HasRun (rename_program a c.args.old.now c.args.new.now) (state c.args.tx.now) (state c.rename_in.new.tx) c.rename_in.result) c.areas_of-a.ensures c.rename_in.ensures.run)
+    (rw c.areas_of-a.ensures at c.rename_in.ensures.run)
 
 pub returns-then-not-is_key-clause-exists : goal.returns-then-not-is_key-clause-exists
 returns-then-not-is_key-clause-exists g c = λ keys.
@@ -36,4 +36,4 @@ pub returns-clause-exists : goal.returns-clause-exists
 returns-clause-exists g c = λ keys.
     let state = g.T.TxBlocks.state in
     rename_exists (areas_of (state c.args.tx.now) c.args.at) c.args.old.now c.args.new.now (state c.args.tx.now) (state c.rename_in.new.tx) c.rename_in.result keys
-    (subst (λ (a : FileAreas). HasRun (rename_program a c.args.old.now c.args.new.now) (state c.args.tx.now) (state c.rename_in.new.tx) c.rename_in.result) c.areas_of-a.ensures c.rename_in.ensures.run)
+    (rw c.areas_of-a.ensures at c.rename_in.ensures.run)

@@ -1,4 +1,4 @@
-use Rattle.iso_fs.proofs.Words.{◌∙◌, sym, subst, FileAreas, write_program, HasRun, areas_of}
+use Rattle.iso_fs.proofs.Words.{◌∙◌, sym, write_program, areas_of}
 use Rattle.iso_fs.proofs.Ended.{no_memory}
 use Rattle.iso_fs.proofs.WriteSteps.{write_bad_name, write_bad_range, write_call, write_has}
 use Rattle.iso_fs.proofs.Parts.{first_area}
@@ -28,4 +28,4 @@ pub returns-clause-local : goal.returns-clause-local
 returns-clause-local g c =
     let state = g.T.TxBlocks.state in
     write_call (state c.args.tx.now) (state c.write_with.new.tx) c.args.at c.args.name.now c.args.off c.args.bytes.now c.write_with.result (g.met.T.TxBlocks.limits c.args.tx.now) c.requires.areas c.requires.fits (sym c.is_key.ensures ∙ c.if-not-is_key.false) (sym c.is_many.ensures ∙ c.if-not-is_many.false)
-    (subst (λ (a : FileAreas). HasRun (write_program a c.args.name.now c.args.off c.args.bytes.now) (state c.args.tx.now) (state c.write_with.new.tx) c.write_with.result) c.areas_of-a.ensures c.write_with.ensures.run)
+    (rw c.areas_of-a.ensures at c.write_with.ensures.run)
