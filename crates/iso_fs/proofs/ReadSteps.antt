@@ -48,8 +48,8 @@ over : (a : Area) (file : List ℕ) (most at to : ℕ) (found : List ℕ) → to
 over a file zero at to found past = refl
 over a file (suc most) at to found past = let test : nat_lt at to ≡ false = grind (arith, nat_tests) in ap (λ (b : Bool). cond b (step a file most at to found) (Done (Ok (Some found)))) test
 
-pub all_done : (whole : Call (Option (List ℕ))) (a : Area) (file : List ℕ) (at to left : ℕ) (found : List ℕ) (t u : Tx) → to ≤ at → HasLeft whole (λ most. read_pieces a file most at to found) left t u → HasRun whole t u (Ok (Some found))
-all_done whole a file at to left found t u past has =
+pub all_done : {whole : Call (Option (List ℕ))} {left : ℕ} {t u : Tx} (a : Area) (file : List ℕ) (at to : ℕ) (found : List ℕ) → to ≤ at → HasLeft whole (λ most. read_pieces a file most at to found) left t u → HasRun whole t u (Ok (Some found))
+all_done {whole = whole} {t = t} {u = u} a file at to found past has =
     ran_at whole t u (Ok (Some found)) (at_as whole (read_pieces a file has.most at to found) (Done (Ok (Some found))) t u (over a file has.most at to found past) has.here)
 
 -- A RANGE OF A FILE

@@ -72,8 +72,8 @@ over : (a : Area) (E : List ℕ) (old most at to : ℕ) (bytes : List ℕ) → t
 over a E old zero at to bytes past = refl
 over a E old (suc most) at to bytes past = let test : nat_lt at to ≡ false = grind (arith, nat_tests) in ap (λ (b : Bool). cond b (step_of a E old at to bytes most) (Done (Ok true))) test
 
-pub all_written : (whole : Call Bool) (a : Area) (E : List ℕ) (old at to left : ℕ) (bytes : List ℕ) (t u : Tx) → to ≤ at → HasLeft whole (λ most. write_pieces a E old most at to bytes) left t u → HasRun whole t u (Ok true)
-all_written whole a E old at to left bytes t u past has =
+pub all_written : {whole : Call Bool} {left : ℕ} {t u : Tx} (a : Area) (E : List ℕ) (old at to : ℕ) (bytes : List ℕ) → to ≤ at → HasLeft whole (λ most. write_pieces a E old most at to bytes) left t u → HasRun whole t u (Ok true)
+all_written {whole = whole} {t = t} {u = u} a E old at to bytes past has =
     ran_at whole t u (Ok true) (at_as whole (write_pieces a E old has.most at to bytes) (Done (Ok true)) t u (over a E old has.most at to bytes past) has.here)
 
 pub left_whole : (a : Area) (E : List ℕ) (old from to : ℕ) (bytes : List ℕ) (t : Tx) → length bytes ≡ to - from → HasLeft (write_pieces a E old (length bytes) from to bytes) (λ most. write_pieces a E old most from to (drop (from - from) bytes)) (to - from) t t
