@@ -1,5 +1,5 @@
 -- What a call of the file store does behind a call of the tree store, and behind the read of a file block.
-use Rattle.iso_fs.proofs.Words.{◌≡◌, ◌∙◌, sym, refl, ap, subst, ℕ, ◌+◌, ◌≤◌, Bool, true, false, cond, List, [], ◌∷◌, ◌++◌, Option, Some, None, Result, Ok, Err, get, Access, Area, StoreError, Array, own, is_key, AreReads, LookWhole, Program, accesses_of, answer_of, then_do, get_program, IsTreeRegion, tree_map, AreWhole, accesses_then, answer_then, own_reads, reads_append, whole_reads, own_append, whole_append, get_answers, get_reads, cond_reads, FileAreas, is_file, is_number, number_of, Call, at_file, broken, goes_on, in_tree, with_file, AreFileRegions, file_at}
+use Rattle.iso_fs.proofs.Words.{◌≡◌, ◌∙◌, sym, refl, ap, subst, ℕ, ◌+◌, true, cond, List, ◌++◌, Option, Some, None, Result, Ok, Err, get, Access, Area, StoreError, Array, own, is_key, AreReads, LookWhole, Program, accesses_of, answer_of, then_do, get_program, IsTreeRegion, tree_map, AreWhole, accesses_then, answer_then, own_reads, reads_append, whole_reads, own_append, whole_append, get_answers, get_reads, cond_reads, FileAreas, is_file, is_number, number_of, Call, at_file, broken, goes_on, in_tree, with_file, AreFileRegions, file_at}
 
 -- what a program leaves, and then what follows it
 pub own_then : {R S : Type 0} (p : Program R) (f : R → Program S) (A : Array)

@@ -1,5 +1,5 @@
 -- A call of the file store that is made of parts.
-use Rattle.iso_fs.proofs.Words.{◌≡◌, ◌≢◌, ◌∙◌, sym, refl, ap, subst, ℕ, ◌+◌, ◌≤◌, Bool, true, false, length, Some, Result, Ok, Err, inr, arith, length-append, IfErr, false≢true, StoreError, TxError, own, Program, accesses_of, answer_of, then_do, Tx, Device, IsLater, Ran, IsCause, IsStoreCause, HasEnded, HasRead, Passed, accesses_then, HasAccess, IsAt, at_start, at_then, ran_at, stopped_at, cause_earlier, cause_since, cut_then, later_than, later_same, store_cause, cut_from, ends_from, read_join, stopped_from, FsError, Call, goes_on, in_tree, FsBehaves, HasRun, IsFsCause, IsOfTx, IsUnwritten, may_follow}
+use Rattle.iso_fs.proofs.Words.{◌≡◌, ◌≢◌, ◌∙◌, sym, refl, ap, subst, ℕ, ◌+◌, ◌≤◌, Bool, true, length, Some, Result, Ok, Err, inr, arith, length-append, IfErr, false≢true, StoreError, TxError, own, Program, accesses_of, answer_of, then_do, Tx, Device, IsLater, Ran, IsCause, IsStoreCause, HasEnded, HasRead, Passed, accesses_then, HasAccess, IsAt, at_start, at_then, ran_at, stopped_at, cause_earlier, cause_since, cut_then, later_than, later_same, store_cause, cut_from, ends_from, read_join, stopped_from, FsError, Call, goes_on, in_tree, FsBehaves, HasRun, IsFsCause, IsUnwritten, may_follow, Access, Array, List, IfOk, IsLocal, IsLocalCall, whole_run}
 use Rattle.store_model.specs.declared.stores.StoreError.TheVariants as store
 use Rattle.tx_blocks.specs.Runs as runs
 use Rattle.store_model.specs.declared.files.FsError.TheVariants as fs
@@ -53,7 +53,7 @@ no_memory p t e is has = subst (λ (x : StoreError). HasRun p t t (Err (fs.Store
 store_since : (u : Tx) (few many : ℕ) (before mid now : Device) (e : StoreError) → few ≤ many → Passed before mid → IsStoreCause u few mid now e → IsStoreCause u many before now e
 store_since u few many before mid now e le passed cause = store_cause u few many before now e le (cause_since u few before mid now e passed cause)
 
-fs_since : (u : Tx) (few many : ℕ) (before mid now : Device) (e : FsError) → few ≤ many → Passed before mid → IsFsCause u few mid now e → IsFsCause u many before now e
+pub fs_since : (u : Tx) (few many : ℕ) (before mid now : Device) (e : FsError) → few ≤ many → Passed before mid → IsFsCause u few mid now e → IsFsCause u many before now e
 fs_since u few many before mid now fs.BadName le passed cause = cause ∙ passed
 fs_since u few many before mid now fs.BadRange le passed cause = cause ∙ passed
 fs_since u few many before mid now fs.Exists le passed cause = cause ∙ passed
@@ -71,38 +71,17 @@ behaves_after t u v writes before mid now (Err e) read later passed is = record 
   passed = tt;
 }
 
--- a refusal that may follow a write, by itself and where a call of the tree follows one
-follows_too : (late : Bool) (e : FsError) → may_follow false e ≡ true → may_follow late e ≡ true
-follows_too late (fs.Store (store.Tx e)) is = refl
-follows_too late (fs.Store store.BadKey) is = absurd (false≢true is)
-follows_too late (fs.Store store.BadValue) is = absurd (false≢true is)
-follows_too late (fs.Store (store.NoBlocks need free)) is = absurd (false≢true is)
-follows_too late (fs.Store (store.Broken block)) is = absurd (false≢true is)
-follows_too late (fs.Store store.Memory) is = absurd (false≢true is)
-follows_too late fs.BadName is = absurd (false≢true is)
-follows_too late fs.BadRange is = absurd (false≢true is)
-follows_too late fs.Exists is = absurd (false≢true is)
-
 -- after writes that went well
-pub behaves_behind : {R : Type 0} {late : Bool} (t u v : Tx) (few many : ℕ) (before mid now : Device) (result : Result R FsError) → few ≤ many → IfErr result (λ e. may_follow late e ≡ true) → IsLater before mid → mid.faults ≡ before.faults
-    → FsBehaves late u v few mid now result → FsBehaves late t v many before now result
-behaves_behind t u v few many before mid now (Ok x) le follows later passed is = record { cause = tt; unwritten = tt; known = tt; later = later_than before mid now later is.later; passed = is.passed ∙ passed }
-behaves_behind t u v few many before mid now (Err e) le follows later passed is = record {
-  cause = fs_since v few many before mid now e le passed is.cause;
+pub behaves_behind : {R : Type 0} {late : Bool} (t u v : Tx) (writes : ℕ) (before mid now : Device) (result : Result R FsError) → IfErr result (λ e. may_follow late e ≡ true) → IsLater before mid → mid.faults ≡ before.faults
+    → FsBehaves late u v writes mid now result → FsBehaves late t v writes before now result
+behaves_behind t u v writes before mid now (Ok x) follows later passed is = record { cause = tt; unwritten = tt; known = tt; later = later_than before mid now later is.later; passed = is.passed ∙ passed }
+behaves_behind t u v writes before mid now (Err e) follows later passed is = record {
+  cause = fs_since v writes writes before mid now e (omega arith) passed is.cause;
   unwritten = λ other. absurd (false≢true (sym other ∙ follows));
   known = is.known;
   later = later_than before mid now later is.later;
   passed = tt;
 }
-
--- the transaction alone refuses
-of_tx_follows : {R : Type 0} (late : Bool) (result : Result R FsError) → IfErr result IsOfTx → IfErr result (λ e. may_follow late e ≡ true)
-of_tx_follows late (Ok x) of_tx = tt
-of_tx_follows late (Err e) of_tx = follows_too late e of_tx
-
-pub behaves_written : {R : Type 0} {late : Bool} (t u v : Tx) (few many : ℕ) (before mid now : Device) (result : Result R FsError) → few ≤ many → IfErr result IsOfTx → IsLater before mid → mid.faults ≡ before.faults
-    → FsBehaves late u v few mid now result → FsBehaves late t v many before now result
-behaves_written {late = late} t u v few many before mid now result le of_tx later passed is = behaves_behind t u v few many before mid now result le (of_tx_follows late result of_tx) later passed is
 
 -- a refusal of an access
 pub refused_access : {R : Type 0} {late : Bool} (t v : Tx) (writes : ℕ) (before now : Device) (e : TxError) → 1 ≤ writes → IsCause v 1 before now e → IsLater before now → FsBehaves {R = R} late t v writes before now (Err (fs.Store (store.Tx e)))
@@ -119,7 +98,7 @@ pub done_so : {R : Type 0} {late : Bool} (t v : Tx) (writes : ℕ) (before now :
 done_so t v writes before now r later passed = record { cause = tt; unwritten = tt; known = tt; later = later; passed = passed }
 
 -- a call of the tree store was refused, which may make more than one write
-unwritten_tree : (late : Bool) (t v : Tx) (e : StoreError) → runs.IsUnwritten t v 66 e → IsUnwritten late t v (fs.Store e)
+pub unwritten_tree : (late : Bool) (t v : Tx) (e : StoreError) → runs.IsUnwritten t v 66 e → IsUnwritten late t v (fs.Store e)
 unwritten_tree late t v store.BadKey is = λ other. is (inr (λ x. cc))
 unwritten_tree late t v store.BadValue is = λ other. is (inr (λ x. cc))
 unwritten_tree late t v (store.NoBlocks need free) is = λ other. is (inr (λ x. cc))
@@ -127,6 +106,10 @@ unwritten_tree late t v (store.Broken block) is = λ other. is (inr (λ x. cc))
 unwritten_tree late t v (store.Tx e) is = λ other. absurd (false≢true (sym other))
 unwritten_tree late t v store.Memory is = λ other. is (inr (λ x. cc))
 
-pub refused_tree : {R : Type 0} {late : Bool} (t v : Tx) (before now : Device) (e : StoreError) → runs.IsUnwritten t v 66 e → IsStoreCause v 66 before now e → IsLater before now
-    → FsBehaves {R = R} late t v 66 before now (Err (fs.Store e))
-refused_tree {late = late} t v before now e is cause later = record { cause = cause; unwritten = unwritten_tree late t v e is; known = λ x. cc; later = later; passed = tt }
+-- a call that ran to Ok is local where its program is
+pub call_local : {X M : Type 0} (Well : Array → Type 0) (map_of : Array → M) (op : M → X × M) (p : Call X) (t u : Tx) (result : Result X FsError) → HasRun p t u result
+    → ((A : Array) (x : X) → t.base ≡ Some A → answer_of p (own A t.accesses) ≡ Ok x → IsLocal Well map_of op (own A t.accesses) (accesses_of p (own A t.accesses)) x) → IfOk result (IsLocalCall Well map_of op t u)
+call_local Well map_of op p t u (Err e) run local = tt
+call_local Well map_of op p t u (Ok x) run local = λ A told.
+    let whole = whole_run p t u (Ok x) run A told in
+    subst (λ (accesses : List Access). IsLocal Well map_of op (own A t.accesses) accesses x) whole.accesses_are (local A x told whole.answer_is)

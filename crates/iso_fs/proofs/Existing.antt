@@ -1,5 +1,5 @@
 -- Where a file call answers that a file exists.
-use Rattle.iso_fs.proofs.Words.{◌≡◌, ◌∙◌, ◌↔◌, sym, refl, ap, ℕ, ◌-◌, Bool, true, false, ◌&&◌, cond, IsTrue, List, Option, Some, None, option_map, Result, Ok, Err, is_some, get, w32, to_be_bytes, and_parts, Array, own, StoreError, FsError, FileAreas, bit_place, lowest_free, map_mark, set_bit, is_key, Pairs, block_at, Done, accesses_of, answer_of, bytes_in, del_program, get_program, put_program, tree_map, number_of, Call, create_at, create_new, create_program, empty_writes, goes_on, in_tree, refuse, rename_found, rename_free, rename_program, AreFileRegions, content, files, Tx, room_of, outcome_whole, answer_then, ExistsWhere, HasAnswered, HasRun}
+use Rattle.iso_fs.proofs.Words.{◌≡◌, ◌∙◌, ◌↔◌, sym, refl, ap, ℕ, ◌-◌, Bool, true, false, ◌&&◌, cond, IsTrue, List, Option, Some, None, option_map, Result, Ok, Err, is_some, get, w32, to_be_bytes, and_parts, Array, own, StoreError, FsError, FileAreas, bit_place, lowest_free, map_mark, set_bit, is_key, block_at, Done, accesses_of, answer_of, bytes_in, del_program, get_program, put_program, tree_map, number_of, Call, create_at, create_new, create_program, empty_writes, goes_on, in_tree, refuse, rename_found, rename_free, rename_program, AreFileRegions, content, files, Tx, room_of, outcome_whole, answer_then, ExistsWhere, HasAnswered, HasRun}
 use Rattle.store_model.specs.declared.stores.StoreError.TheVariants as store
 use Rattle.store_model.specs.declared.files.FsError.TheVariants as fs
 use Rattle.iso_fs.proofs.AfterTree.{answer_got}

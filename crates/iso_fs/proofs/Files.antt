@@ -1,5 +1,5 @@
 -- What the test of a file block says, and the blocks that a file uses.
-use Rattle.iso_fs.proofs.Words.{◌≡◌, ◌⊎◌, ◌∙◌, sym, refl, ap, ℕ, zero, suc, ◌+◌, ◌-◌, ◌*◌, ◌/◌, ◌%◌, ◌<◌, ◌≤◌, ◌==◌, ◌&&◌, Bool, true, false, cond, List, length, Option, Some, option_map, nat_le, arith, inl, inr, nat_lt, slice_index, get, and_parts, cases_lt, leb-true, ltb-true, nat_tests, div-lt_iff_lt-mul, div-mul-le_self, le-div, Area, Array, tree_map, all_at, FileAreas, are_entries, blocks_for, bytes_of, data_count, entry_at, has_zeros, is_file, is_handed, most_bytes, AreFileRegions, Uses, file_at}
+use Rattle.iso_fs.proofs.Words.{◌≡◌, ◌⊎◌, ◌∙◌, sym, ap, ℕ, zero, suc, ◌+◌, ◌-◌, ◌*◌, ◌/◌, ◌<◌, ◌≤◌, ◌==◌, ◌&&◌, Bool, true, false, cond, List, nat_le, arith, inl, inr, nat_lt, slice_index, get, and_parts, cases_lt, leb-true, ltb-true, nat_tests, div-lt_iff_lt-mul, div-mul-le_self, le-div, Area, Array, tree_map, all_at, FileAreas, are_entries, blocks_for, bytes_of, data_count, entry_at, has_zeros, is_file, is_handed, most_bytes, AreFileRegions, Uses, file_at}
 use Rattle.iso_fs.proofs.Lookups.{names_by}
 
 pub record FileParts (a : Area) (file : List ℕ) : Type 0 where
@@ -103,3 +103,6 @@ count_mono size m n some le =
     let sum = more_blocks (y / size) size in
     let low : x / size < y / size + 1 = (div-lt_iff_lt-mul {k = size} {x = x} {y = y / size + 1} some).1 (omega arith) in
     omega arith
+
+pub data_fits : (a : Area) (file : List ℕ) → is_file a file ≡ true → 256 ≤ a.size → 64 + 4 * data_count a.size file ≤ a.size
+data_fits a file good least = count_fits a.size (bytes_of file) least (file_parts a file good).few

@@ -1,8 +1,8 @@
 -- The look-up of a file block, part by part, and what follows it in a call.
-use Rattle.iso_fs.proofs.Words.{◌≡◌, ◌∙◌, sym, refl, ap, subst, ℕ, ◌+◌, Bool, true, false, cond, List, [], ◌∷◌, Option, Some, None, Result, Ok, Err, arith, Area, StoreError, TxError, FsError, FileAreas, is_key, is_value, Done, LookWhole, Program, look_access, then_do, del_program, get_program, put_program, is_file, is_number, number_of, Call, at_file, broken, goes_on, in_tree, numbered, with_file, Tx, Device, IsTx, with_accesses, AreBytesOf, HasEnded, IsCause, HasAccess, IsAt, at_look_whole, at_start, at_then, ran_at, stopped_then, cut_then, cut_at_whole, then_assoc, HasRun, Found, find_program, found_as, found_file, on_found}
+use Rattle.iso_fs.proofs.Words.{◌≡◌, ◌∙◌, sym, refl, ap, subst, ℕ, ◌+◌, Bool, true, false, cond, List, Option, Some, None, Result, Ok, Err, arith, Area, StoreError, FsError, FileAreas, is_key, is_value, Done, LookWhole, Program, then_do, del_program, get_program, put_program, is_file, is_number, number_of, Call, at_file, broken, goes_on, in_tree, numbered, with_file, Tx, Device, HasAccess, IsAt, at_start, at_then, ran_at, stopped_then, cut_then, then_assoc, HasRun, Found, find_program, found_file, on_found, IsPart, HasRead}
 use Rattle.store_model.specs.declared.stores.StoreError.TheVariants as store
 use Rattle.store_model.specs.declared.files.FsError.TheVariants as fs
-use Rattle.iso_fs.proofs.Ended.{run_as, run_from, tree_done, tree_refused}
+use Rattle.iso_fs.proofs.Ended.{behaves_after, run_as, run_from}
 
 -- THE CALLS OF THE TREE MAKE AN ACCESS
 pub get_has : (a : Area) (key : List ℕ) → is_key key ≡ true → HasAccess (get_program a key)
@@ -18,56 +18,18 @@ unfolding put_program
 put_has a key value key_is value_is = rw (key_is, value_is) (λ A. omega arith)
 
 -- THE FILE BLOCK
-module _ (a : Area) (number : ℕ) (t : Tx) where
-  abbrev whole : Call Found
-  whole = numbered a found_file number
+pub file_broken : (a : Area) (number : ℕ) (file : List ℕ) → is_file a file ≡ false → cond (is_file a file) (found_file number file) (broken (a.start + number)) ≡ broken (a.start + number)
+file_broken a number file bad = ap (λ (b : Bool). cond b (found_file number file) (broken (a.start + number))) bad
 
-  abbrev tested : List ℕ → Call Found
-  tested file = cond (is_file a file) (found_file number file) (broken (a.start + number))
-
-  pub file_refused : (v : Tx) (before now : Device) (e : TxError) → v ≡ t → IsCause v 1 before now e → HasRun (numbered a found_file number) t v (Err (fs.Store (store.Tx e)))
-  file_refused v before now e same cause = cut_at_whole whole (a.start + number) tested t t v before now e (at_start whole t) same cause
-
-  module _ (u : Tx) (file : List ℕ) (told : AreBytesOf t (a.start + number) file) (tx : IsTx u) (is : u ≡ with_accesses t (look_access (a.start + number) [] ∷ [])) where
-    now_read : IsAt whole (tested file) t u
-    now_read = at_look_whole whole (a.start + number) tested t t u file (at_start whole t) told tx.count is
-
-    pub file_broken : is_file a file ≡ false → HasRun (numbered a found_file number) t u (Err (fs.Store (store.Broken (a.start + number))))
-    file_broken bad =
-        ran_at whole t u (Err (fs.Store (store.Broken (a.start + number))))
-        (subst (λ (b : Bool). IsAt whole (cond b (found_file number file) (broken (a.start + number))) t u) bad now_read)
-
-    pub file_found : is_file a file ≡ true → HasRun (numbered a found_file number) t u (Ok (Some (number, file)))
-    file_found good =
-        ran_at whole t u (Ok (Some (number, file)))
-        (subst (λ (b : Bool). IsAt whole (cond b (found_file number file) (broken (a.start + number))) t u) good now_read)
+pub file_found : (a : Area) (number : ℕ) (file : List ℕ) → is_file a file ≡ true → cond (is_file a file) (found_file number file) (broken (a.start + number)) ≡ found_file number file
+file_found a number file good = ap (λ (b : Bool). cond b (found_file number file) (broken (a.start + number))) good
 
 -- THE VALUE OF THE NAME
-pub value_bad : (a : FileAreas) (value : List ℕ) (t : Tx) → is_number a.files value ≡ false → HasRun (with_file a found_file value) t t (Err (fs.Store (store.Broken a.tree.start)))
-value_bad a value t bad =
-    run_as (broken a.tree.start) (with_file a found_file value) t t (Err (fs.Store (store.Broken a.tree.start)))
-    (ap (λ (b : Bool). cond b (numbered a.files found_file (number_of value)) (broken a.tree.start)) bad)
-    (ran_at (broken a.tree.start) t t (Err (fs.Store (store.Broken a.tree.start))) (at_start (broken a.tree.start) t))
+pub value_bad : (a : FileAreas) (value : List ℕ) → is_number a.files value ≡ false → with_file a found_file value ≡ broken a.tree.start
+value_bad a value bad = ap (λ (b : Bool). cond b (numbered a.files found_file (number_of value)) (broken a.tree.start)) bad
 
-pub value_named : (a : FileAreas) (value : List ℕ) (number : ℕ) (t u : Tx) (result : Result Found FsError) → is_number a.files value ≡ true → number ≡ number_of value
-    → HasRun (numbered a.files found_file number) t u result → HasRun (with_file a found_file value) t u result
-value_named a value number t u result good is run =
-    run_as (numbered a.files found_file number) (with_file a found_file value) t u result
-    (ap (λ (b : Bool). cond b (numbered a.files found_file (number_of value)) (broken a.tree.start)) good ∙ ap (numbered a.files found_file) (sym is)) run
-
-pub none_found : (a : FileAreas) (t : Tx) → HasRun (at_file a None found_file None) t t (Ok None)
-none_found a t = ran_at (Done (Ok None)) t t (Ok None) (at_start (Done (Ok None)) t)
-
--- THE WHOLE LOOK-UP
-module _ (a : FileAreas) (name : List ℕ) (key : is_key name ≡ true) (t u : Tx) where
-  pub find_run : (o : Option (List ℕ)) (v : Tx) (result : Result Found FsError) → HasEnded (get_program a.tree name) t u (Ok o) → HasRun (at_file a None found_file o) u v result → HasRun (find_program a name) t v result
-  find_run o v result ended run =
-      run_from (find_program a name) (at_file a None found_file o) t u v result
-      (tree_done (find_program a name) (get_program a.tree name) (at_file a None found_file) t t u (at_start (find_program a name) t) o ended) run
-
-  pub find_refused : (e : StoreError) → HasEnded (get_program a.tree name) t u (Err e) → HasRun (find_program a name) t u (Err (fs.Store e))
-  find_refused e ended =
-      tree_refused (find_program a name) (get_program a.tree name) (at_file a None found_file) t t u (at_start (find_program a name) t) e (λ memory. get_has a.tree name key) ended
+pub value_named : (a : FileAreas) (value : List ℕ) (number : ℕ) → is_number a.files value ≡ true → number ≡ number_of value → with_file a found_file value ≡ numbered a.files found_file number
+value_named a value number good is = ap (λ (b : Bool). cond b (numbered a.files found_file (number_of value)) (broken a.tree.start)) good ∙ ap (numbered a.files found_file) (sym is)
 
 -- A PART THAT IS REFUSED
 refused_in : {X Y : Type 0} (p : Call X) (f : Result X FsError → Call Y) (t u : Tx) (e : FsError) → f (Err e) ≡ Done (Err e) → HasRun p t u (Err e) → HasRun (then_do p f) t u (Err e)
@@ -106,19 +68,23 @@ module _ {Y : Type 0} (a : FileAreas) (name : List ℕ) (none : Y) (next : ℕ �
   find_then : then_do (find_program a name) (on_found none next) ≡ call
   find_then = then_assoc (get_program a.tree name) (goes_on (at_file a None found_file)) (on_found none next) ∙ (λ i. then_do (get_program a.tree name) (λ r. each_then r i))
 
-  module _ (t u : Tx) where
-    -- what is done behind the look-up
-    pub goes : (file : List ℕ) (o : Option ℕ) (v : Tx) (result : Result Y FsError) → HasRun (find_program a name) t u (found_as file (Ok o)) → HasRun (on_found none next (found_as file (Ok o))) u v result
-        → HasRun (in_tree (get_program a.tree name) (at_file a none next)) t v result
-    goes file o v result found run =
-        run_as (then_do (find_program a name) (on_found none next)) call t v result (sym find_then)
-        (run_from (then_do (find_program a name) (on_found none next)) (on_found none next (found_as file (Ok o))) t u v result
-        (at_then (then_do (find_program a name) (on_found none next)) (find_program a name) (on_found none next) t t u (found_as file (Ok o)) (at_start (then_do (find_program a name) (on_found none next)) t) found) run)
+  -- what is done behind the look-up
+  pub found_part : {late : Bool} {writes : ℕ} {t u v : Tx} {before mid now : Device} {x : Found} {result : Result Y FsError} → IsPart false 1 (find_program a name) t u before mid (Ok x) → HasRead t u
+      → IsPart late writes (on_found none next (Ok x)) u v mid now result → IsPart late writes (in_tree (get_program a.tree name) (at_file a none next)) t v before now result
+  found_part {writes = writes} {t = t} {u = u} {v = v} {before = before} {mid = mid} {now = now} {x = x} {result = result} found read part =
+      let whole = then_do (find_program a name) (on_found none next) in
+      let b = found.behaves in
+      record {
+        run = run_as whole call t v result (sym find_then)
+            (run_from whole (on_found none next (Ok x)) t u v result (at_then whole (find_program a name) (on_found none next) t t u (Ok x) (at_start whole t) found.run) part.run);
+        behaves = behaves_after t u v writes before mid now result read b.later b.passed part.behaves;
+      }
 
-    -- the look-up was refused
-    pub goes_refused : (e : FsError) → HasRun (find_program a name) t u (Err e) → HasRun (in_tree (get_program a.tree name) (at_file a none next)) t u (Err e)
-    goes_refused e found = run_as (then_do (find_program a name) (on_found none next)) call t u (Err e) (sym find_then) (refused_in (find_program a name) (on_found none next) t u e refl found)
-
--- the name has no file
-pub goes_none : {Y : Type 0} (none : Y) (t : Tx) → HasRun (Done (Ok none)) t t (Ok none)
-goes_none none t = ran_at (Done (Ok none)) t t (Ok none) (at_start (Done (Ok none)) t)
+  -- the look-up was refused
+  pub found_stops : {t u : Tx} {before now : Device} {e : FsError} → IsPart false 1 (find_program a name) t u before now (Err e) → IsPart false 1 (in_tree (get_program a.tree name) (at_file a none next)) t u before now (Err e)
+  found_stops {t = t} {u = u} {e = e} found =
+      let b = found.behaves in
+      record {
+        run = run_as (then_do (find_program a name) (on_found none next)) call t u (Err e) (sym find_then) (refused_in (find_program a name) (on_found none next) t u e refl found.run);
+        behaves = record { cause = b.cause; unwritten = b.unwritten; known = b.known; later = b.later; passed = tt };
+      }

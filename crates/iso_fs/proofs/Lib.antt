@@ -15,6 +15,7 @@ pub mod Lookups
 pub mod MapByte
 pub mod MapLaid
 pub mod NewFile
+mod Parts
 pub mod Pieces
 pub mod ReadSteps
 pub mod RemoveCalls

@@ -39,12 +39,12 @@ pub record NamesBy (o : Option (List ℕ)) (number : ℕ) : Type 0 where
   pub is : o ≡ Some value
   pub number_is : number_of value ≡ number
 
-no_number : (number : ℕ) → ◌≡◌ {A = Option ℕ} None (Some number) → ⊥
-no_number number e = cc
+pub no_some : {X : Type 0} (x : X) → ◌≡◌ {A = Option X} None (Some x) → ⊥
+no_some x e = cc
 
-some_number : (m n : ℕ) → ◌≡◌ {A = Option ℕ} (Some m) (Some n) → m ≡ n
-some_number m n e = cc
+pub same_some : (m n : ℕ) → ◌≡◌ {A = Option ℕ} (Some m) (Some n) → m ≡ n
+same_some m n e = cc
 
 pub names_by : (o : Option (List ℕ)) (number : ℕ) → option_map number_of o ≡ Some number → NamesBy o number
-names_by None number e = absurd (no_number number e)
-names_by (Some value) number e = record { value = value; is = refl; number_is = some_number (number_of value) number e }
+names_by None number e = absurd (no_some number e)
+names_by (Some value) number e = record { value = value; is = refl; number_is = same_some (number_of value) number e }

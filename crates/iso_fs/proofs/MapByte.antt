@@ -1,34 +1,18 @@
 -- A free block of the map, and the map with a byte of it written.
-use Rattle.iso_fs.proofs.Words.{◌≡◌, ◌≢◌, ◌∙◌, sym, refl, ap, ℕ, zero, suc, ◌+◌, ◌-◌, ◌/◌, ◌%◌, ◌<◌, ◌≤◌, Bool, true, false, not, ◌==◌, List, [], ◌∷◌, ◌++◌, length, get_or, take, drop, replicate, Some, arith, inl, inr, AllByRecursion, cases_Bool, cases_lt, or_left, get_or-take, get_or-drop, length-replicate, Area, merged, first_from, bytes_in, block_with, map_bytes, map_mark, map_bit, bit_place, bit_mark, lowest_free, laid_here, length-laid_at, kept_1, laid_all}
+use Rattle.iso_fs.proofs.Words.{◌≡◌, ◌≢◌, ◌∙◌, sym, refl, ap, ℕ, zero, suc, ◌+◌, ◌-◌, ◌/◌, ◌%◌, ◌<◌, ◌≤◌, Bool, true, false, not, ◌==◌, List, [], ◌∷◌, ◌++◌, length, get_or, take, drop, replicate, Some, arith, inl, inr, cases_Bool, cases_lt, or_left, get_or-take, get_or-drop, length-replicate, Area, merged, first_from, bytes_in, block_with, map_bytes, map_mark, map_bit, bit_place, bit_mark, lowest_free, laid_here, length-laid_at, kept_1, laid_all}
 
-first_passes : (test : ℕ → Bool) (i n j : ℕ) → first_from test i n ≡ Some j → test j ≡ true
-first_passes test i zero j e = cc
-first_passes test i (suc n) j e = elim (cases_Bool (test i)) [
+first_is : (test : ℕ → Bool) (i n j : ℕ) → first_from test i n ≡ Some j → (i ≤ j) × (j < i + n) × (test j ≡ true)
+first_is test i zero j e = absurd cc
+first_is test i (suc n) j e = elim (cases_Bool (test i)) [
   | inl pass ↦
       (let here : Some i ≡ Some j = sym (rw pass refl) ∙ e in
       let same : i ≡ j = cc in
-      ap test (sym same) ∙ pass)
-  | inr fail ↦ first_passes test (i + 1) n j (sym (rw fail refl) ∙ e)
-]
-
-first_low : (test : ℕ → Bool) (i n j : ℕ) → first_from test i n ≡ Some j → i ≤ j
-first_low test i zero j e = cc
-first_low test i (suc n) j e = elim (cases_Bool (test i)) [
-  | inl pass ↦
-      (let here : Some i ≡ Some j = sym (rw pass refl) ∙ e in
-      let equal : i ≡ j = cc in
-      omega arith)
-  | inr fail ↦ (let ih = first_low test (i + 1) n j (sym (rw fail refl) ∙ e) in omega arith)
-]
-
-first_high : (test : ℕ → Bool) (i n j : ℕ) → first_from test i n ≡ Some j → j < i + n
-first_high test i zero j e = cc
-first_high test i (suc n) j e = elim (cases_Bool (test i)) [
-  | inl pass ↦
-      (let here : Some i ≡ Some j = sym (rw pass refl) ∙ e in
-      let equal : i ≡ j = cc in
-      omega arith)
-  | inr fail ↦ (let ih = first_high test (i + 1) n j (sym (rw fail refl) ∙ e) in omega arith)
+      (omega arith, omega arith, ap test (sym same) ∙ pass))
+  | inr fail ↦
+      (let more = first_is test (i + 1) n j (sym (rw fail refl) ∙ e) in
+      let low = more.0 in
+      let high = more.1 in
+      (omega arith, omega arith, more.2))
 ]
 
 -- the byte of the map that a call reads
@@ -45,9 +29,10 @@ pub is_free : (a : Area) (first : List ℕ) (k : ℕ) → 2 ≤ a.blocks → low
 is_free a first k least e =
     let map = bytes_in (map_mark a.blocks) first in
     let test : ℕ → Bool = λ j. not (map_bit map j) in
-    let low = first_low test 1 (a.blocks - 1) k e in
-    let high = first_high test 1 (a.blocks - 1) k e in
-    let pass : not (map_bit map k) ≡ true = first_passes test 1 (a.blocks - 1) k e in
+    let is = first_is test 1 (a.blocks - 1) k e in
+    let low = is.0 in
+    let high = is.1 in
+    let pass : not (map_bit map k) ≡ true = is.2 in
     let inside : k < a.blocks = omega arith in
     record {
       low = low;

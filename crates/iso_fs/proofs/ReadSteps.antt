@@ -1,8 +1,8 @@
 -- A read, part by part.
-use Rattle.iso_fs.proofs.Words.{◌≡◌, ◌∙◌, sym, refl, ap, subst, ℕ, zero, suc, ◌+◌, ◌-◌, ◌*◌, ◌/◌, ◌<◌, ◌≤◌, Bool, true, false, cond, List, [], ◌∷◌, ◌++◌, length, take, drop, append_assoc, length-append, nat_le, Option, Some, None, Result, Ok, Err, IfOk, arith, nat_lt, option_map, ForSome, length-take-le, take_at, nat_tests, div-lt_iff_lt-mul, Access, Span, Area, TxError, own, is_key, block_at, Done, IsLocal, bytes_in, look_access, laid_at, get_program, Tx, Device, IsTx, with_accesses, IsCause, IsLocalCall, HasAccess, IsAt, at_look, at_start, ran_at, whole_run, cut_at_look, at_as, FsError, FileAreas, FsRegion, bytes_of, entry_at, entry_count, is_file, piece_len, piece_mark, Call, at_file, goes_on, in_tree, is_many, least, read_from, read_op, read_pieces, read_program, refuse, AreFileAreas, AreFileRegions, files, HasRun, areas_of}
+use Rattle.iso_fs.proofs.Words.{◌≡◌, ◌∙◌, sym, refl, ap, subst, ℕ, zero, suc, ◌+◌, ◌-◌, ◌*◌, ◌/◌, ◌<◌, ◌≤◌, Bool, true, false, cond, List, [], ◌∷◌, ◌++◌, length, take, drop, append_assoc, length-append, nat_le, Option, Some, None, Result, Ok, Err, IfOk, arith, nat_lt, option_map, ForSome, length-take-le, take_at, nat_tests, div-lt_iff_lt-mul, Span, Area, TxError, own, is_key, block_at, Done, bytes_in, look_access, laid_at, get_program, Tx, Device, IsTx, with_accesses, IsCause, IsLocalCall, HasAccess, IsAt, at_look, at_start, ran_at, cut_at_look, at_as, FsError, FileAreas, FsRegion, bytes_of, entry_at, entry_count, is_file, piece_len, piece_mark, Call, at_file, goes_on, in_tree, is_many, least, read_from, read_op, read_pieces, read_program, refuse, AreFileAreas, AreFileRegions, files, HasRun, areas_of}
 use Rattle.store_model.specs.declared.stores.StoreError.TheVariants as store
 use Rattle.store_model.specs.declared.files.FsError.TheVariants as fs
-use Rattle.iso_fs.proofs.Ended.{has_then, run_as}
+use Rattle.iso_fs.proofs.Ended.{has_then, call_local}
 use Rattle.iso_fs.proofs.Finding.{get_has}
 use Rattle.iso_fs.proofs.Lefts.{HasLeft}
 use Rattle.iso_fs.proofs.FileReads.{read_local}
@@ -48,8 +48,8 @@ over : (a : Area) (file : List ℕ) (most at to : ℕ) (found : List ℕ) → to
 over a file zero at to found past = refl
 over a file (suc most) at to found past = let test : nat_lt at to ≡ false = grind (arith, nat_tests) in ap (λ (b : Bool). cond b (step a file most at to found) (Done (Ok (Some found)))) test
 
-pub all_done : (whole : Call (Option (List ℕ))) (a : Area) (file : List ℕ) (at to left : ℕ) (found : List ℕ) (t u : Tx) → to ≤ at → HasLeft whole (λ most. read_pieces a file most at to found) left t u → HasRun whole t u (Ok (Some found))
-all_done whole a file at to left found t u past has =
+pub all_done : {whole : Call (Option (List ℕ))} {left : ℕ} {t u : Tx} (a : Area) (file : List ℕ) (at to : ℕ) (found : List ℕ) → to ≤ at → HasLeft whole (λ most. read_pieces a file most at to found) left t u → HasRun whole t u (Ok (Some found))
+all_done {whole = whole} {t = t} {u = u} a file at to found past has =
     ran_at whole t u (Ok (Some found)) (at_as whole (read_pieces a file has.most at to found) (Done (Ok (Some found))) t u (over a file has.most at to found past) has.here)
 
 -- A RANGE OF A FILE
@@ -58,33 +58,24 @@ least_as off len bytes inside =
     let same : nat_lt (off + len) bytes ≡ nat_lt len (bytes - off) = grind (arith, nat_tests) in
     ap (λ (t : Bool). cond t (off + len) bytes) same
 
-pub range_run : (a : Area) (off len number : ℕ) (file : List ℕ) (to : ℕ) (t u : Tx) (result : Result (Option (List ℕ)) FsError) → off ≤ bytes_of file → to ≡ cond (nat_lt len (bytes_of file - off)) (off + len) (bytes_of file)
-    → HasRun (read_pieces a file len off to []) t u result → HasRun (read_from a off len number file) t u result
-range_run a off len number file to t u result inside is run =
-    let test : nat_le off (bytes_of file) ≡ true = grind (arith, nat_tests) in
-    let same : to ≡ least (off + len) (bytes_of file) = is ∙ sym (least_as off len (bytes_of file) inside) in
-    run_as (read_pieces a file len off to []) (read_from a off len number file) t u result
-    (ap (λ (b : Bool). cond b (read_pieces a file len off (least (off + len) (bytes_of file)) []) (refuse fs.BadRange)) test ∙ ap (λ (n : ℕ). read_pieces a file len off n []) (sym same)) run
+module _ (a : Area) (off len number : ℕ) (file : List ℕ) where
+  abbrev passes : Call (Option (List ℕ))
+  passes = read_pieces a file len off (least (off + len) (bytes_of file)) []
 
-pub range_bad : (a : Area) (off len number : ℕ) (file : List ℕ) (t : Tx) → bytes_of file < off → HasRun (read_from a off len number file) t t (Err fs.BadRange)
-range_bad a off len number file t out =
-    let test : nat_le off (bytes_of file) ≡ false = grind (arith, nat_tests) in
-    run_as (refuse fs.BadRange) (read_from a off len number file) t t (Err fs.BadRange)
-    (ap (λ (b : Bool). cond b (read_pieces a file len off (least (off + len) (bytes_of file)) []) (refuse fs.BadRange)) test)
-    (ran_at (refuse fs.BadRange) t t (Err fs.BadRange) (at_start (refuse fs.BadRange) t))
+  pub range_is : (to : ℕ) → off ≤ bytes_of file → to ≡ cond (nat_lt len (bytes_of file - off)) (off + len) (bytes_of file) → read_from a off len number file ≡ read_pieces a file len off to []
+  range_is to inside is =
+      let test : nat_le off (bytes_of file) ≡ true = grind (arith, nat_tests) in
+      let same : to ≡ least (off + len) (bytes_of file) = is ∙ sym (least_as off len (bytes_of file) inside) in
+      ap (λ (b : Bool). cond b passes (refuse fs.BadRange)) test ∙ ap (λ (n : ℕ). read_pieces a file len off n []) (sym same)
+
+  pub range_bad : bytes_of file < off → read_from a off len number file ≡ refuse fs.BadRange
+  range_bad out = (let test : nat_le off (bytes_of file) ≡ false = grind (arith, nat_tests) in ap (λ (b : Bool). cond b passes (refuse fs.BadRange)) test)
 
 -- THE WHOLE CALL
-read_as : (a : FileAreas) (name : List ℕ) (off len : ℕ) → is_key name ≡ true → is_many len ≡ true → read_program a name off len ≡ in_tree (get_program a.tree name) (at_file a None (read_from a.files off len))
+pub read_as : (a : FileAreas) (name : List ℕ) (off len : ℕ) → is_key name ≡ true → is_many len ≡ true → read_program a name off len ≡ in_tree (get_program a.tree name) (at_file a None (read_from a.files off len))
 unfolding read_program
 read_as a name off len key many =
     (λ i. cond (key i) (cond (many i) (in_tree (get_program a.tree name) (at_file a None (read_from a.files off len))) (refuse fs.BadRange)) (refuse fs.BadName))
-
-module _ (a : FileAreas) (name : List ℕ) (off len : ℕ) (key : is_key name ≡ true) (many : is_many len ≡ true) (t : Tx) where
-  abbrev call : Call (Option (List ℕ))
-  call = in_tree (get_program a.tree name) (at_file a None (read_from a.files off len))
-
-  pub read_run : (v : Tx) (result : Result (Option (List ℕ)) FsError) → HasRun call t v result → HasRun (read_program a name off len) t v result
-  read_run v result run = run_as call (read_program a name off len) t v result (read_as a name off len key many) run
 
 pub read_has : (a : FileAreas) (name : List ℕ) (off len : ℕ) → is_key name ≡ true → is_many len ≡ true → HasAccess (read_program a name off len)
 read_has a name off len key many =
@@ -106,12 +97,9 @@ read_bad_range a name off len t key few = rw (key, few) (ran_at (refuse fs.BadRa
 
 pub read_call : (t u : Tx) (at : FsRegion) (name : List ℕ) (off len : ℕ) (result : Result (Option (List ℕ)) FsError) → AreFileAreas (areas_of t at) → is_key name ≡ true → is_many len ≡ true
     → HasRun (read_program (areas_of t at) name off len) t u result → IfOk result (IsLocalCall (AreFileRegions (areas_of t at)) (files (areas_of t at)) (read_op name off len) t u)
-read_call t u at name off len (Err e) areas key many run = tt
-read_call t u at name off len (Ok x) areas key many run = λ A told.
+read_call t u at name off len result areas key many run =
     let a = areas_of t at in
-    let whole = whole_run (read_program a name off len) t u (Ok x) run A told in
-    subst (λ (accesses : List Access). IsLocal (AreFileRegions a) (files a) (read_op name off len) (own A t.accesses) accesses x) whole.accesses_are
-    (read_local a name off len (own A t.accesses) x areas key many whole.answer_is)
+    call_local (AreFileRegions a) (files a) (read_op name off len) (read_program a name off len) t u result run (λ A x told is. read_local a name off len (own A t.accesses) x areas key many is)
 
 -- THE ANSWERS OF THE CODE
 module _ (a : Area) (file : List ℕ) (from to : ℕ) (found : List ℕ) (less : from < to) (t u : Tx) (bytes : List ℕ) (number : ℕ) (span : Span) (number_is : number ≡ entry_at file (from / a.size)) (span_is : span ≡ piece_mark a.size from to)

@@ -1,11 +1,10 @@
 -- A removal, part by part.
-use Rattle.iso_fs.proofs.Words.{◌≡◌, ◌∙◌, sym, refl, ap, subst, ℕ, suc, ◌+◌, ◌-◌, ◌*◌, ◌<◌, ◌≤◌, Bool, true, false, cond, List, [], ◌∷◌, length, take, drop, get_or, set, None, Result, Ok, Err, IfOk, arith, inl, inr, map, nat_lt, range_with_len, drop-take, get_or-take, take-take, Access, own, Span, Area, StoreError, TxError, FsError, FileAreas, FsRegion, block_with, bit_place, clear_bit, map_bytes, map_mark, without_bit, is_key, IsIn, Done, IsLocal, bytes_in, look_access, store_access, del_program, get_program, IsTreeArea, bytes_of, data_count, entries_of, entry_at, is_file, Call, at_file, bits_mark, goes_on, high_place, in_tree, low_place, refuse, remove_file, remove_op, remove_program, remove_writes, without_bits, AreFileAreas, AreFileRegions, files, Tx, Device, IsTx, with_accesses, AreBytesOf, HasEnded, IsCause, IsLocalCall, HasAccess, at_look, at_start, at_store, ran_at, whole_run, cut_at_look, cut_at_store, take-set-lt, HasRun, areas_of, with_dropped}
-use Rattle.store_model.specs.declared.stores.StoreError.TheVariants as store
+use Rattle.iso_fs.proofs.Words.{◌≡◌, ◌∙◌, sym, refl, ap, subst, ℕ, suc, ◌+◌, ◌-◌, ◌*◌, ◌<◌, ◌≤◌, Bool, true, false, cond, List, [], ◌∷◌, length, take, drop, get_or, set, Result, Err, IfOk, arith, inl, inr, map, range_with_len, drop-take, get_or-take, take-take, own, Span, Area, FsError, FileAreas, FsRegion, block_with, bit_place, clear_bit, map_bytes, map_mark, without_bit, is_key, IsIn, bytes_in, store_access, get_program, IsTreeArea, data_count, entries_of, entry_at, is_file, Call, at_file, bits_mark, goes_on, high_place, in_tree, low_place, refuse, remove_file, remove_op, remove_program, without_bits, AreFileAreas, AreFileRegions, files, Tx, IsTx, IsLocalCall, HasAccess, at_start, ran_at, take-set-lt, HasRun, areas_of, ArePlaces}
 use Rattle.store_model.specs.declared.files.FsError.TheVariants as fs
 use Rattle.iso_fs.proofs.CreateSteps.{have_blocks}
-use Rattle.iso_fs.proofs.Ended.{has_then, run_as, run_from, tree_done, tree_refused}
-use Rattle.iso_fs.proofs.Files.{count_fits, entry_handed, file_parts}
-use Rattle.iso_fs.proofs.Finding.{del_has, get_has}
+use Rattle.iso_fs.proofs.Ended.{has_then, call_local}
+use Rattle.iso_fs.proofs.Files.{entry_handed, file_parts}
+use Rattle.iso_fs.proofs.Finding.{get_has}
 use Rattle.iso_fs.proofs.MapLaid.{high_below, high_is, low_is}
 use Rattle.iso_fs.proofs.RemoveCalls.{remove_local}
 use Rattle.iso_fs.proofs.Removes.{in_range_map}
@@ -18,27 +17,6 @@ pub entries_step : (file : List ℕ) (i count : ℕ) → i < count → entries_f
 entries_step file i count less =
     let e : count - i ≡ suc (count - (i + 1)) = omega arith in
     ap (λ (n : ℕ). map (entry_at file) (range_with_len i n)) e
-
-pub entries_end : (file : List ℕ) (i count : ℕ) → i ≡ count → entries_from file i count ≡ []
-entries_end file i count is = let e : count - i ≡ 0 = omega arith in ap (λ (n : ℕ). map (entry_at file) (range_with_len i n)) e
-
--- WHERE THE MAP CHANGES
-pub places_end : (file : List ℕ) (block i count : ℕ) → i ≡ count → ◌≡◌ {A = ℕ × ℕ} (bit_place block, bit_place block) (low_place block (entries_from file i count), high_place block (entries_from file i count))
-places_end file block i count is = λ k. (low_place block (sym (entries_end file i count is) k), high_place block (sym (entries_end file i count is) k))
-
-pub places_step : (file : List ℕ) (block i count : ℕ) → i < count → (x : ℕ × ℕ) → ◌≡◌ {A = ℕ × ℕ} x (low_place (entry_at file i) (entries_from file (i + 1) count), high_place (entry_at file i) (entries_from file (i + 1) count))
-    → ◌≡◌ {A = ℕ × ℕ} (cond (nat_lt (bit_place block) x.0) (bit_place block) x.0, cond (nat_lt x.1 (bit_place block)) (bit_place block) x.1) (low_place block (entries_from file i count), high_place block (entries_from file i count))
-places_step file block i count less x is =
-    let e = sym (entries_step file i count less) in
-    let one : ◌≡◌ {A = ℕ × ℕ} (cond (nat_lt (bit_place block) x.0) (bit_place block) x.0, cond (nat_lt x.1 (bit_place block)) (bit_place block) x.1) (low_place block (entry_at file i ∷ entries_from file (i + 1) count), high_place block (entry_at file i ∷ entries_from file (i + 1) count)) =
-    (λ k. (cond (nat_lt (bit_place block) (is k).0) (bit_place block) (is k).0, cond (nat_lt (is k).1 (bit_place block)) (bit_place block) (is k).1)) in
-    one ∙ (λ k. (low_place block (e k), high_place block (e k)))
-
--- the places of the blocks of a file, in order and inside of the block
-pub record ArePlaces (a : Area) (low high : ℕ) : Type 0 where
-  pub rising : low ≤ high
-  pub inside : high < 64 + map_bytes a.blocks
-  pub fits : 64 + map_bytes a.blocks ≤ a.size
 
 pub bits_inside : (a : Area) (number : ℕ) (file : List ℕ) → number < a.blocks → is_file a file ≡ true → (j : ℕ) → IsIn j (number ∷ entries_of a.size file) → j < a.blocks
 bits_inside a number file below good j (inl at) = omega (arith, at)
@@ -85,61 +63,10 @@ left_same a number file F least most below good =
     sym (in_taken (bits_mark number es) m (without_bits F (number ∷ es)) (omega (arith, rising, inside)))
     ∙ ap (bytes_in (bits_mark number es)) (left_taken m (number ∷ es) F (λ k is. let b = bits_inside a number file below good k is in omega (arith, b)))
 
--- THE WRITE OF THE MAP
-module _ (a : Area) (number : ℕ) (file first : List ℕ) (t u : Tx) where
-  abbrev es : List ℕ
-  es = entries_of a.size file
-
-  abbrev giving : Call Bool
-  giving = remove_writes a number file first true
-
-  abbrev mark : Span
-  mark = bits_mark number (entries_of a.size file)
-
-  abbrev bytes : List ℕ
-  bytes = block_with a.size (low_place number (entries_of a.size file)) (bytes_in (bits_mark number (entries_of a.size file)) (without_bits first (number ∷ entries_of a.size file)))
-
-  pub given : IsTx u → u ≡ with_accesses t (store_access a.start (bits_mark number (entries_of a.size file) ∷ []) (block_with a.size (low_place number (entries_of a.size file)) (bytes_in (bits_mark number (entries_of a.size file)) (without_bits first (number ∷ entries_of a.size file)))) ∷ [])
-      → HasRun (remove_writes a number file first true) t u (Ok true)
-  given tx is = ran_at giving t u (Ok true) (at_store giving a.start (mark ∷ []) bytes (Done (Ok true)) t t u (at_start giving t) tx.count is)
-
-  pub not_given : (before now : Device) (e : TxError) → u ≡ t → IsCause u 1 before now e → HasRun (remove_writes a number file first true) t u (Err (fs.Store (store.Tx e)))
-  not_given before now e same cause = cut_at_store giving a.start (mark ∷ []) bytes (Done (Ok true)) t t u before now e (at_start giving t) same cause
-
--- THE NAME
-module _ (a : FileAreas) (name : List ℕ) (number : ℕ) (file first : List ℕ) (t u : Tx) where
-  abbrev dropping : Call Bool
-  dropping = with_dropped a name number file first
-
-  pub drop_run : (v : Tx) (there : Bool) (result : Result Bool FsError) → HasEnded (del_program a.tree name) t u (Ok there) → HasRun (remove_writes a.files number file first true) u v result
-      → HasRun (with_dropped a name number file first) t v result
-  drop_run v there result ended run =
-      run_from dropping (remove_writes a.files number file first there) t u v result (tree_done dropping (del_program a.tree name) (remove_writes a.files number file first) t t u (at_start dropping t) there ended) run
-
-  pub drop_refused : (e : StoreError) → is_key name ≡ true → HasEnded (del_program a.tree name) t u (Err e) → HasRun (with_dropped a name number file first) t u (Err (fs.Store e))
-  drop_refused e key ended = tree_refused dropping (del_program a.tree name) (remove_writes a.files number file first) t t u (at_start dropping t) e (λ memory. del_has a.tree name key) ended
-
--- THE MAP
-module _ (a : FileAreas) (name : List ℕ) (number : ℕ) (file : List ℕ) (t u : Tx) where
-  abbrev reading : Call Bool
-  reading = remove_file a name number file
-
-  pub map_refused : (before now : Device) (e : TxError) → u ≡ t → IsCause u 1 before now e → HasRun (remove_file a name number file) t u (Err (fs.Store (store.Tx e)))
-  map_refused before now e same cause = cut_at_look reading a.files.start (map_mark a.files.blocks) (λ first. None) (λ first none. with_dropped a name number file first) t t u before now e (at_start reading t) same cause
-
-  pub map_run : (bytes : List ℕ) (v : Tx) (result : Result Bool FsError) → AreBytesOf t a.files.start bytes → IsTx u → u ≡ with_accesses t (look_access a.files.start (map_mark a.files.blocks ∷ []) ∷ [])
-      → HasRun (with_dropped a name number file (bytes_in (map_mark a.files.blocks) bytes)) u v result → HasRun (remove_file a name number file) t v result
-  map_run bytes v result told tx is run =
-      run_from reading (with_dropped a name number file (bytes_in (map_mark a.files.blocks) bytes)) t u v result
-      (at_look reading a.files.start (map_mark a.files.blocks) (λ first. None) (λ first none. with_dropped a name number file first) t t u bytes (at_start reading t) told tx.count is) run
-
 -- THE WHOLE CALL
-remove_as : (a : FileAreas) (name : List ℕ) → is_key name ≡ true → remove_program a name ≡ in_tree (get_program a.tree name) (at_file a false (remove_file a name))
+pub remove_as : (a : FileAreas) (name : List ℕ) → is_key name ≡ true → remove_program a name ≡ in_tree (get_program a.tree name) (at_file a false (remove_file a name))
 unfolding remove_program
 remove_as a name key = ap (λ (k : Bool). cond k (in_tree (get_program a.tree name) (at_file a false (remove_file a name))) (refuse fs.BadName)) key
-
-pub remove_run : (a : FileAreas) (name : List ℕ) (t v : Tx) (result : Result Bool FsError) → is_key name ≡ true → HasRun (in_tree (get_program a.tree name) (at_file a false (remove_file a name))) t v result → HasRun (remove_program a name) t v result
-remove_run a name t v result key run = run_as (in_tree (get_program a.tree name) (at_file a false (remove_file a name))) (remove_program a name) t v result (remove_as a name key) run
 
 pub remove_has : (a : FileAreas) (name : List ℕ) → is_key name ≡ true → HasAccess (remove_program a name)
 remove_has a name key =
@@ -151,47 +78,24 @@ remove_bad a name t not_key = rw not_key (ran_at (refuse fs.BadName) t t (Err fs
 
 pub remove_call : (t u : Tx) (at : FsRegion) (name : List ℕ) (result : Result Bool FsError) → IsTx t → AreFileAreas (areas_of t at) → at.files.start + at.files.size ≤ t.blocks → is_key name ≡ true
     → HasRun (remove_program (areas_of t at) name) t u result → IfOk result (IsLocalCall (AreFileRegions (areas_of t at)) (files (areas_of t at)) (remove_op name) t u)
-remove_call t u at name (Err e) tx areas fits key run = tt
-remove_call t u at name (Ok x) tx areas fits key run = λ A told.
+remove_call t u at name result tx areas fits key run =
     let a = areas_of t at in
-    let whole = whole_run (remove_program a name) t u (Ok x) run A told in
-    subst (λ (accesses : List Access). IsLocal (AreFileRegions a) (files a) (remove_op name) (own A t.accesses) accesses x) whole.accesses_are
-    (remove_local a name (own A t.accesses) x areas (have_blocks t at A tx areas fits told) key whole.answer_is)
-
-pub data_fits : (a : Area) (file : List ℕ) → is_file a file ≡ true → 256 ≤ a.size → 64 + 4 * data_count a.size file ≤ a.size
-data_fits a file good least = count_fits a.size (bytes_of file) least (file_parts a file good).few
+    call_local (AreFileRegions a) (files a) (remove_op name) (remove_program a name) t u result run (λ A x told is. remove_local a name (own A t.accesses) x areas (have_blocks t at A tx areas fits told) key is)
 
 -- WHAT THE CODE WRITES
-module _ (a : Area) (area : IsTreeArea a) (number : ℕ) (file : List ℕ) (below : number < a.blocks) (good : is_file a file ≡ true) (count : ℕ) (count_is : count ≡ data_count a.size file) (x : ℕ × ℕ)
-    (is : ◌≡◌ {A = ℕ × ℕ} x (low_place number (entries_from file 0 count), high_place number (entries_from file 0 count))) where
-  abbrev mine : List ℕ
-  mine = entries_of a.size file
+pub entries_all : (a : Area) (file : List ℕ) (count : ℕ) → count ≡ data_count a.size file → entries_from file 0 count ≡ entries_of a.size file
+entries_all a file count is = let e : count - 0 ≡ data_count a.size file = omega arith in ap (λ (n : ℕ). map (entry_at file) (range_with_len 0 n)) e
 
-  all : entries_from file 0 count ≡ entries_of a.size file
-  all = let e : count - 0 ≡ data_count a.size file = omega (arith, count_is) in ap (λ (n : ℕ). map (entry_at file) (range_with_len 0 n)) e
-
-  low : x.0 ≡ low_place number (entries_of a.size file)
-  low = ap (λ (y : ℕ × ℕ). y.0) is ∙ ap (low_place number) all
-
-  high : x.1 ≡ high_place number (entries_of a.size file)
-  high = ap (λ (y : ℕ × ℕ). y.1) is ∙ ap (high_place number) all
-
-  pub code_places : ArePlaces a x.0 x.1
-  code_places =
-      let p = places_are a number file area.least area.most below good in
-      let rising = p.rising in
-      let inside = p.inside in
-      let fits = p.fits in
-      record { rising = omega (arith, low, high, rising); inside = omega (arith, high, inside); fits = fits }
-
-  pub left_access : (F one two piece room into : List ℕ) → one ≡ without_bit F number → two ≡ without_bits one (entries_of a.size file) → piece ≡ take (x.1 + 1 - x.0) (drop x.0 two) → length room ≡ a.size → into ≡ block_with (length room) x.0 piece
-      → store_access a.start (record { off = x.0; len = x.1 + 1 - x.0 } ∷ []) into
-      ≡ store_access a.start (bits_mark number (entries_of a.size file) ∷ []) (block_with a.size (low_place number (entries_of a.size file)) (bytes_in (bits_mark number (entries_of a.size file)) (without_bits (bytes_in (map_mark a.blocks) F) (number ∷ entries_of a.size file))))
-  left_access F one two piece room into one_is two_is piece_is long into_is =
-      let mark : ◌≡◌ {A = Span} (record { off = x.0; len = x.1 + 1 - x.0 }) (bits_mark number mine) = (λ i. record { off = low i; len = high i + 1 - low i }) in
-      let map_is : two ≡ without_bits F (number ∷ mine) = two_is ∙ ap (λ (m : List ℕ). without_bits m mine) one_is in
-      let bytes : piece ≡ bytes_in (bits_mark number mine) (without_bits (bytes_in (map_mark a.blocks) F) (number ∷ mine)) =
-      piece_is ∙ (λ i. bytes_in (mark i) (map_is i)) ∙ left_same a number file F area.least area.most below good in
-      let all_bytes : into ≡ block_with a.size (low_place number mine) (bytes_in (bits_mark number mine) (without_bits (bytes_in (map_mark a.blocks) F) (number ∷ mine))) =
-      into_is ∙ (λ i. block_with (long i) (low i) (bytes i)) in
-      (λ i. store_access a.start (mark i ∷ []) (all_bytes i))
+pub left_access : (a : Area) (area : IsTreeArea a) (number : ℕ) (file : List ℕ) → number < a.blocks → is_file a file ≡ true → (x : ℕ × ℕ) → ◌≡◌ {A = ℕ × ℕ} x (low_place number (entries_of a.size file), high_place number (entries_of a.size file))
+    → (F one two piece room into : List ℕ) → one ≡ without_bit F number → two ≡ without_bits one (entries_of a.size file) → piece ≡ take (x.1 + 1 - x.0) (drop x.0 two) → length room ≡ a.size → into ≡ block_with (length room) x.0 piece
+    → store_access a.start (record { off = x.0; len = x.1 + 1 - x.0 } ∷ []) into
+    ≡ store_access a.start (bits_mark number (entries_of a.size file) ∷ []) (block_with a.size (low_place number (entries_of a.size file)) (bytes_in (bits_mark number (entries_of a.size file)) (without_bits (bytes_in (map_mark a.blocks) F) (number ∷ entries_of a.size file))))
+left_access a area number file below good x is F one two piece room into one_is two_is piece_is long into_is =
+    let mine = entries_of a.size file in
+    let mark : ◌≡◌ {A = Span} (record { off = x.0; len = x.1 + 1 - x.0 }) (bits_mark number mine) = (λ i. record { off = (is i).0; len = (is i).1 + 1 - (is i).0 }) in
+    let map_is : two ≡ without_bits F (number ∷ mine) = two_is ∙ ap (λ (m : List ℕ). without_bits m mine) one_is in
+    let bytes : piece ≡ bytes_in (bits_mark number mine) (without_bits (bytes_in (map_mark a.blocks) F) (number ∷ mine)) =
+    piece_is ∙ (λ i. bytes_in (mark i) (map_is i)) ∙ left_same a number file F area.least area.most below good in
+    let all_bytes : into ≡ block_with a.size (low_place number mine) (bytes_in (bits_mark number mine) (without_bits (bytes_in (map_mark a.blocks) F) (number ∷ mine))) =
+    into_is ∙ (λ i. block_with (long i) (is i).0 (bytes i)) in
+    (λ i. store_access a.start (mark i ∷ []) (all_bytes i))

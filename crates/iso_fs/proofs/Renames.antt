@@ -1,7 +1,7 @@
 -- A file under another name.
 use Rattle.iso_fs.proofs.Words.{◌≡◌, ◌≢◌, ◌∙◌, sym, refl, ap, subst, ℕ, ◌+◌, ◌/◌, ◌%◌, ◌≤◌, ◌==◌, Bool, true, false, cond, List, length, get_or, take, map, Option, Some, None, option_map, Ok, arith, inl, inr, list_all, range_with_len, get, get-remove, insert, remove, same_map, slice_cmp-IsAntisymmetric, nat_cmp-IsAntisymmetric, nat_list_cmp_total, and_parts, both_ways, cases_Bool, nat_tests, Array, own, is_zero, map_bit, is_key, is_value, Pairs, block_at, accesses_of, answer_of, del_program, put_program, IsTreeRegion, tree_map, del_correct, put_correct, FileAreas, bytes_of, entry_at, is_file, is_number, number_of, AreFileAreas, AreFileRegions, Uses, block_in, content, file_at, file_byte, files, number_at, in_area, kept_outside, del_program_stores, put_program_stores}
 use Rattle.iso_fs.proofs.Kept.{same_bytes_by}
-use Rattle.iso_fs.proofs.Lookups.{files_get, insert_get, name_is, name_other, name_self, names_by, same_name}
+use Rattle.iso_fs.proofs.Lookups.{files_get, insert_get, name_is, name_other, name_self, names_by, same_name, no_some}
 
 pub remove_get : (m : Pairs) (name q : List ℕ) → get (remove m name) q ≡ cond (same_name q name) None (get m q)
 remove_get m name q = get-remove nat_list_cmp_total m name q
@@ -13,9 +13,6 @@ short_value a value is = let four = (and_parts (length value == 4) (Rattle.store
 pub record HasRenamed (a : FileAreas) (old new : List ℕ) (bytes : List ℕ) (A C : Array) : Type 0 where
   pub regions : AreFileRegions a C
   pub files_are : files a C ≡ remove (insert (files a A) new bytes) old
-
-no_value : (v : List ℕ) → ◌≡◌ {A = Option (List ℕ)} None (Some v) → ⊥
-no_value v e = cc
 
 same_value : (v w : List ℕ) → ◌≡◌ {A = Option (List ℕ)} (Some v) (Some w) → v ≡ w
 same_value v w e = cc
@@ -70,7 +67,7 @@ module _ (a : FileAreas) (areas : AreFileAreas a) (A : Array) (regions : AreFile
   was q = cond (same_name q new) old q
 
   new_is_not_old : same_name new old ≡ false
-  new_is_not_old = name_other new old (λ e. no_value value (sym free ∙ ap (get (tree_map a.tree A)) e ∙ there))
+  new_is_not_old = name_other new old (λ e. no_some value (sym free ∙ ap (get (tree_map a.tree A)) e ∙ there))
 
   -- a name that has a value is not the old one, and had it, perhaps under that one
   record HasCome (q v : List ℕ) : Type 0 where
@@ -79,7 +76,7 @@ module _ (a : FileAreas) (areas : AreFileAreas a) (A : Array) (regions : AreFile
 
   come : (q v : List ℕ) → get (tree_map a.tree C) q ≡ Some v → HasCome q v
   come q v e = elim (cases_Bool (same_name q old)) [
-    | inl is ↦ absurd (no_value v (ap (λ (t : Bool). cond t None (cond (same_name q new) (Some value) (get (tree_map a.tree A) q))) (sym is) ∙ sym (get_C q) ∙ e))
+    | inl is ↦ absurd (no_some v (ap (λ (t : Bool). cond t None (cond (same_name q new) (Some value) (get (tree_map a.tree A) q))) (sym is) ∙ sym (get_C q) ∙ e))
     | inr other ↦ record {
       other = other;
       before = elim (cases_Bool (same_name q new)) [
@@ -102,7 +99,7 @@ module _ (a : FileAreas) (areas : AreFileAreas a) (A : Array) (regions : AreFile
         ∙ (λ i. cond (new_is_not_old i) None (cond (name_self new i) (Some value) (get (tree_map a.tree A) new)))
         ∙ sym there ∙ ap (get (tree_map a.tree A)) (sym (name_is p old is)) ∙ e
     | inr other ↦
-        (let fresh : same_name p new ≡ false = name_other p new (λ s. no_value v (sym free ∙ ap (get (tree_map a.tree A)) (sym s) ∙ e)) in
+        (let fresh : same_name p new ≡ false = name_other p new (λ s. no_some v (sym free ∙ ap (get (tree_map a.tree A)) (sym s) ∙ e)) in
         ap (λ (t : Bool). get (tree_map a.tree C) (cond t new p)) other ∙ get_C p
         ∙ (λ i. cond (other i) None (cond (fresh i) (Some value) (get (tree_map a.tree A) p))) ∙ e)
   ]

@@ -80,5 +80,5 @@ pub use Rattle.tx_blocks.proofs.Refusals.{cause_earlier, cause_since, cut_at_loo
 pub use Rattle.tx_blocks.proofs.Storing.{kept_outside}
 pub use Rattle.tx_blocks.specs.Runs.{AreBytesOf, HasEnded, HasRead, IsCause, IsLocalCall, IsStoreCause, Passed, Ran}
 pub use Rattle.tx_blocks.specs.Tx.{Device, IsLater, IsTx, Tx, room_of, with_accesses}
-pub use Rattle.iso_fs.specs.Ends.{ExistsWhere, FsBehaves, HasAnswered, HasRun, IsFsCause, IsOfTx, IsUnwritten, areas_of, may_follow}
-pub use Rattle.iso_fs.specs.Finds.{Found, drop_name, find_program, found_as, found_file, got_as, on_found, with_dropped, with_taken}
+pub use Rattle.iso_fs.specs.Ends.{ExistsWhere, FsBehaves, HasAnswered, HasArea, HasRun, IsFsCause, IsOfTx, IsPart, IsUnwritten, areas_of, may_follow}
+pub use Rattle.iso_fs.specs.Finds.{ArePlaces, Found, drop_name, find_program, found_as, found_file, got_as, on_found, with_dropped, with_taken}

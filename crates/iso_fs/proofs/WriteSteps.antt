@@ -1,10 +1,10 @@
 -- A write, part by part.
-use Rattle.iso_fs.proofs.Words.{◌≡◌, ◌∙◌, sym, refl, ap, subst, ℕ, zero, suc, ◌+◌, ◌-◌, ◌*◌, ◌/◌, ◌%◌, ◌<◌, ◌≤◌, ◌&&◌, Bool, true, false, not, cond, List, [], ◌∷◌, ◌++◌, length, take, drop, get_or, nat_le, None, Result, Ok, Err, IfOk, arith, nat_lt, slice_index, filter, range_with_len, nat_tests, append-nil, drop-drop, get_or-append_right, get_or_append_left, take_rest, get_or-map-range_with_len, length-map-range_with_len, add-mul-div_right, div-lt_iff_lt-mul, mul-le-mul_right, Access, Span, own, Area, TxError, FsError, FileAreas, FsRegion, block_with, free_count, map_bit, map_mark, is_key, Done, IsLocal, Store, bytes_in, look_access, store_access, changed_map, changed_mark, first_write, free_list, get_program, IsTreeArea, blocks_for, bytes_of, data_count, entries_of, entry_at, file_block, is_file, most_bytes, piece_len, piece_mark, Call, at_file, goes_on, in_tree, is_many, look_map, refuse, with_new, write_op, write_pieces, write_program, write_sized, write_to, AreFileAreas, AreFileRegions, files, Tx, Device, IsTx, with_accesses, AreBytesOf, IsCause, IsLocalCall, HasAccess, IsAt, at_look, at_start, at_store, ran_at, whole_run, cut_at_look, cut_at_store, at_as, AreBlocks, first_access, free_same, taken_same, AreTaken, taken_are, HasRun, areas_of, with_taken}
+use Rattle.iso_fs.proofs.Words.{◌≡◌, ◌∙◌, sym, refl, ap, subst, ℕ, zero, suc, ◌+◌, ◌-◌, ◌*◌, ◌/◌, ◌%◌, ◌<◌, ◌≤◌, ◌&&◌, Bool, true, false, not, cond, List, [], ◌∷◌, ◌++◌, length, take, drop, get_or, nat_le, None, Result, Ok, Err, IfOk, arith, nat_lt, slice_index, filter, range_with_len, nat_tests, append-nil, drop-drop, get_or-append_right, get_or_append_left, take_rest, get_or-map-range_with_len, length-map-range_with_len, mul-le-mul_right, Access, Span, own, Area, TxError, FsError, FileAreas, FsRegion, block_with, free_count, map_bit, map_mark, is_key, Done, Store, bytes_in, store_access, first_write, free_list, get_program, IsTreeArea, blocks_for, bytes_of, data_count, entries_of, entry_at, file_block, is_file, most_bytes, piece_len, piece_mark, Call, at_file, goes_on, in_tree, is_many, look_map, refuse, with_new, write_op, write_pieces, write_program, write_sized, write_to, AreFileAreas, AreFileRegions, files, Tx, Device, IsTx, with_accesses, IsCause, IsLocalCall, HasAccess, IsAt, at_start, at_store, ran_at, cut_at_store, at_as, AreBlocks, free_same, taken_same, taken_are, HasRun, areas_of, with_taken, Up, blocks_from, Region}
 use Rattle.store_model.specs.declared.stores.StoreError.TheVariants as store
 use Rattle.store_model.specs.declared.files.FsError.TheVariants as fs
 use Rattle.iso_fs.proofs.CreateSteps.{have_blocks}
-use Rattle.iso_fs.proofs.Ended.{has_then, run_as, run_from}
-use Rattle.iso_fs.proofs.Files.{count_covers, count_fits, count_mono, entry_handed, file_parts}
+use Rattle.iso_fs.proofs.Ended.{has_then, call_local}
+use Rattle.iso_fs.proofs.Files.{count_covers, entry_handed, file_parts}
 use Rattle.iso_fs.proofs.Finding.{get_has}
 use Rattle.iso_fs.proofs.Lefts.{HasLeft}
 use Rattle.iso_fs.proofs.WriteWhole.{write_local}
@@ -28,9 +28,6 @@ pub news_below : (a : Area) (news : List ℕ) (i : ℕ) → AreBlocks a news →
 news_below a [] i all below = absurd (omega arith)
 news_below a (k ∷ ks) zero all below = all.0
 news_below a (k ∷ ks) (suc i) all below = news_below a ks i all.1 (omega arith)
-
-pub old_fits : (a : Area) (file : List ℕ) → is_file a file ≡ true → 256 ≤ a.size → 64 + 4 * data_count a.size file ≤ a.size
-old_fits a file good least = count_fits a.size (bytes_of file) least (file_parts a file good).few
 
 -- ONE PIECE
 abbrev step_of : Area → (E : List ℕ) → (old from to : ℕ) → (bytes : List ℕ) → (most : ℕ) → Call Bool
@@ -75,8 +72,8 @@ over : (a : Area) (E : List ℕ) (old most at to : ℕ) (bytes : List ℕ) → t
 over a E old zero at to bytes past = refl
 over a E old (suc most) at to bytes past = let test : nat_lt at to ≡ false = grind (arith, nat_tests) in ap (λ (b : Bool). cond b (step_of a E old at to bytes most) (Done (Ok true))) test
 
-pub all_written : (whole : Call Bool) (a : Area) (E : List ℕ) (old at to left : ℕ) (bytes : List ℕ) (t u : Tx) → to ≤ at → HasLeft whole (λ most. write_pieces a E old most at to bytes) left t u → HasRun whole t u (Ok true)
-all_written whole a E old at to left bytes t u past has =
+pub all_written : {whole : Call Bool} {left : ℕ} {t u : Tx} (a : Area) (E : List ℕ) (old at to : ℕ) (bytes : List ℕ) → to ≤ at → HasLeft whole (λ most. write_pieces a E old most at to bytes) left t u → HasRun whole t u (Ok true)
+all_written {whole = whole} {t = t} {u = u} a E old at to bytes past has =
     ran_at whole t u (Ok true) (at_as whole (write_pieces a E old has.most at to bytes) (Done (Ok true)) t u (over a E old has.most at to bytes past) has.here)
 
 pub left_whole : (a : Area) (E : List ℕ) (old from to : ℕ) (bytes : List ℕ) (t : Tx) → length bytes ≡ to - from → HasLeft (write_pieces a E old (length bytes) from to bytes) (λ most. write_pieces a E old most from to (drop (from - from) bytes)) (to - from) t t
@@ -103,40 +100,24 @@ module _ (a : Area) (off number : ℕ) (bytes file news : List ℕ) where
   abbrev kept : Call Bool
   kept = write_pieces a (entries_of a.size file) (data_count a.size file) (length bytes) off end bytes
 
-  as_grown : bytes_of file < end → write_sized a off bytes number file news ≡ grown
-  as_grown less = (let test : nat_lt (bytes_of file) end ≡ true = grind (arith, nat_tests) in ap (λ (b : Bool). cond b grown kept) test)
+  pub as_grown : (n : ℕ) (laid : List ℕ) → n ≡ data_count a.size file → laid ≡ file_block a.size (off + length bytes) (entries_of a.size file ++ news) → bytes_of file < off + length bytes
+      → write_sized a off bytes number file news ≡ Store (a.start + number) [] laid (write_pieces a (entries_of a.size file ++ news) n (length bytes) off (off + length bytes) bytes)
+  as_grown n laid count laid_is less =
+      let test : nat_lt (bytes_of file) end ≡ true = grind (arith, nat_tests) in
+      ap (λ (b : Bool). cond b grown kept) test ∙ (λ i. Store (a.start + number) [] (sym laid_is i) (write_pieces a E (sym count i) (length bytes) off end bytes))
 
-  pub sized_kept : (t u : Tx) (result : Result Bool FsError) → end ≤ bytes_of file → news ≡ [] → HasRun (write_pieces a E (data_count a.size file) (length bytes) off end bytes) t u result → HasRun (write_sized a off bytes number file news) t u result
-  sized_kept t u result past none run =
+  pub as_kept : (n : ℕ) → n ≡ data_count a.size file → off + length bytes ≤ bytes_of file → news ≡ []
+      → write_sized a off bytes number file news ≡ write_pieces a (entries_of a.size file ++ news) n (length bytes) off (off + length bytes) bytes
+  as_kept n count past none =
       let test : nat_lt (bytes_of file) end ≡ false = grind (arith, nat_tests) in
-      let same : E ≡ entries_of a.size file = ap (λ (n : List ℕ). entries_of a.size file ++ n) none ∙ append-nil (entries_of a.size file) in
-      run_as (write_pieces a E (data_count a.size file) (length bytes) off end bytes) (write_sized a off bytes number file news) t u result
-      (ap (λ (b : Bool). cond b grown kept) test ∙ ap (λ (es : List ℕ). write_pieces a es (data_count a.size file) (length bytes) off end bytes) (sym same)) run
-
-  module _ (t : Tx) (less : bytes_of file < off + length bytes) where
-    at_grown : IsAt (write_sized a off bytes number file news) grown t t
-    at_grown = at_as (write_sized a off bytes number file news) (write_sized a off bytes number file news) grown t t (as_grown less) (at_start (write_sized a off bytes number file news) t)
-
-    pub sized_refused : (v : Tx) (before now : Device) (e : TxError) → v ≡ t → IsCause v 1 before now e → HasRun (write_sized a off bytes number file news) t v (Err (fs.Store (store.Tx e)))
-    sized_refused v before now e same cause =
-        cut_at_store (write_sized a off bytes number file news) (a.start + number) [] (file_block a.size end E) (write_pieces a E (data_count a.size file) (length bytes) off end bytes) t t v before now e at_grown same cause
-
-    pub sized_run : (u v : Tx) (laid : List ℕ) (result : Result Bool FsError) → IsTx u → laid ≡ file_block a.size (off + length bytes) (entries_of a.size file ++ news) → u ≡ with_accesses t (store_access (a.start + number) [] laid ∷ [])
-        → HasRun (write_pieces a (entries_of a.size file ++ news) (data_count a.size file) (length bytes) off (off + length bytes) bytes) u v result → HasRun (write_sized a off bytes number file news) t v result
-    sized_run u v laid result tx laid_is is run =
-        run_from (write_sized a off bytes number file news) (write_pieces a E (data_count a.size file) (length bytes) off end bytes) t u v result
-        (at_store (write_sized a off bytes number file news) (a.start + number) [] (file_block a.size end E) (write_pieces a E (data_count a.size file) (length bytes) off end bytes) t t u at_grown tx.count
-        (is ∙ ap (λ (b : List ℕ). with_accesses t (store_access (a.start + number) [] b ∷ [])) laid_is)) run
+      let same : entries_of a.size file ≡ E = sym (ap (λ (n : List ℕ). entries_of a.size file ++ n) none ∙ append-nil (entries_of a.size file)) in
+      ap (λ (b : Bool). cond b grown kept) test ∙ (λ i. write_pieces a (same i) (sym count i) (length bytes) off end bytes)
 
 -- THE WHOLE CALL
-write_as : (a : FileAreas) (name : List ℕ) (off : ℕ) (bytes : List ℕ) → is_key name ≡ true → is_many (length bytes) ≡ true → write_program a name off bytes ≡ in_tree (get_program a.tree name) (at_file a false (write_to a.files off bytes))
+pub write_as : (a : FileAreas) (name : List ℕ) (off : ℕ) (bytes : List ℕ) → is_key name ≡ true → is_many (length bytes) ≡ true → write_program a name off bytes ≡ in_tree (get_program a.tree name) (at_file a false (write_to a.files off bytes))
 unfolding write_program
 write_as a name off bytes key many =
     (λ i. cond (key i) (cond (many i) (in_tree (get_program a.tree name) (at_file a false (write_to a.files off bytes))) (refuse fs.BadRange)) (refuse fs.BadName))
-
-pub write_run : (a : FileAreas) (name : List ℕ) (off : ℕ) (bytes : List ℕ) (t v : Tx) (result : Result Bool FsError) → is_key name ≡ true → is_many (length bytes) ≡ true
-    → HasRun (in_tree (get_program a.tree name) (at_file a false (write_to a.files off bytes))) t v result → HasRun (write_program a name off bytes) t v result
-write_run a name off bytes t v result key many run = run_as (in_tree (get_program a.tree name) (at_file a false (write_to a.files off bytes))) (write_program a name off bytes) t v result (write_as a name off bytes key many) run
 
 pub write_has : (a : FileAreas) (name : List ℕ) (off : ℕ) (bytes : List ℕ) → is_key name ≡ true → is_many (length bytes) ≡ true → HasAccess (write_program a name off bytes)
 write_has a name off bytes key many =
@@ -152,12 +133,9 @@ write_bad_range a name off bytes t key few = rw (key, few) (ran_at (refuse fs.Ba
 
 pub write_call : (t u : Tx) (at : FsRegion) (name : List ℕ) (off : ℕ) (bytes : List ℕ) (result : Result Bool FsError) → IsTx t → AreFileAreas (areas_of t at) → at.files.start + at.files.size ≤ t.blocks → is_key name ≡ true → is_many (length bytes) ≡ true
     → HasRun (write_program (areas_of t at) name off bytes) t u result → IfOk result (IsLocalCall (AreFileRegions (areas_of t at)) (files (areas_of t at)) (write_op name off bytes) t u)
-write_call t u at name off bytes (Err e) tx areas fits key many run = tt
-write_call t u at name off bytes (Ok x) tx areas fits key many run = λ A told.
+write_call t u at name off bytes result tx areas fits key many run =
     let a = areas_of t at in
-    let whole = whole_run (write_program a name off bytes) t u (Ok x) run A told in
-    subst (λ (accesses : List Access). IsLocal (AreFileRegions a) (files a) (write_op name off bytes) (own A t.accesses) accesses x) whole.accesses_are
-    (write_local a name off bytes (own A t.accesses) x areas (have_blocks t at A tx areas fits told) key many whole.answer_is)
+    call_local (AreFileRegions a) (files a) (write_op name off bytes) (write_program a name off bytes) t u result run (λ A x told is. write_local a name off bytes (own A t.accesses) x areas (have_blocks t at A tx areas fits told) key many is)
 
 -- THE BYTES THAT ARE LEFT
 pub rest_is : (bytes rest : List ℕ) (from at to : ℕ) → from ≤ at → at ≤ to → length bytes ≡ to - from → rest ≡ take (to - at) (drop (at - from) bytes) → rest ≡ drop (at - from) bytes
@@ -171,9 +149,6 @@ rest_more bytes rest from at n low is =
     ap (drop n) is ∙ drop-drop n (at - from) bytes ∙ ap (λ (k : ℕ). drop k bytes) e
 
 -- HOW MANY BLOCKS
-pub place_covered : (size from to count : ℕ) → 0 < size → from < to → to ≤ count * size → from / size < count
-place_covered size from to count some less covered = (div-lt_iff_lt-mul {k = size} {x = from} {y = count} some).1 (omega (arith, less, covered))
-
 pub covered_by : (size end count : ℕ) → 0 < size → count ≡ blocks_for size end → end ≤ count * size
 covered_by size end count some is = subst (λ (n : ℕ). end ≤ n * size) (sym is) (count_covers size end some)
 
@@ -183,27 +158,14 @@ covered_old size end bytes old more some is past =
     let two : old * size ≤ (old + more) * size = mul-le-mul_right size (omega arith) in
     omega (arith, one, two, past)
 
--- a write of at most 4096 bytes from inside of the file needs at most 16 blocks more
-pub few_more : (size end bytes : ℕ) → 256 ≤ size → end ≤ bytes + 4096 → blocks_for size end ≤ blocks_for size bytes + 16
-few_more size end bytes least near =
-    let more : bytes + 4096 ≤ bytes + 16 * size = omega arith in
-    let one = count_mono size end (bytes + 16 * size) (omega arith) (omega (arith, near, more)) in
-    let e : bytes + 16 * size + (size - 1) ≡ bytes + (size - 1) + 16 * size = omega arith in
-    let two : blocks_for size (bytes + 16 * size) ≡ blocks_for size bytes + 16 = ap (λ (n : ℕ). n / size) e ∙ add-mul-div_right (bytes + (size - 1)) 16 (let some : 0 < size = omega arith in some) in
-    omega (arith, one, two)
-
 -- NEW BLOCKS
-module _ (a : Area) (first news : List ℕ) (next : Call Bool) (t : Tx) where
-  abbrev mapped : Call Bool
-  mapped = first_write a first news None next
+-- the blocks that were taken, and what is done with them
+pub record AreNew (a : Area) (need : ℕ) (next : List ℕ → Call Bool) (F news : List ℕ) : Type 0 where
+  pub up : Up 1 news
+  pub blocks : AreBlocks a news
+  pub is : with_taken a need next (bytes_in (map_mark a.blocks) F) ≡ first_write a (bytes_in (map_mark a.blocks) F) news None (next news)
 
-  pub news_run : (u v : Tx) (result : Result Bool FsError) → IsTx u → u ≡ with_accesses t (first_access a first news None ∷ []) → HasRun next u v result → HasRun (first_write a first news None next) t v result
-  news_run u v result tx is run = run_from mapped next t u v result (at_store mapped a.start (changed_mark news ∷ []) (changed_map a first news) next t t u (at_start mapped t) tx.count is) run
-
-  pub news_refused : (v : Tx) (before now : Device) (e : TxError) → v ≡ t → IsCause v 1 before now e → HasRun (first_write a first news None next) t v (Err (fs.Store (store.Tx e)))
-  news_refused v before now e same cause = cut_at_store mapped a.start (changed_mark news ∷ []) (changed_map a first news) next t t v before now e (at_start mapped t) same cause
-
-module _ (a : Area) (area : IsTreeArea a) (F : List ℕ) (need free blocks : ℕ) (blocks_are : blocks ≡ a.blocks) (free_is : free ≡ free_count F 1 (blocks - 1)) (next : List ℕ → Call Bool) where
+module _ (a : Area) (area : IsTreeArea a) (F : List ℕ) (need free : ℕ) (region : Region) (region_is : region ≡ record { start = a.start; size = a.blocks }) (free_is : free ≡ free_count F 1 (region.size - 1)) (next : List ℕ → Call Bool) where
   abbrev first : List ℕ
   first = bytes_in (map_mark a.blocks) F
 
@@ -217,65 +179,36 @@ module _ (a : Area) (area : IsTreeArea a) (F : List ℕ) (need free blocks : ℕ
   stop = refuse (fs.Store (store.NoBlocks need (free_count first 1 (a.blocks - 1))))
 
   free_are : free ≡ free_count first 1 (a.blocks - 1)
-  free_are = free_is ∙ ap (λ (b : ℕ). free_count F 1 (b - 1)) blocks_are ∙ sym (free_same a area F)
+  free_are = free_is ∙ ap (λ (r : Region). free_count F 1 (r.size - 1)) region_is ∙ sym (free_same a area F)
 
-  pub few_run : (t : Tx) → free < need → HasRun (with_taken a need next first) t t (Err (fs.Store (store.NoBlocks need free)))
-  few_run t few =
+  pub few_is : free < need → with_taken a need next (bytes_in (map_mark a.blocks) F) ≡ refuse (fs.Store (store.NoBlocks need free))
+  few_is few =
       let e = free_are in
       let test : nat_lt (free_count first 1 (a.blocks - 1)) need ≡ true = grind (arith, nat_tests) in
-      run_as (refuse (fs.Store (store.NoBlocks need free))) (with_taken a need next first) t t (Err (fs.Store (store.NoBlocks need free)))
-      (ap (λ (b : Bool). cond b stop go) test ∙ (λ i. refuse (fs.Store (store.NoBlocks need (sym e i)))))
-      (ran_at (refuse (fs.Store (store.NoBlocks need free))) t t (Err (fs.Store (store.NoBlocks need free))) (at_start (refuse (fs.Store (store.NoBlocks need free))) t))
+      ap (λ (b : Bool). cond b stop go) test ∙ (λ i. refuse (fs.Store (store.NoBlocks need (sym e i))))
 
-  module _ (enough : need ≤ free) where
-    pub taken_so : AreTaken a first need (take need (free_list a first))
-    taken_so = let l = area.least in let e = free_are in taken_are a first need (omega arith) (omega (arith, enough, e))
-
-    pub taken_is : (news : List ℕ) → news ≡ take need (filter (λ k. not (map_bit F k)) (range_with_len 1 (blocks - 1))) → news ≡ take need (free_list a first)
-    taken_is news is = is ∙ ap (λ (b : ℕ). take need (filter (λ k. not (map_bit F k)) (range_with_len 1 (b - 1)))) blocks_are ∙ sym (taken_same a area F need)
-
-    pub taken_run : (news : List ℕ) (t v : Tx) (result : Result Bool FsError) → news ≡ take need (free_list a first) → HasRun (first_write a first news None (next news)) t v result → HasRun (with_taken a need next first) t v result
-    taken_run news t v result is run =
-        let e = free_are in
-        let test : nat_lt (free_count first 1 (a.blocks - 1)) need ≡ false = grind (arith, nat_tests) in
-        run_as go (with_taken a need next first) t v result (ap (λ (b : Bool). cond b stop go) test) (subst (λ (n : List ℕ). HasRun (first_write a first n None (next n)) t v result) is run)
+  pub new_are : (news : List ℕ) (again : Region) → again ≡ record { start = a.start; size = a.blocks } → need ≤ free → news ≡ take need (filter (λ k. not (map_bit F k)) (range_with_len 1 (again.size - 1))) → AreNew a need next F news
+  new_are news again again_is enough is =
+      let l = area.least in
+      let e = free_are in
+      let mine : news ≡ taken = is ∙ ap (λ (r : Region). take need (filter (λ k. not (map_bit F k)) (range_with_len 1 (r.size - 1)))) again_is ∙ sym (taken_same a area F need) in
+      let all = taken_are a first need (omega arith) (omega (arith, enough, e)) in
+      let test : nat_lt (free_count first 1 (a.blocks - 1)) need ≡ false = grind (arith, nat_tests) in
+      record {
+        up = subst (Up 1) (sym mine) all.up;
+        blocks = subst (AreBlocks a) (sym mine) (blocks_from a taken all.below);
+        is = ap (λ (b : Bool). cond b stop go) test ∙ ap (λ (n : List ℕ). first_write a first n None (next n)) (sym mine);
+      }
 
 -- THE MAP
-new_as : (a : Area) (need : ℕ) (next : List ℕ → Call Bool) → 1 ≤ need → with_new a need next ≡ look_map a (with_taken a need next)
+pub new_as : (a : Area) (need : ℕ) (next : List ℕ → Call Bool) → 1 ≤ need → with_new a need next ≡ look_map a (with_taken a need next)
 new_as a zero next some = absurd (omega arith)
 new_as a (suc more) next some = refl
 
-module _ (a : Area) (need : ℕ) (next : List ℕ → Call Bool) (some : 1 ≤ need) (t u : Tx) where
-  abbrev mapping : Call Bool
-  mapping = look_map a (with_taken a need next)
-
-  pub new_refused : (before now : Device) (e : TxError) → u ≡ t → IsCause u 1 before now e → HasRun (with_new a need next) t u (Err (fs.Store (store.Tx e)))
-  new_refused before now e same cause =
-      run_as mapping (with_new a need next) t u (Err (fs.Store (store.Tx e))) (new_as a need next some)
-      (cut_at_look mapping a.start (map_mark a.blocks) (λ first. None) (λ first none. with_taken a need next first) t t u before now e (at_start mapping t) same cause)
-
-  pub new_run : (bytes : List ℕ) (v : Tx) (result : Result Bool FsError) → AreBytesOf t a.start bytes → IsTx u → u ≡ with_accesses t (look_access a.start (map_mark a.blocks ∷ []) ∷ [])
-      → HasRun (with_taken a need next (bytes_in (map_mark a.blocks) bytes)) u v result → HasRun (with_new a need next) t v result
-  new_run bytes v result told tx is run =
-      run_as mapping (with_new a need next) t v result (new_as a need next some)
-      (run_from mapping (with_taken a need next (bytes_in (map_mark a.blocks) bytes)) t u v result
-      (at_look mapping a.start (map_mark a.blocks) (λ first. None) (λ first none. with_taken a need next first) t t u bytes (at_start mapping t) told tx.count is) run)
-
 -- THE TEST OF THE RANGE
-module _ (a : Area) (off number : ℕ) (bytes file : List ℕ) (t u : Tx) where
-  abbrev passes : Call Bool
-  passes = with_new a (blocks_for a.size (off + length bytes) - data_count a.size file) (write_sized a off bytes number file)
-
-  pub range_bad : (nat_le off (bytes_of file) && nat_le (off + length bytes) (most_bytes a.size)) ≡ false → HasRun (write_to a off bytes number file) t t (Err fs.BadRange)
-  range_bad bad =
-      run_as (refuse fs.BadRange) (write_to a off bytes number file) t t (Err fs.BadRange) (ap (λ (b : Bool). cond b passes (refuse fs.BadRange)) bad) (ran_at (refuse fs.BadRange) t t (Err fs.BadRange) (at_start (refuse fs.BadRange) t))
-
-  pub range_run : (need : ℕ) (result : Result Bool FsError) → off ≤ bytes_of file → nat_le (off + length bytes) (most_bytes a.size) ≡ true → blocks_for a.size (off + length bytes) - data_count a.size file ≡ need
-      → HasRun (with_new a need (write_sized a off bytes number file)) t u result → HasRun (write_to a off bytes number file) t u result
-  range_run need result inside fits is run =
-      let low : nat_le off (bytes_of file) ≡ true = grind (arith, nat_tests) in
-      run_as (with_new a need (write_sized a off bytes number file)) (write_to a off bytes number file) t u result
-      ((λ i. cond (low i && fits i) passes (refuse fs.BadRange)) ∙ ap (λ (n : ℕ). with_new a n (write_sized a off bytes number file)) is) run
+pub range_bad : (a : Area) (off number : ℕ) (bytes file : List ℕ) → (nat_le off (bytes_of file) && nat_le (off + length bytes) (most_bytes a.size)) ≡ false → write_to a off bytes number file ≡ refuse fs.BadRange
+range_bad a off number bytes file bad =
+    ap (λ (b : Bool). cond b (with_new a (blocks_for a.size (off + length bytes) - data_count a.size file) (write_sized a off bytes number file)) (refuse fs.BadRange)) bad
 
 pub many_is : (bytes : List ℕ) → 1 ≤ length bytes → length bytes ≤ 4096 → is_many (length bytes) ≡ true
 many_is bytes some few = grind (arith, nat_tests)

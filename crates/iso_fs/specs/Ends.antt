@@ -1,5 +1,5 @@
 -- How a call of the file store ends, and what it leaves.
-use Rattle.std.specs.Prelude.{◌≡◌, ◌≢◌, ◌↔◌, ℕ, Bool, true, false, IsFalse, IsTrue, Some, Result, Ok, Err, IfErr, OnOk}
+use Rattle.std.specs.Prelude.{◌≡◌, ◌≢◌, ◌↔◌, ℕ, ◌+◌, ◌≤◌, Bool, true, false, IsFalse, IsTrue, Some, Result, Ok, Err, IfErr, OnOk}
 use Rattle.iso_model.specs.Array.{Array}
 use Rattle.iso_model.specs.Effect.{own}
 use Rattle.store_model.specs.declared.stores.StoreError.{StoreError}
@@ -7,6 +7,7 @@ use Rattle.store_model.specs.declared.stores.StoreError.TheVariants as store
 use Rattle.store_model.specs.declared.files.FsError.{FsError}
 use Rattle.store_model.specs.declared.files.FsError.TheVariants as fs
 use Rattle.store_model.specs.declared.files.FsRegion.{FsRegion}
+use Rattle.store_model.specs.declared.stores.Area.{Area}
 use Rattle.store_model.specs.declared.files.FileAreas.{FileAreas}
 use Rattle.store_model.specs.FileCalls.{Call}
 use Rattle.store_model.specs.FileRegion.{AreFileRegions, files}
@@ -92,3 +93,15 @@ pub record FsBehaves {R : Type 0} (tree_call : Bool) (t u : Tx) (writes : ℕ) (
   pub known : IfErr result (λ e. e ≢ fs.BadName)
   pub later : IsLater before now
   pub passed : OnOk result (Passed before now)
+
+-- the transaction has the blocks of the area, of 256 to 4,096 bytes each
+pub record HasArea (t : Tx) (a : Area) : Type 0 where
+  pub least : 256 ≤ a.size
+  pub most : a.size ≤ 4096
+  pub size : t.size ≡ a.size
+  pub fits : a.start + a.blocks ≤ t.blocks
+
+-- a part of a call that follows this program: how it ends, and what it leaves
+pub record IsPart {X : Type 0} (tree_call : Bool) (writes : ℕ) (p : Call X) (t u : Tx) (before now : Device) (result : Result X FsError) : Type 0 where
+  pub run : HasRun p t u result
+  pub behaves : FsBehaves tree_call t u writes before now result

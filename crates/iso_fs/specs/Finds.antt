@@ -1,10 +1,10 @@
 -- The file block of a name: what a look-up is, and what it leaves in the buffer.
-use Rattle.std.specs.Prelude.{ℕ, ◌-◌, ◌<◌, cond, nat_lt, Bool, true, List, Option, Some, None, Result, Ok, Err, IfOk, IfSome, IsTrue, option_map, take}
+use Rattle.std.specs.Prelude.{ℕ, ◌+◌, ◌-◌, ◌<◌, ◌≤◌, cond, nat_lt, Bool, true, List, Option, Some, None, Result, Ok, Err, IfOk, IfSome, IsTrue, option_map, take}
 use Rattle.store_model.specs.declared.stores.Area.{Area}
 use Rattle.store_model.specs.declared.stores.StoreError.TheVariants.{NoBlocks}
 use Rattle.store_model.specs.declared.files.FsError.{FsError}
 use Rattle.store_model.specs.declared.files.FsError.TheVariants as fs
-use Rattle.store_model.specs.FreeMap.{free_count}
+use Rattle.store_model.specs.FreeMap.{free_count, map_bytes}
 use Rattle.store_model.specs.declared.files.FileAreas.{FileAreas}
 use Rattle.store_model.specs.Stores.{Done}
 use Rattle.store_model.specs.TreeCalls.{del_program, first_write, free_list, get_program}
@@ -55,3 +55,9 @@ abbrev pub with_taken : {Y : Type 0} → Area → (need : ℕ) → (List ℕ →
 with_taken a need next first =
     cond (nat_lt (free_count first 1 (a.blocks - 1)) need) (refuse (fs.Store (NoBlocks need (free_count first 1 (a.blocks - 1)))))
     (first_write a first (take need (free_list a first)) None (next (take need (free_list a first))))
+
+-- the places of the blocks of a file, in order and inside of the block
+pub record ArePlaces (a : Area) (low high : ℕ) : Type 0 where
+  pub rising : low ≤ high
+  pub inside : high < 64 + map_bytes a.blocks
+  pub fits : 64 + map_bytes a.blocks ≤ a.size

@@ -1,13 +1,14 @@
 // Where a call works, the tests of its arguments, and bytes laid into a block.
-ghost use Rattle.std.specs.Prelude.{◌≡◌, ◌+◌, ◌≤◌, length, replicate, []};
+ghost use Rattle.std.specs.Prelude.{◌≡◌, ◌+◌, ◌≤◌, IfErr, IfOk, length, replicate, []};
 ghost use Rattle.std.specs.Int.{w32, to_be_bytes};
 ghost use Rattle.store_model.specs.Cells.{block_with};
 ghost use Rattle.store_model.specs.FileCalls.{is_many};
 ghost use Rattle.store_model.specs.FileNodes.{file_block};
 ghost use Rattle.iso_fs.specs.Ends.{areas_of};
 
-use iso_alloc::lay;
-use store_model::{Area, FileAreas, FsRegion};
+use iso_alloc::{buffer, lay};
+use std::alloc::Global;
+use store_model::{Area, FileAreas, FsRegion, StoreError};
 use tx_blocks::TxBlocks;
 
 /// The areas of the regions in the transaction's blocks.
@@ -27,6 +28,21 @@ pub fn areas_of<T: TxBlocks>(tx: &T, at: FsRegion) -> FileAreas
             blocks: at.files.size,
         },
     }
+}
+
+/// Two buffers of so many bytes, and a third one.
+pub fn buffers(
+    alloc: Global,
+    size: usize,
+    last: usize,
+) -> Result<(Vec<u8>, Vec<u8>, Vec<u8>), StoreError>
+    ensures sizes { IfOk result (λ all. (length all.0.items ≡ size) × (length all.1.items ≡ size) × (length all.2.items ≡ last)) }
+    ensures memory { IfErr result (λ e. e ≡ StoreError.Memory) }
+{
+    let first = buffer(alloc, size)?;
+    let second = buffer(alloc, size)?;
+    let third = buffer(alloc, last)?;
+    Ok((first, second, third))
 }
 
 /// Whether a call may read or write so many bytes.

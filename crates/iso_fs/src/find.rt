@@ -4,7 +4,7 @@ ghost use Rattle.store_model.specs.HashCalls.{is_key};
 ghost use Rattle.store_model.specs.FileCalls.{at_file, numbered, with_file};
 ghost use Rattle.store_model.specs.FileRegion.{AreFileAreas};
 ghost use Rattle.tx_blocks.specs.Runs.{HasRead};
-ghost use Rattle.iso_fs.specs.Ends.{FsBehaves, HasRun};
+ghost use Rattle.iso_fs.specs.Ends.{HasArea, IsPart};
 ghost use Rattle.iso_fs.specs.Finds.{find_program, found_as, found_file, IsFound};
 
 use crate::file::{is_file, number_of};
@@ -21,16 +21,12 @@ fn look_file<T: TxBlocks>(
     number: u32,
     file: &mut [u8],
 ) -> Result<Option<u32>, FsError>
-    requires least { 256 ≤ area.size }
-    requires most { area.size ≤ 4096 }
-    requires size { (T.state tx.old).size ≡ area.size }
-    requires fits { area.start + area.blocks ≤ (T.state tx.old).blocks }
+    requires holds { HasArea (T.state tx.old) area }
     requires number { number < area.blocks }
     requires file { length file.old ≡ area.size }
-    ensures run { HasRun (numbered area found_file number) (T.state tx.old) (T.state tx.new) (found_as file.new result) }
+    ensures part { IsPart false 1 (numbered area found_file number) (T.state tx.old) (T.state tx.new) (T.device tx.old) (T.device tx.new) (found_as file.new result) }
     ensures found { IsFound area file.new result }
     ensures reads { HasRead (T.state tx.old) (T.state tx.new) }
-    ensures behaves { FsBehaves false (T.state tx.old) (T.state tx.new) 1 (T.device tx.old) (T.device tx.new) result }
 {
     if let Err(e) = look_whole(tx, area.start + number, file) {
         return Err(FsError::Store(StoreError::Tx(e)));
@@ -50,15 +46,11 @@ fn look_value<T: TxBlocks>(
     value: &[u8],
     file: &mut [u8],
 ) -> Result<Option<u32>, FsError>
-    requires least { 256 ≤ a.files.size }
-    requires most { a.files.size ≤ 4096 }
-    requires size { (T.state tx.old).size ≡ a.files.size }
-    requires fits { a.files.start + a.files.blocks ≤ (T.state tx.old).blocks }
+    requires holds { HasArea (T.state tx.old) a.files }
     requires file { length file.old ≡ a.files.size }
-    ensures run { HasRun (with_file a found_file value.now) (T.state tx.old) (T.state tx.new) (found_as file.new result) }
+    ensures part { IsPart false 1 (with_file a found_file value.now) (T.state tx.old) (T.state tx.new) (T.device tx.old) (T.device tx.new) (found_as file.new result) }
     ensures found { IsFound a.files file.new result }
     ensures reads { HasRead (T.state tx.old) (T.state tx.new) }
-    ensures behaves { FsBehaves false (T.state tx.old) (T.state tx.new) 1 (T.device tx.old) (T.device tx.new) result }
 {
     match number_of(a.files, value) {
         Some(number) => look_file(tx, a.files, number, file),
@@ -75,15 +67,11 @@ fn look_found<T: TxBlocks>(
     found: Option<Bytes>,
     file: &mut [u8],
 ) -> Result<Option<u32>, FsError>
-    requires least { 256 ≤ a.files.size }
-    requires most { a.files.size ≤ 4096 }
-    requires size { (T.state tx.old).size ≡ a.files.size }
-    requires fits { a.files.start + a.files.blocks ≤ (T.state tx.old).blocks }
+    requires holds { HasArea (T.state tx.old) a.files }
     requires file { length file.old ≡ a.files.size }
-    ensures run { HasRun (at_file a None found_file found) (T.state tx.old) (T.state tx.new) (found_as file.new result) }
+    ensures part { IsPart false 1 (at_file a None found_file found) (T.state tx.old) (T.state tx.new) (T.device tx.old) (T.device tx.new) (found_as file.new result) }
     ensures found { IsFound a.files file.new result }
     ensures reads { HasRead (T.state tx.old) (T.state tx.new) }
-    ensures behaves { FsBehaves false (T.state tx.old) (T.state tx.new) 1 (T.device tx.old) (T.device tx.new) result }
 {
     match found {
         Some(value) => look_value(tx, a, value.as_slice(), file),
@@ -100,16 +88,12 @@ pub fn find<T: TxBlocks>(
     file: &mut [u8],
 ) -> Result<Option<u32>, FsError>
     requires areas { AreFileAreas a }
-    requires least { 256 ≤ a.files.size }
-    requires most { a.files.size ≤ 4096 }
-    requires size { (T.state tx.old).size ≡ a.files.size }
-    requires fits { a.files.start + a.files.blocks ≤ (T.state tx.old).blocks }
+    requires holds { HasArea (T.state tx.old) a.files }
     requires name { is_key name.now ≡ true }
     requires file { length file.old ≡ a.files.size }
-    ensures run { HasRun (find_program a name.now) (T.state tx.old) (T.state tx.new) (found_as file.new result) }
+    ensures part { IsPart false 1 (find_program a name.now) (T.state tx.old) (T.state tx.new) (T.device tx.old) (T.device tx.new) (found_as file.new result) }
     ensures found { IsFound a.files file.new result }
     ensures reads { HasRead (T.state tx.old) (T.state tx.new) }
-    ensures behaves { FsBehaves false (T.state tx.old) (T.state tx.new) 1 (T.device tx.old) (T.device tx.new) result }
 {
     match value_of(alloc, tx, a.tree, name) {
         Ok(found) => look_found(tx, a, found, file),

@@ -9,6 +9,8 @@ ghost use Rattle.store_model.specs.FileCalls.{bits_mark, high_place, low_place, 
 ghost use Rattle.store_model.specs.FileNodes.{data_count, entries_of, entry_at, is_file};
 ghost use Rattle.tx_blocks.specs.Tx.{with_accesses};
 ghost use Rattle.tx_blocks.specs.Runs.{IsCause};
+ghost use Rattle.iso_fs.specs.Ends.{HasArea};
+ghost use Rattle.iso_fs.specs.Finds.{ArePlaces};
 
 use crate::buffers::lay_alone;
 use crate::file::{data_count, entry_at};
@@ -35,6 +37,19 @@ fn places(file: &[u8], block: u32, i: usize, count: usize) -> (usize, usize)
     )
 }
 
+// The same for all blocks of a file.
+fn ends(area: Area, number: u32, file: &[u8], count: usize) -> (usize, usize)
+    requires area { IsTreeArea area }
+    requires number { number < area.blocks }
+    requires file { is_file area file.now ≡ true }
+    requires long { length file.now ≡ area.size }
+    requires count { count ≡ data_count area.size file.now }
+    ensures places { result ≡ (low_place number (entries_of area.size file.now), high_place number (entries_of area.size file.now)) }
+    ensures within { ArePlaces area result.0 result.1 }
+{
+    places(file, number, 0, count)
+}
+
 // Gives the data blocks of a file back.
 fn give_data(area: Area, file: &[u8], count: usize, map: &mut [u8])
     requires area { IsTreeArea area }
@@ -59,9 +74,7 @@ pub fn store_left<T: TxBlocks>(
     into: &mut [u8],
 ) -> Result<(), TxError>
     requires area { IsTreeArea area }
-    requires most_size { area.size ≤ 4096 }
-    requires size { (T.state tx.old).size ≡ area.size }
-    requires fits { area.start + area.blocks ≤ (T.state tx.old).blocks }
+    requires holds { HasArea (T.state tx.old) area }
     requires number { number < area.blocks }
     requires file { is_file area file.now ≡ true }
     requires long { length file.now ≡ area.size }
@@ -73,7 +86,7 @@ pub fn store_left<T: TxBlocks>(
     ensures device { T.device tx.new ≡ T.device tx.old }
 {
     let count = data_count(area, file);
-    let (low, high) = places(file, number, 0, count);
+    let (low, high) = ends(area, number, file, count);
     give_back(map, region_of(area), number);
     give_data(area, file, count, map);
     let len = high + 1 - low;

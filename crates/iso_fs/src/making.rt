@@ -7,7 +7,7 @@ ghost use Rattle.store_model.specs.HashCalls.{is_key};
 ghost use Rattle.store_model.specs.Stores.{store_access};
 ghost use Rattle.tx_blocks.specs.Tx.{with_accesses, IsLater};
 ghost use Rattle.tx_blocks.specs.Runs.{IsCause, IsLocalCall};
-ghost use Rattle.iso_fs.specs.Ends.{areas_of, ExistsWhere, FsBehaves, HasRun, IsFsCause, IsOfTx, IsUnwritten};
+ghost use Rattle.iso_fs.specs.Ends.{areas_of, ExistsWhere, HasArea, HasRun, IsFsCause, IsOfTx, IsPart, IsUnwritten};
 ghost use Rattle.store_model.specs.FileCalls.{create_new, create_op, create_program, empty_writes, name_file};
 ghost use Rattle.store_model.specs.FileNodes.{file_block};
 ghost use Rattle.store_model.specs.FileRegion.{files, AreFileAreas, AreFileRegions};
@@ -30,9 +30,7 @@ fn store_bit<T: TxBlocks>(
     buffer: &mut [u8],
 ) -> Result<(), TxError>
     requires areas { AreFileAreas a }
-    requires most_size { a.files.size ≤ 4096 }
-    requires size { (T.state tx.old).size ≡ a.files.size }
-    requires fits { a.files.start + a.files.blocks ≤ (T.state tx.old).blocks }
+    requires holds { HasArea (T.state tx.old) a.files }
     requires buffer { length buffer.old ≡ a.files.size }
     requires block { block < a.files.blocks }
     ensures stored { OnOk result (T.state tx.new ≡ with_accesses (T.state tx.old) (store_access a.files.start (bit_mark block ∷ []) (block_with a.files.size (bit_place block) (byte ∷ [])) ∷ [])) }
@@ -57,9 +55,7 @@ fn store_empty<T: TxBlocks>(
     block: u32,
     buffer: &mut [u8],
 ) -> Result<(), TxError>
-    requires least_size { 256 ≤ a.files.size }
-    requires size { (T.state tx.old).size ≡ a.files.size }
-    requires fits { a.files.start + a.files.blocks ≤ (T.state tx.old).blocks }
+    requires holds { HasArea (T.state tx.old) a.files }
     requires buffer { length buffer.old ≡ a.files.size }
     requires block { block < a.files.blocks }
     ensures stored { OnOk result (T.state tx.new ≡ with_accesses (T.state tx.old) (store_access (a.files.start + block) [] (file_block a.files.size 0 []) ∷ [])) }
@@ -80,14 +76,10 @@ fn store_file<T: TxBlocks>(
     buffer: &mut [u8],
 ) -> Result<(), FsError>
     requires areas { AreFileAreas a }
-    requires least_size { 256 ≤ a.files.size }
-    requires most_size { a.files.size ≤ 4096 }
-    requires size { (T.state tx.old).size ≡ a.files.size }
-    requires fits { a.files.start + a.files.blocks ≤ (T.state tx.old).blocks }
+    requires holds { HasArea (T.state tx.old) a.files }
     requires block { block < a.files.blocks }
     requires buffer { length buffer.old ≡ a.files.size }
-    ensures run { HasRun (empty_writes a block byte) (T.state tx.old) (T.state tx.new) result }
-    ensures behaves { FsBehaves false (T.state tx.old) (T.state tx.new) 66 (T.device tx.old) (T.device tx.new) result }
+    ensures part { IsPart false 66 (empty_writes a block byte) (T.state tx.old) (T.state tx.new) (T.device tx.old) (T.device tx.new) result }
     ensures of_tx { IfErr result IsOfTx }
 {
     if let Err(e) = store_bit(tx, a, block, byte, buffer) {
@@ -110,15 +102,11 @@ fn name_file<T: TxBlocks>(
     buffer: &mut [u8],
 ) -> Result<(), FsError>
     requires areas { AreFileAreas a }
-    requires least_size { 256 ≤ a.files.size }
-    requires most_size { a.files.size ≤ 4096 }
-    requires size { (T.state tx.old).size ≡ a.files.size }
-    requires fits { a.files.start + a.files.blocks ≤ (T.state tx.old).blocks }
+    requires holds { HasArea (T.state tx.old) a.files }
     requires block { block < a.files.blocks }
     requires name { is_key name.now ≡ true }
     requires buffer { length buffer.old ≡ a.files.size }
-    ensures run { HasRun (name_file a name.now block byte) (T.state tx.old) (T.state tx.new) result }
-    ensures behaves { FsBehaves false (T.state tx.old) (T.state tx.new) 66 (T.device tx.old) (T.device tx.new) result }
+    ensures { IsPart false 66 (name_file a name.now block byte) (T.state tx.old) (T.state tx.new) (T.device tx.old) (T.device tx.new) result }
 {
     match put_value(alloc, tx, a.tree, name, &spelled(block)) {
         Ok(()) => store_file(tx, a, block, byte, buffer),
@@ -135,14 +123,10 @@ fn create_new<T: TxBlocks>(
     buffer: &mut [u8],
 ) -> Result<(), FsError>
     requires areas { AreFileAreas a }
-    requires least_size { 256 ≤ a.files.size }
-    requires most_size { a.files.size ≤ 4096 }
-    requires size { (T.state tx.old).size ≡ a.files.size }
-    requires fits { a.files.start + a.files.blocks ≤ (T.state tx.old).blocks }
+    requires holds { HasArea (T.state tx.old) a.files }
     requires name { is_key name.now ≡ true }
     requires buffer { length buffer.old ≡ a.files.size }
-    ensures run { HasRun (create_new a name.now None) (T.state tx.old) (T.state tx.new) result }
-    ensures behaves { FsBehaves false (T.state tx.old) (T.state tx.new) 66 (T.device tx.old) (T.device tx.new) result }
+    ensures { IsPart false 66 (create_new a name.now None) (T.state tx.old) (T.state tx.new) (T.device tx.old) (T.device tx.new) result }
 {
     if let Err(e) = look(tx, a.files.start, map_mark(a.files), buffer) {
         return Err(FsError::Store(StoreError::Tx(e)));
@@ -166,14 +150,10 @@ fn create_found<T: TxBlocks>(
     buffer: &mut [u8],
 ) -> Result<(), FsError>
     requires areas { AreFileAreas a }
-    requires least_size { 256 ≤ a.files.size }
-    requires most_size { a.files.size ≤ 4096 }
-    requires size { (T.state tx.old).size ≡ a.files.size }
-    requires fits { a.files.start + a.files.blocks ≤ (T.state tx.old).blocks }
+    requires holds { HasArea (T.state tx.old) a.files }
     requires name { is_key name.now ≡ true }
     requires buffer { length buffer.old ≡ a.files.size }
-    ensures run { HasRun (create_new a name.now found) (T.state tx.old) (T.state tx.new) result }
-    ensures behaves { FsBehaves false (T.state tx.old) (T.state tx.new) 66 (T.device tx.old) (T.device tx.new) result }
+    ensures { IsPart false 66 (create_new a name.now found) (T.state tx.old) (T.state tx.new) (T.device tx.old) (T.device tx.new) result }
 {
     match found {
         Some(_) => Err(FsError::Exists),
@@ -190,14 +170,10 @@ fn create_with<T: TxBlocks>(
     buffer: &mut [u8],
 ) -> Result<(), FsError>
     requires areas { AreFileAreas a }
-    requires least_size { 256 ≤ a.files.size }
-    requires most_size { a.files.size ≤ 4096 }
-    requires size { (T.state tx.old).size ≡ a.files.size }
-    requires fits { a.files.start + a.files.blocks ≤ (T.state tx.old).blocks }
+    requires holds { HasArea (T.state tx.old) a.files }
     requires name { is_key name.now ≡ true }
     requires buffer { length buffer.old ≡ a.files.size }
-    ensures run { HasRun (create_program a name.now) (T.state tx.old) (T.state tx.new) result }
-    ensures behaves { FsBehaves false (T.state tx.old) (T.state tx.new) 66 (T.device tx.old) (T.device tx.new) result }
+    ensures { IsPart false 66 (create_program a name.now) (T.state tx.old) (T.state tx.new) (T.device tx.old) (T.device tx.new) result }
 {
     match value_of(alloc, tx, a.tree, name) {
         Ok(found) => create_found(alloc, tx, a, name, found, buffer),

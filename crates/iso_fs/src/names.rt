@@ -6,6 +6,7 @@ ghost use Rattle.store_model.specs.TreeRegion.{IsTreeArea};
 ghost use Rattle.tx_blocks.specs.Tx.{IsLater};
 ghost use Rattle.tx_blocks.specs.Runs.{HasEnded, HasRead, IsStoreCause, IsUnwritten};
 ghost use Rattle.iso_tree.specs.Walks.{TakesNoBlocks};
+ghost use Rattle.iso_fs.specs.Ends.{HasArea};
 
 use iso_model::Bytes;
 use iso_tree::{del, get, put};
@@ -31,8 +32,7 @@ pub fn value_of<T: TxBlocks>(
     name: &[u8],
 ) -> Result<Option<Bytes>, StoreError>
     requires area { IsTreeArea tree }
-    requires size { (T.state tx.old).size ≡ tree.size }
-    requires fits { tree.start + tree.blocks ≤ (T.state tx.old).blocks }
+    requires holds { HasArea (T.state tx.old) tree }
     ensures ended { HasEnded (get_program tree name.now) (T.state tx.old) (T.state tx.new) result }
     ensures reads { HasRead (T.state tx.old) (T.state tx.new) }
     ensures cause { IfErr result (IsStoreCause (T.state tx.new) 1 (T.device tx.old) (T.device tx.new)) }
@@ -59,8 +59,7 @@ pub fn put_value<T: TxBlocks>(
     value: &[u8],
 ) -> Result<(), StoreError>
     requires area { IsTreeArea tree }
-    requires size { (T.state tx.old).size ≡ tree.size }
-    requires fits { tree.start + tree.blocks ≤ (T.state tx.old).blocks }
+    requires holds { HasArea (T.state tx.old) tree }
     ensures ended { HasEnded (put_program tree name.now value.now) (T.state tx.old) (T.state tx.new) result }
     ensures value { IsTrue (is_key name.now) → IfErr result (λ e. e ≢ StoreError.BadValue → IsTrue (is_value value.now)) }
     ensures cause { IfErr result (IsStoreCause (T.state tx.new) 66 (T.device tx.old) (T.device tx.new)) }
@@ -88,8 +87,7 @@ pub fn remove_name<T: TxBlocks>(
     name: &[u8],
 ) -> Result<bool, StoreError>
     requires area { IsTreeArea tree }
-    requires size { (T.state tx.old).size ≡ tree.size }
-    requires fits { tree.start + tree.blocks ≤ (T.state tx.old).blocks }
+    requires holds { HasArea (T.state tx.old) tree }
     ensures ended { HasEnded (del_program tree name.now) (T.state tx.old) (T.state tx.new) result }
     ensures known { IsTrue (is_key name.now) → IfErr result (λ e. (e ≢ StoreError.BadKey) × TakesNoBlocks e) }
     ensures cause { IfErr result (IsStoreCause (T.state tx.new) 1 (T.device tx.old) (T.device tx.new)) }

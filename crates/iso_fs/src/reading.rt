@@ -4,16 +4,16 @@ ghost use Rattle.store_model.specs.HashCalls.{is_key};
 ghost use Rattle.tx_blocks.specs.Tx.{IsLater};
 ghost use Rattle.tx_blocks.specs.Runs.{HasRead, IsLocalCall};
 ghost use Rattle.tx_blocks.proofs.Progress.{IsAt};
-ghost use Rattle.iso_fs.specs.Ends.{areas_of, FsBehaves, HasRun, IsFsCause};
+ghost use Rattle.iso_fs.specs.Ends.{areas_of, FsBehaves, HasArea, HasRun, IsFsCause, IsPart};
 ghost use Rattle.iso_fs.specs.Finds.{found_as, got_as, on_found};
 ghost use Rattle.store_model.specs.FileCalls.{is_many, read_from, read_op, read_pieces, read_program};
 ghost use Rattle.store_model.specs.FileNodes.{bytes_of, entry_at, is_file, piece_mark};
 ghost use Rattle.store_model.specs.FileRegion.{files, AreFileAreas, AreFileRegions};
 
-use crate::buffers::{areas_of, is_many};
+use crate::buffers::{areas_of, buffers, is_many};
 use crate::file::{bytes_of, entry_at};
 use crate::find::find;
-use iso_alloc::{buffer, is_key, lay, piece};
+use iso_alloc::{is_key, lay, piece};
 use iso_model::{Bytes, Items, Span};
 use std::alloc::Global;
 use store_model::{Area, FileAreas, FsError, FsRegion, StoreError};
@@ -65,10 +65,7 @@ fn read_piece<T: TxBlocks>(
     room: &mut [u8],
     at: usize,
 ) -> Result<u32, FsError>
-    requires least { 256 ≤ area.size }
-    requires most { area.size ≤ 4096 }
-    requires size { (T.state tx.old).size ≡ area.size }
-    requires fits { area.start + area.blocks ≤ (T.state tx.old).blocks }
+    requires holds { HasArea (T.state tx.old) area }
     requires file { is_file area file.now ≡ true }
     requires long { length file.now ≡ area.size }
     requires less { from < to }
@@ -101,10 +98,7 @@ fn read_pieces<T: TxBlocks>(
     block: &mut [u8],
     room: &mut [u8],
 ) -> Result<Option<u32>, FsError>
-    requires least { 256 ≤ area.size }
-    requires most_size { area.size ≤ 4096 }
-    requires size { (T.state tx.old).size ≡ area.size }
-    requires fits { area.start + area.blocks ≤ (T.state tx.old).blocks }
+    requires holds { HasArea (T.state tx.old) area }
     requires file { is_file area file.now ≡ true }
     requires long { length file.now ≡ area.size }
     requires most { to - from ≤ most }
@@ -112,9 +106,8 @@ fn read_pieces<T: TxBlocks>(
     requires inside { to ≤ bytes_of file.now }
     requires block { length block.old ≡ area.size }
     requires room { most ≤ length room.old }
-    ensures run { HasRun (read_pieces area file.now most from to []) (T.state tx.old) (T.state tx.new) (got_as room.new result) }
+    ensures part { IsPart false 1 (read_pieces area file.now most from to []) (T.state tx.old) (T.state tx.new) (T.device tx.old) (T.device tx.new) (got_as room.new result) }
     ensures reads { HasRead (T.state tx.old) (T.state tx.new) }
-    ensures behaves { FsBehaves false (T.state tx.old) (T.state tx.new) 1 (T.device tx.old) (T.device tx.new) result }
 {
     let mut at = from;
     while at < to {
@@ -150,17 +143,13 @@ fn read_from<T: TxBlocks>(
     block: &mut [u8],
     room: &mut [u8],
 ) -> Result<Option<u32>, FsError>
-    requires least { 256 ≤ area.size }
-    requires most_size { area.size ≤ 4096 }
-    requires size { (T.state tx.old).size ≡ area.size }
-    requires fits { area.start + area.blocks ≤ (T.state tx.old).blocks }
+    requires holds { HasArea (T.state tx.old) area }
     requires file { is_file area file.now ≡ true }
     requires long { length file.now ≡ area.size }
     requires block { length block.old ≡ area.size }
     requires room { len ≤ length room.old }
-    ensures run { (number : ℕ) → HasRun (read_from area off len number file.now) (T.state tx.old) (T.state tx.new) (got_as room.new result) }
+    ensures part { (number : ℕ) → IsPart false 1 (read_from area off len number file.now) (T.state tx.old) (T.state tx.new) (T.device tx.old) (T.device tx.new) (got_as room.new result) }
     ensures reads { HasRead (T.state tx.old) (T.state tx.new) }
-    ensures behaves { FsBehaves false (T.state tx.old) (T.state tx.new) 1 (T.device tx.old) (T.device tx.new) result }
 {
     let bytes = bytes_of(file);
     if bytes < off {
@@ -181,17 +170,13 @@ fn read_found<T: TxBlocks>(
     block: &mut [u8],
     room: &mut [u8],
 ) -> Result<Option<u32>, FsError>
-    requires least { 256 ≤ area.size }
-    requires most_size { area.size ≤ 4096 }
-    requires size { (T.state tx.old).size ≡ area.size }
-    requires fits { area.start + area.blocks ≤ (T.state tx.old).blocks }
+    requires holds { HasArea (T.state tx.old) area }
     requires found { IfSome found (λ number. (number < area.blocks) × IsTrue (is_file area file.now)) }
     requires long { length file.now ≡ area.size }
     requires block { length block.old ≡ area.size }
     requires room { len ≤ length room.old }
-    ensures run { HasRun (on_found None (read_from area off len) (found_as file.now (Ok found))) (T.state tx.old) (T.state tx.new) (got_as room.new result) }
+    ensures part { IsPart false 1 (on_found None (read_from area off len) (found_as file.now (Ok found))) (T.state tx.old) (T.state tx.new) (T.device tx.old) (T.device tx.new) (got_as room.new result) }
     ensures reads { HasRead (T.state tx.old) (T.state tx.new) }
-    ensures behaves { FsBehaves false (T.state tx.old) (T.state tx.new) 1 (T.device tx.old) (T.device tx.new) result }
 {
     match found {
         Some(_) => read_from(tx, area, off, len, file, block, room),
@@ -212,18 +197,14 @@ fn read_with<T: TxBlocks>(
     room: &mut [u8],
 ) -> Result<Option<u32>, FsError>
     requires areas { AreFileAreas a }
-    requires least { 256 ≤ a.files.size }
-    requires most_size { a.files.size ≤ 4096 }
-    requires size { (T.state tx.old).size ≡ a.files.size }
-    requires fits { a.files.start + a.files.blocks ≤ (T.state tx.old).blocks }
+    requires holds { HasArea (T.state tx.old) a.files }
     requires name { is_key name.now ≡ true }
     requires len { is_many len ≡ true }
     requires file { length file.old ≡ a.files.size }
     requires block { length block.old ≡ a.files.size }
     requires room { len ≤ length room.old }
-    ensures run { HasRun (read_program a name.now off len) (T.state tx.old) (T.state tx.new) (got_as room.new result) }
+    ensures part { IsPart false 1 (read_program a name.now off len) (T.state tx.old) (T.state tx.new) (T.device tx.old) (T.device tx.new) (got_as room.new result) }
     ensures reads { HasRead (T.state tx.old) (T.state tx.new) }
-    ensures behaves { FsBehaves false (T.state tx.old) (T.state tx.new) 1 (T.device tx.old) (T.device tx.new) result }
 {
     match find(alloc, tx, a, name, file) {
         Ok(found) => read_found(tx, a.files, found, off, len, file, block, room),
@@ -271,16 +252,8 @@ pub fn read<T: TxBlocks>(
     }
     let a = areas_of(tx, at);
     let size = a.files.size as usize;
-    let mut file = match buffer(alloc, size) {
-        Ok(file) => file,
-        Err(e) => return Err(FsError::Store(e)),
-    };
-    let mut block = match buffer(alloc, size) {
-        Ok(block) => block,
-        Err(e) => return Err(FsError::Store(e)),
-    };
-    let mut room = match buffer(alloc, len as usize) {
-        Ok(room) => room,
+    let (mut file, mut block, mut room) = match buffers(alloc, size, len as usize) {
+        Ok(all) => all,
         Err(e) => return Err(FsError::Store(e)),
     };
     match read_with(

@@ -5,17 +5,17 @@ ghost use Rattle.store_model.specs.FreeMap.{map_mark};
 ghost use Rattle.store_model.specs.Stores.{bytes_in};
 ghost use Rattle.tx_blocks.specs.Tx.{IsLater};
 ghost use Rattle.tx_blocks.specs.Runs.{IsLocalCall};
-ghost use Rattle.iso_fs.specs.Ends.{areas_of, FsBehaves, HasRun, IsFsCause, IsOfTx, IsUnwritten};
+ghost use Rattle.iso_fs.specs.Ends.{areas_of, HasArea, HasRun, IsFsCause, IsOfTx, IsPart, IsUnwritten};
 ghost use Rattle.iso_fs.specs.Finds.{found_as, on_found, with_dropped};
 ghost use Rattle.store_model.specs.FileCalls.{remove_file, remove_op, remove_program, remove_writes};
 ghost use Rattle.store_model.specs.FileNodes.{is_file};
 ghost use Rattle.store_model.specs.FileRegion.{files, AreFileAreas, AreFileRegions};
 
-use crate::buffers::areas_of;
+use crate::buffers::{areas_of, buffers};
 use crate::find::find;
 use crate::left::store_left;
 use crate::names::remove_name;
-use iso_alloc::{buffer, is_key};
+use iso_alloc::is_key;
 use iso_tree::map_mark;
 use std::alloc::Global;
 use store_model::{FileAreas, FsError, FsRegion, StoreError};
@@ -31,16 +31,13 @@ fn give_file<T: TxBlocks>(
     into: &mut [u8],
 ) -> Result<bool, FsError>
     requires areas { AreFileAreas a }
-    requires most_size { a.files.size ≤ 4096 }
-    requires size { (T.state tx.old).size ≡ a.files.size }
-    requires fits { a.files.start + a.files.blocks ≤ (T.state tx.old).blocks }
+    requires holds { HasArea (T.state tx.old) a.files }
     requires number { number < a.files.blocks }
     requires file { is_file a.files file.now ≡ true }
     requires long { length file.now ≡ a.files.size }
     requires map { length map.old ≡ a.files.size }
     requires into { length into.old ≡ a.files.size }
-    ensures run { HasRun (remove_writes a.files number file.now (bytes_in (map_mark a.files.blocks) map.old) true) (T.state tx.old) (T.state tx.new) result }
-    ensures behaves { FsBehaves false (T.state tx.old) (T.state tx.new) 1 (T.device tx.old) (T.device tx.new) result }
+    ensures part { IsPart false 1 (remove_writes a.files number file.now (bytes_in (map_mark a.files.blocks) map.old) true) (T.state tx.old) (T.state tx.new) (T.device tx.old) (T.device tx.new) result }
     ensures of_tx { IfErr result IsOfTx }
 {
     match store_left(tx, a.files, number, file, map, into) {
@@ -61,17 +58,14 @@ fn drop_file<T: TxBlocks>(
     into: &mut [u8],
 ) -> Result<bool, FsError>
     requires areas { AreFileAreas a }
-    requires most_size { a.files.size ≤ 4096 }
-    requires size { (T.state tx.old).size ≡ a.files.size }
-    requires fits { a.files.start + a.files.blocks ≤ (T.state tx.old).blocks }
+    requires holds { HasArea (T.state tx.old) a.files }
     requires name { is_key name.now ≡ true }
     requires number { number < a.files.blocks }
     requires file { is_file a.files file.now ≡ true }
     requires long { length file.now ≡ a.files.size }
     requires map { length map.old ≡ a.files.size }
     requires into { length into.old ≡ a.files.size }
-    ensures run { HasRun (with_dropped a name.now number file.now (bytes_in (map_mark a.files.blocks) map.old)) (T.state tx.old) (T.state tx.new) result }
-    ensures behaves { FsBehaves false (T.state tx.old) (T.state tx.new) 1 (T.device tx.old) (T.device tx.new) result }
+    ensures { IsPart false 1 (with_dropped a name.now number file.now (bytes_in (map_mark a.files.blocks) map.old)) (T.state tx.old) (T.state tx.new) (T.device tx.old) (T.device tx.new) result }
 {
     match remove_name(alloc, tx, a.tree, name) {
         Ok(_) => give_file(tx, a, number, file, map, into),
@@ -91,17 +85,14 @@ fn remove_file<T: TxBlocks>(
     into: &mut [u8],
 ) -> Result<bool, FsError>
     requires areas { AreFileAreas a }
-    requires most_size { a.files.size ≤ 4096 }
-    requires size { (T.state tx.old).size ≡ a.files.size }
-    requires fits { a.files.start + a.files.blocks ≤ (T.state tx.old).blocks }
+    requires holds { HasArea (T.state tx.old) a.files }
     requires name { is_key name.now ≡ true }
     requires number { number < a.files.blocks }
     requires file { is_file a.files file.now ≡ true }
     requires long { length file.now ≡ a.files.size }
     requires map { length map.old ≡ a.files.size }
     requires into { length into.old ≡ a.files.size }
-    ensures run { HasRun (remove_file a name.now number file.now) (T.state tx.old) (T.state tx.new) result }
-    ensures behaves { FsBehaves false (T.state tx.old) (T.state tx.new) 1 (T.device tx.old) (T.device tx.new) result }
+    ensures { IsPart false 1 (remove_file a name.now number file.now) (T.state tx.old) (T.state tx.new) (T.device tx.old) (T.device tx.new) result }
 {
     if let Err(e) = look(tx, a.files.start, map_mark(a.files), map) {
         return Err(FsError::Store(StoreError::Tx(e)));
@@ -121,16 +112,13 @@ fn remove_found<T: TxBlocks>(
     into: &mut [u8],
 ) -> Result<bool, FsError>
     requires areas { AreFileAreas a }
-    requires most_size { a.files.size ≤ 4096 }
-    requires size { (T.state tx.old).size ≡ a.files.size }
-    requires fits { a.files.start + a.files.blocks ≤ (T.state tx.old).blocks }
+    requires holds { HasArea (T.state tx.old) a.files }
     requires name { is_key name.now ≡ true }
     requires found { IfSome found (λ number. (number < a.files.blocks) × IsTrue (is_file a.files file.now)) }
     requires long { length file.now ≡ a.files.size }
     requires map { length map.old ≡ a.files.size }
     requires into { length into.old ≡ a.files.size }
-    ensures run { HasRun (on_found false (remove_file a name.now) (found_as file.now (Ok found))) (T.state tx.old) (T.state tx.new) result }
-    ensures behaves { FsBehaves false (T.state tx.old) (T.state tx.new) 1 (T.device tx.old) (T.device tx.new) result }
+    ensures { IsPart false 1 (on_found false (remove_file a name.now) (found_as file.now (Ok found))) (T.state tx.old) (T.state tx.new) (T.device tx.old) (T.device tx.new) result }
 {
     match found {
         Some(number) => remove_file(alloc, tx, a, name, number, file, map, into),
@@ -149,15 +137,12 @@ fn remove_with<T: TxBlocks>(
     into: &mut [u8],
 ) -> Result<bool, FsError>
     requires areas { AreFileAreas a }
-    requires most_size { a.files.size ≤ 4096 }
-    requires size { (T.state tx.old).size ≡ a.files.size }
-    requires fits { a.files.start + a.files.blocks ≤ (T.state tx.old).blocks }
+    requires holds { HasArea (T.state tx.old) a.files }
     requires name { is_key name.now ≡ true }
     requires file { length file.old ≡ a.files.size }
     requires map { length map.old ≡ a.files.size }
     requires into { length into.old ≡ a.files.size }
-    ensures run { HasRun (remove_program a name.now) (T.state tx.old) (T.state tx.new) result }
-    ensures behaves { FsBehaves false (T.state tx.old) (T.state tx.new) 1 (T.device tx.old) (T.device tx.new) result }
+    ensures { IsPart false 1 (remove_program a name.now) (T.state tx.old) (T.state tx.new) (T.device tx.old) (T.device tx.new) result }
 {
     match find(alloc, tx, a, name, file) {
         Ok(found) => remove_found(alloc, tx, a, name, found, file, map, into),
@@ -189,16 +174,8 @@ pub fn remove<T: TxBlocks>(
     }
     let a = areas_of(tx, at);
     let size = a.files.size as usize;
-    let mut file = match buffer(alloc, size) {
-        Ok(file) => file,
-        Err(e) => return Err(FsError::Store(e)),
-    };
-    let mut map = match buffer(alloc, size) {
-        Ok(map) => map,
-        Err(e) => return Err(FsError::Store(e)),
-    };
-    let mut into = match buffer(alloc, size) {
-        Ok(into) => into,
+    let (mut file, mut map, mut into) = match buffers(alloc, size, size) {
+        Ok(all) => all,
         Err(e) => return Err(FsError::Store(e)),
     };
     remove_with(alloc, tx, a, name, &mut file, &mut map, &mut into)

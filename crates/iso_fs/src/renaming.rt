@@ -5,7 +5,7 @@ ghost use Rattle.store_model.specs.HashCalls.{is_key};
 ghost use Rattle.store_model.specs.TreeRegion.{IsTreeArea};
 ghost use Rattle.tx_blocks.specs.Tx.{IsLater};
 ghost use Rattle.tx_blocks.specs.Runs.{IsLocalCall};
-ghost use Rattle.iso_fs.specs.Ends.{areas_of, may_follow, ExistsWhere, FsBehaves, HasRun, IsFsCause, IsUnwritten};
+ghost use Rattle.iso_fs.specs.Ends.{areas_of, may_follow, ExistsWhere, HasArea, HasRun, IsFsCause, IsPart, IsUnwritten};
 ghost use Rattle.iso_fs.specs.Finds.{drop_name};
 ghost use Rattle.store_model.specs.FileCalls.{rename_found, rename_free, rename_op, rename_program, in_tree};
 ghost use Rattle.store_model.specs.TreeCalls.{get_program};
@@ -27,12 +27,10 @@ fn drop_name<T: TxBlocks>(
     old: &[u8],
 ) -> Result<bool, FsError>
     requires area { IsTreeArea a.tree }
-    requires size { (T.state tx.old).size ≡ a.tree.size }
-    requires fits { a.tree.start + a.tree.blocks ≤ (T.state tx.old).blocks }
+    requires holds { HasArea (T.state tx.old) a.tree }
     requires old { is_key old.now ≡ true }
-    ensures run { HasRun (drop_name a old.now) (T.state tx.old) (T.state tx.new) result }
+    ensures part { IsPart true 1 (drop_name a old.now) (T.state tx.old) (T.state tx.new) (T.device tx.old) (T.device tx.new) result }
     ensures follows { IfErr result (λ e. may_follow true e ≡ true) }
-    ensures behaves { FsBehaves true (T.state tx.old) (T.state tx.new) 1 (T.device tx.old) (T.device tx.new) result }
 {
     match remove_name(alloc, tx, a.tree, old) {
         Ok(_) => Ok(true),
@@ -50,12 +48,10 @@ fn move_value<T: TxBlocks>(
     value: &[u8],
 ) -> Result<bool, FsError>
     requires area { IsTreeArea a.tree }
-    requires size { (T.state tx.old).size ≡ a.tree.size }
-    requires fits { a.tree.start + a.tree.blocks ≤ (T.state tx.old).blocks }
+    requires holds { HasArea (T.state tx.old) a.tree }
     requires old { is_key old.now ≡ true }
     requires new { is_key new.now ≡ true }
-    ensures run { HasRun (rename_free a old.now new.now value.now None) (T.state tx.old) (T.state tx.new) result }
-    ensures behaves { FsBehaves true (T.state tx.old) (T.state tx.new) 66 (T.device tx.old) (T.device tx.new) result }
+    ensures { IsPart true 66 (rename_free a old.now new.now value.now None) (T.state tx.old) (T.state tx.new) (T.device tx.old) (T.device tx.new) result }
 {
     match put_value(alloc, tx, a.tree, new, value) {
         Ok(()) => drop_name(alloc, tx, a, old),
@@ -74,12 +70,10 @@ fn rename_free<T: TxBlocks>(
     found: Option<Bytes>,
 ) -> Result<bool, FsError>
     requires area { IsTreeArea a.tree }
-    requires size { (T.state tx.old).size ≡ a.tree.size }
-    requires fits { a.tree.start + a.tree.blocks ≤ (T.state tx.old).blocks }
+    requires holds { HasArea (T.state tx.old) a.tree }
     requires old { is_key old.now ≡ true }
     requires new { is_key new.now ≡ true }
-    ensures run { HasRun (rename_free a old.now new.now value.now found) (T.state tx.old) (T.state tx.new) result }
-    ensures behaves { FsBehaves true (T.state tx.old) (T.state tx.new) 66 (T.device tx.old) (T.device tx.new) result }
+    ensures { IsPart true 66 (rename_free a old.now new.now value.now found) (T.state tx.old) (T.state tx.new) (T.device tx.old) (T.device tx.new) result }
 {
     match found {
         Some(_) => Err(FsError::Exists),
@@ -97,12 +91,10 @@ fn rename_value<T: TxBlocks>(
     value: &[u8],
 ) -> Result<bool, FsError>
     requires area { IsTreeArea a.tree }
-    requires size { (T.state tx.old).size ≡ a.tree.size }
-    requires fits { a.tree.start + a.tree.blocks ≤ (T.state tx.old).blocks }
+    requires holds { HasArea (T.state tx.old) a.tree }
     requires old { is_key old.now ≡ true }
     requires new { is_key new.now ≡ true }
-    ensures run { HasRun (in_tree (get_program a.tree new.now) (rename_free a old.now new.now value.now)) (T.state tx.old) (T.state tx.new) result }
-    ensures behaves { FsBehaves true (T.state tx.old) (T.state tx.new) 66 (T.device tx.old) (T.device tx.new) result }
+    ensures { IsPart true 66 (in_tree (get_program a.tree new.now) (rename_free a old.now new.now value.now)) (T.state tx.old) (T.state tx.new) (T.device tx.old) (T.device tx.new) result }
 {
     match value_of(alloc, tx, a.tree, new) {
         Ok(found) => rename_free(alloc, tx, a, old, new, value, found),
@@ -120,12 +112,10 @@ fn rename_found<T: TxBlocks>(
     found: Option<Bytes>,
 ) -> Result<bool, FsError>
     requires area { IsTreeArea a.tree }
-    requires size { (T.state tx.old).size ≡ a.tree.size }
-    requires fits { a.tree.start + a.tree.blocks ≤ (T.state tx.old).blocks }
+    requires holds { HasArea (T.state tx.old) a.tree }
     requires old { is_key old.now ≡ true }
     requires new { is_key new.now ≡ true }
-    ensures run { HasRun (rename_found a old.now new.now found) (T.state tx.old) (T.state tx.new) result }
-    ensures behaves { FsBehaves true (T.state tx.old) (T.state tx.new) 66 (T.device tx.old) (T.device tx.new) result }
+    ensures { IsPart true 66 (rename_found a old.now new.now found) (T.state tx.old) (T.state tx.new) (T.device tx.old) (T.device tx.new) result }
 {
     match found {
         Some(value) => rename_value(alloc, tx, a, old, new, value.as_slice()),
@@ -142,12 +132,10 @@ fn rename_in<T: TxBlocks>(
     new: &[u8],
 ) -> Result<bool, FsError>
     requires area { IsTreeArea a.tree }
-    requires size { (T.state tx.old).size ≡ a.tree.size }
-    requires fits { a.tree.start + a.tree.blocks ≤ (T.state tx.old).blocks }
+    requires holds { HasArea (T.state tx.old) a.tree }
     requires old { is_key old.now ≡ true }
     requires new { is_key new.now ≡ true }
-    ensures run { HasRun (rename_program a old.now new.now) (T.state tx.old) (T.state tx.new) result }
-    ensures behaves { FsBehaves true (T.state tx.old) (T.state tx.new) 66 (T.device tx.old) (T.device tx.new) result }
+    ensures { IsPart true 66 (rename_program a old.now new.now) (T.state tx.old) (T.state tx.new) (T.device tx.old) (T.device tx.new) result }
 {
     match value_of(alloc, tx, a.tree, old) {
         Ok(found) => rename_found(alloc, tx, a, old, new, found),

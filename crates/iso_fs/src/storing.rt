@@ -8,7 +8,7 @@ ghost use Rattle.tx_blocks.specs.Tx.{with_accesses};
 ghost use Rattle.tx_blocks.specs.Runs.{IsCause};
 ghost use Rattle.tx_blocks.proofs.Progress.{IsAt};
 ghost use Rattle.iso_tree.specs.Rows.{AreBlocks};
-ghost use Rattle.iso_fs.specs.Ends.{FsBehaves, HasRun, IsOfTx};
+ghost use Rattle.iso_fs.specs.Ends.{FsBehaves, HasArea, HasRun, IsOfTx, IsPart};
 
 use crate::buffers::lay_alone;
 use crate::file::entry_at;
@@ -69,10 +69,7 @@ fn write_piece<T: TxBlocks>(
     bytes: &[u8],
     into: &mut [u8],
 ) -> Result<u32, FsError>
-    requires least { 256 ≤ area.size }
-    requires most { area.size ≤ 4096 }
-    requires size { (T.state tx.old).size ≡ area.size }
-    requires fits { area.start + area.blocks ≤ (T.state tx.old).blocks }
+    requires holds { HasArea (T.state tx.old) area }
     requires file { is_file area file.now ≡ true }
     requires long { length file.now ≡ area.size }
     requires old { old ≡ data_count area.size file.now }
@@ -109,10 +106,7 @@ pub fn write_pieces<T: TxBlocks>(
     bytes: &[u8],
     into: &mut [u8],
 ) -> Result<bool, FsError>
-    requires least { 256 ≤ area.size }
-    requires most { area.size ≤ 4096 }
-    requires size { (T.state tx.old).size ≡ area.size }
-    requires fits { area.start + area.blocks ≤ (T.state tx.old).blocks }
+    requires holds { HasArea (T.state tx.old) area }
     requires file { is_file area file.now ≡ true }
     requires long { length file.now ≡ area.size }
     requires old { old ≡ data_count area.size file.now }
@@ -121,8 +115,7 @@ pub fn write_pieces<T: TxBlocks>(
     requires covered { to ≤ (old + length news.now) * area.size }
     requires bytes { length bytes.now ≡ to - from }
     requires into { length into.old ≡ area.size }
-    ensures run { HasRun (write_pieces area (entries_of area.size file.now ++ news.now) old (length bytes.now) from to bytes.now) (T.state tx.old) (T.state tx.new) result }
-    ensures behaves { FsBehaves false (T.state tx.old) (T.state tx.new) 1 (T.device tx.old) (T.device tx.new) result }
+    ensures part { IsPart false 1 (write_pieces area (entries_of area.size file.now ++ news.now) old (length bytes.now) from to bytes.now) (T.state tx.old) (T.state tx.new) (T.device tx.old) (T.device tx.new) result }
     ensures of_tx { IfErr result IsOfTx }
 {
     let mut at = from;

@@ -9,20 +9,19 @@ ghost use Rattle.tx_blocks.specs.Tx.{IsLater};
 ghost use Rattle.tx_blocks.specs.Runs.{IsLocalCall};
 ghost use Rattle.iso_tree.specs.FirstBlock.{Up};
 ghost use Rattle.iso_tree.specs.Rows.{AreBlocks};
-ghost use Rattle.iso_fs.specs.Ends.{areas_of, FsBehaves, HasRun, IsFsCause, IsOfTx, IsUnwritten};
-ghost use Rattle.iso_fs.specs.Finds.{found_as, on_found};
-ghost use Rattle.iso_fs.specs.Finds.{with_taken};
+ghost use Rattle.iso_fs.specs.Ends.{areas_of, FsBehaves, HasArea, HasRun, IsFsCause, IsOfTx, IsPart, IsUnwritten};
+ghost use Rattle.iso_fs.specs.Finds.{found_as, on_found, with_taken};
 ghost use Rattle.store_model.specs.FileCalls.{is_many, with_new, write_op, write_program, write_sized, write_to};
 ghost use Rattle.store_model.specs.FileNodes.{blocks_for, bytes_of, data_count, is_file, most_bytes};
 ghost use Rattle.store_model.specs.FileRegion.{files, AreFileAreas, AreFileRegions};
 
-use crate::buffers::{areas_of, is_many};
+use crate::buffers::{areas_of, buffers, is_many};
 use crate::file::{bytes_of, data_count};
 use crate::find::find;
 use crate::names::region_of;
 use crate::sized::lay_sized;
 use crate::storing::write_pieces;
-use iso_alloc::{buffer, free_blocks, is_key};
+use iso_alloc::{free_blocks, is_key};
 use iso_tree::{map_mark, store_first, take_blocks};
 use std::alloc::Global;
 use store_model::{Area, FileAreas, FsError, FsRegion, StoreError};
@@ -39,10 +38,7 @@ fn write_grown<T: TxBlocks>(
     news: &[u32],
     into: &mut [u8],
 ) -> Result<bool, FsError>
-    requires least { 256 ≤ area.size }
-    requires most { area.size ≤ 4096 }
-    requires size { (T.state tx.old).size ≡ area.size }
-    requires fits { area.start + area.blocks ≤ (T.state tx.old).blocks }
+    requires holds { HasArea (T.state tx.old) area }
     requires number { number < area.blocks }
     requires file { is_file area file.now ≡ true }
     requires long { length file.now ≡ area.size }
@@ -51,8 +47,7 @@ fn write_grown<T: TxBlocks>(
     requires count { data_count area.size file.now + length news.now ≡ blocks_for area.size (off + length bytes.now) }
     requires grows { bytes_of file.now < off + length bytes.now }
     requires into { length into.old ≡ area.size }
-    ensures run { HasRun (write_sized area off bytes.now number file.now news.now) (T.state tx.old) (T.state tx.new) result }
-    ensures behaves { FsBehaves false (T.state tx.old) (T.state tx.new) 1 (T.device tx.old) (T.device tx.new) result }
+    ensures part { IsPart false 1 (write_sized area off bytes.now number file.now news.now) (T.state tx.old) (T.state tx.new) (T.device tx.old) (T.device tx.new) result }
     ensures of_tx { IfErr result IsOfTx }
 {
     let end = off + bytes.len() as u32;
@@ -75,10 +70,7 @@ fn write_sized<T: TxBlocks>(
     news: &[u32],
     into: &mut [u8],
 ) -> Result<bool, FsError>
-    requires least { 256 ≤ area.size }
-    requires most { area.size ≤ 4096 }
-    requires size { (T.state tx.old).size ≡ area.size }
-    requires fits { area.start + area.blocks ≤ (T.state tx.old).blocks }
+    requires holds { HasArea (T.state tx.old) area }
     requires number { number < area.blocks }
     requires file { is_file area file.now ≡ true }
     requires long { length file.now ≡ area.size }
@@ -87,8 +79,7 @@ fn write_sized<T: TxBlocks>(
     requires count { bytes_of file.now < off + length bytes.now → data_count area.size file.now + length news.now ≡ blocks_for area.size (off + length bytes.now) }
     requires none { off + length bytes.now ≤ bytes_of file.now → news.now ≡ [] }
     requires into { length into.old ≡ area.size }
-    ensures run { HasRun (write_sized area off bytes.now number file.now news.now) (T.state tx.old) (T.state tx.new) result }
-    ensures behaves { FsBehaves false (T.state tx.old) (T.state tx.new) 1 (T.device tx.old) (T.device tx.new) result }
+    ensures part { IsPart false 1 (write_sized area off bytes.now number file.now news.now) (T.state tx.old) (T.state tx.new) (T.device tx.old) (T.device tx.new) result }
     ensures of_tx { IfErr result IsOfTx }
 {
     let end = off + bytes.len() as u32;
@@ -112,9 +103,7 @@ fn write_news<T: TxBlocks>(
     into: &mut [u8],
 ) -> Result<bool, FsError>
     requires area { IsTreeArea area }
-    requires most { area.size ≤ 4096 }
-    requires size { (T.state tx.old).size ≡ area.size }
-    requires fits { area.start + area.blocks ≤ (T.state tx.old).blocks }
+    requires holds { HasArea (T.state tx.old) area }
     requires number { number < area.blocks }
     requires file { is_file area file.now ≡ true }
     requires long { length file.now ≡ area.size }
@@ -126,8 +115,7 @@ fn write_news<T: TxBlocks>(
     requires grows { bytes_of file.now < off + length bytes.now }
     requires count { data_count area.size file.now + length news.now ≡ blocks_for area.size (off + length bytes.now) }
     requires into { length into.old ≡ area.size }
-    ensures run { (first : List ℕ) → take (64 + map_bytes area.blocks) map.now ≡ with_used first news.now → HasRun (first_write area first news.now None (write_sized area off bytes.now number file.now news.now)) (T.state tx.old) (T.state tx.new) result }
-    ensures behaves { FsBehaves false (T.state tx.old) (T.state tx.new) 1 (T.device tx.old) (T.device tx.new) result }
+    ensures part { (first : List ℕ) → take (64 + map_bytes area.blocks) map.now ≡ with_used first news.now → IsPart false 1 (first_write area first news.now None (write_sized area off bytes.now number file.now news.now)) (T.state tx.old) (T.state tx.new) (T.device tx.old) (T.device tx.new) result }
     ensures of_tx { IfErr result IsOfTx }
 {
     if let Err(e) = store_first(tx, area, map, news, None, into) {
@@ -149,9 +137,7 @@ fn write_taken<T: TxBlocks>(
     into: &mut [u8],
 ) -> Result<bool, FsError>
     requires area { IsTreeArea area }
-    requires most { area.size ≤ 4096 }
-    requires size { (T.state tx.old).size ≡ area.size }
-    requires fits { area.start + area.blocks ≤ (T.state tx.old).blocks }
+    requires holds { HasArea (T.state tx.old) area }
     requires number { number < area.blocks }
     requires file { is_file area file.now ≡ true }
     requires long { length file.now ≡ area.size }
@@ -162,8 +148,7 @@ fn write_taken<T: TxBlocks>(
     requires grows { bytes_of file.now < off + length bytes.now }
     requires count { data_count area.size file.now + need ≡ blocks_for area.size (off + length bytes.now) }
     requires into { length into.old ≡ area.size }
-    ensures run { HasRun (with_taken area need (write_sized area off bytes.now number file.now) (bytes_in (map_mark area.blocks) map.old)) (T.state tx.old) (T.state tx.new) result }
-    ensures behaves { FsBehaves false (T.state tx.old) (T.state tx.new) 1 (T.device tx.old) (T.device tx.new) result }
+    ensures { IsPart false 1 (with_taken area need (write_sized area off bytes.now number file.now) (bytes_in (map_mark area.blocks) map.old)) (T.state tx.old) (T.state tx.new) (T.device tx.old) (T.device tx.new) result }
 {
     let free = free_blocks(map, region_of(area), 1);
     if free < need {
@@ -197,9 +182,7 @@ fn write_new<T: TxBlocks>(
     into: &mut [u8],
 ) -> Result<bool, FsError>
     requires area { IsTreeArea area }
-    requires most { area.size ≤ 4096 }
-    requires size { (T.state tx.old).size ≡ area.size }
-    requires fits { area.start + area.blocks ≤ (T.state tx.old).blocks }
+    requires holds { HasArea (T.state tx.old) area }
     requires number { number < area.blocks }
     requires file { is_file area file.now ≡ true }
     requires long { length file.now ≡ area.size }
@@ -210,8 +193,7 @@ fn write_new<T: TxBlocks>(
     requires grows { bytes_of file.now < off + length bytes.now }
     requires count { data_count area.size file.now + need ≡ blocks_for area.size (off + length bytes.now) }
     requires into { length into.old ≡ area.size }
-    ensures run { HasRun (with_new area need (write_sized area off bytes.now number file.now)) (T.state tx.old) (T.state tx.new) result }
-    ensures behaves { FsBehaves false (T.state tx.old) (T.state tx.new) 1 (T.device tx.old) (T.device tx.new) result }
+    ensures { IsPart false 1 (with_new area need (write_sized area off bytes.now number file.now)) (T.state tx.old) (T.state tx.new) (T.device tx.old) (T.device tx.new) result }
 {
     if let Err(e) = look(tx, area.start, map_mark(area), map) {
         return Err(FsError::Store(StoreError::Tx(e)));
@@ -250,9 +232,7 @@ fn write_to<T: TxBlocks>(
     into: &mut [u8],
 ) -> Result<bool, FsError>
     requires area { IsTreeArea area }
-    requires most { area.size ≤ 4096 }
-    requires size { (T.state tx.old).size ≡ area.size }
-    requires fits { area.start + area.blocks ≤ (T.state tx.old).blocks }
+    requires holds { HasArea (T.state tx.old) area }
     requires number { number < area.blocks }
     requires file { is_file area file.now ≡ true }
     requires long { length file.now ≡ area.size }
@@ -260,8 +240,7 @@ fn write_to<T: TxBlocks>(
     requires few { length bytes.now ≤ 4096 }
     requires map { length map.old ≡ area.size }
     requires into { length into.old ≡ area.size }
-    ensures run { HasRun (write_to area off bytes.now number file.now) (T.state tx.old) (T.state tx.new) result }
-    ensures behaves { FsBehaves false (T.state tx.old) (T.state tx.new) 1 (T.device tx.old) (T.device tx.new) result }
+    ensures { IsPart false 1 (write_to area off bytes.now number file.now) (T.state tx.old) (T.state tx.new) (T.device tx.old) (T.device tx.new) result }
 {
     if bytes_of(file) < off {
         return Err(FsError::BadRange);
@@ -290,17 +269,14 @@ fn write_found<T: TxBlocks>(
     into: &mut [u8],
 ) -> Result<bool, FsError>
     requires area { IsTreeArea area }
-    requires most { area.size ≤ 4096 }
-    requires size { (T.state tx.old).size ≡ area.size }
-    requires fits { area.start + area.blocks ≤ (T.state tx.old).blocks }
+    requires holds { HasArea (T.state tx.old) area }
     requires found { IfSome found (λ number. (number < area.blocks) × IsTrue (is_file area file.now)) }
     requires long { length file.now ≡ area.size }
     requires some { 1 ≤ length bytes.now }
     requires few { length bytes.now ≤ 4096 }
     requires map { length map.old ≡ area.size }
     requires into { length into.old ≡ area.size }
-    ensures run { HasRun (on_found false (write_to area off bytes.now) (found_as file.now (Ok found))) (T.state tx.old) (T.state tx.new) result }
-    ensures behaves { FsBehaves false (T.state tx.old) (T.state tx.new) 1 (T.device tx.old) (T.device tx.new) result }
+    ensures { IsPart false 1 (on_found false (write_to area off bytes.now) (found_as file.now (Ok found))) (T.state tx.old) (T.state tx.new) (T.device tx.old) (T.device tx.new) result }
 {
     match found {
         Some(number) => write_to(tx, area, number, off, bytes, file, map, into),
@@ -321,17 +297,14 @@ fn write_with<T: TxBlocks>(
     into: &mut [u8],
 ) -> Result<bool, FsError>
     requires areas { AreFileAreas a }
-    requires most { a.files.size ≤ 4096 }
-    requires size { (T.state tx.old).size ≡ a.files.size }
-    requires fits { a.files.start + a.files.blocks ≤ (T.state tx.old).blocks }
+    requires holds { HasArea (T.state tx.old) a.files }
     requires name { is_key name.now ≡ true }
     requires some { 1 ≤ length bytes.now }
     requires few { length bytes.now ≤ 4096 }
     requires file { length file.old ≡ a.files.size }
     requires map { length map.old ≡ a.files.size }
     requires into { length into.old ≡ a.files.size }
-    ensures run { HasRun (write_program a name.now off bytes.now) (T.state tx.old) (T.state tx.new) result }
-    ensures behaves { FsBehaves false (T.state tx.old) (T.state tx.new) 1 (T.device tx.old) (T.device tx.new) result }
+    ensures { IsPart false 1 (write_program a name.now off bytes.now) (T.state tx.old) (T.state tx.new) (T.device tx.old) (T.device tx.new) result }
 {
     match find(alloc, tx, a, name, file) {
         Ok(found) => write_found(tx, a.files, found, off, bytes, file, map, into),
@@ -371,16 +344,8 @@ pub fn write<T: TxBlocks>(
     }
     let a = areas_of(tx, at);
     let size = a.files.size as usize;
-    let mut file = match buffer(alloc, size) {
-        Ok(file) => file,
-        Err(e) => return Err(FsError::Store(e)),
-    };
-    let mut map = match buffer(alloc, size) {
-        Ok(map) => map,
-        Err(e) => return Err(FsError::Store(e)),
-    };
-    let mut into = match buffer(alloc, size) {
-        Ok(into) => into,
+    let (mut file, mut map, mut into) = match buffers(alloc, size, size) {
+        Ok(all) => all,
         Err(e) => return Err(FsError::Store(e)),
     };
     write_with(

@@ -33,38 +33,20 @@ second_step op W t = (reply.Done, W)
 abbrev pub SecondGoes : SecondStore → Type 1
 SecondGoes S = (Q : Type 0) (n : ℕ) (W : World) (notes : Notes S) → IsNoted S Q n W notes → (c : ℕ) (op : Op) (t : Live) → CallsSecond op → attached W c ≡ Some t → Goes S Q n W notes c op (Some t) (second_step op W t)
 
--- the refusals of each call
-pub put_refused : (e : StoreError) → put_answer (store_refusal e) ≡ None
-put_refused store.BadKey = refl
-put_refused store.BadValue = refl
-put_refused (store.NoBlocks need free) = refl
-put_refused (store.Broken block) = refl
-put_refused (store.Tx e) = refl
-put_refused store.Memory = refl
+-- no call of a key store and no scan is answered so
+pub record IsRefusal (r : Reply) : Type 0 where
+  pub put : put_answer r ≡ None
+  pub get : get_answer r ≡ None
+  pub del : del_answer r ≡ None
+  pub scan : scan_answer r ≡ None
 
-pub get_refused : (e : StoreError) → get_answer (store_refusal e) ≡ None
-get_refused store.BadKey = refl
-get_refused store.BadValue = refl
-get_refused (store.NoBlocks need free) = refl
-get_refused (store.Broken block) = refl
-get_refused (store.Tx e) = refl
-get_refused store.Memory = refl
-
-pub del_refused : (e : StoreError) → del_answer (store_refusal e) ≡ None
-del_refused store.BadKey = refl
-del_refused store.BadValue = refl
-del_refused (store.NoBlocks need free) = refl
-del_refused (store.Broken block) = refl
-del_refused (store.Tx e) = refl
-del_refused store.Memory = refl
-
-pub scan_refused : (e : StoreError) → scan_answer (store_refusal e) ≡ None
-scan_refused store.BadKey = refl
-scan_refused store.BadValue = refl
-scan_refused (store.NoBlocks need free) = refl
-scan_refused (store.Broken block) = refl
-scan_refused (store.Tx e) = refl
-scan_refused store.Memory = refl
+pub store_refused : (e : StoreError) → IsRefusal (store_refusal e)
+store_refused store.BadKey = record { put = refl; get = refl; del = refl; scan = refl }
+store_refused store.BadValue = record { put = refl; get = refl; del = refl; scan = refl }
+store_refused (store.NoBlocks need free) = record { put = refl; get = refl; del = refl; scan = refl }
+store_refused (store.Broken block) = record { put = refl; get = refl; del = refl; scan = refl }
+store_refused (store.Tx e) = record { put = refl; get = refl; del = refl; scan = refl }
+store_refused store.Memory = record { put = refl; get = refl; del = refl; scan = refl }
 
 -- the answers
 pub got_told : (r : Option (List ℕ)) → get_answer (found_reply r) ≡ Some (Got r)

@@ -74,6 +74,20 @@ module _ (S : SecondStore) (lawful : IsSecond S) where
     foreign_goes refusal program answer quiet =
         adds S Q n W notes is c op t (store_reply refusal answer (ended program).1) (ended program).0 found (kept_of S Q n W notes is c op t found) (quiet _)
 
+    pub foreign_call : {E R : Type 0} (refusal : E → Reply) (blocks : ℕ) (program : Program (Result R E)) (answer : R → Reply) → ((r : Reply) → S.answered op r ≡ None) → Goes S Q n W notes c op (Some t) (in_store W t blocks (store_step W t program refusal answer))
+    foreign_call refusal blocks program answer quiet = foreign_in_store quiet blocks _ (foreign_goes refusal program answer quiet)
+
+    -- a call of which it is told, in a store of so many blocks
+    pub hash_call : {E R : Type 0} (refusal : E → Reply) (refusals : AreRefusals S E op refusal) (blocks : ℕ) (program : Program (Result R E)) (answer : R → Reply) (call : KeyCall) (name : R → StoreAnswer) → ((r : R) → S.answered op (answer r) ≡ Some (OfHash call (name r)))
+        → (blocks ≢ 0 → (r : R) → (ended program).1 ≡ Some (Ok r) → IsHashCall S W.geometry call (array_of W t) (ended program).0 (name r)) → Goes S Q n W notes c op (Some t) (in_store W t blocks (store_step W t program refusal answer))
+    hash_call refusal refusals blocks program answer call name named local =
+        in_store_goes refusal refusals blocks _ (λ some serial. hash_goes refusal refusals program answer call name named serial (local some))
+
+    pub second_call : {E R : Type 0} (refusal : E → Reply) (refusals : AreRefusals S E op refusal) (blocks : ℕ) (program : Program (Result R E)) (answer : R → Reply) (call : S.Call) (name : R → S.Answer) → ((r : R) → S.answered op (answer r) ≡ Some (OfSecond call (name r)))
+        → (blocks ≢ 0 → (r : R) → (ended program).1 ≡ Some (Ok r) → IsSecondCall S W.geometry call (array_of W t) (ended program).0 (name r)) → Goes S Q n W notes c op (Some t) (in_store W t blocks (store_step W t program refusal answer))
+    second_call refusal refusals blocks program answer call name named local =
+        in_store_goes refusal refusals blocks _ (λ some serial. second_goes refusal refusals program answer call name named serial (local some))
+
   module _ (Q : Type 0) (n : ℕ) (W : World) (notes : Notes S) (is : IsNoted S Q n W notes) (c : ℕ) (t : Live) (found : attached W c ≡ Some t) where
     -- a mark on an access since the last call
     pub mark_goes : (off len : ℕ) → Goes S Q n W notes c (Mark off len) (Some t) (mark_step W t off len)

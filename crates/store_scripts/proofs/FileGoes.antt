@@ -1,48 +1,31 @@
 -- Where the operations on files and on the tree store lead, with what is told of calls of the hash store and on files.
-use Rattle.store_scripts.proofs.Words.{◌≡◌, refl, ap, ℕ, ◌-◌, ◌==◌, ◌&&◌, length, option_map, List, Option, Some, None, Bool, true, false, Op, TreePut, TreeGet, TreeDelete, TreeScan, FileNew, FileWrite, FileRead, FileMove, FileDelete, Geometry, MAX_ACCESSES, array_at, array_shape, own_shape, live_at, HasShape, array_of, file_refusal, found_reply, pairs_reply, removed_reply, store_refusal, tree_delete_step, tree_get_step, tree_put_step, tree_scan_step, file_new_step, file_write_step, file_read_step, file_move_step, file_delete_step, file_blocks, files_area, tree_area, is_key, Live, World, attached, Notes, OfSecond, make_answer, read_answer, there_answer, the_files, FsError, create_program, read_program, remove_program, rename_program, write_program, FileMade, WasRead, FileThere, MakeFile, ReadFile, RemoveFile, RenameFile, WriteFile}
+use Rattle.store_scripts.proofs.Words.{◌≡◌, refl, ap, ℕ, ◌-◌, ◌==◌, ◌&&◌, length, option_map, List, Option, Some, None, Bool, true, false, Op, Reply, TreePut, TreeGet, TreeDelete, TreeScan, FileNew, FileWrite, FileRead, FileMove, FileDelete, Geometry, MAX_ACCESSES, array_at, array_shape, own_shape, live_at, HasShape, array_of, file_refusal, found_reply, pairs_reply, removed_reply, store_refusal, tree_delete_step, tree_get_step, tree_put_step, tree_scan_step, file_new_step, file_write_step, file_read_step, file_move_step, file_delete_step, file_blocks, files_area, tree_area, is_key, Live, World, attached, Notes, OfSecond, make_answer, read_answer, there_answer, the_files, FsError, create_program, read_program, remove_program, rename_program, write_program, FileMade, WasRead, FileThere, MakeFile, ReadFile, RemoveFile, RenameFile, WriteFile}
 use Rattle.script_model.specs.declared.script.Reply.TheVariants as reply
 use Rattle.store_model.specs.declared.files.FsError.TheVariants as fs
 use Rattle.store_model.specs.declared.stores.StoreError.TheVariants as store
 use Rattle.store_model.specs.TreeCalls as tree
 use Rattle.store_scripts.proofs.Acting.{SecondGoes}
 use Rattle.store_scripts.proofs.Blocks.{files_second}
-use Rattle.store_scripts.proofs.Calls.{foreign_goes, foreign_in_store, in_store_goes, second_goes}
+use Rattle.store_scripts.proofs.Calls.{foreign_call, foreign_goes, foreign_in_store, second_call}
 use Rattle.store_scripts.proofs.FileLocality.{file_was_made, file_was_read, file_was_removed, file_was_renamed, file_was_written}
 use Rattle.store_scripts.proofs.Noted.{Goes, IsNoted, choose, stays}
-use Rattle.store_scripts.proofs.Seconds.{AreRefusals}
 
-pub make_file_refused : (e : FsError) → make_answer (file_refusal e) ≡ None
-make_file_refused fs.BadName = refl
-make_file_refused fs.BadRange = refl
-make_file_refused fs.Exists = refl
-make_file_refused (fs.Store store.BadKey) = refl
-make_file_refused (fs.Store store.BadValue) = refl
-make_file_refused (fs.Store (store.NoBlocks need free)) = refl
-make_file_refused (fs.Store (store.Broken block)) = refl
-make_file_refused (fs.Store (store.Tx e)) = refl
-make_file_refused (fs.Store store.Memory) = refl
+-- no call on files is answered so
+record IsRefusal (r : Reply) : Type 0 where
+  pub make : make_answer r ≡ None
+  pub read : read_answer r ≡ None
+  pub there : there_answer r ≡ None
 
-pub read_refused : (e : FsError) → read_answer (file_refusal e) ≡ None
-read_refused fs.BadName = refl
-read_refused fs.BadRange = refl
-read_refused fs.Exists = refl
-read_refused (fs.Store store.BadKey) = refl
-read_refused (fs.Store store.BadValue) = refl
-read_refused (fs.Store (store.NoBlocks need free)) = refl
-read_refused (fs.Store (store.Broken block)) = refl
-read_refused (fs.Store (store.Tx e)) = refl
-read_refused (fs.Store store.Memory) = refl
-
-pub there_refused : (e : FsError) → there_answer (file_refusal e) ≡ None
-there_refused fs.BadName = refl
-there_refused fs.BadRange = refl
-there_refused fs.Exists = refl
-there_refused (fs.Store store.BadKey) = refl
-there_refused (fs.Store store.BadValue) = refl
-there_refused (fs.Store (store.NoBlocks need free)) = refl
-there_refused (fs.Store (store.Broken block)) = refl
-there_refused (fs.Store (store.Tx e)) = refl
-there_refused (fs.Store store.Memory) = refl
+file_refused : (e : FsError) → IsRefusal (file_refusal e)
+file_refused fs.BadName = record { make = refl; read = refl; there = refl }
+file_refused fs.BadRange = record { make = refl; read = refl; there = refl }
+file_refused fs.Exists = record { make = refl; read = refl; there = refl }
+file_refused (fs.Store store.BadKey) = record { make = refl; read = refl; there = refl }
+file_refused (fs.Store store.BadValue) = record { make = refl; read = refl; there = refl }
+file_refused (fs.Store (store.NoBlocks need free)) = record { make = refl; read = refl; there = refl }
+file_refused (fs.Store (store.Broken block)) = record { make = refl; read = refl; there = refl }
+file_refused (fs.Store (store.Tx e)) = record { make = refl; read = refl; there = refl }
+file_refused (fs.Store store.Memory) = record { make = refl; read = refl; there = refl }
 
 pub read_told : (r : Option (List ℕ)) → read_answer (found_reply r) ≡ Some (WasRead r)
 read_told None = refl
@@ -65,71 +48,58 @@ module _ (Q : Type 0) (n : ℕ) (W : World) (notes : Notes the_files) (is : IsNo
   make_goes : (name : List ℕ) → Goes the_files Q n W notes c (FileNew name) (Some t) (file_new_step W t name)
   unfolding file_new_step
   make_goes name =
-      let op : Op = FileNew name in
-      let refusals : AreRefusals the_files FsError op file_refusal =
-      record { store = refl; mode = refl; full = refl; error = λ e. ap (option_map (OfSecond (MakeFile name))) (make_file_refused e) } in
-      in_store_goes the_files files_second Q n W notes is c op t found file_refusal refusals (file_blocks g) _ (λ some serial.
-      second_goes the_files files_second Q n W notes is c op t found file_refusal refusals (create_program (files_area g) name) (λ done. reply.Done) (MakeFile name) (λ done. FileMade) (λ r. refl) serial
-      (λ r ends. file_was_made g is.world.valid some (array_of W t) shape room name r ends))
+      second_call the_files files_second Q n W notes is c (FileNew name) t found file_refusal
+      (record { store = refl; mode = refl; full = refl; error = λ e. ap (option_map (OfSecond (MakeFile name))) (file_refused e).make })
+      (file_blocks g) (create_program (files_area g) name) (λ done. reply.Done) (MakeFile name) (λ done. FileMade) (λ r. refl)
+      (λ some r ends. file_was_made g is.world.valid some (array_of W t) shape room name r ends)
 
   write_goes : (name : List ℕ) (off : ℕ) (bytes : List ℕ) → Goes the_files Q n W notes c (FileWrite name off bytes) (Some t) (file_write_step W t name off bytes)
   unfolding file_write_step
   write_goes name off bytes =
-      let op : Op = FileWrite name off bytes in
-      let refusals : AreRefusals the_files FsError op file_refusal =
-      record { store = refl; mode = refl; full = refl; error = λ e. ap (option_map (OfSecond (WriteFile name off bytes))) (there_refused e) } in
-      in_store_goes the_files files_second Q n W notes is c op t found file_refusal refusals (file_blocks g) _ (λ some serial.
-      second_goes the_files files_second Q n W notes is c op t found file_refusal refusals (write_program (files_area g) name off bytes) removed_reply (WriteFile name off bytes) (λ there. FileThere there) (λ r. ap (option_map (OfSecond (WriteFile name off bytes))) (file_there_told r)) serial
-      (λ r ends. file_was_written g is.world.valid some (array_of W t) shape room name off bytes r ends))
+      second_call the_files files_second Q n W notes is c (FileWrite name off bytes) t found file_refusal
+      (record { store = refl; mode = refl; full = refl; error = λ e. ap (option_map (OfSecond (WriteFile name off bytes))) (file_refused e).there })
+      (file_blocks g) (write_program (files_area g) name off bytes) removed_reply (WriteFile name off bytes) (λ there. FileThere there) (λ r. ap (option_map (OfSecond (WriteFile name off bytes))) (file_there_told r))
+      (λ some r ends. file_was_written g is.world.valid some (array_of W t) shape room name off bytes r ends)
 
   read_goes : (name : List ℕ) (off len : ℕ) → Goes the_files Q n W notes c (FileRead name off len) (Some t) (file_read_step W t name off len)
   unfolding file_read_step
   read_goes name off len =
-      let op : Op = FileRead name off len in
-      let refusals : AreRefusals the_files FsError op file_refusal =
-      record { store = refl; mode = refl; full = refl; error = λ e. ap (option_map (OfSecond (ReadFile name off len))) (read_refused e) } in
-      in_store_goes the_files files_second Q n W notes is c op t found file_refusal refusals (file_blocks g) _ (λ some serial.
-      second_goes the_files files_second Q n W notes is c op t found file_refusal refusals (read_program (files_area g) name off len) found_reply (ReadFile name off len) (λ bytes. WasRead bytes) (λ r. ap (option_map (OfSecond (ReadFile name off len))) (read_told r)) serial
-      (λ r ends. file_was_read g is.world.valid some (array_of W t) shape room name off len r ends))
+      second_call the_files files_second Q n W notes is c (FileRead name off len) t found file_refusal
+      (record { store = refl; mode = refl; full = refl; error = λ e. ap (option_map (OfSecond (ReadFile name off len))) (file_refused e).read })
+      (file_blocks g) (read_program (files_area g) name off len) found_reply (ReadFile name off len) (λ bytes. WasRead bytes) (λ r. ap (option_map (OfSecond (ReadFile name off len))) (read_told r))
+      (λ some r ends. file_was_read g is.world.valid some (array_of W t) shape room name off len r ends)
 
   move_goes : (from to : List ℕ) → Goes the_files Q n W notes c (FileMove from to) (Some t) (file_move_step W t from to)
   unfolding file_move_step
   move_goes from to =
-      let op : Op = FileMove from to in
-      let refusals : AreRefusals the_files FsError op file_refusal =
-      record { store = refl; mode = refl; full = refl; error = λ e. ap (option_map (OfSecond (RenameFile from to))) (there_refused e) } in
-      in_store_goes the_files files_second Q n W notes is c op t found file_refusal refusals (file_blocks g) _ (λ some serial.
-      second_goes the_files files_second Q n W notes is c op t found file_refusal refusals (rename_program (files_area g) from to) removed_reply (RenameFile from to) (λ there. FileThere there) (λ r. ap (option_map (OfSecond (RenameFile from to))) (file_there_told r)) serial
-      (λ r ends. file_was_renamed g is.world.valid some (array_of W t) shape room from to r ends))
+      second_call the_files files_second Q n W notes is c (FileMove from to) t found file_refusal
+      (record { store = refl; mode = refl; full = refl; error = λ e. ap (option_map (OfSecond (RenameFile from to))) (file_refused e).there })
+      (file_blocks g) (rename_program (files_area g) from to) removed_reply (RenameFile from to) (λ there. FileThere there) (λ r. ap (option_map (OfSecond (RenameFile from to))) (file_there_told r))
+      (λ some r ends. file_was_renamed g is.world.valid some (array_of W t) shape room from to r ends)
 
   remove_goes : (name : List ℕ) → Goes the_files Q n W notes c (FileDelete name) (Some t) (file_delete_step W t name)
   unfolding file_delete_step
   remove_goes name =
-      let op : Op = FileDelete name in
-      let refusals : AreRefusals the_files FsError op file_refusal =
-      record { store = refl; mode = refl; full = refl; error = λ e. ap (option_map (OfSecond (RemoveFile name))) (there_refused e) } in
-      in_store_goes the_files files_second Q n W notes is c op t found file_refusal refusals (file_blocks g) _ (λ some serial.
-      second_goes the_files files_second Q n W notes is c op t found file_refusal refusals (remove_program (files_area g) name) removed_reply (RemoveFile name) (λ there. FileThere there) (λ r. ap (option_map (OfSecond (RemoveFile name))) (file_there_told r)) serial
-      (λ r ends. file_was_removed g is.world.valid some (array_of W t) shape room name r ends))
+      second_call the_files files_second Q n W notes is c (FileDelete name) t found file_refusal
+      (record { store = refl; mode = refl; full = refl; error = λ e. ap (option_map (OfSecond (RemoveFile name))) (file_refused e).there })
+      (file_blocks g) (remove_program (files_area g) name) removed_reply (RemoveFile name) (λ there. FileThere there) (λ r. ap (option_map (OfSecond (RemoveFile name))) (file_there_told r))
+      (λ some r ends. file_was_removed g is.world.valid some (array_of W t) shape room name r ends)
 
   -- THE TREE STORE
   put_goes : (key value : List ℕ) → Goes the_files Q n W notes c (TreePut key value) (Some t) (tree_put_step W t key value)
   unfolding tree_put_step
   put_goes key value =
-      foreign_in_store the_files files_second Q n W notes is c (TreePut key value) t found (λ r. refl) W.geometry.tree _
-      (foreign_goes the_files files_second Q n W notes is c (TreePut key value) t found store_refusal (tree.put_program (tree_area g) key value) (λ done. reply.Done) (λ r. refl))
+      foreign_call the_files files_second Q n W notes is c (TreePut key value) t found store_refusal W.geometry.tree (tree.put_program (tree_area g) key value) (λ done. reply.Done) (λ r. refl)
 
   get_goes : (key : List ℕ) → Goes the_files Q n W notes c (TreeGet key) (Some t) (tree_get_step W t key)
   unfolding tree_get_step
   get_goes key =
-      foreign_in_store the_files files_second Q n W notes is c (TreeGet key) t found (λ r. refl) W.geometry.tree _
-      (foreign_goes the_files files_second Q n W notes is c (TreeGet key) t found store_refusal (tree.get_program (tree_area g) key) found_reply (λ r. refl))
+      foreign_call the_files files_second Q n W notes is c (TreeGet key) t found store_refusal W.geometry.tree (tree.get_program (tree_area g) key) found_reply (λ r. refl)
 
   delete_goes : (key : List ℕ) → Goes the_files Q n W notes c (TreeDelete key) (Some t) (tree_delete_step W t key)
   unfolding tree_delete_step
   delete_goes key =
-      foreign_in_store the_files files_second Q n W notes is c (TreeDelete key) t found (λ r. refl) W.geometry.tree _
-      (foreign_goes the_files files_second Q n W notes is c (TreeDelete key) t found store_refusal (tree.del_program (tree_area g) key) removed_reply (λ r. refl))
+      foreign_call the_files files_second Q n W notes is c (TreeDelete key) t found store_refusal W.geometry.tree (tree.del_program (tree_area g) key) removed_reply (λ r. refl)
 
   scan_goes : (from to : List ℕ) (most : ℕ) → Goes the_files Q n W notes c (TreeScan from to most) (Some t) (tree_scan_step W t from to most)
   unfolding tree_scan_step

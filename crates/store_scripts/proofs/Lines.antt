@@ -1,14 +1,14 @@
 -- What is told of transactions stays true along the lines of a script.
-use Rattle.store_scripts.proofs.Words.{AllByRecursion, ◌≡◌, ◌∙◌, sym, refl, subst, ap, ℕ, ◌-◌, ◌<◌, ◌≤◌, false, IsTrue, length, option_map, List, [], ◌∷◌, Option, Some, None, arith, Line, Op, Begin, End, Abort, Put, Read, Get, Write, Fill, Mark, Release, Takeover, Await, Group, Trim, Stat, Compact, Upgrade, HashPut, HashGet, HashDelete, TreePut, TreeGet, TreeDelete, TreeScan, Reply, Geometry, StoreError, MAX_ACCESSES, array_at, last, HasShape, after, after_leaving, end_step, mode_named, read_access, shown_to, as_step, array_of, fill_step, found_reply, get_step, hash_delete_step, hash_get_step, hash_put_step, in_transaction, mark_step, numbers, put_step, read_step, release_step, removed_reply, step, store_refusal, tree_delete_step, tree_get_step, tree_put_step, tree_scan_step, write_step, hash_area, Live, World, attached, client, held, AreLines, IsOp, IsWorld, array_shape, own_shape, live_at, step_leads, begins_by_both, BeginsWell, image_hash, CommitKeeps, CommitsKeep, Notes, OfHash, no_notes, noted, notes_after, nothing_told, told_by, all_weaker, group_step, grouped, SecondStore, second_store, FileNew, FileWrite, FileRead, FileMove, FileDelete, file_new_step, file_write_step, file_read_step, file_move_step, file_delete_step, Del, GetKey, Got, PutKey, WasPut, WasThere}
+use Rattle.store_scripts.proofs.Words.{AllByRecursion, ◌≡◌, ◌∙◌, sym, refl, subst, ap, ℕ, ◌-◌, ◌<◌, ◌≤◌, false, IsTrue, length, option_map, List, [], ◌∷◌, Option, Some, None, arith, Line, Op, Begin, End, Abort, Put, Read, Get, Write, Fill, Mark, Release, Takeover, Await, Group, Trim, Stat, Compact, Upgrade, HashPut, HashGet, HashDelete, TreePut, TreeGet, TreeDelete, TreeScan, Reply, Geometry, MAX_ACCESSES, array_at, last, HasShape, after, after_leaving, end_step, mode_named, read_access, shown_to, as_step, array_of, fill_step, found_reply, get_step, hash_delete_step, hash_get_step, hash_put_step, in_transaction, mark_step, numbers, put_step, read_step, release_step, removed_reply, step, store_refusal, tree_delete_step, tree_get_step, tree_put_step, tree_scan_step, write_step, hash_area, Live, World, attached, client, held, AreLines, IsOp, IsWorld, array_shape, own_shape, live_at, step_leads, begins_by_both, BeginsWell, image_hash, CommitKeeps, CommitsKeep, Notes, OfHash, no_notes, noted, notes_after, nothing_told, told_by, all_weaker, group_step, grouped, SecondStore, second_store, FileNew, FileWrite, FileRead, FileMove, FileDelete, file_new_step, file_write_step, file_read_step, file_move_step, file_delete_step, Del, GetKey, Got, PutKey, WasPut, WasThere}
 use Rattle.script_model.specs.declared.script.Reply.TheVariants as reply
 use Rattle.store_model.specs.HashCalls as hash
 use Rattle.store_scripts.proofs.Members.{group_next, labels_noted}
 use Rattle.store_scripts.proofs.Noted.{Goes, IsKept, IsNoted, notes_by, other_is, quiet, stays}
 use Rattle.store_scripts.proofs.Steps.{access_goes, begin_goes, in_goes, kept_of, leaves, out_goes, release_goes, switch_goes, takeover_goes, trim_goes}
-use Rattle.store_scripts.proofs.Acting.{SecondGoes, del_refused, get_refused, got_told, put_refused, there_told}
-use Rattle.store_scripts.proofs.Calls.{end_goes, hash_goes, in_store_goes, mark_goes}
+use Rattle.store_scripts.proofs.Acting.{SecondGoes, got_told, store_refused, there_told}
+use Rattle.store_scripts.proofs.Calls.{end_goes, hash_call, mark_goes}
 use Rattle.store_scripts.proofs.Locality.{hash_got, hash_was_put, hash_was_there}
-use Rattle.store_scripts.proofs.Seconds.{AreRefusals, IsSecond}
+use Rattle.store_scripts.proofs.Seconds.{IsSecond}
 
 module _ (S : SecondStore) (lawful : IsSecond S) (second : SecondGoes S) where
   module _ (Q : Type 0) (n : ℕ) (W : World) (notes : Notes S) (is : IsNoted S Q n W notes) (c : ℕ) where
@@ -25,35 +25,29 @@ module _ (S : SecondStore) (lawful : IsSecond S) (second : SecondGoes S) where
     hash_put_goes : (t : Live) (key value : List ℕ) → attached W c ≡ Some t → Goes S Q n W notes c (HashPut key value) (Some t) (hash_put_step W t key value)
     unfolding hash_put_step
     hash_put_goes t key value found =
-        let op : Op = HashPut key value in
         let told = lawful.hash_put key value in
-        let refusals : AreRefusals S StoreError op store_refusal =
-        record { store = told _; mode = told _; full = told _; error = λ e. told (store_refusal e) ∙ ap (option_map (OfHash (PutKey key value))) (put_refused e) } in
-        in_store_goes S lawful Q n W notes is c op t found store_refusal refusals W.geometry.hash _ (λ some serial.
-        hash_goes S lawful Q n W notes is c op t found store_refusal refusals (hash.put_program (hash_area g) key value) (λ done. reply.Done) (PutKey key value) (λ done. WasPut) (λ r. told reply.Done) serial
-        (λ r ends. hash_was_put S lawful g is.world.valid (array_of W t) (shape_of t found) (room t) key value r some ends))
+        hash_call S lawful Q n W notes is c (HashPut key value) t found store_refusal
+        (record { store = told _; mode = told _; full = told _; error = λ e. told (store_refusal e) ∙ ap (option_map (OfHash (PutKey key value))) (store_refused e).put })
+        W.geometry.hash (hash.put_program (hash_area g) key value) (λ done. reply.Done) (PutKey key value) (λ done. WasPut)
+        (λ r. told reply.Done) (λ some r ends. hash_was_put S lawful g is.world.valid (array_of W t) (shape_of t found) (room t) key value r some ends)
 
     hash_get_goes : (t : Live) (key : List ℕ) → attached W c ≡ Some t → Goes S Q n W notes c (HashGet key) (Some t) (hash_get_step W t key)
     unfolding hash_get_step
     hash_get_goes t key found =
-        let op : Op = HashGet key in
         let told = lawful.hash_get key in
-        let refusals : AreRefusals S StoreError op store_refusal =
-        record { store = told _; mode = told _; full = told _; error = λ e. told (store_refusal e) ∙ ap (option_map (OfHash (GetKey key))) (get_refused e) } in
-        in_store_goes S lawful Q n W notes is c op t found store_refusal refusals W.geometry.hash _ (λ some serial.
-        hash_goes S lawful Q n W notes is c op t found store_refusal refusals (hash.get_program (hash_area g) key) found_reply (GetKey key) (λ value. Got value) (λ r. told (found_reply r) ∙ ap (option_map (OfHash (GetKey key))) (got_told r)) serial
-        (λ r ends. hash_got S lawful g is.world.valid (array_of W t) (shape_of t found) (room t) key r some ends))
+        hash_call S lawful Q n W notes is c (HashGet key) t found store_refusal
+        (record { store = told _; mode = told _; full = told _; error = λ e. told (store_refusal e) ∙ ap (option_map (OfHash (GetKey key))) (store_refused e).get })
+        W.geometry.hash (hash.get_program (hash_area g) key) found_reply (GetKey key) (λ value. Got value)
+        (λ r. told (found_reply r) ∙ ap (option_map (OfHash (GetKey key))) (got_told r)) (λ some r ends. hash_got S lawful g is.world.valid (array_of W t) (shape_of t found) (room t) key r some ends)
 
     hash_delete_goes : (t : Live) (key : List ℕ) → attached W c ≡ Some t → Goes S Q n W notes c (HashDelete key) (Some t) (hash_delete_step W t key)
     unfolding hash_delete_step
     hash_delete_goes t key found =
-        let op : Op = HashDelete key in
         let told = lawful.hash_delete key in
-        let refusals : AreRefusals S StoreError op store_refusal =
-        record { store = told _; mode = told _; full = told _; error = λ e. told (store_refusal e) ∙ ap (option_map (OfHash (Del key))) (del_refused e) } in
-        in_store_goes S lawful Q n W notes is c op t found store_refusal refusals W.geometry.hash _ (λ some serial.
-        hash_goes S lawful Q n W notes is c op t found store_refusal refusals (hash.del_program (hash_area g) key) removed_reply (Del key) (λ there. WasThere there) (λ r. told (removed_reply r) ∙ ap (option_map (OfHash (Del key))) (there_told r)) serial
-        (λ r ends. hash_was_there S lawful g is.world.valid (array_of W t) (shape_of t found) (room t) key r some ends))
+        hash_call S lawful Q n W notes is c (HashDelete key) t found store_refusal
+        (record { store = told _; mode = told _; full = told _; error = λ e. told (store_refusal e) ∙ ap (option_map (OfHash (Del key))) (store_refused e).del })
+        W.geometry.hash (hash.del_program (hash_area g) key) removed_reply (Del key) (λ there. WasThere there)
+        (λ r. told (removed_reply r) ∙ ap (option_map (OfHash (Del key))) (there_told r)) (λ some r ends. hash_was_there S lawful g is.world.valid (array_of W t) (shape_of t found) (room t) key r some ends)
 
     put_goes : (t : Live) (block off : ℕ) (bytes : List ℕ) → attached W c ≡ Some t → Goes S Q n W notes c (Put block off bytes) (Some t) (put_step W t block off bytes)
     unfolding put_step

@@ -1,5 +1,5 @@
 -- A program of a store's call that answered Ok is local for its store, and spares the other.
-use Rattle.store_scripts.proofs.Words.{◌≡◌, ◌≢◌, refl, ap, subst, ℕ, zero, suc, ◌+◌, ◌<◌, ◌&&◌, Bool, true, false, cond, IsTrue, List, length, Option, Some, Result, Ok, Err, arith, and_parts, Access, Geometry, Area, BadKey, BadValue, Array, is_valid, is_key, is_value, IsHashRegion, Pairs, del_op, get_op, hash_map, put_op, HasShape, block_at, hash_area, tree_area, Done, IsLocal, Program, accesses_of, answer_of, outcome, IsTreeRegion, scan_op, tree_map, limits, hash_area_is, tree_area_is, outcome_whole, Del, Found, Got, WasPut, WasThere, OnKey, Scan, AreApart, reads_spare, spare_where_apart, writes_within, IfAny, image_hash, pairs_if_any, SecondStore, second_store, the_tree, MapStore, sym, ◌∙◌}
+use Rattle.store_scripts.proofs.Words.{◌≡◌, ◌≢◌, refl, ap, subst, ℕ, zero, suc, ◌+◌, ◌<◌, ◌&&◌, Bool, true, false, cond, IsTrue, List, length, Option, Some, Result, Ok, Err, arith, and_parts, Access, Geometry, Area, BadKey, BadValue, Array, is_valid, is_key, is_value, IsHashRegion, Pairs, del_op, get_op, hash_map, put_op, HasShape, block_at, hash_area, tree_area, Done, IsLocal, Program, accesses_of, answer_of, outcome, IsTreeRegion, scan_op, tree_map, limits, hash_area_is, tree_area_is, outcome_whole, Del, Found, Got, WasPut, WasThere, OnKey, Scan, AreApart, SpareRegion, KeyCall, StoreAnswer, key_act, reads_spare, spare_where_apart, writes_within, IfAny, image_hash, pairs_if_any, SecondStore, second_store, the_tree, MapStore, sym, ◌∙◌}
 use Rattle.store_model.specs.HashCalls as hash
 use Rattle.store_model.specs.TreeCalls as tree
 use Rattle.iso_hash.proofs.Changes as hash_changes
@@ -68,6 +68,19 @@ turned s t apart = λ b has. not_both (s.has_block b) (t.has_block b) (apart b) 
     not_both true y other is = absurd (let e : true ≡ false = sym is ∙ other refl in cc)
     not_both false y other is = refl
 
+-- a call that answered Ok, by what its program does
+pub hash_call_is : {E R : Type 0} (S : SecondStore) (g : Geometry) (call : KeyCall) (B : Array) (room : ℕ) (p : Program (Result R E)) (r : R) (answer : StoreAnswer) → (outcome room p B).1 ≡ Some (Ok r)
+    → (answer_of p B ≡ Ok r → IsLocal (image_hash g).IsWellFormed (image_hash g).map_of (key_act call) B (accesses_of p B) answer) → SpareRegion (second_store S g) (accesses_of p B) → IsHashCall S g call B (outcome room p B).0 answer
+hash_call_is S g call B room p r answer is local spare =
+    let whole = outcome_whole room p B (Ok r) is in
+    subst (λ (done : List Access). IsHashCall S g call B done answer) whole.accesses_are (record { local = local whole.answer_is; spare = spare })
+
+pub second_call_is : {E R : Type 0} (S : SecondStore) (g : Geometry) (call : S.Call) (B : Array) (room : ℕ) (p : Program (Result R E)) (r : R) (answer : S.Answer) → (outcome room p B).1 ≡ Some (Ok r)
+    → (answer_of p B ≡ Ok r → IsLocal (second_store S g).IsWellFormed (second_store S g).map_of (S.act call) B (accesses_of p B) answer) → SpareRegion (image_hash g) (accesses_of p B) → IsSecondCall S g call B (outcome room p B).0 answer
+second_call_is S g call B room p r answer is local spare =
+    let whole = outcome_whole room p B (Ok r) is in
+    subst (λ (done : List Access). IsSecondCall S g call B done answer) whole.accesses_are (record { local = local whole.answer_is; spare = spare })
+
 -- THE HASH STORE
 module _ (S : SecondStore) (lawful : IsSecond S) (g : Geometry) (valid : IsTrue (is_valid g)) (B : Array) (shape : HasShape g B) (room : ℕ) where
   hash_blocks : (k : ℕ) → k < g.hash → length (block_at B (0 + k)) ≡ g.block
@@ -76,41 +89,27 @@ module _ (S : SecondStore) (lawful : IsSecond S) (g : Geometry) (valid : IsTrue 
   pub hash_got : (key : List ℕ) (r : Option (List ℕ)) → g.hash ≢ 0 → (outcome room (hash.get_program (hash_area g) key) B).1 ≡ Some (Ok r)
       → IsHashCall S g (Get key) B (outcome room (hash.get_program (hash_area g) key) B).0 (Got r)
   hash_got key r some is =
-      let a = hash_area g in
-      let p = hash.get_program a key in
-      let whole = outcome_whole room p B (Ok r) is in
-      subst (λ (done : List Access). IsHashCall S g (Get key) B done (Got r)) whole.accesses_are (record {
-        local = if_local g.hash (IsHashRegion a) (hash_map a) (λ value. Got value) (get_op key) B (accesses_of p B) r some
-            (hash_gets.get_local a key B r (hash_area_is g valid some) (hash_get_key a key B r whole.answer_is) whole.answer_is);
-        spare = reads_spare (second_store S g) (accesses_of p B) (hash_gets.get_reads a key B);
-      })
+      hash_call_is S g (Get key) B room (hash.get_program (hash_area g) key) r (Got r) is
+      (λ answered. if_local g.hash (IsHashRegion (hash_area g)) (hash_map (hash_area g)) (λ value. Got value) (get_op key) B _ r some
+      (hash_gets.get_local (hash_area g) key B r (hash_area_is g valid some) (hash_get_key (hash_area g) key B r answered) answered))
+      (reads_spare (second_store S g) _ (hash_gets.get_reads (hash_area g) key B))
 
   pub hash_was_put : (key value : List ℕ) (r : Unit {0}) → g.hash ≢ 0 → (outcome room (hash.put_program (hash_area g) key value) B).1 ≡ Some (Ok r)
       → IsHashCall S g (Put key value) B (outcome room (hash.put_program (hash_area g) key value) B).0 WasPut
   hash_was_put key value r some is =
-      let a = hash_area g in
-      let p = hash.put_program a key value in
-      let whole = outcome_whole room p B (Ok r) is in
-      let area = hash_area_is g valid some in
-      let right = hash_put_key a key value B r whole.answer_is in
-      subst (λ (done : List Access). IsHashCall S g (Put key value) B done WasPut) whole.accesses_are (record {
-        local = if_local g.hash (IsHashRegion a) (hash_map a) (λ done. WasPut) (put_op key value) B (accesses_of p B) r some
-            (hash_changes.put_local a key value B r area right.0 right.1 hash_blocks whole.answer_is);
-        spare = spare_where_apart (image_hash g) (second_store S g) (accesses_of p B) (lawful.apart g valid) (writes_within (image_hash g) p B (hash_writes.put_program_stores a key value area));
-      })
+      hash_call_is S g (Put key value) B room (hash.put_program (hash_area g) key value) r WasPut is
+      (λ answered.
+      let right = hash_put_key (hash_area g) key value B r answered in
+      if_local g.hash (IsHashRegion (hash_area g)) (hash_map (hash_area g)) (λ done. WasPut) (put_op key value) B _ r some (hash_changes.put_local (hash_area g) key value B r (hash_area_is g valid some) right.0 right.1 hash_blocks answered))
+      (spare_where_apart (image_hash g) (second_store S g) _ (lawful.apart g valid) (writes_within (image_hash g) (hash.put_program (hash_area g) key value) B (hash_writes.put_program_stores (hash_area g) key value (hash_area_is g valid some))))
 
   pub hash_was_there : (key : List ℕ) (r : Bool) → g.hash ≢ 0 → (outcome room (hash.del_program (hash_area g) key) B).1 ≡ Some (Ok r)
       → IsHashCall S g (Del key) B (outcome room (hash.del_program (hash_area g) key) B).0 (WasThere r)
   hash_was_there key r some is =
-      let a = hash_area g in
-      let p = hash.del_program a key in
-      let whole = outcome_whole room p B (Ok r) is in
-      let area = hash_area_is g valid some in
-      subst (λ (done : List Access). IsHashCall S g (Del key) B done (WasThere r)) whole.accesses_are (record {
-        local = if_local g.hash (IsHashRegion a) (hash_map a) (λ there. WasThere there) (del_op key) B (accesses_of p B) r some
-            (hash_changes.del_local a key B r area (hash_del_key a key B r whole.answer_is) hash_blocks whole.answer_is);
-        spare = spare_where_apart (image_hash g) (second_store S g) (accesses_of p B) (lawful.apart g valid) (writes_within (image_hash g) p B (hash_writes.del_program_stores a key area));
-      })
+      hash_call_is S g (Del key) B room (hash.del_program (hash_area g) key) r (WasThere r) is
+      (λ answered. if_local g.hash (IsHashRegion (hash_area g)) (hash_map (hash_area g)) (λ there. WasThere there) (del_op key) B _ r some
+      (hash_changes.del_local (hash_area g) key B r (hash_area_is g valid some) (hash_del_key (hash_area g) key B r answered) hash_blocks answered))
+      (spare_where_apart (image_hash g) (second_store S g) _ (lawful.apart g valid) (writes_within (image_hash g) (hash.del_program (hash_area g) key) B (hash_writes.del_program_stores (hash_area g) key (hash_area_is g valid some))))
 
 -- THE TREE STORE
 module _ (g : Geometry) (valid : IsTrue (is_valid g)) (B : Array) (shape : HasShape g B) (room : ℕ) where
@@ -123,50 +122,32 @@ module _ (g : Geometry) (valid : IsTrue (is_valid g)) (B : Array) (shape : HasSh
   pub tree_got : (key : List ℕ) (r : Option (List ℕ)) → g.tree ≢ 0 → (outcome room (tree.get_program (tree_area g) key) B).1 ≡ Some (Ok r)
       → IsSecondCall the_tree g (OnKey (Get key)) B (outcome room (tree.get_program (tree_area g) key) B).0 (Got r)
   tree_got key r some is =
-      let a = tree_area g in
-      let p = tree.get_program a key in
-      let whole = outcome_whole room p B (Ok r) is in
-      subst (λ (done : List Access). IsSecondCall the_tree g (OnKey (Get key)) B done (Got r)) whole.accesses_are (record {
-        local = if_local g.tree (IsTreeRegion a) (tree_map a) (λ value. Got value) (get_op key) B (accesses_of p B) r some
-            (tree_gets.get_local a key B r (tree_get_key a key B r whole.answer_is) whole.answer_is);
-        spare = reads_spare (image_hash g) (accesses_of p B) (tree_gets.get_reads a key B);
-      })
+      second_call_is the_tree g (OnKey (Get key)) B room (tree.get_program (tree_area g) key) r (Got r) is
+      (λ answered. if_local g.tree (IsTreeRegion (tree_area g)) (tree_map (tree_area g)) (λ value. Got value) (get_op key) B _ r some (tree_gets.get_local (tree_area g) key B r (tree_get_key (tree_area g) key B r answered) answered))
+      (reads_spare (image_hash g) _ (tree_gets.get_reads (tree_area g) key B))
 
   pub tree_was_put : (key value : List ℕ) (r : Unit {0}) → g.tree ≢ 0 → (outcome room (tree.put_program (tree_area g) key value) B).1 ≡ Some (Ok r)
       → IsSecondCall the_tree g (OnKey (Put key value)) B (outcome room (tree.put_program (tree_area g) key value) B).0 WasPut
   tree_was_put key value r some is =
-      let a = tree_area g in
-      let p = tree.put_program a key value in
-      let whole = outcome_whole room p B (Ok r) is in
-      let area = tree_area_is g valid some in
-      let right = tree_put_key a key value B r whole.answer_is in
-      subst (λ (done : List Access). IsSecondCall the_tree g (OnKey (Put key value)) B done WasPut) whole.accesses_are (record {
-        local = if_local g.tree (IsTreeRegion a) (tree_map a) (λ done. WasPut) (put_op key value) B (accesses_of p B) r some
-            (tree_puts.put_local a key value B r area right.0 right.1 tree_blocks whole.answer_is);
-        spare = spare_where_apart (second_store the_tree g) (image_hash g) (accesses_of p B) apart_too (writes_within (second_store the_tree g) p B (tree_writes.put_program_stores a key value area));
-      })
+      second_call_is the_tree g (OnKey (Put key value)) B room (tree.put_program (tree_area g) key value) r WasPut is
+      (λ answered.
+      let right = tree_put_key (tree_area g) key value B r answered in
+      if_local g.tree (IsTreeRegion (tree_area g)) (tree_map (tree_area g)) (λ done. WasPut) (put_op key value) B _ r some (tree_puts.put_local (tree_area g) key value B r (tree_area_is g valid some) right.0 right.1 tree_blocks answered))
+      (spare_where_apart (second_store the_tree g) (image_hash g) _ apart_too (writes_within (second_store the_tree g) (tree.put_program (tree_area g) key value) B (tree_writes.put_program_stores (tree_area g) key value (tree_area_is g valid some))))
 
   pub tree_was_there : (key : List ℕ) (r : Bool) → g.tree ≢ 0 → (outcome room (tree.del_program (tree_area g) key) B).1 ≡ Some (Ok r)
       → IsSecondCall the_tree g (OnKey (Del key)) B (outcome room (tree.del_program (tree_area g) key) B).0 (WasThere r)
   tree_was_there key r some is =
-      let a = tree_area g in
-      let p = tree.del_program a key in
-      let whole = outcome_whole room p B (Ok r) is in
-      subst (λ (done : List Access). IsSecondCall the_tree g (OnKey (Del key)) B done (WasThere r)) whole.accesses_are (record {
-        local = if_local g.tree (IsTreeRegion a) (tree_map a) (λ there. WasThere there) (del_op key) B (accesses_of p B) r some
-            (tree_dels.del_local a key B r (tree_area_is g valid some) (tree_del_key a key B r whole.answer_is) tree_blocks whole.answer_is);
-        spare = spare_where_apart (second_store the_tree g) (image_hash g) (accesses_of p B) apart_too (writes_within (second_store the_tree g) p B (tree_writes.del_program_stores a key));
-      })
+      second_call_is the_tree g (OnKey (Del key)) B room (tree.del_program (tree_area g) key) r (WasThere r) is
+      (λ answered. if_local g.tree (IsTreeRegion (tree_area g)) (tree_map (tree_area g)) (λ there. WasThere there) (del_op key) B _ r some
+      (tree_dels.del_local (tree_area g) key B r (tree_area_is g valid some) (tree_del_key (tree_area g) key B r answered) tree_blocks answered))
+      (spare_where_apart (second_store the_tree g) (image_hash g) _ apart_too (writes_within (second_store the_tree g) (tree.del_program (tree_area g) key) B (tree_writes.del_program_stores (tree_area g) key)))
 
   pub tree_found : (from to : List ℕ) (most : ℕ) (r : List (List ℕ × List ℕ)) → g.tree ≢ 0 → (outcome room (tree.scan_program (tree_area g) from to most) B).1 ≡ Some (Ok r)
       → IsSecondCall the_tree g (Scan from to most) B (outcome room (tree.scan_program (tree_area g) from to most) B).0 (Found r)
   tree_found from to most r some is =
-      let a = tree_area g in
-      let p = tree.scan_program a from to most in
-      let whole = outcome_whole room p B (Ok r) is in
-      let right = tree_scan_keys a from to most B r whole.answer_is in
-      subst (λ (done : List Access). IsSecondCall the_tree g (Scan from to most) B done (Found r)) whole.accesses_are (record {
-        local = if_local g.tree (IsTreeRegion a) (tree_map a) (λ pairs. Found pairs) (scan_op from to most) B (accesses_of p B) r some
-            (tree_scans.scan_local a from to most B r right.0 right.1 whole.answer_is);
-        spare = reads_spare (image_hash g) (accesses_of p B) (tree_scans.program_reads a from to most B);
-      })
+      second_call_is the_tree g (Scan from to most) B room (tree.scan_program (tree_area g) from to most) r (Found r) is
+      (λ answered.
+      let right = tree_scan_keys (tree_area g) from to most B r answered in
+      if_local g.tree (IsTreeRegion (tree_area g)) (tree_map (tree_area g)) (λ pairs. Found pairs) (scan_op from to most) B _ r some (tree_scans.scan_local (tree_area g) from to most B r right.0 right.1 answered))
+      (reads_spare (image_hash g) _ (tree_scans.program_reads (tree_area g) from to most B))

@@ -2,9 +2,9 @@
 use Rattle.store_scripts.proofs.Words.{◌≡◌, refl, ap, ℕ, ◌-◌, ◌==◌, ◌&&◌, length, option_map, List, [], ◌∷◌, Option, Some, Bool, Op, TreePut, TreeGet, TreeDelete, TreeScan, FileNew, FileWrite, FileRead, FileMove, FileDelete, Geometry, MAX_ACCESSES, StoreError, array_at, array_shape, own_shape, live_at, HasShape, array_of, file_refusal, found_reply, pairs_reply, removed_reply, store_refusal, tree_delete_step, tree_get_step, tree_put_step, tree_scan_step, file_new_step, file_write_step, file_read_step, file_move_step, file_delete_step, file_blocks, files_area, tree_area, is_key, Live, World, attached, OnKey, Scan, Notes, OfSecond, answered, the_tree, create_program, read_program, remove_program, rename_program, write_program, Del, WasFound, GetKey, Got, PutKey, WasPut, WasThere}
 use Rattle.script_model.specs.declared.script.Reply.TheVariants as reply
 use Rattle.store_model.specs.TreeCalls as tree
-use Rattle.store_scripts.proofs.Acting.{SecondGoes, del_refused, get_refused, got_told, put_refused, scan_refused, there_told}
+use Rattle.store_scripts.proofs.Acting.{SecondGoes, got_told, store_refused, there_told}
 use Rattle.store_scripts.proofs.Blocks.{tree_second}
-use Rattle.store_scripts.proofs.Calls.{foreign_goes, foreign_in_store, in_store_goes, second_goes}
+use Rattle.store_scripts.proofs.Calls.{foreign_call, in_store_goes, second_call, second_goes}
 use Rattle.store_scripts.proofs.Locality.{tree_found, tree_got, tree_was_put, tree_was_there}
 use Rattle.store_scripts.proofs.Noted.{Goes, IsNoted, choose, stays}
 use Rattle.store_scripts.proofs.Seconds.{AreRefusals}
@@ -32,39 +32,33 @@ module _ (Q : Type 0) (n : ℕ) (W : World) (notes : Notes the_tree) (is : IsNot
   put_goes : (key value : List ℕ) → Goes the_tree Q n W notes c (TreePut key value) (Some t) (tree_put_step W t key value)
   unfolding tree_put_step
   put_goes key value =
-      let op : Op = TreePut key value in
-      let refusals : AreRefusals the_tree StoreError op store_refusal =
-      record { store = refl; mode = refl; full = refl; error = λ e. ap (option_map (OfSecond (OnKey (PutKey key value)))) (put_refused e) } in
-      in_store_goes the_tree tree_second Q n W notes is c op t found store_refusal refusals W.geometry.tree _ (λ some serial.
-      second_goes the_tree tree_second Q n W notes is c op t found store_refusal refusals (tree.put_program (tree_area g) key value) (λ done. reply.Done) (OnKey (PutKey key value)) (λ done. WasPut) (λ r. refl) serial
-      (λ r ends. tree_was_put g is.world.valid (array_of W t) shape room key value r some ends))
+      second_call the_tree tree_second Q n W notes is c (TreePut key value) t found store_refusal
+      (record { store = refl; mode = refl; full = refl; error = λ e. ap (option_map (OfSecond (OnKey (PutKey key value)))) (store_refused e).put })
+      W.geometry.tree (tree.put_program (tree_area g) key value) (λ done. reply.Done) (OnKey (PutKey key value)) (λ done. WasPut) (λ r. refl)
+      (λ some r ends. tree_was_put g is.world.valid (array_of W t) shape room key value r some ends)
 
   get_goes : (key : List ℕ) → Goes the_tree Q n W notes c (TreeGet key) (Some t) (tree_get_step W t key)
   unfolding tree_get_step
   get_goes key =
-      let op : Op = TreeGet key in
-      let refusals : AreRefusals the_tree StoreError op store_refusal =
-      record { store = refl; mode = refl; full = refl; error = λ e. ap (option_map (OfSecond (OnKey (GetKey key)))) (get_refused e) } in
-      in_store_goes the_tree tree_second Q n W notes is c op t found store_refusal refusals W.geometry.tree _ (λ some serial.
-      second_goes the_tree tree_second Q n W notes is c op t found store_refusal refusals (tree.get_program (tree_area g) key) found_reply (OnKey (GetKey key)) (λ value. Got value) (tree_got_named key) serial
-      (λ r ends. tree_got g is.world.valid (array_of W t) shape room key r some ends))
+      second_call the_tree tree_second Q n W notes is c (TreeGet key) t found store_refusal
+      (record { store = refl; mode = refl; full = refl; error = λ e. ap (option_map (OfSecond (OnKey (GetKey key)))) (store_refused e).get })
+      W.geometry.tree (tree.get_program (tree_area g) key) found_reply (OnKey (GetKey key)) (λ value. Got value) (tree_got_named key)
+      (λ some r ends. tree_got g is.world.valid (array_of W t) shape room key r some ends)
 
   delete_goes : (key : List ℕ) → Goes the_tree Q n W notes c (TreeDelete key) (Some t) (tree_delete_step W t key)
   unfolding tree_delete_step
   delete_goes key =
-      let op : Op = TreeDelete key in
-      let refusals : AreRefusals the_tree StoreError op store_refusal =
-      record { store = refl; mode = refl; full = refl; error = λ e. ap (option_map (OfSecond (OnKey (Del key)))) (del_refused e) } in
-      in_store_goes the_tree tree_second Q n W notes is c op t found store_refusal refusals W.geometry.tree _ (λ some serial.
-      second_goes the_tree tree_second Q n W notes is c op t found store_refusal refusals (tree.del_program (tree_area g) key) removed_reply (OnKey (Del key)) (λ there. WasThere there) (tree_there_named key) serial
-      (λ r ends. tree_was_there g is.world.valid (array_of W t) shape room key r some ends))
+      second_call the_tree tree_second Q n W notes is c (TreeDelete key) t found store_refusal
+      (record { store = refl; mode = refl; full = refl; error = λ e. ap (option_map (OfSecond (OnKey (Del key)))) (store_refused e).del })
+      W.geometry.tree (tree.del_program (tree_area g) key) removed_reply (OnKey (Del key)) (λ there. WasThere there) (tree_there_named key)
+      (λ some r ends. tree_was_there g is.world.valid (array_of W t) shape room key r some ends)
 
   scan_goes : (from to : List ℕ) (most : ℕ) → Goes the_tree Q n W notes c (TreeScan from to most) (Some t) (tree_scan_step W t from to most)
   unfolding tree_scan_step
   scan_goes from to most =
       let op : Op = TreeScan from to most in
       let refusals : AreRefusals the_tree StoreError op store_refusal =
-      record { store = refl; mode = refl; full = refl; error = λ e. ap (option_map (OfSecond (Scan from to most))) (scan_refused e) } in
+      record { store = refl; mode = refl; full = refl; error = λ e. ap (option_map (OfSecond (Scan from to most))) (store_refused e).scan } in
       in_store_goes the_tree tree_second Q n W notes is c op t found store_refusal refusals W.geometry.tree _ (λ some serial.
       choose the_tree Q n W notes c op (Some t) (is_key from && is_key to && (most == 0)) _ _ (stays the_tree Q n W notes is c op (Some t) reply.BadRange refl) (λ good.
       second_goes the_tree tree_second Q n W notes is c op t found store_refusal refusals (tree.scan_program (tree_area g) from to most) pairs_reply (Scan from to most) (λ pairs. WasFound pairs) (found_named from to most) serial
@@ -74,32 +68,27 @@ module _ (Q : Type 0) (n : ℕ) (W : World) (notes : Notes the_tree) (is : IsNot
   make_goes : (name : List ℕ) → Goes the_tree Q n W notes c (FileNew name) (Some t) (file_new_step W t name)
   unfolding file_new_step
   make_goes name =
-      foreign_in_store the_tree tree_second Q n W notes is c (FileNew name) t found (λ r. refl) (file_blocks g) _
-      (foreign_goes the_tree tree_second Q n W notes is c (FileNew name) t found file_refusal (create_program (files_area g) name) (λ done. reply.Done) (λ r. refl))
+      foreign_call the_tree tree_second Q n W notes is c (FileNew name) t found file_refusal (file_blocks g) (create_program (files_area g) name) (λ done. reply.Done) (λ r. refl)
 
   write_goes : (name : List ℕ) (off : ℕ) (bytes : List ℕ) → Goes the_tree Q n W notes c (FileWrite name off bytes) (Some t) (file_write_step W t name off bytes)
   unfolding file_write_step
   write_goes name off bytes =
-      foreign_in_store the_tree tree_second Q n W notes is c (FileWrite name off bytes) t found (λ r. refl) (file_blocks g) _
-      (foreign_goes the_tree tree_second Q n W notes is c (FileWrite name off bytes) t found file_refusal (write_program (files_area g) name off bytes) removed_reply (λ r. refl))
+      foreign_call the_tree tree_second Q n W notes is c (FileWrite name off bytes) t found file_refusal (file_blocks g) (write_program (files_area g) name off bytes) removed_reply (λ r. refl)
 
   read_goes : (name : List ℕ) (off len : ℕ) → Goes the_tree Q n W notes c (FileRead name off len) (Some t) (file_read_step W t name off len)
   unfolding file_read_step
   read_goes name off len =
-      foreign_in_store the_tree tree_second Q n W notes is c (FileRead name off len) t found (λ r. refl) (file_blocks g) _
-      (foreign_goes the_tree tree_second Q n W notes is c (FileRead name off len) t found file_refusal (read_program (files_area g) name off len) found_reply (λ r. refl))
+      foreign_call the_tree tree_second Q n W notes is c (FileRead name off len) t found file_refusal (file_blocks g) (read_program (files_area g) name off len) found_reply (λ r. refl)
 
   move_goes : (from to : List ℕ) → Goes the_tree Q n W notes c (FileMove from to) (Some t) (file_move_step W t from to)
   unfolding file_move_step
   move_goes from to =
-      foreign_in_store the_tree tree_second Q n W notes is c (FileMove from to) t found (λ r. refl) (file_blocks g) _
-      (foreign_goes the_tree tree_second Q n W notes is c (FileMove from to) t found file_refusal (rename_program (files_area g) from to) removed_reply (λ r. refl))
+      foreign_call the_tree tree_second Q n W notes is c (FileMove from to) t found file_refusal (file_blocks g) (rename_program (files_area g) from to) removed_reply (λ r. refl)
 
   remove_goes : (name : List ℕ) → Goes the_tree Q n W notes c (FileDelete name) (Some t) (file_delete_step W t name)
   unfolding file_delete_step
   remove_goes name =
-      foreign_in_store the_tree tree_second Q n W notes is c (FileDelete name) t found (λ r. refl) (file_blocks g) _
-      (foreign_goes the_tree tree_second Q n W notes is c (FileDelete name) t found file_refusal (remove_program (files_area g) name) removed_reply (λ r. refl))
+      foreign_call the_tree tree_second Q n W notes is c (FileDelete name) t found file_refusal (file_blocks g) (remove_program (files_area g) name) removed_reply (λ r. refl)
 
 pub tree_goes : SecondGoes the_tree
 tree_goes Q n W notes is c (TreePut key value) t calls found = put_goes Q n W notes is c t found key value

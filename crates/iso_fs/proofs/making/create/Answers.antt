@@ -1,7 +1,8 @@
-use Rattle.iso_fs.proofs.Words.{◌∙◌, sym, subst, FileAreas, create_program, HasRun, areas_of}
+use Rattle.iso_fs.proofs.Words.{◌∙◌, sym, create_program, areas_of}
 use Rattle.iso_fs.proofs.Ended.{no_memory}
 use Rattle.iso_fs.proofs.Existing.{create_exists}
 use Rattle.iso_fs.proofs.CreateSteps.{bad_name, create_call, create_has}
+use Rattle.iso_fs.proofs.Parts.{first_area}
 use Rattle.iso_fs.proofs.making.create.Goals as goal
 
 pub returns-then-not-is_key-clause-ended : goal.returns-then-not-is_key-clause-ended
@@ -15,11 +16,14 @@ returns-in-Err-clause-ended g c =
     let a = areas_of (state c.args.tx.now) c.args.at in
     no_memory (create_program a c.args.name.now) (state c.args.tx.now) c.in-Err.e c.in-Err.ensures.memory (create_has a c.args.name.now (sym c.is_key.ensures ∙ c.if-not-is_key.false))
 
+pub create_with-requires-clause-holds : goal.create_with-requires-clause-holds
+create_with-requires-clause-holds g c = first_area _ c.args.at c.areas_of-a.ensures c.requires.areas (g.met.T.TxBlocks.limits c.args.tx.now) c.requires.fits
+
 pub returns-clause-local : goal.returns-clause-local
 returns-clause-local g c =
     let state = g.T.TxBlocks.state in
     create_call (state c.args.tx.now) (state c.create_with.new.tx) c.args.at c.args.name.now c.create_with.result (g.met.T.TxBlocks.limits c.args.tx.now) c.requires.areas c.requires.fits (sym c.is_key.ensures ∙ c.if-not-is_key.false)
-    (subst (λ (a : FileAreas). HasRun (create_program a c.args.name.now) (state c.args.tx.now) (state c.create_with.new.tx) c.create_with.result) c.areas_of-a.ensures c.create_with.ensures.run)
+    (rw c.areas_of-a.ensures at c.create_with.ensures.run)
 
 pub returns-then-not-is_key-clause-exists : goal.returns-then-not-is_key-clause-exists
 returns-then-not-is_key-clause-exists g c = λ key.
@@ -38,4 +42,4 @@ pub returns-clause-exists : goal.returns-clause-exists
 returns-clause-exists g c = λ key.
     let state = g.T.TxBlocks.state in
     create_exists (areas_of (state c.args.tx.now) c.args.at) c.args.name.now (state c.args.tx.now) (state c.create_with.new.tx) c.create_with.result key
-    (subst (λ (a : FileAreas). HasRun (create_program a c.args.name.now) (state c.args.tx.now) (state c.create_with.new.tx) c.create_with.result) c.areas_of-a.ensures c.create_with.ensures.run)
+    (rw c.areas_of-a.ensures at c.create_with.ensures.run)

@@ -1,40 +1,21 @@
-use Rattle.iso_fs.proofs.Words.{◌∙◌, arith, read_blocks, read_size, store_cause}
-use Rattle.store_model.specs.declared.files.FsError.TheVariants as fs
-use Rattle.iso_fs.proofs.CreateSteps.{got_refused, got_run}
-use Rattle.iso_fs.proofs.Ended.{behaves_after, refused_so}
+use Rattle.iso_fs.proofs.Words.{arith, get_program, create_new}
+use Rattle.iso_fs.proofs.CreateSteps.{create_as}
+use Rattle.iso_fs.proofs.Finding.{get_has}
+use Rattle.iso_fs.proofs.Parts.{area_read, part_as, tree_area, tree_read, tree_stops}
 use Rattle.iso_fs.proofs.making.create_with.Goals as goal
 
-pub create_found-requires-clause-size : goal.create_found-requires-clause-size
-create_found-requires-clause-size g c =
-    let state = g.T.TxBlocks.state in
-    read_size (state c.args.tx.now) (state c.value_of.new.tx) c.value_of.ensures.reads ∙ c.requires.size
+pub value_of-requires-clause-holds : goal.value_of-requires-clause-holds
+value_of-requires-clause-holds g c = tree_area c.requires.areas c.requires.holds
 
-pub create_found-requires-clause-fits : goal.create_found-requires-clause-fits
-create_found-requires-clause-fits g c =
-    let state = g.T.TxBlocks.state in
-    let same = read_blocks (state c.args.tx.now) (state c.value_of.new.tx) c.value_of.ensures.reads in
-    omega (arith, same, c.requires.fits)
+pub create_found-requires-clause-holds : goal.create_found-requires-clause-holds
+create_found-requires-clause-holds g c = area_read c.value_of.ensures.reads c.requires.holds
 
-pub returns-in-Ok-clause-run : goal.returns-in-Ok-clause-run
-returns-in-Ok-clause-run g c =
-    let state = g.T.TxBlocks.state in
-    got_run c.args.a c.args.name.now c.requires.name (state c.args.tx.now) (state c.value_of.new.tx) _ (state c.create_found.new.tx) c.create_found.result c.in-Ok.ensures.ended c.create_found.ensures.run
+pub returns-in-Ok : goal.returns-in-Ok
+returns-in-Ok g c =
+    part_as (create_as c.args.a c.args.name.now c.requires.name)
+    (tree_read (get_program c.args.a.tree c.args.name.now) (create_new c.args.a c.args.name.now) c.in-Ok.ensures.ended c.value_of.ensures.reads c.value_of.ensures.later c.in-Ok.ensures.passed c.create_found.ensures)
 
-pub returns-in-Ok-clause-behaves : goal.returns-in-Ok-clause-behaves
-returns-in-Ok-clause-behaves g c =
-    let state = g.T.TxBlocks.state in
-    let device = g.T.TxBlocks.device in
-    behaves_after (state c.args.tx.now) (state c.value_of.new.tx) (state c.create_found.new.tx) 66 (device c.args.tx.now) (device c.value_of.new.tx) (device c.create_found.new.tx) c.create_found.result
-    c.value_of.ensures.reads c.value_of.ensures.later c.in-Ok.ensures.passed c.create_found.ensures.behaves
-
-pub returns-in-Err-clause-run : goal.returns-in-Err-clause-run
-returns-in-Err-clause-run g c =
-    let state = g.T.TxBlocks.state in
-    got_refused c.args.a c.args.name.now c.requires.name (state c.args.tx.now) (state c.value_of.new.tx) c.in-Err.e c.in-Err.ensures.ended
-
-pub returns-in-Err-clause-behaves : goal.returns-in-Err-clause-behaves
-returns-in-Err-clause-behaves g c =
-    let state = g.T.TxBlocks.state in
-    let device = g.T.TxBlocks.device in
-    refused_so (state c.args.tx.now) (state c.value_of.new.tx) 66 (device c.args.tx.now) (device c.value_of.new.tx) (fs.Store c.in-Err.e) c.value_of.ensures.reads
-    (store_cause (state c.value_of.new.tx) 1 66 (device c.args.tx.now) (device c.value_of.new.tx) c.in-Err.e (omega arith) c.in-Err.ensures.cause) (λ x. cc) c.value_of.ensures.later
+pub returns-in-Err : goal.returns-in-Err
+returns-in-Err g c =
+    part_as (create_as c.args.a c.args.name.now c.requires.name)
+    (tree_stops (get_program c.args.a.tree c.args.name.now) (create_new c.args.a c.args.name.now) (get_has c.args.a.tree c.args.name.now c.requires.name) c.in-Err.ensures.ended c.value_of.ensures.reads (omega arith) c.in-Err.ensures.cause c.value_of.ensures.later)

@@ -1,33 +1,21 @@
-use Rattle.iso_fs.proofs.Words.{◌∙◌, ap, arith, Tx}
-use Rattle.iso_fs.proofs.CreateSteps.{named_refused, named_run}
-use Rattle.iso_fs.proofs.Ended.{behaves_written, refused_tree}
+use Rattle.iso_fs.proofs.Words.{ap, sym, refl, empty_writes, put_program}
+use Rattle.iso_fs.proofs.CreateSteps.{naming}
+use Rattle.iso_fs.proofs.Finding.{put_has}
+use Rattle.iso_fs.proofs.Parts.{area_stays, part_as, put_stops, tree_area, tree_wrote}
 use Rattle.iso_fs.proofs.making.name_file.Goals as goal
 
-pub store_file-requires-clause-size : goal.store_file-requires-clause-size
-store_file-requires-clause-size g c = ap (λ (t : Tx). t.size) c.in-Ok.ensures.ended.is ∙ c.requires.size
+pub put_value-requires-clause-holds : goal.put_value-requires-clause-holds
+put_value-requires-clause-holds g c = tree_area c.requires.areas c.requires.holds
 
-pub store_file-requires-clause-fits : goal.store_file-requires-clause-fits
-store_file-requires-clause-fits g c = let same = ap (λ (t : Tx). t.blocks) c.in-Ok.ensures.ended.is in omega (arith, same, c.requires.fits)
+pub store_file-requires-clause-holds : goal.store_file-requires-clause-holds
+store_file-requires-clause-holds g c = area_stays _ c.in-Ok.ensures.ended.is c.requires.holds
 
-pub returns-in-Ok-clause-run : goal.returns-in-Ok-clause-run
-returns-in-Ok-clause-run g c =
-    let state = g.T.TxBlocks.state in
-    named_run c.args.a c.args.name.now c.args.block c.args.byte c.spelled.result c.spelled.ensures (state c.args.tx.now) (state c.put_value.new.tx) (state c.store_file.new.tx) tt c.store_file.result c.in-Ok.ensures.ended c.store_file.ensures.run
+pub returns-in-Ok : goal.returns-in-Ok
+returns-in-Ok g c =
+    part_as (ap (naming c.args.a c.args.name.now c.args.block c.args.byte) (sym c.spelled.ensures))
+    (tree_wrote (put_program c.args.a.tree c.args.name.now c.spelled.result) (λ put. empty_writes c.args.a c.args.block c.args.byte) c.in-Ok.ensures.ended c.in-Ok.ensures.later c.in-Ok.ensures.passed c.store_file.ensures.of_tx c.store_file.ensures.part)
 
-pub returns-in-Ok-clause-behaves : goal.returns-in-Ok-clause-behaves
-returns-in-Ok-clause-behaves g c =
-    let state = g.T.TxBlocks.state in
-    let device = g.T.TxBlocks.device in
-    behaves_written (state c.args.tx.now) (state c.put_value.new.tx) (state c.store_file.new.tx) 66 66 (device c.args.tx.now) (device c.put_value.new.tx) (device c.store_file.new.tx) c.store_file.result (omega arith)
-    c.store_file.ensures.of_tx c.in-Ok.ensures.later c.in-Ok.ensures.passed c.store_file.ensures.behaves
-
-pub returns-in-Err-clause-run : goal.returns-in-Err-clause-run
-returns-in-Err-clause-run g c =
-    let state = g.T.TxBlocks.state in
-    named_refused c.args.a c.args.name.now c.args.block c.args.byte c.spelled.result c.spelled.ensures (state c.args.tx.now) (state c.put_value.new.tx) c.in-Err.e c.requires.name c.in-Err.ensures.ended
-
-pub returns-in-Err-clause-behaves : goal.returns-in-Err-clause-behaves
-returns-in-Err-clause-behaves g c =
-    let state = g.T.TxBlocks.state in
-    let device = g.T.TxBlocks.device in
-    refused_tree (state c.args.tx.now) (state c.put_value.new.tx) (device c.args.tx.now) (device c.put_value.new.tx) c.in-Err.e c.in-Err.ensures.unwritten c.in-Err.ensures.cause c.in-Err.ensures.later
+pub returns-in-Err : goal.returns-in-Err
+returns-in-Err g c =
+    part_as (ap (naming c.args.a c.args.name.now c.args.block c.args.byte) (sym c.spelled.ensures))
+    (put_stops (put_program c.args.a.tree c.args.name.now c.spelled.result) (λ put. empty_writes c.args.a c.args.block c.args.byte) (λ memory. put_has c.args.a.tree c.args.name.now c.spelled.result c.requires.name (rw c.spelled.ensures refl)) c.in-Err.ensures.ended c.in-Err.ensures.unwritten c.in-Err.ensures.cause c.in-Err.ensures.later)

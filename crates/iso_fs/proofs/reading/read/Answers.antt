@@ -1,5 +1,6 @@
 use Rattle.iso_fs.proofs.Words.{◌∙◌, sym, ap, ℕ, List, Ok, option_map, take, with_items_is, read_program, areas_of}
 use Rattle.iso_fs.proofs.Ended.{no_memory}
+use Rattle.iso_fs.proofs.Parts.{first_area}
 use Rattle.iso_fs.proofs.ReadSteps.{read_answer, read_bad_name, read_bad_range, read_call, read_has}
 use Rattle.iso_fs.proofs.reading.read.Goals as goal
 
@@ -20,29 +21,18 @@ returns-in-Err-clause-ended g c =
     no_memory (read_program a c.args.name.now c.args.off c.args.len) (state c.args.tx.now) c.in-Err.e c.in-Err.ensures.memory
     (read_has a c.args.name.now c.args.off c.args.len (sym c.is_key.ensures ∙ c.if-not-is_key.false) (sym c.is_many.ensures ∙ c.if-not-is_many.false))
 
-pub returns-in-Err-buffer-clause-ended : goal.returns-in-Err-buffer-clause-ended
-returns-in-Err-buffer-clause-ended g c =
-    let state = g.T.TxBlocks.state in
-    let a = areas_of (state c.args.tx.now) c.args.at in
-    no_memory (read_program a c.args.name.now c.args.off c.args.len) (state c.args.tx.now) c.in-Err-buffer.e c.in-Err-buffer.ensures.memory
-    (read_has a c.args.name.now c.args.off c.args.len (sym c.is_key.ensures ∙ c.if-not-is_key.false) (sym c.is_many.ensures ∙ c.if-not-is_many.false))
-
-pub returns-in-Err-buffer-2-clause-ended : goal.returns-in-Err-buffer-2-clause-ended
-returns-in-Err-buffer-2-clause-ended g c =
-    let state = g.T.TxBlocks.state in
-    let a = areas_of (state c.args.tx.now) c.args.at in
-    no_memory (read_program a c.args.name.now c.args.off c.args.len) (state c.args.tx.now) c.in-Err-buffer-2.e c.in-Err-buffer-2.ensures.memory
-    (read_has a c.args.name.now c.args.off c.args.len (sym c.is_key.ensures ∙ c.if-not-is_key.false) (sym c.is_many.ensures ∙ c.if-not-is_many.false))
+pub read_with-requires-clause-holds : goal.read_with-requires-clause-holds
+read_with-requires-clause-holds g c = first_area _ c.args.at c.areas_of-a.ensures c.requires.areas (g.met.T.TxBlocks.limits c.args.tx.now) c.requires.fits
 
 pub returns-in-Ok-read_with-clause-ended : goal.returns-in-Ok-read_with-clause-ended
 returns-in-Ok-read_with-clause-ended g c =
     let state = g.T.TxBlocks.state in
     read_answer c.areas_of-a.result (areas_of (state c.args.tx.now) c.args.at) c.args.name.now c.args.off c.args.len (state c.args.tx.now) (state c.read_with.new.tx) c.in-Ok-read_with.found c.read_with.new.room c.bytes_read.result c.areas_of-a.ensures
-    (c.bytes_read.ensures ∙ ap (λ (xs : List ℕ). option_map (λ n. take n xs) c.in-Ok-read_with.found) (with_items_is c.in-Ok-buffer-2.room c.read_with.new.room (c.read_with.auto.room ∙ c.deref_mut-3.ensures.len))) c.in-Ok-read_with.ensures.run
+    (c.bytes_read.ensures ∙ ap (λ (xs : List ℕ). option_map (λ n. take n xs) c.in-Ok-read_with.found) (with_items_is c.in-Ok.all.2 c.read_with.new.room (c.read_with.auto.room ∙ c.deref_mut-3.ensures.len))) c.in-Ok-read_with.ensures.part.run
 
 pub returns-in-Ok-read_with-clause-local : goal.returns-in-Ok-read_with-clause-local
 returns-in-Ok-read_with-clause-local g c =
     let state = g.T.TxBlocks.state in
     read_call (state c.args.tx.now) (state c.read_with.new.tx) c.args.at c.args.name.now c.args.off c.args.len (Ok c.bytes_read.result) c.requires.areas (sym c.is_key.ensures ∙ c.if-not-is_key.false) (sym c.is_many.ensures ∙ c.if-not-is_many.false)
     (read_answer c.areas_of-a.result (areas_of (state c.args.tx.now) c.args.at) c.args.name.now c.args.off c.args.len (state c.args.tx.now) (state c.read_with.new.tx) c.in-Ok-read_with.found c.read_with.new.room c.bytes_read.result c.areas_of-a.ensures
-    (c.bytes_read.ensures ∙ ap (λ (xs : List ℕ). option_map (λ n. take n xs) c.in-Ok-read_with.found) (with_items_is c.in-Ok-buffer-2.room c.read_with.new.room (c.read_with.auto.room ∙ c.deref_mut-3.ensures.len))) c.in-Ok-read_with.ensures.run)
+    (c.bytes_read.ensures ∙ ap (λ (xs : List ℕ). option_map (λ n. take n xs) c.in-Ok-read_with.found) (with_items_is c.in-Ok.all.2 c.read_with.new.room (c.read_with.auto.room ∙ c.deref_mut-3.ensures.len))) c.in-Ok-read_with.ensures.part.run)

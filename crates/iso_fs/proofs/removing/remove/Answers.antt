@@ -1,6 +1,7 @@
-use Rattle.iso_fs.proofs.Words.{◌∙◌, sym, subst, FileAreas, remove_program, HasRun, areas_of}
+use Rattle.iso_fs.proofs.Words.{◌∙◌, sym, remove_program, areas_of}
 use Rattle.iso_fs.proofs.Ended.{no_memory}
 use Rattle.iso_fs.proofs.RemoveSteps.{remove_bad, remove_call, remove_has}
+use Rattle.iso_fs.proofs.Parts.{first_area}
 use Rattle.iso_fs.proofs.removing.remove.Goals as goal
 
 pub returns-then-not-is_key-clause-ended : goal.returns-then-not-is_key-clause-ended
@@ -14,20 +15,11 @@ returns-in-Err-clause-ended g c =
     let a = areas_of (state c.args.tx.now) c.args.at in
     no_memory (remove_program a c.args.name.now) (state c.args.tx.now) c.in-Err.e c.in-Err.ensures.memory (remove_has a c.args.name.now (sym c.is_key.ensures ∙ c.if-not-is_key.false))
 
-pub returns-in-Err-buffer-clause-ended : goal.returns-in-Err-buffer-clause-ended
-returns-in-Err-buffer-clause-ended g c =
-    let state = g.T.TxBlocks.state in
-    let a = areas_of (state c.args.tx.now) c.args.at in
-    no_memory (remove_program a c.args.name.now) (state c.args.tx.now) c.in-Err-buffer.e c.in-Err-buffer.ensures.memory (remove_has a c.args.name.now (sym c.is_key.ensures ∙ c.if-not-is_key.false))
-
-pub returns-in-Err-buffer-2-clause-ended : goal.returns-in-Err-buffer-2-clause-ended
-returns-in-Err-buffer-2-clause-ended g c =
-    let state = g.T.TxBlocks.state in
-    let a = areas_of (state c.args.tx.now) c.args.at in
-    no_memory (remove_program a c.args.name.now) (state c.args.tx.now) c.in-Err-buffer-2.e c.in-Err-buffer-2.ensures.memory (remove_has a c.args.name.now (sym c.is_key.ensures ∙ c.if-not-is_key.false))
+pub remove_with-requires-clause-holds : goal.remove_with-requires-clause-holds
+remove_with-requires-clause-holds g c = first_area _ c.args.at c.areas_of-a.ensures c.requires.areas (g.met.T.TxBlocks.limits c.args.tx.now) c.requires.fits
 
 pub returns-clause-local : goal.returns-clause-local
 returns-clause-local g c =
     let state = g.T.TxBlocks.state in
     remove_call (state c.args.tx.now) (state c.remove_with.new.tx) c.args.at c.args.name.now c.remove_with.result (g.met.T.TxBlocks.limits c.args.tx.now) c.requires.areas c.requires.fits (sym c.is_key.ensures ∙ c.if-not-is_key.false)
-    (subst (λ (a : FileAreas). HasRun (remove_program a c.args.name.now) (state c.args.tx.now) (state c.remove_with.new.tx) c.remove_with.result) c.areas_of-a.ensures c.remove_with.ensures.run)
+    (rw c.areas_of-a.ensures at c.remove_with.ensures.run)

@@ -1,40 +1,14 @@
-use Rattle.iso_fs.proofs.Words.{◌∙◌, arith, false, Err, remove_file, read_blocks, read_size}
-use Rattle.iso_fs.proofs.Ended.{behaves_after}
-use Rattle.iso_fs.proofs.Finding.{goes, goes_refused}
-use Rattle.iso_fs.proofs.RemoveSteps.{remove_run}
+use Rattle.iso_fs.proofs.Words.{false, remove_file}
+use Rattle.iso_fs.proofs.Finding.{found_part, found_stops}
+use Rattle.iso_fs.proofs.Parts.{area_read, part_as}
+use Rattle.iso_fs.proofs.RemoveSteps.{remove_as}
 use Rattle.iso_fs.proofs.removing.remove_with.Goals as goal
 
-pub remove_found-requires-clause-size : goal.remove_found-requires-clause-size
-remove_found-requires-clause-size g c =
-    let state = g.T.TxBlocks.state in
-    read_size (state c.args.tx.now) (state c.find.new.tx) c.find.ensures.reads ∙ c.requires.size
+pub remove_found-requires-clause-holds : goal.remove_found-requires-clause-holds
+remove_found-requires-clause-holds g c = area_read c.find.ensures.reads c.requires.holds
 
-pub remove_found-requires-clause-fits : goal.remove_found-requires-clause-fits
-remove_found-requires-clause-fits g c =
-    let state = g.T.TxBlocks.state in
-    let same = read_blocks (state c.args.tx.now) (state c.find.new.tx) c.find.ensures.reads in
-    omega (arith, same, c.requires.fits)
+pub returns-in-Ok : goal.returns-in-Ok
+returns-in-Ok g c = part_as (remove_as c.args.a c.args.name.now c.requires.name) (found_part c.args.a c.args.name.now false (remove_file c.args.a c.args.name.now) c.in-Ok.ensures.part c.find.ensures.reads c.remove_found.ensures)
 
-pub returns-in-Ok-clause-run : goal.returns-in-Ok-clause-run
-returns-in-Ok-clause-run g c =
-    let state = g.T.TxBlocks.state in
-    remove_run c.args.a c.args.name.now (state c.args.tx.now) (state c.remove_found.new.tx) c.remove_found.result c.requires.name
-    (goes c.args.a c.args.name.now false (remove_file c.args.a c.args.name.now) (state c.args.tx.now) (state c.find.new.tx) c.find.new.file c.in-Ok.found (state c.remove_found.new.tx) c.remove_found.result c.in-Ok.ensures.run c.remove_found.ensures.run)
-
-pub returns-in-Ok-clause-behaves : goal.returns-in-Ok-clause-behaves
-returns-in-Ok-clause-behaves g c =
-    let state = g.T.TxBlocks.state in
-    let device = g.T.TxBlocks.device in
-    behaves_after (state c.args.tx.now) (state c.find.new.tx) (state c.remove_found.new.tx) 1 (device c.args.tx.now) (device c.find.new.tx) (device c.remove_found.new.tx) c.remove_found.result
-    c.find.ensures.reads c.in-Ok.ensures.behaves.later c.in-Ok.ensures.behaves.passed c.remove_found.ensures.behaves
-
-pub returns-in-Err-clause-run : goal.returns-in-Err-clause-run
-returns-in-Err-clause-run g c =
-    let state = g.T.TxBlocks.state in
-    remove_run c.args.a c.args.name.now (state c.args.tx.now) (state c.find.new.tx) (Err c.in-Err.e) c.requires.name
-    (goes_refused c.args.a c.args.name.now false (remove_file c.args.a c.args.name.now) (state c.args.tx.now) (state c.find.new.tx) c.in-Err.e c.in-Err.ensures.run)
-
-pub returns-in-Err-clause-behaves : goal.returns-in-Err-clause-behaves
-returns-in-Err-clause-behaves g c =
-    let b = c.in-Err.ensures.behaves in
-    record { cause = b.cause; unwritten = b.unwritten; known = b.known; later = b.later; passed = tt }
+pub returns-in-Err : goal.returns-in-Err
+returns-in-Err g c = part_as (remove_as c.args.a c.args.name.now c.requires.name) (found_stops c.args.a c.args.name.now false (remove_file c.args.a c.args.name.now) c.in-Err.ensures.part)

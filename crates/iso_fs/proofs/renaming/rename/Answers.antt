@@ -1,5 +1,6 @@
-use Rattle.iso_fs.proofs.Words.{◌≡◌, ◌∙◌, ◌&&◌, sym, subst, true, false, FileAreas, is_key, rename_program, HasRun, areas_of}
+use Rattle.iso_fs.proofs.Words.{◌≡◌, ◌∙◌, ◌&&◌, refl, sym, true, false, is_key, areas_of}
 use Rattle.iso_fs.proofs.Existing.{rename_exists}
+use Rattle.iso_fs.proofs.Parts.{first_area, tree_area}
 use Rattle.iso_fs.proofs.RenameSteps.{old_bad, new_bad, rename_bad, rename_call}
 use Rattle.iso_fs.proofs.renaming.rename.Goals as goal
 use Rattle.iso_fs.proofs.renaming.rename.Goals.{then-not-is_key-via-then-not-is_key, then-not-is_key-via-else-not-is_key+then-not-is_key-2}
@@ -13,12 +14,15 @@ returns-then-not-is_key-clause-ended g c =
     ] in
     rename_bad (areas_of (state c.args.tx.now) c.args.at) c.args.old.now c.args.new.now (state c.args.tx.now) bad
 
+pub rename_in-requires-clause-holds : goal.rename_in-requires-clause-holds
+rename_in-requires-clause-holds g c = rw c.areas_of-a.ensures (tree_area c.requires.areas (first_area _ c.args.at refl c.requires.areas (g.met.T.TxBlocks.limits c.args.tx.now) c.requires.fits))
+
 pub returns-clause-local : goal.returns-clause-local
 returns-clause-local g c =
     let state = g.T.TxBlocks.state in
     rename_call (state c.args.tx.now) (state c.rename_in.new.tx) c.args.at c.args.old.now c.args.new.now c.rename_in.result (g.met.T.TxBlocks.limits c.args.tx.now) c.requires.areas c.requires.fits (sym c.is_key.ensures ∙ c.if-not-is_key.false)
     (sym c.is_key-else-not-is_key.ensures ∙ c.if-not-is_key-2.false)
-    (subst (λ (a : FileAreas). HasRun (rename_program a c.args.old.now c.args.new.now) (state c.args.tx.now) (state c.rename_in.new.tx) c.rename_in.result) c.areas_of-a.ensures c.rename_in.ensures.run)
+    (rw c.areas_of-a.ensures at c.rename_in.ensures.run)
 
 pub returns-then-not-is_key-clause-exists : goal.returns-then-not-is_key-clause-exists
 returns-then-not-is_key-clause-exists g c = λ keys.
@@ -32,4 +36,4 @@ pub returns-clause-exists : goal.returns-clause-exists
 returns-clause-exists g c = λ keys.
     let state = g.T.TxBlocks.state in
     rename_exists (areas_of (state c.args.tx.now) c.args.at) c.args.old.now c.args.new.now (state c.args.tx.now) (state c.rename_in.new.tx) c.rename_in.result keys
-    (subst (λ (a : FileAreas). HasRun (rename_program a c.args.old.now c.args.new.now) (state c.args.tx.now) (state c.rename_in.new.tx) c.rename_in.result) c.areas_of-a.ensures c.rename_in.ensures.run)
+    (rw c.areas_of-a.ensures at c.rename_in.ensures.run)

@@ -1,4 +1,4 @@
-use Rattle.iso_fs.proofs.Words.{◌≡◌, ◌∙◌, ◌+◌, ◌++◌, ◌∷◌, [], sym, ap, ℕ, List, length, take, arith, append_assoc, length-append, take_at_read, length-take-le, file_block}
+use Rattle.iso_fs.proofs.Words.{◌∙◌, ◌++◌, ◌∷◌, [], sym, ap, ℕ, List, length, take, arith, append_assoc, length-append, take_at_read, length-take-le, file_block}
 use Rattle.iso_fs.proofs.sized.add_news.Goals as goal
 
 pub loop-i-preserved : goal.loop-i-preserved

@@ -1,10 +1,11 @@
 use Rattle.iso_fs.proofs.Words.{◌∙◌, sym, subst, arith, ℕ, ◌<◌, ◌-◌}
-use Rattle.iso_fs.proofs.WriteSteps.{news_below, number_new, number_old, old_below, old_fits}
+use Rattle.iso_fs.proofs.Files.{data_fits}
+use Rattle.iso_fs.proofs.WriteSteps.{news_below, number_new, number_old, old_below}
 use Rattle.iso_fs.proofs.storing.number_at.Goals as goal
 
 pub entry_at-requires : goal.entry_at-requires
 entry_at-requires c =
-    let fits = old_fits c.args.area c.args.file.now c.requires.file c.requires.least in
+    let fits = data_fits c.args.area c.args.file.now c.requires.file c.requires.least in
     let below = c.if-place-old.true in
     omega (arith, fits, below, c.requires.old, c.requires.long)
 

@@ -11,11 +11,7 @@ returns-in-Ok-clause-run g c =
     (c.lay_alone.ensures ∙ ap (λ (n : ℕ). block_with n c.piece_mark-span.result.off (take c.piece_mark-span.result.len c.args.bytes.now)) c.requires.into) refl (g.met.T.TxBlocks.limits c.store_piece.new.tx) c.in-Ok.ensures.stored
 
 pub returns-in-Ok-clause-behaves : goal.returns-in-Ok-clause-behaves
-returns-in-Ok-clause-behaves g c =
-    let state = g.T.TxBlocks.state in
-    let device = g.T.TxBlocks.device in
-    let same = c.in-Ok.ensures.device in
-    done_so (state c.args.tx.now) (state c.store_piece.new.tx) 1 (device c.args.tx.now) (device c.store_piece.new.tx) _ (later_same (device c.args.tx.now) (device c.store_piece.new.tx) same) (ap (λ (d : Device). d.faults) same)
+returns-in-Ok-clause-behaves g c = done_so _ _ 1 _ _ _ (later_same _ _ c.in-Ok.ensures.device) (ap (λ (d : Device). d.faults) c.in-Ok.ensures.device)
 
 pub returns-in-Err-clause-refused : goal.returns-in-Err-clause-refused
 returns-in-Err-clause-refused g c =
@@ -25,7 +21,4 @@ returns-in-Err-clause-refused g c =
     λ most. piece_refused c.args.area E c.args.old c.args.from c.args.to c.args.bytes.now c.requires.less (state c.args.tx.now) (state c.store_piece.new.tx) (device c.args.tx.now) (device c.store_piece.new.tx) c.in-Err.e c.in-Err.ensures.kept c.in-Err.ensures.cause most
 
 pub returns-in-Err-clause-behaves : goal.returns-in-Err-clause-behaves
-returns-in-Err-clause-behaves g c =
-    let state = g.T.TxBlocks.state in
-    let device = g.T.TxBlocks.device in
-    refused_store (state c.args.tx.now) (state c.store_piece.new.tx) 1 (device c.args.tx.now) (device c.store_piece.new.tx) c.in-Err.e (omega arith) c.in-Err.ensures.cause c.in-Err.ensures.device
+returns-in-Err-clause-behaves g c = refused_store _ _ 1 _ _ c.in-Err.e (omega arith) c.in-Err.ensures.cause c.in-Err.ensures.device

@@ -1,6 +1,7 @@
-use Rattle.iso_fs.proofs.Words.{◌∙◌, sym, subst, FileAreas, write_program, HasRun, areas_of}
+use Rattle.iso_fs.proofs.Words.{◌∙◌, sym, write_program, areas_of}
 use Rattle.iso_fs.proofs.Ended.{no_memory}
 use Rattle.iso_fs.proofs.WriteSteps.{write_bad_name, write_bad_range, write_call, write_has}
+use Rattle.iso_fs.proofs.Parts.{first_area}
 use Rattle.iso_fs.proofs.writing.write.Goals as goal
 
 pub returns-then-not-is_key-clause-ended : goal.returns-then-not-is_key-clause-ended
@@ -20,22 +21,11 @@ returns-in-Err-clause-ended g c =
     no_memory (write_program a c.args.name.now c.args.off c.args.bytes.now) (state c.args.tx.now) c.in-Err.e c.in-Err.ensures.memory
     (write_has a c.args.name.now c.args.off c.args.bytes.now (sym c.is_key.ensures ∙ c.if-not-is_key.false) (sym c.is_many.ensures ∙ c.if-not-is_many.false))
 
-pub returns-in-Err-buffer-clause-ended : goal.returns-in-Err-buffer-clause-ended
-returns-in-Err-buffer-clause-ended g c =
-    let state = g.T.TxBlocks.state in
-    let a = areas_of (state c.args.tx.now) c.args.at in
-    no_memory (write_program a c.args.name.now c.args.off c.args.bytes.now) (state c.args.tx.now) c.in-Err-buffer.e c.in-Err-buffer.ensures.memory
-    (write_has a c.args.name.now c.args.off c.args.bytes.now (sym c.is_key.ensures ∙ c.if-not-is_key.false) (sym c.is_many.ensures ∙ c.if-not-is_many.false))
-
-pub returns-in-Err-buffer-2-clause-ended : goal.returns-in-Err-buffer-2-clause-ended
-returns-in-Err-buffer-2-clause-ended g c =
-    let state = g.T.TxBlocks.state in
-    let a = areas_of (state c.args.tx.now) c.args.at in
-    no_memory (write_program a c.args.name.now c.args.off c.args.bytes.now) (state c.args.tx.now) c.in-Err-buffer-2.e c.in-Err-buffer-2.ensures.memory
-    (write_has a c.args.name.now c.args.off c.args.bytes.now (sym c.is_key.ensures ∙ c.if-not-is_key.false) (sym c.is_many.ensures ∙ c.if-not-is_many.false))
+pub write_with-requires-clause-holds : goal.write_with-requires-clause-holds
+write_with-requires-clause-holds g c = first_area _ c.args.at c.areas_of-a.ensures c.requires.areas (g.met.T.TxBlocks.limits c.args.tx.now) c.requires.fits
 
 pub returns-clause-local : goal.returns-clause-local
 returns-clause-local g c =
     let state = g.T.TxBlocks.state in
     write_call (state c.args.tx.now) (state c.write_with.new.tx) c.args.at c.args.name.now c.args.off c.args.bytes.now c.write_with.result (g.met.T.TxBlocks.limits c.args.tx.now) c.requires.areas c.requires.fits (sym c.is_key.ensures ∙ c.if-not-is_key.false) (sym c.is_many.ensures ∙ c.if-not-is_many.false)
-    (subst (λ (a : FileAreas). HasRun (write_program a c.args.name.now c.args.off c.args.bytes.now) (state c.args.tx.now) (state c.write_with.new.tx) c.write_with.result) c.areas_of-a.ensures c.write_with.ensures.run)
+    (rw c.areas_of-a.ensures at c.write_with.ensures.run)
