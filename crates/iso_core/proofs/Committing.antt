@@ -1,50 +1,21 @@
 -- The steps of a commit: what is kept, and the disk, between two of them.
-use Rattle.iso_core.proofs.Words.{◌≡◌, ◌≢◌, ◌∙◌, sym, refl, ap, ℕ, ◌+◌, ◌-◌, ◌<◌, ◌≤◌, Bool, true, List, [], ◌∷◌, ◌++◌, length, arith, subst, length_push, Extent, DiskState, IsLawful, IsSettled, LeavesOnly, at_end, Half, IsHeld, MayFollow, half_of_world, next_gate, with_records, extent_of, LAST, CoreReply, image_size, last, after_commit, after_leaving, need, commit_from, World, Live, unattached, used, IsWorld, commits, Doing, Kept, AreOf, IsGrownBy, IsPrepared, IsSpelled, MayCommit, written_of, IsOf, up, down, ShowsEither}
-use Rattle.iso_model.specs.declared.core_reply.CoreReply.TheVariants as reply
+use Rattle.iso_core.proofs.Words.{◌≡◌, ◌≢◌, ◌∙◌, sym, refl, ap, ℕ, ◌+◌, ◌-◌, ◌≤◌, Bool, true, List, [], ◌∷◌, ◌++◌, length, arith, subst, length_push, Extent, DiskState, IsLawful, IsSettled, LeavesOnly, at_end, Half, IsHeld, MayFollow, half_of_world, next_gate, with_records, extent_of, LAST, image_size, last, after_commit, after_leaving, need, commit_from, World, Live, unattached, used, IsWorld, commits, Doing, Kept, AreOf, IsGrownBy, IsPrepared, IsSpelled, MayCommit, written_of, IsOf, up, down, ShowsEither}
 use Rattle.iso_core.proofs.Commits.{next_half}
 use Rattle.iso_core.proofs.Leaves.{has_begun}
 use Rattle.iso_core.proofs.Moments.{record_needs}
-use Rattle.iso_core.proofs.Numbers.{log_last, log_room, log_used}
-use Rattle.iso_core.proofs.Prepares.{follows}
-use Rattle.iso_core.proofs.Standings.{stands_on}
+use Rattle.iso_core.proofs.Numbers.{log_room, log_used}
+use Rattle.iso_core.proofs.Standings.{kept_with, stands_on}
 
 -- other things that are kept change, and the core stands as before
 pub keeps_stand : (d : DiskState) (kept new : Kept) (W : World) → AreOf d kept W up → IsOf new W → new.half ≡ kept.half → new.down ≡ kept.down → AreOf d new W up
 keeps_stand d kept new W of is half down_is = stands_on d kept new W up W.live W.next W.trim of half down_is is
 
 pub buffer_on : (kept : Kept) (W : World) (new : Kept) → IsOf kept W → new ≡ record kept { buffer = new.buffer; parts = new.parts } → IsOf new W
-buffer_on kept W new of is = subst (λ (k : Kept). IsOf k W) (sym is) (record {
-  world = of.world;
-  keeps = record {
-    geometry = of.keeps.geometry;
-    half = of.keeps.half;
-    generation = of.keeps.generation;
-    base = of.keeps.base;
-    trim = of.keeps.trim;
-    next = of.keeps.next;
-    log = of.keeps.log;
-    index = of.keeps.index;
-    notes = of.keeps.notes;
-    live = of.keeps.live;
-  };
-})
+buffer_on kept W new of is =
+    subst (λ (k : Kept). IsOf k W) (sym is) (kept_with kept (record kept { buffer = new.buffer; parts = new.parts }) W of of.keeps.index of.keeps.notes)
 
 pub down_on : (kept : Kept) (W : World) (b : Bool) → IsOf kept W → IsOf (record kept { down = b }) W
-down_on kept W b of = record {
-  world = of.world;
-  keeps = record {
-    geometry = of.keeps.geometry;
-    half = of.keeps.half;
-    generation = of.keeps.generation;
-    base = of.keeps.base;
-    trim = of.keeps.trim;
-    next = of.keeps.next;
-    log = of.keeps.log;
-    index = of.keeps.index;
-    notes = of.keeps.notes;
-    live = of.keeps.live;
-  };
-}
+down_on kept W b of = kept_with kept (record kept { down = b }) W of of.keeps.index of.keeps.notes
 
 pub spelled_stage : (d : DiskState) (kept new : Kept) (W : World) → AreOf d kept W up → new ≡ record kept { buffer = new.buffer; parts = new.parts } → AreOf d new W up
 spelled_stage d kept new W of is =
@@ -99,13 +70,6 @@ grown_by W tx t kept new gate writes of is work may next prepared may_follow gat
       gate_is = gate_is;
     })
 
-module _ (W : World) (t : Live) (answer : CoreReply × World) (is : answer ≡ (reply.Committed (last W.history + 1), after_commit W t)) where
-  pub answered : answer.0 ≡ reply.Committed (last W.history + 1)
-  answered = ap (λ (x : CoreReply × World). x.0) is
-
-  pub led : after_commit W t ≡ answer.1
-  led = sym (ap (λ (x : CoreReply × World). x.1) is)
-
 -- a core that committed
 pub committed_core : (old new : DiskState) (kept mid fin : Kept) (W : World) (t : Live) → AreOf old kept W up → IsWorld (after_commit W t) → IsOf fin (after_commit W t) → new.size ≡ old.size → IsSettled new
     → mid.half ≡ kept.half → fin.half ≡ mid.half → fin.down ≡ mid.down → mid.down ≡ kept.down
@@ -130,18 +94,3 @@ lost_core new old fin W t laws same is fin_down size run = record {
   size = sym same ∙ size;
   images = at_end laws run;
 }
-
--- all that stands once the record of a commit was appended
-pub ends_in : (W : World) (tx : ℕ) (t : Live) (kept spelled_kept prepared_kept appended : Kept) (work : Doing) (bytes : List ℕ) (number free gate : ℕ) (writes : List (ℕ × List Extent))
-    → IsOf kept W → IsOf spelled_kept W → IsOf prepared_kept W → MayCommit W tx t work → IsSpelled W t spelled_kept → IsPrepared W t prepared_kept writes
-    → bytes ≡ spelled_kept.buffer.records ++ 0 ∷ [] → free ≡ spelled_kept.log.room - spelled_kept.log.used → number ≡ kept.log.last → number < LAST → length bytes ≤ free
-    → prepared_kept.half ≡ spelled_kept.half
-    → appended ≡ record prepared_kept { log = extent_of W.geometry (with_records (written_of W t ∷ []) (half_of_world W prepared_kept.half)) }
-    → gate ≡ next_gate W.geometry (half_of_world W prepared_kept.half) → IsGrownBy W tx t appended gate writes
-ends_in W tx t kept spelled_kept prepared_kept appended work bytes number free gate writes of one two may spelled prepared bytes_are free_is number_is fresh le half is gate_is =
-    let (need_is, left) = full_log spelled_kept W t bytes free one spelled bytes_are free_is in
-    let last_of = number_is ∙ log_last kept W of.world of.keeps in
-    let next = next_world W tx t work of.world may (λ e. absurd (omega (arith, fresh, last_of, e))) (omega (arith, le, need_is, left)) in
-    let may_next = follows spelled_kept W tx t work one may spelled (fits_log spelled_kept bytes free bytes_are free_is le) in
-    grown_by W tx t prepared_kept appended gate writes two is work may next prepared
-    (subst (λ (n : ℕ). MayFollow W.geometry (half_of_world W n) (written_of W t ∷ [])) (sym half) may_next) gate_is

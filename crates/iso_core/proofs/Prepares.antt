@@ -3,31 +3,18 @@ use Rattle.iso_core.proofs.Words.{◌≡◌, ◌∙◌, sym, ap, ℕ, ◌+◌, �
 use Rattle.iso_core.proofs.Leaves.{has_begun}
 use Rattle.iso_core.proofs.Nexts.{may_follow}
 use Rattle.iso_core.proofs.Numbers.{log_last, log_used, log_room}
+use Rattle.iso_core.proofs.Standings.{kept_with}
 
 -- what is kept besides the index and the notes, which show the same
 pub keeps_on : (kept : Kept) (W : World) (index : List BlockVersions) (notes : Held) → IsOf kept W → length index ≡ length kept.index
     → ((b : ℕ) → versions_in index b ≡ versions_in kept.index b) → notes.notes ≡ kept.notes.notes → IsOf (record kept { index = index; notes = notes }) W
 keeps_on kept W index notes of blocks same noted =
     let old = of.keeps.index in
-    record {
-      world = of.world;
-      keeps = record {
-        geometry = of.keeps.geometry;
-        half = of.keeps.half;
-        generation = of.keeps.generation;
-        base = of.keeps.base;
-        trim = of.keeps.trim;
-        next = of.keeps.next;
-        log = of.keeps.log;
-        index = record { blocks = blocks ∙ old.blocks; each = λ b below. same b ∙ old.each b below };
-        notes = record {
-          from = of.keeps.notes.from;
-          before = of.keeps.notes.before;
-          notes = subst (λ (l : List Note). AreNotesAfter W.geometry W.history of.keeps.notes.from l) (sym noted) of.keeps.notes.notes;
-        };
-        live = of.keeps.live;
-      };
-    }
+    kept_with kept (record kept { index = index; notes = notes }) W of (record { blocks = blocks ∙ old.blocks; each = λ b below. same b ∙ old.each b below }) (record {
+      from = of.keeps.notes.from;
+      before = of.keeps.notes.before;
+      notes = subst (λ (l : List Note). AreNotesAfter W.geometry W.history of.keeps.notes.from l) (sym noted) of.keeps.notes.notes;
+    })
 
 module _ (kept : Kept) (W : World) (tx : ℕ) (t : Live) (work : Doing) (of : IsOf kept W) (may : MayCommit W tx t work) where
   -- the runs of the work are those of the transaction

@@ -5,6 +5,7 @@ use Rattle.iso_core.proofs.Commits.{held_records}
 use Rattle.iso_core.proofs.Leaves.{is_live, leaves_so}
 use Rattle.iso_core.proofs.Judging.{on_ok, staged_count}
 use Rattle.iso_core.proofs.Numbers.{last_is, log_last}
+use Rattle.iso_core.proofs.Standings.{kept_with}
 
 -- parts of both lists
 pub parts_both : (b : ℕ) (xs ys : List PartSpan) → parts_in b (xs ++ ys) ≡ parts_in b xs + parts_in b ys
@@ -316,26 +317,12 @@ told_so d kept W of =
 
 -- the notes above the floor are all that is needed
 pub notes_dropped : (kept : Kept) (W : World) (notes : Held) (to : ℕ) → IsOf kept W → to ≡ floor W → notes.notes ≡ above to kept.notes.notes → IsOf (record kept { notes = notes }) W
-notes_dropped kept W notes to of to_is is = record {
-  world = of.world;
-  keeps = record {
-    geometry = of.keeps.geometry;
-    half = of.keeps.half;
-    generation = of.keeps.generation;
-    base = of.keeps.base;
-    trim = of.keeps.trim;
-    next = of.keeps.next;
-    log = of.keeps.log;
-    index = of.keeps.index;
-    notes = record {
-      from = floor W;
-      before = omega arith;
-      notes = subst (λ (l : List Note). AreNotesAfter W.geometry W.history (floor W) l) (sym (is ∙ ap (λ (n : ℕ). above n kept.notes.notes) to_is))
-          (dropped_after W.geometry W.history of.keeps.notes.from (floor W) kept.notes.notes of.keeps.notes.before of.keeps.notes.notes);
-    };
-    live = of.keeps.live;
-  };
-}
+notes_dropped kept W notes to of to_is is = kept_with kept (record kept { notes = notes }) W of of.keeps.index (record {
+  from = floor W;
+  before = omega arith;
+  notes = subst (λ (l : List Note). AreNotesAfter W.geometry W.history (floor W) l) (sym (is ∙ ap (λ (n : ℕ). above n kept.notes.notes) to_is))
+      (dropped_after W.geometry W.history of.keeps.notes.from (floor W) kept.notes.notes of.keeps.notes.before of.keeps.notes.notes);
+})
 
 -- the first member's work is settled, and those of the others
 pub ready_more : {A E : Type 0} (r : Result A E) (W : World) (m n : GroupEnd) (rest others : List GroupEnd) (members : List Live) → ((t : Live) → IsMember W m t → IsReady W n t)

@@ -1,5 +1,5 @@
 -- A core whose images stay, while what it keeps in memory changes.
-use Rattle.iso_core.proofs.Words.{◌≡◌, ◌∙◌, sym, ℕ, List, false, Result, Ok, Err, IfOk, IfErr, subst, DiskState, IsLawful, WritesNothing, at_end, stays, stays_settled, World, Live, Kept, AreImages, AreOf, IsOf, Standing, up, down}
+use Rattle.iso_core.proofs.Words.{◌≡◌, ◌∙◌, sym, ℕ, ◌+◌, IsIndexOf, NotesSince, half_of_world, log_place, List, false, Result, Ok, Err, IfOk, IfErr, subst, DiskState, IsLawful, WritesNothing, at_end, stays, stays_settled, World, Live, Kept, AreImages, AreOf, IsOf, Standing, up, down}
 
 pub if_ok : {A E : Type 0} {P Q : A → Type 0} (result : Result A E) → ((x : A) → P x → Q x) → IfOk result P → IfOk result Q
 if_ok (Ok x) more is = more x is
@@ -42,3 +42,22 @@ stands_still old new kept W standing laws of still = record {
 pub up_of : (d : DiskState) (kept : Kept) (W : World) (standing : Standing) → AreOf d kept W standing → kept.down ≡ false → AreOf d kept W up
 up_of d kept W up of is = of
 up_of d kept W (down lost) of is = cc (of.is_down, is)
+
+-- what is kept with another index and other notes, and with whatever a world does not tell
+pub kept_with : (kept other : Kept) (W : World) → IsOf kept W → IsIndexOf W.geometry (W.base + 1) (log_place W.geometry kept.half) W.trim (half_of_world W kept.half).told other.index → NotesSince W other.notes
+    → IsOf (record kept { index = other.index; notes = other.notes; buffer = other.buffer; parts = other.parts; down = other.down }) W
+kept_with kept other W of index notes = record {
+  world = of.world;
+  keeps = record {
+    geometry = of.keeps.geometry;
+    half = of.keeps.half;
+    generation = of.keeps.generation;
+    base = of.keeps.base;
+    trim = of.keeps.trim;
+    next = of.keeps.next;
+    log = of.keeps.log;
+    index = index;
+    notes = notes;
+    live = of.keeps.live;
+  };
+}

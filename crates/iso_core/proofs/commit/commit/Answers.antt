@@ -1,23 +1,32 @@
-use Rattle.iso_core.proofs.Words.{◌≢◌, ◌∙◌, inr, sym, ap, ◌+◌, ◌-◌, ◌≤◌, [], ◌∷◌, length, arith, subst, Some, None, true, LeavesOnly, weakened, LAST, last, commit_step, need, World, used, Kept, AreOf, written_of, IsOf, up, ShowsEither}
+use Rattle.iso_core.proofs.Words.{◌≡◌, ◌≢◌, ◌∙◌, inr, sym, ap, ℕ, ◌+◌, ◌-◌, ◌≤◌, [], ◌∷◌, length, arith, subst, Some, None, true, LeavesOnly, weakened, MayFollow, half_of_world, next_gate, with_records, extent_of, LAST, CoreReply, last, after_commit, commit_step, need, World, Live, used, IsWorld, Kept, AreOf, IsGrownBy, IsPrepared, IsSpelled, MayCommit, written_of, IsOf, up, ShowsEither}
 use Rattle.iso_model.specs.declared.core_reply.CoreReply.TheVariants as reply
-use Rattle.iso_core.proofs.Committing.{answered, committed_core, down_on, ends_in, fits_log, full_log, led, lost_core, next_world, prepared_stage, spelled_stage}
+use Rattle.iso_core.proofs.Committing.{committed_core, down_on, fits_log, full_log, grown_by, lost_core, next_world, prepared_stage, spelled_stage}
 use Rattle.iso_core.proofs.Moments.{is_committed, is_full, is_worn, shows_either, stays_shown}
 use Rattle.iso_core.proofs.Numbers.{log_last}
+use Rattle.iso_core.proofs.Prepares.{follows}
+use Rattle.iso_core.proofs.commit.commit.Given as given
 use Rattle.iso_core.proofs.commit.commit.Goals as goal
+use Rattle.iso_core.proofs.commit.commit.Goals.{After-append, After-last-last}
+
+-- what stands before the first call
+module _ (g : given.Over) (c : After-last-last g) (W : World) (t : Live) (of : AreOf (g.D.Disk.state c.args.disk.now) c.args.kept.now W up) where
+  number : c.last-last.result ≡ last W.history
+  number = c.last-last.ensures ∙ log_last c.args.kept.now W of.kept_of.world of.kept_of.keeps
+
+  still : LeavesOnly (g.D.Disk.state c.args.disk.now) (g.D.Disk.state c.args.disk.now) (ShowsEither W (commit_step W t None).1)
+  still = stays_shown (g.D.Disk.state c.args.disk.now) (g.met.D.Disk.lawful c.args.disk.now) c.args.kept.now W (commit_step W t None).1 of
 
 pub returns-then-last-ge-LAST-clause-refused : goal.returns-then-last-ge-LAST-clause-refused
 returns-then-last-ge-LAST-clause-refused g c W t of may =
     let most : last W.history ≤ LAST = of.kept_of.world.numbers in
-    let last_of = c.last-last.ensures ∙ log_last c.args.kept.now W of.kept_of.world of.kept_of.keeps in
-    inr (inr (ap Some (sym (is_worn W t (omega (arith, c.if-last-ge-LAST.true, last_of, most))))))
+    let is = number g (goal.at.returns-then-last-ge-LAST-clause-refused g c).After-last-last W t of in
+    inr (inr (ap Some (sym (is_worn W t (omega (arith, c.if-last-ge-LAST.true, is, most))))))
 
 pub returns-then-last-ge-LAST-clause-moments : goal.returns-then-last-ge-LAST-clause-moments
-returns-then-last-ge-LAST-clause-moments g c W t of may =
-    stays_shown (g.D.Disk.state c.args.disk.now) (g.met.D.Disk.lawful c.args.disk.now) c.args.kept.now W (commit_step W t None).1 of
+returns-then-last-ge-LAST-clause-moments g c W t of may = still g (goal.at.returns-then-last-ge-LAST-clause-moments g c).After-last-last W t of
 
 pub returns-in-Err-clause-moments : goal.returns-in-Err-clause-moments
-returns-in-Err-clause-moments g c W t of may =
-    stays_shown (g.D.Disk.state c.args.disk.now) (g.met.D.Disk.lawful c.args.disk.now) c.args.kept.now W (commit_step W t None).1 of
+returns-in-Err-clause-moments g c W t of may = still g (goal.at.returns-in-Err-clause-moments g c).After-last-last W t of
 
 pub returns-in-Err-clause-same : goal.returns-in-Err-clause-same
 returns-in-Err-clause-same g c W of other = spelled_stage (g.D.Disk.state c.args.disk.now) c.args.kept.now c.spell_next.new.kept W of c.spell_next.ensures.same
@@ -42,8 +51,7 @@ append-requires-clause-next g c =
     let (W, t, of, may) = c.requires in
     let d = g.D.Disk.state c.args.disk.now in
     let stage = spelled_stage d c.args.kept.now c.spell_next.new.kept W of c.spell_next.ensures.same in
-    let spelled = c.in_default.ensures.spelled W t of.kept_of may in
-    let prepared = c.in-Ok.ensures.prepared W t stage.kept_of may spelled in
+    let prepared = c.in-Ok.ensures.prepared W t stage.kept_of may (c.in_default.ensures.spelled W t of.kept_of may) in
     (W, written_of W t ∷ [], prepared_stage d c.spell_next.new.kept c.prepare.new.kept W stage (c.prepare.ensures.same W stage.kept_of) c.prepare.ensures.rest, prepared.spelled.next)
 
 pub append-requires-clause-fits : goal.append-requires-clause-fits
@@ -56,20 +64,18 @@ returns-then-free-need-clause-refused g c W t of may =
     let stage = spelled_stage (g.D.Disk.state c.args.disk.now) c.args.kept.now c.spell_next.new.kept W of c.spell_next.ensures.same in
     let spelled = c.in_default.ensures.spelled W t of.kept_of may in
     let (need_is, free_is) = full_log c.spell_next.new.kept W t c.with_closed_gate.result.now c.from-free.result stage.kept_of spelled c.with_closed_gate.ensures (c.from-free.ensures ∙ c.free.ensures) in
-    let last_of = c.last-last.ensures ∙ log_last c.args.kept.now W of.kept_of.world of.kept_of.keeps in
+    let is = number g (goal.at.returns-then-free-need-clause-refused g c).After-last-last W t of in
     inr (inr (ap Some ((λ i. reply.LogFull (need_is i) (free_is i))
-    ∙ sym (is_full W t (λ e. absurd (omega (arith, c.if-last-ge-LAST.false, last_of, e))) (omega (arith, c.if-free-need.true, need_is, free_is))))))
+    ∙ sym (is_full W t (λ e. absurd (omega (arith, c.if-last-ge-LAST.false, is, e))) (omega (arith, c.if-free-need.true, need_is, free_is))))))
 
 pub returns-then-free-need-clause-moments : goal.returns-then-free-need-clause-moments
-returns-then-free-need-clause-moments g c W t of may =
-    stays_shown (g.D.Disk.state c.args.disk.now) (g.met.D.Disk.lawful c.args.disk.now) c.args.kept.now W (commit_step W t None).1 of
+returns-then-free-need-clause-moments g c W t of may = still g (goal.at.returns-then-free-need-clause-moments g c).After-last-last W t of
 
 pub returns-then-free-need-clause-same : goal.returns-then-free-need-clause-same
 returns-then-free-need-clause-same g c W of other = spelled_stage (g.D.Disk.state c.args.disk.now) c.args.kept.now c.spell_next.new.kept W of c.spell_next.ensures.same
 
 pub returns-in_default-prepare-clause-moments : goal.returns-in_default-prepare-clause-moments
-returns-in_default-prepare-clause-moments g c W t of may =
-    stays_shown (g.D.Disk.state c.args.disk.now) (g.met.D.Disk.lawful c.args.disk.now) c.args.kept.now W (commit_step W t None).1 of
+returns-in_default-prepare-clause-moments g c W t of may = still g (goal.at.returns-in_default-prepare-clause-moments g c).After-last-last W t of
 
 pub returns-in_default-prepare-clause-same : goal.returns-in_default-prepare-clause-same
 returns-in_default-prepare-clause-same g c W of other =
@@ -77,98 +83,91 @@ returns-in_default-prepare-clause-same g c W of other =
     let stage = spelled_stage d c.args.kept.now c.spell_next.new.kept W of c.spell_next.ensures.same in
     prepared_stage d c.spell_next.new.kept c.prepare.new.kept W stage (c.prepare.ensures.same W stage.kept_of) c.prepare.ensures.rest
 
+-- what stands once the record was appended, or was not
+module _ (g : given.Over) (c : After-append g) (W : World) (t : Live) (of : AreOf (g.D.Disk.state c.args.disk.now) c.args.kept.now W up) (may : MayCommit W c.args.tx t c.args.work.now) where
+  one : AreOf (g.D.Disk.state c.args.disk.now) c.spell_next.new.kept W up
+  one = spelled_stage (g.D.Disk.state c.args.disk.now) c.args.kept.now c.spell_next.new.kept W of c.spell_next.ensures.same
+
+  two : AreOf (g.D.Disk.state c.args.disk.now) c.prepare.new.kept W up
+  two = prepared_stage (g.D.Disk.state c.args.disk.now) c.spell_next.new.kept c.prepare.new.kept W one (c.prepare.ensures.same W one.kept_of) c.prepare.ensures.rest
+
+  spelled : IsSpelled W t c.spell_next.new.kept
+  spelled = c.in_default.ensures.spelled W t of.kept_of may
+
+  prepared : IsPrepared W t c.prepare.new.kept c.in-Ok.writes
+  prepared = c.in-Ok.ensures.prepared W t one.kept_of may spelled
+
+  number_is : c.last-last.result ≡ last W.history
+  number_is = c.last-last.ensures ∙ log_last c.args.kept.now W of.kept_of.world of.kept_of.keeps
+
+  fresh : last W.history ≢ LAST
+  fresh e = absurd (omega (arith, c.if-last-ge-LAST.false, number_is, e))
+
+  fits : need W t ≤ W.geometry.log - used W
+  fits =
+      let (need_is, free_is) = full_log c.spell_next.new.kept W t c.with_closed_gate.result.now c.from-free.result one.kept_of spelled c.with_closed_gate.ensures (c.from-free.ensures ∙ c.free.ensures) in
+      omega (arith, c.if-free-need.false, need_is, free_is)
+
+  next : IsWorld (after_commit W t)
+  next = next_world W c.args.tx t c.args.work.now of.kept_of.world may fresh fits
+
+  commits : commit_step W t None ≡ (reply.Committed (last W.history + 1), after_commit W t)
+  commits = is_committed W t fresh fits
+
+  -- once it is there, the commit may be taken in
+  grown : (gate : ℕ) → c.append.new.kept ≡ record c.prepare.new.kept { log = extent_of W.geometry (with_records (written_of W t ∷ []) (half_of_world W c.prepare.new.kept.half)) }
+      → gate ≡ next_gate W.geometry (half_of_world W c.prepare.new.kept.half) → IsGrownBy W c.args.tx t c.append.new.kept gate c.in-Ok.writes
+  grown gate log gate_is =
+      let room = fits_log c.spell_next.new.kept c.with_closed_gate.result.now c.from-free.result c.with_closed_gate.ensures (c.from-free.ensures ∙ c.free.ensures) (omega (arith, c.if-free-need.false)) in
+      let half : c.prepare.new.kept.half ≡ c.spell_next.new.kept.half = ap (λ (k : Kept). k.half) c.prepare.ensures.rest in
+      grown_by W c.args.tx t c.prepare.new.kept c.append.new.kept gate c.in-Ok.writes two.kept_of log c.args.work.now may next prepared
+      (subst (λ (n : ℕ). MayFollow W.geometry (half_of_world W n) (written_of W t ∷ [])) (sym half) (follows c.spell_next.new.kept W c.args.tx t c.args.work.now one.kept_of may spelled room)) gate_is
+
+  -- the images show the history before or after
+  run : LeavesOnly (g.D.Disk.state c.args.disk.now) (g.D.Disk.state c.append.new.disk) (ShowsEither W (after_commit W t))
+  run = weakened (c.append.ensures.moments W (written_of W t ∷ []) two prepared.spelled.next) (shows_either W t c.prepare.new.kept.half of.kept_of.world next)
+
+  shown : LeavesOnly (g.D.Disk.state c.args.disk.now) (g.D.Disk.state c.append.new.disk) (ShowsEither W (commit_step W t None).1)
+  shown = subst (λ (x : CoreReply × World). LeavesOnly (g.D.Disk.state c.args.disk.now) (g.D.Disk.state c.append.new.disk) (ShowsEither W x.1)) (sym commits) run
+
 pub take_in-requires : goal.take_in-requires
 take_in-requires g c =
     let (W, t, of, may) = c.requires in
-    let d = g.D.Disk.state c.args.disk.now in
-    let one = spelled_stage d c.args.kept.now c.spell_next.new.kept W of c.spell_next.ensures.same in
-    let spelled = c.in_default.ensures.spelled W t of.kept_of may in
-    let two = prepared_stage d c.spell_next.new.kept c.prepare.new.kept W one (c.prepare.ensures.same W one.kept_of) c.prepare.ensures.rest in
-    let prepared = c.in-Ok.ensures.prepared W t one.kept_of may spelled in (
-      W,
-      t,
-      ends_in W c.args.tx t c.args.kept.now c.spell_next.new.kept c.prepare.new.kept c.append.new.kept c.args.work.now c.with_closed_gate.result.now c.last-last.result c.from-free.result c.in-Ok-append.gate c.in-Ok.writes
-          of.kept_of one.kept_of two.kept_of may spelled prepared c.with_closed_gate.ensures (c.from-free.ensures ∙ c.free.ensures) c.last-last.ensures (omega (arith, c.if-last-ge-LAST.false)) (omega (arith, c.if-free-need.false))
-          (ap (λ (k : Kept). k.half) c.prepare.ensures.rest) (c.in-Ok-append.ensures.grown W (written_of W t ∷ []) two prepared.spelled.next) (c.in-Ok-append.ensures.gate W two),
-    )
+    let s = (goal.at.take_in-requires g c).After-append in
+    let stage = two g s W t of may in
+    (W, t, grown g s W t of may c.in-Ok-append.gate (c.in-Ok-append.ensures.grown W (written_of W t ∷ []) stage (prepared g s W t of may).spelled.next) (c.in-Ok-append.ensures.gate W stage))
 
 pub leave-requires : goal.leave-requires
 leave-requires g c =
     let (W, t, of, may) = c.requires in
-    let d = g.D.Disk.state c.args.disk.now in
-    let one = spelled_stage d c.args.kept.now c.spell_next.new.kept W of c.spell_next.ensures.same in
-    let two = prepared_stage d c.spell_next.new.kept c.prepare.new.kept W one (c.prepare.ensures.same W one.kept_of) c.prepare.ensures.rest in
-    (W, t, down_on c.append.new.kept W true (subst (λ (k : Kept). IsOf k W) (sym c.in-Err-append.ensures.kept) two.kept_of), may.here)
+    let s = (goal.at.leave-requires g c).After-append in
+    (W, t, down_on c.append.new.kept W true (subst (λ (k : Kept). IsOf k W) (sym c.in-Err-append.ensures.kept) (two g s W t of may).kept_of), may.here)
 
 pub returns-in-Ok-append-clause-ended : goal.returns-in-Ok-append-clause-ended
 returns-in-Ok-append-clause-ended g c W t of may =
-    let d = g.D.Disk.state c.args.disk.now in
-    let one = spelled_stage d c.args.kept.now c.spell_next.new.kept W of c.spell_next.ensures.same in
-    let spelled = c.in_default.ensures.spelled W t of.kept_of may in
-    let two = prepared_stage d c.spell_next.new.kept c.prepare.new.kept W one (c.prepare.ensures.same W one.kept_of) c.prepare.ensures.rest in
-    let prepared = c.in-Ok.ensures.prepared W t one.kept_of may spelled in
-    let (need_is, free_is) = full_log c.spell_next.new.kept W t c.with_closed_gate.result.now c.from-free.result one.kept_of spelled c.with_closed_gate.ensures (c.from-free.ensures ∙ c.free.ensures) in
-    let last_of = c.last-last.ensures ∙ log_last c.args.kept.now W of.kept_of.world of.kept_of.keeps in
-    let fresh : last W.history ≢ LAST = λ e. absurd (omega (arith, c.if-last-ge-LAST.false, last_of, e)) in
-    let fits : need W t ≤ W.geometry.log - used W = omega (arith, c.if-free-need.false, need_is, free_is) in
-    let next = next_world W c.args.tx t c.args.work.now of.kept_of.world may fresh fits in
-    let is = is_committed W t fresh fits in
-    let grown = ends_in W c.args.tx t c.args.kept.now c.spell_next.new.kept c.prepare.new.kept c.append.new.kept c.args.work.now c.with_closed_gate.result.now c.last-last.result c.from-free.result c.in-Ok-append.gate c.in-Ok.writes
-    of.kept_of one.kept_of two.kept_of may spelled prepared c.with_closed_gate.ensures (c.from-free.ensures ∙ c.free.ensures) c.last-last.ensures (omega (arith, c.if-last-ge-LAST.false)) (omega (arith, c.if-free-need.false))
-    (ap (λ (k : Kept). k.half) c.prepare.ensures.rest) (c.in-Ok-append.ensures.grown W (written_of W t ∷ []) two prepared.spelled.next) (c.in-Ok-append.ensures.gate W two) in
-    let log_is = c.in-Ok-append.ensures.grown W (written_of W t ∷ []) two prepared.spelled.next in
-    let fin = committed_core d (g.D.Disk.state c.append.new.disk) c.prepare.new.kept c.append.new.kept c.take_in.new.kept W t two next (c.take_in.ensures.committed W t grown)
-    (c.append.ensures.moments W (written_of W t ∷ []) two prepared.spelled.next).same_size c.in-Ok-append.ensures.settled
-    (ap (λ (k : Kept). k.half) log_is) c.take_in.ensures.half c.take_in.ensures.down (ap (λ (k : Kept). k.down) log_is)
-    (c.in-Ok-append.ensures.held W (written_of W t ∷ []) two prepared.spelled.next) in (
-      answered W t (commit_step W t None) is ∙ (λ i. reply.Committed (sym last_of i + 1)),
-      subst (λ (V : World). AreOf (g.D.Disk.state c.append.new.disk) c.take_in.new.kept V up) (led W t (commit_step W t None) is) fin,
+    let s = (goal.at.returns-in-Ok-append-clause-ended g c).After-append in
+    let stage = two g s W t of may in
+    let record_next = (prepared g s W t of may).spelled.next in
+    let log_is = c.in-Ok-append.ensures.grown W (written_of W t ∷ []) stage record_next in
+    let fin = committed_core (g.D.Disk.state c.args.disk.now) (g.D.Disk.state c.append.new.disk) c.prepare.new.kept c.append.new.kept c.take_in.new.kept W t stage (next g s W t of may)
+    (c.take_in.ensures.committed W t (grown g s W t of may c.in-Ok-append.gate log_is (c.in-Ok-append.ensures.gate W stage))) (run g s W t of may).same_size c.in-Ok-append.ensures.settled
+    (ap (λ (k : Kept). k.half) log_is) c.take_in.ensures.half c.take_in.ensures.down (ap (λ (k : Kept). k.down) log_is) (c.in-Ok-append.ensures.held W (written_of W t ∷ []) stage record_next) in
+    let is = sym (commits g s W t of may) in (
+      sym (ap (λ (x : CoreReply × World). x.0) is) ∙ (λ i. reply.Committed (sym (number_is g s W t of may) i + 1)),
+      subst (λ (x : CoreReply × World). AreOf (g.D.Disk.state c.append.new.disk) c.take_in.new.kept x.1 up) is fin,
     )
 
 pub returns-in-Ok-append-clause-moments : goal.returns-in-Ok-append-clause-moments
-returns-in-Ok-append-clause-moments g c W t of may =
-    let d = g.D.Disk.state c.args.disk.now in
-    let one = spelled_stage d c.args.kept.now c.spell_next.new.kept W of c.spell_next.ensures.same in
-    let spelled = c.in_default.ensures.spelled W t of.kept_of may in
-    let two = prepared_stage d c.spell_next.new.kept c.prepare.new.kept W one (c.prepare.ensures.same W one.kept_of) c.prepare.ensures.rest in
-    let prepared = c.in-Ok.ensures.prepared W t one.kept_of may spelled in
-    let (need_is, free_is) = full_log c.spell_next.new.kept W t c.with_closed_gate.result.now c.from-free.result one.kept_of spelled c.with_closed_gate.ensures (c.from-free.ensures ∙ c.free.ensures) in
-    let last_of = c.last-last.ensures ∙ log_last c.args.kept.now W of.kept_of.world of.kept_of.keeps in
-    let fresh : last W.history ≢ LAST = λ e. absurd (omega (arith, c.if-last-ge-LAST.false, last_of, e)) in
-    let fits : need W t ≤ W.geometry.log - used W = omega (arith, c.if-free-need.false, need_is, free_is) in
-    let next = next_world W c.args.tx t c.args.work.now of.kept_of.world may fresh fits in
-    subst (λ (V : World). LeavesOnly d (g.D.Disk.state c.append.new.disk) (ShowsEither W V)) (led W t (commit_step W t None) (is_committed W t fresh fits))
-    (weakened (c.append.ensures.moments W (written_of W t ∷ []) two prepared.spelled.next) (shows_either W t c.prepare.new.kept.half of.kept_of.world next))
+returns-in-Ok-append-clause-moments g c W t of may = shown g (goal.at.returns-in-Ok-append-clause-moments g c).After-append W t of may
 
 pub returns-in-Err-append-clause-lost : goal.returns-in-Err-append-clause-lost
 returns-in-Err-append-clause-lost g c W t of may is_disk =
-    let d = g.D.Disk.state c.args.disk.now in
-    let one = spelled_stage d c.args.kept.now c.spell_next.new.kept W of c.spell_next.ensures.same in
-    let spelled = c.in_default.ensures.spelled W t of.kept_of may in
-    let two = prepared_stage d c.spell_next.new.kept c.prepare.new.kept W one (c.prepare.ensures.same W one.kept_of) c.prepare.ensures.rest in
-    let prepared = c.in-Ok.ensures.prepared W t one.kept_of may spelled in
-    let (need_is, free_is) = full_log c.spell_next.new.kept W t c.with_closed_gate.result.now c.from-free.result one.kept_of spelled c.with_closed_gate.ensures (c.from-free.ensures ∙ c.free.ensures) in
-    let last_of = c.last-last.ensures ∙ log_last c.args.kept.now W of.kept_of.world of.kept_of.keeps in
-    let fresh : last W.history ≢ LAST = λ e. absurd (omega (arith, c.if-last-ge-LAST.false, last_of, e)) in
-    let fits : need W t ≤ W.geometry.log - used W = omega (arith, c.if-free-need.false, need_is, free_is) in
-    let next = next_world W c.args.tx t c.args.work.now of.kept_of.world may fresh fits in
-    let run = weakened (c.append.ensures.moments W (written_of W t ∷ []) two prepared.spelled.next) (shows_either W t c.prepare.new.kept.half of.kept_of.world next) in
-    let three = down_on c.append.new.kept W true (subst (λ (k : Kept). IsOf k W) (sym c.in-Err-append.ensures.kept) two.kept_of) in (
-      answered W t (commit_step W t None) (is_committed W t fresh fits),
-      lost_core (g.D.Disk.state c.append.new.disk) d c.leave.new.kept W t (g.met.D.Disk.lawful c.append.new.disk) (sym run.same_size) (c.leave.ensures.left W t three may.here) c.leave.ensures.down of.size run,
+    let s = (goal.at.returns-in-Err-append-clause-lost g c).After-append in
+    let images = run g s W t of may in
+    let three = down_on c.append.new.kept W true (subst (λ (k : Kept). IsOf k W) (sym c.in-Err-append.ensures.kept) (two g s W t of may).kept_of) in (
+      ap (λ (x : CoreReply × World). x.0) (commits g s W t of may),
+      lost_core (g.D.Disk.state c.append.new.disk) (g.D.Disk.state c.args.disk.now) c.leave.new.kept W t (g.met.D.Disk.lawful c.append.new.disk) (sym images.same_size) (c.leave.ensures.left W t three may.here) c.leave.ensures.down of.size images,
     )
 
 pub returns-in-Err-append-clause-moments : goal.returns-in-Err-append-clause-moments
-returns-in-Err-append-clause-moments g c W t of may =
-    let d = g.D.Disk.state c.args.disk.now in
-    let one = spelled_stage d c.args.kept.now c.spell_next.new.kept W of c.spell_next.ensures.same in
-    let spelled = c.in_default.ensures.spelled W t of.kept_of may in
-    let two = prepared_stage d c.spell_next.new.kept c.prepare.new.kept W one (c.prepare.ensures.same W one.kept_of) c.prepare.ensures.rest in
-    let prepared = c.in-Ok.ensures.prepared W t one.kept_of may spelled in
-    let (need_is, free_is) = full_log c.spell_next.new.kept W t c.with_closed_gate.result.now c.from-free.result one.kept_of spelled c.with_closed_gate.ensures (c.from-free.ensures ∙ c.free.ensures) in
-    let last_of = c.last-last.ensures ∙ log_last c.args.kept.now W of.kept_of.world of.kept_of.keeps in
-    let fresh : last W.history ≢ LAST = λ e. absurd (omega (arith, c.if-last-ge-LAST.false, last_of, e)) in
-    let fits : need W t ≤ W.geometry.log - used W = omega (arith, c.if-free-need.false, need_is, free_is) in
-    let next = next_world W c.args.tx t c.args.work.now of.kept_of.world may fresh fits in
-    subst (λ (V : World). LeavesOnly d (g.D.Disk.state c.append.new.disk) (ShowsEither W V)) (led W t (commit_step W t None) (is_committed W t fresh fits))
-    (weakened (c.append.ensures.moments W (written_of W t ∷ []) two prepared.spelled.next) (shows_either W t c.prepare.new.kept.half of.kept_of.world next))
+returns-in-Err-append-clause-moments g c W t of may = shown g (goal.at.returns-in-Err-append-clause-moments g c).After-append W t of may

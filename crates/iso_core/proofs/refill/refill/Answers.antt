@@ -1,6 +1,8 @@
-use Rattle.iso_core.proofs.Words.{◌∙◌, inl, ap, arith, at_end, joined, weakened, HalfPlace, refilled, header_place}
+use Rattle.iso_core.proofs.Words.{◌≡◌, ◌∙◌, ◌⊎◌, inl, ap, arith, ℕ, ◌+◌, List, LeavesOnly, at_end, joined, weakened, Copies, Geometry, Half, HalfPlace, IsHeld, in_form, place_of, refilled, header_place}
 use Rattle.iso_core.proofs.Refills.{inside}
+use Rattle.iso_core.proofs.refill.refill.Given as given
 use Rattle.iso_core.proofs.refill.refill.Goals as goal
+use Rattle.iso_core.proofs.refill.refill.Goals.{After-close_half, After-fill_half, After-open_half}
 
 pub close_half-requires-clause-fits : goal.close_half-requires-clause-fits
 close_half-requires-clause-fits g c = inside c.args.plan.now.geometry c.args.from.now c.args.to.now (g.D.Disk.state c.args.disk.now).size c.requires.places c.requires.size
@@ -13,62 +15,57 @@ open_half-requires g c =
     inside c.args.plan.now.geometry c.args.from.now c.args.to.now (g.D.Disk.state c.fill_half.new.disk).size c.requires.places
     (c.fill_half.ensures.moments.same_size ∙ c.close_half.ensures.moments.same_size ∙ c.requires.size)
 
+-- the other half is closed, and then filled: each image holds the current one
+closed : (g : given.Over) (c : After-close_half g) (h : Geometry) (x : Half) (other : ℕ) → x.at + other ≡ 1 → c.args.to.now ≡ place_of h other → ((i : List ℕ) → (g.D.Disk.state c.args.disk.now).now i → IsHeld h x i)
+    → LeavesOnly (g.D.Disk.state c.args.disk.now) (g.D.Disk.state c.close_half.new.disk) (IsHeld h x)
+closed g c h x other both there each = c.close_half.ensures.held h x other both (ap (λ (p : HalfPlace). p.header) there) each
+
+filled : (g : given.Over) (c : After-fill_half g) (h : Geometry) (x : Half) → Copies h x c.args.from.now c.args.plan.now → LeavesOnly (g.D.Disk.state c.args.disk.now) (g.D.Disk.state c.close_half.new.disk) (IsHeld h x)
+    → LeavesOnly (g.D.Disk.state c.args.disk.now) (g.D.Disk.state c.fill_half.new.disk) (IsHeld h x)
+filled g c h x copies first = joined first (c.fill_half.ensures.held h x copies.is_from (at_end (g.met.D.Disk.lawful c.close_half.new.disk) first))
+
 pub returns-in-Err-clause-moments : goal.returns-in-Err-clause-moments
 returns-in-Err-clause-moments g c h x other both there copies each =
-    let d = g.D.Disk.state c.args.disk.now in
-    let header = ap (λ (p : HalfPlace). p.header) there in
-    let first = c.close_half.ensures.held h x other both header each in
-    weakened first (λ image held. inl held)
+    weakened (closed g (goal.at.returns-in-Err-clause-moments g c).After-close_half h x other both there each) (λ image held. inl held)
 
 pub returns-in-Err-Memory-clause-moments : goal.returns-in-Err-Memory-clause-moments
 returns-in-Err-Memory-clause-moments g c h x other both there copies each =
-    let d = g.D.Disk.state c.args.disk.now in
-    let header = ap (λ (p : HalfPlace). p.header) there in
-    let first = c.close_half.ensures.held h x other both header each in
-    weakened (joined first (c.fill_half.ensures.held h x copies.is_from (at_end (g.met.D.Disk.lawful c.close_half.new.disk) first))) (λ image held. inl held)
+    let s = goal.at.returns-in-Err-Memory-clause-moments g c in
+    weakened (filled g s.After-fill_half h x copies (closed g s.After-close_half h x other both there each)) (λ image held. inl held)
 
 pub returns-in-Err-Memory-clause-held : goal.returns-in-Err-Memory-clause-held
 returns-in-Err-Memory-clause-held g c h x other both there copies each is =
-    let d = g.D.Disk.state c.args.disk.now in
-    let header = ap (λ (p : HalfPlace). p.header) there in
-    let first = c.close_half.ensures.held h x other both header each in
-    at_end (g.met.D.Disk.lawful c.fill_half.new.disk) (joined first (c.fill_half.ensures.held h x copies.is_from (at_end (g.met.D.Disk.lawful c.close_half.new.disk) first)))
+    let s = goal.at.returns-in-Err-Memory-clause-held g c in
+    at_end (g.met.D.Disk.lawful c.fill_half.new.disk) (filled g s.After-fill_half h x copies (closed g s.After-close_half h x other both there each))
 
 pub returns-in-Err-Disk-clause-moments : goal.returns-in-Err-Disk-clause-moments
 returns-in-Err-Disk-clause-moments g c h x other both there copies each =
-    let d = g.D.Disk.state c.args.disk.now in
-    let header = ap (λ (p : HalfPlace). p.header) there in
-    let first = c.close_half.ensures.held h x other both header each in
-    weakened (joined first (c.fill_half.ensures.held h x copies.is_from (at_end (g.met.D.Disk.lawful c.close_half.new.disk) first))) (λ image held. inl held)
+    let s = goal.at.returns-in-Err-Disk-clause-moments g c in
+    weakened (filled g s.After-fill_half h x copies (closed g s.After-close_half h x other both there each)) (λ image held. inl held)
+
+-- the new half is opened: each image holds it, or the current one
+opened : (g : given.Over) (c : After-open_half g) (h : Geometry) (x : Half) (other : ℕ) → x.at + other ≡ 1 → c.args.to.now ≡ place_of h other → Copies h x c.args.from.now c.args.plan.now
+    → LeavesOnly (g.D.Disk.state c.args.disk.now) (g.D.Disk.state c.close_half.new.disk) (IsHeld h x) → LeavesOnly (g.D.Disk.state c.args.disk.now) (g.D.Disk.state c.fill_half.new.disk) (IsHeld h x)
+    → LeavesOnly (g.D.Disk.state c.args.disk.now) (g.D.Disk.state c.open_half.new.disk) (λ i. IsHeld h x i ⊎ IsHeld (in_form c.args.plan.now.geometry.form h) (refilled h c.args.plan.now.generation c.args.plan.now.base x) i)
+opened g c h x other both there copies first second =
+    joined (weakened second (λ image held. inl held))
+    (c.open_half.ensures.held h c.args.plan.now.geometry.form x (refilled h c.args.plan.now.generation c.args.plan.now.base x) (ap (λ (p : HalfPlace). p.header) there ∙ ap (header_place h) (omega (arith, both)))
+    (c.in-Ok.ensures.ready h x copies (at_end (g.met.D.Disk.lawful c.close_half.new.disk) first)))
 
 pub returns-in-Err-open_half-clause-moments : goal.returns-in-Err-open_half-clause-moments
 returns-in-Err-open_half-clause-moments g c h x other both there copies each =
-    let d = g.D.Disk.state c.args.disk.now in
-    let header = ap (λ (p : HalfPlace). p.header) there in
-    let first = c.close_half.ensures.held h x other both header each in
-    let closed = at_end (g.met.D.Disk.lawful c.close_half.new.disk) first in
-    let y = refilled h c.args.plan.now.generation c.args.plan.now.base x in
-    let new_header = header ∙ ap (header_place h) (omega (arith, both)) in
-    let second = joined first (c.fill_half.ensures.held h x copies.is_from closed) in
-    joined (weakened second (λ image held. inl held)) (c.open_half.ensures.held h c.args.plan.now.geometry.form x y new_header (c.in-Ok.ensures.ready h x copies closed))
+    let s = goal.at.returns-in-Err-open_half-clause-moments g c in
+    let first = closed g s.After-close_half h x other both there each in
+    opened g s.After-open_half h x other both there copies first (filled g s.After-fill_half h x copies first)
 
 pub returns-clause-moments : goal.returns-clause-moments
 returns-clause-moments g c h x other both there copies each =
-    let d = g.D.Disk.state c.args.disk.now in
-    let header = ap (λ (p : HalfPlace). p.header) there in
-    let first = c.close_half.ensures.held h x other both header each in
-    let closed = at_end (g.met.D.Disk.lawful c.close_half.new.disk) first in
-    let y = refilled h c.args.plan.now.generation c.args.plan.now.base x in
-    let new_header = header ∙ ap (header_place h) (omega (arith, both)) in
-    let second = joined first (c.fill_half.ensures.held h x copies.is_from closed) in
-    joined (weakened second (λ image held. inl held)) (c.open_half.ensures.held h c.args.plan.now.geometry.form x y new_header (c.in-Ok.ensures.ready h x copies closed))
+    let s = goal.at.returns-clause-moments g c in
+    let first = closed g s.After-close_half h x other both there each in
+    opened g s.After-open_half h x other both there copies first (filled g s.After-fill_half h x copies first)
 
 pub returns-clause-opened : goal.returns-clause-opened
 returns-clause-opened g c h x other both there copies each =
-    let d = g.D.Disk.state c.args.disk.now in
-    let header = ap (λ (p : HalfPlace). p.header) there in
-    let first = c.close_half.ensures.held h x other both header each in
-    let closed = at_end (g.met.D.Disk.lawful c.close_half.new.disk) first in
-    let y = refilled h c.args.plan.now.generation c.args.plan.now.base x in
-    let new_header = header ∙ ap (header_place h) (omega (arith, both)) in
-    c.in_default-open_half.ensures.opened h c.args.plan.now.geometry.form x y new_header (c.in-Ok.ensures.ready h x copies closed)
+    let first = closed g (goal.at.returns-clause-opened g c).After-close_half h x other both there each in
+    c.in_default-open_half.ensures.opened h c.args.plan.now.geometry.form x (refilled h c.args.plan.now.generation c.args.plan.now.base x) (ap (λ (p : HalfPlace). p.header) there ∙ ap (header_place h) (omega (arith, both)))
+    (c.in-Ok.ensures.ready h x copies (at_end (g.met.D.Disk.lawful c.close_half.new.disk) first))

@@ -1,10 +1,12 @@
-use Rattle.iso_core.proofs.Words.{◌≡◌, ◌≢◌, ◌∙◌, inl, inr, sym, refl, ap, subst, ℕ, ◌+◌, ◌-◌, ◌≤◌, arith, Some, true, Err, at_end, started, weakened, FillPlan, place_of, HalfPlace, IsHeld, half_of_world, Geometry, LAST, CoreReply, image_size, log_place, after_switch, World, floor_between}
+use Rattle.iso_core.proofs.Words.{◌≡◌, ◌≢◌, ◌∙◌, ◌⊎◌, inl, inr, sym, refl, ap, subst, ℕ, ◌+◌, ◌-◌, ◌≤◌, arith, Some, true, Err, LeavesOnly, at_end, started, weakened, Copies, FillPlan, place_of, HalfPlace, IsHeld, half_of_world, Geometry, LAST, CoreReply, image_size, log_place, after_switch, World, floor, floor_between, IsWorld, AreOf, up, ShowsLast, HasFormOr, IsForm}
 use Rattle.iso_core.proofs.Committing.{down_on}
 use Rattle.iso_core.proofs.Moments.{shows_world}
 use Rattle.iso_core.proofs.Numbers.{log_used}
 use Rattle.iso_core.proofs.Plans.{both, copies, either_half, form_either, is_switched, is_worn, new_half, next_world, shows_both, valid_form}
 use Rattle.iso_core.proofs.Trims.{floor_is}
+use Rattle.iso_core.proofs.switching.switch_half.Given as given
 use Rattle.iso_core.proofs.switching.switch_half.Goals as goal
+use Rattle.iso_core.proofs.switching.switch_half.Goals.{After-refill}
 
 pub returns-then-kept-ge-LAST-clause-refused : goal.returns-then-kept-ge-LAST-clause-refused
 returns-then-kept-ge-LAST-clause-refused g c W answer of fits =
@@ -20,225 +22,156 @@ returns-then-kept-ge-LAST-clause-form g c W of fits =
     started (g.met.D.Disk.lawful c.args.disk.now) (λ image now. form_either c.args.kept.now W c.args.form of.kept_of fits image (inl (of.images.each image now)))
 
 pub half_place-from-requires-clause-valid : goal.half_place-from-requires-clause-valid
-half_place-from-requires-clause-valid g c =
-    let (W, of, fits) = c.requires in
-    let kept = c.args.kept.now in
-    valid_form kept W c.args.form of.kept_of fits c.if-kept-ge-LAST.false
+half_place-from-requires-clause-valid g c = valid_form c.args.kept.now c.requires.0 c.args.form c.requires.1.kept_of c.requires.2 c.if-kept-ge-LAST.false
 
 pub half_place-from-requires-clause-half : goal.half_place-from-requires-clause-half
-half_place-from-requires-clause-half g c =
-    let (W, of, fits) = c.requires in
-    let kept = c.args.kept.now in
-    of.kept_of.keeps.half
+half_place-from-requires-clause-half g c = c.requires.1.kept_of.keeps.half
 
 pub half_place-to-requires-clause-half : goal.half_place-to-requires-clause-half
 half_place-to-requires-clause-half g c = omega arith
 
 pub half_place-to-requires-clause-valid : goal.half_place-to-requires-clause-valid
-half_place-to-requires-clause-valid g c =
-    let (W, of, fits) = c.requires in
-    let kept = c.args.kept.now in
-    valid_form kept W c.args.form of.kept_of fits c.if-kept-ge-LAST.false
+half_place-to-requires-clause-valid g c = valid_form c.args.kept.now c.requires.0 c.args.form c.requires.1.kept_of c.requires.2 c.if-kept-ge-LAST.false
 
 pub refill-requires-clause-valid : goal.refill-requires-clause-valid
-refill-requires-clause-valid g c =
-    let (W, of, fits) = c.requires in
-    let kept = c.args.kept.now in
-    valid_form kept W c.args.form of.kept_of fits c.if-kept-ge-LAST.false
+refill-requires-clause-valid g c = valid_form c.args.kept.now c.requires.0 c.args.form c.requires.1.kept_of c.requires.2 c.if-kept-ge-LAST.false
 
 pub refill-requires-clause-size : goal.refill-requires-clause-size
 refill-requires-clause-size g c =
     let (W, of, fits) = c.requires in
-    let kept = c.args.kept.now in
     of.size ∙ (λ i. image_size (record (sym of.kept_of.keeps.geometry i) { form = c.args.form }))
 
 pub refill-requires-clause-places : goal.refill-requires-clause-places
 refill-requires-clause-places g c =
-    let (W, of, fits) = c.requires in
     let kept = c.args.kept.now in
-    record { half = kept.half; other = 1 - kept.half; both = both kept W c.args.form of.kept_of fits; from_is = c.half_place-from.ensures; to_is = c.half_place-to.ensures }
+    record { half = kept.half; other = 1 - kept.half; both = both kept c.requires.0 c.args.form c.requires.1.kept_of c.requires.2; from_is = c.half_place-from.ensures; to_is = c.half_place-to.ensures }
 
 pub refill-requires-clause-base : goal.refill-requires-clause-base
 refill-requires-clause-base g c =
     let (W, of, fits) = c.requires in
-    let kept = c.args.kept.now in
-    let to = c.floor-floor.ensures ∙ floor_is kept W of.kept_of c.last.result c.last.ensures in
+    let to = c.floor-floor.ensures ∙ floor_is c.args.kept.now W of.kept_of c.last.result c.last.ensures in
     omega (arith, to, of.kept_of.keeps.base, of.kept_of.world.base, (floor_between W of.kept_of.world).0)
 
 pub refill-requires-clause-used : goal.refill-requires-clause-used
 refill-requires-clause-used g c =
     let (W, of, fits) = c.requires in
-    let kept = c.args.kept.now in
-    omega (arith, c.used.ensures, log_used kept W of.kept_of.world of.kept_of.keeps, of.kept_of.world.room, ap (λ (h : Geometry). h.log) of.kept_of.keeps.geometry)
+    omega (arith, c.used.ensures, log_used c.args.kept.now W of.kept_of.world of.kept_of.keeps, of.kept_of.world.room, ap (λ (h : Geometry). h.log) of.kept_of.keeps.geometry)
 
 pub refill-requires-clause-settled : goal.refill-requires-clause-settled
-refill-requires-clause-settled g c =
-    let (W, of, fits) = c.requires in
-    let kept = c.args.kept.now in
-    of.images.settled
+refill-requires-clause-settled g c = c.requires.1.images.settled
+
+-- what stands once the other half was filled, or was not
+module _ (g : given.Over) (c : After-refill g) (W : World) (of : AreOf (g.D.Disk.state c.args.disk.now) c.args.kept.now W up) (fits : IsForm W c.args.form) where
+  to : c.floor-floor.result ≡ floor W
+  to = c.floor-floor.ensures ∙ floor_is c.args.kept.now W of.kept_of c.last.result c.last.ensures
+
+  fresh : W.generation ≢ LAST
+  fresh e = absurd (omega (arith, c.if-kept-ge-LAST.false, of.kept_of.keeps.generation, e))
+
+  next : IsWorld (after_switch W c.args.form)
+  next = next_world W c.args.form of.kept_of.world fits fresh
+
+  other : c.args.kept.now.half + (1 - c.args.kept.now.half) ≡ 1
+  other = both c.args.kept.now W c.args.form of.kept_of fits
+
+  from_log : c.half_place-from.result.log ≡ log_place W.geometry c.args.kept.now.half
+  from_log = ap (λ (p : HalfPlace). p.log) c.half_place-from.ensures ∙ (λ i. log_place (record (of.kept_of.keeps.geometry i) { form = c.args.form }) c.args.kept.now.half)
+
+  there : c.half_place-to.result ≡ place_of W.geometry (1 - c.args.kept.now.half)
+  there = c.half_place-to.ensures ∙ (λ i. place_of (record (of.kept_of.keeps.geometry i) { form = c.args.form }) (1 - c.args.kept.now.half))
+
+  abbrev plan : FillPlan
+  plan = record {
+    geometry = record c.args.kept.now.geometry { form = c.args.form };
+    generation = c.args.kept.now.generation + 1;
+    old_base = c.args.kept.now.base;
+    base = c.floor-floor.result;
+    used = c.used.result;
+  }
+
+  copied : Copies W.geometry (half_of_world W c.args.kept.now.half) c.half_place-from.result plan
+  copied = copies c.args.kept.now W c.args.form of.kept_of fits plan c.half_place-from.result refl refl c.if-kept-ge-LAST.false refl to c.used.ensures c.half_place-from.ensures
+
+  -- at each moment an image holds the half that was, or the new one
+  either : LeavesOnly (g.D.Disk.state c.args.disk.now) (g.D.Disk.state c.refill.new.disk) (λ image. IsHeld W.geometry (half_of_world W c.args.kept.now.half) image
+      ⊎ IsHeld (after_switch W c.args.form).geometry (half_of_world (after_switch W c.args.form) (1 - c.args.kept.now.half)) image)
+  either =
+      weakened (c.refill.ensures.moments W.geometry (half_of_world W c.args.kept.now.half) (1 - c.args.kept.now.half) other there copied of.images.each)
+      (λ image held. either_half c.args.kept.now W c.args.form of.kept_of fits plan refl refl to image held)
+
+  shown : LeavesOnly (g.D.Disk.state c.args.disk.now) (g.D.Disk.state c.refill.new.disk) (ShowsLast W)
+  shown = weakened either (λ image held. shows_both c.args.kept.now W c.args.form of.kept_of fits next image held)
+
+  formed : LeavesOnly (g.D.Disk.state c.args.disk.now) (g.D.Disk.state c.refill.new.disk) (HasFormOr W c.args.form)
+  formed = weakened either (λ image held. form_either c.args.kept.now W c.args.form of.kept_of fits image held)
 
 pub go_over-requires : goal.go_over-requires
 go_over-requires g c =
     let (W, of, fits) = c.requires in
-    let kept = c.args.kept.now in
-    let geometry = of.kept_of.keeps.geometry in
-    let to = c.floor-floor.ensures ∙ floor_is kept W of.kept_of c.last.result c.last.ensures in
-    let fresh : W.generation ≢ LAST = λ e. absurd (omega (arith, c.if-kept-ge-LAST.false, of.kept_of.keeps.generation, e)) in
-    let next = next_world W c.args.form of.kept_of.world fits fresh in (
-      W,
-      of.kept_of,
-      to,
-      ap (λ (p : HalfPlace). p.log) c.half_place-from.ensures ∙ (λ i. log_place (record (geometry i) { form = c.args.form }) kept.half),
-      ap (λ (p : HalfPlace). p.log) c.half_place-to.ensures ∙ (λ i. log_place (record (geometry i) { form = c.args.form }) (1 - kept.half)),
-      next,
-    )
+    let s = (goal.at.go_over-requires g c).After-refill in
+    (W, of.kept_of, to g s W of fits, from_log g s W of fits, ap (λ (p : HalfPlace). p.log) (there g s W of fits), next g s W of fits)
 
 pub returns-in-Ok-clause-switched : goal.returns-in-Ok-clause-switched
 returns-in-Ok-clause-switched g c W of fits =
+    let s = (goal.at.returns-in-Ok-clause-switched g c).After-refill in
     let kept = c.args.kept.now in
-    let geometry = of.kept_of.keeps.geometry in
-    let to = c.floor-floor.ensures ∙ floor_is kept W of.kept_of c.last.result c.last.ensures in
-    let fresh : W.generation ≢ LAST = λ e. absurd (omega (arith, c.if-kept-ge-LAST.false, of.kept_of.keeps.generation, e)) in
-    let next = next_world W c.args.form of.kept_of.world fits fresh in
-    let plan : FillPlan = record { geometry = record kept.geometry { form = c.args.form }; generation = kept.generation + 1; old_base = kept.base; base = c.floor-floor.result; used = c.used.result } in
-    let there : c.half_place-to.result ≡ place_of W.geometry (1 - kept.half) = c.half_place-to.ensures ∙ (λ i. place_of (record (geometry i) { form = c.args.form }) (1 - kept.half)) in
-    let copied = copies kept W c.args.form of.kept_of fits plan c.half_place-from.result refl refl c.if-kept-ge-LAST.false refl to c.used.ensures c.half_place-from.ensures in
-    let run = c.refill.ensures.moments W.geometry (half_of_world W kept.half) (1 - kept.half) (both kept W c.args.form of.kept_of fits) there copied of.images.each in
-    let shown = weakened run (λ image x. shows_both kept W c.args.form of.kept_of fits next image (either_half kept W c.args.form of.kept_of fits plan refl refl to image x)) in
-    let kept_of_next = c.go_over.ensures.switched W of.kept_of to (ap (λ (p : HalfPlace). p.log) c.half_place-from.ensures ∙ (λ i. log_place (record (geometry i) { form = c.args.form }) kept.half))
-    (ap (λ (p : HalfPlace). p.log) c.half_place-to.ensures ∙ (λ i. log_place (record (geometry i) { form = c.args.form }) (1 - kept.half))) next in (
-      to,
-      (λ answer. is_switched W c.args.form answer fresh),
+    let is = to g s W of fits in (
+      is,
+      (λ answer. is_switched W c.args.form answer (fresh g s W of fits)),
       record {
-        kept_of = kept_of_next;
+        kept_of = c.go_over.ensures.switched W of.kept_of is (from_log g s W of fits) (ap (λ (p : HalfPlace). p.log) (there g s W of fits)) (next g s W of fits);
         is_down = c.go_over.ensures.down ∙ of.is_down;
-        size = run.same_size ∙ of.size;
+        size = (either g s W of fits).same_size ∙ of.size;
         images = record {
           settled = c.in-Ok.ensures.settled;
           each = λ image now. subst (λ (n : ℕ). IsHeld (after_switch W c.args.form).geometry (half_of_world (after_switch W c.args.form) n) image) (sym c.go_over.ensures.half)
-              (new_half kept W c.args.form of.kept_of fits plan refl refl to image
-              (c.in-Ok.ensures.opened W.geometry (half_of_world W kept.half) (1 - kept.half) (both kept W c.args.form of.kept_of fits) there copied of.images.each image now));
+              (new_half kept W c.args.form of.kept_of fits (plan g s W of fits) refl refl is image
+              (c.in-Ok.ensures.opened W.geometry (half_of_world W kept.half) (1 - kept.half) (other g s W of fits) (there g s W of fits) (copied g s W of fits) of.images.each image now));
         };
       },
     )
 
 pub returns-in-Ok-clause-moments : goal.returns-in-Ok-clause-moments
-returns-in-Ok-clause-moments g c W of fits =
-    let kept = c.args.kept.now in
-    let geometry = of.kept_of.keeps.geometry in
-    let to = c.floor-floor.ensures ∙ floor_is kept W of.kept_of c.last.result c.last.ensures in
-    let fresh : W.generation ≢ LAST = λ e. absurd (omega (arith, c.if-kept-ge-LAST.false, of.kept_of.keeps.generation, e)) in
-    let next = next_world W c.args.form of.kept_of.world fits fresh in
-    let plan : FillPlan = record { geometry = record kept.geometry { form = c.args.form }; generation = kept.generation + 1; old_base = kept.base; base = c.floor-floor.result; used = c.used.result } in
-    let there : c.half_place-to.result ≡ place_of W.geometry (1 - kept.half) = c.half_place-to.ensures ∙ (λ i. place_of (record (geometry i) { form = c.args.form }) (1 - kept.half)) in
-    let copied = copies kept W c.args.form of.kept_of fits plan c.half_place-from.result refl refl c.if-kept-ge-LAST.false refl to c.used.ensures c.half_place-from.ensures in
-    let run = c.refill.ensures.moments W.geometry (half_of_world W kept.half) (1 - kept.half) (both kept W c.args.form of.kept_of fits) there copied of.images.each in
-    let shown = weakened run (λ image x. shows_both kept W c.args.form of.kept_of fits next image (either_half kept W c.args.form of.kept_of fits plan refl refl to image x)) in
-    shown
+returns-in-Ok-clause-moments g c W of fits = shown g (goal.at.returns-in-Ok-clause-moments g c).After-refill W of fits
 
 pub returns-in-Ok-clause-form : goal.returns-in-Ok-clause-form
-returns-in-Ok-clause-form g c W of fits =
-    let kept = c.args.kept.now in
-    let geometry = of.kept_of.keeps.geometry in
-    let to = c.floor-floor.ensures ∙ floor_is kept W of.kept_of c.last.result c.last.ensures in
-    let plan : FillPlan = record { geometry = record kept.geometry { form = c.args.form }; generation = kept.generation + 1; old_base = kept.base; base = c.floor-floor.result; used = c.used.result } in
-    let there : c.half_place-to.result ≡ place_of W.geometry (1 - kept.half) = c.half_place-to.ensures ∙ (λ i. place_of (record (geometry i) { form = c.args.form }) (1 - kept.half)) in
-    let copied = copies kept W c.args.form of.kept_of fits plan c.half_place-from.result refl refl c.if-kept-ge-LAST.false refl to c.used.ensures c.half_place-from.ensures in
-    let run = c.refill.ensures.moments W.geometry (half_of_world W kept.half) (1 - kept.half) (both kept W c.args.form of.kept_of fits) there copied of.images.each in
-    weakened run (λ image x. form_either kept W c.args.form of.kept_of fits image (either_half kept W c.args.form of.kept_of fits plan refl refl to image x))
+returns-in-Ok-clause-form g c W of fits = formed g (goal.at.returns-in-Ok-clause-form g c).After-refill W of fits
 
 pub returns-in-Err-Memory-clause-moments : goal.returns-in-Err-Memory-clause-moments
-returns-in-Err-Memory-clause-moments g c W of fits =
-    let kept = c.args.kept.now in
-    let geometry = of.kept_of.keeps.geometry in
-    let to = c.floor-floor.ensures ∙ floor_is kept W of.kept_of c.last.result c.last.ensures in
-    let fresh : W.generation ≢ LAST = λ e. absurd (omega (arith, c.if-kept-ge-LAST.false, of.kept_of.keeps.generation, e)) in
-    let next = next_world W c.args.form of.kept_of.world fits fresh in
-    let plan : FillPlan = record { geometry = record kept.geometry { form = c.args.form }; generation = kept.generation + 1; old_base = kept.base; base = c.floor-floor.result; used = c.used.result } in
-    let there : c.half_place-to.result ≡ place_of W.geometry (1 - kept.half) = c.half_place-to.ensures ∙ (λ i. place_of (record (geometry i) { form = c.args.form }) (1 - kept.half)) in
-    let copied = copies kept W c.args.form of.kept_of fits plan c.half_place-from.result refl refl c.if-kept-ge-LAST.false refl to c.used.ensures c.half_place-from.ensures in
-    let run = c.refill.ensures.moments W.geometry (half_of_world W kept.half) (1 - kept.half) (both kept W c.args.form of.kept_of fits) there copied of.images.each in
-    let shown = weakened run (λ image x. shows_both kept W c.args.form of.kept_of fits next image (either_half kept W c.args.form of.kept_of fits plan refl refl to image x)) in
-    shown
+returns-in-Err-Memory-clause-moments g c W of fits = shown g (goal.at.returns-in-Err-Memory-clause-moments g c).After-refill W of fits
 
 pub returns-in-Err-Memory-clause-form : goal.returns-in-Err-Memory-clause-form
-returns-in-Err-Memory-clause-form g c W of fits =
-    let kept = c.args.kept.now in
-    let geometry = of.kept_of.keeps.geometry in
-    let to = c.floor-floor.ensures ∙ floor_is kept W of.kept_of c.last.result c.last.ensures in
-    let plan : FillPlan = record { geometry = record kept.geometry { form = c.args.form }; generation = kept.generation + 1; old_base = kept.base; base = c.floor-floor.result; used = c.used.result } in
-    let there : c.half_place-to.result ≡ place_of W.geometry (1 - kept.half) = c.half_place-to.ensures ∙ (λ i. place_of (record (geometry i) { form = c.args.form }) (1 - kept.half)) in
-    let copied = copies kept W c.args.form of.kept_of fits plan c.half_place-from.result refl refl c.if-kept-ge-LAST.false refl to c.used.ensures c.half_place-from.ensures in
-    let run = c.refill.ensures.moments W.geometry (half_of_world W kept.half) (1 - kept.half) (both kept W c.args.form of.kept_of fits) there copied of.images.each in
-    weakened run (λ image x. form_either kept W c.args.form of.kept_of fits image (either_half kept W c.args.form of.kept_of fits plan refl refl to image x))
+returns-in-Err-Memory-clause-form g c W of fits = formed g (goal.at.returns-in-Err-Memory-clause-form g c).After-refill W of fits
 
 pub returns-in-Err-Memory-clause-same : goal.returns-in-Err-Memory-clause-same
-returns-in-Err-Memory-clause-same g c W of fits other =
-    let kept = c.args.kept.now in
-    let geometry = of.kept_of.keeps.geometry in
-    let to = c.floor-floor.ensures ∙ floor_is kept W of.kept_of c.last.result c.last.ensures in
-    let fresh : W.generation ≢ LAST = λ e. absurd (omega (arith, c.if-kept-ge-LAST.false, of.kept_of.keeps.generation, e)) in
-    let next = next_world W c.args.form of.kept_of.world fits fresh in
-    let plan : FillPlan = record { geometry = record kept.geometry { form = c.args.form }; generation = kept.generation + 1; old_base = kept.base; base = c.floor-floor.result; used = c.used.result } in
-    let there : c.half_place-to.result ≡ place_of W.geometry (1 - kept.half) = c.half_place-to.ensures ∙ (λ i. place_of (record (geometry i) { form = c.args.form }) (1 - kept.half)) in
-    let copied = copies kept W c.args.form of.kept_of fits plan c.half_place-from.result refl refl c.if-kept-ge-LAST.false refl to c.used.ensures c.half_place-from.ensures in
-    let run = c.refill.ensures.moments W.geometry (half_of_world W kept.half) (1 - kept.half) (both kept W c.args.form of.kept_of fits) there copied of.images.each in
-    let shown = weakened run (λ image x. shows_both kept W c.args.form of.kept_of fits next image (either_half kept W c.args.form of.kept_of fits plan refl refl to image x)) in
+returns-in-Err-Memory-clause-same g c W of fits _ =
+    let s = (goal.at.returns-in-Err-Memory-clause-same g c).After-refill in
     record {
       kept_of = of.kept_of;
       is_down = of.is_down;
-      size = run.same_size ∙ of.size;
+      size = (either g s W of fits).same_size ∙ of.size;
       images = record {
         settled = c.in-Err-Memory.ensures.closed (λ i. Err (c.in-Err-Memory.field-0-is i));
-        each = c.in-Err-Memory.ensures.held W.geometry (half_of_world W kept.half) (1 - kept.half) (both kept W c.args.form of.kept_of fits) there copied of.images.each (λ i. Err (c.in-Err-Memory.field-0-is i));
+        each = c.in-Err-Memory.ensures.held W.geometry (half_of_world W c.args.kept.now.half) (1 - c.args.kept.now.half) (other g s W of fits) (there g s W of fits) (copied g s W of fits) of.images.each (λ i. Err (c.in-Err-Memory.field-0-is i));
       };
     }
 
 pub returns-in-Err-Disk-clause-moments : goal.returns-in-Err-Disk-clause-moments
-returns-in-Err-Disk-clause-moments g c W of fits =
-    let kept = c.args.kept.now in
-    let geometry = of.kept_of.keeps.geometry in
-    let to = c.floor-floor.ensures ∙ floor_is kept W of.kept_of c.last.result c.last.ensures in
-    let fresh : W.generation ≢ LAST = λ e. absurd (omega (arith, c.if-kept-ge-LAST.false, of.kept_of.keeps.generation, e)) in
-    let next = next_world W c.args.form of.kept_of.world fits fresh in
-    let plan : FillPlan = record { geometry = record kept.geometry { form = c.args.form }; generation = kept.generation + 1; old_base = kept.base; base = c.floor-floor.result; used = c.used.result } in
-    let there : c.half_place-to.result ≡ place_of W.geometry (1 - kept.half) = c.half_place-to.ensures ∙ (λ i. place_of (record (geometry i) { form = c.args.form }) (1 - kept.half)) in
-    let copied = copies kept W c.args.form of.kept_of fits plan c.half_place-from.result refl refl c.if-kept-ge-LAST.false refl to c.used.ensures c.half_place-from.ensures in
-    let run = c.refill.ensures.moments W.geometry (half_of_world W kept.half) (1 - kept.half) (both kept W c.args.form of.kept_of fits) there copied of.images.each in
-    let shown = weakened run (λ image x. shows_both kept W c.args.form of.kept_of fits next image (either_half kept W c.args.form of.kept_of fits plan refl refl to image x)) in
-    shown
+returns-in-Err-Disk-clause-moments g c W of fits = shown g (goal.at.returns-in-Err-Disk-clause-moments g c).After-refill W of fits
 
 pub returns-in-Err-Disk-clause-form : goal.returns-in-Err-Disk-clause-form
-returns-in-Err-Disk-clause-form g c W of fits =
-    let kept = c.args.kept.now in
-    let geometry = of.kept_of.keeps.geometry in
-    let to = c.floor-floor.ensures ∙ floor_is kept W of.kept_of c.last.result c.last.ensures in
-    let plan : FillPlan = record { geometry = record kept.geometry { form = c.args.form }; generation = kept.generation + 1; old_base = kept.base; base = c.floor-floor.result; used = c.used.result } in
-    let there : c.half_place-to.result ≡ place_of W.geometry (1 - kept.half) = c.half_place-to.ensures ∙ (λ i. place_of (record (geometry i) { form = c.args.form }) (1 - kept.half)) in
-    let copied = copies kept W c.args.form of.kept_of fits plan c.half_place-from.result refl refl c.if-kept-ge-LAST.false refl to c.used.ensures c.half_place-from.ensures in
-    let run = c.refill.ensures.moments W.geometry (half_of_world W kept.half) (1 - kept.half) (both kept W c.args.form of.kept_of fits) there copied of.images.each in
-    weakened run (λ image x. form_either kept W c.args.form of.kept_of fits image (either_half kept W c.args.form of.kept_of fits plan refl refl to image x))
+returns-in-Err-Disk-clause-form g c W of fits = formed g (goal.at.returns-in-Err-Disk-clause-form g c).After-refill W of fits
 
 pub returns-in-Err-Disk-clause-unworn : goal.returns-in-Err-Disk-clause-unworn
 returns-in-Err-Disk-clause-unworn g c W answer of fits failed =
-    let fresh : W.generation ≢ LAST = λ e. absurd (omega (arith, c.if-kept-ge-LAST.false, of.kept_of.keeps.generation, e)) in
-    ap (λ (x : CoreReply × World). x.0) (is_switched W c.args.form answer fresh)
+    ap (λ (x : CoreReply × World). x.0) (is_switched W c.args.form answer (fresh g (goal.at.returns-in-Err-Disk-clause-unworn g c).After-refill W of fits))
 
 pub returns-in-Err-Disk-clause-lost : goal.returns-in-Err-Disk-clause-lost
 returns-in-Err-Disk-clause-lost g c W of fits failed =
-    let kept = c.args.kept.now in
-    let geometry = of.kept_of.keeps.geometry in
-    let to = c.floor-floor.ensures ∙ floor_is kept W of.kept_of c.last.result c.last.ensures in
-    let fresh : W.generation ≢ LAST = λ e. absurd (omega (arith, c.if-kept-ge-LAST.false, of.kept_of.keeps.generation, e)) in
-    let next = next_world W c.args.form of.kept_of.world fits fresh in
-    let plan : FillPlan = record { geometry = record kept.geometry { form = c.args.form }; generation = kept.generation + 1; old_base = kept.base; base = c.floor-floor.result; used = c.used.result } in
-    let there : c.half_place-to.result ≡ place_of W.geometry (1 - kept.half) = c.half_place-to.ensures ∙ (λ i. place_of (record (geometry i) { form = c.args.form }) (1 - kept.half)) in
-    let copied = copies kept W c.args.form of.kept_of fits plan c.half_place-from.result refl refl c.if-kept-ge-LAST.false refl to c.used.ensures c.half_place-from.ensures in
-    let run = c.refill.ensures.moments W.geometry (half_of_world W kept.half) (1 - kept.half) (both kept W c.args.form of.kept_of fits) there copied of.images.each in
-    let shown = weakened run (λ image x. shows_both kept W c.args.form of.kept_of fits next image (either_half kept W c.args.form of.kept_of fits plan refl refl to image x)) in
+    let run = shown g (goal.at.returns-in-Err-Disk-clause-lost g c).After-refill W of fits in
     record {
-      kept_of = down_on kept W true of.kept_of;
+      kept_of = down_on c.args.kept.now W true of.kept_of;
       is_down = refl;
       size = run.same_size ∙ of.size;
-      images = λ image now. inl (at_end (g.met.D.Disk.lawful c.refill.new.disk) shown image now);
+      images = λ image now. inl (at_end (g.met.D.Disk.lawful c.refill.new.disk) run image now);
     }

@@ -1,5 +1,5 @@
 -- All bytes of the block.
-use Rattle.iso_core.proofs.Words.{◌≡◌, ◌∙◌, sym, ap, ℕ, ◌<◌, length, subst, Geometry, array_at, array_shape, block_at, on_ok_weaker, whole_range}
+use Rattle.iso_core.proofs.Words.{◌≡◌, ◌∙◌, sym, ap, ◌<◌, length, subst, Geometry, array_at, array_shape, block_at, on_ok_weaker, whole_range}
 use Rattle.iso_core.proofs.core_itself.Core.fetch.Goals as goal
 
 pub returns-clause-block : goal.returns-clause-block
