@@ -1,5 +1,5 @@
 -- Entries whose blocks rise.
-use Rattle.byte_marks.proofs.Words.{◌≡◌, ◌≢◌, refl, ◌∙◌, sym, ap, subst, ℕ, zero, suc, ◌+◌, ◌<◌, ◌≤◌, Bool, true, false, ◌&&◌, ◌||◌, ◌==◌, inl, inr, List, [], ◌∷◌, ◌++◌, length, get_or, set, take, drop, arith, ne_eqb, and_comm, and_left, and_right, cases_eq, Extent, has, entry_has, touches, RisesFrom}
+use Rattle.byte_marks.proofs.Words.{◌≡◌, ◌≢◌, refl, ◌∙◌, sym, ap, subst, ℕ, zero, suc, ◌+◌, ◌<◌, ◌≤◌, Bool, true, false, ◌&&◌, ◌||◌, ◌==◌, inl, inr, List, [], ◌∷◌, ◌++◌, length, get_or, set, take, drop, arith, ne_eqb, and_comm, or_assoc, or_comm, and_left, and_right, cases_eq, Extent, has, entry_has, touches, RisesFrom}
 use Rattle.byte_marks.proofs.Apart.{leave_out}
 
 -- they rise from any earlier block on too
@@ -109,11 +109,7 @@ touches_set b p zero (x ∷ xs) e more lt same grown =
     shift false h m false = refl
 touches_set b p (suc i) (x ∷ xs) e more lt same grown =
     let rest = touches_set b p i xs e more (omega arith) same grown in
-    rw rest (assoc (entry_has b p x) (touches xs b p) ((e.0 == b) && more))
-  where
-    assoc : (s t u : Bool) → (s || (t || u)) ≡ ((s || t) || u)
-    assoc true t u = refl
-    assoc false t u = refl
+    rw rest (sym (or_assoc (entry_has b p x) (touches xs b p) ((e.0 == b) && more)))
 
 -- a new entry at its place
 pub rises_insert : (f i : ℕ) (es : List (ℕ × List Extent)) (e : ℕ × List Extent) → RisesFrom f es → f ≤ e.0
@@ -134,18 +130,8 @@ rises_insert f (suc i) (x ∷ xs) e rises le before after within =
 
 pub touches_insert : (b p i : ℕ) (es : List (ℕ × List Extent)) (e : ℕ × List Extent) → i ≤ length es
     → touches (take i es ++ e ∷ drop i es) b p ≡ (touches es b p || entry_has b p e)
-touches_insert b p zero es e within = swap_or (entry_has b p e) (touches es b p)
-  where
-    swap_or : (s t : Bool) → (s || t) ≡ (t || s)
-    swap_or true true = refl
-    swap_or true false = refl
-    swap_or false true = refl
-    swap_or false false = refl
+touches_insert b p zero es e within = or_comm (entry_has b p e) (touches es b p)
 touches_insert b p (suc i) [] e within = absurd (omega arith)
 touches_insert b p (suc i) (x ∷ xs) e within =
     let rest = touches_insert b p i xs e (omega arith) in
-    rw rest (assoc (entry_has b p x) (touches xs b p) (entry_has b p e))
-  where
-    assoc : (s t u : Bool) → (s || (t || u)) ≡ ((s || t) || u)
-    assoc true t u = refl
-    assoc false t u = refl
+    rw rest (sym (or_assoc (entry_has b p x) (touches xs b p) (entry_has b p e)))

@@ -1,6 +1,6 @@
 -- The words that the proofs of this crate cite from elsewhere.
 pub use Rattle.std.proofs.Common.{Bool, IsTrue, List, None, Option, Some, ap, arith, drop, false, get_or, inl, inr, leb, length, length-append, ltb, map, max, nat_le, nat_lt, ne_eqb, refl, rules, set, subst, suc, sym, take, true, zero, ℕ, [], ◌&&◌, ◌++◌, ◌+◌, ◌-◌, ◌<◌, ◌==◌, ◌||◌, ◌∙◌, ◌∷◌, ◌≡◌, ◌≢◌, ◌≤◌}
-pub use Rattle.std.proofs.Math.Bool.{and-false, and_comm, or-false, or_assoc}
+pub use Rattle.std.proofs.Math.Bool.{and-false, and_comm, or-false, or_assoc, or_comm}
 pub use Rattle.std.proofs.lemmas.Bool.{and_left, and_right, cases_eq, cases_lt, le-leb, lt-leb, ltb-false, ltb-true}
 pub use Rattle.std.proofs.lemmas.Bool.Decides.{nat_tests}
 pub use Rattle.std.proofs.lemmas.List.{get_or_read}

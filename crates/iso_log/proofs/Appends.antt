@@ -1,9 +1,5 @@
 -- The images of a disk through the two steps of an append: the body, and then the gate.
-use Rattle.iso_log.proofs.Words.{◌≡◌, inl, inr, ◌≤◌, ◌+◌, ◌-◌, ℕ, List, [], ◌∷◌, length, take, drop, get_or, sym, ◌∙◌, ap, arith, subst, take_rest, TornFrom, torn_same, IsClosed, HasBody, Appending, appending_body, appending_gate, AppendingFrom, AppendedTo}
-
--- an image of before
-pub appending_none : {images : List ℕ → Type 0} (gate : ℕ) (bytes : List ℕ) → ((d : List ℕ) → images d → IsClosed gate d) → (c : List ℕ) → images c → AppendingFrom gate bytes images c
-appending_none gate bytes closed c image = record { old = c; was = image; appending = record { torn = torn_same gate (length bytes) c; state = inl (closed c image) } }
+use Rattle.iso_log.proofs.Words.{◌≡◌, inl, inr, ◌≤◌, ◌+◌, ◌-◌, ℕ, List, [], ◌∷◌, length, take, drop, get_or, sym, ◌∙◌, ap, arith, subst, take_rest, TornFrom, IsClosed, HasBody, Appending, appending_body, appending_gate, AppendingFrom, AppendedTo}
 
 -- with an open gate all stands
 pub appended : {images : List ℕ → Type 0} (gate : ℕ) (bytes c : List ℕ) → AppendingFrom gate bytes images c → get_or c gate 0 ≡ 1 → AppendedTo gate bytes images c

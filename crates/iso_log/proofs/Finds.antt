@@ -82,37 +82,28 @@ next_record g number bytes b opens size small =
 
 -- ---- bytes that were read further
 
-module _ (b more : List ℕ) (front : take (length b) more ≡ b) (long : 20 ≤ length b) (opens : get_or b 0 0 ≡ 1) where
-  pub gate_later : get_or more 0 0 ≡ 1
-  gate_later = sym (get_or-take (length b) more 0 0 (omega (arith, long))) ∙ ap (λ (l : List ℕ). get_or l 0 0) front ∙ opens
+module _ (b more : List ℕ) (front : take (length b) more ≡ b) (long : 20 ≤ length b) where
+  pub gate_later : get_or b 0 0 ≡ 1 → get_or more 0 0 ≡ 1
+  gate_later opens = sym (get_or-take (length b) more 0 0 (omega (arith, long))) ∙ ap (λ (l : List ℕ). get_or l 0 0) front ∙ opens
 
-  window_later : record_window more ≡ record_window b
-  window_later = sym (window_front more (length b) (omega (arith, long))) ∙ ap record_window front
+  pub window_later : record_window b ≡ record_window more
+  window_later = sym (ap record_window front) ∙ window_front more (length b) (omega (arith, long))
 
-  -- they are as many as the record asks for
-  pub cut_window : record_window b ≤ length more → record_window (take (record_window b) more) ≡ record_window b
-  cut_window enough = window_front more (record_window b) (omega arith) ∙ window_later
+-- they are as many as the record asks for
+module _ (bytes : List ℕ) (size : ℕ) (is : size ≡ record_window bytes) (enough : size ≤ length bytes) where
+  size_is : length (take size bytes) ≡ size
+  size_is = length-take-le size bytes enough
+
+  window_cut : record_window (take size bytes) ≡ size
+  window_cut = window_front bytes size (omega arith) ∙ sym is
 
   -- a test that they fail names one of them
-  pub fault_inside : (g : Geometry) (number : ℕ) (fault : FormatError) → record_window b ≤ length more → fault_of g number (take (record_window b) more) ≡ Some fault → offset_of fault < record_window b
-  fault_inside g number fault enough fails =
-      let size : length (take (record_window b) more) ≡ record_window b = length-take-le (record_window b) more enough in
-      let below = fault_below g number (take (record_window b) more) fault (omega (arith, size, cut_window enough)) fails in
-      omega (arith, below, size)
+  pub fault_inside : (g : Geometry) (number : ℕ) (fault : FormatError) → fault_of g number (take size bytes) ≡ Some fault → offset_of fault < size
+  fault_inside g number fault fails = omega (arith, fault_below g number (take size bytes) fault (omega (arith, size_is, window_cut)) fails, size_is)
 
-  -- the bytes that the record asks for
-  pub found_record : (g : Geometry) (number : ℕ) → record_window b ≤ length more → record_window b < 2 ^ 32 → BeginsWith g number (recorded (take (record_window b) more)) (take (record_window b) more)
-      → IsNextRecord g number (take (record_window b) more)
-  found_record g number enough small begins =
-      let size : length (take (record_window b) more) ≡ record_window b = length-take-le (record_window b) more enough in
-      let gate : get_or (take (record_window b) more) 0 0 ≡ 1 = get_or-take (record_window b) more 0 0 (omega arith) ∙ gate_later in
-      let window : record_window (take (record_window b) more) ≡ record_window b = cut_window enough in
-      next_record g number (take (record_window b) more) begins gate (omega (arith, size, window)) (omega (arith, size, small))
-
-  pub found_fault : (g : Geometry) (number place rest : ℕ) (c : List ℕ) → record_window b ≤ length more → length more ≤ rest → place + rest ≤ length c → StandAt place more c
-      → fault_of g number (take (record_window b) more) ≡ fault_of g number (take rest (drop place c))
-  found_fault g number place rest c enough within fits stands =
-      says_same place rest more c stands within g number (record_window b) fits enough (omega (arith, enough)) (sym window_later)
+  pub found_record : (g : Geometry) (number : ℕ) → get_or bytes 0 0 ≡ 1 → size < 2 ^ 32 → BeginsWith g number (recorded (take size bytes)) (take size bytes) → IsNextRecord g number (take size bytes)
+  found_record g number opens small begins =
+      next_record g number (take size bytes) begins (get_or-take size bytes 0 0 (omega arith) ∙ opens) (omega (arith, size_is, window_cut)) (omega (arith, size_is, small))
 
 -- where the log ends before the record, or before its head
 module _ (place rest : ℕ) (b c : List ℕ) (stands : StandAt place b c) (within : length b ≤ rest) (fits : place + rest ≤ length c) where

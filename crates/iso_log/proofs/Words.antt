@@ -1,5 +1,5 @@
 -- The words that the proofs of this crate cite from elsewhere.
-pub use Rattle.std.proofs.Common.{Bool, Err, IsErrOf, List, None, Ok, OnErr, OnOk, Option, Result, Some, ap, append_assoc, arith, cond, drop, false, get_or, inl, inr, length, length-append, length-drop, min, nat_le, nat_lt, not, refl, replicate, rules, subst, suc, sym, take, true, zero, ℕ, [], ◌&&◌, ◌*◌, ◌++◌, ◌+◌, ◌-◌, ◌<◌, ◌==◌, ◌^◌, ◌||◌, ◌∙◌, ◌∷◌, ◌≡◌, ◌≤◌, ◌⊎◌}
+pub use Rattle.std.proofs.Common.{Bool, Err, IsErrOf, List, None, Ok, OnOk, Option, Result, Some, ap, append_assoc, arith, cond, drop, false, get_or, inl, inr, length, length-append, length-drop, min, nat_le, nat_lt, not, refl, replicate, rules, subst, suc, sym, take, true, zero, ℕ, [], ◌&&◌, ◌*◌, ◌++◌, ◌+◌, ◌-◌, ◌<◌, ◌==◌, ◌^◌, ◌||◌, ◌∙◌, ◌∷◌, ◌≡◌, ◌≤◌, ◌⊎◌}
 pub use Rattle.std.proofs.Math.Seq.{paste}
 pub use Rattle.std.proofs.lemmas.List.{append-nil, drop-drop, drop-take, drop_at, get_or-drop, get_or-replicate, get_or-take, length-replicate, length-take, length-take-le, nil_from_length, places, take-take, take_rest, with_items_is}
 pub use Rattle.std.proofs.lemmas.List.Edits.{take-paste}

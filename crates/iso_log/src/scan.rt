@@ -1,10 +1,11 @@
 // The next record of a log, found in the bytes that are read ahead.
-ghost use Rattle.std.specs.Prelude.{◌≡◌, ◌+◌, ◌^◌, ◌≤◌, ◌<◌, None, Some, ℕ, length, IfOk, IfSome, IsErrOf, IsTrue};
+ghost use Rattle.std.specs.Prelude.{◌≡◌, ◌+◌, ◌^◌, ◌≤◌, ◌<◌, None, Some, ℕ, List, drop, length, slice_index, take, IfErr, IfOk, IfSome, IsErrOf, IsTrue, OnOk};
 ghost use Rattle.std.specs.Option.{ForSome};
 ghost use Rattle.iso_model.specs.Geometry.{is_valid};
 ghost use Rattle.iso_disk.specs.Disk.{WritesNothing};
-ghost use Rattle.commit_gate.specs.Gate.{IsClosed};
+ghost use Rattle.commit_gate.specs.Gate.{IsClosed, IsOpen};
 ghost use Rattle.iso_format.specs.Faults.{offset_of, test_number};
+ghost use Rattle.iso_format.specs.Records.{fault_of, record_window};
 ghost use Rattle.iso_log.specs.Cause.{BlamesDisk};
 ghost use Rattle.iso_log.specs.Scan.{IsDamaged, IsFirst, IsFound, IsTestBefore, StandAt};
 
@@ -25,6 +26,31 @@ fn damaged(gate: u64, fault: FormatError) -> LogError
     LogError::Damaged {
         at: gate + fault.offset(),
         cause: fault.number(),
+    }
+}
+
+// Tests the record that these bytes begin with, which has so many of them.
+fn test_front(
+    ahead: &ReadAhead,
+    size: u32,
+    geometry: &Geometry,
+    number: u64,
+) -> Result<(), FormatError>
+    requires head { 20 ≤ length ahead.now }
+    requires opens { slice_index ahead.now 0 ≡ 1 }
+    requires size { size ≡ record_window ahead.now }
+    requires enough { size ≤ length ahead.now }
+    ensures found { OnOk result (IsFound geometry.now number ahead.now size) }
+    ensures first { OnOk result ((gate rest : ℕ) (image : List ℕ) → StandAt gate ahead.now image → length ahead.now ≤ rest → gate + rest ≤ length image
+        → IsFirst geometry.now gate rest number image) }
+    ensures opens { IfErr result (λ fault. (gate rest : ℕ) (image : List ℕ) → StandAt gate ahead.now image → length ahead.now ≤ rest → gate + rest ≤ length image
+        → IsOpen gate image × (fault_of geometry.now number (take rest (drop gate image)) ≡ Some fault)) }
+    ensures inside { IfErr result (λ fault. offset_of fault < size) }
+{
+    let (record, _) = ahead.as_slice().split_at(size as usize);
+    match read_record(record, geometry, number) {
+        Ok(_) => Ok(()),
+        Err(fault) => Err(fault),
     }
 }
 
@@ -68,9 +94,8 @@ pub fn find_record<D: Disk>(
     }
     let window = window as u32;
     ahead.ask(disk, gate, window, rest)?;
-    let (record, _) = ahead.as_slice().split_at(window as usize);
-    match read_record(record, geometry, number) {
-        Ok(_) => Ok(Some(window)),
+    match test_front(ahead, window, geometry, number) {
+        Ok(()) => Ok(Some(window)),
         Err(fault) => Err(damaged(gate, fault)),
     }
 }

@@ -111,7 +111,3 @@ err_weaker (Err e) implies p = implies e p
 pub ok_weaker : {T : Type 0} {P Q : T → Type 0} (r : Result T OpenError) → ((x : T) → P x → Q x) → IfOk r P → IfOk r Q
 ok_weaker (Ok x) implies p = implies x p
 ok_weaker (Err e) implies p = tt
-
--- a fault of the disk is no test
-pub no_test : (e : OpenError) → e ≡ Disk → IsTest e → ⊥
-no_test e is test = subst IsTest is test

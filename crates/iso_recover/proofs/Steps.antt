@@ -70,7 +70,7 @@ starts_reading f d laws is start index ahead begins blocks none empty = record {
   unwritten = starts_unwritten laws;
 }
 
-module _ (f : Front) (old now : DiskState) (laws : IsLawful old) (log : Extent) (index : List BlockVersions) (ahead : List ℕ) (is : IsFront f old.size) (r : IsReading f old now log index ahead) where
+module _ {f : Front} {old now : DiskState} {log : Extent} {index : List BlockVersions} {ahead : List ℕ} (laws : IsLawful old) (is : IsFront f old.size) (r : IsReading f old now log index ahead) where
   used_is : log.used ≡ length (read_bytes f r.told)
   used_is = ap (λ (e : Extent). e.used) r.read.log_is
 

@@ -1,5 +1,5 @@
 -- A core of the tests in which one transaction began and did something.
-use Rattle.iso_recover.proofs.Words.{◌≡◌, ◌≢◌, ◌∙◌, sym, refl, ap, subst, inl, ℕ, ◌+◌, ◌-◌, ◌<◌, ◌≤◌, Bool, true, false, cond, ◌==◌, ◌&&◌, not, List, [], ◌∷◌, ◌++◌, length, map, take, drop, Option, None, arith, nat_lt, nat_le, drop-take, AllByRecursion, up_to, Core, IsAmong, IsCheckedOf, IsTx, IsWorkOf, StandsFor, bare, Standing, up, stands_on, DiskState, Access, Clash, Geometry, Mode, LAST, MAX_ACCESSES, MAX_LIVE, CoreReply, same_mode, clash, clash_from, first_after, has_write, History, last, AreAccesses, AreBytes, after_begin, begin_step, with_live, write_access, World, Live, floor_of, unattached, IsLive, IsWorld, Doing, IsDown}
+use Rattle.iso_recover.proofs.Words.{◌≡◌, ◌≢◌, ◌∙◌, sym, refl, ap, subst, inl, ℕ, ◌+◌, ◌-◌, ◌<◌, ◌≤◌, Bool, true, false, cond, ◌==◌, ◌&&◌, not, List, [], ◌∷◌, ◌++◌, length, map, take, drop, Option, None, arith, nat_lt, nat_le, drop-take, AllByRecursion, up_to, Core, IsAmong, IsCheckedOf, IsTx, IsWorkOf, StandsFor, bare, Standing, up, stands_on, DiskState, Access, Clash, Geometry, Mode, LAST, MAX_ACCESSES, MAX_LIVE, CoreReply, same_mode, clash, clash_from, first_after, has_write, History, last, AreAccesses, AreBytes, AreDistinct, after_begin, begin_step, with_live, write_access, World, Live, floor_of, unattached, IsLive, Doing, IsDown}
 use Rattle.iso_model.specs.declared.core_reply.CoreReply.TheVariants as reply
 
 -- the transaction that began, with what it did
@@ -10,53 +10,57 @@ working W mode accesses = record { number = W.next; begin = last W.history; mode
 abbrev pub worked : World → Mode → List Access → World
 worked W mode accesses = with_live (after_begin W unattached mode) (working W mode accesses ∷ [])
 
-module _ {D : Type 0} (state : D → DiskState) (core : Core D) (W : World) (mode : Mode) (accesses : List Access)
-    (of : StandsFor state core (after_begin W unattached mode) up) (none : W.live ≡ []) (access : AreAccesses W.geometry accesses) (few : length accesses ≤ MAX_ACCESSES) where
-  was : IsLive (after_begin W unattached mode) (working W mode [])
-  was = (subst (λ (l : List Live). AllByRecursion (IsLive (after_begin W unattached mode)) (l ++ working W mode [] ∷ [])) none of.kept_of.world.live).0
-
-  is_world : IsWorld (worked W mode accesses)
-  is_world =
-      let old = of.kept_of.world in
-      record {
-        valid = old.valid;
-        history = old.history;
-        isolated = old.isolated;
-        records = old.records;
-        numbers = old.numbers;
-        since = old.since;
+-- a core that stands for a world stands for it with other transactions that began as those did
+pub stands_with : {D : Type 0} (state : D → DiskState) (core : Core D) (V : World) (was now : List Live) → StandsFor state core V up → V.live ≡ was → map bare was ≡ map bare now
+    → floor_of (last V.history) was ≤ floor_of (last V.history) now → AllByRecursion (IsLive (with_live V now)) now → AreDistinct now → length now ≤ MAX_LIVE → StandsFor state core (with_live V now) up
+stands_with state core V was now of are same floors live distinct count =
+    let world = of.kept_of.world in
+    let old = of.kept_of.keeps in
+    stands_on (state core.disk) core.kept core.kept V up now V.next V.trim of refl refl (record {
+      world = record {
+        valid = world.valid;
+        history = world.history;
+        isolated = world.isolated;
+        records = world.records;
+        numbers = world.numbers;
+        since = world.since;
+        base = world.base;
+        trim = world.trim;
+        generation = world.generation;
+        room = world.room;
+        live = live;
+        distinct = distinct;
+        count = count;
+        next = world.next;
+      };
+      keeps = record {
+        geometry = old.geometry;
+        half = old.half;
+        generation = old.generation;
         base = old.base;
         trim = old.trim;
-        generation = old.generation;
-        room = old.room;
-        live = (record { accesses = access; count = few; since = was.since; begin = was.begin; mode = was.mode; number = was.number; place = tt }, tt);
-        distinct = (tt, tt);
-        count = omega arith;
         next = old.next;
-      }
+        log = old.log;
+        index = old.index;
+        notes = record {
+          from = old.notes.from;
+          before = (let least = subst (λ (l : List Live). old.notes.from ≤ floor_of (last V.history) l) are old.notes.before in omega arith);
+          notes = old.notes.notes;
+        };
+        live = old.live ∙ ap (map bare) are ∙ same;
+      };
+    })
+
+module _ {D : Type 0} (state : D → DiskState) (core : Core D) (W : World) (mode : Mode) (accesses : List Access)
+    (of : StandsFor state core (after_begin W unattached mode) up) (none : W.live ≡ []) (access : AreAccesses W.geometry accesses) (few : length accesses ≤ MAX_ACCESSES) where
+  are : W.live ++ working W mode [] ∷ [] ≡ working W mode [] ∷ []
+  are = ap (λ (l : List Live). l ++ working W mode [] ∷ []) none
 
   works : StandsFor state core (worked W mode accesses) up
   works =
-      let old = of.kept_of.keeps in
-      stands_on (state core.disk) core.kept core.kept (after_begin W unattached mode) up (working W mode accesses ∷ []) (W.next + 1) W.trim of refl refl (record {
-        world = is_world;
-        keeps = record {
-          geometry = old.geometry;
-          half = old.half;
-          generation = old.generation;
-          base = old.base;
-          trim = old.trim;
-          next = old.next;
-          log = old.log;
-          index = old.index;
-          notes = record {
-            from = old.notes.from;
-            before = subst (λ (l : List Live). old.notes.from ≤ floor_of (last W.history) (l ++ working W mode [] ∷ [])) none old.notes.before;
-            notes = old.notes.notes;
-          };
-          live = old.live ∙ ap (λ (l : List Live). map bare (l ++ working W mode [] ∷ [])) none;
-        };
-      })
+      let was = (subst (λ (l : List Live). AllByRecursion (IsLive (after_begin W unattached mode)) l) are of.kept_of.world.live).0 in
+      stands_with state core (after_begin W unattached mode) (working W mode [] ∷ []) (working W mode accesses ∷ []) of are refl (omega arith)
+      (record { accesses = access; count = few; since = was.since; begin = was.begin; mode = was.mode; number = was.number; place = tt }, tt) (tt, tt) (omega arith)
 
 -- no commit is above the last one
 no_more : (test : Bool) (found : Option Clash) → None ≡ found → None ≡ cond test found None

@@ -1,7 +1,7 @@
 -- A core of the tests in which two transactions began and did something.
-use Rattle.iso_recover.proofs.Words.{◌≡◌, ◌∙◌, sym, refl, ap, subst, inl, inr, ℕ, ◌+◌, ◌<◌, ◌≤◌, false, List, [], ◌∷◌, ◌++◌, length, map, None, arith, AllByRecursion, Core, GroupEnd, IsWorkOf, StandsFor, bare, AreEach, IsMember, Standing, up, stands_on, DiskState, Access, Geometry, Mode, MAX_ACCESSES, last, AreAccesses, AreBytes, IsAccess, after_begin, begin_step, read_access, with_live, write_access, World, Live, floor_of, unattached, IsLive, IsWorld, Doing, HasDone}
+use Rattle.iso_recover.proofs.Words.{◌≡◌, ◌∙◌, sym, refl, ap, subst, inl, inr, ℕ, ◌+◌, ◌<◌, ◌≤◌, false, List, [], ◌∷◌, ◌++◌, length, None, arith, AllByRecursion, Core, GroupEnd, IsWorkOf, StandsFor, AreEach, IsMember, Standing, up, DiskState, Access, Geometry, Mode, MAX_ACCESSES, last, AreAccesses, AreBytes, IsAccess, after_begin, begin_step, read_access, with_live, write_access, World, Live, unattached, IsLive, Doing, HasDone}
 use Rattle.iso_model.specs.declared.core_reply.CoreReply.TheVariants as reply
-use Rattle.iso_recover.proofs.TestCores.{began_at, working}
+use Rattle.iso_recover.proofs.TestCores.{began_at, stands_with, working}
 
 -- the world in which the two began
 abbrev pub two_begun : World → Mode → World
@@ -18,59 +18,19 @@ two_worked W mode a b = with_live (two_begun W mode) (working W mode a ∷ secon
 module _ {D : Type 0} (state : D → DiskState) (core : Core D) (W : World) (mode : Mode) (a b : List Access)
     (of : StandsFor state core (two_begun W mode) up) (none : W.live ≡ []) (first_accesses : AreAccesses W.geometry a) (second_accesses : AreAccesses W.geometry b)
     (first_few : length a ≤ MAX_ACCESSES) (second_few : length b ≤ MAX_ACCESSES) where
-  both : List Live → List Live
-  both live = (live ++ working W mode [] ∷ []) ++ second W mode [] ∷ []
-
-  were : AllByRecursion (IsLive (two_begun W mode)) (working W mode [] ∷ second W mode [] ∷ [])
-  were = subst (λ (l : List Live). AllByRecursion (IsLive (two_begun W mode)) ((l ++ working W mode [] ∷ []) ++ second W mode [] ∷ [])) none of.kept_of.world.live
-
-  is_world : IsWorld (two_worked W mode a b)
-  is_world =
-      let old = of.kept_of.world in
-      let one = were.0 in
-      let two = were.1.0 in
-      record {
-        valid = old.valid;
-        history = old.history;
-        isolated = old.isolated;
-        records = old.records;
-        numbers = old.numbers;
-        since = old.since;
-        base = old.base;
-        trim = old.trim;
-        generation = old.generation;
-        room = old.room;
-        live = (
-          record { accesses = first_accesses; count = first_few; since = one.since; begin = one.begin; mode = one.mode; number = one.number; place = tt },
-          (record { accesses = second_accesses; count = second_few; since = two.since; begin = two.begin; mode = two.mode; number = two.number; place = tt }, tt),
-        );
-        distinct = ((record { numbers = λ e. absurd (omega (arith, e)); places = tt }, tt), (tt, tt));
-        count = omega arith;
-        next = old.next;
-      }
+  are : (W.live ++ working W mode [] ∷ []) ++ second W mode [] ∷ [] ≡ working W mode [] ∷ second W mode [] ∷ []
+  are = ap (λ (l : List Live). (l ++ working W mode [] ∷ []) ++ second W mode [] ∷ []) none
 
   pub two_work : StandsFor state core (two_worked W mode a b) up
   two_work =
-      let old = of.kept_of.keeps in
-      stands_on (state core.disk) core.kept core.kept (two_begun W mode) up (working W mode a ∷ second W mode b ∷ []) (W.next + 1 + 1) W.trim of refl refl (record {
-        world = is_world;
-        keeps = record {
-          geometry = old.geometry;
-          half = old.half;
-          generation = old.generation;
-          base = old.base;
-          trim = old.trim;
-          next = old.next;
-          log = old.log;
-          index = old.index;
-          notes = record {
-            from = old.notes.from;
-            before = subst (λ (l : List Live). old.notes.from ≤ floor_of (last W.history) ((l ++ working W mode [] ∷ []) ++ second W mode [] ∷ [])) none old.notes.before;
-            notes = old.notes.notes;
-          };
-          live = old.live ∙ ap (λ (l : List Live). map bare ((l ++ working W mode [] ∷ []) ++ second W mode [] ∷ [])) none;
-        };
-      })
+      let were = subst (λ (l : List Live). AllByRecursion (IsLive (two_begun W mode)) l) are of.kept_of.world.live in
+      let one = were.0 in
+      let two = were.1.0 in
+      stands_with state core (two_begun W mode) (working W mode [] ∷ second W mode [] ∷ []) (working W mode a ∷ second W mode b ∷ []) of are refl (omega arith) (
+        record { accesses = first_accesses; count = first_few; since = one.since; begin = one.begin; mode = one.mode; number = one.number; place = tt },
+        (record { accesses = second_accesses; count = second_few; since = two.since; begin = two.begin; mode = two.mode; number = two.number; place = tt }, tt),
+      )
+      ((record { numbers = λ e. absurd (omega (arith, e)); places = tt }, tt), (tt, tt)) (omega arith)
 
 is_work : (V W : World) (t : Live) (g : Geometry) (at : ℕ) (work : Doing) → g ≡ W.geometry → V.geometry ≡ W.geometry → at ≡ t.begin → t.mode ≡ W.geometry.mode → t.accesses ≡ work.accesses → HasDone g at work → IsWorkOf V t work
 is_work V W t g at work same kept begin mode accesses did = record {

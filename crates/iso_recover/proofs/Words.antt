@@ -2,7 +2,7 @@
 pub use Rattle.std.proofs.Common.{Bool, Err, IfErr, IfOk, IsErrOf, IsTrue, List, None, Ok, OnErr, Option, Result, Some, ap, append_assoc, arith, codes, cond, drop, eq-eqb, false, get_or, inl, inr, length, length-append, length-drop, map, nat_le, nat_lt, ne_eqb, not, option_map, refl, replicate, subst, suc, sym, take, take-append-drop, true, zero, ℕ, [], ◌&&◌, ◌*◌, ◌++◌, ◌+◌, ◌-◌, ◌<◌, ◌==◌, ◌^◌, ◌||◌, ◌∙◌, ◌∷◌, ◌≡◌, ◌≢◌, ◌≤◌, ◌⊎◌}
 pub use Rattle.std.proofs.Math.Path.{transport}
 pub use Rattle.std.proofs.lemmas.Bool.{cases_eq, eqb-true, le-ltb, lt-ltb}
-pub use Rattle.std.proofs.lemmas.List.{append-nil, drop-append-le, drop-drop, drop-replicate, drop-take, drop_all, drop_at, drop_more, get_or-drop, get_or-replicate, get_or-take, length-map, length-replicate, length-take, length_push, replicate-append-replicate, take-append-le, take-replicate, take-take, take_at}
+pub use Rattle.std.proofs.lemmas.List.{append-nil, drop-append-le, drop-drop, drop-replicate, drop-take, drop_all, drop_at, drop_more, get_or-drop, get_or-replicate, get_or-take, length-replicate, length-take, length_push, replicate-append-replicate, take-append-le, take-replicate, take-take, take_at}
 pub use Rattle.std.proofs.lemmas.List.Quantifiers.{position-Some}
 pub use Rattle.std.proofs.lemmas.Option.{none-some, same_Some}
 pub use Rattle.std.proofs.lemmas.Result.{on_ok_weaker}
@@ -28,7 +28,7 @@ pub use Rattle.iso_format.proofs.Parts.{length-spell}
 pub use Rattle.iso_format.proofs.Windows.{window_front}
 pub use Rattle.iso_format.specs.Reading.{first_not_zero, geometry_of, unclean_place, unless_wrong, wrong_field}
 unfoldable pub use Rattle.iso_format.specs.Reading.{half_of, super_of}
-pub use Rattle.iso_format.specs.Records.{Recorded, fault_of, record_window, recorded}
+pub use Rattle.iso_format.specs.Records.{Recorded, fault_of, record_window}
 pub use Rattle.iso_format.specs.Spelled.{Spelled}
 pub use Rattle.iso_format.specs.declared.superblock.SuperError.{SuperError}
 pub use Rattle.iso_image.proofs.Frames.{log_inside}
@@ -39,7 +39,7 @@ pub use Rattle.iso_log.proofs.Counts.{window_is}
 pub use Rattle.iso_log.proofs.Finds.{taken_is}
 pub use Rattle.iso_log.proofs.Pieces.{stand_front}
 pub use Rattle.iso_log.specs.Extent.{Extent, extent_of, next_place}
-pub use Rattle.iso_log.specs.Scan.{IsDamaged, IsFirst, IsNextRecord, IsTaken, IsTestBefore, StandAt}
+pub use Rattle.iso_log.specs.Scan.{IsDamaged, IsFirst, IsTaken, IsTestBefore, StandAt}
 pub use Rattle.iso_log.specs.declared.log_error.LogError.{LogError}
 pub use Rattle.iso_model.proofs.Bounds.{limits}
 pub use Rattle.iso_model.proofs.ByteLists.{bytes_append, bytes_cons, bytes_front, no_bytes, replicate_bytes}
@@ -59,7 +59,7 @@ pub use Rattle.iso_model.specs.Premises.{AreAccesses, AreBytes, IsAccess}
 pub use Rattle.iso_model.specs.Step.{after_begin, read_access, with_live, write_access}
 unfoldable pub use Rattle.iso_model.specs.Step.{begin_step}
 pub use Rattle.iso_model.specs.World.{Live, World, empty_history, floor_of, fresh, unattached}
-pub use Rattle.iso_model.specs.Worlds.{IsLive, IsWorld}
+pub use Rattle.iso_model.specs.Worlds.{AreDistinct, IsLive, IsWorld}
 pub use Rattle.iso_model.specs.declared.access.Access.{Access}
 pub use Rattle.iso_model.specs.declared.access.Clash.{Clash}
 pub use Rattle.iso_model.specs.declared.access.Geometry.{Geometry}
@@ -77,9 +77,8 @@ pub use Rattle.iso_refusal.specs.declared.open_error.OpenError.TheVariants.{BadG
 pub use Rattle.mv_index.specs.Placed.{IsIndexOf}
 pub use Rattle.mv_index.specs.Versions.{BlockVersions, versions_in}
 pub use Rattle.version_read.proofs.Following.{index_more}
-pub use Rattle.version_read.proofs.Taking.{may_take, parts_below, parts_few, parts_rise, parts_small}
-pub use Rattle.version_read.specs.Parts.{BlocksRise, HasTaken, MayTake, part_of}
-pub use Rattle.version_read.specs.declared.part_span.PartSpan.{PartSpan}
+pub use Rattle.version_read.proofs.Taking.{may_take}
+pub use Rattle.version_read.specs.Parts.{HasTaken, MayTake, part_of}
 pub use Rattle.conflict_rule.specs.Decision.{up_to}
 pub use Rattle.tx_table.specs.Work.{Doing}
 pub use Rattle.iso_memdisk.specs.MemDisk.{state_of}

@@ -1,5 +1,5 @@
 -- Bits of a row of masks, a word at a time.
-use Rattle.merge_write.proofs.Words.{◌≡◌, ◌≢◌, ◌∙◌, refl, sym, ap, ℕ, zero, suc, not, w64, ◌+◌, ◌-◌, ◌*◌, ◌/◌, ◌%◌, ◌^◌, ◌<◌, ◌≤◌, ◌==◌, ◌&&◌, ◌||◌, Bool, true, false, max, List, length, get_or, set, inl, inr, arith, bit_or, get_or-set_same, get_or-set_other, nat_le, nat_lt, cases_eq, cases_lt, nat_tests, bit_at_or, bit_at_not, bit_at_ones, bit_at_above, bit_at-lt, bit_at-trailing_zeros, bit_at_mask_inside, bit_at_mask_below, bit_at_mask_above, and-false, shr-shr, shr_le, bit_at, trailing_zeros, is_set}
+use Rattle.merge_write.proofs.Words.{◌≡◌, ◌≢◌, ◌∙◌, refl, sym, ap, ℕ, zero, suc, not, w64, ◌+◌, ◌-◌, ◌*◌, ◌/◌, ◌%◌, ◌^◌, ◌<◌, ◌≤◌, ◌==◌, ◌&&◌, ◌||◌, Bool, true, false, max, List, length, get_or, set, inl, inr, arith, bit_or, get_or-set_same, get_or-set_other, nat_le, nat_lt, cases_eq, cases_lt, nat_tests, bit_at_or, bit_at_not, bit_at_ones, bit_at_above, bit_at-lt, bit_at-trailing_zeros, bit_at_mask_inside, bit_at_mask_below, bit_at_mask_above, and-false, or_assoc, shr-shr, shr_le, bit_at, trailing_zeros, is_set}
 
 either_bit : (a b : ℕ) → a < 2 → b < 2 → (max a b == 1) ≡ ((b == 1) || (a == 1))
 either_bit a b small tiny = elim (cases_eq a 0) [
@@ -75,12 +75,8 @@ pub stretch_more : (from at end k : ℕ) (before now first : Bool) → from ≤ 
     → before ≡ ((nat_le from k && nat_lt k at) || first) → now ≡ ((nat_le from k && nat_lt k end) || first)
 stretch_more from at end k before now first le more step old =
     step ∙ ap (λ (b : Bool). (nat_le at k && nat_lt k end) || b) old
-    ∙ regroup (nat_le at k && nat_lt k end) (nat_le from k && nat_lt k at) first
+    ∙ sym (or_assoc (nat_le at k && nat_lt k end) (nat_le from k && nat_lt k at) first)
     ∙ ap (λ (b : Bool). b || first) (two_stretches from at end k le more)
-  where
-    regroup : (a b c : Bool) → (a || (b || c)) ≡ ((a || b) || c)
-    regroup true b c = refl
-    regroup false b c = refl
 
 -- all bits of the word of ones
 pub all_ones : (k : ℕ) → k < 64 → (bit_at 18446744073709551615 k == 1) ≡ true

@@ -66,12 +66,6 @@ front_run b p (suc (suc n)) masks (x ∷ bytes) some room all end =
     (ap (joined b p x) rest
     ∙ joined_before b p x (record { block = b; off = p + 1; bytes = take (suc n) bytes }) (runs_from b (p + 1 + suc n) (values_from masks (p + 1 + suc n) (drop (suc n) bytes))) refl)
 
--- the values from a place on are those of the bytes from there on
-pub drop_values : (masks : List ℕ) (p n : ℕ) (bytes : List ℕ) → drop n (values_from masks p bytes) ≡ values_from masks (p + n) (drop n bytes)
-drop_values masks p zero bytes = let e : p + 0 ≡ p = omega arith in rw e refl
-drop_values masks p (suc n) [] = refl
-drop_values masks p (suc n) (x ∷ bytes) = let e : p + suc n ≡ p + 1 + n = omega arith in rw e (drop_values masks (p + 1) n bytes)
-
 -- no byte from a place on is set
 pub none_left : (at : ℕ) (masks bytes : List ℕ) → at ≤ length bytes → ((k : ℕ) → at ≤ k → k < length bytes → is_set masks k ≡ false)
     → runs_from 0 at (values_from masks at (drop at bytes)) ≡ []

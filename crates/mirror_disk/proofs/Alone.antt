@@ -1,6 +1,8 @@
 -- How a call ends on a mirror with one side in use.
-use Rattle.mirror_disk.proofs.Words.{◌≡◌, ◌≢◌, inr, ⊎_elim, ℕ, ◌+◌, ◌≤◌, List, [], Some, refl, sym, ◌∙◌, ap, subst, arith, DiskState, IsLawful, IsSettled, TornFrom, LeavesOnly, torn_from_old, at_end, started, weakened, Slot, Used, Both, OnlyFirst, OnlySecond, HasEnded, IsHeader, chosen, rising_first, chosen_told, mirrored, ArePair, FirstLeads, SecondLeads, IsPair}
+use Rattle.mirror_disk.proofs.Words.{◌≡◌, ◌≢◌, ◌⊎◌, inr, ⊎_elim, ℕ, ◌+◌, ◌≤◌, List, [], Some, refl, sym, ◌∙◌, ap, subst, arith, DiskState, IsLawful, IsSettled, TornFrom, LeavesOnly, Elapses, torn_from_old, at_end, called, started, weakened, Slot, Used, Plain, OnlyFirst, OnlySecond, Broken, Unbound, HasEnded, IsHeader, chosen, rising_first, chosen_told, mirrored, ArePair, FirstLeads, SecondLeads, IsPair}
+use Rattle.mirror_disk.proofs.Asked.{told_same}
 use Rattle.mirror_disk.proofs.Calls.{elapses_pair}
+use Rattle.mirror_disk.proofs.Ended.{tells_on}
 use Rattle.mirror_disk.proofs.Epochs.{chosen_first, chosen_second}
 use Rattle.mirror_disk.proofs.Stands.{header_torn, GoesOnTelling, epoch_of_torn, from_a, from_b, meets_first, meets_second, now_from_a, now_from_b, pair_on, some_told}
 
@@ -47,6 +49,16 @@ module _ {a b new_b : DiskState} (past : List (ℕ × ℕ)) (e : ℕ) (one two :
   }
 
 -- a call in no bytes, as a read or a sync
+pub synced_first : {a b new_a : DiskState} (past : List (ℕ × ℕ)) (e : ℕ) (one two : Slot) → IsLawful a → IsLawful b → IsLawful new_a → ArePair a b past → FirstLeads a b past e → Elapses a new_a a.now → new_a.contents ≡ a.contents
+    → HasEnded a b new_a b OnlyFirst past e one two 0 0
+synced_first {a = a} {new_a = new_a} past e one two law_a law_b law_a' pair leads run same =
+    ended_first_alone past e one two 0 0 law_a law_b law_a' pair leads (called law_a run (λ x now. torn_from_old 64 0 x now) (λ x now. torn_from_old 64 0 x now)) (tells_on (told_same a new_a 64 same))
+
+pub synced_second : {a b new_b : DiskState} (past : List (ℕ × ℕ)) (e : ℕ) (one two : Slot) → IsLawful a → IsLawful b → IsLawful new_b → ArePair a b past → SecondLeads a b past e → Elapses b new_b b.now → new_b.contents ≡ b.contents
+    → HasEnded a b a new_b OnlySecond past e one two 0 0
+synced_second {b = b} {new_b = new_b} past e one two law_a law_b law_b' pair leads run same =
+    ended_second_alone past e one two 0 0 law_a law_b law_b' pair leads (called law_b run (λ y now. torn_from_old 64 0 y now) (λ y now. torn_from_old 64 0 y now)) (tells_on (told_same b new_b 64 same))
+
 pub none_torn : {images : List ℕ → Type 0} (c : List ℕ) → TornFrom 0 0 images c → images c
 none_torn {images = images} c t = subst images (sym t.torn.after) t.was
 
@@ -87,19 +99,23 @@ settled_second a b past f m e law_a law_b pair leads two c image =
     let y = leads.second image.second image.of_second in
     (λ i. chosen_told (told.1 i) (two image.second image.of_second i)) ∙ ap Some (chosen_second told.0 image.second (omega (arith, y, z)) ∙ sym (chosen_second image.first image.second (omega (arith, x, y))) ∙ sym image.is)
 
+none_of : {u v : Used} → (u ≡ Plain) ⊎ ((u ≡ Broken) ⊎ (u ≡ Unbound)) → Plain ≢ v → Broken ≢ v → Unbound ≢ v → u ≢ v
+none_of {u = u} out plain broken unbound is =
+    ⊎_elim (λ (e : u ≡ Plain). plain (sym e ∙ is)) (⊎_elim (λ (e : u ≡ Broken). broken (sym e ∙ is)) (λ (e : u ≡ Unbound). unbound (sym e ∙ is))) out
+
 -- no side is asked
-pub ended_idle : {a b : DiskState} (used : Used) (past : List (ℕ × ℕ)) (e : ℕ) (one two : Slot) (at n : ℕ) → IsLawful a → IsLawful b → IsPair used → used ≢ Both → used ≢ OnlyFirst → used ≢ OnlySecond → ArePair a b past
+pub ended_idle : {a b : DiskState} (used : Used) (past : List (ℕ × ℕ)) (e : ℕ) (one two : Slot) (at n : ℕ) → IsLawful a → IsLawful b → IsPair used → (used ≡ Plain) ⊎ ((used ≡ Broken) ⊎ (used ≡ Unbound)) → ArePair a b past
     → HasEnded a b a b used past e one two at n
-ended_idle {a = a} {b = b} used past e one two at n law_a law_b is_pair not_both not_first not_second pair =
+ended_idle {a = a} {b = b} used past e one two at n law_a law_b is_pair out pair =
     let idle_a : LeavesOnly a a a.now = started law_a (λ x now. now) in
     let idle_b : LeavesOnly b b b.now = started law_b (λ y now. now) in
     record {
       is_pair = is_pair;
       stands = record {
         pair = λ _. pair_on pair idle_a idle_b (λ x now. pair.first_told x (now_from_a past law_a law_b pair.rising x now)) (λ y now. pair.second_told y (now_from_b past law_a law_b pair.rising y now)) (λ told. told) (λ told. told) (started law_a (λ x now. pair.first_header x (now_from_a past law_a law_b pair.rising x now))) (started law_b (λ y now. pair.second_header y (now_from_b past law_a law_b pair.rising y now)));
-        both = λ is. absurd (not_both is);
-        first = λ is. absurd (not_first is);
-        second = λ is. absurd (not_second is);
+        both = λ is. absurd (none_of out (λ e. cc e) (λ e. cc e) (λ e. cc e) is);
+        first = λ is. absurd (none_of out (λ e. cc e) (λ e. cc e) (λ e. cc e) is);
+        second = λ is. absurd (none_of out (λ e. cc e) (λ e. cc e) (λ e. cc e) is);
       };
       elapses = λ f g m. elapses_pair past f g m law_a law_b law_a law_b pair.rising idle_a idle_b (record {
         both = λ x y p q. torn_from_old at n (chosen x y) (record { first = x; second = y; of_first = p; of_second = q; is = refl });

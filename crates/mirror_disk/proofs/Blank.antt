@@ -1,5 +1,5 @@
 -- Two sides that were just made.
-use Rattle.mirror_disk.proofs.Words.{◌≡◌, inl, inr, ℕ, ◌+◌, ◌-◌, List, [], ◌++◌, drop, replicate, Option, Some, None, IsSome, refl, sym, ◌∙◌, ap, subst, arith, IfNone, IfSome, ForSome, cases_lt, drop-replicate, DiskState, IsLawful, IsSettled, Splices, settled_write, First, Used, blank_header, body, chosen, epoch, both_tell, ChosenOf, chosen_told, mirrored, HasEpoch, ArePair, AreBoth, IsPair, state_in}
+use Rattle.mirror_disk.proofs.Words.{◌≡◌, inl, inr, ℕ, ◌+◌, ◌-◌, List, [], ◌++◌, drop, replicate, Option, Some, None, refl, sym, ◌∙◌, ap, subst, arith, IfNone, IfSome, ForSome, cases_lt, drop-replicate, DiskState, IsLawful, IsSettled, Splices, settled_write, First, Used, blank_header, body, chosen, epoch, both_tell, ChosenOf, chosen_told, mirrored, HasEpoch, ArePair, AreBoth, IsPair, state_in}
 use Rattle.mirror_disk.proofs.Adopted.{both_alike}
 use Rattle.mirror_disk.proofs.Alone.{first_pair}
 use Rattle.mirror_disk.proofs.Mirrored.{state_pair}
@@ -60,21 +60,6 @@ module _ (a b : DiskState) (w : ℕ) (law_a : IsLawful a) (law_b : IsLawful b) (
 
   pub blank_told : ForSome (chosen_told a.contents b.contents) (λ c. c ≡ replicate w 0)
   blank_told c told = let t = both_tell a.contents b.contents c told in t.is ∙ either t.first t.second (law_a.reads_as_image t.first t.of_first) (law_b.reads_as_image t.second t.of_second)
-
--- what is told of both is told of each, and the other way round
-pub some_first : (o p : Option (List ℕ)) → IsSome (chosen_told o p) → IsSome o
-some_first (Some x) p is = refl
-some_first None p is = absurd (cc is)
-
-pub some_second : (o p : Option (List ℕ)) → IsSome (chosen_told o p) → IsSome p
-some_second (Some x) (Some y) is = refl
-some_second (Some x) None is = absurd (cc is)
-some_second None p is = absurd (cc is)
-
-pub some_both : (o p : Option (List ℕ)) → IsSome o → IsSome p → IsSome (chosen_told o p)
-some_both (Some x) (Some y) is is' = refl
-some_both (Some x) None is is' = absurd (cc is')
-some_both None p is is' = absurd (cc is)
 
 -- what both names name is what both sides tell, once they were bound and adopted
 pub named_taken : (o p m n q r : Option (List ℕ)) → ForSome o (λ c. m ≡ Some c) → ForSome p (λ c. n ≡ Some c) → chosen_told q r ≡ chosen_told m n → ForSome (chosen_told o p) (λ c. chosen_told q r ≡ Some c)

@@ -33,36 +33,39 @@ elapses_more e more = record {
   keeps = e.keeps;
 }
 
-module _ (used used' : Used) (a b new_a new_b : DiskState) (past past' : List (ℕ × ℕ)) (e : ℕ) (one two : Slot) (at n : ℕ) (is : IsPair used) (is' : past' ≡ (a.clock, b.clock) ∷ past) (ended : HasEnded a b new_a new_b used' past e one two at n) where
+module _ {used used' : Used} {a b new_a new_b : DiskState} {past past' : List (ℕ × ℕ)} {e : ℕ} {one two : Slot} {at n : ℕ} (is : IsPair used) (is' : past' ≡ (a.clock, b.clock) ∷ past) (ended : HasEnded a b new_a new_b used' past e one two at n) where
   pub parts_stand : Stands new_a new_b used' past' e one two
   parts_stand = subst (λ (l : List (ℕ × ℕ)). Stands new_a new_b used' l e one two) (sym is') ended.stands
 
-  pub parts_elapse : (f g m : ℕ) → Elapses (state_in used a b past f m) (state_in used' new_a new_b past' g m) (TornFrom at n (state_in used a b past f m).now)
-  parts_elapse f g m =
-      state_pair used is a b past f m (λ (d : DiskState). Elapses d (state_in used' new_a new_b past' g m) (TornFrom at n d.now))
-      (state_pair used' ended.is_pair new_a new_b past' g m (λ (d : DiskState). Elapses (mirrored a b past f m) d (TornFrom at n (mirrored a b past f m).now))
-      (subst (λ (l : List (ℕ × ℕ)). Elapses (mirrored a b past f m) (mirrored new_a new_b l g m) (TornFrom at n (mirrored a b past f m).now)) (sym is') (ended.elapses f g m)))
+  module _ (f g m : ℕ) where
+    pub parts_elapse : Elapses (state_in used a b past f m) (state_in used' new_a new_b past' g m) (TornFrom at n (state_in used a b past f m).now)
+    parts_elapse =
+        state_pair used is a b past f m (λ (d : DiskState). Elapses d (state_in used' new_a new_b past' g m) (TornFrom at n d.now))
+        (state_pair used' ended.is_pair new_a new_b past' g m (λ (d : DiskState). Elapses (mirrored a b past f m) d (TornFrom at n (mirrored a b past f m).now))
+        (subst (λ (l : List (ℕ × ℕ)). Elapses (mirrored a b past f m) (mirrored new_a new_b l g m) (TornFrom at n (mirrored a b past f m).now)) (sym is') (ended.elapses f g m)))
+
+    old_told : (state_in used a b past f m).contents ≡ chosen_told a.contents b.contents
+    old_told = told_pair used is a b past f m
+
+    new_told : (state_in used' new_a new_b past' g m).contents ≡ chosen_told new_a.contents new_b.contents
+    new_told = told_pair used' ended.is_pair new_a new_b past' g m
+
+    pub parts_splice : (k : ℕ) (bytes : List ℕ) → chosen_told new_a.contents new_b.contents ≡ option_map (λ c. spliced c k bytes) (chosen_told a.contents b.contents) → Splices k bytes (state_in used a b past f m) (state_in used' new_a new_b past' g m)
+    parts_splice k bytes written = new_told ∙ written ∙ ap (option_map (λ (c : List ℕ). spliced c k bytes)) (sym old_told)
+
+    pub parts_tear : (k l : ℕ) → MirrorBecomes (Torn k l) (chosen_told a.contents b.contents) (chosen_told new_a.contents new_b.contents) → TellsTorn k l (state_in used a b past f m) (state_in used' new_a new_b past' g m)
+    parts_tear k l becomes = record {
+      told = λ c told. let d = becomes.told c (sym old_told ∙ told) in (d.0, new_told ∙ d.1, d.2);
+      untold = λ none. new_told ∙ becomes.untold (sym old_told ∙ none);
+    }
+
+    pub parts_same : chosen_told new_a.contents new_b.contents ≡ chosen_told a.contents b.contents → (state_in used' new_a new_b past' g m).contents ≡ (state_in used a b past f m).contents
+    parts_same same = new_told ∙ same ∙ sym old_told
 
 -- a call that writes no bytes
-pub parts_pass : (used used' : Used) (a b new_a new_b : DiskState) (past past' : List (ℕ × ℕ)) (e : ℕ) (one two : Slot) → IsPair used → past' ≡ (a.clock, b.clock) ∷ past → HasEnded a b new_a new_b used' past e one two 0 0
+pub parts_pass : {used used' : Used} {a b new_a new_b : DiskState} {past past' : List (ℕ × ℕ)} {e : ℕ} {one two : Slot} → IsPair used → past' ≡ (a.clock, b.clock) ∷ past → HasEnded a b new_a new_b used' past e one two 0 0
     → (f g m : ℕ) → Elapses (state_in used a b past f m) (state_in used' new_a new_b past' g m) (state_in used a b past f m).now
-parts_pass used used' a b new_a new_b past past' e one two is is' ended f g m = elapses_more (parts_elapse used used' a b new_a new_b past past' e one two 0 0 is is' ended f g m) none_torn
-
-module _ (used used' : Used) (a b new_a new_b : DiskState) (past past' : List (ℕ × ℕ)) (f g m : ℕ) (is : IsPair used) (is' : IsPair used') where
-  pub parts_splice : (at : ℕ) (bytes : List ℕ) → chosen_told new_a.contents new_b.contents ≡ option_map (λ c. spliced c at bytes) (chosen_told a.contents b.contents) → Splices at bytes (state_in used a b past f m) (state_in used' new_a new_b past' g m)
-  parts_splice at bytes written = told_pair used' is' new_a new_b past' g m ∙ written ∙ ap (option_map (λ (c : List ℕ). spliced c at bytes)) (sym (told_pair used is a b past f m))
-
-  pub parts_tear : (at n : ℕ) → MirrorBecomes (Torn at n) (chosen_told a.contents b.contents) (chosen_told new_a.contents new_b.contents) → TellsTorn at n (state_in used a b past f m) (state_in used' new_a new_b past' g m)
-  parts_tear at n becomes =
-      let old = told_pair used is a b past f m in
-      let new = told_pair used' is' new_a new_b past' g m in
-      record {
-        told = λ c told. let d = becomes.told c (sym old ∙ told) in (d.0, new ∙ d.1, d.2);
-        untold = λ none. new ∙ becomes.untold (sym old ∙ none);
-      }
-
-  pub parts_same : chosen_told new_a.contents new_b.contents ≡ chosen_told a.contents b.contents → (state_in used' new_a new_b past' g m).contents ≡ (state_in used a b past f m).contents
-  parts_same same = told_pair used' is' new_a new_b past' g m ∙ same ∙ sym (told_pair used is a b past f m)
+parts_pass is is' ended f g m = elapses_more (parts_elapse is is' ended f g m) none_torn
 
 pub on_err : {T E P Q : Type 0} (r : Result T E) → (P → Q) → OnErr r P → OnErr r Q
 on_err (Ok x) then p = tt

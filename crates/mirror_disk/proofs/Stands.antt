@@ -167,11 +167,3 @@ module _ {a b : DiskState} {past : List (ℕ × ℕ)} (one : IsLawful a) (two : 
             was = record { first = c.0; second = d.0; of_first = there; of_second = here; is = sym same ∙ sym (chosen_first c.0 d.0 less) };
             torn = subst (λ (l : List ℕ). Torn at n (body d.0) l) (sym k.1.2) (torn_body at n d.2);
           }
-
--- nothing is asked
-pub meets_nothing : (a b : DiskState) (past : List (ℕ × ℕ)) → Meet a b past a.now b.now (ChosenOf a.now b.now)
-meets_nothing a b past = record {
-  both = λ x y p q. record { first = x; second = y; of_first = p; of_second = q; is = refl };
-  first_before = λ x y old q. inr (y, q, refl);
-  second_before = λ x y p old. inr (x, p, refl);
-}

@@ -1,5 +1,5 @@
 -- Versions that are trimmed again, at a later number, and versions that come behind.
-use Rattle.mv_index.proofs.Words.{◌≡◌, ◌∙◌, sym, refl, ap, ℕ, zero, suc, ◌+◌, ◌-◌, ◌<◌, ◌≤◌, Bool, true, false, ◌&&◌, ◌||◌, not, cond, nat_le, nat_lt, List, [], ◌∷◌, ◌++◌, length, get_or, arith, AllByRecursion, list_any, range_with_len, and_parts, leb-true, ltb-true, ltb-false, le-leb, lt-leb, le-ltb, list_any_at, list_any-append, length-range_with_len, get_or-range_with_len, Version, has, hides, shown_since, still_shows}
+use Rattle.mv_index.proofs.Words.{◌≡◌, ◌∙◌, sym, refl, ap, ℕ, zero, suc, ◌+◌, ◌-◌, ◌<◌, ◌≤◌, Bool, true, false, ◌&&◌, ◌||◌, not, cond, nat_le, nat_lt, List, [], ◌∷◌, ◌++◌, length, get_or, arith, AllByRecursion, list_any, range_with_len, and_parts, leb-true, ltb-true, ltb-false, le-leb, lt-leb, le-ltb, list_any_at, list_any-append, length-range_with_len, get_or-range_with_len, Version, has, hides, shown_since, still_shows, or-true, or-false}
 use Rattle.mv_index.proofs.Gathers.{any_same}
 
 pub or_parts : (a b : Bool) → (a || b) ≡ false → (a ≡ false) × (b ≡ false)
@@ -23,17 +23,13 @@ hidden_at t v versions p none is =
     let wrong : true ≡ false = sym found ∙ none in
     cc)
 
-or_true : (b : Bool) → (b || true) ≡ true
-or_true true = refl
-or_true false = refl
-
 -- what is hidden at t is hidden at a later number
 hides_step : (t later p : ℕ) (v : Version) (versions : List Version) → t ≤ later → (hides t p versions ≡ true → hides later p versions ≡ true) → (here : Bool) → (nat_le v.number t && has p v) ≡ here → (here || hides t p versions) ≡ true → hides later p (v ∷ versions) ≡ true
 hides_step t later p v versions le rest true here_is hidden =
     let both = and_parts (nat_le v.number t) (has p v) here_is in
     let under : nat_le v.number later ≡ true = le-leb v.number later (omega (arith, leb-true v.number t both.0)) in
     λ i. (under i && both.1 i) || hides later p versions
-hides_step t later p v versions le rest false here_is hidden = ap (λ (b : Bool). (nat_le v.number later && has p v) || b) (rest hidden) ∙ or_true (nat_le v.number later && has p v)
+hides_step t later p v versions le rest false here_is hidden = ap (λ (b : Bool). (nat_le v.number later && has p v) || b) (rest hidden) ∙ or-true (nat_le v.number later && has p v)
 
 pub hides_later : (t later p : ℕ) (versions : List Version) → t ≤ later → hides t p versions ≡ true → hides later p versions ≡ true
 hides_later t later p [] le hidden = cc
@@ -98,13 +94,9 @@ above_none t p (v ∷ more) all =
     let over : nat_le v.number t ≡ false = lt-leb v.number t all.0 in
     λ i. (over i && has p v) || above_none t p more all.1 i
 
-or_false : (b : Bool) → (b || false) ≡ b
-or_false true = refl
-or_false false = refl
-
 hides_before : (t p : ℕ) (versions more : List Version) → AllByRecursion (λ v. t < v.number) more → hides t p (versions ++ more) ≡ hides t p versions
 hides_before t p versions more all =
-    list_any-append (λ (v : Version). nat_le v.number t && has p v) versions more ∙ ap (λ (b : Bool). hides t p versions || b) (above_none t p more all) ∙ or_false (hides t p versions)
+    list_any-append (λ (v : Version). nat_le v.number t && has p v) versions more ∙ ap (λ (b : Bool). hides t p versions || b) (above_none t p more all) ∙ or-false (hides t p versions)
 
 push_cond : (v : Version) (xs more : List Version) (b : Bool) → cond b (v ∷ (xs ++ more)) (xs ++ more) ≡ cond b (v ∷ xs) xs ++ more
 push_cond v xs more true = refl

@@ -1,11 +1,7 @@
 -- An index has as many versions as the model counts of its history.
-use Rattle.mv_index.proofs.Words.{◌≡◌, ◌⊎◌, inl, inr, ◌∙◌, sym, refl, ap, ℕ, zero, suc, ◌+◌, ◌-◌, ◌<◌, ◌≤◌, ◌==◌, Bool, true, false, ◌&&◌, ◌||◌, not, cond, nat_le, nat_lt, List, [], ◌∷◌, ◌++◌, Option, Some, None, length, map, get_or, sum_by, arith, subst, AllByRecursion, filter, list_any, range_with_len, is_some, lt-leb, cases_eq, eq-eqb, ne_eqb, eqb-true, list_any-append, sum_by-cons, Commit, Geometry, Write, Run, in_span, or_else, record_length, runs, touches, AreRuns, IsRun, written, value_in, touches_where_effect, value_runs, are_runs, Version, BlockVersions, count_of, has, hides, shown_since, still_shows, versions_in, IsIndexOf, placed, version_of, versions_of}
+use Rattle.mv_index.proofs.Words.{◌≡◌, ◌⊎◌, inl, inr, ◌∙◌, sym, refl, ap, ℕ, zero, suc, ◌+◌, ◌-◌, ◌<◌, ◌≤◌, ◌==◌, Bool, true, false, ◌&&◌, ◌||◌, not, cond, nat_le, nat_lt, List, [], ◌∷◌, ◌++◌, Option, Some, None, length, map, get_or, sum_by, arith, subst, AllByRecursion, filter, list_any, range_with_len, is_some, lt-leb, cases_eq, eq-eqb, ne_eqb, eqb-true, list_any-append, sum_by-cons, Commit, Geometry, Write, Run, in_span, or_else, record_length, runs, touches, AreRuns, IsRun, written, value_in, touches_where_effect, value_runs, are_runs, Version, BlockVersions, count_of, has, hides, shown_since, still_shows, versions_in, IsIndexOf, placed, version_of, versions_of, and-false}
 use Rattle.mv_index.proofs.Gathers.{any_same}
 use Rattle.mv_index.proofs.Layers.{or_else_none}
-
-and_false : (b : Bool) → (b && false) ≡ false
-and_false true = refl
-and_false false = refl
 
 -- how many of the runs count
 abbrev tally : (Run → Bool) → List Run → ℕ
@@ -92,7 +88,7 @@ first_run g x (y ∷ rest) are = are.0
 unhidden_step : (t p n at : ℕ) (b : ℕ) (y : Run) (tail : List Version) → hides t p tail ≡ false → (same : Bool) → (y.block == b) ≡ same → (y.block ≡ b → p < y.off) → hides t p (cond same (version_of n at y ∷ tail) tail) ≡ false
 unhidden_step t p n at b y tail rest true is below =
     let out : nat_le y.off p ≡ false = lt-leb y.off p (below (eqb-true y.block b is)) in
-    (λ i. (nat_le n t && (out i && nat_lt p (y.off + length y.bytes))) || rest i) ∙ ap (λ (x : Bool). x || false) (and_false (nat_le n t))
+    (λ i. (nat_le n t && (out i && nat_lt p (y.off + length y.bytes))) || rest i) ∙ ap (λ (x : Bool). x || false) (and-false (nat_le n t))
 unhidden_step t p n at b y tail rest false is below = rest
 
 unhidden : (t p n at b end : ℕ) (rest : List Run) → p < end → AllByRecursion (IsBehind b end) rest → hides t p (placed b n at rest) ≡ false
@@ -148,7 +144,7 @@ hides_cond t p n at b run tail V rest true = ap (λ (x : Bool). (nat_le n t && h
 hides_cond t p n at b run tail V rest false = rest ∙ ap (λ (o : Option ℕ). nat_le n t && is_some o) (sym (or_else_none V))
 
 hides_placed : (t p n at b : ℕ) (parts : List Run) → hides t p (placed b n at parts) ≡ (nat_le n t && is_some (value_in parts b p))
-hides_placed t p n at b [] = sym (and_false (nat_le n t))
+hides_placed t p n at b [] = sym (and-false (nat_le n t))
 hides_placed t p n at b (run ∷ parts) = hides_cond t p n at b run (placed b n (at + (8 + length run.bytes)) parts) (value_in parts b p) (hides_placed t p n (at + (8 + length run.bytes)) b parts) (run.block == b)
 
 pub blocks_below : (g : Geometry) (parts : List Run) → AreRuns g parts → AllByRecursion (λ run. run.block < g.blocks) parts

@@ -1,5 +1,5 @@
 -- There are at most two pieces a version: each begins where another version begins or ends.
-use Rattle.mv_index.proofs.Words.{◌≡◌, inl, inr, sym, refl, ap, ℕ, ◌+◌, ◌-◌, ◌*◌, ◌<◌, ◌≤◌, Bool, true, false, ◌||◌, ◌==◌, List, [], ◌∷◌, length, map, arith, subst, AllByRecursion, IsDistinct, IsEquivalence, length-le_from_is_member, length-map, list_any, cases_eq, eq-eqb, eqb-true, ne_eqb, ArePieces, Follow, IsStart, Version}
+use Rattle.mv_index.proofs.Words.{◌≡◌, inl, inr, sym, refl, ap, ℕ, ◌+◌, ◌-◌, ◌*◌, ◌<◌, ◌≤◌, Bool, true, false, ◌||◌, ◌==◌, List, [], ◌∷◌, length, map, arith, subst, AllByRecursion, IsDistinct, IsEquivalence, length-le_from_is_member, length-map, list_any, cases_eq, eq-eqb, eqb-true, ne_eqb, ArePieces, Follow, IsStart, Version, or_right}
 use Rattle.mv_index.proofs.Showing.{newest_in}
 use Rattle.mv_index.proofs.Sublists.{all_weaker}
 
@@ -24,10 +24,6 @@ is_equal = record {
 
 abbrev Has : List ℕ → ℕ → Type 0
 Has ends s = list_any (λ e. s == e) ends ≡ true
-
-or_right : (a b : Bool) → b ≡ true → (a || b) ≡ true
-or_right true b is = refl
-or_right false b is = is
 
 all_ends : (ends : List ℕ) (versions : List Version) → ((s : ℕ) → Has (ends_of versions) s → Has ends s) → AllByRecursion (λ v. Has ends v.off × Has ends (v.off + v.len)) versions
 all_ends ends [] more = tt

@@ -1,5 +1,5 @@
 -- What it means that a version is hidden.
-use Rattle.mv_index.proofs.Words.{◌≡◌, ◌≢◌, ◌∙◌, refl, ap, ℕ, zero, suc, ◌+◌, ◌<◌, ◌≤◌, Bool, true, false, ◌&&◌, ◌||◌, not, nat_le, nat_lt, List, [], ◌∷◌, length, get_or, arith, list_any, range_with_len, and_parts, leb-true, ltb-true, ltb-false, le-leb, le-ltb, Version, IsHidden, has, hides, no_version, still_shows}
+use Rattle.mv_index.proofs.Words.{◌≡◌, ◌≢◌, ◌∙◌, refl, ap, ℕ, zero, suc, ◌+◌, ◌<◌, ◌≤◌, Bool, true, false, ◌&&◌, ◌||◌, not, nat_le, nat_lt, List, [], ◌∷◌, length, get_or, arith, list_any, range_with_len, and_parts, leb-true, ltb-true, ltb-false, le-leb, le-ltb, Version, IsHidden, has, hides, no_version, still_shows, or-true}
 use Rattle.mv_index.proofs.Again.{hidden_at, or_parts}
 use Rattle.mv_index.proofs.Orders.{has_it}
 
@@ -23,10 +23,6 @@ cover_of : (t p : ℕ) (later : List Version) → hides t p later ≡ true → (
 cover_of t p [] any = cc
 cover_of t p (v ∷ later) any = cover_step t p v later (cover_of t p later) (nat_le v.number t && has p v) refl any
 
-or_true : (b : Bool) → (b || true) ≡ true
-or_true true = refl
-or_true false = refl
-
 hides_of : (t p i : ℕ) (later : List Version) → IsCover t p later i → hides t p later ≡ true
 hides_of t p i [] one = absurd (omega (arith, one.below))
 hides_of t p zero (v ∷ later) one =
@@ -35,7 +31,7 @@ hides_of t p zero (v ∷ later) one =
     λ k. (under k && own k) || hides t p later
 hides_of t p (suc i) (v ∷ later) one =
     let rest : hides t p later ≡ true = hides_of t p i later (record { below = omega (arith, one.below); upto = one.upto; from = one.from; to = one.to }) in
-    ap (λ (b : Bool). (nat_le v.number t && has p v) || b) rest ∙ or_true (nat_le v.number t && has p v)
+    ap (λ (b : Bool). (nat_le v.number t && has p v) || b) rest ∙ or-true (nat_le v.number t && has p v)
 
 is_false : (b : Bool) → b ≢ true → b ≡ false
 is_false true wrong = absurd (wrong refl)

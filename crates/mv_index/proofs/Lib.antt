@@ -14,7 +14,6 @@ pub mod Meetings
 pub mod Movings
 pub mod Moves
 pub mod Showing
-pub mod Sights
 pub mod Sublists
 pub mod TestWeights
 pub mod Trims

@@ -1,18 +1,14 @@
 -- Pieces in order: no byte is in two of them.
-use Rattle.mv_index.proofs.Words.{◌≡◌, ◌⊎◌, inl, inr, ◌∙◌, sym, refl, ap, ℕ, zero, suc, ◌+◌, ◌-◌, ◌<◌, ◌≤◌, Bool, true, false, ◌&&◌, cond, nat_le, nat_lt, List, [], ◌∷◌, None, Option, Some, length, get_or, arith, count_by, cases_eq, cases_lt, le-leb, lt-leb, sum_by-cons, or_else, Follow, IsNonDecreasingBy, Version, has, no_version, place_in, place_of}
+use Rattle.mv_index.proofs.Words.{◌≡◌, ◌⊎◌, inl, inr, ◌∙◌, sym, refl, ap, ℕ, zero, suc, ◌+◌, ◌-◌, ◌<◌, ◌≤◌, Bool, true, false, ◌&&◌, cond, nat_le, nat_lt, List, [], ◌∷◌, None, Option, Some, length, get_or, arith, count_by, cases_eq, cases_lt, le-leb, lt-leb, sum_by-cons, or_else, Follow, IsNonDecreasingBy, Version, has, no_version, place_in, place_of, and-false}
 
 -- a version has a byte, or has it not
 pub has_it : (p : ℕ) (v : Version) → v.off ≤ p → p < v.off + v.len → has p v ≡ true
 has_it p v from to = λ i. le-leb v.off p from i && le-leb (suc p) (v.off + v.len) to i
 
-and_false : (b : Bool) → (b && false) ≡ false
-and_false true = refl
-and_false false = refl
-
 pub has_not : (p : ℕ) (v : Version) → (p < v.off) ⊎ (v.off + v.len ≤ p) → has p v ≡ false
 has_not p v off = elim off [
   | inl lt ↦ ap (λ (b : Bool). b && nat_lt p (v.off + v.len)) (lt-leb v.off p lt)
-  | inr le ↦ ap (λ (b : Bool). nat_le v.off p && b) (lt-leb (suc p) (v.off + v.len) (omega (arith, le))) ∙ and_false (nat_le v.off p)
+  | inr le ↦ ap (λ (b : Bool). nat_le v.off p && b) (lt-leb (suc p) (v.off + v.len) (omega (arith, le))) ∙ and-false (nat_le v.off p)
 ]
 
 pub has_cases : (p : ℕ) (v : Version) → ((v.off ≤ p) × (p < v.off + v.len)) ⊎ ((p < v.off) ⊎ (v.off + v.len ≤ p))

@@ -1,21 +1,19 @@
 -- The words that the proofs of this crate cite from elsewhere.
-pub use Rattle.std.proofs.Common.{Bool, List, None, Option, Some, add-one, ap, arith, cond, drop, false, get_or, inl, inr, length, map, max, min, nat_le, nat_lt, not, refl, rules, subst, suc, sum_by, sym, take, true, zero, ℕ, [], ◌%◌, ◌&&◌, ◌*◌, ◌++◌, ◌+◌, ◌-◌, ◌/◌, ◌<◌, ◌==◌, ◌^◌, ◌||◌, ◌∙◌, ◌∷◌, ◌≡◌, ◌≢◌, ◌≤◌, ◌⊎◌}
+pub use Rattle.std.proofs.Common.{Bool, List, None, Option, Some, add-one, ap, arith, cond, drop, false, get_or, inl, inr, length, map, min, nat_le, nat_lt, not, refl, rules, subst, suc, sum_by, sym, take, true, zero, ℕ, [], ◌&&◌, ◌*◌, ◌++◌, ◌+◌, ◌-◌, ◌/◌, ◌<◌, ◌==◌, ◌^◌, ◌||◌, ◌∙◌, ◌∷◌, ◌≡◌, ◌≢◌, ◌≤◌, ◌⊎◌}
+pub use Rattle.std.proofs.Math.Bool.{and-false, or-false, or-true}
 pub use Rattle.std.proofs.Math.ListN.{length-set, set}
 pub use Rattle.std.proofs.Math.Nat.{mul-le-mul_left, pow-succ'}
 pub use Rattle.std.proofs.Math.Seq.{drop-append_seam, take-append_seam}
-pub use Rattle.std.proofs.lemmas.Bool.{and_parts, cases_eq, cases_lt, eq-eqb, eqb-true, le-leb, le-ltb, leb-false, leb-true, lt-leb, ltb-false, ltb-true, ne_eqb}
-pub use Rattle.std.proofs.lemmas.List.{append-nil, append_assoc, drop-drop, drop-set, drop-set-lt, drop_all, drop_more, get_or-drop, get_or-set_other, get_or-set_same, get_or-take, get_or_append_left, get_or_default, get_or_push, length-append, length-drop, length-map, length-take-le, length_push, map-append, take-append-drop, take-set, take_more, take_more_set, with_items_is}
+pub use Rattle.std.proofs.lemmas.Bool.{and_parts, cases_eq, cases_lt, eq-eqb, eqb-true, le-leb, le-ltb, leb-false, leb-true, lt-leb, ltb-false, ltb-true, ne_eqb, or_right}
+pub use Rattle.std.proofs.lemmas.List.{append_assoc, drop-drop, drop-set, drop-set-lt, drop_more, get_or-drop, get_or-set_other, get_or-set_same, get_or-take, get_or_append_left, get_or_default, get_or_push, length-append, length-drop, length-map, length-take-le, length_push, take-append-drop, take-set, take_more_set, with_items_is}
 pub use Rattle.std.proofs.lemmas.List.Elements.{filter-append}
 pub use Rattle.std.proofs.lemmas.List.Folds.{drop_split, list_any-append, list_any_at}
 pub use Rattle.std.proofs.lemmas.List.FromFn.{get_or-range_with_len, length-range_with_len}
 pub use Rattle.std.proofs.lemmas.List.Sorted.{IsPartitionPoint-from_clause, IsPartitionedBy-leb, IsPartitionedBy-ltb}
 pub use Rattle.std.proofs.lemmas.List.Sums.{sum_by-append, sum_by-cons, sum_by-set}
 pub use Rattle.std.proofs.lemmas.Map.Made.{length-le_from_is_member}
-pub use Rattle.std.proofs.lemmas.Nat.Bits.{bit_at-lt, bit_at_and, bit_at_mask_below, bit_at_mask_inside, bit_at_ones, bit_at_ones_above, bit_at_or, ones_shl, ones_shr, same_from_bits}
 pub use Rattle.std.proofs.lemmas.Slice.{drop-append-drop}
 pub use Rattle.std.specs.Cmp.{IsEquivalence}
-pub use Rattle.std.specs.Int.{bit_at}
-pub use Rattle.std.specs.Int.RustNames.{bit_or}
 pub use Rattle.std.specs.List.{AllByRecursion, count_by, filter, list_any, range_with_len, slice_range}
 unfoldable pub use Rattle.std.specs.List.{IsDistinct}
 pub use Rattle.std.specs.List.Sorted.{IsNonDecreasingBy, IsPartitionPoint}
@@ -32,8 +30,7 @@ pub use Rattle.iso_model.specs.declared.access.Commit.{Commit}
 pub use Rattle.iso_model.specs.declared.access.Geometry.{Geometry}
 pub use Rattle.iso_model.specs.declared.access.Kind.TheVariants.{Write}
 pub use Rattle.iso_model.specs.declared.access.Run.{Run}
-pub use lib.Bits.{bit_and}
-pub use Rattle.mv_index.specs.Masks.{has_bit, is_seen}
+pub use Rattle.mv_index.specs.Masks.{is_seen}
 pub use Rattle.mv_index.specs.Moves.{AreSplit, moved, moved_to}
 pub use Rattle.mv_index.specs.Pieces.{ArePieces, ArePlaced, Follow, IsRow, IsStart, back_of, backs, begun, ended, front_of, fronts, laid}
 pub use Rattle.mv_index.specs.Placed.{IsIndexOf, placed, version_of, versions_of}

@@ -34,9 +34,6 @@ pub record AreAdded (old cur : List BlockVersions) (number place at i : ℕ) (pa
   pub count : count_of cur ≡ count_of old + i
   pub at_is : at ≡ place + parts_length (take i parts)
 
-pub added_none : (old : List BlockVersions) (number place : ℕ) (parts : List PartSpan) → AreAdded old old number place place 0 parts
-added_none old number place parts = record { blocks = refl; each = λ b. sym (append-nil (versions_in old b)); room = λ b. omega arith; count = omega arith; at_is = omega arith }
-
 module _ (old cur : List BlockVersions) (number place at i : ℕ) (parts : List PartSpan) (part : PartSpan) (was : AreAdded old cur number place at i parts) (inside : i < length parts) (is : part ≡ get_or parts i no_part) where
   split : parts ≡ take i parts ++ (part ∷ drop (i + 1) parts)
   split = sym (take-append-drop i parts) ∙ ap (λ (l : List PartSpan). take i parts ++ l) (drop_more parts i no_part inside ∙ ap (λ (p : PartSpan). p ∷ drop (i + 1) parts) (sym is))

@@ -1,18 +1,14 @@
 -- One stretch more of a block is filled, and what follows it was seen.
-use Rattle.version_read.proofs.Words.{◌≡◌, ◌∙◌, sym, refl, ap, ℕ, ◌+◌, ◌-◌, ◌<◌, ◌≤◌, Bool, true, false, ◌&&◌, ◌||◌, not, cond, nat_le, nat_lt, List, length, get_or, arith, and_parts, leb-true, ltb-true, is_seen, in_bytes, in_split, IsFilled}
+use Rattle.version_read.proofs.Words.{◌≡◌, ◌∙◌, sym, refl, ap, ℕ, ◌+◌, ◌-◌, ◌<◌, ◌≤◌, Bool, true, false, ◌&&◌, ◌||◌, not, cond, nat_le, nat_lt, List, length, get_or, arith, and_parts, leb-true, ltb-true, and-false, is_seen, in_bytes, in_split, IsFilled}
 use Rattle.version_read.proofs.Overlays.{part_at, with_part}
 use Rattle.version_read.proofs.Wanted.{unseen, unseen_all, unseen_none, unseen_split}
-
-and_false : (b : Bool) → (b && false) ≡ false
-and_false true = refl
-and_false false = refl
 
 taken : (a b s : Bool) (x y z : ℕ) → (a ≡ true → s ≡ false) → (a ≡ true → y ≡ x) → cond a y (cond (b && not s) x z) ≡ cond ((a || b) && not s) x z
 taken true b s x y z fresh same = same refl ∙ sym (ap (λ (t : Bool). cond (not t) x z) (fresh refl))
 taken false b s x y z fresh same = refl
 
 passed : (a b s : Bool) (x z : ℕ) → (a ≡ true → s ≡ true) → cond (b && not s) x z ≡ cond ((a || b) && not s) x z
-passed true b s x z done = ap (λ (t : Bool). cond (b && not t) x z) (done refl) ∙ ap (λ (t : Bool). cond t x z) (and_false b) ∙ sym (ap (λ (t : Bool). cond (not t) x z) (done refl))
+passed true b s x z done = ap (λ (t : Bool). cond (b && not t) x z) (done refl) ∙ ap (λ (t : Bool). cond t x z) (and-false b) ∙ sym (ap (λ (t : Bool). cond (not t) x z) (done refl))
 passed false b s x z done = refl
 
 in_bounds : (off len p : ℕ) → in_bytes off len p ≡ true → (off ≤ p) × (p < off + len)

@@ -1,7 +1,6 @@
 pub mod Words
 pub mod Above
 pub mod Additions
-pub mod Bits
 pub mod Fetched
 pub mod Fills
 pub mod Following

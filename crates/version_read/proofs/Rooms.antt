@@ -1,5 +1,5 @@
 -- Room that is made for parts, block by block.
-use Rattle.version_read.proofs.Words.{◌≡◌, ◌≢◌, inl, inr, ◌∙◌, sym, refl, ap, ℕ, zero, suc, ◌+◌, ◌-◌, ◌<◌, ◌≤◌, ◌==◌, cond, List, length, take, get_or, arith, subst, cases_eq, cases_lt, eq-eqb, ne_eqb, count_by_more_no, count_by_more_yes, sum_by-take-le, BlockVersions, block_of, count_of, room_of, versions_in, PartSpan, HasRoom, no_part, parts_in}
+use Rattle.version_read.proofs.Words.{◌≡◌, ◌≢◌, inl, inr, ◌∙◌, sym, ap, ℕ, zero, suc, ◌+◌, ◌-◌, ◌<◌, ◌≤◌, ◌==◌, cond, List, length, take, get_or, arith, subst, cases_eq, cases_lt, eq-eqb, ne_eqb, count_by_more_no, count_by_more_yes, sum_by-take-le, BlockVersions, block_of, count_of, room_of, versions_in, PartSpan, HasRoom, no_part, parts_in}
 
 -- the parts before a place that are of no other block
 same_block : (b i n : ℕ) (parts : List PartSpan) → i + n ≤ length parts → ((k : ℕ) → i ≤ k → k < i + n → (get_or parts k no_part).block ≡ b) → parts_in b (take (i + n) parts) ≡ parts_in b (take i parts) + n
@@ -28,9 +28,6 @@ pub record AreReserved (old cur : List BlockVersions) (parts : List PartSpan) (f
   pub no_less : (b : ℕ) → room_of old b ≤ room_of cur b
   pub done : (b : ℕ) → parts_in b (take first parts) ≤ room_of cur b
   pub apart : (i j : ℕ) → i < first → first ≤ j → j < length parts → (get_or parts i no_part).block < (get_or parts j no_part).block
-
-pub reserved_none : (old : List BlockVersions) (parts : List PartSpan) → AreReserved old old parts 0
-reserved_none old parts = record { within = omega arith; blocks = refl; same = λ b. refl; count = refl; no_less = λ b. omega arith; done = λ b. omega arith; apart = λ i j below. absurd (omega (arith, below)) }
 
 module _ (old cur : List BlockVersions) (parts : List PartSpan) (first stop : ℕ) (was : AreReserved old cur parts first) (more : first < stop) (within : stop ≤ length parts)
     (same : (i : ℕ) → first ≤ i → i < stop → (get_or parts i no_part).block ≡ (get_or parts first no_part).block)

@@ -1,14 +1,14 @@
 -- The words that the proofs of this crate cite from elsewhere.
-pub use Rattle.std.proofs.Common.{Bool, IsTrue, List, None, Option, Some, ap, append_assoc, arith, cond, count_by, drop, false, flat_map, get_or, inl, inr, length, length-append, length-drop, length-take, map, max, min, nat_le, nat_lt, not, refl, replicate, subst, suc, sum_by, sym, take, true, unwrap_or, w64, zero, ℕ, [], ◌%◌, ◌&&◌, ◌*◌, ◌++◌, ◌+◌, ◌-◌, ◌/◌, ◌<◌, ◌==◌, ◌^◌, ◌||◌, ◌∙◌, ◌∷◌, ◌≡◌, ◌≢◌, ◌≤◌, ◌⊎◌}
+pub use Rattle.std.proofs.Common.{Bool, IsTrue, List, None, Option, Some, ap, append_assoc, arith, cond, count_by, drop, false, flat_map, get_or, inl, inr, length, length-append, length-drop, length-take, map, max, min, nat_le, nat_lt, not, refl, replicate, subst, suc, sum_by, sym, take, true, unwrap_or, zero, ℕ, [], ◌%◌, ◌&&◌, ◌*◌, ◌++◌, ◌+◌, ◌-◌, ◌/◌, ◌<◌, ◌==◌, ◌^◌, ◌||◌, ◌∙◌, ◌∷◌, ◌≡◌, ◌≢◌, ◌≤◌, ◌⊎◌}
+pub use Rattle.std.proofs.Math.Bool.{and-false}
 pub use Rattle.std.proofs.Math.Nat.{mul-le-mul_right}
 pub use Rattle.std.proofs.lemmas.Bool.{and_parts, cases_eq, cases_lt, eq-eqb, le-leb, leb-false, leb-true, lt-leb, ltb-false, ltb-true, ne_eqb}
 pub use Rattle.std.proofs.lemmas.List.{append-nil, drop_all, drop_more, ext_get_or, get_or-append_right, get_or-drop, get_or-take, get_or_append_left, get_or_past, length-map, length-take-le, map-append, take-append-drop, take_all, take_more}
 pub use Rattle.std.proofs.lemmas.List.Elements.{filter-append}
 pub use Rattle.std.proofs.lemmas.List.FromFn.{get_or-map-range_with_len, length-map-range_with_len}
 pub use Rattle.std.proofs.lemmas.List.Sums.{count_by_more_no, count_by_more_yes, sum_by-append, sum_by-cons, sum_by-take-le}
-pub use Rattle.std.proofs.lemmas.Nat.{shr-shr, shr_le}
-pub use Rattle.std.proofs.lemmas.Nat.Bits.{bit_at-lt, bit_at-trailing_zeros, bit_at-zero, bit_at_above, bit_at_not}
-pub use Rattle.std.specs.Int.{bit_at, to_be_bytes, trailing_zeros, w16, w32}
+pub use Rattle.std.proofs.lemmas.Nat.Bits.{bit_at-zero}
+pub use Rattle.std.specs.Int.{bit_at, to_be_bytes, w16, w32}
 pub use Rattle.std.specs.List.{AllByRecursion, filter, list_any, range_with_len, slice_range}
 pub use Rattle.std.specs.Option.{ForSome}
 pub use Rattle.iso_disk.proofs.Images.{length-contents}

@@ -10,9 +10,9 @@ ghost use Rattle.mv_index.specs.Versions.{in_bytes, no_version};
 ghost use Rattle.version_read.specs.Blocks.{IsLaidIn, IsOver, IsOverIn};
 ghost use Rattle.version_read.specs.Fills.{IsFilled};
 
-use crate::mask::next_byte;
 use iso_disk::{Disk, DiskFault};
-use mv_index::{Version, see};
+use merge_write::{next_place, set_bits};
+use mv_index::Version;
 
 /// Reads so many bytes of the image into the front of a slice.
 fn read_front<D: Disk>(
@@ -69,15 +69,15 @@ fn fill<D: Disk>(
     ensures cause { HasCause (D.state disk.old).faults (D.state disk.new).faults result }
 {
     let end = off + len;
-    let mut at = next_byte(seen, off, end, false);
+    let mut at = next_place(seen, off, end, false);
     let mut count = 0;
     while at < end {
-        let to = next_byte(seen, at, end, true);
+        let to = next_place(seen, at, end, true);
         read_part(disk, place + (at - off) as u64, at, to - at, into)?;
         count += to - at;
-        at = next_byte(seen, to, end, false);
+        at = next_place(seen, to, end, false);
     }
-    see(seen, off, len);
+    set_bits(seen, off, end);
     Ok(count)
 }
 

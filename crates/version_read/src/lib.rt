@@ -4,7 +4,6 @@
 mod block;
 mod index;
 pub mod laws;
-mod mask;
 mod part_span;
 
 pub use block::{read_block, read_pieces};

@@ -6,15 +6,29 @@ use Rattle.byte_marks.proofs.meet.has_all.Goals as goal
 spans_it : (p : ℕ) (s : Span) → s.off ≤ p → p < s.off + s.len → IsTrue (in_span p s)
 spans_it p s le lt = grind (arith, nat_tests)
 
--- an extent has neither its end nor what lies before it
-not_end : (x : Extent) → in_extent x.to x ≡ false
-not_end x = grind (arith, nat_tests)
+-- extents with their first one, which has neither its end nor what lies before it
+module _ (x : Extent) (xs all : List Extent) (is : all ≡ x ∷ xs) (rise : AreApartFrom 0 all) where
+  apart : AreApartFrom 0 (x ∷ xs)
+  apart = subst (λ (l : List Extent). AreApartFrom 0 l) is rise
 
-not_before : (p : ℕ) (x : Extent) → p < x.from → in_extent p x ≡ false
-not_before p x lt = grind (arith, nat_tests)
+  none_at : (p : ℕ) → in_extent p x ≡ false → p ≤ x.to → has all p ≡ false
+  none_at p out le =
+      let after : has xs p ≡ false = none_before (x.to + 1) p xs (omega arith) apart.3 in
+      ap (λ (l : List Extent). has l p) is ∙ rw (out, after) refl
 
-not_past : (p : ℕ) (x : Extent) → x.to ≤ p → in_extent p x ≡ false
-not_past p x le = grind (arith, nat_tests)
+  none_at_end : has all x.to ≡ false
+  none_at_end = none_at x.to (grind (arith, nat_tests)) (omega arith)
+
+  none_under : (p : ℕ) → p < x.from → has all p ≡ false
+  none_under p lt = none_at p (grind (arith, nat_tests)) (omega (arith, apart.1))
+
+  rest_apart : AreApartFrom 0 xs
+  rest_apart = earlier 0 (x.to + 1) xs (omega arith) apart.3
+
+  passes : (p : ℕ) → x.to ≤ p → has all p ≡ has xs p
+  passes p le =
+      let past : in_extent p x ≡ false = grind (arith, nat_tests) in
+      ap (λ (l : List Extent). has l p) is ∙ rw past refl
 
 -- where a test fails, the witness that is true then
 on_false : (a b : ℕ) (P : Type 0) → (b < a → P) → OnFalse (leb a b) P
@@ -22,42 +36,25 @@ on_false a b P f = elim (cases_lt b a) [ inl lt ↦ rw (lt-leb a b lt) (f lt) | 
 
 pub returns-then-extent-span-clause-missing : goal.returns-then-extent-span-clause-missing
 returns-then-extent-span-clause-missing c =
-    let s = c.args.span in
     let x = c.in-Some.extent.now in
-    let xs = c.in-Some.others.now in
-    let rest_is = c.in-Some.ensures.cases.0 in
-    let apart : AreApartFrom 0 (x ∷ xs) = subst (λ (l : List Extent). AreApartFrom 0 l) rest_is c.loop-extent.invariant.apart in
     on_false (c.from.result + c.from-2.result) c.from-then-extent-span.result _ (λ past.
-    (let after : has xs x.to ≡ false = none_before (x.to + 1) x.to xs (omega arith) apart.3 in
-    let here : has (x ∷ xs) x.to ≡ false = rw (not_end x, after) refl in
-    let least : s.off ≤ x.to = omega arith in
-    let inside : x.to < s.off + s.len = omega arith in
-    (x.to, spans_it x.to s least inside, c.loop-extent.invariant.same x.to least ∙ ap (λ (l : List Extent). has l x.to) rest_is ∙ here)))
+    (let least : c.args.span.off ≤ x.to = omega arith in
+    let inside : x.to < c.args.span.off + c.args.span.len = omega arith in
+    (x.to, spans_it x.to c.args.span least inside, c.loop-extent.invariant.same x.to least ∙ none_at_end x c.in-Some.others.now _ c.in-Some.ensures.cases.0 c.loop-extent.invariant.apart)))
 
 pub returns-else-extent-span-clause-missing : goal.returns-else-extent-span-clause-missing
 returns-else-extent-span-clause-missing c =
-    let s = c.args.span in
     let x = c.in-Some.extent.now in
-    let xs = c.in-Some.others.now in
-    let rest_is = c.in-Some.ensures.cases.0 in
-    let apart : AreApartFrom 0 (x ∷ xs) = subst (λ (l : List Extent). AreApartFrom 0 l) rest_is c.loop-extent.invariant.apart in
+    let s = c.args.span in
     on_false x.from s.off _ (λ past.
-    (let after : has xs s.off ≡ false = none_before (x.to + 1) s.off xs (omega arith) apart.3 in
-    let here : has (x ∷ xs) s.off ≡ false = rw (not_before s.off x past, after) refl in
-    let some : s.off < s.off + s.len = omega arith in
-    let least : s.off ≤ s.off = omega arith in
-    (s.off, spans_it s.off s least some, c.loop-extent.invariant.same s.off least ∙ ap (λ (l : List Extent). has l s.off) rest_is ∙ here)))
+    (let least : s.off ≤ s.off = omega arith in
+    (s.off, spans_it s.off s least (omega arith), c.loop-extent.invariant.same s.off least ∙ none_under x c.in-Some.others.now _ c.in-Some.ensures.cases.0 c.loop-extent.invariant.apart s.off past)))
 
 pub loop-extent-preserved : goal.loop-extent-preserved
 loop-extent-preserved c =
     let x = c.in-Some.extent.now in
-    let xs = c.in-Some.others.now in
-    let rest_is = c.in-Some.ensures.cases.0 in
-    let apart : AreApartFrom 0 (x ∷ xs) = subst (λ (l : List Extent). AreApartFrom 0 l) rest_is c.loop-extent.invariant.apart in
+    let was = c.loop-extent.invariant in
     record {
-      apart = earlier 0 (x.to + 1) xs (omega arith) apart.3;
-      same = λ p le.
-          (let past : in_extent p x ≡ false = not_past p x (omega arith) in
-          let skipped : has (x ∷ xs) p ≡ has xs p = rw past refl in
-          c.loop-extent.invariant.same p le ∙ ap (λ (l : List Extent). has l p) rest_is ∙ skipped);
+      apart = rest_apart x c.in-Some.others.now _ c.in-Some.ensures.cases.0 was.apart;
+      same = λ p le. was.same p le ∙ passes x c.in-Some.others.now _ c.in-Some.ensures.cases.0 was.apart p (omega arith);
     }

@@ -11,32 +11,27 @@ loop-i-init g c = record {
 
 pub overflow_add-gate : goal.overflow_add-gate
 overflow_add-gate g c =
-    let fits = gate_fits c.args.front.now (g.D.Disk.state c.args.disk.now) (g.D.Disk.state c.loop-i.disk) (g.met.D.Disk.lawful c.args.disk.now) c.loop-i.log c.loop-i.index c.loop-i.ahead c.requires
-    c.loop-i.invariant.reading c.from.result (c.from.ensures ∙ c.used.ensures) in
+    let fits = gate_fits (g.met.D.Disk.lawful c.args.disk.now) c.requires c.loop-i.invariant.reading c.from.result (c.from.ensures ∙ c.used.ensures) in
     omega (arith, fits)
 
 pub find_on-requires-clause-fits : goal.find_on-requires-clause-fits
-find_on-requires-clause-fits g c =
-    lies c.args.front.now (g.D.Disk.state c.args.disk.now) (g.D.Disk.state c.loop-i.disk) (g.met.D.Disk.lawful c.args.disk.now) c.loop-i.log c.loop-i.index c.loop-i.ahead c.requires c.loop-i.invariant.reading
+find_on-requires-clause-fits g c = lies (g.met.D.Disk.lawful c.args.disk.now) c.requires c.loop-i.invariant.reading
 
 pub find_on-requires-clause-left : goal.find_on-requires-clause-left
-find_on-requires-clause-left g c =
-    some_left c.args.front.now (g.D.Disk.state c.args.disk.now) (g.D.Disk.state c.loop-i.disk) (g.met.D.Disk.lawful c.args.disk.now) c.loop-i.log c.loop-i.index c.loop-i.ahead c.requires c.loop-i.invariant.reading
+find_on-requires-clause-left g c = some_left (g.met.D.Disk.lawful c.args.disk.now) c.requires c.loop-i.invariant.reading
 
 pub find_on-requires-clause-number : goal.find_on-requires-clause-number
-find_on-requires-clause-number g c =
-    below c.args.front.now (g.D.Disk.state c.args.disk.now) (g.D.Disk.state c.loop-i.disk) (g.met.D.Disk.lawful c.args.disk.now) c.loop-i.log c.loop-i.index c.loop-i.ahead c.requires c.loop-i.invariant.reading
+find_on-requires-clause-number g c = below (g.met.D.Disk.lawful c.args.disk.now) c.requires c.loop-i.invariant.reading
 
 pub find_on-requires-clause-within : goal.find_on-requires-clause-within
 find_on-requires-clause-within g c = c.loop-i.invariant.reading.within
 
 pub find_on-requires-clause-ahead : goal.find_on-requires-clause-ahead
-find_on-requires-clause-ahead g c =
-    stands_now c.args.front.now (g.D.Disk.state c.args.disk.now) (g.D.Disk.state c.loop-i.disk) (g.met.D.Disk.lawful c.args.disk.now) c.loop-i.log c.loop-i.index c.loop-i.ahead c.requires c.loop-i.invariant.reading
+find_on-requires-clause-ahead g c = stands_now (g.met.D.Disk.lawful c.args.disk.now) c.requires c.loop-i.invariant.reading
 
 pub returns-in-Ok-None-clause-read : goal.returns-in-Ok-None-clause-read
 returns-in-Ok-None-clause-read g c =
-    reads_end c.args.front.now (g.D.Disk.state c.args.disk.now) (g.D.Disk.state c.loop-i.disk) (g.met.D.Disk.lawful c.args.disk.now) c.loop-i.log c.loop-i.index c.loop-i.ahead c.requires c.loop-i.invariant.reading
+    reads_end (g.met.D.Disk.lawful c.args.disk.now) c.requires c.loop-i.invariant.reading
     c.loop-i.log refl (c.in-Ok-None.ensures.closed c.in-Ok-None.field-0-is)
 
 pub returns-in-Ok-None-clause-unwritten : goal.returns-in-Ok-None-clause-unwritten
@@ -48,7 +43,7 @@ returns-in-Ok-None-clause-cause g c =
 
 pub returns-in-Err-clause-refused : goal.returns-in-Err-clause-refused
 returns-in-Err-clause-refused g c test =
-    refuses_now c.args.front.now (g.D.Disk.state c.args.disk.now) (g.D.Disk.state c.loop-i.disk) (g.met.D.Disk.lawful c.args.disk.now) c.loop-i.log c.loop-i.index c.loop-i.ahead c.requires c.loop-i.invariant.reading
+    refuses_now (g.met.D.Disk.lawful c.args.disk.now) c.requires c.loop-i.invariant.reading
     c.in-Err.error (c.in-Err.ensures.damaged test)
 
 pub returns-in-Err-clause-shape : goal.returns-in-Err-clause-shape
@@ -63,8 +58,7 @@ returns-in-Err-clause-cause g c =
 
 pub overflow_add-number : goal.overflow_add-number
 overflow_add-number g c =
-    let least = below c.args.front.now (g.D.Disk.state c.args.disk.now) (g.D.Disk.state c.loop-i.disk) (g.met.D.Disk.lawful c.args.disk.now) c.loop-i.log c.loop-i.index c.loop-i.ahead c.requires
-    c.loop-i.invariant.reading in
+    let least = below (g.met.D.Disk.lawful c.args.disk.now) c.requires c.loop-i.invariant.reading in
     omega (arith, least, c.last-number.ensures)
 
 pub take_parts-requires : goal.take_parts-requires
@@ -73,7 +67,7 @@ take_parts-requires g c =
     let taken = taken_is c.args.front.now.geometry c.loop-i.log c.loop-i.log refl c.find_on.new.ahead c.in-Ok-Some.size c.find_on.ensures.within found in
     let there = ap (λ (n : ℕ). c.args.front.now.log + n) (c.from.ensures ∙ c.used.ensures) in
     subst (λ (r : Recorded). MayTake (c.last-number.result + 1) (c.args.front.now.log + c.from.result) (map part_of r.parts) c.loop-i.index) (sym c.view_front-view.ensures.says)
-    (may c.args.front.now (g.D.Disk.state c.args.disk.now) (g.D.Disk.state c.loop-i.disk) (g.met.D.Disk.lawful c.args.disk.now) c.loop-i.log c.loop-i.index c.loop-i.ahead c.requires c.loop-i.invariant.reading
+    (may (g.met.D.Disk.lawful c.args.disk.now) c.requires c.loop-i.invariant.reading
     (record c.loop-i.log { used = c.loop-i.log.used + (c.in-Ok-Some.size - 1); last = c.loop-i.log.last + 1 }) (take c.in-Ok-Some.size c.find_on.new.ahead) taken (c.last-number.result + 1) (c.args.front.now.log + c.from.result)
     (ap (λ (n : ℕ). n + 1) c.last-number.ensures) there)
 
@@ -89,8 +83,7 @@ returns-in-Err-take_parts-clause-cause g c =
 
 pub returns-clause-read : goal.returns-clause-read
 returns-clause-read g c =
-    let left = some_left c.args.front.now (g.D.Disk.state c.args.disk.now) (g.D.Disk.state c.loop-i.disk) (g.met.D.Disk.lawful c.args.disk.now) c.loop-i.log c.loop-i.index c.loop-i.ahead c.requires
-    c.loop-i.invariant.reading in
+    let left = some_left (g.met.D.Disk.lawful c.args.disk.now) c.requires c.loop-i.invariant.reading in
     absurd (omega (arith, left, c.loop-i.invariant.steps, c.loop-i-test.false, c.loop-i.invariant.reading.read.left, ap (λ e. e.used) c.loop-i.invariant.reading.read.log_is))
 
 pub returns-clause-unwritten : goal.returns-clause-unwritten
@@ -112,11 +105,9 @@ loop-i-preserved g c =
     subst (λ (r : Recorded). HasTaken (c.last-number.result + 1) (c.args.front.now.log + c.from.result) (map part_of r.parts) c.loop-i.index c.take_parts.new.index) c.view_front-view.ensures.says
     c.in_default-take_parts.ensures in
     let last : c.last-number.result + 1 ≡ c.pass.new.self.last = omega (arith, c.last-number.ensures, ap (λ e. e.last) taken.grown) in
-    let more = grows c.args.front.now (g.D.Disk.state c.args.disk.now) (g.D.Disk.state c.loop-i.disk) (g.met.D.Disk.lawful c.args.disk.now) c.loop-i.log c.loop-i.index c.loop-i.ahead c.requires
-    c.loop-i.invariant.reading c.pass.new.self into taken in
+    let more = grows (g.met.D.Disk.lawful c.args.disk.now) c.requires c.loop-i.invariant.reading c.pass.new.self into taken in
     record {
-      reading = goes_on_reading c.args.front.now (g.D.Disk.state c.args.disk.now) (g.D.Disk.state c.loop-i.disk) (g.met.D.Disk.lawful c.args.disk.now) c.loop-i.log c.loop-i.index c.loop-i.ahead c.requires
-          c.loop-i.invariant.reading c.pass.new.self into taken (g.D.Disk.state c.find_on.new.disk) (g.met.D.Disk.lawful c.loop-i.disk) (c.last-number.result + 1) (c.args.front.now.log + c.from.result)
+      reading = goes_on_reading (g.met.D.Disk.lawful c.args.disk.now) c.requires c.loop-i.invariant.reading c.pass.new.self into taken (g.D.Disk.state c.find_on.new.disk) (g.met.D.Disk.lawful c.loop-i.disk) (c.last-number.result + 1) (c.args.front.now.log + c.from.result)
           c.take_parts.new.index c.pass.new.ahead c.view_front-view.ensures.values last there took
           (λ image told. stand_front _ size c.find_on.new.ahead image found.within (c.find_on.ensures.ahead image told)) (rw c.in-Ok-Some.field-0-is at c.in-Ok-Some.ensures.first)
           c.pass.ensures.within (λ image told. c.pass.ensures.ahead image (c.find_on.ensures.ahead image told)) c.in-Ok-Some.ensures.cause.passed c.find_on.ensures.unwritten;

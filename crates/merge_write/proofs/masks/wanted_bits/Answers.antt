@@ -1,8 +1,6 @@
 use Rattle.merge_write.proofs.Bits.{other_bits}
-use Rattle.merge_write.proofs.Words.{◌<◌, ◌^◌, arith}
+use Rattle.merge_write.proofs.Words.{arith}
 use Rattle.merge_write.proofs.masks.wanted_bits.Goals as goal
 
 pub returns-else-wanted : goal.returns-else-wanted
-returns-else-wanted c k below =
-    let fits : c.args.word < 2 ^ 64 = omega arith in
-    rw (c.if-wanted.false) (other_bits c.args.word k fits below)
+returns-else-wanted c k below = rw (c.if-wanted.false) (other_bits c.args.word k (omega arith) below)

@@ -1,5 +1,5 @@
 -- The first bit from a place on is where the word, shifted by so many bits, ends in zeros.
-use Rattle.merge_write.proofs.Words.{◌∙◌, sym, ap, ◌-◌, ◌/◌, ◌^◌, ◌<◌, arith, bit_at-zero, bit_at}
+use Rattle.merge_write.proofs.Words.{◌∙◌, sym, ap, ◌-◌, arith, bit_at-zero, bit_at}
 use Rattle.merge_write.proofs.Bits.{bit_from, zeros_are}
 use Rattle.merge_write.proofs.masks.zeros_from.Goals as goal
 
@@ -8,19 +8,10 @@ returns-then-rest-eq0-clause-zeros c k from below =
     sym (bit_from c.args.word c.args.from k from) ∙ ap (λ n. bit_at n (k - c.args.from)) c.if-rest-eq0.true ∙ bit_at-zero (k - c.args.from)
 
 pub returns-else-rest-eq0-clause-within : goal.returns-else-rest-eq0-clause-within
-returns-else-rest-eq0-clause-within c =
-    let fits : c.args.word < 2 ^ 64 = omega arith in
-    let some : 0 < c.args.word / 2 ^ c.args.from = omega arith in
-    (zeros_are c.args.word c.args.from fits some).0
+returns-else-rest-eq0-clause-within c = (zeros_are c.args.word c.args.from (omega arith) (omega arith)).0
 
 pub returns-else-rest-eq0-clause-zeros : goal.returns-else-rest-eq0-clause-zeros
-returns-else-rest-eq0-clause-zeros c =
-    let fits : c.args.word < 2 ^ 64 = omega arith in
-    let some : 0 < c.args.word / 2 ^ c.args.from = omega arith in
-    (zeros_are c.args.word c.args.from fits some).2
+returns-else-rest-eq0-clause-zeros c = (zeros_are c.args.word c.args.from (omega arith) (omega arith)).2
 
 pub returns-else-rest-eq0-clause-stops : goal.returns-else-rest-eq0-clause-stops
-returns-else-rest-eq0-clause-stops c _ =
-    let fits : c.args.word < 2 ^ 64 = omega arith in
-    let some : 0 < c.args.word / 2 ^ c.args.from = omega arith in
-    (zeros_are c.args.word c.args.from fits some).1
+returns-else-rest-eq0-clause-stops c _ = (zeros_are c.args.word c.args.from (omega arith) (omega arith)).1

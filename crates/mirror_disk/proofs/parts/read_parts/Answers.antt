@@ -5,27 +5,20 @@ use Rattle.mirror_disk.proofs.parts.read_parts.Goals as goal
 pub returns-in-Both-clause-stands : goal.returns-in-Both-clause-stands
 returns-in-Both-clause-stands g c =
     let m = c.args.marks in
-    let call = c.read_sides-done in
-    parts_stand m.used m.used (g.A.Disk.state c.args.first.now) (g.B.Disk.state c.args.second.now) (g.A.Disk.state call.new.first) (g.B.Disk.state call.new.second) c.args.past.now c.later-next.result m.epoch m.first_slot m.second_slot
-    0 0 (of_pair c.in-Both.is) c.later-next.ensures (call.ensures.ended c.args.past.now m.epoch m.first_slot m.second_slot c.requires.stands)
+    parts_stand (of_pair c.in-Both.is) c.later-next.ensures (c.read_sides-done.ensures.ended c.args.past.now m.epoch m.first_slot m.second_slot c.requires.stands)
 
 pub returns-in-Both-clause-bytes : goal.returns-in-Both-clause-bytes
 returns-in-Both-clause-bytes g c binds =
     let m = c.args.marks in
-    let call = c.read_sides-done in
     let same = told_pair m.used (of_pair c.in-Both.is) (g.A.Disk.state c.args.first.now) (g.B.Disk.state c.args.second.now) c.args.past.now c.args.faults.now binds in
-    on_ok_weaker c.count-in-Both.result (λ done x told. call.ensures.bytes done c.args.past.now m.epoch m.first_slot m.second_slot c.requires.stands x (sym same ∙ told)) c.count-in-Both.ensures.done
+    on_ok_weaker c.count-in-Both.result (λ done x told. c.read_sides-done.ensures.bytes done c.args.past.now m.epoch m.first_slot m.second_slot c.requires.stands x (sym same ∙ told)) c.count-in-Both.ensures.done
 
 pub returns-in-Both-clause-contents : goal.returns-in-Both-clause-contents
 returns-in-Both-clause-contents g c binds =
     let m = c.args.marks in
-    let call = c.read_sides-done in
-    parts_same m.used m.used (g.A.Disk.state c.args.first.now) (g.B.Disk.state c.args.second.now) (g.A.Disk.state call.new.first) (g.B.Disk.state call.new.second) c.args.past.now c.later-next.result
-    c.args.faults.now c.count-in-Both.new.faults binds (of_pair c.in-Both.is) (of_pair c.in-Both.is) call.ensures.contents
+    parts_same (of_pair c.in-Both.is) c.later-next.ensures (c.read_sides-done.ensures.ended c.args.past.now m.epoch m.first_slot m.second_slot c.requires.stands) c.args.faults.now c.count-in-Both.new.faults binds c.read_sides-done.ensures.contents
 
 pub returns-in-Both-clause-crash : goal.returns-in-Both-clause-crash
 returns-in-Both-clause-crash g c binds =
     let m = c.args.marks in
-    let call = c.read_sides-done in
-    parts_pass m.used m.used (g.A.Disk.state c.args.first.now) (g.B.Disk.state c.args.second.now) (g.A.Disk.state call.new.first) (g.B.Disk.state call.new.second) c.args.past.now c.later-next.result m.epoch m.first_slot m.second_slot
-    (of_pair c.in-Both.is) c.later-next.ensures (call.ensures.ended c.args.past.now m.epoch m.first_slot m.second_slot c.requires.stands) c.args.faults.now c.count-in-Both.new.faults binds
+    parts_pass (of_pair c.in-Both.is) c.later-next.ensures (c.read_sides-done.ensures.ended c.args.past.now m.epoch m.first_slot m.second_slot c.requires.stands) c.args.faults.now c.count-in-Both.new.faults binds

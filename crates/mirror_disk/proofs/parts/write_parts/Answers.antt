@@ -3,31 +3,17 @@ use Rattle.mirror_disk.proofs.Mirrored.{of_pair, on_err, parts_elapse, parts_spl
 use Rattle.mirror_disk.proofs.parts.write_parts.Goals as goal
 
 pub returns-in-Both-clause-stands : goal.returns-in-Both-clause-stands
-returns-in-Both-clause-stands g c =
-    let m = c.args.marks.now in
-    let call = c.write_sides-used in
-    parts_stand m.used call.result.0 (g.A.Disk.state c.args.first.now) (g.B.Disk.state c.args.second.now) (g.A.Disk.state call.new.first) (g.B.Disk.state call.new.second) c.args.past.now c.later-next.result m.epoch m.first_slot m.second_slot
-    c.args.at (length c.args.bytes.now) (of_pair c.in-Both.is) c.later-next.ensures (call.ensures.ended c.args.past.now c.requires.stands)
+returns-in-Both-clause-stands g c = parts_stand (of_pair c.in-Both.is) c.later-next.ensures (c.write_sides-used.ensures.ended c.args.past.now c.requires.stands)
 
 pub returns-in-Both-clause-written : goal.returns-in-Both-clause-written
 returns-in-Both-clause-written g c binds =
-    let m = c.args.marks.now in
     let call = c.write_sides-used in
-    let ended = call.ensures.ended c.args.past.now c.requires.stands in
-    on_ok_weaker c.count-in-Both.result (λ done. parts_splice m.used call.result.0 (g.A.Disk.state c.args.first.now) (g.B.Disk.state c.args.second.now) (g.A.Disk.state call.new.first) (g.B.Disk.state call.new.second) c.args.past.now c.later-next.result
-    c.args.faults.now c.count-in-Both.new.faults binds (of_pair c.in-Both.is) ended.is_pair c.args.at c.args.bytes.now (call.ensures.written done c.args.past.now c.requires.stands)) c.count-in-Both.ensures.done
+    on_ok_weaker c.count-in-Both.result (λ done. parts_splice (of_pair c.in-Both.is) c.later-next.ensures (call.ensures.ended c.args.past.now c.requires.stands) c.args.faults.now c.count-in-Both.new.faults binds c.args.at c.args.bytes.now (call.ensures.written done c.args.past.now c.requires.stands)) c.count-in-Both.ensures.done
 
 pub returns-in-Both-clause-failed : goal.returns-in-Both-clause-failed
 returns-in-Both-clause-failed g c binds =
-    let m = c.args.marks.now in
     let call = c.write_sides-used in
-    let ended = call.ensures.ended c.args.past.now c.requires.stands in
-    on_err c.count-in-Both.result (λ failed. parts_tear m.used call.result.0 (g.A.Disk.state c.args.first.now) (g.B.Disk.state c.args.second.now) (g.A.Disk.state call.new.first) (g.B.Disk.state call.new.second) c.args.past.now c.later-next.result
-    c.args.faults.now c.count-in-Both.new.faults binds (of_pair c.in-Both.is) ended.is_pair c.args.at (length c.args.bytes.now) (call.ensures.failed failed c.args.past.now c.requires.stands)) c.count-in-Both.ensures.failed
+    on_err c.count-in-Both.result (λ failed. parts_tear (of_pair c.in-Both.is) c.later-next.ensures (call.ensures.ended c.args.past.now c.requires.stands) c.args.faults.now c.count-in-Both.new.faults binds c.args.at (length c.args.bytes.now) (call.ensures.failed failed c.args.past.now c.requires.stands)) c.count-in-Both.ensures.failed
 
 pub returns-in-Both-clause-crash : goal.returns-in-Both-clause-crash
-returns-in-Both-clause-crash g c binds =
-    let m = c.args.marks.now in
-    let call = c.write_sides-used in
-    parts_elapse m.used call.result.0 (g.A.Disk.state c.args.first.now) (g.B.Disk.state c.args.second.now) (g.A.Disk.state call.new.first) (g.B.Disk.state call.new.second) c.args.past.now c.later-next.result m.epoch m.first_slot m.second_slot
-    c.args.at (length c.args.bytes.now) (of_pair c.in-Both.is) c.later-next.ensures (call.ensures.ended c.args.past.now c.requires.stands) c.args.faults.now c.count-in-Both.new.faults binds
+returns-in-Both-clause-crash g c binds = parts_elapse (of_pair c.in-Both.is) c.later-next.ensures (c.write_sides-used.ensures.ended c.args.past.now c.requires.stands) c.args.faults.now c.count-in-Both.new.faults binds

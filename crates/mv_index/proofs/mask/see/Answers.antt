@@ -1,27 +1,14 @@
--- The bytes of one word more.
-use Rattle.mv_index.proofs.Words.{◌∙◌, sym, refl, ap, ◌+◌, ◌-◌, ◌*◌, ◌/◌, ◌%◌, ◌<◌, ◌≤◌, Bool, true, ◌||◌, length, arith}
-use Rattle.mv_index.proofs.Masks.{or_false, or_true}
-use Rattle.mv_index.proofs.Sights.{seen_more}
+-- The bytes before the first that was not seen are seen already.
+use Rattle.mv_index.proofs.Words.{ap, ◌+◌, ◌∙◌, not, is_seen}
+use Rattle.mv_index.proofs.Masks.{any_from, widened}
 use Rattle.mv_index.proofs.mask.see.Goals as goal
 
-pub loop-at-preserved-then-set_bits : goal.loop-at-preserved-then-set_bits
-loop-at-preserved-then-set_bits c =
-    let order : c.loop-at.at < c.min-stop.result = omega (arith, c.min-stop.ensures, c.loop-at-test.true) in
-    let short : c.min-stop.result ≤ 64 * (c.loop-at.at / 64) + 64 = omega (arith, c.min-stop.ensures) in
-    let inside : c.loop-at.at / 64 < length c.loop-at.seen = omega (arith, c.requires.size, c.requires.fits, c.loop-at-test.true, c.loop-at.auto.seen) in
-    record {
-      seen = seen_more c.args.seen.now c.loop-at.seen c.args.off c.loop-at.at c.min-stop.result (c.loop-at.at / 64) (c.loop-at.at % 64) (c.loop-at.at % 64 + (c.min-stop.result - c.loop-at.at)) c.set_bits.new.word c.loop-at.some c.set_bits.result
-          c.loop-at.invariant.seen refl refl refl order short inside c.set_bits.ensures.some c.set_bits.ensures.set true (sym (ap (λ (b : Bool). c.loop-at.some || b) c.if-set_bits.true ∙ or_true c.loop-at.some));
-      inside = omega (arith, c.min-stop.ensures);
-    }
+pub returns-clause-some : goal.returns-clause-some
+returns-clause-some c =
+    let found = c.next_place-first.ensures in
+    any_from (λ p. not (is_seen c.args.seen.now p)) c.args.off c.args.len c.next_place-first.result found.from found.within (λ k from to. ap not (found.passed k from to)) (λ lt. ap not (found.stops lt))
 
-pub loop-at-preserved : goal.loop-at-preserved
-loop-at-preserved c =
-    let order : c.loop-at.at < c.min-stop.result = omega (arith, c.min-stop.ensures, c.loop-at-test.true) in
-    let short : c.min-stop.result ≤ 64 * (c.loop-at.at / 64) + 64 = omega (arith, c.min-stop.ensures) in
-    let inside : c.loop-at.at / 64 < length c.loop-at.seen = omega (arith, c.requires.size, c.requires.fits, c.loop-at-test.true, c.loop-at.auto.seen) in
-    record {
-      seen = seen_more c.args.seen.now c.loop-at.seen c.args.off c.loop-at.at c.min-stop.result (c.loop-at.at / 64) (c.loop-at.at % 64) (c.loop-at.at % 64 + (c.min-stop.result - c.loop-at.at)) c.set_bits.new.word c.loop-at.some c.set_bits.result
-          c.loop-at.invariant.seen refl refl refl order short inside c.set_bits.ensures.some c.set_bits.ensures.set c.loop-at.some (sym (ap (λ (b : Bool). c.loop-at.some || b) c.if-set_bits.false ∙ or_false c.loop-at.some));
-      inside = omega (arith, c.min-stop.ensures);
-    }
+pub returns-clause-marked : goal.returns-clause-marked
+returns-clause-marked c p below =
+    let found = c.next_place-first.ensures in
+    c.set_bits.ensures p ∙ widened c.args.off c.next_place-first.result (c.args.off + c.args.len) p (is_seen c.args.seen.now p) found.from (λ from to. found.passed p from to)

@@ -6,13 +6,13 @@ use Rattle.version_read.proofs.block.fill.Goals as goal
 
 pub loop-at-init : goal.loop-at-init
 loop-at-init g c =
-    let found = c.next_byte-at.ensures in
+    let found = c.next_place-at.ensures in
     record {
       from = found.from;
       to = found.within;
       wanted = found.stops;
-      filled = λ d is. filled_passed d c.args.place c.args.off c.args.seen.now c.args.into.now c.args.into.now c.args.off c.next_byte-at.result (omega arith) found.from (filled_none d c.args.place c.args.off c.args.seen.now c.args.into.now) found.passed;
-      count = sym (unseen_none c.args.seen.now c.args.off (c.next_byte-at.result - c.args.off) (λ p from to. found.passed p from (omega (arith, to, found.from))));
+      filled = λ d is. filled_passed d c.args.place c.args.off c.args.seen.now c.args.into.now c.args.into.now c.args.off c.next_place-at.result (omega arith) found.from (filled_none d c.args.place c.args.off c.args.seen.now c.args.into.now) found.passed;
+      count = sym (unseen_none c.args.seen.now c.args.off (c.next_place-at.result - c.args.off) (λ p from to. found.passed p from (omega (arith, to, found.from))));
       faults = refl;
       unwritten = starts_unwritten (g.met.D.Disk.lawful c.args.disk.now);
     }
@@ -21,24 +21,24 @@ pub overflow_add-count : goal.overflow_add-count
 overflow_add-count g c =
     let was = c.loop-at.invariant in
     let le = unseen_le c.args.seen.now c.args.off (c.loop-at.at - c.args.off) in
-    omega (arith, le, was.count, was.from, c.next_byte-to.ensures.within, c.requires.fits, c.requires.size)
+    omega (arith, le, was.count, was.from, c.next_place-to.ensures.within, c.requires.fits, c.requires.size)
 
 pub loop-at-preserved : goal.loop-at-preserved
 loop-at-preserved g c =
     let was = c.loop-at.invariant in
-    let ends = c.next_byte-to.ensures in
-    let found = c.next_byte-at-in-loop-at.ensures in
+    let ends = c.next_place-to.ensures in
+    let found = c.next_place-at-in-loop-at.ensures in
     record {
       from = omega (arith, was.from, ends.from, found.from);
       to = found.within;
       wanted = found.stops;
       filled = λ d is.
           let long = length-contents (g.met.D.Disk.lawful c.args.disk.now) d is in
-          filled_passed d c.args.place c.args.off c.args.seen.now c.args.into.now c.read_part.new.into c.next_byte-to.result c.next_byte-at-in-loop-at.result (omega (arith, was.from, ends.from)) found.from
-          (subst (IsFilled d c.args.place c.args.off (c.next_byte-to.result - c.args.off) c.args.seen.now c.args.into.now) (sym (c.in_ok-read_part.ensures.bytes d (was.unwritten.same_contents ∙ is)))
-          (filled_more d c.args.place c.args.off c.args.seen.now c.args.into.now c.loop-at.into c.loop-at.at c.next_byte-to.result was.from ends.from (was.filled d is)
+          filled_passed d c.args.place c.args.off c.args.seen.now c.args.into.now c.read_part.new.into c.next_place-to.result c.next_place-at-in-loop-at.result (omega (arith, was.from, ends.from)) found.from
+          (subst (IsFilled d c.args.place c.args.off (c.next_place-to.result - c.args.off) c.args.seen.now c.args.into.now) (sym (c.in_ok-read_part.ensures.bytes d (was.unwritten.same_contents ∙ is)))
+          (filled_more d c.args.place c.args.off c.args.seen.now c.args.into.now c.loop-at.into c.loop-at.at c.next_place-to.result was.from ends.from (was.filled d is)
           (omega (arith, ends.within, c.requires.fits, c.loop-at.auto.into)) c.loop-at.auto.into (omega (arith, long, c.requires.inside, ends.within, was.from, ends.from)) ends.passed)) found.passed;
-      count = count_more c.args.seen.now c.args.off c.loop-at.at c.next_byte-to.result c.next_byte-at-in-loop-at.result c.loop-at.count was.from ends.from found.from was.count ends.passed found.passed;
+      count = count_more c.args.seen.now c.args.off c.loop-at.at c.next_place-to.result c.next_place-at-in-loop-at.result c.loop-at.count was.from ends.from found.from was.count ends.passed found.passed;
       faults = c.in_ok-read_part.ensures.cause.passed ∙ was.faults;
       unwritten = joined_unwritten (g.met.D.Disk.lawful c.loop-at.disk) was.unwritten c.read_part.ensures.unwritten;
     }
