@@ -8,12 +8,11 @@ use Rattle.iso_shared.specs.declared.entry.Call.TheVariants as call
 use Rattle.iso_shared.specs.declared.entry.Entry.TheVariants as entry
 use Rattle.iso_shared.proofs.Growing.{since_after, since_last}
 use Rattle.iso_shared.proofs.Standings.{Moved}
-use Rattle.iso_shared.proofs.Cores.{Did, by_lost, holds_up, refused_down, refused_up}
+use Rattle.iso_shared.proofs.Cores.{Did, by_disk, by_lost, holds_up, refused_down, refused_up}
 
 same_reply : (r : EndReply) → calls.reply_of r ≡ reply_of r
 same_reply (Committed n) = refl
-same_reply ReadOnly = refl
-same_reply (Conflict c) = refl
+same_reply x = refl
 
 module _ (W : World) (n : ℕ) (accesses : List Access) where
   -- a world that the reply leads to
@@ -37,13 +36,11 @@ module _ (W : World) (n : ℕ) (accesses : List Access) where
 
   worn : Leads (reply.Worn, W)
   worn (Committed k) e = absurd (cc e)
-  worn ReadOnly e = absurd (cc e)
-  worn (Conflict d) e = absurd (cc e)
+  worn x e = absurd (cc e)
 
   log_full : (wanted free : ℕ) → Leads (reply.LogFull wanted free, W)
   log_full wanted free (Committed k) e = absurd (cc e)
-  log_full wanted free ReadOnly e = absurd (cc e)
-  log_full wanted free (Conflict d) e = absurd (cc e)
+  log_full wanted free x e = absurd (cc e)
 
   chosen : (test : Bool) (x y : CoreReply × World) → Leads x → Leads y → Leads (cond test x y)
   chosen true x y first second = first
@@ -60,15 +57,6 @@ module _ (W : World) (n : ℕ) (accesses : List Access) where
   pub ends_so : Leads (end_step W (tx_of W n accesses))
   unfolding end_step
   ends_so = chosen (has_write accesses) _ _ (commit_leads (clash W.geometry W.history (tx_of W n accesses).mode (tx_of W n accesses).begin accesses)) read_only
-
-pub by_disk : (e : CoreError) → (e ≡ error.Disk) ⊎ (e ≢ error.Disk)
-by_disk error.Down = inr (λ e. cc e)
-by_disk error.TooManyTx = inr (λ e. cc e)
-by_disk (error.LogFull wanted free) = inr (λ e. cc e)
-by_disk error.Disk = inl refl
-by_disk error.Memory = inr (λ e. cc e)
-by_disk (error.Worn at) = inr (λ e. cc e)
-by_disk error.ModeFixed = inr (λ e. cc e)
 
 unwritten_err : (P : Type 0) (e : CoreError) → e ≢ error.Disk → Writes (Err e) ⊎ P → P
 unwritten_err P error.Down other w = ⊎_elim (λ (x : Writes (Err error.Down)). absurd x) (λ (x : P). x) w

@@ -5,8 +5,7 @@ use Rattle.iso_shared.specs.declared.entry.Call.TheVariants as call
 use Rattle.iso_shared.specs.declared.entry.Cause.TheVariants as cause
 use Rattle.iso_shared.specs.declared.entry.Entry.TheVariants as entry
 use Rattle.iso_shared.proofs.Grouped.{after_is, behind_it}
-use Rattle.iso_shared.proofs.Lives.{live_snoc, live_without, of_snoc, of_without}
-use Rattle.iso_shared.proofs.Trace.{after_append}
+use Rattle.iso_shared.proofs.Trace.{after_append, live_snoc, live_without, of_snoc, of_without}
 
 -- what leads from a state to a later one
 pub record Follows (S T : State) : Type 0 where
@@ -87,28 +86,17 @@ follows_group S members =
     (follows_on S U (with_world U (leave_all txs U.world)) grown (follows_all_left U txs))
 
 follows_fault : (S : State) (c : Call) (now : ℕ) → Follows S (after_fault S c now)
-follows_fault S (call.Begin named) now = same_world S _ refl
-follows_fault S (call.Fetch n block) now = same_world S _ refl
 follows_fault S (call.End n accesses) now = follows_left S (after_fault S (call.End n accesses) now) n refl refl refl (extends_itself S.world.history)
 follows_fault S (call.EndGroup members) now =
     let T : State = with_world S (leave_all (txs_of S.world members) S.world) in
     let U : State = after_fault S (call.EndGroup members) now in
     follows_on S T U (follows_all_left S (txs_of S.world members)) (same_world T U refl)
-follows_fault S call.Trim now = same_world S _ refl
-follows_fault S call.Compact now = same_world S _ refl
-follows_fault S call.Upgrade now = same_world S _ refl
-follows_fault S (call.Post n l accesses) now = same_world S _ refl
-follows_fault S (call.Recent n) now = same_world S _ refl
+follows_fault S c now = same_world S _ refl
 
 follows_refusal : (S : State) (c : Call) (why : Cause) → Follows S (after_refusal S c why)
 follows_refusal S c cause.Down = follows_itself S
 follows_refusal S c (cause.Disk before now) = follows_fault S c now
-follows_refusal S c cause.TooManyTx = same_world S _ refl
-follows_refusal S c (cause.LogFull need free) = same_world S _ refl
-follows_refusal S c cause.Memory = same_world S _ refl
-follows_refusal S c cause.Worn = same_world S _ refl
-follows_refusal S c cause.ModeFixed = same_world S _ refl
-follows_refusal S c cause.LabelTaken = same_world S _ refl
+follows_refusal S c why = same_world S _ refl
 
 begun_by : (n : ℕ) (t : Live) (live : List Live) → (t.number == n) ≡ false → is_live n (live ++ t ∷ []) ≡ true → is_live n live ≡ true
 begun_by n t live other is = sym (ap (λ b. cond b true (is_live n live)) other) ∙ sym (live_snoc n live t) ∙ is
@@ -138,19 +126,17 @@ follows_sweep S (Some k) = follows_left S (after_sweep S (Some k)) k refl refl r
 
 pub follows_next : (S : State) (e : Entry) → Follows S (after S e)
 follows_next S (entry.Begin k at mode) = follows_begin S _ (after S (entry.Begin k at mode)) refl refl refl refl refl
-follows_next S (entry.Fetch k block bytes) = follows_itself S
 follows_next S (entry.End k accesses r) = follows_end S k accesses r
 follows_next S (entry.EndGroup ends) = follows_group S (members_of ends)
 follows_next S (entry.Abort k) = follows_left S (after S (entry.Abort k)) k refl refl refl (extends_itself S.world.history)
 follows_next S (entry.Trim k) = record { next = omega arith; block = refl; blocks = refl; mode = refl; history = extends_itself S.world.history; live = λ n below is. (is, refl) }
 follows_next S (entry.Compact k) = record { next = omega arith; block = refl; blocks = refl; mode = refl; history = extends_itself S.world.history; live = λ n below is. (is, refl) }
 follows_next S (entry.Upgrade k) = record { next = omega arith; block = refl; blocks = refl; mode = refl; history = extends_itself S.world.history; live = λ n below is. (is, refl) }
-follows_next S (entry.Stat k) = follows_itself S
 follows_next S (entry.Post k l accesses) = same_world S _ refl
 follows_next S (entry.Look l found) = same_world S _ refl
 follows_next S (entry.Sweep found) = follows_sweep S found
-follows_next S (entry.Recent k upto) = follows_itself S
 follows_next S (entry.Refused c why) = follows_refusal S c why
+follows_next S e = follows_itself S
 
 pub follows_all : (S : State) (es : List Entry) → Follows S (after_all S es)
 follows_all S [] = follows_itself S

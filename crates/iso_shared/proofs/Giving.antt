@@ -1,13 +1,16 @@
 -- What stands under the lock after a call of the core that leaves the labels.
-use Rattle.iso_shared.proofs.Words.{◌≡◌, inr, ℕ, ◌<◌, List, [], ◌∷◌, ◌++◌, Option, None, Result, Ok, Err, refl, sym, ap, ◌∙◌, subst, Recent, Core, disk_of, DiskState, IsLawful, LeavesOnly, WritesNothing, at_end, weakened, Commit, World, ShowsBetween, ShowsLast, CoreError, AreHeld, held_after, Call, Entry, Posted, Answers, IsLegal, ended, handed, returned, tx_in, Came, Holds, StandsAt, whole, with_lost, Start, State, after, after_fault, opened, state_at, cause_of, entry_of, fetch_entry, recent_entry}
+use Rattle.iso_shared.proofs.Words.{◌≡◌, ◌≤◌, inr, true, Checked, Doing, IsAhead, IsOwn, IsPrefix, IsTxOf, Tx, live_of, tx_view, times, faults_of, is_live, ℕ, ◌<◌, List, [], ◌∷◌, ◌++◌, Option, None, Result, Ok, Err, refl, sym, ap, ◌∙◌, subst, Recent, Core, disk_of, DiskState, IsLawful, LeavesOnly, WritesNothing, at_end, weakened, Commit, World, ShowsBetween, ShowsLast, CoreError, AreHeld, held_after, Call, Entry, Posted, Answers, IsLegal, ended, handed, returned, tx_in, Came, Holds, StandsAt, whole, with_lost, Start, State, after, after_fault, opened, state_at, cause_of, entry_of, fetch_entry, recent_entry}
 use Rattle.iso_model.specs.declared.core_error.CoreError.TheVariants as error
 use Rattle.turn_lock.specs.Numbers.{without}
 use Rattle.iso_shared.specs.declared.entry.Call.TheVariants as call
 use Rattle.iso_shared.specs.declared.entry.Entry.TheVariants as entry
 use Rattle.iso_shared.proofs.Cores.{Did}
+use Rattle.iso_shared.proofs.Ends.{ahead_same, own_same}
 use Rattle.iso_shared.proofs.Growing.{since_last}
+use Rattle.iso_shared.proofs.Mades.{ahead_on, held_same, own_on}
 use Rattle.iso_shared.proofs.Trace.{after_snoc}
-use Rattle.iso_shared.proofs.Standings.{HoldsOut, MayLeave, Moved, stands_next}
+use Rattle.iso_shared.proofs.Standings.{HoldsOut, MayLeave, Moved, held_live, stands_next}
+use Rattle.iso_shared.specs.declared.guarded.Guarded.{Guarded}
 
 -- the entry leaves the labels
 abbrev pub KeepsRack : Entry → Type 0
@@ -15,55 +18,27 @@ KeepsRack e = (S : State) → (after S e).rack ≡ S.rack
 
 pub fault_keeps : (S : State) (c : Call) (k : ℕ) → (after_fault S c k).rack ≡ S.rack
 fault_keeps S (call.Begin named) k = refl
-fault_keeps S (call.Fetch n block) k = refl
-fault_keeps S (call.End n accesses) k = refl
-fault_keeps S (call.EndGroup members) k = refl
-fault_keeps S call.Trim k = refl
-fault_keeps S call.Compact k = refl
-fault_keeps S call.Upgrade k = refl
-fault_keeps S (call.Post n label accesses) k = refl
-fault_keeps S (call.Recent n) k = refl
+fault_keeps S c k = refl
 
 pub entry_keeps : {T : Type 0} → (b n : ℕ) (c : Call) (made : T → Entry) → ((x : T) → KeepsRack (made x)) → (r : Result T CoreError) → KeepsRack (entry_of b n c made r)
 entry_keeps b n c made each (Ok x) S = each x S
-entry_keeps b n c made each (Err error.Down) S = refl
-entry_keeps b n c made each (Err error.TooManyTx) S = refl
-entry_keeps b n c made each (Err (error.LogFull need free)) S = refl
 entry_keeps b n c made each (Err error.Disk) S = fault_keeps S c n
-entry_keeps b n c made each (Err error.Memory) S = refl
-entry_keeps b n c made each (Err (error.Worn at)) S = refl
-entry_keeps b n c made each (Err error.ModeFixed) S = refl
+entry_keeps b n c made each (Err e) S = refl
 
 ended_held : (c : Call) (holds : List ℕ) → AreHeld (tx_in c) holds → AreHeld (ended c) holds
-ended_held (call.Begin named) holds h = tt
-ended_held (call.Fetch n block) holds h = tt
 ended_held (call.End n accesses) holds h = h
 ended_held (call.EndGroup members) holds h = h
-ended_held call.Trim holds h = tt
-ended_held call.Compact holds h = tt
-ended_held call.Upgrade holds h = tt
-ended_held (call.Post n label accesses) holds h = tt
-ended_held (call.Recent n) holds h = tt
+ended_held c holds h = tt
 
 pub entry_may : {T : Type 0} → (b n : ℕ) (c : Call) (made : T → Entry) (holds : List ℕ) → ((x : T) → MayLeave holds (made x)) → AreHeld (tx_in c) holds → (r : Result T CoreError) → MayLeave holds (entry_of b n c made r)
 entry_may b n c made holds each h (Ok x) = each x
-entry_may b n c made holds each h (Err error.Down) = (h, tt)
-entry_may b n c made holds each h (Err error.TooManyTx) = (h, tt)
-entry_may b n c made holds each h (Err (error.LogFull need free)) = (h, tt)
 entry_may b n c made holds each h (Err error.Disk) = (h, ended_held c holds h)
-entry_may b n c made holds each h (Err error.Memory) = (h, tt)
-entry_may b n c made holds each h (Err (error.Worn at)) = (h, tt)
-entry_may b n c made holds each h (Err error.ModeFixed) = (h, tt)
+entry_may b n c made holds each h (Err e) = (h, tt)
 
 -- what a pass holds after a call that was refused, where no fault ended its transaction
 pub refused_holds : (b n : ℕ) (c : Call) (e : CoreError) (holds : List ℕ) → (e ≡ error.Disk → ended c ≡ []) → held_after handed returned (entry.Refused c (cause_of b n e)) holds ≡ holds
-refused_holds b n c error.Down holds other = refl
-refused_holds b n c error.TooManyTx holds other = refl
-refused_holds b n c (error.LogFull need free) holds other = refl
 refused_holds b n c error.Disk holds other = ap (λ ns. without ns holds) (other refl)
-refused_holds b n c error.Memory holds other = refl
-refused_holds b n c (error.Worn at) holds other = refl
-refused_holds b n c error.ModeFixed holds other = refl
+refused_holds b n c e holds other = refl
 
 pub fetch_holds : (b n tx block : ℕ) (bytes : List ℕ) (r : Result (Unit {0}) CoreError) (holds : List ℕ) → held_after handed returned (fetch_entry b n tx block bytes r) holds ≡ holds
 fetch_holds b n tx block bytes (Ok done) holds = refl
@@ -72,10 +47,6 @@ fetch_holds b n tx block bytes (Err e) holds = refused_holds b n (call.Fetch tx 
 pub recent_holds : (b n tx : ℕ) (r : Result Recent CoreError) (holds : List ℕ) → held_after handed returned (recent_entry b n tx r) holds ≡ holds
 recent_holds b n tx (Ok x) holds = refl
 recent_holds b n tx (Err e) holds = refused_holds b n (call.Recent tx) e holds (λ is. refl)
-
--- the disk of the core that was lent
-pub from_lent : {D : Type 0} (disk : D → DiskState) (A : Start) (es : List Entry) (e : Entry) (old lent new : Core D) → lent ≡ old → Moved disk A es e lent new → Moved disk A es e old new
-from_lent {D} disk A es e old lent new same moved = subst (λ (c : Core D). Moved disk A es e c new) same moved
 
 -- an image that shows the last commit before the call shows it in the list with the entry
 pub moved_last : {D : Type 0} (disk : D → DiskState) (A : Start) (es : List Entry) (e : Entry) (old new : Core D) → IsLegal A es → 0 < (state_at A es).world.history.first → Answers (state_at A es) e
@@ -86,12 +57,7 @@ moved_last disk A es e old new legal some answers is run =
 fetch_whole : (S : State) (b n tx block : ℕ) (bytes : List ℕ) (r : Result (Unit {0}) CoreError) → whole (after S (fetch_entry b n tx block bytes r)) ≡ whole S
 fetch_whole S b n tx block bytes (Ok done) = refl
 fetch_whole S b n tx block bytes (Err error.Down) = refl
-fetch_whole S b n tx block bytes (Err error.TooManyTx) = refl
-fetch_whole S b n tx block bytes (Err (error.LogFull need free)) = refl
-fetch_whole S b n tx block bytes (Err error.Disk) = refl
-fetch_whole S b n tx block bytes (Err error.Memory) = refl
-fetch_whole S b n tx block bytes (Err (error.Worn at)) = refl
-fetch_whole S b n tx block bytes (Err error.ModeFixed) = refl
+fetch_whole S b n tx block bytes (Err e) = refl
 
 -- a fetch leaves the images that there were
 pub moved_fetch : {D : Type 0} (disk : D → DiskState) {first : DiskState} (A : Start) (es : List Entry) (b n tx block : ℕ) (bytes : List ℕ) (old new : Core D) (r : Result (Unit {0}) CoreError)
@@ -102,19 +68,46 @@ moved_fetch disk A es b n tx block bytes old new r laws came nothing =
     subst (λ (T : State). ShowsBetween A.world (whole T) c) (sym (after_snoc (opened A) es e))
     (subst (λ (V : World). ShowsBetween A.world V c) (sym (fetch_whole (state_at A es) b n tx block bytes r)) (at_end laws came.moments c here))))
 
-module _ {D : Type 0} (disk : D → DiskState) {first : DiskState} (A : Start) where
-  -- the core that was lent stands for the state
-  pub core_at : (old mid : Core D) (items : List (List ℕ × Posted)) (es : List Entry) → StandsAt disk A first old items es → mid ≡ old → Holds disk mid (state_at A es)
-  core_at old mid items es s same = subst (λ v. Holds disk v (state_at A es)) (sym same) s.core
+-- What a turn lends stands for the list, and the numbers that its pass holds are out.
+pub record Lends {D : Type 0} (disk : D → DiskState) (A : Start) (first : DiskState) (lent : Core D) (items : List (List ℕ × Posted)) (es : List Entry) (holds : List ℕ) : Type 0 where
+  pub at : StandsAt disk A first lent items es
+  pub out : HoldsOut holds es
 
-  pub lent_came : (old lent : Core D) (items : List (List ℕ × Posted)) (es : List Entry) → StandsAt disk A first old items es → lent ≡ old → Came A first (disk (disk_of lent)) es
-  lent_came old lent items es s same = subst (λ (v : Core D). Came A first (disk (disk_of v)) es) (sym same) s.came
+pub lends : {D O : Type 0} (disk : D → DiskState) {first : DiskState} (A : Start) (old lent : Guarded D O) (es : List Entry) (holds : List ℕ) → StandsAt disk A first old.core old.rack es → lent ≡ old → HoldsOut holds es → Lends disk A first lent.core lent.rack es holds
+lends {D} {O} disk {first} A old lent es holds s same out = record { at = subst (λ (v : Guarded D O). StandsAt disk A first v.core v.rack es) (sym same) s; out = out }
+
+-- what is known at its turn of the transaction whose pass it is
+pub record AtTurn (A : Start) (es : List Entry) (n : ℕ) (work : Doing) (checked : Checked) : Type 0 where
+  pub live : is_live n (state_at A es).world.live ≡ true
+  pub own : IsOwn (state_at A es) n work
+  pub ahead : IsAhead (state_at A es) work checked
+  pub from : (live_of n (state_at A es).world.live).begin ≤ checked.upto
+
+pub settled_turn : {A : Start} {es : List Entry} {n : ℕ} {old : Doing} {checked : Checked} → AtTurn A es n old checked → (new : Doing) → new ≡ record old { settled = new.settled } → AtTurn A es n new checked
+settled_turn {A} {es} {n} {old} {checked} t new is = record { live = t.live; own = own_same (state_at A es) n old new is t.own; ahead = ahead_same (state_at A es) old new checked is t.ahead; from = t.from }
+
+module _ {D : Type 0} {disk : D → DiskState} {A : Start} {first : DiskState} {lent : Core D} {items : List (List ℕ × Posted)} {es : List Entry} {holds : List ℕ} (l : Lends disk A first lent items es holds) where
+  pub live_lent : (n : ℕ) → 0 < times n holds → is_live n (state_at A es).world.live ≡ true
+  live_lent n held = held_live disk A lent items es holds l.at l.out n held
+
+  pub at_turn : {O : Type 0} (t : Tx D O) → IsTxOf A t → IsPrefix (tx_view t).seen es → holds ≡ (tx_view t).holds → AtTurn A es t.number t.work t.checked
+  at_turn t is begins same =
+      let live = live_lent t.number (held_same t.number (tx_view t).holds holds same is.held) in
+      let own = own_on A (tx_view t).seen es t.number t.work begins is.own in
+      let ahead = ahead_on A (tx_view t).seen es t.work t.checked begins is.ahead in
+      record { live = live; own = own; ahead = ahead; from = subst (λ (k : ℕ). k ≤ t.checked.upto) (sym (own.begin live)) ahead.from }
 
   -- after a call of the core: e is the entry, and e' the same, told of the core that was lent
-  pub stands_call : (old new : Core D) (items kept : List (List ℕ × Posted)) (es : List Entry) (e e' : Entry) (holds : List ℕ)
-      → StandsAt disk A first old items es → kept ≡ items → HoldsOut holds es → MayLeave holds e → e ≡ e' → Moved disk A es e' old new → Did disk (state_at A es) new e' → KeepsRack e
-      → StandsAt disk A first new kept (es ++ e ∷ [])
-  stands_call old new items kept es e e' holds s rack out may same moved did keeps =
+  pub stands_call : (new : Core D) (e e' : Entry) → MayLeave holds e → e ≡ e' → Moved disk A es e' lent new → Did disk (state_at A es) new e' → KeepsRack e → StandsAt disk A first new items (es ++ e ∷ [])
+  stands_call new e e' may same moved did keeps =
       let did' : Did disk (state_at A es) new e = subst (Did disk (state_at A es) new) (sym same) did in
-      subst (λ l. StandsAt disk A first new l (es ++ e ∷ [])) (sym rack)
-      (stands_next disk A old new items items es e holds s out may (subst (λ (x : Entry). Moved disk A es x old new) (sym same) moved) did'.0 did'.1 (s.rack ∙ sym (keeps (state_at A es))) s.works)
+      stands_next disk A lent new items items es e holds l.at l.out may (subst (λ (x : Entry). Moved disk A es x lent new) (sym same) moved) did'.0 did'.1 (l.at.rack ∙ sym (keeps (state_at A es))) l.at.works
+
+  -- after one that is answered or refused, of which a copy of the core was taken before
+  pub stands_answer : {T : Type 0} (shot new : Core D) (c : Call) (made : T → Entry) (r : Result T CoreError) → shot ≡ lent → ((x : T) → MayLeave holds (made x)) → AreHeld (tx_in c) holds → ((x : T) → KeepsRack (made x))
+      → Moved disk A es (entry_of (faults_of disk lent) (faults_of disk new) c made r) lent new → Did disk (state_at A es) new (entry_of (faults_of disk lent) (faults_of disk new) c made r)
+      → StandsAt disk A first new items (es ++ entry_of (faults_of disk shot) (faults_of disk new) c made r ∷ [])
+  stands_answer shot new c made r copied may held keeps moved did =
+      stands_call new (entry_of (faults_of disk shot) (faults_of disk new) c made r) (entry_of (faults_of disk lent) (faults_of disk new) c made r)
+      (entry_may (faults_of disk shot) (faults_of disk new) c made holds may held r)
+      (ap (λ v. entry_of (faults_of disk v) (faults_of disk new) c made r) copied) moved did (entry_keeps (faults_of disk shot) (faults_of disk new) c made keeps r)

@@ -1,5 +1,5 @@
 -- The end of a group leaves an entry that is legal at its place.
-use Rattle.iso_shared.proofs.Words.{◌≡◌, ◌≢◌, ◌⊎◌, inl, inr, ⊎_elim, ℕ, ◌<◌, ◌≤◌, List, [], ◌∷◌, ◌++◌, Option, Some, None, Result, Ok, Err, IfErr, OnOk, length, map, refl, sym, ap, ◌∙◌, subst, arith, unwrap_or, append-nil, append_cancel_left, IsErrOf, AllByRecursion, AreDistinct, AreEach, AreHeld, Bool, IsJoined, Posted, Shared, StandsAt, Standing, Tx, cause_of, end_of, false, handed, held_after, is_down, is_some, members_in, numbers_in, returned, IsEnd, IsMember, MAX_GROUP, MayHaveMade, ShowsSince, hit_same, is_live, member_numbers, numbers_handed, suc, times, true, BlamesDisk, Core, StandsFor, disk_of, up, down, ShowsEither, ShowsLast, DiskState, LeavesOnly, StaysTold, weakened, Commit, CoreError, GroupEnd, GroupReply, bare_end, reply_in, group, group_is, decided, leave_all, leave_all_is, made_by, member_reply, numbers_told, ahead, end_step, with_commits, History, World, Live, Entry, Answers, IsGroup, IsLegal, Member, Holds, faults_of, with_lost, Start, State, after_group, commits_made, group_answers, lost_commits, members_of, replies_of, state_at, txs_of, with_world, ends_at, group_entry, members_at, IsPrefix}
+use Rattle.iso_shared.proofs.Words.{◌≡◌, ◌≢◌, ◌⊎◌, inl, inr, ⊎_elim, ℕ, ◌<◌, ◌≤◌, List, [], ◌∷◌, ◌++◌, Option, Some, None, Result, Ok, Err, IfErr, OnOk, length, map, refl, sym, ap, ◌∙◌, subst, arith, unwrap_or, append-nil, append_cancel_left, IsErrOf, AllByRecursion, AreDistinct, AreEach, AreHeld, Bool, IsJoined, Posted, Shared, Standing, View, Tx, cause_of, end_of, false, handed, held_after, is_down, is_some, members_in, numbers_in, returned, IsEnd, IsMember, MAX_GROUP, MayHaveMade, ShowsSince, hit_same, is_live, member_numbers, numbers_handed, suc, times, true, BlamesDisk, Core, StandsFor, disk_of, up, down, ShowsEither, ShowsLast, DiskState, LeavesOnly, StaysTold, weakened, Commit, CoreError, GroupEnd, GroupReply, bare_end, reply_in, group, group_is, decided, leave_all, leave_all_is, made_by, member_reply, numbers_told, ahead, end_step, with_commits, History, World, Live, Entry, Answers, IsGroup, IsLegal, Member, Holds, faults_of, with_lost, Start, State, after_group, commits_made, group_answers, lost_commits, members_of, replies_of, state_at, txs_of, with_world, ends_at, group_entry, members_at, IsPrefix}
 use Rattle.iso_model.specs.declared.access.GroupReply.TheVariants as member
 use Rattle.iso_model.specs.declared.core_error.CoreError.TheVariants as error
 use Rattle.iso_shared.specs.declared.entry.Call.TheVariants as call
@@ -7,11 +7,11 @@ use Rattle.iso_shared.specs.declared.entry.Cause.TheVariants as cause
 use Rattle.iso_shared.specs.declared.entry.Entry.TheVariants as entry
 use Rattle.iso_shared.proofs.Cores.{Did, by_lost, holds_up, is_tx, refused_down, same_faults, same_told}
 use Rattle.iso_shared.proofs.Ends.{may_have, work_of}
-use Rattle.iso_shared.proofs.Giving.{refused_holds}
+use Rattle.iso_shared.proofs.Giving.{Lends, live_lent, refused_holds}
 use Rattle.iso_shared.proofs.Grouped.{after_live}
 use Rattle.iso_shared.proofs.Growing.{since_after, since_last}
 use Rattle.iso_shared.proofs.Mades.{own_on}
-use Rattle.iso_shared.proofs.Standings.{HoldsOut, Moved, held_live}
+use Rattle.iso_shared.proofs.Standings.{Moved}
 
 -- ---- the members, before the call and after it
 
@@ -45,10 +45,7 @@ told_replies (g ∷ ends) (r ∷ replies) same =
 
 told_by : (t : Live) (r : GroupReply) (replies : List GroupReply) (made : List Commit) → length (numbers_told replies) ≡ length made → length (numbers_told (r ∷ replies)) ≡ length (made_by t r ++ made)
 told_by t (member.Committed k) replies made same = omega (arith, same)
-told_by t member.ReadOnly replies made same = same
-told_by t (member.Conflict c) replies made same = same
-told_by t (member.Full wanted free) replies made same = same
-told_by t member.Worn replies made same = same
+told_by t x replies made same = same
 
 decided_many : (W : World) (txs : List Live) → length (numbers_told (decided W txs).0) ≡ length (commits_made txs (decided W txs).0)
 decided_many W [] = refl
@@ -89,7 +86,7 @@ apart W n [] none = tt
 apart W n (g ∷ ends) none = ((λ same. let h = hit_same g.tx n same in absurd (omega (arith, none, h))), apart W n ends (omega (arith, none)))
 
 -- live ones, which are different
-pub each_member : (A : Start) (es seen : List Entry) (ends : List GroupEnd) → IsPrefix seen es → AllByRecursion (IsEnd A seen) ends
+each_member : (A : Start) (es seen : List Entry) (ends : List GroupEnd) → IsPrefix seen es → AllByRecursion (IsEnd A seen) ends
     → AllByRecursion (λ (g : GroupEnd). is_live g.tx (state_at A es).world.live ≡ true) ends → AreDistinct (numbers_handed ends) → AreEach (IsMember (state_at A es).world) ends (txs_of (state_at A es).world (members_at ends))
 each_member A es seen [] p each live distinct = tt
 each_member A es seen (g ∷ ends) p each live distinct =
@@ -251,12 +248,15 @@ held_again last ends holds same held =
     let one = subst (λ (ms : List Member). AreHeld (member_numbers ms) holds) (sym (same_members last ends same)) (subst (λ (ns : List ℕ). AreHeld ns holds) (sym (numbers_are ends)) held) in
     (one, subst (λ (ms : List Member). AreHeld (member_numbers ms) holds) (sym (bare_members last)) one)
 
-module _ {D : Type 0} (disk : D → DiskState) {first : DiskState} (A : Start) where
+module _ {D : Type 0} {disk : D → DiskState} {A : Start} {first : DiskState} {lent : Core D} {items : List (List ℕ × Posted)} {es : List Entry} {holds : List ℕ} (l : Lends disk A first lent items es holds) where
   -- members that a pass holds are live
-  pub all_live : (core : Core D) (items : List (List ℕ × Posted)) (es : List Entry) (holds : List ℕ) → StandsAt disk A first core items es → HoldsOut holds es → (ends : List GroupEnd) → AreHeld (numbers_handed ends) holds
-      → AllByRecursion (λ (g : GroupEnd). is_live g.tx (state_at A es).world.live ≡ true) ends
-  all_live core items es holds s out [] held = tt
-  all_live core items es holds s out (g ∷ ends) held = (held_live disk A core items es holds s out g.tx held.0, all_live core items es holds s out ends held.1)
+  all_live : (ends : List GroupEnd) → AreHeld (numbers_handed ends) holds → AllByRecursion (λ (g : GroupEnd). is_live g.tx (state_at A es).world.live ≡ true) ends
+  all_live [] held = tt
+  all_live (g ∷ ends) held = (live_lent l g.tx held.0, all_live ends held.1)
+
+  pub each_lent : (v : View Entry) (ends : List GroupEnd) → IsPrefix v.seen es → holds ≡ v.holds → AllByRecursion (IsEnd A v.seen) ends → AreHeld (numbers_handed ends) v.holds × AreDistinct (numbers_handed ends)
+      → AreEach (IsMember (state_at A es).world) ends (txs_of (state_at A es).world (members_at ends))
+  each_lent v ends begins same each held = each_member A es v.seen ends begins each (all_live ends (subst (λ (hs : List ℕ). AreHeld (numbers_handed ends) hs) (sym same) held.0)) held.1
 
 -- why a group is refused
 pub group_only : {D : Type 0} → (disk : D → DiskState) (S : State) (old new : Core D) (ends last : List GroupEnd) (r : Result (Unit {0}) CoreError) → Holds disk old S → Groups disk S old new ends last r

@@ -63,7 +63,6 @@ grows_group S members up =
     subst (λ (q : Option (List Commit)). Grows (with_lost S.world q) (with_lost (after_group S.world members) q)) (sym up) one
 
 grows_fault : (S : State) (c : Call) (before now : ℕ) → MayRefuse S c (cause.Disk before now) → Grows (whole S) (whole (after_fault S c now))
-grows_fault S (call.Begin named) before now may = absurd may.0
 grows_fault S (call.Fetch n block) before now may = formed S.world S.world S.lost refl refl
 grows_fault S (call.End n accesses) before now may =
     let T : State = after_fault S (call.End n accesses) now in
@@ -73,38 +72,27 @@ grows_fault S (call.EndGroup members) before now may =
     added S.world T.world S.lost T.lost may.0.0
     (subst (λ (V : World). Grows S.world (with_lost V T.lost)) (sym (leave_all_is (txs_of S.world members) S.world))
     (record { geometry = refl; history = behind_it S.world.history (lost_commits S.world members) }))
-grows_fault S call.Trim before now may = absurd may.0
 grows_fault S call.Compact before now may = added S.world S.world S.lost (Some []) may.0.0 (record { geometry = refl; history = behind_it S.world.history [] })
 grows_fault S call.Upgrade before now may = added S.world S.world S.lost (Some []) may.0.0 (record { geometry = refl; history = behind_it S.world.history [] })
-grows_fault S (call.Post n label accesses) before now may = absurd may.0
-grows_fault S (call.Recent n) before now may = absurd may.0
+grows_fault S c before now may = absurd may.0
 
 grows_refusal : (S : State) (c : Call) (why : Cause) → MayRefuse S c why → Grows (whole S) (whole (after_refusal S c why))
-grows_refusal S c cause.Down may = grows_itself (whole S)
-grows_refusal S c cause.TooManyTx may = grows_itself (whole S)
-grows_refusal S c (cause.LogFull need free) may = grows_itself (whole S)
 grows_refusal S c (cause.Disk before now) may = grows_fault S c before now may
-grows_refusal S c cause.Memory may = grows_itself (whole S)
-grows_refusal S c cause.Worn may = grows_itself (whole S)
-grows_refusal S c cause.ModeFixed may = grows_itself (whole S)
-grows_refusal S c cause.LabelTaken may = grows_itself (whole S)
+grows_refusal S c why may = grows_itself (whole S)
 
 pub grows_next : (S : State) (e : Entry) → Answers S e → Grows (whole S) (whole (after S e))
 grows_next S (entry.Begin n at mode) a = formed S.world (after S (entry.Begin n at mode)).world S.lost refl refl
-grows_next S (entry.Fetch n block bytes) a = grows_itself (whole S)
 grows_next S (entry.End n accesses r) a = grows_end S n accesses r a.0
 grows_next S (entry.EndGroup ends) a = grows_group S (members_of ends) a.0
 grows_next S (entry.Abort n) a = formed S.world (after S (entry.Abort n)).world S.lost refl refl
 grows_next S (entry.Trim n) a = formed S.world (after S (entry.Trim n)).world S.lost refl refl
 grows_next S (entry.Compact n) a = formed S.world (after S (entry.Compact n)).world S.lost refl refl
 grows_next S (entry.Upgrade n) a = formed S.world (after S (entry.Upgrade n)).world S.lost refl refl
-grows_next S (entry.Stat numbers) a = grows_itself (whole S)
 grows_next S (entry.Post n label accesses) a = formed S.world S.world S.lost refl refl
 grows_next S (entry.Look label found) a = formed S.world S.world S.lost refl refl
-grows_next S (entry.Sweep None) a = grows_itself (whole S)
 grows_next S (entry.Sweep (Some n)) a = formed S.world (after S (entry.Sweep (Some n))).world S.lost refl refl
-grows_next S (entry.Recent n upto) a = grows_itself (whole S)
 grows_next S (entry.Refused c why) a = grows_refusal S c why a.1
+grows_next S e a = grows_itself (whole S)
 
 grows_from : (S : State) (es : List Entry) → LegalFrom S es → Grows (whole S) (whole (after_all S es))
 grows_from S [] legal = grows_itself (whole S)

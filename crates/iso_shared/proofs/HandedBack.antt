@@ -1,11 +1,97 @@
--- What a group leaves of its members: notes, or the same transactions again.
-use Rattle.iso_shared.proofs.Words.{◌≡◌, ℕ, ◌+◌, ◌<◌, ◌≤◌, List, [], ◌∷◌, ◌++◌, length, map, refl, sym, ap, ◌∙◌, subst, suc, arith, AllByRecursion, false, View, times, times_append, length-map, prefix_more, prefix_trans, Doing, Entry, GroupEnd, Member, MemberEnd, Shared, Tx, ArePaired, IsBack, IsJoined, IsNote, IsNoteOf, IsPartOf, IsSameTx, IsTaken, Made, MadeAll, answered, bare_end, end_of, ends_at, held_in, made_in, members_at, members_in, numbers_in, replies_of, Checked, IsAhead, IsLegal, IsOwn, Start, AreDistinct, AreHeld, hit_same, state_at, units_of, unwrap_or, IsPrefix, total, tx_view}
+-- Numbers of members that a port holds, of which no pass holds one twice.
+use Rattle.iso_shared.proofs.Words.{◌≡◌, ℕ, ◌<◌, ◌≤◌, ◌==◌, Bool, true, false, cond, nat_tests, List, [], ◌∷◌, map, refl, subst, arith, AllByRecursion, AreDistinct, AreHeld, hit, hit_same, times, total, ◌+◌, ◌||◌, is_among, ◌++◌, length, Some, ap, ◌∙◌, View, times_append, prefix_trans, Entry, Shared, Tx, IsJoined, IsNote, IsNoteOf, held_in, Start, IsPrefix, times_without, both, kept_part, sym, suc, length-map, prefix_more, Doing, GroupEnd, Member, MemberEnd, ArePaired, IsBack, IsPartOf, IsSameTx, IsTaken, Made, MadeAll, answered, bare_end, end_of, ends_at, made_in, members_at, members_in, numbers_in, replies_of, Checked, IsAhead, IsLegal, IsOwn, state_at, units_of, unwrap_or, tx_view}
+use Rattle.turn_lock.specs.Numbers.{without}
 use Rattle.iso_model.specs.declared.access.GroupReply.TheVariants as member
 use Rattle.iso_shared.specs.Ports.{IsTx}
-use Rattle.iso_shared.proofs.Joined.{note_on}
 use Rattle.iso_shared.proofs.Mades.{ahead_on, own_on}
 use Rattle.iso_shared.proofs.Ends.{ahead_same, on_same, own_same}
-use Rattle.iso_shared.proofs.Holding.{distinct_by, held_by, times_held}
+
+pub distinct_by : (ns : List ℕ) → ((n : ℕ) → times n ns ≤ 1) → AreDistinct ns
+distinct_by [] alone = tt
+distinct_by (m ∷ ns) alone =
+    let here : hit m m ≡ 1 = hit_same m m refl in
+    let one = alone m in
+    (omega (arith, here, one), distinct_by ns (λ n. let all = alone n in omega (arith, all)))
+
+-- a number of a member is held by its pass
+pub times_held : {A : Type 0} → (number : A → ℕ) (holds : A → List ℕ) (xs : List A) → AllByRecursion (λ x. 0 < times (number x) (holds x)) xs → (n : ℕ) → times n (map number xs) ≤ total (λ x. times n (holds x)) xs
+times_held number holds [] each n = omega arith
+times_held number holds (x ∷ xs) each n =
+    let rest = times_held number holds xs each.1 n in
+    let first = hit_held (number x) n (holds x) each.0 in
+    omega (arith, rest, first)
+  where
+    by : (m n : ℕ) (ns : List ℕ) (b : Bool) → (m == n) ≡ b → 0 < times m ns → cond b 1 0 ≤ times n ns
+    by m n ns true is held = let same : m ≡ n = grind (arith, nat_tests) in subst (λ (k : ℕ). 1 ≤ times k ns) same (omega (arith, held))
+    by m n ns false is held = omega arith
+
+    hit_held : (m n : ℕ) (ns : List ℕ) → 0 < times m ns → hit m n ≤ times n ns
+    hit_held m n ns held = by m n ns (m == n) refl held
+
+-- so they are held by a pass that has what these passes had
+pub held_by : (ns holds : List ℕ) → ((n : ℕ) → times n ns ≤ times n holds) → AreHeld ns holds
+held_by ns holds within = each ns (λ n less. let w = within n in omega (arith, w, less))
+  where
+    each : (ms : List ℕ) → ((n : ℕ) → 0 < times n ms → 0 < times n holds) → AreHeld ms holds
+    each [] by = tt
+    each (m ∷ ms) by =
+        let here : hit m m ≡ 1 = hit_same m m refl in
+        (by m (omega (arith, here)), each ms (λ n some. by n (omega (arith, some))))
+
+-- ---- members whose passes were joined into a port
+
+-- a pass that holds what both held
+pub holds_both : (n : ℕ) (old kept other new : View Entry) → kept.holds ≡ old.holds → new ≡ both kept other → times n new.holds ≡ times n old.holds + times n other.holds
+holds_both n old kept other new same joined =
+    let all : times n new.holds ≡ times n (other.holds ++ kept.holds) = ap (λ (v : View Entry). times n v.holds) joined in
+    let parts = times_append n other.holds kept.holds in
+    let stays : times n kept.holds ≡ times n old.holds = ap (times n) same in
+    omega (arith, all, parts, stays)
+
+module _ {D O : Type 0} (s : Shared D O) (A : Start) where
+  pub note_on : (xs ys : List Entry) (t : Tx D O) → IsPrefix xs ys → IsNote s xs t → IsNote s ys t
+  note_on xs ys t p n = record { lock = n.lock; seen_is = prefix_trans _ xs ys n.seen_is p; bare = n.bare }
+
+  pub joined_on : (xs ys : List Entry) (t : Tx D O) → IsPrefix xs ys → IsJoined s A xs t → IsJoined s A ys t
+  joined_on xs ys t p j = record {
+    note = note_on xs ys t p j.note;
+    on = j.on;
+    own = own_on A xs ys t.number t.work p j.own;
+    ahead = ahead_on A xs ys t.work t.checked p j.ahead;
+    within = j.within;
+  }
+
+  pub note_of_on : (xs ys : List Entry) (t u : Tx D O) → IsPrefix xs ys → IsNoteOf s A xs t u → IsNoteOf s A ys t u
+  note_of_on xs ys t u p n = record { joined = joined_on xs ys u p n.joined; told = prefix_trans _ xs ys n.told p; number = n.number; work = n.work; checked = n.checked }
+
+  -- no pass holds a number twice, where the last join has shown it
+  pub alone_by : (rest : List (Tx D O)) (mid new : List ℕ) → ((n : ℕ) → times n mid ≤ 1) → ((n : ℕ) → times n new ≡ times n mid + held_in n rest) → (0 < length rest → (n : ℕ) → times n new ≤ 1) → (n : ℕ) → times n new ≤ 1
+  alone_by [] mid new one sum more n = let a = one n in let b : times n new ≡ times n mid + 0 = sum n in omega (arith, a, b)
+  alone_by (t ∷ rest) mid new one sum more n = more (omega arith) n
+
+-- numbers that others hold, once one of another number is split off
+still_one : (m n : ℕ) (ns : List ℕ) → (n == m) ≡ false → 0 < times m ns → 0 < times m (without (n ∷ []) ns)
+still_one m n ns other held =
+    let left : times m (without (n ∷ []) ns) ≡ cond (is_among m (n ∷ [])) 0 (times m ns) = times_without m (n ∷ []) ns in
+    let not_it : is_among m (n ∷ []) ≡ false = ap (λ (b : Bool). b || false) other in
+    let same : cond (is_among m (n ∷ [])) 0 (times m ns) ≡ times m ns = ap (λ (b : Bool). cond b 0 (times m ns)) not_it in
+    omega (arith, left, same, held)
+
+not_first : (m n : ℕ) (b : Bool) → (m == n) ≡ b → cond {A = ℕ} b 1 0 ≡ 0 → (n == m) ≡ false
+not_first m n true is none = absurd (omega (arith, none))
+not_first m n false is none = grind (arith, nat_tests)
+
+pub still_held : (n : ℕ) (ms holds : List ℕ) → times n ms ≡ 0 → AreHeld ms holds → AreHeld ms (without (n ∷ []) holds)
+still_held n [] holds none held = tt
+still_held n (m ∷ ms) holds none held =
+    let first : hit m n ≡ 0 = omega (arith, none) in
+    (still_one m n holds (not_first m n (m == n) refl first) held.0, still_held n ms holds (omega (arith, none)) held.1)
+
+pub split_holds : (n : ℕ) (old kept other new : View Entry) → kept ≡ kept_part (Some n) 1 old → other.holds ≡ [] → new ≡ both kept other → new.holds ≡ without (n ∷ []) old.holds
+split_holds n old kept other new is none joined =
+    ap (λ (v : View Entry). v.holds) joined ∙ ap (λ (l : List ℕ). l ++ kept.holds) none ∙ ap (λ (v : View Entry). v.holds) is
+
+-- ---- what a group leaves of its members: notes, or the same transactions again
 
 pub made_seen : (A : Start) (v w : View Entry) (e : Entry) → Made A v v e w → IsPrefix v.seen w.seen
 made_seen A v w e m = subst (λ l. IsPrefix v.seen l) (sym m.seen) (prefix_more v.seen m.before (e ∷ []) m.begins)

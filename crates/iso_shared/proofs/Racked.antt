@@ -1,11 +1,13 @@
--- What a transaction under a label has kept.
-use Rattle.iso_shared.proofs.Words.{◌≡◌, ℕ, ◌+◌, ◌<◌, ◌≤◌, ◌==◌, Bool, true, false, cond, List, [], ◌∷◌, ◌++◌, Option, Some, None, refl, sym, ap, ◌∙◌, subst, arith, bytes_eq, drop, option_map, lookup, remove_entry, AllByRecursion, lookup-map_values, Core, DiskState, Geometry, last, World, Live, IsLive, hit, times, hit_same, Entry, Posting, Posted, Call, Cause, Fits, LegalFrom, IsOwn, IsOn, StandsAt, posting_in, Start, State, after, after_all, after_refusal, is_live, live_of, opened, posting_of, racked, state_at}
+-- Transactions under labels: what they have kept, and what stands under the lock after a call on labels.
+use Rattle.iso_shared.proofs.Words.{◌≡◌, ℕ, ◌+◌, ◌<◌, ◌≤◌, ◌==◌, Bool, true, false, cond, List, [], ◌∷◌, ◌++◌, Option, Some, None, refl, sym, ap, ◌∙◌, subst, arith, bytes_eq, drop, option_map, lookup, remove_entry, AllByRecursion, lookup-map_values, Core, DiskState, Geometry, last, World, Live, IsLive, hit, times, hit_same, Entry, Posting, Posted, Call, Cause, Fits, LegalFrom, IsOwn, IsOn, StandsAt, posting_in, Start, State, after, after_all, after_refusal, is_live, live_of, opened, posting_of, racked, state_at, inl, Ok, Err, is_some, slice_get, map-append, disk_of, held_after, PostError, Answers, handed, returned, Holds, postings, post_entry}
 use Rattle.iso_shared.specs.declared.entry.Entry.TheVariants as entry
 use Rattle.iso_shared.specs.declared.entry.Cause.TheVariants as cause
+use Rattle.tx_table.specs.declared.rack.PostError.TheVariants as post
 use Rattle.iso_shared.proofs.Follows.{Follows, follows_all, follows_next}
-use Rattle.iso_shared.proofs.Giving.{fault_keeps}
-use Rattle.iso_shared.proofs.Standings.{sound_at}
+use Rattle.iso_shared.proofs.Giving.{fault_keeps, Lends, live_lent}
+use Rattle.iso_shared.proofs.Standings.{sound_at, MayLeave, Moved, stands_next}
 use Rattle.iso_shared.proofs.Trace.{IsSound, loose_is, opened_sound, sound_next}
+use Rattle.iso_shared.proofs.Cores.{Did}
 
 -- it has the begin and the mode that it began with, in as far as it is still live
 pub record IsPosting (S : State) (p : Posting) : Type 0 where
@@ -57,14 +59,8 @@ found_in P test [] x all is = absurd (cc is)
 found_in P test (e ∷ es) x all is = found_by P test e es x (test e.0) all.0 (found_in P test es x all.1) is
 
 refusal_keeps : (S : State) (c : Call) (why : Cause) → (after_refusal S c why).rack ≡ S.rack
-refusal_keeps S c cause.Down = refl
 refusal_keeps S c (cause.Disk before now) = fault_keeps S c now
-refusal_keeps S c cause.TooManyTx = refl
-refusal_keeps S c (cause.LogFull wanted free) = refl
-refusal_keeps S c cause.Memory = refl
-refusal_keeps S c cause.Worn = refl
-refusal_keeps S c cause.ModeFixed = refl
-refusal_keeps S c cause.LabelTaken = refl
+refusal_keeps S c why = refl
 
 -- an entry that leaves the labels
 kept_next : (S : State) (e : Entry) → (after S e).rack ≡ S.rack → AreKnown S S.rack → AreKnown (after S e) (after S e).rack
@@ -76,14 +72,12 @@ swept_next S (Some n) all = all_on S (after S (entry.Sweep (Some n))) (drop 1 S.
 
 known_next : (S : State) (e : Entry) → IsSound S → Fits S e → AreKnown S S.rack → AreKnown (after S e) (after S e).rack
 known_next S (entry.Begin k at mode) s fits all = kept_next S (entry.Begin k at mode) refl all
-known_next S (entry.Fetch k block bytes) s fits all = all
 known_next S (entry.End k accesses r) s fits all = kept_next S (entry.End k accesses r) refl all
 known_next S (entry.EndGroup ends) s fits all = kept_next S (entry.EndGroup ends) refl all
 known_next S (entry.Abort k) s fits all = kept_next S (entry.Abort k) refl all
 known_next S (entry.Trim k) s fits all = kept_next S (entry.Trim k) refl all
 known_next S (entry.Compact k) s fits all = kept_next S (entry.Compact k) refl all
 known_next S (entry.Upgrade k) s fits all = kept_next S (entry.Upgrade k) refl all
-known_next S (entry.Stat numbers) s fits all = all
 known_next S (entry.Post k label accesses) s fits all =
     let live = (loose_is k S fits.takes.0).0 in
     let e : Entry = entry.Post k label accesses in
@@ -92,8 +86,8 @@ known_next S (entry.Post k label accesses) s fits all =
 known_next S (entry.Look label found) s fits all =
     all_on S (after S (entry.Look label found)) (remove_entry (bytes_eq label) S.rack) (follows_next S (entry.Look label found)) (all_removed (λ e. IsPosting S e.1) (bytes_eq label) S.rack all)
 known_next S (entry.Sweep found) s fits all = swept_next S found all
-known_next S (entry.Recent k upto) s fits all = all
 known_next S (entry.Refused c why) s fits all = kept_next S (entry.Refused c why) (refusal_keeps S c why) all
+known_next S e s fits all = all
 
 known_all : (S : State) (es : List Entry) → IsSound S → LegalFrom S es → AreKnown S S.rack → AreKnown (after_all S es) (after_all S es).rack
 known_all S [] s legal all = all
@@ -147,3 +141,132 @@ found_own disk A core items es test p s is =
       within = omega (arith, begin);
       first = world.history.first;
     }
+
+-- ---- what stands under the lock after a call on labels
+
+postings_removed_by : (test : List ℕ → Bool) (e : List ℕ × Posted) (items : List (List ℕ × Posted)) (b : Bool) → postings (remove_entry test items) ≡ remove_entry test (postings items)
+    → postings (cond b items (e ∷ remove_entry test items)) ≡ cond b (postings items) ((e.0, posting_in e.1) ∷ remove_entry test (postings items))
+postings_removed_by test e items true ih = refl
+postings_removed_by test e items false ih = ap (λ l. (e.0, posting_in e.1) ∷ l) ih
+
+-- what is taken out from under a label is taken out of the list
+postings_removed : (test : List ℕ → Bool) (items : List (List ℕ × Posted)) → postings (remove_entry test items) ≡ remove_entry test (postings items)
+postings_removed test [] = refl
+postings_removed test (e ∷ items) = postings_removed_by test e items (test e.0) (postings_removed test items)
+
+postings_rest : (items : List (List ℕ × Posted)) → postings (drop 1 items) ≡ drop 1 (postings items)
+postings_rest [] = refl
+postings_rest (e ∷ items) = refl
+
+postings_first : (items : List (List ℕ × Posted)) → option_map (λ e. e.1.number) (slice_get (postings items) 0) ≡ option_map (λ e. e.1.number) (slice_get items 0)
+postings_first [] = refl
+postings_first (e ∷ items) = refl
+
+pub first_is : (p : Posted) (o : Option (List ℕ × Posted)) → Some p ≡ option_map (λ e. e.1) o → Some p.number ≡ option_map (λ e. e.1.number) o
+first_is p None is = absurd (cc is)
+first_is p (Some e) is = let same : p ≡ e.1 = cc is in ap (λ (v : Posted). Some v.number) same
+
+first_number : (n : ℕ) (items : List (List ℕ × Posted)) → Some n ≡ option_map (λ e. e.1.number) (slice_get items 0) → 0 < times n (racked (postings items))
+first_number n [] e = absurd (cc e)
+first_number n (i ∷ items) e = let same : i.1.number ≡ n = cc e in let h = hit_same i.1.number n same in omega arith
+
+post_refused : {D : Type 0} (disk : D → DiskState) (S : State) (core : Core D) (label : List ℕ) (p : Posted) (e : PostError) → Holds disk core S → (e ≡ post.LabelTaken → is_some (lookup (bytes_eq label) S.rack) ≡ true) → (e ≡ post.Memory → lookup (bytes_eq label) S.rack ≡ None)
+    → Answers S (post_entry label p (Err e)) × Holds disk core (after S (post_entry label p (Err e))) × ((after S (post_entry label p (Err e))).rack ≡ S.rack)
+post_refused disk S core label p post.LabelTaken h taken free = ((tt, taken refl), record { world = h.world; counts = h.counts; told = h.told }, refl)
+post_refused disk S core label p post.Memory h taken free = ((tt, free refl), record { world = h.world; counts = h.counts; told = h.told }, refl)
+
+pub post_may : (label : List ℕ) (p : Posted) (e : PostError) (holds : List ℕ) → 0 < times p.number holds → MayLeave holds (post_entry label p (Err e))
+post_may label p post.LabelTaken holds h = ((h, tt), tt)
+post_may label p post.Memory holds h = ((h, tt), tt)
+
+module _ {D : Type 0} {disk : D → DiskState} {A : Start} {first : DiskState} {lent : Core D} {items : List (List ℕ × Posted)} {es : List Entry} {holds : List ℕ} (l : Lends disk A first lent items es holds) where
+  abbrev S : State
+  S = state_at A es
+
+  -- a call of the labels, of which the core knows nothing
+  stands_kept : (left : List (List ℕ × Posted)) (e : Entry) → MayLeave holds e → Answers S e → Holds disk lent (after S e) → postings left ≡ (after S e).rack → AllByRecursion (λ i. IsOn A.world.geometry i.1.work) left
+      → StandsAt disk A first lent left (es ++ e ∷ [])
+  stands_kept left e may answers core rack works = stands_next disk A lent lent items left es e holds l.at l.out may (inl refl) answers core rack works
+
+  pub stands_look : (left : List (List ℕ × Posted)) (label : List ℕ) (found : Option Posted) → found ≡ lookup (bytes_eq label) items → left ≡ remove_entry (bytes_eq label) items
+      → StandsAt disk A first lent left (es ++ entry.Look label (option_map posting_in found) ∷ [])
+  stands_look left label found is rest =
+      let test = bytes_eq label in
+      let h = l.at.core in
+      stands_kept left (entry.Look label (option_map posting_in found)) (tt, tt)
+      (ap (option_map posting_in) is ∙ sym (lookup-map_values posting_in test items) ∙ ap (lookup test) l.at.rack)
+      (record { world = h.world; counts = h.counts; told = h.told })
+      (ap postings rest ∙ postings_removed test items ∙ ap (remove_entry test) l.at.rack)
+      (subst (AllByRecursion (λ i. IsOn A.world.geometry i.1.work)) (sym rest) (all_removed (λ i. IsOn A.world.geometry i.1.work) test items l.at.works))
+
+  pub swept_live : (n : ℕ) → Some n ≡ option_map (λ e. e.1.number) (slice_get items 0) → is_live n S.world.live ≡ true
+  swept_live n is =
+      let some : 0 < times n (racked (postings items)) = first_number n items is in
+      (sound_at disk A lent items es l.at).racked n (subst (λ r. 0 < times n (racked r)) l.at.rack some)
+
+  pub stands_sweep : (new : Core D) (left : List (List ℕ × Posted)) (n : ℕ) → Some n ≡ option_map (λ e. e.1.number) (slice_get items 0) → left ≡ drop 1 items → Moved disk A es (entry.Sweep (Some n)) lent new → Did disk S new (entry.Abort n)
+      → StandsAt disk A first new left (es ++ entry.Sweep (Some n) ∷ [])
+  stands_sweep new left n is rest moved did =
+      let h = did.1 in
+      stands_next disk A lent new items left es (entry.Sweep (Some n)) holds l.at l.out (tt, tt) moved
+      (is ∙ sym (postings_first items) ∙ ap (λ r. option_map (λ e. e.1.number) (slice_get r 0)) l.at.rack)
+      (record { world = h.world; counts = h.counts; told = h.told })
+      (ap postings rest ∙ postings_rest items ∙ ap (drop 1) l.at.rack)
+      (subst (AllByRecursion (λ i. IsOn A.world.geometry i.1.work)) (sym rest) (all_rest (λ i. IsOn A.world.geometry i.1.work) items l.at.works))
+
+  pub stands_unswept : (left : List (List ℕ × Posted)) → None ≡ option_map (λ e. e.1) (slice_get items 0) → left ≡ drop 1 items → StandsAt disk A first lent left (es ++ entry.Sweep None ∷ [])
+  stands_unswept left is rest =
+      let none : items ≡ [] = none_first items is in
+      let r : left ≡ items = rest ∙ ap (drop 1) none ∙ sym none in
+      stands_kept left (entry.Sweep None) (tt, tt)
+      (ap (λ k. option_map (λ e. e.1.number) (slice_get (postings k) 0)) (sym none) ∙ ap (λ k. option_map (λ e. e.1.number) (slice_get k 0)) l.at.rack) l.at.core (ap postings r ∙ l.at.rack)
+      (subst (AllByRecursion (λ i. IsOn A.world.geometry i.1.work)) (sym r) l.at.works)
+    where
+      none_first : (items : List (List ℕ × Posted)) → None ≡ option_map (λ e. e.1) (slice_get items 0) → items ≡ []
+      none_first [] is = refl
+      none_first (i ∷ items) is = absurd (cc is)
+
+  pub stands_post : (left : List (List ℕ × Posted)) (label : List ℕ) (p : Posted) → 0 < times p.number holds → IsOwn S p.number p.work → lookup (bytes_eq label) items ≡ None → left ≡ items ++ (label, p) ∷ []
+      → StandsAt disk A first lent left (es ++ post_entry label p (Ok tt) ∷ [])
+  stands_post left label p held own free put =
+      let test = bytes_eq label in
+      let live = live_lent l p.number held in
+      let posting : posting_in p ≡ posting_of S.world p.number p.work.accesses = λ i. record { number = p.number; begin = sym (own.begin live) i; mode = sym (own.mode live) i; accesses = p.work.accesses } in
+      let g = follows_all (opened A) es in
+      let h = l.at.core in
+      stands_kept left (entry.Post p.number label p.work.accesses) (tt, (held, tt))
+      (sym (ap (lookup test) l.at.rack) ∙ lookup-map_values posting_in test items ∙ ap (option_map posting_in) free)
+      (record { world = h.world; counts = h.counts; told = h.told })
+      (ap postings put ∙ map-append (λ (e : List ℕ × Posted). (e.0, posting_in e.1)) items ((label, p) ∷ []) ∙ ap (λ r. r ++ (label, posting_in p) ∷ []) l.at.rack ∙ ap (λ v. S.rack ++ (label, v) ∷ []) posting)
+      (subst (AllByRecursion (λ i. IsOn A.world.geometry i.1.work)) (sym put)
+      (all_snoc (λ i. IsOn A.world.geometry i.1.work) items (label, p) l.at.works (record { size = own.on.size ∙ g.block; blocks = own.on.blocks ∙ g.blocks })))
+
+  pub stands_unposted : (left : List (List ℕ × Posted)) (label : List ℕ) (p : Posted) (e : PostError) → 0 < times p.number holds → left ≡ items
+      → (e ≡ post.LabelTaken → is_some (lookup (bytes_eq label) items) ≡ true) → (e ≡ post.Memory → lookup (bytes_eq label) items ≡ None)
+      → StandsAt disk A first lent left (es ++ post_entry label p (Err e) ∷ [])
+  stands_unposted left label p e held same taken free =
+      let test = bytes_eq label in
+      let looked : lookup test S.rack ≡ option_map posting_in (lookup test items) = sym (ap (lookup test) l.at.rack) ∙ lookup-map_values posting_in test items in
+      let r = post_refused disk S lent label p e l.at.core (λ is. ap (λ o. is_some o) looked ∙ still (lookup test items) (taken is)) (λ is. looked ∙ ap (option_map posting_in) (free is)) in
+      stands_kept left (post_entry label p (Err e)) (post_may label p e holds held) r.0 r.1 (ap postings same ∙ l.at.rack ∙ sym r.2) (subst (AllByRecursion (λ i. IsOn A.world.geometry i.1.work)) (sym same) l.at.works)
+    where
+      still : (o : Option Posted) → is_some o ≡ true → is_some (option_map posting_in o) ≡ true
+      still None is = is
+      still (Some p) is = refl
+
+pub post_holds : (label : List ℕ) (p : Posted) (e : PostError) (holds : List ℕ) → held_after handed returned (post_entry label p (Err e)) holds ≡ holds
+post_holds label p post.LabelTaken holds = refl
+post_holds label p post.Memory holds = refl
+
+-- a label is held exactly where the rack says so
+pub none_by : {X : Type 0} → (o : Option X) → (is_some o ≡ true → ⊥) → o ≡ None
+none_by None never = refl
+none_by (Some x) never = absurd (never refl)
+
+pub taken_by : {X : Type 0} → (o : Option X) (e : PostError) → (o ≡ None → e ≡ post.Memory) → e ≡ post.LabelTaken → is_some o ≡ true
+taken_by None e wanted is = absurd (cc (wanted refl, is))
+taken_by (Some x) e wanted is = refl
+
+pub free_by : {X : Type 0} → (o : Option X) (e : PostError) → (is_some o ≡ true → e ≡ post.LabelTaken) → e ≡ post.Memory → o ≡ None
+free_by None e held is = refl
+free_by (Some x) e held is = absurd (cc (held refl, is))

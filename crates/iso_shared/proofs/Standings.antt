@@ -24,42 +24,22 @@ free_by A es none legal (Some n) not = (out_is A es n none legal ∙ not, tt)
 
 -- a fault ends no transaction twice
 ended_distinct : (W : World) (c : Call) → IsCall W c → AreDistinct (ended c)
-ended_distinct W (call.Begin named) is = tt
-ended_distinct W (call.Fetch n block) is = tt
 ended_distinct W (call.End n accesses) is = (refl, tt)
 ended_distinct W (call.EndGroup members) is = is.distinct
-ended_distinct W call.Trim is = tt
-ended_distinct W call.Compact is = tt
-ended_distinct W call.Upgrade is = tt
-ended_distinct W (call.Post n label accesses) is = tt
-ended_distinct W (call.Recent n) is = tt
+ended_distinct W c is = tt
 
 refused_distinct : (W : World) (c : Call) (why : Cause) → IsCall W c → AreDistinct (ended_by c why)
 refused_distinct W c (cause.Disk before now) is = ended_distinct W c is
-refused_distinct W c cause.Down is = tt
-refused_distinct W c cause.TooManyTx is = tt
-refused_distinct W c (cause.LogFull need free) is = tt
-refused_distinct W c cause.Memory is = tt
-refused_distinct W c cause.Worn is = tt
-refused_distinct W c cause.ModeFixed is = tt
-refused_distinct W c cause.LabelTaken is = tt
+refused_distinct W c why is = tt
 
 -- nor does an entry that is legal take one back twice
 returned_distinct : (S : State) (e : Entry) → Answers S e → AreDistinct (returned e)
-returned_distinct S (entry.Begin n at mode) a = tt
-returned_distinct S (entry.Fetch n block bytes) a = tt
 returned_distinct S (entry.End n accesses r) a = (refl, tt)
 returned_distinct S (entry.EndGroup ends) a = a.1.distinct
 returned_distinct S (entry.Abort n) a = (refl, tt)
-returned_distinct S (entry.Trim n) a = tt
-returned_distinct S (entry.Compact n) a = tt
-returned_distinct S (entry.Upgrade n) a = tt
-returned_distinct S (entry.Stat numbers) a = tt
 returned_distinct S (entry.Post n label accesses) a = (refl, tt)
-returned_distinct S (entry.Look label found) a = tt
-returned_distinct S (entry.Sweep found) a = tt
-returned_distinct S (entry.Recent n upto) a = tt
 returned_distinct S (entry.Refused c why) a = refused_distinct S.world c why a.0
+returned_distinct S e a = tt
 
 some_entry : (es : List Entry) (e : Entry) → es ++ e ∷ [] ≡ [] → ⊥
 some_entry [] e is = cc is

@@ -1,10 +1,86 @@
--- The state along a list, and which numbers are out in it.
-use Rattle.iso_shared.proofs.Words.{◌≡◌, ℕ, zero, suc, ◌+◌, ◌<◌, ◌≤◌, ◌==◌, Bool, true, false, ◌&&◌, ◌||◌, cond, List, [], ◌∷◌, ◌++◌, Option, Some, None, refl, sym, ap, ◌∙◌, subst, arith, bytes_eq, drop, option_map, option_to_list, slice_get, lookup, remove_entry, nat_tests, hit, times, is_among, out_next, out_from, is_out, hit_same, Live, without, Access, EndReply, Committed, ReadOnly, Conflict, AllByRecursion, World, after_leaving, ahead, leave_all, Call, Cause, Entry, Member, Posting, Start, State, opened, is_live, is_loose, racked, after, after_all, after_fault, after_group, after_refusal, after_sweep, lost_commits, member_numbers, members_of, state_at, tx_of, txs_of, with_world, AreLoose, Answers, Fits, LegalFrom, IsLegal, handed, returned, ended_by}
+-- What a legal list leads to: live transactions and labelled ones, as entries change them, are sound at each place.
+use Rattle.iso_shared.proofs.Words.{◌≡◌, ℕ, ◌+◌, ◌==◌, Bool, true, false, not, cond, List, [], ◌∷◌, ◌++◌, Option, Some, None, refl, ap, ◌∙◌, arith, drop, option_map, slice_get, lookup, remove_entry, nat_tests, Live, without, hit, times, Posting, is_live, live_of, racked, zero, suc, ◌<◌, ◌≤◌, ◌&&◌, ◌||◌, sym, subst, bytes_eq, option_to_list, is_among, out_next, out_from, is_out, hit_same, Access, EndReply, Committed, ReadOnly, Conflict, AllByRecursion, World, after_leaving, ahead, leave_all, Call, Cause, Entry, Member, Start, State, opened, is_loose, after, after_all, after_fault, after_group, after_refusal, after_sweep, lost_commits, member_numbers, members_of, state_at, tx_of, txs_of, with_world, AreLoose, Answers, Fits, LegalFrom, IsLegal, handed, returned, ended_by}
 use Rattle.iso_shared.specs.declared.entry.Call.TheVariants as call
 use Rattle.iso_shared.specs.declared.entry.Cause.TheVariants as cause
 use Rattle.iso_shared.specs.declared.entry.Entry.TheVariants as entry
 use Rattle.iso_shared.proofs.Grouped.{after_is}
-use Rattle.iso_shared.proofs.Lives.{live_snoc, live_without, racked_snoc, label_parts, first_parts, hits}
+
+first_or : (a b : Bool) (l x : Bool) → x ≡ cond b true l → cond a true x ≡ cond b true (cond a true l)
+first_or true true l x e = refl
+first_or true false l x e = refl
+first_or false true l x e = e
+first_or false false l x e = e
+
+pub live_snoc : (n : ℕ) (live : List Live) (t : Live) → is_live n (live ++ t ∷ []) ≡ cond (t.number == n) true (is_live n live)
+live_snoc n [] t = refl
+live_snoc n (u ∷ live) t = first_or (u.number == n) (t.number == n) (is_live n live) (is_live n (live ++ t ∷ [])) (live_snoc n live t)
+
+drop_by : (t : Live) (k n : ℕ) (rest : List Live) (l a b c : Bool) → (t.number == k) ≡ a → (t.number == n) ≡ b → (k == n) ≡ c → is_live n rest ≡ cond c false l
+    → is_live n (cond (not a) (t ∷ rest) rest) ≡ cond c false (cond b true l)
+drop_by t k n rest l true b true x y z e = e
+drop_by t k n rest l true true false x y z e = absurd (grind (arith, nat_tests))
+drop_by t k n rest l true false false x y z e = e
+drop_by t k n rest l false true true x y z e = absurd (grind (arith, nat_tests))
+drop_by t k n rest l false true false x y z e = ap (λ v. cond v true (is_live n rest)) y
+drop_by t k n rest l false false c x y z e = ap (λ v. cond v true (is_live n rest)) y ∙ e
+
+neither : (c : Bool) → false ≡ cond c false false
+neither true = refl
+neither false = refl
+
+pub live_without : (k n : ℕ) (live : List Live) → is_live n (without k live) ≡ cond (k == n) false (is_live n live)
+live_without k n [] = neither (k == n)
+live_without k n (t ∷ live) = drop_by t k n (without k live) (is_live n live) (t.number == k) (t.number == n) (k == n) refl refl refl (live_without k n live)
+
+-- the live transaction of a number stays where another one is added or leaves
+of_snoc_by : (n : ℕ) (u t : Live) (live : List Live) (b : Bool) → cond b true (is_live n live) ≡ true → (is_live n live ≡ true → live_of n (live ++ t ∷ []) ≡ live_of n live)
+    → cond b u (live_of n (live ++ t ∷ [])) ≡ cond b u (live_of n live)
+of_snoc_by n u t live true is ih = refl
+of_snoc_by n u t live false is ih = ih is
+
+pub of_snoc : (n : ℕ) (live : List Live) (t : Live) → is_live n live ≡ true → live_of n (live ++ t ∷ []) ≡ live_of n live
+of_snoc n [] t is = absurd (cc is)
+of_snoc n (u ∷ live) t is = of_snoc_by n u t live (u.number == n) is (of_snoc n live t)
+
+of_drop_by : (t : Live) (k n : ℕ) (rest : List Live) (l : Live) (a b : Bool) → (t.number == k) ≡ a → (t.number == n) ≡ b → (k == n) ≡ false → live_of n rest ≡ l
+    → live_of n (cond (not a) (t ∷ rest) rest) ≡ cond b t l
+of_drop_by t k n rest l true true x y z e = absurd (grind (arith, nat_tests))
+of_drop_by t k n rest l true false x y z e = e
+of_drop_by t k n rest l false true x y z e = ap (λ v. cond v t (live_of n rest)) y
+of_drop_by t k n rest l false false x y z e = ap (λ v. cond v t (live_of n rest)) y ∙ e
+
+pub of_without : (k n : ℕ) (live : List Live) → (k == n) ≡ false → live_of n (without k live) ≡ live_of n live
+of_without k n [] other = refl
+of_without k n (t ∷ live) other = of_drop_by t k n (without k live) (live_of n live) (t.number == k) (t.number == n) refl refl other (of_without k n live other)
+
+pub racked_snoc : (n : ℕ) (rack : List (List ℕ × Posting)) (e : List ℕ × Posting) → times n (racked (rack ++ e ∷ [])) ≡ times n (racked rack) + hit e.1.number n
+racked_snoc n [] e = omega arith
+racked_snoc n (f ∷ rack) e = let ih = racked_snoc n rack e in omega arith
+
+-- 1 where the posting is there and has the number n
+abbrev pub hits : ℕ → Option Posting → ℕ
+hits n None = 0
+hits n (Some p) = hit p.number n
+
+parts_by : (n : ℕ) (test : List ℕ → Bool) (e : List ℕ × Posting) (rack : List (List ℕ × Posting)) (b : Bool)
+    → times n (racked rack) ≡ hits n (lookup test rack) + times n (racked (remove_entry test rack))
+    → hit e.1.number n + times n (racked rack) ≡ hits n (cond b (Some e.1) (lookup test rack)) + times n (racked (cond b rack (e ∷ remove_entry test rack)))
+parts_by n test e rack true is = refl
+parts_by n test e rack false is =
+    let h : ℕ = hits n (lookup test rack) in
+    let g : times n (racked rack) ≡ h + times n (racked (remove_entry test rack)) = is in
+    let r : hit e.1.number n + times n (racked rack) ≡ h + (hit e.1.number n + times n (racked (remove_entry test rack))) = omega arith in r
+
+-- what is taken out from under a label, and the rest
+pub label_parts : (n : ℕ) (test : List ℕ → Bool) (rack : List (List ℕ × Posting)) → times n (racked rack) ≡ hits n (lookup test rack) + times n (racked (remove_entry test rack))
+label_parts n test [] = refl
+label_parts n test (e ∷ rack) = parts_by n test e rack (test e.0) (label_parts n test rack)
+
+pub first_parts : (n : ℕ) (rack : List (List ℕ × Posting)) → times n (racked rack) ≡ hits n (option_map (λ e. e.1) (slice_get rack 0)) + times n (racked (drop 1 rack))
+first_parts n [] = refl
+first_parts n (e ∷ rack) = refl
+
+-- ---- the state along a list, and which numbers are out in it
 
 -- the state after one entry more
 pub after_snoc : (S : State) (es : List Entry) (e : Entry) → after_all S (es ++ e ∷ []) ≡ after (after_all S es) e
@@ -132,8 +208,7 @@ sound_left S k s loose =
 
 end_left : (S : State) (k : ℕ) (accesses : List Access) (r : EndReply) → IsSound S → is_loose k S ≡ true → IsSound (after S (entry.End k accesses r))
 end_left S k accesses (Committed c) s loose = sound_left S k s loose
-end_left S k accesses ReadOnly s loose = sound_left S k s loose
-end_left S k accesses (Conflict c) s loose = sound_left S k s loose
+end_left S k accesses x s loose = sound_left S k s loose
 
 -- several leave that are not labelled
 all_left : (T : State) (txs : List Live) → IsSound T → AllByRecursion (λ t. times t.number (racked T.rack) ≡ 0) txs → IsSound (with_world T (leave_all txs T.world))
@@ -154,25 +229,13 @@ group_left S members s loose =
     (all_left (with_world S V) (txs_of S.world members) s (unlabelled S S.world members loose))
 
 fault_left : (S : State) (c : Call) (before now : ℕ) → IsSound S → AreLoose (ended_by c (cause.Disk before now)) S → IsSound (after_fault S c now)
-fault_left S (call.Begin named) before now s loose = s
-fault_left S (call.Fetch n b) before now s loose = s
 fault_left S (call.End n accesses) before now s loose = sound_left S n s loose.0
 fault_left S (call.EndGroup members) before now s loose = all_left S (txs_of S.world members) s (unlabelled S S.world members loose)
-fault_left S call.Trim before now s loose = s
-fault_left S call.Compact before now s loose = s
-fault_left S call.Upgrade before now s loose = s
-fault_left S (call.Post n l accesses) before now s loose = s
-fault_left S (call.Recent n) before now s loose = s
+fault_left S c before now s loose = s
 
 refusal_left : (S : State) (c : Call) (why : Cause) → IsSound S → AreLoose (ended_by c why) S → IsSound (after_refusal S c why)
 refusal_left S c (cause.Disk before now) s loose = fault_left S c before now s loose
-refusal_left S c cause.LabelTaken s loose = s
-refusal_left S c cause.Memory s loose = s
-refusal_left S c cause.Down s loose = s
-refusal_left S c cause.TooManyTx s loose = s
-refusal_left S c cause.Worn s loose = s
-refusal_left S c cause.ModeFixed s loose = s
-refusal_left S c (cause.LogFull need free) s loose = s
+refusal_left S c why s loose = s
 
 pub hits_are : (n : ℕ) (o : Option (List ℕ × Posting)) (k : ℕ) → Some k ≡ option_map (λ e. e.1.number) o → hits n (option_map (λ e. e.1) o) ≡ hit k n
 hits_are n None k is = absurd (cc is)
@@ -191,21 +254,16 @@ sweep_left S (Some k) s is =
 -- an entry that is legal at its place keeps the state sound
 pub sound_next : (S : State) (e : Entry) → IsSound S → Fits S e → IsSound (after S e)
 sound_next S (entry.Begin k at mode) s fits = sound_begin (λ n. is_live n S.world.live) (λ n. is_live n (after S (entry.Begin k at mode)).world.live) (λ n. times n (racked S.rack)) (λ n. times n (racked S.rack)) S.world.next s (λ n. live_snoc n S.world.live _)
-sound_next S (entry.Fetch k block bytes) s fits = s
 sound_next S (entry.End k accesses r) s fits = end_left S k accesses r s fits.takes.0
 sound_next S (entry.EndGroup ends) s fits = group_left S (members_of ends) s fits.takes
 sound_next S (entry.Abort k) s fits = sound_left S k s fits.takes.0
-sound_next S (entry.Trim k) s fits = s
-sound_next S (entry.Compact k) s fits = s
-sound_next S (entry.Upgrade k) s fits = s
-sound_next S (entry.Stat k) s fits = s
 sound_next S (entry.Post k l accesses) s fits =
     let loose = loose_is k S fits.takes.0 in
     sound_post (λ n. is_live n S.world.live) (λ n. is_live n S.world.live) (λ n. times n (racked S.rack)) (λ n. times n (racked (after S (entry.Post k l accesses)).rack)) S.world.next s k loose.0 loose.1 (λ n. racked_snoc n S.rack _)
 sound_next S (entry.Look l found) s fits = sound_less (λ n. is_live n S.world.live) (λ n. is_live n S.world.live) (λ n. times n (racked S.rack)) (λ n. times n (racked (remove_entry (bytes_eq l) S.rack))) S.world.next s (λ n. look_less (bytes_eq l) n S.rack)
 sound_next S (entry.Sweep found) s fits = sweep_left S found s fits.answers
-sound_next S (entry.Recent k upto) s fits = s
 sound_next S (entry.Refused c why) s fits = refusal_left S c why s fits.takes
+sound_next S e s fits = s
 
 one_among : (n k : ℕ) → is_among n (k ∷ []) ≡ (k == n)
 one_among n k = or_false (k == n)
@@ -294,48 +352,30 @@ group_loose S n members =
     all_loose n S.world (with_world S V) members ∙ ap (λ (W : World). is_loose n (with_world S W)) (sym (after_is S.world members))
 
 fault_loose : (S : State) (n : ℕ) (c : Call) (before now : ℕ) → cond (is_among n (ended_by c (cause.Disk before now))) false (is_loose n S) ≡ is_loose n (after_fault S c now)
-fault_loose S n (call.Begin named) before now = refl
-fault_loose S n (call.Fetch k b) before now = refl
 fault_loose S n (call.End k accesses) before now = left_loose n k S
 fault_loose S n (call.EndGroup members) before now = all_loose n S.world S members
-fault_loose S n call.Trim before now = refl
-fault_loose S n call.Compact before now = refl
-fault_loose S n call.Upgrade before now = refl
-fault_loose S n (call.Post k l accesses) before now = refl
-fault_loose S n (call.Recent k) before now = refl
+fault_loose S n c before now = refl
 
 refusal_loose : (S : State) (n : ℕ) (c : Call) (why : Cause) → cond (is_among n (ended_by c why)) false (is_loose n S) ≡ is_loose n (after_refusal S c why)
 refusal_loose S n c (cause.Disk before now) = fault_loose S n c before now
-refusal_loose S n c cause.LabelTaken = refl
-refusal_loose S n c cause.Memory = refl
-refusal_loose S n c cause.Down = refl
-refusal_loose S n c cause.TooManyTx = refl
-refusal_loose S n c cause.Worn = refl
-refusal_loose S n c cause.ModeFixed = refl
-refusal_loose S n c (cause.LogFull need free) = refl
+refusal_loose S n c why = refl
 
 end_loose : (S : State) (n k : ℕ) (accesses : List Access) (r : EndReply) → cond (is_among n (k ∷ [])) false (is_loose n S) ≡ is_loose n (after S (entry.End k accesses r))
 end_loose S n k accesses (Committed c) = left_loose n k S
-end_loose S n k accesses ReadOnly = left_loose n k S
-end_loose S n k accesses (Conflict c) = left_loose n k S
+end_loose S n k accesses x = left_loose n k S
 
 -- out after the entry is what is live and under no label after it
 loose_next : (S : State) (e : Entry) (n : ℕ) → IsSound S → Fits S e → out_next handed returned n (is_loose n S) e ≡ is_loose n (after S e)
 loose_next S (entry.Begin k at mode) n s fits = begin_loose S n k _ s fits.answers.1 refl
-loose_next S (entry.Fetch k block bytes) n s fits = refl
 loose_next S (entry.End k accesses r) n s fits = end_loose S n k accesses r
 loose_next S (entry.EndGroup ends) n s fits = group_loose S n (members_of ends)
 loose_next S (entry.Abort k) n s fits = left_loose n k S
-loose_next S (entry.Trim k) n s fits = refl
-loose_next S (entry.Compact k) n s fits = refl
-loose_next S (entry.Upgrade k) n s fits = refl
-loose_next S (entry.Stat k) n s fits = refl
 loose_next S (entry.Post k l accesses) n s fits =
     takes_one n k (is_loose n S) ∙ post_loose_by (k == n) (is_live n S.world.live) (times n (racked S.rack)) (times n (racked (after S (entry.Post k l accesses)).rack)) (racked_snoc n S.rack _)
 loose_next S (entry.Look l found) n s fits = look_loose S n (bytes_eq l) found s fits.answers
 loose_next S (entry.Sweep found) n s fits = sweep_loose S n found fits.answers
-loose_next S (entry.Recent k upto) n s fits = refl
 loose_next S (entry.Refused c why) n s fits = refusal_loose S n c why
+loose_next S e n s fits = refl
 
 -- the numbers that are out are those of transactions which are live and under no label
 pub out_from_is : (S : State) (es : List Entry) (n : ℕ) → IsSound S → LegalFrom S es → out_from handed returned n (is_loose n S) es ≡ is_loose n (after_all S es)
@@ -381,16 +421,5 @@ look_not S test (Some p) is =
 
 pub not_loose : (S : State) (e : Entry) → IsSound S → Answers S e → NotLoose (handed e) S
 not_loose S (entry.Begin k at mode) s a = unless (is_live k S.world.live) (times k (racked S.rack) == 0) (λ live. let b = s.below k live in let e : k ≡ S.world.next = a.1 in absurd (omega arith))
-not_loose S (entry.Fetch k block bytes) s a = tt
-not_loose S (entry.End k accesses r) s a = tt
-not_loose S (entry.EndGroup ends) s a = tt
-not_loose S (entry.Abort k) s a = tt
-not_loose S (entry.Trim k) s a = tt
-not_loose S (entry.Compact k) s a = tt
-not_loose S (entry.Upgrade k) s a = tt
-not_loose S (entry.Stat k) s a = tt
-not_loose S (entry.Post k l accesses) s a = tt
 not_loose S (entry.Look l found) s a = look_not S (bytes_eq l) found a
-not_loose S (entry.Sweep found) s a = tt
-not_loose S (entry.Recent k upto) s a = tt
-not_loose S (entry.Refused c why) s a = tt
+not_loose S e s a = tt

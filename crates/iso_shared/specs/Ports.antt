@@ -14,13 +14,14 @@ use Rattle.turn_lock.specs.declared.lock.TurnLock.{TurnLock}
 use Rattle.turn_lock.specs.declared.view.View.{View}
 use Rattle.turn_lock.specs.Lists.{hit, times, total}
 use Rattle.turn_lock.specs.Lock.{lock_id}
+use Rattle.turn_lock.specs.Numbers.{held_after}
 use Rattle.turn_lock.specs.Pass.{PassOf, view, HasNoTurn}
 use Rattle.iso_shared.specs.declared.entry.Entry.{Entry}
 use Rattle.iso_shared.specs.declared.guarded.Guarded.{Guarded}
 use Rattle.iso_shared.specs.declared.shared.Port.{Port}
 use Rattle.iso_shared.specs.declared.shared.Shared.{Shared}
 use Rattle.iso_shared.specs.declared.tx.Tx.{Tx}
-use Rattle.iso_shared.specs.Legal.{IsLegal}
+use Rattle.iso_shared.specs.Legal.{IsLegal, handed, returned}
 use Rattle.iso_shared.specs.Standing.{IsOn}
 use Rattle.iso_shared.specs.States.{Start, State, is_live, live_of, state_at}
 
@@ -107,6 +108,15 @@ module _ {D O : Type 0} where
     pub number : u.number ≡ t.number
     pub work : u.work ≡ record t.work { settled = u.work.settled }
     pub checked : u.checked ≡ t.checked
+
+  -- the turn was given back, with this entry
+  pub record IsGiven (A : Start) (s : Shared D O) (old new : PassOf (Guarded D O) Entry) (e : Entry) : Type 0 where
+    pub lock : (new.table_id ≡ lock_id s.lock) × HasNoTurn new
+    pub seen : (view new).seen ≡ (view old).seen ++ e ∷ []
+    pub mine : (view new).mine ≡ (view old).mine ++ length (view old).seen ∷ []
+    pub holds : (view new).holds ≡ held_after handed returned e (view old).holds
+    pub units : (view new).units ≡ (view old).units
+    pub legal : IsLegal A (view new).seen
 
 -- The pass of u, which was told what v had seen, made one entry, e, which is the last that w has seen. All of that is legal.
 pub record Made (A : Start) (v u : View Entry) (e : Entry) (w : View Entry) : Type 0 where

@@ -40,7 +40,7 @@ impl<D: Disk + Drop, O: Origin> Shared<D, O> {
         let guarded = turn.value();
         let before = Snapshot::of(&guarded.core);
         let result = guarded.core.recent(tx.number, tx.checked.upto);
-        self.give::<Brand>(&mut tx.pass, turn, before, Told::Recent(tx.number, &result));
+        self.give(&mut tx.pass, turn, before, Told::Recent(tx.number, &result));
         result
     }
 }

@@ -15,7 +15,6 @@ use crate::told::Told;
 use crate::tx::Tx;
 use iso_disk::Disk;
 use iso_model::{CoreError, EndReply};
-use std::marker::Brand;
 use std::snapshot::Snapshot;
 use std::sync::Wait;
 use step_count::{Ledger, Steps};
@@ -54,7 +53,7 @@ impl<D: Disk + Drop, O: Origin> Shared<D, O> {
         let result = guarded
             .core
             .end(tx.number, &mut tx.work, &tx.checked, steps);
-        self.give::<Brand>(
+        self.give(
             &mut tx.pass,
             turn,
             before,

@@ -8,13 +8,13 @@ ghost use Rattle.iso_model.specs.declared.core_error.CoreError.TheVariants.{Disk
 ghost use Rattle.iso_shared.specs.declared.entry.Call.TheVariants as TheCall;
 ghost use Rattle.iso_shared.specs.declared.entry.Entry.TheVariants.{EndGroup, Refused};
 ghost use Rattle.iso_shared.specs.Groups.{ArePaired, IsBack, IsEnd, IsJoined, IsNote, IsTaken, answered, end_of, numbers_handed, numbers_in, units_of};
-ghost use Rattle.iso_shared.specs.Ports.{IsPort, IsSameTx, IsTx, Made, MadeAll, port_view, tx_view};
+ghost use Rattle.iso_shared.specs.Ports.{IsGiven, IsPort, IsSameTx, IsTx, Made, MadeAll, port_view, tx_view};
 ghost use Rattle.iso_shared.specs.Told.{cause_of, group_entry, members_at, members_in, wanting_entry};
-ghost use Rattle.iso_shared.specs.Legal.{IsLegal, handed, needed, returned};
+ghost use Rattle.iso_shared.specs.Legal.{needed, returned};
 ghost use Rattle.iso_shared.specs.Standing.{StandsAt};
 ghost use Rattle.turn_lock.specs.Lists.{AreDistinct};
 ghost use Rattle.turn_lock.specs.Lock.{lock_id, turn_value};
-ghost use Rattle.turn_lock.specs.Numbers.{AreHeld, held_after};
+ghost use Rattle.turn_lock.specs.Numbers.{AreHeld};
 ghost use Rattle.turn_lock.specs.Pass.{view, HasNoTurn, HasTurn};
 
 use crate::entry::Entry;
@@ -84,7 +84,7 @@ impl<D: Disk + Drop, O: Origin> Shared<D, O> {
         let guarded = turn.value();
         let before = Snapshot::of(&guarded.core);
         let result = guarded.core.end_group(ends);
-        self.give::<Brand>(&mut port.pass, turn, before, Told::EndGroup(ends, result));
+        self.give(&mut port.pass, turn, before, Told::EndGroup(ends, result));
         result
     }
 
@@ -100,12 +100,7 @@ impl<D: Disk + Drop, O: Origin> Shared<D, O> {
         requires lock { (pass.old.table_id ≡ lock_id self.now.lock) × HasTurn pass.old turn }
         requires value { StandsAt D.state O.start O.disk (turn_value turn).core (turn_value turn).rack ((view pass.old).seen ++ N.entry ∷ []) }
         requires held { AreHeld (needed N.entry) (view pass.old).holds × AreHeld (returned N.entry) (view pass.old).holds }
-        ensures lock { (pass.new.table_id ≡ lock_id self.now.lock) × HasNoTurn pass.new }
-        ensures seen { (view pass.new).seen ≡ (view pass.old).seen ++ N.entry ∷ [] }
-        ensures mine { (view pass.new).mine ≡ (view pass.old).mine ++ length (view pass.old).seen ∷ [] }
-        ensures holds { (view pass.new).holds ≡ held_after handed returned N.entry (view pass.old).holds }
-        ensures units { (view pass.new).units ≡ (view pass.old).units }
-        ensures legal { IsLegal O.start (view pass.new).seen }
+        ensures { IsGiven O.start self.now pass.old pass.new N.entry }
     {
         let _ = group;
         let _ = error;

@@ -14,7 +14,6 @@ use crate::tx::Tx;
 use conflict_rule::Checked;
 use iso_disk::Disk;
 use iso_model::{LAST, Label};
-use std::marker::Brand;
 use std::snapshot::Snapshot;
 use std::sync::Wait;
 use tx_table::PostError;
@@ -52,12 +51,12 @@ impl<D: Disk + Drop, O: Origin> Shared<D, O> {
         let item = Snapshot::of(&posted);
         match guarded.rack.post(label, posted) {
             Ok(()) => {
-                self.give::<Brand>(&mut pass, turn, before, Told::Post(name, item, Ok(())));
+                self.give(&mut pass, turn, before, Told::Post(name, item, Ok(())));
                 self.take_back(port, pass);
                 Ok(())
             }
             Err((error, Posted { number, work })) => {
-                self.give::<Brand>(&mut pass, turn, before, Told::Post(name, item, Err(error)));
+                self.give(&mut pass, turn, before, Told::Post(name, item, Err(error)));
                 Err((
                     error,
                     Tx {
@@ -86,7 +85,7 @@ impl<D: Disk + Drop, O: Origin> Shared<D, O> {
         let guarded = turn.value();
         let before = Snapshot::of(&guarded.core);
         let found = guarded.rack.look(label);
-        self.give::<Brand>(&mut port.pass, turn, before, Told::Look(label, &found));
+        self.give(&mut port.pass, turn, before, Told::Look(label, &found));
         match found {
             Some(Posted { number, work }) => {
                 let pass = self.lock.split(&mut port.pass, Some(number), 1);
@@ -118,11 +117,11 @@ impl<D: Disk + Drop, O: Origin> Shared<D, O> {
             Some(item) => {
                 let number = item.number;
                 guarded.core.abort(number);
-                self.give::<Brand>(&mut port.pass, turn, before, Told::Sweep(Some(number)));
+                self.give(&mut port.pass, turn, before, Told::Sweep(Some(number)));
                 Some(number)
             }
             None => {
-                self.give::<Brand>(&mut port.pass, turn, before, Told::Sweep(None));
+                self.give(&mut port.pass, turn, before, Told::Sweep(None));
                 None
             }
         }

@@ -3,11 +3,11 @@ ghost use Rattle.std.specs.Prelude.{◌≡◌, ◌+◌, ◌<◌, ℕ, [], ◌∷
 ghost use mathlib.Core.List.{IsPrefix};
 ghost use Rattle.turn_lock.specs.Lists.{longer, places, times};
 ghost use Rattle.turn_lock.specs.Lock.{lock_id, turn_number, turn_value};
-ghost use Rattle.turn_lock.specs.Numbers.{AreHeld, held_after};
+ghost use Rattle.turn_lock.specs.Numbers.{AreHeld};
 ghost use Rattle.turn_lock.specs.Pass.{view, HasNoTurn, HasTurn, IsAlike, IsSamePass};
 ghost use Rattle.turn_lock.specs.Views.{fresh, given_part, kept_part};
 ghost use Rattle.iso_core.specs.Core.{disk_of};
-ghost use Rattle.iso_shared.specs.Legal.{IsLegal, handed, needed, returned};
+ghost use Rattle.iso_shared.specs.Legal.{IsLegal, needed, returned};
 ghost use Rattle.iso_shared.specs.Standing.{Came, Holds, StandsAt, faults_of};
 ghost use Rattle.iso_shared.specs.States.{opened, state_at};
 ghost use Rattle.iso_shared.specs.Told.{told_entry};
@@ -20,7 +20,7 @@ use iso_core::Core;
 use iso_disk::Disk;
 use iso_model::{Geometry, LAST, Memory};
 use std::alloc::Global;
-use std::marker::PhantomData;
+use std::marker::{Brand, PhantomData};
 use std::snapshot::Snapshot;
 use turn_lock::{Names, Pass, Turn, TurnLock};
 use tx_table::Rack;
@@ -40,7 +40,7 @@ pub struct Port<D: Disk + Drop, O: Origin> {
 }
 
 impl<D: Disk + Drop, O: Origin> Shared<D, O> {
-    ghost use Rattle.iso_shared.specs.Ports.{IsIsolatedAt, IsOf, IsPort, IsSameTx, IsTx, IsTxOf, doing_of, first_geometry, port_view, tx_view};
+    ghost use Rattle.iso_shared.specs.Ports.{IsGiven, IsIsolatedAt, IsOf, IsPort, IsSameTx, IsTx, IsTxOf, doing_of, first_geometry, port_view, tx_view};
 
     /// A device over a core that is up and has no live transaction, and its first port, which has all units. It takes all
     /// memory of the lock.
@@ -86,8 +86,8 @@ impl<D: Disk + Drop, O: Origin> Shared<D, O> {
         self.geometry
     }
 
-    // Gives the turn back, with the entry of what the call did.
-    pub(crate) fn give<N: Names<Entry>>(
+    // Gives the turn back, with an entry that tells what the call did.
+    fn give_as<N: Names<Entry>>(
         &self,
         pass: &mut Pass<Guarded<D, O>>,
         turn: Turn<Guarded<D, O>>,
@@ -98,16 +98,29 @@ impl<D: Disk + Drop, O: Origin> Shared<D, O> {
         requires lock { (pass.old.table_id ≡ lock_id self.now.lock) × HasTurn pass.old turn }
         requires value { StandsAt D.state O.start O.disk (turn_value turn).core (turn_value turn).rack ((view pass.old).seen ++ N.entry ∷ []) }
         requires held { AreHeld (needed N.entry) (view pass.old).holds × AreHeld (returned N.entry) (view pass.old).holds }
-        ensures lock { (pass.new.table_id ≡ lock_id self.now.lock) × HasNoTurn pass.new }
-        ensures seen { (view pass.new).seen ≡ (view pass.old).seen ++ N.entry ∷ [] }
-        ensures mine { (view pass.new).mine ≡ (view pass.old).mine ++ length (view pass.old).seen ∷ [] }
-        ensures holds { (view pass.new).holds ≡ held_after handed returned N.entry (view pass.old).holds }
-        ensures units { (view pass.new).units ≡ (view pass.old).units }
-        ensures legal { IsLegal O.start (view pass.new).seen }
+        ensures { IsGiven O.start self.now pass.old pass.new N.entry }
     {
         let _ = before;
         let _ = told;
         self.lock.give::<N>(pass, turn);
+    }
+
+    // Gives the turn back, with the entry of what the call did.
+    pub(crate) fn give(
+        &self,
+        pass: &mut Pass<Guarded<D, O>>,
+        turn: Turn<Guarded<D, O>>,
+        before: Snapshot<Core<D>>,
+        told: Told,
+    )
+        requires lock { (pass.old.table_id ≡ lock_id self.now.lock) × HasTurn pass.old turn }
+        requires value { StandsAt D.state O.start O.disk (turn_value turn).core (turn_value turn).rack
+            ((view pass.old).seen ++ told_entry (faults_of D.state before.value) (faults_of D.state (turn_value turn).core) told ∷ []) }
+        requires held { AreHeld (needed (told_entry (faults_of D.state before.value) (faults_of D.state (turn_value turn).core) told)) (view pass.old).holds
+            × AreHeld (returned (told_entry (faults_of D.state before.value) (faults_of D.state (turn_value turn).core) told)) (view pass.old).holds }
+        ensures { IsGiven O.start self.now pass.old pass.new (told_entry (faults_of D.state before.value) (faults_of D.state (turn_value turn).core) told.entry) }
+    {
+        self.give_as::<Brand>(pass, turn, before, told);
     }
 
     // Tells one pass what another has seen, by a note without a unit.

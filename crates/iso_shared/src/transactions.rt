@@ -16,7 +16,6 @@ use crate::tx::Tx;
 use conflict_rule::Checked;
 use iso_disk::Disk;
 use iso_model::{CoreError, Geometry, Mode};
-use std::marker::Brand;
 use std::snapshot::Snapshot;
 use std::sync::Wait;
 use tx_table::Work;
@@ -43,7 +42,7 @@ impl<D: Disk + Drop, O: Origin> Shared<D, O> {
         let before = Snapshot::of(&guarded.core);
         let geometry = guarded.core.geometry();
         let result = guarded.core.begin(named);
-        self.give::<Brand>(&mut port.pass, turn, before, Told::Begin(named, result));
+        self.give(&mut port.pass, turn, before, Told::Begin(named, result));
         match result {
             Ok(begun) => {
                 let pass = self.lock.split(&mut port.pass, Some(begun.tx), 1);
@@ -84,7 +83,7 @@ impl<D: Disk + Drop, O: Origin> Shared<D, O> {
         let guarded = turn.value();
         let before = Snapshot::of(&guarded.core);
         let result = guarded.core.fetch(tx.number, block, into);
-        self.give::<Brand>(
+        self.give(
             &mut tx.pass,
             turn,
             before,
@@ -106,7 +105,7 @@ impl<D: Disk + Drop, O: Origin> Shared<D, O> {
         let guarded = turn.value();
         let before = Snapshot::of(&guarded.core);
         guarded.core.abort(tx.number);
-        self.give::<Brand>(&mut tx.pass, turn, before, Told::Abort(tx.number));
+        self.give(&mut tx.pass, turn, before, Told::Abort(tx.number));
         self.spend(port, tx);
     }
 }

@@ -11,7 +11,6 @@ use crate::told::Told;
 use iso_core::Stat;
 use iso_disk::Disk;
 use iso_model::CoreError;
-use std::marker::Brand;
 use std::snapshot::Snapshot;
 use std::sync::Wait;
 
@@ -27,7 +26,7 @@ impl<D: Disk + Drop, O: Origin> Shared<D, O> {
         let guarded = turn.value();
         let before = Snapshot::of(&guarded.core);
         let result = guarded.core.trim();
-        self.give::<Brand>(&mut port.pass, turn, before, Told::Trim(result));
+        self.give(&mut port.pass, turn, before, Told::Trim(result));
         result
     }
 
@@ -42,7 +41,7 @@ impl<D: Disk + Drop, O: Origin> Shared<D, O> {
         let guarded = turn.value();
         let before = Snapshot::of(&guarded.core);
         let result = guarded.core.compact();
-        self.give::<Brand>(&mut port.pass, turn, before, Told::Compact(result));
+        self.give(&mut port.pass, turn, before, Told::Compact(result));
         result
     }
 
@@ -57,7 +56,7 @@ impl<D: Disk + Drop, O: Origin> Shared<D, O> {
         let guarded = turn.value();
         let before = Snapshot::of(&guarded.core);
         let result = guarded.core.upgrade();
-        self.give::<Brand>(&mut port.pass, turn, before, Told::Upgrade(result));
+        self.give(&mut port.pass, turn, before, Told::Upgrade(result));
         result
     }
 
@@ -72,7 +71,7 @@ impl<D: Disk + Drop, O: Origin> Shared<D, O> {
         let guarded = turn.value();
         let before = Snapshot::of(&guarded.core);
         let stat = guarded.core.stat();
-        self.give::<Brand>(&mut port.pass, turn, before, Told::Stat(stat));
+        self.give(&mut port.pass, turn, before, Told::Stat(stat));
         stat
     }
 }

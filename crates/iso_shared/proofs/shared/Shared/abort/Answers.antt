@@ -1,36 +1,33 @@
-use Rattle.iso_shared.proofs.Words.{inl, [], ap, refl, ◌∙◌, prefix_trans, Abort, standing_of, state_at, tx_of}
+use Rattle.iso_shared.proofs.Words.{inl, [], refl, ◌∙◌, prefix_trans, Abort, standing_of, state_at, tx_of}
 use Rattle.iso_shared.proofs.Cores.{did_abort, is_tx}
-use Rattle.iso_shared.proofs.Giving.{core_at, stands_call, from_lent}
+use Rattle.iso_shared.proofs.Giving.{lends, live_lent, stands_call}
 use Rattle.iso_shared.proofs.Mades.{both_by, held_same}
-use Rattle.iso_shared.proofs.Standings.{held_live}
 use Rattle.iso_shared.proofs.shared.Shared.abort.Goals as goal
 
 pub abort-requires : goal.abort-requires
 abort-requires g c =
     let d = g.D.Disk.state in
     let A = g.O.Origin.start in
+    let l = lends d A _ c.value-guarded.result.now _ _ c.take-turn.ensures.value c.value-guarded.ensures.value c.take-turn.ensures.out in
     let n = c.args.tx.number in
     let held = held_same n _ _ (c.take-turn.ensures.same.1 ∙ c.tell.ensures.same.1) c.requires.tx.1.held in
     let S = state_at A c.take-turn.new.pass.me.0.seen in (
       S.world,
       standing_of S.lost,
       tx_of S.world n [],
-      (core_at d A _ _ _ _ c.take-turn.ensures.value (ap (λ v. v.core) c.value-guarded.ensures.value)).world,
-      is_tx S.world n [] (held_live d A _ _ _ _ c.take-turn.ensures.value c.take-turn.ensures.out n held),
+      l.at.core.world,
+      is_tx S.world n [] (live_lent l n held),
     )
 
 pub give-requires-clause-value : goal.give-requires-clause-value
 give-requires-clause-value g c =
     let d = g.D.Disk.state in
     let A = g.O.Origin.start in
+    let l = lends d A _ c.value-guarded.result.now _ _ c.take-turn.ensures.value c.value-guarded.ensures.value c.take-turn.ensures.out in
     let n = c.args.tx.number in
     let held = held_same n _ _ (c.take-turn.ensures.same.1 ∙ c.tell.ensures.same.1) c.requires.tx.1.held in
     let S = state_at A c.take-turn.new.pass.me.0.seen in
-    stands_call d A _ _ _ _ _ (Abort n) (Abort n) c.take-turn.new.pass.me.0.holds c.take-turn.ensures.value (ap (λ v. v.rack) c.value-guarded.ensures.value) c.take-turn.ensures.out
-    (tt, (held, tt)) refl (from_lent d A c.take-turn.new.pass.me.0.seen (Abort n) _ c.value-guarded.result.now.core c.abort.new.self (ap (λ v. v.core) c.value-guarded.ensures.value) (inl c.abort.ensures.disk))
-    (did_abort d S c.value-guarded.result.now.core c.abort.new.self n (core_at d A _ _ _ _ c.take-turn.ensures.value (ap (λ v. v.core) c.value-guarded.ensures.value))
-    (held_live d A _ _ _ _ c.take-turn.ensures.value c.take-turn.ensures.out n held) c.abort.ensures.left c.abort.ensures.disk)
-    (λ T. refl)
+    stands_call l c.abort.new.self (Abort n) (Abort n) (tt, (held, tt)) refl (inl c.abort.ensures.disk) (did_abort d S c.value-guarded.result.now.core c.abort.new.self n l.at.core (live_lent l n held) c.abort.ensures.left c.abort.ensures.disk) (λ T. refl)
 
 pub returns-clause-made : goal.returns-clause-made
 returns-clause-made g c =

@@ -4,7 +4,7 @@ use Rattle.iso_shared.specs.declared.entry.Entry.TheVariants as entry
 use Rattle.iso_shared.proofs.Begins.{began_ahead, began_own, begun_mode, block_size}
 use Rattle.iso_shared.proofs.Cores.{did_begin}
 use Rattle.iso_shared.proofs.Follows.{follows_all}
-use Rattle.iso_shared.proofs.Giving.{core_at, entry_keeps, entry_may, stands_call, from_lent}
+use Rattle.iso_shared.proofs.Giving.{entry_may, lends, stands_answer}
 use Rattle.iso_shared.proofs.Mades.{held_same}
 use Rattle.iso_shared.proofs.shared.Shared.begin.Goals as goal
 
@@ -13,18 +13,12 @@ give-requires-clause-value g c =
     let d = g.D.Disk.state in
     let A = g.O.Origin.start in
     let S = state_at A c.take-turn.new.pass.me.0.seen in
+    let l = lends d A _ c.value-guarded.result.now _ _ c.take-turn.ensures.value c.value-guarded.ensures.value c.take-turn.ensures.out in
     let lent = c.value-guarded.result.now.core in
-    let shot = faults_of d c.of-before.result.value in
     let new = c.begin-result.new.self in
     let r = c.begin-result.result in
-    stands_call d A _ _ _ _ _ (begin_entry shot (faults_of d new) c.args.named r) (begin_entry shot (faults_of d new) c.args.named r)
-    c.take-turn.new.pass.me.0.holds c.take-turn.ensures.value (ap (λ v. v.rack) c.value-guarded.ensures.value) c.take-turn.ensures.out
-    (entry_may shot (faults_of d new) (call.Begin c.args.named) (λ t. entry.Begin t.tx t.at t.mode) _ (λ x. (tt, tt)) tt r)
-    refl
-    (from_lent d A c.take-turn.new.pass.me.0.seen (begin_entry shot (faults_of d new) c.args.named r) _ lent new (ap (λ v. v.core) c.value-guarded.ensures.value) (inl c.begin-result.ensures.disk))
-    (did_begin d S lent new shot (faults_of d new) c.args.named r (core_at d A _ _ _ _ c.take-turn.ensures.value (ap (λ v. v.core) c.value-guarded.ensures.value))
-    c.begin-result.ensures.begun c.begin-result.ensures.refused c.begin-result.ensures.down c.begin-result.ensures.kept c.begin-result.ensures.disk)
-    (entry_keeps shot (faults_of d new) (call.Begin c.args.named) (λ t. entry.Begin t.tx t.at t.mode) (λ x T. refl) r)
+    stands_answer l c.of-before.result.value new (call.Begin c.args.named) (λ t. entry.Begin t.tx t.at t.mode) r c.of-before.ensures (λ x. (tt, tt)) tt (λ x T. refl) (inl c.begin-result.ensures.disk)
+    (did_begin d S lent new (faults_of d lent) (faults_of d new) c.args.named r l.at.core c.begin-result.ensures.begun c.begin-result.ensures.refused c.begin-result.ensures.down c.begin-result.ensures.kept c.begin-result.ensures.disk)
 
 pub give-requires-clause-held : goal.give-requires-clause-held
 give-requires-clause-held g c = entry_may _ _ (call.Begin c.args.named) (λ t. entry.Begin t.tx t.at t.mode) _ (λ x. (tt, tt)) tt c.begin-result.result
@@ -40,7 +34,7 @@ begin-requires g c =
     let d = g.D.Disk.state in
     let A = g.O.Origin.start in
     let S = state_at A c.take-turn.new.pass.me.0.seen in
-    let h = core_at d A _ _ _ _ c.take-turn.ensures.value (ap (λ v. v.core) c.value-guarded.ensures.value) in
+    let h = (lends d A _ c.value-guarded.result.now _ _ c.take-turn.ensures.value c.value-guarded.ensures.value c.take-turn.ensures.out).at.core in
     let geometry = c.geometry-geometry.ensures S.world (standing_of S.lost) h.world in
     subst (λ (k : ℕ). IsTrue (is_block_size k)) (sym (ap (λ v. v.block) geometry)) (block_size S.world h.world.kept_of.world)
 
@@ -53,7 +47,7 @@ returns-in-Ok-clause-tx g c =
     let work = c.begin.result in
     let S = state_at A es in
     let none = c.take-turn.ensures.value.start in
-    let h = core_at d A _ _ _ _ c.take-turn.ensures.value (ap (λ v. v.core) c.value-guarded.ensures.value) in
+    let h = (lends d A _ c.value-guarded.result.now _ _ c.take-turn.ensures.value c.value-guarded.ensures.value c.take-turn.ensures.out).at.core in
     let geometry = c.geometry-geometry.ensures S.world (standing_of S.lost) h.world in
     let given = c.split-pass.ensures.given in
     let last : c.give.new.pass.me.0.seen ≡ es ++ entry.Begin b.tx b.at b.mode ∷ [] = c.give.ensures.seen ∙ ap (λ r. es ++ begin_entry (faults_of d c.of-before.result.value) (faults_of d c.begin-result.new.self) c.args.named r ∷ []) c.in-Ok.is in

@@ -2,8 +2,8 @@ use Rattle.iso_shared.proofs.Words.{ap, refl, sym, ◌∙◌, subst, CoreError, 
 use Rattle.iso_shared.specs.declared.entry.Call.TheVariants as call
 use Rattle.iso_shared.specs.declared.entry.Entry.TheVariants as entry
 use Rattle.iso_shared.proofs.Ends.{if_err_by}
-use Rattle.iso_shared.proofs.Giving.{core_at, entry_keeps, entry_may, from_lent, refused_holds, stands_call}
-use Rattle.iso_shared.proofs.Groupings.{Groups, all_live, did_group, each_member, group_args, group_only, held_again, moved_group}
+use Rattle.iso_shared.proofs.Giving.{entry_may, lends, refused_holds, stands_answer}
+use Rattle.iso_shared.proofs.Groupings.{Groups, did_group, each_lent, group_args, group_only, held_again, moved_group}
 use Rattle.iso_shared.proofs.Mades.{made_by}
 use Rattle.iso_shared.proofs.shared.Shared.end_at_turn.Goals as goal
 
@@ -11,17 +11,10 @@ pub end_group-result-requires-clause-ready : goal.end_group-result-requires-clau
 end_group-result-requires-clause-ready g c =
     let d = g.D.Disk.state in
     let A = g.O.Origin.start in
-    let es = c.take-turn.new.pass.me.0.seen in
-    let holds = c.take-turn.new.pass.me.0.holds in
-    let S = state_at A es in
+    let S = state_at A c.take-turn.new.pass.me.0.seen in
     let ends = c.args.ends.now in
-    let held = subst (λ (hs : List ℕ). AreHeld (numbers_handed c.args.ends.now) hs) (sym c.take-turn.ensures.same.1) c.requires.held.0 in (
-      S.world,
-      standing_of S.lost,
-      txs_of S.world (members_at ends),
-      (core_at d A _ _ _ _ c.take-turn.ensures.value (ap (λ v. v.core) c.value-guarded.ensures.value)).world,
-      each_member A es c.args.port.now.pass.me.0.seen ends c.take-turn.ensures.seen c.requires.ends (all_live d A _ _ _ holds c.take-turn.ensures.value c.take-turn.ensures.out ends held) c.requires.held.1,
-    )
+    let l = lends d A _ c.value-guarded.result.now _ _ c.take-turn.ensures.value c.value-guarded.ensures.value c.take-turn.ensures.out in
+    (S.world, standing_of S.lost, txs_of S.world (members_at ends), l.at.core.world, each_lent l c.args.port.now.pass.me.0 ends c.take-turn.ensures.seen c.take-turn.ensures.same.1 c.requires.ends c.requires.held)
 
 pub give-requires-clause-value : goal.give-requires-clause-value
 give-requires-clause-value g c =
@@ -31,16 +24,15 @@ give-requires-clause-value g c =
     let holds = c.take-turn.new.pass.me.0.holds in
     let S = state_at A es in
     let ends = c.args.ends.now in
-    let held = subst (λ (hs : List ℕ). AreHeld (numbers_handed c.args.ends.now) hs) (sym c.take-turn.ensures.same.1) c.requires.held.0 in
-    let each = each_member A es c.args.port.now.pass.me.0.seen ends c.take-turn.ensures.seen c.requires.ends (all_live d A _ _ _ holds c.take-turn.ensures.value c.take-turn.ensures.out ends held) c.requires.held.1 in
+    let l = lends d A _ c.value-guarded.result.now _ _ c.take-turn.ensures.value c.value-guarded.ensures.value c.take-turn.ensures.out in
+    let each = each_lent l c.args.port.now.pass.me.0 ends c.take-turn.ensures.seen c.take-turn.ensures.same.1 c.requires.ends c.requires.held in
+    let held = subst (λ (hs : List ℕ). AreHeld (numbers_handed ends) hs) (sym c.take-turn.ensures.same.1) c.requires.held.0 in
     let lent = c.value-guarded.result.now.core in
-    let shot = faults_of d c.of-before.result.value in
     let new = c.end_group-result.new.self in
     let last = c.end_group-result.new.ends in
     let r = c.end_group-result.result in
     let said = c.end_group-result.ensures in
     let txs = txs_of S.world (members_at ends) in
-    let h = core_at d A _ _ _ _ c.take-turn.ensures.value (ap (λ v. v.core) c.value-guarded.ensures.value) in
     let so : Groups d S lent new ends last r = record {
       members = said.members;
       ended = λ stands. said.ended S.world txs stands each;
@@ -55,16 +47,11 @@ give-requires-clause-value g c =
       moments = λ stands. said.moments S.world txs stands each;
     } in
     let args = group_args A es c.args.port.now.pass.me.0.seen ends c.take-turn.ensures.seen c.requires.ends c.requires.some c.requires.most c.requires.held.1 in
-    let did = did_group d S lent new ends last r h args so in
+    let did = did_group d S lent new ends last r l.at.core args so in
     let again = held_again last ends holds said.members held in
-    stands_call d A _ _ _ _ _ (group_entry shot (faults_of d new) last r) (group_entry (faults_of d lent) (faults_of d new) last r)
-    holds c.take-turn.ensures.value (ap (λ v. v.rack) c.value-guarded.ensures.value) c.take-turn.ensures.out
-    (entry_may shot (faults_of d new) (call.EndGroup (members_at last)) (λ done. entry.EndGroup (ends_at last)) holds (λ x. (tt, again.1)) again.0 r)
-    (ap (λ v. group_entry (faults_of d v) (faults_of d new) last r) c.of-before.ensures)
-    (from_lent d A es (group_entry (faults_of d lent) (faults_of d new) last r) _ lent new (ap (λ v. v.core) c.value-guarded.ensures.value)
-    (moved_group d A es lent new ends last r (faults_of d lent) (faults_of d new) c.take-turn.ensures.value.legal c.take-turn.ensures.value.core.world.kept_of.world.history.first h did.0 so))
+    stands_answer l c.of-before.result.value new (call.EndGroup (members_at last)) (λ done. entry.EndGroup (ends_at last)) r c.of-before.ensures (λ x. (tt, again.1)) again.0 (λ x T. refl)
+    (moved_group d A es lent new ends last r (faults_of d lent) (faults_of d new) l.at.legal l.at.core.world.kept_of.world.history.first l.at.core did.0 so)
     did
-    (entry_keeps shot (faults_of d new) (call.EndGroup (members_at last)) (λ done. entry.EndGroup (ends_at last)) (λ x T. refl) r)
 
 pub give-requires-clause-held : goal.give-requires-clause-held
 give-requires-clause-held g c =
@@ -89,16 +76,14 @@ pub returns-clause-only : goal.returns-clause-only
 returns-clause-only g c =
     let d = g.D.Disk.state in
     let A = g.O.Origin.start in
-    let es = c.take-turn.new.pass.me.0.seen in
-    let holds = c.take-turn.new.pass.me.0.holds in
-    let S = state_at A es in
+    let S = state_at A c.take-turn.new.pass.me.0.seen in
     let ends = c.args.ends.now in
-    let held = subst (λ (hs : List ℕ). AreHeld (numbers_handed c.args.ends.now) hs) (sym c.take-turn.ensures.same.1) c.requires.held.0 in
-    let each = each_member A es c.args.port.now.pass.me.0.seen ends c.take-turn.ensures.seen c.requires.ends (all_live d A _ _ _ holds c.take-turn.ensures.value c.take-turn.ensures.out ends held) c.requires.held.1 in
+    let l = lends d A _ c.value-guarded.result.now _ _ c.take-turn.ensures.value c.value-guarded.ensures.value c.take-turn.ensures.out in
+    let each = each_lent l c.args.port.now.pass.me.0 ends c.take-turn.ensures.seen c.take-turn.ensures.same.1 c.requires.ends c.requires.held in
     let said = c.end_group-result.ensures in
     let txs = txs_of S.world (members_at ends) in
     group_only d S c.value-guarded.result.now.core c.end_group-result.new.self ends c.end_group-result.new.ends c.end_group-result.result
-    (core_at d A _ _ _ _ c.take-turn.ensures.value (ap (λ v. v.core) c.value-guarded.ensures.value))
+    l.at.core
     (record {
       members = said.members;
       ended = λ stands. said.ended S.world txs stands each;

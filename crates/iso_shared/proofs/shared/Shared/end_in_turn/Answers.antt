@@ -3,9 +3,8 @@ use Rattle.iso_shared.specs.declared.entry.Call.TheVariants as call
 use Rattle.iso_shared.specs.declared.entry.Entry.TheVariants as entry
 use Rattle.iso_shared.proofs.Cores.{by_lost, is_tx}
 use Rattle.iso_shared.proofs.Ends.{ahead_same, checked_of, did_end, if_err_by, init_same, moved_end, may_have, on_same, own_same, work_of}
-use Rattle.iso_shared.proofs.Giving.{core_at, entry_keeps, entry_may, refused_holds, stands_call, from_lent}
+use Rattle.iso_shared.proofs.Giving.{at_turn, entry_keeps, entry_may, lends, refused_holds, settled_turn, stands_call}
 use Rattle.iso_shared.proofs.Mades.{ahead_on, held_same, made_by, one_more, own_on}
-use Rattle.iso_shared.proofs.Standings.{held_live}
 use Rattle.iso_shared.proofs.shared.Shared.end_in_turn.Goals as goal
 
 pub end-result-requires : goal.end-result-requires
@@ -13,19 +12,17 @@ end-result-requires g c =
     let d = g.D.Disk.state in
     let A = g.O.Origin.start in
     let n = c.args.tx.now.number in
-    let es = c.take-turn.new.pass.me.0.seen in
-    let S = state_at A es in
+    let S = state_at A c.take-turn.new.pass.me.0.seen in
     let work = c.settle.new.work in
-    let live = held_live d A _ _ _ _ c.take-turn.ensures.value c.take-turn.ensures.out n (held_same n _ _ c.take-turn.ensures.same.1 c.requires.tx.1.held) in
-    let own = own_same S n c.args.tx.now.work work c.settle.ensures.work (own_on A _ es n _ c.take-turn.ensures.seen c.requires.tx.1.own) in
-    let ahead = ahead_same S c.args.tx.now.work work c.args.tx.now.checked c.settle.ensures.work (ahead_on A _ es _ _ c.take-turn.ensures.seen c.requires.tx.1.ahead) in (
+    let l = lends d A _ c.value-guarded.result.now _ _ c.take-turn.ensures.value c.value-guarded.ensures.value c.take-turn.ensures.out in
+    let t = settled_turn (at_turn l c.args.tx.now c.requires.tx.1 c.take-turn.ensures.seen c.take-turn.ensures.same.1) work c.settle.ensures.work in (
       S.world,
       standing_of S.lost,
       tx_of S.world n work.accesses,
-      (core_at d A _ _ _ _ c.take-turn.ensures.value (ap (λ v. v.core) c.value-guarded.ensures.value)).world,
-      is_tx S.world n work.accesses live,
-      work_of S n work own live,
-      checked_of S n work c.args.tx.now.checked own live ahead,
+      l.at.core.world,
+      is_tx S.world n work.accesses t.live,
+      work_of S n work t.own t.live,
+      checked_of S n work c.args.tx.now.checked t.own t.live t.ahead,
     )
 
 pub give-requires-clause-value : goal.give-requires-clause-value
@@ -36,14 +33,13 @@ give-requires-clause-value g c =
     let es = c.take-turn.new.pass.me.0.seen in
     let S = state_at A es in
     let work = c.settle.new.work in
+    let l = lends d A _ c.value-guarded.result.now _ _ c.take-turn.ensures.value c.value-guarded.ensures.value c.take-turn.ensures.out in
     let held = held_same n _ _ c.take-turn.ensures.same.1 c.requires.tx.1.held in
-    let live = held_live d A _ _ _ _ c.take-turn.ensures.value c.take-turn.ensures.out n held in
-    let own = own_same S n c.args.tx.now.work work c.settle.ensures.work (own_on A _ es n _ c.take-turn.ensures.seen c.requires.tx.1.own) in
-    let ahead = ahead_same S c.args.tx.now.work work c.args.tx.now.checked c.settle.ensures.work (ahead_on A _ es _ _ c.take-turn.ensures.seen c.requires.tx.1.ahead) in
+    let turn = settled_turn (at_turn l c.args.tx.now c.requires.tx.1 c.take-turn.ensures.seen c.take-turn.ensures.same.1) work c.settle.ensures.work in
     let t = tx_of S.world n work.accesses in
-    let here = is_tx S.world n work.accesses live in
-    let of = work_of S n work own live in
-    let checked = checked_of S n work c.args.tx.now.checked own live ahead in
+    let here = is_tx S.world n work.accesses turn.live in
+    let of = work_of S n work turn.own turn.live in
+    let checked = checked_of S n work c.args.tx.now.checked turn.own turn.live turn.ahead in
     let lent = c.value-guarded.result.now.core in
     let shot = faults_of d c.of-before.result.value in
     let new = c.end-result.new.self in
@@ -51,23 +47,21 @@ give-requires-clause-value g c =
     let r = c.end-result.result in
     let same : last.accesses ≡ work.accesses = ap (λ (w : Doing). w.accesses) c.end-result.ensures.work in
     let said = c.end-result.ensures in
-    let did = did_end d S lent new n work.accesses r (core_at d A _ _ _ _ c.take-turn.ensures.value (ap (λ v. v.core) c.value-guarded.ensures.value))
-    (may_have S n work own c.settle.ensures.within c.settle.ensures.count)
-    (λ stands. c.end-result.ensures.ended S.world t stands here of checked)
-    (λ stands. c.end-result.ensures.refused S.world t stands here of checked)
-    (λ stands. c.end-result.ensures.same S.world stands)
-    c.end-result.ensures.down c.end-result.ensures.unwritten
-    (λ stands is. c.end-result.ensures.lost S.world t stands here of checked is)
-    c.end-result.ensures.told c.end-result.ensures.cause in
-    stands_call d A _ _ _ _ _ (end_entry shot (faults_of d new) n last.accesses r) (end_entry (faults_of d lent) (faults_of d new) n work.accesses r)
-    c.take-turn.new.pass.me.0.holds c.take-turn.ensures.value (ap (λ v. v.rack) c.value-guarded.ensures.value) c.take-turn.ensures.out
+    let did = did_end d S lent new n work.accesses r l.at.core
+    (may_have S n work turn.own c.settle.ensures.within c.settle.ensures.count)
+    (λ stands. said.ended S.world t stands here of checked)
+    (λ stands. said.refused S.world t stands here of checked)
+    (λ stands. said.same S.world stands)
+    said.down said.unwritten
+    (λ stands is. said.lost S.world t stands here of checked is)
+    said.told said.cause in
+    stands_call l new (end_entry shot (faults_of d new) n last.accesses r) (end_entry (faults_of d lent) (faults_of d new) n work.accesses r)
     (entry_may shot (faults_of d new) (call.End n last.accesses) (λ x. entry.End n last.accesses x) _ (λ x. (tt, (held, tt))) (held, tt) r)
     (ap (λ v. end_entry (faults_of d v) (faults_of d new) n last.accesses r) c.of-before.ensures ∙ ap (λ a. end_entry (faults_of d lent) (faults_of d new) n a r) same)
-    (from_lent d A c.take-turn.new.pass.me.0.seen (end_entry (faults_of d lent) (faults_of d new) n work.accesses r) _ lent new (ap (λ v. v.core) c.value-guarded.ensures.value)
-    (by_lost d S lent _ (core_at d A _ _ _ _ c.take-turn.ensures.value (ap (λ v. v.core) c.value-guarded.ensures.value))
-    (λ is stands. moved_end d A es lent new (faults_of d lent) (faults_of d new) n work.accesses r c.take-turn.ensures.value.legal c.take-turn.ensures.value.core.world.kept_of.world.history.first is did.0
+    (by_lost d S lent _ l.at.core
+    (λ is stands. moved_end d A es lent new (faults_of d lent) (faults_of d new) n work.accesses r l.at.legal l.at.core.world.kept_of.world.history.first is did.0
     (said.ended S.world t stands here of checked) (said.lost S.world t stands here of checked) said.unwritten (said.moments S.world t stands here of checked))
-    (λ lost is stands. inl (ap disk_of (said.down S.world lost stands).1))))
+    (λ lost is stands. inl (ap disk_of (said.down S.world lost stands).1)))
     did
     (entry_keeps shot (faults_of d new) (call.End n last.accesses) (λ x. entry.End n last.accesses x) (λ x T. refl) r)
 
@@ -127,12 +121,10 @@ returns-clause-steps g c list e seen =
     let S = state_at A es in
     let upto = c.args.tx.now.checked.upto in
     let work = c.settle.new.work in
-    let live = held_live d A _ _ _ _ c.take-turn.ensures.value c.take-turn.ensures.out n (held_same n _ _ c.take-turn.ensures.same.1 c.requires.tx.1.held) in
-    let own = own_same S n c.args.tx.now.work work c.settle.ensures.work (own_on A _ es n _ c.take-turn.ensures.seen c.requires.tx.1.own) in
-    let ahead = ahead_same S c.args.tx.now.work work c.args.tx.now.checked c.settle.ensures.work (ahead_on A _ es _ _ c.take-turn.ensures.seen c.requires.tx.1.ahead) in
+    let l = lends d A _ c.value-guarded.result.now _ _ c.take-turn.ensures.value c.value-guarded.ensures.value c.take-turn.ensures.out in
+    let t = settled_turn (at_turn l c.args.tx.now c.requires.tx.1 c.take-turn.ensures.seen c.take-turn.ensures.same.1) work c.settle.ensures.work in
     let same : es ≡ list = init_same es list _ e (sym c.give.ensures.seen ∙ seen) in
-    let h = core_at d A _ _ _ _ c.take-turn.ensures.value (ap (λ v. v.core) c.value-guarded.ensures.value) in
     subst (λ l. c.end-result.new.steps ≤ c.args.steps.now + most_steps A l upto) same
-    (by_lost d S c.value-guarded.result.now.core (c.end-result.new.steps ≤ c.args.steps.now + most_steps A es upto) h
-    (λ is stands. c.end-result.ensures.steps S.world (tx_of S.world n work.accesses) stands (is_tx S.world n work.accesses live) (checked_of S n work c.args.tx.now.checked own live ahead))
+    (by_lost d S c.value-guarded.result.now.core (c.end-result.new.steps ≤ c.args.steps.now + most_steps A es upto) l.at.core
+    (λ is stands. c.end-result.ensures.steps S.world (tx_of S.world n work.accesses) stands (is_tx S.world n work.accesses t.live) (checked_of S n work c.args.tx.now.checked t.own t.live t.ahead))
     (λ lost is stands. let none : c.end-result.new.steps ≡ c.args.steps.now = c.end-result.ensures.no_steps S.world lost stands in omega arith))

@@ -1,11 +1,10 @@
-use Rattle.iso_shared.proofs.Words.{[], ap, refl, sym, ◌∙◌, rules, ◌<◌, subst, ℕ, faults_of, standing_of, opened, state_at, tx_of, fetch_entry}
+use Rattle.iso_shared.proofs.Words.{[], refl, sym, ◌∙◌, rules, ◌<◌, subst, ℕ, faults_of, standing_of, opened, state_at, tx_of}
 use Rattle.iso_shared.specs.declared.entry.Call.TheVariants as call
 use Rattle.iso_shared.specs.declared.entry.Entry.TheVariants as entry
 use Rattle.iso_shared.proofs.Cores.{did_fetch, is_tx}
 use Rattle.iso_shared.proofs.Follows.{follows_all}
-use Rattle.iso_shared.proofs.Giving.{core_at, lent_came, moved_fetch, entry_keeps, entry_may, fetch_holds, stands_call, from_lent}
+use Rattle.iso_shared.proofs.Giving.{entry_may, fetch_holds, lends, live_lent, moved_fetch, stands_answer}
 use Rattle.iso_shared.proofs.Mades.{ahead_on, held_same, made_by, one_more, own_on}
-use Rattle.iso_shared.proofs.Standings.{held_live}
 use Rattle.iso_shared.proofs.shared.Shared.fetch.Goals as goal
 
 pub fetch-result-requires : goal.fetch-result-requires
@@ -14,13 +13,15 @@ fetch-result-requires g c =
     let A = g.O.Origin.start in
     let n = c.args.tx.now.number in
     let held = held_same n _ _ c.take-turn.ensures.same.1 c.requires.tx.1.held in
-    let S = state_at A c.take-turn.new.pass.me.0.seen in
-    let f = follows_all (opened A) c.take-turn.new.pass.me.0.seen in (
+    let l = lends d A _ c.value-guarded.result.now _ _ c.take-turn.ensures.value c.value-guarded.ensures.value c.take-turn.ensures.out in
+    let es = c.take-turn.new.pass.me.0.seen in
+    let S = state_at A es in
+    let f = follows_all (opened A) es in (
       S.world,
       standing_of S.lost,
       tx_of S.world n [],
-      (core_at d A _ _ _ _ c.take-turn.ensures.value (ap (λ v. v.core) c.value-guarded.ensures.value)).world,
-      is_tx S.world n [] (held_live d A _ _ _ _ c.take-turn.ensures.value c.take-turn.ensures.out n held),
+      l.at.core.world,
+      is_tx S.world n [] (live_lent l n held),
       subst (λ (k : ℕ). c.args.block < k) (sym f.blocks) c.requires.block,
       c.requires.size ∙ sym f.block,
     )
@@ -31,24 +32,18 @@ give-requires-clause-value g c =
     let A = g.O.Origin.start in
     let n = c.args.tx.now.number in
     let held = held_same n _ _ c.take-turn.ensures.same.1 c.requires.tx.1.held in
-    let S = state_at A c.take-turn.new.pass.me.0.seen in
-    let f = follows_all (opened A) c.take-turn.new.pass.me.0.seen in
+    let l = lends d A _ c.value-guarded.result.now _ _ c.take-turn.ensures.value c.value-guarded.ensures.value c.take-turn.ensures.out in
+    let es = c.take-turn.new.pass.me.0.seen in
+    let S = state_at A es in
+    let f = follows_all (opened A) es in
     let lent = c.value-guarded.result.now.core in
-    let shot = faults_of d c.of-before.result.value in
     let new = c.fetch-result.new.self in
     let bytes = c.fetch-result.new.into in
     let r = c.fetch-result.result in
-    stands_call d A _ _ _ _ _ (fetch_entry shot (faults_of d new) n c.args.block bytes r) (fetch_entry (faults_of d lent) (faults_of d new) n c.args.block bytes r)
-    c.take-turn.new.pass.me.0.holds c.take-turn.ensures.value (ap (λ v. v.rack) c.value-guarded.ensures.value) c.take-turn.ensures.out
-    (entry_may shot (faults_of d new) (call.Fetch n c.args.block) (λ x. entry.Fetch n c.args.block bytes) _ (λ x. ((held, tt), tt)) (held, tt) r)
-    (ap (λ v. fetch_entry (faults_of d v) (faults_of d new) n c.args.block bytes r) c.of-before.ensures)
-    (from_lent d A c.take-turn.new.pass.me.0.seen (fetch_entry (faults_of d lent) (faults_of d new) n c.args.block bytes r) _ lent new (ap (λ v. v.core) c.value-guarded.ensures.value)
-    (moved_fetch d A c.take-turn.new.pass.me.0.seen (faults_of d lent) (faults_of d new) n c.args.block bytes lent new r (g.met.D.Disk.lawful lent.disk) (lent_came d A _ lent _ _ c.take-turn.ensures.value (ap (λ v. v.core) c.value-guarded.ensures.value)) c.fetch-result.ensures.unwritten))
-    (did_fetch d S lent new n c.args.block bytes r (core_at d A _ _ _ _ c.take-turn.ensures.value (ap (λ v. v.core) c.value-guarded.ensures.value))
-    (held_live d A _ _ _ _ c.take-turn.ensures.value c.take-turn.ensures.out n held)
-    (subst (λ (k : ℕ). c.args.block < k) (sym f.blocks) c.requires.block)
+    stands_answer l c.of-before.result.value new (call.Fetch n c.args.block) (λ x. entry.Fetch n c.args.block bytes) r c.of-before.ensures (λ x. ((held, tt), tt)) (held, tt) (λ x T. refl)
+    (moved_fetch d A es (faults_of d lent) (faults_of d new) n c.args.block bytes lent new r (g.met.D.Disk.lawful lent.disk) l.at.came c.fetch-result.ensures.unwritten)
+    (did_fetch d S lent new n c.args.block bytes r l.at.core (live_lent l n held) (subst (λ (k : ℕ). c.args.block < k) (sym f.blocks) c.requires.block)
     c.fetch-result.ensures.block c.fetch-result.ensures.same c.fetch-result.ensures.down c.fetch-result.ensures.disk c.fetch-result.ensures.unwritten c.fetch-result.ensures.cause)
-    (entry_keeps shot (faults_of d new) (call.Fetch n c.args.block) (λ x. entry.Fetch n c.args.block bytes) (λ x T. refl) r)
 
 pub give-requires-clause-held : goal.give-requires-clause-held
 give-requires-clause-held g c =

@@ -1,15 +1,16 @@
 use Rattle.iso_shared.proofs.Words.{[], ◌∷◌, ◌++◌, ◌≡◌, ℕ, Option, Some, None, ap, rules, sym, ◌∙◌, bytes_eq, option_map, lookup, Checked, held_first, prefix_self, View, Entry, Posted, posting_in, state_at}
 use Rattle.iso_shared.specs.declared.entry.Entry.TheVariants as entry
 use Rattle.iso_shared.proofs.Begins.{ahead_first}
+use Rattle.iso_shared.proofs.Giving.{lends}
 use Rattle.iso_shared.proofs.Mades.{ahead_on, held_same, one_more, own_on}
-use Rattle.iso_shared.proofs.Postings.{stands_look}
-use Rattle.iso_shared.proofs.Racked.{found_own}
+use Rattle.iso_shared.proofs.Racked.{found_own, stands_look}
 use Rattle.iso_shared.proofs.shared.Shared.look.Goals as goal
 
 pub give-requires-clause-value : goal.give-requires-clause-value
 give-requires-clause-value g c =
-    stands_look g.D.Disk.state g.O.Origin.start _ _ _ _ _ _ c.take-turn.new.pass.me.0.holds c.args.label.now c.look-found.result c.take-turn.ensures.value (ap (λ v. v.core) c.value-guarded.ensures.value)
-    (ap (λ v. v.rack) c.value-guarded.ensures.value) c.take-turn.ensures.out c.look-found.ensures.item c.look-found.ensures.rest
+    let d = g.D.Disk.state in
+    let A = g.O.Origin.start in
+    stands_look (lends d A _ c.value-guarded.result.now _ _ c.take-turn.ensures.value c.value-guarded.ensures.value c.take-turn.ensures.out) _ c.args.label.now c.look-found.result c.look-found.ensures.item c.look-found.ensures.rest
 
 pub returns-in-Some-clause-tx : goal.returns-in-Some-clause-tx
 returns-in-Some-clause-tx g c =

@@ -1,11 +1,10 @@
 use Rattle.iso_shared.proofs.Words.{inl, [], ◌∷◌, ◌++◌, ◌≡◌, ◌≤◌, ℕ, ap, refl, rules, subst, sym, ◌∙◌, IsRecent, faults_of, standing_of, state_at, tx_of, recent_entry}
 use Rattle.iso_shared.specs.declared.entry.Call.TheVariants as call
 use Rattle.iso_shared.specs.declared.entry.Entry.TheVariants as entry
-use Rattle.iso_shared.proofs.Checks.{did_recent, if_ok_by, is_recent, recent_state}
+use Rattle.iso_shared.proofs.Begins.{did_recent, if_ok_by, is_recent, recent_state}
 use Rattle.iso_shared.proofs.Cores.{is_tx}
-use Rattle.iso_shared.proofs.Giving.{core_at, entry_keeps, entry_may, recent_holds, stands_call, from_lent}
+use Rattle.iso_shared.proofs.Giving.{at_turn, entry_may, lends, recent_holds, stands_answer}
 use Rattle.iso_shared.proofs.Mades.{ahead_on, held_same, made_by, one_more, own_on}
-use Rattle.iso_shared.proofs.Standings.{held_live}
 use Rattle.iso_shared.proofs.shared.Shared.recent.Goals as goal
 
 pub recent-result-requires : goal.recent-result-requires
@@ -13,49 +12,30 @@ recent-result-requires g c =
     let d = g.D.Disk.state in
     let A = g.O.Origin.start in
     let n = c.args.tx.now.number in
-    let es = c.take-turn.new.pass.me.0.seen in
-    let S = state_at A es in
-    let live = held_live d A _ _ _ _ c.take-turn.ensures.value c.take-turn.ensures.out n (held_same n _ _ c.take-turn.ensures.same.1 c.requires.tx.1.held) in
-    let own = own_on A _ es n _ c.take-turn.ensures.seen c.requires.tx.1.own in
-    let ahead = ahead_on A _ es _ _ c.take-turn.ensures.seen c.requires.tx.1.ahead in (
-      S.world,
-      standing_of S.lost,
-      tx_of S.world n [],
-      (core_at d A _ _ _ _ c.take-turn.ensures.value (ap (λ v. v.core) c.value-guarded.ensures.value)).world,
-      is_tx S.world n [] live,
-      subst (λ (k : ℕ). k ≤ c.args.tx.now.checked.upto) (sym (own.begin live)) ahead.from,
-      ahead.to,
-    )
+    let S = state_at A c.take-turn.new.pass.me.0.seen in
+    let l = lends d A _ c.value-guarded.result.now _ _ c.take-turn.ensures.value c.value-guarded.ensures.value c.take-turn.ensures.out in
+    let t = at_turn l c.args.tx.now c.requires.tx.1 c.take-turn.ensures.seen c.take-turn.ensures.same.1 in
+    (S.world, standing_of S.lost, tx_of S.world n [], l.at.core.world, is_tx S.world n [] t.live, t.from, t.ahead.to)
 
 pub give-requires-clause-value : goal.give-requires-clause-value
 give-requires-clause-value g c =
     let d = g.D.Disk.state in
     let A = g.O.Origin.start in
     let n = c.args.tx.now.number in
-    let es = c.take-turn.new.pass.me.0.seen in
-    let S = state_at A es in
+    let S = state_at A c.take-turn.new.pass.me.0.seen in
+    let l = lends d A _ c.value-guarded.result.now _ _ c.take-turn.ensures.value c.value-guarded.ensures.value c.take-turn.ensures.out in
+    let t = at_turn l c.args.tx.now c.requires.tx.1 c.take-turn.ensures.seen c.take-turn.ensures.same.1 in
     let held = held_same n _ _ c.take-turn.ensures.same.1 c.requires.tx.1.held in
-    let live = held_live d A _ _ _ _ c.take-turn.ensures.value c.take-turn.ensures.out n held in
-    let own = own_on A _ es n _ c.take-turn.ensures.seen c.requires.tx.1.own in
-    let ahead = ahead_on A _ es _ _ c.take-turn.ensures.seen c.requires.tx.1.ahead in
-    let begin = subst (λ (k : ℕ). k ≤ c.args.tx.now.checked.upto) (sym (own.begin live)) ahead.from in
-    let here = is_tx S.world n [] live in
     let said = c.recent-result.ensures in
     let lent = c.value-guarded.result.now.core in
-    let x = faults_of d c.of-before.result.value in
     let r = c.recent-result.result in
-    stands_call d A _ _ _ _ _ (recent_entry x (faults_of d lent) n r) (recent_entry x (faults_of d lent) n r)
-    c.take-turn.new.pass.me.0.holds c.take-turn.ensures.value (ap (λ v. v.rack) c.value-guarded.ensures.value) c.take-turn.ensures.out
-    (entry_may x (faults_of d lent) (call.Recent n) (λ y. entry.Recent n y.upto) _ (λ y. ((held, tt), tt)) (held, tt) r)
-    refl
-    (from_lent d A c.take-turn.new.pass.me.0.seen (recent_entry x (faults_of d lent) n r) _ lent lent (ap (λ v. v.core) c.value-guarded.ensures.value) (inl refl))
-    (did_recent d S lent n c.args.tx.now.checked.upto x (faults_of d lent) r (core_at d A _ _ _ _ c.take-turn.ensures.value (ap (λ v. v.core) c.value-guarded.ensures.value))
+    stands_answer l c.of-before.result.value lent (call.Recent n) (λ y. entry.Recent n y.upto) r c.of-before.ensures (λ y. ((held, tt), tt)) (held, tt) (λ y T. refl) (inl refl)
+    (did_recent d S lent n c.args.tx.now.checked.upto (faults_of d lent) (faults_of d lent) r l.at.core
     (record {
-      notes = λ stands. said.notes S.world (tx_of S.world n []) stands here begin;
+      notes = λ stands. said.notes S.world (tx_of S.world n []) stands (is_tx S.world n [] t.live) t.from;
       memory = said.memory S.world;
       fallen = said.down S.world;
     }))
-    (entry_keeps x (faults_of d lent) (call.Recent n) (λ y. entry.Recent n y.upto) (λ y T. refl) r)
 
 pub give-requires-clause-held : goal.give-requires-clause-held
 give-requires-clause-held g c =
@@ -90,19 +70,17 @@ returns-clause-recent g c =
     let n = c.args.tx.now.number in
     let es = c.take-turn.new.pass.me.0.seen in
     let S = state_at A es in
-    let live = held_live d A _ _ _ _ c.take-turn.ensures.value c.take-turn.ensures.out n (held_same n _ _ c.take-turn.ensures.same.1 c.requires.tx.1.held) in
-    let own = own_on A _ es n _ c.take-turn.ensures.seen c.requires.tx.1.own in
-    let ahead = ahead_on A _ es _ _ c.take-turn.ensures.seen c.requires.tx.1.ahead in
-    let begin = subst (λ (k : ℕ). k ≤ c.args.tx.now.checked.upto) (sym (own.begin live)) ahead.from in
+    let l = lends d A _ c.value-guarded.result.now _ _ c.take-turn.ensures.value c.value-guarded.ensures.value c.take-turn.ensures.out in
+    let t = at_turn l c.args.tx.now c.requires.tx.1 c.take-turn.ensures.seen c.take-turn.ensures.same.1 in
     let said = c.recent-result.ensures in
     let lent = c.value-guarded.result.now.core in
     let checked = c.args.tx.now.checked in
     if_ok_by _ c.recent-result.result (λ x is.
     let seen : c.give.new.pass.me.0.seen ≡ es ++ entry.Recent n x.upto ∷ [] = c.give.ensures.seen ∙ ap (λ r. es ++ recent_entry (faults_of d c.of-before.result.value) (faults_of d lent) n r ∷ []) is in
     subst (λ T. IsRecent T checked x) (sym (ap (state_at A) seen ∙ recent_state A es n x.upto))
-    (is_recent d S lent n checked.upto c.recent-result.result x checked (core_at d A _ _ _ _ c.take-turn.ensures.value (ap (λ v. v.core) c.value-guarded.ensures.value))
+    (is_recent d S lent n checked.upto c.recent-result.result x checked l.at.core
     (record {
-      notes = λ stands. said.notes S.world (tx_of S.world n []) stands (is_tx S.world n [] live) begin;
+      notes = λ stands. said.notes S.world (tx_of S.world n []) stands (is_tx S.world n [] t.live) t.from;
       memory = said.memory S.world;
       fallen = said.down S.world;
-    }) is refl ahead.to ahead.first))
+    }) is refl t.ahead.to t.ahead.first))

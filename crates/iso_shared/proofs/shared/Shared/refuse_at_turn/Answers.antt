@@ -1,7 +1,7 @@
 use Rattle.iso_shared.proofs.Words.{inl, [], ap, refl, sym, ◌∙◌, subst, Err, ℕ, List, AreHeld, members_in, numbers_in, state_at, wanting_entry}
 use Rattle.iso_shared.specs.declared.entry.Call.TheVariants as call
 use Rattle.iso_shared.specs.declared.entry.Entry.TheVariants as entry
-use Rattle.iso_shared.proofs.Giving.{core_at, entry_keeps, entry_may, from_lent, stands_call}
+use Rattle.iso_shared.proofs.Giving.{entry_keeps, entry_may, lends, stands_call}
 use Rattle.iso_shared.proofs.Groupings.{did_wanting, joined_args, numbers_member, wanting_holds}
 use Rattle.iso_shared.proofs.Mades.{made_by}
 use Rattle.iso_shared.proofs.shared.Shared.refuse_at_turn.Goals as goal
@@ -18,14 +18,12 @@ give_wanting-requires-clause-value g c =
     let error = c.wanting-error.result in
     let e = wanting_entry group error in
     let lent = c.value-guarded.result.now.core in
-    let same = ap (λ v. v.core) c.value-guarded.ensures.value in
-    let h = core_at d A _ _ _ _ c.take-turn.ensures.value same in
+    let l = lends d A _ c.value-guarded.result.now _ _ c.take-turn.ensures.value c.value-guarded.ensures.value c.take-turn.ensures.out in
     let args = joined_args c.args.self.now A es c.args.port.now.pass.me.0.seen group c.take-turn.ensures.seen c.requires.group c.requires.some c.requires.most c.requires.held.1 in
     let held = subst (λ (ns : List ℕ). AreHeld ns holds) (sym (numbers_member group)) (subst (λ (hs : List ℕ). AreHeld (numbers_in group) hs) (sym c.take-turn.ensures.same.1) c.requires.held.0) in
-    stands_call d A _ _ _ _ _ e e holds c.take-turn.ensures.value (ap (λ v. v.rack) c.value-guarded.ensures.value) c.take-turn.ensures.out
-    (entry_may 0 0 (call.EndGroup members) (λ (done : Unit {0}). entry.EndGroup []) holds (λ x. (tt, tt)) held (Err error)) refl
-    (from_lent d A es e _ lent lent same (inl refl))
-    (did_wanting d S lent members error c.stat.result.down h args (λ W standing stands. ap (λ t. t.down) (c.stat.ensures W standing stands)) c.wanting-error.ensures.down c.wanting-error.ensures.up)
+    stands_call l lent e e
+    (entry_may 0 0 (call.EndGroup members) (λ (done : Unit {0}). entry.EndGroup []) holds (λ x. (tt, tt)) held (Err error)) refl (inl refl)
+    (did_wanting d S lent members error c.stat.result.down l.at.core args (λ W standing stands. ap (λ t. t.down) (c.stat.ensures W standing stands)) c.wanting-error.ensures.down c.wanting-error.ensures.up)
     (entry_keeps 0 0 (call.EndGroup members) (λ (done : Unit {0}). entry.EndGroup []) (λ x T. refl) (Err error))
 
 pub give_wanting-requires-clause-held : goal.give_wanting-requires-clause-held

@@ -1,5 +1,0 @@
-use Rattle.iso_shared.proofs.Words.{faults_of, told_entry}
-use Rattle.iso_shared.proofs.shared.Shared.fetch.Given as goal
-
-abbrev pub ghosts-give : goal.ghosts-give
-ghosts-give g a = record { entry = told_entry (faults_of g.D.Disk.state a.before.value) (faults_of g.D.Disk.state a.turn.value.core) a.told }
