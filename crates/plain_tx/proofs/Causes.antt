@@ -11,6 +11,7 @@ use Rattle.tx_table.specs.Work.{Doing, span_at}
 use Rattle.iso_model.specs.Premises.{block_at}
 use Rattle.tx_blocks.specs.Tx.{Tx, mark_refusal, marking, IsRefused}
 use Rattle.plain_tx.specs.Plain.{blocks_of}
+use Rattle.iso_model.proofs.Accesses.{length-marked}
 
 pub mark_refused : (t : Tx) (off len : ℕ) (fault : MarkError) (e : TxError) → t.is_open ≡ true → mark_fault t.size off len t.accesses ≡ Some fault → marking fault ≡ e → IsRefused {T = Unit {0}} (mark_refusal t off len) (λ x. ⊥) (Err e)
 mark_refused t off len fault e is_open is same = rw (is_open, is, same) refl
@@ -27,11 +28,6 @@ pub record Keeps (old new : Doing) : Type 0 where
   pub size : new.size ≡ old.size
   pub many : new.blocks ≡ old.blocks
   pub count : length new.accesses ≡ length old.accesses
-
-length-marked : (span : Span) (xs : List Access) → length (marked span xs) ≡ length xs
-length-marked span [] = refl
-length-marked span (a ∷ []) = refl
-length-marked span (a ∷ b ∷ xs) = ap (λ n. suc n) (length-marked span (b ∷ xs))
 
 -- a mark, taken or refused
 pub kept : (old new : Doing) (off len : ℕ) (result : Result (Unit {0}) MarkError)
