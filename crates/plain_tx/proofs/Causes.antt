@@ -4,9 +4,7 @@ use Rattle.std.proofs.lemmas.List.FromFn.{get_or-map-range_with_len}
 use Rattle.iso_model.specs.declared.access.MarkError.{MarkError}
 use Rattle.store_model.specs.declared.stores.TxError.{TxError}
 use Rattle.iso_model.specs.Marks.{mark_fault, marked}
-use Rattle.iso_model.specs.declared.access.Access.{Access}
-use Rattle.iso_model.specs.declared.access.Span.{Span}
-use Rattle.std.proofs.Common.{suc, ◌∷◌, OnOk}
+use Rattle.std.proofs.Common.{OnOk}
 use Rattle.tx_table.specs.Work.{Doing, span_at}
 use Rattle.iso_model.specs.Premises.{block_at}
 use Rattle.tx_blocks.specs.Tx.{Tx, mark_refusal, marking, IsRefused}
