@@ -1,5 +1,5 @@
 -- A guest after one more call on its transaction.
-use Rattle.core_blocks.proofs.Words.{◌≡◌, ◌∙◌, sym, refl, ap, subst, false, ℕ, suc, ◌+◌, ◌≤◌, List, [], ◌∷◌, ◌++◌, length, Option, Some, None, Result, Ok, Err, OnOk, arith, IsSome, ForSome, length_push, Rose, one_more, DiskState, IsLawful, WritesNothing, joined_unwritten, Access, MarkError, Span, Array, mark_fault, marked, World, Doing, span_at, Core, StandsFor, disk_of, up, Counts, IsGuest, IsSameWork, tx_of, AreLimits}
+use Rattle.core_blocks.proofs.Words.{◌≡◌, ◌∙◌, sym, refl, ap, subst, false, ℕ, ◌+◌, ◌≤◌, List, [], ◌∷◌, ◌++◌, length, Option, Some, None, Result, Ok, Err, OnOk, arith, IsSome, ForSome, length_push, Rose, one_more, DiskState, IsLawful, WritesNothing, joined_unwritten, Access, MarkError, Array, mark_fault, marked, World, Doing, span_at, Core, StandsFor, disk_of, up, Counts, IsGuest, IsSameWork, tx_of, AreLimits, length-marked}
 
 same_work : (a b c : Doing) → IsSameWork a b → IsSameWork b c → IsSameWork a c
 same_work a b c first second = record {
@@ -90,11 +90,6 @@ mark_keeps old new off len (Ok x) ok err = (
   },
   ap (λ (w : Doing). length w.accesses) ok.1 ∙ length-marked (span_at off len) old.accesses,
 )
-  where
-    length-marked : (span : Span) (xs : List Access) → length (marked span xs) ≡ length xs
-    length-marked span [] = refl
-    length-marked span (a ∷ []) = refl
-    length-marked span (a ∷ b ∷ xs) = ap suc (length-marked span (b ∷ xs))
 mark_keeps old new off len (Err fault) ok err = let same = (err fault refl).1 in (
   record {
     begin = ap (λ (w : Doing). w.begin) same;

@@ -16,6 +16,7 @@ pub use Rattle.iso_core.specs.declared.kept.Kept.{Kept}
 pub use Rattle.iso_disk.proofs.Moments.{joined_unwritten, starts_unwritten}
 pub use Rattle.iso_disk.specs.Disk.{DiskState, IsLawful, WritesNothing}
 pub use Rattle.iso_image.specs.Half.{IsHeld, half_of_world}
+pub use Rattle.iso_model.proofs.Accesses.{length-marked}
 pub use Rattle.iso_model.proofs.Bounds.{limits}
 pub use Rattle.iso_model.proofs.Recorded.{array_shape}
 pub use Rattle.iso_model.specs.Array.{Array}

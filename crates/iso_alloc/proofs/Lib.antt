@@ -4,3 +4,4 @@ mod Zeros
 pub mod Bits
 pub mod Laying
 pub mod Finding
+pub mod Members

@@ -1,5 +1,5 @@
 -- The words that the proofs of this crate cite from elsewhere.
-pub use Rattle.std.proofs.Common.{Bool, List, None, Option, Some, ap, arith, cond, drop, eq-eqb, false, get_or, inl, inr, length, max, min, ne_eqb, not, refl, suc, sym, take, true, zero, ℕ, [], ◌%◌, ◌&&◌, ◌++◌, ◌+◌, ◌-◌, ◌/◌, ◌<◌, ◌==◌, ◌^◌, ◌||◌, ◌∙◌, ◌∷◌, ◌≡◌, ◌≢◌, ◌≤◌}
+pub use Rattle.std.proofs.Common.{Bool, List, None, Option, Some, ap, arith, cond, drop, eq-eqb, false, get_or, inl, inr, length, max, min, ne_eqb, not, refl, suc, sym, take, true, zero, ℕ, [], ◌%◌, ◌&&◌, ◌++◌, ◌+◌, ◌-◌, ◌/◌, ◌<◌, ◌==◌, ◌^◌, ◌||◌, ◌∙◌, ◌∷◌, ◌≡◌, ◌≢◌, ◌≤◌, ◌⊎◌}
 pub use Rattle.std.proofs.Math.ListN.{replicate}
 pub use Rattle.std.proofs.lemmas.Bool.{and_from, and_parts, cases_Bool, cases_eq, false_from_ne_true, leb-true}
 pub use Rattle.std.proofs.lemmas.Bool.Decides.{nat_tests}
@@ -19,4 +19,5 @@ pub use Rattle.iso_model.specs.Effect.{or_else}
 pub use Rattle.store_model.specs.Cells.{all_from, are_key_parts, cell_count, cell_with, is_part, is_unused, is_zero, key_at, key_mark, laid_at, text_of, unused_cell}
 pub use Rattle.store_model.specs.FreeMap.{bit_place, clear_bit, free_count, lowest_free, map_bit, map_bytes, map_mark, set_bit, with_bit, without_bit}
 pub use Rattle.store_model.specs.HashCalls.{is_alone}
+pub use Rattle.store_model.specs.HashRegion.{IsIn}
 pub use Rattle.store_model.specs.Stores.{bytes_in}

@@ -1,5 +1,5 @@
 -- The blocks of chains: where they stand, and what the chain is.
-use Rattle.iso_hash.proofs.Words.{◌≡◌, ◌≢◌, ◌⊎◌, ◌∙◌, sym, refl, ap, subst, ℕ, zero, suc, ◌+◌, ◌<◌, ◌≤◌, Bool, true, false, ◌==◌, cond, nat_eq, List, [], ◌∷◌, ◌++◌, length, arith, inl, inr, eq-eqb, ne_eqb, AllByRecursion, IsDistinct, cases_eq, and_parts, or_cases, eqb-true, leb-true, ltb-true, Area, word_at, are_key_parts, buckets, last_position, next_of, is_next, is_linked, chain_from, chain, IsIn, AreLinked, IsHashArea}
+use Rattle.iso_hash.proofs.Words.{◌≡◌, ◌≢◌, ◌∙◌, sym, refl, ap, subst, ℕ, zero, suc, ◌+◌, ◌<◌, ◌≤◌, Bool, true, false, ◌==◌, cond, nat_eq, List, [], ◌∷◌, ◌++◌, length, arith, inl, inr, eq-eqb, ne_eqb, AllByRecursion, IsDistinct, cases_eq, and_parts, or_cases, eqb-true, leb-true, ltb-true, Area, word_at, are_key_parts, buckets, last_position, next_of, is_next, is_linked, chain_from, chain, IsIn, AreLinked, IsHashArea, in_back}
 
 -- what the head of a linked block says
 pub record IsHead (a : Area) (bucket position : ℕ) (x : List ℕ) : Type 0 where
@@ -151,24 +151,10 @@ length-chain_from keys (suc left) block = elim (next_of (keys block) == 0) as (�
   | false ↦ (let ih = length-chain_from keys left (next_of (keys block)) in omega arith)
 ]
 
-pub in_left : (k : ℕ) (xs ys : List ℕ) → IsIn k xs → IsIn k (xs ++ ys)
-in_left k (x ∷ xs) ys (inl e) = inl e
-in_left k (x ∷ xs) ys (inr has) = inr (in_left k xs ys has)
-in_left k [] ys has = absurd has
-
-pub in_right : (k : ℕ) (xs ys : List ℕ) → IsIn k ys → IsIn k (xs ++ ys)
-in_right k [] ys has = has
-in_right k (x ∷ xs) ys has = inr (in_right k xs ys has)
-
-pub in_either : (k : ℕ) (xs ys : List ℕ) → IsIn k (xs ++ ys) → IsIn k xs ⊎ IsIn k ys
-in_either k [] ys has = inr has
-in_either k (x ∷ xs) ys (inl e) = inl (inl e)
-in_either k (x ∷ xs) ys (inr has) = elim (in_either k xs ys has) [ inl left ↦ inl (inr left) | inr right ↦ inr right ]
-
 -- a block of the first part does not stand in the second
 pub not_twice : (a : Area) (keys : ℕ → List ℕ) (bucket position : ℕ) (xs ys : List ℕ) (first end k : ℕ) → AreLinked a keys bucket position (xs ++ ys) first end → IsIn k xs → IsIn k ys → ⊥
 not_twice a keys bucket position (x ∷ xs) ys first end k linked (inl e) has =
-    let later = placed a keys bucket (position + 1) (xs ++ ys) (next_of (keys x)) end k linked.3 (in_right k xs ys has) in
+    let later = placed a keys bucket (position + 1) (xs ++ ys) (next_of (keys x)) end k linked.3 (in_back k xs ys has) in
     let here = head_of a bucket position (keys x) linked.2 in
     let there = head_of a bucket later.place (keys k) later.linked in
     let same : position ≡ later.place = sym here.position_is ∙ ap (λ (m : ℕ). word_at 8 (keys m)) e ∙ there.position_is in

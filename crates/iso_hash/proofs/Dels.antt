@@ -1,6 +1,6 @@
 -- A removal of a cell, and one that gives its block back: the region stays well formed, and its map loses the key.
-use Rattle.iso_hash.proofs.Words.{◌≡◌, ◌≢◌, ◌↔◌, ◌∙◌, sym, refl, ap, subst, ℕ, ◌+◌, ◌*◌, ◌<◌, ◌≤◌, true, false, ◌&&◌, ◌||◌, ◌==◌, not, IsTrue, List, [], ◌∷◌, ◌++◌, length, get_or, take, replicate, arith, inl, inr, eq-eqb, ne_eqb, length-append, append_assoc, list_all, remove, cases_eq, both_ways, and_parts, and_from, or_cases, eqb-true, length-replicate, Area, Spot, Array, merged, put, block_at, bytes_in, store_access, cell_count, key_mark, value_mark, next_mark, word_at, is_zero, is_part, is_unused, key_at, block_with, map_bytes, bit_place, bit_mark, map_bit, clear_bit, view_of, buckets, bucket_of, last_position, chain, hash_map, IsIn, AreLinked, Stands, IsOverflow, HaveValues, IsHashRegion, IsHashArea, is_alone, length-block_put, written_block, other_block, bits_without, all_at, zero_part, zeros_are, piece_zero, byte_here, byte_far, head_far}
-use Rattle.iso_hash.proofs.Chains.{placed, block_inside, one_bucket, length-chain_from, in_left, in_right, in_either, not_twice}
+use Rattle.iso_hash.proofs.Words.{◌≡◌, ◌≢◌, ◌↔◌, ◌∙◌, sym, refl, ap, subst, ℕ, ◌+◌, ◌*◌, ◌<◌, ◌≤◌, true, false, ◌&&◌, ◌||◌, ◌==◌, not, IsTrue, List, [], ◌∷◌, ◌++◌, length, get_or, take, replicate, arith, inl, inr, eq-eqb, ne_eqb, length-append, append_assoc, list_all, remove, cases_eq, both_ways, and_parts, and_from, or_cases, eqb-true, length-replicate, Area, Spot, Array, merged, put, block_at, bytes_in, store_access, cell_count, key_mark, value_mark, next_mark, word_at, is_zero, is_part, is_unused, key_at, block_with, map_bytes, bit_place, bit_mark, map_bit, clear_bit, view_of, buckets, bucket_of, last_position, chain, hash_map, IsIn, AreLinked, Stands, IsOverflow, HaveValues, IsHashRegion, IsHashArea, is_alone, length-block_put, written_block, other_block, bits_without, all_at, zero_part, zeros_are, piece_zero, byte_here, byte_far, head_far, in_front, in_back, in_cases}
+use Rattle.iso_hash.proofs.Chains.{placed, block_inside, one_bucket, length-chain_from, not_twice}
 use Rattle.iso_hash.proofs.Linking.{chain_of}
 use Rattle.iso_hash.proofs.Moves.{IsSame, Moves, StandsNowhere, map_removed, buckets_nowhere, apart_nowhere}
 use Rattle.iso_hash.proofs.Relinked.{IsRelinked, some_in, first_long, chain_other, linked_anew, linked_all, stays_same, was_same, values_old}
@@ -105,7 +105,7 @@ module _ (a : Area) (key : List ℕ) (A : Array) (s : Spot) (before x : ℕ) (fr
   whole_old = subst (λ (blocks : List ℕ). AreLinked a (view_of a A).keys b0 0 blocks (1 + b0) 0) blocks_are linked_in
 
   has_before : IsIn before (chain a (view_of a A).keys b0)
-  has_before = subst (IsIn before) (sym blocks_are) (in_right before front (before ∷ s.block ∷ []) (inl refl))
+  has_before = subst (IsIn before) (sym blocks_are) (in_back before front (before ∷ s.block ∷ []) (inl refl))
 
   before_some : 0 < before
   before_some = (placed a (view_of a A).keys b0 0 (chain a (view_of a A).keys b0) (1 + b0) 0 before linked_in has_before).some
@@ -170,7 +170,7 @@ module _ (a : Area) (key : List ℕ) (A : Array) (s : Spot) (before x : ℕ) (fr
         (let short : IsIn k (front ++ (before ∷ [])) = subst (IsIn k) (ap (chain a (view_of a B).keys) same ∙ chain_b0) has in
         let whole : AreLinked a (view_of a A).keys b0 0 ((front ++ (before ∷ [])) ++ (s.block ∷ [])) (1 + b0) 0 =
         subst (λ (blocks : List ℕ). AreLinked a (view_of a A).keys b0 0 blocks (1 + b0) 0) (sym (append_assoc front (before ∷ []) (s.block ∷ []))) whole_old in (
-          subst (λ (c : ℕ). IsIn k (chain a (view_of a A).keys c)) (sym same) (subst (IsIn k) (sym (blocks_are ∙ sym (append_assoc front (before ∷ []) (s.block ∷ [])))) (in_left k (front ++ (before ∷ [])) (s.block ∷ []) short)),
+          subst (λ (c : ℕ). IsIn k (chain a (view_of a A).keys c)) (sym same) (subst (IsIn k) (sym (blocks_are ∙ sym (append_assoc front (before ∷ []) (s.block ∷ [])))) (in_front k (front ++ (before ∷ [])) (s.block ∷ []) short)),
           λ e. not_twice a (view_of a A).keys b0 0 (front ++ (before ∷ [])) (s.block ∷ []) (1 + b0) 0 k whole short (inl (sym e)),
         ))
   ]
@@ -180,7 +180,7 @@ module _ (a : Area) (key : List ℕ) (A : Array) (s : Spot) (before x : ℕ) (fr
     | inr far_bucket ↦ subst (IsIn k) (sym (chain_other a A B b0 before blank region relinks b below far_bucket)) has
     | inl same ↦
         (let list : IsIn k ((front ++ (before ∷ [])) ++ (s.block ∷ [])) = subst (IsIn k) (ap (chain a (view_of a A).keys) same ∙ blocks_are ∙ sym (append_assoc front (before ∷ []) (s.block ∷ []))) has in
-        subst (IsIn k) (sym (ap (chain a (view_of a B).keys) same ∙ chain_b0)) (elim (in_either k (front ++ (before ∷ [])) (s.block ∷ []) list) [
+        subst (IsIn k) (sym (ap (chain a (view_of a B).keys) same ∙ chain_b0)) (elim (in_cases k (front ++ (before ∷ [])) (s.block ∷ []) list) [
           | inl kept ↦ kept
           | inr gone ↦ absurd (elim gone [ inl e ↦ other (sym e) | inr none ↦ none ])
         ]))

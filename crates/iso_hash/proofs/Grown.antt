@@ -1,6 +1,6 @@
 -- A put into a new block behind the last one of a chain: the region stays well formed, and its map gets the value.
-use Rattle.iso_hash.proofs.Words.{◌≡◌, ◌≢◌, ◌⊎◌, ◌↔◌, ◌∙◌, sym, refl, ap, subst, ℕ, ◌+◌, ◌*◌, ◌^◌, ◌<◌, ◌≤◌, true, false, ◌||◌, ◌==◌, not, nat_eq, nat_le, nat_lt, IsTrue, List, [], ◌∷◌, ◌++◌, length, get_or, take, Option, arith, inl, inr, eq-eqb, ne_eqb, length-append, w32, to_be_bytes, list_all, cases_eq, both_ways, and_from, or_left, or_right, or_cases, eqb-true, nat_tests, from_be_bytes-to_be_bytes_4, Area, Spot, Array, merged, put, block_at, bytes_in, store_access, cell_count, keys_mark, key_mark, value_mark, next_mark, word_at, is_zero, is_part, text_of, key_part, value_part, is_unused, key_at, block_with, map_bytes, bit_place, bit_mark, map_bit, set_bit, view_of, buckets, bucket_of, last_position, next_of, is_next, is_linked, chain, hash_map, IsIn, AreLinked, Stands, IsOverflow, HaveValues, IsHashRegion, IsHashArea, new_block, length-block_put, written_block, other_block, bits_with, laid_whole, part_is_part, part_text, zero_part, zeros_are, byte_here, byte_far, head_far, length-block_with, in_block_with}
-use Rattle.iso_hash.proofs.Chains.{placed, block_inside, in_left, in_right, in_either, all_in, distinct, next_in, head_of}
+use Rattle.iso_hash.proofs.Words.{◌≡◌, ◌≢◌, ◌⊎◌, ◌↔◌, ◌∙◌, sym, refl, ap, subst, ℕ, ◌+◌, ◌*◌, ◌^◌, ◌<◌, ◌≤◌, true, false, ◌||◌, ◌==◌, not, nat_eq, nat_le, nat_lt, IsTrue, List, [], ◌∷◌, ◌++◌, length, get_or, take, Option, arith, inl, inr, eq-eqb, ne_eqb, length-append, w32, to_be_bytes, list_all, cases_eq, both_ways, and_from, or_left, or_right, or_cases, eqb-true, nat_tests, from_be_bytes-to_be_bytes_4, Area, Spot, Array, merged, put, block_at, bytes_in, store_access, cell_count, keys_mark, key_mark, value_mark, next_mark, word_at, is_zero, is_part, text_of, key_part, value_part, is_unused, key_at, block_with, map_bytes, bit_place, bit_mark, map_bit, set_bit, view_of, buckets, bucket_of, last_position, next_of, is_next, is_linked, chain, hash_map, IsIn, AreLinked, Stands, IsOverflow, HaveValues, IsHashRegion, IsHashArea, new_block, length-block_put, written_block, other_block, bits_with, laid_whole, part_is_part, part_text, zero_part, zeros_are, byte_here, byte_far, head_far, length-block_with, in_block_with, in_front, in_back, in_cases}
+use Rattle.iso_hash.proofs.Chains.{placed, block_inside, all_in, distinct, next_in, head_of}
 use Rattle.iso_hash.proofs.Gets.{bucket_below}
 use Rattle.iso_hash.proofs.Linking.{chain_of}
 use Rattle.iso_hash.proofs.Moves.{IsSame, Moves, StandsAt, map_put, buckets_at, apart_at}
@@ -59,7 +59,7 @@ module _ (a : Area) (key value : List ℕ) (A : Array) (last place new x : ℕ) 
   b0_below = bucket_below a key area
 
   has_last : IsIn last (chain a (view_of a A).keys b0)
-  has_last = subst (IsIn last) (sym missed.blocks_are) (in_right last missed.front (last ∷ []) (inl refl))
+  has_last = subst (IsIn last) (sym missed.blocks_are) (in_back last missed.front (last ∷ []) (inl refl))
 
   last_some : 0 < last
   last_some = (placed a (view_of a A).keys b0 0 (chain a (view_of a A).keys b0) (1 + b0) 0 last (region.keyed.linked b0 b0_below) has_last).some
@@ -143,8 +143,8 @@ module _ (a : Area) (key value : List ℕ) (A : Array) (last place new x : ℕ) 
   }
 
   -- the chains after the writes
-  in_front : (k : ℕ) → IsIn k missed.front → IsIn k (chain a (view_of a A).keys b0)
-  in_front k has = subst (IsIn k) (sym missed.blocks_are) (in_left k missed.front (last ∷ []) has)
+  front_in : (k : ℕ) → IsIn k missed.front → IsIn k (chain a (view_of a A).keys b0)
+  front_in k has = subst (IsIn k) (sym missed.blocks_are) (in_front k missed.front (last ∷ []) has)
 
   may_follow : is_next a place new ≡ true
   may_follow =
@@ -166,8 +166,8 @@ module _ (a : Area) (key value : List ℕ) (A : Array) (last place new x : ℕ) 
   chain_b0 = chain_of a (view_of a B).keys b0 (missed.front ++ (last ∷ new ∷ [])) linked_b0 (omega (arith, length-append missed.front (last ∷ new ∷ []), few, place_is))
 
   in_list : (k : ℕ) → IsIn k (missed.front ++ (last ∷ new ∷ [])) → IsIn k (chain a (view_of a A).keys b0) ⊎ (k ≡ new)
-  in_list k has = elim (in_either k missed.front (last ∷ new ∷ []) has) [
-    | inl front ↦ inl (in_front k front)
+  in_list k has = elim (in_cases k missed.front (last ∷ new ∷ []) has) [
+    | inl front ↦ inl (front_in k front)
     | inr tail ↦ elim tail [
       | inl e ↦ inl (subst (λ (m : ℕ). IsIn m (chain a (view_of a A).keys b0)) e has_last)
       | inr more ↦ elim more [ inl e ↦ inr (sym e) | inr none ↦ absurd none ]
@@ -185,9 +185,9 @@ module _ (a : Area) (key value : List ℕ) (A : Array) (last place new x : ℕ) 
   ]
 
   to_list : (k : ℕ) → IsIn k (missed.front ++ last ∷ []) → IsIn k (missed.front ++ (last ∷ new ∷ []))
-  to_list k has = elim (in_either k missed.front (last ∷ []) has) [
-    | inl front ↦ in_left k missed.front (last ∷ new ∷ []) front
-    | inr tail ↦ in_right k missed.front (last ∷ new ∷ []) (elim tail [ inl e ↦ inl e | inr none ↦ absurd none ])
+  to_list k has = elim (in_cases k missed.front (last ∷ []) has) [
+    | inl front ↦ in_front k missed.front (last ∷ new ∷ []) front
+    | inr tail ↦ in_back k missed.front (last ∷ new ∷ []) (elim tail [ inl e ↦ inl e | inr none ↦ absurd none ])
   ]
 
   in_old : (b k : ℕ) → b < buckets a → IsIn k (chain a (view_of a A).keys b) → IsIn k (chain a (view_of a B).keys b)
@@ -197,7 +197,7 @@ module _ (a : Area) (key value : List ℕ) (A : Array) (last place new x : ℕ) 
   ]
 
   new_in : IsIn new (chain a (view_of a B).keys b0)
-  new_in = subst (IsIn new) (sym chain_b0) (in_right new missed.front (last ∷ new ∷ []) (inr (inl refl)))
+  new_in = subst (IsIn new) (sym chain_b0) (in_back new missed.front (last ∷ new ∷ []) (inr (inl refl)))
 
   -- the cells of the new block
   key_here : bytes_in (key_mark 0) ((view_of a B).keys new) ≡ key_part key

@@ -1,6 +1,6 @@
 -- One block of a chain gets another next number, and the other linked blocks stay: what stays of the region.
-use Rattle.iso_hash.proofs.Words.{◌≡◌, ◌≢◌, ◌∙◌, sym, refl, ap, subst, ℕ, ◌+◌, ◌<◌, true, ◌==◌, IsTrue, List, [], ◌∷◌, ◌++◌, length, get_or, arith, inl, inr, list_all, cases_eq, Area, Array, merged, block_at, bytes_in, cell_count, keys_mark, key_mark, value_mark, next_mark, word_at, is_zero, is_part, text_of, is_unused, view_of, buckets, last_position, next_of, is_next, is_linked, chain, IsIn, AreLinked, Stands, IsHashRegion, IsHashArea}
-use Rattle.iso_hash.proofs.Chains.{placed, one_bucket, linked_split, linked_join, linked_alike, LinkedAlike, length-chain_from, in_left, not_twice}
+use Rattle.iso_hash.proofs.Words.{◌≡◌, ◌≢◌, ◌∙◌, sym, refl, ap, subst, ℕ, ◌+◌, ◌<◌, true, ◌==◌, IsTrue, List, [], ◌∷◌, ◌++◌, length, get_or, arith, inl, inr, list_all, cases_eq, Area, Array, merged, block_at, bytes_in, cell_count, keys_mark, key_mark, value_mark, next_mark, word_at, is_zero, is_part, text_of, is_unused, view_of, buckets, last_position, next_of, is_next, is_linked, chain, IsIn, AreLinked, Stands, IsHashRegion, IsHashArea, in_front}
+use Rattle.iso_hash.proofs.Chains.{placed, one_bucket, linked_split, linked_join, linked_alike, LinkedAlike, length-chain_from, not_twice}
 use Rattle.iso_hash.proofs.Linking.{chain_of, piece_far, key_far, next_here, relinked}
 use Rattle.iso_hash.proofs.Moves.{IsSame}
 
@@ -41,7 +41,7 @@ module _ (a : Area) (A B : Array) (bucket link : ℕ) (bytes : List ℕ) (region
 
     front_alike : LinkedAlike a (view_of a A).keys (view_of a B).keys bucket front
     front_alike k p has linked =
-        let same = keys_far bucket k is.below (subst (IsIn k) (sym are) (in_left k front (link ∷ tail) has)) (λ e. not_twice a (view_of a A).keys bucket 0 front (link ∷ tail) (1 + bucket) 0 link whole (subst (λ (m : ℕ). IsIn m front) e has) (inl refl)) in
+        let same = keys_far bucket k is.below (subst (IsIn k) (sym are) (in_front k front (link ∷ tail) has)) (λ e. not_twice a (view_of a A).keys bucket 0 front (link ∷ tail) (1 + bucket) 0 link whole (subst (λ (m : ℕ). IsIn m front) e has) (inl refl)) in
         (ap (is_linked a bucket p) same ∙ linked, ap next_of same)
 
     pub linked_anew : (rest : List ℕ) (next : ℕ) → word_at 0 bytes ≡ next → is_next a (0 + length front) next ≡ true → AreLinked a (view_of a B).keys bucket (0 + length front + 1) rest next 0

@@ -17,6 +17,7 @@ pub use Rattle.iso_alloc.proofs.Bits.{bits_with, bits_without}
 pub use Rattle.iso_alloc.proofs.Finding.{ties, not_bytes_eq, found_in, find_append}
 pub use Rattle.iso_alloc.proofs.Laying.{laid_here}
 pub use Rattle.iso_alloc.proofs.Loops.{all_at, all_pass, first_low, first_passes, lowest_alike}
+pub use Rattle.iso_alloc.proofs.Members.{in_front, in_back, in_cases}
 pub use Rattle.iso_model.proofs.Bytes.{length-block_own, length-block_put, length-merged, merged_at, merged_kept, other_block, written_block}
 pub use Rattle.iso_model.specs.Array.{Array, covered, in_span, merged, put}
 pub use Rattle.iso_model.specs.Conflict.{first_from}

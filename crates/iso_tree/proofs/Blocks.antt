@@ -1,21 +1,6 @@
 -- Blocks that are reached once, and the trees that stay as they were.
-use Rattle.iso_tree.proofs.Words.{◌≡◌, ◌⊎◌, ◌∙◌, sym, refl, ap, subst, ℕ, zero, suc, true, false, cond, List, [], ◌∷◌, ◌++◌, inl, inr, flat_map, before, Cell, child_of, Tree, tree_at, nodes_in, put_after, IsApart, IsIn}
+use Rattle.iso_tree.proofs.Words.{◌≡◌, ◌⊎◌, ◌∙◌, sym, refl, ap, subst, ℕ, zero, suc, true, false, cond, List, [], ◌∷◌, ◌++◌, inl, inr, flat_map, before, Cell, child_of, Tree, tree_at, nodes_in, put_after, IsApart, IsIn, in_front, in_back, in_cases}
 use Rattle.iso_tree.proofs.Shapes.{kids, chosen, set_chosen, IsAdded, IsGrown}
-
-pub in_front : (k : ℕ) (xs ys : List ℕ) → IsIn k xs → IsIn k (xs ++ ys)
-in_front k [] ys is = absurd is
-in_front k (x ∷ xs) ys is = elim is [ inl here ↦ inl here | inr later ↦ inr (in_front k xs ys later) ]
-
-pub in_back : (k : ℕ) (xs ys : List ℕ) → IsIn k ys → IsIn k (xs ++ ys)
-in_back k [] ys is = is
-in_back k (x ∷ xs) ys is = inr (in_back k xs ys is)
-
-pub in_cases : (k : ℕ) (xs ys : List ℕ) → IsIn k (xs ++ ys) → IsIn k xs ⊎ IsIn k ys
-in_cases k [] ys is = inr is
-in_cases k (x ∷ xs) ys is = elim is [
-  | inl here ↦ inl (inl here)
-  | inr later ↦ elim (in_cases k xs ys later) [ inl left ↦ inl (inr left) | inr right ↦ inr right ]
-]
 
 pub apart_parts : (xs ys : List ℕ) → IsApart (xs ++ ys) → IsApart xs × IsApart ys × ((k : ℕ) → IsIn k xs → IsIn k ys → ⊥)
 apart_parts [] ys is = (tt, is, λ k left right. absurd left)

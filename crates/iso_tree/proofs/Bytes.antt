@@ -1,5 +1,5 @@
 -- The bytes of a node spell its cells.
-use Rattle.iso_tree.proofs.Words.{◌≡◌, ◌∙◌, sym, refl, ap, subst, ℕ, zero, suc, ◌+◌, ◌-◌, ◌*◌, ◌/◌, ◌%◌, ◌<◌, ◌≤◌, true, List, [], ◌∷◌, ◌++◌, take, drop, length, replicate, arith, inl, inr, flat_map, list_all, cases_eq, append_assoc, take_at, drop_at, length-append, length-replicate, ext_get_or, drop-drop, drop-replicate, Area, Array, merged, put, block_at, bytes_in, store_access, cell_count, keys_end, keys_mark, value_mark, text_of, key_at, key_part, is_zero, FitCells, count_of, Cell, node_bytes, cells_by, used_cells, cells_in, length-merged, merged_at, written_block, other_block, length-part}
+use Rattle.iso_tree.proofs.Words.{◌≡◌, ◌∙◌, sym, refl, ap, subst, ℕ, zero, suc, ◌+◌, ◌-◌, ◌*◌, ◌/◌, ◌%◌, ◌<◌, ◌≤◌, true, List, [], ◌∷◌, ◌++◌, take, drop, length, replicate, arith, inl, inr, flat_map, list_all, cases_eq, append_assoc, take_at, drop_at, length-append, length-replicate, drop-drop, drop-replicate, Area, Array, put, block_at, bytes_in, store_access, cell_count, keys_end, keys_mark, value_mark, text_of, key_at, key_part, is_zero, FitCells, count_of, Cell, node_bytes, cells_by, used_cells, cells_in, written_block, other_block, length-part, laid_whole}
 use Rattle.iso_tree.proofs.Shapes.{write_cells}
 use Rattle.iso_tree.proofs.Splits.{write_here, write_other}
 
@@ -112,11 +112,6 @@ module _ (size level : ℕ) (cs : List Cell) (fit : FitCells cs) (few : length c
       ∙ sym (drop_more (33 * length cs) (33 * (i - length cs)) (values_of size cs)) ∙ ap (drop (33 * (i - length cs))) back in
       ap (λ l. list_all is_zero (take 33 l)) rest ∙ zeros_inside (33 * (i - length cs)) 33 (33 * m)
 
--- a write of a whole block
-pub merged_whole : (old new : List ℕ) → length new ≡ length old → merged [] 0 old new ≡ new
-merged_whole old new same = ext_get_or 0 (merged [] 0 old new) new (length-merged [] 0 old new ∙ sym same)
-    (λ p below. merged_at [] 0 p old new (omega (arith, length-merged [] 0 old new)) same)
-
 pub cell_after : (a : Area) (A : Array) (level block : ℕ) (cs : List Cell) → FitCells cs → length cs ≤ cell_count a.size → 64 * (cell_count a.size + 1) ≡ a.size
     → length (block_at A (a.start + block)) ≡ a.size
     → (k : ℕ) → cells_in a (put A (store_access (a.start + block) [] (node_bytes a.size level cs))) k ≡ write_cells (cells_in a A) (block, level, cs) k
@@ -125,7 +120,7 @@ cell_after a A level block cs fit few fits shape k =
     elim (cases_eq k block) [
       | inl here ↦
           subst (λ (j : ℕ). cells_in a (put A w) j ≡ write_cells (cells_in a A) (block, level, cs) j) (sym here)
-          (ap (used_cells a.size) (written_block A w ∙ merged_whole (block_at A (a.start + block)) (node_bytes a.size level cs) (length-node_bytes a.size level cs fit few fits ∙ sym shape))
+          (ap (used_cells a.size) (written_block A w ∙ laid_whole (block_at A (a.start + block)) (node_bytes a.size level cs) (length-node_bytes a.size level cs fit few fits ∙ sym shape))
           ∙ cells_are a.size level cs fit few ∙ sym (write_here (cells_in a A) level block cs))
       | inr other ↦
           ap (used_cells a.size) (other_block A w (a.start + k) (λ e. other (omega arith))) ∙ sym (write_other (cells_in a A) level block cs k other)

@@ -1,22 +1,39 @@
 -- A removal is local.
-use Rattle.iso_tree.proofs.Words.{◌≡◌, ◌≢◌, ◌∙◌, sym, refl, ap, subst, ℕ, suc, ◌+◌, ◌<◌, ◌≤◌, ◌==◌, Bool, true, false, not, cond, List, [], ◌∷◌, ◌++◌, length, Option, Some, None, Result, Ok, Err, option_map, is_some, arith, inl, inr, eq-eqb, ne_eqb, AllByRecursion, filter, bytes_eq, get, remove, cases_Bool, cases_eq, Area, StoreError, BadKey, Broken, Array, put, own, at_cell, is_key, del_op, block_at, Program, Done, bytes_in, then_do, accesses_of, answer_of, store_access, IsLocal, cell_count, keys_mark, value_mark, is_part, text_of, AreWhole, accesses_then, own_reads, whole_reads, IsCorrect, local_from, IsBlock, FitCells, Cell, cell_of, count_of, node_bytes, is_head, head_mark, Rise, in_range, tree_at, IsOrdered, Descent, AtLeaf, AtBroken, descend, with_head, without_key, edit_leaf, del_at, del_below, del_program, cells_in, root_of, level_of, IsTreeArea, IsTreeRegion, tree_pairs, tree_map, same_ok, found_in}
+use Rattle.iso_tree.proofs.Words.{◌≡◌, ◌≢◌, ◌∙◌, sym, refl, ap, subst, ℕ, ◌+◌, ◌<◌, ◌≤◌, ◌==◌, Bool, true, false, not, cond, List, [], ◌∷◌, ◌++◌, length, Option, Some, None, Result, Ok, Err, option_map, is_some, arith, inl, inr, eq-eqb, ne_eqb, AllByRecursion, filter, bytes_eq, get, remove, cases_Bool, cases_eq, Area, StoreError, BadKey, Broken, Array, put, own, at_cell, is_key, del_op, block_at, Program, Done, bytes_in, then_do, accesses_of, answer_of, store_access, IsLocal, cell_count, keys_mark, value_mark, is_part, text_of, AreWhole, accesses_then, own_reads, whole_reads, IsCorrect, local_from, IsBlock, FitCells, Cell, cell_of, count_of, node_bytes, is_head, head_mark, Rise, in_range, tree_at, IsOrdered, Descent, AtLeaf, AtBroken, descend, with_head, without_key, edit_leaf, del_at, del_below, del_program, cells_in, root_of, level_of, IsTreeArea, IsTreeRegion, tree_pairs, tree_map, same_ok, found_in, length-filter_le, before, RiseAfter}
 use Rattle.iso_tree.proofs.Building.{filter_all}
 use Rattle.iso_tree.proofs.Bytes.{length-node_bytes}
 use Rattle.iso_tree.proofs.Edits.{leaf_of}
-use Rattle.iso_tree.proofs.Filters.{filter_rises}
 use Rattle.iso_tree.proofs.Ending.{order_of, ends_of, answer_at, own_at, found_of}
 use Rattle.iso_tree.proofs.Facts.{head_parts}
 use Rattle.iso_tree.proofs.Fits.{area_block, cells_fit, cells_few, rise_strict}
 use Rattle.iso_tree.proofs.Gets.{descend_reads, map_gets, parts_all}
 use Rattle.iso_tree.proofs.Leaves.{EndsAtLeaf, leaf_rises, HasLanded, lands}
 use Rattle.iso_tree.proofs.Dels.{IsLeafEdit, leaf_written, edit_region, edit_pairs, edit_found, map_without, map_missing}
+use Rattle.iso_tree.proofs.Ranges.{low_of, range_within}
+use Rattle.iso_tree.proofs.Order.{before_trans}
 pub use Rattle.tx_blocks.proofs.Programs.{HasBlocks, whole_append}
 
-filter_few : (p : Cell → Bool) (cs : List Cell) → length (filter p cs) ≤ length cs
-filter_few p [] = omega arith
-filter_few p (c ∷ cs) = let rest = filter_few p cs in elim (p c) as (λ t. length (cond t (c ∷ filter p cs) (filter p cs)) ≤ suc (length cs)) [
-  | true ↦ omega (arith, rest)
-  | false ↦ omega (arith, rest)
+-- A leaf without some of its cells still rises.
+rise_later : (last mid : List ℕ) (high : Option (List ℕ)) (cs : List Cell) → before last mid ≡ true → in_range last high mid ≡ true → RiseAfter mid high cs → RiseAfter last high cs
+rise_later last mid high [] less inside is = tt
+rise_later last mid high (d ∷ ds) less inside is = (before_trans last mid d.0 less is.0, range_within last mid high d.0 (low_of last high mid inside) is.1, is.2)
+
+filter_after : (p : Cell → Bool) (last : List ℕ) (high : Option (List ℕ)) (cs : List Cell) → RiseAfter last high cs → RiseAfter last high (filter p cs)
+filter_after p last high [] is = tt
+filter_after p last high (c ∷ cs) is = elim (p c) as (λ b. RiseAfter last high (cond b (c ∷ filter p cs) (filter p cs))) [
+  | true ↦ (is.0, is.1, filter_after p c.0 high cs is.2)
+  | false ↦ rise_later last c.0 high (filter p cs) is.0 is.1 (filter_after p c.0 high cs is.2)
+]
+
+rise_from_after : (low mid : List ℕ) (high : Option (List ℕ)) (cs : List Cell) → in_range low high mid ≡ true → RiseAfter mid high cs → Rise low high cs
+rise_from_after low mid high [] inside is = tt
+rise_from_after low mid high (d ∷ ds) inside is = (range_within low mid high d.0 (low_of low high mid inside) is.1, is.2)
+
+pub filter_rises : (p : Cell → Bool) (low : List ℕ) (high : Option (List ℕ)) (cs : List Cell) → Rise low high cs → Rise low high (filter p cs)
+filter_rises p low high [] is = tt
+filter_rises p low high (c ∷ cs) is = elim (p c) as (λ b. Rise low high (cond b (c ∷ filter p cs) (filter p cs))) [
+  | true ↦ (is.0, filter_after p c.0 high cs is.1)
+  | false ↦ rise_from_after low c.0 high (filter p cs) is.0 (filter_after p c.0 high cs is.1)
 ]
 
 -- what a removal is to the map
@@ -77,7 +94,7 @@ module _ (a : Area) (key : List ℕ) (A : Array) (area : IsTreeArea a) (region :
   new_fit = filter_all (λ (c : Cell). (length c.0 ≤ 28) × (length c.1 ≡ 33)) (λ c. not (bytes_eq c.0 key)) (cells_in a A at) old_fit
 
   new_few : length cs ≤ cell_count a.size
-  new_few = omega (arith, filter_few (λ c. not (bytes_eq c.0 key)) (cells_in a A at), cells_few a.size 0 (block_at A (a.start + at)) ends.node.keys)
+  new_few = omega (arith, length-filter_le (λ c. not (bytes_eq c.0 key)) (cells_in a A at), cells_few a.size 0 (block_at A (a.start + at)) ends.node.keys)
 
   new_parts : AllByRecursion (λ (c : Cell). is_part 32 c.1 ≡ true) cs
   new_parts = filter_all (λ (c : Cell). is_part 32 c.1 ≡ true) (λ c. not (bytes_eq c.0 key)) (cells_in a A at)
@@ -190,7 +207,7 @@ del_whole_at a key A (AtLeaf path leaf keys x) sized shape landed =
           let few = cells_few a.size 0 (block_at A (a.start + leaf)) landed.node in
           let p : Cell → Bool = λ c. not (bytes_eq c.0 key) in (
             λ write. absurd (Rattle.iso_tree.proofs.Facts.nothing_is write),
-            (λ write. length-node_bytes a.size 0 (without_key key (cells_in a A leaf)) (filter_all (λ (c : Cell). (length c.0 ≤ 28) × (length c.1 ≡ 33)) p (cells_in a A leaf) fit) (omega (arith, filter_few p (cells_in a A leaf), few)) sized.whole ∙ sym long, tt),
+            (λ write. length-node_bytes a.size 0 (without_key key (cells_in a A leaf)) (filter_all (λ (c : Cell). (length c.0 ≤ 28) × (length c.1 ≡ 33)) p (cells_in a A leaf) fit) (omega (arith, length-filter_le p (cells_in a A leaf), few)) sized.whole ∙ sym long, tt),
           ))
     ]
 

@@ -4,6 +4,7 @@ use Rattle.store_model.specs.declared.stores.TxError.TheVariants as error
 use Rattle.iso_tree.proofs.Fits.{length-cells}
 use Rattle.iso_tree.proofs.Growing.{climb_shape, count_same, list_same, take_used}
 use Rattle.iso_tree.proofs.Ways.{counts}
+use Rattle.iso_tree.proofs.Enough.{row_most}
 
 -- THE NODES THAT WERE READ
 used_long : (size : ℕ) (node : List ℕ) (count : ℕ) → IsUsable size node count → length (used_cells size node) ≡ count
@@ -110,13 +111,6 @@ row_taken n (p ∷ path) = elim (cases_eq p.1 n) [
       ∙ ap (λ t. cond t (suc (full_row n (take 0 path))) 0) e ∙ sym row)
 ]
 
-row_short : (n : ℕ) (path : List (ℕ × ℕ)) → full_row n path ≤ length path
-row_short n [] = omega arith
-row_short n (p ∷ path) = elim (p.1 == n) as (λ t. cond t (suc (full_row n path)) 0 ≤ suc (length path)) [
-  | true ↦ (let rest = row_short n path in omega arith)
-  | false ↦ omega arith
-]
-
 need_equal : (n : ℕ) (path : List (ℕ × ℕ)) → full_row n path ≡ length path → need_of n path ≡ full_row n path + 1
 need_equal n path is = ap (λ (t : Bool). full_row n path + cond t 1 0) (eq-eqb (full_row n path) (length path) is)
 
@@ -128,7 +122,7 @@ pub need_taken : (n : ℕ) (path : List (ℕ × ℕ)) → need_of n (take (suc (
 need_taken n path =
     let rows = take (suc (full_row n path)) path in
     let same = row_taken n path in
-    let short = row_short n path in
+    let short = row_most n path in
     elim (cases_eq (full_row n path) (length path)) [
       | inl all ↦
           (let one = need_equal n path all in

@@ -28,7 +28,7 @@ put_blocks n cells key value (suc level) block news =
     after_blocks n key level block (cells block) news p p.second (put_blocks n cells key value level (child_of (child_for key (cells block))) news)
 
 -- FULL NODES
-row_most : (n : ℕ) (path : List (ℕ × ℕ)) → full_row n path ≤ length path
+pub row_most : (n : ℕ) (path : List (ℕ × ℕ)) → full_row n path ≤ length path
 row_most n [] = omega arith
 row_most n (w ∷ path) = let rest = row_most n path in elim (w.1 == n) as (λ t. cond t (suc (full_row n path)) 0 ≤ suc (length path)) [ true ↦ omega arith | false ↦ omega arith ]
 

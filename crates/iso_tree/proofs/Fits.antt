@@ -1,5 +1,5 @@
 -- The cells of a node fit their places, and nodes stay nodes.
-use Rattle.iso_tree.proofs.Words.{◌≡◌, ◌⊎◌, ◌∙◌, sym, refl, ap, subst, ℕ, zero, suc, ◌+◌, ◌*◌, ◌<◌, ◌≤◌, ◌||◌, ◌==◌, Bool, true, List, [], ◌∷◌, length, drop, get_or, arith, inl, inr, AllByRecursion, and_parts, leb-true, cases_Bool, nat_tests, length-take, length-drop, Area, Array, is_block_size, block_at, bytes_in, cell_count, keys_end, keys_mark, key_mark, value_mark, key_at, is_part, are_key_parts, all_at, IsBlock, FitCells, Cell, child_of, count_of, is_node, cells_by, used_cells, node_bytes, Rise, RiseAfter, cells_in, IsNode, AreNodes, IsTreeArea}
+use Rattle.iso_tree.proofs.Words.{◌≡◌, ◌⊎◌, ◌∙◌, sym, refl, ap, subst, ℕ, zero, suc, ◌+◌, ◌*◌, ◌<◌, ◌≤◌, ◌||◌, ◌==◌, Bool, true, List, [], ◌∷◌, length, drop, get_or, arith, inl, inr, AllByRecursion, and_parts, leb-true, cases_Bool, nat_tests, length-take, length-drop, Area, Array, block_at, bytes_in, cell_count, keys_end, keys_mark, key_mark, value_mark, key_at, is_part, are_key_parts, all_at, IsBlock, FitCells, Cell, child_of, count_of, is_node, cells_by, used_cells, node_bytes, Rise, RiseAfter, cells_in, IsNode, AreNodes, IsTreeArea, block_size_is}
 use Rattle.iso_tree.proofs.Bytes.{keys_are, cells_are, unused_values, count_is}
 use Rattle.iso_tree.proofs.Passes.{Strict, StrictFrom, node_passes}
 use Rattle.iso_tree.proofs.Facts.{node_parts}
@@ -13,32 +13,8 @@ one_of size n rest is = elim (cases_Bool (size == n)) [
 block_at_size : (size n : ℕ) → size ≡ n → 64 * (cell_count n + 1) ≡ n → n ≤ 4096 → IsBlock size
 block_at_size size n is whole most = subst IsBlock (sym is) (record { whole = whole; most = most })
 
-size_parts : (size : ℕ) → is_block_size size ≡ true → IsBlock size
-size_parts size is = elim (one_of size 64 _ is) [
-  | inl e ↦ block_at_size size 64 e refl (omega arith)
-  | inr r1 ↦ elim (one_of size 128 _ r1) [
-    | inl e ↦ block_at_size size 128 e refl (omega arith)
-    | inr r2 ↦ elim (one_of size 256 _ r2) [
-      | inl e ↦ block_at_size size 256 e refl (omega arith)
-      | inr r3 ↦ elim (one_of size 512 _ r3) [
-        | inl e ↦ block_at_size size 512 e refl (omega arith)
-        | inr r4 ↦ elim (one_of size 1024 _ r4) [
-          | inl e ↦ block_at_size size 1024 e refl (omega arith)
-          | inr r5 ↦ elim (one_of size 2048 _ r5) [
-            | inl e ↦ block_at_size size 2048 e refl (omega arith)
-            | inr r6 ↦ elim (one_of size 4096 _ r6) [
-              | inl e ↦ block_at_size size 4096 e refl (omega arith)
-              | inr bad ↦ absurd (Rattle.iso_tree.proofs.Facts.nothing_is bad)
-            ]
-          ]
-        ]
-      ]
-    ]
-  ]
-]
-
 pub area_block : (a : Area) → IsTreeArea a → IsBlock a.size
-area_block a area = size_parts a.size area.block_size
+area_block a area = block_size_is a.size area.block_size
 
 -- what holds of each cell
 cells_all : (P : Cell → Type 0) (keys : List ℕ) (value : ℕ → List ℕ) (i m : ℕ) → ((j : ℕ) → i ≤ j → j < i + m → P (key_at keys j, value j)) → AllByRecursion P (cells_by keys value i m)

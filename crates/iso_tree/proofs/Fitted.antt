@@ -1,6 +1,6 @@
 -- A node that gets one more cell, or its two halves, as nodes of the array.
-use Rattle.iso_tree.proofs.Words.{◌≡◌, ◌≢◌, ◌⊎◌, ◌∙◌, sym, refl, ap, subst, ℕ, zero, suc, ◌+◌, ◌<◌, true, false, cond, nat_le, List, [], ◌∷◌, ◌++◌, take, drop, length, Option, Some, None, arith, inl, inr, AllByRecursion, flat_map, take-append-drop, map-append, flat_map-append, Area, Array, put, IsIn, block_at, store_access, cell_count, length-block_put, other_block, Cell, FitCells, IsBlock, child_of, used_cells, node_bytes, Tree, tree_at, nodes_in, IsApart, AreAfter, AreChildren, IsOrdered, Put, first_key, without_first, emptied, half, halves, fit, cells_in, is_part_at, IsNode, AreNodes}
-use Rattle.iso_tree.proofs.Blocks.{in_front, in_back, apart_parts}
+use Rattle.iso_tree.proofs.Words.{◌≡◌, ◌≢◌, ◌⊎◌, ◌∙◌, sym, refl, ap, subst, ℕ, zero, suc, ◌+◌, ◌<◌, true, false, cond, nat_le, List, [], ◌∷◌, ◌++◌, take, drop, length, Option, Some, None, arith, inl, inr, AllByRecursion, flat_map, take-append-drop, map-append, flat_map-append, Area, Array, put, IsIn, block_at, store_access, cell_count, length-block_put, other_block, Cell, FitCells, IsBlock, child_of, used_cells, node_bytes, Tree, tree_at, nodes_in, IsApart, AreAfter, AreChildren, IsOrdered, Put, first_key, without_first, emptied, half, halves, fit, cells_in, is_part_at, IsNode, AreNodes, in_front, in_back}
+use Rattle.iso_tree.proofs.Blocks.{apart_parts}
 use Rattle.iso_tree.proofs.Bytes.{cells_are}
 use Rattle.iso_tree.proofs.Fits.{rise_strict}
 use Rattle.iso_tree.proofs.Order.{all_left, all_right}

@@ -1,20 +1,14 @@
 -- The descent finds what the map of the region has.
-use Rattle.iso_tree.proofs.Words.{◌≡◌, ◌∙◌, sym, refl, ap, subst, ℕ, zero, suc, ◌+◌, ◌-◌, ◌<◌, ◌≤◌, Bool, true, false, ◌&&◌, ◌==◌, cond, List, [], ◌∷◌, ◌++◌, map, Option, Some, None, Result, Ok, Err, option_map, arith, inl, inr, eq-eqb, ne_eqb, AllByRecursion, flat_map, nat_cmp, eq_by_cmp, bytes_eq, slice_cmp, nat_list_cmp_total, nat_list_eq_equiv, get, get-from_entries, and_parts, both_ways, cases_eq, append-nil, Area, StoreError, Broken, Array, or_else, first_from, block_at, AreReads, Program, Done, bytes_in, further_bytes, accesses_of, answer_of, then_do, IsLocal, keys_mark, value_mark, is_part, text_of, key_at, at_cell, is_key, get_op, before, count_of, place_from, place_of, is_child, is_node, Cell, child_of, head_mark, is_head, cells_by, cell_of, in_range, Tree, tree_at, pairs_in, AreAfter, AreChildren, Rise, RiseAfter, IsOrdered, with_head, inner_further, get_below, Descent, AtLeaf, AtBroken, descend, got, get_program, cells_in, root_of, level_of, AreNodes, tree_pairs, IsTreeRegion, tree_map, answer_then, own_reads, whole_reads, reads_then, IsCorrect, local_from, cond_reads, same_ok, found_in, find_append, ties}
-use Rattle.iso_tree.proofs.Shapes.{kids, chosen, child_for}
+use Rattle.iso_tree.proofs.Words.{◌≡◌, ◌∙◌, sym, refl, ap, subst, ℕ, zero, suc, ◌+◌, ◌-◌, ◌<◌, ◌≤◌, Bool, true, false, ◌&&◌, ◌==◌, cond, List, [], ◌∷◌, ◌++◌, map, Option, Some, None, Result, Ok, Err, option_map, arith, inl, inr, eq-eqb, ne_eqb, AllByRecursion, flat_map, nat_cmp, eq_by_cmp, bytes_eq, slice_cmp, nat_list_cmp_total, nat_list_eq_equiv, get, get-from_entries, and_parts, both_ways, cases_eq, append-nil, Area, StoreError, Broken, Array, or_else, first_from, block_at, AreReads, Program, Done, bytes_in, further_bytes, accesses_of, answer_of, then_do, IsLocal, keys_mark, value_mark, is_part, text_of, key_at, at_cell, is_key, get_op, before, count_of, place_from, place_of, is_child, is_node, Cell, child_of, head_mark, is_head, cells_by, cell_of, in_range, Tree, tree_at, pairs_in, AreAfter, AreChildren, Rise, RiseAfter, IsOrdered, with_head, inner_further, get_below, Descent, AtLeaf, AtBroken, descend, got, get_program, cells_in, root_of, level_of, AreNodes, tree_pairs, IsTreeRegion, tree_map, answer_then, own_reads, whole_reads, reads_then, IsCorrect, local_from, cond_reads, same_ok, found_in, find_append, ties, all_append}
+use Rattle.iso_tree.proofs.Shapes.{kids, chosen, child_for, same_some}
 use Rattle.iso_tree.proofs.Finding.{find_outside, at_test}
-use Rattle.iso_tree.proofs.Ranges.{low_of, range_within, range_cut, all_append, all_weaker}
+use Rattle.iso_tree.proofs.Ranges.{low_of, range_within, range_cut, all_weaker}
 use Rattle.iso_tree.proofs.Blocks.{chosen_kid}
 use Rattle.iso_tree.proofs.Climbs.{child_ordered}
 
 or_none : (o : Option (List ℕ)) → or_else o None ≡ o
 or_none None = refl
 or_none (Some x) = refl
-
-none_is : (j : ℕ) → ◌≡◌ {A = Option ℕ} None (Some j) → ⊥
-none_is j e = cc
-
-same_number : (i j : ℕ) → ◌≡◌ {A = Option ℕ} (Some i) (Some j) → i ≡ j
-same_number i j e = cc
 
 -- ORDER
 rise_in_after : (last : List ℕ) (high : Option (List ℕ)) (cs : List Cell) → RiseAfter last high cs → AllByRecursion (λ (pair : List ℕ × List ℕ). in_range last high pair.0 ≡ true) (map (λ c. (c.0, text_of c.1)) cs)
@@ -96,10 +90,10 @@ parts_all P keys value i (suc m) each = (each i (omega arith) (omega arith), par
 
 -- what holds of all cells holds of those found
 pub found_part : (P : List ℕ → Type 0) (keys : List ℕ) (value : ℕ → List ℕ) (test : ℕ → Bool) (i m j : ℕ) → AllByRecursion (λ (c : Cell). P c.1) (cells_by keys value i m) → first_from test i m ≡ Some j → P (value j)
-found_part P keys value test i zero j all e = absurd (none_is j e)
+found_part P keys value test i zero j all e = absurd (cc e)
 found_part P keys value test i (suc m) j all e =
     elim (test i) as (λ b. cond b (Some i) (first_from test (i + 1) m) ≡ Some j → P (value j)) [
-      | true ↦ λ h. subst (λ (k : ℕ). P (value k)) (same_number i j h) all.0
+      | true ↦ λ h. subst (λ (k : ℕ). P (value k)) (same_some i j h) all.0
       | false ↦ λ h. found_part P keys value test (i + 1) m j all.1 h
     ] e
 

@@ -1,6 +1,6 @@
 -- A put that takes new blocks, joined from its parts.
-use Rattle.iso_tree.proofs.Words.{◌≡◌, ◌∙◌, sym, ap, subst, ℕ, suc, ◌+◌, ◌-◌, ◌<◌, ◌≤◌, ◌==◌, Bool, true, false, not, cond, List, [], ◌∷◌, length, map, take, None, Result, Err, arith, nat_lt, filter, range_with_len, nat_tests, Area, StoreError, NoBlocks, TxError, Array, own, block_at, cell_count, value_part, free_count, map_bit, map_mark, Program, Done, bytes_in, look_access, ForSome, Tx, Device, with_accesses, Ran, HasRead, HasRun, IsCause, IsCut, IsAt, at_join, at_look, at_start, ran_at, cut_at_look, read_base, run_from, Cell, nodes_from, ArePathUsable, AreShownUsable, IsUsable, Answer, climb, free_list, full_row, look_again, need_of, put_new, put_writes, with_map, IsTreeArea, at_as}
-use Rattle.iso_tree.proofs.Enlarging.{all_taken, free_same, taken_same}
+use Rattle.iso_tree.proofs.Words.{◌≡◌, ◌∙◌, sym, ap, subst, ℕ, suc, ◌+◌, ◌-◌, ◌<◌, ◌≤◌, ◌==◌, Bool, true, false, not, cond, List, [], ◌∷◌, length, map, take, None, Result, Err, arith, nat_lt, filter, range_with_len, nat_tests, Area, StoreError, NoBlocks, TxError, Array, own, block_at, cell_count, value_part, free_count, map_bit, map_mark, Program, Done, bytes_in, look_access, ForSome, Tx, Device, with_accesses, Ran, HasRead, HasRun, IsCause, IsCut, IsAt, at_join, at_look, at_start, ran_at, cut_at_look, read_base, run_from, Cell, nodes_from, ArePathUsable, AreShownUsable, IsUsable, Answer, climb, free_list, full_row, look_again, need_of, put_new, put_writes, with_map, IsTreeArea, at_as, Up, AreBlocks}
+use Rattle.iso_tree.proofs.Enlarging.{all_taken, blocks_from, free_same, taken_same}
 use Rattle.iso_tree.proofs.Taking.{AreTaken, taken_are}
 use Rattle.iso_tree.proofs.Usable.{shown_same}
 
@@ -27,13 +27,17 @@ module _ (a : Area) (area : IsTreeArea a) (path : List (ℕ × ℕ)) (F : List �
   taken = take (need_of n path) (free_list a first)
 
   module _ (enough : need ≤ free) where
-    pub are : AreTaken a first (need_of n path) taken
+    are : AreTaken a first (need_of n path) taken
     are = let l = area.least in taken_are a first (need_of n path) (omega arith) (omega (arith, need_is, free_are))
 
     pub taken_is : (news : List ℕ) → take need news ≡ take need (filter (λ k. not (map_bit F k)) (range_with_len 1 (blocks - 1))) → take need news ≡ taken
     taken_is news is =
         is ∙ ap (λ (b : ℕ). take need (filter (λ k. not (map_bit F k)) (range_with_len 1 (b - 1)))) blocks_are ∙ sym (taken_same a area F need)
         ∙ ap (λ (k : ℕ). take k (free_list a first)) need_is
+
+    -- the blocks that are taken
+    pub news_are : (news : List ℕ) → take need news ≡ take need (filter (λ k. not (map_bit F k)) (range_with_len 1 (blocks - 1))) → Up 1 (take need news) × AreBlocks a (take need news) × (length (take need news) ≡ need_of n path)
+    news_are news is = let same = taken_is news is in (subst (Up 1) (sym same) are.up, subst (AreBlocks a) (sym same) (blocks_from a taken are.below), ap length same ∙ are.count)
 
   module _ (key value : List ℕ) (t : Tx) where
     abbrev whole : Program Answer

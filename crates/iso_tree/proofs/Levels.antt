@@ -1,7 +1,25 @@
 -- No level of a region comes near the greatest one.
-use Rattle.iso_tree.proofs.Words.{◌≡◌, ◌≢◌, ◌∙◌, sym, refl, ap, subst, ℕ, zero, suc, ◌+◌, ◌-◌, ◌<◌, ◌≤◌, ◌==◌, true, false, cond, List, [], ◌∷◌, length, arith, inl, inr, eq-eqb, ne_eqb, cases_eq, cases_lt, IsIn, Tree, nodes_in, IsApart}
+use Rattle.iso_tree.proofs.Words.{◌≡◌, ◌≢◌, ◌∙◌, sym, refl, ap, subst, ℕ, zero, suc, ◌+◌, ◌-◌, ◌<◌, ◌≤◌, ◌==◌, true, false, cond, List, [], ◌∷◌, length, arith, inl, inr, eq-eqb, ne_eqb, cases_eq, cases_lt, IsIn, Tree, nodes_in, IsApart, ◌++◌, flat_map, length-append}
 use Rattle.iso_tree.proofs.Shapes.{IsSized}
-use Rattle.iso_tree.proofs.Sizes.{doubled, nodes_many}
+
+-- A tree of a level has at least 2 to that level nodes: no level of a region comes near 31.
+unfoldable pub doubled : (level : ℕ) → ℕ
+doubled zero = 1
+doubled (suc level) = doubled level + doubled level
+
+pub nodes_many : (n level : ℕ) (t : Tree level) → IsSized n level t → doubled level ≤ length (nodes_in level t)
+unfolding doubled
+nodes_many n zero t is = omega arith
+nodes_many n (suc level) (block, []) is = absurd (omega (arith, is.0))
+nodes_many n (suc level) (block, c ∷ []) is = absurd (omega (arith, is.0))
+nodes_many n (suc level) (block, c ∷ d ∷ ds) is =
+    omega (
+      arith,
+      nodes_many n level c.1 is.2.0.1,
+      nodes_many n level d.1 is.2.1.0.1,
+      length-append (nodes_in level c.1) (nodes_in level d.1 ++ flat_map (λ c. nodes_in level c.1) ds),
+      length-append (nodes_in level d.1) (flat_map (λ c. nodes_in level c.1) ds),
+    )
 
 abbrev without : (m : ℕ) → List ℕ → List ℕ
 without m [] = []

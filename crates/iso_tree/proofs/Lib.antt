@@ -15,7 +15,6 @@ pub mod Descending
 pub mod Gets
 pub mod Getting
 pub mod Edits
-pub mod Filters
 pub mod Bytes
 pub mod Passes
 mod Passing
@@ -27,7 +26,6 @@ pub mod Dels
 pub mod DelCalls
 pub mod Removing
 pub mod Ways
-pub mod Sizes
 pub mod Stored
 pub mod Fitted
 pub mod Putting
@@ -49,7 +47,6 @@ pub mod TakingLoop
 pub mod Rereading
 pub mod Growing
 pub mod Usable
-pub mod Heads
 pub mod FirstWrite
 pub mod Enlarging
 pub mod Joining

@@ -1,5 +1,5 @@
 -- Keys in a node: cutting a row of children in two, and putting two in place of one.
-use Rattle.iso_tree.proofs.Words.{◌≡◌, ◌≢◌, ◌∙◌, sym, refl, ap, subst, ℕ, suc, ◌+◌, true, false, not, cond, IsTrue, List, [], ◌∷◌, ◌++◌, length, Option, Some, None, arith, inl, inr, AllByRecursion, flat_map, nat_cmp, is_lt, Less, Equal, Greater, slice_cmp, nat_list_cmp_total, slice_cmp-IsAntisymmetric, nat_cmp-IsAntisymmetric, and_from, and_parts, cases_Bool, both_ways, append_assoc, append-nil, length-append, flat_map-append, before, Cell, in_range, AreAfter, RiseAfter, Rise, put_after}
+use Rattle.iso_tree.proofs.Words.{◌≡◌, ◌≢◌, ◌∙◌, sym, refl, ap, subst, ℕ, suc, ◌+◌, true, false, not, cond, IsTrue, List, [], ◌∷◌, ◌++◌, length, Option, Some, None, arith, inl, inr, AllByRecursion, flat_map, nat_cmp, is_lt, Less, Equal, Greater, slice_cmp, nat_list_cmp_total, slice_cmp-IsAntisymmetric, nat_cmp-IsAntisymmetric, and_from, and_parts, cases_Bool, both_ways, append_assoc, append-nil, length-append, flat_map-append, before, Cell, in_range, AreAfter, RiseAfter, Rise, put_after, all_append}
 use Rattle.iso_tree.proofs.Shapes.{AreFrom, chosen, set_chosen, IsAdded, IsGrown}
 use Rattle.iso_tree.proofs.Ranges.{before_through, after_not, low_of, range_within, range_cut}
 
@@ -202,10 +202,6 @@ all_put_after P key new (d ∷ ds) is all = elim (before key d.0) as (λ b. AllB
   | false ↦ (all.0, all_put_after P key new ds is all.1)
 ]
 
-pub all_both : {X : Type 0} (P : X → Type 0) (xs ys : List X) → AllByRecursion P xs → AllByRecursion P ys → AllByRecursion P (xs ++ ys)
-all_both P [] ys all more = more
-all_both P (x ∷ xs) ys all more = (all.0, all_both P xs ys all.1 more)
-
 pub all_left : {X : Type 0} (P : X → Type 0) (xs ys : List X) → AllByRecursion P (xs ++ ys) → AllByRecursion P xs
 all_left P [] ys all = tt
 all_left P (x ∷ xs) ys all = (all.0, all_left P xs ys all.1)
@@ -219,7 +215,7 @@ pub set_all : {X : Type 0} (P : List ℕ × X → Type 0) (key : List ℕ) (t : 
     → AllByRecursion P (set_chosen key t more c cs)
 set_all P key t more c [] all put rest = (put c.0 c.1 all.0, rest)
 set_all P key t more c (d ∷ ds) all put rest = elim (before key d.0) as (λ b. AllByRecursion P (cond b ((c.0, t) ∷ more ++ d ∷ ds) (c ∷ set_chosen key t more d ds))) [
-  | true ↦ (put c.0 c.1 all.0, all_both P more (d ∷ ds) rest all.1)
+  | true ↦ (put c.0 c.1 all.0, all_append P more (d ∷ ds) rest all.1)
   | false ↦ (all.0, set_all P key t more d ds all.1 put rest)
 ]
 

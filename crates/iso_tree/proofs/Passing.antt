@@ -1,5 +1,5 @@
 -- The cells of a node that are seen in one walk.
-use Rattle.iso_tree.proofs.Words.{◌≡◌, ◌≢◌, ◌∙◌, sym, refl, ℕ, zero, suc, ◌+◌, ◌-◌, ◌<◌, ◌≤◌, Bool, true, false, ◌&&◌, ◌||◌, ◌==◌, cond, List, arith, and_parts, all_at, all_from, nat_lt, bytes_in, key_mark, is_part, is_unused, key_at, before, cases_eq, inl, inr, eq-eqb, get_or, text_of}
+use Rattle.iso_tree.proofs.Words.{◌≡◌, ◌≢◌, ◌∙◌, sym, refl, ℕ, zero, suc, ◌+◌, ◌-◌, ◌<◌, ◌≤◌, Bool, true, false, ◌&&◌, ◌||◌, ◌==◌, cond, List, arith, and_parts, all_at, all_from, nat_lt, bytes_in, key_mark, is_part, is_unused, key_at, before, cases_eq, inl, inr, eq-eqb, get_or, text_of, all_pass}
 
 -- whether a cell is as it has to be, where the first `count` are used
 abbrev pub fits_in : List ℕ → (count : ℕ) → (cell : ℕ) → Bool
@@ -11,11 +11,6 @@ same_truth true true there back = refl
 same_truth true false there back = sym (there refl)
 same_truth false true there back = back refl
 same_truth false false there back = refl
-
--- all numbers from one on pass where each of them does
-all_pass : (test : ℕ → Bool) (from n : ℕ) → ((i : ℕ) → from ≤ i → i < from + n → test i ≡ true) → all_from test from n ≡ true
-all_pass test from zero each = refl
-all_pass test from (suc n) each = rw (each from (omega arith) (omega arith)) (all_pass test (from + 1) n (λ i low high. each i (omega arith) (omega arith)))
 
 pub one_walk : (keys : List ℕ) (n count : ℕ) → count ≤ n
     → all_from (fits_in keys count) 0 n ≡ (all_from (λ i. is_part 28 (bytes_in (key_mark i) keys)) 0 n

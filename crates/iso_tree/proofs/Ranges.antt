@@ -1,5 +1,6 @@
 -- Keys in the order of bytes, and ranges of keys.
-use Rattle.iso_tree.proofs.Words.{◌≡◌, ◌∙◌, sym, refl, ap, ℕ, Bool, true, false, not, List, [], ◌∷◌, ◌++◌, Option, Some, None, inl, inr, AllByRecursion, nat_cmp, is_lt, ordering_reverse, Ordering, Less, Equal, Greater, slice_cmp, nat_list_cmp_total, and_from, and_parts, cases_Bool, both_ways, before, in_range}
+use Rattle.iso_tree.proofs.Words.{◌≡◌, ◌∙◌, sym, refl, ap, ℕ, Bool, true, false, not, List, [], ◌∷◌, Option, Some, None, inl, inr, AllByRecursion, nat_cmp, is_lt, ordering_reverse, Ordering, Less, Equal, Greater, slice_cmp, nat_list_cmp_total, and_from, and_parts, cases_Bool, both_ways, before, in_range}
+pub use Rattle.iso_model.proofs.Worlds.{all_append}
 
 less_only : (o : Ordering) → is_lt o ≡ true → o ≡ Less
 less_only Less e = refl
@@ -57,10 +58,6 @@ range_cut low end (Some high) key inside is =
     let parts = and_parts _ _ is in
     let more = and_parts _ _ inside in
     and_from _ _ parts.0 (before_through key end high parts.1 (after_not end high more.1))
-
-pub all_append : {X : Type 0} (P : X → Type 0) (xs ys : List X) → AllByRecursion P xs → AllByRecursion P ys → AllByRecursion P (xs ++ ys)
-all_append P [] ys all more = more
-all_append P (x ∷ xs) ys all more = (all.0, all_append P xs ys all.1 more)
 
 pub all_weaker : {X : Type 0} (P Q : X → Type 0) (xs : List X) → ((x : X) → P x → Q x) → AllByRecursion P xs → AllByRecursion Q xs
 all_weaker P Q [] h all = tt

@@ -1,8 +1,8 @@
 -- A scan is that of the region's map.
-use Rattle.iso_tree.proofs.Words.{◌≡◌, ◌∙◌, sym, ap, subst, ℕ, Bool, true, false, ◌&&◌, ◌==◌, cond, List, [], take, None, Result, Ok, Err, IfOk, inl, inr, eq-eqb, ne_eqb, entries, and_from, cases_eq, Access, Area, StoreError, BadKey, Broken, Array, own, is_key, AreReads, Program, Done, accesses_of, answer_of, IsLocal, Tx, HasRun, IsLocalCall, own_reads, whole_reads, IsCorrect, local_from, whole_run, tree_at, pairs_in, IsOrdered, scan_below, scan_from, scan_program, with_head, Scanned, cells_in, root_of, level_of, scan_op, tree_map, tree_pairs, AreNodes, IsTreeRegion, cond_reads, same_ok}
+use Rattle.iso_tree.proofs.Words.{◌≡◌, ◌∙◌, sym, ap, subst, ℕ, Bool, true, false, ◌&&◌, ◌==◌, cond, List, [], take, None, Result, Ok, Err, IfOk, inl, inr, eq-eqb, ne_eqb, entries, and_from, cases_eq, Access, Area, StoreError, BadKey, Broken, Array, own, is_key, AreReads, Program, Done, accesses_of, answer_of, IsLocal, Tx, HasRun, IsLocalCall, own_reads, whole_reads, IsCorrect, local_from, whole_run, tree_at, pairs_in, IsOrdered, scan_below, scan_from, scan_program, with_head, Scanned, cells_in, root_of, level_of, scan_op, tree_map, tree_pairs, AreNodes, IsTreeRegion, cond_reads, same_ok, take-nil}
 use Rattle.iso_tree.proofs.Gets.{head_reads}
 use Rattle.iso_tree.proofs.Scans.{within}
-use Rattle.iso_tree.proofs.ScanTrees.{scan_finds, scan_reads, take_nil}
+use Rattle.iso_tree.proofs.ScanTrees.{scan_finds, scan_reads}
 use Rattle.iso_tree.proofs.Sorted.{sorted, entries_are, tree_sorted}
 
 -- what is wanted of an empty tree, and below a root
@@ -33,7 +33,7 @@ module _ (a : Area) (A : Array) (region : IsTreeRegion a A) where
         | inl empty ↦
             (let test : (root == 0) ≡ true = eq-eqb root 0 empty in
             ap (λ (t : Bool). answer_of (cond t (Done (Ok [])) (scan_from a from to level root most)) A) test
-            ∙ ap (λ l. Ok l) (sym (wanted ∙ ap (λ (t : Bool). take most (within from to (cond t [] below))) test ∙ take_nil most)))
+            ∙ ap (λ l. Ok l) (sym (wanted ∙ ap (λ (t : Bool). take most (within from to (cond t [] below))) test ∙ take-nil most)))
         | inr some ↦
             (let test : (root == 0) ≡ false = ne_eqb root 0 some in
             let nodes : AreNodes a A level root = elim region.nodes [ inl empty ↦ absurd (some empty) | inr is ↦ is ] in

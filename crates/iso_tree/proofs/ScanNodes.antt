@@ -8,13 +8,6 @@ pub below_same : (key keys : List ℕ) (value : ℕ → List ℕ) (i n : ℕ) �
 below_same key keys value i zero = refl
 below_same key keys value i (suc n) = ap (λ (k : ℕ). cond (before (key_at keys i) key) (suc k) 0) (below_same key keys value (i + 1) n)
 
-pub below_few : (key keys : List ℕ) (i n : ℕ) → below_from key keys i n ≤ n
-below_few key keys i zero = omega arith
-below_few key keys i (suc n) = elim (before (key_at keys i) key) as (λ t. cond t (suc (below_from key keys (i + 1) n)) 0 ≤ suc n) [
-  | true ↦ (let rest = below_few key keys (i + 1) n in omega arith)
-  | false ↦ omega arith
-]
-
 pub place_same : (key keys : List ℕ) (value : ℕ → List ℕ) (j i n : ℕ) → i ≡ j + 1 → place_from key keys j i n ≡ j + upto_list key (cells_by keys value i n)
 place_same key keys value j i zero next = omega arith
 place_same key keys value j i (suc n) next =

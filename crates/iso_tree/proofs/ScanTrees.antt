@@ -1,17 +1,12 @@
 -- A scan finds the first pairs of its range.
-use Rattle.iso_tree.proofs.Words.{◌≡◌, ◌∙◌, sym, refl, ap, subst, ℕ, zero, suc, ◌+◌, ◌-◌, ◌<◌, ◌≤◌, Bool, true, ◌&&◌, cond, List, [], ◌∷◌, ◌++◌, length, map, take, drop, Option, Some, Ok, Err, arith, AllByRecursion, flat_map, list_all, and_from, append-nil, Area, Broken, Array, own, block_at, AreReads, Program, Done, bytes_in, further_bytes, accesses_of, answer_of, is_part, key_at, keys_mark, value_mark, accesses_then, answer_then, own_reads, reads_append, below_from, cells_by, count_of, is_child, is_node, place_from, Cell, child_of, tree_at, pairs_in, AreAfter, AreChildren, IsOrdered, and_then, first_in, many_in, parts_of, pairs_with, scan_children, scan_from, scan_further, Scanned, cells_in, AreNodes, cond_reads}
+use Rattle.iso_tree.proofs.Words.{◌≡◌, ◌∙◌, sym, refl, ap, subst, ℕ, zero, suc, ◌+◌, ◌-◌, ◌<◌, ◌≤◌, Bool, true, ◌&&◌, cond, List, [], ◌∷◌, ◌++◌, length, map, take, drop, Option, Some, Ok, Err, arith, AllByRecursion, flat_map, list_all, and_from, append-nil, Area, Broken, Array, own, block_at, AreReads, Program, Done, bytes_in, further_bytes, accesses_of, answer_of, is_part, key_at, keys_mark, value_mark, accesses_then, answer_then, own_reads, reads_append, below_from, cells_by, count_of, is_child, is_node, place_from, Cell, child_of, tree_at, pairs_in, AreAfter, AreChildren, IsOrdered, and_then, first_in, many_in, parts_of, pairs_with, scan_children, scan_from, scan_further, Scanned, cells_in, AreNodes, cond_reads, row_less, take-nil}
 use Rattle.std.proofs.Common.{append_assoc}
 use Rattle.iso_tree.proofs.Edits.{leaf_pairs}
 use Rattle.iso_tree.proofs.Enlarging.{all_taken}
 use Rattle.iso_tree.proofs.Gets.{ordered_in}
-use Rattle.iso_tree.proofs.ScanNodes.{below_same, below_few, place_same, upto_few, cells_cut, values_are, pairs_are, parts_hold}
+use Rattle.iso_tree.proofs.ScanNodes.{below_same, place_same, upto_few, cells_cut, values_are, pairs_are, parts_hold}
 use Rattle.iso_tree.proofs.Scans.{within, below_list, upto_list, row_within, visited}
 use Rattle.iso_tree.proofs.Shapes.{kids}
-
--- CHILDREN IN TURN
-pub take_nil : {X : Type 0} (n : ℕ) → ◌≡◌ {A = List X} (take n []) []
-take_nil zero = refl
-take_nil (suc n) = refl
 
 pub take_zero : {X : Type 0} (xs : List X) → ◌≡◌ {A = List X} (take 0 xs) []
 take_zero [] = refl
@@ -67,7 +62,7 @@ Finds scan A g c = (most : ℕ) → answer_of (scan (child_of c.1) most) A ≡ O
 
 children_find : (scan : ℕ → ℕ → Program Scanned) (A : Array) (g : ℕ → List (List ℕ × List ℕ)) → ((child most : ℕ) → AreReads (accesses_of (scan child most) A)) → (cs : List Cell) (most : ℕ) (found : List (List ℕ × List ℕ)) → AllByRecursion (Finds scan A g) cs
     → answer_of (scan_children scan (map child_of (map (λ c. c.1) cs)) most found) A ≡ Ok (found ++ take most (flat_map (λ c. g (child_of c.1)) cs))
-children_find scan A g reads [] most found all = ap (λ l. Ok l) (sym (ap (λ l. found ++ l) (take_nil most) ∙ append-nil found))
+children_find scan A g reads [] most found all = ap (λ l. Ok l) (sym (ap (λ l. found ++ l) (take-nil most) ∙ append-nil found))
 children_find scan A g reads (c ∷ cs) zero found all = ap (λ l. Ok l) (sym (ap (λ l. found ++ l) (take_zero (flat_map (λ c. g (child_of c.1)) (c ∷ cs))) ∙ append-nil found))
 children_find scan A g reads (c ∷ cs) (suc most) found all =
     let p = scan (child_of c.1) (suc most) in
@@ -129,7 +124,7 @@ visited_are cells level from to low high keys value (suc m) order =
     let place : place_from from keys 0 1 m ≡ u = place_same from keys value 0 1 m refl ∙ (let e : 0 + u ≡ u = omega arith in e) in
     let below : below_from to keys 1 m ≡ b = below_same to keys value 1 m in
     let few_u : u ≤ m = upto_few from keys value 1 m in
-    let few_b : b ≤ m = subst (λ (k : ℕ). k ≤ m) below (below_few to keys 1 m) in
+    let few_b : b ≤ m = subst (λ (k : ℕ). k ≤ m) below (row_less to keys 1 m) in
     let after = after_kids cells level [] low high c.1 cs order.1 in
     let f : List ℕ → List (List ℕ × List ℕ) = λ part. pairs_in level (tree_at cells level (child_of part)) in
     let cut : take (1 + b - u) (drop u (c ∷ cs)) ≡ cells_by keys value u (1 + b - u) = cells_cut keys value u (1 + b - u) (suc m) (omega arith) in
@@ -153,8 +148,8 @@ scan_finds a from to A zero block most low high nodes order =
     let n = count_of K in
     let first = first_in zero from K in
     let many = many_in zero from to K in
-    let few_f = below_few from K 0 n in
-    let few_t = below_few to K 0 n in
+    let few_f = row_less from K 0 n in
+    let few_t = row_less to K 0 n in
     let parts = parts_of (further_bytes (scan_further a 0 from to K) B) many in
     let vals = values_are a 0 from to K B nodes.keys in
     let good : (is_node a.size 0 K && list_all (is_part 32) parts) ≡ true =

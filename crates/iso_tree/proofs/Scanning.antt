@@ -188,6 +188,10 @@ head_scanned a next t u v x result ran rest = scanned_from (with_head a next) (n
 
 -- THE WALK
 module _ (a : Area) (from to : List ℕ) (whole : Program Scanned) (t u : Tx) where
+  -- a node is next
+  pub at_next : (nodes : List (ℕ × ℕ)) (first : ℕ × ℕ) (rest : List (ℕ × ℕ)) (left : ℕ) (found : List (List ℕ × List ℕ)) → nodes ≡ first ∷ rest → IsAt whole (scan_nodes a from to nodes left found) t u → IsAt whole (scan_nodes a from to (first ∷ rest) left found) t u
+  at_next nodes first rest left found is now = subst (λ (ns : List (ℕ × ℕ)). IsAt whole (scan_nodes a from to ns left found) t u) is now
+
   -- no node is left, or as many pairs as are wanted are found
   pub walk_ends : (nodes : List (ℕ × ℕ)) (left : ℕ) (found : List (List ℕ × List ℕ)) → IsAt whole (scan_nodes a from to nodes left found) t u → nodes ≡ [] → Ran whole t u (Ok found)
   walk_ends nodes left found now none = ran_at whole t u (Ok found) (at_as whole _ _ t u (ap (λ (ns : List (ℕ × ℕ)). scan_nodes a from to ns left found) none) now)

@@ -1,7 +1,7 @@
 -- The array after unmarked writes of nodes, and the nodes that stay as they were.
-use Rattle.iso_tree.proofs.Words.{◌≡◌, ◌⊎◌, ◌∙◌, sym, refl, ap, subst, ℕ, zero, suc, ◌+◌, ◌<◌, ◌≤◌, true, false, List, [], ◌∷◌, ◌++◌, map, length, arith, inl, inr, AllByRecursion, flat_map, Area, Array, put, own, IsIn, block_at, Done, bytes_in, store_access, accesses_of, cell_count, keys_mark, value_mark, length-block_put, written_block, other_block, Cell, FitCells, IsBlock, child_of, count_of, is_node, used_cells, node_bytes, tree_at, nodes_in, IsApart, first_key, store_nodes, cells_in, is_part_at, IsNode, AreNodes}
-use Rattle.iso_tree.proofs.Blocks.{in_front, in_back, apart_parts, chosen_in}
-use Rattle.iso_tree.proofs.Bytes.{keys_are, cells_are, unused_values, count_is, length-node_bytes, merged_whole}
+use Rattle.iso_tree.proofs.Words.{◌≡◌, ◌⊎◌, ◌∙◌, sym, refl, ap, subst, ℕ, zero, suc, ◌+◌, ◌<◌, ◌≤◌, true, false, List, [], ◌∷◌, ◌++◌, map, length, arith, inl, inr, AllByRecursion, flat_map, Area, Array, put, own, IsIn, block_at, Done, bytes_in, store_access, accesses_of, cell_count, keys_mark, value_mark, length-block_put, written_block, other_block, Cell, FitCells, IsBlock, child_of, count_of, is_node, used_cells, node_bytes, tree_at, nodes_in, IsApart, first_key, store_nodes, cells_in, is_part_at, IsNode, AreNodes, laid_whole, in_front, in_back}
+use Rattle.iso_tree.proofs.Blocks.{apart_parts, chosen_in}
+use Rattle.iso_tree.proofs.Bytes.{keys_are, cells_are, unused_values, count_is, length-node_bytes}
 use Rattle.iso_tree.proofs.Fits.{cells_at}
 use Rattle.iso_tree.proofs.Passes.{Strict, node_passes}
 use Rattle.iso_tree.proofs.Shapes.{kids, chosen, written}
@@ -49,7 +49,7 @@ pub block_written : (a : Area) (A : Array) (block level : ℕ) (cs : List Cell) 
     → block_at (put A (store_access (a.start + block) [] (node_bytes a.size level cs))) (a.start + block) ≡ node_bytes a.size level cs
 block_written a A block level cs sized fit few long =
     written_block A (store_access (a.start + block) [] (node_bytes a.size level cs))
-    ∙ merged_whole (block_at A (a.start + block)) (node_bytes a.size level cs) (length-node_bytes a.size level cs fit few sized.whole ∙ sym long)
+    ∙ laid_whole (block_at A (a.start + block)) (node_bytes a.size level cs) (length-node_bytes a.size level cs fit few sized.whole ∙ sym long)
 
 -- NODES THAT STAY
 module _ (a : Area) (A B : Array) where

@@ -1,5 +1,5 @@
 -- The free blocks that a put takes.
-use Rattle.iso_tree.proofs.Words.{◌≡◌, refl, subst, ℕ, zero, suc, ◌+◌, ◌-◌, ◌<◌, ◌≤◌, Bool, true, false, not, cond, List, [], ◌∷◌, take, length, arith, inl, inr, filter, range_with_len, length-take-le, Area, IsIn, map_bit, free_count, IsApart, free_list, Up}
+use Rattle.iso_tree.proofs.Words.{◌≡◌, refl, subst, ℕ, zero, suc, ◌+◌, ◌-◌, ◌<◌, ◌≤◌, Bool, true, false, not, cond, List, [], ◌∷◌, take, length, arith, inl, inr, filter, range_with_len, length-take-le, Area, IsIn, map_bit, free_count, IsApart, free_list, Up, free_are}
 use Rattle.iso_tree.proofs.MapBits.{up_in}
 
 up_less : (low mid : ℕ) (xs : List ℕ) → low ≤ mid → Up mid xs → Up low xs
@@ -55,15 +55,6 @@ pub up_apart : (low : ℕ) (xs : List ℕ) → Up low xs → IsApart xs
 up_apart low [] up = tt
 up_apart low (x ∷ xs) up = (λ is. absurd (omega (arith, up_in (suc x) xs x up.1 is)), up_apart (suc x) xs up.1)
 
-pub length-free : (first : List ℕ) (from n : ℕ) → length (filter (λ k. not (map_bit first k)) (range_with_len from n)) ≡ free_count first from n
-length-free first from zero = refl
-length-free first from (suc n) =
-    let rest = length-free first (from + 1) n in
-    elim (map_bit first from) as (λ t. length (cond (not t) (from ∷ filter (λ k. not (map_bit first k)) (range_with_len (from + 1) n)) (filter (λ k. not (map_bit first k)) (range_with_len (from + 1) n))) ≡ cond t 0 1 + free_count first (from + 1) n) [
-      | true ↦ omega arith
-      | false ↦ omega arith
-    ]
-
 -- the blocks taken: they rise, are free, and are as many as are needed
 pub record AreTaken (a : Area) (first : List ℕ) (need : ℕ) (taken : List ℕ) : Type 0 where
   pub up : Up 1 taken
@@ -78,7 +69,7 @@ taken_are a first need some enough =
     let of : (k : ℕ) → IsIn k (take need (free_list a first)) → IsOf p 1 (a.blocks - 1) k = λ k is. in_filter p 1 (a.blocks - 1) k (in_take need k (free_list a first) is) in
     record {
       up = up_take 1 need (free_list a first) (up_filter p 1 (a.blocks - 1));
-      count = length-take-le need (free_list a first) (omega (arith, length-free first 1 (a.blocks - 1)));
+      count = length-take-le need (free_list a first) (omega (arith, free_are first 1 (a.blocks - 1)));
       past = λ k is. (of k is).low;
       below = λ k is. (let h = (of k is).high in omega arith);
       free = λ k is. not_true (map_bit first k) (of k is).passes;

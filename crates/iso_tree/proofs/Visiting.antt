@@ -1,10 +1,10 @@
 -- The read of a node that a scan visits, and what follows from its bytes.
-use Rattle.iso_tree.proofs.Words.{◌≡◌, ◌∙◌, sym, refl, ap, ℕ, zero, suc, ◌+◌, ◌-◌, ◌*◌, ◌<◌, ◌≤◌, ◌&&◌, ◌==◌, not, Bool, true, false, cond, List, [], ◌∷◌, ◌++◌, length, take, drop, slice_index, nat_le, Option, Some, None, Ok, Err, arith, inl, inr, eq-eqb, ne_eqb, list_all, AllByRecursion, ForSome, and_parts, cases_eq, leb-true, append-nil, drop-drop, Access, Span, Area, TxError, own, marked, block_at, Done, bytes_in, further_bytes, with_further, look_access, is_part, is_zero, key_at, keys_mark, text_of, is_child, is_node, child_of, first_in, many_in, pairs_with, parts_of, scan_further, is_part_at, Tx, Device, with_accesses, Ran, IsCause, IsCut, marked_access, at_start, cut_at_look, keys_of, node_read, values_mark, visit_program, are_key_parts, cell_count, count_of}
+use Rattle.iso_tree.proofs.Words.{◌≡◌, ◌∙◌, sym, refl, ap, ℕ, zero, suc, ◌+◌, ◌-◌, ◌*◌, ◌<◌, ◌≤◌, ◌&&◌, ◌==◌, not, Bool, true, false, cond, List, [], ◌∷◌, ◌++◌, length, take, drop, slice_index, nat_le, Option, Some, None, Ok, Err, arith, inl, inr, eq-eqb, ne_eqb, list_all, AllByRecursion, ForSome, and_parts, cases_eq, leb-true, append-nil, drop-drop, Access, Span, Area, TxError, own, marked, block_at, Done, bytes_in, further_bytes, with_further, look_access, is_part, is_zero, key_at, keys_mark, text_of, is_child, is_node, child_of, first_in, many_in, pairs_with, parts_of, scan_further, is_part_at, Tx, Device, with_accesses, Ran, IsCause, IsCut, marked_access, at_start, cut_at_look, keys_of, node_read, values_mark, visit_program, are_key_parts, cell_count, count_of, take-nil}
 use Rattle.std.proofs.Common.{append_assoc, length-append}
 use Rattle.store_model.specs.declared.stores.StoreError.TheVariants as store
 use Rattle.iso_tree.proofs.Facts.{child_below, inner_many, node_parts}
 use Rattle.iso_tree.proofs.Looking.{looked, looked_so}
-use Rattle.iso_tree.proofs.ScanTrees.{take_nil, take_zero}
+use Rattle.iso_tree.proofs.ScanTrees.{take_zero}
 
 -- whether a value part is that of a cell of an inner node
 pub inner_part : (a : Area) (level : ℕ) (part : List ℕ) → (level ≡ 0 → ⊥) → is_part_at a level part ≡ is_child a.blocks part
@@ -130,7 +130,7 @@ pairs_step keys values first i many max found now below few added =
 pub pairs_end : (keys values : List ℕ) (first i many max : ℕ) (found : List (List ℕ × List ℕ)) → many ≤ i
     → found ++ take (max - length found) (pairs_with keys (first + i) (parts_of (drop (33 * i) values) (many - i))) ≡ found
 pairs_end keys values first i many max found all =
-    ap (λ ps. found ++ take (max - length found) (pairs_with keys (first + i) ps)) (parts_last (drop (33 * i) values) i many all) ∙ ap (λ l. found ++ l) (take_nil (max - length found)) ∙ append-nil found
+    ap (λ ps. found ++ take (max - length found) (pairs_with keys (first + i) ps)) (parts_last (drop (33 * i) values) i many all) ∙ ap (λ l. found ++ l) (take-nil (max - length found)) ∙ append-nil found
 
 pub pairs_begin : (keys values : List ℕ) (first many max : ℕ) (found : List (List ℕ × List ℕ))
     → found ++ take (max - length found) (pairs_with keys (first + 0) (parts_of (drop (33 * 0) values) (many - 0))) ≡ found ++ take (max - length found) (pairs_with keys first (parts_of values many))

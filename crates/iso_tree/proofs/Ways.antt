@@ -1,8 +1,7 @@
 -- The way up of a put over the path of its descent is the put below the root.
-use Rattle.iso_tree.proofs.Words.{◌≡◌, ◌∙◌, sym, refl, ap, ℕ, zero, suc, ◌<◌, ◌≤◌, true, ◌&&◌, ◌==◌, cond, nat_le, List, [], ◌∷◌, ◌++◌, take, length, map, Option, Some, None, arith, inl, inr, eq-eqb, AllByRecursion, cases_eq, nat_tests, append_assoc, Cell, child_of, child_part, tree_at, AreChildren, IsOrdered, put_after, Put, halves, fit, Climb, placed, climb_on, climb, full_row}
+use Rattle.iso_tree.proofs.Words.{◌≡◌, ◌∙◌, sym, refl, ap, ℕ, zero, suc, ◌<◌, ◌≤◌, true, ◌&&◌, ◌==◌, cond, nat_le, List, [], ◌∷◌, ◌++◌, take, length, map, Option, Some, None, arith, inl, inr, eq-eqb, AllByRecursion, cases_eq, nat_tests, append_assoc, Cell, child_of, child_part, tree_at, AreChildren, IsOrdered, put_after, Put, halves, fit, Climb, placed, climb_on, climb, full_row, length-placed}
 use Rattle.iso_tree.proofs.Shapes.{kids, after_child, child_for, put_below}
 use Rattle.iso_tree.proofs.Climbs.{child_ordered}
-use Rattle.iso_tree.proofs.Order.{length-put_after}
 
 -- the nodes that the descent of a key passes, the leaf first
 abbrev pub path_below : (ℕ → List Cell) → (key : List ℕ) → (level block : ℕ) → List (ℕ × List Cell)
@@ -43,11 +42,6 @@ climb_below n key value cells (suc level) block below low high rest news order =
     ap (λ (nodes : List (ℕ × List Cell)). climb n key 0 (key, value) below nodes news) (append_assoc (path_below cells key level child) ((block, cells block) ∷ []) rest)
     ∙ climb_below n key value cells level child below range.0 range.1 ((block, cells block) ∷ rest) news range.2
     ∙ at_node n key level block (cells block) child rest p p.second (has_child cells level low high (cells block) order) refl
-
-pub length-placed : (level : ℕ) (key : List ℕ) (new : Cell) (cs : List Cell) → length (placed level key new cs) ≤ suc (length cs)
-length-placed zero key new cs = omega (arith, length-put_after key new cs)
-length-placed (suc level) key new [] = omega arith
-length-placed (suc level) key new (c ∷ cs) = omega (arith, length-put_after key new cs)
 
 -- the counts of nodes
 abbrev pub counts : List (ℕ × List Cell) → List (ℕ × ℕ)

@@ -1,6 +1,7 @@
 -- The words that the proofs of this crate cite from elsewhere.
 pub use Rattle.std.proofs.Common.{Bool, Err, IfErr, IfOk, IsTrue, List, None, Ok, OnOk, Option, Result, Some, ap, arith, cond, drop, eq-eqb, false, get_or, inl, inr, is_some, length, map, nat_le, ne_eqb, not, option_map, refl, replicate, rules, set, slice_index, subst, suc, sym, take, true, zero, zero-add, ℕ, [], ◌%◌, ◌&&◌, ◌*◌, ◌++◌, ◌+◌, ◌-◌, ◌/◌, ◌<◌, ◌==◌, ◌^◌, ◌||◌, ◌↔◌, ◌∙◌, ◌∷◌, ◌≡◌, ◌≢◌, ◌≤◌, ◌⊎◌}
 pub use Rattle.std.proofs.Math.Dec.{T}
+pub use Rattle.std.proofs.Math.Seq.{take-nil}
 pub use Rattle.std.proofs.lemmas.Bool.{and_from, and_parts, both_ways, cases_Bool, cases_eq, cases_lt, false_from_ne_true, leb-true, ltb-true, or_left, or_right}
 pub use Rattle.std.proofs.lemmas.Bool.Decides.{nat_tests}
 pub use Rattle.std.proofs.lemmas.Grind.{flat_map-append}
@@ -22,8 +23,10 @@ pub use Rattle.std.specs.declared.cmp.Ordering.TheVariants.{Equal, Greater, Less
 pub use Rattle.iso_alloc.proofs.Bits.{with_bits}
 pub use Rattle.iso_alloc.proofs.Finding.{ties, not_bytes_eq, found_in, find_append}
 pub use Rattle.iso_alloc.proofs.Laying.{laid_here}
-pub use Rattle.iso_alloc.proofs.Loops.{all_at, all_end, all_fails, all_goes_on, first_found, first_goes_on, first_passes}
+pub use Rattle.iso_alloc.proofs.Loops.{all_at, all_end, all_fails, all_goes_on, all_pass, first_found, first_goes_on, first_passes}
+pub use Rattle.iso_alloc.proofs.Members.{in_front, in_back, in_cases}
 pub use Rattle.iso_model.proofs.Bytes.{length-block_own, length-block_put, length-merged, merged_at, merged_kept, other_block, written_block}
+pub use Rattle.iso_model.proofs.Worlds.{all_append}
 pub use Rattle.iso_model.specs.Array.{Array, covered, in_span, merged, put}
 pub use Rattle.iso_model.specs.Conflict.{first_from}
 pub use Rattle.iso_model.specs.Effect.{is_write, or_else, own}
@@ -35,6 +38,8 @@ pub use Rattle.iso_model.specs.declared.access.Span.{Span}
 pub use Rattle.store_model.proofs.AreaBlocks.{in_its_area, same_block, same_first, start_in}
 pub use Rattle.store_model.proofs.HashAccesses.{first_below}
 pub use Rattle.store_model.proofs.Laying.{length-laid_at, length-part}
+pub use Rattle.store_model.proofs.TreeCells.{length-filter_le, length-emptied, block_size_is}
+pub use Rattle.store_model.proofs.TreeWays.{row_less, length-placed, free_are}
 pub use Rattle.store_model.specs.Areas.{in_area}
 pub use Rattle.store_model.specs.Cells.{all_from, are_key_parts, block_with, cell_count, is_part, is_unused, is_zero, key_at, key_mark, key_part, keys_end, keys_mark, laid_at, part_of, text_of, value_mark, value_part, word_at}
 pub use Rattle.store_model.specs.FreeMap.{bit_place, free_count, lowest_free, map_bit, map_bytes, map_mark, set_bit, with_bit}

@@ -4,13 +4,12 @@ use Rattle.std.proofs.lemmas.List.FromFn.{get_or-map-range_with_len}
 use Rattle.iso_model.specs.declared.access.MarkError.{MarkError}
 use Rattle.store_model.specs.declared.stores.TxError.{TxError}
 use Rattle.iso_model.specs.Marks.{mark_fault, marked}
-use Rattle.iso_model.specs.declared.access.Access.{Access}
-use Rattle.iso_model.specs.declared.access.Span.{Span}
-use Rattle.std.proofs.Common.{suc, ◌∷◌, OnOk}
+use Rattle.std.proofs.Common.{OnOk}
 use Rattle.tx_table.specs.Work.{Doing, span_at}
 use Rattle.iso_model.specs.Premises.{block_at}
 use Rattle.tx_blocks.specs.Tx.{Tx, mark_refusal, marking, IsRefused}
 use Rattle.plain_tx.specs.Plain.{blocks_of}
+use Rattle.iso_model.proofs.Accesses.{length-marked}
 
 pub mark_refused : (t : Tx) (off len : ℕ) (fault : MarkError) (e : TxError) → t.is_open ≡ true → mark_fault t.size off len t.accesses ≡ Some fault → marking fault ≡ e → IsRefused {T = Unit {0}} (mark_refusal t off len) (λ x. ⊥) (Err e)
 mark_refused t off len fault e is_open is same = rw (is_open, is, same) refl
@@ -27,11 +26,6 @@ pub record Keeps (old new : Doing) : Type 0 where
   pub size : new.size ≡ old.size
   pub many : new.blocks ≡ old.blocks
   pub count : length new.accesses ≡ length old.accesses
-
-length-marked : (span : Span) (xs : List Access) → length (marked span xs) ≡ length xs
-length-marked span [] = refl
-length-marked span (a ∷ []) = refl
-length-marked span (a ∷ b ∷ xs) = ap (λ n. suc n) (length-marked span (b ∷ xs))
 
 -- a mark, taken or refused
 pub kept : (old new : Doing) (off len : ℕ) (result : Result (Unit {0}) MarkError)

@@ -128,7 +128,7 @@ module _ {R : Type 0} (t u : Tx) (answer : R → Reply) (before now : Device) (w
       let called = called_err p t u answer e ended in
       subst (Both (λ room A. stored answer (outcome room p A))) (sym is) (called, stops_err t u before now writes _ _ opened called e cause)
 
-  pub scan_refused : (p : Program (Result R StoreError)) (e : StoreError) → r ≡ refusal_of e → HasRun p t u (Err e) ⊎ WantsMemory p t u (Err e) → IsStoreCause u writes before now e
+  pub scan_refused : (p : Program (Result R StoreError)) (e : StoreError) → r ≡ refusal_of e → HasEnded p t u (Err e) ⊎ WantsMemory p t u (Err e) → IsStoreCause u writes before now e
       → Both (λ room A. stored answer (outcome room p A)) r
   scan_refused p e is ended cause =
       let called = scanned_err p t u answer e ended in

@@ -3,7 +3,7 @@ pub mod Laying
 pub mod StoreAccesses
 pub mod HashAccesses
 pub mod TreeCells
-mod TreeWays
+pub mod TreeWays
 pub mod TreeAccesses
 pub mod AreaBlocks
 mod HashRows

@@ -5,7 +5,7 @@ use Rattle.store_model.specs.TreeCalls.{AtBroken, del_at, del_program, get_progr
 use Rattle.store_model.proofs.HashAccesses.{bit_small, first_below}
 use Rattle.store_model.proofs.Laying.{block_with_bytes, laid_bytes, length-block_with, length-laid_at, length-part, part_bytes, word_bytes}
 use Rattle.store_model.proofs.StoreAccesses.{FitsOn, fits_cond, fits_more, fits_then, stored_in}
-use Rattle.store_model.proofs.TreeWays.{RiseIn, rise_range, rise_filter, rise_take, last_rises, AreInside, rise_inside, free_are, Wrote, OnWay, half_less, half_rest, first_key_are, Fitting}
+use Rattle.store_model.proofs.TreeWays.{RiseIn, rise_range, rise_filter, rise_take, last_rises, AreInside, rise_inside, free_are, Wrote, OnWay, half_less, half_rest, first_key_are, Fitting, row_less, length-placed}
 use Rattle.store_model.proofs.TreeCells.{AreCells, IsCell, block_size_is, child_cell, drop_are, emptied_are, filter_are, length-emptied, length-filter_le, length-node, length-put, length-used, node_read, node_values, put_are, take_are, used_are, value_cell}
 
 -- the tree store of a valid image that has one
@@ -267,11 +267,6 @@ module _ (g : Geometry) (a : Area) (A : Array) (is : IsTreeIn g a A) where
   placed_are (suc level) key new [] cell all = tt
   placed_are (suc level) key new (c ∷ cs) cell all = (all.0, put_are key new cs cell all.1)
 
-  length-placed : (level : ℕ) (key : List ℕ) (new : Cell) (cs : List Cell) → length (placed level key new cs) ≤ suc (length cs)
-  length-placed zero key new cs = omega (arith, length-put key new cs)
-  length-placed (suc level) key new [] = omega arith
-  length-placed (suc level) key new (c ∷ cs) = omega (arith, length-put key new cs)
-
   root_are : (level block : ℕ) (new : Cell) → IsCell new → AreCells (root_cells level block new)
   root_are zero block new cell = (cell, tt)
   root_are (suc level) block new cell = (child_cell [] block (omega arith) no_bytes, (cell, tt))
@@ -432,14 +427,6 @@ module _ (g : Geometry) (a : Area) (A : Array) (is : IsTreeIn g a A) where
       fits_cond g Whole (is_key key) _ _ A
       (λ good. fits_cond g Whole (is_value value) _ _ A
       (λ small. head_fits (put_below_root a key value) (below_fits key value (leb-true _ _ (and_parts _ _ good).1) (leb-true _ _ small) key_values value_values)) (λ long. tt)) (λ bad. tt)
-
-  -- a scan
-  row_less : (key keys : List ℕ) (i n : ℕ) → below_from key keys i n ≤ n
-  row_less key keys i zero = omega arith
-  row_less key keys i (suc n) = elim (before (key_at keys i) key) as (λ t. cond t (suc (below_from key keys (i + 1) n)) 0 ≤ suc n) [
-    | true ↦ (let rest = row_less key keys (i + 1) n in omega arith)
-    | false ↦ omega arith
-  ]
 
   scan_inside : (level : ℕ) (from to : List ℕ) (block : ℕ) → IsRead block level → many_in level from to (keys_of block) ≢ 0 → first_in level from (keys_of block) + many_in level from to (keys_of block) ≤ cell_count a.size
   scan_inside zero from to block read some = let less = row_less to (keys_of block) 0 (count_of (keys_of block)) in omega (arith, read_few block 0 read)

@@ -1,6 +1,6 @@
 -- Numbers that rise in a range, as those of free blocks, and what the nodes of a way up are.
-use Rattle.store_model.proofs.Words.{◌≡◌, refl, subst, ℕ, zero, suc, ◌+◌, ◌-◌, ◌<◌, ◌≤◌, Bool, true, false, not, cond, List, [], ◌∷◌, length, take, filter, IfSome, arith, AllByRecursion, range_with_len, Area, cell_count, free_count, map_bit, AreBytes, last_of, Cell, Put, first_key, half, no_bytes}
-use Rattle.store_model.proofs.TreeCells.{AreCells}
+use Rattle.store_model.proofs.Words.{◌≡◌, refl, subst, ℕ, zero, suc, ◌+◌, ◌-◌, ◌<◌, ◌≤◌, Bool, true, false, not, cond, List, [], ◌∷◌, length, take, filter, IfSome, arith, AllByRecursion, range_with_len, Area, cell_count, free_count, map_bit, AreBytes, last_of, Cell, Put, first_key, half, no_bytes, below_from, placed, before, key_at}
+use Rattle.store_model.proofs.TreeCells.{AreCells, length-put}
 
 -- numbers that rise in a range
 abbrev pub RiseIn : (low high : ℕ) → List ℕ → Type 0
@@ -70,3 +70,16 @@ pub record Fitting (a : Area) (q : Put) : Type 0 where
   pub writes : AllByRecursion (Wrote a) q.writes
   pub left : AreInside a q.left
   pub second : IfSome q.second (λ s. (s.1 < a.blocks) × (length s.0 ≤ 28) × AreBytes s.0)
+
+-- a scan
+pub row_less : (key keys : List ℕ) (i n : ℕ) → below_from key keys i n ≤ n
+row_less key keys i zero = omega arith
+row_less key keys i (suc n) = elim (before (key_at keys i) key) as (λ t. cond t (suc (below_from key keys (i + 1) n)) 0 ≤ suc n) [
+  | true ↦ (let rest = row_less key keys (i + 1) n in omega arith)
+  | false ↦ omega arith
+]
+
+pub length-placed : (level : ℕ) (key : List ℕ) (new : Cell) (cs : List Cell) → length (placed level key new cs) ≤ suc (length cs)
+length-placed zero key new cs = omega (arith, length-put key new cs)
+length-placed (suc level) key new [] = omega arith
+length-placed (suc level) key new (c ∷ cs) = omega (arith, length-put key new cs)

@@ -1,11 +1,6 @@
 -- An access that was made may be marked, and what its marks make of it.
-use Rattle.tx_blocks.proofs.Words.{◌≡◌, ◌∙◌, refl, ap, subst, ℕ, zero, suc, ◌<◌, true, false, List, [], ◌∷◌, ◌++◌, length, Option, Some, None, Result, Ok, Err, arith, nat_le, inl, inr, AllByRecursion, get_or, cases_Bool, nat_tests, Access, Span, TxError, is_outside, marked, marks_fault, IsSpan, Tx, access_refusal, mark_refusal, with_accesses, IsRefused}
+use Rattle.tx_blocks.proofs.Words.{◌≡◌, ◌∙◌, refl, ap, subst, ℕ, zero, suc, ◌<◌, true, false, List, [], ◌∷◌, ◌++◌, length, Option, Some, None, Result, Ok, Err, arith, nat_le, inl, inr, AllByRecursion, get_or, cases_Bool, nat_tests, Access, Span, TxError, is_outside, marked, marks_fault, IsSpan, Tx, access_refusal, mark_refusal, with_accesses, IsRefused, marked_last}
 use Rattle.store_model.specs.declared.stores.TxError.TheVariants as error
-
-pub marked_last : (span : Span) (xs : List Access) (a : Access) → marked span (xs ++ a ∷ []) ≡ xs ++ record a { spans = a.spans ++ span ∷ [] } ∷ []
-marked_last span [] a = refl
-marked_last span (x ∷ []) a = refl
-marked_last span (x ∷ y ∷ xs) a = ap (λ rest. x ∷ rest) (marked_last span (y ∷ xs) a)
 
 last_fault : (xs : List Access) (a : Access) → length a.spans < 8 → marks_fault (xs ++ a ∷ []) ≡ None
 last_fault [] a few = let not : nat_le 8 (length a.spans) ≡ false = grind (arith, nat_tests) in rw not refl

@@ -1,5 +1,5 @@
 -- How far a call that follows a program has come.
-use Rattle.tx_blocks.proofs.Words.{◌≡◌, ◌∙◌, sym, refl, ap, subst, ℕ, zero, suc, ◌+◌, ◌-◌, ◌<◌, ◌≤◌, Bool, true, false, cond, List, [], ◌∷◌, ◌++◌, length, take, Option, Some, None, arith, nat_le, append_assoc, length-append, append-nil, take_at, drop_at, ForSome, nat_tests, Access, Span, Array, put, own, is_write, block_at, Program, Done, Look, LookWhole, Reserve, Store, bytes_in, further_bytes, with_further, look_access, store_access, accesses_of, answer_of, after, outcome, then_do, Tx, with_accesses, added, room_of, Began, Ends, Ran, Stopped}
+use Rattle.tx_blocks.proofs.Words.{◌≡◌, ◌∙◌, sym, refl, ap, subst, ℕ, zero, suc, ◌+◌, ◌-◌, ◌<◌, ◌≤◌, Bool, true, false, cond, List, [], ◌∷◌, ◌++◌, length, take, Option, Some, None, arith, nat_le, append_assoc, length-append, append-nil, take_at, drop_at, ForSome, nat_tests, Access, Span, Array, put, own, is_write, block_at, Program, Done, Look, LookWhole, Reserve, Store, bytes_in, further_bytes, with_further, look_access, store_access, accesses_of, answer_of, after, outcome, then_do, Tx, with_accesses, added, room_of, Began, Ends, Ran, Stopped, take-nil}
 use Rattle.tx_blocks.proofs.Programs.{accesses_then}
 use Rattle.tx_blocks.proofs.Outcomes.{IsWhole, outcome_whole, outcome_then, outcome_cut}
 
@@ -196,10 +196,6 @@ stopped_at whole rest t u v now same more = record {
       let long : length (accesses_of whole (own A t.accesses)) ≡ length now.done + length left = ap (λ xs. length xs) (now.all A told) ∙ length-append now.done left in
       omega (arith, long, more (own A u.accesses));
 }
-
-take-nil : {X : Type 0} (n : ℕ) → ◌≡◌ {A = List X} (take n []) []
-take-nil zero = refl
-take-nil (suc n) = refl
 
 pub take_within : {X : Type 0} (n : ℕ) (xs ys : List X) → (m : ℕ) × (take m (xs ++ ys) ≡ take n xs)
 take_within n [] ys = (0, sym (take-nil n))

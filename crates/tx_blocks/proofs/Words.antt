@@ -1,5 +1,6 @@
 -- The words that the proofs of this crate cite from elsewhere.
 pub use Rattle.std.proofs.Common.{Bool, Err, IsTrue, List, None, Ok, Option, Result, Some, ap, append_assoc, arith, cond, drop, eq-eqb, false, get_or, inl, inr, length, length-append, nat_le, ne_eqb, not, refl, replicate, subst, suc, sym, take, true, zero, zero-add, ℕ, [], ◌&&◌, ◌++◌, ◌+◌, ◌-◌, ◌/◌, ◌<◌, ◌==◌, ◌∙◌, ◌∷◌, ◌≡◌, ◌≢◌, ◌≤◌, ◌⊎◌}
+pub use Rattle.std.proofs.Math.Seq.{take-nil}
 pub use Rattle.std.proofs.lemmas.Bool.{and_from, both_ways, cases_Bool, cases_eq, cases_lt, or_left, or_right}
 pub use Rattle.std.proofs.lemmas.Bool.Decides.{nat_tests}
 pub use Rattle.std.proofs.lemmas.List.{append-nil, drop-replicate, drop-take, drop_at, ext_get_or, get_or-append-add, get_or-drop, get_or-take, get_or_append_left, get_or_at, get_or_past, length-drop, length-replicate, length-take, length-take-le, take-replicate, take-take, take_at, take_more}
@@ -7,6 +8,7 @@ pub use Rattle.std.specs.List.{AllByRecursion, list_all}
 pub use Rattle.std.specs.Option.{ForSome}
 pub use Rattle.fault_count.specs.Count.{Rose}
 pub use Rattle.iso_model.proofs.Bytes.{length-block_own, length-block_put, length-merged, length-put, merged_at, merged_kept, other_block, put_at}
+pub use Rattle.iso_model.proofs.Marked.{marked_last}
 pub use Rattle.iso_model.specs.Array.{Array, byte_at, covered, in_span, merged, put}
 pub use Rattle.iso_model.specs.Effect.{covers, is_write, own}
 pub use Rattle.iso_model.specs.Marks.{is_outside, marked, marks_fault}

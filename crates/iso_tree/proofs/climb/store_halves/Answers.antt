@@ -2,18 +2,6 @@ use Rattle.iso_tree.proofs.Words.{◌∙◌, ap, subst, ℕ, ◌+◌, List, [], 
 use Rattle.iso_tree.proofs.Climbing.{follows, written_two}
 use Rattle.iso_tree.proofs.climb.store_halves.Goals as goal
 
-pub store_next-requires-2-clause-room : goal.store_next-requires-2-clause-room
-store_next-requires-2-clause-room g c = omega (arith, c.requires.room, c.in_default.ensures.after.room)
-
-pub store_next-requires-2-clause-bytes : goal.store_next-requires-2-clause-bytes
-store_next-requires-2-clause-bytes g c = omega (arith, c.fill_right.auto.into, c.fill_row.auto.into, c.requires.into, c.requires.size, c.in_default.ensures.after.size)
-
-pub store_next-requires-2-clause-block : goal.store_next-requires-2-clause-block
-store_next-requires-2-clause-block g c = omega (arith, c.requires.new, c.requires.fits, c.in_default.ensures.after.blocks)
-
-pub store_next-requires-2-clause-is_open : goal.store_next-requires-2-clause-is_open
-store_next-requires-2-clause-is_open g c = c.in_default.ensures.after.is_open ∙ c.requires.is_open
-
 pub returns-in-Err-clause-run : goal.returns-in-Err-clause-run
 returns-in-Err-clause-run g c = λ rest.
     let state = g.T.TxBlocks.state in

@@ -20,15 +20,6 @@ returns-in-Err-clause-behaves g c =
     refused_reading (state c.args.tx.now) (state c.look.new.tx) 66 (g.T.TxBlocks.device c.args.tx.now) (g.T.TxBlocks.device c.look.new.tx) c.in-Err.e
     (read_same (state c.args.tx.now) (state c.args.tx.now) (state c.look.new.tx) (read_none (state c.args.tx.now)) c.in-Err.ensures.kept) (omega arith) c.in-Err.ensures.cause c.in-Err.ensures.later
 
-pub put_taken-requires-clause-size : goal.put_taken-requires-clause-size
-put_taken-requires-clause-size g c = ap (λ (w : Tx). w.size) c.in_default-look.ensures.read ∙ c.requires.size
-
-pub put_taken-requires-clause-fits : goal.put_taken-requires-clause-fits
-put_taken-requires-clause-fits g c = let e = ap (λ (w : Tx). w.blocks) c.in_default-look.ensures.read in omega (arith, c.requires.fits, e)
-
-pub put_taken-requires-clause-is_open : goal.put_taken-requires-clause-is_open
-put_taken-requires-clause-is_open g c = ap (λ (w : Tx). w.is_open) c.in_default-look.ensures.read ∙ c.in_default-look.ensures.is_open
-
 pub put_taken-requires-clause-usable : goal.put_taken-requires-clause-usable
 put_taken-requires-clause-usable g c =
     let state = g.T.TxBlocks.state in

@@ -1,6 +1,6 @@
-use Rattle.iso_tree.proofs.Words.{◌∙◌, sym, ap, subst, ℕ, suc, ◌+◌, ◌*◌, ◌<◌, ◌≤◌, List, length, take, arith, Region, cell_count, map_mark, bytes_in, behaves_after, Up, AreBlocks, AreInside, full_row, need_of}
-use Rattle.iso_tree.proofs.Enlarging.{all_taken, blocks_from, need_taken, room_taken, row_taken, used_same}
-use Rattle.iso_tree.proofs.Joining.{shown_taken, are, taken_is, few_run, taken_refused, taken_run}
+use Rattle.iso_tree.proofs.Words.{◌∙◌, sym, ap, subst, ℕ, suc, ◌+◌, ◌*◌, ◌<◌, ◌≤◌, List, length, take, arith, Region, cell_count, map_mark, bytes_in, behaves_after, AreInside, full_row, need_of}
+use Rattle.iso_tree.proofs.Enlarging.{all_taken, need_taken, room_taken, row_taken, used_same}
+use Rattle.iso_tree.proofs.Joining.{shown_taken, news_are, taken_is, few_run, taken_refused, taken_run}
 use Rattle.iso_tree.proofs.enlarge.put_taken.Goals as goal
 
 pub returns-then-free-need-clause-run : goal.returns-then-free-need-clause-run
@@ -39,40 +39,30 @@ put_writes-requires-clause-nodes g c =
 
 pub put_writes-requires-clause-rising : goal.put_writes-requires-clause-rising
 put_writes-requires-clause-rising g c =
-    let is = taken_is c.args.area c.requires.area c.args.path.now c.args.map.now c.full_row-full.result c.need_of-need.result c.free_blocks-free.result c.full_row-full.ensures.value c.need_of-need.ensures
-    c.region_of-region.result.size (ap (λ (r : Region). r.size) c.region_of-region.ensures) c.free_blocks-free.ensures (omega (arith, c.if-free-need.false)) c.take_blocks.new.news c.take_blocks.ensures.taken in
-    let all = are c.args.area c.requires.area c.args.path.now c.args.map.now c.full_row-full.result c.need_of-need.result c.free_blocks-free.result c.full_row-full.ensures.value c.need_of-need.ensures
-    c.region_of-region.result.size (ap (λ (r : Region). r.size) c.region_of-region.ensures) c.free_blocks-free.ensures (omega (arith, c.if-free-need.false)) in
-    subst (Up 1) (sym is) all.up
+    (news_are c.args.area c.requires.area c.args.path.now c.args.map.now c.full_row-full.result c.need_of-need.result c.free_blocks-free.result c.full_row-full.ensures.value c.need_of-need.ensures
+    c.region_of-region.result.size (ap (λ (r : Region). r.size) c.region_of-region.ensures) c.free_blocks-free.ensures (omega (arith, c.if-free-need.false)) c.take_blocks.new.news c.take_blocks.ensures.taken).0
 
 pub put_writes-requires-clause-news : goal.put_writes-requires-clause-news
 put_writes-requires-clause-news g c =
-    let is = taken_is c.args.area c.requires.area c.args.path.now c.args.map.now c.full_row-full.result c.need_of-need.result c.free_blocks-free.result c.full_row-full.ensures.value c.need_of-need.ensures
-    c.region_of-region.result.size (ap (λ (r : Region). r.size) c.region_of-region.ensures) c.free_blocks-free.ensures (omega (arith, c.if-free-need.false)) c.take_blocks.new.news c.take_blocks.ensures.taken in
-    let all = are c.args.area c.requires.area c.args.path.now c.args.map.now c.full_row-full.result c.need_of-need.result c.free_blocks-free.result c.full_row-full.ensures.value c.need_of-need.ensures
-    c.region_of-region.result.size (ap (λ (r : Region). r.size) c.region_of-region.ensures) c.free_blocks-free.ensures (omega (arith, c.if-free-need.false)) in
-    subst (AreBlocks c.args.area) (sym is) (blocks_from c.args.area _ all.below)
+    (news_are c.args.area c.requires.area c.args.path.now c.args.map.now c.full_row-full.result c.need_of-need.result c.free_blocks-free.result c.full_row-full.ensures.value c.need_of-need.ensures
+    c.region_of-region.result.size (ap (λ (r : Region). r.size) c.region_of-region.ensures) c.free_blocks-free.ensures (omega (arith, c.if-free-need.false)) c.take_blocks.new.news c.take_blocks.ensures.taken).1
 
 pub put_writes-requires-clause-enough : goal.put_writes-requires-clause-enough
 put_writes-requires-clause-enough g c =
     let n = cell_count c.args.area.size in
-    let e = c.full_row-full.ensures.value in
-    let is = taken_is c.args.area c.requires.area c.args.path.now c.args.map.now c.full_row-full.result c.need_of-need.result c.free_blocks-free.result c.full_row-full.ensures.value c.need_of-need.ensures
+    let news = news_are c.args.area c.requires.area c.args.path.now c.args.map.now c.full_row-full.result c.need_of-need.result c.free_blocks-free.result c.full_row-full.ensures.value c.need_of-need.ensures
     c.region_of-region.result.size (ap (λ (r : Region). r.size) c.region_of-region.ensures) c.free_blocks-free.ensures (omega (arith, c.if-free-need.false)) c.take_blocks.new.news c.take_blocks.ensures.taken in
-    let all = are c.args.area c.requires.area c.args.path.now c.args.map.now c.full_row-full.result c.need_of-need.result c.free_blocks-free.result c.full_row-full.ensures.value c.need_of-need.ensures
-    c.region_of-region.result.size (ap (λ (r : Region). r.size) c.region_of-region.ensures) c.free_blocks-free.ensures (omega (arith, c.if-free-need.false)) in
     let rows : need_of n c.written-rows.result.now ≤ need_of n c.args.path.now =
-    subst (λ (p : List (ℕ × ℕ)). need_of n p ≤ need_of n c.args.path.now) (sym (c.written-rows.ensures ∙ ap (λ (f : ℕ). take (suc f) c.args.path.now) e)) (need_taken n c.args.path.now) in
-    omega (arith, rows, ap length is, all.count)
+    subst (λ (p : List (ℕ × ℕ)). need_of n p ≤ need_of n c.args.path.now) (sym (c.written-rows.ensures ∙ ap (λ (f : ℕ). take (suc f) c.args.path.now) c.full_row-full.ensures.value)) (need_taken n c.args.path.now) in
+    omega (arith, rows, news.2)
 
 pub returns-clause-run : goal.returns-clause-run
 returns-clause-run g c =
     let state = g.T.TxBlocks.state in
     let is = taken_is c.args.area c.requires.area c.args.path.now c.args.map.now c.full_row-full.result c.need_of-need.result c.free_blocks-free.result c.full_row-full.ensures.value c.need_of-need.ensures
     c.region_of-region.result.size (ap (λ (r : Region). r.size) c.region_of-region.ensures) c.free_blocks-free.ensures (omega (arith, c.if-free-need.false)) c.take_blocks.new.news c.take_blocks.ensures.taken in
-    let all = are c.args.area c.requires.area c.args.path.now c.args.map.now c.full_row-full.result c.need_of-need.result c.free_blocks-free.result c.full_row-full.ensures.value c.need_of-need.ensures
-    c.region_of-region.result.size (ap (λ (r : Region). r.size) c.region_of-region.ensures) c.free_blocks-free.ensures (omega (arith, c.if-free-need.false)) in
-    let inside = subst (AreBlocks c.args.area) (sym is) (blocks_from c.args.area _ all.below) in
+    let inside = (news_are c.args.area c.requires.area c.args.path.now c.args.map.now c.full_row-full.result c.need_of-need.result c.free_blocks-free.result c.full_row-full.ensures.value c.need_of-need.ensures
+    c.region_of-region.result.size (ap (λ (r : Region). r.size) c.region_of-region.ensures) c.free_blocks-free.ensures (omega (arith, c.if-free-need.false)) c.take_blocks.new.news c.take_blocks.ensures.taken).1 in
     taken_run c.args.area c.requires.area c.args.path.now c.args.map.now c.full_row-full.result c.need_of-need.result c.free_blocks-free.result c.full_row-full.ensures.value c.need_of-need.ensures
     c.region_of-region.result.size (ap (λ (r : Region). r.size) c.region_of-region.ensures) c.free_blocks-free.ensures c.args.key.now c.args.value.now (state c.args.tx.now) (omega (arith, c.if-free-need.false))
     c.written-rows.result.now c.written-rows.ensures (state c.look_nodes.new.tx) (state c.put_writes.new.tx) c.put_writes.result c.look_nodes.new.nodes (take c.need_of-need.result c.take_blocks.new.news) c.value_part-part.result is c.value_part-part.ensures c.in_default.ensures.read

@@ -8,15 +8,6 @@ returns-in-Err-clause-run g c = λ first used.
     writes_unfit c.args.area first c.args.news.now (climb (cell_count c.args.area.size) c.args.key.now 0 (c.args.key.now, c.args.part.now) 0 (nodes_from c.args.area.size c.args.nodes.now 0 c.args.path.now) c.args.news.now) c.args.full way.count
     (g.T.TxBlocks.state c.args.tx.now) c.in-Err.e c.in-Err.ensures.err.0 (omega (arith, c.in-Err.ensures.err.1))
 
-pub climb-requires-clause-size : goal.climb-requires-clause-size
-climb-requires-clause-size g c = ap (λ (w : Tx). w.size) c.in_default-store_first.ensures.one.is ∙ c.requires.size
-
-pub climb-requires-clause-fits : goal.climb-requires-clause-fits
-climb-requires-clause-fits g c = let e = ap (λ (w : Tx). w.blocks) c.in_default-store_first.ensures.one.is in omega (arith, c.requires.fits, e)
-
-pub climb-requires-clause-is_open : goal.climb-requires-clause-is_open
-climb-requires-clause-is_open g c = ap (λ (w : Tx). w.is_open) c.in_default-store_first.ensures.one.is ∙ c.requires.is_open
-
 pub climb-requires-clause-room : goal.climb-requires-clause-room
 climb-requires-clause-room g c =
     let way = way_of c.args.area c.requires.area c.args.key.now (c.args.key.now, c.args.part.now) c.args.nodes.now c.args.path.now c.args.news.now c.args.full c.requires.block_size c.requires.usable c.requires.enough c.requires.full in

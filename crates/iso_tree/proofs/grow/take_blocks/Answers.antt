@@ -1,27 +1,16 @@
-use Rattle.iso_tree.proofs.Words.{◌≡◌, ◌∙◌, sym, ap, ℕ, ◌+◌, ◌-◌, ◌<◌, List, [], ◌∷◌, ◌++◌, take, length, None, arith, length-take-le, length-set, with_bit, lowest_free, with_used}
+use Rattle.iso_tree.proofs.Words.{◌≡◌, ◌∙◌, sym, ap, ℕ, ◌+◌, ◌-◌, ◌<◌, List, [], ◌∷◌, ◌++◌, take, length, None, arith, length-take-le, length-set, with_bit, lowest_free, with_used, free_are}
 use Rattle.std.proofs.Common.{append_assoc, length-append}
 use Rattle.iso_tree.proofs.Facts.{missing}
-use Rattle.iso_tree.proofs.Taking.{length-free}
 use Rattle.iso_tree.proofs.TakingLoop.{free_from, free_some, free_none, used_more, take_set}
 use Rattle.iso_tree.proofs.grow.take_blocks.Goals as goal
 
-pub returns-in_default-clause-taken : goal.returns-in_default-clause-taken
-returns-in_default-clause-taken c =
+pub returns-in_default : goal.returns-in_default
+returns-in_default c =
     let none : lowest_free c.loop-i.map c.loop-i.first (c.args.region.size - c.loop-i.first) ≡ None = sym c.take_lowest.ensures.lowest ∙ missing c.take_lowest.result c.in_default.not-Some in
     let empty = free_none c.loop-i.map c.args.region.size c.loop-i.first none in
     let all = ap length c.loop-i.invariant.list in
     let split = length-append (take c.loop-i.i c.loop-i.news) (free_from c.loop-i.map c.args.region.size c.loop-i.first) in
-    let free = length-free c.args.map.now 1 (c.args.region.size - 1) in
-    let part = length-take-le c.loop-i.i c.loop-i.news (omega (arith, c.loop-i-test.true, c.requires.news, c.loop-i.invariant.long)) in
-    absurd (omega (arith, all, split, free, part, ap length empty, c.requires.need, c.loop-i-test.true))
-
-pub returns-in_default-clause-used : goal.returns-in_default-clause-used
-returns-in_default-clause-used c =
-    let none : lowest_free c.loop-i.map c.loop-i.first (c.args.region.size - c.loop-i.first) ≡ None = sym c.take_lowest.ensures.lowest ∙ missing c.take_lowest.result c.in_default.not-Some in
-    let empty = free_none c.loop-i.map c.args.region.size c.loop-i.first none in
-    let all = ap length c.loop-i.invariant.list in
-    let split = length-append (take c.loop-i.i c.loop-i.news) (free_from c.loop-i.map c.args.region.size c.loop-i.first) in
-    let free = length-free c.args.map.now 1 (c.args.region.size - 1) in
+    let free = free_are c.args.map.now 1 (c.args.region.size - 1) in
     let part = length-take-le c.loop-i.i c.loop-i.news (omega (arith, c.loop-i-test.true, c.requires.news, c.loop-i.invariant.long)) in
     absurd (omega (arith, all, split, free, part, ap length empty, c.requires.need, c.loop-i-test.true))
 

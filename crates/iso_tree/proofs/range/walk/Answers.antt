@@ -1,5 +1,5 @@
 use Rattle.iso_tree.proofs.Words.{◌≡◌, ◌∙◌, refl, sym, subst, ◌-◌, ℕ, List, [], ◌∷◌, Err, inl, length, arith, read_join, IsAt, at_join, at_start, later_than, read_none, scan_nodes}
-use Rattle.iso_tree.proofs.Scanning.{scanned_from, walk_full}
+use Rattle.iso_tree.proofs.Scanning.{at_next, scanned_from, walk_full}
 use Rattle.iso_tree.proofs.range.walk.Goals as goal
 
 pub returns-in-Err-clause-run : goal.returns-in-Err-clause-run
@@ -10,8 +10,7 @@ returns-in-Err-clause-run g c =
     let max = c.args.max in
     let found = c.loop-alloc.found in
     let next = scan_nodes a c.args.from.now c.args.to.now ((c.in-Some.level, c.in-Some.block) ∷ c.pop.new.self) (max - length found) found in
-    let here : IsAt whole next (state c.args.tx.now) (state c.loop-alloc.tx) =
-    subst (λ (nodes : List (ℕ × ℕ)). IsAt whole (scan_nodes a c.args.from.now c.args.to.now nodes (max - length found) found) (state c.args.tx.now) (state c.loop-alloc.tx)) c.in-Some.ensures.some c.loop-alloc.invariant.here in
+    let here = at_next a c.args.from.now c.args.to.now whole (state c.args.tx.now) (state c.loop-alloc.tx) c.loop-alloc.unread (c.in-Some.level, c.in-Some.block) c.pop.new.self (max - length found) found c.in-Some.ensures.some c.loop-alloc.invariant.here in
     scanned_from whole next (state c.args.tx.now) (state c.loop-alloc.tx) (state c.step.new.tx) (Err c.in-Err.e) here c.in-Err.ensures.refused
 
 pub loop-alloc-init : goal.loop-alloc-init
@@ -38,8 +37,7 @@ loop-alloc-preserved g c =
     let max = c.args.max in
     let found = c.loop-alloc.found in
     let next = scan_nodes a c.args.from.now c.args.to.now ((c.in-Some.level, c.in-Some.block) ∷ c.pop.new.self) (max - length found) found in
-    let here : IsAt whole next (state c.args.tx.now) (state c.loop-alloc.tx) =
-    subst (λ (nodes : List (ℕ × ℕ)). IsAt whole (scan_nodes a c.args.from.now c.args.to.now nodes (max - length found) found) (state c.args.tx.now) (state c.loop-alloc.tx)) c.in-Some.ensures.some c.loop-alloc.invariant.here in
+    let here = at_next a c.args.from.now c.args.to.now whole (state c.args.tx.now) (state c.loop-alloc.tx) c.loop-alloc.unread (c.in-Some.level, c.in-Some.block) c.pop.new.self (max - length found) found c.in-Some.ensures.some c.loop-alloc.invariant.here in
     let device = g.T.TxBlocks.device in
     record {
       here = at_join whole next (scan_nodes a c.args.from.now c.args.to.now c.step.new.unread (max - length c.step.new.found) c.step.new.found) (state c.args.tx.now) (state c.loop-alloc.tx) (state c.step.new.tx) here c.in_default-step.ensures.run;

@@ -1,4 +1,4 @@
-use Rattle.store_calls.proofs.Words.{sym, subst, Result, Reply, create_program, outcome, areas_of, Stop, HasCalled, Stops, filed}
+use Rattle.store_calls.proofs.Words.{create_program, areas_of}
 use Rattle.script_model.specs.declared.script.Reply.TheVariants as reply
 use Rattle.store_calls.proofs.Called.{file_ok, file_refused}
 use Rattle.store_calls.proofs.file.create.Goals as goal

@@ -1,4 +1,4 @@
-use Rattle.store_calls.proofs.Words.{sym, subst, Result, Reply, remove_program, removed_reply, outcome, areas_of, Stop, HasCalled, Stops, filed}
+use Rattle.store_calls.proofs.Words.{remove_program, removed_reply, areas_of}
 use Rattle.store_calls.proofs.Called.{file_refused}
 use Rattle.store_calls.proofs.file.remove.Goals as goal
 

@@ -1,4 +1,4 @@
-use Rattle.store_calls.proofs.Words.{sym, subst, Result, Reply, write_program, removed_reply, outcome, areas_of, Stop, HasCalled, Stops, filed}
+use Rattle.store_calls.proofs.Words.{write_program, removed_reply, areas_of}
 use Rattle.store_calls.proofs.Called.{file_refused}
 use Rattle.store_calls.proofs.file.write.Goals as goal
 

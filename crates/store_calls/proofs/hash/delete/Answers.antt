@@ -1,4 +1,4 @@
-use Rattle.store_calls.proofs.Words.{sym, subst, Result, Reply, del_program, removed_reply, outcome, area_of, Stop, HasCalled, Stops, stored}
+use Rattle.store_calls.proofs.Words.{del_program, removed_reply, area_of}
 use Rattle.store_calls.proofs.Called.{refused}
 use Rattle.store_calls.proofs.hash.delete.Goals as goal
 

@@ -1,4 +1,4 @@
-use Rattle.store_calls.proofs.Words.{sym, subst, Result, Reply, get_program, found_reply, outcome, area_of, Stop, HasCalled, Stops, stored}
+use Rattle.store_calls.proofs.Words.{get_program, found_reply, area_of}
 use Rattle.store_calls.proofs.Called.{refused}
 use Rattle.store_calls.proofs.hash.get.Goals as goal
 

@@ -1,4 +1,4 @@
-use Rattle.store_calls.proofs.Words.{sym, subst, Result, Reply, put_program, outcome, area_of, Stop, HasCalled, Stops, stored}
+use Rattle.store_calls.proofs.Words.{put_program, area_of}
 use Rattle.script_model.specs.declared.script.Reply.TheVariants as reply
 use Rattle.store_calls.proofs.Called.{called_ok, refused}
 use Rattle.store_calls.proofs.hash.put.Goals as goal

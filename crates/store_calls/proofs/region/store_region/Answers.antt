@@ -1,4 +1,4 @@
-use Rattle.store_calls.proofs.Words.{◌+◌, ◌≤◌, arith, limits}
+use Rattle.store_calls.proofs.Words.{arith, limits}
 use Rattle.store_calls.proofs.region.store_region.Goals as goal
 
 pub file_blocks-requires-clause-least : goal.file_blocks-requires-clause-least

@@ -1,4 +1,4 @@
-use Rattle.store_calls.proofs.Words.{sym, subst, Result, Reply, removed_reply, outcome, area_of, Stop, HasCalled, Stops, stored}
+use Rattle.store_calls.proofs.Words.{removed_reply, area_of}
 use Rattle.store_model.specs.TreeCalls.{del_program}
 use Rattle.store_calls.proofs.Called.{refused}
 use Rattle.store_calls.proofs.tree.delete.Goals as goal

@@ -1,4 +1,4 @@
-use Rattle.store_calls.proofs.Words.{sym, subst, Result, Reply, found_reply, outcome, area_of, Stop, HasCalled, Stops, stored}
+use Rattle.store_calls.proofs.Words.{found_reply, area_of}
 use Rattle.store_model.specs.TreeCalls.{get_program}
 use Rattle.store_calls.proofs.Called.{refused}
 use Rattle.store_calls.proofs.tree.get.Goals as goal

@@ -1,4 +1,4 @@
-use Rattle.store_calls.proofs.Words.{◌≡◌, [], sym, subst, refl, ap, ◌&&◌, ◌==◌, Bool, true, false, cond, ℕ, List, Result, Err, eq-eqb, arith, Reply, Area, BadKey, Array, is_key, pairs_reply, Done, Program, outcome, Scanned, scan_below, scan_program, with_head, area_of, Stop, HasCalled, Stops, stored}
+use Rattle.store_calls.proofs.Words.{◌≡◌, [], sym, refl, ap, ◌&&◌, ◌==◌, Bool, true, false, cond, ℕ, List, Err, eq-eqb, arith, Area, BadKey, Array, is_key, pairs_reply, Done, Program, outcome, Scanned, scan_below, scan_program, with_head, area_of, stored}
 use Rattle.script_model.specs.declared.script.Reply.TheVariants as reply
 use Rattle.store_calls.proofs.Called.{no_more, scan_refused}
 use Rattle.store_calls.proofs.tree.scan.Goals as goal
