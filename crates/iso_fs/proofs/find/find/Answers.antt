@@ -1,13 +1,7 @@
 use Rattle.iso_fs.proofs.Words.{arith, None, read_join, get_program, at_file, found_file}
 use Rattle.iso_fs.proofs.Finding.{get_has}
-use Rattle.iso_fs.proofs.Parts.{area_read, tree_area, tree_read, tree_stops}
+use Rattle.iso_fs.proofs.Parts.{tree_read, tree_stops}
 use Rattle.iso_fs.proofs.find.find.Goals as goal
-
-pub value_of-requires-clause-holds : goal.value_of-requires-clause-holds
-value_of-requires-clause-holds g c = tree_area c.requires.areas c.requires.holds
-
-pub look_found-requires-clause-holds : goal.look_found-requires-clause-holds
-look_found-requires-clause-holds g c = area_read c.value_of.ensures.reads c.requires.holds
 
 pub returns-in-Ok-clause-part : goal.returns-in-Ok-clause-part
 returns-in-Ok-clause-part g c =

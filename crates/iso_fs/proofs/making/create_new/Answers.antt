@@ -2,14 +2,11 @@ use Rattle.iso_fs.proofs.Words.{◌≡◌, ◌∙◌, ◌-◌, ap, refl, ℕ, ar
 use Rattle.store_model.specs.declared.stores.StoreError.TheVariants as store
 use Rattle.store_model.specs.declared.files.FsError.TheVariants as fs
 use Rattle.iso_fs.proofs.CreateSteps.{none_free, one_free, with_map}
-use Rattle.iso_fs.proofs.Parts.{area_stays, map_read, map_stops, part_as, part_refused}
+use Rattle.iso_fs.proofs.Parts.{map_read, map_stops, part_as, part_refused}
 use Rattle.iso_fs.proofs.making.create_new.Goals as goal
 
 pub returns-in-Err : goal.returns-in-Err
 returns-in-Err g c = map_stops c.args.a.files (with_map c.args.a c.args.name.now) c.in-Err.ensures.kept (omega arith) c.in-Err.ensures.cause c.in-Err.ensures.later
-
-pub name_file-requires-clause-holds : goal.name_file-requires-clause-holds
-name_file-requires-clause-holds g c = area_stays _ c.in_default.ensures.read c.requires.holds
 
 pub returns-in-Some : goal.returns-in-Some
 returns-in-Some g c =

@@ -1,14 +1,8 @@
 use Rattle.iso_fs.proofs.Words.{arith, get_program, create_new}
 use Rattle.iso_fs.proofs.CreateSteps.{create_as}
 use Rattle.iso_fs.proofs.Finding.{get_has}
-use Rattle.iso_fs.proofs.Parts.{area_read, part_as, tree_area, tree_read, tree_stops}
+use Rattle.iso_fs.proofs.Parts.{part_as, tree_read, tree_stops}
 use Rattle.iso_fs.proofs.making.create_with.Goals as goal
-
-pub value_of-requires-clause-holds : goal.value_of-requires-clause-holds
-value_of-requires-clause-holds g c = tree_area c.requires.areas c.requires.holds
-
-pub create_found-requires-clause-holds : goal.create_found-requires-clause-holds
-create_found-requires-clause-holds g c = area_read c.value_of.ensures.reads c.requires.holds
 
 pub returns-in-Ok : goal.returns-in-Ok
 returns-in-Ok g c =

@@ -1,14 +1,8 @@
 use Rattle.iso_fs.proofs.Words.{ap, sym, refl, empty_writes, put_program}
 use Rattle.iso_fs.proofs.CreateSteps.{naming}
 use Rattle.iso_fs.proofs.Finding.{put_has}
-use Rattle.iso_fs.proofs.Parts.{area_stays, part_as, put_stops, tree_area, tree_wrote}
+use Rattle.iso_fs.proofs.Parts.{part_as, put_stops, tree_wrote}
 use Rattle.iso_fs.proofs.making.name_file.Goals as goal
-
-pub put_value-requires-clause-holds : goal.put_value-requires-clause-holds
-put_value-requires-clause-holds g c = tree_area c.requires.areas c.requires.holds
-
-pub store_file-requires-clause-holds : goal.store_file-requires-clause-holds
-store_file-requires-clause-holds g c = area_stays _ c.in-Ok.ensures.ended.is c.requires.holds
 
 pub returns-in-Ok : goal.returns-in-Ok
 returns-in-Ok g c =

@@ -1,6 +1,5 @@
 use Rattle.iso_fs.proofs.Words.{◌∙◌, sym, ap, ℕ, List, Ok, option_map, take, with_items_is, read_program, areas_of}
 use Rattle.iso_fs.proofs.Ended.{no_memory}
-use Rattle.iso_fs.proofs.Parts.{first_area}
 use Rattle.iso_fs.proofs.ReadSteps.{read_answer, read_bad_name, read_bad_range, read_call, read_has}
 use Rattle.iso_fs.proofs.reading.read.Goals as goal
 
@@ -20,9 +19,6 @@ returns-in-Err-clause-ended g c =
     let a = areas_of (state c.args.tx.now) c.args.at in
     no_memory (read_program a c.args.name.now c.args.off c.args.len) (state c.args.tx.now) c.in-Err.e c.in-Err.ensures.memory
     (read_has a c.args.name.now c.args.off c.args.len (sym c.is_key.ensures ∙ c.if-not-is_key.false) (sym c.is_many.ensures ∙ c.if-not-is_many.false))
-
-pub read_with-requires-clause-holds : goal.read_with-requires-clause-holds
-read_with-requires-clause-holds g c = first_area _ c.args.at c.areas_of-a.ensures c.requires.areas (g.met.T.TxBlocks.limits c.args.tx.now) c.requires.fits
 
 pub returns-in-Ok-read_with-clause-ended : goal.returns-in-Ok-read_with-clause-ended
 returns-in-Ok-read_with-clause-ended g c =

@@ -1,6 +1,5 @@
 use Rattle.iso_fs.proofs.Words.{◌≡◌, ◌∙◌, refl, arith, ◌+◌, ◌-◌, Err, take, read_join, later_same, later_than, read_none}
 use Rattle.iso_fs.proofs.Lefts.{piece_less, piece_stops}
-use Rattle.iso_fs.proofs.Parts.{area_read}
 use Rattle.iso_fs.proofs.ReadSteps.{all_done, left_first}
 use Rattle.iso_fs.proofs.Ended.{behaves_after, done_so}
 use Rattle.iso_fs.proofs.reading.read_pieces.Goals as goal
@@ -16,9 +15,6 @@ loop-at-init g c =
       later = later_same _ _ refl;
       passed = refl;
     }
-
-pub read_piece-requires-clause-holds : goal.read_piece-requires-clause-holds
-read_piece-requires-clause-holds g c = area_read c.loop-at.invariant.reads c.requires.holds
 
 pub loop-at-preserved : goal.loop-at-preserved
 loop-at-preserved g c =

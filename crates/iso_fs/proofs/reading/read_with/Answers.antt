@@ -1,11 +1,8 @@
 use Rattle.iso_fs.proofs.Words.{None, read_from, read_join}
 use Rattle.iso_fs.proofs.Finding.{found_part, found_stops}
-use Rattle.iso_fs.proofs.Parts.{area_read, part_as}
+use Rattle.iso_fs.proofs.Parts.{part_as}
 use Rattle.iso_fs.proofs.ReadSteps.{read_as}
 use Rattle.iso_fs.proofs.reading.read_with.Goals as goal
-
-pub read_found-requires-clause-holds : goal.read_found-requires-clause-holds
-read_found-requires-clause-holds g c = area_read c.find.ensures.reads c.requires.holds
 
 pub returns-in-Ok-clause-part : goal.returns-in-Ok-clause-part
 returns-in-Ok-clause-part g c = part_as (read_as c.args.a c.args.name.now c.args.off c.args.len c.requires.name c.requires.len) (found_part c.args.a c.args.name.now None (read_from c.args.a.files c.args.off c.args.len) c.in-Ok.ensures.part c.find.ensures.reads c.read_found.ensures.part)

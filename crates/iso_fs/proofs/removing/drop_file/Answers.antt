@@ -1,13 +1,7 @@
 use Rattle.iso_fs.proofs.Words.{arith, map_mark, bytes_in, del_program, remove_writes}
 use Rattle.iso_fs.proofs.Finding.{del_has}
-use Rattle.iso_fs.proofs.Parts.{area_stays, tree_area, tree_stops, tree_wrote}
+use Rattle.iso_fs.proofs.Parts.{tree_stops, tree_wrote}
 use Rattle.iso_fs.proofs.removing.drop_file.Goals as goal
-
-pub remove_name-requires-clause-holds : goal.remove_name-requires-clause-holds
-remove_name-requires-clause-holds g c = tree_area c.requires.areas c.requires.holds
-
-pub give_file-requires-clause-holds : goal.give_file-requires-clause-holds
-give_file-requires-clause-holds g c = area_stays _ c.in-Ok.ensures.ended.is c.requires.holds
 
 pub returns-in-Ok : goal.returns-in-Ok
 returns-in-Ok g c =

@@ -1,7 +1,6 @@
 use Rattle.iso_fs.proofs.Words.{◌∙◌, sym, remove_program, areas_of}
 use Rattle.iso_fs.proofs.Ended.{no_memory}
 use Rattle.iso_fs.proofs.RemoveSteps.{remove_bad, remove_call, remove_has}
-use Rattle.iso_fs.proofs.Parts.{first_area}
 use Rattle.iso_fs.proofs.removing.remove.Goals as goal
 
 pub returns-then-not-is_key-clause-ended : goal.returns-then-not-is_key-clause-ended
@@ -14,9 +13,6 @@ returns-in-Err-clause-ended g c =
     let state = g.T.TxBlocks.state in
     let a = areas_of (state c.args.tx.now) c.args.at in
     no_memory (remove_program a c.args.name.now) (state c.args.tx.now) c.in-Err.e c.in-Err.ensures.memory (remove_has a c.args.name.now (sym c.is_key.ensures ∙ c.if-not-is_key.false))
-
-pub remove_with-requires-clause-holds : goal.remove_with-requires-clause-holds
-remove_with-requires-clause-holds g c = first_area _ c.args.at c.areas_of-a.ensures c.requires.areas (g.met.T.TxBlocks.limits c.args.tx.now) c.requires.fits
 
 pub returns-clause-local : goal.returns-clause-local
 returns-clause-local g c =

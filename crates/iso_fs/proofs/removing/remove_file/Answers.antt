@@ -1,12 +1,9 @@
 use Rattle.iso_fs.proofs.Words.{arith, with_dropped}
-use Rattle.iso_fs.proofs.Parts.{area_stays, map_read, map_stops}
+use Rattle.iso_fs.proofs.Parts.{map_read, map_stops}
 use Rattle.iso_fs.proofs.removing.remove_file.Goals as goal
 
 pub returns-in-Err : goal.returns-in-Err
 returns-in-Err g c = map_stops c.args.a.files (with_dropped c.args.a c.args.name.now c.args.number c.args.file.now) c.in-Err.ensures.kept (omega arith) c.in-Err.ensures.cause c.in-Err.ensures.later
-
-pub drop_file-requires-clause-holds : goal.drop_file-requires-clause-holds
-drop_file-requires-clause-holds g c = area_stays _ c.in_default.ensures.read c.requires.holds
 
 pub returns : goal.returns
 returns g c =

@@ -1,11 +1,8 @@
 use Rattle.iso_fs.proofs.Words.{false, remove_file}
 use Rattle.iso_fs.proofs.Finding.{found_part, found_stops}
-use Rattle.iso_fs.proofs.Parts.{area_read, part_as}
+use Rattle.iso_fs.proofs.Parts.{part_as}
 use Rattle.iso_fs.proofs.RemoveSteps.{remove_as}
 use Rattle.iso_fs.proofs.removing.remove_with.Goals as goal
-
-pub remove_found-requires-clause-holds : goal.remove_found-requires-clause-holds
-remove_found-requires-clause-holds g c = area_read c.find.ensures.reads c.requires.holds
 
 pub returns-in-Ok : goal.returns-in-Ok
 returns-in-Ok g c = part_as (remove_as c.args.a c.args.name.now c.requires.name) (found_part c.args.a c.args.name.now false (remove_file c.args.a c.args.name.now) c.in-Ok.ensures.part c.find.ensures.reads c.remove_found.ensures)

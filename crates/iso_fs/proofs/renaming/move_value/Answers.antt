@@ -1,11 +1,8 @@
 use Rattle.iso_fs.proofs.Words.{sym, ◌∙◌, arith, drop_name, put_program}
 use Rattle.iso_fs.proofs.Finding.{put_has}
-use Rattle.iso_fs.proofs.Parts.{area_stays, part_more, put_stops, tree_wrote}
+use Rattle.iso_fs.proofs.Parts.{part_more, put_stops, tree_wrote}
 use Rattle.iso_fs.proofs.RenameSteps.{memory_value}
 use Rattle.iso_fs.proofs.renaming.move_value.Goals as goal
-
-pub drop_name-requires-clause-holds : goal.drop_name-requires-clause-holds
-drop_name-requires-clause-holds g c = area_stays _ c.in-Ok.ensures.ended.is c.requires.holds
 
 pub returns-in-Ok : goal.returns-in-Ok
 returns-in-Ok g c = tree_wrote (put_program c.args.a.tree c.args.new.now c.args.value.now) (λ put. drop_name c.args.a c.args.old.now) c.in-Ok.ensures.ended c.in-Ok.ensures.later c.in-Ok.ensures.passed c.drop_name.ensures.follows (part_more c.drop_name.result (omega arith) c.drop_name.ensures.part)

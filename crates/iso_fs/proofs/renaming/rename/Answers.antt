@@ -1,6 +1,5 @@
-use Rattle.iso_fs.proofs.Words.{◌≡◌, ◌∙◌, ◌&&◌, refl, sym, true, false, is_key, areas_of}
+use Rattle.iso_fs.proofs.Words.{◌≡◌, ◌∙◌, ◌&&◌, sym, true, false, is_key, areas_of}
 use Rattle.iso_fs.proofs.Existing.{rename_exists}
-use Rattle.iso_fs.proofs.Parts.{first_area, tree_area}
 use Rattle.iso_fs.proofs.RenameSteps.{old_bad, new_bad, rename_bad, rename_call}
 use Rattle.iso_fs.proofs.renaming.rename.Goals as goal
 use Rattle.iso_fs.proofs.renaming.rename.Goals.{then-not-is_key-via-then-not-is_key, then-not-is_key-via-else-not-is_key+then-not-is_key-2}
@@ -13,9 +12,6 @@ returns-then-not-is_key-clause-ended g c =
       | then-not-is_key-via-else-not-is_key+then-not-is_key-2 w ↦ new_bad c.args.old.now c.args.new.now (sym w.is_key-else-not-is_key.ensures ∙ w.if-not-is_key-2.true)
     ] in
     rename_bad (areas_of (state c.args.tx.now) c.args.at) c.args.old.now c.args.new.now (state c.args.tx.now) bad
-
-pub rename_in-requires-clause-holds : goal.rename_in-requires-clause-holds
-rename_in-requires-clause-holds g c = rw c.areas_of-a.ensures (tree_area c.requires.areas (first_area _ c.args.at refl c.requires.areas (g.met.T.TxBlocks.limits c.args.tx.now) c.requires.fits))
 
 pub returns-clause-local : goal.returns-clause-local
 returns-clause-local g c =

@@ -1,11 +1,8 @@
 use Rattle.iso_fs.proofs.Words.{arith, get_program, rename_found}
 use Rattle.iso_fs.proofs.Finding.{get_has}
-use Rattle.iso_fs.proofs.Parts.{area_read, part_as, tree_read, tree_stops}
+use Rattle.iso_fs.proofs.Parts.{part_as, tree_read, tree_stops}
 use Rattle.iso_fs.proofs.RenameSteps.{rename_as}
 use Rattle.iso_fs.proofs.renaming.rename_in.Goals as goal
-
-pub rename_found-requires-clause-holds : goal.rename_found-requires-clause-holds
-rename_found-requires-clause-holds g c = area_read c.value_of.ensures.reads c.requires.holds
 
 pub returns-in-Ok : goal.returns-in-Ok
 returns-in-Ok g c =

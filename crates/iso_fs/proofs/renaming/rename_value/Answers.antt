@@ -1,10 +1,7 @@
 use Rattle.iso_fs.proofs.Words.{arith, get_program, rename_free}
 use Rattle.iso_fs.proofs.Finding.{get_has}
-use Rattle.iso_fs.proofs.Parts.{area_read, tree_read, tree_stops}
+use Rattle.iso_fs.proofs.Parts.{tree_read, tree_stops}
 use Rattle.iso_fs.proofs.renaming.rename_value.Goals as goal
-
-pub rename_free-requires-clause-holds : goal.rename_free-requires-clause-holds
-rename_free-requires-clause-holds g c = area_read c.value_of.ensures.reads c.requires.holds
 
 pub returns-in-Ok : goal.returns-in-Ok
 returns-in-Ok g c =

@@ -1,7 +1,10 @@
-use Rattle.iso_fs.proofs.Words.{◌∙◌, ◌++◌, ap, refl, arith, take, ℕ, block_with, entries_of, Device, later_same}
+use Rattle.iso_fs.proofs.Words.{◌+◌, length, ◌∙◌, ◌++◌, ap, refl, arith, take, ℕ, block_with, entries_of, Device, later_same}
 use Rattle.iso_fs.proofs.Ended.{done_so, refused_store}
-use Rattle.iso_fs.proofs.WriteSteps.{piece_done, piece_refused}
+use Rattle.iso_fs.proofs.WriteSteps.{piece_done, piece_refused, place_covered}
 use Rattle.iso_fs.proofs.storing.write_piece.Goals as goal
+
+pub number_at-number-requires-clause-place : goal.number_at-number-requires-clause-place
+number_at-number-requires-clause-place g c = (let least = c.requires.holds.least in place_covered c.args.area.size c.args.from c.args.to (c.args.old + length c.args.news.now) (omega arith) c.requires.less c.requires.covered)
 
 pub returns-in-Ok-clause-run : goal.returns-in-Ok-clause-run
 returns-in-Ok-clause-run g c =

@@ -1,7 +1,6 @@
 use Rattle.iso_fs.proofs.Words.{◌∙◌, ◌++◌, refl, subst, arith, ℕ, ◌-◌, List, drop, Err, suc, write_pieces, entries_of, later_same, later_than, HasRun}
 use Rattle.iso_fs.proofs.Ended.{behaves_behind, done_so}
 use Rattle.iso_fs.proofs.Lefts.{piece_less, piece_stops}
-use Rattle.iso_fs.proofs.Parts.{area_stays}
 use Rattle.iso_fs.proofs.WriteSteps.{all_written, left_whole, rest_is, rest_more}
 use Rattle.iso_fs.proofs.storing.write_pieces.Goals as goal
 
@@ -14,9 +13,6 @@ loop-at-init g c = record {
   later = later_same _ _ refl;
   passed = refl;
 }
-
-pub write_piece-requires-clause-holds : goal.write_piece-requires-clause-holds
-write_piece-requires-clause-holds g c = area_stays _ c.loop-at.invariant.left.here.is c.requires.holds
 
 pub loop-at-preserved : goal.loop-at-preserved
 loop-at-preserved g c =

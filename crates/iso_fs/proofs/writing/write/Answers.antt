@@ -1,7 +1,6 @@
 use Rattle.iso_fs.proofs.Words.{◌∙◌, sym, write_program, areas_of}
 use Rattle.iso_fs.proofs.Ended.{no_memory}
 use Rattle.iso_fs.proofs.WriteSteps.{write_bad_name, write_bad_range, write_call, write_has}
-use Rattle.iso_fs.proofs.Parts.{first_area}
 use Rattle.iso_fs.proofs.writing.write.Goals as goal
 
 pub returns-then-not-is_key-clause-ended : goal.returns-then-not-is_key-clause-ended
@@ -20,9 +19,6 @@ returns-in-Err-clause-ended g c =
     let a = areas_of (state c.args.tx.now) c.args.at in
     no_memory (write_program a c.args.name.now c.args.off c.args.bytes.now) (state c.args.tx.now) c.in-Err.e c.in-Err.ensures.memory
     (write_has a c.args.name.now c.args.off c.args.bytes.now (sym c.is_key.ensures ∙ c.if-not-is_key.false) (sym c.is_many.ensures ∙ c.if-not-is_many.false))
-
-pub write_with-requires-clause-holds : goal.write_with-requires-clause-holds
-write_with-requires-clause-holds g c = first_area _ c.args.at c.areas_of-a.ensures c.requires.areas (g.met.T.TxBlocks.limits c.args.tx.now) c.requires.fits
 
 pub returns-clause-local : goal.returns-clause-local
 returns-clause-local g c =

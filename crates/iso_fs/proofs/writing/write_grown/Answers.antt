@@ -1,13 +1,10 @@
 use Rattle.iso_fs.proofs.Words.{◌∙◌, ◌+◌, ap, arith, ℕ, length}
-use Rattle.iso_fs.proofs.Parts.{area_stays, part_as, store_done, store_stops}
+use Rattle.iso_fs.proofs.Parts.{part_as, store_done, store_stops}
 use Rattle.iso_fs.proofs.WriteSteps.{as_grown, covered_by}
 use Rattle.iso_fs.proofs.writing.write_grown.Goals as goal
 
 pub returns-in-Err-clause-part : goal.returns-in-Err-clause-part
 returns-in-Err-clause-part g c = part_as (as_grown c.args.area c.args.off c.args.number c.args.bytes.now c.args.file.now c.args.news.now c.data_count-old.result c.lay_sized.new.into c.data_count-old.ensures.count c.lay_sized.ensures c.requires.grows) (store_stops c.in-Err.ensures.kept (omega arith) c.in-Err.ensures.cause c.in-Err.ensures.device)
-
-pub write_pieces-requires-clause-holds : goal.write_pieces-requires-clause-holds
-write_pieces-requires-clause-holds g c = area_stays _ c.in_default.ensures.stored c.requires.holds
 
 pub write_pieces-requires-clause-covered : goal.write_pieces-requires-clause-covered
 write_pieces-requires-clause-covered g c =

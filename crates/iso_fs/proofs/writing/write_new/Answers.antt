@@ -1,5 +1,5 @@
 use Rattle.iso_fs.proofs.Words.{arith, write_sized, with_taken}
-use Rattle.iso_fs.proofs.Parts.{area_stays, map_read, map_stops, part_as}
+use Rattle.iso_fs.proofs.Parts.{map_read, map_stops, part_as}
 use Rattle.iso_fs.proofs.WriteSteps.{new_as}
 use Rattle.iso_fs.proofs.writing.write_new.Goals as goal
 
@@ -7,9 +7,6 @@ pub returns-in-Err : goal.returns-in-Err
 returns-in-Err g c =
     part_as (new_as c.args.area c.args.need (write_sized c.args.area c.args.off c.args.bytes.now c.args.number c.args.file.now) c.requires.some)
     (map_stops c.args.area (with_taken c.args.area c.args.need (write_sized c.args.area c.args.off c.args.bytes.now c.args.number c.args.file.now)) c.in-Err.ensures.kept (omega arith) c.in-Err.ensures.cause c.in-Err.ensures.later)
-
-pub write_taken-requires-clause-holds : goal.write_taken-requires-clause-holds
-write_taken-requires-clause-holds g c = area_stays _ c.in_default.ensures.read c.requires.holds
 
 pub returns : goal.returns
 returns g c =

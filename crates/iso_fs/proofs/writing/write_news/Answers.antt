@@ -1,12 +1,9 @@
 use Rattle.iso_fs.proofs.Words.{arith}
-use Rattle.iso_fs.proofs.Parts.{area_stays, store_done, store_stops}
+use Rattle.iso_fs.proofs.Parts.{store_done, store_stops}
 use Rattle.iso_fs.proofs.writing.write_news.Goals as goal
 
 pub returns-in-Err-clause-part : goal.returns-in-Err-clause-part
 returns-in-Err-clause-part g c = λ first same. store_stops c.in-Err.ensures.kept (omega arith) c.in-Err.ensures.cause c.in-Err.ensures.device
-
-pub write_sized-requires-clause-holds : goal.write_sized-requires-clause-holds
-write_sized-requires-clause-holds g c = area_stays _ c.in_default.ensures.one.is c.requires.holds
 
 pub returns-clause-part : goal.returns-clause-part
 returns-clause-part g c = λ first same. store_done (g.met.T.TxBlocks.limits c.store_first.new.tx) (c.in_default.ensures.stored first same) c.in_default.ensures.device c.write_sized.ensures.of_tx c.write_sized.ensures.part

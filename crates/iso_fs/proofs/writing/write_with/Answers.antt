@@ -1,11 +1,8 @@
 use Rattle.iso_fs.proofs.Words.{false, write_to}
 use Rattle.iso_fs.proofs.Finding.{found_part, found_stops}
-use Rattle.iso_fs.proofs.Parts.{area_read, part_as}
+use Rattle.iso_fs.proofs.Parts.{part_as}
 use Rattle.iso_fs.proofs.WriteSteps.{many_is, write_as}
 use Rattle.iso_fs.proofs.writing.write_with.Goals as goal
-
-pub write_found-requires-clause-holds : goal.write_found-requires-clause-holds
-write_found-requires-clause-holds g c = area_read c.find.ensures.reads c.requires.holds
 
 pub returns-in-Ok : goal.returns-in-Ok
 returns-in-Ok g c = part_as (write_as c.args.a c.args.name.now c.args.off c.args.bytes.now c.requires.name (many_is c.args.bytes.now c.requires.some c.requires.few)) (found_part c.args.a c.args.name.now false (write_to c.args.a.files c.args.off c.args.bytes.now) c.in-Ok.ensures.part c.find.ensures.reads c.write_found.ensures)

@@ -4,17 +4,15 @@ use Rattle.store_laws.proofs.TreeBlank as tree
 use Rattle.store_laws.proofs.Zeros.{zeros_blank}
 use Rattle.store_laws.proofs.both_laws.stores_of_an_image_are_apart.Goals as goal
 
-pub returns-clause-disjoint : goal.returns-clause-disjoint
-returns-clause-disjoint _ = λ g. inl (omega arith)
-
-pub returns-clause-areas : goal.returns-clause-areas
-returns-clause-areas _ = λ g valid first second. (hash_area_is g valid first, tree_area_is g valid second)
-
-pub returns-clause-made : goal.returns-clause-made
-returns-clause-made _ = λ g valid first second.
+pub returns : goal.returns
+returns _ = record {
+  disjoint = λ g. inl (omega arith);
+  areas = λ g valid first second. (hash_area_is g valid first, tree_area_is g valid second);
+  made = λ g valid first second.
     let regions = (limits g valid).regions in
     let A = zeros g.block g.blocks in
     record {
       first = hash.blank_region (hash_area g) A (hash_area_is g valid first) (zeros_blank (hash_area g) g.blocks (omega arith));
       second = tree.blank_region (tree_area g) A (tree_area_is g valid second) (zeros_blank (tree_area g) g.blocks (omega arith));
-    }
+    };
+}

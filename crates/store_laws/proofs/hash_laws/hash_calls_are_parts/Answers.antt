@@ -3,11 +3,9 @@ use Rattle.store_laws.proofs.Growth.{called}
 use Rattle.store_laws.proofs.KeyCalls.{del_local, got_local, put_local}
 use Rattle.store_laws.proofs.hash_laws.hash_calls_are_parts.Goals as goal
 
-pub returns-clause-got : goal.returns-clause-got
-returns-clause-got _ = λ a key A t u parts r is ended local. called (hash_store a) A t u parts (Get key) (Got r) ended.done is ended.is (got_local (IsHashRegion a) (hash_map a) key t u r local)
-
-pub returns-clause-was_put : goal.returns-clause-was_put
-returns-clause-was_put _ = λ a key value A t u parts r is ended local. called (hash_store a) A t u parts (Put key value) WasPut ended.done is ended.is (put_local (IsHashRegion a) (hash_map a) key value t u r local)
-
-pub returns-clause-was_there : goal.returns-clause-was_there
-returns-clause-was_there _ = λ a key A t u parts r is ended local. called (hash_store a) A t u parts (Del key) (WasThere r) ended.done is ended.is (del_local (IsHashRegion a) (hash_map a) key t u r local)
+pub returns : goal.returns
+returns _ = record {
+  got = λ a key A t u parts r is ended local. called (hash_store a) A t u parts (Get key) (Got r) ended.done is ended.is (got_local (IsHashRegion a) (hash_map a) key t u r local);
+  was_put = λ a key value A t u parts r is ended local. called (hash_store a) A t u parts (Put key value) WasPut ended.done is ended.is (put_local (IsHashRegion a) (hash_map a) key value t u r local);
+  was_there = λ a key A t u parts r is ended local. called (hash_store a) A t u parts (Del key) (WasThere r) ended.done is ended.is (del_local (IsHashRegion a) (hash_map a) key t u r local);
+}

@@ -3,14 +3,10 @@ use Rattle.store_laws.proofs.Growth.{called}
 use Rattle.store_laws.proofs.KeyCalls.{del_local, got_local, put_local, scan_local}
 use Rattle.store_laws.proofs.tree_laws.tree_calls_are_parts.Goals as goal
 
-pub returns-clause-got : goal.returns-clause-got
-returns-clause-got _ = λ a key A t u parts r is ended local. called (tree_store a) A t u parts (OnKey (Get key)) (Got r) ended.done is ended.is (got_local (IsTreeRegion a) (tree_map a) key t u r local)
-
-pub returns-clause-was_put : goal.returns-clause-was_put
-returns-clause-was_put _ = λ a key value A t u parts r is ended local. called (tree_store a) A t u parts (OnKey (Put key value)) WasPut ended.done is ended.is (put_local (IsTreeRegion a) (tree_map a) key value t u r local)
-
-pub returns-clause-was_there : goal.returns-clause-was_there
-returns-clause-was_there _ = λ a key A t u parts r is ended local. called (tree_store a) A t u parts (OnKey (Del key)) (WasThere r) ended.done is ended.is (del_local (IsTreeRegion a) (tree_map a) key t u r local)
-
-pub returns-clause-found : goal.returns-clause-found
-returns-clause-found _ = λ a from to most A t u parts r is ended local. called (tree_store a) A t u parts (Scan from to most) (Found r) ended.done is ended.is (scan_local (IsTreeRegion a) (tree_map a) from to most t u r local)
+pub returns : goal.returns
+returns _ = record {
+  got = λ a key A t u parts r is ended local. called (tree_store a) A t u parts (OnKey (Get key)) (Got r) ended.done is ended.is (got_local (IsTreeRegion a) (tree_map a) key t u r local);
+  was_put = λ a key value A t u parts r is ended local. called (tree_store a) A t u parts (OnKey (Put key value)) WasPut ended.done is ended.is (put_local (IsTreeRegion a) (tree_map a) key value t u r local);
+  was_there = λ a key A t u parts r is ended local. called (tree_store a) A t u parts (OnKey (Del key)) (WasThere r) ended.done is ended.is (del_local (IsTreeRegion a) (tree_map a) key t u r local);
+  found = λ a from to most A t u parts r is ended local. called (tree_store a) A t u parts (Scan from to most) (Found r) ended.done is ended.is (scan_local (IsTreeRegion a) (tree_map a) from to most t u r local);
+}
