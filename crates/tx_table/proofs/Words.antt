@@ -8,6 +8,7 @@ pub use Rattle.std.proofs.lemmas.List.{get_or-drop, get_or_default, length-repli
 pub use Rattle.std.proofs.lemmas.List.Elements.{All-append}
 pub use Rattle.std.proofs.lemmas.List.Folds.{list_any-append, list_any_more}
 pub use Rattle.std.proofs.lemmas.List.Sorted.{All-permutation, IsPartitionPoint-from_clause, IsPartitionedBy-ltb, list_any-IsPermutation}
+pub use Rattle.std.specs.List.Sorted.{IsPartitionPoint}
 pub use Rattle.std.proofs.lemmas.Slice.Eq.{bytes_eq-Decides}
 pub use Rattle.std.specs.List.{All, AllByRecursion, list_any, range_with_len}
 pub use Rattle.std.specs.Map.{lookup, remove_entry}
