@@ -3,7 +3,7 @@ use Rattle.iso_machine.proofs.Words.{◌≡◌, ◌∙◌, ◌⊎◌, inl, inr, 
 use Rattle.iso_core.specs.Calls as core
 use Rattle.iso_model.specs.declared.core_error.CoreError.TheVariants as error
 use Rattle.script_model.specs.declared.script.Op.TheVariants as op
-use Rattle.iso_machine.proofs.Quiet.{answers_by}
+use Rattle.iso_machine.proofs.Quiet.{answers_by, no_reply}
 use Rattle.iso_machine.proofs.Groups.{are_members, filled_is, found_is, geometry_behind, live_behind, looks_is, none_found, stands_looked}
 
 pub step_is : (W : World) (c : ℕ) (texts : List (List ℕ)) → step W c (op.Group texts) ≡ grouped (group_step W texts)
@@ -101,24 +101,6 @@ module _ {D : Type 0} {state : D → DiskState} {kernel : Core D} {table : Finde
 pub group_fails : {T : Type 0} {stands : World → Type 0} {old new : DiskState} {W : World} {given : Reply × World} (e : CoreError) → (e ≡ error.Disk) ⊎ (e ≡ error.Memory) → LeavesOnly old new (ShowsEither W given.1)
     → core.BlamesDisk {T = T} old.faults new.faults (Err e) → Answers Never stands old new W given (answer_to e)
 group_fails e (inl is) moments cause =
-    answers_by (ap answer_to is) (record {
-      reply = tt;
-      but_shown = tt;
-      told = tt;
-      world = tt;
-      moments = moments;
-      up = λ e. absurd (cc e);
-      cause = record { later = cause.later; failed = λ x. cause.failed (ap Err is); passed = tt; memory = λ x. absurd (cc x) };
-      stopped = λ may. absurd may;
-    })
+    answers_by (ap answer_to is) (no_reply moments (λ e. absurd (cc e)) (record { later = cause.later; failed = λ x. cause.failed (ap Err is); passed = tt; memory = λ x. absurd (cc x) }) (λ may. absurd may))
 group_fails e (inr is) moments cause =
-    answers_by (ap answer_to is) (record {
-      reply = tt;
-      but_shown = tt;
-      told = tt;
-      world = tt;
-      moments = moments;
-      up = λ e. absurd (cc e);
-      cause = record { later = cause.later; failed = λ x. absurd (cc x); passed = tt; memory = λ x. cause.other (λ y. cc (is, y)) };
-      stopped = λ may. absurd may;
-    })
+    answers_by (ap answer_to is) (no_reply moments (λ e. absurd (cc e)) (record { later = cause.later; failed = λ x. absurd (cc x); passed = tt; memory = λ x. cause.other (λ y. cc (is, y)) }) (λ may. absurd may))

@@ -5,6 +5,7 @@ use Rattle.iso_model.specs.declared.core_reply.CoreReply.TheVariants as reply
 use Rattle.script_model.specs.declared.stop.Stop.TheVariants as stop
 use Rattle.iso_core.specs.Calls as core
 use Rattle.iso_machine.proofs.Accesses.{same_but_shown}
+use Rattle.iso_machine.proofs.Quiet.{no_reply}
 
 -- a reply that stands for an error of a core
 abbrev pub IsRefusal : CoreReply → Type 0
@@ -47,26 +48,10 @@ module _ {goes_on : Stop → Type 0} {stands : World → Type 0} {old new : Disk
       go error.Down of (inl is) = absurd (cc is)
       go error.Down of (inr (inl is)) = absurd (cc is)
       go error.Down of (inr (inr is)) = absurd (cc is)
-      go error.Disk of is = record {
-        reply = tt;
-        but_shown = tt;
-        told = tt;
-        world = tt;
-        moments = of.moments;
-        up = λ e. absurd (cc e);
-        cause = record { later = of.cause.later; failed = λ e. of.cause.failed refl; passed = tt; memory = λ e. absurd (cc e) };
-        stopped = fails;
-      }
-      go error.Memory of is = record {
-        reply = tt;
-        but_shown = tt;
-        told = tt;
-        world = tt;
-        moments = of.moments;
-        up = λ e. absurd (cc e);
-        cause = record { later = of.cause.later; failed = λ e. absurd (cc e); passed = tt; memory = λ e. of.cause.other (λ e. cc e) };
-        stopped = λ may. of.same (λ e. cc e);
-      }
+      go error.Disk of is =
+          no_reply of.moments (λ e. absurd (cc e)) (record { later = of.cause.later; failed = λ e. of.cause.failed refl; passed = tt; memory = λ e. absurd (cc e) }) fails
+      go error.Memory of is =
+          no_reply of.moments (λ e. absurd (cc e)) (record { later = of.cause.later; failed = λ e. absurd (cc e); passed = tt; memory = λ e. of.cause.other (λ e. cc e) }) (λ may. of.same (λ e. cc e))
       go error.TooManyTx of (inl is) = absurd (cc is)
       go error.TooManyTx of (inr (inl is)) = absurd (cc is)
       go error.TooManyTx of (inr (inr is)) = replied error.TooManyTx reply.TooManyTx of refl (λ e. cc e) (cc is) tt

@@ -2,6 +2,7 @@
 use Rattle.iso_machine.proofs.Words.{◌≡◌, ◌∙◌, sym, refl, ap, subst, inl, inr, ⊎_elim, ◌==◌, Bool, true, false, cond, ℕ, List, Result, Ok, Err, IfOk, IsErrOf, Option, DiskState, WritesNothing, stays, Op, Reply, is_serial, last, Shows, in_store, World, Live, Doing, Stop, BlamesDisk, IsActive, IsWorkedTo, with_accesses, map, IsSameWork, without_accesses, Answers, AnswersTold, is_empty_scan, store_blocks, IsStored, called_of, store_act}
 use Rattle.std.specs.Prelude.{IsSome}
 use Rattle.script_model.specs.declared.script.Reply.TheVariants as reply
+use Rattle.iso_machine.proofs.Accesses.{has_worked}
 use Rattle.iso_machine.proofs.Lists.{accesses_apart}
 use Rattle.script_model.specs.declared.stop.Stop.TheVariants as stop
 
@@ -86,19 +87,6 @@ store_keeps W t op = elim (is_empty_scan op) as (λ b. let x : Reply × World = 
   | false ↦ in_store_keeps W t (store_blocks W.geometry op) (called_of W t op) refl refl
 ]
 
--- the transaction has the accesses of the work
-worked : {W : World} {t : Live} {old_work work : Doing} → IsActive W t old_work → IsSameWork old_work work → IsWorkedTo W t (with_accesses W t work.accesses) work
-worked active same = record {
-  world = refl;
-  is_work = record {
-    begin = same.begin ∙ active.is_work.begin;
-    mode = same.mode ∙ active.is_work.mode;
-    size = same.size ∙ active.is_work.size;
-    blocks = same.blocks ∙ active.is_work.blocks;
-    accesses = refl;
-  };
-}
-
 -- a call of a store on one transaction
 module _ {goes_on : Stop → Type 0} {stands : World → Type 0} {old new : DiskState} {W : World} {t : Live} {old_work work : Doing} {given : Reply × World} (history : given.1.history ≡ W.history) (geometry : given.1.geometry ≡ W.geometry)
     (here : (c : List ℕ) → old.now c → Shows c W.geometry W.history (last W.history)) (still : WritesNothing old new)
@@ -131,7 +119,7 @@ module _ {goes_on : Stop → Type 0} {stands : World → Type 0} {old new : Disk
     cause = cause;
     stopped = λ may. record {
       world = with_accesses W t work.accesses;
-      is = world (with_accesses W t work.accesses) (worked active same);
+      is = world (with_accesses W t work.accesses) (has_worked active same);
       same = record { live = accesses_apart t (record t { accesses = work.accesses }) W.live refl ∙ ap (map without_accesses) active.here; rest = refl };
       whole = λ call. absurd call;
     };
